@@ -1,0 +1,109 @@
+-- The tree of an expression: one shape for all forms ("Specifying Systems", chapter 16).
+use Rattle.std.specs.Prelude.{ℕ, ◌+◌, List, [], ◌∷◌, Bool, Option, Some, None}
+use Rattle.tla_token.specs.declared.place.Place.{Place}
+use Rattle.tla_expr.specs.declared.op.Op.{Op}
+use Rattle.tla_expr.specs.declared.op.Binder.{Binder}
+
+-- a name or a string, as its bytes
+abbrev pub Word : Type 0
+Word = List ℕ
+
+-- a step of a path behind `!` in an EXCEPT, or behind the variable of a left side
+pub data Step : Type 0 where
+  index : Step                      -- [e], the expression being a part of the tree
+  field : Word → Step               -- .a
+
+-- one setting of an EXCEPT: its path, and the place at which it faults
+pub record Slot : Type 0 where
+  pub path : List Step
+  pub place : Place
+
+-- forms whose parts are all evaluated first, from left to right
+pub data Strict : Type 0 where
+  operator : Op → Strict            -- every operator but /\ \/ => \in \notin
+  set_of : Strict                   -- {a, b}
+  tuple : Strict                    -- <<a, b>>
+  fields : List Word → Strict       -- [a |-> e, b |-> f]
+  records : List Word → Strict      -- [a : S, b : T]
+  functions : Strict                -- [S -> T]
+  apply : Strict                    -- f[a]; f[a, b] is f[<<a, b>>]
+  select : Word → Strict            -- r.a
+  except : List Slot → Strict       -- [f EXCEPT ![a].b = e, ..]: f, then for each slot its subscripts and its right side
+
+-- what is not a tree
+pub data Form : Type 0 where
+  number : ℕ → Form
+  quote : Word → Form               -- a string, without its quotes and escapes
+  truth : Bool → Form
+  booleans : Form                   -- BOOLEAN
+  strings : Form                    -- STRING
+  name : Word → Form                -- a variable, constant, parameter, bound name, or definition without parameters; also Nat and Int
+  next : Word → Form                -- a primed variable
+  strict : Strict → Form
+  call : Word → Form                -- Op(a, b): a definition or a standard operator
+  both : Form                       -- a /\ b
+  or_else : Form                    -- a \/ b
+  implies : Form                    -- a => b
+  member : Bool → Form              -- a \in b; with false, a \notin b
+  choice : Form                     -- IF a THEN b ELSE c
+  cases : Bool → Form               -- CASE a -> b [] c -> d; with true, and an OTHER at the end
+  binding : Binder → List Word → Form   -- a set for each name, and the body
+  local : Word → Form               -- LET x == a IN b
+
+mutual
+  pub data Tree : Type 0 where
+    node : Form → Place → Trees → Tree
+
+  pub data Trees : Type 0 where
+    no_trees : Trees
+    tree : Tree → Trees → Trees
+
+-- a fact of each node
+abbrev mutual
+  pub Every : (Form → Place → Type 0) → Tree → Type 0
+  Every P (node m at ts) = P m at × EveryOf P ts
+
+  pub EveryOf : (Form → Place → Type 0) → Trees → Type 0
+  EveryOf P no_trees = Unit {0}
+  EveryOf P (tree t ts) = Every P t × EveryOf P ts
+
+-- a fact of each word
+abbrev pub Each : (Word → Type 0) → List Word → Type 0
+Each P [] = Unit {0}
+Each P (x ∷ xs) = P x × Each P xs
+
+-- the names that a form binds in its last part
+abbrev pub binders : Form → List Word
+binders (binding b xs) = xs
+binders (local x) = x ∷ []
+binders _ = []
+
+-- the count of nodes
+abbrev mutual
+  pub size : Tree → ℕ
+  size (node m at ts) = 1 + sizes ts
+
+  pub sizes : Trees → ℕ
+  sizes no_trees = 0
+  sizes (tree t ts) = size t + sizes ts
+
+-- a tree put in for a name at a place, or nothing
+abbrev pub Graft : Type 0
+Graft = Word → Place → Option Tree
+
+abbrev pub grafted_name : Option Tree → Form → Place → Trees → Tree
+grafted_name (Some t) m at ts = t
+grafted_name None m at ts = node m at ts
+
+abbrev pub grafted_node : Graft → Form → Place → Trees → Tree
+grafted_node g (name x) at ts = grafted_name (g x at) (name x) at ts
+grafted_node g m at ts = node m at ts
+
+-- the tree with the trees of g in place of the names
+abbrev mutual
+  pub graft : Graft → Tree → Tree
+  graft g (node m at ts) = grafted_node g m at (grafts g ts)
+
+  pub grafts : Graft → Trees → Trees
+  grafts g no_trees = no_trees
+  grafts g (tree t ts) = tree (graft g t) (grafts g ts)

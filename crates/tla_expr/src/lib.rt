@@ -1,0 +1,4 @@
+//! Expressions of TLA+: their trees, how they are spelled, and their written text.
+#![tactic(auto)]
+
+pub mod op;

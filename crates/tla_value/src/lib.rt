@@ -1,0 +1,4 @@
+//! Values of TLA+ expressions: their order, states, and evaluation.
+#![tactic(auto)]
+
+pub mod fault;
