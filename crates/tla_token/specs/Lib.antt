@@ -1,1 +1,6 @@
 pub mod Rules
+pub mod Places
+pub mod Signs
+pub mod Words
+pub mod Lexemes
+pub mod Tokens

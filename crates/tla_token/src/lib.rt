@@ -3,9 +3,11 @@
 
 pub mod place;
 pub mod rule;
+pub mod sign;
 
 pub use place::Place;
 pub use rule::{Refusal, Rule, Stop};
+pub use sign::Sign;
 
 #[cfg(test)]
 mod tests {
