@@ -10,8 +10,8 @@ Word = List ℕ
 
 -- a step of a path behind `!` in an EXCEPT, or behind the variable of a left side
 pub data Step : Type 0 where
-  index : Step                      -- [e], the expression being a part of the tree
-  field : Word → Step               -- .a
+  index : Step  -- [e], the expression being a part of the tree
+  field : Word → Step  -- .a
 
 -- one setting of an EXCEPT: its path, and the place at which it faults
 pub record Slot : Type 0 where
@@ -20,35 +20,35 @@ pub record Slot : Type 0 where
 
 -- forms whose parts are all evaluated first, from left to right
 pub data Strict : Type 0 where
-  operator : Op → Strict            -- every operator but /\ \/ => \in \notin
-  set_of : Strict                   -- {a, b}
-  tuple : Strict                    -- <<a, b>>
-  fields : List Word → Strict       -- [a |-> e, b |-> f]
-  records : List Word → Strict      -- [a : S, b : T]
-  functions : Strict                -- [S -> T]
-  apply : Strict                    -- f[a]; f[a, b] is f[<<a, b>>]
-  select : Word → Strict            -- r.a
-  except : List Slot → Strict       -- [f EXCEPT ![a].b = e, ..]: f, then for each slot its subscripts and its right side
+  operator : Op → Strict  -- every operator but /\ \/ => \in \notin
+  set_of : Strict  -- {a, b}
+  tuple : Strict  -- <<a, b>>
+  fields : List Word → Strict  -- [a |-> e, b |-> f]
+  records : List Word → Strict  -- [a : S, b : T]
+  functions : Strict  -- [S -> T]
+  apply : Strict  -- f[a]; f[a, b] is f[<<a, b>>]
+  select : Word → Strict  -- r.a
+  except : List Slot → Strict  -- [f EXCEPT ![a].b = e, ..]: f, then for each slot its subscripts and its right side
 
 -- what is not a tree
 pub data Form : Type 0 where
   number : ℕ → Form
-  quote : Word → Form               -- a string, without its quotes and escapes
+  quote : Word → Form  -- a string, without its quotes and escapes
   truth : Bool → Form
-  booleans : Form                   -- BOOLEAN
-  strings : Form                    -- STRING
-  name : Word → Form                -- a variable, constant, parameter, bound name, or definition without parameters; also Nat and Int
-  next : Word → Form                -- a primed variable
+  booleans : Form  -- BOOLEAN
+  strings : Form  -- STRING
+  name : Word → Form  -- a variable, constant, parameter, bound name, or definition without parameters; also Nat and Int
+  next : Word → Form  -- a primed variable
   strict : Strict → Form
-  call : Word → Form                -- Op(a, b): a definition or a standard operator
-  both : Form                       -- a /\ b
-  or_else : Form                    -- a \/ b
-  implies : Form                    -- a => b
-  member : Bool → Form              -- a \in b; with false, a \notin b
-  choice : Form                     -- IF a THEN b ELSE c
-  cases : Bool → Form               -- CASE a -> b [] c -> d; with true, and an OTHER at the end
-  binding : Binder → List Word → Form   -- a set for each name, and the body
-  local : Word → Form               -- LET x == a IN b
+  call : Word → Form  -- Op(a, b): a definition or a standard operator
+  both : Form  -- a /\ b
+  or_else : Form  -- a \/ b
+  implies : Form  -- a => b
+  member : Bool → Form  -- a \in b; with false, a \notin b
+  choice : Form  -- IF a THEN b ELSE c
+  cases : Bool → Form  -- CASE a -> b [] c -> d; with true, and an OTHER at the end
+  binding : Binder → List Word → Form  -- a set for each name, and the body
+  local : Word → Form  -- LET x == a IN b
 
 mutual
   pub data Tree : Type 0 where

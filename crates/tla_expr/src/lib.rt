@@ -1,4 +1,5 @@
 //! Expressions of TLA+: their trees, how they are spelled, and their written text.
 #![tactic(auto)]
 
+pub mod name;
 pub mod op;
