@@ -1,5 +1,6 @@
 //! Expressions of TLA+: their trees, how they are spelled, and their written text.
 #![tactic(auto)]
 
+pub mod form;
 pub mod name;
 pub mod op;

@@ -1,0 +1,175 @@
+//! Forms of expressions: all of an expression but its place and its parts.
+
+ghost use Rattle.std.specs.Prelude.{◌≡◌, IfOk};
+ghost use Rattle.tla_expr.specs.FormOf.{step_of, steps_of, slot_of, slots_of, strict_of, form_of};
+
+use crate::name::{Name, NameList, Text};
+use crate::op::{Binder, Op};
+use std::alloc::{AllocError, Global};
+use tla_token::Place;
+
+/// A step of a path behind `!` in an `EXCEPT`.
+#[derive(Drop)]
+pub enum Step {
+    /// `[e]`, the expression being a part of the `EXCEPT`.
+    Index,
+    /// `.a`
+    Field(Name),
+}
+
+/// One setting of an `EXCEPT`: its path, and the place at which it faults.
+#[derive(Drop)]
+pub struct Slot {
+    pub path: Vec<Step>,
+    pub place: Place,
+}
+
+/// A form whose parts are all evaluated first, from left to right.
+#[derive(Drop)]
+pub enum Strict {
+    /// Every operator but `/\`, `\/`, `=>`, `\in` and `\notin`.
+    Operator(Op),
+    /// `{a, b}`
+    SetOf,
+    /// `<<a, b>>`
+    Tuple,
+    /// `[a |-> e, b |-> f]`
+    Fields(NameList),
+    /// `[a : S, b : T]`
+    Records(NameList),
+    /// `[S -> T]`
+    Functions,
+    /// `f[a]`
+    Apply,
+    /// `r.a`
+    Select(Name),
+    /// `[f EXCEPT ![a].b = e, ..]`: f, then for each slot its subscripts and its right side.
+    Except(Vec<Slot>),
+}
+
+/// What an expression is, its place and its parts aside.
+#[derive(Drop)]
+pub enum Form {
+    Number(u128),
+    /// A string, without quotes and escapes.
+    Quote(Text),
+    Truth(bool),
+    /// `BOOLEAN`
+    Booleans,
+    /// `STRING`
+    Strings,
+    /// A variable, constant, parameter, bound name, or definition without parameters.
+    Name(Name),
+    /// A primed variable.
+    Next(Name),
+    Strict(Strict),
+    /// `Op(a, b)`: a definition or a standard operator.
+    Call(Name),
+    /// `a /\ b`
+    Both,
+    /// `a \/ b`
+    OrElse,
+    /// `a => b`
+    Implies,
+    /// `a \in b`, and with false `a \notin b`.
+    Member(bool),
+    /// `IF a THEN b ELSE c`
+    Choice,
+    /// `CASE a -> b [] c -> d`, and with true an `OTHER` at the end.
+    Cases(bool),
+    /// A set for each name, and the body.
+    Binding(Binder, NameList),
+    /// `LET x == a IN b`
+    Local(Name),
+}
+
+impl Step {
+    /// The same step once more.
+    pub fn copied(&self) -> Result<Step, AllocError>
+        ensures { IfOk result (λ s. step_of s ≡ step_of self.now) }
+    {
+        match self {
+            Step::Index => Ok(Step::Index),
+            Step::Field(a) => Ok(Step::Field(a.copied()?)),
+        }
+    }
+}
+
+fn copied_steps(alloc: Global, steps: &[Step]) -> Result<Vec<Step>, AllocError>
+    ensures { IfOk result (λ v. steps_of v.items ≡ steps_of steps.now) }
+{
+    let mut copies = Vec::new(alloc);
+    for step in steps {
+        copies.push(step.copied()?)?;
+    }
+    Ok(copies)
+}
+
+impl Slot {
+    /// The same setting once more.
+    pub fn copied(&self, alloc: Global) -> Result<Slot, AllocError>
+        ensures { IfOk result (λ s. slot_of s ≡ slot_of self.now) }
+    {
+        let path = copied_steps(alloc, &self.path)?;
+        Ok(Slot {
+            path,
+            place: self.place,
+        })
+    }
+}
+
+fn copied_slots(alloc: Global, slots: &[Slot]) -> Result<Vec<Slot>, AllocError>
+    ensures { IfOk result (λ v. slots_of v.items ≡ slots_of slots.now) }
+{
+    let mut copies = Vec::new(alloc);
+    for slot in slots {
+        copies.push(slot.copied(alloc)?)?;
+    }
+    Ok(copies)
+}
+
+impl Strict {
+    /// The same form once more.
+    pub fn copied(&self, alloc: Global) -> Result<Strict, AllocError>
+        ensures { IfOk result (λ s. strict_of s ≡ strict_of self.now) }
+    {
+        match self {
+            Strict::Operator(op) => Ok(Strict::Operator(*op)),
+            Strict::SetOf => Ok(Strict::SetOf),
+            Strict::Tuple => Ok(Strict::Tuple),
+            Strict::Fields(names) => Ok(Strict::Fields(names.copied(alloc)?)),
+            Strict::Records(names) => Ok(Strict::Records(names.copied(alloc)?)),
+            Strict::Functions => Ok(Strict::Functions),
+            Strict::Apply => Ok(Strict::Apply),
+            Strict::Select(a) => Ok(Strict::Select(a.copied()?)),
+            Strict::Except(slots) => Ok(Strict::Except(copied_slots(alloc, slots)?)),
+        }
+    }
+}
+
+impl Form {
+    /// The same form once more.
+    pub fn copied(&self, alloc: Global) -> Result<Form, AllocError>
+        ensures { IfOk result (λ f. form_of f ≡ form_of self.now) }
+    {
+        match self {
+            Form::Number(n) => Ok(Form::Number(*n)),
+            Form::Quote(t) => Ok(Form::Quote(t.copied()?)),
+            Form::Truth(b) => Ok(Form::Truth(*b)),
+            Form::Booleans => Ok(Form::Booleans),
+            Form::Strings => Ok(Form::Strings),
+            Form::Name(x) => Ok(Form::Name(x.copied()?)),
+            Form::Next(x) => Ok(Form::Next(x.copied()?)),
+            Form::Strict(s) => Ok(Form::Strict(s.copied(alloc)?)),
+            Form::Call(f) => Ok(Form::Call(f.copied()?)),
+            Form::Both => Ok(Form::Both),
+            Form::OrElse => Ok(Form::OrElse),
+            Form::Implies => Ok(Form::Implies),
+            Form::Member(sense) => Ok(Form::Member(*sense)),
+            Form::Choice => Ok(Form::Choice),
+            Form::Cases(other) => Ok(Form::Cases(*other)),
+            Form::Binding(binder, names) => Ok(Form::Binding(*binder, names.copied(alloc)?)),
+            Form::Local(x) => Ok(Form::Local(x.copied()?)),
+        }
+    }
+}
