@@ -1,6 +1,7 @@
 //! Expressions of TLA+: their trees, how they are spelled, and their written text.
 #![tactic(auto)]
 
+pub mod expr;
 pub mod form;
 pub mod name;
 pub mod op;

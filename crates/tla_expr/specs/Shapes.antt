@@ -1,0 +1,71 @@
+-- How many parts a form has.
+use Rattle.std.specs.Prelude.{ℕ, zero, suc, ◌+◌, ◌≡◌, ◌≤◌, List, [], ◌∷◌, length, Bool, true, false}
+use Rattle.tla_expr.specs.declared.op.Op.{Op}
+use Rattle.tla_expr.specs.declared.op.Op.TheVariants as op
+use Rattle.tla_expr.specs.declared.op.Binder.{Binder}
+use Rattle.tla_expr.specs.declared.op.Binder.TheVariants as binder
+use Rattle.tla_expr.specs.Tree.{Word, Step, index, field, Slot, Strict, operator, set_of, tuple, fields, records, functions, apply, select, except, Form, strict, call, both, or_else, implies, member, choice, cases, binding, local}
+
+abbrev pub is_prefix : Op → Bool
+is_prefix op.Not = true
+is_prefix op.Subset = true
+is_prefix op.Union = true
+is_prefix op.Domain = true
+is_prefix op.Negate = true
+is_prefix o = false
+
+abbrev pub operands : Bool → ℕ
+operands true = 1
+operands false = 2
+
+-- a part for each subscript
+abbrev pub subscripts : List Step → ℕ
+subscripts [] = 0
+subscripts (index ∷ ss) = suc (subscripts ss)
+subscripts (field a ∷ ss) = subscripts ss
+
+-- subscripts and right sides
+abbrev pub settings : List Slot → ℕ
+settings [] = 0
+settings (s ∷ ss) = subscripts s.path + suc (settings ss)
+
+abbrev pub StrictShaped : Strict → ℕ → Type 0
+StrictShaped (operator o) n = n ≡ operands (is_prefix o)
+StrictShaped set_of n = Unit {0}
+StrictShaped tuple n = Unit {0}
+StrictShaped (fields xs) n = n ≡ length xs
+StrictShaped (records xs) n = n ≡ length xs
+StrictShaped functions n = n ≡ 2
+StrictShaped apply n = n ≡ 2
+StrictShaped (select a) n = n ≡ 1
+StrictShaped (except slots) n = n ≡ suc (settings slots)
+
+-- a test and a result for each arm, of which there is one at least
+abbrev pub IsPaired : ℕ → Type 0
+IsPaired zero = ⊥
+IsPaired (suc zero) = ⊥
+IsPaired (suc (suc zero)) = Unit {0}
+IsPaired (suc (suc n)) = IsPaired n
+
+abbrev pub CaseShaped : Bool → ℕ → Type 0
+CaseShaped false n = IsPaired n
+CaseShaped true zero = ⊥
+CaseShaped true (suc n) = IsPaired n
+
+-- a filter has one name, the others at least one; a set for each, and the body
+abbrev pub BinderShaped : Binder → List Word → ℕ → Type 0
+BinderShaped binder.Filter xs n = (length xs ≡ 1) × (n ≡ 2)
+BinderShaped b xs n = (1 ≤ length xs) × (n ≡ suc (length xs))
+
+abbrev pub Shaped : Form → ℕ → Type 0
+Shaped (strict o) n = StrictShaped o n
+Shaped (call f) n = 1 ≤ n
+Shaped both n = n ≡ 2
+Shaped or_else n = n ≡ 2
+Shaped implies n = n ≡ 2
+Shaped (member b) n = n ≡ 2
+Shaped choice n = n ≡ 3
+Shaped (cases b) n = CaseShaped b n
+Shaped (binding b xs) n = BinderShaped b xs n
+Shaped (local x) n = n ≡ 2
+Shaped _ n = n ≡ 0
