@@ -1,0 +1,1 @@
+-- Texts that are read in pieces, bytes that are written in pieces, and counts that rise by pieces.
