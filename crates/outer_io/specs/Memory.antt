@@ -1,5 +1,5 @@
--- What a shelf and a sink in memory do at their next call.
-use Rattle.std.specs.Prelude.{ℕ, ◌+◌, ◌-◌, ◌^◌, min, Bool, ◌==◌, length}
+-- What calls a shelf and a sink in memory have had, which of them are to fail, and how much a sink has room for.
+use Rattle.std.specs.Prelude.{◌≡◌, ℕ, ◌+◌, ◌-◌, ◌^◌, min, Bool, ◌==◌, length}
 use Rattle.std.specs.List.{list_any}
 use Rattle.outer_io.specs.declared.memory.Calls.{Calls}
 use Rattle.outer_io.specs.declared.memory.MemShelf.{MemShelf}
@@ -13,12 +13,25 @@ next_call c = min (c.made + 1) (2 ^ 64 - 1)
 abbrev pub next_fails : Calls → Bool
 next_fails c = list_any (λ n. n == next_call c) c.to_fail.items
 
-abbrev pub next_fetch_fails : MemShelf → Bool
-next_fetch_fails s = next_fails s.calls
+-- one call was made; the same calls are to fail
+pub record AddsCall (old new : Calls) : Type 0 where
+  pub made : new.made ≡ next_call old
+  pub to_fail : new.to_fail ≡ old.to_fail
 
-abbrev pub next_write_fails : MemSink → Bool
-next_write_fails s = next_fails s.calls
+abbrev pub fetches : MemShelf → Calls
+fetches s = s.calls
 
--- how many bytes a sink in memory has room for
+abbrev pub writes : MemSink → Calls
+writes s = s.calls
+
+-- the most bytes that one call gives
+abbrev pub most_given : MemShelf → ℕ
+most_given s = s.most
+
+-- the most bytes that one call takes
+abbrev pub most_taken : MemSink → ℕ
+most_taken s = s.most
+
+-- how many bytes a sink has room for
 abbrev pub room_left : MemSink → ℕ
 room_left s = s.room - length s.bytes.items
