@@ -1,4 +1,5 @@
-//! Files and output: a shelf of texts that are read, and a sink that takes bytes, each in memory and as the system has it.
+//! Files and output: a shelf of texts that are read by name, and a sink that takes bytes; each in memory, and as the
+//! system has it.
 #![tactic(auto)]
 
 mod memory;
@@ -7,6 +8,12 @@ mod system;
 mod writing;
 
 pub use memory::{MemShelf, MemSink};
-pub use reading::{Failed, LoadFault, Shelf, load};
+pub use reading::{LoadFault, Shelf, load};
 pub use system::{DiskShelf, StdSink};
+use thiserror::Error;
 pub use writing::{Sink, put_all};
+
+/// A call of a shelf or of a sink failed.
+#[derive(Clone, Copy, Debug, PartialEq, Eq, Error)]
+#[error("a call of a shelf or of a sink failed")]
+pub struct Failed;

@@ -3,16 +3,12 @@ ghost use Rattle.std.specs.Prelude.{◌≡◌, ◌⊎◌, ℕ, ◌<◌, ◌≤�
 ghost use Rattle.outer_io.specs.Outer.{Texts, RoseBy, RoseAbove, Rose, Lacks, Tells, IsPiece};
 ghost use Rattle.outer_io.specs.declared.reading.LoadFault.TheVariants as fault;
 
+use crate::Failed;
 use std::alloc::{AllocError, Global};
 use thiserror::Error;
 
 /// How many bytes are asked for at a time.
 const PIECE: usize = 4096;
-
-/// The call failed, and did nothing.
-#[derive(Clone, Copy, Debug, PartialEq, Eq, Error)]
-#[error("the call failed")]
-pub struct Failed;
 
 /// Why a text was not read.
 #[derive(Clone, Copy, Debug, PartialEq, Eq, Error)]
@@ -85,11 +81,11 @@ pub fn load<H: Shelf>(
     ensures given { IfOk result (λ v. RoseBy (length v.items) (H.given shelf.old) (H.given shelf.new)) }
 
     // When each error comes; `Memory` may come at any time.
-    ensures failed { IsErrOf result fault.Failed → Rose (H.faults shelf.old) (H.faults shelf.new)
+    ensures failed { IsErrOf result LoadFault.Failed → Rose (H.faults shelf.old) (H.faults shelf.new)
         ⊎ Lacks (H.texts shelf.old) name.now }
-    ensures lacking { Lacks (H.texts shelf.old) name.now → IsErrOf result fault.Failed }
-    ensures too_long { IsErrOf result fault.TooLong → RoseAbove most (H.given shelf.old) (H.given shelf.new) }
-    ensures longer { IsErrOf result fault.TooLong
+    ensures lacking { Lacks (H.texts shelf.old) name.now → IsErrOf result LoadFault.Failed }
+    ensures too_long { IsErrOf result LoadFault.TooLong → RoseAbove most (H.given shelf.old) (H.given shelf.new) }
+    ensures longer { IsErrOf result LoadFault.TooLong
         → Tells (H.texts shelf.old) name.now (λ text. most < length text) }
 
     ensures texts_stay { H.texts shelf.new ≡ H.texts shelf.old }

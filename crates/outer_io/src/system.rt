@@ -1,12 +1,12 @@
 // The files of the system as a shelf, and its streams as sinks. They tell no content, and count what the system refuses.
 ghost use Rattle.std.specs.Prelude.{◌≡◌, ◌≤◌, None, IfOk, length};
 
-use crate::reading::{Failed, Shelf};
+use crate::Failed;
+use crate::reading::Shelf;
 use crate::writing::Sink;
-use std::fs;
-use std::io;
 use std::io::{Read, Seek, SeekFrom, Write};
 use std::rt::Files;
+use std::{fs, io};
 
 /// The files of a system, by their paths. Each call opens its file anew.
 #[derive(Drop)]
@@ -96,5 +96,48 @@ impl<W: Write + Drop> Sink for StdSink<W> {
                 Err(Failed)
             }
         }
+    }
+}
+
+#[cfg(test)]
+mod tests {
+    use super::*;
+    use crate::{LoadFault, load, put_all};
+    use std::test::Fail;
+    use std::{env, process};
+
+    /// A file of more than one piece is read whole; one that isn't there is a counted failure.
+    #[test]
+    fn reads_a_file(rt: HostRuntime) -> Result<(), Fail> {
+        let alloc = rt.alloc();
+        let name = format!(in alloc; "outer_io_{}.txt", process::id(rt.process()))?;
+        let path = env::temp_dir(&rt)?.join(alloc, name.as_str())?;
+        let path = path.to_str().ok_or("a path of text")?;
+        let text = [b'x'; 5000];
+        fs::write(&rt, path, text.as_slice())?;
+
+        let mut shelf = DiskShelf::new(&rt);
+        let read = load(alloc, &mut shelf, path, 5000);
+        fs::remove_file(&rt, path)?;
+        assert!(rt; read.is_ok_and(|bytes| bytes.as_slice() == text.as_slice()));
+        assert_eq!(rt; (shelf.given, shelf.faults), (5000, 0));
+        assert_eq!(rt;
+            load(alloc, &mut shelf, path, 5000).err(),
+            Some(LoadFault::Failed)
+        );
+        assert_eq!(rt; (shelf.given, shelf.faults), (5000, 1));
+        Ok(())
+    }
+
+    /// Output and errors take a line; a device that takes nothing is a counted failure.
+    #[test]
+    fn writes_to_streams(rt: HostRuntime) -> Result<(), Fail> {
+        assert!(rt; put_all(&mut StdSink::new(rt.stdout()), b"output\n").is_ok());
+        assert!(rt; put_all(&mut StdSink::new(rt.stderr()), b"errors\n").is_ok());
+        let full = fs::OpenOptions::new().write(true).open(&rt, "/dev/full")?;
+        let mut sink = StdSink::new(full);
+        assert!(rt; put_all(&mut sink, b"lost").is_err());
+        assert_eq!(rt; sink.faults, 1);
+        Ok(())
     }
 }

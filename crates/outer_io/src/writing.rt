@@ -2,7 +2,7 @@
 ghost use Rattle.std.specs.Prelude.{◌≡◌, ℕ, ◌<◌, ◌≤◌, List, Option, length, take, IfOk, OnOk, OnErr};
 ghost use Rattle.outer_io.specs.Outer.{Rose, Grows, GrowsInPart};
 
-use crate::reading::Failed;
+use crate::Failed;
 
 /// What takes bytes, a piece at a time.
 pub trait Sink {
