@@ -1,9 +1,9 @@
--- What a shelf of texts tells, what a sink tells, and how counts of 64 bits rise.
+-- What is told of the texts on a shelf and of the bytes that a sink took, and how counts of 64 bits rise.
 use Rattle.std.specs.Prelude.{◌≡◌, ℕ, ◌+◌, ◌-◌, ◌^◌, ◌<◌, ◌≤◌, min, List, [], ◌∷◌, ◌++◌, length, take, drop, Option, Some, None, IfSome, String, string_bytes, Vec, map, if◌then◌else◌}
 use Rattle.std.specs.Str.{bytes_eq}
 use Rattle.std.specs.declared.alloc.Global.{Global}
 
--- a count rose by just so many, or by fewer and then stands at its last value
+-- a count rose by so many, or by fewer and stands at its last value
 pub record RoseBy (n old new : ℕ) : Type 0 where
   pub no_less : min (old + n) (2 ^ 64 - 1) ≤ new
   pub no_more : new ≤ old + n
@@ -25,6 +25,10 @@ abbrev pub text_at : Texts → List ℕ → Option (List ℕ)
 text_at [] name = None
 text_at (t ∷ ts) name = if bytes_eq t.0 name then Some t.1 else text_at ts name
 
+-- the texts in a list of names and bytes
+abbrev pub texts_in : List (String Global × Vec ℕ Global) → Texts
+texts_in ts = map (λ t. (string_bytes t.0, t.1.items)) ts
+
 -- the text under a name, where the texts are told and one has that name
 abbrev pub told_at : Option Texts → List ℕ → Option (List ℕ)
 told_at None name = None
@@ -38,6 +42,11 @@ Tells texts name P = IfSome (told_at texts name) P
 abbrev pub Lacks : Option Texts → List ℕ → Type 0
 Lacks None name = ⊥
 Lacks (Some ts) name = text_at ts name ≡ None
+
+-- the texts, where they are told, have just these bytes under the name
+abbrev pub Has : Option Texts → List ℕ → List ℕ → Type 0
+Has None name bytes = Unit {0}
+Has (Some ts) name bytes = text_at ts name ≡ Some bytes
 
 -- the first n bytes of a buffer are a piece of a text, from a place on; none of a buffer with room only at the text's end
 pub record IsPiece (from n : ℕ) (buffer text : List ℕ) : Type 0 where
@@ -53,7 +62,3 @@ Grows (Some old) new bytes = new ≡ Some (old ++ bytes)
 -- what was written went on by the first of these bytes, and not by all of them
 abbrev pub GrowsInPart : Option (List ℕ) → Option (List ℕ) → List ℕ → Type 0
 GrowsInPart old new bytes = (n : ℕ) × (n < length bytes) × Grows old new (take n bytes)
-
--- the texts in a list of names and bytes
-abbrev pub texts_in : List (String Global × Vec ℕ Global) → Texts
-texts_in ts = map (λ p. (string_bytes p.0, p.1.items)) ts

@@ -1,6 +1,6 @@
 // A shelf of texts, and the reading of a whole text.
 ghost use Rattle.std.specs.Prelude.{◌≡◌, ◌⊎◌, ℕ, ◌<◌, ◌≤◌, Option, length, IfOk, IsErr, OnErr, IsErrOf};
-ghost use Rattle.outer_io.specs.Outer.{Texts, RoseBy, RoseAbove, Rose, Lacks, Tells, IsPiece};
+ghost use Rattle.outer_io.specs.Outer.{Texts, RoseBy, RoseAbove, Rose, Lacks, Tells, Has, IsPiece};
 ghost use Rattle.outer_io.specs.declared.reading.LoadFault.TheVariants as fault;
 
 use crate::Failed;
@@ -76,7 +76,7 @@ pub fn load<H: Shelf>(
     name: &str,
     most: u64,
 ) -> Result<Vec<u8>, LoadFault>
-    ensures text { IfOk result (λ v. Tells (H.texts shelf.old) name.now (λ text. v.items ≡ text)) }
+    ensures text { IfOk result (λ v. Has (H.texts shelf.old) name.now v.items) }
     ensures short { IfOk result (λ v. length v.items ≤ most) }
     ensures given { IfOk result (λ v. RoseBy (length v.items) (H.given shelf.old) (H.given shelf.new)) }
 
