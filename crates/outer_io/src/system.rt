@@ -113,7 +113,8 @@ mod tests {
         let name = format!(in alloc; "outer_io_{}.txt", process::id(rt.process()))?;
         let path = env::temp_dir(&rt)?.join(alloc, name.as_str())?;
         let path = path.to_str().ok_or("a path of text")?;
-        let text = [b'x'; 5000];
+        let mut text = [b'x'; 5000];
+        text[4096] = b'y';
         fs::write(&rt, path, text.as_slice())?;
 
         let mut shelf = DiskShelf::new(&rt);
