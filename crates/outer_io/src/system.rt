@@ -1,0 +1,144 @@
+// The files of the system as a shelf, and its streams as sinks. They tell no content, and count what the system refuses.
+ghost use Rattle.std.specs.Prelude.{◌≡◌, ◌≤◌, None, IfOk, length};
+
+use crate::Failed;
+use crate::reading::Shelf;
+use crate::writing::Sink;
+use std::io::{Read, Seek, SeekFrom, Write};
+use std::rt::Files;
+use std::{fs, io};
+
+/// The files of a system, by their paths. Each call opens its file anew.
+#[derive(Drop)]
+pub struct DiskShelf<R: Files + Drop> {
+    files: R,
+    given: u64,
+    faults: u64,
+}
+
+impl<R: Files + Drop> DiskShelf<R> {
+    /// A shelf that has handed out nothing yet.
+    pub fn new(files: R) -> DiskShelf<R>
+        ensures texts { ⟦<DiskShelf<R> as Shelf>⟧.texts result ≡ None }
+        ensures given { ⟦<DiskShelf<R> as Shelf>⟧.given result ≡ 0 }
+        ensures faults { ⟦<DiskShelf<R> as Shelf>⟧.faults result ≡ 0 }
+    {
+        DiskShelf {
+            files,
+            given: 0,
+            faults: 0,
+        }
+    }
+}
+
+/// Reads bytes of a file, from a place on.
+fn read_from<R: Files>(files: &R, path: &str, from: u64, into: &mut [u8]) -> io::Result<usize>
+    ensures { IfOk result (λ n. n ≤ length into.old) }
+{
+    let mut file = fs::open(files, path)?;
+    file.seek(SeekFrom::Start(from))?;
+    file.read(into)
+}
+
+impl<R: Files + Drop> Shelf for DiskShelf<R> {
+    ghost texts = { λ _. None };
+
+    ghost given = { λ s. s.given };
+
+    ghost faults = { λ s. s.faults };
+
+    fn fetch(&mut self, name: &str, from: u64, into: &mut [u8]) -> Result<usize, Failed> {
+        let Ok(n) = read_from(&self.files, name, from, into) else {
+            self.faults = self.faults.saturating_add(1);
+            return Err(Failed);
+        };
+        self.given = self.given.saturating_add(n as u64);
+        Ok(n)
+    }
+}
+
+/// A stream of the system, as its output or its errors. Each call flushes it.
+#[derive(Drop)]
+pub struct StdSink<W: Write + Drop> {
+    stream: W,
+    faults: u64,
+}
+
+impl<W: Write + Drop> StdSink<W> {
+    /// A sink that has taken nothing yet.
+    pub fn new(stream: W) -> StdSink<W>
+        ensures wrote { ⟦<StdSink<W> as Sink>⟧.wrote result ≡ None }
+        ensures faults { ⟦<StdSink<W> as Sink>⟧.faults result ≡ 0 }
+    {
+        StdSink { stream, faults: 0 }
+    }
+}
+
+/// Writes the first bytes of a piece, and flushes.
+fn write_through<W: Write>(stream: &mut W, piece: &[u8]) -> io::Result<usize>
+    ensures { IfOk result (λ n. n ≤ length piece.now) }
+{
+    let n = stream.write(piece)?;
+    stream.flush()?;
+    Ok(n)
+}
+
+impl<W: Write + Drop> Sink for StdSink<W> {
+    ghost wrote = { λ _. None };
+
+    ghost faults = { λ s. s.faults };
+
+    fn write(&mut self, piece: &[u8]) -> Result<usize, Failed> {
+        match write_through(&mut self.stream, piece) {
+            Ok(n) if n > 0 || piece.is_empty() => Ok(n),
+            _ => {
+                self.faults = self.faults.saturating_add(1);
+                Err(Failed)
+            }
+        }
+    }
+}
+
+#[cfg(test)]
+mod tests {
+    use super::*;
+    use crate::{LoadFault, load, put_all};
+    use std::test::Fail;
+    use std::{env, process};
+
+    /// A file of more than one piece is read whole; one that isn't there is a counted failure.
+    #[test]
+    fn reads_a_file(rt: HostRuntime) -> Result<(), Fail> {
+        let alloc = rt.alloc();
+        let name = format!(in alloc; "outer_io_{}.txt", process::id(rt.process()))?;
+        let path = env::temp_dir(&rt)?.join(alloc, name.as_str())?;
+        let path = path.to_str().ok_or("a path of text")?;
+        let mut text = [b'x'; 5000];
+        text[4096] = b'y';
+        fs::write(&rt, path, text.as_slice())?;
+
+        let mut shelf = DiskShelf::new(&rt);
+        let read = load(alloc, &mut shelf, path, 5000);
+        fs::remove_file(&rt, path)?;
+        assert!(rt; read.is_ok_and(|bytes| bytes.as_slice() == text.as_slice()));
+        assert_eq!(rt; (shelf.given, shelf.faults), (5000, 0));
+        assert_eq!(rt;
+            load(alloc, &mut shelf, path, 5000).err(),
+            Some(LoadFault::Failed)
+        );
+        assert_eq!(rt; (shelf.given, shelf.faults), (5000, 1));
+        Ok(())
+    }
+
+    /// Output and errors take a line; a device that takes nothing is a counted failure.
+    #[test]
+    fn writes_to_streams(rt: HostRuntime) -> Result<(), Fail> {
+        assert!(rt; put_all(&mut StdSink::new(rt.stdout()), b"output\n").is_ok());
+        assert!(rt; put_all(&mut StdSink::new(rt.stderr()), b"errors\n").is_ok());
+        let full = fs::OpenOptions::new().write(true).open(&rt, "/dev/full")?;
+        let mut sink = StdSink::new(full);
+        assert!(rt; put_all(&mut sink, b"lost").is_err());
+        assert_eq!(rt; sink.faults, 1);
+        Ok(())
+    }
+}
