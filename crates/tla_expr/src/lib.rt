@@ -2,6 +2,8 @@
 #![tactic(auto)]
 
 pub mod expr;
+pub mod exprs;
 pub mod form;
+pub mod graft;
 pub mod name;
 pub mod op;
