@@ -1,1 +1,4 @@
 pub mod Tree
+pub mod Rank
+pub mod Lexical
+pub mod Spelling
