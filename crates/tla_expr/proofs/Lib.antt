@@ -1,2 +1,5 @@
 pub mod NameLemmas
 pub mod TreeLemmas
+pub mod Operands
+mod Rows
+mod RowsView

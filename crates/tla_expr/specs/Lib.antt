@@ -4,3 +4,10 @@ pub mod FormOf
 pub mod Shapes
 pub mod TreeOf
 pub mod Code
+pub mod Rank
+pub mod Lexical
+pub mod View
+pub mod Spelling
+pub mod Written
+pub mod Nesting
+pub mod Bracketed

@@ -1,18 +1,9 @@
 -- How many parts a form has.
 use Rattle.std.specs.Prelude.{ℕ, zero, suc, ◌+◌, ◌≡◌, ◌≤◌, List, [], ◌∷◌, length, Bool, true, false}
-use Rattle.tla_expr.specs.declared.op.Op.{Op}
-use Rattle.tla_expr.specs.declared.op.Op.TheVariants as op
 use Rattle.tla_expr.specs.declared.op.Binder.{Binder}
 use Rattle.tla_expr.specs.declared.op.Binder.TheVariants as binder
+use Rattle.tla_expr.specs.Rank.{is_prefix}
 use Rattle.tla_expr.specs.Tree.{Word, Step, index, field, Slot, Strict, operator, set_of, tuple, fields, records, functions, apply, select, except, Form, strict, call, both, or_else, implies, member, choice, cases, binding, local}
-
-abbrev pub is_prefix : Op → Bool
-is_prefix op.Not = true
-is_prefix op.Subset = true
-is_prefix op.Union = true
-is_prefix op.Domain = true
-is_prefix op.Negate = true
-is_prefix o = false
 
 abbrev pub operands : Bool → ℕ
 operands true = 1

@@ -7,3 +7,59 @@ pub mod form;
 pub mod graft;
 pub mod name;
 pub mod op;
+pub mod outside;
+
+pub use expr::Expr;
+pub use exprs::Exprs;
+pub use name::{Name, NameList, Text};
+pub use op::{Binder, Op, rank};
+pub use outside::Outside;
+
+#[cfg(test)]
+mod tests {
+    use super::expr::{Expr, copied};
+    use super::form::Form;
+    use super::name::{Name, NameList};
+    use super::op::{Op, rank};
+    use std::alloc::AllocError;
+    use tla_token::Place;
+
+    #[test]
+    fn ranks_of_the_book(rt: HostRuntime) {
+        assert_eq!(rt; rank(Op::Plus), (10, 10));
+        assert_eq!(rt; rank(Op::Modulo), (10, 11));
+        assert_eq!(rt; rank(Op::Negate), (12, 12));
+    }
+
+    #[test]
+    fn a_list_has_the_names_that_were_pushed(rt: HostRuntime) -> Result<(), AllocError> {
+        let mut names = NameList::new(rt.alloc());
+        names.push(Name::new(Vec::from_array(rt.alloc(), [120])?))?;
+        let other = Name::new(Vec::from_array(rt.alloc(), [121])?);
+        assert!(rt; !names.contains(&other));
+        names.push(other.copied()?)?;
+        assert!(rt; names.contains(&other));
+        assert_eq!(rt; names.copied(rt.alloc())?.len(), 2);
+        Ok(())
+    }
+
+    #[test]
+    fn a_copy_has_the_same_parts(rt: HostRuntime) -> Result<(), AllocError> {
+        let place = Place { line: 1, col: 1 };
+        let mut parts = Vec::new(rt.alloc());
+        for n in [1, 2] {
+            parts.push(Expr {
+                form: Form::Number(n),
+                place,
+                parts: Vec::new(rt.alloc()),
+            })?;
+        }
+        let both = Expr {
+            form: Form::Both,
+            place,
+            parts,
+        };
+        assert_eq!(rt; copied(rt.alloc(), &both)?.parts.len(), 2);
+        Ok(())
+    }
+}
