@@ -2,8 +2,20 @@
 use Rattle.std.specs.Prelude.{ℕ, zero, suc, ◌+◌, ◌≡◌, ◌≤◌, List, [], ◌∷◌, length, Bool, true, false}
 use Rattle.tla_expr.specs.declared.op.Binder.{Binder}
 use Rattle.tla_expr.specs.declared.op.Binder.TheVariants as binder
+use Rattle.std.specs.Bool.{IsTrue}
+use Rattle.tla_expr.specs.declared.op.Op.{Op}
+use Rattle.tla_expr.specs.declared.op.Op.TheVariants as op
 use Rattle.tla_expr.specs.Rank.{is_prefix}
 use Rattle.tla_expr.specs.Tree.{Word, Step, index, field, Slot, Strict, operator, set_of, tuple, fields, records, functions, apply, select, except, Form, strict, call, both, or_else, implies, member, choice, cases, binding, local}
+
+-- the others are forms of their own
+abbrev pub is_strict : Op → Bool
+is_strict op.And = false
+is_strict op.Or = false
+is_strict op.Implies = false
+is_strict op.In = false
+is_strict op.NotIn = false
+is_strict o = true
 
 abbrev pub operands : Bool → ℕ
 operands true = 1
@@ -15,21 +27,31 @@ subscripts [] = 0
 subscripts (index ∷ ss) = suc (subscripts ss)
 subscripts (field a ∷ ss) = subscripts ss
 
+abbrev pub HasPath : List Step → Type 0
+HasPath [] = ⊥
+HasPath (s ∷ ss) = Unit {0}
+
+-- there is a setting, and each has a path
+abbrev pub HavePaths : List Slot → Type 0
+HavePaths [] = ⊥
+HavePaths (s ∷ []) = HasPath s.path
+HavePaths (s ∷ t ∷ ss) = HasPath s.path × HavePaths (t ∷ ss)
+
 -- subscripts and right sides
 abbrev pub settings : List Slot → ℕ
 settings [] = 0
 settings (s ∷ ss) = subscripts s.path + suc (settings ss)
 
 abbrev pub StrictShaped : Strict → ℕ → Type 0
-StrictShaped (operator o) n = n ≡ operands (is_prefix o)
+StrictShaped (operator o) n = IsTrue (is_strict o) × (n ≡ operands (is_prefix o))
 StrictShaped set_of n = Unit {0}
 StrictShaped tuple n = Unit {0}
-StrictShaped (fields xs) n = n ≡ length xs
-StrictShaped (records xs) n = n ≡ length xs
+StrictShaped (fields xs) n = (1 ≤ n) × (n ≡ length xs)
+StrictShaped (records xs) n = (1 ≤ n) × (n ≡ length xs)
 StrictShaped functions n = n ≡ 2
 StrictShaped apply n = n ≡ 2
 StrictShaped (select a) n = n ≡ 1
-StrictShaped (except slots) n = n ≡ suc (settings slots)
+StrictShaped (except slots) n = HavePaths slots × (n ≡ suc (settings slots))
 
 -- a test and a result for each arm, of which there is one at least
 abbrev pub IsPaired : ℕ → Type 0

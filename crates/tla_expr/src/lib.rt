@@ -46,14 +46,14 @@ mod tests {
     #[test]
     fn a_copy_has_the_same_parts(rt: HostRuntime) -> Result<(), AllocError> {
         let place = Place { line: 1, col: 1 };
+        let one = Expr {
+            form: Form::Number(1),
+            place,
+            parts: Vec::new(rt.alloc()),
+        };
         let mut parts = Vec::new(rt.alloc());
-        for n in [1, 2] {
-            parts.push(Expr {
-                form: Form::Number(n),
-                place,
-                parts: Vec::new(rt.alloc()),
-            })?;
-        }
+        parts.push(copied(rt.alloc(), &one)?)?;
+        parts.push(one)?;
         let both = Expr {
             form: Form::Both,
             place,
