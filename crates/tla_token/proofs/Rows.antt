@@ -1,5 +1,5 @@
 -- Worked examples of places, words and lexemes, by computation.
-use Rattle.std.specs.Prelude.{◌≡◌, ℕ, ◌^◌, List, [], ◌∷◌, ◌++◌, true, false, Option, Some, None, codes}
+use Rattle.std.specs.Prelude.{◌≡◌, ℕ, List, [], ◌∷◌, ◌++◌, true, false, Option, Some, None, codes}
 use Rattle.std.proofs.Common.{refl}
 use Rattle.tla_token.specs.Places.{place_at}
 use Rattle.tla_token.specs.Signs.{is_sign}

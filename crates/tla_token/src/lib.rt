@@ -29,7 +29,7 @@ mod tests {
             place: Place { line: 12, col: 3 },
         };
         assert_eq!(rt;
-            format!(in rt.alloc(); "{refusal}")?,
+            format!(in rt.alloc(); "{refusal}")?.as_str(),
             "12:3: 45 AssignTwice"
         );
         Ok(())
