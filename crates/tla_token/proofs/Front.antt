@@ -1,12 +1,12 @@
 -- Blanks, comments and strings that fit are found at the front of a text.
-use Rattle.std.proofs.Common.{◌≡◌, ℕ, zero, suc, ◌+◌, Bool, true, false, not, nat_eq, List, [], ◌∷◌, ◌++◌, length, take, Option, Some, None, refl, sym, ap, ◌∙◌, inl, inr, if◌then◌else◌, ◌||◌, drop, arith, codes, IsTrue}
+use Rattle.std.proofs.Common.{◌≡◌, ℕ, zero, suc, ◌+◌, Bool, true, false, not, nat_eq, List, [], ◌∷◌, ◌++◌, length, take, Option, Some, None, refl, ap, inl, inr, ◌||◌, drop, arith}
 use Rattle.std.specs.List.{list_all}
 use Rattle.std.proofs.Math.Seq.{take-append_seam, drop-append_seam}
 use Rattle.std.proofs.lemmas.Bool.{and_parts, or_cases, eqb-true, false_from_ne_true, both_ways}
 use Rattle.tla_token.specs.Lexemes.{is_blank, is_plain, escaped, in_front, unquoted, behind_backslash, quote}
 use Rattle.tla_token.specs.Tokens.{blank, block, line, lexeme, is_pair, Closes, EndsLine}
-use Rattle.tla_token.specs.Offences.{Part, sound, ends_string, string_len, escape_len}
-use Rattle.tla_token.specs.Cut.{run, comment_len, part_at, block_part}
+use Rattle.tla_token.specs.Offences.{sound, ends_string, string_len, escape_len}
+use Rattle.tla_token.specs.Cut.{run, comment_len, part_at}
 
 -- a comment is as long as it takes to close it
 pub closes_len : (d : ℕ) (body rest : List ℕ) → Closes d body → comment_len d (body ++ rest) ≡ Some (length body)
@@ -59,18 +59,18 @@ plain_at b k e f t = (let d : b ≡ k = eqb-true b k e in let g : is_plain k ≡
 plain_goes : (b : ℕ) → is_plain b ≡ true → ends_string b ≡ false
 plain_goes b t =
     false_from_ne_true (ends_string b) (λ h.
-        elim (or_cases (nat_eq b 34 || nat_eq b 9 || nat_eq b 10) (nat_eq b 13) h) [
-          | inr e ↦ plain_at b 13 e refl t
-          | inl h2 ↦ elim (or_cases (nat_eq b 34 || nat_eq b 9) (nat_eq b 10) h2) [
-            | inr e ↦ plain_at b 10 e refl t
-            | inl h3 ↦ elim (or_cases (nat_eq b 34) (nat_eq b 9) h3) [ inl e ↦ plain_at b 34 e refl t | inr e ↦ plain_at b 9 e refl t ]
-          ]
-        ])
+    elim (or_cases (nat_eq b 34 || nat_eq b 9 || nat_eq b 10) (nat_eq b 13) h) [
+      | inr e ↦ plain_at b 13 e refl t
+      | inl h2 ↦ elim (or_cases (nat_eq b 34 || nat_eq b 9) (nat_eq b 10) h2) [
+        | inr e ↦ plain_at b 10 e refl t
+        | inl h3 ↦ elim (or_cases (nat_eq b 34) (nat_eq b 9) h3) [ inl e ↦ plain_at b 34 e refl t | inr e ↦ plain_at b 9 e refl t ]
+      ]
+    ])
 
 escape_goes : (b c : ℕ) → escaped b ≡ Some c → nat_eq b 10 ≡ false
 escape_goes b c e =
     false_from_ne_true (nat_eq b 10) (λ h.
-        (let d : b ≡ 10 = eqb-true b 10 h in let g : escaped 10 ≡ Some c = rw d at e in cc))
+    (let d : b ≡ 10 = eqb-true b 10 h in let g : escaped 10 ≡ Some c = rw d at e in cc))
 
 string_step : (b : ℕ) (bs rest w : List ℕ) (k : Bool) → nat_eq b 92 ≡ k → (j : Bool) → is_plain b ≡ j → unquoted (b ∷ bs) ≡ Some w
     → ((v : List ℕ) → behind_backslash bs ≡ Some v → escape_len (bs ++ 34 ∷ rest) ≡ suc (length bs))

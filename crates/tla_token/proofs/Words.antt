@@ -1,10 +1,10 @@
 -- Names and numbers that are longest are found at the front of a text.
-use Rattle.std.proofs.Common.{◌≡◌, ℕ, zero, suc, ◌+◌, ◌<◌, ◌≤◌, Bool, true, false, not, nat_eq, nat_le, ◌||◌, ◌&&◌, List, [], ◌∷◌, ◌++◌, length, take, drop, take_while, refl, sym, ap, ◌∙◌, inl, inr, arith, codes, IsTrue, length-append, append_assoc}
-use Rattle.std.specs.List.{list_all, list_any, starts_with}
+use Rattle.std.proofs.Common.{◌≡◌, ℕ, suc, ◌+◌, ◌<◌, ◌≤◌, Bool, true, false, nat_eq, nat_le, ◌||◌, ◌&&◌, List, [], ◌∷◌, ◌++◌, length, refl, sym, ap, ◌∙◌, inl, inr, arith, append_assoc}
+use Rattle.std.specs.List.{list_all, list_any}
 use Rattle.std.proofs.lemmas.Bool.{and_parts, and_from, or_cases, or_left, or_right, eqb-true, leb-true, false_from_ne_true, both_ways}
-use Rattle.tla_token.specs.Lexemes.{Kind, name, number, is_blank, is_word, is_letter, is_digit, number_of, IsLongest}
+use Rattle.tla_token.specs.Lexemes.{name, number, is_word, is_letter, is_digit, number_of, IsLongest}
 use Rattle.tla_token.specs.Tokens.{lexeme}
-use Rattle.tla_token.specs.Offences.{Part, sound}
+use Rattle.tla_token.specs.Offences.{sound}
 use Rattle.tla_token.specs.Cut.{run, part_at, lexeme_part}
 
 one_plus : (n : ℕ) → 1 + n ≡ suc n
@@ -77,3 +77,61 @@ name_front b l rest all any longest =
   where
     picked : (u : List ℕ) → run is_word (b ∷ (l ++ rest)) ≡ b ∷ l → lexeme_part b (l ++ rest) ≡ sound (lexeme (name (b ∷ l)) (b ∷ l))
     picked u e = rw (e, any) refl
+
+-- ---- numbers
+digit_word : (b : ℕ) → is_digit b ≡ true → is_word b ≡ true
+digit_word b h = or_left (is_letter b || is_digit b) (nat_eq b 95) (or_right (is_letter b) (is_digit b) h)
+
+digits_words : (l : List ℕ) → list_all is_digit l ≡ true → list_all is_word l ≡ true
+digits_words [] h = refl
+digits_words (b ∷ l) h = (let w = and_parts (is_digit b) (list_all is_digit l) h in and_from (is_word b) (list_all is_word l) (digit_word b w.0) (digits_words l w.1))
+
+digit_letter : (b : ℕ) → is_digit b ≡ true → is_letter b ≡ true → ⊥
+digit_letter b h k =
+    let d = and_parts (nat_le 48 b) (nat_le b 57) h in
+    let high : b ≤ 57 = leb-true b 57 d.1 in
+    elim (or_cases (nat_le 97 b && nat_le b 122) (nat_le 65 b && nat_le b 90) k) [
+      | inl e ↦ (let x = leb-true 97 b (and_parts (nat_le 97 b) (nat_le b 122) e).0 in omega arith)
+      | inr e ↦ (let x = leb-true 65 b (and_parts (nat_le 65 b) (nat_le b 90) e).0 in omega arith)
+    ]
+
+no_letters : (l : List ℕ) → list_all is_digit l ≡ true → list_any is_letter l ≡ true → ⊥
+no_letters [] h k = cc
+no_letters (b ∷ l) h k =
+    let w = and_parts (is_digit b) (list_all is_digit l) h in
+    elim (or_cases (is_letter b) (list_any is_letter l) k) [ inl e ↦ digit_letter b w.0 e | inr e ↦ no_letters l w.1 e ]
+
+some_bytes : (b : ℕ) (l r : List ℕ) → 0 < length ((b ∷ l) ++ r)
+some_bytes b l r = omega arith
+
+-- a longest number is the whole run of digits, and no name
+number_run : (b : ℕ) (l rest : List ℕ) → list_all is_digit (b ∷ l) ≡ true → IsLongest (b ∷ l) rest → run is_digit ((b ∷ l) ++ rest) ≡ b ∷ l
+number_run b l rest all longest =
+    let r = run is_digit rest in
+    let m = (b ∷ l) ++ r in
+    let s = run_splits is_digit rest in
+    let whole : (b ∷ l) ++ rest ≡ m ++ s.0 = ap (λ (u : List ℕ). (b ∷ l) ++ u) s.1 ∙ sym (append_assoc (b ∷ l) r s.0) in
+    let short : length m ≤ length (b ∷ l) = longest (number (number_of m)) m s.0 (some_bytes b l r, all_append is_digit (b ∷ l) r all (run_passes is_digit rest), refl) whole in
+    run_over is_digit (b ∷ l) rest all ∙ no_more (b ∷ l) r short
+
+no_name : (l rest : List ℕ) → list_all is_digit l ≡ true → IsLongest l rest → list_any is_letter (run is_word (l ++ rest)) ≡ false
+no_name l rest all longest =
+    let r = run is_word rest in
+    let words = digits_words l all in
+    let over : run is_word (l ++ rest) ≡ l ++ r = run_over is_word l rest words in
+    let s = run_splits is_word rest in
+    let whole : l ++ rest ≡ (l ++ r) ++ s.0 = ap (λ (u : List ℕ). l ++ u) s.1 ∙ sym (append_assoc l r s.0) in
+    false_from_ne_true (list_any is_letter (run is_word (l ++ rest))) (λ k.
+    (let any : list_any is_letter (l ++ r) ≡ true = ap (list_any is_letter) (sym over) ∙ k in
+    let short : length (l ++ r) ≤ length l = longest (name (l ++ r)) (l ++ r) s.0 (refl, (all_append is_word l r words (run_passes is_word rest), any)) whole in
+    no_letters l all (ap (list_any is_letter) (sym (no_more l r short)) ∙ any)))
+
+pub number_front : (b : ℕ) (l rest : List ℕ) → list_all is_digit (b ∷ l) ≡ true → IsLongest (b ∷ l) rest
+    → part_at b (l ++ rest) ≡ sound (lexeme (number (number_of (b ∷ l))) (b ∷ l))
+number_front b l rest all longest =
+    let w = and_parts (is_digit b) (list_all is_digit l) all in
+    word_front b (l ++ rest) (digit_word b w.0) ∙ picked w.0 (number_run b l rest all longest) (no_name (b ∷ l) rest all longest)
+  where
+    picked : is_digit b ≡ true → run is_digit (b ∷ (l ++ rest)) ≡ b ∷ l → list_any is_letter (run is_word (b ∷ (l ++ rest))) ≡ false
+        → lexeme_part b (l ++ rest) ≡ sound (lexeme (number (number_of (b ∷ l))) (b ∷ l))
+    picked d e none = rw (none, e, d) refl
