@@ -1,11 +1,15 @@
 -- Worked examples of places, words and lexemes, by computation.
-use Rattle.std.specs.Prelude.{◌≡◌, [], ◌∷◌, true, false, Some, None, codes}
+use Rattle.std.specs.Prelude.{◌≡◌, ℕ, List, [], ◌∷◌, ◌++◌, true, false, Option, Some, None, codes}
 use Rattle.std.proofs.Common.{refl}
 use Rattle.tla_token.specs.Places.{place_at}
 use Rattle.tla_token.specs.Signs.{is_sign}
 use Rattle.tla_token.specs.Words.{is_reserved, is_standard}
-use Rattle.tla_token.specs.Lexemes.{number_of, unquoted, is_other}
-use Rattle.tla_token.specs.Tokens.{Closes, opening}
+use Rattle.tla_token.specs.declared.rule.Rule.TheVariants as rule
+use Rattle.tla_token.specs.declared.sign.Sign.TheVariants as sign
+use Rattle.tla_token.specs.Lexemes.{Kind, name, number, quote, one, other, number_of, unquoted, is_other}
+use Rattle.tla_token.specs.Tokens.{Token, Closes}
+use Rattle.tla_token.specs.Offences.{Offence, offences, least}
+use Rattle.tla_token.specs.Cut.{parts, tokens}
 
 behind_a_tab : place_at (codes "ab\tc") 3 ≡ record { line = 1; col = 9 }
 behind_a_tab = refl
@@ -58,5 +62,58 @@ print_of_tlc = refl
 print_without_tlc : is_standard (codes "Integers" ∷ []) (codes "Print") ≡ false
 print_without_tlc = refl
 
-beginning : opening (codes "--fair algorithm A") ≡ codes "--fair"
-beginning = refl
+-- ---- tokens of whole texts
+
+line_comment_and_tab : tokens (codes "\\* c\n\tx") ≡ record { kind = name (codes "x"); at = 6; place = record { line = 2; col = 9 } } ∷ []
+line_comment_and_tab = refl
+
+abbrev kinds : List Token → List Kind
+kinds [] = []
+kinds (t ∷ ts) = t.kind ∷ kinds ts
+
+nested_comment : kinds (tokens (codes "x(* (* y *) z *)1x")) ≡ name (codes "x") ∷ name (codes "1x") ∷ []
+nested_comment = refl
+
+longest_signs : kinds (tokens (codes "<=><= <")) ≡ one sign.Equivalent ∷ one sign.AtMost ∷ one sign.Less ∷ []
+longest_signs = refl
+
+worded_signs : kinds (tokens (codes "\\in2 \\in \\1")) ≡ other (codes "\\in2") ∷ one sign.In ∷ one sign.Without ∷ number 1 ∷ []
+worded_signs = refl
+
+string_with_escape : kinds (tokens (codes "\"a\\\"b\":=12_")) ≡ quote (codes "a\"b") ∷ one sign.Assign ∷ number 12 ∷ other (codes "_") ∷ []
+string_with_escape = refl
+
+synonyms : kinds (tokens (codes "\\lnot a # b /= c")) ≡ one sign.Not ∷ name (codes "a") ∷ one sign.NotEqual ∷ name (codes "b") ∷ one sign.NotEqual ∷ name (codes "c") ∷ []
+synonyms = refl
+
+-- ---- offences, in an algorithm
+
+abbrev wrong : List ℕ → Option Offence
+wrong text = least (offences true 0 (parts text))
+
+open_comment : wrong (codes "x (* a (* b *)") ≡ Some (rule.OpenComment, 2)
+open_comment = refl
+
+open_quote : wrong (codes "x := \"ab\n\"") ≡ Some (rule.OpenString, 5)
+open_quote = refl
+
+wrong_escape : wrong (codes "x \"a\\q\"") ≡ Some (rule.BadToken, 2)
+wrong_escape = refl
+
+backslash_at_the_end : wrong (codes "x \"a\\\n") ≡ Some (rule.BadToken, 2)
+backslash_at_the_end = refl
+
+marked_string : wrong (codes "x \"a(*\"") ≡ Some (rule.BadToken, 2)
+marked_string = refl
+
+high_byte : wrong (codes "\"a\nb" ++ 200 ∷ []) ≡ Some (rule.NotAscii, 4)
+high_byte = refl
+
+high_byte_in_comment : wrong (codes "(*" ++ 200 ∷ codes "*)") ≡ None
+high_byte_in_comment = refl
+
+largest_number : wrong (codes "170141183460469231731687303715884105727") ≡ None
+largest_number = refl
+
+number_too_big : wrong (codes "1 170141183460469231731687303715884105728") ≡ Some (rule.NumberTooBig, 2)
+number_too_big = refl

@@ -4,3 +4,5 @@ pub mod Signs
 pub mod Words
 pub mod Lexemes
 pub mod Tokens
+pub mod Offences
+pub mod Cut

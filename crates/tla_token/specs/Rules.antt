@@ -2,6 +2,7 @@
 use Rattle.std.specs.Prelude.{ℕ, List, ◌++◌, codes}
 use Rattle.std.specs.Fmt.{decimal}
 use Rattle.tla_token.specs.declared.rule.Rule.{Rule}
+use Rattle.tla_token.specs.declared.rule.Refusal.{Refusal}
 use Rattle.tla_token.specs.declared.rule.Rule.TheVariants.{NotAscii, BadToken, OpenComment, OpenString, NoModule, NoAlgorithm, TwoAlgorithms, BadRegion, Placement, Options, LeftOutWord, NumberTooBig, TooMany, TooDeep, Syntax, Unknown, Duplicate, Rebind, Reserved, Arity, NotVariable, NeedsModule, OutsideVariable, OpaqueUnit, ProcessNotConstant, InitSelf, InitLater, Infinite, DefinedStale, SelfOutside, FirstLabel, WhileLabel, AfterJump, AfterBranch, LabelInside, AssignTwice, UnknownLabel, ReturnOutside, DoubleLabel, TooLarge, BadLine}
 
 abbrev pub rule_number : Rule → ℕ
@@ -93,3 +94,7 @@ rule_name BadLine = codes "BadLine"
 -- as it is printed: 45 AssignTwice
 abbrev pub rule_text : Rule → List ℕ
 rule_text r = decimal (rule_number r) ++ (codes " " ++ rule_name r)
+
+-- behind its line and column: 12:3: 45 AssignTwice
+abbrev pub refusal_text : Refusal → List ℕ
+refusal_text r = decimal r.place.line ++ (codes ":" ++ (decimal r.place.col ++ (codes ": " ++ rule_text r.rule)))

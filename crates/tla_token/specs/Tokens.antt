@@ -1,10 +1,11 @@
 -- The tokens of a stretch of a text: it is cut into blanks, comments and lexemes, each lexeme the longest that stands there
 -- ("Specifying Systems", section 15.1; comments, section 3.5).
-use Rattle.std.specs.Prelude.{◌≡◌, ℕ, zero, suc, ◌+◌, ◌-◌, Bool, false, ◌&&◌, ◌||◌, not, nat_eq, IsTrue, List, [], ◌∷◌, ◌++◌, length, take, drop, codes, MatchBool, if◌then◌else◌}
+use Rattle.std.specs.Prelude.{◌≡◌, ℕ, zero, suc, ◌+◌, ◌-◌, Bool, true, false, ◌&&◌, ◌||◌, not, nat_eq, IsTrue, List, [], ◌∷◌, ◌++◌, length, take, drop, codes, MatchBool}
 use Rattle.std.specs.List.{list_all, starts_with}
 use Rattle.tla_token.specs.declared.place.Place.{Place}
 use Rattle.tla_token.specs.Places.{after, place_at}
-use Rattle.tla_token.specs.Lexemes.{Kind, name, IsLexeme, IsLongest, is_blank}
+use Rattle.tla_token.specs.Signs.{is_among}
+use Rattle.tla_token.specs.Lexemes.{Kind, name, quote, IsLexeme, IsLongest, is_blank}
 
 pub record Token : Type 0 where
   pub kind : Kind
@@ -76,14 +77,29 @@ pub record Tok (text : List ℕ) (from to : ℕ) (ts : List Token) : Type 0 wher
 
 -- ---- algorithms
 
--- the word that begins an algorithm: `--algorithm` or `--fair`, each one token
-abbrev pub opening : List ℕ → List ℕ
-opening bytes =
-    if starts_with nat_eq bytes (codes "--algorithm") then codes "--algorithm"
-    else (if starts_with nat_eq bytes (codes "--fair") then codes "--fair" else [])
+-- an algorithm begins with one of these, each one token
+abbrev pub openings : List (List ℕ)
+openings = codes "--algorithm" ∷ codes "--fair" ∷ []
 
--- the tokens of an algorithm, which begins at `from` with such a word
-abbrev pub TokAlgorithm : List ℕ → ℕ → ℕ → List Token → Type 0
-TokAlgorithm text from to ts =
-    (more : List Token) × Tok text (from + length (opening (drop from text))) to more
-    × (ts ≡ record { kind = name (opening (drop from text)); at = from; place = place_at text from } ∷ more)
+-- `(*` or `*)` stands in it
+abbrev pub holds_mark : List ℕ → Bool
+holds_mark [] = false
+holds_mark (b ∷ bs) = starts_with nat_eq (b ∷ bs) (codes "(*") || starts_with nat_eq (b ∷ bs) (codes "*)") || holds_mark bs
+
+abbrev pub unmarked_kind : Kind → Bool
+unmarked_kind (quote w) = not (holds_mark w)
+unmarked_kind k = true
+
+-- no string of an algorithm holds a mark of a comment
+abbrev pub is_unmarked : Token → Bool
+is_unmarked t = unmarked_kind t.kind
+
+-- the bytes from `from` to `to` are the tokens of an algorithm
+pub record TokAlgorithm (text : List ℕ) (from to : ℕ) (ts : List Token) : Type 0 where
+  pub opening : List ℕ
+  pub is_opening : IsTrue (is_among openings opening)
+  pub stands : IsTrue (starts_with nat_eq (stretch text from to) opening)
+  pub more : List Token
+  pub tok : Tok text (from + length opening) to more
+  pub unmarked : IsTrue (list_all is_unmarked more)
+  pub tokens : ts ≡ record { kind = name opening; at = from; place = place_at text from } ∷ more

@@ -11,12 +11,27 @@ pub use sign::Sign;
 
 #[cfg(test)]
 mod tests {
-    use super::rule::{Rule, name, number};
+    use super::place::Place;
+    use super::rule::{Refusal, Rule, name, number};
+    use std::alloc::AllocError;
 
     #[test]
     fn rules_are_known_by_number_and_name(rt: HostRuntime) {
         assert_eq!(rt; number(Rule::AssignTwice), 45);
         assert_eq!(rt; name(Rule::AssignTwice), "AssignTwice");
         assert_eq!(rt; number(Rule::NotAscii), 1);
+    }
+
+    #[test]
+    fn refusals_are_printed_behind_their_place(rt: HostRuntime) -> Result<(), AllocError> {
+        let refusal = Refusal {
+            rule: Rule::AssignTwice,
+            place: Place { line: 12, col: 3 },
+        };
+        assert_eq!(rt;
+            format!(in rt.alloc(); "{refusal}")?.as_str(),
+            "12:3: 45 AssignTwice"
+        );
+        Ok(())
     }
 }

@@ -5,6 +5,7 @@ ghost use Rattle.tla_token.specs.Rules.{rule_number, rule_name};
 
 use crate::place::Place;
 use std::alloc::AllocError;
+use std::fmt;
 use thiserror::Error;
 
 /// A rule that a text can offend.
@@ -192,11 +193,40 @@ pub fn name(rule: Rule) -> &'static str
     }
 }
 
+/// As it is printed: `45 AssignTwice`.
+impl fmt::Display for Rule {
+    ghost use Rattle.std.specs.Prelude.{Some};
+    ghost use Rattle.tla_token.specs.Rules.{rule_text};
+
+    ghost output = { λ r. Some (rule_text r) };
+
+    fn fmt<W: fmt::Write>(&self, f: &mut fmt::Formatter<W>) -> fmt::Result {
+        let number = number(*self);
+        let name = name(*self);
+        write!(f, "{number} {name}")
+    }
+}
+
 /// A rule that a text offends, and where.
 #[derive(Clone, Copy, PartialEq, Eq, Debug)]
 pub struct Refusal {
     pub rule: Rule,
     pub place: Place,
+}
+
+/// As it is printed: `12:3: 45 AssignTwice`, with the line and the column in front.
+impl fmt::Display for Refusal {
+    ghost use Rattle.std.specs.Prelude.{Some};
+    ghost use Rattle.tla_token.specs.Rules.{refusal_text};
+
+    ghost output = { λ r. Some (refusal_text r) };
+
+    fn fmt<W: fmt::Write>(&self, f: &mut fmt::Formatter<W>) -> fmt::Result {
+        let line = self.place.line;
+        let col = self.place.col;
+        let rule = self.rule;
+        write!(f, "{line}:{col}: {rule}")
+    }
 }
 
 /// Why a text was not taken.
@@ -206,7 +236,7 @@ pub enum Stop {
     #[error("out of memory")]
     Memory,
     /// The text offends a rule.
-    #[error("refused")]
+    #[error("{0}")]
     Refused(Refusal),
 }
 
