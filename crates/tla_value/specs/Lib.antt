@@ -1,2 +1,4 @@
 pub mod Value
 pub mod Order
+pub mod Limits
+pub mod ValueText
