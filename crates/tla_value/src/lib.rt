@@ -2,3 +2,5 @@
 #![tactic(auto)]
 
 pub mod fault;
+pub mod name;
+pub mod value;

@@ -1,0 +1,17 @@
+-- The value that a value in memory is seen as.
+use Rattle.std.specs.Prelude.{ℕ, List, [], ◌∷◌}
+use Rattle.tla_value.specs.declared.value.Value.TheInside.{Inside}
+use Rattle.tla_value.specs.declared.value.Kind.{Kind}
+use Rattle.tla_value.specs.declared.value.Kind.TheVariants.{Bool, Int, Text, Model, Set, Fun}
+use Rattle.tla_value.specs.Value.{Value, Values, truth, int, text, model, set, fun, values_in}
+
+abbrev pub kind_value : Kind → Value
+kind_value (Bool b) = truth b
+kind_value (Int z) = int z
+kind_value (Text w) = text w
+kind_value (Model w) = model w
+kind_value (Set vs) = set (values_in vs)
+kind_value (Fun ds vs) = fun (values_in ds) (values_in vs)
+
+abbrev pub view_of : Inside → Value
+view_of a = kind_value a.kind
