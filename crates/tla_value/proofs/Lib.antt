@@ -1,3 +1,4 @@
 pub mod OrderLaws
 pub mod OrderSets
+pub mod ValueLists
 mod ValueRows

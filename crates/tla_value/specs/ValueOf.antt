@@ -1,9 +1,8 @@
 -- The value that a value in memory is seen as.
-use Rattle.std.specs.Prelude.{ℕ, List, [], ◌∷◌}
 use Rattle.tla_value.specs.declared.value.Value.TheInside.{Inside}
 use Rattle.tla_value.specs.declared.value.Kind.{Kind}
 use Rattle.tla_value.specs.declared.value.Kind.TheVariants.{Bool, Int, Text, Model, Set, Fun}
-use Rattle.tla_value.specs.Value.{Value, Values, truth, int, text, model, set, fun, values_in}
+use Rattle.tla_value.specs.Value.{Value, truth, int, text, model, set, fun, values_in}
 
 abbrev pub kind_value : Kind → Value
 kind_value (Bool b) = truth b

@@ -1,6 +1,7 @@
 //! Values of TLA+ expressions: their order, states, and evaluation.
 #![tactic(auto)]
 
+pub mod compare;
 pub mod fault;
 pub mod name;
 pub mod value;
