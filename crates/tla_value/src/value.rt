@@ -64,9 +64,11 @@ impl Model for Value {
 
     ghost coded = { value_code };
 
-    ghost use Rattle.tla_value.specs.ValueOf.{view_of};
+    ghost use Rattle.tla_value.specs.ValueOf.{view_of, IsLevelInside};
 
     ghost view = { view_of };
+
+    ghost invariant = { IsLevelInside };
 
     ghost size = { height };
 
