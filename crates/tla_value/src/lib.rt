@@ -4,4 +4,6 @@
 pub mod compare;
 pub mod fault;
 pub mod name;
+pub mod state;
+pub mod stop;
 pub mod value;
