@@ -1,4 +1,6 @@
 pub mod OrderLaws
 pub mod OrderSets
+pub mod OrderFuns
 pub mod ValueLists
 mod ValueRows
+pub mod StateLaws

@@ -75,7 +75,7 @@ holds_set_from u (v ∷ vs) = holds_inserted u v (set_from vs) ∙ ap (λ b. sam
 
 -- ---- the same members
 
-before_next : (v w : Value) (ws : Values) → order v w ≡ Less → IsBefore w ws → IsBefore v ws
+pub before_next : (v w : Value) (ws : Values) → order v w ≡ Less → IsBefore w ws → IsBefore v ws
 before_next v w no_values a b = tt
 before_next v w (and u us) a b = order_total.trans v w u a b
 
@@ -85,7 +85,7 @@ not_held v no_values b h = refl
 not_held v (and w ws) b h =
     ap (λ r. is_eq r || holds v ws) b ∙ not_held v ws (before_next v w ws b h.0) h.1
 
-first_held : (v : Value) (vs : Values) → holds v (and v vs) ≡ true
+pub first_held : (v : Value) (vs : Values) → holds v (and v vs) ≡ true
 first_held v vs = ap (λ b. b || holds v vs) (same_self v)
 
 -- of two sets whose first members are one, the others are the same

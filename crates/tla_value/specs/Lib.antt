@@ -5,3 +5,4 @@ pub mod ValueText
 pub mod Code
 pub mod ValueOf
 pub mod Falls
+pub mod States

@@ -174,3 +174,7 @@ abbrev mutual
   pub AreCanonical : Values → Type 0
   AreCanonical no_values = Unit {0}
   AreCanonical (and v vs) = IsCanonical v × AreCanonical vs
+
+abbrev pub ArePairsCanonical : List (Value × Value) → Type 0
+ArePairsCanonical [] = Unit {0}
+ArePairsCanonical (p ∷ ps) = (IsCanonical p.0 × IsCanonical p.1) × ArePairsCanonical ps

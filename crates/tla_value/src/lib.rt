@@ -3,6 +3,7 @@
 
 pub mod compare;
 pub mod fault;
+pub mod laws;
 pub mod name;
 pub mod state;
 pub mod stop;

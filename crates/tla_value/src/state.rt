@@ -1,10 +1,8 @@
 //! States: a value for each name, in the order of the names.
 
-ghost use Rattle.std.specs.Prelude.{◌≡◌, ◌==◌, [], OnOk, OnErr, IfOk, length};
+ghost use Rattle.std.specs.Prelude.{◌≡◌, [], OnOk, OnErr, length};
 ghost use Rattle.std.specs.Option.{option_copied};
-ghost use Rattle.std.specs.Cmp.Lexicographic.{pointwise};
-ghost use Rattle.std.specs.Map.{lookup};
-ghost use Rattle.indexmap.specs.IndexMap.{insert_entry};
+ghost use Rattle.tla_value.specs.States.{value_of, updated};
 
 use crate::name::Name;
 use crate::value::Value;
@@ -20,13 +18,11 @@ pub struct State {
 }
 
 impl Model for State {
-    ghost use Rattle.std.specs.Prelude.{List};
     ghost use Rattle.std.specs.Coded.{coded_list, coded×, coded_ℕ};
-    ghost use Rattle.tla_expr.specs.Tree.{Word};
-    ghost use Rattle.tla_value.specs.Value as pure;
     ghost use Rattle.tla_value.specs.Code.{value_code};
+    ghost use Rattle.tla_value.specs.States.{Entries};
 
-    ghost Value = { List (Word × pure.Value) };
+    ghost Value = { Entries };
 
     ghost coded = { coded_list (coded× (coded_list coded_ℕ) value_code) };
 
@@ -52,7 +48,7 @@ impl State {
 
     /// The value of a name.
     pub fn get(&self, name: &Name) -> Option<&Value>
-        ensures { option_copied result ≡ lookup (pointwise ◌==◌ name.now) self.now }
+        ensures { option_copied result ≡ value_of self.now name.now }
     {
         self.map.get(name)
     }
@@ -63,7 +59,7 @@ impl State {
     ///
     /// Only for want of memory; the state is then as before.
     pub fn set(&mut self, name: Name, value: Value) -> Result<(), AllocError>
-        ensures ok { OnOk result (self.new ≡ insert_entry (pointwise ◌==◌) self.old name value) }
+        ensures ok { OnOk result (self.new ≡ updated self.old name value) }
         ensures err { OnErr result (self.new ≡ self.old) }
     {
         match self.map.insert(name, value) {
