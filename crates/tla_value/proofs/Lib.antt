@@ -1,4 +1,3 @@
-pub mod OrderLaws
 pub mod OrderSets
 pub mod OrderFuns
 pub mod ValueLists

@@ -7,7 +7,7 @@ use Rattle.std.specs.declared.cmp.Ordering.TheVariants.{Less}
 use Rattle.std.proofs.lemmas.Int.{ints}
 use Rattle.tla_value.specs.Value.{Value, Values, fun, int, no_values, and, values_in}
 use Rattle.tla_value.specs.Order.{order, orders, same, holds, count, set_from, listed, found_at, pairs_of, arguments, first_at, in_front, values_at, fun_from, numbered, seq_from, sequence_of, IsBefore, IsAscending, IsCanonical, AreCanonical, ArePairsCanonical}
-use Rattle.tla_value.proofs.OrderLaws.{order_total, orders_self, same_is, same_self}
+use Rattle.tla_value.specs.OrderLaws.{order_total, orders_self, same_is, same_self}
 use Rattle.tla_value.proofs.OrderSets.{before_next, first_held, holds_set_from, set_from_ascending, set_from_canonical, set_from_listed}
 
 -- ---- what the function of some pairs gives

@@ -6,7 +6,7 @@ use Rattle.std.specs.declared.cmp.Ordering.{Ordering}
 use Rattle.std.specs.declared.cmp.Ordering.TheVariants.{Less, Equal, Greater}
 use Rattle.tla_value.specs.Value.{Value, Values, no_values, and, values_in}
 use Rattle.tla_value.specs.Order.{order, same, holds, placed, inserted, set_from, listed, IsBefore, IsAscending, IsCanonical, AreCanonical}
-use Rattle.tla_value.proofs.OrderLaws.{order_equal, order_total, same_is, same_self, after_before}
+use Rattle.tla_value.specs.OrderLaws.{order_equal, order_total, same_is, same_self, after_before}
 
 -- ---- one more member
 

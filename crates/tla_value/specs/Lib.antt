@@ -1,5 +1,6 @@
 pub mod Value
 pub mod Order
+pub mod OrderLaws
 pub mod Limits
 pub mod ValueText
 pub mod Code

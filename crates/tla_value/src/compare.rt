@@ -8,6 +8,58 @@ use crate::value::{Kind, Value, Values};
 use std::alloc::AllocError;
 use std::cmp::Ordering;
 
+impl PartialEq for Value {
+    ghost use Rattle.tla_value.specs.Order.{same};
+    ghost use Rattle.tla_value.specs.OrderLaws.{same_partial};
+
+    ghost eq = { same };
+
+    ghost laws = { same_partial };
+
+    fn eq(&self, other: &Value) -> bool {
+        compare(self, other).is_eq()
+    }
+}
+
+impl Eq for Value {
+    ghost use Rattle.tla_value.specs.OrderLaws.{same_equivalence};
+
+    ghost laws = { same_equivalence };
+}
+
+impl Ord for Value {
+    ghost use Rattle.std.proofs.Common.{refl};
+    ghost use Rattle.tla_value.specs.Order.{order};
+    ghost use Rattle.tla_value.specs.OrderLaws.{order_total};
+
+    ghost cmp = { order };
+
+    ghost total = { order_total };
+
+    ghost matches_partial_cmp = { λ x y. refl };
+
+    ghost matches_eq = { λ x y. refl };
+
+    fn cmp(&self, other: &Value) -> Ordering {
+        compare(self, other)
+    }
+}
+
+impl PartialOrd for Value {
+    ghost use Rattle.std.specs.Ordering.{as_partial_cmp};
+    ghost use Rattle.std.specs.Cmp.{partial_order_from_total};
+    ghost use Rattle.tla_value.specs.Order.{order};
+    ghost use Rattle.tla_value.specs.OrderLaws.{order_total};
+
+    ghost partial_cmp = { as_partial_cmp order };
+
+    ghost laws = { partial_order_from_total order_total };
+
+    fn partial_cmp(&self, other: &Value) -> Option<Ordering> {
+        Some(compare(self, other))
+    }
+}
+
 /// How two values stand in the canonical order: by kind, then by what they are made of.
 #[cycle(compare)]
 pub fn compare(a: &Value, b: &Value) -> Ordering

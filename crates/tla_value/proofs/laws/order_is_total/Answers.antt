@@ -1,4 +1,4 @@
-use Rattle.tla_value.proofs.OrderLaws.{order_equal, order_total}
+use Rattle.tla_value.specs.OrderLaws.{order_equal, order_total}
 use Rattle.tla_value.proofs.laws.order_is_total.Goals as goal
 
 pub returns-clause-total : goal.returns-clause-total

@@ -1,7 +1,7 @@
 -- The order of values is total, and tells values apart.
 use Rattle.std.proofs.Common.{◌≡◌, ℕ, ℤ, pos, Bool, true, false, List, [], ◌∷◌, refl, sym, ◌∙◌, ap, arith, suc, ◌<◌, ◌<ℤ◌}
 use Rattle.std.specs.Ordering.{nat_cmp, int_cmp, ordering_then, ordering_reverse, MatchOrdering, is_eq}
-use Rattle.std.specs.Cmp.{IsTotalOrder, int_cmp_total, int_cmp_is, nat_cmp_is, ranked}
+use Rattle.std.specs.Cmp.{IsTotalOrder, IsEquivalence, IsPartialEquivalence, int_cmp_total, int_cmp_is, nat_cmp_is, ranked}
 use Rattle.std.specs.Cmp.Lexicographic.{slice_cmp, lists_total}
 use Rattle.std.specs.declared.cmp.Ordering.{Ordering}
 use Rattle.std.specs.declared.cmp.Ordering.TheVariants.{Less, Equal, Greater}
@@ -179,3 +179,23 @@ order_total = record {
 
 pub after_before : (v w : Value) → order v w ≡ Greater → order w v ≡ Less
 after_before v w h = order_total.antisymm w v ∙ ap ordering_reverse h
+
+-- ---- the laws that `==` and `<` of values owe
+
+pub same_equivalence : IsEquivalence same
+same_equivalence = record {
+  refl = same_self;
+  symm = λ v w. ap is_eq (order_total.antisymm v w) ∙ turned (order w v);
+  congr = λ u v w h. ap is_eq (order_total.congr u v w (is_equal (order u v) h));
+}
+  where
+    turned : (r : Ordering) → is_eq (ordering_reverse r) ≡ is_eq r
+    turned Less = refl
+    turned Equal = refl
+    turned Greater = refl
+
+pub same_partial : IsPartialEquivalence same
+same_partial = record {
+  symm = same_equivalence.symm;
+  trans = λ u v w p q. same_equivalence.congr u v w p ∙ q;
+}
