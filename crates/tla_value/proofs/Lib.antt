@@ -1,5 +1,6 @@
 pub mod OrderSets
 pub mod OrderFuns
+pub mod SetOf
 pub mod ValueLists
 mod ValueRows
 pub mod StateLaws

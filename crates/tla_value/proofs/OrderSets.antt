@@ -38,7 +38,7 @@ pub inserted_canonical : (v : Value) (vs : Values) → IsCanonical v → AreCano
 inserted_canonical v no_values a h = (a, tt)
 inserted_canonical v (and w ws) a h = placed_canonical v w ws (inserted v ws) (order v w) a h (inserted_canonical v ws a h.1)
 
-either_twice : (a b : Bool) → (a || b) ≡ (a || (a || b))
+pub either_twice : (a b : Bool) → (a || b) ≡ (a || (a || b))
 either_twice true b = refl
 either_twice false b = refl
 

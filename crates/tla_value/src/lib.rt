@@ -1,6 +1,7 @@
 //! Values of TLA+ expressions: their order, states, and evaluation.
 #![tactic(auto)]
 
+pub mod build;
 pub mod compare;
 pub mod fault;
 pub mod laws;
