@@ -68,7 +68,7 @@ mutual
   orders_self no_values = refl
   orders_self (and v vs) = λ i. ordering_then (order_self v i) (orders_self vs i)
 
-is_equal : (r : Ordering) → is_eq r ≡ true → r ≡ Equal
+pub is_equal : (r : Ordering) → is_eq r ≡ true → r ≡ Equal
 is_equal Less h = cc
 is_equal Equal h = refl
 is_equal Greater h = cc
