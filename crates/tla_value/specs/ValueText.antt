@@ -245,3 +245,17 @@ abbrev mutual
 -- the written text of a value
 abbrev pub value_text : Value → Word
 value_text v = spelling_text (shown v)
+
+-- each model value in it has a name that spells a model value
+abbrev mutual
+  pub HasModelNames : Value → Type 0
+  HasModelNames (truth b) = Unit {0}
+  HasModelNames (int z) = Unit {0}
+  HasModelNames (text w) = Unit {0}
+  HasModelNames (model w) = is_model_name w ≡ true
+  HasModelNames (set vs) = HaveModelNames vs
+  HasModelNames (fun ds vs) = HaveModelNames ds × HaveModelNames vs
+
+  pub HaveModelNames : Values → Type 0
+  HaveModelNames no_values = Unit {0}
+  HaveModelNames (and v vs) = HasModelNames v × HaveModelNames vs
