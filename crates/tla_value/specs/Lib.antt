@@ -1,1 +1,9 @@
 pub mod Value
+pub mod Order
+pub mod OrderLaws
+pub mod Limits
+pub mod ValueText
+pub mod Code
+pub mod ValueOf
+pub mod Falls
+pub mod States

@@ -8,10 +8,10 @@ mutual
   pub data Value : Type 0 where
     truth : Bool → Value
     int : ℤ → Value
-    text : Word → Value             -- a string
-    model : Word → Value            -- a model value, by its name
-    set : Values → Value            -- its members in canonical order, each once
-    fun : Values → Values → Value   -- its domain in canonical order, and the value at each member
+    text : Word → Value  -- a string
+    model : Word → Value  -- a model value, by its name
+    set : Values → Value  -- its members in canonical order, each once
+    fun : Values → Values → Value  -- its domain in canonical order, and the value at each member
 
   pub data Values : Type 0 where
     no_values : Values
@@ -21,12 +21,12 @@ mutual
 pub data Outcome : Type 0 where
   good : Value → Outcome
   fault : FaultKind → Place → Outcome
-  over : Place → Outcome            -- a value past the limits, reached at a place
+  over : Place → Outcome  -- a value past the limits, reached at a place
 
 -- an outcome, and what it is to test a value for being a member of it: some sets are tested without being listed
 pub record Sense : Type 0 where
   pub value : Outcome
-  pub test : Place → Value → Outcome    -- at the place of the `\in`, of the value to its left: a truth value
+  pub test : Place → Value → Outcome  -- at the place of the `\in`, of the value to its left: a truth value
 
 abbrev pub values_in : List Value → Values
 values_in [] = no_values

@@ -1,0 +1,5 @@
+use Rattle.tla_value.proofs.ValueSpelled.{spells_shown}
+use Rattle.tla_value.proofs.laws.written_values_are_spelled.Goals as goal
+
+pub returns : goal.returns
+returns c = spells_shown

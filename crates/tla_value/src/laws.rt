@@ -1,0 +1,35 @@
+//! Laws of the canonical order, stated as what functions without a body ensure.
+
+ghost use Rattle.std.specs.Prelude.{◌≡◌, List, [], true};
+ghost use Rattle.std.specs.Cmp.{IsTotalOrder};
+ghost use Rattle.std.specs.declared.cmp.Ordering.TheVariants.{Equal};
+ghost use Rattle.tla_value.specs.Value as pure;
+ghost use Rattle.tla_value.specs.Value.{values_in};
+ghost use Rattle.tla_value.specs.Limits.{fits};
+ghost use Rattle.tla_value.specs.ValueText.{HasModelNames, Spells, marks, shown};
+ghost use Rattle.tla_value.specs.Order.{order, holds, set_from, fun_from, found_at, values_at, arguments, first_at, IsAscending, IsCanonical, ArePairsCanonical};
+
+/// The canonical order is total, and values that are equal in it are one.
+pub fn order_is_total()
+    ensures total { IsTotalOrder order }
+    ensures equal { (v w : pure.Value) → order v w ≡ Equal → v ≡ w }
+{}
+
+/// Two sets are one if they have the same members. The set of some values has just these as its
+/// members, so it depends neither on the order in which they came nor on repetitions.
+pub fn sets_are_their_members()
+    ensures same { (vs ws : pure.Values) → IsAscending vs → IsAscending ws → ((u : pure.Value) → holds u vs ≡ holds u ws) → vs ≡ ws }
+    ensures members { (u : pure.Value) (vs : List pure.Value) → holds u (set_from vs) ≡ holds u (values_in vs) }
+    ensures canonical { (vs : List pure.Value) → IsAscending (set_from vs) }
+{}
+
+/// The function of some pairs gives at each argument the value of the first pair that has it.
+pub fn functions_are_their_pairs()
+    ensures value { (ps : List (pure.Value × pure.Value)) (v : pure.Value) → found_at (set_from (arguments ps)) (values_at ps (set_from (arguments ps))) v ≡ first_at ps v }
+    ensures canonical { (ps : List (pure.Value × pure.Value)) → ArePairsCanonical ps → IsCanonical (fun_from ps) }
+{}
+
+/// What is written for a canonical value spells that value.
+pub fn written_values_are_spelled()
+    ensures { (v : pure.Value) → IsCanonical v → HasModelNames v → fits v ≡ true → Spells (marks (shown v) []) v }
+{}
