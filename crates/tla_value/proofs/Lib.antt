@@ -4,3 +4,4 @@ pub mod SetOf
 pub mod ValueLists
 mod ValueRows
 pub mod StateLaws
+pub mod Alike
