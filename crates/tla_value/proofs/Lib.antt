@@ -5,3 +5,4 @@ pub mod ValueLists
 mod ValueRows
 pub mod StateLaws
 pub mod Alike
+pub mod Graft
