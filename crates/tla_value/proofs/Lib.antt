@@ -6,3 +6,5 @@ mod ValueRows
 pub mod StateLaws
 pub mod Alike
 pub mod Graft
+pub mod Primes
+pub mod Owned
