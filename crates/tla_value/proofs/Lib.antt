@@ -8,3 +8,4 @@ pub mod Alike
 pub mod Graft
 pub mod Primes
 pub mod Owned
+pub mod Below
