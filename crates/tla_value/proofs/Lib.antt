@@ -9,3 +9,4 @@ pub mod Graft
 pub mod Primes
 pub mod Owned
 pub mod Below
+mod RowsMeaning
