@@ -13,3 +13,4 @@ mod RowsMeaning
 pub mod BelowScopes
 pub mod MidState
 pub mod Untested
+pub mod UntestedSets

@@ -8,7 +8,7 @@ use Rattle.tla_value.specs.Order.{count, order, orders, same, holds}
 use Rattle.tla_value.specs.Sets.{fronted, members, choices, all_chosen, functions_over, is_function_over}
 use Rattle.tla_value.proofs.OrderSets.{holds_set_from}
 
-then_eq : (r q : Ordering) → is_eq (ordering_then r q) ≡ (is_eq r && is_eq q)
+pub then_eq : (r q : Ordering) → is_eq (ordering_then r q) ≡ (is_eq r && is_eq q)
 then_eq Less q = refl
 then_eq Equal q = refl
 then_eq Greater q = refl
@@ -18,7 +18,7 @@ abbrev pub is_among : Values → List Values → Bool
 is_among us [] = false
 is_among us (t ∷ ts) = is_eq (orders us t) || is_among us ts
 
-among_both : (us : Values) (ss ts : List Values) → is_among us (ss ++ ts) ≡ (is_among us ss || is_among us ts)
+pub among_both : (us : Values) (ss ts : List Values) → is_among us (ss ++ ts) ≡ (is_among us ss || is_among us ts)
 among_both us [] ts = refl
 among_both us (s ∷ ss) ts = ap (λ b. is_eq (orders us s) || b) (among_both us ss ts) ∙ assoc (is_eq (orders us s)) (is_among us ss) (is_among us ts)
   where
@@ -42,7 +42,7 @@ none_in true = refl
 none_in false = refl
 
 -- behind one first member
-among_fronts : (u w : Value) (us : Values) (ts : List Values) → is_among (and u us) (map (and w) ts) ≡ (same u w && is_among us ts)
+pub among_fronts : (u w : Value) (us : Values) (ts : List Values) → is_among (and u us) (map (and w) ts) ≡ (same u w && is_among us ts)
 among_fronts u w us [] = none_in (same u w)
 among_fronts u w us (t ∷ ts) =
     (λ i. then_eq (order u w) (orders us t) i || among_fronts u w us ts i)
