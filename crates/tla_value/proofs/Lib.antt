@@ -14,3 +14,5 @@ pub mod BelowScopes
 pub mod MidState
 pub mod Untested
 pub mod UntestedSets
+pub mod Quotient
+pub mod Quantified
