@@ -97,11 +97,11 @@ alike R c (name x) at ds es k ps e f r = k.1 at e f r
 alike R c (next x) at ds es k ps e f r = k.1 at e f r
 alike R c (strict o) at ds es k ps e f r = λ i. record {
   value = all_alike R ds es e f _ _ ps r (λ j. strict_value c o at) i;
-  test = λ p v. all_alike R ds es e f _ _ ps r (λ j. strict_test c o at p v) i
+  test = λ p v. all_alike R ds es e f _ _ ps r (λ j. strict_test c o at p v) i;
 }
 alike R c (call g) at ds es k ps e f r = λ i. record {
   value = all_alike R ds es e f _ _ ps r (λ j vs. (called at (k.1 e f r j) vs).value) i;
-  test = λ p v. all_alike R ds es e f _ _ ps r (λ j vs. (called at (k.1 e f r j) vs).test p v) i
+  test = λ p v. all_alike R ds es e f _ _ ps r (λ j vs. (called at (k.1 e f r j) vs).test p v) i;
 }
 alike R c both at ds es k ps e f r =
     λ i. sense_of (two_alike R at ds es _ _ ps (λ a b a' b' p q j. on_value (p e f r j).value (λ v. on_truth at v (λ t. cond t (on_value (q e f r j).value (λ w. on_truth at w (λ u. good (truth u)))) (good (truth false))))) i)

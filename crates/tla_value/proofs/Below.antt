@@ -80,7 +80,7 @@ pub bound : (x : Word) (v : Value) (e f : Env) → Envs e f → Envs (bind x v e
 bound x v e f r = record {
   now = λ y at. picked (bytes_eq x y) _ _ _ _ (same_sense (just v)) (r.now y at);
   primed = r.primed;
-  defs = r.defs
+  defs = r.defs;
 }
 
 twos : (at : Place) (ds es : List Den) (g g' : Den → Den → Outcome) → AllDens ds es → ((a b a' b' : Den) → Dens a a' → Dens b b' → Below (g a b) (g' a' b')) → Below (on_two at ds g) (on_two at es g')
@@ -183,11 +183,11 @@ forms c l (name x) at ds es ps e f r = r.now x at
 forms c l (next x) at ds es ps e f r = r.primed x at
 forms c l (strict o) at ds es ps e f r = record {
   value = alls ds es e f _ _ ps r (stricts c l o at);
-  test = λ p v. alls ds es e f _ _ ps r (strict_tests c l o at p v)
+  test = λ p v. alls ds es e f _ _ ps r (strict_tests c l o at p v);
 }
 forms c l (call g) at ds es ps e f r = record {
   value = alls ds es e f _ _ ps r (λ vs. (r.defs g at vs).value);
-  test = λ p v. alls ds es e f _ _ ps r (λ vs. (r.defs g at vs).test p v)
+  test = λ p v. alls ds es e f _ _ ps r (λ vs. (r.defs g at vs).test p v);
 }
 forms c l both at ds es ps e f r = senses_of _ _ (twos at ds es _ _ ps (λ a b a' b' p q. tests at a a' e f _ _ p r (λ x. conds x _ _ _ _ (tests at b b' e f _ _ q r (λ y. refl)) refl)))
 forms c l or_else at ds es ps e f r = senses_of _ _ (twos at ds es _ _ ps (λ a b a' b' p q. tests at a a' e f _ _ p r (λ x. conds x _ _ _ _ refl (tests at b b' e f _ _ q r (λ y. refl)))))

@@ -47,7 +47,7 @@ parts : (c : Check) → Limits c → (at : Place) (s : Value) (m : ℤ) (is : Va
 parts c l at s m no_values g g' k = k []
 parts c l at s m (and i is) g g' k =
     ints at i _ _ (λ n. values _ _ _ _ (l at (int (n +ℤ m))) (λ _. values _ _ _ _ (l at (int ((n +ℤ m) -ℤ pos 1))) (λ j.
-      values _ _ _ _ (same (applied at s j)) (λ v. parts c l at s m is _ _ (λ vs. k (v ∷ vs))))))
+    values _ _ _ _ (same (applied at s j)) (λ v. parts c l at s m is _ _ (λ vs. k (v ∷ vs))))))
 
 standards : (c : Check) → Limits c → (o : Standard) (at : Place) (vs : List Value) → Below (standard_value c o at vs) (standard_value plain o at vs)
 standards c l length_of at vs = one_value at vs _ _ (λ s. lists at (sequence_of s) _ _ (λ es. l at _))
@@ -56,8 +56,8 @@ standards c l first_of at vs = same _
 standards c l rest_of at vs = one_value at vs _ _ (λ s. lists at (sequence_of s) _ _ (tails c l at))
 standards c l part_of at vs =
     three_values at vs _ _ (λ s a b. lists at (sequence_of s) _ _ (λ _. ints at a _ _ (λ m. ints at b _ _ (λ n.
-      values _ _ _ _ (l at (int (n -ℤ m))) (λ _. values _ _ _ _ (l at (int ((n -ℤ m) +ℤ pos 1))) (λ _.
-        values _ _ _ _ (l at _) (λ is. sets at is _ _ (λ ds. parts c l at s m ds _ _ (λ ws. l at _)))))))))
+    values _ _ _ _ (l at (int (n -ℤ m))) (λ _. values _ _ _ _ (l at (int ((n -ℤ m) +ℤ pos 1))) (λ _.
+    values _ _ _ _ (l at _) (λ is. sets at is _ _ (λ ds. parts c l at s m ds _ _ (λ ws. l at _)))))))))
 standards c l sequences at vs = refl
 standards c l size_of at vs = one_value at vs _ _ (λ a. sets at a _ _ (λ ss. l at _))
 standards c l is_finite at vs = same _
@@ -78,7 +78,7 @@ base_envs : (c : Check) → Limits c → (k : Look) → Envs (base c k) (base pl
 base_envs c l k = record {
   now = λ x at. same_sense (or_sense (k x) (standard_name x at));
   primed = λ x at. same_sense _;
-  defs = λ f at vs. called_senses c l (standard_of f) at vs
+  defs = λ f at vs. called_senses c l (standard_of f) at vs;
 }
 
 or_senses : (o : Option Value) (s t : Sense) → Senses s t → Senses (or_sense o s) (or_sense o t)
@@ -89,7 +89,7 @@ states_envs : (s t : Look) (e f : Env) → Envs e f → Envs (in_states s t e) (
 states_envs s t e f r = record {
   now = λ x at. or_senses (s x) _ _ (r.now x at);
   primed = λ x at. or_senses (t x) _ _ (r.primed x at);
-  defs = r.defs
+  defs = r.defs;
 }
 
 uses : (b : Bool) (at : Place) (o o' : Outcome) → Below o o' → Below (at_use b at o) (at_use b at o')
@@ -113,12 +113,12 @@ defined_envs : (c : Check) → Limits c → (d : Definition) (ps : List Word) (e
 defined_envs c l d [] e f r = record {
   now = λ x at. picked (bytes_eq d.title x) _ _ _ _ (bodies c l d e f r at) (r.now x at);
   primed = r.primed;
-  defs = r.defs
+  defs = r.defs;
 }
 defined_envs c l d (p ∷ ps) e f r = record {
   now = r.now;
   primed = r.primed;
-  defs = λ g at vs. called_either (bytes_eq d.title g) at _ _ _ _ vs (bodies c l d _ _ (bound_each (p ∷ ps) vs e f r) at) (r.defs g at vs)
+  defs = λ g at vs. called_either (bytes_eq d.title g) at _ _ _ _ vs (bodies c l d _ _ (bound_each (p ∷ ps) vs e f r) at) (r.defs g at vs);
 }
 
 definitions_envs : (c : Check) → Limits c → (ds : List Definition) (e f : Env) → Envs e f → Envs (with_definitions c ds e) (with_definitions plain ds f)

@@ -74,7 +74,7 @@ pub bound_grafted : (c : Check) (g : Graft) (U : Word → Type 0) (x : Word) →
 bound_grafted c g U x k e f v r = record {
   now = λ y u at. by_test y u at (bytes_eq x y) refl;
   primed = r.primed;
-  defs = r.defs
+  defs = r.defs;
 }
   where
     by_test : (y : Word) → U y → (at : Place) (b : Bool) → bytes_eq x y ≡ b → cond (bytes_eq x y) (just v) (f.now y at) ≡ read_tree c (g y at) y at (bind x v e)
@@ -110,7 +110,7 @@ off_bound : (x y : Word) → Bound (Off x) y
 off_bound x y e f v r = record {
   now = λ z out at i. cond (bytes_eq y z) (just v) (r.now z out at i);
   primed = r.primed;
-  defs = r.defs
+  defs = r.defs;
 }
 
 abbrev pub Lacks : Word → Form → Place → Type 0
@@ -132,7 +132,7 @@ pub eval_bind : (c : Check) (x : Word) (t : Tree) → Every (Lacks x) t → (v :
 eval_bind c x t h v e = eval_alike (Off x) c t (every_weaker _ _ (form_off x) t h) e (bind x v e) (record {
   now = λ y out at. sym (ap (λ b. cond b (just v) (e.now y at)) out);
   primed = λ y at. refl;
-  defs = λ y. refl
+  defs = λ y. refl;
 })
 
 -- ---- premises by names
@@ -171,5 +171,5 @@ through_law c g t h e =
     grafted_law c g AnyName t (every_weaker _ _ (λ m at k. (each_weaker _ _ (apart_clear c g) (binders m) k, any_used m)) t h) e (through c g e) (record {
       now = λ x u at. refl;
       primed = λ x at. refl;
-      defs = λ x u. refl
+      defs = λ x u. refl;
     })

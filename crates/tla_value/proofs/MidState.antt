@@ -22,7 +22,7 @@ beside_bound : (A : Word → Bool) (U : Word → Type 0) (x : Word) → Bound (B
 beside_bound A U x e f v r = record {
   now = λ y u out at i. cond (bytes_eq x y) (just v) (r.now y u out at i);
   primed = r.primed;
-  defs = r.defs
+  defs = r.defs;
 }
 
 all_beside : (A : Word → Bool) (U : Word → Type 0) (xs : List Word) → Each (Bound (Beside A U)) xs
@@ -50,7 +50,7 @@ mixed_beside : (A : Word → Bool) (U : Word → Type 0) (e f : Env) → Mixed A
 mixed_beside A U e f r = record {
   now = λ x u out at. sym (r.now x u at ∙ ap (λ b. cond b (e.primed x at) (e.now x at)) out);
   primed = r.primed;
-  defs = r.defs
+  defs = r.defs;
 }
 
 body_beside : (c : Check) (A : Word → Bool) (U : Word → Type 0) (d : Definition) → Every (Unassigned A U) d.body → (e f : Env) → Beside A U e f → (at : Place) → body_sense c d e at ≡ body_sense c d f at
@@ -85,12 +85,12 @@ defined_mixed : (c : Check) (A : Word → Bool) (U : Word → Type 0) (d : Defin
 defined_mixed c A U d [] h e f r = record {
   now = λ y u at. defined_name c A U d h e f r y u at (bytes_eq d.title y) refl;
   primed = r.primed;
-  defs = r.defs
+  defs = r.defs;
 }
 defined_mixed c A U d (p ∷ ps) h e f r = record {
   now = r.now;
   primed = r.primed;
-  defs = λ y u. defined_call c A U d (p ∷ ps) h e f r y u (bytes_eq d.title y) refl
+  defs = λ y u. defined_call c A U d (p ∷ ps) h e f r y u (bytes_eq d.title y) refl;
 }
 
 definitions_mixed : (c : Check) (A : Word → Bool) (U : Word → Type 0) (ds : List Definition) → AllSettled A U ds → (e f : Env) → Mixed A U e f → Mixed A U (with_definitions c ds e) (with_definitions c ds f)
@@ -111,7 +111,7 @@ states_mixed : (A : Word → Bool) (U : Word → Type 0) (s t : Look) (e : Env) 
 states_mixed A U s t e h = record {
   now = λ x u at. or_mixed (A x) (s x) (t x) (e.now x at) (e.primed x at) (h x);
   primed = λ x at. refl;
-  defs = λ x u. refl
+  defs = λ x u. refl;
 }
 
 pub scope_mixed : (c : Check) (A : Word → Bool) (U : Word → Type 0) (k : Look) (ds : List Definition) (s t : Look) → AllSettled A U ds → ((x : Word) → A x ≡ true → Given (t x)) → Mixed A U (scope_of c k ds s t) (scope_of c k ds (mid A s t) t)

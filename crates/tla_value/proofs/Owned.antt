@@ -36,5 +36,5 @@ lacks_own self here x y at true out apart q = (tt, ((other_name here x y (bytes_
 pub owned_law : (c : Check) (self : Word) (here : Word → Bool) (t : Tree) → Every (NotOwned self here) t → (e : Env) → eval c (graft (owned self here) t) e ≡ eval c t (through c (owned self here) e)
 owned_law c self here t h = through_law c (owned self here) t (every_weaker _ _ (λ m at. each_weaker _ _ (λ x k. record {
   left = λ at'. ap (λ b. cond b (Some (own_part self x at')) None) k.0;
-  lacks = λ y at'. lacks_own self here x y at' (here y) k.0 k.1 refl
+  lacks = λ y at'. lacks_own self here x y at' (here y) k.0 k.1 refl;
 }) (binders m)) t h)

@@ -20,7 +20,7 @@ unread_primed c false x y at = tt
 clear_primes : (c : Check) (A : Word → Bool) (x : Word) → A x ≡ false → Clear c (primes A) x
 clear_primes c A x out = record {
   left = λ at. ap (λ b. cond b (Some (node (next x) at no_trees)) None) out;
-  unread = λ y at. unread_primed c (A y) x y at
+  unread = λ y at. unread_primed c (A y) x y at;
 }
 
 -- e is a pair of states; of the names of U, f reads those of A in the later one. A definition of U so reads none of A.
@@ -37,7 +37,7 @@ pub primed_law : (c : Check) (A : Word → Bool) (U : Word → Type 0) (t : Tree
 primed_law c A U t h e f r = grafted_law c (primes A) U t (every_weaker _ _ (λ m at k. (each_weaker _ _ (clear_primes c A) (binders m) k.0, k.1)) t h) e f (record {
   now = λ x u at. r.now x u at ∙ read_primed c (A x) x at e;
   primed = r.primed;
-  defs = r.defs
+  defs = r.defs;
 })
 
 -- ---- an expression without primed names: the other environment needs no next state

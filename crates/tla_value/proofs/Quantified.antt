@@ -1,5 +1,5 @@
 -- What the forms over one name mean where the body gives a value at each member of the set.
-use Rattle.std.proofs.Common.{◌≡◌, ℕ, Bool, true, false, cond, ◌&&◌, ◌||◌, List, [], ◌∷◌, ◌++◌, map, refl, sym, ◌∙◌, ap}
+use Rattle.std.proofs.Common.{◌≡◌, Bool, true, false, cond, ◌&&◌, ◌||◌, List, [], ◌∷◌, map, refl, sym, ◌∙◌, ap}
 use Rattle.tla_token.specs.declared.place.Place.{Place}
 use Rattle.tla_expr.specs.declared.op.Binder.{Binder}
 use Rattle.tla_expr.specs.declared.op.Binder.TheVariants.{ForAll, Exists, Filter, Image, Function}
@@ -8,7 +8,7 @@ use Rattle.tla_value.specs.Value.{Value, Values, truth, set, no_values, and, Out
 use Rattle.tla_value.specs.Order.{set_from, fun_from, listed}
 use Rattle.tla_value.specs.Sets.{kept}
 use Rattle.tla_value.specs.Stops.{Check, on_value, on_sets}
-use Rattle.tla_value.specs.Meaning.{Env, Den, bind, Row, with_first, each_member, each_choice, fits_binder, visit_body, all_true, some_true, where_true, results, table, gathered, meaning_of}
+use Rattle.tla_value.specs.Meaning.{Env, Den, bind, Row, each_member, each_choice, fits_binder, visit_body, all_true, some_true, where_true, results, table, gathered, meaning_of}
 
 -- a fact of each member
 abbrev pub EachIn : (Value → Type 0) → Values → Type 0

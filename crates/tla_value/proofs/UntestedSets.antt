@@ -1,6 +1,6 @@
 -- A test for membership that lists nothing says what the listed set says: of SUBSET A, and so of every form.
-use Rattle.std.proofs.Common.{◌≡◌, ℕ, Bool, true, false, ◌&&◌, ◌||◌, cond, List, [], ◌∷◌, ◌++◌, map, refl, sym, ◌∙◌, ap, subst}
-use Rattle.std.specs.Ordering.{nat_cmp, ordering_then, is_eq}
+use Rattle.std.proofs.Common.{◌≡◌, Bool, true, false, ◌&&◌, ◌||◌, List, [], ◌∷◌, map, refl, sym, ◌∙◌, ap, subst}
+use Rattle.std.specs.Ordering.{nat_cmp, is_eq}
 use Rattle.std.specs.declared.cmp.Ordering.{Ordering}
 use Rattle.std.specs.declared.cmp.Ordering.TheVariants.{Less, Equal, Greater}
 use Rattle.tla_token.specs.declared.place.Place.{Place}
@@ -9,10 +9,10 @@ use Rattle.tla_expr.specs.declared.op.Op.TheVariants.{Subset}
 use Rattle.tla_expr.specs.Tree.{Word, Strict, operator, functions, records}
 use Rattle.tla_value.specs.Value.{Value, Values, truth, int, text, model, fun, set, no_values, and, Outcome, good, values_in}
 use Rattle.tla_value.specs.Order.{count, order, orders, same, holds, set_from, field_pairs, arguments, values_at, IsBefore, IsAscending, IsCanonical, AreCanonical}
-use Rattle.tla_value.specs.Stops.{plain, on_value, on_sets, on_fun, tested}
-use Rattle.tla_value.specs.Sets.{all_in, sublists, subsets, repeated, functions_over, is_function_over, is_subset}
-use Rattle.tla_value.specs.Strict.{strict_value, operator_test, strict_test}
-use Rattle.tla_value.proofs.OrderLaws.{orders_equal, orders_self, order_self, order_total, nat_self, same_is}
+use Rattle.tla_value.specs.Stops.{plain, on_value, on_sets, tested}
+use Rattle.tla_value.specs.Sets.{all_in, sublists, subsets, repeated, is_subset}
+use Rattle.tla_value.specs.Strict.{strict_value, strict_test}
+use Rattle.tla_value.proofs.OrderLaws.{orders_equal, order_self, order_total, nat_self, same_is}
 use Rattle.tla_value.proofs.OrderSets.{holds_set_from}
 use Rattle.tla_value.proofs.Untested.{then_eq, is_among, among_both, among_fronts, functions_tested}
 

@@ -16,7 +16,7 @@ pub record Definition : Type 0 where
   pub title : Word
   pub params : List Word
   pub body : Tree
-  pub outside : Bool      -- it stands in the module, outside the algorithm
+  pub outside : Bool  -- it stands in the module, outside the algorithm
 
 abbrev pub or_sense : Option Value → Sense → Sense
 or_sense (Some v) other = just v
@@ -27,14 +27,14 @@ abbrev pub base : Check → Look → Env
 base c constants = record {
   now = λ x at. or_sense (constants x) (standard_name x at);
   primed = λ x at. sense_of (misshapen at);
-  defs = λ f. standard_called c (standard_of f)
+  defs = λ f. standard_called c (standard_of f);
 }
 
 -- variables in a state, and primed in the next one
 abbrev pub in_states : Look → Look → Env → Env
 in_states s t env = record env {
   now = λ x at. or_sense (s x) (env.now x at);
-  primed = λ x at. or_sense (t x) (env.primed x at)
+  primed = λ x at. or_sense (t x) (env.primed x at);
 }
 
 abbrev pub no_state : Look
@@ -56,7 +56,7 @@ body_sense c d env at = sense_of (at_use d.outside at (eval c d.body env).value)
 abbrev pub defined : Check → Definition → List Word → Env → Env
 defined c d [] env = record env { now = λ x at. cond (bytes_eq d.title x) (body_sense c d env at) (env.now x at) }
 defined c d (p ∷ ps) env = record env {
-  defs = λ f. cond (bytes_eq d.title f) (Some (λ at vs. body_sense c d (bind_each (p ∷ ps) vs env) at)) (env.defs f)
+  defs = λ f. cond (bytes_eq d.title f) (Some (λ at vs. body_sense c d (bind_each (p ∷ ps) vs env) at)) (env.defs f);
 }
 
 -- each definition sees those before it

@@ -156,11 +156,11 @@ meaning_of c (next x) at ds env = env.primed x at
 meaning_of c strings at ds env = only_tested at is_text
 meaning_of c (strict o) at ds env = record {
   value = on_all ds env (strict_value c o at);
-  test = λ p v. on_all ds env (strict_test c o at p v)
+  test = λ p v. on_all ds env (strict_test c o at p v);
 }
 meaning_of c (call f) at ds env = record {
   value = on_all ds env (λ vs. (called at (env.defs f) vs).value);
-  test = λ p v. on_all ds env (λ vs. (called at (env.defs f) vs).test p v)
+  test = λ p v. on_all ds env (λ vs. (called at (env.defs f) vs).test p v);
 }
 meaning_of c m at ds env = sense_of (value_of c m at ds env)
 

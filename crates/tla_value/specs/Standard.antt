@@ -11,16 +11,16 @@ use Rattle.tla_value.specs.Strict.{applied}
 use Rattle.tla_value.specs.Meaning.{only_tested}
 
 pub data Standard : Type 0 where
-  length_of : Standard     -- Len(s)
-  appended : Standard      -- Append(s, e)
-  first_of : Standard      -- Head(s)
-  rest_of : Standard       -- Tail(s)
-  part_of : Standard       -- SubSeq(s, m, n)
-  sequences : Standard     -- Seq(S)
-  size_of : Standard       -- Cardinality(S)
-  is_finite : Standard     -- IsFiniteSet(S)
-  printed : Standard       -- PrintT(v)
-  asserted : Standard      -- Assert(v, m)
+  length_of : Standard  -- Len(s)
+  appended : Standard  -- Append(s, e)
+  first_of : Standard  -- Head(s)
+  rest_of : Standard  -- Tail(s)
+  part_of : Standard  -- SubSeq(s, m, n)
+  sequences : Standard  -- Seq(S)
+  size_of : Standard  -- Cardinality(S)
+  is_finite : Standard  -- IsFiniteSet(S)
+  printed : Standard  -- PrintT(v)
+  asserted : Standard  -- Assert(v, m)
 
 -- the operator of a name
 abbrev pub standard_of : Word → Option Standard
@@ -50,14 +50,14 @@ abbrev pub elements : Check → Place → Value → ℤ → Values → (List Val
 elements c at s m no_values go = go []
 elements c at s m (and i is) go =
     on_int at i (λ n. on_value (c at (int (n +ℤ m))) (λ _. on_value (c at (int ((n +ℤ m) -ℤ pos 1))) (λ k.
-      on_value (applied at s k) (λ v. elements c at s m is (λ vs. go (v ∷ vs))))))
+    on_value (applied at s k) (λ v. elements c at s m is (λ vs. go (v ∷ vs))))))
 
 -- [i \in 1..(n - m + 1) |-> s[i + m - 1]], with all that is reached in it
 abbrev pub part_between : Check → Place → Value → ℤ → ℤ → Outcome
 part_between c at s m n =
     on_value (c at (int (n -ℤ m))) (λ _. on_value (c at (int ((n -ℤ m) +ℤ pos 1))) (λ _.
-      on_value (c at (set (range (pos 1) ((n -ℤ m) +ℤ pos 1)))) (λ is.
-        on_set at is (λ ds. elements c at s m ds (λ vs. c at (fun ds (values_in vs)))))))
+    on_value (c at (set (range (pos 1) ((n -ℤ m) +ℤ pos 1)))) (λ is.
+    on_set at is (λ ds. elements c at s m ds (λ vs. c at (fun ds (values_in vs)))))))
 
 abbrev pub standard_value : Check → Standard → Place → List Value → Outcome
 standard_value c length_of at vs = on_one at vs (λ s. on_sequence at s (λ es. c at (int (pos (length es)))))
@@ -84,7 +84,7 @@ elements_in (Some vs) ws = each_in vs ws
 abbrev pub standard_sense : Check → Standard → Place → List Value → Sense
 standard_sense c sequences at vs = record {
   value = fault NotSet at;
-  test = λ p v. on_one at vs (λ a. on_set at a (λ ws. good (truth (elements_in (sequence_of v) ws))))
+  test = λ p v. on_one at vs (λ a. on_set at a (λ ws. good (truth (elements_in (sequence_of v) ws))));
 }
 standard_sense c o at vs = sense_of (standard_value c o at vs)
 
