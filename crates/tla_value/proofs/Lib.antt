@@ -16,3 +16,4 @@ pub mod Untested
 pub mod UntestedSets
 pub mod Quotient
 pub mod Quantified
+mod RowsScopes
