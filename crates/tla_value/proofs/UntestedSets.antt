@@ -12,7 +12,7 @@ use Rattle.tla_value.specs.Order.{count, order, orders, same, holds, set_from, f
 use Rattle.tla_value.specs.Stops.{plain, on_value, on_sets, tested}
 use Rattle.tla_value.specs.Sets.{all_in, sublists, subsets, repeated, is_subset}
 use Rattle.tla_value.specs.Strict.{strict_value, strict_test}
-use Rattle.tla_value.proofs.OrderLaws.{orders_equal, order_self, order_total, nat_self, same_is}
+use Rattle.tla_value.specs.OrderLaws.{orders_equal, order_self, order_total, nat_self, same_is}
 use Rattle.tla_value.proofs.OrderSets.{holds_set_from}
 use Rattle.tla_value.proofs.Untested.{then_eq, is_among, among_both, among_fronts, functions_tested}
 
