@@ -17,3 +17,6 @@ pub mod UntestedSets
 pub mod Quotient
 pub mod Quantified
 mod RowsScopes
+pub mod Canonical
+pub mod CanonicalForms
+pub mod CanonicalEval
