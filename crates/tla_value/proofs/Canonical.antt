@@ -1,13 +1,12 @@
 -- What forms make of canonical values is canonical.
-use Rattle.std.proofs.Common.{◌≡◌, ℕ, zero, suc, ℤ, pos, ◌+ℤ◌, ◌-ℤ◌, Bool, true, false, cond, List, [], ◌∷◌, ◌++◌, map, Option, Some, None, refl, sym, ◌∙◌, ap, subst, arith}
+use Rattle.std.proofs.Common.{◌≡◌, ℕ, zero, suc, ℤ, pos, ◌+ℤ◌, Bool, true, false, cond, List, [], ◌∷◌, ◌++◌, map, refl, sym, ◌∙◌, ap, arith}
 use Rattle.std.specs.Cmp.{int_cmp_is}
 use Rattle.std.specs.declared.cmp.Ordering.TheVariants.{Less}
 use Rattle.std.proofs.lemmas.Int.{ints}
-use Rattle.tla_token.specs.declared.place.Place.{Place}
 use Rattle.tla_value.specs.Value.{Value, Values, truth, int, text, model, set, fun, no_values, and, Outcome, good, fault, over, values_in}
 use Rattle.tla_value.specs.Order.{order, count, listed, set_from, pairs_of, IsBefore, IsAscending, IsCanonical, AreCanonical, ArePairsCanonical}
-use Rattle.tla_value.specs.Stops.{Check, on_value, on_truth, on_int, on_set, on_fun, on_sets, on_one, on_two}
-use Rattle.tla_value.specs.Sets.{kept, on_members, sublists, subsets, integers, repeated, fronted, members, choices, functions_over}
+use Rattle.tla_value.specs.Stops.{on_value}
+use Rattle.tla_value.specs.Sets.{kept, sublists, subsets, integers, repeated, fronted, members, choices, functions_over}
 use Rattle.tla_value.specs.OrderLaws.{order_total}
 use Rattle.tla_value.proofs.OrderSets.{set_from_ascending, set_from_canonical}
 
@@ -77,8 +76,8 @@ behind_sublists : (u : Value) (vs : Values) → IsBefore u vs → IsAscending vs
 behind_sublists u no_values b a h = ((tt, tt, tt), tt)
 behind_sublists u (and v vs) b a h =
     each_append (Behind u) (sublists vs) (map (and v) (sublists vs))
-      (behind_sublists u vs (before_next u v vs b a.0) a.1 h.1)
-      (behind_front u v (sublists vs) b h.0 (behind_sublists v vs a.0 a.1 h.1))
+    (behind_sublists u vs (before_next u v vs b a.0) a.1 h.1)
+    (behind_front u v (sublists vs) b h.0 (behind_sublists v vs a.0 a.1 h.1))
 
 abbrev pub IsSet : Values → Type 0
 IsSet t = IsAscending t × AreCanonical t

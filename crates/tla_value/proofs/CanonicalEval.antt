@@ -1,12 +1,12 @@
 -- The value of a tree is canonical where its names stand for canonical values.
-use Rattle.std.proofs.Common.{◌≡◌, ℕ, Bool, true, false, cond, bytes_eq, List, [], ◌∷◌, ◌++◌, map, Option, Some, None, refl}
+use Rattle.std.proofs.Common.{Bool, true, false, cond, bytes_eq, List, [], ◌∷◌, ◌++◌, map, refl}
 use Rattle.tla_token.specs.declared.place.Place.{Place}
 use Rattle.tla_expr.specs.declared.op.Binder.{Binder}
 use Rattle.tla_expr.specs.declared.op.Binder.TheVariants.{ForAll, Exists, Filter, Image, Function}
 use Rattle.tla_expr.specs.Tree.{Word, Form, number, quote, truth as literal, booleans, strings, name, next, strict, call, both, or_else, implies, member, choice, cases, binding, local, Tree, node, Trees, no_trees, tree}
-use Rattle.tla_value.specs.Value.{Value, Values, truth, int, text, model, set, fun, no_values, and, Outcome, good, fault, over, Sense, values_in}
+use Rattle.tla_value.specs.Value.{Value, Values, truth, no_values, and, Outcome, good, fault, over, Sense, values_in}
 use Rattle.tla_value.specs.Order.{IsCanonical, AreCanonical, ArePairsCanonical}
-use Rattle.tla_value.specs.Stops.{Check, plain, on_value, on_truth, on_sets, on_two, on_three}
+use Rattle.tla_value.specs.Stops.{Check, on_value, on_two, on_three}
 use Rattle.tla_value.specs.Meaning.{Env, Den, bind, just, on_all, on_test, Row, Visit, with_first, each_member, each_choice, fits_binder, visit_body, key, is_true, where_true, results, table, gathered, on_sources, first_arm, called, meaning_of, eval, evals}
 use Rattle.tla_value.proofs.OrderFuns.{fun_from_canonical, seq_from_canonical}
 use Rattle.tla_value.proofs.Canonical.{Proper, proper_value, EachList, IsSet, set_canonical}
@@ -38,7 +38,7 @@ pub sound_bind : (x : Word) (v : Value) (e : Env) → IsCanonical v → Sound e 
 sound_bind x v e c r = record {
   now = λ y at. proper_either (bytes_eq x y) (just v) (e.now y at) c (r.now y at);
   primed = r.primed;
-  defs = r.defs
+  defs = r.defs;
 }
 
 sound_all : (ds : List Den) (e : Env) (go : List Value → Outcome) → SoundDens ds → Sound e → ((vs : List Value) → AreCanonical (values_in vs) → Proper (go vs)) → Proper (on_all ds e go)

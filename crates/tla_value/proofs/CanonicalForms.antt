@@ -1,5 +1,5 @@
 -- The value of an expression is canonical where its names stand for canonical values.
-use Rattle.std.proofs.Common.{◌≡◌, ℕ, suc, ℤ, pos, ◌+ℤ◌, ◌-ℤ◌, Bool, true, false, cond, bytes_eq, if◌then◌else◌, List, [], ◌∷◌, ◌++◌, map, Option, Some, None, refl, sym, ◌∙◌, ap}
+use Rattle.std.proofs.Common.{◌≡◌, suc, ℤ, pos, ◌+ℤ◌, ◌-ℤ◌, Bool, true, false, cond, if◌then◌else◌, List, [], ◌∷◌, ◌++◌, map, Option, Some, None, refl, ◌∙◌, ap}
 use Rattle.std.specs.Ordering.{is_eq}
 use Rattle.std.specs.Int.{int_div_euclid, int_rem_euclid}
 use Rattle.tla_token.specs.declared.place.Place.{Place}
@@ -8,11 +8,11 @@ use Rattle.tla_expr.specs.declared.op.Op.TheVariants.{Equivalent, Not, Equal, No
 use Rattle.tla_expr.specs.Tree.{Word, Step, index, field, Slot, Strict, operator, set_of, tuple, fields, records, functions, apply, select, except}
 use Rattle.std.specs.Prelude.{int_lt}
 use Rattle.tla_value.specs.declared.fault.FaultKind.TheVariants.{BadDivisor}
-use Rattle.tla_value.specs.Value.{Value, Values, truth, int, text, model, set, fun, no_values, and, Outcome, good, fault, over, values_in}
-use Rattle.tla_value.specs.Order.{same, count, orders, listed, numbered, found_at, set_from, sequence_of, pairs_of, arguments, values_at, field_pairs, record_from, fun_from, IsBefore, IsAscending, IsCanonical, AreCanonical, ArePairsCanonical}
-use Rattle.tla_value.specs.Stops.{Check, on_value, on_truth, on_int, on_set, on_fun, on_list, on_sets, on_one, on_two}
-use Rattle.tla_value.specs.Sets.{cap, without, on_members, repeated, functions_over, range, natural}
-use Rattle.tla_value.specs.Strict.{of_truths, of_ints, of_sets, of_quotient, operated, on_space, made, looked_up, applied, changed, changed_at, next_slot, updated, excepted, strict_value}
+use Rattle.tla_value.specs.Value.{Value, Values, truth, int, text, model, set, fun, no_values, and, Outcome, good, fault, values_in}
+use Rattle.tla_value.specs.Order.{same, count, orders, listed, numbered, found_at, sequence_of, pairs_of, field_pairs, record_from, IsCanonical, AreCanonical, ArePairsCanonical}
+use Rattle.tla_value.specs.Stops.{Check, on_truth, on_int, on_set, on_fun, on_list, on_sets, on_one, on_two}
+use Rattle.tla_value.specs.Sets.{on_members, repeated, functions_over, natural}
+use Rattle.tla_value.specs.Strict.{of_ints, of_sets, of_quotient, operated, made, looked_up, applied, changed, changed_at, next_slot, updated, strict_value}
 use Rattle.tla_value.proofs.OrderFuns.{fun_from_canonical, seq_from_canonical}
 use Rattle.tla_value.proofs.Canonical.{Proper, proper_value, EachList, IsSet, append_canonical, listed_canonical, set_canonical, kept_canonical, sets_canonical, subsets_canonical, functions_canonical, count_repeated, repeated_canonical, integers_canonical, pairs_canonical}
 
@@ -113,7 +113,7 @@ operated_proper AtLeast at vs h = ints_proper at vs _ h (λ m n. tt)
 operated_proper SubsetEq at vs h = sets_proper at vs _ h (λ ss ts p q. tt)
 operated_proper Override at vs h =
     proper_two at vs _ h (λ f g i j. proper_fun at f _ i (λ ds rs p. proper_fun at g _ j (λ es qs q.
-      fun_from_canonical (pairs_of ds rs ++ pairs_of es qs) (pairs_append (pairs_of ds rs) (pairs_of es qs) (pairs_canonical ds rs p.1 p.2) (pairs_canonical es qs q.1 q.2)))))
+    fun_from_canonical (pairs_of ds rs ++ pairs_of es qs) (pairs_append (pairs_of ds rs) (pairs_of es qs) (pairs_canonical ds rs p.1 p.2) (pairs_canonical es qs q.1 q.2)))))
 operated_proper MapsTo at vs h = proper_two at vs _ h (λ d e i j. ((tt, tt), (i, tt), (j, tt), refl))
 operated_proper Cup at vs h =
     sets_proper at vs _ h (λ ss ts p q. set_canonical (listed ss ++ listed ts) (append_canonical (listed ss) (listed ts) (listed_canonical ss p.1) (listed_canonical ts q.1)))
@@ -131,7 +131,7 @@ operated_proper Divide at vs h = quotient_proper at vs int_div_euclid h
 operated_proper Modulo at vs h = quotient_proper at vs int_rem_euclid h
 operated_proper Concat at vs h =
     proper_two at vs _ h (λ a b i j. proper_list at (sequence_of a) _ (sequence_canonical a i) (λ xs p. proper_list at (sequence_of b) _ (sequence_canonical b j) (λ ys q.
-      seq_from_canonical (xs ++ ys) (append_canonical xs ys p q))))
+    seq_from_canonical (xs ++ ys) (append_canonical xs ys p q))))
 operated_proper _ at vs h = tt
 
 -- ---- other strict forms
@@ -153,7 +153,7 @@ made_proper (records xs) at vs h =
     proper_sets at vs _ h (λ ss k. proper_fun at (record_from xs (map set ss)) (λ ds rs. good (set (functions_over ds rs))) (record_sets xs ss k) (λ ds rs c. functions_canonical ds rs c.0 c.1 c.2 c.3))
 made_proper functions at vs h =
     proper_two at vs _ h (λ a b i j. proper_set at a _ i (λ ds p. proper_set at b _ j (λ ws q.
-      functions_canonical ds (repeated ds (set ws)) p.0 p.1 (repeated_canonical ds (set ws) q) (count_repeated ds (set ws)))))
+    functions_canonical ds (repeated ds (set ws)) p.0 p.1 (repeated_canonical ds (set ws) q) (count_repeated ds (set ws)))))
 made_proper _ at vs h = tt
 
 abbrev pub IsFoundCanonical : Option Value → Type 0
@@ -181,7 +181,7 @@ changed_proper k g no_values rs go h p q = q rs h refl
 changed_proper k g (and d ds) no_values go h p q = q no_values tt refl
 changed_proper k g (and d ds) (and r rs) go h p q =
     proper_cond (same k d) _ _ (proper_value (g r) _ (p r h.0) (λ w c. q (and w rs) (c, h.1) refl))
-      (changed_proper k g ds rs _ h.1 p (λ us c e. q (and r us) (h.0, c) (ap suc e)))
+    (changed_proper k g ds rs _ h.1 p (λ us c e. q (and r us) (h.0, c) (ap suc e)))
 
 path_proper : (at : Place) (ks : List Value) (v old : Value) → IsCanonical v → IsCanonical old → Proper (changed_at at ks v old)
 path_proper at [] v old h i = h
@@ -203,7 +203,7 @@ slots_proper : (c : Check) → Keeping c → (ns : List Slot) (vs : List Value) 
 slots_proper c l [] vs old h i = i
 slots_proper c l (n ∷ ns) vs old h i =
     slot_proper n.place n.path vs _ h (λ path v rest p q. proper_value (changed_at n.place path v old) _ (path_proper n.place path v old p i)
-      (λ new r. proper_value (c n.place new) _ (l n.place new r) (λ w s. slots_proper c l ns rest w q s)))
+    (λ new r. proper_value (c n.place new) _ (l n.place new r) (λ w s. slots_proper c l ns rest w q s)))
 
 -- what a strict form gives for canonical values
 pub strict_proper : (c : Check) → Keeping c → (o : Strict) (at : Place) (vs : List Value) → AreCanonical (values_in vs) → Proper (strict_value c o at vs)

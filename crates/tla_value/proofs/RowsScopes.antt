@@ -1,17 +1,16 @@
 -- Meanings in a scope with definitions and states, by computation.
-use Rattle.std.proofs.Common.{◌≡◌, ℕ, pos, List, [], ◌∷◌, true, false, cond, bytes_eq, Option, Some, None, refl}
+use Rattle.std.proofs.Common.{◌≡◌, ℕ, pos, List, [], ◌∷◌, true, false, cond, bytes_eq, Some, None, refl}
 use Rattle.std.specs.Prelude.{codes}
 use Rattle.tla_token.specs.declared.place.Place.{Place}
-use Rattle.tla_expr.specs.declared.op.Op.{Op}
 use Rattle.tla_expr.specs.declared.op.Op.TheVariants.{Plus, Divide}
-use Rattle.tla_expr.specs.Tree.{Word, Strict, operator, tuple, Form, number, name, next, strict, call, member, local, Tree, node, Trees, no_trees, tree, graft}
-use Rattle.tla_value.specs.declared.fault.FaultKind.TheVariants.{BadDivisor, NotFunction, NotInDomain}
-use Rattle.tla_value.specs.Value.{Value, int, Outcome, good, fault}
+use Rattle.tla_expr.specs.Tree.{Word, operator, Form, number, name, next, strict, call, local, Tree, node, Trees, no_trees, tree, graft}
+use Rattle.tla_value.specs.declared.fault.FaultKind.TheVariants.{BadDivisor, NotFunction}
+use Rattle.tla_value.specs.Value.{int, Outcome, good, fault}
 use Rattle.tla_value.specs.Order.{seq_from}
 use Rattle.tla_value.specs.Stops.{plain}
 use Rattle.tla_value.specs.Meaning.{eval}
 use Rattle.tla_value.specs.Grafts.{primes, owned}
-use Rattle.tla_value.specs.Definitions.{Look, Definition, no_state, scope_of, mid}
+use Rattle.tla_value.specs.Definitions.{Look, Definition, no_state, scope_of}
 
 abbrev here : ℕ → Place
 here n = record { line = 1; col = n }
