@@ -165,3 +165,10 @@ middle = refl
 
 past_the_end : gives (part 1 4) ≡ fault NotInDomain (here 1)
 past_the_end = refl
+
+-- A and B of [A -> B] and SUBSET A are evaluated, and Nat has no value: <<1, 2>> \in [1..2 -> Nat], {} \in SUBSET Nat
+inner_nat : gives (of (member true) 1 (pair ∷ of (strict functions) 15 (signed Range 16 (num 1 16) (num 2 19) ∷ nat 24 ∷ []) ∷ [])) ≡ fault NotSet (here 24)
+inner_nat = refl
+
+subset_nat : gives (of (member true) 1 (of (strict set_of) 1 [] ∷ of (strict (operator Subset)) 8 (nat 15 ∷ []) ∷ [])) ≡ fault NotSet (here 15)
+subset_nat = refl
