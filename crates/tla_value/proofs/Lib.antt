@@ -6,3 +6,19 @@ pub mod Lookups
 pub mod ValueSpelled
 mod ValueRows
 pub mod StateLaws
+pub mod Alike
+pub mod Graft
+pub mod Primes
+pub mod Owned
+pub mod Below
+mod RowsMeaning
+pub mod BelowScopes
+pub mod MidState
+pub mod Untested
+pub mod UntestedSets
+pub mod Quotient
+pub mod Quantified
+mod RowsScopes
+pub mod Canonical
+pub mod CanonicalForms
+pub mod CanonicalEval

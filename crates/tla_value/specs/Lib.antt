@@ -7,3 +7,10 @@ pub mod Code
 pub mod ValueOf
 pub mod Falls
 pub mod States
+pub mod Stops
+pub mod Sets
+pub mod Strict
+pub mod Meaning
+pub mod Grafts
+pub mod Standard
+pub mod Definitions
