@@ -5,3 +5,9 @@ pub mod ValueText
 pub mod Code
 pub mod ValueOf
 pub mod Falls
+pub mod Stops
+pub mod Sets
+pub mod Strict
+pub mod Meaning
+pub mod Standard
+pub mod Definitions

@@ -1,0 +1,72 @@
+-- The names that an expression finds outside its binders: constants, variables, standard operators, and definitions ("Specifying Systems", section 17.3).
+use Rattle.std.specs.Prelude.{◌≡◌, Bool, cond, bytes_eq, List, [], ◌∷◌, Option, Some, None}
+use Rattle.tla_token.specs.declared.place.Place.{Place}
+use Rattle.tla_expr.specs.Tree.{Word, Tree}
+use Rattle.tla_value.specs.Value.{Value, Outcome, good, fault, over, Sense}
+use Rattle.tla_value.specs.Stops.{Check, plain, misshapen, sense_of}
+use Rattle.tla_value.specs.Meaning.{Env, just, bind, eval}
+use Rattle.tla_value.specs.Standard.{standard_of, standard_called, standard_name}
+
+-- values of names
+abbrev pub Look : Type 0
+Look = Word → Option Value
+
+pub record Definition : Type 0 where
+  pub title : Word
+  pub params : List Word
+  pub body : Tree
+  pub outside : Bool      -- it stands in the module, outside the algorithm
+
+abbrev pub or_sense : Option Value → Sense → Sense
+or_sense (Some v) other = just v
+or_sense None other = other
+
+-- constants, and what the standard modules define
+abbrev pub base : Check → Look → Env
+base c constants = record {
+  now = λ x at. or_sense (constants x) (standard_name x at);
+  primed = λ x at. sense_of (misshapen at);
+  defs = λ f. standard_called c (standard_of f)
+}
+
+-- variables in a state, and primed in the next one
+abbrev pub in_states : Look → Look → Env → Env
+in_states s t env = record env {
+  now = λ x at. or_sense (s x) (env.now x at);
+  primed = λ x at. or_sense (t x) (env.primed x at)
+}
+
+abbrev pub no_state : Look
+no_state x = None
+
+-- what stops in the body of an outside definition stops at its use: the body is no expression of the algorithm
+abbrev pub at_use : Bool → Place → Outcome → Outcome
+at_use outside at (good v) = good v
+at_use outside at (fault k p) = fault k (cond outside at p)
+at_use outside at (over p) = over (cond outside at p)
+
+abbrev pub bind_each : List Word → List Value → Env → Env
+bind_each (x ∷ xs) (v ∷ vs) env = bind_each xs vs (bind x v env)
+bind_each _ _ env = env
+
+abbrev pub body_sense : Check → Definition → Env → Place → Sense
+body_sense c d env at = sense_of (at_use d.outside at (eval c d.body env).value)
+
+abbrev pub defined : Check → Definition → List Word → Env → Env
+defined c d [] env = record env { now = λ x at. cond (bytes_eq d.title x) (body_sense c d env at) (env.now x at) }
+defined c d (p ∷ ps) env = record env {
+  defs = λ f. cond (bytes_eq d.title f) (Some (λ at vs. body_sense c d (bind_each (p ∷ ps) vs env) at)) (env.defs f)
+}
+
+-- each definition sees those before it
+abbrev pub with_definitions : Check → List Definition → Env → Env
+with_definitions c [] env = env
+with_definitions c (d ∷ ds) env = with_definitions c ds (defined c d d.params env)
+
+-- where expressions of the algorithm are evaluated, in a state and the next one
+abbrev pub scope_of : Check → Look → List Definition → Look → Look → Env
+scope_of c constants ds s t = with_definitions c ds (in_states s t (base c constants))
+
+-- e gives r under the names of env: a value, or a fault with its kind and place
+abbrev pub Val : Tree → Env → Outcome → Type 0
+Val e env r = (eval plain e env).value ≡ r
