@@ -2,3 +2,4 @@ pub mod OrderLaws
 pub mod OrderSets
 pub mod ValueLists
 mod ValueRows
+pub mod Alike
