@@ -3,3 +3,4 @@ pub mod OrderSets
 pub mod ValueLists
 mod ValueRows
 pub mod Alike
+pub mod Graft

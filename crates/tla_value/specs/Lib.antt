@@ -9,5 +9,6 @@ pub mod Stops
 pub mod Sets
 pub mod Strict
 pub mod Meaning
+pub mod Grafts
 pub mod Standard
 pub mod Definitions
