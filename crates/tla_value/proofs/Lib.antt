@@ -4,3 +4,5 @@ pub mod ValueLists
 mod ValueRows
 pub mod Alike
 pub mod Graft
+pub mod Primes
+pub mod Owned
