@@ -6,3 +6,4 @@ pub mod Alike
 pub mod Graft
 pub mod Primes
 pub mod Owned
+pub mod Below
