@@ -7,3 +7,4 @@ pub mod Graft
 pub mod Primes
 pub mod Owned
 pub mod Below
+mod RowsMeaning

@@ -1,5 +1,5 @@
 -- The operators and sets of the standard modules Naturals, Integers, Sequences, FiniteSets and TLC ("Specifying Systems", chapter 18 and section 14.5.3).
-use Rattle.std.specs.Prelude.{ℕ, zero, suc, ℤ, pos, ◌+ℤ◌, ◌-ℤ◌, Bool, true, false, cond, ◌&&◌, bytes_eq, length, List, [], ◌∷◌, ◌++◌, Option, Some, None}
+use Rattle.std.specs.Prelude.{ℕ, zero, suc, ℤ, pos, ◌+ℤ◌, ◌-ℤ◌, Bool, true, false, cond, ◌&&◌, bytes_eq, codes, length, List, [], ◌∷◌, ◌++◌, Option, Some, None}
 use Rattle.tla_token.specs.declared.place.Place.{Place}
 use Rattle.tla_expr.specs.Tree.{Word}
 use Rattle.tla_value.specs.declared.fault.FaultKind.TheVariants.{NotSet, EmptySequence, AssertFailed}
@@ -25,16 +25,16 @@ pub data Standard : Type 0 where
 -- the operator of a name
 abbrev pub standard_of : Word → Option Standard
 standard_of w =
-    cond (bytes_eq (76 ∷ 101 ∷ 110 ∷ []) w) (Some length_of) (
-    cond (bytes_eq (65 ∷ 112 ∷ 112 ∷ 101 ∷ 110 ∷ 100 ∷ []) w) (Some appended) (
-    cond (bytes_eq (72 ∷ 101 ∷ 97 ∷ 100 ∷ []) w) (Some first_of) (
-    cond (bytes_eq (84 ∷ 97 ∷ 105 ∷ 108 ∷ []) w) (Some rest_of) (
-    cond (bytes_eq (83 ∷ 117 ∷ 98 ∷ 83 ∷ 101 ∷ 113 ∷ []) w) (Some part_of) (
-    cond (bytes_eq (83 ∷ 101 ∷ 113 ∷ []) w) (Some sequences) (
-    cond (bytes_eq (67 ∷ 97 ∷ 114 ∷ 100 ∷ 105 ∷ 110 ∷ 97 ∷ 108 ∷ 105 ∷ 116 ∷ 121 ∷ []) w) (Some size_of) (
-    cond (bytes_eq (73 ∷ 115 ∷ 70 ∷ 105 ∷ 110 ∷ 105 ∷ 116 ∷ 101 ∷ 83 ∷ 101 ∷ 116 ∷ []) w) (Some is_finite) (
-    cond (bytes_eq (80 ∷ 114 ∷ 105 ∷ 110 ∷ 116 ∷ 84 ∷ []) w) (Some printed) (
-    cond (bytes_eq (65 ∷ 115 ∷ 115 ∷ 101 ∷ 114 ∷ 116 ∷ []) w) (Some asserted) (
+    cond (bytes_eq (codes "Len") w) (Some length_of) (
+    cond (bytes_eq (codes "Append") w) (Some appended) (
+    cond (bytes_eq (codes "Head") w) (Some first_of) (
+    cond (bytes_eq (codes "Tail") w) (Some rest_of) (
+    cond (bytes_eq (codes "SubSeq") w) (Some part_of) (
+    cond (bytes_eq (codes "Seq") w) (Some sequences) (
+    cond (bytes_eq (codes "Cardinality") w) (Some size_of) (
+    cond (bytes_eq (codes "IsFiniteSet") w) (Some is_finite) (
+    cond (bytes_eq (codes "PrintT") w) (Some printed) (
+    cond (bytes_eq (codes "Assert") w) (Some asserted) (
     None))))))))))
 
 abbrev pub headed : Place → List Value → Outcome
@@ -103,6 +103,6 @@ is_natural _ = false
 -- Nat and Int, which can only be tested; no other name is known
 abbrev pub standard_name : Word → Place → Sense
 standard_name x at =
-    cond (bytes_eq (78 ∷ 97 ∷ 116 ∷ []) x) (only_tested at is_natural) (
-    cond (bytes_eq (73 ∷ 110 ∷ 116 ∷ []) x) (only_tested at is_int) (
+    cond (bytes_eq (codes "Nat") x) (only_tested at is_natural) (
+    cond (bytes_eq (codes "Int") x) (only_tested at is_int) (
     sense_of (misshapen at)))
