@@ -32,7 +32,7 @@ pub truths : (at : Place) (v : Value) (g g' : Bool → Outcome) → ((b : Bool) 
 truths at (truth b) g g' k = k b
 truths at _ g g' k = refl
 
-ints : (at : Place) (v : Value) (g g' : ℤ → Outcome) → ((n : ℤ) → Below (g n) (g' n)) → Below (on_int at v g) (on_int at v g')
+pub ints : (at : Place) (v : Value) (g g' : ℤ → Outcome) → ((n : ℤ) → Below (g n) (g' n)) → Below (on_int at v g) (on_int at v g')
 ints at (int n) g g' k = k n
 ints at _ g g' k = refl
 

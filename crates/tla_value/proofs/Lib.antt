@@ -8,3 +8,4 @@ pub mod Primes
 pub mod Owned
 pub mod Below
 mod RowsMeaning
+pub mod BelowScopes

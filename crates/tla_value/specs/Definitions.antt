@@ -4,6 +4,7 @@ use Rattle.tla_token.specs.declared.place.Place.{Place}
 use Rattle.tla_expr.specs.Tree.{Word, Tree}
 use Rattle.tla_value.specs.Value.{Value, Outcome, good, fault, over, Sense}
 use Rattle.tla_value.specs.Stops.{Check, plain, misshapen, sense_of}
+use Rattle.tla_value.specs.Limits.{bounded}
 use Rattle.tla_value.specs.Meaning.{Env, just, bind, eval}
 use Rattle.tla_value.specs.Standard.{standard_of, standard_called, standard_name}
 
@@ -70,3 +71,7 @@ scope_of c constants ds s t = with_definitions c ds (in_states s t (base c const
 -- e gives r under the names of env: a value, or a fault with its kind and place
 abbrev pub Val : Tree → Env → Outcome → Type 0
 Val e env r = (eval plain e env).value ≡ r
+
+-- the same in a run, where the first value past the limits stops as well. The names of env have been evaluated in a run too.
+abbrev pub ValB : Tree → Env → Outcome → Type 0
+ValB e env r = (eval bounded e env).value ≡ r
