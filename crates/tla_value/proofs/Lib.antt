@@ -9,3 +9,4 @@ pub mod Owned
 pub mod Below
 mod RowsMeaning
 pub mod BelowScopes
+pub mod MidState

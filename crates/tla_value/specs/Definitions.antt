@@ -75,3 +75,7 @@ Val e env r = (eval plain e env).value ≡ r
 -- the same in a run, where the first value past the limits stops as well. The names of env have been evaluated in a run too.
 abbrev pub ValB : Tree → Env → Outcome → Type 0
 ValB e env r = (eval bounded e env).value ≡ r
+
+-- a step half done: the names of A have their next values already
+abbrev pub mid : (Word → Bool) → Look → Look → Look
+mid A s t x = cond (A x) (t x) (s x)
