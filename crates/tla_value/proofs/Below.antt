@@ -1,17 +1,15 @@
 -- What limits change: the outcome is that without limits, or says that a limit was passed.
-use Rattle.std.proofs.Common.{◌≡◌, ℕ, List, [], ◌∷◌, ◌++◌, map, Bool, true, false, cond, Option, Some, None, refl, ap, sym, subst, bytes_eq, ℤ, pos, ◌+ℤ◌, ◌-ℤ◌}
+use Rattle.std.proofs.Common.{◌≡◌, List, [], ◌∷◌, ◌++◌, map, Bool, true, false, cond, refl, ap, subst, bytes_eq, ℤ}
 use Rattle.tla_token.specs.declared.place.Place.{Place}
 use Rattle.tla_expr.specs.declared.op.Op.{Op}
 use Rattle.tla_expr.specs.declared.op.Op.TheVariants.{Subset}
 use Rattle.tla_expr.specs.declared.op.Binder.{Binder}
 use Rattle.tla_expr.specs.declared.op.Binder.TheVariants.{Image, Function}
 use Rattle.tla_expr.specs.Tree.{Word, Step, index, field, Slot, Strict, operator, functions, records, apply, select, except, Form, number, quote, truth as literal, booleans, strings, name, next, strict, call, both, or_else, implies, member, choice, cases, binding, local, Tree, node, Trees, no_trees, tree}
-use Rattle.tla_value.specs.Value.{Value, Values, no_values, and, truth, int, text, set, fun, Outcome, good, fault, over, Sense, values_in}
-use Rattle.tla_value.specs.Order.{holds}
-use Rattle.tla_value.specs.Stops.{Check, plain, on_value, on_truth, on_int, on_set, on_sets, on_one, on_two, on_three, on_sequence, misshapen, tested, sense_of}
-use Rattle.tla_value.specs.Sets.{range}
-use Rattle.tla_value.specs.Strict.{made, changed_at, next_slot, updated, excepted, strict_value, operator_test, strict_test, applied, same_truth}
-use Rattle.tla_value.specs.Meaning.{Env, Den, bind, just, on_all, on_test, Row, Visit, with_first, each_member, each_choice, fits_binder, visit_body, gathered, on_sources, first_arm, called, meaning_of, eval, evals}
+use Rattle.tla_value.specs.Value.{Value, Values, no_values, and, truth, int, text, set, Outcome, good, fault, over, Sense}
+use Rattle.tla_value.specs.Stops.{Check, plain, on_value, on_truth, on_int, on_set, on_sets, on_two, on_three, tested, sense_of}
+use Rattle.tla_value.specs.Strict.{made, changed_at, next_slot, updated, strict_value, operator_test, strict_test}
+use Rattle.tla_value.specs.Meaning.{Env, Den, bind, just, on_all, on_test, Row, Visit, with_first, each_member, each_choice, fits_binder, visit_body, on_sources, first_arm, called, meaning_of, eval, evals}
 
 -- o is o', or passed a limit
 abbrev pub Below : Outcome → Outcome → Type 0

@@ -1,16 +1,16 @@
 -- What limits change where constants, variables, standard operators and definitions are in scope.
-use Rattle.std.proofs.Common.{◌≡◌, ℤ, pos, ◌+ℤ◌, ◌-ℤ◌, List, [], ◌∷◌, Bool, true, false, cond, bytes_eq, Option, Some, None, refl, ap, if◌then◌else◌}
+use Rattle.std.proofs.Common.{ℤ, pos, ◌+ℤ◌, ◌-ℤ◌, List, [], ◌∷◌, Bool, true, false, cond, bytes_eq, Option, Some, None, refl, ap, if◌then◌else◌}
 use Rattle.tla_token.specs.declared.place.Place.{Place}
 use Rattle.tla_expr.specs.Tree.{Word, Tree}
-use Rattle.tla_value.specs.Value.{Value, Values, no_values, and, int, set, fun, Outcome, good, fault, over, Sense, values_in}
+use Rattle.tla_value.specs.Value.{Value, Values, no_values, and, int, Outcome, good, fault, over, Sense}
 use Rattle.tla_value.specs.Limits.{fits, bounded}
 use Rattle.tla_value.specs.Order.{sequence_of}
-use Rattle.tla_value.specs.Stops.{Check, plain, on_value, on_list, on_int, on_one, on_two, on_three}
+use Rattle.tla_value.specs.Stops.{Check, plain, on_list, on_one, on_two, on_three}
 use Rattle.tla_value.specs.Strict.{applied}
-use Rattle.tla_value.specs.Meaning.{Env, bind, just, called, eval}
-use Rattle.tla_value.specs.Standard.{Standard, length_of, appended, first_of, rest_of, part_of, sequences, size_of, is_finite, printed, asserted, standard_of, headed, tailed, elements, part_between, standard_value, standard_sense, standard_called, standard_name}
+use Rattle.tla_value.specs.Meaning.{Env, just, called, eval}
+use Rattle.tla_value.specs.Standard.{Standard, length_of, appended, first_of, rest_of, part_of, sequences, size_of, is_finite, printed, asserted, standard_of, tailed, elements, standard_value, standard_sense, standard_called, standard_name}
 use Rattle.tla_value.specs.Definitions.{Look, Definition, or_sense, base, in_states, at_use, bind_each, body_sense, defined, with_definitions, scope_of}
-use Rattle.tla_value.proofs.Below.{Below, same, values, truths, ints, sets, Limits, Senses, senses_of, same_sense, Envs, picked, bound, eval_below}
+use Rattle.tla_value.proofs.Below.{Below, same, values, ints, sets, Limits, Senses, senses_of, same_sense, Envs, picked, bound, eval_below}
 
 -- ---- the limits of a run
 

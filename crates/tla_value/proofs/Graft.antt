@@ -1,11 +1,11 @@
 -- A tree with trees put in for its names means what the tree means where the names stand for them.
-use Rattle.std.proofs.Common.{◌≡◌, ℕ, List, [], ◌∷◌, Bool, true, false, cond, bytes_eq, Option, Some, None, refl, sym, ◌∙◌, ap}
+use Rattle.std.proofs.Common.{◌≡◌, List, [], ◌∷◌, Bool, true, false, cond, bytes_eq, Option, Some, None, refl, sym, ◌∙◌, ap}
 use Rattle.std.proofs.lemmas.Slice.Eq.{bytes_eq-Decides}
 use Rattle.tla_token.specs.declared.place.Place.{Place}
-use Rattle.tla_expr.specs.Tree.{Word, Form, name, next, call, binding, local, Tree, node, Trees, no_trees, tree, Every, EveryOf, Each, binders, Graft, grafted_name, grafted_node, graft, grafts}
+use Rattle.tla_expr.specs.Tree.{Word, Form, name, next, call, Tree, node, Trees, no_trees, tree, Every, EveryOf, Each, binders, Graft, grafted_name, grafted_node, graft, grafts}
 use Rattle.tla_value.specs.Value.{Value}
 use Rattle.tla_value.specs.Stops.{Check}
-use Rattle.tla_value.specs.Meaning.{Env, Den, just, bind, eval, evals}
+use Rattle.tla_value.specs.Meaning.{Env, just, bind, eval, evals}
 use Rattle.tla_value.specs.Grafts.{read_tree, through}
 use Rattle.tla_value.proofs.Alike.{Rel, Bound, Keeps, Alike, AllAlike, none, one, alike, eval_alike}
 

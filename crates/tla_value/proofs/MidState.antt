@@ -5,7 +5,7 @@ use Rattle.tla_token.specs.declared.place.Place.{Place}
 use Rattle.tla_expr.specs.Tree.{Word, Form, name, next, call, Tree, Every, Each, binders, graft}
 use Rattle.tla_value.specs.Value.{Value, Sense}
 use Rattle.tla_value.specs.Stops.{Check, sense_of}
-use Rattle.tla_value.specs.Meaning.{Env, just, bind, eval}
+use Rattle.tla_value.specs.Meaning.{Env, just, eval}
 use Rattle.tla_value.specs.Grafts.{primes}
 use Rattle.tla_value.specs.Definitions.{Look, Definition, or_sense, base, in_states, at_use, bind_each, body_sense, defined, with_definitions, scope_of, mid}
 use Rattle.tla_value.proofs.Alike.{Bound, Keeps, eval_alike}

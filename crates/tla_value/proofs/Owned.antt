@@ -1,12 +1,12 @@
 -- Macro arguments, and the variables of which each process has its own: trees put in, read as names.
-use Rattle.std.proofs.Common.{◌≡◌, Bool, true, false, cond, bytes_eq, Option, Some, None, refl, sym, ◌∙◌, ap, subst}
+use Rattle.std.proofs.Common.{◌≡◌, Bool, true, false, cond, bytes_eq, Some, None, refl, sym, ◌∙◌, ap, subst}
 use Rattle.std.proofs.lemmas.Slice.Eq.{bytes_eq-Decides}
 use Rattle.tla_token.specs.declared.place.Place.{Place}
 use Rattle.tla_expr.specs.Tree.{Word, Form, Tree, Every, Each, binders, graft}
 use Rattle.tla_value.specs.Stops.{Check}
 use Rattle.tla_value.specs.Meaning.{Env, eval}
 use Rattle.tla_value.specs.Grafts.{Arguments, arguments, own_part, owned, through}
-use Rattle.tla_value.proofs.Graft.{each_weaker, every_weaker, LacksIn, Apart, ApartForm, through_law}
+use Rattle.tla_value.proofs.Graft.{each_weaker, every_weaker, LacksIn, through_law}
 
 -- a bound name of the body is no parameter, and stands in no argument
 abbrev pub NoArgument : Arguments → Form → Place → Type 0

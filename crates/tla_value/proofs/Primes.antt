@@ -1,11 +1,10 @@
 -- An expression with the assigned names primed means over a pair of states what it means in the state half done.
-use Rattle.std.proofs.Common.{◌≡◌, Bool, true, false, cond, bytes_eq, Option, Some, None, refl, sym, ◌∙◌, ap}
+use Rattle.std.proofs.Common.{◌≡◌, Bool, true, false, cond, bytes_eq, Some, None, refl, sym, ◌∙◌, ap}
 use Rattle.std.proofs.lemmas.Slice.Eq.{bytes_eq-Decides}
 use Rattle.tla_token.specs.declared.place.Place.{Place}
-use Rattle.tla_expr.specs.Tree.{Word, Form, name, next, call, binding, local, Tree, node, no_trees, Every, Each, binders, graft}
-use Rattle.tla_value.specs.Value.{Value}
+use Rattle.tla_expr.specs.Tree.{Word, Form, name, next, call, Tree, node, no_trees, Every, Each, binders, graft}
 use Rattle.tla_value.specs.Stops.{Check}
-use Rattle.tla_value.specs.Meaning.{Env, just, bind, eval}
+use Rattle.tla_value.specs.Meaning.{Env, just, eval}
 use Rattle.tla_value.specs.Grafts.{primes, read_tree}
 use Rattle.tla_value.proofs.Alike.{Bound}
 use Rattle.tla_value.proofs.Graft.{each_weaker, every_weaker, Fits, graft_law, grafted_law, Uses, Unread, Clear}

@@ -1,17 +1,16 @@
 -- Meanings of small expressions, by computation.
-use Rattle.std.proofs.Common.{◌≡◌, ℕ, pos, negsuc, ◌-◌, ◌^◌, List, [], ◌∷◌, Bool, true, false, Option, Some, None, refl}
+use Rattle.std.proofs.Common.{◌≡◌, ℕ, pos, negsuc, ◌-◌, ◌^◌, List, [], ◌∷◌, true, false, refl}
 use Rattle.std.specs.Prelude.{codes}
 use Rattle.tla_token.specs.declared.place.Place.{Place}
 use Rattle.tla_expr.specs.declared.op.Op.{Op}
-use Rattle.tla_expr.specs.declared.op.Op.TheVariants.{Equal, Plus, Minus, Divide, Modulo, Negate, Range, Subset, Override, MapsTo, Cup, Concat, Greater}
-use Rattle.tla_expr.specs.declared.op.Binder.{Binder}
-use Rattle.tla_expr.specs.declared.op.Binder.TheVariants.{ForAll, Exists, Filter, Image, Function}
-use Rattle.tla_expr.specs.Tree.{Word, index, field, Strict, operator, set_of, tuple, fields, records, functions, apply, select, except, Form, number, quote, truth as literal, booleans, strings, name, strict, call, both, or_else, implies, member, choice, cases, binding, local, Tree, node, Trees, no_trees, tree}
-use Rattle.tla_value.specs.declared.fault.FaultKind.TheVariants.{NotBoolean, NotSet, NotFunction, NotInDomain, BadDivisor, NoCase, EmptySequence, AssertFailed}
-use Rattle.tla_value.specs.Value.{Value, Values, truth, int, text, set, fun, no_values, and, Outcome, good, fault, over, Sense}
+use Rattle.tla_expr.specs.declared.op.Op.TheVariants.{Equal, Plus, Minus, Divide, Modulo, Negate, Range, Subset, Override, MapsTo}
+use Rattle.tla_expr.specs.declared.op.Binder.TheVariants.{Exists, Function}
+use Rattle.tla_expr.specs.Tree.{Word, index, operator, set_of, tuple, fields, functions, apply, select, except, Form, number, quote, truth as literal, name, strict, call, both, member, cases, binding, Tree, node, Trees, no_trees, tree}
+use Rattle.tla_value.specs.declared.fault.FaultKind.TheVariants.{NotSet, NotInDomain, BadDivisor, NoCase, EmptySequence}
+use Rattle.tla_value.specs.Value.{Value, truth, int, Outcome, good, fault, over}
 use Rattle.tla_value.specs.Order.{seq_from}
 use Rattle.tla_value.specs.Limits.{bounded}
-use Rattle.tla_value.specs.Stops.{Check, plain}
+use Rattle.tla_value.specs.Stops.{plain}
 use Rattle.tla_value.specs.Meaning.{eval}
 use Rattle.tla_value.specs.Definitions.{no_state, base}
 

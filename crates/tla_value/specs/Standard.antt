@@ -1,12 +1,12 @@
 -- The operators and sets of the standard modules Naturals, Integers, Sequences, FiniteSets and TLC ("Specifying Systems", chapter 18 and section 14.5.3).
-use Rattle.std.specs.Prelude.{ℕ, zero, suc, ℤ, pos, ◌+ℤ◌, ◌-ℤ◌, Bool, true, false, cond, ◌&&◌, bytes_eq, codes, length, List, [], ◌∷◌, ◌++◌, Option, Some, None}
+use Rattle.std.specs.Prelude.{ℤ, pos, ◌+ℤ◌, ◌-ℤ◌, Bool, true, false, cond, ◌&&◌, bytes_eq, codes, length, List, [], ◌∷◌, ◌++◌, Option, Some, None}
 use Rattle.tla_token.specs.declared.place.Place.{Place}
 use Rattle.tla_expr.specs.Tree.{Word}
 use Rattle.tla_value.specs.declared.fault.FaultKind.TheVariants.{NotSet, EmptySequence, AssertFailed}
 use Rattle.tla_value.specs.Value.{Value, Values, truth, int, set, fun, no_values, and, Outcome, good, fault, Sense, values_in}
 use Rattle.tla_value.specs.Order.{holds, count, seq_from, sequence_of}
-use Rattle.tla_value.specs.Stops.{Check, on_value, on_truth, on_int, on_set, on_fun, on_sequence, on_one, on_two, on_three, misshapen, sense_of}
-use Rattle.tla_value.specs.Sets.{range, natural}
+use Rattle.tla_value.specs.Stops.{Check, on_value, on_truth, on_int, on_set, on_sequence, on_one, on_two, on_three, misshapen, sense_of}
+use Rattle.tla_value.specs.Sets.{range}
 use Rattle.tla_value.specs.Strict.{applied}
 use Rattle.tla_value.specs.Meaning.{only_tested}
 

@@ -1,10 +1,10 @@
 -- What forms make of the values of their parts, which are all evaluated first ("Specifying Systems", sections 16.1.6 to 16.1.10 and 16.2).
-use Rattle.std.specs.Prelude.{ℕ, ℤ, pos, ◌+ℤ◌, ◌-ℤ◌, ◌*ℤ◌, neg_ℤ, int_lt, int_le, Bool, true, false, cond, not, List, [], ◌∷◌, ◌++◌, map, Option, Some, None}
+use Rattle.std.specs.Prelude.{ℤ, pos, ◌+ℤ◌, ◌-ℤ◌, ◌*ℤ◌, neg_ℤ, int_lt, int_le, Bool, cond, not, List, [], ◌∷◌, ◌++◌, map, Option, Some, None}
 use Rattle.std.specs.Int.{int_div_euclid, int_rem_euclid}
 use Rattle.tla_token.specs.declared.place.Place.{Place}
 use Rattle.tla_expr.specs.declared.op.Op.{Op}
 use Rattle.tla_expr.specs.declared.op.Op.TheVariants.{Equivalent, Not, Equal, NotEqual, Less, Greater, AtMost, AtLeast, SubsetEq, Override, MapsTo, Cup, Cap, Without, Subset, Union, Range, Domain, Plus, Modulo, Minus, Negate, Times, Concat, Divide}
-use Rattle.tla_expr.specs.Tree.{Word, Step, index, field, Slot, Strict, operator, set_of, tuple, fields, records, functions, apply, select, except}
+use Rattle.tla_expr.specs.Tree.{Step, index, field, Slot, Strict, operator, set_of, tuple, fields, records, functions, apply, select, except}
 use Rattle.tla_value.specs.declared.fault.FaultKind.TheVariants.{NotInDomain, BadDivisor}
 use Rattle.tla_value.specs.Value.{Value, Values, truth, int, text, set, fun, no_values, and, Outcome, good, fault}
 use Rattle.tla_value.specs.Order.{same, found_at, pairs_of, fun_from, seq_from, record_from, set_from}
