@@ -10,3 +10,4 @@ pub mod Below
 mod RowsMeaning
 pub mod BelowScopes
 pub mod MidState
+pub mod Untested
