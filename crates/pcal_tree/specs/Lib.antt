@@ -1,1 +1,2 @@
 pub mod Algorithm
+pub mod Placeless
