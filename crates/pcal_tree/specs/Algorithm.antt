@@ -110,17 +110,21 @@ pub record Algorithm : Type 0 where
 pub record Routine : Type 0 where
   pub number : ℕ
   pub name : Name
-  pub locals : List Declaration
+  pub params : List Declaration
+  pub variables : List Declaration
   pub spread : Bool
   pub body : Statements
   pub exit : Word                                 -- where the end of the body goes
 
+abbrev pub locals : Routine → List Declaration
+locals u = u.params ++ u.variables
+
 -- in a uniprocess algorithm a procedure's variables are no functions: there is no identifier that they could be applied to
 abbrev pub procedure_routine : ℕ → Procedure → Routine
-procedure_routine n p = record { number = n; name = p.name; locals = p.params ++ p.variables; spread = true; body = p.body; exit = codes "Error" }
+procedure_routine n p = record { number = n; name = p.name; params = p.params; variables = p.variables; spread = true; body = p.body; exit = codes "Error" }
 
 abbrev pub process_routine : ℕ → Process → Routine
-process_routine n p = record { number = n; name = p.name; locals = p.variables; spread = p.several; body = p.body; exit = codes "Done" }
+process_routine n p = record { number = n; name = p.name; params = []; variables = p.variables; spread = p.several; body = p.body; exit = codes "Done" }
 
 abbrev pub numbered : {A B : Type 0} → (ℕ → A → B) → ℕ → List A → List B
 numbered f n [] = []
@@ -136,7 +140,7 @@ abbrev pub procedure_routines : Algorithm → List Routine
 procedure_routines a = numbered procedure_routine (first_procedure a) a.procedures
 
 abbrev pub alone_routine : Algorithm → Statements → Routine
-alone_routine a ss = record { number = first_process a; name = a.name; locals = []; spread = false; body = ss; exit = codes "Done" }
+alone_routine a ss = record { number = first_process a; name = a.name; params = []; variables = []; spread = false; body = ss; exit = codes "Done" }
 
 abbrev pub main_routines : Algorithm → Main → List Routine
 main_routines a (alone ss) = alone_routine a ss ∷ []
