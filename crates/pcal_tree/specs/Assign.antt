@@ -3,7 +3,8 @@ use Rattle.std.specs.Prelude.{List, [], ◌∷◌}
 use Rattle.tla_token.specs.declared.place.Place.{Place}
 use Rattle.tla_expr.specs.Tree.{Word}
 use Rattle.tla_value.specs.Value.{Value}
-use Rattle.pcal_tree.specs.Meaning.{Check, eval, set_at}
+use Rattle.tla_value.specs.Stops.{Check}
+use Rattle.tla_value.specs.Strict.{changed_at}
 use Rattle.pcal_tree.specs.Algorithm.{Moves, no_moves, move}
 use Rattle.pcal_tree.specs.Scope.{State, put, Got, got, on, valued, Part, Scope, reach, root_place, value_of}
 
@@ -15,7 +16,7 @@ pub record Setting : Type 0 where
 
 abbrev pub set_one : Check → Setting → State → (State → Got State) → Got State
 set_one c m s go =
-    valued (set_at m.place m.part.path m.value (s m.part.variable)) (λ w. valued (c m.place w) (λ u. go (put m.part.variable u s)))
+    valued (changed_at m.place m.part.path m.value (s m.part.variable)) (λ w. valued (c m.place w) (λ u. go (put m.part.variable u s)))
 
 -- from left to right
 abbrev pub set_all : Check → List Setting → State → Got State

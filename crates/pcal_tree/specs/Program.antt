@@ -4,15 +4,20 @@ use Rattle.tla_token.specs.declared.place.Place.{Place}
 use Rattle.tla_expr.specs.Tree.{Word}
 use Rattle.tla_value.specs.declared.fault.FaultKind.TheVariants.{NotFunction}
 use Rattle.tla_value.specs.Value.{Value, Outcome, good, Sense}
-use Rattle.pcal_tree.specs.Meaning.{Env, Check, eval, plain, on_value, applied, bind_all}
+use Rattle.tla_value.specs.Stops.{Check, on_value, sense_of}
+use Rattle.tla_value.specs.Strict.{applied}
+use Rattle.tla_value.specs.Meaning.{Env, just}
+use Rattle.tla_value.specs.Definitions.{Look, no_state, scope_of}
+use Rattle.tla_value.specs.Definitions as Outside
 use Rattle.pcal_tree.specs.Algorithm.{Name, Declaration, Definition, declares, Routine, locals, Naming, Algorithm}
 use Rattle.pcal_tree.specs.Scope.{State, faulty, Got, got, bad, Part, Scope}
 
--- a labelled algorithm, with what its meaning rests on: the bounds of values, the meaning of constants, standard operators and definitions
--- outside the algorithm, and the written names
+-- a labelled algorithm, with what its meaning rests on: the limits of values, the constants, the definitions outside the algorithm, and the
+-- written names
 pub record Program : Type 0 where
   pub check : Check
-  pub outside : Env
+  pub constants : Look
+  pub outside : List Outside.Definition
   pub algorithm : Algorithm
   pub naming : Naming
 
@@ -24,35 +29,21 @@ pub record Actor : Type 0 where
 -- ---- variables and definitions
 
 abbrev pub words : List Name → List Word
-words [] = []
-words (x ∷ xs) = x.word ∷ words xs
-
-abbrev pub read_global : State → List Declaration → Env → Word → Place → Sense
-read_global s ds env x at = cond (declares ds x) (plain (good (s x))) (env.now x at)
+words xs = map (λ x. x.word) xs
 
 -- the global variables on a state
-abbrev pub with_globals : Program → State → Env
-with_globals P s = record { now = read_global s P.algorithm.globals P.outside; primed = P.outside.primed; defs = P.outside.defs }
+abbrev pub globals_on : State → List Declaration → Look
+globals_on s ds x = cond (declares ds x) (Some (s x)) None
 
--- a definition without parameters is a name
-abbrev pub define_name : Check → Definition → List Name → Env → Word → Place → Sense
-define_name c d [] env x at = cond (bytes_eq d.name.word x) (plain (eval c d.body env).value) (env.now x at)
-define_name c d (p ∷ ps) env x at = env.now x at
+abbrev pub inner : Definition → Outside.Definition
+inner d = record { title = d.name.word; params = words d.params; body = d.body; outside = false }
 
-abbrev pub define_operator : Check → Definition → List Name → Env → Word → Option (Place → List Value → Outcome)
-define_operator c d [] env x = env.defs x
-define_operator c d (p ∷ ps) env x =
-    cond (bytes_eq d.name.word x) (Some (λ at vs. (eval c d.body (bind_all (words (p ∷ ps)) vs env)).value)) (env.defs x)
+-- names that are no routine's own, where variables have the values of the look-up
+abbrev pub common_env : Program → Look → Env
+common_env P s = scope_of P.check P.constants (P.outside ++ map inner P.algorithm.definitions) s no_state
 
--- each definition sees those before it
-abbrev pub with_definitions : Check → List Definition → Env → Env
-with_definitions c [] env = env
-with_definitions c (d ∷ ds) env =
-    with_definitions c ds (record { now = define_name c d d.params env; primed = env.primed; defs = define_operator c d d.params env })
-
--- the meaning of names that are no routine's own
 abbrev pub global_env : Program → State → Env
-global_env P s = with_definitions P.check P.algorithm.definitions (with_globals P s)
+global_env P s = common_env P (globals_on s P.algorithm.globals)
 
 -- ---- scopes
 
@@ -68,19 +59,19 @@ local_index v u = cond u.spread (index v.self) []
 abbrev pub written : Program → Routine → Word → Word
 written P u x = P.naming.local u.number x
 
--- what a part of a value is
+-- what stands at a path
 abbrev pub read_at : Place → List Value → Value → Outcome
 read_at at [] v = good v
 read_at at (k ∷ ks) f = on_value (applied at f k) (read_at at ks)
 
 abbrev pub read_self : Option Value → Sense → Sense
-read_self (Some v) other = plain (good v)
+read_self (Some v) other = just v
 read_self None other = other
 
 abbrev pub read_name : Program → Actor → Routine → State → Word → Place → Sense
 read_name P v u s x at =
     cond (bytes_eq (codes "self") x) (read_self v.self ((global_env P s).now x at))
-      (cond (declares (locals u) x) (plain (read_at at (local_index v u) (s (written P u x)))) ((global_env P s).now x at))
+      (cond (declares (locals u) x) (sense_of (read_at at (local_index v u) (s (written P u x)))) ((global_env P s).now x at))
 
 abbrev pub global_part : Program → Word → Place → Got Part
 global_part P x at = cond (declares P.algorithm.globals x) (got (record { variable = x; path = [] })) (bad (faulty NotFunction at))
@@ -89,9 +80,9 @@ abbrev pub part_of : Program → Actor → Routine → Word → Place → Got Pa
 part_of P v u x at = cond (declares (locals u) x) (got (record { variable = written P u x; path = local_index v u })) (global_part P x at)
 
 -- `self` is the process's identifier, a routine's own variables stand at it, and others are global
-abbrev pub scope_of : Program → Actor → Routine → Scope
-scope_of P v u = record {
-  env = λ s. record { now = read_name P v u s; primed = P.outside.primed; defs = (global_env P s).defs };
+abbrev pub routine_scope : Program → Actor → Routine → Scope
+routine_scope P v u = record {
+  env = λ s. record { now = read_name P v u s; primed = (global_env P s).primed; defs = (global_env P s).defs };
   part = λ x at s. part_of P v u x at;
   origin = λ x at. at
 }
@@ -100,7 +91,7 @@ scope_of P v u = record {
 abbrev pub global_scope : Program → Scope
 global_scope P = record { env = global_env P; part = λ x at s. global_part P x at; origin = λ x at. at }
 
--- ---- the variables of the translation, in their order
+-- ---- the variables of the translation
 
 abbrev pub pc : Word
 pc = codes "pc"
@@ -109,8 +100,7 @@ abbrev pub stack : Word
 stack = codes "stack"
 
 abbrev pub declared : List Declaration → List Word
-declared [] = []
-declared (d ∷ ds) = d.name.word ∷ declared ds
+declared ds = map (λ d. d.name.word) ds
 
-abbrev pub written_locals : Program → Routine → List Word
-written_locals P u = map (written P u) (declared (locals u))
+abbrev pub written_all : Program → Routine → List Declaration → List Word
+written_all P u ds = map (written P u) (declared ds)

@@ -4,7 +4,8 @@ use Rattle.tla_token.specs.declared.place.Place.{Place}
 use Rattle.tla_expr.specs.Tree.{Word, Trees, no_trees, tree, Graft}
 use Rattle.tla_value.specs.declared.fault.FaultKind.TheVariants.{AssertFailed}
 use Rattle.tla_value.specs.Value.{Value, Values, no_values, and}
-use Rattle.pcal_tree.specs.Meaning.{Check, evals}
+use Rattle.tla_value.specs.Stops.{Check}
+use Rattle.tla_value.specs.Meaning.{evals}
 use Rattle.pcal_tree.specs.Algorithm.{Name, Binds, no_binds, one_of, is, Statement, assign, await, print, assert, skip, branch, either, with, loop, jump, macro, invoke, leave, Statements, done, then, mark, Branches, no_branches, or, Macro}
 use Rattle.pcal_tree.specs.Scope.{State, Trouble, faulty, Got, got, bad, all_valued, Scope, bound, through, places_of, value_of, test, members}
 use Rattle.pcal_tree.specs.Assign.{moved}

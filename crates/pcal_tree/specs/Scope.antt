@@ -5,8 +5,8 @@ use Rattle.tla_expr.specs.Tree.{Word, Strict, apply, select, Form, name, strict,
 use Rattle.tla_value.specs.declared.fault.FaultKind.{FaultKind}
 use Rattle.tla_value.specs.declared.fault.FaultKind.TheVariants.{NotBoolean, NotSet, NotFunction}
 use Rattle.tla_value.specs.Value.{Value, truth, text, set, fun, Values, Outcome, good, fault, over, Sense}
-use Rattle.tla_value.specs.Order.{found_at, changed_at}
-use Rattle.pcal_tree.specs.Meaning.{Env, Den, Check, bind, eval, evals}
+use Rattle.tla_value.specs.Stops.{Check}
+use Rattle.tla_value.specs.Meaning.{Env, Den, bind, eval, evals}
 
 -- ---- states and results
 
