@@ -6,3 +6,4 @@ pub mod Run
 pub mod Choices
 pub mod Begin
 pub mod Program
+pub mod Calls
