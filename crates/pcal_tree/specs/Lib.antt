@@ -7,3 +7,5 @@ pub mod Choices
 pub mod Begin
 pub mod Program
 pub mod Calls
+pub mod Step
+pub mod Mid
