@@ -9,3 +9,4 @@ pub mod Program
 pub mod Calls
 pub mod Step
 pub mod Mid
+pub mod Initial
