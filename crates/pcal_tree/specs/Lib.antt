@@ -10,3 +10,4 @@ pub mod Calls
 pub mod Step
 pub mod Mid
 pub mod Initial
+pub mod Starting
