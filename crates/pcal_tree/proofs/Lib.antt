@@ -1,2 +1,3 @@
 mod Sample
 mod RowsRun
+mod RowsStep

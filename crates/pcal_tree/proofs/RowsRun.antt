@@ -1,14 +1,14 @@
 -- Runs of a uniprocess algorithm, tried by computation.
-use Rattle.std.proofs.Common.{◌≡◌, ℕ, List, [], ◌∷◌, Bool, true, false, codes, Option, Some, None, refl, ◌⊎◌}
-use Rattle.tla_expr.specs.declared.op.Op.TheVariants.{Less, Plus, Divide}
+use Rattle.std.proofs.Common.{◌≡◌, ℕ, List, [], ◌∷◌, codes, Some, None, refl, ◌⊎◌}
+use Rattle.tla_expr.specs.declared.op.Op.TheVariants.{Less, Plus}
 use Rattle.tla_expr.specs.Tree.{Word, set_of, strict, node, no_trees, tree, Tree, truth as literal}
-use Rattle.tla_value.specs.declared.fault.FaultKind.TheVariants.{NotBoolean, AssertFailed, BadDivisor}
-use Rattle.tla_value.specs.Value.{Value, truth, text}
+use Rattle.tla_value.specs.declared.fault.FaultKind.TheVariants.{NotBoolean, AssertFailed}
+use Rattle.tla_value.specs.Value.{text}
 use Rattle.tla_value.specs.Order.{seq_from}
 use Rattle.pcal_tree.specs.Algorithm.{no_moves, move, assign, await, assert, branch, either, with, loop, jump, macro, Statement, Statements, done, no_branches, or, one_of, is, no_binds, Macro, Routine, alone_routine}
 use Rattle.pcal_tree.specs.Scope.{State, put, Got, got, bad, faulty}
 use Rattle.pcal_tree.specs.Run.{Course, Has, run, exit_to}
-use Rattle.pcal_tree.specs.Choices.{walk, went, blocked, wanting, first_trouble}
+use Rattle.pcal_tree.specs.Choices.{walk, went, wanting, first_trouble}
 use Rattle.pcal_tree.specs.Program.{Program, Actor, routine_scope, pc}
 use Rattle.pcal_tree.specs.Calls.{rules_of}
 use Rattle.pcal_tree.proofs.Sample.{at, title, x, y, num, var, over, item, and_next, sets, labelled, an_int, one_body, at_start}
@@ -24,7 +24,7 @@ the_actor P ss = record { self = None; own = the_body P ss }
 abbrev course_in : Program → Statements → State → Course
 course_in P ss s =
     run (rules_of P (the_actor P ss) (the_body P ss)) (codes "A") ss (routine_scope P (the_actor P ss) (the_body P ss))
-      (exit_to (rules_of P (the_actor P ss) (the_body P ss)) (codes "Done")) s
+    (exit_to (rules_of P (the_actor P ss) (the_body P ss)) (codes "Done")) s
 
 abbrev course_from : List Macro → Statements → State → Course
 course_from ms ss s = course_in (one_body ms ss) ss s
@@ -134,7 +134,7 @@ abbrev bump : Macro
 bump = record {
   name = title (codes "M");
   params = title (codes "p") ∷ [];
-  body = and_next (sets (var y) (num 2)) (one (sets (var (codes "p")) (over Plus (var (codes "p")) (num 1))))
+  body = and_next (sets (var y) (num 2)) (one (sets (var (codes "p")) (over Plus (var (codes "p")) (num 1))));
 }
 
 -- M(x[y]) on y = 1: the argument is read anew, so the second part changes

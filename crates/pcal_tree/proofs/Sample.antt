@@ -1,14 +1,12 @@
 -- Small algorithms on which the definitions are tried.
-use Rattle.std.specs.Prelude.{ℕ, pos, List, [], ◌∷◌, Bool, true, false, codes, Option, Some, None}
+use Rattle.std.specs.Prelude.{ℕ, pos, List, [], ◌∷◌, false, codes, None}
 use Rattle.tla_token.specs.declared.place.Place.{Place}
 use Rattle.tla_expr.specs.declared.op.Op.{Op}
-use Rattle.tla_expr.specs.Tree.{Word, operator, apply, number, name, strict, Tree, node, Trees, no_trees, tree}
+use Rattle.tla_expr.specs.Tree.{Word, operator, apply, number, name, strict, Tree, node, no_trees, tree}
 use Rattle.tla_value.specs.Value.{Value, truth, int, text}
-use Rattle.tla_value.specs.Order.{seq_from}
 use Rattle.tla_value.specs.Stops.{plain}
 use Rattle.pcal_tree.specs.declared.mark.Mark.TheVariants.{Plain}
-use Rattle.pcal_tree.specs.declared.mark.Fairness.TheVariants.{Unfair}
-use Rattle.pcal_tree.specs.Algorithm.{Name, Span, Moves, no_moves, move, Statement, assign, Statements, done, then, mark, Start, equals, among, Declaration, Macro, Procedure, Process, Main, alone, processes, Algorithm, Naming}
+use Rattle.pcal_tree.specs.Algorithm.{Name, no_moves, move, Statement, assign, Statements, then, mark, equals, Declaration, Macro, alone, Algorithm, Naming}
 use Rattle.pcal_tree.specs.Scope.{State, put}
 use Rattle.pcal_tree.specs.Program.{Program, pc}
 
@@ -68,7 +66,7 @@ one_body ms ss = program (record {
   definitions = [];
   macros = ms;
   procedures = [];
-  main = alone ss
+  main = alone ss;
 })
 
 -- x = 0, y = 0, and pc is at a label

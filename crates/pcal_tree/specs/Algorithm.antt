@@ -1,5 +1,5 @@
 -- Algorithms as trees, the same for both syntaxes ("A PlusCal User's Manual", sections 2 and 3 and appendix A).
-use Rattle.std.specs.Prelude.{ℕ, zero, suc, ◌+◌, List, [], ◌∷◌, ◌++◌, Bool, true, false, Option, Some, None, length, bytes_eq, cond, codes}
+use Rattle.std.specs.Prelude.{ℕ, suc, ◌+◌, List, [], ◌∷◌, ◌++◌, Bool, true, false, length, bytes_eq, cond, codes}
 use Rattle.tla_token.specs.declared.place.Place.{Place}
 use Rattle.tla_expr.specs.Tree.{Word, Tree, Trees}
 use Rattle.pcal_tree.specs.declared.mark.Mark.{Mark}
@@ -25,29 +25,29 @@ pub data Moves : Type 0 where
 -- x \in S, y = e: what a `with` names
 pub data Binds : Type 0 where
   no_binds : Binds
-  one_of : Name → Tree → Binds → Binds            -- x \in S
-  is : Name → Tree → Binds → Binds                -- x = e
+  one_of : Name → Tree → Binds → Binds  -- x \in S
+  is : Name → Tree → Binds → Binds  -- x = e
 
 mutual
   pub data Statement : Type 0 where
     assign : Moves → Statement
-    await : Tree → Statement                      -- also `when`
+    await : Tree → Statement  -- also `when`
     print : Tree → Statement
     assert : Tree → Statement
     skip : Statement
-    branch : Tree → Statements → Statements → Statement     -- if; a missing `else` is an empty list
+    branch : Tree → Statements → Statements → Statement  -- if; a missing `else` is an empty list
     either : Branches → Statement
     with : Binds → Statements → Statement
-    loop : Tree → Statements → Statement          -- while
-    jump : Word → Statement                       -- goto
-    macro : Word → Trees → Statement              -- M(a, b)
-    invoke : Name → Trees → Statement             -- call P(a, b)
-    leave : Statement                             -- return
+    loop : Tree → Statements → Statement  -- while
+    jump : Word → Statement  -- goto
+    macro : Word → Trees → Statement  -- M(a, b)
+    invoke : Name → Trees → Statement  -- call P(a, b)
+    leave : Statement  -- return
 
   pub data Statements : Type 0 where
     done : Statements
     then : Span → Statement → Statements → Statements
-    mark : Name → Mark → Statements → Statements            -- a label before the rest
+    mark : Name → Mark → Statements → Statements  -- a label before the rest
 
   pub data Branches : Type 0 where
     no_branches : Branches
@@ -57,8 +57,8 @@ mutual
 
 pub data Start : Type 0 where
   unset : Start
-  equals : Tree → Start                           -- x = e
-  among : Tree → Start                            -- x \in S
+  equals : Tree → Start  -- x = e
+  among : Tree → Start  -- x \in S
 
 -- a variable, or a procedure's parameter
 pub record Declaration : Type 0 where
@@ -85,8 +85,8 @@ pub record Procedure : Type 0 where
 pub record Process : Type 0 where
   pub name : Name
   pub fairness : Fairness
-  pub several : Bool                              -- one for each member of a set, `P \in S`, and not a single one, `P = e`
-  pub identity : Tree                             -- the set, or the one identifier
+  pub several : Bool  -- one for each member of a set, `P \in S`, and not a single one, `P = e`
+  pub identity : Tree  -- the set, or the one identifier
   pub variables : List Declaration
   pub body : Statements
 
@@ -97,7 +97,7 @@ pub data Main : Type 0 where
 
 pub record Algorithm : Type 0 where
   pub name : Name
-  pub fair : Bool                                 -- --fair algorithm
+  pub fair : Bool  -- --fair algorithm
   pub globals : List Declaration
   pub definitions : List Definition
   pub macros : List Macro
@@ -114,7 +114,7 @@ pub record Routine : Type 0 where
   pub variables : List Declaration
   pub spread : Bool
   pub body : Statements
-  pub exit : Word                                 -- where the end of the body goes
+  pub exit : Word  -- where the end of the body goes
 
 abbrev pub locals : Routine → List Declaration
 locals u = u.params ++ u.variables

@@ -1,7 +1,6 @@
 -- Assignments to parts of variables ("A PlusCal User's Manual", section 3.2.1).
 use Rattle.std.specs.Prelude.{List, [], ◌∷◌}
 use Rattle.tla_token.specs.declared.place.Place.{Place}
-use Rattle.tla_expr.specs.Tree.{Word}
 use Rattle.tla_value.specs.Value.{Value}
 use Rattle.tla_value.specs.Stops.{Check}
 use Rattle.tla_value.specs.Strict.{changed_at}
@@ -28,7 +27,7 @@ abbrev pub settings : Check → Moves → Scope → State → (List Setting → 
 settings c no_moves sc s go = go []
 settings c (move l e ms) sc s go =
     on (reach c l sc s) (λ p. on (value_of c e sc s) (λ v.
-      settings c ms sc s (λ rest. go (record { place = root_place l; part = p; value = v } ∷ rest))))
+    settings c ms sc s (λ rest. go (record { place = root_place l; part = p; value = v } ∷ rest))))
 
 -- x := a || y[i] := b
 abbrev pub moved : Check → Moves → Scope → State → Got State

@@ -1,7 +1,7 @@
 -- Where a step begins: the statements behind a label, and the exit of their sequence ("A PlusCal User's Manual", sections 3.1 and 3.2).
-use Rattle.std.specs.Prelude.{List, [], ◌∷◌, cond, bytes_eq, Option, Some, None}
+use Rattle.std.specs.Prelude.{cond, bytes_eq, Option, Some, None}
 use Rattle.tla_expr.specs.Tree.{Word}
-use Rattle.pcal_tree.specs.Algorithm.{Statement, assign, await, print, assert, skip, branch, either, with, loop, jump, macro, invoke, leave, Statements, done, then, mark, Branches, no_branches, or, Routine}
+use Rattle.pcal_tree.specs.Algorithm.{Statement, branch, either, with, loop, Statements, done, then, mark, Branches, no_branches, or, Routine}
 use Rattle.pcal_tree.specs.Run.{unlabelled, label_of}
 use Rattle.pcal_tree.specs.Choices.{or_else}
 

@@ -1,16 +1,16 @@
 -- Jumps, calls and returns, and with them the rules of a step ("A PlusCal User's Manual", sections 3.2.8, 3.2.9 and 3.5).
-use Rattle.std.specs.Prelude.{List, [], ◌∷◌, ◌++◌, cond, bytes_eq, codes, Option, Some, None, ◌||◌, reverse, map}
+use Rattle.std.specs.Prelude.{List, [], ◌∷◌, ◌++◌, cond, bytes_eq, codes, Option, Some, None, ◌||◌, reverse}
 use Rattle.tla_token.specs.declared.place.Place.{Place}
 use Rattle.tla_expr.specs.Tree.{Word}
 use Rattle.tla_value.specs.declared.fault.FaultKind.TheVariants.{NotFunction, NotSequence, EmptySequence}
-use Rattle.tla_value.specs.Value.{Value, text, model, Outcome}
+use Rattle.tla_value.specs.Value.{Value, text, model}
 use Rattle.tla_value.specs.Order.{seq_from, sequence_of, record_from}
 use Rattle.tla_value.specs.Strict.{applied}
 use Rattle.pcal_tree.specs.Algorithm.{Start, unset, equals, among, Declaration, Routine, locals, procedure_routines}
-use Rattle.pcal_tree.specs.Scope.{State, Trouble, faulty, Got, got, bad, on, valued, place_of, value_of}
+use Rattle.pcal_tree.specs.Scope.{State, faulty, Got, got, bad, on, valued, place_of, value_of}
 use Rattle.pcal_tree.specs.Assign.{Setting, set_all}
 use Rattle.pcal_tree.specs.Run.{Course, ends, stops, held, Rules, with_macros, label_of}
-use Rattle.pcal_tree.specs.Program.{Program, Actor, index, local_index, written, read_at, routine_scope, pc, stack, declared, written_all}
+use Rattle.pcal_tree.specs.Program.{Program, Actor, index, local_index, written, read_at, routine_scope, pc, stack, written_all}
 
 -- ---- labels
 
@@ -67,27 +67,27 @@ abbrev pub initial_value : Program → Actor → Routine → Place → Start →
 initial_value P v p at unset s go = go at default
 initial_value P v p at (equals e) s go =
     on (value_of P.check e (routine_scope P v p) s) (go (place_of e (routine_scope P v p)))
-initial_value P v p at (among e) s go = bad (faulty NotFunction at)     -- a procedure's variable has no set
+initial_value P v p at (among e) s go = bad (faulty NotFunction at)  -- a procedure's variable has no set
 
 -- variables get their initial values, each reading what was set before
 abbrev pub variables_started : Program → Actor → Routine → Place → List Declaration → State → (State → Got State) → Got State
 variables_started P v p at [] s go = go s
 variables_started P v p at (d ∷ ds) s go =
     initial_value P v p at d.start s (λ place w.
-      on (set_all P.check (setting place (written P p d.name.word) (local_index v p) w ∷ []) s) (λ u. variables_started P v p at ds u go))
+    on (set_all P.check (setting place (written P p d.name.word) (local_index v p) w ∷ []) s) (λ u. variables_started P v p at ds u go))
 
 -- a call of procedure p whose return goes to `back`: the old values of p's parameters and variables go on the stack, parameters get the
 -- arguments, then variables their initial values, and pc becomes p's first label
 abbrev pub entered : Program → Actor → Place → Value → Routine → List Place → List Value → State → Got State
 entered P v at back p places vs s =
     all_read at (local_index v p) (written_all P p (locals p)) s (λ olds.
-      valued (P.check at (frame P p back olds)) (λ front.
-        on_stack v at s (λ frames.
-          valued (P.check at (seq_from (front ∷ frames))) (λ new.
-            on (set_all P.check
-                 (setting at stack (index v.self) new ∷ argument_settings (local_index v p) (written_all P p p.params) places vs) s) (λ u.
-              variables_started P v p at p.variables u (λ w.
-                set_all P.check (setting at pc (index v.self) (label_value P p (first_label p)) ∷ []) w))))))
+    valued (P.check at (frame P p back olds)) (λ front.
+    on_stack v at s (λ frames.
+    valued (P.check at (seq_from (front ∷ frames))) (λ new.
+    on (set_all P.check
+    (setting at stack (index v.self) new ∷ argument_settings (local_index v p) (written_all P p p.params) places vs) s) (λ u.
+    variables_started P v p at p.variables u (λ w.
+    set_all P.check (setting at pc (index v.self) (label_value P p (first_label p)) ∷ []) w))))))
 
 -- ---- returns
 
@@ -104,11 +104,11 @@ abbrev pub restored : Program → Actor → Place → Routine → List Value →
 restored P v at p [] s = bad (faulty EmptySequence at)
 restored P v at p (front ∷ frames) s =
     fields_read at (codes "pc" ∷ []) front (λ label.
-      fields_read at (written_all P p (locals p)) front (λ vs.
-        set_all P.check
-          (part_settings at (index v.self) (pc ∷ []) label
-            ++ part_settings at (local_index v p) (written_all P p (locals p)) vs
-            ++ (setting at stack (index v.self) (seq_from frames) ∷ [])) s))
+    fields_read at (written_all P p (locals p)) front (λ vs.
+    set_all P.check
+    (part_settings at (index v.self) (pc ∷ []) label
+    ++ part_settings at (local_index v p) (written_all P p (locals p)) vs
+    ++ (setting at stack (index v.self) (seq_from frames) ∷ [])) s))
 
 -- a return in procedure p: the first record is taken off the stack
 abbrev pub returned : Program → Actor → Place → Routine → State → Got State
@@ -121,7 +121,7 @@ finished (got t) = ends t
 finished (bad k) = stops k
 
 abbrev pub entered_at : Program → Actor → Place → Value → Option Routine → List Place → List Value → State → Course
-entered_at P v at back None places vs s = held at     -- no such procedure
+entered_at P v at back None places vs s = held at  -- no such procedure
 entered_at P v at back (Some p) places vs s = finished (entered P v at back p places vs s)
 
 abbrev pub named : Word → List Routine → Option Routine
@@ -135,5 +135,5 @@ rules_of P v u = with_macros (record {
   go = λ l s. finished (jumped P v u l s);
   enter = λ at p places vs back s. entered_at P v at (label_value P u back) (named p (procedure_routines P.algorithm)) places vs s;
   quit = λ at s. finished (returned P v at u s);
-  macros = λ at m ts sc K s. held at
+  macros = λ at m ts sc K s. held at;
 }) (reverse P.algorithm.macros)

@@ -6,10 +6,10 @@ use Rattle.pcal_tree.specs.Run.{Course, ends, stops, chooses, Courses, no_course
 
 -- what comes of a list of choices, each the number, from 1, of a branch or of a member of the set
 pub data Walk : Type 0 where
-  went : State → List ℕ → Walk            -- the end, with the choices that are left over
+  went : State → List ℕ → Walk  -- the end, with the choices that are left over
   failed : Trouble → Walk
-  blocked : Place → Walk                  -- a false `await`, or an empty set
-  wanting : ℕ → Place → Walk              -- a choice that is missing, or is none of so many courses
+  blocked : Place → Walk  -- a false `await`, or an empty set
+  wanting : ℕ → Place → Walk  -- a choice that is missing, or is none of so many courses
 
 abbrev pub count_courses : Courses → ℕ
 count_courses no_courses = 0

@@ -2,16 +2,16 @@
 use Rattle.std.specs.Prelude.{◌≡◌, ◌==◌, List, [], ◌∷◌, Bool, true, false, cond}
 use Rattle.std.specs.Ordering.{is_eq}
 use Rattle.tla_token.specs.declared.place.Place.{Place}
-use Rattle.tla_expr.specs.Tree.{Word, Tree}
+use Rattle.tla_expr.specs.Tree.{Tree}
 use Rattle.tla_value.specs.declared.fault.FaultKind.{FaultKind}
 use Rattle.tla_value.specs.Value.{Value, fun, Values, no_values, and, values_in}
 use Rattle.tla_value.specs.Order.{same, orders, holds, seq_from}
 use Rattle.tla_value.specs.Meaning.{eval}
-use Rattle.pcal_tree.specs.Algorithm.{Name, Start, unset, equals, among, Declaration, Main, alone, processes, Routine, locals, procedure_routines, main_routines}
+use Rattle.pcal_tree.specs.Algorithm.{Start, unset, equals, among, Declaration, Main, alone, processes, Routine, locals, procedure_routines, main_routines}
 use Rattle.pcal_tree.specs.Scope.{State, Trouble, faulty, Got, got, bad, on, valued, Scope, value_of, truth_at, members_at}
 use Rattle.pcal_tree.specs.Program.{Program, Actor, written, routine_scope, global_scope, pc, stack}
 use Rattle.pcal_tree.specs.Calls.{default, first_label, label_value}
-use Rattle.pcal_tree.specs.Step.{actors, identifiers, OneOf}
+use Rattle.pcal_tree.specs.Step.{actors, identifiers}
 
 -- ---- one value
 
@@ -115,10 +115,10 @@ pc_allowed P vs s = own_allowed P.algorithm.main vs (λ v. label_value P v.own (
 abbrev pub allowed : Program → State → Got Bool
 allowed P s =
     on (actors P) (λ vs.
-      and_then (globals_allowed P P.algorithm.globals s)
-        (and_then (procedures_allowed P vs (procedure_routines P.algorithm) s)
-          (and_then (processes_allowed P vs (main_routines P.algorithm P.algorithm.main) s)
-            (and_then (got (stack_allowed P (procedure_routines P.algorithm) vs s)) (got (pc_allowed P vs s))))))
+    and_then (globals_allowed P P.algorithm.globals s)
+    (and_then (procedures_allowed P vs (procedure_routines P.algorithm) s)
+    (and_then (processes_allowed P vs (main_routines P.algorithm P.algorithm.main) s)
+    (and_then (got (stack_allowed P (procedure_routines P.algorithm) vs s)) (got (pc_allowed P vs s))))))
 
 abbrev pub Initial : Program → State → Type 0
 Initial P s = allowed P s ≡ got true

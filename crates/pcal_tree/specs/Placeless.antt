@@ -1,7 +1,7 @@
 -- Algorithms without their places, in which the trees of one algorithm in the two syntaxes are equal.
 use Rattle.std.specs.Prelude.{List, [], ◌∷◌}
 use Rattle.tla_token.specs.declared.place.Place.{Place}
-use Rattle.tla_expr.specs.Tree.{Word, Slot, Strict, except, Form, strict, Tree, node, Trees, no_trees, tree}
+use Rattle.tla_expr.specs.Tree.{Slot, Strict, except, Form, strict, Tree, node, Trees, no_trees, tree}
 use Rattle.pcal_tree.specs.Algorithm.{Name, Span, Moves, no_moves, move, Binds, no_binds, one_of, is, Statement, assign, await, print, assert, skip, branch, either, with, loop, jump, macro, invoke, leave, Statements, done, then, mark, Branches, no_branches, or, Start, unset, equals, among, Declaration, Definition, Macro, Procedure, Process, Main, alone, processes, Algorithm}
 
 -- the place that stands for all
@@ -97,7 +97,7 @@ procedures_placeless (p ∷ ps) = record {
   name = name_placeless p.name;
   params = declarations_placeless p.params;
   variables = declarations_placeless p.variables;
-  body = statements_placeless p.body
+  body = statements_placeless p.body;
 } ∷ procedures_placeless ps
 
 abbrev pub processes_placeless : List Process → List Process
@@ -108,7 +108,7 @@ processes_placeless (p ∷ ps) = record {
   several = p.several;
   identity = tree_placeless p.identity;
   variables = declarations_placeless p.variables;
-  body = statements_placeless p.body
+  body = statements_placeless p.body;
 } ∷ processes_placeless ps
 
 abbrev pub main_placeless : Main → Main
@@ -123,5 +123,5 @@ placeless a = record {
   definitions = definitions_placeless a.definitions;
   macros = macros_placeless a.macros;
   procedures = procedures_placeless a.procedures;
-  main = main_placeless a.main
+  main = main_placeless a.main;
 }

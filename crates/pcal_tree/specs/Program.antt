@@ -1,5 +1,5 @@
 -- What names mean in a routine that a process runs ("A PlusCal User's Manual", sections 3.4 to 3.6 and 5).
-use Rattle.std.specs.Prelude.{List, [], ◌∷◌, ◌++◌, Bool, true, false, cond, bytes_eq, codes, Option, Some, None, map}
+use Rattle.std.specs.Prelude.{List, [], ◌∷◌, ◌++◌, false, cond, bytes_eq, codes, Option, Some, None, map}
 use Rattle.tla_token.specs.declared.place.Place.{Place}
 use Rattle.tla_expr.specs.Tree.{Word}
 use Rattle.tla_value.specs.declared.fault.FaultKind.TheVariants.{NotFunction}
@@ -71,7 +71,7 @@ read_self None other = other
 abbrev pub read_name : Program → Actor → Routine → State → Word → Place → Sense
 read_name P v u s x at =
     cond (bytes_eq (codes "self") x) (read_self v.self ((global_env P s).now x at))
-      (cond (declares (locals u) x) (sense_of (read_at at (local_index v u) (s (written P u x)))) ((global_env P s).now x at))
+    (cond (declares (locals u) x) (sense_of (read_at at (local_index v u) (s (written P u x)))) ((global_env P s).now x at))
 
 abbrev pub global_part : Program → Word → Place → Got Part
 global_part P x at = cond (declares P.algorithm.globals x) (got (record { variable = x; path = [] })) (bad (faulty NotFunction at))
@@ -84,7 +84,7 @@ abbrev pub routine_scope : Program → Actor → Routine → Scope
 routine_scope P v u = record {
   env = λ s. record { now = read_name P v u s; primed = (global_env P s).primed; defs = (global_env P s).defs };
   part = λ x at s. part_of P v u x at;
-  origin = λ x at. at
+  origin = λ x at. at;
 }
 
 -- outside all routines

@@ -1,7 +1,7 @@
 -- What statements do within one step: all courses that they can take ("A PlusCal User's Manual", section 3).
-use Rattle.std.specs.Prelude.{◌≡◌, List, [], ◌∷◌, Bool, true, false, cond, bytes_eq, Option, Some, None, ◌⊎◌}
+use Rattle.std.specs.Prelude.{◌≡◌, List, [], ◌∷◌, cond, bytes_eq, Some, None, ◌⊎◌}
 use Rattle.tla_token.specs.declared.place.Place.{Place}
-use Rattle.tla_expr.specs.Tree.{Word, Trees, no_trees, tree, Graft}
+use Rattle.tla_expr.specs.Tree.{Word, Trees, tree, Graft}
 use Rattle.tla_value.specs.declared.fault.FaultKind.TheVariants.{AssertFailed}
 use Rattle.tla_value.specs.Value.{Value, Values, no_values, and}
 use Rattle.tla_value.specs.Stops.{Check}
@@ -128,8 +128,8 @@ abbrev pub called : Rules → List Macro → Calling
 called M [] at m ts sc K s = held at
 called M (d ∷ older) at m ts sc K s =
     cond (bytes_eq d.name.word m)
-      (run (with_calls M (called M older)) unlabelled d.body (through M.check (arguments d.params ts) sc) K)
-      (called M older at m ts sc K) s
+    (run (with_calls M (called M older)) unlabelled d.body (through M.check (arguments d.params ts) sc) K)
+    (called M older at m ts sc K) s
 
 -- M's own macros are not looked at
 abbrev pub with_macros : Rules → List Macro → Rules

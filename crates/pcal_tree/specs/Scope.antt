@@ -1,10 +1,10 @@
 -- States, and what names stand for where a statement stands ("A PlusCal User's Manual", section 3).
-use Rattle.std.specs.Prelude.{List, [], ◌∷◌, ◌++◌, Bool, true, false, cond, bytes_eq, Option, Some, None}
+use Rattle.std.specs.Prelude.{List, [], ◌∷◌, ◌++◌, Bool, cond, bytes_eq, Option, Some, None}
 use Rattle.tla_token.specs.declared.place.Place.{Place}
-use Rattle.tla_expr.specs.Tree.{Word, Strict, apply, select, Form, name, strict, Tree, node, Trees, no_trees, tree, Graft}
+use Rattle.tla_expr.specs.Tree.{Word, apply, select, Form, name, strict, Tree, node, Trees, no_trees, tree, Graft}
 use Rattle.tla_value.specs.declared.fault.FaultKind.{FaultKind}
 use Rattle.tla_value.specs.declared.fault.FaultKind.TheVariants.{NotBoolean, NotSet, NotFunction}
-use Rattle.tla_value.specs.Value.{Value, truth, text, set, fun, Values, Outcome, good, fault, over, Sense}
+use Rattle.tla_value.specs.Value.{Value, truth, text, set, Values, Outcome, good, fault, over, Sense}
 use Rattle.tla_value.specs.Stops.{Check}
 use Rattle.tla_value.specs.Meaning.{Env, Den, bind, eval, evals}
 
@@ -117,7 +117,7 @@ abbrev pub through : Check → Graft → Scope → Scope
 through c g sc = record {
   env = λ s. record { now = λ x at. read_in c (g x at) x at (sc.env s); primed = (sc.env s).primed; defs = (sc.env s).defs };
   part = λ x at s. reach_in c (g x at) x at sc s;
-  origin = λ x at. origin_in (g x at) x at sc
+  origin = λ x at. origin_in (g x at) x at sc;
 }
 
 -- ---- what statements need of expressions

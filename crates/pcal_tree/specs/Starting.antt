@@ -4,7 +4,7 @@ use Rattle.tla_token.specs.declared.place.Place.{Place}
 use Rattle.tla_expr.specs.Tree.{Word}
 use Rattle.tla_value.specs.Value.{Value, truth, fun, Values, no_values, and, values_in}
 use Rattle.pcal_tree.specs.Algorithm.{Start, unset, equals, among, Declaration, Main, alone, processes, Routine, locals, procedure_routines, main_routines}
-use Rattle.pcal_tree.specs.Scope.{State, put, Got, got, on, valued, Scope, value_of, members_at}
+use Rattle.pcal_tree.specs.Scope.{State, put, got, on, valued, Scope, value_of, members_at}
 use Rattle.pcal_tree.specs.Run.{Course, ends, chooses, after, at_each}
 use Rattle.pcal_tree.specs.Program.{Program, Actor, written, routine_scope, global_scope, pc, stack}
 use Rattle.pcal_tree.specs.Calls.{default, first_label, label_value}
@@ -78,7 +78,7 @@ nothing x = truth false
 abbrev pub started : Program → Course
 started P =
     after (actors P) (λ vs.
-      globals_begun P P.algorithm.globals nothing (λ s.
-        procedures_begun P vs (procedure_routines P.algorithm) s (λ t.
-          processes_begun P vs (main_routines P.algorithm P.algorithm.main) t (λ u.
-            ends (pc_begun P vs (stack_begun P (procedure_routines P.algorithm) vs u))))))
+    globals_begun P P.algorithm.globals nothing (λ s.
+    procedures_begun P vs (procedure_routines P.algorithm) s (λ t.
+    processes_begun P vs (main_routines P.algorithm P.algorithm.main) t (λ u.
+    ends (pc_begun P vs (stack_begun P (procedure_routines P.algorithm) vs u))))))

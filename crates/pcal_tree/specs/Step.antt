@@ -1,15 +1,15 @@
 -- Processes and their steps, and what goes wrong in them ("A PlusCal User's Manual", sections 3.1 and 3.4).
-use Rattle.std.specs.Prelude.{◌≡◌, ℕ, zero, suc, List, [], ◌∷◌, ◌++◌, Bool, true, false, cond, codes, Option, Some, None, ◌⊎◌, map}
+use Rattle.std.specs.Prelude.{◌≡◌, ℕ, suc, List, [], ◌∷◌, ◌++◌, Bool, true, false, cond, codes, Option, Some, None, ◌⊎◌, map}
 use Rattle.std.specs.Ordering.{is_lt}
 use Rattle.tla_token.specs.declared.place.Place.{Place}
 use Rattle.tla_expr.specs.Tree.{Word, Each}
 use Rattle.tla_value.specs.declared.fault.FaultKind.{FaultKind}
 use Rattle.tla_value.specs.declared.fault.FaultKind.TheVariants.{SameIdentifier}
 use Rattle.tla_value.specs.Value.{Value, truth, set, Values, no_values, and, text}
-use Rattle.tla_value.specs.Order.{order, same, set_from, listed}
+use Rattle.tla_value.specs.Order.{order, same, set_from}
 use Rattle.tla_value.specs.Definitions.{no_state}
 use Rattle.tla_value.specs.Meaning.{eval}
-use Rattle.pcal_tree.specs.Algorithm.{Statement, assign, await, print, assert, skip, branch, either, with, loop, jump, macro, invoke, leave, Statements, done, then, mark, Branches, no_branches, or, Process, Main, alone, processes, Routine, locals, Algorithm, procedure_routines, process_routine, alone_routine, first_process, main_routines}
+use Rattle.pcal_tree.specs.Algorithm.{Statement, branch, either, with, loop, Statements, done, then, mark, Branches, no_branches, or, Process, Main, alone, processes, Routine, locals, procedure_routines, process_routine, alone_routine, first_process, main_routines}
 use Rattle.pcal_tree.specs.Scope.{State, Trouble, faulty, Got, got, bad, on, valued, members_at, root_place}
 use Rattle.pcal_tree.specs.Run.{Course, Has, run, exit_to}
 use Rattle.pcal_tree.specs.Choices.{or_else, first_trouble}
@@ -31,7 +31,7 @@ stack_for (u ∷ us) = stack ∷ []
 abbrev pub vars : Program → List Word
 vars P =
     declared P.algorithm.globals ++ (pc ∷ stack_for (procedure_routines P.algorithm))
-      ++ written_by_all P (procedure_routines P.algorithm) ++ written_by_all P (main_routines P.algorithm P.algorithm.main)
+    ++ written_by_all P (procedure_routines P.algorithm) ++ written_by_all P (main_routines P.algorithm P.algorithm.main)
 
 -- the same value at each of the names
 abbrev pub Agree : List Word → State → State → Type 0
@@ -59,7 +59,7 @@ all_actors P n (p ∷ ps) =
 
 abbrev pub identifier : Option Value → Value
 identifier (Some v) = v
-identifier None = truth false     -- the one body has none
+identifier None = truth false  -- the one body has none
 
 abbrev pub identifiers : List Actor → List Value
 identifiers vs = map (λ v. identifier v.self) vs
@@ -94,7 +94,7 @@ abbrev pub actors_in : Program → Main → Got (List Actor)
 actors_in P (alone ss) = got (record { self = None; own = alone_routine P.algorithm ss } ∷ [])
 actors_in P (processes ps) =
     on (all_actors P (first_process P.algorithm) ps) (λ vs. on (apart [] vs) (λ ws.
-      on (united P (last_place P.algorithm.name.place ps) ws) (λ us. got (sorted us))))
+    on (united P (last_place P.algorithm.name.place ps) ws) (λ us. got (sorted us))))
 
 -- the processes in canonical order, each with its identifier; or why they have none
 abbrev pub actors : Program → Got (List Actor)
