@@ -1,3 +1,4 @@
 mod Sample
 mod RowsRun
 mod RowsStep
+mod Choices

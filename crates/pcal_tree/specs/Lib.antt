@@ -11,3 +11,4 @@ pub mod Step
 pub mod Mid
 pub mod Initial
 pub mod Starting
+pub mod Script
