@@ -5,6 +5,10 @@ use Rattle.tla_expr.specs.Tree.{Word, Tree, Trees}
 use Rattle.pcal_tree.specs.declared.mark.Mark.{Mark}
 use Rattle.pcal_tree.specs.declared.mark.Fairness.{Fairness}
 
+-- the place of what stands nowhere
+abbrev pub nowhere : Place
+nowhere = record { line = 0; col = 0 }
+
 -- ---- statements
 
 -- a word where it stands, as a name that is declared or a label

@@ -135,5 +135,5 @@ rules_of P v u = with_macros (record {
   go = λ l s. finished (jumped P v u l s);
   enter = λ at p places vs back s. entered_at P v at (label_value P u back) (named p (procedure_routines P.algorithm)) places vs s;
   quit = λ at s. finished (returned P v at u s);
-  macros = λ at m ts sc K s. held at;
+  macros = λ here at m ts sc K s. held at;
 }) (reverse P.algorithm.macros)

@@ -9,7 +9,7 @@ use Rattle.tla_value.specs.Strict.{applied}
 use Rattle.tla_value.specs.Meaning.{Env, just}
 use Rattle.tla_value.specs.Definitions.{Look, no_state, scope_of}
 use Rattle.tla_value.specs.Definitions as Outside
-use Rattle.pcal_tree.specs.Algorithm.{Name, Declaration, Definition, declares, Routine, locals, Naming, Algorithm}
+use Rattle.pcal_tree.specs.Algorithm.{nowhere, Name, Declaration, Definition, declares, Routine, locals, Naming, Algorithm}
 use Rattle.pcal_tree.specs.Scope.{State, faulty, Got, got, bad, Part, Scope}
 
 -- a labelled algorithm, with what its meaning rests on: the limits of values, the constants, the definitions outside the algorithm, and the
@@ -73,23 +73,23 @@ read_name P v u s x at =
     cond (bytes_eq (codes "self") x) (read_self v.self ((global_env P s).now x at))
     (cond (declares (locals u) x) (sense_of (read_at at (local_index v u) (s (written P u x)))) ((global_env P s).now x at))
 
-abbrev pub global_part : Program → Word → Place → Got Part
-global_part P x at = cond (declares P.algorithm.globals x) (got (record { variable = x; path = [] })) (bad (faulty NotFunction at))
+abbrev pub global_part : Program → Word → Got Part
+global_part P x = cond (declares P.algorithm.globals x) (got (record { variable = x; path = [] })) (bad (faulty NotFunction nowhere))
 
-abbrev pub part_of : Program → Actor → Routine → Word → Place → Got Part
-part_of P v u x at = cond (declares (locals u) x) (got (record { variable = written P u x; path = local_index v u })) (global_part P x at)
+abbrev pub part_of : Program → Actor → Routine → Word → Got Part
+part_of P v u x = cond (declares (locals u) x) (got (record { variable = written P u x; path = local_index v u })) (global_part P x)
 
 -- `self` is the process's identifier, a routine's own variables stand at it, and others are global
 abbrev pub routine_scope : Program → Actor → Routine → Scope
 routine_scope P v u = record {
   env = λ s. record { now = read_name P v u s; primed = (global_env P s).primed; defs = (global_env P s).defs };
-  part = λ x at s. part_of P v u x at;
+  part = λ x at s. part_of P v u x;
   origin = λ x at. at;
 }
 
 -- outside all routines
 abbrev pub global_scope : Program → Scope
-global_scope P = record { env = global_env P; part = λ x at s. global_part P x at; origin = λ x at. at }
+global_scope P = record { env = global_env P; part = λ x at s. global_part P x; origin = λ x at. at }
 
 -- ---- the variables of the translation
 

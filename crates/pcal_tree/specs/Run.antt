@@ -53,13 +53,14 @@ pub record Follow : Type 0 where
   pub label : Word
   pub goes : State → Course
 
--- what a step does but for its statements: limits, a jump to a label, a call with its arguments' places and values, a return, and macros
+-- what a step does but for its statements: limits, a jump to a label, a call with its arguments' places and values, a return, and macro calls
+-- with the label and the place at which they stand
 pub record Rules : Type 0 where
   pub check : Check
   pub go : Word → State → Course
   pub enter : Place → Word → List Place → List Value → Word → State → Course
   pub quit : Place → State → Course
-  pub macros : Place → Word → Trees → Scope → Follow → State → Course
+  pub macros : Word → Place → Word → Trees → Scope → Follow → State → Course
 
 -- no label: where a statement stands that has none
 abbrev pub unlabelled : Word
@@ -95,7 +96,7 @@ abbrev mutual
   run_one M here at (loop e b) sc K s =
       after (test M.check e sc s) (λ b'. cond b' (run M unlabelled b sc (record { label = here; goes = M.go here })) K.goes s)
   run_one M here at (jump l) sc K s = M.go l s
-  run_one M here at (macro m ts) sc K s = M.macros at m ts sc K s
+  run_one M here at (macro m ts) sc K s = M.macros here at m ts sc K s
   run_one M here at (invoke p ts) sc K s =
       after (all_valued (evals M.check ts) (sc.env s) got) (λ vs. M.enter at p.word (places_of ts sc) vs K.label s)
   run_one M here at leave sc K s = M.quit at s
@@ -118,18 +119,18 @@ arguments (p ∷ ps) (tree t ts) x at = cond (bytes_eq p.word x) (Some t) (argum
 arguments _ _ x at = None
 
 abbrev pub Calling : Type 0
-Calling = Place → Word → Trees → Scope → Follow → State → Course
+Calling = Word → Place → Word → Trees → Scope → Follow → State → Course
 
 abbrev pub with_calls : Rules → Calling → Rules
 with_calls M f = record { check = M.check; go = M.go; enter = M.enter; quit = M.quit; macros = f }
 
 -- the macros, the newest first. A call runs the body in the scope of the call; the body's own calls are of older macros.
 abbrev pub called : Rules → List Macro → Calling
-called M [] at m ts sc K s = held at
-called M (d ∷ older) at m ts sc K s =
+called M [] here at m ts sc K s = held at
+called M (d ∷ older) here at m ts sc K s =
     cond (bytes_eq d.name.word m)
-    (run (with_calls M (called M older)) unlabelled d.body (through M.check (arguments d.params ts) sc) K)
-    (called M older at m ts sc K) s
+    (run (with_calls M (called M older)) here d.body (through M.check (arguments d.params ts) sc) K)
+    (called M older here at m ts sc K) s
 
 -- M's own macros are not looked at
 abbrev pub with_macros : Rules → List Macro → Rules

@@ -6,6 +6,8 @@ use Rattle.tla_value.specs.declared.fault.FaultKind.{FaultKind}
 use Rattle.tla_value.specs.declared.fault.FaultKind.TheVariants.{NotBoolean, NotSet, NotFunction}
 use Rattle.tla_value.specs.Value.{Value, truth, text, set, Values, Outcome, good, fault, over, Sense}
 use Rattle.tla_value.specs.Stops.{Check}
+use Rattle.pcal_tree.specs.Algorithm.{nowhere}
+use Rattle.tla_value.specs.Grafts.{through as through_env}
 use Rattle.tla_value.specs.Meaning.{Env, Den, bind, eval, evals}
 
 -- ---- states and results
@@ -86,7 +88,7 @@ abbrev pub reach_form : Form → Place → Reach → Reach
 reach_form (name x) at r sc s = sc.part x at s
 reach_form (strict apply) at r sc s = r sc s
 reach_form (strict (select a)) at r sc s = on (r sc s) (λ p. got (deeper (text a ∷ []) p))
-reach_form _ at r sc s = bad (faulty NotFunction at)
+reach_form _ at r sc s = bad (faulty NotFunction nowhere)
 
 -- the part that a left side stands for, its subscripts evaluated
 abbrev mutual
@@ -95,14 +97,10 @@ abbrev mutual
 
   -- the first tree is the head, the others are subscripts
   pub reach_path : Check → Place → Trees → Reach
-  reach_path c at no_trees sc s = bad (faulty NotFunction at)
+  reach_path c at no_trees sc s = bad (faulty NotFunction nowhere)
   reach_path c at (tree f us) sc s = on (reach c f sc s) (λ p. all_valued (evals c us) (sc.env s) (λ ks. got (deeper ks p)))
 
 -- ---- names that stand for trees, as a macro's parameters do
-
-abbrev pub read_in : Check → Option Tree → Word → Place → Env → Sense
-read_in c (Some t) x at env = eval c t env
-read_in c None x at env = env.now x at
 
 abbrev pub reach_in : Check → Option Tree → Word → Place → Reach
 reach_in c (Some t) x at sc s = reach c t sc s
@@ -115,7 +113,7 @@ origin_in None x at sc = sc.origin x at
 -- the scope in which names stand for the trees of g, each read anew at each use, in the scope sc
 abbrev pub through : Check → Graft → Scope → Scope
 through c g sc = record {
-  env = λ s. record { now = λ x at. read_in c (g x at) x at (sc.env s); primed = (sc.env s).primed; defs = (sc.env s).defs };
+  env = λ s. through_env c g (sc.env s);
   part = λ x at s. reach_in c (g x at) x at sc s;
   origin = λ x at. origin_in (g x at) x at sc;
 }
