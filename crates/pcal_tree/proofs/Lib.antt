@@ -2,3 +2,4 @@ mod Sample
 mod RowsRun
 mod RowsStep
 mod Choices
+pub mod GraftRuns

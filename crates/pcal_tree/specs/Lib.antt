@@ -12,3 +12,4 @@ pub mod Mid
 pub mod Initial
 pub mod Starting
 pub mod Script
+pub mod Expand
