@@ -3,3 +3,4 @@ mod RowsRun
 mod RowsStep
 mod Choices
 pub mod GraftRuns
+pub mod ExpandRuns

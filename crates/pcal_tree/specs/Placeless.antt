@@ -1,6 +1,5 @@
 -- Algorithms without their places, in which the trees of one algorithm in the two syntaxes are equal.
 use Rattle.std.specs.Prelude.{List, [], ◌∷◌}
-use Rattle.tla_token.specs.declared.place.Place.{Place}
 use Rattle.tla_expr.specs.Tree.{Slot, Strict, except, Form, strict, Tree, node, Trees, no_trees, tree}
 use Rattle.pcal_tree.specs.Algorithm.{nowhere, Name, Span, Moves, no_moves, move, Binds, no_binds, one_of, is, Statement, assign, await, print, assert, skip, branch, either, with, loop, jump, macro, invoke, leave, Statements, done, then, mark, Branches, no_branches, or, Start, unset, equals, among, Declaration, Definition, Macro, Procedure, Process, Main, alone, processes, Algorithm}
 
