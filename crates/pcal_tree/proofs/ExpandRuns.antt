@@ -93,7 +93,7 @@ abbrev pub Written : Rules → Calling → Writing → (Word → Trees → Type 
 Written M f X P =
     (here : Word) (at : Span) (m : Word) (ts : Trees) → P m ts → Opens (X at m ts) × ((sc : Scope) → Free sc → (K : Follow) → f here at.first m ts sc K ≡ run (with_macros M []) here (X at m ts) sc K)
 
-opens_joined : (a b : Statements) → Opens a → Opens (joined a b)
+pub opens_joined : (a b : Statements) → Opens a → Opens (joined a b)
 opens_joined done b h = absurd h
 opens_joined (then at st a) b h = tt
 opens_joined (mark l k a) b h = absurd h
@@ -102,7 +102,7 @@ opens_one : (M : Rules) (f : Calling) (X : Writing) (P : Word → Trees → Type
 opens_one M f X P w at (macro m ts) rest h = opens_joined (X at m ts) rest (w unlabelled at m ts h).0
 opens_one M f X P w at st rest h = tt
 
-no_label : (ss : Statements) (l : Word) → Opens ss → unlabelled ≡ label_of ss l
+pub no_label : (ss : Statements) (l : Word) → Opens ss → unlabelled ≡ label_of ss l
 no_label done l h = absurd h
 no_label (then at st rest) l h = refl
 no_label (mark m k rest) l h = absurd h

@@ -4,3 +4,4 @@ mod RowsStep
 mod Choices
 pub mod GraftRuns
 pub mod ExpandRuns
+pub mod BeginLaws
