@@ -16,7 +16,7 @@ none_told : (cs : Courses) (at : Place) (r : Got State) → told (missing cs at)
 none_told no_courses at r e = cc
 none_told (course c cs) at r e = cc
 
-some_inside : {X : Type 0} {r s : X} → Some r ≡ Some s → s ≡ r
+pub some_inside : {X : Type 0} {r s : X} → Some r ≡ Some s → s ≡ r
 some_inside e = cc
 
 mutual

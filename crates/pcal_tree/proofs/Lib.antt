@@ -5,3 +5,4 @@ mod Choices
 pub mod GraftRuns
 pub mod ExpandRuns
 pub mod BeginLaws
+pub mod TroubleLaws

@@ -1,4 +1,4 @@
--- Algorithms as trees, the same for both syntaxes ("A PlusCal User's Manual", sections 2 and 3 and appendix A).
+-- Algorithms as trees, the same for both syntaxes ("A PlusCal User's Manual", section 3 and its grammars).
 use Rattle.std.specs.Prelude.{ℕ, suc, ◌+◌, List, [], ◌∷◌, ◌++◌, Bool, true, false, length, bytes_eq, cond, codes}
 use Rattle.tla_token.specs.declared.place.Place.{Place}
 use Rattle.tla_expr.specs.Tree.{Word, Tree, Trees}

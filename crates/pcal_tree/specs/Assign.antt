@@ -1,4 +1,4 @@
--- Assignments to parts of variables ("A PlusCal User's Manual", section 3.2.1).
+-- Assignments to parts of variables ("A PlusCal User's Manual", section 3.2, on assignment).
 use Rattle.std.specs.Prelude.{List, [], ◌∷◌}
 use Rattle.tla_token.specs.declared.place.Place.{Place}
 use Rattle.tla_value.specs.Value.{Value}

@@ -1,4 +1,4 @@
--- Where a step begins: the statements behind a label, and the exit of their sequence ("A PlusCal User's Manual", sections 3.1 and 3.2).
+-- Where a step begins: the statements behind a label, and the exit of their sequence ("A PlusCal User's Manual", section 3.7, labels).
 use Rattle.std.specs.Prelude.{cond, bytes_eq, Option, Some, None}
 use Rattle.tla_expr.specs.Tree.{Word}
 use Rattle.pcal_tree.specs.Algorithm.{Statement, branch, either, with, loop, Statements, done, then, mark, Branches, no_branches, or, Routine}

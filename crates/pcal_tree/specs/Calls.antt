@@ -1,4 +1,4 @@
--- Jumps, calls and returns, and with them the rules of a step ("A PlusCal User's Manual", sections 3.2.8, 3.2.9 and 3.5).
+-- Jumps, calls and returns, and with them the rules of a step ("A PlusCal User's Manual", section 3.4, procedures).
 use Rattle.std.specs.Prelude.{List, [], ◌∷◌, ◌++◌, cond, bytes_eq, codes, Option, Some, None, ◌||◌, reverse}
 use Rattle.tla_token.specs.declared.place.Place.{Place}
 use Rattle.tla_expr.specs.Tree.{Word}

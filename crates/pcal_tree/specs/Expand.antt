@@ -1,4 +1,4 @@
--- Statements with trees put in for names, and macro calls written out ("A PlusCal User's Manual", section 5.2).
+-- Statements with trees put in for names, and macro calls written out ("A PlusCal User's Manual", section 3.5, macros).
 use Rattle.std.specs.Prelude.{List, [], ◌∷◌, cond, bytes_eq, Option, Some, None}
 use Rattle.tla_token.specs.declared.place.Place.{Place}
 use Rattle.tla_expr.specs.Tree.{Word, Tree, node, Trees, Graft, graft, grafts}

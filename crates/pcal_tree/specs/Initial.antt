@@ -1,4 +1,4 @@
--- Initial states: each variable in turn has a value that its declaration allows ("A PlusCal User's Manual", sections 3.4 to 3.6).
+-- Initial states: each variable in turn has a value that its declaration allows ("A PlusCal User's Manual", sections 3.3 and 3.4, processes, procedures).
 use Rattle.std.specs.Prelude.{◌≡◌, ◌==◌, List, [], ◌∷◌, Bool, true, false, cond}
 use Rattle.std.specs.Ordering.{is_eq}
 use Rattle.tla_token.specs.declared.place.Place.{Place}

@@ -1,4 +1,4 @@
--- What names mean in a routine that a process runs ("A PlusCal User's Manual", sections 3.4 to 3.6 and 5).
+-- What names mean in a routine that a process runs ("A PlusCal User's Manual", sections 3.3 to 3.6, processes, procedures, macros, definitions).
 use Rattle.std.specs.Prelude.{List, [], ◌∷◌, ◌++◌, false, cond, bytes_eq, codes, Option, Some, None, map}
 use Rattle.tla_token.specs.declared.place.Place.{Place}
 use Rattle.tla_expr.specs.Tree.{Word}

@@ -1,4 +1,4 @@
--- What statements do within one step: all courses that they can take ("A PlusCal User's Manual", section 3).
+-- What statements do within one step: all courses that they can take ("A PlusCal User's Manual", section 3.2, the statements).
 use Rattle.std.specs.Prelude.{◌≡◌, List, [], ◌∷◌, cond, bytes_eq, Some, None, ◌⊎◌}
 use Rattle.tla_token.specs.declared.place.Place.{Place}
 use Rattle.tla_expr.specs.Tree.{Word, Trees, tree, Graft}

@@ -1,4 +1,4 @@
--- The making of an initial state, where a member is chosen for each variable that is declared by a set ("A PlusCal User's Manual", section 3.4).
+-- The making of an initial state, where a member is chosen for each variable that is declared by a set ("A PlusCal User's Manual", section 3.3, processes).
 use Rattle.std.specs.Prelude.{List, [], ◌∷◌, Bool, true, false}
 use Rattle.tla_token.specs.declared.place.Place.{Place}
 use Rattle.tla_expr.specs.Tree.{Word}

@@ -1,4 +1,4 @@
--- Processes and their steps, and what goes wrong in them ("A PlusCal User's Manual", sections 3.1 and 3.4).
+-- Processes and their steps, and what goes wrong in them ("A PlusCal User's Manual", sections 3.3, processes, and 3.7, labels).
 use Rattle.std.specs.Prelude.{◌≡◌, ℕ, suc, List, [], ◌∷◌, ◌++◌, Bool, true, false, cond, codes, Option, Some, None, ◌⊎◌, map}
 use Rattle.std.specs.Ordering.{is_lt}
 use Rattle.tla_token.specs.declared.place.Place.{Place}
