@@ -2,12 +2,13 @@
 use Rattle.std.proofs.Common.{◌≡◌, ℕ, List, [], ◌∷◌, codes, Some, None, refl, ◌⊎◌}
 use Rattle.tla_expr.specs.declared.op.Op.TheVariants.{Less, Plus}
 use Rattle.tla_expr.specs.Tree.{Word, set_of, strict, node, no_trees, tree, Tree, truth as literal}
-use Rattle.tla_value.specs.declared.fault.FaultKind.TheVariants.{NotBoolean, AssertFailed}
+use Rattle.tla_value.specs.declared.fault.FaultKind.TheVariants.{NotBoolean, NotInDomain, AssertFailed}
 use Rattle.tla_value.specs.Value.{text}
 use Rattle.tla_value.specs.Order.{seq_from}
-use Rattle.pcal_tree.specs.Algorithm.{no_moves, move, assign, await, assert, branch, either, with, loop, jump, macro, Statement, Statements, done, no_branches, or, one_of, is, no_binds, Macro, Routine, alone_routine}
+use Rattle.pcal_tree.specs.Algorithm.{no_moves, move, assign, await, print, assert, branch, either, with, loop, jump, macro, Statement, Statements, done, no_branches, or, one_of, is, no_binds, Macro, Routine, alone_routine}
 use Rattle.pcal_tree.specs.Scope.{State, put, Got, got, bad, faulty}
 use Rattle.pcal_tree.specs.Run.{Course, Has, run, exit_to}
+use Rattle.pcal_tree.specs.Expand.{expanded}
 use Rattle.pcal_tree.specs.Choices.{walk, went, wanting, first_trouble}
 use Rattle.pcal_tree.specs.Program.{Program, Actor, routine_scope, pc}
 use Rattle.pcal_tree.specs.Calls.{rules_of}
@@ -147,3 +148,11 @@ waits = record { name = title (codes "N"); params = title (codes "p") ∷ []; bo
 
 at_argument : (r : Got State) → Has (course_from (waits ∷ []) (one (macro (codes "N") (tree (node (Rattle.tla_expr.specs.Tree.name x) (at 8) no_trees) no_trees))) start) r ≡ (r ≡ bad (faulty NotBoolean (at 8)))
 at_argument r = refl
+
+-- the expansion of M(x[y]) takes the same course
+expanded_anew : course_from (bump ∷ []) (one (macro (codes "M") (tree (item (var x) (var y)) no_trees))) (put y (an_int 1) triple) ≡ course_from [] (expanded (bump ∷ []) (one (macro (codes "M") (tree (item (var x) (var y)) no_trees)))) (put y (an_int 1) triple)
+expanded_anew = refl
+
+-- what is printed is evaluated
+printed : (r : Got State) → outcome (one (print (item (var x) (num 5)))) triple r ≡ (r ≡ bad (faulty NotInDomain (at 1)))
+printed r = refl
