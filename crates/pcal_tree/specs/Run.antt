@@ -85,16 +85,16 @@ run_binds c at (is x e bs) body sc s = after (value_of c e sc s) (λ v. run_bind
 abbrev mutual
   pub run_one : Rules → Word → Place → Statement → Scope → Follow → State → Course
   run_one M here at (assign ms) sc K s = after (moved M.check ms sc s) K.goes
-  run_one M here at (await e) sc K s = after (test M.check e sc s) (λ b. cond b K.goes (λ u. held at) s)
+  run_one M here at (await e) sc K s = after (test M.check e sc s) (λ t. cond t K.goes (λ u. held at) s)
   run_one M here at (print e) sc K s = after (value_of M.check e sc s) (λ v. K.goes s)
-  run_one M here at (assert e) sc K s = after (test M.check e sc s) (λ b. cond b K.goes (λ u. stops (faulty AssertFailed at)) s)
+  run_one M here at (assert e) sc K s = after (test M.check e sc s) (λ t. cond t K.goes (λ u. stops (faulty AssertFailed at)) s)
   run_one M here at skip sc K s = K.goes s
   run_one M here at (branch e a b) sc K s =
-      after (test M.check e sc s) (λ b'. cond b' (run M unlabelled a sc K) (run M unlabelled b sc K) s)
+      after (test M.check e sc s) (λ t. cond t (run M unlabelled a sc K) (run M unlabelled b sc K) s)
   run_one M here at (either bs) sc K s = chooses at (run_branches M bs sc K s)
   run_one M here at (with bs b) sc K s = run_binds M.check at bs (λ inner. run M unlabelled b inner K) sc s
   run_one M here at (loop e b) sc K s =
-      after (test M.check e sc s) (λ b'. cond b' (run M unlabelled b sc (record { label = here; goes = M.go here })) K.goes s)
+      after (test M.check e sc s) (λ t. cond t (run M unlabelled b sc (record { label = here; goes = M.go here })) K.goes s)
   run_one M here at (jump l) sc K s = M.go l s
   run_one M here at (macro m ts) sc K s = M.macros here at m ts sc K s
   run_one M here at (invoke p ts) sc K s =
