@@ -188,7 +188,7 @@ stand_at u l (Some b) = Some (record { routine = u; label = l; begins = b })
 -- the label that a value of pc names
 abbrev pub label_named : Program → Value → Routine → List Word → Option Stand
 label_named P w u [] = None
-label_named P w u (l ∷ ls) = cond (same w (label_value P u l)) (stand_at u l (at_label u l)) (label_named P w u ls)
+label_named P w u (l ∷ ls) = or_else (cond (same w (label_value P u l)) (stand_at u l (at_label u l)) None) (label_named P w u ls)
 
 abbrev pub stand_named : Program → Value → List Routine → Option Stand
 stand_named P w [] = None
