@@ -1,0 +1,219 @@
+-- Statements with trees put in for names take the courses that the statements take where the names stand for these trees.
+use Rattle.std.proofs.Common.{◌≡◌, List, [], ◌∷◌, cond, Option, Some, None, refl, sym, ◌∙◌, ap}
+use Rattle.tla_token.specs.declared.place.Place.{Place}
+use Rattle.tla_expr.specs.Tree.{Word, apply, select, Form, name, next, call, strict, binders, Tree, node, Trees, no_trees, tree, Every, EveryOf, Graft, grafted_name, grafted_node, graft, grafts}
+use Rattle.tla_value.specs.Value.{Value, text}
+use Rattle.tla_value.specs.Stops.{Check}
+use Rattle.tla_value.specs.Meaning.{Env, Den}
+use Rattle.tla_value.proofs.Alike.{Rel, AllAlike, none, one}
+use Rattle.tla_value.proofs.Graft.{every_of_weaker, grafts_law, Grafted, Clear, bound_grafted, ClearForm, Fits, each_weaker, grafted_law}
+use Rattle.pcal_tree.specs.Algorithm.{Moves, no_moves, move, Binds, no_binds, one_of, is, Statement, assign, await, print, assert, skip, branch, either, with, loop, jump, macro, invoke, leave, Statements, done, then, mark, Branches, no_branches, or}
+use Rattle.pcal_tree.specs.Scope.{State, Got, got, bad, on, valued, all_valued, Part, Scope, bound, place_in, place_of, places_of, Reach, deeper, root_place, reach_form, reach, reach_path, reach_in, origin_in, through, value_of, truth_at, test, members_at, members}
+use Rattle.pcal_tree.specs.Assign.{Setting, set_all, settings}
+use Rattle.pcal_tree.specs.Run.{Course, chooses, course, held, stops, after, at_each, Follow, Rules, unlabelled, label_of, run_binds, run_one, run, run_branches}
+use Rattle.pcal_tree.specs.Expand.{placed_at, graft_left, graft_moves, graft_binds, graft_one, graft_all, graft_some}
+
+-- where names are clear a form keeps that they stand for the trees of g
+form_fits : (c : Check) (g : Graft) (U : Word → Type 0) (m : Form) (at : Place) → ClearForm c g U m at → Fits c (Grafted c g U) g m at
+form_fits c g U (name x) at h = λ e f r. sym (r.now x h.1 at)
+form_fits c g U (next x) at h = (tt, λ at' e f r. r.primed x at')
+form_fits c g U (call x) at h = (tt, λ e f r. r.defs x h.1)
+form_fits c g U m at h = (each_weaker _ _ (bound_grafted c g U) (binders m) h.0, tt)
+
+-- ---- left sides
+
+pub valued_alike : {X : Type 0} (R : Rel) (ds es : List Den) (e f : Env) (go go' : List Value → Got X) → AllAlike R ds es → R e f → go ≡ go' → all_valued ds e go ≡ all_valued es f go'
+valued_alike R _ _ e f go go' none r k = λ i. k i []
+valued_alike R _ _ e f go go' (one p ps) r k =
+    λ i. valued (p e f r i).value (λ v. valued_alike R _ _ e f (λ vs. go (v ∷ vs)) (λ vs. go' (v ∷ vs)) ps r (λ j vs. k j (v ∷ vs)) i)
+
+-- in sc' the names of U stand for the trees of g in sc; the part that a name is does not rest on its place
+pub record Meets (c : Check) (g : Graft) (U : Word → Type 0) (sc sc' : Scope) : Type 0 where
+  pub env : (s : State) → Grafted c g U (sc.env s) (sc'.env s)
+  pub part : (x : Word) (at : Place) (s : State) → sc'.part x at s ≡ reach_in c (g x at) x at sc s
+  pub origin : (x : Word) (at : Place) → sc'.origin x at ≡ origin_in (g x at) x at sc
+  pub free : (x : Word) (at p : Place) (s : State) → sc.part x at s ≡ sc.part x p s
+
+or_reach : (c : Check) (o : Option Tree) (x : Word) (at : Place) (us : Trees) (sc : Scope) (s : State) → reach c (grafted_name o (name x) at us) sc s ≡ reach_in c o x at sc s
+or_reach c (Some t) x at us sc s = refl
+or_reach c None x at us sc s = refl
+
+select_reach : (a : Word) (p q : Got Part) → p ≡ q → on p (λ r. got (deeper (text a ∷ []) r)) ≡ on q (λ r. got (deeper (text a ∷ []) r))
+select_reach a p q e = ap (λ z. on z (λ r. got (deeper (text a ∷ []) r))) e
+
+reach_node : (c : Check) (g : Graft) (U : Word → Type 0) (m : Form) (at : Place) (ts us : Trees) (sc sc' : Scope) (s : State) → Meets c g U sc sc' → reach_path c at us sc s ≡ reach_path c at ts sc' s → reach c (grafted_node g m at us) sc s ≡ reach c (node m at ts) sc' s
+reach_node c g U (name x) at ts us sc sc' s k p = or_reach c (g x at) x at us sc s ∙ sym (k.part x at s)
+reach_node c g U (strict apply) at ts us sc sc' s k p = p
+reach_node c g U (strict (select a)) at ts us sc sc' s k p = select_reach a _ _ p
+reach_node c g U m at ts us sc sc' s k p = refl
+
+mutual
+  pub reach_law : (c : Check) (g : Graft) (U : Word → Type 0) (t : Tree) → Every (ClearForm c g U) t → (sc sc' : Scope) → Meets c g U sc sc' → (s : State) → reach c (graft g t) sc s ≡ reach c t sc' s
+  reach_law c g U (node m at ts) h sc sc' k s = reach_node c g U m at ts (grafts g ts) sc sc' s k (path_law c g U at ts h.1 sc sc' k s)
+
+  path_law : (c : Check) (g : Graft) (U : Word → Type 0) (at : Place) (ts : Trees) → EveryOf (ClearForm c g U) ts → (sc sc' : Scope) → Meets c g U sc sc' → (s : State) → reach_path c at (grafts g ts) sc s ≡ reach_path c at ts sc' s
+  path_law c g U at no_trees h sc sc' k s = refl
+  path_law c g U at (tree f us) h sc sc' k s =
+      λ i. on (reach_law c g U f h.0 sc sc' k s i) (λ p. valued_alike (Grafted c g U) _ _ (sc.env s) (sc'.env s) _ _ (grafts_law c (Grafted c g U) g us (every_of_weaker _ _ (form_fits c g U) us h.1)) (k.env s) (λ j ks. got (deeper ks p)) i)
+
+-- the place of a left side's root doesn't matter
+reach_free : (c : Check) (t : Tree) (q : Place) (sc : Scope) (s : State) → ((x : Word) (at p : Place) → sc.part x at s ≡ sc.part x p s) → reach c (placed_at q t) sc s ≡ reach c t sc s
+reach_free c (node (name x) at ts) q sc s k = k x q at
+reach_free c (node (strict apply) at no_trees) q sc s k = refl
+reach_free c (node (strict apply) at (tree f us)) q sc s k = refl
+reach_free c (node (strict (select a)) at no_trees) q sc s k = refl
+reach_free c (node (strict (select a)) at (tree f us)) q sc s k = refl
+reach_free c (node m at ts) q sc s k = refl
+
+pub left_law : (c : Check) (g : Graft) (U : Word → Type 0) (t : Tree) → Every (ClearForm c g U) t → (sc sc' : Scope) → Meets c g U sc sc' → (s : State) → reach c (graft_left g t) sc s ≡ reach c t sc' s
+left_law c g U (node m at ts) h sc sc' k s =
+    reach_free c (graft g (node m at ts)) at sc s (λ x p q. k.free x p q s) ∙ reach_law c g U (node m at ts) h sc sc' k s
+
+root_kept : (at : Place) (t : Tree) → root_place (placed_at at t) ≡ at
+root_kept at (node m p ts) = refl
+
+left_root : (g : Graft) (t : Tree) → root_place (graft_left g t) ≡ root_place t
+left_root g (node m at ts) = root_kept at (graft g (node m at ts))
+
+-- ---- places
+
+or_place : (o : Option Tree) (x : Word) (at : Place) (us : Trees) (sc : Scope) → place_of (grafted_name o (name x) at us) sc ≡ origin_in o x at sc
+or_place (Some t) x at us sc = refl
+or_place None x at us sc = refl
+
+place_node : (c : Check) (g : Graft) (U : Word → Type 0) (m : Form) (at : Place) (ts us : Trees) (sc sc' : Scope) → Meets c g U sc sc' → place_of (grafted_node g m at us) sc ≡ place_of (node m at ts) sc'
+place_node c g U (name x) at ts us sc sc' k = or_place (g x at) x at us sc ∙ sym (k.origin x at)
+place_node c g U m at ts us sc sc' k = refl
+
+pub place_law : (c : Check) (g : Graft) (U : Word → Type 0) (t : Tree) (sc sc' : Scope) → Meets c g U sc sc' → place_of (graft g t) sc ≡ place_of t sc'
+place_law c g U (node m at ts) sc sc' k = place_node c g U m at ts (grafts g ts) sc sc' k
+
+pub places_law : (c : Check) (g : Graft) (U : Word → Type 0) (ts : Trees) (sc sc' : Scope) → Meets c g U sc sc' → places_of (grafts g ts) sc ≡ places_of ts sc'
+places_law c g U no_trees sc sc' k = refl
+places_law c g U (tree t ts) sc sc' k = λ i. place_law c g U t sc sc' k i ∷ places_law c g U ts sc sc' k i
+
+-- ---- bound names
+
+abbrev pub Unreached : Check → Word → Option Tree → Type 0
+Unreached c x (Some t) = (v : Value) (sc : Scope) (s : State) → reach c t sc s ≡ reach c t (bound x v sc) s
+Unreached c x None = Unit {0}
+
+-- g leaves x alone, and no tree of g reads it, also as a left side
+pub record ClearName (c : Check) (g : Graft) (x : Word) : Type 0 where
+  pub clear : Clear c g x
+  pub unreached : (y : Word) (at : Place) → Unreached c x (g y at)
+
+bound_reach : (c : Check) (x y : Word) (at : Place) (v : Value) (sc : Scope) (s : State) (o : Option Tree) → Unreached c x o → reach_in c o y at sc s ≡ reach_in c o y at (bound x v sc) s
+bound_reach c x y at v sc s (Some t) k = k v sc s
+bound_reach c x y at v sc s None k = refl
+
+bound_in : (x : Word) (v : Value) (m : Form) (at : Place) (sc : Scope) → place_in m at sc ≡ place_in m at (bound x v sc)
+bound_in x v (name y) at sc = refl
+bound_in x v m at sc = refl
+
+bound_origin : (x y : Word) (at : Place) (v : Value) (sc : Scope) (o : Option Tree) → origin_in o y at sc ≡ origin_in o y at (bound x v sc)
+bound_origin x y at v sc (Some (node m p ts)) = bound_in x v m p sc
+bound_origin x y at v sc None = refl
+
+pub bound_meets : (c : Check) (g : Graft) (U : Word → Type 0) (x : Word) (v : Value) (sc sc' : Scope) → ClearName c g x → Meets c g U sc sc' → Meets c g U (bound x v sc) (bound x v sc')
+bound_meets c g U x v sc sc' h k = record {
+  env = λ s. bound_grafted c g U x h.clear (sc.env s) (sc'.env s) v (k.env s);
+  part = λ y at s. k.part y at s ∙ bound_reach c x y at v sc s (g y at) (h.unreached y at);
+  origin = λ y at. k.origin y at ∙ bound_origin x y at v sc (g y at);
+  free = k.free;
+}
+
+-- ---- statements
+
+-- no bound name is captured, and there is no macro call
+abbrev pub CleanMoves : Check → Graft → (Word → Type 0) → Moves → Type 0
+CleanMoves c g U no_moves = Unit {0}
+CleanMoves c g U (move l e ms) = Every (ClearForm c g U) l × Every (ClearForm c g U) e × CleanMoves c g U ms
+
+abbrev pub CleanBinds : Check → Graft → (Word → Type 0) → Binds → Type 0
+CleanBinds c g U no_binds = Unit {0}
+CleanBinds c g U (one_of x e bs) = Every (ClearForm c g U) e × ClearName c g x.word × CleanBinds c g U bs
+CleanBinds c g U (is x e bs) = Every (ClearForm c g U) e × ClearName c g x.word × CleanBinds c g U bs
+
+abbrev mutual
+  pub CleanOne : Check → Graft → (Word → Type 0) → Statement → Type 0
+  CleanOne c g U (assign ms) = CleanMoves c g U ms
+  CleanOne c g U (await e) = Every (ClearForm c g U) e
+  CleanOne c g U (print e) = Every (ClearForm c g U) e
+  CleanOne c g U (assert e) = Every (ClearForm c g U) e
+  CleanOne c g U (branch e a b) = Every (ClearForm c g U) e × Clean c g U a × Clean c g U b
+  CleanOne c g U (either bs) = CleanSome c g U bs
+  CleanOne c g U (with bs b) = CleanBinds c g U bs × Clean c g U b
+  CleanOne c g U (loop e b) = Every (ClearForm c g U) e × Clean c g U b
+  CleanOne c g U (macro m ts) = ⊥
+  CleanOne c g U (invoke p ts) = EveryOf (ClearForm c g U) ts
+  CleanOne c g U _ = Unit {0}
+
+  pub Clean : Check → Graft → (Word → Type 0) → Statements → Type 0
+  Clean c g U done = Unit {0}
+  Clean c g U (then at st rest) = CleanOne c g U st × Clean c g U rest
+  Clean c g U (mark l m rest) = Unit {0}
+
+  pub CleanSome : Check → Graft → (Word → Type 0) → Branches → Type 0
+  CleanSome c g U no_branches = Unit {0}
+  CleanSome c g U (or b bs) = Clean c g U b × CleanSome c g U bs
+
+value_law : (c : Check) (g : Graft) (U : Word → Type 0) (t : Tree) → Every (ClearForm c g U) t → (sc sc' : Scope) → Meets c g U sc sc' → (s : State) → value_of c (graft g t) sc s ≡ value_of c t sc' s
+value_law c g U t h sc sc' k s = λ i. valued (grafted_law c g U t h (sc.env s) (sc'.env s) (k.env s) i).value got
+
+-- a value that is looked at further, at the tree's place
+needed_law : {X : Type 0} (c : Check) (g : Graft) (U : Word → Type 0) (t : Tree) → Every (ClearForm c g U) t → (sc sc' : Scope) → Meets c g U sc sc' → (s : State) (go : Place → Value → Got X) → on (value_of c (graft g t) sc s) (go (place_of (graft g t) sc)) ≡ on (value_of c t sc' s) (go (place_of t sc'))
+needed_law c g U t h sc sc' k s go = λ i. on (value_law c g U t h sc sc' k s i) (go (place_law c g U t sc sc' k i))
+
+moves_law : (c : Check) (g : Graft) (U : Word → Type 0) (ms : Moves) → CleanMoves c g U ms → (sc sc' : Scope) → Meets c g U sc sc' → (s : State) (go : List Setting → Got State) → settings c (graft_moves g ms) sc s go ≡ settings c ms sc' s go
+moves_law c g U no_moves h sc sc' k s go = refl
+moves_law c g U (move l e ms) h sc sc' k s go =
+    λ i. on (left_law c g U l h.0 sc sc' k s i) (λ p. on (value_law c g U e h.1 sc sc' k s i) (λ v. moves_law c g U ms h.2 sc sc' k s (λ rest. go (record { place = left_root g l i; part = p; value = v } ∷ rest)) i))
+
+-- the bodies are alike in all scopes that meet
+abbrev pub BodiesAlike : Check → Graft → (Word → Type 0) → (Scope → State → Course) → (Scope → State → Course) → Type 0
+BodiesAlike c g U a b = (sc sc' : Scope) → Meets c g U sc sc' → a sc ≡ b sc'
+
+binds_law : (c : Check) (g : Graft) (U : Word → Type 0) (at : Place) (bs : Binds) → CleanBinds c g U bs → (a b : Scope → State → Course) → BodiesAlike c g U a b → (sc sc' : Scope) → Meets c g U sc sc' → (s : State) → run_binds c at (graft_binds g bs) a sc s ≡ run_binds c at bs b sc' s
+binds_law c g U at no_binds h a b q sc sc' k s = λ i. q sc sc' k i s
+binds_law c g U at (one_of x e bs) h a b q sc sc' k s =
+    λ i. after (needed_law c g U e h.0 sc sc' k s members_at i) (λ vs. chooses at (at_each vs (λ v. binds_law c g U at bs h.2 a b q (bound x.word v sc) (bound x.word v sc') (bound_meets c g U x.word v sc sc' h.1 k) s i)))
+binds_law c g U at (is x e bs) h a b q sc sc' k s =
+    λ i. after (value_law c g U e h.0 sc sc' k s i) (λ v. binds_law c g U at bs h.2 a b q (bound x.word v sc) (bound x.word v sc') (bound_meets c g U x.word v sc sc' h.1 k) s i)
+
+graft_label : (g : Graft) (ss : Statements) {K L : Follow} → K ≡ L → label_of (graft_all g ss) K.label ≡ label_of ss L.label
+graft_label g done q = λ i. (q i).label
+graft_label g (then at st rest) q = refl
+graft_label g (mark l m rest) q = refl
+
+mutual
+  graft_runs_one : (M : Rules) (g : Graft) (U : Word → Type 0) (here : Word) (at : Place) (st : Statement) → CleanOne M.check g U st → (sc sc' : Scope) → Meets M.check g U sc sc' → (K L : Follow) → K ≡ L → run_one M here at (graft_one g st) sc K ≡ run_one M here at st sc' L
+  graft_runs_one M g U here at (assign ms) h sc sc' k K L q = λ i s. after (moves_law M.check g U ms h sc sc' k s (λ all. set_all M.check all s) i) (q i).goes
+  graft_runs_one M g U here at (await e) h sc sc' k K L q = λ i s. after (needed_law M.check g U e h sc sc' k s truth_at i) (λ b. cond b (q i).goes (λ u. held at) s)
+  graft_runs_one M g U here at (print e) h sc sc' k K L q = λ i s. after (value_law M.check g U e h sc sc' k s i) (λ v. (q i).goes s)
+  graft_runs_one M g U here at (assert e) h sc sc' k K L q =
+      λ i s. after (needed_law M.check g U e h sc sc' k s truth_at i) (λ b. cond b (q i).goes (λ u. stops (Rattle.pcal_tree.specs.Scope.faulty Rattle.tla_value.specs.declared.fault.FaultKind.TheVariants.AssertFailed at)) s)
+  graft_runs_one M g U here at skip h sc sc' k K L q = λ i s. (q i).goes s
+  graft_runs_one M g U here at (branch e a b) h sc sc' k K L q =
+      λ i s. after (needed_law M.check g U e h.0 sc sc' k s truth_at i) (λ yes. cond yes (graft_runs M g U unlabelled a h.1 sc sc' k K L q i) (graft_runs M g U unlabelled b h.2 sc sc' k K L q i) s)
+  graft_runs_one M g U here at (either bs) h sc sc' k K L q = λ i s. chooses at (graft_runs_some M g U bs h sc sc' k K L q i s)
+  graft_runs_one M g U here at (with bs b) h sc sc' k K L q =
+      λ i s. binds_law M.check g U at bs h.0 (λ inner. run M unlabelled (graft_all g b) inner K) (λ inner. run M unlabelled b inner L) (λ a a' m. graft_runs M g U unlabelled b h.1 a a' m K L q) sc sc' k s i
+  graft_runs_one M g U here at (loop e b) h sc sc' k K L q =
+      λ i s. after (needed_law M.check g U e h.0 sc sc' k s truth_at i) (λ yes. cond yes (graft_runs M g U unlabelled b h.1 sc sc' k (record { label = here; goes = M.go here }) (record { label = here; goes = M.go here }) refl i) (q i).goes s)
+  graft_runs_one M g U here at (jump l) h sc sc' k K L q = refl
+  graft_runs_one M g U here at (macro m ts) h sc sc' k K L q = absurd h
+  graft_runs_one M g U here at (invoke p ts) h sc sc' k K L q =
+      λ i s. after (valued_alike (Grafted M.check g U) _ _ (sc.env s) (sc'.env s) got got (grafts_law M.check (Grafted M.check g U) g ts (every_of_weaker _ _ (form_fits M.check g U) ts h)) (k.env s) refl i) (λ vs. M.enter at p.word (places_law M.check g U ts sc sc' k i) vs (q i).label s)
+  graft_runs_one M g U here at leave h sc sc' k K L q = refl
+
+  -- the courses are equal, kinds and places of faults included
+  pub graft_runs : (M : Rules) (g : Graft) (U : Word → Type 0) (here : Word) (ss : Statements) → Clean M.check g U ss → (sc sc' : Scope) → Meets M.check g U sc sc' → (K L : Follow) → K ≡ L → run M here (graft_all g ss) sc K ≡ run M here ss sc' L
+  graft_runs M g U here done h sc sc' k K L q = λ i. (q i).goes
+  graft_runs M g U here (then at st rest) h sc sc' k K L q =
+      graft_runs_one M g U here at.first st h.0 sc sc' k (record { label = label_of (graft_all g rest) K.label; goes = run M unlabelled (graft_all g rest) sc K }) (record { label = label_of rest L.label; goes = run M unlabelled rest sc' L }) (λ i. record { label = graft_label g rest q i; goes = graft_runs M g U unlabelled rest h.1 sc sc' k K L q i })
+  graft_runs M g U here (mark l m rest) h sc sc' k K L q = refl
+
+  graft_runs_some : (M : Rules) (g : Graft) (U : Word → Type 0) (bs : Branches) → CleanSome M.check g U bs → (sc sc' : Scope) → Meets M.check g U sc sc' → (K L : Follow) → K ≡ L → run_branches M (graft_some g bs) sc K ≡ run_branches M bs sc' L
+  graft_runs_some M g U no_branches h sc sc' k K L q = refl
+  graft_runs_some M g U (or b bs) h sc sc' k K L q = λ i s. course (graft_runs M g U unlabelled b h.0 sc sc' k K L q i s) (graft_runs_some M g U bs h.1 sc sc' k K L q i s)

@@ -1,0 +1,34 @@
+-- Assignments to parts of variables ("A PlusCal User's Manual", section 3.2, on assignment).
+use Rattle.std.specs.Prelude.{List, [], ◌∷◌}
+use Rattle.tla_token.specs.declared.place.Place.{Place}
+use Rattle.tla_value.specs.Value.{Value}
+use Rattle.tla_value.specs.Stops.{Check}
+use Rattle.tla_value.specs.Strict.{changed_at}
+use Rattle.pcal_tree.specs.Algorithm.{Moves, no_moves, move}
+use Rattle.pcal_tree.specs.Scope.{State, put, Got, got, on, valued, Part, Scope, reach, root_place, value_of}
+
+-- a part of a variable, its new value, and the place at which setting it faults
+pub record Setting : Type 0 where
+  pub place : Place
+  pub part : Part
+  pub value : Value
+
+abbrev pub set_one : Check → Setting → State → (State → Got State) → Got State
+set_one c m s go =
+    valued (changed_at m.place m.part.path m.value (s m.part.variable)) (λ w. valued (c m.place w) (λ u. go (put m.part.variable u s)))
+
+-- from left to right
+abbrev pub set_all : Check → List Setting → State → Got State
+set_all c [] s = got s
+set_all c (m ∷ ms) s = set_one c m s (set_all c ms)
+
+-- all subscripts and right sides, in the written order
+abbrev pub settings : Check → Moves → Scope → State → (List Setting → Got State) → Got State
+settings c no_moves sc s go = go []
+settings c (move l e ms) sc s go =
+    on (reach c l sc s) (λ p. on (value_of c e sc s) (λ v.
+    settings c ms sc s (λ rest. go (record { place = root_place l; part = p; value = v } ∷ rest))))
+
+-- x := a || y[i] := b
+abbrev pub moved : Check → Moves → Scope → State → Got State
+moved c ms sc s = settings c ms sc s (λ all. set_all c all s)

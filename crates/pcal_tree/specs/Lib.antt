@@ -1,0 +1,15 @@
+pub mod Algorithm
+pub mod Placeless
+pub mod Scope
+pub mod Assign
+pub mod Run
+pub mod Choices
+pub mod Begin
+pub mod Program
+pub mod Calls
+pub mod Step
+pub mod Mid
+pub mod Initial
+pub mod Starting
+pub mod Script
+pub mod Expand

@@ -1,0 +1,122 @@
+-- Algorithms without their places, in which the trees of one algorithm in the two syntaxes are equal.
+use Rattle.std.specs.Prelude.{List, [], ◌∷◌}
+use Rattle.tla_expr.specs.Tree.{Slot, Strict, except, Form, strict, Tree, node, Trees, no_trees, tree}
+use Rattle.pcal_tree.specs.Algorithm.{nowhere, Name, Span, Moves, no_moves, move, Binds, no_binds, one_of, is, Statement, assign, await, print, assert, skip, branch, either, with, loop, jump, macro, invoke, leave, Statements, done, then, mark, Branches, no_branches, or, Start, unset, equals, among, Declaration, Definition, Macro, Procedure, Process, Main, alone, processes, Algorithm}
+
+abbrev pub slots_placeless : List Slot → List Slot
+slots_placeless [] = []
+slots_placeless (p ∷ ps) = record { path = p.path; place = nowhere } ∷ slots_placeless ps
+
+abbrev pub strict_placeless : Strict → Strict
+strict_placeless (except ps) = except (slots_placeless ps)
+strict_placeless o = o
+
+abbrev pub form_placeless : Form → Form
+form_placeless (strict o) = strict (strict_placeless o)
+form_placeless m = m
+
+abbrev mutual
+  pub tree_placeless : Tree → Tree
+  tree_placeless (node m at ts) = node (form_placeless m) nowhere (trees_placeless ts)
+
+  pub trees_placeless : Trees → Trees
+  trees_placeless no_trees = no_trees
+  trees_placeless (tree t ts) = tree (tree_placeless t) (trees_placeless ts)
+
+abbrev pub name_placeless : Name → Name
+name_placeless x = record { word = x.word; place = nowhere }
+
+abbrev pub names_placeless : List Name → List Name
+names_placeless [] = []
+names_placeless (x ∷ xs) = name_placeless x ∷ names_placeless xs
+
+abbrev pub no_span : Span
+no_span = record { first = nowhere; last = nowhere }
+
+abbrev pub moves_placeless : Moves → Moves
+moves_placeless no_moves = no_moves
+moves_placeless (move l e ms) = move (tree_placeless l) (tree_placeless e) (moves_placeless ms)
+
+abbrev pub binds_placeless : Binds → Binds
+binds_placeless no_binds = no_binds
+binds_placeless (one_of x e bs) = one_of (name_placeless x) (tree_placeless e) (binds_placeless bs)
+binds_placeless (is x e bs) = is (name_placeless x) (tree_placeless e) (binds_placeless bs)
+
+abbrev mutual
+  pub statement_placeless : Statement → Statement
+  statement_placeless (assign ms) = assign (moves_placeless ms)
+  statement_placeless (await e) = await (tree_placeless e)
+  statement_placeless (print e) = print (tree_placeless e)
+  statement_placeless (assert e) = assert (tree_placeless e)
+  statement_placeless skip = skip
+  statement_placeless (branch e a b) = branch (tree_placeless e) (statements_placeless a) (statements_placeless b)
+  statement_placeless (either bs) = either (branches_placeless bs)
+  statement_placeless (with bs b) = with (binds_placeless bs) (statements_placeless b)
+  statement_placeless (loop e b) = loop (tree_placeless e) (statements_placeless b)
+  statement_placeless (jump l) = jump l
+  statement_placeless (macro m ts) = macro m (trees_placeless ts)
+  statement_placeless (invoke p ts) = invoke (name_placeless p) (trees_placeless ts)
+  statement_placeless leave = leave
+
+  pub statements_placeless : Statements → Statements
+  statements_placeless done = done
+  statements_placeless (then at st rest) = then no_span (statement_placeless st) (statements_placeless rest)
+  statements_placeless (mark l m rest) = mark (name_placeless l) m (statements_placeless rest)
+
+  pub branches_placeless : Branches → Branches
+  branches_placeless no_branches = no_branches
+  branches_placeless (or b bs) = or (statements_placeless b) (branches_placeless bs)
+
+abbrev pub start_placeless : Start → Start
+start_placeless unset = unset
+start_placeless (equals e) = equals (tree_placeless e)
+start_placeless (among e) = among (tree_placeless e)
+
+abbrev pub declarations_placeless : List Declaration → List Declaration
+declarations_placeless [] = []
+declarations_placeless (d ∷ ds) = record { name = name_placeless d.name; start = start_placeless d.start } ∷ declarations_placeless ds
+
+abbrev pub definitions_placeless : List Definition → List Definition
+definitions_placeless [] = []
+definitions_placeless (d ∷ ds) =
+    record { name = name_placeless d.name; params = names_placeless d.params; body = tree_placeless d.body } ∷ definitions_placeless ds
+
+abbrev pub macros_placeless : List Macro → List Macro
+macros_placeless [] = []
+macros_placeless (m ∷ ms) =
+    record { name = name_placeless m.name; params = names_placeless m.params; body = statements_placeless m.body } ∷ macros_placeless ms
+
+abbrev pub procedures_placeless : List Procedure → List Procedure
+procedures_placeless [] = []
+procedures_placeless (p ∷ ps) = record {
+  name = name_placeless p.name;
+  params = declarations_placeless p.params;
+  variables = declarations_placeless p.variables;
+  body = statements_placeless p.body;
+} ∷ procedures_placeless ps
+
+abbrev pub processes_placeless : List Process → List Process
+processes_placeless [] = []
+processes_placeless (p ∷ ps) = record {
+  name = name_placeless p.name;
+  fairness = p.fairness;
+  several = p.several;
+  identity = tree_placeless p.identity;
+  variables = declarations_placeless p.variables;
+  body = statements_placeless p.body;
+} ∷ processes_placeless ps
+
+abbrev pub main_placeless : Main → Main
+main_placeless (alone ss) = alone (statements_placeless ss)
+main_placeless (processes ps) = processes (processes_placeless ps)
+
+abbrev pub placeless : Algorithm → Algorithm
+placeless a = record {
+  name = name_placeless a.name;
+  fair = a.fair;
+  globals = declarations_placeless a.globals;
+  definitions = definitions_placeless a.definitions;
+  macros = macros_placeless a.macros;
+  procedures = procedures_placeless a.procedures;
+  main = main_placeless a.main;
+}

@@ -1,0 +1,4 @@
+//! Algorithms of PlusCal: their trees, their names, and what they mean.
+#![tactic(auto)]
+
+pub mod mark;
