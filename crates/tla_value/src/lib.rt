@@ -5,7 +5,6 @@ pub mod build;
 pub mod compare;
 pub mod fault;
 pub mod laws;
-pub mod name;
 pub mod state;
 pub mod stop;
 pub mod value;

@@ -4,11 +4,11 @@ ghost use Rattle.std.specs.Prelude.{◌≡◌, [], OnOk, OnErr, length};
 ghost use Rattle.std.specs.Option.{option_copied};
 ghost use Rattle.tla_value.specs.States.{value_of, updated};
 
-use crate::name::Name;
 use crate::value::Value;
 use indexmap::IndexMap;
 use std::alloc::{AllocError, Global};
 use std::marker::Model;
+use tla_expr::Name;
 
 /// A value for each name, in the order in which the names came. Contracts see it as the list of
 /// these pairs.

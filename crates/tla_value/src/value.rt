@@ -2,9 +2,9 @@
 
 ghost use Rattle.std.specs.Prelude.{◌≡◌, IfOk};
 
-use crate::name::Name;
 use std::alloc::{AllocError, Global};
 use std::marker::Model;
+use tla_expr::Name;
 
 /// A value of TLA+ ("Specifying Systems", section 16.1).
 #[derive(Drop)]
