@@ -5,13 +5,14 @@ use Rattle.tla_expr.specs.Tree.{Word, apply, select, Form, name, next, call, str
 use Rattle.tla_value.specs.Value.{Value, text}
 use Rattle.tla_value.specs.Stops.{Check}
 use Rattle.tla_value.specs.Meaning.{Env, Den}
-use Rattle.tla_value.proofs.Alike.{Rel, AllAlike, none, one}
+use Rattle.tla_value.proofs.Alike.{AllAlike, none, one}
 use Rattle.tla_value.proofs.Graft.{every_of_weaker, grafts_law, Grafted, Clear, bound_grafted, ClearForm, Fits, each_weaker, grafted_law}
 use Rattle.pcal_tree.specs.Algorithm.{Moves, no_moves, move, Binds, no_binds, one_of, is, Statement, assign, await, print, assert, skip, branch, either, with, loop, jump, macro, invoke, leave, Statements, done, then, mark, Branches, no_branches, or}
 use Rattle.pcal_tree.specs.Scope.{State, Got, got, bad, on, valued, all_valued, Part, Scope, bound, place_in, place_of, places_of, Reach, deeper, root_place, reach_form, reach, reach_path, reach_in, origin_in, through, value_of, truth_at, test, members_at, members}
 use Rattle.pcal_tree.specs.Assign.{Setting, set_all, settings}
 use Rattle.pcal_tree.specs.Run.{Course, chooses, course, held, stops, after, at_each, Follow, Rules, unlabelled, label_of, run_binds, run_one, run, run_branches}
 use Rattle.pcal_tree.specs.Expand.{placed_at, graft_left, graft_moves, graft_binds, graft_one, graft_all, graft_some}
+use Rattle.tla_value.specs.Related.{Rel}
 
 -- where names are clear a form keeps that they stand for the trees of g
 form_fits : (c : Check) (g : Graft) (U : Word → Type 0) (m : Form) (at : Place) → ClearForm c g U m at → Fits c (Grafted c g U) g m at

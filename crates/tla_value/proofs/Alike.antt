@@ -7,27 +7,7 @@ use Rattle.tla_value.specs.Value.{Value, Values, truth, no_values, and, Outcome,
 use Rattle.tla_value.specs.Stops.{Check, on_value, on_truth, on_sets, on_two, on_three, misshapen, sense_of}
 use Rattle.tla_value.specs.Strict.{strict_value, strict_test, same_truth}
 use Rattle.tla_value.specs.Meaning.{Env, Den, bind, on_all, Row, Visit, with_first, each_member, each_choice, fits_binder, visit_body, gathered, on_sources, first_arm, called, meaning_of, eval, evals}
-
--- a relation between environments
-abbrev pub Rel : Type 1
-Rel = Env → Env → Type 0
-
--- the relation passes a binder of x
-abbrev pub Bound : Rel → Word → Type 0
-Bound R x = (e f : Env) (v : Value) → R e f → R (bind x v e) (bind x v f)
-
--- what a form reads of its environment is the same
-abbrev pub Reads : Rel → Form → Type 0
-Reads R (name x) = (at : Place) (e f : Env) → R e f → e.now x at ≡ f.now x at
-Reads R (next x) = (at : Place) (e f : Env) → R e f → e.primed x at ≡ f.primed x at
-Reads R (call g) = (e f : Env) → R e f → e.defs g ≡ f.defs g
-Reads R _ = Unit {0}
-
-abbrev pub Keeps : Rel → Form → Place → Type 0
-Keeps R m at = Each (Bound R) (binders m) × Reads R m
-
-abbrev pub Alike : Rel → Den → Den → Type 0
-Alike R a b = (e f : Env) → R e f → a e ≡ b f
+use Rattle.tla_value.specs.Related.{Alike, Bound, Keeps, Reads, Rel}
 
 pub data AllAlike (R : Rel) : List Den → List Den → Type 0 where
   none : AllAlike R [] []

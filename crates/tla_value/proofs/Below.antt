@@ -10,11 +10,7 @@ use Rattle.tla_value.specs.Value.{Value, Values, no_values, and, truth, int, tex
 use Rattle.tla_value.specs.Stops.{Check, plain, on_value, on_truth, on_int, on_set, on_sets, on_two, on_three, tested, sense_of}
 use Rattle.tla_value.specs.Strict.{made, changed_at, next_slot, updated, strict_value, operator_test, strict_test}
 use Rattle.tla_value.specs.Meaning.{Env, Den, bind, just, on_all, on_test, Row, Visit, with_first, each_member, each_choice, fits_binder, visit_body, on_sources, first_arm, called, meaning_of, eval, evals}
-
--- o is o', or passed a limit
-abbrev pub Below : Outcome → Outcome → Type 0
-Below (over p) o' = Unit {0}
-Below o o' = o ≡ o'
+use Rattle.tla_value.specs.Related.{Below}
 
 pub same : (o : Outcome) → Below o o
 same (good v) = refl

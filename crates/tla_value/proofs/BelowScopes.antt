@@ -10,7 +10,8 @@ use Rattle.tla_value.specs.Strict.{applied}
 use Rattle.tla_value.specs.Meaning.{Env, just, called, eval}
 use Rattle.tla_value.specs.Standard.{Standard, length_of, appended, first_of, rest_of, part_of, sequences, size_of, is_finite, printed, asserted, standard_of, tailed, elements, standard_value, standard_sense, standard_called, standard_name}
 use Rattle.tla_value.specs.Definitions.{Look, Definition, or_sense, base, in_states, at_use, bind_each, body_sense, defined, with_definitions, scope_of}
-use Rattle.tla_value.proofs.Below.{Below, same, values, ints, sets, Limits, Senses, senses_of, same_sense, Envs, picked, bound, eval_below}
+use Rattle.tla_value.proofs.Below.{same, values, ints, sets, Limits, Senses, senses_of, same_sense, Envs, picked, bound, eval_below}
+use Rattle.tla_value.specs.Related.{Below}
 
 -- ---- the limits of a run
 

@@ -7,7 +7,8 @@ use Rattle.tla_value.specs.Value.{Value}
 use Rattle.tla_value.specs.Stops.{Check}
 use Rattle.tla_value.specs.Meaning.{Env, just, bind, eval, evals}
 use Rattle.tla_value.specs.Grafts.{read_tree, through}
-use Rattle.tla_value.proofs.Alike.{Rel, Bound, Keeps, Alike, AllAlike, none, one, alike, eval_alike}
+use Rattle.tla_value.proofs.Alike.{AllAlike, none, one, alike, eval_alike}
+use Rattle.tla_value.specs.Related.{Alike, Apart, ApartForm, Bound, Keeps, Lacks, LacksIn, Rel, Uses}
 
 pub each_weaker : (P Q : Word → Type 0) → ((x : Word) → P x → Q x) → (xs : List Word) → Each P xs → Each Q xs
 each_weaker P Q h [] p = tt
@@ -43,12 +44,6 @@ mutual
   grafts_law c R g (tree t ts) k = one (graft_law c R g t k.0) (grafts_law c R g ts k.1)
 
 -- ---- name by name
-
--- the names and operators that a form reads, but for primed names, are among U
-abbrev pub Uses : (Word → Type 0) → Form → Type 0
-Uses U (name x) = U x
-Uses U (call x) = U x
-Uses U _ = Unit {0}
 
 -- for the names of U, f is where they stand for the trees of g in e
 pub record Grafted (c : Check) (g : Graft) (U : Word → Type 0) (e f : Env) : Type 0 where
@@ -113,10 +108,6 @@ off_bound x y e f v r = record {
   defs = r.defs;
 }
 
-abbrev pub Lacks : Word → Form → Place → Type 0
-Lacks x (name y) at = bytes_eq x y ≡ false
-Lacks x _ at = Unit {0}
-
 all_off : (x : Word) (ys : List Word) → Each (Bound (Off x)) ys
 all_off x [] = tt
 all_off x (y ∷ ys) = (off_bound x y, all_off x ys)
@@ -137,25 +128,12 @@ eval_bind c x t h v e = eval_alike (Off x) c t (every_weaker _ _ (form_off x) t 
 
 -- ---- premises by names
 
-abbrev pub LacksIn : Word → Option Tree → Type 0
-LacksIn x (Some t) = Every (Lacks x) t
-LacksIn x None = Unit {0}
-
 pub unread_in : (c : Check) (x : Word) (o : Option Tree) → LacksIn x o → Unread c x o
 unread_in c x (Some t) h = eval_bind c x t h
 unread_in c x None h = tt
 
--- g leaves x alone, and x stands in no tree of g
-pub record Apart (g : Graft) (x : Word) : Type 0 where
-  pub left : (at : Place) → g x at ≡ None
-  pub lacks : (y : Word) (at : Place) → LacksIn x (g y at)
-
 pub apart_clear : (c : Check) (g : Graft) (x : Word) → Apart g x → Clear c g x
 apart_clear c g x k = record { left = k.left; unread = λ y at. unread_in c x (g y at) (k.lacks y at) }
-
--- the bound names of a form are apart from g
-abbrev pub ApartForm : Graft → Form → Place → Type 0
-ApartForm g m at = Each (Apart g) (binders m)
 
 abbrev AnyName : Word → Type 0
 AnyName x = Unit {0}

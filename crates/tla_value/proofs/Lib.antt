@@ -22,3 +22,4 @@ mod RowsScopes
 pub mod Canonical
 pub mod CanonicalForms
 pub mod CanonicalEval
+pub mod Agreement

@@ -8,9 +8,10 @@ use Rattle.tla_value.specs.Stops.{Check, sense_of}
 use Rattle.tla_value.specs.Meaning.{Env, just, eval}
 use Rattle.tla_value.specs.Grafts.{primes}
 use Rattle.tla_value.specs.Definitions.{Look, Definition, or_sense, base, in_states, at_use, bind_each, body_sense, defined, with_definitions, scope_of, mid}
-use Rattle.tla_value.proofs.Alike.{Bound, Keeps, eval_alike}
+use Rattle.tla_value.proofs.Alike.{eval_alike}
 use Rattle.tla_value.proofs.Graft.{every_weaker}
-use Rattle.tla_value.proofs.Primes.{Mixed, OutOf, primed_law}
+use Rattle.tla_value.proofs.Primes.{Mixed, primed_law}
+use Rattle.tla_value.specs.Related.{AllSettled, Bound, Given, Keeps, OutOf, Settled, Unassigned}
 
 -- the environments agree on the names of U that are not in A
 pub record Beside (A : Word → Bool) (U : Word → Type 0) (e f : Env) : Type 0 where
@@ -28,12 +29,6 @@ beside_bound A U x e f v r = record {
 all_beside : (A : Word → Bool) (U : Word → Type 0) (xs : List Word) → Each (Bound (Beside A U)) xs
 all_beside A U [] = tt
 all_beside A U (x ∷ xs) = (beside_bound A U x, all_beside A U xs)
-
--- the names that a form reads are of U, and none is in A
-abbrev pub Unassigned : (Word → Bool) → (Word → Type 0) → Form → Place → Type 0
-Unassigned A U (name x) at = U x × (A x ≡ false)
-Unassigned A U (call f) at = U f
-Unassigned A U _ at = Unit {0}
 
 form_beside : (A : Word → Bool) (U : Word → Type 0) (m : Form) (at : Place) → Unassigned A U m at → Keeps (Beside A U) m at
 form_beside A U (name x) at h = (tt, λ at' e f r. r.now x h.0 h.1 at')
@@ -55,15 +50,6 @@ mixed_beside A U e f r = record {
 
 body_beside : (c : Check) (A : Word → Bool) (U : Word → Type 0) (d : Definition) → Every (Unassigned A U) d.body → (e f : Env) → Beside A U e f → (at : Place) → body_sense c d e at ≡ body_sense c d f at
 body_beside c A U d h e f r at = λ i. sense_of (at_use d.outside at (eval_alike (Beside A U) c d.body (every_weaker _ _ (form_beside A U) d.body h) e f r i).value)
-
--- a definition of U is no variable of A, and reads none
-pub record Settled (A : Word → Bool) (U : Word → Type 0) (d : Definition) : Type 0 where
-  pub title : A d.title ≡ false
-  pub body : Every (Unassigned A U) d.body
-
-abbrev pub AllSettled : (Word → Bool) → (Word → Type 0) → List Definition → Type 0
-AllSettled A U [] = Unit {0}
-AllSettled A U (d ∷ ds) = (U d.title → Settled A U d) × AllSettled A U ds
 
 defined_name : (c : Check) (A : Word → Bool) (U : Word → Type 0) (d : Definition) → (U d.title → Settled A U d) → (e f : Env) → Mixed A U e f → (y : Word) → U y → (at : Place) (b : Bool) → bytes_eq d.title y ≡ b →
     cond b (body_sense c d f at) (f.now y at) ≡ cond (A y) (e.primed y at) (cond b (body_sense c d e at) (e.now y at))
@@ -96,11 +82,6 @@ defined_mixed c A U d (p ∷ ps) h e f r = record {
 definitions_mixed : (c : Check) (A : Word → Bool) (U : Word → Type 0) (ds : List Definition) → AllSettled A U ds → (e f : Env) → Mixed A U e f → Mixed A U (with_definitions c ds e) (with_definitions c ds f)
 definitions_mixed c A U [] h e f r = r
 definitions_mixed c A U (d ∷ ds) h e f r = definitions_mixed c A U ds h.1 _ _ (defined_mixed c A U d d.params h.0 e f r)
-
--- the assigned variables have values
-abbrev pub Given : Option Value → Type 0
-Given (Some v) = Unit {0}
-Given None = ⊥
 
 or_mixed : (b : Bool) (s t : Option Value) (n p : Sense) → (b ≡ true → Given t) → or_sense (cond b t s) n ≡ cond b (or_sense t p) (or_sense s n)
 or_mixed true s (Some v) n p h = refl

@@ -6,19 +6,12 @@ use Rattle.tla_expr.specs.Tree.{Word, Form, Tree, Every, Each, binders, graft}
 use Rattle.tla_value.specs.Stops.{Check}
 use Rattle.tla_value.specs.Meaning.{Env, eval}
 use Rattle.tla_value.specs.Grafts.{Arguments, arguments, own_part, owned, through}
-use Rattle.tla_value.proofs.Graft.{each_weaker, every_weaker, LacksIn, through_law}
-
--- a bound name of the body is no parameter, and stands in no argument
-abbrev pub NoArgument : Arguments → Form → Place → Type 0
-NoArgument s m at = Each (λ x. (s x ≡ None) × ((y : Word) → LacksIn x (s y))) (binders m)
+use Rattle.tla_value.proofs.Graft.{each_weaker, every_weaker, through_law}
+use Rattle.tla_value.specs.Related.{LacksIn, NoArgument, NotOwned}
 
 -- the body with its arguments put in means what it means where each parameter stands for its argument
 pub macro_law : (c : Check) (s : Arguments) (t : Tree) → Every (NoArgument s) t → (e : Env) → eval c (graft (arguments s) t) e ≡ eval c t (through c (arguments s) e)
 macro_law c s t h = through_law c (arguments s) t (every_weaker _ _ (λ m at. each_weaker _ _ (λ x k. record { left = λ at'. k.0; lacks = λ y at'. k.1 y }) (binders m)) t h)
-
--- a bound name is neither such a variable nor self
-abbrev pub NotOwned : Word → (Word → Bool) → Form → Place → Type 0
-NotOwned self here m at = Each (λ x. (here x ≡ false) × (bytes_eq x self ≡ false)) (binders m)
 
 abbrev NotTrue : Bool → Type 0
 NotTrue true = ⊥

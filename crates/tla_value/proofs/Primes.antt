@@ -6,8 +6,8 @@ use Rattle.tla_expr.specs.Tree.{Word, Form, name, next, call, Tree, node, no_tre
 use Rattle.tla_value.specs.Stops.{Check}
 use Rattle.tla_value.specs.Meaning.{Env, just, eval}
 use Rattle.tla_value.specs.Grafts.{primes, read_tree}
-use Rattle.tla_value.proofs.Alike.{Bound}
-use Rattle.tla_value.proofs.Graft.{each_weaker, every_weaker, Fits, graft_law, grafted_law, Uses, Unread, Clear}
+use Rattle.tla_value.proofs.Graft.{each_weaker, every_weaker, Fits, graft_law, grafted_law, Unread, Clear}
+use Rattle.tla_value.specs.Related.{Bound, OutOf, Uses}
 
 read_primed : (c : Check) (b : Bool) (x : Word) (at : Place) (e : Env) → cond b (e.primed x at) (e.now x at) ≡ read_tree c (cond b (Some (node (next x) at no_trees)) None) x at e
 read_primed c true x at e = refl
@@ -28,10 +28,6 @@ pub record Mixed (A : Word → Bool) (U : Word → Type 0) (e f : Env) : Type 0 
   pub now : (x : Word) → U x → (at : Place) → f.now x at ≡ cond (A x) (e.primed x at) (e.now x at)
   pub primed : (x : Word) (at : Place) → e.primed x at ≡ f.primed x at
   pub defs : (x : Word) → U x → e.defs x ≡ f.defs x
-
--- no bound name of the tree is in A, and its other names are of U
-abbrev pub OutOf : (Word → Bool) → (Word → Type 0) → Form → Place → Type 0
-OutOf A U m at = Each (λ x. A x ≡ false) (binders m) × Uses U m
 
 pub primed_law : (c : Check) (A : Word → Bool) (U : Word → Type 0) (t : Tree) → Every (OutOf A U) t → (e f : Env) → Mixed A U e f → eval c (graft (primes A) t) e ≡ eval c t f
 primed_law c A U t h e f r = grafted_law c (primes A) U t (every_weaker _ _ (λ m at k. (each_weaker _ _ (clear_primes c A) (binders m) k.0, k.1)) t h) e f (record {

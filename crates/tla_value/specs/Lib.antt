@@ -14,3 +14,4 @@ pub mod Meaning
 pub mod Grafts
 pub mod Standard
 pub mod Definitions
+pub mod Related

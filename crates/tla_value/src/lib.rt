@@ -5,6 +5,7 @@ pub mod build;
 pub mod compare;
 pub mod fault;
 pub mod laws;
+pub mod meaning_laws;
 pub mod state;
 pub mod stop;
 pub mod value;

@@ -1,0 +1,103 @@
+-- What laws of the meaning speak of: relations between environments, names that a tree reads and binds, and outcomes up to limits.
+use Rattle.std.specs.Prelude.{◌≡◌, List, [], ◌∷◌, Bool, true, false, bytes_eq, Option, Some, None}
+use Rattle.tla_token.specs.declared.place.Place.{Place}
+use Rattle.tla_expr.specs.Tree.{Word, Form, name, next, call, Tree, Every, Each, binders, Graft}
+use Rattle.tla_value.specs.Value.{Value, Outcome, good, fault, over}
+use Rattle.tla_value.specs.Meaning.{Env, Den, bind}
+use Rattle.tla_value.specs.Grafts.{Arguments}
+use Rattle.tla_value.specs.Definitions.{Definition}
+
+-- a relation between environments
+abbrev pub Rel : Type 1
+Rel = Env → Env → Type 0
+
+-- the relation passes a binder of x
+abbrev pub Bound : Rel → Word → Type 0
+Bound R x = (e f : Env) (v : Value) → R e f → R (bind x v e) (bind x v f)
+
+-- what a form reads of its environment is the same
+abbrev pub Reads : Rel → Form → Type 0
+Reads R (name x) = (at : Place) (e f : Env) → R e f → e.now x at ≡ f.now x at
+Reads R (next x) = (at : Place) (e f : Env) → R e f → e.primed x at ≡ f.primed x at
+Reads R (call g) = (e f : Env) → R e f → e.defs g ≡ f.defs g
+Reads R _ = Unit {0}
+
+abbrev pub Keeps : Rel → Form → Place → Type 0
+Keeps R m at = Each (Bound R) (binders m) × Reads R m
+
+abbrev pub Alike : Rel → Den → Den → Type 0
+Alike R a b = (e f : Env) → R e f → a e ≡ b f
+
+-- the names and operators that a form reads, but for primed names, are among U
+abbrev pub Uses : (Word → Type 0) → Form → Type 0
+Uses U (name x) = U x
+Uses U (call x) = U x
+Uses U _ = Unit {0}
+
+abbrev pub Lacks : Word → Form → Place → Type 0
+Lacks x (name y) at = bytes_eq x y ≡ false
+Lacks x _ at = Unit {0}
+
+abbrev pub LacksIn : Word → Option Tree → Type 0
+LacksIn x (Some t) = Every (Lacks x) t
+LacksIn x None = Unit {0}
+
+-- g leaves x alone, and x stands in no tree of g
+pub record Apart (g : Graft) (x : Word) : Type 0 where
+  pub left : (at : Place) → g x at ≡ None
+  pub lacks : (y : Word) (at : Place) → LacksIn x (g y at)
+
+-- the bound names of a form are apart from g
+abbrev pub ApartForm : Graft → Form → Place → Type 0
+ApartForm g m at = Each (Apart g) (binders m)
+
+-- a bound name of the body is no parameter, and stands in no argument
+abbrev pub NoArgument : Arguments → Form → Place → Type 0
+NoArgument s m at = Each (λ x. (s x ≡ None) × ((y : Word) → LacksIn x (s y))) (binders m)
+
+-- a bound name is neither such a variable nor self
+abbrev pub NotOwned : Word → (Word → Bool) → Form → Place → Type 0
+NotOwned self here m at = Each (λ x. (here x ≡ false) × (bytes_eq x self ≡ false)) (binders m)
+
+-- no bound name of the tree is in A, and its other names are of U
+abbrev pub OutOf : (Word → Bool) → (Word → Type 0) → Form → Place → Type 0
+OutOf A U m at = Each (λ x. A x ≡ false) (binders m) × Uses U m
+
+-- the names that a form reads are of U, and none is in A
+abbrev pub Unassigned : (Word → Bool) → (Word → Type 0) → Form → Place → Type 0
+Unassigned A U (name x) at = U x × (A x ≡ false)
+Unassigned A U (call f) at = U f
+Unassigned A U _ at = Unit {0}
+
+-- a definition of U is no variable of A, and reads none
+pub record Settled (A : Word → Bool) (U : Word → Type 0) (d : Definition) : Type 0 where
+  pub title : A d.title ≡ false
+  pub body : Every (Unassigned A U) d.body
+
+abbrev pub AllSettled : (Word → Bool) → (Word → Type 0) → List Definition → Type 0
+AllSettled A U [] = Unit {0}
+AllSettled A U (d ∷ ds) = (U d.title → Settled A U d) × AllSettled A U ds
+
+-- the assigned variables have values
+abbrev pub Given : Option Value → Type 0
+Given (Some v) = Unit {0}
+Given None = ⊥
+
+-- o is o', or passed a limit
+abbrev pub Below : Outcome → Outcome → Type 0
+Below (over p) o' = Unit {0}
+Below o o' = o ≡ o'
+
+-- the environments agree on the names and operators of u, and on primed names
+pub record AgreeOn (u : Word → Bool) (e f : Env) : Type 0 where
+  pub now : (x : Word) → u x ≡ true → (at : Place) → e.now x at ≡ f.now x at
+  pub primed : (x : Word) (at : Place) → e.primed x at ≡ f.primed x at
+  pub defs : (x : Word) → u x ≡ true → e.defs x ≡ f.defs x
+
+-- the words of u, as a fact
+abbrev pub In : (Word → Bool) → Word → Type 0
+In u x = u x ≡ true
+
+-- a tree whose names and operators are of u
+abbrev pub ReadsOnly : (Word → Bool) → Form → Place → Type 0
+ReadsOnly u m at = Uses (In u) m

@@ -1,0 +1,47 @@
+//! Laws of the meaning of expressions, stated as what functions without a body ensure.
+
+ghost use Rattle.std.specs.Prelude.{◌≡◌, ◌+◌, ◌<◌, ℕ, ℤ, pos, Bool, true, List};
+ghost use Rattle.tla_expr.specs.Tree.{Word, Tree, Graft, graft, Every};
+ghost use Rattle.tla_value.specs.Stops.{Check, plain};
+ghost use Rattle.tla_value.specs.Limits.{bounded};
+ghost use Rattle.tla_value.specs.Meaning.{Env, eval};
+ghost use Rattle.tla_value.specs.Grafts.{Arguments, arguments, primes, owned, through};
+ghost use Rattle.tla_value.specs.Definitions.{Look, Definition, scope_of, mid};
+ghost use Rattle.tla_value.specs.Related.{AgreeOn, ReadsOnly, In, ApartForm, NoArgument, NotOwned, OutOf, AllSettled, Given, Below};
+
+/// What an expression means depends only on the names and operators that it reads.
+pub fn meaning_is_of_what_is_read()
+    ensures { (c : Check) (u : Word → Bool) (t : Tree) → Every (ReadsOnly u) t → (e f : Env) → AgreeOn u e f → eval c t e ≡ eval c t f }
+{}
+
+/// With trees put in for its names, an expression means what it means where the names stand for these
+/// trees. No name that it binds may be put in for, or stand in a tree that is put in.
+pub fn grafts_stand_for_names()
+    ensures { (c : Check) (g : Graft) (t : Tree) → Every (ApartForm g) t → (e : Env) → eval c (graft g t) e ≡ eval c t (through c g e) }
+{}
+
+/// With arguments put in for its parameters, a macro's expression means what it means where each
+/// parameter stands for its argument.
+pub fn arguments_stand_for_parameters()
+    ensures { (c : Check) (s : Arguments) (t : Tree) → Every (NoArgument s) t → (e : Env) → eval c (graft (arguments s) t) e ≡ eval c t (through c (arguments s) e) }
+{}
+
+/// With `x[self]` put in for the variables of a process, an expression means what it means where each of
+/// these stands for the process's own part.
+pub fn own_parts_stand_for_locals()
+    ensures { (c : Check) (self : Word) (here : Word → Bool) (t : Tree) → Every (NotOwned self here) t → (e : Env) → eval c (graft (owned self here) t) e ≡ eval c t (through c (owned self here) e) }
+{}
+
+/// With the variables of a set primed, an expression means in a pair of states what it means in the state
+/// half done, in which these variables have their next values. No name that it binds is of the set, and no
+/// definition that it uses reads one.
+pub fn primes_read_the_mid_state()
+    ensures { (c : Check) (assigned : Word → Bool) (u : Word → Bool) (constants : Look) (ds : List Definition) (s t : Look)
+        → AllSettled assigned (In u) ds → ((x : Word) → assigned x ≡ true → Given (t x)) → (e : Tree) → Every (OutOf assigned (In u)) e
+        → eval c (graft (primes assigned) e) (scope_of c constants ds s t) ≡ eval c e (scope_of c constants ds (mid assigned s t) t) }
+{}
+
+/// Under the limits of a run an expression has the outcome that it has without them, or passes one.
+pub fn limits_change_nothing_else()
+    ensures { (constants : Look) (ds : List Definition) (s t : Look) (e : Tree) → Below (eval bounded e (scope_of bounded constants ds s t)).value (eval plain e (scope_of plain constants ds s t)).value }
+{}
