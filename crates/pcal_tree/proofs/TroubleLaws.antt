@@ -4,7 +4,7 @@ use Rattle.tla_expr.specs.Tree.{Word}
 use Rattle.tla_value.specs.Value.{Value}
 use Rattle.tla_value.specs.Order.{same}
 use Rattle.std.proofs.lemmas.Slice.Eq.{bytes_eq-Decides}
-use Rattle.tla_value.proofs.OrderLaws.{same_is, same_self}
+use Rattle.tla_value.specs.OrderLaws.{same_is, same_self}
 use Rattle.pcal_tree.specs.Algorithm.{Statement, branch, either, with, loop, Statements, done, then, mark, Branches, no_branches, or, Routine}
 use Rattle.pcal_tree.specs.Run.{Course, Has, unlabelled, label_of}
 use Rattle.pcal_tree.specs.Scope.{State, Trouble, Got, got, bad}

@@ -1,0 +1,10 @@
+pub mod Module
+pub mod ExprText
+pub mod Layout
+pub mod Around
+pub mod Truth
+pub mod Grammar
+pub mod Units
+pub mod Seen
+pub mod Outside
+pub mod Reading

@@ -1,0 +1,224 @@
+-- Units outside the translation: which are read, and what is kept of those that are not ("Specifying Systems", sections 17.1 to 17.5; standard modules, chapter 18).
+use Rattle.std.specs.Prelude.{◌≡◌, ◌⊎◌, ℕ, ◌+◌, ◌^◌, max, ◌&&◌, ◌||◌, not, Bool, true, false, nat_lt, nat_le, nat_eq, bytes_eq, IsTrue, List, [], ◌∷◌, ◌++◌, length, Option, Some, None, codes, cond}
+use Rattle.tla_token.specs.declared.place.Place.{Place}
+use Rattle.tla_token.specs.Places.{start}
+use Rattle.tla_token.specs.Signs.{is_among}
+use Rattle.tla_token.specs.Words.{is_standard}
+use Rattle.tla_expr.specs.declared.op.Op.{Op}
+use Rattle.tla_expr.specs.declared.op.Op.TheVariants as op
+use Rattle.tla_expr.specs.Tree.{Word, Form, number, strings, name, next, strict, operator, call, member, binding, local, Tree, node, Trees, no_trees, tree, binders}
+use Rattle.tla_expr.specs.Lexical.{mark}
+use Rattle.tla_expr.specs.Lexical as tk
+use Rattle.tla_expr.specs.Spelling.{Phrase, Right, Good}
+use Rattle.tla_expr.specs.Nesting.{text_nesting}
+use Rattle.tla_value.specs.Definitions.{Definition}
+use Rattle.module_text.specs.Module.{Opaque, Outside, extends, constants, defines, opaque, defined_in}
+use Rattle.module_text.specs.Grammar.{Token, Kind, seen, keyword, reserved, Names, spell_names, words, GoodNames, tree_of}
+use Rattle.module_text.specs.Units.{ParameterForm, parameters, GoodParameters, definition_form, spell_unit}
+
+-- what an outside unit may use
+pub record Sight : Type 0 where
+  pub modules : List Word  -- those extended anywhere in the module
+  pub constants : List Word  -- those declared anywhere in it
+  pub earlier : List Definition  -- those read before
+
+-- ---- operators of standard modules
+
+abbrev pub extends_one : Sight → List Word → Bool
+extends_one v [] = false
+extends_one v (m ∷ ms) = is_among v.modules m || extends_one v ms
+
+abbrev pub has_numbers : Sight → Bool
+has_numbers v = extends_one v (codes "Naturals" ∷ codes "Integers" ∷ [])
+
+abbrev pub has_sequences : Sight → Bool
+has_sequences v = extends_one v (codes "Sequences" ∷ [])
+
+abbrev pub has_tlc : Sight → Bool
+has_tlc v = extends_one v (codes "TLC" ∷ [])
+
+abbrev pub has_operator : Sight → Op → Bool
+has_operator v op.Plus = has_numbers v
+has_operator v op.Minus = has_numbers v
+has_operator v op.Times = has_numbers v
+has_operator v op.Divide = has_numbers v
+has_operator v op.Modulo = has_numbers v
+has_operator v op.Range = has_numbers v
+has_operator v op.Less = has_numbers v
+has_operator v op.Greater = has_numbers v
+has_operator v op.AtMost = has_numbers v
+has_operator v op.AtLeast = has_numbers v
+has_operator v op.Negate = extends_one v (codes "Integers" ∷ [])
+has_operator v op.Concat = has_sequences v
+has_operator v op.MapsTo = has_tlc v
+has_operator v op.Override = has_tlc v
+has_operator v _ = true
+
+-- f is a standard operator of n arguments; Seq stands only where a set may be infinite
+abbrev pub has_standard : Sight → Bool → Word → ℕ → Bool
+has_standard v inf f n =
+    (nat_eq n 1 && (has_sequences v && is_among (codes "Len" ∷ codes "Head" ∷ codes "Tail" ∷ []) f))
+    || ((nat_eq n 2 && (has_sequences v && bytes_eq f (codes "Append")))
+    || ((nat_eq n 3 && (has_sequences v && bytes_eq f (codes "SubSeq")))
+    || ((nat_eq n 1 && (has_sequences v && (inf && bytes_eq f (codes "Seq"))))
+    || ((nat_eq n 1 && (extends_one v (codes "FiniteSets" ∷ []) && is_among (codes "Cardinality" ∷ codes "IsFiniteSet" ∷ []) f))
+    || ((nat_eq n 1 && (has_tlc v && bytes_eq f (codes "PrintT")))
+    || (nat_eq n 2 && (has_tlc v && bytes_eq f (codes "Assert"))))))))
+
+abbrev pub has_infinite : Sight → Word → Bool
+has_infinite v x = (has_numbers v && bytes_eq x (codes "Nat")) || (extends_one v (codes "Integers" ∷ []) && bytes_eq x (codes "Int"))
+
+-- how many parameters the last definition of that name has
+abbrev pub arity : List Definition → Word → Option ℕ
+arity [] f = None
+arity (d ∷ ds) f = by (arity ds f) (bytes_eq d.title f) (length d.params)
+  where
+    by : Option ℕ → Bool → ℕ → Option ℕ
+    by (Some n) b k = Some n
+    by None true k = Some k
+    by None false k = None
+
+abbrev pub is_arity : Option ℕ → ℕ → Bool
+is_arity (Some k) n = nat_eq k n
+is_arity None n = false
+
+abbrev pub is_defined : Option ℕ → Bool
+is_defined (Some k) = true
+is_defined None = false
+
+-- ---- which definitions are read
+
+-- x may be a parameter or a bound name, where those of bs are bound already
+abbrev pub is_fresh : Sight → List Word → Word → Bool
+is_fresh v bs x = not (is_standard v.modules x) && (not (is_among v.constants x) && (not (is_defined (arity v.earlier x)) && not (is_among bs x)))
+
+abbrev pub are_fresh : Sight → List Word → List Word → Bool
+are_fresh v bs [] = true
+are_fresh v bs (x ∷ xs) = is_fresh v bs x && are_fresh v (x ∷ bs) xs
+
+abbrev pub count : Trees → ℕ
+count no_trees = 0
+count (tree t ts) = count ts + 1
+
+-- the form alone, with n parts, where the names of bs are bound; `inf` says that it stands directly right of \in or \notin
+abbrev pub form_reads : Sight → List Word → Bool → Form → ℕ → Bool
+form_reads v bs inf (number k) n = nat_lt k (2 ^ 127)
+form_reads v bs inf strings n = inf
+form_reads v bs inf (name x) n = is_among bs x || (is_among v.constants x || (is_arity (arity v.earlier x) 0 || (inf && has_infinite v x)))
+form_reads v bs inf (next x) n = false
+form_reads v bs inf (call f) n = is_arity (arity v.earlier f) n || has_standard v inf f n
+form_reads v bs inf (strict (operator o)) n = has_operator v o
+form_reads v bs inf (binding b xs) n = are_fresh v bs xs
+form_reads v bs inf (local x) n = is_fresh v bs x
+form_reads v bs inf _ n = true
+
+abbrev pub is_member : Form → Bool
+is_member (member b) = true
+is_member _ = false
+
+abbrev mutual
+  pub tree_reads : Sight → List Word → Bool → Tree → Bool
+  tree_reads v bs inf (node m at ts) = form_reads v bs inf m (count ts) && trees_read v bs (binders m) (is_member m) ts
+
+  -- the last part has further names bound, and may be infinite
+  pub trees_read : Sight → List Word → List Word → Bool → Trees → Bool
+  trees_read v bs xs inf no_trees = true
+  trees_read v bs xs inf (tree t no_trees) = tree_reads v (xs ++ bs) inf t
+  trees_read v bs xs inf (tree t (tree u us)) = tree_reads v bs false t && trees_read v bs xs inf (tree u us)
+
+-- how deep a tree nests with the bodies of earlier definitions in place of their names, each use being one form more
+abbrev pub used : (Word → ℕ) → Form → ℕ
+used deep (name x) = deep x
+used deep (call f) = deep f
+used deep _ = 0
+
+abbrev mutual
+  pub nests : (Word → ℕ) → Tree → ℕ
+  nests deep (node m at ts) = max (used deep m) (nest deep ts)
+
+  pub nest : (Word → ℕ) → Trees → ℕ
+  nest deep no_trees = 0
+  nest deep (tree t ts) = max (1 + nests deep t) (nest deep ts)
+
+abbrev pub depths : List Definition → (Word → ℕ) → Word → ℕ
+depths [] deep = deep
+depths (d ∷ ds) deep = depths ds (λ x. cond (bytes_eq d.title x) (1 + nests deep d.body) (deep x))
+
+abbrev pub definition_reads : Sight → Definition → Bool
+definition_reads v d =
+    are_fresh v [] d.params && (tree_reads v d.params false d.body && nat_le (nests (depths v.earlier (λ x. 0)) d.body) 500)
+
+-- ---- what is kept of a unit that is not read
+
+abbrev pub identifiers : List Token → List Word
+identifiers [] = []
+identifiers (t ∷ ts) = by t.kind (identifiers ts)
+  where
+    by : Kind → List Word → List Word
+    by (seen (tk.word x)) xs = x ∷ xs
+    by (seen (tk.reserved x)) xs = x ∷ xs
+    by _ xs = xs
+
+abbrev pub first_one : List Word → List Word
+first_one [] = []
+first_one (x ∷ xs) = x ∷ []
+
+abbrev pub is_define : Kind → Bool
+is_define (seen (mark tk.defines)) = true
+is_define _ = false
+
+-- N, where `N ==` stands here
+abbrev pub title_at : List Token → List Word
+title_at (t ∷ u ∷ ts) = cond (is_define u.kind) (identifiers (t ∷ [])) []
+title_at _ = []
+
+abbrev pub keyword_of : Kind → Word
+keyword_of (keyword w) = w
+keyword_of _ = []
+
+abbrev pub names_by : Word → Token → List Token → List Word
+names_by w t ts =
+    cond (is_among (codes "ASSUME" ∷ codes "ASSUMPTION" ∷ codes "AXIOM" ∷ codes "THEOREM" ∷ []) w) (title_at ts)
+    (cond (is_among (codes "CONSTANT" ∷ codes "CONSTANTS" ∷ codes "RECURSIVE" ∷ []) w) (identifiers ts) (first_one (identifiers (t ∷ ts))))
+
+abbrev pub opaque_of : List Token → Opaque
+opaque_of [] = record { keyword = []; names = []; place = start }
+opaque_of (t ∷ ts) = record { keyword = keyword_of t.kind; names = names_by (keyword_of t.kind) t ts; place = t.place }
+
+-- ---- units
+
+pub record Named (w : Word) (ts : List Token) (xs : List Word) : Type 0 where
+  pub at : Place
+  pub names : Names
+  pub good : GoodNames 1 names
+  pub spelled : ts ≡ reserved at w (spell_names names [])
+  pub are : words names ≡ xs
+
+pub record Defined (v : Sight) (ts : List Token) (d : Definition) : Type 0 where
+  pub at : Place
+  pub params : Option ParameterForm
+  pub sign : Place
+  pub body : Phrase
+  pub good : GoodParameters params × Right 1 sign × Good 1 body
+  pub spelled : ts ≡ spell_unit (definition_form at d.title params sign body) []
+  pub is : record { title = d.title; params = parameters params; body = tree_of body; outside = true } ≡ d
+  pub shallow : IsTrue (nat_le (text_nesting body) 200)
+  pub reads : IsTrue (definition_reads v d)
+
+-- the unit is read; definitions are read only before the translation
+abbrev pub IsRead : Bool → Sight → List Token → Outside → Type 0
+IsRead b v ts (extends ms) = Named (codes "EXTENDS") ts ms
+IsRead b v ts (constants xs) = Named (codes "CONSTANT") ts xs ⊎ Named (codes "CONSTANTS") ts xs
+IsRead b v ts (defines d) = IsTrue b × Defined v ts d
+IsRead b v ts (opaque o) = ⊥
+
+-- it is, or else it is passed on
+abbrev pub IsOutside : Bool → Sight → List Token → Outside → Type 0
+IsOutside b v ts (opaque o) = ((u : Outside) → IsRead b v ts u → ⊥) × (o ≡ opaque_of ts)
+IsOutside b v ts u = IsRead b v ts u
+
+-- each sees the definitions before it
+abbrev pub AllOutside : Bool → Sight → List (List Token) → List Outside → Type 0
+AllOutside b v [] [] = Unit {0}
+AllOutside b v (ts ∷ more) (u ∷ us) = IsOutside b v ts u × AllOutside b (record v { earlier = v.earlier ++ defined_in (u ∷ []) }) more us
+AllOutside b v _ _ = ⊥

@@ -1,0 +1,2 @@
+//! Modules of TLA+: their trees, the text of a translation, where it stands in a file, and what it says of states.
+#![tactic(auto)]
