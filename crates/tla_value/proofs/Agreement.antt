@@ -1,9 +1,9 @@
 -- The meaning of a tree depends only on the names and operators that it reads.
-use Rattle.std.proofs.Common.{◌≡◌, List, [], ◌∷◌, Bool, true, cond, bytes_eq, refl}
+use Rattle.std.proofs.Common.{◌≡◌, List, [], ◌∷◌, Bool, cond, bytes_eq}
 use Rattle.tla_token.specs.declared.place.Place.{Place}
 use Rattle.tla_expr.specs.Tree.{Word, Form, name, next, call, Tree, Every, Each, binders}
 use Rattle.tla_value.specs.Stops.{Check}
-use Rattle.tla_value.specs.Meaning.{Env, just, bind, eval}
+use Rattle.tla_value.specs.Meaning.{Env, just, eval}
 use Rattle.tla_value.specs.Related.{Bound, Keeps, AgreeOn, ReadsOnly}
 use Rattle.tla_value.proofs.Alike.{eval_alike}
 use Rattle.tla_value.proofs.Graft.{every_weaker}

@@ -2,12 +2,12 @@
 use Rattle.std.proofs.Common.{◌≡◌, List, [], ◌∷◌, ◌++◌, map, Bool, true, false, cond, refl, ◌∙◌}
 use Rattle.tla_token.specs.declared.place.Place.{Place}
 use Rattle.tla_expr.specs.declared.op.Binder.{Binder}
-use Rattle.tla_expr.specs.Tree.{Word, Form, number, quote, truth as literal, booleans, strings, name, next, strict, call, both, or_else, implies, member, choice, cases, binding, local, Tree, node, Trees, no_trees, tree, Every, EveryOf, Each, binders}
+use Rattle.tla_expr.specs.Tree.{Word, Form, number, quote, truth as literal, booleans, strings, name, next, strict, call, both, or_else, implies, member, choice, cases, binding, local, Tree, node, Trees, no_trees, tree, Every, EveryOf, Each}
 use Rattle.tla_value.specs.Value.{Value, Values, truth, no_values, and, Outcome, good}
 use Rattle.tla_value.specs.Stops.{Check, on_value, on_truth, on_sets, on_two, on_three, misshapen, sense_of}
 use Rattle.tla_value.specs.Strict.{strict_value, strict_test, same_truth}
 use Rattle.tla_value.specs.Meaning.{Env, Den, bind, on_all, Row, Visit, with_first, each_member, each_choice, fits_binder, visit_body, gathered, on_sources, first_arm, called, meaning_of, eval, evals}
-use Rattle.tla_value.specs.Related.{Alike, Bound, Keeps, Reads, Rel}
+use Rattle.tla_value.specs.Related.{Alike, Bound, Keeps, Rel}
 
 pub data AllAlike (R : Rel) : List Den → List Den → Type 0 where
   none : AllAlike R [] []

@@ -2,7 +2,7 @@
 use Rattle.std.specs.Prelude.{◌≡◌, List, [], ◌∷◌, Bool, true, false, bytes_eq, Option, Some, None}
 use Rattle.tla_token.specs.declared.place.Place.{Place}
 use Rattle.tla_expr.specs.Tree.{Word, Form, name, next, call, Tree, Every, Each, binders, Graft}
-use Rattle.tla_value.specs.Value.{Value, Outcome, good, fault, over}
+use Rattle.tla_value.specs.Value.{Value, Outcome, over}
 use Rattle.tla_value.specs.Meaning.{Env, Den, bind}
 use Rattle.tla_value.specs.Grafts.{Arguments}
 use Rattle.tla_value.specs.Definitions.{Definition}

@@ -6,6 +6,7 @@ pub mod compare;
 pub mod fault;
 pub mod laws;
 pub mod meaning_laws;
+pub mod names;
 pub mod state;
 pub mod stop;
 pub mod value;
