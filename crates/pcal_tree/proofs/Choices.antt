@@ -3,14 +3,7 @@ use Rattle.std.proofs.Common.{◌≡◌, ℕ, zero, suc, List, [], ◌∷◌, Op
 use Rattle.tla_token.specs.declared.place.Place.{Place}
 use Rattle.pcal_tree.specs.Scope.{State, Trouble, Got, got, bad}
 use Rattle.pcal_tree.specs.Run.{Course, ends, stops, chooses, Courses, no_courses, course, Has, HasSome}
-use Rattle.pcal_tree.specs.Choices.{Walk, went, failed, blocked, wanting, missing, walk, walk_into, or_else, first_trouble, first_trouble_of}
-
--- the outcome that a walk tells, if any
-abbrev pub told : Walk → Option (Got State)
-told (went t ns) = Some (got t)
-told (failed k) = Some (bad k)
-told (blocked at) = None
-told (wanting k at) = None
+use Rattle.pcal_tree.specs.Choices.{Walk, went, failed, blocked, wanting, missing, walk, walk_into, or_else, first_trouble, first_trouble_of, told, landing}
 
 none_told : (cs : Courses) (at : Place) (r : Got State) → told (missing cs at) ≡ Some r → ⊥
 none_told no_courses at r e = cc
@@ -62,11 +55,6 @@ mutual
       by (Some j) p e h f g = cc
       by None p e (inl h) f g = f p h
       by None p e (inr h) f g = g e h
-
--- a walk to an outcome, by choices that are all used
-abbrev pub landing : Got State → Walk
-landing (got t) = went t []
-landing (bad k) = failed k
 
 mutual
   pub has_walk : (c : Course) (r : Got State) → Has c r → (ns : List ℕ) × (walk c ns ≡ landing r)

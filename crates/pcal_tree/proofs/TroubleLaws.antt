@@ -12,7 +12,7 @@ use Rattle.pcal_tree.specs.Choices.{or_else, first_trouble}
 use Rattle.pcal_tree.specs.Begin.{Begin, begin_in, begin, begin_some, at_label}
 use Rattle.pcal_tree.specs.Program.{Program, Actor}
 use Rattle.pcal_tree.specs.Calls.{label_value}
-use Rattle.pcal_tree.specs.Step.{OneOf, pc_of, Stand, routines_of, StandsAt, course_of, Troubled, Sound, IsActor, labels_in, labels, labels_of, Proper, stand_at, label_named, stand_named, trouble_from, trouble_at, trouble_of_all, FirstTrouble}
+use Rattle.pcal_tree.specs.Step.{OneOf, pc_of, Stand, routines_of, StandsAt, course_of, Troubled, Sound, IsActor, labels_in, labels, labels_of, Proper, StandsOnce, stand_at, label_named, stand_named, trouble_from, trouble_at, trouble_of_all, FirstTrouble}
 use Rattle.pcal_tree.proofs.Choices.{some_inside, first_has, none_has}
 
 -- d is a label of one of the routines, and w names it
@@ -161,10 +161,6 @@ has_first c k h = by (first_trouble c) refl
     by : (o : Option Trouble) → first_trouble c ≡ o → IsSomething (first_trouble c)
     by (Some j) p = (j, p)
     by None p = absurd (none_has c k p h)
-
--- the process stands at one place, as where written labels are apart
-abbrev pub StandsOnce : Program → State → Actor → Type 0
-StandsOnce P s v = (d e : Stand) → StandsAt P s v d → StandsAt P s v e → d ≡ e
 
 stand_troubled : (P : Program) (s : State) (v : Actor) (k : Trouble) → StandsOnce P s v → (d : Stand) → StandsAt P s v d → Has (course_of P v d s) (bad k) → IsSomething (trouble_at P s v (pc_of v s))
 stand_troubled P s v k once d st h = by (stand_is_found P d st.1 (routines_of P v) st.0)

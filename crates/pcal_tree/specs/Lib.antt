@@ -13,3 +13,4 @@ pub mod Initial
 pub mod Starting
 pub mod Script
 pub mod Expand
+pub mod Marks

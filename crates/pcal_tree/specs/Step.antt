@@ -209,3 +209,7 @@ trouble_of_all P s (v ∷ vs) = or_else (trouble_at P s v (pc_of v s)) (trouble_
 -- the first that is met, processes in canonical order, each by its lists of choices item by item
 abbrev pub FirstTrouble : Program → State → Trouble → Type 0
 FirstTrouble P s k = (vs : List Actor) × (actors P ≡ got vs) × (trouble_of_all P s vs ≡ Some k)
+
+-- the process stands at one place, as where written labels are apart
+abbrev pub StandsOnce : Program → State → Actor → Type 0
+StandsOnce P s v = (d e : Stand) → StandsAt P s v d → StandsAt P s v e → d ≡ e

@@ -1,4 +1,5 @@
 //! Algorithms of PlusCal: their trees, their names, and what they mean.
 #![tactic(auto)]
 
+pub mod laws;
 pub mod mark;

@@ -1,5 +1,8 @@
 //! Marks of fairness on labels and processes.
 
+ghost use Rattle.std.specs.Prelude.{◌≡◌};
+ghost use Rattle.pcal_tree.specs.Marks.{text_of_mark, text_of_fairness};
+
 /// The mark behind a label.
 #[derive(Clone, Copy, PartialEq, Eq, Debug)]
 pub enum Mark {
@@ -20,4 +23,26 @@ pub enum Fairness {
     Weak,
     /// `fair+ process`
     Strong,
+}
+
+/// How a mark is written behind the name of its label.
+pub fn mark_text(mark: Mark) -> &'static str
+    ensures { result.now ≡ text_of_mark mark }
+{
+    match mark {
+        Mark::Plain => ":",
+        Mark::Strong => ":+",
+        Mark::LeftOut => ":-",
+    }
+}
+
+/// What stands before the word `process`.
+pub fn fairness_text(fairness: Fairness) -> &'static str
+    ensures { result.now ≡ text_of_fairness fairness }
+{
+    match fairness {
+        Fairness::Unfair => "",
+        Fairness::Weak => "fair ",
+        Fairness::Strong => "fair+ ",
+    }
 }

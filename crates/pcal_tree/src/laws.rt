@@ -1,0 +1,28 @@
+//! Laws of what algorithms mean, stated as what functions without a body ensure.
+
+ghost use Rattle.std.specs.Prelude.{◌≡◌, ℕ, List, Some, None};
+ghost use Rattle.pcal_tree.specs.Scope.{State, Trouble, Got, bad};
+ghost use Rattle.pcal_tree.specs.Run.{Course, Has};
+ghost use Rattle.pcal_tree.specs.Choices.{walk, told, landing, first_trouble};
+ghost use Rattle.pcal_tree.specs.Program.{Program, Actor};
+ghost use Rattle.pcal_tree.specs.Step.{Proper, Sound, IsActor, StandsOnce, FirstTrouble};
+
+/// What a list of choices leads to is an outcome of the course, and each outcome has a list of choices that
+/// leads to it, all of them used.
+pub fn choices_reach_the_outcomes()
+    ensures outcome { (c : Course) (choices : List ℕ) (r : Got State) → told (walk c choices) ≡ Some r → Has c r }
+    ensures reached { (c : Course) (r : Got State) → Has c r → (choices : List ℕ) × (walk c choices ≡ landing r) }
+{}
+
+/// The first trouble of a course is one of its outcomes, and where it has none no outcome is a trouble.
+pub fn first_trouble_is_met()
+    ensures met { (c : Course) (k : Trouble) → first_trouble c ≡ Some k → Has c (bad k) }
+    ensures none { (c : Course) (k : Trouble) → first_trouble c ≡ None → Has c (bad k) → ⊥ }
+{}
+
+/// A state is sound, that is, no step from it can meet trouble, exactly where it has no first trouble, if the
+/// identifiers are proper and each process stands at one label at most.
+pub fn sound_states_have_no_first_trouble()
+    ensures sound { (P : Program) (s : State) (k : Trouble) → Sound P s → FirstTrouble P s k → ⊥ }
+    ensures quiet { (P : Program) (s : State) → Proper P → ((v : Actor) → IsActor P v → StandsOnce P s v) → ((k : Trouble) → FirstTrouble P s k → ⊥) → Sound P s }
+{}
