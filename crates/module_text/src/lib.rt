@@ -1,2 +1,5 @@
 //! Modules of TLA+: their trees, the text of a translation, where it stands in a file, and what it says of states.
 #![tactic(auto)]
+
+pub mod laws;
+pub mod lines;
