@@ -1,0 +1,35 @@
+-- The answers of the program: their numbers, and the line that each writes on the error output.
+use Rattle.std.specs.Prelude.{ℕ, List, [], ◌++◌, codes, Option, Some, None}
+use Rattle.tla_token.specs.declared.rule.Refusal.{Refusal}
+use Rattle.tla_token.specs.Rules.{refusal_text}
+use Rattle.tla_expr.specs.Tree.{Word}
+use Rattle.pcal_cli.specs.declared.status.Status.{Status}
+use Rattle.pcal_cli.specs.declared.status.Status.TheVariants.{Fine, Memory, Usage, ReadFault, WriteFault, Refused, ScriptStep, NotAStep, Faulted, Limit, TooLong}
+
+abbrev pub status_number : Status → ℕ
+status_number Fine = 0
+status_number Memory = 1
+status_number Usage = 2
+status_number ReadFault = 3
+status_number WriteFault = 4
+status_number Refused = 5
+status_number ScriptStep = 6
+status_number NotAStep = 7
+status_number Faulted = 8
+status_number Limit = 9
+status_number TooLong = 10
+
+-- the line of a refusal: pcal: FILE:12:3: 45 AssignTwice
+abbrev pub refused_line : Word → Option Refusal → List ℕ
+refused_line file None = []
+refused_line file (Some r) = codes "pcal: " ++ (file ++ (codes ":" ++ (refusal_text r ++ codes "\n")))
+
+-- the line that an answer of a command that writes a module has on the error output; file: the file meant, and where it was refused why
+abbrev pub error_line : Status → Word → Option Refusal → List ℕ
+error_line Memory file r = codes "pcal: out of memory\n"
+error_line Usage file r = codes "pcal: usage\n"
+error_line ReadFault file r = codes "pcal: cannot read " ++ (file ++ codes "\n")
+error_line WriteFault file r = codes "pcal: cannot write\n"
+error_line Refused file r = refused_line file r
+error_line TooLong file r = codes "pcal: " ++ (file ++ codes " is too long\n")
+error_line s file r = []

@@ -1,0 +1,17 @@
+-- What the words of a command line mean.
+use Rattle.std.specs.Prelude.{ℕ, List, [], ◌∷◌, Bool, false, not, nat_eq, ◌&&◌, Option, Some, None, codes, if◌then◌else◌}
+use Rattle.std.specs.Str.{bytes_eq}
+use Rattle.tla_expr.specs.Tree.{Word}
+
+pub data Command : Type 0 where
+  translate : Word → Command  -- of the file of this name
+
+-- a word that begins with `-` is no name of a file
+abbrev pub begins_dashed : Word → Bool
+begins_dashed [] = false
+begins_dashed (b ∷ rest) = nat_eq b 45
+
+-- the first word is the program's name
+abbrev pub command_of : List Word → Option Command
+command_of (program ∷ verb ∷ file ∷ []) = if bytes_eq verb (codes "translate") && not (begins_dashed file) then Some (translate file) else None
+command_of _ = None
