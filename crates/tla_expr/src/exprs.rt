@@ -1,6 +1,6 @@
 //! Expressions in a row.
 
-ghost use Rattle.std.specs.Prelude.{◌≡◌, ◌++◌, ◌∷◌, [], IfOk, OnOk, length};
+ghost use Rattle.std.specs.Prelude.{◌≡◌, ◌++◌, ◌∷◌, [], IfOk, OnOk, OnErr, length};
 
 use crate::expr::{Expr, copied};
 use std::alloc::{AllocError, Global};
@@ -35,9 +35,10 @@ impl Exprs {
         }
     }
 
-    /// One more expression at the end.
+    /// One more expression at the end; without memory for it the list is as before.
     pub fn push(&mut self, e: Expr) -> Result<(), AllocError>
         ensures ok { OnOk result (self.new ≡ self.old ++ (e ∷ [])) }
+        ensures err { OnErr result (self.new ≡ self.old) }
     {
         self.items.push(e)?;
         Ok(())
