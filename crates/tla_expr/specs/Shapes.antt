@@ -1,12 +1,12 @@
--- How many parts a form has.
-use Rattle.std.specs.Prelude.{ℕ, zero, suc, ◌+◌, ◌≡◌, ◌≤◌, List, [], ◌∷◌, length, Bool, true, false}
+-- How many parts a form has, and how large a number is.
+use Rattle.std.specs.Prelude.{ℕ, zero, suc, ◌+◌, ◌^◌, ◌≡◌, ◌≤◌, ◌<◌, List, [], ◌∷◌, length, Bool, true, false}
 use Rattle.tla_expr.specs.declared.op.Binder.{Binder}
 use Rattle.tla_expr.specs.declared.op.Binder.TheVariants as binder
 use Rattle.std.specs.Bool.{IsTrue}
 use Rattle.tla_expr.specs.declared.op.Op.{Op}
 use Rattle.tla_expr.specs.declared.op.Op.TheVariants as op
 use Rattle.tla_expr.specs.Rank.{is_prefix}
-use Rattle.tla_expr.specs.Tree.{Word, Step, index, field, Slot, Strict, operator, set_of, tuple, fields, records, functions, apply, select, except, Form, strict, call, both, or_else, implies, member, choice, cases, binding, local}
+use Rattle.tla_expr.specs.Tree.{Word, Step, index, field, Slot, Strict, operator, set_of, tuple, fields, records, functions, apply, select, except, Form, number, strict, call, both, or_else, implies, member, choice, cases, binding, local}
 
 -- the others are forms of their own
 abbrev pub is_strict : Op → Bool
@@ -70,7 +70,9 @@ abbrev pub BinderShaped : Binder → List Word → ℕ → Type 0
 BinderShaped binder.Filter xs n = (length xs ≡ 1) × (n ≡ 2)
 BinderShaped b xs n = (1 ≤ length xs) × (n ≡ suc (length xs))
 
+-- no number is past 2^127 - 1
 abbrev pub Shaped : Form → ℕ → Type 0
+Shaped (number k) n = (k < 2 ^ 127) × (n ≡ 0)
 Shaped (strict o) n = StrictShaped o n
 Shaped (call f) n = 1 ≤ n
 Shaped both n = n ≡ 2
