@@ -24,6 +24,16 @@ pub to_marks : (b : ℕ) (bs : List ℕ) → list_any is_letter (run is_word (b 
     → lexeme_part b bs ≡ sign_part (sign_at (b ∷ bs)) b (b ∷ bs)
 to_marks b bs none digit back = rw (none, digit, back) refl
 
+-- ---- printable bytes
+pub tells_apart : (p : ℕ → Bool) (b k : ℕ) → p b ≡ true → p k ≡ false → nat_eq b k ≡ false
+tells_apart p b k t f = false_from_ne_true (nat_eq b k) (λ e. both_ways (p k) f (ap p (sym (eqb-true b k e)) ∙ t))
+
+pub tells_other : (p : ℕ → Bool) (k b : ℕ) → p b ≡ true → p k ≡ false → nat_eq k b ≡ false
+tells_other p k b t f = false_from_ne_true (nat_eq k b) (λ e. both_ways (p k) f (ap p (eqb-true k b e) ∙ t))
+
+pub printed_blank : (b : ℕ) → is_printed b ≡ true → is_blank b ≡ false
+printed_blank b h = rw (tells_apart is_printed b 32 h refl, tells_apart is_printed b 9 h refl, tells_apart is_printed b 10 h refl, tells_apart is_printed b 13 h refl) refl
+
 -- ---- a backslash with a word
 
 -- it is a lexeme, of a sign or of one that is left out
@@ -80,7 +90,7 @@ no_word_behind b v rest marks longest =
         let f : false ≡ true = rw w at any in cc
       where
         mark_word : (c : ℕ) → is_mark c ≡ true → is_word c ≡ false
-        mark_word c h = (let p = and_parts (not (is_blank c) && not (nat_eq c 34)) (not (is_word c)) h in from_not (is_word c) p.1)
+        mark_word c h = (let p = and_parts (is_printed c && not (nat_eq c 34)) (not (is_word c)) h in from_not (is_word c) p.1)
           where
             from_not : (k : Bool) → not k ≡ true → k ≡ false
             from_not true e = absurd cc
@@ -103,10 +113,10 @@ mark_front : (s : Sign) (b : ℕ) (v rest : List ℕ) → list_all is_mark (b �
     → opens_comment (b ∷ (v ++ rest)) ≡ false → IsLongest (b ∷ v) rest → part_at b (v ++ rest) ≡ sound (lexeme (one s) (b ∷ v))
 mark_front s b v rest marks at spelled none longest =
     let m = and_parts (is_mark b) (list_all is_mark v) marks in
-    let p = and_parts (not (is_blank b) && not (nat_eq b 34)) (not (is_word b)) m.0 in
-    let q = and_parts (not (is_blank b)) (not (nat_eq b 34)) p.0 in
+    let p = and_parts (is_printed b && not (nat_eq b 34)) (not (is_word b)) m.0 in
+    let q = and_parts (is_printed b) (not (nat_eq b 34)) p.0 in
     let w : is_word b ≡ false = not_true (is_word b) p.1 in
-    to_lexeme b (v ++ rest) (not_true (is_blank b) q.0) (not_true (nat_eq b 34) q.1) none
+    to_lexeme b (v ++ rest) (printed_blank b q.0) (not_true (nat_eq b 34) q.1) none
     ∙ to_marks b (v ++ rest) (no_word b (v ++ rest) w) (word_digit b w) (no_word_behind b v rest m.1 longest)
     ∙ picked_mark s b (b ∷ (v ++ rest)) (b ∷ v) (sign_before (b ∷ v) rest longest ∙ at) (spelling_before s (b ∷ v) rest longest ∙ spelled)
 
@@ -126,3 +136,48 @@ sign_front s b v rest i none longest = by (is_worded (b ∷ v)) refl (row_of s (
     by false e r =
         let m : (list_all is_mark (b ∷ v) ≡ true) × (sign_at (b ∷ v) ≡ Some s) × (spelling_at (spellings s) (b ∷ v) ≡ Some (b ∷ v)) = rw e at r in
         mark_front s b v rest m.0 m.1 m.2 none longest
+
+-- ---- what is left out
+single_front : (b : ℕ) (rest : List ℕ) → is_other (b ∷ []) ≡ true → opens_comment (b ∷ rest) ≡ false → IsLongest (b ∷ []) rest
+    → part_at b rest ≡ sound (lexeme (other (b ∷ [])) (b ∷ []))
+single_front b rest h none longest =
+    let p = and_parts (is_printed b && not (is_letter b || is_digit b || nat_eq b 34)) (not (is_sign (b ∷ []))) h in
+    let q = and_parts (is_printed b) (not (is_letter b || is_digit b || nat_eq b 34)) p.0 in
+    let u = or_parts (is_letter b || is_digit b) (nat_eq b 34) (not_true (is_letter b || is_digit b || nat_eq b 34) q.1) in
+    let v = or_parts (is_letter b) (is_digit b) u.0 in
+    let no_sign : is_sign (b ∷ []) ≡ false = not_true (is_sign (b ∷ [])) p.1 in
+    let back : nat_eq b 92 ≡ false = false_from_ne_true (nat_eq b 92) (λ e. both_ways (is_sign (b ∷ [])) no_sign (ap (λ (c : ℕ). is_sign (c ∷ [])) (eqb-true b 92 e))) in
+    let at : sign_at (b ∷ rest) ≡ None = sign_before (b ∷ []) rest longest ∙ no_sign_at b no_sign in
+    to_lexeme b rest (printed_blank b q.0) u.1 none
+    ∙ to_marks b rest (no_name v.0 (is_word b) refl) v.1 (rw back refl)
+    ∙ ap (λ (o : Option Sign). sign_part o b (b ∷ rest)) at
+    ∙ last q.0
+  where
+    no_name : is_letter b ≡ false → (k : Bool) → is_word b ≡ k → list_any is_letter (run is_word (b ∷ rest)) ≡ false
+    no_name l false e = no_word b rest e
+    no_name l true e =
+        let r = run is_word rest in
+        let all : list_all is_word (b ∷ []) ≡ true = rw e refl in
+        let over : run is_word (b ∷ rest) ≡ b ∷ r = run_over is_word (b ∷ []) rest all in
+        false_from_ne_true (list_any is_letter (run is_word (b ∷ rest))) (λ k.
+        (let any : list_any is_letter (b ∷ r) ≡ true = ap (list_any is_letter) (sym over) ∙ k in
+        let s = cut_run (b ∷ []) rest in
+        let short : length (b ∷ r) ≤ 1 = longest (name (b ∷ r)) (b ∷ r) s.0 (refl, (all_append is_word (b ∷ []) r all (run_passes is_word rest), any)) s.1 in
+        let none : r ≡ [] = no_more [] r (omega arith) in
+        let one_left : list_any is_letter (b ∷ []) ≡ true = ap (λ (u : List ℕ). list_any is_letter (b ∷ u)) (sym none) ∙ any in
+        elim (or_cases (is_letter b) false one_left) [ inl t ↦ both_ways (is_letter b) l t | inr t ↦ (let f : false ≡ true = t in cc) ]))
+
+    last : is_printed b ≡ true → sign_part None b (b ∷ rest) ≡ sound (lexeme (other (b ∷ [])) (b ∷ []))
+    last e = rw e refl
+
+pub other_front : (b : ℕ) (v rest : List ℕ) → is_other (b ∷ v) ≡ true → opens_comment (b ∷ (v ++ rest)) ≡ false → IsLongest (b ∷ v) rest
+    → part_at b (v ++ rest) ≡ sound (lexeme (other (b ∷ v)) (b ∷ v))
+other_front b [] rest h none longest = single_front b rest h none longest
+other_front b (c ∷ v) rest h none longest =
+    let w = c ∷ v in
+    let p = and_parts (nat_eq b 92 && list_all is_word w && list_any is_letter w) (not (is_sign (b ∷ w))) h in
+    let q = and_parts (nat_eq b 92 && list_all is_word w) (list_any is_letter w) p.0 in
+    let r = and_parts (nat_eq b 92) (list_all is_word w) q.0 in
+    let found : sign_of (b ∷ w) ≡ None = none_spelled (b ∷ w) all_signs (not_true (is_sign (b ∷ w)) p.1) in
+    let P : ℕ → Type 0 = λ d. sign_of (d ∷ w) ≡ None → opens_comment (d ∷ (w ++ rest)) ≡ false → IsLongest (d ∷ w) rest → part_at d (w ++ rest) ≡ sound (lexeme (other (d ∷ w)) (d ∷ w)) in
+    subst P (sym (eqb-true b 92 r.0)) (λ f n l. worded_front w rest None r.1 q.1 f n l) found none longest

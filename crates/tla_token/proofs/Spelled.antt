@@ -8,7 +8,7 @@ use Rattle.std.proofs.lemmas.Bool.Decides.{Decides-eqb}
 use Rattle.tla_token.specs.declared.sign.Sign.{Sign}
 use Rattle.tla_token.specs.declared.sign.Sign.TheVariants as sign
 use Rattle.tla_token.specs.Signs.{spellings, is_among, all_signs, spelled_by, is_sign}
-use Rattle.tla_token.specs.Lexemes.{one, is_letter, is_word, is_blank, IsLongest}
+use Rattle.tla_token.specs.Lexemes.{one, is_letter, is_word, is_printed, IsLongest}
 use Rattle.tla_token.specs.Cut.{spelling_at, sign_at, sign_of}
 
 abbrev pub begins : List ℕ → List ℕ → Bool
@@ -31,7 +31,7 @@ is_worded [] = false
 is_worded (b ∷ v) = nat_eq b 92 && list_all is_word v && list_any is_letter v
 
 abbrev pub is_mark : ℕ → Bool
-is_mark b = not (is_blank b) && not (nat_eq b 34) && not (is_word b)
+is_mark b = is_printed b && not (nat_eq b 34) && not (is_word b)
 
 -- a spelling of s is a word that is looked up, or marks of which the longest is found first
 abbrev pub Row : Sign → List ℕ → Type 0
@@ -177,3 +177,31 @@ none_stands b (s ∷ ss) h =
 
 pub no_sign_at : (b : ℕ) → is_sign (b ∷ []) ≡ false → sign_at (b ∷ []) ≡ None
 no_sign_at b h = none_stands b all_signs h
+
+-- ---- a byte that is not printable begins no sign
+
+find_none : {A : Type 0} (p : A → Bool) (xs : List A) → ((x : A) → p x ≡ false) → find p xs ≡ None
+find_none p [] h = refl
+find_none p (x ∷ xs) h = rw (h x, find_none p xs h) refl
+
+first_printed : (s : Sign) (c : ℕ) (u : List ℕ) → is_among (spellings s) (c ∷ u) ≡ true → is_printed c ≡ true
+first_printed s c u i = by (is_worded (c ∷ u)) refl (row_of s (c ∷ u) i)
+  where
+    by : (k : Bool) → is_worded (c ∷ u) ≡ k → Row s (c ∷ u) → is_printed c ≡ true
+    by true e r =
+        let q = and_parts (nat_eq c 92) (list_all is_word u) (and_parts (nat_eq c 92 && list_all is_word u) (list_any is_letter u) e).0 in
+        ap is_printed (eqb-true c 92 q.0)
+    by false e r =
+        let m : (list_all is_mark (c ∷ u) ≡ true) × (sign_at (c ∷ u) ≡ Some s) × (spelling_at (spellings s) (c ∷ u) ≡ Some (c ∷ u)) = rw e at r in
+        let p = and_parts (is_printed c && not (nat_eq c 34)) (not (is_word c)) (and_parts (is_mark c) (list_all is_mark u) m.0).0 in
+        (and_parts (is_printed c) (not (nat_eq c 34)) p.0).0
+
+pub no_sign_unprinted : (b : ℕ) (bs : List ℕ) → is_printed b ≡ false → sign_at (b ∷ bs) ≡ None
+no_sign_unprinted b bs h =
+    find_none (stands_at (b ∷ bs)) all_signs (λ s. false_from_ne_true (stands_at (b ∷ bs) s) (λ t. (let r = any_some (b ∷ bs) (spellings s) t in by s r.0 r.1 r.2)))
+  where
+    by : (s : Sign) (u : List ℕ) → is_among (spellings s) u ≡ true → begins (b ∷ bs) u ≡ true → ⊥
+    by s [] i t = no_empty s i
+    by s (c ∷ u) i t =
+        let e : c ≡ b = eqb-true c b (and_parts (nat_eq c b) (begins bs u) t).0 in
+        both_ways (is_printed b) h (ap is_printed (sym e) ∙ first_printed s c u i)
