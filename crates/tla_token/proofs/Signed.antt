@@ -45,11 +45,11 @@ worded_lexeme (c ∷ v) all any = by (is_sign (92 ∷ c ∷ v)) refl
     by true e = (let r = spelled_some (92 ∷ c ∷ v) all_signs e in (one r.0, r.1))
     by false e = (other (92 ∷ c ∷ v), (refl, rw (all, any, e) refl))
 
-cut_run : (v rest : List ℕ) → (more : List ℕ) × (v ++ rest ≡ (v ++ run is_word rest) ++ more)
+pub cut_run : (v rest : List ℕ) → (more : List ℕ) × (v ++ rest ≡ (v ++ run is_word rest) ++ more)
 cut_run v rest = (let s = run_splits is_word rest in (s.0, ap (λ (u : List ℕ). v ++ u) s.1 ∙ sym (append_assoc v (run is_word rest) s.0)))
 
 -- a longest one is the whole run behind the backslash
-worded_run : (v rest : List ℕ) → list_all is_word v ≡ true → list_any is_letter v ≡ true → IsLongest (92 ∷ v) rest → run is_word (v ++ rest) ≡ v
+pub worded_run : (v rest : List ℕ) → list_all is_word v ≡ true → list_any is_letter v ≡ true → IsLongest (92 ∷ v) rest → run is_word (v ++ rest) ≡ v
 worded_run v rest all any longest =
     let r = run is_word rest in
     let s = cut_run v rest in
@@ -69,7 +69,7 @@ worded_front v rest o all any is none longest =
 -- ---- marks
 
 -- behind a backslash that is a sign by itself or begins marks, no word stands
-no_word_behind : (b : ℕ) (v rest : List ℕ) → list_all is_mark v ≡ true → IsLongest (b ∷ v) rest → (nat_eq b 92 && list_any is_letter (run is_word (v ++ rest))) ≡ false
+pub no_word_behind : (b : ℕ) (v rest : List ℕ) → list_all is_mark v ≡ true → IsLongest (b ∷ v) rest → (nat_eq b 92 && list_any is_letter (run is_word (v ++ rest))) ≡ false
 no_word_behind b v rest marks longest =
     false_from_ne_true (nat_eq b 92 && list_any is_letter (run is_word (v ++ rest))) (λ t.
     (let p = and_parts (nat_eq b 92) (list_any is_letter (run is_word (v ++ rest))) t in
@@ -100,10 +100,10 @@ pub not_true : (k : Bool) → not k ≡ true → k ≡ false
 not_true true e = absurd cc
 not_true false e = refl
 
-word_digit : (b : ℕ) → is_word b ≡ false → is_digit b ≡ false
+pub word_digit : (b : ℕ) → is_word b ≡ false → is_digit b ≡ false
 word_digit b h = (or_parts (is_letter b) (is_digit b) (or_parts (is_letter b || is_digit b) (nat_eq b 95) h).0).1
 
-no_word : (b : ℕ) (bs : List ℕ) → is_word b ≡ false → list_any is_letter (run is_word (b ∷ bs)) ≡ false
+pub no_word : (b : ℕ) (bs : List ℕ) → is_word b ≡ false → list_any is_letter (run is_word (b ∷ bs)) ≡ false
 no_word b bs h = rw h refl
 
 picked_mark : (s : Sign) (b : ℕ) (bs w : List ℕ) → sign_at bs ≡ Some s → spelling_at (spellings s) bs ≡ Some w → sign_part (sign_at bs) b bs ≡ sound (lexeme (one s) w)
