@@ -1,14 +1,14 @@
 -- Parts that fit are the ones that the cutting function gives.
-use Rattle.std.proofs.Common.{◌≡◌, ℕ, zero, suc, ◌+◌, ◌-◌, ◌<◌, ◌≤◌, Bool, true, false, not, ◌&&◌, ◌||◌, nat_eq, nat_le, List, [], ◌∷◌, ◌++◌, length, take, drop, map, Option, Some, None, refl, sym, ap, subst, ◌∙◌, inl, inr, arith, codes, append_assoc, append-nil}
-use Rattle.std.specs.List.{list_all, list_any, starts_with}
+use Rattle.std.proofs.Common.{◌≡◌, ℕ, zero, suc, ◌+◌, ◌-◌, ◌≤◌, Bool, true, false, not, ◌&&◌, ◌||◌, nat_eq, nat_le, List, [], ◌∷◌, ◌++◌, length, take, drop, Option, Some, None, refl, sym, ap, ◌∙◌, inl, inr, arith, append_assoc, append-nil}
+use Rattle.std.specs.List.{list_all, list_any}
 use Rattle.std.proofs.Math.Seq.{take-append_seam, drop-append_seam}
 use Rattle.std.proofs.lemmas.List.{take-append-drop}
-use Rattle.std.proofs.lemmas.Bool.{and_parts, and_from, or_cases, or_parts, or_from, or_left, or_right, eqb-true, leb-true, le-leb, false_from_ne_true, true_from_ne_false, both_ways}
+use Rattle.std.proofs.lemmas.Bool.{and_parts, and_from, or_cases, eqb-true, leb-true, le-leb, false_from_ne_true, both_ways}
 use Rattle.tla_token.specs.declared.sign.Sign.{Sign}
-use Rattle.tla_token.specs.Lexemes.{Kind, name, number, quote, one, other, number_of, unquoted, is_word, is_letter, is_digit, is_blank, is_printed, is_other, IsLexeme, IsLongest}
-use Rattle.tla_token.specs.Tokens.{Piece, blank, block, line, lexeme, bytes_of, text_of, is_pair, Closes, Fits, AllFit}
+use Rattle.tla_token.specs.Lexemes.{Kind, name, number, quote, one, other, unquoted, is_word, is_letter, is_digit, is_blank, is_printed, is_other}
+use Rattle.tla_token.specs.Tokens.{Piece, blank, block, line, lexeme, bytes_of, is_pair, Closes, Fits}
 use Rattle.tla_token.specs.Offences.{Part, sound, stray, bad_string, cut_string, open_string, open_block, part_bytes, parts_text, PartFits, PartsFit, is_stray, string_len, begins_with}
-use Rattle.tla_token.specs.Cut.{run, plus, comment_len, block_part, closed_part, string_part, part_at, lexeme_part, sign_part, sign_at, parts_at, parts, pieces}
+use Rattle.tla_token.specs.Cut.{plus, comment_len, closed_part, string_part, part_at, sign_part, parts_at, parts}
 use Rattle.tla_token.proofs.Front.{blank_front, block_front, line_front, quote_front}
 use Rattle.tla_token.proofs.Words.{name_front, number_front}
 use Rattle.tla_token.proofs.Spelled.{no_empty, no_sign_unprinted}

@@ -1,15 +1,15 @@
 -- Signs, and signs that the profile leaves out, are found at the front of a text where they are longest.
-use Rattle.std.proofs.Common.{◌≡◌, ℕ, suc, ◌+◌, ◌<◌, ◌≤◌, Bool, true, false, not, ◌&&◌, ◌||◌, nat_eq, nat_le, List, [], ◌∷◌, ◌++◌, length, take, drop, Option, Some, None, refl, sym, ap, subst, ◌∙◌, inl, inr, arith, codes, append_assoc}
+use Rattle.std.proofs.Common.{◌≡◌, ℕ, suc, ◌≤◌, Bool, true, false, not, ◌&&◌, ◌||◌, nat_eq, List, [], ◌∷◌, ◌++◌, length, Option, Some, None, refl, sym, ap, subst, ◌∙◌, inl, inr, arith, codes, append_assoc}
 use Rattle.std.specs.List.{list_all, list_any, starts_with}
-use Rattle.std.proofs.lemmas.Bool.{and_parts, and_from, or_cases, or_parts, or_from, or_left, or_right, eqb-true, leb-true, false_from_ne_true, true_from_ne_false, both_ways}
+use Rattle.std.proofs.lemmas.Bool.{and_parts, or_cases, or_parts, eqb-true, false_from_ne_true, both_ways}
 use Rattle.tla_token.specs.declared.sign.Sign.{Sign}
 use Rattle.tla_token.specs.Signs.{spellings, is_among, all_signs, is_sign}
 use Rattle.tla_token.specs.Lexemes.{Kind, name, one, other, is_word, is_letter, is_digit, is_blank, is_printed, is_other, IsLexeme, IsLongest}
 use Rattle.tla_token.specs.Tokens.{lexeme, opens_comment}
-use Rattle.tla_token.specs.Offences.{Part, sound}
+use Rattle.tla_token.specs.Offences.{sound}
 use Rattle.tla_token.specs.Cut.{run, part_at, lexeme_part, sign_part, sign_at, sign_of, spelling_at, sign_bytes, or_other}
 use Rattle.tla_token.proofs.Words.{run_over, run_passes, run_splits, all_append, any_append, no_more}
-use Rattle.tla_token.proofs.Spelled.{is_worded, is_mark, Row, row_of, no_empty, sign_before, spelling_before, none_spelled, spelled_some, no_sign_at}
+use Rattle.tla_token.proofs.Spelled.{is_worded, is_mark, Row, row_of, sign_before, spelling_before, none_spelled, spelled_some, no_sign_at}
 
 -- ---- the ways through the cutting function
 pub to_lexeme : (b : ℕ) (bs : List ℕ) → is_blank b ≡ false → nat_eq b 34 ≡ false → opens_comment (b ∷ bs) ≡ false → part_at b bs ≡ lexeme_part b bs
