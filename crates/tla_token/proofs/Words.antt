@@ -11,13 +11,13 @@ one_plus : (n : ℕ) → 1 + n ≡ suc n
 one_plus n = omega arith
 
 -- ---- runs
-run_over : (p : ℕ → Bool) (m rest : List ℕ) → list_all p m ≡ true → run p (m ++ rest) ≡ m ++ run p rest
+pub run_over : (p : ℕ → Bool) (m rest : List ℕ) → list_all p m ≡ true → run p (m ++ rest) ≡ m ++ run p rest
 run_over p [] rest h = refl
 run_over p (b ∷ m) rest h =
     let w = and_parts (p b) (list_all p m) h in
     rw (w.0, one_plus) (ap (λ (bs : List ℕ). b ∷ bs) (run_over p m rest w.1))
 
-run_passes : (p : ℕ → Bool) (bs : List ℕ) → list_all p (run p bs) ≡ true
+pub run_passes : (p : ℕ → Bool) (bs : List ℕ) → list_all p (run p bs) ≡ true
 run_passes p [] = refl
 run_passes p (b ∷ bs) = by (p b) refl (run_passes p bs)
   where
@@ -25,7 +25,7 @@ run_passes p (b ∷ bs) = by (p b) refl (run_passes p bs)
     by true e h = rw (e, one_plus) (and_from (p b) (list_all p (run p bs)) e h)
     by false e h = rw e refl
 
-run_splits : (p : ℕ → Bool) (bs : List ℕ) → (rest : List ℕ) × (bs ≡ run p bs ++ rest)
+pub run_splits : (p : ℕ → Bool) (bs : List ℕ) → (rest : List ℕ) × (bs ≡ run p bs ++ rest)
 run_splits p [] = ([], refl)
 run_splits p (b ∷ bs) = by (p b) refl (run_splits p bs)
   where
@@ -33,11 +33,11 @@ run_splits p (b ∷ bs) = by (p b) refl (run_splits p bs)
     by true e (rest, h) = (rest, rw (e, one_plus) (ap (λ (u : List ℕ). b ∷ u) h))
     by false e h = (b ∷ bs, rw e refl)
 
-all_append : (p : ℕ → Bool) (l r : List ℕ) → list_all p l ≡ true → list_all p r ≡ true → list_all p (l ++ r) ≡ true
+pub all_append : (p : ℕ → Bool) (l r : List ℕ) → list_all p l ≡ true → list_all p r ≡ true → list_all p (l ++ r) ≡ true
 all_append p [] r h k = k
 all_append p (b ∷ l) r h k = (let w = and_parts (p b) (list_all p l) h in and_from (p b) (list_all p (l ++ r)) w.0 (all_append p l r w.1 k))
 
-any_append : (q : ℕ → Bool) (l r : List ℕ) → list_any q l ≡ true → list_any q (l ++ r) ≡ true
+pub any_append : (q : ℕ → Bool) (l r : List ℕ) → list_any q l ≡ true → list_any q (l ++ r) ≡ true
 any_append q [] r h = absurd cc
 any_append q (b ∷ l) r h =
     elim (or_cases (q b) (list_any q l) h) [
@@ -45,7 +45,7 @@ any_append q (b ∷ l) r h =
       | inr e ↦ or_right (q b) (list_any q (l ++ r)) (any_append q l r e)
     ]
 
-no_more : (l r : List ℕ) → length (l ++ r) ≤ length l → l ++ r ≡ l
+pub no_more : (l r : List ℕ) → length (l ++ r) ≤ length l → l ++ r ≡ l
 no_more [] [] h = refl
 no_more [] (b ∷ r) h = absurd (omega arith)
 no_more (b ∷ l) r h = ap (λ (u : List ℕ). b ∷ u) (no_more l r (omega arith))
@@ -60,13 +60,13 @@ name_run l rest all any longest =
     run_over is_word l rest all ∙ no_more l r short
 
 -- ---- a word is no blank, no string and no comment
-word_at : (b k : ℕ) → is_word b ≡ true → is_word k ≡ false → nat_eq b k ≡ false
+pub word_at : (b k : ℕ) → is_word b ≡ true → is_word k ≡ false → nat_eq b k ≡ false
 word_at b k t f = false_from_ne_true (nat_eq b k) (λ e. (let d : b ≡ k = eqb-true b k e in let g : is_word k ≡ true = rw d at t in both_ways (is_word k) f g))
 
-at_word : (k b : ℕ) → is_word b ≡ true → is_word k ≡ false → nat_eq k b ≡ false
+pub at_word : (k b : ℕ) → is_word b ≡ true → is_word k ≡ false → nat_eq k b ≡ false
 at_word k b t f = false_from_ne_true (nat_eq k b) (λ e. (let d : k ≡ b = eqb-true k b e in let g : is_word k ≡ true = rw (← d) at t in both_ways (is_word k) f g))
 
-word_front : (b : ℕ) (bs : List ℕ) → is_word b ≡ true → part_at b bs ≡ lexeme_part b bs
+pub word_front : (b : ℕ) (bs : List ℕ) → is_word b ≡ true → part_at b bs ≡ lexeme_part b bs
 word_front b bs t = rw (word_at b 32 t refl, word_at b 9 t refl, word_at b 10 t refl, word_at b 13 t refl, word_at b 34 t refl, at_word 40 b t refl, at_word 92 b t refl) refl
 
 pub name_front : (b : ℕ) (l rest : List ℕ) → list_all is_word (b ∷ l) ≡ true → list_any is_letter (b ∷ l) ≡ true → IsLongest (b ∷ l) rest
@@ -79,14 +79,14 @@ name_front b l rest all any longest =
     picked u e = rw (e, any) refl
 
 -- ---- numbers
-digit_word : (b : ℕ) → is_digit b ≡ true → is_word b ≡ true
+pub digit_word : (b : ℕ) → is_digit b ≡ true → is_word b ≡ true
 digit_word b h = or_left (is_letter b || is_digit b) (nat_eq b 95) (or_right (is_letter b) (is_digit b) h)
 
-digits_words : (l : List ℕ) → list_all is_digit l ≡ true → list_all is_word l ≡ true
+pub digits_words : (l : List ℕ) → list_all is_digit l ≡ true → list_all is_word l ≡ true
 digits_words [] h = refl
 digits_words (b ∷ l) h = (let w = and_parts (is_digit b) (list_all is_digit l) h in and_from (is_word b) (list_all is_word l) (digit_word b w.0) (digits_words l w.1))
 
-digit_letter : (b : ℕ) → is_digit b ≡ true → is_letter b ≡ true → ⊥
+pub digit_letter : (b : ℕ) → is_digit b ≡ true → is_letter b ≡ true → ⊥
 digit_letter b h k =
     let d = and_parts (nat_le 48 b) (nat_le b 57) h in
     let high : b ≤ 57 = leb-true b 57 d.1 in
@@ -95,7 +95,7 @@ digit_letter b h k =
       | inr e ↦ (let x = leb-true 65 b (and_parts (nat_le 65 b) (nat_le b 90) e).0 in omega arith)
     ]
 
-no_letters : (l : List ℕ) → list_all is_digit l ≡ true → list_any is_letter l ≡ true → ⊥
+pub no_letters : (l : List ℕ) → list_all is_digit l ≡ true → list_any is_letter l ≡ true → ⊥
 no_letters [] h k = cc
 no_letters (b ∷ l) h k =
     let w = and_parts (is_digit b) (list_all is_digit l) h in

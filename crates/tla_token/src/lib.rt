@@ -1,6 +1,7 @@
 //! Texts of TLA+ modules: places, tokens and the rules by which a module is refused.
 #![tactic(auto)]
 
+pub mod laws;
 pub mod place;
 pub mod rule;
 pub mod sign;

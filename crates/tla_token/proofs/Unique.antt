@@ -1,0 +1,66 @@
+-- A stretch of a text has at most one token list, and at most one refusal.
+use Rattle.std.proofs.Common.{◌≡◌, ℕ, Bool, List, [], ◌∷◌, ◌++◌, map, Option, Some, None, refl, sym, ap, ◌∙◌}
+use Rattle.tla_token.specs.declared.rule.Rule.{Rule}
+use Rattle.tla_token.specs.declared.rule.Refusal.{Refusal}
+use Rattle.tla_token.specs.Places.{place_at}
+use Rattle.tla_token.specs.Tokens.{Token, Piece, bytes_of, text_of, AllFit, tokens_of, stretch, Tok}
+use Rattle.tla_token.specs.Offences.{Part, sound, parts_text, PartsFit, Offence, offences, least, Offends}
+use Rattle.tla_token.specs.Cut.{parts, pieces}
+use Rattle.tla_token.proofs.Parted.{cut_back}
+
+pub sound_text : (ps : List Piece) → parts_text (map sound ps) ≡ text_of ps
+sound_text [] = refl
+sound_text (p ∷ ps) = ap (λ (u : List ℕ). bytes_of p ++ u) (sound_text ps)
+
+pub sound_fit : (ps : List Piece) → AllFit ps → PartsFit (map sound ps)
+sound_fit [] h = tt
+sound_fit (p ∷ ps) (f, h) = (rw (sound_text ps) f, sound_fit ps h)
+
+pub sound_pieces : (ps : List Piece) → pieces (map sound ps) ≡ ps
+sound_pieces [] = refl
+sound_pieces (p ∷ ps) = ap (λ (qs : List Piece). p ∷ qs) (sound_pieces ps)
+
+-- pieces that fit are found
+pub pieces_back : (ps : List Piece) → AllFit ps → parts (text_of ps) ≡ map sound ps
+pieces_back ps h = ap parts (sym (sound_text ps)) ∙ cut_back (map sound ps) (sound_fit ps h)
+
+pub tok_parts : (text : List ℕ) (from to : ℕ) (ts : List Token) → Tok text from to ts
+    → (ps : List Piece) × (parts (stretch text from to) ≡ map sound ps) × (ts ≡ tokens_of (place_at text from) from ps)
+tok_parts text from to ts t = (t.pieces, ap parts t.cut ∙ pieces_back t.pieces t.fit, t.tokens)
+
+tok_tokens : (text : List ℕ) (from to : ℕ) (ts : List Token) → Tok text from to ts → ts ≡ tokens_of (place_at text from) from (pieces (parts (stretch text from to)))
+tok_tokens text from to ts t =
+    let r = tok_parts text from to ts t in
+    r.2 ∙ ap (tokens_of (place_at text from) from) (sym (ap pieces r.1 ∙ sound_pieces r.0))
+
+pub one_list : (text : List ℕ) (from to : ℕ) (ts us : List Token) → Tok text from to ts → Tok text from to us → ts ≡ us
+one_list text from to ts us t u = tok_tokens text from to ts t ∙ sym (tok_tokens text from to us u)
+
+-- ---- offences
+
+pub offends_parts : (a : Bool) (text : List ℕ) (from to : ℕ) (r : Refusal) → Offends a text from to r
+    → (at : ℕ) × (least (offences a from (parts (stretch text from to))) ≡ Some (r.rule, at)) × (r.place ≡ place_at text at)
+offends_parts a text from to r o =
+    let same : parts (stretch text from to) ≡ o.parts = ap parts o.cut ∙ cut_back o.parts o.fit in
+    (o.at, ap (λ (ps : List Part). least (offences a from ps)) same ∙ o.first, o.place)
+
+same_offence : (r q : Rule) (at by : ℕ) → ◌≡◌ {A = Option Offence} (Some (r, at)) (Some (q, by)) → (r ≡ q) × (at ≡ by)
+same_offence r q at by e = (ap (λ (o : Option Offence). rule_in r o) e, ap (λ (o : Option Offence). at_in at o) e)
+  where
+    rule_in : Rule → Option Offence → Rule
+    rule_in d None = d
+    rule_in d (Some o) = o.0
+
+    at_in : ℕ → Option Offence → ℕ
+    at_in d None = d
+    at_in d (Some o) = o.1
+
+same_refusal : (r q : Refusal) → r.rule ≡ q.rule → r.place ≡ q.place → r ≡ q
+same_refusal r q e f = λ i. record { rule = e i; place = f i }
+
+pub one_refusal : (a : Bool) (text : List ℕ) (from to : ℕ) (r q : Refusal) → Offends a text from to r → Offends a text from to q → r ≡ q
+one_refusal a text from to r q o p =
+    let x = offends_parts a text from to r o in
+    let y = offends_parts a text from to q p in
+    let s = same_offence r.rule q.rule x.0 y.0 (sym x.1 ∙ y.1) in
+    same_refusal r q s.0 (x.2 ∙ ap (place_at text) s.1 ∙ sym y.2)
