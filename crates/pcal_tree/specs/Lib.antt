@@ -14,3 +14,4 @@ pub mod Starting
 pub mod Script
 pub mod Expand
 pub mod Marks
+pub mod Names
