@@ -15,3 +15,4 @@ pub mod Script
 pub mod Expand
 pub mod Marks
 pub mod Names
+pub mod Clean

@@ -11,10 +11,10 @@ use Rattle.pcal_tree.specs.Step.{labels}
 
 -- what stands in the module outside the algorithm and its translation
 pub record Surroundings : Type 0 where
-  pub extended : List Word                        -- the modules that it extends
+  pub extended : List Word  -- the modules that it extends
   pub constants : List Word
-  pub definitions : List Outside.Definition       -- those that are read
-  pub unread : List Word                          -- the names of units that are not read
+  pub definitions : List Outside.Definition  -- those that are read
+  pub unread : List Word  -- the names of units that are not read
 
 -- ---- bound names
 
@@ -122,7 +122,7 @@ first_free modules ws x = free_from (is_taken modules ws) x 0 (length fixed_word
 -- ---- names one after the other, each taken when it is given
 
 pub record Given : Type 0 where
-  pub names : List (Word × Word)                  -- each with its written name
+  pub names : List (Word × Word)  -- each with its written name
   pub taken : List Word
 
 abbrev pub give : List Word → List Word → List Word → Given
@@ -166,7 +166,7 @@ abbrev pub rename_all : List Word → (ℕ → Bool) → List Routine → List W
 rename_all modules single [] ws = []
 rename_all modules single (u ∷ us) ws =
     give_three modules (own_name (single u.number) u) (map (λ d. d.name.word) (locals u)) (labels u.body) ws (λ t v l.
-      record { number = u.number; title = last_given u.name.word t.names; variables = v.names; labels = l.names } ∷ rename_all modules single us l.taken)
+    record { number = u.number; title = last_given u.name.word t.names; variables = v.names; labels = l.names } ∷ rename_all modules single us l.taken)
 
 -- the number of the one body, which is that of the first process
 abbrev pub is_single : Algorithm → ℕ → Bool
