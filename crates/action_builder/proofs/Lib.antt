@@ -1,0 +1,7 @@
+pub mod Equal
+pub mod Sets
+pub mod Parts
+pub mod Frame
+pub mod Main
+pub mod Converse
+pub mod Faults
