@@ -5,3 +5,4 @@ pub mod Frame
 pub mod Main
 pub mod Converse
 pub mod Faults
+pub mod Den
