@@ -7,24 +7,18 @@ use Rattle.tla_value.specs.Order.{same}
 use Rattle.pcal_tree.specs.Scope.{Scope, bound}
 use Rattle.action_builder.proofs.Equal.{eq-name, eq-value}
 use Rattle.pcal_tree.specs.Scope.{State, Trouble, Got, got, bad, on}
-use Rattle.action_builder.specs.Action.{Names, member, more, mid, Effect, assign, await, branch, either, choose, Effects, done, then, Ways, no_ways, way, Parts, firsts, moved, value_for, hold_sets, settings_of, assigned, assigned_in, assigned_by, Awaits, Chosen, SomeOf, Picks, Next, RunOne, Run, RunSome, unchanged, all_same, and_then, or_all, some_member, holds, hold, hold_some, ended, minus, build_one, build, build_some, OnceOne, Once, OnceSome}
+use Rattle.action_builder.specs.Action.{Names, member, more, mid, Effect, assign, await, branch, either, choose, Effects, done, then, Ways, no_ways, way, Parts, firsts, moved, value_for, hold_sets, settings_of, assigned, assigned_in, assigned_by, Awaits, Chosen, SomeOf, Picks, Next, RunOne, Run, RunSome, unchanged, all_same, and_then, or_all, some_member, holds, hold, hold_some, ended, minus, build_one, build, build_some, OnceOne, Once, OnceSome, IsBad, NotFalse}
 use Rattle.action_builder.proofs.Sets.{or_left, or_right, or_none, more_append, mid_in, mid_out, is_mid, same_minus}
 use Rattle.action_builder.proofs.Frame.{got_bad, frame_one, frame}
-use Rattle.action_builder.proofs.Parts.{IsBad, moved_good}
+use Rattle.action_builder.proofs.Parts.{moved_good}
 use Rattle.action_builder.proofs.Main.{hold_ended, append_cases, in_front, behind, apart, apart_by, Within, Covers, grown, End, true_one, true_all}
 
--- true, or a fault
-abbrev pub NotNo : Got Bool → Type 0
-NotNo (got true) = Unit {0}
-NotNo (got false) = ⊥
-NotNo (bad k) = Unit {0}
-
-and_not_no : (v w : Got Bool) → NotNo v → NotNo w → NotNo (and_then v w)
+and_not_no : (v w : Got Bool) → NotFalse v → NotFalse w → NotFalse (and_then v w)
 and_not_no (got true) w p q = q
 and_not_no (got false) w p q = absurd p
 and_not_no (bad k) w p q = tt
 
-or_not_no : (v w : Got Bool) → NotNo v ⊎ NotNo w → NotNo (or_all v w)
+or_not_no : (v w : Got Bool) → NotFalse v ⊎ NotFalse w → NotFalse (or_all v w)
 or_not_no (got true) (got b) p = tt
 or_not_no (got true) (bad k) p = tt
 or_not_no (got false) (got true) p = tt
@@ -49,11 +43,11 @@ left : (A : Names) (own other all : List Word) (s t : State) → ((x : Word) →
 left A own other all s t late w frames = same_minus other own s t (λ x e f.
     sym (mid_in s t (more A all) x (or_right (A x) (member all x) (w x e))) ∙ frames x f ∙ mid_out s t A x (late x e))
 
-ended_fits : (A : Names) (b : Effects) (own other all : List Word) (c : Scope) (s t : State) → Within own all → Within other all → Covers own other all → ((x : Word) → member other x ≡ true → A x ≡ false) → ((x : Word) → member own x ≡ false → mid s t (more A all) x ≡ mid s t A x) → Run b c (mid s t A) (End s t A all) → (Run b c (mid s t A) (End s t A own) → NotNo (hold (build A b) c s t)) → NotNo (hold (ended (build A b) (unchanged (minus other own))) c s t)
+ended_fits : (A : Names) (b : Effects) (own other all : List Word) (c : Scope) (s t : State) → Within own all → Within other all → Covers own other all → ((x : Word) → member other x ≡ true → A x ≡ false) → ((x : Word) → member own x ≡ false → mid s t (more A all) x ≡ mid s t A x) → Run b c (mid s t A) (End s t A all) → (Run b c (mid s t A) (End s t A own) → NotFalse (hold (build A b) c s t)) → NotFalse (hold (ended (build A b) (unchanged (minus other own))) c s t)
 ended_fits A b own other all c s t w w' v late frames r ih =
     let same = left A own other all s t late w' frames in
     let here = subst (λ m. Run b c (mid s t A) (got m)) (sym (grown s t A own other all w v same)) r in
-    subst NotNo (sym (hold_ended (build A b) (unchanged (minus other own)) c s t)) (and_not_no (hold (build A b) c s t) _ (ih here) (subst (λ z. NotNo (and_then (got z) (got true))) (sym same) tt))
+    subst NotFalse (sym (hold_ended (build A b) (unchanged (minus other own)) c s t)) (and_not_no (hold (build A b) c s t) _ (ih here) (subst (λ z. NotFalse (and_then (got z) (got true))) (sym same) tt))
 
 and_true : (v w : Got Bool) → v ≡ got true → w ≡ got true → and_then v w ≡ got true
 and_true v w p q = ap (λ x. and_then x w) p ∙ q
@@ -65,24 +59,24 @@ sets_true A ps c s t (z ∷ ys) h =
     (ap (λ o. on o (λ v. got (same (t z) v))) (h z (or_left (bytes_eq z z) (member ys z) (eq-name z z refl))) ∙ ap got (eq-value (t z) (t z) refl))
     (sets_true A ps c s t ys (λ y m. h y (or_right (bytes_eq z y) (member ys y) m)))
 
-assign_fits : (A : Names) (ps : Parts) (c : Scope) (s t : State) → got (mid s t (more A (firsts ps))) ≡ moved ps c (mid s t A) → NotNo (hold_sets (settings_of A ps (firsts ps)) c s t)
-assign_fits A ps c s t r = subst NotNo (sym (sets_true A ps c s t (firsts ps) (λ y m. moved_good ps c (mid s t A) _ (sym r) y ∙ ap got (mid_in s t (more A (firsts ps)) y (or_right (A y) (member (firsts ps) y) m))))) tt
+assign_fits : (A : Names) (ps : Parts) (c : Scope) (s t : State) → got (mid s t (more A (firsts ps))) ≡ moved ps c (mid s t A) → NotFalse (hold_sets (settings_of A ps (firsts ps)) c s t)
+assign_fits A ps c s t r = subst NotFalse (sym (sets_true A ps c s t (firsts ps) (λ y m. moved_good ps c (mid s t A) _ (sym r) y ∙ ap got (mid_in s t (more A (firsts ps)) y (or_right (A y) (member (firsts ps) y) m))))) tt
 
-await_fits : (o : Got Bool) (m : State) (r : State) → Awaits o m (got r) → NotNo o
+await_fits : (o : Got Bool) (m : State) (r : State) → Awaits o m (got r) → NotFalse o
 await_fits (got true) m r e = tt
 await_fits (got false) m r e = e
 await_fits (bad k) m r e = tt
 
-chosen_fits : (o : Got Bool) (P Q : Type 0) (v w : Got Bool) (r : State) → Chosen o P Q (got r) → (P → NotNo v) → (Q → NotNo w) → NotNo (on o (λ p. cond p v w))
+chosen_fits : (o : Got Bool) (P Q : Type 0) (v w : Got Bool) (r : State) → Chosen o P Q (got r) → (P → NotFalse v) → (Q → NotFalse w) → NotFalse (on o (λ p. cond p v w))
 chosen_fits (got true) P Q v w r h f g = f h
 chosen_fits (got false) P Q v w r h f g = g h
 chosen_fits (bad k) P Q v w r h f g = tt
 
-some_fits : (vs : Values) (p : Value → Got Bool) (P : Value → Type 0) → SomeOf vs P → ((v : Value) → P v → NotNo (p v)) → NotNo (some_member vs p)
+some_fits : (vs : Values) (p : Value → Got Bool) (P : Value → Type 0) → SomeOf vs P → ((v : Value) → P v → NotFalse (p v)) → NotFalse (some_member vs p)
 some_fits no_values p P h f = h
 some_fits (and v vs) p P h f = or_not_no (p v) (some_member vs p) (⊎_elim (λ a. inl (f v a)) (λ b. inr (some_fits vs p P b f)) h)
 
-pick_fits : (o : Got Values) (p : Value → Got Bool) (P : Value → Type 0) (r : State) → Picks o P (got r) → ((v : Value) → P v → NotNo (p v)) → NotNo (on o (λ vs. some_member vs p))
+pick_fits : (o : Got Values) (p : Value → Got Bool) (P : Value → Type 0) (r : State) → Picks o P (got r) → ((v : Value) → P v → NotFalse (p v)) → NotFalse (on o (λ vs. some_member vs p))
 pick_fits (got vs) p P r h f = some_fits vs p P h f
 pick_fits (bad k) p P r h f = tt
 
@@ -92,7 +86,7 @@ halves R (got u) r P n h = h u refl n
 halves R (bad k) r P n h = got_bad r k n
 
 mutual
-  pub fits_one : (A : Names) (st : Effect) (c : Scope) (s t : State) → OnceOne A st → RunOne st c (mid s t A) (End s t A (assigned st)) → NotNo (holds (build_one A st) c s t)
+  pub fits_one : (A : Names) (st : Effect) (c : Scope) (s t : State) → OnceOne A st → RunOne st c (mid s t A) (End s t A (assigned st)) → NotFalse (holds (build_one A st) c s t)
   fits_one A (assign ps) c s t o r = assign_fits A ps c s t r
   fits_one A (await e) c s t o r = await_fits (e c (mid s t A)) _ _ r
   fits_one A (branch e a b) c s t o r =
@@ -102,7 +96,7 @@ mutual
   fits_one A (either bs) c s t o r = fits_some A (assigned_by bs) bs c s t o (λ x m. m) (apart_by A bs o) r
   fits_one A (choose x e b) c s t o r = pick_fits (e c (mid s t A)) _ _ _ r (λ v k. fits_all A b (bound x v c) s t o k)
 
-  pub fits_all : (A : Names) (ss : Effects) (c : Scope) (s t : State) → Once A ss → Run ss c (mid s t A) (End s t A (assigned_in ss)) → NotNo (hold (build A ss) c s t)
+  pub fits_all : (A : Names) (ss : Effects) (c : Scope) (s t : State) → Once A ss → Run ss c (mid s t A) (End s t A (assigned_in ss)) → NotFalse (hold (build A ss) c s t)
   fits_all A done c s t o r = tt
   fits_all A (then st rest) c s t o r =
       halves (Run rest c) r.0 _ _ r.2 (λ u q n.
@@ -113,7 +107,7 @@ mutual
       let two' : Run rest c (mid s t (more A (assigned st))) (End s t (more A (assigned st)) (assigned_in rest)) = subst (λ B. Run rest c (mid s t (more A (assigned st))) (got (mid s t B))) (more_append A (assigned st) (assigned_in rest)) two in
       and_not_no (holds (build_one A st) c s t) (hold (build (more A (assigned st)) rest) c s t) (fits_one A st c s t o.0 one') (fits_all (more A (assigned st)) rest c s t o.1 two'))
 
-  fits_some : (A : Names) (all : List Word) (bs : Ways) (c : Scope) (s t : State) → OnceSome A bs → Within (assigned_by bs) all → ((x : Word) → member all x ≡ true → A x ≡ false) → RunSome bs c (mid s t A) (End s t A all) → NotNo (hold_some (build_some A all bs) c s t)
+  fits_some : (A : Names) (all : List Word) (bs : Ways) (c : Scope) (s t : State) → OnceSome A bs → Within (assigned_by bs) all → ((x : Word) → member all x ≡ true → A x ≡ false) → RunSome bs c (mid s t A) (End s t A all) → NotFalse (hold_some (build_some A all bs) c s t)
   fits_some A all no_ways c s t o w late r = absurd r
   fits_some A all (way b bs) c s t o w late r =
       or_not_no _ (hold_some (build_some A all bs) c s t) (⊎_elim
@@ -217,7 +211,7 @@ NoFault ss c m = (k : Trouble) → Run ss c m (bad k) → ⊥
 pub true_exactly : (A : Names) (ss : Effects) (c : Scope) (s t : State) → Once A ss → NoFault ss c (mid s t A) → (hold (build A ss) c s t ≡ got true → Run ss c (mid s t A) (End s t A (assigned_in ss))) × (Run ss c (mid s t A) (End s t A (assigned_in ss)) → hold (build A ss) c s t ≡ got true)
 true_exactly A ss c s t o fine = (true_all A ss c s t, λ r. by (hold (build A ss) c s t) refl (fits_all A ss c s t o r))
   where
-    by : (v : Got Bool) → hold (build A ss) c s t ≡ v → NotNo v → hold (build A ss) c s t ≡ got true
+    by : (v : Got Bool) → hold (build A ss) c s t ≡ v → NotFalse v → hold (build A ss) c s t ≡ got true
     by (got true) e n = e
     by (got false) e n = absurd n
     by (bad k) e n = let r = bad_all A ss c s t k e in absurd (fine r.0 r.1)

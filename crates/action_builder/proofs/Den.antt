@@ -16,7 +16,7 @@ use Rattle.pcal_tree.specs.Run.{Course, chooses, Has, HasSome, after, at_each, h
 use Rattle.pcal_tree.specs.Run as Courses
 use Rattle.pcal_tree.proofs.ExpandRuns.{following}
 use Rattle.action_builder.specs.Action.{Changes, no_changes, change, evaluated, applied, moved, Awaits, Chosen, Picks, SomeOf, Next, Effects, RunOne, Run, RunSome}
-use Rattle.action_builder.specs.Effects.{head_of, head_first, changing, part_of, parts_of, nested, effect_of, effects_of, ways_of, IsLeft, LeftFirst, LeftMoves, SettledOne, Settled, SettledSome}
+use Rattle.action_builder.specs.Effects.{head_of, head_first, changing, part_of, parts_of, nested, effect_of, effects_of, ways_of, part_at, Named, IsLeft, LeftFirst, LeftMoves, SettledOne, Settled, SettledSome}
 
 -- ---- results
 
@@ -36,13 +36,6 @@ on_all_valued (d ∷ ds) env go f =
     ∙ (λ i. valued (d env).value (λ v. on_all_valued ds env (λ vs. go (v ∷ vs)) f i))
 
 -- ---- assignments
-
--- each name is a variable, or a part of the variable of that name
-abbrev pub Named : Scope → Type 0
-Named sc = (x : Word) (at : Place) (s : State) → (path : List Value) × (sc.part x at s ≡ got (record { variable = x; path = path }))
-
-abbrev pub part_at : Word → List Value → Part
-part_at x path = record { variable = x; path = path }
 
 mutual
   heads : (c : Check) (l : Tree) → IsLeft l → (sc : Scope) → Named sc → (s : State) (go : Part → Got State) → on (reach c l sc s) go ≡ on (reach c l sc s) (λ p. go (part_at (head_of l) p.path))

@@ -7,15 +7,12 @@ use Rattle.tla_value.specs.Order.{same}
 use Rattle.pcal_tree.specs.Scope.{Scope, bound}
 use Rattle.action_builder.proofs.Equal.{name-true, eq-name, eq-value}
 use Rattle.pcal_tree.specs.Scope.{State, Trouble, Got, got, bad, on}
-use Rattle.action_builder.specs.Action.{Names, member, more, mid, Effect, assign, await, branch, either, choose, Effects, done, then, Ways, no_ways, way, Parts, firsts, moved, value_for, hold_sets, settings_of, Apart, assigned, assigned_in, assigned_by, Awaits, Chosen, SomeOf, Picks, Next, RunOne, Run, RunSome, Item, unchanged, Items, all_same, and_then, or_all, some_member, holds, hold, hold_some, ended, minus, build_one, build, build_some, OnceOne, Once, OnceSome}
+use Rattle.action_builder.specs.Action.{Names, member, more, mid, Effect, assign, await, branch, either, choose, Effects, done, then, Ways, no_ways, way, Parts, firsts, moved, value_for, hold_sets, settings_of, Apart, assigned, assigned_in, assigned_by, Awaits, Chosen, SomeOf, Picks, Next, RunOne, Run, RunSome, Item, unchanged, Items, all_same, and_then, or_all, some_member, holds, hold, hold_some, ended, minus, build_one, build, build_some, OnceOne, Once, OnceSome, IsBad, NotFalse, Agree}
 use Rattle.action_builder.proofs.Sets.{or_left, or_right, or_none, more_append, mid_in, mid_out, is_mid}
 use Rattle.action_builder.proofs.Frame.{got_bad, frame_one}
-use Rattle.action_builder.proofs.Parts.{IsBad, moved_bad, bad_assigned}
+use Rattle.action_builder.proofs.Parts.{moved_bad, bad_assigned}
 use Rattle.action_builder.proofs.Main.{hold_ended, in_front, behind, apart_one, Within}
-use Rattle.action_builder.proofs.Converse.{NotNo, fits_one}
-
-abbrev pub Agree : Names → State → State → Type 0
-Agree A t u = (x : Word) → A x ≡ true → t x ≡ u x
+use Rattle.action_builder.proofs.Converse.{fits_one}
 
 pub mid_agree : (s t u : State) (A : Names) → Agree A t u → mid s t A ≡ mid s u A
 mid_agree s t u A h = is_mid s u (mid s t A) A (λ x e. mid_in s t A x e ∙ h x e) (λ x e. mid_out s t A x e)
@@ -89,7 +86,7 @@ and_bad_left : (v w : Got Bool) → IsBad v → IsBad (and_then v w)
 and_bad_left (got b) w h = absurd h
 and_bad_left (bad k) w h = tt
 
-and_bad_right : (v w : Got Bool) → NotNo v → IsBad w → IsBad (and_then v w)
+and_bad_right : (v w : Got Bool) → NotFalse v → IsBad w → IsBad (and_then v w)
 and_bad_right (got true) w n h = h
 and_bad_right (got false) w n h = absurd n
 and_bad_right (bad k) w n h = tt
@@ -204,7 +201,7 @@ mutual
       let is : v ≡ mid s v B = is_mid s v v B (λ y e. refl) (λ y e. let p = or_none (A y) (member (assigned st) y) e in off y p.1 ∙ mid_out s t A y p.0) in
       let one' : RunOne st c (mid s v A) (got (mid s v B)) = subst (λ w. RunOne st c (mid s v A) (got w)) is (subst (λ w. RunOne st c w (got v)) (mid_agree s t v A (λ y e. sym (on_a y e))) one) in
       let x = fault_all B rest c s v k o.1 (subst (λ w. Run rest c w (bad k)) is n) in
-      let good : NotNo (holds (build_one A st) c s x.0) = subst NotNo (local_one A st c s v x.0 (λ y e. sym (x.1 y e))) (fits_one A st c s v o.0 one') in
+      let good : NotFalse (holds (build_one A st) c s x.0) = subst NotFalse (local_one A st c s v x.0 (λ y e. sym (x.1 y e))) (fits_one A st c s v o.0 one') in
       (x.0, λ y e. x.1 y (or_left (A y) (member (assigned st) y) e) ∙ on_a y e, and_bad_right (holds (build_one A st) c s x.0) (hold (build B rest) c s x.0) good x.2))
 
   fault_some : (A : Names) (all : List Word) (bs : Ways) (c : Scope) (s t : State) (k : Trouble) → OnceSome A bs → RunSome bs c (mid s t A) (bad k) → Faults A t (hold_some (build_some A all bs) c s)

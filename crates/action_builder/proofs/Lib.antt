@@ -6,3 +6,4 @@ pub mod Main
 pub mod Converse
 pub mod Faults
 pub mod Den
+pub mod Contract

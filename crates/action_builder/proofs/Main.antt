@@ -7,9 +7,9 @@ use Rattle.tla_value.specs.Order.{same}
 use Rattle.pcal_tree.specs.Scope.{Scope, bound}
 use Rattle.action_builder.proofs.Equal.{name-true, value-true}
 use Rattle.pcal_tree.specs.Scope.{State, Got, got, bad, on}
-use Rattle.action_builder.specs.Action.{Names, member, more, mid, Effect, assign, await, branch, either, choose, Effects, done, then, Ways, no_ways, way, Parts, firsts, moved, value_for, hold_sets, settings_of, assigned, assigned_in, assigned_by, Awaits, Chosen, SomeOf, Picks, RunOne, Run, RunSome, Item, unchanged, Items, none, item, all_same, and_then, or_all, some_member, holds, hold, hold_some, ended, minus, build_one, build, build_some, OnceOne, Once, OnceSome}
+use Rattle.action_builder.specs.Action.{Names, member, more, mid, Effect, assign, await, branch, either, choose, Effects, done, then, Ways, no_ways, way, Parts, firsts, moved, value_for, hold_sets, settings_of, assigned, assigned_in, assigned_by, Awaits, Chosen, SomeOf, Picks, RunOne, Run, RunSome, Item, unchanged, Items, none, item, all_same, and_then, or_all, some_member, holds, hold, hold_some, ended, minus, build_one, build, build_some, OnceOne, Once, OnceSome, IsBad}
 use Rattle.action_builder.proofs.Sets.{or_left, or_right, or_none, member_append, more_append, mid_in, mid_out, is_mid, mid_grow, minus_same}
-use Rattle.action_builder.proofs.Parts.{IsBad, moved_good, moved_bad, value_kept, bad_assigned}
+use Rattle.action_builder.proofs.Parts.{moved_good, moved_bad, value_kept, bad_assigned}
 use Rattle.action_builder.proofs.Frame.{got_same, got_bad}
 
 -- VERDICTS

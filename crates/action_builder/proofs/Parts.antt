@@ -6,12 +6,8 @@ use Rattle.tla_value.specs.Value.{Value}
 use Rattle.pcal_tree.specs.Scope.{Scope}
 use Rattle.action_builder.proofs.Equal.{name-true, eq-name}
 use Rattle.pcal_tree.specs.Scope.{State, Trouble, put, Got, got, bad, on}
-use Rattle.action_builder.specs.Action.{member, Change, Parts, no_parts, part, without, firsts, Changes, no_changes, change, evaluated, applied, moved, changes_for, folded, value_for}
+use Rattle.action_builder.specs.Action.{member, Change, Parts, no_parts, part, without, firsts, Changes, no_changes, change, evaluated, applied, moved, changes_for, folded, value_for, IsBad}
 use Rattle.action_builder.proofs.Sets.{or_none}
-
-abbrev pub IsBad : {X : Type 0} → Got X → Type 0
-IsBad (got b) = ⊥
-IsBad (bad k) = Unit {0}
 
 one_got : {X : Type 0} (x y : X) → got x ≡ got y → x ≡ y
 one_got x y e = cc

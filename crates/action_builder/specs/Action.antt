@@ -264,3 +264,20 @@ abbrev mutual
   pub OnceSome : Names → Ways → Type 0
   OnceSome A no_ways = Unit {0}
   OnceSome A (way b bs) = Once A b × OnceSome A bs
+
+-- ---- words for the laws
+
+-- no result: a fault, or a value past the limits
+abbrev pub IsBad : {X : Type 0} → Got X → Type 0
+IsBad (got x) = ⊥
+IsBad (bad k) = Unit {0}
+
+-- true, or no result
+abbrev pub NotFalse : Got Bool → Type 0
+NotFalse (got true) = Unit {0}
+NotFalse (got false) = ⊥
+NotFalse (bad k) = Unit {0}
+
+-- the same on the names of A
+abbrev pub Agree : Names → State → State → Type 0
+Agree A t u = (x : Word) → A x ≡ true → t x ≡ u x

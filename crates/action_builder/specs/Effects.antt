@@ -1,5 +1,5 @@
 -- The effects of statements that have no jump, label, loop or call: what their expressions and left sides give ("A PlusCal User's Manual", section 3.2).
-use Rattle.std.specs.Prelude.{List, [], Bool, true, cond}
+use Rattle.std.specs.Prelude.{◌≡◌, List, [], Bool, true, cond}
 use Rattle.tla_token.specs.declared.place.Place.{Place}
 use Rattle.tla_expr.specs.Tree.{Word, apply, select, Form, name, strict, Tree, node, Trees, no_trees, tree}
 use Rattle.tla_value.specs.declared.fault.FaultKind.TheVariants.{AssertFailed}
@@ -8,7 +8,7 @@ use Rattle.tla_value.specs.Stops.{Check}
 use Rattle.tla_value.specs.Strict.{changed_at}
 use Rattle.pcal_tree.specs.Algorithm.{Moves, no_moves, move, Binds, no_binds, one_of, is, Statement, Statements, Branches, no_branches, or}
 use Rattle.pcal_tree.specs.Algorithm as Source
-use Rattle.pcal_tree.specs.Scope.{Got, got, bad, faulty, on, valued, reach, root_place, value_of, test, members}
+use Rattle.pcal_tree.specs.Scope.{State, Part, Scope, Got, got, bad, faulty, on, valued, reach, root_place, value_of, test, members}
 use Rattle.action_builder.specs.Action.{Exp, Change, Parts, no_parts, part, Effect, assign, await, branch, either, choose, Effects, done, then, Ways, no_ways, way}
 
 -- ---- assignments
@@ -103,6 +103,13 @@ abbrev mutual
 abbrev pub LeftMoves : Moves → Type 0
 LeftMoves no_moves = Unit {0}
 LeftMoves (move l e ms) = IsLeft l × LeftMoves ms
+
+abbrev pub part_at : Word → List Value → Part
+part_at x path = record { variable = x; path = path }
+
+-- each name is a variable, or a part of the variable of that name
+abbrev pub Named : Scope → Type 0
+Named sc = (x : Word) (at : Place) (s : State) → (path : List Value) × (sc.part x at s ≡ got (part_at x path))
 
 -- no jump, label, loop, macro call, call or return
 abbrev mutual

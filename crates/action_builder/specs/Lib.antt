@@ -1,2 +1,3 @@
 pub mod Action
 pub mod Effects
+pub mod Contract

@@ -1,6 +1,8 @@
 //! The actions that are written for the steps of an algorithm.
 #![tactic(auto)]
 
+pub mod laws;
+
 ghost use Rattle.std.specs.Prelude.{◌≡◌, ◌<◌, nat_lt};
 
 /// Whether `UNCHANGED` is written for so many names: for none it is left out.
