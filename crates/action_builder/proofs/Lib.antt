@@ -7,3 +7,4 @@ pub mod Converse
 pub mod Faults
 pub mod Den
 pub mod Contract
+pub mod Settle

@@ -1,3 +1,4 @@
 pub mod Action
 pub mod Effects
 pub mod Contract
+pub mod Settled
