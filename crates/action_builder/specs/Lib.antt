@@ -2,3 +2,4 @@ pub mod Action
 pub mod Effects
 pub mod Contract
 pub mod Settled
+pub mod Written
