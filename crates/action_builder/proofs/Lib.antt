@@ -8,3 +8,4 @@ pub mod Faults
 pub mod Den
 pub mod Contract
 pub mod Settle
+pub mod Except
