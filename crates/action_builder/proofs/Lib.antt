@@ -9,3 +9,5 @@ pub mod Den
 pub mod Contract
 pub mod Settle
 pub mod Except
+pub mod Matching
+pub mod Truth

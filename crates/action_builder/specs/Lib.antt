@@ -3,3 +3,4 @@ pub mod Effects
 pub mod Contract
 pub mod Settled
 pub mod Written
+pub mod Ready

@@ -136,7 +136,8 @@ abbrev mutual
       (branch_items vs at (write vs A a) (assigned_in (effects_of plain b)) (assigned_in (effects_of plain a)))
       (branch_items vs at (write vs A b) (assigned_in (effects_of plain a)) (assigned_in (effects_of plain b)))) rest
   write_one vs A at (either bs) rest = item (any (write_some vs A at (assigned_by (ways_of plain bs)) bs)) rest
-  write_one vs A at (with no_binds b) rest = item (any (list (filled at (write vs A b)) no_lists)) rest
+  write_one vs A at (with no_binds b) rest =
+      item (any (list (branch_items vs at (write vs A b) (assigned_in (effects_of plain b) ++ []) (assigned_in (effects_of plain b))) no_lists)) rest
   write_one vs A at (with (one_of x e bs) b) rest = item (exists x.word (primed A e) (nested_items A bs (filled at (write vs A b)))) rest
   write_one vs A at (with (is x e bs) b) rest = item (local x.word (primed A e) (nested_items A bs (filled at (write vs A b)))) rest
   write_one vs A at _ rest = item (any no_lists) rest
