@@ -11,3 +11,4 @@ pub mod Settle
 pub mod Except
 pub mod Matching
 pub mod Truth
+pub mod Items

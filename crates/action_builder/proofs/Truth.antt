@@ -17,18 +17,13 @@ use Rattle.action_builder.specs.Action.{Names, member, more, mid, firsts, assign
 use Rattle.action_builder.specs.Action as Action
 use Rattle.action_builder.specs.Effects.{parts_of, effect_of, effects_of, ways_of, nested}
 use Rattle.action_builder.specs.Written.{own, side_of, primed, print_of, assert_of, left_of, unchanged_of, onto, filled, settings_of, nested_items, branch_items, write_one, write, write_some}
-use Rattle.action_builder.specs.Ready.{Readable, IsWithin, Paired, Scoped, FineTree, FineMoves, FineBinds, FineOne, Fine, FineSome, values_of, Matches, holds_on}
+use Rattle.action_builder.specs.Ready.{Readable, IsWithin, Stands, FineTree, FineMoves, FineBinds, FineOne, Fine, FineSome, values_of, Matches, holds_on}
 use Rattle.action_builder.proofs.Equal.{eq-name}
 use Rattle.action_builder.proofs.Sets.{or_left, or_right}
 use Rattle.action_builder.proofs.Main.{and_then_assoc, in_front, behind, Within}
 use Rattle.action_builder.proofs.Main as Main
 use Rattle.action_builder.proofs.Except.{value_law}
 use Rattle.action_builder.proofs.Matching.{match_and, match_or, match_value, match_test, match_some, match_one, match_true, match_told, match_print, match_assert, exp_law, bound_env, paired_bound, scoped_bound, own_fine, side_fine, unchanged_same}
-
--- all that is asked of a scope, and of the environments of pairs of states
-pub record Stands (U : Readable) (vs : List Word) (sc : Scope) (env : State → State → Env) : Type 0 where
-  pub paired : Paired U vs sc env
-  pub scoped : Scoped vs sc
 
 stands_bound : (U : Readable) (vs : List Word) (sc : Scope) (env : State → State → Env) (x : Word) (v : Value) → member vs x ≡ false → Stands U vs sc env → Stands U vs (bound x v sc) (bound_env x v env)
 stands_bound U vs sc env x v out k = record { paired = paired_bound U vs sc env x v out k.paired; scoped = scoped_bound vs sc x v out k.scoped }

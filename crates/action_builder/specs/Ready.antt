@@ -11,9 +11,10 @@ use Rattle.tla_value.specs.Definitions.{Look}
 use Rattle.module_text.specs.Module.{Items}
 use Rattle.module_text.specs.Truth.{Verdict, told, fault, over, items_hold}
 use Rattle.pcal_tree.specs.Algorithm.{Moves, no_moves, move, Binds, no_binds, one_of, is, Statement, assign, await, print, assert, skip, branch, either, with, Statements, done, then, mark, Branches, no_branches, or}
+use Rattle.pcal_tree.specs.Run.{Rules}
 use Rattle.pcal_tree.specs.Scope.{State, Got, got, bad, Scope}
-use Rattle.action_builder.specs.Action.{Names, member, more, mid, firsts, assigned}
-use Rattle.action_builder.specs.Effects.{LeftMoves, part_at, parts_of, effect_of}
+use Rattle.action_builder.specs.Action.{Names, member, more, mid, firsts, assigned, Once, Agree}
+use Rattle.action_builder.specs.Effects.{LeftMoves, part_at, parts_of, effect_of, effects_of, Settled}
 
 -- ---- names
 
@@ -39,6 +40,11 @@ pub record Paired (U : Readable) (vs : List Word) (sc : Scope) (env : State → 
 pub record Scoped (vs : List Word) (sc : Scope) : Type 0 where
   pub part : (x : Word) (at : Place) (s : State) → sc.part x at s ≡ got (part_at x [])
   pub reads : (x : Word) → member vs x ≡ true → (at : Place) (s : State) → (sc.env s).now x at ≡ just (s x)
+
+-- all that is asked of a scope, and of the environments of pairs of states
+pub record Stands (U : Readable) (vs : List Word) (sc : Scope) (env : State → State → Env) : Type 0 where
+  pub paired : Paired U vs sc env
+  pub scoped : Scoped vs sc
 
 -- ---- statements
 
@@ -119,3 +125,21 @@ IsNotFalse (over p) = Unit {0}
 -- the items on a pair of states
 abbrev pub holds_on : List Word → (State → State → Env) → Items → State → State → Verdict
 holds_on vs env items s t = items_hold plain (values_of vs s) (values_of vs t) (env s t) items
+
+-- ---- statements of one step for which items are written
+
+-- without limits
+abbrev pub unlimited : Rules → Rules
+unlimited M = record { check = plain; go = M.go; enter = M.enter; quit = M.quit; macros = M.macros }
+
+-- statements that assign nothing twice and nothing of A, in a scope with environments for pairs of states; vs are all variables
+pub record Ready (U : Readable) (vs : List Word) (A : Names) (ss : Statements) (sc : Scope) (env : State → State → Env) : Type 0 where
+  pub settled : Settled ss
+  pub fine : Fine U vs A ss
+  pub once : Once A (effects_of plain ss)
+  pub within : IsWithin A (member vs)
+  pub stands : Stands U vs sc env
+
+-- some state that agrees with t on A, in which the verdict is a fault
+abbrev pub StoppedSomewhere : Names → State → (State → Verdict) → Type 0
+StoppedSomewhere A t v = (u : State) × Agree A u t × IsStopped (v u)
