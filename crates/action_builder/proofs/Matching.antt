@@ -11,7 +11,7 @@ use Rattle.tla_value.specs.Stops.{plain, on_value, on_truth}
 use Rattle.tla_value.specs.Standard.{printed, asserted, standard_sense}
 use Rattle.tla_value.specs.Meaning.{Env, just, bind, on_all, called, eval}
 use Rattle.tla_value.specs.Grafts.{primes}
-use Rattle.tla_value.specs.Related.{Uses}
+use Rattle.tla_value.specs.Related.{In}
 use Rattle.tla_value.specs.Definitions.{Look}
 use Rattle.tla_value.proofs.Graft.{every_weaker}
 use Rattle.tla_value.proofs.Primes.{Between, Unprimed, unprimed_law}
@@ -154,7 +154,7 @@ unprimed_of A U m at h = (h.0, h.1, no_next m h.2)
 pub exp_law : (U : Readable) (vs : List Word) (A : Names) (sc : Scope) (env : State → State → Env) → Paired U vs sc env → IsWithin A (member vs) → (e : Tree) → FineTree U A e → (s t : State) → eval plain (primed A e) (env s t) ≡ eval plain e (sc.env (mid s t A))
 exp_law U vs A sc env p w e f s t =
     let k = p.halfway A w s t in
-    unprimed_law plain A (U A) e (every_weaker _ _ (unprimed_of A (U A)) e f) (env s t) (sc.env (mid s t A)) (record { now = k.now; defs = k.defs })
+    unprimed_law plain A (In (U A)) e (every_weaker _ _ (unprimed_of A (In (U A))) e f) (env s t) (sc.env (mid s t A)) (record { now = k.now; defs = k.defs })
 
 halfway_bound : (A : Names) (U : Word → Type 0) (x : Word) (v : Value) → A x ≡ false → (e f : Env) → Halfway A U e f → Halfway A U (bind x v e) (bind x v f)
 halfway_bound A U x v out e f r = record { now = λ y u at. by y u at (bytes_eq x y) refl; defs = r.defs }
@@ -175,7 +175,7 @@ bound_env x v env s t = bind x v (env s t)
 
 pub paired_bound : (U : Readable) (vs : List Word) (sc : Scope) (env : State → State → Env) (x : Word) (v : Value) → member vs x ≡ false → Paired U vs sc env → Paired U vs (bound x v sc) (bound_env x v env)
 paired_bound U vs sc env x v out p = record {
-  halfway = λ A w s t. halfway_bound A (U A) x v (outside A (member vs) w x out) (env s t) (sc.env (mid s t A)) (p.halfway A w s t);
+  halfway = λ A w s t. halfway_bound A (In (U A)) x v (outside A (member vs) w x out) (env s t) (sc.env (mid s t A)) (p.halfway A w s t);
   print = p.print;
   assert = p.assert;
 }
@@ -221,9 +221,9 @@ subscripts_every P [] ts h k = k
 subscripts_every P (sub t ∷ ks) ts h k = (h.0, subscripts_every P ks ts h.1 k)
 subscripts_every P (fixed a ∷ ks) ts h k = subscripts_every P ks ts h k
 
-slots_every : (U : Readable) (A : Names) (ms : Moves) → FineSides U A ms → EveryOf (Plain A (U A)) (slot_trees ms)
+slots_every : (U : Readable) (A : Names) (ms : Moves) → FineSides U A ms → EveryOf (Plain A (In (U A))) (slot_trees ms)
 slots_every U A no_moves h = tt
-slots_every U A (move l e ms) h = subscripts_every (Plain A (U A)) (keys_of l) (tree e (slot_trees ms)) (keys_every (Plain A (U A)) l h.0) (h.1, slots_every U A ms h.2)
+slots_every U A (move l e ms) h = subscripts_every (Plain A (In (U A))) (keys_of l) (tree e (slot_trees ms)) (keys_every (Plain A (In (U A))) l h.0) (h.1, slots_every U A ms h.2)
 
 pub own_fine : (U : Readable) (A : Names) (y : Word) (ms : Moves) → FineSides U A ms → FineSides U A (own y ms)
 own_fine U A y no_moves h = tt
@@ -233,7 +233,7 @@ own_fine U A y (move l e ms) h = by (own_fine U A y ms h.2) (bytes_eq (head_of l
     by ih true = (h.0, h.1, ih)
     by ih false = ih
 
-pub side_fine : (U : Readable) (A : Names) (y : Word) (ms : Moves) → U A y → FineSides U A ms → FineTree U A (side_of y ms)
+pub side_fine : (U : Readable) (A : Names) (y : Word) (ms : Moves) → U A y ≡ true → FineSides U A ms → FineTree U A (side_of y ms)
 side_fine U A y no_moves u h = ((tt, u, tt), tt)
 side_fine U A y (move l e ms) u h = by (is_whole (keys_of l) ms)
   where

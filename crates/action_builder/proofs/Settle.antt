@@ -1,10 +1,11 @@
 -- Settled statements have the ends of the statements, and trouble where these have trouble.
-use Rattle.std.proofs.Common.{◌≡◌, Bool, true, false, cond, ◌||◌, ◌⊎◌, ◌↔◌, refl, sym, ◌∙◌, ap, subst, inl, inr, ⊎_elim}
+use Rattle.std.proofs.Common.{◌≡◌, [], ◌∷◌, Bool, true, false, cond, ◌||◌, ◌⊎◌, ◌↔◌, refl, sym, ◌∙◌, ap, subst, inl, inr, ⊎_elim}
 use Rattle.tla_token.specs.declared.place.Place.{Place}
 use Rattle.tla_expr.specs.Tree.{Word, Trees}
 use Rattle.tla_value.specs.declared.fault.FaultKind.TheVariants.{AssertFailed}
 use Rattle.tla_value.specs.Value.{Value, Values, no_values, and}
 use Rattle.tla_value.specs.Stops.{Check}
+use Rattle.tla_value.specs.Related.{In}
 use Rattle.pcal_tree.specs.Algorithm.{Name, Span, Binds, no_binds, one_of, is, Statement, assign, await, print, assert, skip, branch, either, with, loop, jump, macro, invoke, leave, Statements, done, then, mark, Branches, no_branches, or}
 use Rattle.pcal_tree.specs.Scope.{State, Got, got, bad, Trouble, faulty, Scope, bound, test, members, value_of}
 use Rattle.pcal_tree.specs.Assign.{moved}
@@ -12,7 +13,7 @@ use Rattle.pcal_tree.specs.Run.{Course, stops, chooses, Has, HasSome, after, at_
 use Rattle.pcal_tree.proofs.ExpandRuns.{following}
 use Rattle.action_builder.specs.Action.{IsBad}
 use Rattle.action_builder.specs.Contract.{to_end}
-use Rattle.action_builder.specs.Settled.{Moving, jumps_one, jumps, jumps_some, settled_one, settled, settled_some, Stops, EachBind, TidyOne, Tidy, TidySome, Outcomes, AnyBad, Close, CloseCourses, Does}
+use Rattle.action_builder.specs.Settled.{Moving, jumps_one, jumps, jumps_some, settled_one, settled, settled_some, Stops, EachBind, TidyOne, Tidy, TidySome, Outcomes, AnyBad, Close, CloseCourses, Does, Inner}
 
 -- ---- close courses
 
@@ -153,3 +154,9 @@ mutual
   settle_some M W Fit F d l no_branches t sc fit s = close_refl (λ r. ⊥)
   settle_some M W Fit F d l (or b bs) t sc fit s =
       close_or (Has (run M unlabelled (settled W unlabelled l b) sc to_end s)) (HasSome (run_branches M (settled_some W l bs) sc to_end s)) (Has (run M unlabelled b sc (exit_to M l) s)) (HasSome (run_branches M bs sc (exit_to M l) s)) (settle M W Fit F d unlabelled l b t.0 sc fit s) (settle_some M W Fit F d l bs t.1 sc fit s)
+
+pub inner_bind : (f : Word → Bool) (sc : Scope) (x : Word) (v : Value) (inner : Scope) → In f x → Inner f sc inner → Inner f sc (bound x v inner)
+inner_bind f sc x v inner h k = ((x, v) ∷ k.0, (h, k.1), ap (bound x v) k.2)
+
+pub settle_in : (M : Rules) (W : Moving) (f : Word → Bool) (sc : Scope) → Does M W (Inner f sc) (In f) → (here l : Word) (ss : Statements) → Tidy (In f) ss → CloseCourses (run M unlabelled (settled W here l ss) sc to_end) (run M here ss sc (exit_to M l))
+settle_in M W f sc d here l ss t = settle M W (Inner f sc) (In f) d here l ss t sc ([], tt, refl)

@@ -6,7 +6,7 @@ use Rattle.tla_value.specs.Value.{Value}
 use Rattle.tla_value.specs.Stops.{plain}
 use Rattle.tla_value.specs.Standard.{printed, asserted, standard_sense}
 use Rattle.tla_value.specs.Meaning.{Env, just, bind}
-use Rattle.tla_value.specs.Related.{Uses}
+use Rattle.tla_value.specs.Related.{Uses, In}
 use Rattle.tla_value.specs.Definitions.{Look}
 use Rattle.module_text.specs.Module.{Items}
 use Rattle.module_text.specs.Truth.{Verdict, told, fault, over, items_hold}
@@ -19,8 +19,8 @@ use Rattle.action_builder.specs.Effects.{LeftMoves, part_at, parts_of, effect_of
 -- ---- names
 
 -- the names that may be read where the variables of A are assigned already: the variables, and others whose meaning does not rest on A
-abbrev pub Readable : Type 1
-Readable = Names → Word → Type 0
+abbrev pub Readable : Type 0
+Readable = Names → Word → Bool
 
 -- e is of a pair of states, f of the state half done: of the names of U, f reads those of A in the later state
 pub record Halfway (A : Names) (U : Word → Type 0) (e f : Env) : Type 0 where
@@ -32,7 +32,7 @@ IsWithin A V = (x : Word) → A x ≡ true → V x ≡ true
 
 -- the environment of each pair of states goes with the scope, whichever variables are assigned; PrintT and Assert are those of TLC
 pub record Paired (U : Readable) (vs : List Word) (sc : Scope) (env : State → State → Env) : Type 0 where
-  pub halfway : (A : Names) → IsWithin A (member vs) → (s t : State) → Halfway A (U A) (env s t) (sc.env (mid s t A))
+  pub halfway : (A : Names) → IsWithin A (member vs) → (s t : State) → Halfway A (In (U A)) (env s t) (sc.env (mid s t A))
   pub print : (s t : State) → (env s t).defs (codes "PrintT") ≡ Some (standard_sense plain printed)
   pub assert : (s t : State) → (env s t).defs (codes "Assert") ≡ Some (standard_sense plain asserted)
 
@@ -57,7 +57,7 @@ abbrev pub Plain : Names → (Word → Type 0) → Form → Place → Type 0
 Plain A U m at = Each (λ x. A x ≡ false) (binders m) × Uses U m × NoNext m
 
 abbrev pub FineTree : Readable → Names → Tree → Type 0
-FineTree U A e = Every (Plain A (U A)) e
+FineTree U A e = Every (Plain A (In (U A))) e
 
 abbrev pub FineSides : Readable → Names → Moves → Type 0
 FineSides U A no_moves = Unit {0}
@@ -66,7 +66,7 @@ FineSides U A (move l e ms) = FineTree U A l × FineTree U A e × FineSides U A 
 pub record FineMoves (U : Readable) (vs : List Word) (A : Names) (ms : Moves) : Type 0 where
   pub left : LeftMoves ms
   pub sides : FineSides U A ms
-  pub readable : (y : Word) → member (firsts (parts_of plain ms)) y ≡ true → U A y
+  pub readable : (y : Word) → member (firsts (parts_of plain ms)) y ≡ true → U A y ≡ true
 
 abbrev pub FineBinds : Readable → List Word → Names → Binds → Type 0
 FineBinds U vs A no_binds = Unit {0}

@@ -1,8 +1,9 @@
 -- Statements of one step with jumps, loops, calls and returns written as assignments that end it ("A PlusCal User's Manual", sections 3.2 and 3.4).
-use Rattle.std.specs.Prelude.{◌≡◌, ◌↔◌, Bool, true, false, cond, ◌||◌, ◌⊎◌}
+use Rattle.std.specs.Prelude.{◌≡◌, ◌↔◌, List, [], ◌∷◌, Bool, true, false, cond, ◌||◌}
 use Rattle.tla_expr.specs.Tree.{Word, Trees}
 use Rattle.tla_value.specs.Value.{Value}
 use Rattle.tla_value.specs.Meaning.{evals}
+use Rattle.tla_value.specs.Related.{In}
 use Rattle.pcal_tree.specs.Algorithm.{Name, Span, Binds, no_binds, one_of, is, Statement, assign, await, print, assert, skip, branch, either, with, loop, jump, macro, invoke, leave, Statements, done, then, mark, Branches, no_branches, or}
 use Rattle.pcal_tree.specs.Scope.{State, Got, got, Scope, bound, all_valued, places_of}
 use Rattle.pcal_tree.specs.Run.{Course, Has, after, Rules, unlabelled, label_of, run}
@@ -112,3 +113,17 @@ pub record Does (M : Rules) (W : Moving) (Fit : Scope → Type 0) (F : Word → 
   pub call : (at : Span) (p : Name) (ts : Trees) (l : Word) (sc : Scope) → Fit sc → CloseCourses (run M unlabelled (W.call at p ts l) sc to_end) (λ s. after (all_valued (evals M.check ts) (sc.env s) got) (λ vs. M.enter at.first p.word (places_of ts sc) vs l s))
   pub back : (at : Span) (sc : Scope) → Fit sc → CloseCourses (run M unlabelled (W.back at) sc to_end) (M.quit at.first)
   pub bind : (x : Word) (v : Value) (sc : Scope) → F x → Fit sc → Fit (bound x v sc)
+
+-- ---- the scopes within one
+
+abbrev pub with_names : List (Word × Value) → Scope → Scope
+with_names [] sc = sc
+with_names (b ∷ bs) sc = bound b.0 b.1 (with_names bs sc)
+
+abbrev pub AllNamed : (Word → Bool) → List (Word × Value) → Type 0
+AllNamed f [] = Unit {0}
+AllNamed f (b ∷ bs) = In f b.0 × AllNamed f bs
+
+-- sc' is sc with some names of f bound
+abbrev pub Inner : (Word → Bool) → Scope → Scope → Type 0
+Inner f sc sc' = (bs : List (Word × Value)) × AllNamed f bs × (sc' ≡ with_names bs sc)
