@@ -5,7 +5,7 @@ use Rattle.std.specs.Str.{bytes_eq}
 use Rattle.std.proofs.lemmas.Bool.{and_parts, and_from, or_cases, or_parts, or_from, or_left, or_right, cases_lt, eqb-true, eq-eqb, false_from_ne_true, both_ways}
 use Rattle.tla_token.specs.declared.sign.Sign.{Sign}
 use Rattle.tla_token.specs.Signs.{spellings, is_among, all_signs, is_sign}
-use Rattle.tla_token.specs.Lexemes.{Kind, name, number, quote, one, other, is_word, is_letter, is_digit, is_printed, is_other, IsLexeme}
+use Rattle.tla_token.specs.Lexemes.{Kind, name, number, quote, one, other, is_word, is_letter, is_digit, is_other, unquoted, IsLexeme}
 use Rattle.tla_token.specs.Cut.{run, sign_at, spelling_at}
 use Rattle.tla_token.proofs.Words.{run_over, digit_word, digits_words, any_append}
 use Rattle.tla_token.proofs.Spelled.{begins, begins_is, begins_from, begins_same, same_bytes, among_head, stands_at, any_some, is_worded, is_mark, Row, row_of, no_empty}
@@ -26,7 +26,7 @@ find_narrow p q (y ∷ xs) x e less h = by (p y) refl (λ d. find_narrow p q xs 
         let g : q y ≡ false = false_from_ne_true (q y) (λ t. both_ways (p y) k (less y t)) in
         rw g (rest (rw k at e))
 
-find_passes : {X : Type 0} (p : X → Bool) (xs : List X) (x : X) → find p xs ≡ Some x → p x ≡ true
+pub find_passes : {X : Type 0} (p : X → Bool) (xs : List X) (x : X) → find p xs ≡ Some x → p x ≡ true
 find_passes p [] x e = absurd cc
 find_passes p (y ∷ xs) x e = by (p y) refl (find_passes p xs x)
   where
@@ -113,7 +113,7 @@ sign_stands s x e = find_passes (stands_at x) all_signs s e
 pub data Sort (b : ℕ) (bs m : List ℕ) : Type 0 where
   a_name : length m ≤ length (run is_word (b ∷ bs)) → list_any is_letter (run is_word (b ∷ bs)) ≡ true → Sort b bs m
   a_number : length m ≤ length (run is_digit (b ∷ bs)) → length m ≤ length (run is_word (b ∷ bs)) → is_digit b ≡ true → Sort b bs m
-  a_quote : nat_eq b 34 ≡ true → Sort b bs m
+  a_quote : (raw w : List ℕ) → m ≡ 34 ∷ (raw ++ 34 ∷ []) → unquoted raw ≡ Some w → nat_eq b 34 ≡ true → Sort b bs m
   a_single : length m ≤ 1 → Sort b bs m
   a_worded : nat_eq b 92 ≡ true → list_any is_letter (run is_word bs) ≡ true → length m ≤ suc (length (run is_word bs)) → Sort b bs m
   some_marks : (s : Sign) → list_all is_mark m ≡ true → sign_at m ≡ Some s → spelling_at (spellings s) m ≡ Some m → (more : List ℕ) → b ∷ bs ≡ m ++ more → Sort b bs m
@@ -152,7 +152,7 @@ sort_of (number n) (c ∷ m) more b bs (some, all, is) e =
     a_number (run_least is_digit (b ∷ bs) (c ∷ m) more e all) (run_least is_word (b ∷ bs) (c ∷ m) more e (digits_words (c ∷ m) all)) (ap is_digit (same_first b c bs (m ++ more) e).0 ∙ p.0)
 sort_of (quote w) m more b bs (raw, f, u) e =
     let s = same_first b 34 bs ((raw ++ 34 ∷ []) ++ more) (e ∙ ap (λ (x : List ℕ). x ++ more) f) in
-    a_quote (eq-eqb b 34 s.0)
+    a_quote raw w f u (eq-eqb b 34 s.0)
 sort_of (one s) [] more b bs i e = absurd (no_empty s i)
 sort_of (one s) (c ∷ v) more b bs i e = by (is_worded (c ∷ v)) refl (row_of s (c ∷ v) i)
   where
