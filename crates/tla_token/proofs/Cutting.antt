@@ -1,14 +1,14 @@
 -- What the cutting function gives are parts of the text, and they fit.
-use Rattle.std.proofs.Common.{◌≡◌, ℕ, zero, suc, ◌+◌, ◌-◌, ◌<◌, ◌≤◌, Bool, true, false, not, ◌&&◌, ◌||◌, nat_eq, nat_le, List, [], ◌∷◌, ◌++◌, length, take, drop, map, Option, Some, None, refl, sym, ap, subst, ◌∙◌, inl, inr, arith, codes, find, append_assoc, append-nil, length-append}
+use Rattle.std.proofs.Common.{◌≡◌, ℕ, zero, suc, ◌+◌, ◌<◌, ◌≤◌, Bool, true, false, not, ◌&&◌, ◌||◌, nat_eq, List, [], ◌∷◌, ◌++◌, length, take, drop, Option, Some, None, refl, sym, ap, subst, ◌∙◌, arith, codes, find, append_assoc, append-nil, length-append}
 use Rattle.std.specs.List.{list_all, list_any, starts_with}
 use Rattle.std.proofs.lemmas.List.{take-append-drop, length-take-le}
-use Rattle.std.proofs.lemmas.Bool.{and_parts, and_from, or_cases, or_parts, or_from, or_left, or_right, eqb-true, false_from_ne_true, both_ways}
+use Rattle.std.proofs.lemmas.Bool.{and_parts, and_from, or_left, or_right, eqb-true, false_from_ne_true, both_ways}
 use Rattle.tla_token.specs.declared.sign.Sign.{Sign}
 use Rattle.tla_token.specs.Signs.{spellings, is_among, all_signs, spelled_by, is_sign}
-use Rattle.tla_token.specs.Lexemes.{Kind, name, number, quote, one, other, number_of, unquoted, is_word, is_letter, is_digit, is_blank, is_printed, is_other, IsLexeme, IsLongest}
-use Rattle.tla_token.specs.Tokens.{Piece, blank, block, line, lexeme, bytes_of, EndsLine, Closes, Fits, opens_comment}
+use Rattle.tla_token.specs.Lexemes.{Kind, name, number, quote, one, other, number_of, unquoted, is_word, is_letter, is_digit, is_blank, is_printed, is_other, IsLexeme}
+use Rattle.tla_token.specs.Tokens.{blank, block, line, lexeme, EndsLine, opens_comment}
 use Rattle.tla_token.specs.Offences.{Part, sound, stray, bad_string, cut_string, open_string, open_block, part_bytes, parts_text, PartFits, PartsFit, ends_string, string_len, escape_len, begins_with}
-use Rattle.tla_token.specs.Cut.{run, comment_len, block_part, closed_part, string_part, part_at, lexeme_part, sign_part, sign_at, sign_of, spelling_at, or_other, parts_at, parts}
+use Rattle.tla_token.specs.Cut.{run, comment_len, block_part, closed_part, string_part, part_at, lexeme_part, sign_part, sign_at, sign_of, spelling_at, or_other, parts}
 use Rattle.tla_token.proofs.Front.{blank_front, closes_len, string_closes}
 use Rattle.tla_token.proofs.Words.{run_splits, run_passes}
 use Rattle.tla_token.proofs.Spelled.{begins_is, is_worded, is_mark, Row, row_of, spelled_some, no_empty}
@@ -325,7 +325,7 @@ marks_cut b bs filled no_mark none wordless d back = by (sign_at (b ∷ bs)) ref
         let f = spelling_found (spellings s) (b ∷ bs) w.0 w.1 in
         lexeme_cut (one s) w.0 (drop (length w.0) (b ∷ bs)) b bs (given ∙ picked_mark s b (b ∷ bs) w.0 at w.1) (begins_is (b ∷ bs) w.0 f.1) none f.0
         (most (length w.0) (some_among s w.0 f.0) (λ r m more own whole e.
-            marks_longest s r w.0 m more (ap sign_at (sym e) ∙ at) (ap (spelling_at (spellings s)) (sym e) ∙ w.1) own whole))
+        marks_longest s r w.0 m more (ap sign_at (sym e) ∙ at) (ap (spelling_at (spellings s)) (sym e) ∙ w.1) own whole))
     by None at true p =
         let printed : sign_part None b (b ∷ bs) ≡ sound (lexeme (other (b ∷ [])) (b ∷ [])) = rw p refl in
         let single : is_other (b ∷ []) ≡ true = rw (p, no_letter, d, no_mark, no_sign at) refl in

@@ -1,15 +1,14 @@
 -- What lexemes can stand at the front of a text, and which of them is the longest.
-use Rattle.std.proofs.Common.{◌≡◌, ℕ, zero, suc, ◌+◌, ◌-◌, ◌<◌, ◌≤◌, Bool, true, false, not, ◌&&◌, ◌||◌, nat_eq, nat_le, List, [], ◌∷◌, ◌++◌, length, take, drop, Option, Some, None, refl, sym, ap, subst, ◌∙◌, inl, inr, arith, codes, find, append_assoc, length-append}
+use Rattle.std.proofs.Common.{◌≡◌, ℕ, suc, ◌<◌, ◌≤◌, Bool, true, false, not, ◌&&◌, nat_eq, List, [], ◌∷◌, ◌++◌, length, drop, Some, None, refl, sym, ap, ◌∙◌, inl, inr, arith, find, append_assoc, length-append}
 use Rattle.std.specs.List.{list_all, list_any}
 use Rattle.std.specs.Str.{bytes_eq}
-use Rattle.std.proofs.lemmas.Bool.{and_parts, and_from, or_cases, or_parts, or_from, or_left, or_right, cases_lt, eqb-true, eq-eqb, false_from_ne_true, both_ways}
+use Rattle.std.proofs.lemmas.Bool.{and_parts, or_cases, or_left, or_right, cases_lt, eq-eqb, false_from_ne_true, both_ways}
 use Rattle.tla_token.specs.declared.sign.Sign.{Sign}
 use Rattle.tla_token.specs.Signs.{spellings, is_among, all_signs, is_sign}
 use Rattle.tla_token.specs.Lexemes.{Kind, name, number, quote, one, other, is_word, is_letter, is_digit, is_other, unquoted, IsLexeme}
 use Rattle.tla_token.specs.Cut.{run, sign_at, spelling_at}
-use Rattle.tla_token.proofs.Words.{run_over, digit_word, digits_words, any_append}
+use Rattle.tla_token.proofs.Words.{run_over, digits_words, any_append}
 use Rattle.tla_token.proofs.Spelled.{begins, begins_is, begins_from, begins_same, same_bytes, among_head, stands_at, any_some, is_worded, is_mark, Row, row_of, no_empty}
-use Rattle.tla_token.proofs.Signed.{not_true}
 
 -- ---- searches
 find_narrow : {X : Type 0} (p q : X → Bool) (xs : List X) (x : X) → find p xs ≡ Some x → ((y : X) → q y ≡ true → p y ≡ true) → q x ≡ true → find q xs ≡ Some x

@@ -1,10 +1,12 @@
 //! Laws of tokens, stated as what functions without a body ensure.
 
-ghost use Rattle.std.specs.Prelude.{◌≡◌, ℕ, Bool, List};
-ghost use Rattle.tla_token.specs.declared.rule.Refusal.{Refusal};
+ghost use Rattle.std.specs.Prelude.{◌≡◌, ℕ, Bool, List, map, Some};
+ghost use Rattle.tla_token.specs.declared.rule.Refusal as code;
+ghost use Rattle.tla_token.specs.Places.{place_at};
 ghost use Rattle.tla_token.specs.Tokens as pure;
-ghost use Rattle.tla_token.specs.Tokens.{Tok};
-ghost use Rattle.tla_token.specs.Offences.{Offends};
+ghost use Rattle.tla_token.specs.Tokens.{Tok, stretch, tokens_of};
+ghost use Rattle.tla_token.specs.Offences.{Part, sound, parts_text, PartsFit, Offends, offences, least};
+ghost use Rattle.tla_token.specs.Cut.{parts};
 
 /// A stretch of a text has at most one list of tokens.
 pub fn tokens_are_unique()
@@ -13,5 +15,23 @@ pub fn tokens_are_unique()
 
 /// A stretch of a text is refused by at most one rule, at one place.
 pub fn refusals_are_unique()
-    ensures { (in_algorithm : Bool) (text : List ℕ) (from to : ℕ) (r q : Refusal) → Offends in_algorithm text from to r → Offends in_algorithm text from to q → r ≡ q }
+    ensures { (in_algorithm : Bool) (text : List ℕ) (from to : ℕ) (r q : code.Refusal) → Offends in_algorithm text from to r → Offends in_algorithm text from to q → r ≡ q }
+{}
+
+/// Each text is cut into parts that fit, and no other parts that fit make it up.
+pub fn cutting_is_exact()
+    ensures fits { (text : List ℕ) → (parts_text (parts text) ≡ text) × PartsFit (parts text) }
+    ensures only { (ps : List Part) → PartsFit ps → parts (parts_text ps) ≡ ps }
+{}
+
+/// The tokens of a stretch are those that cutting gives, where it gives no faulty part.
+pub fn tokens_are_cut()
+    ensures found { (text : List ℕ) (from to : ℕ) (ts : List pure.Token) → Tok text from to ts → (ps : List pure.Piece) × (parts (stretch text from to) ≡ map sound ps) × (ts ≡ tokens_of (place_at text from) from ps) }
+    ensures given { (text : List ℕ) (from to : ℕ) (ps : List pure.Piece) → parts (stretch text from to) ≡ map sound ps → Tok text from to (tokens_of (place_at text from) from ps) }
+{}
+
+/// The refusal of a stretch is the least offence of the parts that cutting gives.
+pub fn refusals_are_cut()
+    ensures found { (in_algorithm : Bool) (text : List ℕ) (from to : ℕ) (r : code.Refusal) → Offends in_algorithm text from to r → (at : ℕ) × (least (offences in_algorithm from (parts (stretch text from to))) ≡ Some (r.rule, at)) × (r.place ≡ place_at text at) }
+    ensures given { (in_algorithm : Bool) (text : List ℕ) (from to : ℕ) (r : code.Refusal) (at : ℕ) → least (offences in_algorithm from (parts (stretch text from to))) ≡ Some (r.rule, at) → r.place ≡ place_at text at → Offends in_algorithm text from to r }
 {}
