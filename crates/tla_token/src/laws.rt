@@ -1,6 +1,6 @@
 //! Laws of tokens, stated as what functions without a body ensure.
 
-ghost use Rattle.std.specs.Prelude.{◌≡◌, ℕ, Bool, List, map, Some};
+ghost use Rattle.std.specs.Prelude.{◌≡◌, ℕ, Bool, List, map, Some, ◌⊎◌, false};
 ghost use Rattle.tla_token.specs.declared.rule.Refusal as code;
 ghost use Rattle.tla_token.specs.Places.{place_at};
 ghost use Rattle.tla_token.specs.Tokens as pure;
@@ -34,4 +34,10 @@ pub fn tokens_are_cut()
 pub fn refusals_are_cut()
     ensures found { (in_algorithm : Bool) (text : List ℕ) (from to : ℕ) (r : code.Refusal) → Offends in_algorithm text from to r → (at : ℕ) × (least (offences in_algorithm from (parts (stretch text from to))) ≡ Some (r.rule, at)) × (r.place ≡ place_at text at) }
     ensures given { (in_algorithm : Bool) (text : List ℕ) (from to : ℕ) (r : code.Refusal) (at : ℕ) → least (offences in_algorithm from (parts (stretch text from to))) ≡ Some (r.rule, at) → r.place ≡ place_at text at → Offends in_algorithm text from to r }
+{}
+
+/// A stretch has a list of tokens or a refusal. Outside algorithms it never has both.
+pub fn tokens_or_refusal()
+    ensures either { (in_algorithm : Bool) (text : List ℕ) (from to : ℕ) → ((ts : List pure.Token) × Tok text from to ts) ⊎ ((r : code.Refusal) × Offends in_algorithm text from to r) }
+    ensures not_both { (text : List ℕ) (from to : ℕ) (ts : List pure.Token) (r : code.Refusal) → Tok text from to ts → Offends false text from to r → ⊥ }
 {}
