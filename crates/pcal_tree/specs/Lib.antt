@@ -14,3 +14,8 @@ pub mod Starting
 pub mod Script
 pub mod Expand
 pub mod Marks
+pub mod GrammarView
+pub mod GrammarParts
+pub mod GrammarP
+pub mod GrammarC
+pub mod Grammar
