@@ -1,5 +1,5 @@
 -- Statements as the C-syntax spells them ("A PlusCal User's Manual, C-Syntax Version", appendix A).
-use Rattle.std.specs.Prelude.{List, [], ◌∷◌, Bool, true, false, not, IsTrue, Option, Some, None, codes}
+use Rattle.std.specs.Prelude.{[], Bool, true, false, not, IsTrue, Option, Some, None, codes}
 use Rattle.tla_token.specs.declared.place.Place.{Place}
 use Rattle.tla_expr.specs.Lexical as tk
 use Rattle.tla_expr.specs.Spelling.{Phrase, IsGood, tree_of}

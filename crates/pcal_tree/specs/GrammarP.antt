@@ -1,5 +1,5 @@
 -- Statements as the P-syntax spells them ("A PlusCal User's Manual, P-Syntax Version", appendix A).
-use Rattle.std.specs.Prelude.{List, [], ◌∷◌, Option, codes}
+use Rattle.std.specs.Prelude.{[], Option, codes}
 use Rattle.tla_token.specs.declared.place.Place.{Place}
 use Rattle.tla_expr.specs.Spelling.{Phrase, IsGood, tree_of}
 use Rattle.pcal_tree.specs.Algorithm as tree

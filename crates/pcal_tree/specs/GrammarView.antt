@@ -1,5 +1,5 @@
 -- What the grammars of algorithms see of the tokens of a text ("A PlusCal User's Manual", appendix A).
-use Rattle.std.specs.Prelude.{List, [], ◌∷◌, map}
+use Rattle.std.specs.Prelude.{List, map}
 use Rattle.tla_token.specs.declared.place.Place.{Place}
 use Rattle.tla_token.specs.declared.sign.Sign.TheVariants as sign
 use Rattle.tla_token.specs.Lexemes.{one}

@@ -19,3 +19,4 @@ pub mod GrammarParts
 pub mod GrammarP
 pub mod GrammarC
 pub mod Grammar
+pub mod Printed
