@@ -6,3 +6,5 @@ pub mod GraftRuns
 pub mod ExpandRuns
 pub mod BeginLaws
 pub mod TroubleLaws
+mod RowsPrinted
+mod RowsC

@@ -16,3 +16,9 @@ pub mod Expand
 pub mod Marks
 pub mod Names
 pub mod Clean
+pub mod GrammarView
+pub mod GrammarParts
+pub mod GrammarP
+pub mod GrammarC
+pub mod Grammar
+pub mod Printed
