@@ -6,3 +6,4 @@ pub mod GraftRuns
 pub mod ExpandRuns
 pub mod BeginLaws
 pub mod TroubleLaws
+mod RowsLabels

@@ -14,3 +14,6 @@ pub mod Starting
 pub mod Script
 pub mod Expand
 pub mod Marks
+pub mod Offences
+pub mod OffencesLabels
+pub mod Labelled
