@@ -7,3 +7,4 @@ pub mod ExpandRuns
 pub mod BeginLaws
 pub mod TroubleLaws
 mod RowsLabels
+mod RowsNames

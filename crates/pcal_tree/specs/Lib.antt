@@ -17,3 +17,5 @@ pub mod Marks
 pub mod Offences
 pub mod OffencesLabels
 pub mod Labelled
+pub mod Outside
+pub mod Names

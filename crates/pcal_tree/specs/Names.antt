@@ -1,0 +1,171 @@
+-- Written names: what a module's names would take from each other is told apart by numbers ("A PlusCal User's Manual", section 4, on names in the translation).
+use Rattle.std.specs.Prelude.{ℕ, zero, suc, length, nat_eq, List, [], ◌∷◌, ◌++◌, Bool, true, false, ◌&&◌, ◌||◌, cond, bytes_eq, codes, Option, Some, None, map}
+use Rattle.std.specs.Fmt.{decimal}
+use Rattle.tla_token.specs.Signs.{is_among}
+use Rattle.tla_token.specs.Words.{is_reserved, is_own, is_standard}
+use Rattle.tla_expr.specs.Tree.{Word, Tree, Trees}
+use Rattle.pcal_tree.specs.Algorithm.{Name, Moves, no_moves, move, Binds, no_binds, one_of, is, Statement, assign, await, print, assert, skip, branch, either, with, loop, jump, macro, invoke, leave, Statements, done, then, mark, Branches, no_branches, or, Start, unset, equals, among, Declaration, Definition, Macro, Procedure, Process, Main, alone, processes, Algorithm, Routine, locals, procedure_routines, main_routines, Naming}
+use Rattle.pcal_tree.specs.Program.{words, declared}
+use Rattle.pcal_tree.specs.Offences.{each}
+use Rattle.pcal_tree.specs.OffencesLabels.{label_words}
+use Rattle.pcal_tree.specs.Outside.{Outside, unit_names, bound_in, bound_in_all, bound_outside}
+
+-- ---- names that an algorithm binds: in expressions and by `with`
+
+abbrev pub bound_in_moves : Moves → List Word
+bound_in_moves no_moves = []
+bound_in_moves (move l e ms) = bound_in l ++ (bound_in e ++ bound_in_moves ms)
+
+abbrev pub bound_in_binds : Binds → List Word
+bound_in_binds no_binds = []
+bound_in_binds (one_of x e bs) = x.word ∷ (bound_in e ++ bound_in_binds bs)
+bound_in_binds (is x e bs) = x.word ∷ (bound_in e ++ bound_in_binds bs)
+
+abbrev mutual
+  pub bound_in_one : Statement → List Word
+  bound_in_one (assign ms) = bound_in_moves ms
+  bound_in_one (await e) = bound_in e
+  bound_in_one (print e) = bound_in e
+  bound_in_one (assert e) = bound_in e
+  bound_in_one skip = []
+  bound_in_one (branch e a b) = bound_in e ++ (bound_in_body a ++ bound_in_body b)
+  bound_in_one (either bs) = bound_in_branches bs
+  bound_in_one (with bs b) = bound_in_binds bs ++ bound_in_body b
+  bound_in_one (loop e b) = bound_in e ++ bound_in_body b
+  bound_in_one (jump l) = []
+  bound_in_one (macro m ts) = bound_in_all ts
+  bound_in_one (invoke p ts) = bound_in_all ts
+  bound_in_one leave = []
+
+  pub bound_in_body : Statements → List Word
+  bound_in_body done = []
+  bound_in_body (then at st rest) = bound_in_one st ++ bound_in_body rest
+  bound_in_body (mark l k rest) = bound_in_body rest
+
+  pub bound_in_branches : Branches → List Word
+  bound_in_branches no_branches = []
+  bound_in_branches (or b bs) = bound_in_body b ++ bound_in_branches bs
+
+abbrev pub bound_in_start : Start → List Word
+bound_in_start unset = []
+bound_in_start (equals e) = bound_in e
+bound_in_start (among e) = bound_in e
+
+abbrev pub bound_in_declared : List Declaration → List Word
+bound_in_declared ds = each (λ d. bound_in_start d.start) ds
+
+abbrev pub bound_in_procedure : Procedure → List Word
+bound_in_procedure p = bound_in_declared (p.params ++ p.variables) ++ bound_in_body p.body
+
+abbrev pub bound_in_process : Process → List Word
+bound_in_process p = bound_in p.identity ++ (bound_in_declared p.variables ++ bound_in_body p.body)
+
+abbrev pub bound_in_main : Main → List Word
+bound_in_main (alone b) = bound_in_body b
+bound_in_main (processes ps) = each bound_in_process ps
+
+-- ---- names that are taken from the start
+
+-- globals, definitions, and all names that are bound, parameters among them
+abbrev pub kept : Algorithm → List Word
+kept a =
+    declared a.globals ++ (bound_in_declared a.globals
+    ++ (each (λ d. d.name.word ∷ (words d.params ++ bound_in d.body)) a.definitions
+    ++ (each (λ d. words d.params ++ bound_in_body d.body) a.macros
+    ++ (each bound_in_procedure a.procedures ++ bound_in_main a.main))))
+
+abbrev pub taken_outside : Outside → List Word
+taken_outside o = unit_names o ++ bound_outside o
+
+-- a name that no unit can have, or that is among those taken
+abbrev pub is_taken : List Word → List Word → Word → Bool
+is_taken extended taken w = is_reserved w || is_own w || is_standard extended w || is_among taken w
+
+-- ---- the first free name
+
+-- what stands between a name and a number: words that begin with WF_ or SF_ are no names
+abbrev pub joint : Word → Word
+joint x = cond (bytes_eq (codes "WF") x || bytes_eq (codes "SF") x) [] (codes "_")
+
+-- x_1, x_2, ..
+abbrev pub numbered : Word → ℕ → Word
+numbered x n = x ++ (joint x ++ decimal n)
+
+-- the first of x_n, x_(n+1), .. that isn't taken, looking at so many and one more
+abbrev pub free_from : ℕ → List Word → Word → ℕ → Word
+free_from zero taken x n = numbered x n
+free_from (suc more) taken x n = cond (is_among taken (numbered x n)) (free_from more taken x (suc n)) (numbered x n)
+
+-- the first of x, x_1, x_2, .. that isn't taken; with a number behind it a name is no word of a language or module
+abbrev pub first_free : List Word → List Word → Word → Word
+first_free extended taken x = cond (is_taken extended taken x) (free_from (length taken) taken x 1) x
+
+-- ---- what takes names, in the order of the text
+
+pub data Role : Type 0 where
+  title : Role  -- the name of a procedure or process
+  variable : Role  -- a variable or parameter of it
+  label : Role
+
+-- of the routine with this number
+pub record Want : Type 0 where
+  pub unit : ℕ
+  pub role : Role
+  pub word : Word
+
+abbrev pub wants : ℕ → Role → List Word → List Want
+wants n r ws = map (λ w. record { unit = n; role = r; word = w }) ws
+
+abbrev pub wanted_within : Routine → List Want
+wanted_within u = wants u.number variable (declared (locals u)) ++ wants u.number label (label_words u.body)
+
+abbrev pub wanted_by : Routine → List Want
+wanted_by u = record { unit = u.number; role = title; word = u.name.word } ∷ wanted_within u
+
+-- the one body of a uniprocess algorithm has no name
+abbrev pub wanted_by_main : Algorithm → Main → List Want
+wanted_by_main a (alone b) = each wanted_within (main_routines a (alone b))
+wanted_by_main a (processes ps) = each wanted_by (main_routines a (processes ps))
+
+abbrev pub wanted : Algorithm → List Want
+wanted a = each wanted_by (procedure_routines a) ++ wanted_by_main a a.main
+
+-- ---- names given
+
+pub record Given : Type 0 where
+  pub want : Want
+  pub written : Word
+
+-- each takes the first that is free
+abbrev pub give : List Word → List Word → List Want → List Given
+give extended taken [] = []
+give extended taken (w ∷ ws) =
+    record { want = w; written = first_free extended taken w.word } ∷ give extended (first_free extended taken w.word ∷ taken) ws
+
+abbrev pub same_role : Role → Role → Bool
+same_role title title = true
+same_role variable variable = true
+same_role label label = true
+same_role _ _ = false
+
+abbrev pub is_for : ℕ → Role → Want → Bool
+is_for n r w = nat_eq w.unit n && same_role w.role r
+
+abbrev pub written_for : List Given → ℕ → Role → Word → Word
+written_for [] n r x = x
+written_for (g ∷ gs) n r x = cond (is_for n r g.want && bytes_eq g.want.word x) g.written (written_for gs n r x)
+
+abbrev pub title_for : List Given → ℕ → Word
+title_for [] n = []
+title_for (g ∷ gs) n = cond (is_for n title g.want) g.written (title_for gs n)
+
+abbrev pub naming_by : List Given → Naming
+naming_by gs = record {
+  local = λ n x. written_for gs n variable x;
+  label = λ n l. written_for gs n label l;
+  title = title_for gs;
+}
+
+-- the written names of an algorithm in a module
+abbrev pub naming : Algorithm → Outside → Naming
+naming a o = naming_by (give o.extended (taken_outside o ++ kept a) (wanted a))
