@@ -8,3 +8,5 @@ pub mod BeginLaws
 pub mod TroubleLaws
 mod RowsPrinted
 mod RowsC
+mod RowsLabels
+mod RowsNames

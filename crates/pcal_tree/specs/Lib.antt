@@ -22,3 +22,7 @@ pub mod GrammarP
 pub mod GrammarC
 pub mod Grammar
 pub mod Printed
+pub mod Offences
+pub mod OffencesLabels
+pub mod Labelled
+pub mod Outside

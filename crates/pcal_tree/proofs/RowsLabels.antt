@@ -1,0 +1,106 @@
+-- Added labels and offences against the rules on labels, tried by computation.
+use Rattle.std.proofs.Common.{◌≡◌, ℕ, List, [], ◌∷◌, true, false, codes, Some, refl}
+use Rattle.std.specs.Fmt.{digits}
+use Rattle.tla_token.specs.declared.rule.Rule.TheVariants.{AssignTwice, FirstLabel, UnknownLabel, ReturnOutside, DoubleLabel, LabelInside, WhileLabel, AfterJump}
+use Rattle.tla_expr.specs.declared.op.Op.TheVariants.{Plus, Less, Equal}
+use Rattle.tla_expr.specs.Tree.{Word, no_trees, tree}
+use Rattle.pcal_tree.specs.declared.mark.Mark.TheVariants.{Plain}
+use Rattle.pcal_tree.specs.Algorithm.{no_moves, move, no_binds, is, Statement, assign, skip, branch, with, loop, jump, macro, leave, Statements, done, then, mark, Macro, Algorithm}
+use Rattle.pcal_tree.specs.Offences.{first}
+use Rattle.pcal_tree.specs.OffencesLabels.{label_offences}
+use Rattle.pcal_tree.specs.Labelled.{labelled}
+use Rattle.pcal_tree.proofs.Sample.{at, title, x, y, num, var, item, over, sets, one_body}
+
+-- a statement at a column
+abbrev stands : ℕ → Statement → Statements → Statements
+stands n st rest = then (record { first = at n; last = at n }) st rest
+
+-- a label at a column
+abbrev label : ℕ → Word → Statements → Statements
+label n l rest = mark (record { word = l; place = at n }) Plain rest
+
+abbrev alg : List Macro → Statements → Algorithm
+alg ms b = (one_body ms b).algorithm
+
+-- x := 1; while x < 3 do x := x + 1; if y = 0 then x := 0; end if; y := y + 1; end while;
+abbrev counting : Statements
+counting =
+    stands 1 (sets (var x) (num 1))
+    (stands 2 (loop (over Less (var x) (num 3)) (
+    stands 3 (sets (var x) (over Plus (var x) (num 1)))
+    (stands 4 (branch (over Equal (var y) (num 0)) (stands 5 (sets (var x) (num 0)) done) done)
+    (stands 6 (sets (var y) (over Plus (var y) (num 1))) done))))
+    done)
+
+-- Lbl_1: x := 1; Lbl_2: while .. do x := x + 1; if .. then Lbl_3: x := 0; end if; Lbl_4: y := y + 1; end while;
+abbrev counting_labelled : Statements
+counting_labelled =
+    label 1 (codes "Lbl_1") (stands 1 (sets (var x) (num 1))
+    (label 2 (codes "Lbl_2") (stands 2 (loop (over Less (var x) (num 3)) (
+    stands 3 (sets (var x) (over Plus (var x) (num 1)))
+    (stands 4 (branch (over Equal (var y) (num 0)) (label 5 (codes "Lbl_3") (stands 5 (sets (var x) (num 0)) done)) done)
+    (label 6 (codes "Lbl_4") (stands 6 (sets (var y) (over Plus (var y) (num 1))) done)))))
+    done)))
+
+four_labels : labelled false (alg [] counting) ≡ alg [] counting_labelled
+unfolding digits
+four_labels = refl
+
+nothing_missing : label_offences (alg [] counting_labelled) ≡ []
+nothing_missing = refl
+
+-- without its label the loop may go round again
+missing : label_offences (alg [] counting) ≡ record { rule = FirstLabel; place = at 1 } ∷ record { rule = WhileLabel; place = at 2 } ∷ record { rule = AssignTwice; place = at 3 } ∷ record { rule = AssignTwice; place = at 5 } ∷ record { rule = AssignTwice; place = at 6 } ∷ []
+missing = refl
+
+-- A: x := 1; x := 2
+abbrev twice : Statements
+twice = label 1 (codes "A") (stands 2 (sets (var x) (num 1)) (stands 3 (sets (var x) (num 2)) done))
+
+at_the_second : first (label_offences (alg [] twice)) ≡ Some (record { rule = AssignTwice; place = at 3 })
+at_the_second = refl
+
+-- the user typed a label, so none is added unless that is forced
+none_added : labelled false (alg [] twice) ≡ alg [] twice
+none_added = refl
+
+one_forced : labelled true (alg [] twice) ≡ alg [] (label 1 (codes "A") (stands 2 (sets (var x) (num 1)) (label 3 (codes "Lbl_1") (stands 3 (sets (var x) (num 2)) done))))
+unfolding digits
+one_forced = refl
+
+-- A: if y = 0 then x := 1; else x := 2; end if
+two_paths : label_offences (alg [] (label 1 (codes "A") (stands 2 (branch (over Equal (var y) (num 0)) (stands 3 (sets (var x) (num 1)) done) (stands 4 (sets (var x) (num 2)) done)) done))) ≡ []
+two_paths = refl
+
+-- A: x[1] := 1 || x[2] := 2
+two_parts : label_offences (alg [] (label 1 (codes "A") (stands 2 (assign (move (item (var x) (num 1)) (num 1) (move (item (var x) (num 2)) (num 2) no_moves))) done))) ≡ []
+two_parts = refl
+
+-- A: x := 1 || x[2] := 2
+whole_and_part : label_offences (alg [] (label 1 (codes "A") (stands 2 (assign (move (var x) (num 1) (move (item (var x) (num 2)) (num 2) no_moves))) done))) ≡ record { rule = AssignTwice; place = at 2 } ∷ []
+whole_and_part = refl
+
+-- macro M(p) begin p := 1; end macro
+abbrev setting : List Macro
+setting = record { name = title (codes "M"); params = title (codes "p") ∷ []; body = stands 1 (sets (var (codes "p")) (num 1)) done } ∷ []
+
+-- A: M(x); x := 2
+through_a_macro : label_offences (alg setting (label 2 (codes "A") (stands 3 (macro (codes "M") (tree (var x) no_trees)) (stands 4 (sets (var x) (num 2)) done)))) ≡ record { rule = AssignTwice; place = at 4 } ∷ []
+through_a_macro = refl
+
+-- x := 1; with z = 0 do with w = 0 do x := 2; end with; end with
+abbrev nested : Statements → Statements
+nested b = stands 2 (with (is (title (codes "z")) (num 0) no_binds) (stands 3 (with (is (title (codes "w")) (num 0) no_binds) b) done)) done
+
+-- the label stands before the outer `with`; a number whose name is typed is skipped
+before_the_outermost :
+    labelled true (alg [] (label 1 (codes "Lbl_1") (stands 1 (sets (var x) (num 1)) (nested (stands 4 (sets (var x) (num 2)) done)))))
+    ≡ alg [] (label 1 (codes "Lbl_1") (stands 1 (sets (var x) (num 1)) (label 2 (codes "Lbl_2") (nested (stands 4 (sets (var x) (num 2)) done)))))
+unfolding digits
+before_the_outermost = refl
+
+-- A: goto B; return; with z = 0 do with w = 0 do A: skip; end with; end with
+all_at_once :
+    label_offences (alg [] (label 1 (codes "A") (stands 5 (jump (codes "B")) (stands 6 leave (nested (label 7 (codes "A") (stands 8 skip done)))))))
+    ≡ record { rule = AfterJump; place = at 6 } ∷ record { rule = AfterJump; place = at 2 } ∷ record { rule = UnknownLabel; place = at 5 } ∷ record { rule = ReturnOutside; place = at 6 } ∷ record { rule = LabelInside; place = at 7 } ∷ record { rule = DoubleLabel; place = at 7 } ∷ []
+all_at_once = refl

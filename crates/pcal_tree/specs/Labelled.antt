@@ -1,0 +1,126 @@
+-- Labels that the translator adds ("A PlusCal User's Manual", section 3.7, labels, and the option `-label`).
+use Rattle.std.specs.Prelude.{ℕ, zero, suc, length, List, [], ◌∷◌, ◌++◌, reverse, Bool, true, false, ◌&&◌, ◌||◌, not, cond, codes, Some, None}
+use Rattle.std.specs.Fmt.{decimal}
+use Rattle.tla_token.specs.declared.place.Place.{Place}
+use Rattle.tla_token.specs.declared.rule.Rule.TheVariants.{FirstLabel}
+use Rattle.tla_token.specs.declared.rule.Refusal.{Refusal}
+use Rattle.tla_token.specs.Signs.{is_among}
+use Rattle.tla_expr.specs.Tree.{Word}
+use Rattle.pcal_tree.specs.declared.mark.Mark.TheVariants.{Plain}
+use Rattle.pcal_tree.specs.Algorithm.{Span, Statement, branch, either, with, loop, Statements, done, then, mark, Branches, no_branches, or, Macro, Procedure, Process, Main, alone, processes, Algorithm}
+use Rattle.pcal_tree.specs.Offences.{each}
+use Rattle.pcal_tree.specs.OffencesLabels.{Effects, nothing, Before, at_label, at_first, inside, next, behind_one, step_offences_here, step_offences_inside, is_empty, label_words, procedure_effects, outer_effects}
+
+-- ---- names of added labels
+
+-- Lbl_1, Lbl_2, ..
+abbrev pub added_name : ℕ → Word
+added_name n = codes "Lbl_" ++ decimal n
+
+-- the first number from n on whose name no typed label has, looking at as many as there are typed labels and one more
+abbrev pub free_number : ℕ → List Word → ℕ → ℕ
+free_number zero typed n = n
+free_number (suc more) typed n = cond (is_among typed (added_name n)) (free_number more typed (suc n)) n
+
+-- numbers that are left
+pub record Supply : Type 0 where
+  pub typed : List Word
+  pub from : ℕ
+
+abbrev pub number : Supply → ℕ
+number s = free_number (length s.typed) s.typed s.from
+
+abbrev pub rest_of : Supply → Supply
+rest_of s = record { typed = s.typed; from = suc (number s) }
+
+abbrev pub after_one : Bool → Supply → Supply
+after_one b s = cond b (rest_of s) s
+
+-- ---- statements
+
+-- the place of an added label is that of its statement
+abbrev pub labelled_if : Bool → Supply → Place → Statements → Statements
+labelled_if true s at rest = mark (record { word = added_name (number s); place = at }) Plain rest
+labelled_if false s at rest = rest
+
+-- inside a `with` no label can stand: what would need one there makes the `with` need it
+abbrev pub inside_needs : Effects → Before → Statement → List Refusal
+inside_needs E p (with bs b) = step_offences_inside E p (with bs b)
+inside_needs E p _ = []
+
+abbrev pub needs_label : Effects → Before → Span → Statement → Bool
+needs_label E p at st = not p.labelled && not (is_empty (step_offences_here E p at.first st ++ inside_needs E p st))
+
+abbrev pub before : Bool → Before → Before
+before b p = cond b at_label p
+
+-- what follows takes the result and the numbers that are left
+abbrev mutual
+  pub add_inside : {R : Type 0} → Effects → Before → Supply → Statement → (Statement → Supply → R) → R
+  add_inside E p s (branch e a b) go = add E (inside p.variables) s a (λ a' t. add E (inside p.variables) t b (λ b' u. go (branch e a' b') u))
+  add_inside E p s (either bs) go = add_some E (inside p.variables) s bs (λ bs' t. go (either bs') t)
+  add_inside E p s (loop e b) go = add E (inside (behind_one E (loop e b) p.labelled p.variables)) s b (λ b' t. go (loop e b') t)
+  add_inside E p s st go = go st s
+
+  pub add : {R : Type 0} → Effects → Before → Supply → Statements → (Statements → Supply → R) → R
+  add E p s done go = go done s
+  add E p s (mark n k rest) go = add E at_label s rest (λ r t. go (mark n k r) t)
+  add E p s (then at st rest) go =
+      add_inside E (before (needs_label E p at st) p) (after_one (needs_label E p at st) s) st (λ st' t.
+      add E (next E (before (needs_label E p at st) p) st') t rest (λ r u.
+      go (labelled_if (needs_label E p at st) s at.first (then at st' r)) u))
+
+  pub add_some : {R : Type 0} → Effects → Before → Supply → Branches → (Branches → Supply → R) → R
+  add_some E p s no_branches go = go no_branches s
+  add_some E p s (or b bs) go = add E p s b (λ b' t. add_some E p t bs (λ bs' u. go (or b' bs') u))
+
+-- ---- algorithms
+
+abbrev pub add_to_macros : {R : Type 0} → Supply → List Macro → (List Macro → Supply → R) → R
+add_to_macros s [] go = go [] s
+add_to_macros s (d ∷ ds) go =
+    add (λ st. nothing) (at_first None) s d.body (λ b t.
+    add_to_macros t ds (λ es u. go (record { name = d.name; params = d.params; body = b } ∷ es) u))
+
+abbrev pub add_to_procedures : {R : Type 0} → List Macro → Supply → List Procedure → (List Procedure → Supply → R) → R
+add_to_procedures ms s [] go = go [] s
+add_to_procedures ms s (p ∷ ps) go =
+    add (procedure_effects ms p) (at_first (Some FirstLabel)) s p.body (λ b t.
+    add_to_procedures ms t ps (λ qs u. go (record { name = p.name; params = p.params; variables = p.variables; body = b } ∷ qs) u))
+
+abbrev pub add_to_processes : {R : Type 0} → List Macro → Supply → List Process → (List Process → R) → R
+add_to_processes ms s [] go = go []
+add_to_processes ms s (p ∷ ps) go =
+    add (outer_effects ms) (at_first (Some FirstLabel)) s p.body (λ b t.
+    add_to_processes ms t ps (λ qs. go (record { name = p.name; fairness = p.fairness; several = p.several; identity = p.identity; variables = p.variables; body = b } ∷ qs)))
+
+abbrev pub add_to_main : {R : Type 0} → List Macro → Supply → Main → (Main → R) → R
+add_to_main ms s (alone b) go = add (outer_effects ms) (at_first (Some FirstLabel)) s b (λ c t. go (alone c))
+add_to_main ms s (processes ps) go = add_to_processes ms s ps (λ qs. go (processes qs))
+
+abbrev pub labels_of_main : Main → List Word
+labels_of_main (alone b) = label_words b
+labels_of_main (processes ps) = each (λ p. label_words p.body) ps
+
+-- the labels that the user typed
+abbrev pub typed_labels : Algorithm → List Word
+typed_labels a = each (λ d. label_words d.body) a.macros ++ (each (λ p. label_words p.body) a.procedures ++ labels_of_main a.main)
+
+abbrev pub with_labels : Algorithm → Algorithm
+with_labels a =
+    add_to_macros (record { typed = typed_labels a; from = 1 }) a.macros (λ ms s.
+    add_to_procedures (reverse a.macros) s a.procedures (λ ps t.
+    add_to_main (reverse a.macros) t a.main (λ m.
+    record { name = a.name; fair = a.fair; globals = a.globals; definitions = a.definitions; macros = ms; procedures = ps; main = m })))
+
+abbrev pub is_alone : Main → Bool
+is_alone (alone b) = true
+is_alone (processes ps) = false
+
+abbrev pub no_words : List Word → Bool
+no_words [] = true
+no_words (w ∷ ws) = false
+
+-- labels are added where they are forced, and in a uniprocess algorithm without any
+abbrev pub labelled : Bool → Algorithm → Algorithm
+labelled forced a = cond (forced || (is_alone a.main && no_words (typed_labels a))) (with_labels a) a

@@ -1,0 +1,35 @@
+-- What a module has outside its algorithm and the translation ("Specifying Systems", chapter 17).
+use Rattle.std.specs.Prelude.{List, [], ◌∷◌, ◌++◌, map}
+use Rattle.tla_token.specs.declared.place.Place.{Place}
+use Rattle.tla_expr.specs.Tree.{Word, Tree, node, Trees, no_trees, tree, binders}
+use Rattle.tla_value.specs.Definitions.{Definition}
+use Rattle.pcal_tree.specs.Offences.{each}
+
+-- a unit that was passed on unread
+pub record Opaque : Type 0 where
+  pub keyword : Word  -- none for a definition
+  pub names : List Word
+  pub place : Place
+
+-- its units, each kind in the order of the text
+pub record Outside : Type 0 where
+  pub extended : List Word
+  pub constants : List Word
+  pub definitions : List Definition
+  pub opaque : List Opaque
+
+-- the names of the units
+abbrev pub unit_names : Outside → List Word
+unit_names o = o.constants ++ (map (λ d. d.title) o.definitions ++ each (λ u. u.names) o.opaque)
+
+-- the names that a tree binds
+abbrev mutual
+  pub bound_in : Tree → List Word
+  bound_in (node m at ts) = binders m ++ bound_in_all ts
+
+  pub bound_in_all : Trees → List Word
+  bound_in_all no_trees = []
+  bound_in_all (tree t ts) = bound_in t ++ bound_in_all ts
+
+abbrev pub bound_outside : Outside → List Word
+bound_outside o = each (λ d. d.params ++ bound_in d.body) o.definitions
