@@ -9,3 +9,4 @@ pub mod TroubleLaws
 mod RowsPrinted
 mod RowsC
 mod RowsP
+mod RowsBoth

@@ -1,10 +1,10 @@
 -- Worked examples of P-syntax, by computation: `elsif`, a larger algorithm, and its texts in both syntaxes.
-use Rattle.std.proofs.Common.{◌≡◌, refl, arith, ℕ, ◌++◌, List, [], ◌∷◌, Option, Some, None, false, true, codes}
+use Rattle.std.proofs.Common.{◌≡◌, refl, arith, ℕ, ◌++◌, List, [], ◌∷◌, Some, None, false, true, codes}
 use Rattle.std.specs.Fmt.{decimal}
 use Rattle.std.proofs.lemmas.Fmt.{decimal_digit}
 use Rattle.tla_token.specs.declared.place.Place.{Place}
 use Rattle.tla_token.specs.declared.sign.Sign.TheVariants as sign
-use Rattle.tla_token.specs.Lexemes.{Kind, name, number, one}
+use Rattle.tla_token.specs.Lexemes.{Kind, name, one}
 use Rattle.tla_token.specs.Tokens.{Token}
 use Rattle.tla_expr.specs.declared.op.Op.{Op}
 use Rattle.tla_expr.specs.declared.op.Op.TheVariants as op
@@ -18,7 +18,7 @@ use Rattle.pcal_tree.specs.Algorithm.{Name, Algorithm, Statements, Declaration}
 use Rattle.pcal_tree.specs.Algorithm as tree
 use Rattle.pcal_tree.specs.GrammarView.{views}
 use Rattle.pcal_tree.specs.GrammarParts as part
-use Rattle.pcal_tree.specs.GrammarP.{Sequence, sequence, statements, GoodSequence, Statement, simple, branch, Else, no_else, else_then, else_if, last_statement, more_statements}
+use Rattle.pcal_tree.specs.GrammarP.{Sequence, sequence, statements, GoodSequence, simple, branch, else_then, else_if, last_statement}
 use Rattle.pcal_tree.specs.Printed.{PText, CText}
 
 abbrev at : ℕ → Place
