@@ -10,3 +10,5 @@ mod RowsPrinted
 mod RowsC
 mod RowsLabels
 mod RowsNames
+mod RowsP
+mod RowsBoth
