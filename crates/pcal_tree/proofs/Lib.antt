@@ -8,3 +8,4 @@ pub mod BeginLaws
 pub mod TroubleLaws
 mod RowsLabels
 mod RowsNames
+mod RowsOffences

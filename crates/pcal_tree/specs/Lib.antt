@@ -19,3 +19,4 @@ pub mod OffencesLabels
 pub mod Labelled
 pub mod Outside
 pub mod Names
+pub mod OffencesNames
