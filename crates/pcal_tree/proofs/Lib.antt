@@ -12,3 +12,4 @@ mod RowsLabels
 mod RowsNames
 mod RowsP
 mod RowsBoth
+mod RowsOffences

@@ -3,21 +3,21 @@ use Rattle.std.proofs.Common.{◌≡◌, ℕ, List, [], ◌∷◌, true, false, 
 use Rattle.std.specs.Fmt.{digits}
 use Rattle.tla_expr.specs.Tree.{Word}
 use Rattle.pcal_tree.specs.declared.mark.Fairness.TheVariants.{Unfair}
-use Rattle.pcal_tree.specs.Algorithm.{skip, done, Process, processes, Algorithm}
+use Rattle.pcal_tree.specs.Algorithm.{Name, skip, done, Process, processes, Algorithm}
 use Rattle.pcal_tree.specs.Outside.{Outside}
 use Rattle.pcal_tree.specs.Names.{Given, give, wanted, kept, taken_outside, naming, first_free}
 use Rattle.pcal_tree.proofs.Sample.{at, title, num, and_next, labelled, variable}
 
 -- process P = e variable i = 0; begin start: skip; end process
-abbrev counter : Word → ℕ → Process
-counter p e = record { name = title p; fairness = Unfair; several = false; identity = num e; variables = variable (codes "i") (num 0) ∷ []; body = labelled (codes "start") (and_next skip done) }
+abbrev pub counter : Name → ℕ → Process
+counter p e = record { name = p; fairness = Unfair; several = false; identity = num e; variables = variable (codes "i") (num 0) ∷ []; body = labelled (codes "start") (and_next skip done) }
 
 abbrev two : Algorithm
-two = record { name = title (codes "Two"); fair = false; globals = variable (codes "x") (num 0) ∷ []; definitions = []; macros = []; procedures = []; main = processes (counter (codes "A") 1 ∷ counter (codes "B") 2 ∷ []) }
+two = record { name = title (codes "Two"); fair = false; globals = variable (codes "x") (num 0) ∷ []; definitions = []; macros = []; procedures = []; main = processes (counter (title (codes "A")) 1 ∷ counter (title (codes "B")) 2 ∷ []) }
 
 -- CONSTANT A
 abbrev around : Outside
-around = record { extended = codes "Naturals" ∷ []; constants = codes "A" ∷ []; definitions = []; opaque = [] }
+around = record { extended = codes "Naturals" ∷ []; constants = title (codes "A") ∷ []; definitions = []; opaque = [] }
 
 the_names : map (λ g. g.written) (give [] (kept two) (wanted two)) ≡ codes "A" ∷ codes "i" ∷ codes "start" ∷ codes "B" ∷ codes "i_1" ∷ codes "start_1" ∷ []
 unfolding digits

@@ -26,3 +26,5 @@ pub mod Offences
 pub mod OffencesLabels
 pub mod Labelled
 pub mod Outside
+pub mod Names
+pub mod OffencesNames

@@ -1,0 +1,90 @@
+-- Unknown names, wrong numbers of arguments and names declared twice, tried by computation.
+use Rattle.std.proofs.Common.{◌≡◌, ℕ, List, [], ◌∷◌, ◌++◌, false, codes, Some, None, refl}
+use Rattle.tla_token.specs.declared.rule.Rule.TheVariants.{Unknown, Arity, Duplicate}
+use Rattle.tla_token.specs.declared.rule.Refusal.{Refusal}
+use Rattle.tla_expr.specs.declared.op.Binder.TheVariants.{ForAll}
+use Rattle.tla_expr.specs.Tree.{Word, Tree, node, name, call, binding, no_trees, tree}
+use Rattle.pcal_tree.specs.Algorithm.{no_binds, is, Name, Statement, await, with, macro, invoke, skip, Statements, done, then, Macro, processes, Algorithm}
+use Rattle.pcal_tree.specs.Offences.{first}
+use Rattle.pcal_tree.specs.Outside.{Outside}
+use Rattle.pcal_tree.specs.OffencesNames.{use_offences_of, repeated_names}
+use Rattle.pcal_tree.proofs.Sample.{at, title, x, y, num, sets, var, labelled, one_body}
+use Rattle.pcal_tree.proofs.RowsNames.{counter}
+
+abbrev stands : ℕ → Statement → Statements → Statements
+stands n st rest = then (record { first = at n; last = at n }) st rest
+
+abbrev read : ℕ → Word → Tree
+read n w = node (name w) (at n) no_trees
+
+abbrev named : ℕ → Word → Name
+named n w = record { word = w; place = at n }
+
+abbrev q : Word
+q = codes "q"
+
+-- the unit `ASSUME Big == ..` was not read
+abbrev around : Outside
+around = record { extended = []; constants = title (codes "N") ∷ []; definitions = []; opaque = record { keyword = codes "ASSUME"; names = codes "Big" ∷ []; place = at 1 } ∷ [] }
+
+abbrev uses : List Macro → Statement → List Refusal
+uses ms st = use_offences_of (one_body ms (labelled (codes "A") (stands 2 st done))).algorithm around
+
+unknown_name : uses [] (await (read 3 q)) ≡ record { rule = Unknown; place = at 3 } ∷ []
+unknown_name = refl
+
+constant : uses [] (await (read 3 (codes "N"))) ≡ []
+constant = refl
+
+not_read : uses [] (await (read 3 (codes "Big"))) ≡ []
+not_read = refl
+
+unknown_left : uses [] (sets (read 3 q) (read 4 x)) ≡ record { rule = Unknown; place = at 3 } ∷ []
+unknown_left = refl
+
+-- \A q \in q : q
+only_the_set : uses [] (await (node (binding ForAll (q ∷ [])) (at 3) (tree (read 4 q) (tree (read 5 q) no_trees)))) ≡ record { rule = Unknown; place = at 4 } ∷ []
+only_the_set = refl
+
+-- Len, and Len(x, y)
+arguments : uses [] (await (read 3 (codes "Len"))) ≡ record { rule = Arity; place = at 3 } ∷ []
+arguments = refl
+
+too_many : uses [] (await (node (call (codes "Len")) (at 3) (tree (read 4 x) (tree (read 5 y) no_trees)))) ≡ record { rule = Arity; place = at 3 } ∷ []
+too_many = refl
+
+no_procedure : uses [] (invoke (named 3 (codes "P")) no_trees) ≡ record { rule = Unknown; place = at 2 } ∷ []
+no_procedure = refl
+
+-- macro M(p) begin await p; await q; end macro
+abbrev reading : Macro
+reading = record { name = title (codes "M"); params = title (codes "p") ∷ []; body = stands 3 (await (read 4 (codes "p"))) (stands 5 (await (read 6 q)) done) }
+
+-- M(x)
+called : uses (reading ∷ []) (macro (codes "M") (tree (read 7 x) no_trees)) ≡ record { rule = Unknown; place = at 6 } ∷ []
+called = refl
+
+never_called : uses (reading ∷ []) skip ≡ []
+never_called = refl
+
+-- with q = 0 do M(x); end with
+where_it_stands : uses (reading ∷ []) (with (is (title q) (num 0) no_binds) (stands 7 (macro (codes "M") (tree (read 8 x) no_trees)) done)) ≡ []
+where_it_stands = refl
+
+-- macro K() begin M(0); end macro before M
+abbrev too_early : Macro
+too_early = record { name = title (codes "K"); params = []; body = stands 9 (macro (codes "M") (tree (num 0) no_trees)) done }
+
+declared_later : uses (too_early ∷ reading ∷ []) (macro (codes "K") no_trees) ≡ record { rule = Unknown; place = at 9 } ∷ []
+declared_later = refl
+
+-- of an unknown name at 4 and a wrong number at 3, the lesser rule counts
+least_rule : first (uses [] (await (node (call (codes "Len")) (at 3) (tree (read 4 q) (tree (read 5 y) no_trees))))) ≡ Some (record { rule = Unknown; place = at 4 })
+least_rule = refl
+
+-- a process B and a process B
+abbrev same_twice : Algorithm
+same_twice = record { name = title (codes "Two"); fair = false; globals = []; definitions = []; macros = []; procedures = []; main = processes (counter (named 3 (codes "B")) 1 ∷ counter (named 4 (codes "B")) 2 ∷ []) }
+
+second_process : repeated_names same_twice around ≡ record { rule = Duplicate; place = at 4 } ∷ []
+second_process = refl
