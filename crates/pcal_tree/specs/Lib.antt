@@ -26,5 +26,4 @@ pub mod Offences
 pub mod OffencesLabels
 pub mod Labelled
 pub mod Outside
-pub mod Names
 pub mod OffencesNames

@@ -141,9 +141,9 @@ abbrev pub macro_offences : List Macro → List Procedure → Calls
 macro_offences [] ps s at m ts = offence Unknown at
 macro_offences (d ∷ older) ps s at m ts =
     cond (bytes_eq d.name.word m)
-        (offence_if (not (nat_eq (length d.params) (count ts))) Arity at
-        ++ in_body (macro_offences older ps) ps d.body (seeing_plain (words d.params) s))
-        (macro_offences older ps s at m ts)
+    (offence_if (not (nat_eq (length d.params) (count ts))) Arity at
+    ++ in_body (macro_offences older ps) ps d.body (seeing_plain (words d.params) s))
+    (macro_offences older ps s at m ts)
 
 -- ---- algorithms
 
