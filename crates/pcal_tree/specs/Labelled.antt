@@ -109,8 +109,8 @@ typed_labels a = each (λ d. label_words d.body) a.macros ++ (each (λ p. label_
 abbrev pub with_labels : Algorithm → Algorithm
 with_labels a =
     add_to_macros (record { typed = typed_labels a; from = 1 }) a.macros (λ ms s.
-    add_to_procedures (reverse a.macros) s a.procedures (λ ps t.
-    add_to_main (reverse a.macros) t a.main (λ m.
+    add_to_procedures (reverse ms) s a.procedures (λ ps t.
+    add_to_main (reverse ms) t a.main (λ m.
     record { name = a.name; fair = a.fair; globals = a.globals; definitions = a.definitions; macros = ms; procedures = ps; main = m })))
 
 abbrev pub is_alone : Main → Bool

@@ -20,3 +20,4 @@ pub mod Labelled
 pub mod Outside
 pub mod Names
 pub mod OffencesNames
+pub mod OffencesReserved
