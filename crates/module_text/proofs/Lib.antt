@@ -9,3 +9,4 @@ mod RowsParts
 mod RowsProcesses
 mod RowsOutside
 mod RowsReading
+mod RowsOffences

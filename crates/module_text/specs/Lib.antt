@@ -8,3 +8,4 @@ pub mod Units
 pub mod Seen
 pub mod Outside
 pub mod Reading
+pub mod Offences

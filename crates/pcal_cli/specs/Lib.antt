@@ -2,3 +2,4 @@ pub mod Words
 pub mod Answers
 pub mod Causes
 pub mod Translates
+pub mod Headline

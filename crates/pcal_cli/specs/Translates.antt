@@ -1,19 +1,23 @@
 -- What it is for a text to be the translation of an algorithm: it reads as one module, whose Next and Init are true just of the algorithm's
 -- steps and initial states ("A PlusCal User's Manual", section 3; "Specifying Systems", sections 2.3 and 16).
-use Rattle.std.specs.Prelude.{◌≡◌, ◌⊎◌, ℕ, List, [], ◌∷◌, Option, Some, None, cond}
+use Rattle.std.specs.Prelude.{◌≡◌, ◌⊎◌, ℕ, List, [], ◌∷◌, ◌++◌, Option, Some, None, cond, codes, is_some, false}
+use Rattle.std.specs.Bool.{IsTrue}
 use Rattle.tla_token.specs.declared.place.Place.{Place}
-use Rattle.tla_expr.specs.Tree.{Word}
+use Rattle.tla_expr.specs.Tree.{Word, Each}
 use Rattle.tla_expr.specs.Names.{has}
 use Rattle.tla_value.specs.declared.fault.FaultKind.{FaultKind}
 use Rattle.tla_value.specs.Stops.{plain}
 use Rattle.tla_value.specs.Definitions.{Look}
 use Rattle.tla_value.specs.Value.{Value}
-use Rattle.pcal_tree.specs.Algorithm.{Algorithm, Naming}
+use Rattle.pcal_tree.specs.Algorithm.{Algorithm}
+use Rattle.pcal_tree.specs.Names.{naming}
+use Rattle.pcal_tree.specs.Outside as outside
 use Rattle.pcal_tree.specs.Scope.{State}
 use Rattle.pcal_tree.specs.Program.{Program}
 use Rattle.pcal_tree.specs.Step.{vars, Proper, Sound, Step, Still}
+use Rattle.pcal_tree.specs.Calls.{default}
 use Rattle.pcal_tree.specs.Initial.{Initial, InitFault}
-use Rattle.module_text.specs.Module.{Module, defined_in}
+use Rattle.module_text.specs.Module.{Module, Outside, extends, constants, defines, opaque, defined_in}
 use Rattle.module_text.specs.Around.{Around}
 use Rattle.module_text.specs.Reading.{Reads}
 use Rattle.module_text.specs.Truth.{Tells, next_holds, init_holds}
@@ -22,36 +26,70 @@ use Rattle.module_text.specs.Truth.{Tells, next_holds, init_holds}
 abbrev pub on_variables : Program → State → Look
 on_variables P s x = cond (has (vars P) x) (Some (s x)) None
 
--- the labelled algorithm g with its written names, in the module m, without limits, for these constants
-abbrev pub program : Algorithm → Naming → Module → Look → Program
-program g f m constants = record {
+-- ---- what the module has outside its translation
+
+abbrev pub modules_in : List Outside → List Word
+modules_in [] = []
+modules_in (extends xs ∷ us) = xs ++ modules_in us
+modules_in (u ∷ us) = modules_in us
+
+abbrev pub constants_in : List Outside → List Word
+constants_in [] = []
+constants_in (constants xs ∷ us) = xs ++ constants_in us
+constants_in (u ∷ us) = constants_in us
+
+abbrev pub unread_in : List Outside → List outside.Opaque
+unread_in [] = []
+unread_in (opaque o ∷ us) = record { keyword = o.keyword; names = o.names; place = o.place } ∷ unread_in us
+unread_in (u ∷ us) = unread_in us
+
+-- definitions are read before the translation alone
+abbrev pub outside_of : Module → outside.Outside
+outside_of m = record {
+  extended = modules_in (m.before ++ m.behind);
+  constants = constants_in (m.before ++ m.behind);
+  definitions = defined_in m.before;
+  opaque = unread_in (m.before ++ m.behind);
+}
+
+-- ---- the two meanings joined
+
+-- the labelled algorithm g with its written names in the module m, without limits, for these constants
+abbrev pub program : Algorithm → Module → Look → Program
+program g m values = record {
   check = plain;
-  constants = constants;
+  constants = values;
   outside = defined_in m.before;
   algorithm = g;
-  naming = f;
+  naming = naming g (outside_of m);
 }
+
+-- a value for each constant that is read, for `defaultInitValue` the model value of that name, and for nothing else
+pub record AreConstants (m : Module) (values : Look) : Type 0 where
+  pub unset : values (codes "defaultInitValue") ≡ Some default
+  pub given : Each (λ x. IsTrue (is_some (values x))) (constants_in (m.before ++ m.behind))
+  pub no_other : (x : Word) → has (codes "defaultInitValue" ∷ constants_in (m.before ++ m.behind)) x ≡ false → values x ≡ None
 
 -- for all constants and sound states Next is true of a pair exactly where some process steps, or all are done and nothing changes; else it is
 -- false, and it is never a fault
-abbrev pub NextIs : Algorithm → Naming → Module → Type 0
-NextIs g f m =
-    (constants : Look) (s t : State) → Sound (program g f m constants) s →
-    Tells (next_holds plain m constants (on_variables (program g f m constants) s) (on_variables (program g f m constants) t))
-    (Step (program g f m constants) s t ⊎ Still (program g f m constants) s t)
+abbrev pub NextIs : Algorithm → Module → Type 0
+NextIs g m =
+    (values : Look) (s t : State) → AreConstants m values → Sound (program g m values) s →
+    Tells (next_holds plain m values (on_variables (program g m values) s) (on_variables (program g m values) t))
+    (Step (program g m values) s t ⊎ Still (program g m values) s t)
 
 -- for all proper constants and states from which no initial value is a fault Init is true exactly of the initial ones, else false
-abbrev pub InitIs : Algorithm → Naming → Module → Type 0
-InitIs g f m =
-    (constants : Look) (s : State) → Proper (program g f m constants)
-    → ((kind : FaultKind) (at : Place) → InitFault (program g f m constants) s kind at → ⊥) →
-    Tells (init_holds plain m constants (on_variables (program g f m constants) s)) (Initial (program g f m constants) s)
+abbrev pub InitIs : Algorithm → Module → Type 0
+InitIs g m =
+    (values : Look) (s : State) → AreConstants m values → Proper (program g m values)
+    → ((kind : FaultKind) (at : Place) → InitFault (program g m values) s kind at → ⊥) →
+    Tells (init_holds plain m values (on_variables (program g m values) s)) (Initial (program g m values) s)
 
--- the text w translates the labelled algorithm g, with its written names, that stands in the text x
-pub record Translates (x : List ℕ) (g : Algorithm) (f : Naming) (w : List ℕ) : Type 0 where
+-- the text w translates the labelled algorithm g that stands in the text x
+pub record Translates (x : List ℕ) (g : Algorithm) (w : List ℕ) : Type 0 where
   pub module_of : Module
   pub around : Around x module_of w
   pub reads : Reads w module_of
   pub only : (n : Module) → Reads w n → n ≡ module_of
-  pub next : NextIs g f module_of
-  pub init : InitIs g f module_of
+  pub next : NextIs g module_of
+  pub init : InitIs g module_of

@@ -6,7 +6,8 @@ use Rattle.pcal_tree.specs.Run.{unlabelled, label_of}
 use Rattle.pcal_tree.specs.Choices.{or_else}
 use Rattle.pcal_tree.specs.Begin.{Begin, begin_in, begin, begin_some}
 use Rattle.pcal_tree.specs.Expand.{joined, Writing, expand_one, expand, expand_some, expand_begin}
-use Rattle.pcal_tree.proofs.ExpandRuns.{CallsOne, Calls, CallsSome, Opens, opens_joined, no_label}
+use Rattle.pcal_tree.proofs.ExpandRuns.{opens_joined, no_label}
+use Rattle.pcal_tree.specs.Clean.{Calls, CallsOne, CallsSome, Opens}
 
 -- ---- no label, as in a macro's body
 

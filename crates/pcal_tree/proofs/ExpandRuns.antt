@@ -10,15 +10,8 @@ use Rattle.tla_value.specs.declared.fault.FaultKind.TheVariants.{AssertFailed}
 use Rattle.pcal_tree.specs.Assign.{moved}
 use Rattle.pcal_tree.specs.Run.{Course, chooses, course, held, stops, after, at_each, Follow, Rules, unlabelled, label_of, run_binds, run_one, run, run_branches, arguments, Calling, with_calls, called, with_macros}
 use Rattle.pcal_tree.specs.Expand.{graft_all, joined, Writing, expand_one, expand, expand_some, written_out, expanded}
-use Rattle.pcal_tree.proofs.GraftRuns.{Meets, Clean, graft_runs}
-
--- the part that a name is does not rest on its place
-abbrev pub Free : Scope → Type 0
-Free sc = (x : Word) (at p : Place) (s : State) → sc.part x at s ≡ sc.part x p s
-
--- all names
-abbrev pub Any : Word → Type 0
-Any x = Unit {0}
+use Rattle.pcal_tree.proofs.GraftRuns.{Meets, graft_runs}
+use Rattle.pcal_tree.specs.Clean.{Any, Calls, CallsOne, CallsSome, Chosen, Clean, FineCall, Free, Opens, following}
 
 pub through_meets : (c : Check) (g : Graft) (sc : Scope) → Free sc → Meets c g Any sc (through c g sc)
 through_meets c g sc free = record {
@@ -42,15 +35,6 @@ through_free c ps ts sc free x at p s = (λ i. reach_in c (same_argument ps ts x
 
 -- ---- lists one after the other
 
-abbrev pub following : Rules → Statements → Scope → Follow → Follow
-following M rest sc K = record { label = label_of rest K.label; goes = run M unlabelled rest sc K }
-
--- the list begins with an unlabelled statement, as each macro's body does
-abbrev pub Opens : Statements → Type 0
-Opens done = ⊥
-Opens (then at st rest) = Unit {0}
-Opens (mark l m rest) = ⊥
-
 join_label : (a b : Statements) (l : Word) → label_of (joined a b) l ≡ label_of a (label_of b l)
 join_label done b l = refl
 join_label (then at st a) b l = refl
@@ -68,25 +52,6 @@ join_opens M here (then at st a) b h sc K = λ i. run_one M here at.first st sc 
 join_opens M here (mark l k a) b h sc K = absurd h
 
 -- ---- calls written out
-
--- a fact of each call
-abbrev mutual
-  pub CallsOne : (Word → Trees → Type 0) → Statement → Type 0
-  CallsOne P (macro m ts) = P m ts
-  CallsOne P (branch e a b) = Calls P a × Calls P b
-  CallsOne P (either bs) = CallsSome P bs
-  CallsOne P (with bs b) = Calls P b
-  CallsOne P (loop e b) = Calls P b
-  CallsOne P _ = Unit {0}
-
-  pub Calls : (Word → Trees → Type 0) → Statements → Type 0
-  Calls P done = Unit {0}
-  Calls P (then at st rest) = CallsOne P st × Calls P rest
-  Calls P (mark l k rest) = Calls P rest
-
-  pub CallsSome : (Word → Trees → Type 0) → Branches → Type 0
-  CallsSome P no_branches = Unit {0}
-  CallsSome P (or b bs) = Calls P b × CallsSome P bs
 
 -- what is written for a call has its courses, where P holds
 abbrev pub Written : Rules → Calling → Writing → (Word → Trees → Type 0) → Type 0
@@ -152,16 +117,6 @@ mutual
       λ i s. course (expand_runs M f X P w unlabelled b h.0 sc free K L q i s) (expand_runs_some M f X P w bs h.1 sc free K L q i s)
 
 -- ---- the macros
-
-abbrev pub Chosen : Bool → Type 0 → Type 0 → Type 0
-Chosen true A B = A
-Chosen false A B = B
-
--- the arguments of a call capture nothing and are not captured, nor are those of the calls in its body, which begins with a statement
-abbrev pub FineCall : Check → List Macro → Word → Trees → Type 0
-FineCall c [] m ts = Unit {0}
-FineCall c (d ∷ older) m ts =
-    Chosen (bytes_eq d.name.word m) (Clean c (arguments d.params ts) Any (expand (written_out older) d.body) × Calls (FineCall c older) d.body × Opens d.body) (FineCall c older m ts)
 
 opens_graft : (g : Graft) (ss : Statements) → Opens ss → Opens (graft_all g ss)
 opens_graft g done h = absurd h

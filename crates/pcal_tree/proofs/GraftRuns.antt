@@ -6,13 +6,15 @@ use Rattle.tla_value.specs.Value.{Value, text}
 use Rattle.tla_value.specs.Stops.{Check}
 use Rattle.tla_value.specs.Meaning.{Env, Den}
 use Rattle.tla_value.proofs.Alike.{AllAlike, none, one}
-use Rattle.tla_value.proofs.Graft.{every_of_weaker, grafts_law, Grafted, Clear, bound_grafted, ClearForm, Fits, each_weaker, grafted_law}
+use Rattle.tla_value.proofs.Graft.{every_of_weaker, grafts_law, Grafted, bound_grafted, Fits, each_weaker, grafted_law}
 use Rattle.pcal_tree.specs.Algorithm.{Moves, no_moves, move, Binds, no_binds, one_of, is, Statement, assign, await, print, assert, skip, branch, either, with, loop, jump, macro, invoke, leave, Statements, done, then, mark, Branches, no_branches, or}
 use Rattle.pcal_tree.specs.Scope.{State, Got, got, bad, on, valued, all_valued, Part, Scope, bound, place_in, place_of, places_of, Reach, deeper, root_place, reach_form, reach, reach_path, reach_in, origin_in, through, value_of, truth_at, test, members_at, members}
 use Rattle.pcal_tree.specs.Assign.{Setting, set_all, settings}
 use Rattle.pcal_tree.specs.Run.{Course, chooses, course, held, stops, after, at_each, Follow, Rules, unlabelled, label_of, run_binds, run_one, run, run_branches}
 use Rattle.pcal_tree.specs.Expand.{placed_at, graft_left, graft_moves, graft_binds, graft_one, graft_all, graft_some}
 use Rattle.tla_value.specs.Related.{Rel}
+use Rattle.tla_value.specs.Related.{Clear, ClearForm}
+use Rattle.pcal_tree.specs.Clean.{Clean, CleanBinds, CleanMoves, CleanOne, CleanSome, ClearName, Unreached}
 
 -- where names are clear a form keeps that they stand for the trees of g
 form_fits : (c : Check) (g : Graft) (U : Word → Type 0) (m : Form) (at : Place) → ClearForm c g U m at → Fits c (Grafted c g U) g m at
@@ -95,15 +97,6 @@ places_law c g U (tree t ts) sc sc' k = λ i. place_law c g U t sc sc' k i ∷ p
 
 -- ---- bound names
 
-abbrev pub Unreached : Check → Word → Option Tree → Type 0
-Unreached c x (Some t) = (v : Value) (sc : Scope) (s : State) → reach c t sc s ≡ reach c t (bound x v sc) s
-Unreached c x None = Unit {0}
-
--- g leaves x alone, and no tree of g reads it, also as a left side
-pub record ClearName (c : Check) (g : Graft) (x : Word) : Type 0 where
-  pub clear : Clear c g x
-  pub unreached : (y : Word) (at : Place) → Unreached c x (g y at)
-
 bound_reach : (c : Check) (x y : Word) (at : Place) (v : Value) (sc : Scope) (s : State) (o : Option Tree) → Unreached c x o → reach_in c o y at sc s ≡ reach_in c o y at (bound x v sc) s
 bound_reach c x y at v sc s (Some t) k = k v sc s
 bound_reach c x y at v sc s None k = refl
@@ -125,39 +118,6 @@ bound_meets c g U x v sc sc' h k = record {
 }
 
 -- ---- statements
-
--- no bound name is captured, and there is no macro call
-abbrev pub CleanMoves : Check → Graft → (Word → Type 0) → Moves → Type 0
-CleanMoves c g U no_moves = Unit {0}
-CleanMoves c g U (move l e ms) = Every (ClearForm c g U) l × Every (ClearForm c g U) e × CleanMoves c g U ms
-
-abbrev pub CleanBinds : Check → Graft → (Word → Type 0) → Binds → Type 0
-CleanBinds c g U no_binds = Unit {0}
-CleanBinds c g U (one_of x e bs) = Every (ClearForm c g U) e × ClearName c g x.word × CleanBinds c g U bs
-CleanBinds c g U (is x e bs) = Every (ClearForm c g U) e × ClearName c g x.word × CleanBinds c g U bs
-
-abbrev mutual
-  pub CleanOne : Check → Graft → (Word → Type 0) → Statement → Type 0
-  CleanOne c g U (assign ms) = CleanMoves c g U ms
-  CleanOne c g U (await e) = Every (ClearForm c g U) e
-  CleanOne c g U (print e) = Every (ClearForm c g U) e
-  CleanOne c g U (assert e) = Every (ClearForm c g U) e
-  CleanOne c g U (branch e a b) = Every (ClearForm c g U) e × Clean c g U a × Clean c g U b
-  CleanOne c g U (either bs) = CleanSome c g U bs
-  CleanOne c g U (with bs b) = CleanBinds c g U bs × Clean c g U b
-  CleanOne c g U (loop e b) = Every (ClearForm c g U) e × Clean c g U b
-  CleanOne c g U (macro m ts) = ⊥
-  CleanOne c g U (invoke p ts) = EveryOf (ClearForm c g U) ts
-  CleanOne c g U _ = Unit {0}
-
-  pub Clean : Check → Graft → (Word → Type 0) → Statements → Type 0
-  Clean c g U done = Unit {0}
-  Clean c g U (then at st rest) = CleanOne c g U st × Clean c g U rest
-  Clean c g U (mark l m rest) = Unit {0}
-
-  pub CleanSome : Check → Graft → (Word → Type 0) → Branches → Type 0
-  CleanSome c g U no_branches = Unit {0}
-  CleanSome c g U (or b bs) = Clean c g U b × CleanSome c g U bs
 
 value_law : (c : Check) (g : Graft) (U : Word → Type 0) (t : Tree) → Every (ClearForm c g U) t → (sc sc' : Scope) → Meets c g U sc sc' → (s : State) → value_of c (graft g t) sc s ≡ value_of c t sc' s
 value_law c g U t h sc sc' k s = λ i. valued (grafted_law c g U t h (sc.env s) (sc'.env s) (k.env s) i).value got

@@ -1,8 +1,12 @@
 //! Laws of what algorithms mean, stated as what functions without a body ensure.
 
-ghost use Rattle.std.specs.Prelude.{◌≡◌, ℕ, List, Some, None};
-ghost use Rattle.pcal_tree.specs.Scope.{State, Trouble, Got, bad};
-ghost use Rattle.pcal_tree.specs.Run.{Course, Has};
+ghost use Rattle.std.specs.Prelude.{◌≡◌, ℕ, List, [], Some, None};
+ghost use Rattle.tla_expr.specs.Tree.{Word};
+ghost use Rattle.pcal_tree.specs.Algorithm.{Statements, Macro};
+ghost use Rattle.pcal_tree.specs.Expand.{expanded};
+ghost use Rattle.pcal_tree.specs.Clean.{Calls, FineCall, Free};
+ghost use Rattle.pcal_tree.specs.Scope.{State, Trouble, Got, bad, Scope};
+ghost use Rattle.pcal_tree.specs.Run.{Course, Has, Rules, Follow, run, with_macros};
 ghost use Rattle.pcal_tree.specs.Choices.{walk, told, landing, first_trouble};
 ghost use Rattle.pcal_tree.specs.Program.{Program, Actor};
 ghost use Rattle.pcal_tree.specs.Step.{Proper, Sound, IsActor, StandsOnce, FirstTrouble};
@@ -25,4 +29,12 @@ pub fn first_trouble_is_met()
 pub fn sound_states_have_no_first_trouble()
     ensures sound { (P : Program) (s : State) (k : Trouble) → Sound P s → FirstTrouble P s k → ⊥ }
     ensures quiet { (P : Program) (s : State) → Proper P → ((v : Actor) → IsActor P v → StandsOnce P s v) → ((k : Trouble) → FirstTrouble P s k → ⊥) → Sound P s }
+{}
+
+/// Statements with their macro calls written out take the courses that they take with the calls, in every scope and
+/// with anything behind them, kinds and places of faults included. The calls capture nothing, and each macro's body
+/// begins with a statement.
+pub fn written_out_macros_run_the_same()
+    ensures { (M : Rules) (ms : List Macro) (here : Word) (ss : Statements) → Calls (FineCall M.check ms) ss → (sc : Scope) → Free sc → (K : Follow)
+        → run (with_macros M ms) here ss sc K ≡ run (with_macros M []) here (expanded ms ss) sc K }
 {}

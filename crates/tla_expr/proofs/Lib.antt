@@ -3,3 +3,4 @@ pub mod TreeLemmas
 pub mod Operands
 mod Rows
 mod RowsView
+mod RowsSpelling

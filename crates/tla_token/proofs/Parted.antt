@@ -51,7 +51,7 @@ piece_first (lexeme k bytes) rest h = lexeme_first k bytes rest h
 
 -- ---- faulty parts
 
-word_printed : (b : ℕ) → is_word b ≡ true → is_printed b ≡ true
+pub word_printed : (b : ℕ) → is_word b ≡ true → is_printed b ≡ true
 word_printed b h =
     elim (or_cases (is_letter b || is_digit b) (nat_eq b 95) h) [
       | inr e ↦ ap is_printed (eqb-true b 95 e)
@@ -90,7 +90,7 @@ string_cut : (raw rest : List ℕ) → string_len (raw ++ rest) ≡ length raw �
 string_cut raw rest n = rw (n, take-append_seam raw rest, drop-append_seam raw rest) refl
 
 -- a comment that closes is found
-len_closes : (d : ℕ) (t : List ℕ) (n : ℕ) → comment_len d t ≡ Some n → (n ≤ length t) × Closes d (take n t)
+pub len_closes : (d : ℕ) (t : List ℕ) (n : ℕ) → comment_len d t ≡ Some n → (n ≤ length t) × Closes d (take n t)
 len_closes zero t n e = (let k : 0 ≡ n = cc in rw (← k) (omega arith, tt))
 len_closes (suc d) [] n e = absurd cc
 len_closes (suc d) (a ∷ []) n e = absurd cc
@@ -169,10 +169,10 @@ parts_over : (m rest : List ℕ) → parts_at (length m) (m ++ rest) ≡ parts_a
 parts_over [] rest = refl
 parts_over (b ∷ m) rest = parts_over m rest
 
-same_some : (x y : Part) → Some x ≡ Some y → x ≡ y
+pub same_some : (x y : Part) → Some x ≡ Some y → x ≡ y
 same_some x y e = cc
 
-parts_step : (x : Part) (bs rest : List ℕ) → part_bytes x ≡ bs → first_part (bs ++ rest) ≡ Some x → (bs ≡ [] → ⊥) → parts_at 0 (bs ++ rest) ≡ x ∷ parts_at 0 rest
+pub parts_step : (x : Part) (bs rest : List ℕ) → part_bytes x ≡ bs → first_part (bs ++ rest) ≡ Some x → (bs ≡ [] → ⊥) → parts_at 0 (bs ++ rest) ≡ x ∷ parts_at 0 rest
 parts_step x [] rest e h some = absurd (some refl)
 parts_step x (b ∷ m) rest e h some =
     let p : part_at b (m ++ rest) ≡ x = same_some (part_at b (m ++ rest)) x h in

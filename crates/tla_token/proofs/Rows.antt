@@ -86,6 +86,22 @@ string_with_escape = refl
 synonyms : kinds (tokens (codes "\\lnot a # b /= c")) ≡ one sign.Not ∷ name (codes "a") ∷ one sign.NotEqual ∷ name (codes "b") ∷ one sign.NotEqual ∷ name (codes "c") ∷ []
 synonyms = refl
 
+-- no comment begins inside a sign, and a token of signs is the longest
+no_comment_in_sign : kinds (tokens (codes "/\\*|->-..3")) ≡ one sign.And ∷ one sign.Times ∷ one sign.MapsTo ∷ one sign.Minus ∷ one sign.Range ∷ number 3 ∷ []
+no_comment_in_sign = refl
+
+-- a run with a letter is one name, and a run without one ends at its underscore
+runs : kinds (tokens (codes "1_a _1 2_")) ≡ name (codes "1_a") ∷ other (codes "_") ∷ number 1 ∷ number 2 ∷ other (codes "_") ∷ []
+runs = refl
+
+-- `(*)` opens a comment
+odd_opener : kinds (tokens (codes "(*) x *)y")) ≡ name (codes "y") ∷ []
+odd_opener = refl
+
+-- a tab goes from column 8 to 9 and from column 9 to 17
+tab_stops : place_at (codes "1234567\t\tx") 9 ≡ record { line = 1; col = 17 }
+tab_stops = refl
+
 -- ---- offences, in an algorithm
 
 abbrev wrong : List ℕ → Option Offence
@@ -117,3 +133,14 @@ largest_number = refl
 
 number_too_big : wrong (codes "1 170141183460469231731687303715884105728") ≡ Some (rule.NumberTooBig, 2)
 number_too_big = refl
+
+-- a tab ends a string that isn't closed, and in it a bad escape does not count
+tab_in_string : wrong (codes "x \"a\\q\tb\"") ≡ Some (rule.OpenString, 2)
+tab_in_string = refl
+
+-- a backslash takes a CR with it, so the string ends at the LF and is open
+return_behind_backslash : wrong (codes "x \"a\\\r\n") ≡ Some (rule.OpenString, 2)
+return_behind_backslash = refl
+
+control_byte_in_string : wrong (codes "x \"a" ++ 1 ∷ codes "\"") ≡ Some (rule.BadToken, 4)
+control_byte_in_string = refl

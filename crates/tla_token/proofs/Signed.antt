@@ -106,7 +106,7 @@ word_digit b h = (or_parts (is_letter b) (is_digit b) (or_parts (is_letter b || 
 pub no_word : (b : ℕ) (bs : List ℕ) → is_word b ≡ false → list_any is_letter (run is_word (b ∷ bs)) ≡ false
 no_word b bs h = rw h refl
 
-picked_mark : (s : Sign) (b : ℕ) (bs w : List ℕ) → sign_at bs ≡ Some s → spelling_at (spellings s) bs ≡ Some w → sign_part (sign_at bs) b bs ≡ sound (lexeme (one s) w)
+pub picked_mark : (s : Sign) (b : ℕ) (bs w : List ℕ) → sign_at bs ≡ Some s → spelling_at (spellings s) bs ≡ Some w → sign_part (sign_at bs) b bs ≡ sound (lexeme (one s) w)
 picked_mark s b bs w e f = ap (λ (o : Option Sign). sign_part o b bs) e ∙ ap (λ (o : Option (List ℕ)). sound (lexeme (one s) (sign_bytes o))) f
 
 mark_front : (s : Sign) (b : ℕ) (v rest : List ℕ) → list_all is_mark (b ∷ v) ≡ true → sign_at (b ∷ v) ≡ Some s → spelling_at (spellings s) (b ∷ v) ≡ Some (b ∷ v)

@@ -90,7 +90,7 @@ rows sign.Concat = (refl, (refl, tt))
 rows sign.ForAll = (refl, tt)
 rows sign.Exists = (refl, tt)
 
-row_at : (s : Sign) (ws : List (List ℕ)) (w : List ℕ) → Rows s ws → is_among ws w ≡ true → Row s w
+pub row_at : (s : Sign) (ws : List (List ℕ)) (w : List ℕ) → Rows s ws → is_among ws w ≡ true → Row s w
 row_at s [] w h i = absurd cc
 row_at s (v ∷ ws) w (r, h) i =
     elim (or_cases (bytes_eq v w) (is_among ws w) i) [
@@ -115,7 +115,7 @@ begins_same (a ∷ w) rest (c ∷ u) h = by (nat_eq c a) refl (λ l. begins_same
     by true k same = rw k (same (λ t. (let e : begins (a ∷ (w ++ rest)) (c ∷ u) ≡ true = rw k t in omega (arith, h e))))
     by false k same = rw k refl
 
-among_head : (v : List ℕ) (ws : List (List ℕ)) → is_among (v ∷ ws) v ≡ true
+pub among_head : (v : List ℕ) (ws : List (List ℕ)) → is_among (v ∷ ws) v ≡ true
 among_head v ws = or_left (bytes_eq v v) (is_among ws v) ((bytes_eq-Decides v v).1 refl)
 
 any_same : (x y : List ℕ) (ws : List (List ℕ)) → ((u : List ℕ) → is_among ws u ≡ true → begins x u ≡ begins y u) → list_any (λ w. begins x w) ws ≡ list_any (λ w. begins y w) ws
@@ -126,7 +126,7 @@ pub spelling_same : (x y : List ℕ) (ws : List (List ℕ)) → ((u : List ℕ) 
 spelling_same x y [] h = refl
 spelling_same x y (v ∷ ws) h = rw (h v (among_head v ws), spelling_same x y ws (λ u i. h u (or_right (bytes_eq v u) (is_among ws u) i))) refl
 
-abbrev stands_at : List ℕ → Sign → Bool
+abbrev pub stands_at : List ℕ → Sign → Bool
 stands_at x s = list_any (λ w. begins x w) (spellings s)
 
 signs_same : (x y : List ℕ) (ss : List Sign) → ((s : Sign) (u : List ℕ) → is_among (spellings s) u ≡ true → begins x u ≡ begins y u) → find (stands_at x) ss ≡ find (stands_at y) ss
@@ -136,7 +136,7 @@ signs_same x y (s ∷ ss) h = by (stands_at x s) (stands_at y s) (any_same x y (
     by : (a b : Bool) → a ≡ b → find (stands_at x) ss ≡ find (stands_at y) ss → cond a (Some s) (find (stands_at x) ss) ≡ cond b (Some s) (find (stands_at y) ss)
     by a b e f = rw (e, f) refl
 
-begun : (w rest : List ℕ) → IsLongest w rest → (s : Sign) (u : List ℕ) → is_among (spellings s) u ≡ true → begins (w ++ rest) u ≡ begins w u
+pub begun : (w rest : List ℕ) → IsLongest w rest → (s : Sign) (u : List ℕ) → is_among (spellings s) u ≡ true → begins (w ++ rest) u ≡ begins w u
 begun w rest longest s u i = begins_same w rest u (λ t. longest (one s) u (drop (length u) (w ++ rest)) i (begins_is (w ++ rest) u t))
 
 pub sign_before : (w rest : List ℕ) → IsLongest w rest → sign_at (w ++ rest) ≡ sign_at w
@@ -163,7 +163,7 @@ any_some x (v ∷ ws) h =
       | inr e ↦ (let r = any_some x ws e in (r.0, or_right (bytes_eq v r.0) (is_among ws r.0) r.1, r.2))
     ]
 
-one_byte : (s : Sign) (b : ℕ) (u : List ℕ) → is_among (spellings s) u ≡ true → begins (b ∷ []) u ≡ true → is_among (spellings s) (b ∷ []) ≡ true
+pub one_byte : (s : Sign) (b : ℕ) (u : List ℕ) → is_among (spellings s) u ≡ true → begins (b ∷ []) u ≡ true → is_among (spellings s) (b ∷ []) ≡ true
 one_byte s b [] i h = absurd (no_empty s i)
 one_byte s b (c ∷ []) i h = (let e : c ≡ b = eqb-true c b (and_parts (nat_eq c b) true h).0 in rw e at i)
 one_byte s b (c ∷ d ∷ u) i h = (let f : false ≡ true = (and_parts (nat_eq c b) false h).1 in absurd cc)
@@ -180,7 +180,7 @@ no_sign_at b h = none_stands b all_signs h
 
 -- ---- a byte that is not printable begins no sign
 
-find_none : {A : Type 0} (p : A → Bool) (xs : List A) → ((x : A) → p x ≡ false) → find p xs ≡ None
+pub find_none : {A : Type 0} (p : A → Bool) (xs : List A) → ((x : A) → p x ≡ false) → find p xs ≡ None
 find_none p [] h = refl
 find_none p (x ∷ xs) h = rw (h x, find_none p xs h) refl
 

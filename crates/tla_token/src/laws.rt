@@ -1,17 +1,48 @@
 //! Laws of tokens, stated as what functions without a body ensure.
 
-ghost use Rattle.std.specs.Prelude.{◌≡◌, ℕ, Bool, List};
-ghost use Rattle.tla_token.specs.declared.rule.Refusal.{Refusal};
+ghost use Rattle.std.specs.Prelude.{◌≡◌, ℕ, Bool, List, map, Some, ◌⊎◌, false};
+ghost use Rattle.std.specs.List.{flat_map};
+ghost use Rattle.tla_token.specs.declared.rule.Refusal as code;
+ghost use Rattle.tla_token.specs.Places.{place_at};
 ghost use Rattle.tla_token.specs.Tokens as pure;
-ghost use Rattle.tla_token.specs.Tokens.{Tok};
-ghost use Rattle.tla_token.specs.Offences.{Offends};
+ghost use Rattle.tla_token.specs.Tokens.{Tok, TokAlgorithm, stretch, tokens_of};
+ghost use Rattle.tla_token.specs.Offences.{Part, sound, parts_text, PartsFit, Offends, kind_offences, offences, least};
+ghost use Rattle.tla_token.specs.Cut.{parts};
 
-/// A stretch of a text has at most one list of tokens.
+/// A stretch of a text has at most one list of tokens, and so has the stretch of an algorithm.
 pub fn tokens_are_unique()
-    ensures { (text : List ℕ) (from to : ℕ) (ts us : List pure.Token) → Tok text from to ts → Tok text from to us → ts ≡ us }
+    ensures tokens { (text : List ℕ) (from to : ℕ) (ts us : List pure.Token) → Tok text from to ts → Tok text from to us → ts ≡ us }
+    ensures algorithm { (text : List ℕ) (from to : ℕ) (ts us : List pure.Token) → TokAlgorithm text from to ts → TokAlgorithm text from to us → ts ≡ us }
 {}
 
 /// A stretch of a text is refused by at most one rule, at one place.
 pub fn refusals_are_unique()
-    ensures { (in_algorithm : Bool) (text : List ℕ) (from to : ℕ) (r q : Refusal) → Offends in_algorithm text from to r → Offends in_algorithm text from to q → r ≡ q }
+    ensures { (in_algorithm : Bool) (text : List ℕ) (from to : ℕ) (r q : code.Refusal) → Offends in_algorithm text from to r → Offends in_algorithm text from to q → r ≡ q }
+{}
+
+/// Each text is cut into parts that fit, and no other parts that fit make it up.
+pub fn cutting_is_exact()
+    ensures fits { (text : List ℕ) → (parts_text (parts text) ≡ text) × PartsFit (parts text) }
+    ensures only { (ps : List Part) → PartsFit ps → parts (parts_text ps) ≡ ps }
+{}
+
+/// The tokens of a stretch are those that cutting gives, where it gives no faulty part.
+pub fn tokens_are_cut()
+    ensures found { (text : List ℕ) (from to : ℕ) (ts : List pure.Token) → Tok text from to ts → (ps : List pure.Piece) × (parts (stretch text from to) ≡ map sound ps) × (ts ≡ tokens_of (place_at text from) from ps) }
+    ensures given { (text : List ℕ) (from to : ℕ) (ps : List pure.Piece) → parts (stretch text from to) ≡ map sound ps → Tok text from to (tokens_of (place_at text from) from ps) }
+{}
+
+/// The refusal of a stretch is the least offence of the parts that cutting gives. Where they are
+/// tokens, their offences are those of the tokens: in an algorithm numbers that are too big and
+/// strings that hold a mark of a comment.
+pub fn refusals_are_cut()
+    ensures found { (in_algorithm : Bool) (text : List ℕ) (from to : ℕ) (r : code.Refusal) → Offends in_algorithm text from to r → (at : ℕ) × (least (offences in_algorithm from (parts (stretch text from to))) ≡ Some (r.rule, at)) × (r.place ≡ place_at text at) }
+    ensures given { (in_algorithm : Bool) (text : List ℕ) (from to : ℕ) (r : code.Refusal) (at : ℕ) → least (offences in_algorithm from (parts (stretch text from to))) ≡ Some (r.rule, at) → r.place ≡ place_at text at → Offends in_algorithm text from to r }
+    ensures of_tokens { (in_algorithm : Bool) (text : List ℕ) (from to : ℕ) (ts : List pure.Token) → Tok text from to ts → offences in_algorithm from (parts (stretch text from to)) ≡ flat_map (λ t. kind_offences in_algorithm t.at t.kind) ts }
+{}
+
+/// A stretch has a list of tokens or a refusal. Outside algorithms it never has both.
+pub fn tokens_or_refusal()
+    ensures either { (in_algorithm : Bool) (text : List ℕ) (from to : ℕ) → ((ts : List pure.Token) × Tok text from to ts) ⊎ ((r : code.Refusal) × Offends in_algorithm text from to r) }
+    ensures not_both { (text : List ℕ) (from to : ℕ) (ts : List pure.Token) (r : code.Refusal) → Tok text from to ts → Offends false text from to r → ⊥ }
 {}

@@ -9,6 +9,7 @@ use Rattle.tla_value.specs.Meaning.{Env, just, bind, eval, evals}
 use Rattle.tla_value.specs.Grafts.{read_tree, through}
 use Rattle.tla_value.proofs.Alike.{AllAlike, none, one, alike, eval_alike}
 use Rattle.tla_value.specs.Related.{Alike, Apart, ApartForm, Bound, Keeps, Lacks, LacksIn, Rel, Uses}
+use Rattle.tla_value.specs.Related.{Clear, ClearForm, Unread}
 
 pub each_weaker : (P Q : Word → Type 0) → ((x : Word) → P x → Q x) → (xs : List Word) → Each P xs → Each Q xs
 each_weaker P Q h [] p = tt
@@ -51,16 +52,6 @@ pub record Grafted (c : Check) (g : Graft) (U : Word → Type 0) (e f : Env) : T
   pub primed : (x : Word) (at : Place) → e.primed x at ≡ f.primed x at
   pub defs : (x : Word) → U x → e.defs x ≡ f.defs x
 
--- a tree that may stand where x is bound
-abbrev pub Unread : Check → Word → Option Tree → Type 0
-Unread c x (Some t) = (v : Value) (e : Env) → eval c t e ≡ eval c t (bind x v e)
-Unread c x None = Unit {0}
-
--- a bound name that g leaves alone, and that no tree of g reads
-pub record Clear (c : Check) (g : Graft) (x : Word) : Type 0 where
-  pub left : (at : Place) → g x at ≡ None
-  pub unread : (y : Word) (at : Place) → Unread c x (g y at)
-
 bound_read : (c : Check) (x y : Word) (at : Place) (v : Value) (e : Env) (o : Option Tree) → Unread c x o → bytes_eq x y ≡ false → read_tree c o y at e ≡ read_tree c o y at (bind x v e)
 bound_read c x y at v e (Some t) k out = k v e
 bound_read c x y at v e None k out = sym (ap (λ b. cond b (just v) (e.now y at)) out)
@@ -79,9 +70,6 @@ bound_grafted c g U x k e f v r = record {
         ∙ sym (ap (λ b. cond b (just v) (e.now y at)) q)
         ∙ sym (ap (λ o. read_tree c o y at (bind x v e)) untouched)
     by_test y u at false q = ap (λ b. cond b (just v) (f.now y at)) q ∙ r.now y u at ∙ bound_read c x y at v e (g y at) (k.unread y at) q
-
-abbrev pub ClearForm : Check → Graft → (Word → Type 0) → Form → Place → Type 0
-ClearForm c g U m at = Each (Clear c g) (binders m) × Uses U m
 
 form_fits : (c : Check) (g : Graft) (U : Word → Type 0) (m : Form) (at : Place) → ClearForm c g U m at → Fits c (Grafted c g U) g m at
 form_fits c g U (name x) at h = λ e f r. sym (r.now x h.1 at)

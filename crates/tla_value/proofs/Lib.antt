@@ -5,6 +5,7 @@ pub mod ValueLists
 pub mod Lookups
 pub mod ValueSpelled
 mod ValueRows
+mod RowsSeen
 pub mod StateLaws
 pub mod Alike
 pub mod Graft

@@ -6,8 +6,9 @@ use Rattle.tla_expr.specs.Tree.{Word, Form, name, next, call, Tree, node, no_tre
 use Rattle.tla_value.specs.Stops.{Check}
 use Rattle.tla_value.specs.Meaning.{Env, just, eval}
 use Rattle.tla_value.specs.Grafts.{primes, read_tree}
-use Rattle.tla_value.proofs.Graft.{each_weaker, every_weaker, Fits, graft_law, grafted_law, Unread, Clear}
+use Rattle.tla_value.proofs.Graft.{each_weaker, every_weaker, Fits, graft_law, grafted_law}
 use Rattle.tla_value.specs.Related.{Bound, OutOf, Uses}
+use Rattle.tla_value.specs.Related.{Clear, Unread}
 
 read_primed : (c : Check) (b : Bool) (x : Word) (at : Place) (e : Env) → cond b (e.primed x at) (e.now x at) ≡ read_tree c (cond b (Some (node (next x) at no_trees)) None) x at e
 read_primed c true x at e = refl

@@ -6,7 +6,7 @@ use Rattle.tla_expr.specs.declared.op.Op.{Op}
 use Rattle.tla_expr.specs.declared.op.Op.TheVariants.{Equal, Plus, Minus, Divide, Modulo, Negate, Range, Subset, Override, MapsTo}
 use Rattle.tla_expr.specs.declared.op.Binder.TheVariants.{Exists, Function}
 use Rattle.tla_expr.specs.Tree.{Word, index, operator, set_of, tuple, fields, functions, apply, select, except, Form, number, quote, truth as literal, name, strict, call, both, member, cases, binding, Tree, node, Trees, no_trees, tree}
-use Rattle.tla_value.specs.declared.fault.FaultKind.TheVariants.{NotSet, NotInDomain, BadDivisor, NoCase, EmptySequence}
+use Rattle.tla_value.specs.declared.fault.FaultKind.TheVariants.{NotInteger, NotFunction, NotSet, NotInDomain, BadDivisor, NoCase, EmptySequence}
 use Rattle.tla_value.specs.Value.{Value, truth, int, Outcome, good, fault, over}
 use Rattle.tla_value.specs.Order.{seq_from}
 use Rattle.tla_value.specs.Limits.{bounded}
@@ -172,3 +172,40 @@ inner_nat = refl
 
 subset_nat : gives (of (member true) 1 (of (strict set_of) 1 [] ∷ of (strict (operator Subset)) 8 (nat 15 ∷ []) ∷ [])) ≡ fault NotSet (here 15)
 subset_nat = refl
+
+-- {x \in 1, y \in (1 \div 0) ..}: all sets are evaluated before any is found to be none
+sets_first : gives (of (binding Exists (x ∷ y ∷ [])) 1 (num 1 7 ∷ broken ∷ of (literal true) 20 [] ∷ [])) ≡ fault BadDivisor (here 5)
+sets_first = refl
+
+no_set_then : gives (of (binding Exists (x ∷ y ∷ [])) 1 (of (strict set_of) 7 [] ∷ num 1 12 ∷ broken ∷ [])) ≡ fault NotSet (here 1)
+no_set_then = refl
+
+-- over no members the body is not looked at
+no_members : gives (of (binding Exists (x ∷ [])) 1 (of (strict set_of) 7 [] ∷ broken ∷ [])) ≡ good (truth false)
+no_members = refl
+
+-- [a EXCEPT ![5][1 \div 0] = 1]: subscripts are evaluated before the domain is looked at; [a EXCEPT ![5][1] = 1] changes nothing
+subscripts_first : gives (of (strict (except (record { path = index ∷ index ∷ []; place = here 1 } ∷ []))) 1 (triple ∷ num 5 22 ∷ broken ∷ num 1 27 ∷ [])) ≡ fault BadDivisor (here 5)
+subscripts_first = refl
+
+path_outside : gives (of (strict (except (record { path = index ∷ index ∷ []; place = here 1 } ∷ []))) 1 (triple ∷ num 5 22 ∷ num 1 25 ∷ num 1 30 ∷ [])) ≡ good nine
+path_outside = refl
+
+-- [a EXCEPT ![1][1] = 1]: a[1] is a number
+path_inside : gives (of (strict (except (record { path = index ∷ index ∷ []; place = here 1 } ∷ []))) 1 (triple ∷ num 1 22 ∷ num 1 25 ∷ num 1 30 ∷ [])) ≡ fault NotFunction (here 1)
+path_inside = refl
+
+-- TRUE \div 0: kinds come before the divisor
+kinds_first : gives (signed Divide 1 (of (literal true) 1 []) (num 0 11)) ≡ fault NotInteger (here 1)
+kinds_first = refl
+
+-- -(2^127 - 1) - 1 is within the limits, and one less is not
+least_bounded : gives_bounded (signed Minus 1 (of (strict (operator Negate)) 1 (num (2 ^ 127 - 1) 2 ∷ [])) (num 1 50)) ≡ good (int (negsuc (2 ^ 127 - 1)))
+least_bounded = refl
+
+below_bounded : gives_bounded (signed Minus 1 (of (strict (operator Negate)) 1 (num (2 ^ 127 - 1) 2 ∷ [])) (num 2 50)) ≡ over (here 1)
+below_bounded = refl
+
+-- 2..1 is empty
+empty_range : gives (signed Equal 1 (signed Range 1 (num 2 1) (num 1 4)) (of (strict set_of) 8 [])) ≡ good (truth true)
+empty_range = refl

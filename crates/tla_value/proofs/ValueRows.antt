@@ -4,9 +4,9 @@ use Rattle.std.specs.Fmt.{decimal}
 use Rattle.std.proofs.lemmas.Fmt.{decimal-digits_of}
 use Rattle.std.specs.Prelude.{codes, ◌++◌, ◌^◌, ◌-◌}
 use Rattle.std.specs.declared.cmp.Ordering.TheVariants.{Less}
-use Rattle.tla_value.specs.Value.{Value, truth, int, text, model, set, no_values, and}
-use Rattle.tla_value.specs.Order.{order, same, set_from, seq_from, fun_from, record_from}
-use Rattle.tla_value.specs.Limits.{fits}
+use Rattle.tla_value.specs.Value.{Value, Values, truth, int, text, model, set, no_values, and}
+use Rattle.tla_value.specs.Order.{count, order, same, set_from, seq_from, fun_from, record_from}
+use Rattle.tla_value.specs.Limits.{fits, fits_count}
 use Rattle.tla_value.specs.ValueText.{value_text}
 
 -- the digits that are written
@@ -87,3 +87,10 @@ deepest = refl
 
 too_deep : fits (nested 201) ≡ false
 too_deep = refl
+
+-- a set of 65,536 members is within the limits, one more is not
+full_set : (vs : Values) → count vs ≡ 65536 → fits_count vs ≡ true
+full_set vs e = rw e refl
+
+fuller_set : (vs : Values) → count vs ≡ 65537 → fits_count vs ≡ false
+fuller_set vs e = rw e refl

@@ -3,6 +3,7 @@ pub mod Order
 pub mod OrderLaws
 pub mod Limits
 pub mod ValueText
+pub mod ValueSeen
 pub mod Code
 pub mod ValueOf
 pub mod Falls

@@ -3,7 +3,8 @@ use Rattle.std.specs.Prelude.{◌≡◌, List, [], ◌∷◌, Bool, true, false,
 use Rattle.tla_token.specs.declared.place.Place.{Place}
 use Rattle.tla_expr.specs.Tree.{Word, Form, name, next, call, Tree, Every, Each, binders, Graft}
 use Rattle.tla_value.specs.Value.{Value, Outcome, over}
-use Rattle.tla_value.specs.Meaning.{Env, Den, bind}
+use Rattle.tla_value.specs.Stops.{Check}
+use Rattle.tla_value.specs.Meaning.{Env, Den, bind, eval}
 use Rattle.tla_value.specs.Grafts.{Arguments}
 use Rattle.tla_value.specs.Definitions.{Definition}
 
@@ -101,3 +102,16 @@ In u x = u x ≡ true
 -- a tree whose names and operators are of u
 abbrev pub ReadsOnly : (Word → Bool) → Form → Place → Type 0
 ReadsOnly u m at = Uses (In u) m
+
+-- a tree that may stand where x is bound
+abbrev pub Unread : Check → Word → Option Tree → Type 0
+Unread c x (Some t) = (v : Value) (e : Env) → eval c t e ≡ eval c t (bind x v e)
+Unread c x None = Unit {0}
+
+-- a bound name that g leaves alone, and that no tree of g reads
+pub record Clear (c : Check) (g : Graft) (x : Word) : Type 0 where
+  pub left : (at : Place) → g x at ≡ None
+  pub unread : (y : Word) (at : Place) → Unread c x (g y at)
+
+abbrev pub ClearForm : Check → Graft → (Word → Type 0) → Form → Place → Type 0
+ClearForm c g U m at = Each (Clear c g) (binders m) × Uses U m

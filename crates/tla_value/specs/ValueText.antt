@@ -1,7 +1,10 @@
 -- How values are spelled in configurations, scripts and traces, and the one text that is written for a value.
-use Rattle.std.specs.Prelude.{◌≡◌, ℕ, pos, negsuc, neg_ℤ, Bool, true, false, List, [], ◌∷◌, ◌++◌, Option, Some, None, if◌then◌else◌, ◌||◌, ◌&&◌, not, nat_eq, nat_le, suc, codes}
+use Rattle.std.specs.Prelude.{◌≡◌, ℕ, pos, negsuc, neg_ℤ, Bool, true, false, List, [], ◌∷◌, ◌++◌, Option, Some, None, if◌then◌else◌, ◌&&◌, not, suc, codes}
 use Rattle.std.specs.Fmt.{decimal}
 use Rattle.std.specs.Ordering.{is_eq}
+use Rattle.std.specs.List.{list_all, list_any}
+use Rattle.tla_token.specs.Lexemes.{is_word, is_letter}
+use Rattle.tla_expr.specs.Lexical.{escapes}
 use Rattle.tla_expr.specs.Tree.{Word}
 use Rattle.tla_value.specs.Value.{Value, Values, truth, int, text, model, set, fun, no_values, and}
 use Rattle.tla_value.specs.Order.{orders, same, set_from, listed, fun_from, seq_from, numbered}
@@ -9,26 +12,8 @@ use Rattle.tla_value.specs.Limits.{fits}
 
 -- ---- words
 
-abbrev is_within : ℕ → ℕ → ℕ → Bool
-is_within a b c = nat_le a c && nat_le c b
-
-abbrev pub is_letter : ℕ → Bool
-is_letter c = is_within 65 90 c || is_within 97 122 c
-
--- letters, digits and the underscore
-abbrev pub is_word_byte : ℕ → Bool
-is_word_byte c = is_letter c || (is_within 48 57 c || nat_eq c 95)
-
-abbrev pub all_word_bytes : Word → Bool
-all_word_bytes [] = true
-all_word_bytes (c ∷ cs) = is_word_byte c && all_word_bytes cs
-
-abbrev pub has_letter : Word → Bool
-has_letter [] = false
-has_letter (c ∷ cs) = is_letter c || has_letter cs
-
 abbrev pub is_identifier : Word → Bool
-is_identifier w = all_word_bytes w && has_letter w
+is_identifier w = list_all is_word w && list_any is_letter w
 
 -- any identifier but TRUE and FALSE
 abbrev pub is_model_name : Word → Bool
@@ -204,22 +189,13 @@ abbrev mutual
   all_shown no_values = no_spellings
   all_shown (and v vs) = spelling (shown v) (all_shown vs)
 
--- a byte of a string: quotes, backslashes, tabs, line ends, form feeds and carriage returns are escaped
-abbrev pub escape : ℕ → Word
-escape c =
-    if nat_eq c 34 then codes "\\\"" else if nat_eq c 92 then codes "\\\\" else if nat_eq c 9 then codes "\\t" else if nat_eq c 10 then codes "\\n" else if nat_eq c 12 then codes "\\f" else if nat_eq c 13 then codes "\\r" else c ∷ []
-
-abbrev pub escaped : Word → Word
-escaped [] = []
-escaped (c ∷ cs) = escape c ++ escaped cs
-
 -- a blank stands behind a comma, and on both sides of |->, :> and @@
 abbrev mutual
   pub spelling_text : Spelling → Word
   spelling_text (truth_word b) = truth_name b
   spelling_text (digits n) = decimal n
   spelling_text (minus n) = codes "-" ++ decimal n
-  spelling_text (quoted w) = codes "\"" ++ escaped w ++ codes "\""
+  spelling_text (quoted w) = codes "\"" ++ escapes w ++ codes "\""
   spelling_text (named w) = w
   spelling_text (braces ss) = codes "{" ++ items_text ss ++ codes "}"
   spelling_text (angles ss) = codes "<<" ++ items_text ss ++ codes ">>"

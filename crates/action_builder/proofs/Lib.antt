@@ -1,0 +1,14 @@
+pub mod Equal
+pub mod Sets
+pub mod Parts
+pub mod Frame
+pub mod Main
+pub mod Converse
+pub mod Faults
+pub mod Den
+pub mod Contract
+pub mod Settle
+pub mod Except
+pub mod Matching
+pub mod Truth
+pub mod Items

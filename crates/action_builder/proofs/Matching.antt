@@ -1,0 +1,303 @@
+-- Verdicts that match, and the parts of which the truth of the written items is put together.
+use Rattle.std.proofs.Common.{◌≡◌, List, [], ◌∷◌, ◌++◌, Bool, true, false, cond, not, ◌||◌, ◌&&◌, bytes_eq, codes, Option, Some, None, ◌⊎◌, refl, sym, ◌∙◌, ap, subst, ⊎_elim, inl, inr}
+use Rattle.std.proofs.lemmas.Bool.{cases_Bool, or_cases, both_ways, and_parts}
+use Rattle.tla_token.specs.declared.place.Place.{Place}
+use Rattle.tla_expr.specs.Tree.{Word, Form, name, next, call, strict, select, except, Tree, node, Trees, no_trees, tree, Each, Every, EveryOf, binders, graft, quote}
+use Rattle.tla_value.specs.declared.fault.FaultKind.TheVariants.{AssertFailed}
+use Rattle.tla_value.specs.Value.{Value, truth, int, text, model, set, fun, Values, no_values, and, Outcome, good}
+use Rattle.tla_value.specs.Value as Values
+use Rattle.tla_value.specs.Order.{same}
+use Rattle.tla_value.specs.Stops.{plain, on_value, on_truth}
+use Rattle.tla_value.specs.Standard.{printed, asserted, standard_sense}
+use Rattle.tla_value.specs.Meaning.{Env, just, bind, on_all, called, eval}
+use Rattle.tla_value.specs.Grafts.{primes}
+use Rattle.tla_value.specs.Related.{In}
+use Rattle.tla_value.specs.Definitions.{Look}
+use Rattle.tla_value.proofs.Graft.{every_weaker}
+use Rattle.tla_value.proofs.Primes.{Between, Unprimed, unprimed_law}
+use Rattle.tla_value.proofs.Primes as Primes
+use Rattle.module_text.specs.Module.{Item, test, setting, unchanged, exists, local, choice, either as any, Items, no_items, item, Branches as Lists, no_branches as no_lists, branch as list}
+use Rattle.module_text.specs.Truth.{Verdict, told, fault, over, on_good, as_truth, as_set, at_each, is_value, same_look, items_hold, item_holds, some_branch}
+use Rattle.module_text.specs.Truth as Module
+use Rattle.pcal_tree.specs.Algorithm.{Moves, no_moves, move, Binds, no_binds, one_of, is, Statement, assign, await, print, assert, skip, branch, either, with, Statements, done, then, mark, Branches, no_branches, or}
+use Rattle.pcal_tree.specs.Scope.{State, Got, got, bad, faulty, on, valued, Scope, bound, root_place, place_of, value_of, truth_at, members_at, members}
+use Rattle.pcal_tree.specs.Scope as Source
+use Rattle.action_builder.specs.Action.{Names, member, more, mid, firsts, assigned, assigned_in, assigned_by, minus, all_same, and_then, or_all, some_member, hold, hold_some, holds, hold_sets, build, build_one, build_some, ended, value_for}
+use Rattle.action_builder.specs.Action as Action
+use Rattle.action_builder.specs.Effects.{head_of, LeftMoves, parts_of, effect_of, effects_of, ways_of, nested, one_member}
+use Rattle.action_builder.specs.Written.{Key, sub, fixed, subs, keys_of, keys_first, keys_in, steps_of, subscripts, own, slots_of, slot_trees, except_of, is_whole, side_of, primed, print_of, assert_of, true_at, left_of, unchanged_of, onto, filled, settings_of, nested_items, branch_items, write_one, write, write_some}
+use Rattle.action_builder.specs.Ready.{Readable, Halfway, IsWithin, Paired, Scoped, NoNext, Plain, FineTree, FineSides, FineMoves, FineBinds, FineOne, Fine, FineSome, values_of, Matches, holds_on}
+use Rattle.action_builder.proofs.Equal.{name-true, eq-name, value-true, eq-value}
+use Rattle.action_builder.proofs.Sets.{or_left, or_right, minus_same, same_minus}
+use Rattle.action_builder.proofs.Main.{and_then_assoc, in_front, behind, Within}
+use Rattle.action_builder.proofs.Main as Main
+use Rattle.action_builder.proofs.Den.{on_twice}
+use Rattle.action_builder.proofs.Except.{value_law}
+
+-- ---- verdicts that match
+
+pub match_and : (p q : Verdict) (v w : Got Bool) → Matches p v → Matches q w → Matches (Module.and_then p q) (and_then v w)
+match_and (told true) q (got true) w h k = k
+match_and (told true) q (got false) w h k = cc
+match_and (told false) q (got true) w h k = cc
+match_and (told false) q (got false) w h k = refl
+match_and (told b) q (bad j) w h k = absurd h
+match_and (fault j p) q (got b) w h k = absurd h
+match_and (fault j p) q (bad i) w h k = tt
+match_and (over p) q (got b) w h k = absurd h
+match_and (over p) q (bad i) w h k = tt
+
+pub match_or : (p q : Verdict) (v w : Got Bool) → Matches p v → Matches q w → Matches (Module.or_all p q) (or_all v w)
+match_or (told a) (told b) (got c) (got d) h k = λ i. h i || k i
+match_or (told a) (told b) (got c) (bad j) h k = absurd k
+match_or (told a) (fault j p) (got c) (got d) h k = absurd k
+match_or (told a) (fault j p) (got c) (bad i) h k = tt
+match_or (told a) (over p) (got c) (got d) h k = absurd k
+match_or (told a) (over p) (got c) (bad i) h k = tt
+match_or (told a) q (bad j) w h k = absurd h
+match_or (fault j p) q (got b) w h k = absurd h
+match_or (fault j p) q (bad i) w h k = tt
+match_or (over p) q (got b) w h k = absurd h
+match_or (over p) q (bad i) w h k = tt
+
+pub match_value : (o : Outcome) (f : Value → Verdict) (g : Value → Got Bool) → ((v : Value) → Matches (f v) (g v)) → Matches (on_good o f) (on (valued o got) g)
+match_value (good v) f g h = h v
+match_value (Values.fault k p) f g h = tt
+match_value (Values.over p) f g h = tt
+
+-- where a truth value is needed; places do not matter
+pub match_truth : (at p : Place) (v : Value) (f : Bool → Verdict) (g : Bool → Got Bool) → ((b : Bool) → Matches (f b) (g b)) → Matches (as_truth at v f) (on (truth_at p v) g)
+match_truth at p (truth b) f g h = h b
+match_truth at p (int n) f g h = tt
+match_truth at p (text w) f g h = tt
+match_truth at p (model w) f g h = tt
+match_truth at p (set vs) f g h = tt
+match_truth at p (fun ds rs) f g h = tt
+
+pub match_members : (vs : Values) (f : Value → Verdict) (g : Value → Got Bool) → ((v : Value) → Matches (f v) (g v)) → Matches (at_each vs f) (some_member vs g)
+match_members no_values f g h = refl
+match_members (and v vs) f g h = match_or (f v) (at_each vs f) (g v) (some_member vs g) (h v) (match_members vs f g h)
+
+pub match_set : (at p : Place) (v : Value) (f : Value → Verdict) (g : Value → Got Bool) → ((v : Value) → Matches (f v) (g v)) → Matches (as_set at v (λ vs. at_each vs f)) (on (members_at p v) (λ vs. some_member vs g))
+match_set at p (truth b) f g h = tt
+match_set at p (int n) f g h = tt
+match_set at p (text w) f g h = tt
+match_set at p (model w) f g h = tt
+match_set at p (set vs) f g h = match_members vs f g h
+match_set at p (fun ds rs) f g h = tt
+
+pub match_test : (o : Outcome) (at p : Place) (f : Bool → Verdict) (g : Bool → Got Bool) → ((b : Bool) → Matches (f b) (g b)) → Matches (on_good o (λ v. as_truth at v f)) (on (on (valued o got) (truth_at p)) g)
+match_test o at p f g h =
+    subst (Matches (on_good o (λ v. as_truth at v f))) (sym (on_twice (valued o got) (truth_at p) g)) (match_value o (λ v. as_truth at v f) (λ v. on (truth_at p v) g) (λ v. match_truth at p v f g h))
+
+pub match_some : (o : Outcome) (at p : Place) (f : Value → Verdict) (g : Value → Got Bool) → ((v : Value) → Matches (f v) (g v)) → Matches (on_good o (λ v. as_set at v (λ vs. at_each vs f))) (on (on (valued o got) (members_at p)) (λ vs. some_member vs g))
+match_some o at p f g h =
+    subst (Matches (on_good o (λ v. as_set at v (λ vs. at_each vs f)))) (sym (on_twice (valued o got) (members_at p) (λ vs. some_member vs g)))
+    (match_value o (λ v. as_set at v (λ vs. at_each vs f)) (λ v. on (members_at p v) (λ vs. some_member vs g)) (λ v. match_set at p v f g h))
+
+pub match_once : (p : Verdict) (v : Got Bool) → Matches p v → Matches p (or_all v (got false))
+match_once (told true) (got true) h = refl
+match_once (told true) (got false) h = cc
+match_once (told false) (got true) h = cc
+match_once (told false) (got false) h = refl
+match_once (told b) (bad k) h = absurd h
+match_once (fault j p) (got b) h = absurd h
+match_once (fault j p) (bad k) h = tt
+match_once (over p) (got b) h = absurd h
+match_once (over p) (bad k) h = tt
+
+pub match_one : (o : Outcome) (f : Value → Verdict) (g : Value → Got Bool) → ((v : Value) → Matches (f v) (g v)) → Matches (on_good o f) (on (on (valued o got) (λ v. got (and v no_values))) (λ vs. some_member vs g))
+match_one o f g h =
+    subst (Matches (on_good o f)) (sym (on_twice (valued o got) (λ v. got (and v no_values)) (λ vs. some_member vs g)))
+    (match_value o f (λ v. or_all (g v) (got false)) (λ v. match_once (f v) (g v) (h v)))
+
+pub match_true : (v : Got Bool) (p : Verdict) → Matches p v → Matches (Module.and_then p (told true)) (and_then v (got true))
+match_true v p h = match_and p (told true) v (got true) h refl
+
+-- a truth value that is told as it is
+pub match_told : (o : Outcome) (at p : Place) → Matches (on_good o (λ v. as_truth at v told)) (on (valued o got) (truth_at p))
+match_told o at p = match_value o (λ v. as_truth at v told) (truth_at p) (λ v. by v)
+  where
+    by : (v : Value) → Matches (as_truth at v told) (truth_at p v)
+    by (truth b) = refl
+    by (int n) = tt
+    by (text w) = tt
+    by (model w) = tt
+    by (set vs) = tt
+    by (fun ds rs) = tt
+
+pub match_print : (o : Outcome) (at : Place) → Matches (on_good (on_value o (λ v. good (truth true))) (λ v. as_truth at v told)) (on (valued o got) (λ v. got true))
+match_print (good v) at = refl
+match_print (Values.fault k p) at = tt
+match_print (Values.over p) at = tt
+
+pub match_assert : (o : Outcome) (at p q : Place) → Matches (on_good (on_value o (λ v. on_truth at v (λ b. cond b (good (truth true)) (Values.fault AssertFailed at)))) (λ v. as_truth at v told)) (on (on (valued o got) (truth_at p)) (λ b. cond b (got true) (bad (faulty AssertFailed q))))
+match_assert (good (truth true)) at p q = refl
+match_assert (good (truth false)) at p q = tt
+match_assert (good (int n)) at p q = tt
+match_assert (good (text w)) at p q = tt
+match_assert (good (model w)) at p q = tt
+match_assert (good (set vs)) at p q = tt
+match_assert (good (fun ds rs)) at p q = tt
+match_assert (Values.fault k r) at p q = tt
+match_assert (Values.over r) at p q = tt
+
+-- ---- expressions
+
+no_next : (m : Form) → NoNext m → Primes.NoNext m
+no_next (next x) h = h
+no_next m h = tt
+
+unprimed_of : (A : Names) (U : Word → Type 0) (m : Form) (at : Place) → Plain A U m at → Unprimed A U m at
+unprimed_of A U m at h = (h.0, h.1, no_next m h.2)
+
+pub exp_law : (U : Readable) (vs : List Word) (A : Names) (sc : Scope) (env : State → State → Env) → Paired U vs sc env → IsWithin A (member vs) → (e : Tree) → FineTree U A e → (s t : State) → eval plain (primed A e) (env s t) ≡ eval plain e (sc.env (mid s t A))
+exp_law U vs A sc env p w e f s t =
+    let k = p.halfway A w s t in
+    unprimed_law plain A (In (U A)) e (every_weaker _ _ (unprimed_of A (In (U A))) e f) (env s t) (sc.env (mid s t A)) (record { now = k.now; defs = k.defs })
+
+halfway_bound : (A : Names) (U : Word → Type 0) (x : Word) (v : Value) → A x ≡ false → (e f : Env) → Halfway A U e f → Halfway A U (bind x v e) (bind x v f)
+halfway_bound A U x v out e f r = record { now = λ y u at. by y u at (bytes_eq x y) refl; defs = r.defs }
+  where
+    by : (y : Word) → U y → (at : Place) (b : Bool) → bytes_eq x y ≡ b → cond (bytes_eq x y) (just v) (f.now y at) ≡ cond (A y) (e.primed y at) (cond (bytes_eq x y) (just v) (e.now y at))
+    by y u at true q =
+        ap (λ b. cond b (just v) (f.now y at)) q
+        ∙ sym (ap (λ a. cond a (e.primed y at) (cond (bytes_eq x y) (just v) (e.now y at))) (sym (ap A (name-true x y q)) ∙ out) ∙ ap (λ b. cond b (just v) (e.now y at)) q)
+    by y u at false q =
+        ap (λ b. cond b (just v) (f.now y at)) q ∙ r.now y u at
+        ∙ sym (ap (λ b. cond (A y) (e.primed y at) (cond b (just v) (e.now y at))) q)
+
+outside : (A V : Names) → IsWithin A V → (x : Word) → V x ≡ false → A x ≡ false
+outside A V w x e = ⊎_elim (λ a. absurd (both_ways (V x) e (w x a))) (λ a. a) (cases_Bool (A x))
+
+abbrev pub bound_env : Word → Value → (State → State → Env) → State → State → Env
+bound_env x v env s t = bind x v (env s t)
+
+pub paired_bound : (U : Readable) (vs : List Word) (sc : Scope) (env : State → State → Env) (x : Word) (v : Value) → member vs x ≡ false → Paired U vs sc env → Paired U vs (bound x v sc) (bound_env x v env)
+paired_bound U vs sc env x v out p = record {
+  halfway = λ A w s t. halfway_bound A (In (U A)) x v (outside A (member vs) w x out) (env s t) (sc.env (mid s t A)) (p.halfway A w s t);
+  print = p.print;
+  assert = p.assert;
+}
+
+pub scoped_bound : (vs : List Word) (sc : Scope) (x : Word) (v : Value) → member vs x ≡ false → Scoped vs sc → Scoped vs (bound x v sc)
+scoped_bound vs sc x v out k = record { part = k.part; reads = λ y m at s. by y m at s (bytes_eq x y) refl }
+  where
+    by : (y : Word) → member vs y ≡ true → (at : Place) (s : State) (b : Bool) → bytes_eq x y ≡ b → cond (bytes_eq x y) (just v) ((sc.env s).now y at) ≡ just (s y)
+    by y m at s true q = absurd (both_ways (member vs x) out (ap (member vs) (name-true x y q) ∙ m))
+    by y m at s false q = ap (λ b. cond b (just v) ((sc.env s).now y at)) q ∙ k.reads y m at s
+
+-- ---- the trees of right sides
+
+abbrev EachKey : (Form → Place → Type 0) → List Key → Type 0
+EachKey P [] = Unit {0}
+EachKey P (sub t ∷ ks) = Every P t × EachKey P ks
+EachKey P (fixed a ∷ ks) = EachKey P ks
+
+keys_both : (P : Form → Place → Type 0) (ks js : List Key) → EachKey P ks → EachKey P js → EachKey P (ks ++ js)
+keys_both P [] js h k = k
+keys_both P (sub t ∷ ks) js h k = (h.0, keys_both P ks js h.1 k)
+keys_both P (fixed a ∷ ks) js h k = keys_both P ks js h k
+
+subs_every : (P : Form → Place → Type 0) (ts : Trees) → EveryOf P ts → EachKey P (subs ts)
+subs_every P no_trees h = tt
+subs_every P (tree t ts) h = (h.0, subs_every P ts h.1)
+
+form_keys : (P : Form → Place → Type 0) (m : Form) (ks : List Key) → EachKey P ks → EachKey P (keys_in m ks)
+form_keys P (name x) ks h = tt
+form_keys P (strict (select a)) ks h = keys_both P ks (fixed a ∷ []) h tt
+form_keys P m ks h = h
+
+mutual
+  keys_every : (P : Form → Place → Type 0) (l : Tree) → Every P l → EachKey P (keys_of l)
+  keys_every P (node m at ts) h = form_keys P m (keys_first ts) (first_every P ts h.1)
+
+  first_every : (P : Form → Place → Type 0) (ts : Trees) → EveryOf P ts → EachKey P (keys_first ts)
+  first_every P no_trees h = tt
+  first_every P (tree f us) h = keys_both P (keys_of f) (subs us) (keys_every P f h.0) (subs_every P us h.1)
+
+subscripts_every : (P : Form → Place → Type 0) (ks : List Key) (ts : Trees) → EachKey P ks → EveryOf P ts → EveryOf P (subscripts ks ts)
+subscripts_every P [] ts h k = k
+subscripts_every P (sub t ∷ ks) ts h k = (h.0, subscripts_every P ks ts h.1 k)
+subscripts_every P (fixed a ∷ ks) ts h k = subscripts_every P ks ts h k
+
+slots_every : (U : Readable) (A : Names) (ms : Moves) → FineSides U A ms → EveryOf (Plain A (In (U A))) (slot_trees ms)
+slots_every U A no_moves h = tt
+slots_every U A (move l e ms) h = subscripts_every (Plain A (In (U A))) (keys_of l) (tree e (slot_trees ms)) (keys_every (Plain A (In (U A))) l h.0) (h.1, slots_every U A ms h.2)
+
+pub own_fine : (U : Readable) (A : Names) (y : Word) (ms : Moves) → FineSides U A ms → FineSides U A (own y ms)
+own_fine U A y no_moves h = tt
+own_fine U A y (move l e ms) h = by (own_fine U A y ms h.2) (bytes_eq (head_of l) y)
+  where
+    by : FineSides U A (own y ms) → (b : Bool) → FineSides U A (cond b (move l e (own y ms)) (own y ms))
+    by ih true = (h.0, h.1, ih)
+    by ih false = ih
+
+pub side_fine : (U : Readable) (A : Names) (y : Word) (ms : Moves) → U A y ≡ true → FineSides U A ms → FineTree U A (side_of y ms)
+side_fine U A y no_moves u h = ((tt, u, tt), tt)
+side_fine U A y (move l e ms) u h = by (is_whole (keys_of l) ms)
+  where
+    by : (b : Bool) → FineTree U A (cond b e (except_of (root_place l) y (move l e ms)))
+    by true = h.1
+    by false = ((tt, tt, tt), (((tt, u, tt), tt), slots_every U A (move l e ms) h))
+
+-- ---- UNCHANGED
+
+bool_alike : (a b : Bool) → (a ≡ true → b ≡ true) → (b ≡ true → a ≡ true) → a ≡ b
+bool_alike true b f g = sym (f refl)
+bool_alike false true f g = g refl
+bool_alike false false f g = refl
+
+look_same : (vs xs : List Word) (s t : State) → ((x : Word) → member xs x ≡ true → member vs x ≡ true) → Module.all_same (values_of vs s) (values_of vs t) xs ≡ all_same xs s t
+look_same vs [] s t h = refl
+look_same vs (x ∷ xs) s t h =
+    (λ i. same_look (cond (h x here i) (Some (s x)) None) (cond (h x here i) (Some (t x)) None) && Module.all_same (values_of vs s) (values_of vs t) xs)
+    ∙ (λ i. same (t x) (s x) && look_same vs xs s t (λ y m. h y (or_right (bytes_eq x y) (member xs y) m)) i)
+  where
+    here : (bytes_eq x x || member xs x) ≡ true
+    here = or_left (bytes_eq x x) (member xs x) (eq-name x x refl)
+
+kept_in : (vs all own : List Word) (x : Word) → member (left_of vs all own) x ≡ true → member vs x ≡ true
+kept_in [] all own x m = m
+kept_in (v ∷ vs) all own x m = by (kept_in vs all own x) (member all v && not (member own v)) m
+  where
+    by : (member (left_of vs all own) x ≡ true → member vs x ≡ true) → (b : Bool) → member (cond b (v ∷ left_of vs all own) (left_of vs all own)) x ≡ true → (bytes_eq v x || member vs x) ≡ true
+    by ih true k = ⊎_elim (λ a. or_left (bytes_eq v x) (member vs x) a) (λ a. or_right (bytes_eq v x) (member vs x) (ih a)) (or_cases (bytes_eq v x) (member (left_of vs all own) x) k)
+    by ih false k = or_right (bytes_eq v x) (member vs x) (ih k)
+
+and_not : (a b : Bool) → a ≡ true → b ≡ false → (a && not b) ≡ true
+and_not a b p q = (λ i. p i && not (q i))
+
+not_and : (a b : Bool) → (a && not b) ≡ true → (a ≡ true) × (b ≡ false)
+not_and true true e = cc
+not_and true false e = (refl, refl)
+not_and false b e = cc
+
+-- what is kept of vs is the same: all names of `all` that are not in `own` are
+left_same : (vs all own : List Word) (s t : State) → all_same (left_of vs all own) s t ≡ true → (x : Word) → member vs x ≡ true → member all x ≡ true → member own x ≡ false → t x ≡ s x
+left_same [] all own s t h x m a o = cc
+left_same (v ∷ vs) all own s t h x m a o =
+    by (λ g k. left_same vs all own s t g x k a o) (member all v && not (member own v)) refl h (or_cases (bytes_eq v x) (member vs x) m)
+  where
+    by : (all_same (left_of vs all own) s t ≡ true → member vs x ≡ true → t x ≡ s x) → (b : Bool) → (member all v && not (member own v)) ≡ b → all_same (cond b (v ∷ left_of vs all own) (left_of vs all own)) s t ≡ true → (bytes_eq v x ≡ true) ⊎ (member vs x ≡ true) → t x ≡ s x
+    by ih true p g (inl e) = subst (λ z. t z ≡ s z) (name-true v x e) (value-true (t v) (s v) (and_parts (same (t v) (s v)) (all_same (left_of vs all own) s t) g).0)
+    by ih true p g (inr k) = ih (and_parts (same (t v) (s v)) (all_same (left_of vs all own) s t) g).1 k
+    by ih false p g (inl e) = absurd (both_ways (member all v && not (member own v)) p (and_not (member all v) (member own v) (ap (member all) (name-true v x e) ∙ a) (ap (member own) (name-true v x e) ∙ o)))
+    by ih false p g (inr k) = ih g k
+
+same_left : (vs all own : List Word) (s t : State) → ((x : Word) → member all x ≡ true → member own x ≡ false → t x ≡ s x) → all_same (left_of vs all own) s t ≡ true
+same_left [] all own s t h = refl
+same_left (v ∷ vs) all own s t h = by (same_left vs all own s t h) (member all v && not (member own v)) refl
+  where
+    by : all_same (left_of vs all own) s t ≡ true → (b : Bool) → (member all v && not (member own v)) ≡ b → all_same (cond b (v ∷ left_of vs all own) (left_of vs all own)) s t ≡ true
+    by ih true p =
+        let k = not_and (member all v) (member own v) p in
+        (λ i. eq-value (t v) (s v) (h v k.0 k.1) i && all_same (left_of vs all own) s t) ∙ ih
+    by ih false p = ih
+
+pub unchanged_same : (vs all own : List Word) (s t : State) → Within all vs → Module.all_same (values_of vs s) (values_of vs t) (left_of vs all own) ≡ all_same (minus all own) s t
+unchanged_same vs all own s t w =
+    look_same vs (left_of vs all own) s t (kept_in vs all own)
+    ∙ bool_alike _ _
+    (λ e. same_minus all own s t (λ x a o. left_same vs all own s t e x (w x a) a o))
+    (λ e. same_left vs all own s t (λ x a o. minus_same all own s t e x a o))

@@ -1,0 +1,6 @@
+pub mod Action
+pub mod Effects
+pub mod Contract
+pub mod Settled
+pub mod Written
+pub mod Ready

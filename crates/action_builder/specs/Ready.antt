@@ -1,0 +1,145 @@
+-- What is asked of statements and scopes so that the written items mean what the statements do; and the truth of these items.
+use Rattle.std.specs.Prelude.{◌≡◌, List, [], Bool, true, false, cond, codes, Option, Some, None}
+use Rattle.tla_token.specs.declared.place.Place.{Place}
+use Rattle.tla_expr.specs.Tree.{Word, Form, name, next, call, Tree, Each, Every, binders}
+use Rattle.tla_value.specs.Value.{Value}
+use Rattle.tla_value.specs.Stops.{plain}
+use Rattle.tla_value.specs.Standard.{printed, asserted, standard_sense}
+use Rattle.tla_value.specs.Meaning.{Env, just, bind}
+use Rattle.tla_value.specs.Related.{Uses, In}
+use Rattle.tla_value.specs.Definitions.{Look}
+use Rattle.module_text.specs.Module.{Items}
+use Rattle.module_text.specs.Truth.{Verdict, told, fault, over, items_hold}
+use Rattle.pcal_tree.specs.Algorithm.{Moves, no_moves, move, Binds, no_binds, one_of, is, Statement, assign, await, print, assert, skip, branch, either, with, Statements, done, then, mark, Branches, no_branches, or}
+use Rattle.pcal_tree.specs.Run.{Rules}
+use Rattle.pcal_tree.specs.Scope.{State, Got, got, bad, Scope}
+use Rattle.action_builder.specs.Action.{Names, member, more, mid, firsts, assigned, Once, Agree}
+use Rattle.action_builder.specs.Effects.{LeftMoves, part_at, parts_of, effect_of, effects_of, Settled}
+
+-- ---- names
+
+-- the names that may be read where the variables of A are assigned already: the variables, and others whose meaning does not rest on A
+abbrev pub Readable : Type 0
+Readable = Names → Word → Bool
+
+-- e is of a pair of states, f of the state half done: of the names of U, f reads those of A in the later state
+pub record Halfway (A : Names) (U : Word → Type 0) (e f : Env) : Type 0 where
+  pub now : (x : Word) → U x → (at : Place) → f.now x at ≡ cond (A x) (e.primed x at) (e.now x at)
+  pub defs : (x : Word) → U x → e.defs x ≡ f.defs x
+
+abbrev pub IsWithin : Names → Names → Type 0
+IsWithin A V = (x : Word) → A x ≡ true → V x ≡ true
+
+-- the environment of each pair of states goes with the scope, whichever variables are assigned; PrintT and Assert are those of TLC
+pub record Paired (U : Readable) (vs : List Word) (sc : Scope) (env : State → State → Env) : Type 0 where
+  pub halfway : (A : Names) → IsWithin A (member vs) → (s t : State) → Halfway A (In (U A)) (env s t) (sc.env (mid s t A))
+  pub print : (s t : State) → (env s t).defs (codes "PrintT") ≡ Some (standard_sense plain printed)
+  pub assert : (s t : State) → (env s t).defs (codes "Assert") ≡ Some (standard_sense plain asserted)
+
+-- the names of vs are variables that are read in the state, and each name is itself as a left side
+pub record Scoped (vs : List Word) (sc : Scope) : Type 0 where
+  pub part : (x : Word) (at : Place) (s : State) → sc.part x at s ≡ got (part_at x [])
+  pub reads : (x : Word) → member vs x ≡ true → (at : Place) (s : State) → (sc.env s).now x at ≡ just (s x)
+
+-- all that is asked of a scope, and of the environments of pairs of states
+pub record Stands (U : Readable) (vs : List Word) (sc : Scope) (env : State → State → Env) : Type 0 where
+  pub paired : Paired U vs sc env
+  pub scoped : Scoped vs sc
+
+-- ---- statements
+
+abbrev pub NoNext : Form → Type 0
+NoNext (next x) = ⊥
+NoNext _ = Unit {0}
+
+-- the form binds no name of A, reads only names of U, and is no primed name
+abbrev pub Plain : Names → (Word → Type 0) → Form → Place → Type 0
+Plain A U m at = Each (λ x. A x ≡ false) (binders m) × Uses U m × NoNext m
+
+abbrev pub FineTree : Readable → Names → Tree → Type 0
+FineTree U A e = Every (Plain A (In (U A))) e
+
+abbrev pub FineSides : Readable → Names → Moves → Type 0
+FineSides U A no_moves = Unit {0}
+FineSides U A (move l e ms) = FineTree U A l × FineTree U A e × FineSides U A ms
+
+pub record FineMoves (U : Readable) (vs : List Word) (A : Names) (ms : Moves) : Type 0 where
+  pub left : LeftMoves ms
+  pub sides : FineSides U A ms
+  pub readable : (y : Word) → member (firsts (parts_of plain ms)) y ≡ true → U A y ≡ true
+
+abbrev pub FineBinds : Readable → List Word → Names → Binds → Type 0
+FineBinds U vs A no_binds = Unit {0}
+FineBinds U vs A (one_of x e bs) = FineTree U A e × (member vs x.word ≡ false) × FineBinds U vs A bs
+FineBinds U vs A (is x e bs) = FineTree U A e × (member vs x.word ≡ false) × FineBinds U vs A bs
+
+-- each expression reads what may be read there, the names of a `with` are no variables, and what is assigned is a variable
+abbrev mutual
+  pub FineOne : Readable → List Word → Names → Statement → Type 0
+  FineOne U vs A (assign ms) = FineMoves U vs A ms
+  FineOne U vs A (await e) = FineTree U A e
+  FineOne U vs A (print e) = FineTree U A e
+  FineOne U vs A (assert e) = FineTree U A e
+  FineOne U vs A skip = Unit {0}
+  FineOne U vs A (branch e a b) = FineTree U A e × Fine U vs A a × Fine U vs A b
+  FineOne U vs A (either bs) = FineSome U vs A bs
+  FineOne U vs A (with bs b) = FineBinds U vs A bs × Fine U vs A b
+  FineOne U vs A _ = ⊥
+
+  pub Fine : Readable → List Word → Names → Statements → Type 0
+  Fine U vs A done = Unit {0}
+  Fine U vs A (then at st rest) =
+      FineOne U vs A st × Fine U vs (more A (assigned (effect_of plain at.first st))) rest
+      × ((x : Word) → member (assigned (effect_of plain at.first st)) x ≡ true → member vs x ≡ true)
+  Fine U vs A (mark l k rest) = ⊥
+
+  pub FineSome : Readable → List Word → Names → Branches → Type 0
+  FineSome U vs A no_branches = Unit {0}
+  FineSome U vs A (or b bs) = Fine U vs A b × FineSome U vs A bs
+
+-- ---- truth
+
+-- the values of the variables
+abbrev pub values_of : List Word → State → Look
+values_of vs s x = cond (member vs x) (Some (s x)) None
+
+-- the same truth value, or neither has one
+abbrev pub Matches : Verdict → Got Bool → Type 0
+Matches (told a) (got b) = a ≡ b
+Matches (told a) (bad k) = ⊥
+Matches (fault k p) (got b) = ⊥
+Matches (fault k p) (bad j) = Unit {0}
+Matches (over p) (got b) = ⊥
+Matches (over p) (bad j) = Unit {0}
+
+abbrev pub IsStopped : Verdict → Type 0
+IsStopped (told b) = ⊥
+IsStopped (fault k p) = Unit {0}
+IsStopped (over p) = Unit {0}
+
+abbrev pub IsNotFalse : Verdict → Type 0
+IsNotFalse (told b) = b ≡ true
+IsNotFalse (fault k p) = Unit {0}
+IsNotFalse (over p) = Unit {0}
+
+-- the items on a pair of states
+abbrev pub holds_on : List Word → (State → State → Env) → Items → State → State → Verdict
+holds_on vs env items s t = items_hold plain (values_of vs s) (values_of vs t) (env s t) items
+
+-- ---- statements of one step for which items are written
+
+-- without limits
+abbrev pub unlimited : Rules → Rules
+unlimited M = record { check = plain; go = M.go; enter = M.enter; quit = M.quit; macros = M.macros }
+
+-- statements that assign nothing twice and nothing of A, in a scope with environments for pairs of states; vs are all variables
+pub record Ready (U : Readable) (vs : List Word) (A : Names) (ss : Statements) (sc : Scope) (env : State → State → Env) : Type 0 where
+  pub settled : Settled ss
+  pub fine : Fine U vs A ss
+  pub once : Once A (effects_of plain ss)
+  pub within : IsWithin A (member vs)
+  pub stands : Stands U vs sc env
+
+-- some state that agrees with t on A, in which the verdict is a fault
+abbrev pub StoppedSomewhere : Names → State → (State → Verdict) → Type 0
+StoppedSomewhere A t v = (u : State) × Agree A u t × IsStopped (v u)

@@ -1,0 +1,77 @@
+//! What the written actions say, as what functions without a body ensure.
+
+ghost use Rattle.std.specs.Prelude.{◌≡◌, ◌↔◌, List, Bool, true};
+ghost use Rattle.tla_expr.specs.Tree.{Word};
+ghost use Rattle.tla_value.specs.Stops.{plain};
+ghost use Rattle.tla_value.specs.Meaning.{Env};
+ghost use Rattle.tla_value.specs.Related.{In};
+ghost use Rattle.module_text.specs.Truth.{told};
+ghost use Rattle.module_text.specs.Truth as written;
+ghost use Rattle.pcal_tree.specs.Algorithm.{Statements};
+ghost use Rattle.pcal_tree.specs.Scope.{State, Scope, got};
+ghost use Rattle.pcal_tree.specs.Run.{Rules, run, exit_to, unlabelled};
+ghost use Rattle.action_builder.specs.Action.{Names, more, assigned_in, NotFalse, Agree};
+ghost use Rattle.action_builder.specs.Effects.{effects_of};
+ghost use Rattle.action_builder.specs.Contract.{Fits, NoTrouble, SomeTrouble, BadSomewhere, Tells, Built, verdict, to_end};
+ghost use Rattle.action_builder.specs.Settled.{Moving, settled, Tidy, CloseCourses, Does, Inner};
+ghost use Rattle.action_builder.specs.Written.{write};
+ghost use Rattle.action_builder.specs.Ready.{Readable, IsNotFalse, holds_on, unlimited, Ready, StoppedSomewhere};
+
+/// Where no run of the statements faults, their action is true of a pair of states exactly if some run
+/// has an end that agrees with the second state on what is assigned, else it is false. The action is here
+/// one over the meaning of expressions, within any limits.
+pub fn actions_are_true_of_steps()
+    ensures { (M : Rules) (A : Names) (ss : Statements) (sc : Scope) (s t : State) → Built M A ss sc → NoTrouble M A ss sc s t → Tells (verdict M A ss sc s t) (Fits M A ss sc s t) }
+{}
+
+/// Whether or not a run faults: where the action is true, some run has a fitting end; where some run has a
+/// fitting end, the action is true or faults.
+pub fn actions_are_never_false_of_steps()
+    ensures fits { (M : Rules) (A : Names) (ss : Statements) (sc : Scope) (s t : State) → Built M A ss sc → verdict M A ss sc s t ≡ got true → Fits M A ss sc s t }
+    ensures holds { (M : Rules) (A : Names) (ss : Statements) (sc : Scope) (s t : State) → Built M A ss sc → Fits M A ss sc s t → NotFalse (verdict M A ss sc s t) }
+{}
+
+/// The action faults for some second state, with the values that are new already, exactly if some run faults.
+pub fn actions_fault_as_steps()
+    ensures { (M : Rules) (A : Names) (ss : Statements) (sc : Scope) (s t : State) → Built M A ss sc → (BadSomewhere A t (verdict M A ss sc s) ↔ SomeTrouble M A ss sc s t) }
+{}
+
+/// The action reads of the second state only what is assigned.
+pub fn actions_read_what_is_assigned()
+    ensures { (M : Rules) (A : Names) (ss : Statements) (sc : Scope) (s t u : State) → Agree (more A (assigned_in (effects_of M.check ss))) t u → verdict M A ss sc s t ≡ verdict M A ss sc s u }
+{}
+
+/// Where no run of the statements faults, the items that are written for them are true of a pair of states
+/// exactly if some run has an end that agrees with the second state on what is assigned, else they are false.
+pub fn items_are_true_of_steps()
+    ensures { (M : Rules) (U : Readable) (vs : List Word) (A : Names) (ss : Statements) (sc : Scope) (env : State → State → Env) → Ready U vs A ss sc env → (s t : State)
+        → NoTrouble (unlimited M) A ss sc s t → written.Tells (holds_on vs env (write vs A ss) s t) (Fits (unlimited M) A ss sc s t) }
+{}
+
+/// Whether or not a run faults: where the items are true, some run has a fitting end; where some run has a
+/// fitting end, the items are true or fault.
+pub fn items_are_never_false_of_steps()
+    ensures fits { (M : Rules) (U : Readable) (vs : List Word) (A : Names) (ss : Statements) (sc : Scope) (env : State → State → Env) → Ready U vs A ss sc env → (s t : State)
+        → holds_on vs env (write vs A ss) s t ≡ told true → Fits (unlimited M) A ss sc s t }
+    ensures holds { (M : Rules) (U : Readable) (vs : List Word) (A : Names) (ss : Statements) (sc : Scope) (env : State → State → Env) → Ready U vs A ss sc env → (s t : State)
+        → Fits (unlimited M) A ss sc s t → IsNotFalse (holds_on vs env (write vs A ss) s t) }
+{}
+
+/// The items fault for some second state, with the values that are new already, exactly if some run faults.
+pub fn items_fault_as_steps()
+    ensures { (M : Rules) (U : Readable) (vs : List Word) (A : Names) (ss : Statements) (sc : Scope) (env : State → State → Env) → Ready U vs A ss sc env → (s t : State)
+        → (StoppedSomewhere A t (holds_on vs env (write vs A ss) s) ↔ SomeTrouble (unlimited M) A ss sc s t) }
+{}
+
+/// The items leave nothing else to the second state than what is assigned.
+pub fn items_read_what_is_assigned()
+    ensures { (M : Rules) (U : Readable) (vs : List Word) (A : Names) (ss : Statements) (sc : Scope) (env : State → State → Env) → Ready U vs A ss sc env → (s t u : State)
+        → Agree (more A (assigned_in (effects_of plain ss))) t u → (b : Bool) → holds_on vs env (write vs A ss) s t ≡ told b → holds_on vs env (write vs A ss) s u ≡ told b }
+{}
+
+/// Statements whose jumps, loops, calls and returns are written as assignments have the ends of the statements
+/// as they stand, and trouble where these have trouble.
+pub fn settled_statements_have_the_same_ends()
+    ensures { (M : Rules) (W : Moving) (f : Word → Bool) (sc : Scope) → Does M W (Inner f sc) (In f) → (here l : Word) (ss : Statements) → Tidy (In f) ss
+        → CloseCourses (run M unlabelled (settled W here l ss) sc to_end) (run M here ss sc (exit_to M l)) }
+{}
