@@ -4,12 +4,13 @@ use Rattle.std.specs.Fmt.{digits}
 use Rattle.tla_token.specs.declared.rule.Rule.TheVariants.{AssignTwice, FirstLabel, UnknownLabel, ReturnOutside, DoubleLabel, LabelInside, WhileLabel, AfterJump}
 use Rattle.tla_expr.specs.declared.op.Op.TheVariants.{Plus, Less, Equal}
 use Rattle.tla_expr.specs.Tree.{Word, no_trees, tree}
+use Rattle.pcal_tree.specs.declared.mark.Fairness.TheVariants.{Unfair}
 use Rattle.pcal_tree.specs.declared.mark.Mark.TheVariants.{Plain}
-use Rattle.pcal_tree.specs.Algorithm.{no_moves, move, no_binds, is, Statement, assign, skip, branch, with, loop, jump, macro, leave, Statements, done, then, mark, Macro, Algorithm}
+use Rattle.pcal_tree.specs.Algorithm.{no_moves, move, no_binds, is, Statement, assign, skip, branch, with, loop, jump, macro, leave, Statements, done, then, mark, Macro, Procedure, Process, processes, Algorithm}
 use Rattle.pcal_tree.specs.Offences.{first}
 use Rattle.pcal_tree.specs.OffencesLabels.{label_offences}
 use Rattle.pcal_tree.specs.Labelled.{labelled}
-use Rattle.pcal_tree.proofs.Sample.{at, title, x, y, num, var, item, over, sets, one_body}
+use Rattle.pcal_tree.proofs.Sample.{at, title, x, y, num, var, item, over, sets, variable, one_body}
 
 -- a statement at a column
 abbrev stands : ℕ → Statement → Statements → Statements
@@ -104,3 +105,35 @@ all_at_once :
     label_offences (alg [] (label 1 (codes "A") (stands 5 (jump (codes "B")) (stands 6 leave (nested (label 7 (codes "A") (stands 8 skip done)))))))
     ≡ record { rule = AfterJump; place = at 6 } ∷ record { rule = AfterJump; place = at 2 } ∷ record { rule = UnknownLabel; place = at 5 } ∷ record { rule = ReturnOutside; place = at 6 } ∷ record { rule = LabelInside; place = at 7 } ∷ record { rule = DoubleLabel; place = at 7 } ∷ []
 all_at_once = refl
+
+-- procedure P(a = 0) begin A: a := 1; return; end procedure, and processes P and Q without labels
+abbrev proc : Procedure
+proc = record { name = title (codes "P"); params = variable (codes "a") (num 0) ∷ []; variables = []; body = label 1 (codes "A") (stands 2 (sets (var (codes "a")) (num 1)) (stands 3 leave done)) }
+
+abbrev idle : ℕ → Statements → Process
+idle n b = record { name = title (codes "Q"); fairness = Unfair; several = false; identity = num n; variables = []; body = b }
+
+abbrev several : Procedure → Statements → Statements → Algorithm
+several p a b = record { name = title (codes "Several"); fair = false; globals = variable x (num 0) ∷ []; definitions = []; macros = []; procedures = p ∷ []; main = processes (idle 0 a ∷ idle 1 b ∷ []) }
+
+-- `return` sets the parameters anew, and each process lacks its first label
+in_all_bodies :
+    label_offences (several proc (stands 4 skip done) (stands 5 skip done))
+    ≡ record { rule = AssignTwice; place = at 3 } ∷ record { rule = FirstLabel; place = at 4 } ∷ record { rule = FirstLabel; place = at 5 } ∷ []
+in_all_bodies = refl
+
+-- one numbering for all bodies
+numbered_through :
+    labelled true (several proc (stands 4 skip done) (stands 5 skip done))
+    ≡ several (record proc { body = label 1 (codes "A") (stands 2 (sets (var (codes "a")) (num 1)) (label 3 (codes "Lbl_1") (stands 3 leave done))) })
+    (label 4 (codes "Lbl_2") (stands 4 skip done)) (label 5 (codes "Lbl_3") (stands 5 skip done))
+unfolding digits
+numbered_through = refl
+
+-- no label is added to processes unless that is forced
+none_in_processes : labelled false (several proc (stands 4 skip done) (stands 5 skip done)) ≡ several proc (stands 4 skip done) (stands 5 skip done)
+none_in_processes = refl
+
+-- A: while y = 0 do x := 1; end while; x := 2
+behind_a_loop : label_offences (alg [] (label 1 (codes "A") (stands 2 (loop (over Equal (var y) (num 0)) (stands 3 (sets (var x) (num 1)) done)) (stands 4 (sets (var x) (num 2)) done)))) ≡ []
+behind_a_loop = refl

@@ -1,12 +1,11 @@
 -- Written names, tried by computation.
-use Rattle.std.proofs.Common.{◌≡◌, ℕ, List, [], ◌∷◌, true, false, codes, Some, None, refl, map}
+use Rattle.std.proofs.Common.{◌≡◌, ℕ, [], ◌∷◌, false, codes, refl, map}
 use Rattle.std.specs.Fmt.{digits}
-use Rattle.tla_expr.specs.Tree.{Word}
 use Rattle.pcal_tree.specs.declared.mark.Fairness.TheVariants.{Unfair}
 use Rattle.pcal_tree.specs.Algorithm.{Name, skip, done, Process, processes, Algorithm}
 use Rattle.pcal_tree.specs.Outside.{Outside}
-use Rattle.pcal_tree.specs.Names.{Given, give, wanted, kept, taken_outside, naming, first_free}
-use Rattle.pcal_tree.proofs.Sample.{at, title, num, and_next, labelled, variable}
+use Rattle.pcal_tree.specs.Names.{give, wanted, kept, naming, first_free}
+use Rattle.pcal_tree.proofs.Sample.{title, num, and_next, labelled, variable}
 
 -- process P = e variable i = 0; begin start: skip; end process
 abbrev pub counter : Name → ℕ → Process

@@ -1,6 +1,6 @@
 -- Unknown names, wrong numbers of arguments and names declared twice, tried by computation.
-use Rattle.std.proofs.Common.{◌≡◌, ℕ, List, [], ◌∷◌, ◌++◌, false, codes, Some, None, refl}
-use Rattle.tla_token.specs.declared.rule.Rule.TheVariants.{Unknown, Arity, Duplicate}
+use Rattle.std.proofs.Common.{◌≡◌, ℕ, List, [], ◌∷◌, false, codes, Some, refl}
+use Rattle.tla_token.specs.declared.rule.Rule.TheVariants.{Unknown, Arity, Duplicate, Reserved}
 use Rattle.tla_token.specs.declared.rule.Refusal.{Refusal}
 use Rattle.tla_expr.specs.declared.op.Binder.TheVariants.{ForAll}
 use Rattle.tla_expr.specs.Tree.{Word, Tree, node, name, call, binding, no_trees, tree}
@@ -8,7 +8,8 @@ use Rattle.pcal_tree.specs.Algorithm.{no_binds, is, Name, Statement, await, with
 use Rattle.pcal_tree.specs.Offences.{first}
 use Rattle.pcal_tree.specs.Outside.{Outside}
 use Rattle.pcal_tree.specs.OffencesNames.{use_offences_of, repeated_names}
-use Rattle.pcal_tree.proofs.Sample.{at, title, x, y, num, sets, var, labelled, one_body}
+use Rattle.pcal_tree.specs.OffencesReserved.{reserved_declared}
+use Rattle.pcal_tree.proofs.Sample.{at, title, x, y, num, sets, labelled, one_body}
 use Rattle.pcal_tree.proofs.RowsNames.{counter}
 
 abbrev stands : ℕ → Statement → Statements → Statements
@@ -88,3 +89,18 @@ same_twice = record { name = title (codes "Two"); fair = false; globals = []; de
 
 second_process : repeated_names same_twice around ≡ record { rule = Duplicate; place = at 4 } ∷ []
 second_process = refl
+
+abbrev reserved : Statements → List Refusal
+reserved b = reserved_declared (one_body [] b).algorithm around
+
+-- A: with pc = 0 do skip; end with
+own_name : reserved (labelled (codes "A") (stands 2 (with (is (named 3 (codes "pc")) (num 0) no_binds) (stands 4 skip done)) done)) ≡ record { rule = Reserved; place = at 3 } ∷ []
+own_name = refl
+
+-- Init: skip
+label_with_an_own_name : reserved (labelled (codes "Init") (stands 2 skip done)) ≡ []
+label_with_an_own_name = refl
+
+-- Done: skip
+no_label : reserved (labelled (codes "Done") (stands 2 skip done)) ≡ record { rule = Reserved; place = at 1 } ∷ []
+no_label = refl

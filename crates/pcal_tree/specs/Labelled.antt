@@ -13,25 +13,26 @@ use Rattle.pcal_tree.specs.OffencesLabels.{Effects, nothing, Before, at_label, a
 
 -- ---- names of added labels
 
--- Lbl_1, Lbl_2, ..
-abbrev pub added_name : ℕ → Word
-added_name n = codes "Lbl_" ++ decimal n
+-- Lbl_1, Lbl_2, .. of the root Lbl_
+abbrev pub added_name : Word → ℕ → Word
+added_name root n = root ++ decimal n
 
 -- the first number from n on whose name no typed label has, looking at as many as there are typed labels and one more
-abbrev pub free_number : ℕ → List Word → ℕ → ℕ
-free_number zero typed n = n
-free_number (suc more) typed n = cond (is_among typed (added_name n)) (free_number more typed (suc n)) n
+abbrev pub free_number : ℕ → List Word → Word → ℕ → ℕ
+free_number zero typed root n = n
+free_number (suc more) typed root n = cond (is_among typed (added_name root n)) (free_number more typed root (suc n)) n
 
--- numbers that are left
+-- names that are left
 pub record Supply : Type 0 where
+  pub root : Word
   pub typed : List Word
   pub from : ℕ
 
 abbrev pub number : Supply → ℕ
-number s = free_number (length s.typed) s.typed s.from
+number s = free_number (length s.typed) s.typed s.root s.from
 
 abbrev pub rest_of : Supply → Supply
-rest_of s = record { typed = s.typed; from = suc (number s) }
+rest_of s = record { root = s.root; typed = s.typed; from = suc (number s) }
 
 abbrev pub after_one : Bool → Supply → Supply
 after_one b s = cond b (rest_of s) s
@@ -40,7 +41,7 @@ after_one b s = cond b (rest_of s) s
 
 -- the place of an added label is that of its statement
 abbrev pub labelled_if : Bool → Supply → Place → Statements → Statements
-labelled_if true s at rest = mark (record { word = added_name (number s); place = at }) Plain rest
+labelled_if true s at rest = mark (record { word = added_name s.root (number s); place = at }) Plain rest
 labelled_if false s at rest = rest
 
 -- inside a `with` no label can stand: what would need one there makes the `with` need it
@@ -54,7 +55,7 @@ needs_label E p at st = not p.labelled && not (is_empty (step_offences_here E p 
 abbrev pub before : Bool → Before → Before
 before b p = cond b at_label p
 
--- what follows takes the result and the numbers that are left
+-- what follows takes the result and the names that are left
 abbrev mutual
   pub add_inside : {R : Type 0} → Effects → Before → Supply → Statement → (Statement → Supply → R) → R
   add_inside E p s (branch e a b) go = add E (inside p.variables) s a (λ a' t. add E (inside p.variables) t b (λ b' u. go (branch e a' b') u))
@@ -106,11 +107,11 @@ labels_of_main (processes ps) = each (λ p. label_words p.body) ps
 abbrev pub typed_labels : Algorithm → List Word
 typed_labels a = each (λ d. label_words d.body) a.macros ++ (each (λ p. label_words p.body) a.procedures ++ labels_of_main a.main)
 
-abbrev pub with_labels : Algorithm → Algorithm
-with_labels a =
-    add_to_macros (record { typed = typed_labels a; from = 1 }) a.macros (λ ms s.
-    add_to_procedures (reverse a.macros) s a.procedures (λ ps t.
-    add_to_main (reverse a.macros) t a.main (λ m.
+abbrev pub with_labels : Word → Algorithm → Algorithm
+with_labels root a =
+    add_to_macros (record { root = root; typed = typed_labels a; from = 1 }) a.macros (λ ms s.
+    add_to_procedures (reverse ms) s a.procedures (λ ps t.
+    add_to_main (reverse ms) t a.main (λ m.
     record { name = a.name; fair = a.fair; globals = a.globals; definitions = a.definitions; macros = ms; procedures = ps; main = m })))
 
 abbrev pub is_alone : Main → Bool
@@ -121,6 +122,6 @@ abbrev pub no_words : List Word → Bool
 no_words [] = true
 no_words (w ∷ ws) = false
 
--- labels are added where they are forced, and in a uniprocess algorithm without any
+-- labels are added to every algorithm where they are forced, and in a uniprocess algorithm without any
 abbrev pub labelled : Bool → Algorithm → Algorithm
-labelled forced a = cond (forced || (is_alone a.main && no_words (typed_labels a))) (with_labels a) a
+labelled forced a = cond (forced || (is_alone a.main && no_words (typed_labels a))) (with_labels (codes "Lbl_") a) a

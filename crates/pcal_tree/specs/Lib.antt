@@ -27,3 +27,4 @@ pub mod OffencesLabels
 pub mod Labelled
 pub mod Outside
 pub mod OffencesNames
+pub mod OffencesReserved

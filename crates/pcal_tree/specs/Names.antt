@@ -1,10 +1,10 @@
 -- Written names: what a module's names would take from each other is told apart by numbers ("A PlusCal User's Manual", section 4, on names in the translation).
-use Rattle.std.specs.Prelude.{ℕ, zero, suc, length, nat_eq, List, [], ◌∷◌, ◌++◌, Bool, true, false, ◌&&◌, ◌||◌, cond, bytes_eq, codes, Option, Some, None, map}
+use Rattle.std.specs.Prelude.{ℕ, zero, suc, length, nat_eq, List, [], ◌∷◌, ◌++◌, Bool, true, false, ◌&&◌, ◌||◌, cond, bytes_eq, codes, map}
 use Rattle.std.specs.Fmt.{decimal}
 use Rattle.tla_token.specs.Signs.{is_among}
 use Rattle.tla_token.specs.Words.{is_reserved, is_own, is_standard}
-use Rattle.tla_expr.specs.Tree.{Word, Tree, Trees}
-use Rattle.pcal_tree.specs.Algorithm.{Name, Moves, no_moves, move, Binds, no_binds, one_of, is, Statement, assign, await, print, assert, skip, branch, either, with, loop, jump, macro, invoke, leave, Statements, done, then, mark, Branches, no_branches, or, Start, unset, equals, among, Declaration, Definition, Macro, Procedure, Process, Main, alone, processes, Algorithm, Routine, locals, procedure_routines, main_routines, Naming}
+use Rattle.tla_expr.specs.Tree.{Word}
+use Rattle.pcal_tree.specs.Algorithm.{Moves, no_moves, move, Binds, no_binds, one_of, is, Statement, assign, await, print, assert, skip, branch, either, with, loop, jump, macro, invoke, leave, Statements, done, then, mark, Branches, no_branches, or, Start, unset, equals, among, Declaration, Procedure, Process, Main, alone, processes, Algorithm, Routine, locals, procedure_routines, main_routines, Naming}
 use Rattle.pcal_tree.specs.Program.{words, declared}
 use Rattle.pcal_tree.specs.Offences.{each}
 use Rattle.pcal_tree.specs.OffencesLabels.{label_words}

@@ -1,11 +1,11 @@
 -- Names that are nothing where they stand, wrong numbers of arguments, and names declared twice ("A PlusCal User's Manual", sections 3.3 to 3.6).
-use Rattle.std.specs.Prelude.{ℕ, suc, length, nat_eq, List, [], ◌∷◌, ◌++◌, reverse, map, Bool, true, false, not, cond, bytes_eq, codes, Option, Some, None}
+use Rattle.std.specs.Prelude.{ℕ, suc, length, nat_eq, List, [], ◌∷◌, ◌++◌, reverse, map, Bool, not, cond, bytes_eq, codes, Option, Some, None}
 use Rattle.tla_token.specs.declared.place.Place.{Place}
 use Rattle.tla_token.specs.declared.rule.Rule.TheVariants.{Unknown, Duplicate, Arity}
 use Rattle.tla_token.specs.declared.rule.Refusal.{Refusal}
 use Rattle.tla_token.specs.Signs.{is_among}
 use Rattle.tla_expr.specs.Tree.{Word, Form, name, call, Tree, node, Trees, no_trees, tree, binders}
-use Rattle.pcal_tree.specs.Algorithm.{Name, Span, Moves, no_moves, move, Binds, no_binds, one_of, is, Statement, assign, await, print, assert, skip, branch, either, with, loop, jump, macro, invoke, leave, Statements, done, then, mark, Branches, no_branches, or, Start, unset, equals, among, Declaration, Definition, Macro, Procedure, Process, Main, alone, processes, Algorithm}
+use Rattle.pcal_tree.specs.Algorithm.{Name, Moves, no_moves, move, Binds, no_binds, one_of, is, Statement, assign, await, print, assert, skip, branch, either, with, loop, jump, macro, invoke, leave, Statements, done, then, mark, Branches, no_branches, or, Start, unset, equals, among, Declaration, Definition, Macro, Procedure, Process, Main, alone, processes, Algorithm}
 use Rattle.pcal_tree.specs.Program.{words, declared}
 use Rattle.pcal_tree.specs.Offences.{offence, offence_if, each}
 use Rattle.pcal_tree.specs.Outside.{Outside, unit_names}

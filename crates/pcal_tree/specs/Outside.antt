@@ -1,5 +1,5 @@
 -- What a module has outside its algorithm and the translation ("Specifying Systems", chapter 17).
-use Rattle.std.specs.Prelude.{List, [], ◌∷◌, ◌++◌, map}
+use Rattle.std.specs.Prelude.{List, [], ◌++◌, map}
 use Rattle.tla_token.specs.declared.place.Place.{Place}
 use Rattle.tla_expr.specs.Tree.{Word, Tree, node, Trees, no_trees, tree, binders}
 use Rattle.tla_value.specs.Definitions.{Definition}
