@@ -12,3 +12,4 @@ pub mod Except
 pub mod Matching
 pub mod Truth
 pub mod Items
+pub mod Begins

@@ -4,3 +4,4 @@ pub mod Contract
 pub mod Settled
 pub mod Written
 pub mod Ready
+pub mod Begins

@@ -1,17 +1,21 @@
 //! What the written actions say, as what functions without a body ensure.
 
-ghost use Rattle.std.specs.Prelude.{◌≡◌, ◌↔◌, List, Bool, true};
+ghost use Rattle.std.specs.Prelude.{◌≡◌, ◌↔◌, List, [], Bool, true};
 ghost use Rattle.tla_expr.specs.Tree.{Word};
-ghost use Rattle.tla_value.specs.Stops.{plain};
+ghost use Rattle.tla_value.specs.Stops.{Check, plain};
 ghost use Rattle.tla_value.specs.Meaning.{Env};
 ghost use Rattle.tla_value.specs.Related.{In};
 ghost use Rattle.module_text.specs.Truth.{told};
 ghost use Rattle.module_text.specs.Truth as written;
-ghost use Rattle.pcal_tree.specs.Algorithm.{Statements};
+ghost use Rattle.pcal_tree.specs.Algorithm.{Statements, Macro};
 ghost use Rattle.pcal_tree.specs.Scope.{State, Scope, got};
-ghost use Rattle.pcal_tree.specs.Run.{Rules, run, exit_to, unlabelled};
+ghost use Rattle.pcal_tree.specs.Run.{Rules, Follow, run, exit_to, unlabelled, with_macros};
+ghost use Rattle.pcal_tree.specs.Begin.{begin};
+ghost use Rattle.pcal_tree.specs.Expand.{expanded, written_out, expand_begin};
+ghost use Rattle.pcal_tree.proofs.ExpandRuns.{Calls, FineCall, Free};
 ghost use Rattle.action_builder.specs.Action.{Names, more, assigned_in, NotFalse, Agree};
 ghost use Rattle.action_builder.specs.Effects.{effects_of};
+ghost use Rattle.action_builder.specs.Begins.{BareBodies};
 ghost use Rattle.action_builder.specs.Contract.{Fits, NoTrouble, SomeTrouble, BadSomewhere, Tells, Built, verdict, to_end};
 ghost use Rattle.action_builder.specs.Settled.{Moving, settled, Tidy, CloseCourses, Does, Inner};
 ghost use Rattle.action_builder.specs.Written.{write};
@@ -74,4 +78,17 @@ pub fn items_read_what_is_assigned()
 pub fn settled_statements_have_the_same_ends()
     ensures { (M : Rules) (W : Moving) (f : Word → Bool) (sc : Scope) → Does M W (Inner f sc) (In f) → (here l : Word) (ss : Statements) → Tidy (In f) ss
         → CloseCourses (run M unlabelled (settled W here l ss) sc to_end) (run M here ss sc (exit_to M l)) }
+{}
+
+/// Statements with their macro calls written out take the same courses, in every scope and with anything behind.
+pub fn written_out_calls_take_the_same_courses()
+    ensures { (M : Rules) (ms : List Macro) (here : Word) (ss : Statements) → Calls (FineCall M.check ms) ss → (sc : Scope) → Free sc → (K : Follow)
+        → run (with_macros M ms) here ss sc K ≡ run (with_macros M []) here (expanded ms ss) sc K }
+{}
+
+/// A step from a label of the statements with macro calls written out begins with what the step from this label
+/// begins with, written out.
+pub fn written_out_steps_begin_alike()
+    ensures { (c : Check) (ms : List Macro) → BareBodies ms → (l here : Word) (ss : Statements) → Calls (FineCall c ms) ss → (x : Word)
+        → begin l here (expanded ms ss) x ≡ expand_begin (written_out ms) (begin l here ss x) }
 {}
