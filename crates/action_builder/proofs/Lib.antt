@@ -13,3 +13,4 @@ pub mod Matching
 pub mod Truth
 pub mod Items
 pub mod Begins
+pub mod Moved

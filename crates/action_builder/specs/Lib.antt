@@ -5,3 +5,4 @@ pub mod Settled
 pub mod Written
 pub mod Ready
 pub mod Begins
+pub mod Moved
