@@ -14,3 +14,4 @@ pub mod Truth
 pub mod Items
 pub mod Begins
 pub mod Moved
+pub mod Call

@@ -19,24 +19,32 @@ use Rattle.action_builder.specs.Contract.{to_end}
 use Rattle.action_builder.specs.Effects.{part_at}
 use Rattle.action_builder.specs.Moved.{name_at, text_at, one_move, jump_written, kept_field, stack_rest, fields_moved, return_moves, return_written, StandsAtPath, Machine}
 
-after_end : (o : Got State) → after o (λ u. ends u) ≡ finished o
+pub after_end : (o : Got State) → after o (λ u. ends u) ≡ finished o
 after_end (got u) = refl
 after_end (bad k) = refl
 
 -- ---- a jump
 
+pub pc_law : (M : Rules) (P : Program) (v : Actor) (at : Place) (l : Word) (sc : Scope) → StandsAtPath sc (index v.self) pc → (s : State) → M.check ≡ P.check → run M unlabelled (jump_written at l) sc to_end s ≡ finished (set_all P.check (setting at pc (index v.self) (text l) ∷ []) s)
+pc_law M P v at l sc h s q =
+    after_end (moved M.check (one_move (name_at at pc) (text_at at l)) sc s)
+    ∙ (λ i. finished (on ((h at s).0 i) (λ p. set_all (q i) (record { place = at; part = p; value = text l } ∷ []) s)))
+
 pub jump_law : (M : Rules) (P : Program) (v : Actor) (u : Routine) (l : Word) (sc : Scope) → StandsAtPath sc (index v.self) pc → (s : State) → M.check ≡ P.check → run M unlabelled (jump_written v.own.name.place (label_name P u l)) sc to_end s ≡ finished (jumped P v u l s)
-jump_law M P v u l sc h s q =
-    after_end (moved M.check (one_move (name_at v.own.name.place pc) (text_at v.own.name.place (label_name P u l))) sc s)
-    ∙ (λ i. finished (on ((h v.own.name.place s).0 i) (λ p. set_all (q i) (record { place = v.own.name.place; part = p; value = text (label_name P u l) } ∷ []) s)))
+jump_law M P v u l sc h s q = pc_law M P v v.own.name.place (label_name P u l) sc h s q
 
 -- ---- a return
 
-valued_list : (o : Option (List Value)) (at : Place) (go : List Value → Outcome) (k : Value → Got State) → valued (on_list at o go) k ≡ frames_at at o (λ vs. valued (go vs) k)
+pub on_valued_state : (o : Outcome) (k : Value → Got State) → on (valued o got) k ≡ valued o k
+on_valued_state (good w) k = refl
+on_valued_state (fault j r) k = refl
+on_valued_state (over r) k = refl
+
+pub valued_list : (o : Option (List Value)) (at : Place) (go : List Value → Outcome) (k : Value → Got State) → valued (on_list at o go) k ≡ frames_at at o (λ vs. valued (go vs) k)
 valued_list None at go k = refl
 valued_list (Some vs) at go k = refl
 
-valued_twice : (o : Outcome) (f : Value → Outcome) (k : Value → Got State) → valued (on_value o f) k ≡ valued o (λ v. valued (f v) k)
+pub valued_twice : (o : Outcome) (f : Value → Outcome) (k : Value → Got State) → valued (on_value o f) k ≡ valued o (λ v. valued (f v) k)
 valued_twice (good v) f k = refl
 valued_twice (fault j p) f k = refl
 valued_twice (over p) f k = refl
@@ -69,54 +77,41 @@ own_law P v p sc m q at s front frames h [] e go =
     ∙ rest_law P v p sc m at s (λ w. go (setting at stack (index v.self) w ∷ []))
     ∙ h (λ vs. valued (tailed P.check at vs) (λ w. go (setting at stack (index v.self) w ∷ [])))
     ∙ (λ i. valued (q i at (seq_from frames)) (λ w. go (setting at stack (index v.self) w ∷ [])))
-  where
-    on_valued_state : (o : Outcome) (k : Value → Got State) → on (valued o got) k ≡ valued o k
-    on_valued_state (good w) k = refl
-    on_valued_state (fault j r) k = refl
-    on_valued_state (over r) k = refl
 own_law P v p sc m q at s front frames h (x ∷ xs) e go =
     (λ i. on ((e.0 at s).0 i) (λ r. on (valued (eval P.check (kept_field at x) (sc.env s)).value got) (λ w. settings P.check (fields_moved at xs (one_move (name_at at stack) (stack_rest at))) sc s (λ rest. go (record { place = at; part = r; value = w } ∷ rest)))))
     ∙ on_valued_state (eval P.check (kept_field at x) (sc.env s)).value (λ w. settings P.check (fields_moved at xs (one_move (name_at at stack) (stack_rest at))) sc s (λ rest. go (setting at x (local_index v p) w ∷ rest)))
     ∙ field_law P v p sc m at x s (λ w. settings P.check (fields_moved at xs (one_move (name_at at stack) (stack_rest at))) sc s (λ rest. go (setting at x (local_index v p) w ∷ rest)))
     ∙ h (λ vs. valued (headed at vs) (λ f. valued (applied at f (text x)) (λ w. settings P.check (fields_moved at xs (one_move (name_at at stack) (stack_rest at))) sc s (λ rest. go (setting at x (local_index v p) w ∷ rest)))))
     ∙ (λ i. valued (applied at front (text x)) (λ w. own_law P v p sc m q at s front frames h xs e.1 (λ rest. go (setting at x (local_index v p) w ∷ rest)) i))
-  where
-    on_valued_state : (o : Outcome) (k : Value → Got State) → on (valued o got) k ≡ valued o k
-    on_valued_state (good w) k = refl
-    on_valued_state (fault j r) k = refl
-    on_valued_state (over r) k = refl
+
+-- the assignments of a return behind that of pc
+abbrev others : Program → Actor → Routine → Scope → Place → State → Value → Got State
+others P v p sc at s w =
+    settings P.check (fields_moved at (written_all P p (locals p)) (one_move (name_at at stack) (stack_rest at))) sc s (λ rest. set_all P.check (setting at pc (index v.self) w ∷ rest) s)
 
 -- the assignment of a return, kinds and places of faults included
 pub return_law : (P : Program) (v : Actor) (p : Routine) (sc : Scope) → Machine P v p sc → P.check ≡ plain → (at : Place) (s : State) → moved P.check (return_moves P p at) sc s ≡ returned P v at p s
 return_law P v p sc m q at s = first ∙ by (read_at at (index v.self) (s stack)) refl
   where
-    more : Value → Got State
-    more w = settings P.check (fields_moved at (written_all P p (locals p)) (one_move (name_at at stack) (stack_rest at))) sc s (λ rest. set_all P.check (setting at pc (index v.self) w ∷ rest) s)
-
-    on_valued_state : (o : Outcome) (k : Value → Got State) → on (valued o got) k ≡ valued o k
-    on_valued_state (good w) k = refl
-    on_valued_state (fault j r) k = refl
-    on_valued_state (over r) k = refl
-
-    first : moved P.check (return_moves P p at) sc s ≡ on_stack v at s (λ frames. valued (headed at frames) (λ front. valued (applied at front (text pc)) (λ w. settings P.check (fields_moved at (written_all P p (locals p)) (one_move (name_at at stack) (stack_rest at))) sc s (λ rest. set_all P.check (setting at pc (index v.self) w ∷ rest) s))))
+    first : moved P.check (return_moves P p at) sc s ≡ on_stack v at s (λ frames. valued (headed at frames) (λ front. valued (applied at front (text pc)) (others P v p sc at s)))
     first =
         (λ i. on ((m.pc at s).0 i) (λ r. on (valued (eval P.check (kept_field at pc) (sc.env s)).value got) (λ w. settings P.check (fields_moved at (written_all P p (locals p)) (one_move (name_at at stack) (stack_rest at))) sc s (λ rest. set_all P.check (record { place = at; part = r; value = w } ∷ rest) s))))
-        ∙ on_valued_state (eval P.check (kept_field at pc) (sc.env s)).value (λ w. settings P.check (fields_moved at (written_all P p (locals p)) (one_move (name_at at stack) (stack_rest at))) sc s (λ rest. set_all P.check (setting at pc (index v.self) w ∷ rest) s))
-        ∙ field_law P v p sc m at pc s (λ w. settings P.check (fields_moved at (written_all P p (locals p)) (one_move (name_at at stack) (stack_rest at))) sc s (λ rest. set_all P.check (setting at pc (index v.self) w ∷ rest) s))
+        ∙ on_valued_state (eval P.check (kept_field at pc) (sc.env s)).value (others P v p sc at s)
+        ∙ field_law P v p sc m at pc s (others P v p sc at s)
 
-    by_list : (st : Value) → read_at at (index v.self) (s stack) ≡ good st → (o : Option (List Value)) → sequence_of st ≡ o → frames_at at o (λ frames. valued (headed at frames) (λ front. valued (applied at front (text pc)) (λ w. settings P.check (fields_moved at (written_all P p (locals p)) (one_move (name_at at stack) (stack_rest at))) sc s (λ rest. set_all P.check (setting at pc (index v.self) w ∷ rest) s)))) ≡ frames_at at o (λ frames. restored P v at p frames s)
+    by_list : (st : Value) → read_at at (index v.self) (s stack) ≡ good st → (o : Option (List Value)) → sequence_of st ≡ o → frames_at at o (λ frames. valued (headed at frames) (λ front. valued (applied at front (text pc)) (others P v p sc at s))) ≡ frames_at at o (λ frames. restored P v at p frames s)
     by_list st e None f = refl
     by_list st e (Some []) f = refl
     by_list st e (Some (front ∷ frames)) f = λ i. valued (applied at front (text pc)) (λ w. own_law P v p sc m q at s front frames (λ go. (λ j. valued (e j) (λ st'. frames_at at (sequence_of st') go)) ∙ (λ j. frames_at at (f j) go)) (written_all P p (locals p)) m.own (λ rest. set_all P.check (setting at pc (index v.self) w ∷ rest) s) i)
 
-    by : (o : Outcome) → read_at at (index v.self) (s stack) ≡ o → on_stack v at s (λ frames. valued (headed at frames) (λ front. valued (applied at front (text pc)) (λ w. settings P.check (fields_moved at (written_all P p (locals p)) (one_move (name_at at stack) (stack_rest at))) sc s (λ rest. set_all P.check (setting at pc (index v.self) w ∷ rest) s)))) ≡ returned P v at p s
+    by : (o : Outcome) → read_at at (index v.self) (s stack) ≡ o → on_stack v at s (λ frames. valued (headed at frames) (λ front. valued (applied at front (text pc)) (others P v p sc at s))) ≡ returned P v at p s
     by (good st) e =
-        (λ i. valued (e i) (λ st'. frames_at at (sequence_of st') (λ frames. valued (headed at frames) (λ front. valued (applied at front (text pc)) (λ w. settings P.check (fields_moved at (written_all P p (locals p)) (one_move (name_at at stack) (stack_rest at))) sc s (λ rest. set_all P.check (setting at pc (index v.self) w ∷ rest) s))))))
+        (λ i. valued (e i) (λ st'. frames_at at (sequence_of st') (λ frames. valued (headed at frames) (λ front. valued (applied at front (text pc)) (others P v p sc at s)))))
         ∙ by_list st e (sequence_of st) refl
         ∙ sym (λ i. valued (e i) (λ st'. frames_at at (sequence_of st') (λ frames. restored P v at p frames s)))
     by (fault j r) e =
-        (λ i. valued (e i) (λ st'. frames_at at (sequence_of st') (λ frames. valued (headed at frames) (λ front. valued (applied at front (text pc)) (λ w. settings P.check (fields_moved at (written_all P p (locals p)) (one_move (name_at at stack) (stack_rest at))) sc s (λ rest. set_all P.check (setting at pc (index v.self) w ∷ rest) s))))))
+        (λ i. valued (e i) (λ st'. frames_at at (sequence_of st') (λ frames. valued (headed at frames) (λ front. valued (applied at front (text pc)) (others P v p sc at s)))))
         ∙ sym (λ i. valued (e i) (λ st'. frames_at at (sequence_of st') (λ frames. restored P v at p frames s)))
     by (over r) e =
-        (λ i. valued (e i) (λ st'. frames_at at (sequence_of st') (λ frames. valued (headed at frames) (λ front. valued (applied at front (text pc)) (λ w. settings P.check (fields_moved at (written_all P p (locals p)) (one_move (name_at at stack) (stack_rest at))) sc s (λ rest. set_all P.check (setting at pc (index v.self) w ∷ rest) s))))))
+        (λ i. valued (e i) (λ st'. frames_at at (sequence_of st') (λ frames. valued (headed at frames) (λ front. valued (applied at front (text pc)) (others P v p sc at s)))))
         ∙ sym (λ i. valued (e i) (λ st'. frames_at at (sequence_of st') (λ frames. restored P v at p frames s)))

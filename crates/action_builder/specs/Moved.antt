@@ -105,3 +105,9 @@ Initials P v p at sc place initial [] = Unit {0}
 Initials P v p at sc place initial (d ∷ ds) =
     ((s : State) (go : Place → Value → Got State) → initial_value P v p at d.start s go ≡ on (value_of P.check (initial d) sc s) (go (place d)))
     × Initials P v p at sc place initial ds
+
+-- an argument for each parameter
+abbrev pub AsMany : List Word → Trees → Type 0
+AsMany [] no_trees = Unit {0}
+AsMany (x ∷ xs) (tree t ts) = AsMany xs ts
+AsMany _ _ = ⊥
