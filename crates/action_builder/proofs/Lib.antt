@@ -15,3 +15,4 @@ pub mod Items
 pub mod Begins
 pub mod Moved
 pub mod Call
+pub mod Prepared

@@ -6,3 +6,4 @@ pub mod Written
 pub mod Ready
 pub mod Begins
 pub mod Moved
+pub mod Prepared
