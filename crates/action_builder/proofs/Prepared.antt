@@ -17,7 +17,7 @@ use Rattle.pcal_tree.proofs.GraftRuns.{Meets, Clean, graft_runs}
 use Rattle.pcal_tree.proofs.ExpandRuns.{Free, Any, Calls, FineCall, through_meets, expansion}
 use Rattle.action_builder.specs.Contract.{to_end}
 use Rattle.action_builder.specs.Effects.{part_at}
-use Rattle.action_builder.specs.Settled.{Moving, settled, Tidy, Close, CloseCourses, Does, Inner}
+use Rattle.action_builder.specs.Settled.{Moving, settled, Callable, Tidy, Close, CloseCourses, Does, Inner}
 use Rattle.action_builder.specs.Moved.{StandsAtPath}
 use Rattle.action_builder.specs.Prepared.{prepared, Whole, own_scope, own_path}
 use Rattle.action_builder.proofs.Settle.{settle_in}
@@ -59,9 +59,9 @@ own_stands c self v own sc h x reads at s = (own_parts c self v own sc h x at s,
     by false = reads at s
 
 -- from the prepared statements to the statements as they stand
-pub prepared_law : (M : Rules) (W : Moving) (f : Word → Bool) (self : Word) (v : Value) (own : Word → Bool) (sc : Scope) (ms : List Macro) → Whole self v sc → Does (with_macros M []) W (Inner f (own_scope M.check self own sc)) (In f) → (here l : Word) (ss : Statements) → Calls (FineCall M.check ms) ss → Tidy (In f) (expanded ms ss) → Clean M.check (owned self own) Any (settled W here l (expanded ms ss)) → (s : State) →
+pub prepared_law : (M : Rules) (W : Moving) (f : Word → Bool) (g : Callable) (self : Word) (v : Value) (own : Word → Bool) (sc : Scope) (ms : List Macro) → Whole self v sc → Does (with_macros M []) W (Inner f (own_scope M.check self own sc)) (In f) g → (here l : Word) (ss : Statements) → Calls (FineCall M.check ms) ss → Tidy (In f) g (expanded ms ss) → Clean M.check (owned self own) Any (settled W here l (expanded ms ss)) → (s : State) →
     Close (Has (run (with_macros M []) unlabelled (prepared W self own here l ms ss) sc to_end s)) (Has (run (with_macros M ms) here ss (own_scope M.check self own sc) (exit_to M l) s))
-prepared_law M W f self v own sc ms h d here l ss calls tidy clean s =
+prepared_law M W f g self v own sc ms h d here l ss calls tidy clean s =
     subst (λ F. Close (Has (F s)) (Has (run (with_macros M ms) here ss (own_scope M.check self own sc) (exit_to M l) s))) (sym (localised (with_macros M []) self v own unlabelled (settled W here l (expanded ms ss)) sc h clean to_end))
     (subst (λ F. Close (Has (run (with_macros M []) unlabelled (settled W here l (expanded ms ss)) (own_scope M.check self own sc) to_end s)) (Has (F s))) (sym (expansion M ms here ss calls (own_scope M.check self own sc) (own_free M.check self v own sc h) (exit_to M l)))
-    (settle_in (with_macros M []) W f (own_scope M.check self own sc) d here l (expanded ms ss) tidy s))
+    (settle_in (with_macros M []) W f g (own_scope M.check self own sc) d here l (expanded ms ss) tidy s))

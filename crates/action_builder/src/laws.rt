@@ -17,7 +17,7 @@ ghost use Rattle.action_builder.specs.Action.{Names, more, assigned_in, NotFalse
 ghost use Rattle.action_builder.specs.Effects.{effects_of};
 ghost use Rattle.action_builder.specs.Begins.{BareBodies};
 ghost use Rattle.action_builder.specs.Contract.{Fits, NoTrouble, SomeTrouble, BadSomewhere, Tells, Built, verdict, to_end};
-ghost use Rattle.action_builder.specs.Settled.{Moving, settled, Tidy, CloseCourses, Does, Inner};
+ghost use Rattle.action_builder.specs.Settled.{Moving, settled, Callable, Tidy, CloseCourses, Does, Inner};
 ghost use Rattle.action_builder.specs.Written.{write};
 ghost use Rattle.action_builder.specs.Ready.{Readable, IsNotFalse, holds_on, unlimited, Ready, StoppedSomewhere};
 
@@ -76,7 +76,7 @@ pub fn items_read_what_is_assigned()
 /// Statements whose jumps, loops, calls and returns are written as assignments have the ends of the statements
 /// as they stand, and trouble where these have trouble.
 pub fn settled_statements_have_the_same_ends()
-    ensures { (M : Rules) (W : Moving) (f : Word → Bool) (sc : Scope) → Does M W (Inner f sc) (In f) → (here l : Word) (ss : Statements) → Tidy (In f) ss
+    ensures { (M : Rules) (W : Moving) (f : Word → Bool) (g : Callable) (sc : Scope) → Does M W (Inner f sc) (In f) g → (here l : Word) (ss : Statements) → Tidy (In f) g ss
         → CloseCourses (run M unlabelled (settled W here l ss) sc to_end) (run M here ss sc (exit_to M l)) }
 {}
 
