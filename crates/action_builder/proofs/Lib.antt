@@ -16,3 +16,4 @@ pub mod Begins
 pub mod Moved
 pub mod Call
 pub mod Prepared
+pub mod Rules

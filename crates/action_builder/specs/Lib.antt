@@ -7,3 +7,4 @@ pub mod Ready
 pub mod Begins
 pub mod Moved
 pub mod Prepared
+pub mod Rules
