@@ -17,3 +17,4 @@ pub mod Moved
 pub mod Call
 pub mod Prepared
 pub mod Rules
+pub mod Steps
