@@ -111,6 +111,10 @@ part_at x path = record { variable = x; path = path }
 abbrev pub Named : Scope → Type 0
 Named sc = (x : Word) (at : Place) (s : State) → (path : List Value) × (sc.part x at s ≡ got (part_at x path))
 
+-- each name is a variable
+abbrev pub IsPlain : Scope → Type 0
+IsPlain sc = (x : Word) (at : Place) (s : State) → sc.part x at s ≡ got (part_at x [])
+
 -- no jump, label, loop, macro call, call or return
 abbrev mutual
   pub SettledOne : Statement → Type 0

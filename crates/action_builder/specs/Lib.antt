@@ -8,3 +8,4 @@ pub mod Begins
 pub mod Moved
 pub mod Prepared
 pub mod Rules
+pub mod Step

@@ -5,7 +5,8 @@ use Rattle.tla_expr.specs.Tree.{Word, Tree, Trees, no_trees, tree}
 use Rattle.pcal_tree.specs.Algorithm.{Span, Declaration, Routine, Statements, done, then, either, no_branches, procedure_routines}
 use Rattle.pcal_tree.specs.Scope.{Scope}
 use Rattle.pcal_tree.specs.Program.{Program, Actor, written_all}
-use Rattle.pcal_tree.specs.Calls.{label_name, named}
+use Rattle.pcal_tree.specs.Run.{Rules, with_macros}
+use Rattle.pcal_tree.specs.Calls.{label_name, named, rules_of}
 use Rattle.action_builder.specs.Settled.{Moving, Callable, Inner}
 use Rattle.action_builder.specs.Moved.{jump_written, return_written, call_written, Machine, Initials}
 
@@ -48,3 +49,7 @@ pub record Machines (P : Program) (v : Actor) (u : Routine) (I : Written) (sc : 
 -- also with names of f bound
 abbrev pub MachinesWithin : Program → Actor → Routine → Written → (Word → Bool) → Scope → Type 0
 MachinesWithin P v u I f sc = (inner : Scope) → Inner f sc inner → Machines P v u I inner
+
+-- the rules of a step, without macros
+abbrev pub base_rules : Program → Actor → Routine → Rules
+base_rules P v u = with_macros (rules_of P v u) []
