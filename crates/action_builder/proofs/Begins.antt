@@ -2,7 +2,7 @@
 use Rattle.std.proofs.Common.{◌≡◌, List, [], ◌∷◌, Bool, true, false, cond, bytes_eq}
 use Rattle.tla_expr.specs.Tree.{Word, Trees, Graft}
 use Rattle.tla_value.specs.Stops.{Check}
-use Rattle.pcal_tree.specs.Algorithm.{Span, Statement, assign, await, print, assert, skip, branch, either, with, loop, jump, macro, invoke, leave, Statements, done, then, mark, Branches, no_branches, or, Macro}
+use Rattle.pcal_tree.specs.Algorithm.{Span, Statement, branch, either, with, loop, macro, Statements, done, then, mark, Branches, no_branches, or, Macro}
 use Rattle.pcal_tree.specs.Run.{arguments}
 use Rattle.pcal_tree.specs.Begin.{begin}
 use Rattle.pcal_tree.specs.Expand.{graft_one, graft_all, graft_some, joined, Writing, expand_one, expand, expand_some, written_out, expanded, expand_begin}

@@ -1,5 +1,5 @@
 -- The assignments written for a call have the ends of the call, and trouble where it has trouble.
-use Rattle.std.proofs.Common.{◌≡◌, List, [], ◌∷◌, ◌++◌, map, codes, Option, Some, None, ◌⊎◌, refl, sym, ◌∙◌, ap, subst, inl, inr, ⊎_elim}
+use Rattle.std.proofs.Common.{◌≡◌, List, [], ◌∷◌, ◌++◌, ◌⊎◌, refl, sym, ◌∙◌, ap, subst, inl, inr, ⊎_elim}
 use Rattle.tla_token.specs.declared.place.Place.{Place}
 use Rattle.tla_expr.specs.Tree.{Word, Each, name, Tree, node, Trees, no_trees, tree}
 use Rattle.tla_value.specs.Value.{Value, text, Outcome, good, fault, over}
@@ -8,14 +8,14 @@ use Rattle.tla_value.specs.Stops.{Check, plain, on_value, on_list}
 use Rattle.tla_value.specs.Meaning.{Env, Den, on_all, eval, evals}
 use Rattle.tla_value.proofs.OrderFuns.{sequence_of_seq}
 use Rattle.pcal_tree.specs.Algorithm.{Declaration, Routine, locals, Moves, Statements, then, assign}
-use Rattle.pcal_tree.specs.Scope.{State, Trouble, faulty, beyond, Got, got, bad, on, valued, all_valued, Scope, root_place, place_of, places_of, value_of}
+use Rattle.pcal_tree.specs.Scope.{State, faulty, beyond, Got, got, bad, on, valued, all_valued, Scope, root_place, place_of, places_of, value_of}
 use Rattle.pcal_tree.specs.Assign.{Setting, set_all, settings, moved}
-use Rattle.pcal_tree.specs.Run.{Course, Has, after, Rules, unlabelled, run}
-use Rattle.pcal_tree.specs.Program.{Program, Actor, index, local_index, read_at, written, declared, written_all, pc, stack}
-use Rattle.pcal_tree.specs.Calls.{setting, all_read, frame, frames_at, on_stack, argument_settings, initial_value, variables_started, entered, label_value, label_name, first_label, finished}
+use Rattle.pcal_tree.specs.Run.{Has, after, Rules, unlabelled, run}
+use Rattle.pcal_tree.specs.Program.{Program, Actor, index, local_index, read_at, written, written_all, pc, stack}
+use Rattle.pcal_tree.specs.Calls.{setting, all_read, frame, on_stack, argument_settings, variables_started, entered, label_value, label_name, first_label, finished}
 use Rattle.action_builder.specs.Action.{IsBad}
 use Rattle.action_builder.specs.Contract.{to_end}
-use Rattle.action_builder.specs.Settled.{Outcomes, AnyBad, Close}
+use Rattle.action_builder.specs.Settled.{Close}
 use Rattle.action_builder.specs.Moved.{name_at, spot, one_move, jump_written, names_at, stack_pushed, arguments_moved, variables_written, call_written, StandsAtPath, Machine, Initials, AsMany}
 use Rattle.action_builder.proofs.Den.{on_twice, on_valued, on_all_valued}
 use Rattle.action_builder.proofs.Settle.{close_refl}

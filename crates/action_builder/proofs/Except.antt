@@ -1,11 +1,11 @@
 -- The written right side of a variable has the value that its assignments give it.
 use Rattle.std.proofs.Common.{◌≡◌, List, [], ◌∷◌, ◌++◌, Bool, true, false, cond, bytes_eq, refl, sym, ◌∙◌, ap}
 use Rattle.tla_token.specs.declared.place.Place.{Place}
-use Rattle.tla_expr.specs.Tree.{Word, apply, select, name, strict, Slot, Tree, node, Trees, no_trees, tree}
+use Rattle.tla_expr.specs.Tree.{Word, apply, select, name, strict, Tree, node, Trees, no_trees, tree}
 use Rattle.tla_value.specs.Value.{Value, text, Outcome, good, fault, over}
 use Rattle.tla_value.specs.Stops.{Check, plain, on_value}
-use Rattle.tla_value.specs.Strict.{changed_at, next_slot, updated, strict_value}
-use Rattle.tla_value.specs.Meaning.{Env, Den, just, on_all, eval, evals}
+use Rattle.tla_value.specs.Strict.{changed_at, next_slot, updated}
+use Rattle.tla_value.specs.Meaning.{Env, just, on_all, eval, evals}
 use Rattle.pcal_tree.specs.Algorithm.{nowhere, Moves, no_moves, move}
 use Rattle.pcal_tree.specs.Scope.{State, Got, got, bad, on, valued, all_valued, Part, deeper, Scope, reach, reach_path, root_place, value_of}
 use Rattle.action_builder.specs.Action.{all_changes, Change, Parts, no_parts, part, changes_for, folded, value_for}

@@ -1,23 +1,21 @@
 -- The assignments written for a jump, a return and a call do what these do.
-use Rattle.std.proofs.Common.{◌≡◌, List, [], ◌∷◌, ◌++◌, codes, Option, Some, None, refl, sym, ◌∙◌, ap}
+use Rattle.std.proofs.Common.{◌≡◌, List, [], ◌∷◌, ◌++◌, Option, Some, None, refl, sym, ◌∙◌}
 use Rattle.tla_token.specs.declared.place.Place.{Place}
-use Rattle.tla_expr.specs.Tree.{Word, Each, Tree, node, no_trees, tree}
-use Rattle.tla_value.specs.declared.fault.FaultKind.TheVariants.{NotSequence, EmptySequence}
+use Rattle.tla_expr.specs.Tree.{Word, Each}
 use Rattle.tla_value.specs.Value.{Value, text, Outcome, good, fault, over}
 use Rattle.tla_value.specs.Order.{seq_from, sequence_of}
-use Rattle.tla_value.specs.Stops.{Check, plain, on_value, on_list}
+use Rattle.tla_value.specs.Stops.{plain, on_value, on_list}
 use Rattle.tla_value.specs.Strict.{applied}
 use Rattle.tla_value.specs.Standard.{headed, tailed}
-use Rattle.tla_value.specs.Meaning.{Env, called, eval}
-use Rattle.pcal_tree.specs.Algorithm.{Routine, locals, Moves, no_moves, move}
-use Rattle.pcal_tree.specs.Scope.{State, Got, got, bad, faulty, on, valued, Scope, value_of}
+use Rattle.tla_value.specs.Meaning.{called, eval}
+use Rattle.pcal_tree.specs.Algorithm.{Routine, locals}
+use Rattle.pcal_tree.specs.Scope.{State, Got, got, bad, on, valued, Scope}
 use Rattle.pcal_tree.specs.Assign.{Setting, set_all, settings, moved}
-use Rattle.pcal_tree.specs.Run.{Course, ends, after, Rules, unlabelled, run}
+use Rattle.pcal_tree.specs.Run.{ends, after, Rules, unlabelled, run}
 use Rattle.pcal_tree.specs.Program.{Program, Actor, index, local_index, read_at, written_all, pc, stack}
 use Rattle.pcal_tree.specs.Calls.{label_name, setting, jumped, frames_at, on_stack, fields_read, part_settings, restored, returned, finished}
 use Rattle.action_builder.specs.Contract.{to_end}
-use Rattle.action_builder.specs.Effects.{part_at}
-use Rattle.action_builder.specs.Moved.{name_at, text_at, one_move, jump_written, kept_field, stack_rest, fields_moved, return_moves, return_written, StandsAtPath, Machine}
+use Rattle.action_builder.specs.Moved.{name_at, text_at, one_move, jump_written, kept_field, stack_rest, fields_moved, return_moves, StandsAtPath, Machine}
 
 pub after_end : (o : Got State) → after o (λ u. ends u) ≡ finished o
 after_end (got u) = refl

@@ -1,23 +1,23 @@
 -- The prepared statements have the ends of the statements as they stand, and trouble where these have trouble.
-use Rattle.std.proofs.Common.{◌≡◌, List, [], ◌∷◌, Bool, true, false, cond, Some, None, refl, sym, ◌∙◌, ap, subst}
+use Rattle.std.proofs.Common.{◌≡◌, List, [], ◌∷◌, Bool, true, false, cond, Some, None, refl, sym, ◌∙◌, subst}
 use Rattle.tla_token.specs.declared.place.Place.{Place}
 use Rattle.tla_expr.specs.Tree.{Word, name, node, no_trees}
 use Rattle.tla_value.specs.Value.{Value, Outcome, good, fault, over}
 use Rattle.tla_value.specs.Stops.{Check, on_value, tested, sense_of}
 use Rattle.tla_value.specs.Strict.{applied}
-use Rattle.tla_value.specs.Meaning.{just, on_all, eval}
+use Rattle.tla_value.specs.Meaning.{just, eval}
 use Rattle.tla_value.specs.Grafts.{owned, own_part, read_tree}
 use Rattle.tla_value.specs.Related.{In}
 use Rattle.pcal_tree.specs.Algorithm.{Statements, Macro}
-use Rattle.pcal_tree.specs.Scope.{State, Got, got, on, valued, all_valued, deeper, Scope, reach, reach_in, through}
+use Rattle.pcal_tree.specs.Scope.{State, got, on, valued, all_valued, deeper, Scope, reach_in}
 use Rattle.pcal_tree.specs.Program.{read_at}
 use Rattle.pcal_tree.specs.Run.{Has, Follow, Rules, unlabelled, run, with_macros, exit_to}
 use Rattle.pcal_tree.specs.Expand.{graft_all, expanded}
-use Rattle.pcal_tree.proofs.GraftRuns.{Meets, Clean, graft_runs}
+use Rattle.pcal_tree.proofs.GraftRuns.{Clean, graft_runs}
 use Rattle.pcal_tree.proofs.ExpandRuns.{Free, Any, Calls, FineCall, through_meets, expansion}
 use Rattle.action_builder.specs.Contract.{to_end}
 use Rattle.action_builder.specs.Effects.{part_at}
-use Rattle.action_builder.specs.Settled.{Moving, settled, Callable, Tidy, Close, CloseCourses, Does, Inner}
+use Rattle.action_builder.specs.Settled.{Moving, settled, Callable, Tidy, Close, Does, Inner}
 use Rattle.action_builder.specs.Moved.{StandsAtPath}
 use Rattle.action_builder.specs.Prepared.{prepared, Whole, own_scope, own_path}
 use Rattle.action_builder.proofs.Settle.{settle_in}

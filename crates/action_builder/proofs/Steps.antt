@@ -1,20 +1,20 @@
 -- The items written for a step are true of the step's ends, and fault as the step does.
-use Rattle.std.proofs.Common.{◌≡◌, List, [], Bool, true, false, ◌↔◌, refl, sym, ◌∙◌, ap, subst}
+use Rattle.std.proofs.Common.{◌≡◌, List, [], Bool, true, ◌↔◌}
 use Rattle.tla_expr.specs.Tree.{Word}
 use Rattle.tla_value.specs.Value.{Value}
 use Rattle.tla_value.specs.Stops.{plain}
 use Rattle.tla_value.specs.Meaning.{Env}
-use Rattle.module_text.specs.Truth.{Verdict, told, Tells}
+use Rattle.module_text.specs.Truth.{told, Tells}
 use Rattle.pcal_tree.specs.Algorithm.{Statements, Macro}
 use Rattle.pcal_tree.specs.Scope.{State, Trouble, Got, got, bad, Scope}
-use Rattle.pcal_tree.specs.Run.{Has, Rules, unlabelled, run, with_macros, exit_to}
-use Rattle.action_builder.specs.Action.{Names, more, assigned_in, IsBad, Agree}
+use Rattle.pcal_tree.specs.Run.{Has, Rules, unlabelled, run, with_macros}
+use Rattle.action_builder.specs.Action.{assigned_in, IsBad}
 use Rattle.action_builder.specs.Effects.{effects_of}
-use Rattle.action_builder.specs.Contract.{to_end, Fits}
+use Rattle.action_builder.specs.Contract.{to_end}
 use Rattle.action_builder.specs.Settled.{Moving, Callable, Close}
 use Rattle.action_builder.specs.Written.{write}
 use Rattle.action_builder.specs.Ready.{Readable, IsNotFalse, holds_on, unlimited, Ready, StoppedSomewhere}
-use Rattle.action_builder.specs.Prepared.{prepared, own_scope, none, Stepped, Prepares, StepFits}
+use Rattle.action_builder.specs.Prepared.{prepared, none, Stepped, Prepares, StepFits}
 use Rattle.action_builder.proofs.Prepared.{prepared_law}
 use Rattle.action_builder.proofs.Items.{items_exactly, items_fit, fit_items, items_stop}
 

@@ -8,7 +8,7 @@ use Rattle.tla_value.specs.Stops.{Check}
 use Rattle.tla_value.specs.Strict.{changed_at}
 use Rattle.pcal_tree.specs.Algorithm.{Moves, no_moves, move, Binds, no_binds, one_of, is, Statement, Statements, Branches, no_branches, or}
 use Rattle.pcal_tree.specs.Algorithm as Source
-use Rattle.pcal_tree.specs.Scope.{State, Part, Scope, Got, got, bad, faulty, on, valued, reach, root_place, value_of, test, members}
+use Rattle.pcal_tree.specs.Scope.{State, Part, Scope, got, bad, faulty, on, valued, reach, root_place, value_of, test, members}
 use Rattle.action_builder.specs.Action.{Exp, Change, Parts, no_parts, part, Effect, assign, await, branch, either, choose, Effects, done, then, Ways, no_ways, way}
 
 -- ---- assignments

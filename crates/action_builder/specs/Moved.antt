@@ -1,12 +1,12 @@
 -- The assignments that are written for jumps and returns, and for calls ("A PlusCal User's Manual", sections 3.2.9 and 3.4).
-use Rattle.std.specs.Prelude.{◌≡◌, List, [], ◌∷◌, ◌++◌, codes, Option, Some, None}
+use Rattle.std.specs.Prelude.{◌≡◌, List, [], ◌∷◌, codes, Some}
 use Rattle.tla_token.specs.declared.place.Place.{Place}
 use Rattle.tla_expr.specs.declared.op.Op.TheVariants.{Concat}
 use Rattle.tla_expr.specs.Tree.{Word, Each, quote, name, call, strict, operator, tuple, fields, select, Tree, node, Trees, no_trees, tree}
 use Rattle.tla_value.specs.Value.{Value}
 use Rattle.tla_value.specs.Stops.{sense_of}
 use Rattle.tla_value.specs.Standard.{first_of, rest_of, standard_sense}
-use Rattle.pcal_tree.specs.Algorithm.{Name, Span, Declaration, Routine, locals, Moves, no_moves, move, Statements, done, then, assign}
+use Rattle.pcal_tree.specs.Algorithm.{Span, Declaration, Routine, locals, Moves, no_moves, move, Statements, done, then, assign}
 use Rattle.pcal_tree.specs.Scope.{State, Got, got, on, Scope, root_place, value_of}
 use Rattle.pcal_tree.specs.Program.{Program, Actor, index, local_index, read_at, written, written_all, pc, stack}
 use Rattle.pcal_tree.specs.Calls.{label_name, first_label, initial_value, frame_fields}

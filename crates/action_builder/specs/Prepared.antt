@@ -1,6 +1,6 @@
 -- What the statements of a step become before items are written for them: macro calls written out, jumps, loops, calls and returns as assignments,
 -- and the variables of the process as functions of its identifier ("A PlusCal User's Manual", sections 3.3 and 3.5).
-use Rattle.std.specs.Prelude.{◌≡◌, List, [], ◌∷◌, Bool, true, false, cond}
+use Rattle.std.specs.Prelude.{◌≡◌, List, [], ◌∷◌, Bool, false, cond}
 use Rattle.tla_token.specs.declared.place.Place.{Place}
 use Rattle.tla_expr.specs.Tree.{Word}
 use Rattle.tla_value.specs.Value.{Value}
