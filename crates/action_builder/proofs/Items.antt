@@ -16,7 +16,7 @@ use Rattle.action_builder.specs.Ready.{Readable, Matches, IsStopped, IsNotFalse,
 use Rattle.action_builder.proofs.Contract.{true_fits, fits_true, true_exactly, bad_exactly, reads_assigned}
 use Rattle.action_builder.proofs.Truth.{match_all}
 
-match_is : (p : Verdict) (b : Bool) → Matches p (got b) → p ≡ told b
+pub match_is : (p : Verdict) (b : Bool) → Matches p (got b) → p ≡ told b
 match_is (told a) b h = ap told h
 match_is (fault k p) b h = absurd h
 match_is (over p) b h = absurd h

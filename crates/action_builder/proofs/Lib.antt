@@ -18,3 +18,4 @@ pub mod Call
 pub mod Prepared
 pub mod Rules
 pub mod Steps
+pub mod Label

@@ -18,7 +18,7 @@ use Rattle.action_builder.specs.Prepared.{prepared, none, Stepped, Prepares, Ste
 use Rattle.action_builder.proofs.Prepared.{prepared_law}
 use Rattle.action_builder.proofs.Items.{items_exactly, items_fit, fit_items, items_stop}
 
-close_step : (M : Rules) (W : Moving) (f : Word → Bool) (g : Callable) (self : Word) (v : Value) (own : Word → Bool) (sc : Scope) (ms : List Macro) (here l : Word) (ss : Statements) → Prepares M W f g self v own sc ms here l ss → (s : State) → Close (Has (run (with_macros M []) unlabelled (prepared W self own here l ms ss) sc to_end s)) (Stepped M self own sc ms here l ss s)
+pub close_step : (M : Rules) (W : Moving) (f : Word → Bool) (g : Callable) (self : Word) (v : Value) (own : Word → Bool) (sc : Scope) (ms : List Macro) (here l : Word) (ss : Statements) → Prepares M W f g self v own sc ms here l ss → (s : State) → Close (Has (run (with_macros M []) unlabelled (prepared W self own here l ms ss) sc to_end s)) (Stepped M self own sc ms here l ss s)
 close_step M W f g self v own sc ms here l ss p s = prepared_law M W f g self v own sc ms p.whole p.does here l ss p.calls p.tidy p.clean s
 
 bad_is : (o : Got State) → IsBad o → (P : Got State → Type 0) → P o → (k : Trouble) × P (bad k)

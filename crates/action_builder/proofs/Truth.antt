@@ -30,7 +30,7 @@ stands_bound U vs sc env x v out k = record { paired = paired_bound U vs sc env 
 
 -- ---- lists of items
 
-hold_onto : (s t : Look) (e : Env) (xs ys : Items) → items_hold plain s t e (onto xs ys) ≡ Module.and_then (items_hold plain s t e xs) (items_hold plain s t e ys)
+pub hold_onto : (s t : Look) (e : Env) (xs ys : Items) → items_hold plain s t e (onto xs ys) ≡ Module.and_then (items_hold plain s t e xs) (items_hold plain s t e ys)
 hold_onto s t e no_items ys = refl
 hold_onto s t e (item x xs) ys = ap (Module.and_then (Module.item_holds plain s t e x)) (hold_onto s t e xs ys) ∙ assoc (Module.item_holds plain s t e x) (items_hold plain s t e xs) (items_hold plain s t e ys)
   where
@@ -44,7 +44,7 @@ match_filled : (s t : Look) (e : Env) (at : Place) (xs : Items) (v : Got Bool) �
 match_filled s t e at no_items v h = h
 match_filled s t e at (item x xs) v h = h
 
-match_unchanged : (vs all own : List Word) (s t : State) (e : Env) → Within all vs → Matches (items_hold plain (values_of vs s) (values_of vs t) e (unchanged_of (left_of vs all own))) (and_then (got (all_same (minus all own) s t)) (got true))
+pub match_unchanged : (vs all own : List Word) (s t : State) (e : Env) → Within all vs → Matches (items_hold plain (values_of vs s) (values_of vs t) e (unchanged_of (left_of vs all own))) (and_then (got (all_same (minus all own) s t)) (got true))
 match_unchanged vs all own s t e w = by (left_of vs all own) (unchanged_same vs all own s t w)
   where
     by : (xs : List Word) → Module.all_same (values_of vs s) (values_of vs t) xs ≡ all_same (minus all own) s t → Matches (items_hold plain (values_of vs s) (values_of vs t) e (unchanged_of xs)) (and_then (got (all_same (minus all own) s t)) (got true))

@@ -6,12 +6,12 @@ use Rattle.tla_value.specs.Stops.{plain}
 use Rattle.tla_value.specs.Meaning.{Env}
 use Rattle.module_text.specs.Module.{Items}
 use Rattle.pcal_tree.specs.Algorithm.{Statements, Macro}
-use Rattle.pcal_tree.specs.Scope.{State, Trouble, Got, bad, Scope}
+use Rattle.pcal_tree.specs.Scope.{State, Trouble, Got, got, bad, Scope}
 use Rattle.pcal_tree.specs.Run.{Rules}
-use Rattle.action_builder.specs.Action.{assigned_in}
+use Rattle.action_builder.specs.Action.{member, assigned_in, Agree}
 use Rattle.action_builder.specs.Effects.{effects_of}
 use Rattle.action_builder.specs.Settled.{Moving, Callable}
-use Rattle.action_builder.specs.Written.{write}
+use Rattle.action_builder.specs.Written.{left_of, unchanged_of, onto, write}
 use Rattle.action_builder.specs.Ready.{Readable, unlimited, Ready}
 use Rattle.action_builder.specs.Prepared.{prepared, none, Stepped, Prepares, StepFits}
 
@@ -54,3 +54,11 @@ EndsIn d s t = StepFits (unlimited d.rules) d.self d.own d.scope d.macros d.here
 
 abbrev pub IsTroubled : Step → State → Type 0
 IsTroubled d s = (k : Trouble) × Outcome d s (bad k)
+
+-- with UNCHANGED for all that the step assigns nowhere
+abbrev pub action_of : List Word → Step → Items
+action_of vs d = onto (items_of vs d) (unchanged_of (left_of vs vs (assigned_in (effects_of plain (prepared_of d)))))
+
+-- it ends in a state that agrees with t on all variables
+abbrev pub StepsTo : List Word → Step → State → State → Type 0
+StepsTo vs d s t = (u : State) × Outcome d s (got u) × Agree (member vs) u t
