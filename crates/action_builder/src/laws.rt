@@ -24,10 +24,10 @@ ghost use Rattle.tla_value.specs.Grafts.{owned};
 ghost use Rattle.pcal_tree.specs.Program.{Program, Actor};
 ghost use Rattle.action_builder.specs.Prepared.{Whole, own_scope, none};
 ghost use Rattle.action_builder.specs.Rules.{Written as Initial, base_rules, moving, callable, MachinesWithin};
-ghost use Rattle.action_builder.specs.Step.{Step, IsPrepared, IsReady, items_of, EndsIn, IsTroubled};
+ghost use Rattle.action_builder.specs.Step.{Step, IsPrepared, IsReady, items_of, action_of, EndsIn, StepsTo, IsTroubled};
 ghost use Rattle.action_builder.specs.Settled.{Moving, settled, Callable, Tidy, CloseCourses, Does, Inner};
 ghost use Rattle.action_builder.specs.Written.{write, except_of};
-ghost use Rattle.action_builder.specs.Ready.{Readable, IsNotFalse, holds_on, unlimited, Ready, StoppedSomewhere};
+ghost use Rattle.action_builder.specs.Ready.{Readable, IsStopped, IsNotFalse, holds_on, unlimited, Ready, StoppedSomewhere};
 
 /// Where no run of the statements faults, their action is true of a pair of states exactly if some run
 /// has an end that agrees with the second state on what is assigned, else it is false. The action is here
@@ -127,6 +127,28 @@ pub fn step_items_are_never_false_of_its_ends()
 pub fn step_items_fault_as_the_step()
     ensures { (d : Step) → IsPrepared d → (U : Readable) (vs : List Word) (env : State → State → Env) → IsReady U vs env d → (s t : State)
         → (StoppedSomewhere none t (holds_on vs env (items_of vs d) s) ↔ IsTroubled d s) }
+{}
+
+/// Where no outcome of a step is trouble, its action, which ends with UNCHANGED, is true of a pair of states exactly
+/// if the step leads from the first to the second, else it is false.
+pub fn step_actions_are_true_of_its_steps()
+    ensures { (d : Step) → IsPrepared d → (U : Readable) (vs : List Word) (env : State → State → Env) → IsReady U vs env d → (s t : State)
+        → (IsTroubled d s → ⊥) → written.Tells (holds_on vs env (action_of vs d) s t) (StepsTo vs d s t) }
+{}
+
+/// Whether or not a step meets trouble: where its action is true, it leads there; where it leads there, the action is
+/// true or faults.
+pub fn step_actions_are_never_false_of_its_steps()
+    ensures leads { (d : Step) → IsPrepared d → (U : Readable) (vs : List Word) (env : State → State → Env) → IsReady U vs env d → (s t : State)
+        → holds_on vs env (action_of vs d) s t ≡ told true → StepsTo vs d s t }
+    ensures holds { (d : Step) → IsPrepared d → (U : Readable) (vs : List Word) (env : State → State → Env) → IsReady U vs env d → (s t : State)
+        → StepsTo vs d s t → IsNotFalse (holds_on vs env (action_of vs d) s t) }
+{}
+
+/// The action of a step faults for some second state exactly if the step meets trouble.
+pub fn step_actions_fault_as_the_step()
+    ensures { (d : Step) → IsPrepared d → (U : Readable) (vs : List Word) (env : State → State → Env) → IsReady U vs env d → (s : State)
+        → (((u : State) × IsStopped (holds_on vs env (action_of vs d) s u)) ↔ IsTroubled d s) }
 {}
 
 /// Statements with their macro calls written out take the same courses, in every scope and with anything behind.
