@@ -1,15 +1,14 @@
 -- The laws of the written action, for statements and their runs.
-use Rattle.std.proofs.Common.{◌≡◌, Bool, true, false, cond, ◌||◌, ◌↔◌, refl, sym, ◌∙◌, ap, subst}
-use Rattle.tla_expr.specs.Tree.{Word}
+use Rattle.std.proofs.Common.{◌≡◌, Bool, true, false, ◌↔◌, refl, sym, ◌∙◌, ap, subst}
 use Rattle.pcal_tree.specs.Algorithm.{Statements}
 use Rattle.pcal_tree.specs.Scope.{State, Trouble, Got, got, bad, Scope}
 use Rattle.pcal_tree.specs.Run.{Rules, unlabelled}
-use Rattle.action_builder.specs.Action.{Names, more, mid, assigned_in, hold, build, Run, Next, IsBad, NotFalse, Agree}
+use Rattle.action_builder.specs.Action.{Names, more, mid, assigned_in, Run, IsBad, NotFalse, Agree}
 use Rattle.action_builder.specs.Effects.{Named, Settled, effects_of}
 use Rattle.action_builder.specs.Contract.{to_end, Runs, Fits, NoTrouble, verdict, Tells, BadSomewhere, SomeTrouble, Built}
 use Rattle.action_builder.proofs.Sets.{mid_in}
 use Rattle.action_builder.proofs.Den.{alone, run}
-use Rattle.action_builder.proofs.Main.{End, true_all}
+use Rattle.action_builder.proofs.Main.{true_all}
 use Rattle.action_builder.proofs.Converse.{fits_all, bad_all, fitting_end}
 use Rattle.action_builder.proofs.Faults.{mid_agree, local_all, fault_all}
 

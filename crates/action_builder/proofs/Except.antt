@@ -1,23 +1,19 @@
 -- The written right side of a variable has the value that its assignments give it.
 use Rattle.std.proofs.Common.{◌≡◌, List, [], ◌∷◌, ◌++◌, Bool, true, false, cond, bytes_eq, refl, sym, ◌∙◌, ap}
 use Rattle.tla_token.specs.declared.place.Place.{Place}
-use Rattle.tla_expr.specs.Tree.{Word, apply, select, name, strict, Slot, Tree, node, Trees, no_trees, tree}
+use Rattle.tla_expr.specs.Tree.{Word, apply, select, name, strict, Tree, node, Trees, no_trees, tree}
 use Rattle.tla_value.specs.Value.{Value, text, Outcome, good, fault, over}
 use Rattle.tla_value.specs.Stops.{Check, plain, on_value}
-use Rattle.tla_value.specs.Strict.{changed_at, next_slot, updated, strict_value}
-use Rattle.tla_value.specs.Meaning.{Env, Den, just, on_all, eval, evals}
+use Rattle.tla_value.specs.Strict.{changed_at, next_slot, updated}
+use Rattle.tla_value.specs.Meaning.{Env, just, on_all, eval, evals}
 use Rattle.pcal_tree.specs.Algorithm.{nowhere, Moves, no_moves, move}
 use Rattle.pcal_tree.specs.Scope.{State, Got, got, bad, on, valued, all_valued, Part, deeper, Scope, reach, reach_path, root_place, value_of}
-use Rattle.action_builder.specs.Action.{Change, Parts, no_parts, part, changes_for, folded, value_for}
-use Rattle.action_builder.specs.Effects.{head_of, head_first, changing, part_of, parts_of, part_at, IsLeft, LeftFirst, LeftMoves}
+use Rattle.action_builder.specs.Action.{all_changes, Change, Parts, no_parts, part, changes_for, folded, value_for}
+use Rattle.action_builder.specs.Effects.{head_of, head_first, changing, part_of, parts_of, part_at, IsPlain as Plain, IsLeft, LeftFirst, LeftMoves}
 use Rattle.action_builder.specs.Written.{Key, sub, fixed, subs, keys_of, keys_first, steps_of, subscripts, own, slots_of, slot_trees, except_of, is_whole, side_of}
 use Rattle.action_builder.proofs.Den.{on_twice, on_valued, on_all_valued}
 
 -- ---- left sides
-
--- each name is a variable
-abbrev pub Plain : Scope → Type 0
-Plain sc = (x : Word) (at : Place) (s : State) → sc.part x at s ≡ got (part_at x [])
 
 -- the values of subscripts and the names of fields
 abbrev pub on_keys : {X : Type 0} → Check → List Key → Env → (List Value → Got X) → Got X
@@ -88,11 +84,6 @@ slot_change : (c : Check) (at : Place) (path : List Value) (v : Value) (o : Outc
 slot_change c at path v (good old) = valued_on (changed_at at path v old) (c at) got
 slot_change c at path v (fault k p) = refl
 slot_change c at path v (over p) = refl
-
--- all changes, in order
-abbrev pub all_changes : Parts → Scope → State → Got (List Change)
-all_changes no_parts sc s = got []
-all_changes (part x e ps) sc s = on (e sc s) (λ f. on (all_changes ps sc s) (λ fs. got (f ∷ fs)))
 
 -- the first part, and then the others
 first_change : (c : Check) (l e : Tree) → IsLeft l → (ps : Parts) (sc : Scope) → Plain sc → (s : State) (G : List Change → Got Value) →

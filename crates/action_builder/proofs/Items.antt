@@ -1,11 +1,11 @@
 -- The laws of the written items, for statements and their runs.
-use Rattle.std.proofs.Common.{◌≡◌, List, [], Bool, true, false, cond, ◌↔◌, refl, sym, ◌∙◌, ap, subst}
+use Rattle.std.proofs.Common.{◌≡◌, List, [], Bool, true, false, ◌↔◌, sym, ◌∙◌, ap, subst}
 use Rattle.tla_expr.specs.Tree.{Word}
 use Rattle.tla_value.specs.Stops.{plain}
 use Rattle.tla_value.specs.Meaning.{Env}
 use Rattle.module_text.specs.Truth.{Verdict, told, fault, over, Tells}
 use Rattle.pcal_tree.specs.Algorithm.{Statements}
-use Rattle.pcal_tree.specs.Scope.{State, Trouble, Got, got, bad, Scope}
+use Rattle.pcal_tree.specs.Scope.{State, Got, got, bad, Scope}
 use Rattle.pcal_tree.specs.Run.{Rules}
 use Rattle.action_builder.specs.Action.{Names, more, assigned_in, IsBad, NotFalse, Agree}
 use Rattle.action_builder.specs.Effects.{effects_of}
@@ -16,7 +16,7 @@ use Rattle.action_builder.specs.Ready.{Readable, Matches, IsStopped, IsNotFalse,
 use Rattle.action_builder.proofs.Contract.{true_fits, fits_true, true_exactly, bad_exactly, reads_assigned}
 use Rattle.action_builder.proofs.Truth.{match_all}
 
-match_is : (p : Verdict) (b : Bool) → Matches p (got b) → p ≡ told b
+pub match_is : (p : Verdict) (b : Bool) → Matches p (got b) → p ≡ told b
 match_is (told a) b h = ap told h
 match_is (fault k p) b h = absurd h
 match_is (over p) b h = absurd h

@@ -12,3 +12,10 @@ pub mod Except
 pub mod Matching
 pub mod Truth
 pub mod Items
+pub mod Begins
+pub mod Moved
+pub mod Call
+pub mod Prepared
+pub mod Rules
+pub mod Steps
+pub mod Label

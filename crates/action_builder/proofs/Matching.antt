@@ -1,38 +1,30 @@
 -- Verdicts that match, and the parts of which the truth of the written items is put together.
-use Rattle.std.proofs.Common.{◌≡◌, List, [], ◌∷◌, ◌++◌, Bool, true, false, cond, not, ◌||◌, ◌&&◌, bytes_eq, codes, Option, Some, None, ◌⊎◌, refl, sym, ◌∙◌, ap, subst, ⊎_elim, inl, inr}
+use Rattle.std.proofs.Common.{◌≡◌, List, [], ◌∷◌, ◌++◌, Bool, true, false, cond, not, ◌||◌, ◌&&◌, bytes_eq, Some, None, ◌⊎◌, refl, sym, ◌∙◌, ap, subst, ⊎_elim, inl, inr}
 use Rattle.std.proofs.lemmas.Bool.{cases_Bool, or_cases, both_ways, and_parts}
 use Rattle.tla_token.specs.declared.place.Place.{Place}
-use Rattle.tla_expr.specs.Tree.{Word, Form, name, next, call, strict, select, except, Tree, node, Trees, no_trees, tree, Each, Every, EveryOf, binders, graft, quote}
+use Rattle.tla_expr.specs.Tree.{Word, Form, name, next, strict, select, Tree, node, Trees, no_trees, tree, Every, EveryOf}
 use Rattle.tla_value.specs.declared.fault.FaultKind.TheVariants.{AssertFailed}
 use Rattle.tla_value.specs.Value.{Value, truth, int, text, model, set, fun, Values, no_values, and, Outcome, good}
 use Rattle.tla_value.specs.Value as Values
 use Rattle.tla_value.specs.Order.{same}
 use Rattle.tla_value.specs.Stops.{plain, on_value, on_truth}
-use Rattle.tla_value.specs.Standard.{printed, asserted, standard_sense}
-use Rattle.tla_value.specs.Meaning.{Env, just, bind, on_all, called, eval}
-use Rattle.tla_value.specs.Grafts.{primes}
+use Rattle.tla_value.specs.Meaning.{Env, just, bind, eval}
 use Rattle.tla_value.specs.Related.{In}
-use Rattle.tla_value.specs.Definitions.{Look}
 use Rattle.tla_value.proofs.Graft.{every_weaker}
 use Rattle.tla_value.proofs.Primes.{Between, Unprimed, unprimed_law}
 use Rattle.tla_value.proofs.Primes as Primes
-use Rattle.module_text.specs.Module.{Item, test, setting, unchanged, exists, local, choice, either as any, Items, no_items, item, Branches as Lists, no_branches as no_lists, branch as list}
 use Rattle.module_text.specs.Truth.{Verdict, told, fault, over, on_good, as_truth, as_set, at_each, is_value, same_look, items_hold, item_holds, some_branch}
 use Rattle.module_text.specs.Truth as Module
-use Rattle.pcal_tree.specs.Algorithm.{Moves, no_moves, move, Binds, no_binds, one_of, is, Statement, assign, await, print, assert, skip, branch, either, with, Statements, done, then, mark, Branches, no_branches, or}
-use Rattle.pcal_tree.specs.Scope.{State, Got, got, bad, faulty, on, valued, Scope, bound, root_place, place_of, value_of, truth_at, members_at, members}
-use Rattle.pcal_tree.specs.Scope as Source
-use Rattle.action_builder.specs.Action.{Names, member, more, mid, firsts, assigned, assigned_in, assigned_by, minus, all_same, and_then, or_all, some_member, hold, hold_some, holds, hold_sets, build, build_one, build_some, ended, value_for}
-use Rattle.action_builder.specs.Action as Action
-use Rattle.action_builder.specs.Effects.{head_of, LeftMoves, parts_of, effect_of, effects_of, ways_of, nested, one_member}
-use Rattle.action_builder.specs.Written.{Key, sub, fixed, subs, keys_of, keys_first, keys_in, steps_of, subscripts, own, slots_of, slot_trees, except_of, is_whole, side_of, primed, print_of, assert_of, true_at, left_of, unchanged_of, onto, filled, settings_of, nested_items, branch_items, write_one, write, write_some}
-use Rattle.action_builder.specs.Ready.{Readable, Halfway, IsWithin, Paired, Scoped, NoNext, Plain, FineTree, FineSides, FineMoves, FineBinds, FineOne, Fine, FineSome, values_of, Matches, holds_on}
+use Rattle.pcal_tree.specs.Algorithm.{Moves, no_moves, move}
+use Rattle.pcal_tree.specs.Scope.{State, Got, got, bad, faulty, on, valued, Scope, bound, root_place, truth_at, members_at}
+use Rattle.action_builder.specs.Action.{Names, member, mid, minus, all_same, and_then, or_all, some_member}
+use Rattle.action_builder.specs.Effects.{head_of}
+use Rattle.action_builder.specs.Written.{Key, sub, fixed, subs, keys_of, keys_first, keys_in, subscripts, own, slot_trees, except_of, is_whole, side_of, primed, left_of}
+use Rattle.action_builder.specs.Ready.{Readable, Halfway, IsWithin, Paired, Scoped, NoNext, Plain, FineTree, FineSides, values_of, Matches}
 use Rattle.action_builder.proofs.Equal.{name-true, eq-name, value-true, eq-value}
 use Rattle.action_builder.proofs.Sets.{or_left, or_right, minus_same, same_minus}
-use Rattle.action_builder.proofs.Main.{and_then_assoc, in_front, behind, Within}
-use Rattle.action_builder.proofs.Main as Main
+use Rattle.action_builder.proofs.Main.{Within}
 use Rattle.action_builder.proofs.Den.{on_twice}
-use Rattle.action_builder.proofs.Except.{value_law}
 
 -- ---- verdicts that match
 

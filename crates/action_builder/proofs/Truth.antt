@@ -1,5 +1,5 @@
 -- The written items have the truth of what their statements mean.
-use Rattle.std.proofs.Common.{◌≡◌, List, [], ◌∷◌, ◌++◌, Bool, true, false, cond, ◌||◌, bytes_eq, codes, Option, Some, None, refl, sym, ◌∙◌, ap, subst, ⊎_elim}
+use Rattle.std.proofs.Common.{◌≡◌, List, [], ◌∷◌, ◌++◌, Bool, true, false, cond, ◌||◌, bytes_eq, codes, Some, None, refl, sym, ◌∙◌, ap, subst, ⊎_elim}
 use Rattle.std.proofs.lemmas.Bool.{or_cases}
 use Rattle.tla_token.specs.declared.place.Place.{Place}
 use Rattle.tla_expr.specs.Tree.{Word, Tree, Trees, no_trees, tree}
@@ -8,7 +8,7 @@ use Rattle.tla_value.specs.Order.{same}
 use Rattle.tla_value.specs.Stops.{plain, on_value}
 use Rattle.tla_value.specs.Meaning.{Env, called, on_all, eval}
 use Rattle.tla_value.specs.Definitions.{Look}
-use Rattle.module_text.specs.Module.{test, setting, unchanged, exists, local, choice, either as any, Items, no_items, item, Branches as Lists, no_branches as no_lists, branch as list}
+use Rattle.module_text.specs.Module.{Items, no_items, item}
 use Rattle.module_text.specs.Truth.{Verdict, told, on_good, as_truth, as_set, at_each, is_value, items_hold, some_branch}
 use Rattle.module_text.specs.Truth as Module
 use Rattle.pcal_tree.specs.Algorithm.{Moves, Binds, no_binds, one_of, is, Statement, assign, await, print, assert, skip, branch, either, with, Statements, done, then, mark, Branches, no_branches, or}
@@ -16,8 +16,8 @@ use Rattle.pcal_tree.specs.Scope.{State, Got, got, on, valued, Scope, bound, pla
 use Rattle.action_builder.specs.Action.{Names, member, more, mid, firsts, assigned, assigned_in, assigned_by, minus, all_same, and_then, hold, hold_some, holds, hold_sets, build, build_one, build_some, ended, value_for, Effects}
 use Rattle.action_builder.specs.Action as Action
 use Rattle.action_builder.specs.Effects.{parts_of, effect_of, effects_of, ways_of, nested}
-use Rattle.action_builder.specs.Written.{own, side_of, primed, print_of, assert_of, left_of, unchanged_of, onto, filled, settings_of, nested_items, branch_items, write_one, write, write_some}
-use Rattle.action_builder.specs.Ready.{Readable, IsWithin, Stands, FineTree, FineMoves, FineBinds, FineOne, Fine, FineSome, values_of, Matches, holds_on}
+use Rattle.action_builder.specs.Written.{own, side_of, primed, left_of, unchanged_of, onto, filled, settings_of, nested_items, branch_items, write_one, write, write_some}
+use Rattle.action_builder.specs.Ready.{Readable, IsWithin, Stands, FineMoves, FineBinds, FineOne, Fine, FineSome, values_of, Matches, holds_on}
 use Rattle.action_builder.proofs.Equal.{eq-name}
 use Rattle.action_builder.proofs.Sets.{or_left, or_right}
 use Rattle.action_builder.proofs.Main.{and_then_assoc, in_front, behind, Within}
@@ -30,7 +30,7 @@ stands_bound U vs sc env x v out k = record { paired = paired_bound U vs sc env 
 
 -- ---- lists of items
 
-hold_onto : (s t : Look) (e : Env) (xs ys : Items) → items_hold plain s t e (onto xs ys) ≡ Module.and_then (items_hold plain s t e xs) (items_hold plain s t e ys)
+pub hold_onto : (s t : Look) (e : Env) (xs ys : Items) → items_hold plain s t e (onto xs ys) ≡ Module.and_then (items_hold plain s t e xs) (items_hold plain s t e ys)
 hold_onto s t e no_items ys = refl
 hold_onto s t e (item x xs) ys = ap (Module.and_then (Module.item_holds plain s t e x)) (hold_onto s t e xs ys) ∙ assoc (Module.item_holds plain s t e x) (items_hold plain s t e xs) (items_hold plain s t e ys)
   where
@@ -44,7 +44,7 @@ match_filled : (s t : Look) (e : Env) (at : Place) (xs : Items) (v : Got Bool) �
 match_filled s t e at no_items v h = h
 match_filled s t e at (item x xs) v h = h
 
-match_unchanged : (vs all own : List Word) (s t : State) (e : Env) → Within all vs → Matches (items_hold plain (values_of vs s) (values_of vs t) e (unchanged_of (left_of vs all own))) (and_then (got (all_same (minus all own) s t)) (got true))
+pub match_unchanged : (vs all own : List Word) (s t : State) (e : Env) → Within all vs → Matches (items_hold plain (values_of vs s) (values_of vs t) e (unchanged_of (left_of vs all own))) (and_then (got (all_same (minus all own) s t)) (got true))
 match_unchanged vs all own s t e w = by (left_of vs all own) (unchanged_same vs all own s t w)
   where
     by : (xs : List Word) → Module.all_same (values_of vs s) (values_of vs t) xs ≡ all_same (minus all own) s t → Matches (items_hold plain (values_of vs s) (values_of vs t) e (unchanged_of xs)) (and_then (got (all_same (minus all own) s t)) (got true))

@@ -217,6 +217,11 @@ changes_for y no_parts c s = got []
 changes_for y (part x e ps) c s =
     cond (bytes_eq x y) (on (e c s) (λ f. on (changes_for y ps c s) (λ fs. got (f ∷ fs)))) (changes_for y ps c s)
 
+-- all changes, in order
+abbrev pub all_changes : Parts → Scope → State → Got (List Change)
+all_changes no_parts c s = got []
+all_changes (part x e ps) c s = on (e c s) (λ f. on (all_changes ps c s) (λ fs. got (f ∷ fs)))
+
 abbrev pub folded : List Change → Change
 folded [] v = got v
 folded (f ∷ fs) v = on (f v) (folded fs)

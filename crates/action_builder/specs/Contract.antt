@@ -3,7 +3,7 @@ use Rattle.std.specs.Prelude.{◌≡◌, ◌↔◌, Bool, true}
 use Rattle.pcal_tree.specs.Algorithm.{Statements}
 use Rattle.pcal_tree.specs.Scope.{State, Trouble, Got, got, bad, Scope}
 use Rattle.pcal_tree.specs.Run.{ends, Has, Follow, Rules, unlabelled, run}
-use Rattle.action_builder.specs.Action.{Names, more, mid, assigned_in, hold, build, Once, IsBad, NotFalse, Agree}
+use Rattle.action_builder.specs.Action.{Names, more, mid, assigned_in, hold, build, Once, IsBad, Agree}
 use Rattle.action_builder.specs.Effects.{Named, Settled, effects_of}
 
 -- nothing follows

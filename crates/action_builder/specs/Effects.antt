@@ -8,7 +8,7 @@ use Rattle.tla_value.specs.Stops.{Check}
 use Rattle.tla_value.specs.Strict.{changed_at}
 use Rattle.pcal_tree.specs.Algorithm.{Moves, no_moves, move, Binds, no_binds, one_of, is, Statement, Statements, Branches, no_branches, or}
 use Rattle.pcal_tree.specs.Algorithm as Source
-use Rattle.pcal_tree.specs.Scope.{State, Part, Scope, Got, got, bad, faulty, on, valued, reach, root_place, value_of, test, members}
+use Rattle.pcal_tree.specs.Scope.{State, Part, Scope, got, bad, faulty, on, valued, reach, root_place, value_of, test, members}
 use Rattle.action_builder.specs.Action.{Exp, Change, Parts, no_parts, part, Effect, assign, await, branch, either, choose, Effects, done, then, Ways, no_ways, way}
 
 -- ---- assignments
@@ -110,6 +110,10 @@ part_at x path = record { variable = x; path = path }
 -- each name is a variable, or a part of the variable of that name
 abbrev pub Named : Scope → Type 0
 Named sc = (x : Word) (at : Place) (s : State) → (path : List Value) × (sc.part x at s ≡ got (part_at x path))
+
+-- each name is a variable
+abbrev pub IsPlain : Scope → Type 0
+IsPlain sc = (x : Word) (at : Place) (s : State) → sc.part x at s ≡ got (part_at x [])
 
 -- no jump, label, loop, macro call, call or return
 abbrev mutual

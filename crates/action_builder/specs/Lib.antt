@@ -4,3 +4,8 @@ pub mod Contract
 pub mod Settled
 pub mod Written
 pub mod Ready
+pub mod Begins
+pub mod Moved
+pub mod Prepared
+pub mod Rules
+pub mod Step

@@ -1,11 +1,10 @@
 -- What is asked of statements and scopes so that the written items mean what the statements do; and the truth of these items.
-use Rattle.std.specs.Prelude.{◌≡◌, List, [], Bool, true, false, cond, codes, Option, Some, None}
+use Rattle.std.specs.Prelude.{◌≡◌, List, [], Bool, true, false, cond, codes, Some, None}
 use Rattle.tla_token.specs.declared.place.Place.{Place}
-use Rattle.tla_expr.specs.Tree.{Word, Form, name, next, call, Tree, Each, Every, binders}
-use Rattle.tla_value.specs.Value.{Value}
+use Rattle.tla_expr.specs.Tree.{Word, Form, next, Tree, Each, Every, binders}
 use Rattle.tla_value.specs.Stops.{plain}
 use Rattle.tla_value.specs.Standard.{printed, asserted, standard_sense}
-use Rattle.tla_value.specs.Meaning.{Env, just, bind}
+use Rattle.tla_value.specs.Meaning.{Env, just}
 use Rattle.tla_value.specs.Related.{Uses, In}
 use Rattle.tla_value.specs.Definitions.{Look}
 use Rattle.module_text.specs.Module.{Items}

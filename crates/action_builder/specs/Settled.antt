@@ -73,24 +73,29 @@ EachBind F no_binds = Unit {0}
 EachBind F (one_of x e bs) = F x.word × EachBind F bs
 EachBind F (is x e bs) = F x.word × EachBind F bs
 
--- no macro call is left, what jumps ends its list, and each name of a `with` has F
+-- the calls that have as many arguments as the procedure has parameters
+abbrev pub Callable : Type 0
+Callable = Name → Trees → Bool
+
+-- no macro call is left, what jumps ends its list, each name of a `with` has F, and each call is one of g
 abbrev mutual
-  pub TidyOne : (Word → Type 0) → Statement → Statements → Type 0
-  TidyOne F (branch e a b) rest = Tidy F a × Tidy F b × ((jumps a || jumps b) ≡ true → Stops rest)
-  TidyOne F (either bs) rest = TidySome F bs × (jumps_some bs ≡ true → Stops rest)
-  TidyOne F (with bs b) rest = Tidy F b × (jumps b ≡ true → Stops rest) × EachBind F bs
-  TidyOne F (loop e b) rest = Tidy F b
-  TidyOne F (macro m ts) rest = ⊥
-  TidyOne F _ rest = Unit {0}
+  pub TidyOne : (Word → Type 0) → Callable → Statement → Statements → Type 0
+  TidyOne F g (branch e a b) rest = Tidy F g a × Tidy F g b × ((jumps a || jumps b) ≡ true → Stops rest)
+  TidyOne F g (either bs) rest = TidySome F g bs × (jumps_some bs ≡ true → Stops rest)
+  TidyOne F g (with bs b) rest = Tidy F g b × (jumps b ≡ true → Stops rest) × EachBind F bs
+  TidyOne F g (loop e b) rest = Tidy F g b
+  TidyOne F g (macro m ts) rest = ⊥
+  TidyOne F g (invoke p ts) rest = g p ts ≡ true
+  TidyOne F g _ rest = Unit {0}
 
-  pub Tidy : (Word → Type 0) → Statements → Type 0
-  Tidy F done = Unit {0}
-  Tidy F (then at st rest) = TidyOne F st rest × Tidy F rest
-  Tidy F (mark l k rest) = Unit {0}
+  pub Tidy : (Word → Type 0) → Callable → Statements → Type 0
+  Tidy F g done = Unit {0}
+  Tidy F g (then at st rest) = TidyOne F g st rest × Tidy F g rest
+  Tidy F g (mark l k rest) = Unit {0}
 
-  pub TidySome : (Word → Type 0) → Branches → Type 0
-  TidySome F no_branches = Unit {0}
-  TidySome F (or b bs) = Tidy F b × TidySome F bs
+  pub TidySome : (Word → Type 0) → Callable → Branches → Type 0
+  TidySome F g no_branches = Unit {0}
+  TidySome F g (or b bs) = Tidy F g b × TidySome F g bs
 
 -- ---- the same ends, and trouble where the other has trouble
 
@@ -108,9 +113,9 @@ abbrev pub CloseCourses : (State → Course) → (State → Course) → Type 0
 CloseCourses K L = (s : State) → Close (Has (K s)) (Has (L s))
 
 -- the assignments do what a jump, a call and a return do, in the scopes that fit
-pub record Does (M : Rules) (W : Moving) (Fit : Scope → Type 0) (F : Word → Type 0) : Type 0 where
+pub record Does (M : Rules) (W : Moving) (Fit : Scope → Type 0) (F : Word → Type 0) (g : Callable) : Type 0 where
   pub pc : (l : Word) (sc : Scope) → Fit sc → CloseCourses (run M unlabelled (W.pc l) sc to_end) (M.go l)
-  pub call : (at : Span) (p : Name) (ts : Trees) (l : Word) (sc : Scope) → Fit sc → CloseCourses (run M unlabelled (W.call at p ts l) sc to_end) (λ s. after (all_valued (evals M.check ts) (sc.env s) got) (λ vs. M.enter at.first p.word (places_of ts sc) vs l s))
+  pub call : (at : Span) (p : Name) (ts : Trees) (l : Word) (sc : Scope) → Fit sc → g p ts ≡ true → CloseCourses (run M unlabelled (W.call at p ts l) sc to_end) (λ s. after (all_valued (evals M.check ts) (sc.env s) got) (λ vs. M.enter at.first p.word (places_of ts sc) vs l s))
   pub back : (at : Span) (sc : Scope) → Fit sc → CloseCourses (run M unlabelled (W.back at) sc to_end) (M.quit at.first)
   pub bind : (x : Word) (v : Value) (sc : Scope) → F x → Fit sc → Fit (bound x v sc)
 
