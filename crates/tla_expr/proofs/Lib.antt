@@ -3,3 +3,5 @@ pub mod TreeLemmas
 pub mod Operands
 mod Rows
 mod RowsView
+pub mod ReadSoon
+pub mod ReadStops
