@@ -5,3 +5,4 @@ mod Rows
 mod RowsView
 pub mod ReadSoon
 pub mod ReadStops
+pub mod ReadPhrases
