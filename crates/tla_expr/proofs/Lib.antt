@@ -6,3 +6,4 @@ mod RowsView
 pub mod ReadSoon
 pub mod ReadStops
 pub mod ReadPhrases
+pub mod ReadForms

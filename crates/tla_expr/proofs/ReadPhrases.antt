@@ -37,8 +37,17 @@ Brief a = (e : ℕ) → Good e a → is_short a ≡ true → (ts : List Token) �
 abbrev pub Full : Phrase → Type 0
 Full a = (e : ℕ) (c : Context) → Fine c → Good e a → fits c a ≡ true → (ts : List Token) → Stops e (Some c) a ts → (o : Out Phrase) → Soon (λ r. r.climb e (bound c) a ts) o → Soon (λ r. r.expr e c (spell a ts)) o
 
+pub record Begins (e : ℕ) (a : Phrase) (ts : List Token) : Type 0 where
+  pub first : Token
+  pub rest : List Token
+  pub same_as : spell a ts ≡ first ∷ rest
+  pub right : Right e first.place
+  pub as_operand : (r : Readers) (c : Context) (us : List Token) → operand r e c first.place first.kind us ≡ primary r e first.place first.kind us
+  pub as_short : (r : Readers) (us : List Token) → short_by r e first.place first.kind us ≡ primary r e first.place first.kind us
+
 pub record Reads (a : Phrase) : Type 0 where
   pub core : Core a
+  pub begins : is_primary (head a) ≡ true → (e : ℕ) → Good e a → (ts : List Token) → Begins e a ts
   pub prime : is_primary (head a) ≡ true → Prime a
   pub brief : Brief a
   pub full : Full a
@@ -59,7 +68,7 @@ is_end k = is_calm k
 abbrev pub Ends : ℕ → List Token → Type 0
 Ends e ts = is_end (next e ts).kind ≡ true
 
-end_calm : (k : Tk) → is_end k ≡ true → is_calm k ≡ true
+pub end_calm : (k : Tk) → is_end k ≡ true → is_calm k ≡ true
 end_calm (tk.mark tk.comma) h = refl
 end_calm k h = h
 
@@ -82,14 +91,6 @@ reads_more a p xs h i e (ga, gp, gx) ts k =
     step (λ r. r.phrases e (spell_all (more a p xs) ts)) (Ok (more a p xs, ts)) (w.0 + v.0, λ n l. rw (w.1 n (omega arith), gp, v.1 n (omega arith)) refl)
 
 -- ---- primaries
-pub record Begins (e : ℕ) (a : Phrase) (ts : List Token) : Type 0 where
-  pub first : Token
-  pub rest : List Token
-  pub same_as : spell a ts ≡ first ∷ rest
-  pub right : Right e first.place
-  pub as_operand : (r : Readers) (c : Context) (us : List Token) → operand r e c first.place first.kind us ≡ primary r e first.place first.kind us
-  pub as_short : (r : Readers) (us : List Token) → short_by r e first.place first.kind us ≡ primary r e first.place first.kind us
-
 operand_is : (e : ℕ) (a : Phrase) (ts : List Token) → Begins e a ts → (r : Readers) (c : Context) → peek e (operand r e c) (spell a ts) ≡ peek e (primary r e) (spell a ts)
 operand_is e a ts b r c = rw (b.same_as, b.right) (b.as_operand r c (b.first ∷ b.rest))
 
@@ -101,8 +102,8 @@ tail_call (tk.mark tk.open_bracket) h = absurd cc
 tail_call (tk.mark tk.prime) h = absurd cc
 tail_call k h = refl
 
-primary_reads : (a : Phrase) → Core a → ((e : ℕ) (d : Option Context) (ts : List Token) → Stops e d a ts → NoTail e ts) → ((e : ℕ) → Good e a → (ts : List Token) → Begins e a ts) → Prime a → Reads a
-primary_reads a w stop begins prime = record { core = w; prime = λ h. prime; brief = brief; full = full }
+pub primary_reads : (a : Phrase) → Core a → ((e : ℕ) (d : Option Context) (ts : List Token) → Stops e d a ts → NoTail e ts) → ((e : ℕ) → Good e a → (ts : List Token) → Begins e a ts) → Prime a → Reads a
+primary_reads a w stop begins prime = record { core = w; begins = λ h. begins; prime = λ h. prime; brief = brief; full = full }
   where
     read : (e : ℕ) → Good e a → (ts : List Token) → NoTail e ts → Soon (λ r. peek e (primary r e) (spell a ts)) (Ok (a, ts))
     read e g ts s = prime e g ts (tail_call (next e ts).kind s) (Ok (a, ts)) (postfix_ends e a ts s)
@@ -163,7 +164,7 @@ reads_no_tuple p q = primary_reads (no_tuple p q) tt (λ e d ts s. s) (λ e g ts
 
 -- ---- operators
 pub reads_infix : (a : Phrase) (p : Place) (o : Op) (b : Phrase) → Reads a → Reads b → Reads (infix_of a p o b)
-reads_infix a p o b ha hb = record { core = (ha.core, hb.core); prime = λ h. absurd cc; brief = λ e g h. absurd cc; full = full }
+reads_infix a p o b ha hb = record { core = (ha.core, hb.core); begins = λ h. absurd cc; prime = λ h. absurd cc; brief = λ e g h. absurd cc; full = full }
   where
     full : Full (infix_of a p o b)
     full e c f (n, l, m, ga, gp, gb) t ts (s, k) out h =
@@ -193,7 +194,7 @@ prefix_short r e p op.Negate us h = refl
 prefix_short r e p o us h = absurd cc
 
 pub reads_prefix : (p : Place) (o : Op) (a : Phrase) → Reads a → Reads (prefix_of p o a)
-reads_prefix p o a ha = record { core = ha.core; prime = λ h. absurd cc; brief = brief; full = full }
+reads_prefix p o a ha = record { core = ha.core; begins = λ h. absurd cc; prime = λ h. absurd cc; brief = brief; full = full }
   where
     brief : Brief (prefix_of p o a)
     brief e (n, m, gp, ga) t ts s =
