@@ -7,3 +7,6 @@ pub mod ReadSoon
 pub mod ReadStops
 pub mod ReadPhrases
 pub mod ReadForms
+pub mod ReadLists
+pub mod ReadSquares
+pub mod ReadAll

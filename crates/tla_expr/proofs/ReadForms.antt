@@ -1,5 +1,5 @@
 -- What is spelled is read: tuples, subscripts, fields, open forms; and all forms together.
-use Rattle.std.proofs.Common.{◌≡◌, ℕ, zero, suc, ◌+◌, ◌<◌, ◌≤◌, Bool, true, false, not, ◌&&◌, ◌||◌, nat_lt, List, [], ◌∷◌, Option, Some, None, Ok, Err, refl, sym, ap, ◌∙◌, arith, MatchBool}
+use Rattle.std.proofs.Common.{◌≡◌, ℕ, zero, suc, nat_eq, ◌+◌, ◌<◌, ◌≤◌, Bool, true, false, not, ◌&&◌, ◌||◌, nat_lt, List, [], ◌∷◌, Option, Some, None, Ok, Err, refl, sym, ap, ◌∙◌, arith, MatchBool}
 use Rattle.std.proofs.lemmas.Bool.{and_parts, both_ways, lt-ltb, not-true}
 use Rattle.std.specs.Bool.{IsTrue}
 use Rattle.tla_token.specs.declared.place.Place.{Place}
@@ -13,10 +13,10 @@ use Rattle.tla_expr.specs.Spelling.{Field, Phrase, number, quote, constant, name
 use Rattle.tla_expr.specs.Spelling.{Phrases, last, more, Binds, last_bind, bind, share, Locals, last_local, more_locals, Bullets, last_bullet, bullet}
 use Rattle.tla_expr.specs.Spelling.{mark, key, sign, word, field_token, spell, spell_all, spell_binds, spell_locals, Good, GoodAll, GoodBinds, GoodLocals, Right, head, is_primary, is_short, can_be_left, can_be_head, Head, first_bullet, spell_bullets}
 use Rattle.tla_expr.specs.Spelling as sp
-use Rattle.tla_expr.specs.Reader.{Out, Reader, field_of, a_field, tuples, then_read, ◌>>=◌, gives, skip, next, peek, a_word, a_mark, Context, free, right_of, under, bound, fits, is_free, goes_on, Readers, one_step, readers, named, primary, under_by, operand, short_by, phrases_by, bind_rest, binds_by, locals_by}
+use Rattle.tla_expr.specs.Reader.{is_sign, Out, Reader, field_of, a_field, tuples, then_read, ◌>>=◌, gives, skip, next, peek, a_word, a_mark, Context, free, right_of, under, bound, fits, is_free, goes_on, Readers, one_step, readers, named, primary, under_by, operand, short_by, phrases_by, bind_rest, binds_by, locals_by}
 use Rattle.tla_expr.proofs.ReadSoon.{Soon, step, now, both, same, is_tail, NoTail, Stays, postfix_ends, climb_ends}
-use Rattle.tla_expr.proofs.ReadStops.{Core, CoreAll, CoreBinds, CoreLocals, Stops, is_calm, Calm, calm_stays, calm_stops, Fine, seen_sign, sign_infix, above_bound, left_parts, fits_left, left_stops, fits_short}
-use Rattle.tla_expr.proofs.ReadPhrases.{is_call, NoCall, Prime, Brief, Full, Begins, Reads, ended, closed, is_end, Ends, end_calm, ReadsAll, reads_last, reads_more, primary_reads, reads_number, reads_quote, reads_constant, reads_name, reads_primed, reads_call, reads_brackets, reads_no_set, reads_no_tuple, reads_infix, reads_prefix}
+use Rattle.tla_expr.proofs.ReadStops.{Stops, ListEnds, BulletsStop, behind_end, bullets_behind, is_calm, Calm, calm_stays, calm_stops, Fine, seen_sign, sign_infix, above_bound, left_parts, fits_left, left_stops, fits_short}
+use Rattle.tla_expr.proofs.ReadPhrases.{is_call, NoCall, Inner, tail_call, Prime, Brief, Full, Begins, Reads, ended, closed, is_end, Ends, end_calm, ReadsAll, reads_last, reads_more, primary_reads, reads_number, reads_quote, reads_constant, reads_name, reads_primed, reads_call, reads_brackets, reads_no_set, reads_no_tuple, reads_infix, reads_prefix}
 
 -- ---- how a phrase begins
 abbrev pub is_start : Tk → Bool
@@ -25,6 +25,7 @@ is_start (tk.quote x) = true
 is_start (tk.constant c) = true
 is_start (tk.word x) = true
 is_start (tk.sign o) = true
+is_start (tk.key tk.other_key) = false
 is_start (tk.key k) = true
 is_start (tk.mark tk.open_bracket) = true
 is_start (tk.mark tk.open_brace) = true
@@ -92,8 +93,8 @@ tuples_by r e p q k us h = refl
 tuples_at : (r : Readers) (e : ℕ) (p : Place) (us : List Token) → Starts e us → peek e (tuples r e p) us ≡ (r.phrases e >>= λ xs. a_mark e tk.close_tuple >>= λ s. gives (tuple p xs s)) us
 tuples_at r e p us s = rw (s.same_as, s.right) (tuples_by r e p s.first.place s.first.kind (s.first ∷ s.rest) s.start)
 
-reads_tuple : (p : Place) (xs : Phrases) (q : Place) → CoreAll xs → ReadsAll xs → Reads (tuple p xs q)
-reads_tuple p xs q w hx = primary_reads (tuple p xs q) w (λ e d ts s. s) (λ e g ts. record { first = token p (tk.mark tk.open_tuple); rest = spell_all xs (mark q tk.close_tuple ts); same_as = refl; right = g.0; as_operand = λ r c us. refl; as_short = λ r us. refl }) prime
+pub reads_tuple : (p : Place) (xs : Phrases) (q : Place) → ReadsAll xs → Reads (tuple p xs q)
+reads_tuple p xs q hx = primary_reads (tuple p xs q) (λ e d ts s. s) (λ e d ts s. tail_call (next e ts).kind s) (λ e g ts. record { first = token p (tk.mark tk.open_tuple); rest = spell_all xs (mark q tk.close_tuple ts); same_as = refl; right = g.0; as_operand = λ r c us. refl; as_short = λ r us. refl }) prime
   where
     prime : Prime (tuple p xs q)
     prime e (gp, gx, gq) ts k o h =
@@ -106,8 +107,27 @@ head_primary : (a : Phrase) (p : Place) → can_be_head a p ≡ true → is_prim
 head_primary (list o bs) p h = refl
 head_primary a p h = h
 
-reads_apply : (a : Phrase) (p : Place) (xs : Phrases) (q : Place) → Reads a → CoreAll xs → ReadsAll xs → Reads (apply a p xs q)
-reads_apply a p xs q ha w hx = primary_reads (apply a p xs q) (ha.core, w) (λ e d ts s. s) begins prime
+-- a list ends before a subscript or field that may stand behind it
+or_left : (x y : Bool) → (x || y) ≡ false → x ≡ false
+or_left false y h = refl
+or_left true y h = h
+
+no_bullet : (o : Op) (b : Bool) (k : Tk) → (is_call k || not (is_calm k || is_tail k)) ≡ false → (is_sign o k && b) ≡ false
+no_bullet o b (tk.sign q) h = absurd cc
+no_bullet o b k h = refl
+
+head_inner : (e : ℕ) (a : Phrase) (p : Place) (k : Tk) (us : List Token) → Good e a → can_be_head a p ≡ true → next e us ≡ token p k → (is_call k || not (is_calm k || is_tail k)) ≡ false → Inner e a us
+head_inner e a p k us g can s t = inner a g can
+  where
+    no_call : NoCall e us
+    no_call = rw s (or_left (is_call k) (not (is_calm k || is_tail k)) t)
+
+    inner : (a : Phrase) → Good e a → can_be_head a p ≡ true → Inner e a us
+    inner (list o bs) g can = (rw s (no_bullet o (nat_eq (first_bullet bs).col p.col) k t), bullets_behind e (first_bullet bs).col bs us p k g.2 g.1 s (not-true (nat_lt (first_bullet bs).col p.col) can))
+    inner a g can = no_call
+
+pub reads_apply : (a : Phrase) (p : Place) (xs : Phrases) (q : Place) → Reads a → ReadsAll xs → Reads (apply a p xs q)
+reads_apply a p xs q ha hx = primary_reads (apply a p xs q) (λ e d ts s. s) (λ e d ts s. tail_call (next e ts).kind s) begins prime
   where
     begins : (e : ℕ) → Good e (apply a p xs q) → (ts : List Token) → Begins e (apply a p xs q) ts
     begins e (ga, can, gp, gx, gq) ts = (let b = ha.begins (head_primary a p can) e ga (mark p tk.open_square (spell_all xs (mark q tk.close_square ts))) in record { first = b.first; rest = b.rest; same_as = b.same_as; right = b.right; as_operand = b.as_operand; as_short = b.as_short })
@@ -116,7 +136,7 @@ reads_apply a p xs q ha w hx = primary_reads (apply a p xs q) (ha.core, w) (λ e
     prime e (ga, can, gp, gx, gq) ts k o h =
         let us = mark p tk.open_square (spell_all xs (mark q tk.close_square ts)) in
         let v = hx e gx (mark q tk.close_square ts) (rw gq refl) in
-        ha.prime (head_primary a p can) e ga us (rw gp refl) o (step (λ r. r.postfix e a us) o (h.0 + v.0, λ n l. rw (gp, can, v.1 n (omega arith), gq) (h.1 n (omega arith))))
+        ha.prime (head_primary a p can) e ga us (head_inner e a p (tk.mark tk.open_square) us ga can (rw gp refl) refl) o (step (λ r. r.postfix e a us) o (h.0 + v.0, λ n l. rw (gp, can, v.1 n (omega arith), gq) (h.1 n (omega arith))))
 
 field_seen : (p : Place) (b : Bool) (x : Word) → field_of p (field_kind b x) ≡ Some (record { place = p; is_reserved = b; text = x })
 field_seen p true x = refl
@@ -125,8 +145,8 @@ field_seen p false x = refl
 pub field_read : (e : ℕ) (f : Field) (ts : List Token) → Right e f.place → a_field e (field_token f ts) ≡ Ok (f, ts)
 field_read e f ts g = rw (g, field_seen f.place f.is_reserved f.text) refl
 
-reads_select : (a : Phrase) (p : Place) (f : Field) → Reads a → Reads (select a p f)
-reads_select a p f ha = primary_reads (select a p f) ha.core (λ e d ts s. s) begins prime
+pub reads_select : (a : Phrase) (p : Place) (f : Field) → Reads a → Reads (select a p f)
+reads_select a p f ha = primary_reads (select a p f) (λ e d ts s. s) (λ e d ts s. tail_call (next e ts).kind s) begins prime
   where
     begins : (e : ℕ) → Good e (select a p f) → (ts : List Token) → Begins e (select a p f) ts
     begins e (ga, can, gp, gf) ts = (let b = ha.begins (head_primary a p can) e ga (mark p tk.dot (field_token f ts)) in record { first = b.first; rest = b.rest; same_as = b.same_as; right = b.right; as_operand = b.as_operand; as_short = b.as_short })
@@ -134,7 +154,7 @@ reads_select a p f ha = primary_reads (select a p f) ha.core (λ e d ts s. s) be
     prime : Prime (select a p f)
     prime e (ga, can, gp, gf) ts k o h =
         let us = mark p tk.dot (field_token f ts) in
-        ha.prime (head_primary a p can) e ga us (rw gp refl) o (step (λ r. r.postfix e a us) o (h.0, λ n l. rw (gp, can, field_read e f ts gf) (h.1 n l)))
+        ha.prime (head_primary a p can) e ga us (head_inner e a p (tk.mark tk.dot) us ga can (rw gp refl) refl) o (step (λ r. r.postfix e a us) o (h.0, λ n l. rw (gp, can, field_read e f ts gf) (h.1 n l)))
 
 -- ---- names with their sets
 pub record BindsRead (e : ℕ) (bs : Binds) (ts : List Token) : Type 0 where
@@ -152,28 +172,28 @@ bind_end : (r : Readers) (e : ℕ) (p : Place) (x : Word) (q : Place) (a : Phras
 bind_end r e p x q a s (tk.mark tk.comma) ts h = absurd cc
 bind_end r e p x q a s k ts h = refl
 
-reads_last_bind : (p : Place) (x : Word) (q : Place) (a : Phrase) → Reads a → ReadsBinds (last_bind p x q a)
+pub reads_last_bind : (p : Place) (x : Word) (q : Place) (a : Phrase) → Reads a → ReadsBinds (last_bind p x q a)
 reads_last_bind p x q a h e (gp, gq, ga) ts k =
     let us = sign q op.In (spell a ts) in
     let w = closed a h e ga ts (end_calm (next e ts).kind k) in
     record { place = p; word_of = x; rest = us; same_as = refl; right = gp; reads = step (λ r. r.binds e p x us) (Ok (last_bind p x q a, ts)) (w.0, λ n l. rw (gq, w.1 n l) (bind_end (readers n) e p x q a (next e ts).place (next e ts).kind ts k)) }
 
-reads_bind : (p : Place) (x : Word) (q : Place) (a : Phrase) (s : Place) (bs : Binds) → Reads a → ReadsBinds bs → ReadsBinds (bind p x q a s bs)
+pub reads_bind : (p : Place) (x : Word) (q : Place) (a : Phrase) (s : Place) (bs : Binds) → Reads a → ReadsBinds bs → ReadsBinds (bind p x q a s bs)
 reads_bind p x q a s bs h i e (gp, gq, ga, gs, gb) ts k =
     let us = sign q op.In (spell a (mark s tk.comma (spell_binds bs ts))) in
     let w = closed a h e ga (mark s tk.comma (spell_binds bs ts)) (rw gs refl) in
     let v = i e gb ts k in
     record { place = p; word_of = x; rest = us; same_as = refl; right = gp; reads = step (λ r. r.binds e p x us) (Ok (bind p x q a s bs, ts)) (w.0 + v.reads.0, λ n l. rw (gq, w.1 n (omega arith), gs, v.same_as, v.right, v.reads.1 n (omega arith)) refl) }
 
-reads_share : (p : Place) (x : Word) (q : Place) (bs : Binds) → ReadsBinds bs → ReadsBinds (share p x q bs)
+pub reads_share : (p : Place) (x : Word) (q : Place) (bs : Binds) → ReadsBinds bs → ReadsBinds (share p x q bs)
 reads_share p x q bs i e (gp, gq, gb) ts k =
     let us = mark q tk.comma (spell_binds bs ts) in
     let v = i e gb ts k in
     record { place = p; word_of = x; rest = us; same_as = refl; right = gp; reads = step (λ r. r.binds e p x us) (Ok (share p x q bs, ts)) (v.reads.0, λ n l. rw (gq, v.same_as, v.right, v.reads.1 n l) refl) }
 
 -- ---- open forms
-reads_for : (b : Bool) (p : Place) (bs : Binds) (q : Place) (a : Phrase) → CoreBinds bs → ReadsBinds bs → Reads a → Reads (quantified b p bs q a)
-reads_for b p bs q a w hb ha = record { core = (w, ha.core); begins = λ h. absurd cc; prime = λ h. absurd cc; brief = λ e g h. absurd cc; full = full b }
+pub reads_for : (b : Bool) (p : Place) (bs : Binds) (q : Place) (a : Phrase) → ReadsBinds bs → Reads a → Reads (quantified b p bs q a)
+reads_for b p bs q a hb ha = record { begins = λ h. absurd cc; prime = λ h. absurd cc; brief = λ e g h. absurd cc; full = full b }
   where
     full : (b : Bool) → Full (quantified b p bs q a)
     full true e c f (gp, gb, gq, ga) t ts (s, k) o h =
@@ -185,8 +205,8 @@ reads_for b p bs q a w hb ha = record { core = (w, ha.core); begins = λ h. absu
         let u = ended a ha e free tt ga refl ts s k in
         step (λ r. r.expr e c (spell (quantified false p bs q a) ts)) o (h.0 + v.reads.0 + u.0, λ n l. rw (gp, v.same_as, v.right, v.reads.1 n (omega arith), gq, u.1 n (omega arith)) (h.1 n (omega arith)))
 
-reads_choice : (p : Place) (a : Phrase) (q : Place) (b : Phrase) (s : Place) (d : Phrase) → Reads a → Reads b → Reads d → Reads (choice p a q b s d)
-reads_choice p a q b s d ha hb hd = record { core = (ha.core, hb.core, hd.core); begins = λ h. absurd cc; prime = λ h. absurd cc; brief = λ e g h. absurd cc; full = full }
+pub reads_choice : (p : Place) (a : Phrase) (q : Place) (b : Phrase) (s : Place) (d : Phrase) → Reads a → Reads b → Reads d → Reads (choice p a q b s d)
+reads_choice p a q b s d ha hb hd = record { begins = λ h. absurd cc; prime = λ h. absurd cc; brief = λ e g h. absurd cc; full = full }
   where
     full : Full (choice p a q b s d)
     full e c f (gp, ga, gq, gb, gs, gd) t ts (z, k) o h =
@@ -219,71 +239,23 @@ locals_end : (r : Readers) (e : ℕ) (p : Place) (x : Word) (q : Place) (a : Phr
 locals_end r e p x q a s (tk.word y) ts h = absurd cc
 locals_end r e p x q a s k ts h = refl
 
-reads_last_local : (p : Place) (x : Word) (q : Place) (a : Phrase) → Reads a → ReadsLocals (last_local p x q a)
+pub reads_last_local : (p : Place) (x : Word) (q : Place) (a : Phrase) → Reads a → ReadsLocals (last_local p x q a)
 reads_last_local p x q a h e (gp, gq, ga) ts k =
     let w = closed a h e ga ts (stop_calm (next e ts).kind k) in
     record { place = p; word_of = x; rest = mark q tk.defines (spell a ts); same_as = refl; right = gp; reads = step (λ r. r.locals e (spell_locals (last_local p x q a) ts)) (Ok (last_local p x q a, ts)) (w.0, λ n l. rw (gp, gq, w.1 n l) (locals_end (readers n) e p x q a (next e ts).place (next e ts).kind ts k)) }
 
-reads_more_locals : (p : Place) (x : Word) (q : Place) (a : Phrase) (ls : Locals) → Reads a → ReadsLocals ls → ReadsLocals (more_locals p x q a ls)
+pub reads_more_locals : (p : Place) (x : Word) (q : Place) (a : Phrase) (ls : Locals) → Reads a → ReadsLocals ls → ReadsLocals (more_locals p x q a ls)
 reads_more_locals p x q a ls h i e (gp, gq, ga, gl) ts k =
     let v = i e gl ts k in
     let w = closed a h e ga (spell_locals ls ts) (rw (v.same_as, v.right) refl) in
     let again : Soon (λ r. r.locals e (word v.place v.word_of v.rest)) (Ok (ls, ts)) = rw v.same_as at v.reads in
     record { place = p; word_of = x; rest = mark q tk.defines (spell a (spell_locals ls ts)); same_as = refl; right = gp; reads = step (λ r. r.locals e (spell_locals (more_locals p x q a ls) ts)) (Ok (more_locals p x q a ls, ts)) (w.0 + again.0, λ n l. rw (gp, gq, w.1 n (omega arith), v.same_as, v.right, again.1 n (omega arith)) refl) }
 
-reads_local : (p : Place) (ls : Locals) (q : Place) (a : Phrase) → CoreLocals ls → ReadsLocals ls → Reads a → Reads (local p ls q a)
-reads_local p ls q a w hl ha = record { core = (w, ha.core); begins = λ h. absurd cc; prime = λ h. absurd cc; brief = λ e g h. absurd cc; full = full }
+pub reads_local : (p : Place) (ls : Locals) (q : Place) (a : Phrase) → ReadsLocals ls → Reads a → Reads (local p ls q a)
+reads_local p ls q a hl ha = record { begins = λ h. absurd cc; prime = λ h. absurd cc; brief = λ e g h. absurd cc; full = full }
   where
     full : Full (local p ls q a)
     full e c f (gp, gl, gq, ga) t ts (s, k) o h =
         let v = hl e gl (key q tk.in_key (spell a ts)) (rw gq refl) in
         let u = ended a ha e free tt ga refl ts s k in
         step (λ r. r.expr e c (spell (local p ls q a) ts)) o (h.0 + v.reads.0 + u.0, λ n l. rw (gp, v.reads.1 n (omega arith), gq, u.1 n (omega arith)) (h.1 n (omega arith)))
-
--- ---- all forms
-mutual
-  pub reads : (a : Phrase) → Core a → Reads a
-  reads (number p n) w = reads_number p n
-  reads (quote p x) w = reads_quote p x
-  reads (constant p c) w = reads_constant p c
-  reads (name p x) w = reads_name p x
-  reads (primed p x q) w = reads_primed p x q
-  reads (call p x q xs r) w = reads_call p x q xs r w (reads_all xs w)
-  reads (brackets p a q) w = reads_brackets p a q (reads a w)
-  reads (no_set p q) w = reads_no_set p q
-  reads (no_tuple p q) w = reads_no_tuple p q
-  reads (tuple p xs q) w = reads_tuple p xs q w (reads_all xs w)
-  reads (apply a p xs q) w = reads_apply a p xs q (reads a w.0) w.1 (reads_all xs w.1)
-  reads (select a p f) w = reads_select a p f (reads a w)
-  reads (quantified b p bs q a) w = reads_for b p bs q a w.0 (reads_binds bs w.0) (reads a w.1)
-  reads (choice p a q b r c) w = reads_choice p a q b r c (reads a w.0) (reads b w.1) (reads c w.2)
-  reads (local p ls q a) w = reads_local p ls q a w.0 (reads_locals ls w.0) (reads a w.1)
-  reads (infix_of a p o b) w = reads_infix a p o b (reads a w.0) (reads b w.1)
-  reads (prefix_of p o a) w = reads_prefix p o a (reads a w)
-  reads a w = absurd w
-
-  pub reads_all : (xs : Phrases) → CoreAll xs → ReadsAll xs
-  reads_all (last a) w = reads_last a (reads a w)
-  reads_all (more a p xs) w = reads_more a p xs (reads a w.0) (reads_all xs w.1)
-
-  pub reads_binds : (bs : Binds) → CoreBinds bs → ReadsBinds bs
-  reads_binds (last_bind p x q a) w = reads_last_bind p x q a (reads a w)
-  reads_binds (bind p x q a r bs) w = reads_bind p x q a r bs (reads a w.0) (reads_binds bs w.1)
-  reads_binds (share p x q bs) w = reads_share p x q bs (reads_binds bs w)
-
-  pub reads_locals : (ls : Locals) → CoreLocals ls → ReadsLocals ls
-  reads_locals (last_local p x q a) w = reads_last_local p x q a (reads a w)
-  reads_locals (more_locals p x q a ls) w = reads_more_locals p x q a ls (reads a w.0) (reads_locals ls w.1)
-
--- ---- what is spelled with these forms is spelled in one way
-pub one_phrase : (e : ℕ) (a b : Phrase) → Core a → Core b → Good e a → Good e b → spell a [] ≡ spell b [] → a ≡ b
-one_phrase e a b wa wb ga gb same_tokens =
-    let u = closed a (reads a wa) e ga [] refl in
-    let v = closed b (reads b wb) e gb [] refl in
-    let n = u.0 + v.0 in
-    let pair : ◌≡◌ {A = Out Phrase} (Ok (a, [])) (Ok (b, [])) = sym (u.1 n (omega arith)) ∙ ap (λ (ts : List Token). (readers n).expr e free ts) same_tokens ∙ v.1 n (omega arith) in
-    ap (λ (x : Out Phrase). phrase_of a x) pair
-  where
-    phrase_of : Phrase → Out Phrase → Phrase
-    phrase_of d (Ok x) = x.0
-    phrase_of d (Err ts) = d

@@ -9,13 +9,13 @@ use Rattle.tla_expr.specs.Tree.{Word}
 use Rattle.tla_expr.specs.Rank.{rank, is_prefix}
 use Rattle.tla_expr.specs.Lexical.{Constant, Tk, Token, token, sign_of}
 use Rattle.tla_expr.specs.Lexical as tk
-use Rattle.tla_expr.specs.Spelling.{Field, Phrase, number, quote, constant, name, primed, call, brackets, no_set, no_tuple, tuple, apply, select, quantified, choice, local, infix_of, prefix_of}
+use Rattle.tla_expr.specs.Spelling.{Field, Phrase, number, quote, constant, name, primed, call, brackets, no_set, no_tuple, tuple, apply, select, list, quantified, choice, local, infix_of, prefix_of}
 use Rattle.tla_expr.specs.Spelling.{Phrases, last, more, Binds, last_bind, bind, share, Locals, last_local, more_locals}
-use Rattle.tla_expr.specs.Spelling.{mark, key, sign, word, field_token, spell, spell_all, spell_binds, spell_locals, Good, GoodAll, GoodBinds, GoodLocals, Right, head, is_primary, is_short, can_be_left, can_be_head, Head}
+use Rattle.tla_expr.specs.Spelling.{mark, key, sign, word, field_token, spell, spell_all, spell_binds, spell_locals, Good, GoodAll, GoodBinds, GoodLocals, Right, head, is_primary, is_short, can_be_left, can_be_head, Head, first_bullet}
 use Rattle.tla_expr.specs.Spelling as sp
 use Rattle.tla_expr.specs.Reader.{Out, Reader, then_read, ◌>>=◌, gives, skip, next, peek, a_word, a_mark, Context, free, right_of, under, bound, fits, is_free, goes_on, Readers, one_step, readers, named, primary, under_by, operand, short_by, phrases_by, bind_rest, binds_by, locals_by}
 use Rattle.tla_expr.proofs.ReadSoon.{Soon, step, now, both, same, is_tail, NoTail, Stays, postfix_ends, climb_ends}
-use Rattle.tla_expr.proofs.ReadStops.{Core, CoreAll, CoreBinds, CoreLocals, Stops, is_calm, Calm, calm_stays, calm_stops, Fine, seen_sign, sign_infix, above_bound, left_parts, fits_left, left_stops, fits_short}
+use Rattle.tla_expr.proofs.ReadStops.{Stops, ListEnds, BulletsStop, is_calm, Calm, calm_stays, calm_stops, Fine, seen_sign, sign_infix, above_bound, left_parts, fits_left, left_stops, fits_short}
 
 -- ---- the claim
 abbrev pub is_call : Tk → Bool
@@ -26,10 +26,15 @@ is_call k = false
 abbrev pub NoCall : ℕ → List Token → Type 0
 NoCall e ts = is_call (next e ts).kind ≡ false
 
+-- nothing within a primary goes on
+abbrev pub Inner : ℕ → Phrase → List Token → Type 0
+Inner e (list o bs) ts = ListEnds e o (first_bullet bs).col ts × BulletsStop (first_bullet bs).col bs ts
+Inner e a ts = NoCall e ts
+
 -- a primary is read up to its `[a]` and `.b`, a short form to its end, and any phrase up to its operators: what the loop that goes on from it
 -- gives is given
 abbrev pub Prime : Phrase → Type 0
-Prime a = (e : ℕ) → Good e a → (ts : List Token) → NoCall e ts → (o : Out Phrase) → Soon (λ r. r.postfix e a ts) o → Soon (λ r. peek e (primary r e) (spell a ts)) o
+Prime a = (e : ℕ) → Good e a → (ts : List Token) → Inner e a ts → (o : Out Phrase) → Soon (λ r. r.postfix e a ts) o → Soon (λ r. peek e (primary r e) (spell a ts)) o
 
 abbrev pub Brief : Phrase → Type 0
 Brief a = (e : ℕ) → Good e a → is_short a ≡ true → (ts : List Token) → Stops e None a ts → Soon (λ r. r.short e (spell a ts)) (Ok (a, ts))
@@ -46,7 +51,6 @@ pub record Begins (e : ℕ) (a : Phrase) (ts : List Token) : Type 0 where
   pub as_short : (r : Readers) (us : List Token) → short_by r e first.place first.kind us ≡ primary r e first.place first.kind us
 
 pub record Reads (a : Phrase) : Type 0 where
-  pub core : Core a
   pub begins : is_primary (head a) ≡ true → (e : ℕ) → Good e a → (ts : List Token) → Begins e a ts
   pub prime : is_primary (head a) ≡ true → Prime a
   pub brief : Brief a
@@ -58,7 +62,7 @@ ended a h e c f g t ts s k = h.full e c f g t ts s (Ok (a, ts)) (climb_ends e (b
 
 -- free, before a token that goes on nothing
 pub closed : (a : Phrase) → Reads a → (e : ℕ) → Good e a → (ts : List Token) → Calm e ts → Soon (λ r. r.expr e free (spell a ts)) (Ok (a, ts))
-closed a h e g ts k = ended a h e free tt g refl ts (calm_stops e (Some free) a ts h.core k) (calm_stays e 0 a ts k)
+closed a h e g ts k = ended a h e free tt g refl ts (calm_stops e (Some free) a ts g k) (calm_stays e 0 a ts k)
 
 -- ---- lists
 abbrev pub is_end : Tk → Bool
@@ -97,36 +101,36 @@ operand_is e a ts b r c = rw (b.same_as, b.right) (b.as_operand r c (b.first ∷
 short_is : (e : ℕ) (a : Phrase) (ts : List Token) → Begins e a ts → (r : Readers) → peek e (short_by r e) (spell a ts) ≡ peek e (primary r e) (spell a ts)
 short_is e a ts b r = rw (b.same_as, b.right) (b.as_short r (b.first ∷ b.rest))
 
-tail_call : (k : Tk) → is_tail k ≡ false → is_call k ≡ false
+pub tail_call : (k : Tk) → is_tail k ≡ false → is_call k ≡ false
 tail_call (tk.mark tk.open_bracket) h = absurd cc
 tail_call (tk.mark tk.prime) h = absurd cc
 tail_call k h = refl
 
-pub primary_reads : (a : Phrase) → Core a → ((e : ℕ) (d : Option Context) (ts : List Token) → Stops e d a ts → NoTail e ts) → ((e : ℕ) → Good e a → (ts : List Token) → Begins e a ts) → Prime a → Reads a
-primary_reads a w stop begins prime = record { core = w; begins = λ h. begins; prime = λ h. prime; brief = brief; full = full }
+pub primary_reads : (a : Phrase) → ((e : ℕ) (d : Option Context) (ts : List Token) → Stops e d a ts → NoTail e ts) → ((e : ℕ) (d : Option Context) (ts : List Token) → Stops e d a ts → Inner e a ts) → ((e : ℕ) → Good e a → (ts : List Token) → Begins e a ts) → Prime a → Reads a
+primary_reads a stop inner begins prime = record { begins = λ h. begins; prime = λ h. prime; brief = brief; full = full }
   where
-    read : (e : ℕ) → Good e a → (ts : List Token) → NoTail e ts → Soon (λ r. peek e (primary r e) (spell a ts)) (Ok (a, ts))
-    read e g ts s = prime e g ts (tail_call (next e ts).kind s) (Ok (a, ts)) (postfix_ends e a ts s)
+    read : (e : ℕ) (d : Option Context) → Good e a → (ts : List Token) → Stops e d a ts → Soon (λ r. peek e (primary r e) (spell a ts)) (Ok (a, ts))
+    read e d g ts s = prime e g ts (inner e d ts s) (Ok (a, ts)) (postfix_ends e a ts (stop e d ts s))
 
     brief : Brief a
     brief e g h ts s =
-        step (λ r. r.short e (spell a ts)) (Ok (a, ts)) (same (λ r. peek e (short_by r e) (spell a ts)) (λ r. peek e (primary r e) (spell a ts)) (Ok (a, ts)) (λ r. short_is e a ts (begins e g ts) r) (read e g ts (stop e None ts s)))
+        step (λ r. r.short e (spell a ts)) (Ok (a, ts)) (same (λ r. peek e (short_by r e) (spell a ts)) (λ r. peek e (primary r e) (spell a ts)) (Ok (a, ts)) (λ r. short_is e a ts (begins e g ts) r) (read e None g ts s))
 
     full : Full a
     full e c f g t ts s o h =
         step (λ r. r.expr e c (spell a ts)) o (both (λ r. peek e (operand r e c) (spell a ts)) (λ r a ts. r.climb e (bound c) a ts) a ts o
-            (same (λ r. peek e (operand r e c) (spell a ts)) (λ r. peek e (primary r e) (spell a ts)) (Ok (a, ts)) (λ r. operand_is e a ts (begins e g ts) r c) (read e g ts (stop e (Some c) ts s))) h)
+        (same (λ r. peek e (operand r e c) (spell a ts)) (λ r. peek e (primary r e) (spell a ts)) (Ok (a, ts)) (λ r. operand_is e a ts (begins e g ts) r c) (read e (Some c) g ts s)) h)
 
 pub reads_number : (p : Place) (n : ℕ) → Reads (number p n)
-reads_number p n = primary_reads (number p n) tt (λ e d ts s. s) (λ e g ts. record { first = token p (tk.number n); rest = ts; same_as = refl; right = g; as_operand = λ r c us. refl; as_short = λ r us. refl })
+reads_number p n = primary_reads (number p n) (λ e d ts s. s) (λ e d ts s. tail_call (next e ts).kind s) (λ e g ts. record { first = token p (tk.number n); rest = ts; same_as = refl; right = g; as_operand = λ r c us. refl; as_short = λ r us. refl })
     (λ e g ts k o h. (h.0, λ m l. rw g (h.1 m l)))
 
 pub reads_quote : (p : Place) (x : Word) → Reads (quote p x)
-reads_quote p x = primary_reads (quote p x) tt (λ e d ts s. s) (λ e g ts. record { first = token p (tk.quote x); rest = ts; same_as = refl; right = g; as_operand = λ r c us. refl; as_short = λ r us. refl })
+reads_quote p x = primary_reads (quote p x) (λ e d ts s. s) (λ e d ts s. tail_call (next e ts).kind s) (λ e g ts. record { first = token p (tk.quote x); rest = ts; same_as = refl; right = g; as_operand = λ r c us. refl; as_short = λ r us. refl })
     (λ e g ts k o h. (h.0, λ m l. rw g (h.1 m l)))
 
 pub reads_constant : (p : Place) (x : Constant) → Reads (constant p x)
-reads_constant p x = primary_reads (constant p x) tt (λ e d ts s. s) (λ e g ts. record { first = token p (tk.constant x); rest = ts; same_as = refl; right = g; as_operand = λ r c us. refl; as_short = λ r us. refl })
+reads_constant p x = primary_reads (constant p x) (λ e d ts s. s) (λ e d ts s. tail_call (next e ts).kind s) (λ e g ts. record { first = token p (tk.constant x); rest = ts; same_as = refl; right = g; as_operand = λ r c us. refl; as_short = λ r us. refl })
     (λ e g ts k o h. (h.0, λ m l. rw g (h.1 m l)))
 
 named_plain : (r : Readers) (e : ℕ) (p : Place) (x : Word) (q : Place) (k : Tk) (ts : List Token) → is_call k ≡ false → named r e p x q k ts ≡ Ok (name p x, ts)
@@ -135,36 +139,36 @@ named_plain r e p x q (tk.mark tk.prime) ts h = absurd cc
 named_plain r e p x q k ts h = refl
 
 pub reads_name : (p : Place) (x : Word) → Reads (name p x)
-reads_name p x = primary_reads (name p x) tt (λ e d ts s. s) (λ e g ts. record { first = token p (tk.word x); rest = ts; same_as = refl; right = g; as_operand = λ r c us. refl; as_short = λ r us. refl })
+reads_name p x = primary_reads (name p x) (λ e d ts s. s) (λ e d ts s. tail_call (next e ts).kind s) (λ e g ts. record { first = token p (tk.word x); rest = ts; same_as = refl; right = g; as_operand = λ r c us. refl; as_short = λ r us. refl })
     (λ e g ts k o h. (h.0, λ m l. rw g (ap (λ (x : Out Phrase). then_read x (λ a us. (readers m).postfix e a us)) (named_plain (readers m) e p x (next e ts).place (next e ts).kind ts k) ∙ h.1 m l)))
 
 pub reads_primed : (p : Place) (x : Word) (q : Place) → Reads (primed p x q)
-reads_primed p x q = primary_reads (primed p x q) tt (λ e d ts s. s) (λ e g ts. record { first = token p (tk.word x); rest = mark q tk.prime ts; same_as = refl; right = g.0; as_operand = λ r c us. refl; as_short = λ r us. refl })
+reads_primed p x q = primary_reads (primed p x q) (λ e d ts s. s) (λ e d ts s. tail_call (next e ts).kind s) (λ e g ts. record { first = token p (tk.word x); rest = mark q tk.prime ts; same_as = refl; right = g.0; as_operand = λ r c us. refl; as_short = λ r us. refl })
     (λ e g ts k o h. (h.0, λ m l. rw (g.0, g.1) (h.1 m l)))
 
-pub reads_call : (p : Place) (x : Word) (q : Place) (xs : Phrases) (s : Place) → CoreAll xs → ReadsAll xs → Reads (call p x q xs s)
-reads_call p x q xs s w hx = primary_reads (call p x q xs s) w (λ e d ts s. s) (λ e g ts. record { first = token p (tk.word x); rest = mark q tk.open_bracket (spell_all xs (mark s tk.close_bracket ts)); same_as = refl; right = g.0; as_operand = λ r c us. refl; as_short = λ r us. refl }) prime
+pub reads_call : (p : Place) (x : Word) (q : Place) (xs : Phrases) (s : Place) → ReadsAll xs → Reads (call p x q xs s)
+reads_call p x q xs s hx = primary_reads (call p x q xs s) (λ e d ts s. s) (λ e d ts s. tail_call (next e ts).kind s) (λ e g ts. record { first = token p (tk.word x); rest = mark q tk.open_bracket (spell_all xs (mark s tk.close_bracket ts)); same_as = refl; right = g.0; as_operand = λ r c us. refl; as_short = λ r us. refl }) prime
   where
     prime : Prime (call p x q xs s)
     prime e (gp, gq, gx, gs) ts k o h = (let v = hx e gx (mark s tk.close_bracket ts) (rw gs refl) in (h.0 + v.0, λ m l. rw (gp, gq, v.1 m (omega arith), gs) (h.1 m (omega arith))))
 
 pub reads_brackets : (p : Place) (a : Phrase) (q : Place) → Reads a → Reads (brackets p a q)
-reads_brackets p a q ha = primary_reads (brackets p a q) ha.core (λ e d ts s. s) (λ e g ts. record { first = token p (tk.mark tk.open_bracket); rest = spell a (mark q tk.close_bracket ts); same_as = refl; right = g.0; as_operand = λ r c us. refl; as_short = λ r us. refl }) prime
+reads_brackets p a q ha = primary_reads (brackets p a q) (λ e d ts s. s) (λ e d ts s. tail_call (next e ts).kind s) (λ e g ts. record { first = token p (tk.mark tk.open_bracket); rest = spell a (mark q tk.close_bracket ts); same_as = refl; right = g.0; as_operand = λ r c us. refl; as_short = λ r us. refl }) prime
   where
     prime : Prime (brackets p a q)
     prime e (gp, ga, gq) ts k o h = (let v = closed a ha e ga (mark q tk.close_bracket ts) (rw gq refl) in (h.0 + v.0, λ m l. rw (gp, v.1 m (omega arith), gq) (h.1 m (omega arith))))
 
 pub reads_no_set : (p q : Place) → Reads (no_set p q)
-reads_no_set p q = primary_reads (no_set p q) tt (λ e d ts s. s) (λ e g ts. record { first = token p (tk.mark tk.open_brace); rest = mark q tk.close_brace ts; same_as = refl; right = g.0; as_operand = λ r c us. refl; as_short = λ r us. refl })
+reads_no_set p q = primary_reads (no_set p q) (λ e d ts s. s) (λ e d ts s. tail_call (next e ts).kind s) (λ e g ts. record { first = token p (tk.mark tk.open_brace); rest = mark q tk.close_brace ts; same_as = refl; right = g.0; as_operand = λ r c us. refl; as_short = λ r us. refl })
     (λ e g ts k o h. (h.0, λ m l. rw (g.0, g.1) (h.1 m l)))
 
 pub reads_no_tuple : (p q : Place) → Reads (no_tuple p q)
-reads_no_tuple p q = primary_reads (no_tuple p q) tt (λ e d ts s. s) (λ e g ts. record { first = token p (tk.mark tk.open_tuple); rest = mark q tk.close_tuple ts; same_as = refl; right = g.0; as_operand = λ r c us. refl; as_short = λ r us. refl })
+reads_no_tuple p q = primary_reads (no_tuple p q) (λ e d ts s. s) (λ e d ts s. tail_call (next e ts).kind s) (λ e g ts. record { first = token p (tk.mark tk.open_tuple); rest = mark q tk.close_tuple ts; same_as = refl; right = g.0; as_operand = λ r c us. refl; as_short = λ r us. refl })
     (λ e g ts k o h. (h.0, λ m l. rw (g.0, g.1) (h.1 m l)))
 
 -- ---- operators
 pub reads_infix : (a : Phrase) (p : Place) (o : Op) (b : Phrase) → Reads a → Reads b → Reads (infix_of a p o b)
-reads_infix a p o b ha hb = record { core = (ha.core, hb.core); begins = λ h. absurd cc; prime = λ h. absurd cc; brief = λ e g h. absurd cc; full = full }
+reads_infix a p o b ha hb = record { begins = λ h. absurd cc; prime = λ h. absurd cc; brief = λ e g h. absurd cc; full = full }
   where
     full : Full (infix_of a p o b)
     full e c f (n, l, m, ga, gp, gb) t ts (s, k) out h =
@@ -175,7 +179,7 @@ reads_infix a p o b ha hb = record { core = (ha.core, hb.core); begins = λ h. a
         let v = ended b hb e (right_of o) tt gb m ts s k in
         let goes : goes_on (bound c) a p o ≡ true = rw (between, lt-ltb (bound c) (rank o).0 above, l) refl in
         ha.full e c f ga (fits_left c a o parts.0 above) more_ts (left_stops e c a p o more_ts ga parts.1 parts.0 above (seen_sign e p o (spell b ts) gp between)) out
-            (step (λ r. r.climb e (bound c) a more_ts) out (h.0 + v.0, λ n l. rw (gp, sign_infix o between, goes, v.1 n (omega arith)) (h.1 n (omega arith))))
+        (step (λ r. r.climb e (bound c) a more_ts) out (h.0 + v.0, λ n l. rw (gp, sign_infix o between, goes, v.1 n (omega arith)) (h.1 n (omega arith))))
 
 prefix_operand : (r : Readers) (e : ℕ) (c : Context) (p : Place) (o : Op) (us : List Token) → is_prefix o ≡ true → operand r e c p (sign_of o) us ≡ skip (under_by (is_free c o) r e o >>= λ a. gives (prefix_of p o a)) us
 prefix_operand r e c p op.Not us h = refl
@@ -194,7 +198,7 @@ prefix_short r e p op.Negate us h = refl
 prefix_short r e p o us h = absurd cc
 
 pub reads_prefix : (p : Place) (o : Op) (a : Phrase) → Reads a → Reads (prefix_of p o a)
-reads_prefix p o a ha = record { core = ha.core; begins = λ h. absurd cc; prime = λ h. absurd cc; brief = brief; full = full }
+reads_prefix p o a ha = record { begins = λ h. absurd cc; prime = λ h. absurd cc; brief = brief; full = full }
   where
     brief : Brief (prefix_of p o a)
     brief e (n, m, gp, ga) t ts s =
@@ -210,4 +214,4 @@ reads_prefix p o a ha = record { core = ha.core; begins = λ h. absurd cc; prime
     full e c f g t ts s out h =
         let v = under_read e c (is_free c o) refl g t ts s in
         step (λ r. r.expr e c (spell (prefix_of p o a) ts)) out
-            (h.0 + v.0, λ n l. rw (g.2, ap (λ (x : Out Phrase). then_read x (λ a us. (readers n).climb e (bound c) a us)) (prefix_operand (readers n) e c p o (sign p o (spell a ts)) g.0), v.1 n (omega arith)) (h.1 n (omega arith)))
+        (h.0 + v.0, λ n l. rw (g.2, ap (λ (x : Out Phrase). then_read x (λ a us. (readers n).climb e (bound c) a us)) (prefix_operand (readers n) e c p o (sign p o (spell a ts)) g.0), v.1 n (omega arith)) (h.1 n (omega arith)))

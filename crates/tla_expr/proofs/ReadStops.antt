@@ -1,5 +1,5 @@
 -- Which token ends a phrase where it stands.
-use Rattle.std.proofs.Common.{◌≡◌, ℕ, ◌<◌, ◌≤◌, Bool, true, false, not, ◌&&◌, ◌||◌, nat_lt, zero, suc, List, [], ◌∷◌, Option, Some, None, refl, sym, ap, ◌∙◌, arith, MatchBool, inl, inr}
+use Rattle.std.proofs.Common.{◌≡◌, ℕ, ◌<◌, ◌≤◌, ◌⊎◌, nat_eq, Bool, true, false, not, ◌&&◌, ◌||◌, nat_lt, zero, suc, List, [], ◌∷◌, Option, Some, None, refl, sym, ap, ◌∙◌, arith, MatchBool, inl, inr}
 use Rattle.std.proofs.lemmas.Bool.{and_parts, or_cases, both_ways, eqb-true, ltb-true, le-ltb, lt-ltb, not-true}
 use Rattle.std.specs.Bool.{IsTrue}
 use Rattle.tla_token.specs.declared.place.Place.{Place}
@@ -9,72 +9,67 @@ use Rattle.tla_expr.specs.Rank.{rank, is_prefix, is_associative, is_bullet, same
 use Rattle.tla_expr.specs.Lexical.{Tk, Token, token, sign_of}
 use Rattle.tla_expr.specs.Lexical as tk
 use Rattle.tla_expr.specs.Spelling.{Field, Phrase, number, quote, constant, name, primed, call, brackets, no_set, set_of, filter, image, no_tuple, tuple, fields, records, function, functions, except, apply, select, list, quantified, choice, cases, local, infix_of, prefix_of}
-use Rattle.tla_expr.specs.Spelling.{Phrases, last, more, Binds, last_bind, bind, share, Locals, last_local, more_locals}
-use Rattle.tla_expr.specs.Spelling.{Good, Right, head, is_above, is_applied, is_open, is_short, ends_open, end_list, is_behind, can_be_left, can_be_right, can_be_under, can_be_head, applied, primary, open_form, Head}
-use Rattle.tla_expr.specs.Reader.{next, Context, free, right_of, under, bound, fits, is_free, goes_on}
+use Rattle.tla_expr.specs.Spelling.{Bullets, last_bullet, bullet, Arms, last_arm, other_arm, arm}
+use Rattle.tla_expr.specs.Spelling.{Good, GoodBullets, GoodArms, first_bullet, takes_box, last_takes_box, Right, head, is_above, is_applied, is_open, is_short, ends_open, end_list, is_behind, can_be_left, can_be_right, can_be_under, can_be_head, applied, primary, open_form, Head}
+use Rattle.tla_expr.specs.Reader.{next, end, is_sign, Context, free, right_of, under, bound, fits, is_free, goes_on}
 use Rattle.tla_expr.proofs.ReadSoon.{is_tail, NoTail, Stays, goes_by}
-
--- ---- the forms of which the laws are proved so far
-abbrev mutual
-  pub Core : Phrase → Type 0
-  Core (number p n) = Unit {0}
-  Core (quote p x) = Unit {0}
-  Core (constant p c) = Unit {0}
-  Core (name p x) = Unit {0}
-  Core (primed p x q) = Unit {0}
-  Core (call p x q xs r) = CoreAll xs
-  Core (brackets p a q) = Core a
-  Core (no_set p q) = Unit {0}
-  Core (no_tuple p q) = Unit {0}
-  Core (tuple p xs q) = CoreAll xs
-  Core (apply a p xs q) = Core a × CoreAll xs
-  Core (select a p f) = Core a
-  Core (quantified b p bs q a) = CoreBinds bs × Core a
-  Core (choice p a q b r c) = Core a × Core b × Core c
-  Core (local p ls q a) = CoreLocals ls × Core a
-  Core (infix_of a p o b) = Core a × Core b
-  Core (prefix_of p o a) = Core a
-  Core a = ⊥
-
-  pub CoreAll : Phrases → Type 0
-  CoreAll (last a) = Core a
-  CoreAll (more a p xs) = Core a × CoreAll xs
-
-  pub CoreBinds : Binds → Type 0
-  CoreBinds (last_bind p x q a) = Core a
-  CoreBinds (bind p x q a r bs) = Core a × CoreBinds bs
-  CoreBinds (share p x q bs) = CoreBinds bs
-
-  pub CoreLocals : Locals → Type 0
-  CoreLocals (last_local p x q a) = Core a
-  CoreLocals (more_locals p x q a ls) = Core a × CoreLocals ls
 
 -- None: a short form
 abbrev pub free_in : Option Context → Op → Bool
 free_in None q = false
 free_in (Some c) q = is_free c q
 
+abbrev pub is_box : Tk → Bool
+is_box (tk.mark tk.box) = true
+is_box k = false
+
+-- no further bullet of this list
+abbrev pub ListEnds : ℕ → Op → ℕ → List Token → Type 0
+ListEnds e o c ts = (is_sign o (next e ts).kind && nat_eq c (next e ts).place.col) ≡ false
+
 -- before these tokens nothing within the phrase goes on
-abbrev pub Stops : ℕ → Option Context → Phrase → List Token → Type 0
-Stops e d (quantified b p bs q a) ts = Stops e (Some free) a ts × Stays e 0 a ts
-Stops e d (choice p a q b r c) ts = Stops e (Some free) c ts × Stays e 0 c ts
-Stops e d (local p ls q a) ts = Stops e (Some free) a ts × Stays e 0 a ts
-Stops e d (infix_of a p o b) ts = Stops e (Some (right_of o)) b ts × Stays e (rank o).1 b ts
-Stops e d (prefix_of p o a) ts = MatchBool (free_in d o) (Stops e (Some (under o)) a ts × Stays e (rank o).1 a ts) (Stops e None a ts)
-Stops e d a ts = NoTail e ts
+abbrev mutual
+  pub Stops : ℕ → Option Context → Phrase → List Token → Type 0
+  Stops e d (quantified b p bs q a) ts = Stops e (Some free) a ts × Stays e 0 a ts
+  Stops e d (choice p a q b r c) ts = Stops e (Some free) c ts × Stays e 0 c ts
+  Stops e d (local p ls q a) ts = Stops e (Some free) a ts × Stays e 0 a ts
+  Stops e d (infix_of a p o b) ts = Stops e (Some (right_of o)) b ts × Stays e (rank o).1 b ts
+  Stops e d (prefix_of p o a) ts = MatchBool (free_in d o) (Stops e (Some (under o)) a ts × Stays e (rank o).1 a ts) (Stops e None a ts)
+  Stops e d (list o bs) ts = NoTail e ts × ListEnds e o (first_bullet bs).col ts × BulletsStop (first_bullet bs).col bs ts
+  Stops e d (cases p xs) ts = ArmsStop e xs ts
+  Stops e d a ts = NoTail e ts
+
+  pub BulletsStop : ℕ → Bullets → List Token → Type 0
+  BulletsStop c (last_bullet p a) ts = Stops c (Some free) a ts × Stays c 0 a ts
+  BulletsStop c (bullet p a bs) ts = BulletsStop c bs ts
+
+  pub ArmsStop : ℕ → Arms → List Token → Type 0
+  ArmsStop e (last_arm a p b) ts = Stops e (Some free) b ts × Stays e 0 b ts × (is_box (next e ts).kind ≡ false)
+  ArmsStop e (other_arm a p b q r s c) ts = Stops e (Some free) c ts × Stays e 0 c ts
+  ArmsStop e (arm a p b q xs) ts = ArmsStop e xs ts
 
 -- a token that goes on nothing
 abbrev pub is_calm : Tk → Bool
 is_calm (tk.sign o) = false
+is_calm (tk.mark tk.box) = false
 is_calm k = not (is_tail k)
 
 calm_tail : (k : Tk) → is_calm k ≡ true → is_tail k ≡ false
 calm_tail (tk.sign o) h = refl
+calm_tail (tk.mark tk.box) h = refl
 calm_tail k h = not-true (is_tail k) h
 
 calm_by : (b : ℕ) (a : Phrase) (p : Place) (k : Tk) → is_calm k ≡ true → goes_by b a p k ≡ false
 calm_by b a p (tk.sign o) h = absurd cc
 calm_by b a p k h = refl
+
+calm_bullet : (o : Op) (b : Bool) (k : Tk) → is_calm k ≡ true → (is_sign o k && b) ≡ false
+calm_bullet o b (tk.sign q) h = absurd cc
+calm_bullet o b k h = refl
+
+calm_box : (k : Tk) → is_calm k ≡ true → is_box k ≡ false
+calm_box (tk.mark tk.box) h = absurd cc
+calm_box k h = refl
 
 abbrev pub Calm : ℕ → List Token → Type 0
 Calm e ts = is_calm (next e ts).kind ≡ true
@@ -86,13 +81,91 @@ either : {P Q : Type 0} (b : Bool) → P → Q → MatchBool b P Q
 either true p q = p
 either false p q = q
 
-pub calm_stops : (e : ℕ) (d : Option Context) (a : Phrase) (ts : List Token) → Core a → Calm e ts → Stops e d a ts
-calm_stops e d (quantified b p bs q a) ts w h = (calm_stops e (Some free) a ts w.1 h, calm_stays e 0 a ts h)
-calm_stops e d (choice p a q b r c) ts w h = (calm_stops e (Some free) c ts w.2 h, calm_stays e 0 c ts h)
-calm_stops e d (local p ls q a) ts w h = (calm_stops e (Some free) a ts w.1 h, calm_stays e 0 a ts h)
-calm_stops e d (infix_of a p o b) ts w h = (calm_stops e (Some (right_of o)) b ts w.1 h, calm_stays e (rank o).1 b ts h)
-calm_stops e d (prefix_of p o a) ts w h = either (free_in d o) (calm_stops e (Some (under o)) a ts w h, calm_stays e (rank o).1 a ts h) (calm_stops e None a ts w h)
-calm_stops e d a ts w h = calm_tail (next e ts).kind h
+-- further right, less is seen
+pub calm_right : (e c : ℕ) (ts : List Token) → nat_lt e c ≡ true → Calm e ts → Calm c ts
+calm_right e c [] l h = refl
+calm_right e c (t ∷ ts) l h = by (nat_lt c t.place.col) refl
+  where
+    by : (b : Bool) → nat_lt c t.place.col ≡ b → Calm c (t ∷ ts)
+    by false g = rw g refl
+    by true g =
+        let low : nat_lt e t.place.col ≡ true = (let x = ltb-true e c l in let y = ltb-true c t.place.col g in lt-ltb e t.place.col (omega arith)) in
+        let seen : is_calm t.kind ≡ true = rw low at h in
+        rw g seen
+
+mutual
+  pub calm_stops : (e : ℕ) (d : Option Context) (a : Phrase) (ts : List Token) → Good e a → Calm e ts → Stops e d a ts
+  calm_stops e d (quantified b p bs q a) ts g h = (calm_stops e (Some free) a ts g.3 h, calm_stays e 0 a ts h)
+  calm_stops e d (choice p a q b r c) ts g h = (calm_stops e (Some free) c ts g.5 h, calm_stays e 0 c ts h)
+  calm_stops e d (local p ls q a) ts g h = (calm_stops e (Some free) a ts g.3 h, calm_stays e 0 a ts h)
+  calm_stops e d (infix_of a p o b) ts g h = (calm_stops e (Some (right_of o)) b ts g.5 h, calm_stays e (rank o).1 b ts h)
+  calm_stops e d (prefix_of p o a) ts g h = either (free_in d o) (calm_stops e (Some (under o)) a ts g.3 h, calm_stays e (rank o).1 a ts h) (calm_stops e None a ts g.3 h)
+  calm_stops e d (list o bs) ts g h = (calm_tail (next e ts).kind h, calm_bullet o (nat_eq (first_bullet bs).col (next e ts).place.col) (next e ts).kind h, calm_bullets (first_bullet bs).col bs ts g.2 (calm_right e (first_bullet bs).col ts g.1 h))
+  calm_stops e d (cases p xs) ts g h = calm_arms e xs ts g.1 h
+  calm_stops e d a ts g h = calm_tail (next e ts).kind h
+
+  pub calm_bullets : (c : ℕ) (bs : Bullets) (ts : List Token) → GoodBullets c bs → Calm c ts → BulletsStop c bs ts
+  calm_bullets c (last_bullet p a) ts g h = (calm_stops c (Some free) a ts g.1 h, calm_stays c 0 a ts h)
+  calm_bullets c (bullet p a bs) ts g h = calm_bullets c bs ts g.2 h
+
+  calm_arms : (e : ℕ) (xs : Arms) (ts : List Token) → GoodArms e xs → Calm e ts → ArmsStop e xs ts
+  calm_arms e (last_arm a p b) ts g h = (calm_stops e (Some free) b ts g.2 h, calm_stays e 0 b ts h, calm_box (next e ts).kind h)
+  calm_arms e (other_arm a p b q r s c) ts g h = (calm_stops e (Some free) c ts g.7 h, calm_stays e 0 c ts h)
+  calm_arms e (arm a p b q xs) ts g h = calm_arms e xs ts g.5 h
+
+-- a token that stands at the column or left of it is not seen in an item
+pub behind_end : (e c : ℕ) (ts : List Token) (p : Place) (k : Tk) → nat_lt e c ≡ true → next e ts ≡ token p k → nat_lt c p.col ≡ false → next c ts ≡ end
+behind_end e c [] p k l s h = refl
+behind_end e c (t ∷ ts) p k l s h = by (nat_lt c t.place.col) refl
+  where
+    by : (b : Bool) → nat_lt c t.place.col ≡ b → next c (t ∷ ts) ≡ end
+    by false g = rw g refl
+    by true g =
+        let low : nat_lt e t.place.col ≡ true = (let x = ltb-true e c l in let y = ltb-true c t.place.col g in lt-ltb e t.place.col (omega arith)) in
+        let it : t ≡ token p k = rw low at s in
+        let col : nat_lt c t.place.col ≡ nat_lt c p.col = ap (λ (u : Token). nat_lt c u.place.col) it in
+        absurd (both_ways (nat_lt c p.col) h (sym col ∙ g))
+
+pub bullets_behind : (e c : ℕ) (bs : Bullets) (ts : List Token) (p : Place) (k : Tk) → GoodBullets c bs → nat_lt e c ≡ true → next e ts ≡ token p k → nat_lt c p.col ≡ false → BulletsStop c bs ts
+bullets_behind e c bs ts p k g l s h = calm_bullets c bs ts g (rw (behind_end e c ts p k l s h) refl)
+
+-- ---- `[]` behind a phrase in which no CASE takes it
+box_right : (e c : ℕ) (ts : List Token) (p : Place) → nat_lt e c ≡ true → next e ts ≡ token p (tk.mark tk.box) → (nat_lt c p.col ≡ false × Calm c ts) ⊎ (nat_lt c p.col ≡ true × (next c ts ≡ token p (tk.mark tk.box)))
+box_right e c ts p l s = by (nat_lt c p.col) refl
+  where
+    at_right : (us : List Token) → next e us ≡ token p (tk.mark tk.box) → nat_lt c p.col ≡ true → next c us ≡ token p (tk.mark tk.box)
+    at_right [] s g = absurd (both_ways (is_box (tk.mark tk.box)) (sym (ap (λ (u : Token). is_box u.kind) s)) refl)
+    at_right (t ∷ us) s g = inner (nat_lt e t.place.col) refl
+      where
+        inner : (b : Bool) → nat_lt e t.place.col ≡ b → next c (t ∷ us) ≡ token p (tk.mark tk.box)
+        inner false f = (let bad : end ≡ token p (tk.mark tk.box) = rw f at s in absurd (both_ways (is_box (tk.mark tk.box)) (sym (ap (λ (u : Token). is_box u.kind) bad)) refl))
+        inner true f =
+            let it : t ≡ token p (tk.mark tk.box) = rw f at s in
+            let col : nat_lt c t.place.col ≡ true = ap (λ (u : Token). nat_lt c u.place.col) it ∙ g in
+            rw col it
+
+    by : (b : Bool) → nat_lt c p.col ≡ b → (nat_lt c p.col ≡ false × Calm c ts) ⊎ (nat_lt c p.col ≡ true × (next c ts ≡ token p (tk.mark tk.box)))
+    by false g = inl (g, rw (behind_end e c ts p (tk.mark tk.box) l s g) refl)
+    by true g = inr (g, at_right ts s g)
+
+pub box_stays : (e b : ℕ) (a : Phrase) (ts : List Token) (p : Place) → next e ts ≡ token p (tk.mark tk.box) → Stays e b a ts
+box_stays e b a ts p s = rw s refl
+
+mutual
+  pub box_stops : (e : ℕ) (d : Option Context) (a : Phrase) (ts : List Token) (p : Place) → Good e a → takes_box p.col a ≡ false → next e ts ≡ token p (tk.mark tk.box) → Stops e d a ts
+  box_stops e d (quantified b r bs q a) ts p g h s = (box_stops e (Some free) a ts p g.3 h s, box_stays e 0 a ts p s)
+  box_stops e d (choice r a q b t c) ts p g h s = (box_stops e (Some free) c ts p g.5 h s, box_stays e 0 c ts p s)
+  box_stops e d (local r ls q a) ts p g h s = (box_stops e (Some free) a ts p g.3 h s, box_stays e 0 a ts p s)
+  box_stops e d (infix_of a r o b) ts p g h s = (box_stops e (Some (right_of o)) b ts p g.5 h s, box_stays e (rank o).1 b ts p s)
+  box_stops e d (prefix_of r o a) ts p g h s = either (free_in d o) (box_stops e (Some (under o)) a ts p g.3 h s, box_stays e (rank o).1 a ts p s) (box_stops e None a ts p g.3 h s)
+  box_stops e d (list o bs) ts p g h s = (rw s refl, rw s refl, box_bullets (first_bullet bs).col bs ts p g.2 h (box_right e (first_bullet bs).col ts p g.1 s))
+  box_stops e d (cases r xs) ts p g h s = absurd cc
+  box_stops e d a ts p g h s = rw s refl
+
+  box_bullets : (c : ℕ) (bs : Bullets) (ts : List Token) (p : Place) → GoodBullets c bs → (nat_lt c p.col && last_takes_box p.col bs) ≡ false → ((nat_lt c p.col ≡ false × Calm c ts) ⊎ (nat_lt c p.col ≡ true × (next c ts ≡ token p (tk.mark tk.box)))) → BulletsStop c bs ts
+  box_bullets c bs ts p g h (inl k) = calm_bullets c bs ts g k.1
+  box_bullets c (last_bullet q a) ts p g h (inr k) = (box_stops c (Some free) a ts p g.1 (rw k.0 at h) k.1, box_stays c 0 a ts p k.1)
+  box_bullets c (bullet q a bs) ts p g h (inr k) = box_bullets c bs ts p g.2 h (inr k)
 
 -- ---- ranks
 pub low_high : (o : Op) → (rank o).0 ≤ (rank o).1
@@ -230,16 +303,16 @@ pub above_bound : (c : Context) → Fine c → (a : Phrase) (p : Place) (q : Op)
 above_bound free f a p q b n h = some_low q
 above_bound (right_of r) f a p q b n h = elim (or_cases (nat_lt (rank r).1 (rank q).0) false h) [ inl k ↦ ltb-true (rank r).1 (rank q).0 k | inr k ↦ absurd cc ]
 above_bound (under r) f a p q b n h = elim (or_cases (nat_lt (rank r).1 (rank q).0) (same_op r q || false) h) [
-    inl k ↦ ltb-true (rank r).1 (rank q).0 k
-    | inr k ↦ elim (or_cases (same_op r q) false k) [ inl m ↦ absurd (both_ways (is_prefix q) n (sym (ap is_prefix (same_is r q m)) ∙ f)) | inr m ↦ absurd cc ]
+  | inl k ↦ ltb-true (rank r).1 (rank q).0 k
+  | inr k ↦ elim (or_cases (same_op r q) false k) [ inl m ↦ absurd (both_ways (is_prefix q) n (sym (ap is_prefix (same_is r q m)) ∙ f)) | inr m ↦ absurd cc ]
 ]
 
 free_above : (c : Context) (q : Op) → is_free c q ≡ true → bound c ≤ (rank q).1
 free_above free q e = omega arith
 free_above (right_of r) q e = (let k = ltb-true (rank r).1 (rank q).0 e in let l = low_high q in omega arith)
 free_above (under r) q e = elim (or_cases (nat_lt (rank r).1 (rank q).0) (same_op r q) e) [
-    inl k ↦ (let m = ltb-true (rank r).1 (rank q).0 k in let l = low_high q in omega arith)
-    | inr k ↦ (let m : (rank r).1 ≡ (rank q).1 = ap (λ (o : Op). (rank o).1) (same_is r q k) in omega arith)
+  | inl k ↦ (let m = ltb-true (rank r).1 (rank q).0 k in let l = low_high q in omega arith)
+  | inr k ↦ (let m : (rank r).1 ≡ (rank q).1 = ap (λ (o : Op). (rank o).1) (same_is r q k) in omega arith)
 ]
 
 free_from : (c : Context) (q : Op) → bound c < (rank q).0 → is_free c q ≡ true
@@ -251,24 +324,33 @@ pub fits_short : (c : Context) (p : Place) (q : Op) (a : Phrase) → is_free c q
 fits_short free p q a e h = absurd cc
 fits_short (right_of r) p q a e h = rw e at h
 fits_short (under r) p q a e h = elim (or_cases (nat_lt (rank r).1 (rank q).0) (same_op r q || is_short a) h) [
-    inl k ↦ absurd (both_ways (nat_lt (rank r).1 (rank q).0 || same_op r q) e (rw k refl))
-    | inr k ↦ elim (or_cases (same_op r q) (is_short a) k) [ inl m ↦ absurd (both_ways (nat_lt (rank r).1 (rank q).0 || same_op r q) e (or_right (nat_lt (rank r).1 (rank q).0) (same_op r q) m)) | inr m ↦ m ]
+  | inl k ↦ absurd (both_ways (nat_lt (rank r).1 (rank q).0 || same_op r q) e (rw k refl))
+  | inr k ↦ elim (or_cases (same_op r q) (is_short a) k) [ inl m ↦ absurd (both_ways (nat_lt (rank r).1 (rank q).0 || same_op r q) e (or_right (nat_lt (rank r).1 (rank q).0) (same_op r q) m)) | inr m ↦ m ]
 ]
   where
     or_right : (x y : Bool) → y ≡ true → (x || y) ≡ true
     or_right true y h = refl
     or_right false y h = h
 
-short_stops : (e : ℕ) (a : Phrase) (p : Place) (o : Op) (ts : List Token) → is_short a ≡ true → Seen e p o ts → Stops e None a ts
-short_stops e (prefix_of r q a) p o ts h s = short_stops e a p o ts h s
-short_stops e (infix_of a r q b) p o ts h s = absurd cc
-short_stops e (quantified b r bs q a) p o ts h s = absurd cc
-short_stops e (choice r a q b t c) p o ts h s = absurd cc
-short_stops e (local r ls q a) p o ts h s = absurd cc
-short_stops e a p o ts h s = seen_tail e p o ts s
+-- behind a list
+list_stops : (e : ℕ) (q : Op) (bs : Bullets) (p : Place) (o : Op) (ts : List Token) → Right e (first_bullet bs) → GoodBullets (first_bullet bs).col bs → is_behind (Some (q, (first_bullet bs).col)) o p ≡ true → Seen e p o ts → NoTail e ts × ListEnds e q (first_bullet bs).col ts × BulletsStop (first_bullet bs).col bs ts
+list_stops e q bs p o ts r g h s =
+    let c = (first_bullet bs).col in
+    let w = and_parts (not (nat_lt c p.col)) (not (same_op q o && nat_eq c p.col)) h in
+    (seen_tail e p o ts s, rw s.seen (not-true (same_op q o && nat_eq c p.col) w.1), bullets_behind e c bs ts p (tk.sign o) g r s.seen (not-true (nat_lt c p.col) w.0))
+
+short_stops : (e : ℕ) (a : Phrase) (p : Place) (o : Op) (ts : List Token) → Good e a → is_behind (end_list a) o p ≡ true → is_short a ≡ true → Seen e p o ts → Stops e None a ts
+short_stops e (prefix_of r q a) p o ts g z h s = short_stops e a p o ts g.3 z h s
+short_stops e (infix_of a r q b) p o ts g z h s = absurd cc
+short_stops e (quantified b r bs q a) p o ts g z h s = absurd cc
+short_stops e (choice r a q b t c) p o ts g z h s = absurd cc
+short_stops e (local r ls q a) p o ts g z h s = absurd cc
+short_stops e (cases r xs) p o ts g z h s = absurd cc
+short_stops e (list q bs) p o ts g z h s = list_stops e q bs p o ts g.1 g.2 z s
+short_stops e a p o ts g z h s = seen_tail e p o ts s
 
 -- an operator that is not above its place stops all that stands there
-pub low_stops : (e : ℕ) (c : Context) (a : Phrase) (p : Place) (o : Op) (ts : List Token) → Good e a → Fine c → ends_open a ≡ false → fits c a ≡ true → (rank o).0 ≤ bound c → Seen e p o ts → Stops e (Some c) a ts
+pub low_stops : (e : ℕ) (c : Context) (a : Phrase) (p : Place) (o : Op) (ts : List Token) → Good e a → Fine c → (ends_open a ≡ false) × (is_behind (end_list a) o p ≡ true) → fits c a ≡ true → (rank o).0 ≤ bound c → Seen e p o ts → Stops e (Some c) a ts
 low_stops e c (infix_of a r q b) p o ts (n, l, m, ga, gr, gb) f w t le s =
     let d = above_bound c f a r q b (not-true _ n) t in
     let k = low_high q in
@@ -277,10 +359,12 @@ low_stops e c (prefix_of r q a) p o ts (n, m, gr, ga) f w t le s = by (is_free c
   where
     by : (b : Bool) → is_free c q ≡ b → ((rank o).0 ≤ (rank q).1 → Stops e (Some (under q)) a ts) → MatchBool b (Stops e (Some (under q)) a ts × Stays e (rank q).1 a ts) (Stops e None a ts)
     by true h i = (let k = free_above c q h in (i (omega arith), low_stays e (rank q).1 a p o ts s (omega arith)))
-    by false h i = short_stops e a p o ts (fits_short c r q a h t) s
-low_stops e c (quantified b r bs q a) p o ts g f w t le s = absurd cc
-low_stops e c (choice r a q b k d) p o ts g f w t le s = absurd cc
-low_stops e c (local r ls q a) p o ts g f w t le s = absurd cc
+    by false h i = short_stops e a p o ts ga w.1 (fits_short c r q a h t) s
+low_stops e c (quantified b r bs q a) p o ts g f w t le s = absurd (both_ways true w.0 refl)
+low_stops e c (choice r a q b k d) p o ts g f w t le s = absurd (both_ways true w.0 refl)
+low_stops e c (local r ls q a) p o ts g f w t le s = absurd (both_ways true w.0 refl)
+low_stops e c (cases r xs) p o ts g f w t le s = absurd (both_ways true w.0 refl)
+low_stops e c (list q bs) p o ts g f w t le s = list_stops e q bs p o ts g.1 g.2 w.1 s
 low_stops e c a p o ts g f w t le s = seen_tail e p o ts s
 
 -- what may stand to the left of an operator
@@ -296,8 +380,8 @@ left_head o open_form l = absurd (both_ways (is_associative o && false) (and_fal
     and_false true = refl
     and_false false = refl
 left_head o (applied q) l = elim (or_cases (nat_lt (rank o).1 (rank q).0) (is_associative o && same_op o q) l) [
-    inl k ↦ high (ltb-true (rank o).1 (rank q).0 k)
-    | inr k ↦ rw (sym (same_is o q (and_parts (is_associative o) (same_op o q) k).1)) own_level
+  | inl k ↦ high (ltb-true (rank o).1 (rank q).0 k)
+  | inr k ↦ rw (sym (same_is o q (and_parts (is_associative o) (same_op o q) k).1)) own_level
 ]
   where
     is_same : (p q : Op) → ◌≡◌ {A = Head} (applied p) (applied q) → p ≡ q
@@ -315,10 +399,11 @@ left_head o (applied q) l = elim (or_cases (nat_lt (rank o).1 (rank q).0) (is_as
       own = λ t k. (let m = low_high o in let i : (rank o).1 ≡ (rank t).1 = ap (λ (x : Op). (rank x).1) (is_same o t k) in let j : (rank o).0 ≡ (rank t).0 = ap (λ (x : Op). (rank x).0) (is_same o t k) in (omega arith, omega arith));
     }
 
-pub left_parts : (a : Phrase) (p : Place) (o : Op) → can_be_left a p o ≡ true → Left o (head a) × (ends_open a ≡ false)
+pub left_parts : (a : Phrase) (p : Place) (o : Op) → can_be_left a p o ≡ true → Left o (head a) × ((ends_open a ≡ false) × (is_behind (end_list a) o p ≡ true))
 left_parts a p o h =
     let w = and_parts (is_above o (head a) || (is_associative o && is_applied o (head a))) (not (ends_open a) && is_behind (end_list a) o p) h in
-    (left_head o (head a) w.0, not-true (ends_open a) (and_parts (not (ends_open a)) (is_behind (end_list a) o p) w.1).0)
+    let v = and_parts (not (ends_open a)) (is_behind (end_list a) o p) w.1 in
+    (left_head o (head a) w.0, (not-true (ends_open a) v.0, v.1))
 
 -- it may stand where the operator may
 pub fits_left : (c : Context) (a : Phrase) (o : Op) → Left o (head a) → bound c < (rank o).0 → fits c a ≡ true
@@ -326,12 +411,14 @@ fits_left free a o l k = refl
 fits_left (right_of r) a o l k = rw (l.above r k) refl
 fits_left (under r) a o l k = rw (l.above r k) refl
 
-pub left_stops : (e : ℕ) (c : Context) (a : Phrase) (p : Place) (o : Op) (ts : List Token) → Good e a → ends_open a ≡ false → Left o (head a) → bound c < (rank o).0 → Seen e p o ts → Stops e (Some c) a ts
+pub left_stops : (e : ℕ) (c : Context) (a : Phrase) (p : Place) (o : Op) (ts : List Token) → Good e a → (ends_open a ≡ false) × (is_behind (end_list a) o p ≡ true) → Left o (head a) → bound c < (rank o).0 → Seen e p o ts → Stops e (Some c) a ts
 left_stops e c (infix_of a r q b) p o ts (n, l, m, ga, gr, gb) w h le s =
     (low_stops e (right_of q) b p o ts gb tt w m (h.own q refl).1 s, low_stays e (rank q).1 b p o ts s (h.own q refl).1)
 left_stops e c (prefix_of r q a) p o ts (n, m, gr, ga) w h le s =
     rw (free_from c q (let k = (h.own q refl).0 in omega arith)) (low_stops e (under q) a p o ts ga n w m (h.own q refl).1 s, low_stays e (rank q).1 a p o ts s (h.own q refl).1)
-left_stops e c (quantified b r bs q a) p o ts g w h le s = absurd cc
-left_stops e c (choice r a q b k d) p o ts g w h le s = absurd cc
-left_stops e c (local r ls q a) p o ts g w h le s = absurd cc
+left_stops e c (quantified b r bs q a) p o ts g w h le s = absurd (both_ways true w.0 refl)
+left_stops e c (choice r a q b k d) p o ts g w h le s = absurd (both_ways true w.0 refl)
+left_stops e c (local r ls q a) p o ts g w h le s = absurd (both_ways true w.0 refl)
+left_stops e c (cases r xs) p o ts g w h le s = absurd (both_ways true w.0 refl)
+left_stops e c (list q bs) p o ts g w h le s = list_stops e q bs p o ts g.1 g.2 w.1 s
 left_stops e c a p o ts g w h le s = seen_tail e p o ts s

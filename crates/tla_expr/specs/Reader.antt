@@ -391,7 +391,7 @@ path_by r e p k = gives path_end
 
 -- a sign of this operator in this column
 abbrev pub bullet_of : Op → ℕ → Place → Tk → Option Place
-bullet_of o c p k = if is_sign o k && nat_eq p.col c then Some p else None
+bullet_of o c p k = if is_sign o k && nat_eq c p.col then Some p else None
 
 abbrev pub bullets_if : Bool → Readers → ℕ → Op → ℕ → Place → Phrase → Reader Bullets
 bullets_if true r e o c p a = r.bullets e o c >>= λ bs. gives (bullet p a bs)
@@ -421,7 +421,7 @@ one_step r = record {
   fields = λ e m f. a_mark e m >>= λ p. r.expr e free >>= λ a. peek e (fields_by r e m f p a);
   settings = λ e. a_mark e tk.bang >>= λ p. r.path e >>= λ path. setting_if (is_some_path path) r e p path;
   path = λ e. peek e (path_by r e);
-  bullets = λ e o c. take e (bullet_of o c) >>= λ p. r.expr c free >>= λ a. peek e (λ q k. bullets_if (is_sign o k && nat_eq q.col c) r e o c p a);
+  bullets = λ e o c. take e (bullet_of o c) >>= λ p. r.expr c free >>= λ a. peek e (λ q k. bullets_if (is_sign o k && nat_eq c q.col) r e o c p a);
   arms = λ e. r.expr e free >>= λ a. a_mark e tk.arrow >>= λ p. r.expr e free >>= λ b. peek e (arms_by r e a p b);
   locals = λ e. a_word e >>= λ x. a_mark e tk.defines >>= λ q. r.expr e free >>= λ a. peek e (locals_by r e x.0 x.1 q a);
 }
