@@ -10,3 +10,4 @@ pub mod ReadForms
 pub mod ReadLists
 pub mod ReadSquares
 pub mod ReadAll
+pub mod ReadElements

@@ -7,9 +7,10 @@ use Rattle.tla_expr.specs.Reader.{Out, free, readers}
 use Rattle.tla_expr.proofs.ReadPhrases.{Reads, closed, ReadsAll, reads_last, reads_more, reads_number, reads_quote, reads_constant, reads_name, reads_primed, reads_call, reads_brackets, reads_no_set, reads_no_tuple, reads_infix, reads_prefix}
 use Rattle.tla_expr.proofs.ReadForms.{ReadsBinds, ReadsLocals, reads_tuple, reads_apply, reads_select, reads_last_bind, reads_bind, reads_share, reads_for, reads_choice, reads_last_local, reads_more_locals, reads_local}
 use Rattle.tla_expr.proofs.ReadLists.{ReadsBullets, reads_last_bullet, reads_bullet, reads_list, ReadsArms, reads_last_arm, reads_other_arm, reads_arm, reads_cases}
+use Rattle.tla_expr.proofs.ReadElements.{reads_image}
 use Rattle.tla_expr.proofs.ReadSquares.{ReadsFields, reads_last_field, reads_field, reads_fields, reads_records, reads_function_last, reads_function_bind, reads_function_share, reads_filter}
 
--- ---- the forms of which the law is proved so far: all but `{a, b}`, `{a : x \in S}`, `[S -> T]` and `[f EXCEPT ..]`
+-- ---- the forms of which the law is proved so far: all but `{a, b}`, `[S -> T]` and `[f EXCEPT ..]`
 abbrev mutual
   pub Core : Phrase → Type 0
   Core (number p n) = Unit {0}
@@ -25,6 +26,7 @@ abbrev mutual
   Core (apply a p xs q) = Core a × CoreAll xs
   Core (select a p f) = Core a
   Core (filter p q x r s t a u) = Core s × Core a
+  Core (image p a q bs r) = Core a × CoreBinds bs
   Core (fields p fs q) = CoreFields fs
   Core (records p fs q) = CoreFields fs
   Core (function p bs q a r) = CoreBinds bs × Core a
@@ -91,6 +93,7 @@ mutual
   reads (function p (share y x z bs) q a s) w = reads_function_share p y x z bs q a s (reads_binds bs w.0) (reads a w.1)
   reads (list o bs) w = reads_list o bs (reads_bullets bs w)
   reads (cases p xs) w = reads_cases p xs (reads_arms xs w)
+  reads (image p a q bs s) w = reads_image p a q bs s (reads a w.0) (reads_binds bs w.1)
   reads a w = absurd w
 
   pub reads_all : (xs : Phrases) → CoreAll xs → ReadsAll xs
