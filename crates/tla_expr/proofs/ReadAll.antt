@@ -1,16 +1,16 @@
 -- What is spelled is read: all forms together, and so one phrase for a list of tokens.
-use Rattle.std.proofs.Common.{◌≡◌, ℕ, ◌+◌, List, [], Ok, Err, refl, sym, ap, ◌∙◌, arith}
+use Rattle.std.proofs.Common.{◌≡◌, ℕ, false, ◌+◌, List, [], Ok, Err, refl, sym, ap, ◌∙◌, arith}
 use Rattle.tla_expr.specs.Lexical.{Token}
 use Rattle.tla_expr.specs.Spelling.{Phrase, number, quote, constant, name, primed, call, brackets, no_set, set_of, filter, image, no_tuple, tuple, fields, records, function, functions, except, apply, select, list, quantified, choice, cases, local, infix_of, prefix_of}
-use Rattle.tla_expr.specs.Spelling.{Phrases, last, more, Binds, last_bind, bind, share, Fields, last_field, field, Bullets, last_bullet, bullet, Arms, last_arm, other_arm, arm, Locals, last_local, more_locals, spell, Good}
+use Rattle.tla_expr.specs.Spelling.{Phrases, last, more, Binds, last_bind, bind, share, Fields, last_field, field, Bullets, last_bullet, bullet, Arms, last_arm, other_arm, arm, Locals, last_local, more_locals, spell, spell_all, is_bind, Good}
 use Rattle.tla_expr.specs.Reader.{Out, free, readers}
 use Rattle.tla_expr.proofs.ReadPhrases.{Reads, closed, ReadsAll, reads_last, reads_more, reads_number, reads_quote, reads_constant, reads_name, reads_primed, reads_call, reads_brackets, reads_no_set, reads_no_tuple, reads_infix, reads_prefix}
 use Rattle.tla_expr.proofs.ReadForms.{ReadsBinds, ReadsLocals, reads_tuple, reads_apply, reads_select, reads_last_bind, reads_bind, reads_share, reads_for, reads_choice, reads_last_local, reads_more_locals, reads_local}
 use Rattle.tla_expr.proofs.ReadLists.{ReadsBullets, reads_last_bullet, reads_bullet, reads_list, ReadsArms, reads_last_arm, reads_other_arm, reads_arm, reads_cases}
-use Rattle.tla_expr.proofs.ReadElements.{reads_image}
+use Rattle.tla_expr.proofs.ReadElements.{reads_image, reads_set_last, reads_set_more}
 use Rattle.tla_expr.proofs.ReadSquares.{ReadsFields, reads_last_field, reads_field, reads_fields, reads_records, reads_function_last, reads_function_bind, reads_function_share, reads_filter}
 
--- ---- the forms of which the law is proved so far: all but `{a, b}`, `[S -> T]` and `[f EXCEPT ..]`
+-- ---- the forms of which the law is proved so far: all but `[S -> T]`, `[f EXCEPT ..]`, and `{x \in S, ..}`
 abbrev mutual
   pub Core : Phrase → Type 0
   Core (number p n) = Unit {0}
@@ -26,6 +26,7 @@ abbrev mutual
   Core (apply a p xs q) = Core a × CoreAll xs
   Core (select a p f) = Core a
   Core (filter p q x r s t a u) = Core s × Core a
+  Core (set_of p xs q) = CoreAll xs × (is_bind (spell_all xs []) ≡ false)
   Core (image p a q bs r) = Core a × CoreBinds bs
   Core (fields p fs q) = CoreFields fs
   Core (records p fs q) = CoreFields fs
@@ -94,6 +95,8 @@ mutual
   reads (list o bs) w = reads_list o bs (reads_bullets bs w)
   reads (cases p xs) w = reads_cases p xs (reads_arms xs w)
   reads (image p a q bs s) w = reads_image p a q bs s (reads a w.0) (reads_binds bs w.1)
+  reads (set_of p (last a) q) w = reads_set_last p a q (reads a w.0) w.1
+  reads (set_of p (more a t xs) q) w = reads_set_more p a t xs q (reads a w.0.0) (reads_all xs w.0.1) w.1
   reads a w = absurd w
 
   pub reads_all : (xs : Phrases) → CoreAll xs → ReadsAll xs

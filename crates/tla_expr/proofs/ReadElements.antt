@@ -7,10 +7,10 @@ use Rattle.tla_expr.specs.declared.op.Op.TheVariants as op
 use Rattle.tla_expr.specs.Tree.{Word}
 use Rattle.tla_expr.specs.Lexical.{Tk, Token, token, sign_of}
 use Rattle.tla_expr.specs.Lexical as tk
-use Rattle.tla_expr.specs.Spelling.{Phrase, name, primed, call, image, apply, select, list, quantified, infix_of, prefix_of, Binds, last_bullet, bullet, mark, sign, word, field_token, spell, spell_all, spell_binds, is_word, is_in, is_bind, Right, Good}
+use Rattle.tla_expr.specs.Spelling.{Phrase, name, primed, call, set_of, image, Phrases, last, more, apply, select, list, quantified, infix_of, prefix_of, Binds, last_bullet, bullet, mark, sign, word, field_token, spell, spell_all, spell_binds, is_word, is_in, is_bind, Right, Good}
 use Rattle.tla_expr.specs.Reader.{Out, then_read, ◌>>=◌, next, peek, free, Readers, one_step, readers, from_name, brace_name, brace_rest, braces}
 use Rattle.tla_expr.proofs.ReadSoon.{Soon}
-use Rattle.tla_expr.proofs.ReadPhrases.{Prime, Reads, closed, primary_reads, tail_call}
+use Rattle.tla_expr.proofs.ReadPhrases.{Prime, Reads, ReadsAll, closed, primary_reads, tail_call}
 use Rattle.tla_expr.proofs.ReadForms.{is_start, Starts, starts, ReadsBinds}
 
 -- an expression that begins with a name, behind that name
@@ -89,4 +89,28 @@ reads_image p a q bs s ha hb = primary_reads (image p a q bs s) (λ e d ts s. s)
         let w = hb e gb (mark s tk.close_brace ts) (rw gs refl) in
         let i : Soon (λ r. peek e (brace_rest r e p a) us) (Ok (image p a q bs s, ts)) = (w.reads.0, λ n l. rw (gq, w.same_as, w.right, w.reads.1 n l, gs) refl) in
         let z = braced e p (spell a us) (starts e a ga us) (not_bind e a ga [] us (rw gq refl) (not-true (is_bind (spell a [])) nb)) a us (Ok (image p a q bs s, ts)) v i in
+        (h.0 + z.0, λ n l. rw (gp, z.1 n (omega arith)) (h.1 n (omega arith)))
+
+-- ---- {a, b}, where the first does not begin with a name and `\in`
+pub reads_set_last : (p : Place) (a : Phrase) (q : Place) → Reads a → is_bind (spell a []) ≡ false → Reads (set_of p (last a) q)
+reads_set_last p a q ha nb = primary_reads (set_of p (last a) q) (λ e d ts s. s) (λ e d ts s. tail_call (next e ts).kind s) (λ e g ts. record { first = token p (tk.mark tk.open_brace); rest = spell a (mark q tk.close_brace ts); same_as = refl; right = g.0; as_operand = λ r c us. refl; as_short = λ r us. refl }) prime
+  where
+    prime : Prime (set_of p (last a) q)
+    prime e (gp, ga, gq) ts k o h =
+        let us = mark q tk.close_brace ts in
+        let v = closed a ha e ga us (rw gq refl) in
+        let i : Soon (λ r. peek e (brace_rest r e p a) us) (Ok (set_of p (last a) q, ts)) = (0, λ n l. rw (gq, gq) refl) in
+        let z = braced e p (spell a us) (starts e a ga us) (not_bind e a ga [] us (rw gq refl) nb) a us (Ok (set_of p (last a) q, ts)) v i in
+        (h.0 + z.0, λ n l. rw (gp, z.1 n (omega arith)) (h.1 n (omega arith)))
+
+pub reads_set_more : (p : Place) (a : Phrase) (t : Place) (xs : Phrases) (q : Place) → Reads a → ReadsAll xs → is_bind (spell_all (more a t xs) []) ≡ false → Reads (set_of p (more a t xs) q)
+reads_set_more p a t xs q ha hx nb = primary_reads (set_of p (more a t xs) q) (λ e d ts s. s) (λ e d ts s. tail_call (next e ts).kind s) (λ e g ts. record { first = token p (tk.mark tk.open_brace); rest = spell a (mark t tk.comma (spell_all xs (mark q tk.close_brace ts))); same_as = refl; right = g.0; as_operand = λ r c us. refl; as_short = λ r us. refl }) prime
+  where
+    prime : Prime (set_of p (more a t xs) q)
+    prime e (gp, (ga, gt, gx), gq) ts k o h =
+        let us = mark t tk.comma (spell_all xs (mark q tk.close_brace ts)) in
+        let v = closed a ha e ga us (rw gt refl) in
+        let w = hx e gx (mark q tk.close_brace ts) (rw gq refl) in
+        let i : Soon (λ r. peek e (brace_rest r e p a) us) (Ok (set_of p (more a t xs) q, ts)) = (w.0, λ n l. rw (gt, w.1 n l, gq) refl) in
+        let z = braced e p (spell a us) (starts e a ga us) (not_bind e a ga (mark t tk.comma (spell_all xs [])) us (rw gt refl) nb) a us (Ok (set_of p (more a t xs) q, ts)) v i in
         (h.0 + z.0, λ n l. rw (gp, z.1 n (omega arith)) (h.1 n (omega arith)))
