@@ -4,3 +4,11 @@ pub mod Operands
 mod Rows
 mod RowsView
 mod RowsSpelling
+pub mod ReadSoon
+pub mod ReadStops
+pub mod ReadPhrases
+pub mod ReadForms
+pub mod ReadLists
+pub mod ReadSquares
+pub mod ReadAll
+pub mod ReadElements

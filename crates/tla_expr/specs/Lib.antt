@@ -11,3 +11,4 @@ pub mod Spelling
 pub mod Written
 pub mod Nesting
 pub mod Bracketed
+pub mod Reader

@@ -1,0 +1,451 @@
+-- Reading an expression from left to right, as a function of its tokens ("Specifying Systems", chapter 15).
+use Rattle.std.specs.Prelude.{◌≡◌, ℕ, zero, suc, Bool, true, false, ◌||◌, ◌&&◌, not, nat_lt, nat_eq, List, [], ◌∷◌, Option, Some, None, Result, Ok, Err, length, if◌then◌else◌}
+use Rattle.tla_token.specs.declared.place.Place.{Place}
+use Rattle.tla_expr.specs.declared.op.Op.{Op}
+use Rattle.tla_expr.specs.declared.op.Op.TheVariants as op
+use Rattle.tla_expr.specs.Tree.{Word}
+use Rattle.tla_expr.specs.Rank.{rank, is_prefix, is_bullet, same_op}
+use Rattle.tla_expr.specs.Lexical.{Mark, Key, Tk, Token, token}
+use Rattle.tla_expr.specs.Lexical as tk
+use Rattle.tla_expr.specs.Spelling.{Field, Phrase, number, quote, constant, name, primed, call, brackets, no_set, set_of, filter, image, no_tuple, tuple, fields, records, function, functions, except, apply, select, list, quantified, choice, cases, local, infix_of, prefix_of}
+use Rattle.tla_expr.specs.Spelling.{Phrases, last, more, Binds, last_bind, bind, share, Fields, last_field, field, Settings, last_setting, setting, Path, path_end, index, at_field, Bullets, last_bullet, bullet, Arms, last_arm, other_arm, arm, Locals, last_local, more_locals}
+use Rattle.tla_expr.specs.Spelling.{can_be_left, can_be_right, can_be_under, can_be_head, is_some_path}
+
+-- Ok: what was read, and the tokens behind it. Err: the tokens from the refused one on.
+abbrev pub Out : Type 0 → Type 0
+Out A = Result (A × List Token) (List Token)
+
+abbrev pub Reader : Type 0 → Type 0
+Reader A = List Token → Out A
+
+-- first one, then the other
+abbrev pub then_read : {A B : Type 0} → Out A → (A → Reader B) → Out B
+then_read (Ok x) f = f x.0 x.1
+then_read (Err ts) f = Err ts
+
+infixl 10 ◌>>=◌
+abbrev pub ◌>>=◌ : {A B : Type 0} → Reader A → (A → Reader B) → Reader B
+(p >>= f) ts = then_read (p ts) f
+
+abbrev pub gives : {A : Type 0} → A → Reader A
+gives a ts = Ok (a, ts)
+
+abbrev pub refuses : {A : Type 0} → Reader A
+refuses ts = Err ts
+
+-- what is seen at the end, and where the next token does not stand to the right of the edge
+abbrev pub end : Token
+end = token (record { line = 0; col = 0 }) tk.other
+
+-- the next token, where it stands to the right of the edge
+abbrev pub next : ℕ → List Token → Token
+next e [] = end
+next e (t ∷ ts) = if nat_lt e t.place.col then t else end
+
+abbrev pub tail : List Token → List Token
+tail [] = []
+tail (t ∷ ts) = ts
+
+-- by the place and kind of the next token, which stays
+abbrev pub peek : {A : Type 0} → ℕ → (Place → Tk → Reader A) → Reader A
+peek e f ts = f (next e ts).place (next e ts).kind ts
+
+-- past the next token
+abbrev pub skip : {A : Type 0} → Reader A → Reader A
+skip p ts = p (tail ts)
+
+abbrev pub took : {A : Type 0} → Option A → Reader A
+took (Some a) ts = Ok (a, tail ts)
+took None ts = Err ts
+
+-- past a token of which f tells something
+abbrev pub take : {A : Type 0} → ℕ → (Place → Tk → Option A) → Reader A
+take e f = peek e (λ p k. took (f p k))
+
+-- ---- kinds of tokens
+abbrev pub mark_number : Mark → ℕ
+mark_number tk.open_bracket = 0
+mark_number tk.close_bracket = 1
+mark_number tk.open_square = 2
+mark_number tk.close_square = 3
+mark_number tk.open_brace = 4
+mark_number tk.close_brace = 5
+mark_number tk.open_tuple = 6
+mark_number tk.close_tuple = 7
+mark_number tk.comma = 8
+mark_number tk.colon = 9
+mark_number tk.dot = 10
+mark_number tk.bang = 11
+mark_number tk.arrow = 12
+mark_number tk.maps = 13
+mark_number tk.defines = 14
+mark_number tk.box = 15
+mark_number tk.prime = 16
+
+abbrev pub key_number : Key → ℕ
+key_number tk.if_key = 0
+key_number tk.then_key = 1
+key_number tk.else_key = 2
+key_number tk.case_key = 3
+key_number tk.other_key = 4
+key_number tk.let_key = 5
+key_number tk.in_key = 6
+key_number tk.except_key = 7
+key_number tk.for_all_key = 8
+key_number tk.exists_key = 9
+
+abbrev pub is_mark : Mark → Tk → Bool
+is_mark m (tk.mark n) = nat_eq (mark_number m) (mark_number n)
+is_mark m k = false
+
+abbrev pub is_key : Key → Tk → Bool
+is_key m (tk.key n) = nat_eq (key_number m) (key_number n)
+is_key m k = false
+
+abbrev pub is_sign : Op → Tk → Bool
+is_sign o (tk.sign q) = same_op o q
+is_sign o k = false
+
+abbrev pub place_if : (Tk → Bool) → Place → Tk → Option Place
+place_if f p k = if f k then Some p else None
+
+-- past this mark, key or sign: its place
+abbrev pub a_mark : ℕ → Mark → Reader Place
+a_mark e m = take e (place_if (is_mark m))
+
+abbrev pub a_key : ℕ → Key → Reader Place
+a_key e k = take e (place_if (is_key k))
+
+abbrev pub a_sign : ℕ → Op → Reader Place
+a_sign e o = take e (place_if (is_sign o))
+
+abbrev pub word_of : Place → Tk → Option (Place × Word)
+word_of p (tk.word x) = Some (p, x)
+word_of p k = None
+
+abbrev pub field_of : Place → Tk → Option Field
+field_of p (tk.word x) = Some (record { place = p; is_reserved = false; text = x })
+field_of p (tk.reserved x) = Some (record { place = p; is_reserved = true; text = x })
+field_of p k = None
+
+abbrev pub a_word : ℕ → Reader (Place × Word)
+a_word e = take e word_of
+
+abbrev pub a_field : ℕ → Reader Field
+a_field e = take e field_of
+
+-- ---- where an expression stands: free, to the right of an operator, or under a prefix operator
+pub data Context : Type 0 where
+  free : Context
+  right_of : Op → Context
+  under : Op → Context
+
+-- the rank that its operators are above
+abbrev pub bound : Context → ℕ
+bound free = 0
+bound (right_of o) = (rank o).1
+bound (under o) = (rank o).1
+
+abbrev pub fits : Context → Phrase → Bool
+fits free a = true
+fits (right_of o) a = can_be_right o a
+fits (under o) a = can_be_under o a
+
+-- a prefix operator that may have more than a short form under it
+abbrev pub is_free : Context → Op → Bool
+is_free free q = true
+is_free (right_of o) q = nat_lt (rank o).1 (rank q).0
+is_free (under o) q = nat_lt (rank o).1 (rank q).0 || same_op o q
+
+-- the prefix operator of a sign
+abbrev pub prefix_by : Op → Option Op
+prefix_by op.Minus = Some op.Negate
+prefix_by op.Not = Some op.Not
+prefix_by op.Subset = Some op.Subset
+prefix_by op.Union = Some op.Union
+prefix_by op.Domain = Some op.Domain
+prefix_by o = None
+
+-- the operator goes on from a phrase at this place, above this rank
+abbrev pub goes_on : ℕ → Phrase → Place → Op → Bool
+goes_on b a p o = not (is_prefix o) && (nat_lt b (rank o).0 && can_be_left a p o)
+
+-- `x \in` put before the largest left part of a set that may stand there
+abbrev pub on_left : Option Phrase → Place → Op → Phrase → Option Phrase
+on_left (Some a) p o b = if can_be_left a p o then Some (infix_of a p o b) else None
+on_left None p o b = None
+
+abbrev pub element : Place → Word → Place → Phrase → Option Phrase
+element p x q (infix_of a r o b) = if can_be_right op.In (infix_of a r o b) then Some (infix_of (name p x) q op.In (infix_of a r o b)) else on_left (element p x q a) r o b
+element p x q s = if can_be_right op.In s then Some (infix_of (name p x) q op.In s) else None
+
+-- ---- the readers that call one another; each has the edge that all its tokens stand to the right of
+pub record Readers : Type 0 where
+  pub expr : ℕ → Context → Reader Phrase
+  pub short : ℕ → Reader Phrase  -- a primary, or a prefix operator with a short form
+  pub postfix : ℕ → Phrase → Reader Phrase  -- so far, and then `[a]` and `.b`
+  pub climb : ℕ → ℕ → Phrase → Reader Phrase  -- so far, and then operators above this rank
+  pub phrases : ℕ → Reader Phrases
+  pub binds : ℕ → Place → Word → Reader Binds  -- behind a first name
+  pub fields : ℕ → Mark → Field → Reader Fields  -- behind a first name
+  pub settings : ℕ → Reader Settings
+  pub path : ℕ → Reader Path
+  pub bullets : ℕ → Op → ℕ → Reader Bullets  -- in this column
+  pub arms : ℕ → Reader Arms
+  pub locals : ℕ → Reader Locals
+
+-- a, then a mark, and what both make
+abbrev pub ended : {A : Type 0} → ℕ → Mark → (Place → A) → Reader A
+ended e m f = a_mark e m >>= λ p. gives (f p)
+
+-- ---- names
+abbrev pub named : Readers → ℕ → Place → Word → Place → Tk → Reader Phrase
+named r e p x q (tk.mark tk.open_bracket) = skip (r.phrases e >>= λ xs. ended e tk.close_bracket (λ s. call p x q xs s))
+named r e p x q (tk.mark tk.prime) = skip (gives (primed p x q))
+named r e p x q k = gives (name p x)
+
+abbrev pub from_name : Readers → ℕ → Place → Word → Reader Phrase
+from_name r e p x = peek e (named r e p x) >>= λ a. r.postfix e a
+
+-- ---- braces
+abbrev pub set_rest : Readers → ℕ → Place → Phrase → Place → Tk → Reader Phrase
+set_rest r e p a q (tk.mark tk.comma) = skip (r.phrases e >>= λ xs. ended e tk.close_brace (λ s. set_of p (more a q xs) s))
+set_rest r e p a q k = ended e tk.close_brace (λ s. set_of p (last a) s)
+
+abbrev pub image_rest : Readers → ℕ → Place → Phrase → Place → Reader Phrase
+image_rest r e p a q = a_word e >>= λ x. r.binds e x.0 x.1 >>= λ bs. ended e tk.close_brace (λ s. image p a q bs s)
+
+abbrev pub brace_rest : Readers → ℕ → Place → Phrase → Place → Tk → Reader Phrase
+brace_rest r e p a q (tk.mark tk.colon) = skip (image_rest r e p a q)
+brace_rest r e p a q k = set_rest r e p a q k
+
+abbrev pub set_from : Readers → ℕ → Place → Option Phrase → Reader Phrase
+set_from r e p (Some a) = peek e (set_rest r e p a)
+set_from r e p None = refuses
+
+-- behind `{x \in S`
+abbrev pub member_rest : Readers → ℕ → Place → Place → Word → Place → Phrase → Place → Tk → Reader Phrase
+member_rest r e p q x s a t (tk.mark tk.colon) = skip (r.expr e free >>= λ b. ended e tk.close_brace (λ u. filter p q x s a t b u))
+member_rest r e p q x s a t k = set_from r e p (element q x s a)
+
+abbrev pub brace_name : Readers → ℕ → Place → Place → Word → Place → Tk → Reader Phrase
+brace_name r e p q x s (tk.sign op.In) = skip (r.expr e free >>= λ a. peek e (member_rest r e p q x s a))
+brace_name r e p q x s k = from_name r e q x >>= λ a. r.climb e 0 a >>= λ b. peek e (brace_rest r e p b)
+
+abbrev pub braces : Readers → ℕ → Place → Place → Tk → Reader Phrase
+braces r e p q (tk.mark tk.close_brace) = skip (gives (no_set p q))
+braces r e p q (tk.word x) = skip (peek e (brace_name r e p q x))
+braces r e p q k = r.expr e free >>= λ a. peek e (brace_rest r e p a)
+
+-- ---- tuples
+abbrev pub tuples : Readers → ℕ → Place → Place → Tk → Reader Phrase
+tuples r e p q (tk.mark tk.close_tuple) = skip (gives (no_tuple p q))
+tuples r e p q k = r.phrases e >>= λ xs. ended e tk.close_tuple (λ s. tuple p xs s)
+
+-- ---- square brackets
+abbrev pub field_rest : Readers → ℕ → Place → Field → Place → Tk → Reader Phrase
+field_rest r e p f q (tk.mark tk.maps) = r.fields e tk.maps f >>= λ fs. ended e tk.close_square (λ s. fields p fs s)
+field_rest r e p f q (tk.mark tk.colon) = r.fields e tk.colon f >>= λ fs. ended e tk.close_square (λ s. records p fs s)
+field_rest r e p f q k = refuses
+
+abbrev pub function_rest : Readers → ℕ → Place → Binds → Reader Phrase
+function_rest r e p bs = a_mark e tk.maps >>= λ q. r.expr e free >>= λ a. ended e tk.close_square (λ s. function p bs q a s)
+
+abbrev pub square_rest : Readers → ℕ → Place → Phrase → Place → Tk → Reader Phrase
+square_rest r e p a q (tk.mark tk.arrow) = skip (r.expr e free >>= λ b. ended e tk.close_square (λ s. functions p a q b s))
+square_rest r e p a q (tk.key tk.except_key) = skip (r.settings e >>= λ ss. ended e tk.close_square (λ s. except p a q ss s))
+square_rest r e p a q k = refuses
+
+abbrev pub square_from : Readers → ℕ → Place → Option Phrase → Reader Phrase
+square_from r e p (Some a) = peek e (square_rest r e p a)
+square_from r e p None = refuses
+
+-- behind `x \in S`
+abbrev pub bind_rest : Readers → ℕ → Place → Word → Place → Phrase → Place → Tk → Reader Binds
+bind_rest r e p x q a s (tk.mark tk.comma) = skip (a_word e >>= λ y. r.binds e y.0 y.1 >>= λ bs. gives (bind p x q a s bs))
+bind_rest r e p x q a s k = gives (last_bind p x q a)
+
+-- behind `[x \in S`
+abbrev pub square_member : Readers → ℕ → Place → Place → Word → Place → Phrase → Place → Tk → Reader Phrase
+square_member r e p q x s a t (tk.mark tk.maps) = function_rest r e p (last_bind q x s a)
+square_member r e p q x s a t (tk.mark tk.comma) = peek e (bind_rest r e q x s a) >>= λ bs. function_rest r e p bs
+square_member r e p q x s a t k = square_from r e p (element q x s a)
+
+abbrev pub plain_field : Place → Word → Field
+plain_field p x = record { place = p; is_reserved = false; text = x }
+
+abbrev pub square_name : Readers → ℕ → Place → Place → Word → Place → Tk → Reader Phrase
+square_name r e p q x s (tk.mark tk.maps) = field_rest r e p (plain_field q x) s (tk.mark tk.maps)
+square_name r e p q x s (tk.mark tk.colon) = field_rest r e p (plain_field q x) s (tk.mark tk.colon)
+square_name r e p q x s (tk.mark tk.comma) = r.binds e q x >>= λ bs. function_rest r e p bs
+square_name r e p q x s (tk.sign op.In) = skip (r.expr e free >>= λ a. peek e (square_member r e p q x s a))
+square_name r e p q x s k = from_name r e q x >>= λ a. r.climb e 0 a >>= λ b. peek e (square_rest r e p b)
+
+abbrev pub squares : Readers → ℕ → Place → Place → Tk → Reader Phrase
+squares r e p q (tk.reserved x) = skip (peek e (field_rest r e p (record { place = q; is_reserved = true; text = x })))
+squares r e p q (tk.word x) = skip (peek e (square_name r e p q x))
+squares r e p q k = r.expr e free >>= λ a. peek e (square_rest r e p a)
+
+-- ---- primaries, before `[a]` and `.b`
+abbrev pub list_if : Bool → Readers → ℕ → Place → Op → Reader Phrase
+list_if true r e p o = r.bullets e o p.col >>= λ bs. r.postfix e (list o bs)
+list_if false r e p o = refuses
+
+abbrev pub primary : Readers → ℕ → Place → Tk → Reader Phrase
+primary r e p (tk.number n) = skip (r.postfix e (number p n))
+primary r e p (tk.quote x) = skip (r.postfix e (quote p x))
+primary r e p (tk.constant c) = skip (r.postfix e (constant p c))
+primary r e p (tk.word x) = skip (from_name r e p x)
+primary r e p (tk.mark tk.open_bracket) = skip (r.expr e free >>= λ a. a_mark e tk.close_bracket >>= λ q. r.postfix e (brackets p a q))
+primary r e p (tk.mark tk.open_brace) = skip (peek e (braces r e p) >>= λ a. r.postfix e a)
+primary r e p (tk.mark tk.open_tuple) = skip (peek e (tuples r e p) >>= λ a. r.postfix e a)
+primary r e p (tk.mark tk.open_square) = skip (peek e (squares r e p) >>= λ a. r.postfix e a)
+primary r e p (tk.sign o) = list_if (is_bullet o) r e p o
+primary r e p k = refuses
+
+-- ---- open forms
+abbrev pub quantifier : Readers → ℕ → Bool → Place → Reader Phrase
+quantifier r e b p = a_word e >>= λ x. r.binds e x.0 x.1 >>= λ bs. a_mark e tk.colon >>= λ q. r.expr e free >>= λ a. gives (quantified b p bs q a)
+
+abbrev pub choice_from : Readers → ℕ → Place → Reader Phrase
+choice_from r e p = r.expr e free >>= λ a. a_key e tk.then_key >>= λ q. r.expr e free >>= λ b. a_key e tk.else_key >>= λ s. r.expr e free >>= λ c. gives (choice p a q b s c)
+
+abbrev pub keyed : Readers → ℕ → Place → Key → Reader Phrase
+keyed r e p tk.if_key = skip (choice_from r e p)
+keyed r e p tk.case_key = skip (r.arms e >>= λ xs. gives (cases p xs))
+keyed r e p tk.let_key = skip (r.locals e >>= λ ls. a_key e tk.in_key >>= λ q. r.expr e free >>= λ a. gives (local p ls q a))
+keyed r e p tk.for_all_key = skip (quantifier r e true p)
+keyed r e p tk.exists_key = skip (quantifier r e false p)
+keyed r e p k = refuses
+
+-- ---- operands
+abbrev pub under_by : Bool → Readers → ℕ → Op → Reader Phrase
+under_by true r e o = r.expr e (under o)
+under_by false r e o = r.short e
+
+abbrev pub signed : Readers → ℕ → Context → Place → Op → Option Op → Reader Phrase
+signed r e c p o (Some q) = skip (under_by (is_free c q) r e q >>= λ a. gives (prefix_of p q a))
+signed r e c p o None = primary r e p (tk.sign o)
+
+abbrev pub operand : Readers → ℕ → Context → Place → Tk → Reader Phrase
+operand r e c p (tk.key k) = keyed r e p k
+operand r e c p (tk.sign o) = signed r e c p o (prefix_by o)
+operand r e c p k = primary r e p k
+
+abbrev pub short_signed : Readers → ℕ → Place → Op → Option Op → Reader Phrase
+short_signed r e p o (Some q) = skip (r.short e >>= λ a. gives (prefix_of p q a))
+short_signed r e p o None = primary r e p (tk.sign o)
+
+abbrev pub short_by : Readers → ℕ → Place → Tk → Reader Phrase
+short_by r e p (tk.sign o) = short_signed r e p o (prefix_by o)
+short_by r e p k = primary r e p k
+
+-- ---- loops
+abbrev pub apply_if : Bool → Readers → ℕ → Phrase → Place → Reader Phrase
+apply_if true r e a p = skip (r.phrases e >>= λ xs. a_mark e tk.close_square >>= λ q. r.postfix e (apply a p xs q))
+apply_if false r e a p = gives a
+
+abbrev pub select_if : Bool → Readers → ℕ → Phrase → Place → Reader Phrase
+select_if true r e a p = skip (a_field e >>= λ f. r.postfix e (select a p f))
+select_if false r e a p = gives a
+
+abbrev pub postfix_by : Readers → ℕ → Phrase → Place → Tk → Reader Phrase
+postfix_by r e a p (tk.mark tk.open_square) = apply_if (can_be_head a p) r e a p
+postfix_by r e a p (tk.mark tk.dot) = select_if (can_be_head a p) r e a p
+postfix_by r e a p k = gives a
+
+abbrev pub climb_if : Bool → Readers → ℕ → ℕ → Phrase → Place → Op → Reader Phrase
+climb_if true r e b a p o = skip (r.expr e (right_of o) >>= λ d. r.climb e b (infix_of a p o d))
+climb_if false r e b a p o = gives a
+
+abbrev pub climb_by : Readers → ℕ → ℕ → Phrase → Place → Tk → Reader Phrase
+climb_by r e b a p (tk.sign o) = climb_if (goes_on b a p o) r e b a p o
+climb_by r e b a p k = gives a
+
+-- ---- lists
+abbrev pub phrases_by : Readers → ℕ → Phrase → Place → Tk → Reader Phrases
+phrases_by r e a p (tk.mark tk.comma) = skip (r.phrases e >>= λ xs. gives (more a p xs))
+phrases_by r e a p k = gives (last a)
+
+abbrev pub binds_by : Readers → ℕ → Place → Word → Place → Tk → Reader Binds
+binds_by r e p x q (tk.sign op.In) = skip (r.expr e free >>= λ a. peek e (bind_rest r e p x q a))
+binds_by r e p x q (tk.mark tk.comma) = skip (a_word e >>= λ y. r.binds e y.0 y.1 >>= λ bs. gives (share p x q bs))
+binds_by r e p x q k = refuses
+
+abbrev pub fields_by : Readers → ℕ → Mark → Field → Place → Phrase → Place → Tk → Reader Fields
+fields_by r e m f p a q (tk.mark tk.comma) = skip (a_field e >>= λ g. r.fields e m g >>= λ fs. gives (field f p a q fs))
+fields_by r e m f p a q k = gives (last_field f p a)
+
+abbrev pub settings_by : Readers → ℕ → Place → Path → Place → Phrase → Place → Tk → Reader Settings
+settings_by r e p path q a s (tk.mark tk.comma) = skip (r.settings e >>= λ ss. gives (setting p path q a s ss))
+settings_by r e p path q a s k = gives (last_setting p path q a)
+
+abbrev pub setting_if : Bool → Readers → ℕ → Place → Path → Reader Settings
+setting_if true r e p path = a_sign e op.Equal >>= λ q. r.expr e free >>= λ a. peek e (settings_by r e p path q a)
+setting_if false r e p path = refuses
+
+abbrev pub path_by : Readers → ℕ → Place → Tk → Reader Path
+path_by r e p (tk.mark tk.open_square) = skip (r.phrases e >>= λ xs. a_mark e tk.close_square >>= λ q. r.path e >>= λ path. gives (index p xs q path))
+path_by r e p (tk.mark tk.dot) = skip (a_field e >>= λ f. r.path e >>= λ path. gives (at_field p f path))
+path_by r e p k = gives path_end
+
+-- a sign of this operator in this column
+abbrev pub bullet_of : Op → ℕ → Place → Tk → Option Place
+bullet_of o c p k = if is_sign o k && nat_eq c p.col then Some p else None
+
+abbrev pub bullets_if : Bool → Readers → ℕ → Op → ℕ → Place → Phrase → Reader Bullets
+bullets_if true r e o c p a = r.bullets e o c >>= λ bs. gives (bullet p a bs)
+bullets_if false r e o c p a = gives (last_bullet p a)
+
+abbrev pub arms_other : Readers → ℕ → Phrase → Place → Phrase → Place → Place → Tk → Reader Arms
+arms_other r e a p b q s (tk.key tk.other_key) = skip (a_mark e tk.arrow >>= λ t. r.expr e free >>= λ c. gives (other_arm a p b q s t c))
+arms_other r e a p b q s k = r.arms e >>= λ xs. gives (arm a p b q xs)
+
+abbrev pub arms_by : Readers → ℕ → Phrase → Place → Phrase → Place → Tk → Reader Arms
+arms_by r e a p b q (tk.mark tk.box) = skip (peek e (arms_other r e a p b q))
+arms_by r e a p b q k = gives (last_arm a p b)
+
+abbrev pub locals_by : Readers → ℕ → Place → Word → Place → Phrase → Place → Tk → Reader Locals
+locals_by r e p x q a s (tk.word y) = r.locals e >>= λ ls. gives (more_locals p x q a ls)
+locals_by r e p x q a s k = gives (last_local p x q a)
+
+-- one step of each, over readers of what is left
+abbrev pub one_step : Readers → Readers
+one_step r = record {
+  expr = λ e c. peek e (operand r e c) >>= λ a. r.climb e (bound c) a;
+  short = λ e. peek e (short_by r e);
+  postfix = λ e a. peek e (postfix_by r e a);
+  climb = λ e b a. peek e (climb_by r e b a);
+  phrases = λ e. r.expr e free >>= λ a. peek e (phrases_by r e a);
+  binds = λ e p x. peek e (binds_by r e p x);
+  fields = λ e m f. a_mark e m >>= λ p. r.expr e free >>= λ a. peek e (fields_by r e m f p a);
+  settings = λ e. a_mark e tk.bang >>= λ p. r.path e >>= λ path. setting_if (is_some_path path) r e p path;
+  path = λ e. peek e (path_by r e);
+  bullets = λ e o c. take e (bullet_of o c) >>= λ p. r.expr c free >>= λ a. peek e (λ q k. bullets_if (is_sign o k && nat_eq c q.col) r e o c p a);
+  arms = λ e. r.expr e free >>= λ a. a_mark e tk.arrow >>= λ p. r.expr e free >>= λ b. peek e (arms_by r e a p b);
+  locals = λ e. a_word e >>= λ x. a_mark e tk.defines >>= λ q. r.expr e free >>= λ a. peek e (locals_by r e x.0 x.1 q a);
+}
+
+abbrev pub no_steps : Readers
+no_steps = record {
+  expr = λ e c. refuses;
+  short = λ e. refuses;
+  postfix = λ e a. refuses;
+  climb = λ e b a. refuses;
+  phrases = λ e. refuses;
+  binds = λ e p x. refuses;
+  fields = λ e m f. refuses;
+  settings = λ e. refuses;
+  path = λ e. refuses;
+  bullets = λ e o c. refuses;
+  arms = λ e. refuses;
+  locals = λ e. refuses;
+}
+
+unfoldable pub readers : ℕ → Readers
+readers zero = no_steps
+readers (suc n) = one_step (readers n)
+
+-- an expression to the right of the edge, with as many steps as there are tokens
+abbrev pub read : ℕ → Reader Phrase
+read e ts = (readers (suc (length ts))).expr e free ts
