@@ -1,5 +1,5 @@
 -- With UNCHANGED for what a step assigns nowhere, its items are true exactly of the states that it steps to.
-use Rattle.std.proofs.Common.{◌≡◌, List, [], ◌∷◌, ◌++◌, Bool, true, false, ◌↔◌, refl, sym, ◌∙◌, ap, subst, ⊎_elim}
+use Rattle.std.proofs.Common.{◌≡◌, List, [], Bool, true, false, ◌↔◌, refl, sym, ◌∙◌, ap, subst, ⊎_elim}
 use Rattle.std.proofs.lemmas.Bool.{cases_Bool, both_ways}
 use Rattle.tla_expr.specs.Tree.{Word}
 use Rattle.tla_value.specs.Stops.{plain}
@@ -7,9 +7,9 @@ use Rattle.tla_value.specs.Meaning.{Env}
 use Rattle.module_text.specs.Truth.{Verdict, told, items_hold, Tells}
 use Rattle.module_text.specs.Truth as Module
 use Rattle.pcal_tree.specs.Algorithm.{Statements, done, then, mark}
-use Rattle.pcal_tree.specs.Scope.{State, Got, got, bad}
+use Rattle.pcal_tree.specs.Scope.{State, got}
 use Rattle.pcal_tree.specs.Run.{with_macros}
-use Rattle.action_builder.specs.Action.{Names, member, more, assigned, assigned_in, minus, all_same, and_then, Agree}
+use Rattle.action_builder.specs.Action.{Names, member, more, assigned, assigned_in, minus, all_same, and_then}
 use Rattle.action_builder.specs.Effects.{effect_of, effects_of}
 use Rattle.action_builder.specs.Written.{left_of, unchanged_of}
 use Rattle.action_builder.specs.Ready.{Readable, Fine, values_of, Matches, IsNotFalse, IsStopped, holds_on, unlimited}

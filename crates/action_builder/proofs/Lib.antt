@@ -19,3 +19,4 @@ pub mod Prepared
 pub mod Rules
 pub mod Steps
 pub mod Label
+mod Rows
