@@ -7,9 +7,9 @@ use Rattle.tla_expr.specs.Tree.{Word, Each}
 use Rattle.tla_expr.specs.Names.{has}
 use Rattle.tla_value.specs.declared.fault.FaultKind.{FaultKind}
 use Rattle.tla_value.specs.Stops.{plain}
-use Rattle.tla_value.specs.Definitions.{Look}
+use Rattle.tla_value.specs.Definitions.{Look, Definition}
 use Rattle.tla_value.specs.Value.{Value}
-use Rattle.pcal_tree.specs.Algorithm.{Algorithm}
+use Rattle.pcal_tree.specs.Algorithm.{nowhere, Name, Algorithm}
 use Rattle.pcal_tree.specs.Names.{naming}
 use Rattle.pcal_tree.specs.Outside as outside
 use Rattle.pcal_tree.specs.Scope.{State}
@@ -43,12 +43,21 @@ unread_in [] = []
 unread_in (opaque o ∷ us) = record { keyword = o.keyword; names = o.names; place = o.place } ∷ unread_in us
 unread_in (u ∷ us) = unread_in us
 
+-- written names don't depend on places
+abbrev pub placeless_names : List Word → List Name
+placeless_names [] = []
+placeless_names (x ∷ xs) = record { word = x; place = nowhere } ∷ placeless_names xs
+
+abbrev pub placeless_definitions : List Definition → List outside.Read
+placeless_definitions [] = []
+placeless_definitions (d ∷ ds) = record { definition = d; place = nowhere } ∷ placeless_definitions ds
+
 -- definitions are read before the translation alone
 abbrev pub outside_of : Module → outside.Outside
 outside_of m = record {
   extended = modules_in (m.before ++ m.behind);
-  constants = constants_in (m.before ++ m.behind);
-  definitions = defined_in m.before;
+  constants = placeless_names (constants_in (m.before ++ m.behind));
+  definitions = placeless_definitions (defined_in m.before);
   opaque = unread_in (m.before ++ m.behind);
 }
 
