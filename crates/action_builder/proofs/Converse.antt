@@ -115,7 +115,7 @@ mutual
       (λ k. inr (fits_some A all bs c s t o.1 (λ x m. w x (behind (assigned_in b) (assigned_by bs) x m)) late k))
       r)
 
--- FAULTS OF THE ACTION ARE FAULTS OF A RUN
+-- ---- faults of the action are faults of a run
 
 abbrev fails : Trouble → Got Bool
 fails k = bad k
@@ -203,7 +203,7 @@ mutual
       (λ m. let r = bad_some A all bs c s t k m in (r.0, inr r.1))
       (either_bad _ _ k h)
 
--- THE THEOREM, where no run faults
+-- ---- the theorem, where no run faults
 
 abbrev pub NoFault : Effects → Scope → State → Type 0
 NoFault ss c m = (k : Trouble) → Run ss c m (bad k) → ⊥

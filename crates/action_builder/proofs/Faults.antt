@@ -17,7 +17,7 @@ use Rattle.action_builder.proofs.Converse.{fits_one}
 pub mid_agree : (s t u : State) (A : Names) → Agree A t u → mid s t A ≡ mid s u A
 mid_agree s t u A h = is_mid s u (mid s t A) A (λ x e. mid_in s t A x e ∙ h x e) (λ x e. mid_out s t A x e)
 
--- THE WRITTEN ACTION READS OF THE LATER STATE ONLY A AND WHAT IS ASSIGNED
+-- ---- the written action reads of the later state only a and what is assigned
 
 same_local : (xs : List Word) (s t u : State) → ((x : Word) → member xs x ≡ true → t x ≡ u x) → all_same xs s t ≡ all_same xs s u
 same_local [] s t u h = refl
@@ -80,7 +80,7 @@ mutual
       (ended_local (build A b) A xs all all c s t u (λ x m. m) h (local_all A b c s t u (smaller A xs all t u (λ x m. w x (in_front xs ys x m)) h)) i)
       (local_some A all bs c s t u (λ x m. w x (behind xs ys x m)) h i)
 
--- A FAULT OF A RUN IS A FAULT OF THE ACTION, FOR SOME LATER STATE
+-- ---- a fault of a run is a fault of the action, for some later state
 
 and_bad_left : (v w : Got Bool) → IsBad v → IsBad (and_then v w)
 and_bad_left (got b) w h = absurd h

@@ -20,3 +20,4 @@ pub mod Rules
 pub mod Steps
 pub mod Label
 mod Rows
+pub mod Witness

@@ -12,7 +12,7 @@ use Rattle.action_builder.proofs.Sets.{or_left, or_right, or_none, member_append
 use Rattle.action_builder.proofs.Parts.{moved_good, moved_bad, value_kept, bad_assigned}
 use Rattle.action_builder.proofs.Frame.{got_same, got_bad}
 
--- VERDICTS
+-- ---- verdicts
 
 pub and_then_assoc : (u v w : Got Bool) → and_then (and_then u v) w ≡ and_then u (and_then v w)
 and_then_assoc (got true) v w = refl
@@ -41,7 +41,7 @@ either_true (got false) (got b) e = inr e
 either_true (got false) (bad k) e = got_bad true k (sym e)
 either_true (bad k) w e = got_bad true k (sym e)
 
--- ASSIGNMENTS
+-- ---- assignments
 
 value_true : (o : Got Value) (w : Value) → on o (λ v. got (same w v)) ≡ got true → o ≡ got w
 value_true (got v) w e = ap got (sym (value-true w v (got_same (same w v) true e)))
@@ -81,7 +81,7 @@ assign_true A ps c s t h = by (moved ps c (mid s t A)) refl
         let b = moved_bad ps c (mid s t A) k p in
         is_bad_not _ (t b.0) b.1 (sets_values A ps c s t (firsts ps) h b.0 (bad_assigned ps c (mid s t A) b.0 b.1))
 
--- APART
+-- ---- apart
 
 more_false : (A : Names) (xs : List Word) (x : Word) → more A xs x ≡ false → A x ≡ false
 more_false A xs x e = (or_none (A x) (member xs x) e).0
@@ -131,7 +131,7 @@ grown s t A own other all w v same = mid_grow s t (more A own) (more A all) (mor
         let in_all : member all x ≡ true = ⊎_elim (λ a. absurd (both_ways (A x) out.0 a)) (λ b. b) (or_cases (A x) (member all x) inside) in
         ⊎_elim (λ a. absurd (both_ways (member own x) out.1 a)) (λ b. minus_same other own s t same x b out.1) (v x in_all)
 
--- TRUE, SO A RUN FITS
+-- ---- true, so a run fits
 
 pub more_nil : (s t : State) (A : Names) → mid s t (more A []) ≡ mid s t A
 more_nil s t A = λ i x. cond (or_false (A x) i) (t x) (s x)

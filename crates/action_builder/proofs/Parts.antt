@@ -19,7 +19,7 @@ abbrev kept : Word → Changes → List Change
 kept y no_changes = []
 kept y (change x f fs) = cond (bytes_eq x y) (f ∷ kept y fs) (kept y fs)
 
--- GOOD
+-- ---- parts that end
 
 pull : (b : Bool) (f : Change) (q : Got (List Change)) (ks : List Change) → q ≡ got ks → cond b (on q (λ gs. got (f ∷ gs))) q ≡ got (cond b (f ∷ ks) ks)
 pull true f q ks e = ap (λ z. on z (λ gs. got (f ∷ gs))) e
@@ -65,7 +65,7 @@ moved_good ps c s u h y = by (evaluated ps c s) refl h
     by (got fs) p k = ap (λ o. on o (λ gs. folded gs (s y))) (evaluated_for ps y c s fs p) ∙ applied_for fs y s u k
     by (bad j) p k = not_bad u j (sym k)
 
--- BAD
+-- ---- parts that fault
 
 some_bad_step : (o : Got Change) (q : Got Changes) (x : Word) (k : Trouble) (P : Type 0) → on o (λ f. on q (λ gs. got (change x f gs))) ≡ bad k → (IsBad o → P) → ((j : Trouble) → q ≡ bad j → P) → P
 some_bad_step (got f) (got gs) x k P h a b = not_bad (change x f gs) k h
@@ -125,7 +125,7 @@ moved_bad ps c s k h = by (evaluated ps c s) refl h
         (r.0, subst (λ o. IsBad (on o (λ gs. folded gs (s r.0)))) (sym (evaluated_for ps r.0 c s fs p)) r.1)
     by (bad j) p q = let r = evaluated_bad ps c s j p in (r.0, bad_on (changes_for r.0 ps c s) _ r.1)
 
--- NO PART
+-- ---- no part
 
 without_other : (x y : Word) (zs : List Word) → bytes_eq x y ≡ false → member (without x zs) y ≡ member zs y
 without_other x y [] e = refl

@@ -1,4 +1,5 @@
--- Statements, their runs, and the action that is written for them.
+-- Effects of statements, their runs, and the action that is written for them, over what expressions give in a scope and a state ("A PlusCal User's
+-- Manual", section 3.2; actions, "Specifying Systems", sections 2.2 and 16.2.3).
 use Rattle.std.specs.Prelude.{List, [], ◌∷◌, ◌++◌, Bool, true, false, cond, ◌||◌, ◌&&◌, bytes_eq, ◌≡◌, ◌⊎◌}
 use Rattle.tla_expr.specs.Tree.{Word}
 use Rattle.tla_value.specs.Value.{Value, Values, no_values, and}
@@ -74,7 +75,7 @@ abbrev mutual
   assigned_by no_ways = []
   assigned_by (way b bs) = assigned_in b ++ assigned_by bs
 
--- THE RUNS
+-- ---- the runs
 
 pub data Changes : Type 0 where
   no_changes : Changes
@@ -133,7 +134,7 @@ abbrev mutual
   RunSome no_ways c s r = ⊥
   RunSome (way b bs) c s r = Run b c s r ⊎ RunSome bs c s r
 
--- THE ACTION
+-- ---- the action
 
 abbrev pub PairExp : Type 0 → Type 0
 PairExp X = Scope → State → State → Got X

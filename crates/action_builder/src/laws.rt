@@ -150,6 +150,11 @@ pub fn step_actions_fault_as_the_step()
         → (((u : State) × IsStopped (holds_on vs env (action_of vs d) s u)) ↔ IsTroubled d s) }
 {}
 
+/// Some step meets all that these laws ask.
+pub fn some_step_is_prepared_and_ready()
+    ensures { (d : Step) × (U : Readable) × (vs : List Word) × (env : State → State → Env) × IsPrepared d × IsReady U vs env d }
+{}
+
 /// Statements with their macro calls written out take the same courses, in every scope and with anything behind.
 pub fn written_out_calls_take_the_same_courses()
     ensures { (M : Rules) (ms : List Macro) (here : Word) (ss : Statements) → Calls (FineCall M.check ms) ss → (sc : Scope) → Free sc → (K : Follow)
