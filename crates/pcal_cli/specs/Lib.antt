@@ -2,3 +2,5 @@ pub mod Words
 pub mod Answers
 pub mod Causes
 pub mod Translates
+pub mod Form
+pub mod FirstPathBytes

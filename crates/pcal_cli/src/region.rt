@@ -1,5 +1,8 @@
 //! The translation of a text of the form, as it is written.
 
+ghost use Rattle.std.specs.Prelude.{◌≡◌, ◌++◌, OnOk, decimal};
+ghost use Rattle.pcal_cli.specs.FirstPathBytes.{parts_of, fixed_text, operand_text, right_text, variables_text, init_text, step_text, ending_text, region_text};
+
 use crate::form::{Form, Operand, Right};
 use std::alloc::{AllocError, Global};
 
@@ -24,7 +27,10 @@ enum Fixed {
     NextEnd,
 }
 
-fn bytes_of(which: Fixed) -> &'static [u8] {
+#[tactic(auto, unfolding(crate::specs::FirstPathBytes::fixed_text))]
+fn bytes_of(which: Fixed) -> &'static [u8]
+    ensures { result.now ≡ fixed_text which }
+{
     match which {
         Fixed::Variables => b"VARIABLES ",
         Fixed::Vars => b", pc\n\nvars == <<",
@@ -47,7 +53,9 @@ fn bytes_of(which: Fixed) -> &'static [u8] {
     }
 }
 
-fn write_number(alloc: Global, number: u128, out: &mut Vec<u8>) -> Result<(), AllocError> {
+fn write_number(alloc: Global, number: u128, out: &mut Vec<u8>) -> Result<(), AllocError>
+    ensures { OnOk result (out.new.items ≡ out.old.items ++ decimal number) }
+{
     let digits = format!(in alloc; "{number}")?;
     out.extend_from_slice(digits.as_bytes())
 }
@@ -57,7 +65,9 @@ fn write_operand(
     operand: Operand,
     variable: &[u8],
     out: &mut Vec<u8>,
-) -> Result<(), AllocError> {
+) -> Result<(), AllocError>
+    ensures { OnOk result (out.new.items ≡ out.old.items ++ operand_text variable.now operand) }
+{
     match operand {
         Operand::Number(number) => write_number(alloc, number, out),
         Operand::Variable => out.extend_from_slice(variable),
@@ -69,7 +79,9 @@ fn write_right(
     right: Right,
     variable: &[u8],
     out: &mut Vec<u8>,
-) -> Result<(), AllocError> {
+) -> Result<(), AllocError>
+    ensures { OnOk result (out.new.items ≡ out.old.items ++ right_text variable.now right) }
+{
     match right {
         Right::One(operand) => write_operand(alloc, operand, variable, out),
         Right::Sum(left, right) => {
@@ -82,7 +94,10 @@ fn write_right(
     }
 }
 
-fn write_variables(form: &Form<'_>, out: &mut Vec<u8>) -> Result<(), AllocError> {
+#[tactic(auto, unfolding(crate::specs::FirstPathBytes::variables_text))]
+fn write_variables(form: &Form<'_>, out: &mut Vec<u8>) -> Result<(), AllocError>
+    ensures { OnOk result (out.new.items ≡ out.old.items ++ variables_text (parts_of form.now)) }
+{
     out.extend_from_slice(bytes_of(Fixed::Variables))?;
     out.extend_from_slice(form.variable)?;
     out.extend_from_slice(bytes_of(Fixed::Vars))?;
@@ -90,7 +105,10 @@ fn write_variables(form: &Form<'_>, out: &mut Vec<u8>) -> Result<(), AllocError>
     out.extend_from_slice(bytes_of(Fixed::VarsEnd))
 }
 
-fn write_init(alloc: Global, form: &Form<'_>, out: &mut Vec<u8>) -> Result<(), AllocError> {
+#[tactic(auto, unfolding(crate::specs::FirstPathBytes::init_text))]
+fn write_init(alloc: Global, form: &Form<'_>, out: &mut Vec<u8>) -> Result<(), AllocError>
+    ensures { OnOk result (out.new.items ≡ out.old.items ++ init_text (parts_of form.now)) }
+{
     out.extend_from_slice(bytes_of(Fixed::Init))?;
     out.extend_from_slice(form.variable)?;
     out.extend_from_slice(bytes_of(Fixed::Equals))?;
@@ -100,7 +118,10 @@ fn write_init(alloc: Global, form: &Form<'_>, out: &mut Vec<u8>) -> Result<(), A
     out.extend_from_slice(bytes_of(Fixed::InitEnd))
 }
 
-fn write_action(alloc: Global, form: &Form<'_>, out: &mut Vec<u8>) -> Result<(), AllocError> {
+#[tactic(auto, unfolding(crate::specs::FirstPathBytes::step_text))]
+fn write_action(alloc: Global, form: &Form<'_>, out: &mut Vec<u8>) -> Result<(), AllocError>
+    ensures { OnOk result (out.new.items ≡ out.old.items ++ step_text (parts_of form.now)) }
+{
     out.extend_from_slice(form.label)?;
     out.extend_from_slice(bytes_of(Fixed::Test))?;
     out.extend_from_slice(form.label)?;
@@ -111,14 +132,19 @@ fn write_action(alloc: Global, form: &Form<'_>, out: &mut Vec<u8>) -> Result<(),
     out.extend_from_slice(bytes_of(Fixed::ActionEnd))
 }
 
-fn write_ending(form: &Form<'_>, out: &mut Vec<u8>) -> Result<(), AllocError> {
+#[tactic(auto, unfolding(crate::specs::FirstPathBytes::ending_text))]
+fn write_ending(form: &Form<'_>, out: &mut Vec<u8>) -> Result<(), AllocError>
+    ensures { OnOk result (out.new.items ≡ out.old.items ++ ending_text (parts_of form.now)) }
+{
     out.extend_from_slice(bytes_of(Fixed::Ending))?;
     out.extend_from_slice(form.label)?;
     out.extend_from_slice(bytes_of(Fixed::NextEnd))
 }
 
 /// Writes the translation of a form, between its two lines.
-pub fn write_region(alloc: Global, form: &Form<'_>, out: &mut Vec<u8>) -> Result<(), AllocError> {
+pub fn write_region(alloc: Global, form: &Form<'_>, out: &mut Vec<u8>) -> Result<(), AllocError>
+    ensures { OnOk result (out.new.items ≡ out.old.items ++ region_text (parts_of form.now)) }
+{
     write_variables(form, out)?;
     write_init(alloc, form, out)?;
     write_action(alloc, form, out)?;
