@@ -1,5 +1,5 @@
 -- The translation of a text of the form, as bytes: what is written for each unit.
-use Rattle.std.specs.Prelude.{ℕ, List, [], ◌++◌, codes}
+use Rattle.std.specs.Prelude.{ℕ, ◌-◌, List, [], ◌++◌, length, take, codes}
 use Rattle.std.specs.Fmt.{decimal}
 use Rattle.tla_expr.specs.Tree.{Word}
 use Rattle.pcal_cli.specs.declared.form.Operand.{Operand}
@@ -9,7 +9,8 @@ use Rattle.pcal_cli.specs.declared.form.Right.TheVariants.{One, Sum}
 use Rattle.pcal_cli.specs.declared.form.Form.{Form}
 use Rattle.pcal_cli.specs.declared.region.Fixed.{Fixed}
 use Rattle.pcal_cli.specs.declared.region.Fixed.TheVariants as fixed
-use Rattle.pcal_cli.specs.Form.{Parts}
+use Rattle.module_text.specs.Around.{begin_line, end_line}
+use Rattle.pcal_cli.specs.Form.{Parts, last_line}
 
 -- the parts that the code has read
 abbrev pub parts_of : Form → Parts
@@ -56,3 +57,7 @@ ending_text f = fixed_text fixed.Ending ++ f.label ++ fixed_text fixed.NextEnd
 
 abbrev pub region_text : Parts → List ℕ
 region_text f = variables_text f ++ init_text f ++ step_text f ++ ending_text f
+
+-- the text with its translation, as it is written
+abbrev pub written_text : List ℕ → Parts → List ℕ
+written_text x f = take (length x - 5) x ++ begin_line ++ region_text f ++ end_line ++ codes "\n" ++ last_line

@@ -4,3 +4,4 @@ pub mod Causes
 pub mod Translates
 pub mod Form
 pub mod FirstPathBytes
+pub mod FirstPath

@@ -1,5 +1,12 @@
 //! The top call: from the words of a command line to an answer.
 
+ghost use Rattle.std.specs.Prelude.{◌≡◌, ◌⊎◌, ◌<◌, ◌++◌, length, IfOk, OnOk, OnErr, Some, None, MatchOption};
+ghost use Rattle.outer_io.specs.Outer.{Rose, RoseAbove, Lacks, Tells, Grows, GrowsInPart};
+ghost use Rattle.pcal_cli.specs.Words.{translate as translate_of, command_of};
+ghost use Rattle.pcal_cli.specs.Causes.{most_bytes};
+ghost use Rattle.pcal_cli.specs.FirstPathBytes.{parts_of, written_text};
+ghost use Rattle.pcal_cli.specs.FirstPath.{words_of, LeavesOut, Writes, WritesInPart, IsAnswer, line_of, Told, file_meant};
+
 use crate::form::{Form, read_form};
 use crate::region::write_region;
 use crate::status::Status;
@@ -14,7 +21,9 @@ const MOST_BYTES: u64 = 1_048_576;
 const LAST_LINE: &[u8] = b"====\n";
 
 /// The text with its translation before the last line.
-fn with_translation(alloc: Global, text: &[u8], form: &Form<'_>) -> Result<Vec<u8>, AllocError> {
+fn with_translation(alloc: Global, text: &[u8], form: &Form<'_>) -> Result<Vec<u8>, AllocError>
+    ensures { IfOk result (λ v. v.items ≡ written_text text.now (parts_of form.now)) }
+{
     let mut out = Vec::new(alloc);
     out.extend_from_slice(&text[..text.len().saturating_sub(LAST_LINE.len())])?;
     out.extend_from_slice(begin_text().as_bytes())?;
@@ -26,7 +35,16 @@ fn with_translation(alloc: Global, text: &[u8], form: &Form<'_>) -> Result<Vec<u
 }
 
 /// Translates the module in a file. All memory is taken before the first byte goes out.
-fn translate<H: Shelf, K: Sink>(alloc: Global, file: &str, shelf: &mut H, out: &mut K) -> Status {
+fn translate<H: Shelf, K: Sink>(alloc: Global, file: &str, shelf: &mut H, out: &mut K) -> Status
+    ensures answer { IsAnswer result }
+    ensures read_fault { result ≡ Status.ReadFault → Rose (H.faults shelf.old) (H.faults shelf.new) ⊎ Lacks (H.texts shelf.old) file.now }
+    ensures write_fault { result ≡ Status.WriteFault → Rose (K.faults out.old) (K.faults out.new) }
+    ensures too_long { result ≡ Status.TooLong → RoseAbove most_bytes (H.given shelf.old) (H.given shelf.new) }
+    ensures longer { result ≡ Status.TooLong → Tells (H.texts shelf.old) file.now (λ x. most_bytes < length x) }
+    ensures stays { LeavesOut result → K.wrote out.new ≡ K.wrote out.old }
+    ensures fine { result ≡ Status.Fine → Tells (H.texts shelf.old) file.now (Writes (K.wrote out.old) (K.wrote out.new)) }
+    ensures in_part { result ≡ Status.WriteFault → Tells (H.texts shelf.old) file.now (WritesInPart (K.wrote out.old) (K.wrote out.new)) }
+{
     let text = match load(alloc, shelf, file, MOST_BYTES) {
         Ok(text) => text,
         Err(LoadFault::Memory) => return Status::Memory,
@@ -51,27 +69,38 @@ fn put_three<E: Sink>(
     first: &[u8],
     second: &[u8],
     third: &[u8],
-) -> Result<(), Failed> {
+) -> Result<(), Failed>
+    ensures ok { OnOk result (Grows (E.wrote err.old) (E.wrote err.new) (first.now ++ (second.now ++ third.now))) }
+    ensures err { OnErr result (GrowsInPart (E.wrote err.old) (E.wrote err.new) (first.now ++ (second.now ++ third.now))) }
+    ensures cause { OnErr result (Rose (E.faults err.old) (E.faults err.new)) }
+{
     put_all(err, first)?;
     put_all(err, second)?;
-    put_all(err, third)
+    put_all(err, third)?;
+    Ok(())
 }
 
 /// Writes the line that an answer has on the error output.
-fn tell<E: Sink>(err: &mut E, status: Status, file: &str) -> Result<(), Failed> {
+fn tell<E: Sink>(err: &mut E, status: Status, file: &[u8]) -> Result<(), Failed>
+    ensures ok { OnOk result (Grows (E.wrote err.old) (E.wrote err.new) (line_of status file.now)) }
+    ensures err { OnErr result (GrowsInPart (E.wrote err.old) (E.wrote err.new) (line_of status file.now)) }
+    ensures cause { OnErr result (Rose (E.faults err.old) (E.faults err.new)) }
+{
     match status {
         Status::Memory => put_all(err, b"pcal: out of memory\n"),
         Status::Usage => put_all(err, b"pcal: usage\n"),
-        Status::ReadFault => put_three(err, b"pcal: cannot read ", file.as_bytes(), b"\n"),
+        Status::ReadFault => put_three(err, b"pcal: cannot read ", file, b"\n"),
         Status::WriteFault => put_all(err, b"pcal: cannot write\n"),
-        Status::Refused => put_three(err, b"pcal: ", file.as_bytes(), b":1:1: 11 LeftOutWord\n"),
-        Status::TooLong => put_three(err, b"pcal: ", file.as_bytes(), b" is too long\n"),
+        Status::Refused => put_three(err, b"pcal: ", file, b":1:1: 11 LeftOutWord\n"),
+        Status::TooLong => put_three(err, b"pcal: ", file, b" is too long\n"),
         _ => put_all(err, b""),
     }
 }
 
 /// The file of `translate FILE`, where the words, the program's name first, are such a command.
-fn file_of(words: &[String]) -> Option<&str> {
+fn file_of(words: &[String]) -> Option<&str>
+    ensures { MatchOption result (command_of (words_of words.now) ≡ None) (λ file. command_of (words_of words.now) ≡ Some (translate_of file.now)) }
+{
     match words {
         [_, verb, file] if verb.as_str() == "translate" && !file.as_bytes().starts_with(b"-") =>
             Some(file.as_str()),
@@ -91,6 +120,6 @@ pub fn pcal<H: Shelf, K: Sink, E: Sink>(
         Some(file) => (translate(alloc, file, shelf, out), file),
         None => (Status::Usage, ""),
     };
-    let _ = tell(err, status, file);
+    let _ = tell(err, status, file.as_bytes());
     status
 }
