@@ -41,10 +41,13 @@ initial_is v n = ap (λ r. v ++ (codes " = " ++ r)) (append-nil (decimal n))
 at_is : (l : Word) → list_all is_word l ≡ true → written (is_at l) ≡ codes "pc = \"" ++ (l ++ codes "\"")
 at_is l h = rw (escapes_name l h) (ap (λ r. codes "pc = \"" ++ r) (append-nil (l ++ codes "\"")))
 
+init_order : (v s d n t l m r : List ℕ) → ((((v ++ (s ++ d)) ++ n) ++ (t ++ (((l ++ m) ++ n) ++ []))) ++ n) ++ r ≡ (((((v ++ s) ++ d) ++ (n ++ t)) ++ l) ++ (m ++ (n ++ n))) ++ r
+init_order v s d n t l m r = simp (append_assoc, append-nil) refl
+
 init_lines : (v d l a b r : List ℕ) → a ≡ v ++ (codes " = " ++ d) → b ≡ codes "pc = \"" ++ (l ++ codes "\"")
     → ((line 0 (codes "Init ==") ++ conjuncts_text (a ∷ b ∷ [])) ++ codes "\n") ++ r ≡ (fixed_text fixed.Init ++ v ++ fixed_text fixed.Equals ++ d ++ fixed_text fixed.InitLabel ++ l ++ fixed_text fixed.InitEnd) ++ r
 unfolding fixed_text
-init_lines v d l a b r e g = rw (e, g) (simp (append_assoc, append-nil) refl)
+init_lines v d l a b r e g = rw (e, g) (ap (λ w. codes "Init ==\n  /\\ " ++ w) (init_order v (codes " = ") d (codes "\n") (codes "  /\\ pc = \"") l (codes "\"") r))
 
 init_is : (f : Parts) (r : List ℕ) → list_all is_word f.label ≡ true → (unit_text (init_unit (region_of f).init) ++ codes "\n") ++ r ≡ init_text f ++ r
 unfolding init_text
@@ -62,11 +65,15 @@ right_is v (Sum (Number m) Variable) = simp append_assoc refl
 right_is v (Sum Variable (Number n)) = simp append_assoc refl
 right_is v (Sum Variable Variable) = simp append_assoc refl
 
+step_order : (l h n t q c u v p e z r : List ℕ) → ((((l ++ []) ++ h) ++ n) ++ ((t ++ (((l ++ q) ++ c) ++ n)) ++ ((u ++ (((v ++ p) ++ e) ++ n)) ++ z)) ++ n) ++ r
+    ≡ (((((((l ++ (h ++ (n ++ t))) ++ l) ++ (q ++ (c ++ (n ++ u)))) ++ v) ++ p) ++ e) ++ (n ++ (z ++ n))) ++ r
+step_order l h n t q c u v p e z r = simp (append_assoc, append-nil) refl
+
 step_lines : (l v e a x r : List ℕ) → a ≡ codes "pc = \"" ++ (l ++ codes "\"") → x ≡ e
     → ((line 0 (l ++ [] ++ codes " ==") ++ (line 2 (codes "/\\ (" ++ a ++ codes ")") ++ (line 2 (codes "/\\ " ++ v ++ codes "' = " ++ x) ++ (line 2 (codes "/\\ pc' = \"Done\"") ++ [])))) ++ codes "\n") ++ r
     ≡ (l ++ fixed_text fixed.Test ++ l ++ fixed_text fixed.TestEnd ++ v ++ fixed_text fixed.Sets ++ e ++ fixed_text fixed.ActionEnd) ++ r
 unfolding fixed_text
-step_lines l v e a x r p q = rw (p, q) (simp (append_assoc, append-nil) refl)
+step_lines l v e a x r p q = rw (p, q) (step_order l (codes " ==") (codes "\n") (codes "  /\\ (pc = \"") (codes "\"") (codes ")") (codes "  /\\ ") v (codes "' = ") e (codes "  /\\ pc' = \"Done\"\n") r)
 
 step_is : (f : Parts) (r : List ℕ) → list_all is_word f.label ≡ true → (unit_text (action_unit (step_of f)) ++ codes "\n") ++ r ≡ step_text f ++ r
 unfolding step_text
