@@ -5,3 +5,4 @@ pub mod Translates
 pub mod Form
 pub mod FirstPathBytes
 pub mod FirstPath
+pub mod FirstPathNames

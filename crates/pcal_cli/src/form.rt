@@ -1,6 +1,10 @@
 //! The form of text that is translated so far: one variable, and one label with an assignment. Its parts, and how they are read.
 
-ghost use Rattle.std.specs.Prelude.{◌≤◌, length, IfSome};
+ghost use Rattle.std.specs.Prelude.{◌≡◌, ◌≤◌, length, take, drop, true, IfSome};
+ghost use Rattle.std.specs.List.{list_all, list_any};
+ghost use Rattle.tla_token.specs.Lexemes.{is_letter as is_letter_of, is_digit as is_digit_of, is_word as is_word_of, is_blank as is_blank_of};
+ghost use Rattle.pcal_cli.specs.Form.{is_name};
+ghost use Rattle.pcal_cli.specs.FirstPathNames.{IsNamed};
 
 use crate::names::{is_own, is_reserved, is_standard};
 use tla_token::Sign;
@@ -38,21 +42,34 @@ enum Lexeme<'a> {
     One(Sign),
 }
 
-fn is_letter(byte: u8) -> bool {
-    byte.is_ascii_alphabetic()
+fn is_letter(byte: u8) -> bool
+    ensures { result ≡ is_letter_of byte }
+{
+    (b'a' <= byte && byte <= b'z') || (b'A' <= byte && byte <= b'Z')
 }
 
-fn is_word(byte: u8) -> bool {
-    byte.is_ascii_alphanumeric() || byte == b'_'
+fn is_digit(byte: u8) -> bool
+    ensures { result ≡ is_digit_of byte }
+{
+    b'0' <= byte && byte <= b'9'
 }
 
-fn is_blank(byte: u8) -> bool {
-    matches!(byte, b' ' | b'\t' | b'\n' | b'\r')
+fn is_word(byte: u8) -> bool
+    ensures { result ≡ is_word_of byte }
+{
+    is_letter(byte) || is_digit(byte) || byte == b'_'
+}
+
+fn is_blank(byte: u8) -> bool
+    ensures { result ≡ is_blank_of byte }
+{
+    byte == b' ' || byte == b'\t' || byte == b'\n' || byte == b'\r'
 }
 
 /// How many letters, digits and underscores stand at the front.
 fn word_len(text: &[u8]) -> usize
-    ensures { result ≤ length text.now }
+    ensures within { result ≤ length text.now }
+    ensures words { list_all is_word_of (take result text.now) ≡ true }
 {
     for i in 0..text.len() {
         if !is_word(text[i]) {
@@ -67,7 +84,7 @@ fn digits_len(text: &[u8]) -> usize
     ensures { result ≤ length text.now }
 {
     for i in 0..text.len() {
-        if !text[i].is_ascii_digit() {
+        if !is_digit(text[i]) {
             return i;
         }
     }
@@ -84,7 +101,9 @@ fn past_blanks(text: &[u8]) -> &[u8] {
     &[]
 }
 
-fn has_letter(word: &[u8]) -> bool {
+fn has_letter(word: &[u8]) -> bool
+    ensures { result ≡ list_any is_letter_of word.now }
+{
     for byte in word {
         if is_letter(*byte) {
             return true;
@@ -123,7 +142,9 @@ fn sign_at(text: &[u8]) -> Option<(Sign, usize)>
 }
 
 /// The token behind blanks, where it is of a kind that the form has, and what stands behind it.
-fn next_lexeme(text: &[u8]) -> Option<(Lexeme<'_>, &[u8])> {
+fn next_lexeme(text: &[u8]) -> Option<(Lexeme<'_>, &[u8])>
+    ensures { IfSome result (λ r. IsNamed r.0) }
+{
     let text = past_blanks(text);
     let n = word_len(text);
     if has_letter(&text[..n]) {
@@ -154,7 +175,9 @@ fn past_sign(text: &[u8], sign: Sign) -> Option<&[u8]> {
 }
 
 /// A name that the user may give, and what stands behind it.
-fn user_name(text: &[u8]) -> Option<(&[u8], &[u8])> {
+fn user_name(text: &[u8]) -> Option<(&[u8], &[u8])>
+    ensures { IfSome result (λ r. is_name r.0.now ≡ true) }
+{
     match next_lexeme(text)? {
         (Lexeme::Name(name), rest) if !is_reserved(name) && !is_own(name) && !is_standard(name) => {
             Some((name, rest))
@@ -204,7 +227,9 @@ fn declaration_at(text: &[u8]) -> Option<(&[u8], u128, &[u8])> {
 }
 
 /// The statement `L : v := e ;`, and what stands behind it.
-fn statement_at<'a>(text: &'a [u8], variable: &[u8]) -> Option<(&'a [u8], Right, &'a [u8])> {
+fn statement_at<'a>(text: &'a [u8], variable: &[u8]) -> Option<(&'a [u8], Right, &'a [u8])>
+    ensures { IfSome result (λ r. is_name r.0.now ≡ true) }
+{
     let (label, rest) = user_name(text)?;
     if label == variable || label == b"Done".as_slice() || label == b"Error".as_slice() {
         return None;
@@ -232,7 +257,9 @@ fn module_lines(text: &[u8]) -> Option<(&[u8], &[u8])> {
 }
 
 /// The parts of a text, where it has the form.
-pub fn read_form(text: &[u8]) -> Option<Form<'_>> {
+pub fn read_form(text: &[u8]) -> Option<Form<'_>>
+    ensures { IfSome result (λ f. is_name f.label.now ≡ true) }
+{
     let (title, body) = module_lines(text)?;
     let rest = past_blanks(body).strip_prefix(b"--algorithm")?;
     if !rest.first().is_some_and(|byte| is_blank(*byte)) {

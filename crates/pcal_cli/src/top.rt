@@ -115,7 +115,19 @@ pub fn pcal<H: Shelf, K: Sink, E: Sink>(
     shelf: &mut H,
     out: &mut K,
     err: &mut E,
-) -> Status {
+) -> Status
+    ensures answer { IsAnswer result ⊎ (result ≡ Status.Usage) }
+    ensures usage { result ≡ Status.Usage → command_of (words_of words.now) ≡ None }
+    ensures no_command { command_of (words_of words.now) ≡ None → result ≡ Status.Usage }
+    ensures read_fault { result ≡ Status.ReadFault → Rose (H.faults shelf.old) (H.faults shelf.new) ⊎ Lacks (H.texts shelf.old) (file_meant (command_of (words_of words.now))) }
+    ensures write_fault { result ≡ Status.WriteFault → Rose (K.faults out.old) (K.faults out.new) }
+    ensures too_long { result ≡ Status.TooLong → RoseAbove most_bytes (H.given shelf.old) (H.given shelf.new) }
+    ensures longer { result ≡ Status.TooLong → Tells (H.texts shelf.old) (file_meant (command_of (words_of words.now))) (λ x. most_bytes < length x) }
+    ensures stays { LeavesOut result → K.wrote out.new ≡ K.wrote out.old }
+    ensures fine { result ≡ Status.Fine → Tells (H.texts shelf.old) (file_meant (command_of (words_of words.now))) (Writes (K.wrote out.old) (K.wrote out.new)) }
+    ensures in_part { result ≡ Status.WriteFault → Tells (H.texts shelf.old) (file_meant (command_of (words_of words.now))) (WritesInPart (K.wrote out.old) (K.wrote out.new)) }
+    ensures told { Told (E.wrote err.old) (E.wrote err.new) (E.faults err.old) (E.faults err.new) (line_of result (file_meant (command_of (words_of words.now)))) }
+{
     let (status, file) = match file_of(words) {
         Some(file) => (translate(alloc, file, shelf, out), file),
         None => (Status::Usage, ""),
