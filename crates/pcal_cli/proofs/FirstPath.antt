@@ -15,9 +15,9 @@ use Rattle.pcal_cli.specs.declared.form.Right.{Right}
 use Rattle.pcal_cli.specs.declared.form.Operand.{Operand}
 use Rattle.pcal_cli.specs.declared.form.Right.TheVariants.{One, Sum}
 use Rattle.pcal_cli.specs.declared.form.Operand.TheVariants.{Number, Variable}
-use Rattle.pcal_cli.specs.Form.{Parts, leaf, infix_of, is_at, region_of, step_of, operand_tree, right_tree}
+use Rattle.pcal_cli.specs.Form.{Parts, is_name, translation_of, leaf, infix_of, is_at, region_of, step_of, operand_tree, right_tree}
 use Rattle.pcal_cli.specs.declared.region.Fixed.TheVariants as fixed
-use Rattle.pcal_cli.specs.FirstPathBytes.{fixed_text, operand_text, right_text, variables_text, init_text, step_text, ending_text, region_text}
+use Rattle.pcal_cli.specs.FirstPathBytes.{fixed_text, operand_text, right_text, variables_text, init_text, step_text, ending_text, region_text, written_text}
 
 -- a byte of a name has no escape
 escaped_word : (b : ℕ) → is_word b ≡ true → escaped b ≡ b ∷ []
@@ -90,3 +90,9 @@ pub layout_is : (f : Parts) → list_all is_word f.label ≡ true → layout (re
 layout_is f h =
     variables_is f _ ∙ ap (λ r. variables_text f ++ r) (init_is f _ h ∙ ap (λ r. init_text f ++ r) (step_is f _ h ∙ ap (λ r. step_text f ++ r) (ending_is f)))
     ∙ simp append_assoc refl
+
+left_name : (w : Word) → is_name w ≡ true → list_all is_word w ≡ true
+left_name w h = grind arith
+
+pub written_is : (x : List ℕ) (f : Parts) → is_name f.label ≡ true → written_text x f ≡ translation_of x f
+written_is x f h = rw (layout_is f (left_name f.label h)) refl

@@ -1,2 +1,3 @@
 pub mod FirstPath
 pub mod ErrorLine
+pub mod Told

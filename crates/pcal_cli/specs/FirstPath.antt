@@ -10,8 +10,7 @@ use Rattle.pcal_cli.specs.declared.status.Status.{Status}
 use Rattle.pcal_cli.specs.declared.status.Status.TheVariants.{Fine, Memory, Usage, ReadFault, WriteFault, Refused, TooLong}
 use Rattle.pcal_cli.specs.Words.{Command, translate}
 use Rattle.pcal_cli.specs.Answers.{error_line}
-use Rattle.pcal_cli.specs.Form.{Parts}
-use Rattle.pcal_cli.specs.FirstPathBytes.{written_text}
+use Rattle.pcal_cli.specs.Form.{Parts, translation_of}
 
 abbrev pub words_of : List (String Global) → List Word
 words_of ws = map string_bytes ws
@@ -34,10 +33,10 @@ IsAnswer s = ⊥
 
 -- the output went on by the text with a translation
 abbrev pub Writes : Option (List ℕ) → Option (List ℕ) → List ℕ → Type 0
-Writes old new x = (f : Parts) × Grows old new (written_text x f)
+Writes old new x = (f : Parts) × Grows old new (translation_of x f)
 
 abbrev pub WritesInPart : Option (List ℕ) → Option (List ℕ) → List ℕ → Type 0
-WritesInPart old new x = (f : Parts) × GrowsInPart old new (written_text x f)
+WritesInPart old new x = (f : Parts) × GrowsInPart old new (translation_of x f)
 
 -- the one refusal so far: rule 11 at the text's start
 abbrev pub left_out : Refusal

@@ -1,10 +1,11 @@
 //! The top call: from the words of a command line to an answer.
 
-ghost use Rattle.std.specs.Prelude.{◌≡◌, ◌⊎◌, ◌<◌, ◌++◌, length, IfOk, OnOk, OnErr, Some, None, MatchOption};
+ghost use Rattle.std.specs.Prelude.{◌≡◌, ◌⊎◌, ◌<◌, ◌++◌, length, IfOk, OnOk, OnErr, Some, None, MatchOption, true};
 ghost use Rattle.outer_io.specs.Outer.{Rose, RoseAbove, Lacks, Tells, Grows, GrowsInPart};
 ghost use Rattle.pcal_cli.specs.Words.{translate as translate_of, command_of};
 ghost use Rattle.pcal_cli.specs.Causes.{most_bytes};
-ghost use Rattle.pcal_cli.specs.FirstPathBytes.{parts_of, written_text};
+ghost use Rattle.pcal_cli.specs.Form.{is_name, translation_of};
+ghost use Rattle.pcal_cli.specs.FirstPathBytes.{parts_of};
 ghost use Rattle.pcal_cli.specs.FirstPath.{words_of, LeavesOut, Writes, WritesInPart, IsAnswer, line_of, Told, file_meant};
 
 use crate::form::{Form, read_form};
@@ -21,8 +22,10 @@ const MOST_BYTES: u64 = 1_048_576;
 const LAST_LINE: &[u8] = b"====\n";
 
 /// The text with its translation before the last line.
+#[tactic(auto, using(crate::proofs::FirstPath::written_is))]
 fn with_translation(alloc: Global, text: &[u8], form: &Form<'_>) -> Result<Vec<u8>, AllocError>
-    ensures { IfOk result (λ v. v.items ≡ written_text text.now (parts_of form.now)) }
+    requires { is_name form.now.label.now ≡ true }
+    ensures { IfOk result (λ v. v.items ≡ translation_of text.now (parts_of form.now)) }
 {
     let mut out = Vec::new(alloc);
     out.extend_from_slice(&text[..text.len().saturating_sub(LAST_LINE.len())])?;
@@ -64,12 +67,7 @@ fn translate<H: Shelf, K: Sink>(alloc: Global, file: &str, shelf: &mut H, out: &
 }
 
 /// Writes three texts, one behind the other.
-fn put_three<E: Sink>(
-    err: &mut E,
-    first: &[u8],
-    second: &[u8],
-    third: &[u8],
-) -> Result<(), Failed>
+fn put_three<E: Sink>(err: &mut E, first: &[u8], second: &[u8], third: &[u8]) -> Result<(), Failed>
     ensures ok { OnOk result (Grows (E.wrote err.old) (E.wrote err.new) (first.now ++ (second.now ++ third.now))) }
     ensures err { OnErr result (GrowsInPart (E.wrote err.old) (E.wrote err.new) (first.now ++ (second.now ++ third.now))) }
     ensures cause { OnErr result (Rose (E.faults err.old) (E.faults err.new)) }
@@ -134,4 +132,282 @@ pub fn pcal<H: Shelf, K: Sink, E: Sink>(
     };
     let _ = tell(err, status, file.as_bytes());
     status
+}
+
+#[cfg(test)]
+mod tests {
+    use super::*;
+    use outer_io::{MemShelf, MemSink};
+    use std::test::Fail;
+
+    /// The file with these lines of an algorithm.
+    fn file_with(alloc: Global, title: &str, algorithm: &str) -> Result<String, AllocError> {
+        format!(in alloc; "---- MODULE {title} ----\nEXTENDS Integers\n(*\n{algorithm}*)\n====\n")
+    }
+
+    /// The algorithm with these parts.
+    fn algorithm_with(
+        alloc: Global,
+        declaration: &str,
+        statement: &str,
+    ) -> Result<String, AllocError> {
+        format!(in alloc; "--algorithm Inc\n{declaration}\nbegin\n  {statement}\nend algorithm\n")
+    }
+
+    /// What the translation of the variable `x` from 0, with the label `A` and this right side, is to be.
+    fn region_with(
+        alloc: Global,
+        variable: &str,
+        initial: &str,
+        label: &str,
+        right: &str,
+    ) -> Result<String, AllocError> {
+        let first = format!(in alloc;
+            "\\* BEGIN TRANSLATION\nVARIABLES {variable}, pc\n\nvars == <<{variable}, pc>>\n\nInit ==\n  /\\ {variable} = {initial}\n  /\\ pc = \"{label}\"\n\n"
+        )?;
+        let second = format!(in alloc;
+            "{label} ==\n  /\\ (pc = \"{label}\")\n  /\\ {variable}' = {right}\n  /\\ pc' = \"Done\"\n\n"
+        )?;
+        let third = "Terminating ==\n  /\\ (pc = \"Done\")\n  /\\ UNCHANGED vars\n\nNext ==\n";
+        let last =
+            "  \\/ Terminating\n\nSpec ==\n  /\\ Init\n  /\\ [][Next]_vars\n\nTermination == <>(pc = \"Done\")\n\\* END TRANSLATION\n";
+        format!(in alloc; "{first}{second}{third}  \\/ {label}\n{last}")
+    }
+
+    fn words_of(alloc: Global, words: &[&str]) -> Result<Vec<String>, AllocError> {
+        let mut list = Vec::new(alloc);
+        list.push(String::from_str(alloc, "pcal")?)?;
+        for word in words {
+            list.push(String::from_str(alloc, word)?)?;
+        }
+        Ok(list)
+    }
+
+    /// The answer, and what is written on the output and on the error output, where the calls of these numbers fail, if not 0.
+    fn answer(
+        alloc: Global,
+        words: &[&str],
+        text: &str,
+        fails: [u64; 3],
+    ) -> Result<(Status, Vec<u8>, Vec<u8>), AllocError> {
+        let name = String::from_str(alloc, "M.tla")?;
+        let texts = vec![in alloc; (name, text.as_bytes().to_vec(alloc)?)]?;
+        let mut shelf = MemShelf::new(texts, vec![in alloc; fails[0]]?, 4096);
+        let mut out = MemSink::new(alloc, 10_000, vec![in alloc; fails[1]]?, 100)?;
+        let mut err = MemSink::new(alloc, 10_000, vec![in alloc; fails[2]]?, 100)?;
+        let list = words_of(alloc, words)?;
+        let status = pcal(alloc, &list, &mut shelf, &mut out, &mut err);
+        Ok((
+            status,
+            out.bytes().to_vec(alloc)?,
+            err.bytes().to_vec(alloc)?,
+        ))
+    }
+
+    /// Each row: the module, the declaration, the statement; and the variable, the initial value, the label and the right side written.
+    #[test]
+    fn texts_of_the_form_are_translated(rt: HostRuntime) -> Result<(), Fail> {
+        let alloc = rt.alloc();
+        let most = "170141183460469231731687303715884105727";
+        let most_set = "A: x := 170141183460469231731687303715884105727;";
+        let rows = [
+            (
+                "M",
+                "variables x = 0;",
+                "A: x := x + 1;",
+                "x",
+                "0",
+                "A",
+                "(x + 1)",
+            ),
+            (
+                "Two_2",
+                "variable count = 007 ;",
+                "Step:count:=count+count;",
+                "count",
+                "7",
+                "Step",
+                "(count + count)",
+            ),
+            ("M", "variables x = 0;", "A: x := 7;", "x", "0", "A", "7"),
+            ("M", "variables x = 0;", "A: x := x;", "x", "0", "A", "x"),
+            (
+                "M",
+                "variables x = 0;",
+                "A: x := 3 + x;",
+                "x",
+                "0",
+                "A",
+                "(3 + x)",
+            ),
+            ("M", "variables x = 0;", most_set, "x", "0", "A", most),
+            (
+                "M",
+                "variables 1x = 12;",
+                "A_1 : 1x\n:= 1x + 1 ;\n\n",
+                "1x",
+                "12",
+                "A_1",
+                "(1x + 1)",
+            ),
+        ];
+        for (title, declaration, statement, variable, initial, label, right) in rows {
+            let algorithm = algorithm_with(alloc, declaration, statement)?;
+            let text = file_with(alloc, title, algorithm.as_str())?;
+            let region = region_with(alloc, variable, initial, label, right)?;
+            let front = text.as_str().strip_suffix("====\n").ok_or("a last line")?;
+            let expected = format!(in alloc; "{front}{region}====\n")?;
+            let (status, out, err) = answer(
+                alloc,
+                &["translate", "M.tla"],
+                text.as_str(),
+                [0, 0, 0],
+            )?;
+            assert_eq!(rt; status, Status::Fine, "{statement}");
+            assert_eq!(rt; out.as_slice(), expected.as_bytes(), "{statement}");
+            assert!(rt; err.is_empty());
+        }
+        Ok(())
+    }
+
+    /// Each row: the module, the declaration and the statement.
+    #[test]
+    fn other_texts_are_refused(rt: HostRuntime) -> Result<(), Fail> {
+        let alloc = rt.alloc();
+        let rows = [
+            ("M", "variables x = 0;", "A: skip;"),
+            (
+                "M",
+                "variables x = 0;",
+                "A: x := 170141183460469231731687303715884105728;",
+            ),
+            ("M", "variables x = 0;", "A: x := y;"),
+            ("M", "variables x = 0;", "A: x := x + 1 + x;"),
+            ("M", "variables x = 0;", "A: x := x + 1"),
+            ("M", "variables x = 0;", "A: y := 1;"),
+            ("M", "variables x = 0;", "A: x := 1; (* a comment *)"),
+            ("M", "variables x = 0;", "Done: x := 1;"),
+            ("M", "variables x = 0;", "x: x := 1;"),
+            ("M", "variables x = 0;", "Init: x := 1;"),
+            ("M", "variables x = 0;", "Len: x := 1;"),
+            ("M", "variables x == 0;", "A: x := 1;"),
+            ("M", "variables x => 0;", "A: x := 1;"),
+            ("M", "variables pc = 0;", "A: pc := 1;"),
+            ("M", "variables WF_x = 0;", "A: WF_x := 1;"),
+            ("M", "variables while = 0;", "A: while := 1;"),
+            ("MODULE", "variables x = 0;", "A: x := 1;"),
+            ("12", "variables x = 0;", "A: x := 1;"),
+        ];
+        let line = b"pcal: M.tla:1:1: 11 LeftOutWord\n";
+        for (title, declaration, statement) in rows {
+            let algorithm = algorithm_with(alloc, declaration, statement)?;
+            let text = file_with(alloc, title, algorithm.as_str())?;
+            let (status, out, err) = answer(
+                alloc,
+                &["translate", "M.tla"],
+                text.as_str(),
+                [0, 0, 0],
+            )?;
+            assert_eq!(rt; status, Status::Refused, "{statement}");
+            assert!(rt; out.is_empty());
+            assert_eq!(rt; err.as_slice(), line.as_slice());
+        }
+        Ok(())
+    }
+
+    /// Each row: what stands before and behind the module, and the calls that fail; then the words, the answer and its line.
+    #[test]
+    fn each_answer_comes(rt: HostRuntime) -> Result<(), Fail> {
+        let alloc = rt.alloc();
+        let algorithm = algorithm_with(alloc, "variables x = 0;", "A: x := x + 1;")?;
+        let module = file_with(alloc, "M", algorithm.as_str())?;
+        let module = module.as_str();
+        let refused = "pcal: M.tla:1:1: 11 LeftOutWord\n";
+        let usage = "pcal: usage\n";
+        let rows = [
+            ("", "", [0, 0, 1], "M.tla", "translate", Status::Fine, ""),
+            (
+                "Free text.\n",
+                "",
+                [0, 0, 0],
+                "M.tla",
+                "translate",
+                Status::Refused,
+                refused,
+            ),
+            (
+                "",
+                "Free text.\n",
+                [0, 0, 0],
+                "M.tla",
+                "translate",
+                Status::Refused,
+                refused,
+            ),
+            (
+                "Free text.\n",
+                "",
+                [0, 0, 1],
+                "M.tla",
+                "translate",
+                Status::Refused,
+                "",
+            ),
+            (
+                "",
+                "",
+                [1, 0, 0],
+                "M.tla",
+                "translate",
+                Status::ReadFault,
+                "pcal: cannot read M.tla\n",
+            ),
+            (
+                "",
+                "",
+                [0, 0, 0],
+                "N.tla",
+                "translate",
+                Status::ReadFault,
+                "pcal: cannot read N.tla\n",
+            ),
+            (
+                "",
+                "",
+                [0, 2, 0],
+                "M.tla",
+                "translate",
+                Status::WriteFault,
+                "pcal: cannot write\n",
+            ),
+            (
+                "",
+                "",
+                [0, 0, 0],
+                "-M.tla",
+                "translate",
+                Status::Usage,
+                usage,
+            ),
+            ("", "", [0, 0, 0], "M.tla", "check", Status::Usage, usage),
+        ];
+        for (front, back, fails, file, verb, expected, line) in rows {
+            let text = format!(in alloc; "{front}{module}{back}")?;
+            let (status, out, err) = answer(alloc, &[verb, file], text.as_str(), fails)?;
+            assert_eq!(rt; status, expected, "{verb} {file}");
+            assert_eq!(rt; err.as_slice(), line.as_bytes(), "{verb} {file}");
+            let written = match expected {
+                Status::Fine => out.len() > 100,
+                Status::WriteFault => out.len() == 100
+                    && module.as_bytes().starts_with(out.as_slice()),
+                _ => out.is_empty(),
+            };
+            assert!(rt; written, "{verb} {file}");
+        }
+        let (status, _, err) = answer(alloc, &["translate"], module, [0, 0, 0])?;
+        assert_eq!(rt; (status, err.as_slice()), (Status::Usage, usage.as_bytes()));
+        let (status, _, err) = answer(alloc, &["translate", "M.tla", "N.tla"], module, [0, 0, 0])?;
+        assert_eq!(rt; (status, err.as_slice()), (Status::Usage, usage.as_bytes()));
+        Ok(())
+    }
 }
