@@ -1,5 +1,5 @@
 -- What was read is what is told, and its translation went out.
-use Rattle.std.proofs.Common.{◌≡◌, ℕ, List, Option, Some, None, sym, subst, ◌∙◌, ap, refl}
+use Rattle.std.proofs.Common.{◌≡◌, ℕ, List, Option, Some, None, subst, ◌∙◌, ap}
 use Rattle.outer_io.specs.Outer.{Texts, Has, Tells, Grows, GrowsInPart}
 use Rattle.pcal_cli.specs.Form.{Parts, translation_of}
 use Rattle.pcal_cli.specs.FirstPath.{Writes, WritesInPart}

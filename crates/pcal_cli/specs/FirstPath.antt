@@ -1,5 +1,5 @@
 -- What the program answers so far.
-use Rattle.std.specs.Prelude.{◌≡◌, ◌⊎◌, ℕ, List, [], ◌∷◌, String, string_bytes, Option, Some, None, map}
+use Rattle.std.specs.Prelude.{◌⊎◌, ℕ, List, [], String, string_bytes, Option, Some, None, map}
 use Rattle.std.specs.declared.alloc.Global.{Global}
 use Rattle.outer_io.specs.Outer.{Grows, GrowsInPart, Rose}
 use Rattle.tla_token.specs.declared.rule.Refusal.{Refusal}
@@ -7,7 +7,7 @@ use Rattle.tla_token.specs.declared.rule.Rule.TheVariants.{LeftOutWord}
 use Rattle.tla_token.specs.Places.{start}
 use Rattle.tla_expr.specs.Tree.{Word}
 use Rattle.pcal_cli.specs.declared.status.Status.{Status}
-use Rattle.pcal_cli.specs.declared.status.Status.TheVariants.{Fine, Memory, Usage, ReadFault, WriteFault, Refused, TooLong}
+use Rattle.pcal_cli.specs.declared.status.Status.TheVariants.{Fine, Memory, ReadFault, WriteFault, Refused, TooLong}
 use Rattle.pcal_cli.specs.Words.{Command, translate}
 use Rattle.pcal_cli.specs.Answers.{error_line}
 use Rattle.pcal_cli.specs.Form.{Parts, translation_of}

@@ -1,5 +1,5 @@
 -- The translation of a text of the form, as bytes: what is written for each unit.
-use Rattle.std.specs.Prelude.{ℕ, ◌-◌, List, [], ◌++◌, length, take, codes}
+use Rattle.std.specs.Prelude.{ℕ, ◌-◌, List, ◌++◌, length, take, codes}
 use Rattle.std.specs.Fmt.{decimal}
 use Rattle.tla_expr.specs.Tree.{Word}
 use Rattle.pcal_cli.specs.declared.form.Operand.{Operand}

@@ -1,17 +1,14 @@
 -- The form of text that is translated so far: one variable, and one label with an assignment ("A PlusCal User's Manual", section 2.2 and chapter 3);
 -- its translation, and the file with it.
-use Rattle.std.specs.Prelude.{◌≡◌, ℕ, ◌+◌, ◌-◌, ◌^◌, Bool, true, ◌&&◌, ◌||◌, not, nat_eq, nat_lt, IsTrue, List, [], ◌∷◌, ◌++◌, length, take, drop, Option, Some, None, codes, if◌then◌else◌}
-use Rattle.std.specs.List.{list_all, list_any, starts_with}
+use Rattle.std.specs.Prelude.{◌≡◌, ℕ, ◌-◌, ◌^◌, Bool, true, ◌&&◌, ◌||◌, not, nat_lt, IsTrue, List, [], ◌∷◌, ◌++◌, length, take, Option, Some, None, codes}
+use Rattle.std.specs.List.{list_all, list_any}
 use Rattle.std.specs.Str.{bytes_eq}
-use Rattle.tla_token.specs.declared.place.Place.{Place}
 use Rattle.tla_token.specs.declared.sign.Sign.TheVariants as sign
 use Rattle.tla_token.specs.Places.{start}
 use Rattle.tla_token.specs.Lexemes.{Kind, one, is_word, is_letter, is_blank}
 use Rattle.tla_token.specs.Lexemes as kind
 use Rattle.tla_token.specs.Tokens.{Piece, blank, lexeme, text_of, AllFit}
 use Rattle.tla_token.specs.Words.{is_reserved, is_own, is_standard}
-use Rattle.tla_token.specs.Offences.{Part, sound}
-use Rattle.tla_token.specs.Cut.{parts}
 use Rattle.tla_expr.specs.declared.op.Op.{Op}
 use Rattle.tla_expr.specs.declared.op.Op.TheVariants.{Equal, Plus}
 use Rattle.tla_expr.specs.Tree.{Word, Tree, node, no_trees, quote, name, strict}

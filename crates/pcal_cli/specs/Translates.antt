@@ -1,13 +1,11 @@
 -- What it is for a text to be the translation of an algorithm: it reads as one module, whose Next and Init are true just of the algorithm's
 -- steps and initial states ("A PlusCal User's Manual", section 3; "Specifying Systems", sections 2.3 and 16).
-use Rattle.std.specs.Prelude.{◌≡◌, ◌⊎◌, ℕ, List, [], ◌∷◌, Option, Some, None, cond}
+use Rattle.std.specs.Prelude.{◌≡◌, ◌⊎◌, ℕ, List, Some, None, cond}
 use Rattle.tla_token.specs.declared.place.Place.{Place}
-use Rattle.tla_expr.specs.Tree.{Word}
 use Rattle.tla_expr.specs.Names.{has}
 use Rattle.tla_value.specs.declared.fault.FaultKind.{FaultKind}
 use Rattle.tla_value.specs.Stops.{plain}
 use Rattle.tla_value.specs.Definitions.{Look}
-use Rattle.tla_value.specs.Value.{Value}
 use Rattle.pcal_tree.specs.Algorithm.{Algorithm, Naming}
 use Rattle.pcal_tree.specs.Scope.{State}
 use Rattle.pcal_tree.specs.Program.{Program}

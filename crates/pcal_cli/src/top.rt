@@ -140,6 +140,10 @@ mod tests {
     use outer_io::{MemShelf, MemSink};
     use std::test::Fail;
 
+    const REFUSED: &str = "pcal: M.tla:1:1: 11 LeftOutWord\n";
+
+    const USAGE: &str = "pcal: usage\n";
+
     /// The file with these lines of an algorithm.
     fn file_with(alloc: Global, title: &str, algorithm: &str) -> Result<String, AllocError> {
         format!(in alloc; "---- MODULE {title} ----\nEXTENDS Integers\n(*\n{algorithm}*)\n====\n")
@@ -174,10 +178,10 @@ mod tests {
         format!(in alloc; "{first}{second}{third}  \\/ {label}\n{last}")
     }
 
-    fn words_of(alloc: Global, words: &[&str]) -> Result<Vec<String>, AllocError> {
+    fn words_of(alloc: Global, command: &str) -> Result<Vec<String>, AllocError> {
         let mut list = Vec::new(alloc);
         list.push(String::from_str(alloc, "pcal")?)?;
-        for word in words {
+        for word in command.split_whitespace() {
             list.push(String::from_str(alloc, word)?)?;
         }
         Ok(list)
@@ -186,7 +190,7 @@ mod tests {
     /// The answer, and what is written on the output and on the error output, where the calls of these numbers fail, if not 0.
     fn answer(
         alloc: Global,
-        words: &[&str],
+        command: &str,
         text: &str,
         fails: [u64; 3],
     ) -> Result<(Status, Vec<u8>, Vec<u8>), AllocError> {
@@ -195,7 +199,7 @@ mod tests {
         let mut shelf = MemShelf::new(texts, vec![in alloc; fails[0]]?, 4096);
         let mut out = MemSink::new(alloc, 10_000, vec![in alloc; fails[1]]?, 100)?;
         let mut err = MemSink::new(alloc, 10_000, vec![in alloc; fails[2]]?, 100)?;
-        let list = words_of(alloc, words)?;
+        let list = words_of(alloc, command)?;
         let status = pcal(alloc, &list, &mut shelf, &mut out, &mut err);
         Ok((
             status,
@@ -257,12 +261,7 @@ mod tests {
             let region = region_with(alloc, variable, initial, label, right)?;
             let front = text.as_str().strip_suffix("====\n").ok_or("a last line")?;
             let expected = format!(in alloc; "{front}{region}====\n")?;
-            let (status, out, err) = answer(
-                alloc,
-                &["translate", "M.tla"],
-                text.as_str(),
-                [0, 0, 0],
-            )?;
+            let (status, out, err) = answer(alloc, "translate M.tla", text.as_str(), [0, 0, 0])?;
             assert_eq!(rt; status, Status::Fine, "{statement}");
             assert_eq!(rt; out.as_slice(), expected.as_bytes(), "{statement}");
             assert!(rt; err.is_empty());
@@ -302,12 +301,7 @@ mod tests {
         for (title, declaration, statement) in rows {
             let algorithm = algorithm_with(alloc, declaration, statement)?;
             let text = file_with(alloc, title, algorithm.as_str())?;
-            let (status, out, err) = answer(
-                alloc,
-                &["translate", "M.tla"],
-                text.as_str(),
-                [0, 0, 0],
-            )?;
+            let (status, out, err) = answer(alloc, "translate M.tla", text.as_str(), [0, 0, 0])?;
             assert_eq!(rt; status, Status::Refused, "{statement}");
             assert!(rt; out.is_empty());
             assert_eq!(rt; err.as_slice(), line.as_slice());
@@ -322,34 +316,29 @@ mod tests {
         let algorithm = algorithm_with(alloc, "variables x = 0;", "A: x := x + 1;")?;
         let module = file_with(alloc, "M", algorithm.as_str())?;
         let module = module.as_str();
-        let refused = "pcal: M.tla:1:1: 11 LeftOutWord\n";
-        let usage = "pcal: usage\n";
         let rows = [
-            ("", "", [0, 0, 1], "M.tla", "translate", Status::Fine, ""),
+            ("", "", [0, 0, 1], "translate M.tla", Status::Fine, ""),
             (
                 "Free text.\n",
                 "",
                 [0, 0, 0],
-                "M.tla",
-                "translate",
+                "translate M.tla",
                 Status::Refused,
-                refused,
+                REFUSED,
             ),
             (
                 "",
                 "Free text.\n",
                 [0, 0, 0],
-                "M.tla",
-                "translate",
+                "translate M.tla",
                 Status::Refused,
-                refused,
+                REFUSED,
             ),
             (
                 "Free text.\n",
                 "",
                 [0, 0, 1],
-                "M.tla",
-                "translate",
+                "translate M.tla",
                 Status::Refused,
                 "",
             ),
@@ -357,8 +346,7 @@ mod tests {
                 "",
                 "",
                 [1, 0, 0],
-                "M.tla",
-                "translate",
+                "translate M.tla",
                 Status::ReadFault,
                 "pcal: cannot read M.tla\n",
             ),
@@ -366,8 +354,7 @@ mod tests {
                 "",
                 "",
                 [0, 0, 0],
-                "N.tla",
-                "translate",
+                "translate N.tla",
                 Status::ReadFault,
                 "pcal: cannot read N.tla\n",
             ),
@@ -375,39 +362,35 @@ mod tests {
                 "",
                 "",
                 [0, 2, 0],
-                "M.tla",
-                "translate",
+                "translate M.tla",
                 Status::WriteFault,
                 "pcal: cannot write\n",
             ),
+            ("", "", [0, 0, 0], "translate -M.tla", Status::Usage, USAGE),
+            ("", "", [0, 0, 0], "translate", Status::Usage, USAGE),
             (
                 "",
                 "",
                 [0, 0, 0],
-                "-M.tla",
-                "translate",
+                "translate M.tla N.tla",
                 Status::Usage,
-                usage,
+                USAGE,
             ),
-            ("", "", [0, 0, 0], "M.tla", "check", Status::Usage, usage),
+            ("", "", [0, 0, 0], "check M.tla", Status::Usage, USAGE),
         ];
-        for (front, back, fails, file, verb, expected, line) in rows {
+        for (front, back, fails, command, expected, line) in rows {
             let text = format!(in alloc; "{front}{module}{back}")?;
-            let (status, out, err) = answer(alloc, &[verb, file], text.as_str(), fails)?;
-            assert_eq!(rt; status, expected, "{verb} {file}");
-            assert_eq!(rt; err.as_slice(), line.as_bytes(), "{verb} {file}");
+            let (status, out, err) = answer(alloc, command, text.as_str(), fails)?;
+            assert_eq!(rt; status, expected, "{command}");
+            assert_eq!(rt; err.as_slice(), line.as_bytes(), "{command}");
             let written = match expected {
                 Status::Fine => out.len() > 100,
                 Status::WriteFault => out.len() == 100
                     && module.as_bytes().starts_with(out.as_slice()),
                 _ => out.is_empty(),
             };
-            assert!(rt; written, "{verb} {file}");
+            assert!(rt; written, "{command}");
         }
-        let (status, _, err) = answer(alloc, &["translate"], module, [0, 0, 0])?;
-        assert_eq!(rt; (status, err.as_slice()), (Status::Usage, usage.as_bytes()));
-        let (status, _, err) = answer(alloc, &["translate", "M.tla", "N.tla"], module, [0, 0, 0])?;
-        assert_eq!(rt; (status, err.as_slice()), (Status::Usage, usage.as_bytes()));
         Ok(())
     }
 }
