@@ -1,0 +1,3 @@
+pub mod FirstPath
+pub mod ErrorLine
+pub mod Told

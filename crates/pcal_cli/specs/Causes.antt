@@ -4,7 +4,7 @@ use Rattle.outer_io.specs.Outer.{Texts, Rose, RoseAbove, Lacks, Tells, Grows, Gr
 use Rattle.tla_token.specs.declared.rule.Refusal.{Refusal}
 use Rattle.tla_expr.specs.Tree.{Word}
 use Rattle.pcal_cli.specs.declared.status.Status.{Status}
-use Rattle.pcal_cli.specs.declared.status.Status.TheVariants.{Fine, Memory, Usage, ReadFault, WriteFault, Refused, ScriptStep, NotAStep, Faulted, Limit, TooLong}
+use Rattle.pcal_cli.specs.declared.status.Status.TheVariants.{Fine, Memory, Usage, ReadFault, WriteFault, Refused, TooLong}
 use Rattle.pcal_cli.specs.Words.{Command, translate, command_of}
 use Rattle.pcal_cli.specs.Answers.{error_line}
 

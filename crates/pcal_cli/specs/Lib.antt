@@ -3,3 +3,7 @@ pub mod Answers
 pub mod Causes
 pub mod Translates
 pub mod Headline
+pub mod Form
+pub mod FirstPathBytes
+pub mod FirstPath
+pub mod FirstPathNames

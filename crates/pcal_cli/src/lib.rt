@@ -1,6 +1,11 @@
 //! The commands of `pcal`: their words, their answers, and what each answer means.
 #![tactic(auto)]
 
+mod form;
+mod names;
+mod region;
 mod status;
+mod top;
 
 pub use status::{Status, number};
+pub use top::pcal;

@@ -1,0 +1,10 @@
+---- MODULE M ----
+EXTENDS Integers
+(*
+--algorithm Inc
+variables x = 0;
+begin
+  A: x := x + 1;
+end algorithm
+*)
+====

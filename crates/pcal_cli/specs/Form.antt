@@ -1,0 +1,150 @@
+-- The form of text that is translated so far: one variable, and one label with an assignment ("A PlusCal User's Manual", section 2.2 and chapter 3);
+-- its translation, and the file with it.
+use Rattle.std.specs.Prelude.{◌≡◌, ℕ, ◌-◌, ◌^◌, Bool, true, ◌&&◌, ◌||◌, not, nat_lt, IsTrue, List, [], ◌∷◌, ◌++◌, length, take, Option, Some, None, codes}
+use Rattle.std.specs.List.{list_all, list_any}
+use Rattle.std.specs.Str.{bytes_eq}
+use Rattle.tla_token.specs.declared.sign.Sign.TheVariants as sign
+use Rattle.tla_token.specs.Places.{start}
+use Rattle.tla_token.specs.Lexemes.{Kind, one, is_word, is_letter, is_blank}
+use Rattle.tla_token.specs.Lexemes as kind
+use Rattle.tla_token.specs.Tokens.{Piece, blank, lexeme, text_of, AllFit}
+use Rattle.tla_token.specs.Words.{is_reserved, is_own, is_standard}
+use Rattle.tla_expr.specs.declared.op.Op.{Op}
+use Rattle.tla_expr.specs.declared.op.Op.TheVariants.{Equal, Plus}
+use Rattle.tla_expr.specs.Tree.{Word, Tree, node, no_trees, quote, name, strict}
+use Rattle.tla_expr.specs.Tree as tree
+use Rattle.module_text.specs.Module.{test, setting, no_items, item, call, one_way, all_of, Action, Region}
+use Rattle.module_text.specs.Layout.{layout}
+use Rattle.module_text.specs.Around.{begin_line, end_line}
+use Rattle.pcal_cli.specs.declared.form.Operand.{Operand}
+use Rattle.pcal_cli.specs.declared.form.Operand.TheVariants.{Number, Variable}
+use Rattle.pcal_cli.specs.declared.form.Right.{Right}
+use Rattle.pcal_cli.specs.declared.form.Right.TheVariants.{One, Sum}
+
+pub record Parts : Type 0 where
+  pub title : Word  -- of the module
+  pub algorithm : Word
+  pub variable : Word
+  pub initial : ℕ
+  pub label : Word
+  pub right : Right  -- of the assignment
+
+-- ---- the text
+
+abbrev pub is_name : Word → Bool
+is_name w = list_all is_word w && list_any is_letter w
+
+-- a name that the user may give
+abbrev pub is_free : Word → Bool
+is_free w = is_name w && not (is_reserved w || is_own w || is_standard [] w)
+
+abbrev pub is_small : ℕ → Bool
+is_small n = nat_lt n (2 ^ 127)
+
+abbrev pub is_small_operand : Operand → Bool
+is_small_operand (Number n) = is_small n
+is_small_operand Variable = true
+
+abbrev pub is_small_right : Right → Bool
+is_small_right (One a) = is_small_operand a
+is_small_right (Sum a b) = is_small_operand a && is_small_operand b
+
+-- the names may stand where they do, and no number is past `2^127 - 1`
+abbrev pub is_fit : Parts → Bool
+is_fit f =
+    is_name f.title && not (is_reserved f.title) && is_free f.algorithm && is_free f.variable && is_small f.initial && is_free f.label
+    && not (bytes_eq f.label f.variable) && not (bytes_eq f.label (codes "Done")) && not (bytes_eq f.label (codes "Error")) && is_small_right f.right
+
+abbrev pub word : Word → Kind
+word w = kind.name w
+
+abbrev pub operand_kind : Word → Operand → Kind
+operand_kind v (Number n) = kind.number n
+operand_kind v Variable = word v
+
+abbrev pub right_kinds : Word → Right → List Kind → List Kind
+right_kinds v (One a) ks = operand_kind v a ∷ ks
+right_kinds v (Sum a b) ks = operand_kind v a ∷ one sign.Plus ∷ operand_kind v b ∷ ks
+
+-- behind `--algorithm`, with `variables` or `variable` as the word
+abbrev pub kinds : Word → Parts → List Kind
+kinds w f =
+    word f.algorithm ∷ word w ∷ word f.variable ∷ one sign.Equal ∷ kind.number f.initial ∷ one sign.Semicolon ∷ word (codes "begin") ∷
+    word f.label ∷ one sign.Colon ∷ word f.variable ∷ one sign.Assign ∷
+    right_kinds f.variable f.right (one sign.Semicolon ∷ word (codes "end") ∷ word (codes "algorithm") ∷ [])
+
+-- the kinds of lexemes with nothing but blanks between them
+abbrev pub behind : Kind → Option (List Kind) → Option (List Kind)
+behind k (Some ks) = Some (k ∷ ks)
+behind k None = None
+
+abbrev pub kinds_of : List Piece → Option (List Kind)
+kinds_of [] = Some []
+kinds_of (blank b ∷ ps) = kinds_of ps
+kinds_of (lexeme k bytes ∷ ps) = behind k (kinds_of ps)
+kinds_of (p ∷ ps) = None
+
+abbrev pub first_lines : Word → List ℕ
+first_lines m = codes "---- MODULE " ++ m ++ codes " ----\nEXTENDS Integers\n(*\n"
+
+abbrev pub last_line : List ℕ
+last_line = codes "====\n"
+
+-- the text x has the form, with these parts
+pub record IsForm (x : List ℕ) (f : Parts) : Type 0 where
+  pub fit : IsTrue (is_fit f)
+  pub gap : List ℕ
+  pub is_gap : IsTrue (list_all is_blank gap)
+  pub pieces : List Piece  -- behind `--algorithm`
+  pub lines : x ≡ first_lines f.title ++ gap ++ codes "--algorithm" ++ text_of pieces ++ codes "*)\n" ++ last_line
+  pub parted : (b : ℕ) × (more : List Piece) × (pieces ≡ blank b ∷ more)
+  pub ended : (less : List Piece) × (pieces ≡ less ++ blank 10 ∷ [])
+  pub all_fit : AllFit pieces
+  pub declared_by : Word
+  pub is_declared : IsTrue (bytes_eq declared_by (codes "variables") || bytes_eq declared_by (codes "variable"))
+  pub kinds_are : kinds_of pieces ≡ Some (kinds declared_by f)
+
+-- ---- the translation
+
+abbrev pub leaf : tree.Form → Tree
+leaf m = node m start no_trees
+
+abbrev pub infix_of : Op → Tree → Tree → Tree
+infix_of o a b = node (strict (tree.operator o)) start (tree.tree a (tree.tree b no_trees))
+
+abbrev pub is_at : Word → Tree
+is_at label = infix_of Equal (leaf (name (codes "pc"))) (leaf (quote label))
+
+abbrev pub operand_tree : Word → Operand → Tree
+operand_tree v (Number n) = leaf (tree.number n)
+operand_tree v Variable = leaf (name v)
+
+abbrev pub right_tree : Word → Right → Tree
+right_tree v (One a) = operand_tree v a
+right_tree v (Sum a b) = infix_of Plus (operand_tree v a) (operand_tree v b)
+
+abbrev pub step_of : Parts → Action
+step_of f = record {
+  title = f.label;
+  parameter = None;
+  body = all_of (item (test (is_at f.label)) (item (setting f.variable (right_tree f.variable f.right)) (item (setting (codes "pc") (leaf (quote (codes "Done")))) no_items)));
+}
+
+abbrev pub region_of : Parts → Region
+region_of f = record {
+  model_values = [];
+  variables = f.variable ∷ codes "pc" ∷ [];
+  definitions = [];
+  vars = f.variable ∷ codes "pc" ∷ [];
+  process_set = None;
+  init = infix_of Equal (leaf (name f.variable)) (leaf (tree.number f.initial)) ∷ is_at f.label ∷ [];
+  actions = step_of f ∷ [];
+  ended = is_at (codes "Done");
+  next = one_way (call f.label) ∷ one_way (call (codes "Terminating")) ∷ [];
+  fairness = [];
+  termination = is_at (codes "Done");
+}
+
+-- the text with the translation before its last line
+abbrev pub translation_of : List ℕ → Parts → List ℕ
+translation_of x f = take (length x - length last_line) x ++ begin_line ++ layout (region_of f) ++ end_line ++ codes "\n" ++ last_line
