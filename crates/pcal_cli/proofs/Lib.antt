@@ -1,3 +1,4 @@
 pub mod FirstPath
 pub mod ErrorLine
 pub mod Told
+mod RowsForm

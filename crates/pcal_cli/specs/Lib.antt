@@ -7,3 +7,4 @@ pub mod Form
 pub mod FirstPathBytes
 pub mod FirstPath
 pub mod FirstPathNames
+pub mod FormRead

@@ -1,6 +1,6 @@
 -- What it is for a text to be the translation of an algorithm: it reads as one module, whose Next and Init are true just of the algorithm's
 -- steps and initial states ("A PlusCal User's Manual", section 3; "Specifying Systems", sections 2.3 and 16).
-use Rattle.std.specs.Prelude.{◌≡◌, ◌⊎◌, ℕ, List, [], ◌∷◌, ◌++◌, Option, Some, None, cond, codes, is_some, false}
+use Rattle.std.specs.Prelude.{◌≡◌, ◌⊎◌, ℕ, List, [], ◌∷◌, ◌++◌, Some, None, cond, codes, is_some, false}
 use Rattle.std.specs.Bool.{IsTrue}
 use Rattle.tla_token.specs.declared.place.Place.{Place}
 use Rattle.tla_expr.specs.Tree.{Word, Each}
@@ -8,7 +8,6 @@ use Rattle.tla_expr.specs.Names.{has}
 use Rattle.tla_value.specs.declared.fault.FaultKind.{FaultKind}
 use Rattle.tla_value.specs.Stops.{plain}
 use Rattle.tla_value.specs.Definitions.{Look, Definition}
-use Rattle.tla_value.specs.Value.{Value}
 use Rattle.pcal_tree.specs.Algorithm.{nowhere, Name, Algorithm}
 use Rattle.pcal_tree.specs.Names.{naming}
 use Rattle.pcal_tree.specs.Outside as outside
@@ -17,7 +16,7 @@ use Rattle.pcal_tree.specs.Program.{Program}
 use Rattle.pcal_tree.specs.Step.{vars, Proper, Sound, Step, Still}
 use Rattle.pcal_tree.specs.Calls.{default}
 use Rattle.pcal_tree.specs.Initial.{Initial, InitFault}
-use Rattle.module_text.specs.Module.{Module, Outside, extends, constants, defines, opaque, defined_in}
+use Rattle.module_text.specs.Module.{Module, Outside, extends, constants, opaque, defined_in}
 use Rattle.module_text.specs.Around.{Around}
 use Rattle.module_text.specs.Reading.{Reads}
 use Rattle.module_text.specs.Truth.{Tells, next_holds, init_holds}
