@@ -12,3 +12,5 @@ pub mod ReadLists
 pub mod ReadSquares
 pub mod ReadAll
 pub mod ReadElements
+pub mod ReadMembers
+pub mod ReadFunctions

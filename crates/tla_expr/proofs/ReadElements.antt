@@ -1,24 +1,27 @@
 -- Phrases that begin with a name, behind a brace or square bracket.
-use Rattle.std.proofs.Common.{◌≡◌, ℕ, ◌+◌, ◌≤◌, suc, Bool, true, false, ◌&&◌, nat_lt, List, [], ◌∷◌, Some, None, Ok, Err, refl, sym, ap, ◌∙◌, arith}
-use Rattle.std.proofs.lemmas.Bool.{both_ways, not-true}
+use Rattle.std.proofs.Common.{◌≡◌, ℕ, ◌+◌, suc, Bool, true, false, ◌&&◌, List, [], ◌∷◌, Ok, Err, refl, sym, ap, ◌∙◌, arith}
+use Rattle.std.proofs.lemmas.Bool.{not-true}
 use Rattle.tla_token.specs.declared.place.Place.{Place}
-use Rattle.tla_expr.specs.declared.op.Op.{Op}
 use Rattle.tla_expr.specs.declared.op.Op.TheVariants as op
 use Rattle.tla_expr.specs.Tree.{Word}
 use Rattle.tla_expr.specs.Lexical.{Tk, Token, token, sign_of}
 use Rattle.tla_expr.specs.Lexical as tk
 use Rattle.tla_expr.specs.Spelling.{Phrase, name, primed, call, set_of, image, Phrases, last, more, apply, select, list, quantified, infix_of, prefix_of, Binds, last_bullet, bullet, mark, sign, word, field_token, spell, spell_all, spell_binds, is_word, is_in, is_bind, Right, Good}
-use Rattle.tla_expr.specs.Reader.{Out, then_read, ◌>>=◌, next, peek, free, Readers, one_step, readers, from_name, brace_name, brace_rest, braces}
-use Rattle.tla_expr.proofs.ReadSoon.{Soon}
+use Rattle.tla_expr.specs.Reader.{Out, then_read, ◌>>=◌, next, peek, free, Readers, readers, from_name, element, set_from, set_rest, member_rest, brace_name, brace_rest, braces}
+use Rattle.tla_expr.proofs.ReadSoon.{Soon, same}
+use Rattle.tla_expr.proofs.ReadStops.{is_calm, Calm}
+use Rattle.tla_expr.proofs.ReadMembers.{first_in, name_bind, sign_no_word, is_member, cut, bind_member, member}
 use Rattle.tla_expr.proofs.ReadPhrases.{Prime, Reads, ReadsAll, closed, primary_reads, tail_call}
 use Rattle.tla_expr.proofs.ReadForms.{is_start, Starts, starts, ReadsBinds}
 
 -- an expression that begins with a name, behind that name
-pub from_word : (e : ℕ) (p : Place) (x : Word) (vs : List Token) (o : Out Phrase) → Right e p → Soon (λ r. r.expr e free (word p x vs)) o → Soon (λ r. then_read (from_name r e p x vs) (λ a us. r.climb e 0 a us)) o
+pub from_word : (e : ℕ) (p : Place) (x : Word) (vs : List Token) (o : Out Phrase) → Right e p → Soon (λ r. r.expr e free (word p x vs)) o
+    → Soon (λ r. then_read (from_name r e p x vs) (λ a us. r.climb e 0 a us)) o
 unfolding readers
 from_word e p x vs o g h = (h.0, λ n l. (let at : (readers (suc n)).expr e free (word p x vs) ≡ then_read (from_name (readers n) e p x vs) (λ a us. (readers n).climb e 0 a us) = rw g refl in sym at ∙ h.1 (suc n) (omega arith)))
 
-brace_name_other : (r : Readers) (e : ℕ) (p q : Place) (x : Word) (s : Place) (k : Tk) (vs : List Token) → is_in k ≡ false → brace_name r e p q x s k vs ≡ (from_name r e q x >>= λ a. r.climb e 0 a >>= λ b. peek e (brace_rest r e p b)) vs
+brace_name_other : (r : Readers) (e : ℕ) (p q : Place) (x : Word) (s : Place) (k : Tk) (vs : List Token) → is_in k ≡ false
+    → brace_name r e p q x s k vs ≡ (from_name r e q x >>= λ a. r.climb e 0 a >>= λ b. peek e (brace_rest r e p b)) vs
 brace_name_other r e p q x s (tk.sign op.In) vs h = absurd cc
 brace_name_other r e p q x s k vs h = refl
 
@@ -27,12 +30,14 @@ abbrev pub NotBind : ℕ → List Token → Type 0
 NotBind e [] = Unit {0}
 NotBind e (t ∷ vs) = (is_word t.kind && is_in (next e vs).kind) ≡ false
 
-braces_other : (r : Readers) (e : ℕ) (p q : Place) (k : Tk) (us : List Token) → is_start k ≡ true → is_word k ≡ false → braces r e p q k us ≡ (r.expr e free >>= λ a. peek e (brace_rest r e p a)) us
+braces_other : (r : Readers) (e : ℕ) (p q : Place) (k : Tk) (us : List Token) → is_start k ≡ true → is_word k ≡ false
+    → braces r e p q k us ≡ (r.expr e free >>= λ a. peek e (brace_rest r e p a)) us
 braces_other r e p q (tk.mark tk.close_brace) us h w = absurd cc
 braces_other r e p q (tk.word x) us h w = absurd cc
 braces_other r e p q k us h w = refl
 
-assoc : {A B C : Type 0} (x : Out A) (f : A → List Token → Out B) (g : B → List Token → Out C) → then_read (then_read x f) g ≡ then_read x (λ a us. then_read (f a us) g)
+pub assoc : {A B C : Type 0} (x : Out A) (f : A → List Token → Out B) (g : B → List Token → Out C)
+    → then_read (then_read x f) g ≡ then_read x (λ a us. then_read (f a us) g)
 assoc (Ok x) f g = refl
 assoc (Err x) f g = refl
 
@@ -44,7 +49,8 @@ braced_word e p q x vs g n b ts o h i =
     let v = from_word e q x vs (Ok (b, ts)) g h in
     (v.0 + i.0, λ n' l. rw g (brace_name_other (readers n') e p q x (next e vs).place (next e vs).kind vs n ∙ sym (assoc (from_name (readers n') e q x vs) (λ a us. (readers n').climb e 0 a us) (λ b us. peek e (brace_rest (readers n') e p b) us)) ∙ ap (λ (y : Out Phrase). then_read y (λ b us. peek e (brace_rest (readers n') e p b) us)) (v.1 n' (omega arith)) ∙ i.1 n' (omega arith)))
 
-braced_token : (e : ℕ) (p q : Place) (k : Tk) (vs : List Token) → Right e q → is_start k ≡ true → (is_word k && is_in (next e vs).kind) ≡ false → Braced e p (token q k ∷ vs)
+braced_token : (e : ℕ) (p q : Place) (k : Tk) (vs : List Token) → Right e q → is_start k ≡ true → (is_word k && is_in (next e vs).kind) ≡ false
+    → Braced e p (token q k ∷ vs)
 braced_token e p q (tk.word x) vs g t n b ts o h i = braced_word e p q x vs g n b ts o h i
 braced_token e p q k vs g t n b ts o h i = (h.0 + i.0, λ m l. rw g (braces_other (readers m) e p q k (token q k ∷ vs) t refl ∙ ap (λ (y : Out Phrase). then_read y (λ b us. peek e (brace_rest (readers m) e p b) us)) (h.1 m (omega arith)) ∙ i.1 m (omega arith)))
 
@@ -52,18 +58,6 @@ pub braced : (e : ℕ) (p : Place) (us : List Token) → Starts e us → NotBind
 braced e p us s n = rw s.same_as (braced_token e p s.first.place s.first.kind s.rest s.right s.start (rw s.same_as at n))
 
 -- ---- a phrase that does not begin with a name and `\in`
-abbrev first_in : List Token → Bool
-first_in [] = false
-first_in (t ∷ ts) = is_in t.kind
-
-name_bind : (p : Place) (x : Word) (ts : List Token) → is_bind (word p x ts) ≡ first_in ts
-name_bind p x [] = refl
-name_bind p x (t ∷ ts) = refl
-
-sign_no_word : (o : Op) → is_word (sign_of o) ≡ false
-sign_no_word op.Negate = refl
-sign_no_word o = refl
-
 pub not_bind : (e : ℕ) (a : Phrase) → Good e a → (ts us : List Token) → first_in ts ≡ is_in (next e us).kind → is_bind (spell a ts) ≡ false → NotBind e (spell a us)
 not_bind e (name p x) g ts us f h = sym f ∙ sym (name_bind p x ts) ∙ h
 not_bind e (primed p x q) g ts us f h = rw g.1 refl
@@ -91,26 +85,58 @@ reads_image p a q bs s ha hb = primary_reads (image p a q bs s) (λ e d ts s. s)
         let z = braced e p (spell a us) (starts e a ga us) (not_bind e a ga [] us (rw gq refl) (not-true (is_bind (spell a [])) nb)) a us (Ok (image p a q bs s, ts)) v i in
         (h.0 + z.0, λ n l. rw (gp, z.1 n (omega arith)) (h.1 n (omega arith)))
 
--- ---- {a, b}, where the first does not begin with a name and `\in`
-pub reads_set_last : (p : Place) (a : Phrase) (q : Place) → Reads a → is_bind (spell a []) ≡ false → Reads (set_of p (last a) q)
-reads_set_last p a q ha nb = primary_reads (set_of p (last a) q) (λ e d ts s. s) (λ e d ts s. tail_call (next e ts).kind s) (λ e g ts. record { first = token p (tk.mark tk.open_brace); rest = spell a (mark q tk.close_brace ts); same_as = refl; right = g.0; as_operand = λ r c us. refl; as_short = λ r us. refl }) prime
+-- ---- {a, b}
+abbrev is_colon : Tk → Bool
+is_colon (tk.mark tk.colon) = true
+is_colon k = false
+
+rest_other : (r : Readers) (e : ℕ) (p : Place) (a : Phrase) (q : Place) (k : Tk) (us : List Token) → is_colon k ≡ false
+    → brace_rest r e p a q k us ≡ set_rest r e p a q k us
+rest_other r e p a q (tk.mark tk.colon) us h = absurd cc
+rest_other r e p a q k us h = refl
+
+member_other : (r : Readers) (e : ℕ) (p q : Place) (x : Word) (s : Place) (b : Phrase) (t : Place) (k : Tk) (us : List Token) → is_colon k ≡ false
+    → member_rest r e p q x s b t k us ≡ set_from r e p (element q x s b) us
+member_other r e p q x s b t (tk.mark tk.colon) us h = absurd cc
+member_other r e p q x s b t k us h = refl
+
+pub calm_in : (k : Tk) → is_calm k ≡ true → is_in k ≡ false
+calm_in (tk.sign o) h = absurd cc
+calm_in k h = refl
+
+-- the first element, before a comma or the closing brace
+first_element : (e : ℕ) (p : Place) (a : Phrase) → Reads a → Reads (cut a) → Good e a → (us : List Token) → Calm e us
+    → is_colon (next e us).kind ≡ false → (o : Out Phrase) → Soon (λ r. peek e (set_rest r e p a) us) o
+    → Soon (λ r. peek e (braces r e p) (spell a us)) o
+first_element e p a ha hc g us k n o h = by (is_member a) refl
+  where
+    by : (b : Bool) → is_member a ≡ b → Soon (λ r. peek e (braces r e p) (spell a us)) o
+    by false m =
+        let i : Soon (λ r. peek e (brace_rest r e p a) us) o = same (λ r. peek e (brace_rest r e p a) us) (λ r. peek e (set_rest r e p a) us) o (λ r. rest_other r e p a (next e us).place (next e us).kind us n) h in
+        braced e p (spell a us) (starts e a g us) (not_bind e a g [] us (sym (calm_in (next e us).kind k)) (bind_member e a g ∙ m)) a us o (closed a ha e g us k) i
+    by true m =
+        let v = member e a g m in
+        let w = closed (cut a) hc e v.good us k in (
+          w.0 + h.0,
+          λ n' l. rw (v.same_as us, v.right, v.right_in, w.1 n' (omega arith))
+              (member_other (readers n') e p v.place v.word_of v.place_in (cut a) (next e us).place (next e us).kind us n ∙ rw v.joins (h.1 n' (omega arith))),
+        )
+
+pub reads_set_last : (p : Place) (a : Phrase) (q : Place) → Reads a → Reads (cut a) → Reads (set_of p (last a) q)
+reads_set_last p a q ha hc = primary_reads (set_of p (last a) q) (λ e d ts s. s) (λ e d ts s. tail_call (next e ts).kind s) (λ e g ts. record { first = token p (tk.mark tk.open_brace); rest = spell a (mark q tk.close_brace ts); same_as = refl; right = g.0; as_operand = λ r c us. refl; as_short = λ r us. refl }) prime
   where
     prime : Prime (set_of p (last a) q)
     prime e (gp, ga, gq) ts k o h =
         let us = mark q tk.close_brace ts in
-        let v = closed a ha e ga us (rw gq refl) in
-        let i : Soon (λ r. peek e (brace_rest r e p a) us) (Ok (set_of p (last a) q, ts)) = (0, λ n l. rw (gq, gq) refl) in
-        let z = braced e p (spell a us) (starts e a ga us) (not_bind e a ga [] us (rw gq refl) nb) a us (Ok (set_of p (last a) q, ts)) v i in
+        let z = first_element e p a ha hc ga us (rw gq refl) (rw gq refl) (Ok (set_of p (last a) q, ts)) (0, λ n l. rw (gq, gq) refl) in
         (h.0 + z.0, λ n l. rw (gp, z.1 n (omega arith)) (h.1 n (omega arith)))
 
-pub reads_set_more : (p : Place) (a : Phrase) (t : Place) (xs : Phrases) (q : Place) → Reads a → ReadsAll xs → is_bind (spell_all (more a t xs) []) ≡ false → Reads (set_of p (more a t xs) q)
-reads_set_more p a t xs q ha hx nb = primary_reads (set_of p (more a t xs) q) (λ e d ts s. s) (λ e d ts s. tail_call (next e ts).kind s) (λ e g ts. record { first = token p (tk.mark tk.open_brace); rest = spell a (mark t tk.comma (spell_all xs (mark q tk.close_brace ts))); same_as = refl; right = g.0; as_operand = λ r c us. refl; as_short = λ r us. refl }) prime
+pub reads_set_more : (p : Place) (a : Phrase) (t : Place) (xs : Phrases) (q : Place) → Reads a → Reads (cut a) → ReadsAll xs → Reads (set_of p (more a t xs) q)
+reads_set_more p a t xs q ha hc hx = primary_reads (set_of p (more a t xs) q) (λ e d ts s. s) (λ e d ts s. tail_call (next e ts).kind s) (λ e g ts. record { first = token p (tk.mark tk.open_brace); rest = spell a (mark t tk.comma (spell_all xs (mark q tk.close_brace ts))); same_as = refl; right = g.0; as_operand = λ r c us. refl; as_short = λ r us. refl }) prime
   where
     prime : Prime (set_of p (more a t xs) q)
     prime e (gp, (ga, gt, gx), gq) ts k o h =
         let us = mark t tk.comma (spell_all xs (mark q tk.close_brace ts)) in
-        let v = closed a ha e ga us (rw gt refl) in
         let w = hx e gx (mark q tk.close_brace ts) (rw gq refl) in
-        let i : Soon (λ r. peek e (brace_rest r e p a) us) (Ok (set_of p (more a t xs) q, ts)) = (w.0, λ n l. rw (gt, w.1 n l, gq) refl) in
-        let z = braced e p (spell a us) (starts e a ga us) (not_bind e a ga (mark t tk.comma (spell_all xs [])) us (rw gt refl) nb) a us (Ok (set_of p (more a t xs) q, ts)) v i in
+        let z = first_element e p a ha hc ga us (rw gt refl) (rw gt refl) (Ok (set_of p (more a t xs) q, ts)) (w.0, λ n l. rw (gt, w.1 n l, gq) refl) in
         (h.0 + z.0, λ n l. rw (gp, z.1 n (omega arith)) (h.1 n (omega arith)))

@@ -1,7 +1,6 @@
 -- What is spelled is read, form by form.
-use Rattle.std.proofs.Common.{◌≡◌, ℕ, zero, suc, ◌+◌, ◌<◌, ◌≤◌, Bool, true, false, not, ◌&&◌, ◌||◌, nat_lt, List, [], ◌∷◌, Option, Some, None, Ok, Err, refl, sym, ap, ◌∙◌, arith, MatchBool}
-use Rattle.std.proofs.lemmas.Bool.{and_parts, both_ways, lt-ltb, not-true}
-use Rattle.std.specs.Bool.{IsTrue}
+use Rattle.std.proofs.Common.{◌≡◌, ℕ, ◌+◌, Bool, true, false, List, ◌∷◌, Option, Some, None, Ok, refl, ap, ◌∙◌, arith, MatchBool}
+use Rattle.std.proofs.lemmas.Bool.{lt-ltb, not-true}
 use Rattle.tla_token.specs.declared.place.Place.{Place}
 use Rattle.tla_expr.specs.declared.op.Op.{Op}
 use Rattle.tla_expr.specs.declared.op.Op.TheVariants as op
@@ -9,12 +8,11 @@ use Rattle.tla_expr.specs.Tree.{Word}
 use Rattle.tla_expr.specs.Rank.{rank, is_prefix}
 use Rattle.tla_expr.specs.Lexical.{Constant, Tk, Token, token, sign_of}
 use Rattle.tla_expr.specs.Lexical as tk
-use Rattle.tla_expr.specs.Spelling.{Field, Phrase, number, quote, constant, name, primed, call, brackets, no_set, no_tuple, tuple, apply, select, list, quantified, choice, local, infix_of, prefix_of}
-use Rattle.tla_expr.specs.Spelling.{Phrases, last, more, Binds, last_bind, bind, share, Locals, last_local, more_locals}
-use Rattle.tla_expr.specs.Spelling.{mark, key, sign, word, field_token, spell, spell_all, spell_binds, spell_locals, Good, GoodAll, GoodBinds, GoodLocals, Right, head, is_primary, is_short, can_be_left, can_be_head, Head, first_bullet}
-use Rattle.tla_expr.specs.Spelling as sp
-use Rattle.tla_expr.specs.Reader.{Out, Reader, then_read, ◌>>=◌, gives, skip, next, peek, a_word, a_mark, Context, free, right_of, under, bound, fits, is_free, goes_on, Readers, one_step, readers, named, primary, under_by, operand, short_by, phrases_by, bind_rest, binds_by, locals_by}
-use Rattle.tla_expr.proofs.ReadSoon.{Soon, step, now, both, same, is_tail, NoTail, Stays, postfix_ends, climb_ends}
+use Rattle.tla_expr.specs.Spelling.{Phrase, number, quote, constant, name, primed, call, brackets, no_set, no_tuple, list, infix_of, prefix_of}
+use Rattle.tla_expr.specs.Spelling.{Phrases, last, more}
+use Rattle.tla_expr.specs.Spelling.{mark, sign, spell, spell_all, Good, GoodAll, Right, head, is_primary, is_short, first_bullet}
+use Rattle.tla_expr.specs.Reader.{Out, then_read, ◌>>=◌, gives, skip, next, peek, Context, free, right_of, under, bound, fits, is_free, goes_on, Readers, readers, named, primary, under_by, operand, short_by, phrases_by}
+use Rattle.tla_expr.proofs.ReadSoon.{Soon, step, both, same, is_tail, NoTail, Stays, postfix_ends, climb_ends}
 use Rattle.tla_expr.proofs.ReadStops.{Stops, ListEnds, BulletsStop, is_calm, Calm, calm_stays, calm_stops, Fine, seen_sign, sign_infix, above_bound, left_parts, fits_left, left_stops, fits_short}
 
 -- ---- the claim

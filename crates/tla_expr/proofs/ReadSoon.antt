@@ -1,11 +1,10 @@
 -- What the readers give with enough steps, and the tokens that are seen.
-use Rattle.std.proofs.Common.{◌≡◌, ℕ, zero, suc, ◌+◌, ◌≤◌, Bool, true, false, nat_lt, List, ◌∷◌, Ok, Some, None, refl, sym, ap, ◌∙◌, arith}
+use Rattle.std.proofs.Common.{◌≡◌, ℕ, zero, suc, ◌+◌, ◌≤◌, Bool, true, false, List, Ok, refl, ap, ◌∙◌, arith}
 use Rattle.tla_token.specs.declared.place.Place.{Place}
-use Rattle.tla_expr.specs.declared.op.Op.{Op}
 use Rattle.tla_expr.specs.Lexical.{Tk, Token, token}
 use Rattle.tla_expr.specs.Lexical as tk
 use Rattle.tla_expr.specs.Spelling.{Phrase}
-use Rattle.tla_expr.specs.Reader.{Out, then_read, next, Readers, one_step, no_steps, readers, goes_on, postfix_by, climb_by}
+use Rattle.tla_expr.specs.Reader.{Out, then_read, next, Readers, one_step, readers, goes_on, postfix_by, climb_by}
 
 -- with each number of steps from some on, it gives o
 abbrev pub Soon : {A : Type 0} → (Readers → Out A) → Out A → Type 0

@@ -1,22 +1,16 @@
 -- What is spelled is read: records, functions, and sets with a filter.
-use Rattle.std.proofs.Common.{eq-eqb, ◌≡◌, ℕ, zero, suc, nat_eq, ◌+◌, ◌<◌, ◌≤◌, Bool, true, false, not, ◌&&◌, ◌||◌, nat_lt, List, [], ◌∷◌, Option, Some, None, Ok, Err, refl, sym, ap, ◌∙◌, arith, MatchBool}
-use Rattle.std.proofs.lemmas.Bool.{and_parts, both_ways, lt-ltb, not-true}
-use Rattle.std.specs.Bool.{IsTrue}
+use Rattle.std.proofs.Common.{eq-eqb, ◌≡◌, ℕ, ◌+◌, Bool, true, false, List, ◌∷◌, Ok, refl, arith}
 use Rattle.tla_token.specs.declared.place.Place.{Place}
-use Rattle.tla_expr.specs.declared.op.Op.{Op}
 use Rattle.tla_expr.specs.declared.op.Op.TheVariants as op
 use Rattle.tla_expr.specs.Tree.{Word}
-use Rattle.tla_expr.specs.Rank.{rank, is_prefix}
 use Rattle.tla_expr.specs.Lexical.{Mark, Constant, Tk, Token, token, sign_of, field_kind}
 use Rattle.tla_expr.specs.Lexical as tk
-use Rattle.tla_expr.specs.Spelling.{Field, Phrase, number, quote, constant, name, primed, call, brackets, no_set, set_of, filter, image, no_tuple, tuple, fields, records, function, functions, except, apply, select, list, quantified, choice, cases, local, infix_of, prefix_of}
-use Rattle.tla_expr.specs.Spelling.{Phrases, last, more, Binds, last_bind, bind, share, Locals, last_local, more_locals, Bullets, last_bullet, bullet, Fields, last_field, field}
-use Rattle.tla_expr.specs.Spelling.{mark, key, sign, word, field_token, spell, spell_all, spell_binds, spell_locals, Good, GoodAll, GoodBinds, GoodLocals, Right, head, is_primary, is_short, can_be_left, can_be_head, Head, first_bullet, spell_bullets, spell_fields, GoodFields}
-use Rattle.tla_expr.specs.Spelling as sp
-use Rattle.tla_expr.specs.Reader.{mark_number, fields_by, squares, square_name, field_rest, function_rest, Out, Reader, field_of, a_field, tuples, then_read, ◌>>=◌, gives, skip, next, peek, a_word, a_mark, Context, free, right_of, under, bound, fits, is_free, goes_on, Readers, one_step, readers, named, primary, under_by, operand, short_by, phrases_by, bind_rest, binds_by, locals_by}
-use Rattle.tla_expr.proofs.ReadSoon.{Soon, step, now, both, same, is_tail, NoTail, Stays, postfix_ends, climb_ends}
-use Rattle.tla_expr.proofs.ReadStops.{Stops, ListEnds, BulletsStop, behind_end, bullets_behind, is_calm, Calm, calm_stays, calm_stops, Fine, seen_sign, sign_infix, above_bound, left_parts, fits_left, left_stops, fits_short}
-use Rattle.tla_expr.proofs.ReadPhrases.{is_call, NoCall, Inner, tail_call, Prime, Brief, Full, Begins, Reads, ended, closed, is_end, Ends, end_calm, ReadsAll, reads_last, reads_more, primary_reads, reads_number, reads_quote, reads_constant, reads_name, reads_primed, reads_call, reads_brackets, reads_no_set, reads_no_tuple, reads_infix, reads_prefix}
+use Rattle.tla_expr.specs.Spelling.{Field, Phrase, filter, fields, records, function}
+use Rattle.tla_expr.specs.Spelling.{Binds, last_bind, bind, share, Fields, last_field, field}
+use Rattle.tla_expr.specs.Spelling.{mark, sign, word, field_token, spell, spell_binds, Good, GoodBinds, Right, spell_fields, GoodFields}
+use Rattle.tla_expr.specs.Reader.{mark_number, fields_by, squares, field_rest, next, peek, a_mark, Readers, readers}
+use Rattle.tla_expr.proofs.ReadSoon.{Soon, step}
+use Rattle.tla_expr.proofs.ReadPhrases.{tail_call, Prime, Reads, closed, is_end, Ends, end_calm, primary_reads}
 use Rattle.tla_expr.proofs.ReadForms.{field_read, ReadsBinds, BindsRead}
 
 mark_read : (e : ℕ) (p : Place) (m : Mark) (ts : List Token) → Right e p → a_mark e m (mark p m ts) ≡ Ok (p, ts)

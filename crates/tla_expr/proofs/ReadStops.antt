@@ -1,17 +1,16 @@
 -- Which token ends a phrase where it stands.
 use Rattle.std.proofs.Common.{◌≡◌, ℕ, ◌<◌, ◌≤◌, ◌⊎◌, nat_eq, Bool, true, false, not, ◌&&◌, ◌||◌, nat_lt, zero, suc, List, [], ◌∷◌, Option, Some, None, refl, sym, ap, ◌∙◌, arith, MatchBool, inl, inr}
 use Rattle.std.proofs.lemmas.Bool.{and_parts, or_cases, both_ways, eqb-true, ltb-true, le-ltb, lt-ltb, not-true}
-use Rattle.std.specs.Bool.{IsTrue}
 use Rattle.tla_token.specs.declared.place.Place.{Place}
 use Rattle.tla_expr.specs.declared.op.Op.{Op}
 use Rattle.tla_expr.specs.declared.op.Op.TheVariants as op
-use Rattle.tla_expr.specs.Rank.{rank, is_prefix, is_associative, is_bullet, same_op, number_of}
+use Rattle.tla_expr.specs.Rank.{rank, is_prefix, is_associative, same_op, number_of}
 use Rattle.tla_expr.specs.Lexical.{Tk, Token, token, sign_of}
 use Rattle.tla_expr.specs.Lexical as tk
-use Rattle.tla_expr.specs.Spelling.{Field, Phrase, number, quote, constant, name, primed, call, brackets, no_set, set_of, filter, image, no_tuple, tuple, fields, records, function, functions, except, apply, select, list, quantified, choice, cases, local, infix_of, prefix_of}
+use Rattle.tla_expr.specs.Spelling.{Phrase, list, quantified, choice, cases, local, infix_of, prefix_of}
 use Rattle.tla_expr.specs.Spelling.{Bullets, last_bullet, bullet, Arms, last_arm, other_arm, arm}
-use Rattle.tla_expr.specs.Spelling.{Good, GoodBullets, GoodArms, first_bullet, takes_box, last_takes_box, Right, head, is_above, is_applied, is_open, is_short, ends_open, end_list, is_behind, can_be_left, can_be_right, can_be_under, can_be_head, applied, primary, open_form, Head}
-use Rattle.tla_expr.specs.Reader.{next, end, is_sign, Context, free, right_of, under, bound, fits, is_free, goes_on}
+use Rattle.tla_expr.specs.Spelling.{Good, GoodBullets, GoodArms, first_bullet, takes_box, last_takes_box, Right, head, is_above, is_applied, is_short, ends_open, end_list, is_behind, can_be_left, applied, primary, open_form, Head}
+use Rattle.tla_expr.specs.Reader.{next, end, is_sign, Context, free, right_of, under, bound, fits, is_free}
 use Rattle.tla_expr.proofs.ReadSoon.{is_tail, NoTail, Stays, goes_by}
 
 -- None: a short form

@@ -5,6 +5,7 @@ pub mod expr;
 pub mod exprs;
 pub mod form;
 pub mod graft;
+pub mod laws;
 pub mod name;
 pub mod op;
 pub mod outside;
