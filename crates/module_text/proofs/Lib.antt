@@ -1,4 +1,10 @@
-mod OneRegion
+pub mod OneRegion
+pub mod OnePhrase
+pub mod OneItem
+pub mod OneWay
+pub mod OneUnit
+pub mod OneOutside
+pub mod OneModule
 pub mod Tells
 pub mod First
 mod RowsLayout
