@@ -1,9 +1,9 @@
 -- What a list of choices leads to is an outcome, each outcome has its list, and the first trouble is found where there is one.
 use Rattle.std.proofs.Common.{◌≡◌, ℕ, zero, suc, List, [], ◌∷◌, Option, Some, None, refl, sym, ◌∙◌, ap, ◌⊎◌, inl, inr}
 use Rattle.tla_token.specs.declared.place.Place.{Place}
-use Rattle.pcal_tree.specs.Scope.{State, Trouble, Got, got, bad}
+use Rattle.pcal_tree.specs.Scope.{State, Trouble, Got, bad}
 use Rattle.pcal_tree.specs.Run.{Course, ends, stops, chooses, Courses, no_courses, course, Has, HasSome}
-use Rattle.pcal_tree.specs.Choices.{Walk, went, failed, blocked, wanting, missing, walk, walk_into, or_else, first_trouble, first_trouble_of, told, landing}
+use Rattle.pcal_tree.specs.Choices.{Walk, missing, walk, walk_into, or_else, first_trouble, first_trouble_of, told, landing}
 
 none_told : (cs : Courses) (at : Place) (r : Got State) → told (missing cs at) ≡ Some r → ⊥
 none_told no_courses at r e = cc

@@ -13,7 +13,7 @@ use Rattle.pcal_tree.specs.Assign.{Setting, set_all, settings}
 use Rattle.pcal_tree.specs.Run.{Course, chooses, course, held, stops, after, at_each, Follow, Rules, unlabelled, label_of, run_binds, run_one, run, run_branches}
 use Rattle.pcal_tree.specs.Expand.{placed_at, graft_left, graft_moves, graft_binds, graft_one, graft_all, graft_some}
 use Rattle.tla_value.specs.Related.{Rel}
-use Rattle.tla_value.specs.Related.{Clear, ClearForm}
+use Rattle.tla_value.specs.Related.{ClearForm}
 use Rattle.pcal_tree.specs.Clean.{Clean, CleanBinds, CleanMoves, CleanOne, CleanSome, ClearName, Unreached}
 
 -- where names are clear a form keeps that they stand for the trees of g

@@ -12,4 +12,10 @@ mod RowsLabels
 mod RowsNames
 mod RowsP
 mod RowsBoth
+pub mod FreeNames
+pub mod RoutineNames
+pub mod OneStand
+pub mod FreeWords
+pub mod ClearLabels
+pub mod LabelledClear
 mod RowsOffences

@@ -86,12 +86,12 @@ sound_quiet P s k sound t = by (first_of_all P s t.0 k t.2)
 
 -- ---- where a process is in trouble there is a first trouble
 
-one_left : {X : Type 0} (x : X) (xs ys : List X) → OneOf x xs → OneOf x (xs ++ ys)
+pub one_left : {X : Type 0} (x : X) (xs ys : List X) → OneOf x xs → OneOf x (xs ++ ys)
 one_left x [] ys h = absurd h
 one_left x (z ∷ xs) ys (inl p) = inl p
 one_left x (z ∷ xs) ys (inr h) = inr (one_left x xs ys h)
 
-one_right : {X : Type 0} (x : X) (xs ys : List X) → OneOf x ys → OneOf x (xs ++ ys)
+pub one_right : {X : Type 0} (x : X) (xs ys : List X) → OneOf x ys → OneOf x (xs ++ ys)
 one_right x [] ys h = h
 one_right x (z ∷ xs) ys h = inr (one_right x xs ys h)
 
@@ -112,7 +112,7 @@ mutual
   listed_in l here (loop e t) x b q = listed l unlabelled t here b q
   listed_in l here _ x b q = cc
 
-  listed : (l here : Word) (ss : Statements) (x : Word) (b : Begin) → begin l here ss x ≡ Some b → OneOf l (labels ss)
+  pub listed : (l here : Word) (ss : Statements) (x : Word) (b : Begin) → begin l here ss x ≡ Some b → OneOf l (labels ss)
   listed l here done x b q = cc
   listed l here (then at st rest) x b q = by (either_some (begin_in l here st (label_of rest x)) (begin l unlabelled rest x) b q) (listed_in l here st (label_of rest x) b) (listed l unlabelled rest x b)
     where

@@ -28,3 +28,4 @@ pub mod Labelled
 pub mod Outside
 pub mod OffencesNames
 pub mod OffencesReserved
+pub mod Apart

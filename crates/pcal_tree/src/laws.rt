@@ -1,8 +1,8 @@
 //! Laws of what algorithms mean, stated as what functions without a body ensure.
 
-ghost use Rattle.std.specs.Prelude.{◌≡◌, ℕ, List, [], Some, None};
+ghost use Rattle.std.specs.Prelude.{◌≡◌, ℕ, List, [], Bool, Some, None};
 ghost use Rattle.tla_expr.specs.Tree.{Word};
-ghost use Rattle.pcal_tree.specs.Algorithm.{Statements, Macro};
+ghost use Rattle.pcal_tree.specs.Algorithm.{Statements, Macro, Algorithm};
 ghost use Rattle.pcal_tree.specs.Expand.{expanded};
 ghost use Rattle.pcal_tree.specs.Clean.{Calls, FineCall, Free};
 ghost use Rattle.pcal_tree.specs.Scope.{State, Trouble, Got, bad, Scope};
@@ -10,6 +10,11 @@ ghost use Rattle.pcal_tree.specs.Run.{Course, Has, Rules, Follow, run, with_macr
 ghost use Rattle.pcal_tree.specs.Choices.{walk, told, landing, first_trouble};
 ghost use Rattle.pcal_tree.specs.Program.{Program, Actor};
 ghost use Rattle.pcal_tree.specs.Step.{Proper, Sound, IsActor, StandsOnce, FirstTrouble};
+ghost use Rattle.pcal_tree.specs.Outside.{Outside};
+ghost use Rattle.pcal_tree.specs.OffencesReserved.{reserved_declared};
+ghost use Rattle.pcal_tree.specs.Labelled.{labelled};
+ghost use Rattle.pcal_tree.specs.Names.{naming};
+ghost use Rattle.pcal_tree.specs.Apart.{given, FewNames, Apart, New, Untaken, AreNames, NoEndLabels};
 
 /// What a list of choices leads to is an outcome of the course, and each outcome has a list of choices that
 /// leads to it, all of them used.
@@ -37,4 +42,21 @@ pub fn sound_states_have_no_first_trouble()
 pub fn written_out_macros_run_the_same()
     ensures { (M : Rules) (ms : List Macro) (here : Word) (ss : Statements) → Calls (FineCall M.check ms) ss → (sc : Scope) → Free sc → (K : Follow)
         → run (with_macros M ms) here ss sc K ≡ run (with_macros M []) here (expanded ms ss) sc K }
+{}
+
+/// The written names of an algorithm in a module are all different, and none is a name that stands already. Where those that
+/// are wanted don't begin with WF_ or SF_, as no name does, none is reserved, the translation's own or standard.
+pub fn written_names_are_apart()
+    ensures apart { (a : Algorithm) (o : Outside) → FewNames a o → Apart (given a o) }
+    ensures new { (a : Algorithm) (o : Outside) → FewNames a o → New a o }
+    ensures untaken { (a : Algorithm) (o : Outside) → FewNames a o → AreNames a → Untaken a o }
+{}
+
+/// Where no label is called Done or Error, each process stands at one label at most. The rule on reserved names asks for that,
+/// and added labels are no such ones.
+pub fn processes_stand_at_one_label()
+    ensures once { (P : Program) (o : Outside) → P.naming ≡ naming P.algorithm o → FewNames P.algorithm o → NoEndLabels P.algorithm
+        → (s : State) (v : Actor) → IsActor P v → StandsOnce P s v }
+    ensures clear { (a : Algorithm) (o : Outside) → reserved_declared a o ≡ [] → NoEndLabels a }
+    ensures added { (forced : Bool) (a : Algorithm) → NoEndLabels a → NoEndLabels (labelled forced a) }
 {}
