@@ -8,7 +8,7 @@ use Rattle.std.proofs.lemmas.Fmt.{decimal_digit, decimal_step}
 use Rattle.outer_io.specs.Outer.{Grows, GrowsInPart}
 use Rattle.tla_expr.specs.Tree.{Word}
 use Rattle.pcal_cli.specs.declared.status.Status.TheVariants.{Refused}
-use Rattle.pcal_cli.specs.FirstPath.{line_of}
+use Rattle.pcal_cli.specs.Answers.{line_of}
 
 grows_both : (old mid new : Option (List ℕ)) (a b : List ℕ) → Grows old mid a → Grows mid new b → Grows old new (a ++ b)
 grows_both None mid new a b g h = rw g at h

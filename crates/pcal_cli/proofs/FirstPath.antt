@@ -1,5 +1,5 @@
 -- The bytes that are written are the layout of the translation.
-use Rattle.std.proofs.Common.{◌≡◌, ℕ, List, [], ◌∷◌, ◌++◌, refl, ap, ◌∙◌, append_assoc, append-nil, true, arith}
+use Rattle.std.proofs.Common.{◌≡◌, ℕ, List, [], ◌∷◌, ◌++◌, Some, refl, ap, ◌∙◌, append_assoc, append-nil, true}
 use Rattle.std.specs.Prelude.{codes}
 use Rattle.std.specs.List.{list_all}
 use Rattle.tla_token.specs.Lexemes.{is_word}
@@ -7,38 +7,28 @@ use Rattle.std.specs.Fmt.{decimal}
 use Rattle.tla_expr.specs.declared.op.Op.TheVariants.{Equal}
 use Rattle.tla_expr.specs.Tree.{Word, name, number}
 use Rattle.tla_expr.specs.Written.{written}
-use Rattle.tla_expr.specs.Lexical.{escaped, escapes}
 use Rattle.module_text.specs.Layout.{layout, line, unit_text, conjuncts_text}
 use Rattle.module_text.specs.Module.{variables_unit, vars_unit, init_unit, action_unit, terminating_unit, next_unit, spec_unit, termination_unit}
 use Rattle.module_text.specs.ExprText.{operand}
-use Rattle.pcal_cli.specs.declared.form.Right.{Right}
-use Rattle.pcal_cli.specs.declared.form.Operand.{Operand}
-use Rattle.pcal_cli.specs.declared.form.Right.TheVariants.{One, Sum}
-use Rattle.pcal_cli.specs.declared.form.Operand.TheVariants.{Number, Variable}
-use Rattle.pcal_cli.specs.Form.{Parts, is_name, translation_of, leaf, infix_of, is_at, region_of, step_of, operand_tree, right_tree}
+use Rattle.tla_token.specs.Places.{start}
+use Rattle.first_path.specs.Form.{Operand, number_operand, variable_operand, Right, single, sum, Parts, is_name}
+use Rattle.first_path.specs.Placed.{translation_of, leaf, infix_of, is_at, region_of, step_at, operand_tree, right_tree}
 use Rattle.pcal_cli.specs.declared.region.Fixed.TheVariants as fixed
+use Rattle.first_path.specs.FormRead.{form_of}
+use Rattle.first_path.specs.Written.{Written}
+use Rattle.first_path.proofs.Names.{name_words, escapes_name}
+use Rattle.first_path.proofs.Promise.{written as kept, label_is_name}
 use Rattle.pcal_cli.specs.FirstPathBytes.{fixed_text, operand_text, right_text, variables_text, init_text, step_text, ending_text, region_text, written_text}
-
--- a byte of a name has no escape
-escaped_word : (b : ℕ) → is_word b ≡ true → escaped b ≡ b ∷ []
-escaped_word b h = grind arith
-
-escapes_name : (w : Word) → list_all is_word w ≡ true → escapes w ≡ w
-escapes_name [] h = refl
-escapes_name (b ∷ bs) h =
-    let k : is_word b ≡ true = grind arith in
-    let r : list_all is_word bs ≡ true = grind arith in
-    rw (escaped_word b k, escapes_name bs r) refl
 
 -- each unit, before what follows
 variables_is : (f : Parts) (r : List ℕ) → (unit_text (variables_unit (f.variable ∷ codes "pc" ∷ [])) ++ codes "\n") ++ ((unit_text (vars_unit (f.variable ∷ codes "pc" ∷ [])) ++ codes "\n") ++ r) ≡ variables_text f ++ r
 unfolding fixed_text variables_text
 variables_is f r = simp append_assoc refl
 
-initial_is : (v : Word) (n : ℕ) → written (infix_of Equal (leaf (name v)) (leaf (number n))) ≡ v ++ (codes " = " ++ decimal n)
+initial_is : (v : Word) (n : ℕ) → written (infix_of Equal start (leaf (name v) start) (leaf (number n) start)) ≡ v ++ (codes " = " ++ decimal n)
 initial_is v n = ap (λ r. v ++ (codes " = " ++ r)) (append-nil (decimal n))
 
-at_is : (l : Word) → list_all is_word l ≡ true → written (is_at l) ≡ codes "pc = \"" ++ (l ++ codes "\"")
+at_is : (l : Word) → list_all is_word l ≡ true → written (is_at l start start) ≡ codes "pc = \"" ++ (l ++ codes "\"")
 at_is l h = rw (escapes_name l h) (ap (λ r. codes "pc = \"" ++ r) (append-nil (l ++ codes "\"")))
 
 init_order : (v s d n t l m r : List ℕ) → ((((v ++ (s ++ d)) ++ n) ++ (t ++ (((l ++ m) ++ n) ++ []))) ++ n) ++ r ≡ (((((v ++ s) ++ d) ++ (n ++ t)) ++ l) ++ (m ++ (n ++ n))) ++ r
@@ -53,17 +43,17 @@ init_is : (f : Parts) (r : List ℕ) → list_all is_word f.label ≡ true → (
 unfolding init_text
 init_is f r h = init_lines f.variable (decimal f.initial) f.label _ _ r (initial_is f.variable f.initial) (at_is f.label h)
 
-operand_is : (v : Word) (a : Operand) → operand (operand_tree v a) ≡ operand_text v a
-operand_is v (Number n) = append-nil _
-operand_is v Variable = append-nil _
+operand_is : (v : Word) (a : Operand) → operand (operand_tree v a start) ≡ operand_text v a
+operand_is v (number_operand n) = append-nil _
+operand_is v variable_operand = append-nil _
 
-right_is : (v : Word) (e : Right) → operand (right_tree v e) ≡ right_text v e
+right_is : (v : Word) (e : Right) → operand (right_tree v e start start) ≡ right_text v e
 unfolding fixed_text
-right_is v (One a) = operand_is v a
-right_is v (Sum (Number m) (Number n)) = simp append_assoc refl
-right_is v (Sum (Number m) Variable) = simp append_assoc refl
-right_is v (Sum Variable (Number n)) = simp append_assoc refl
-right_is v (Sum Variable Variable) = simp append_assoc refl
+right_is v (single a) = operand_is v a
+right_is v (sum (number_operand m) (number_operand n)) = simp append_assoc refl
+right_is v (sum (number_operand m) variable_operand) = simp append_assoc refl
+right_is v (sum variable_operand (number_operand n)) = simp append_assoc refl
+right_is v (sum variable_operand variable_operand) = simp append_assoc refl
 
 step_order : (l h n t q c u v p e z r : List ℕ) → ((((l ++ []) ++ h) ++ n) ++ ((t ++ (((l ++ q) ++ c) ++ n)) ++ ((u ++ (((v ++ p) ++ e) ++ n)) ++ z)) ++ n) ++ r
     ≡ (((((((l ++ (h ++ (n ++ t))) ++ l) ++ (q ++ (c ++ (n ++ u)))) ++ v) ++ p) ++ e) ++ (n ++ (z ++ n))) ++ r
@@ -75,7 +65,7 @@ step_lines : (l v e a x r : List ℕ) → a ≡ codes "pc = \"" ++ (l ++ codes "
 unfolding fixed_text
 step_lines l v e a x r p q = rw (p, q) (step_order l (codes " ==") (codes "\n") (codes "  /\\ (pc = \"") (codes "\"") (codes ")") (codes "  /\\ ") v (codes "' = ") e (codes "  /\\ pc' = \"Done\"\n") r)
 
-step_is : (f : Parts) (r : List ℕ) → list_all is_word f.label ≡ true → (unit_text (action_unit (step_of f)) ++ codes "\n") ++ r ≡ step_text f ++ r
+step_is : (f : Parts) (r : List ℕ) → list_all is_word f.label ≡ true → (unit_text (action_unit (step_at (λ i. start) f)) ++ codes "\n") ++ r ≡ step_text f ++ r
 unfolding step_text
 step_is f r h = step_lines f.label f.variable (right_text f.variable f.right) _ _ r (at_is f.label h) (right_is f.variable f.right)
 
@@ -91,8 +81,9 @@ layout_is f h =
     variables_is f _ ∙ ap (λ r. variables_text f ++ r) (init_is f _ h ∙ ap (λ r. init_text f ++ r) (step_is f _ h ∙ ap (λ r. step_text f ++ r) (ending_is f)))
     ∙ simp append_assoc refl
 
-left_name : (w : Word) → is_name w ≡ true → list_all is_word w ≡ true
-left_name w h = grind arith
-
 pub written_is : (x : List ℕ) (f : Parts) → is_name f.label ≡ true → written_text x f ≡ translation_of x f
-written_is x f h = rw (layout_is f (left_name f.label h)) refl
+written_is x f h = rw (layout_is f (name_words f.label h)) refl
+
+-- what was pushed is what is written
+pub is_written : (x w : List ℕ) (f : Parts) → form_of x ≡ Some f → w ≡ written_text x f → Written x w
+is_written x w f h e = rw (e, written_is x f (label_is_name x f h)) (kept x f h)

@@ -1,4 +1,9 @@
+pub mod Scanning
+pub mod Steps
+pub mod Stretches
+pub mod FormScanned
+pub mod Runs
+pub mod Ends
 pub mod FirstPath
 pub mod ErrorLine
 pub mod Told
-mod RowsForm

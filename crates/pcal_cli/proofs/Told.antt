@@ -1,18 +1,86 @@
--- What was read is what is told, and its translation went out.
-use Rattle.std.proofs.Common.{◌≡◌, ℕ, List, Option, Some, None, subst, ◌∙◌, ap}
-use Rattle.outer_io.specs.Outer.{Texts, Has, Tells, Grows, GrowsInPart}
-use Rattle.pcal_cli.specs.Form.{Parts, translation_of}
-use Rattle.pcal_cli.specs.FirstPath.{Writes, WritesInPart}
+-- What was read is what is told, and what is written for it went out.
+use Rattle.std.specs.Prelude.{IfSome, MatchOption}
+use Rattle.std.proofs.Common.{◌≡◌, ◌⊎◌, ℕ, ◌<◌, ◌≤◌, List, [], length, Option, Some, None, false, ◌∙◌, ap, sym, inl, inr, arith}
+use Rattle.outer_io.specs.Outer.{Texts, text_at, Has, Tells, Lacks, Grows, GrowsInPart}
+use Rattle.tla_token.specs.Offences.{least}
+use Rattle.first_path.specs.Form.{Parts}
+use Rattle.first_path.specs.FormRead.{form_of, form_offences, FirstOffence, left_out}
+use Rattle.first_path.specs.Headline.{Headline}
+use Rattle.first_path.proofs.Promise.{first_offence, not_both}
+use Rattle.pcal_cli.specs.Causes.{most_bytes, Writes, WritesInPart, Keeps}
+use Rattle.pcal_cli.specs.FirstPathBytes.{written_text}
+use Rattle.pcal_cli.proofs.FirstPath.{is_written}
 
-told : (ts : Option Texts) (file v : List ℕ) (P : List ℕ → Type 0) → Has ts file v → P v → Tells ts file P
+-- a fact of the text that was read is one of the text that is told
+pub told : (ts : Option Texts) (file v : List ℕ) (P : List ℕ → Type 0) → Has ts file v → P v → Tells ts file P
 told None file v P h p = tt
 told (Some ts) file v P h p = rw h p
 
-same_bytes : (t v b w : List ℕ) (f : Parts) → t ≡ v → b ≡ translation_of t f → w ≡ b → w ≡ translation_of v f
-same_bytes t v b w f e g h = h ∙ g ∙ ap (λ x. translation_of x f) e
+-- what holds of each text holds of the one that is told
+pub of_all : (ts : Option Texts) (file : List ℕ) (P : List ℕ → Type 0) → ((x : List ℕ) → P x) → Tells ts file P
+of_all ts file P h = of_found _ P h
+  where
+    of_found : (o : Option (List ℕ)) (P : List ℕ → Type 0) → ((x : List ℕ) → P x) → IfSome o P
+    of_found None P h = tt
+    of_found (Some x) P h = h x
 
-pub writes : (ts : Option Texts) (file t v b w : List ℕ) (f : Parts) (old new : Option (List ℕ)) → Has ts file v → t ≡ v → b ≡ translation_of t f → w ≡ b → Grows old new w → Tells ts file (Writes old new)
-writes ts file t v b w f old new has e g h grows = told ts file v (Writes old new) has (f, subst (λ x. Grows old new x) (same_bytes t v b w f e g h) grows)
+-- a text that was read is there
+pub not_lacking : (ts : Option Texts) (file v : List ℕ) → Has ts file v → Lacks ts file → ⊥
+not_lacking None file v h k = k
+not_lacking (Some ts) file v h k = (let e : Some v ≡ None = sym h ∙ k in absurd cc)
 
-pub writes_in_part : (ts : Option Texts) (file t v b w : List ℕ) (f : Parts) (old new : Option (List ℕ)) → Has ts file v → t ≡ v → b ≡ translation_of t f → w ≡ b → GrowsInPart old new w → Tells ts file (WritesInPart old new)
-writes_in_part ts file t v b w f old new has e g h grows = told ts file v (WritesInPart old new) has (f, subst (λ x. GrowsInPart old new x) (same_bytes t v b w f e g h) grows)
+-- what was found, and what was not
+pub found : {A : Type 0} (r : Option A) (a : A) (N : Type 0) (S : A → Type 0) → r ≡ Some a → MatchOption r N S → S a
+found r a N S e h = rw e at h
+
+pub missing : {A : Type 0} (r : Option A) (N : Type 0) (S : A → Type 0) → r ≡ None → MatchOption r N S → N
+missing r N S e h = rw e at h
+
+pub refused : (ts : Option Texts) (file t v : List ℕ) → Has ts file v → t ≡ v → form_of t ≡ None → Tells ts file (λ x. FirstOffence x left_out)
+refused ts file t v h e k = told ts file v (λ x. FirstOffence x left_out) h (first_offence v (rw e at k))
+
+-- t, u: the text that was read, as it was looked at twice
+pub writes : (ts : Option Texts) (file t u v b w : List ℕ) (f : Parts) (old new : Option (List ℕ)) → Has ts file v → t ≡ v → u ≡ v → form_of t ≡ Some f → b ≡ written_text u f → w ≡ b → Grows old new w → Tells ts file (Writes old new)
+writes ts file t u v b w f old new h e i k g j grows = told ts file v (Writes old new) h (w, grows, is_written v w f (rw e at k) (j ∙ g ∙ ap (λ x. written_text x f) i))
+
+pub writes_in_part : (ts : Option Texts) (file t u v b w : List ℕ) (f : Parts) (old new : Option (List ℕ)) → Has ts file v → t ≡ v → u ≡ v → form_of t ≡ Some f → b ≡ written_text u f → w ≡ b → GrowsInPart old new w → Tells ts file (WritesInPart old new)
+writes_in_part ts file t u v b w f old new h e i k g j grows = told ts file v (WritesInPart old new) h (w, grows, is_written v w f (rw e at k) (j ∙ g ∙ ap (λ x. written_text x f) i))
+
+-- the promise is a part of what is written
+keeps : (ts : Option Texts) (file : List ℕ) (old new : Option (List ℕ)) → Tells ts file (Writes old new) → Keeps false ts file old new
+keeps ts file old new h = of_some _ h
+  where
+    of_some : (o : Option (List ℕ)) → IfSome o (Writes old new) → IfSome o (λ x. (w : List ℕ) × Grows old new w × Headline false x w)
+    of_some None h = tt
+    of_some (Some x) h = (h.0, h.1, h.2.promise)
+
+pub keeps_written : (ts : Option Texts) (file t u v b w : List ℕ) (f : Parts) (old new : Option (List ℕ)) → Has ts file v → t ≡ v → u ≡ v → form_of t ≡ Some f → b ≡ written_text u f → w ≡ b → Grows old new w → Keeps false ts file old new
+keeps_written ts file t u v b w f old new h e i k g j grows = keeps ts file old new (writes ts file t u v b w f old new h e i k g j grows)
+
+-- a text of the form has no offence
+pub unoffending : (ts : Option Texts) (file t v : List ℕ) (f : Parts) (P : Type 0) → Has ts file v → t ≡ v → form_of t ≡ Some f → Tells ts file (λ x. FirstOffence x left_out → P)
+unoffending ts file t v f P h e k = told ts file v (λ x. FirstOffence x left_out → P) h (λ o. absurd (not_both v f (rw e at k) o))
+
+-- a text that is short isn't long
+pub unlong : (ts : Option Texts) (file v : List ℕ) (n : ℕ) (P : Type 0) → Has ts file v → length v ≤ n → Tells ts file (λ x. n < length x → P)
+unlong ts file v n P h k = told ts file v (λ x. n < length x → P) h (λ l. absurd (not_long (length v) n k l))
+  where
+    not_long : (a n : ℕ) → a ≤ n → n < a → ⊥
+    not_long a n h k = omega arith
+
+-- a text that is told and without offence is no text that was refused
+pub not_refused : (x : List ℕ) → FirstOffence x left_out → form_offences x ≡ [] → ⊥
+not_refused x (at, e, p) h = none_is_some (sym (ap least h) ∙ e)
+  where
+    none_is_some : {A : Type 0} {a : A} → ◌≡◌ {A = Option A} None (Some a) → ⊥
+    none_is_some e = absurd cc
+
+-- where a text is told, and read without a fault, it isn't lacking
+pub failed : (ts : Option Texts) (file : List ℕ) (R W P : Type 0) → R ⊎ Lacks ts file → Tells ts file (λ x. length x ≤ most_bytes → form_offences x ≡ [] → (R → ⊥) → (W → ⊥) → P)
+failed None file R W P h = tt
+failed (Some ts) file R W P h = by (text_at ts file) h
+  where
+    by : (o : Option (List ℕ)) → R ⊎ (o ≡ None) → IfSome o (λ x. length x ≤ most_bytes → form_offences x ≡ [] → (R → ⊥) → (W → ⊥) → P)
+    by None h = tt
+    by (Some x) (inl e) = λ l o r w. absurd (r e)
+    by (Some x) (inr e) = absurd cc

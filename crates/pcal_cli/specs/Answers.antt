@@ -3,6 +3,7 @@ use Rattle.std.specs.Prelude.{ℕ, List, [], ◌++◌, codes, Option, Some, None
 use Rattle.tla_token.specs.declared.rule.Refusal.{Refusal}
 use Rattle.tla_token.specs.Rules.{refusal_text}
 use Rattle.tla_expr.specs.Tree.{Word}
+use Rattle.first_path.specs.FormRead.{left_out}
 use Rattle.pcal_cli.specs.declared.status.Status.{Status}
 use Rattle.pcal_cli.specs.declared.status.Status.TheVariants.{Fine, Memory, Usage, ReadFault, WriteFault, Refused, ScriptStep, NotAStep, Faulted, Limit, TooLong}
 
@@ -33,3 +34,7 @@ error_line WriteFault file r = codes "pcal: cannot write\n"
 error_line Refused file r = refused_line file r
 error_line TooLong file r = codes "pcal: " ++ (file ++ codes " is too long\n")
 error_line s file r = []
+
+-- with the one refusal so far
+abbrev pub line_of : Status → Word → List ℕ
+line_of s file = error_line s file (Some left_out)

@@ -1,62 +1,72 @@
--- Why an answer comes: each answer but Fine and Memory has its cause, and where there is an offence no other answer hides it.
-use Rattle.std.specs.Prelude.{◌≡◌, ◌⊎◌, ℕ, ◌<◌, List, length, Option, Some, None}
-use Rattle.outer_io.specs.Outer.{Texts, Rose, RoseAbove, Lacks, Tells, Grows, GrowsInPart}
-use Rattle.tla_token.specs.declared.rule.Refusal.{Refusal}
+-- Why an answer comes, and what becomes of the two outputs.
+use Rattle.std.specs.Prelude.{◌⊎◌, ℕ, Bool, List, Option, Some, None}
+use Rattle.outer_io.specs.Outer.{Texts, Tells, Rose, Grows, GrowsInPart}
 use Rattle.tla_expr.specs.Tree.{Word}
+use Rattle.first_path.specs.Headline.{Headline}
+use Rattle.first_path.specs.Written.{Written}
 use Rattle.pcal_cli.specs.declared.status.Status.{Status}
-use Rattle.pcal_cli.specs.declared.status.Status.TheVariants.{Fine, Memory, Usage, ReadFault, WriteFault, Refused, TooLong}
-use Rattle.pcal_cli.specs.Words.{Command, translate, command_of}
-use Rattle.pcal_cli.specs.Answers.{error_line}
-
--- what a call of the program met: the words, and before and after it what the shelf and the sinks tell and count
-pub record Call : Type 0 where
-  pub words : List Word
-  pub texts : Option Texts
-  pub given_before : ℕ
-  pub given_after : ℕ
-  pub read_faults_before : ℕ
-  pub read_faults_after : ℕ
-  pub out_before : Option (List ℕ)
-  pub out_after : Option (List ℕ)
-  pub write_faults_before : ℕ
-  pub write_faults_after : ℕ
-  pub err_before : Option (List ℕ)
-  pub err_after : Option (List ℕ)
-  pub err_faults_before : ℕ
-  pub err_faults_after : ℕ
+use Rattle.pcal_cli.specs.declared.status.Status.TheVariants.{Fine, Memory, ReadFault, WriteFault, Refused, TooLong}
+use Rattle.pcal_cli.specs.Words.{Command, translate}
 
 -- a file has at most so many bytes
 abbrev pub most_bytes : ℕ
 most_bytes = 1048576
 
--- why a command gives an answer, where First says which refusal a text has
-abbrev pub CommandCause : (List ℕ → Refusal → Type 0) → Call → Command → Status → Type 0
-CommandCause First c (translate file) ReadFault = Rose c.read_faults_before c.read_faults_after ⊎ Lacks c.texts file
-CommandCause First c (translate file) WriteFault = Rose c.write_faults_before c.write_faults_after
-CommandCause First c (translate file) Refused = Tells c.texts file (λ x. (r : Refusal) × First x r)
-CommandCause First c (translate file) TooLong = RoseAbove most_bytes c.given_before c.given_after × Tells c.texts file (λ x. most_bytes < length x)
-CommandCause First c (translate file) Fine = Unit {0}
-CommandCause First c (translate file) Memory = Unit {0}
-CommandCause First c (translate file) s = ⊥
+-- what holds of the file of a command; where there is no command nothing is said
+abbrev pub OfFile : Option Command → (Word → Type 0) → Type 0
+OfFile None P = Unit {0}
+OfFile (Some (translate file)) P = P file
 
--- where the words mean no command, only Usage or want of memory comes, and Usage comes only there
-abbrev pub CauseOf : (List ℕ → Refusal → Type 0) → Call → Option Command → Status → Type 0
-CauseOf First c None Usage = Unit {0}
-CauseOf First c None Memory = Unit {0}
-CauseOf First c None s = ⊥
-CauseOf First c (Some command) s = CommandCause First c command s
+-- ---- answers
 
-abbrev pub Cause : (List ℕ → Refusal → Type 0) → Call → Status → Type 0
-Cause First c s = CauseOf First c (command_of c.words) s
+-- what `translate` answers
+abbrev pub IsAnswer : Status → Type 0
+IsAnswer Fine = Unit {0}
+IsAnswer Memory = Unit {0}
+IsAnswer ReadFault = Unit {0}
+IsAnswer WriteFault = Unit {0}
+IsAnswer Refused = Unit {0}
+IsAnswer TooLong = Unit {0}
+IsAnswer s = ⊥
 
--- what became of the output: as it was, or on WriteFault the first bytes of a text that could have been written whole
-abbrev pub OutOf : (List ℕ → Type 0) → Call → Status → Type 0
-OutOf May c Fine = (w : List ℕ) × May w × Grows c.out_before c.out_after w
-OutOf May c WriteFault = (w : List ℕ) × May w × GrowsInPart c.out_before c.out_after w
-OutOf May c s = c.out_after ≡ c.out_before
+-- where there is no such file, or it is too long
+abbrev pub IsUnread : Status → Type 0
+IsUnread Memory = Unit {0}
+IsUnread ReadFault = Unit {0}
+IsUnread TooLong = Unit {0}
+IsUnread s = ⊥
 
--- what became of the error output: the line of the answer, or where a fault was counted the first bytes of it
-abbrev pub ErrOf : Call → Status → Word → Option Refusal → Type 0
-ErrOf c s file r =
-    Grows c.err_before c.err_after (error_line s file r)
-    ⊎ (Rose c.err_faults_before c.err_faults_after × GrowsInPart c.err_before c.err_after (error_line s file r))
+-- where its text has an offence
+abbrev pub IsUnwritten : Status → Type 0
+IsUnwritten Refused = Unit {0}
+IsUnwritten s = IsUnread s
+
+-- where nothing is in the way
+abbrev pub IsDone : Status → Type 0
+IsDone Fine = Unit {0}
+IsDone Memory = Unit {0}
+IsDone s = ⊥
+
+-- ---- outputs
+
+-- on these the output is as it was
+abbrev pub LeavesOut : Status → Type 0
+LeavesOut Fine = ⊥
+LeavesOut WriteFault = ⊥
+LeavesOut s = Unit {0}
+
+-- the output went on by what is written for the text x
+abbrev pub Writes : Option (List ℕ) → Option (List ℕ) → List ℕ → Type 0
+Writes old new x = (w : List ℕ) × Grows old new w × Written x w
+
+-- by the first bytes of it, and not by all
+abbrev pub WritesInPart : Option (List ℕ) → Option (List ℕ) → List ℕ → Type 0
+WritesInPart old new x = (w : List ℕ) × GrowsInPart old new w × Written x w
+
+-- the promise: the output went on by a text that translates the algorithm in the text of the file
+abbrev pub Keeps : Bool → Option Texts → Word → Option (List ℕ) → Option (List ℕ) → Type 0
+Keeps forced texts file old new = Tells texts file (λ x. (w : List ℕ) × Grows old new w × Headline forced x w)
+
+-- a sink went on by these bytes; where it counted a fault, maybe by the first of them alone
+abbrev pub Told : Option (List ℕ) → Option (List ℕ) → ℕ → ℕ → List ℕ → Type 0
+Told old new before after bytes = Grows old new bytes ⊎ (Rose before after × GrowsInPart old new bytes)

@@ -2,19 +2,27 @@
 use Rattle.std.specs.Prelude.{ℕ, ◌-◌, List, ◌++◌, length, take, codes}
 use Rattle.std.specs.Fmt.{decimal}
 use Rattle.tla_expr.specs.Tree.{Word}
-use Rattle.pcal_cli.specs.declared.form.Operand.{Operand}
+use Rattle.first_path.specs.Form.{Operand, number_operand, variable_operand, Right, single, sum, Parts, last_line}
+use Rattle.pcal_cli.specs.declared.form.Operand as code_operand
 use Rattle.pcal_cli.specs.declared.form.Operand.TheVariants.{Number, Variable}
-use Rattle.pcal_cli.specs.declared.form.Right.{Right}
+use Rattle.pcal_cli.specs.declared.form.Right as code_right
 use Rattle.pcal_cli.specs.declared.form.Right.TheVariants.{One, Sum}
 use Rattle.pcal_cli.specs.declared.form.Form.{Form}
 use Rattle.pcal_cli.specs.declared.region.Fixed.{Fixed}
 use Rattle.pcal_cli.specs.declared.region.Fixed.TheVariants as fixed
 use Rattle.module_text.specs.Around.{begin_line, end_line}
-use Rattle.pcal_cli.specs.Form.{Parts, last_line}
 
 -- the parts that the code has read
+abbrev pub operand_of : code_operand.Operand → Operand
+operand_of (Number n) = number_operand n
+operand_of Variable = variable_operand
+
+abbrev pub right_of : code_right.Right → Right
+right_of (One a) = single (operand_of a)
+right_of (Sum a b) = sum (operand_of a) (operand_of b)
+
 abbrev pub parts_of : Form → Parts
-parts_of f = record { title = f.title.now; algorithm = f.algorithm.now; variable = f.variable.now; initial = f.initial; label = f.label.now; right = f.right }
+parts_of f = record { title = f.title.now; algorithm = f.algorithm.now; variable = f.variable.now; initial = f.initial; label = f.label.now; right = right_of f.right }
 
 -- the texts that are the same in each translation; opaque, so that no goal is full of codes
 unfoldable pub fixed_text : Fixed → List ℕ
@@ -36,12 +44,12 @@ fixed_text fixed.Ending = codes "Terminating ==\n  /\\ (pc = \"Done\")\n  /\\ UN
 fixed_text fixed.NextEnd = codes "\n  \\/ Terminating\n\nSpec ==\n  /\\ Init\n  /\\ [][Next]_vars\n\nTermination == <>(pc = \"Done\")\n"
 
 abbrev pub operand_text : Word → Operand → List ℕ
-operand_text v (Number n) = decimal n
-operand_text v Variable = v
+operand_text v (number_operand n) = decimal n
+operand_text v variable_operand = v
 
 abbrev pub right_text : Word → Right → List ℕ
-right_text v (One a) = operand_text v a
-right_text v (Sum a b) = fixed_text fixed.Open ++ operand_text v a ++ fixed_text fixed.Plus ++ operand_text v b ++ fixed_text fixed.Close
+right_text v (single a) = operand_text v a
+right_text v (sum a b) = fixed_text fixed.Open ++ operand_text v a ++ fixed_text fixed.Plus ++ operand_text v b ++ fixed_text fixed.Close
 
 unfoldable pub variables_text : Parts → List ℕ
 variables_text f = fixed_text fixed.Variables ++ f.variable ++ fixed_text fixed.Vars ++ f.variable ++ fixed_text fixed.VarsEnd

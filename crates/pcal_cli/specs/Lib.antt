@@ -1,10 +1,5 @@
 pub mod Words
 pub mod Answers
 pub mod Causes
-pub mod Translates
-pub mod Headline
-pub mod Form
 pub mod FirstPathBytes
-pub mod FirstPath
-pub mod FirstPathNames
-pub mod FormRead
+pub mod FirstPathScan

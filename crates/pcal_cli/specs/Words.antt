@@ -1,5 +1,6 @@
 -- What the words of a command line mean.
-use Rattle.std.specs.Prelude.{List, [], ◌∷◌, Bool, false, not, nat_eq, ◌&&◌, Option, Some, None, codes, if◌then◌else◌}
+use Rattle.std.specs.Prelude.{List, [], ◌∷◌, Bool, false, not, nat_eq, ◌&&◌, Option, Some, None, codes, if◌then◌else◌, String, string_bytes, map}
+use Rattle.std.specs.declared.alloc.Global.{Global}
 use Rattle.std.specs.Str.{bytes_eq}
 use Rattle.tla_expr.specs.Tree.{Word}
 
@@ -15,3 +16,18 @@ begins_dashed (b ∷ rest) = nat_eq b 45
 abbrev pub command_of : List Word → Option Command
 command_of (program ∷ verb ∷ file ∷ []) = if bytes_eq verb (codes "translate") && not (begins_dashed file) then Some (translate file) else None
 command_of _ = None
+
+abbrev pub words_of : List (String Global) → List Word
+words_of ws = map string_bytes ws
+
+-- the file that a command is of
+abbrev pub file_meant : Option Command → Word
+file_meant None = []
+file_meant (Some (translate file)) = file
+
+-- those of the words of a command line
+abbrev pub command_in : List (String Global) → Option Command
+command_in ws = command_of (words_of ws)
+
+abbrev pub file_in : List (String Global) → Word
+file_in ws = file_meant (command_in ws)

@@ -1,5 +1,9 @@
 //! Words that are no names of the user's: reserved, own and standard ones.
 
+ghost use Rattle.std.specs.Prelude.{◌≡◌, map, []};
+ghost use Rattle.tla_token.specs.Signs.{is_among as is_among_of};
+ghost use Rattle.tla_token.specs.Words.{is_reserved as is_reserved_of, is_own as is_own_of, is_standard as is_standard_of};
+
 /// The reserved words of PlusCal.
 static PLUSCAL_WORDS: [&str; 27] = [
     "algorithm",
@@ -99,7 +103,10 @@ static STANDARD_NAMES: [&str; 12] = [
     "Assert",
 ];
 
-fn is_among(words: &[&str], word: &[u8]) -> bool {
+/// Whether a word is one of some.
+fn is_among(words: &[&str], word: &[u8]) -> bool
+    ensures { result ≡ is_among_of (map (λ w. w.now) words.now) word.now }
+{
     for other in words {
         if other.as_bytes() == word {
             return true;
@@ -109,7 +116,9 @@ fn is_among(words: &[&str], word: &[u8]) -> bool {
 }
 
 /// Whether a word is reserved, in PlusCal or in TLA+.
-pub fn is_reserved(word: &[u8]) -> bool {
+pub fn is_reserved(word: &[u8]) -> bool
+    ensures { result ≡ is_reserved_of word.now }
+{
     is_among(&PLUSCAL_WORDS, word)
         || is_among(&TLA_WORDS, word)
         || word.starts_with(b"WF_")
@@ -117,11 +126,15 @@ pub fn is_reserved(word: &[u8]) -> bool {
 }
 
 /// Whether the translation defines a name itself.
-pub fn is_own(word: &[u8]) -> bool {
+pub fn is_own(word: &[u8]) -> bool
+    ensures { result ≡ is_own_of word.now }
+{
     is_among(&OWN_NAMES, word)
 }
 
-/// Whether a name is of a standard module.
-pub fn is_standard(word: &[u8]) -> bool {
+/// Whether a name is of a standard module, in a module that extends neither Sequences nor TLC.
+pub fn is_standard(word: &[u8]) -> bool
+    ensures { result ≡ is_standard_of [] word.now }
+{
     is_among(&STANDARD_NAMES, word)
 }

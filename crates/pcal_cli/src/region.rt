@@ -1,12 +1,12 @@
 //! The translation of a text of the form, as it is written.
 
 ghost use Rattle.std.specs.Prelude.{◌≡◌, ◌++◌, OnOk, decimal};
-ghost use Rattle.pcal_cli.specs.FirstPathBytes.{parts_of, fixed_text, operand_text, right_text, variables_text, init_text, step_text, ending_text, region_text};
+ghost use Rattle.pcal_cli.specs.FirstPathBytes.{parts_of, operand_of, right_of, fixed_text, operand_text, right_text, variables_text, init_text, step_text, ending_text, region_text};
 
 use crate::form::{Form, Operand, Right};
 use std::alloc::{AllocError, Global};
 
-/// The texts that are the same in each translation.
+/// The texts that are the same in each translation. They are named, so that no contract is full of their bytes.
 #[derive(Clone, Copy, PartialEq, Eq, Debug)]
 enum Fixed {
     Variables,
@@ -27,6 +27,7 @@ enum Fixed {
     NextEnd,
 }
 
+/// The bytes of such a text.
 #[tactic(auto, unfolding(crate::specs::FirstPathBytes::fixed_text))]
 fn bytes_of(which: Fixed) -> &'static [u8]
     ensures { result.now ≡ fixed_text which }
@@ -53,6 +54,7 @@ fn bytes_of(which: Fixed) -> &'static [u8]
     }
 }
 
+/// Writes a number in decimal.
 fn write_number(alloc: Global, number: u128, out: &mut Vec<u8>) -> Result<(), AllocError>
     ensures { OnOk result (out.new.items ≡ out.old.items ++ decimal number) }
 {
@@ -60,13 +62,14 @@ fn write_number(alloc: Global, number: u128, out: &mut Vec<u8>) -> Result<(), Al
     out.extend_from_slice(digits.as_bytes())
 }
 
+/// Writes an operand, the variable by its name.
 fn write_operand(
     alloc: Global,
     operand: Operand,
     variable: &[u8],
     out: &mut Vec<u8>,
 ) -> Result<(), AllocError>
-    ensures { OnOk result (out.new.items ≡ out.old.items ++ operand_text variable.now operand) }
+    ensures { OnOk result (out.new.items ≡ out.old.items ++ operand_text variable.now (operand_of operand)) }
 {
     match operand {
         Operand::Number(number) => write_number(alloc, number, out),
@@ -74,13 +77,14 @@ fn write_operand(
     }
 }
 
+/// Writes the right side of the assignment, a sum in brackets.
 fn write_right(
     alloc: Global,
     right: Right,
     variable: &[u8],
     out: &mut Vec<u8>,
 ) -> Result<(), AllocError>
-    ensures { OnOk result (out.new.items ≡ out.old.items ++ right_text variable.now right) }
+    ensures { OnOk result (out.new.items ≡ out.old.items ++ right_text variable.now (right_of right)) }
 {
     match right {
         Right::One(operand) => write_operand(alloc, operand, variable, out),
@@ -94,6 +98,7 @@ fn write_right(
     }
 }
 
+/// Writes the variables, and their tuple.
 #[tactic(auto, unfolding(crate::specs::FirstPathBytes::variables_text))]
 fn write_variables(form: &Form<'_>, out: &mut Vec<u8>) -> Result<(), AllocError>
     ensures { OnOk result (out.new.items ≡ out.old.items ++ variables_text (parts_of form.now)) }
@@ -105,6 +110,7 @@ fn write_variables(form: &Form<'_>, out: &mut Vec<u8>) -> Result<(), AllocError>
     out.extend_from_slice(bytes_of(Fixed::VarsEnd))
 }
 
+/// Writes the initial predicate.
 #[tactic(auto, unfolding(crate::specs::FirstPathBytes::init_text))]
 fn write_init(alloc: Global, form: &Form<'_>, out: &mut Vec<u8>) -> Result<(), AllocError>
     ensures { OnOk result (out.new.items ≡ out.old.items ++ init_text (parts_of form.now)) }
@@ -118,6 +124,7 @@ fn write_init(alloc: Global, form: &Form<'_>, out: &mut Vec<u8>) -> Result<(), A
     out.extend_from_slice(bytes_of(Fixed::InitEnd))
 }
 
+/// Writes the action of the label.
 #[tactic(auto, unfolding(crate::specs::FirstPathBytes::step_text))]
 fn write_action(alloc: Global, form: &Form<'_>, out: &mut Vec<u8>) -> Result<(), AllocError>
     ensures { OnOk result (out.new.items ≡ out.old.items ++ step_text (parts_of form.now)) }
@@ -132,6 +139,7 @@ fn write_action(alloc: Global, form: &Form<'_>, out: &mut Vec<u8>) -> Result<(),
     out.extend_from_slice(bytes_of(Fixed::ActionEnd))
 }
 
+/// Writes all that stands behind the action.
 #[tactic(auto, unfolding(crate::specs::FirstPathBytes::ending_text))]
 fn write_ending(form: &Form<'_>, out: &mut Vec<u8>) -> Result<(), AllocError>
     ensures { OnOk result (out.new.items ≡ out.old.items ++ ending_text (parts_of form.now)) }

@@ -1,12 +1,12 @@
 //! The top call: from the words of a command line to an answer.
 
-ghost use Rattle.std.specs.Prelude.{◌≡◌, ◌⊎◌, ◌<◌, ◌++◌, length, IfOk, OnOk, OnErr, Some, None, MatchOption, true};
+ghost use Rattle.std.specs.Prelude.{◌≡◌, ◌⊎◌, ◌<◌, ◌≤◌, ◌++◌, [], false, length, IfOk, OnOk, OnErr, Some, None, MatchOption};
 ghost use Rattle.outer_io.specs.Outer.{Rose, RoseAbove, Lacks, Tells, Grows, GrowsInPart};
-ghost use Rattle.pcal_cli.specs.Words.{translate as translate_of, command_of};
-ghost use Rattle.pcal_cli.specs.Causes.{most_bytes};
-ghost use Rattle.pcal_cli.specs.Form.{is_name, translation_of};
-ghost use Rattle.pcal_cli.specs.FirstPathBytes.{parts_of};
-ghost use Rattle.pcal_cli.specs.FirstPath.{words_of, LeavesOut, Writes, WritesInPart, IsAnswer, line_of, Told, file_meant};
+ghost use Rattle.first_path.specs.FormRead.{form_of, form_offences, FirstOffence, left_out};
+ghost use Rattle.pcal_cli.specs.Words.{translate as translate_of, command_in, file_in};
+ghost use Rattle.pcal_cli.specs.Answers.{line_of};
+ghost use Rattle.pcal_cli.specs.Causes.{most_bytes, OfFile, IsAnswer, IsUnread, IsUnwritten, IsDone, LeavesOut, Writes, WritesInPart, Keeps, Told};
+ghost use Rattle.pcal_cli.specs.FirstPathBytes.{parts_of, written_text};
 
 use crate::form::{Form, read_form};
 use crate::region::write_region;
@@ -22,10 +22,8 @@ const MOST_BYTES: u64 = 1_048_576;
 const LAST_LINE: &[u8] = b"====\n";
 
 /// The text with its translation before the last line.
-#[tactic(auto, using(crate::proofs::FirstPath::written_is))]
 fn with_translation(alloc: Global, text: &[u8], form: &Form<'_>) -> Result<Vec<u8>, AllocError>
-    requires { is_name form.now.label.now ≡ true }
-    ensures { IfOk result (λ v. v.items ≡ translation_of text.now (parts_of form.now)) }
+    ensures { IfOk result (λ v. v.items ≡ written_text text.now (parts_of form.now)) }
 {
     let mut out = Vec::new(alloc);
     out.extend_from_slice(&text[..text.len().saturating_sub(LAST_LINE.len())])?;
@@ -44,9 +42,25 @@ fn translate<H: Shelf, K: Sink>(alloc: Global, file: &str, shelf: &mut H, out: &
     ensures write_fault { result ≡ Status.WriteFault → Rose (K.faults out.old) (K.faults out.new) }
     ensures too_long { result ≡ Status.TooLong → RoseAbove most_bytes (H.given shelf.old) (H.given shelf.new) }
     ensures longer { result ≡ Status.TooLong → Tells (H.texts shelf.old) file.now (λ x. most_bytes < length x) }
+    ensures refused { result ≡ Status.Refused → Tells (H.texts shelf.old) file.now (λ x. FirstOffence x left_out) }
+
+    // What is answered where the file isn't there, is too long, or has an offence, and where nothing is in the way.
+    ensures lacking { Lacks (H.texts shelf.old) file.now → IsUnread result }
+    ensures long { Tells (H.texts shelf.old) file.now (λ x. most_bytes < length x → IsUnread result) }
+    ensures offends { Tells (H.texts shelf.old) file.now (λ x. FirstOffence x left_out → IsUnwritten result) }
+    ensures complete { Tells (H.texts shelf.old) file.now (λ x. length x ≤ most_bytes → form_offences x ≡ []
+        → (Rose (H.faults shelf.old) (H.faults shelf.new) → ⊥) → (Rose (K.faults out.old) (K.faults out.new) → ⊥) → IsDone result) }
+
     ensures stays { LeavesOut result → K.wrote out.new ≡ K.wrote out.old }
     ensures fine { result ≡ Status.Fine → Tells (H.texts shelf.old) file.now (Writes (K.wrote out.old) (K.wrote out.new)) }
+    ensures headline { result ≡ Status.Fine → Keeps false (H.texts shelf.old) file.now (K.wrote out.old) (K.wrote out.new) }
     ensures in_part { result ≡ Status.WriteFault → Tells (H.texts shelf.old) file.now (WritesInPart (K.wrote out.old) (K.wrote out.new)) }
+
+    // What a call leaves as it was, and how the counts rise.
+    ensures texts_stay { H.texts shelf.new ≡ H.texts shelf.old }
+    ensures given_grows { H.given shelf.old ≤ H.given shelf.new }
+    ensures read_faults_grow { H.faults shelf.old ≤ H.faults shelf.new }
+    ensures write_faults_grow { K.faults out.old ≤ K.faults out.new }
 {
     let text = match load(alloc, shelf, file, MOST_BYTES) {
         Ok(text) => text,
@@ -71,6 +85,7 @@ fn put_three<E: Sink>(err: &mut E, first: &[u8], second: &[u8], third: &[u8]) ->
     ensures ok { OnOk result (Grows (E.wrote err.old) (E.wrote err.new) (first.now ++ (second.now ++ third.now))) }
     ensures err { OnErr result (GrowsInPart (E.wrote err.old) (E.wrote err.new) (first.now ++ (second.now ++ third.now))) }
     ensures cause { OnErr result (Rose (E.faults err.old) (E.faults err.new)) }
+    ensures faults_grow { E.faults err.old ≤ E.faults err.new }
 {
     put_all(err, first)?;
     put_all(err, second)?;
@@ -78,11 +93,12 @@ fn put_three<E: Sink>(err: &mut E, first: &[u8], second: &[u8], third: &[u8]) ->
     Ok(())
 }
 
-/// Writes the line that an answer has on the error output.
+/// Writes the line that an answer has on the error output. It takes no memory, so the one refusal stands here as it is printed.
 fn tell<E: Sink>(err: &mut E, status: Status, file: &[u8]) -> Result<(), Failed>
     ensures ok { OnOk result (Grows (E.wrote err.old) (E.wrote err.new) (line_of status file.now)) }
     ensures err { OnErr result (GrowsInPart (E.wrote err.old) (E.wrote err.new) (line_of status file.now)) }
     ensures cause { OnErr result (Rose (E.faults err.old) (E.faults err.new)) }
+    ensures faults_grow { E.faults err.old ≤ E.faults err.new }
 {
     match status {
         Status::Memory => put_all(err, b"pcal: out of memory\n"),
@@ -91,13 +107,14 @@ fn tell<E: Sink>(err: &mut E, status: Status, file: &[u8]) -> Result<(), Failed>
         Status::WriteFault => put_all(err, b"pcal: cannot write\n"),
         Status::Refused => put_three(err, b"pcal: ", file, b":1:1: 11 LeftOutWord\n"),
         Status::TooLong => put_three(err, b"pcal: ", file, b" is too long\n"),
-        _ => put_all(err, b""),
+        Status::Fine | Status::ScriptStep | Status::NotAStep | Status::Faulted | Status::Limit =>
+            put_all(err, b""),
     }
 }
 
 /// The file of `translate FILE`, where the words, the program's name first, are such a command.
 fn file_of(words: &[String]) -> Option<&str>
-    ensures { MatchOption result (command_of (words_of words.now) ≡ None) (λ file. command_of (words_of words.now) ≡ Some (translate_of file.now)) }
+    ensures { MatchOption result (command_in words.now ≡ None) (λ file. command_in words.now ≡ Some (translate_of file.now)) }
 {
     match words {
         [_, verb, file] if verb.as_str() == "translate" && !file.as_bytes().starts_with(b"-") =>
@@ -115,16 +132,35 @@ pub fn pcal<H: Shelf, K: Sink, E: Sink>(
     err: &mut E,
 ) -> Status
     ensures answer { IsAnswer result ⊎ (result ≡ Status.Usage) }
-    ensures usage { result ≡ Status.Usage → command_of (words_of words.now) ≡ None }
-    ensures no_command { command_of (words_of words.now) ≡ None → result ≡ Status.Usage }
-    ensures read_fault { result ≡ Status.ReadFault → Rose (H.faults shelf.old) (H.faults shelf.new) ⊎ Lacks (H.texts shelf.old) (file_meant (command_of (words_of words.now))) }
+    ensures usage { result ≡ Status.Usage → command_in words.now ≡ None }
+    ensures no_command { command_in words.now ≡ None → result ≡ Status.Usage }
+    ensures read_fault { result ≡ Status.ReadFault → Rose (H.faults shelf.old) (H.faults shelf.new) ⊎ Lacks (H.texts shelf.old) (file_in words.now) }
     ensures write_fault { result ≡ Status.WriteFault → Rose (K.faults out.old) (K.faults out.new) }
     ensures too_long { result ≡ Status.TooLong → RoseAbove most_bytes (H.given shelf.old) (H.given shelf.new) }
-    ensures longer { result ≡ Status.TooLong → Tells (H.texts shelf.old) (file_meant (command_of (words_of words.now))) (λ x. most_bytes < length x) }
+    ensures longer { result ≡ Status.TooLong → Tells (H.texts shelf.old) (file_in words.now) (λ x. most_bytes < length x) }
+    ensures refused { result ≡ Status.Refused → Tells (H.texts shelf.old) (file_in words.now) (λ x. FirstOffence x left_out) }
+
+    // What a command is answered whose file isn't there, is too long, or has an offence, and one where nothing is in the way.
+    ensures lacking { OfFile (command_in words.now) (λ file. Lacks (H.texts shelf.old) file → IsUnread result) }
+    ensures long { OfFile (command_in words.now) (λ file. Tells (H.texts shelf.old) file (λ x. most_bytes < length x → IsUnread result)) }
+    ensures offends { OfFile (command_in words.now) (λ file. Tells (H.texts shelf.old) file (λ x. FirstOffence x left_out → IsUnwritten result)) }
+    ensures complete { OfFile (command_in words.now) (λ file. Tells (H.texts shelf.old) file (λ x. length x ≤ most_bytes → form_offences x ≡ []
+        → (Rose (H.faults shelf.old) (H.faults shelf.new) → ⊥) → (Rose (K.faults out.old) (K.faults out.new) → ⊥) → IsDone result)) }
+
+    // What became of the outputs.
     ensures stays { LeavesOut result → K.wrote out.new ≡ K.wrote out.old }
-    ensures fine { result ≡ Status.Fine → Tells (H.texts shelf.old) (file_meant (command_of (words_of words.now))) (Writes (K.wrote out.old) (K.wrote out.new)) }
-    ensures in_part { result ≡ Status.WriteFault → Tells (H.texts shelf.old) (file_meant (command_of (words_of words.now))) (WritesInPart (K.wrote out.old) (K.wrote out.new)) }
-    ensures told { Told (E.wrote err.old) (E.wrote err.new) (E.faults err.old) (E.faults err.new) (line_of result (file_meant (command_of (words_of words.now)))) }
+    // The promise is a part of what is written; it is said once more by itself.
+    ensures fine { result ≡ Status.Fine → Tells (H.texts shelf.old) (file_in words.now) (Writes (K.wrote out.old) (K.wrote out.new)) }
+    ensures headline { result ≡ Status.Fine → Keeps false (H.texts shelf.old) (file_in words.now) (K.wrote out.old) (K.wrote out.new) }
+    ensures in_part { result ≡ Status.WriteFault → Tells (H.texts shelf.old) (file_in words.now) (WritesInPart (K.wrote out.old) (K.wrote out.new)) }
+    ensures told { Told (E.wrote err.old) (E.wrote err.new) (E.faults err.old) (E.faults err.new) (line_of result (file_in words.now)) }
+
+    // What a call leaves as it was, and how the counts rise.
+    ensures texts_stay { H.texts shelf.new ≡ H.texts shelf.old }
+    ensures given_grows { H.given shelf.old ≤ H.given shelf.new }
+    ensures read_faults_grow { H.faults shelf.old ≤ H.faults shelf.new }
+    ensures write_faults_grow { K.faults out.old ≤ K.faults out.new }
+    ensures error_faults_grow { E.faults err.old ≤ E.faults err.new }
 {
     let (status, file) = match file_of(words) {
         Some(file) => (translate(alloc, file, shelf, out), file),
@@ -140,32 +176,98 @@ mod tests {
     use outer_io::{MemShelf, MemSink};
     use std::test::Fail;
 
-    const REFUSED: &str = "pcal: M.tla:1:1: 11 LeftOutWord\n";
+    const WORDS: &str = "translate M.tla";
 
     const USAGE: &str = "pcal: usage\n";
 
-    /// The file with these lines of an algorithm.
-    fn file_with(alloc: Global, title: &str, algorithm: &str) -> Result<String, AllocError> {
-        format!(in alloc; "---- MODULE {title} ----\nEXTENDS Integers\n(*\n{algorithm}*)\n====\n")
+    const UNREAD: &str = "pcal: cannot read M.tla\n";
+
+    const LACKING: &str = "pcal: cannot read N.tla\n";
+
+    const UNWRITTEN: &str = "pcal: cannot write\n";
+
+    const TOO_LONG: &str = "pcal: M.tla is too long\n";
+
+    const REFUSED: &str = "pcal: M.tla:1:1: 11 LeftOutWord\n";
+
+    /// A text of the form: before its last two lines, and these.
+    const FRONT: &str =
+        "---- MODULE M ----\nEXTENDS Integers\n(*\n--algorithm Inc\nvariables x = 0;\nbegin\n  A: x := x + 1;\nend algorithm\n";
+
+    const BACK: &str = "*)\n====\n";
+
+    /// Module, algorithm, declaration and statement; then the variable, its initial value, the label and the right side
+    /// that are written.
+    const OF_THE_FORM: [&str; 7] = [
+        "M|Inc|variables x = 0;|A: x := x + 1;|x|0|A|(x + 1)",
+        "Two_2|A1|variable count = 007 ;|Step:count:=count+count;|count|7|Step|(count + count)",
+        "M|Inc|variables x = 0;|A: x := 7;|x|0|A|7",
+        "M|Inc|variables x = 0;|A: x := x;|x|0|A|x",
+        "M|Inc|variables x = 0;|A: x := 3 + x;|x|0|A|(3 + x)",
+        "M|Inc|variables x = 0;|A: x := 170141183460469231731687303715884105727;|x|0|A|170141183460469231731687303715884105727",
+        "M|x|variables 1x = 12;|A_1 : 1x\n:= 1x + 1 ;\n\n|1x|12|A_1|(1x + 1)",
+    ];
+
+    /// Module, algorithm, declaration and statement.
+    const OF_NO_FORM: [&str; 28] = [
+        "M|Inc|variables x = 0;|A: skip;",
+        "M|Inc|variables x = 0;|A: x := 170141183460469231731687303715884105728;",
+        "M|Inc|variables x = 170141183460469231731687303715884105728;|A: x := 0;",
+        "M|Inc|variables x = 0;|A: x := y;",
+        "M|Inc|variables x = 0;|A: x := x + 1 + x;",
+        "M|Inc|variables x = 0;|A: x := x + 1",
+        "M|Inc|variables x = 0;|A: y := 1;",
+        "M|Inc|variables x = 0;|A: x := 1; (* a comment *)",
+        "M|Inc|variables x == 0;|A: x := 1;",
+        "M|Inc|variables x => 0;|A: x := 1;",
+        "M|Inc|variables x = 0;|Done: x := 1;",
+        "M|Inc|variables x = 0;|Error: x := 1;",
+        "M|Inc|variables x = 0;|x: x := 1;",
+        "M|Inc|variables x = 0;|while: x := 1;",
+        "M|Inc|variables x = 0;|Init: x := 1;",
+        "M|Inc|variables x = 0;|Len: x := 1;",
+        "M|Inc|variables while = 0;|A: while := 1;",
+        "M|Inc|variables WF_x = 0;|A: WF_x := 1;",
+        "M|Inc|variables LET = 0;|A: LET := 1;",
+        "M|Inc|variables pc = 0;|A: pc := 1;",
+        "M|Inc|variables Nat = 0;|A: Nat := 1;",
+        "M|while|variables x = 0;|A: x := 1;",
+        "M|CASE|variables x = 0;|A: x := 1;",
+        "M|Next|variables x = 0;|A: x := 1;",
+        "M|Append|variables x = 0;|A: x := 1;",
+        "MODULE|Inc|variables x = 0;|A: x := 1;",
+        "SF_M|Inc|variables x = 0;|A: x := 1;",
+        "12|Inc|variables x = 0;|A: x := 1;",
+    ];
+
+    /// The cells of a row; those that it lacks are empty.
+    fn cells(row: &str) -> [&str; 8] {
+        let mut texts = row.split('|');
+        [
+            texts.next().unwrap_or(""),
+            texts.next().unwrap_or(""),
+            texts.next().unwrap_or(""),
+            texts.next().unwrap_or(""),
+            texts.next().unwrap_or(""),
+            texts.next().unwrap_or(""),
+            texts.next().unwrap_or(""),
+            texts.next().unwrap_or(""),
+        ]
     }
 
-    /// The algorithm with these parts.
-    fn algorithm_with(
-        alloc: Global,
-        declaration: &str,
-        statement: &str,
-    ) -> Result<String, AllocError> {
-        format!(in alloc; "--algorithm Inc\n{declaration}\nbegin\n  {statement}\nend algorithm\n")
+    /// The file that the first four cells of a row tell.
+    fn file_of_row(alloc: Global, row: [&str; 8]) -> Result<String, AllocError> {
+        let [title, name, declaration, statement, ..] = row;
+        let front = format!(in alloc; "---- MODULE {title} ----\nEXTENDS Integers\n(*\n")?;
+        let algorithm = format!(in alloc;
+            "--algorithm {name}\n{declaration}\nbegin\n  {statement}\nend algorithm\n"
+        )?;
+        format!(in alloc; "{front}{algorithm}{BACK}")
     }
 
-    /// What the translation of the variable `x` from 0, with the label `A` and this right side, is to be.
-    fn region_with(
-        alloc: Global,
-        variable: &str,
-        initial: &str,
-        label: &str,
-        right: &str,
-    ) -> Result<String, AllocError> {
+    /// The translation that the last four cells of a row tell.
+    fn region_of_row(alloc: Global, row: [&str; 8]) -> Result<String, AllocError> {
+        let [.., variable, initial, label, right] = row;
         let first = format!(in alloc;
             "\\* BEGIN TRANSLATION\nVARIABLES {variable}, pc\n\nvars == <<{variable}, pc>>\n\nInit ==\n  /\\ {variable} = {initial}\n  /\\ pc = \"{label}\"\n\n"
         )?;
@@ -178,7 +280,7 @@ mod tests {
         format!(in alloc; "{first}{second}{third}  \\/ {label}\n{last}")
     }
 
-    fn words_of(alloc: Global, command: &str) -> Result<Vec<String>, AllocError> {
+    fn words_in(alloc: Global, command: &str) -> Result<Vec<String>, AllocError> {
         let mut list = Vec::new(alloc);
         list.push(String::from_str(alloc, "pcal")?)?;
         for word in command.split_whitespace() {
@@ -197,9 +299,9 @@ mod tests {
         let name = String::from_str(alloc, "M.tla")?;
         let texts = vec![in alloc; (name, text.as_bytes().to_vec(alloc)?)]?;
         let mut shelf = MemShelf::new(texts, vec![in alloc; fails[0]]?, 4096);
-        let mut out = MemSink::new(alloc, 10_000, vec![in alloc; fails[1]]?, 100)?;
+        let mut out = MemSink::new(alloc, 2_000_000, vec![in alloc; fails[1]]?, 100)?;
         let mut err = MemSink::new(alloc, 10_000, vec![in alloc; fails[2]]?, 100)?;
-        let list = words_of(alloc, command)?;
+        let list = words_in(alloc, command)?;
         let status = pcal(alloc, &list, &mut shelf, &mut out, &mut err);
         Ok((
             status,
@@ -208,188 +310,117 @@ mod tests {
         ))
     }
 
-    /// Each row: the module, the declaration, the statement; and the variable, the initial value, the label and the right side written.
     #[test]
     fn texts_of_the_form_are_translated(rt: HostRuntime) -> Result<(), Fail> {
         let alloc = rt.alloc();
-        let most = "170141183460469231731687303715884105727";
-        let most_set = "A: x := 170141183460469231731687303715884105727;";
-        let rows = [
-            (
-                "M",
-                "variables x = 0;",
-                "A: x := x + 1;",
-                "x",
-                "0",
-                "A",
-                "(x + 1)",
-            ),
-            (
-                "Two_2",
-                "variable count = 007 ;",
-                "Step:count:=count+count;",
-                "count",
-                "7",
-                "Step",
-                "(count + count)",
-            ),
-            ("M", "variables x = 0;", "A: x := 7;", "x", "0", "A", "7"),
-            ("M", "variables x = 0;", "A: x := x;", "x", "0", "A", "x"),
-            (
-                "M",
-                "variables x = 0;",
-                "A: x := 3 + x;",
-                "x",
-                "0",
-                "A",
-                "(3 + x)",
-            ),
-            ("M", "variables x = 0;", most_set, "x", "0", "A", most),
-            (
-                "M",
-                "variables 1x = 12;",
-                "A_1 : 1x\n:= 1x + 1 ;\n\n",
-                "1x",
-                "12",
-                "A_1",
-                "(1x + 1)",
-            ),
-        ];
-        for (title, declaration, statement, variable, initial, label, right) in rows {
-            let algorithm = algorithm_with(alloc, declaration, statement)?;
-            let text = file_with(alloc, title, algorithm.as_str())?;
-            let region = region_with(alloc, variable, initial, label, right)?;
+        for row in OF_THE_FORM {
+            let text = file_of_row(alloc, cells(row))?;
+            let region = region_of_row(alloc, cells(row))?;
             let front = text.as_str().strip_suffix("====\n").ok_or("a last line")?;
             let expected = format!(in alloc; "{front}{region}====\n")?;
-            let (status, out, err) = answer(alloc, "translate M.tla", text.as_str(), [0, 0, 0])?;
-            assert_eq!(rt; status, Status::Fine, "{statement}");
-            assert_eq!(rt; out.as_slice(), expected.as_bytes(), "{statement}");
-            assert!(rt; err.is_empty());
+            let (status, out, err) = answer(alloc, WORDS, text.as_str(), [0, 0, 0])?;
+            assert_eq!(rt; status, Status::Fine, "{row}");
+            assert_eq!(rt; out.as_slice(), expected.as_bytes(), "{row}");
+            assert!(rt; err.is_empty(), "{row}");
         }
         Ok(())
     }
 
-    /// Each row: the module, the declaration and the statement.
     #[test]
     fn other_texts_are_refused(rt: HostRuntime) -> Result<(), Fail> {
         let alloc = rt.alloc();
-        let rows = [
-            ("M", "variables x = 0;", "A: skip;"),
-            (
-                "M",
-                "variables x = 0;",
-                "A: x := 170141183460469231731687303715884105728;",
-            ),
-            ("M", "variables x = 0;", "A: x := y;"),
-            ("M", "variables x = 0;", "A: x := x + 1 + x;"),
-            ("M", "variables x = 0;", "A: x := x + 1"),
-            ("M", "variables x = 0;", "A: y := 1;"),
-            ("M", "variables x = 0;", "A: x := 1; (* a comment *)"),
-            ("M", "variables x = 0;", "Done: x := 1;"),
-            ("M", "variables x = 0;", "x: x := 1;"),
-            ("M", "variables x = 0;", "Init: x := 1;"),
-            ("M", "variables x = 0;", "Len: x := 1;"),
-            ("M", "variables x == 0;", "A: x := 1;"),
-            ("M", "variables x => 0;", "A: x := 1;"),
-            ("M", "variables pc = 0;", "A: pc := 1;"),
-            ("M", "variables WF_x = 0;", "A: WF_x := 1;"),
-            ("M", "variables while = 0;", "A: while := 1;"),
-            ("MODULE", "variables x = 0;", "A: x := 1;"),
-            ("12", "variables x = 0;", "A: x := 1;"),
-        ];
-        let line = b"pcal: M.tla:1:1: 11 LeftOutWord\n";
-        for (title, declaration, statement) in rows {
-            let algorithm = algorithm_with(alloc, declaration, statement)?;
-            let text = file_with(alloc, title, algorithm.as_str())?;
-            let (status, out, err) = answer(alloc, "translate M.tla", text.as_str(), [0, 0, 0])?;
-            assert_eq!(rt; status, Status::Refused, "{statement}");
-            assert!(rt; out.is_empty());
-            assert_eq!(rt; err.as_slice(), line.as_slice());
+        for row in OF_NO_FORM {
+            let text = file_of_row(alloc, cells(row))?;
+            let (status, out, err) = answer(alloc, WORDS, text.as_str(), [0, 0, 0])?;
+            assert_eq!(rt; status, Status::Refused, "{row}");
+            assert!(rt; out.is_empty(), "{row}");
+            assert_eq!(rt; err.as_slice(), REFUSED.as_bytes(), "{row}");
         }
         Ok(())
     }
 
-    /// Each row: what stands before and behind the module, and the calls that fail; then the words, the answer and its line.
+    /// Each row: what stands before and behind the module, in place of its last two lines.
     #[test]
-    fn each_answer_comes(rt: HostRuntime) -> Result<(), Fail> {
+    fn other_lines_are_refused(rt: HostRuntime) -> Result<(), Fail> {
         let alloc = rt.alloc();
-        let algorithm = algorithm_with(alloc, "variables x = 0;", "A: x := x + 1;")?;
-        let module = file_with(alloc, "M", algorithm.as_str())?;
-        let module = module.as_str();
         let rows = [
-            ("", "", [0, 0, 1], "translate M.tla", Status::Fine, ""),
-            (
-                "Free text.\n",
-                "",
-                [0, 0, 0],
-                "translate M.tla",
-                Status::Refused,
-                REFUSED,
-            ),
-            (
-                "",
-                "Free text.\n",
-                [0, 0, 0],
-                "translate M.tla",
-                Status::Refused,
-                REFUSED,
-            ),
-            (
-                "Free text.\n",
-                "",
-                [0, 0, 1],
-                "translate M.tla",
-                Status::Refused,
-                "",
-            ),
-            (
-                "",
-                "",
-                [1, 0, 0],
-                "translate M.tla",
-                Status::ReadFault,
-                "pcal: cannot read M.tla\n",
-            ),
-            (
-                "",
-                "",
-                [0, 0, 0],
-                "translate N.tla",
-                Status::ReadFault,
-                "pcal: cannot read N.tla\n",
-            ),
-            (
-                "",
-                "",
-                [0, 2, 0],
-                "translate M.tla",
-                Status::WriteFault,
-                "pcal: cannot write\n",
-            ),
-            ("", "", [0, 0, 0], "translate -M.tla", Status::Usage, USAGE),
-            ("", "", [0, 0, 0], "translate", Status::Usage, USAGE),
-            (
-                "",
-                "",
-                [0, 0, 0],
-                "translate M.tla N.tla",
-                Status::Usage,
-                USAGE,
-            ),
-            ("", "", [0, 0, 0], "check M.tla", Status::Usage, USAGE),
+            ("Free text.\n", BACK),
+            ("", "*)\n====\nFree text.\n"),
+            ("", "*)\n===="),
+            ("", "*)\n\n====\n"),
+            ("", "*)\n"),
+            ("\n", BACK),
         ];
-        for (front, back, fails, command, expected, line) in rows {
-            let text = format!(in alloc; "{front}{module}{back}")?;
+        for (front, back) in rows {
+            let text = format!(in alloc; "{front}{FRONT}{back}")?;
+            let (status, out, err) = answer(alloc, WORDS, text.as_str(), [0, 0, 0])?;
+            assert_eq!(rt; status, Status::Refused, "{front}{back}");
+            assert!(rt; out.is_empty(), "{front}{back}");
+            assert_eq!(rt; err.as_slice(), REFUSED.as_bytes(), "{front}{back}");
+        }
+        Ok(())
+    }
+
+    #[test]
+    fn other_words_are_no_command(rt: HostRuntime) -> Result<(), Fail> {
+        let alloc = rt.alloc();
+        let text = format!(in alloc; "{FRONT}{BACK}")?;
+        let rows = [
+            "translate -M.tla",
+            "translate",
+            "translate M.tla N.tla",
+            "check M.tla",
+            "",
+        ];
+        for command in rows {
+            let (status, out, err) = answer(alloc, command, text.as_str(), [0, 0, 0])?;
+            assert_eq!(rt; status, Status::Usage, "{command}");
+            assert!(rt; out.is_empty(), "{command}");
+            assert_eq!(rt; err.as_slice(), USAGE.as_bytes(), "{command}");
+        }
+        Ok(())
+    }
+
+    /// Each row: the calls that fail, the words, the answer and its line, and how many bytes go out at least.
+    #[test]
+    fn faults_have_their_answers(rt: HostRuntime) -> Result<(), Fail> {
+        let alloc = rt.alloc();
+        let text = format!(in alloc; "{FRONT}{BACK}")?;
+        let rows = [
+            ([0, 0, 0], WORDS, Status::Fine, "", 400),
+            ([0, 0, 1], WORDS, Status::Fine, "", 400),
+            ([1, 0, 0], WORDS, Status::ReadFault, UNREAD, 0),
+            ([1, 0, 1], WORDS, Status::ReadFault, "", 0),
+            ([0, 0, 0], "translate N.tla", Status::ReadFault, LACKING, 0),
+            ([0, 2, 0], WORDS, Status::WriteFault, UNWRITTEN, 100),
+            ([0, 2, 1], WORDS, Status::WriteFault, "", 100),
+        ];
+        for (fails, command, expected, line, least) in rows {
             let (status, out, err) = answer(alloc, command, text.as_str(), fails)?;
             assert_eq!(rt; status, expected, "{command}");
             assert_eq!(rt; err.as_slice(), line.as_bytes(), "{command}");
-            let written = match expected {
-                Status::Fine => out.len() > 100,
-                Status::WriteFault => out.len() == 100
-                    && module.as_bytes().starts_with(out.as_slice()),
-                _ => out.is_empty(),
-            };
-            assert!(rt; written, "{command}");
+            assert!(rt;
+                out.len() >= least && (least > 100 || out.len() == least),
+                "{command}"
+            );
+            let front = &out[..out.len().min(100)];
+            assert!(rt; text.as_bytes().starts_with(front), "{command}");
+        }
+        Ok(())
+    }
+
+    /// A file of the most bytes that are allowed, and one with a byte more.
+    #[test]
+    fn a_file_has_a_most_length(rt: HostRuntime) -> Result<(), Fail> {
+        let alloc = rt.alloc();
+        let most = 1_048_576 - FRONT.len() - BACK.len();
+        for (more, expected, line) in [(0, Status::Fine, ""), (1, Status::TooLong, TOO_LONG)] {
+            let lines = "\n".repeat(alloc, most + more)?;
+            let text = format!(in alloc; "{FRONT}{lines}{BACK}")?;
+            let (status, out, err) = answer(alloc, WORDS, text.as_str(), [0, 0, 0])?;
+            assert_eq!(rt; status, expected);
+            assert_eq!(rt; err.as_slice(), line.as_bytes());
+            assert_eq!(rt; out.is_empty(), more == 1);
         }
         Ok(())
     }

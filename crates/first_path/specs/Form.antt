@@ -1,25 +1,23 @@
--- The form of text that is translated so far: one variable, and one label with an assignment ("A PlusCal User's Manual", section 2.2 and chapter 3);
--- its translation, and the file with it.
-use Rattle.std.specs.Prelude.{◌≡◌, ℕ, ◌-◌, ◌^◌, Bool, true, ◌&&◌, ◌||◌, not, nat_lt, IsTrue, List, [], ◌∷◌, ◌++◌, length, take, Option, Some, None, codes}
+-- The form of text that is translated so far: one variable, and one label with an assignment ("A PlusCal User's Manual", section 2.2 and chapter 3).
+use Rattle.std.specs.Prelude.{◌≡◌, ℕ, ◌^◌, Bool, true, ◌&&◌, ◌||◌, not, nat_lt, IsTrue, List, [], ◌∷◌, ◌++◌, Option, Some, None, codes}
 use Rattle.std.specs.List.{list_all, list_any}
 use Rattle.std.specs.Str.{bytes_eq}
 use Rattle.tla_token.specs.declared.sign.Sign.TheVariants as sign
-use Rattle.tla_token.specs.Places.{start}
 use Rattle.tla_token.specs.Lexemes.{Kind, one, is_word, is_letter, is_blank}
 use Rattle.tla_token.specs.Lexemes as kind
 use Rattle.tla_token.specs.Tokens.{Piece, blank, lexeme, text_of, AllFit}
 use Rattle.tla_token.specs.Words.{is_reserved, is_own, is_standard}
-use Rattle.tla_expr.specs.declared.op.Op.{Op}
-use Rattle.tla_expr.specs.declared.op.Op.TheVariants.{Equal, Plus}
-use Rattle.tla_expr.specs.Tree.{Word, Tree, node, no_trees, quote, name, strict}
-use Rattle.tla_expr.specs.Tree as tree
-use Rattle.module_text.specs.Module.{test, setting, no_items, item, call, one_way, all_of, Action, Region}
-use Rattle.module_text.specs.Layout.{layout}
-use Rattle.module_text.specs.Around.{begin_line, end_line}
-use Rattle.pcal_cli.specs.declared.form.Operand.{Operand}
-use Rattle.pcal_cli.specs.declared.form.Operand.TheVariants.{Number, Variable}
-use Rattle.pcal_cli.specs.declared.form.Right.{Right}
-use Rattle.pcal_cli.specs.declared.form.Right.TheVariants.{One, Sum}
+use Rattle.tla_expr.specs.Tree.{Word}
+
+-- a number, or the algorithm's variable
+pub data Operand : Type 0 where
+  number_operand : ℕ → Operand
+  variable_operand : Operand
+
+-- what the assignment has on its right side
+pub data Right : Type 0 where
+  single : Operand → Right
+  sum : Operand → Operand → Right
 
 pub record Parts : Type 0 where
   pub title : Word  -- of the module
@@ -42,12 +40,12 @@ abbrev pub is_small : ℕ → Bool
 is_small n = nat_lt n (2 ^ 127)
 
 abbrev pub is_small_operand : Operand → Bool
-is_small_operand (Number n) = is_small n
-is_small_operand Variable = true
+is_small_operand (number_operand n) = is_small n
+is_small_operand variable_operand = true
 
 abbrev pub is_small_right : Right → Bool
-is_small_right (One a) = is_small_operand a
-is_small_right (Sum a b) = is_small_operand a && is_small_operand b
+is_small_right (single a) = is_small_operand a
+is_small_right (sum a b) = is_small_operand a && is_small_operand b
 
 -- the names may stand where they do, and no number is past `2^127 - 1`
 abbrev pub is_fit : Parts → Bool
@@ -59,12 +57,12 @@ abbrev pub word : Word → Kind
 word w = kind.name w
 
 abbrev pub operand_kind : Word → Operand → Kind
-operand_kind v (Number n) = kind.number n
-operand_kind v Variable = word v
+operand_kind v (number_operand n) = kind.number n
+operand_kind v variable_operand = word v
 
 abbrev pub right_kinds : Word → Right → List Kind → List Kind
-right_kinds v (One a) ks = operand_kind v a ∷ ks
-right_kinds v (Sum a b) ks = operand_kind v a ∷ one sign.Plus ∷ operand_kind v b ∷ ks
+right_kinds v (single a) ks = operand_kind v a ∷ ks
+right_kinds v (sum a b) ks = operand_kind v a ∷ one sign.Plus ∷ operand_kind v b ∷ ks
 
 -- behind `--algorithm`, with `variables` or `variable` as the word
 abbrev pub kinds : Word → Parts → List Kind
@@ -103,48 +101,3 @@ pub record IsForm (x : List ℕ) (f : Parts) : Type 0 where
   pub declared_by : Word
   pub is_declared : IsTrue (bytes_eq declared_by (codes "variables") || bytes_eq declared_by (codes "variable"))
   pub kinds_are : kinds_of pieces ≡ Some (kinds declared_by f)
-
--- ---- the translation
-
-abbrev pub leaf : tree.Form → Tree
-leaf m = node m start no_trees
-
-abbrev pub infix_of : Op → Tree → Tree → Tree
-infix_of o a b = node (strict (tree.operator o)) start (tree.tree a (tree.tree b no_trees))
-
-abbrev pub is_at : Word → Tree
-is_at label = infix_of Equal (leaf (name (codes "pc"))) (leaf (quote label))
-
-abbrev pub operand_tree : Word → Operand → Tree
-operand_tree v (Number n) = leaf (tree.number n)
-operand_tree v Variable = leaf (name v)
-
-abbrev pub right_tree : Word → Right → Tree
-right_tree v (One a) = operand_tree v a
-right_tree v (Sum a b) = infix_of Plus (operand_tree v a) (operand_tree v b)
-
-abbrev pub step_of : Parts → Action
-step_of f = record {
-  title = f.label;
-  parameter = None;
-  body = all_of (item (test (is_at f.label)) (item (setting f.variable (right_tree f.variable f.right)) (item (setting (codes "pc") (leaf (quote (codes "Done")))) no_items)));
-}
-
-abbrev pub region_of : Parts → Region
-region_of f = record {
-  model_values = [];
-  variables = f.variable ∷ codes "pc" ∷ [];
-  definitions = [];
-  vars = f.variable ∷ codes "pc" ∷ [];
-  process_set = None;
-  init = infix_of Equal (leaf (name f.variable)) (leaf (tree.number f.initial)) ∷ is_at f.label ∷ [];
-  actions = step_of f ∷ [];
-  ended = is_at (codes "Done");
-  next = one_way (call f.label) ∷ one_way (call (codes "Terminating")) ∷ [];
-  fairness = [];
-  termination = is_at (codes "Done");
-}
-
--- the text with the translation before its last line
-abbrev pub translation_of : List ℕ → Parts → List ℕ
-translation_of x f = take (length x - length last_line) x ++ begin_line ++ layout (region_of f) ++ end_line ++ codes "\n" ++ last_line

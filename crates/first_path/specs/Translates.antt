@@ -16,9 +16,9 @@ use Rattle.pcal_tree.specs.Program.{Program}
 use Rattle.pcal_tree.specs.Step.{vars, Proper, Sound, Step, Still}
 use Rattle.pcal_tree.specs.Calls.{default}
 use Rattle.pcal_tree.specs.Initial.{Initial, InitFault}
-use Rattle.module_text.specs.Module.{Module, Outside, extends, constants, opaque, defined_in}
+use Rattle.module_text.specs.Module.{Module, Outside, opaque, defined_in}
 use Rattle.module_text.specs.Around.{Around}
-use Rattle.module_text.specs.Reading.{Reads}
+use Rattle.module_text.specs.Reading.{modules_in, constants_in, Reads}
 use Rattle.module_text.specs.Truth.{Tells, next_holds, init_holds}
 
 -- a state as the values of the variables of the translation
@@ -26,16 +26,6 @@ abbrev pub on_variables : Program → State → Look
 on_variables P s x = cond (has (vars P) x) (Some (s x)) None
 
 -- ---- what the module has outside its translation
-
-abbrev pub modules_in : List Outside → List Word
-modules_in [] = []
-modules_in (extends xs ∷ us) = xs ++ modules_in us
-modules_in (u ∷ us) = modules_in us
-
-abbrev pub constants_in : List Outside → List Word
-constants_in [] = []
-constants_in (constants xs ∷ us) = xs ++ constants_in us
-constants_in (u ∷ us) = constants_in us
 
 abbrev pub unread_in : List Outside → List outside.Opaque
 unread_in [] = []

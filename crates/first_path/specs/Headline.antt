@@ -1,14 +1,12 @@
 -- The promise of `translate`: for every module that it accepts, the written text reads as exactly one module, whose Next and Init are true just of
 -- the steps and the initial states of the algorithm in the text that was read.
-use Rattle.std.specs.Prelude.{◌≡◌, ◌⊎◌, ℕ, ◌-◌, Bool, List, length, Option, Some}
-use Rattle.outer_io.specs.Outer.{Texts, Tells, Grows}
+use Rattle.std.specs.Prelude.{◌≡◌, ◌⊎◌, ℕ, ◌-◌, Bool, List, length, Some}
 use Rattle.tla_token.specs.Tokens.{Token, TokAlgorithm}
-use Rattle.tla_expr.specs.Tree.{Word}
 use Rattle.pcal_tree.specs.Algorithm.{Algorithm}
 use Rattle.pcal_tree.specs.Grammar.{SpellsP, SpellsC}
 use Rattle.pcal_tree.specs.Labelled.{labelled}
 use Rattle.module_text.specs.Around.{Spot, algorithm_in}
-use Rattle.pcal_cli.specs.Translates.{Translates}
+use Rattle.first_path.specs.Translates.{Translates}
 
 -- the algorithm a stands in the text x, in one of the two syntaxes
 pub record Stands (x : List ℕ) (a : Algorithm) : Type 0 where
@@ -23,7 +21,3 @@ pub record Headline (forced : Bool) (x w : List ℕ) : Type 0 where
   pub algorithm : Algorithm
   pub stands : Stands x algorithm
   pub translates : Translates x (labelled forced algorithm) w
-
--- where the shelf tells the text of the file and the sink what it wrote, the bytes that it gained are such a text
-abbrev pub Keeps : Bool → Option Texts → Word → Option (List ℕ) → Option (List ℕ) → Type 0
-Keeps forced texts file before after = Tells texts file (λ x. (w : List ℕ) × Grows before after w × Headline forced x w)

@@ -1,23 +1,18 @@
 -- Reading the form of text that is translated so far, as a function, and the one offence of a text that hasn't it.
-use Rattle.std.specs.Prelude.{ℕ, Bool, true, false, ◌||◌, nat_eq, List, [], ◌∷◌, ◌++◌, length, drop, Option, Some, None, codes, if◌then◌else◌, reverse}
+use Rattle.std.specs.Prelude.{◌≡◌, ℕ, Bool, true, false, ◌||◌, nat_eq, List, [], ◌∷◌, ◌++◌, length, drop, Option, Some, None, codes, if◌then◌else◌, reverse}
 use Rattle.std.specs.List.{starts_with}
 use Rattle.std.specs.Str.{bytes_eq}
 use Rattle.tla_token.specs.declared.rule.Rule.TheVariants.{LeftOutWord}
 use Rattle.tla_token.specs.declared.sign.Sign.TheVariants as sign
 use Rattle.tla_token.specs.Lexemes.{Kind, name, number, one, is_word, is_blank}
 use Rattle.tla_token.specs.Tokens.{blank, lexeme}
-use Rattle.tla_token.specs.Offences.{Part, sound, Offence}
+use Rattle.tla_token.specs.declared.rule.Refusal.{Refusal}
+use Rattle.tla_token.specs.Places.{start, place_at}
+use Rattle.tla_token.specs.Offences.{Part, sound, Offence, least}
 use Rattle.tla_token.specs.Cut.{run, parts}
 use Rattle.tla_expr.specs.Tree.{Word}
-use Rattle.pcal_cli.specs.declared.form.Operand.{Operand}
-use Rattle.pcal_cli.specs.declared.form.Operand.TheVariants.{Number, Variable}
-use Rattle.pcal_cli.specs.declared.form.Right.{Right}
-use Rattle.pcal_cli.specs.declared.form.Right.TheVariants.{One, Sum}
-use Rattle.pcal_cli.specs.Form.{Parts, is_fit, first_lines, last_line}
-
-abbrev pub on_some : {A B : Type 0} → Option A → (A → Option B) → Option B
-on_some (Some a) go = go a
-on_some None go = None
+pub use Rattle.module_text.specs.Around.{on_some}
+use Rattle.first_path.specs.Form.{Operand, number_operand, variable_operand, Right, single, sum, Parts, is_fit, first_lines, last_line}
 
 abbrev pub if_so : {A : Type 0} → Bool → Option A → Option A
 if_so true o = o
@@ -54,13 +49,13 @@ on_assign (one sign.Assign ∷ ks) go = go ks
 on_assign _ go = None
 
 abbrev pub on_operand : {A : Type 0} → Word → List Kind → (Operand → List Kind → Option A) → Option A
-on_operand v (number n ∷ ks) go = go (Number n) ks
-on_operand v (name w ∷ ks) go = if_so (bytes_eq w v) (go Variable ks)
+on_operand v (number n ∷ ks) go = go (number_operand n) ks
+on_operand v (name w ∷ ks) go = if_so (bytes_eq w v) (go variable_operand ks)
 on_operand v _ go = None
 
 abbrev pub on_right : {A : Type 0} → Word → Operand → List Kind → (Right → List Kind → Option A) → Option A
-on_right v a (one sign.Plus ∷ ks) go = on_operand v ks (λ b more. go (Sum a b) more)
-on_right v a ks go = go (One a) ks
+on_right v a (one sign.Plus ∷ ks) go = on_operand v ks (λ b more. go (sum a b) more)
+on_right v a ks go = go (single a) ks
 
 abbrev pub on_end : {A : Type 0} → List Kind → Option A → Option A
 on_end [] o = o
@@ -126,3 +121,11 @@ offence_unless None = (LeftOutWord, 0) ∷ []
 -- the one offence so far, at the text's start
 abbrev pub form_offences : List ℕ → List Offence
 form_offences x = offence_unless (form_of x)
+
+-- the text is refused so: by its first offence
+abbrev pub FirstOffence : List ℕ → Refusal → Type 0
+FirstOffence x r = (at : ℕ) × (least (form_offences x) ≡ Some (r.rule, at)) × (r.place ≡ place_at x at)
+
+-- rule 11 at the text's start
+abbrev pub left_out : Refusal
+left_out = record { rule = LeftOutWord; place = start }

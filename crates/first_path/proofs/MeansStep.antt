@@ -1,0 +1,150 @@
+-- The algorithm of the form: its one process, the one label where it stands, and the course of a step from there.
+use Rattle.std.proofs.Common.{◌≡◌, List, [], ◌∷◌, Bool, true, false, ◌||◌, cond, Option, Some, None, codes, bytes_eq, refl, sym, ap, ◌∙◌, subst, inl, inr}
+use Rattle.tla_token.specs.declared.place.Place.{Place}
+use Rattle.tla_token.proofs.Spelled.{same_bytes}
+use Rattle.tla_expr.specs.Tree.{Word, name}
+use Rattle.tla_value.specs.declared.fault.FaultKind.TheVariants.{NotInteger}
+use Rattle.tla_value.specs.Value.{Value, text, Outcome}
+use Rattle.tla_value.specs.Stops.{plain}
+use Rattle.tla_value.specs.Meaning.{eval}
+use Rattle.tla_value.specs.Definitions.{Look}
+use Rattle.pcal_tree.specs.Algorithm.{Naming, Routine, Statements, assign, done, then, no_moves, move, alone_routine, mark}
+use Rattle.pcal_tree.specs.declared.mark.Mark.TheVariants.{Plain}
+use Rattle.pcal_tree.specs.Scope.{State, put, Got, got, faulty, valued, on, Part}
+use Rattle.pcal_tree.specs.Run.{Course, ends, stops, after}
+use Rattle.pcal_tree.specs.Begin.{Begin, at_label}
+use Rattle.pcal_tree.specs.Assign.{set_all}
+use Rattle.pcal_tree.specs.Program.{Program, Actor, pc, routine_scope, part_of}
+use Rattle.pcal_tree.specs.Calls.{label_value, jumped, finished}
+use Rattle.pcal_tree.specs.Step.{OneOf, IsActor, Stand, StandsAt, course_of}
+use Rattle.first_path.specs.Form.{Parts}
+use Rattle.first_path.specs.Placed.{Places, word_at, leaf, right_tree, statement_span, algorithm_at}
+use Rattle.first_path.proofs.Names.{word_same}
+use Rattle.first_path.proofs.Fit.{Fit, not_own}
+use Rattle.first_path.proofs.Means.{StandsFor, result, outcome, right_evaluates}
+
+-- with any written names
+abbrev pub program_of : Places → Parts → Naming → Look → Program
+program_of p f names values = record { check = plain; constants = values; outside = []; algorithm = algorithm_at p f; naming = names }
+
+abbrev pub behind_label : Places → Parts → Statements
+behind_label p f =
+    then (statement_span p f.right) (assign (move (leaf (name f.variable) (p 10)) (right_tree f.variable f.right (p 12) (p 14)) no_moves)) done
+
+abbrev pub body : Places → Parts → Statements
+body p f = mark (word_at f.label (p 8)) Plain (behind_label p f)
+
+abbrev pub routine : Places → Parts → Routine
+routine p f = alone_routine (algorithm_at p f) (body p f)
+
+abbrev pub actor : Places → Parts → Actor
+actor p f = record { self = None; own = routine p f }
+
+abbrev pub begins : Places → Parts → Begin
+begins p f = record { items = behind_label p f; exit = codes "Done" }
+
+abbrev pub stand : Places → Parts → Stand
+stand p f = record { routine = routine p f; label = f.label; begins = begins p f }
+
+-- ---- for any program
+
+first_got : {X : Type 0} (x v : X) (vs : List X) → got (x ∷ []) ≡ got vs → OneOf v vs → v ≡ x
+first_got x v [] e o = absurd o
+first_got x v (w ∷ []) e (inl h) = h ∙ cc
+first_got x v (w ∷ []) e (inr h) = absurd h
+first_got x v (w ∷ y ∷ vs) e o = absurd cc
+
+pub got_is : {X : Type 0} (x y : X) → got x ≡ got y → x ≡ y
+got_is x y e = cc
+
+-- the one label that there is
+begun : (l m : Word) (b d : Begin) → cond (bytes_eq l m) (Some b) None ≡ Some d → (l ≡ m) × (d ≡ b)
+begun l m b d e = by (bytes_eq l m) refl e
+  where
+    by : (c : Bool) → bytes_eq l m ≡ c → cond c (Some b) None ≡ Some d → (l ≡ m) × (d ≡ b)
+    by true h k = (same_bytes l m h, cc)
+    by false h k = absurd cc
+
+stand_of : (p : Places) (f : Parts) (u : Routine) (l : Word) (b : Begin) → u ≡ routine p f → at_label u l ≡ Some b → (l ≡ f.label) × (b ≡ begins p f)
+stand_of p f u l b e h = begun l f.label (begins p f) b (subst (λ u. at_label u l ≡ Some b) e h)
+
+-- the label's name in a program
+abbrev pub Kept : Parts → Naming → Type 0
+Kept f names = names.label 0 f.label ≡ f.label
+
+-- behind the step, where the right side is x
+abbrev pub ended : Parts → State → Value → State
+ended f s x = put pc (text (codes "Done")) (put f.variable x s)
+
+abbrev pub course_for : Place → Parts → State → Option Value → Course
+course_for at f s (Some x) = ends (ended f s x)
+course_for at f s None = stops (faulty NotInteger at)
+
+-- the statement, and then the jump
+steps : Places → Parts → Naming → Look → State → Got Part → Outcome → Course
+steps p f names values s g o =
+    after (on g (λ t. on (valued o got) (λ v. set_all plain (record { place = p 10; part = t; value = v } ∷ []) s)))
+    (λ u. finished (jumped (program_of p f names values) (actor p f) (routine p f) (codes "Done") u))
+
+module _ (p : Places) (f : Parts) (names : Naming) (values : Look) where
+  abbrev program : Program
+  program = program_of p f names values
+
+  -- ---- the process
+
+  pub is_actor : IsActor program (actor p f)
+  is_actor = (actor p f ∷ [], refl, inl refl)
+
+  pub actor_is : (a : Actor) → IsActor program a → a ≡ actor p f
+  actor_is a (vs, e, o) = first_got (actor p f) a vs e o
+
+  -- ---- the label
+
+  -- the process stands nowhere else
+  pub stand_is : (s : State) (d : Stand) → StandsAt program s (actor p f) d → d ≡ stand p f
+  stand_is s d (inl e, h, k) =
+      (let w = stand_of p f d.routine d.label d.begins e h in λ i. record { routine = e i; label = w.0 i; begins = w.1 i })
+  stand_is s d (inr e, h, k) = absurd e
+
+  pub label_is : Kept f names → label_value program (routine p f) f.label ≡ text f.label
+  label_is h = by (bytes_eq (codes "Done") f.label || bytes_eq (codes "Error") f.label)
+    where
+      by : (b : Bool) → text (cond b f.label (names.label 0 f.label)) ≡ text f.label
+      by true = refl
+      by false = ap text h
+
+  -- it stands at the label where pc has its name
+  pub stands_there : (s : State) → Kept f names → s pc ≡ text f.label → StandsAt program s (actor p f) (stand p f)
+  stands_there s h e =
+      (inl refl, ap (λ b. cond b (Some (begins p f)) None) (word_same f.label), ap (λ (v : Value). got v) (e ∙ sym (label_is h)))
+
+  pub there_stands : (s : State) → Kept f names → StandsAt program s (actor p f) (stand p f) → s pc ≡ text f.label
+  there_stands s h (o, b, k) = got_is (s pc) (label_value program (routine p f) f.label) k ∙ label_is h
+
+  -- ---- the course
+
+  -- the variable has the state's value
+  reads_state : (s : State) → Fit f → StandsFor f.variable (s f.variable) ((routine_scope program (actor p f) (routine p f)).env s)
+  reads_state s h at = rw (not_own f.variable h.variable (codes "self") refl, word_same f.variable) refl
+
+  steps_are : (s : State) (o : Option Value)
+      → steps p f names values s (got (record { variable = f.variable; path = [] })) (outcome (p 12) o) ≡ course_for (p 12) f s o
+  unfolding steps
+  steps_are s (Some x) = refl
+  steps_are s None = refl
+
+  part_is : part_of program (actor p f) (routine p f) f.variable ≡ got (record { variable = f.variable; path = [] })
+  part_is = rw (word_same f.variable) refl
+
+  course_steps : (s : State) → course_of program (actor p f) (stand p f) s
+      ≡ steps p f names values s (part_of program (actor p f) (routine p f) f.variable)
+      (eval plain (right_tree f.variable f.right (p 12) (p 14)) ((routine_scope program (actor p f) (routine p f)).env s)).value
+  unfolding steps
+  course_steps s = refl
+
+  pub course_is : (s : State) → Fit f → course_of program (actor p f) (stand p f) s ≡ course_for (p 12) f s (result f.right (s f.variable))
+  course_is s h =
+      let env = (routine_scope program (actor p f) (routine p f)).env s in
+      course_steps s
+      ∙ (λ i. steps p f names values s (part_is i) (right_evaluates f.variable (s f.variable) env (reads_state s h) f.right (p 12) (p 14) i))
+      ∙ steps_are s (result f.right (s f.variable))

@@ -1,0 +1,90 @@
+-- Names and numbers as bytes, and lists of names.
+use Rattle.std.proofs.Common.{◌≡◌, ℕ, ◌+◌, ◌*◌, ◌-◌, ◌/◌, ◌%◌, ◌^◌, ◌<◌, ◌≤◌, Bool, true, false, nat_le, List, [], ◌∷◌, ◌++◌, length, refl, arith, length-append, inl, inr}
+use Rattle.std.specs.List.{list_all, list_any}
+use Rattle.std.specs.Str.{bytes_eq}
+use Rattle.std.specs.Fmt.{decimal}
+use Rattle.std.proofs.lemmas.Fmt.{decimal_by_steps_wide}
+use Rattle.std.proofs.lemmas.List.Sums.{fold-append}
+use Rattle.std.proofs.lemmas.Slice.Eq.{bytes_eq-Decides}
+use Rattle.std.proofs.lemmas.Bool.{and_parts, and_from, or_cases, le-leb, ltb-true, false_from_ne_true, both_ways}
+use Rattle.tla_token.specs.Lexemes.{number_of, is_word, is_letter, is_digit}
+use Rattle.tla_token.specs.Signs.{is_among}
+use Rattle.tla_token.proofs.Spelled.{same_bytes}
+use Rattle.tla_token.proofs.Words.{all_append, digits_words}
+use Rattle.tla_expr.specs.Tree.{Word}
+use Rattle.tla_expr.specs.Lexical.{escaped, escapes}
+use Rattle.first_path.specs.Form.{is_name, is_small}
+
+-- ---- names
+
+pub word_same : (w : Word) → bytes_eq w w ≡ true
+word_same w = (bytes_eq-Decides w w).1 refl
+
+pub name_words : (w : Word) → is_name w ≡ true → list_all is_word w ≡ true
+name_words w h = (and_parts (list_all is_word w) (list_any is_letter w) h).0
+
+pub name_letter : (w : Word) → is_name w ≡ true → list_any is_letter w ≡ true
+name_letter w h = (and_parts (list_all is_word w) (list_any is_letter w) h).1
+
+-- bytes that are all of one class are all of a wider one
+pub every : (p q : ℕ → Bool) → ((b : ℕ) → p b ≡ true → q b ≡ true) → (w : List ℕ) → list_all p w ≡ true → list_all q w ≡ true
+every p q c [] h = refl
+every p q c (b ∷ w) h = (let k = and_parts (p b) (list_all p w) h in and_from (q b) (list_all q w) (c b k.0) (every p q c w k.1))
+
+-- a byte of a name has no escape
+escaped_word : (b : ℕ) → is_word b ≡ true → escaped b ≡ b ∷ []
+escaped_word b h = grind arith
+
+pub escapes_name : (w : Word) → list_all is_word w ≡ true → escapes w ≡ w
+escapes_name [] h = refl
+escapes_name (b ∷ bs) h =
+    let k = and_parts (is_word b) (list_all is_word bs) h in
+    rw (escaped_word b k.0, escapes_name bs k.1) refl
+
+-- ---- lists of names
+
+-- what is true of each in a list is true of one that is among them
+pub among_holds : (p : Word → Bool) (vs : List Word) (w : Word) → is_among vs w ≡ true → list_all p vs ≡ true → p w ≡ true
+among_holds p [] w h k = absurd cc
+among_holds p (v ∷ vs) w h k =
+    let both = and_parts (p v) (list_all p vs) k in
+    elim (or_cases (bytes_eq v w) (is_among vs w) h) [
+      | inl e ↦ (let d : v ≡ w = same_bytes v w e in rw d at both.0)
+      | inr e ↦ among_holds p vs w e both.1
+    ]
+
+-- one that is among them isn't one that isn't
+pub not_among : (vs : List Word) (w u : Word) → is_among vs w ≡ false → is_among vs u ≡ true → bytes_eq u w ≡ false
+not_among vs w u e h =
+    false_from_ne_true (bytes_eq u w) (λ s. both_ways (is_among vs w) e (let d : u ≡ w = same_bytes u w s in rw d at h))
+
+-- ---- numbers
+
+-- digits, at least one, that stand for the number
+pub record Spelled (n : ℕ) (ds : List ℕ) : Type 0 where
+  pub some : 0 < length ds
+  pub digits : list_all is_digit ds ≡ true
+  pub value : number_of ds ≡ n
+
+a_digit : (m : ℕ) → m < 10 → is_digit (48 + m) ≡ true
+a_digit m l = and_from (nat_le 48 (48 + m)) (nat_le (48 + m) 57) (le-leb 48 (48 + m) (omega arith)) (le-leb (48 + m) 57 (omega arith))
+
+one_digit : (m : ℕ) → m < 10 → Spelled m ((48 + m) ∷ [])
+one_digit m l = record { some = omega arith; digits = and_from (is_digit (48 + m)) true (a_digit m l) refl; value = omega arith }
+
+more_digits : (m : ℕ) (ds : List ℕ) → 10 ≤ m → Spelled (m / 10) ds → Spelled m (ds ++ ((48 + m % 10) ∷ []))
+more_digits m ds l h =
+    let d = a_digit (m % 10) (omega arith) in
+    record {
+      some = omega (arith, length-append ds ((48 + m % 10) ∷ []));
+      digits = all_append is_digit ds ((48 + m % 10) ∷ []) h.digits (and_from (is_digit (48 + m % 10)) true d refl);
+      value = omega (arith, fold-append (λ n b. 10 * n + (b - 48)) 0 ds ((48 + m % 10) ∷ []), h.value);
+    }
+
+pub decimal_spelled : (n : ℕ) → is_small n ≡ true → Spelled n (decimal n)
+decimal_spelled n h =
+    let l = ltb-true n (2 ^ 127) h in
+    decimal_by_steps_wide (λ m ds. Spelled m ds) one_digit more_digits n (omega arith)
+
+pub decimal_words : (n : ℕ) → is_small n ≡ true → list_all is_word (decimal n) ≡ true
+decimal_words n h = digits_words (decimal n) (decimal_spelled n h).digits

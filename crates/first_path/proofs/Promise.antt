@@ -1,0 +1,79 @@
+-- What is written for a text of the form keeps the promise; and a text has an offence exactly if it isn't of the form.
+use Rattle.std.specs.Prelude.{◌≡◌, ℕ, ◌-◌, List, [], ◌++◌, length, take, Option, Some, None, false, true, codes}
+use Rattle.std.proofs.Common.{refl, sym, ◌∙◌, ap, append_assoc}
+use Rattle.tla_token.specs.Offences.{least}
+use Rattle.module_text.specs.Around.{Around, begin_line, end_line}
+use Rattle.module_text.specs.Layout.{layout}
+use Rattle.first_path.specs.Form.{Parts, IsForm, is_name, last_line}
+use Rattle.first_path.specs.FormRead.{form_of, offence_unless, form_offences, FirstOffence, left_out}
+use Rattle.first_path.specs.Placed.{Places, module_at, region_of, translation_of}
+use Rattle.first_path.specs.Headline.{Headline}
+use Rattle.first_path.specs.Written.{Written}
+use Rattle.first_path.proofs.Fit.{fit_of}
+use Rattle.first_path.proofs.FormExact.{form_found}
+use Rattle.first_path.proofs.Stands.{stands}
+use Rattle.first_path.proofs.StandsOnce.{stands_once}
+use Rattle.first_path.proofs.Spots.{spot_is}
+use Rattle.first_path.proofs.RegionText.{placeless}
+use Rattle.first_path.proofs.ReadsModule.{reads}
+use Rattle.module_text.proofs.OneModule.{one_module}
+use Rattle.first_path.proofs.MeansNext.{next_is}
+use Rattle.first_path.proofs.MeansInit.{init_is}
+
+-- the translation stands around the text wherever its trees say that they stand
+around : (x : List ℕ) (q : Places) (f : Parts) → IsForm x f → Around x (module_at q f) (translation_of x f)
+around x q f h = record {
+  spot = _;
+  is_spot = spot_is x f h;
+  is = rw (placeless q f) (end_order (take (length x - length last_line) x) begin_line (layout (region_of f)) end_line (codes "\n") last_line);
+}
+  where
+    end_order : (a b c d e l : List ℕ) → a ++ b ++ c ++ d ++ e ++ l ≡ a ++ b ++ c ++ d ++ (e ++ l)
+    end_order a b c d e l = simp append_assoc refl
+
+pub promise : (x : List ℕ) (f : Parts) → IsForm x f → Headline false x (translation_of x f)
+promise x f h =
+    let s = stands x f h in
+    let r = reads x f h in
+    record {
+      algorithm = _;
+      stands = s.1;
+      translates = record {
+        module_of = module_at r.0 f;
+        around = around x r.0 f h;
+        reads = r.1;
+        only = λ n s. one_module (translation_of x f) n (module_at r.0 f) s r.1;
+        next = next_is s.0 r.0 f h.fit;
+        init = init_is s.0 r.0 f h.fit;
+      };
+    }
+
+pub written : (x : List ℕ) (f : Parts) → form_of x ≡ Some f → Written x (translation_of x f)
+written x f h =
+    let is_form : IsForm x f = form_found x f h in
+    record { parts = f; form = is_form; bytes = refl; promise = promise x f is_form; alone = stands_once x f is_form }
+
+-- the offences of a text by what is read of it
+pub no_offence : (x : List ℕ) (f : Parts) → form_of x ≡ Some f → form_offences x ≡ []
+no_offence x f h = ap offence_unless h
+
+pub first_offence : (x : List ℕ) → form_of x ≡ None → FirstOffence x left_out
+first_offence x h = (0, rw h refl, refl)
+
+none_is_some : {A : Type 0} {a : A} → ◌≡◌ {A = Option A} None (Some a) → ⊥
+none_is_some e = absurd cc
+
+pub not_both : (x : List ℕ) (f : Parts) → form_of x ≡ Some f → FirstOffence x left_out → ⊥
+not_both x f h (at, e, p) = none_is_some (sym (ap least (no_offence x f h)) ∙ e)
+
+-- the label of a text of the form is a name
+pub label_is_name : (x : List ℕ) (f : Parts) → form_of x ≡ Some f → is_name f.label ≡ true
+label_is_name x f h = (fit_of f (form_found x f h).fit).label.name
+
+-- what isn't of the form is refused
+pub other_refused : (x : List ℕ) → ((f : Parts) → IsForm x f → ⊥) → FirstOffence x left_out
+other_refused x h = by (form_of x) refl
+  where
+    by : (o : Option Parts) → form_of x ≡ o → FirstOffence x left_out
+    by None e = first_offence x e
+    by (Some f) e = absurd (h f (form_found x f e))

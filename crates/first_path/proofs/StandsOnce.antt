@@ -1,0 +1,63 @@
+-- In a text of the form one algorithm alone stands.
+use Rattle.std.proofs.Common.{◌≡◌, ℕ, ◌+◌, ◌-◌, Bool, List, Option, Some, length, sym, ap, subst, ◌∙◌}
+use Rattle.tla_token.specs.Tokens.{TokAlgorithm}
+use Rattle.tla_token.proofs.Unique as token
+use Rattle.tla_expr.specs.Spelling as spelled
+use Rattle.pcal_tree.specs.Algorithm.{Algorithm}
+use Rattle.pcal_tree.specs.GrammarView.{views}
+use Rattle.pcal_tree.specs.Grammar.{algorithm_of}
+use Rattle.module_text.specs.Around.{Spot}
+use Rattle.first_path.specs.Form.{Parts, IsForm}
+use Rattle.first_path.specs.Placed.{Places}
+use Rattle.first_path.specs.Headline.{Stands}
+use Rattle.first_path.proofs.StandsTokens.{AllRight, places, right_phrase, behind_right, right_good, form_text}
+use Rattle.first_path.proofs.Stands.{Laid, laid}
+use Rattle.first_path.proofs.OneAlgorithm.{Whole, one_spelled}
+
+-- the text that spells the form's algorithm
+abbrev whole : (p : Places) → Bool → (f : Parts) → AllRight p → Whole
+whole p b f h = record {
+  place = p 0;
+  name = record { word = f.algorithm; place = p 1 };
+  section = p 2;
+  plural = b;
+  variable = record {
+    name = record { word = f.variable; place = p 3 };
+    equal = p 4;
+    value = spelled.number (p 5) f.initial;
+    last = p 6;
+    good = h 5;
+  };
+  begins = p 7;
+  statement = record {
+    label = record { word = f.label; place = p 8 };
+    colon = p 9;
+    place = p 10;
+    variable = f.variable;
+    assigned = p 11;
+    value = right_phrase f.variable f.right p;
+    last = p (behind_right f.right);
+    label_right = h 8;
+    right = h 10;
+    good = right_good f.variable f.right p h;
+  };
+  ends = p (1 + behind_right f.right);
+  last = p (2 + behind_right f.right);
+}
+
+-- the place of the algorithm is a function of the text, and its tokens are those of the form
+same_tokens : (x : List ℕ) (f : Parts) (l : Laid x f) (a : Algorithm) (s : Stands x a) → s.tokens ≡ l.tokens
+same_tokens x f l a s =
+    let found : ◌≡◌ {A = Option Spot} (Some s.spot) (Some l.spot) = sym s.is_spot ∙ l.is_spot in
+    let same : s.spot ≡ l.spot = cc in
+    let tok = subst (λ (p : Spot). TokAlgorithm x (length p.front) (length x - length p.back) s.tokens) same s.tok in
+    token.one_algorithm x (length l.spot.front) (length x - length l.spot.back) s.tokens l.tokens tok l.tok
+
+-- what stands there is the form's algorithm
+form_stands : (x : List ℕ) (f : Parts) (l : Laid x f) (a : Algorithm) → Stands x a
+    → a ≡ algorithm_of (form_text (places l.tokens) l.plural f)
+form_stands x f l a s =
+    one_spelled (whole (places l.tokens) l.plural f l.right) s.tokens a (ap views (same_tokens x f l a s) ∙ l.views_are) s.spelled
+
+pub stands_once : (x : List ℕ) (f : Parts) → IsForm x f → (a b : Algorithm) → Stands x a → Stands x b → a ≡ b
+stands_once x f h a b s t = (let l = laid x f h in form_stands x f l a s ∙ sym (form_stands x f l b t))

@@ -1,0 +1,145 @@
+-- Pieces of a text before others, and stretches of a text with their places.
+use Rattle.std.proofs.Common.{◌≡◌, ℕ, zero, suc, ◌+◌, ◌-◌, Bool, true, false, ◌||◌, List, [], ◌∷◌, ◌++◌, length, map, take, drop, Option, Some, None, refl, sym, ap, subst, ◌∙◌, codes, arith, append_assoc, length-append}
+use Rattle.std.specs.List.{list_all}
+use Rattle.std.proofs.Math.Seq.{take-append_seam, drop-append_seam}
+use Rattle.std.proofs.lemmas.Bool.{and_from, or_parts, both_ways, false_from_ne_true}
+use Rattle.tla_token.specs.declared.place.Place.{Place}
+use Rattle.tla_token.specs.Places.{start, step, after, place_at}
+use Rattle.tla_token.specs.Lexemes.{Kind, IsLongest, is_blank}
+use Rattle.tla_token.specs.Tokens.{Piece, blank, block, line, lexeme, text_of, bytes_of, Fits, EndsLine, AllFit, opens_comment, stretch}
+use Rattle.tla_token.proofs.Spelled.{begins, begins_from, begins_is}
+use Rattle.first_path.specs.Form as form
+use Rattle.first_path.specs.Form.{kinds_of}
+use Rattle.first_path.specs.Placed.{Places}
+
+-- ---- pieces before others
+
+pub text_append : (ps qs : List Piece) → text_of (ps ++ qs) ≡ text_of ps ++ text_of qs
+text_append [] qs = refl
+text_append (p ∷ ps) qs = ap (λ (u : List ℕ). bytes_of p ++ u) (text_append ps qs) ∙ sym (append_assoc (bytes_of p) (text_of ps) (text_of qs))
+
+starts_less : (w a t : List ℕ) → begins (a ++ t) w ≡ false → begins a w ≡ false
+starts_less w a t h =
+    false_from_ne_true (begins a w) (λ e.
+    let whole = ap (λ (u : List ℕ). u ++ t) (begins_is a w e) ∙ append_assoc w (drop (length w) a) t in
+    both_ways (begins (a ++ t) w) h (begins_from (a ++ t) w (drop (length w) a ++ t) whole))
+
+comment_less : (a t : List ℕ) → opens_comment (a ++ t) ≡ false → opens_comment a ≡ false
+comment_less a t h =
+    let both = or_parts (begins (a ++ t) (codes "(*")) (begins (a ++ t) (codes "\\*")) h in
+    by (begins a (codes "(*")) (begins a (codes "\\*")) (starts_less (codes "(*") a t both.0) (starts_less (codes "\\*") a t both.1)
+  where
+    by : (x y : Bool) → x ≡ false → y ≡ false → (x || y) ≡ false
+    by x y e f = rw (e, f) refl
+
+longest_less : (bytes s t : List ℕ) → IsLongest bytes (s ++ t) → IsLongest bytes s
+longest_less bytes s t h k m more is e =
+    h k m (more ++ t) is (sym (append_assoc bytes s t) ∙ ap (λ (u : List ℕ). u ++ t) e ∙ append_assoc m more t)
+
+ends_less : (s t : List ℕ) → EndsLine (s ++ t) → EndsLine s
+ends_less [] t h = tt
+ends_less (b ∷ s) t h = h
+
+fits_less : (p : Piece) (s t : List ℕ) → Fits p (s ++ t) → Fits p s
+fits_less (blank b) s t h = h
+fits_less (block body) s t h = h
+fits_less (line body) s t h = (h.0, ends_less s t h.1)
+fits_less (lexeme k bytes) s t h =
+    (comment_less (bytes ++ s) t (ap opens_comment (append_assoc bytes s t) ∙ h.0), h.1, longest_less bytes s t h.2)
+
+-- the first of pieces that fit fit without the others
+pub all_fit_less : (ps qs : List Piece) → AllFit (ps ++ qs) → AllFit ps
+all_fit_less [] qs h = tt
+all_fit_less (p ∷ ps) qs h = (fits_less p (text_of ps) (text_of qs) (subst (Fits p) (text_append ps qs) h.0), all_fit_less ps qs h.1)
+
+-- ---- kinds of pieces
+
+pub kinds_behind : (k : Kind) (o : Option (List Kind)) (ks : List Kind) → form.behind k o ≡ Some ks
+    → (more : List Kind) × (o ≡ Some more) × (k ∷ more ≡ ks)
+kinds_behind k (Some more) ks e = (more, refl, cc)
+kinds_behind k None ks e = absurd cc
+
+pub kinds_gap : (gap : List ℕ) (ps : List Piece) → kinds_of (map blank gap ++ ps) ≡ kinds_of ps
+kinds_gap [] ps = refl
+kinds_gap (b ∷ gap) ps = kinds_gap gap ps
+
+-- the pieces begin with blanks and then a lexeme of the kind k; more stand behind
+pub record First (k : Kind) (ks : List Kind) (ps : List Piece) : Type 0 where
+  pub gap : List ℕ
+  pub is_gap : list_all is_blank gap ≡ true
+  pub bytes : List ℕ
+  pub more : List Piece
+  pub whole : ps ≡ map blank gap ++ (lexeme k bytes ∷ more)
+  pub written : text_of ps ≡ gap ++ (bytes ++ text_of more)
+  pub fits : Fits (lexeme k bytes) (text_of more)
+  pub all_fit : AllFit more
+  pub kinds_are : kinds_of more ≡ Some ks
+
+pub first_of : (k : Kind) (ks : List Kind) (ps : List Piece) → AllFit ps → kinds_of ps ≡ Some (k ∷ ks) → First k ks ps
+first_of k ks [] h e = absurd cc
+first_of k ks (blank b ∷ ps) h e =
+    let r = first_of k ks ps h.1 e in
+    record {
+      gap = b ∷ r.gap;
+      is_gap = and_from (is_blank b) (list_all is_blank r.gap) h.0 r.is_gap;
+      bytes = r.bytes;
+      more = r.more;
+      whole = ap (λ (qs : List Piece). blank b ∷ qs) r.whole;
+      written = ap (λ (u : List ℕ). b ∷ u) r.written;
+      fits = r.fits;
+      all_fit = r.all_fit;
+      kinds_are = r.kinds_are;
+    }
+first_of k ks (block body ∷ ps) h e = absurd cc
+first_of k ks (line body ∷ ps) h e = absurd cc
+first_of k ks (lexeme j bytes ∷ ps) h e =
+    let (js, d, s) = kinds_behind j (kinds_of ps) (k ∷ ks) e in
+    let same : j ≡ k = cc in
+    let rest : js ≡ ks = cc in
+    record {
+      gap = [];
+      is_gap = refl;
+      bytes = bytes;
+      more = ps;
+      whole = ap (λ (i : Kind). lexeme i bytes ∷ ps) same;
+      written = refl;
+      fits = rw same at h.0;
+      all_fit = h.1;
+      kinds_are = d ∙ ap Some rest;
+    }
+
+pub first_written : (k : Kind) (ks : List Kind) (ps : List Piece) (rest : List ℕ) → (r : First k ks ps)
+    → text_of ps ++ rest ≡ r.gap ++ (r.bytes ++ (text_of r.more ++ rest))
+first_written k ks ps rest r =
+    ap (λ (s : List ℕ). s ++ rest) r.written ∙ append_assoc r.gap (r.bytes ++ text_of r.more) rest
+    ∙ ap (λ (s : List ℕ). r.gap ++ s) (append_assoc r.bytes (text_of r.more) rest)
+
+-- ---- stretches and places
+
+pub stretch_is : (w a b c : List ℕ) (from to : ℕ) → w ≡ a ++ (b ++ c) → from ≡ length a → to ≡ length a + length b → stretch w from to ≡ b
+stretch_is w a b c from to e f g =
+    let n : to - from ≡ length b = omega arith in
+    rw (n, f, e, drop-append_seam a (b ++ c)) (take-append_seam b c)
+
+-- without so many bytes at the end
+pub stretch_between : (w a b c : List ℕ) → w ≡ a ++ (b ++ c) → stretch w (length a) (length w - length c) ≡ b
+stretch_between w a b c e =
+    let n : length w ≡ length a + (length b + length c) = ap length e ∙ length-append a (b ++ c) ∙ ap (λ (k : ℕ). length a + k) (length-append b c) in
+    stretch_is w a b c (length a) (length w - length c) e refl (omega arith)
+
+after_append : (p : Place) (v w : List ℕ) → after p (v ++ w) ≡ after (after p v) w
+after_append p [] w = refl
+after_append p (b ∷ v) w = after_append (step p b) v w
+
+-- behind the end of a line
+pub begins_line : (w m r : List ℕ) (n : ℕ) → w ≡ (m ++ codes "\n") ++ r → n ≡ length (m ++ codes "\n") → (place_at w n).col ≡ 1
+begins_line w m r n e f =
+    ap (λ (k : ℕ). (place_at w k).col) f
+    ∙ ap (λ (u : List ℕ). (after start u).col) (ap (take (length (m ++ codes "\n"))) e ∙ take-append_seam (m ++ codes "\n") r)
+    ∙ ap (λ (p : Place). p.col) (after_append start m (codes "\n"))
+
+-- the place with this number
+abbrev pub nth : List Place → Places
+nth [] n = start
+nth (p ∷ ps) zero = p
+nth (p ∷ ps) (suc n) = nth ps n

@@ -1,0 +1,139 @@
+-- The worked example meets the premises of the promise, and its algorithm begins, steps and is done.
+use Rattle.std.proofs.Common.{◌≡◌, pos, Bool, true, false, cond, None, Some, [], ◌∷◌, codes, bytes_eq, refl, sym, ap, ◌∙◌, subst, ◌⊎◌, inl, inr}
+use Rattle.tla_token.specs.declared.place.Place.{Place}
+use Rattle.tla_expr.specs.Tree.{Word}
+use Rattle.tla_expr.specs.Names.{has}
+use Rattle.tla_value.specs.declared.fault.FaultKind.{FaultKind}
+use Rattle.tla_value.specs.Value.{Value, int, text}
+use Rattle.pcal_tree.specs.Algorithm.{Naming}
+use Rattle.pcal_tree.specs.Names.{naming}
+use Rattle.pcal_tree.specs.Scope.{State, Trouble, got, bad}
+use Rattle.pcal_tree.specs.Run.{Has}
+use Rattle.pcal_tree.specs.Program.{Program, Actor, pc}
+use Rattle.pcal_tree.specs.Calls.{default}
+use Rattle.pcal_tree.specs.Step.{Sound, StepFrom, Step, Still, IsActor, Troubled, Stand, StandsAt, course_of, pc_of}
+use Rattle.pcal_tree.specs.Initial.{Initial, InitFault}
+use Rattle.first_path.specs.Form.{IsForm}
+use Rattle.first_path.specs.Placed.{Places, algorithm_at, module_at}
+use Rattle.first_path.specs.Translates.{outside_of, AreConstants}
+use Rattle.first_path.specs.Worked.{worked_text, worked_parts, no_more_constants, worked_program, at_first, at_last}
+use Rattle.first_path.proofs.FormExact.{form_found}
+use Rattle.first_path.proofs.MeansStep.{got_is, actor, stand, Kept, is_actor, actor_is, stand_is, there_stands, ended}
+
+pub form_worked : IsForm worked_text worked_parts
+form_worked = form_found worked_text worked_parts refl
+
+-- ---- constants
+
+-- no name but the one has a value
+other_name : (x : Word) → has (codes "defaultInitValue" ∷ []) x ≡ false → no_more_constants x ≡ None
+unfolding has
+other_name x h = by (bytes_eq (codes "defaultInitValue") x) refl
+  where
+    by : (b : Bool) → bytes_eq (codes "defaultInitValue") x ≡ b → cond b (Some default) None ≡ None
+    by false e = refl
+    by true e = absurd cc
+
+pub constants_worked : (q : Places) → AreConstants (module_at q worked_parts) no_more_constants
+constants_worked q = record { unset = refl; given = tt; no_other = other_name }
+
+-- ---- initial states
+
+module _ (p q : Places) where
+  abbrev P : Program
+  P = worked_program p q
+
+  pub begins_worked : Initial P at_first
+  begins_worked = refl
+
+  pub never_fault_worked : (kind : FaultKind) (at : Place) → InitFault P at_first kind at → ⊥
+  never_fault_worked kind at e = absurd cc
+
+  pub not_at_last : Initial P at_last → ⊥
+  not_at_last e = absurd cc
+
+  -- ---- steps
+
+  abbrev names : Naming
+  names = naming (algorithm_at p worked_parts) (outside_of (module_at q worked_parts))
+
+  abbrev only : Actor
+  only = actor p worked_parts
+
+  abbrev at_label : Stand
+  at_label = stand p worked_parts
+
+  only_is : (v : Actor) → IsActor P v → v ≡ only
+  only_is = actor_is p worked_parts names no_more_constants
+
+  label_is : (s : State) (d : Stand) → StandsAt P s only d → d ≡ at_label
+  label_is = stand_is p worked_parts names no_more_constants
+
+  -- behind the step, as the algorithm's rules make it
+  behind : State
+  behind = ended worked_parts at_first (int (pos 1))
+
+  pub steps_worked : Step P at_first at_last
+  unfolding behind
+  steps_worked = (
+    only,
+    at_label,
+    is_actor p worked_parts names no_more_constants,
+    ((inl refl, refl, refl), (behind, refl, (refl, (refl, tt)))),
+  )
+
+  -- a state is sound where a step from the label, if it is there, doesn't stop
+  never_bad : (s : State) → ((k : Trouble) → StandsAt P s only at_label → Has (course_of P only at_label s) (bad k) → ⊥) → Sound P s
+  never_bad s h = ((_, refl), none)
+    where
+      not_read : (v : Value) (k : Trouble) → got v ≡ bad k → ⊥
+      not_read v k e = absurd cc
+
+      not_there : (k : Trouble) → Troubled P s only k → ⊥
+      not_there k (inl e) = not_read (s pc) k e
+      not_there k (inr (d, there, has)) =
+          let is = label_is s d there in
+          h k (subst (λ d. StandsAt P s only d) is there) (subst (λ d. Has (course_of P only d s) (bad k)) is has)
+
+      none : (v : Actor) (k : Trouble) → IsActor P v → Troubled P s v k → ⊥
+      none v k is troubled = not_there k (subst (λ v. Troubled P s v k) (only_is v is) troubled)
+
+  pub first_sound : Sound P at_first
+  first_sound = never_bad at_first (λ k there has. ends k has)
+    where
+      ends : (k : Trouble) → bad k ≡ got (ended worked_parts at_first (int (pos 1))) → ⊥
+      ends k e = absurd cc
+
+  -- at the end it stands at no label
+  pub last_sound : Sound P at_last
+  last_sound = never_bad at_last (λ k there has. elsewhere (there_stands p worked_parts names no_more_constants at_last kept there))
+    where
+      kept : Kept worked_parts names
+      kept = refl
+
+      elsewhere : text (codes "Done") ≡ text (codes "A") → ⊥
+      elsewhere e = absurd cc
+
+  pub still_worked : Still P at_last at_last
+  still_worked = (done, (refl, (refl, tt)))
+    where
+      done : (v : Actor) → IsActor P v → pc_of v at_last ≡ got (text (codes "Done"))
+      done v is = ap (λ v. pc_of v at_last) (only_is v is)
+
+  -- ---- what is no step
+
+  -- a step from the start ends where pc is "Done"
+  step_ends : (s : State) → StepFrom P only at_label at_first s → s pc ≡ text (codes "Done")
+  unfolding behind
+  step_ends s (there, (u, has, agree)) = sym agree.1.0 ∙ ap (λ (u : State). u pc) (got_is u behind has)
+
+  labels_differ : text (codes "A") ≡ text (codes "Done") → ⊥
+  labels_differ e = absurd cc
+
+  pub not_idle : Step P at_first at_first ⊎ Still P at_first at_first → ⊥
+  not_idle (inl (v, d, is, from)) =
+      let here = subst (λ v. StepFrom P v d at_first at_first) (only_is v is) from in
+      let at = label_is at_first d here.0 in
+      labels_differ (step_ends at_first (subst (λ d. StepFrom P only d at_first at_first) at here))
+  not_idle (inr (done, agree)) =
+      labels_differ (got_is (at_first pc) (text (codes "Done")) (done only (is_actor p worked_parts names no_more_constants)))

@@ -1,0 +1,26 @@
+use Rattle.first_path.proofs.Witness.{form_worked, constants_worked, begins_worked, never_fault_worked, not_at_last, steps_worked, first_sound, last_sound, still_worked, not_idle}
+use Rattle.first_path.proofs.laws.some_module_steps.Goals as goal
+
+pub returns-clause-form : goal.returns-clause-form
+returns-clause-form c = form_worked
+
+pub returns-clause-constants : goal.returns-clause-constants
+returns-clause-constants c = constants_worked
+
+pub returns-clause-starts : goal.returns-clause-starts
+returns-clause-starts c = λ p q. (first_sound p q, begins_worked p q)
+
+pub returns-clause-no_fault : goal.returns-clause-no_fault
+returns-clause-no_fault c = never_fault_worked
+
+pub returns-clause-steps : goal.returns-clause-steps
+returns-clause-steps c = steps_worked
+
+pub returns-clause-still : goal.returns-clause-still
+returns-clause-still c = λ p q. (last_sound p q, still_worked p q)
+
+pub returns-clause-no_start : goal.returns-clause-no_start
+returns-clause-no_start c = not_at_last
+
+pub returns-clause-no_step : goal.returns-clause-no_step
+returns-clause-no_step c = not_idle

@@ -1,0 +1,100 @@
+-- The algorithm of a text of the form, and its translation, as trees; and the file with the translation ("A PlusCal User's Manual", chapter 3).
+use Rattle.std.specs.Prelude.{ℕ, ◌-◌, List, [], ◌∷◌, ◌++◌, length, take, false, None, codes}
+use Rattle.tla_token.specs.declared.place.Place.{Place}
+use Rattle.tla_token.specs.Places.{start}
+use Rattle.tla_expr.specs.declared.op.Op.{Op}
+use Rattle.tla_expr.specs.declared.op.Op.TheVariants.{Equal, Plus}
+use Rattle.tla_expr.specs.Tree.{Word, Tree, node, no_trees, number, quote, name, strict}
+use Rattle.tla_expr.specs.Tree as tree
+use Rattle.pcal_tree.specs.declared.mark.Mark.TheVariants.{Plain}
+use Rattle.pcal_tree.specs.Algorithm.{Name, Algorithm, Span, assign, done, then, mark, no_moves, move, equals, alone}
+use Rattle.module_text.specs.Module.{test, setting, no_items, item, call, one_way, all_of, Action, Region, Module, extends}
+use Rattle.module_text.specs.Layout.{layout}
+use Rattle.module_text.specs.Around.{begin_line, end_line}
+use Rattle.first_path.specs.Form.{Operand, number_operand, variable_operand, Right, single, sum, Parts, last_line}
+
+-- a place for each token, by its number
+abbrev pub Places : Type 0
+Places = ℕ → Place
+
+abbrev pub leaf : tree.Form → Place → Tree
+leaf m p = node m p no_trees
+
+abbrev pub infix_of : Op → Place → Tree → Tree → Tree
+infix_of o p a b = node (strict (tree.operator o)) p (tree.tree a (tree.tree b no_trees))
+
+abbrev pub operand_tree : Word → Operand → Place → Tree
+operand_tree v (number_operand n) p = leaf (number n) p
+operand_tree v variable_operand p = leaf (name v) p
+
+-- p and q: the places of the first and of the second operand
+abbrev pub right_tree : Word → Right → Place → Place → Tree
+right_tree v (single a) p q = operand_tree v a p
+right_tree v (sum a b) p q = infix_of Plus p (operand_tree v a p) (operand_tree v b q)
+
+-- ---- the algorithm
+
+abbrev pub word_at : Word → Place → Name
+word_at w p = record { word = w; place = p }
+
+abbrev pub statement_span : Places → Right → Span
+statement_span p (single a) = record { first = p 10; last = p 12 }
+statement_span p (sum a b) = record { first = p 10; last = p 14 }
+
+-- `--algorithm` is its first token
+abbrev pub algorithm_at : Places → Parts → Algorithm
+algorithm_at p f = record {
+  name = word_at f.algorithm (p 1);
+  fair = false;
+  globals = record { name = word_at f.variable (p 3); start = equals (leaf (number f.initial) (p 5)) } ∷ [];
+  definitions = [];
+  macros = [];
+  procedures = [];
+  main = alone (mark (word_at f.label (p 8)) Plain (then (statement_span p f.right) (assign (move (leaf (name f.variable) (p 10)) (right_tree f.variable f.right (p 12) (p 14)) no_moves)) done));
+}
+
+-- ---- the translation
+
+-- pc = "L"
+abbrev pub is_at : Word → Place → Place → Tree
+is_at label p q = infix_of Equal p (leaf (name (codes "pc")) p) (leaf (quote label) q)
+
+-- the places of the leaves of its expressions, in their order
+abbrev pub step_at : Places → Parts → Action
+step_at q f = record {
+  title = f.label;
+  parameter = None;
+  body = all_of (
+      item (test (is_at f.label (q 4) (q 5)))
+      (item (setting f.variable (right_tree f.variable f.right (q 6) (q 7)))
+      (item (setting (codes "pc") (leaf (quote (codes "Done")) (q 8))) no_items)));
+}
+
+abbrev pub region_at : Places → Parts → Region
+region_at q f = record {
+  model_values = [];
+  variables = f.variable ∷ codes "pc" ∷ [];
+  definitions = [];
+  vars = f.variable ∷ codes "pc" ∷ [];
+  process_set = None;
+  init = infix_of Equal (q 0) (leaf (name f.variable) (q 0)) (leaf (number f.initial) (q 1)) ∷ is_at f.label (q 2) (q 3) ∷ [];
+  actions = step_at q f ∷ [];
+  ended = is_at (codes "Done") (q 9) (q 10);
+  next = one_way (call f.label) ∷ one_way (call (codes "Terminating")) ∷ [];
+  fairness = [];
+  termination = is_at (codes "Done") (q 11) (q 12);
+}
+
+-- the module with it
+abbrev pub module_at : Places → Parts → Module
+module_at q f = record { title = f.title; before = extends (codes "Integers" ∷ []) ∷ []; region = region_at q f; behind = [] }
+
+-- ---- the file
+
+-- what is written doesn't depend on places
+abbrev pub region_of : Parts → Region
+region_of f = region_at (λ i. start) f
+
+-- the text with the translation before its last line
+abbrev pub translation_of : List ℕ → Parts → List ℕ
+translation_of x f = take (length x - length last_line) x ++ begin_line ++ layout (region_of f) ++ end_line ++ codes "\n" ++ last_line

@@ -1,0 +1,43 @@
+-- A worked example that meets the premises of the promise: a text of the form, and its algorithm's first state, and the one where it is done.
+use Rattle.std.specs.Prelude.{ℕ, pos, bytes_eq, cond, List, Some, None, codes}
+use Rattle.tla_expr.specs.Tree.{Word}
+use Rattle.tla_value.specs.Value.{int, text}
+use Rattle.tla_value.specs.Definitions.{Look}
+use Rattle.pcal_tree.specs.Scope.{State, put}
+use Rattle.pcal_tree.specs.Program.{Program, pc}
+use Rattle.pcal_tree.specs.Calls.{default}
+use Rattle.pcal_tree.specs.Starting.{nothing}
+use Rattle.first_path.specs.Form.{Parts, sum, variable_operand, number_operand}
+use Rattle.first_path.specs.Placed.{Places, algorithm_at, module_at}
+use Rattle.first_path.specs.Translates.{program}
+
+abbrev pub worked_text : List ℕ
+worked_text = codes "---- MODULE M ----\nEXTENDS Integers\n(*\n--algorithm Inc\nvariables x = 0;\nbegin\n  A: x := x + 1;\nend algorithm\n*)\n====\n"
+
+abbrev pub worked_parts : Parts
+worked_parts = record {
+  title = codes "M";
+  algorithm = codes "Inc";
+  variable = codes "x";
+  initial = 0;
+  label = codes "A";
+  right = sum variable_operand (number_operand 1);
+}
+
+-- no constants of the module
+abbrev pub no_more_constants : Look
+no_more_constants x = cond (bytes_eq (codes "defaultInitValue") x) (Some default) None
+
+-- p and q: the places of the tokens of the algorithm, and of the leaves of its translation
+abbrev pub worked_program : Places → Places → Program
+worked_program p q = program (algorithm_at p worked_parts) (module_at q worked_parts) no_more_constants
+
+-- x = n and pc = "label"
+abbrev pub counted : ℕ → Word → State
+counted n label = put (codes "x") (int (pos n)) (put pc (text label) nothing)
+
+abbrev pub at_first : State
+at_first = counted 0 (codes "A")
+
+abbrev pub at_last : State
+at_last = counted 1 (codes "Done")

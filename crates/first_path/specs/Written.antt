@@ -1,0 +1,14 @@
+-- What is written for a text of the form.
+use Rattle.std.specs.Prelude.{◌≡◌, ℕ, List, false}
+use Rattle.pcal_tree.specs.Algorithm.{Algorithm}
+use Rattle.first_path.specs.Form.{Parts, IsForm}
+use Rattle.first_path.specs.Placed.{translation_of}
+use Rattle.first_path.specs.Headline.{Stands, Headline}
+
+-- w is the text x with its translation, to the byte, and keeps the promise for the one algorithm that stands in x
+pub record Written (x w : List ℕ) : Type 0 where
+  pub parts : Parts
+  pub form : IsForm x parts
+  pub bytes : w ≡ translation_of x parts
+  pub promise : Headline false x w
+  pub alone : (a b : Algorithm) → Stands x a → Stands x b → a ≡ b  -- the promise speaks of the algorithm of the text

@@ -1,0 +1,51 @@
+//! Laws of the form, stated as what functions without a body ensure.
+
+ghost use Rattle.std.specs.Prelude.{◌≡◌, ◌⊎◌, ℕ, List, [], Some, false};
+ghost use Rattle.tla_token.specs.declared.place.Place.{Place};
+ghost use Rattle.tla_value.specs.declared.fault.FaultKind.{FaultKind};
+ghost use Rattle.pcal_tree.specs.Algorithm.{Algorithm};
+ghost use Rattle.pcal_tree.specs.Step.{Sound, Step, Still};
+ghost use Rattle.pcal_tree.specs.Initial.{Initial, InitFault};
+ghost use Rattle.first_path.specs.Form.{Parts, IsForm};
+ghost use Rattle.first_path.specs.FormRead.{form_of, form_offences, FirstOffence, left_out};
+ghost use Rattle.first_path.specs.Placed.{Places, module_at, translation_of};
+ghost use Rattle.first_path.specs.Translates.{AreConstants};
+ghost use Rattle.first_path.specs.Headline.{Headline, Stands};
+ghost use Rattle.first_path.specs.Worked.{worked_text, worked_parts, no_more_constants, worked_program, at_first, at_last};
+
+/// The parts of a text of the form are those that are read of it, and no text that isn't of the form gives any.
+pub fn forms_are_read()
+    ensures found { (x : List ℕ) (f : Parts) → form_of x ≡ Some f → IsForm x f }
+    ensures read { (x : List ℕ) (f : Parts) → IsForm x f → form_of x ≡ Some f }
+{}
+
+/// A text has an offence exactly if it isn't of the form, and then it is rule 11 at its start.
+pub fn offences_are_of_other_texts()
+    ensures none { (x : List ℕ) (f : Parts) → IsForm x f → form_offences x ≡ [] }
+    ensures first { (x : List ℕ) → ((f : Parts) → IsForm x f → ⊥) → FirstOffence x left_out }
+{}
+
+/// What is written for a text of the form reads as one module alone, lies around the text, and its Next and
+/// Init are true exactly of the steps and initial states of the algorithm that stands in the text.
+pub fn translations_keep_the_promise()
+    ensures { (x : List ℕ) (f : Parts) → IsForm x f → Headline false x (translation_of x f) }
+{}
+
+/// The premises of the promise can be met, and neither of its sides is empty: the worked module is of the form, and
+/// wherever its tokens stand its algorithm has constants, begins in a sound state, steps from it, and is done in
+/// another, sound too. It doesn't begin in that one, and doesn't stay where it begins.
+pub fn some_module_steps()
+    ensures form { IsForm worked_text worked_parts }
+    ensures constants { (q : Places) → AreConstants (module_at q worked_parts) no_more_constants }
+    ensures starts { (p q : Places) → Sound (worked_program p q) at_first × Initial (worked_program p q) at_first }
+    ensures no_fault { (p q : Places) (kind : FaultKind) (at : Place) → InitFault (worked_program p q) at_first kind at → ⊥ }
+    ensures steps { (p q : Places) → Step (worked_program p q) at_first at_last }
+    ensures still { (p q : Places) → Sound (worked_program p q) at_last × Still (worked_program p q) at_last at_last }
+    ensures no_start { (p q : Places) → Initial (worked_program p q) at_last → ⊥ }
+    ensures no_step { (p q : Places) → Step (worked_program p q) at_first at_first ⊎ Still (worked_program p q) at_first at_first → ⊥ }
+{}
+
+/// The algorithm that stands in a text of the form is one alone.
+pub fn one_algorithm_stands()
+    ensures { (x : List ℕ) (f : Parts) → IsForm x f → (a b : Algorithm) → Stands x a → Stands x b → a ≡ b }
+{}
