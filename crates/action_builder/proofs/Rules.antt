@@ -28,7 +28,7 @@ call_does : (P : Program) (v : Actor) (u : Routine) (I : Written) (sc : Scope) �
     Close (Has (run (base_rules P v u) unlabelled (call_to P I at ts (label_name P u l) o) sc to_end s)) (Has (after (all_valued (evals P.check ts) (sc.env s) got) (λ vs. entered_at P v at.first (label_value P u l) o (places_of ts sc) vs s)))
 call_does P v u I sc c k at p ts l None q h s = cc
 call_does P v u I sc c k at p ts l (Some x) q h s =
-    call_law (base_rules P v u) P v x at.first ts (label_name P u l) (I.place x) (I.initial x) sc refl c (k.called p.word x q) (as_many_is (written_all P x x.params) ts h) (k.initials p.word x q at.first) s
+    call_law (base_rules P v u) P v x at.first ts (label_name P u l) (I.place x at.first) (I.initial x) sc refl c (k.called p.word x q) (as_many_is (written_all P x x.params) ts h) (k.initials p.word x q at.first) s
 
 pub rules_do : (P : Program) (v : Actor) (u : Routine) (I : Written) (f : Word → Bool) (sc : Scope) → P.check ≡ plain → MachinesWithin P v u I f sc → Does (base_rules P v u) (moving P v u I) (Inner f sc) (In f) (callable P)
 rules_do P v u I f sc c k = record {

@@ -4,7 +4,6 @@ pub mod Contract
 pub mod Settled
 pub mod Written
 pub mod Ready
-pub mod Begins
 pub mod Moved
 pub mod Prepared
 pub mod Rules

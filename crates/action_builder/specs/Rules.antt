@@ -10,15 +10,15 @@ use Rattle.pcal_tree.specs.Calls.{label_name, named, rules_of}
 use Rattle.action_builder.specs.Settled.{Moving, Callable, Inner}
 use Rattle.action_builder.specs.Moved.{jump_written, return_written, call_written, Machine, Initials}
 
--- the written initial values of a procedure's variables, and their places
+-- the written initial values of a procedure's variables, and their places in a call at a place: what stands for no initial value stands there
 pub record Written : Type 0 where
-  pub place : Routine → Declaration → Place
+  pub place : Routine → Place → Declaration → Place
   pub initial : Routine → Declaration → Tree
 
 -- a call of no procedure can't be taken
 abbrev pub call_to : Program → Written → Span → Trees → Word → Option Routine → Statements
 call_to P I at ts back None = then at (either no_branches) done
-call_to P I at ts back (Some p) = call_written P p at.first ts back (I.place p) (I.initial p)
+call_to P I at ts back (Some p) = call_written P p at.first ts back (I.place p at.first) (I.initial p)
 
 abbrev pub moving : Program → Actor → Routine → Written → Moving
 moving P v u I = record {
@@ -44,7 +44,7 @@ callable P p ts = fitting P (named p.word (procedure_routines P.algorithm)) ts
 pub record Machines (P : Program) (v : Actor) (u : Routine) (I : Written) (sc : Scope) : Type 0 where
   pub own : Machine P v u sc
   pub called : (x : Word) (p : Routine) → named x (procedure_routines P.algorithm) ≡ Some p → Machine P v p sc
-  pub initials : (x : Word) (p : Routine) → named x (procedure_routines P.algorithm) ≡ Some p → (at : Place) → Initials P v p at sc (I.place p) (I.initial p) p.variables
+  pub initials : (x : Word) (p : Routine) → named x (procedure_routines P.algorithm) ≡ Some p → (at : Place) → Initials P v p at sc (I.place p at) (I.initial p) p.variables
 
 -- also with names of f bound
 abbrev pub MachinesWithin : Program → Actor → Routine → Written → (Word → Bool) → Scope → Type 0

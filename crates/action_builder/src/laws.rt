@@ -9,12 +9,11 @@ ghost use Rattle.module_text.specs.Truth.{told};
 ghost use Rattle.module_text.specs.Truth as written;
 ghost use Rattle.pcal_tree.specs.Algorithm.{Statements, Macro, Moves, Routine};
 ghost use Rattle.pcal_tree.specs.Scope.{State, Scope, got, on, valued};
-ghost use Rattle.pcal_tree.specs.Run.{Rules, Follow, run, exit_to, unlabelled, with_macros};
+ghost use Rattle.pcal_tree.specs.Run.{Rules, Follow, run, exit_to, unlabelled};
 ghost use Rattle.pcal_tree.specs.Begin.{begin};
 ghost use Rattle.pcal_tree.specs.Expand.{graft_all, expanded, written_out, expand_begin};
 ghost use Rattle.action_builder.specs.Action.{all_changes, folded, Names, more, assigned_in, NotFalse, Agree};
 ghost use Rattle.action_builder.specs.Effects.{effects_of, parts_of, LeftMoves, IsPlain as Plain};
-ghost use Rattle.action_builder.specs.Begins.{BareBodies};
 ghost use Rattle.action_builder.specs.Contract.{Fits, NoTrouble, SomeTrouble, BadSomewhere, Tells, Built, verdict, to_end};
 ghost use Rattle.tla_token.specs.declared.place.Place.{Place};
 ghost use Rattle.tla_value.specs.Value.{Value};
@@ -26,7 +25,7 @@ ghost use Rattle.action_builder.specs.Step.{Step, IsPrepared, IsReady, items_of,
 ghost use Rattle.action_builder.specs.Settled.{Moving, settled, Callable, Tidy, CloseCourses, Does, Inner};
 ghost use Rattle.action_builder.specs.Written.{write, except_of};
 ghost use Rattle.action_builder.specs.Ready.{Readable, IsStopped, IsNotFalse, holds_on, unlimited, Ready, StoppedSomewhere};
-ghost use Rattle.pcal_tree.specs.Clean.{Any, Calls, Clean, FineCall, Free};
+ghost use Rattle.pcal_tree.specs.Clean.{Any, Calls, Clean, FineCall, BareBodies};
 
 /// Where no run of the statements faults, their action is true of a pair of states exactly if some run
 /// has an end that agrees with the second state on what is assigned, else it is false. The action is here
@@ -153,12 +152,6 @@ pub fn step_actions_fault_as_the_step()
 /// Some step meets all that these laws ask.
 pub fn some_step_is_prepared_and_ready()
     ensures { (d : Step) × (U : Readable) × (vs : List Word) × (env : State → State → Env) × IsPrepared d × IsReady U vs env d }
-{}
-
-/// Statements with their macro calls written out take the same courses, in every scope and with anything behind.
-pub fn written_out_calls_take_the_same_courses()
-    ensures { (M : Rules) (ms : List Macro) (here : Word) (ss : Statements) → Calls (FineCall M.check ms) ss → (sc : Scope) → Free sc → (K : Follow)
-        → run (with_macros M ms) here ss sc K ≡ run (with_macros M []) here (expanded ms ss) sc K }
 {}
 
 /// A step from a label of the statements with macro calls written out begins with what the step from this label

@@ -7,26 +7,9 @@ use Rattle.pcal_tree.specs.Choices.{or_else}
 use Rattle.pcal_tree.specs.Begin.{Begin, begin_in, begin, begin_some}
 use Rattle.pcal_tree.specs.Expand.{joined, Writing, expand_one, expand, expand_some, expand_begin}
 use Rattle.pcal_tree.proofs.ExpandRuns.{opens_joined, no_label}
-use Rattle.pcal_tree.specs.Clean.{Calls, CallsOne, CallsSome, Opens}
+use Rattle.pcal_tree.specs.Clean.{Calls, CallsOne, CallsSome, Opens, BareOne, Bare, BareSome}
 
 -- ---- no label, as in a macro's body
-
-abbrev mutual
-  pub BareOne : Statement → Type 0
-  BareOne (branch e a b) = Bare a × Bare b
-  BareOne (either bs) = BareSome bs
-  BareOne (with bs b) = Bare b
-  BareOne (loop e b) = Bare b
-  BareOne _ = Unit {0}
-
-  pub Bare : Statements → Type 0
-  Bare done = Unit {0}
-  Bare (then at st rest) = BareOne st × Bare rest
-  Bare (mark m k rest) = ⊥
-
-  pub BareSome : Branches → Type 0
-  BareSome no_branches = Unit {0}
-  BareSome (or b bs) = Bare b × BareSome bs
 
 or_none : (o p : Option Begin) → o ≡ None → p ≡ None → or_else o p ≡ None
 or_none o p e f = ap (λ z. or_else z p) e ∙ f

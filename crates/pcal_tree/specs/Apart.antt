@@ -1,24 +1,15 @@
 -- Written names that are apart, from each other and from other names ("A PlusCal User's Manual", section 4, on names in the translation).
-use Rattle.std.specs.Prelude.{◌≡◌, ◌+◌, ◌<◌, ◌^◌, length, List, [], ◌∷◌, ◌++◌, false, codes}
+use Rattle.std.specs.Prelude.{◌≡◌, ◌+◌, ◌<◌, ◌^◌, length, List, [], ◌∷◌, false, codes}
 use Rattle.tla_token.specs.Signs.{is_among}
 use Rattle.tla_token.specs.Words.{begins_fairness}
-use Rattle.tla_expr.specs.Tree.{Word}
 use Rattle.pcal_tree.specs.Algorithm.{Algorithm, routines}
 use Rattle.pcal_tree.specs.OffencesLabels.{label_words}
 use Rattle.pcal_tree.specs.Outside.{Outside}
-use Rattle.pcal_tree.specs.Names.{kept, taken_outside, is_taken, wanted, Given, give}
+use Rattle.pcal_tree.specs.Names.{standing, is_taken, wanted, Given, given}
 
 abbrev pub Every : {X : Type 0} → (X → Type 0) → List X → Type 0
 Every Q [] = Unit {0}
 Every Q (x ∷ xs) = Q x × Every Q xs
-
--- the names that stand already
-abbrev pub standing : Algorithm → Outside → List Word
-standing a o = taken_outside o ++ kept a
-
--- the written names of an algorithm in a module
-abbrev pub given : Algorithm → Outside → List Given
-given a o = give o.extended (standing a o) (wanted a)
 
 -- so many names as there are 64-bit numbers don't fit in memory
 abbrev pub FewNames : Algorithm → Outside → Type 0

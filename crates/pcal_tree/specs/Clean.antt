@@ -1,5 +1,5 @@
--- Macro calls that can be written out: nothing is captured, and each macro's body begins with a statement ("A PlusCal User's Manual", section 3.5,
--- macros).
+-- Macro calls that can be written out: nothing is captured, and each macro's body begins with a statement and has no label ("A PlusCal User's
+-- Manual", section 3.5, macros).
 use Rattle.std.specs.Prelude.{◌≡◌, List, [], ◌∷◌, Bool, true, false, bytes_eq, Option, Some, None}
 use Rattle.tla_token.specs.declared.place.Place.{Place}
 use Rattle.tla_expr.specs.Tree.{Word, Tree, Trees, Every, EveryOf, Graft}
@@ -98,3 +98,26 @@ abbrev pub FineCall : Check → List Macro → Word → Trees → Type 0
 FineCall c [] m ts = Unit {0}
 FineCall c (d ∷ older) m ts =
     Chosen (bytes_eq d.name.word m) (Clean c (arguments d.params ts) Any (expand (written_out older) d.body) × Calls (FineCall c older) d.body × Opens d.body) (FineCall c older m ts)
+
+-- no label at all, as in a macro's body
+abbrev mutual
+  pub BareOne : Statement → Type 0
+  BareOne (branch e a b) = Bare a × Bare b
+  BareOne (either bs) = BareSome bs
+  BareOne (with bs b) = Bare b
+  BareOne (loop e b) = Bare b
+  BareOne _ = Unit {0}
+
+  pub Bare : Statements → Type 0
+  Bare done = Unit {0}
+  Bare (then at st rest) = BareOne st × Bare rest
+  Bare (mark m k rest) = ⊥
+
+  pub BareSome : Branches → Type 0
+  BareSome no_branches = Unit {0}
+  BareSome (or b bs) = Bare b × BareSome bs
+
+-- no macro's body has a label
+abbrev pub BareBodies : List Macro → Type 0
+BareBodies [] = Unit {0}
+BareBodies (d ∷ ds) = Bare d.body × BareBodies ds

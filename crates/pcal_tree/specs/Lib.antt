@@ -8,7 +8,6 @@ pub mod Begin
 pub mod Program
 pub mod Calls
 pub mod Step
-pub mod Mid
 pub mod Initial
 pub mod Starting
 pub mod Script

@@ -77,6 +77,10 @@ kept a =
 abbrev pub taken_outside : Outside → List Word
 taken_outside o = unit_names o ++ bound_outside o
 
+-- the names that stand already
+abbrev pub standing : Algorithm → Outside → List Word
+standing a o = taken_outside o ++ kept a
+
 -- a name that no unit can have, or that is among those taken
 abbrev pub is_taken : List Word → List Word → Word → Bool
 is_taken extended taken w = is_reserved w || is_own w || is_standard extended w || is_among taken w
@@ -167,5 +171,9 @@ naming_by gs = record {
 }
 
 -- the written names of an algorithm in a module
+abbrev pub given : Algorithm → Outside → List Given
+given a o = give o.extended (standing a o) (wanted a)
+
+-- the naming that looks them up
 abbrev pub naming : Algorithm → Outside → Naming
-naming a o = naming_by (give o.extended (taken_outside o ++ kept a) (wanted a))
+naming a o = naming_by (given a o)

@@ -13,8 +13,8 @@ ghost use Rattle.pcal_tree.specs.Step.{Proper, Sound, IsActor, StandsOnce, First
 ghost use Rattle.pcal_tree.specs.Outside.{Outside};
 ghost use Rattle.pcal_tree.specs.OffencesReserved.{reserved_declared};
 ghost use Rattle.pcal_tree.specs.Labelled.{labelled};
-ghost use Rattle.pcal_tree.specs.Names.{naming};
-ghost use Rattle.pcal_tree.specs.Apart.{given, FewNames, Apart, New, Untaken, AreNames, NoEndLabels};
+ghost use Rattle.pcal_tree.specs.Names.{given, naming};
+ghost use Rattle.pcal_tree.specs.Apart.{FewNames, Apart, New, Untaken, AreNames, NoEndLabels};
 
 /// What a list of choices leads to is an outcome of the course, and each outcome has a list of choices that
 /// leads to it, all of them used.

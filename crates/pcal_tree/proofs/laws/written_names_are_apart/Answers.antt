@@ -1,5 +1,4 @@
-use Rattle.pcal_tree.specs.Names.{wanted}
-use Rattle.pcal_tree.specs.Apart.{standing}
+use Rattle.pcal_tree.specs.Names.{standing, wanted}
 use Rattle.pcal_tree.proofs.FreeNames.{given_apart, given_untaken}
 use Rattle.pcal_tree.proofs.FreeWords.{given_free}
 use Rattle.pcal_tree.proofs.laws.written_names_are_apart.Goals as goal
