@@ -17,14 +17,11 @@ pub record Free (w : Word) : Type 0 where
 
 pub record Fit (f : Parts) : Type 0 where
   pub title : is_name f.title ≡ true
-  pub title_reserved : is_reserved f.title ≡ false
   pub algorithm : Free f.algorithm
   pub variable : Free f.variable
   pub initial : is_small f.initial ≡ true
   pub label : Free f.label
   pub not_variable : bytes_eq f.label f.variable ≡ false
-  pub not_done : bytes_eq f.label (codes "Done") ≡ false
-  pub not_error : bytes_eq f.label (codes "Error") ≡ false
   pub right : is_small_right f.right ≡ true
 
 free : (w : Word) → is_free w ≡ true → Free w
@@ -47,14 +44,11 @@ fit_of f h =
     let with_title = and_parts (is_name f.title) (not (is_reserved f.title)) with_algorithm.0 in
     record {
       title = with_title.0;
-      title_reserved = not-true (is_reserved f.title) with_title.1;
       algorithm = free f.algorithm with_algorithm.1;
       variable = free f.variable with_variable.1;
       initial = with_initial.1;
       label = free f.label with_label.1;
       not_variable = not-true (bytes_eq f.label f.variable) with_same.1;
-      not_done = not-true (bytes_eq f.label (codes "Done")) with_done.1;
-      not_error = not-true (bytes_eq f.label (codes "Error")) with_error.1;
       right = with_right.1;
     }
 

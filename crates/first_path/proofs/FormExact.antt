@@ -80,7 +80,7 @@ pieces_cut qs h = ap kinds_in (pieces_back qs h) ∙ sound_kinds qs
 
 -- ---- the front and the end of a text
 
-past_is : (w x r : List ℕ) → past w x ≡ Some r → x ≡ w ++ r
+pub past_is : (w x r : List ℕ) → past w x ≡ Some r → x ≡ w ++ r
 past_is w x r e = by (starts_with nat_eq x w) refl
   where
     by : (k : Bool) → starts_with nat_eq x w ≡ k → x ≡ w ++ r

@@ -11,7 +11,7 @@ pub mod StandsTokens
 pub mod Stands
 pub mod OneStatement
 pub mod OneAlgorithm
-pub mod StandsOnce
+pub mod AlgorithmAlone
 pub mod Spots
 pub mod Pieces
 pub mod RegionText

@@ -213,7 +213,7 @@ one_inside k (to_end p q) vs d ms ps m ga gv gd gm e =
     ((λ i. to_end (b i) (c i)), w.0, z.0, z.1, z.2, z.3)
 
 -- it is the only one with its tokens
-pub one_text : (k : Whole) (y : Text) → Good p_syntax y → spell y [] ≡ spell (text_of k) [] → y ≡ text_of k
+one_text : (k : Whole) (y : Text) → Good p_syntax y → spell y [] ≡ spell (text_of k) [] → y ≡ text_of k
 one_text k y g e =
     let h = one_head y.head k.place _ _ e in
     let n : y.name ≡ k.name = same_name y.name k.name _ _ h.1 in
@@ -234,7 +234,7 @@ braced : (a : Around) (f : List Token → List Token) (p : Place) (w : Word) (s 
 braced (to_end a b) f p w s g e = absurd g
 braced (in_braces a b) f p w s g e = apart _ _ refl e
 
-pub not_c : (k : Whole) (y : Text) → Good c_syntax y → spell y [] ≡ spell (text_of k) [] → ⊥
+not_c : (k : Whole) (y : Text) → Good c_syntax y → spell y [] ≡ spell (text_of k) [] → ⊥
 not_c k y g e =
     let h = one_head y.head k.place _ _ e in
     braced y.around _ k.section (part.variable_word k.plural) _ g.0 (ap tail h.1)

@@ -1,18 +1,18 @@
 -- What is written for a text of the form keeps the promise; and a text has an offence exactly if it isn't of the form.
-use Rattle.std.specs.Prelude.{◌≡◌, ℕ, ◌-◌, List, [], ◌++◌, length, take, Option, Some, None, false, true, codes}
+use Rattle.std.specs.Prelude.{◌≡◌, ℕ, ◌-◌, List, [], ◌++◌, length, take, Option, Some, None, false, codes}
 use Rattle.std.proofs.Common.{refl, sym, ◌∙◌, ap, append_assoc}
+use Rattle.std.proofs.lemmas.Option.{none-some}
 use Rattle.tla_token.specs.Offences.{least}
 use Rattle.module_text.specs.Around.{Around, begin_line, end_line}
 use Rattle.module_text.specs.Layout.{layout}
-use Rattle.first_path.specs.Form.{Parts, IsForm, is_name, last_line}
+use Rattle.first_path.specs.Form.{Parts, IsForm, last_line}
 use Rattle.first_path.specs.FormRead.{form_of, offence_unless, form_offences, FirstOffence, left_out}
 use Rattle.first_path.specs.Placed.{Places, module_at, region_of, translation_of}
 use Rattle.first_path.specs.Headline.{Headline}
 use Rattle.first_path.specs.Written.{Written}
-use Rattle.first_path.proofs.Fit.{fit_of}
 use Rattle.first_path.proofs.FormExact.{form_found}
 use Rattle.first_path.proofs.Stands.{stands}
-use Rattle.first_path.proofs.StandsOnce.{stands_once}
+use Rattle.first_path.proofs.AlgorithmAlone.{algorithm_alone}
 use Rattle.first_path.proofs.Spots.{spot_is}
 use Rattle.first_path.proofs.RegionText.{placeless}
 use Rattle.first_path.proofs.ReadsModule.{reads}
@@ -51,7 +51,7 @@ promise x f h =
 pub written : (x : List ℕ) (f : Parts) → form_of x ≡ Some f → Written x (translation_of x f)
 written x f h =
     let is_form : IsForm x f = form_found x f h in
-    record { parts = f; form = is_form; bytes = refl; promise = promise x f is_form; alone = stands_once x f is_form }
+    record { parts = f; form = is_form; bytes = refl; promise = promise x f is_form; alone = algorithm_alone x f is_form }
 
 -- the offences of a text by what is read of it
 pub no_offence : (x : List ℕ) (f : Parts) → form_of x ≡ Some f → form_offences x ≡ []
@@ -60,15 +60,8 @@ no_offence x f h = ap offence_unless h
 pub first_offence : (x : List ℕ) → form_of x ≡ None → FirstOffence x left_out
 first_offence x h = (0, rw h refl, refl)
 
-none_is_some : {A : Type 0} {a : A} → ◌≡◌ {A = Option A} None (Some a) → ⊥
-none_is_some e = absurd cc
-
 pub not_both : (x : List ℕ) (f : Parts) → form_of x ≡ Some f → FirstOffence x left_out → ⊥
-not_both x f h (at, e, p) = none_is_some (sym (ap least (no_offence x f h)) ∙ e)
-
--- the label of a text of the form is a name
-pub label_is_name : (x : List ℕ) (f : Parts) → form_of x ≡ Some f → is_name f.label ≡ true
-label_is_name x f h = (fit_of f (form_found x f h).fit).label.name
+not_both x f h (at, e, p) = none-some (left_out.rule, at) (sym (ap least (no_offence x f h)) ∙ e)
 
 -- what isn't of the form is refused
 pub other_refused : (x : List ℕ) → ((f : Parts) → IsForm x f → ⊥) → FirstOffence x left_out

@@ -14,7 +14,6 @@ use Rattle.tla_expr.specs.Tree.{Word}
 use Rattle.pcal_tree.specs.GrammarView as view
 use Rattle.pcal_tree.specs.GrammarParts.{variable_word}
 use Rattle.pcal_tree.specs.Grammar.{spell}
-use Rattle.pcal_tree.specs.Labelled.{labelled}
 use Rattle.module_text.specs.Around.{Text, first_is, line_of, on_some, plain, Found, seek, past_title, begins_algorithm, past_p, past_c, is_braced, past_algorithm, Spot, algorithm_in}
 use Rattle.first_path.specs.Form.{Right, single, sum, Operand, number_operand, variable_operand, Parts, IsForm, is_name, is_free, is_small, is_small_right, is_fit, word, operand_kind, right_kinds, kinds, kinds_of, first_lines, last_line}
 use Rattle.first_path.specs.Form as form
@@ -272,7 +271,3 @@ stands x f h =
         spelled = inl (spelling.spells_algorithm (spelling.places l.tokens) l.plural f l.tokens l.right l.views_are);
       },
     )
-
--- the label is typed, so none is added
-pub labels_stay : (p : Places) (f : Parts) → labelled false (algorithm_at p f) ≡ algorithm_at p f
-labels_stay p f = refl

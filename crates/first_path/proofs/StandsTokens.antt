@@ -202,7 +202,7 @@ spells p b f ts a v l e =
     reserved false = refl
     reserved true = refl
 
-pub form_algorithm : (p : Places) (b : Bool) (f : Parts) → algorithm_of (form_text p b f) ≡ algorithm_at p f
+form_algorithm : (p : Places) (b : Bool) (f : Parts) → algorithm_of (form_text p b f) ≡ algorithm_at p f
 form_algorithm p b f = form_tree p b f.title f.algorithm f.variable f.initial f.label f.right
 
 -- and so they spell its algorithm

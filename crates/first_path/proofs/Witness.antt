@@ -49,6 +49,9 @@ module _ (p q : Places) where
   pub never_fault_worked : (kind : FaultKind) (at : Place) → InitFault P at_first kind at → ⊥
   never_fault_worked kind at e = absurd cc
 
+  pub never_fault_at_last : (kind : FaultKind) (at : Place) → InitFault P at_last kind at → ⊥
+  never_fault_at_last kind at e = absurd cc
+
   pub not_at_last : Initial P at_last → ⊥
   not_at_last e = absurd cc
 

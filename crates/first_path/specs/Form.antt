@@ -71,11 +71,11 @@ kinds w f =
     word f.label ∷ one sign.Colon ∷ word f.variable ∷ one sign.Assign ∷
     right_kinds f.variable f.right (one sign.Semicolon ∷ word (codes "end") ∷ word (codes "algorithm") ∷ [])
 
--- the kinds of lexemes with nothing but blanks between them
 abbrev pub behind : Kind → Option (List Kind) → Option (List Kind)
 behind k (Some ks) = Some (k ∷ ks)
 behind k None = None
 
+-- the kinds of lexemes with nothing but blanks between them
 abbrev pub kinds_of : List Piece → Option (List Kind)
 kinds_of [] = Some []
 kinds_of (blank b ∷ ps) = kinds_of ps

@@ -1,5 +1,5 @@
--- The promise of `translate`: for every module that it accepts, the written text reads as exactly one module, whose Next and Init are true just of
--- the steps and the initial states of the algorithm in the text that was read.
+-- What `translate` promises of each module that it accepts: the written text reads as exactly one module, whose Next and Init, where no expression
+-- that is reached faults, are true just of the steps and the initial states of the algorithm in the text that was read.
 use Rattle.std.specs.Prelude.{◌≡◌, ◌⊎◌, ℕ, ◌-◌, Bool, List, length, Some}
 use Rattle.tla_token.specs.Tokens.{Token, TokAlgorithm}
 use Rattle.pcal_tree.specs.Algorithm.{Algorithm}

@@ -6,9 +6,10 @@ ghost use Rattle.tla_value.specs.declared.fault.FaultKind.{FaultKind};
 ghost use Rattle.pcal_tree.specs.Algorithm.{Algorithm};
 ghost use Rattle.pcal_tree.specs.Step.{Sound, Step, Still};
 ghost use Rattle.pcal_tree.specs.Initial.{Initial, InitFault};
+ghost use Rattle.module_text.specs.Reading.{Reads};
 ghost use Rattle.first_path.specs.Form.{Parts, IsForm};
 ghost use Rattle.first_path.specs.FormRead.{form_of, form_offences, FirstOffence, left_out};
-ghost use Rattle.first_path.specs.Placed.{Places, module_at, translation_of};
+ghost use Rattle.first_path.specs.Placed.{Places, algorithm_at, module_at, translation_of};
 ghost use Rattle.first_path.specs.Translates.{AreConstants};
 ghost use Rattle.first_path.specs.Headline.{Headline, Stands};
 ghost use Rattle.first_path.specs.Worked.{worked_text, worked_parts, no_more_constants, worked_program, at_first, at_last};
@@ -25,10 +26,14 @@ pub fn offences_are_of_other_texts()
     ensures first { (x : List ℕ) → ((f : Parts) → IsForm x f → ⊥) → FirstOffence x left_out }
 {}
 
-/// What is written for a text of the form reads as one module alone, lies around the text, and its Next and
-/// Init are true exactly of the steps and initial states of the algorithm that stands in the text.
+/// What is written for a text of the form reads as one module alone, lies around the text, and where no
+/// expression that is reached faults its Next and Init are true exactly of the steps and initial states of the
+/// algorithm that stands in the text. This algorithm and this module are those of the form's parts, wherever
+/// their tokens stand.
 pub fn translations_keep_the_promise()
-    ensures { (x : List ℕ) (f : Parts) → IsForm x f → Headline false x (translation_of x f) }
+    ensures promise { (x : List ℕ) (f : Parts) → IsForm x f → Headline false x (translation_of x f) }
+    ensures algorithm { (x : List ℕ) (f : Parts) → IsForm x f → (p : Places) × Stands x (algorithm_at p f) }
+    ensures module { (x : List ℕ) (f : Parts) → IsForm x f → (q : Places) × Reads (translation_of x f) (module_at q f) }
 {}
 
 /// The premises of the promise can be met, and neither of its sides is empty: the worked module is of the form, and
@@ -39,6 +44,7 @@ pub fn some_module_steps()
     ensures constants { (q : Places) → AreConstants (module_at q worked_parts) no_more_constants }
     ensures starts { (p q : Places) → Sound (worked_program p q) at_first × Initial (worked_program p q) at_first }
     ensures no_fault { (p q : Places) (kind : FaultKind) (at : Place) → InitFault (worked_program p q) at_first kind at → ⊥ }
+    ensures no_fault_at_last { (p q : Places) (kind : FaultKind) (at : Place) → InitFault (worked_program p q) at_last kind at → ⊥ }
     ensures steps { (p q : Places) → Step (worked_program p q) at_first at_last }
     ensures still { (p q : Places) → Sound (worked_program p q) at_last × Still (worked_program p q) at_last at_last }
     ensures no_start { (p q : Places) → Initial (worked_program p q) at_last → ⊥ }

@@ -1,25 +1,18 @@
 -- The code's way through a text of the form gives what the definition gives.
-use Rattle.std.proofs.Common.{◌≡◌, ℕ, Bool, true, false, nat_eq, List, ◌++◌, length, drop, Option, Some, None, refl, sym, ap, ◌∙◌, codes, append_assoc}
-use Rattle.std.specs.List.{starts_with}
-use Rattle.std.proofs.Math.Seq.{drop-append_seam}
+use Rattle.std.proofs.Common.{◌≡◌, ℕ, Bool, true, false, List, ◌++◌, length, drop, Option, Some, None, refl, sym, ap, ◌∙◌, codes, append_assoc}
+use Rattle.std.proofs.lemmas.List.{append_cancel_left}
 use Rattle.tla_token.specs.Lexemes.{is_word}
 use Rattle.tla_token.specs.Cut.{run, parts}
 use Rattle.tla_token.proofs.Words.{run_splits}
-use Rattle.tla_token.proofs.Spelled.{begins_is, begins_from}
+use Rattle.tla_token.proofs.Spelled.{begins_from}
 use Rattle.tla_expr.specs.Tree.{Word}
 use Rattle.first_path.specs.Form.{Parts, last_line}
 use Rattle.first_path.specs.FormRead.{on_some, if_so, past, before, begins_blank, ends_with_line, gap_skipped, kinds_in, parts_in, form_of}
+use Rattle.first_path.proofs.FormExact.{past_is}
 use Rattle.pcal_cli.specs.FirstPathScan.{algorithm_in, form_scan}
 use Rattle.pcal_cli.proofs.Scanning.{behind_front}
 use Rattle.pcal_cli.proofs.Steps.{in_turn, alike}
 use Rattle.pcal_cli.proofs.Stretches.{algorithm_read}
-
-pub past_is : (w x r : List ℕ) → past w x ≡ Some r → x ≡ w ++ r
-past_is w x r e = by (starts_with nat_eq x w) refl
-  where
-    by : (k : Bool) → starts_with nat_eq x w ≡ k → x ≡ w ++ r
-    by true k = (let d : Some (drop (length w) x) ≡ Some r = rw k at e in let same : drop (length w) x ≡ r = cc in begins_is x w k ∙ ap (λ (u : List ℕ). w ++ u) same)
-    by false k = (let d : None ≡ Some r = rw k at e in absurd cc)
 
 pub past_from : (w x r : List ℕ) → x ≡ w ++ r → past w x ≡ Some r
 past_from w x r e = rw (begins_from x w r e, behind_front x w r e) refl
@@ -31,9 +24,6 @@ past_none w x never = by (past w x) refl
     by None e = refl
     by (Some r) e = absurd (never r (past_is w x r e))
 
-same_behind : (a u v : List ℕ) → a ++ u ≡ a ++ v → u ≡ v
-same_behind a u v e = sym (drop-append_seam a u) ∙ ap (drop (length a)) e ∙ drop-append_seam a v
-
 past_both : (a b x : List ℕ) → past (a ++ b) x ≡ on_some (past a x) (past b)
 past_both a b x = by (past a x) refl
   where
@@ -41,7 +31,7 @@ past_both a b x = by (past a x) refl
     behind_first r e (Some s) f = past_from (a ++ b) x s (past_is a x r e ∙ ap (λ (u : List ℕ). a ++ u) (past_is b r s f) ∙ sym (append_assoc a b s))
     behind_first r e None f =
         past_none (a ++ b) x (λ s g.
-        (let h : r ≡ b ++ s = same_behind a r (b ++ s) (sym (past_is a x r e) ∙ g ∙ append_assoc a b s) in
+        (let h : r ≡ b ++ s = append_cancel_left a r (b ++ s) (sym (past_is a x r e) ∙ g ∙ append_assoc a b s) in
         let k : None ≡ Some s = sym f ∙ past_from b r s h in cc))
 
     by : (o : Option (List ℕ)) → past a x ≡ o → past (a ++ b) x ≡ on_some o (past b)

@@ -4,6 +4,6 @@ pub mod Stretches
 pub mod FormScanned
 pub mod Runs
 pub mod Ends
-pub mod FirstPath
+pub mod WrittenBytes
 pub mod ErrorLine
 pub mod Told

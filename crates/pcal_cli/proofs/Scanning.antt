@@ -1,5 +1,6 @@
 -- The code's order of reading a text of the form gives what the definition gives: a token at the front is the first of the kinds.
 use Rattle.std.proofs.Common.{◌≡◌, ℕ, suc, ◌+◌, ◌-◌, ◌≤◌, Bool, true, false, ◌&&◌, nat_eq, nat_lt, List, [], ◌∷◌, ◌++◌, length, take, drop, Option, Some, None, refl, sym, ap, subst, ◌∙◌, arith, codes, length-append, length-drop}
+use Rattle.std.proofs.lemmas.Option.{none-some}
 use Rattle.std.specs.List.{list_any, starts_with}
 use Rattle.std.proofs.lemmas.Bool.{and_parts, eqb-true, lt-ltb}
 use Rattle.std.proofs.Math.Seq.{drop-append_seam}
@@ -293,9 +294,6 @@ step F G x end strict each = ap (λ (o : Option (List Kind)). on_some o F) (kind
     by [] h = end
     by (b ∷ bs) h = step_at F G b bs strict each (first_of_text b bs (h b bs refl))
 
-none_some : {A : Type 0} (a : A) → None ≡ Some a → ⊥
-none_some a e = cc
-
 -- a sign of the form is within the text
 pub mark_within : (x : List ℕ) (s : Sign) (n : ℕ) → mark_at x ≡ Some (s, n) → n ≤ length x
 mark_within [] s n e = absurd cc
@@ -309,7 +307,7 @@ mark_within (b ∷ bs) s n e = by (marks b bs)
         length_in : Option (Sign × ℕ) → ℕ
         length_in None = 0
         length_in (Some m) = m.1
-    by (unmarked at unlike) = absurd (none_some (s, n) (sym at ∙ e))
+    by (unmarked at unlike) = absurd (none-some (s, n) (sym at ∙ e))
 
 rest_taken : (x : List ℕ) (n : ℕ) → n ≤ length x → take (length x - n) (drop n x) ≡ drop n x
 rest_taken x n l = (let e : length (drop n x) ≡ length x - n = length-drop n x in ap (λ (k : ℕ). take k (drop n x)) (sym e) ∙ take_all (length (drop n x)) (drop n x) (omega arith))

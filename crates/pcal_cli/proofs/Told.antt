@@ -1,6 +1,7 @@
 -- What was read is what is told, and what is written for it went out.
 use Rattle.std.specs.Prelude.{IfSome, MatchOption}
 use Rattle.std.proofs.Common.{◌≡◌, ◌⊎◌, ℕ, ◌<◌, ◌≤◌, List, [], length, Option, Some, None, false, ◌∙◌, ap, sym, inl, inr, arith}
+use Rattle.std.proofs.lemmas.Option.{none-some}
 use Rattle.outer_io.specs.Outer.{Texts, text_at, Has, Tells, Lacks, Grows, GrowsInPart}
 use Rattle.tla_token.specs.Offences.{least}
 use Rattle.first_path.specs.Form.{Parts}
@@ -9,7 +10,7 @@ use Rattle.first_path.specs.Headline.{Headline}
 use Rattle.first_path.proofs.Promise.{first_offence, not_both}
 use Rattle.pcal_cli.specs.Causes.{most_bytes, Writes, WritesInPart, Keeps}
 use Rattle.pcal_cli.specs.FirstPathBytes.{written_text}
-use Rattle.pcal_cli.proofs.FirstPath.{is_written}
+use Rattle.pcal_cli.proofs.WrittenBytes.{is_written}
 
 -- a fact of the text that was read is one of the text that is told
 pub told : (ts : Option Texts) (file v : List ℕ) (P : List ℕ → Type 0) → Has ts file v → P v → Tells ts file P
@@ -70,10 +71,7 @@ unlong ts file v n P h k = told ts file v (λ x. n < length x → P) h (λ l. ab
 
 -- a text that is told and without offence is no text that was refused
 pub not_refused : (x : List ℕ) → FirstOffence x left_out → form_offences x ≡ [] → ⊥
-not_refused x (at, e, p) h = none_is_some (sym (ap least h) ∙ e)
-  where
-    none_is_some : {A : Type 0} {a : A} → ◌≡◌ {A = Option A} None (Some a) → ⊥
-    none_is_some e = absurd cc
+not_refused x (at, e, p) h = none-some (left_out.rule, at) (sym (ap least h) ∙ e)
 
 -- where a text is told, and read without a fault, it isn't lacking
 pub failed : (ts : Option Texts) (file : List ℕ) (R W P : Type 0) → R ⊎ Lacks ts file → Tells ts file (λ x. length x ≤ most_bytes → form_offences x ≡ [] → (R → ⊥) → (W → ⊥) → P)

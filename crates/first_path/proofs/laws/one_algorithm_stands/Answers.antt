@@ -1,5 +1,5 @@
-use Rattle.first_path.proofs.StandsOnce.{stands_once}
+use Rattle.first_path.proofs.AlgorithmAlone.{algorithm_alone}
 use Rattle.first_path.proofs.laws.one_algorithm_stands.Goals as goal
 
 pub returns : goal.returns
-returns c = stands_once
+returns c = algorithm_alone

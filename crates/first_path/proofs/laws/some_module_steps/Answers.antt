@@ -1,4 +1,4 @@
-use Rattle.first_path.proofs.Witness.{form_worked, constants_worked, begins_worked, never_fault_worked, not_at_last, steps_worked, first_sound, last_sound, still_worked, not_idle}
+use Rattle.first_path.proofs.Witness.{form_worked, constants_worked, begins_worked, never_fault_worked, never_fault_at_last, not_at_last, steps_worked, first_sound, last_sound, still_worked, not_idle}
 use Rattle.first_path.proofs.laws.some_module_steps.Goals as goal
 
 pub returns-clause-form : goal.returns-clause-form
@@ -12,6 +12,9 @@ returns-clause-starts c = λ p q. (first_sound p q, begins_worked p q)
 
 pub returns-clause-no_fault : goal.returns-clause-no_fault
 returns-clause-no_fault c = never_fault_worked
+
+pub returns-clause-no_fault_at_last : goal.returns-clause-no_fault_at_last
+returns-clause-no_fault_at_last c = never_fault_at_last
 
 pub returns-clause-steps : goal.returns-clause-steps
 returns-clause-steps c = steps_worked

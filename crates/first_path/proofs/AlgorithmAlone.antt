@@ -59,5 +59,5 @@ form_stands : (x : List ℕ) (f : Parts) (l : Laid x f) (a : Algorithm) → Stan
 form_stands x f l a s =
     one_spelled (whole (places l.tokens) l.plural f l.right) s.tokens a (ap views (same_tokens x f l a s) ∙ l.views_are) s.spelled
 
-pub stands_once : (x : List ℕ) (f : Parts) → IsForm x f → (a b : Algorithm) → Stands x a → Stands x b → a ≡ b
-stands_once x f h a b s t = (let l = laid x f h in form_stands x f l a s ∙ sym (form_stands x f l b t))
+pub algorithm_alone : (x : List ℕ) (f : Parts) → IsForm x f → (a b : Algorithm) → Stands x a → Stands x b → a ≡ b
+algorithm_alone x f h a b s t = (let l = laid x f h in form_stands x f l a s ∙ sym (form_stands x f l b t))
