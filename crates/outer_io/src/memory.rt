@@ -140,6 +140,8 @@ impl Shelf for MemShelf {
         ensures call { AddsCall (fetches self.old) (fetches self.new) }
         ensures few { IfOk result (λ n. n ≤ most_given self.old) }
         ensures most_stays { most_given self.new ≡ most_given self.old }
+        ensures ok_faults { IfOk result (λ n. (fetches self.new).failed ≡ (fetches self.old).failed) }
+        ensures once { (fetches self.new).failed ≤ (fetches self.old).failed + 1 }
     {
         if self.calls.begins_failing() {
             return Err(self.calls.fail());
@@ -224,6 +226,8 @@ impl Sink for MemSink {
         ensures most_stays { most_taken self.new ≡ most_taken self.old }
         ensures room { IfOk result (λ n. room_left self.new + n ≡ room_left self.old) }
         ensures room_stays { OnErr result (room_left self.new ≡ room_left self.old) }
+        ensures ok_faults { IfOk result (λ n. (writes self.new).failed ≡ (writes self.old).failed) }
+        ensures once { (writes self.new).failed ≤ (writes self.old).failed + 1 }
     {
         let fails = self.calls.begins_failing();
         let left = self.room - self.bytes.len();

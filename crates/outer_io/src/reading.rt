@@ -1,5 +1,5 @@
 // A shelf of texts, and the reading of a whole text.
-ghost use Rattle.std.specs.Prelude.{◌≡◌, ◌⊎◌, ℕ, ◌<◌, ◌≤◌, Option, length, IfOk, IsErr, OnErr, IsErrOf};
+ghost use Rattle.std.specs.Prelude.{◌≡◌, ◌⊎◌, ◌+◌, ℕ, ◌<◌, ◌≤◌, Option, length, IfOk, IsErr, OnErr, IsErrOf};
 ghost use Rattle.outer_io.specs.Outer.{Texts, RoseBy, RoseAbove, Rose, Lacks, Tells, Has, IsPiece};
 ghost use Rattle.outer_io.specs.declared.reading.LoadFault.TheVariants as fault;
 
@@ -66,7 +66,9 @@ pub trait Shelf {
         ensures given { IfOk result (λ n. RoseBy n (given self.old) (given self.new)) }
         ensures none_given { OnErr result (given self.new ≡ given self.old) }
         ensures given_grows { given self.old ≤ given self.new }
-        ensures faults_grow { faults self.old ≤ faults self.new };
+        ensures faults_grow { faults self.old ≤ faults self.new }
+        ensures ok_faults { IfOk result (λ n. faults self.new ≡ faults self.old) }
+        ensures once { faults self.new ≤ faults self.old + 1 };
 }
 
 /// The whole text `name` of a shelf, where it has at most `most` bytes.
@@ -91,6 +93,9 @@ pub fn load<H: Shelf>(
     ensures texts_stay { H.texts shelf.new ≡ H.texts shelf.old }
     ensures given_grows { H.given shelf.old ≤ H.given shelf.new }
     ensures faults_grow { H.faults shelf.old ≤ H.faults shelf.new }
+    ensures ok_faults { IfOk result (λ v. H.faults shelf.new ≡ H.faults shelf.old) }
+    ensures too_long_faults { IsErrOf result LoadFault.TooLong → H.faults shelf.new ≡ H.faults shelf.old }
+    ensures once { H.faults shelf.new ≤ H.faults shelf.old + 1 }
 {
     let mut out = Vec::new(alloc);
     let mut piece = [0u8; PIECE];

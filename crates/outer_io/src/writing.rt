@@ -1,5 +1,5 @@
 // A sink of bytes, and the writing of all of them.
-ghost use Rattle.std.specs.Prelude.{◌≡◌, ℕ, ◌<◌, ◌≤◌, List, Option, length, take, IfOk, OnOk, OnErr};
+ghost use Rattle.std.specs.Prelude.{◌≡◌, ◌+◌, ℕ, ◌<◌, ◌≤◌, List, Option, length, take, IfOk, OnOk, OnErr};
 ghost use Rattle.outer_io.specs.Outer.{Rose, Grows, GrowsInPart};
 
 use crate::Failed;
@@ -20,7 +20,9 @@ pub trait Sink {
         ensures grows { IfOk result (λ n. Grows (wrote self.old) (wrote self.new) (take n piece.now)) }
         ensures none_taken { OnErr result (wrote self.new ≡ wrote self.old) }
         ensures cause { OnErr result (Rose (faults self.old) (faults self.new)) }
-        ensures faults_grow { faults self.old ≤ faults self.new };
+        ensures faults_grow { faults self.old ≤ faults self.new }
+        ensures ok_faults { IfOk result (λ n. faults self.new ≡ faults self.old) }
+        ensures once { faults self.new ≤ faults self.old + 1 };
 }
 
 /// Writes all the bytes; where a call of the sink fails, some of the first of them have been written, and not all.
@@ -29,6 +31,8 @@ pub fn put_all<K: Sink>(sink: &mut K, bytes: &[u8]) -> Result<(), Failed>
     ensures err { OnErr result (GrowsInPart (K.wrote sink.old) (K.wrote sink.new) bytes.now) }
     ensures cause { OnErr result (Rose (K.faults sink.old) (K.faults sink.new)) }
     ensures faults_grow { K.faults sink.old ≤ K.faults sink.new }
+    ensures ok_faults { OnOk result (K.faults sink.new ≡ K.faults sink.old) }
+    ensures once { K.faults sink.new ≤ K.faults sink.old + 1 }
 {
     let mut at = 0;
     'pieces: while at < bytes.len() {

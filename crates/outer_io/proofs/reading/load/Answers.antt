@@ -21,5 +21,5 @@ pieces-preserved g c =
       given = rw (items, longer) (rose_more _ _ _ _ _ c.pieces.invariant.given c.in_ok-n.ensures.given);
       texts_stay = cc;
       given_grows = omega arith;
-      faults_grow = omega arith;
+      faults_stay = omega (arith, c.in_ok-n.ensures.ok_faults, c.pieces.invariant.faults_stay);
     }

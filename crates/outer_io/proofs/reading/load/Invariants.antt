@@ -10,7 +10,7 @@ invariant-pieces g l = record {
   given : RoseBy (length l.out.items) (g.H.Shelf.given l.initial.shelf) (g.H.Shelf.given l.shelf);
   texts_stay : g.H.Shelf.texts l.shelf ≡ g.H.Shelf.texts l.initial.shelf;
   given_grows : g.H.Shelf.given l.initial.shelf ≤ g.H.Shelf.given l.shelf;
-  faults_grow : g.H.Shelf.faults l.initial.shelf ≤ g.H.Shelf.faults l.shelf;
+  faults_stay : g.H.Shelf.faults l.shelf ≡ g.H.Shelf.faults l.initial.shelf;
 }
 
 abbrev pub decreases-pieces : goal.decreases-pieces

@@ -11,5 +11,5 @@ pieces-preserved g c =
     record {
       within = let w = c.in_ok-at.ensures.within in let v = rw e at w in omega (arith, length-drop c.pieces.at b);
       grows = grows_more _ _ _ _ _ _ c.pieces.invariant.grows (let w = c.in_ok-at.ensures.grows in rw e at w);
-      faults_grow = omega arith;
+      faults_stay = omega (arith, c.in_ok-at.ensures.ok_faults, c.pieces.invariant.faults_stay);
     }
