@@ -11,28 +11,17 @@ use Rattle.tla_token.specs.Tokens.{Piece, blank, block, line, lexeme, bytes_of, 
 use Rattle.tla_token.specs.Words.{tla_words, is_reserved}
 use Rattle.tla_token.proofs.Signed.{tells_apart}
 use Rattle.tla_expr.specs.Tree.{Word}
-use Rattle.tla_expr.specs.Lexical.{Tk}
 use Rattle.tla_expr.specs.Lexical as tk
 use Rattle.module_text.specs.Grammar.{Kind, seen, Token}
 use Rattle.module_text.specs.Reading.{is_small, AllSmall}
-use Rattle.module_text.specs.Seen.{expression_words, word_in, kind_of, word_kind, view, is_starter, is_dash, begins_run, is_within, begins_unit, Cut, cut_at, cut_behind}
-use Rattle.first_path.proofs.Names.{not_among}
-use Rattle.first_path.proofs.Fit.{unreserved}
+use Rattle.module_text.specs.Seen.{kind_of, word_kind, view, is_starter, is_dash, begins_run, is_within, begins_unit, Cut, cut_at, cut_behind}
+use Rattle.first_path.proofs.StandsTokens.{word_is}
 use Rattle.first_path.proofs.RegionBytes.{is_inline, all_inline, small_kind, all_small}
 
 -- ---- a name that is not reserved is a word
 
--- a word that is none of TLA+'s is none of these, which all are
-not_in : (xs : List (Word × Tk)) (w : Word) → list_all (λ x. is_among tla_words x.0) xs ≡ true → is_among tla_words w ≡ false → word_in xs w ≡ None
-not_in [] w h g = refl
-not_in (x ∷ xs) w h g =
-    let p = and_parts (is_among tla_words x.0) (list_all (λ x. is_among tla_words x.0) xs) h in
-    rw (not_among tla_words w x.0 g p.0) (not_in xs w p.1 g)
-
 seen_name : (w : Word) → is_reserved w ≡ false → kind_of (lexeme.name w) ≡ seen (tk.word w)
-seen_name w h =
-    let u = unreserved w h in
-    ap (λ (o : Option Tk). word_kind o w) (not_in expression_words w refl u.tla_words) ∙ rw (u.tla, u.pluscal) refl
+seen_name w h = ap (λ k. word_kind k w) (word_is w h)
 
 -- ---- places: lines, and columns within them
 

@@ -69,7 +69,7 @@ none_among (p ∷ ps) w k h =
     by true e r = absurd cc
     by false e r = r
 
-word_is : (w : Word) → is_reserved w ≡ false → word_kind w ≡ tk.word w
+pub word_is : (w : Word) → is_reserved w ≡ false → word_kind w ≡ tk.word w
 word_is w h =
     let u = unreserved w h in
     by (is_pluscal_word w) (is_tla_word w) u.pluscal u.tla
