@@ -2,9 +2,9 @@
 use Rattle.std.proofs.Common.{◌≡◌, List, [], ◌∷◌, Bool, true, false, cond, bytes_eq}
 use Rattle.tla_expr.specs.Tree.{Word, Trees, Graft}
 use Rattle.tla_value.specs.Stops.{Check}
-use Rattle.pcal_tree.specs.Algorithm.{Span, Statement, branch, either, with, loop, macro, Statements, done, then, mark, Branches, no_branches, or, Macro}
+use Rattle.pcal_tree.specs.Algorithm.{Span, Statement, branch, either, with, while, macro, Statements, done, then, mark, Branches, no_branches, or, Macro}
 use Rattle.pcal_tree.specs.Run.{arguments}
-use Rattle.pcal_tree.specs.Begin.{begin}
+use Rattle.pcal_tree.specs.StepStart.{begin}
 use Rattle.pcal_tree.specs.Expand.{graft_one, graft_all, graft_some, joined, Writing, expand_one, expand, expand_some, written_out, expanded, expand_begin}
 use Rattle.pcal_tree.proofs.ExpandRuns.{opens_joined}
 use Rattle.pcal_tree.proofs.BeginLaws.{WrittenBare, begin_expanded}
@@ -20,7 +20,7 @@ mutual
   bare_graft_one g (branch e a b) h = (bare_graft g a h.0, bare_graft g b h.1)
   bare_graft_one g (either bs) h = bare_graft_some g bs h
   bare_graft_one g (with bs b) h = bare_graft g b h
-  bare_graft_one g (loop e b) h = bare_graft g b h
+  bare_graft_one g (while e b) h = bare_graft g b h
   bare_graft_one g st h = tt
 
   bare_graft : (g : Graft) (ss : Statements) → Bare ss → Bare (graft_all g ss)
@@ -38,7 +38,7 @@ mutual
   bare_expand_one X P w at (branch e a b) c h rest k = ((bare_expand X P w a c.0 h.0, bare_expand X P w b c.1 h.1), k)
   bare_expand_one X P w at (either bs) c h rest k = (bare_expand_some X P w bs c h, k)
   bare_expand_one X P w at (with bs b) c h rest k = (bare_expand X P w b c h, k)
-  bare_expand_one X P w at (loop e b) c h rest k = (bare_expand X P w b c h, k)
+  bare_expand_one X P w at (while e b) c h rest k = (bare_expand X P w b c h, k)
   bare_expand_one X P w at st c h rest k = (tt, k)
 
   bare_expand : (X : Writing) (P : Word → Trees → Type 0) → WrittenBare X P → (ss : Statements) → Calls P ss → Bare ss → Bare (expand X ss)

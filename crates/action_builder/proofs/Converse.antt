@@ -1,30 +1,30 @@
 -- A run that fits makes the written action true, or another branch of it faults; a fault of the action is one of a run.
-use Rattle.std.proofs.Common.{◌≡◌, List, [], ◌∷◌, ◌++◌, Bool, true, false, cond, ◌||◌, bytes_eq, ◌⊎◌, refl, sym, ◌∙◌, ap, subst, inl, inr, ⊎_elim}
+use Rattle.std.proofs.Common.{◌≡◌, List, [], ◌∷◌, ◌++◌, Bool, true, false, cond, ◌||◌, bytes_eq, ◌⊎◌, refl, sym, ◌∙◌, ap, subst, inl, inr, ⊎_elim, Ok, Err}
 use Rattle.std.proofs.lemmas.Bool.{cases_Bool, both_ways}
 use Rattle.tla_expr.specs.Tree.{Word}
 use Rattle.tla_value.specs.Value.{Value, Values, no_values, and}
 use Rattle.tla_value.specs.Order.{same}
 use Rattle.pcal_tree.specs.Scope.{Scope, bound}
 use Rattle.action_builder.proofs.Equal.{eq-name, eq-value}
-use Rattle.pcal_tree.specs.Scope.{State, Trouble, Got, got, bad, on}
+use Rattle.pcal_tree.specs.Scope.{State, Trouble, Outcome, ◌>>=◌}
 use Rattle.action_builder.specs.Action.{Names, member, more, mid, Effect, assign, await, branch, either, choose, Effects, done, then, Ways, no_ways, way, Parts, firsts, moved, value_for, hold_sets, settings_of, assigned, assigned_in, assigned_by, Awaits, Chosen, SomeOf, Picks, Next, RunOne, Run, RunSome, unchanged, all_same, and_then, or_all, some_member, holds, hold, hold_some, ended, minus, build_one, build, build_some, OnceOne, Once, OnceSome, IsBad, NotFalse}
 use Rattle.action_builder.proofs.Sets.{or_left, or_right, or_none, more_append, mid_in, mid_out, is_mid, same_minus}
 use Rattle.action_builder.proofs.Frame.{got_bad, frame_one, frame}
 use Rattle.action_builder.proofs.Parts.{moved_good}
 use Rattle.action_builder.proofs.Main.{hold_ended, append_cases, in_front, behind, apart, apart_by, Within, Covers, grown, End, true_one, true_all}
 
-and_not_no : (v w : Got Bool) → NotFalse v → NotFalse w → NotFalse (and_then v w)
-and_not_no (got true) w p q = q
-and_not_no (got false) w p q = absurd p
-and_not_no (bad k) w p q = tt
+and_not_no : (v w : Outcome Bool) → NotFalse v → NotFalse w → NotFalse (and_then v w)
+and_not_no (Ok true) w p q = q
+and_not_no (Ok false) w p q = absurd p
+and_not_no (Err k) w p q = tt
 
-or_not_no : (v w : Got Bool) → NotFalse v ⊎ NotFalse w → NotFalse (or_all v w)
-or_not_no (got true) (got b) p = tt
-or_not_no (got true) (bad k) p = tt
-or_not_no (got false) (got true) p = tt
-or_not_no (got false) (got false) p = ⊎_elim (λ a. a) (λ b. b) p
-or_not_no (got false) (bad k) p = tt
-or_not_no (bad k) w p = tt
+or_not_no : (v w : Outcome Bool) → NotFalse v ⊎ NotFalse w → NotFalse (or_all v w)
+or_not_no (Ok true) (Ok b) p = tt
+or_not_no (Ok true) (Err k) p = tt
+or_not_no (Ok false) (Ok true) p = tt
+or_not_no (Ok false) (Ok false) p = ⊎_elim (λ a. a) (λ b. b) p
+or_not_no (Ok false) (Err k) p = tt
+or_not_no (Err k) w p = tt
 
 -- A run that fits meets the state between at each of its items.
 meets : (A : Names) (xs ys : List Word) (s t u : State) → ((x : Word) → member ys x ≡ true → more A xs x ≡ false) → ((x : Word) → member xs x ≡ false → u x ≡ mid s t A x) → ((x : Word) → member ys x ≡ false → mid s t (more A (xs ++ ys)) x ≡ u x) → u ≡ mid s t (more A xs)
@@ -46,44 +46,44 @@ left A own other all s t late w frames = same_minus other own s t (λ x e f.
 ended_fits : (A : Names) (b : Effects) (own other all : List Word) (c : Scope) (s t : State) → Within own all → Within other all → Covers own other all → ((x : Word) → member other x ≡ true → A x ≡ false) → ((x : Word) → member own x ≡ false → mid s t (more A all) x ≡ mid s t A x) → Run b c (mid s t A) (End s t A all) → (Run b c (mid s t A) (End s t A own) → NotFalse (hold (build A b) c s t)) → NotFalse (hold (ended (build A b) (unchanged (minus other own))) c s t)
 ended_fits A b own other all c s t w w' v late frames r ih =
     let same = left A own other all s t late w' frames in
-    let here = subst (λ m. Run b c (mid s t A) (got m)) (sym (grown s t A own other all w v same)) r in
-    subst NotFalse (sym (hold_ended (build A b) (unchanged (minus other own)) c s t)) (and_not_no (hold (build A b) c s t) _ (ih here) (subst (λ z. NotFalse (and_then (got z) (got true))) (sym same) tt))
+    let here = subst (λ m. Run b c (mid s t A) (Ok m)) (sym (grown s t A own other all w v same)) r in
+    subst NotFalse (sym (hold_ended (build A b) (unchanged (minus other own)) c s t)) (and_not_no (hold (build A b) c s t) _ (ih here) (subst (λ z. NotFalse (and_then (Ok z) (Ok true))) (sym same) tt))
 
-and_true : (v w : Got Bool) → v ≡ got true → w ≡ got true → and_then v w ≡ got true
+and_true : (v w : Outcome Bool) → v ≡ Ok true → w ≡ Ok true → and_then v w ≡ Ok true
 and_true v w p q = ap (λ x. and_then x w) p ∙ q
 
-pub sets_true : (A : Names) (ps : Parts) (c : Scope) (s t : State) (ys : List Word) → ((y : Word) → member ys y ≡ true → value_for y ps c (mid s t A) ≡ got (t y)) → hold_sets (settings_of A ps ys) c s t ≡ got true
+pub sets_true : (A : Names) (ps : Parts) (c : Scope) (s t : State) (ys : List Word) → ((y : Word) → member ys y ≡ true → value_for y ps c (mid s t A) ≡ Ok (t y)) → hold_sets (settings_of A ps ys) c s t ≡ Ok true
 sets_true A ps c s t [] h = refl
 sets_true A ps c s t (z ∷ ys) h =
     and_true _ _
-    (ap (λ o. on o (λ v. got (same (t z) v))) (h z (or_left (bytes_eq z z) (member ys z) (eq-name z z refl))) ∙ ap got (eq-value (t z) (t z) refl))
+    (ap (λ o. o >>= (λ v. Ok (same (t z) v))) (h z (or_left (bytes_eq z z) (member ys z) (eq-name z z refl))) ∙ ap Ok (eq-value (t z) (t z) refl))
     (sets_true A ps c s t ys (λ y m. h y (or_right (bytes_eq z y) (member ys y) m)))
 
-assign_fits : (A : Names) (ps : Parts) (c : Scope) (s t : State) → got (mid s t (more A (firsts ps))) ≡ moved ps c (mid s t A) → NotFalse (hold_sets (settings_of A ps (firsts ps)) c s t)
-assign_fits A ps c s t r = subst NotFalse (sym (sets_true A ps c s t (firsts ps) (λ y m. moved_good ps c (mid s t A) _ (sym r) y ∙ ap got (mid_in s t (more A (firsts ps)) y (or_right (A y) (member (firsts ps) y) m))))) tt
+assign_fits : (A : Names) (ps : Parts) (c : Scope) (s t : State) → Ok (mid s t (more A (firsts ps))) ≡ moved ps c (mid s t A) → NotFalse (hold_sets (settings_of A ps (firsts ps)) c s t)
+assign_fits A ps c s t r = subst NotFalse (sym (sets_true A ps c s t (firsts ps) (λ y m. moved_good ps c (mid s t A) _ (sym r) y ∙ ap Ok (mid_in s t (more A (firsts ps)) y (or_right (A y) (member (firsts ps) y) m))))) tt
 
-await_fits : (o : Got Bool) (m : State) (r : State) → Awaits o m (got r) → NotFalse o
-await_fits (got true) m r e = tt
-await_fits (got false) m r e = e
-await_fits (bad k) m r e = tt
+await_fits : (o : Outcome Bool) (m : State) (r : State) → Awaits o m (Ok r) → NotFalse o
+await_fits (Ok true) m r e = tt
+await_fits (Ok false) m r e = e
+await_fits (Err k) m r e = tt
 
-chosen_fits : (o : Got Bool) (P Q : Type 0) (v w : Got Bool) (r : State) → Chosen o P Q (got r) → (P → NotFalse v) → (Q → NotFalse w) → NotFalse (on o (λ p. cond p v w))
-chosen_fits (got true) P Q v w r h f g = f h
-chosen_fits (got false) P Q v w r h f g = g h
-chosen_fits (bad k) P Q v w r h f g = tt
+chosen_fits : (o : Outcome Bool) (P Q : Type 0) (v w : Outcome Bool) (r : State) → Chosen o P Q (Ok r) → (P → NotFalse v) → (Q → NotFalse w) → NotFalse (o >>= (λ p. cond p v w))
+chosen_fits (Ok true) P Q v w r h f g = f h
+chosen_fits (Ok false) P Q v w r h f g = g h
+chosen_fits (Err k) P Q v w r h f g = tt
 
-some_fits : (vs : Values) (p : Value → Got Bool) (P : Value → Type 0) → SomeOf vs P → ((v : Value) → P v → NotFalse (p v)) → NotFalse (some_member vs p)
+some_fits : (vs : Values) (p : Value → Outcome Bool) (P : Value → Type 0) → SomeOf vs P → ((v : Value) → P v → NotFalse (p v)) → NotFalse (some_member vs p)
 some_fits no_values p P h f = h
 some_fits (and v vs) p P h f = or_not_no (p v) (some_member vs p) (⊎_elim (λ a. inl (f v a)) (λ b. inr (some_fits vs p P b f)) h)
 
-pick_fits : (o : Got Values) (p : Value → Got Bool) (P : Value → Type 0) (r : State) → Picks o P (got r) → ((v : Value) → P v → NotFalse (p v)) → NotFalse (on o (λ vs. some_member vs p))
-pick_fits (got vs) p P r h f = some_fits vs p P h f
-pick_fits (bad k) p P r h f = tt
+pick_fits : (o : Outcome Values) (p : Value → Outcome Bool) (P : Value → Type 0) (r : State) → Picks o P (Ok r) → ((v : Value) → P v → NotFalse (p v)) → NotFalse (o >>= (λ vs. some_member vs p))
+pick_fits (Ok vs) p P r h f = some_fits vs p P h f
+pick_fits (Err k) p P r h f = tt
 
 -- the middle of a run of two parts
-halves : (R : State → Got State → Type 0) (q : Got State) (r : State) (P : Type 0) → Next R q (got r) → ((u : State) → q ≡ got u → R u (got r) → P) → P
-halves R (got u) r P n h = h u refl n
-halves R (bad k) r P n h = got_bad r k n
+halves : (R : State → Outcome State → Type 0) (q : Outcome State) (r : State) (P : Type 0) → Next R q (Ok r) → ((u : State) → q ≡ Ok u → R u (Ok r) → P) → P
+halves R (Ok u) r P n h = h u refl n
+halves R (Err k) r P n h = got_bad r k n
 
 mutual
   pub fits_one : (A : Names) (st : Effect) (c : Scope) (s t : State) → OnceOne A st → RunOne st c (mid s t A) (End s t A (assigned st)) → NotFalse (holds (build_one A st) c s t)
@@ -100,11 +100,11 @@ mutual
   fits_all A done c s t o r = tt
   fits_all A (then st rest) c s t o r =
       halves (Run rest c) r.0 _ _ r.2 (λ u q n.
-      let one : RunOne st c (mid s t A) (got u) = subst (RunOne st c (mid s t A)) q r.1 in
+      let one : RunOne st c (mid s t A) (Ok u) = subst (RunOne st c (mid s t A)) q r.1 in
       let between : u ≡ mid s t (more A (assigned st)) = meets A (assigned st) (assigned_in rest) s t u (apart (more A (assigned st)) rest o.1) (λ x f. frame_one st c (mid s t A) u x one f) (λ x f. frame rest c u _ x n f) in
-      let one' : RunOne st c (mid s t A) (End s t A (assigned st)) = subst (λ w. RunOne st c (mid s t A) (got w)) between one in
-      let two : Run rest c (mid s t (more A (assigned st))) (got (mid s t (more A (assigned st ++ assigned_in rest)))) = subst (λ w. Run rest c w (got (mid s t (more A (assigned st ++ assigned_in rest))))) between n in
-      let two' : Run rest c (mid s t (more A (assigned st))) (End s t (more A (assigned st)) (assigned_in rest)) = subst (λ B. Run rest c (mid s t (more A (assigned st))) (got (mid s t B))) (more_append A (assigned st) (assigned_in rest)) two in
+      let one' : RunOne st c (mid s t A) (End s t A (assigned st)) = subst (λ w. RunOne st c (mid s t A) (Ok w)) between one in
+      let two : Run rest c (mid s t (more A (assigned st))) (Ok (mid s t (more A (assigned st ++ assigned_in rest)))) = subst (λ w. Run rest c w (Ok (mid s t (more A (assigned st ++ assigned_in rest))))) between n in
+      let two' : Run rest c (mid s t (more A (assigned st))) (End s t (more A (assigned st)) (assigned_in rest)) = subst (λ B. Run rest c (mid s t (more A (assigned st))) (Ok (mid s t B))) (more_append A (assigned st) (assigned_in rest)) two in
       and_not_no (holds (build_one A st) c s t) (hold (build (more A (assigned st)) rest) c s t) (fits_one A st c s t o.0 one') (fits_all (more A (assigned st)) rest c s t o.1 two'))
 
   fits_some : (A : Names) (all : List Word) (bs : Ways) (c : Scope) (s t : State) → OnceSome A bs → Within (assigned_by bs) all → ((x : Word) → member all x ≡ true → A x ≡ false) → RunSome bs c (mid s t A) (End s t A all) → NotFalse (hold_some (build_some A all bs) c s t)
@@ -117,85 +117,85 @@ mutual
 
 -- ---- faults of the action are faults of a run
 
-abbrev fails : Trouble → Got Bool
-fails k = bad k
+abbrev fails : Trouble → Outcome Bool
+fails k = Err k
 
 bad_same : (j k : Trouble) → fails j ≡ fails k → j ≡ k
 bad_same j k e = cc
 
-both_bad : (v w : Got Bool) (k : Trouble) → and_then v w ≡ bad k → (v ≡ bad k) ⊎ ((v ≡ got true) × (w ≡ bad k))
-both_bad (got true) w k e = inr (refl, e)
-both_bad (got false) w k e = got_bad false k e
-both_bad (bad j) w k e = inl e
+both_bad : (v w : Outcome Bool) (k : Trouble) → and_then v w ≡ Err k → (v ≡ Err k) ⊎ ((v ≡ Ok true) × (w ≡ Err k))
+both_bad (Ok true) w k e = inr (refl, e)
+both_bad (Ok false) w k e = got_bad false k e
+both_bad (Err j) w k e = inl e
 
-ended_bad : (v : Got Bool) (b : Bool) (k : Trouble) → and_then v (and_then (got b) (got true)) ≡ bad k → v ≡ bad k
-ended_bad v true k e = ⊎_elim (λ a. a) (λ p. got_bad true k p.1) (both_bad v (got true) k e)
-ended_bad v false k e = ⊎_elim (λ a. a) (λ p. got_bad false k p.1) (both_bad v (got false) k e)
+ended_bad : (v : Outcome Bool) (b : Bool) (k : Trouble) → and_then v (and_then (Ok b) (Ok true)) ≡ Err k → v ≡ Err k
+ended_bad v true k e = ⊎_elim (λ a. a) (λ p. got_bad true k p.1) (both_bad v (Ok true) k e)
+ended_bad v false k e = ⊎_elim (λ a. a) (λ p. got_bad false k p.1) (both_bad v (Ok false) k e)
 
-either_bad : (v w : Got Bool) (k : Trouble) → or_all v w ≡ bad k → (v ≡ bad k) ⊎ (w ≡ bad k)
-either_bad (got a) (got b) k e = got_bad (a || b) k e
-either_bad (got a) (bad j) k e = inr e
-either_bad (bad j) w k e = inl e
+either_bad : (v w : Outcome Bool) (k : Trouble) → or_all v w ≡ Err k → (v ≡ Err k) ⊎ (w ≡ Err k)
+either_bad (Ok a) (Ok b) k e = got_bad (a || b) k e
+either_bad (Ok a) (Err j) k e = inr e
+either_bad (Err j) w k e = inl e
 
 -- a fault, of whatever kind
 abbrev pub Some : (Trouble → Type 0) → Type 0
 Some P = (j : Trouble) × P j
 
-sets_bad : (A : Names) (ps : Parts) (c : Scope) (s t : State) (ys : List Word) (k : Trouble) → hold_sets (settings_of A ps ys) c s t ≡ bad k → (y : Word) × IsBad (value_for y ps c (mid s t A))
+sets_bad : (A : Names) (ps : Parts) (c : Scope) (s t : State) (ys : List Word) (k : Trouble) → hold_sets (settings_of A ps ys) c s t ≡ Err k → (y : Word) × IsBad (value_for y ps c (mid s t A))
 sets_bad A ps c s t [] k h = got_bad true k h
 sets_bad A ps c s t (z ∷ ys) k h = ⊎_elim
     (λ a. (z, by (value_for z ps c (mid s t A)) a))
     (λ b. sets_bad A ps c s t ys k b.1)
     (both_bad _ (hold_sets (settings_of A ps ys) c s t) k h)
   where
-    by : (o : Got Value) → on o (λ v. got (same (t z) v)) ≡ bad k → IsBad o
-    by (got v) e = got_bad (same (t z) v) k e
-    by (bad j) e = tt
+    by : (o : Outcome Value) → o >>= (λ v. Ok (same (t z) v)) ≡ Err k → IsBad o
+    by (Ok v) e = got_bad (same (t z) v) k e
+    by (Err j) e = tt
 
-assign_bad : (A : Names) (ps : Parts) (c : Scope) (s t : State) (k : Trouble) → hold_sets (settings_of A ps (firsts ps)) c s t ≡ bad k → Some (λ j. bad j ≡ moved ps c (mid s t A))
+assign_bad : (A : Names) (ps : Parts) (c : Scope) (s t : State) (k : Trouble) → hold_sets (settings_of A ps (firsts ps)) c s t ≡ Err k → Some (λ j. Err j ≡ moved ps c (mid s t A))
 assign_bad A ps c s t k h = by (moved ps c (mid s t A)) refl (sets_bad A ps c s t (firsts ps) k h)
   where
-    by : (o : Got State) → moved ps c (mid s t A) ≡ o → (y : Word) × IsBad (value_for y ps c (mid s t A)) → Some (λ j. bad j ≡ moved ps c (mid s t A))
-    by (got u) p b = absurd (subst IsBad (moved_good ps c (mid s t A) u p b.0) b.1)
-    by (bad j) p b = (j, sym p)
+    by : (o : Outcome State) → moved ps c (mid s t A) ≡ o → (y : Word) × IsBad (value_for y ps c (mid s t A)) → Some (λ j. Err j ≡ moved ps c (mid s t A))
+    by (Ok u) p b = absurd (subst IsBad (moved_good ps c (mid s t A) u p b.0) b.1)
+    by (Err j) p b = (j, sym p)
 
-await_bad : (o : Got Bool) (k : Trouble) (s : State) → o ≡ bad k → Some (λ j. Awaits o s (bad j))
-await_bad (got b) k s e = got_bad b k e
-await_bad (bad j) k s e = (j, refl)
+await_bad : (o : Outcome Bool) (k : Trouble) (s : State) → o ≡ Err k → Some (λ j. Awaits o s (Err j))
+await_bad (Ok b) k s e = got_bad b k e
+await_bad (Err j) k s e = (j, refl)
 
-branch_bad : (o : Got Bool) (P Q : Trouble → Type 0) (v w : Got Bool) (k : Trouble) → on o (λ p. cond p v w) ≡ bad k → (v ≡ bad k → Some P) → (w ≡ bad k → Some Q) → Some (λ j. Chosen o (P j) (Q j) (bad j))
-branch_bad (got true) P Q v w k e f g = f e
-branch_bad (got false) P Q v w k e f g = g e
-branch_bad (bad j) P Q v w k e f g = (j, refl)
+branch_bad : (o : Outcome Bool) (P Q : Trouble → Type 0) (v w : Outcome Bool) (k : Trouble) → o >>= (λ p. cond p v w) ≡ Err k → (v ≡ Err k → Some P) → (w ≡ Err k → Some Q) → Some (λ j. Chosen o (P j) (Q j) (Err j))
+branch_bad (Ok true) P Q v w k e f g = f e
+branch_bad (Ok false) P Q v w k e f g = g e
+branch_bad (Err j) P Q v w k e f g = (j, refl)
 
-some_bad : (vs : Values) (p : Value → Got Bool) (P : Value → Trouble → Type 0) (k : Trouble) → some_member vs p ≡ bad k → ((v : Value) → p v ≡ bad k → Some (P v)) → Some (λ j. SomeOf vs (λ v. P v j))
+some_bad : (vs : Values) (p : Value → Outcome Bool) (P : Value → Trouble → Type 0) (k : Trouble) → some_member vs p ≡ Err k → ((v : Value) → p v ≡ Err k → Some (P v)) → Some (λ j. SomeOf vs (λ v. P v j))
 some_bad no_values p P k e f = got_bad false k e
 some_bad (and v vs) p P k e f = ⊎_elim (λ a. let r = f v a in (r.0, inl r.1)) (λ b. let r = some_bad vs p P k b f in (r.0, inr r.1)) (either_bad (p v) (some_member vs p) k e)
 
-pick_bad : (o : Got Values) (p : Value → Got Bool) (P : Value → Trouble → Type 0) (k : Trouble) → on o (λ vs. some_member vs p) ≡ bad k → ((v : Value) → p v ≡ bad k → Some (P v)) → Some (λ j. Picks o (λ v. P v j) (bad j))
-pick_bad (got vs) p P k e f = some_bad vs p P k e f
-pick_bad (bad j) p P k e f = (j, refl)
+pick_bad : (o : Outcome Values) (p : Value → Outcome Bool) (P : Value → Trouble → Type 0) (k : Trouble) → o >>= (λ vs. some_member vs p) ≡ Err k → ((v : Value) → p v ≡ Err k → Some (P v)) → Some (λ j. Picks o (λ v. P v j) (Err j))
+pick_bad (Ok vs) p P k e f = some_bad vs p P k e f
+pick_bad (Err j) p P k e f = (j, refl)
 
 mutual
-  pub bad_one : (A : Names) (st : Effect) (c : Scope) (s t : State) (k : Trouble) → holds (build_one A st) c s t ≡ bad k → Some (λ j. RunOne st c (mid s t A) (bad j))
+  pub bad_one : (A : Names) (st : Effect) (c : Scope) (s t : State) (k : Trouble) → holds (build_one A st) c s t ≡ Err k → Some (λ j. RunOne st c (mid s t A) (Err j))
   bad_one A (assign ps) c s t k h = assign_bad A ps c s t k h
   bad_one A (await e) c s t k h = await_bad (e c (mid s t A)) k (mid s t A) h
   bad_one A (branch e a b) c s t k h =
-      branch_bad (e c (mid s t A)) (λ j. Run a c (mid s t A) (bad j)) (λ j. Run b c (mid s t A) (bad j)) _ _ k h
+      branch_bad (e c (mid s t A)) (λ j. Run a c (mid s t A) (Err j)) (λ j. Run b c (mid s t A) (Err j)) _ _ k h
       (λ m. bad_all A a c s t k (ended_bad _ _ k (sym (hold_ended (build A a) _ c s t) ∙ m)))
       (λ m. bad_all A b c s t k (ended_bad _ _ k (sym (hold_ended (build A b) _ c s t) ∙ m)))
   bad_one A (either bs) c s t k h = bad_some A (assigned_by bs) bs c s t k h
-  bad_one A (choose x e b) c s t k h = pick_bad (e c (mid s t A)) _ (λ v j. Run b (bound x v c) (mid s t A) (bad j)) k h (λ v m. bad_all A b (bound x v c) s t k m)
+  bad_one A (choose x e b) c s t k h = pick_bad (e c (mid s t A)) _ (λ v j. Run b (bound x v c) (mid s t A) (Err j)) k h (λ v m. bad_all A b (bound x v c) s t k m)
 
-  pub bad_all : (A : Names) (ss : Effects) (c : Scope) (s t : State) (k : Trouble) → hold (build A ss) c s t ≡ bad k → Some (λ j. Run ss c (mid s t A) (bad j))
+  pub bad_all : (A : Names) (ss : Effects) (c : Scope) (s t : State) (k : Trouble) → hold (build A ss) c s t ≡ Err k → Some (λ j. Run ss c (mid s t A) (Err j))
   bad_all A done c s t k h = got_bad true k h
   bad_all A (then st rest) c s t k h =
       ⊎_elim
-      (λ m. let r = bad_one A st c s t k m in (r.0, (bad r.0, r.1, refl)))
+      (λ m. let r = bad_one A st c s t k m in (r.0, (Err r.0, r.1, refl)))
       (λ m. let r = bad_all (more A (assigned st)) rest c s t k m.1 in (r.0, (End s t A (assigned st), true_one A st c s t m.0, r.1)))
       (both_bad (holds (build_one A st) c s t) (hold (build (more A (assigned st)) rest) c s t) k h)
 
-  bad_some : (A : Names) (all : List Word) (bs : Ways) (c : Scope) (s t : State) (k : Trouble) → hold_some (build_some A all bs) c s t ≡ bad k → Some (λ j. RunSome bs c (mid s t A) (bad j))
+  bad_some : (A : Names) (all : List Word) (bs : Ways) (c : Scope) (s t : State) (k : Trouble) → hold_some (build_some A all bs) c s t ≡ Err k → Some (λ j. RunSome bs c (mid s t A) (Err j))
   bad_some A all no_ways c s t k h = got_bad false k h
   bad_some A all (way b bs) c s t k h =
       ⊎_elim
@@ -206,17 +206,17 @@ mutual
 -- ---- the theorem, where no run faults
 
 abbrev pub NoFault : Effects → Scope → State → Type 0
-NoFault ss c m = (k : Trouble) → Run ss c m (bad k) → ⊥
+NoFault ss c m = (k : Trouble) → Run ss c m (Err k) → ⊥
 
-pub true_exactly : (A : Names) (ss : Effects) (c : Scope) (s t : State) → Once A ss → NoFault ss c (mid s t A) → (hold (build A ss) c s t ≡ got true → Run ss c (mid s t A) (End s t A (assigned_in ss))) × (Run ss c (mid s t A) (End s t A (assigned_in ss)) → hold (build A ss) c s t ≡ got true)
+pub true_exactly : (A : Names) (ss : Effects) (c : Scope) (s t : State) → Once A ss → NoFault ss c (mid s t A) → (hold (build A ss) c s t ≡ Ok true → Run ss c (mid s t A) (End s t A (assigned_in ss))) × (Run ss c (mid s t A) (End s t A (assigned_in ss)) → hold (build A ss) c s t ≡ Ok true)
 true_exactly A ss c s t o fine = (true_all A ss c s t, λ r. by (hold (build A ss) c s t) refl (fits_all A ss c s t o r))
   where
-    by : (v : Got Bool) → hold (build A ss) c s t ≡ v → NotFalse v → hold (build A ss) c s t ≡ got true
-    by (got true) e n = e
-    by (got false) e n = absurd n
-    by (bad k) e n = let r = bad_all A ss c s t k e in absurd (fine r.0 r.1)
+    by : (v : Outcome Bool) → hold (build A ss) c s t ≡ v → NotFalse v → hold (build A ss) c s t ≡ Ok true
+    by (Ok true) e n = e
+    by (Ok false) e n = absurd n
+    by (Err k) e n = let r = bad_all A ss c s t k e in absurd (fine r.0 r.1)
 
 -- an end that agrees with t on A and on all that the items assign is the state between
-pub fitting_end : (A : Names) (ss : Effects) (c : Scope) (s t u : State) → Run ss c (mid s t A) (got u) → ((x : Word) → more A (assigned_in ss) x ≡ true → u x ≡ t x) → u ≡ mid s t (more A (assigned_in ss))
+pub fitting_end : (A : Names) (ss : Effects) (c : Scope) (s t u : State) → Run ss c (mid s t A) (Ok u) → ((x : Word) → more A (assigned_in ss) x ≡ true → u x ≡ t x) → u ≡ mid s t (more A (assigned_in ss))
 fitting_end A ss c s t u r fits = is_mid s t u (more A (assigned_in ss)) fits (λ x e.
     let p = or_none (A x) (member (assigned_in ss) x) e in frame ss c (mid s t A) u x r p.1 ∙ mid_out s t A x p.0)

@@ -1,17 +1,17 @@
 -- A run changes no variable that its items don't assign.
-use Rattle.std.proofs.Common.{◌≡◌, List, ◌++◌, Bool, true, false, refl, sym, ◌∙◌, ap, subst, ⊎_elim}
+use Rattle.std.proofs.Common.{◌≡◌, List, ◌++◌, Bool, true, false, refl, sym, ◌∙◌, ap, subst, ⊎_elim, Ok, Err}
 use Rattle.tla_expr.specs.Tree.{Word}
 use Rattle.tla_value.specs.Value.{Value, Values, no_values, and}
 use Rattle.pcal_tree.specs.Scope.{Scope, bound}
-use Rattle.pcal_tree.specs.Scope.{State, Trouble, Got, got, bad}
+use Rattle.pcal_tree.specs.Scope.{State, Trouble, Outcome}
 use Rattle.action_builder.specs.Action.{member, Effect, assign, await, branch, either, choose, Effects, done, then, Ways, no_ways, way, assigned, assigned_in, assigned_by, Awaits, Chosen, SomeOf, Picks, Next, RunOne, Run, RunSome}
 use Rattle.action_builder.proofs.Parts.{moved_good, value_kept}
 use Rattle.action_builder.proofs.Sets.{or_none, member_append}
 
-pub got_same : {X : Type 0} (x y : X) → got x ≡ got y → x ≡ y
+pub got_same : {X : Type 0} (x y : X) → ◌≡◌ {A = Outcome X} (Ok x) (Ok y) → x ≡ y
 got_same x y e = cc
 
-pub got_bad : {X P : Type 0} (x : X) (k : Trouble) → got x ≡ bad k → P
+pub got_bad : {X P : Type 0} (x : X) (k : Trouble) → Ok x ≡ Err k → P
 got_bad x k e = cc
 
 pub not_in_front : (xs ys : List Word) (x : Word) → member (xs ++ ys) x ≡ false → member xs x ≡ false
@@ -20,30 +20,30 @@ not_in_front xs ys x e = (or_none (member xs x) (member ys x) (sym (member_appen
 pub not_behind : (xs ys : List Word) (x : Word) → member (xs ++ ys) x ≡ false → member ys x ≡ false
 not_behind xs ys x e = (or_none (member xs x) (member ys x) (sym (member_append xs ys x) ∙ e)).1
 
-pub frame_awaits : (o : Got Bool) (s u : State) → Awaits o s (got u) → u ≡ s
-frame_awaits (got true) s u e = got_same u s e
-frame_awaits (got false) s u e = absurd e
-frame_awaits (bad k) s u e = got_bad u k e
+pub frame_awaits : (o : Outcome Bool) (s u : State) → Awaits o s (Ok u) → u ≡ s
+frame_awaits (Ok true) s u e = got_same u s e
+frame_awaits (Ok false) s u e = absurd e
+frame_awaits (Err k) s u e = got_bad u k e
 
-frame_chosen : (o : Got Bool) (P Q Z : Type 0) (u : State) → Chosen o P Q (got u) → (P → Z) → (Q → Z) → Z
-frame_chosen (got true) P Q Z u r p q = p r
-frame_chosen (got false) P Q Z u r p q = q r
-frame_chosen (bad k) P Q Z u r p q = got_bad u k r
+frame_chosen : (o : Outcome Bool) (P Q Z : Type 0) (u : State) → Chosen o P Q (Ok u) → (P → Z) → (Q → Z) → Z
+frame_chosen (Ok true) P Q Z u r p q = p r
+frame_chosen (Ok false) P Q Z u r p q = q r
+frame_chosen (Err k) P Q Z u r p q = got_bad u k r
 
 frame_some : (vs : Values) (P : Value → Type 0) (Z : Type 0) → SomeOf vs P → ((v : Value) → P v → Z) → Z
 frame_some no_values P Z r h = absurd r
 frame_some (and v vs) P Z r h = ⊎_elim (λ p. h v p) (λ q. frame_some vs P Z q h) r
 
-frame_picks : (o : Got Values) (P : Value → Type 0) (Z : Type 0) (u : State) → Picks o P (got u) → ((v : Value) → P v → Z) → Z
-frame_picks (got vs) P Z u r h = frame_some vs P Z r h
-frame_picks (bad k) P Z u r h = got_bad u k r
+frame_picks : (o : Outcome Values) (P : Value → Type 0) (Z : Type 0) (u : State) → Picks o P (Ok u) → ((v : Value) → P v → Z) → Z
+frame_picks (Ok vs) P Z u r h = frame_some vs P Z r h
+frame_picks (Err k) P Z u r h = got_bad u k r
 
-frame_next : (R : State → Got State → Type 0) (q : Got State) (s u : State) (x : Word) → Next R q (got u) → ((w : State) → q ≡ got w → w x ≡ s x) → ((w : State) → R w (got u) → u x ≡ w x) → u x ≡ s x
-frame_next R (got w) s u x n h k = k w n ∙ h w refl
-frame_next R (bad j) s u x n h k = got_bad u j n
+frame_next : (R : State → Outcome State → Type 0) (q : Outcome State) (s u : State) (x : Word) → Next R q (Ok u) → ((w : State) → q ≡ Ok w → w x ≡ s x) → ((w : State) → R w (Ok u) → u x ≡ w x) → u x ≡ s x
+frame_next R (Ok w) s u x n h k = k w n ∙ h w refl
+frame_next R (Err j) s u x n h k = got_bad u j n
 
 mutual
-  pub frame_one : (st : Effect) (c : Scope) (s u : State) (x : Word) → RunOne st c s (got u) → member (assigned st) x ≡ false → u x ≡ s x
+  pub frame_one : (st : Effect) (c : Scope) (s u : State) (x : Word) → RunOne st c s (Ok u) → member (assigned st) x ≡ false → u x ≡ s x
   frame_one (assign ps) c s u x r f = got_same (u x) (s x) (sym (moved_good ps c s u (sym r) x) ∙ value_kept ps c s x f)
   frame_one (await e) c s u x r f = ap (λ w. w x) (frame_awaits (e c s) s u r)
   frame_one (branch e a b) c s u x r f =
@@ -51,14 +51,14 @@ mutual
   frame_one (either bs) c s u x r f = frame_by bs c s u x r f
   frame_one (choose y e b) c s u x r f = frame_picks (e c s) _ _ u r (λ v p. frame b (bound y v c) s u x p f)
 
-  pub frame : (ss : Effects) (c : Scope) (s u : State) (x : Word) → Run ss c s (got u) → member (assigned_in ss) x ≡ false → u x ≡ s x
+  pub frame : (ss : Effects) (c : Scope) (s u : State) (x : Word) → Run ss c s (Ok u) → member (assigned_in ss) x ≡ false → u x ≡ s x
   frame done c s u x r f = ap (λ w. w x) (got_same u s r)
   frame (then st rest) c s u x r f =
       frame_next (Run rest c) r.0 s u x r.2
       (λ w q. frame_one st c s w x (subst (RunOne st c s) q r.1) (not_in_front (assigned st) (assigned_in rest) x f))
       (λ w n. frame rest c w u x n (not_behind (assigned st) (assigned_in rest) x f))
 
-  pub frame_by : (bs : Ways) (c : Scope) (s u : State) (x : Word) → RunSome bs c s (got u) → member (assigned_by bs) x ≡ false → u x ≡ s x
+  pub frame_by : (bs : Ways) (c : Scope) (s u : State) (x : Word) → RunSome bs c s (Ok u) → member (assigned_by bs) x ≡ false → u x ≡ s x
   frame_by no_ways c s u x r f = absurd r
   frame_by (way b bs) c s u x r f =
       ⊎_elim (λ p. frame b c s u x p (not_in_front (assigned_in b) (assigned_by bs) x f)) (λ q. frame_by bs c s u x q (not_behind (assigned_in b) (assigned_by bs) x f)) r

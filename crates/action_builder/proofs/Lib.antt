@@ -5,7 +5,7 @@ pub mod Frame
 pub mod Main
 pub mod Converse
 pub mod Faults
-pub mod Den
+pub mod Denotations
 pub mod Contract
 pub mod Settle
 pub mod Except

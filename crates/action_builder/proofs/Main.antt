@@ -1,12 +1,12 @@
 -- The written action is true exactly of the steps that a run makes.
-use Rattle.std.proofs.Common.{◌≡◌, List, [], ◌∷◌, ◌++◌, Bool, true, false, cond, ◌||◌, bytes_eq, ◌⊎◌, refl, sym, ◌∙◌, ap, subst, inl, inr, ⊎_elim}
+use Rattle.std.proofs.Common.{◌≡◌, List, [], ◌∷◌, ◌++◌, Bool, true, false, cond, ◌||◌, bytes_eq, ◌⊎◌, refl, sym, ◌∙◌, ap, subst, inl, inr, ⊎_elim, Ok, Err}
 use Rattle.std.proofs.lemmas.Bool.{cases_Bool, or_cases, both_ways}
 use Rattle.tla_expr.specs.Tree.{Word}
 use Rattle.tla_value.specs.Value.{Value, Values, no_values, and}
 use Rattle.tla_value.specs.Order.{same}
 use Rattle.pcal_tree.specs.Scope.{Scope, bound}
 use Rattle.action_builder.proofs.Equal.{name-true, value-true}
-use Rattle.pcal_tree.specs.Scope.{State, Got, got, bad, on}
+use Rattle.pcal_tree.specs.Scope.{State, Outcome, ◌>>=◌}
 use Rattle.action_builder.specs.Action.{Names, member, more, mid, Effect, assign, await, branch, either, choose, Effects, done, then, Ways, no_ways, way, Parts, firsts, moved, value_for, hold_sets, settings_of, assigned, assigned_in, assigned_by, Awaits, Chosen, SomeOf, Picks, RunOne, Run, RunSome, Item, unchanged, Items, none, item, all_same, and_then, or_all, some_member, holds, hold, hold_some, ended, minus, build_one, build, build_some, OnceOne, Once, OnceSome, IsBad}
 use Rattle.action_builder.proofs.Sets.{or_left, or_right, or_none, member_append, more_append, mid_in, mid_out, is_mid, mid_grow, minus_same}
 use Rattle.action_builder.proofs.Parts.{moved_good, moved_bad, value_kept, bad_assigned}
@@ -14,70 +14,70 @@ use Rattle.action_builder.proofs.Frame.{got_same, got_bad}
 
 -- ---- verdicts
 
-pub and_then_assoc : (u v w : Got Bool) → and_then (and_then u v) w ≡ and_then u (and_then v w)
-and_then_assoc (got true) v w = refl
-and_then_assoc (got false) v w = refl
-and_then_assoc (bad k) v w = refl
+pub and_then_assoc : (u v w : Outcome Bool) → and_then (and_then u v) w ≡ and_then u (and_then v w)
+and_then_assoc (Ok true) v w = refl
+and_then_assoc (Ok false) v w = refl
+and_then_assoc (Err k) v w = refl
 
-pub hold_ended : (is : Items) (j : Item) (c : Scope) (s t : State) → hold (ended is j) c s t ≡ and_then (hold is c s t) (and_then (holds j c s t) (got true))
+pub hold_ended : (is : Items) (j : Item) (c : Scope) (s t : State) → hold (ended is j) c s t ≡ and_then (hold is c s t) (and_then (holds j c s t) (Ok true))
 hold_ended none j c s t = refl
-hold_ended (item i is) j c s t = ap (and_then (holds i c s t)) (hold_ended is j c s t) ∙ sym (and_then_assoc (holds i c s t) (hold is c s t) (and_then (holds j c s t) (got true)))
+hold_ended (item i is) j c s t = ap (and_then (holds i c s t)) (hold_ended is j c s t) ∙ sym (and_then_assoc (holds i c s t) (hold is c s t) (and_then (holds j c s t) (Ok true)))
 
-pub got_bool : {P : Type 0} → got false ≡ got true → P
+pub got_bool : {P : Type 0} → ◌≡◌ {A = Outcome Bool} (Ok false) (Ok true) → P
 got_bool e = cc
 
-pub both_true : (v w : Got Bool) → and_then v w ≡ got true → (v ≡ got true) × (w ≡ got true)
-both_true (got true) w e = (refl, e)
-both_true (got false) w e = got_bool e
-both_true (bad k) w e = got_bad true k (sym e)
+pub both_true : (v w : Outcome Bool) → and_then v w ≡ Ok true → (v ≡ Ok true) × (w ≡ Ok true)
+both_true (Ok true) w e = (refl, e)
+both_true (Ok false) w e = got_bool e
+both_true (Err k) w e = got_bad true k (sym e)
 
-pub ended_true : (v : Got Bool) (b : Bool) → and_then v (and_then (got b) (got true)) ≡ got true → (v ≡ got true) × (b ≡ true)
-ended_true v true e = ((both_true v (got true) e).0, refl)
-ended_true v false e = got_bool (both_true v (got false) e).1
+pub ended_true : (v : Outcome Bool) (b : Bool) → and_then v (and_then (Ok b) (Ok true)) ≡ Ok true → (v ≡ Ok true) × (b ≡ true)
+ended_true v true e = ((both_true v (Ok true) e).0, refl)
+ended_true v false e = got_bool (both_true v (Ok false) e).1
 
-pub either_true : (v w : Got Bool) → or_all v w ≡ got true → (v ≡ got true) ⊎ (w ≡ got true)
-either_true (got true) w e = inl refl
-either_true (got false) (got b) e = inr e
-either_true (got false) (bad k) e = got_bad true k (sym e)
-either_true (bad k) w e = got_bad true k (sym e)
+pub either_true : (v w : Outcome Bool) → or_all v w ≡ Ok true → (v ≡ Ok true) ⊎ (w ≡ Ok true)
+either_true (Ok true) w e = inl refl
+either_true (Ok false) (Ok b) e = inr e
+either_true (Ok false) (Err k) e = got_bad true k (sym e)
+either_true (Err k) w e = got_bad true k (sym e)
 
 -- ---- assignments
 
-value_true : (o : Got Value) (w : Value) → on o (λ v. got (same w v)) ≡ got true → o ≡ got w
-value_true (got v) w e = ap got (sym (value-true w v (got_same (same w v) true e)))
-value_true (bad k) w e = got_bad true k (sym e)
+value_true : (o : Outcome Value) (w : Value) → o >>= (λ v. Ok (same w v)) ≡ Ok true → o ≡ Ok w
+value_true (Ok v) w e = ap Ok (sym (value-true w v (got_same (same w v) true e)))
+value_true (Err k) w e = got_bad true k (sym e)
 
-pub sets_values : (A : Names) (ps : Parts) (c : Scope) (s t : State) (ys : List Word) → hold_sets (settings_of A ps ys) c s t ≡ got true → (y : Word) → member ys y ≡ true → value_for y ps c (mid s t A) ≡ got (t y)
+pub sets_values : (A : Names) (ps : Parts) (c : Scope) (s t : State) (ys : List Word) → hold_sets (settings_of A ps ys) c s t ≡ Ok true → (y : Word) → member ys y ≡ true → value_for y ps c (mid s t A) ≡ Ok (t y)
 sets_values A ps c s t [] h y m = absurd (both_ways false refl m)
 sets_values A ps c s t (z ∷ ys) h y m =
     let p = both_true _ _ h in
     ⊎_elim
-    (λ a. subst (λ x. value_for x ps c (mid s t A) ≡ got (t x)) (name-true z y a) (value_true (value_for z ps c (mid s t A)) (t z) p.0))
+    (λ a. subst (λ x. value_for x ps c (mid s t A) ≡ Ok (t x)) (name-true z y a) (value_true (value_for z ps c (mid s t A)) (t z) p.0))
     (λ b. sets_values A ps c s t ys p.1 y b)
     (or_cases (bytes_eq z y) (member ys y) m)
 
-is_bad_not : {X P : Type 0} (o : Got X) (x : X) → IsBad o → o ≡ got x → P
+is_bad_not : {X P : Type 0} (o : Outcome X) (x : X) → IsBad o → o ≡ Ok x → P
 is_bad_not o x b e = absurd (subst IsBad e b)
 
 -- the settings true: the run ends in the state between
-pub assign_true : (A : Names) (ps : Parts) (c : Scope) (s t : State) → hold_sets (settings_of A ps (firsts ps)) c s t ≡ got true → got (mid s t (more A (firsts ps))) ≡ moved ps c (mid s t A)
+pub assign_true : (A : Names) (ps : Parts) (c : Scope) (s t : State) → hold_sets (settings_of A ps (firsts ps)) c s t ≡ Ok true → Ok (mid s t (more A (firsts ps))) ≡ moved ps c (mid s t A)
 assign_true A ps c s t h = by (moved ps c (mid s t A)) refl
   where
-    there : (u : State) → moved ps c (mid s t A) ≡ got u → (x : Word) → member (firsts ps) x ≡ true → u x ≡ t x
+    there : (u : State) → moved ps c (mid s t A) ≡ Ok u → (x : Word) → member (firsts ps) x ≡ true → u x ≡ t x
     there u p x m = got_same (u x) (t x) (sym (moved_good ps c (mid s t A) u p x) ∙ sets_values A ps c s t (firsts ps) h x m)
 
-    kept : (u : State) → moved ps c (mid s t A) ≡ got u → (x : Word) → member (firsts ps) x ≡ false → u x ≡ mid s t A x
+    kept : (u : State) → moved ps c (mid s t A) ≡ Ok u → (x : Word) → member (firsts ps) x ≡ false → u x ≡ mid s t A x
     kept u p x m = got_same (u x) (mid s t A x) (sym (moved_good ps c (mid s t A) u p x) ∙ value_kept ps c (mid s t A) x m)
 
-    inside : (u : State) → moved ps c (mid s t A) ≡ got u → (x : Word) → more A (firsts ps) x ≡ true → u x ≡ t x
+    inside : (u : State) → moved ps c (mid s t A) ≡ Ok u → (x : Word) → more A (firsts ps) x ≡ true → u x ≡ t x
     inside u p x e = ⊎_elim (λ m. there u p x m) (λ m. kept u p x m ∙ mid_in s t A x (⊎_elim (λ a. a) (λ b. absurd (both_ways (member (firsts ps) x) m b)) (or_cases (A x) (member (firsts ps) x) e))) (cases_Bool (member (firsts ps) x))
 
-    outside : (u : State) → moved ps c (mid s t A) ≡ got u → (x : Word) → more A (firsts ps) x ≡ false → u x ≡ s x
+    outside : (u : State) → moved ps c (mid s t A) ≡ Ok u → (x : Word) → more A (firsts ps) x ≡ false → u x ≡ s x
     outside u p x e = let q = or_none (A x) (member (firsts ps) x) e in kept u p x q.1 ∙ mid_out s t A x q.0
 
-    by : (o : Got State) → moved ps c (mid s t A) ≡ o → got (mid s t (more A (firsts ps))) ≡ moved ps c (mid s t A)
-    by (got u) p = sym (p ∙ ap got (is_mid s t u (more A (firsts ps)) (inside u p) (outside u p)))
-    by (bad k) p =
+    by : (o : Outcome State) → moved ps c (mid s t A) ≡ o → Ok (mid s t (more A (firsts ps))) ≡ moved ps c (mid s t A)
+    by (Ok u) p = sym (p ∙ ap Ok (is_mid s t u (more A (firsts ps)) (inside u p) (outside u p)))
+    by (Err k) p =
         let b = moved_bad ps c (mid s t A) k p in
         is_bad_not _ (t b.0) b.1 (sets_values A ps c s t (firsts ps) h b.0 (bad_assigned ps c (mid s t A) b.0 b.1))
 
@@ -140,35 +140,35 @@ more_nil s t A = λ i x. cond (or_false (A x) i) (t x) (s x)
     or_false true = refl
     or_false false = refl
 
-abbrev pub End : State → State → Names → List Word → Got State
-End s t A xs = got (mid s t (more A xs))
+abbrev pub End : State → State → Names → List Word → Outcome State
+End s t A xs = Ok (mid s t (more A xs))
 
-await_true : (o : Got Bool) (A : Names) (s t : State) → o ≡ got true → Awaits o (mid s t A) (End s t A [])
-await_true (got true) A s t e = ap got (more_nil s t A)
-await_true (got false) A s t e = got_bool e
-await_true (bad k) A s t e = got_bad true k (sym e)
+await_true : (o : Outcome Bool) (A : Names) (s t : State) → o ≡ Ok true → Awaits o (mid s t A) (End s t A [])
+await_true (Ok true) A s t e = ap Ok (more_nil s t A)
+await_true (Ok false) A s t e = got_bool e
+await_true (Err k) A s t e = got_bad true k (sym e)
 
-branch_true : (o : Got Bool) (P Q : Type 0) (v w : Got Bool) (r : Got State) → on o (λ p. cond p v w) ≡ got true → (v ≡ got true → P) → (w ≡ got true → Q) → Chosen o P Q r
-branch_true (got true) P Q v w r e f g = f e
-branch_true (got false) P Q v w r e f g = g e
-branch_true (bad k) P Q v w r e f g = got_bad true k (sym e)
+branch_true : (o : Outcome Bool) (P Q : Type 0) (v w : Outcome Bool) (r : Outcome State) → o >>= (λ p. cond p v w) ≡ Ok true → (v ≡ Ok true → P) → (w ≡ Ok true → Q) → Chosen o P Q r
+branch_true (Ok true) P Q v w r e f g = f e
+branch_true (Ok false) P Q v w r e f g = g e
+branch_true (Err k) P Q v w r e f g = got_bad true k (sym e)
 
-some_true : (vs : Values) (p : Value → Got Bool) (P : Value → Type 0) → some_member vs p ≡ got true → ((v : Value) → p v ≡ got true → P v) → SomeOf vs P
+some_true : (vs : Values) (p : Value → Outcome Bool) (P : Value → Type 0) → some_member vs p ≡ Ok true → ((v : Value) → p v ≡ Ok true → P v) → SomeOf vs P
 some_true no_values p P e f = got_bool e
 some_true (and v vs) p P e f = ⊎_elim (λ a. inl (f v a)) (λ b. inr (some_true vs p P b f)) (either_true (p v) (some_member vs p) e)
 
-pick_true : (o : Got Values) (p : Value → Got Bool) (P : Value → Type 0) (r : Got State) → on o (λ vs. some_member vs p) ≡ got true → ((v : Value) → p v ≡ got true → P v) → Picks o P r
-pick_true (got vs) p P r e f = some_true vs p P e f
-pick_true (bad k) p P r e f = got_bad true k (sym e)
+pick_true : (o : Outcome Values) (p : Value → Outcome Bool) (P : Value → Type 0) (r : Outcome State) → o >>= (λ vs. some_member vs p) ≡ Ok true → ((v : Value) → p v ≡ Ok true → P v) → Picks o P r
+pick_true (Ok vs) p P r e f = some_true vs p P e f
+pick_true (Err k) p P r e f = got_bad true k (sym e)
 
 -- a branch with its UNCHANGED, true
-ended_run : (A : Names) (b : Effects) (own other all : List Word) (c : Scope) (s t : State) → Within own all → Covers own other all → hold (ended (build A b) (unchanged (minus other own))) c s t ≡ got true → (hold (build A b) c s t ≡ got true → Run b c (mid s t A) (End s t A own)) → Run b c (mid s t A) (End s t A all)
+ended_run : (A : Names) (b : Effects) (own other all : List Word) (c : Scope) (s t : State) → Within own all → Covers own other all → hold (ended (build A b) (unchanged (minus other own))) c s t ≡ Ok true → (hold (build A b) c s t ≡ Ok true → Run b c (mid s t A) (End s t A own)) → Run b c (mid s t A) (End s t A all)
 ended_run A b own other all c s t w v e run =
     let parts = ended_true (hold (build A b) c s t) (all_same (minus other own) s t) (sym (hold_ended (build A b) (unchanged (minus other own)) c s t) ∙ e) in
-    subst (λ m. Run b c (mid s t A) (got m)) (grown s t A own other all w v parts.1) (run parts.0)
+    subst (λ m. Run b c (mid s t A) (Ok m)) (grown s t A own other all w v parts.1) (run parts.0)
 
 mutual
-  pub true_one : (A : Names) (st : Effect) (c : Scope) (s t : State) → holds (build_one A st) c s t ≡ got true → RunOne st c (mid s t A) (End s t A (assigned st))
+  pub true_one : (A : Names) (st : Effect) (c : Scope) (s t : State) → holds (build_one A st) c s t ≡ Ok true → RunOne st c (mid s t A) (End s t A (assigned st))
   true_one A (assign ps) c s t h = assign_true A ps c s t h
   true_one A (await e) c s t h = await_true (e c (mid s t A)) A s t h
   true_one A (branch e a b) c s t h =
@@ -178,16 +178,16 @@ mutual
   true_one A (either bs) c s t h = true_some A (assigned_by bs) bs c s t (λ x m. m) h
   true_one A (choose x e b) c s t h = pick_true (e c (mid s t A)) _ _ _ h (λ v k. true_all A b (bound x v c) s t k)
 
-  pub true_all : (A : Names) (ss : Effects) (c : Scope) (s t : State) → hold (build A ss) c s t ≡ got true → Run ss c (mid s t A) (End s t A (assigned_in ss))
-  true_all A done c s t h = ap got (more_nil s t A)
+  pub true_all : (A : Names) (ss : Effects) (c : Scope) (s t : State) → hold (build A ss) c s t ≡ Ok true → Run ss c (mid s t A) (End s t A (assigned_in ss))
+  true_all A done c s t h = ap Ok (more_nil s t A)
   true_all A (then st rest) c s t h =
       let parts = both_true (holds (build_one A st) c s t) (hold (build (more A (assigned st)) rest) c s t) h in (
         End s t A (assigned st),
         true_one A st c s t parts.0,
-        subst (λ B. Run rest c (mid s t (more A (assigned st))) (got (mid s t B))) (sym (more_append A (assigned st) (assigned_in rest))) (true_all (more A (assigned st)) rest c s t parts.1),
+        subst (λ B. Run rest c (mid s t (more A (assigned st))) (Ok (mid s t B))) (sym (more_append A (assigned st) (assigned_in rest))) (true_all (more A (assigned st)) rest c s t parts.1),
       )
 
-  true_some : (A : Names) (all : List Word) (bs : Ways) (c : Scope) (s t : State) → Within (assigned_by bs) all → hold_some (build_some A all bs) c s t ≡ got true → RunSome bs c (mid s t A) (End s t A all)
+  true_some : (A : Names) (all : List Word) (bs : Ways) (c : Scope) (s t : State) → Within (assigned_by bs) all → hold_some (build_some A all bs) c s t ≡ Ok true → RunSome bs c (mid s t A) (End s t A all)
   true_some A all no_ways c s t w h = got_bool h
   true_some A all (way b bs) c s t w h =
       ⊎_elim

@@ -1,22 +1,22 @@
 -- Verdicts that match, and the parts of which the truth of the written items is put together.
-use Rattle.std.proofs.Common.{◌≡◌, List, [], ◌∷◌, ◌++◌, Bool, true, false, cond, not, ◌||◌, ◌&&◌, bytes_eq, Some, None, ◌⊎◌, refl, sym, ◌∙◌, ap, subst, ⊎_elim, inl, inr}
+use Rattle.std.proofs.Common.{◌≡◌, List, [], ◌∷◌, ◌++◌, Bool, true, false, cond, not, ◌||◌, ◌&&◌, bytes_eq, Some, None, ◌⊎◌, refl, sym, ◌∙◌, ap, subst, ⊎_elim, inl, inr, Ok, Err}
 use Rattle.std.proofs.lemmas.Bool.{cases_Bool, or_cases, both_ways, and_parts}
 use Rattle.tla_token.specs.declared.place.Place.{Place}
 use Rattle.tla_expr.specs.Tree.{Word, Form, name, next, strict, select, Tree, node, Trees, no_trees, tree, Every, EveryOf}
 use Rattle.tla_value.specs.declared.fault.FaultKind.TheVariants.{AssertFailed}
-use Rattle.tla_value.specs.Value.{Value, truth, int, text, model, set, fun, Values, no_values, and, Outcome, good}
+use Rattle.tla_value.specs.Value.{Value, truth, int, text, model, set, fun, Values, no_values, and, Outcome, ◌>>=◌}
 use Rattle.tla_value.specs.Value as Values
 use Rattle.tla_value.specs.Order.{same}
-use Rattle.tla_value.specs.Stops.{plain, on_value, on_truth}
+use Rattle.tla_value.specs.Stops.{plain, on_truth}
 use Rattle.tla_value.specs.Meaning.{Env, just, bind, eval}
 use Rattle.tla_value.specs.Related.{In}
 use Rattle.tla_value.proofs.Graft.{every_weaker}
 use Rattle.tla_value.proofs.Primes.{Between, Unprimed, unprimed_law}
 use Rattle.tla_value.proofs.Primes as Primes
-use Rattle.module_text.specs.Truth.{Verdict, told, fault, over, on_good, as_truth, as_set, at_each, is_value, same_look, items_hold, item_holds, some_branch}
+use Rattle.module_text.specs.Truth.{Verdict, as_truth, as_set, at_each, is_value, same_look, items_hold, item_holds, some_branch}
 use Rattle.module_text.specs.Truth as Module
-use Rattle.pcal_tree.specs.Algorithm.{Moves, no_moves, move}
-use Rattle.pcal_tree.specs.Scope.{State, Got, got, bad, faulty, on, valued, Scope, bound, root_place, truth_at, members_at}
+use Rattle.pcal_tree.specs.Algorithm.{Assignments, no_assignments, assignment}
+use Rattle.pcal_tree.specs.Scope.{State, Outcome, fault, ◌>>=◌, Scope, bound, root_place, truth_at, members_at}
 use Rattle.action_builder.specs.Action.{Names, member, mid, minus, all_same, and_then, or_all, some_member}
 use Rattle.action_builder.specs.Effects.{head_of}
 use Rattle.action_builder.specs.Written.{Key, sub, fixed, subs, keys_of, keys_first, keys_in, subscripts, own, slot_trees, except_of, is_whole, side_of, primed, left_of}
@@ -24,41 +24,35 @@ use Rattle.action_builder.specs.Ready.{Readable, Halfway, IsWithin, Paired, Scop
 use Rattle.action_builder.proofs.Equal.{name-true, eq-name, value-true, eq-value}
 use Rattle.action_builder.proofs.Sets.{or_left, or_right, minus_same, same_minus}
 use Rattle.action_builder.proofs.Main.{Within}
-use Rattle.action_builder.proofs.Den.{on_twice}
+use Rattle.action_builder.proofs.Denotations.{on_twice}
 
 -- ---- verdicts that match
 
-pub match_and : (p q : Verdict) (v w : Got Bool) → Matches p v → Matches q w → Matches (Module.and_then p q) (and_then v w)
-match_and (told true) q (got true) w h k = k
-match_and (told true) q (got false) w h k = cc
-match_and (told false) q (got true) w h k = cc
-match_and (told false) q (got false) w h k = refl
-match_and (told b) q (bad j) w h k = absurd h
-match_and (fault j p) q (got b) w h k = absurd h
-match_and (fault j p) q (bad i) w h k = tt
-match_and (over p) q (got b) w h k = absurd h
-match_and (over p) q (bad i) w h k = tt
+pub match_and : (p q : Verdict) (v w : Outcome Bool) → Matches p v → Matches q w → Matches (Module.and_then p q) (and_then v w)
+match_and (Ok true) q (Ok true) w h k = k
+match_and (Ok true) q (Ok false) w h k = cc
+match_and (Ok false) q (Ok true) w h k = cc
+match_and (Ok false) q (Ok false) w h k = refl
+match_and (Ok b) q (Err j) w h k = absurd h
+match_and (Err j) q (Ok b) w h k = absurd h
+match_and (Err j) q (Err i) w h k = tt
 
-pub match_or : (p q : Verdict) (v w : Got Bool) → Matches p v → Matches q w → Matches (Module.or_all p q) (or_all v w)
-match_or (told a) (told b) (got c) (got d) h k = λ i. h i || k i
-match_or (told a) (told b) (got c) (bad j) h k = absurd k
-match_or (told a) (fault j p) (got c) (got d) h k = absurd k
-match_or (told a) (fault j p) (got c) (bad i) h k = tt
-match_or (told a) (over p) (got c) (got d) h k = absurd k
-match_or (told a) (over p) (got c) (bad i) h k = tt
-match_or (told a) q (bad j) w h k = absurd h
-match_or (fault j p) q (got b) w h k = absurd h
-match_or (fault j p) q (bad i) w h k = tt
-match_or (over p) q (got b) w h k = absurd h
-match_or (over p) q (bad i) w h k = tt
+pub match_or : (p q : Verdict) (v w : Outcome Bool) → Matches p v → Matches q w → Matches (Module.or_all p q) (or_all v w)
+match_or (Ok a) (Ok b) (Ok c) (Ok d) h k = λ i. h i || k i
+match_or (Ok a) (Ok b) (Ok c) (Err j) h k = absurd k
+match_or (Ok a) (Err j) (Ok c) (Ok d) h k = absurd k
+match_or (Ok a) (Err j) (Ok c) (Err i) h k = tt
+match_or (Ok a) q (Err j) w h k = absurd h
+match_or (Err j) q (Ok b) w h k = absurd h
+match_or (Err j) q (Err i) w h k = tt
 
-pub match_value : (o : Outcome) (f : Value → Verdict) (g : Value → Got Bool) → ((v : Value) → Matches (f v) (g v)) → Matches (on_good o f) (on (valued o got) g)
-match_value (good v) f g h = h v
-match_value (Values.fault k p) f g h = tt
-match_value (Values.over p) f g h = tt
+pub match_value : (o : Outcome Value) (f : Value → Verdict) (g : Value → Outcome Bool) → ((v : Value) → Matches (f v) (g v)) → Matches (o >>= f) ((o >>= Ok) >>= g)
+match_value (Ok v) f g h = h v
+match_value (Err (Values.fault k p)) f g h = tt
+match_value (Err (Values.over p)) f g h = tt
 
 -- where a truth value is needed; places do not matter
-pub match_truth : (at p : Place) (v : Value) (f : Bool → Verdict) (g : Bool → Got Bool) → ((b : Bool) → Matches (f b) (g b)) → Matches (as_truth at v f) (on (truth_at p v) g)
+pub match_truth : (at p : Place) (v : Value) (f : Bool → Verdict) (g : Bool → Outcome Bool) → ((b : Bool) → Matches (f b) (g b)) → Matches (as_truth at v f) ((truth_at p v) >>= g)
 match_truth at p (truth b) f g h = h b
 match_truth at p (int n) f g h = tt
 match_truth at p (text w) f g h = tt
@@ -66,11 +60,11 @@ match_truth at p (model w) f g h = tt
 match_truth at p (set vs) f g h = tt
 match_truth at p (fun ds rs) f g h = tt
 
-pub match_members : (vs : Values) (f : Value → Verdict) (g : Value → Got Bool) → ((v : Value) → Matches (f v) (g v)) → Matches (at_each vs f) (some_member vs g)
+pub match_members : (vs : Values) (f : Value → Verdict) (g : Value → Outcome Bool) → ((v : Value) → Matches (f v) (g v)) → Matches (at_each vs f) (some_member vs g)
 match_members no_values f g h = refl
 match_members (and v vs) f g h = match_or (f v) (at_each vs f) (g v) (some_member vs g) (h v) (match_members vs f g h)
 
-pub match_set : (at p : Place) (v : Value) (f : Value → Verdict) (g : Value → Got Bool) → ((v : Value) → Matches (f v) (g v)) → Matches (as_set at v (λ vs. at_each vs f)) (on (members_at p v) (λ vs. some_member vs g))
+pub match_set : (at p : Place) (v : Value) (f : Value → Verdict) (g : Value → Outcome Bool) → ((v : Value) → Matches (f v) (g v)) → Matches (as_set at v (λ vs. at_each vs f)) ((members_at p v) >>= (λ vs. some_member vs g))
 match_set at p (truth b) f g h = tt
 match_set at p (int n) f g h = tt
 match_set at p (text w) f g h = tt
@@ -78,39 +72,37 @@ match_set at p (model w) f g h = tt
 match_set at p (set vs) f g h = match_members vs f g h
 match_set at p (fun ds rs) f g h = tt
 
-pub match_test : (o : Outcome) (at p : Place) (f : Bool → Verdict) (g : Bool → Got Bool) → ((b : Bool) → Matches (f b) (g b)) → Matches (on_good o (λ v. as_truth at v f)) (on (on (valued o got) (truth_at p)) g)
+pub match_test : (o : Outcome Value) (at p : Place) (f : Bool → Verdict) (g : Bool → Outcome Bool) → ((b : Bool) → Matches (f b) (g b)) → Matches (o >>= (λ v. as_truth at v f)) (((o >>= Ok) >>= (truth_at p)) >>= g)
 match_test o at p f g h =
-    subst (Matches (on_good o (λ v. as_truth at v f))) (sym (on_twice (valued o got) (truth_at p) g)) (match_value o (λ v. as_truth at v f) (λ v. on (truth_at p v) g) (λ v. match_truth at p v f g h))
+    subst (Matches (o >>= (λ v. as_truth at v f))) (sym (on_twice (o >>= Ok) (truth_at p) g)) (match_value o (λ v. as_truth at v f) (λ v. (truth_at p v) >>= g) (λ v. match_truth at p v f g h))
 
-pub match_some : (o : Outcome) (at p : Place) (f : Value → Verdict) (g : Value → Got Bool) → ((v : Value) → Matches (f v) (g v)) → Matches (on_good o (λ v. as_set at v (λ vs. at_each vs f))) (on (on (valued o got) (members_at p)) (λ vs. some_member vs g))
+pub match_some : (o : Outcome Value) (at p : Place) (f : Value → Verdict) (g : Value → Outcome Bool) → ((v : Value) → Matches (f v) (g v)) → Matches (o >>= (λ v. as_set at v (λ vs. at_each vs f))) (((o >>= Ok) >>= (members_at p)) >>= (λ vs. some_member vs g))
 match_some o at p f g h =
-    subst (Matches (on_good o (λ v. as_set at v (λ vs. at_each vs f)))) (sym (on_twice (valued o got) (members_at p) (λ vs. some_member vs g)))
-    (match_value o (λ v. as_set at v (λ vs. at_each vs f)) (λ v. on (members_at p v) (λ vs. some_member vs g)) (λ v. match_set at p v f g h))
+    subst (Matches (o >>= (λ v. as_set at v (λ vs. at_each vs f)))) (sym (on_twice (o >>= Ok) (members_at p) (λ vs. some_member vs g)))
+    (match_value o (λ v. as_set at v (λ vs. at_each vs f)) (λ v. (members_at p v) >>= (λ vs. some_member vs g)) (λ v. match_set at p v f g h))
 
-pub match_once : (p : Verdict) (v : Got Bool) → Matches p v → Matches p (or_all v (got false))
-match_once (told true) (got true) h = refl
-match_once (told true) (got false) h = cc
-match_once (told false) (got true) h = cc
-match_once (told false) (got false) h = refl
-match_once (told b) (bad k) h = absurd h
-match_once (fault j p) (got b) h = absurd h
-match_once (fault j p) (bad k) h = tt
-match_once (over p) (got b) h = absurd h
-match_once (over p) (bad k) h = tt
+pub match_once : (p : Verdict) (v : Outcome Bool) → Matches p v → Matches p (or_all v (Ok false))
+match_once (Ok true) (Ok true) h = refl
+match_once (Ok true) (Ok false) h = cc
+match_once (Ok false) (Ok true) h = cc
+match_once (Ok false) (Ok false) h = refl
+match_once (Ok b) (Err k) h = absurd h
+match_once (Err j) (Ok b) h = absurd h
+match_once (Err j) (Err k) h = tt
 
-pub match_one : (o : Outcome) (f : Value → Verdict) (g : Value → Got Bool) → ((v : Value) → Matches (f v) (g v)) → Matches (on_good o f) (on (on (valued o got) (λ v. got (and v no_values))) (λ vs. some_member vs g))
+pub match_one : (o : Outcome Value) (f : Value → Verdict) (g : Value → Outcome Bool) → ((v : Value) → Matches (f v) (g v)) → Matches (o >>= f) (((o >>= Ok) >>= (λ v. Ok (and v no_values))) >>= (λ vs. some_member vs g))
 match_one o f g h =
-    subst (Matches (on_good o f)) (sym (on_twice (valued o got) (λ v. got (and v no_values)) (λ vs. some_member vs g)))
-    (match_value o f (λ v. or_all (g v) (got false)) (λ v. match_once (f v) (g v) (h v)))
+    subst (Matches (o >>= f)) (sym (on_twice (o >>= Ok) (λ v. Ok (and v no_values)) (λ vs. some_member vs g)))
+    (match_value o f (λ v. or_all (g v) (Ok false)) (λ v. match_once (f v) (g v) (h v)))
 
-pub match_true : (v : Got Bool) (p : Verdict) → Matches p v → Matches (Module.and_then p (told true)) (and_then v (got true))
-match_true v p h = match_and p (told true) v (got true) h refl
+pub match_true : (v : Outcome Bool) (p : Verdict) → Matches p v → Matches (Module.and_then p (Ok true)) (and_then v (Ok true))
+match_true v p h = match_and p (Ok true) v (Ok true) h refl
 
--- a truth value that is told as it is
-pub match_told : (o : Outcome) (at p : Place) → Matches (on_good o (λ v. as_truth at v told)) (on (valued o got) (truth_at p))
-match_told o at p = match_value o (λ v. as_truth at v told) (truth_at p) (λ v. by v)
+-- a truth value that is got as it is
+pub match_told : (o : Outcome Value) (at p : Place) → Matches (o >>= (λ v. as_truth at v Ok)) ((o >>= Ok) >>= (truth_at p))
+match_told o at p = match_value o (λ v. as_truth at v Ok) (truth_at p) (λ v. by v)
   where
-    by : (v : Value) → Matches (as_truth at v told) (truth_at p v)
+    by : (v : Value) → Matches (as_truth at v Ok) (truth_at p v)
     by (truth b) = refl
     by (int n) = tt
     by (text w) = tt
@@ -118,21 +110,21 @@ match_told o at p = match_value o (λ v. as_truth at v told) (truth_at p) (λ v.
     by (set vs) = tt
     by (fun ds rs) = tt
 
-pub match_print : (o : Outcome) (at : Place) → Matches (on_good (on_value o (λ v. good (truth true))) (λ v. as_truth at v told)) (on (valued o got) (λ v. got true))
-match_print (good v) at = refl
-match_print (Values.fault k p) at = tt
-match_print (Values.over p) at = tt
+pub match_print : (o : Outcome Value) (at : Place) → Matches ((o >>= (λ v. Ok (truth true))) >>= (λ v. as_truth at v Ok)) ((o >>= Ok) >>= (λ v. Ok true))
+match_print (Ok v) at = refl
+match_print (Err (Values.fault k p)) at = tt
+match_print (Err (Values.over p)) at = tt
 
-pub match_assert : (o : Outcome) (at p q : Place) → Matches (on_good (on_value o (λ v. on_truth at v (λ b. cond b (good (truth true)) (Values.fault AssertFailed at)))) (λ v. as_truth at v told)) (on (on (valued o got) (truth_at p)) (λ b. cond b (got true) (bad (faulty AssertFailed q))))
-match_assert (good (truth true)) at p q = refl
-match_assert (good (truth false)) at p q = tt
-match_assert (good (int n)) at p q = tt
-match_assert (good (text w)) at p q = tt
-match_assert (good (model w)) at p q = tt
-match_assert (good (set vs)) at p q = tt
-match_assert (good (fun ds rs)) at p q = tt
-match_assert (Values.fault k r) at p q = tt
-match_assert (Values.over r) at p q = tt
+pub match_assert : (o : Outcome Value) (at p q : Place) → Matches ((o >>= (λ v. on_truth at v (λ b. cond b (Ok (truth true)) (Err (Values.fault AssertFailed at))))) >>= (λ v. as_truth at v Ok)) (((o >>= Ok) >>= (truth_at p)) >>= (λ b. cond b (Ok true) (Err (fault AssertFailed q))))
+match_assert (Ok (truth true)) at p q = refl
+match_assert (Ok (truth false)) at p q = tt
+match_assert (Ok (int n)) at p q = tt
+match_assert (Ok (text w)) at p q = tt
+match_assert (Ok (model w)) at p q = tt
+match_assert (Ok (set vs)) at p q = tt
+match_assert (Ok (fun ds rs)) at p q = tt
+match_assert (Err (Values.fault k r)) at p q = tt
+match_assert (Err (Values.over r)) at p q = tt
 
 -- ---- expressions
 
@@ -213,25 +205,25 @@ subscripts_every P [] ts h k = k
 subscripts_every P (sub t ∷ ks) ts h k = (h.0, subscripts_every P ks ts h.1 k)
 subscripts_every P (fixed a ∷ ks) ts h k = subscripts_every P ks ts h k
 
-slots_every : (U : Readable) (A : Names) (ms : Moves) → FineSides U A ms → EveryOf (Plain A (In (U A))) (slot_trees ms)
-slots_every U A no_moves h = tt
-slots_every U A (move l e ms) h = subscripts_every (Plain A (In (U A))) (keys_of l) (tree e (slot_trees ms)) (keys_every (Plain A (In (U A))) l h.0) (h.1, slots_every U A ms h.2)
+slots_every : (U : Readable) (A : Names) (ms : Assignments) → FineSides U A ms → EveryOf (Plain A (In (U A))) (slot_trees ms)
+slots_every U A no_assignments h = tt
+slots_every U A (assignment l e ms) h = subscripts_every (Plain A (In (U A))) (keys_of l) (tree e (slot_trees ms)) (keys_every (Plain A (In (U A))) l h.0) (h.1, slots_every U A ms h.2)
 
-pub own_fine : (U : Readable) (A : Names) (y : Word) (ms : Moves) → FineSides U A ms → FineSides U A (own y ms)
-own_fine U A y no_moves h = tt
-own_fine U A y (move l e ms) h = by (own_fine U A y ms h.2) (bytes_eq (head_of l) y)
+pub own_fine : (U : Readable) (A : Names) (y : Word) (ms : Assignments) → FineSides U A ms → FineSides U A (own y ms)
+own_fine U A y no_assignments h = tt
+own_fine U A y (assignment l e ms) h = by (own_fine U A y ms h.2) (bytes_eq (head_of l) y)
   where
-    by : FineSides U A (own y ms) → (b : Bool) → FineSides U A (cond b (move l e (own y ms)) (own y ms))
+    by : FineSides U A (own y ms) → (b : Bool) → FineSides U A (cond b (assignment l e (own y ms)) (own y ms))
     by ih true = (h.0, h.1, ih)
     by ih false = ih
 
-pub side_fine : (U : Readable) (A : Names) (y : Word) (ms : Moves) → U A y ≡ true → FineSides U A ms → FineTree U A (side_of y ms)
-side_fine U A y no_moves u h = ((tt, u, tt), tt)
-side_fine U A y (move l e ms) u h = by (is_whole (keys_of l) ms)
+pub side_fine : (U : Readable) (A : Names) (y : Word) (ms : Assignments) → U A y ≡ true → FineSides U A ms → FineTree U A (side_of y ms)
+side_fine U A y no_assignments u h = ((tt, u, tt), tt)
+side_fine U A y (assignment l e ms) u h = by (is_whole (keys_of l) ms)
   where
-    by : (b : Bool) → FineTree U A (cond b e (except_of (root_place l) y (move l e ms)))
+    by : (b : Bool) → FineTree U A (cond b e (except_of (root_place l) y (assignment l e ms)))
     by true = h.1
-    by false = ((tt, tt, tt), (((tt, u, tt), tt), slots_every U A (move l e ms) h))
+    by false = ((tt, tt, tt), (((tt, u, tt), tt), slots_every U A (assignment l e ms) h))
 
 -- ---- UNCHANGED
 

@@ -1,15 +1,15 @@
 -- The prepared statements have the ends of the statements as they stand, and trouble where these have trouble.
-use Rattle.std.proofs.Common.{◌≡◌, List, [], ◌∷◌, Bool, true, false, cond, Some, None, refl, sym, ◌∙◌, subst}
+use Rattle.std.proofs.Common.{◌≡◌, List, [], ◌∷◌, Bool, true, false, cond, Some, None, refl, sym, ◌∙◌, subst, Ok, Err}
 use Rattle.tla_token.specs.declared.place.Place.{Place}
 use Rattle.tla_expr.specs.Tree.{Word, name, node, no_trees}
-use Rattle.tla_value.specs.Value.{Value, Outcome, good, fault, over}
-use Rattle.tla_value.specs.Stops.{Check, on_value, tested, sense_of}
+use Rattle.tla_value.specs.Value.{Value, Outcome, fault, over, ◌>>=◌}
+use Rattle.tla_value.specs.Stops.{Check, tested, sense_of}
 use Rattle.tla_value.specs.Strict.{applied}
 use Rattle.tla_value.specs.Meaning.{just, eval}
 use Rattle.tla_value.specs.Grafts.{owned, own_part, read_tree}
 use Rattle.tla_value.specs.Related.{In}
 use Rattle.pcal_tree.specs.Algorithm.{Statements, Macro}
-use Rattle.pcal_tree.specs.Scope.{State, got, on, valued, all_valued, deeper, Scope, reach_in}
+use Rattle.pcal_tree.specs.Scope.{State, ◌>>=◌, all_valued, deeper, Scope, reach_in}
 use Rattle.pcal_tree.specs.Program.{read_at}
 use Rattle.pcal_tree.specs.Run.{Has, Follow, Rules, unlabelled, run, with_macros, exit_to}
 use Rattle.pcal_tree.specs.Expand.{graft_all, expanded}
@@ -31,21 +31,21 @@ pub localised : (M : Rules) (self : Word) (v : Value) (own : Word → Bool) (her
 localised M self v own here ss sc h clean K =
     graft_runs M (owned self own) Any here ss clean sc (own_scope M.check self own sc) (through_meets M.check (owned self own) sc (whole_free self v sc h)) K K refl
 
-own_parts : (c : Check) (self : Word) (v : Value) (own : Word → Bool) (sc : Scope) → Whole self v sc → (x : Word) (at : Place) (s : State) → (own_scope c self own sc).part x at s ≡ got (part_at x (own_path (own x) v))
+own_parts : (c : Check) (self : Word) (v : Value) (own : Word → Bool) (sc : Scope) → Whole self v sc → (x : Word) (at : Place) (s : State) → (own_scope c self own sc).part x at s ≡ Ok (part_at x (own_path (own x) v))
 own_parts c self v own sc h x at s = by (own x)
   where
-    by : (b : Bool) → reach_in c (cond b (Some (own_part self x at)) None) x at sc s ≡ got (part_at x (own_path b v))
-    by true = (λ i. on (h.part x at s i) (λ p. all_valued (eval c (node (name self) at no_trees) ∷ []) (sc.env s) (λ ks. got (deeper ks p))))
-        ∙ (λ i. valued (h.identity at s i).value (λ k. got (deeper (k ∷ []) (part_at x []))))
+    by : (b : Bool) → reach_in c (cond b (Some (own_part self x at)) None) x at sc s ≡ Ok (part_at x (own_path b v))
+    by true = (λ i. (h.part x at s i) >>= (λ p. all_valued (eval c (node (name self) at no_trees) ∷ []) (sc.env s) (λ ks. Ok (deeper ks p))))
+        ∙ (λ i. (h.identity at s i).value >>= (λ k. Ok (deeper (k ∷ []) (part_at x []))))
     by false = h.part x at s
 
 pub own_free : (c : Check) (self : Word) (v : Value) (own : Word → Bool) (sc : Scope) → Whole self v sc → Free (own_scope c self own sc)
 own_free c self v own sc h x at p s = own_parts c self v own sc h x at s ∙ sym (own_parts c self v own sc h x p s)
 
-last_read : (o : Outcome) (at : Place) → o ≡ on_value o (read_at at [])
-last_read (good v) at = refl
-last_read (fault k p) at = refl
-last_read (over p) at = refl
+last_read : (o : Outcome Value) (at : Place) → o ≡ o >>= (read_at at [])
+last_read (Ok v) at = refl
+last_read (Err (fault k p)) at = refl
+last_read (Err (over p)) at = refl
 
 -- a variable that is read in the state stands at the identifier where it is the process's own, else for itself
 pub own_stands : (c : Check) (self : Word) (v : Value) (own : Word → Bool) (sc : Scope) → Whole self v sc → (x : Word) → ((at : Place) (s : State) → (sc.env s).now x at ≡ just (s x)) → StandsAtPath (own_scope c self own sc) (own_path (own x) v) x
@@ -54,8 +54,8 @@ own_stands c self v own sc h x reads at s = (own_parts c self v own sc h x at s,
     by : (b : Bool) → read_tree c (cond b (Some (own_part self x at)) None) x at (sc.env s) ≡ sense_of (read_at at (own_path b v) (s x))
     by true =
         (λ i. record {
-          value = on_value (reads at s i).value (λ f. on_value (h.identity at s i).value (λ k. applied at f k));
-          test = λ p w. on_value (reads at s i).value (λ f. on_value (h.identity at s i).value (λ k. tested p w (applied at f k)));
+          value = (reads at s i).value >>= (λ f. (h.identity at s i).value >>= (λ k. applied at f k));
+          test = λ p w. (reads at s i).value >>= (λ f. (h.identity at s i).value >>= (λ k. tested p w (applied at f k)));
         }) ∙ (λ i. sense_of (last_read (applied at (s x) v) at i))
     by false = reads at s
 

@@ -2,8 +2,8 @@
 use Rattle.std.proofs.Common.{◌≡◌, ℕ, [], ◌∷◌, codes, refl}
 use Rattle.tla_token.specs.declared.place.Place.{Place}
 use Rattle.tla_expr.specs.Tree.{Word, index, number, name, next, strict, apply, except, Tree, node, no_trees, tree}
-use Rattle.module_text.specs.Module.{test, setting, unchanged, exists, choice, either as any, no_items, item, no_branches as no_lists, branch as list}
-use Rattle.pcal_tree.specs.Algorithm.{no_moves, move, no_binds, one_of, Statement, assign, skip, branch, either, with, Statements, done, then, no_branches, or}
+use Rattle.module_text.specs.Module.{test, setting, unchanged, exists, if_then_else, either as any, no_items, item, no_branches as no_lists, branch as list}
+use Rattle.pcal_tree.specs.Algorithm.{no_assignments, assignment, no_binds, one_of, Statement, assign, skip, branch, either, with, Statements, done, then, no_branches, or}
 use Rattle.action_builder.specs.Written.{true_at, write}
 use Rattle.action_builder.specs.Prepared.{none}
 
@@ -32,24 +32,24 @@ abbrev part : Word → Tree → Tree
 part w i = node (strict apply) at (tree (var w) (tree i no_trees))
 
 abbrev sets : Tree → Tree → Statement
-sets l e = assign (move l e no_moves)
+sets l e = assign (assignment l e no_assignments)
 
 -- x := y; y := x: what is read after its assignment is primed
 later_row : write (x ∷ y ∷ []) none (and_next (sets (var x) (var y)) (and_next (sets (var y) (var x)) done)) ≡ item (setting x (var y)) (item (setting y (later x)) no_items)
 later_row = refl
 
 -- x := y || y := x: right sides are all read before
-at_once_row : write (x ∷ y ∷ []) none (and_next (assign (move (var x) (var y) (move (var y) (var x) no_moves))) done) ≡ item (setting x (var y)) (item (setting y (var x)) no_items)
+at_once_row : write (x ∷ y ∷ []) none (and_next (assign (assignment (var x) (var y) (assignment (var y) (var x) no_assignments))) done) ≡ item (setting x (var y)) (item (setting y (var x)) no_items)
 at_once_row = refl
 
 -- x[1] := 2 || x[y] := 3
-parts_row : write (x ∷ y ∷ []) none (and_next (assign (move (part x (num 1)) (num 2) (move (part x (var y)) (num 3) no_moves))) done)
+parts_row : write (x ∷ y ∷ []) none (and_next (assign (assignment (part x (num 1)) (num 2) (assignment (part x (var y)) (num 3) no_assignments))) done)
     ≡ item (setting x (node (strict (except (record { path = index ∷ []; place = at } ∷ record { path = index ∷ []; place = at } ∷ []))) at (tree (var x) (tree (num 1) (tree (num 2) (tree (var y) (tree (num 3) no_trees))))))) no_items
 parts_row = refl
 
 -- if x then y := 1; else skip; a branch leaves unchanged what the other assigns
 branch_row : write (x ∷ y ∷ []) none (and_next (branch (var x) (and_next (sets (var y) (num 1)) done) (and_next skip done)) done)
-    ≡ item (choice (var x) (item (setting y (num 1)) no_items) (item (test (true_at at)) (item (unchanged (y ∷ [])) no_items))) no_items
+    ≡ item (if_then_else (var x) (item (setting y (num 1)) no_items) (item (test (true_at at)) (item (unchanged (y ∷ [])) no_items))) no_items
 branch_row = refl
 
 -- either or: a list that would be empty is (TRUE)

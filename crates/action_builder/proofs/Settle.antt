@@ -1,13 +1,13 @@
 -- Settled statements have the ends of the statements, and trouble where these have trouble.
-use Rattle.std.proofs.Common.{◌≡◌, [], ◌∷◌, Bool, true, false, cond, ◌||◌, ◌⊎◌, refl, ap, subst, inl, inr, ⊎_elim}
+use Rattle.std.proofs.Common.{◌≡◌, [], ◌∷◌, Bool, true, false, cond, ◌||◌, ◌⊎◌, refl, ap, subst, inl, inr, ⊎_elim, Ok, Err}
 use Rattle.tla_token.specs.declared.place.Place.{Place}
 use Rattle.tla_expr.specs.Tree.{Word}
 use Rattle.tla_value.specs.declared.fault.FaultKind.TheVariants.{AssertFailed}
 use Rattle.tla_value.specs.Value.{Value, Values, no_values, and}
 use Rattle.tla_value.specs.Stops.{Check}
 use Rattle.tla_value.specs.Related.{In}
-use Rattle.pcal_tree.specs.Algorithm.{Span, Binds, no_binds, one_of, is, Statement, assign, await, print, assert, skip, branch, either, with, loop, jump, macro, invoke, leave, Statements, done, then, mark, Branches, no_branches, or}
-use Rattle.pcal_tree.specs.Scope.{State, Got, got, bad, faulty, Scope, bound, test, members, value_of}
+use Rattle.pcal_tree.specs.Algorithm.{Span, Binds, no_binds, one_of, is, Statement, assign, await, print, assert, skip, branch, either, with, while, goto, macro, call, return, Statements, done, then, mark, Branches, no_branches, or}
+use Rattle.pcal_tree.specs.Scope.{State, Outcome, fault, Scope, bound, test, members, value_of}
 use Rattle.pcal_tree.specs.Assign.{moved}
 use Rattle.pcal_tree.specs.Run.{Course, stops, Has, HasSome, after, at_each, held, Follow, Rules, unlabelled, label_of, run_binds, run_one, run, run_branches, exit_to}
 use Rattle.pcal_tree.specs.Clean.{following}
@@ -19,9 +19,9 @@ use Rattle.action_builder.specs.Settled.{Moving, jumps_one, jumps, jumps_some, s
 pub close_refl : (P : Outcomes) → Close P P
 close_refl P = record { ends = λ u. (λ x. x, λ x. x); faults = (λ x. x, λ x. x) }
 
-pub close_after : {X : Type 0} (o : Got X) (f g : X → Course) → ((x : X) → Close (Has (f x)) (Has (g x))) → Close (Has (after o f)) (Has (after o g))
-close_after (got x) f g h = h x
-close_after (bad k) f g h = close_refl (λ r. r ≡ bad k)
+pub close_after : {X : Type 0} (o : Outcome X) (f g : X → Course) → ((x : X) → Close (Has (f x)) (Has (g x))) → Close (Has (after o f)) (Has (after o g))
+close_after (Ok x) f g h = h x
+close_after (Err k) f g h = close_refl (λ r. r ≡ Err k)
 
 pub close_cond : (t : Bool) (a b c d : State → Course) (s : State) → Close (Has (a s)) (Has (c s)) → Close (Has (b s)) (Has (d s)) → Close (Has (cond t a b s)) (Has (cond t c d s))
 close_cond true a b c d s h k = h
@@ -82,7 +82,7 @@ mutual
   free_one M here there at (await e) f sc K L h s = close_after (test M.check e sc s) _ _ (λ t. close_cond t K.goes (λ u. held at) L.goes (λ u. held at) s (h s) (close_held at at))
   free_one M here there at (print e) f sc K L h s = close_after (value_of M.check e sc s) (λ v. K.goes s) (λ v. L.goes s) (λ v. h s)
   free_one M here there at (assert e) f sc K L h s =
-      close_after (test M.check e sc s) _ _ (λ t. close_cond t K.goes (λ u. stops (faulty AssertFailed at)) L.goes (λ u. stops (faulty AssertFailed at)) s (h s) (close_refl (λ r. r ≡ bad (faulty AssertFailed at))))
+      close_after (test M.check e sc s) _ _ (λ t. close_cond t K.goes (λ u. stops (fault AssertFailed at)) L.goes (λ u. stops (fault AssertFailed at)) s (h s) (close_refl (λ r. r ≡ Err (fault AssertFailed at))))
   free_one M here there at skip f sc K L h s = h s
   free_one M here there at (branch e a b) f sc K L h s =
       let q = or_none (jumps a) (jumps b) f in
@@ -136,12 +136,12 @@ mutual
       by_jump (jumps b) M here at (with bs b) (with bs (settled W unlabelled (label_of rest l) b)) rest (settled W unlabelled l rest) l sc t.1
       (λ f. free_one M unlabelled here at.first (with bs b) f sc (following M (settled W unlabelled l rest) sc to_end) (following M rest sc (exit_to M l)) h)
       (close_binds M.check at.first Fit F d.bind bs t.2 (λ inner. run M unlabelled (settled W unlabelled (label_of rest l) b) inner to_end) (λ inner. run M unlabelled b inner (exit_to M (label_of rest l))) (λ inner k. settle M W Fit F g d unlabelled (label_of rest l) b t.0 inner k) sc fit) s
-  settle_one M W Fit F g d here l at (loop e b) rest t sc fit h s =
+  settle_one M W Fit F g d here l at (while e b) rest t sc fit h s =
       close_after (test M.check e sc s) _ _ (λ yes. close_cond yes (run M unlabelled (settled W unlabelled here b) sc to_end) (run M unlabelled (settled W unlabelled l rest) sc to_end) (run M unlabelled b sc (exit_to M here)) (run M unlabelled rest sc (exit_to M l)) s (settle M W Fit F g d unlabelled here b t sc fit s) (h s))
-  settle_one M W Fit F g d here l at (jump m) rest t sc fit h s = d.pc m sc fit s
+  settle_one M W Fit F g d here l at (goto m) rest t sc fit h s = d.pc m sc fit s
   settle_one M W Fit F g d here l at (macro m ts) rest t sc fit h s = absurd t
-  settle_one M W Fit F g d here l at (invoke p ts) rest t sc fit h s = d.call at p ts (label_of rest l) sc fit t s
-  settle_one M W Fit F g d here l at leave rest t sc fit h s = d.back at sc fit s
+  settle_one M W Fit F g d here l at (call p ts) rest t sc fit h s = d.call at p ts (label_of rest l) sc fit t s
+  settle_one M W Fit F g d here l at return rest t sc fit h s = d.back at sc fit s
 
   -- the law
   pub settle : (M : Rules) (W : Moving) (Fit : Scope → Type 0) (F : Word → Type 0) (g : Callable) → Does M W Fit F g → (here l : Word) (ss : Statements) → Tidy F g ss → (sc : Scope) → Fit sc → CloseCourses (run M unlabelled (settled W here l ss) sc to_end) (run M here ss sc (exit_to M l))

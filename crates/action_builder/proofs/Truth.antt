@@ -1,18 +1,18 @@
 -- The written items have the truth of what their statements mean.
-use Rattle.std.proofs.Common.{◌≡◌, List, [], ◌∷◌, ◌++◌, Bool, true, false, cond, ◌||◌, bytes_eq, codes, Some, None, refl, sym, ◌∙◌, ap, subst, ⊎_elim}
+use Rattle.std.proofs.Common.{◌≡◌, List, [], ◌∷◌, ◌++◌, Bool, true, false, cond, ◌||◌, bytes_eq, codes, Some, None, refl, sym, ◌∙◌, ap, subst, ⊎_elim, Ok, Err}
 use Rattle.std.proofs.lemmas.Bool.{or_cases}
 use Rattle.tla_token.specs.declared.place.Place.{Place}
 use Rattle.tla_expr.specs.Tree.{Word, Tree, Trees, no_trees, tree}
-use Rattle.tla_value.specs.Value.{Value, Outcome, good}
+use Rattle.tla_value.specs.Value.{Value, Outcome, ◌>>=◌}
 use Rattle.tla_value.specs.Order.{same}
-use Rattle.tla_value.specs.Stops.{plain, on_value}
+use Rattle.tla_value.specs.Stops.{plain}
 use Rattle.tla_value.specs.Meaning.{Env, called, on_all, eval}
-use Rattle.tla_value.specs.Definitions.{Look}
+use Rattle.tla_value.specs.Definitions.{Valuation}
 use Rattle.module_text.specs.Module.{Items, no_items, item}
-use Rattle.module_text.specs.Truth.{Verdict, told, on_good, as_truth, as_set, at_each, is_value, items_hold, some_branch}
+use Rattle.module_text.specs.Truth.{Verdict, as_truth, as_set, at_each, is_value, items_hold, some_branch}
 use Rattle.module_text.specs.Truth as Module
-use Rattle.pcal_tree.specs.Algorithm.{Moves, Binds, no_binds, one_of, is, Statement, assign, await, print, assert, skip, branch, either, with, Statements, done, then, mark, Branches, no_branches, or}
-use Rattle.pcal_tree.specs.Scope.{State, Got, got, on, valued, Scope, bound, place_of}
+use Rattle.pcal_tree.specs.Algorithm.{Assignments, Binds, no_binds, one_of, is, Statement, assign, await, print, assert, skip, branch, either, with, Statements, done, then, mark, Branches, no_branches, or}
+use Rattle.pcal_tree.specs.Scope.{State, Outcome, ◌>>=◌, Scope, bound, place_of}
 use Rattle.action_builder.specs.Action.{Names, member, more, mid, firsts, assigned, assigned_in, assigned_by, minus, all_same, and_then, hold, hold_some, holds, hold_sets, build, build_one, build_some, ended, value_for, Effects}
 use Rattle.action_builder.specs.Action as Action
 use Rattle.action_builder.specs.Effects.{parts_of, effect_of, effects_of, ways_of, nested}
@@ -30,48 +30,47 @@ stands_bound U vs sc env x v out k = record { paired = paired_bound U vs sc env 
 
 -- ---- lists of items
 
-pub hold_onto : (s t : Look) (e : Env) (xs ys : Items) → items_hold plain s t e (onto xs ys) ≡ Module.and_then (items_hold plain s t e xs) (items_hold plain s t e ys)
+pub hold_onto : (s t : Valuation) (e : Env) (xs ys : Items) → items_hold plain s t e (onto xs ys) ≡ Module.and_then (items_hold plain s t e xs) (items_hold plain s t e ys)
 hold_onto s t e no_items ys = refl
 hold_onto s t e (item x xs) ys = ap (Module.and_then (Module.item_holds plain s t e x)) (hold_onto s t e xs ys) ∙ assoc (Module.item_holds plain s t e x) (items_hold plain s t e xs) (items_hold plain s t e ys)
   where
     assoc : (p q r : Verdict) → Module.and_then p (Module.and_then q r) ≡ Module.and_then (Module.and_then p q) r
-    assoc (told true) q r = refl
-    assoc (told false) q r = refl
-    assoc (Module.fault k p) q r = refl
-    assoc (Module.over p) q r = refl
+    assoc (Ok true) q r = refl
+    assoc (Ok false) q r = refl
+    assoc (Err k) q r = refl
 
-match_filled : (s t : Look) (e : Env) (at : Place) (xs : Items) (v : Got Bool) → Matches (items_hold plain s t e xs) v → Matches (items_hold plain s t e (filled at xs)) v
+match_filled : (s t : Valuation) (e : Env) (at : Place) (xs : Items) (v : Outcome Bool) → Matches (items_hold plain s t e xs) v → Matches (items_hold plain s t e (filled at xs)) v
 match_filled s t e at no_items v h = h
 match_filled s t e at (item x xs) v h = h
 
-pub match_unchanged : (vs all own : List Word) (s t : State) (e : Env) → Within all vs → Matches (items_hold plain (values_of vs s) (values_of vs t) e (unchanged_of (left_of vs all own))) (and_then (got (all_same (minus all own) s t)) (got true))
+pub match_unchanged : (vs all own : List Word) (s t : State) (e : Env) → Within all vs → Matches (items_hold plain (values_of vs s) (values_of vs t) e (unchanged_of (left_of vs all own))) (and_then (Ok (all_same (minus all own) s t)) (Ok true))
 match_unchanged vs all own s t e w = by (left_of vs all own) (unchanged_same vs all own s t w)
   where
-    by : (xs : List Word) → Module.all_same (values_of vs s) (values_of vs t) xs ≡ all_same (minus all own) s t → Matches (items_hold plain (values_of vs s) (values_of vs t) e (unchanged_of xs)) (and_then (got (all_same (minus all own) s t)) (got true))
-    by [] q = subst (λ b. Matches (told true) (and_then (got b) (got true))) q refl
-    by (x ∷ xs) q = subst (λ b. Matches (Module.and_then (told b) (told true)) (and_then (got (all_same (minus all own) s t)) (got true))) (sym q) (match_true (got (all_same (minus all own) s t)) (told (all_same (minus all own) s t)) refl)
+    by : (xs : List Word) → Module.all_same (values_of vs s) (values_of vs t) xs ≡ all_same (minus all own) s t → Matches (items_hold plain (values_of vs s) (values_of vs t) e (unchanged_of xs)) (and_then (Ok (all_same (minus all own) s t)) (Ok true))
+    by [] q = subst (λ b. Matches (Ok true) (and_then (Ok b) (Ok true))) q refl
+    by (x ∷ xs) q = subst (λ b. Matches (Module.and_then (Ok b) (Ok true)) (and_then (Ok (all_same (minus all own) s t)) (Ok true))) (sym q) (match_true (Ok (all_same (minus all own) s t)) (Ok (all_same (minus all own) s t)) refl)
 
 -- a branch with its UNCHANGED
 match_branch : (vs all own : List Word) (s t : State) (e : Env) (at : Place) (xs : Items) (is' : Action.Items) (sc : Scope) → Within all vs → Matches (items_hold plain (values_of vs s) (values_of vs t) e xs) (hold is' sc s t) → Matches (items_hold plain (values_of vs s) (values_of vs t) e (branch_items vs at xs all own)) (hold (ended is' (Action.unchanged (minus all own))) sc s t)
 match_branch vs all own s t e at xs is' sc w h =
     match_filled (values_of vs s) (values_of vs t) e at (onto xs (unchanged_of (left_of vs all own))) _
     (subst (Matches (items_hold plain (values_of vs s) (values_of vs t) e (onto xs (unchanged_of (left_of vs all own))))) (sym (Main.hold_ended is' (Action.unchanged (minus all own)) sc s t))
-    (subst (λ p. Matches p (and_then (hold is' sc s t) (and_then (got (all_same (minus all own) s t)) (got true)))) (sym (hold_onto (values_of vs s) (values_of vs t) e xs (unchanged_of (left_of vs all own))))
-    (match_and (items_hold plain (values_of vs s) (values_of vs t) e xs) (items_hold plain (values_of vs s) (values_of vs t) e (unchanged_of (left_of vs all own))) (hold is' sc s t) (and_then (got (all_same (minus all own) s t)) (got true)) h (match_unchanged vs all own s t e w))))
+    (subst (λ p. Matches p (and_then (hold is' sc s t) (and_then (Ok (all_same (minus all own) s t)) (Ok true)))) (sym (hold_onto (values_of vs s) (values_of vs t) e xs (unchanged_of (left_of vs all own))))
+    (match_and (items_hold plain (values_of vs s) (values_of vs t) e xs) (items_hold plain (values_of vs s) (values_of vs t) e (unchanged_of (left_of vs all own))) (hold is' sc s t) (and_then (Ok (all_same (minus all own) s t)) (Ok true)) h (match_unchanged vs all own s t e w))))
 
 -- ---- assignments
 
-match_setting : (U : Readable) (vs : List Word) (A : Names) (ms : Moves) → FineMoves U vs A ms → (sc : Scope) (env : State → State → Env) → Stands U vs sc env → IsWithin A (member vs) → (s t : State) (y : Word) → member (firsts (parts_of plain ms)) y ≡ true → member vs y ≡ true → Matches (on_good (eval plain (primed A (side_of y (own y ms))) (env s t)).value (λ v. told (is_value (values_of vs t y) v))) (on (value_for y (parts_of plain ms) sc (mid s t A)) (λ v. got (same (t y) v)))
+match_setting : (U : Readable) (vs : List Word) (A : Names) (ms : Assignments) → FineMoves U vs A ms → (sc : Scope) (env : State → State → Env) → Stands U vs sc env → IsWithin A (member vs) → (s t : State) (y : Word) → member (firsts (parts_of plain ms)) y ≡ true → member vs y ≡ true → Matches ((eval plain (primed A (side_of y (own y ms))) (env s t)).value >>= (λ v. Ok (is_value (values_of vs t y) v))) ((value_for y (parts_of plain ms) sc (mid s t A)) >>= (λ v. Ok (same (t y) v)))
 match_setting U vs A ms f sc env k w s t y m in_vs =
     let e : Tree = side_of y (own y ms) in
-    subst (λ o. Matches (on_good o.value (λ v. told (is_value (values_of vs t y) v))) (on (value_for y (parts_of plain ms) sc (mid s t A)) (λ v. got (same (t y) v)))) (sym (exp_law U vs A sc env k.paired w (side_of y (own y ms)) (side_fine U A y (own y ms) (f.readable y m) (own_fine U A y ms f.sides)) s t))
-    (subst (λ z. Matches (on_good (eval plain (side_of y (own y ms)) (sc.env (mid s t A))).value (λ v. told (is_value (values_of vs t y) v))) (on z (λ v. got (same (t y) v)))) (value_law y ms f.left sc k.scoped.part (mid s t A) (λ at. k.scoped.reads y in_vs at (mid s t A)))
-    (match_value (eval plain (side_of y (own y ms)) (sc.env (mid s t A))).value (λ v. told (is_value (values_of vs t y) v)) (λ v. got (same (t y) v)) (λ v. ap (λ b. is_value (cond b (Some (t y)) None) v) in_vs)))
+    subst (λ o. Matches (o.value >>= (λ v. Ok (is_value (values_of vs t y) v))) ((value_for y (parts_of plain ms) sc (mid s t A)) >>= (λ v. Ok (same (t y) v)))) (sym (exp_law U vs A sc env k.paired w (side_of y (own y ms)) (side_fine U A y (own y ms) (f.readable y m) (own_fine U A y ms f.sides)) s t))
+    (subst (λ z. Matches ((eval plain (side_of y (own y ms)) (sc.env (mid s t A))).value >>= (λ v. Ok (is_value (values_of vs t y) v))) (z >>= (λ v. Ok (same (t y) v)))) (value_law y ms f.left sc k.scoped.part (mid s t A) (λ at. k.scoped.reads y in_vs at (mid s t A)))
+    (match_value (eval plain (side_of y (own y ms)) (sc.env (mid s t A))).value (λ v. Ok (is_value (values_of vs t y) v)) (λ v. Ok (same (t y) v)) (λ v. ap (λ b. is_value (cond b (Some (t y)) None) v) in_vs)))
 
-match_sets : (U : Readable) (vs : List Word) (A : Names) (ms : Moves) → FineMoves U vs A ms → (sc : Scope) (env : State → State → Env) → Stands U vs sc env → IsWithin A (member vs) → (s t : State) (ys : List Word) → Within ys (firsts (parts_of plain ms)) → Within ys vs → (rest : Items) (r : Got Bool) → Matches (holds_on vs env rest s t) r → Matches (holds_on vs env (settings_of A ms ys rest) s t) (and_then (hold_sets (Action.settings_of A (parts_of plain ms) ys) sc s t) r)
+match_sets : (U : Readable) (vs : List Word) (A : Names) (ms : Assignments) → FineMoves U vs A ms → (sc : Scope) (env : State → State → Env) → Stands U vs sc env → IsWithin A (member vs) → (s t : State) (ys : List Word) → Within ys (firsts (parts_of plain ms)) → Within ys vs → (rest : Items) (r : Outcome Bool) → Matches (holds_on vs env rest s t) r → Matches (holds_on vs env (settings_of A ms ys rest) s t) (and_then (hold_sets (Action.settings_of A (parts_of plain ms) ys) sc s t) r)
 match_sets U vs A ms f sc env k w s t [] i j rest r h = h
 match_sets U vs A ms f sc env k w s t (y ∷ ys) i j rest r h =
-    subst (Matches (holds_on vs env (settings_of A ms (y ∷ ys) rest) s t)) (sym (and_then_assoc (on (value_for y (parts_of plain ms) sc (mid s t A)) (λ v. got (same (t y) v))) (hold_sets (Action.settings_of A (parts_of plain ms) ys) sc s t) r))
+    subst (Matches (holds_on vs env (settings_of A ms (y ∷ ys) rest) s t)) (sym (and_then_assoc ((value_for y (parts_of plain ms) sc (mid s t A)) >>= (λ v. Ok (same (t y) v))) (hold_sets (Action.settings_of A (parts_of plain ms) ys) sc s t) r))
     (match_and _ (holds_on vs env (settings_of A ms ys rest) s t) _ (and_then (hold_sets (Action.settings_of A (parts_of plain ms) ys) sc s t) r)
     (match_setting U vs A ms f sc env k w s t y (i y here) (j y here))
     (match_sets U vs A ms f sc env k w s t ys (λ x m. i x (or_right (bytes_eq y x) (member ys x) m)) (λ x m. j x (or_right (bytes_eq y x) (member ys x) m)) rest r h))
@@ -88,11 +87,11 @@ Bodies U vs A s t body es = (sc : Scope) (env : State → State → Env) → Sta
 match_nested : (U : Readable) (vs : List Word) (A : Names) → IsWithin A (member vs) → (s t : State) (bs : Binds) → FineBinds U vs A bs → (body : Items) (es : Effects) → Bodies U vs A s t body es → Bodies U vs A s t (nested_items A bs body) (nested plain bs es)
 match_nested U vs A w s t no_binds f body es h sc env k = h sc env k
 match_nested U vs A w s t (one_of x e bs) f body es h sc env k = match_true _ _ (
-    subst (λ o. Matches (on_good o.value (λ v. as_set (Module.place_of (primed A e)) v (λ us. at_each us (λ u. holds_on vs (bound_env x.word u env) (nested_items A bs body) s t)))) (holds (Action.some x.word (Action.primed A (Rattle.pcal_tree.specs.Scope.members plain e)) (build A (nested plain bs es))) sc s t)) (sym (exp_law U vs A sc env k.paired w e f.0 s t))
+    subst (λ o. Matches (o.value >>= (λ v. as_set (Module.place_of (primed A e)) v (λ us. at_each us (λ u. holds_on vs (bound_env x.word u env) (nested_items A bs body) s t)))) (holds (Action.some x.word (Action.primed A (Rattle.pcal_tree.specs.Scope.members plain e)) (build A (nested plain bs es))) sc s t)) (sym (exp_law U vs A sc env k.paired w e f.0 s t))
     (match_some (eval plain e (sc.env (mid s t A))).value (Module.place_of (primed A e)) (place_of e sc) (λ u. holds_on vs (bound_env x.word u env) (nested_items A bs body) s t) (λ u. hold (build A (nested plain bs es)) (bound x.word u sc) s t)
     (λ u. match_nested U vs A w s t bs f.2 body es h (bound x.word u sc) (bound_env x.word u env) (stands_bound U vs sc env x.word u f.1 k))))
 match_nested U vs A w s t (is x e bs) f body es h sc env k = match_true _ _ (
-    subst (λ o. Matches (on_good o.value (λ u. holds_on vs (bound_env x.word u env) (nested_items A bs body) s t)) (holds (Action.some x.word (Action.primed A (Rattle.action_builder.specs.Effects.one_member plain e)) (build A (nested plain bs es))) sc s t)) (sym (exp_law U vs A sc env k.paired w e f.0 s t))
+    subst (λ o. Matches (o.value >>= (λ u. holds_on vs (bound_env x.word u env) (nested_items A bs body) s t)) (holds (Action.some x.word (Action.primed A (Rattle.action_builder.specs.Effects.one_member plain e)) (build A (nested plain bs es))) sc s t)) (sym (exp_law U vs A sc env k.paired w e f.0 s t))
     (match_one (eval plain e (sc.env (mid s t A))).value (λ u. holds_on vs (bound_env x.word u env) (nested_items A bs body) s t) (λ u. hold (build A (nested plain bs es)) (bound x.word u sc) s t)
     (λ u. match_nested U vs A w s t bs f.2 body es h (bound x.word u sc) (bound_env x.word u env) (stands_bound U vs sc env x.word u f.1 k))))
 
@@ -101,30 +100,30 @@ match_nested U vs A w s t (is x e bs) f body es h sc env k = match_true _ _ (
 within_more : (A : Names) (xs vs : List Word) → IsWithin A (member vs) → Within xs vs → IsWithin (more A xs) (member vs)
 within_more A xs vs w k x e = ⊎_elim (λ a. w x a) (λ b. k x b) (or_cases (A x) (member xs x) e)
 
-match_cond : (b : Bool) (p q : Verdict) (v u : Got Bool) → Matches p v → Matches q u → Matches (cond b p q) (cond b v u)
+match_cond : (b : Bool) (p q : Verdict) (v u : Outcome Bool) → Matches p v → Matches q u → Matches (cond b p q) (cond b v u)
 match_cond true p q v u m n = m
 match_cond false p q v u m n = n
 
 mutual
-  match_item : (U : Readable) (vs : List Word) (A : Names) (at : Place) (st : Statement) → FineOne U vs A st → Within (assigned (effect_of plain at st)) vs → IsWithin A (member vs) → (sc : Scope) (env : State → State → Env) → Stands U vs sc env → (s t : State) (rest : Items) (r : Got Bool) → Matches (holds_on vs env rest s t) r → Matches (holds_on vs env (write_one vs A at st rest) s t) (and_then (holds (build_one A (effect_of plain at st)) sc s t) r)
+  match_item : (U : Readable) (vs : List Word) (A : Names) (at : Place) (st : Statement) → FineOne U vs A st → Within (assigned (effect_of plain at st)) vs → IsWithin A (member vs) → (sc : Scope) (env : State → State → Env) → Stands U vs sc env → (s t : State) (rest : Items) (r : Outcome Bool) → Matches (holds_on vs env rest s t) r → Matches (holds_on vs env (write_one vs A at st rest) s t) (and_then (holds (build_one A (effect_of plain at st)) sc s t) r)
   match_item U vs A at (assign ms) f a w sc env k s t rest r h = match_sets U vs A ms f sc env k w s t (firsts (parts_of plain ms)) (λ x m. m) a rest r h
   match_item U vs A at (await e) f a w sc env k s t rest r h = match_and _ (holds_on vs env rest s t) _ r (
-      subst (λ o. Matches (on_good o.value (λ v. as_truth (Module.place_of (primed A e)) v told)) (holds (build_one A (effect_of plain at (await e))) sc s t)) (sym (exp_law U vs A sc env k.paired w e f s t))
+      subst (λ o. Matches (o.value >>= (λ v. as_truth (Module.place_of (primed A e)) v Ok)) (holds (build_one A (effect_of plain at (await e))) sc s t)) (sym (exp_law U vs A sc env k.paired w e f s t))
       (match_told (eval plain e (sc.env (mid s t A))).value (Module.place_of (primed A e)) (place_of e sc))) h
   match_item U vs A at (print e) f a w sc env k s t rest r h = match_and _ (holds_on vs env rest s t) _ r (
-      subst (λ d. Matches (on_good (on_all (eval plain (primed A e) ∷ []) (env s t) (λ us. (called at d us).value)) (λ v. as_truth at v told)) (holds (build_one A (effect_of plain at (print e))) sc s t)) (sym (k.paired.print s t))
-      (subst (λ o. Matches (on_good (on_value o.value (λ v. good (Rattle.tla_value.specs.Value.truth true))) (λ v. as_truth at v told)) (holds (build_one A (effect_of plain at (print e))) sc s t)) (sym (exp_law U vs A sc env k.paired w e f s t))
+      subst (λ d. Matches ((on_all (eval plain (primed A e) ∷ []) (env s t) (λ us. (called at d us).value)) >>= (λ v. as_truth at v Ok)) (holds (build_one A (effect_of plain at (print e))) sc s t)) (sym (k.paired.print s t))
+      (subst (λ o. Matches ((o.value >>= (λ v. Ok (Rattle.tla_value.specs.Value.truth true))) >>= (λ v. as_truth at v Ok)) (holds (build_one A (effect_of plain at (print e))) sc s t)) (sym (exp_law U vs A sc env k.paired w e f s t))
       (match_print (eval plain e (sc.env (mid s t A))).value at))) h
   match_item U vs A at (assert e) f a w sc env k s t rest r h = match_and _ (holds_on vs env rest s t) _ r (
-      subst (λ d. Matches (on_good (on_all (eval plain (primed A e) ∷ eval plain (Rattle.tla_expr.specs.Tree.node (Rattle.tla_expr.specs.Tree.quote (codes "Failure of assertion.")) at no_trees) ∷ []) (env s t) (λ us. (called at d us).value)) (λ v. as_truth at v told)) (holds (build_one A (effect_of plain at (assert e))) sc s t)) (sym (k.paired.assert s t))
-      (subst (λ o. Matches (on_good (on_value o.value (λ v. Rattle.tla_value.specs.Stops.on_truth at v (λ b. cond b (good (Rattle.tla_value.specs.Value.truth true)) (Rattle.tla_value.specs.Value.fault Rattle.tla_value.specs.declared.fault.FaultKind.TheVariants.AssertFailed at)))) (λ v. as_truth at v told)) (holds (build_one A (effect_of plain at (assert e))) sc s t)) (sym (exp_law U vs A sc env k.paired w e f s t))
+      subst (λ d. Matches ((on_all (eval plain (primed A e) ∷ eval plain (Rattle.tla_expr.specs.Tree.node (Rattle.tla_expr.specs.Tree.string (codes "Failure of assertion.")) at no_trees) ∷ []) (env s t) (λ us. (called at d us).value)) >>= (λ v. as_truth at v Ok)) (holds (build_one A (effect_of plain at (assert e))) sc s t)) (sym (k.paired.assert s t))
+      (subst (λ o. Matches ((o.value >>= (λ v. Rattle.tla_value.specs.Stops.on_truth at v (λ b. cond b (Ok (Rattle.tla_value.specs.Value.truth true)) (Err (Rattle.tla_value.specs.Value.fault Rattle.tla_value.specs.declared.fault.FaultKind.TheVariants.AssertFailed at))))) >>= (λ v. as_truth at v Ok)) (holds (build_one A (effect_of plain at (assert e))) sc s t)) (sym (exp_law U vs A sc env k.paired w e f s t))
       (match_assert (eval plain e (sc.env (mid s t A))).value at (place_of e sc) at))) h
   match_item U vs A at skip f a w sc env k s t rest r h = h
   match_item U vs A at (branch e x y) f a w sc env k s t rest r h =
       let xs = assigned_in (effects_of plain x) in
       let ys = assigned_in (effects_of plain y) in
       match_and _ (holds_on vs env rest s t) _ r (
-      subst (λ o. Matches (on_good o.value (λ v. as_truth (Module.place_of (primed A e)) v (λ b. cond b (holds_on vs env (branch_items vs at (write vs A x) ys xs) s t) (holds_on vs env (branch_items vs at (write vs A y) xs ys) s t)))) (holds (build_one A (effect_of plain at (branch e x y))) sc s t)) (sym (exp_law U vs A sc env k.paired w e f.0 s t))
+      subst (λ o. Matches (o.value >>= (λ v. as_truth (Module.place_of (primed A e)) v (λ b. cond b (holds_on vs env (branch_items vs at (write vs A x) ys xs) s t) (holds_on vs env (branch_items vs at (write vs A y) xs ys) s t)))) (holds (build_one A (effect_of plain at (branch e x y))) sc s t)) (sym (exp_law U vs A sc env k.paired w e f.0 s t))
       (match_test (eval plain e (sc.env (mid s t A))).value (Module.place_of (primed A e)) (place_of e sc) _ (λ b. cond b (hold (ended (build A (effects_of plain x)) (Action.unchanged (minus ys xs))) sc s t) (hold (ended (build A (effects_of plain y)) (Action.unchanged (minus xs ys))) sc s t)) (λ b. match_cond b _ _ _ _
       (match_branch vs ys xs s t (env s t) at (write vs A x) (build A (effects_of plain x)) sc (λ z m. a z (behind xs ys z m)) (match_all U vs A x f.1 w sc env k s t))
       (match_branch vs xs ys s t (env s t) at (write vs A y) (build A (effects_of plain y)) sc (λ z m. a z (in_front xs ys z m)) (match_all U vs A y f.2 w sc env k s t))))) h
@@ -133,14 +132,14 @@ mutual
   match_item U vs A at (with no_binds b) f a w sc env k s t rest r h =
       let xs = assigned_in (effects_of plain b) in
       match_and _ (holds_on vs env rest s t) _ r (
-      match_or _ (told false) _ (got false)
+      match_or _ (Ok false) _ (Ok false)
       (match_branch vs (xs ++ []) xs s t (env s t) at (write vs A b) (build A (effects_of plain b)) sc a (match_all U vs A b f.1 w sc env k s t)) refl) h
   match_item U vs A at (with (one_of x e bs) b) f a w sc env k s t rest r h = match_and _ (holds_on vs env rest s t) _ r (
-      subst (λ o. Matches (on_good o.value (λ v. as_set (Module.place_of (primed A e)) v (λ us. at_each us (λ u. holds_on vs (bound_env x.word u env) (nested_items A bs (filled at (write vs A b))) s t)))) (holds (build_one A (effect_of plain at (with (one_of x e bs) b))) sc s t)) (sym (exp_law U vs A sc env k.paired w e f.0.0 s t))
+      subst (λ o. Matches (o.value >>= (λ v. as_set (Module.place_of (primed A e)) v (λ us. at_each us (λ u. holds_on vs (bound_env x.word u env) (nested_items A bs (filled at (write vs A b))) s t)))) (holds (build_one A (effect_of plain at (with (one_of x e bs) b))) sc s t)) (sym (exp_law U vs A sc env k.paired w e f.0.0 s t))
       (match_some (eval plain e (sc.env (mid s t A))).value (Module.place_of (primed A e)) (place_of e sc) (λ u. holds_on vs (bound_env x.word u env) (nested_items A bs (filled at (write vs A b))) s t) (λ u. hold (build A (nested plain bs (effects_of plain b))) (bound x.word u sc) s t)
       (λ u. match_nested U vs A w s t bs f.0.2 (filled at (write vs A b)) (effects_of plain b) (λ sc' env' k'. match_filled _ _ _ at (write vs A b) _ (match_all U vs A b f.1 w sc' env' k' s t)) (bound x.word u sc) (bound_env x.word u env) (stands_bound U vs sc env x.word u f.0.1 k)))) h
   match_item U vs A at (with (is x e bs) b) f a w sc env k s t rest r h = match_and _ (holds_on vs env rest s t) _ r (
-      subst (λ o. Matches (on_good o.value (λ u. holds_on vs (bound_env x.word u env) (nested_items A bs (filled at (write vs A b))) s t)) (holds (build_one A (effect_of plain at (with (is x e bs) b))) sc s t)) (sym (exp_law U vs A sc env k.paired w e f.0.0 s t))
+      subst (λ o. Matches (o.value >>= (λ u. holds_on vs (bound_env x.word u env) (nested_items A bs (filled at (write vs A b))) s t)) (holds (build_one A (effect_of plain at (with (is x e bs) b))) sc s t)) (sym (exp_law U vs A sc env k.paired w e f.0.0 s t))
       (match_one (eval plain e (sc.env (mid s t A))).value (λ u. holds_on vs (bound_env x.word u env) (nested_items A bs (filled at (write vs A b))) s t) (λ u. hold (build A (nested plain bs (effects_of plain b))) (bound x.word u sc) s t)
       (λ u. match_nested U vs A w s t bs f.0.2 (filled at (write vs A b)) (effects_of plain b) (λ sc' env' k'. match_filled _ _ _ at (write vs A b) _ (match_all U vs A b f.1 w sc' env' k' s t)) (bound x.word u sc) (bound_env x.word u env) (stands_bound U vs sc env x.word u f.0.1 k)))) h
   match_item U vs A at _ f a w sc env k s t rest r h = absurd f

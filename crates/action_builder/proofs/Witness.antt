@@ -1,12 +1,12 @@
 -- A step that meets all that the laws ask: `x := 1` at a label, with the process's identifier as self.
-use Rattle.std.proofs.Common.{◌≡◌, List, [], ◌∷◌, Bool, true, false, cond, codes, refl}
+use Rattle.std.proofs.Common.{◌≡◌, List, [], ◌∷◌, Bool, true, false, cond, codes, refl, Ok}
 use Rattle.tla_expr.specs.Tree.{Word, number, name, node, no_trees}
 use Rattle.tla_value.specs.Value.{Value, text}
 use Rattle.tla_value.specs.Stops.{plain}
 use Rattle.tla_value.specs.Standard.{standard_of, standard_called}
 use Rattle.tla_value.specs.Meaning.{Env, just}
-use Rattle.pcal_tree.specs.Algorithm.{nowhere, no_moves, move, assign, done, then}
-use Rattle.pcal_tree.specs.Scope.{State, got, Scope, bound}
+use Rattle.pcal_tree.specs.Algorithm.{nowhere, no_assignments, assignment, assign, done, then}
+use Rattle.pcal_tree.specs.Scope.{State, Scope, bound}
 use Rattle.pcal_tree.specs.Run.{ends, held, Rules}
 use Rattle.action_builder.specs.Effects.{part_at}
 use Rattle.action_builder.specs.Settled.{Moving}
@@ -31,7 +31,7 @@ abbrev pub base_env : State → State → Env
 base_env s t = record { now = λ y at. just (s y); primed = λ y at. just (t y); defs = λ f. standard_called plain (standard_of f) }
 
 abbrev base_scope : Scope
-base_scope = record { env = λ s. base_env s s; part = λ y at s. got (part_at y []); origin = λ y at. at }
+base_scope = record { env = λ s. base_env s s; part = λ y at s. Ok (part_at y []); origin = λ y at. at }
 
 abbrev pub any_name : Readable
 any_name A y = true
@@ -53,9 +53,9 @@ scoped = record { part = λ y at s. refl; reads = λ y m at s. refl }
 abbrev simple_rules : Rules
 simple_rules = record {
   check = plain;
-  go = λ l s. ends s;
-  enter = λ at p places vs back s. held at;
-  quit = λ at s. ends s;
+  goto = λ l s. ends s;
+  call = λ at p places vs back s. held at;
+  return = λ at s. ends s;
   macros = λ here at m ts sc K s. held at;
 }
 
@@ -75,7 +75,7 @@ simple_step = record {
   macros = [];
   here = codes "L";
   exit = codes "Done";
-  statements = then (record { first = nowhere; last = nowhere }) (assign (move (node (name x) nowhere no_trees) (node (number 1) nowhere no_trees) no_moves)) done;
+  statements = then (record { first = nowhere; last = nowhere }) (assign (assignment (node (name x) nowhere no_trees) (node (number 1) nowhere no_trees) no_assignments)) done;
 }
 
 no_truth : {P : Type 0} → false ≡ true → P
@@ -85,9 +85,9 @@ pub simple_prepared : IsPrepared simple_step
 simple_prepared = record {
   whole = record { part = λ y at s. refl; identity = λ at s. refl };
   does = record {
-    pc = λ l sc fit s. close_refl (λ r. r ≡ got s);
+    pc = λ l sc fit s. close_refl (λ r. r ≡ Ok s);
     call = λ at p ts l sc fit h s. no_truth h;
-    back = λ at sc fit s. close_refl (λ r. r ≡ got s);
+    back = λ at sc fit s. close_refl (λ r. r ≡ Ok s);
     bind = λ y v sc h fit. no_truth h;
   };
   calls = (tt, tt);

@@ -1,10 +1,11 @@
 -- Effects of statements, their runs, and the action that is written for them, over what expressions give in a scope and a state ("A PlusCal User's
 -- Manual", section 3.2; actions, "Specifying Systems", sections 2.2 and 16.2.3).
-use Rattle.std.specs.Prelude.{List, [], ◌∷◌, ◌++◌, Bool, true, false, cond, ◌||◌, ◌&&◌, bytes_eq, ◌≡◌, ◌⊎◌}
+use Rattle.std.specs.Prelude.{List, [], ◌∷◌, ◌++◌, Bool, true, false, cond, ◌||◌, ◌&&◌, bytes_eq, ◌≡◌, ◌⊎◌, Ok, Err}
 use Rattle.tla_expr.specs.Tree.{Word}
 use Rattle.tla_value.specs.Value.{Value, Values, no_values, and}
+pub use Rattle.tla_value.specs.Value.{and_then, or_all, IsBad, NotFalse}
 use Rattle.tla_value.specs.Order.{same}
-use Rattle.pcal_tree.specs.Scope.{State, put, Got, got, bad, on, Scope, bound}
+use Rattle.pcal_tree.specs.Scope.{State, put, Outcome, ◌>>=◌, Scope, bound}
 
 abbrev pub Names : Type 0
 Names = Word → Bool
@@ -22,11 +23,11 @@ mid s t A x = cond (A x) (t x) (s x)
 
 -- what an expression gives for a scope and a state
 abbrev pub Exp : Type 0 → Type 0
-Exp X = Scope → State → Got X
+Exp X = Scope → State → Outcome X
 
 -- a change of a variable's value
 abbrev pub Change : Type 0
-Change = Value → Got Value
+Change = Value → Outcome Value
 
 -- the parts of an assignment: a variable, and what the subscripts and the right side give for it
 pub data Parts : Type 0 where
@@ -82,62 +83,62 @@ pub data Changes : Type 0 where
   change : Word → Change → Changes → Changes
 
 -- all subscripts and right sides first, in order
-abbrev pub evaluated : Parts → Scope → State → Got Changes
-evaluated no_parts c s = got no_changes
-evaluated (part x e ps) c s = on (e c s) (λ f. on (evaluated ps c s) (λ fs. got (change x f fs)))
+abbrev pub evaluated : Parts → Scope → State → Outcome Changes
+evaluated no_parts c s = Ok no_changes
+evaluated (part x e ps) c s = (e c s) >>= (λ f. (evaluated ps c s) >>= (λ fs. Ok (change x f fs)))
 
 -- then the parts are set from left to right
-abbrev pub applied : Changes → State → Got State
-applied no_changes s = got s
-applied (change x f fs) s = on (f (s x)) (λ v. applied fs (put x v s))
+abbrev pub applied : Changes → State → Outcome State
+applied no_changes s = Ok s
+applied (change x f fs) s = (f (s x)) >>= (λ v. applied fs (put x v s))
 
-abbrev pub moved : Parts → Scope → State → Got State
-moved ps c s = on (evaluated ps c s) (λ fs. applied fs s)
+abbrev pub moved : Parts → Scope → State → Outcome State
+moved ps c s = (evaluated ps c s) >>= (λ fs. applied fs s)
 
-abbrev pub Awaits : Got Bool → State → Got State → Type 0
-Awaits (got true) s r = r ≡ got s
-Awaits (got false) s r = ⊥
-Awaits (bad k) s r = r ≡ bad k
+abbrev pub Awaits : Outcome Bool → State → Outcome State → Type 0
+Awaits (Ok true) s r = r ≡ Ok s
+Awaits (Ok false) s r = ⊥
+Awaits (Err k) s r = r ≡ Err k
 
-abbrev pub Chosen : Got Bool → Type 0 → Type 0 → Got State → Type 0
-Chosen (got true) P Q r = P
-Chosen (got false) P Q r = Q
-Chosen (bad k) P Q r = r ≡ bad k
+abbrev pub Chosen : Outcome Bool → Type 0 → Type 0 → Outcome State → Type 0
+Chosen (Ok true) P Q r = P
+Chosen (Ok false) P Q r = Q
+Chosen (Err k) P Q r = r ≡ Err k
 
 abbrev pub SomeOf : Values → (Value → Type 0) → Type 0
 SomeOf no_values P = ⊥
 SomeOf (and v vs) P = P v ⊎ SomeOf vs P
 
-abbrev pub Picks : Got Values → (Value → Type 0) → Got State → Type 0
-Picks (got vs) P r = SomeOf vs P
-Picks (bad k) P r = r ≡ bad k
+abbrev pub Picks : Outcome Values → (Value → Type 0) → Outcome State → Type 0
+Picks (Ok vs) P r = SomeOf vs P
+Picks (Err k) P r = r ≡ Err k
 
 -- from a result on
-abbrev pub Next : (State → Got State → Type 0) → Got State → Got State → Type 0
-Next R (got u) r = R u r
-Next R (bad k) r = r ≡ bad k
+abbrev pub Next : (State → Outcome State → Type 0) → Outcome State → Outcome State → Type 0
+Next R (Ok u) r = R u r
+Next R (Err k) r = r ≡ Err k
 
 -- some run of the items from the state has this outcome
 abbrev mutual
-  pub RunOne : Effect → Scope → State → Got State → Type 0
+  pub RunOne : Effect → Scope → State → Outcome State → Type 0
   RunOne (assign ps) c s r = r ≡ moved ps c s
   RunOne (await e) c s r = Awaits (e c s) s r
   RunOne (branch e a b) c s r = Chosen (e c s) (Run a c s r) (Run b c s r) r
   RunOne (either bs) c s r = RunSome bs c s r
   RunOne (choose x e b) c s r = Picks (e c s) (λ v. Run b (bound x v c) s r) r
 
-  pub Run : Effects → Scope → State → Got State → Type 0
-  Run done c s r = r ≡ got s
-  Run (then st rest) c s r = (q : Got State) × RunOne st c s q × Next (Run rest c) q r
+  pub Run : Effects → Scope → State → Outcome State → Type 0
+  Run done c s r = r ≡ Ok s
+  Run (then st rest) c s r = (q : Outcome State) × RunOne st c s q × Next (Run rest c) q r
 
-  pub RunSome : Ways → Scope → State → Got State → Type 0
+  pub RunSome : Ways → Scope → State → Outcome State → Type 0
   RunSome no_ways c s r = ⊥
   RunSome (way b bs) c s r = Run b c s r ⊎ RunSome bs c s r
 
 -- ---- the action
 
 abbrev pub PairExp : Type 0 → Type 0
-PairExp X = Scope → State → State → Got X
+PairExp X = Scope → State → State → Outcome X
 
 -- settings in a row
 pub data Settings : Type 0 where
@@ -165,39 +166,29 @@ abbrev pub all_same : List Word → State → State → Bool
 all_same [] s t = true
 all_same (x ∷ xs) s t = same (t x) (s x) && all_same xs s t
 
--- from left to right, up to the first that isn't true
-abbrev pub and_then : Got Bool → Got Bool → Got Bool
-and_then (got true) w = w
-and_then (got false) w = got false
-and_then (bad k) w = bad k
-
--- both are visited
-abbrev pub or_all : Got Bool → Got Bool → Got Bool
-or_all v w = on v (λ a. on w (λ b. got (a || b)))
-
-abbrev pub some_member : Values → (Value → Got Bool) → Got Bool
-some_member no_values p = got false
+abbrev pub some_member : Values → (Value → Outcome Bool) → Outcome Bool
+some_member no_values p = Ok false
 some_member (and v vs) p = or_all (p v) (some_member vs p)
 
-abbrev pub hold_sets : Settings → Scope → State → State → Got Bool
-hold_sets no_settings c s t = got true
-hold_sets (setting x e es) c s t = and_then (on (e c s t) (λ v. got (same (t x) v))) (hold_sets es c s t)
+abbrev pub hold_sets : Settings → Scope → State → State → Outcome Bool
+hold_sets no_settings c s t = Ok true
+hold_sets (setting x e es) c s t = and_then ((e c s t) >>= (λ v. Ok (same (t x) v))) (hold_sets es c s t)
 
 abbrev mutual
-  pub holds : Item → Scope → State → State → Got Bool
+  pub holds : Item → Scope → State → State → Outcome Bool
   holds (test e) c s t = e c s t
   holds (sets es) c s t = hold_sets es c s t
-  holds (unchanged xs) c s t = got (all_same xs s t)
-  holds (fork e a b) c s t = on (e c s t) (λ p. cond p (hold a c s t) (hold b c s t))
+  holds (unchanged xs) c s t = Ok (all_same xs s t)
+  holds (fork e a b) c s t = (e c s t) >>= (λ p. cond p (hold a c s t) (hold b c s t))
   holds (any ls) c s t = hold_some ls c s t
-  holds (some x e a) c s t = on (e c s t) (λ vs. some_member vs (λ v. hold a (bound x v c) s t))
+  holds (some x e a) c s t = (e c s t) >>= (λ vs. some_member vs (λ v. hold a (bound x v c) s t))
 
-  pub hold : Items → Scope → State → State → Got Bool
-  hold none c s t = got true
+  pub hold : Items → Scope → State → State → Outcome Bool
+  hold none c s t = Ok true
   hold (item i is) c s t = and_then (holds i c s t) (hold is c s t)
 
-  pub hold_some : Lists → Scope → State → State → Got Bool
-  hold_some no_lists c s t = got false
+  pub hold_some : Lists → Scope → State → State → Outcome Bool
+  hold_some no_lists c s t = Ok false
   hold_some (list a ls) c s t = or_all (hold a c s t) (hold_some ls c s t)
 
 -- what is written for an expression after A is assigned; for a tree this is the law of priming
@@ -213,22 +204,26 @@ minus [] ys = []
 minus (x ∷ xs) ys = cond (member ys x) (minus xs ys) (x ∷ minus xs ys)
 
 -- the value of [y EXCEPT ..] with all parts of y
-abbrev pub changes_for : Word → Parts → Scope → State → Got (List Change)
-changes_for y no_parts c s = got []
+abbrev pub changes_for : Word → Parts → Scope → State → Outcome (List Change)
+changes_for y no_parts c s = Ok []
 changes_for y (part x e ps) c s =
-    cond (bytes_eq x y) (on (e c s) (λ f. on (changes_for y ps c s) (λ fs. got (f ∷ fs)))) (changes_for y ps c s)
+    cond (bytes_eq x y) ((e c s) >>= (λ f. (changes_for y ps c s) >>= (λ fs. Ok (f ∷ fs)))) (changes_for y ps c s)
 
 -- all changes, in order
-abbrev pub all_changes : Parts → Scope → State → Got (List Change)
-all_changes no_parts c s = got []
-all_changes (part x e ps) c s = on (e c s) (λ f. on (all_changes ps c s) (λ fs. got (f ∷ fs)))
+abbrev pub all_changes : Parts → Scope → State → Outcome (List Change)
+all_changes no_parts c s = Ok []
+all_changes (part x e ps) c s = (e c s) >>= (λ f. (all_changes ps c s) >>= (λ fs. Ok (f ∷ fs)))
 
 abbrev pub folded : List Change → Change
-folded [] v = got v
-folded (f ∷ fs) v = on (f v) (folded fs)
+folded [] v = Ok v
+folded (f ∷ fs) v = (f v) >>= (folded fs)
+
+-- what all these parts make of a value
+abbrev pub folded_all : Parts → Scope → State → Value → Outcome Value
+folded_all ps c s v = (all_changes ps c s) >>= (λ fs. folded fs v)
 
 abbrev pub value_for : Word → Parts → Exp Value
-value_for y ps c s = on (changes_for y ps c s) (λ fs. folded fs (s y))
+value_for y ps c s = (changes_for y ps c s) >>= (λ fs. folded fs (s y))
 
 abbrev pub settings_of : Names → Parts → List Word → Settings
 settings_of A ps [] = no_settings
@@ -272,17 +267,6 @@ abbrev mutual
   OnceSome A (way b bs) = Once A b × OnceSome A bs
 
 -- ---- words for the laws
-
--- no result: a fault, or a value past the limits
-abbrev pub IsBad : {X : Type 0} → Got X → Type 0
-IsBad (got x) = ⊥
-IsBad (bad k) = Unit {0}
-
--- true, or no result
-abbrev pub NotFalse : Got Bool → Type 0
-NotFalse (got true) = Unit {0}
-NotFalse (got false) = ⊥
-NotFalse (bad k) = Unit {0}
 
 -- the same on the names of A
 abbrev pub Agree : Names → State → State → Type 0

@@ -1,14 +1,14 @@
 -- The effects of statements that have no jump, label, loop or call: what their expressions and left sides give ("A PlusCal User's Manual", section 3.2).
-use Rattle.std.specs.Prelude.{◌≡◌, List, [], Bool, true, cond}
+use Rattle.std.specs.Prelude.{◌≡◌, List, [], Bool, true, cond, Ok, Err}
 use Rattle.tla_token.specs.declared.place.Place.{Place}
 use Rattle.tla_expr.specs.Tree.{Word, apply, select, Form, name, strict, Tree, node, Trees, no_trees, tree}
 use Rattle.tla_value.specs.declared.fault.FaultKind.TheVariants.{AssertFailed}
 use Rattle.tla_value.specs.Value.{Value, Values, no_values, and}
 use Rattle.tla_value.specs.Stops.{Check}
 use Rattle.tla_value.specs.Strict.{changed_at}
-use Rattle.pcal_tree.specs.Algorithm.{Moves, no_moves, move, Binds, no_binds, one_of, is, Statement, Statements, Branches, no_branches, or}
+use Rattle.pcal_tree.specs.Algorithm.{Assignments, no_assignments, assignment, Binds, no_binds, one_of, is, Statement, Statements, Branches, no_branches, or}
 use Rattle.pcal_tree.specs.Algorithm as Source
-use Rattle.pcal_tree.specs.Scope.{State, Part, Scope, got, bad, faulty, on, valued, reach, root_place, value_of, test, members}
+use Rattle.pcal_tree.specs.Scope.{State, Part, Scope, fault, ◌>>=◌, reach, root_place, value_of, test, members}
 use Rattle.action_builder.specs.Action.{Exp, Change, Parts, no_parts, part, Effect, assign, await, branch, either, choose, Effects, done, then, Ways, no_ways, way}
 
 -- ---- assignments
@@ -28,31 +28,31 @@ abbrev mutual
 
 -- the value with v at the end of a path; the new value is reached at the left side's place
 abbrev pub changing : Check → Place → List Value → Value → Change
-changing c at path v old = valued (changed_at at path v old) (λ w. valued (c at w) got)
+changing c at path v old = (changed_at at path v old) >>= (λ w. (c at w) >>= Ok)
 
 abbrev pub part_of : Check → Tree → Tree → Exp Change
-part_of c l e sc s = on (reach c l sc s) (λ p. on (value_of c e sc s) (λ v. got (changing c (root_place l) p.path v)))
+part_of c l e sc s = (reach c l sc s) >>= (λ p. (value_of c e sc s) >>= (λ v. Ok (changing c (root_place l) p.path v)))
 
-abbrev pub parts_of : Check → Moves → Parts
-parts_of c no_moves = no_parts
-parts_of c (move l e ms) = part (head_of l) (part_of c l e) (parts_of c ms)
+abbrev pub parts_of : Check → Assignments → Parts
+parts_of c no_assignments = no_parts
+parts_of c (assignment l e ms) = part (head_of l) (part_of c l e) (parts_of c ms)
 
 -- ---- statements
 
 -- `print` evaluates, and holds nothing back
 abbrev pub printed : Check → Tree → Exp Bool
-printed c e sc s = on (value_of c e sc s) (λ v. got true)
+printed c e sc s = (value_of c e sc s) >>= (λ v. Ok true)
 
 -- `assert` is true, or a fault of the statement
 abbrev pub asserted : Check → Place → Tree → Exp Bool
-asserted c at e sc s = on (test c e sc s) (λ b. cond b (got true) (bad (faulty AssertFailed at)))
+asserted c at e sc s = (test c e sc s) >>= (λ b. cond b (Ok true) (Err (fault AssertFailed at)))
 
 abbrev pub always : Exp Bool
-always sc s = got true
+always sc s = Ok true
 
 -- `with x = e` is a choice from one member
 abbrev pub one_member : Check → Tree → Exp Values
-one_member c e sc s = on (value_of c e sc s) (λ v. got (and v no_values))
+one_member c e sc s = (value_of c e sc s) >>= (λ v. Ok (and v no_values))
 
 -- further binds of a `with`, around its body
 abbrev pub nested : Check → Binds → Effects → Effects
@@ -100,20 +100,20 @@ abbrev mutual
   LeftFirst no_trees = ⊥
   LeftFirst (tree f us) = IsLeft f
 
-abbrev pub LeftMoves : Moves → Type 0
-LeftMoves no_moves = Unit {0}
-LeftMoves (move l e ms) = IsLeft l × LeftMoves ms
+abbrev pub LeftMoves : Assignments → Type 0
+LeftMoves no_assignments = Unit {0}
+LeftMoves (assignment l e ms) = IsLeft l × LeftMoves ms
 
 abbrev pub part_at : Word → List Value → Part
 part_at x path = record { variable = x; path = path }
 
 -- each name is a variable, or a part of the variable of that name
 abbrev pub Named : Scope → Type 0
-Named sc = (x : Word) (at : Place) (s : State) → (path : List Value) × (sc.part x at s ≡ got (part_at x path))
+Named sc = (x : Word) (at : Place) (s : State) → (path : List Value) × (sc.part x at s ≡ Ok (part_at x path))
 
 -- each name is a variable
 abbrev pub IsPlain : Scope → Type 0
-IsPlain sc = (x : Word) (at : Place) (s : State) → sc.part x at s ≡ got (part_at x [])
+IsPlain sc = (x : Word) (at : Place) (s : State) → sc.part x at s ≡ Ok (part_at x [])
 
 -- no jump, label, loop, macro call, call or return
 abbrev mutual

@@ -1,13 +1,13 @@
 -- The assignments that are written for jumps and returns, and for calls ("A PlusCal User's Manual", sections 3.2.9 and 3.4).
-use Rattle.std.specs.Prelude.{◌≡◌, List, [], ◌∷◌, codes, Some}
+use Rattle.std.specs.Prelude.{◌≡◌, List, [], ◌∷◌, codes, Some, Ok}
 use Rattle.tla_token.specs.declared.place.Place.{Place}
 use Rattle.tla_expr.specs.declared.op.Op.TheVariants.{Concat}
-use Rattle.tla_expr.specs.Tree.{Word, Each, quote, name, call, strict, operator, tuple, fields, select, Tree, node, Trees, no_trees, tree}
+use Rattle.tla_expr.specs.Tree.{Word, Each, string, name, operator_call, strict, operator, tuple, fields, select, Tree, node, Trees, no_trees, tree}
 use Rattle.tla_value.specs.Value.{Value}
 use Rattle.tla_value.specs.Stops.{sense_of}
 use Rattle.tla_value.specs.Standard.{first_of, rest_of, standard_sense}
-use Rattle.pcal_tree.specs.Algorithm.{Span, Declaration, Routine, locals, Moves, no_moves, move, Statements, done, then, assign}
-use Rattle.pcal_tree.specs.Scope.{State, Got, got, on, Scope, root_place, value_of}
+use Rattle.pcal_tree.specs.Algorithm.{Span, Declaration, Routine, locals, Assignments, no_assignments, assignment, Statements, done, then, assign}
+use Rattle.pcal_tree.specs.Scope.{State, Outcome, ◌>>=◌, Scope, root_place, value_of}
 use Rattle.pcal_tree.specs.Program.{Program, Actor, index, local_index, read_at, written, written_all, pc, stack}
 use Rattle.pcal_tree.specs.Calls.{label_name, first_label, initial_value, frame_fields}
 use Rattle.action_builder.specs.Effects.{part_at}
@@ -16,10 +16,10 @@ abbrev pub name_at : Place → Word → Tree
 name_at at x = node (name x) at no_trees
 
 abbrev pub text_at : Place → Word → Tree
-text_at at w = node (quote w) at no_trees
+text_at at w = node (string w) at no_trees
 
-abbrev pub one_move : Tree → Tree → Moves
-one_move l e = move l e no_moves
+abbrev pub one_move : Tree → Tree → Assignments
+one_move l e = assignment l e no_assignments
 
 abbrev pub spot : Place → Span
 spot at = record { first = at; last = at }
@@ -34,21 +34,21 @@ jump_written at l = then (spot at) (assign (one_move (name_at at pc) (text_at at
 
 -- Head(stack).x
 abbrev pub kept_field : Place → Word → Tree
-kept_field at x = node (strict (select x)) at (tree (node (call (codes "Head")) at (tree (name_at at stack) no_trees)) no_trees)
+kept_field at x = node (strict (select x)) at (tree (node (operator_call (codes "Head")) at (tree (name_at at stack) no_trees)) no_trees)
 
 -- Tail(stack)
 abbrev pub stack_rest : Place → Tree
-stack_rest at = node (call (codes "Tail")) at (tree (name_at at stack) no_trees)
+stack_rest at = node (operator_call (codes "Tail")) at (tree (name_at at stack) no_trees)
 
 -- x := Head(stack).x for each name, before other assignments
-abbrev pub fields_moved : Place → List Word → Moves → Moves
+abbrev pub fields_moved : Place → List Word → Assignments → Assignments
 fields_moved at [] last = last
-fields_moved at (x ∷ xs) last = move (name_at at x) (kept_field at x) (fields_moved at xs last)
+fields_moved at (x ∷ xs) last = assignment (name_at at x) (kept_field at x) (fields_moved at xs last)
 
 -- pc, the procedure's parameters and variables, and the stack, in one assignment
-abbrev pub return_moves : Program → Routine → Place → Moves
+abbrev pub return_moves : Program → Routine → Place → Assignments
 return_moves P p at =
-    move (name_at at pc) (kept_field at pc) (fields_moved at (written_all P p (locals p)) (one_move (name_at at stack) (stack_rest at)))
+    assignment (name_at at pc) (kept_field at pc) (fields_moved at (written_all P p (locals p)) (one_move (name_at at stack) (stack_rest at)))
 
 abbrev pub return_written : Program → Routine → Span → Statements
 return_written P p at = then at (assign (return_moves P p at.first)) done
@@ -68,9 +68,9 @@ stack_pushed P p at back =
     no_trees)) (tree (name_at at stack) no_trees))
 
 -- a parameter for each argument, at the argument's place
-abbrev pub arguments_moved : List Word → Trees → Moves
-arguments_moved (x ∷ xs) (tree t ts) = move (name_at (root_place t) x) t (arguments_moved xs ts)
-arguments_moved _ _ = no_moves
+abbrev pub arguments_moved : List Word → Trees → Assignments
+arguments_moved (x ∷ xs) (tree t ts) = assignment (name_at (root_place t) x) t (arguments_moved xs ts)
+arguments_moved _ _ = no_assignments
 
 -- the procedure's variables with their written initial values, in order
 abbrev pub variables_written : Program → Routine → (Declaration → Place) → (Declaration → Tree) → List Declaration → Statements → Statements
@@ -81,14 +81,14 @@ variables_written P p place initial (d ∷ ds) last =
 -- the stack and the parameters in one assignment, then the variables, then pc
 abbrev pub call_written : Program → Routine → Place → Trees → Word → (Declaration → Place) → (Declaration → Tree) → Statements
 call_written P p at ts back place initial =
-    then (spot at) (assign (move (name_at at stack) (stack_pushed P p at back) (arguments_moved (written_all P p p.params) ts)))
+    then (spot at) (assign (assignment (name_at at stack) (stack_pushed P p at back) (arguments_moved (written_all P p p.params) ts)))
     (variables_written P p place initial p.variables (jump_written at (label_name P p (first_label p))))
 
 -- ---- scopes
 
 -- a variable stands at a path
 abbrev pub StandsAtPath : Scope → List Value → Word → Type 0
-StandsAtPath sc path x = (at : Place) (s : State) → (sc.part x at s ≡ got (part_at x path)) × ((sc.env s).now x at ≡ sense_of (read_at at path (s x)))
+StandsAtPath sc path x = (at : Place) (s : State) → (sc.part x at s ≡ Ok (part_at x path)) × ((sc.env s).now x at ≡ sense_of (read_at at path (s x)))
 
 -- pc, the stack and the variables of p stand at the process's identifier, and Head and Tail are those of Sequences
 pub record Machine (P : Program) (v : Actor) (p : Routine) (sc : Scope) : Type 0 where
@@ -103,7 +103,7 @@ pub record Machine (P : Program) (v : Actor) (p : Routine) (sc : Scope) : Type 0
 abbrev pub Initials : Program → Actor → Routine → Place → Scope → (Declaration → Place) → (Declaration → Tree) → List Declaration → Type 0
 Initials P v p at sc place initial [] = Unit {0}
 Initials P v p at sc place initial (d ∷ ds) =
-    ((s : State) (go : Place → Value → Got State) → initial_value P v p at d.start s go ≡ on (value_of P.check (initial d) sc s) (go (place d)))
+    ((s : State) (go : Place → Value → Outcome State) → initial_value P v p at d.start s go ≡ (value_of P.check (initial d) sc s) >>= (go (place d)))
     × Initials P v p at sc place initial ds
 
 -- an argument for each parameter

@@ -1,6 +1,6 @@
 -- What the statements of a step become before items are written for them: macro calls written out, jumps, loops, calls and returns as assignments,
 -- and the variables of the process as functions of its identifier ("A PlusCal User's Manual", sections 3.3 and 3.5).
-use Rattle.std.specs.Prelude.{◌≡◌, List, [], ◌∷◌, Bool, false, cond}
+use Rattle.std.specs.Prelude.{◌≡◌, List, [], ◌∷◌, Bool, false, cond, Ok}
 use Rattle.tla_token.specs.declared.place.Place.{Place}
 use Rattle.tla_expr.specs.Tree.{Word}
 use Rattle.tla_value.specs.Value.{Value}
@@ -9,7 +9,7 @@ use Rattle.tla_value.specs.Meaning.{just}
 use Rattle.tla_value.specs.Grafts.{owned}
 use Rattle.tla_value.specs.Related.{In}
 use Rattle.pcal_tree.specs.Algorithm.{Statements, Macro}
-use Rattle.pcal_tree.specs.Scope.{State, Got, got, Scope, through}
+use Rattle.pcal_tree.specs.Scope.{State, Outcome, Scope, through}
 use Rattle.pcal_tree.specs.Run.{Has, Rules, run, with_macros, exit_to}
 use Rattle.pcal_tree.specs.Expand.{graft_all, expanded}
 use Rattle.action_builder.specs.Action.{Names, more, Agree}
@@ -23,7 +23,7 @@ prepared W self own here l ms ss = graft_all (owned self own) (settled W here l 
 
 -- names stand for themselves as left sides, and self is v
 pub record Whole (self : Word) (v : Value) (sc : Scope) : Type 0 where
-  pub part : (x : Word) (at : Place) (s : State) → sc.part x at s ≡ got (part_at x [])
+  pub part : (x : Word) (at : Place) (s : State) → sc.part x at s ≡ Ok (part_at x [])
   pub identity : (at : Place) (s : State) → (sc.env s).now self at ≡ just v
 
 -- the scope in which the process's own variables stand at its identifier
@@ -40,7 +40,7 @@ abbrev pub none : Names
 none x = false
 
 -- an outcome of a step from some statements that stand at the label `here`, with the exit l
-abbrev pub Stepped : Rules → Word → (Word → Bool) → Scope → List Macro → Word → Word → Statements → State → Got State → Type 0
+abbrev pub Stepped : Rules → Word → (Word → Bool) → Scope → List Macro → Word → Word → Statements → State → Outcome State → Type 0
 Stepped M self own sc ms here l ss s r = Has (run (with_macros M ms) here ss (own_scope M.check self own sc) (exit_to M l) s) r
 
 -- the arguments of macro calls capture nothing, the assignments of W do what M does, and what jumps ends its list
@@ -53,4 +53,4 @@ pub record Prepares (M : Rules) (W : Moving) (f : Word → Bool) (g : Callable) 
 
 -- a step ends in a state that agrees with t on what is assigned
 abbrev pub StepFits : Rules → Word → (Word → Bool) → Scope → List Macro → Word → Word → Statements → List Word → State → State → Type 0
-StepFits M self own sc ms here l ss xs s t = (u : State) × Stepped M self own sc ms here l ss s (got u) × Agree (more none xs) u t
+StepFits M self own sc ms here l ss xs s t = (u : State) × Stepped M self own sc ms here l ss s (Ok u) × Agree (more none xs) u t

@@ -1,17 +1,17 @@
 -- What is asked of statements and scopes so that the written items mean what the statements do; and the truth of these items.
-use Rattle.std.specs.Prelude.{◌≡◌, List, [], Bool, true, false, cond, codes, Some, None}
+use Rattle.std.specs.Prelude.{◌≡◌, List, [], Bool, true, false, cond, codes, Some, None, Ok, Err}
 use Rattle.tla_token.specs.declared.place.Place.{Place}
 use Rattle.tla_expr.specs.Tree.{Word, Form, next, Tree, Each, Every, binders}
 use Rattle.tla_value.specs.Stops.{plain}
 use Rattle.tla_value.specs.Standard.{printed, asserted, standard_sense}
 use Rattle.tla_value.specs.Meaning.{Env, just}
 use Rattle.tla_value.specs.Related.{Uses, In}
-use Rattle.tla_value.specs.Definitions.{Look}
+use Rattle.tla_value.specs.Definitions.{Valuation}
 use Rattle.module_text.specs.Module.{Items}
-use Rattle.module_text.specs.Truth.{Verdict, told, fault, over, items_hold}
-use Rattle.pcal_tree.specs.Algorithm.{Moves, no_moves, move, Binds, no_binds, one_of, is, Statement, assign, await, print, assert, skip, branch, either, with, Statements, done, then, mark, Branches, no_branches, or}
+use Rattle.module_text.specs.Truth.{Verdict, items_hold}
+use Rattle.pcal_tree.specs.Algorithm.{Assignments, no_assignments, assignment, Binds, no_binds, one_of, is, Statement, assign, await, print, assert, skip, branch, either, with, Statements, done, then, mark, Branches, no_branches, or}
 use Rattle.pcal_tree.specs.Run.{Rules}
-use Rattle.pcal_tree.specs.Scope.{State, Got, got, bad, Scope}
+use Rattle.pcal_tree.specs.Scope.{State, Scope}
 use Rattle.action_builder.specs.Action.{Names, member, more, mid, firsts, assigned, Once, Agree}
 use Rattle.action_builder.specs.Effects.{LeftMoves, part_at, parts_of, effect_of, effects_of, Settled}
 
@@ -37,7 +37,7 @@ pub record Paired (U : Readable) (vs : List Word) (sc : Scope) (env : State → 
 
 -- the names of vs are variables that are read in the state, and each name is itself as a left side
 pub record Scoped (vs : List Word) (sc : Scope) : Type 0 where
-  pub part : (x : Word) (at : Place) (s : State) → sc.part x at s ≡ got (part_at x [])
+  pub part : (x : Word) (at : Place) (s : State) → sc.part x at s ≡ Ok (part_at x [])
   pub reads : (x : Word) → member vs x ≡ true → (at : Place) (s : State) → (sc.env s).now x at ≡ just (s x)
 
 -- all that is asked of a scope, and of the environments of pairs of states
@@ -58,11 +58,11 @@ Plain A U m at = Each (λ x. A x ≡ false) (binders m) × Uses U m × NoNext m
 abbrev pub FineTree : Readable → Names → Tree → Type 0
 FineTree U A e = Every (Plain A (In (U A))) e
 
-abbrev pub FineSides : Readable → Names → Moves → Type 0
-FineSides U A no_moves = Unit {0}
-FineSides U A (move l e ms) = FineTree U A l × FineTree U A e × FineSides U A ms
+abbrev pub FineSides : Readable → Names → Assignments → Type 0
+FineSides U A no_assignments = Unit {0}
+FineSides U A (assignment l e ms) = FineTree U A l × FineTree U A e × FineSides U A ms
 
-pub record FineMoves (U : Readable) (vs : List Word) (A : Names) (ms : Moves) : Type 0 where
+pub record FineMoves (U : Readable) (vs : List Word) (A : Names) (ms : Assignments) : Type 0 where
   pub left : LeftMoves ms
   pub sides : FineSides U A ms
   pub readable : (y : Word) → member (firsts (parts_of plain ms)) y ≡ true → U A y ≡ true
@@ -99,27 +99,15 @@ abbrev mutual
 -- ---- truth
 
 -- the values of the variables
-abbrev pub values_of : List Word → State → Look
+abbrev pub values_of : List Word → State → Valuation
 values_of vs s x = cond (member vs x) (Some (s x)) None
 
 -- the same truth value, or neither has one
-abbrev pub Matches : Verdict → Got Bool → Type 0
-Matches (told a) (got b) = a ≡ b
-Matches (told a) (bad k) = ⊥
-Matches (fault k p) (got b) = ⊥
-Matches (fault k p) (bad j) = Unit {0}
-Matches (over p) (got b) = ⊥
-Matches (over p) (bad j) = Unit {0}
-
-abbrev pub IsStopped : Verdict → Type 0
-IsStopped (told b) = ⊥
-IsStopped (fault k p) = Unit {0}
-IsStopped (over p) = Unit {0}
-
-abbrev pub IsNotFalse : Verdict → Type 0
-IsNotFalse (told b) = b ≡ true
-IsNotFalse (fault k p) = Unit {0}
-IsNotFalse (over p) = Unit {0}
+abbrev pub Matches : Verdict → Verdict → Type 0
+Matches (Ok a) (Ok b) = a ≡ b
+Matches (Ok a) (Err k) = ⊥
+Matches (Err k) (Ok b) = ⊥
+Matches (Err j) (Err k) = Unit {0}
 
 -- the items on a pair of states
 abbrev pub holds_on : List Word → (State → State → Env) → Items → State → State → Verdict
@@ -129,7 +117,7 @@ holds_on vs env items s t = items_hold plain (values_of vs s) (values_of vs t) (
 
 -- without limits
 abbrev pub unlimited : Rules → Rules
-unlimited M = record { check = plain; go = M.go; enter = M.enter; quit = M.quit; macros = M.macros }
+unlimited M = record { check = plain; goto = M.goto; call = M.call; return = M.return; macros = M.macros }
 
 -- statements that assign nothing twice and nothing of A, in a scope with environments for pairs of states; vs are all variables
 pub record Ready (U : Readable) (vs : List Word) (A : Names) (ss : Statements) (sc : Scope) (env : State → State → Env) : Type 0 where
@@ -138,7 +126,3 @@ pub record Ready (U : Readable) (vs : List Word) (A : Names) (ss : Statements) (
   pub once : Once A (effects_of plain ss)
   pub within : IsWithin A (member vs)
   pub stands : Stands U vs sc env
-
--- some state that agrees with t on A, in which the verdict is a fault
-abbrev pub StoppedSomewhere : Names → State → (State → Verdict) → Type 0
-StoppedSomewhere A t v = (u : State) × Agree A u t × IsStopped (v u)

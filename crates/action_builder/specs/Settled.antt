@@ -1,11 +1,11 @@
 -- Statements of one step with jumps, loops, calls and returns written as assignments that end it ("A PlusCal User's Manual", sections 3.2 and 3.4).
-use Rattle.std.specs.Prelude.{◌≡◌, ◌↔◌, List, [], ◌∷◌, Bool, true, false, cond, ◌||◌}
+use Rattle.std.specs.Prelude.{◌≡◌, ◌↔◌, List, [], ◌∷◌, Bool, true, false, cond, ◌||◌, Ok}
 use Rattle.tla_expr.specs.Tree.{Word, Trees}
 use Rattle.tla_value.specs.Value.{Value}
 use Rattle.tla_value.specs.Meaning.{evals}
 use Rattle.tla_value.specs.Related.{In}
-use Rattle.pcal_tree.specs.Algorithm.{Name, Span, Binds, no_binds, one_of, is, Statement, assign, await, print, assert, skip, branch, either, with, loop, jump, macro, invoke, leave, Statements, done, then, mark, Branches, no_branches, or}
-use Rattle.pcal_tree.specs.Scope.{State, Got, got, Scope, bound, all_valued, places_of}
+use Rattle.pcal_tree.specs.Algorithm.{Name, Span, Binds, no_binds, one_of, is, Statement, assign, await, print, assert, skip, branch, either, with, while, goto, macro, call, return, Statements, done, then, mark, Branches, no_branches, or}
+use Rattle.pcal_tree.specs.Scope.{State, Outcome, Scope, bound, all_valued, places_of}
 use Rattle.pcal_tree.specs.Run.{Course, Has, after, Rules, unlabelled, label_of, run}
 use Rattle.action_builder.specs.Action.{IsBad}
 use Rattle.action_builder.specs.Contract.{to_end}
@@ -40,14 +40,14 @@ abbrev mutual
 -- `here`: the label at which the statement or list stands; l: the label of what follows; rest: what follows, settled
 abbrev mutual
   pub settled_one : Moving → Word → Word → Span → Statement → Statements → Statements
-  settled_one W here l at (jump m) rest = W.pc m
-  settled_one W here l at (invoke p ts) rest = W.call at p ts l
-  settled_one W here l at leave rest = W.back at
+  settled_one W here l at (goto m) rest = W.pc m
+  settled_one W here l at (call p ts) rest = W.call at p ts l
+  settled_one W here l at return rest = W.back at
   settled_one W here l at (branch e a b) rest =
       cond (jumps a || jumps b) (then at (branch e (settled W unlabelled l a) (settled W unlabelled l b)) done) (then at (branch e a b) rest)
   settled_one W here l at (either bs) rest = cond (jumps_some bs) (then at (either (settled_some W l bs)) done) (then at (either bs) rest)
   settled_one W here l at (with bs b) rest = cond (jumps b) (then at (with bs (settled W unlabelled l b)) done) (then at (with bs b) rest)
-  settled_one W here l at (loop e b) rest = then at (branch e (settled W unlabelled here b) rest) done
+  settled_one W here l at (while e b) rest = then at (branch e (settled W unlabelled here b) rest) done
   settled_one W here l at st rest = then at st rest
 
   -- l: the exit
@@ -83,9 +83,9 @@ abbrev mutual
   TidyOne F g (branch e a b) rest = Tidy F g a × Tidy F g b × ((jumps a || jumps b) ≡ true → Stops rest)
   TidyOne F g (either bs) rest = TidySome F g bs × (jumps_some bs ≡ true → Stops rest)
   TidyOne F g (with bs b) rest = Tidy F g b × (jumps b ≡ true → Stops rest) × EachBind F bs
-  TidyOne F g (loop e b) rest = Tidy F g b
+  TidyOne F g (while e b) rest = Tidy F g b
   TidyOne F g (macro m ts) rest = ⊥
-  TidyOne F g (invoke p ts) rest = g p ts ≡ true
+  TidyOne F g (call p ts) rest = g p ts ≡ true
   TidyOne F g _ rest = Unit {0}
 
   pub Tidy : (Word → Type 0) → Callable → Statements → Type 0
@@ -100,13 +100,13 @@ abbrev mutual
 -- ---- the same ends, and trouble where the other has trouble
 
 abbrev pub Outcomes : Type 1
-Outcomes = Got State → Type 0
+Outcomes = Outcome State → Type 0
 
 abbrev pub AnyBad : Outcomes → Type 0
-AnyBad P = (o : Got State) × IsBad o × P o
+AnyBad P = (o : Outcome State) × IsBad o × P o
 
 pub record Close (P Q : Outcomes) : Type 0 where
-  pub ends : (u : State) → P (got u) ↔ Q (got u)
+  pub ends : (u : State) → P (Ok u) ↔ Q (Ok u)
   pub faults : AnyBad P ↔ AnyBad Q
 
 abbrev pub CloseCourses : (State → Course) → (State → Course) → Type 0
@@ -114,9 +114,9 @@ CloseCourses K L = (s : State) → Close (Has (K s)) (Has (L s))
 
 -- the assignments do what a jump, a call and a return do, in the scopes that fit
 pub record Does (M : Rules) (W : Moving) (Fit : Scope → Type 0) (F : Word → Type 0) (g : Callable) : Type 0 where
-  pub pc : (l : Word) (sc : Scope) → Fit sc → CloseCourses (run M unlabelled (W.pc l) sc to_end) (M.go l)
-  pub call : (at : Span) (p : Name) (ts : Trees) (l : Word) (sc : Scope) → Fit sc → g p ts ≡ true → CloseCourses (run M unlabelled (W.call at p ts l) sc to_end) (λ s. after (all_valued (evals M.check ts) (sc.env s) got) (λ vs. M.enter at.first p.word (places_of ts sc) vs l s))
-  pub back : (at : Span) (sc : Scope) → Fit sc → CloseCourses (run M unlabelled (W.back at) sc to_end) (M.quit at.first)
+  pub pc : (l : Word) (sc : Scope) → Fit sc → CloseCourses (run M unlabelled (W.pc l) sc to_end) (M.goto l)
+  pub call : (at : Span) (p : Name) (ts : Trees) (l : Word) (sc : Scope) → Fit sc → g p ts ≡ true → CloseCourses (run M unlabelled (W.call at p ts l) sc to_end) (λ s. after (all_valued (evals M.check ts) (sc.env s) Ok) (λ vs. M.call at.first p.word (places_of ts sc) vs l s))
+  pub back : (at : Span) (sc : Scope) → Fit sc → CloseCourses (run M unlabelled (W.back at) sc to_end) (M.return at.first)
   pub bind : (x : Word) (v : Value) (sc : Scope) → F x → Fit sc → Fit (bound x v sc)
 
 -- ---- the scopes within one

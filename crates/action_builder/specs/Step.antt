@@ -1,12 +1,12 @@
 -- A step from a label, with all that its items are written from; what is asked of it, and what it ends in.
-use Rattle.std.specs.Prelude.{List, Bool}
+use Rattle.std.specs.Prelude.{List, Bool, Ok, Err}
 use Rattle.tla_expr.specs.Tree.{Word}
 use Rattle.tla_value.specs.Value.{Value}
 use Rattle.tla_value.specs.Stops.{plain}
 use Rattle.tla_value.specs.Meaning.{Env}
 use Rattle.module_text.specs.Module.{Items}
 use Rattle.pcal_tree.specs.Algorithm.{Statements, Macro}
-use Rattle.pcal_tree.specs.Scope.{State, Trouble, Got, got, bad, Scope}
+use Rattle.pcal_tree.specs.Scope.{State, Trouble, Outcome, Scope}
 use Rattle.pcal_tree.specs.Run.{Rules}
 use Rattle.action_builder.specs.Action.{member, assigned_in, Agree}
 use Rattle.action_builder.specs.Effects.{effects_of}
@@ -45,15 +45,15 @@ abbrev pub IsReady : Readable → List Word → (State → State → Env) → St
 IsReady U vs env d = Ready U vs none (prepared_of d) d.scope env
 
 -- the outcomes of the statements as they stand, without limits
-abbrev pub Outcome : Step → State → Got State → Type 0
-Outcome d s r = Stepped (unlimited d.rules) d.self d.own d.scope d.macros d.here d.exit d.statements s r
+abbrev pub StepOutcome : Step → State → Outcome State → Type 0
+StepOutcome d s r = Stepped (unlimited d.rules) d.self d.own d.scope d.macros d.here d.exit d.statements s r
 
 -- it ends in a state that agrees with t on what is assigned
 abbrev pub EndsIn : Step → State → State → Type 0
 EndsIn d s t = StepFits (unlimited d.rules) d.self d.own d.scope d.macros d.here d.exit d.statements (assigned_in (effects_of plain (prepared_of d))) s t
 
 abbrev pub IsTroubled : Step → State → Type 0
-IsTroubled d s = (k : Trouble) × Outcome d s (bad k)
+IsTroubled d s = (k : Trouble) × StepOutcome d s (Err k)
 
 -- with UNCHANGED for all that the step assigns nowhere
 abbrev pub action_of : List Word → Step → Items
@@ -61,4 +61,4 @@ action_of vs d = onto (items_of vs d) (unchanged_of (left_of vs vs (assigned_in 
 
 -- it ends in a state that agrees with t on all variables
 abbrev pub StepsTo : List Word → Step → State → State → Type 0
-StepsTo vs d s t = (u : State) × Outcome d s (got u) × Agree (member vs) u t
+StepsTo vs d s t = (u : State) × StepOutcome d s (Ok u) × Agree (member vs) u t

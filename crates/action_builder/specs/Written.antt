@@ -2,11 +2,11 @@
 -- assignment, section 16.1.7; the statements, "A PlusCal User's Manual", section 3.2).
 use Rattle.std.specs.Prelude.{List, [], ◌∷◌, ◌++◌, Bool, true, false, cond, not, ◌&&◌, bytes_eq, codes}
 use Rattle.tla_token.specs.declared.place.Place.{Place}
-use Rattle.tla_expr.specs.Tree.{Word, Step, index, field, Slot, select, except, Form, quote, truth, name, call, strict, Tree, node, Trees, no_trees, tree, graft}
+use Rattle.tla_expr.specs.Tree.{Word, PathStep, index, field, Slot, select, except, Form, string, truth, name, operator_call, strict, Tree, node, Trees, no_trees, tree, graft}
 use Rattle.tla_value.specs.Stops.{plain}
 use Rattle.tla_value.specs.Grafts.{primes}
-use Rattle.module_text.specs.Module.{test, setting, unchanged, exists, local, choice, either as any, Items, no_items, item, Branches as Lists, no_branches as no_lists, branch as list}
-use Rattle.pcal_tree.specs.Algorithm.{nowhere, Moves, no_moves, move, Binds, no_binds, one_of, is, Statement, assign, await, print, assert, skip, branch, either, with, Statements, done, then, mark, Branches, no_branches, or}
+use Rattle.module_text.specs.Module.{test, setting, unchanged, exists, local, if_then_else, either as any, Items, no_items, item, Branches as Lists, no_branches as no_lists, branch as list}
+use Rattle.pcal_tree.specs.Algorithm.{nowhere, Assignments, no_assignments, assignment, Binds, no_binds, one_of, is, Statement, assign, await, print, assert, skip, branch, either, with, Statements, done, then, mark, Branches, no_branches, or}
 use Rattle.pcal_tree.specs.Scope.{root_place}
 use Rattle.action_builder.specs.Action.{Names, more, member, firsts, assigned, assigned_in, assigned_by}
 use Rattle.action_builder.specs.Effects.{head_of, parts_of, effect_of, effects_of, ways_of}
@@ -36,7 +36,7 @@ abbrev mutual
   keys_first no_trees = []
   keys_first (tree f us) = keys_of f ++ subs us
 
-abbrev pub steps_of : List Key → List Step
+abbrev pub steps_of : List Key → List PathStep
 steps_of [] = []
 steps_of (sub t ∷ ks) = index ∷ steps_of ks
 steps_of (fixed a ∷ ks) = field a ∷ steps_of ks
@@ -48,31 +48,31 @@ subscripts (sub t ∷ ks) ts = tree t (subscripts ks ts)
 subscripts (fixed a ∷ ks) ts = subscripts ks ts
 
 -- the assignments to parts of y
-abbrev pub own : Word → Moves → Moves
-own y no_moves = no_moves
-own y (move l e ms) = cond (bytes_eq (head_of l) y) (move l e (own y ms)) (own y ms)
+abbrev pub own : Word → Assignments → Assignments
+own y no_assignments = no_assignments
+own y (assignment l e ms) = cond (bytes_eq (head_of l) y) (assignment l e (own y ms)) (own y ms)
 
-abbrev pub slots_of : Moves → List Slot
-slots_of no_moves = []
-slots_of (move l e ms) = record { path = steps_of (keys_of l); place = root_place l } ∷ slots_of ms
+abbrev pub slots_of : Assignments → List Slot
+slots_of no_assignments = []
+slots_of (assignment l e ms) = record { path = steps_of (keys_of l); place = root_place l } ∷ slots_of ms
 
-abbrev pub slot_trees : Moves → Trees
-slot_trees no_moves = no_trees
-slot_trees (move l e ms) = subscripts (keys_of l) (tree e (slot_trees ms))
+abbrev pub slot_trees : Assignments → Trees
+slot_trees no_assignments = no_trees
+slot_trees (assignment l e ms) = subscripts (keys_of l) (tree e (slot_trees ms))
 
 -- [y EXCEPT ![i].f = e, ..]
-abbrev pub except_of : Place → Word → Moves → Tree
+abbrev pub except_of : Place → Word → Assignments → Tree
 except_of at y ms = node (strict (except (slots_of ms))) at (tree (node (name y) at no_trees) (slot_trees ms))
 
 -- one assignment to the whole variable
-abbrev pub is_whole : List Key → Moves → Bool
-is_whole [] no_moves = true
+abbrev pub is_whole : List Key → Assignments → Bool
+is_whole [] no_assignments = true
 is_whole _ _ = false
 
 -- e where the whole variable is assigned, else an EXCEPT with all its parts
-abbrev pub side_of : Word → Moves → Tree
-side_of y no_moves = node (name y) nowhere no_trees
-side_of y (move l e ms) = cond (is_whole (keys_of l) ms) e (except_of (root_place l) y (move l e ms))
+abbrev pub side_of : Word → Assignments → Tree
+side_of y no_assignments = node (name y) nowhere no_trees
+side_of y (assignment l e ms) = cond (is_whole (keys_of l) ms) e (except_of (root_place l) y (assignment l e ms))
 
 -- ---- items
 
@@ -81,11 +81,11 @@ primed A e = graft (primes A) e
 
 -- PrintT(e)
 abbrev pub print_of : Place → Tree → Tree
-print_of at e = node (call (codes "PrintT")) at (tree e no_trees)
+print_of at e = node (operator_call (codes "PrintT")) at (tree e no_trees)
 
 -- Assert(e, "Failure of assertion.")
 abbrev pub assert_of : Place → Tree → Tree
-assert_of at e = node (call (codes "Assert")) at (tree e (tree (node (quote (codes "Failure of assertion.")) at no_trees) no_trees))
+assert_of at e = node (operator_call (codes "Assert")) at (tree e (tree (node (string (codes "Failure of assertion.")) at no_trees) no_trees))
 
 abbrev pub true_at : Place → Tree
 true_at at = node (truth true) at no_trees
@@ -109,7 +109,7 @@ abbrev pub filled : Place → Items → Items
 filled at no_items = item (test (true_at at)) no_items
 filled at (item i more_items) = item i more_items
 
-abbrev pub settings_of : Names → Moves → List Word → Items → Items
+abbrev pub settings_of : Names → Assignments → List Word → Items → Items
 settings_of A ms [] rest = rest
 settings_of A ms (y ∷ ys) rest = item (setting y (primed A (side_of y (own y ms)))) (settings_of A ms ys rest)
 
@@ -132,7 +132,7 @@ abbrev mutual
   write_one vs A at (assert e) rest = item (test (assert_of at (primed A e))) rest
   write_one vs A at skip rest = item (test (true_at at)) rest
   write_one vs A at (branch e a b) rest =
-      item (choice (primed A e)
+      item (if_then_else (primed A e)
       (branch_items vs at (write vs A a) (assigned_in (effects_of plain b)) (assigned_in (effects_of plain a)))
       (branch_items vs at (write vs A b) (assigned_in (effects_of plain a)) (assigned_in (effects_of plain b)))) rest
   write_one vs A at (either bs) rest = item (any (write_some vs A at (assigned_by (ways_of plain bs)) bs)) rest

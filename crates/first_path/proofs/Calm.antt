@@ -3,7 +3,7 @@ use Rattle.std.proofs.Common.{◌≡◌, ℕ, Bool, true, false, ◌&&◌, not, 
 use Rattle.std.specs.List.{list_all}
 use Rattle.std.proofs.lemmas.Bool.{and_parts, and_from}
 use Rattle.tla_token.specs.Signs.{spellings}
-use Rattle.tla_token.specs.Lexemes.{Kind, name, number, quote, one, other, IsLexeme, is_word, is_blank}
+use Rattle.tla_token.specs.Lexemes.{Kind, name, number, string, one, other, IsLexeme, is_word, is_blank}
 use Rattle.tla_token.specs.Tokens.{Piece, blank, block, line, lexeme, text_of, AllFit}
 use Rattle.tla_token.proofs.Words.{all_append, digits_words}
 use Rattle.tla_token.proofs.Signed.{tells_apart}
@@ -35,14 +35,14 @@ blank_calm b h = class_calm is_blank refl refl refl refl b h
 abbrev calm_kind : Kind → Bool
 calm_kind (name w) = true
 calm_kind (number n) = true
-calm_kind (quote w) = false
+calm_kind (string w) = false
 calm_kind (one s) = list_all (λ w. list_all is_calm w) (spellings s)
 calm_kind (other w) = false
 
 lexeme_calm : (k : Kind) (bytes : List ℕ) → IsLexeme k bytes → calm_kind k ≡ true → list_all is_calm bytes ≡ true
 lexeme_calm (name w) bytes h c = rw h.0 (every is_word is_calm word_calm w h.1.0)
 lexeme_calm (number n) bytes h c = every is_word is_calm word_calm bytes (digits_words bytes h.1)
-lexeme_calm (quote w) bytes h c = absurd cc
+lexeme_calm (string w) bytes h c = absurd cc
 lexeme_calm (one s) bytes h c = among_holds (λ w. list_all is_calm w) (spellings s) bytes h c
 lexeme_calm (other w) bytes h c = absurd cc
 

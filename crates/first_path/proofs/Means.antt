@@ -1,5 +1,5 @@
 -- The right side of the form's assignment, and its tests, wherever the variable stands for a value.
-use Rattle.std.proofs.Common.{◌≡◌, ℕ, pos, ◌+ℤ◌, [], ◌∷◌, Bool, true, false, ◌||◌, Option, Some, None, codes, bytes_eq, refl, ap, ◌∙◌, subst, cond}
+use Rattle.std.proofs.Common.{◌≡◌, ℕ, pos, ◌+ℤ◌, [], ◌∷◌, Bool, true, false, ◌||◌, Option, Some, None, codes, bytes_eq, refl, ap, ◌∙◌, subst, cond, Ok, Err}
 use Rattle.std.proofs.lemmas.Bool.{or_from, both_ways, false_from_ne_true}
 use Rattle.tla_token.specs.declared.place.Place.{Place}
 use Rattle.tla_token.specs.Words.{is_reserved, is_own, is_standard}
@@ -7,14 +7,15 @@ use Rattle.tla_token.proofs.Spelled.{same_bytes}
 use Rattle.tla_expr.specs.declared.op.Op.TheVariants.{Equal, Plus}
 use Rattle.tla_expr.specs.Tree.{Word, number, name, operator}
 use Rattle.tla_value.specs.declared.fault.FaultKind.TheVariants.{NotInteger}
-use Rattle.tla_value.specs.Value.{Value, truth, int, text, model, set, fun, Outcome, good, fault, Sense}
+use Rattle.tla_value.specs.Value.{Value, truth, int, text, model, set, fun, Outcome, fault, Sense, ◌>>=◌}
 use Rattle.tla_value.specs.Order.{same}
 use Rattle.tla_value.specs.OrderLaws.{same_is, same_self}
-use Rattle.tla_value.specs.Stops.{plain, on_value}
+use Rattle.tla_value.specs.Stops.{plain}
 use Rattle.tla_value.specs.Strict.{strict_value}
 use Rattle.tla_value.specs.Meaning.{Env, just, eval}
+use Rattle.pcal_tree.specs.Scope.{◌>>=◌}
 use Rattle.pcal_tree.specs.Names.{first_free, free_from, is_taken}
-use Rattle.module_text.specs.Truth.{and_then, Verdict, told, on_good, as_truth, on, on_test, is_value, Tells}
+use Rattle.module_text.specs.Truth.{and_then, Verdict, as_truth, on, on_test, is_value, TrueExactly}
 use Rattle.module_text.proofs.Tells.{tells_of, tells_and, tells_as}
 use Rattle.first_path.specs.Form.{Operand, number_operand, variable_operand, Right, single, sum}
 use Rattle.first_path.specs.Placed.{leaf, infix_of, operand_tree, right_tree, is_at}
@@ -26,7 +27,7 @@ use Rattle.first_path.proofs.Fit.{Free}
 pub equal_same : (v w : Value) → v ≡ w → same v w ≡ true
 equal_same v w e = subst (λ z. same v z ≡ true) e (same_self v)
 
-pub tells_same : (v w : Value) → Tells (told (same v w)) (v ≡ w)
+pub tells_same : (v w : Value) → TrueExactly (Ok (same v w)) (v ≡ w)
 tells_same v w = (same v w, refl, (same_is v w, equal_same v w))
 
 abbrev pub operand_value : Operand → Value → Value
@@ -43,9 +44,9 @@ abbrev pub result : Right → Value → Option Value
 result (single a) w = Some (operand_value a w)
 result (sum a b) w = added (operand_value a w) (operand_value b w)
 
-abbrev pub outcome : Place → Option Value → Outcome
-outcome p (Some v) = good v
-outcome p None = fault NotInteger p
+abbrev pub outcome : Place → Option Value → Outcome Value
+outcome p (Some v) = Ok v
+outcome p None = Err (fault NotInteger p)
 
 -- ---- expressions
 
@@ -54,7 +55,7 @@ abbrev pub StandsFor : Word → Value → Env → Type 0
 StandsFor v w env = (at : Place) → env.now v at ≡ just w
 
 operand_evaluates : (v : Word) (w : Value) (env : Env) → StandsFor v w env → (a : Operand) (p : Place)
-    → (eval plain (operand_tree v a p) env).value ≡ good (operand_value a w)
+    → (eval plain (operand_tree v a p) env).value ≡ Ok (operand_value a w)
 operand_evaluates v w env h (number_operand n) p = refl
 operand_evaluates v w env h variable_operand p = ap (λ (s : Sense). s.value) (h p)
 
@@ -76,49 +77,49 @@ pub right_evaluates : (v : Word) (w : Value) (env : Env) → StandsFor v w env �
     → (eval plain (right_tree v r p q) env).value ≡ outcome p (result r w)
 right_evaluates v w env h (single a) p q = operand_evaluates v w env h a p
 right_evaluates v w env h (sum a b) p q =
-    (λ i. on_value (operand_evaluates v w env h a p i) (λ x.
-    on_value (operand_evaluates v w env h b q i) (λ y. strict_value plain (operator Plus) p (x ∷ y ∷ []))))
+    (λ i. (operand_evaluates v w env h a p i) >>= (λ x.
+    (operand_evaluates v w env h b q i) >>= (λ y. strict_value plain (operator Plus) p (x ∷ y ∷ []))))
     ∙ added_is p (operand_value a w) (operand_value b w)
 
 -- ---- tests
 
 -- of the variable's value and another
 tested : Place → Value → Sense → Verdict
-tested p u s = on_good (on_value s.value (λ v. good (truth (same v u)))) (λ v. as_truth p v told)
+tested p u s = (s.value >>= (λ v. Ok (truth (same v u)))) >>= (λ v. as_truth p v Ok)
 
 -- x = n
 pub number_tells : (x : Word) (w : Value) (env : Env) → StandsFor x w env → (n : ℕ) (p q : Place)
-    → Tells (on_test plain env (infix_of Equal p (leaf (name x) p) (leaf (number n) q)) told) (w ≡ int (pos n))
+    → TrueExactly (on_test plain env (infix_of Equal p (leaf (name x) p) (leaf (number n) q)) Ok) (w ≡ int (pos n))
 unfolding tested
 number_tells x w env h n p q =
-    tells_of (on_test plain env (infix_of Equal p (leaf (name x) p) (leaf (number n) q)) told) (told (same w (int (pos n)))) (w ≡ int (pos n))
+    tells_of (on_test plain env (infix_of Equal p (leaf (name x) p) (leaf (number n) q)) Ok) (Ok (same w (int (pos n)))) (w ≡ int (pos n))
     (ap (tested p (int (pos n))) (h p)) (tells_same w (int (pos n)))
 
 -- pc = "L"
 pub label_tells : (l : Word) (w : Value) (env : Env) → StandsFor (codes "pc") w env → (p q : Place)
-    → Tells (on_test plain env (is_at l p q) told) (w ≡ text l)
+    → TrueExactly (on_test plain env (is_at l p q) Ok) (w ≡ text l)
 unfolding tested
 label_tells l w env h p q =
-    tells_of (on_test plain env (is_at l p q) told) (told (same w (text l))) (w ≡ text l) (ap (tested p (text l)) (h p)) (tells_same w (text l))
+    tells_of (on_test plain env (is_at l p q) Ok) (Ok (same w (text l))) (w ≡ text l) (ap (tested p (text l)) (h p)) (tells_same w (text l))
 
 -- x' = v
-pub value_tells : (o : Option Value) (u v : Value) → o ≡ Some u → Tells (told (is_value o v)) (u ≡ v)
-value_tells o u v e = tells_of (told (is_value o v)) (told (same u v)) (u ≡ v) (ap (λ o. told (is_value o v)) e) (tells_same u v)
+pub value_tells : (o : Option Value) (u v : Value) → o ≡ Some u → TrueExactly (Ok (is_value o v)) (u ≡ v)
+value_tells o u v e = tells_of (Ok (is_value o v)) (Ok (same u v)) (u ≡ v) (ap (λ o. Ok (is_value o v)) e) (tells_same u v)
 
 -- x' = the right side
 pub right_tells : (v : Word) (w : Value) (env : Env) → StandsFor v w env → (r : Right) (p q : Place) (x : Value) → result r w ≡ Some x
-    → (o : Option Value) (u : Value) → o ≡ Some u → Tells (on plain env (right_tree v r p q) (λ z. told (is_value o z))) (u ≡ x)
+    → (o : Option Value) (u : Value) → o ≡ Some u → TrueExactly (on plain env (right_tree v r p q) (λ z. Ok (is_value o z))) (u ≡ x)
 right_tells v w env h r p q x e o u d =
-    tells_of (on plain env (right_tree v r p q) (λ z. told (is_value o z))) (told (is_value o x)) (u ≡ x)
-    (ap (λ g. on_good g (λ z. told (is_value o z))) (right_evaluates v w env h r p q ∙ ap (outcome p) e)) (value_tells o u x d)
+    tells_of (on plain env (right_tree v r p q) (λ z. Ok (is_value o z))) (Ok (is_value o x)) (u ≡ x)
+    (ap (λ g. g >>= (λ z. Ok (is_value o z))) (right_evaluates v w env h r p q ∙ ap (outcome p) e)) (value_tells o u x d)
 
 -- the last of several tests
-pub true_tells : Tells (told true) (Unit {0})
+pub true_tells : TrueExactly (Ok true) (Unit {0})
 true_tells = (true, refl, (λ e. tt, λ u. refl))
 
-pub last_tells : (v : Verdict) (X : Type 0) → Tells v X → Tells (and_then v (told true)) X
+pub last_tells : (v : Verdict) (X : Type 0) → TrueExactly v X → TrueExactly (and_then v (Ok true)) X
 last_tells v X h =
-    tells_as (and_then v (told true)) (X × Unit {0}) X (tells_and v (told true) X (Unit {0}) h (λ p. true_tells)) (λ k. k.0) (λ k. (k, tt))
+    tells_as (and_then v (Ok true)) (X × Unit {0}) X (tells_and v (Ok true) X (Unit {0}) h (λ p. true_tells)) (λ k. k.0) (λ k. (k, tt))
 
 -- ---- names
 

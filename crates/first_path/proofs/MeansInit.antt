@@ -1,5 +1,5 @@
 -- Init of the form's translation is true exactly of the algorithm's initial states.
-use Rattle.std.proofs.Common.{◌≡◌, pos, Bool, true, false, refl, sym, ◌∙◌}
+use Rattle.std.proofs.Common.{◌≡◌, pos, Bool, true, false, refl, sym, ◌∙◌, Ok}
 use Rattle.std.specs.Bool.{IsTrue}
 use Rattle.tla_expr.specs.declared.op.Op.TheVariants.{Equal}
 use Rattle.tla_expr.specs.Tree.{number, name}
@@ -7,15 +7,15 @@ use Rattle.tla_value.specs.Value.{Value, int, text}
 use Rattle.tla_value.specs.Order.{same}
 use Rattle.tla_value.specs.OrderLaws.{same_is}
 use Rattle.tla_value.specs.Stops.{plain}
-use Rattle.tla_value.specs.Definitions.{Look, no_state}
+use Rattle.tla_value.specs.Definitions.{Valuation, no_state}
 use Rattle.pcal_tree.specs.Algorithm.{Naming}
 use Rattle.pcal_tree.specs.Names.{naming}
-use Rattle.pcal_tree.specs.Scope.{State, Got, got}
+use Rattle.pcal_tree.specs.Scope.{State, Outcome}
 use Rattle.pcal_tree.specs.Program.{Program, pc}
 use Rattle.pcal_tree.specs.Calls.{label_value}
-use Rattle.pcal_tree.specs.Initial.{allowed, Initial}
-use Rattle.pcal_tree.specs.Initial as initial
-use Rattle.module_text.specs.Truth.{told, on_test, and_then, scope, init_holds, Tells}
+use Rattle.pcal_tree.specs.InitialStates.{allowed, Initial}
+use Rattle.pcal_tree.specs.InitialStates as initial
+use Rattle.module_text.specs.Truth.{on_test, and_then, scope, init_holds, TrueExactly}
 use Rattle.module_text.proofs.Tells.{tells_and, tells_as}
 use Rattle.first_path.specs.Form.{Parts, is_fit}
 use Rattle.first_path.specs.Placed.{Places, leaf, infix_of, is_at, algorithm_at, module_at}
@@ -26,23 +26,23 @@ use Rattle.first_path.proofs.MeansStep.{program_of, routine, Kept, label_is}
 use Rattle.first_path.proofs.MeansNext.{two_variables, reads_first, label_kept}
 
 -- the variable's test, and then that of pc
-both : Bool → Bool → Got Bool
-both a b = initial.and_then (initial.and_then (got a) (got true)) (got b)
+both : Bool → Bool → Outcome Bool
+both a b = initial.and_then (initial.and_then (Ok a) (Ok true)) (Ok b)
 
-both_true : (a b : Bool) → both a b ≡ got true → (a ≡ true) × (b ≡ true)
+both_true : (a b : Bool) → both a b ≡ Ok true → (a ≡ true) × (b ≡ true)
 unfolding both
 both_true true true e = (refl, refl)
 both_true true false e = cc
 both_true false b e = cc
 
-true_both : (a b : Bool) → a ≡ true → b ≡ true → both a b ≡ got true
+true_both : (a b : Bool) → a ≡ true → b ≡ true → both a b ≡ Ok true
 unfolding both
-true_both a b d e = λ i. initial.and_then (initial.and_then (got (d i)) (got true)) (got (e i))
+true_both a b d e = λ i. initial.and_then (initial.and_then (Ok (d i)) (Ok true)) (Ok (e i))
 
 abbrev First : Parts → State → Type 0
 First f s = (s f.variable ≡ int (pos f.initial)) × (s pc ≡ text f.label)
 
-module _ (p : Places) (f : Parts) (names : Naming) (values : Look) (k : Kept f names) where
+module _ (p : Places) (f : Parts) (names : Naming) (values : Valuation) (k : Kept f names) where
   abbrev program : Program
   program = program_of p f names values
 
@@ -67,17 +67,17 @@ module _ (p : Places) (f : Parts) (names : Naming) (values : Look) (k : Kept f n
       ∙ true_both (same (s f.variable) start) (same (s pc) label) (equal_same (s f.variable) start d)
       (equal_same (s pc) label (e ∙ sym (label_is p f names values k)))
 
-  init_of : (q : Places) (s : State) → Tells (init_holds plain (module_at q f) values (on_variables program s)) (Initial program s)
+  init_of : (q : Places) (s : State) → TrueExactly (init_holds plain (module_at q f) values (on_variables program s)) (Initial program s)
   init_of q s =
       let S = on_variables program s in
       let d = two_variables p f names values s in
       let env = scope plain (module_at q f) values S no_state in
-      let first = on_test plain env (infix_of Equal (q 0) (leaf (name f.variable) (q 0)) (leaf (number f.initial) (q 1))) told in
-      let then = on_test plain env (is_at f.label (q 2) (q 3)) told in
+      let first = on_test plain env (infix_of Equal (q 0) (leaf (name f.variable) (q 0)) (leaf (number f.initial) (q 1))) Ok in
+      let then = on_test plain env (is_at f.label (q 2) (q 3)) Ok in
       let at = s pc ≡ text f.label in
       let reads_pc = reads_first q f values s S no_state pc d.1 in
-      tells_as (and_then first (and_then then (told true))) (First f s) (Initial program s)
-      (tells_and first (and_then then (told true)) (s f.variable ≡ start) at
+      tells_as (and_then first (and_then then (Ok true))) (First f s) (Initial program s)
+      (tells_and first (and_then then (Ok true)) (s f.variable ≡ start) at
       (number_tells f.variable (s f.variable) env (reads_first q f values s S no_state f.variable d.0) f.initial (q 0) (q 1))
       (λ e. last_tells then at (label_tells f.label (s pc) env reads_pc (q 2) (q 3))))
       (first_initial s) (initial_first s)

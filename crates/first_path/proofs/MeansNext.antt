@@ -1,5 +1,5 @@
 -- Next of the form's translation is true exactly of the algorithm's steps, and of its stuttering end.
-use Rattle.std.proofs.Common.{◌≡◌, [], ◌∷◌, ◌++◌, Bool, true, false, ◌&&◌, cond, Option, Some, None, codes, refl, sym, ap, ◌∙◌, subst, ◌⊎◌, inl, inr}
+use Rattle.std.proofs.Common.{◌≡◌, [], ◌∷◌, ◌++◌, Bool, true, false, ◌&&◌, cond, Option, Some, None, codes, refl, sym, ap, ◌∙◌, subst, ◌⊎◌, inl, inr, Ok, Err}
 use Rattle.std.specs.Bool.{IsTrue}
 use Rattle.std.proofs.lemmas.Bool.{and_parts, and_from, or_left, or_right, both_ways}
 use Rattle.std.proofs.lemmas.Option.{same_Some}
@@ -8,20 +8,20 @@ use Rattle.tla_expr.specs.Tree.{Word}
 use Rattle.tla_expr.specs.Names.{has, is_same}
 use Rattle.tla_expr.proofs.NameLemmas.{same_refl, has-cons}
 use Rattle.tla_value.specs.declared.fault.FaultKind.TheVariants.{NotInteger}
-use Rattle.tla_value.specs.Value.{Value, text}
+use Rattle.tla_value.specs.Value.{Value, text, Outcome}
 use Rattle.tla_value.specs.Order.{same}
 use Rattle.tla_value.specs.Stops.{plain}
 use Rattle.tla_value.specs.Meaning.{Env}
-use Rattle.tla_value.specs.Definitions.{Look, or_sense}
+use Rattle.tla_value.specs.Definitions.{Valuation, or_sense}
 use Rattle.tla_value.specs.Standard.{standard_name}
 use Rattle.pcal_tree.specs.Algorithm.{Naming}
 use Rattle.pcal_tree.specs.Names.{first_free, kept, taken_outside, naming}
 use Rattle.pcal_tree.specs.Outside.{bound_in}
-use Rattle.pcal_tree.specs.Scope.{State, got, bad, faulty}
+use Rattle.pcal_tree.specs.Scope.{State, fault}
 use Rattle.pcal_tree.specs.Run.{Has}
 use Rattle.pcal_tree.specs.Program.{Program, pc, Actor}
-use Rattle.pcal_tree.specs.Step.{vars, Agree, IsActor, StepFrom, course_of, pc_of, Sound, Step, Still}
-use Rattle.module_text.specs.Truth.{Verdict, told, on, on_test, and_then, or_all, acted, acts_in, is_value, same_look, all_same, scope, next_holds, Tells}
+use Rattle.pcal_tree.specs.Step.{vars, Agree, IsActor, StepFrom, course_of, pc_of, Sound, Step, Stutters}
+use Rattle.module_text.specs.Truth.{Verdict, on, on_test, and_then, or_all, acted, acts_in, is_value, same_look, all_same, scope, next_holds, TrueExactly}
 use Rattle.module_text.proofs.Tells.{tells_and, tells_or, tells_as, tells_of}
 use Rattle.first_path.specs.Form.{number_operand, variable_operand, Right, single, sum, Parts, is_fit}
 use Rattle.first_path.specs.Placed.{Places, right_tree, is_at, algorithm_at, module_at}
@@ -41,16 +41,16 @@ has_second : (x y : Word) → has (x ∷ y ∷ []) y ≡ true
 has_second x y = has-cons x y (y ∷ []) ∙ or_right (is_same x y) (has (y ∷ []) y) (has-cons y y [] ∙ or_left (is_same y y) (has [] y) (same_refl y))
 
 -- the values of x and y alone
-abbrev pub Two : Word → Word → State → Look → Type 0
+abbrev pub Two : Word → Word → State → Valuation → Type 0
 Two x y s S = (S x ≡ Some (s x)) × (S y ≡ Some (s y))
 
-pub two_variables : (p : Places) (f : Parts) (names : Naming) (values : Look) (s : State)
+pub two_variables : (p : Places) (f : Parts) (names : Naming) (values : Valuation) (s : State)
     → Two f.variable pc s (on_variables (program_of p f names values) s)
 two_variables p f names values s =
     (ap (λ b. cond b (Some (s f.variable)) None) (has_first f.variable pc), ap (λ b. cond b (Some (s pc)) None) (has_second f.variable pc))
 
 -- a variable that the state has is read of the state
-pub reads_first : (q : Places) (f : Parts) (values : Look) (s : State) (S T : Look) (x : Word) → S x ≡ Some (s x)
+pub reads_first : (q : Places) (f : Parts) (values : Valuation) (s : State) (S T : Valuation) (x : Word) → S x ≡ Some (s x)
     → StandsFor x (s x) (scope plain (module_at q f) values S T)
 reads_first q f values s S T x e at = ap (λ o. or_sense o (or_sense (values x) (standard_name x at))) e
 
@@ -66,46 +66,46 @@ abbrev Taken : Parts → State → State → Type 0
 Taken f s t = (s pc ≡ text f.label) × (Moved f s t × (t pc ≡ text (codes "Done")))
 
 first_item : Places → Parts → Env → Verdict
-first_item q f env = on_test plain env (is_at f.label (q 4) (q 5)) told
+first_item q f env = on_test plain env (is_at f.label (q 4) (q 5)) Ok
 
-second_item : Places → Parts → Look → Env → Verdict
-second_item q f T env = on plain env (right_tree f.variable f.right (q 6) (q 7)) (λ v. told (is_value (T f.variable) v))
+second_item : Places → Parts → Valuation → Env → Verdict
+second_item q f T env = on plain env (right_tree f.variable f.right (q 6) (q 7)) (λ v. Ok (is_value (T f.variable) v))
 
-third_item : Look → Verdict
-third_item T = and_then (told (is_value (T pc) (text (codes "Done")))) (told true)
+third_item : Valuation → Verdict
+third_item T = and_then (Ok (is_value (T pc) (text (codes "Done")))) (Ok true)
 
 -- the action of the step
-abbrev step_items : Places → Parts → Look → Env → Verdict
+abbrev step_items : Places → Parts → Valuation → Env → Verdict
 step_items q f T env = and_then (first_item q f env) (and_then (second_item q f T env) (third_item T))
 
 -- the action of the stuttering end
-abbrev end_items : Places → Parts → Look → Look → Env → Verdict
+abbrev end_items : Places → Parts → Valuation → Valuation → Env → Verdict
 end_items q f S T env =
-    and_then (on_test plain env (is_at (codes "Done") (q 9) (q 10)) told) (and_then (told (all_same S T (f.variable ∷ pc ∷ []))) (told true))
+    and_then (on_test plain env (is_at (codes "Done") (q 9) (q 10)) Ok) (and_then (Ok (all_same S T (f.variable ∷ pc ∷ []))) (Ok true))
 
-third_tells : (T : Look) (t : State) → T pc ≡ Some (t pc) → Tells (third_item T) (t pc ≡ text (codes "Done"))
+third_tells : (T : Valuation) (t : State) → T pc ≡ Some (t pc) → TrueExactly (third_item T) (t pc ≡ text (codes "Done"))
 unfolding third_item
 third_tells T t e =
-    last_tells (told (is_value (T pc) (text (codes "Done")))) (t pc ≡ text (codes "Done")) (value_tells (T pc) (t pc) (text (codes "Done")) e)
+    last_tells (Ok (is_value (T pc) (text (codes "Done")))) (t pc ≡ text (codes "Done")) (value_tells (T pc) (t pc) (text (codes "Done")) e)
 
-second_tells : (q : Places) (f : Parts) (s t : State) (T : Look) (env : Env) → StandsFor f.variable (s f.variable) env
+second_tells : (q : Places) (f : Parts) (s t : State) (T : Valuation) (env : Env) → StandsFor f.variable (s f.variable) env
     → T f.variable ≡ Some (t f.variable)
-    → Good f s → Tells (second_item q f T env) (Moved f s t)
+    → Good f s → TrueExactly (second_item q f T env) (Moved f s t)
 unfolding second_item
 second_tells q f s t T env h e (x, g) =
-    tells_as (on plain env (right_tree f.variable f.right (q 6) (q 7)) (λ v. told (is_value (T f.variable) v))) (t f.variable ≡ x) (Moved f s t)
+    tells_as (on plain env (right_tree f.variable f.right (q 6) (q 7)) (λ v. Ok (is_value (T f.variable) v))) (t f.variable ≡ x) (Moved f s t)
     (right_tells f.variable (s f.variable) env h f.right (q 6) (q 7) x g (T f.variable) (t f.variable) e) (λ d. (x, g, d)) back
   where
     back : Moved f s t → t f.variable ≡ x
     back (y, k, d) = d ∙ same_Some y x (sym k ∙ g)
 
-first_tells : (q : Places) (f : Parts) (s : State) (env : Env) → StandsFor pc (s pc) env → Tells (first_item q f env) (s pc ≡ text f.label)
+first_tells : (q : Places) (f : Parts) (s : State) (env : Env) → StandsFor pc (s pc) env → TrueExactly (first_item q f env) (s pc ≡ text f.label)
 unfolding first_item
 first_tells q f s env h = label_tells f.label (s pc) env h (q 4) (q 5)
 
-taken_tells : (q : Places) (f : Parts) (s t : State) (T : Look) (env : Env) → StandsFor f.variable (s f.variable) env → StandsFor pc (s pc) env
+taken_tells : (q : Places) (f : Parts) (s t : State) (T : Valuation) (env : Env) → StandsFor f.variable (s f.variable) env → StandsFor pc (s pc) env
     → Two f.variable pc t T → (s pc ≡ text f.label → Good f s)
-    → Tells (step_items q f T env) (Taken f s t)
+    → TrueExactly (step_items q f T env) (Taken f s t)
 taken_tells q f s t T env h k e g =
     tells_and (first_item q f env) (and_then (second_item q f T env) (third_item T)) (s pc ≡ text f.label)
     (Moved f s t × (t pc ≡ text (codes "Done")))
@@ -115,13 +115,13 @@ taken_tells q f s t T env h k e g =
 
 -- ---- the step's action by its name
 
-step_found : (q : Places) (f : Parts) (values : Look) (S T : Look) → Fit f
+step_found : (q : Places) (f : Parts) (values : Valuation) (S T : Valuation) → Fit f
     → acted (acts_in plain (module_at q f) values S T f.label) None
     ≡ step_items q f T (scope plain (module_at q f) values S T)
 unfolding first_item second_item third_item
 step_found q f values S T h = rw (not_own f.label h.label (codes "Terminating") refl, word_same f.label) refl
 
-end_found : (q : Places) (f : Parts) (values : Look) (S T : Look)
+end_found : (q : Places) (f : Parts) (values : Valuation) (S T : Valuation)
     → acted (acts_in plain (module_at q f) values S T (codes "Terminating")) None
     ≡ end_items q f S T (scope plain (module_at q f) values S T)
 end_found q f values S T = refl
@@ -131,11 +131,11 @@ end_found q f values S T = refl
 abbrev Over : Parts → State → State → Type 0
 Over f s t = (s pc ≡ text (codes "Done")) × Agree (f.variable ∷ pc ∷ []) s t
 
--- two tests that tell, told at once
-both_tell : (a b : Bool) (P Q : Type 0) → Tells (told a) P → Tells (told b) Q → Tells (told (a && b)) (P × Q)
+-- two tests that tell, got at once
+both_tell : (a b : Bool) (P Q : Type 0) → TrueExactly (Ok a) P → TrueExactly (Ok b) Q → TrueExactly (Ok (a && b)) (P × Q)
 both_tell a b P Q (c, e, h) (d, k, g) = (a && b, refl, (to, from))
   where
-    same_told : (x y : Bool) → told x ≡ told y → x ≡ y
+    same_told : (x y : Bool) → ◌≡◌ {A = Outcome Bool} (Ok x) (Ok y) → x ≡ y
     same_told x y e = cc
 
     to : (a && b) ≡ true → P × Q
@@ -144,27 +144,27 @@ both_tell a b P Q (c, e, h) (d, k, g) = (a && b, refl, (to, from))
     from : P × Q → (a && b) ≡ true
     from (x, y) = and_from a b (same_told a c e ∙ h.1 x) (same_told b d k ∙ g.1 y)
 
-look_tells : (o r : Option Value) (v w : Value) → o ≡ Some v → r ≡ Some w → Tells (told (same_look o r)) (v ≡ w)
+look_tells : (o r : Option Value) (v w : Value) → o ≡ Some v → r ≡ Some w → TrueExactly (Ok (same_look o r)) (v ≡ w)
 look_tells o r v w d e =
-    tells_of (told (same_look o r)) (told (same w v)) (v ≡ w) (λ i. told (same_look (d i) (e i)))
-    (tells_as (told (same w v)) (w ≡ v) (v ≡ w) (tells_same w v) sym sym)
+    tells_of (Ok (same_look o r)) (Ok (same w v)) (v ≡ w) (λ i. Ok (same_look (d i) (e i)))
+    (tells_as (Ok (same w v)) (w ≡ v) (v ≡ w) (tells_same w v) sym sym)
 
-same_tells : (x y : Word) (s t : State) (S T : Look) → Two x y s S → Two x y t T → Tells (told (all_same S T (x ∷ y ∷ []))) (Agree (x ∷ y ∷ []) s t)
+same_tells : (x y : Word) (s t : State) (S T : Valuation) → Two x y s S → Two x y t T → TrueExactly (Ok (all_same S T (x ∷ y ∷ []))) (Agree (x ∷ y ∷ []) s t)
 same_tells x y s t S T d e =
     both_tell (same_look (S x) (T x)) (same_look (S y) (T y) && true) (s x ≡ t x) ((s y ≡ t y) × Unit {0})
     (look_tells (S x) (T x) (s x) (t x) d.0 e.0)
     (both_tell (same_look (S y) (T y)) true (s y ≡ t y) (Unit {0}) (look_tells (S y) (T y) (s y) (t y) d.1 e.1) true_tells)
 
-over_tells : (q : Places) (f : Parts) (s t : State) (S T : Look) (env : Env) → StandsFor pc (s pc) env → Two f.variable pc s S → Two f.variable pc t T
-    → Tells (end_items q f S T env) (Over f s t)
+over_tells : (q : Places) (f : Parts) (s t : State) (S T : Valuation) (env : Env) → StandsFor pc (s pc) env → Two f.variable pc s S → Two f.variable pc t T
+    → TrueExactly (end_items q f S T env) (Over f s t)
 over_tells q f s t S T env k d e =
-    let same = told (all_same S T (f.variable ∷ pc ∷ [])) in
-    let at = on_test plain env (is_at (codes "Done") (q 9) (q 10)) told in
+    let same = Ok (all_same S T (f.variable ∷ pc ∷ [])) in
+    let at = on_test plain env (is_at (codes "Done") (q 9) (q 10)) Ok in
     let agree = Agree (f.variable ∷ pc ∷ []) s t in
-    tells_and at (and_then same (told true)) (s pc ≡ text (codes "Done")) agree (label_tells (codes "Done") (s pc) env k (q 9) (q 10))
+    tells_and at (and_then same (Ok true)) (s pc ≡ text (codes "Done")) agree (label_tells (codes "Done") (s pc) env k (q 9) (q 10))
     (λ p. last_tells same agree (same_tells f.variable pc s t S T d e))
 
-none_tells : Tells (told false) ⊥
+none_tells : TrueExactly (Ok false) ⊥
 none_tells = (false, refl, (λ e. both_ways false refl e, λ e. absurd e))
 
 -- ---- the algorithm's steps
@@ -175,16 +175,16 @@ ended_variable f s x h = rw (not_own f.variable h.variable (codes "pc") refl, wo
 ended_pc : (f : Parts) (s : State) (x : Value) → ended f s x pc ≡ text (codes "Done")
 ended_pc f s x = refl
 
-module _ (p : Places) (f : Parts) (names : Naming) (values : Look) (h : Fit f) (k : Kept f names) where
+module _ (p : Places) (f : Parts) (names : Naming) (values : Valuation) (h : Fit f) (k : Kept f names) where
   abbrev program : Program
   program = program_of p f names values
 
   from_step : (s t : State) → StepFrom program (actor p f) (stand p f) s t → Taken f s t
   from_step s t (there, (u, has, agree)) =
-      let course = subst (λ c. Has c (got u)) (course_is p f names values s h) has in
+      let course = subst (λ c. Has c (Ok u)) (course_is p f names values s h) has in
       (there_stands p f names values s k there, by (result f.right (s f.variable)) refl course)
     where
-      by : (o : Option Value) → result f.right (s f.variable) ≡ o → Has (course_for (p 12) f s o) (got u) → Moved f s t × (t pc ≡ text (codes "Done"))
+      by : (o : Option Value) → result f.right (s f.variable) ≡ o → Has (course_for (p 12) f s o) (Ok u) → Moved f s t × (t pc ≡ text (codes "Done"))
       by None e d = absurd cc
       by (Some x) e d =
           let is = got_is u (ended f s x) d in
@@ -200,8 +200,8 @@ module _ (p : Places) (f : Parts) (names : Naming) (values : Look) (h : Fit f) (
   taken_step s t (at, ((x, e, d), g)) =
       (actor p f, stand p f, is_actor p f names values, (stands_there p f names values s k at, (ended f s x, has, agree)))
     where
-      has : Has (course_of program (actor p f) (stand p f) s) (got (ended f s x))
-      has = subst (λ c. Has c (got (ended f s x))) (sym (course_is p f names values s h ∙ ap (course_for (p 12) f s) e)) refl
+      has : Has (course_of program (actor p f) (stand p f) s) (Ok (ended f s x))
+      has = subst (λ c. Has c (Ok (ended f s x))) (sym (course_is p f names values s h ∙ ap (course_for (p 12) f s) e)) refl
 
       agree : Agree (vars program) (ended f s x) t
       agree = (ended_variable f s x h ∙ sym d, (ended_pc f s x ∙ sym g, tt))
@@ -214,23 +214,23 @@ module _ (p : Places) (f : Parts) (names : Naming) (values : Look) (h : Fit f) (
       by (Some x) e = (x, e)
       by None e =
           let course = course_is p f names values s h ∙ ap (course_for (p 12) f s) e in
-          let stops = subst (λ c. Has c (bad (faulty NotInteger (p 12)))) (sym course) refl in
-          absurd (sound.1 (actor p f) (faulty NotInteger (p 12)) (is_actor p f names values)
+          let stops = subst (λ c. Has c (Err (fault NotInteger (p 12)))) (sym course) refl in
+          absurd (sound.1 (actor p f) (fault NotInteger (p 12)) (is_actor p f names values)
           (inr (stand p f, stands_there p f names values s k at, stops)))
 
-  still_over : (s t : State) → Still program s t → Over f s t
+  still_over : (s t : State) → Stutters program s t → Over f s t
   still_over s t (done, agree) = (got_is (s pc) (text (codes "Done")) (done (actor p f) (is_actor p f names values)), agree)
 
-  over_still : (s t : State) → Over f s t → Still program s t
+  over_still : (s t : State) → Over f s t → Stutters program s t
   over_still s t (over, agree) = (done, agree)
     where
-      done : (a : Actor) → IsActor program a → pc_of a s ≡ got (text (codes "Done"))
-      done a is = subst (λ a. pc_of a s ≡ got (text (codes "Done"))) (sym (actor_is p f names values a is)) (ap (λ (v : Value). got v) over)
+      done : (a : Actor) → IsActor program a → pc_of a s ≡ Ok (text (codes "Done"))
+      done a is = subst (λ a. pc_of a s ≡ Ok (text (codes "Done"))) (sym (actor_is p f names values a is)) (ap (λ (v : Value). Ok v) over)
 
   -- ---- Next
 
   next_of : (q : Places) (s t : State) → Sound program s
-      → Tells (next_holds plain (module_at q f) values (on_variables program s) (on_variables program t)) (Step program s t ⊎ Still program s t)
+      → TrueExactly (next_holds plain (module_at q f) values (on_variables program s) (on_variables program t)) (Step program s t ⊎ Stutters program s t)
   next_of q s t sound =
       let S = on_variables program s in
       let T = on_variables program t in
@@ -242,14 +242,14 @@ module _ (p : Places) (f : Parts) (names : Naming) (values : Look) (h : Fit f) (
       let step = acted (acts_in plain (module_at q f) values S T f.label) None in
       let still = acted (acts_in plain (module_at q f) values S T (codes "Terminating")) None in
       let steps = Step program s t in
-      let stays = Still program s t in
-      let a : Tells step steps = tells_of step (step_items q f T env) steps (step_found q f values S T h)
+      let stays = Stutters program s t in
+      let a : TrueExactly step steps = tells_of step (step_items q f T env) steps (step_found q f values S T h)
       (tells_as (step_items q f T env) (Taken f s t) steps (taken_tells q f s t T env v c e (good_there s sound))
       (taken_step s t) (step_taken s t)) in
-      let b : Tells still stays = tells_of still (end_items q f S T env) stays (end_found q f values S T)
+      let b : TrueExactly still stays = tells_of still (end_items q f S T env) stays (end_found q f values S T)
       (tells_as (end_items q f S T env) (Over f s t) stays (over_tells q f s t S T env c d e) (over_still s t) (still_over s t)) in
-      tells_as (or_all step (or_all still (told false))) (steps ⊎ (stays ⊎ ⊥)) (steps ⊎ stays)
-      (tells_or step (or_all still (told false)) steps (stays ⊎ ⊥) a (tells_or still (told false) stays ⊥ b none_tells)) to from
+      tells_as (or_all step (or_all still (Ok false))) (steps ⊎ (stays ⊎ ⊥)) (steps ⊎ stays)
+      (tells_or step (or_all still (Ok false)) steps (stays ⊎ ⊥) a (tells_or still (Ok false) stays ⊥ b none_tells)) to from
     where
       to : {A B : Type 0} → A ⊎ (B ⊎ ⊥) → A ⊎ B
       to (inl x) = inl x

@@ -1,5 +1,5 @@
 -- The algorithm of the form: its one process, the one label where it stands, and the course of a step from there.
-use Rattle.std.proofs.Common.{◌≡◌, List, [], ◌∷◌, Bool, true, false, ◌||◌, cond, Option, Some, None, codes, bytes_eq, refl, sym, ap, ◌∙◌, subst, inl, inr}
+use Rattle.std.proofs.Common.{◌≡◌, List, [], ◌∷◌, Bool, true, false, ◌||◌, cond, Option, Some, None, codes, bytes_eq, refl, sym, ap, ◌∙◌, subst, inl, inr, Ok}
 use Rattle.tla_token.specs.declared.place.Place.{Place}
 use Rattle.tla_token.proofs.Spelled.{same_bytes}
 use Rattle.tla_expr.specs.Tree.{Word, name}
@@ -7,12 +7,12 @@ use Rattle.tla_value.specs.declared.fault.FaultKind.TheVariants.{NotInteger}
 use Rattle.tla_value.specs.Value.{Value, text, Outcome}
 use Rattle.tla_value.specs.Stops.{plain}
 use Rattle.tla_value.specs.Meaning.{eval}
-use Rattle.tla_value.specs.Definitions.{Look}
-use Rattle.pcal_tree.specs.Algorithm.{Naming, Routine, Statements, assign, done, then, no_moves, move, alone_routine, mark}
+use Rattle.tla_value.specs.Definitions.{Valuation}
+use Rattle.pcal_tree.specs.Algorithm.{Naming, Routine, Statements, assign, done, then, no_assignments, assignment, alone_routine, mark}
 use Rattle.pcal_tree.specs.declared.mark.Mark.TheVariants.{Plain}
-use Rattle.pcal_tree.specs.Scope.{State, put, Got, got, faulty, valued, on, Part}
+use Rattle.pcal_tree.specs.Scope.{State, put, Outcome, fault, ◌>>=◌, Part}
 use Rattle.pcal_tree.specs.Run.{Course, ends, stops, after}
-use Rattle.pcal_tree.specs.Begin.{Begin, at_label}
+use Rattle.pcal_tree.specs.StepStart.{Begin, at_label}
 use Rattle.pcal_tree.specs.Assign.{set_all}
 use Rattle.pcal_tree.specs.Program.{Program, Actor, pc, routine_scope, part_of}
 use Rattle.pcal_tree.specs.Calls.{label_value, jumped, finished}
@@ -24,12 +24,12 @@ use Rattle.first_path.proofs.Fit.{Fit, not_own}
 use Rattle.first_path.proofs.Means.{StandsFor, result, outcome, right_evaluates}
 
 -- with any written names
-abbrev pub program_of : Places → Parts → Naming → Look → Program
+abbrev pub program_of : Places → Parts → Naming → Valuation → Program
 program_of p f names values = record { check = plain; constants = values; outside = []; algorithm = algorithm_at p f; naming = names }
 
 abbrev pub behind_label : Places → Parts → Statements
 behind_label p f =
-    then (statement_span p f.right) (assign (move (leaf (name f.variable) (p 10)) (right_tree f.variable f.right (p 12) (p 14)) no_moves)) done
+    then (statement_span p f.right) (assign (assignment (leaf (name f.variable) (p 10)) (right_tree f.variable f.right (p 12) (p 14)) no_assignments)) done
 
 abbrev pub body : Places → Parts → Statements
 body p f = mark (word_at f.label (p 8)) Plain (behind_label p f)
@@ -48,13 +48,13 @@ stand p f = record { routine = routine p f; label = f.label; begins = begins p f
 
 -- ---- for any program
 
-first_got : {X : Type 0} (x v : X) (vs : List X) → got (x ∷ []) ≡ got vs → OneOf v vs → v ≡ x
+first_got : {X : Type 0} (x v : X) (vs : List X) → ◌≡◌ {A = Outcome (List X)} (Ok (x ∷ [])) (Ok vs) → OneOf v vs → v ≡ x
 first_got x v [] e o = absurd o
 first_got x v (w ∷ []) e (inl h) = h ∙ cc
 first_got x v (w ∷ []) e (inr h) = absurd h
 first_got x v (w ∷ y ∷ vs) e o = absurd cc
 
-pub got_is : {X : Type 0} (x y : X) → got x ≡ got y → x ≡ y
+pub got_is : {X : Type 0} (x y : X) → ◌≡◌ {A = Outcome X} (Ok x) (Ok y) → x ≡ y
 got_is x y e = cc
 
 -- the one label that there is
@@ -78,15 +78,15 @@ ended f s x = put pc (text (codes "Done")) (put f.variable x s)
 
 abbrev pub course_for : Place → Parts → State → Option Value → Course
 course_for at f s (Some x) = ends (ended f s x)
-course_for at f s None = stops (faulty NotInteger at)
+course_for at f s None = stops (fault NotInteger at)
 
 -- the statement, and then the jump
-steps : Places → Parts → Naming → Look → State → Got Part → Outcome → Course
+steps : Places → Parts → Naming → Valuation → State → Outcome Part → Outcome Value → Course
 steps p f names values s g o =
-    after (on g (λ t. on (valued o got) (λ v. set_all plain (record { place = p 10; part = t; value = v } ∷ []) s)))
+    after (g >>= (λ t. (o >>= Ok) >>= (λ v. set_all plain (record { place = p 10; part = t; value = v } ∷ []) s)))
     (λ u. finished (jumped (program_of p f names values) (actor p f) (routine p f) (codes "Done") u))
 
-module _ (p : Places) (f : Parts) (names : Naming) (values : Look) where
+module _ (p : Places) (f : Parts) (names : Naming) (values : Valuation) where
   abbrev program : Program
   program = program_of p f names values
 
@@ -116,7 +116,7 @@ module _ (p : Places) (f : Parts) (names : Naming) (values : Look) where
   -- it stands at the label where pc has its name
   pub stands_there : (s : State) → Kept f names → s pc ≡ text f.label → StandsAt program s (actor p f) (stand p f)
   stands_there s h e =
-      (inl refl, ap (λ b. cond b (Some (begins p f)) None) (word_same f.label), ap (λ (v : Value). got v) (e ∙ sym (label_is h)))
+      (inl refl, ap (λ b. cond b (Some (begins p f)) None) (word_same f.label), ap (λ (v : Value). Ok v) (e ∙ sym (label_is h)))
 
   pub there_stands : (s : State) → Kept f names → StandsAt program s (actor p f) (stand p f) → s pc ≡ text f.label
   there_stands s h (o, b, k) = got_is (s pc) (label_value program (routine p f) f.label) k ∙ label_is h
@@ -128,12 +128,12 @@ module _ (p : Places) (f : Parts) (names : Naming) (values : Look) where
   reads_state s h at = rw (not_own f.variable h.variable (codes "self") refl, word_same f.variable) refl
 
   steps_are : (s : State) (o : Option Value)
-      → steps p f names values s (got (record { variable = f.variable; path = [] })) (outcome (p 12) o) ≡ course_for (p 12) f s o
+      → steps p f names values s (Ok (record { variable = f.variable; path = [] })) (outcome (p 12) o) ≡ course_for (p 12) f s o
   unfolding steps
   steps_are s (Some x) = refl
   steps_are s None = refl
 
-  part_is : part_of program (actor p f) (routine p f) f.variable ≡ got (record { variable = f.variable; path = [] })
+  part_is : part_of program (actor p f) (routine p f) f.variable ≡ Ok (record { variable = f.variable; path = [] })
   part_is = rw (word_same f.variable) refl
 
   course_steps : (s : State) → course_of program (actor p f) (stand p f) s

@@ -5,7 +5,7 @@ use Rattle.std.proofs.lemmas.Bool.{both_ways}
 use Rattle.tla_token.specs.declared.place.Place.{Place}
 use Rattle.tla_expr.specs.declared.op.Op.TheVariants as op
 use Rattle.tla_expr.specs.Tree.{Word}
-use Rattle.tla_expr.specs.Lexical.{Tk}
+use Rattle.tla_expr.specs.Lexical.{ExprToken}
 use Rattle.tla_expr.specs.Lexical as tk
 use Rattle.tla_expr.specs.Spelling.{Phrase, IsGood}
 use Rattle.tla_expr.specs.Spelling as spelled
@@ -20,7 +20,7 @@ use Rattle.pcal_tree.specs.GrammarP.{Statement, simple, branch, either, with, lo
 
 -- ---- phrases among the tokens of algorithms
 
-abbrev pub lower : Kind → Tk
+abbrev pub lower : Kind → ExprToken
 lower (seen k) = k
 lower k = tk.other
 
@@ -122,9 +122,9 @@ left_no_key l h r q w us e =
 abbrev Ended : (List Token → List Token) → Type 0
 Ended f = (ts : List Token) (q : Place) (us : List Token) → f ts ≡ key q (codes "end") us → ⊥
 
-moves_no_end : (ms : part.Moves) → part.GoodMoves ms → Ended (part.moves ms)
-moves_no_end (part.last_move l p e) g ts q us h = left_no_key l g.0 _ q (codes "end") us h
-moves_no_end (part.move l p e s ms) g ts q us h = left_no_key l g.0 _ q (codes "end") us h
+moves_no_end : (ms : part.Assignments) → part.GoodMoves ms → Ended (part.moves ms)
+moves_no_end (part.last_assignment l p e) g ts q us h = left_no_key l g.0 _ q (codes "end") us h
+moves_no_end (part.assignment l p e s ms) g ts q us h = left_no_key l g.0 _ q (codes "end") us h
 
 simple_no_end : (s : part.Simple) → part.GoodSimple s → Ended (part.simple_tokens s)
 simple_no_end (part.assign ms) g ts q us h = moves_no_end ms g ts q us h
@@ -133,9 +133,9 @@ simple_no_end (part.when p e) g ts q us h = key_apart p q (codes "when") (codes 
 simple_no_end (part.print p e) g ts q us h = key_apart p q (codes "print") (codes "end") _ us refl refl h
 simple_no_end (part.assert p e) g ts q us h = key_apart p q (codes "assert") (codes "end") _ us refl refl h
 simple_no_end (part.skip p) g ts q us h = key_apart p q (codes "skip") (codes "end") _ us refl refl h
-simple_no_end (part.jump p x) g ts q us h = key_apart p q (codes "goto") (codes "end") _ us refl refl h
-simple_no_end (part.invoke p x xs) g ts q us h = key_apart p q (codes "call") (codes "end") _ us refl refl h
-simple_no_end (part.leave p) g ts q us h = key_apart p q (codes "return") (codes "end") _ us refl refl h
+simple_no_end (part.goto p x) g ts q us h = key_apart p q (codes "goto") (codes "end") _ us refl refl h
+simple_no_end (part.call p x xs) g ts q us h = key_apart p q (codes "call") (codes "end") _ us refl refl h
+simple_no_end (part.return p) g ts q us h = key_apart p q (codes "return") (codes "end") _ us refl refl h
 simple_no_end (part.macro x xs) g ts q us h = apart _ _ refl h
 
 statement_no_end : (st : Statement) → GoodStatement st → Ended (statement st)
@@ -167,7 +167,7 @@ pub record Labelled : Type 0 where
   pub good : IsGood value
 
 abbrev pub assignment : Labelled → Statement
-assignment k = simple (part.assign (part.last_move (spelled.name k.place k.variable) k.assigned k.value))
+assignment k = simple (part.assign (part.last_assignment (spelled.name k.place k.variable) k.assigned k.value))
 
 abbrev pub labels_of : Labelled → part.Labels
 labels_of k = part.label k.label (part.colon k.colon) part.no_labels
@@ -178,11 +178,11 @@ sequence_of k = last_statement (labels_of k) (assignment k) (Some k.last)
 -- no statement begins with a label
 no_label : (st : Statement) → GoodStatement st → (n : Name) → spelled.Right 0 n.place → (r : List Token) (q : Place) (s : List Token)
     → statement st r ≡ part.name n (mark q tk.colon s) → ⊥
-no_label (simple (part.assign (part.last_move l a b))) g n h r q s e =
+no_label (simple (part.assign (part.last_assignment l a b))) g n h r q s e =
     let w = one_expression l (spelled.name n.place n.word) g.1 h (token a assigns (expression b r)) (mark q tk.colon s)
     (calm_token a assigns (expression b r) refl) (calm_token q (seen (tk.mark tk.colon)) s refl) e in
     apart _ _ refl w.1
-no_label (simple (part.assign (part.move l a b c ms))) g n h r q s e =
+no_label (simple (part.assign (part.assignment l a b c ms))) g n h r q s e =
     let us : List Token = expression b (token c beside (part.moves ms r)) in
     let w = one_expression l (spelled.name n.place n.word) g.1 h (token a assigns us) (mark q tk.colon s)
     (calm_token a assigns us refl) (calm_token q (seen (tk.mark tk.colon)) s refl) e in
@@ -194,9 +194,9 @@ no_label (simple (part.when p b)) g n h r q s e = apart _ _ refl e
 no_label (simple (part.print p b)) g n h r q s e = apart _ _ refl e
 no_label (simple (part.assert p b)) g n h r q s e = apart _ _ refl e
 no_label (simple (part.skip p)) g n h r q s e = apart _ _ refl e
-no_label (simple (part.jump p x)) g n h r q s e = apart _ _ refl e
-no_label (simple (part.invoke p x xs)) g n h r q s e = apart _ _ refl e
-no_label (simple (part.leave p)) g n h r q s e = apart _ _ refl e
+no_label (simple (part.goto p x)) g n h r q s e = apart _ _ refl e
+no_label (simple (part.call p x xs)) g n h r q s e = apart _ _ refl e
+no_label (simple (part.return p)) g n h r q s e = apart _ _ refl e
 no_label (branch p b t c d u v) g n h r q s e = apart _ _ refl e
 no_label (either p c bs u v) g n h r q s e = apart _ _ refl e
 no_label (with p bs t c u v) g n h r q s e = apart _ _ refl e
@@ -204,15 +204,15 @@ no_label (loop p b t c u v) g n h r q s e = apart _ _ refl e
 
 one_statement : (k : Labelled) (st : Statement) → GoodStatement st → (r s : List Token) → Calmly r → Calmly s → nat_eq 9 (first_sort s) ≡ false
     → statement st r ≡ statement (assignment k) s → (st ≡ assignment k) × (r ≡ s)
-one_statement k (simple (part.assign (part.last_move l a b))) g r s cr cs n e =
+one_statement k (simple (part.assign (part.last_assignment l a b))) g r s cr cs n e =
     let us : List Token = expression b r in
     let vs : List Token = expression k.value s in
     let w = one_expression l (spelled.name k.place k.variable) g.1 k.right (token a assigns us) (token k.assigned assigns vs)
     (calm_token a assigns us refl) (calm_token k.assigned assigns vs refl) e in
     let d : a ≡ k.assigned = ap (first_place a) w.1 in
     let u = one_expression b k.value g.2 k.good r s cr cs (ap tail w.1) in
-    ((λ i. simple (part.assign (part.last_move (w.0 i) (d i) (u.0 i)))), u.1)
-one_statement k (simple (part.assign (part.move l a b c ms))) g r s cr cs n e =
+    ((λ i. simple (part.assign (part.last_assignment (w.0 i) (d i) (u.0 i)))), u.1)
+one_statement k (simple (part.assign (part.assignment l a b c ms))) g r s cr cs n e =
     let ts : List Token = part.moves ms r in
     let us : List Token = expression b (token c beside ts) in
     let vs : List Token = expression k.value s in
@@ -227,9 +227,9 @@ one_statement k (simple (part.when p b)) g r s cr cs n e = absurd (apart _ _ ref
 one_statement k (simple (part.print p b)) g r s cr cs n e = absurd (apart _ _ refl e)
 one_statement k (simple (part.assert p b)) g r s cr cs n e = absurd (apart _ _ refl e)
 one_statement k (simple (part.skip p)) g r s cr cs n e = absurd (apart _ _ refl e)
-one_statement k (simple (part.jump p x)) g r s cr cs n e = absurd (apart _ _ refl e)
-one_statement k (simple (part.invoke p x xs)) g r s cr cs n e = absurd (apart _ _ refl e)
-one_statement k (simple (part.leave p)) g r s cr cs n e = absurd (apart _ _ refl e)
+one_statement k (simple (part.goto p x)) g r s cr cs n e = absurd (apart _ _ refl e)
+one_statement k (simple (part.call p x xs)) g r s cr cs n e = absurd (apart _ _ refl e)
+one_statement k (simple (part.return p)) g r s cr cs n e = absurd (apart _ _ refl e)
 one_statement k (branch p b t c d u v) g r s cr cs n e = absurd (apart _ _ refl e)
 one_statement k (either p c bs u v) g r s cr cs n e = absurd (apart _ _ refl e)
 one_statement k (with p bs t c u v) g r s cr cs n e = absurd (apart _ _ refl e)

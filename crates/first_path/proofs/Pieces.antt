@@ -27,7 +27,7 @@ number n r = lexeme (kind.number n) (decimal n) ∷ r
 
 -- a string in which each byte stands for itself
 abbrev pub quote : Word → Pieces
-quote w r = lexeme (kind.quote w) (34 ∷ (w ++ 34 ∷ [])) ∷ r
+quote w r = lexeme (kind.string w) (34 ∷ (w ++ 34 ∷ [])) ∷ r
 
 abbrev pub first_spelling : List (List ℕ) → List ℕ
 first_spelling [] = []

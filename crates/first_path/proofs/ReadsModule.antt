@@ -12,7 +12,7 @@ use Rattle.module_text.specs.Around.{begin_line, end_line}
 use Rattle.module_text.specs.Reading.{stretch, sight, Reads}
 use Rattle.module_text.specs.Module.{extends}
 use Rattle.module_text.specs.Grammar.{last_name}
-use Rattle.module_text.specs.Seen.{view, cut}
+use Rattle.module_text.specs.ModuleTokens.{view, cut}
 use Rattle.module_text.specs.Outside.{Sight, AllOutside}
 use Rattle.first_path.specs.Form.{Parts, IsForm, last_line}
 use Rattle.first_path.specs.Placed.{Places, region_of, module_at, translation_of}

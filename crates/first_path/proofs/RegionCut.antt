@@ -14,7 +14,7 @@ use Rattle.tla_expr.specs.Tree.{Word}
 use Rattle.tla_expr.specs.Lexical as tk
 use Rattle.module_text.specs.Grammar.{Kind, seen, Token}
 use Rattle.module_text.specs.Reading.{is_small, AllSmall}
-use Rattle.module_text.specs.Seen.{kind_of, word_kind, view, is_starter, is_dash, begins_run, is_within, begins_unit, Cut, cut_at, cut_behind}
+use Rattle.module_text.specs.ModuleTokens.{kind_of, word_kind, view, is_starter, is_dash, begins_run, is_within, begins_unit, Cut, cut_at, cut_behind}
 use Rattle.first_path.proofs.StandsTokens.{word_is}
 use Rattle.first_path.proofs.RegionBytes.{is_inline, all_inline, small_kind, all_small}
 
@@ -79,7 +79,7 @@ stand_is n c at (lexeme k bytes ∷ ps) (t ∷ ts) h s =
 small_is : (k : lexeme.Kind) → small_kind k ≡ true → is_small k
 small_is (lexeme.name w) h = tt
 small_is (lexeme.number n) h = ltb-true n (2 ^ 127) h
-small_is (lexeme.quote w) h = tt
+small_is (lexeme.string w) h = tt
 small_is (lexeme.one s) h = tt
 small_is (lexeme.other w) h = tt
 

@@ -106,9 +106,9 @@ word_unquoted (b ∷ w) h =
     let p = and_parts (is_word b) (list_all is_word w) h in
     rw (plain_word b p.0, word_at b 92 p.0 refl, word_unquoted w p.1) refl
 
-quote_fits : (w : Word) (rest : List ℕ) → list_all is_word w ≡ true → Fits (lexeme (kind.quote w) (34 ∷ (w ++ 34 ∷ []))) rest
+quote_fits : (w : Word) (rest : List ℕ) → list_all is_word w ≡ true → Fits (lexeme (kind.string w) (34 ∷ (w ++ 34 ∷ []))) rest
 quote_fits w rest h =
-    fits_found (lexeme (kind.quote w) (34 ∷ (w ++ 34 ∷ []))) 34 (w ++ 34 ∷ []) rest refl
+    fits_found (lexeme (kind.string w) (34 ∷ (w ++ 34 ∷ []))) 34 (w ++ 34 ∷ []) rest refl
     (ap (part_at 34) (append_assoc w (34 ∷ []) rest) ∙ quote_front w rest w (word_unquoted w h))
 
 -- ---- pieces before others

@@ -11,7 +11,7 @@ use Rattle.tla_expr.specs.Spelling as spelled
 use Rattle.module_text.specs.Module.{RegionUnit, call, one_way, variables_unit, vars_unit, init_unit, terminating_unit, next_unit, spec_unit, termination_unit}
 use Rattle.module_text.specs.Grammar.{Token, last_name, more_names, call_form, one_form}
 use Rattle.module_text.specs.Units.{UnitForm, spell_unit, unit_of, GoodUnit, IsUnit, variables_form, vars_form, init_form, terminating_form, next_form, spec_form, steps_line, termination_form}
-use Rattle.module_text.specs.Seen.{Cut}
+use Rattle.module_text.specs.ModuleTokens.{Cut}
 use Rattle.module_text.specs.Reading.{AllAre}
 use Rattle.first_path.specs.Form.{Parts}
 use Rattle.first_path.specs.Placed.{leaf, infix_of, is_at}
@@ -102,7 +102,7 @@ vars_more n f r us h b =
 
 -- pc = "L", with the columns of its tokens
 abbrev pub at_phrase : ℕ → ℕ → ℕ → ℕ → Word → Phrase
-at_phrase n a b c l = spelled.infix_of (spelled.name (put n a) pc) (put n b) op.Equal (spelled.quote (put n c) l)
+at_phrase n a b c l = spelled.infix_of (spelled.name (put n a) pc) (put n b) op.Equal (spelled.string (put n c) l)
 
 -- the sign `=` and the number behind it
 abbrev equal_column : Word → ℕ

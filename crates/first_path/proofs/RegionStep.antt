@@ -12,7 +12,7 @@ use Rattle.tla_expr.specs.Spelling as spelled
 use Rattle.module_text.specs.Module.{RegionUnit, test, setting, no_items, item, all_of, action_unit}
 use Rattle.module_text.specs.Grammar.{Token, phrase, ItemForm, spell_list, tree_of, GoodOperand, test_form, setting_form, last_item, more_items}
 use Rattle.module_text.specs.Units.{UnitForm, all_form, action_form}
-use Rattle.module_text.specs.Seen.{Cut}
+use Rattle.module_text.specs.ModuleTokens.{Cut}
 use Rattle.first_path.specs.Form.{Operand, number_operand, variable_operand, single, sum, Parts}
 use Rattle.first_path.specs.Form as form
 use Rattle.first_path.specs.Placed.{leaf, right_tree, is_at}
@@ -137,7 +137,7 @@ abbrev assignment_item : ℕ → Word → form.Right → ItemForm
 assignment_item n v x = setting_form (put n 6) v (put n (6 + length v)) (put n (set_column v)) (right_phrase n (right_column v) v x)
 
 abbrev done_item : ℕ → ItemForm
-done_item n = setting_form (put n 6) pc (put n 8) (put n 10) (spelled.quote (put n 12) done)
+done_item n = setting_form (put n 6) pc (put n 8) (put n 10) (spelled.string (put n 12) done)
 
 -- ---- its lines
 
@@ -175,7 +175,7 @@ step_unit n v l t = action_unit (record {
   body = all_of (
       item (test (is_at l (put (n + 1) 7) (put (n + 1) 12)))
       (item (setting v t)
-      (item (setting pc (leaf (tree.quote done) (put (n + 1 + 1 + 1) 12))) no_items)));
+      (item (setting pc (leaf (tree.string done) (put (n + 1 + 1 + 1) 12))) no_items)));
 })
 
 abbrev step_right : ℕ → Parts → Tree

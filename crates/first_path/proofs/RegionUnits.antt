@@ -4,7 +4,7 @@ use Rattle.tla_token.specs.declared.place.Place.{Place}
 use Rattle.tla_token.specs.Tokens.{tokens_of}
 use Rattle.module_text.specs.Module.{units_of}
 use Rattle.module_text.specs.Units.{IsUnit}
-use Rattle.module_text.specs.Seen.{Cut, view, cut}
+use Rattle.module_text.specs.ModuleTokens.{Cut, view, cut}
 use Rattle.module_text.specs.Reading.{AllAre, AllSmall}
 use Rattle.first_path.specs.Form.{Parts, is_fit}
 use Rattle.first_path.specs.Placed.{Places, region_at}

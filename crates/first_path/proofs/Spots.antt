@@ -6,7 +6,7 @@ use Rattle.tla_token.specs.Lexemes.{Kind, name, is_blank}
 use Rattle.tla_token.proofs.Words.{all_append}
 use Rattle.tla_token.specs.Tokens.{Piece, blank, text_of, AllFit}
 use Rattle.tla_expr.specs.Tree.{Word}
-use Rattle.module_text.specs.Around.{Text, Mode, plain, second, Found, found_behind, step, seek, is_start, outside_comments, begins_algorithm, behind as past, is_space, word_at, header_title, is_header, at_line, line_of, spot_by, spot_in, new_region, Spot}
+use Rattle.module_text.specs.Around.{Text, Mode, plain, second, Found, found_behind, step, seek, is_start, outside_comments, begins_algorithm, behind as past, is_space, word_at, header_title, is_header, at_line, line_of, spot_by, spot_in, new_region, Split}
 use Rattle.module_text.specs.Around as around
 use Rattle.first_path.specs.Form.{Parts, is_name, last_line, kinds_of, IsForm}
 use Rattle.first_path.proofs.Names.{every}
@@ -98,7 +98,7 @@ new_spot t gap b ps a ks c h e =
     ∙ ap (λ w. Some (record { front = w; back = codes "\n" ++ last_line }))
     (front_order (header_line t) (codes "EXTENDS Integers\n(*") (codes "\n") gap (codes "--algorithm") (text_of (blank b ∷ ps)) (codes "*)"))
   where
-    made : Found → Found → Option Spot
+    made : Found → Found → Option Split
     made f g = Some (let r = line_of g.from in record { front = header_line t ++ f.before ++ g.before ++ r.0; back = codes "\n" ++ r.1 })
 
     start : Found

@@ -14,7 +14,7 @@ use Rattle.tla_expr.specs.Tree.{Word}
 use Rattle.pcal_tree.specs.GrammarView as view
 use Rattle.pcal_tree.specs.GrammarParts.{variable_word}
 use Rattle.pcal_tree.specs.Grammar.{spell}
-use Rattle.module_text.specs.Around.{Text, first_is, line_of, on_some, plain, Found, seek, past_title, begins_algorithm, past_p, past_c, is_braced, past_algorithm, Spot, algorithm_in}
+use Rattle.module_text.specs.Around.{Text, first_is, line_of, on_some, plain, Found, seek, past_title, begins_algorithm, past_p, past_c, is_braced, past_algorithm, Split, algorithm_in}
 use Rattle.first_path.specs.Form.{Right, single, sum, Operand, number_operand, variable_operand, Parts, IsForm, is_name, is_free, is_small, is_small_right, is_fit, word, operand_kind, right_kinds, kinds, kinds_of, first_lines, last_line}
 use Rattle.first_path.specs.Form as form
 use Rattle.first_path.specs.Placed.{Places, algorithm_at}
@@ -54,10 +54,10 @@ algorithm_past s t u e h k =
     by : (b : Bool) → b ≡ false → (if b then past_c plain 0 t else past_p plain false t) ≡ past_p plain false t
     by b e = rw e refl
 
-abbrev spot_behind : Text → Option Found → Option Spot
+abbrev spot_behind : Text → Option Found → Option Split
 spot_behind l o = on_some o (λ f. on_some (past_algorithm f.from) (λ s. Some (record { front = l ++ f.before; back = s })))
 
-abbrev spot_from : Text → Text × Text → Option Spot
+abbrev spot_from : Text → Text × Text → Option Split
 spot_from a r = spot_behind (a ++ r.0) (seek begins_algorithm plain true r.1)
 
 abbrev front_of : Word → Text → Text
@@ -208,7 +208,7 @@ last_lines = codes "*)\n" ++ last_line
 
 -- where the algorithm is in the text, and its tokens
 pub record Laid (x : Text) (f : Parts) : Type 0 where
-  pub spot : Spot
+  pub spot : Split
   pub is_spot : algorithm_in x ≡ Some spot
   pub tokens : List Token
   pub tok : TokAlgorithm x (length spot.front) (length x - length spot.back) tokens

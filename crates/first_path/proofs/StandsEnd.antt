@@ -5,7 +5,7 @@ use Rattle.std.specs.Str.{bytes_eq}
 use Rattle.std.proofs.lemmas.Bool.{not_from_false, and_parts, and_from, or_left, or_right, both_ways, false_from_ne_true, true_from_ne_false, not-true}
 use Rattle.std.proofs.lemmas.List.Folds.{list_any-append}
 use Rattle.tla_token.specs.Signs.{spellings}
-use Rattle.tla_token.specs.Lexemes.{Kind, name, number, quote, one, other, IsLongest, is_word, is_letter, is_digit, is_blank}
+use Rattle.tla_token.specs.Lexemes.{Kind, name, number, string, one, other, IsLongest, is_word, is_letter, is_digit, is_blank}
 use Rattle.tla_token.specs.Tokens.{Piece, blank, block, line, lexeme, text_of, Fits, AllFit}
 use Rattle.tla_token.proofs.Spelled.{begins, begins_is, no_empty}
 use Rattle.tla_token.proofs.Words.{all_append, digits_words, digit_word}
@@ -134,7 +134,7 @@ is_usual_sign ws = list_all (λ w. list_all is_still w) ws
 abbrev pub is_usual : Kind → Bool
 is_usual (name w) = not (bytes_eq (codes "end") w)
 is_usual (number n) = true
-is_usual (quote w) = false
+is_usual (string w) = false
 is_usual (one s) = is_usual_sign (spellings s)
 is_usual (other w) = false
 
@@ -154,7 +154,7 @@ no_name_behind bytes (blank b ∷ ps) h a l = refl
 no_name_behind bytes (block body ∷ ps) h a l = refl
 no_name_behind bytes (line body ∷ ps) h a l = refl
 no_name_behind bytes (lexeme (number n) m ∷ ps) h a l = refl
-no_name_behind bytes (lexeme (quote w) m ∷ ps) h a l = refl
+no_name_behind bytes (lexeme (string w) m ∷ ps) h a l = refl
 no_name_behind bytes (lexeme (one s) m ∷ ps) h a l = refl
 no_name_behind bytes (lexeme (other w) m ∷ ps) h a l = refl
 no_name_behind bytes (lexeme (name w) [] ∷ ps) h a l =
@@ -194,7 +194,7 @@ over_lexeme (number n) (b ∷ m) ps inside rest h g u k f =
       goes = over_sort is_digit true digits inside b m (text_of ps ++ rest) h.1.1;
       fresh = inr (no_name_behind (b ∷ m) ps g (digits_words (b ∷ m) h.1.1) h.2);
     }
-over_lexeme (quote w) bytes ps inside rest h g u k f = absurd cc
+over_lexeme (string w) bytes ps inside rest h g u k f = absurd cc
 over_lexeme (one s) [] ps inside rest h g u k f = absurd (no_empty s h.1)
 over_lexeme (one s) (b ∷ m) ps inside rest h g u k f =
     record {

@@ -12,9 +12,9 @@ use Rattle.tla_token.specs.Tokens.{Piece, blank, block, line, lexeme, tokens_of}
 use Rattle.tla_token.specs.Tokens as text
 use Rattle.tla_expr.specs.declared.op.Op.TheVariants as op
 use Rattle.tla_expr.specs.Tree.{Word}
-use Rattle.tla_expr.specs.Lexical.{Tk}
+use Rattle.tla_expr.specs.Lexical.{ExprToken}
 use Rattle.tla_expr.specs.Lexical as tk
-use Rattle.tla_expr.specs.View.{word_kind, word_kinds, kind_among}
+use Rattle.tla_expr.specs.ExprTokens.{word_kind, word_kinds, kind_among}
 use Rattle.tla_expr.specs.Spelling.{Phrase}
 use Rattle.tla_expr.specs.Spelling as spelled
 use Rattle.pcal_tree.specs.GrammarView.{views, seen, assigns, semicolon}
@@ -59,7 +59,7 @@ views_placed (t ∷ ts) = ap (λ (us : List view.Token). view.view t ∷ us) (vi
 among_less : (us vs : List Word) (w : Word) → is_among vs w ≡ false → list_all (is_among vs) us ≡ true → is_among us w ≡ false
 among_less us vs w h k = false_from_ne_true (is_among us w) (λ e. both_ways (is_among vs w) h (among_holds (is_among vs) us w e k))
 
-none_among : (ps : List (Word × Tk)) (w : Word) (k : Tk) → is_among (map (λ p. p.0) ps) w ≡ false → kind_among ps w k ≡ k
+none_among : (ps : List (Word × ExprToken)) (w : Word) (k : ExprToken) → is_among (map (λ p. p.0) ps) w ≡ false → kind_among ps w k ≡ k
 none_among [] w k h = refl
 none_among (p ∷ ps) w k h =
     let both = or_parts (bytes_eq p.0 w) (is_among (map (λ p. p.0) ps) w) h in
@@ -146,7 +146,7 @@ form_text p b f = record {
   macros = [];
   procedures = [];
   main = begin (p 7) (last_statement (part.label (record { word = f.label; place = p 8 }) (part.colon (p 9)) part.no_labels)
-      (simple (part.assign (part.last_move (spelled.name (p 10) f.variable) (p 11) (right_phrase f.variable f.right p))))
+      (simple (part.assign (part.last_assignment (spelled.name (p 10) f.variable) (p 11) (right_phrase f.variable f.right p))))
       (Some (p (behind_right f.right))));
 }
 

@@ -1,5 +1,5 @@
 -- The worked example meets the premises of the promise, and its algorithm begins, steps and is done.
-use Rattle.std.proofs.Common.{◌≡◌, pos, Bool, true, false, cond, None, Some, [], ◌∷◌, codes, bytes_eq, refl, sym, ap, ◌∙◌, subst, ◌⊎◌, inl, inr}
+use Rattle.std.proofs.Common.{◌≡◌, pos, Bool, true, false, cond, None, Some, [], ◌∷◌, codes, bytes_eq, refl, sym, ap, ◌∙◌, subst, ◌⊎◌, inl, inr, Ok, Err}
 use Rattle.tla_token.specs.declared.place.Place.{Place}
 use Rattle.tla_expr.specs.Tree.{Word}
 use Rattle.tla_expr.specs.Names.{has}
@@ -7,12 +7,12 @@ use Rattle.tla_value.specs.declared.fault.FaultKind.{FaultKind}
 use Rattle.tla_value.specs.Value.{Value, int, text}
 use Rattle.pcal_tree.specs.Algorithm.{Naming}
 use Rattle.pcal_tree.specs.Names.{naming}
-use Rattle.pcal_tree.specs.Scope.{State, Trouble, got, bad}
+use Rattle.pcal_tree.specs.Scope.{State, Trouble}
 use Rattle.pcal_tree.specs.Run.{Has}
 use Rattle.pcal_tree.specs.Program.{Program, Actor, pc}
 use Rattle.pcal_tree.specs.Calls.{default}
-use Rattle.pcal_tree.specs.Step.{Sound, StepFrom, Step, Still, IsActor, Troubled, Stand, StandsAt, course_of, pc_of}
-use Rattle.pcal_tree.specs.Initial.{Initial, InitFault}
+use Rattle.pcal_tree.specs.Step.{Sound, StepFrom, Step, Stutters, IsActor, Troubled, Stand, StandsAt, course_of, pc_of}
+use Rattle.pcal_tree.specs.InitialStates.{Initial, InitFault}
 use Rattle.first_path.specs.Form.{IsForm}
 use Rattle.first_path.specs.Placed.{Places, algorithm_at, module_at}
 use Rattle.first_path.specs.Translates.{outside_of, AreConstants}
@@ -86,17 +86,17 @@ module _ (p q : Places) where
   )
 
   -- a state is sound where a step from the label, if it is there, doesn't stop
-  never_bad : (s : State) → ((k : Trouble) → StandsAt P s only at_label → Has (course_of P only at_label s) (bad k) → ⊥) → Sound P s
+  never_bad : (s : State) → ((k : Trouble) → StandsAt P s only at_label → Has (course_of P only at_label s) (Err k) → ⊥) → Sound P s
   never_bad s h = ((_, refl), none)
     where
-      not_read : (v : Value) (k : Trouble) → got v ≡ bad k → ⊥
+      not_read : (v : Value) (k : Trouble) → Ok v ≡ Err k → ⊥
       not_read v k e = absurd cc
 
       not_there : (k : Trouble) → Troubled P s only k → ⊥
       not_there k (inl e) = not_read (s pc) k e
       not_there k (inr (d, there, has)) =
           let is = label_is s d there in
-          h k (subst (λ d. StandsAt P s only d) is there) (subst (λ d. Has (course_of P only d s) (bad k)) is has)
+          h k (subst (λ d. StandsAt P s only d) is there) (subst (λ d. Has (course_of P only d s) (Err k)) is has)
 
       none : (v : Actor) (k : Trouble) → IsActor P v → Troubled P s v k → ⊥
       none v k is troubled = not_there k (subst (λ v. Troubled P s v k) (only_is v is) troubled)
@@ -104,7 +104,7 @@ module _ (p q : Places) where
   pub first_sound : Sound P at_first
   first_sound = never_bad at_first (λ k there has. ends k has)
     where
-      ends : (k : Trouble) → bad k ≡ got (ended worked_parts at_first (int (pos 1))) → ⊥
+      ends : (k : Trouble) → Err k ≡ Ok (ended worked_parts at_first (int (pos 1))) → ⊥
       ends k e = absurd cc
 
   -- at the end it stands at no label
@@ -117,10 +117,10 @@ module _ (p q : Places) where
       elsewhere : text (codes "Done") ≡ text (codes "A") → ⊥
       elsewhere e = absurd cc
 
-  pub still_worked : Still P at_last at_last
+  pub still_worked : Stutters P at_last at_last
   still_worked = (done, (refl, (refl, tt)))
     where
-      done : (v : Actor) → IsActor P v → pc_of v at_last ≡ got (text (codes "Done"))
+      done : (v : Actor) → IsActor P v → pc_of v at_last ≡ Ok (text (codes "Done"))
       done v is = ap (λ v. pc_of v at_last) (only_is v is)
 
   -- ---- what is no step
@@ -133,7 +133,7 @@ module _ (p q : Places) where
   labels_differ : text (codes "A") ≡ text (codes "Done") → ⊥
   labels_differ e = absurd cc
 
-  pub not_idle : Step P at_first at_first ⊎ Still P at_first at_first → ⊥
+  pub not_idle : Step P at_first at_first ⊎ Stutters P at_first at_first → ⊥
   not_idle (inl (v, d, is, from)) =
       let here = subst (λ v. StepFrom P v d at_first at_first) (only_is v is) from in
       let at = label_is at_first d here.0 in

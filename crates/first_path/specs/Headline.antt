@@ -5,12 +5,12 @@ use Rattle.tla_token.specs.Tokens.{Token, TokAlgorithm}
 use Rattle.pcal_tree.specs.Algorithm.{Algorithm}
 use Rattle.pcal_tree.specs.Grammar.{SpellsP, SpellsC}
 use Rattle.pcal_tree.specs.Labelled.{labelled}
-use Rattle.module_text.specs.Around.{Spot, algorithm_in}
+use Rattle.module_text.specs.Around.{Split, algorithm_in}
 use Rattle.first_path.specs.Translates.{Translates}
 
 -- the algorithm a stands in the text x, in one of the two syntaxes
 pub record Stands (x : List ℕ) (a : Algorithm) : Type 0 where
-  pub spot : Spot
+  pub spot : Split
   pub is_spot : algorithm_in x ≡ Some spot
   pub tokens : List Token
   pub tok : TokAlgorithm x (length spot.front) (length x - length spot.back) tokens

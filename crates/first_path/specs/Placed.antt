@@ -4,10 +4,10 @@ use Rattle.tla_token.specs.declared.place.Place.{Place}
 use Rattle.tla_token.specs.Places.{start}
 use Rattle.tla_expr.specs.declared.op.Op.{Op}
 use Rattle.tla_expr.specs.declared.op.Op.TheVariants.{Equal, Plus}
-use Rattle.tla_expr.specs.Tree.{Word, Tree, node, no_trees, number, quote, name, strict}
+use Rattle.tla_expr.specs.Tree.{Word, Tree, node, no_trees, number, string, name, strict}
 use Rattle.tla_expr.specs.Tree as tree
 use Rattle.pcal_tree.specs.declared.mark.Mark.TheVariants.{Plain}
-use Rattle.pcal_tree.specs.Algorithm.{Name, Algorithm, Span, assign, done, then, mark, no_moves, move, equals, alone}
+use Rattle.pcal_tree.specs.Algorithm.{Name, Algorithm, Span, assign, done, then, mark, no_assignments, assignment, equals, alone}
 use Rattle.module_text.specs.Module.{test, setting, no_items, item, call, one_way, all_of, Action, Region, Module, extends}
 use Rattle.module_text.specs.Layout.{layout}
 use Rattle.module_text.specs.Around.{begin_line, end_line}
@@ -50,14 +50,14 @@ algorithm_at p f = record {
   definitions = [];
   macros = [];
   procedures = [];
-  main = alone (mark (word_at f.label (p 8)) Plain (then (statement_span p f.right) (assign (move (leaf (name f.variable) (p 10)) (right_tree f.variable f.right (p 12) (p 14)) no_moves)) done));
+  main = alone (mark (word_at f.label (p 8)) Plain (then (statement_span p f.right) (assign (assignment (leaf (name f.variable) (p 10)) (right_tree f.variable f.right (p 12) (p 14)) no_assignments)) done));
 }
 
 -- ---- the translation
 
 -- pc = "L"
 abbrev pub is_at : Word → Place → Place → Tree
-is_at label p q = infix_of Equal p (leaf (name (codes "pc")) p) (leaf (quote label) q)
+is_at label p q = infix_of Equal p (leaf (name (codes "pc")) p) (leaf (string label) q)
 
 -- the places of the leaves of its expressions, in their order
 abbrev pub step_at : Places → Parts → Action
@@ -67,7 +67,7 @@ step_at q f = record {
   body = all_of (
       item (test (is_at f.label (q 4) (q 5)))
       (item (setting f.variable (right_tree f.variable f.right (q 6) (q 7)))
-      (item (setting (codes "pc") (leaf (quote (codes "Done")) (q 8))) no_items)));
+      (item (setting (codes "pc") (leaf (string (codes "Done")) (q 8))) no_items)));
 }
 
 abbrev pub region_at : Places → Parts → Region

@@ -7,22 +7,22 @@ use Rattle.tla_expr.specs.Tree.{Word, Each}
 use Rattle.tla_expr.specs.Names.{has}
 use Rattle.tla_value.specs.declared.fault.FaultKind.{FaultKind}
 use Rattle.tla_value.specs.Stops.{plain}
-use Rattle.tla_value.specs.Definitions.{Look, Definition}
+use Rattle.tla_value.specs.Definitions.{Valuation, Definition}
 use Rattle.pcal_tree.specs.Algorithm.{nowhere, Name, Algorithm}
 use Rattle.pcal_tree.specs.Names.{naming}
 use Rattle.pcal_tree.specs.Outside as outside
 use Rattle.pcal_tree.specs.Scope.{State}
 use Rattle.pcal_tree.specs.Program.{Program}
-use Rattle.pcal_tree.specs.Step.{vars, Proper, Sound, Step, Still}
+use Rattle.pcal_tree.specs.Step.{vars, Proper, Sound, Step, Stutters}
 use Rattle.pcal_tree.specs.Calls.{default}
-use Rattle.pcal_tree.specs.Initial.{Initial, InitFault}
+use Rattle.pcal_tree.specs.InitialStates.{Initial, InitFault}
 use Rattle.module_text.specs.Module.{Module, Outside, opaque, defined_in}
 use Rattle.module_text.specs.Around.{Around}
 use Rattle.module_text.specs.Reading.{modules_in, constants_in, Reads}
-use Rattle.module_text.specs.Truth.{Tells, next_holds, init_holds}
+use Rattle.module_text.specs.Truth.{TrueExactly, next_holds, init_holds}
 
 -- a state as the values of the variables of the translation
-abbrev pub on_variables : Program → State → Look
+abbrev pub on_variables : Program → State → Valuation
 on_variables P s x = cond (has (vars P) x) (Some (s x)) None
 
 -- ---- what the module has outside its translation
@@ -53,7 +53,7 @@ outside_of m = record {
 -- ---- the two meanings joined
 
 -- the labelled algorithm g with its written names in the module m, without limits, for these constants
-abbrev pub program : Algorithm → Module → Look → Program
+abbrev pub program : Algorithm → Module → Valuation → Program
 program g m values = record {
   check = plain;
   constants = values;
@@ -63,7 +63,7 @@ program g m values = record {
 }
 
 -- a value for each constant that is read, for `defaultInitValue` the model value of that name, and for nothing else
-pub record AreConstants (m : Module) (values : Look) : Type 0 where
+pub record AreConstants (m : Module) (values : Valuation) : Type 0 where
   pub unset : values (codes "defaultInitValue") ≡ Some default
   pub given : Each (λ x. IsTrue (is_some (values x))) (constants_in (m.before ++ m.behind))
   pub no_other : (x : Word) → has (codes "defaultInitValue" ∷ constants_in (m.before ++ m.behind)) x ≡ false → values x ≡ None
@@ -72,16 +72,16 @@ pub record AreConstants (m : Module) (values : Look) : Type 0 where
 -- false, and it is never a fault
 abbrev pub NextIs : Algorithm → Module → Type 0
 NextIs g m =
-    (values : Look) (s t : State) → AreConstants m values → Sound (program g m values) s →
-    Tells (next_holds plain m values (on_variables (program g m values) s) (on_variables (program g m values) t))
-    (Step (program g m values) s t ⊎ Still (program g m values) s t)
+    (values : Valuation) (s t : State) → AreConstants m values → Sound (program g m values) s →
+    TrueExactly (next_holds plain m values (on_variables (program g m values) s) (on_variables (program g m values) t))
+    (Step (program g m values) s t ⊎ Stutters (program g m values) s t)
 
 -- for all proper constants and states from which no initial value is a fault Init is true exactly of the initial ones, else false
 abbrev pub InitIs : Algorithm → Module → Type 0
 InitIs g m =
-    (values : Look) (s : State) → AreConstants m values → Proper (program g m values)
+    (values : Valuation) (s : State) → AreConstants m values → Proper (program g m values)
     → ((kind : FaultKind) (at : Place) → InitFault (program g m values) s kind at → ⊥) →
-    Tells (init_holds plain m values (on_variables (program g m values) s)) (Initial (program g m values) s)
+    TrueExactly (init_holds plain m values (on_variables (program g m values) s)) (Initial (program g m values) s)
 
 -- the text w translates the labelled algorithm g that stands in the text x
 pub record Translates (x : List ℕ) (g : Algorithm) (w : List ℕ) : Type 0 where

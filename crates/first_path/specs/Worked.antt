@@ -2,11 +2,11 @@
 use Rattle.std.specs.Prelude.{ℕ, pos, bytes_eq, cond, List, Some, None, codes}
 use Rattle.tla_expr.specs.Tree.{Word}
 use Rattle.tla_value.specs.Value.{int, text}
-use Rattle.tla_value.specs.Definitions.{Look}
+use Rattle.tla_value.specs.Definitions.{Valuation}
 use Rattle.pcal_tree.specs.Scope.{State, put}
 use Rattle.pcal_tree.specs.Program.{Program, pc}
 use Rattle.pcal_tree.specs.Calls.{default}
-use Rattle.pcal_tree.specs.Starting.{nothing}
+use Rattle.pcal_tree.specs.InitialChoice.{nothing}
 use Rattle.first_path.specs.Form.{Parts, sum, variable_operand, number_operand}
 use Rattle.first_path.specs.Placed.{Places, algorithm_at, module_at}
 use Rattle.first_path.specs.Translates.{program}
@@ -25,7 +25,7 @@ worked_parts = record {
 }
 
 -- no constants of the module
-abbrev pub no_more_constants : Look
+abbrev pub no_more_constants : Valuation
 no_more_constants x = cond (bytes_eq (codes "defaultInitValue") x) (Some default) None
 
 -- p and q: the places of the tokens of the algorithm, and of the leaves of its translation

@@ -4,8 +4,8 @@ ghost use Rattle.std.specs.Prelude.{◌≡◌, ◌⊎◌, ℕ, List, [], Some, f
 ghost use Rattle.tla_token.specs.declared.place.Place.{Place};
 ghost use Rattle.tla_value.specs.declared.fault.FaultKind.{FaultKind};
 ghost use Rattle.pcal_tree.specs.Algorithm.{Algorithm};
-ghost use Rattle.pcal_tree.specs.Step.{Sound, Step, Still};
-ghost use Rattle.pcal_tree.specs.Initial.{Initial, InitFault};
+ghost use Rattle.pcal_tree.specs.Step.{Sound, Step, Stutters};
+ghost use Rattle.pcal_tree.specs.InitialStates.{Initial, InitFault};
 ghost use Rattle.module_text.specs.Reading.{Reads};
 ghost use Rattle.first_path.specs.Form.{Parts, IsForm};
 ghost use Rattle.first_path.specs.FormRead.{form_of, form_offences, FirstOffence, left_out};
@@ -46,9 +46,9 @@ pub fn some_module_steps()
     ensures no_fault { (p q : Places) (kind : FaultKind) (at : Place) → InitFault (worked_program p q) at_first kind at → ⊥ }
     ensures no_fault_at_last { (p q : Places) (kind : FaultKind) (at : Place) → InitFault (worked_program p q) at_last kind at → ⊥ }
     ensures steps { (p q : Places) → Step (worked_program p q) at_first at_last }
-    ensures still { (p q : Places) → Sound (worked_program p q) at_last × Still (worked_program p q) at_last at_last }
+    ensures still { (p q : Places) → Sound (worked_program p q) at_last × Stutters (worked_program p q) at_last at_last }
     ensures no_start { (p q : Places) → Initial (worked_program p q) at_last → ⊥ }
-    ensures no_step { (p q : Places) → Step (worked_program p q) at_first at_first ⊎ Still (worked_program p q) at_first at_first → ⊥ }
+    ensures no_step { (p q : Places) → Step (worked_program p q) at_first at_first ⊎ Stutters (worked_program p q) at_first at_first → ⊥ }
 {}
 
 /// The algorithm that stands in a text of the form is one alone.

@@ -3,7 +3,7 @@ use Rattle.std.specs.Prelude.{[], ◌∷◌, None, codes}
 use Rattle.tla_token.specs.declared.place.Place.{Place}
 use Rattle.tla_expr.specs.declared.op.Op.{Op}
 use Rattle.tla_expr.specs.declared.op.Op.TheVariants.{Equal, Plus}
-use Rattle.tla_expr.specs.Tree.{Word, Form, number, quote, name, strict, operator, Tree, node, no_trees, tree}
+use Rattle.tla_expr.specs.Tree.{Word, Form, number, string, name, strict, operator, Tree, node, no_trees, tree}
 use Rattle.module_text.specs.Module.{test, setting, no_items, item, call, one_way, all_of, Action, Region, Module, extends}
 
 abbrev pub here : Place
@@ -22,13 +22,13 @@ abbrev pub pc : Word
 pc = codes "pc"
 
 abbrev pub equals_text : Word → Word → Tree
-equals_text y w = signed Equal (leaf (name y)) (leaf (quote w))
+equals_text y w = signed Equal (leaf (name y)) (leaf (string w))
 
 abbrev pub step : Action
 step = record {
   title = codes "A";
   parameter = None;
-  body = all_of (item (test (equals_text pc (codes "A"))) (item (setting x (signed Plus (leaf (name x)) (leaf (number 1)))) (item (setting pc (leaf (quote (codes "Done")))) no_items)));
+  body = all_of (item (test (equals_text pc (codes "A"))) (item (setting x (signed Plus (leaf (name x)) (leaf (number 1)))) (item (setting pc (leaf (string (codes "Done")))) no_items)));
 }
 
 abbrev pub region : Region

@@ -4,11 +4,11 @@ use Rattle.std.proofs.lemmas.Bool.{both_ways, le-ltb}
 use Rattle.tla_token.specs.declared.place.Place.{Place}
 use Rattle.tla_expr.specs.declared.op.Op.TheVariants as op
 use Rattle.tla_expr.specs.Tree.{Word}
-use Rattle.tla_expr.specs.Lexical.{Tk, mark, sign, key}
+use Rattle.tla_expr.specs.Lexical.{ExprToken, mark, sign, key}
 use Rattle.tla_expr.specs.Lexical as tk
 use Rattle.tla_expr.specs.Spelling.{Right}
 use Rattle.tla_expr.proofs.ReadStops.{is_calm, Calm, calm_right}
-use Rattle.module_text.specs.Module.{test, setting, unchanged, exists, local, choice, either, no_items, item, no_branches, branch}
+use Rattle.module_text.specs.Module.{test, setting, unchanged, exists, local, if_then_else, either, no_items, item, no_branches, branch}
 use Rattle.module_text.specs.Grammar.{Token, Kind, seen, keyword, see, Names, last_name, more_names, spell_names, words, tree_of, ItemForm, test_form, setting_form, unchanged_form, exists_form, local_form, choice_form, either_form}
 use Rattle.module_text.specs.Grammar.{ListForm, last_item, more_items, BranchForms, last_branch, more_branches, spell_item, spell_list, spell_branches, item_of, items_of, branches_of, list_column, branch_column, GoodItem, GoodList, GoodBranches}
 use Rattle.module_text.proofs.OnePhrase.{lowered, one_phrase}
@@ -66,7 +66,7 @@ one_names (more_names p x u ns) (more_names q y v ms) r s c d same =
 
 -- ---- calm tokens
 
-pub calm_at : (e : ℕ) (p : Place) (k : Tk) (r : List Token) → Right e p → is_calm k ≡ true → Calm e (lowered (see p k r))
+pub calm_at : (e : ℕ) (p : Place) (k : ExprToken) (r : List Token) → Right e p → is_calm k ≡ true → Calm e (lowered (see p k r))
 calm_at e p k r g c = rw g c
 
 -- a token in the column of the edge goes on nothing
@@ -190,7 +190,7 @@ mutual
       (calm_at e t (key tk.else_key) (spell_list ks r) g.5 refl) (calm_at e u (key tk.else_key) (spell_list ls s) h.5 refl) lists in
       let others : spell_list ks r ≡ spell_list ls s = ap tail v.1 in
       let z = one_list e (list_column ks) ks ls g.6 g.7 (in_column ks ls r s others h.7) r s cr cs others in
-      ((λ i. choice (tree_of (w.0 i)) (v.0 i) (z.0 i)), z.1)
+      ((λ i. if_then_else (tree_of (w.0 i)) (v.0 i) (z.0 i)), z.1)
   one_item e (either_form bs) (either_form ds) g h r s cr cs same =
       let w = one_branches e (branch_column bs) bs ds g.0 g.1 (branches_in_column bs ds r s same h.1) r s cr cs same in
       ((λ i. either (w.0 i)), w.1)

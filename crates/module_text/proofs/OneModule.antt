@@ -8,7 +8,7 @@ use Rattle.tla_expr.specs.Tree.{Word}
 use Rattle.module_text.specs.Module.{RegionUnit, units_of, Outside, Module}
 use Rattle.module_text.specs.Grammar.{Token}
 use Rattle.module_text.specs.Units.{IsUnit}
-use Rattle.module_text.specs.Seen.{view, cut}
+use Rattle.module_text.specs.ModuleTokens.{view, cut}
 use Rattle.module_text.specs.Outside.{Sight, AllOutside}
 use Rattle.module_text.specs.Reading.{modules_in, constants_in, Stretch, Parts, AllAre, sight, Reads}
 use Rattle.module_text.proofs.OneRegion.{one_region}

@@ -2,9 +2,9 @@
 use Rattle.std.proofs.Common.{◌≡◌, ℕ, List, [], ◌∷◌, ◌++◌, refl, sym, ap, ◌∙◌}
 use Rattle.tla_expr.specs.declared.op.Op.{Op}
 use Rattle.tla_expr.specs.declared.op.Op.TheVariants as op
-use Rattle.tla_expr.specs.Lexical.{Mark, Tk, Token, token}
+use Rattle.tla_expr.specs.Lexical.{Mark, ExprToken, Token, token}
 use Rattle.tla_expr.specs.Lexical as tk
-use Rattle.tla_expr.specs.Spelling.{Phrase, number, quote, constant, name, primed, call, brackets, no_set, set_of, filter, image, no_tuple, tuple, fields, records, function, functions, except, apply, select, list, quantified, choice, cases, local, infix_of, prefix_of}
+use Rattle.tla_expr.specs.Spelling.{Phrase, number, string, constant, name, primed, call, brackets, no_set, set_of, filter, image, no_tuple, tuple, fields, records, function, functions, except, apply, select, list, quantified, if_then_else, cases, local, infix_of, prefix_of}
 use Rattle.tla_expr.specs.Spelling.{Phrases, last, more, Binds, last_bind, bind, share, Fields, last_field, field, Settings, last_setting, setting, Path, path_end, index, at_field, Bullets, last_bullet, bullet, Arms, last_arm, other_arm, arm, Locals, last_local, more_locals}
 use Rattle.tla_expr.specs.Spelling.{mark, sign, key, field_token, spell, spell_all, spell_binds, spell_fields, spell_settings, spell_path, spell_bullets, spell_arms, spell_locals, Good}
 use Rattle.tla_expr.proofs.ReadStops.{Calm}
@@ -24,7 +24,7 @@ Joins f = (r s : List Token) → f r ++ s ≡ f (r ++ s)
 mutual
   pub phrase_joins : (a : Phrase) → Joins (spell a)
   phrase_joins (number p n) r s = refl
-  phrase_joins (quote p x) r s = refl
+  phrase_joins (string p x) r s = refl
   phrase_joins (constant p c) r s = refl
   phrase_joins (name p x) r s = refl
   phrase_joins (primed p x q) r s = refl
@@ -51,7 +51,7 @@ mutual
   phrase_joins (select a p f) r s = phrase_joins a (mark p tk.dot (field_token f r)) s
   phrase_joins (list o bs) r s = bullets_join o bs r s
   phrase_joins (quantified b p bs q a) r s = rw (binds_join bs (mark q tk.colon (spell a r)) s, phrase_joins a r s) refl
-  phrase_joins (choice p a q b t c) r s =
+  phrase_joins (if_then_else p a q b t c) r s =
       rw (
         phrase_joins a (key q tk.then_key (spell b (key t tk.else_key (spell c r)))) s,
         phrase_joins b (key t tk.else_key (spell c r)) s,
@@ -114,7 +114,7 @@ mutual
 
 -- ---- phrases among the tokens of modules
 
-abbrev pub lower : Kind → Tk
+abbrev pub lower : Kind → ExprToken
 lower (seen k) = k
 lower (keyword w) = tk.other
 

@@ -7,7 +7,7 @@ use Rattle.tla_token.specs.Signs.{is_among}
 use Rattle.tla_token.specs.Words.{own_names, is_own}
 use Rattle.tla_expr.specs.declared.op.Op.TheVariants as op
 use Rattle.tla_expr.specs.Tree.{Word}
-use Rattle.tla_expr.specs.Lexical.{Tk, mark, sign}
+use Rattle.tla_expr.specs.Lexical.{ExprToken, mark, sign}
 use Rattle.tla_expr.specs.Lexical as tk
 use Rattle.tla_expr.specs.Spelling.{Phrase, Good, Right, spell}
 use Rattle.tla_expr.proofs.ReadStops.{Calm}
@@ -113,7 +113,7 @@ bullet_first (all_form is) g = rw (list_first is []) refl
 bullet_first (some_form []) g = absurd g
 bullet_first (some_form (y ∷ ys)) g = refl
 
-begins_bullet : (t : tk.Token) (ts : List tk.Token) (k : Tk) → t.kind ≡ k → is_bullet_sort (sort (seen k)) ≡ true → begins_list (t ∷ ts) ≡ true
+begins_bullet : (t : tk.Token) (ts : List tk.Token) (k : ExprToken) → t.kind ≡ k → is_bullet_sort (sort (seen k)) ≡ true → begins_list (t ∷ ts) ≡ true
 begins_bullet t ts (sign op.And) e h = rw e refl
 begins_bullet t ts (sign op.Or) e h = rw e refl
 begins_bullet t ts (mark tk.comma) e h = absurd (both_ways false refl h)

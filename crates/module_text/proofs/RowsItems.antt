@@ -2,8 +2,8 @@
 use Rattle.std.proofs.Common.{◌≡◌, refl}
 use Rattle.std.specs.Prelude.{[], ◌∷◌, true, false, Some, None, codes}
 use Rattle.tla_expr.specs.declared.op.Op.TheVariants.{Greater, Cup, Minus}
-use Rattle.tla_expr.specs.Tree.{quote, name, next, strict, set_of, apply, member, Tree, node, no_trees, tree}
-use Rattle.module_text.specs.Module.{Item, test, setting, unchanged, exists, local, choice, either, Items, no_items, item, no_branches, branch, call, call_with, one_way, some_way, some_of, process_set_unit, action_unit, next_unit, spec_unit}
+use Rattle.tla_expr.specs.Tree.{string, name, next, strict, set_of, apply, member, Tree, node, no_trees, tree}
+use Rattle.module_text.specs.Module.{Item, test, setting, unchanged, exists, local, if_then_else, either, Items, no_items, item, no_branches, branch, call, call_with, one_way, some_way, some_of, process_set_unit, action_unit, next_unit, spec_unit}
 use Rattle.module_text.specs.Layout.{item_text, unit_text}
 use Rattle.module_text.proofs.First.{here, leaf, signed, x}
 
@@ -22,7 +22,7 @@ at f e = node (strict apply) here (tree f (tree e no_trees))
 abbrev one : Item → Items
 one i = item i no_items
 
-chosen : item_text 2 (choice (signed Greater (leaf (name x)) y) (one (setting (codes "y") self)) (one (unchanged (codes "y" ∷ [])))) ≡ codes "  /\\ IF x > y\n     THEN\n       /\\ y' = self\n     ELSE\n       /\\ UNCHANGED <<y>>\n"
+chosen : item_text 2 (if_then_else (signed Greater (leaf (name x)) y) (one (setting (codes "y") self)) (one (unchanged (codes "y" ∷ [])))) ≡ codes "  /\\ IF x > y\n     THEN\n       /\\ y' = self\n     ELSE\n       /\\ UNCHANGED <<y>>\n"
 chosen = refl
 
 either_way : item_text 2 (either (branch (one (setting x y)) (branch (item (test y) (one (unchanged (x ∷ codes "z" ∷ [])))) no_branches))) ≡ codes "  /\\\n       \\/\n            /\\ x' = y\n       \\/\n            /\\ (y)\n            /\\ UNCHANGED <<x, z>>\n"
@@ -40,5 +40,5 @@ own_action = refl
 nexts : unit_text (next_unit (some_way (codes "self") (set y) (call_with (codes "P") self) ∷ one_way (call (codes "Terminating")) ∷ [])) ≡ codes "Next ==\n  \\/ \\E self \\in {y} : P(self)\n  \\/ Terminating\n"
 nexts = refl
 
-fair : unit_text (spec_unit (record { over = Some (codes "self", set y); strong = false; guard = Some (node (member false) here (tree (at (leaf (name (codes "pc"))) self) (tree (set (leaf (quote (codes "N")))) no_trees))); action = call_with (codes "P") self } ∷ record { over = Some (codes "self", signed Cup y y); strong = true; guard = None; action = call_with (codes "E") self } ∷ [])) ≡ codes "Spec ==\n  /\\ Init\n  /\\ [][Next]_vars\n  /\\ \\A self \\in {y} : WF_vars((pc[self] \\notin {\"N\"}) /\\ P(self))\n  /\\ \\A self \\in (y \\cup y) : SF_vars(E(self))\n"
+fair : unit_text (spec_unit (record { over = Some (codes "self", set y); strong = false; guard = Some (node (member false) here (tree (at (leaf (name (codes "pc"))) self) (tree (set (leaf (string (codes "N")))) no_trees))); action = call_with (codes "P") self } ∷ record { over = Some (codes "self", signed Cup y y); strong = true; guard = None; action = call_with (codes "E") self } ∷ [])) ≡ codes "Spec ==\n  /\\ Init\n  /\\ [][Next]_vars\n  /\\ \\A self \\in {y} : WF_vars((pc[self] \\notin {\"N\"}) /\\ P(self))\n  /\\ \\A self \\in (y \\cup y) : SF_vars(E(self))\n"
 fair = refl

@@ -10,7 +10,7 @@ use Rattle.tla_expr.specs.Spelling as spelled
 use Rattle.module_text.specs.Module.{test, setting, unchanged, no_items, item, call, call_with, one_way, some_way, all_of, action_unit, next_unit, spec_unit, termination_unit}
 use Rattle.module_text.specs.Grammar.{Token, last_name, more_names, test_form, setting_form, unchanged_form, last_item, more_items, call_form, call_with_form, one_form, some_form}
 use Rattle.module_text.specs.Units.{IsUnit, all_form, action_form, next_form, spec_form, steps_line, termination_form}
-use Rattle.module_text.specs.Seen.{view, cut}
+use Rattle.module_text.specs.ModuleTokens.{view, cut}
 use Rattle.module_text.specs.Outside.{opaque_of}
 
 abbrev at : ℕ → ℕ → Place

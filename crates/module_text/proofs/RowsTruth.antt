@@ -1,38 +1,38 @@
 -- What the first algorithm's module says of some pairs of states, by computation.
-use Rattle.std.proofs.Common.{◌≡◌, refl}
+use Rattle.std.proofs.Common.{◌≡◌, refl, Ok, Err}
 use Rattle.std.specs.Prelude.{pos, true, false, Some, None, codes, bytes_eq, cond}
 use Rattle.tla_expr.specs.Tree.{Word}
 use Rattle.tla_value.specs.declared.fault.FaultKind.TheVariants.{NotInteger}
-use Rattle.tla_value.specs.Value.{Value, truth, int, text}
+use Rattle.tla_value.specs.Value.{Value, truth, int, text, fault}
 use Rattle.tla_value.specs.Stops.{plain}
-use Rattle.tla_value.specs.Definitions.{Look, no_state}
-use Rattle.module_text.specs.Truth.{Verdict, told, fault, next_holds, init_holds, mine_holds}
+use Rattle.tla_value.specs.Definitions.{Valuation, no_state}
+use Rattle.module_text.specs.Truth.{Verdict, next_holds, init_holds, mine_holds}
 use Rattle.module_text.proofs.First.{x, pc, here, first}
 
 -- the state with these values of x and pc
-abbrev at : Value → Word → Look
+abbrev at : Value → Word → Valuation
 at v l y = cond (bytes_eq y x) (Some v) (cond (bytes_eq y pc) (Some (text l)) None)
 
-abbrev next : Look → Look → Verdict
+abbrev next : Valuation → Valuation → Verdict
 next s t = next_holds plain first no_state s t
 
-a_step : next (at (int (pos 0)) (codes "A")) (at (int (pos 1)) (codes "Done")) ≡ told true
+a_step : next (at (int (pos 0)) (codes "A")) (at (int (pos 1)) (codes "Done")) ≡ Ok true
 a_step = refl
 
-the_end : next (at (int (pos 1)) (codes "Done")) (at (int (pos 1)) (codes "Done")) ≡ told true
+the_end : next (at (int (pos 1)) (codes "Done")) (at (int (pos 1)) (codes "Done")) ≡ Ok true
 the_end = refl
 
-no_step : next (at (int (pos 0)) (codes "A")) (at (int (pos 0)) (codes "A")) ≡ told false
+no_step : next (at (int (pos 0)) (codes "A")) (at (int (pos 0)) (codes "A")) ≡ Ok false
 no_step = refl
 
-a_fault : next (at (truth true) (codes "A")) (at (truth true) (codes "Done")) ≡ fault NotInteger here
+a_fault : next (at (truth true) (codes "A")) (at (truth true) (codes "Done")) ≡ Err (fault NotInteger here)
 a_fault = refl
 
-initial : init_holds plain first no_state (at (int (pos 0)) (codes "A")) ≡ told true
+initial : init_holds plain first no_state (at (int (pos 0)) (codes "A")) ≡ Ok true
 initial = refl
 
-not_initial : init_holds plain first no_state (at (int (pos 5)) (codes "A")) ≡ told false
+not_initial : init_holds plain first no_state (at (int (pos 5)) (codes "A")) ≡ Ok false
 not_initial = refl
 
-ended_is_no_step : mine_holds plain first no_state (at (int (pos 1)) (codes "Done")) (at (int (pos 1)) (codes "Done")) None ≡ told false
+ended_is_no_step : mine_holds plain first no_state (at (int (pos 1)) (codes "Done")) (at (int (pos 1)) (codes "Done")) None ≡ Ok false
 ended_is_no_step = refl

@@ -177,7 +177,7 @@ begins_algorithm m first s = is_block m && is_some (past_title s)
 -- ---- the place of the translation
 
 -- before the region and behind it, the ends of its last line standing behind it
-pub record Spot : Type 0 where
+pub record Split : Type 0 where
   pub front : Text
   pub back : Text
 
@@ -188,24 +188,24 @@ abbrev pub outside_comments : Mode → Bool → Text → Bool
 outside_comments m first s = is_plain m
 
 -- from the line `BEGIN TRANSLATION`, up to the next line `END TRANSLATION`, wherever it stands
-abbrev pub old_region : Text → Found → Option Spot
+abbrev pub old_region : Text → Found → Option Split
 old_region head f = on_some (at_line is_end false f.from) (λ r. Some (record { front = head ++ f.before; back = line_end r.1 }))
 
 -- the start of the line behind the one on which the algorithm's comment ends
-abbrev pub new_region : Text → Text → Option Spot
+abbrev pub new_region : Text → Text → Option Split
 new_region head s =
     on_some (seek begins_algorithm plain true s) (λ f.
     on_some (seek outside_comments f.mode false f.from) (λ g.
     Some (let r = line_of g.from in record { front = head ++ f.before ++ g.before ++ r.0; back = codes "\n" ++ r.1 })))
 
-abbrev pub spot_by : Text → Text → Option Found → Option Spot
+abbrev pub spot_by : Text → Text → Option Found → Option Split
 spot_by head s (Some f) = old_region head f
 spot_by head s None = new_region head s
 
-abbrev pub spot_behind : Text → Text × Text → Option Spot
+abbrev pub spot_behind : Text → Text × Text → Option Split
 spot_behind before r = spot_by (before ++ r.0) r.1 (seek is_start plain true r.1)
 
-abbrev pub spot_in : Text → Option Spot
+abbrev pub spot_in : Text → Option Split
 spot_in x = on_some (at_line is_header true x) (λ h. spot_behind h.0 (line_of h.1))
 
 abbrev pub begin_line : Text
@@ -216,7 +216,7 @@ end_line = codes "\\* END TRANSLATION"
 
 -- w is x with the translation of m between the two lines; all other bytes are as in x
 pub record Around (x : Text) (m : Module) (w : Text) : Type 0 where
-  pub spot : Spot
+  pub spot : Split
   pub is_spot : spot_in x ≡ Some spot
   pub is : w ≡ spot.front ++ begin_line ++ layout m.region ++ end_line ++ spot.back
 
@@ -262,7 +262,7 @@ abbrev pub past_algorithm : Text → Option Text
 past_algorithm s = on_some (past_title s) (λ r. if is_braced r then past_c plain 0 r else past_p plain false r)
 
 -- before the algorithm and behind it
-abbrev pub algorithm_in : Text → Option Spot
+abbrev pub algorithm_in : Text → Option Split
 algorithm_in x =
     on_some (at_line is_header true x) (λ h.
     let r = line_of h.1 in
@@ -271,6 +271,6 @@ algorithm_in x =
 
 -- w is x with u in place of the algorithm
 pub record Swapped (x u w : Text) : Type 0 where
-  pub spot : Spot
+  pub spot : Split
   pub is_spot : algorithm_in x ≡ Some spot
   pub is : w ≡ spot.front ++ u ++ spot.back

@@ -3,15 +3,15 @@ use Rattle.std.specs.Prelude.{◌≡◌, ℕ, nat_lt, IsTrue, List, [], ◌∷�
 use Rattle.tla_token.specs.declared.place.Place.{Place}
 use Rattle.tla_expr.specs.declared.op.Op.TheVariants as op
 use Rattle.tla_expr.specs.Tree.{Word, Tree}
-use Rattle.tla_expr.specs.Lexical.{Tk, Mark, Key, sign, mark, key}
+use Rattle.tla_expr.specs.Lexical.{ExprToken, Mark, Key, sign, mark, key}
 use Rattle.tla_expr.specs.Lexical as tk
 use Rattle.tla_expr.specs.Spelling.{Phrase, Right, Good, head, is_primary}
 use Rattle.tla_expr.specs.Spelling as spelled
-use Rattle.module_text.specs.Module.{Item, test, setting, unchanged, exists, local, choice, either, Items, no_items, item, Branches, no_branches, branch, Call, call, call_with, Way, one_way, some_way}
+use Rattle.module_text.specs.Module.{Item, test, setting, unchanged, exists, local, if_then_else, either, Items, no_items, item, Branches, no_branches, branch, Call, call, call_with, Way, one_way, some_way}
 
 -- a token, as expressions see it, or a reserved word of modules
 pub data Kind : Type 0 where
-  seen : Tk → Kind
+  seen : ExprToken → Kind
   keyword : Word → Kind
 
 pub record Token : Type 0 where
@@ -22,7 +22,7 @@ pub record Token : Type 0 where
 abbrev pub Tokens : Type 0
 Tokens = List Token → List Token
 
-abbrev pub see : Place → Tk → Tokens
+abbrev pub see : Place → ExprToken → Tokens
 see p k r = record { kind = seen k; place = p } ∷ r
 
 abbrev pub reserved : Place → Word → Tokens
@@ -107,7 +107,7 @@ abbrev mutual
   item_of (unchanged_form p q ns s) = unchanged (words ns)
   item_of (exists_form p q x s a t is) = exists x (tree_of a) (items_of is)
   item_of (local_form p q x s a t is) = local x (tree_of a) (items_of is)
-  item_of (choice_form p a q is s js) = choice (tree_of a) (items_of is) (items_of js)
+  item_of (choice_form p a q is s js) = if_then_else (tree_of a) (items_of is) (items_of js)
   item_of (either_form bs) = either (branches_of bs)
 
   pub items_of : ListForm → Items
@@ -181,7 +181,7 @@ GoodWay e (one_form u) = GoodCall e u
 GoodWay e (some_form p q x s a t u) = Right e p × Right e q × Right e s × Good e a × Right e t × GoodCall e u
 
 -- a list of forms, each behind its bullet
-abbrev pub spell_bullets : {A : Type 0} → Tk → (A → Tokens) → List (Place × A) → Tokens
+abbrev pub spell_bullets : {A : Type 0} → ExprToken → (A → Tokens) → List (Place × A) → Tokens
 spell_bullets k f [] r = r
 spell_bullets k f (x ∷ xs) r = see x.0 k (f x.1 (spell_bullets k f xs r))
 

@@ -4,7 +4,7 @@ use Rattle.std.specs.Prelude.{ℕ, zero, suc, ◌+◌, List, [], ◌∷◌, ◌+
 use Rattle.tla_expr.specs.Tree.{Word, Tree}
 use Rattle.tla_expr.specs.Written.{written}
 use Rattle.module_text.specs.ExprText.{operand, joined}
-use Rattle.module_text.specs.Module.{Item, test, setting, unchanged, exists, local, choice, either, Items, no_items, item, Branches, no_branches, branch, Call, call, call_with, Way, one_way, some_way, Body, all_of, some_of, Fairness, Region, RegionUnit, constant_unit, variables_unit, definition_unit, vars_unit, process_set_unit, init_unit, action_unit, terminating_unit, next_unit, spec_unit, termination_unit, units_of}
+use Rattle.module_text.specs.Module.{Item, test, setting, unchanged, exists, local, if_then_else, either, Items, no_items, item, Branches, no_branches, branch, Call, call, call_with, Way, one_way, some_way, Body, all_of, some_of, Fairness, Region, RegionUnit, constant_unit, variables_unit, definition_unit, vars_unit, process_set_unit, init_unit, action_unit, terminating_unit, next_unit, spec_unit, termination_unit, units_of}
 
 abbrev pub blanks : ℕ → List ℕ
 blanks zero = []
@@ -26,7 +26,7 @@ abbrev mutual
   item_text k (unchanged xs) = line k (codes "/\\ UNCHANGED " ++ tuple_of xs)
   item_text k (exists x s is) = line k (codes "/\\ \\E " ++ x ++ codes " \\in " ++ operand s ++ codes " :") ++ items_text (k + 5) is
   item_text k (local x e is) = line k (codes "/\\ LET " ++ x ++ codes " == " ++ written e ++ codes " IN") ++ items_text (k + 5) is
-  item_text k (choice p a b) =
+  item_text k (if_then_else p a b) =
       line k (codes "/\\ IF " ++ written p)
       ++ line (k + 3) (codes "THEN") ++ items_text (k + 5) a
       ++ line (k + 3) (codes "ELSE") ++ items_text (k + 5) b

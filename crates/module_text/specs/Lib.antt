@@ -5,7 +5,7 @@ pub mod Around
 pub mod Truth
 pub mod Grammar
 pub mod Units
-pub mod Seen
+pub mod ModuleTokens
 pub mod Outside
 pub mod Reading
 pub mod Offences

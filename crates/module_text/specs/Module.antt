@@ -15,7 +15,7 @@ mutual
     unchanged : List Word → Item  -- UNCHANGED <<x, y>>
     exists : Word → Tree → Items → Item  -- \E x \in S : list
     local : Word → Tree → Items → Item  -- LET x == e IN list
-    choice : Tree → Items → Items → Item  -- IF e THEN list ELSE list
+    if_then_else : Tree → Items → Items → Item  -- IF e THEN list ELSE list
     either : Branches → Item  -- a \/ list, a list in each branch
 
   -- a /\ list

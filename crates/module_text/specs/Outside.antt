@@ -6,7 +6,7 @@ use Rattle.tla_token.specs.Signs.{is_among}
 use Rattle.tla_token.specs.Words.{is_standard}
 use Rattle.tla_expr.specs.declared.op.Op.{Op}
 use Rattle.tla_expr.specs.declared.op.Op.TheVariants as op
-use Rattle.tla_expr.specs.Tree.{Word, Form, number, strings, name, next, strict, operator, call, member, binding, local, Tree, node, Trees, no_trees, tree, binders}
+use Rattle.tla_expr.specs.Tree.{Word, Form, number, strings, name, next, strict, operator, operator_call, member, binding, local, Tree, node, Trees, no_trees, tree, binders}
 use Rattle.tla_expr.specs.Lexical.{mark}
 use Rattle.tla_expr.specs.Lexical as tk
 use Rattle.tla_expr.specs.Spelling.{Phrase, Right, Good}
@@ -106,7 +106,7 @@ form_reads v bs inf (number k) n = nat_lt k (2 ^ 127)
 form_reads v bs inf strings n = inf
 form_reads v bs inf (name x) n = is_among bs x || (is_among v.constants x || (is_arity (arity v.earlier x) 0 || (inf && has_infinite v x)))
 form_reads v bs inf (next x) n = false
-form_reads v bs inf (call f) n = is_arity (arity v.earlier f) n || has_standard v inf f n
+form_reads v bs inf (operator_call f) n = is_arity (arity v.earlier f) n || has_standard v inf f n
 form_reads v bs inf (strict (operator o)) n = has_operator v o
 form_reads v bs inf (binding b xs) n = are_fresh v bs xs
 form_reads v bs inf (local x) n = is_fresh v bs x
@@ -129,7 +129,7 @@ abbrev mutual
 -- how deep a tree nests with the bodies of earlier definitions in place of their names, each use being one form more
 abbrev pub used : (Word → ℕ) → Form → ℕ
 used deep (name x) = deep x
-used deep (call f) = deep f
+used deep (operator_call f) = deep f
 used deep _ = 0
 
 abbrev mutual

@@ -8,7 +8,7 @@ use Rattle.module_text.specs.Module.{units_of, Outside, extends, constants, Modu
 use Rattle.module_text.specs.Around.{Text, Mode, plain, on_some, header_title, is_header, is_start, is_end, at_line, line_of, line_end, ends_module, seek}
 use Rattle.module_text.specs.Grammar.{Token}
 use Rattle.module_text.specs.Units.{IsUnit}
-use Rattle.module_text.specs.Seen.{view, cut}
+use Rattle.module_text.specs.ModuleTokens.{view, cut}
 use Rattle.module_text.specs.Outside.{Sight, AllOutside}
 
 -- from the byte `from` up to the byte `to` of the text

@@ -1,55 +1,37 @@
 -- The truth of actions: what a module says of a pair of states ("Specifying Systems", sections 2.3 and 16.2.3). A conjunction stops at the first conjunct
 -- that isn't true. A disjunction and \E visit all, in order, and the first fault or value past the limits wins.
-use Rattle.std.specs.Prelude.{◌≡◌, ◌↔◌, List, [], ◌∷◌, ◌++◌, Bool, true, false, ◌&&◌, ◌||◌, cond, bytes_eq, Option, Some, None, codes}
+use Rattle.std.specs.Prelude.{List, [], ◌∷◌, ◌++◌, Bool, true, false, ◌&&◌, ◌||◌, cond, bytes_eq, Option, Some, None, codes, Ok, Err}
 use Rattle.tla_token.specs.declared.place.Place.{Place}
 use Rattle.tla_token.specs.Places.{start}
 use Rattle.tla_expr.specs.declared.op.Op.TheVariants.{Cup}
 use Rattle.tla_expr.specs.Tree.{Word, name, strict, operator, Tree, node, no_trees, tree}
-use Rattle.tla_value.specs.declared.fault.FaultKind.{FaultKind}
 use Rattle.tla_value.specs.declared.fault.FaultKind.TheVariants.{NotBoolean, NotSet, NotFunction}
-use Rattle.tla_value.specs.Value.{Value, Values, truth, set, no_values, and, Outcome, good, fault as faulty, over as past}
+use Rattle.tla_value.specs.Value.{Value, Values, truth, set, no_values, and, Outcome, fault, ◌>>=◌}
+pub use Rattle.tla_value.specs.Value.{and_then, or_all, TrueExactly}
 use Rattle.tla_value.specs.Order.{same, holds}
 use Rattle.tla_value.specs.Stops.{Check}
 use Rattle.tla_value.specs.Meaning.{Env, bind, eval}
-use Rattle.tla_value.specs.Definitions.{Look, no_state, Definition, scope_of}
-use Rattle.module_text.specs.Module.{Item, test, setting, unchanged, exists, local, choice, either, Items, no_items, item, Branches, no_branches, branch, Call, call, call_with, Way, one_way, some_way, Body, all_of, some_of, Action, Region, Module, defined_in}
+use Rattle.tla_value.specs.Definitions.{Valuation, no_state, Definition, scope_of}
+use Rattle.module_text.specs.Module.{Item, test, setting, unchanged, exists, local, if_then_else, either, Items, no_items, item, Branches, no_branches, branch, Call, call, call_with, Way, one_way, some_way, Body, all_of, some_of, Action, Region, Module, defined_in}
 
 -- what an action is of a pair of states
-pub data Verdict : Type 0 where
-  told : Bool → Verdict
-  fault : FaultKind → Place → Verdict
-  over : Place → Verdict  -- a value past the limits
-
-abbrev pub on_good : Outcome → (Value → Verdict) → Verdict
-on_good (good v) go = go v
-on_good (faulty k p) go = fault k p
-on_good (past p) go = over p
+abbrev pub Verdict : Type 0
+Verdict = Outcome Bool
 
 abbrev pub as_truth : Place → Value → (Bool → Verdict) → Verdict
 as_truth at (truth b) go = go b
-as_truth at _ go = fault NotBoolean at
+as_truth at _ go = Err (fault NotBoolean at)
 
 abbrev pub as_set : Place → Value → (Values → Verdict) → Verdict
 as_set at (set vs) go = go vs
-as_set at _ go = fault NotSet at
-
--- stops at the first that isn't true
-abbrev pub and_then : Verdict → Verdict → Verdict
-and_then (told true) q = q
-and_then p q = p
-
--- visits both
-abbrev pub or_all : Verdict → Verdict → Verdict
-or_all (told a) (told b) = told (a || b)
-or_all (told a) q = q
-or_all p q = p
+as_set at _ go = Err (fault NotSet at)
 
 abbrev pub place_of : Tree → Place
 place_of (node m at ts) = at
 
 -- the value of e
 abbrev pub on : Check → Env → Tree → (Value → Verdict) → Verdict
-on c env e go = on_good (eval c e env).value go
+on c env e go = (eval c e env).value >>= go
 
 -- the truth value of e
 abbrev pub on_test : Check → Env → Tree → (Bool → Verdict) → Verdict
@@ -57,7 +39,7 @@ on_test c env e go = on c env e (λ v. as_truth (place_of e) v go)
 
 -- at each of these values
 abbrev pub at_each : Values → (Value → Verdict) → Verdict
-at_each no_values go = told false
+at_each no_values go = Ok false
 at_each (and v vs) go = or_all (go v) (at_each vs go)
 
 -- at each member of e
@@ -72,28 +54,28 @@ abbrev pub same_look : Option Value → Option Value → Bool
 same_look (Some v) w = is_value w v
 same_look None w = true
 
-abbrev pub all_same : Look → Look → List Word → Bool
+abbrev pub all_same : Valuation → Valuation → List Word → Bool
 all_same s t [] = true
 all_same s t (x ∷ xs) = same_look (s x) (t x) && all_same s t xs
 
 -- ---- actions from s to t; env has the values of s, those of t under primed names, and bound names
 
 abbrev mutual
-  pub item_holds : Check → Look → Look → Env → Item → Verdict
-  item_holds c s t env (test e) = on_test c env e told
-  item_holds c s t env (setting x e) = on c env e (λ v. told (is_value (t x) v))
-  item_holds c s t env (unchanged xs) = told (all_same s t xs)
+  pub item_holds : Check → Valuation → Valuation → Env → Item → Verdict
+  item_holds c s t env (test e) = on_test c env e Ok
+  item_holds c s t env (setting x e) = on c env e (λ v. Ok (is_value (t x) v))
+  item_holds c s t env (unchanged xs) = Ok (all_same s t xs)
   item_holds c s t env (exists x e is) = at_members c env e (λ v. items_hold c s t (bind x v env) is)
   item_holds c s t env (local x e is) = on c env e (λ v. items_hold c s t (bind x v env) is)
-  item_holds c s t env (choice p a b) = on_test c env p (λ first. cond first (items_hold c s t env a) (items_hold c s t env b))
+  item_holds c s t env (if_then_else p a b) = on_test c env p (λ first. cond first (items_hold c s t env a) (items_hold c s t env b))
   item_holds c s t env (either bs) = some_branch c s t env bs
 
-  pub items_hold : Check → Look → Look → Env → Items → Verdict
-  items_hold c s t env no_items = told true
+  pub items_hold : Check → Valuation → Valuation → Env → Items → Verdict
+  items_hold c s t env no_items = Ok true
   items_hold c s t env (item i is) = and_then (item_holds c s t env i) (items_hold c s t env is)
 
-  pub some_branch : Check → Look → Look → Env → Branches → Verdict
-  some_branch c s t env no_branches = told false
+  pub some_branch : Check → Valuation → Valuation → Env → Branches → Verdict
+  some_branch c s t env no_branches = Ok false
   some_branch c s t env (branch is bs) = or_all (items_hold c s t env is) (some_branch c s t env bs)
 
 -- ---- actions by their names
@@ -104,7 +86,7 @@ Acts = Word → Option (Option Value → Verdict)
 
 -- no module of a program calls what it doesn't define, or with another number of arguments
 abbrev pub unknown : Verdict
-unknown = fault NotFunction start
+unknown = Err (fault NotFunction start)
 
 abbrev pub acted : Option (Option Value → Verdict) → Option Value → Verdict
 acted None v = unknown
@@ -119,10 +101,10 @@ way_holds c env acts (one_way u) = call_holds c env acts u
 way_holds c env acts (some_way x e u) = at_members c env e (λ v. call_holds c (bind x v env) acts u)
 
 abbrev pub some_way_holds : Check → Env → Acts → List Way → Verdict
-some_way_holds c env acts [] = told false
+some_way_holds c env acts [] = Ok false
 some_way_holds c env acts (y ∷ ys) = or_all (way_holds c env acts y) (some_way_holds c env acts ys)
 
-abbrev pub body_holds : Check → Look → Look → Env → Acts → Body → Verdict
+abbrev pub body_holds : Check → Valuation → Valuation → Env → Acts → Body → Verdict
 body_holds c s t env acts (all_of is) = items_hold c s t env is
 body_holds c s t env acts (some_of ys) = some_way_holds c env acts ys
 
@@ -132,7 +114,7 @@ with_argument (Some x) (Some v) env go = go (bind x v env)
 with_argument _ _ env go = unknown
 
 -- each action calls only those before it
-abbrev pub acts_of : Check → Look → Look → Env → List Action → Acts → Acts
+abbrev pub acts_of : Check → Valuation → Valuation → Env → List Action → Acts → Acts
 acts_of c s t env [] acts = acts
 acts_of c s t env (a ∷ more) acts =
     acts_of c s t env more (λ x. cond (bytes_eq a.title x) (Some (λ v. with_argument a.parameter v env (λ e. body_holds c s t e acts a.body))) (acts x))
@@ -150,29 +132,29 @@ process_set_defined (Some e) = record { title = codes "ProcSet"; params = []; bo
 abbrev pub definitions_of : Module → List Definition
 definitions_of m = defined_in m.before ++ m.region.definitions ++ process_set_defined m.region.process_set
 
-abbrev pub scope : Check → Module → Look → Look → Look → Env
+abbrev pub scope : Check → Module → Valuation → Valuation → Valuation → Env
 scope c m constants s t = scope_of c constants (definitions_of m) s t
 
 abbrev pub terminating : Region → Action
 terminating r = record { title = codes "Terminating"; parameter = None; body = all_of (item (test r.ended) (item (unchanged r.vars) no_items)) }
 
-abbrev pub acts_in : Check → Module → Look → Look → Look → Acts
+abbrev pub acts_in : Check → Module → Valuation → Valuation → Valuation → Acts
 acts_in c m constants s t = acts_of c s t (scope c m constants s t) (m.region.actions ++ (terminating m.region ∷ [])) no_acts
 
 -- Next on (s, t)
-abbrev pub next_holds : Check → Module → Look → Look → Look → Verdict
+abbrev pub next_holds : Check → Module → Valuation → Valuation → Valuation → Verdict
 next_holds c m constants s t = some_way_holds c (scope c m constants s t) (acts_in c m constants s t) m.region.next
 
 abbrev pub all_hold : Check → Env → List Tree → Verdict
-all_hold c env [] = told true
-all_hold c env (e ∷ es) = and_then (on_test c env e told) (all_hold c env es)
+all_hold c env [] = Ok true
+all_hold c env (e ∷ es) = and_then (on_test c env e Ok) (all_hold c env es)
 
 -- Init on s
-abbrev pub init_holds : Check → Module → Look → Look → Verdict
+abbrev pub init_holds : Check → Module → Valuation → Valuation → Verdict
 init_holds c m constants s = all_hold c (scope c m constants s no_state) m.region.init
 
 -- an action of that name alone, with that argument
-abbrev pub action_holds : Check → Module → Look → Look → Look → Word → Option Value → Verdict
+abbrev pub action_holds : Check → Module → Valuation → Valuation → Valuation → Word → Option Value → Verdict
 action_holds c m constants s t a v = acted (acts_in c m constants s t a) v
 
 -- ---- the part of one process in Next
@@ -228,11 +210,11 @@ called_for acts v (call_with a e) = acted (acts a) (Some v)
 
 abbrev pub cases_for : Check → Env → Acts → Value → List Way → List Tree → Verdict
 cases_for c env acts v (y ∷ ys) (e ∷ es) =
-    or_all (on c env e (λ w. as_set (place_of e) w (λ vs. cond (holds v vs) (called_for acts v (call_of y)) (told false)))) (cases_for c env acts v ys es)
-cases_for c env acts v _ _ = told false
+    or_all (on c env e (λ w. as_set (place_of e) w (λ vs. cond (holds v vs) (called_for acts v (call_of y)) (Ok false)))) (cases_for c env acts v ys es)
+cases_for c env acts v _ _ = Ok false
 
 abbrev pub all_for : Acts → Value → List Way → Verdict
-all_for acts v [] = told false
+all_for acts v [] = Ok false
 all_for acts v (y ∷ ys) = or_all (called_for acts v (call_of y)) (all_for acts v ys)
 
 -- v's own action, or a procedure's with v for `self`; in an algorithm without processes, all but Terminating
@@ -242,11 +224,5 @@ mine_by c env acts m (Some v) =
     or_all (cases_for c env acts v (where_not is_procedure (steps_of m)) (sets_of (where_not is_procedure (steps_of m)) m.region.process_set))
     (all_for acts v (where_so is_procedure (steps_of m)))
 
-abbrev pub mine_holds : Check → Module → Look → Look → Look → Option Value → Verdict
+abbrev pub mine_holds : Check → Module → Valuation → Valuation → Valuation → Option Value → Verdict
 mine_holds c m constants s t v = mine_by c (scope c m constants s t) (acts_in c m constants s t) m v
-
--- ----
-
--- a truth, never a fault, and yes exactly where this is so
-abbrev pub Tells : Verdict → Type 0 → Type 0
-Tells r P = (b : Bool) × (r ≡ told b) × (b ≡ true ↔ P)

@@ -4,7 +4,7 @@ use Rattle.tla_token.specs.declared.place.Place.{Place}
 use Rattle.tla_token.specs.Words.{is_own}
 use Rattle.tla_expr.specs.declared.op.Op.TheVariants as op
 use Rattle.tla_expr.specs.Tree.{Word, Tree}
-use Rattle.tla_expr.specs.Lexical.{Tk, sign, mark, key}
+use Rattle.tla_expr.specs.Lexical.{ExprToken, sign, mark, key}
 use Rattle.tla_expr.specs.Lexical as tk
 use Rattle.tla_expr.specs.Spelling.{Phrase, Right, Good}
 use Rattle.tla_expr.specs.Spelling as spelled
@@ -187,7 +187,7 @@ abbrev pub begins_list : List tk.Token → Bool
 begins_list [] = false
 begins_list (t ∷ ts) = is_bullet t.kind
   where
-    is_bullet : Tk → Bool
+    is_bullet : ExprToken → Bool
     is_bullet (sign op.And) = true
     is_bullet (sign op.Or) = true
     is_bullet _ = false

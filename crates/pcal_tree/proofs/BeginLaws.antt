@@ -1,10 +1,10 @@
 -- A step of the expanded statements begins with the expansion of what the step begins with.
 use Rattle.std.proofs.Common.{◌≡◌, Bool, true, false, cond, bytes_eq, Option, Some, None, refl, sym, ◌∙◌, ap}
 use Rattle.tla_expr.specs.Tree.{Word, Trees}
-use Rattle.pcal_tree.specs.Algorithm.{Span, Statement, assign, await, print, assert, skip, branch, either, with, loop, jump, macro, invoke, leave, Statements, done, then, mark, Branches, no_branches, or}
+use Rattle.pcal_tree.specs.Algorithm.{Span, Statement, assign, await, print, assert, skip, branch, either, with, while, goto, macro, call, return, Statements, done, then, mark, Branches, no_branches, or}
 use Rattle.pcal_tree.specs.Run.{unlabelled, label_of}
 use Rattle.pcal_tree.specs.Choices.{or_else}
-use Rattle.pcal_tree.specs.Begin.{Begin, begin_in, begin, begin_some}
+use Rattle.pcal_tree.specs.StepStart.{Begin, begin_in, begin, begin_some}
 use Rattle.pcal_tree.specs.Expand.{joined, Writing, expand_one, expand, expand_some, expand_begin}
 use Rattle.pcal_tree.proofs.ExpandRuns.{opens_joined, no_label}
 use Rattle.pcal_tree.specs.Clean.{Calls, CallsOne, CallsSome, Opens, BareOne, Bare, BareSome}
@@ -19,7 +19,7 @@ mutual
   none_one l here (branch e a b) x h = or_none _ _ (none_in l unlabelled a x h.0) (none_in l unlabelled b x h.1)
   none_one l here (either bs) x h = none_some l bs x h
   none_one l here (with bs b) x h = none_in l unlabelled b x h
-  none_one l here (loop e b) x h = none_in l unlabelled b here h
+  none_one l here (while e b) x h = none_in l unlabelled b here h
   none_one l here _ x h = refl
 
   pub none_in : (l here : Word) (ss : Statements) (x : Word) → Bare ss → begin l here ss x ≡ None
@@ -74,15 +74,15 @@ mutual
       (λ i. or_else (begin_some l (expand_some X bs) (q i)) (begin l unlabelled rest x)) ∙ ap (λ o. or_else o (begin l unlabelled rest x)) (begin_expanded_some X P w l bs h y)
   begin_expanded_one X P w l here at (with bs b) h rest x y q =
       (λ i. or_else (begin l unlabelled (expand X b) (q i)) (begin l unlabelled rest x)) ∙ ap (λ o. or_else o (begin l unlabelled rest x)) (begin_expanded X P w l unlabelled b h y)
-  begin_expanded_one X P w l here at (loop e b) h rest x y q = ap (λ o. or_else o (begin l unlabelled rest x)) (begin_expanded X P w l unlabelled b h here)
+  begin_expanded_one X P w l here at (while e b) h rest x y q = ap (λ o. or_else o (begin l unlabelled rest x)) (begin_expanded X P w l unlabelled b h here)
   begin_expanded_one X P w l here at (assign ms) h rest x y q = refl
   begin_expanded_one X P w l here at (await e) h rest x y q = refl
   begin_expanded_one X P w l here at (print e) h rest x y q = refl
   begin_expanded_one X P w l here at (assert e) h rest x y q = refl
   begin_expanded_one X P w l here at skip h rest x y q = refl
-  begin_expanded_one X P w l here at (jump m) h rest x y q = refl
-  begin_expanded_one X P w l here at (invoke p ts) h rest x y q = refl
-  begin_expanded_one X P w l here at leave h rest x y q = refl
+  begin_expanded_one X P w l here at (goto m) h rest x y q = refl
+  begin_expanded_one X P w l here at (call p ts) h rest x y q = refl
+  begin_expanded_one X P w l here at return h rest x y q = refl
 
   pub begin_expanded : (X : Writing) (P : Word → Trees → Type 0) → WrittenBare X P → (l here : Word) (ss : Statements) → Calls P ss → (x : Word) → begin l here (expand X ss) x ≡ expand_begin X (begin l here ss x)
   begin_expanded X P w l here done h x = refl

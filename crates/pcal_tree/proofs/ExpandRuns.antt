@@ -1,11 +1,11 @@
 -- The expanded statements take the same courses.
-use Rattle.std.proofs.Common.{◌≡◌, List, [], ◌∷◌, Bool, true, false, cond, bytes_eq, Option, Some, None, refl, sym, ◌∙◌, ap}
+use Rattle.std.proofs.Common.{◌≡◌, List, [], ◌∷◌, Bool, true, false, cond, bytes_eq, Option, Some, None, refl, sym, ◌∙◌, ap, Ok}
 use Rattle.tla_token.specs.declared.place.Place.{Place}
 use Rattle.tla_expr.specs.Tree.{Word, Tree, Trees, no_trees, tree, Graft}
 use Rattle.tla_value.specs.Stops.{Check}
 use Rattle.tla_value.specs.Meaning.{evals}
-use Rattle.pcal_tree.specs.Algorithm.{Name, Span, Binds, no_binds, one_of, is, Statement, assign, await, print, assert, skip, branch, either, with, loop, jump, macro, invoke, leave, Statements, done, then, mark, Branches, no_branches, or, Macro}
-use Rattle.pcal_tree.specs.Scope.{State, faulty, got, all_valued, Scope, bound, places_of, reach_in, through, value_of, test, members}
+use Rattle.pcal_tree.specs.Algorithm.{Name, Span, Binds, no_binds, one_of, is, Statement, assign, await, print, assert, skip, branch, either, with, while, goto, macro, call, return, Statements, done, then, mark, Branches, no_branches, or, Macro}
+use Rattle.pcal_tree.specs.Scope.{State, fault, all_valued, Scope, bound, places_of, reach_in, through, value_of, test, members}
 use Rattle.tla_value.specs.declared.fault.FaultKind.TheVariants.{AssertFailed}
 use Rattle.pcal_tree.specs.Assign.{moved}
 use Rattle.pcal_tree.specs.Run.{Course, chooses, course, held, stops, after, at_each, Follow, Rules, unlabelled, label_of, run_binds, run_one, run, run_branches, arguments, Calling, with_calls, called, with_macros}
@@ -92,18 +92,18 @@ mutual
   expand_runs_one M f X P w here at (either bs) h sc free K L rest q = λ i s. chooses at.first (expand_runs_some M f X P w bs h sc free K _ q i s)
   expand_runs_one M f X P w here at (with bs b) h sc free K L rest q =
       λ i s. binds_same M.check at.first bs (λ inner. run (with_calls M f) unlabelled b inner K) (λ inner. run (with_macros M []) unlabelled (expand X b) inner (following (with_macros M []) rest sc L)) (λ inner k. expand_runs M f X P w unlabelled b h inner k K (following (with_macros M []) rest sc L) q) sc free s i
-  expand_runs_one M f X P w here at (loop e b) h sc free K L rest q =
-      λ i s. after (test M.check e sc s) (λ yes. cond yes (expand_runs M f X P w unlabelled b h sc free (record { label = here; goes = M.go here }) (record { label = here; goes = M.go here }) refl i) (q i).goes s)
+  expand_runs_one M f X P w here at (while e b) h sc free K L rest q =
+      λ i s. after (test M.check e sc s) (λ yes. cond yes (expand_runs M f X P w unlabelled b h sc free (record { label = here; goes = M.goto here }) (record { label = here; goes = M.goto here }) refl i) (q i).goes s)
   expand_runs_one M f X P w here at (assign ms) h sc free K L rest q = λ i s. after (moved M.check ms sc s) (q i).goes
   expand_runs_one M f X P w here at (await e) h sc free K L rest q = λ i s. after (test M.check e sc s) (λ b. cond b (q i).goes (λ u. held at.first) s)
   expand_runs_one M f X P w here at (print e) h sc free K L rest q = λ i s. after (value_of M.check e sc s) (λ v. (q i).goes s)
   expand_runs_one M f X P w here at (assert e) h sc free K L rest q =
-      λ i s. after (test M.check e sc s) (λ b. cond b (q i).goes (λ u. stops (faulty AssertFailed at.first)) s)
+      λ i s. after (test M.check e sc s) (λ b. cond b (q i).goes (λ u. stops (fault AssertFailed at.first)) s)
   expand_runs_one M f X P w here at skip h sc free K L rest q = λ i s. (q i).goes s
-  expand_runs_one M f X P w here at (jump l) h sc free K L rest q = refl
-  expand_runs_one M f X P w here at (invoke p ts) h sc free K L rest q =
-      λ i s. after (all_valued (evals M.check ts) (sc.env s) got) (λ vs. M.enter at.first p.word (places_of ts sc) vs (q i).label s)
-  expand_runs_one M f X P w here at leave h sc free K L rest q = refl
+  expand_runs_one M f X P w here at (goto l) h sc free K L rest q = refl
+  expand_runs_one M f X P w here at (call p ts) h sc free K L rest q =
+      λ i s. after (all_valued (evals M.check ts) (sc.env s) Ok) (λ vs. M.call at.first p.word (places_of ts sc) vs (q i).label s)
+  expand_runs_one M f X P w here at return h sc free K L rest q = refl
 
   expand_runs : (M : Rules) (f : Calling) (X : Writing) (P : Word → Trees → Type 0) → Written M f X P → (here : Word) (ss : Statements) → Calls P ss → (sc : Scope) → Free sc → (K L : Follow) → K ≡ L → run (with_calls M f) here ss sc K ≡ run (with_macros M []) here (expand X ss) sc L
   expand_runs M f X P w here done h sc free K L q = λ i. (q i).goes

@@ -3,7 +3,7 @@ use Rattle.std.proofs.Common.{◌≡◌, ℕ, suc, List, [], ◌∷◌, ◌++◌
 use Rattle.tla_token.specs.declared.place.Place.{Place}
 use Rattle.tla_token.specs.declared.rule.Rule.TheVariants.{FirstLabel}
 use Rattle.tla_expr.specs.Tree.{Word}
-use Rattle.pcal_tree.specs.Algorithm.{Statement, assign, await, print, assert, skip, branch, either, with, loop, jump, macro, invoke, leave, Statements, done, then, mark, Branches, no_branches, or, Macro, Process, Procedure, Main, alone, processes, Algorithm, numbered, first_procedure, first_process, procedure_routine, process_routine, procedure_routines, main_routines}
+use Rattle.pcal_tree.specs.Algorithm.{Statement, assign, await, print, assert, skip, branch, either, with, while, goto, macro, call, return, Statements, done, then, mark, Branches, no_branches, or, Macro, Process, Procedure, Main, alone, processes, Algorithm, numbered, first_procedure, first_process, procedure_routine, process_routine, procedure_routines, main_routines}
 use Rattle.pcal_tree.specs.OffencesLabels.{label_words, Effects, nothing, Before, at_label, at_first, inside, next, behind_one, procedure_effects, outer_effects}
 use Rattle.pcal_tree.specs.Labelled.{added_name, Supply, number, after_one, labelled_if, needs_label, before, add_inside, add, add_some, add_to_macros, add_to_procedures, add_to_processes, add_to_main, typed_labels, with_labels, is_alone, no_words, labelled}
 use Rattle.pcal_tree.specs.Step as Step
@@ -59,18 +59,18 @@ mutual
       clear_add D new Q E (inside p.variables) t b _ q (every_right D (Step.labels a) (Step.labels b) h) (λ b' u o d.
       k (branch e a' b') u o (every_both D (Step.labels a') (Step.labels b') c d)))
   clear_inside D new Q E p s (either bs) go r h k = clear_add_some D new Q E (inside p.variables) s bs _ r h (λ bs' t q c. k (either bs') t q c)
-  clear_inside D new Q E p s (loop e b) go r h k =
-      clear_add D new Q E (inside (behind_one E (loop e b) p.labelled p.variables)) s b _ r h (λ b' t q c. k (loop e b') t q c)
+  clear_inside D new Q E p s (while e b) go r h k =
+      clear_add D new Q E (inside (behind_one E (while e b) p.labelled p.variables)) s b _ r h (λ b' t q c. k (while e b') t q c)
   clear_inside D new Q E p s (with bs b) go r h k = k (with bs b) s r h
   clear_inside D new Q E p s (assign ms) go r h k = k (assign ms) s r h
   clear_inside D new Q E p s (await e) go r h k = k (await e) s r h
   clear_inside D new Q E p s (print e) go r h k = k (print e) s r h
   clear_inside D new Q E p s (assert e) go r h k = k (assert e) s r h
   clear_inside D new Q E p s skip go r h k = k skip s r h
-  clear_inside D new Q E p s (jump l) go r h k = k (jump l) s r h
+  clear_inside D new Q E p s (goto l) go r h k = k (goto l) s r h
   clear_inside D new Q E p s (macro m ts) go r h k = k (macro m ts) s r h
-  clear_inside D new Q E p s (invoke m ts) go r h k = k (invoke m ts) s r h
-  clear_inside D new Q E p s leave go r h k = k leave s r h
+  clear_inside D new Q E p s (call m ts) go r h k = k (call m ts) s r h
+  clear_inside D new Q E p s return go r h k = k return s r h
 
   clear_add : {R : Type 0} (D : Word → Type 0) → Added D
       → (Q : R → Type 0) (E : Effects) (p : Before) (s : Supply) (b : Statements) (go : Statements → Supply → R)

@@ -1,16 +1,16 @@
 -- Each process stands at one label at most: written labels are apart, and what a process runs are routines of the algorithm.
-use Rattle.std.proofs.Common.{◌≡◌, ℕ, suc, ◌+◌, ◌<◌, ◌≤◌, length, List, [], ◌∷◌, ◌++◌, Bool, true, false, ◌||◌, cond, bytes_eq, codes, Some, refl, sym, ◌∙◌, ap, subst, inl, inr, ◌⊎◌, arith}
+use Rattle.std.proofs.Common.{◌≡◌, ℕ, suc, ◌+◌, ◌<◌, ◌≤◌, length, List, [], ◌∷◌, ◌++◌, Bool, true, false, ◌||◌, cond, bytes_eq, codes, Some, refl, sym, ◌∙◌, ap, subst, inl, inr, ◌⊎◌, arith, Ok, Err}
 use Rattle.std.specs.Ordering.{is_lt}
 use Rattle.tla_token.specs.declared.place.Place.{Place}
 use Rattle.tla_token.specs.Signs.{is_among}
 use Rattle.tla_expr.specs.Tree.{Word}
 use Rattle.tla_value.specs.declared.fault.FaultKind.TheVariants.{SameIdentifier}
-use Rattle.tla_value.specs.Value.{Values, no_values, and, Outcome, good, fault, over, set, text}
+use Rattle.tla_value.specs.Value.{Value, Values, no_values, and, Outcome, fault, over, set, text}
 use Rattle.tla_value.specs.Order.{order, set_from}
 use Rattle.pcal_tree.specs.Algorithm.{Process, Main, alone, processes, Algorithm, Routine, numbered, first_procedure, first_process, procedure_routine, process_routine, alone_routine, procedure_routines, main_routines, routines}
 use Rattle.pcal_tree.specs.Run.{unlabelled}
-use Rattle.pcal_tree.specs.Scope.{State, faulty, Got, got, bad, on, valued}
-use Rattle.pcal_tree.specs.Begin.{Begin, at_label}
+use Rattle.pcal_tree.specs.Scope.{State, fault, Outcome, ◌>>=◌}
+use Rattle.pcal_tree.specs.StepStart.{Begin, at_label}
 use Rattle.pcal_tree.specs.Program.{Program, Actor}
 use Rattle.pcal_tree.specs.Calls.{label_name}
 use Rattle.pcal_tree.specs.OffencesLabels.{label_words}
@@ -36,36 +36,36 @@ own_of : (u : Routine) (us : List Routine) (vs : Values) → OneOf u us → Ever
 own_of u us no_values h = tt
 own_of u us (and v vs) h = (h, own_of u us vs h)
 
-got_is : {X : Type 0} {x y : X} → got x ≡ got y → x ≡ y
+got_is : {X : Type 0} {x y : X} → ◌≡◌ {A = Outcome X} (Ok x) (Ok y) → x ≡ y
 got_is e = cc
 
 own_all : (P : Program) (us : List Routine) (n : ℕ) (ps : List Process) → ((u : Routine) → OneOf u (numbered process_routine n ps) → OneOf u us)
-    → (vs : List Actor) → all_actors P n ps ≡ got vs → Every (Own us) vs
+    → (vs : List Actor) → all_actors P n ps ≡ Ok vs → Every (Own us) vs
 own_all P us n [] h vs e = subst (Every (Own us)) (got_is e) tt
 own_all P us n (p ∷ ps) h vs e = by (own_all P us (suc n) ps (λ u k. h u (inr k))) (identifiers_of P p) e
   where
-    by_rest : (is : Values) (o : Got (List Actor)) → ((ws : List Actor) → o ≡ got ws → Every (Own us) ws)
-        → on o (λ more. got (actors_of (process_routine n p) is ++ more)) ≡ got vs → Every (Own us) vs
-    by_rest is (got ws) ih e =
+    by_rest : (is : Values) (o : Outcome (List Actor)) → ((ws : List Actor) → o ≡ Ok ws → Every (Own us) ws)
+        → o >>= (λ more. Ok (actors_of (process_routine n p) is ++ more)) ≡ Ok vs → Every (Own us) vs
+    by_rest is (Ok ws) ih e =
         subst (Every (Own us)) (got_is e)
         (every_both (Own us) (actors_of (process_routine n p) is) ws (own_of (process_routine n p) us is (h (process_routine n p) (inl refl)))
         (ih ws refl))
-    by_rest is (bad k) ih e = cc
+    by_rest is (Err k) ih e = cc
 
-    by : ((ws : List Actor) → all_actors P (suc n) ps ≡ got ws → Every (Own us) ws) → (o : Got Values)
-        → on o (λ is. on (all_actors P (suc n) ps) (λ more. got (actors_of (process_routine n p) is ++ more))) ≡ got vs → Every (Own us) vs
-    by ih (got is) e = by_rest is (all_actors P (suc n) ps) ih e
-    by ih (bad k) e = cc
+    by : ((ws : List Actor) → all_actors P (suc n) ps ≡ Ok ws → Every (Own us) ws) → (o : Outcome Values)
+        → o >>= (λ is. (all_actors P (suc n) ps) >>= (λ more. Ok (actors_of (process_routine n p) is ++ more))) ≡ Ok vs → Every (Own us) vs
+    by ih (Ok is) e = by_rest is (all_actors P (suc n) ps) ih e
+    by ih (Err k) e = cc
 
-own_apart : (us : List Routine) (earlier vs ws : List Actor) → Every (Own us) earlier → Every (Own us) vs → apart earlier vs ≡ got ws
+own_apart : (us : List Routine) (earlier vs ws : List Actor) → Every (Own us) earlier → Every (Own us) vs → apart earlier vs ≡ Ok ws
     → Every (Own us) ws
 own_apart us earlier [] ws h k e = subst (Every (Own us)) (got_is e) h
 own_apart us earlier (v ∷ vs) ws h k e =
     by (own_apart us (earlier ++ (v ∷ [])) vs ws (every_both (Own us) earlier (v ∷ []) h (k.0, tt)) k.1)
     (has_identifier (identifier v.self) earlier) e
   where
-    by : (apart (earlier ++ (v ∷ [])) vs ≡ got ws → Every (Own us) ws) → (b : Bool)
-        → cond b (bad (faulty SameIdentifier v.own.name.place)) (apart (earlier ++ (v ∷ [])) vs) ≡ got ws → Every (Own us) ws
+    by : (apart (earlier ++ (v ∷ [])) vs ≡ Ok ws → Every (Own us) ws) → (b : Bool)
+        → cond b (Err (fault SameIdentifier v.own.name.place)) (apart (earlier ++ (v ∷ [])) vs) ≡ Ok ws → Every (Own us) ws
     by ih true e = cc
     by ih false e = ih e
 
@@ -81,15 +81,15 @@ own_sorted : (us : List Routine) (vs : List Actor) → Every (Own us) vs → Eve
 own_sorted us [] h = tt
 own_sorted us (v ∷ vs) h = own_placed us v (sorted vs) h.0 (own_sorted us vs h.1)
 
-united_same : (P : Program) (at : Place) (vs ws : List Actor) → united P at vs ≡ got ws → vs ≡ ws
+united_same : (P : Program) (at : Place) (vs ws : List Actor) → united P at vs ≡ Ok ws → vs ≡ ws
 united_same P at vs ws e = by (P.check at (set (set_from (identifiers vs)))) e
   where
-    by : (o : Outcome) → valued o (λ w. got vs) ≡ got ws → vs ≡ ws
-    by (good v) e = got_is e
-    by (fault k p) e = cc
-    by (over p) e = cc
+    by : (o : Outcome Value) → o >>= (λ w. Ok vs) ≡ Ok ws → vs ≡ ws
+    by (Ok v) e = got_is e
+    by (Err (fault k p)) e = cc
+    by (Err (over p)) e = cc
 
-own_main : (P : Program) (m : Main) (vs : List Actor) → actors_in P m ≡ got vs → Every (Own (main_routines P.algorithm m)) vs
+own_main : (P : Program) (m : Main) (vs : List Actor) → actors_in P m ≡ Ok vs → Every (Own (main_routines P.algorithm m)) vs
 own_main P (alone ss) vs e = subst (Every (Own (main_routines P.algorithm (alone ss)))) (got_is e) (inl refl, tt)
 own_main P (processes ps) vs e = by_all (all_actors P (first_process P.algorithm) ps) (own_all P us (first_process P.algorithm) ps (λ u h. h)) e
   where
@@ -99,20 +99,20 @@ own_main P (processes ps) vs e = by_all (all_actors P (first_process P.algorithm
     at : Place
     at = last_place P.algorithm.name.place ps
 
-    by_union : (ws : List Actor) → Every (Own us) ws → (o : Got (List Actor)) → united P at ws ≡ o
-        → on o (λ us. got (sorted us)) ≡ got vs → Every (Own us) vs
-    by_union ws h (got ts) q e = subst (Every (Own us)) (got_is e) (own_sorted us ts (subst (Every (Own us)) (united_same P at ws ts q) h))
-    by_union ws h (bad k) q e = cc
+    by_union : (ws : List Actor) → Every (Own us) ws → (o : Outcome (List Actor)) → united P at ws ≡ o
+        → o >>= (λ us. Ok (sorted us)) ≡ Ok vs → Every (Own us) vs
+    by_union ws h (Ok ts) q e = subst (Every (Own us)) (got_is e) (own_sorted us ts (subst (Every (Own us)) (united_same P at ws ts q) h))
+    by_union ws h (Err k) q e = cc
 
-    by_apart : (ws : List Actor) → Every (Own us) ws → (o : Got (List Actor)) → apart [] ws ≡ o
-        → on o (λ ts. on (united P at ts) (λ us. got (sorted us))) ≡ got vs → Every (Own us) vs
-    by_apart ws h (got ts) q e = by_union ts (own_apart us [] ws ts tt h q) (united P at ts) refl e
-    by_apart ws h (bad k) q e = cc
+    by_apart : (ws : List Actor) → Every (Own us) ws → (o : Outcome (List Actor)) → apart [] ws ≡ o
+        → o >>= (λ ts. (united P at ts) >>= (λ us. Ok (sorted us))) ≡ Ok vs → Every (Own us) vs
+    by_apart ws h (Ok ts) q e = by_union ts (own_apart us [] ws ts tt h q) (united P at ts) refl e
+    by_apart ws h (Err k) q e = cc
 
-    by_all : (o : Got (List Actor)) → ((ws : List Actor) → o ≡ got ws → Every (Own us) ws)
-        → on o (λ ws. on (apart [] ws) (λ ts. on (united P at ts) (λ us. got (sorted us)))) ≡ got vs → Every (Own us) vs
-    by_all (got ws) h e = by_apart ws (h ws refl) (apart [] ws) refl e
-    by_all (bad k) h e = cc
+    by_all : (o : Outcome (List Actor)) → ((ws : List Actor) → o ≡ Ok ws → Every (Own us) ws)
+        → o >>= (λ ws. (apart [] ws) >>= (λ ts. (united P at ts) >>= (λ us. Ok (sorted us)))) ≡ Ok vs → Every (Own us) vs
+    by_all (Ok ws) h e = by_apart ws (h ws refl) (apart [] ws) refl e
+    by_all (Err k) h e = cc
 
 own_is_main : (P : Program) (v : Actor) → IsActor P v → OneOf v.own (main_routines P.algorithm P.algorithm.main)
 own_is_main P v h = every_one (Own (main_routines P.algorithm P.algorithm.main)) v h.0 (own_main P P.algorithm.main h.0 h.1) h.2
@@ -187,7 +187,7 @@ one_number a u w h k e =
 
 -- ---- one label
 
-text_is : (x y : Word) → got (text x) ≡ got (text y) → x ≡ y
+text_is : (x y : Word) → ◌≡◌ {A = Outcome Value} (Ok (text x)) (Ok (text y)) → x ≡ y
 text_is x y e = cc
 
 some_is : {X : Type 0} {x y : X} → Some x ≡ Some y → x ≡ y

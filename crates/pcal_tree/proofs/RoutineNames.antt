@@ -4,7 +4,7 @@ use Rattle.std.proofs.lemmas.Slice.Eq.{bytes_eq-Decides}
 use Rattle.std.proofs.lemmas.Bool.{and_parts, and_from, eqb-true, eq-eqb}
 use Rattle.std.proofs.lemmas.List.{map-append}
 use Rattle.tla_expr.specs.Tree.{Word}
-use Rattle.pcal_tree.specs.Algorithm.{Statement, branch, either, with, loop, Statements, done, then, mark, Branches, no_branches, or, Main, alone, processes, Algorithm, Routine, locals, procedure_routines, main_routines, routines}
+use Rattle.pcal_tree.specs.Algorithm.{Statement, branch, either, with, while, Statements, done, then, mark, Branches, no_branches, or, Main, alone, processes, Algorithm, Routine, locals, procedure_routines, main_routines, routines}
 use Rattle.pcal_tree.specs.Program.{declared}
 use Rattle.pcal_tree.specs.Offences.{each}
 use Rattle.pcal_tree.specs.OffencesLabels.{labels, labels_of_one, labels_of_some, label_words}
@@ -32,7 +32,7 @@ mutual
   words_in (branch e a b) = map-append (λ l. l.name.word) (labels false a) (labels false b) ∙ (λ i. words_at false a i ++ words_at false b i)
   words_in (either bs) = words_some bs
   words_in (with bs b) = words_at false b
-  words_in (loop e b) = words_at false b
+  words_in (while e b) = words_at false b
   words_in _ = refl
 
   words_at : (s : Bool) (b : Statements) → map (λ l. l.name.word) (labels s b) ≡ Step.labels b

@@ -79,14 +79,14 @@ p_text = record {
     place = at 26;
     name = n 27 (codes "M");
     parameters = part.some_names (at 28) (part.last_name (n 29 (codes "a"))) (at 30);
-    body = text.begin_end (at 31) (p.last_statement part.no_labels (p.simple (part.assign (part.last_move (v 32 (codes "a")) (at 33) (v 34 (codes "x"))))) (Some (at 35))) (at 36) (at 37) (Some (at 38));
+    body = text.begin_end (at 31) (p.last_statement part.no_labels (p.simple (part.assign (part.last_assignment (v 32 (codes "a")) (at 33) (v 34 (codes "x"))))) (Some (at 35))) (at 36) (at 37) (Some (at 38));
   } ∷ [];
   procedures = record {
     place = at 39;
     name = n 40 (codes "P");
     parameters = part.some_parameters (at 41) (part.last_parameter (n 42 (codes "b")) (part.equals (at 43) (v 44 (codes "x")))) (at 45);
     variables = part.section (at 46) true (part.last_variable (n 47 (codes "d")) part.unset (Some (part.by_semicolon (at 48))));
-    body = text.begin_end (at 49) (p.last_statement (part.label (n 50 (codes "K")) (part.colon (at 51)) part.no_labels) (p.simple (part.leave (at 52))) (Some (at 53))) (at 54) (at 55) (Some (at 56));
+    body = text.begin_end (at 49) (p.last_statement (part.label (n 50 (codes "K")) (part.colon (at 51)) part.no_labels) (p.simple (part.return (at 52))) (Some (at 53))) (at 54) (at 55) (Some (at 56));
   } ∷ [];
   main = text.processes (record {
     fair = text.strong (at 57) (at 58);
@@ -95,11 +95,11 @@ p_text = record {
     variables = part.section (at 63) true (part.last_variable (n 64 (codes "e")) (part.equals (at 65) (v 66 (codes "x"))) (Some (part.by_semicolon (at 67))));
     body = text.begin_end (at 68)
         (p.more_statements (part.label (n 69 (codes "L")) (part.colon_plus (at 70) (at 71)) part.no_labels)
-        (p.loop (at 72) (v 73 (codes "T")) (at 74) (p.last_statement part.no_labels (p.simple (part.invoke (at 75) (n 76 (codes "P")) (part.some_arguments (at 77) (spelled.last (v 78 (codes "x"))) (at 79)))) (Some (at 80))) (at 81) (at 82)) (at 83)
+        (p.loop (at 72) (v 73 (codes "T")) (at 74) (p.last_statement part.no_labels (p.simple (part.call (at 75) (n 76 (codes "P")) (part.some_arguments (at 77) (spelled.last (v 78 (codes "x"))) (at 79)))) (Some (at 80))) (at 81) (at 82)) (at 83)
         (p.last_statement part.no_labels
         (p.either (at 84) (p.last_statement part.no_labels (p.simple (part.await (at 85) (v 86 (codes "T")))) (Some (at 87)))
         (p.more_branches (at 88) (p.last_statement part.no_labels (p.simple (part.print (at 89) (v 90 (codes "x")))) (Some (at 91)))
-        (p.last_branch (at 92) (p.last_statement part.no_labels (p.simple (part.jump (at 93) (n 94 (codes "L")))) (Some (at 95))))) (at 96) (at 97)) (Some (at 98))))
+        (p.last_branch (at 92) (p.last_statement part.no_labels (p.simple (part.goto (at 93) (n 94 (codes "L")))) (Some (at 95))))) (at 96) (at 97)) (Some (at 98))))
         (at 99) (at 100) (Some (at 101));
   }) (record {
     fair = text.weak (at 102);
@@ -170,14 +170,14 @@ c_text = record {
     place = at 26;
     name = n 27 (codes "M");
     parameters = part.some_names (at 28) (part.last_name (n 29 (codes "a"))) (at 30);
-    body = text.braces (at 31) (c.last_statement (bare (c.simple (part.assign (part.last_move (v 32 (codes "a")) (at 33) (v 34 (codes "x")))))) (Some (at 35))) (at 36) None;
+    body = text.braces (at 31) (c.last_statement (bare (c.simple (part.assign (part.last_assignment (v 32 (codes "a")) (at 33) (v 34 (codes "x")))))) (Some (at 35))) (at 36) None;
   } ∷ [];
   procedures = record {
     place = at 37;
     name = n 38 (codes "P");
     parameters = part.some_parameters (at 39) (part.last_parameter (n 40 (codes "b")) (part.equals (at 41) (v 42 (codes "x")))) (at 43);
     variables = part.section (at 44) true (part.last_variable (n 45 (codes "d")) part.unset (Some (part.by_semicolon (at 46))));
-    body = text.braces (at 47) (c.last_statement (c.behind (part.label (n 48 (codes "K")) (part.colon (at 49)) part.no_labels) (c.simple (part.leave (at 50)))) (Some (at 51))) (at 52) None;
+    body = text.braces (at 47) (c.last_statement (c.behind (part.label (n 48 (codes "K")) (part.colon (at 49)) part.no_labels) (c.simple (part.return (at 50)))) (Some (at 51))) (at 52) None;
   } ∷ [];
   main = text.processes (record {
     fair = text.strong (at 53) (at 54);
@@ -186,11 +186,11 @@ c_text = record {
     variables = part.section (at 61) true (part.last_variable (n 62 (codes "e")) (part.equals (at 63) (v 64 (codes "x"))) (Some (part.by_semicolon (at 65))));
     body = text.braces (at 66)
         (c.more_statements (c.behind (part.label (n 67 (codes "L")) (part.colon_plus (at 68) (at 69)) part.no_labels)
-        (c.loop (at 70) (at 71) (v 72 (codes "T")) (at 73) (in_block (at 74) (part.invoke (at 75) (n 76 (codes "P")) (part.some_arguments (at 77) (spelled.last (v 78 (codes "x"))) (at 79))) (at 80) (at 81)))) (Some (at 82))
+        (c.loop (at 70) (at 71) (v 72 (codes "T")) (at 73) (in_block (at 74) (part.call (at 75) (n 76 (codes "P")) (part.some_arguments (at 77) (spelled.last (v 78 (codes "x"))) (at 79))) (at 80) (at 81)))) (Some (at 82))
         (c.last_statement (bare
         (c.either (at 83) (in_block (at 84) (part.await (at 85) (v 86 (codes "T"))) (at 87) (at 88))
         (c.more_branches None (at 89) (in_block (at 90) (part.print (at 91) (v 92 (codes "x"))) (at 93) (at 94))
-        (c.last_branch None (at 95) (in_block (at 96) (part.jump (at 97) (n 98 (codes "L"))) (at 99) (at 100)))))) (Some (at 101))))
+        (c.last_branch None (at 95) (in_block (at 96) (part.goto (at 97) (n 98 (codes "L"))) (at 99) (at 100)))))) (Some (at 101))))
         (at 102) None;
   }) (record {
     fair = text.weak (at 103);

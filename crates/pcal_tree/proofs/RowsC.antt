@@ -15,7 +15,7 @@ use Rattle.pcal_tree.specs.declared.mark.Mark.TheVariants as fair
 use Rattle.pcal_tree.specs.Algorithm.{Name, Statements}
 use Rattle.pcal_tree.specs.Algorithm as tree
 use Rattle.pcal_tree.specs.GrammarView.{views}
-use Rattle.pcal_tree.specs.GrammarParts.{assign, last_move, skip, label, no_labels, colon}
+use Rattle.pcal_tree.specs.GrammarParts.{assign, last_assignment, skip, label, no_labels, colon}
 use Rattle.pcal_tree.specs.GrammarC.{Statement, Labelled, Sequence, simple, branch, either, compound, behind, no_else, else_then, last_branch, last_statement, more_statements, sequence, statements, GoodSequence, GoodStatement}
 use Rattle.pcal_tree.specs.Grammar.{p_syntax, c_syntax}
 use Rattle.pcal_tree.specs.Printed as printed
@@ -31,7 +31,7 @@ abbrev SpellStatements : List Token → Statements → Type 0
 SpellStatements ts ss = (x : Sequence) × GoodSequence x × (views ts ≡ sequence x []) × (statements x ≡ ss)
 
 abbrev sets : ℕ → Word → ℕ → ℕ → ℕ → Statement
-sets k x e f v = simple (assign (last_move (spelled.name (at k) x) (at e) (spelled.number (at f) v)))
+sets k x e f v = simple (assign (last_assignment (spelled.name (at k) x) (at e) (spelled.number (at f) v)))
 
 abbrev plain : Statement → Labelled
 plain st = behind no_labels st
@@ -50,7 +50,7 @@ abbrev name_at : ℕ → Word → Tree
 name_at k x = node (expr.name x) (at k) no_trees
 
 abbrev set_tree : ℕ → Word → ℕ → ℕ → tree.Statement
-set_tree k x f v = tree.assign (tree.move (name_at k x) (number_at f v) tree.no_moves)
+set_tree k x f v = tree.assign (tree.assignment (name_at k x) (number_at f v) tree.no_assignments)
 
 abbrev then : ℕ → ℕ → tree.Statement → Statements → Statements
 then a b st rest = tree.then (record { first = at a; last = at b }) st rest

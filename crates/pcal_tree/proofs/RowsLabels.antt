@@ -6,7 +6,7 @@ use Rattle.tla_expr.specs.declared.op.Op.TheVariants.{Plus, Less, Equal}
 use Rattle.tla_expr.specs.Tree.{Word, no_trees, tree}
 use Rattle.pcal_tree.specs.declared.mark.Fairness.TheVariants.{Unfair}
 use Rattle.pcal_tree.specs.declared.mark.Mark.TheVariants.{Plain}
-use Rattle.pcal_tree.specs.Algorithm.{no_moves, move, no_binds, is, Statement, assign, skip, branch, with, loop, jump, macro, leave, Statements, done, then, mark, Macro, Procedure, Process, processes, Algorithm}
+use Rattle.pcal_tree.specs.Algorithm.{no_assignments, assignment, no_binds, is, Statement, assign, skip, branch, with, while, goto, macro, return, Statements, done, then, mark, Macro, Procedure, Process, processes, Algorithm}
 use Rattle.pcal_tree.specs.Offences.{first}
 use Rattle.pcal_tree.specs.OffencesLabels.{label_offences}
 use Rattle.pcal_tree.specs.Labelled.{labelled}
@@ -27,7 +27,7 @@ alg ms b = (one_body ms b).algorithm
 abbrev counting : Statements
 counting =
     stands 1 (sets (var x) (num 1))
-    (stands 2 (loop (over Less (var x) (num 3)) (
+    (stands 2 (while (over Less (var x) (num 3)) (
     stands 3 (sets (var x) (over Plus (var x) (num 1)))
     (stands 4 (branch (over Equal (var y) (num 0)) (stands 5 (sets (var x) (num 0)) done) done)
     (stands 6 (sets (var y) (over Plus (var y) (num 1))) done))))
@@ -37,7 +37,7 @@ counting =
 abbrev counting_labelled : Statements
 counting_labelled =
     label 1 (codes "Lbl_1") (stands 1 (sets (var x) (num 1))
-    (label 2 (codes "Lbl_2") (stands 2 (loop (over Less (var x) (num 3)) (
+    (label 2 (codes "Lbl_2") (stands 2 (while (over Less (var x) (num 3)) (
     stands 3 (sets (var x) (over Plus (var x) (num 1)))
     (stands 4 (branch (over Equal (var y) (num 0)) (label 5 (codes "Lbl_3") (stands 5 (sets (var x) (num 0)) done)) done)
     (label 6 (codes "Lbl_4") (stands 6 (sets (var y) (over Plus (var y) (num 1))) done)))))
@@ -74,11 +74,11 @@ two_paths : label_offences (alg [] (label 1 (codes "A") (stands 2 (branch (over 
 two_paths = refl
 
 -- A: x[1] := 1 || x[2] := 2
-two_parts : label_offences (alg [] (label 1 (codes "A") (stands 2 (assign (move (item (var x) (num 1)) (num 1) (move (item (var x) (num 2)) (num 2) no_moves))) done))) ≡ []
+two_parts : label_offences (alg [] (label 1 (codes "A") (stands 2 (assign (assignment (item (var x) (num 1)) (num 1) (assignment (item (var x) (num 2)) (num 2) no_assignments))) done))) ≡ []
 two_parts = refl
 
 -- A: x := 1 || x[2] := 2
-whole_and_part : label_offences (alg [] (label 1 (codes "A") (stands 2 (assign (move (var x) (num 1) (move (item (var x) (num 2)) (num 2) no_moves))) done))) ≡ record { rule = AssignTwice; place = at 2 } ∷ []
+whole_and_part : label_offences (alg [] (label 1 (codes "A") (stands 2 (assign (assignment (var x) (num 1) (assignment (item (var x) (num 2)) (num 2) no_assignments))) done))) ≡ record { rule = AssignTwice; place = at 2 } ∷ []
 whole_and_part = refl
 
 -- macro M(p) begin p := 1; end macro
@@ -102,13 +102,13 @@ before_the_outermost = refl
 
 -- A: goto B; return; with z = 0 do with w = 0 do A: skip; end with; end with
 all_at_once :
-    label_offences (alg [] (label 1 (codes "A") (stands 5 (jump (codes "B")) (stands 6 leave (nested (label 7 (codes "A") (stands 8 skip done)))))))
+    label_offences (alg [] (label 1 (codes "A") (stands 5 (goto (codes "B")) (stands 6 return (nested (label 7 (codes "A") (stands 8 skip done)))))))
     ≡ record { rule = AfterJump; place = at 6 } ∷ record { rule = AfterJump; place = at 2 } ∷ record { rule = UnknownLabel; place = at 5 } ∷ record { rule = ReturnOutside; place = at 6 } ∷ record { rule = LabelInside; place = at 7 } ∷ record { rule = DoubleLabel; place = at 7 } ∷ []
 all_at_once = refl
 
 -- procedure P(a = 0) begin A: a := 1; return; end procedure, and processes P and Q without labels
 abbrev proc : Procedure
-proc = record { name = title (codes "P"); params = variable (codes "a") (num 0) ∷ []; variables = []; body = label 1 (codes "A") (stands 2 (sets (var (codes "a")) (num 1)) (stands 3 leave done)) }
+proc = record { name = title (codes "P"); params = variable (codes "a") (num 0) ∷ []; variables = []; body = label 1 (codes "A") (stands 2 (sets (var (codes "a")) (num 1)) (stands 3 return done)) }
 
 abbrev idle : ℕ → Statements → Process
 idle n b = record { name = title (codes "Q"); fairness = Unfair; several = false; identity = num n; variables = []; body = b }
@@ -125,7 +125,7 @@ in_all_bodies = refl
 -- one numbering for all bodies
 numbered_through :
     labelled true (several proc (stands 4 skip done) (stands 5 skip done))
-    ≡ several (record proc { body = label 1 (codes "A") (stands 2 (sets (var (codes "a")) (num 1)) (label 3 (codes "Lbl_1") (stands 3 leave done))) })
+    ≡ several (record proc { body = label 1 (codes "A") (stands 2 (sets (var (codes "a")) (num 1)) (label 3 (codes "Lbl_1") (stands 3 return done))) })
     (label 4 (codes "Lbl_2") (stands 4 skip done)) (label 5 (codes "Lbl_3") (stands 5 skip done))
 unfolding digits
 numbered_through = refl
@@ -135,5 +135,5 @@ none_in_processes : labelled false (several proc (stands 4 skip done) (stands 5 
 none_in_processes = refl
 
 -- A: while y = 0 do x := 1; end while; x := 2
-behind_a_loop : label_offences (alg [] (label 1 (codes "A") (stands 2 (loop (over Equal (var y) (num 0)) (stands 3 (sets (var x) (num 1)) done)) (stands 4 (sets (var x) (num 2)) done)))) ≡ []
+behind_a_loop : label_offences (alg [] (label 1 (codes "A") (stands 2 (while (over Equal (var y) (num 0)) (stands 3 (sets (var x) (num 1)) done)) (stands 4 (sets (var x) (num 2)) done)))) ≡ []
 behind_a_loop = refl

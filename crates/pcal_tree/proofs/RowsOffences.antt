@@ -3,8 +3,8 @@ use Rattle.std.proofs.Common.{◌≡◌, ℕ, List, [], ◌∷◌, false, codes,
 use Rattle.tla_token.specs.declared.rule.Rule.TheVariants.{Unknown, Arity, Duplicate, Reserved}
 use Rattle.tla_token.specs.declared.rule.Refusal.{Refusal}
 use Rattle.tla_expr.specs.declared.op.Binder.TheVariants.{ForAll}
-use Rattle.tla_expr.specs.Tree.{Word, Tree, node, name, call, binding, no_trees, tree}
-use Rattle.pcal_tree.specs.Algorithm.{no_binds, is, Name, Statement, await, with, macro, invoke, skip, Statements, done, then, Macro, processes, Algorithm}
+use Rattle.tla_expr.specs.Tree.{Word, Tree, node, name, operator_call, binding, no_trees, tree}
+use Rattle.pcal_tree.specs.Algorithm.{no_binds, is, Name, Statement, await, with, macro, call, skip, Statements, done, then, Macro, processes, Algorithm}
 use Rattle.pcal_tree.specs.Offences.{first}
 use Rattle.pcal_tree.specs.Outside.{Outside}
 use Rattle.pcal_tree.specs.OffencesNames.{use_offences_of, repeated_names}
@@ -51,10 +51,10 @@ only_the_set = refl
 arguments : uses [] (await (read 3 (codes "Len"))) ≡ record { rule = Arity; place = at 3 } ∷ []
 arguments = refl
 
-too_many : uses [] (await (node (call (codes "Len")) (at 3) (tree (read 4 x) (tree (read 5 y) no_trees)))) ≡ record { rule = Arity; place = at 3 } ∷ []
+too_many : uses [] (await (node (operator_call (codes "Len")) (at 3) (tree (read 4 x) (tree (read 5 y) no_trees)))) ≡ record { rule = Arity; place = at 3 } ∷ []
 too_many = refl
 
-no_procedure : uses [] (invoke (named 3 (codes "P")) no_trees) ≡ record { rule = Unknown; place = at 2 } ∷ []
+no_procedure : uses [] (call (named 3 (codes "P")) no_trees) ≡ record { rule = Unknown; place = at 2 } ∷ []
 no_procedure = refl
 
 -- macro M(p) begin await p; await q; end macro
@@ -80,7 +80,7 @@ declared_later : uses (too_early ∷ reading ∷ []) (macro (codes "K") no_trees
 declared_later = refl
 
 -- of an unknown name at 4 and a wrong number at 3, the lesser rule counts
-least_rule : first (uses [] (await (node (call (codes "Len")) (at 3) (tree (read 4 q) (tree (read 5 y) no_trees))))) ≡ Some (record { rule = Unknown; place = at 4 })
+least_rule : first (uses [] (await (node (operator_call (codes "Len")) (at 3) (tree (read 4 q) (tree (read 5 y) no_trees))))) ≡ Some (record { rule = Unknown; place = at 4 })
 least_rule = refl
 
 -- a process B and a process B

@@ -52,7 +52,7 @@ tokens =
 abbrev phrase : Sequence
 phrase = last_statement part.no_labels
     (branch (at 1) (spelled.name (at 4) (codes "a")) (at 6) (last_statement part.no_labels (simple (part.skip (at 11))) (Some (at 15)))
-    (else_if (at 17) (spelled.name (at 23) (codes "b")) (at 25) (last_statement part.no_labels (simple (part.leave (at 30))) None)
+    (else_if (at 17) (spelled.name (at 23) (codes "b")) (at 25) (last_statement part.no_labels (simple (part.return (at 30))) None)
     (else_then (at 37) (last_statement part.no_labels (simple (part.skip (at 42))) None)))
     (at 47) (at 51))
     (Some (at 53))
@@ -60,7 +60,7 @@ phrase = last_statement part.no_labels
 -- an `if` alone in the `else`, with the last token of the whole
 abbrev nested : Statements
 nested = then 1 51 (tree.branch (name_at 4 (codes "a")) (then 11 11 tree.skip tree.done)
-    (then 17 51 (tree.branch (name_at 23 (codes "b")) (then 30 30 tree.leave tree.done) (then 42 42 tree.skip tree.done)) tree.done)) tree.done
+    (then 17 51 (tree.branch (name_at 23 (codes "b")) (then 30 30 tree.return tree.done) (then 42 42 tree.skip tree.done)) tree.done)) tree.done
 
 else_and_if : SpellStatements tokens nested
 else_and_if = (phrase, search, refl, refl)
@@ -82,8 +82,8 @@ over o a b = node (strict (operator o)) (at 1) (tree a (tree b no_trees))
 abbrev item : Tree → Tree → Tree
 item f a = node (strict expr.apply) (at 1) (tree f (tree a no_trees))
 
-abbrev sets : Tree → Tree → tree.Moves → tree.Moves
-sets l e ms = tree.move l e ms
+abbrev sets : Tree → Tree → tree.Assignments → tree.Assignments
+sets l e ms = tree.assignment l e ms
 
 abbrev next : tree.Statement → Statements → Statements
 next st rest = then 1 1 st rest
@@ -101,12 +101,12 @@ abbrev y' : Word
 y' = codes "y"
 
 abbrev self_at : Statements
-self_at = tree.mark (n (codes "L")) marked.Strong (next (tree.loop (over op.Less (v x') (num 1))
+self_at = tree.mark (n (codes "L")) marked.Strong (next (tree.while (over op.Less (v x') (num 1))
     (next (tree.with (tree.one_of (n (codes "i")) (v (codes "S")) (tree.is (n (codes "j")) (num 0) tree.no_binds))
-    (next (tree.assign (sets (item (v y') (v (codes "i"))) (num 1) (sets (v x') (v (codes "j")) tree.no_moves))) tree.done)) tree.done))
-    (tree.mark (n (codes "M")) marked.LeftOut (next (tree.either (tree.or (next (tree.await (v (codes "T"))) tree.done) (tree.or (next (tree.invoke (n (codes "P")) (tree (v x') no_trees)) tree.done) tree.no_branches)))
+    (next (tree.assign (sets (item (v y') (v (codes "i"))) (num 1) (sets (v x') (v (codes "j")) tree.no_assignments))) tree.done)) tree.done))
+    (tree.mark (n (codes "M")) marked.LeftOut (next (tree.either (tree.or (next (tree.await (v (codes "T"))) tree.done) (tree.or (next (tree.call (n (codes "P")) (tree (v x') no_trees)) tree.done) tree.no_branches)))
     (tree.mark (n (codes "N")) marked.Plain (next (tree.branch (v (codes "T")) (next (tree.macro (codes "Put") (tree (v x') no_trees)) tree.done) tree.done)
-    (next (tree.jump (codes "L")) tree.done))))))
+    (next (tree.goto (codes "L")) tree.done))))))
 
 abbrev large : Algorithm
 large = record {
@@ -114,8 +114,8 @@ large = record {
   fair = true;
   globals = is x' (num 0) ∷ record { name = n y'; start = tree.among (v (codes "S")) } ∷ record { name = n (codes "z"); start = tree.unset } ∷ [];
   definitions = record { name = n (codes "T"); params = []; body = over op.Greater (v x') (num 0) } ∷ record { name = n (codes "F"); params = n a' ∷ n (codes "b") ∷ []; body = over op.Plus (v a') (v (codes "b")) } ∷ [];
-  macros = record { name = n (codes "Put"); params = n a' ∷ []; body = next (tree.assign (sets (v a') (num 1) tree.no_moves)) tree.done } ∷ [];
-  procedures = record { name = n (codes "P"); params = is a' (num 0) ∷ []; variables = is (codes "b") (num 1) ∷ []; body = tree.mark (n (codes "K")) marked.Plain (next tree.leave tree.done) } ∷ [];
+  macros = record { name = n (codes "Put"); params = n a' ∷ []; body = next (tree.assign (sets (v a') (num 1) tree.no_assignments)) tree.done } ∷ [];
+  procedures = record { name = n (codes "P"); params = is a' (num 0) ∷ []; variables = is (codes "b") (num 1) ∷ []; body = tree.mark (n (codes "K")) marked.Plain (next tree.return tree.done) } ∷ [];
   main = tree.processes (
       record { name = n (codes "Q"); fairness = fairness.Strong; several = true; identity = over op.Range (num 0) (num 1); variables = []; body = self_at }
       ∷ record { name = n (codes "R"); fairness = fairness.Unfair; several = false; identity = num 2; variables = is (codes "c") (num 0) ∷ []; body = tree.mark (n (codes "J")) marked.Plain (next tree.skip tree.done) } ∷ []);

@@ -14,7 +14,7 @@ use Rattle.tla_expr.specs.Tree as expr
 use Rattle.tla_expr.specs.Spelling.{Phrase}
 use Rattle.tla_expr.specs.Spelling as spelled
 use Rattle.pcal_tree.specs.declared.mark.Mark.TheVariants as marked
-use Rattle.pcal_tree.specs.Algorithm.{Name, Algorithm, Statement, assign, move, no_moves, done, then, mark, alone, equals}
+use Rattle.pcal_tree.specs.Algorithm.{Name, Algorithm, Statement, assign, assignment, no_assignments, done, then, mark, alone, equals}
 use Rattle.pcal_tree.specs.GrammarView.{kind_of, seen}
 use Rattle.pcal_tree.specs.GrammarParts as part
 use Rattle.pcal_tree.specs.GrammarP as p
@@ -45,7 +45,7 @@ sum_at l k a b = node (strict (operator op.Plus)) (at l k) (tree a (tree b no_tr
 
 -- x := x + 1, from a column of a line on
 abbrev increment : ℕ → ℕ → Statement
-increment l k = assign (move (name_at l k (codes "x")) (sum_at l (k + 5) (name_at l (k + 5) (codes "x")) (number_at l (k + 9) 1)) no_moves)
+increment l k = assign (assignment (name_at l k (codes "x")) (sum_at l (k + 5) (name_at l (k + 5) (codes "x")) (number_at l (k + 9) 1)) no_assignments)
 
 abbrev counted : Algorithm
 counted = record {
@@ -85,7 +85,7 @@ abbrev labels : part.Labels
 labels = part.label (n 4 3 (codes "A")) (part.colon (at 4 4)) part.no_labels
 
 abbrev move_phrase : part.Simple
-move_phrase = part.assign (part.last_move (spelled.name (at 4 6) (codes "x")) (at 4 8) (spelled.infix_of (spelled.name (at 4 11) (codes "x")) (at 4 13) op.Plus (spelled.number (at 4 15) 1)))
+move_phrase = part.assign (part.last_assignment (spelled.name (at 4 6) (codes "x")) (at 4 8) (spelled.infix_of (spelled.name (at 4 11) (codes "x")) (at 4 13) op.Plus (spelled.number (at 4 15) 1)))
 
 abbrev text_of : text.Around → text.Main → Text
 text_of r m = record { head = text.algorithm (at 1 1); name = n 1 13 (codes "Inc"); around = r; variables = variables; define = text.no_define; macros = []; procedures = []; main = m }

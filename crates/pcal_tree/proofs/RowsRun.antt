@@ -1,12 +1,12 @@
 -- Runs of a uniprocess algorithm, tried by computation.
-use Rattle.std.proofs.Common.{◌≡◌, ℕ, List, [], ◌∷◌, codes, Some, None, refl, ◌⊎◌}
+use Rattle.std.proofs.Common.{◌≡◌, ℕ, List, [], ◌∷◌, codes, Some, None, refl, ◌⊎◌, Ok, Err}
 use Rattle.tla_expr.specs.declared.op.Op.TheVariants.{Less, Plus}
 use Rattle.tla_expr.specs.Tree.{Word, set_of, strict, node, no_trees, tree, Tree, truth as literal}
 use Rattle.tla_value.specs.declared.fault.FaultKind.TheVariants.{NotBoolean, NotInDomain, AssertFailed}
 use Rattle.tla_value.specs.Value.{text}
 use Rattle.tla_value.specs.Order.{seq_from}
-use Rattle.pcal_tree.specs.Algorithm.{no_moves, move, assign, await, print, assert, branch, either, with, loop, jump, macro, Statement, Statements, done, no_branches, or, one_of, is, no_binds, Macro, Routine, alone_routine}
-use Rattle.pcal_tree.specs.Scope.{State, put, Got, got, bad, faulty}
+use Rattle.pcal_tree.specs.Algorithm.{no_assignments, assignment, assign, await, print, assert, branch, either, with, while, goto, macro, Statement, Statements, done, no_branches, or, one_of, is, no_binds, Macro, Routine, alone_routine}
+use Rattle.pcal_tree.specs.Scope.{State, put, Outcome, fault}
 use Rattle.pcal_tree.specs.Run.{Course, Has, run, exit_to}
 use Rattle.pcal_tree.specs.Expand.{expanded}
 use Rattle.pcal_tree.specs.Choices.{walk, went, wanting, first_trouble}
@@ -31,7 +31,7 @@ abbrev course_from : List Macro → Statements → State → Course
 course_from ms ss s = course_in (one_body ms ss) ss s
 
 -- the outcomes, without macros
-abbrev outcome : Statements → State → Got State → Type 0
+abbrev outcome : Statements → State → Outcome State → Type 0
 outcome ss s r = Has (course_from [] ss s) r
 
 abbrev one : Statement → Statements
@@ -41,53 +41,53 @@ one st = and_next st done
 abbrev start : State
 start = at_start (codes "A")
 
-abbrev ends_at : Word → State → Got State
-ends_at l s = got (put pc (text l) s)
+abbrev ends_at : Word → State → Outcome State
+ends_at l s = Ok (put pc (text l) s)
 
 -- ---- assignments
 
 -- x := 1; y := x ends just in x = 1, y = 1
-in_order : (r : Got State) → outcome (and_next (sets (var x) (num 1)) (one (sets (var y) (var x)))) start r ≡ (r ≡ ends_at (codes "Done") (put y (an_int 1) (put x (an_int 1) start)))
+in_order : (r : Outcome State) → outcome (and_next (sets (var x) (num 1)) (one (sets (var y) (var x)))) start r ≡ (r ≡ ends_at (codes "Done") (put y (an_int 1) (put x (an_int 1) start)))
 in_order r = refl
 
 abbrev apart : State
 apart = put y (an_int 1) start
 
 -- x := y || y := x is the swap
-swap : (r : Got State) → outcome (one (assign (move (var x) (var y) (move (var y) (var x) no_moves)))) apart r ≡ (r ≡ ends_at (codes "Done") (put y (an_int 0) (put x (an_int 1) apart)))
+swap : (r : Outcome State) → outcome (one (assign (assignment (var x) (var y) (assignment (var y) (var x) no_assignments)))) apart r ≡ (r ≡ ends_at (codes "Done") (put y (an_int 0) (put x (an_int 1) apart)))
 swap r = refl
 
 abbrev triple : State
 triple = put x (seq_from (an_int 7 ∷ an_int 8 ∷ an_int 9 ∷ [])) start
 
 -- x[5] := 1 on a triple changes nothing
-outside : (r : Got State) → outcome (one (sets (item (var x) (num 5)) (num 1))) triple r ≡ (r ≡ ends_at (codes "Done") (put x (triple x) triple))
+outside : (r : Outcome State) → outcome (one (sets (item (var x) (num 5)) (num 1))) triple r ≡ (r ≡ ends_at (codes "Done") (put x (triple x) triple))
 outside r = refl
 
 -- x[1] := 2 || x[2] := x[1] reads x before it sets parts of it
-parts : (r : Got State) → outcome (one (assign (move (item (var x) (num 1)) (num 2) (move (item (var x) (num 2)) (item (var x) (num 1)) no_moves)))) triple r ≡ (r ≡ ends_at (codes "Done") (put x (seq_from (an_int 2 ∷ an_int 7 ∷ an_int 9 ∷ [])) (put x (seq_from (an_int 2 ∷ an_int 8 ∷ an_int 9 ∷ [])) triple)))
+parts : (r : Outcome State) → outcome (one (assign (assignment (item (var x) (num 1)) (num 2) (assignment (item (var x) (num 2)) (item (var x) (num 1)) no_assignments)))) triple r ≡ (r ≡ ends_at (codes "Done") (put x (seq_from (an_int 2 ∷ an_int 7 ∷ an_int 9 ∷ [])) (put x (seq_from (an_int 2 ∷ an_int 8 ∷ an_int 9 ∷ [])) triple)))
 parts r = refl
 
 -- ---- tests and choices
 
 -- a false await has no outcome, nor has a choice from the empty set
-held_back : (r : Got State) → outcome (one (await (over Less (var x) (num 0)))) start r ≡ ⊥
+held_back : (r : Outcome State) → outcome (one (await (over Less (var x) (num 0)))) start r ≡ ⊥
 held_back r = refl
 
-empty_choice : (r : Got State) → outcome (one (with (one_of (title (codes "z")) (node (strict set_of) (at 1) no_trees) no_binds) (one (sets (var x) (num 1))))) start r ≡ ⊥
+empty_choice : (r : Outcome State) → outcome (one (with (one_of (title (codes "z")) (node (strict set_of) (at 1) no_trees) no_binds) (one (sets (var x) (num 1))))) start r ≡ ⊥
 empty_choice r = refl
 
-not_boolean : (r : Got State) → outcome (one (await (node (Rattle.tla_expr.specs.Tree.name x) (at 5) no_trees))) start r ≡ (r ≡ bad (faulty NotBoolean (at 5)))
+not_boolean : (r : Outcome State) → outcome (one (await (node (Rattle.tla_expr.specs.Tree.name x) (at 5) no_trees))) start r ≡ (r ≡ Err (fault NotBoolean (at 5)))
 not_boolean r = refl
 
-failed : (r : Got State) → outcome (one (assert (over Less (var x) (num 0)))) start r ≡ (r ≡ bad (faulty AssertFailed (at 1)))
+failed : (r : Outcome State) → outcome (one (assert (over Less (var x) (num 0)))) start r ≡ (r ≡ Err (fault AssertFailed (at 1)))
 failed r = refl
 
 -- either x := 1 or y := 1
 abbrev two_ways : Statements
 two_ways = one (either (or (one (sets (var x) (num 1))) (or (one (sets (var y) (num 1))) no_branches)))
 
-both : (r : Got State) → outcome two_ways start r ≡ ((r ≡ ends_at (codes "Done") (put x (an_int 1) start)) ⊎ ((r ≡ ends_at (codes "Done") (put y (an_int 1) start)) ⊎ ⊥))
+both : (r : Outcome State) → outcome two_ways start r ≡ ((r ≡ ends_at (codes "Done") (put x (an_int 1) start)) ⊎ ((r ≡ ends_at (codes "Done") (put y (an_int 1) start)) ⊎ ⊥))
 both r = refl
 
 -- the choice 2 takes the second; without a choice two courses are to choose from
@@ -101,31 +101,31 @@ third : walk (course_from [] two_ways start) (3 ∷ []) ≡ wanting 2 (at 1)
 third = refl
 
 -- with z \in {2, 3}, w = z do x := w end with
-each_member : (r : Got State) → outcome (one (with (one_of (title (codes "z")) (node (strict set_of) (at 1) (tree (num 3) (tree (num 2) no_trees))) (is (title (codes "w")) (var (codes "z")) no_binds)) (one (sets (var x) (var (codes "w")))))) start r ≡ ((r ≡ ends_at (codes "Done") (put x (an_int 2) start)) ⊎ ((r ≡ ends_at (codes "Done") (put x (an_int 3) start)) ⊎ ⊥))
+each_member : (r : Outcome State) → outcome (one (with (one_of (title (codes "z")) (node (strict set_of) (at 1) (tree (num 3) (tree (num 2) no_trees))) (is (title (codes "w")) (var (codes "z")) no_binds)) (one (sets (var x) (var (codes "w")))))) start r ≡ ((r ≡ ends_at (codes "Done") (put x (an_int 2) start)) ⊎ ((r ≡ ends_at (codes "Done") (put x (an_int 3) start)) ⊎ ⊥))
 each_member r = refl
 
 -- the first trouble is that of the least list of choices, whatever may be chosen after it
-first_failed : first_trouble (course_from [] (and_next (either (or (one (sets (var x) (num 1))) (or (one (await (var y))) no_branches))) (one (assert (over Less (var x) (num 1))))) start) ≡ Some (faulty AssertFailed (at 1))
+first_failed : first_trouble (course_from [] (and_next (either (or (one (sets (var x) (num 1))) (or (one (await (var y))) no_branches))) (one (assert (over Less (var x) (num 1))))) start) ≡ Some (fault AssertFailed (at 1))
 first_failed = refl
 
 -- ---- labels and loops
 
 -- if x < 1 then B: y := 1 else skip: the label ends the step
-at_label : (r : Got State) → outcome (one (branch (over Less (var x) (num 1)) (labelled (codes "B") (one (sets (var y) (num 1)))) done)) start r ≡ (r ≡ ends_at (codes "B") start)
+at_label : (r : Outcome State) → outcome (one (branch (over Less (var x) (num 1)) (labelled (codes "B") (one (sets (var y) (num 1)))) done)) start r ≡ (r ≡ ends_at (codes "B") start)
 at_label r = refl
 
 -- a goto drops what follows
-dropped : (r : Got State) → outcome (and_next (jump (codes "C")) (one (sets (var x) (num 1)))) start r ≡ (r ≡ ends_at (codes "C") start)
+dropped : (r : Outcome State) → outcome (and_next (goto (codes "C")) (one (sets (var x) (num 1)))) start r ≡ (r ≡ ends_at (codes "C") start)
 dropped r = refl
 
 -- A: while x < k do x := x + 1 end while; y := 9
 abbrev counting : ℕ → Statements
-counting k = and_next (loop (over Less (var x) (num k)) (one (sets (var x) (over Plus (var x) (num 1))))) (one (sets (var y) (num 9)))
+counting k = and_next (while (over Less (var x) (num k)) (one (sets (var x) (over Plus (var x) (num 1))))) (one (sets (var y) (num 9)))
 
-again : (r : Got State) → outcome (counting 1) start r ≡ (r ≡ ends_at (codes "A") (put x (an_int 1) start))
+again : (r : Outcome State) → outcome (counting 1) start r ≡ (r ≡ ends_at (codes "A") (put x (an_int 1) start))
 again r = refl
 
-behind : (r : Got State) → outcome (counting 0) start r ≡ (r ≡ ends_at (codes "Done") (put y (an_int 9) start))
+behind : (r : Outcome State) → outcome (counting 0) start r ≡ (r ≡ ends_at (codes "Done") (put y (an_int 9) start))
 behind r = refl
 
 -- ---- macros
@@ -139,14 +139,14 @@ bump = record {
 }
 
 -- M(x[y]) on y = 1: the argument is read anew, so the second part changes
-read_anew : (r : Got State) → Has (course_from (bump ∷ []) (one (macro (codes "M") (tree (item (var x) (var y)) no_trees))) (put y (an_int 1) triple)) r ≡ (r ≡ ends_at (codes "Done") (put x (seq_from (an_int 7 ∷ an_int 9 ∷ an_int 9 ∷ [])) (put y (an_int 2) (put y (an_int 1) triple))))
+read_anew : (r : Outcome State) → Has (course_from (bump ∷ []) (one (macro (codes "M") (tree (item (var x) (var y)) no_trees))) (put y (an_int 1) triple)) r ≡ (r ≡ ends_at (codes "Done") (put x (seq_from (an_int 7 ∷ an_int 9 ∷ an_int 9 ∷ [])) (put y (an_int 2) (put y (an_int 1) triple))))
 read_anew r = refl
 
 -- macro N(p) begin await p; end macro, called with x: the place is the argument's
 abbrev waits : Macro
 waits = record { name = title (codes "N"); params = title (codes "p") ∷ []; body = one (await (var (codes "p"))) }
 
-at_argument : (r : Got State) → Has (course_from (waits ∷ []) (one (macro (codes "N") (tree (node (Rattle.tla_expr.specs.Tree.name x) (at 8) no_trees) no_trees))) start) r ≡ (r ≡ bad (faulty NotBoolean (at 8)))
+at_argument : (r : Outcome State) → Has (course_from (waits ∷ []) (one (macro (codes "N") (tree (node (Rattle.tla_expr.specs.Tree.name x) (at 8) no_trees) no_trees))) start) r ≡ (r ≡ Err (fault NotBoolean (at 8)))
 at_argument r = refl
 
 -- the expansion of M(x[y]) takes the same course
@@ -154,5 +154,5 @@ expanded_anew : course_from (bump ∷ []) (one (macro (codes "M") (tree (item (v
 expanded_anew = refl
 
 -- what is printed is evaluated
-printed : (r : Got State) → outcome (one (print (item (var x) (num 5)))) triple r ≡ (r ≡ bad (faulty NotInDomain (at 1)))
+printed : (r : Outcome State) → outcome (one (print (item (var x) (num 5)))) triple r ≡ (r ≡ Err (fault NotInDomain (at 1)))
 printed r = refl

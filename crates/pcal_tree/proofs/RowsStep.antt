@@ -1,19 +1,19 @@
 -- Processes, calls and initial states, tried by computation.
-use Rattle.std.proofs.Common.{◌≡◌, ℕ, List, [], ◌∷◌, true, false, codes, Option, Some, None, refl, inl, inr, subst, sym, ap}
+use Rattle.std.proofs.Common.{◌≡◌, ℕ, List, [], ◌∷◌, true, false, codes, Option, Some, None, refl, inl, inr, subst, sym, ap, Ok, Err}
 use Rattle.tla_expr.specs.declared.op.Op.TheVariants.{Plus}
 use Rattle.tla_expr.specs.Tree.{set_of, strict, node, no_trees, tree, Tree}
 use Rattle.tla_value.specs.declared.fault.FaultKind.TheVariants.{SameIdentifier, NotInDomain, EmptySequence}
 use Rattle.tla_value.specs.Value.{Value, text, model, fun, no_values, and}
 use Rattle.tla_value.specs.Order.{seq_from, record_from}
 use Rattle.pcal_tree.specs.declared.mark.Fairness.TheVariants.{Unfair}
-use Rattle.pcal_tree.specs.Algorithm.{Statement, invoke, leave, skip, Statements, done, unset, among, Procedure, Process, processes, Routine, procedure_routine, process_routine}
-use Rattle.pcal_tree.specs.Scope.{State, put, Got, got, bad, faulty}
+use Rattle.pcal_tree.specs.Algorithm.{Statement, call, return, skip, Statements, done, unset, among, Procedure, Process, processes, Routine, procedure_routine, process_routine}
+use Rattle.pcal_tree.specs.Scope.{State, put, Outcome, fault}
 use Rattle.pcal_tree.specs.Run.{Course, ends, stops}
 use Rattle.pcal_tree.specs.Choices.{walk, went, wanting}
 use Rattle.pcal_tree.specs.Program.{Program, Actor, pc, stack}
-use Rattle.pcal_tree.specs.Step.{vars, actors, pc_of, Stand, course_of, stand_named, routines_of, trouble_of_all, Step, Still, OneOf}
-use Rattle.pcal_tree.specs.Initial.{allowed}
-use Rattle.pcal_tree.specs.Starting.{started, nothing}
+use Rattle.pcal_tree.specs.Step.{vars, actors, pc_of, Stand, course_of, stand_named, routines_of, trouble_of_all, Step, Stutters, OneOf}
+use Rattle.pcal_tree.specs.InitialStates.{allowed}
+use Rattle.pcal_tree.specs.InitialChoice.{started, nothing}
 use Rattle.pcal_tree.proofs.Sample.{at, title, x, num, var, over, and_next, sets, labelled, an_int, variable, program}
 
 abbrev one : Statement → Statements
@@ -25,14 +25,14 @@ proc = record {
   name = title (codes "P");
   params = variable (codes "a") (num 0) ∷ [];
   variables = variable (codes "b") (over Plus (var (codes "a")) (num 1)) ∷ [];
-  body = labelled (codes "D") (and_next (sets (var (codes "b")) (over Plus (var (codes "b")) (var (codes "a")))) (labelled (codes "E") (one leave)));
+  body = labelled (codes "D") (and_next (sets (var (codes "b")) (over Plus (var (codes "b")) (var (codes "a")))) (labelled (codes "E") (one return)));
 }
 
 -- process Q \in {2, 1} variables z = self, w \in {5, 4}, d; begin A: z := z + x; B: call P(z); C: skip; end process
 abbrev behind_a : Statements
 behind_a =
     and_next (sets (var (codes "z")) (over Plus (var (codes "z")) (var x)))
-    (labelled (codes "B") (and_next (invoke (title (codes "P")) (tree (var (codes "z")) no_trees)) (labelled (codes "C") (one skip))))
+    (labelled (codes "B") (and_next (call (title (codes "P")) (tree (var (codes "z")) no_trees)) (labelled (codes "C") (one skip))))
 
 abbrev proc_body : Statements
 proc_body = labelled (codes "A") behind_a
@@ -73,13 +73,13 @@ on_both a b = fun (and (an_int 1) (and (an_int 2) no_values)) (and a (and b no_v
 
 -- ---- processes and initial states
 
-in_canonical_order : actors P ≡ got (record { self = Some (an_int 1); own = the_process } ∷ number_two ∷ [])
+in_canonical_order : actors P ≡ Ok (record { self = Some (an_int 1); own = the_process } ∷ number_two ∷ [])
 in_canonical_order = refl
 
 all_variables : vars P ≡ codes "x" ∷ codes "pc" ∷ codes "stack" ∷ codes "a" ∷ codes "b" ∷ codes "z" ∷ codes "w" ∷ codes "d" ∷ []
 all_variables = refl
 
-shared : actors (many (single 3 (num 1) ∷ single 4 (num 2) ∷ single 5 (num 1) ∷ [])) ≡ bad (faulty SameIdentifier (at 5))
+shared : actors (many (single 3 (num 1) ∷ single 4 (num 2) ∷ single 5 (num 1) ∷ [])) ≡ Err (fault SameIdentifier (at 5))
 shared = refl
 
 -- z = self is taken for each identifier, a member of {4, 5} is chosen for 1 and then for 2
@@ -96,11 +96,11 @@ made = refl
 needs_choice : walk (started P) (2 ∷ []) ≡ wanting 2 (at 1)
 needs_choice = refl
 
-is_initial : allowed P first_state ≡ got true
+is_initial : allowed P first_state ≡ Ok true
 is_initial = refl
 
 -- w is no function on just 1 and 2
-not_initial : allowed P (put (codes "w") (fun (and (an_int 1) no_values) (and (an_int 4) no_values)) first_state) ≡ got false
+not_initial : allowed P (put (codes "w") (fun (and (an_int 1) no_values) (and (an_int 4) no_values)) first_state) ≡ Ok false
 not_initial = refl
 
 -- ---- steps
@@ -110,9 +110,9 @@ abbrev from_stand : Actor → Option Stand → State → Course
 from_stand v None s = ends s
 from_stand v (Some d) s = course_of P v d s
 
-abbrev from_pc : Actor → Got Value → State → Course
-from_pc v (bad k) s = stops k
-from_pc v (got w) s = from_stand v (stand_named P w (routines_of P v)) s
+abbrev from_pc : Actor → Outcome Value → State → Course
+from_pc v (Err k) s = stops k
+from_pc v (Ok w) s = from_stand v (stand_named P w (routines_of P v)) s
 
 abbrev step_of : Actor → State → Course
 step_of v s = from_pc v (pc_of v s) s
@@ -143,10 +143,10 @@ at_return = put pc (on_both (text (codes "A")) (text (codes "E"))) in_procedure
 a_return : step_of number_two at_return ≡ ends (put stack (on_both (seq_from []) (seq_from [])) (put (codes "b") (on_both (an_int 1) (an_int 1)) (put (codes "a") (on_both (an_int 0) (an_int 0)) (put pc (on_both (text (codes "A")) (text (codes "C"))) at_return))))
 a_return = refl
 
-no_record : trouble_of_all P (put pc (on_both (text (codes "Done")) (text (codes "E"))) first_state) (number_two ∷ []) ≡ Some (faulty EmptySequence (at 1))
+no_record : trouble_of_all P (put pc (on_both (text (codes "Done")) (text (codes "E"))) first_state) (number_two ∷ []) ≡ Some (fault EmptySequence (at 1))
 no_record = refl
 
-unreadable : trouble_of_all P (put pc (fun no_values no_values) first_state) (number_two ∷ []) ≡ Some (faulty NotInDomain (at 1))
+unreadable : trouble_of_all P (put pc (fun no_values no_values) first_state) (number_two ∷ []) ≡ Some (fault NotInDomain (at 1))
 unreadable = refl
 
 -- the first of these steps as a relation: process 2 stands at A, of its own body
@@ -177,13 +177,13 @@ begun = refl
 abbrev ended : State
 ended = put pc (on_seven (text (codes "Done"))) nothing
 
-abbrev list_of : Got (List Actor) → List Actor
-list_of (got vs) = vs
-list_of (bad k) = []
+abbrev list_of : Outcome (List Actor) → List Actor
+list_of (Ok vs) = vs
+list_of (Err k) = []
 
-still : Still S ended ended
+still : Stutters S ended ended
 still = (λ v h. only_one v (subst (OneOf v) (sym (ap list_of h.1)) h.2), (refl, (refl, tt)))
   where
-    only_one : (v : Actor) → OneOf v (only ∷ []) → pc_of v ended ≡ got (text (codes "Done"))
+    only_one : (v : Actor) → OneOf v (only ∷ []) → pc_of v ended ≡ Ok (text (codes "Done"))
     only_one v (inl p) = ap (λ w. pc_of w ended) p
     only_one v (inr h) = absurd h

@@ -6,7 +6,7 @@ use Rattle.tla_expr.specs.Tree.{Word, operator, apply, number, name, strict, Tre
 use Rattle.tla_value.specs.Value.{Value, truth, int, text}
 use Rattle.tla_value.specs.Stops.{plain}
 use Rattle.pcal_tree.specs.declared.mark.Mark.TheVariants.{Plain}
-use Rattle.pcal_tree.specs.Algorithm.{Name, no_moves, move, Statement, assign, Statements, then, mark, equals, Declaration, Macro, alone, Algorithm, Naming}
+use Rattle.pcal_tree.specs.Algorithm.{Name, no_assignments, assignment, Statement, assign, Statements, then, mark, equals, Declaration, Macro, alone, Algorithm, Naming}
 use Rattle.pcal_tree.specs.Scope.{State, put}
 use Rattle.pcal_tree.specs.Program.{Program, pc}
 
@@ -39,7 +39,7 @@ abbrev pub and_next : Statement → Statements → Statements
 and_next st rest = then (record { first = at 1; last = at 1 }) st rest
 
 abbrev pub sets : Tree → Tree → Statement
-sets l e = assign (move l e no_moves)
+sets l e = assign (assignment l e no_assignments)
 
 abbrev pub labelled : Word → Statements → Statements
 labelled l rest = mark (title l) Plain rest

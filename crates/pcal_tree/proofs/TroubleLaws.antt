@@ -1,15 +1,15 @@
 -- A state that has proper identifiers is sound exactly if there is no first trouble, where written labels are apart.
-use Rattle.std.proofs.Common.{◌≡◌, List, [], ◌∷◌, ◌++◌, Bool, true, false, cond, bytes_eq, Option, Some, None, refl, sym, ◌∙◌, ap, subst, inl, inr, ◌⊎◌}
+use Rattle.std.proofs.Common.{◌≡◌, List, [], ◌∷◌, ◌++◌, Bool, true, false, cond, bytes_eq, Option, Some, None, refl, sym, ◌∙◌, ap, subst, inl, inr, ◌⊎◌, Ok, Err}
 use Rattle.tla_expr.specs.Tree.{Word}
 use Rattle.tla_value.specs.Value.{Value}
 use Rattle.tla_value.specs.Order.{same}
 use Rattle.std.proofs.lemmas.Slice.Eq.{bytes_eq-Decides}
 use Rattle.tla_value.specs.OrderLaws.{same_is, same_self}
-use Rattle.pcal_tree.specs.Algorithm.{Statement, branch, either, with, loop, Statements, done, then, mark, Branches, no_branches, or, Routine}
+use Rattle.pcal_tree.specs.Algorithm.{Statement, branch, either, with, while, Statements, done, then, mark, Branches, no_branches, or, Routine}
 use Rattle.pcal_tree.specs.Run.{Course, Has, unlabelled, label_of}
-use Rattle.pcal_tree.specs.Scope.{State, Trouble, Got, got, bad}
+use Rattle.pcal_tree.specs.Scope.{State, Trouble, Outcome}
 use Rattle.pcal_tree.specs.Choices.{or_else, first_trouble}
-use Rattle.pcal_tree.specs.Begin.{Begin, begin_in, begin, begin_some, at_label}
+use Rattle.pcal_tree.specs.StepStart.{Begin, begin_in, begin, begin_some, at_label}
 use Rattle.pcal_tree.specs.Program.{Program, Actor}
 use Rattle.pcal_tree.specs.Calls.{label_value}
 use Rattle.pcal_tree.specs.Step.{OneOf, pc_of, Stand, routines_of, StandsAt, course_of, Troubled, Sound, IsActor, labels_in, labels, labels_of, Proper, StandsOnce, stand_at, label_named, stand_named, trouble_from, trouble_at, trouble_of_all, FirstTrouble}
@@ -49,22 +49,22 @@ stand_found P w (u ∷ us) d e = by (stand_found P w us d) (label_named P w u (l
     by ih None p e = behind (ih e)
 
 -- what is found is where the process stands
-pub found_stands : (P : Program) (s : State) (v : Actor) (w : Value) (d : Stand) → pc_of v s ≡ got w → stand_named P w (routines_of P v) ≡ Some d → StandsAt P s v d
+pub found_stands : (P : Program) (s : State) (v : Actor) (w : Value) (d : Stand) → pc_of v s ≡ Ok w → stand_named P w (routines_of P v) ≡ Some d → StandsAt P s v d
 found_stands P s v w d p e = by (stand_found P w (routines_of P v) d e)
   where
     by : Found P w (routines_of P v) d → StandsAt P s v d
-    by f = (f.routine, f.begins, p ∙ ap got f.named)
+    by f = (f.routine, f.begins, p ∙ ap Ok f.named)
 
 pub trouble_is : (P : Program) (s : State) (v : Actor) (k : Trouble) → trouble_at P s v (pc_of v s) ≡ Some k → Troubled P s v k
 trouble_is P s v k e = by (pc_of v s) refl e
   where
-    by_stand : (w : Value) → pc_of v s ≡ got w → (o : Option Stand) → stand_named P w (routines_of P v) ≡ o → trouble_from P s v o ≡ Some k → Troubled P s v k
+    by_stand : (w : Value) → pc_of v s ≡ Ok w → (o : Option Stand) → stand_named P w (routines_of P v) ≡ o → trouble_from P s v o ≡ Some k → Troubled P s v k
     by_stand w p None q e = cc
     by_stand w p (Some d) q e = inr (d, found_stands P s v w d p q, first_has (course_of P v d s) k e)
 
-    by : (o : Got Value) → pc_of v s ≡ o → trouble_at P s v o ≡ Some k → Troubled P s v k
-    by (bad j) p e = inl (p ∙ ap bad (sym (some_inside e)))
-    by (got w) p e = by_stand w p (stand_named P w (routines_of P v)) refl e
+    by : (o : Outcome Value) → pc_of v s ≡ o → trouble_at P s v o ≡ Some k → Troubled P s v k
+    by (Err j) p e = inl (p ∙ ap Err (sym (some_inside e)))
+    by (Ok w) p e = by_stand w p (stand_named P w (routines_of P v)) refl e
 
 pub first_of_all : (P : Program) (s : State) (vs : List Actor) (k : Trouble) → trouble_of_all P s vs ≡ Some k → (v : Actor) × OneOf v vs × Troubled P s v k
 first_of_all P s [] k e = cc
@@ -109,7 +109,7 @@ mutual
       by (inr p) f g = one_right l (labels s) (labels t) (g p)
   listed_in l here (either bs) x b q = listed_some l bs x b q
   listed_in l here (with bs t) x b q = listed l unlabelled t x b q
-  listed_in l here (loop e t) x b q = listed l unlabelled t here b q
+  listed_in l here (while e t) x b q = listed l unlabelled t here b q
   listed_in l here _ x b q = cc
 
   pub listed : (l here : Word) (ss : Statements) (x : Word) (b : Begin) → begin l here ss x ≡ Some b → OneOf l (labels ss)
@@ -155,21 +155,21 @@ stand_is_found P d e (u ∷ us) (inl p) =
     front_some _ _ (subst (λ z. IsSomething (label_named P (label_value P d.routine d.label) z (labels z.body))) p (label_is_found P d.routine d.label d.begins e (labels d.routine.body) (listed d.label unlabelled d.routine.body d.routine.exit d.begins e)))
 stand_is_found P d e (u ∷ us) (inr h) = behind_some _ _ (stand_is_found P d e us h)
 
-has_first : (c : Course) (k : Trouble) → Has c (bad k) → IsSomething (first_trouble c)
+has_first : (c : Course) (k : Trouble) → Has c (Err k) → IsSomething (first_trouble c)
 has_first c k h = by (first_trouble c) refl
   where
     by : (o : Option Trouble) → first_trouble c ≡ o → IsSomething (first_trouble c)
     by (Some j) p = (j, p)
     by None p = absurd (none_has c k p h)
 
-stand_troubled : (P : Program) (s : State) (v : Actor) (k : Trouble) → StandsOnce P s v → (d : Stand) → StandsAt P s v d → Has (course_of P v d s) (bad k) → IsSomething (trouble_at P s v (pc_of v s))
+stand_troubled : (P : Program) (s : State) (v : Actor) (k : Trouble) → StandsOnce P s v → (d : Stand) → StandsAt P s v d → Has (course_of P v d s) (Err k) → IsSomething (trouble_at P s v (pc_of v s))
 stand_troubled P s v k once d st h = by (stand_is_found P d st.1 (routines_of P v) st.0)
   where
     by : IsSomething (stand_named P (label_value P d.routine d.label) (routines_of P v)) → IsSomething (trouble_at P s v (pc_of v s))
     by q =
         let same_stand : d ≡ q.0 = once d q.0 st (found_stands P s v (label_value P d.routine d.label) q.0 st.2 q.1) in
         subst (λ o. IsSomething (trouble_at P s v o)) (sym st.2)
-        (subst (λ o. IsSomething (trouble_from P s v o)) (sym q.1) (has_first (course_of P v q.0 s) k (subst (λ e. Has (course_of P v e s) (bad k)) same_stand h)))
+        (subst (λ o. IsSomething (trouble_from P s v o)) (sym q.1) (has_first (course_of P v q.0 s) k (subst (λ e. Has (course_of P v e s) (Err k)) same_stand h)))
 
 troubled_here : (P : Program) (s : State) (v : Actor) (k : Trouble) → StandsOnce P s v → Troubled P s v k → IsSomething (trouble_at P s v (pc_of v s))
 troubled_here P s v k once (inl p) = subst (λ o. IsSomething (trouble_at P s v o)) (sym p) (k, refl)

@@ -22,9 +22,9 @@ pub record Span : Type 0 where
   pub last : Place
 
 -- x := a || y[i].f := b: left sides and right sides; a left side is a name, or a subscript or field of a left side
-pub data Moves : Type 0 where
-  no_moves : Moves
-  move : Tree → Tree → Moves → Moves
+pub data Assignments : Type 0 where
+  no_assignments : Assignments
+  assignment : Tree → Tree → Assignments → Assignments
 
 -- x \in S, y = e: what a `with` names
 pub data Binds : Type 0 where
@@ -34,7 +34,7 @@ pub data Binds : Type 0 where
 
 mutual
   pub data Statement : Type 0 where
-    assign : Moves → Statement
+    assign : Assignments → Statement
     await : Tree → Statement  -- also `when`
     print : Tree → Statement
     assert : Tree → Statement
@@ -42,11 +42,11 @@ mutual
     branch : Tree → Statements → Statements → Statement  -- if; a missing `else` is an empty list
     either : Branches → Statement
     with : Binds → Statements → Statement
-    loop : Tree → Statements → Statement  -- while
-    jump : Word → Statement  -- goto
+    while : Tree → Statements → Statement  -- while
+    goto : Word → Statement  -- goto
     macro : Word → Trees → Statement  -- M(a, b)
-    invoke : Name → Trees → Statement  -- call P(a, b)
-    leave : Statement  -- return
+    call : Name → Trees → Statement  -- call P(a, b)
+    return : Statement  -- return
 
   pub data Statements : Type 0 where
     done : Statements

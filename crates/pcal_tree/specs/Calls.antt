@@ -1,5 +1,5 @@
 -- Jumps, calls and returns, and with them the rules of a step ("A PlusCal User's Manual", section 3.4, procedures).
-use Rattle.std.specs.Prelude.{List, [], ◌∷◌, ◌++◌, cond, bytes_eq, codes, Option, Some, None, ◌||◌, reverse}
+use Rattle.std.specs.Prelude.{List, [], ◌∷◌, ◌++◌, cond, bytes_eq, codes, Option, Some, None, ◌||◌, reverse, Ok, Err}
 use Rattle.tla_token.specs.declared.place.Place.{Place}
 use Rattle.tla_expr.specs.Tree.{Word}
 use Rattle.tla_value.specs.declared.fault.FaultKind.TheVariants.{NotFunction, NotSequence, EmptySequence}
@@ -7,7 +7,7 @@ use Rattle.tla_value.specs.Value.{Value, text, model}
 use Rattle.tla_value.specs.Order.{seq_from, sequence_of, record_from}
 use Rattle.tla_value.specs.Strict.{applied}
 use Rattle.pcal_tree.specs.Algorithm.{Start, unset, equals, among, Declaration, Routine, locals, procedure_routines}
-use Rattle.pcal_tree.specs.Scope.{State, faulty, Got, got, bad, on, valued, place_of, value_of}
+use Rattle.pcal_tree.specs.Scope.{State, fault, Outcome, ◌>>=◌, place_of, value_of}
 use Rattle.pcal_tree.specs.Assign.{Setting, set_all}
 use Rattle.pcal_tree.specs.Run.{Course, ends, stops, held, Rules, with_macros, label_of}
 use Rattle.pcal_tree.specs.Program.{Program, Actor, index, local_index, written, read_at, routine_scope, pc, stack, written_all}
@@ -29,7 +29,7 @@ abbrev pub setting : Place → Word → List Value → Value → Setting
 setting at x path v = record { place = at; part = record { variable = x; path = path }; value = v }
 
 -- a fault stands at the process's name
-abbrev pub jumped : Program → Actor → Routine → Word → State → Got State
+abbrev pub jumped : Program → Actor → Routine → Word → State → Outcome State
 jumped P v u l s = set_all P.check (setting v.own.name.place pc (index v.self) (label_value P u l) ∷ []) s
 
 -- ---- calls
@@ -38,9 +38,9 @@ jumped P v u l s = set_all P.check (setting v.own.name.place pc (index v.self) (
 abbrev pub default : Value
 default = model (codes "defaultInitValue")
 
-abbrev pub all_read : Place → List Value → List Word → State → (List Value → Got State) → Got State
+abbrev pub all_read : Place → List Value → List Word → State → (List Value → Outcome State) → Outcome State
 all_read at path [] s go = go []
-all_read at path (x ∷ xs) s go = valued (read_at at path (s x)) (λ v. all_read at path xs s (λ vs. go (v ∷ vs)))
+all_read at path (x ∷ xs) s go = (read_at at path (s x)) >>= (λ v. all_read at path xs s (λ vs. go (v ∷ vs)))
 
 -- the fields of a record on the stack: the procedure, the label to return to, and its parameters and variables
 abbrev pub frame_fields : Program → Routine → List Word
@@ -49,13 +49,13 @@ frame_fields P p = codes "procedure" ∷ codes "pc" ∷ written_all P p (locals 
 abbrev pub frame : Program → Routine → Value → List Value → Value
 frame P p back olds = record_from (frame_fields P p) (text (P.naming.title p.number) ∷ back ∷ olds)
 
-abbrev pub frames_at : Place → Option (List Value) → (List Value → Got State) → Got State
-frames_at at None go = bad (faulty NotSequence at)
+abbrev pub frames_at : Place → Option (List Value) → (List Value → Outcome State) → Outcome State
+frames_at at None go = Err (fault NotSequence at)
 frames_at at (Some frames) go = go frames
 
 -- the records on a process's stack
-abbrev pub on_stack : Actor → Place → State → (List Value → Got State) → Got State
-on_stack v at s go = valued (read_at at (index v.self) (s stack)) (λ st. frames_at at (sequence_of st) go)
+abbrev pub on_stack : Actor → Place → State → (List Value → Outcome State) → Outcome State
+on_stack v at s go = (read_at at (index v.self) (s stack)) >>= (λ st. frames_at at (sequence_of st) go)
 
 -- parameters with the values and places of the arguments
 abbrev pub argument_settings : List Value → List Word → List Place → List Value → List Setting
@@ -63,45 +63,45 @@ argument_settings path (x ∷ xs) (at ∷ ats) (v ∷ vs) = setting at x path v 
 argument_settings path _ _ _ = []
 
 -- a variable's initial value, and its place
-abbrev pub initial_value : Program → Actor → Routine → Place → Start → State → (Place → Value → Got State) → Got State
+abbrev pub initial_value : Program → Actor → Routine → Place → Start → State → (Place → Value → Outcome State) → Outcome State
 initial_value P v p at unset s go = go at default
 initial_value P v p at (equals e) s go =
-    on (value_of P.check e (routine_scope P v p) s) (go (place_of e (routine_scope P v p)))
-initial_value P v p at (among e) s go = bad (faulty NotFunction at)  -- a procedure's variable has no set
+    (value_of P.check e (routine_scope P v p) s) >>= (go (place_of e (routine_scope P v p)))
+initial_value P v p at (among e) s go = Err (fault NotFunction at)  -- a procedure's variable has no set
 
 -- variables get their initial values, each reading what was set before
-abbrev pub variables_started : Program → Actor → Routine → Place → List Declaration → State → (State → Got State) → Got State
+abbrev pub variables_started : Program → Actor → Routine → Place → List Declaration → State → (State → Outcome State) → Outcome State
 variables_started P v p at [] s go = go s
 variables_started P v p at (d ∷ ds) s go =
     initial_value P v p at d.start s (λ place w.
-    on (set_all P.check (setting place (written P p d.name.word) (local_index v p) w ∷ []) s) (λ u. variables_started P v p at ds u go))
+    (set_all P.check (setting place (written P p d.name.word) (local_index v p) w ∷ []) s) >>= (λ u. variables_started P v p at ds u go))
 
 -- a call of procedure p whose return goes to `back`: the old values of p's parameters and variables go on the stack, parameters get the
 -- arguments, then variables their initial values, and pc becomes p's first label
-abbrev pub entered : Program → Actor → Place → Value → Routine → List Place → List Value → State → Got State
+abbrev pub entered : Program → Actor → Place → Value → Routine → List Place → List Value → State → Outcome State
 entered P v at back p places vs s =
     all_read at (local_index v p) (written_all P p (locals p)) s (λ olds.
-    valued (P.check at (frame P p back olds)) (λ front.
+    (P.check at (frame P p back olds)) >>= (λ front.
     on_stack v at s (λ frames.
-    valued (P.check at (seq_from (front ∷ frames))) (λ new.
-    on (set_all P.check
-    (setting at stack (index v.self) new ∷ argument_settings (local_index v p) (written_all P p p.params) places vs) s) (λ u.
+    (P.check at (seq_from (front ∷ frames))) >>= (λ new.
+    (set_all P.check
+    (setting at stack (index v.self) new ∷ argument_settings (local_index v p) (written_all P p p.params) places vs) s) >>= (λ u.
     variables_started P v p at p.variables u (λ w.
     set_all P.check (setting at pc (index v.self) (label_value P p (first_label p)) ∷ []) w))))))
 
 -- ---- returns
 
-abbrev pub fields_read : Place → List Word → Value → (List Value → Got State) → Got State
+abbrev pub fields_read : Place → List Word → Value → (List Value → Outcome State) → Outcome State
 fields_read at [] f go = go []
-fields_read at (x ∷ xs) f go = valued (applied at f (text x)) (λ v. fields_read at xs f (λ vs. go (v ∷ vs)))
+fields_read at (x ∷ xs) f go = (applied at f (text x)) >>= (λ v. fields_read at xs f (λ vs. go (v ∷ vs)))
 
 abbrev pub part_settings : Place → List Value → List Word → List Value → List Setting
 part_settings at path (x ∷ xs) (v ∷ vs) = setting at x path v ∷ part_settings at path xs vs
 part_settings at path _ _ = []
 
 -- pc and the procedure's parameters and variables as the first record on the stack has them
-abbrev pub restored : Program → Actor → Place → Routine → List Value → State → Got State
-restored P v at p [] s = bad (faulty EmptySequence at)
+abbrev pub restored : Program → Actor → Place → Routine → List Value → State → Outcome State
+restored P v at p [] s = Err (fault EmptySequence at)
 restored P v at p (front ∷ frames) s =
     fields_read at (codes "pc" ∷ []) front (λ label.
     fields_read at (written_all P p (locals p)) front (λ vs.
@@ -111,14 +111,14 @@ restored P v at p (front ∷ frames) s =
     ++ (setting at stack (index v.self) (seq_from frames) ∷ [])) s))
 
 -- a return in procedure p: the first record is taken off the stack
-abbrev pub returned : Program → Actor → Place → Routine → State → Got State
+abbrev pub returned : Program → Actor → Place → Routine → State → Outcome State
 returned P v at p s = on_stack v at s (λ frames. restored P v at p frames s)
 
 -- ---- the rules of a step
 
-abbrev pub finished : Got State → Course
-finished (got t) = ends t
-finished (bad k) = stops k
+abbrev pub finished : Outcome State → Course
+finished (Ok t) = ends t
+finished (Err k) = stops k
 
 abbrev pub entered_at : Program → Actor → Place → Value → Option Routine → List Place → List Value → State → Course
 entered_at P v at back None places vs s = held at  -- no such procedure
@@ -132,8 +132,8 @@ named x (u ∷ us) = cond (bytes_eq u.name.word x) (Some u) (named x us)
 abbrev pub rules_of : Program → Actor → Routine → Rules
 rules_of P v u = with_macros (record {
   check = P.check;
-  go = λ l s. finished (jumped P v u l s);
-  enter = λ at p places vs back s. entered_at P v at (label_value P u back) (named p (procedure_routines P.algorithm)) places vs s;
-  quit = λ at s. finished (returned P v at u s);
+  goto = λ l s. finished (jumped P v u l s);
+  call = λ at p places vs back s. entered_at P v at (label_value P u back) (named p (procedure_routines P.algorithm)) places vs s;
+  return = λ at s. finished (returned P v at u s);
   macros = λ here at m ts sc K s. held at;
 }) (reverse P.algorithm.macros)

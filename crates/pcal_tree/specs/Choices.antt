@@ -1,7 +1,7 @@
 -- Courses by choices: the one that a list of choices picks, and the first that meets trouble.
-use Rattle.std.specs.Prelude.{ℕ, zero, suc, List, [], ◌∷◌, Option, Some, None}
+use Rattle.std.specs.Prelude.{ℕ, zero, suc, List, [], ◌∷◌, Option, Some, None, Ok, Err}
 use Rattle.tla_token.specs.declared.place.Place.{Place}
-use Rattle.pcal_tree.specs.Scope.{State, Trouble, Got, got, bad}
+use Rattle.pcal_tree.specs.Scope.{State, Trouble, Outcome}
 use Rattle.pcal_tree.specs.Run.{Course, ends, stops, chooses, Courses, no_courses, course}
 
 -- what comes of a list of choices, each the number, from 1, of a branch or of a member of the set
@@ -48,13 +48,13 @@ abbrev mutual
   first_trouble_of (course c cs) = or_else (first_trouble c) (first_trouble_of cs)
 
 -- the outcome that a walk tells, if any
-abbrev pub told : Walk → Option (Got State)
-told (went t ns) = Some (got t)
-told (failed k) = Some (bad k)
+abbrev pub told : Walk → Option (Outcome State)
+told (went t ns) = Some (Ok t)
+told (failed k) = Some (Err k)
 told (blocked at) = None
 told (wanting k at) = None
 
 -- a walk to an outcome, by choices that are all used
-abbrev pub landing : Got State → Walk
-landing (got t) = went t []
-landing (bad k) = failed k
+abbrev pub landing : Outcome State → Walk
+landing (Ok t) = went t []
+landing (Err k) = failed k

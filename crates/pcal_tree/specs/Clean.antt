@@ -6,7 +6,7 @@ use Rattle.tla_expr.specs.Tree.{Word, Tree, Trees, Every, EveryOf, Graft}
 use Rattle.tla_value.specs.Value.{Value}
 use Rattle.tla_value.specs.Stops.{Check}
 use Rattle.tla_value.specs.Related.{Clear, ClearForm}
-use Rattle.pcal_tree.specs.Algorithm.{Moves, no_moves, move, Binds, no_binds, one_of, is, Statement, assign, await, print, assert, branch, either, with, loop, macro, invoke, Statements, done, then, mark, Branches, no_branches, or, Macro}
+use Rattle.pcal_tree.specs.Algorithm.{Assignments, no_assignments, assignment, Binds, no_binds, one_of, is, Statement, assign, await, print, assert, branch, either, with, while, macro, call, Statements, done, then, mark, Branches, no_branches, or, Macro}
 use Rattle.pcal_tree.specs.Scope.{State, Scope, bound, reach}
 use Rattle.pcal_tree.specs.Run.{Follow, Rules, unlabelled, label_of, run, arguments}
 use Rattle.pcal_tree.specs.Expand.{expand, written_out}
@@ -21,9 +21,9 @@ pub record ClearName (c : Check) (g : Graft) (x : Word) : Type 0 where
   pub unreached : (y : Word) (at : Place) → Unreached c x (g y at)
 
 -- no bound name is captured, and there is no macro call
-abbrev pub CleanMoves : Check → Graft → (Word → Type 0) → Moves → Type 0
-CleanMoves c g U no_moves = Unit {0}
-CleanMoves c g U (move l e ms) = Every (ClearForm c g U) l × Every (ClearForm c g U) e × CleanMoves c g U ms
+abbrev pub CleanMoves : Check → Graft → (Word → Type 0) → Assignments → Type 0
+CleanMoves c g U no_assignments = Unit {0}
+CleanMoves c g U (assignment l e ms) = Every (ClearForm c g U) l × Every (ClearForm c g U) e × CleanMoves c g U ms
 
 abbrev pub CleanBinds : Check → Graft → (Word → Type 0) → Binds → Type 0
 CleanBinds c g U no_binds = Unit {0}
@@ -39,9 +39,9 @@ abbrev mutual
   CleanOne c g U (branch e a b) = Every (ClearForm c g U) e × Clean c g U a × Clean c g U b
   CleanOne c g U (either bs) = CleanSome c g U bs
   CleanOne c g U (with bs b) = CleanBinds c g U bs × Clean c g U b
-  CleanOne c g U (loop e b) = Every (ClearForm c g U) e × Clean c g U b
+  CleanOne c g U (while e b) = Every (ClearForm c g U) e × Clean c g U b
   CleanOne c g U (macro m ts) = ⊥
-  CleanOne c g U (invoke p ts) = EveryOf (ClearForm c g U) ts
+  CleanOne c g U (call p ts) = EveryOf (ClearForm c g U) ts
   CleanOne c g U _ = Unit {0}
 
   pub Clean : Check → Graft → (Word → Type 0) → Statements → Type 0
@@ -77,7 +77,7 @@ abbrev mutual
   CallsOne P (branch e a b) = Calls P a × Calls P b
   CallsOne P (either bs) = CallsSome P bs
   CallsOne P (with bs b) = Calls P b
-  CallsOne P (loop e b) = Calls P b
+  CallsOne P (while e b) = Calls P b
   CallsOne P _ = Unit {0}
 
   pub Calls : (Word → Trees → Type 0) → Statements → Type 0
@@ -105,7 +105,7 @@ abbrev mutual
   BareOne (branch e a b) = Bare a × Bare b
   BareOne (either bs) = BareSome bs
   BareOne (with bs b) = Bare b
-  BareOne (loop e b) = Bare b
+  BareOne (while e b) = Bare b
   BareOne _ = Unit {0}
 
   pub Bare : Statements → Type 0

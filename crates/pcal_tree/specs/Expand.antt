@@ -2,9 +2,9 @@
 use Rattle.std.specs.Prelude.{List, [], ◌∷◌, cond, bytes_eq, Option, Some, None}
 use Rattle.tla_token.specs.declared.place.Place.{Place}
 use Rattle.tla_expr.specs.Tree.{Word, Tree, node, Trees, Graft, graft, grafts}
-use Rattle.pcal_tree.specs.Algorithm.{Span, Moves, no_moves, move, Binds, no_binds, one_of, is, Statement, assign, await, print, assert, skip, branch, either, with, loop, jump, macro, invoke, leave, Statements, done, then, mark, Branches, no_branches, or, Macro}
+use Rattle.pcal_tree.specs.Algorithm.{Span, Assignments, no_assignments, assignment, Binds, no_binds, one_of, is, Statement, assign, await, print, assert, skip, branch, either, with, while, goto, macro, call, return, Statements, done, then, mark, Branches, no_branches, or, Macro}
 use Rattle.pcal_tree.specs.Run.{arguments}
-use Rattle.pcal_tree.specs.Begin.{Begin}
+use Rattle.pcal_tree.specs.StepStart.{Begin}
 
 -- ---- trees put in
 
@@ -15,9 +15,9 @@ placed_at at (node m p ts) = node m at ts
 abbrev pub graft_left : Graft → Tree → Tree
 graft_left g (node m at ts) = placed_at at (graft g (node m at ts))
 
-abbrev pub graft_moves : Graft → Moves → Moves
-graft_moves g no_moves = no_moves
-graft_moves g (move l e ms) = move (graft_left g l) (graft g e) (graft_moves g ms)
+abbrev pub graft_moves : Graft → Assignments → Assignments
+graft_moves g no_assignments = no_assignments
+graft_moves g (assignment l e ms) = assignment (graft_left g l) (graft g e) (graft_moves g ms)
 
 abbrev pub graft_binds : Graft → Binds → Binds
 graft_binds g no_binds = no_binds
@@ -34,11 +34,11 @@ abbrev mutual
   graft_one g (branch e a b) = branch (graft g e) (graft_all g a) (graft_all g b)
   graft_one g (either bs) = either (graft_some g bs)
   graft_one g (with bs b) = with (graft_binds g bs) (graft_all g b)
-  graft_one g (loop e b) = loop (graft g e) (graft_all g b)
-  graft_one g (jump l) = jump l
+  graft_one g (while e b) = while (graft g e) (graft_all g b)
+  graft_one g (goto l) = goto l
   graft_one g (macro m ts) = macro m (grafts g ts)
-  graft_one g (invoke p ts) = invoke p (grafts g ts)
-  graft_one g leave = leave
+  graft_one g (call p ts) = call p (grafts g ts)
+  graft_one g return = return
 
   pub graft_all : Graft → Statements → Statements
   graft_all g done = done
@@ -66,15 +66,15 @@ abbrev mutual
   expand_one X at (branch e a b) rest = then at (branch e (expand X a) (expand X b)) rest
   expand_one X at (either bs) rest = then at (either (expand_some X bs)) rest
   expand_one X at (with bs b) rest = then at (with bs (expand X b)) rest
-  expand_one X at (loop e b) rest = then at (loop e (expand X b)) rest
+  expand_one X at (while e b) rest = then at (while e (expand X b)) rest
   expand_one X at (assign ms) rest = then at (assign ms) rest
   expand_one X at (await e) rest = then at (await e) rest
   expand_one X at (print e) rest = then at (print e) rest
   expand_one X at (assert e) rest = then at (assert e) rest
   expand_one X at skip rest = then at skip rest
-  expand_one X at (jump l) rest = then at (jump l) rest
-  expand_one X at (invoke p ts) rest = then at (invoke p ts) rest
-  expand_one X at leave rest = then at leave rest
+  expand_one X at (goto l) rest = then at (goto l) rest
+  expand_one X at (call p ts) rest = then at (call p ts) rest
+  expand_one X at return rest = then at return rest
 
   pub expand : Writing → Statements → Statements
   expand X done = done

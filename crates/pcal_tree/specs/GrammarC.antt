@@ -69,7 +69,7 @@ abbrev mutual
   flat_statement (branch p q e r a b) rest = placed (branch p q e r a b) (tree.branch (tree_of e) (flat a tree.done) (else_statements b)) rest
   flat_statement (either p a bs) rest = placed (either p a bs) (tree.either (tree.or (flat a tree.done) (branch_trees bs))) rest
   flat_statement (with p q bs r a) rest = placed (with p q bs r a) (tree.with (binds_of bs) (flat a tree.done)) rest
-  flat_statement (loop p q e r a) rest = placed (loop p q e r a) (tree.loop (tree_of e) (flat a tree.done)) rest
+  flat_statement (loop p q e r a) rest = placed (loop p q e r a) (tree.while (tree_of e) (flat a tree.done)) rest
   flat_statement (compound p ss q) rest = flat_sequence ss rest
 
   pub flat : Labelled → tree.Statements → tree.Statements

@@ -57,7 +57,7 @@ abbrev mutual
   statement_tree (branch p e q a b r s) = tree.branch (tree_of e) (statements a) (else_statements s b)
   statement_tree (either p a bs r s) = tree.either (tree.or (statements a) (branch_trees bs))
   statement_tree (with p bs q a r s) = tree.with (binds_of bs) (statements a)
-  statement_tree (loop p e q a r s) = tree.loop (tree_of e) (statements a)
+  statement_tree (loop p e q a r s) = tree.while (tree_of e) (statements a)
 
   -- `elsif` is an `if` alone in the `else`, which ends where the whole does
   pub else_statements : Place → Else → tree.Statements

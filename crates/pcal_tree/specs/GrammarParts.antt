@@ -4,7 +4,7 @@ use Rattle.tla_token.specs.declared.place.Place.{Place}
 use Rattle.tla_expr.specs.declared.op.Op.{Op}
 use Rattle.tla_expr.specs.declared.op.Op.TheVariants as op
 use Rattle.tla_expr.specs.Tree.{Word, Trees, no_trees}
-use Rattle.tla_expr.specs.Lexical.{Tk, Mark, sign_of}
+use Rattle.tla_expr.specs.Lexical.{ExprToken, Mark, sign_of}
 use Rattle.tla_expr.specs.Lexical as tk
 use Rattle.tla_expr.specs.Spelling.{Phrase, Phrases, IsGood, GoodAll, tree_of, trees_of}
 use Rattle.tla_expr.specs.Spelling as spelled
@@ -320,32 +320,32 @@ is_left_side (spelled.select a p f) = is_left_side a
 is_left_side a = false
 
 -- l := e || m := f
-pub data Moves : Type 0 where
-  last_move : Phrase → Place → Phrase → Moves
-  move : Phrase → Place → Phrase → Place → Moves → Moves
+pub data Assignments : Type 0 where
+  last_assignment : Phrase → Place → Phrase → Assignments
+  assignment : Phrase → Place → Phrase → Place → Assignments → Assignments
 
-abbrev pub moves : Moves → Tokens
-moves (last_move l p e) ts = expression l (token p assigns (expression e ts))
-moves (move l p e q ms) ts = expression l (token p assigns (expression e (token q beside (moves ms ts))))
+abbrev pub moves : Assignments → Tokens
+moves (last_assignment l p e) ts = expression l (token p assigns (expression e ts))
+moves (assignment l p e q ms) ts = expression l (token p assigns (expression e (token q beside (moves ms ts))))
 
-abbrev pub moves_of : Moves → tree.Moves
-moves_of (last_move l p e) = tree.move (tree_of l) (tree_of e) tree.no_moves
-moves_of (move l p e q ms) = tree.move (tree_of l) (tree_of e) (moves_of ms)
+abbrev pub moves_of : Assignments → tree.Assignments
+moves_of (last_assignment l p e) = tree.assignment (tree_of l) (tree_of e) tree.no_assignments
+moves_of (assignment l p e q ms) = tree.assignment (tree_of l) (tree_of e) (moves_of ms)
 
-abbrev pub GoodMoves : Moves → Type 0
-GoodMoves (last_move l p e) = IsTrue (is_left_side l) × IsGood l × IsGood e
-GoodMoves (move l p e q ms) = IsTrue (is_left_side l) × IsGood l × IsGood e × GoodMoves ms
+abbrev pub GoodMoves : Assignments → Type 0
+GoodMoves (last_assignment l p e) = IsTrue (is_left_side l) × IsGood l × IsGood e
+GoodMoves (assignment l p e q ms) = IsTrue (is_left_side l) × IsGood l × IsGood e × GoodMoves ms
 
 pub data Simple : Type 0 where
-  assign : Moves → Simple
+  assign : Assignments → Simple
   await : Place → Phrase → Simple
   when : Place → Phrase → Simple  -- the same as `await`
   print : Place → Phrase → Simple
   assert : Place → Phrase → Simple
   skip : Place → Simple
-  jump : Place → Name → Simple  -- goto N
-  invoke : Place → Name → Arguments → Simple  -- call N(a, b)
-  leave : Place → Simple  -- return
+  goto : Place → Name → Simple  -- goto N
+  call : Place → Name → Arguments → Simple  -- call N(a, b)
+  return : Place → Simple  -- return
   macro : Name → Arguments → Simple  -- N(a, b)
 
 abbrev pub simple_tokens : Simple → Tokens
@@ -355,9 +355,9 @@ simple_tokens (when p e) ts = key p (codes "when") (expression e ts)
 simple_tokens (print p e) ts = key p (codes "print") (expression e ts)
 simple_tokens (assert p e) ts = key p (codes "assert") (expression e ts)
 simple_tokens (skip p) ts = key p (codes "skip") ts
-simple_tokens (jump p x) ts = key p (codes "goto") (name x ts)
-simple_tokens (invoke p x xs) ts = key p (codes "call") (name x (arguments xs ts))
-simple_tokens (leave p) ts = key p (codes "return") ts
+simple_tokens (goto p x) ts = key p (codes "goto") (name x ts)
+simple_tokens (call p x xs) ts = key p (codes "call") (name x (arguments xs ts))
+simple_tokens (return p) ts = key p (codes "return") ts
 simple_tokens (macro x xs) ts = name x (arguments xs ts)
 
 abbrev pub simple_tree : Simple → Statement
@@ -367,9 +367,9 @@ simple_tree (when p e) = tree.await (tree_of e)
 simple_tree (print p e) = tree.print (tree_of e)
 simple_tree (assert p e) = tree.assert (tree_of e)
 simple_tree (skip p) = tree.skip
-simple_tree (jump p x) = tree.jump x.word
-simple_tree (invoke p x xs) = tree.invoke x (arguments_of xs)
-simple_tree (leave p) = tree.leave
+simple_tree (goto p x) = tree.goto x.word
+simple_tree (call p x xs) = tree.call x (arguments_of xs)
+simple_tree (return p) = tree.return
 simple_tree (macro x xs) = tree.macro x.word (arguments_of xs)
 
 abbrev pub GoodSimple : Simple → Type 0
@@ -379,7 +379,7 @@ GoodSimple (when p e) = IsGood e
 GoodSimple (print p e) = IsGood e
 GoodSimple (assert p e) = IsGood e
 GoodSimple (skip p) = Unit {0}
-GoodSimple (jump p x) = Unit {0}
-GoodSimple (invoke p x xs) = GoodArguments xs
-GoodSimple (leave p) = Unit {0}
+GoodSimple (goto p x) = Unit {0}
+GoodSimple (call p x xs) = GoodArguments xs
+GoodSimple (return p) = Unit {0}
 GoodSimple (macro x xs) = GoodArguments xs

@@ -5,13 +5,13 @@ use Rattle.tla_token.specs.declared.sign.Sign.TheVariants as sign
 use Rattle.tla_token.specs.Lexemes.{one}
 use Rattle.tla_token.specs.Lexemes as lexeme
 use Rattle.tla_token.specs.Tokens as text
-use Rattle.tla_expr.specs.Lexical.{Tk}
+use Rattle.tla_expr.specs.Lexical.{ExprToken}
 use Rattle.tla_expr.specs.Lexical as tk
-use Rattle.tla_expr.specs.View as expression
+use Rattle.tla_expr.specs.ExprTokens as expression
 
 -- a token as expressions see it, or a sign of statements alone
 pub data Kind : Type 0 where
-  seen : Tk → Kind
+  seen : ExprToken → Kind
   assigns : Kind  -- :=
   beside : Kind  -- ||
   semicolon : Kind  -- ;

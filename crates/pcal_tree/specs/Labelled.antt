@@ -7,7 +7,7 @@ use Rattle.tla_token.specs.declared.rule.Refusal.{Refusal}
 use Rattle.tla_token.specs.Signs.{is_among}
 use Rattle.tla_expr.specs.Tree.{Word}
 use Rattle.pcal_tree.specs.declared.mark.Mark.TheVariants.{Plain}
-use Rattle.pcal_tree.specs.Algorithm.{Span, Statement, branch, either, with, loop, Statements, done, then, mark, Branches, no_branches, or, Macro, Procedure, Process, Main, alone, processes, Algorithm}
+use Rattle.pcal_tree.specs.Algorithm.{Span, Statement, branch, either, with, while, Statements, done, then, mark, Branches, no_branches, or, Macro, Procedure, Process, Main, alone, processes, Algorithm}
 use Rattle.pcal_tree.specs.Offences.{each}
 use Rattle.pcal_tree.specs.OffencesLabels.{Effects, nothing, Before, at_label, at_first, inside, next, behind_one, step_offences_here, step_offences_inside, is_empty, label_words, procedure_effects, outer_effects}
 
@@ -60,7 +60,7 @@ abbrev mutual
   pub add_inside : {R : Type 0} → Effects → Before → Supply → Statement → (Statement → Supply → R) → R
   add_inside E p s (branch e a b) go = add E (inside p.variables) s a (λ a' t. add E (inside p.variables) t b (λ b' u. go (branch e a' b') u))
   add_inside E p s (either bs) go = add_some E (inside p.variables) s bs (λ bs' t. go (either bs') t)
-  add_inside E p s (loop e b) go = add E (inside (behind_one E (loop e b) p.labelled p.variables)) s b (λ b' t. go (loop e b') t)
+  add_inside E p s (while e b) go = add E (inside (behind_one E (while e b) p.labelled p.variables)) s b (λ b' t. go (while e b') t)
   add_inside E p s st go = go st s
 
   pub add : {R : Type 0} → Effects → Before → Supply → Statements → (Statements → Supply → R) → R

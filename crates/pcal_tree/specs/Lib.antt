@@ -4,12 +4,12 @@ pub mod Scope
 pub mod Assign
 pub mod Run
 pub mod Choices
-pub mod Begin
+pub mod StepStart
 pub mod Program
 pub mod Calls
 pub mod Step
-pub mod Initial
-pub mod Starting
+pub mod InitialStates
+pub mod InitialChoice
 pub mod Script
 pub mod Expand
 pub mod Marks

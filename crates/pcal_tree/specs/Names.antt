@@ -4,7 +4,7 @@ use Rattle.std.specs.Fmt.{decimal}
 use Rattle.tla_token.specs.Signs.{is_among}
 use Rattle.tla_token.specs.Words.{is_reserved, is_own, is_standard}
 use Rattle.tla_expr.specs.Tree.{Word}
-use Rattle.pcal_tree.specs.Algorithm.{Moves, no_moves, move, Binds, no_binds, one_of, is, Statement, assign, await, print, assert, skip, branch, either, with, loop, jump, macro, invoke, leave, Statements, done, then, mark, Branches, no_branches, or, Start, unset, equals, among, Declaration, Procedure, Process, Main, alone, processes, Algorithm, Routine, locals, procedure_routines, main_routines, Naming}
+use Rattle.pcal_tree.specs.Algorithm.{Assignments, no_assignments, assignment, Binds, no_binds, one_of, is, Statement, assign, await, print, assert, skip, branch, either, with, while, goto, macro, call, return, Statements, done, then, mark, Branches, no_branches, or, Start, unset, equals, among, Declaration, Procedure, Process, Main, alone, processes, Algorithm, Routine, locals, procedure_routines, main_routines, Naming}
 use Rattle.pcal_tree.specs.Program.{words, declared}
 use Rattle.pcal_tree.specs.Offences.{each}
 use Rattle.pcal_tree.specs.OffencesLabels.{label_words}
@@ -12,9 +12,9 @@ use Rattle.pcal_tree.specs.Outside.{Outside, unit_names, bound_in, bound_in_all,
 
 -- ---- names that an algorithm binds: in expressions and by `with`
 
-abbrev pub bound_in_moves : Moves → List Word
-bound_in_moves no_moves = []
-bound_in_moves (move l e ms) = bound_in l ++ (bound_in e ++ bound_in_moves ms)
+abbrev pub bound_in_moves : Assignments → List Word
+bound_in_moves no_assignments = []
+bound_in_moves (assignment l e ms) = bound_in l ++ (bound_in e ++ bound_in_moves ms)
 
 abbrev pub bound_in_binds : Binds → List Word
 bound_in_binds no_binds = []
@@ -31,11 +31,11 @@ abbrev mutual
   bound_in_one (branch e a b) = bound_in e ++ (bound_in_body a ++ bound_in_body b)
   bound_in_one (either bs) = bound_in_branches bs
   bound_in_one (with bs b) = bound_in_binds bs ++ bound_in_body b
-  bound_in_one (loop e b) = bound_in e ++ bound_in_body b
-  bound_in_one (jump l) = []
+  bound_in_one (while e b) = bound_in e ++ bound_in_body b
+  bound_in_one (goto l) = []
   bound_in_one (macro m ts) = bound_in_all ts
-  bound_in_one (invoke p ts) = bound_in_all ts
-  bound_in_one leave = []
+  bound_in_one (call p ts) = bound_in_all ts
+  bound_in_one return = []
 
   pub bound_in_body : Statements → List Word
   bound_in_body done = []

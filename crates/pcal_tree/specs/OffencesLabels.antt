@@ -6,7 +6,7 @@ use Rattle.tla_token.specs.declared.rule.Rule.TheVariants.{FirstLabel, WhileLabe
 use Rattle.tla_token.specs.declared.rule.Refusal.{Refusal}
 use Rattle.tla_token.specs.Signs.{is_among}
 use Rattle.tla_expr.specs.Tree.{Word, apply, select, Form, name, strict, Tree, node, Trees, no_trees, tree}
-use Rattle.pcal_tree.specs.Algorithm.{nowhere, Name, Moves, no_moves, move, Statement, assign, branch, either, with, loop, jump, macro, invoke, leave, Statements, done, then, mark, Branches, no_branches, or, Macro, Procedure, Main, alone, processes, Algorithm}
+use Rattle.pcal_tree.specs.Algorithm.{nowhere, Name, Assignments, no_assignments, assignment, Statement, assign, branch, either, with, while, goto, macro, call, return, Statements, done, then, mark, Branches, no_branches, or, Macro, Procedure, Main, alone, processes, Algorithm}
 use Rattle.pcal_tree.specs.Program.{declared}
 use Rattle.pcal_tree.specs.Expand.{written_out}
 use Rattle.pcal_tree.specs.Offences.{offence, offence_if, each}
@@ -32,21 +32,21 @@ abbrev pub is_whole : Tree → Bool
 is_whole (node (name x) at ts) = true
 is_whole _ = false
 
-abbrev pub roots : Moves → List Word
-roots no_moves = []
-roots (move l e ms) = root l ∷ roots ms
+abbrev pub roots : Assignments → List Word
+roots no_assignments = []
+roots (assignment l e ms) = root l ∷ roots ms
 
 -- of two left sides of one statement: the same variable, and one of them is the whole of it
 abbrev pub clash : Tree → Tree → Bool
 clash l m = bytes_eq (root l) (root m) && (is_whole l || is_whole m)
 
-abbrev pub clashes_with : Tree → Moves → Bool
-clashes_with l no_moves = false
-clashes_with l (move m e ms) = clash l m || clashes_with l ms
+abbrev pub clashes_with : Tree → Assignments → Bool
+clashes_with l no_assignments = false
+clashes_with l (assignment m e ms) = clash l m || clashes_with l ms
 
-abbrev pub clashes : Moves → Bool
-clashes no_moves = false
-clashes (move l e ms) = clashes_with l ms || clashes ms
+abbrev pub clashes : Assignments → Bool
+clashes no_assignments = false
+clashes (assignment l e ms) = clashes_with l ms || clashes ms
 
 -- the variables that a statement itself assigns, not those inside it, and whether it assigns one of them twice
 pub record Effect : Type 0 where
@@ -80,10 +80,10 @@ abbrev mutual
   behind_one E (branch e a b) l xs = behind E a false xs ++ behind E b false xs
   behind_one E (either bs) l xs = behind_some E bs xs
   behind_one E (with bs b) l xs = behind E b false xs
-  behind_one E (loop e b) l xs = cond l xs (behind E b false xs ++ xs)  -- without a label a path may go round again
-  behind_one E (jump n) l xs = []
-  behind_one E (invoke p ts) l xs = []
-  behind_one E leave l xs = []
+  behind_one E (while e b) l xs = cond l xs (behind E b false xs ++ xs)  -- without a label a path may go round again
+  behind_one E (goto n) l xs = []
+  behind_one E (call p ts) l xs = []
+  behind_one E return l xs = []
   behind_one E st l xs = (E st).variables ++ xs
 
   pub behind : Effects → Statements → Bool → List Word → List Word
@@ -103,10 +103,10 @@ abbrev mutual
   holds_one (branch e a b) = holds a || holds b
   holds_one (either bs) = holds_some bs
   holds_one (with bs b) = holds b
-  holds_one (loop e b) = holds b
-  holds_one (jump n) = true
-  holds_one (invoke p ts) = true
-  holds_one leave = true
+  holds_one (while e b) = holds b
+  holds_one (goto n) = true
+  holds_one (call p ts) = true
+  holds_one return = true
   holds_one _ = false
 
   pub holds : Statements → Bool
@@ -120,9 +120,9 @@ abbrev mutual
 
 -- the rule by which the statement behind this one needs a label
 abbrev pub due_behind : Statement → Option Rule
-due_behind (jump n) = Some AfterJump
-due_behind (invoke p ts) = Some AfterJump
-due_behind leave = Some AfterJump
+due_behind (goto n) = Some AfterJump
+due_behind (call p ts) = Some AfterJump
+due_behind return = Some AfterJump
 due_behind (branch e a b) = cond (holds a || holds b) (Some AfterBranch) None
 due_behind (either bs) = cond (holds_some bs) (Some AfterBranch) None
 due_behind (with bs b) = cond (holds b) (Some AfterBranch) None
@@ -153,7 +153,7 @@ due_offence None at = []
 due_offence (Some r) at = offence r at
 
 abbrev pub while_offence : Statement → Place → List Refusal
-while_offence (loop e b) at = offence WhileLabel at
+while_offence (while e b) at = offence WhileLabel at
 while_offence _ at = []
 
 -- at a statement, but for what stands inside it
@@ -168,7 +168,7 @@ abbrev mutual
   step_offences_inside E p (branch e a b) = step_offences E (inside p.variables) a ++ step_offences E (inside p.variables) b
   step_offences_inside E p (either bs) = step_offences_of_some E (inside p.variables) bs
   step_offences_inside E p (with bs b) = step_offences E (inside p.variables) b
-  step_offences_inside E p (loop e b) = step_offences E (inside (behind_one E (loop e b) p.labelled p.variables)) b
+  step_offences_inside E p (while e b) = step_offences E (inside (behind_one E (while e b) p.labelled p.variables)) b
   step_offences_inside E p _ = []
 
   pub step_offences : Effects → Before → Statements → List Refusal
@@ -195,8 +195,8 @@ effect_of_body b = record { variables = behind assigned b false []; twice = not 
 -- another one are assigned by nothing else in the step
 abbrev pub effects_in : List Macro → Option Name → List Word → Effects
 effects_in ms p xs (macro m ts) = effect_of_body (written_out ms (record { first = nowhere; last = nowhere }) m ts)
-effects_in ms (Some p) xs (invoke q ts) = cond (bytes_eq p.word q.word) (sets_once xs) nothing
-effects_in ms p xs leave = sets_once xs
+effects_in ms (Some p) xs (call q ts) = cond (bytes_eq p.word q.word) (sets_once xs) nothing
+effects_in ms p xs return = sets_once xs
 effects_in ms p xs st = assigned st
 
 abbrev pub missing_in_macro : Macro → List Refusal
@@ -218,7 +218,7 @@ abbrev mutual
   labels_of_one (branch e a b) = labels false a ++ labels false b
   labels_of_one (either bs) = labels_of_some bs
   labels_of_one (with bs b) = labels false b
-  labels_of_one (loop e b) = labels false b
+  labels_of_one (while e b) = labels false b
   labels_of_one _ = []
 
   pub labels : Bool → Statements → List Label
@@ -245,10 +245,10 @@ within_with w = record { macro = w.macro; with = true; procedure = w.procedure; 
 
 -- `goto` and `return` in a macro break one rule alone
 abbrev pub jump_offences_here : Within → Place → Statement → List Refusal
-jump_offences_here w at (loop e b) = offence_if w.macro LabelInside at
-jump_offences_here w at (jump n) = offence_if w.macro LabelInside at ++ offence_if (not w.macro && not (is_among w.targets n)) UnknownLabel at
-jump_offences_here w at (invoke p ts) = offence_if w.macro LabelInside at
-jump_offences_here w at leave = offence_if w.macro LabelInside at ++ offence_if (not w.macro && not w.procedure) ReturnOutside at
+jump_offences_here w at (while e b) = offence_if w.macro LabelInside at
+jump_offences_here w at (goto n) = offence_if w.macro LabelInside at ++ offence_if (not w.macro && not (is_among w.targets n)) UnknownLabel at
+jump_offences_here w at (call p ts) = offence_if w.macro LabelInside at
+jump_offences_here w at return = offence_if w.macro LabelInside at ++ offence_if (not w.macro && not w.procedure) ReturnOutside at
 jump_offences_here w at _ = []
 
 abbrev mutual
@@ -256,7 +256,7 @@ abbrev mutual
   jump_offences_inside w (branch e a b) = jump_offences w a ++ jump_offences w b
   jump_offences_inside w (either bs) = jump_offences_of_some w bs
   jump_offences_inside w (with bs b) = jump_offences (within_with w) b
-  jump_offences_inside w (loop e b) = jump_offences w b
+  jump_offences_inside w (while e b) = jump_offences w b
   jump_offences_inside w _ = []
 
   pub jump_offences : Within → Statements → List Refusal

@@ -4,8 +4,8 @@ use Rattle.tla_token.specs.declared.place.Place.{Place}
 use Rattle.tla_token.specs.declared.rule.Rule.TheVariants.{Unknown, Duplicate, Arity}
 use Rattle.tla_token.specs.declared.rule.Refusal.{Refusal}
 use Rattle.tla_token.specs.Signs.{is_among}
-use Rattle.tla_expr.specs.Tree.{Word, Form, name, call, Tree, node, Trees, no_trees, tree, binders}
-use Rattle.pcal_tree.specs.Algorithm.{Name, Moves, no_moves, move, Binds, no_binds, one_of, is, Statement, assign, await, print, assert, skip, branch, either, with, loop, jump, macro, invoke, leave, Statements, done, then, mark, Branches, no_branches, or, Start, unset, equals, among, Declaration, Definition, Macro, Procedure, Process, Main, alone, processes, Algorithm}
+use Rattle.tla_expr.specs.Tree.{Word, Form, name, operator_call, Tree, node, Trees, no_trees, tree, binders}
+use Rattle.pcal_tree.specs.Algorithm.{Name, Assignments, no_assignments, assignment, Binds, no_binds, one_of, is, Statement, assign, await, print, assert, skip, branch, either, with, while, goto, macro, call, return, Statements, done, then, mark, Branches, no_branches, or, Start, unset, equals, among, Declaration, Definition, Macro, Procedure, Process, Main, alone, processes, Algorithm}
 use Rattle.pcal_tree.specs.Program.{words, declared}
 use Rattle.pcal_tree.specs.Offences.{offence, offence_if, each}
 use Rattle.pcal_tree.specs.Outside.{Outside, unit_names}
@@ -51,7 +51,7 @@ use_offences s x n at = known_if_read (arguments_of s.known x) (is_among s.opaqu
 
 abbrev pub form_offences : Sight → Form → ℕ → Place → List Refusal
 form_offences s (name x) n at = use_offences s x 0 at
-form_offences s (call f) n at = use_offences s f n at
+form_offences s (operator_call f) n at = use_offences s f n at
 form_offences s _ n at = []
 
 abbrev pub count : Trees → ℕ
@@ -96,9 +96,9 @@ call_offences [] at p n = offence Unknown at
 call_offences (d ∷ ds) at p n =
     cond (bytes_eq d.name.word p.word) (offence_if (not (nat_eq (length d.params) n)) Arity p.place) (call_offences ds at p n)
 
-abbrev pub in_moves : Moves → Sight → List Refusal
-in_moves no_moves s = []
-in_moves (move l e ms) s = in_left l s ++ (in_tree e s ++ in_moves ms s)
+abbrev pub in_moves : Assignments → Sight → List Refusal
+in_moves no_assignments s = []
+in_moves (assignment l e ms) s = in_left l s ++ (in_tree e s ++ in_moves ms s)
 
 -- each name is seen by those behind it
 abbrev pub in_binds : Binds → Sight → List Refusal
@@ -121,11 +121,11 @@ abbrev mutual
   in_one C ps at (branch e a b) s = in_tree e s ++ (in_body C ps a s ++ in_body C ps b s)
   in_one C ps at (either bs) s = in_branches C ps bs s
   in_one C ps at (with bs b) s = in_binds bs s ++ in_body C ps b (behind_binds bs s)
-  in_one C ps at (loop e b) s = in_tree e s ++ in_body C ps b s
-  in_one C ps at (jump l) s = []
+  in_one C ps at (while e b) s = in_tree e s ++ in_body C ps b s
+  in_one C ps at (goto l) s = []
   in_one C ps at (macro m ts) s = C s at m ts ++ in_parts [] ts s
-  in_one C ps at (invoke p ts) s = call_offences ps at p (count ts) ++ in_parts [] ts s
-  in_one C ps at leave s = []
+  in_one C ps at (call p ts) s = call_offences ps at p (count ts) ++ in_parts [] ts s
+  in_one C ps at return s = []
 
   pub in_body : Calls → List Procedure → Statements → Sight → List Refusal
   in_body C ps done s = []

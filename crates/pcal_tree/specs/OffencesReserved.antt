@@ -5,7 +5,7 @@ use Rattle.tla_token.specs.declared.rule.Rule.TheVariants.{Reserved}
 use Rattle.tla_token.specs.declared.rule.Refusal.{Refusal}
 use Rattle.tla_token.specs.Signs.{is_among}
 use Rattle.tla_token.specs.Words.{is_own, is_standard}
-use Rattle.pcal_tree.specs.Algorithm.{Name, Binds, no_binds, one_of, is, Statement, branch, either, with, loop, Statements, done, then, mark, Branches, no_branches, or, Definition, Macro, Procedure, Process, Main, alone, processes, Algorithm}
+use Rattle.pcal_tree.specs.Algorithm.{Name, Binds, no_binds, one_of, is, Statement, branch, either, with, while, Statements, done, then, mark, Branches, no_branches, or, Definition, Macro, Procedure, Process, Main, alone, processes, Algorithm}
 use Rattle.pcal_tree.specs.Offences.{offence_if, each}
 use Rattle.pcal_tree.specs.OffencesLabels.{Label, labels}
 use Rattle.pcal_tree.specs.OffencesNames.{names_of}
@@ -24,7 +24,7 @@ abbrev mutual
   with_names_of_one (branch e a b) = with_names a ++ with_names b
   with_names_of_one (either bs) = with_names_of_some bs
   with_names_of_one (with bs b) = bind_names bs ++ with_names b
-  with_names_of_one (loop e b) = with_names b
+  with_names_of_one (while e b) = with_names b
   with_names_of_one _ = []
 
   pub with_names : Statements → List Name

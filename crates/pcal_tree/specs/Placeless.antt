@@ -1,7 +1,7 @@
 -- Algorithms without their places, in which the trees of one algorithm in the two syntaxes are equal.
 use Rattle.std.specs.Prelude.{List, [], ◌∷◌}
 use Rattle.tla_expr.specs.Tree.{Slot, Strict, except, Form, strict, Tree, node, Trees, no_trees, tree}
-use Rattle.pcal_tree.specs.Algorithm.{nowhere, Name, Span, Moves, no_moves, move, Binds, no_binds, one_of, is, Statement, assign, await, print, assert, skip, branch, either, with, loop, jump, macro, invoke, leave, Statements, done, then, mark, Branches, no_branches, or, Start, unset, equals, among, Declaration, Definition, Macro, Procedure, Process, Main, alone, processes, Algorithm}
+use Rattle.pcal_tree.specs.Algorithm.{nowhere, Name, Span, Assignments, no_assignments, assignment, Binds, no_binds, one_of, is, Statement, assign, await, print, assert, skip, branch, either, with, while, goto, macro, call, return, Statements, done, then, mark, Branches, no_branches, or, Start, unset, equals, among, Declaration, Definition, Macro, Procedure, Process, Main, alone, processes, Algorithm}
 
 abbrev pub slots_placeless : List Slot → List Slot
 slots_placeless [] = []
@@ -33,9 +33,9 @@ names_placeless (x ∷ xs) = name_placeless x ∷ names_placeless xs
 abbrev pub no_span : Span
 no_span = record { first = nowhere; last = nowhere }
 
-abbrev pub moves_placeless : Moves → Moves
-moves_placeless no_moves = no_moves
-moves_placeless (move l e ms) = move (tree_placeless l) (tree_placeless e) (moves_placeless ms)
+abbrev pub moves_placeless : Assignments → Assignments
+moves_placeless no_assignments = no_assignments
+moves_placeless (assignment l e ms) = assignment (tree_placeless l) (tree_placeless e) (moves_placeless ms)
 
 abbrev pub binds_placeless : Binds → Binds
 binds_placeless no_binds = no_binds
@@ -52,11 +52,11 @@ abbrev mutual
   statement_placeless (branch e a b) = branch (tree_placeless e) (statements_placeless a) (statements_placeless b)
   statement_placeless (either bs) = either (branches_placeless bs)
   statement_placeless (with bs b) = with (binds_placeless bs) (statements_placeless b)
-  statement_placeless (loop e b) = loop (tree_placeless e) (statements_placeless b)
-  statement_placeless (jump l) = jump l
+  statement_placeless (while e b) = while (tree_placeless e) (statements_placeless b)
+  statement_placeless (goto l) = goto l
   statement_placeless (macro m ts) = macro m (trees_placeless ts)
-  statement_placeless (invoke p ts) = invoke (name_placeless p) (trees_placeless ts)
-  statement_placeless leave = leave
+  statement_placeless (call p ts) = call (name_placeless p) (trees_placeless ts)
+  statement_placeless return = return
 
   pub statements_placeless : Statements → Statements
   statements_placeless done = done

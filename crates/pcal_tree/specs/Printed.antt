@@ -2,7 +2,7 @@
 use Rattle.std.specs.Prelude.{ℕ, zero, suc, ◌+◌, List, [], ◌∷◌, ◌++◌, Bool, true, false, map, codes}
 use Rattle.tla_expr.specs.Tree.{Trees, no_trees, tree}
 use Rattle.tla_expr.specs.Written.{written}
-use Rattle.pcal_tree.specs.Algorithm.{Name, Moves, no_moves, move, Binds, no_binds, one_of, is, Statement, assign, await, print, assert, skip, branch, either, with, loop, jump, macro, invoke, leave, Statements, done, then, mark, Branches, no_branches, or, Start, unset, equals, among, Declaration, Definition, Macro, Procedure, Process, Main, alone, processes, Algorithm}
+use Rattle.pcal_tree.specs.Algorithm.{Name, Assignments, no_assignments, assignment, Binds, no_binds, one_of, is, Statement, assign, await, print, assert, skip, branch, either, with, while, goto, macro, call, return, Statements, done, then, mark, Branches, no_branches, or, Start, unset, equals, among, Declaration, Definition, Macro, Procedure, Process, Main, alone, processes, Algorithm}
 use Rattle.pcal_tree.specs.Marks.{text_of_mark, text_of_fairness}
 use Rattle.pcal_tree.specs.Grammar.{Syntax, p_syntax, c_syntax}
 
@@ -57,9 +57,9 @@ trees_texts (tree t ts) = written t ∷ trees_texts ts
 abbrev pub arguments_text : Trees → Text
 arguments_text ts = bracketed (listed (trees_texts ts))
 
-abbrev pub moves_texts : Moves → List Text
-moves_texts no_moves = []
-moves_texts (move l e ms) = (written l ++ codes " := " ++ written e) ∷ moves_texts ms
+abbrev pub moves_texts : Assignments → List Text
+moves_texts no_assignments = []
+moves_texts (assignment l e ms) = (written l ++ codes " := " ++ written e) ∷ moves_texts ms
 
 abbrev pub binds_texts : Binds → List Text
 binds_texts no_binds = []
@@ -100,11 +100,11 @@ abbrev mutual
   statement s n ls (branch e a b) = λ rest. line n (ls ++ head s (codes "if") (written e) (codes "then")) (statements s (n + 2) [] a (otherwise s n b (line n (closing s (codes "if")) rest)))
   statement s n ls (either bs) = λ rest. branches s n (ls ++ opening s (codes "either")) bs (line n (closing s (codes "either")) rest)
   statement s n ls (with bs a) = λ rest. line n (ls ++ head s (codes "with") (listed (binds_texts bs)) (codes "do")) (statements s (n + 2) [] a (line n (closing s (codes "with")) rest))
-  statement s n ls (loop e a) = λ rest. line n (ls ++ head s (codes "while") (written e) (codes "do")) (statements s (n + 2) [] a (line n (closing s (codes "while")) rest))
-  statement s n ls (jump l) = line n (ls ++ codes "goto " ++ l ++ codes ";")
+  statement s n ls (while e a) = λ rest. line n (ls ++ head s (codes "while") (written e) (codes "do")) (statements s (n + 2) [] a (line n (closing s (codes "while")) rest))
+  statement s n ls (goto l) = line n (ls ++ codes "goto " ++ l ++ codes ";")
   statement s n ls (macro m ts) = line n (ls ++ m ++ arguments_text ts ++ codes ";")
-  statement s n ls (invoke x ts) = line n (ls ++ codes "call " ++ x.word ++ arguments_text ts ++ codes ";")
-  statement s n ls leave = line n (ls ++ codes "return;")
+  statement s n ls (call x ts) = line n (ls ++ codes "call " ++ x.word ++ arguments_text ts ++ codes ";")
+  statement s n ls return = line n (ls ++ codes "return;")
 
   -- with the texts of the labels that stand before the next statement
   pub statements : Syntax → ℕ → Text → Statements → Lines

@@ -1,22 +1,22 @@
 -- What names mean in a routine that a process runs ("A PlusCal User's Manual", sections 3.3 to 3.6, processes, procedures, macros, definitions).
-use Rattle.std.specs.Prelude.{List, [], ◌∷◌, ◌++◌, false, cond, bytes_eq, codes, Option, Some, None, map}
+use Rattle.std.specs.Prelude.{List, [], ◌∷◌, ◌++◌, false, cond, bytes_eq, codes, Option, Some, None, map, Ok, Err}
 use Rattle.tla_token.specs.declared.place.Place.{Place}
 use Rattle.tla_expr.specs.Tree.{Word}
 use Rattle.tla_value.specs.declared.fault.FaultKind.TheVariants.{NotFunction}
-use Rattle.tla_value.specs.Value.{Value, Outcome, good, Sense}
-use Rattle.tla_value.specs.Stops.{Check, on_value, sense_of}
+use Rattle.tla_value.specs.Value.{Value, Outcome, Sense, ◌>>=◌}
+use Rattle.tla_value.specs.Stops.{Check, sense_of}
 use Rattle.tla_value.specs.Strict.{applied}
 use Rattle.tla_value.specs.Meaning.{Env, just}
-use Rattle.tla_value.specs.Definitions.{Look, no_state, scope_of}
+use Rattle.tla_value.specs.Definitions.{Valuation, no_state, scope_of}
 use Rattle.tla_value.specs.Definitions as Outside
 use Rattle.pcal_tree.specs.Algorithm.{nowhere, Name, Declaration, Definition, declares, Routine, locals, Naming, Algorithm}
-use Rattle.pcal_tree.specs.Scope.{State, faulty, Got, got, bad, Part, Scope}
+use Rattle.pcal_tree.specs.Scope.{State, fault, Outcome, Part, Scope}
 
 -- a labelled algorithm, with what its meaning rests on: the limits of values, the constants, the definitions outside the algorithm, and the
 -- written names
 pub record Program : Type 0 where
   pub check : Check
-  pub constants : Look
+  pub constants : Valuation
   pub outside : List Outside.Definition
   pub algorithm : Algorithm
   pub naming : Naming
@@ -32,14 +32,14 @@ abbrev pub words : List Name → List Word
 words xs = map (λ x. x.word) xs
 
 -- the global variables on a state
-abbrev pub globals_on : State → List Declaration → Look
+abbrev pub globals_on : State → List Declaration → Valuation
 globals_on s ds x = cond (declares ds x) (Some (s x)) None
 
 abbrev pub inner : Definition → Outside.Definition
 inner d = record { title = d.name.word; params = words d.params; body = d.body; outside = false }
 
 -- names that are no routine's own, where variables have the values of the look-up
-abbrev pub common_env : Program → Look → Env
+abbrev pub common_env : Program → Valuation → Env
 common_env P s = scope_of P.check P.constants (P.outside ++ map inner P.algorithm.definitions) s no_state
 
 abbrev pub global_env : Program → State → Env
@@ -60,9 +60,9 @@ abbrev pub written : Program → Routine → Word → Word
 written P u x = P.naming.local u.number x
 
 -- what stands at a path
-abbrev pub read_at : Place → List Value → Value → Outcome
-read_at at [] v = good v
-read_at at (k ∷ ks) f = on_value (applied at f k) (read_at at ks)
+abbrev pub read_at : Place → List Value → Value → Outcome Value
+read_at at [] v = Ok v
+read_at at (k ∷ ks) f = (applied at f k) >>= (read_at at ks)
 
 abbrev pub read_self : Option Value → Sense → Sense
 read_self (Some v) other = just v
@@ -73,11 +73,11 @@ read_name P v u s x at =
     cond (bytes_eq (codes "self") x) (read_self v.self ((global_env P s).now x at))
     (cond (declares (locals u) x) (sense_of (read_at at (local_index v u) (s (written P u x)))) ((global_env P s).now x at))
 
-abbrev pub global_part : Program → Word → Got Part
-global_part P x = cond (declares P.algorithm.globals x) (got (record { variable = x; path = [] })) (bad (faulty NotFunction nowhere))
+abbrev pub global_part : Program → Word → Outcome Part
+global_part P x = cond (declares P.algorithm.globals x) (Ok (record { variable = x; path = [] })) (Err (fault NotFunction nowhere))
 
-abbrev pub part_of : Program → Actor → Routine → Word → Got Part
-part_of P v u x = cond (declares (locals u) x) (got (record { variable = written P u x; path = local_index v u })) (global_part P x)
+abbrev pub part_of : Program → Actor → Routine → Word → Outcome Part
+part_of P v u x = cond (declares (locals u) x) (Ok (record { variable = written P u x; path = local_index v u })) (global_part P x)
 
 -- `self` is the process's identifier, a routine's own variables stand at it, and others are global
 abbrev pub routine_scope : Program → Actor → Routine → Scope

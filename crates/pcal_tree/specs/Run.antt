@@ -1,13 +1,13 @@
 -- What statements do within one step: all courses that they can take ("A PlusCal User's Manual", section 3.2, the statements).
-use Rattle.std.specs.Prelude.{◌≡◌, List, [], ◌∷◌, cond, bytes_eq, Some, None, ◌⊎◌}
+use Rattle.std.specs.Prelude.{◌≡◌, List, [], ◌∷◌, cond, bytes_eq, Some, None, ◌⊎◌, Ok, Err}
 use Rattle.tla_token.specs.declared.place.Place.{Place}
 use Rattle.tla_expr.specs.Tree.{Word, Trees, tree, Graft}
 use Rattle.tla_value.specs.declared.fault.FaultKind.TheVariants.{AssertFailed}
 use Rattle.tla_value.specs.Value.{Value, Values, no_values, and}
 use Rattle.tla_value.specs.Stops.{Check}
 use Rattle.tla_value.specs.Meaning.{evals}
-use Rattle.pcal_tree.specs.Algorithm.{Name, Binds, no_binds, one_of, is, Statement, assign, await, print, assert, skip, branch, either, with, loop, jump, macro, invoke, leave, Statements, done, then, mark, Branches, no_branches, or, Macro}
-use Rattle.pcal_tree.specs.Scope.{State, Trouble, faulty, Got, got, bad, all_valued, Scope, bound, through, places_of, value_of, test, members}
+use Rattle.pcal_tree.specs.Algorithm.{Name, Binds, no_binds, one_of, is, Statement, assign, await, print, assert, skip, branch, either, with, while, goto, macro, call, return, Statements, done, then, mark, Branches, no_branches, or, Macro}
+use Rattle.pcal_tree.specs.Scope.{State, Trouble, fault, Outcome, all_valued, Scope, bound, through, places_of, value_of, test, members}
 use Rattle.pcal_tree.specs.Assign.{moved}
 
 -- ---- courses
@@ -29,18 +29,18 @@ held at = chooses at no_courses
 
 -- the outcomes of a course: end states and troubles
 abbrev mutual
-  pub Has : Course → Got State → Type 0
-  Has (ends t) r = r ≡ got t
-  Has (stops k) r = r ≡ bad k
+  pub Has : Course → Outcome State → Type 0
+  Has (ends t) r = r ≡ Ok t
+  Has (stops k) r = r ≡ Err k
   Has (chooses at cs) r = HasSome cs r
 
-  pub HasSome : Courses → Got State → Type 0
+  pub HasSome : Courses → Outcome State → Type 0
   HasSome no_courses r = ⊥
   HasSome (course c cs) r = Has c r ⊎ HasSome cs r
 
-abbrev pub after : {X : Type 0} → Got X → (X → Course) → Course
-after (got x) go = go x
-after (bad k) go = stops k
+abbrev pub after : {X : Type 0} → Outcome X → (X → Course) → Course
+after (Ok x) go = go x
+after (Err k) go = stops k
 
 abbrev pub at_each : Values → (Value → Course) → Courses
 at_each no_values go = no_courses
@@ -57,9 +57,9 @@ pub record Follow : Type 0 where
 -- with the label and the place at which they stand
 pub record Rules : Type 0 where
   pub check : Check
-  pub go : Word → State → Course
-  pub enter : Place → Word → List Place → List Value → Word → State → Course
-  pub quit : Place → State → Course
+  pub goto : Word → State → Course
+  pub call : Place → Word → List Place → List Value → Word → State → Course
+  pub return : Place → State → Course
   pub macros : Word → Place → Word → Trees → Scope → Follow → State → Course
 
 -- no label: where a statement stands that has none
@@ -87,25 +87,25 @@ abbrev mutual
   run_one M here at (assign ms) sc K s = after (moved M.check ms sc s) K.goes
   run_one M here at (await e) sc K s = after (test M.check e sc s) (λ t. cond t K.goes (λ u. held at) s)
   run_one M here at (print e) sc K s = after (value_of M.check e sc s) (λ v. K.goes s)
-  run_one M here at (assert e) sc K s = after (test M.check e sc s) (λ t. cond t K.goes (λ u. stops (faulty AssertFailed at)) s)
+  run_one M here at (assert e) sc K s = after (test M.check e sc s) (λ t. cond t K.goes (λ u. stops (fault AssertFailed at)) s)
   run_one M here at skip sc K s = K.goes s
   run_one M here at (branch e a b) sc K s =
       after (test M.check e sc s) (λ t. cond t (run M unlabelled a sc K) (run M unlabelled b sc K) s)
   run_one M here at (either bs) sc K s = chooses at (run_branches M bs sc K s)
   run_one M here at (with bs b) sc K s = run_binds M.check at bs (λ inner. run M unlabelled b inner K) sc s
-  run_one M here at (loop e b) sc K s =
-      after (test M.check e sc s) (λ t. cond t (run M unlabelled b sc (record { label = here; goes = M.go here })) K.goes s)
-  run_one M here at (jump l) sc K s = M.go l s
+  run_one M here at (while e b) sc K s =
+      after (test M.check e sc s) (λ t. cond t (run M unlabelled b sc (record { label = here; goes = M.goto here })) K.goes s)
+  run_one M here at (goto l) sc K s = M.goto l s
   run_one M here at (macro m ts) sc K s = M.macros here at m ts sc K s
-  run_one M here at (invoke p ts) sc K s =
-      after (all_valued (evals M.check ts) (sc.env s) got) (λ vs. M.enter at p.word (places_of ts sc) vs K.label s)
-  run_one M here at leave sc K s = M.quit at s
+  run_one M here at (call p ts) sc K s =
+      after (all_valued (evals M.check ts) (sc.env s) Ok) (λ vs. M.call at p.word (places_of ts sc) vs K.label s)
+  run_one M here at return sc K s = M.return at s
 
   pub run : Rules → Word → Statements → Scope → Follow → State → Course
   run M here done sc K s = K.goes s
   run M here (then at st rest) sc K s =
       run_one M here at.first st sc (record { label = label_of rest K.label; goes = run M unlabelled rest sc K }) s
-  run M here (mark l m rest) sc K s = M.go l.word s
+  run M here (mark l m rest) sc K s = M.goto l.word s
 
   pub run_branches : Rules → Branches → Scope → Follow → State → Courses
   run_branches M no_branches sc K s = no_courses
@@ -122,7 +122,7 @@ abbrev pub Calling : Type 0
 Calling = Word → Place → Word → Trees → Scope → Follow → State → Course
 
 abbrev pub with_calls : Rules → Calling → Rules
-with_calls M f = record { check = M.check; go = M.go; enter = M.enter; quit = M.quit; macros = f }
+with_calls M f = record { check = M.check; goto = M.goto; call = M.call; return = M.return; macros = f }
 
 -- the macros, the newest first. A call runs the body in the scope of the call; the body's own calls are of older macros.
 abbrev pub called : Rules → List Macro → Calling
@@ -138,4 +138,4 @@ with_macros M ms = with_calls M (called M ms)
 
 -- where an end of the list goes to a label
 abbrev pub exit_to : Rules → Word → Follow
-exit_to M l = record { label = l; goes = M.go l }
+exit_to M l = record { label = l; goes = M.goto l }

@@ -1,14 +1,15 @@
 -- States, and what names stand for where a statement stands ("A PlusCal User's Manual", section 3.1, expressions).
-use Rattle.std.specs.Prelude.{List, [], ◌∷◌, ◌++◌, Bool, cond, bytes_eq, Option, Some, None}
+use Rattle.std.specs.Prelude.{List, [], ◌∷◌, ◌++◌, Bool, cond, bytes_eq, Option, Some, None, Ok, Err}
 use Rattle.tla_token.specs.declared.place.Place.{Place}
 use Rattle.tla_expr.specs.Tree.{Word, apply, select, Form, name, strict, Tree, node, Trees, no_trees, tree, Graft}
 use Rattle.tla_value.specs.declared.fault.FaultKind.{FaultKind}
 use Rattle.tla_value.specs.declared.fault.FaultKind.TheVariants.{NotBoolean, NotSet, NotFunction}
-use Rattle.tla_value.specs.Value.{Value, truth, text, set, Values, Outcome, good, fault, over}
+use Rattle.tla_value.specs.Value.{Value, truth, text, set, Values}
+pub use Rattle.tla_value.specs.Value.{Trouble, fault, over, Outcome, ◌>>=◌}
 use Rattle.tla_value.specs.Stops.{Check}
 use Rattle.pcal_tree.specs.Algorithm.{nowhere}
 use Rattle.tla_value.specs.Grafts.{through as through_env}
-use Rattle.tla_value.specs.Meaning.{Env, Den, bind, eval, evals}
+use Rattle.tla_value.specs.Meaning.{Env, Denotation, bind, eval, evals}
 
 -- ---- states and results
 
@@ -19,28 +20,10 @@ State = Word → Value
 abbrev pub put : Word → Value → State → State
 put x v s y = cond (bytes_eq x y) v (s y)
 
--- why there is no result: a fault, or a value past the limits
-pub data Trouble : Type 0 where
-  faulty : FaultKind → Place → Trouble
-  beyond : Place → Trouble
-
-pub data Got (X : Type 0) : Type 0 where
-  got : X → Got X
-  bad : Trouble → Got X
-
-abbrev pub on : {X Y : Type 0} → Got X → (X → Got Y) → Got Y
-on (got x) go = go x
-on (bad k) go = bad k
-
-abbrev pub valued : {X : Type 0} → Outcome → (Value → Got X) → Got X
-valued (good v) go = go v
-valued (fault k p) go = bad (faulty k p)
-valued (over p) go = bad (beyond p)
-
 -- expressions from left to right
-abbrev pub all_valued : {X : Type 0} → List Den → Env → (List Value → Got X) → Got X
+abbrev pub all_valued : {X : Type 0} → List Denotation → Env → (List Value → Outcome X) → Outcome X
 all_valued [] env go = go []
-all_valued (d ∷ ds) env go = valued (d env).value (λ v. all_valued ds env (λ vs. go (v ∷ vs)))
+all_valued (d ∷ ds) env go = (d env).value >>= (λ v. all_valued ds env (λ vs. go (v ∷ vs)))
 
 -- ---- scopes
 
@@ -52,7 +35,7 @@ pub record Part : Type 0 where
 -- of a name, on the state as it is then: what it gives as an expression, the part that it is as a left side, and the place of what stands for it
 pub record Scope : Type 0 where
   pub env : State → Env
-  pub part : Word → Place → State → Got Part
+  pub part : Word → Place → State → Outcome Part
   pub origin : Word → Place → Place
 
 -- with a name for a value, as in a `with`
@@ -78,7 +61,7 @@ places_of (tree t ts) sc = place_of t sc ∷ places_of ts sc
 -- ---- left sides
 
 abbrev pub Reach : Type 0
-Reach = Scope → State → Got Part
+Reach = Scope → State → Outcome Part
 
 abbrev pub deeper : List Value → Part → Part
 deeper ks p = record { variable = p.variable; path = p.path ++ ks }
@@ -87,8 +70,8 @@ deeper ks p = record { variable = p.variable; path = p.path ++ ks }
 abbrev pub reach_form : Form → Place → Reach → Reach
 reach_form (name x) at r sc s = sc.part x at s
 reach_form (strict apply) at r sc s = r sc s
-reach_form (strict (select a)) at r sc s = on (r sc s) (λ p. got (deeper (text a ∷ []) p))
-reach_form _ at r sc s = bad (faulty NotFunction nowhere)
+reach_form (strict (select a)) at r sc s = (r sc s) >>= (λ p. Ok (deeper (text a ∷ []) p))
+reach_form _ at r sc s = Err (fault NotFunction nowhere)
 
 -- the part that a left side stands for, its subscripts evaluated
 abbrev mutual
@@ -97,8 +80,8 @@ abbrev mutual
 
   -- the first tree is the head, the others are subscripts
   pub reach_path : Check → Place → Trees → Reach
-  reach_path c at no_trees sc s = bad (faulty NotFunction nowhere)
-  reach_path c at (tree f us) sc s = on (reach c f sc s) (λ p. all_valued (evals c us) (sc.env s) (λ ks. got (deeper ks p)))
+  reach_path c at no_trees sc s = Err (fault NotFunction nowhere)
+  reach_path c at (tree f us) sc s = (reach c f sc s) >>= (λ p. all_valued (evals c us) (sc.env s) (λ ks. Ok (deeper ks p)))
 
 -- ---- names that stand for trees, as a macro's parameters do
 
@@ -120,19 +103,19 @@ through c g sc = record {
 
 -- ---- what statements need of expressions
 
-abbrev pub value_of : Check → Tree → Scope → State → Got Value
-value_of c e sc s = valued (eval c e (sc.env s)).value got
+abbrev pub value_of : Check → Tree → Scope → State → Outcome Value
+value_of c e sc s = (eval c e (sc.env s)).value >>= Ok
 
-abbrev pub truth_at : Place → Value → Got Bool
-truth_at at (truth b) = got b
-truth_at at _ = bad (faulty NotBoolean at)
+abbrev pub truth_at : Place → Value → Outcome Bool
+truth_at at (truth b) = Ok b
+truth_at at _ = Err (fault NotBoolean at)
 
-abbrev pub test : Check → Tree → Scope → State → Got Bool
-test c e sc s = on (value_of c e sc s) (truth_at (place_of e sc))
+abbrev pub test : Check → Tree → Scope → State → Outcome Bool
+test c e sc s = (value_of c e sc s) >>= (truth_at (place_of e sc))
 
-abbrev pub members_at : Place → Value → Got Values
-members_at at (set vs) = got vs
-members_at at _ = bad (faulty NotSet at)
+abbrev pub members_at : Place → Value → Outcome Values
+members_at at (set vs) = Ok vs
+members_at at _ = Err (fault NotSet at)
 
-abbrev pub members : Check → Tree → Scope → State → Got Values
-members c e sc s = on (value_of c e sc s) (members_at (place_of e sc))
+abbrev pub members : Check → Tree → Scope → State → Outcome Values
+members c e sc s = (value_of c e sc s) >>= (members_at (place_of e sc))

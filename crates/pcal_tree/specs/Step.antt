@@ -1,5 +1,5 @@
 -- Processes and their steps, and what goes wrong in them ("A PlusCal User's Manual", sections 3.3, processes, and 3.7, labels).
-use Rattle.std.specs.Prelude.{◌≡◌, ℕ, suc, List, [], ◌∷◌, ◌++◌, Bool, true, false, cond, codes, Option, Some, None, ◌⊎◌, map}
+use Rattle.std.specs.Prelude.{◌≡◌, ℕ, suc, List, [], ◌∷◌, ◌++◌, Bool, true, false, cond, codes, Option, Some, None, ◌⊎◌, map, Ok, Err}
 use Rattle.std.specs.Ordering.{is_lt}
 use Rattle.tla_token.specs.declared.place.Place.{Place}
 use Rattle.tla_expr.specs.Tree.{Word, Each}
@@ -9,11 +9,11 @@ use Rattle.tla_value.specs.Value.{Value, truth, set, Values, no_values, and, tex
 use Rattle.tla_value.specs.Order.{order, same, set_from}
 use Rattle.tla_value.specs.Definitions.{no_state}
 use Rattle.tla_value.specs.Meaning.{eval}
-use Rattle.pcal_tree.specs.Algorithm.{Statement, branch, either, with, loop, Statements, done, then, mark, Branches, no_branches, or, Process, Main, alone, processes, Routine, locals, procedure_routines, process_routine, alone_routine, first_process, main_routines}
-use Rattle.pcal_tree.specs.Scope.{State, Trouble, faulty, Got, got, bad, on, valued, members_at, root_place}
+use Rattle.pcal_tree.specs.Algorithm.{Statement, branch, either, with, while, Statements, done, then, mark, Branches, no_branches, or, Process, Main, alone, processes, Routine, locals, procedure_routines, process_routine, alone_routine, first_process, main_routines}
+use Rattle.pcal_tree.specs.Scope.{State, Trouble, fault, Outcome, ◌>>=◌, members_at, root_place}
 use Rattle.pcal_tree.specs.Run.{Course, Has, run, exit_to}
 use Rattle.pcal_tree.specs.Choices.{or_else, first_trouble}
-use Rattle.pcal_tree.specs.Begin.{Begin, at_label}
+use Rattle.pcal_tree.specs.StepStart.{Begin, at_label}
 use Rattle.pcal_tree.specs.Program.{Program, Actor, index, read_at, routine_scope, common_env, pc, stack, declared, written_all}
 use Rattle.pcal_tree.specs.Calls.{label_value, rules_of}
 
@@ -39,23 +39,23 @@ Agree xs s t = Each (λ x. s x ≡ t x) xs
 
 -- ---- identifiers
 
-abbrev pub one_value : Bool → Place → Value → Got Values
+abbrev pub one_value : Bool → Place → Value → Outcome Values
 one_value true at v = members_at at v
-one_value false at v = got (and v no_values)
+one_value false at v = Ok (and v no_values)
 
 -- those of one process: the members of its set, or its one identifier
-abbrev pub identifiers_of : Program → Process → Got Values
-identifiers_of P p = valued (eval P.check p.identity (common_env P no_state)).value (one_value p.several (root_place p.identity))
+abbrev pub identifiers_of : Program → Process → Outcome Values
+identifiers_of P p = (eval P.check p.identity (common_env P no_state)).value >>= (one_value p.several (root_place p.identity))
 
 abbrev pub actors_of : Routine → Values → List Actor
 actors_of u no_values = []
 actors_of u (and v vs) = record { self = Some v; own = u } ∷ actors_of u vs
 
 -- all identifiers, process by process
-abbrev pub all_actors : Program → ℕ → List Process → Got (List Actor)
-all_actors P n [] = got []
+abbrev pub all_actors : Program → ℕ → List Process → Outcome (List Actor)
+all_actors P n [] = Ok []
 all_actors P n (p ∷ ps) =
-    on (identifiers_of P p) (λ vs. on (all_actors P (suc n) ps) (λ more. got (actors_of (process_routine n p) vs ++ more)))
+    (identifiers_of P p) >>= (λ vs. (all_actors P (suc n) ps) >>= (λ more. Ok (actors_of (process_routine n p) vs ++ more)))
 
 abbrev pub identifier : Option Value → Value
 identifier (Some v) = v
@@ -69,17 +69,17 @@ has_identifier w [] = false
 has_identifier w (v ∷ vs) = cond (same w (identifier v.self)) true (has_identifier w vs)
 
 -- no two processes share an identifier; the later one's name is the place
-abbrev pub apart : List Actor → List Actor → Got (List Actor)
-apart earlier [] = got earlier
-apart earlier (v ∷ vs) = cond (has_identifier (identifier v.self) earlier) (bad (faulty SameIdentifier v.own.name.place)) (apart (earlier ++ (v ∷ [])) vs)
+abbrev pub apart : List Actor → List Actor → Outcome (List Actor)
+apart earlier [] = Ok earlier
+apart earlier (v ∷ vs) = cond (has_identifier (identifier v.self) earlier) (Err (fault SameIdentifier v.own.name.place)) (apart (earlier ++ (v ∷ [])) vs)
 
 -- the union of all identifiers is reached at the last process's name
 abbrev pub last_place : Place → List Process → Place
 last_place at [] = at
 last_place at (p ∷ ps) = last_place p.name.place ps
 
-abbrev pub united : Program → Place → List Actor → Got (List Actor)
-united P at vs = valued (P.check at (set (set_from (identifiers vs)))) (λ w. got vs)
+abbrev pub united : Program → Place → List Actor → Outcome (List Actor)
+united P at vs = (P.check at (set (set_from (identifiers vs)))) >>= (λ w. Ok vs)
 
 -- in canonical order of their identifiers
 abbrev pub placed : Actor → List Actor → List Actor
@@ -90,31 +90,31 @@ abbrev pub sorted : List Actor → List Actor
 sorted [] = []
 sorted (v ∷ vs) = placed v (sorted vs)
 
-abbrev pub actors_in : Program → Main → Got (List Actor)
-actors_in P (alone ss) = got (record { self = None; own = alone_routine P.algorithm ss } ∷ [])
+abbrev pub actors_in : Program → Main → Outcome (List Actor)
+actors_in P (alone ss) = Ok (record { self = None; own = alone_routine P.algorithm ss } ∷ [])
 actors_in P (processes ps) =
-    on (all_actors P (first_process P.algorithm) ps) (λ vs. on (apart [] vs) (λ ws.
-    on (united P (last_place P.algorithm.name.place ps) ws) (λ us. got (sorted us))))
+    (all_actors P (first_process P.algorithm) ps) >>= (λ vs. (apart [] vs) >>= (λ ws.
+    (united P (last_place P.algorithm.name.place ps) ws) >>= (λ us. Ok (sorted us))))
 
 -- the processes in canonical order, each with its identifier; or why they have none
-abbrev pub actors : Program → Got (List Actor)
+abbrev pub actors : Program → Outcome (List Actor)
 actors P = actors_in P P.algorithm.main
 
 abbrev pub Proper : Program → Type 0
-Proper P = (vs : List Actor) × (actors P ≡ got vs)
+Proper P = (vs : List Actor) × (actors P ≡ Ok vs)
 
 abbrev pub OneOf : {X : Type 0} → X → List X → Type 0
 OneOf x [] = ⊥
 OneOf x (y ∷ ys) = (x ≡ y) ⊎ OneOf x ys
 
 abbrev pub IsActor : Program → Actor → Type 0
-IsActor P v = (vs : List Actor) × (actors P ≡ got vs) × OneOf v vs
+IsActor P v = (vs : List Actor) × (actors P ≡ Ok vs) × OneOf v vs
 
 -- ---- steps
 
 -- the value of a process's pc
-abbrev pub pc_of : Actor → State → Got Value
-pc_of v s = valued (read_at v.own.name.place (index v.self) (s pc)) got
+abbrev pub pc_of : Actor → State → Outcome Value
+pc_of v s = (read_at v.own.name.place (index v.self) (s pc)) >>= Ok
 
 -- a label of a routine, and what a step from it begins with
 pub record Stand : Type 0 where
@@ -129,7 +129,7 @@ routines_of P v = v.own ∷ procedure_routines P.algorithm
 -- process v stands at a label of its own body or of a procedure
 abbrev pub StandsAt : Program → State → Actor → Stand → Type 0
 StandsAt P s v d =
-    OneOf d.routine (routines_of P v) × (at_label d.routine d.label ≡ Some d.begins) × (pc_of v s ≡ got (label_value P d.routine d.label))
+    OneOf d.routine (routines_of P v) × (at_label d.routine d.label ≡ Some d.begins) × (pc_of v s ≡ Ok (label_value P d.routine d.label))
 
 -- the courses of a step from there
 abbrev pub course_of : Program → Actor → Stand → State → Course
@@ -138,24 +138,24 @@ course_of P v d s =
 
 -- process v steps from there to t
 abbrev pub StepFrom : Program → Actor → Stand → State → State → Type 0
-StepFrom P v d s t = StandsAt P s v d × ((u : State) × Has (course_of P v d s) (got u) × Agree (vars P) u t)
+StepFrom P v d s t = StandsAt P s v d × ((u : State) × Has (course_of P v d s) (Ok u) × Agree (vars P) u t)
 
 -- some process steps
 abbrev pub Step : Program → State → State → Type 0
 Step P s t = (v : Actor) × (d : Stand) × IsActor P v × StepFrom P v d s t
 
 -- all are done, and nothing changes
-abbrev pub Still : Program → State → State → Type 0
-Still P s t = ((v : Actor) → IsActor P v → pc_of v s ≡ got (text (codes "Done"))) × Agree (vars P) s t
+abbrev pub Stutters : Program → State → State → Type 0
+Stutters P s t = ((v : Actor) → IsActor P v → pc_of v s ≡ Ok (text (codes "Done"))) × Agree (vars P) s t
 
 -- ---- trouble
 
 -- process v's pc can't be read, or a step from where it stands stops
 abbrev pub Troubled : Program → State → Actor → Trouble → Type 0
-Troubled P s v k = (pc_of v s ≡ bad k) ⊎ ((d : Stand) × StandsAt P s v d × Has (course_of P v d s) (bad k))
+Troubled P s v k = (pc_of v s ≡ Err k) ⊎ ((d : Stand) × StandsAt P s v d × Has (course_of P v d s) (Err k))
 
 abbrev pub Faulty : Program → State → Actor → FaultKind → Place → Type 0
-Faulty P s v kind at = Troubled P s v (faulty kind at)
+Faulty P s v kind at = Troubled P s v (fault kind at)
 
 -- the identifiers are proper, and no process is in trouble
 abbrev pub Sound : Program → State → Type 0
@@ -169,7 +169,7 @@ abbrev mutual
   labels_in (branch e a b) = labels a ++ labels b
   labels_in (either bs) = labels_of bs
   labels_in (with bs b) = labels b
-  labels_in (loop e b) = labels b
+  labels_in (while e b) = labels b
   labels_in _ = []
 
   pub labels : Statements → List Word
@@ -198,9 +198,9 @@ abbrev pub trouble_from : Program → State → Actor → Option Stand → Optio
 trouble_from P s v None = None
 trouble_from P s v (Some d) = first_trouble (course_of P v d s)
 
-abbrev pub trouble_at : Program → State → Actor → Got Value → Option Trouble
-trouble_at P s v (bad k) = Some k
-trouble_at P s v (got w) = trouble_from P s v (stand_named P w (routines_of P v))
+abbrev pub trouble_at : Program → State → Actor → Outcome Value → Option Trouble
+trouble_at P s v (Err k) = Some k
+trouble_at P s v (Ok w) = trouble_from P s v (stand_named P w (routines_of P v))
 
 abbrev pub trouble_of_all : Program → State → List Actor → Option Trouble
 trouble_of_all P s [] = None
@@ -208,7 +208,7 @@ trouble_of_all P s (v ∷ vs) = or_else (trouble_at P s v (pc_of v s)) (trouble_
 
 -- the first that is met, processes in canonical order, each by its lists of choices item by item
 abbrev pub FirstTrouble : Program → State → Trouble → Type 0
-FirstTrouble P s k = (vs : List Actor) × (actors P ≡ got vs) × (trouble_of_all P s vs ≡ Some k)
+FirstTrouble P s k = (vs : List Actor) × (actors P ≡ Ok vs) × (trouble_of_all P s vs ≡ Some k)
 
 -- the process stands at one place, as where written labels are apart
 abbrev pub StandsOnce : Program → State → Actor → Type 0

@@ -5,7 +5,7 @@ ghost use Rattle.tla_expr.specs.Tree.{Word};
 ghost use Rattle.pcal_tree.specs.Algorithm.{Statements, Macro, Algorithm};
 ghost use Rattle.pcal_tree.specs.Expand.{expanded};
 ghost use Rattle.pcal_tree.specs.Clean.{Calls, FineCall, Free};
-ghost use Rattle.pcal_tree.specs.Scope.{State, Trouble, Got, bad, Scope};
+ghost use Rattle.pcal_tree.specs.Scope.{State, Trouble, Outcome, Scope};
 ghost use Rattle.pcal_tree.specs.Run.{Course, Has, Rules, Follow, run, with_macros};
 ghost use Rattle.pcal_tree.specs.Choices.{walk, told, landing, first_trouble};
 ghost use Rattle.pcal_tree.specs.Program.{Program, Actor};
@@ -19,14 +19,14 @@ ghost use Rattle.pcal_tree.specs.Apart.{FewNames, Apart, New, Untaken, AreNames,
 /// What a list of choices leads to is an outcome of the course, and each outcome has a list of choices that
 /// leads to it, all of them used.
 pub fn choices_reach_the_outcomes()
-    ensures outcome { (c : Course) (choices : List ℕ) (r : Got State) → told (walk c choices) ≡ Some r → Has c r }
-    ensures reached { (c : Course) (r : Got State) → Has c r → (choices : List ℕ) × (walk c choices ≡ landing r) }
+    ensures outcome { (c : Course) (choices : List ℕ) (r : Outcome State) → told (walk c choices) ≡ Some r → Has c r }
+    ensures reached { (c : Course) (r : Outcome State) → Has c r → (choices : List ℕ) × (walk c choices ≡ landing r) }
 {}
 
 /// The first trouble of a course is one of its outcomes, and where it has none no outcome is a trouble.
 pub fn first_trouble_is_met()
-    ensures met { (c : Course) (k : Trouble) → first_trouble c ≡ Some k → Has c (bad k) }
-    ensures none { (c : Course) (k : Trouble) → first_trouble c ≡ None → Has c (bad k) → ⊥ }
+    ensures met { (c : Course) (k : Trouble) → first_trouble c ≡ Some k → Has c (Err k) }
+    ensures none { (c : Course) (k : Trouble) → first_trouble c ≡ None → Has c (Err k) → ⊥ }
 {}
 
 /// A state is sound, that is, no step from it can meet trouble, exactly where it has no first trouble, if the

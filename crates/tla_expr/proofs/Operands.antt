@@ -2,7 +2,7 @@
 use Rattle.std.proofs.Common.{◌≡◌, refl, true, List, [], ◌∷◌}
 use Rattle.tla_expr.specs.declared.op.Binder.{Binder}
 use Rattle.tla_expr.specs.declared.op.Binder.TheVariants as binder
-use Rattle.tla_expr.specs.Tree.{Word, Step, Slot, Strict, Form, Tree, node}
+use Rattle.tla_expr.specs.Tree.{Word, PathStep, Slot, Strict, Form, Tree, node}
 use Rattle.tla_expr.specs.Tree as tree
 use Rattle.tla_expr.specs.Spelling.{Phrase, Settings, Path, head, primary}
 use Rattle.tla_expr.specs.Spelling as spelled
@@ -11,7 +11,7 @@ use Rattle.tla_expr.specs.Bracketed.{Part, part, parts, form_part, path_of, righ
 abbrev IsPrimary : Phrase → Type 0
 IsPrimary a = head a ≡ primary
 
-path_primary : (ss : List Step) (xs : List Part) (k : Path → List Part → Phrase) → ((p : Path) (ys : List Part) → IsPrimary (k p ys)) → IsPrimary (path_of ss xs k)
+path_primary : (ss : List PathStep) (xs : List Part) (k : Path → List Part → Phrase) → ((p : Path) (ys : List Part) → IsPrimary (k p ys)) → IsPrimary (path_of ss xs k)
 path_primary [] xs k h = h spelled.path_end xs
 path_primary (tree.index ∷ ss) (a ∷ xs) k h = path_primary ss xs _ (λ p ys. h _ ys)
 path_primary (tree.index ∷ ss) [] k h = refl
@@ -71,20 +71,20 @@ binding_primary binder.Function (y ∷ ys) (a ∷ xs) = refl
 form_primary : (m : Form) (xs : List Part) → IsPrimary (form_part m xs true)
 form_primary (tree.strict m) xs = strict_primary m xs
 form_primary (tree.binding b ys) xs = binding_primary b ys xs
-form_primary (tree.call x) [] = refl
-form_primary (tree.call x) (a ∷ xs) = refl
+form_primary (tree.operator_call x) [] = refl
+form_primary (tree.operator_call x) (a ∷ xs) = refl
 form_primary (tree.number n) xs = refl
-form_primary (tree.quote x) xs = refl
+form_primary (tree.string x) xs = refl
 form_primary (tree.truth b) xs = refl
 form_primary tree.booleans xs = refl
 form_primary tree.strings xs = refl
 form_primary (tree.name x) xs = refl
 form_primary (tree.next x) xs = refl
-form_primary tree.both xs = refl
-form_primary tree.or_else xs = refl
-form_primary tree.implies xs = refl
+form_primary tree.conjunction xs = refl
+form_primary tree.disjunction xs = refl
+form_primary tree.implication xs = refl
 form_primary (tree.member b) xs = refl
-form_primary tree.choice xs = refl
+form_primary tree.if_then_else xs = refl
 form_primary (tree.cases b) xs = refl
 form_primary (tree.local x) xs = refl
 

@@ -2,7 +2,7 @@
 use Rattle.std.proofs.Common.{◌≡◌, ℕ, ◌+◌, List, [], Ok, Err, refl, sym, ap, ◌∙◌, arith}
 use Rattle.tla_expr.specs.Tree.{Tree}
 use Rattle.tla_expr.specs.Lexical.{Token}
-use Rattle.tla_expr.specs.Spelling.{Phrase, number, quote, constant, name, primed, call, brackets, no_set, set_of, filter, image, no_tuple, tuple, fields, records, function, functions, except, apply, select, list, quantified, choice, cases, local, infix_of, prefix_of}
+use Rattle.tla_expr.specs.Spelling.{Phrase, number, string, constant, name, primed, call, brackets, no_set, set_of, filter, image, no_tuple, tuple, fields, records, function, functions, except, apply, select, list, quantified, if_then_else, cases, local, infix_of, prefix_of}
 use Rattle.tla_expr.specs.Spelling.{Phrases, last, more, Binds, last_bind, bind, share, Fields, last_field, field, Settings, last_setting, setting, Path, path_end, index, at_field, Bullets, last_bullet, bullet, Arms, last_arm, other_arm, arm, Locals, last_local, more_locals}
 use Rattle.tla_expr.specs.Spelling.{spell, tree_of, Good, Spells}
 use Rattle.tla_expr.specs.Reader.{Out, free, readers}
@@ -19,7 +19,7 @@ use Rattle.tla_expr.proofs.ReadFunctions.{ReadsPath, reads_path_end, reads_index
 mutual
   pub reads : (a : Phrase) → Reads a
   reads (number p n) = reads_number p n
-  reads (quote p x) = reads_quote p x
+  reads (string p x) = reads_quote p x
   reads (constant p c) = reads_constant p c
   reads (name p x) = reads_name p x
   reads (primed p x q) = reads_primed p x q
@@ -43,7 +43,7 @@ mutual
   reads (select a p f) = reads_select a p f (reads a)
   reads (list o bs) = reads_list o bs (reads_bullets bs)
   reads (quantified b p bs q a) = reads_for b p bs q a (reads_binds bs) (reads a)
-  reads (choice p a q b r c) = reads_choice p a q b r c (reads a) (reads b) (reads c)
+  reads (if_then_else p a q b r c) = reads_choice p a q b r c (reads a) (reads b) (reads c)
   reads (cases p xs) = reads_cases p xs (reads_arms xs)
   reads (local p ls q a) = reads_local p ls q a (reads_locals ls) (reads a)
   reads (infix_of a p o b) = reads_infix a p o b (reads a) (reads b)

@@ -5,9 +5,9 @@ use Rattle.tla_token.specs.declared.place.Place.{Place}
 use Rattle.tla_expr.specs.declared.op.Op.{Op}
 use Rattle.tla_expr.specs.declared.op.Op.TheVariants as op
 use Rattle.tla_expr.specs.Tree.{Word}
-use Rattle.tla_expr.specs.Lexical.{Constant, Tk, Token, token, sign_of, field_kind}
+use Rattle.tla_expr.specs.Lexical.{Constant, ExprToken, Token, token, sign_of, field_kind}
 use Rattle.tla_expr.specs.Lexical as tk
-use Rattle.tla_expr.specs.Spelling.{Field, Phrase, number, quote, constant, name, primed, call, brackets, no_set, set_of, filter, image, no_tuple, tuple, fields, records, function, functions, except, apply, select, list, quantified, choice, cases, local, infix_of, prefix_of}
+use Rattle.tla_expr.specs.Spelling.{Field, Phrase, number, string, constant, name, primed, call, brackets, no_set, set_of, filter, image, no_tuple, tuple, fields, records, function, functions, except, apply, select, list, quantified, if_then_else, cases, local, infix_of, prefix_of}
 use Rattle.tla_expr.specs.Spelling.{Phrases, last, more, Binds, last_bind, bind, share, Locals, last_local, more_locals, Bullets, last_bullet, bullet}
 use Rattle.tla_expr.specs.Spelling.{mark, key, sign, word, field_token, spell, spell_all, spell_binds, spell_locals, Good, GoodAll, GoodBinds, GoodLocals, Right, head, is_primary, is_short, can_be_left, can_be_head, Head, first_bullet, spell_bullets}
 use Rattle.tla_expr.specs.Spelling as sp
@@ -17,9 +17,9 @@ use Rattle.tla_expr.proofs.ReadStops.{bullets_behind, is_calm}
 use Rattle.tla_expr.proofs.ReadPhrases.{is_call, NoCall, Inner, tail_call, Prime, Full, Begins, Reads, ended, closed, is_end, Ends, end_calm, ReadsAll, primary_reads}
 
 -- ---- how a phrase begins
-abbrev pub is_start : Tk → Bool
+abbrev pub is_start : ExprToken → Bool
 is_start (tk.number n) = true
-is_start (tk.quote x) = true
+is_start (tk.string x) = true
 is_start (tk.constant c) = true
 is_start (tk.word x) = true
 is_start (tk.sign o) = true
@@ -42,7 +42,7 @@ sign_starts : (o : Op) → is_start (sign_of o) ≡ true
 sign_starts op.Negate = refl
 sign_starts o = refl
 
-starts_with : (e : ℕ) (p : Place) (k : Tk) (us : List Token) → Right e p → is_start k ≡ true → Starts e (token p k ∷ us)
+starts_with : (e : ℕ) (p : Place) (k : ExprToken) (us : List Token) → Right e p → is_start k ≡ true → Starts e (token p k ∷ us)
 starts_with e p k us r h = record { first = token p k; rest = us; same_as = refl; right = r; start = h }
 
 quantifier_starts : (e : ℕ) (b : Bool) (p : Place) (us : List Token) → Right e p → Starts e (key p (sp.quantifier b) us)
@@ -51,7 +51,7 @@ quantifier_starts e false p us r = starts_with e p (tk.key tk.exists_key) us r r
 
 pub starts : (e : ℕ) (a : Phrase) → Good e a → (ts : List Token) → Starts e (spell a ts)
 starts e (number p n) g ts = starts_with e p _ _ g refl
-starts e (quote p x) g ts = starts_with e p _ _ g refl
+starts e (string p x) g ts = starts_with e p _ _ g refl
 starts e (constant p c) g ts = starts_with e p _ _ g refl
 starts e (name p x) g ts = starts_with e p _ _ g refl
 starts e (primed p x q) g ts = starts_with e p _ _ g.0 refl
@@ -73,7 +73,7 @@ starts e (select a p f) g ts = starts e a g.0 (mark p tk.dot (field_token f ts))
 starts e (list o (last_bullet p a)) g ts = starts_with e p (sign_of o) (spell a ts) g.1 (sign_starts o)
 starts e (list o (bullet p a bs)) g ts = starts_with e p (sign_of o) (spell a (spell_bullets o bs ts)) g.1 (sign_starts o)
 starts e (quantified b p bs q a) g ts = quantifier_starts e b p (spell_binds bs (mark q tk.colon (spell a ts))) g.0
-starts e (choice p a q b r c) g ts = starts_with e p _ _ g.0 refl
+starts e (if_then_else p a q b r c) g ts = starts_with e p _ _ g.0 refl
 starts e (cases p xs) g ts = starts_with e p _ _ g.0 refl
 starts e (local p ls q a) g ts = starts_with e p _ _ g.0 refl
 starts e (infix_of a p o b) g ts = starts e a g.3 (sign p o (spell b ts))
@@ -84,7 +84,7 @@ starts_all e (last a) g ts = starts e a g ts
 starts_all e (more a p xs) g ts = starts e a g.0 (mark p tk.comma (spell_all xs ts))
 
 -- ---- tuples
-tuples_by : (r : Readers) (e : ℕ) (p q : Place) (k : Tk) (us : List Token) → is_start k ≡ true → tuples r e p q k us ≡ (r.phrases e >>= λ xs. a_mark e tk.close_tuple >>= λ s. gives (tuple p xs s)) us
+tuples_by : (r : Readers) (e : ℕ) (p q : Place) (k : ExprToken) (us : List Token) → is_start k ≡ true → tuples r e p q k us ≡ (r.phrases e >>= λ xs. a_mark e tk.close_tuple >>= λ s. gives (tuple p xs s)) us
 tuples_by r e p q (tk.mark tk.close_tuple) us h = absurd cc
 tuples_by r e p q k us h = refl
 
@@ -110,11 +110,11 @@ or_left : (x y : Bool) → (x || y) ≡ false → x ≡ false
 or_left false y h = refl
 or_left true y h = h
 
-no_bullet : (o : Op) (b : Bool) (k : Tk) → (is_call k || not (is_calm k || is_tail k)) ≡ false → (is_sign o k && b) ≡ false
+no_bullet : (o : Op) (b : Bool) (k : ExprToken) → (is_call k || not (is_calm k || is_tail k)) ≡ false → (is_sign o k && b) ≡ false
 no_bullet o b (tk.sign q) h = absurd cc
 no_bullet o b k h = refl
 
-head_inner : (e : ℕ) (a : Phrase) (p : Place) (k : Tk) (us : List Token) → Good e a → can_be_head a p ≡ true → next e us ≡ token p k → (is_call k || not (is_calm k || is_tail k)) ≡ false → Inner e a us
+head_inner : (e : ℕ) (a : Phrase) (p : Place) (k : ExprToken) (us : List Token) → Good e a → can_be_head a p ≡ true → next e us ≡ token p k → (is_call k || not (is_calm k || is_tail k)) ≡ false → Inner e a us
 head_inner e a p k us g can s t = inner a g can
   where
     no_call : NoCall e us
@@ -166,7 +166,7 @@ pub record BindsRead (e : ℕ) (bs : Binds) (ts : List Token) : Type 0 where
 abbrev pub ReadsBinds : Binds → Type 0
 ReadsBinds bs = (e : ℕ) → GoodBinds e bs → (ts : List Token) → Ends e ts → BindsRead e bs ts
 
-bind_end : (r : Readers) (e : ℕ) (p : Place) (x : Word) (q : Place) (a : Phrase) (s : Place) (k : Tk) (ts : List Token) → is_end k ≡ true → bind_rest r e p x q a s k ts ≡ Ok (last_bind p x q a, ts)
+bind_end : (r : Readers) (e : ℕ) (p : Place) (x : Word) (q : Place) (a : Phrase) (s : Place) (k : ExprToken) (ts : List Token) → is_end k ≡ true → bind_rest r e p x q a s k ts ≡ Ok (last_bind p x q a, ts)
 bind_end r e p x q a s (tk.mark tk.comma) ts h = absurd cc
 bind_end r e p x q a s k ts h = refl
 
@@ -203,22 +203,22 @@ reads_for b p bs q a hb ha = record { begins = λ h. absurd cc; prime = λ h. ab
         let u = ended a ha e free tt ga refl ts s k in
         step (λ r. r.expr e c (spell (quantified false p bs q a) ts)) o (h.0 + v.reads.0 + u.0, λ n l. rw (gp, v.same_as, v.right, v.reads.1 n (omega arith), gq, u.1 n (omega arith)) (h.1 n (omega arith)))
 
-pub reads_choice : (p : Place) (a : Phrase) (q : Place) (b : Phrase) (s : Place) (d : Phrase) → Reads a → Reads b → Reads d → Reads (choice p a q b s d)
+pub reads_choice : (p : Place) (a : Phrase) (q : Place) (b : Phrase) (s : Place) (d : Phrase) → Reads a → Reads b → Reads d → Reads (if_then_else p a q b s d)
 reads_choice p a q b s d ha hb hd = record { begins = λ h. absurd cc; prime = λ h. absurd cc; brief = λ e g h. absurd cc; full = full }
   where
-    full : Full (choice p a q b s d)
+    full : Full (if_then_else p a q b s d)
     full e c f (gp, ga, gq, gb, gs, gd) t ts (z, k) o h =
         let vb = closed b hb e gb (key s tk.else_key (spell d ts)) (rw gs refl) in
         let va = closed a ha e ga (key q tk.then_key (spell b (key s tk.else_key (spell d ts)))) (rw gq refl) in
         let vd = ended d hd e free tt gd refl ts z k in
-        step (λ r. r.expr e c (spell (choice p a q b s d) ts)) o (h.0 + va.0 + vb.0 + vd.0, λ n l. rw (gp, va.1 n (omega arith), gq, vb.1 n (omega arith), gs, vd.1 n (omega arith)) (h.1 n (omega arith)))
+        step (λ r. r.expr e c (spell (if_then_else p a q b s d) ts)) o (h.0 + va.0 + vb.0 + vd.0, λ n l. rw (gp, va.1 n (omega arith), gq, vb.1 n (omega arith), gs, vd.1 n (omega arith)) (h.1 n (omega arith)))
 
 -- ---- local definitions
-abbrev pub is_stop : Tk → Bool
+abbrev pub is_stop : ExprToken → Bool
 is_stop (tk.word x) = false
 is_stop k = is_calm k
 
-stop_calm : (k : Tk) → is_stop k ≡ true → is_calm k ≡ true
+stop_calm : (k : ExprToken) → is_stop k ≡ true → is_calm k ≡ true
 stop_calm (tk.word x) h = refl
 stop_calm k h = h
 
@@ -233,7 +233,7 @@ pub record LocalsRead (e : ℕ) (ls : Locals) (ts : List Token) : Type 0 where
 abbrev pub ReadsLocals : Locals → Type 0
 ReadsLocals ls = (e : ℕ) → GoodLocals e ls → (ts : List Token) → is_stop (next e ts).kind ≡ true → LocalsRead e ls ts
 
-locals_end : (r : Readers) (e : ℕ) (p : Place) (x : Word) (q : Place) (a : Phrase) (s : Place) (k : Tk) (ts : List Token) → is_stop k ≡ true → locals_by r e p x q a s k ts ≡ Ok (last_local p x q a, ts)
+locals_end : (r : Readers) (e : ℕ) (p : Place) (x : Word) (q : Place) (a : Phrase) (s : Place) (k : ExprToken) (ts : List Token) → is_stop k ≡ true → locals_by r e p x q a s k ts ≡ Ok (last_local p x q a, ts)
 locals_end r e p x q a s (tk.word y) ts h = absurd cc
 locals_end r e p x q a s k ts h = refl
 

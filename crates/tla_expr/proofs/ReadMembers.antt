@@ -8,7 +8,7 @@ use Rattle.tla_expr.specs.Tree.{Word}
 use Rattle.tla_expr.specs.Rank.{rank, is_prefix, is_associative, same_op}
 use Rattle.tla_expr.specs.Lexical.{Token, token, sign_of}
 use Rattle.tla_expr.specs.Lexical as tk
-use Rattle.tla_expr.specs.Spelling.{Phrase, name, apply, select, list, quantified, choice, cases, local, infix_of, prefix_of, primed, call, last_bullet, bullet, mark, sign, word, field_token, spell, spell_all, is_word, is_in, is_bind, Right, Good, head, applied, is_above, is_applied, ends_open, end_list, is_behind, can_be_left, can_be_right, can_be_head}
+use Rattle.tla_expr.specs.Spelling.{Phrase, name, apply, select, list, quantified, if_then_else, cases, local, infix_of, prefix_of, primed, call, last_bullet, bullet, mark, sign, word, field_token, spell, spell_all, is_word, is_in, is_bind, Right, Good, head, applied, is_above, is_applied, ends_open, end_list, is_behind, can_be_left, can_be_right, can_be_head}
 use Rattle.tla_expr.specs.Reader.{element}
 use Rattle.tla_expr.proofs.ReadStops.{same_is, left_parts}
 
@@ -103,7 +103,7 @@ above_right e u (prefix_of p o c) g m w n l =
     let j = ltb-true (rank u).1 4 (low_infix u n l) in
     lt-ltb (rank u).1 (rank o).0 (omega arith)
 above_right e u (quantified b p bs q a) g m w n l = absurd cc
-above_right e u (choice p a q b r d) g m w n l = absurd cc
+above_right e u (if_then_else p a q b r d) g m w n l = absurd cc
 above_right e u (cases p xs) g m w n l = absurd cc
 above_right e u (local p ls q a) g m w n l = absurd cc
 above_right e u a g m w n l = refl

@@ -5,9 +5,9 @@ use Rattle.tla_token.specs.declared.place.Place.{Place}
 use Rattle.tla_expr.specs.declared.op.Op.{Op}
 use Rattle.tla_expr.specs.declared.op.Op.TheVariants as op
 use Rattle.tla_expr.specs.Rank.{rank, is_prefix, is_associative, same_op, number_of}
-use Rattle.tla_expr.specs.Lexical.{Tk, Token, token, sign_of}
+use Rattle.tla_expr.specs.Lexical.{ExprToken, Token, token, sign_of}
 use Rattle.tla_expr.specs.Lexical as tk
-use Rattle.tla_expr.specs.Spelling.{Phrase, list, quantified, choice, cases, local, infix_of, prefix_of}
+use Rattle.tla_expr.specs.Spelling.{Phrase, list, quantified, if_then_else, cases, local, infix_of, prefix_of}
 use Rattle.tla_expr.specs.Spelling.{Bullets, last_bullet, bullet, Arms, last_arm, other_arm, arm}
 use Rattle.tla_expr.specs.Spelling.{Good, GoodBullets, GoodArms, first_bullet, takes_box, last_takes_box, Right, head, is_above, is_applied, is_short, ends_open, end_list, is_behind, can_be_left, applied, primary, open_form, Head}
 use Rattle.tla_expr.specs.Reader.{next, end, is_sign, Context, free, right_of, under, bound, fits, is_free}
@@ -18,7 +18,7 @@ abbrev pub free_in : Option Context → Op → Bool
 free_in None q = false
 free_in (Some c) q = is_free c q
 
-abbrev pub is_box : Tk → Bool
+abbrev pub is_box : ExprToken → Bool
 is_box (tk.mark tk.box) = true
 is_box k = false
 
@@ -30,7 +30,7 @@ ListEnds e o c ts = (is_sign o (next e ts).kind && nat_eq c (next e ts).place.co
 abbrev mutual
   pub Stops : ℕ → Option Context → Phrase → List Token → Type 0
   Stops e d (quantified b p bs q a) ts = Stops e (Some free) a ts × Stays e 0 a ts
-  Stops e d (choice p a q b r c) ts = Stops e (Some free) c ts × Stays e 0 c ts
+  Stops e d (if_then_else p a q b r c) ts = Stops e (Some free) c ts × Stays e 0 c ts
   Stops e d (local p ls q a) ts = Stops e (Some free) a ts × Stays e 0 a ts
   Stops e d (infix_of a p o b) ts = Stops e (Some (right_of o)) b ts × Stays e (rank o).1 b ts
   Stops e d (prefix_of p o a) ts = MatchBool (free_in d o) (Stops e (Some (under o)) a ts × Stays e (rank o).1 a ts) (Stops e None a ts)
@@ -48,25 +48,25 @@ abbrev mutual
   ArmsStop e (arm a p b q xs) ts = ArmsStop e xs ts
 
 -- a token that goes on nothing
-abbrev pub is_calm : Tk → Bool
+abbrev pub is_calm : ExprToken → Bool
 is_calm (tk.sign o) = false
 is_calm (tk.mark tk.box) = false
 is_calm k = not (is_tail k)
 
-calm_tail : (k : Tk) → is_calm k ≡ true → is_tail k ≡ false
+calm_tail : (k : ExprToken) → is_calm k ≡ true → is_tail k ≡ false
 calm_tail (tk.sign o) h = refl
 calm_tail (tk.mark tk.box) h = refl
 calm_tail k h = not-true (is_tail k) h
 
-calm_by : (b : ℕ) (a : Phrase) (p : Place) (k : Tk) → is_calm k ≡ true → goes_by b a p k ≡ false
+calm_by : (b : ℕ) (a : Phrase) (p : Place) (k : ExprToken) → is_calm k ≡ true → goes_by b a p k ≡ false
 calm_by b a p (tk.sign o) h = absurd cc
 calm_by b a p k h = refl
 
-calm_bullet : (o : Op) (b : Bool) (k : Tk) → is_calm k ≡ true → (is_sign o k && b) ≡ false
+calm_bullet : (o : Op) (b : Bool) (k : ExprToken) → is_calm k ≡ true → (is_sign o k && b) ≡ false
 calm_bullet o b (tk.sign q) h = absurd cc
 calm_bullet o b k h = refl
 
-calm_box : (k : Tk) → is_calm k ≡ true → is_box k ≡ false
+calm_box : (k : ExprToken) → is_calm k ≡ true → is_box k ≡ false
 calm_box (tk.mark tk.box) h = absurd cc
 calm_box k h = refl
 
@@ -95,7 +95,7 @@ calm_right e c (t ∷ ts) l h = by (nat_lt c t.place.col) refl
 mutual
   pub calm_stops : (e : ℕ) (d : Option Context) (a : Phrase) (ts : List Token) → Good e a → Calm e ts → Stops e d a ts
   calm_stops e d (quantified b p bs q a) ts g h = (calm_stops e (Some free) a ts g.3 h, calm_stays e 0 a ts h)
-  calm_stops e d (choice p a q b r c) ts g h = (calm_stops e (Some free) c ts g.5 h, calm_stays e 0 c ts h)
+  calm_stops e d (if_then_else p a q b r c) ts g h = (calm_stops e (Some free) c ts g.5 h, calm_stays e 0 c ts h)
   calm_stops e d (local p ls q a) ts g h = (calm_stops e (Some free) a ts g.3 h, calm_stays e 0 a ts h)
   calm_stops e d (infix_of a p o b) ts g h = (calm_stops e (Some (right_of o)) b ts g.5 h, calm_stays e (rank o).1 b ts h)
   calm_stops e d (prefix_of p o a) ts g h = either (free_in d o) (calm_stops e (Some (under o)) a ts g.3 h, calm_stays e (rank o).1 a ts h) (calm_stops e None a ts g.3 h)
@@ -113,7 +113,7 @@ mutual
   calm_arms e (arm a p b q xs) ts g h = calm_arms e xs ts g.5 h
 
 -- a token that stands at the column or left of it is not seen in an item
-pub behind_end : (e c : ℕ) (ts : List Token) (p : Place) (k : Tk) → nat_lt e c ≡ true → next e ts ≡ token p k → nat_lt c p.col ≡ false → next c ts ≡ end
+pub behind_end : (e c : ℕ) (ts : List Token) (p : Place) (k : ExprToken) → nat_lt e c ≡ true → next e ts ≡ token p k → nat_lt c p.col ≡ false → next c ts ≡ end
 behind_end e c [] p k l s h = refl
 behind_end e c (t ∷ ts) p k l s h = by (nat_lt c t.place.col) refl
   where
@@ -125,7 +125,7 @@ behind_end e c (t ∷ ts) p k l s h = by (nat_lt c t.place.col) refl
         let col : nat_lt c t.place.col ≡ nat_lt c p.col = ap (λ (u : Token). nat_lt c u.place.col) it in
         absurd (both_ways (nat_lt c p.col) h (sym col ∙ g))
 
-pub bullets_behind : (e c : ℕ) (bs : Bullets) (ts : List Token) (p : Place) (k : Tk) → GoodBullets c bs → nat_lt e c ≡ true → next e ts ≡ token p k → nat_lt c p.col ≡ false → BulletsStop c bs ts
+pub bullets_behind : (e c : ℕ) (bs : Bullets) (ts : List Token) (p : Place) (k : ExprToken) → GoodBullets c bs → nat_lt e c ≡ true → next e ts ≡ token p k → nat_lt c p.col ≡ false → BulletsStop c bs ts
 bullets_behind e c bs ts p k g l s h = calm_bullets c bs ts g (rw (behind_end e c ts p k l s h) refl)
 
 -- ---- `[]` behind a phrase in which no CASE takes it
@@ -153,7 +153,7 @@ box_stays e b a ts p s = rw s refl
 mutual
   pub box_stops : (e : ℕ) (d : Option Context) (a : Phrase) (ts : List Token) (p : Place) → Good e a → takes_box p.col a ≡ false → next e ts ≡ token p (tk.mark tk.box) → Stops e d a ts
   box_stops e d (quantified b r bs q a) ts p g h s = (box_stops e (Some free) a ts p g.3 h s, box_stays e 0 a ts p s)
-  box_stops e d (choice r a q b t c) ts p g h s = (box_stops e (Some free) c ts p g.5 h s, box_stays e 0 c ts p s)
+  box_stops e d (if_then_else r a q b t c) ts p g h s = (box_stops e (Some free) c ts p g.5 h s, box_stays e 0 c ts p s)
   box_stops e d (local r ls q a) ts p g h s = (box_stops e (Some free) a ts p g.3 h s, box_stays e 0 a ts p s)
   box_stops e d (infix_of a r o b) ts p g h s = (box_stops e (Some (right_of o)) b ts p g.5 h s, box_stays e (rank o).1 b ts p s)
   box_stops e d (prefix_of r o a) ts p g h s = either (free_in d o) (box_stops e (Some (under o)) a ts p g.3 h s, box_stays e (rank o).1 a ts p s) (box_stops e None a ts p g.3 h s)
@@ -342,7 +342,7 @@ short_stops : (e : ℕ) (a : Phrase) (p : Place) (o : Op) (ts : List Token) → 
 short_stops e (prefix_of r q a) p o ts g z h s = short_stops e a p o ts g.3 z h s
 short_stops e (infix_of a r q b) p o ts g z h s = absurd cc
 short_stops e (quantified b r bs q a) p o ts g z h s = absurd cc
-short_stops e (choice r a q b t c) p o ts g z h s = absurd cc
+short_stops e (if_then_else r a q b t c) p o ts g z h s = absurd cc
 short_stops e (local r ls q a) p o ts g z h s = absurd cc
 short_stops e (cases r xs) p o ts g z h s = absurd cc
 short_stops e (list q bs) p o ts g z h s = list_stops e q bs p o ts g.1 g.2 z s
@@ -360,7 +360,7 @@ low_stops e c (prefix_of r q a) p o ts (n, m, gr, ga) f w t le s = by (is_free c
     by true h i = (let k = free_above c q h in (i (omega arith), low_stays e (rank q).1 a p o ts s (omega arith)))
     by false h i = short_stops e a p o ts ga w.1 (fits_short c r q a h t) s
 low_stops e c (quantified b r bs q a) p o ts g f w t le s = absurd (both_ways true w.0 refl)
-low_stops e c (choice r a q b k d) p o ts g f w t le s = absurd (both_ways true w.0 refl)
+low_stops e c (if_then_else r a q b k d) p o ts g f w t le s = absurd (both_ways true w.0 refl)
 low_stops e c (local r ls q a) p o ts g f w t le s = absurd (both_ways true w.0 refl)
 low_stops e c (cases r xs) p o ts g f w t le s = absurd (both_ways true w.0 refl)
 low_stops e c (list q bs) p o ts g f w t le s = list_stops e q bs p o ts g.1 g.2 w.1 s
@@ -416,7 +416,7 @@ left_stops e c (infix_of a r q b) p o ts (n, l, m, ga, gr, gb) w h le s =
 left_stops e c (prefix_of r q a) p o ts (n, m, gr, ga) w h le s =
     rw (free_from c q (let k = (h.own q refl).0 in omega arith)) (low_stops e (under q) a p o ts ga n w m (h.own q refl).1 s, low_stays e (rank q).1 a p o ts s (h.own q refl).1)
 left_stops e c (quantified b r bs q a) p o ts g w h le s = absurd (both_ways true w.0 refl)
-left_stops e c (choice r a q b k d) p o ts g w h le s = absurd (both_ways true w.0 refl)
+left_stops e c (if_then_else r a q b k d) p o ts g w h le s = absurd (both_ways true w.0 refl)
 left_stops e c (local r ls q a) p o ts g w h le s = absurd (both_ways true w.0 refl)
 left_stops e c (cases r xs) p o ts g w h le s = absurd (both_ways true w.0 refl)
 left_stops e c (list q bs) p o ts g w h le s = list_stops e q bs p o ts g.1 g.2 w.1 s

@@ -6,7 +6,7 @@ use Rattle.tla_token.specs.declared.place.Place.{Place}
 use Rattle.tla_expr.specs.declared.op.Op.{Op}
 use Rattle.tla_expr.specs.declared.op.Op.TheVariants as op
 use Rattle.tla_expr.specs.declared.op.Binder.TheVariants as binder
-use Rattle.tla_expr.specs.Tree.{Word, Step, Slot, Strict, Tree, Trees, node, no_trees, tree}
+use Rattle.tla_expr.specs.Tree.{Word, PathStep, Slot, Strict, Tree, Trees, node, no_trees, tree}
 use Rattle.tla_expr.specs.Tree as tree
 use Rattle.tla_expr.specs.Lexical.{Token, token, Mark, Key}
 use Rattle.tla_expr.specs.Lexical as tk
@@ -188,7 +188,7 @@ writes_negation = refl
 writes_lists : written (o_tree op.And (o_tree op.And (v a') (v b')) (o_tree op.NotIn (v x') (v s'))) ≡ codes "(a /\\ b) /\\ (x \\notin S)"
 writes_lists = refl
 
-writes_next : written (o_tree op.Equal (node (tree.next x') (at 1 1) no_trees) (node (tree.quote (codes "a\\\"")) (at 1 1) no_trees)) ≡ codes "x' = \"a\\\\\\\"\""
+writes_next : written (o_tree op.Equal (node (tree.next x') (at 1 1) no_trees) (node (tree.string (codes "a\\\"")) (at 1 1) no_trees)) ≡ codes "x' = \"a\\\\\\\"\""
 writes_next = refl
 
 writes_for_all : written (node (tree.binding binder.ForAll (x' ∷ a' ∷ [])) (at 1 1) (tree (o_tree op.Range (number 1) (number 3)) (two (v s') (o_tree op.Equal (v x') (v a'))))) ≡ codes "\\A x \\in (1..3), a \\in S : x = a"
@@ -200,16 +200,16 @@ writes_image = rw one_text refl
 writes_cases : written (node (tree.cases true) (at 1 1) (tree (o_tree op.Equal (v x') (number 1)) (two (v a') (v b')))) ≡ codes "CASE (x = 1) -> a [] OTHER -> b"
 writes_cases = rw one_text refl
 
-writes_local : written (node (tree.local x') (at 1 1) (two (o_tree op.Plus (v a') (number 1)) (node tree.choice (at 1 1) (tree (v a') (two (v b') (v x')))))) ≡ codes "LET x == a + 1 IN IF a THEN b ELSE x"
+writes_local : written (node (tree.local x') (at 1 1) (two (o_tree op.Plus (v a') (number 1)) (node tree.if_then_else (at 1 1) (tree (v a') (two (v b') (v x')))))) ≡ codes "LET x == a + 1 IN IF a THEN b ELSE x"
 writes_local = rw one_text refl
 
-abbrev slot : List Step → Slot
+abbrev slot : List PathStep → Slot
 slot path = record { path = path; place = at 1 1 }
 
 writes_except : written (strict_tree (tree.except (slot (tree.index ∷ []) ∷ slot (tree.index ∷ []) ∷ [])) (tree (v a') (tree (number 1) (tree (number 2) (two (number 2) (strict_tree tree.apply (two (v a') (number 1)))))))) ≡ codes "[a EXCEPT ![1] = 2, ![2] = a[1]]"
 writes_except = rw (one_text, two_text) refl
 
-writes_frame : written (o_tree op.Concat (strict_tree tree.tuple (one (strict_tree (tree.fields (codes "procedure" ∷ codes "pc" ∷ [])) (two (node (tree.quote (codes "Add")) (at 1 1) no_trees) (node (tree.quote (codes "Done")) (at 1 1) no_trees))))) (v (codes "stack"))) ≡ codes "<<[procedure |-> \"Add\", pc |-> \"Done\"]>> \\o stack"
+writes_frame : written (o_tree op.Concat (strict_tree tree.tuple (one (strict_tree (tree.fields (codes "procedure" ∷ codes "pc" ∷ [])) (two (node (tree.string (codes "Add")) (at 1 1) no_trees) (node (tree.string (codes "Done")) (at 1 1) no_trees))))) (v (codes "stack"))) ≡ codes "<<[procedure |-> \"Add\", pc |-> \"Done\"]>> \\o stack"
 writes_frame = refl
 
 -- ---- the phrase of a written text has its tokens
@@ -228,13 +228,13 @@ phrase_of_image = refl
 phrase_of_cases : SameTokens (node (tree.cases true) (at 1 1) (tree (o_tree op.Equal (v x') (number 1)) (two (v a') (v b'))))
 phrase_of_cases = refl
 
-phrase_of_local : SameTokens (node (tree.local x') (at 1 1) (two (o_tree op.Plus (v a') (number 1)) (node tree.choice (at 1 1) (tree (v a') (two (v b') (v x'))))))
+phrase_of_local : SameTokens (node (tree.local x') (at 1 1) (two (o_tree op.Plus (v a') (number 1)) (node tree.if_then_else (at 1 1) (tree (v a') (two (v b') (v x'))))))
 phrase_of_local = refl
 
 phrase_of_except : SameTokens (strict_tree (tree.except (slot (tree.index ∷ []) ∷ slot (tree.index ∷ []) ∷ [])) (tree (v a') (tree (number 1) (tree (number 2) (two (number 2) (strict_tree tree.apply (two (v a') (number 1))))))))
 phrase_of_except = refl
 
-phrase_of_frame : SameTokens (o_tree op.Concat (strict_tree tree.tuple (one (strict_tree (tree.fields (codes "procedure" ∷ codes "pc" ∷ [])) (two (node (tree.quote (codes "Add")) (at 1 1) no_trees) (node (tree.quote (codes "Done")) (at 1 1) no_trees))))) (v (codes "stack")))
+phrase_of_frame : SameTokens (o_tree op.Concat (strict_tree tree.tuple (one (strict_tree (tree.fields (codes "procedure" ∷ codes "pc" ∷ [])) (two (node (tree.string (codes "Add")) (at 1 1) no_trees) (node (tree.string (codes "Done")) (at 1 1) no_trees))))) (v (codes "stack")))
 phrase_of_frame = refl
 
 -- ---- nesting

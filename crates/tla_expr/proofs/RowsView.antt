@@ -6,7 +6,7 @@ use Rattle.tla_token.specs.Lexemes.{name, one}
 use Rattle.tla_token.specs.Lexemes as lexeme
 use Rattle.tla_expr.specs.declared.op.Op.TheVariants as op
 use Rattle.tla_expr.specs.Lexical as tk
-use Rattle.tla_expr.specs.View.{kind_of}
+use Rattle.tla_expr.specs.ExprTokens.{kind_of}
 
 of_a_name : kind_of (name (codes "x")) ≡ tk.word (codes "x")
 of_a_name = refl

@@ -5,10 +5,10 @@ use Rattle.tla_expr.specs.declared.op.Op.{Op}
 use Rattle.tla_expr.specs.declared.op.Op.TheVariants as op
 use Rattle.tla_expr.specs.declared.op.Binder.{Binder}
 use Rattle.tla_expr.specs.declared.op.Binder.TheVariants as binder
-use Rattle.tla_expr.specs.Tree.{Word, Step, Slot, Strict, Form, Tree, Trees, node, no_trees, tree}
+use Rattle.tla_expr.specs.Tree.{Word, PathStep, Slot, Strict, Form, Tree, Trees, node, no_trees, tree}
 use Rattle.tla_expr.specs.Tree as tree
 use Rattle.tla_token.specs.Words.{is_pluscal_word}
-use Rattle.tla_expr.specs.Lexical.{Tk, Token}
+use Rattle.tla_expr.specs.Lexical.{ExprToken, Token}
 use Rattle.tla_expr.specs.Lexical as tk
 use Rattle.tla_expr.specs.Spelling.{Phrase, Phrases, Binds, Fields, Settings, Path, Arms, Field}
 use Rattle.tla_expr.specs.Spelling as spelled
@@ -88,7 +88,7 @@ abbrev pub bound_phrase : Binder → List Word → List Part → Phrase
 bound_phrase b (x ∷ ys) (a ∷ xs) = binding_phrase b x a (binds_of x a ys xs) (body ys xs)
 bound_phrase b ys xs = no_phrase
 
-abbrev pub path_of : List Step → List Part → (Path → List Part → Phrase) → Phrase
+abbrev pub path_of : List PathStep → List Part → (Path → List Part → Phrase) → Phrase
 path_of [] xs k = k spelled.path_end xs
 path_of (tree.index ∷ ss) (a ∷ xs) k = path_of ss xs (λ p ys. k (spelled.index nowhere (spelled.last (plain a)) nowhere p) ys)
 path_of (tree.index ∷ ss) [] k = no_phrase
@@ -125,7 +125,7 @@ arms_of b (c ∷ a ∷ xs) k = arms_of b xs (λ arms. k (spelled.arm (as_operand
 arms_of b xs k = no_phrase
 
 abbrev pub choice_phrase : List Part → Phrase
-choice_phrase (a ∷ b ∷ c ∷ []) = spelled.choice nowhere (plain a) nowhere (plain b) nowhere (plain c)
+choice_phrase (a ∷ b ∷ c ∷ []) = spelled.if_then_else nowhere (plain a) nowhere (plain b) nowhere (plain c)
 choice_phrase xs = no_phrase
 
 abbrev pub local_phrase : Word → List Part → Phrase
@@ -134,20 +134,20 @@ local_phrase x xs = no_phrase
 
 abbrev pub form_phrase : Form → List Part → Phrase
 form_phrase (tree.number n) xs = spelled.number nowhere n
-form_phrase (tree.quote x) xs = spelled.quote nowhere x
+form_phrase (tree.string x) xs = spelled.string nowhere x
 form_phrase (tree.truth b) xs = spelled.constant nowhere (tk.truth b)
 form_phrase tree.booleans xs = spelled.constant nowhere tk.booleans
 form_phrase tree.strings xs = spelled.constant nowhere tk.strings
 form_phrase (tree.name x) xs = name x
 form_phrase (tree.next x) xs = spelled.primed nowhere x nowhere
 form_phrase (tree.strict m) xs = strict_phrase m xs
-form_phrase (tree.call x) xs = call_phrase x xs
-form_phrase tree.both xs = infix_phrase op.And xs
-form_phrase tree.or_else xs = infix_phrase op.Or xs
-form_phrase tree.implies xs = infix_phrase op.Implies xs
+form_phrase (tree.operator_call x) xs = call_phrase x xs
+form_phrase tree.conjunction xs = infix_phrase op.And xs
+form_phrase tree.disjunction xs = infix_phrase op.Or xs
+form_phrase tree.implication xs = infix_phrase op.Implies xs
 form_phrase (tree.member true) xs = infix_phrase op.In xs
 form_phrase (tree.member false) xs = infix_phrase op.NotIn xs
-form_phrase tree.choice xs = choice_phrase xs
+form_phrase tree.if_then_else xs = choice_phrase xs
 form_phrase (tree.cases b) xs = arms_of b xs (λ arms. spelled.cases nowhere arms)
 form_phrase (tree.binding b ys) xs = bound_phrase b ys xs
 form_phrase (tree.local x) xs = local_phrase x xs
@@ -172,11 +172,11 @@ abbrev pub phrase_of : Tree → Phrase
 phrase_of t = plain (part t)
 
 -- what is read of tokens, and of pieces
-abbrev pub kinds : List Token → List Tk
+abbrev pub kinds : List Token → List ExprToken
 kinds [] = []
 kinds (t ∷ ts) = t.kind ∷ kinds ts
 
-abbrev pub tokens_of : List Piece → List Tk
+abbrev pub tokens_of : List Piece → List ExprToken
 tokens_of [] = []
 tokens_of (blank ∷ ps) = tokens_of ps
 tokens_of (token k ∷ ps) = k ∷ tokens_of ps

@@ -9,11 +9,11 @@ use Rattle.tla_expr.specs.declared.form.Strict.TheVariants as strict
 use Rattle.tla_expr.specs.declared.form.Form.{Form}
 use Rattle.tla_expr.specs.declared.form.Form.TheVariants as form
 
-abbrev pub step_of : Step → pure.Step
+abbrev pub step_of : Step → pure.PathStep
 step_of step.Index = pure.index
 step_of (step.Field a) = pure.field a
 
-abbrev pub steps_of : List Step → List pure.Step
+abbrev pub steps_of : List Step → List pure.PathStep
 steps_of ss = map step_of ss
 
 abbrev pub slot_of : Slot → pure.Slot
@@ -35,19 +35,19 @@ strict_of (strict.Except slots) = pure.except (slots_of slots.items)
 
 abbrev pub form_of : Form → pure.Form
 form_of (form.Number n) = pure.number n
-form_of (form.Quote t) = pure.quote t
+form_of (form.Quote t) = pure.string t
 form_of (form.Truth b) = pure.truth b
 form_of form.Booleans = pure.booleans
 form_of form.Strings = pure.strings
 form_of (form.Name x) = pure.name x
 form_of (form.Next x) = pure.next x
 form_of (form.Strict s) = pure.strict (strict_of s)
-form_of (form.Call f) = pure.call f
-form_of form.Both = pure.both
-form_of form.OrElse = pure.or_else
-form_of form.Implies = pure.implies
+form_of (form.Call f) = pure.operator_call f
+form_of form.Both = pure.conjunction
+form_of form.OrElse = pure.disjunction
+form_of form.Implies = pure.implication
 form_of (form.Member b) = pure.member b
-form_of form.Choice = pure.choice
+form_of form.Choice = pure.if_then_else
 form_of (form.Cases b) = pure.cases b
 form_of (form.Binding b xs) = pure.binding b xs
 form_of (form.Local x) = pure.local x

@@ -44,31 +44,31 @@ pub data Constant : Type 0 where
   booleans : Constant  -- BOOLEAN
   strings : Constant  -- STRING
 
-pub data Tk : Type 0 where
-  sign : Op → Tk  -- a sign or word of an operator: synonyms are one; `-` is Minus, also as a prefix
-  word : Word → Tk  -- an identifier that is not reserved
-  reserved : Word → Tk  -- a reserved word of PlusCal
-  number : ℕ → Tk
-  quote : Word → Tk  -- a string, without its quotes and escapes
-  constant : Constant → Tk
-  mark : Mark → Tk
-  key : Key → Tk
-  other : Tk  -- what stands in no expression
+pub data ExprToken : Type 0 where
+  sign : Op → ExprToken  -- a sign or word of an operator: synonyms are one; `-` is Minus, also as a prefix
+  word : Word → ExprToken  -- an identifier that is not reserved
+  reserved : Word → ExprToken  -- a reserved word of PlusCal
+  number : ℕ → ExprToken
+  string : Word → ExprToken  -- a string, without its quotes and escapes
+  constant : Constant → ExprToken
+  mark : Mark → ExprToken
+  key : Key → ExprToken
+  other : ExprToken  -- what stands in no expression
 
 -- the token of a word that is the name of a field
-abbrev pub field_kind : Bool → Word → Tk
+abbrev pub field_kind : Bool → Word → ExprToken
 field_kind true x = reserved x
 field_kind false x = word x
 
 pub record Token : Type 0 where
-  pub kind : Tk
+  pub kind : ExprToken
   pub place : Place
 
-abbrev pub token : Place → Tk → Token
+abbrev pub token : Place → ExprToken → Token
 token p k = record { kind = k; place = p }
 
 -- the sign of an operator: negation has that of subtraction
-abbrev pub sign_of : Op → Tk
+abbrev pub sign_of : Op → ExprToken
 sign_of op.Negate = sign op.Minus
 sign_of o = sign o
 
@@ -150,12 +150,12 @@ abbrev pub escapes : Word → List ℕ
 escapes [] = []
 escapes (b ∷ bs) = escaped b ++ escapes bs
 
-abbrev pub token_text : Tk → List ℕ
+abbrev pub token_text : ExprToken → List ℕ
 token_text (sign o) = op_text o
 token_text (word x) = x
 token_text (reserved x) = x
 token_text (number n) = decimal n
-token_text (quote x) = codes "\"" ++ (escapes x ++ codes "\"")
+token_text (string x) = codes "\"" ++ (escapes x ++ codes "\"")
 token_text (constant c) = constant_text c
 token_text (mark m) = mark_text m
 token_text (key k) = key_text k

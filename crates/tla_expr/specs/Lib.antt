@@ -6,7 +6,7 @@ pub mod TreeOf
 pub mod Code
 pub mod Rank
 pub mod Lexical
-pub mod View
+pub mod ExprTokens
 pub mod Spelling
 pub mod Written
 pub mod Nesting

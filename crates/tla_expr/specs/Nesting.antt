@@ -22,7 +22,7 @@ links a = 0
 abbrev mutual
   pub counts : ℕ → Phrase → List ℕ → List ℕ
   counts n (spelled.number p k) r = n ∷ r
-  counts n (spelled.quote p x) r = n ∷ r
+  counts n (spelled.string p x) r = n ∷ r
   counts n (spelled.constant p c) r = n ∷ r
   counts n (spelled.name p x) r = n ∷ r
   counts n (spelled.primed p x q) r = n ∷ n ∷ r
@@ -43,7 +43,7 @@ abbrev mutual
   counts n (spelled.select a p f) r = counts n a (let m : ℕ = n + links a + 1 in m ∷ m ∷ r)
   counts n (spelled.list o bs) r = counts_bullets n bs r
   counts n (spelled.quantified b p bs q a) r = (n + 1) ∷ counts_binds (n + 1) bs ((n + 1) ∷ counts (n + 1) a r)
-  counts n (spelled.choice p a q b t c) r = (n + 1) ∷ counts (n + 1) a ((n + 1) ∷ counts (n + 1) b ((n + 1) ∷ counts (n + 1) c r))
+  counts n (spelled.if_then_else p a q b t c) r = (n + 1) ∷ counts (n + 1) a ((n + 1) ∷ counts (n + 1) b ((n + 1) ∷ counts (n + 1) c r))
   counts n (spelled.cases p xs) r = (n + 1) ∷ counts_arms (n + 1) xs r
   counts n (spelled.local p ls q a) r = (n + 1) ∷ counts_locals (n + 1) ls ((n + 1) ∷ counts (n + 1) a r)
   counts n (spelled.infix_of a p o b) r = counts n a (let m : ℕ = n + chain a + 1 in m ∷ counts m b r)

@@ -6,7 +6,7 @@ use Rattle.std.specs.Bool.{IsTrue}
 use Rattle.tla_expr.specs.declared.op.Op.{Op}
 use Rattle.tla_expr.specs.declared.op.Op.TheVariants as op
 use Rattle.tla_expr.specs.Rank.{is_prefix}
-use Rattle.tla_expr.specs.Tree.{Word, Step, index, field, Slot, Strict, operator, set_of, tuple, fields, records, functions, apply, select, except, Form, number, strict, call, both, or_else, implies, member, choice, cases, binding, local}
+use Rattle.tla_expr.specs.Tree.{Word, PathStep, index, field, Slot, Strict, operator, set_of, tuple, fields, records, functions, apply, select, except, Form, number, strict, operator_call, conjunction, disjunction, implication, member, if_then_else, cases, binding, local}
 
 -- the others are forms of their own
 abbrev pub is_strict : Op → Bool
@@ -22,12 +22,12 @@ operands true = 1
 operands false = 2
 
 -- a part for each subscript
-abbrev pub subscripts : List Step → ℕ
+abbrev pub subscripts : List PathStep → ℕ
 subscripts [] = 0
 subscripts (index ∷ ss) = suc (subscripts ss)
 subscripts (field a ∷ ss) = subscripts ss
 
-abbrev pub HasPath : List Step → Type 0
+abbrev pub HasPath : List PathStep → Type 0
 HasPath [] = ⊥
 HasPath (s ∷ ss) = Unit {0}
 
@@ -74,12 +74,12 @@ BinderShaped b xs n = (1 ≤ length xs) × (n ≡ suc (length xs))
 abbrev pub Shaped : Form → ℕ → Type 0
 Shaped (number k) n = (k < 2 ^ 127) × (n ≡ 0)
 Shaped (strict o) n = StrictShaped o n
-Shaped (call f) n = 1 ≤ n
-Shaped both n = n ≡ 2
-Shaped or_else n = n ≡ 2
-Shaped implies n = n ≡ 2
+Shaped (operator_call f) n = 1 ≤ n
+Shaped conjunction n = n ≡ 2
+Shaped disjunction n = n ≡ 2
+Shaped implication n = n ≡ 2
 Shaped (member b) n = n ≡ 2
-Shaped choice n = n ≡ 3
+Shaped if_then_else n = n ≡ 3
 Shaped (cases b) n = CaseShaped b n
 Shaped (binding b xs) n = BinderShaped b xs n
 Shaped (local x) n = n ≡ 2

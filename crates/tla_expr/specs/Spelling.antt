@@ -5,7 +5,7 @@ use Rattle.tla_token.specs.declared.place.Place.{Place}
 use Rattle.tla_expr.specs.declared.op.Op.{Op}
 use Rattle.tla_expr.specs.declared.op.Op.TheVariants as op
 use Rattle.tla_expr.specs.declared.op.Binder.TheVariants as binder
-use Rattle.tla_expr.specs.Tree.{Word, Step, Slot, Form, Tree, Trees, node, no_trees, tree}
+use Rattle.tla_expr.specs.Tree.{Word, PathStep, Slot, Form, Tree, Trees, node, no_trees, tree}
 use Rattle.tla_expr.specs.Tree as tree
 use Rattle.tla_expr.specs.Rank.{rank, is_prefix, is_associative, is_bullet, same_op}
 use Rattle.tla_expr.specs.Lexical.{Mark, Key, Constant, truth, booleans, strings, Token, token, sign_of, field_kind}
@@ -21,7 +21,7 @@ pub record Field : Type 0 where
 mutual
   pub data Phrase : Type 0 where
     number : Place → ℕ → Phrase
-    quote : Place → Word → Phrase
+    string : Place → Word → Phrase
     constant : Place → Constant → Phrase  -- TRUE, FALSE, BOOLEAN, STRING
     name : Place → Word → Phrase
     primed : Place → Word → Place → Phrase  -- x', in written text alone
@@ -42,7 +42,7 @@ mutual
     select : Phrase → Place → Field → Phrase  -- r.a
     list : Op → Bullets → Phrase  -- /\ a /\ b, with \/ likewise
     quantified : Bool → Place → Binds → Place → Phrase → Phrase  -- \A x \in S : p; with false \E
-    choice : Place → Phrase → Place → Phrase → Place → Phrase → Phrase  -- IF a THEN b ELSE c
+    if_then_else : Place → Phrase → Place → Phrase → Place → Phrase → Phrase  -- IF a THEN b ELSE c
     cases : Place → Arms → Phrase  -- CASE a -> b [] c -> d
     local : Place → Locals → Place → Phrase → Phrase  -- LET x == a y == b IN c
     infix_of : Phrase → Place → Op → Phrase → Phrase  -- a OP b
@@ -115,7 +115,7 @@ quantifier false = tk.exists_key
 abbrev mutual
   pub spell : Phrase → List Token → List Token
   spell (number p n) ts = token p (tk.number n) ∷ ts
-  spell (quote p x) ts = token p (tk.quote x) ∷ ts
+  spell (string p x) ts = token p (tk.string x) ∷ ts
   spell (constant p c) ts = token p (tk.constant c) ∷ ts
   spell (name p x) ts = word p x ts
   spell (primed p x q) ts = word p x (mark q tk.prime ts)
@@ -136,7 +136,7 @@ abbrev mutual
   spell (select a p f) ts = spell a (mark p tk.dot (field_token f ts))
   spell (list o bs) ts = spell_bullets o bs ts
   spell (quantified b p bs q a) ts = key p (quantifier b) (spell_binds bs (mark q tk.colon (spell a ts)))
-  spell (choice p a q b r c) ts = key p tk.if_key (spell a (key q tk.then_key (spell b (key r tk.else_key (spell c ts)))))
+  spell (if_then_else p a q b r c) ts = key p tk.if_key (spell a (key q tk.then_key (spell b (key r tk.else_key (spell c ts)))))
   spell (cases p xs) ts = key p tk.case_key (spell_arms xs ts)
   spell (local p ls q a) ts = key p tk.let_key (spell_locals ls (key q tk.in_key (spell a ts)))
   spell (infix_of a p o b) ts = spell a (sign p o (spell b ts))
@@ -185,7 +185,7 @@ first_bullet (bullet p a bs) = p
 -- the place of the first token
 abbrev pub start : Phrase → Place
 start (number p n) = p
-start (quote p x) = p
+start (string p x) = p
 start (constant p c) = p
 start (name p x) = p
 start (primed p x q) = p
@@ -206,16 +206,16 @@ start (apply a p xs q) = start a
 start (select a p f) = start a
 start (list o bs) = first_bullet bs
 start (quantified b p bs q a) = p
-start (choice p a q b r c) = p
+start (if_then_else p a q b r c) = p
 start (cases p xs) = p
 start (local p ls q a) = p
 start (infix_of a p o b) = start a
 start (prefix_of p o a) = p
 
 abbrev pub operation : Op → Form
-operation op.And = tree.both
-operation op.Or = tree.or_else
-operation op.Implies = tree.implies
+operation op.And = tree.conjunction
+operation op.Or = tree.disjunction
+operation op.Implies = tree.implication
 operation op.In = tree.member true
 operation op.NotIn = tree.member false
 operation o = tree.strict (tree.operator o)
@@ -240,7 +240,7 @@ abbrev pub labels : Fields → List Word
 labels (last_field f p a) = f.text ∷ []
 labels (field f p a q fs) = f.text ∷ labels fs
 
-abbrev pub steps : Path → List Step
+abbrev pub steps : Path → List PathStep
 steps path_end = []
 steps (index p xs q path) = tree.index ∷ steps path
 steps (at_field p f path) = tree.field f.text ∷ steps path
@@ -258,11 +258,11 @@ has_other (arm a p b q xs) = has_other xs
 abbrev mutual
   pub tree_of : Phrase → Tree
   tree_of (number p n) = node (tree.number n) p no_trees
-  tree_of (quote p x) = node (tree.quote x) p no_trees
+  tree_of (string p x) = node (tree.string x) p no_trees
   tree_of (constant p c) = node (constant_form c) p no_trees
   tree_of (name p x) = node (tree.name x) p no_trees
   tree_of (primed p x q) = node (tree.next x) p no_trees
-  tree_of (call p x q xs r) = node (tree.call x) p (trees_of xs)
+  tree_of (call p x q xs r) = node (tree.operator_call x) p (trees_of xs)
   tree_of (brackets p a q) = tree_of a
   tree_of (no_set p q) = node (tree.strict tree.set_of) p no_trees
   tree_of (set_of p xs q) = node (tree.strict tree.set_of) p (trees_of xs)
@@ -280,7 +280,7 @@ abbrev mutual
   tree_of (list o bs) = joined o bs
   tree_of (quantified true p bs q a) = node (tree.binding binder.ForAll (names bs)) p (sets_before bs (one (tree_of a)))
   tree_of (quantified false p bs q a) = node (tree.binding binder.Exists (names bs)) p (sets_before bs (one (tree_of a)))
-  tree_of (choice p a q b r c) = node tree.choice p (tree (tree_of a) (two (tree_of b) (tree_of c)))
+  tree_of (if_then_else p a q b r c) = node tree.if_then_else p (tree (tree_of a) (two (tree_of b) (tree_of c)))
   tree_of (cases p xs) = node (tree.cases (has_other xs)) p (arm_trees xs)
   tree_of (local p ls q a) = local_tree p ls (tree_of a)
   tree_of (infix_of a p o b) = node (operation o) (start a) (two (tree_of a) (tree_of b))
@@ -349,7 +349,7 @@ abbrev pub head : Phrase → Head
 head (infix_of a p o b) = applied o
 head (prefix_of p o a) = applied o
 head (quantified b p bs q a) = open_form
-head (choice p a q b r c) = open_form
+head (if_then_else p a q b r c) = open_form
 head (cases p xs) = open_form
 head (local p ls q a) = open_form
 head a = primary
@@ -408,11 +408,11 @@ abbrev pub can_be_head : Phrase → Place → Bool
 can_be_head (list o bs) p = not (nat_lt (first_bullet bs).col p.col)
 can_be_head a p = is_primary (head a)
 
-abbrev pub is_word : tk.Tk → Bool
+abbrev pub is_word : tk.ExprToken → Bool
 is_word (tk.word x) = true
 is_word k = false
 
-abbrev pub is_in : tk.Tk → Bool
+abbrev pub is_in : tk.ExprToken → Bool
 is_in (tk.sign op.In) = true
 is_in k = false
 
@@ -428,7 +428,7 @@ abbrev mutual
   takes_box c (infix_of a p o b) = takes_box c b
   takes_box c (prefix_of p o a) = takes_box c a
   takes_box c (quantified b p bs q a) = takes_box c a
-  takes_box c (choice p a q b r d) = takes_box c d
+  takes_box c (if_then_else p a q b r d) = takes_box c d
   takes_box c (local p ls q a) = takes_box c a
   takes_box c (list o bs) = nat_lt (first_bullet bs).col c && last_takes_box c bs
   takes_box c a = false
@@ -450,7 +450,7 @@ is_some_path path = true
 abbrev mutual
   pub Good : ℕ → Phrase → Type 0
   Good e (number p n) = Right e p
-  Good e (quote p x) = Right e p
+  Good e (string p x) = Right e p
   Good e (constant p c) = Right e p
   Good e (name p x) = Right e p
   Good e (primed p x q) = Right e p × Right e q
@@ -472,7 +472,7 @@ abbrev mutual
   Good e (select a p f) = Good e a × IsTrue (can_be_head a p) × Right e p × Right e f.place
   Good e (list o bs) = IsTrue (is_bullet o) × Right e (first_bullet bs) × GoodBullets (first_bullet bs).col bs
   Good e (quantified b p bs q a) = Right e p × GoodBinds e bs × Right e q × Good e a
-  Good e (choice p a q b r c) = Right e p × Good e a × Right e q × Good e b × Right e r × Good e c
+  Good e (if_then_else p a q b r c) = Right e p × Good e a × Right e q × Good e b × Right e r × Good e c
   Good e (cases p xs) = Right e p × GoodArms e xs
   Good e (local p ls q a) = Right e p × GoodLocals e ls × Right e q × Good e a
   Good e (infix_of a p o b) = IsTrue (not (is_prefix o)) × IsTrue (can_be_left a p o) × IsTrue (can_be_right o b) × Good e a × Right e p × Good e b

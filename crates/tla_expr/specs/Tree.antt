@@ -9,13 +9,13 @@ abbrev pub Word : Type 0
 Word = List ℕ
 
 -- a step of a path behind `!` in an EXCEPT, or behind the variable of a left side
-pub data Step : Type 0 where
-  index : Step  -- [e], the expression being a part of the tree
-  field : Word → Step  -- .a
+pub data PathStep : Type 0 where
+  index : PathStep  -- [e], the expression being a part of the tree
+  field : Word → PathStep  -- .a
 
 -- one setting of an EXCEPT: its path, and the place at which it faults
 pub record Slot : Type 0 where
-  pub path : List Step
+  pub path : List PathStep
   pub place : Place
 
 -- forms whose parts are all evaluated first, from left to right
@@ -33,19 +33,19 @@ pub data Strict : Type 0 where
 -- what is not a tree
 pub data Form : Type 0 where
   number : ℕ → Form
-  quote : Word → Form  -- a string, without its quotes and escapes
+  string : Word → Form  -- a string, without its quotes and escapes
   truth : Bool → Form
   booleans : Form  -- BOOLEAN
   strings : Form  -- STRING
   name : Word → Form  -- a variable, constant, parameter, bound name, or definition without parameters; also Nat and Int
   next : Word → Form  -- a primed variable
   strict : Strict → Form
-  call : Word → Form  -- Op(a, b): a definition or a standard operator
-  both : Form  -- a /\ b
-  or_else : Form  -- a \/ b
-  implies : Form  -- a => b
+  operator_call : Word → Form  -- Op(a, b): a definition or a standard operator
+  conjunction : Form  -- a /\ b
+  disjunction : Form  -- a \/ b
+  implication : Form  -- a => b
   member : Bool → Form  -- a \in b; with false, a \notin b
-  choice : Form  -- IF a THEN b ELSE c
+  if_then_else : Form  -- IF a THEN b ELSE c
   cases : Bool → Form  -- CASE a -> b [] c -> d; with true, and an OTHER at the end
   binding : Binder → List Word → Form  -- a set for each name, and the body
   local : Word → Form  -- LET x == a IN b

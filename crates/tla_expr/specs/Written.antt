@@ -4,15 +4,15 @@ use Rattle.tla_expr.specs.declared.op.Op.{Op}
 use Rattle.tla_expr.specs.declared.op.Op.TheVariants as op
 use Rattle.tla_expr.specs.declared.op.Binder.{Binder}
 use Rattle.tla_expr.specs.declared.op.Binder.TheVariants as binder
-use Rattle.tla_expr.specs.Tree.{Word, Step, Slot, Strict, Form, Tree, Trees, node, no_trees, tree}
+use Rattle.tla_expr.specs.Tree.{Word, PathStep, Slot, Strict, Form, Tree, Trees, node, no_trees, tree}
 use Rattle.tla_expr.specs.Tree as tree
-use Rattle.tla_expr.specs.Lexical.{Tk, Mark, Key, sign_of, field_kind, token_text}
+use Rattle.tla_expr.specs.Lexical.{ExprToken, Mark, Key, sign_of, field_kind, token_text}
 use Rattle.tla_expr.specs.Lexical as tk
 use Rattle.tla_token.specs.Words.{is_pluscal_word}
 
 pub data Piece : Type 0 where
   blank : Piece
-  token : Tk → Piece
+  token : ExprToken → Piece
 
 abbrev pub text_of : List Piece → List ℕ
 text_of [] = []
@@ -29,7 +29,7 @@ word x ps = token (tk.word x) ∷ ps
 abbrev pub field : Word → List Piece → List Piece
 field x ps = token (field_kind (is_pluscal_word x) x) ∷ ps
 
-abbrev pub spaced : Tk → List Piece → List Piece
+abbrev pub spaced : ExprToken → List Piece → List Piece
 spaced k ps = blank ∷ token k ∷ blank ∷ ps
 
 abbrev pub comma : List Piece → List Piece
@@ -96,7 +96,7 @@ binding_pieces binder.Image ys xs ps = mark tk.open_brace (as_operand (body ys x
 binding_pieces binder.Function ys xs ps = mark tk.open_square (bind_pieces ys xs (spaced (tk.mark tk.maps) (plain (body ys xs) (mark tk.close_square ps))))
 
 -- the steps of a path, and then what the parts behind its subscripts give
-abbrev pub path_pieces : List Step → List Part → (List Part → List Piece) → List Piece
+abbrev pub path_pieces : List PathStep → List Part → (List Part → List Piece) → List Piece
 path_pieces [] xs rest = rest xs
 path_pieces (tree.index ∷ ss) (a ∷ xs) rest = mark tk.open_square (plain a (mark tk.close_square (path_pieces ss xs rest)))
 path_pieces (tree.index ∷ ss) [] rest = path_pieces ss [] rest
@@ -145,20 +145,20 @@ local_pieces x xs ps = ps
 
 abbrev pub form_pieces : Form → List Part → List Piece → List Piece
 form_pieces (tree.number n) xs ps = token (tk.number n) ∷ ps
-form_pieces (tree.quote x) xs ps = token (tk.quote x) ∷ ps
+form_pieces (tree.string x) xs ps = token (tk.string x) ∷ ps
 form_pieces (tree.truth b) xs ps = token (tk.constant (tk.truth b)) ∷ ps
 form_pieces tree.booleans xs ps = token (tk.constant tk.booleans) ∷ ps
 form_pieces tree.strings xs ps = token (tk.constant tk.strings) ∷ ps
 form_pieces (tree.name x) xs ps = word x ps
 form_pieces (tree.next x) xs ps = word x (mark tk.prime ps)
 form_pieces (tree.strict m) xs ps = strict_pieces m xs ps
-form_pieces (tree.call x) xs ps = word x (mark tk.open_bracket (listed xs (mark tk.close_bracket ps)))
-form_pieces tree.both xs ps = infix_pieces op.And xs ps
-form_pieces tree.or_else xs ps = infix_pieces op.Or xs ps
-form_pieces tree.implies xs ps = infix_pieces op.Implies xs ps
+form_pieces (tree.operator_call x) xs ps = word x (mark tk.open_bracket (listed xs (mark tk.close_bracket ps)))
+form_pieces tree.conjunction xs ps = infix_pieces op.And xs ps
+form_pieces tree.disjunction xs ps = infix_pieces op.Or xs ps
+form_pieces tree.implication xs ps = infix_pieces op.Implies xs ps
 form_pieces (tree.member true) xs ps = infix_pieces op.In xs ps
 form_pieces (tree.member false) xs ps = infix_pieces op.NotIn xs ps
-form_pieces tree.choice xs ps = choice_pieces xs ps
+form_pieces tree.if_then_else xs ps = choice_pieces xs ps
 form_pieces (tree.cases b) xs ps = token (tk.key tk.case_key) ∷ blank ∷ arm_pieces b xs ps
 form_pieces (tree.binding b ys) xs ps = binding_pieces b ys xs ps
 form_pieces (tree.local x) xs ps = local_pieces x xs ps
@@ -166,11 +166,11 @@ form_pieces (tree.local x) xs ps = local_pieces x xs ps
 -- stands in brackets as an operand: an infix or prefix form, a quantifier, IF, CASE, LET
 abbrev pub is_bracketed : Form → Bool
 is_bracketed (tree.strict (tree.operator o)) = true
-is_bracketed tree.both = true
-is_bracketed tree.or_else = true
-is_bracketed tree.implies = true
+is_bracketed tree.conjunction = true
+is_bracketed tree.disjunction = true
+is_bracketed tree.implication = true
 is_bracketed (tree.member b) = true
-is_bracketed tree.choice = true
+is_bracketed tree.if_then_else = true
 is_bracketed (tree.cases b) = true
 is_bracketed (tree.binding binder.ForAll ys) = true
 is_bracketed (tree.binding binder.Exists ys) = true

@@ -5,7 +5,7 @@ use Rattle.std.proofs.lemmas.List.{take-append-drop, length-take-le}
 use Rattle.std.proofs.lemmas.Bool.{and_parts, and_from, or_left, or_right, eqb-true, false_from_ne_true, both_ways}
 use Rattle.tla_token.specs.declared.sign.Sign.{Sign}
 use Rattle.tla_token.specs.Signs.{spellings, is_among, all_signs, spelled_by, is_sign}
-use Rattle.tla_token.specs.Lexemes.{Kind, name, number, quote, one, other, number_of, unquoted, is_word, is_letter, is_digit, is_blank, is_printed, is_other, IsLexeme}
+use Rattle.tla_token.specs.Lexemes.{Kind, name, number, string, one, other, number_of, unquoted, is_word, is_letter, is_digit, is_blank, is_printed, is_other, IsLexeme}
 use Rattle.tla_token.specs.Tokens.{blank, block, line, lexeme, EndsLine, opens_comment}
 use Rattle.tla_token.specs.Offences.{Part, sound, stray, bad_string, cut_string, open_string, open_block, part_bytes, parts_text, PartFits, PartsFit, ends_string, string_len, escape_len, begins_with}
 use Rattle.tla_token.specs.Cut.{run, comment_len, block_part, closed_part, string_part, part_at, lexeme_part, sign_part, sign_at, sign_of, spelling_at, or_other, parts}
@@ -80,7 +80,7 @@ string_closed raw rest bs split n is = by (unquoted raw) refl
     by None u = record { part = bad_string raw; rest = rest; first = ap Some (is ∙ ap (λ (p : Option (List ℕ)). closed_part p raw) u); bytes = whole; fits = (size, u) }
     by (Some w) u =
         record {
-          part = sound (lexeme (quote w) (34 ∷ (raw ++ 34 ∷ [])));
+          part = sound (lexeme (string w) (34 ∷ (raw ++ 34 ∷ [])));
           rest = rest;
           first = ap Some (is ∙ ap (λ (p : Option (List ℕ)). closed_part p raw) u);
           bytes = whole;

@@ -5,7 +5,7 @@ use Rattle.tla_token.specs.declared.rule.Rule.{Rule}
 use Rattle.tla_token.specs.declared.rule.Rule.TheVariants.{NotAscii, BadToken}
 use Rattle.tla_token.specs.declared.rule.Refusal.{Refusal}
 use Rattle.tla_token.specs.Places.{place_at}
-use Rattle.tla_token.specs.Lexemes.{name, number, quote, one, other, is_printed, is_plain, escaped, unquoted, behind_backslash}
+use Rattle.tla_token.specs.Lexemes.{name, number, string, one, other, is_printed, is_plain, escaped, unquoted, behind_backslash}
 use Rattle.tla_token.specs.Tokens.{Token, Piece, blank, block, line, lexeme, bytes_of, tokens_of, stretch, holds_mark, Tok}
 use Rattle.tla_token.specs.Offences.{Part, sound, stray, bad_string, cut_string, open_string, open_block, part_bytes, PartFits, PartsFit, parts_text, is_stray, ends_string, string_len, escape_len, is_none, has_bad_escape, is_bad_behind, Offence, offence_if, byte_offences, part_offences, offences, earlier, or_earlier, least, Offends}
 use Rattle.tla_token.specs.Cut.{parts}
@@ -115,7 +115,7 @@ sound_fine at (block body) = refl
 sound_fine at (line body) = refl
 sound_fine at (lexeme (name w) bytes) = refl
 sound_fine at (lexeme (number n) bytes) = refl
-sound_fine at (lexeme (quote w) bytes) = refl
+sound_fine at (lexeme (string w) bytes) = refl
 sound_fine at (lexeme (one s) bytes) = refl
 sound_fine at (lexeme (other w) bytes) = refl
 

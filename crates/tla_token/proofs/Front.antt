@@ -3,7 +3,7 @@ use Rattle.std.proofs.Common.{◌≡◌, ℕ, zero, suc, ◌+◌, Bool, true, fa
 use Rattle.std.specs.List.{list_all}
 use Rattle.std.proofs.Math.Seq.{take-append_seam, drop-append_seam}
 use Rattle.std.proofs.lemmas.Bool.{and_parts, or_cases, eqb-true, false_from_ne_true, both_ways}
-use Rattle.tla_token.specs.Lexemes.{is_blank, is_plain, escaped, in_front, unquoted, behind_backslash, quote}
+use Rattle.tla_token.specs.Lexemes.{is_blank, is_plain, escaped, in_front, unquoted, behind_backslash, string}
 use Rattle.tla_token.specs.Tokens.{blank, block, line, lexeme, is_pair, Closes, EndsLine}
 use Rattle.tla_token.specs.Offences.{sound, ends_string, string_len, escape_len}
 use Rattle.tla_token.specs.Cut.{run, comment_len, part_at}
@@ -95,7 +95,7 @@ mutual
       let n : string_len (bs ++ 34 ∷ rest) ≡ length bs = string_closes bs rest i.1 i.3 in
       rw (escape_goes b i.0 i.2, n) (omega arith)
 
-pub quote_front : (raw rest w : List ℕ) → unquoted raw ≡ Some w → part_at 34 (raw ++ 34 ∷ rest) ≡ sound (lexeme (quote w) (34 ∷ (raw ++ 34 ∷ [])))
+pub quote_front : (raw rest w : List ℕ) → unquoted raw ≡ Some w → part_at 34 (raw ++ 34 ∷ rest) ≡ sound (lexeme (string w) (34 ∷ (raw ++ 34 ∷ [])))
 quote_front raw rest w e =
     let n = string_closes raw rest w e in
     let t : take (length raw) (raw ++ 34 ∷ rest) ≡ raw = take-append_seam raw (34 ∷ rest) in

@@ -5,7 +5,7 @@ use Rattle.std.specs.Str.{bytes_eq}
 use Rattle.std.proofs.lemmas.Bool.{and_parts, or_cases, or_left, or_right, cases_lt, eq-eqb, false_from_ne_true, both_ways}
 use Rattle.tla_token.specs.declared.sign.Sign.{Sign}
 use Rattle.tla_token.specs.Signs.{spellings, is_among, all_signs, is_sign}
-use Rattle.tla_token.specs.Lexemes.{Kind, name, number, quote, one, other, is_word, is_letter, is_digit, is_other, unquoted, IsLexeme}
+use Rattle.tla_token.specs.Lexemes.{Kind, name, number, string, one, other, is_word, is_letter, is_digit, is_other, unquoted, IsLexeme}
 use Rattle.tla_token.specs.Cut.{run, sign_at, spelling_at}
 use Rattle.tla_token.proofs.Words.{run_over, digits_words, any_append}
 use Rattle.tla_token.proofs.Spelled.{begins, begins_is, begins_from, begins_same, same_bytes, among_head, stands_at, any_some, is_worded, is_mark, Row, row_of, no_empty}
@@ -149,7 +149,7 @@ sort_of (number n) [] more b bs (some, all, is) e = absurd (omega arith)
 sort_of (number n) (c ∷ m) more b bs (some, all, is) e =
     let p = and_parts (is_digit c) (list_all is_digit m) all in
     a_number (run_least is_digit (b ∷ bs) (c ∷ m) more e all) (run_least is_word (b ∷ bs) (c ∷ m) more e (digits_words (c ∷ m) all)) (ap is_digit (same_first b c bs (m ++ more) e).0 ∙ p.0)
-sort_of (quote w) m more b bs (raw, f, u) e =
+sort_of (string w) m more b bs (raw, f, u) e =
     let s = same_first b 34 bs ((raw ++ 34 ∷ []) ++ more) (e ∙ ap (λ (x : List ℕ). x ++ more) f) in
     a_quote raw w f u (eq-eqb b 34 s.0)
 sort_of (one s) [] more b bs i e = absurd (no_empty s i)

@@ -5,7 +5,7 @@ use Rattle.std.proofs.Math.Seq.{take-append_seam, drop-append_seam}
 use Rattle.std.proofs.lemmas.List.{take-append-drop}
 use Rattle.std.proofs.lemmas.Bool.{and_parts, and_from, or_cases, eqb-true, leb-true, le-leb, false_from_ne_true, both_ways}
 use Rattle.tla_token.specs.declared.sign.Sign.{Sign}
-use Rattle.tla_token.specs.Lexemes.{Kind, name, number, quote, one, other, unquoted, is_word, is_letter, is_digit, is_blank, is_printed, is_other}
+use Rattle.tla_token.specs.Lexemes.{Kind, name, number, string, one, other, unquoted, is_word, is_letter, is_digit, is_blank, is_printed, is_other}
 use Rattle.tla_token.specs.Tokens.{Piece, blank, block, line, lexeme, bytes_of, is_pair, Closes, Fits}
 use Rattle.tla_token.specs.Offences.{Part, sound, stray, bad_string, cut_string, open_string, open_block, part_bytes, parts_text, PartFits, PartsFit, is_stray, string_len, begins_with}
 use Rattle.tla_token.specs.Cut.{plus, comment_len, closed_part, string_part, part_at, sign_part, parts_at, parts}
@@ -21,12 +21,12 @@ first_part (b ∷ bs) = Some (part_at b bs)
 
 -- ---- sound parts
 
-quote_first : (w raw bytes rest : List ℕ) → bytes ≡ 34 ∷ (raw ++ 34 ∷ []) → unquoted raw ≡ Some w → first_part (bytes ++ rest) ≡ Some (sound (lexeme (quote w) bytes))
+quote_first : (w raw bytes rest : List ℕ) → bytes ≡ 34 ∷ (raw ++ 34 ∷ []) → unquoted raw ≡ Some w → first_part (bytes ++ rest) ≡ Some (sound (lexeme (string w) bytes))
 quote_first w raw bytes rest e u =
     ap (λ (m : List ℕ). first_part (m ++ rest)) e
     ∙ ap (λ (m : List ℕ). first_part (34 ∷ m)) (append_assoc raw (34 ∷ []) rest)
     ∙ ap Some (quote_front raw rest w u)
-    ∙ ap (λ (m : List ℕ). Some (sound (lexeme (quote w) m))) (sym e)
+    ∙ ap (λ (m : List ℕ). Some (sound (lexeme (string w) m))) (sym e)
 
 lexeme_first : (k : Kind) (bytes rest : List ℕ) → Fits (lexeme k bytes) rest → first_part (bytes ++ rest) ≡ Some (sound (lexeme k bytes))
 lexeme_first (name w) [] rest (none, (same, (all, any)), longest) = (let f : list_any is_letter [] ≡ true = ap (list_any is_letter) same ∙ any in absurd cc)
@@ -36,7 +36,7 @@ lexeme_first (name w) (b ∷ l) rest (none, (same, (all, any)), longest) =
 lexeme_first (number n) [] rest (none, (some, all, is), longest) = absurd (omega arith)
 lexeme_first (number n) (b ∷ l) rest (none, (some, all, is), longest) =
     ap Some (number_front b l rest all longest) ∙ ap (λ (m : ℕ). Some (sound (lexeme (number m) (b ∷ l)))) is
-lexeme_first (quote w) bytes rest (none, (raw, e, u), longest) = quote_first w raw bytes rest e u
+lexeme_first (string w) bytes rest (none, (raw, e, u), longest) = quote_first w raw bytes rest e u
 lexeme_first (one s) [] rest (none, i, longest) = absurd (no_empty s i)
 lexeme_first (one s) (b ∷ l) rest (none, i, longest) = ap Some (sign_front s b l rest i none longest)
 lexeme_first (other w) [] rest (none, (same, is), longest) = (let f : false ≡ true = ap is_other same ∙ is in absurd cc)
@@ -185,7 +185,7 @@ some_piece (block body) rest h e = cc
 some_piece (line body) rest h e = cc
 some_piece (lexeme (name w) bytes) rest (none, (same, (all, any)), longest) e = (let f : list_any is_letter [] ≡ true = ap (list_any is_letter) (sym e ∙ same) ∙ any in cc)
 some_piece (lexeme (number n) bytes) rest (none, (some, all, is), longest) e = (let l = ap length e in omega arith)
-some_piece (lexeme (quote w) bytes) rest (none, (raw, f, u), longest) e = cc
+some_piece (lexeme (string w) bytes) rest (none, (raw, f, u), longest) e = cc
 some_piece (lexeme (one s) bytes) rest (none, i, longest) e = no_empty s (rw e at i)
 some_piece (lexeme (other w) bytes) rest (none, (same, is), longest) e = (let f : false ≡ true = ap is_other (sym e ∙ same) ∙ is in cc)
 

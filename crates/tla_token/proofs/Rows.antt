@@ -6,7 +6,7 @@ use Rattle.tla_token.specs.Signs.{is_sign}
 use Rattle.tla_token.specs.Words.{is_reserved, is_standard}
 use Rattle.tla_token.specs.declared.rule.Rule.TheVariants as rule
 use Rattle.tla_token.specs.declared.sign.Sign.TheVariants as sign
-use Rattle.tla_token.specs.Lexemes.{Kind, name, number, quote, one, other, number_of, unquoted, is_other}
+use Rattle.tla_token.specs.Lexemes.{Kind, name, number, string, one, other, number_of, unquoted, is_other}
 use Rattle.tla_token.specs.Tokens.{Token, Closes}
 use Rattle.tla_token.specs.Offences.{Offence, offences, least}
 use Rattle.tla_token.specs.Cut.{parts, tokens}
@@ -80,7 +80,7 @@ longest_signs = refl
 worded_signs : kinds (tokens (codes "\\in2 \\in \\1")) ≡ other (codes "\\in2") ∷ one sign.In ∷ one sign.Without ∷ number 1 ∷ []
 worded_signs = refl
 
-string_with_escape : kinds (tokens (codes "\"a\\\"b\":=12_")) ≡ quote (codes "a\"b") ∷ one sign.Assign ∷ number 12 ∷ other (codes "_") ∷ []
+string_with_escape : kinds (tokens (codes "\"a\\\"b\":=12_")) ≡ string (codes "a\"b") ∷ one sign.Assign ∷ number 12 ∷ other (codes "_") ∷ []
 string_with_escape = refl
 
 synonyms : kinds (tokens (codes "\\lnot a # b /= c")) ≡ one sign.Not ∷ name (codes "a") ∷ one sign.NotEqual ∷ name (codes "b") ∷ one sign.NotEqual ∷ name (codes "c") ∷ []

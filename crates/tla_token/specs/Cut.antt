@@ -4,7 +4,7 @@ use Rattle.std.specs.List.{list_any, starts_with}
 use Rattle.tla_token.specs.declared.sign.Sign.{Sign}
 use Rattle.tla_token.specs.Places.{start}
 use Rattle.tla_token.specs.Signs.{spellings, all_signs, is_among}
-use Rattle.tla_token.specs.Lexemes.{name, number, quote, one, other, is_word, is_letter, is_digit, is_blank, is_printed, number_of, unquoted}
+use Rattle.tla_token.specs.Lexemes.{name, number, string, one, other, is_word, is_letter, is_digit, is_blank, is_printed, number_of, unquoted}
 use Rattle.tla_token.specs.Tokens.{Token, Piece, blank, block, line, lexeme, is_pair, tokens_of}
 use Rattle.tla_token.specs.Offences.{Part, sound, stray, bad_string, cut_string, open_string, open_block, part_bytes, string_len, begins_with}
 
@@ -31,7 +31,7 @@ block_part (Some n) bytes = sound (block (take n bytes))
 
 abbrev pub closed_part : Option (List ℕ) → List ℕ → Part
 closed_part None raw = bad_string raw
-closed_part (Some w) raw = sound (lexeme (quote w) (34 ∷ (raw ++ 34 ∷ [])))
+closed_part (Some w) raw = sound (lexeme (string w) (34 ∷ (raw ++ 34 ∷ [])))
 
 -- behind a quote: what belongs to the string, and what stands behind that
 abbrev pub string_part : List ℕ → List ℕ → Part

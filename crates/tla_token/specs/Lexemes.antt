@@ -74,7 +74,7 @@ is_other (b ∷ bs) = nat_eq b 92 && list_all is_word bs && list_any is_letter b
 pub data Kind : Type 0 where
   name : List ℕ → Kind  -- also a reserved word
   number : ℕ → Kind
-  quote : List ℕ → Kind  -- the string that it stands for
+  string : List ℕ → Kind  -- the string that it stands for
   one : Sign → Kind
   other : List ℕ → Kind  -- a sign that this profile leaves out
 
@@ -82,7 +82,7 @@ pub data Kind : Type 0 where
 abbrev pub IsLexeme : Kind → List ℕ → Type 0
 IsLexeme (name w) bytes = (bytes ≡ w) × IsName w
 IsLexeme (number n) bytes = (0 < length bytes) × IsTrue (list_all is_digit bytes) × (number_of bytes ≡ n)
-IsLexeme (quote w) bytes = (raw : List ℕ) × (bytes ≡ 34 ∷ (raw ++ 34 ∷ [])) × (unquoted raw ≡ Some w)
+IsLexeme (string w) bytes = (raw : List ℕ) × (bytes ≡ 34 ∷ (raw ++ 34 ∷ [])) × (unquoted raw ≡ Some w)
 IsLexeme (one s) bytes = IsTrue (is_among (spellings s) bytes)
 IsLexeme (other w) bytes = (bytes ≡ w) × IsTrue (is_other w)
 

@@ -7,7 +7,7 @@ use Rattle.tla_token.specs.declared.rule.Rule.TheVariants.{NotAscii, BadToken, O
 use Rattle.tla_token.specs.declared.rule.Refusal.{Refusal}
 use Rattle.tla_token.specs.Places.{place_at}
 use Rattle.tla_token.specs.Rules.{rule_number}
-use Rattle.tla_token.specs.Lexemes.{Kind, number, quote, is_blank, is_printed, escaped, unquoted}
+use Rattle.tla_token.specs.Lexemes.{Kind, number, string, is_blank, is_printed, escaped, unquoted}
 use Rattle.tla_token.specs.Tokens.{Piece, lexeme, bytes_of, Fits, Closes, stretch, holds_mark}
 
 -- a byte past 127, or a control byte that is no blank
@@ -99,7 +99,7 @@ byte_offences at (b ∷ bs) = offence_if (is_stray b) (if nat_le 128 b then NotA
 -- a token that an algorithm can't have
 abbrev pub kind_offences : Bool → ℕ → Kind → List Offence
 kind_offences in_algorithm at (number n) = offence_if (in_algorithm && nat_le (2 ^ 127) n) NumberTooBig at
-kind_offences in_algorithm at (quote w) = offence_if (in_algorithm && holds_mark w) BadToken at
+kind_offences in_algorithm at (string w) = offence_if (in_algorithm && holds_mark w) BadToken at
 kind_offences in_algorithm at k = []
 
 abbrev pub part_offences : Bool → ℕ → Part → List Offence

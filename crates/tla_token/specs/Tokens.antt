@@ -5,7 +5,7 @@ use Rattle.std.specs.List.{list_all, starts_with}
 use Rattle.tla_token.specs.declared.place.Place.{Place}
 use Rattle.tla_token.specs.Places.{after, place_at}
 use Rattle.tla_token.specs.Signs.{is_among}
-use Rattle.tla_token.specs.Lexemes.{Kind, name, quote, IsLexeme, IsLongest, is_blank}
+use Rattle.tla_token.specs.Lexemes.{Kind, name, string, IsLexeme, IsLongest, is_blank}
 
 pub record Token : Type 0 where
   pub kind : Kind
@@ -87,7 +87,7 @@ holds_mark [] = false
 holds_mark (b ∷ bs) = starts_with nat_eq (b ∷ bs) (codes "(*") || starts_with nat_eq (b ∷ bs) (codes "*)") || holds_mark bs
 
 abbrev pub unmarked_kind : Kind → Bool
-unmarked_kind (quote w) = not (holds_mark w)
+unmarked_kind (string w) = not (holds_mark w)
 unmarked_kind k = true
 
 -- no string of an algorithm holds a mark of a comment

@@ -1,25 +1,24 @@
 -- What forms make of canonical values is canonical.
-use Rattle.std.proofs.Common.{◌≡◌, ℕ, zero, suc, ℤ, pos, ◌+ℤ◌, Bool, true, false, cond, List, [], ◌∷◌, ◌++◌, map, refl, sym, ◌∙◌, ap, arith}
+use Rattle.std.proofs.Common.{◌≡◌, ℕ, zero, suc, ℤ, pos, ◌+ℤ◌, Bool, true, false, cond, List, [], ◌∷◌, ◌++◌, map, refl, sym, ◌∙◌, ap, arith, Ok, Err}
 use Rattle.std.specs.Cmp.{int_cmp_is}
 use Rattle.std.specs.declared.cmp.Ordering.TheVariants.{Less}
 use Rattle.std.proofs.lemmas.Int.{ints}
-use Rattle.tla_value.specs.Value.{Value, Values, truth, int, text, model, set, fun, no_values, and, Outcome, good, fault, over, values_in}
+use Rattle.tla_value.specs.Value.{Value, Values, truth, int, text, model, set, fun, no_values, and, Outcome, fault, over, values_in, ◌>>=◌}
 use Rattle.tla_value.specs.Order.{order, count, listed, set_from, pairs_of, IsBefore, IsAscending, IsCanonical, AreCanonical, ArePairsCanonical}
-use Rattle.tla_value.specs.Stops.{on_value}
 use Rattle.tla_value.specs.Sets.{kept, sublists, subsets, integers, repeated, fronted, members, choices, functions_over}
 use Rattle.tla_value.specs.OrderLaws.{order_total}
 use Rattle.tla_value.proofs.OrderSets.{set_from_ascending, set_from_canonical}
 
 -- a value, if there is one, is canonical
-abbrev pub Proper : Outcome → Type 0
-Proper (good v) = IsCanonical v
-Proper (fault k p) = Unit {0}
-Proper (over p) = Unit {0}
+abbrev pub Proper : Outcome Value → Type 0
+Proper (Ok v) = IsCanonical v
+Proper (Err (fault k p)) = Unit {0}
+Proper (Err (over p)) = Unit {0}
 
-pub proper_value : (o : Outcome) (go : Value → Outcome) → Proper o → ((v : Value) → IsCanonical v → Proper (go v)) → Proper (on_value o go)
-proper_value (good v) go h k = k v h
-proper_value (fault j p) go h k = tt
-proper_value (over p) go h k = tt
+pub proper_value : (o : Outcome Value) (go : Value → Outcome Value) → Proper o → ((v : Value) → IsCanonical v → Proper (go v)) → Proper (o >>= go)
+proper_value (Ok v) go h k = k v h
+proper_value (Err (fault j p)) go h k = tt
+proper_value (Err (over p)) go h k = tt
 
 -- ---- sets
 

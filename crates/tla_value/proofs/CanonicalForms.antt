@@ -1,14 +1,14 @@
 -- The value of an expression is canonical where its names stand for canonical values.
-use Rattle.std.proofs.Common.{◌≡◌, suc, ℤ, pos, ◌+ℤ◌, ◌-ℤ◌, Bool, true, false, cond, if◌then◌else◌, List, [], ◌∷◌, ◌++◌, map, Option, Some, None, refl, ◌∙◌, ap}
+use Rattle.std.proofs.Common.{◌≡◌, suc, ℤ, pos, ◌+ℤ◌, ◌-ℤ◌, Bool, true, false, cond, if◌then◌else◌, List, [], ◌∷◌, ◌++◌, map, Option, Some, None, refl, ◌∙◌, ap, Ok, Err}
 use Rattle.std.specs.Ordering.{is_eq}
 use Rattle.std.specs.Int.{int_div_euclid, int_rem_euclid}
 use Rattle.tla_token.specs.declared.place.Place.{Place}
 use Rattle.tla_expr.specs.declared.op.Op.{Op}
 use Rattle.tla_expr.specs.declared.op.Op.TheVariants.{Equivalent, Not, Equal, NotEqual, Less, Greater, AtMost, AtLeast, SubsetEq, Override, MapsTo, Cup, Cap, Without, Subset, Union, Range, Domain, Plus, Modulo, Minus, Negate, Times, Concat, Divide}
-use Rattle.tla_expr.specs.Tree.{Word, Step, index, field, Slot, Strict, operator, set_of, tuple, fields, records, functions, apply, select, except}
+use Rattle.tla_expr.specs.Tree.{Word, PathStep, index, field, Slot, Strict, operator, set_of, tuple, fields, records, functions, apply, select, except}
 use Rattle.std.specs.Prelude.{int_lt}
 use Rattle.tla_value.specs.declared.fault.FaultKind.TheVariants.{BadDivisor}
-use Rattle.tla_value.specs.Value.{Value, Values, truth, int, text, model, set, fun, no_values, and, Outcome, good, fault, values_in}
+use Rattle.tla_value.specs.Value.{Value, Values, truth, int, text, model, set, fun, no_values, and, Outcome, fault, values_in}
 use Rattle.tla_value.specs.Order.{same, count, orders, listed, numbered, found_at, sequence_of, pairs_of, field_pairs, record_from, IsCanonical, AreCanonical, ArePairsCanonical}
 use Rattle.tla_value.specs.Stops.{Check, on_truth, on_int, on_set, on_fun, on_list, on_sets, on_one, on_two}
 use Rattle.tla_value.specs.Sets.{on_members, repeated, functions_over, natural}
@@ -18,26 +18,26 @@ use Rattle.tla_value.proofs.Canonical.{Proper, proper_value, EachList, IsSet, ap
 
 -- ---- what goes on with a canonical value
 
-proper_one : (at : Place) (vs : List Value) (go : Value → Outcome) → AreCanonical (values_in vs) → ((v : Value) → IsCanonical v → Proper (go v)) → Proper (on_one at vs go)
+proper_one : (at : Place) (vs : List Value) (go : Value → Outcome Value) → AreCanonical (values_in vs) → ((v : Value) → IsCanonical v → Proper (go v)) → Proper (on_one at vs go)
 proper_one at [] go h k = tt
 proper_one at (v ∷ []) go h k = k v h.0
 proper_one at (v ∷ w ∷ vs) go h k = tt
 
-proper_two : (at : Place) (vs : List Value) (go : Value → Value → Outcome) → AreCanonical (values_in vs) → ((v w : Value) → IsCanonical v → IsCanonical w → Proper (go v w)) → Proper (on_two at vs go)
+proper_two : (at : Place) (vs : List Value) (go : Value → Value → Outcome Value) → AreCanonical (values_in vs) → ((v w : Value) → IsCanonical v → IsCanonical w → Proper (go v w)) → Proper (on_two at vs go)
 proper_two at [] go h k = tt
 proper_two at (v ∷ []) go h k = tt
 proper_two at (v ∷ w ∷ []) go h k = k v w h.0 h.1.0
 proper_two at (v ∷ w ∷ u ∷ vs) go h k = tt
 
-pub proper_truth : (at : Place) (v : Value) (go : Bool → Outcome) → ((b : Bool) → Proper (go b)) → Proper (on_truth at v go)
+pub proper_truth : (at : Place) (v : Value) (go : Bool → Outcome Value) → ((b : Bool) → Proper (go b)) → Proper (on_truth at v go)
 proper_truth at (truth b) go k = k b
 proper_truth at _ go k = tt
 
-proper_int : (at : Place) (v : Value) (go : ℤ → Outcome) → ((n : ℤ) → Proper (go n)) → Proper (on_int at v go)
+proper_int : (at : Place) (v : Value) (go : ℤ → Outcome Value) → ((n : ℤ) → Proper (go n)) → Proper (on_int at v go)
 proper_int at (int n) go k = k n
 proper_int at _ go k = tt
 
-pub proper_set : (at : Place) (v : Value) (go : Values → Outcome) → IsCanonical v → ((vs : Values) → IsSet vs → Proper (go vs)) → Proper (on_set at v go)
+pub proper_set : (at : Place) (v : Value) (go : Values → Outcome Value) → IsCanonical v → ((vs : Values) → IsSet vs → Proper (go vs)) → Proper (on_set at v go)
 proper_set at (set vs) go h k = k vs h
 proper_set at (truth b) go h k = tt
 proper_set at (int n) go h k = tt
@@ -45,7 +45,7 @@ proper_set at (text w) go h k = tt
 proper_set at (model w) go h k = tt
 proper_set at (fun ds rs) go h k = tt
 
-proper_fun : (at : Place) (v : Value) (go : Values → Values → Outcome) → IsCanonical v → ((ds rs : Values) → IsCanonical (fun ds rs) → Proper (go ds rs)) → Proper (on_fun at v go)
+proper_fun : (at : Place) (v : Value) (go : Values → Values → Outcome Value) → IsCanonical v → ((ds rs : Values) → IsCanonical (fun ds rs) → Proper (go ds rs)) → Proper (on_fun at v go)
 proper_fun at (fun ds rs) go h k = k ds rs h
 proper_fun at (truth b) go h k = tt
 proper_fun at (int n) go h k = tt
@@ -53,7 +53,7 @@ proper_fun at (text w) go h k = tt
 proper_fun at (model w) go h k = tt
 proper_fun at (set vs) go h k = tt
 
-pub proper_sets : (at : Place) (vs : List Value) (go : List Values → Outcome) → AreCanonical (values_in vs) → ((ss : List Values) → EachList IsSet ss → Proper (go ss)) → Proper (on_sets at vs go)
+pub proper_sets : (at : Place) (vs : List Value) (go : List Values → Outcome Value) → AreCanonical (values_in vs) → ((ss : List Values) → EachList IsSet ss → Proper (go ss)) → Proper (on_sets at vs go)
 proper_sets at [] go h k = k [] tt
 proper_sets at (v ∷ vs) go h k = proper_set at v _ h.0 (λ s i. proper_sets at vs _ h.1 (λ ss j. k (s ∷ ss) (i, j)))
 
@@ -73,16 +73,16 @@ sequence_canonical (text w) h = tt
 sequence_canonical (model w) h = tt
 sequence_canonical (set vs) h = tt
 
-pub proper_list : (at : Place) (o : Option (List Value)) (go : List Value → Outcome) → IsListCanonical o → ((vs : List Value) → AreCanonical (values_in vs) → Proper (go vs)) → Proper (on_list at o go)
+pub proper_list : (at : Place) (o : Option (List Value)) (go : List Value → Outcome Value) → IsListCanonical o → ((vs : List Value) → AreCanonical (values_in vs) → Proper (go vs)) → Proper (on_list at o go)
 proper_list at None go h k = tt
 proper_list at (Some vs) go h k = k vs h
 
-proper_members : (at : Place) (vs : Values) (go : List Value → Outcome) → AreCanonical vs → ((ws : List Value) → AreCanonical (values_in ws) → Proper (go ws)) → Proper (on_members at vs go)
+proper_members : (at : Place) (vs : Values) (go : List Value → Outcome Value) → AreCanonical vs → ((ws : List Value) → AreCanonical (values_in ws) → Proper (go ws)) → Proper (on_members at vs go)
 proper_members at no_values go h k = k [] tt
 proper_members at (and v vs) go h k =
     proper_set at v _ h.0 (λ s i. proper_members at vs _ h.1 (λ ws j. k (listed s ++ ws) (append_canonical (listed s) ws (listed_canonical s i.1) j)))
 
-proper_cond : (b : Bool) (o q : Outcome) → Proper o → Proper q → Proper (cond b o q)
+proper_cond : (b : Bool) (o q : Outcome Value) → Proper o → Proper q → Proper (cond b o q)
 proper_cond true o q h k = h
 proper_cond false o q h k = k
 
@@ -95,7 +95,7 @@ sets_proper : (at : Place) (vs : List Value) (f : Values → Values → Value) �
 sets_proper at vs f h k = proper_two at vs _ h (λ a b i j. proper_set at a _ i (λ ss p. proper_set at b _ j (λ ts q. k ss ts p q)))
 
 quotient_proper : (at : Place) (vs : List Value) (f : ℤ → ℤ → ℤ) → AreCanonical (values_in vs) → Proper (of_quotient at vs f)
-quotient_proper at vs f h = proper_two at vs _ h (λ a b _ _. proper_int at a _ (λ m. proper_int at b _ (λ n. proper_cond (int_lt (pos 0) n) (good (int (f m n))) (fault BadDivisor at) tt tt)))
+quotient_proper at vs f h = proper_two at vs _ h (λ a b _ _. proper_int at a _ (λ m. proper_int at b _ (λ n. proper_cond (int_lt (pos 0) n) (Ok (int (f m n))) (Err (fault BadDivisor at)) tt tt)))
 
 pairs_append : (ps qs : List (Value × Value)) → ArePairsCanonical ps → ArePairsCanonical qs → ArePairsCanonical (ps ++ qs)
 pairs_append [] qs h k = k
@@ -150,7 +150,7 @@ made_proper set_of at vs h = set_canonical vs h
 made_proper tuple at vs h = seq_from_canonical vs h
 made_proper (fields xs) at vs h = fun_from_canonical (field_pairs xs vs) (fields_canonical xs vs h)
 made_proper (records xs) at vs h =
-    proper_sets at vs _ h (λ ss k. proper_fun at (record_from xs (map set ss)) (λ ds rs. good (set (functions_over ds rs))) (record_sets xs ss k) (λ ds rs c. functions_canonical ds rs c.0 c.1 c.2 c.3))
+    proper_sets at vs _ h (λ ss k. proper_fun at (record_from xs (map set ss)) (λ ds rs. Ok (set (functions_over ds rs))) (record_sets xs ss k) (λ ds rs c. functions_canonical ds rs c.0 c.1 c.2 c.3))
 made_proper functions at vs h =
     proper_two at vs _ h (λ a b i j. proper_set at a _ i (λ ds p. proper_set at b _ j (λ ws q.
     functions_canonical ds (repeated ds (set ws)) p.0 p.1 (repeated_canonical ds (set ws) q) (count_repeated ds (set ws)))))
@@ -176,7 +176,7 @@ looked_proper at (Some v) h = h
 pub applied_proper : (at : Place) (f a : Value) → IsCanonical f → Proper (applied at f a)
 applied_proper at f a h = proper_fun at f _ h (λ ds rs p. looked_proper at (found_at ds rs a) (found_canonical ds rs a p.2))
 
-changed_proper : (k : Value) (g : Value → Outcome) (ds rs : Values) (go : Values → Outcome) → AreCanonical rs → ((r : Value) → IsCanonical r → Proper (g r)) → ((us : Values) → AreCanonical us → count rs ≡ count us → Proper (go us)) → Proper (changed k g ds rs go)
+changed_proper : (k : Value) (g : Value → Outcome Value) (ds rs : Values) (go : Values → Outcome Value) → AreCanonical rs → ((r : Value) → IsCanonical r → Proper (g r)) → ((us : Values) → AreCanonical us → count rs ≡ count us → Proper (go us)) → Proper (changed k g ds rs go)
 changed_proper k g no_values rs go h p q = q rs h refl
 changed_proper k g (and d ds) no_values go h p q = q no_values tt refl
 changed_proper k g (and d ds) (and r rs) go h p q =
@@ -188,7 +188,7 @@ path_proper at [] v old h i = h
 path_proper at (k ∷ ks) v old h i =
     proper_fun at old _ i (λ ds rs p. changed_proper k (changed_at at ks v) ds rs _ p.2 (λ r c. path_proper at ks v r h c) (λ us c e. (p.0, p.1, c, p.3 ∙ e)))
 
-slot_proper : (at : Place) (ps : List Step) (vs : List Value) (go : List Value → Value → List Value → Outcome) → AreCanonical (values_in vs) → ((path : List Value) (v : Value) (rest : List Value) → IsCanonical v → AreCanonical (values_in rest) → Proper (go path v rest)) → Proper (next_slot at ps vs go)
+slot_proper : (at : Place) (ps : List PathStep) (vs : List Value) (go : List Value → Value → List Value → Outcome Value) → AreCanonical (values_in vs) → ((path : List Value) (v : Value) (rest : List Value) → IsCanonical v → AreCanonical (values_in rest) → Proper (go path v rest)) → Proper (next_slot at ps vs go)
 slot_proper at [] [] go h k = tt
 slot_proper at [] (v ∷ vs) go h k = k [] v vs h.0 h.1
 slot_proper at (index ∷ ps) [] go h k = tt

@@ -2,7 +2,7 @@
 use Rattle.std.proofs.Common.{◌≡◌, List, [], ◌∷◌, Bool, true, false, cond, bytes_eq, Option, Some, None, refl, sym, ◌∙◌, ap}
 use Rattle.std.proofs.lemmas.Slice.Eq.{bytes_eq-Decides}
 use Rattle.tla_token.specs.declared.place.Place.{Place}
-use Rattle.tla_expr.specs.Tree.{Word, Form, name, next, call, Tree, node, Trees, no_trees, tree, Every, EveryOf, Each, binders, Graft, grafted_name, grafted_node, graft, grafts}
+use Rattle.tla_expr.specs.Tree.{Word, Form, name, next, operator_call, Tree, node, Trees, no_trees, tree, Every, EveryOf, Each, binders, Graft, grafted_name, grafted_node, graft, grafts}
 use Rattle.tla_value.specs.Value.{Value}
 use Rattle.tla_value.specs.Stops.{Check}
 use Rattle.tla_value.specs.Meaning.{Env, just, bind, eval, evals}
@@ -74,7 +74,7 @@ bound_grafted c g U x k e f v r = record {
 form_fits : (c : Check) (g : Graft) (U : Word → Type 0) (m : Form) (at : Place) → ClearForm c g U m at → Fits c (Grafted c g U) g m at
 form_fits c g U (name x) at h = λ e f r. sym (r.now x h.1 at)
 form_fits c g U (next x) at h = (tt, λ at' e f r. r.primed x at')
-form_fits c g U (call x) at h = (tt, λ e f r. r.defs x h.1)
+form_fits c g U (operator_call x) at h = (tt, λ e f r. r.defs x h.1)
 form_fits c g U m at h = (each_weaker _ _ (bound_grafted c g U) (binders m) h.0, tt)
 
 -- the grafted tree means in e what the tree means where its names stand for the grafts in e
@@ -103,7 +103,7 @@ all_off x (y ∷ ys) = (off_bound x y, all_off x ys)
 form_off : (x : Word) (m : Form) (at : Place) → Lacks x m at → Keeps (Off x) m at
 form_off x (name y) at h = (tt, λ at' e f r. r.now y h at')
 form_off x (next y) at h = (tt, λ at' e f r. r.primed y at')
-form_off x (call y) at h = (tt, λ e f r. r.defs y)
+form_off x (operator_call y) at h = (tt, λ e f r. r.defs y)
 form_off x m at h = (all_off x (binders m), tt)
 
 -- a name that a tree doesn't read may be bound around it
@@ -128,7 +128,7 @@ AnyName x = Unit {0}
 
 any_used : (m : Form) → Uses AnyName m
 any_used (name x) = tt
-any_used (call x) = tt
+any_used (operator_call x) = tt
 any_used m = tt
 
 -- with trees put in, a tree means what it means where its names stand for them

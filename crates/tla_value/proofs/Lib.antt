@@ -1,3 +1,4 @@
+pub mod Outcomes
 pub mod OrderSets
 pub mod OrderFuns
 pub mod SetOf

@@ -2,12 +2,12 @@
 use Rattle.std.proofs.Common.{◌≡◌, List, [], ◌∷◌, Bool, true, false, cond, bytes_eq, Option, Some, None, refl, sym, ◌∙◌, ap, subst}
 use Rattle.std.proofs.lemmas.Slice.Eq.{bytes_eq-Decides}
 use Rattle.tla_token.specs.declared.place.Place.{Place}
-use Rattle.tla_expr.specs.Tree.{Word, Form, name, next, call, Tree, Every, Each, binders, graft}
+use Rattle.tla_expr.specs.Tree.{Word, Form, name, next, operator_call, Tree, Every, Each, binders, graft}
 use Rattle.tla_value.specs.Value.{Value, Sense}
 use Rattle.tla_value.specs.Stops.{Check, sense_of}
 use Rattle.tla_value.specs.Meaning.{Env, just, eval}
 use Rattle.tla_value.specs.Grafts.{primes}
-use Rattle.tla_value.specs.Definitions.{Look, Definition, or_sense, base, in_states, at_use, bind_each, body_sense, defined, with_definitions, scope_of, mid}
+use Rattle.tla_value.specs.Definitions.{Valuation, Definition, or_sense, base, in_states, at_use, bind_each, body_sense, defined, with_definitions, scope_of, mid}
 use Rattle.tla_value.proofs.Alike.{eval_alike}
 use Rattle.tla_value.proofs.Graft.{every_weaker}
 use Rattle.tla_value.proofs.Primes.{Mixed, primed_law}
@@ -33,7 +33,7 @@ all_beside A U (x ∷ xs) = (beside_bound A U x, all_beside A U xs)
 form_beside : (A : Word → Bool) (U : Word → Type 0) (m : Form) (at : Place) → Unassigned A U m at → Keeps (Beside A U) m at
 form_beside A U (name x) at h = (tt, λ at' e f r. r.now x h.0 h.1 at')
 form_beside A U (next x) at h = (tt, λ at' e f r. r.primed x at')
-form_beside A U (call g) at h = (tt, λ e f r. r.defs g h)
+form_beside A U (operator_call g) at h = (tt, λ e f r. r.defs g h)
 form_beside A U m at h = (all_beside A U (binders m), tt)
 
 each_beside : (A : Word → Bool) (U : Word → Type 0) (xs : List Word) (vs : List Value) (e f : Env) → Beside A U e f → Beside A U (bind_each xs vs e) (bind_each xs vs f)
@@ -88,17 +88,17 @@ or_mixed true s (Some v) n p h = refl
 or_mixed true s None n p h = absurd (h refl)
 or_mixed false s t n p h = refl
 
-states_mixed : (A : Word → Bool) (U : Word → Type 0) (s t : Look) (e : Env) → ((x : Word) → A x ≡ true → Given (t x)) → Mixed A U (in_states s t e) (in_states (mid A s t) t e)
+states_mixed : (A : Word → Bool) (U : Word → Type 0) (s t : Valuation) (e : Env) → ((x : Word) → A x ≡ true → Given (t x)) → Mixed A U (in_states s t e) (in_states (mid A s t) t e)
 states_mixed A U s t e h = record {
   now = λ x u at. or_mixed (A x) (s x) (t x) (e.now x at) (e.primed x at) (h x);
   primed = λ x at. refl;
   defs = λ x u. refl;
 }
 
-pub scope_mixed : (c : Check) (A : Word → Bool) (U : Word → Type 0) (k : Look) (ds : List Definition) (s t : Look) → AllSettled A U ds → ((x : Word) → A x ≡ true → Given (t x)) → Mixed A U (scope_of c k ds s t) (scope_of c k ds (mid A s t) t)
+pub scope_mixed : (c : Check) (A : Word → Bool) (U : Word → Type 0) (k : Valuation) (ds : List Definition) (s t : Valuation) → AllSettled A U ds → ((x : Word) → A x ≡ true → Given (t x)) → Mixed A U (scope_of c k ds s t) (scope_of c k ds (mid A s t) t)
 scope_mixed c A U k ds s t h g = definitions_mixed c A U ds h _ _ (states_mixed A U s t (base c k) g)
 
 -- e's names are of U, its bound names are not in A, and a definition of U reads nothing of A
-pub mid_law : (c : Check) (A : Word → Bool) (U : Word → Type 0) (k : Look) (ds : List Definition) (s t : Look) → AllSettled A U ds → ((x : Word) → A x ≡ true → Given (t x)) →
+pub mid_law : (c : Check) (A : Word → Bool) (U : Word → Type 0) (k : Valuation) (ds : List Definition) (s t : Valuation) → AllSettled A U ds → ((x : Word) → A x ≡ true → Given (t x)) →
     (e : Tree) → Every (OutOf A U) e → eval c (graft (primes A) e) (scope_of c k ds s t) ≡ eval c e (scope_of c k ds (mid A s t) t)
 mid_law c A U k ds s t h g e o = primed_law c A U e o _ _ (scope_mixed c A U k ds s t h g)

@@ -2,7 +2,7 @@
 use Rattle.std.proofs.Common.{◌≡◌, Bool, true, false, cond, bytes_eq, Some, None, refl, sym, ◌∙◌, ap}
 use Rattle.std.proofs.lemmas.Slice.Eq.{bytes_eq-Decides}
 use Rattle.tla_token.specs.declared.place.Place.{Place}
-use Rattle.tla_expr.specs.Tree.{Word, Form, name, next, call, Tree, node, no_trees, Every, Each, binders, graft}
+use Rattle.tla_expr.specs.Tree.{Word, Form, name, next, operator_call, Tree, node, no_trees, Every, Each, binders, graft}
 use Rattle.tla_value.specs.Stops.{Check}
 use Rattle.tla_value.specs.Meaning.{Env, just, eval}
 use Rattle.tla_value.specs.Grafts.{primes, read_tree}
@@ -65,7 +65,7 @@ Unprimed A U m at = Each (λ x. A x ≡ false) (binders m) × Uses U m × NoNext
 form_primed : (c : Check) (A : Word → Bool) (U : Word → Type 0) (m : Form) (at : Place) → Unprimed A U m at → Fits c (Between A U) (primes A) m at
 form_primed c A U (name x) at h = λ e f r. sym (r.now x h.1 at ∙ read_primed c (A x) x at e)
 form_primed c A U (next x) at h = absurd h.2
-form_primed c A U (call g) at h = (tt, λ e f r. r.defs g h.1)
+form_primed c A U (operator_call g) at h = (tt, λ e f r. r.defs g h.1)
 form_primed c A U m at h = (each_weaker _ _ (bound_between A U) (binders m) h.0, tt)
 
 pub unprimed_law : (c : Check) (A : Word → Bool) (U : Word → Type 0) (t : Tree) → Every (Unprimed A U) t → (e f : Env) → Between A U e f → eval c (graft (primes A) t) e ≡ eval c t f

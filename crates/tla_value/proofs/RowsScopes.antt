@@ -1,16 +1,16 @@
 -- Meanings in a scope with definitions and states, by computation.
-use Rattle.std.proofs.Common.{◌≡◌, ℕ, pos, List, [], ◌∷◌, true, false, cond, bytes_eq, Some, None, refl}
+use Rattle.std.proofs.Common.{◌≡◌, ℕ, pos, List, [], ◌∷◌, true, false, cond, bytes_eq, Some, None, refl, Ok, Err}
 use Rattle.std.specs.Prelude.{codes}
 use Rattle.tla_token.specs.declared.place.Place.{Place}
 use Rattle.tla_expr.specs.declared.op.Op.TheVariants.{Plus, Divide}
-use Rattle.tla_expr.specs.Tree.{Word, operator, Form, number, name, next, strict, call, local, Tree, node, Trees, no_trees, tree, graft}
+use Rattle.tla_expr.specs.Tree.{Word, operator, Form, number, name, next, strict, operator_call, local, Tree, node, Trees, no_trees, tree, graft}
 use Rattle.tla_value.specs.declared.fault.FaultKind.TheVariants.{BadDivisor, NotFunction}
-use Rattle.tla_value.specs.Value.{int, Outcome, good, fault}
+use Rattle.tla_value.specs.Value.{Value, int, Outcome, fault}
 use Rattle.tla_value.specs.Order.{seq_from}
 use Rattle.tla_value.specs.Stops.{plain}
 use Rattle.tla_value.specs.Meaning.{eval}
 use Rattle.tla_value.specs.Grafts.{primes, owned}
-use Rattle.tla_value.specs.Definitions.{Look, Definition, no_state, scope_of}
+use Rattle.tla_value.specs.Definitions.{Valuation, Definition, no_state, scope_of}
 
 abbrev here : ℕ → Place
 here n = record { line = 1; col = n }
@@ -46,7 +46,7 @@ abbrev twice : Definition
 twice = record { title = codes "Twice"; params = x ∷ []; body = doubled; outside = false }
 
 abbrev four : Definition
-four = record { title = codes "Four"; params = []; body = of (call (codes "Twice")) 41 (at_name y 47 ∷ []); outside = false }
+four = record { title = codes "Four"; params = []; body = of (operator_call (codes "Twice")) 41 (at_name y 47 ∷ []); outside = false }
 
 abbrev outer : Definition
 outer = record { title = codes "Outer"; params = []; body = broken; outside = true }
@@ -55,42 +55,42 @@ abbrev inner : Definition
 inner = record { title = codes "Inner"; params = []; body = broken; outside = false }
 
 -- y = 2, and x = <<7, 8>>
-abbrev state : Look
+abbrev state : Valuation
 state w = cond (bytes_eq w y) (Some (int (pos 2))) (cond (bytes_eq w x) (Some (seq_from (int (pos 7) ∷ int (pos 8) ∷ []))) None)
 
 -- y = 5
-abbrev later : Look
+abbrev later : Valuation
 later w = cond (bytes_eq w y) (Some (int (pos 5))) None
 
-abbrev gives : Tree → Outcome
+abbrev gives : Tree → Outcome Value
 gives t = (eval plain t (scope_of plain no_state (outer ∷ inner ∷ twice ∷ four ∷ []) state later)).value
 
 -- an outside definition faults at its use, one of the algorithm in its body
-outside_fault : gives (at_name (codes "Outer") 60) ≡ fault BadDivisor (here 60)
+outside_fault : gives (at_name (codes "Outer") 60) ≡ Err (fault BadDivisor (here 60))
 outside_fault = refl
 
-inside_fault : gives (at_name (codes "Inner") 60) ≡ fault BadDivisor (here 11)
+inside_fault : gives (at_name (codes "Inner") 60) ≡ Err (fault BadDivisor (here 11))
 inside_fault = refl
 
 -- Four, where the names bound around its use don't reach its body: LET y == 9 IN Four
-sees_earlier : gives (at_name (codes "Four") 60) ≡ good (int (pos 4))
+sees_earlier : gives (at_name (codes "Four") 60) ≡ Ok (int (pos 4))
 sees_earlier = refl
 
-own_scope : gives (of (local y) 60 (num 9 69 ∷ at_name (codes "Four") 74 ∷ [])) ≡ good (int (pos 4))
+own_scope : gives (of (local y) 60 (num 9 69 ∷ at_name (codes "Four") 74 ∷ [])) ≡ Ok (int (pos 4))
 own_scope = refl
 
 -- y + y' over a pair of states
-both_states : gives (of (strict (operator Plus)) 1 (at_name y 1 ∷ of (next y) 5 [] ∷ [])) ≡ good (int (pos 7))
+both_states : gives (of (strict (operator Plus)) 1 (at_name y 1 ∷ of (next y) 5 [] ∷ [])) ≡ Ok (int (pos 7))
 both_states = refl
 
 -- y + y with y primed
-primed_sum : gives (graft (primes (bytes_eq y)) (of (strict (operator Plus)) 1 (at_name y 1 ∷ at_name y 5 ∷ []))) ≡ good (int (pos 10))
+primed_sum : gives (graft (primes (bytes_eq y)) (of (strict (operator Plus)) 1 (at_name y 1 ∷ at_name y 5 ∷ []))) ≡ Ok (int (pos 10))
 primed_sum = refl
 
 -- x as a variable of each process, y being the process: x[y] is 8
-own_variable : gives (graft (owned y (bytes_eq x)) (at_name x 1)) ≡ good (int (pos 8))
+own_variable : gives (graft (owned y (bytes_eq x)) (at_name x 1)) ≡ Ok (int (pos 8))
 own_variable = refl
 
 -- a name that nothing gives a meaning
-unknown_name : gives (at_name (codes "z") 3) ≡ fault NotFunction (here 3)
+unknown_name : gives (at_name (codes "z") 3) ≡ Err (fault NotFunction (here 3))
 unknown_name = refl

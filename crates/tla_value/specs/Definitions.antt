@@ -1,16 +1,16 @@
 -- The names that an expression finds outside its binders: constants, variables, standard operators, and definitions ("Specifying Systems", section 17.3).
-use Rattle.std.specs.Prelude.{◌≡◌, Bool, cond, bytes_eq, List, [], ◌∷◌, Option, Some, None}
+use Rattle.std.specs.Prelude.{◌≡◌, Bool, cond, bytes_eq, List, [], ◌∷◌, Option, Some, None, Ok, Err}
 use Rattle.tla_token.specs.declared.place.Place.{Place}
 use Rattle.tla_expr.specs.Tree.{Word, Tree}
-use Rattle.tla_value.specs.Value.{Value, Outcome, good, fault, over, Sense}
+use Rattle.tla_value.specs.Value.{Value, Outcome, fault, over, Sense}
 use Rattle.tla_value.specs.Stops.{Check, plain, misshapen, sense_of}
 use Rattle.tla_value.specs.Limits.{bounded}
 use Rattle.tla_value.specs.Meaning.{Env, just, bind, eval}
 use Rattle.tla_value.specs.Standard.{standard_of, standard_called, standard_name}
 
 -- values of names
-abbrev pub Look : Type 0
-Look = Word → Option Value
+abbrev pub Valuation : Type 0
+Valuation = Word → Option Value
 
 pub record Definition : Type 0 where
   pub title : Word
@@ -23,7 +23,7 @@ or_sense (Some v) other = just v
 or_sense None other = other
 
 -- constants, and what the standard modules define
-abbrev pub base : Check → Look → Env
+abbrev pub base : Check → Valuation → Env
 base c constants = record {
   now = λ x at. or_sense (constants x) (standard_name x at);
   primed = λ x at. sense_of (misshapen at);
@@ -31,20 +31,20 @@ base c constants = record {
 }
 
 -- variables in a state, and primed in the next one
-abbrev pub in_states : Look → Look → Env → Env
+abbrev pub in_states : Valuation → Valuation → Env → Env
 in_states s t env = record env {
   now = λ x at. or_sense (s x) (env.now x at);
   primed = λ x at. or_sense (t x) (env.primed x at);
 }
 
-abbrev pub no_state : Look
+abbrev pub no_state : Valuation
 no_state x = None
 
 -- what stops in the body of an outside definition stops at its use: the body is no expression of the algorithm
-abbrev pub at_use : Bool → Place → Outcome → Outcome
-at_use outside at (good v) = good v
-at_use outside at (fault k p) = fault k (cond outside at p)
-at_use outside at (over p) = over (cond outside at p)
+abbrev pub at_use : Bool → Place → Outcome Value → Outcome Value
+at_use outside at (Ok v) = Ok v
+at_use outside at (Err (fault k p)) = Err (fault k (cond outside at p))
+at_use outside at (Err (over p)) = Err (over (cond outside at p))
 
 abbrev pub bind_each : List Word → List Value → Env → Env
 bind_each (x ∷ xs) (v ∷ vs) env = bind_each xs vs (bind x v env)
@@ -65,17 +65,17 @@ with_definitions c [] env = env
 with_definitions c (d ∷ ds) env = with_definitions c ds (defined c d d.params env)
 
 -- where expressions of the algorithm are evaluated, in a state and the next one
-abbrev pub scope_of : Check → Look → List Definition → Look → Look → Env
+abbrev pub scope_of : Check → Valuation → List Definition → Valuation → Valuation → Env
 scope_of c constants ds s t = with_definitions c ds (in_states s t (base c constants))
 
 -- e gives r under the names of env: a value, or a fault with its kind and place
-abbrev pub Val : Tree → Env → Outcome → Type 0
+abbrev pub Val : Tree → Env → Outcome Value → Type 0
 Val e env r = (eval plain e env).value ≡ r
 
 -- the same in a run, where the first value past the limits stops as well. The names of env have been evaluated in a run too.
-abbrev pub ValB : Tree → Env → Outcome → Type 0
+abbrev pub ValB : Tree → Env → Outcome Value → Type 0
 ValB e env r = (eval bounded e env).value ≡ r
 
 -- a step half done: the names of A have their next values already
-abbrev pub mid : (Word → Bool) → Look → Look → Look
+abbrev pub mid : (Word → Bool) → Valuation → Valuation → Valuation
 mid A s t x = cond (A x) (t x) (s x)

@@ -3,7 +3,7 @@ use Rattle.std.specs.Prelude.{Bool, cond, Option, Some, None}
 use Rattle.tla_token.specs.declared.place.Place.{Place}
 use Rattle.tla_expr.specs.Tree.{Word, strict, apply, name, next, Tree, node, no_trees, tree, Graft}
 use Rattle.tla_value.specs.Stops.{Check}
-use Rattle.tla_value.specs.Meaning.{Env, Den, eval}
+use Rattle.tla_value.specs.Meaning.{Env, Denotation, eval}
 
 -- the names of A primed, each at its place
 abbrev pub primes : (Word → Bool) → Graft
@@ -25,7 +25,7 @@ abbrev pub owned : Word → (Word → Bool) → Graft
 owned self here x at = cond (here x) (Some (own_part self x at)) None
 
 -- what a name means where a tree may stand for it
-abbrev pub read_tree : Check → Option Tree → Word → Place → Den
+abbrev pub read_tree : Check → Option Tree → Word → Place → Denotation
 read_tree c (Some t) x at e = eval c t e
 read_tree c None x at e = e.now x at
 

@@ -1,7 +1,7 @@
 -- How large a value may get in a run: integers from -2^127 to 2^127 - 1, sets and functions of at most 65,536 members, and values nested at most 200 deep.
-use Rattle.std.specs.Prelude.{ℕ, ℤ, pos, negsuc, Bool, true, if◌then◌else◌, ◌&&◌, nat_lt, nat_le, ◌^◌, suc, max}
+use Rattle.std.specs.Prelude.{ℕ, ℤ, pos, negsuc, Bool, true, if◌then◌else◌, ◌&&◌, nat_lt, nat_le, ◌^◌, suc, max, Ok, Err}
 use Rattle.tla_token.specs.declared.place.Place.{Place}
-use Rattle.tla_value.specs.Value.{Value, Values, truth, int, text, model, set, fun, no_values, and, Outcome, good, over}
+use Rattle.tla_value.specs.Value.{Value, Values, truth, int, text, model, set, fun, no_values, and, Outcome, over}
 use Rattle.tla_value.specs.Order.{count}
 
 -- an atom is 0 deep, an empty set or function 1, any other one deeper than its deepest part
@@ -44,5 +44,5 @@ abbrev pub fits : Value → Bool
 fits v = fits_parts v && nat_le (depth v) 200
 
 -- a value that is made at a place in a run
-abbrev pub bounded : Place → Value → Outcome
-bounded at v = if fits v then good v else over at
+abbrev pub bounded : Place → Value → Outcome Value
+bounded at v = if fits v then Ok v else Err (over at)

@@ -1,10 +1,10 @@
 -- What laws of the meaning speak of: relations between environments, names that a tree reads and binds, and outcomes up to limits.
-use Rattle.std.specs.Prelude.{◌≡◌, List, [], ◌∷◌, Bool, true, false, bytes_eq, Option, Some, None}
+use Rattle.std.specs.Prelude.{◌≡◌, List, [], ◌∷◌, Bool, true, false, bytes_eq, Option, Some, None, Err}
 use Rattle.tla_token.specs.declared.place.Place.{Place}
-use Rattle.tla_expr.specs.Tree.{Word, Form, name, next, call, Tree, Every, Each, binders, Graft}
+use Rattle.tla_expr.specs.Tree.{Word, Form, name, next, operator_call, Tree, Every, Each, binders, Graft}
 use Rattle.tla_value.specs.Value.{Value, Outcome, over}
 use Rattle.tla_value.specs.Stops.{Check}
-use Rattle.tla_value.specs.Meaning.{Env, Den, bind, eval}
+use Rattle.tla_value.specs.Meaning.{Env, Denotation, bind, eval}
 use Rattle.tla_value.specs.Grafts.{Arguments}
 use Rattle.tla_value.specs.Definitions.{Definition}
 
@@ -20,19 +20,19 @@ Bound R x = (e f : Env) (v : Value) → R e f → R (bind x v e) (bind x v f)
 abbrev pub Reads : Rel → Form → Type 0
 Reads R (name x) = (at : Place) (e f : Env) → R e f → e.now x at ≡ f.now x at
 Reads R (next x) = (at : Place) (e f : Env) → R e f → e.primed x at ≡ f.primed x at
-Reads R (call g) = (e f : Env) → R e f → e.defs g ≡ f.defs g
+Reads R (operator_call g) = (e f : Env) → R e f → e.defs g ≡ f.defs g
 Reads R _ = Unit {0}
 
 abbrev pub Keeps : Rel → Form → Place → Type 0
 Keeps R m at = Each (Bound R) (binders m) × Reads R m
 
-abbrev pub Alike : Rel → Den → Den → Type 0
+abbrev pub Alike : Rel → Denotation → Denotation → Type 0
 Alike R a b = (e f : Env) → R e f → a e ≡ b f
 
 -- the names and operators that a form reads, but for primed names, are among U
 abbrev pub Uses : (Word → Type 0) → Form → Type 0
 Uses U (name x) = U x
-Uses U (call x) = U x
+Uses U (operator_call x) = U x
 Uses U _ = Unit {0}
 
 abbrev pub Lacks : Word → Form → Place → Type 0
@@ -67,7 +67,7 @@ OutOf A U m at = Each (λ x. A x ≡ false) (binders m) × Uses U m
 -- the names that a form reads are of U, and none is in A
 abbrev pub Unassigned : (Word → Bool) → (Word → Type 0) → Form → Place → Type 0
 Unassigned A U (name x) at = U x × (A x ≡ false)
-Unassigned A U (call f) at = U f
+Unassigned A U (operator_call f) at = U f
 Unassigned A U _ at = Unit {0}
 
 -- a definition of U is no variable of A, and reads none
@@ -85,8 +85,8 @@ Given (Some v) = Unit {0}
 Given None = ⊥
 
 -- o is o', or passed a limit
-abbrev pub Below : Outcome → Outcome → Type 0
-Below (over p) o' = Unit {0}
+abbrev pub Below : Outcome Value → Outcome Value → Type 0
+Below (Err (over p)) o' = Unit {0}
 Below o o' = o ≡ o'
 
 -- the environments agree on the names and operators of u, and on primed names

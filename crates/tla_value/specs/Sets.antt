@@ -24,7 +24,7 @@ abbrev pub without : Values → Values → Values
 without a b = kept (λ v. not (holds v b)) a
 
 -- the members of the members; each must be a set
-abbrev pub on_members : Place → Values → (List Value → Outcome) → Outcome
+abbrev pub on_members : Place → Values → (List Value → Outcome Value) → Outcome Value
 on_members at no_values go = go []
 on_members at (and v vs) go = on_set at v (λ s. on_members at vs (λ ws. go (listed s ++ ws)))
 

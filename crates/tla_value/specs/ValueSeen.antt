@@ -19,7 +19,7 @@ first_of (w ∷ ws) = w
 abbrev pub mark_of : Kind → Mark
 mark_of (lexeme.name w) = word w
 mark_of (lexeme.number n) = number n
-mark_of (lexeme.quote w) = quote w
+mark_of (lexeme.string w) = quote w
 mark_of (one s) = sign (first_of (spellings s))
 mark_of (lexeme.other w) = sign w
 

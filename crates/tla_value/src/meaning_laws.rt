@@ -6,7 +6,7 @@ ghost use Rattle.tla_value.specs.Stops.{Check, plain};
 ghost use Rattle.tla_value.specs.Limits.{bounded};
 ghost use Rattle.tla_value.specs.Meaning.{Env, eval};
 ghost use Rattle.tla_value.specs.Grafts.{Arguments, arguments, primes, owned, through};
-ghost use Rattle.tla_value.specs.Definitions.{Look, Definition, scope_of, mid};
+ghost use Rattle.tla_value.specs.Definitions.{Valuation, Definition, scope_of, mid};
 ghost use Rattle.tla_value.specs.Related.{AgreeOn, ReadsOnly, In, ApartForm, NoArgument, NotOwned, OutOf, AllSettled, Given, Below};
 
 /// What an expression means depends only on the names and operators that it reads.
@@ -36,12 +36,12 @@ pub fn own_parts_stand_for_locals()
 /// half done, in which these variables have their next values. No name that it binds is of the set, and no
 /// definition that it uses reads one.
 pub fn primes_read_the_mid_state()
-    ensures { (c : Check) (assigned : Word → Bool) (u : Word → Bool) (constants : Look) (ds : List Definition) (s t : Look)
+    ensures { (c : Check) (assigned : Word → Bool) (u : Word → Bool) (constants : Valuation) (ds : List Definition) (s t : Valuation)
         → AllSettled assigned (In u) ds → ((x : Word) → assigned x ≡ true → Given (t x)) → (e : Tree) → Every (OutOf assigned (In u)) e
         → eval c (graft (primes assigned) e) (scope_of c constants ds s t) ≡ eval c e (scope_of c constants ds (mid assigned s t) t) }
 {}
 
 /// Under the limits of a run an expression has the outcome that it has without them, or passes one.
 pub fn limits_change_nothing_else()
-    ensures { (constants : Look) (ds : List Definition) (s t : Look) (e : Tree) → Below (eval bounded e (scope_of bounded constants ds s t)).value (eval plain e (scope_of plain constants ds s t)).value }
+    ensures { (constants : Valuation) (ds : List Definition) (s t : Valuation) (e : Tree) → Below (eval bounded e (scope_of bounded constants ds s t)).value (eval plain e (scope_of plain constants ds s t)).value }
 {}

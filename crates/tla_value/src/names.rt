@@ -2,7 +2,7 @@
 
 ghost use Rattle.std.specs.Prelude.{◌≡◌};
 ghost use Rattle.std.specs.Option.{option_copied};
-ghost use Rattle.tla_value.specs.Definitions.{Look};
+ghost use Rattle.tla_value.specs.Definitions.{Valuation};
 ghost use Rattle.tla_value.specs.States.{value_of};
 
 use crate::state::State;
@@ -13,7 +13,7 @@ use tla_token::Place;
 /// A look-up of names. Its meaning is the value of each name that has one.
 pub trait Names {
     /// The value of each name that has one.
-    ghost look: { Self → Look };
+    ghost look: { Self → Valuation };
 
     /// The value of a name, or none where it has none.
     fn value(&self, name: &Name) -> Option<&Value>

@@ -1,7 +1,7 @@
 -- Where a step begins: the statements behind a label, and the exit of their sequence ("A PlusCal User's Manual", section 3.7, labels).
 use Rattle.std.specs.Prelude.{cond, bytes_eq, Option, Some, None}
 use Rattle.tla_expr.specs.Tree.{Word}
-use Rattle.pcal_tree.specs.Algorithm.{Statement, branch, either, with, loop, Statements, done, then, mark, Branches, no_branches, or, Routine}
+use Rattle.pcal_tree.specs.Algorithm.{Statement, branch, either, with, while, Statements, done, then, mark, Branches, no_branches, or, Routine}
 use Rattle.pcal_tree.specs.Run.{unlabelled, label_of}
 use Rattle.pcal_tree.specs.Choices.{or_else}
 
@@ -16,7 +16,7 @@ abbrev mutual
   begin_in l here (branch e a b) x = or_else (begin l unlabelled a x) (begin l unlabelled b x)
   begin_in l here (either bs) x = begin_some l bs x
   begin_in l here (with bs b) x = begin l unlabelled b x
-  begin_in l here (loop e b) x = begin l unlabelled b here
+  begin_in l here (while e b) x = begin l unlabelled b here
   begin_in l here _ x = None
 
   pub begin : Word → Word → Statements → Word → Option Begin

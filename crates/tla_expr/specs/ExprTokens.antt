@@ -4,15 +4,15 @@ use Rattle.std.specs.Str.{bytes_eq}
 use Rattle.tla_token.specs.declared.sign.Sign.{Sign}
 use Rattle.tla_token.specs.declared.sign.Sign.TheVariants as sign
 use Rattle.tla_token.specs.Words.{is_pluscal_word, is_tla_word}
-use Rattle.tla_token.specs.Lexemes.{Kind, name, number, quote, one}
+use Rattle.tla_token.specs.Lexemes.{Kind, name, number, string, one}
 use Rattle.tla_token.specs.Lexemes as lexeme
 use Rattle.tla_token.specs.Tokens as text
 use Rattle.tla_expr.specs.declared.op.Op.TheVariants as op
 use Rattle.tla_expr.specs.Tree.{Word}
-use Rattle.tla_expr.specs.Lexical.{Tk, Token}
+use Rattle.tla_expr.specs.Lexical.{ExprToken, Token}
 use Rattle.tla_expr.specs.Lexical as tk
 
-abbrev pub sign_kind : Sign → Tk
+abbrev pub sign_kind : Sign → ExprToken
 sign_kind sign.MapsTo = tk.mark tk.maps
 sign_kind sign.Equivalent = tk.sign op.Equivalent
 sign_kind sign.Pair = tk.sign op.MapsTo
@@ -60,12 +60,12 @@ sign_kind sign.Exists = tk.key tk.exists_key
 sign_kind s = tk.other
 
 -- the kind of the first word that is w
-abbrev pub kind_among : List (Word × Tk) → Word → Tk → Tk
+abbrev pub kind_among : List (Word × ExprToken) → Word → ExprToken → ExprToken
 kind_among [] w k = k
 kind_among (p ∷ ps) w k = if bytes_eq p.0 w then p.1 else kind_among ps w k
 
 -- reserved words of TLA+ that stand in expressions
-abbrev pub word_kinds : List (Word × Tk)
+abbrev pub word_kinds : List (Word × ExprToken)
 word_kinds =
     (codes "IF", tk.key tk.if_key) ∷ (codes "THEN", tk.key tk.then_key) ∷ (codes "ELSE", tk.key tk.else_key)
     ∷ (codes "CASE", tk.key tk.case_key) ∷ (codes "OTHER", tk.key tk.other_key) ∷ (codes "LET", tk.key tk.let_key)
@@ -75,16 +75,16 @@ word_kinds =
     ∷ (codes "SUBSET", tk.sign op.Subset) ∷ (codes "UNION", tk.sign op.Union) ∷ (codes "DOMAIN", tk.sign op.Domain) ∷ []
 
 -- an identifier that is not reserved, a reserved word of PlusCal, or one of TLA+
-abbrev pub word_kind : Word → Tk
+abbrev pub word_kind : Word → ExprToken
 word_kind w =
     if is_pluscal_word w then tk.reserved w
     else kind_among word_kinds w (if is_tla_word w then tk.other else tk.word w)
 
 -- a prime stands in written text alone, and is no sign elsewhere
-abbrev pub kind_of : Kind → Tk
+abbrev pub kind_of : Kind → ExprToken
 kind_of (name w) = word_kind w
 kind_of (number n) = tk.number n
-kind_of (quote w) = tk.quote w
+kind_of (string w) = tk.string w
 kind_of (one s) = sign_kind s
 kind_of (lexeme.other w) = if bytes_eq w (codes "'") then tk.mark tk.prime else tk.other
 

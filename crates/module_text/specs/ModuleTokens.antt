@@ -5,13 +5,13 @@ use Rattle.tla_token.specs.Lexemes as lexeme
 use Rattle.tla_token.specs.Tokens as text
 use Rattle.tla_expr.specs.declared.op.Op.TheVariants as op
 use Rattle.tla_expr.specs.Tree.{Word}
-use Rattle.tla_expr.specs.Lexical.{Tk, sign, mark, key, constant}
+use Rattle.tla_expr.specs.Lexical.{ExprToken, sign, mark, key, constant}
 use Rattle.tla_expr.specs.Lexical as tk
-use Rattle.tla_expr.specs.View as expression
+use Rattle.tla_expr.specs.ExprTokens as expression
 use Rattle.module_text.specs.Grammar.{Kind, seen, keyword, Token}
 
 -- what expressions see of the token; a reserved word that they don't have is one of modules
-abbrev pub word_kind : Tk → Word → Kind
+abbrev pub word_kind : ExprToken → Word → Kind
 word_kind tk.other w = keyword w
 word_kind k w = seen k
 

@@ -1,14 +1,15 @@
 -- Initial states: each variable in turn has a value that its declaration allows ("A PlusCal User's Manual", sections 3.3 and 3.4, processes, procedures).
-use Rattle.std.specs.Prelude.{◌≡◌, ◌==◌, List, [], ◌∷◌, Bool, true, false, cond}
+use Rattle.std.specs.Prelude.{◌≡◌, ◌==◌, List, [], ◌∷◌, Bool, true, false, cond, Ok, Err}
 use Rattle.std.specs.Ordering.{is_eq}
 use Rattle.tla_token.specs.declared.place.Place.{Place}
 use Rattle.tla_expr.specs.Tree.{Tree}
 use Rattle.tla_value.specs.declared.fault.FaultKind.{FaultKind}
+pub use Rattle.tla_value.specs.Value.{and_then}
 use Rattle.tla_value.specs.Value.{Value, fun, Values, no_values, and, values_in}
 use Rattle.tla_value.specs.Order.{same, orders, holds, seq_from}
 use Rattle.tla_value.specs.Meaning.{eval}
 use Rattle.pcal_tree.specs.Algorithm.{Start, unset, equals, among, Declaration, Main, alone, processes, Routine, locals, procedure_routines, main_routines}
-use Rattle.pcal_tree.specs.Scope.{State, Trouble, faulty, Got, got, bad, on, valued, Scope, value_of, truth_at, members_at}
+use Rattle.pcal_tree.specs.Scope.{State, Trouble, fault, Outcome, ◌>>=◌, Scope, value_of, truth_at, members_at}
 use Rattle.pcal_tree.specs.Program.{Program, Actor, written, routine_scope, global_scope, pc, stack}
 use Rattle.pcal_tree.specs.Calls.{default, first_label, label_value}
 use Rattle.pcal_tree.specs.Step.{actors, identifiers}
@@ -16,10 +17,10 @@ use Rattle.pcal_tree.specs.Step.{actors, identifiers}
 -- ---- one value
 
 -- x = e or x \in S, tested as the formula is; at the variable's name where S is no set
-abbrev pub plain_allowed : Program → Scope → Place → Start → State → Value → Got Bool
-plain_allowed P sc at unset s v = got (same v default)
-plain_allowed P sc at (equals e) s v = on (value_of P.check e sc s) (λ w. got (same v w))
-plain_allowed P sc at (among e) s v = valued ((eval P.check e (sc.env s)).test at v) (truth_at at)
+abbrev pub plain_allowed : Program → Scope → Place → Start → State → Value → Outcome Bool
+plain_allowed P sc at unset s v = Ok (same v default)
+plain_allowed P sc at (equals e) s v = (value_of P.check e sc s) >>= (λ w. Ok (same v w))
+plain_allowed P sc at (among e) s v = ((eval P.check e (sc.env s)).test at v) >>= (truth_at at)
 
 -- ---- a function of identifiers
 
@@ -42,37 +43,32 @@ for_each f [] = no_values
 for_each f (v ∷ vs) = and (f v) (for_each f vs)
 
 -- the values of an expression for all processes, before any is compared
-abbrev pub values_for : {X : Type 0} → Program → Routine → Tree → State → List Actor → (Values → Got X) → Got X
+abbrev pub values_for : {X : Type 0} → Program → Routine → Tree → State → List Actor → (Values → Outcome X) → Outcome X
 values_for P u e s [] go = go no_values
-values_for P u e s (v ∷ vs) go = on (value_of P.check e (routine_scope P v u) s) (λ w. values_for P u e s vs (λ ws. go (and w ws)))
+values_for P u e s (v ∷ vs) go = (value_of P.check e (routine_scope P v u) s) >>= (λ w. values_for P u e s vs (λ ws. go (and w ws)))
 
 -- x = e for each process, or x \in S with S evaluated once
-abbrev pub spread_allowed : Program → Routine → List Actor → Place → Start → State → Value → Got Bool
-spread_allowed P u vs at unset s f = got (has_values (values_in (identifiers vs)) (for_each (λ v. default) vs) f)
-spread_allowed P u vs at (equals e) s f = values_for P u e s vs (λ ws. got (has_values (values_in (identifiers vs)) ws f))
+abbrev pub spread_allowed : Program → Routine → List Actor → Place → Start → State → Value → Outcome Bool
+spread_allowed P u vs at unset s f = Ok (has_values (values_in (identifiers vs)) (for_each (λ v. default) vs) f)
+spread_allowed P u vs at (equals e) s f = values_for P u e s vs (λ ws. Ok (has_values (values_in (identifiers vs)) ws f))
 spread_allowed P u vs at (among e) s f =
-    on (value_of P.check e (global_scope P) s) (λ w. on (members_at at w) (λ ws. got (has_members (values_in (identifiers vs)) ws f)))
+    (value_of P.check e (global_scope P) s) >>= (λ w. (members_at at w) >>= (λ ws. Ok (has_members (values_in (identifiers vs)) ws f)))
 
 -- ---- all variables
 
--- true, false, or a trouble: what comes after is looked at where it is true
-abbrev pub and_then : Got Bool → Got Bool → Got Bool
-and_then (got true) more = more
-and_then other more = other
-
-abbrev pub globals_allowed : Program → List Declaration → State → Got Bool
-globals_allowed P [] s = got true
+abbrev pub globals_allowed : Program → List Declaration → State → Outcome Bool
+globals_allowed P [] s = Ok true
 globals_allowed P (d ∷ ds) s =
     and_then (plain_allowed P (global_scope P) d.name.place d.start s (s d.name.word)) (globals_allowed P ds s)
 
 -- a routine's own variables are functions of the identifiers of some processes, or plain, with the first of them for `self`
-abbrev pub local_allowed : Program → Routine → Bool → List Actor → Declaration → State → Got Bool
+abbrev pub local_allowed : Program → Routine → Bool → List Actor → Declaration → State → Outcome Bool
 local_allowed P u true vs d s = spread_allowed P u vs d.name.place d.start s (s (written P u d.name.word))
-local_allowed P u false [] d s = got true
+local_allowed P u false [] d s = Ok true
 local_allowed P u false (v ∷ vs) d s = plain_allowed P (routine_scope P v u) d.name.place d.start s (s (written P u d.name.word))
 
-abbrev pub locals_allowed : Program → Routine → Bool → List Actor → List Declaration → State → Got Bool
-locals_allowed P u spread vs [] s = got true
+abbrev pub locals_allowed : Program → Routine → Bool → List Actor → List Declaration → State → Outcome Bool
+locals_allowed P u spread vs [] s = Ok true
 locals_allowed P u spread vs (d ∷ ds) s = and_then (local_allowed P u spread vs d s) (locals_allowed P u spread vs ds s)
 
 -- whether there are identifiers
@@ -80,8 +76,8 @@ abbrev pub is_multiprocess : Main → Bool
 is_multiprocess (alone ss) = false
 is_multiprocess (processes ps) = true
 
-abbrev pub procedures_allowed : Program → List Actor → List Routine → State → Got Bool
-procedures_allowed P vs [] s = got true
+abbrev pub procedures_allowed : Program → List Actor → List Routine → State → Outcome Bool
+procedures_allowed P vs [] s = Ok true
 procedures_allowed P vs (u ∷ us) s =
     and_then (locals_allowed P u (is_multiprocess P.algorithm.main) vs (locals u) s) (procedures_allowed P vs us s)
 
@@ -90,8 +86,8 @@ abbrev pub running : Routine → List Actor → List Actor
 running u [] = []
 running u (v ∷ vs) = cond (v.own.number == u.number) (v ∷ running u vs) (running u vs)
 
-abbrev pub processes_allowed : Program → List Actor → List Routine → State → Got Bool
-processes_allowed P vs [] s = got true
+abbrev pub processes_allowed : Program → List Actor → List Routine → State → Outcome Bool
+processes_allowed P vs [] s = Ok true
 processes_allowed P vs (u ∷ us) s = and_then (locals_allowed P u u.spread (running u vs) (locals u) s) (processes_allowed P vs us s)
 
 -- a variable of the translation itself, one value for each process
@@ -112,20 +108,20 @@ pc_allowed P vs s = own_allowed P.algorithm.main vs (λ v. label_value P v.own (
 
 -- true, false, or the trouble at or before the first variable whose value isn't allowed: globals, variables of procedures and of processes,
 -- and then every stack is empty, and every pc is at its process's first label
-abbrev pub allowed : Program → State → Got Bool
+abbrev pub allowed : Program → State → Outcome Bool
 allowed P s =
-    on (actors P) (λ vs.
+    (actors P) >>= (λ vs.
     and_then (globals_allowed P P.algorithm.globals s)
     (and_then (procedures_allowed P vs (procedure_routines P.algorithm) s)
     (and_then (processes_allowed P vs (main_routines P.algorithm P.algorithm.main) s)
-    (and_then (got (stack_allowed P (procedure_routines P.algorithm) vs s)) (got (pc_allowed P vs s))))))
+    (and_then (Ok (stack_allowed P (procedure_routines P.algorithm) vs s)) (Ok (pc_allowed P vs s))))))
 
 abbrev pub Initial : Program → State → Type 0
-Initial P s = allowed P s ≡ got true
+Initial P s = allowed P s ≡ Ok true
 
 -- the walk through the variables meets trouble
 abbrev pub InitTrouble : Program → State → Trouble → Type 0
-InitTrouble P s k = allowed P s ≡ bad k
+InitTrouble P s k = allowed P s ≡ Err k
 
 abbrev pub InitFault : Program → State → FaultKind → Place → Type 0
-InitFault P s kind at = InitTrouble P s (faulty kind at)
+InitFault P s kind at = InitTrouble P s (fault kind at)
