@@ -1,4 +1,4 @@
--- Written labels of different labels differ: flat_map label of a routine is wanted, and routines have different numbers.
+-- Written labels of different labels differ: each label of a routine is wanted, and routines have different numbers.
 use Rattle.std.proofs.Common.{◌≡◌, ℕ, List, [], ◌∷◌, ◌++◌, Bool, true, false, ◌&&◌, nat_eq, cond, bytes_eq, map, refl, sym, ◌∙◌, ap, subst, inl, inr, ◌⊎◌}
 use Rattle.std.specs.List.{flat_map}
 use Rattle.std.proofs.lemmas.Slice.Eq.{bytes_eq-Decides}

@@ -6,7 +6,7 @@ use Rattle.tla_expr.specs.declared.op.Binder.TheVariants.{ForAll}
 use Rattle.tla_expr.specs.Tree.{Word, Tree, node, name, operator_call, binding, no_trees, tree}
 use Rattle.pcal_tree.specs.Algorithm.{no_binds, is, Name, Statement, await, with, macro, call, skip, Statements, done, then, Macro, processes, Algorithm}
 use Rattle.pcal_tree.specs.Offences.{first}
-use Rattle.pcal_tree.specs.Outside.{Outside, Read}
+use Rattle.tla_value.specs.Outside.{Outside, ReadDefinition}
 use Rattle.pcal_tree.specs.OffencesNames.{use_offences_of, repeated_names}
 use Rattle.pcal_tree.specs.OffencesReserved.{reserved_declared}
 use Rattle.pcal_tree.proofs.Sample.{at, title, x, y, num, sets, labelled, one_body}
@@ -55,7 +55,7 @@ hidden_standard_operator : use_offences_of (one_body [] (labelled (codes "A") (s
 hidden_standard_operator = refl
 
 -- F == .. and then F(a) == ..
-abbrev defined_as : List Word → Read
+abbrev defined_as : List Word → ReadDefinition
 defined_as ps = record { definition = record { title = codes "F"; params = ps; body = num 0; outside = true }; place = at 1 }
 
 abbrev defined_again : Outside

@@ -1,4 +1,4 @@
--- Written names: what a module's names would take from flat_map other is told apart by numbers ("A PlusCal User's Manual", section 4, on names in the translation).
+-- Written names: what a module's names would take from each other is told apart by numbers ("A PlusCal User's Manual", section 4, on names in the translation).
 use Rattle.std.specs.Prelude.{ℕ, zero, suc, length, nat_eq, List, [], ◌∷◌, ◌++◌, Bool, true, false, ◌&&◌, ◌||◌, cond, bytes_eq, codes, map}
 use Rattle.std.specs.List.{flat_map}
 use Rattle.std.specs.Fmt.{decimal}
@@ -8,7 +8,8 @@ use Rattle.tla_expr.specs.Tree.{Word}
 use Rattle.pcal_tree.specs.Algorithm.{Assignments, no_assignments, assignment, Binds, no_binds, one_of, is, Statement, assign, await, print, assert, skip, branch, either, with, while, goto, macro, call, return, Statements, done, then, mark, Branches, no_branches, or, Start, unset, equals, among, Declaration, Procedure, Process, Main, alone, processes, Algorithm, Routine, locals, procedure_routines, main_routines, Naming}
 use Rattle.pcal_tree.specs.Program.{words, declared}
 use Rattle.pcal_tree.specs.OffencesLabels.{label_words}
-use Rattle.pcal_tree.specs.Outside.{Outside, unit_names, bound_in, bound_in_all, bound_outside}
+use Rattle.tla_value.specs.Outside.{Outside}
+use Rattle.pcal_tree.specs.Outside.{unit_names, bound_in, bound_in_all, bound_outside}
 
 -- ---- names that an algorithm binds: in expressions and by `with`
 
@@ -140,7 +141,7 @@ pub record Given : Type 0 where
   pub want : Want
   pub written : Word
 
--- flat_map takes the first that is free
+-- each takes the first that is free
 abbrev pub give : List Word → List Word → List Want → List Given
 give extended taken [] = []
 give extended taken (w ∷ ws) =

@@ -48,7 +48,7 @@ pub record Within : Type 0 where
 abbrev pub within_with : Within → Within
 within_with w = record { macro = w.macro; with = true; procedure = w.procedure; targets = w.targets }
 
--- in a macro flat_map of these offends, and `goto` and `return` by the rules that they have elsewhere too
+-- in a macro each of these offends, and `goto` and `return` by the rules that they have elsewhere too
 abbrev pub jump_offences_here : Within → Place → Statement → List Refusal
 jump_offences_here w at (while e b) = offence_if w.macro LabelInside at
 jump_offences_here w at (goto n) = offence_if w.macro LabelInside at ++ offence_if (not (is_among w.targets n)) UnknownLabel at

@@ -9,7 +9,8 @@ use Rattle.tla_expr.specs.Tree.{Word, Form, name, operator_call, Tree, node, Tre
 use Rattle.pcal_tree.specs.Algorithm.{Name, Assignments, no_assignments, assignment, Binds, no_binds, one_of, is, Statement, assign, await, print, assert, skip, branch, either, with, while, goto, macro, call, return, Statements, done, then, mark, Branches, no_branches, or, Start, unset, equals, among, Declaration, Definition, Macro, Procedure, Process, Main, alone, processes, Algorithm}
 use Rattle.pcal_tree.specs.Program.{words, declared}
 use Rattle.pcal_tree.specs.Offences.{offence, offence_if}
-use Rattle.pcal_tree.specs.Outside.{Outside, Read, unit_names}
+use Rattle.tla_value.specs.Outside.{Outside, ReadDefinition}
+use Rattle.pcal_tree.specs.Outside.{unit_names}
 
 -- ---- what is in scope
 
@@ -105,7 +106,7 @@ abbrev pub in_assignments : Assignments → Sight → List Refusal
 in_assignments no_assignments s = []
 in_assignments (assignment l e ms) s = in_left l s ++ (in_tree e s ++ in_assignments ms s)
 
--- flat_map name is seen by those after it
+-- each name is seen by those after it
 abbrev pub in_binds : Binds → Sight → List Refusal
 in_binds no_binds s = []
 in_binds (one_of x e bs) s = in_tree e s ++ in_binds bs (seeing_plain (x.word ∷ []) s)
@@ -141,7 +142,7 @@ abbrev mutual
   in_branches C ps no_branches s = []
   in_branches C ps (or b bs) s = in_body C ps b s ++ in_branches C ps bs s
 
--- the names of a macro's body are looked up where the call stands; the macros stand with the newest first, and flat_map calls older ones
+-- the names of a macro's body are looked up where the call stands; the macros stand with the newest first, and each calls older ones
 abbrev pub macro_offences : List Macro → List Procedure → Calls
 macro_offences [] ps s at m ts = offence Unknown at
 macro_offences (d ∷ older) ps s at m ts =
@@ -162,7 +163,7 @@ always_known =
 abbrev pub defined_inside : Definition → Known
 defined_inside d = taking (length d.params) d.name.word
 
-abbrev pub defined_outside : Read → Known
+abbrev pub defined_outside : ReadDefinition → Known
 defined_outside d = taking (length d.definition.params) d.definition.title
 
 -- a unit that was not read hides all else of its names; of two definitions of a name the later one is seen
@@ -183,7 +184,7 @@ in_start (among e) s = in_tree e s
 abbrev pub in_declared : List Declaration → Sight → List Refusal
 in_declared ds s = flat_map (λ d. in_start d.start s) ds
 
--- flat_map definition sees those before it
+-- each definition sees those before it
 abbrev pub in_definitions : List Definition → Sight → List Refusal
 in_definitions [] s = []
 in_definitions (d ∷ ds) s = in_tree d.body (seeing_plain (words d.params) s) ++ in_definitions ds (defined_inside d ∷ s)

@@ -10,7 +10,7 @@ use Rattle.pcal_tree.specs.Algorithm.{Name, Binds, no_binds, one_of, is, Stateme
 use Rattle.pcal_tree.specs.Offences.{offence_if}
 use Rattle.pcal_tree.specs.OffencesLabels.{Label, labels}
 use Rattle.pcal_tree.specs.OffencesNames.{names_of}
-use Rattle.pcal_tree.specs.Outside.{Outside, Opaque, Read}
+use Rattle.tla_value.specs.Outside.{Outside, Opaque, ReadDefinition}
 
 -- ---- declared names
 
@@ -19,7 +19,7 @@ bind_names no_binds = []
 bind_names (one_of x e bs) = x ∷ bind_names bs
 bind_names (is x e bs) = x ∷ bind_names bs
 
--- the names of flat_map `with`
+-- the names of each `with`
 abbrev mutual
   pub with_names_of_one : Statement → List Name
   with_names_of_one (branch e a b) = with_names a ++ with_names b
@@ -53,7 +53,7 @@ abbrev pub names_of_main : Main → List Name
 names_of_main (alone b) = with_names b
 names_of_main (processes ps) = flat_map names_of_process ps
 
--- all that an algorithm declares, and the names of flat_map `with`
+-- all that an algorithm declares, and the names of each `with`
 abbrev pub declared_names : Algorithm → List Name
 declared_names a =
     names_of a.globals
@@ -77,7 +77,7 @@ reserved_name o n = offence_if (is_own n.word || is_standard o.extended n.word) 
 abbrev pub reserved_label : Label → List Refusal
 reserved_label l = offence_if (is_among (codes "Done" ∷ codes "Error" ∷ []) l.name.word) Reserved l.name.place
 
-abbrev pub reserved_read : Outside → Read → List Refusal
+abbrev pub reserved_read : Outside → ReadDefinition → List Refusal
 reserved_read o d = reserved_name o (record { word = d.definition.title; place = d.place })
 
 -- a unit that was not read may have a standard name
