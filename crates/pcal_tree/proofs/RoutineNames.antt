@@ -11,7 +11,7 @@ use Rattle.pcal_tree.specs.OffencesLabels.{labels, labels_of_one, labels_of_some
 use Rattle.pcal_tree.specs.Step as Step
 use Rattle.pcal_tree.specs.Step.{OneOf}
 use Rattle.pcal_tree.specs.Names.{Role, label, variable, title, Want, wants, wanted_within, wanted_by, wanted_by_main, wanted, Given, give, first_free, same_role, is_for, written_for}
-use Rattle.pcal_tree.specs.Apart.{Every, Apart}
+use Rattle.pcal_tree.specs.laws.Apart.{Every, Apart}
 use Rattle.pcal_tree.proofs.TroubleLaws.{one_left, one_right}
 
 pub every_one : {X : Type 0} (Q : X → Type 0) (x : X) (xs : List X) → Every Q xs → OneOf x xs → Q x

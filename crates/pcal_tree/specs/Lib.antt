@@ -29,4 +29,4 @@ pub mod Labelled
 pub mod Outside
 pub mod OffencesNames
 pub mod OffencesReserved
-pub mod Apart
+pub mod laws

@@ -1,0 +1,3 @@
+-- Words that laws alone speak of.
+pub mod Apart
+pub mod MacroSummaries
