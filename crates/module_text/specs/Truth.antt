@@ -1,6 +1,6 @@
 -- The truth of actions: what a module says of a pair of states ("Specifying Systems", sections 2.3 and 16.2.3). A conjunction stops at the first conjunct
 -- that isn't true. A disjunction and \E visit all, in order, and the first fault or value past the limits wins.
-use Rattle.std.specs.Prelude.{List, [], ◌∷◌, ◌++◌, Bool, true, false, ◌&&◌, ◌||◌, cond, bytes_eq, Option, Some, None, codes, Ok, Err}
+use Rattle.std.specs.Prelude.{List, [], ◌∷◌, ◌++◌, Bool, true, false, ◌&&◌, cond, bytes_eq, Option, Some, None, codes, Ok, Err}
 use Rattle.tla_token.specs.declared.place.Place.{Place}
 use Rattle.tla_token.specs.Places.{start}
 use Rattle.tla_expr.specs.declared.op.Op.TheVariants.{Cup}
