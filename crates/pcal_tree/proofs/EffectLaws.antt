@@ -9,7 +9,7 @@ use Rattle.tla_token.specs.declared.rule.Rule.TheVariants.{FirstLabel, AssignTwi
 use Rattle.tla_token.specs.declared.rule.Refusal.{Refusal}
 use Rattle.tla_expr.specs.Tree.{Word, Trees}
 use Rattle.pcal_tree.specs.Algorithm.{Name, Statement, assign, await, print, assert, skip, branch, either, with, while, goto, macro, call, return, Statements, done, then, mark, Branches, no_branches, or, Procedure, Main, alone, processes, Algorithm}
-use Rattle.pcal_tree.specs.Program.{declared}
+use Rattle.pcal_tree.specs.Variables.{declared}
 use Rattle.pcal_tree.specs.Offences.{offence_if}
 use Rattle.pcal_tree.specs.Paths.{Effect, Effects, Path, joined, after_one, after, after_some, has_assigned}
 use Rattle.pcal_tree.specs.OffencesSteps.{Before, due_after, inside, Visit, visits_inside, visits, visits_of_some, missing_label, offences_at, call_effect, effects_in, missing_in_body}

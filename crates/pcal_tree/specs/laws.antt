@@ -1,3 +1,5 @@
--- Words that laws alone speak of.
 pub mod Apart
 pub mod MacroSummaries
+pub mod Choosing
+pub mod Expansion
+pub mod Steps
