@@ -20,4 +20,3 @@ pub mod Rules
 pub mod Steps
 pub mod Label
 mod Rows
-pub mod Witness

@@ -7,4 +7,4 @@ pub mod Ready
 pub mod Moved
 pub mod Prepared
 pub mod Rules
-pub mod Step
+pub mod laws
