@@ -19,4 +19,6 @@ pub mod Prepared
 pub mod Rules
 pub mod Steps
 pub mod Label
+pub mod Alike
+pub mod SingleProcess
 mod Rows

@@ -7,13 +7,15 @@
 
 ghost use Rattle.std.specs.Prelude.{◌≡◌, ◌↔◌, List, [], Bool, true};
 ghost use Rattle.tla_token.specs.declared.place.Place.{Place};
-ghost use Rattle.tla_expr.specs.Tree.{Word};
+ghost use Rattle.tla_expr.specs.Tree.{Word, Tree};
 ghost use Rattle.tla_value.specs.Value.{Value};
 ghost use Rattle.tla_value.specs.Stops.{Check, plain};
-ghost use Rattle.tla_value.specs.Meaning.{Env, just, eval};
+ghost use Rattle.tla_value.specs.Meaning.{Env, just, bind, eval};
 ghost use Rattle.tla_value.specs.Related.{In};
 ghost use Rattle.tla_value.specs.Grafts.{owned};
-ghost use Rattle.module_text.specs.Truth.{TrueExactly};
+ghost use Rattle.tla_value.specs.Definitions.{Valuation};
+ghost use Rattle.module_text.specs.Module.{Items};
+ghost use Rattle.module_text.specs.Truth.{TrueExactly, items_hold};
 ghost use Rattle.pcal_tree.specs.Algorithm.{Statements, Macro, Assignments, Routine};
 ghost use Rattle.pcal_tree.specs.Scope.{State, Scope};
 ghost use Rattle.pcal_tree.specs.Run.{Rules, Follow, run, exit_to, unlabelled};
@@ -30,6 +32,8 @@ ghost use Rattle.action_builder.specs.Settled.{Moving, settled, Callable, Tidy, 
 ghost use Rattle.action_builder.specs.Moved.{StandsAtPath};
 ghost use Rattle.action_builder.specs.Written.{except_of};
 ghost use Rattle.action_builder.specs.Ready.{Readable, holds_on};
+ghost use Rattle.action_builder.specs.SingleProcess.{in_place_of, graft_items};
+ghost use Rattle.action_builder.specs.laws.Grafts.{ClearItems, SameButPlaces};
 ghost use Rattle.action_builder.specs.laws.LabelSteps.{own_scope, own_path, Whole, LabelStep, prepared_of, items_of, action_of, IsPrepared, IsReady, EndsIn, IsTroubled, StepsTo, MeetsTrouble};
 
 /// The items that are written for a step where the variables of A are assigned already, on a pair of states. Where no
@@ -91,6 +95,13 @@ pub fn own_variables_stand_at_the_identifier()
 pub fn except_makes_the_changes_of_its_parts()
     ensures { (V : Names) (c : Check) (at : Place) (y : Word) (ms : Assignments) → LeftSides V ms → (sc : Scope) → Plain V sc → (s : State) → (sc.env s).now y at ≡ just (s y)
         → (eval c (except_of at y ms) (sc.env s)).value ≡ folded_all (parts_of c ms) sc s (s y) }
+{}
+
+/// With the expression of a single process put in for `self`, which captures nothing, items have on every pair of states
+/// the truth that they have where `self` is the value of the expression, or trouble of the same kind.
+pub fn single_processes_have_their_expression_for_self()
+    ensures { (c : Check) (self : Word) (e : Tree) (v : Value) (items : Items) → ClearItems c (in_place_of self e) Any items → (s t : Valuation) (env : Env) → eval c e env ≡ just v
+        → SameButPlaces (items_hold c s t env (graft_items (in_place_of self e) items)) (items_hold c s t (bind self v env) items) }
 {}
 
 /// A step from a label of the statements with macro calls written out begins with what the step from this label
