@@ -22,3 +22,6 @@ pub mod Label
 pub mod Alike
 pub mod SingleProcess
 mod Rows
+mod RowsSample
+pub mod Decided
+pub mod Witness

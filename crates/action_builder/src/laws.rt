@@ -34,6 +34,7 @@ ghost use Rattle.action_builder.specs.Written.{except_of};
 ghost use Rattle.action_builder.specs.Ready.{Readable, holds_on};
 ghost use Rattle.action_builder.specs.SingleProcess.{in_place_of, graft_items};
 ghost use Rattle.action_builder.specs.laws.Grafts.{ClearItems, SameButPlaces};
+ghost use Rattle.action_builder.specs.laws.Sample as sample;
 ghost use Rattle.action_builder.specs.laws.LabelSteps.{own_scope, own_path, Whole, LabelStep, prepared_of, items_of, action_of, IsPrepared, IsReady, EndsIn, IsTroubled, StepsTo, MeetsTrouble};
 
 /// The items that are written for a step where the variables of A are assigned already, on a pair of states. Where no
@@ -109,4 +110,13 @@ pub fn single_processes_have_their_expression_for_self()
 pub fn written_out_steps_begin_alike()
     ensures { (c : Check) (ms : List Macro) → BareBodies ms → (l here : Word) (ss : Statements) → Calls (FineCall c ms) ss → (x : Word)
         → begin l here (expanded ms ss) x ≡ expand_begin (written_out ms) (begin l here ss x) }
+{}
+
+/// The sample step, which has a macro call, an assignment to a variable of its process, a jump and a call, meets all that
+/// these laws ask.
+pub fn the_sample_step_meets_all_that_is_asked()
+    ensures expanded { Calls (FineCall plain sample.macros) sample.unexpanded × BareBodies sample.macros }
+    ensures jumps { MachinesWithin sample.program sample.actor sample.routine sample.initials sample.step.names (own_scope plain sample.self sample.own sample.scope) }
+    ensures prepared { IsPrepared sample.step }
+    ensures ready { IsReady sample.any_name sample.variables sample.env none sample.step }
 {}
