@@ -3,7 +3,8 @@ use Rattle.std.proofs.Common.{◌≡◌, List, true, ◌↔◌, Ok, Err}
 use Rattle.tla_expr.specs.Tree.{Word}
 use Rattle.tla_value.specs.Meaning.{Env}
 use Rattle.module_text.specs.Truth.{TrueExactly}
-use Rattle.pcal_tree.specs.Scope.{State, Trouble, Outcome}
+use Rattle.pcal_tree.specs.Scope.{State}
+use Rattle.tla_value.specs.Value.{Trouble, Outcome}
 use Rattle.pcal_tree.specs.Run.{Has, unlabelled, run}
 use Rattle.action_builder.specs.Action.{Names, mid, IsBad, NotFalse}
 use Rattle.action_builder.specs.Contract.{to_end, BadSomewhere}

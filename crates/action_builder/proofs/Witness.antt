@@ -79,7 +79,7 @@ machines : Machines program actor routine initials (own_scope plain self own sco
 machines = record {
   own = machine routine (there (codes "y") refl, tt);
   called = λ x p e. subst (λ q. Machine program actor q (own_scope plain self own scope)) (some_is (bytes_eq (codes "P") x) _ p e) (machine _ (there (codes "a") refl, (there (codes "b") refl, tt)));
-  initials = λ x p e at. subst (λ q. Initials program actor q at (own_scope plain self own scope) (initials.place q at) (initials.initial q) q.variables) (some_is (bytes_eq (codes "P") x) _ p e) (λ s go. refl, tt);
+  initials = λ x p e at. subst (λ q. Initials program actor q at (own_scope plain self own scope) (initials.place q at) (initials.initial q) q.variables) (some_is (bytes_eq (codes "P") x) _ p e) (refl, (λ s. refl), tt);
 }
 
 pub within : MachinesWithin program actor routine initials (λ w. false) (own_scope plain self own scope)

@@ -1,12 +1,12 @@
 -- Written labels of different labels differ: each label of a routine is wanted, and routines have different numbers.
 use Rattle.std.proofs.Common.{◌≡◌, ℕ, List, [], ◌∷◌, ◌++◌, Bool, true, false, ◌&&◌, nat_eq, cond, bytes_eq, map, refl, sym, ◌∙◌, ap, subst, inl, inr, ◌⊎◌}
+use Rattle.std.specs.List.{flat_map}
 use Rattle.std.proofs.lemmas.Slice.Eq.{bytes_eq-Decides}
 use Rattle.std.proofs.lemmas.Bool.{and_parts, and_from, eqb-true, eq-eqb}
 use Rattle.std.proofs.lemmas.List.{map-append}
 use Rattle.tla_expr.specs.Tree.{Word}
 use Rattle.pcal_tree.specs.Algorithm.{Statement, branch, either, with, while, Statements, done, then, mark, Branches, no_branches, or, Main, alone, processes, Algorithm, Routine, locals, procedure_routines, main_routines, routines}
 use Rattle.pcal_tree.specs.Program.{declared}
-use Rattle.pcal_tree.specs.Offences.{each}
 use Rattle.pcal_tree.specs.OffencesLabels.{labels, labels_of_one, labels_of_some, label_words}
 use Rattle.pcal_tree.specs.Step as Step
 use Rattle.pcal_tree.specs.Step.{OneOf}
@@ -19,10 +19,10 @@ every_one Q x [] h k = absurd k
 every_one Q x (y ∷ ys) h (inl e) = subst Q (sym e) h.0
 every_one Q x (y ∷ ys) h (inr k) = every_one Q x ys h.1 k
 
-one_each : {X Y : Type 0} (f : X → List Y) (x : X) (y : Y) (xs : List X) → OneOf x xs → OneOf y (f x) → OneOf y (each f xs)
+one_each : {X Y : Type 0} (f : X → List Y) (x : X) (y : Y) (xs : List X) → OneOf x xs → OneOf y (f x) → OneOf y (flat_map f xs)
 one_each f x y [] h k = absurd h
-one_each f x y (z ∷ zs) (inl e) k = one_left y (f z) (each f zs) (subst (λ u. OneOf y (f u)) e k)
-one_each f x y (z ∷ zs) (inr h) k = one_right y (f z) (each f zs) (one_each f x y zs h k)
+one_each f x y (z ∷ zs) (inl e) k = one_left y (f z) (flat_map f zs) (subst (λ u. OneOf y (f u)) e k)
+one_each f x y (z ∷ zs) (inr h) k = one_right y (f z) (flat_map f zs) (one_each f x y zs h k)
 
 -- ---- the labels of a body
 
@@ -81,9 +81,9 @@ label_wanted a u l h k = by (one_either u (procedure_routines a) (main_routines 
   where
     by : OneOf u (procedure_routines a) ⊎ OneOf u (main_routines a a.main) → OneOf (want u l) (wanted a)
     by (inl p) =
-        one_left (want u l) (each wanted_by (procedure_routines a)) (wanted_by_main a a.main)
+        one_left (want u l) (flat_map wanted_by (procedure_routines a)) (wanted_by_main a a.main)
         (one_each wanted_by u (want u l) (procedure_routines a) p (inr (wanted_label u l k)))
-    by (inr p) = one_right (want u l) (each wanted_by (procedure_routines a)) (wanted_by_main a a.main) (main_label a a.main u l p k)
+    by (inr p) = one_right (want u l) (flat_map wanted_by (procedure_routines a)) (wanted_by_main a a.main) (main_label a a.main u l p k)
 
 -- ---- the names given
 

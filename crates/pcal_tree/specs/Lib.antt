@@ -22,6 +22,8 @@ pub mod GrammarC
 pub mod Grammar
 pub mod Printed
 pub mod Offences
+pub mod Paths
+pub mod OffencesSteps
 pub mod OffencesLabels
 pub mod Labelled
 pub mod Outside

@@ -8,6 +8,11 @@ use Rattle.tla_expr.specs.declared.op.Binder.{Binder}
 abbrev pub Word : Type 0
 Word = List ℕ
 
+-- a word where it stands, as a name that is declared, or a label
+pub record Name : Type 0 where
+  pub word : Word
+  pub place : Place
+
 -- a step of a path behind `!` in an EXCEPT, or behind the variable of a left side
 pub data PathStep : Type 0 where
   index : PathStep  -- [e], the expression being a part of the tree

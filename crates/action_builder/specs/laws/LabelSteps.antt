@@ -2,14 +2,14 @@
 use Rattle.std.specs.Prelude.{◌≡◌, List, [], ◌∷◌, Bool, true, cond, Ok, Err}
 use Rattle.tla_token.specs.declared.place.Place.{Place}
 use Rattle.tla_expr.specs.Tree.{Word}
-use Rattle.tla_value.specs.Value.{Value}
+use Rattle.tla_value.specs.Value.{Value, Trouble, Outcome}
 use Rattle.tla_value.specs.Stops.{Check, plain}
 use Rattle.tla_value.specs.Grafts.{owned}
 use Rattle.tla_value.specs.Meaning.{Env, just}
 use Rattle.tla_value.specs.Related.{In}
 use Rattle.module_text.specs.Module.{Items}
 use Rattle.pcal_tree.specs.Algorithm.{Statements}
-use Rattle.pcal_tree.specs.Scope.{State, Trouble, Outcome, Scope, through}
+use Rattle.pcal_tree.specs.Scope.{State, Scope, through}
 use Rattle.pcal_tree.specs.Run.{Has, Rules, run, exit_to}
 use Rattle.pcal_tree.specs.Clean.{Any, Clean, Free}
 use Rattle.action_builder.specs.Action.{Names, member, more, mid, assigned_in, Agree}
