@@ -6,7 +6,7 @@ use Rattle.tla_expr.specs.Tree.{Word, Form, name, next, operator_call, strict, a
 use Rattle.tla_value.specs.Stops.{Check, plain}
 use Rattle.tla_value.specs.Related.{In, ClearForm}
 use Rattle.pcal_tree.specs.Algorithm.{Assignments, no_assignments, assignment, Binds, no_binds, one_of, is, Statement, assign, await, print, assert, skip, branch, either, with, while, goto, call, return, Statements, done, then, mark, Branches, no_branches, or}
-use Rattle.pcal_tree.specs.Clean.{Any, CleanMoves, CleanOne, Clean, CleanSome}
+use Rattle.pcal_tree.specs.laws.Expansion.{Any, CleanMoves, CleanOne, Clean, CleanSome}
 use Rattle.action_builder.specs.Action.{Names, Effects, member, more, without, firsts, assigned, assigned_in, assigned_by}
 use Rattle.action_builder.specs.Effects.{head_of, head_first, parts_of, nested, effect_of, effects_of, ways_of, IsLeft, LeftFirst, LeftSides, SettledOne, Settled, SettledSome}
 use Rattle.action_builder.specs.Ready.{Plain, FineTree, FineSides, FineMoves, FineOne, Fine, FineSome}

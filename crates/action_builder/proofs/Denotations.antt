@@ -14,7 +14,7 @@ use Rattle.pcal_tree.specs.Assign.{Setting, set_all, settings}
 use Rattle.pcal_tree.specs.Assign as Assign
 use Rattle.pcal_tree.specs.Run.{Course, chooses, Has, HasSome, after, at_each, held, stops, Follow, Rules, unlabelled, run_binds, label_of}
 use Rattle.pcal_tree.specs.Run as Courses
-use Rattle.pcal_tree.specs.Clean.{following}
+use Rattle.pcal_tree.proofs.ExpandRuns.{following}
 use Rattle.action_builder.specs.Action.{Names, Changes, no_changes, change, evaluated, applied, moved, Awaits, Chosen, Picks, SomeOf, Next, Effects, RunOne, Run, RunSome}
 use Rattle.action_builder.specs.Effects.{head_of, head_first, changing, part_of, parts_of, nested, effect_of, effects_of, ways_of, part_at, Named, IsLeft, LeftFirst, LeftSides, SettledOne, Settled, SettledSome}
 

@@ -12,7 +12,7 @@ use Rattle.pcal_tree.specs.Scope.{State, all_valued, deeper, Scope, reach_in}
 use Rattle.pcal_tree.specs.Program.{read_at}
 use Rattle.pcal_tree.specs.Run.{Has, Follow, Rules, unlabelled, run, exit_to}
 use Rattle.pcal_tree.specs.Expand.{graft_all}
-use Rattle.pcal_tree.specs.Clean.{Any, Clean, Free}
+use Rattle.pcal_tree.specs.laws.Expansion.{Any, Clean, Free}
 use Rattle.pcal_tree.proofs.GraftRuns.{graft_runs}
 use Rattle.pcal_tree.proofs.ExpandRuns.{through_meets}
 use Rattle.action_builder.specs.Contract.{to_end}

@@ -5,7 +5,7 @@ use Rattle.tla_expr.specs.Tree.{Word}
 use Rattle.tla_value.specs.Value.{Value, int, text, fun, no_values, and}
 use Rattle.tla_value.specs.Order.{seq_from, record_from}
 use Rattle.pcal_tree.specs.Scope.{State, put}
-use Rattle.pcal_tree.specs.Program.{pc, stack}
+use Rattle.pcal_tree.specs.Variables.{pc, stack}
 use Rattle.action_builder.specs.Ready.{holds_on}
 use Rattle.action_builder.specs.laws.LabelSteps.{action_of}
 use Rattle.action_builder.specs.laws.Sample.{me, variables, env, step}

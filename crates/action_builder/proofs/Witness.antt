@@ -10,8 +10,9 @@ use Rattle.tla_value.specs.Grafts.{owned, own_part}
 use Rattle.tla_value.specs.Related.{In}
 use Rattle.pcal_tree.specs.Algorithm.{no_assignments, assignment, Routine, procedure_routines}
 use Rattle.pcal_tree.specs.Scope.{State, Scope, bound, origin_in}
-use Rattle.pcal_tree.specs.Clean.{Any, Calls, FineCall, BareBodies}
-use Rattle.pcal_tree.specs.Program.{Program, Actor, index, local_index, pc, stack}
+use Rattle.pcal_tree.specs.laws.Expansion.{Any, Calls, FineCall, BareBodies}
+use Rattle.pcal_tree.specs.Program.{Program, Actor, index, local_index}
+use Rattle.pcal_tree.specs.Variables.{pc, stack, written_all}
 use Rattle.pcal_tree.specs.Calls.{named}
 use Rattle.action_builder.specs.Action.{Names, member, more, Apart}
 use Rattle.action_builder.specs.Effects.{Settled}
@@ -61,7 +62,7 @@ origins x at = by (own x)
     by true = refl
     by false = refl
 
-machine : (p : Routine) → Each (StandsAtPath (own_scope plain self own scope) (local_index actor p)) (Rattle.pcal_tree.specs.Program.written_all program p (Rattle.pcal_tree.specs.Algorithm.locals p)) → Machine program actor p (own_scope plain self own scope)
+machine : (p : Routine) → Each (StandsAtPath (own_scope plain self own scope) (local_index actor p)) (written_all program p (Rattle.pcal_tree.specs.Algorithm.locals p)) → Machine program actor p (own_scope plain self own scope)
 machine p h = record {
   pc = there pc refl;
   stack = there stack refl;

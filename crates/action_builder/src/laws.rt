@@ -21,7 +21,7 @@ ghost use Rattle.pcal_tree.specs.Scope.{State, Scope};
 ghost use Rattle.pcal_tree.specs.Run.{Rules, Follow, run, exit_to, unlabelled};
 ghost use Rattle.pcal_tree.specs.StepStart.{begin};
 ghost use Rattle.pcal_tree.specs.Expand.{graft_all, expanded, written_out, expand_begin};
-ghost use Rattle.pcal_tree.specs.Clean.{Any, Calls, Clean, FineCall, BareBodies, Free};
+ghost use Rattle.pcal_tree.specs.laws.Expansion.{Any, Calls, Clean, FineCall, BareBodies, Free};
 ghost use Rattle.pcal_tree.specs.Program.{Program, Actor};
 ghost use Rattle.action_builder.specs.Action.{folded_all, Names, more, assigned_in, NotFalse, Agree, IsBad};
 ghost use Rattle.action_builder.specs.Effects.{effects_of, parts_of, LeftSides, IsPlain as Plain};

@@ -11,7 +11,7 @@ use Rattle.module_text.specs.Module.{Items}
 use Rattle.pcal_tree.specs.Algorithm.{Statements}
 use Rattle.pcal_tree.specs.Scope.{State, Scope, through}
 use Rattle.pcal_tree.specs.Run.{Has, Rules, run, exit_to}
-use Rattle.pcal_tree.specs.Clean.{Any, Clean, Free}
+use Rattle.pcal_tree.specs.laws.Expansion.{Any, Clean, Free}
 use Rattle.action_builder.specs.Action.{Names, member, more, mid, assigned_in, Agree}
 use Rattle.action_builder.specs.Effects.{part_at, effects_of}
 use Rattle.action_builder.specs.Settled.{Moving, settled, Callable, Tidy, Does, Inner}

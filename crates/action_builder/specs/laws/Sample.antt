@@ -15,7 +15,8 @@ use Rattle.pcal_tree.specs.declared.mark.Mark.TheVariants.{Plain}
 use Rattle.pcal_tree.specs.declared.mark.Fairness.TheVariants.{Unfair}
 use Rattle.pcal_tree.specs.Algorithm.{nowhere, Name, Span, no_assignments, assignment, Statement, assign, skip, branch, goto, macro, call, return, Statements, done, then, mark, unset, equals, Declaration, Macro, Procedure, Process, processes, Routine, Algorithm, process_routine, Naming}
 use Rattle.pcal_tree.specs.Scope.{State, Scope, bound}
-use Rattle.pcal_tree.specs.Program.{Program, Actor, pc, stack}
+use Rattle.pcal_tree.specs.Program.{Program, Actor}
+use Rattle.pcal_tree.specs.Variables.{pc, stack}
 use Rattle.pcal_tree.specs.Expand.{expanded}
 use Rattle.action_builder.specs.Action.{member}
 use Rattle.action_builder.specs.Effects.{part_at}
