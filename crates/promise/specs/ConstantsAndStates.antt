@@ -13,7 +13,7 @@ use Rattle.pcal_tree.specs.Names.{naming}
 use Rattle.pcal_tree.specs.Scope.{State}
 use Rattle.pcal_tree.specs.Program.{Program}
 use Rattle.pcal_tree.specs.Step.{vars}
-use Rattle.pcal_tree.specs.Calls.{default}
+use Rattle.pcal_tree.specs.Calls.{defaultInitValue}
 use Rattle.module_text.specs.Module.{Module, words_of, found}
 
 -- the labelled algorithm g with its written names in the module m, without limits, for these constants
@@ -35,7 +35,7 @@ variables_of g m = vars (program g m no_state)
 -- a value for each constant that is read, for `defaultInitValue` the model value of that name, and for nothing else; sets and functions are in
 -- canonical order
 pub record AreConstants (m : Module) (values : Valuation) : Type 0 where
-  pub unset : values (codes "defaultInitValue") ≡ Some default
+  pub unset : values (codes "defaultInitValue") ≡ Some defaultInitValue
   pub given : Each (λ x. IsTrue (is_some (values x))) (words_of m.outside.constants)
   pub no_other : (x : Word) → has (codes "defaultInitValue" ∷ words_of m.outside.constants) x ≡ false → values x ≡ None
   pub canonical : (x : Word) (v : Value) → values x ≡ Some v → IsCanonical v
