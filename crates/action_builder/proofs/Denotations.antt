@@ -14,9 +14,9 @@ use Rattle.pcal_tree.specs.Assign.{Setting, set_all, settings}
 use Rattle.pcal_tree.specs.Assign as Assign
 use Rattle.pcal_tree.specs.Run.{Course, chooses, Has, HasSome, after, at_each, held, stops, Follow, Rules, unlabelled, run_binds, label_of}
 use Rattle.pcal_tree.specs.Run as Courses
-use Rattle.pcal_tree.specs.Clean.{following}
 use Rattle.action_builder.specs.Action.{Changes, no_changes, change, evaluated, applied, moved, Awaits, Chosen, Picks, SomeOf, Next, Effects, RunOne, Run, RunSome}
 use Rattle.action_builder.specs.Effects.{head_of, head_first, changing, part_of, parts_of, nested, effect_of, effects_of, ways_of, part_at, Named, IsLeft, LeftFirst, LeftMoves, SettledOne, Settled, SettledSome}
+use Rattle.pcal_tree.proofs.ExpandRuns.{following}
 
 -- ---- results
 

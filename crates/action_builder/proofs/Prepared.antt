@@ -22,7 +22,7 @@ use Rattle.action_builder.specs.Moved.{StandsAtPath}
 use Rattle.action_builder.specs.Prepared.{prepared, Whole, own_scope, own_path}
 use Rattle.action_builder.proofs.Settle.{settle_in}
 use Rattle.tla_value.proofs.Outcomes.{then_then}
-use Rattle.pcal_tree.specs.Clean.{Any, Calls, Clean, FineCall, Free}
+use Rattle.pcal_tree.specs.laws.Expansion.{Any, Calls, Clean, FineCall, Free}
 
 whole_free : (self : Word) (v : Value) (sc : Scope) → Whole self v sc → Free sc
 whole_free self v sc h x at p s = h.part x at s ∙ sym (h.part x p s)

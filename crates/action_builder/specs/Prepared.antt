@@ -15,7 +15,7 @@ use Rattle.pcal_tree.specs.Expand.{graft_all, expanded}
 use Rattle.action_builder.specs.Action.{Names, more, Agree}
 use Rattle.action_builder.specs.Effects.{part_at}
 use Rattle.action_builder.specs.Settled.{Moving, settled, Callable, Tidy, Does, Inner}
-use Rattle.pcal_tree.specs.Clean.{Any, Calls, Clean, FineCall}
+use Rattle.pcal_tree.specs.laws.Expansion.{Any, Calls, Clean, FineCall}
 
 -- macros expanded and jumps settled, then x[self] put in for the process's own variables
 abbrev pub prepared : Moving → Word → (Word → Bool) → Word → Word → List Macro → Statements → Statements

@@ -12,7 +12,7 @@ use Rattle.pcal_tree.specs.Algorithm.{Algorithm}
 use Rattle.pcal_tree.specs.Names.{naming}
 use Rattle.pcal_tree.specs.Scope.{State}
 use Rattle.pcal_tree.specs.Program.{Program}
-use Rattle.pcal_tree.specs.Step.{vars}
+use Rattle.pcal_tree.specs.Variables.{vars}
 use Rattle.pcal_tree.specs.Calls.{defaultInitValue}
 use Rattle.module_text.specs.Module.{Module, words_of, found}
 

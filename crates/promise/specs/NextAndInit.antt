@@ -8,7 +8,9 @@ use Rattle.tla_value.specs.Stops.{plain}
 use Rattle.tla_value.specs.Definitions.{Valuation}
 use Rattle.pcal_tree.specs.Algorithm.{Algorithm}
 use Rattle.pcal_tree.specs.Scope.{State}
-use Rattle.pcal_tree.specs.Step.{Proper, Sound, Step, Stutters}
+use Rattle.pcal_tree.specs.Processes.{Proper}
+use Rattle.pcal_tree.specs.Faults.{Sound}
+use Rattle.pcal_tree.specs.Step.{Step, Stutters}
 use Rattle.pcal_tree.specs.InitialStates.{Initial, InitFault}
 use Rattle.module_text.specs.Module.{Module}
 use Rattle.module_text.specs.Truth.{next_holds, init_holds}

@@ -5,7 +5,7 @@ ghost use Rattle.tla_expr.specs.Tree.{Word, Each};
 ghost use Rattle.tla_value.specs.Order.{IsCanonical};
 ghost use Rattle.tla_value.specs.Definitions.{Valuation};
 ghost use Rattle.pcal_tree.specs.Algorithm.{Algorithm};
-ghost use Rattle.pcal_tree.specs.Step.{vars};
+ghost use Rattle.pcal_tree.specs.Variables.{vars};
 ghost use Rattle.module_text.specs.Module.{Module};
 ghost use Rattle.promise.specs.ConstantsAndStates.{program, variables_of};
 ghost use Rattle.promise.specs.Translates.{Translates};
