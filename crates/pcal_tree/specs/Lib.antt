@@ -18,7 +18,7 @@ pub mod Script
 pub mod Expand
 pub mod Marks
 pub mod Names
-pub mod GrammarView
+pub mod AlgorithmTokens
 pub mod GrammarParts
 pub mod GrammarP
 pub mod GrammarC
