@@ -8,6 +8,7 @@ pub mod ValueSpelled
 mod ValueRows
 mod RowsSeen
 pub mod StateLaws
+pub mod Joined
 pub mod Alike
 pub mod Graft
 pub mod Primes
