@@ -24,8 +24,8 @@ use Rattle.pcal_tree.specs.Step.{vars, Agree, IsActor, StepFrom, course_of, pc_o
 use Rattle.module_text.specs.Truth.{Verdict, on, on_test, and_then, or_all, acted, acts_in, is_value, same_look, all_same, scope, next_holds, TrueExactly}
 use Rattle.module_text.proofs.Tells.{tells_and, tells_or, tells_as, tells_of}
 use Rattle.first_path.specs.Form.{number_operand, variable_operand, Right, single, sum, Parts, is_fit}
-use Rattle.first_path.specs.Placed.{Places, right_tree, is_at, algorithm_at, module_at}
-use Rattle.first_path.specs.Translates.{on_variables, outside_of, NextIs}
+use Rattle.first_path.specs.Placed.{Places, right_tree, is_at, algorithm_at, module_at, integers_alone}
+use Rattle.first_path.specs.Translates.{on_variables, NextIs}
 use Rattle.first_path.proofs.Names.{word_same}
 use Rattle.first_path.proofs.Fit.{Fit, fit_of, not_own}
 use Rattle.first_path.proofs.Means.{true_tells, last_tells, label_free, StandsFor, result, tells_same, label_tells, value_tells, right_tells}
@@ -271,16 +271,16 @@ right_bound v (sum variable_operand (number_operand m)) p q = refl
 right_bound v (sum variable_operand variable_operand) p q = refl
 
 -- the label is chosen apart from the variable alone
-taken_are : (p q : Places) (f : Parts) → taken_outside (outside_of (module_at q f)) ++ kept (algorithm_at p f) ≡ f.variable ∷ []
+taken_are : (p q : Places) (f : Parts) → taken_outside integers_alone ++ kept (algorithm_at p f) ≡ f.variable ∷ []
 taken_are p q f = rw (right_bound f.variable f.right (p 12) (p 14)) refl
 
-pub label_kept : (p q : Places) (f : Parts) → Fit f → Kept f (naming (algorithm_at p f) (outside_of (module_at q f)))
+pub label_kept : (p q : Places) (f : Parts) → Fit f → Kept f (naming (algorithm_at p f) integers_alone)
 label_kept p q f h =
-    let taken = taken_outside (outside_of (module_at q f)) ++ kept (algorithm_at p f) in
+    let taken = taken_outside integers_alone ++ kept (algorithm_at p f) in
     ap (λ b. cond b (first_free (codes "Integers" ∷ []) taken f.label) f.label) (word_same f.label)
     ∙ ap (λ ws. first_free (codes "Integers" ∷ []) ws f.label) (taken_are p q f) ∙ label_free f.variable f.label h.label h.not_variable
 
 pub next_is : (p q : Places) (f : Parts) → IsTrue (is_fit f) → NextIs (algorithm_at p f) (module_at q f)
 next_is p q f fit values s t constants sound =
     let h = fit_of f fit in
-    next_of p f (naming (algorithm_at p f) (outside_of (module_at q f))) values h (label_kept p q f h) q s t sound
+    next_of p f (naming (algorithm_at p f) integers_alone) values h (label_kept p q f h) q s t sound

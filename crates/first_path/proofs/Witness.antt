@@ -14,8 +14,8 @@ use Rattle.pcal_tree.specs.Calls.{default}
 use Rattle.pcal_tree.specs.Step.{Sound, StepFrom, Step, Stutters, IsActor, Troubled, Stand, StandsAt, course_of, pc_of}
 use Rattle.pcal_tree.specs.InitialStates.{Initial, InitFault}
 use Rattle.first_path.specs.Form.{IsForm}
-use Rattle.first_path.specs.Placed.{Places, algorithm_at, module_at}
-use Rattle.first_path.specs.Translates.{outside_of, AreConstants}
+use Rattle.first_path.specs.Placed.{Places, algorithm_at, module_at, integers_alone}
+use Rattle.first_path.specs.Translates.{AreConstants}
 use Rattle.first_path.specs.Worked.{worked_text, worked_parts, no_more_constants, worked_program, at_first, at_last}
 use Rattle.first_path.proofs.FormExact.{form_found}
 use Rattle.first_path.proofs.MeansStep.{got_is, actor, stand, Kept, is_actor, actor_is, stand_is, there_stands, ended}
@@ -58,7 +58,7 @@ module _ (p q : Places) where
   -- ---- steps
 
   abbrev names : Naming
-  names = naming (algorithm_at p worked_parts) (outside_of (module_at q worked_parts))
+  names = naming (algorithm_at p worked_parts) integers_alone
 
   abbrev only : Actor
   only = actor p worked_parts

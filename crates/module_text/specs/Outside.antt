@@ -6,14 +6,15 @@ use Rattle.tla_token.specs.Signs.{is_among}
 use Rattle.tla_token.specs.Words.{is_standard}
 use Rattle.tla_expr.specs.declared.op.Op.{Op}
 use Rattle.tla_expr.specs.declared.op.Op.TheVariants as op
-use Rattle.tla_expr.specs.Tree.{Word, Form, number, strings, name, next, strict, operator, operator_call, member, binding, local, Tree, node, Trees, no_trees, tree, binders}
+use Rattle.tla_expr.specs.Tree.{Word, Name, Form, number, strings, name, next, strict, operator, operator_call, member, binding, local, Tree, node, Trees, no_trees, tree, binders}
 use Rattle.tla_expr.specs.Lexical.{mark}
 use Rattle.tla_expr.specs.Lexical as tk
 use Rattle.tla_expr.specs.Spelling.{Phrase, Right, Good}
 use Rattle.tla_expr.specs.Nesting.{text_nesting}
 use Rattle.tla_value.specs.Definitions.{Definition}
-use Rattle.module_text.specs.Module.{Opaque, Outside, extends, constants, defines, opaque, defined_in}
-use Rattle.module_text.specs.Grammar.{Token, Kind, seen, keyword, reserved, Names, spell_names, words, GoodNames, tree_of}
+use Rattle.tla_value.specs.Outside.{Opaque, ReadDefinition}
+use Rattle.module_text.specs.Module.{OutsideUnit, extends, constants, defines, opaque, definitions_of, found}
+use Rattle.module_text.specs.Grammar.{Token, Kind, seen, keyword, reserved, Names, spell_names, names_of, GoodNames, tree_of}
 use Rattle.module_text.specs.Units.{ParameterForm, parameters, GoodParameters, definition_form, spell_unit}
 
 -- what an outside unit may use
@@ -187,38 +188,41 @@ opaque_of (t ∷ ts) = record { keyword = keyword_of t.kind; names = names_by (k
 
 -- ---- units
 
-pub record Named (w : Word) (ts : List Token) (xs : List Word) : Type 0 where
+pub record Named (w : Word) (ts : List Token) (xs : List Name) : Type 0 where
   pub at : Place
   pub names : Names
   pub good : GoodNames 1 names
   pub spelled : ts ≡ reserved at w (spell_names names [])
-  pub are : words names ≡ xs
+  pub are : names_of names ≡ xs
 
-pub record Defined (v : Sight) (ts : List Token) (d : Definition) : Type 0 where
+pub record Defined (v : Sight) (ts : List Token) (d : ReadDefinition) : Type 0 where
   pub at : Place
   pub params : Option ParameterForm
   pub sign : Place
   pub body : Phrase
   pub good : GoodParameters params × Right 1 sign × Good 1 body
-  pub spelled : ts ≡ spell_unit (definition_form at d.title params sign body) []
-  pub is : record { title = d.title; params = parameters params; body = tree_of body; outside = true } ≡ d
+  pub spelled : ts ≡ spell_unit (definition_form at d.definition.title params sign body) []
+  pub is : record {
+    definition = record { title = d.definition.title; params = parameters params; body = tree_of body; outside = true };
+    place = at;
+  } ≡ d
   pub shallow : IsTrue (nat_le (text_nesting body) 200)
-  pub reads : IsTrue (definition_reads v d)
+  pub reads : IsTrue (definition_reads v d.definition)
 
 -- the unit is read; definitions are read only before the translation
-abbrev pub IsRead : Bool → Sight → List Token → Outside → Type 0
+abbrev pub IsRead : Bool → Sight → List Token → OutsideUnit → Type 0
 IsRead b v ts (extends ms) = Named (codes "EXTENDS") ts ms
 IsRead b v ts (constants xs) = Named (codes "CONSTANT") ts xs ⊎ Named (codes "CONSTANTS") ts xs
 IsRead b v ts (defines d) = IsTrue b × Defined v ts d
 IsRead b v ts (opaque o) = ⊥
 
 -- it is, or else it is passed on
-abbrev pub IsOutside : Bool → Sight → List Token → Outside → Type 0
-IsOutside b v ts (opaque o) = ((u : Outside) → IsRead b v ts u → ⊥) × (o ≡ opaque_of ts)
+abbrev pub IsOutside : Bool → Sight → List Token → OutsideUnit → Type 0
+IsOutside b v ts (opaque o) = ((u : OutsideUnit) → IsRead b v ts u → ⊥) × (o ≡ opaque_of ts)
 IsOutside b v ts u = IsRead b v ts u
 
 -- each sees the definitions before it
-abbrev pub AllOutside : Bool → Sight → List (List Token) → List Outside → Type 0
+abbrev pub AllOutside : Bool → Sight → List (List Token) → List OutsideUnit → Type 0
 AllOutside b v [] [] = Unit {0}
-AllOutside b v (ts ∷ more) (u ∷ us) = IsOutside b v ts u × AllOutside b (record v { earlier = v.earlier ++ defined_in (u ∷ []) }) more us
+AllOutside b v (ts ∷ more) (u ∷ us) = IsOutside b v ts u × AllOutside b (record v { earlier = v.earlier ++ found (definitions_of u) }) more us
 AllOutside b v _ _ = ⊥

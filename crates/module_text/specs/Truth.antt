@@ -12,7 +12,7 @@ use Rattle.tla_value.specs.Order.{same, holds}
 use Rattle.tla_value.specs.Stops.{Check}
 use Rattle.tla_value.specs.Meaning.{Env, bind, eval}
 use Rattle.tla_value.specs.Definitions.{Valuation, no_state, Definition, scope_of}
-use Rattle.module_text.specs.Module.{Item, test, setting, unchanged, exists, local, if_then_else, either, Items, no_items, item, Branches, no_branches, branch, Call, call, call_with, Way, one_way, some_way, Body, all_of, some_of, Action, Region, Module, defined_in}
+use Rattle.module_text.specs.Module.{Item, test, setting, unchanged, exists, local, if_then_else, either, Items, no_items, item, Branches, no_branches, branch, Call, call, call_with, Way, one_way, some_way, Body, all_of, some_of, Action, Region, Module, found}
 
 -- what an action is of a pair of states
 abbrev pub Verdict : Type 0
@@ -129,11 +129,11 @@ process_set_defined None = []
 process_set_defined (Some e) = record { title = codes "ProcSet"; params = []; body = e; outside = false } ∷ []
 
 -- the definitions in sight of the actions
-abbrev pub definitions_of : Module → List Definition
-definitions_of m = defined_in m.before ++ m.region.definitions ++ process_set_defined m.region.process_set
+abbrev pub definitions_in : Module → List Definition
+definitions_in m = found m.outside.definitions ++ m.region.definitions ++ process_set_defined m.region.process_set
 
 abbrev pub scope : Check → Module → Valuation → Valuation → Valuation → Env
-scope c m constants s t = scope_of c constants (definitions_of m) s t
+scope c m constants s t = scope_of c constants (definitions_in m) s t
 
 abbrev pub terminating : Region → Action
 terminating r = record { title = codes "Terminating"; parameter = None; body = all_of (item (test r.ended) (item (unchanged r.vars) no_items)) }

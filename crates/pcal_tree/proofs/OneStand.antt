@@ -14,7 +14,7 @@ use Rattle.pcal_tree.specs.StepStart.{Begin, at_label}
 use Rattle.pcal_tree.specs.Program.{Program, Actor}
 use Rattle.pcal_tree.specs.Calls.{label_name}
 use Rattle.pcal_tree.specs.OffencesLabels.{label_words}
-use Rattle.pcal_tree.specs.Outside.{Outside}
+use Rattle.tla_value.specs.Outside.{Outside}
 use Rattle.pcal_tree.specs.Names.{label, wanted, standing, given, naming, written_for}
 use Rattle.pcal_tree.specs.Step.{identifiers_of, identifiers, identifier, actors_of, all_actors, has_identifier, apart, last_place, united, placed, sorted, actors_in, OneOf, IsActor, Stand, routines_of, StandsAt, StandsOnce}
 use Rattle.pcal_tree.specs.Apart.{Every, FewNames, NoEndLabels}

@@ -6,7 +6,7 @@ use Rattle.tla_expr.specs.declared.op.Binder.TheVariants.{ForAll}
 use Rattle.tla_expr.specs.Tree.{Word, Tree, node, name, operator_call, binding, no_trees, tree}
 use Rattle.pcal_tree.specs.Algorithm.{no_binds, is, Name, Statement, await, with, macro, call, skip, Statements, done, then, Macro, processes, Algorithm}
 use Rattle.pcal_tree.specs.Offences.{first}
-use Rattle.pcal_tree.specs.Outside.{Outside}
+use Rattle.tla_value.specs.Outside.{Outside}
 use Rattle.pcal_tree.specs.OffencesNames.{use_offences_of, repeated_names}
 use Rattle.pcal_tree.specs.OffencesReserved.{reserved_declared}
 use Rattle.pcal_tree.proofs.Sample.{at, title, x, y, num, sets, labelled, one_body}

@@ -4,7 +4,7 @@ use Rattle.tla_token.specs.Signs.{is_among}
 use Rattle.tla_token.specs.Words.{begins_fairness}
 use Rattle.pcal_tree.specs.Algorithm.{Algorithm, routines}
 use Rattle.pcal_tree.specs.OffencesLabels.{label_words}
-use Rattle.pcal_tree.specs.Outside.{Outside}
+use Rattle.tla_value.specs.Outside.{Outside}
 use Rattle.pcal_tree.specs.Names.{standing, is_taken, wanted, Given, given}
 
 abbrev pub Every : {X : Type 0} → (X → Type 0) → List X → Type 0

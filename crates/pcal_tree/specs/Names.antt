@@ -8,7 +8,8 @@ use Rattle.pcal_tree.specs.Algorithm.{Assignments, no_assignments, assignment, B
 use Rattle.pcal_tree.specs.Program.{words, declared}
 use Rattle.pcal_tree.specs.Offences.{each}
 use Rattle.pcal_tree.specs.OffencesLabels.{label_words}
-use Rattle.pcal_tree.specs.Outside.{Outside, unit_names, bound_in, bound_in_all, bound_outside}
+use Rattle.tla_value.specs.Outside.{Outside}
+use Rattle.pcal_tree.specs.Outside.{unit_names, bound_in, bound_in_all, bound_outside}
 
 -- ---- names that an algorithm binds: in expressions and by `with`
 

@@ -9,7 +9,7 @@ use Rattle.pcal_tree.specs.Algorithm.{Name, Binds, no_binds, one_of, is, Stateme
 use Rattle.pcal_tree.specs.Offences.{offence_if, each}
 use Rattle.pcal_tree.specs.OffencesLabels.{Label, labels}
 use Rattle.pcal_tree.specs.OffencesNames.{names_of}
-use Rattle.pcal_tree.specs.Outside.{Outside, Opaque, Read}
+use Rattle.tla_value.specs.Outside.{Outside, Opaque, ReadDefinition}
 
 -- ---- declared names
 
@@ -76,7 +76,7 @@ reserved_name o n = offence_if (is_own n.word || is_standard o.extended n.word) 
 abbrev pub reserved_label : Label → List Refusal
 reserved_label l = offence_if (is_among (codes "Done" ∷ codes "Error" ∷ []) l.name.word) Reserved l.name.place
 
-abbrev pub reserved_read : Outside → Read → List Refusal
+abbrev pub reserved_read : Outside → ReadDefinition → List Refusal
 reserved_read o d = reserved_name o (record { word = d.definition.title; place = d.place })
 
 -- a unit that was not read may have a standard name

@@ -1,28 +1,8 @@
--- What a module has outside its algorithm and the translation ("Specifying Systems", chapter 17).
+-- The names that a module has outside its algorithm and the translation ("Specifying Systems", chapter 17).
 use Rattle.std.specs.Prelude.{List, [], ◌++◌, map}
-use Rattle.tla_token.specs.declared.place.Place.{Place}
 use Rattle.tla_expr.specs.Tree.{Word, Tree, node, Trees, no_trees, tree, binders}
-use Rattle.tla_value.specs.Definitions.{Definition}
-use Rattle.pcal_tree.specs.Algorithm.{Name}
+use Rattle.tla_value.specs.Outside.{Outside}
 use Rattle.pcal_tree.specs.Offences.{each}
-
--- a unit that was passed on unread
-pub record Opaque : Type 0 where
-  pub keyword : Word  -- none for a definition
-  pub names : List Word
-  pub place : Place
-
--- a definition that was read
-pub record Read : Type 0 where
-  pub definition : Definition
-  pub place : Place
-
--- its units, each kind in the order of the text
-pub record Outside : Type 0 where
-  pub extended : List Word
-  pub constants : List Name
-  pub definitions : List Read
-  pub opaque : List Opaque
 
 -- the names of the units
 abbrev pub unit_names : Outside → List Word

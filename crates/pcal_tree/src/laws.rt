@@ -10,7 +10,7 @@ ghost use Rattle.pcal_tree.specs.Run.{Course, Has, Rules, Follow, run, with_macr
 ghost use Rattle.pcal_tree.specs.Choices.{walk, told, landing, first_trouble};
 ghost use Rattle.pcal_tree.specs.Program.{Program, Actor};
 ghost use Rattle.pcal_tree.specs.Step.{Proper, Sound, IsActor, StandsOnce, FirstTrouble};
-ghost use Rattle.pcal_tree.specs.Outside.{Outside};
+ghost use Rattle.tla_value.specs.Outside.{Outside};
 ghost use Rattle.pcal_tree.specs.OffencesReserved.{reserved_declared};
 ghost use Rattle.pcal_tree.specs.Labelled.{labelled};
 ghost use Rattle.pcal_tree.specs.Names.{given, naming};

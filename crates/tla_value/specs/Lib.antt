@@ -15,4 +15,5 @@ pub mod Meaning
 pub mod Grafts
 pub mod Standard
 pub mod Definitions
+pub mod Outside
 pub mod Related
