@@ -12,6 +12,7 @@ use Rattle.tla_value.specs.Value.{Value, Values, truth, int, text, set, fun, no_
 use Rattle.tla_value.specs.Order.{same, listed, sequence_of, record_from}
 use Rattle.tla_value.specs.Stops.{Check, truth_at, int_at, members_at, function_at, sequence_at, misshapen, one_of, two_of, three_of, tested, sense_of}
 use Rattle.tla_value.specs.Sets.{joined}
+use Rattle.tla_value.specs.Definitions.{trouble_at}
 use Rattle.tla_value.specs.Strict.{of_truths, of_ints, of_sets, of_quotient, operated, space_of, made, applied, changed, changed_at, next_slot, updated, excepted, strict_value, operator_test, strict_test}
 
 -- which troubles, and which places, may stand for one another
@@ -22,6 +23,8 @@ pub record Kin : Type 1 where
   pub self : (p : Place) → place p p
   pub anything : (k j : Trouble) → free k → beside k j
   pub faults : (k : FaultKind) (p q : Place) → place p q → beside (fault k p) (fault k q)
+  pub moved : (p q : Place) → place p q → (k j : Trouble) → beside k j → beside (trouble_at p k) (trouble_at q j)
+  pub free_moved : (p : Place) (k : Trouble) → free k → free (trouble_at p k)
 
 abbrev pub Joined : Kin → {X Y : Type 0} → (X → Y → Type 0) → Outcome X → Outcome Y → Type 0
 Joined K R (Ok x) (Ok y) = R x y
@@ -65,13 +68,19 @@ pub order_same : (K : Kin) {X Z : Type 0} (xs : List X) (g g' : X → Outcome Z)
 order_same K [] g g' k = refl
 order_same K (x ∷ xs) g g' k = then_same K ◌≡◌ _ _ _ _ (k x) (λ y. then_same K ◌≡◌ _ _ _ _ (order_same K xs g g' k) (λ ys. refl))
 
-pub joined_two : (K : Kin) {X Y : Type 0} (R : X → Y → Type 0) (p q : Place) (xs : List X) (ys : List Y) → K.place p q → Both R xs ys → Joined K (λ x y. R x.0 y.0 × R x.1 y.1) (two_of p xs) (two_of q ys)
+abbrev pub Pairs : {X Y : Type 0} → (X → Y → Type 0) → X × X → Y × Y → Type 0
+Pairs R x y = R x.0 y.0 × R x.1 y.1
+
+abbrev pub Triples : {X Y : Type 0} → (X → Y → Type 0) → X × X × X → Y × Y × Y → Type 0
+Triples R x y = R x.0 y.0 × R x.1 y.1 × R x.2 y.2
+
+pub joined_two : (K : Kin) {X Y : Type 0} (R : X → Y → Type 0) (p q : Place) (xs : List X) (ys : List Y) → K.place p q → Both R xs ys → Joined K (Pairs R) (two_of p xs) (two_of q ys)
 joined_two K R p q _ _ at none = K.faults _ p q at
 joined_two K R p q _ _ at (one h none) = K.faults _ p q at
 joined_two K R p q _ _ at (one h (one i none)) = (h, i)
 joined_two K R p q _ _ at (one h (one i (one j js))) = K.faults _ p q at
 
-pub joined_three : (K : Kin) {X Y : Type 0} (R : X → Y → Type 0) (p q : Place) (xs : List X) (ys : List Y) → K.place p q → Both R xs ys → Joined K (λ x y. R x.0 y.0 × R x.1 y.1 × R x.2 y.2) (three_of p xs) (three_of q ys)
+pub joined_three : (K : Kin) {X Y : Type 0} (R : X → Y → Type 0) (p q : Place) (xs : List X) (ys : List Y) → K.place p q → Both R xs ys → Joined K (Triples R) (three_of p xs) (three_of q ys)
 joined_three K R p q _ _ at none = K.faults _ p q at
 joined_three K R p q _ _ at (one h none) = K.faults _ p q at
 joined_three K R p q _ _ at (one h (one i none)) = K.faults _ p q at
@@ -255,7 +264,7 @@ module _ (K : Kin) (c c' : Check) (l : Checks K c c') where
 
   operator_tests : (p q : Place) → K.place p q → (a b : Place) → K.place a b → (o : Op) (v : Value) (vs : List Value) → Same K (operator_test c o p a v vs) (operator_test c' o q b v vs)
   operator_tests p q at a b to Subset v vs = then_same K ◌≡◌ _ _ _ _ (ones K p q at vs) (λ w. then_same K ◌≡◌ _ _ _ _ (sets K p q at w) (λ ws. refl))
-  operator_tests p q at a b to o v vs = tests K a b to v _ _ (value_of_one p q at (operator o) vs)
+  operator_tests p q at a b to o v vs = tests K a b to v (strict_value c (operator o) p vs) (strict_value c' (operator o) q vs) (value_of_one p q at (operator o) vs)
 
   tests_of_one : (p q : Place) → K.place p q → (a b : Place) → K.place a b → (o : Strict) (v : Value) (vs : List Value) → Same K (strict_test c o p a v vs) (strict_test c' o q b v vs)
   tests_of_one p q at a b to (operator o) v vs = operator_tests p q at a b to o v vs

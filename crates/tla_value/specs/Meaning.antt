@@ -3,7 +3,7 @@ use Rattle.std.specs.Prelude.{pos, List, [], ◌∷◌, ◌++◌, map, Bool, tru
 use Rattle.tla_token.specs.declared.place.Place.{Place}
 use Rattle.tla_expr.specs.declared.op.Binder.{Binder}
 use Rattle.tla_expr.specs.declared.op.Binder.TheVariants.{ForAll, Exists, Filter, Image, Function}
-use Rattle.tla_expr.specs.Tree.{Word, Form, number, string, truth as literal, booleans, strings, name, next, strict, operator_call, conjunction, disjunction, implication, member, if_then_else, cases, binding, local, Tree, node, Trees, no_trees, tree}
+use Rattle.tla_expr.specs.Tree.{Word, Name, Form, number, string, truth as literal, booleans, strings, name, next, strict, operator_call, conjunction, disjunction, implication, member, if_then_else, cases, binding, local, Tree, node, Trees, no_trees, tree}
 use Rattle.tla_value.specs.declared.fault.FaultKind.TheVariants.{NotSet, NoCase}
 use Rattle.tla_value.specs.Value.{Value, Values, truth, int, text, set, no_values, and, Outcome, fault, Sense, ◌>>=◌, in_order}
 use Rattle.tla_value.specs.Order.{set_from, fun_from, seq_from}
@@ -33,8 +33,8 @@ values_of ds env = in_order (λ d. (d env).value) ds
 -- a part that is a truth value
 abbrev pub test : Place → Denotation → Env → Outcome Bool
 test at p env = do
-    v ← (p env).value
-    truth_at at v
+  v ← (p env).value
+  truth_at at v
 
 -- ---- forms that bind names over sets
 
@@ -49,13 +49,18 @@ with_first v r = (v ∷ r.0, r.1)
 abbrev pub at_members : Word → Values → (Env → Outcome (List Row)) → Env → Outcome (List Row)
 at_members x no_values go env = Ok []
 at_members x (and v vs) go env = do
-    rows ← go (bind x v env)
-    more ← at_members x vs go env
-    Ok (map (with_first v) rows ++ more)
+  rows ← go (bind x v env)
+  more ← at_members x vs go env
+  Ok (map (with_first v) rows ++ more)
 
--- at each choice of members, the first set slowest
-abbrev pub at_choices : List Word → List Values → (Env → Outcome (List Row)) → Env → Outcome (List Row)
-at_choices (x ∷ xs) (s ∷ ss) go = at_members x s (at_choices xs ss go)
+-- each name of a group at each member of the group's set
+abbrev pub at_group : List Name → Values → (Env → Outcome (List Row)) → Env → Outcome (List Row)
+at_group [] s go = go
+at_group (x ∷ xs) s go = at_members x.word s (at_group xs s go)
+
+-- at each choice of members, the first name slowest
+abbrev pub at_choices : List (List Name) → List Values → (Env → Outcome (List Row)) → Env → Outcome (List Row)
+at_choices (xs ∷ groups) (s ∷ ss) go = at_group xs s (at_choices groups ss go)
 at_choices _ _ go = go
 
 -- quantifiers and filters need truth values
@@ -63,15 +68,15 @@ abbrev pub suited : Binder → Place → Value → Outcome Value
 suited Image at v = Ok v
 suited Function at v = Ok v
 suited _ at v = do
-    b ← truth_at at v
-    Ok (truth b)
+  b ← truth_at at v
+  Ok (truth b)
 
 -- what the body gives where no names are left
 abbrev pub at_body : Binder → Place → Denotation → Env → Outcome (List Row)
 at_body b at body env = do
-    v ← (body env).value
-    w ← suited b at v
-    Ok (([], w) ∷ [])
+  v ← (body env).value
+  w ← suited b at v
+  Ok (([], w) ∷ [])
 
 -- a function over several names is one on tuples
 abbrev pub key : List Value → Value
@@ -107,23 +112,33 @@ gathered Filter rs = set (set_from (where_true rs))
 gathered Image rs = set (set_from (results rs))
 gathered Function rs = fun_from (table rs)
 
--- a set for each name, all evaluated in order, and the body
-abbrev pub sources : Place → List Word → List Denotation → Env → Outcome (List Value × Denotation)
+-- a set for each group of names, all evaluated in order, and the body
+abbrev pub sources : Place → List (List Name) → List Denotation → Env → Outcome (List Value × Denotation)
 sources at [] ds env = do
-    body ← one_of at ds
-    Ok ([], body)
-sources at (x ∷ xs) (d ∷ ds) env = do
-    v ← (d env).value
-    (vs, body) ← sources at xs ds env
-    Ok (v ∷ vs, body)
+  body ← one_of at ds
+  Ok ([], body)
+sources at (xs ∷ groups) (d ∷ ds) env = do
+  v ← (d env).value
+  (vs, body) ← sources at groups ds env
+  Ok (v ∷ vs, body)
 sources at _ _ env = misshapen at
 
-abbrev pub bound_value : Check → Binder → List Word → Place → List Denotation → Env → Outcome Value
-bound_value c b xs at ds env = do
-    (vs, body) ← sources at xs ds env
-    ss ← in_order (members_at at) vs
-    rows ← at_choices xs ss (at_body b at body) env
-    c at (gathered b rows)
+abbrev pub bound_value : Check → Binder → List (List Name) → Place → List Denotation → Env → Outcome Value
+bound_value c b groups at ds env = do
+  (vs, body) ← sources at groups ds env
+  ss ← in_order (members_at at) vs
+  rows ← at_choices groups ss (at_body b at body) env
+  c at (gathered b rows)
+
+-- right sides in order, each seen by those after it, and the body
+abbrev pub local_value : Place → List Name → List Denotation → Env → Outcome Value
+local_value at [] ds env = do
+  body ← one_of at ds
+  (body env).value
+local_value at (x ∷ xs) (d ∷ ds) env = do
+  v ← (d env).value
+  local_value at xs ds (bind x.word v env)
+local_value at _ _ env = misshapen at
 
 -- ----
 
@@ -132,8 +147,8 @@ abbrev pub first_arm : Bool → Place → List Denotation → Env → Outcome Va
 first_arm other at [] env = cond other (misshapen at) (Err (fault NoCase at))
 first_arm other at (a ∷ []) env = cond other (a env).value (misshapen at)
 first_arm other at (p ∷ a ∷ ds) env = do
-    first ← test at p env
-    cond first (a env).value (first_arm other at ds env)
+  first ← test at p env
+  cond first (a env).value (first_arm other at ds env)
 
 -- an operator that isn't defined
 abbrev pub called : Place → Option (Place → List Value → Sense) → List Value → Sense
@@ -155,35 +170,32 @@ value_of c (string w) at ds env = Ok (text w)
 value_of c (literal b) at ds env = Ok (truth b)
 value_of c booleans at ds env = Ok (set (and (truth false) (and (truth true) no_values)))
 value_of c conjunction at ds env = do
-    (a, b) ← two_of at ds
-    p ← test at a env
-    q ← cond p (test at b env) (Ok false)
-    Ok (truth q)
+  (a, b) ← two_of at ds
+  p ← test at a env
+  q ← cond p (test at b env) (Ok false)
+  Ok (truth q)
 value_of c disjunction at ds env = do
-    (a, b) ← two_of at ds
-    p ← test at a env
-    q ← cond p (Ok true) (test at b env)
-    Ok (truth q)
+  (a, b) ← two_of at ds
+  p ← test at a env
+  q ← cond p (Ok true) (test at b env)
+  Ok (truth q)
 value_of c implication at ds env = do
-    (a, b) ← two_of at ds
-    p ← test at a env
-    q ← cond p (test at b env) (Ok true)
-    Ok (truth q)
+  (a, b) ← two_of at ds
+  p ← test at a env
+  q ← cond p (test at b env) (Ok true)
+  Ok (truth q)
 value_of c (member sense) at ds env = do
-    (a, b) ← two_of at ds
-    v ← (a env).value
-    is_in ← (b env).test at v
-    Ok (truth (same_truth sense is_in))
+  (a, b) ← two_of at ds
+  v ← (a env).value
+  is_in ← (b env).test at v
+  Ok (truth (same_truth sense is_in))
 value_of c if_then_else at ds env = do
-    (p, a, b) ← three_of at ds
-    first ← test at p env
-    cond first (a env).value (b env).value
+  (p, a, b) ← three_of at ds
+  first ← test at p env
+  cond first (a env).value (b env).value
 value_of c (cases other) at ds env = first_arm other at ds env
-value_of c (binding b xs) at ds env = bound_value c b xs at ds env
-value_of c (local x) at ds env = do
-    (a, b) ← two_of at ds
-    v ← (a env).value
-    (b (bind x v env)).value
+value_of c (binding b groups) at ds env = bound_value c b groups at ds env
+value_of c (local xs) at ds env = local_value at xs ds env
 value_of c _ at ds env = misshapen at
 
 -- a form's meaning from those of its parts

@@ -27,8 +27,8 @@ without a b = kept (λ v. not (holds v b)) a
 -- the members of the members; each must be a set
 abbrev pub joined : Place → Values → Outcome (List Value)
 joined at vs = do
-    ss ← in_order (members_at at) (listed vs)
-    Ok (flat_map listed ss)
+  ss ← in_order (members_at at) (listed vs)
+  Ok (flat_map listed ss)
 
 -- SUBSET
 abbrev pub sublists : Values → List Values

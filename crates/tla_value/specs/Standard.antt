@@ -48,60 +48,60 @@ tailed c at (v ∷ vs) = c at (seq_from vs)
 -- s[i + m - 1], where `-` binds before `+`
 abbrev pub element : Check → Place → Value → ℤ → Value → Outcome Value
 element c at s m i = do
-    n ← int_at at i
-    _ ← c at (int (m -ℤ pos 1))
-    k ← c at (int (n +ℤ (m -ℤ pos 1)))
-    applied at s k
+  n ← int_at at i
+  _ ← c at (int (m -ℤ pos 1))
+  k ← c at (int (n +ℤ (m -ℤ pos 1)))
+  applied at s k
 
 -- [i \in 1..(n - m + 1) |-> s[i + m - 1]], with all that is reached in it
 abbrev pub part_between : Check → Place → Value → ℤ → ℤ → Outcome Value
 part_between c at s m n = do
-    _ ← c at (int (n -ℤ m))
-    _ ← c at (int ((n -ℤ m) +ℤ pos 1))
-    domain ← c at (set (range (pos 1) ((n -ℤ m) +ℤ pos 1)))
-    is ← members_at at domain
-    vs ← in_order (element c at s m) (listed is)
-    c at (fun is (values_in vs))
+  _ ← c at (int (n -ℤ m))
+  _ ← c at (int ((n -ℤ m) +ℤ pos 1))
+  domain ← c at (set (range (pos 1) ((n -ℤ m) +ℤ pos 1)))
+  is ← members_at at domain
+  vs ← in_order (element c at s m) (listed is)
+  c at (fun is (values_in vs))
 
 abbrev pub standard_value : Check → Standard → Place → List Value → Outcome Value
 standard_value c length_of at vs = do
-    s ← one_of at vs
-    es ← sequence_at at s
-    c at (int (pos (length es)))
+  s ← one_of at vs
+  es ← sequence_at at s
+  c at (int (pos (length es)))
 standard_value c appended at vs = do
-    (s, e) ← two_of at vs
-    es ← sequence_at at s
-    c at (seq_from (es ++ e ∷ []))
+  (s, e) ← two_of at vs
+  es ← sequence_at at s
+  c at (seq_from (es ++ e ∷ []))
 standard_value c first_of at vs = do
-    s ← one_of at vs
-    es ← sequence_at at s
-    headed at es
+  s ← one_of at vs
+  es ← sequence_at at s
+  headed at es
 standard_value c rest_of at vs = do
-    s ← one_of at vs
-    es ← sequence_at at s
-    tailed c at es
+  s ← one_of at vs
+  es ← sequence_at at s
+  tailed c at es
 standard_value c part_of at vs = do
-    (s, a, b) ← three_of at vs
-    _ ← sequence_at at s
-    m ← int_at at a
-    n ← int_at at b
-    part_between c at s m n
+  (s, a, b) ← three_of at vs
+  _ ← sequence_at at s
+  m ← int_at at a
+  n ← int_at at b
+  part_between c at s m n
 standard_value c sequences at vs = Err (fault NotSet at)
 standard_value c size_of at vs = do
-    a ← one_of at vs
-    ss ← members_at at a
-    c at (int (pos (count ss)))
+  a ← one_of at vs
+  ss ← members_at at a
+  c at (int (pos (count ss)))
 standard_value c is_finite at vs = do
-    a ← one_of at vs
-    _ ← members_at at a
-    Ok (truth true)
+  a ← one_of at vs
+  _ ← members_at at a
+  Ok (truth true)
 standard_value c printed at vs = do
-    v ← one_of at vs
-    Ok (truth true)
+  v ← one_of at vs
+  Ok (truth true)
 standard_value c asserted at vs = do
-    (v, m) ← two_of at vs
-    b ← truth_at at v
-    cond b (Ok (truth true)) (Err (fault AssertFailed at))
+  (v, m) ← two_of at vs
+  b ← truth_at at v
+  cond b (Ok (truth true)) (Err (fault AssertFailed at))
 
 abbrev pub each_in : List Value → Values → Bool
 each_in [] ws = true

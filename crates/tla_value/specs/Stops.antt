@@ -61,9 +61,9 @@ three_of at _ = misshapen at
 -- whether v is a member, at the place of the `\in`
 abbrev pub tested : Place → Value → Outcome Value → Outcome Bool
 tested p v o = do
-    s ← o
-    ws ← members_at p s
-    Ok (holds v ws)
+  s ← o
+  ws ← members_at p s
+  Ok (holds v ws)
 
 -- a set is tested by its members
 abbrev pub sense_of : Outcome Value → Sense

@@ -41,9 +41,9 @@ abbrev pub ◌>>=◌ : {X Y : Type 0} → Outcome X → (X → Outcome Y) → Ou
 abbrev pub in_order : {X Y : Type 0} → (X → Outcome Y) → List X → Outcome (List Y)
 in_order go [] = Ok []
 in_order go (x ∷ xs) = do
-    y ← go x
-    ys ← in_order go xs
-    Ok (y ∷ ys)
+  y ← go x
+  ys ← in_order go xs
+  Ok (y ∷ ys)
 
 -- stops at the first that isn't true
 abbrev pub and_then : Outcome Bool → Outcome Bool → Outcome Bool
