@@ -12,7 +12,7 @@ use Rattle.module_text.specs.Module.{Items, no_items, item}
 use Rattle.module_text.specs.Truth.{Verdict, as_truth, as_set, at_each, is_value, items_hold, some_branch}
 use Rattle.module_text.specs.Truth as Module
 use Rattle.pcal_tree.specs.Algorithm.{Assignments, Binds, no_binds, one_of, is, Statement, assign, await, print, assert, skip, branch, either, with, Statements, done, then, mark, Branches, no_branches, or}
-use Rattle.pcal_tree.specs.Scope.{State, Outcome, ◌>>=◌, Scope, bound, place_of}
+use Rattle.pcal_tree.specs.Scope.{State, Scope, bound, place_of}
 use Rattle.action_builder.specs.Action.{Names, member, more, mid, firsts, assigned, assigned_in, assigned_by, minus, all_same, and_then, hold, hold_some, holds, hold_sets, build, build_one, build_some, ended, value_for, Effects}
 use Rattle.action_builder.specs.Action as Action
 use Rattle.action_builder.specs.Effects.{parts_of, effect_of, effects_of, ways_of, nested}
@@ -46,7 +46,7 @@ match_filled s t e at (item x xs) v h = h
 pub match_unchanged : (vs all own : List Word) (s t : State) (e : Env) → Within all vs → Matches (items_hold plain (values_of vs s) (values_of vs t) e (unchanged_of (left_of vs all own))) (and_then (Ok (all_same (minus all own) s t)) (Ok true))
 match_unchanged vs all own s t e w = by (left_of vs all own) (unchanged_same vs all own s t w)
   where
-    by : (xs : List Word) → Module.all_same (values_of vs s) (values_of vs t) xs ≡ all_same (minus all own) s t → Matches (items_hold plain (values_of vs s) (values_of vs t) e (unchanged_of xs)) (and_then (Ok (all_same (minus all own) s t)) (Ok true))
+    by : (xs : List Word) → Module.are_unchanged (values_of vs s) (values_of vs t) xs ≡ all_same (minus all own) s t → Matches (items_hold plain (values_of vs s) (values_of vs t) e (unchanged_of xs)) (and_then (Ok (all_same (minus all own) s t)) (Ok true))
     by [] q = subst (λ b. Matches (Ok true) (and_then (Ok b) (Ok true))) q refl
     by (x ∷ xs) q = subst (λ b. Matches (Module.and_then (Ok b) (Ok true)) (and_then (Ok (all_same (minus all own) s t)) (Ok true))) (sym q) (match_true (Ok (all_same (minus all own) s t)) (Ok (all_same (minus all own) s t)) refl)
 

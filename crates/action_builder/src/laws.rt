@@ -24,7 +24,7 @@ ghost use Rattle.action_builder.specs.Step.{Step, IsPrepared, IsReady, items_of,
 ghost use Rattle.action_builder.specs.Settled.{Moving, settled, Callable, Tidy, CloseCourses, Does, Inner};
 ghost use Rattle.action_builder.specs.Written.{write, except_of};
 ghost use Rattle.action_builder.specs.Ready.{Readable, holds_on, unlimited, Ready};
-ghost use Rattle.pcal_tree.specs.Clean.{Any, Calls, Clean, FineCall, BareBodies};
+ghost use Rattle.pcal_tree.specs.laws.Expansion.{Any, Calls, Clean, FineCall, BareBodies};
 
 /// Where no run of the statements faults, their action is true of a pair of states exactly if some run
 /// has an end that agrees with the second state on what is assigned, else it is false. The action is here

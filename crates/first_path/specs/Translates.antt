@@ -1,6 +1,6 @@
 -- What it is for a text to be the translation of an algorithm: it reads as one module, whose Next and Init, where nothing faults, are true just of
 -- the algorithm's steps and initial states ("A PlusCal User's Manual", section 3; "Specifying Systems", sections 2.3 and 16).
-use Rattle.std.specs.Prelude.{◌≡◌, ◌⊎◌, ℕ, List, [], ◌∷◌, ◌++◌, Some, None, cond, codes, is_some, false}
+use Rattle.std.specs.Prelude.{◌≡◌, ◌⊎◌, ℕ, List, ◌∷◌, Some, None, cond, codes, is_some, false}
 use Rattle.std.specs.Bool.{IsTrue}
 use Rattle.tla_token.specs.declared.place.Place.{Place}
 use Rattle.tla_expr.specs.Tree.{Word, Each}
@@ -12,13 +12,16 @@ use Rattle.pcal_tree.specs.Algorithm.{Algorithm}
 use Rattle.pcal_tree.specs.Names.{naming}
 use Rattle.pcal_tree.specs.Scope.{State}
 use Rattle.pcal_tree.specs.Program.{Program}
-use Rattle.pcal_tree.specs.Step.{vars, Proper, Sound, Step, Stutters}
-use Rattle.pcal_tree.specs.Calls.{default}
+use Rattle.pcal_tree.specs.Step.{Step, Stutters}
+use Rattle.pcal_tree.specs.Calls.{defaultInitValue}
 use Rattle.pcal_tree.specs.InitialStates.{Initial, InitFault}
 use Rattle.module_text.specs.Module.{Module, words_of, found}
 use Rattle.module_text.specs.Around.{Around}
 use Rattle.module_text.specs.Reading.{Reads}
 use Rattle.module_text.specs.Truth.{TrueExactly, next_holds, init_holds}
+use Rattle.pcal_tree.specs.Variables.{vars}
+use Rattle.pcal_tree.specs.Processes.{Proper}
+use Rattle.pcal_tree.specs.Faults.{Sound}
 
 -- a state as the values of the variables of the translation
 abbrev pub on_variables : Program → State → Valuation
@@ -38,7 +41,7 @@ program g m values = record {
 
 -- a value for each constant that is read, for `defaultInitValue` the model value of that name, and for nothing else
 pub record AreConstants (m : Module) (values : Valuation) : Type 0 where
-  pub unset : values (codes "defaultInitValue") ≡ Some default
+  pub unset : values (codes "defaultInitValue") ≡ Some defaultInitValue
   pub given : Each (λ x. IsTrue (is_some (values x))) (words_of m.outside.constants)
   pub no_other : (x : Word) → has (codes "defaultInitValue" ∷ words_of m.outside.constants) x ≡ false → values x ≡ None
 

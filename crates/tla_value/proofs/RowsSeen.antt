@@ -2,7 +2,7 @@
 use Rattle.std.proofs.Common.{◌≡◌, refl, ℕ, pos, negsuc, true, false, List, [], ◌∷◌}
 use Rattle.std.specs.Prelude.{codes}
 use Rattle.tla_token.specs.Cut.{parts, pieces}
-use Rattle.tla_value.specs.Value.{Value, truth, int, text, model, set}
+use Rattle.tla_value.specs.Value.{truth, int, text, model, set}
 use Rattle.tla_value.specs.Order.{set_from, seq_from, fun_from, record_from}
 use Rattle.tla_value.specs.ValueText.{Mark, Spells, truth_word, digits, minus, quoted, named, braces, angles, fields, pairs, no_spellings, spelling, no_fields, field, no_pairs, pair}
 use Rattle.tla_value.specs.ValueSeen.{marks_of}
