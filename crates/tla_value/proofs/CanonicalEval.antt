@@ -7,7 +7,7 @@ use Rattle.tla_expr.specs.Tree.{Word, Name, Form, number, string, truth as liter
 use Rattle.tla_value.specs.Value.{Value, Values, truth, no_values, and, Outcome, Sense, values_in, ◌>>=◌, in_order}
 use Rattle.tla_value.specs.Order.{IsCanonical, AreCanonical, ArePairsCanonical}
 use Rattle.tla_value.specs.Stops.{Check, truth_at, members_at, one_of, two_of, three_of}
-use Rattle.tla_value.specs.Meaning.{Env, Denotation, bind, just, values_of, test, Row, with_first, at_members, at_group, at_choices, suited, at_body, key, is_true, where_true, results, table, gathered, sources, local_value, first_arm, called, meaning_of, eval, evals}
+use Rattle.tla_value.specs.Meaning.{Env, Denotation, bind, just, part_values, test, Row, with_first, at_members, at_group, at_choices, suited, at_body, key, is_true, where_true, results, table, gathered, sources, local_value, first_arm, called, meaning_of, eval, evals}
 use Rattle.tla_value.proofs.OrderFuns.{fun_from_canonical, seq_from_canonical}
 use Rattle.tla_value.proofs.Canonical.{Has, Proper, then_has, any_has, has_cond, EachList, IsSet, set_canonical}
 use Rattle.tla_value.proofs.CanonicalForms.{AreAll, sets_proper, Keeping, strict_proper}
@@ -36,10 +36,10 @@ sound_bind x v e c r = record {
   defs = r.defs;
 }
 
-sound_values : (ds : List Denotation) (e : Env) → SoundDens ds → Sound e → Has AreAll (values_of ds e)
+sound_values : (ds : List Denotation) (e : Env) → SoundDens ds → Sound e → Has AreAll (part_values ds e)
 sound_values [] e h r = tt
 sound_values (d ∷ ds) e h r =
-    then_has IsCanonical AreAll (d e).value _ (h.0 e r) (λ v c. then_has AreAll AreAll (values_of ds e) _ (sound_values ds e h.1 r) (λ vs cs. (c, cs)))
+    then_has IsCanonical AreAll (d e).value _ (h.0 e r) (λ v c. then_has AreAll AreAll (part_values ds e) _ (sound_values ds e h.1 r) (λ vs cs. (c, cs)))
 
 abbrev SoundTwo : Denotation × Denotation → Type 0
 SoundTwo ab = SoundDen ab.0 × SoundDen ab.1
@@ -164,8 +164,8 @@ sound_form c l booleans at ds h e r = ((refl, (tt, tt)), (tt, (tt, tt)))
 sound_form c l strings at ds h e r = tt
 sound_form c l (name x) at ds h e r = r.now x at
 sound_form c l (next x) at ds h e r = r.primed x at
-sound_form c l (strict o) at ds h e r = then_has AreAll IsCanonical (values_of ds e) _ (sound_values ds e h r) (strict_proper c l o at)
-sound_form c l (operator_call g) at ds h e r = then_has AreAll IsCanonical (values_of ds e) _ (sound_values ds e h r) (r.defs g at)
+sound_form c l (strict o) at ds h e r = then_has AreAll IsCanonical (part_values ds e) _ (sound_values ds e h r) (strict_proper c l o at)
+sound_form c l (operator_call g) at ds h e r = then_has AreAll IsCanonical (part_values ds e) _ (sound_values ds e h r) (r.defs g at)
 sound_form c l conjunction at ds h e r = any_has IsCanonical (two_of at ds) _ (λ (a, b). any_has IsCanonical (test at a e) _ (λ p. any_has IsCanonical (cond p (test at b e) (Ok false)) _ (λ q. tt)))
 sound_form c l disjunction at ds h e r = any_has IsCanonical (two_of at ds) _ (λ (a, b). any_has IsCanonical (test at a e) _ (λ p. any_has IsCanonical (cond p (Ok true) (test at b e)) _ (λ q. tt)))
 sound_form c l implication at ds h e r = any_has IsCanonical (two_of at ds) _ (λ (a, b). any_has IsCanonical (test at a e) _ (λ p. any_has IsCanonical (cond p (test at b e) (Ok true)) _ (λ q. tt)))

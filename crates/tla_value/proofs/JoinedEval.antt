@@ -8,7 +8,7 @@ use Rattle.tla_expr.specs.Tree.{Word, Name, words, Strict, Form, number, string,
 use Rattle.tla_value.specs.declared.fault.FaultKind.TheVariants.{NotSet, NotFunction, NoCase}
 use Rattle.tla_value.specs.Value.{Value, Values, truth, set, no_values, and, Outcome, Sense, ◌>>=◌, in_order}
 use Rattle.tla_value.specs.Stops.{Check, truth_at, members_at, one_of, tested, sense_of}
-use Rattle.tla_value.specs.Meaning.{Env, Denotation, bind, values_of, test, Row, with_first, at_members, at_group, at_choices, suited, at_body, gathered, sources, local_value, first_arm, called, only_tested, is_text, meaning_of, eval, evals}
+use Rattle.tla_value.specs.Meaning.{Env, Denotation, bind, part_values, test, Row, with_first, at_members, at_group, at_choices, suited, at_body, gathered, sources, local_value, first_arm, called, only_tested, is_text, meaning_of, eval, evals}
 use Rattle.tla_value.specs.Related.{Bound, Rel}
 use Rattle.tla_value.proofs.Joined.{Kin, Joined, Same, then_joined, then_same, same_cond, Both, Pairs, Triples, none, one, order_both, order_same, joined_one, joined_two, joined_three, ones, truths, sets, tests, FormsJoin, form, Checks, strict_values, strict_tests}
 
@@ -58,7 +58,7 @@ each_front P [] ys h = (tt, h)
 each_front P (x ∷ xs) ys h = let k = each_front P xs ys h.1 in ((h.0, k.0), k.1)
 
 module _ (K : Kin) (R : Rel) where
-  pub parts_both : (ds es : List Denotation) (e f : Env) → Both (Dens K R) ds es → R e f → Same K (values_of ds e) (values_of es f)
+  pub parts_both : (ds es : List Denotation) (e f : Env) → Both (Dens K R) ds es → R e f → Same K (part_values ds e) (part_values es f)
   parts_both ds es e f ps r = order_both K (Dens K R) ds es _ _ ps (λ a b h. (h e f r).value)
 
   test_both : (p q : Place) → K.place p q → (a b : Denotation) (e f : Env) → Dens K R a b → R e f → Same K (test p a e) (test q b f)

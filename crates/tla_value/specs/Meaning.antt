@@ -27,8 +27,8 @@ abbrev pub bind : Word → Value → Env → Env
 bind x v env = record env { now = λ y at. cond (bytes_eq x y) (just v) (env.now y at) }
 
 -- the values of all parts
-abbrev pub values_of : List Denotation → Env → Outcome (List Value)
-values_of ds env = in_order (λ d. (d env).value) ds
+abbrev pub part_values : List Denotation → Env → Outcome (List Value)
+part_values ds env = in_order (λ d. (d env).value) ds
 
 -- a part that is a truth value
 abbrev pub test : Place → Denotation → Env → Outcome Bool
@@ -204,12 +204,12 @@ meaning_of c (name x) at ds env = env.now x at
 meaning_of c (next x) at ds env = env.primed x at
 meaning_of c strings at ds env = only_tested at is_text
 meaning_of c (strict o) at ds env = record {
-  value = values_of ds env >>= strict_value c o at;
-  test = λ p v. values_of ds env >>= strict_test c o at p v;
+  value = part_values ds env >>= strict_value c o at;
+  test = λ p v. part_values ds env >>= strict_test c o at p v;
 }
 meaning_of c (operator_call f) at ds env = record {
-  value = (do vs ← values_of ds env; (called at (env.defs f) vs).value);
-  test = λ p v. (do vs ← values_of ds env; (called at (env.defs f) vs).test p v);
+  value = (do vs ← part_values ds env; (called at (env.defs f) vs).value);
+  test = λ p v. (do vs ← part_values ds env; (called at (env.defs f) vs).test p v);
 }
 meaning_of c m at ds env = sense_of (value_of c m at ds env)
 
