@@ -13,7 +13,7 @@ use Rattle.tla_value.specs.Related.{In}
 use Rattle.tla_value.proofs.Graft.{every_weaker}
 use Rattle.tla_value.proofs.Primes.{Between, Unprimed, unprimed_law}
 use Rattle.tla_value.proofs.Primes as Primes
-use Rattle.module_text.specs.Truth.{Verdict, as_truth, as_set, at_each, is_value, same_look, items_hold, item_holds, some_branch}
+use Rattle.module_text.specs.Truth.{Verdict, as_truth, as_set, at_each, is_value, is_unchanged, items_hold, item_holds, some_branch}
 use Rattle.module_text.specs.Truth as Module
 use Rattle.pcal_tree.specs.Algorithm.{Assignments, no_assignments, assignment}
 use Rattle.pcal_tree.specs.Scope.{State, Outcome, fault, ◌>>=◌, Scope, bound, root_place, truth_at, members_at}
@@ -232,10 +232,10 @@ bool_alike true b f g = sym (f refl)
 bool_alike false true f g = g refl
 bool_alike false false f g = refl
 
-look_same : (vs xs : List Word) (s t : State) → ((x : Word) → member xs x ≡ true → member vs x ≡ true) → Module.all_same (values_of vs s) (values_of vs t) xs ≡ all_same xs s t
+look_same : (vs xs : List Word) (s t : State) → ((x : Word) → member xs x ≡ true → member vs x ≡ true) → Module.are_unchanged (values_of vs s) (values_of vs t) xs ≡ all_same xs s t
 look_same vs [] s t h = refl
 look_same vs (x ∷ xs) s t h =
-    (λ i. same_look (cond (h x here i) (Some (s x)) None) (cond (h x here i) (Some (t x)) None) && Module.all_same (values_of vs s) (values_of vs t) xs)
+    (λ i. is_unchanged (cond (h x here i) (Some (s x)) None) (cond (h x here i) (Some (t x)) None) && Module.are_unchanged (values_of vs s) (values_of vs t) xs)
     ∙ (λ i. same (t x) (s x) && look_same vs xs s t (λ y m. h y (or_right (bytes_eq x y) (member xs y) m)) i)
   where
     here : (bytes_eq x x || member xs x) ≡ true
@@ -279,7 +279,7 @@ same_left (v ∷ vs) all own s t h = by (same_left vs all own s t h) (member all
         (λ i. eq-value (t v) (s v) (h v k.0 k.1) i && all_same (left_of vs all own) s t) ∙ ih
     by ih false p = ih
 
-pub unchanged_same : (vs all own : List Word) (s t : State) → Within all vs → Module.all_same (values_of vs s) (values_of vs t) (left_of vs all own) ≡ all_same (minus all own) s t
+pub unchanged_same : (vs all own : List Word) (s t : State) → Within all vs → Module.are_unchanged (values_of vs s) (values_of vs t) (left_of vs all own) ≡ all_same (minus all own) s t
 unchanged_same vs all own s t w =
     look_same vs (left_of vs all own) s t (kept_in vs all own)
     ∙ bool_alike _ _

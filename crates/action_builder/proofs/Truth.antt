@@ -46,7 +46,7 @@ match_filled s t e at (item x xs) v h = h
 pub match_unchanged : (vs all own : List Word) (s t : State) (e : Env) → Within all vs → Matches (items_hold plain (values_of vs s) (values_of vs t) e (unchanged_of (left_of vs all own))) (and_then (Ok (all_same (minus all own) s t)) (Ok true))
 match_unchanged vs all own s t e w = by (left_of vs all own) (unchanged_same vs all own s t w)
   where
-    by : (xs : List Word) → Module.all_same (values_of vs s) (values_of vs t) xs ≡ all_same (minus all own) s t → Matches (items_hold plain (values_of vs s) (values_of vs t) e (unchanged_of xs)) (and_then (Ok (all_same (minus all own) s t)) (Ok true))
+    by : (xs : List Word) → Module.are_unchanged (values_of vs s) (values_of vs t) xs ≡ all_same (minus all own) s t → Matches (items_hold plain (values_of vs s) (values_of vs t) e (unchanged_of xs)) (and_then (Ok (all_same (minus all own) s t)) (Ok true))
     by [] q = subst (λ b. Matches (Ok true) (and_then (Ok b) (Ok true))) q refl
     by (x ∷ xs) q = subst (λ b. Matches (Module.and_then (Ok b) (Ok true)) (and_then (Ok (all_same (minus all own) s t)) (Ok true))) (sym q) (match_true (Ok (all_same (minus all own) s t)) (Ok (all_same (minus all own) s t)) refl)
 

@@ -1,6 +1,6 @@
 -- What it is for a text to be the translation of an algorithm: it reads as one module, whose Next and Init, where nothing faults, are true just of
 -- the algorithm's steps and initial states ("A PlusCal User's Manual", section 3; "Specifying Systems", sections 2.3 and 16).
-use Rattle.std.specs.Prelude.{◌≡◌, ◌⊎◌, ℕ, List, [], ◌∷◌, ◌++◌, Some, None, cond, codes, is_some, false}
+use Rattle.std.specs.Prelude.{◌≡◌, ◌⊎◌, ℕ, List, ◌∷◌, Some, None, cond, codes, is_some, false}
 use Rattle.std.specs.Bool.{IsTrue}
 use Rattle.tla_token.specs.declared.place.Place.{Place}
 use Rattle.tla_expr.specs.Tree.{Word, Each}

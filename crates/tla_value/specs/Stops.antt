@@ -2,7 +2,7 @@
 use Rattle.std.specs.Prelude.{ℤ, Bool, List, [], ◌∷◌, Option, Some, None, Ok, Err}
 use Rattle.tla_token.specs.declared.place.Place.{Place}
 use Rattle.tla_value.specs.declared.fault.FaultKind.TheVariants.{NotBoolean, NotInteger, NotSet, NotFunction, NotSequence}
-use Rattle.tla_value.specs.Value.{◌>>=◌, Value, Values, truth, int, set, fun, Outcome, fault, over, Sense}
+use Rattle.tla_value.specs.Value.{◌>>=◌, Value, Values, truth, int, set, fun, Outcome, fault, Sense}
 use Rattle.tla_value.specs.Order.{holds, sequence_of}
 
 -- what becomes of a value that is reached at a place: itself, or past the limits
