@@ -5,7 +5,7 @@ use Rattle.tla_token.specs.Lexemes.{Kind, IsLexeme}
 use Rattle.tla_token.specs.Lexemes as lexeme
 use Rattle.tla_token.specs.Tokens as text_piece
 use Rattle.tla_token.specs.Cut.{parts, pieces}
-use Rattle.tla_value.specs.Value.{truth, int, text, model, set}
+use Rattle.tla_value.specs.Value.{Value, truth, int, text, model, set}
 use Rattle.tla_value.specs.Order.{set_from, seq_from, fun_from, record_from}
 use Rattle.tla_value.specs.Limits.{fits_int, deepest}
 use Rattle.tla_value.specs.ValueText.{Mark, word, number, sign, Spells, IsWithin, AreWithinFields, marks, field_marks, Spelling, Fields, truth_word, digits, minus, quoted, named, braces, angles, fields, pairs, no_spellings, spelling, no_fields, field, no_pairs, pair}
