@@ -1,7 +1,7 @@
 -- The laws of the written action, for statements and their runs.
 use Rattle.std.proofs.Common.{◌≡◌, Bool, true, false, ◌↔◌, refl, sym, ◌∙◌, ap, subst, Ok, Err}
 use Rattle.pcal_tree.specs.Algorithm.{Statements}
-use Rattle.pcal_tree.specs.Scope.{State, Trouble, Outcome, Scope}
+use Rattle.pcal_tree.specs.Scope.{State, Scope}
 use Rattle.pcal_tree.specs.Run.{Rules, unlabelled}
 use Rattle.action_builder.specs.Action.{Names, more, mid, assigned_in, Run, IsBad, NotFalse, Agree}
 use Rattle.action_builder.specs.Effects.{Named, Settled, effects_of}
@@ -11,6 +11,7 @@ use Rattle.action_builder.proofs.Denotations.{alone, run}
 use Rattle.action_builder.proofs.Main.{true_all}
 use Rattle.action_builder.proofs.Converse.{fits_all, bad_all, fitting_end}
 use Rattle.action_builder.proofs.Faults.{mid_agree, local_all, fault_all}
+use Rattle.tla_value.specs.Value.{Trouble, Outcome}
 
 -- with nothing behind, the outcomes of the statements are those of their effects
 pub runs_law : (M : Rules) (A : Names) (ss : Statements) (sc : Scope) (s t : State) (r : Outcome State) → Settled ss → Named sc → Runs M A ss sc s t r ↔ Run (effects_of M.check ss) sc (mid s t A) r

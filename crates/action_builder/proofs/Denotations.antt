@@ -3,13 +3,13 @@ use Rattle.std.proofs.Common.{◌≡◌, List, [], ◌∷◌, ◌++◌, Bool, tr
 use Rattle.tla_token.specs.declared.place.Place.{Place}
 use Rattle.tla_expr.specs.Tree.{Word, apply, select, name, strict, Tree, node, Trees, no_trees, tree}
 use Rattle.tla_value.specs.declared.fault.FaultKind.TheVariants.{AssertFailed}
-use Rattle.tla_value.specs.Value.{Value, text, Values, no_values, and, Outcome, fault, over}
+use Rattle.tla_value.specs.Value.{Value, text, Values, no_values, and, Outcome, fault, over, Trouble, ◌>>=◌}
 use Rattle.tla_value.specs.Stops.{Check}
 use Rattle.tla_value.specs.Strict.{changed_at}
 use Rattle.tla_value.specs.Meaning.{Env, Denotation, evals}
 use Rattle.pcal_tree.specs.Algorithm.{Assignments, no_assignments, assignment, Binds, no_binds, one_of, is, Statement, Statements, Branches, no_branches, or}
 use Rattle.pcal_tree.specs.Algorithm as Source
-use Rattle.pcal_tree.specs.Scope.{State, put, Outcome, Trouble, fault, ◌>>=◌, all_valued, Part, deeper, Scope, bound, reach, reach_path, root_place, value_of, test, members}
+use Rattle.pcal_tree.specs.Scope.{State, put, all_valued, Part, deeper, Scope, bound, reach, reach_path, root_place, value_of, test, members}
 use Rattle.pcal_tree.specs.Assign.{Setting, set_all, settings}
 use Rattle.pcal_tree.specs.Assign as Assign
 use Rattle.pcal_tree.specs.Run.{Course, chooses, Has, HasSome, after, at_each, held, stops, Follow, Rules, unlabelled, run_binds, label_of}
@@ -29,11 +29,10 @@ on_valued (Ok v) go f = refl
 on_valued (Err (fault k p)) go f = refl
 on_valued (Err (over p)) go f = refl
 
-pub on_all_valued : {X Y : Type 0} (ds : List Denotation) (env : Env) (go : List Value → Outcome X) (f : X → Outcome Y) → (all_valued ds env go) >>= f ≡ all_valued ds env (λ vs. (go vs) >>= f)
-on_all_valued [] env go f = refl
-on_all_valued (d ∷ ds) env go f =
-    on_valued (d env).value (λ v. all_valued ds env (λ vs. go (v ∷ vs))) f
-    ∙ (λ i. (d env).value >>= (λ v. on_all_valued ds env (λ vs. go (v ∷ vs)) f i))
+-- two results, and then what is made of both
+pub on_both : {X Y Z W : Type 0} (o : Outcome X) (p : X → Outcome Y) (f : X → Y → Z) (go : Z → Outcome W) → (o >>= (λ x. (p x) >>= (λ y. Ok (f x y)))) >>= go ≡ o >>= (λ x. (p x) >>= (λ y. go (f x y)))
+on_both (Ok x) p f go = on_twice (p x) (λ y. Ok (f x y)) go
+on_both (Err k) p f go = refl
 
 -- ---- assignments
 
@@ -50,12 +49,12 @@ mutual
   heads_path : (c : Check) (at : Place) (ts : Trees) → LeftFirst ts → (sc : Scope) → Named sc → (s : State) (go : Part → Outcome State) → (reach_path c at ts sc s) >>= go ≡ (reach_path c at ts sc s) >>= (λ p. go (part_at (head_first ts) p.path))
   heads_path c at no_trees h sc n s go = absurd h
   heads_path c at (tree f us) h sc n s go =
-      on_twice (reach c f sc s) (λ p. all_valued (evals c us) (sc.env s) (λ ks. Ok (deeper ks p))) go
-      ∙ heads c f h sc n s (λ p. (all_valued (evals c us) (sc.env s) (λ ks. Ok (deeper ks p))) >>= go)
-      ∙ (λ i. (reach c f sc s) >>= (λ p. (on_all_valued (evals c us) (sc.env s) (λ ks. Ok (part_at (head_of f) (p.path ++ ks))) go
-      ∙ sym (on_all_valued (evals c us) (sc.env s) (λ ks. Ok (part_at (head_of f) (p.path ++ ks))) (λ q. go (part_at (head_of f) q.path)))) i))
-      ∙ sym (heads c f h sc n s (λ p. (all_valued (evals c us) (sc.env s) (λ ks. Ok (deeper ks p))) >>= (λ q. go (part_at (head_of f) q.path))))
-      ∙ sym (on_twice (reach c f sc s) (λ p. all_valued (evals c us) (sc.env s) (λ ks. Ok (deeper ks p))) (λ q. go (part_at (head_of f) q.path)))
+      on_twice (reach c f sc s) (λ p. (all_valued (evals c us) (sc.env s)) >>= (λ ks. Ok (deeper ks p))) go
+      ∙ heads c f h sc n s (λ p. ((all_valued (evals c us) (sc.env s)) >>= (λ ks. Ok (deeper ks p))) >>= go)
+      ∙ (λ i. (reach c f sc s) >>= (λ p. (on_twice (all_valued (evals c us) (sc.env s)) (λ ks. Ok (part_at (head_of f) (p.path ++ ks))) go
+      ∙ sym (on_twice (all_valued (evals c us) (sc.env s)) (λ ks. Ok (part_at (head_of f) (p.path ++ ks))) (λ q. go (part_at (head_of f) q.path)))) i))
+      ∙ sym (heads c f h sc n s (λ p. ((all_valued (evals c us) (sc.env s)) >>= (λ ks. Ok (deeper ks p))) >>= (λ q. go (part_at (head_of f) q.path))))
+      ∙ sym (on_twice (reach c f sc s) (λ p. (all_valued (evals c us) (sc.env s)) >>= (λ ks. Ok (deeper ks p))) (λ q. go (part_at (head_of f) q.path)))
 
 abbrev to_changes : Check → List Setting → Changes
 to_changes c [] = no_changes
@@ -64,10 +63,12 @@ to_changes c (m ∷ ms) = change m.part.variable (changing c m.place m.part.path
 abbrev setting_at : Place → Word → List Value → Value → Setting
 setting_at at x path v = record { place = at; part = part_at x path; value = v }
 
-settings_law : (c : Check) (ms : Assignments) → LeftMoves ms → (sc : Scope) → Named sc → (s : State) (go : List Setting → Outcome State) (go' : Changes → Outcome State) → ((all : List Setting) → go all ≡ go' (to_changes c all)) → settings c ms sc s go ≡ (evaluated (parts_of c ms) sc s) >>= go'
+settings_law : (c : Check) (ms : Assignments) → LeftMoves ms → (sc : Scope) → Named sc → (s : State) (go : List Setting → Outcome State) (go' : Changes → Outcome State) → ((all : List Setting) → go all ≡ go' (to_changes c all)) → (settings c ms sc s) >>= go ≡ (evaluated (parts_of c ms) sc s) >>= go'
 settings_law c no_assignments h sc n s go go' k = k []
 settings_law c (assignment l e ms) h sc n s go go' k =
-    heads c l h.0 sc n s (λ p. (value_of c e sc s) >>= (λ v. settings c ms sc s (λ rest. go (record { place = root_place l; part = p; value = v } ∷ rest))))
+    on_twice (reach c l sc s) (λ p. (value_of c e sc s) >>= (λ v. (settings c ms sc s) >>= (λ rest. Ok (record { place = root_place l; part = p; value = v } ∷ rest)))) go
+    ∙ (λ i. (reach c l sc s) >>= (λ p. on_both (value_of c e sc s) (λ v. settings c ms sc s) (λ v rest. record { place = root_place l; part = p; value = v } ∷ rest) go i))
+    ∙ heads c l h.0 sc n s (λ p. (value_of c e sc s) >>= (λ v. (settings c ms sc s) >>= (λ rest. go (record { place = root_place l; part = p; value = v } ∷ rest))))
     ∙ (λ i. (reach c l sc s) >>= (λ p. (value_of c e sc s) >>= (λ v.
     settings_law c ms h.1 sc n s (λ rest. go (setting_at (root_place l) (head_of l) p.path v ∷ rest)) (λ fs. go' (change (head_of l) (changing c (root_place l) p.path v) fs)) (λ all. k (setting_at (root_place l) (head_of l) p.path v ∷ all)) i)))
     ∙ sym (
@@ -79,9 +80,9 @@ settings_law c (assignment l e ms) h sc n s go go' k =
 set_law : (c : Check) (all : List Setting) (s : State) → set_all c all s ≡ applied (to_changes c all) s
 set_law c [] s = refl
 set_law c (m ∷ ms) s =
-    (λ i. (changed_at m.place m.part.path m.value (s m.part.variable)) >>= (λ w. (c m.place w) >>= (λ u. set_law c ms (put m.part.variable u s) i)))
-    ∙ (λ i. (changed_at m.place m.part.path m.value (s m.part.variable)) >>= (λ w. sym (on_valued (c m.place w) Ok (λ u. applied (to_changes c ms) (put m.part.variable u s))) i))
-    ∙ sym (on_valued (changed_at m.place m.part.path m.value (s m.part.variable)) (λ w. (c m.place w) >>= Ok) (λ u. applied (to_changes c ms) (put m.part.variable u s)))
+    on_both (changed_at m.place m.part.path m.value (s m.part.variable)) (c m.place) (λ w u. put m.part.variable u s) (set_all c ms)
+    ∙ (λ i. (changed_at m.place m.part.path m.value (s m.part.variable)) >>= (λ w. (c m.place w) >>= (λ u. set_law c ms (put m.part.variable u s) i)))
+    ∙ sym (on_valued (changed_at m.place m.part.path m.value (s m.part.variable)) (c m.place) (λ u. applied (to_changes c ms) (put m.part.variable u s)))
 
 pub moved_law : (c : Check) (ms : Assignments) → LeftMoves ms → (sc : Scope) → Named sc → (s : State) → Assign.moved c ms sc s ≡ moved (parts_of c ms) sc s
 moved_law c ms h sc n s = settings_law c ms h sc n s (λ all. set_all c all s) (λ fs. applied fs s) (λ all. set_law c all s)

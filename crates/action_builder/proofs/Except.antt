@@ -7,11 +7,12 @@ use Rattle.tla_value.specs.Stops.{Check, plain}
 use Rattle.tla_value.specs.Strict.{changed_at, next_slot, updated}
 use Rattle.tla_value.specs.Meaning.{Env, just, on_all, eval, evals}
 use Rattle.pcal_tree.specs.Algorithm.{nowhere, Assignments, no_assignments, assignment}
-use Rattle.pcal_tree.specs.Scope.{State, Outcome, ◌>>=◌, all_valued, Part, deeper, Scope, reach, reach_path, root_place, value_of}
+use Rattle.pcal_tree.specs.Scope.{State, all_valued, Part, deeper, Scope, reach, reach_path, root_place, value_of}
 use Rattle.action_builder.specs.Action.{all_changes, Change, Parts, no_parts, part, changes_for, folded, value_for}
 use Rattle.action_builder.specs.Effects.{head_of, head_first, changing, part_of, parts_of, part_at, IsPlain as Plain, IsLeft, LeftFirst, LeftMoves}
 use Rattle.action_builder.specs.Written.{Key, sub, fixed, subs, keys_of, keys_first, steps_of, subscripts, own, slots_of, slot_trees, except_of, is_whole, side_of}
-use Rattle.action_builder.proofs.Denotations.{on_twice, on_valued, on_all_valued}
+use Rattle.tla_value.proofs.Outcomes.{then_ok}
+use Rattle.action_builder.proofs.Denotations.{on_twice, on_both}
 
 -- ---- left sides
 
@@ -26,9 +27,11 @@ keys_append c [] js env go = refl
 keys_append c (sub t ∷ ks) js env go = λ i. (eval c t env).value >>= (λ v. keys_append c ks js env (λ vs. go (v ∷ vs)) i)
 keys_append c (fixed a ∷ ks) js env go = keys_append c ks js env (λ vs. go (text a ∷ vs))
 
-subs_law : {X : Type 0} (c : Check) (ts : Trees) (env : Env) (go : List Value → Outcome X) → all_valued (evals c ts) env go ≡ on_keys c (subs ts) env go
+subs_law : {X : Type 0} (c : Check) (ts : Trees) (env : Env) (go : List Value → Outcome X) → (all_valued (evals c ts) env) >>= go ≡ on_keys c (subs ts) env go
 subs_law c no_trees env go = refl
-subs_law c (tree t ts) env go = λ i. (eval c t env).value >>= (λ v. subs_law c ts env (λ vs. go (v ∷ vs)) i)
+subs_law c (tree t ts) env go =
+    on_both (eval c t env).value (λ v. all_valued (evals c ts) env) (λ v vs. v ∷ vs) go
+    ∙ (λ i. (eval c t env).value >>= (λ v. subs_law c ts env (λ vs. go (v ∷ vs)) i))
 
 mutual
   pub plain_reach : {X : Type 0} (c : Check) (l : Tree) → IsLeft l → (sc : Scope) → Plain sc → (s : State) (go : Part → Outcome X) → (reach c l sc s) >>= go ≡ on_keys c (keys_of l) (sc.env s) (λ ks. go (part_at (head_of l) ks))
@@ -43,27 +46,20 @@ mutual
   plain_path : {X : Type 0} (c : Check) (at : Place) (ts : Trees) → LeftFirst ts → (sc : Scope) → Plain sc → (s : State) (go : Part → Outcome X) → (reach_path c at ts sc s) >>= go ≡ on_keys c (keys_first ts) (sc.env s) (λ ks. go (part_at (head_first ts) ks))
   plain_path c at no_trees h sc n s go = absurd h
   plain_path c at (tree f us) h sc n s go =
-      on_twice (reach c f sc s) (λ p. all_valued (evals c us) (sc.env s) (λ ks. Ok (deeper ks p))) go
-      ∙ plain_reach c f h sc n s (λ p. (all_valued (evals c us) (sc.env s) (λ ks. Ok (deeper ks p))) >>= go)
-      ∙ (λ i. on_keys c (keys_of f) (sc.env s) (λ js. on_all_valued (evals c us) (sc.env s) (λ ks. Ok (part_at (head_of f) (js ++ ks))) go i))
+      on_twice (reach c f sc s) (λ p. (all_valued (evals c us) (sc.env s)) >>= (λ ks. Ok (deeper ks p))) go
+      ∙ plain_reach c f h sc n s (λ p. ((all_valued (evals c us) (sc.env s)) >>= (λ ks. Ok (deeper ks p))) >>= go)
+      ∙ (λ i. on_keys c (keys_of f) (sc.env s) (λ js. on_twice (all_valued (evals c us) (sc.env s)) (λ ks. Ok (part_at (head_of f) (js ++ ks))) go i))
       ∙ (λ i. on_keys c (keys_of f) (sc.env s) (λ js. subs_law c us (sc.env s) (λ ks. go (part_at (head_of f) (js ++ ks))) i))
       ∙ sym (keys_append c (keys_of f) (subs us) (sc.env s) (λ ks. go (part_at (head_of f) ks)))
 
 -- ---- slots
 
-valued_on : {X : Type 0} (o : Outcome Value) (f : Value → Outcome Value) (go : Value → Outcome X) → (o >>= f) >>= go ≡ o >>= (λ v. (f v) >>= go)
-valued_on (Ok v) f go = refl
-valued_on (Err (fault k p)) f go = refl
-valued_on (Err (over p)) f go = refl
-
 -- one slot takes the values of its keys and its right side; o is the value so far
 slot_law : (c : Check) (at : Place) (ks : List Key) (e : Tree) (more : Trees) (env : Env) (o : Outcome Value) (go : Value → List Value → Value → List Value → Outcome Value) →
-    (on_all (evals c (subscripts ks (tree e more))) env (λ vs. o >>= (λ old. next_slot at (steps_of ks) vs (go old)))) >>= Ok
-    ≡ on_keys c ks env (λ path. (eval c e env).value >>= (λ v. (on_all (evals c more) env (λ ws. o >>= (λ old. go old path v ws))) >>= Ok))
-slot_law c at [] e more env o go = valued_on (eval c e env).value (λ v. on_all (evals c more) env (λ ws. o >>= (λ old. go old [] v ws))) Ok
-slot_law c at (sub t ∷ ks) e more env o go =
-    valued_on (eval c t env).value (λ k. on_all (evals c (subscripts ks (tree e more))) env (λ vs. o >>= (λ old. next_slot at (steps_of ks) vs (λ path v rest. go old (k ∷ path) v rest)))) Ok
-    ∙ (λ i. (eval c t env).value >>= (λ k. slot_law c at ks e more env o (λ old path v rest. go old (k ∷ path) v rest) i))
+    on_all (evals c (subscripts ks (tree e more))) env (λ vs. o >>= (λ old. next_slot at (steps_of ks) vs (go old)))
+    ≡ on_keys c ks env (λ path. (eval c e env).value >>= (λ v. on_all (evals c more) env (λ ws. o >>= (λ old. go old path v ws))))
+slot_law c at [] e more env o go = refl
+slot_law c at (sub t ∷ ks) e more env o go = λ i. (eval c t env).value >>= (λ k. slot_law c at ks e more env o (λ old path v rest. go old (k ∷ path) v rest) i)
 slot_law c at (fixed a ∷ ks) e more env o go = slot_law c at ks e more env o (λ old path v rest. go old (text a ∷ path) v rest)
 
 -- the value after one more slot
@@ -80,11 +76,6 @@ slot_then c at path v o g =
     (λ i. o >>= (λ old. value_twice (changed_at at path v old) (c at) g i))
     ∙ value_twice o (λ old. (changed_at at path v old) >>= (c at)) g
 
-slot_change : (c : Check) (at : Place) (path : List Value) (v : Value) (o : Outcome Value) → (after_slot c at path v o) >>= Ok ≡ (o >>= Ok) >>= (changing c at path v)
-slot_change c at path v (Ok old) = valued_on (changed_at at path v old) (c at) Ok
-slot_change c at path v (Err (fault k p)) = refl
-slot_change c at path v (Err (over p)) = refl
-
 -- the first part, and then the others
 first_change : (c : Check) (l e : Tree) → IsLeft l → (ps : Parts) (sc : Scope) → Plain sc → (s : State) (G : List Change → Outcome Value) →
     (all_changes (part (head_of l) (part_of c l e) ps) sc s) >>= G ≡ on_keys c (keys_of l) (sc.env s) (λ path. (value_of c e sc s) >>= (λ v. (all_changes ps sc s) >>= (λ fs. G (changing c (root_place l) path v ∷ fs))))
@@ -95,27 +86,20 @@ first_change c l e h ps sc n s G =
     ∙ (λ i. (reach c l sc s) >>= (λ p. on_twice (value_of c e sc s) (λ v. Ok (changing c (root_place l) p.path v)) (λ f. (all_changes ps sc s) >>= (λ fs. G (f ∷ fs))) i))
     ∙ plain_reach c l h sc n s (λ p. (value_of c e sc s) >>= (λ v. (all_changes ps sc s) >>= (λ fs. G (changing c (root_place l) p.path v ∷ fs))))
 
-last_slot : (o : Outcome Value) → (o >>= (λ old. Ok old)) >>= Ok ≡ (o >>= Ok) >>= Ok
-last_slot (Ok v) = refl
-last_slot (Err (fault k p)) = refl
-last_slot (Err (over p)) = refl
-
 slots_law : (c : Check) (ms : Assignments) → LeftMoves ms → (sc : Scope) → Plain sc → (s : State) (o : Outcome Value) →
-    (on_all (evals c (slot_trees ms)) (sc.env s) (λ vs. o >>= (updated c (slots_of ms) vs))) >>= Ok ≡ (all_changes (parts_of c ms) sc s) >>= (λ fs. (o >>= Ok) >>= (folded fs))
-slots_law c no_assignments h sc n s o = last_slot o
+    on_all (evals c (slot_trees ms)) (sc.env s) (λ vs. o >>= (updated c (slots_of ms) vs)) ≡ (all_changes (parts_of c ms) sc s) >>= (λ fs. o >>= (folded fs))
+slots_law c no_assignments h sc n s o = refl
 slots_law c (assignment l e ms) h sc n s o =
     slot_law c (root_place l) (keys_of l) e (slot_trees ms) (sc.env s) o (λ old path v rest. (changed_at (root_place l) path v old) >>= (λ new. (c (root_place l) new) >>= (updated c (slots_of ms) rest)))
-    ∙ (λ i. on_keys c (keys_of l) (sc.env s) (λ path. (eval c e (sc.env s)).value >>= (λ v. (on_all (evals c (slot_trees ms)) (sc.env s) (λ ws. slot_then c (root_place l) path v o (updated c (slots_of ms) ws) i)) >>= Ok)))
+    ∙ (λ i. on_keys c (keys_of l) (sc.env s) (λ path. (eval c e (sc.env s)).value >>= (λ v. on_all (evals c (slot_trees ms)) (sc.env s) (λ ws. slot_then c (root_place l) path v o (updated c (slots_of ms) ws) i))))
     ∙ (λ i. on_keys c (keys_of l) (sc.env s) (λ path. (eval c e (sc.env s)).value >>= (λ v. slots_law c ms h.1 sc n s (after_slot c (root_place l) path v o) i)))
-    ∙ (λ i. on_keys c (keys_of l) (sc.env s) (λ path. (eval c e (sc.env s)).value >>= (λ v. (all_changes (parts_of c ms) sc s) >>= (λ fs. (slot_change c (root_place l) path v o i) >>= (folded fs)))))
-    ∙ (λ i. on_keys c (keys_of l) (sc.env s) (λ path. (eval c e (sc.env s)).value >>= (λ v. (all_changes (parts_of c ms) sc s) >>= (λ fs. on_twice (o >>= Ok) (changing c (root_place l) path v) (folded fs) i))))
-    ∙ (λ i. on_keys c (keys_of l) (sc.env s) (λ path. sym (on_valued (eval c e (sc.env s)).value Ok (λ v. (all_changes (parts_of c ms) sc s) >>= (λ fs. (o >>= Ok) >>= (folded (changing c (root_place l) path v ∷ fs))))) i))
-    ∙ sym (first_change c l e h.0 (parts_of c ms) sc n s (λ fs. (o >>= Ok) >>= (folded fs)))
+    ∙ (λ i. on_keys c (keys_of l) (sc.env s) (λ path. (eval c e (sc.env s)).value >>= (λ v. (all_changes (parts_of c ms) sc s) >>= (λ fs. on_twice o (changing c (root_place l) path v) (folded fs) i))))
+    ∙ sym (first_change c l e h.0 (parts_of c ms) sc n s (λ fs. o >>= (folded fs)))
 
 -- the law of EXCEPT, within any limits
-pub except_law : (c : Check) (at : Place) (y : Word) (ms : Assignments) → LeftMoves ms → (sc : Scope) → Plain sc → (s : State) → (sc.env s).now y at ≡ just (s y) → (eval c (except_of at y ms) (sc.env s)).value >>= Ok ≡ (all_changes (parts_of c ms) sc s) >>= (λ fs. folded fs (s y))
+pub except_law : (c : Check) (at : Place) (y : Word) (ms : Assignments) → LeftMoves ms → (sc : Scope) → Plain sc → (s : State) → (sc.env s).now y at ≡ just (s y) → (eval c (except_of at y ms) (sc.env s)).value ≡ (all_changes (parts_of c ms) sc s) >>= (λ fs. folded fs (s y))
 except_law c at y ms h sc n s here =
-    (λ i. ((here i).value >>= (λ old. on_all (evals c (slot_trees ms)) (sc.env s) (λ vs. updated c (slots_of ms) vs old))) >>= Ok)
+    (λ i. (here i).value >>= (λ old. on_all (evals c (slot_trees ms)) (sc.env s) (λ vs. updated c (slots_of ms) vs old)))
     ∙ slots_law c ms h sc n s (Ok (s y))
 
 -- ---- the right side of a variable
@@ -136,27 +120,23 @@ own_law c y (assignment l e ms) sc s = by (own_law c y ms sc s) (bytes_eq (head_
     by ih true = λ i. (part_of c l e sc s) >>= (λ f. (ih i) >>= (λ fs. Ok (f ∷ fs)))
     by ih false = ih
 
-value_again : (o : Outcome Value) → o ≡ o >>= (λ v. (Ok v) >>= Ok)
-value_again (Ok v) = refl
-value_again (Err k) = refl
-
 whole_law : (l e : Tree) → IsLeft l → (sc : Scope) → Plain sc → (s : State) (y : Word) → keys_of l ≡ [] → value_of plain e sc s ≡ (all_changes (part (head_of l) (part_of plain l e) no_parts) sc s) >>= (λ fs. folded fs (s y))
 whole_law l e h sc n s y q =
-    value_again (value_of plain e sc s)
+    sym (then_ok (value_of plain e sc s))
     ∙ sym (first_change plain l e h no_parts sc n s (λ fs. folded fs (s y))
     ∙ (λ i. on_keys plain (q i) (sc.env s) (λ path. (value_of plain e sc s) >>= (λ v. (changing plain (root_place l) path v (s y)) >>= Ok))))
 
-side_law : (y : Word) (ms : Assignments) → LeftMoves ms → (sc : Scope) → Plain sc → (s : State) → ((at : Place) → (sc.env s).now y at ≡ just (s y)) → (eval plain (side_of y ms) (sc.env s)).value >>= Ok ≡ (all_changes (parts_of plain ms) sc s) >>= (λ fs. folded fs (s y))
-side_law y no_assignments h sc n s here = λ i. (here nowhere i).value >>= Ok
+side_law : (y : Word) (ms : Assignments) → LeftMoves ms → (sc : Scope) → Plain sc → (s : State) → ((at : Place) → (sc.env s).now y at ≡ just (s y)) → (eval plain (side_of y ms) (sc.env s)).value ≡ (all_changes (parts_of plain ms) sc s) >>= (λ fs. folded fs (s y))
+side_law y no_assignments h sc n s here = λ i. (here nowhere i).value
 side_law y (assignment l e ms) h sc n s here = by (keys_of l) refl ms h
   where
-    by : (ks : List Key) → keys_of l ≡ ks → (us : Assignments) → LeftMoves (assignment l e us) → (eval plain (cond (is_whole (keys_of l) us) e (except_of (root_place l) y (assignment l e us))) (sc.env s)).value >>= Ok ≡ (all_changes (parts_of plain (assignment l e us)) sc s) >>= (λ fs. folded fs (s y))
-    by [] q no_assignments k = (λ i. (eval plain (cond (is_whole (q i) no_assignments) e (except_of (root_place l) y (assignment l e no_assignments))) (sc.env s)).value >>= Ok) ∙ whole_law l e k.0 sc n s y q
-    by [] q (assignment m f us) k = (λ i. (eval plain (cond (is_whole (q i) (assignment m f us)) e (except_of (root_place l) y (assignment l e (assignment m f us)))) (sc.env s)).value >>= Ok) ∙ except_law plain (root_place l) y (assignment l e (assignment m f us)) k sc n s (here (root_place l))
-    by (x ∷ ks) q us k = (λ i. (eval plain (cond (is_whole (q i) us) e (except_of (root_place l) y (assignment l e us))) (sc.env s)).value >>= Ok) ∙ except_law plain (root_place l) y (assignment l e us) k sc n s (here (root_place l))
+    by : (ks : List Key) → keys_of l ≡ ks → (us : Assignments) → LeftMoves (assignment l e us) → (eval plain (cond (is_whole (keys_of l) us) e (except_of (root_place l) y (assignment l e us))) (sc.env s)).value ≡ (all_changes (parts_of plain (assignment l e us)) sc s) >>= (λ fs. folded fs (s y))
+    by [] q no_assignments k = (λ i. (eval plain (cond (is_whole (q i) no_assignments) e (except_of (root_place l) y (assignment l e no_assignments))) (sc.env s)).value) ∙ whole_law l e k.0 sc n s y q
+    by [] q (assignment m f us) k = (λ i. (eval plain (cond (is_whole (q i) (assignment m f us)) e (except_of (root_place l) y (assignment l e (assignment m f us)))) (sc.env s)).value) ∙ except_law plain (root_place l) y (assignment l e (assignment m f us)) k sc n s (here (root_place l))
+    by (x ∷ ks) q us k = (λ i. (eval plain (cond (is_whole (q i) us) e (except_of (root_place l) y (assignment l e us))) (sc.env s)).value) ∙ except_law plain (root_place l) y (assignment l e us) k sc n s (here (root_place l))
 
 -- the written right side has the value of the variable's assignments
-pub value_law : (y : Word) (ms : Assignments) → LeftMoves ms → (sc : Scope) → Plain sc → (s : State) → ((at : Place) → (sc.env s).now y at ≡ just (s y)) → (eval plain (side_of y (own y ms)) (sc.env s)).value >>= Ok ≡ value_for y (parts_of plain ms) sc s
+pub value_law : (y : Word) (ms : Assignments) → LeftMoves ms → (sc : Scope) → Plain sc → (s : State) → ((at : Place) → (sc.env s).now y at ≡ just (s y)) → (eval plain (side_of y (own y ms)) (sc.env s)).value ≡ value_for y (parts_of plain ms) sc s
 value_law y ms h sc n s here =
     side_law y (own y ms) (own_left y ms h) sc n s here
     ∙ (λ i. (sym (own_law plain y ms sc s) i) >>= (λ fs. folded fs (s y)))

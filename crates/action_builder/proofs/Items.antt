@@ -5,7 +5,7 @@ use Rattle.tla_value.specs.Stops.{plain}
 use Rattle.tla_value.specs.Meaning.{Env}
 use Rattle.module_text.specs.Truth.{Verdict, TrueExactly}
 use Rattle.pcal_tree.specs.Algorithm.{Statements}
-use Rattle.pcal_tree.specs.Scope.{State, Outcome, Scope}
+use Rattle.pcal_tree.specs.Scope.{State, Scope}
 use Rattle.pcal_tree.specs.Run.{Rules}
 use Rattle.action_builder.specs.Action.{Names, more, assigned_in, IsBad, NotFalse, Agree}
 use Rattle.action_builder.specs.Effects.{effects_of}
@@ -15,6 +15,7 @@ use Rattle.action_builder.specs.Written.{write}
 use Rattle.action_builder.specs.Ready.{Readable, Matches, holds_on, unlimited, Ready}
 use Rattle.action_builder.proofs.Contract.{true_fits, fits_true, true_exactly, bad_exactly, reads_assigned}
 use Rattle.action_builder.proofs.Truth.{match_all}
+use Rattle.tla_value.specs.Value.{Outcome}
 
 pub match_is : (p : Verdict) (b : Bool) → Matches p (Ok b) → p ≡ Ok b
 match_is (Ok a) b h = ap Ok h

@@ -9,7 +9,7 @@ use Rattle.tla_value.specs.Meaning.{just, eval}
 use Rattle.tla_value.specs.Grafts.{owned, own_part, read_tree}
 use Rattle.tla_value.specs.Related.{In}
 use Rattle.pcal_tree.specs.Algorithm.{Statements, Macro}
-use Rattle.pcal_tree.specs.Scope.{State, ◌>>=◌, all_valued, deeper, Scope, reach_in}
+use Rattle.pcal_tree.specs.Scope.{State, all_valued, deeper, Scope, reach_in}
 use Rattle.pcal_tree.specs.Program.{read_at}
 use Rattle.pcal_tree.specs.Run.{Has, Follow, Rules, unlabelled, run, with_macros, exit_to}
 use Rattle.pcal_tree.specs.Expand.{graft_all, expanded}
@@ -21,6 +21,7 @@ use Rattle.action_builder.specs.Settled.{Moving, settled, Callable, Tidy, Close,
 use Rattle.action_builder.specs.Moved.{StandsAtPath}
 use Rattle.action_builder.specs.Prepared.{prepared, Whole, own_scope, own_path}
 use Rattle.action_builder.proofs.Settle.{settle_in}
+use Rattle.tla_value.proofs.Outcomes.{then_then}
 use Rattle.pcal_tree.specs.Clean.{Any, Calls, Clean, FineCall, Free}
 
 whole_free : (self : Word) (v : Value) (sc : Scope) → Whole self v sc → Free sc
@@ -35,7 +36,8 @@ own_parts : (c : Check) (self : Word) (v : Value) (own : Word → Bool) (sc : Sc
 own_parts c self v own sc h x at s = by (own x)
   where
     by : (b : Bool) → reach_in c (cond b (Some (own_part self x at)) None) x at sc s ≡ Ok (part_at x (own_path b v))
-    by true = (λ i. (h.part x at s i) >>= (λ p. all_valued (eval c (node (name self) at no_trees) ∷ []) (sc.env s) (λ ks. Ok (deeper ks p))))
+    by true = (λ i. (h.part x at s i) >>= (λ p. (all_valued (eval c (node (name self) at no_trees) ∷ []) (sc.env s)) >>= (λ ks. Ok (deeper ks p))))
+        ∙ then_then ((sc.env s).now self at).value (λ k. Ok (k ∷ [])) (λ ks. Ok (deeper ks (part_at x [])))
         ∙ (λ i. (h.identity at s i).value >>= (λ k. Ok (deeper (k ∷ []) (part_at x []))))
     by false = h.part x at s
 

@@ -25,7 +25,7 @@ as_many_is (x ∷ xs) no_trees h = cc
 as_many_is (x ∷ xs) (tree t ts) h = as_many_is xs ts h
 
 call_does : (P : Program) (v : Actor) (u : Routine) (I : Written) (sc : Scope) → P.check ≡ plain → Machines P v u I sc → (at : Span) (p : Name) (ts : Trees) (l : Word) → (o : Option Routine) → named p.word (procedure_routines P.algorithm) ≡ o → fitting P o ts ≡ true → (s : State) →
-    Close (Has (run (base_rules P v u) unlabelled (call_to P I at ts (label_name P u l) o) sc to_end s)) (Has (after (all_valued (evals P.check ts) (sc.env s) Ok) (λ vs. entered_at P v at.first (label_value P u l) o (places_of ts sc) vs s)))
+    Close (Has (run (base_rules P v u) unlabelled (call_to P I at ts (label_name P u l) o) sc to_end s)) (Has (after (all_valued (evals P.check ts) (sc.env s)) (λ vs. entered_at P v at.first (label_value P u l) o (places_of ts sc) vs s)))
 call_does P v u I sc c k at p ts l None q h s = cc
 call_does P v u I sc c k at p ts l (Some x) q h s =
     call_law (base_rules P v u) P v x at.first ts (label_name P u l) (I.place x at.first) (I.initial x) sc refl c (k.called p.word x q) (as_many_is (written_all P x x.params) ts h) (k.initials p.word x q at.first) s

@@ -1,12 +1,12 @@
 -- The items written for a step are true of the step's ends, and fault as the step does.
 use Rattle.std.proofs.Common.{◌≡◌, List, [], Bool, true, ◌↔◌, Ok, Err}
 use Rattle.tla_expr.specs.Tree.{Word}
-use Rattle.tla_value.specs.Value.{Value}
+use Rattle.tla_value.specs.Value.{Value, Trouble, Outcome}
 use Rattle.tla_value.specs.Stops.{plain}
 use Rattle.tla_value.specs.Meaning.{Env}
 use Rattle.module_text.specs.Truth.{TrueExactly}
 use Rattle.pcal_tree.specs.Algorithm.{Statements, Macro}
-use Rattle.pcal_tree.specs.Scope.{State, Trouble, Outcome, Scope}
+use Rattle.pcal_tree.specs.Scope.{State, Scope}
 use Rattle.pcal_tree.specs.Run.{Has, Rules, unlabelled, run, with_macros}
 use Rattle.action_builder.specs.Action.{assigned_in, IsBad, NotFalse}
 use Rattle.action_builder.specs.Effects.{effects_of}

@@ -2,10 +2,11 @@
 use Rattle.std.specs.Prelude.{◌≡◌, ◌↔◌, Bool, true, Ok, Err}
 pub use Rattle.tla_value.specs.Value.{TrueExactly}
 use Rattle.pcal_tree.specs.Algorithm.{Statements}
-use Rattle.pcal_tree.specs.Scope.{State, Trouble, Outcome, Scope}
+use Rattle.pcal_tree.specs.Scope.{State, Scope}
 use Rattle.pcal_tree.specs.Run.{ends, Has, Follow, Rules, unlabelled, run}
 use Rattle.action_builder.specs.Action.{Names, more, mid, assigned_in, hold, build, Once, IsBad, Agree}
 use Rattle.action_builder.specs.Effects.{Named, Settled, effects_of}
+use Rattle.tla_value.specs.Value.{Trouble, Outcome}
 
 -- nothing follows
 abbrev pub to_end : Follow

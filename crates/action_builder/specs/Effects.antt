@@ -3,12 +3,12 @@ use Rattle.std.specs.Prelude.{◌≡◌, List, [], Bool, true, cond, Ok, Err}
 use Rattle.tla_token.specs.declared.place.Place.{Place}
 use Rattle.tla_expr.specs.Tree.{Word, apply, select, Form, name, strict, Tree, node, Trees, no_trees, tree}
 use Rattle.tla_value.specs.declared.fault.FaultKind.TheVariants.{AssertFailed}
-use Rattle.tla_value.specs.Value.{Value, Values, no_values, and}
+use Rattle.tla_value.specs.Value.{Value, Values, no_values, and, fault, ◌>>=◌}
 use Rattle.tla_value.specs.Stops.{Check}
 use Rattle.tla_value.specs.Strict.{changed_at}
 use Rattle.pcal_tree.specs.Algorithm.{Assignments, no_assignments, assignment, Binds, no_binds, one_of, is, Statement, Statements, Branches, no_branches, or}
 use Rattle.pcal_tree.specs.Algorithm as Source
-use Rattle.pcal_tree.specs.Scope.{State, Part, Scope, fault, ◌>>=◌, reach, root_place, value_of, test, members}
+use Rattle.pcal_tree.specs.Scope.{State, Part, Scope, reach, root_place, value_of, test, members}
 use Rattle.action_builder.specs.Action.{Exp, Change, Parts, no_parts, part, Effect, assign, await, branch, either, choose, Effects, done, then, Ways, no_ways, way}
 
 -- ---- assignments
@@ -28,7 +28,7 @@ abbrev mutual
 
 -- the value with v at the end of a path; the new value is reached at the left side's place
 abbrev pub changing : Check → Place → List Value → Value → Change
-changing c at path v old = (changed_at at path v old) >>= (λ w. (c at w) >>= Ok)
+changing c at path v old = (changed_at at path v old) >>= (c at)
 
 abbrev pub part_of : Check → Tree → Tree → Exp Change
 part_of c l e sc s = (reach c l sc s) >>= (λ p. (value_of c e sc s) >>= (λ v. Ok (changing c (root_place l) p.path v)))

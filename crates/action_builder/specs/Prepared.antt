@@ -3,13 +3,13 @@
 use Rattle.std.specs.Prelude.{◌≡◌, List, [], ◌∷◌, Bool, false, cond, Ok}
 use Rattle.tla_token.specs.declared.place.Place.{Place}
 use Rattle.tla_expr.specs.Tree.{Word}
-use Rattle.tla_value.specs.Value.{Value}
+use Rattle.tla_value.specs.Value.{Value, Outcome}
 use Rattle.tla_value.specs.Stops.{Check}
 use Rattle.tla_value.specs.Meaning.{just}
 use Rattle.tla_value.specs.Grafts.{owned}
 use Rattle.tla_value.specs.Related.{In}
 use Rattle.pcal_tree.specs.Algorithm.{Statements, Macro}
-use Rattle.pcal_tree.specs.Scope.{State, Outcome, Scope, through}
+use Rattle.pcal_tree.specs.Scope.{State, Scope, through}
 use Rattle.pcal_tree.specs.Run.{Has, Rules, run, with_macros, exit_to}
 use Rattle.pcal_tree.specs.Expand.{graft_all, expanded}
 use Rattle.action_builder.specs.Action.{Names, more, Agree}

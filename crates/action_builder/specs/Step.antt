@@ -1,12 +1,12 @@
 -- A step from a label, with all that its items are written from; what is asked of it, and what it ends in.
 use Rattle.std.specs.Prelude.{List, Bool, Ok, Err}
 use Rattle.tla_expr.specs.Tree.{Word}
-use Rattle.tla_value.specs.Value.{Value}
+use Rattle.tla_value.specs.Value.{Value, Trouble, Outcome}
 use Rattle.tla_value.specs.Stops.{plain}
 use Rattle.tla_value.specs.Meaning.{Env}
 use Rattle.module_text.specs.Module.{Items}
 use Rattle.pcal_tree.specs.Algorithm.{Statements, Macro}
-use Rattle.pcal_tree.specs.Scope.{State, Trouble, Outcome, Scope}
+use Rattle.pcal_tree.specs.Scope.{State, Scope}
 use Rattle.pcal_tree.specs.Run.{Rules}
 use Rattle.action_builder.specs.Action.{member, assigned_in, Agree}
 use Rattle.action_builder.specs.Effects.{effects_of}

@@ -13,7 +13,6 @@ use Rattle.tla_value.specs.OrderLaws.{same_is, same_self}
 use Rattle.tla_value.specs.Stops.{plain}
 use Rattle.tla_value.specs.Strict.{strict_value}
 use Rattle.tla_value.specs.Meaning.{Env, just, eval}
-use Rattle.pcal_tree.specs.Scope.{◌>>=◌}
 use Rattle.pcal_tree.specs.Names.{first_free, free_from, is_taken}
 use Rattle.module_text.specs.Truth.{and_then, Verdict, as_truth, on, on_test, is_value, TrueExactly}
 use Rattle.module_text.proofs.Tells.{tells_of, tells_and, tells_as}

@@ -3,14 +3,14 @@ use Rattle.std.proofs.Common.{◌≡◌, pos, Bool, true, false, refl, sym, ◌�
 use Rattle.std.specs.Bool.{IsTrue}
 use Rattle.tla_expr.specs.declared.op.Op.TheVariants.{Equal}
 use Rattle.tla_expr.specs.Tree.{number, name}
-use Rattle.tla_value.specs.Value.{Value, int, text}
+use Rattle.tla_value.specs.Value.{Value, int, text, Outcome}
 use Rattle.tla_value.specs.Order.{same}
 use Rattle.tla_value.specs.OrderLaws.{same_is}
 use Rattle.tla_value.specs.Stops.{plain}
 use Rattle.tla_value.specs.Definitions.{Valuation, no_state}
 use Rattle.pcal_tree.specs.Algorithm.{Naming}
 use Rattle.pcal_tree.specs.Names.{naming}
-use Rattle.pcal_tree.specs.Scope.{State, Outcome}
+use Rattle.pcal_tree.specs.Scope.{State}
 use Rattle.pcal_tree.specs.Program.{Program, pc}
 use Rattle.pcal_tree.specs.Calls.{label_value}
 use Rattle.pcal_tree.specs.InitialStates.{allowed, Initial}

@@ -8,7 +8,7 @@ use Rattle.tla_expr.specs.Tree.{Word}
 use Rattle.tla_expr.specs.Names.{has, is_same}
 use Rattle.tla_expr.proofs.NameLemmas.{same_refl, has-cons}
 use Rattle.tla_value.specs.declared.fault.FaultKind.TheVariants.{NotInteger}
-use Rattle.tla_value.specs.Value.{Value, text, Outcome}
+use Rattle.tla_value.specs.Value.{Value, text, Outcome, fault}
 use Rattle.tla_value.specs.Order.{same}
 use Rattle.tla_value.specs.Stops.{plain}
 use Rattle.tla_value.specs.Meaning.{Env}
@@ -17,7 +17,7 @@ use Rattle.tla_value.specs.Standard.{standard_name}
 use Rattle.pcal_tree.specs.Algorithm.{Naming}
 use Rattle.pcal_tree.specs.Names.{first_free, kept, taken_outside, naming}
 use Rattle.pcal_tree.specs.Outside.{bound_in}
-use Rattle.pcal_tree.specs.Scope.{State, fault}
+use Rattle.pcal_tree.specs.Scope.{State}
 use Rattle.pcal_tree.specs.Run.{Has}
 use Rattle.pcal_tree.specs.Program.{Program, pc, Actor}
 use Rattle.pcal_tree.specs.Step.{vars, Agree, IsActor, StepFrom, course_of, pc_of, Sound, Step, Stutters}

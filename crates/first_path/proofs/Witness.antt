@@ -4,13 +4,13 @@ use Rattle.tla_token.specs.declared.place.Place.{Place}
 use Rattle.tla_expr.specs.Tree.{Word}
 use Rattle.tla_expr.specs.Names.{has}
 use Rattle.tla_value.specs.declared.fault.FaultKind.{FaultKind}
-use Rattle.tla_value.specs.Value.{Value, int, text}
+use Rattle.tla_value.specs.Value.{Value, int, text, Trouble}
 use Rattle.pcal_tree.specs.Algorithm.{Naming}
 use Rattle.pcal_tree.specs.Names.{naming}
-use Rattle.pcal_tree.specs.Scope.{State, Trouble}
+use Rattle.pcal_tree.specs.Scope.{State}
 use Rattle.pcal_tree.specs.Run.{Has}
 use Rattle.pcal_tree.specs.Program.{Program, Actor, pc}
-use Rattle.pcal_tree.specs.Calls.{default}
+use Rattle.pcal_tree.specs.Calls.{defaultInitValue}
 use Rattle.pcal_tree.specs.Step.{Sound, StepFrom, Step, Stutters, IsActor, Troubled, Stand, StandsAt, course_of, pc_of}
 use Rattle.pcal_tree.specs.InitialStates.{Initial, InitFault}
 use Rattle.first_path.specs.Form.{IsForm}
@@ -30,7 +30,7 @@ other_name : (x : Word) → has (codes "defaultInitValue" ∷ []) x ≡ false �
 unfolding has
 other_name x h = by (bytes_eq (codes "defaultInitValue") x) refl
   where
-    by : (b : Bool) → bytes_eq (codes "defaultInitValue") x ≡ b → cond b (Some default) None ≡ None
+    by : (b : Bool) → bytes_eq (codes "defaultInitValue") x ≡ b → cond b (Some defaultInitValue) None ≡ None
     by false e = refl
     by true e = absurd cc
 

@@ -13,7 +13,7 @@ use Rattle.pcal_tree.specs.Names.{naming}
 use Rattle.pcal_tree.specs.Scope.{State}
 use Rattle.pcal_tree.specs.Program.{Program}
 use Rattle.pcal_tree.specs.Step.{vars, Proper, Sound, Step, Stutters}
-use Rattle.pcal_tree.specs.Calls.{default}
+use Rattle.pcal_tree.specs.Calls.{defaultInitValue}
 use Rattle.pcal_tree.specs.InitialStates.{Initial, InitFault}
 use Rattle.module_text.specs.Module.{Module, words_of, found}
 use Rattle.module_text.specs.Around.{Around}
@@ -38,7 +38,7 @@ program g m values = record {
 
 -- a value for each constant that is read, for `defaultInitValue` the model value of that name, and for nothing else
 pub record AreConstants (m : Module) (values : Valuation) : Type 0 where
-  pub unset : values (codes "defaultInitValue") ≡ Some default
+  pub unset : values (codes "defaultInitValue") ≡ Some defaultInitValue
   pub given : Each (λ x. IsTrue (is_some (values x))) (words_of m.outside.constants)
   pub no_other : (x : Word) → has (codes "defaultInitValue" ∷ words_of m.outside.constants) x ≡ false → values x ≡ None
 

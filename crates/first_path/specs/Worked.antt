@@ -5,7 +5,7 @@ use Rattle.tla_value.specs.Value.{int, text}
 use Rattle.tla_value.specs.Definitions.{Valuation}
 use Rattle.pcal_tree.specs.Scope.{State, put}
 use Rattle.pcal_tree.specs.Program.{Program, pc}
-use Rattle.pcal_tree.specs.Calls.{default}
+use Rattle.pcal_tree.specs.Calls.{defaultInitValue}
 use Rattle.pcal_tree.specs.InitialChoice.{nothing}
 use Rattle.first_path.specs.Form.{Parts, sum, variable_operand, number_operand}
 use Rattle.first_path.specs.Placed.{Places, algorithm_at, module_at}
@@ -26,7 +26,7 @@ worked_parts = record {
 
 -- no constants of the module
 abbrev pub no_more_constants : Valuation
-no_more_constants x = cond (bytes_eq (codes "defaultInitValue") x) (Some default) None
+no_more_constants x = cond (bytes_eq (codes "defaultInitValue") x) (Some defaultInitValue) None
 
 -- p and q: the places of the tokens of the algorithm, and of the leaves of its translation
 abbrev pub worked_program : Places → Places → Program

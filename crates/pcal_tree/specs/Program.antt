@@ -3,14 +3,14 @@ use Rattle.std.specs.Prelude.{List, [], ◌∷◌, ◌++◌, false, cond, bytes_
 use Rattle.tla_token.specs.declared.place.Place.{Place}
 use Rattle.tla_expr.specs.Tree.{Word}
 use Rattle.tla_value.specs.declared.fault.FaultKind.TheVariants.{NotFunction}
-use Rattle.tla_value.specs.Value.{Value, Outcome, Sense, ◌>>=◌}
+use Rattle.tla_value.specs.Value.{Value, Outcome, Sense, ◌>>=◌, fault}
 use Rattle.tla_value.specs.Stops.{Check, sense_of}
 use Rattle.tla_value.specs.Strict.{applied}
 use Rattle.tla_value.specs.Meaning.{Env, just}
 use Rattle.tla_value.specs.Definitions.{Valuation, no_state, scope_of}
 use Rattle.tla_value.specs.Definitions as Outside
 use Rattle.pcal_tree.specs.Algorithm.{nowhere, Name, Declaration, Definition, declares, Routine, locals, Naming, Algorithm}
-use Rattle.pcal_tree.specs.Scope.{State, fault, Outcome, Part, Scope}
+use Rattle.pcal_tree.specs.Scope.{State, Part, Scope}
 
 -- a labelled algorithm, with what its meaning rests on: the limits of values, the constants, the definitions outside the algorithm, and the
 -- written names
@@ -62,7 +62,9 @@ written P u x = P.naming.local u.number x
 -- what stands at a path
 abbrev pub read_at : Place → List Value → Value → Outcome Value
 read_at at [] v = Ok v
-read_at at (k ∷ ks) f = (applied at f k) >>= (read_at at ks)
+read_at at (k ∷ ks) f = do
+  v ← applied at f k
+  read_at at ks v
 
 abbrev pub read_self : Option Value → Sense → Sense
 read_self (Some v) other = just v

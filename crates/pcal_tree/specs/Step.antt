@@ -5,17 +5,18 @@ use Rattle.tla_token.specs.declared.place.Place.{Place}
 use Rattle.tla_expr.specs.Tree.{Word, Each}
 use Rattle.tla_value.specs.declared.fault.FaultKind.{FaultKind}
 use Rattle.tla_value.specs.declared.fault.FaultKind.TheVariants.{SameIdentifier}
-use Rattle.tla_value.specs.Value.{Value, truth, set, Values, no_values, and, text}
+use Rattle.tla_value.specs.Value.{Value, truth, set, Values, no_values, and, text, Trouble, fault, Outcome, ◌>>=◌}
 use Rattle.tla_value.specs.Order.{order, same, set_from}
 use Rattle.tla_value.specs.Definitions.{no_state}
 use Rattle.tla_value.specs.Meaning.{eval}
 use Rattle.pcal_tree.specs.Algorithm.{Statement, branch, either, with, while, Statements, done, then, mark, Branches, no_branches, or, Process, Main, alone, processes, Routine, locals, procedure_routines, process_routine, alone_routine, first_process, main_routines}
-use Rattle.pcal_tree.specs.Scope.{State, Trouble, fault, Outcome, ◌>>=◌, members_at, root_place}
+use Rattle.pcal_tree.specs.Scope.{State, members_at, root_place}
 use Rattle.pcal_tree.specs.Run.{Course, Has, run, exit_to}
-use Rattle.pcal_tree.specs.Choices.{or_else, first_trouble}
+use Rattle.pcal_tree.specs.Choices.{first_trouble}
 use Rattle.pcal_tree.specs.StepStart.{Begin, at_label}
 use Rattle.pcal_tree.specs.Program.{Program, Actor, index, read_at, routine_scope, common_env, pc, stack, declared, written_all}
 use Rattle.pcal_tree.specs.Calls.{label_value, rules_of}
+use Rattle.std.specs.Option.{option_or}
 
 -- ---- variables, and states that agree on them
 
@@ -45,7 +46,9 @@ one_value false at v = Ok (and v no_values)
 
 -- those of one process: the members of its set, or its one identifier
 abbrev pub identifiers_of : Program → Process → Outcome Values
-identifiers_of P p = (eval P.check p.identity (common_env P no_state)).value >>= (one_value p.several (root_place p.identity))
+identifiers_of P p = do
+  v ← (eval P.check p.identity (common_env P no_state)).value
+  one_value p.several (root_place p.identity) v
 
 abbrev pub actors_of : Routine → Values → List Actor
 actors_of u no_values = []
@@ -54,8 +57,10 @@ actors_of u (and v vs) = record { self = Some v; own = u } ∷ actors_of u vs
 -- all identifiers, process by process
 abbrev pub all_actors : Program → ℕ → List Process → Outcome (List Actor)
 all_actors P n [] = Ok []
-all_actors P n (p ∷ ps) =
-    (identifiers_of P p) >>= (λ vs. (all_actors P (suc n) ps) >>= (λ more. Ok (actors_of (process_routine n p) vs ++ more)))
+all_actors P n (p ∷ ps) = do
+  vs ← identifiers_of P p
+  more ← all_actors P (suc n) ps
+  Ok (actors_of (process_routine n p) vs ++ more)
 
 abbrev pub identifier : Option Value → Value
 identifier (Some v) = v
@@ -79,7 +84,9 @@ last_place at [] = at
 last_place at (p ∷ ps) = last_place p.name.place ps
 
 abbrev pub united : Program → Place → List Actor → Outcome (List Actor)
-united P at vs = (P.check at (set (set_from (identifiers vs)))) >>= (λ w. Ok vs)
+united P at vs = do
+  _ ← P.check at (set (set_from (identifiers vs)))
+  Ok vs
 
 -- in canonical order of their identifiers
 abbrev pub placed : Actor → List Actor → List Actor
@@ -92,9 +99,11 @@ sorted (v ∷ vs) = placed v (sorted vs)
 
 abbrev pub actors_in : Program → Main → Outcome (List Actor)
 actors_in P (alone ss) = Ok (record { self = None; own = alone_routine P.algorithm ss } ∷ [])
-actors_in P (processes ps) =
-    (all_actors P (first_process P.algorithm) ps) >>= (λ vs. (apart [] vs) >>= (λ ws.
-    (united P (last_place P.algorithm.name.place ps) ws) >>= (λ us. Ok (sorted us))))
+actors_in P (processes ps) = do
+  vs ← all_actors P (first_process P.algorithm) ps
+  ws ← apart [] vs
+  us ← united P (last_place P.algorithm.name.place ps) ws
+  Ok (sorted us)
 
 -- the processes in canonical order, each with its identifier; or why they have none
 abbrev pub actors : Program → Outcome (List Actor)
@@ -114,7 +123,7 @@ IsActor P v = (vs : List Actor) × (actors P ≡ Ok vs) × OneOf v vs
 
 -- the value of a process's pc
 abbrev pub pc_of : Actor → State → Outcome Value
-pc_of v s = (read_at v.own.name.place (index v.self) (s pc)) >>= Ok
+pc_of v s = read_at v.own.name.place (index v.self) (s pc)
 
 -- a label of a routine, and what a step from it begins with
 pub record Stand : Type 0 where
@@ -188,11 +197,11 @@ stand_at u l (Some b) = Some (record { routine = u; label = l; begins = b })
 -- the label that a value of pc names
 abbrev pub label_named : Program → Value → Routine → List Word → Option Stand
 label_named P w u [] = None
-label_named P w u (l ∷ ls) = or_else (cond (same w (label_value P u l)) (stand_at u l (at_label u l)) None) (label_named P w u ls)
+label_named P w u (l ∷ ls) = option_or (cond (same w (label_value P u l)) (stand_at u l (at_label u l)) None) (label_named P w u ls)
 
 abbrev pub stand_named : Program → Value → List Routine → Option Stand
 stand_named P w [] = None
-stand_named P w (u ∷ us) = or_else (label_named P w u (labels u.body)) (stand_named P w us)
+stand_named P w (u ∷ us) = option_or (label_named P w u (labels u.body)) (stand_named P w us)
 
 abbrev pub trouble_from : Program → State → Actor → Option Stand → Option Trouble
 trouble_from P s v None = None
@@ -204,7 +213,7 @@ trouble_at P s v (Ok w) = trouble_from P s v (stand_named P w (routines_of P v))
 
 abbrev pub trouble_of_all : Program → State → List Actor → Option Trouble
 trouble_of_all P s [] = None
-trouble_of_all P s (v ∷ vs) = or_else (trouble_at P s v (pc_of v s)) (trouble_of_all P s vs)
+trouble_of_all P s (v ∷ vs) = option_or (trouble_at P s v (pc_of v s)) (trouble_of_all P s vs)
 
 -- the first that is met, processes in canonical order, each by its lists of choices item by item
 abbrev pub FirstTrouble : Program → State → Trouble → Type 0
