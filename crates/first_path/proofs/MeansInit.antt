@@ -11,7 +11,7 @@ use Rattle.tla_value.specs.Definitions.{Valuation, no_state}
 use Rattle.pcal_tree.specs.Algorithm.{Naming}
 use Rattle.pcal_tree.specs.Names.{naming}
 use Rattle.pcal_tree.specs.Scope.{State}
-use Rattle.pcal_tree.specs.Program.{Program, pc}
+use Rattle.pcal_tree.specs.Program.{Program}
 use Rattle.pcal_tree.specs.Calls.{label_value}
 use Rattle.pcal_tree.specs.InitialStates.{allowed, Initial}
 use Rattle.pcal_tree.specs.InitialStates as initial
@@ -24,6 +24,7 @@ use Rattle.first_path.proofs.Fit.{fit_of}
 use Rattle.first_path.proofs.Means.{last_tells, equal_same, number_tells, label_tells}
 use Rattle.first_path.proofs.MeansStep.{program_of, routine, Kept, label_is}
 use Rattle.first_path.proofs.MeansNext.{two_variables, reads_first, label_kept}
+use Rattle.pcal_tree.specs.Variables.{pc}
 
 -- the variable's test, and then that of pc
 both : Bool → Bool → Outcome Bool

@@ -12,13 +12,16 @@ use Rattle.pcal_tree.specs.Algorithm.{Algorithm}
 use Rattle.pcal_tree.specs.Names.{naming}
 use Rattle.pcal_tree.specs.Scope.{State}
 use Rattle.pcal_tree.specs.Program.{Program}
-use Rattle.pcal_tree.specs.Step.{vars, Proper, Sound, Step, Stutters}
+use Rattle.pcal_tree.specs.Step.{Step, Stutters}
 use Rattle.pcal_tree.specs.Calls.{defaultInitValue}
 use Rattle.pcal_tree.specs.InitialStates.{Initial, InitFault}
 use Rattle.module_text.specs.Module.{Module, words_of, found}
 use Rattle.module_text.specs.Around.{Around}
 use Rattle.module_text.specs.Reading.{Reads}
 use Rattle.module_text.specs.Truth.{TrueExactly, next_holds, init_holds}
+use Rattle.pcal_tree.specs.Variables.{vars}
+use Rattle.pcal_tree.specs.Processes.{Proper}
+use Rattle.pcal_tree.specs.Faults.{Sound}
 
 -- a state as the values of the variables of the translation
 abbrev pub on_variables : Program → State → Valuation

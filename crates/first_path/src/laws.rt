@@ -4,7 +4,7 @@ ghost use Rattle.std.specs.Prelude.{◌≡◌, ◌⊎◌, ℕ, List, [], Some, f
 ghost use Rattle.tla_token.specs.declared.place.Place.{Place};
 ghost use Rattle.tla_value.specs.declared.fault.FaultKind.{FaultKind};
 ghost use Rattle.pcal_tree.specs.Algorithm.{Algorithm};
-ghost use Rattle.pcal_tree.specs.Step.{Sound, Step, Stutters};
+ghost use Rattle.pcal_tree.specs.Step.{Step, Stutters};
 ghost use Rattle.pcal_tree.specs.InitialStates.{Initial, InitFault};
 ghost use Rattle.module_text.specs.Reading.{Reads};
 ghost use Rattle.first_path.specs.Form.{Parts, IsForm};
@@ -13,6 +13,7 @@ ghost use Rattle.first_path.specs.Placed.{Places, algorithm_at, module_at, trans
 ghost use Rattle.first_path.specs.Translates.{AreConstants};
 ghost use Rattle.first_path.specs.Headline.{Headline, Stands};
 ghost use Rattle.first_path.specs.Worked.{worked_text, worked_parts, no_more_constants, worked_program, at_first, at_last};
+ghost use Rattle.pcal_tree.specs.Faults.{Sound};
 
 /// The parts of a text of the form are those that are read of it, and no text that isn't of the form gives any.
 pub fn forms_are_read()

@@ -5,6 +5,7 @@ mod Choices
 pub mod GraftRuns
 pub mod ExpandRuns
 pub mod BeginLaws
+pub mod BodyLabels
 pub mod TroubleLaws
 mod RowsPrinted
 mod RowsC

@@ -7,11 +7,11 @@ use Rattle.tla_token.specs.declared.rule.Rule.TheVariants.{FirstLabel, WhileLabe
 use Rattle.tla_token.specs.declared.rule.Refusal.{Refusal}
 use Rattle.tla_expr.specs.Tree.{Word, Trees}
 use Rattle.pcal_tree.specs.Algorithm.{Name, Statement, branch, either, with, while, goto, macro, call, return, Statements, done, then, mark, Branches, no_branches, or, Macro, Procedure}
-use Rattle.pcal_tree.specs.Program.{declared}
 use Rattle.pcal_tree.specs.Run.{arguments}
 use Rattle.pcal_tree.specs.Expand.{graft_all}
 use Rattle.pcal_tree.specs.Offences.{offence, offence_if}
 use Rattle.pcal_tree.specs.Paths.{Effect, Effects, sets_once, nothing, assigned, Path, after_one, is_reached, has_assigned}
+use Rattle.pcal_tree.specs.Variables.{declared}
 
 -- ---- where labels must be
 

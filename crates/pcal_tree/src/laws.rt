@@ -4,18 +4,22 @@ ghost use Rattle.std.specs.Prelude.{◌≡◌, ℕ, List, [], Bool, Some, None};
 ghost use Rattle.tla_expr.specs.Tree.{Word};
 ghost use Rattle.pcal_tree.specs.Algorithm.{Statements, Macro, Algorithm};
 ghost use Rattle.pcal_tree.specs.Expand.{expanded};
-ghost use Rattle.pcal_tree.specs.Clean.{Calls, FineCall, Free};
 ghost use Rattle.pcal_tree.specs.Scope.{State, Scope};
 ghost use Rattle.pcal_tree.specs.Run.{Course, Has, Rules, Follow, run, with_macros};
-ghost use Rattle.pcal_tree.specs.Choices.{walk, told, landing, first_trouble};
+ghost use Rattle.pcal_tree.specs.Choices.{walk, first_trouble};
 ghost use Rattle.pcal_tree.specs.Program.{Program, Actor};
-ghost use Rattle.pcal_tree.specs.Step.{Proper, Sound, IsActor, StandsOnce, FirstTrouble};
 ghost use Rattle.tla_value.specs.Outside.{Outside};
 ghost use Rattle.pcal_tree.specs.OffencesReserved.{reserved_declared};
 ghost use Rattle.pcal_tree.specs.Labelled.{labelled};
 ghost use Rattle.pcal_tree.specs.Names.{given, naming};
 ghost use Rattle.pcal_tree.specs.Apart.{FewNames, Apart, New, Untaken, AreNames, NoEndLabels};
 ghost use Rattle.tla_value.specs.Value.{Trouble, Outcome};
+ghost use Rattle.pcal_tree.specs.laws.Expansion.{Calls, FineCall, Free};
+ghost use Rattle.pcal_tree.specs.laws.Choosing.{told, landing};
+ghost use Rattle.pcal_tree.specs.Processes.{Proper, IsActor};
+ghost use Rattle.pcal_tree.specs.Faults.{Sound};
+ghost use Rattle.pcal_tree.specs.laws.Steps.{StandsOnce};
+ghost use Rattle.pcal_tree.specs.FirstTrouble.{FirstTrouble};
 
 /// What a list of choices leads to is an outcome of the course, and each outcome has a list of choices that
 /// leads to it, all of them used.

@@ -8,7 +8,7 @@ use Rattle.tla_value.specs.Stops.{Check}
 use Rattle.tla_value.specs.Related.{Clear, ClearForm}
 use Rattle.pcal_tree.specs.Algorithm.{Assignments, no_assignments, assignment, Binds, no_binds, one_of, is, Statement, assign, await, print, assert, branch, either, with, while, macro, call, Statements, done, then, mark, Branches, no_branches, or, Macro}
 use Rattle.pcal_tree.specs.Scope.{State, Scope, bound, reach}
-use Rattle.pcal_tree.specs.Run.{Follow, Rules, unlabelled, label_of, run, arguments}
+use Rattle.pcal_tree.specs.Run.{arguments}
 use Rattle.pcal_tree.specs.Expand.{expand, written_out}
 
 abbrev pub Unreached : Check → Word → Option Tree → Type 0
@@ -60,9 +60,6 @@ Free sc = (x : Word) (at p : Place) (s : State) → sc.part x at s ≡ sc.part x
 -- all names
 abbrev pub Any : Word → Type 0
 Any x = Unit {0}
-
-abbrev pub following : Rules → Statements → Scope → Follow → Follow
-following M rest sc K = record { label = label_of rest K.label; goes = run M unlabelled rest sc K }
 
 -- the list begins with an unlabelled statement, as each macro's body does
 abbrev pub Opens : Statements → Type 0
