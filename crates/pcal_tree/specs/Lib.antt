@@ -29,6 +29,7 @@ pub mod Paths
 pub mod OffencesSteps
 pub mod OffencesLabels
 pub mod Labelled
+pub mod BoundNames
 pub mod Outside
 pub mod OffencesNames
 pub mod OffencesReserved
