@@ -11,14 +11,14 @@ use Rattle.tla_token.specs.Tokens.{Piece, blank, lexeme, text_of, Token, AllFit,
 use Rattle.tla_token.proofs.Spelled.{begins, begins_from, same_bytes}
 use Rattle.tla_token.proofs.Signed.{tells_other}
 use Rattle.tla_expr.specs.Tree.{Word}
-use Rattle.pcal_tree.specs.GrammarView as view
+use Rattle.pcal_tree.specs.AlgorithmTokens as view
 use Rattle.pcal_tree.specs.GrammarParts.{variable_word}
 use Rattle.pcal_tree.specs.Grammar.{spell}
 use Rattle.module_text.specs.Around.{Text, first_is, line_of, on_some, plain, Found, seek, past_title, begins_algorithm, past_p, past_c, is_braced, past_algorithm, Split, algorithm_in}
 use Rattle.first_path.specs.Form.{Right, single, sum, Operand, number_operand, variable_operand, Parts, IsForm, is_name, is_free, is_small, is_small_right, is_fit, word, operand_kind, right_kinds, kinds, kinds_of, first_lines, last_line}
 use Rattle.first_path.specs.Form as form
 use Rattle.first_path.specs.Placed.{Places, algorithm_at}
-use Rattle.first_path.specs.Headline.{Stands}
+use Rattle.promise.specs.Headline.{Stands}
 use Rattle.first_path.proofs.Names.{name_words}
 use Rattle.first_path.proofs.Fit.{Fit, fit_of}
 use Rattle.first_path.proofs.Stretches.{text_append, all_fit_less, First, first_of, first_written, kinds_gap, stretch_between}

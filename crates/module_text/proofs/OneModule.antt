@@ -4,7 +4,7 @@ use Rattle.std.proofs.lemmas.List.{append-nil}
 use Rattle.tla_token.specs.Tokens as lexical
 use Rattle.tla_token.specs.Tokens.{Tok}
 use Rattle.tla_token.proofs.Unique as unique
-use Rattle.tla_expr.specs.Tree.{Word, Name}
+use Rattle.tla_expr.specs.Tree.{Name}
 use Rattle.module_text.specs.Module.{RegionUnit, units_of, OutsideUnit, Module, words_of, modules_of, constants_of, outside_of}
 use Rattle.module_text.specs.Grammar.{Token}
 use Rattle.module_text.specs.Units.{IsUnit}

@@ -1,1 +1,3 @@
+-- What only laws speak of.
 pub mod InOrder
+pub mod Groups
