@@ -20,3 +20,7 @@ pub mod FreeWords
 pub mod ClearLabels
 pub mod LabelledClear
 mod RowsOffences
+pub mod SameVariables
+pub mod StepVariables
+pub mod SameSteps
+pub mod SameStarts

@@ -142,12 +142,15 @@ abbrev pub named : Word → List Routine → Option Routine
 named x [] = None
 named x (u ∷ us) = cond (bytes_eq u.name.word x) (Some u) (named x us)
 
--- of process v in routine u
-abbrev pub rules_of : Program → Actor → Routine → Rules
-rules_of P v u = with_macros (record {
+-- of process v in routine u, where there are no macros
+abbrev pub rules_without_macros : Program → Actor → Routine → Rules
+rules_without_macros P v u = record {
   check = P.check;
   goto = λ l s. finished (jumped P v u l s);
   call = λ at p places vs back s. entered_at P v at (label_value P u back) (named p (procedure_routines P.algorithm)) places vs s;
   return = λ at s. finished (returned P v at u s);
   macros = λ here at m ts sc K s. held at;
-}) (reverse P.algorithm.macros)
+}
+
+abbrev pub rules_of : Program → Actor → Routine → Rules
+rules_of P v u = with_macros (rules_without_macros P v u) (reverse P.algorithm.macros)
