@@ -10,6 +10,7 @@ pub mod TroubleLaws
 mod RowsPrinted
 mod RowsC
 mod RowsLabels
+mod RowsSummaries
 mod RowsNames
 mod RowsP
 mod RowsBoth
@@ -19,6 +20,10 @@ pub mod OneStand
 pub mod FreeWords
 pub mod ClearLabels
 pub mod LabelledClear
+pub mod SetLaws
+pub mod TargetLaws
+pub mod SummaryLaws
+pub mod EffectLaws
 mod RowsOffences
 pub mod SameVariables
 pub mod StepVariables
