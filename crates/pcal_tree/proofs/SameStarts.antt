@@ -3,7 +3,8 @@ use Rattle.std.proofs.Common.{◌≡◌, ℕ, suc, List, [], ◌∷◌, ◌++◌
 use Rattle.std.specs.List.{flat_map}
 use Rattle.tla_token.specs.declared.place.Place.{Place}
 use Rattle.tla_token.specs.declared.rule.Refusal.{Refusal}
-use Rattle.tla_expr.specs.Tree.{Word}
+use Rattle.tla_expr.specs.Tree.{Word, Tree, Trees}
+use Rattle.pcal_tree.specs.Paths.{Effect}
 use Rattle.tla_value.specs.Value.{Value, Values, and, Outcome, values_in, and_then, ◌>>=◌}
 use Rattle.tla_value.specs.Order.{same}
 use Rattle.tla_value.specs.Meaning.{eval}
@@ -26,7 +27,7 @@ module _ (P : Program) (s t : State) (a : Agree (vars P) s t) where
   plain_same sc n at (equals x) v w e = λ i. (eval P.check x (n.env s t a i)).value >>= (λ u. Ok (same (e i) u))
   plain_same sc n at (among x) v w e = λ i. ((eval P.check x (n.env s t a i)).test at (e i)) >>= (truth_at at)
 
-  values_same : (u : Routine) → OneOf u (routines P.algorithm) → (st : Start) (x : Rattle.tla_expr.specs.Tree.Tree) (vs : List Actor) → values_for P u x s vs ≡ values_for P u x t vs
+  values_same : (u : Routine) → OneOf u (routines P.algorithm) → (st : Start) (x : Tree) (vs : List Actor) → values_for P u x s vs ≡ values_for P u x t vs
   values_same u h st x [] = refl
   values_same u h st x (v ∷ vs) = λ i. (eval P.check x ((routine_narrow P v u h).env s t a i)).value >>= (λ w. (values_same u h st x vs i) >>= (λ ws. Ok (and w ws)))
 
@@ -121,15 +122,15 @@ mutual
 none_placed : (macro : Bool) (b : Statements) → misplaced macro false b ≡ [] → has_return b ≡ false
 none_placed macro b e = none _ b refl (left_empty _ (second_labels [] (labels false b)) e)
 
-none_in_body : (ms : List Macro) (b : Statements) → of_body ms b ≡ [] → has_return b ≡ false
+none_in_body : (ms : Word → Trees → Effect) (b : Statements) → of_body ms b ≡ [] → has_return b ≡ false
 none_in_body ms b e = none_placed false b (right_empty _ (misplaced false false b) e)
 
-none_in_processes : (ms : List Macro) (n : ℕ) (ps : List Process) → flat_map (λ p. of_body ms p.body) ps ≡ [] → (u : Routine) → OneOf u (numbered process_routine n ps) → has_return u.body ≡ false
+none_in_processes : (ms : Word → Trees → Effect) (n : ℕ) (ps : List Process) → flat_map (λ p. of_body ms p.body) ps ≡ [] → (u : Routine) → OneOf u (numbered process_routine n ps) → has_return u.body ≡ false
 none_in_processes ms n [] e u h = absurd h
 none_in_processes ms n (p ∷ ps) e u (inl q) = ap (λ w. has_return w.body) q ∙ none_in_body ms p.body (left_empty (of_body ms p.body) (flat_map (λ p. of_body ms p.body) ps) e)
 none_in_processes ms n (p ∷ ps) e u (inr h) = none_in_processes ms (suc n) ps (right_empty (of_body ms p.body) (flat_map (λ p. of_body ms p.body) ps) e) u h
 
-none_in_main : (b : Algorithm) (ms : List Macro) (m : Main) → of_main ms m ≡ [] → (u : Routine) → OneOf u (main_routines b m) → has_return u.body ≡ false
+none_in_main : (b : Algorithm) (ms : Word → Trees → Effect) (m : Main) → of_main ms m ≡ [] → (u : Routine) → OneOf u (main_routines b m) → has_return u.body ≡ false
 none_in_main b ms (alone ss) e u (inl q) = ap (λ w. has_return w.body) q ∙ none_in_body ms ss e
 none_in_main b ms (alone ss) e u (inr h) = absurd h
 none_in_main b ms (processes ps) e u h = none_in_processes ms (first_process b) ps e u h
