@@ -1,20 +1,21 @@
 -- Whether a state is initial depends on the variables of the translation alone; and the rule on `return` keeps it in procedures.
-use Rattle.std.proofs.Common.{◌≡◌, ℕ, suc, List, [], ◌∷◌, ◌++◌, Bool, true, false, ◌||◌, not, refl, sym, ◌∙◌, ap, subst, inl, inr, Ok}
+use Rattle.std.proofs.Common.{◌≡◌, ℕ, suc, List, [], ◌∷◌, ◌++◌, Bool, true, false, ◌||◌, not, map, refl, sym, ◌∙◌, ap, subst, inl, inr, Ok}
 use Rattle.std.specs.List.{flat_map}
 use Rattle.tla_token.specs.declared.place.Place.{Place}
 use Rattle.tla_token.specs.declared.rule.Refusal.{Refusal}
 use Rattle.tla_expr.specs.Tree.{Word, Tree, Trees}
 use Rattle.pcal_tree.specs.Paths.{Effect}
-use Rattle.tla_value.specs.Value.{Value, Values, and, Outcome, values_in, and_then, ◌>>=◌}
+use Rattle.tla_value.specs.Value.{Value, Outcome, values_in, and_then, ◌>>=◌}
 use Rattle.tla_value.specs.Order.{same}
 use Rattle.tla_value.specs.Meaning.{eval}
 use Rattle.pcal_tree.specs.Algorithm.{Start, unset, equals, among, Declaration, Statement, branch, either, with, while, goto, call, return, Statements, done, then, mark, Branches, no_branches, or, Macro, Process, Main, alone, processes, Algorithm, Routine, locals, numbered, process_routine, procedure_routines, main_routines, routines, first_process}
-use Rattle.pcal_tree.specs.Scope.{State, Scope, truth_at, members_at}
+use Rattle.pcal_tree.specs.Scope.{State, Scope}
+use Rattle.tla_value.specs.Stops.{members_at}
 use Rattle.pcal_tree.specs.Program.{Program, Actor, written, routine_scope, global_scope}
 use Rattle.pcal_tree.specs.Variables.{pc, stack, vars, Agree}
 use Rattle.pcal_tree.specs.Calls.{defaultInitValue, first_label, label_value}
 use Rattle.pcal_tree.specs.Processes.{actors, identifiers, OneOf}
-use Rattle.pcal_tree.specs.InitialStates.{plain_allowed, has_members, for_each, values_for, function_on, spread_allowed, globals_allowed, local_allowed, locals_allowed, is_multiprocess, procedures_allowed, running, processes_allowed, own_allowed, empty_stack, stack_allowed, pc_allowed, allowed}
+use Rattle.pcal_tree.specs.InitialStates.{plain_allowed, has_members, values_for, function_on, spread_allowed, globals_allowed, local_allowed, locals_allowed, is_multiprocess, procedures_allowed, running, processes_allowed, own_allowed, empty_stack, stack_allowed, pc_allowed, allowed}
 use Rattle.pcal_tree.specs.OffencesLabels.{Within, within_with, jump_offences_here, jump_offences_inside, jump_offences, jump_offences_of_some, second_labels, labels, label_words, misplaced, of_macro, of_procedure, of_body, of_main, label_offences}
 use Rattle.pcal_tree.specs.laws.Steps.{has_return_in, has_return, has_return_of, ReturnsInProcedures}
 use Rattle.pcal_tree.proofs.TroubleLaws.{one_left, one_right}
@@ -25,14 +26,14 @@ module _ (P : Program) (s t : State) (a : Agree (vars P) s t) where
   plain_same : (sc : Scope) → Narrow (vars P) sc → (at : Place) (st : Start) (v w : Value) → v ≡ w → plain_allowed P sc at st s v ≡ plain_allowed P sc at st t w
   plain_same sc n at unset v w e = λ i. Ok (same (e i) defaultInitValue)
   plain_same sc n at (equals x) v w e = λ i. (eval P.check x (n.env s t a i)).value >>= (λ u. Ok (same (e i) u))
-  plain_same sc n at (among x) v w e = λ i. ((eval P.check x (n.env s t a i)).test at (e i)) >>= (truth_at at)
+  plain_same sc n at (among x) v w e = λ i. (eval P.check x (n.env s t a i)).test at (e i)
 
   values_same : (u : Routine) → OneOf u (routines P.algorithm) → (st : Start) (x : Tree) (vs : List Actor) → values_for P u x s vs ≡ values_for P u x t vs
   values_same u h st x [] = refl
-  values_same u h st x (v ∷ vs) = λ i. (eval P.check x ((routine_narrow P v u h).env s t a i)).value >>= (λ w. (values_same u h st x vs i) >>= (λ ws. Ok (and w ws)))
+  values_same u h st x (v ∷ vs) = λ i. (eval P.check x ((routine_narrow P v u h).env s t a i)).value >>= (λ w. (values_same u h st x vs i) >>= (λ ws. Ok (w ∷ ws)))
 
   spread_same : (u : Routine) → OneOf u (routines P.algorithm) → (vs : List Actor) (at : Place) (st : Start) (f g : Value) → f ≡ g → spread_allowed P u vs at st s f ≡ spread_allowed P u vs at st t g
-  spread_same u h vs at unset f g e = λ i. (P.check at (function_on vs (for_each (λ v. defaultInitValue) vs))) >>= (λ w. Ok (same (e i) w))
+  spread_same u h vs at unset f g e = λ i. (P.check at (function_on vs (map (λ v. defaultInitValue) vs))) >>= (λ w. Ok (same (e i) w))
   spread_same u h vs at (equals x) f g e = λ i. (values_same u h (equals x) x vs i) >>= (λ ws. (P.check at (function_on vs ws)) >>= (λ w. Ok (same (e i) w)))
   spread_same u h vs at (among x) f g e =
       λ i. (eval P.check x ((global_narrow P).env s t a i)).value >>= (λ w. (members_at at w) >>= (λ ws. Ok (has_members (values_in (identifiers vs)) ws (e i))))

@@ -5,12 +5,12 @@ use Rattle.tla_token.specs.declared.place.Place.{Place}
 use Rattle.tla_expr.specs.Tree.{Word, apply, select, Form, name, strict, Tree, node, Trees, no_trees, tree, Graft, Each}
 use Rattle.tla_value.specs.declared.fault.FaultKind.TheVariants.{AssertFailed}
 use Rattle.tla_value.specs.Value.{Value, text, Values, no_values, and, Trouble, fault, Outcome, ◌>>=◌}
-use Rattle.tla_value.specs.Stops.{Check}
+use Rattle.tla_value.specs.Stops.{Check, truth_at, members_at}
 use Rattle.tla_value.specs.Strict.{changed_at}
 use Rattle.tla_value.specs.Grafts.{through as through_env}
-use Rattle.tla_value.specs.Meaning.{Env, bind, eval, evals}
+use Rattle.tla_value.specs.Meaning.{Env, bind, eval, evals, part_values}
 use Rattle.pcal_tree.specs.Algorithm.{Assignments, no_assignments, assignment, Binds, no_binds, one_of, is, Statement, assign, await, print, assert, skip, branch, either, with, while, goto, macro, call, return, Statements, done, then, mark, Branches, no_branches, or, Macro}
-use Rattle.pcal_tree.specs.Scope.{State, put, all_valued, Part, Scope, bound, places_of, deeper, root_place, reach_form, reach, reach_path, reach_in, through, value_of, truth_at, test, members_at, members}
+use Rattle.pcal_tree.specs.Scope.{State, put, Part, Scope, bound, places_of, deeper, root_place, reach_form, reach, reach_path, reach_in, through, value_of, test, members}
 use Rattle.pcal_tree.specs.Assign.{Setting, set_one, set_all, settings, moved}
 use Rattle.pcal_tree.specs.Run.{Course, ends, stops, chooses, Courses, no_courses, course, held, after, at_each, Follow, Rules, unlabelled, label_of, run_binds, run_one, run, run_branches, arguments, Calling, with_calls, called, with_macros}
 use Rattle.pcal_tree.specs.Variables.{Agree}
@@ -128,7 +128,7 @@ module _ (V : List Word) where
 
     path_same : (c : Check) (at : Place) (ts : Trees) (sc : Scope) → Narrow sc → (s t : State) → Agree V s t → reach_path c at ts sc s ≡ reach_path c at ts sc t
     path_same c at no_trees sc n s t a = refl
-    path_same c at (tree f us) sc n s t a = λ i. (reach_same c f sc n s t a i) >>= (λ p. (all_valued (evals c us) (n.env s t a i)) >>= (λ ks. Ok (deeper ks p)))
+    path_same c at (tree f us) sc n s t a = λ i. (reach_same c f sc n s t a i) >>= (λ p. (part_values (evals c us) (n.env s t a i)) >>= (λ ks. Ok (deeper ks p)))
 
   in_deeper : (ks : List Value) (p q : Part) → In p.variable → ◌≡◌ {A = Outcome Part} (Ok (deeper ks p)) (Ok q) → In q.variable
   in_deeper ks p q k e = subst In (ap (of_ok p.variable) e) k
@@ -153,7 +153,7 @@ module _ (V : List Word) where
 
     path_in_vars : (c : Check) (at : Place) (ts : Trees) (sc : Scope) → Narrow sc → (s : State) (p : Part) → reach_path c at ts sc s ≡ Ok p → In p.variable
     path_in_vars c at no_trees sc n s p e = cc
-    path_in_vars c at (tree f us) sc n s p e = by (reach c f sc s) (λ q. reach_in_vars c f sc n s q) (all_valued (evals c us) (sc.env s)) e
+    path_in_vars c at (tree f us) sc n s p e = by (reach c f sc s) (λ q. reach_in_vars c f sc n s q) (part_values (evals c us) (sc.env s)) e
       where
         by : (o : Outcome Part) → ((q : Part) → o ≡ Ok q → In q.variable) → (w : Outcome (List Value)) → o >>= (λ q. w >>= (λ ks. Ok (deeper ks q))) ≡ Ok p → In p.variable
         by (Ok q) h (Ok ks) e = in_deeper ks q p (h q refl) e
@@ -252,7 +252,7 @@ module _ (V : List Word) where
       one_steady M E here at (goto l) r sc n K k s t a = E.goto l s t a
       one_steady M E here at (macro m ts) r sc n K k s t a = E.macros here at m ts sc K n k s t a
       one_steady M E here at (call p ts) r sc n K k s t a =
-          after_same (all_valued (evals M.check ts) (sc.env s)) (all_valued (evals M.check ts) (sc.env t)) _ _ (λ i. all_valued (evals M.check ts) (n.env s t a i)) (λ vs. E.call at p.word (places_of ts sc) vs K.label s t a)
+          after_same (part_values (evals M.check ts) (sc.env s)) (part_values (evals M.check ts) (sc.env t)) _ _ (λ i. part_values (evals M.check ts) (n.env s t a i)) (λ vs. E.call at p.word (places_of ts sc) vs K.label s t a)
       one_steady M E here at return r sc n K k s t a = E.return (r refl) at s t a
 
       pub list_steady : (M : Rules) → Even R M → (here : Word) (ss : Statements) → (has_return ss ≡ true → R) → (sc : Scope) → Narrow sc → (K : Follow) → Steady K.goes → Steady (run M here ss sc K)

@@ -7,9 +7,9 @@ use Rattle.std.proofs.lemmas.Slice.Eq.{bytes_eq-Decides}
 use Rattle.tla_token.specs.declared.place.Place.{Place}
 use Rattle.tla_expr.specs.Tree.{Word}
 use Rattle.tla_value.specs.Value.{Value, text, Trouble, Outcome, ◌>>=◌}
-use Rattle.tla_value.specs.Order.{seq_from, sequence_of}
+use Rattle.tla_value.specs.Order.{seq_from}
 use Rattle.tla_value.specs.Strict.{applied}
-use Rattle.tla_value.specs.Stops.{sense_of}
+use Rattle.tla_value.specs.Stops.{sense_of, sequence_at}
 use Rattle.tla_value.specs.Meaning.{eval}
 use Rattle.pcal_tree.specs.Algorithm.{Start, unset, equals, among, Declaration, declares, Statement, branch, either, with, while, Statements, done, then, mark, Branches, no_branches, or, Macro, Routine, locals, procedure_routines, main_routines, routines}
 use Rattle.pcal_tree.specs.Scope.{State, Part, Scope}
@@ -19,7 +19,7 @@ use Rattle.pcal_tree.specs.Choices.{first_trouble, first_trouble_of}
 use Rattle.pcal_tree.specs.StepStart.{Begin, begin_in, begin, begin_some, at_label}
 use Rattle.pcal_tree.specs.Program.{Program, Actor, index, local_index, written, globals_on, common_env, global_env, read_at, read_self, read_name, global_part, part_of, routine_scope, global_scope}
 use Rattle.pcal_tree.specs.Variables.{pc, stack, declared, written_all, written_by_all, stack_for, vars, Agree}
-use Rattle.pcal_tree.specs.Calls.{label_value, setting, jumped, all_read, frame, frames_at, on_stack, argument_settings, initial_value, initial_place, variables_started, entered, fields_read, part_settings, restored, returned, finished, entered_at, named, rules_without_macros, rules_of, first_label}
+use Rattle.pcal_tree.specs.Calls.{label_value, setting, jumped, all_read, frame, on_stack, argument_settings, initial_value, initial_place, variables_started, entered, fields_read, part_settings, restored, returned, finished, entered_at, named, rules_without_macros, rules_of, first_label}
 use Rattle.pcal_tree.specs.Processes.{OneOf, IsActor}
 use Rattle.pcal_tree.specs.Step.{pc_of, Stand, routines_of, StandsAt, course_of, Step, Stutters}
 use Rattle.pcal_tree.specs.Faults.{Troubled, Sound}
@@ -236,7 +236,7 @@ module _ (P : Program) where
       λ i. (read_at at path (value_at (vars P) s t a (written P u d.name.word) (h d (inl refl)) i)) >>= (λ v. (old_same u at path ds (λ e k. h e (inr k)) s t a i) >>= (λ vs. Ok (v ∷ vs)))
 
   stack_same : (v : Actor) (p : Routine) → OneOf p procs → (at : Place) (s t : State) → Agree (vars P) s t → on_stack v at s ≡ on_stack v at t
-  stack_same v p h at s t a = λ i. (read_at at (index v.self) (value_at (vars P) s t a stack (stack_in p h) i)) >>= (λ st. frames_at at (sequence_of st))
+  stack_same v p h at s t a = λ i. (read_at at (index v.self) (value_at (vars P) s t a stack (stack_in p h) i)) >>= (sequence_at at)
 
   arguments_in : (u : Routine) (path : List Value) (ds : List Declaration) → Held u ds → (ats : List Place) (vs : List Value) → AllIn (vars P) (argument_settings path (written_all P u ds) ats vs)
   arguments_in u path [] h ats vs = tt
