@@ -2,10 +2,10 @@
 use Rattle.std.proofs.Common.{◌≡◌, List, [], ◌∷◌, ◌++◌, ◌⊎◌, refl, sym, ◌∙◌, ap, subst, inl, inr, ⊎_elim, Ok, Err}
 use Rattle.tla_token.specs.declared.place.Place.{Place}
 use Rattle.tla_expr.specs.Tree.{Word, Each, name, Tree, node, Trees, no_trees, tree}
-use Rattle.tla_value.specs.Value.{Value, text, Trouble, Outcome, ◌>>=◌}
+use Rattle.tla_value.specs.Value.{Value, text, Trouble, Outcome, ◌>>=◌, IsBad}
 use Rattle.tla_value.specs.Order.{seq_from, sequence_of}
 use Rattle.tla_value.specs.Stops.{Check, plain, on_list}
-use Rattle.tla_value.specs.Meaning.{Env, Denotation, on_all, eval, evals}
+use Rattle.tla_value.specs.Meaning.{on_all, eval, evals}
 use Rattle.tla_value.proofs.OrderFuns.{sequence_of_seq}
 use Rattle.pcal_tree.specs.Algorithm.{Declaration, Routine, locals, Assignments, Statements, then, assign}
 use Rattle.pcal_tree.specs.Scope.{State, all_valued, Scope, root_place, place_of, places_of, value_of}
@@ -13,10 +13,10 @@ use Rattle.pcal_tree.specs.Assign.{Setting, set_one, set_all, settings, moved}
 use Rattle.pcal_tree.specs.Run.{Has, after, Rules, unlabelled, run}
 use Rattle.pcal_tree.specs.Program.{Program, Actor, index, local_index, read_at, written}
 use Rattle.pcal_tree.specs.Calls.{setting, frames_at, initial_value, initial_place, all_read, frame, on_stack, argument_settings, variables_started, entered, label_value, label_name, first_label, finished}
-use Rattle.action_builder.specs.Action.{IsBad}
-use Rattle.action_builder.specs.Contract.{to_end}
-use Rattle.action_builder.specs.Settled.{Close}
-use Rattle.action_builder.specs.Moved.{name_at, spot, one_move, jump_written, names_at, stack_pushed, arguments_moved, variables_written, call_written, StandsAtPath, Machine, Initials, AsMany}
+use Rattle.action_builder.specs.laws.Settling.{to_end, Close}
+use Rattle.action_builder.specs.Jumps.{name_at, spot, one_move, jump_written, names_at, stack_pushed, arguments_moved, variables_written, call_written}
+use Rattle.action_builder.specs.laws.Scopes.{StandsAtPath}
+use Rattle.action_builder.specs.laws.Jumps.{Machine, Initials, AsMany}
 use Rattle.action_builder.proofs.Denotations.{on_both}
 use Rattle.action_builder.proofs.Settle.{close_refl}
 use Rattle.action_builder.proofs.Moved.{one_moved, listed, pc_law}
