@@ -25,7 +25,8 @@ use Rattle.module_text.specs.Truth.{Verdict, on, on_test, and_then, or_all, acte
 use Rattle.module_text.proofs.Tells.{tells_and, tells_or, tells_as, tells_of}
 use Rattle.first_path.specs.Form.{number_operand, variable_operand, Right, single, sum, Parts, is_fit}
 use Rattle.first_path.specs.Placed.{Places, right_tree, is_at, algorithm_at, module_at, integers_alone}
-use Rattle.first_path.specs.Translates.{on_variables, NextIs}
+use Rattle.promise.specs.ConstantsAndStates.{on_variables}
+use Rattle.promise.specs.NextAndInit.{NextIs}
 use Rattle.first_path.proofs.Names.{word_same}
 use Rattle.first_path.proofs.Fit.{Fit, fit_of, not_own}
 use Rattle.first_path.proofs.Means.{true_tells, last_tells, label_free, StandsFor, result, tells_same, label_tells, value_tells, right_tells}
@@ -284,6 +285,6 @@ label_kept p q f h =
     ∙ ap (λ ws. first_free (codes "Integers" ∷ []) ws f.label) (taken_are p q f) ∙ label_free f.variable f.label h.label h.not_variable
 
 pub next_is : (p q : Places) (f : Parts) → IsTrue (is_fit f) → NextIs (algorithm_at p f) (module_at q f)
-next_is p q f fit values s t constants sound =
+next_is p q f fit values s t constants from to sound =
     let h = fit_of f fit in
     next_of p f (naming (algorithm_at p f) integers_alone) values h (label_kept p q f h) q s t sound

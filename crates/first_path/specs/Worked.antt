@@ -7,10 +7,10 @@ use Rattle.pcal_tree.specs.Scope.{State, put}
 use Rattle.pcal_tree.specs.Program.{Program}
 use Rattle.pcal_tree.specs.Calls.{defaultInitValue}
 use Rattle.pcal_tree.specs.InitialChoice.{nothing}
+use Rattle.pcal_tree.specs.Variables.{pc}
+use Rattle.promise.specs.ConstantsAndStates.{program}
 use Rattle.first_path.specs.Form.{Parts, sum, variable_operand, number_operand}
 use Rattle.first_path.specs.Placed.{Places, algorithm_at, module_at}
-use Rattle.first_path.specs.Translates.{program}
-use Rattle.pcal_tree.specs.Variables.{pc}
 
 abbrev pub worked_text : List ℕ
 worked_text = codes "---- MODULE M ----\nEXTENDS Integers\n(*\n--algorithm Inc\nvariables x = 0;\nbegin\n  A: x := x + 1;\nend algorithm\n*)\n====\n"

@@ -6,7 +6,7 @@ use Rattle.outer_io.specs.Outer.{Texts, text_at, HasText, Tells, HasNoText, Grow
 use Rattle.tla_token.specs.Offences.{least}
 use Rattle.first_path.specs.Form.{Parts}
 use Rattle.first_path.specs.FormRead.{form_of, form_offences, FirstOffence, left_out}
-use Rattle.first_path.specs.Headline.{Headline}
+use Rattle.promise.specs.Headline.{Headline}
 use Rattle.first_path.proofs.Promise.{first_offence, not_both}
 use Rattle.pcal_cli.specs.Causes.{most_bytes, Writes, WritesInPart, KeepsPromise}
 use Rattle.pcal_cli.specs.FirstPathBytes.{written_text}

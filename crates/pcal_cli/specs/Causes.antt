@@ -2,7 +2,7 @@
 use Rattle.std.specs.Prelude.{◌≡◌, ◌⊎◌, ℕ, Bool, List, Option, Some, None}
 use Rattle.outer_io.specs.Outer.{Texts, Tells, RoseBy, Grows, GrowsInPart}
 use Rattle.tla_expr.specs.Tree.{Word}
-use Rattle.first_path.specs.Headline.{Headline}
+use Rattle.promise.specs.Headline.{Headline}
 use Rattle.first_path.specs.Written.{Written}
 use Rattle.pcal_cli.specs.declared.status.Status.{Status}
 use Rattle.pcal_cli.specs.declared.status.Status.TheVariants.{Fine, Memory, ReadFault, WriteFault, Refused, TooLong}

@@ -6,7 +6,7 @@ use Rattle.pcal_tree.specs.Algorithm.{Algorithm}
 use Rattle.pcal_tree.specs.Grammar.{SpellsP, SpellsC}
 use Rattle.pcal_tree.specs.Labelled.{labelled}
 use Rattle.module_text.specs.Around.{Split, algorithm_in}
-use Rattle.first_path.specs.Translates.{Translates}
+use Rattle.promise.specs.Translates.{Translates}
 
 -- the algorithm a stands in the text x, in one of the two syntaxes
 pub record Stands (x : List ℕ) (a : Algorithm) : Type 0 where
