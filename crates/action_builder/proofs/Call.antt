@@ -3,12 +3,12 @@ use Rattle.std.proofs.Common.{◌≡◌, List, [], ◌∷◌, ◌++◌, ◌⊎�
 use Rattle.std.specs.Option.{ok_or}
 use Rattle.tla_expr.specs.declared.op.Op.TheVariants.{Concat}
 use Rattle.tla_token.specs.declared.place.Place.{Place}
-use Rattle.tla_expr.specs.Tree.{Word, Each, operator, tuple, fields, name, Tree, node, Trees, no_trees, tree}
-use Rattle.tla_value.specs.Value.{Value, text, fault, Trouble, Outcome, ◌>>=◌}
+use Rattle.tla_expr.specs.Tree.{Word, Each, name, Tree, node, Trees, no_trees, tree, operator, tuple, fields}
+use Rattle.tla_value.specs.Value.{Value, text, Trouble, Outcome, ◌>>=◌, IsBad, fault}
 use Rattle.tla_value.specs.Order.{seq_from}
-use Rattle.tla_value.specs.declared.fault.FaultKind.TheVariants.{NotSequence}
 use Rattle.tla_value.specs.Stops.{Check, plain, sequence_at}
-use Rattle.tla_value.specs.Meaning.{Env, Denotation, part_values, eval, evals}
+use Rattle.tla_value.specs.Meaning.{eval, evals, part_values}
+use Rattle.tla_value.specs.declared.fault.FaultKind.TheVariants.{NotSequence}
 use Rattle.tla_value.proofs.OrderFuns.{sequence_of_seq}
 use Rattle.tla_value.specs.Strict.{strict_value}
 use Rattle.pcal_tree.specs.Algorithm.{Declaration, Routine, locals, Assignments, Statements, then, assign}
@@ -16,11 +16,11 @@ use Rattle.pcal_tree.specs.Scope.{State, Scope, root_place, place_of, places_of,
 use Rattle.pcal_tree.specs.Assign.{Setting, set_one, set_all, settings, moved}
 use Rattle.pcal_tree.specs.Run.{Has, after, Rules, unlabelled, run}
 use Rattle.pcal_tree.specs.Program.{Program, Actor, index, local_index, read_at, written}
-use Rattle.pcal_tree.specs.Calls.{setting, frame_fields, initial_value, initial_place, all_read, frame, on_stack, argument_settings, variables_started, entered, label_value, label_name, first_label, finished}
-use Rattle.action_builder.specs.Action.{IsBad}
-use Rattle.action_builder.specs.Contract.{to_end}
-use Rattle.action_builder.specs.Settled.{Close}
-use Rattle.action_builder.specs.Moved.{name_at, spot, one_move, jump_written, names_at, stack_pushed, arguments_moved, variables_written, call_written, StandsAtPath, Machine, Initials, AsMany}
+use Rattle.pcal_tree.specs.Calls.{setting, initial_value, initial_place, all_read, frame, on_stack, argument_settings, variables_started, entered, label_value, label_name, first_label, finished, frame_fields}
+use Rattle.action_builder.specs.laws.Settling.{to_end, Close}
+use Rattle.action_builder.specs.Jumps.{name_at, spot, one_move, jump_written, names_at, stack_pushed, arguments_moved, variables_written, call_written}
+use Rattle.action_builder.specs.laws.Scopes.{StandsAtPath}
+use Rattle.action_builder.specs.laws.Jumps.{Machine, Initials, AsMany}
 use Rattle.action_builder.proofs.Denotations.{on_both}
 use Rattle.action_builder.proofs.Settle.{close_refl}
 use Rattle.action_builder.proofs.Moved.{one_moved, pc_law}

@@ -10,16 +10,15 @@ use Rattle.tla_value.specs.Grafts.{owned, own_part, read_tree}
 use Rattle.pcal_tree.specs.Algorithm.{Statements}
 use Rattle.pcal_tree.specs.Scope.{State, deeper, Scope, reach_in}
 use Rattle.pcal_tree.specs.Program.{read_at}
-use Rattle.pcal_tree.specs.Run.{Has, Follow, Rules, unlabelled, run, exit_to}
+use Rattle.pcal_tree.specs.Run.{Has, Follow, Rules, unlabelled, run}
 use Rattle.pcal_tree.specs.Expand.{graft_all}
 use Rattle.pcal_tree.specs.laws.Expansion.{Any, Clean, Free}
 use Rattle.pcal_tree.proofs.GraftRuns.{graft_runs}
 use Rattle.pcal_tree.proofs.ExpandRuns.{through_meets}
-use Rattle.action_builder.specs.Contract.{to_end}
-use Rattle.action_builder.specs.Effects.{part_at}
-use Rattle.action_builder.specs.Settled.{settled, Close}
-use Rattle.action_builder.specs.Moved.{StandsAtPath}
-use Rattle.action_builder.specs.laws.LabelSteps.{own_scope, Whole, own_path, LabelStep, prepared_of, Prepares, Stepped}
+use Rattle.action_builder.specs.laws.Settling.{to_end, Close}
+use Rattle.action_builder.specs.laws.Scopes.{part_at, StandsAtPath, own_scope, Whole, own_path}
+use Rattle.action_builder.specs.Settled.{settled}
+use Rattle.action_builder.specs.laws.LabelSteps.{LabelStep, prepared_of, Prepares, Stepped}
 use Rattle.tla_value.proofs.Outcomes.{then_then}
 use Rattle.action_builder.proofs.Settle.{settle_in}
 

@@ -1,5 +1,5 @@
 -- The assignments written for a routine's jumps, calls and returns do what the rules of a step say.
-use Rattle.std.proofs.Common.{◌≡◌, List, [], ◌∷◌, Bool, true, Option, Some, None, refl, sym, ◌∙◌, ap, subst, Ok}
+use Rattle.std.proofs.Common.{◌≡◌, List, [], ◌∷◌, Bool, true, Option, Some, None, refl, sym, ◌∙◌, ap, subst}
 use Rattle.tla_expr.specs.Tree.{Word, Trees, no_trees, tree}
 use Rattle.tla_value.specs.Stops.{plain}
 use Rattle.tla_value.specs.Meaning.{evals, part_values}
@@ -10,10 +10,10 @@ use Rattle.pcal_tree.specs.Assign.{moved}
 use Rattle.pcal_tree.specs.Run.{Has, after, unlabelled, run}
 use Rattle.pcal_tree.specs.Program.{Program, Actor}
 use Rattle.pcal_tree.specs.Calls.{label_value, label_name, jumped, returned, entered_at, finished, named}
-use Rattle.action_builder.specs.Contract.{to_end}
-use Rattle.action_builder.specs.Settled.{Close, Does, Inner}
-use Rattle.action_builder.specs.Moved.{AsMany, return_moves}
-use Rattle.action_builder.specs.Rules.{base_rules, Written, call_to, moving, as_many, fitting, callable, Machines, MachinesWithin}
+use Rattle.action_builder.specs.laws.Settling.{to_end, Close, Does}
+use Rattle.action_builder.specs.laws.Scopes.{Inner}
+use Rattle.action_builder.specs.laws.Jumps.{AsMany, base_rules, as_many, fitting, callable, Machines, MachinesWithin}
+use Rattle.action_builder.specs.Jumps.{return_moves, Written, call_to, moving}
 use Rattle.action_builder.proofs.Settle.{close_refl, inner_bind}
 use Rattle.action_builder.proofs.Moved.{after_end, jump_law, return_law}
 use Rattle.action_builder.proofs.Call.{call_law}
