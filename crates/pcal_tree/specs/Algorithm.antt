@@ -12,7 +12,7 @@ nowhere = record { line = 0; col = 0 }
 
 -- ---- statements
 
--- the first token of a statement behind its labels, which is the statement's place, and its last token
+-- the first token of a statement after its labels, which is the statement's place, and its last token
 pub record Span : Type 0 where
   pub first : Place
   pub last : Place
