@@ -6,7 +6,7 @@ use Rattle.tla_value.specs.declared.fault.FaultKind.TheVariants.{AssertFailed}
 use Rattle.tla_value.specs.Value.{Value, text, Values, no_values, and, Outcome, fault, over, Trouble, ◌>>=◌}
 use Rattle.tla_value.specs.Stops.{Check}
 use Rattle.tla_value.specs.Strict.{changed_at}
-use Rattle.tla_value.specs.Meaning.{evals}
+use Rattle.tla_value.specs.Meaning.{evals, part_values}
 use Rattle.pcal_tree.specs.Algorithm.{Assignments, no_assignments, assignment, Binds, no_binds, one_of, is, Statement, Statements, Branches, no_branches, or}
 use Rattle.pcal_tree.specs.Algorithm as Source
 use Rattle.pcal_tree.specs.Scope.{State, put, Part, deeper, Scope, bound, reach, reach_path, root_place, value_of, test, members}
