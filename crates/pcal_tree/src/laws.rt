@@ -77,7 +77,7 @@ pub fn written_out_macros_run_the_same()
         → run (with_macros M ms) here ss sc K ≡ run (with_macros M []) here (expanded ms ss) sc K }
 {}
 
-/// The written names of an algorithm in a module are all different, and none is a name that stands already. Where those that
+/// The written names of an algorithm in a module are all different, and none is a name that is taken from the start. Where those that
 /// are wanted don't begin with WF_ or SF_, as no name does, none is reserved, the translation's own or standard.
 pub fn written_names_are_apart()
     ensures apart { (a : Algorithm) (o : Outside) → FewNames a o → Apart (given a o) }
