@@ -6,8 +6,14 @@ use Rattle.tla_token.specs.Lexemes.{Kind, name, is_blank}
 use Rattle.tla_token.proofs.Words.{all_append}
 use Rattle.tla_token.specs.Tokens.{Piece, blank, text_of, AllFit}
 use Rattle.tla_expr.specs.Tree.{Word}
-use Rattle.module_text.specs.Around.{Text, Mode, plain, second, Found, found_behind, step, seek, is_start, outside_comments, begins_algorithm, behind as past, is_space, word_at, header_title, is_header, at_line, line_of, spot_by, spot_in, new_region, Split}
-use Rattle.module_text.specs.Around as around
+use Rattle.module_text.specs.TextFront.{Text, past_all as past, is_space, word_at, at_line, line_of, Split}
+use Rattle.module_text.specs.Comments.{Mode, plain, second, Found, found_past, step, seek, outside_comments}
+use Rattle.module_text.specs.HeaderAndRegion.{is_start, header_title, is_header}
+use Rattle.module_text.specs.AlgorithmStretch.{begins_algorithm}
+use Rattle.module_text.specs.RegionPlace.{region_by, region_in, new_region}
+use Rattle.module_text.specs.Comments as comment
+use Rattle.module_text.specs.RegionPlace as place
+use Rattle.module_text.specs.TextFront as front
 use Rattle.first_path.specs.Form.{Parts, is_name, last_line, kinds_of, IsForm}
 use Rattle.first_path.proofs.Names.{every}
 use Rattle.first_path.proofs.Fit.{fit_of}
@@ -18,10 +24,10 @@ use Rattle.first_path.proofs.Search.{found_over, found_is, none_found, seek_calm
 -- ---- behind the first line
 
 -- by what is found of an older translation
-spot_by_start : (t r : Text) → is_name t ≡ true → spot_in (header_of t r) ≡ spot_by (header_line t) r (seek is_start plain true r)
+spot_by_start : (t r : Text) → is_name t ≡ true → region_in (header_of t r) ≡ region_by (header_line t) r (seek is_start plain true r)
 spot_by_start t r h =
-    ap (λ o. around.on_some o (λ (h : Text × Text). around.spot_behind h.0 (line_of h.1))) (header_first t r h)
-    ∙ ap (λ (p : Text × Text). around.spot_behind [] p) (line_header t r h)
+    ap (λ o. front.on_some o (λ (h : Text × Text). place.region_after h.0 (line_of h.1))) (header_first t r h)
+    ∙ ap (λ (p : Text × Text). place.region_after [] p) (line_header t r h)
 
 -- ---- no translation is there yet
 
@@ -31,10 +37,10 @@ Calm gap ps = (list_all is_blank gap ≡ true) × (list_all is_calm (text_of ps)
 
 -- at the start of the module, and at the end of the comment
 start_front : (r : Text) → seek is_start plain true (codes "EXTENDS Integers\n(*" ++ r)
-    ≡ found_over (codes "EXTENDS Integers\n(*") (seek is_start (around.block 0) false r)
+    ≡ found_over (codes "EXTENDS Integers\n(*") (seek is_start (comment.block 0) false r)
 start_front r = refl
 
-start_behind : (first : Bool) (r : Text) → seek is_start (around.block 0) first (codes "*)\n" ++ r)
+start_behind : (first : Bool) (r : Text) → seek is_start (comment.block 0) first (codes "*)\n" ++ r)
     ≡ found_over (codes "*)\n") (seek is_start plain true r)
 start_behind first r = refl
 
@@ -68,12 +74,12 @@ start_in gap ps r h =
 -- ---- behind the comment
 
 -- behind its comment the text is outside comments again
-outside_behind : (first : Bool) (r : Text) → seek outside_comments (around.block 0) first (codes "*)\n" ++ r)
+outside_behind : (first : Bool) (r : Text) → seek outside_comments (comment.block 0) first (codes "*)\n" ++ r)
     ≡ Some (record { before = codes "*)"; mode = plain; from = codes "\n" ++ r })
 outside_behind first r = refl
 
 outside_in : (ps : List Piece) (r : Text) → list_all is_calm (text_of ps) ≡ true
-    → seek outside_comments (around.block 0) false (codes "--algorithm" ++ (text_of ps ++ (codes "*)\n" ++ r)))
+    → seek outside_comments (comment.block 0) false (codes "--algorithm" ++ (text_of ps ++ (codes "*)\n" ++ r)))
     ≡ Some (record { before = codes "--algorithm" ++ (text_of ps ++ codes "*)"); mode = plain; from = codes "\n" ++ r })
 outside_in ps r h =
     seek_calm is_calm outside_comments (codes "*)\n" ++ r) (Some (record { before = codes "*)"; mode = plain; from = codes "\n" ++ r })) (λ b c. c)
@@ -92,9 +98,9 @@ new_spot : (t : Word) (gap : List ℕ) (b : ℕ) (ps : List Piece) (a : Word) (k
     → new_region (header_line t) (body_of gap (blank b ∷ ps) last_line)
     ≡ Some (record { front = header_line t ++ units_before gap (blank b ∷ ps); back = codes "\n" ++ last_line })
 new_spot t gap b ps a ks c h e =
-    ap (λ o. around.on_some o (λ (f : Found). around.on_some (seek outside_comments f.mode false f.from) (λ (g : Found). made f g)))
+    ap (λ o. front.on_some o (λ (f : Found). front.on_some (seek outside_comments f.mode false f.from) (λ (g : Found). made f g)))
     (algorithm_found gap b ps last_line a ks c.0 h e)
-    ∙ ap (λ o. around.on_some o (λ (g : Found). made start g)) (outside_in (blank b ∷ ps) last_line c.1)
+    ∙ ap (λ o. front.on_some o (λ (g : Found). made start g)) (outside_in (blank b ∷ ps) last_line c.1)
     ∙ ap (λ w. Some (record { front = w; back = codes "\n" ++ last_line }))
     (front_order (header_line t) (codes "EXTENDS Integers\n(*") (codes "\n") gap (codes "--algorithm") (text_of (blank b ∷ ps)) (codes "*)"))
   where
@@ -104,7 +110,7 @@ new_spot t gap b ps a ks c h e =
     start : Found
     start = record {
       before = codes "EXTENDS Integers\n(*\n" ++ gap;
-      mode = around.block 0;
+      mode = comment.block 0;
       from = codes "--algorithm" ++
           (text_of (blank b ∷ ps) ++ (codes "*)\n" ++ last_line));
     }
@@ -130,13 +136,13 @@ new_spot_at t gap ps a ks (b, more, e) c h k =
     let l = rw e at k in
     rw e (new_spot t gap b more a ks d i l)
 
-pub spot_is : (x : List ℕ) (f : Parts) → IsForm x f → spot_in x
+pub spot_is : (x : List ℕ) (f : Parts) → IsForm x f → region_in x
     ≡ Some (record { front = take (length x - length last_line) x; back = codes "\n" ++ last_line })
 spot_is x f h =
     let body = body_of h.gap h.pieces last_line in
     let c = comment_calm x f h in
-    ap (λ (y : Text). spot_in y) (is_split x f h)
+    ap (λ (y : Text). region_in y) (is_split x f h)
     ∙ spot_by_start f.title body (fit_of f h.fit).title
-    ∙ ap (λ o. spot_by (header_line f.title) body o) (start_in h.gap h.pieces last_line (h.is_gap, c) ∙ none_found (units_before h.gap h.pieces))
+    ∙ ap (λ o. region_by (header_line f.title) body o) (start_in h.gap h.pieces last_line (h.is_gap, c) ∙ none_found (units_before h.gap h.pieces))
     ∙ new_spot_at f.title h.gap h.pieces f.algorithm _ h.parted (h.is_gap, c) h.all_fit h.kinds_are
     ∙ ap (λ (w : Text). Some (record { front = w; back = codes "\n" ++ last_line })) (sym (front_is x f h))

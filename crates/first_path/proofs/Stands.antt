@@ -14,7 +14,9 @@ use Rattle.tla_expr.specs.Tree.{Word}
 use Rattle.pcal_tree.specs.GrammarView as view
 use Rattle.pcal_tree.specs.GrammarParts.{variable_word}
 use Rattle.pcal_tree.specs.Grammar.{spell}
-use Rattle.module_text.specs.Around.{Text, first_is, line_of, on_some, plain, Found, seek, past_title, begins_algorithm, past_p, past_c, is_braced, past_algorithm, Split, algorithm_in}
+use Rattle.module_text.specs.TextFront.{Text, first_is, line_of, on_some, Split}
+use Rattle.module_text.specs.Comments.{plain, Found, seek}
+use Rattle.module_text.specs.AlgorithmStretch.{past_title, begins_algorithm, past_p, past_c, is_braced, past_algorithm, algorithm_in}
 use Rattle.first_path.specs.Form.{Right, single, sum, Operand, number_operand, variable_operand, Parts, IsForm, is_name, is_free, is_small, is_small_right, is_fit, word, operand_kind, right_kinds, kinds, kinds_of, first_lines, last_line}
 use Rattle.first_path.specs.Form as form
 use Rattle.first_path.specs.Placed.{Places, algorithm_at}
@@ -208,10 +210,10 @@ last_lines = codes "*)\n" ++ last_line
 
 -- where the algorithm is in the text, and its tokens
 pub record Laid (x : Text) (f : Parts) : Type 0 where
-  pub spot : Split
-  pub is_spot : algorithm_in x ≡ Some spot
+  pub split : Split
+  pub is_split : algorithm_in x ≡ Some split
   pub tokens : List Token
-  pub tok : TokAlgorithm x (length spot.front) (length x - length spot.back) tokens
+  pub tok : TokAlgorithm x (length split.front) (length x - length split.back) tokens
   pub plural : Bool
   pub views_are : view.views tokens ≡ spell (spelling.form_text (spelling.places tokens) plural f) []
   pub right : spelling.AllRight (spelling.places tokens)
@@ -237,8 +239,8 @@ laid_in x f c gap b ps n g e fit k parted =
     let right : spelling.EachRight ts =
     (spelling.place_right x (length front), spelling.tokens_right (place_at x place) place parted.inner (spelling.place_right x place)) in
     record {
-      spot = record { front = front; back = back };
-      is_spot = ap algorithm_in e ∙ algorithm_spot f.title gap b ps last_line back f.algorithm _ n.title g fit k parted.past;
+      split = record { front = front; back = back };
+      is_split = ap algorithm_in e ∙ algorithm_spot f.title gap b ps last_line back f.algorithm _ n.title g fit k parted.past;
       tokens = ts;
       tok = tok_algorithm x front back parted.inner w f cut (all_fit_less parted.inner parted.tail (subst AllFit parted.whole fit)) parted.kinds_are;
       plural = c;
@@ -264,8 +266,8 @@ stands x f h =
     let l = laid x f h in (
       spelling.places l.tokens,
       record {
-        spot = l.spot;
-        is_spot = l.is_spot;
+        split = l.split;
+        is_split = l.is_split;
         tokens = l.tokens;
         tok = l.tok;
         spelled = inl (spelling.spells_algorithm (spelling.places l.tokens) l.plural f l.tokens l.right l.views_are);

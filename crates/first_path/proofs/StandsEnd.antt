@@ -10,7 +10,10 @@ use Rattle.tla_token.specs.Tokens.{Piece, blank, block, line, lexeme, text_of, F
 use Rattle.tla_token.proofs.Spelled.{begins, begins_is, no_empty}
 use Rattle.tla_token.proofs.Words.{all_append, digits_words, digit_word}
 use Rattle.tla_token.proofs.Signed.{tells_apart, tells_other}
-use Rattle.module_text.specs.Around.{Text, first_is, word_at, past_whole, past_closing, past_gap, past_p, on_some, is_some, Mode, plain, step}
+use Rattle.std.specs.Prelude.{is_some}
+use Rattle.module_text.specs.TextFront.{Text, first_is, word_at, on_some}
+use Rattle.module_text.specs.Comments.{Mode, plain, step}
+use Rattle.module_text.specs.AlgorithmStretch.{past_whole, past_closing, past_gap, past_p}
 use Rattle.first_path.specs.Form as form
 use Rattle.first_path.specs.Form.{kinds_of}
 use Rattle.first_path.proofs.Names.{name_words, name_letter, word_same, among_holds}

@@ -10,8 +10,11 @@ use Rattle.tla_token.proofs.Signed.{tells_apart, tells_other}
 use Rattle.tla_token.proofs.Words.{all_append}
 use Rattle.tla_token.specs.Places.{start}
 use Rattle.tla_expr.specs.Tree.{Word}
-use Rattle.module_text.specs.Around.{Text, plain, Found, begin_line, end_line, is_space, is_start, is_end, at_line, with_front, line_of, seek, header_title, behind as past}
-use Rattle.module_text.specs.Around as around
+use Rattle.module_text.specs.TextFront.{Text, is_space, at_line, with_front, line_of, past_all as past}
+use Rattle.module_text.specs.Comments.{plain, Found, seek}
+use Rattle.module_text.specs.HeaderAndRegion.{is_start, is_end, header_title}
+use Rattle.module_text.specs.Around.{begin_line, end_line}
+use Rattle.module_text.specs.TextFront as front
 use Rattle.module_text.specs.Layout.{layout, unit_text, units_text}
 use Rattle.module_text.specs.Reading.{Stretch, stretch, parts_of, parts_in_module, parts_from, parts_behind}
 use Rattle.module_text.specs.Module.{RegionUnit, variables_unit, vars_unit, init_unit, action_unit, terminating_unit, next_unit, spec_unit, termination_unit}
@@ -86,17 +89,17 @@ fronted_is : (w a r : Text) → fronted w (Some (a, r)) ≡ Some (w ++ a, r)
 fronted_is [] a r = refl
 fronted_is (b ∷ w) a r = ap (λ o. with_front b o) (fronted_is w a r)
 
-no_comment : (b : ℕ) (w r : Text) → Starless w → around.past_word (codes "\\*") (b ∷ (w ++ 10 ∷ r)) ≡ None
+no_comment : (b : ℕ) (w r : Text) → Starless w → front.past_word (codes "\\*") (b ∷ (w ++ 10 ∷ r)) ≡ None
 no_comment b [] r h = rw (and-false (nat_eq 92 b)) refl
 no_comment b (c ∷ w) r h = rw (tells_other no_star 42 c (and_parts (no_star c) (list_all no_star w) h).0 refl, and-false (nat_eq 92 b)) refl
 
 -- no line begins as a comment does before the next end of a line, where there is no star
-unmarked : (w r : Text) → Starless w → around.past_word (codes "\\*") (past is_space (w ++ 10 ∷ r)) ≡ None
+unmarked : (w r : Text) → Starless w → front.past_word (codes "\\*") (past is_space (w ++ 10 ∷ r)) ≡ None
 unmarked [] r h = refl
 unmarked (b ∷ w) r h = (let k = and_parts (no_star b) (list_all no_star w) h in by (is_space b) refl k.1 (unmarked w r k.1))
   where
-    by : (k : Bool) → is_space b ≡ k → Starless w → around.past_word (codes "\\*") (past is_space (w ++ 10 ∷ r)) ≡ None
-        → around.past_word (codes "\\*") (past is_space (b ∷ (w ++ 10 ∷ r))) ≡ None
+    by : (k : Bool) → is_space b ≡ k → Starless w → front.past_word (codes "\\*") (past is_space (w ++ 10 ∷ r)) ≡ None
+        → front.past_word (codes "\\*") (past is_space (b ∷ (w ++ 10 ∷ r))) ≡ None
     by true e h g = rw e g
     by false e h g = rw e (no_comment b w r h)
 
@@ -134,13 +137,13 @@ parts_behind_begin : (t : Word) (before : Stretch) (n : ℕ) (l : Text) → at_l
     → parts_from t before n (l ++ behind_region)
     ≡ Some (record { title = t; before = before; region = stretch n (length l); behind = stretch (n + length l + length end_line) 1 })
 parts_behind_begin t before n l e =
-    ap (λ o. around.on_some o (λ (r : Text × Text). parts_behind t before (stretch n (length r.0)) (n + length r.0) r.1)) e
+    ap (λ o. front.on_some o (λ (r : Text × Text). parts_behind t before (stretch n (length r.0)) (n + length r.0) r.1)) e
 
 parts_behind_header : (t : Word) (n : ℕ) (u r s : Text)
     → seek is_start plain true s ≡ Some (record { before = u; mode = plain; from = begin_line ++ r })
     → parts_in_module t n s ≡ parts_from t (stretch n (length u)) (n + length u + length begin_line) r
 parts_behind_header t n u r s e =
-    ap (λ o. around.on_some o (λ (f : Found). parts_from t (stretch n (length f.before)) (n + length f.before + length (line_of f.from).0)
+    ap (λ o. front.on_some o (λ (f : Found). parts_from t (stretch n (length f.before)) (n + length f.before + length (line_of f.from).0)
     (line_of f.from).1)) e
 
 no_more : (n : ℕ) → 0 + n ≡ n
@@ -148,9 +151,9 @@ no_more n = omega arith
 
 parts_in : (t : Word) (r : Text) → is_name t ≡ true → parts_of (header_of t r) ≡ parts_in_module t (length (header_line t)) r
 parts_in t r h =
-    ap (λ o. around.on_some o (λ (h : Text × Text). around.on_some (header_title h.1)
+    ap (λ o. front.on_some o (λ (h : Text × Text). front.on_some (header_title h.1)
     (λ (title : Word). parts_in_module title (length h.0 + length (line_of h.1).0) (line_of h.1).1))) (header_first t r h)
-    ∙ ap (λ o. around.on_some o (λ (title : Word). parts_in_module title (0 + length (line_of (header_of t r)).0) (line_of (header_of t r)).1))
+    ∙ ap (λ o. front.on_some o (λ (title : Word). parts_in_module title (0 + length (line_of (header_of t r)).0) (line_of (header_of t r)).1))
     (title_is t r h)
     ∙ ap (λ (l : Text × Text). parts_in_module t (0 + length l.0) l.1) (line_header t r h)
     ∙ ap (λ n. parts_in_module t n r) (no_more (length (header_line t)))

@@ -11,7 +11,7 @@ use Rattle.tla_token.specs.Places.{start, place_at}
 use Rattle.tla_token.specs.Offences.{Part, sound, Offence, least}
 use Rattle.tla_token.specs.Cut.{run, parts}
 use Rattle.tla_expr.specs.Tree.{Word}
-pub use Rattle.module_text.specs.Around.{on_some}
+pub use Rattle.module_text.specs.TextFront.{on_some}
 use Rattle.first_path.specs.Form.{Operand, number_operand, variable_operand, Right, single, sum, Parts, is_fit, first_lines, last_line}
 
 abbrev pub if_so : {A : Type 0} → Bool → Option A → Option A

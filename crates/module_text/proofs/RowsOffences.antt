@@ -3,7 +3,7 @@ use Rattle.std.specs.Prelude.{◌≡◌, ◌++◌, Some, None, codes}
 use Rattle.std.proofs.Common.{refl}
 use Rattle.tla_token.specs.declared.rule.Rule.TheVariants.{NoModule, NoAlgorithm, TwoAlgorithms, BadRegion, Placement, Options}
 use Rattle.tla_token.specs.Offences.{least}
-use Rattle.module_text.specs.Around.{Text}
+use Rattle.module_text.specs.TextFront.{Text}
 use Rattle.module_text.specs.Offences.{module_offences}
 
 abbrev head : Text

@@ -5,7 +5,9 @@ use Rattle.tla_token.specs.Tokens.{Tok}
 use Rattle.tla_token.specs.Lexemes as lexeme
 use Rattle.tla_expr.specs.Tree.{Word}
 use Rattle.module_text.specs.Module.{units_of, OutsideUnit, Module, words_of, outside_of}
-use Rattle.module_text.specs.Around.{Text, Mode, plain, on_some, header_title, is_header, is_start, is_end, at_line, line_of, line_end, ends_module, seek}
+use Rattle.module_text.specs.TextFront.{Text, on_some, at_line, line_of, line_end}
+use Rattle.module_text.specs.Comments.{Mode, plain, ends_module, seek}
+use Rattle.module_text.specs.HeaderAndRegion.{header_title, is_header, is_start, is_end}
 use Rattle.module_text.specs.Grammar.{Token}
 use Rattle.module_text.specs.Units.{IsUnit}
 use Rattle.module_text.specs.ModuleTokens.{view, cut}
