@@ -10,7 +10,7 @@ use Rattle.module_text.specs.TextFront.{Split}
 use Rattle.first_path.specs.Form.{Parts, IsForm}
 use Rattle.first_path.specs.Placed.{Places}
 use Rattle.promise.specs.Headline.{Stands}
-use Rattle.first_path.proofs.StandsTokens.{AllRight, places, right_phrase, behind_right, right_good, form_text}
+use Rattle.first_path.proofs.StandsTokens.{AllRight, places, right_phrase, semicolon_at, right_good, form_text}
 use Rattle.first_path.proofs.Stands.{Laid, laid}
 use Rattle.first_path.proofs.OneAlgorithm.{Whole, one_spelled}
 
@@ -36,13 +36,13 @@ whole p b f h = record {
     variable = f.variable;
     assigned = p 11;
     value = right_phrase f.variable f.right p;
-    last = p (behind_right f.right);
+    last = p (semicolon_at f.right);
     label_right = h 8;
     right = h 10;
     good = right_good f.variable f.right p h;
   };
-  ends = p (1 + behind_right f.right);
-  last = p (2 + behind_right f.right);
+  ends = p (1 + semicolon_at f.right);
+  last = p (2 + semicolon_at f.right);
 }
 
 -- the place of the algorithm is a function of the text, and its tokens are those of the form

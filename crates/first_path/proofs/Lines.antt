@@ -26,10 +26,10 @@ word_over [] [] h k = refl
 word_over [] (b ∷ r) h k = rw k refl
 word_over (b ∷ m) r h k = (let w = and_parts (is_word b) (list_all is_word m) h in rw w.0 (ap (λ (u : Text). b ∷ u) (word_over m r w.1 k)))
 
-pub behind_over : (p : ℕ → Bool) (m r : Text) → list_all p m ≡ true → first_is p r ≡ false → past_all p (m ++ r) ≡ r
-behind_over p [] [] h k = refl
-behind_over p [] (b ∷ r) h k = rw k refl
-behind_over p (b ∷ m) r h k = (let w = and_parts (p b) (list_all p m) h in rw w.0 (behind_over p m r w.1 k))
+pub after_over : (p : ℕ → Bool) (m r : Text) → list_all p m ≡ true → first_is p r ≡ false → past_all p (m ++ r) ≡ r
+after_over p [] [] h k = refl
+after_over p [] (b ∷ r) h k = rw k refl
+after_over p (b ∷ m) r h k = (let w = and_parts (p b) (list_all p m) h in rw w.0 (after_over p m r w.1 k))
 
 -- a name begins with no byte of a class that has no byte of a word
 pub first_of_name : (p : ℕ → Bool) → ((b : ℕ) → is_word b ≡ true → p b ≡ false) → (w r : Text) → is_name w ≡ true → first_is p (w ++ r) ≡ false
@@ -37,7 +37,7 @@ first_of_name p c [] r h = absurd cc
 first_of_name p c (b ∷ w) r h = c b (and_parts (is_word b) (list_all is_word w) (name_words (b ∷ w) h)).0
 
 pub past_named : (m r : Text) → is_name m ≡ true → first_is is_word r ≡ false → past_name (m ++ r) ≡ Some r
-past_named m r h k = by (word_at (m ++ r)) (past_all is_word (m ++ r)) (word_over m r (name_words m h) k) (behind_over is_word m r (name_words m h) k)
+past_named m r h k = by (word_at (m ++ r)) (past_all is_word (m ++ r)) (word_over m r (name_words m h) k) (after_over is_word m r (name_words m h) k)
   where
     by : (w s : Text) → w ≡ m → s ≡ r → (if list_any is_letter w then Some s else None) ≡ Some r
     by w s e f = rw (e, f, name_letter m h) refl
@@ -85,8 +85,8 @@ pub title_is : (t r : Text) → is_name t ≡ true → header_title (header_of t
 title_is t r h =
     let s = codes " ----\n" ++ r in
     let w = name_words t h in
-    let blank_first = behind_over is_space [] (t ++ s) refl (first_of_name is_space word_no_space t s h) in
-    rw (blank_first, word_over t s w refl, behind_over is_word t s w refl, name_letter t h) refl
+    let blank_first = after_over is_space [] (t ++ s) refl (first_of_name is_space word_no_space t s h) in
+    rw (blank_first, word_over t s w refl, after_over is_word t s w refl, name_letter t h) refl
 
 pub header_first : (t r : Text) → is_name t ≡ true → at_line is_header true (header_of t r) ≡ Some ([], header_of t r)
 header_first t r h = rw (title_is t r h) refl

@@ -15,7 +15,7 @@ use Rattle.module_text.specs.TextFront as front
 use Rattle.first_path.specs.Form.{is_name, kinds_of}
 use Rattle.first_path.proofs.Stretches.{First, first_of, first_written}
 use Rattle.first_path.proofs.Calm.{is_calm, blank_calm}
-use Rattle.first_path.proofs.Lines.{word_no_blank, behind_over, first_of_name, past_named, lexeme_name, first_more, name_stops, body_of}
+use Rattle.first_path.proofs.Lines.{word_no_blank, after_over, first_of_name, past_named, lexeme_name, first_more, name_stops, body_of}
 
 -- ---- over bytes
 
@@ -63,7 +63,7 @@ title_past : (b : ℕ) (gap bytes v : Text) → is_blank b ≡ true → list_all
     → past_title (codes "--algorithm" ++ (b ∷ (gap ++ (bytes ++ v)))) ≡ Some v
 title_past b gap bytes v h g n k =
     by (is_blank b) (gap ++ (bytes ++ v)) h
-    ∙ ap past_name (behind_over is_blank gap (bytes ++ v) g (first_of_name is_blank word_no_blank bytes v n)) ∙ past_named bytes v n k
+    ∙ ap past_name (after_over is_blank gap (bytes ++ v) g (first_of_name is_blank word_no_blank bytes v n)) ∙ past_named bytes v n k
   where
     by : (t : Bool) (u : Text) → t ≡ true
         → front.on_some (if t then Some (if t then past_all is_blank u else b ∷ u) else None) past_name ≡ past_name (past_all is_blank u)

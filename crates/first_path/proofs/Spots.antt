@@ -1,4 +1,4 @@
--- Where the translation is put into a text of the form: behind the line on which the algorithm's comment ends.
+-- Where the translation is put into a text of the form: after the line on which the algorithm's comment ends.
 use Rattle.std.proofs.Common.{◌≡◌, ℕ, ◌+◌, ◌-◌, Bool, true, false, List, [], ◌∷◌, ◌++◌, length, take, Option, Some, refl, ap, ◌∙◌, sym, codes, append_assoc, length-append, arith}
 use Rattle.std.specs.List.{list_all}
 use Rattle.std.proofs.Math.Seq.{take-append_seam}
@@ -21,7 +21,7 @@ use Rattle.first_path.proofs.Calm.{is_calm, blank_calm, text_calm}
 use Rattle.first_path.proofs.Lines.{header_line, header_of, header_first, line_header, units_before, body_of, is_lines, is_split}
 use Rattle.first_path.proofs.Search.{found_over, found_is, none_found, seek_calm, over_both, algorithm_found}
 
--- ---- behind the first line
+-- ---- after the first line
 
 -- by what is found of an older translation
 spot_by_start : (t r : Text) → is_name t ≡ true → region_in (header_of t r) ≡ region_by (header_line t) r (seek is_start plain true r)
@@ -40,9 +40,9 @@ start_front : (r : Text) → seek is_start plain true (codes "EXTENDS Integers\n
     ≡ found_over (codes "EXTENDS Integers\n(*") (seek is_start (comment.block 0) false r)
 start_front r = refl
 
-start_behind : (first : Bool) (r : Text) → seek is_start (comment.block 0) first (codes "*)\n" ++ r)
+start_after : (first : Bool) (r : Text) → seek is_start (comment.block 0) first (codes "*)\n" ++ r)
     ≡ found_over (codes "*)\n") (seek is_start plain true r)
-start_behind first r = refl
+start_after first r = refl
 
 abbrev pub inside : List ℕ → List Piece → Text
 inside gap ps = codes "\n" ++ (gap ++ (codes "--algorithm" ++ text_of ps))
@@ -57,7 +57,7 @@ body_inside gap ps r = simp append_assoc refl
 units_inside : (gap : List ℕ) (ps : List Piece) → codes "EXTENDS Integers\n(*" ++ (inside gap ps ++ codes "*)\n") ≡ units_before gap ps
 units_inside gap ps = simp append_assoc refl
 
--- a start is sought in the module just behind its first units
+-- a start is sought in the module just after its first units
 pub start_in : (gap : List ℕ) (ps : List Piece) (r : Text) → Calm gap ps
     → seek is_start plain true (body_of gap ps r) ≡ found_over (units_before gap ps) (seek is_start plain true r)
 start_in gap ps r h =
@@ -65,18 +65,18 @@ start_in gap ps r h =
     ap (λ s. seek is_start plain true s) (body_inside gap ps r)
     ∙ start_front (inside gap ps ++ (codes "*)\n" ++ r))
     ∙ ap (λ o. found_over (codes "EXTENDS Integers\n(*") o)
-    (seek_calm is_calm is_start (codes "*)\n" ++ r) (found_over (codes "*)\n") o) (λ b c. c) (λ first b s c. refl) (λ first. start_behind first r)
+    (seek_calm is_calm is_start (codes "*)\n" ++ r) (found_over (codes "*)\n") o) (λ b c. c) (λ first b s c. refl) (λ first. start_after first r)
     (inside gap ps) (inside_calm gap ps h) false
     ∙ sym (over_both (inside gap ps) (codes "*)\n") o))
     ∙ sym (over_both (codes "EXTENDS Integers\n(*") (inside gap ps ++ codes "*)\n") o)
     ∙ ap (λ w. found_over w o) (units_inside gap ps)
 
--- ---- behind the comment
+-- ---- after the comment
 
--- behind its comment the text is outside comments again
-outside_behind : (first : Bool) (r : Text) → seek outside_comments (comment.block 0) first (codes "*)\n" ++ r)
+-- after its comment the text is outside comments again
+outside_after : (first : Bool) (r : Text) → seek outside_comments (comment.block 0) first (codes "*)\n" ++ r)
     ≡ Some (record { before = codes "*)"; mode = plain; from = codes "\n" ++ r })
-outside_behind first r = refl
+outside_after first r = refl
 
 outside_in : (ps : List Piece) (r : Text) → list_all is_calm (text_of ps) ≡ true
     → seek outside_comments (comment.block 0) false (codes "--algorithm" ++ (text_of ps ++ (codes "*)\n" ++ r)))
@@ -84,7 +84,7 @@ outside_in : (ps : List Piece) (r : Text) → list_all is_calm (text_of ps) ≡ 
 outside_in ps r h =
     seek_calm is_calm outside_comments (codes "*)\n" ++ r) (Some (record { before = codes "*)"; mode = plain; from = codes "\n" ++ r })) (λ b c. c)
     (λ first b s c. refl)
-    (λ first. outside_behind first r) (codes "--algorithm" ++ text_of ps) h false
+    (λ first. outside_after first r) (codes "--algorithm" ++ text_of ps) h false
     ∙ found_is (codes "--algorithm" ++ text_of ps) (codes "*)") plain (codes "\n" ++ r)
 
 -- ---- the place
@@ -92,7 +92,7 @@ outside_in ps r h =
 front_order : (h e n gap g w c : Text) → ((h ++ ((e ++ n) ++ gap)) ++ (g ++ (w ++ c))) ++ n ≡ h ++ ((e ++ ((((n ++ gap) ++ g) ++ w) ++ c)) ++ n)
 front_order h e n gap g w c = simp append_assoc refl
 
--- behind the line on which the comment ends
+-- after the line on which the comment ends
 new_spot : (t : Word) (gap : List ℕ) (b : ℕ) (ps : List Piece) (a : Word) (ks : List Kind) → Calm gap (blank b ∷ ps) → AllFit (blank b ∷ ps)
     → kinds_of ps ≡ Some (name a ∷ ks)
     → new_region (header_line t) (body_of gap (blank b ∷ ps) last_line)

@@ -67,7 +67,7 @@ declares w = bytes_eq w (codes "variables") || bytes_eq w (codes "variable")
 abbrev pub fit : Parts → Option Parts
 fit f = if_so (is_fit f) (Some f)
 
--- the parts of the algorithm whose tokens are of these kinds, behind `--algorithm`, in the module m
+-- the parts of the algorithm whose tokens are of these kinds, after `--algorithm`, in the module m
 abbrev pub parts_in : Word → List Kind → Option Parts
 parts_in m ks =
     on_name ks (λ a ks. on_name ks (λ w ks. if_so (declares w) (

@@ -36,8 +36,8 @@ end_without_begin = refl
 old_region : least (module_offences (head ++ algorithm ++ codes "\\* BEGIN TRANSLATION\n==== x\n\\* END TRANSLATION\n====\n")) ≡ None
 old_region = refl
 
-behind_the_comment : least (module_offences (head ++ codes "(*\n--algorithm A\nbegin\n  L: skip;\nend algorithm\n*) x\n====\n")) ≡ Some (Placement, 70)
-behind_the_comment = refl
+after_the_comment : least (module_offences (head ++ codes "(*\n--algorithm A\nbegin\n  L: skip;\nend algorithm\n*) x\n====\n")) ≡ Some (Placement, 70)
+after_the_comment = refl
 
 no_unit : least (module_offences (head ++ algorithm ++ codes " x\n====\n")) ≡ Some (Placement, 71)
 no_unit = refl

@@ -29,15 +29,15 @@ looked_at x = stretches (at_line is_header true x)
     around n before m s (Some r) = (n, before) ∷ (m + length r.0 + (length r.1 - length (line_end r.1)), line_end r.1) ∷ []
     around n before m s None = (n, before ++ s) ∷ []
 
-    behind_header : ℕ → Text → List Stretch
-    behind_header n s = by (seek is_start plain true s)
+    after_header : ℕ → Text → List Stretch
+    after_header n s = by (seek is_start plain true s)
       where
         by : Option Found → List Stretch
         by (Some f) = around n f.before (n + length f.before) f.from (at_line is_end false f.from)
         by None = (n, s) ∷ []
 
     stretches : Option (Text × Text) → List Stretch
-    stretches (Some h) = behind_header (length h.0 + length (line_of h.1).0) (line_of h.1).1
+    stretches (Some h) = after_header (length h.0 + length (line_of h.1).0) (line_of h.1).1
     stretches None = []
 
 -- ---- places in a stretch
@@ -105,13 +105,13 @@ second_algorithms x = by (all_in begins_algorithm (looked_at x))
     inside : ℕ → Text → Text → List ℕ
     inside n s r = all_from in_comment plain false n (take (length s - length r) s)
 
-    behind_first : ℕ → Text → Option Text → List ℕ → List Offence
-    behind_first n s (Some r) more = offences_at TwoAlgorithms (inside n s r ++ from_index (n + (length s - length r)) more)
-    behind_first n s None more = offences_at TwoAlgorithms more
+    after_first : ℕ → Text → Option Text → List ℕ → List Offence
+    after_first n s (Some r) more = offences_at TwoAlgorithms (inside n s r ++ from_index (n + (length s - length r)) more)
+    after_first n s None more = offences_at TwoAlgorithms more
 
     by : List ℕ → List Offence
     by [] = []
-    by (n ∷ more) = behind_first n (drop n x) (past_algorithm (drop n x)) more
+    by (n ∷ more) = after_first n (drop n x) (past_algorithm (drop n x)) more
 
 -- ---- the region
 
@@ -138,8 +138,8 @@ begins_unit col s =
     || (nat_eq col 1 && (is_some (past_name s) && (not (is_tla_word (word_at s)) || is_among unit_words (word_at s)))))
 
 -- what is past_all the region or the place of insertion, on its own lines, begins no unit
-abbrev pub no_unit_behind : Text → ℕ → Text → List Offence
-no_unit_behind x n s =
+abbrev pub no_unit_after : Text → ℕ → Text → List Offence
+no_unit_after x n s =
     let at = n + (length s - length (past_gap plain s)) in
     if begins_unit (place_at x at).col (past_gap plain s) then [] else (Placement, at) ∷ []
 
@@ -154,18 +154,18 @@ rest_of_line n s = by (past_all is_space s)
 -- no room for the translation, by the stretches of the module: past_all an old region, or where a new one is put
 abbrev pub no_room : Text → List Stretch → List Offence
 no_room x [] = []
-no_room x (before ∷ t ∷ ts) = no_unit_behind x t.0 t.1
+no_room x (before ∷ t ∷ ts) = no_unit_after x t.0 t.1
 no_room x (t ∷ []) = by (seek begins_algorithm plain true t.1)
   where
     put : ℕ → Text → List Offence
-    put n s = rest_of_line n s ++ no_unit_behind x (n + (length s - length (line_of s).1)) (line_of s).1
+    put n s = rest_of_line n s ++ no_unit_after x (n + (length s - length (line_of s).1)) (line_of s).1
 
-    behind_comment : ℕ → Option Found → List Offence
-    behind_comment n (Some g) = put (n + length g.before) g.from
-    behind_comment n None = []
+    after_comment : ℕ → Option Found → List Offence
+    after_comment n (Some g) = put (n + length g.before) g.from
+    after_comment n None = []
 
     by : Option Found → List Offence
-    by (Some f) = behind_comment (t.0 + length f.before) (seek outside_comments f.mode false f.from)
+    by (Some f) = after_comment (t.0 + length f.before) (seek outside_comments f.mode false f.from)
     by None = []
 
 abbrev pub placements : Text → List Offence
