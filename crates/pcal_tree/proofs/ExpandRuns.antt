@@ -22,7 +22,7 @@ through_meets c g sc free = record {
   free = free;
 }
 
-same_argument : (ps : List Name) (ts : Trees) (x : Word) (at p : Place) → arguments ps ts x at ≡ arguments ps ts x p
+pub same_argument : (ps : List Name) (ts : Trees) (x : Word) (at p : Place) → arguments ps ts x at ≡ arguments ps ts x p
 same_argument [] ts x at p = refl
 same_argument (y ∷ ys) no_trees x at p = refl
 same_argument (y ∷ ys) (tree t ts) x at p = ap (λ o. cond (bytes_eq y.word x) (Some t) o) (same_argument ys ts x at p)

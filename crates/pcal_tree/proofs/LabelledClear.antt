@@ -5,11 +5,11 @@ use Rattle.tla_token.specs.declared.rule.Rule.TheVariants.{FirstLabel}
 use Rattle.tla_expr.specs.Tree.{Word}
 use Rattle.pcal_tree.specs.Algorithm.{Statement, assign, await, print, assert, skip, branch, either, with, while, goto, macro, call, return, Statements, done, then, mark, Branches, no_branches, or, Macro, Process, Procedure, Main, alone, processes, Algorithm, numbered, first_procedure, first_process, procedure_routine, process_routine, procedure_routines, main_routines}
 use Rattle.pcal_tree.specs.Paths.{Effects, nothing, after_one}
-use Rattle.pcal_tree.specs.OffencesSteps.{Before, at_label, at_first, inside, next, procedure_effects, outer_effects}
+use Rattle.pcal_tree.specs.OffencesSteps.{Before, at_label, at_first, inside, next, call_effect, procedure_effects, outer_effects}
 use Rattle.pcal_tree.specs.OffencesLabels.{label_words}
 use Rattle.pcal_tree.specs.Labelled.{added_name, Supply, number, names_after, labelled_if, needs_label, before, add_inside, add, add_some, add_to_macros, add_to_procedures, add_to_processes, add_to_main, typed_labels, with_labels, is_alone, is_empty, labelled}
 use Rattle.pcal_tree.proofs.BodyLabels as Body
-use Rattle.pcal_tree.specs.Apart.{Every, NoEndLabels}
+use Rattle.pcal_tree.specs.laws.Apart.{Every, NoEndLabels}
 use Rattle.pcal_tree.proofs.BodyLabels.{same_labels}
 use Rattle.pcal_tree.proofs.OneStand.{every_both}
 use Rattle.pcal_tree.proofs.ClearLabels.{is_clear, AllClear}
@@ -121,7 +121,7 @@ procedures_through : {R : Type 0} (Q : R → Type 0) (ms : List Macro) (s : Supp
     → Q (add_to_procedures ms s ps go)
 procedures_through Q ms s [] go r h k = k [] s r tt
 procedures_through Q ms s (p ∷ ps) go r h k =
-    clear_add is_clear added_clear Q (procedure_effects ms p) (at_first (Some FirstLabel)) s p.body _ r h.0 (λ b t q c.
+    clear_add is_clear added_clear Q (procedure_effects (call_effect ms) p) (at_first (Some FirstLabel)) s p.body _ r h.0 (λ b t q c.
     procedures_through Q ms t ps _ q h.1
     (λ qs u o d. k (record { name = p.name; params = p.params; variables = p.variables; body = b } ∷ qs) u o (c, d)))
 
@@ -129,7 +129,7 @@ processes_through : {R : Type 0} (Q : R → Type 0) (ms : List Macro) (s : Suppl
     → Every (λ p. Clear p.body) ps → ((qs : List Process) → Every (λ p. Clear p.body) qs → Q (go qs)) → Q (add_to_processes ms s ps go)
 processes_through Q ms s [] go r h k = k [] tt
 processes_through Q ms s (p ∷ ps) go r h k =
-    clear_add is_clear added_clear Q (outer_effects ms) (at_first (Some FirstLabel)) s p.body _ r h.0 (λ b t q c.
+    clear_add is_clear added_clear Q (outer_effects (call_effect ms)) (at_first (Some FirstLabel)) s p.body _ r h.0 (λ b t q c.
     processes_through Q ms t ps _ q h.1 (λ qs d.
     k (record { name = p.name; fairness = p.fairness; several = p.several; identity = p.identity; variables = p.variables; body = b } ∷ qs) (c, d)))
 
@@ -140,7 +140,7 @@ ClearMain (processes ps) = Every (λ p. Clear p.body) ps
 main_through : {R : Type 0} (Q : R → Type 0) (ms : List Macro) (s : Supply) (m : Main) (go : Main → R) → s.root ≡ lbl → ClearMain m
     → ((m' : Main) → ClearMain m' → Q (go m')) → Q (add_to_main ms s m go)
 main_through Q ms s (alone b) go r h k =
-    clear_add is_clear added_clear Q (outer_effects ms) (at_first (Some FirstLabel)) s b _ r h (λ c t q d. k (alone c) d)
+    clear_add is_clear added_clear Q (outer_effects (call_effect ms)) (at_first (Some FirstLabel)) s b _ r h (λ c t q d. k (alone c) d)
 main_through Q ms s (processes ps) go r h k = processes_through Q ms s ps _ r h (λ qs c. k (processes qs) c)
 
 -- ---- routines

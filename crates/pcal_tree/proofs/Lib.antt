@@ -10,6 +10,7 @@ pub mod TroubleLaws
 mod RowsPrinted
 mod RowsC
 mod RowsLabels
+mod RowsSummaries
 mod RowsNames
 mod RowsP
 mod RowsBoth
@@ -19,4 +20,8 @@ pub mod OneStand
 pub mod FreeWords
 pub mod ClearLabels
 pub mod LabelledClear
+pub mod SetLaws
+pub mod TargetLaws
+pub mod SummaryLaws
+pub mod EffectLaws
 mod RowsOffences

@@ -17,7 +17,7 @@ use Rattle.pcal_tree.specs.OffencesLabels.{label_words}
 use Rattle.tla_value.specs.Outside.{Outside}
 use Rattle.pcal_tree.specs.Names.{label, wanted, standing, given, naming, written_for}
 use Rattle.pcal_tree.specs.Step.{Stand, routines_of, StandsAt}
-use Rattle.pcal_tree.specs.Apart.{Every, FewNames, NoEndLabels}
+use Rattle.pcal_tree.specs.laws.Apart.{Every, FewNames, NoEndLabels}
 use Rattle.pcal_tree.proofs.TroubleLaws.{one_left, one_right, label_listed}
 use Rattle.pcal_tree.proofs.FreeNames.{given_apart}
 use Rattle.pcal_tree.proofs.RoutineNames.{every_one, one_either, label_wanted, one_label}

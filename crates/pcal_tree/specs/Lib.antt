@@ -32,5 +32,4 @@ pub mod Labelled
 pub mod Outside
 pub mod OffencesNames
 pub mod OffencesReserved
-pub mod Apart
 pub mod laws

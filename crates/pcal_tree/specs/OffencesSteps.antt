@@ -140,17 +140,17 @@ call_effect (d ∷ older) m ts =
 
 -- in a procedure of this name with these parameters and variables, or outside one; `call` assigns those of its procedure, and those of
 -- another one are assigned by nothing else in the step
-abbrev pub effects_in : List Macro → Option Name → List Word → Effects
-effects_in ms p xs (macro m ts) = call_effect ms m ts
-effects_in ms (Some p) xs (call q ts) = cond (bytes_eq p.word q.word) (sets_once xs) nothing
-effects_in ms p xs return = sets_once xs
-effects_in ms p xs st = assigned st
+abbrev pub effects_in : (Word → Trees → Effect) → Option Name → List Word → Effects
+effects_in C p xs (macro m ts) = C m ts
+effects_in C (Some p) xs (call q ts) = cond (bytes_eq p.word q.word) (sets_once xs) nothing
+effects_in C p xs return = sets_once xs
+effects_in C p xs st = assigned st
 
-abbrev pub procedure_effects : List Macro → Procedure → Effects
-procedure_effects ms p = effects_in ms (Some p.name) (declared (p.params ++ p.variables))
+abbrev pub procedure_effects : (Word → Trees → Effect) → Procedure → Effects
+procedure_effects C p = effects_in C (Some p.name) (declared (p.params ++ p.variables))
 
-abbrev pub outer_effects : List Macro → Effects
-outer_effects ms = effects_in ms None []
+abbrev pub outer_effects : (Word → Trees → Effect) → Effects
+outer_effects C = effects_in C None []
 
 -- what a macro assigns is looked at where it is called alone
 abbrev pub missing_in_macro : Macro → List Refusal
