@@ -1,17 +1,17 @@
 -- The written right side of a variable has the value that its assignments give it.
 use Rattle.std.proofs.Common.{◌≡◌, List, [], ◌∷◌, ◌++◌, Bool, true, false, cond, bytes_eq, refl, sym, ◌∙◌, ap, Ok, Err}
 use Rattle.tla_token.specs.declared.place.Place.{Place}
-use Rattle.tla_expr.specs.Tree.{Word, apply, select, name, strict, Tree, node, Trees, no_trees, tree}
+use Rattle.tla_expr.specs.Tree.{Word, index, apply, select, except, name, strict, Tree, node, Trees, no_trees, tree}
 use Rattle.tla_value.specs.Value.{Value, text, Outcome, fault, over, ◌>>=◌}
 use Rattle.tla_value.specs.Stops.{Check, plain}
-use Rattle.tla_value.specs.Strict.{changed_at, next_slot, updated}
-use Rattle.tla_value.specs.Meaning.{Env, just, on_all, eval, evals}
+use Rattle.tla_value.specs.Strict.{changed_at, next_slot, updated, strict_value}
+use Rattle.tla_value.specs.Meaning.{Env, just, part_values, eval, evals}
 use Rattle.pcal_tree.specs.Algorithm.{nowhere, Assignments, no_assignments, assignment}
 use Rattle.pcal_tree.specs.Scope.{State, all_valued, Part, deeper, Scope, reach, reach_path, root_place, value_of}
 use Rattle.action_builder.specs.Action.{Names, all_changes, Change, Parts, no_parts, part, changes_for, folded, value_for}
 use Rattle.action_builder.specs.Effects.{head_of, head_first, changing, part_of, parts_of, part_at, IsPlain as Plain, IsLeft, LeftFirst, LeftSides}
 use Rattle.action_builder.specs.Written.{Key, sub, fixed, subs, keys_of, keys_first, steps_of, subscripts, own, slots_of, slot_trees, except_of, is_whole, side_of}
-use Rattle.tla_value.proofs.Outcomes.{then_ok}
+use Rattle.tla_value.proofs.Outcomes.{then_ok, then_then}
 use Rattle.action_builder.proofs.Denotations.{on_twice, on_both}
 
 -- ---- left sides
@@ -56,11 +56,16 @@ mutual
 
 -- one slot takes the values of its keys and its right side; o is the value so far
 slot_law : (c : Check) (at : Place) (ks : List Key) (e : Tree) (more : Trees) (env : Env) (o : Outcome Value) (go : Value → List Value → Value → List Value → Outcome Value) →
-    on_all (evals c (subscripts ks (tree e more))) env (λ vs. o >>= (λ old. next_slot at (steps_of ks) vs (go old)))
-    ≡ on_keys c ks env (λ path. (eval c e env).value >>= (λ v. on_all (evals c more) env (λ ws. o >>= (λ old. go old path v ws))))
-slot_law c at [] e more env o go = refl
-slot_law c at (sub t ∷ ks) e more env o go = λ i. (eval c t env).value >>= (λ k. slot_law c at ks e more env o (λ old path v rest. go old (k ∷ path) v rest) i)
-slot_law c at (fixed a ∷ ks) e more env o go = slot_law c at ks e more env o (λ old path v rest. go old (text a ∷ path) v rest)
+    part_values (evals c (subscripts ks (tree e more))) env >>= (λ vs. o >>= (λ old. next_slot at (steps_of ks) vs >>= (λ (path, v, rest). go old path v rest)))
+    ≡ on_keys c ks env (λ path. (eval c e env).value >>= (λ v. part_values (evals c more) env >>= (λ ws. o >>= (λ old. go old path v ws))))
+slot_law c at [] e more env o go = on_both (eval c e env).value (λ v. part_values (evals c more) env) (λ v vs. v ∷ vs) (λ vs. o >>= (λ old. next_slot at [] vs >>= (λ (path, v, rest). go old path v rest)))
+slot_law c at (sub t ∷ ks) e more env o go =
+    on_both (eval c t env).value (λ k. part_values (evals c (subscripts ks (tree e more))) env) (λ k vs. k ∷ vs) (λ vs. o >>= (λ old. next_slot at (index ∷ steps_of ks) vs >>= (λ (path, v, rest). go old path v rest)))
+    ∙ (λ i. (eval c t env).value >>= (λ k. part_values (evals c (subscripts ks (tree e more))) env >>= (λ vs. o >>= (λ old. then_then (next_slot at (steps_of ks) vs) (λ (path, v, rest). Ok (k ∷ path, v, rest)) (λ (path, v, rest). go old path v rest) i))))
+    ∙ (λ i. (eval c t env).value >>= (λ k. slot_law c at ks e more env o (λ old path v rest. go old (k ∷ path) v rest) i))
+slot_law c at (fixed a ∷ ks) e more env o go =
+    (λ i. part_values (evals c (subscripts ks (tree e more))) env >>= (λ vs. o >>= (λ old. then_then (next_slot at (steps_of ks) vs) (λ (path, v, rest). Ok (text a ∷ path, v, rest)) (λ (path, v, rest). go old path v rest) i)))
+    ∙ slot_law c at ks e more env o (λ old path v rest. go old (text a ∷ path) v rest)
 
 -- the value after one more slot
 abbrev after_slot : Check → Place → List Value → Value → Outcome Value → Outcome Value
@@ -87,11 +92,11 @@ first_change V c l e h ps sc n s G =
     ∙ plain_reach V c l h sc n s (λ p. (value_of c e sc s) >>= (λ v. (all_changes ps sc s) >>= (λ fs. G (changing c (root_place l) p.path v ∷ fs))))
 
 slots_law : (V : Names) (c : Check) (ms : Assignments) → LeftSides V ms → (sc : Scope) → Plain V sc → (s : State) (o : Outcome Value) →
-    on_all (evals c (slot_trees ms)) (sc.env s) (λ vs. o >>= (updated c (slots_of ms) vs)) ≡ (all_changes (parts_of c ms) sc s) >>= (λ fs. o >>= (folded fs))
+    part_values (evals c (slot_trees ms)) (sc.env s) >>= (λ vs. o >>= (updated c (slots_of ms) vs)) ≡ (all_changes (parts_of c ms) sc s) >>= (λ fs. o >>= (folded fs))
 slots_law V c no_assignments h sc n s o = refl
 slots_law V c (assignment l e ms) h sc n s o =
     slot_law c (root_place l) (keys_of l) e (slot_trees ms) (sc.env s) o (λ old path v rest. (changed_at (root_place l) path v old) >>= (λ new. (c (root_place l) new) >>= (updated c (slots_of ms) rest)))
-    ∙ (λ i. on_keys c (keys_of l) (sc.env s) (λ path. (eval c e (sc.env s)).value >>= (λ v. on_all (evals c (slot_trees ms)) (sc.env s) (λ ws. slot_then c (root_place l) path v o (updated c (slots_of ms) ws) i))))
+    ∙ (λ i. on_keys c (keys_of l) (sc.env s) (λ path. (eval c e (sc.env s)).value >>= (λ v. part_values (evals c (slot_trees ms)) (sc.env s) >>= (λ ws. slot_then c (root_place l) path v o (updated c (slots_of ms) ws) i))))
     ∙ (λ i. on_keys c (keys_of l) (sc.env s) (λ path. (eval c e (sc.env s)).value >>= (λ v. slots_law V c ms h.1 sc n s (after_slot c (root_place l) path v o) i)))
     ∙ (λ i. on_keys c (keys_of l) (sc.env s) (λ path. (eval c e (sc.env s)).value >>= (λ v. (all_changes (parts_of c ms) sc s) >>= (λ fs. on_twice o (changing c (root_place l) path v) (folded fs) i))))
     ∙ sym (first_change V c l e h.0 (parts_of c ms) sc n s (λ fs. o >>= (folded fs)))
@@ -99,7 +104,8 @@ slots_law V c (assignment l e ms) h sc n s o =
 -- the law of EXCEPT, within any limits
 pub except_law : (V : Names) (c : Check) (at : Place) (y : Word) (ms : Assignments) → LeftSides V ms → (sc : Scope) → Plain V sc → (s : State) → (sc.env s).now y at ≡ just (s y) → (eval c (except_of at y ms) (sc.env s)).value ≡ (all_changes (parts_of c ms) sc s) >>= (λ fs. folded fs (s y))
 except_law V c at y ms h sc n s here =
-    (λ i. (here i).value >>= (λ old. on_all (evals c (slot_trees ms)) (sc.env s) (λ vs. updated c (slots_of ms) vs old)))
+    (λ i. ((here i).value >>= (λ old. part_values (evals c (slot_trees ms)) (sc.env s) >>= (λ vs. Ok (old ∷ vs)))) >>= strict_value c (except (slots_of ms)) at)
+    ∙ then_then (part_values (evals c (slot_trees ms)) (sc.env s)) (λ vs. Ok (s y ∷ vs)) (strict_value c (except (slots_of ms)) at)
     ∙ slots_law V c ms h sc n s (Ok (s y))
 
 -- ---- the right side of a variable

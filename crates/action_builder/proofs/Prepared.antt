@@ -1,10 +1,10 @@
 -- The prepared statements have the ends of the statements as they stand, and trouble where these have trouble.
 use Rattle.std.proofs.Common.{◌≡◌, List, [], ◌∷◌, Bool, true, false, cond, Some, None, refl, sym, ◌∙◌, subst, Ok, Err}
 use Rattle.tla_token.specs.declared.place.Place.{Place}
-use Rattle.tla_expr.specs.Tree.{Word, name, node, no_trees}
-use Rattle.tla_value.specs.Value.{Value, Outcome, fault, over, ◌>>=◌}
-use Rattle.tla_value.specs.Stops.{Check, tested, sense_of}
-use Rattle.tla_value.specs.Strict.{applied}
+use Rattle.tla_expr.specs.Tree.{Word, apply, name, node, no_trees}
+use Rattle.tla_value.specs.Value.{Value, Outcome, Sense, fault, over, ◌>>=◌}
+use Rattle.tla_value.specs.Stops.{Check, sense_of}
+use Rattle.tla_value.specs.Strict.{applied, strict_value, strict_test}
 use Rattle.tla_value.specs.Meaning.{just, eval}
 use Rattle.tla_value.specs.Grafts.{owned, own_part, read_tree}
 use Rattle.pcal_tree.specs.Algorithm.{Statements}
@@ -46,11 +46,14 @@ last_read (Err (over p)) at = refl
 pub own_stands : (c : Check) (V : Word → Bool) (self : Word) (v : Value) (own : Word → Bool) (sc : Scope) → Whole V self v own sc → (x : Word) → V x ≡ true → ((at : Place) (s : State) → (sc.env s).now x at ≡ just (s x)) → StandsAtPath (own_scope c self own sc) (own_path (own x) v) x
 own_stands c V self v own sc h x m reads at s = (own_parts c V self v own sc h x m at s, by (own x) refl)
   where
+    parts : Sense → Sense → Outcome (List Value)
+    parts f k = f.value >>= (λ v. (k.value >>= (λ w. Ok (w ∷ []))) >>= (λ ws. Ok (v ∷ ws)))
+
     by : (b : Bool) → own x ≡ b → read_tree c (cond b (Some (own_part self x at)) None) x at (sc.env s) ≡ sense_of (read_at at (own_path b v) (s x))
     by true o =
         (λ i. record {
-          value = (reads at s i).value >>= (λ f. (h.identity x o at s i).value >>= (λ k. applied at f k));
-          test = λ p w. (reads at s i).value >>= (λ f. (h.identity x o at s i).value >>= (λ k. tested p w (applied at f k)));
+          value = parts (reads at s i) (h.identity x o at s i) >>= strict_value c apply at;
+          test = λ p w. parts (reads at s i) (h.identity x o at s i) >>= strict_test c apply at p w;
         }) ∙ (λ i. sense_of (last_read (applied at (s x) v) at i))
     by false o = reads at s
 

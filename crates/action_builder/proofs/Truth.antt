@@ -6,7 +6,8 @@ use Rattle.tla_expr.specs.Tree.{Word, Tree, Trees, no_trees, tree}
 use Rattle.tla_value.specs.Value.{Value, Outcome, ◌>>=◌}
 use Rattle.tla_value.specs.Order.{same}
 use Rattle.tla_value.specs.Stops.{plain}
-use Rattle.tla_value.specs.Meaning.{Env, called, on_all, eval}
+use Rattle.tla_value.specs.Standard.{printed, asserted, standard_value}
+use Rattle.tla_value.specs.Meaning.{Env, called, part_values, eval}
 use Rattle.tla_value.specs.Definitions.{Valuation}
 use Rattle.module_text.specs.Module.{Items, no_items, item}
 use Rattle.module_text.specs.Truth.{Verdict, as_truth, as_set, at_each, is_value, items_hold, some_branch}
@@ -111,13 +112,13 @@ mutual
       subst (λ o. Matches (o.value >>= (λ v. as_truth (Module.place_of (primed A e)) v Ok)) (holds (build_one A (effect_of plain at (await e))) sc s t)) (sym (exp_law U vs A sc env k.paired w e f s t))
       (match_told (eval plain e (sc.env (mid s t A))).value (Module.place_of (primed A e)) (place_of e sc))) h
   match_item U vs A at (print e) f a w sc env k s t rest r h = match_and _ (holds_on vs env rest s t) _ r (
-      subst (λ d. Matches ((on_all (eval plain (primed A e) ∷ []) (env s t) (λ us. (called at d us).value)) >>= (λ v. as_truth at v Ok)) (holds (build_one A (effect_of plain at (print e))) sc s t)) (sym (k.paired.print s t))
-      (subst (λ o. Matches ((o.value >>= (λ v. Ok (Rattle.tla_value.specs.Value.truth true))) >>= (λ v. as_truth at v Ok)) (holds (build_one A (effect_of plain at (print e))) sc s t)) (sym (exp_law U vs A sc env k.paired w e f s t))
+      subst (λ d. Matches ((part_values (eval plain (primed A e) ∷ []) (env s t) >>= (λ us. (called at d us).value)) >>= (λ v. as_truth at v Ok)) (holds (build_one A (effect_of plain at (print e))) sc s t)) (sym (k.paired.print s t))
+      (subst (λ o. Matches (((o.value >>= (λ v. Ok (v ∷ []))) >>= standard_value plain printed at) >>= (λ v. as_truth at v Ok)) (holds (build_one A (effect_of plain at (print e))) sc s t)) (sym (exp_law U vs A sc env k.paired w e f s t))
       (match_print (eval plain e (sc.env (mid s t A))).value at))) h
   match_item U vs A at (assert e) f a w sc env k s t rest r h = match_and _ (holds_on vs env rest s t) _ r (
-      subst (λ d. Matches ((on_all (eval plain (primed A e) ∷ eval plain (Rattle.tla_expr.specs.Tree.node (Rattle.tla_expr.specs.Tree.string (codes "Failure of assertion.")) at no_trees) ∷ []) (env s t) (λ us. (called at d us).value)) >>= (λ v. as_truth at v Ok)) (holds (build_one A (effect_of plain at (assert e))) sc s t)) (sym (k.paired.assert s t))
-      (subst (λ o. Matches ((o.value >>= (λ v. Rattle.tla_value.specs.Stops.on_truth at v (λ b. cond b (Ok (Rattle.tla_value.specs.Value.truth true)) (Err (Rattle.tla_value.specs.Value.fault Rattle.tla_value.specs.declared.fault.FaultKind.TheVariants.AssertFailed at))))) >>= (λ v. as_truth at v Ok)) (holds (build_one A (effect_of plain at (assert e))) sc s t)) (sym (exp_law U vs A sc env k.paired w e f s t))
-      (match_assert (eval plain e (sc.env (mid s t A))).value at (place_of e sc) at))) h
+      subst (λ d. Matches ((part_values (eval plain (primed A e) ∷ eval plain (Rattle.tla_expr.specs.Tree.node (Rattle.tla_expr.specs.Tree.string (codes "Failure of assertion.")) at no_trees) ∷ []) (env s t) >>= (λ us. (called at d us).value)) >>= (λ v. as_truth at v Ok)) (holds (build_one A (effect_of plain at (assert e))) sc s t)) (sym (k.paired.assert s t))
+      (subst (λ o. Matches (((o.value >>= (λ v. Ok (v ∷ Rattle.tla_value.specs.Value.text (codes "Failure of assertion.") ∷ []))) >>= standard_value plain asserted at) >>= (λ v. as_truth at v Ok)) (holds (build_one A (effect_of plain at (assert e))) sc s t)) (sym (exp_law U vs A sc env k.paired w e f s t))
+      (match_assert (eval plain e (sc.env (mid s t A))).value (Rattle.tla_value.specs.Value.text (codes "Failure of assertion.")) at (place_of e sc) at))) h
   match_item U vs A at skip f a w sc env k s t rest r h = h
   match_item U vs A at (branch e x y) f a w sc env k s t rest r h =
       let xs = assigned_in (effects_of plain x) in

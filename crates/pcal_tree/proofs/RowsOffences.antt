@@ -3,7 +3,7 @@ use Rattle.std.proofs.Common.{◌≡◌, ℕ, List, [], ◌∷◌, false, true, 
 use Rattle.tla_token.specs.declared.rule.Rule.TheVariants.{Unknown, Arity, Duplicate, Reserved, OpaqueUnit}
 use Rattle.tla_token.specs.declared.rule.Refusal.{Refusal}
 use Rattle.tla_expr.specs.declared.op.Binder.TheVariants.{ForAll}
-use Rattle.tla_expr.specs.Tree.{Word, Tree, node, name, operator_call, binding, no_trees, tree}
+use Rattle.tla_expr.specs.Tree.{Word, Tree, node, name, operator_call, binding, local, no_trees, tree}
 use Rattle.pcal_tree.specs.Algorithm.{no_binds, is, Name, Statement, await, with, macro, call, skip, Statements, done, then, Macro, processes, Algorithm}
 use Rattle.pcal_tree.specs.Offences.{first}
 use Rattle.tla_value.specs.Outside.{Outside, ReadDefinition}
@@ -68,8 +68,12 @@ unknown_left : uses [] (sets (read 3 q) (read 4 x)) ≡ record { rule = Unknown;
 unknown_left = refl
 
 -- \A q \in q : q
-only_the_set : uses [] (await (node (binding ForAll (q ∷ [])) (at 3) (tree (read 4 q) (tree (read 5 q) no_trees)))) ≡ record { rule = Unknown; place = at 4 } ∷ []
+only_the_set : uses [] (await (node (binding ForAll ((record { word = q; place = at 3 } ∷ []) ∷ [])) (at 3) (tree (read 4 q) (tree (read 5 q) no_trees)))) ≡ record { rule = Unknown; place = at 4 } ∷ []
 only_the_set = refl
+
+-- LET x == q q == 1 IN q: a right side sees the names before it
+only_those_before : uses [] (await (node (local (record { word = x; place = at 3 } ∷ record { word = q; place = at 5 } ∷ [])) (at 2) (tree (read 4 q) (tree (read 6 x) (tree (read 7 q) no_trees))))) ≡ record { rule = Unknown; place = at 4 } ∷ []
+only_those_before = refl
 
 -- Len, and Len(x, y)
 arguments : uses [] (await (read 3 (codes "Len"))) ≡ record { rule = Arity; place = at 3 } ∷ []

@@ -2,9 +2,10 @@
 use Rattle.std.specs.Prelude.{List, [], ◌∷◌, ◌++◌, cond, bytes_eq, codes, Option, Some, None, ◌||◌, reverse, Ok, Err}
 use Rattle.tla_token.specs.declared.place.Place.{Place}
 use Rattle.tla_expr.specs.Tree.{Word}
-use Rattle.tla_value.specs.declared.fault.FaultKind.TheVariants.{NotFunction, NotSequence, EmptySequence}
+use Rattle.tla_value.specs.declared.fault.FaultKind.TheVariants.{NotFunction, EmptySequence}
 use Rattle.tla_value.specs.Value.{Value, text, model, fault, Outcome, ◌>>=◌}
-use Rattle.tla_value.specs.Order.{seq_from, sequence_of, record_from}
+use Rattle.tla_value.specs.Order.{seq_from, record_from}
+use Rattle.tla_value.specs.Stops.{sequence_at}
 use Rattle.tla_value.specs.Strict.{applied}
 use Rattle.pcal_tree.specs.Algorithm.{Start, unset, equals, among, Declaration, Routine, locals, procedure_routines}
 use Rattle.pcal_tree.specs.Scope.{State, root_place, value_of}
@@ -53,15 +54,11 @@ frame_fields P p = codes "procedure" ∷ codes "pc" ∷ written_all P p (locals 
 abbrev pub frame : Program → Routine → Value → List Value → Value
 frame P p back olds = record_from (frame_fields P p) (text (P.naming.title p.number) ∷ back ∷ olds)
 
-abbrev pub frames_at : Place → Option (List Value) → Outcome (List Value)
-frames_at at None = Err (fault NotSequence at)
-frames_at at (Some frames) = Ok frames
-
 -- the records on a process's stack
 abbrev pub on_stack : Actor → Place → State → Outcome (List Value)
 on_stack v at s = do
   st ← read_at at (index v.self) (s stack)
-  frames_at at (sequence_of st)
+  sequence_at at st
 
 -- parameters with the values and places of the arguments
 abbrev pub argument_settings : List Value → List Word → List Place → List Value → List Setting

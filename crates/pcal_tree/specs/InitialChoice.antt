@@ -4,7 +4,8 @@ use Rattle.tla_token.specs.declared.place.Place.{Place}
 use Rattle.tla_expr.specs.Tree.{Word}
 use Rattle.tla_value.specs.Value.{Value, truth, fun, Values, no_values, and, values_in, ◌>>=◌}
 use Rattle.pcal_tree.specs.Algorithm.{Start, unset, equals, among, Declaration, Main, alone, processes, Routine, locals, procedure_routines, main_routines}
-use Rattle.pcal_tree.specs.Scope.{State, put, Scope, value_of, members_at}
+use Rattle.tla_value.specs.Stops.{members_at}
+use Rattle.pcal_tree.specs.Scope.{State, put, Scope, value_of}
 use Rattle.pcal_tree.specs.Run.{Course, ends, chooses, after, at_each}
 use Rattle.pcal_tree.specs.Program.{Program, Actor, written, routine_scope, global_scope}
 use Rattle.pcal_tree.specs.Calls.{defaultInitValue, first_label, label_value}

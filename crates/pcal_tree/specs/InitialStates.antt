@@ -9,7 +9,8 @@ use Rattle.tla_value.specs.Value.{Value, fun, Values, no_values, and, values_in,
 use Rattle.tla_value.specs.Order.{same, orders, holds, seq_from}
 use Rattle.tla_value.specs.Meaning.{eval}
 use Rattle.pcal_tree.specs.Algorithm.{Start, unset, equals, among, Declaration, Main, alone, processes, Routine, locals, procedure_routines, main_routines}
-use Rattle.pcal_tree.specs.Scope.{State, Scope, value_of, truth_at, members_at}
+use Rattle.tla_value.specs.Stops.{truth_at, members_at}
+use Rattle.pcal_tree.specs.Scope.{State, Scope, value_of}
 use Rattle.pcal_tree.specs.Program.{Program, Actor, written, routine_scope, global_scope}
 use Rattle.pcal_tree.specs.Calls.{defaultInitValue, first_label, label_value}
 use Rattle.pcal_tree.specs.Variables.{pc, stack}
@@ -23,9 +24,7 @@ plain_allowed P sc at unset s v = Ok (same v defaultInitValue)
 plain_allowed P sc at (equals e) s v = do
   w ← value_of P.check e sc s
   Ok (same v w)
-plain_allowed P sc at (among e) s v = do
-  w ← (eval P.check e (sc.env s)).test at v
-  truth_at at w
+plain_allowed P sc at (among e) s v = (eval P.check e (sc.env s)).test at v
 
 -- ---- a function of identifiers
 

@@ -5,9 +5,8 @@ use Rattle.tla_token.specs.declared.place.Place.{Place}
 use Rattle.tla_token.specs.declared.rule.Rule.TheVariants.{Unknown, Duplicate, Arity, OpaqueUnit}
 use Rattle.tla_token.specs.declared.rule.Refusal.{Refusal}
 use Rattle.tla_token.specs.Signs.{is_among}
-use Rattle.tla_expr.specs.Tree.{Word, Form, name, operator_call, Tree, node, Trees, no_trees, tree, binders}
+use Rattle.tla_expr.specs.Tree.{Word, Form, name, operator_call, Tree, node, Trees, no_trees, tree, words, seen_names}
 use Rattle.pcal_tree.specs.Algorithm.{Name, Assignments, no_assignments, assignment, Binds, no_binds, one_of, is, Statement, assign, await, print, assert, skip, branch, either, with, while, goto, macro, call, return, Statements, done, then, mark, Branches, no_branches, or, Start, unset, equals, among, Declaration, Definition, Macro, Procedure, Process, Main, alone, processes, Algorithm}
-use Rattle.pcal_tree.specs.Program.{words}
 use Rattle.pcal_tree.specs.Offences.{offence, offence_if}
 use Rattle.tla_value.specs.Outside.{Outside, ReadDefinition}
 use Rattle.pcal_tree.specs.Outside.{unit_names}
@@ -66,18 +65,15 @@ abbrev pub count : Trees → ℕ
 count no_trees = 0
 count (tree t ts) = suc (count ts)
 
--- a form's names are bound in its last part
-abbrev pub in_last : List Word → Trees → Sight → Sight
-in_last xs no_trees s = seeing_plain xs s
-in_last xs (tree t ts) s = s
-
 abbrev mutual
   pub in_tree : Tree → Sight → List Refusal
-  in_tree (node m at ts) s = form_offences s m (count ts) at ++ in_parts (binders m) ts s
+  in_tree (node m at ts) s = form_offences s m (count ts) at ++ in_parts (seen_names m) ts s
 
-  pub in_parts : List Word → Trees → Sight → List Refusal
-  in_parts xs no_trees s = []
-  in_parts xs (tree t ts) s = in_tree t (in_last xs ts s) ++ in_parts xs ts s
+  -- each part sees further names
+  pub in_parts : List (List Word) → Trees → Sight → List Refusal
+  in_parts names no_trees s = []
+  in_parts [] (tree t ts) s = in_tree t s ++ in_parts [] ts s
+  in_parts (xs ∷ names) (tree t ts) s = in_tree t (seeing_plain xs s) ++ in_parts names ts s
 
 abbrev pub root_offences : Sight → Form → Place → List Refusal
 root_offences s (name x) at = left_offences (use_of s x) at

@@ -5,7 +5,7 @@ use Rattle.tla_expr.specs.Tree.{Word, apply, select, Form, name, strict, Tree, n
 use Rattle.tla_value.specs.declared.fault.FaultKind.{FaultKind}
 use Rattle.tla_value.specs.declared.fault.FaultKind.TheVariants.{NotBoolean, NotSet, NotFunction}
 use Rattle.tla_value.specs.Value.{Value, truth, text, set, Values, fault, Outcome, ◌>>=◌}
-use Rattle.tla_value.specs.Stops.{Check}
+use Rattle.tla_value.specs.Stops.{Check, truth_at, members_at}
 use Rattle.pcal_tree.specs.Algorithm.{nowhere}
 use Rattle.tla_value.specs.Grafts.{through as through_env}
 use Rattle.tla_value.specs.Meaning.{Env, Denotation, bind, eval, evals}
@@ -113,18 +113,10 @@ through c g sc = record {
 abbrev pub value_of : Check → Tree → Scope → State → Outcome Value
 value_of c e sc s = (eval c e (sc.env s)).value
 
-abbrev pub truth_at : Place → Value → Outcome Bool
-truth_at at (truth b) = Ok b
-truth_at at _ = Err (fault NotBoolean at)
-
 abbrev pub test : Check → Tree → Scope → State → Outcome Bool
 test c e sc s = do
   v ← value_of c e sc s
   truth_at (place_of e sc) v
-
-abbrev pub members_at : Place → Value → Outcome Values
-members_at at (set vs) = Ok vs
-members_at at _ = Err (fault NotSet at)
 
 abbrev pub members : Check → Tree → Scope → State → Outcome Values
 members c e sc s = do
