@@ -18,12 +18,12 @@ use Rattle.pcal_tree.specs.Run.{Has, after, Rules, unlabelled, run}
 use Rattle.pcal_tree.specs.Program.{Program, Actor, index, local_index, read_at, written}
 use Rattle.pcal_tree.specs.Calls.{setting, initial_value, initial_place, all_read, frame, on_stack, argument_settings, variables_started, entered, label_value, label_name, first_label, finished, frame_fields}
 use Rattle.action_builder.specs.laws.Settling.{to_end, Close}
-use Rattle.action_builder.specs.Jumps.{name_at, spot, one_move, jump_written, names_at, stack_pushed, arguments_moved, variables_written, call_written}
+use Rattle.action_builder.specs.Jumps.{name_at, spot, one_assignment, jump_written, names_at, stack_pushed, arguments_assigned, variables_written, call_written}
 use Rattle.action_builder.specs.laws.Scopes.{StandsAtPath}
-use Rattle.action_builder.specs.laws.Jumps.{Machine, Initials, AsMany}
+use Rattle.action_builder.specs.laws.Jumps.{RoutineStands, Initials, AsMany}
 use Rattle.action_builder.proofs.Denotations.{on_both}
 use Rattle.action_builder.proofs.Settle.{close_refl}
-use Rattle.action_builder.proofs.Moved.{one_moved, pc_law}
+use Rattle.action_builder.proofs.Jumps.{one_assigned, pc_law}
 use Rattle.tla_value.proofs.Outcomes.{then_two, then_ok, then_then}
 use Rattle.pcal_tree.specs.Variables.{written_all, pc, stack}
 
@@ -62,8 +62,8 @@ assign_is M at ms rest sc f h s = (λ i. after (moved M.check ms sc s) (λ u. h 
 started_law : (M : Rules) (P : Program) (v : Actor) (p : Routine) (at : Place) (sc : Scope) (place : Declaration → Place) (initial : Declaration → Tree) → M.check ≡ P.check → (ds : List Declaration) → Each (StandsAtPath sc (local_index v p)) (written_all P p ds) → Initials P v p at sc place initial ds → (last : Statements) (f : State → Outcome State) → ((s : State) → run M unlabelled last sc to_end s ≡ finished (f s)) → (s : State) → run M unlabelled (variables_written P p place initial ds last) sc to_end s ≡ finished ((variables_started P v p at ds s) >>= f)
 started_law M P v p at sc place initial q [] e k last f h s = h s
 started_law M P v p at sc place initial q (d ∷ ds) e k last f h s =
-    assign_is M (place d) (one_move (name_at (place d) (written P p d.name.word)) (initial d)) (variables_written P p place initial ds last) sc (λ u. (variables_started P v p at ds u) >>= f) (started_law M P v p at sc place initial q ds e.1 k.2 last f h) s
-    ∙ (λ i. finished ((one_moved (q i) (place d) (written P p d.name.word) (local_index v p) (initial d) sc e.0 s i) >>= (λ u. (variables_started P v p at ds u) >>= f)))
+    assign_is M (place d) (one_assignment (name_at (place d) (written P p d.name.word)) (initial d)) (variables_written P p place initial ds last) sc (λ u. (variables_started P v p at ds u) >>= f) (started_law M P v p at sc place initial q ds e.1 k.2 last f h) s
+    ∙ (λ i. finished ((one_assigned (q i) (place d) (written P p d.name.word) (local_index v p) (initial d) sc e.0 s i) >>= (λ u. (variables_started P v p at ds u) >>= f)))
     ∙ (λ i. finished (((sym (k.1 s) i) >>= (λ w. set_one P.check (setting (sym k.0 i) (written P p d.name.word) (local_index v p) w) s)) >>= (λ u. (variables_started P v p at ds u) >>= f)))
     ∙ ap finished (
     then_then start set (λ u. (variables_started P v p at ds u) >>= f)
@@ -82,12 +82,12 @@ place_is : (t : Tree) (sc : Scope) → ((x : Word) (at : Place) → sc.origin x 
 place_is (node (name x) at ts) sc o = sym (o x at)
 place_is (node m at ts) sc o = refl
 
-arguments_law : (c : Check) (path : List Value) (sc : Scope) → ((x : Word) (at : Place) → sc.origin x at ≡ at) → (xs : List Word) (ts : Trees) → AsMany xs ts → Each (StandsAtPath sc path) xs → (s : State) → settings c (arguments_moved xs ts) sc s ≡ (all_valued (evals c ts) (sc.env s)) >>= (λ vs. Ok (argument_settings path xs (places_of ts sc) vs))
+arguments_law : (c : Check) (path : List Value) (sc : Scope) → ((x : Word) (at : Place) → sc.origin x at ≡ at) → (xs : List Word) (ts : Trees) → AsMany xs ts → Each (StandsAtPath sc path) xs → (s : State) → settings c (arguments_assigned xs ts) sc s ≡ (all_valued (evals c ts) (sc.env s)) >>= (λ vs. Ok (argument_settings path xs (places_of ts sc) vs))
 arguments_law c path sc o [] no_trees m e s = refl
 arguments_law c path sc o [] (tree t ts) m e s = absurd m
 arguments_law c path sc o (x ∷ xs) no_trees m e s = absurd m
 arguments_law c path sc o (x ∷ xs) (tree t ts) m e s =
-    (λ i. ((e.0 (root_place t) s).0 i) >>= (λ r. (value_of c t sc s) >>= (λ w. (settings c (arguments_moved xs ts) sc s) >>= (λ rest. Ok (record { place = place_is t sc o i; part = r; value = w } ∷ rest)))))
+    (λ i. ((e.0 (root_place t) s).0 i) >>= (λ r. (value_of c t sc s) >>= (λ w. (settings c (arguments_assigned xs ts) sc s) >>= (λ rest. Ok (record { place = place_is t sc o i; part = r; value = w } ∷ rest)))))
     ∙ (λ i. (value_of c t sc s) >>= (λ w. (arguments_law c path sc o xs ts m e.1 s i) >>= (λ rest. Ok (setting (place_of t sc) x path w ∷ rest))))
     ∙ (λ i. (value_of c t sc s) >>= (λ w. then_then (all_valued (evals c ts) (sc.env s)) (λ vs. Ok (argument_settings path xs (places_of ts sc) vs)) (λ rest. Ok (setting (place_of t sc) x path w ∷ rest)) i))
     ∙ sym (on_both (value_of c t sc s) (λ w. all_valued (evals c ts) (sc.env s)) (λ w vs. w ∷ vs) (λ vs. Ok (argument_settings path (x ∷ xs) (place_of t sc ∷ places_of ts sc) vs)))
@@ -119,7 +119,7 @@ pushed_is : (P : Program) (p : Routine) (at : Place) (back : Word) (olds : Outco
 pushed_is P p at back (Ok ws) old = then_two (Ok (seq_from (frame P p (text back) ws ∷ []))) old (strict_value plain (operator Concat) at)
 pushed_is P p at back (Err k) old = refl
 
-pushed_law : (P : Program) (v : Actor) (p : Routine) (sc : Scope) → Machine P v p sc → (at : Place) (back : Word) (s : State) → (eval plain (stack_pushed P p at back) (sc.env s)).value ≡ (all_read at (local_index v p) (written_all P p (locals p)) s) >>= (λ olds. (on_stack v at s) >>= (λ frames. Ok (seq_from (frame P p (text back) olds ∷ frames))))
+pushed_law : (P : Program) (v : Actor) (p : Routine) (sc : Scope) → RoutineStands P v p sc → (at : Place) (back : Word) (s : State) → (eval plain (stack_pushed P p at back) (sc.env s)).value ≡ (all_read at (local_index v p) (written_all P p (locals p)) s) >>= (λ olds. (on_stack v at s) >>= (λ frames. Ok (seq_from (frame P p (text back) olds ∷ frames))))
 pushed_law P v p sc m at back s =
     (λ i. pushed P p at back (names_law (local_index v p) sc at (written_all P p (locals p)) m.own s i) ((sc.env s).now stack at).value)
     ∙ pushed_is P p at back (all_read at (local_index v p) (written_all P p (locals p)) s) ((sc.env s).now stack at).value
@@ -147,7 +147,7 @@ abbrev all_set : Program → Actor → Routine → Place → Trees → Scope →
 all_set P v p at ts sc s w vs = (set_all P.check (setting at stack (index v.self) w ∷ argument_settings (local_index v p) (written_all P p p.params) (places_of ts sc) vs) s) >>= (tail_of P v p at)
 
 -- the law
-pub call_law : (M : Rules) (P : Program) (v : Actor) (p : Routine) (at : Place) (ts : Trees) (back : Word) (place : Declaration → Place) (initial : Declaration → Tree) (sc : Scope) → M.check ≡ P.check → P.check ≡ plain → Machine P v p sc → AsMany (written_all P p p.params) ts → Initials P v p at sc place initial p.variables → (s : State) →
+pub call_law : (M : Rules) (P : Program) (v : Actor) (p : Routine) (at : Place) (ts : Trees) (back : Word) (place : Declaration → Place) (initial : Declaration → Tree) (sc : Scope) → M.check ≡ P.check → P.check ≡ plain → RoutineStands P v p sc → AsMany (written_all P p p.params) ts → Initials P v p at sc place initial p.variables → (s : State) →
     Close (Has (run M unlabelled (call_written P p at ts back place initial) sc to_end s)) (Has (after (all_valued (evals P.check ts) (sc.env s)) (λ vs. finished (entered P v at (text back) p (places_of ts sc) vs s))))
 call_law M P v p at ts back place initial sc q c m as_many k s =
     subst (λ z. Close (Has z) (Has (after values (λ vs. finished (entered P v at (text back) p (places_of ts sc) vs s))))) (sym left)
@@ -162,7 +162,7 @@ call_law M P v p at ts back place initial sc q c m as_many k s =
     pushed = (eval P.check (stack_pushed P p at back) (sc.env s)).value
 
     args : Assignments
-    args = arguments_moved (written_all P p p.params) ts
+    args = arguments_assigned (written_all P p p.params) ts
 
     first : Value → Setting
     first w = setting at stack (index v.self) w

@@ -16,7 +16,7 @@ pub mod Matching
 pub mod Truth
 pub mod Items
 pub mod Begins
-pub mod Moved
+pub mod Jumps
 pub mod Call
 pub mod Prepared
 pub mod Rules

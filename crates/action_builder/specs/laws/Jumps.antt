@@ -9,12 +9,12 @@ use Rattle.pcal_tree.specs.Program.{Program, Actor, index, local_index}
 use Rattle.pcal_tree.specs.Variables.{written_all, pc, stack}
 use Rattle.pcal_tree.specs.Run.{Rules, with_macros}
 use Rattle.pcal_tree.specs.Calls.{initial_place, initial_value, named, rules_of}
-use Rattle.action_builder.specs.Jumps.{Written}
+use Rattle.action_builder.specs.Jumps.{InitialValues}
 use Rattle.action_builder.specs.laws.Settling.{Callable}
 use Rattle.action_builder.specs.laws.Scopes.{StandsAtPath, Inner}
 
 -- pc, the stack and the variables of p stand at the process's identifier, and Head and Tail are those of Sequences
-pub record Machine (P : Program) (v : Actor) (p : Routine) (sc : Scope) : Type 0 where
+pub record RoutineStands (P : Program) (v : Actor) (p : Routine) (sc : Scope) : Type 0 where
   pub pc : StandsAtPath sc (index v.self) pc
   pub stack : StandsAtPath sc (index v.self) stack
   pub own : Each (StandsAtPath sc (local_index v p)) (written_all P p (locals p))
@@ -49,14 +49,14 @@ abbrev pub callable : Program → Callable
 callable P p ts = fitting P (named p.word (procedure_routines P.algorithm)) ts
 
 -- the variables of the routine and of each procedure stand at the process's identifier, and initial values are written as they are
-pub record Machines (P : Program) (v : Actor) (u : Routine) (I : Written) (sc : Scope) : Type 0 where
-  pub own : Machine P v u sc
-  pub called : (x : Word) (p : Routine) → named x (procedure_routines P.algorithm) ≡ Some p → Machine P v p sc
+pub record RoutinesStand (P : Program) (v : Actor) (u : Routine) (I : InitialValues) (sc : Scope) : Type 0 where
+  pub own : RoutineStands P v u sc
+  pub called : (x : Word) (p : Routine) → named x (procedure_routines P.algorithm) ≡ Some p → RoutineStands P v p sc
   pub initials : (x : Word) (p : Routine) → named x (procedure_routines P.algorithm) ≡ Some p → (at : Place) → Initials P v p at sc (I.place p at) (I.initial p) p.variables
 
 -- also with names of f bound
-abbrev pub MachinesWithin : Program → Actor → Routine → Written → (Word → Bool) → Scope → Type 0
-MachinesWithin P v u I f sc = (inner : Scope) → Inner f sc inner → Machines P v u I inner
+abbrev pub RoutinesStandWithin : Program → Actor → Routine → InitialValues → (Word → Bool) → Scope → Type 0
+RoutinesStandWithin P v u I f sc = (inner : Scope) → Inner f sc inner → RoutinesStand P v u I inner
 
 -- the rules of a step, without macros
 abbrev pub base_rules : Program → Actor → Routine → Rules
