@@ -12,7 +12,7 @@ use Rattle.tla_value.specs.declared.fault.FaultKind.TheVariants.{NotSequence}
 use Rattle.tla_value.proofs.OrderFuns.{sequence_of_seq}
 use Rattle.tla_value.specs.Strict.{strict_value}
 use Rattle.pcal_tree.specs.Algorithm.{Declaration, Routine, locals, Assignments, Statements, then, assign}
-use Rattle.pcal_tree.specs.Scope.{State, all_valued, Scope, root_place, place_of, places_of, value_of}
+use Rattle.pcal_tree.specs.Scope.{State, Scope, root_place, place_of, places_of, value_of}
 use Rattle.pcal_tree.specs.Assign.{Setting, set_one, set_all, settings, moved}
 use Rattle.pcal_tree.specs.Run.{Has, after, Rules, unlabelled, run}
 use Rattle.pcal_tree.specs.Program.{Program, Actor, index, local_index, read_at, written}
@@ -82,15 +82,15 @@ place_is : (t : Tree) (sc : Scope) → ((x : Word) (at : Place) → sc.origin x 
 place_is (node (name x) at ts) sc o = sym (o x at)
 place_is (node m at ts) sc o = refl
 
-arguments_law : (c : Check) (path : List Value) (sc : Scope) → ((x : Word) (at : Place) → sc.origin x at ≡ at) → (xs : List Word) (ts : Trees) → AsMany xs ts → Each (StandsAtPath sc path) xs → (s : State) → settings c (arguments_assigned xs ts) sc s ≡ (all_valued (evals c ts) (sc.env s)) >>= (λ vs. Ok (argument_settings path xs (places_of ts sc) vs))
+arguments_law : (c : Check) (path : List Value) (sc : Scope) → ((x : Word) (at : Place) → sc.origin x at ≡ at) → (xs : List Word) (ts : Trees) → AsMany xs ts → Each (StandsAtPath sc path) xs → (s : State) → settings c (arguments_assigned xs ts) sc s ≡ (part_values (evals c ts) (sc.env s)) >>= (λ vs. Ok (argument_settings path xs (places_of ts sc) vs))
 arguments_law c path sc o [] no_trees m e s = refl
 arguments_law c path sc o [] (tree t ts) m e s = absurd m
 arguments_law c path sc o (x ∷ xs) no_trees m e s = absurd m
 arguments_law c path sc o (x ∷ xs) (tree t ts) m e s =
     (λ i. ((e.0 (root_place t) s).0 i) >>= (λ r. (value_of c t sc s) >>= (λ w. (settings c (arguments_assigned xs ts) sc s) >>= (λ rest. Ok (record { place = place_is t sc o i; part = r; value = w } ∷ rest)))))
     ∙ (λ i. (value_of c t sc s) >>= (λ w. (arguments_law c path sc o xs ts m e.1 s i) >>= (λ rest. Ok (setting (place_of t sc) x path w ∷ rest))))
-    ∙ (λ i. (value_of c t sc s) >>= (λ w. then_then (all_valued (evals c ts) (sc.env s)) (λ vs. Ok (argument_settings path xs (places_of ts sc) vs)) (λ rest. Ok (setting (place_of t sc) x path w ∷ rest)) i))
-    ∙ sym (on_both (value_of c t sc s) (λ w. all_valued (evals c ts) (sc.env s)) (λ w vs. w ∷ vs) (λ vs. Ok (argument_settings path (x ∷ xs) (place_of t sc ∷ places_of ts sc) vs)))
+    ∙ (λ i. (value_of c t sc s) >>= (λ w. then_then (part_values (evals c ts) (sc.env s)) (λ vs. Ok (argument_settings path xs (places_of ts sc) vs)) (λ rest. Ok (setting (place_of t sc) x path w ∷ rest)) i))
+    ∙ sym (on_both (value_of c t sc s) (λ w. part_values (evals c ts) (sc.env s)) (λ w vs. w ∷ vs) (λ vs. Ok (argument_settings path (x ∷ xs) (place_of t sc ∷ places_of ts sc) vs)))
 
 -- ---- the new stack
 
@@ -148,7 +148,7 @@ all_set P v p at ts sc s w vs = (set_all P.check (setting at stack (index v.self
 
 -- the law
 pub call_law : (M : Rules) (P : Program) (v : Actor) (p : Routine) (at : Place) (ts : Trees) (back : Word) (place : Declaration → Place) (initial : Declaration → Tree) (sc : Scope) → M.check ≡ P.check → P.check ≡ plain → RoutineStands P v p sc → AsMany (written_all P p p.params) ts → Initials P v p at sc place initial p.variables → (s : State) →
-    Close (Has (run M unlabelled (call_written P p at ts back place initial) sc to_end s)) (Has (after (all_valued (evals P.check ts) (sc.env s)) (λ vs. finished (entered P v at (text back) p (places_of ts sc) vs s))))
+    Close (Has (run M unlabelled (call_written P p at ts back place initial) sc to_end s)) (Has (after (part_values (evals P.check ts) (sc.env s)) (λ vs. finished (entered P v at (text back) p (places_of ts sc) vs s))))
 call_law M P v p at ts back place initial sc q c m as_many k s =
     subst (λ z. Close (Has z) (Has (after values (λ vs. finished (entered P v at (text back) p (places_of ts sc) vs s))))) (sym left)
     (subst (λ z. Close (Has (finished (pushed >>= (λ w. values >>= (all_set P v p at ts sc s w))))) (Has z)) (sym (after_finished values (λ vs. entered P v at (text back) p (places_of ts sc) vs s)))
@@ -156,7 +156,7 @@ call_law M P v p at ts back place initial sc q c m as_many k s =
     (close_finished _ _ (swap pushed values (all_set P v p at ts sc s)))))
   where
     values : Outcome (List Value)
-    values = all_valued (evals P.check ts) (sc.env s)
+    values = part_values (evals P.check ts) (sc.env s)
 
     pushed : Outcome Value
     pushed = (eval P.check (stack_pushed P p at back) (sc.env s)).value

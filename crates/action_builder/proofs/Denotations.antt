@@ -6,10 +6,10 @@ use Rattle.tla_value.specs.declared.fault.FaultKind.TheVariants.{AssertFailed}
 use Rattle.tla_value.specs.Value.{Value, text, Values, no_values, and, Outcome, fault, over, Trouble, ◌>>=◌}
 use Rattle.tla_value.specs.Stops.{Check}
 use Rattle.tla_value.specs.Strict.{changed_at}
-use Rattle.tla_value.specs.Meaning.{evals}
+use Rattle.tla_value.specs.Meaning.{evals, part_values}
 use Rattle.pcal_tree.specs.Algorithm.{Assignments, no_assignments, assignment, Binds, no_binds, one_of, is, Statement, Statements, Branches, no_branches, or}
 use Rattle.pcal_tree.specs.Algorithm as Source
-use Rattle.pcal_tree.specs.Scope.{State, put, all_valued, Part, deeper, Scope, bound, reach, reach_path, root_place, value_of, test, members}
+use Rattle.pcal_tree.specs.Scope.{State, put, Part, deeper, Scope, bound, reach, reach_path, root_place, value_of, test, members}
 use Rattle.pcal_tree.specs.Assign.{Setting, set_all, settings}
 use Rattle.pcal_tree.specs.Assign as Assign
 use Rattle.pcal_tree.specs.Run.{Course, chooses, Has, HasSome, after, at_each, held, stops, Follow, Rules, unlabelled, run_binds}
@@ -51,12 +51,12 @@ mutual
   heads_path : {X : Type 0} (V : Names) (c : Check) (at : Place) (ts : Trees) → LeftFirst V ts → (sc : Scope) → Named V sc → (s : State) (go : Part → Outcome X) → (reach_path c at ts sc s) >>= go ≡ (reach_path c at ts sc s) >>= (λ p. go (part_at (head_first ts) p.path))
   heads_path V c at no_trees h sc n s go = absurd h
   heads_path V c at (tree f us) h sc n s go =
-      on_twice (reach c f sc s) (λ p. (all_valued (evals c us) (sc.env s)) >>= (λ ks. Ok (deeper ks p))) go
-      ∙ heads V c f h sc n s (λ p. ((all_valued (evals c us) (sc.env s)) >>= (λ ks. Ok (deeper ks p))) >>= go)
-      ∙ (λ i. (reach c f sc s) >>= (λ p. (on_twice (all_valued (evals c us) (sc.env s)) (λ ks. Ok (part_at (head_of f) (p.path ++ ks))) go
-      ∙ sym (on_twice (all_valued (evals c us) (sc.env s)) (λ ks. Ok (part_at (head_of f) (p.path ++ ks))) (λ q. go (part_at (head_of f) q.path)))) i))
-      ∙ sym (heads V c f h sc n s (λ p. ((all_valued (evals c us) (sc.env s)) >>= (λ ks. Ok (deeper ks p))) >>= (λ q. go (part_at (head_of f) q.path))))
-      ∙ sym (on_twice (reach c f sc s) (λ p. (all_valued (evals c us) (sc.env s)) >>= (λ ks. Ok (deeper ks p))) (λ q. go (part_at (head_of f) q.path)))
+      on_twice (reach c f sc s) (λ p. (part_values (evals c us) (sc.env s)) >>= (λ ks. Ok (deeper ks p))) go
+      ∙ heads V c f h sc n s (λ p. ((part_values (evals c us) (sc.env s)) >>= (λ ks. Ok (deeper ks p))) >>= go)
+      ∙ (λ i. (reach c f sc s) >>= (λ p. (on_twice (part_values (evals c us) (sc.env s)) (λ ks. Ok (part_at (head_of f) (p.path ++ ks))) go
+      ∙ sym (on_twice (part_values (evals c us) (sc.env s)) (λ ks. Ok (part_at (head_of f) (p.path ++ ks))) (λ q. go (part_at (head_of f) q.path)))) i))
+      ∙ sym (heads V c f h sc n s (λ p. ((part_values (evals c us) (sc.env s)) >>= (λ ks. Ok (deeper ks p))) >>= (λ q. go (part_at (head_of f) q.path))))
+      ∙ sym (on_twice (reach c f sc s) (λ p. (part_values (evals c us) (sc.env s)) >>= (λ ks. Ok (deeper ks p))) (λ q. go (part_at (head_of f) q.path)))
 
 abbrev pub to_changes : Check → List Setting → Changes
 to_changes c [] = no_changes

@@ -7,7 +7,7 @@ use Rattle.tla_value.specs.Stops.{Check, plain}
 use Rattle.tla_value.specs.Strict.{changed_at, next_slot, updated, strict_value}
 use Rattle.tla_value.specs.Meaning.{Env, just, part_values, eval, evals}
 use Rattle.pcal_tree.specs.Algorithm.{nowhere, Assignments, no_assignments, assignment}
-use Rattle.pcal_tree.specs.Scope.{State, all_valued, Part, deeper, Scope, reach, reach_path, root_place, value_of}
+use Rattle.pcal_tree.specs.Scope.{State, Part, deeper, Scope, reach, reach_path, root_place, value_of}
 use Rattle.action_builder.specs.Assigned.{Names, head_of, head_first}
 use Rattle.action_builder.proofs.Actions.{all_changes, changes_for, folded, value_for}
 use Rattle.action_builder.proofs.Effects.{Change, Parts, no_parts, part, changing, part_of, parts_of, Changes, no_changes, change, evaluated, Named}
@@ -32,10 +32,10 @@ keys_append c [] js env go = refl
 keys_append c (sub t ∷ ks) js env go = λ i. (eval c t env).value >>= (λ v. keys_append c ks js env (λ vs. go (v ∷ vs)) i)
 keys_append c (fixed a ∷ ks) js env go = keys_append c ks js env (λ vs. go (text a ∷ vs))
 
-subs_law : {X : Type 0} (c : Check) (ts : Trees) (env : Env) (go : List Value → Outcome X) → (all_valued (evals c ts) env) >>= go ≡ on_keys c (subs ts) env go
+subs_law : {X : Type 0} (c : Check) (ts : Trees) (env : Env) (go : List Value → Outcome X) → (part_values (evals c ts) env) >>= go ≡ on_keys c (subs ts) env go
 subs_law c no_trees env go = refl
 subs_law c (tree t ts) env go =
-    on_both (eval c t env).value (λ v. all_valued (evals c ts) env) (λ v vs. v ∷ vs) go
+    on_both (eval c t env).value (λ v. part_values (evals c ts) env) (λ v vs. v ∷ vs) go
     ∙ (λ i. (eval c t env).value >>= (λ v. subs_law c ts env (λ vs. go (v ∷ vs)) i))
 
 mutual
@@ -51,9 +51,9 @@ mutual
   plain_path : {X : Type 0} (V : Names) (c : Check) (at : Place) (ts : Trees) → LeftFirst V ts → (sc : Scope) → Plain V sc → (s : State) (go : Part → Outcome X) → (reach_path c at ts sc s) >>= go ≡ on_keys c (keys_first ts) (sc.env s) (λ ks. go (part_at (head_first ts) ks))
   plain_path V c at no_trees h sc n s go = absurd h
   plain_path V c at (tree f us) h sc n s go =
-      on_twice (reach c f sc s) (λ p. (all_valued (evals c us) (sc.env s)) >>= (λ ks. Ok (deeper ks p))) go
-      ∙ plain_reach V c f h sc n s (λ p. ((all_valued (evals c us) (sc.env s)) >>= (λ ks. Ok (deeper ks p))) >>= go)
-      ∙ (λ i. on_keys c (keys_of f) (sc.env s) (λ js. on_twice (all_valued (evals c us) (sc.env s)) (λ ks. Ok (part_at (head_of f) (js ++ ks))) go i))
+      on_twice (reach c f sc s) (λ p. (part_values (evals c us) (sc.env s)) >>= (λ ks. Ok (deeper ks p))) go
+      ∙ plain_reach V c f h sc n s (λ p. ((part_values (evals c us) (sc.env s)) >>= (λ ks. Ok (deeper ks p))) >>= go)
+      ∙ (λ i. on_keys c (keys_of f) (sc.env s) (λ js. on_twice (part_values (evals c us) (sc.env s)) (λ ks. Ok (part_at (head_of f) (js ++ ks))) go i))
       ∙ (λ i. on_keys c (keys_of f) (sc.env s) (λ js. subs_law c us (sc.env s) (λ ks. go (part_at (head_of f) (js ++ ks))) i))
       ∙ sym (keys_append c (keys_of f) (subs us) (sc.env s) (λ ks. go (part_at (head_of f) ks)))
 

@@ -5,10 +5,10 @@ use Rattle.tla_expr.specs.Tree.{Word, apply, name, node, no_trees}
 use Rattle.tla_value.specs.Value.{Value, Outcome, Sense, fault, over, ◌>>=◌}
 use Rattle.tla_value.specs.Stops.{Check, sense_of}
 use Rattle.tla_value.specs.Strict.{applied, strict_value, strict_test}
-use Rattle.tla_value.specs.Meaning.{just, eval}
+use Rattle.tla_value.specs.Meaning.{just, eval, part_values}
 use Rattle.tla_value.specs.Grafts.{owned, own_part, read_tree}
 use Rattle.pcal_tree.specs.Algorithm.{Statements}
-use Rattle.pcal_tree.specs.Scope.{State, all_valued, deeper, Scope, reach_in}
+use Rattle.pcal_tree.specs.Scope.{State, deeper, Scope, reach_in}
 use Rattle.pcal_tree.specs.Program.{read_at}
 use Rattle.pcal_tree.specs.Run.{Has, Follow, Rules, unlabelled, run}
 use Rattle.pcal_tree.specs.Expand.{graft_all}
@@ -31,7 +31,7 @@ own_parts : (c : Check) (V : Word → Bool) (self : Word) (v : Value) (own : Wor
 own_parts c V self v own sc h x m at s = by (own x) refl
   where
     by : (b : Bool) → own x ≡ b → reach_in c (cond b (Some (own_part self x at)) None) x at sc s ≡ Ok (part_at x (own_path b v))
-    by true o = (λ i. (h.part x m at s i) >>= (λ p. (all_valued (eval c (node (name self) at no_trees) ∷ []) (sc.env s)) >>= (λ ks. Ok (deeper ks p))))
+    by true o = (λ i. (h.part x m at s i) >>= (λ p. (part_values (eval c (node (name self) at no_trees) ∷ []) (sc.env s)) >>= (λ ks. Ok (deeper ks p))))
         ∙ then_then ((sc.env s).now self at).value (λ k. Ok (k ∷ [])) (λ ks. Ok (deeper ks (part_at x [])))
         ∙ (λ i. (h.identity x o at s i).value >>= (λ k. Ok (deeper (k ∷ []) (part_at x []))))
     by false o = h.part x m at s
