@@ -11,7 +11,7 @@ use Rattle.pcal_tree.specs.Algorithm.{Name, Algorithm}
 use Rattle.tla_expr.specs.Lexical.{Token}
 use Rattle.pcal_tree.specs.AlgorithmTokens.{views}
 use Rattle.pcal_tree.specs.GrammarParts as part
-use Rattle.pcal_tree.specs.GrammarParts.{All, key, mark, expression}
+use Rattle.pcal_tree.specs.GrammarParts.{key, mark, expression}
 use Rattle.pcal_tree.specs.GrammarP.{sequence}
 use Rattle.pcal_tree.specs.Grammar.{p_syntax, c_syntax, Macro, macro, Procedure, procedure, Fair, unfair, weak, strong, fair, Head, algorithm, fair_algorithm, head, Define, no_define, define_end, define_braces, define, Main, begin, block, processes, each, main, Around, to_end, in_braces, Text, spell, GoodAround, GoodDefine, GoodMain, Good, around, algorithm_of, SpellsP, SpellsC}
 use Rattle.first_path.proofs.OneStatement.{tail, Calmly, one_expression, calm_token, first_sort, first_word, first_place, apart, key_apart, Labelled, sequence_of, same_name, one_sequence}
