@@ -14,7 +14,7 @@ use Rattle.pcal_tree.specs.Scope.{State, Scope, value_of}
 use Rattle.pcal_tree.specs.Assign.{Setting, set_one, set_all, settings, moved}
 use Rattle.pcal_tree.specs.Run.{ends, after, Rules, unlabelled, run}
 use Rattle.pcal_tree.specs.Program.{Program, Actor, index, local_index, read_at}
-use Rattle.pcal_tree.specs.Calls.{label_name, setting, jumped, on_stack, fields_read, part_settings, restored, returned, finished}
+use Rattle.pcal_tree.specs.Calls.{setting, on_stack, fields_read, part_settings, restored, returned, finished}
 use Rattle.action_builder.specs.laws.Settling.{to_end}
 use Rattle.action_builder.specs.Jumps.{name_at, text_at, one_assignment, jump_written, kept_field, stack_rest, fields_restored, return_assignments}
 use Rattle.action_builder.specs.laws.Scopes.{StandsAtPath}
@@ -42,9 +42,6 @@ pc_law M P v at l sc h s q =
     after_end (moved M.check (one_assignment (name_at at pc) (text_at at l)) sc s)
     ∙ ap finished (one_assigned M.check at pc (index v.self) (text_at at l) sc h s)
     ∙ (λ i. finished (set_one (q i) (setting at pc (index v.self) (text l)) s))
-
-pub jump_law : (M : Rules) (P : Program) (v : Actor) (u : Routine) (l : Word) (sc : Scope) → StandsAtPath sc (index v.self) pc → (s : State) → M.check ≡ P.check → run M unlabelled (jump_written v.own.name.place (label_name P u l)) sc to_end s ≡ finished (jumped P v u l s)
-jump_law M P v u l sc h s q = pc_law M P v v.own.name.place (label_name P u l) sc h s q
 
 -- ---- a return
 

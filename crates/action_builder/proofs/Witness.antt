@@ -18,7 +18,7 @@ use Rattle.action_builder.specs.laws.Jumps.{RoutineStands, Initials, RoutinesSta
 use Rattle.action_builder.specs.Settled.{settled}
 use Rattle.action_builder.specs.laws.LabelSteps.{prepared_of, IsPrepared, IsReady}
 use Rattle.action_builder.specs.Prepared.{none}
-use Rattle.action_builder.specs.laws.Sample.{macros, unexpanded, program, routine, me, actor, self, variables, own, plain_env, plain_scope, scope, env, any_name, initials, step}
+use Rattle.action_builder.specs.laws.Sample.{macros, unexpanded, program, routine, me, actor, self, variables, own, plain_env, plain_scope, scope, env, any_name, initials, places, step}
 use Rattle.action_builder.proofs.Names.{each_name}
 use Rattle.action_builder.proofs.Decided.{clear_list, fine_list}
 use Rattle.action_builder.proofs.Prepared.{own_stands}
@@ -77,7 +77,7 @@ machines : RoutinesStand program actor routine initials (own_scope plain self ow
 machines = record {
   own = machine routine (there (codes "y") refl, tt);
   called = λ x p e. subst (λ q. RoutineStands program actor q (own_scope plain self own scope)) (some_is (bytes_eq (codes "P") x) _ p e) (machine _ (there (codes "a") refl, (there (codes "b") refl, tt)));
-  initials = λ x p e at. subst (λ q. Initials program actor q at (own_scope plain self own scope) (initials.place q at) (initials.initial q) q.variables) (some_is (bytes_eq (codes "P") x) _ p e) (refl, (λ s. refl), tt);
+  initials = λ x p e at. subst (λ q. Initials program actor q at (own_scope plain self own scope) (initials.initial q) q.variables) (some_is (bytes_eq (codes "P") x) _ p e) ((λ s. refl), tt);
 }
 
 pub within : RoutinesStandWithin program actor routine initials (λ w. false) (own_scope plain self own scope)
@@ -88,7 +88,7 @@ within inner k = subst (RoutinesStand program actor routine initials) (sym (only
 pub prepared : IsPrepared step
 prepared = record {
   free = λ x at p s. refl;
-  does = rules_do program actor routine initials (λ w. false) (own_scope plain self own scope) refl within;
+  does = rules_do program actor routine initials places (λ w. false) (own_scope plain self own scope) refl within;
   tidy = (tt, (tt, (((tt, tt), (refl, tt), (λ e. tt)), tt)));
   clean = clear_list plain (owned self own) (settled step.jumps step.here step.exit step.statements) refl;
 }

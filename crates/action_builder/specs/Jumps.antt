@@ -5,7 +5,7 @@ use Rattle.tla_expr.specs.declared.op.Op.TheVariants.{Concat}
 use Rattle.tla_expr.specs.Tree.{Word, string, name, operator_call, strict, operator, tuple, fields, select, Tree, node, Trees, no_trees, tree}
 use Rattle.pcal_tree.specs.Algorithm.{Span, Declaration, Routine, locals, Assignments, no_assignments, assignment, Statements, done, then, assign, procedure_routines, either, no_branches}
 use Rattle.pcal_tree.specs.Scope.{root_place}
-use Rattle.pcal_tree.specs.Program.{Program, Actor, written}
+use Rattle.pcal_tree.specs.Program.{Program, written}
 use Rattle.pcal_tree.specs.Calls.{label_name, first_label, frame_fields, named}
 use Rattle.action_builder.specs.Settled.{WrittenJumps}
 use Rattle.pcal_tree.specs.Variables.{written_all, pc, stack}
@@ -48,8 +48,8 @@ abbrev pub return_assignments : Program → Routine → Place → Assignments
 return_assignments P p at =
     assignment (name_at at pc) (kept_field at pc) (fields_restored at (written_all P p (locals p)) (one_assignment (name_at at stack) (stack_rest at)))
 
-abbrev pub return_written : Program → Routine → Span → Statements
-return_written P p at = then at (assign (return_assignments P p at.first)) done
+abbrev pub return_written : Program → Routine → Place → Statements
+return_written P p at = then (spot at) (assign (return_assignments P p at)) done
 
 -- ---- a call
 
@@ -84,19 +84,26 @@ call_written P p at ts back place initial =
 
 -- ---- of a routine
 
--- the written initial values of a procedure's variables, and their places in a call at a place: what stands for no initial value stands there
+-- the written initial values of a procedure's variables, and their places
 pub record InitialValues : Type 0 where
-  pub place : Routine → Place → Declaration → Place
+  pub place : Routine → Declaration → Place
   pub initial : Routine → Declaration → Tree
 
--- a call of no procedure can't be taken
-abbrev pub call_to : Program → InitialValues → Span → Trees → Word → Option Routine → Statements
-call_to P I at ts back None = then at (either no_branches) done
-call_to P I at ts back (Some p) = call_written P p at.first ts back (I.place p at.first) (I.initial p)
+-- where jumps, calls and returns are written
+pub record JumpPlaces : Type 0 where
+  pub goto : Place
+  pub call : Span → Place
+  pub return : Span → Place
 
-abbrev pub written_jumps : Program → Actor → Routine → InitialValues → WrittenJumps
-written_jumps P v u I = record {
-  goto = λ l. jump_written v.own.name.place (label_name P u l);
-  call = λ at p ts l. call_to P I at ts (label_name P u l) (named p.word (procedure_routines P.algorithm));
-  return = λ at. return_written P u at;
+-- a call of no procedure can't be taken
+abbrev pub call_to : Program → InitialValues → Place → Trees → Word → Option Routine → Statements
+call_to P I at ts back None = then (spot at) (either no_branches) done
+call_to P I at ts back (Some p) = call_written P p at ts back (I.place p) (I.initial p)
+
+-- they are the same for all processes
+abbrev pub written_jumps : Program → Routine → InitialValues → JumpPlaces → WrittenJumps
+written_jumps P u I places = record {
+  goto = λ l. jump_written places.goto (label_name P u l);
+  call = λ at p ts l. call_to P I (places.call at) ts (label_name P u l) (named p.word (procedure_routines P.algorithm));
+  return = λ at. return_written P u (places.return at);
 }

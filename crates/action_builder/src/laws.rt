@@ -21,21 +21,22 @@ ghost use Rattle.pcal_tree.specs.Scope.{State, Scope};
 ghost use Rattle.pcal_tree.specs.Run.{Rules, Follow, run, exit_to, unlabelled};
 ghost use Rattle.pcal_tree.specs.StepStart.{begin};
 ghost use Rattle.pcal_tree.specs.Expand.{graft_all, expanded, written_out, expand_begin};
-ghost use Rattle.pcal_tree.specs.laws.Expansion.{Any, Calls, Clean, FineCall, BareBodies, Free};
+ghost use Rattle.pcal_tree.specs.laws.Expansion.{Any, Calls, Clean, FineCall, BareBodies, AnyPlace};
 ghost use Rattle.pcal_tree.specs.Program.{Program, Actor};
 ghost use Rattle.action_builder.specs.Assigned.{Names, more, assigned_in};
 ghost use Rattle.action_builder.specs.laws.States.{value_after, SameOn, BadSomewhere};
 ghost use Rattle.action_builder.specs.laws.Ready.{LeftSides, Readable, holds_on};
 ghost use Rattle.action_builder.specs.laws.Scopes.{IsPlain as Plain, Inner, StandsAtPath, own_scope, own_path, Whole};
 ghost use Rattle.action_builder.specs.laws.Settling.{to_end, Callable, Tidy, CloseCourses, DoesAsRules};
-ghost use Rattle.action_builder.specs.Jumps.{InitialValues, written_jumps};
+ghost use Rattle.action_builder.specs.Jumps.{InitialValues, JumpPlaces, written_jumps};
 ghost use Rattle.action_builder.specs.laws.Jumps.{base_rules, callable, RoutinesStandWithin};
 ghost use Rattle.action_builder.specs.Settled.{WrittenJumps, settled};
 ghost use Rattle.action_builder.specs.laws.LabelSteps.{LabelStep, prepared_of, items_of, action_of, IsPrepared, IsReady, EndsIn, IsTroubled, StepsTo, MeetsTrouble};
 ghost use Rattle.action_builder.specs.Prepared.{none};
 ghost use Rattle.action_builder.specs.Written.{except_of};
 ghost use Rattle.action_builder.specs.SingleProcess.{in_place_of, graft_items};
-ghost use Rattle.action_builder.specs.laws.Grafts.{ClearItems, SameButPlaces};
+ghost use Rattle.action_builder.specs.laws.Grafts.{ClearItems};
+ghost use Rattle.action_builder.specs.laws.Places.{SameButPlaces};
 ghost use Rattle.action_builder.specs.laws.Sample as sample;
 
 /// The items that are written for a step where the variables of A are assigned already, on a pair of states. Where no
@@ -78,16 +79,17 @@ pub fn settled_statements_have_the_same_ends()
         → CloseCourses (run M unlabelled (settled W here l ss) sc to_end) (run M here ss sc (exit_to M l)) }
 {}
 
-/// The assignments written for the jumps, calls and returns of a routine do what the rules of a step say.
+/// The assignments written for the jumps, calls and returns of a routine, at any places, which are the same for all
+/// processes, do what the rules of a step say.
 pub fn written_jumps_do_what_the_rules_say()
-    ensures { (P : Program) (v : Actor) (u : Routine) (I : InitialValues) (f : Word → Bool) (sc : Scope) → P.check ≡ plain → RoutinesStandWithin P v u I f sc
-        → DoesAsRules (base_rules P v u) (written_jumps P v u I) (Inner f sc) (In f) (callable P) }
+    ensures { (P : Program) (v : Actor) (u : Routine) (I : InitialValues) (places : JumpPlaces) (f : Word → Bool) (sc : Scope) → P.check ≡ plain → RoutinesStandWithin P v u I f sc
+        → DoesAsRules (base_rules P v u) (written_jumps P u I places) (Inner f sc) (In f) (callable P) }
 {}
 
 /// With the variables of a process written as functions of its identifier, statements take the courses that they
 /// take where these variables are at the identifier; and there they are, read and assigned.
 pub fn own_variables_stand_at_the_identifier()
-    ensures courses { (M : Rules) (self : Word) (own : Word → Bool) (here : Word) (ss : Statements) (sc : Scope) → Free sc → Clean M.check (owned self own) Any ss → (K : Follow)
+    ensures courses { (M : Rules) (self : Word) (own : Word → Bool) (here : Word) (ss : Statements) (sc : Scope) → AnyPlace sc → Clean M.check (owned self own) Any ss → (K : Follow)
         → run M here (graft_all (owned self own) ss) sc K ≡ run M here ss (own_scope M.check self own sc) K }
     ensures there { (c : Check) (V : Word → Bool) (self : Word) (v : Value) (own : Word → Bool) (sc : Scope) → Whole V self v own sc → (x : Word) → V x ≡ true
         → ((at : Place) (s : State) → (sc.env s).now x at ≡ just (s x)) → StandsAtPath (own_scope c self own sc) (own_path (own x) v) x }

@@ -18,7 +18,7 @@ ghost use Rattle.pcal_tree.specs.Labelled.{labelled};
 ghost use Rattle.pcal_tree.specs.Names.{given, naming};
 ghost use Rattle.pcal_tree.specs.laws.Apart.{FewNames, Apart, New, Untaken, AreNames, NoEndLabels};
 ghost use Rattle.tla_value.specs.Value.{Trouble, Outcome};
-ghost use Rattle.pcal_tree.specs.laws.Expansion.{Calls, FineCall, Free};
+ghost use Rattle.pcal_tree.specs.laws.Expansion.{Calls, FineCall, AnyPlace};
 ghost use Rattle.pcal_tree.specs.laws.Choosing.{told, landing};
 ghost use Rattle.pcal_tree.specs.Processes.{Proper, IsActor};
 ghost use Rattle.pcal_tree.specs.Faults.{Sound, Faulty};
@@ -73,7 +73,7 @@ pub fn runs_depend_on_the_variables()
 /// with anything after them, kinds and places of faults included. The calls capture nothing, and each macro's body
 /// begins with a statement.
 pub fn written_out_macros_run_the_same()
-    ensures { (M : Rules) (ms : List Macro) (here : Word) (ss : Statements) → Calls (FineCall M.check ms) ss → (sc : Scope) → Free sc → (K : Follow)
+    ensures { (M : Rules) (ms : List Macro) (here : Word) (ss : Statements) → Calls (FineCall M.check ms) ss → (sc : Scope) → AnyPlace sc → (K : Follow)
         → run (with_macros M ms) here ss sc K ≡ run (with_macros M []) here (expanded ms ss) sc K }
 {}
 

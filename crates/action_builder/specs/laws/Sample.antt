@@ -19,7 +19,7 @@ use Rattle.pcal_tree.specs.Variables.{pc, stack}
 use Rattle.pcal_tree.specs.Expand.{expanded}
 use Rattle.action_builder.specs.Assigned.{member}
 use Rattle.action_builder.specs.laws.Scopes.{part_at}
-use Rattle.action_builder.specs.Jumps.{InitialValues, written_jumps}
+use Rattle.action_builder.specs.Jumps.{InitialValues, JumpPlaces, written_jumps}
 use Rattle.action_builder.specs.laws.Jumps.{base_rules, callable}
 use Rattle.action_builder.specs.laws.Ready.{Readable}
 use Rattle.action_builder.specs.laws.LabelSteps.{LabelStep}
@@ -140,14 +140,17 @@ initial_of (equals e) = e
 initial_of _ = var (codes "defaultInitValue")
 
 abbrev pub initials : InitialValues
-initials = record { place = λ p at d. nowhere; initial = λ p d. initial_of d.start }
+initials = record { place = λ p d. nowhere; initial = λ p d. initial_of d.start }
+
+abbrev pub places : JumpPlaces
+places = record { goto = nowhere; call = λ at. nowhere; return = λ at. nowhere }
 
 -- ---- the step
 
 abbrev pub step : LabelStep
 step = record {
   rules = base_rules program actor routine;
-  jumps = written_jumps program actor routine initials;
+  jumps = written_jumps program routine initials places;
   names = λ w. false;
   callable = callable program;
   self = self;
