@@ -7,7 +7,7 @@ use Rattle.tla_value.specs.Meaning.{evals, part_values}
 use Rattle.tla_value.specs.Related.{In}
 use Rattle.pcal_tree.specs.Algorithm.{Name, Routine, procedure_routines}
 use Rattle.pcal_tree.specs.Scope.{State, Scope, places_of}
-use Rattle.pcal_tree.specs.Assign.{moved}
+use Rattle.pcal_tree.specs.Assign.{after_assignments}
 use Rattle.pcal_tree.specs.Run.{Has, after, unlabelled, run}
 use Rattle.pcal_tree.specs.Program.{Program, Actor, index}
 use Rattle.pcal_tree.specs.Calls.{label_value, label_name, jumped, returned, entered_at, finished, named}
@@ -51,4 +51,4 @@ rules_do P v u I places f sc q k = record {
 }
   where
     back : (at : Place) (inner : Scope) → Inner f sc inner → (s : State) → run (base_rules P v u) unlabelled (return_written P u at) inner to_end s ≡ finished (returned P v at u s)
-    back at inner fit s = after_end (moved P.check (return_assignments P u at) inner s) ∙ ap finished (return_law P v u inner (k inner fit).own q at s)
+    back at inner fit s = after_end (after_assignments P.check (return_assignments P u at) inner s) ∙ ap finished (return_law P v u inner (k inner fit).own q at s)

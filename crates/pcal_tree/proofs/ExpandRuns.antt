@@ -7,7 +7,7 @@ use Rattle.tla_value.specs.Meaning.{evals, part_values}
 use Rattle.pcal_tree.specs.Algorithm.{Name, Span, Binds, no_binds, one_of, is, Statement, assign, await, print, assert, skip, branch, either, with, while, goto, macro, call, return, Statements, done, then, mark, Branches, no_branches, or, Macro}
 use Rattle.pcal_tree.specs.Scope.{State, Scope, bound, places_of, reach_in, through, value_of, test, members}
 use Rattle.tla_value.specs.declared.fault.FaultKind.TheVariants.{AssertFailed}
-use Rattle.pcal_tree.specs.Assign.{moved}
+use Rattle.pcal_tree.specs.Assign.{after_assignments}
 use Rattle.pcal_tree.specs.Run.{Course, chooses, course, held, stops, after, at_each, Follow, Rules, unlabelled, label_of, run_binds, run_one, run, run_branches, arguments, Calling, with_calls, called, with_macros}
 use Rattle.pcal_tree.specs.Expand.{graft_all, joined, Writing, expand_one, expand, expand_some, written_out, expanded}
 use Rattle.pcal_tree.proofs.GraftRuns.{Meets, graft_runs}
@@ -99,7 +99,7 @@ mutual
       λ i s. binds_same M.check at.first bs (λ inner. run (with_calls M f) unlabelled b inner K) (λ inner. run (with_macros M []) unlabelled (expand X b) inner (following (with_macros M []) rest sc L)) (λ inner k. expand_runs M f X P w unlabelled b h inner k K (following (with_macros M []) rest sc L) q) sc free s i
   expand_runs_one M f X P w here at (while e b) h sc free K L rest q =
       λ i s. after (test M.check e sc s) (λ yes. cond yes (expand_runs M f X P w unlabelled b h sc free (record { label = here; goes = M.goto here }) (record { label = here; goes = M.goto here }) refl i) (q i).goes s)
-  expand_runs_one M f X P w here at (assign ms) h sc free K L rest q = λ i s. after (moved M.check ms sc s) (q i).goes
+  expand_runs_one M f X P w here at (assign ms) h sc free K L rest q = λ i s. after (after_assignments M.check ms sc s) (q i).goes
   expand_runs_one M f X P w here at (await e) h sc free K L rest q = λ i s. after (test M.check e sc s) (λ b. cond b (q i).goes (λ u. held at.first) s)
   expand_runs_one M f X P w here at (print e) h sc free K L rest q = λ i s. after (value_of M.check e sc s) (λ v. (q i).goes s)
   expand_runs_one M f X P w here at (assert e) h sc free K L rest q =

@@ -28,7 +28,7 @@ ghost use Rattle.tla_value.specs.declared.fault.FaultKind.{FaultKind};
 ghost use Rattle.pcal_tree.specs.Variables.{vars, Agree};
 ghost use Rattle.pcal_tree.specs.Step.{Step, Stutters};
 ghost use Rattle.pcal_tree.specs.InitialStates.{Initial, InitTrouble};
-ghost use Rattle.pcal_tree.specs.Script.{Turn, RunOf};
+ghost use Rattle.pcal_tree.specs.Script.{Turn, StepBy, RunOf};
 ghost use Rattle.pcal_tree.specs.FirstTrouble.{FirstTrouble};
 
 /// What a list of choices leads to is an outcome of the course, and each outcome has a list of choices that
@@ -102,4 +102,10 @@ pub fn macros_are_looked_at_once()
         → is_among (call_effect ms m ts).variables x ≡ is_among (summary_effect (summaries ms) m ts).variables x }
     ensures twice { (ms : List Macro) (m : Word) (ts : Trees) → (call_effect ms m ts).twice ≡ (summary_effect (summaries ms) m ts).twice }
     ensures offences { (a : Algorithm) → label_offences a ≡ label_offences_by (summary_effect (summaries (reverse a.macros))) a }
+{}
+
+/// Each state of a run by a script after the first is one that a step leads to: that of the process which the script names,
+/// by its choices.
+pub fn scripts_make_steps()
+    ensures { (P : Program) (n : Turn) (s t : State) → StepBy P n s t → Step P s t }
 {}

@@ -21,9 +21,9 @@ pub record ClearName (c : Check) (g : Graft) (x : Word) : Type 0 where
   pub unreached : (y : Word) (at : Place) → Unreached c x (g y at)
 
 -- no bound name is captured, and there is no macro call
-abbrev pub CleanMoves : Check → Graft → (Word → Type 0) → Assignments → Type 0
-CleanMoves c g U no_assignments = Unit {0}
-CleanMoves c g U (assignment l e ms) = Every (ClearForm c g U) l × Every (ClearForm c g U) e × CleanMoves c g U ms
+abbrev pub CleanAssignments : Check → Graft → (Word → Type 0) → Assignments → Type 0
+CleanAssignments c g U no_assignments = Unit {0}
+CleanAssignments c g U (assignment l e ms) = Every (ClearForm c g U) l × Every (ClearForm c g U) e × CleanAssignments c g U ms
 
 abbrev pub CleanBinds : Check → Graft → (Word → Type 0) → Binds → Type 0
 CleanBinds c g U no_binds = Unit {0}
@@ -32,7 +32,7 @@ CleanBinds c g U (is x e bs) = Every (ClearForm c g U) e × ClearName c g x.word
 
 abbrev mutual
   pub CleanOne : Check → Graft → (Word → Type 0) → Statement → Type 0
-  CleanOne c g U (assign ms) = CleanMoves c g U ms
+  CleanOne c g U (assign ms) = CleanAssignments c g U ms
   CleanOne c g U (await e) = Every (ClearForm c g U) e
   CleanOne c g U (print e) = Every (ClearForm c g U) e
   CleanOne c g U (assert e) = Every (ClearForm c g U) e
