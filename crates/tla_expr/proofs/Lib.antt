@@ -4,6 +4,7 @@ pub mod Operands
 mod Rows
 mod RowsView
 mod RowsSpelling
+pub mod Steps
 pub mod ReadSoon
 pub mod ReadStops
 pub mod ReadPhrases
