@@ -4,8 +4,14 @@ pub mod Operands
 mod Rows
 mod RowsView
 mod RowsSpelling
+mod RowsReader
 pub mod Steps
 pub mod ReadSoon
+pub mod SoundTokens
+pub mod SoundPhrases
+pub mod SoundBraces
+pub mod SoundForms
+pub mod SoundLists
 pub mod ReadStops
 pub mod ReadPhrases
 pub mod ReadForms

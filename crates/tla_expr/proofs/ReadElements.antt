@@ -124,7 +124,7 @@ first_element e p a ha hc g us k n j o h = by (is_member a) refl
         let v = member e a g m in
         let w = closed (cut a) hc e v.good us k in
         let f = cut_steps a in (rw (v.same_as us, v.right, v.right_in, w n' (omega arith))
-              (member_other (readers n') e p v.place v.word_of v.place_in (cut a) (next e us).place (next e us).kind us n ∙ rw v.joins (h n' (omega arith))))
+        (member_other (readers n') e p v.place v.word_of v.place_in (cut a) (next e us).place (next e us).kind us n ∙ rw v.joins (h n' (omega arith))))
 
 pub reads_set_last : (p : Place) (a : Phrase) (q : Place) → Reads a → Reads (cut a) → Reads (set_of p (last a) q)
 reads_set_last p a q ha hc = primary_reads (set_of p (last a) q) (λ e d ts s. s) (λ e d ts s. tail_call (next e ts).kind s) (λ e g ts. record { first = token p (tk.mark tk.open_brace); rest = spell a (mark q tk.close_brace ts); same_as = refl; right = g.0; as_operand = λ r c us. refl; as_short = λ r us. refl }) prime

@@ -72,14 +72,14 @@ Squared e p us = (b : Phrase) (ts : List Token) (o : Out Phrase) (j k : ℕ) →
 squared_word : (e : ℕ) (p q : Place) (x : Word) (vs : List Token) → Right e q → is_decisive (next e vs).kind ≡ false → Squared e p (word q x vs)
 squared_word e p q x vs g n b ts o j k h i =
     let v = from_word e q x vs (Ok (b, ts)) g h in (λ n' l. rw g (name_other (readers n') e p q x (next e vs).place (next e vs).kind vs n
-          ∙ sym (assoc (from_name (readers n') e q x vs) (λ a us. (readers n').climb e 0 a us) (λ b us. peek e (square_rest (readers n') e p b) us))
-          ∙ ap (λ (y : Out Phrase). then_read y (λ b us. peek e (square_rest (readers n') e p b) us)) (v n' (omega arith)) ∙ i n' (omega arith)))
+    ∙ sym (assoc (from_name (readers n') e q x vs) (λ a us. (readers n').climb e 0 a us) (λ b us. peek e (square_rest (readers n') e p b) us))
+    ∙ ap (λ (y : Out Phrase). then_read y (λ b us. peek e (square_rest (readers n') e p b) us)) (v n' (omega arith)) ∙ i n' (omega arith)))
 
 squared_token : (e : ℕ) (p q : Place) (k : ExprToken) (vs : List Token) → Right e q → is_start k ≡ true
     → (is_word k && is_decisive (next e vs).kind) ≡ false → Squared e p (token q k ∷ vs)
 squared_token e p q (tk.word x) vs g t n b ts o j m h i = squared_word e p q x vs g n b ts o j m h i
 squared_token e p q k vs g t n b ts o u w h i = (λ m l. rw g (squares_other (readers m) e p q k (token q k ∷ vs) t refl
-      ∙ ap (λ (y : Out Phrase). then_read y (λ b us. peek e (square_rest (readers m) e p b) us)) (h m (omega arith)) ∙ i m (omega arith)))
+    ∙ ap (λ (y : Out Phrase). then_read y (λ b us. peek e (square_rest (readers m) e p b) us)) (h m (omega arith)) ∙ i m (omega arith)))
 
 squared : (e : ℕ) (p : Place) (us : List Token) → Starts e us → Undecided e us → Squared e p us
 squared e p us s n = rw s.same_as (squared_token e p s.first.place s.first.kind s.rest s.right s.start (rw s.same_as at n))
@@ -125,7 +125,7 @@ first_part e p a ha hc g us n j o h = by (is_member a) refl
         let v = member e a g m in
         let w = closed (cut a) hc e v.good us calm in
         let f = cut_steps a in (rw (v.same_as us, v.right, v.right_in, w n' (omega arith))
-              (member_divided (readers n') e p v.place v.word_of v.place_in (cut a) (next e us).place (next e us).kind us n ∙ rw v.joins (h n' (omega arith))))
+        (member_divided (readers n') e p v.place v.word_of v.place_in (cut a) (next e us).place (next e us).kind us n ∙ rw v.joins (h n' (omega arith))))
 
 -- ---- [S -> T]
 pub reads_functions : (p : Place) (a : Phrase) (q : Place) (b : Phrase) (s : Place) → Reads a → Reads (cut a) → Reads b → Reads (functions p a q b s)

@@ -61,7 +61,7 @@ bullets_first : (o : Op) (bs : Bullets) (ts : List Token) → (us : List Token) 
 bullets_first o (last_bullet p a) ts = (spell a ts, refl)
 bullets_first o (bullet p a bs) ts = (spell a (spell_bullets o bs ts), refl)
 
-first_column : (c : ℕ) (bs : Bullets) → GoodBullets c bs → (first_bullet bs).col ≡ c
+pub first_column : (c : ℕ) (bs : Bullets) → GoodBullets c bs → (first_bullet bs).col ≡ c
 first_column c (last_bullet p a) g = g.0
 first_column c (bullet p a bs) g = g.0
 

@@ -1,12 +1,20 @@
 //! Laws of expressions, stated as what functions without a body ensure.
 
-ghost use Rattle.std.specs.Prelude.{◌≡◌, List, []};
+ghost use Rattle.std.specs.Prelude.{◌≡◌, ℕ, List, [], Ok};
 ghost use Rattle.tla_expr.specs.Tree.{Tree};
 ghost use Rattle.tla_expr.specs.Lexical.{Token};
-ghost use Rattle.tla_expr.specs.Spelling.{Phrase, spell, IsGood, Spells};
+ghost use Rattle.tla_expr.specs.Spelling.{Phrase, spell, Good, IsGood, Spells};
+ghost use Rattle.tla_expr.specs.Reader.{read};
 
 /// Tokens spell one expression at most, in one way.
 pub fn expressions_are_spelled_in_one_way()
     ensures phrase { (a b : Phrase) → IsGood a → IsGood b → spell a [] ≡ spell b [] → a ≡ b }
     ensures tree { (ts : List Token) (t u : Tree) → Spells ts t → Spells ts u → t ≡ u }
+{}
+
+/// Reading from left to right gives what is spelled: what is read is a phrase that may be spelled, and the tokens that were
+/// passed are its tokens; and a phrase that may be spelled is read from its tokens, all of it.
+pub fn reading_is_exact()
+    ensures sound { (edge : ℕ) (ts rest : List Token) (a : Phrase) → read edge ts ≡ Ok (a, rest) → Good edge a × (ts ≡ spell a rest) }
+    ensures complete { (edge : ℕ) (a : Phrase) → Good edge a → read edge (spell a []) ≡ Ok (a, []) }
 {}
