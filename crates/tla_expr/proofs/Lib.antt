@@ -5,6 +5,9 @@ mod Rows
 mod RowsView
 mod RowsSpelling
 mod RowsReader
+pub mod ColumnsGood
+pub mod ColumnsPut
+pub mod Columns
 pub mod Steps
 pub mod ReadSoon
 pub mod SoundTokens

@@ -1,13 +1,14 @@
 -- Worked rows of reading, by computation.
-use Rattle.std.proofs.Common.{◌≡◌, refl, ℕ, true, List, [], ◌∷◌, Ok, Err, codes}
+use Rattle.std.proofs.Common.{◌≡◌, refl, ℕ, true, ap, arith, List, [], ◌∷◌, Ok, Err, codes}
 use Rattle.tla_token.specs.declared.place.Place.{Place}
 use Rattle.tla_expr.specs.declared.op.Op.{Op}
 use Rattle.tla_expr.specs.declared.op.Op.TheVariants as op
-use Rattle.tla_expr.specs.Lexical.{Mark, Key, Token, token}
+use Rattle.tla_expr.specs.Lexical.{Mark, Key, ExprToken, Token, token}
 use Rattle.tla_expr.specs.Lexical as tk
 use Rattle.tla_expr.specs.Spelling.{Phrase}
 use Rattle.tla_expr.specs.Spelling as spelled
 use Rattle.tla_expr.specs.Reader.{read, readers}
+use Rattle.tla_expr.specs.laws.Columns.{looks, lineless, Begin}
 
 abbrev at : ℕ → Place
 at c = record { line = 1; col = c }
@@ -63,3 +64,22 @@ mixed = refl
 unfinished : read 0 (w 1 ∷ s 3 op.Plus ∷ []) ≡ Err []
 unfolding readers
 unfinished = refl
+
+-- ---- kinds and columns
+-- `a` in another line looks the same, and in another column it does not
+other_line : looks (token (record { line = 7; col = 1 }) (tk.word (codes "a")) ∷ []) ≡ looks (w 1 ∷ [])
+other_line = refl
+
+abbrev first_col : List (ExprToken × ℕ) → ℕ
+first_col [] = 0
+first_col (x ∷ xs) = x.1
+
+other_column : looks (w 2 ∷ []) ≡ looks (w 1 ∷ []) → ⊥
+other_column h = (let same : ◌≡◌ {A = ℕ} 2 1 = ap first_col h in cc)
+
+bare_sum : lineless (spelled.infix_of (name 1) (at 3) op.Plus (spelled.name (record { line = 2; col = 1 }) (codes "b"))) ≡ spelled.infix_of (spelled.name (record { line = 0; col = 1 }) (codes "a")) (record { line = 0; col = 3 }) op.Plus (spelled.name (record { line = 0; col = 1 }) (codes "b"))
+bare_sum = refl
+
+-- `a +` begins a phrase, right of column 0
+sum_begins : Begin 0 (looks (w 1 ∷ s 3 op.Plus ∷ []))
+sum_begins = (spelled.infix_of (name 1) (at 3) op.Plus (name 5), looks (w 5 ∷ []), search, refl)
