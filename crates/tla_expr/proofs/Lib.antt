@@ -5,9 +5,12 @@ mod Rows
 mod RowsView
 mod RowsSpelling
 mod RowsReader
+mod RowsWritable
 pub mod ColumnsGood
 pub mod ColumnsPut
 pub mod Columns
+pub mod SpelledTokens
+pub mod SpelledTrees
 pub mod Steps
 pub mod ReadSoon
 pub mod SoundTokens

@@ -3,9 +3,12 @@
 ghost use Rattle.std.specs.Prelude.{◌≡◌, ◌++◌, ℕ, List, [], Ok};
 ghost use Rattle.tla_expr.specs.Tree.{Tree};
 ghost use Rattle.tla_expr.specs.Lexical.{Token};
-ghost use Rattle.tla_expr.specs.Spelling.{Phrase, spell, Good, IsGood, Spells};
+ghost use Rattle.tla_expr.specs.Spelling.{Phrase, spell, Good, IsGood, Spells, head, primary};
 ghost use Rattle.tla_expr.specs.Reader.{read};
 ghost use Rattle.tla_expr.specs.laws.Columns.{looks, lineless, Begin};
+ghost use Rattle.tla_expr.specs.Written.{pieces};
+ghost use Rattle.tla_expr.specs.laws.Writable.{IsWritable, AreSpelled};
+ghost use Rattle.tla_expr.specs.laws.Bracketed.{as_operand, part};
 
 /// Tokens spell one expression at most, in one way.
 pub fn expressions_are_spelled_in_one_way()
@@ -28,4 +31,11 @@ pub fn lines_do_not_matter()
     ensures read { (edge : ℕ) (ts us : List Token) → looks ts ≡ looks us → (a : Phrase) → read edge ts ≡ Ok (a, []) → (b : Phrase) × (read edge us ≡ Ok (b, [])) × (lineless b ≡ lineless a) }
     ensures begins { (edge : ℕ) (ts more : List Token) (a : Phrase) → Good edge a → spell a [] ≡ ts ++ more → Begin edge (looks ts) }
     ensures begun { (edge : ℕ) (ts : List Token) → Begin edge (looks ts) → (a : Phrase) × (more : List Token) × Good edge a × (spell a [] ≡ ts ++ more) }
+{}
+
+/// What is written of a tree whose names, fields, strings and numbers a text can have are texts of tokens, each seen as the token
+/// that was meant. And as an operand each tree is a primary, in brackets where it needs them: how it is read rests on no rank.
+pub fn trees_are_written_in_tokens()
+    ensures tokens { (t : Tree) → IsWritable t → AreSpelled (pieces t) }
+    ensures operand { (t : Tree) → head (as_operand (part t)) ≡ primary }
 {}
