@@ -2,11 +2,11 @@
 use Rattle.std.proofs.Common.{◌≡◌, List, [], ◌∷◌, ◌++◌, Bool, true, false, cond, ◌||◌, bytes_eq, ◌⊎◌, refl, sym, ◌∙◌, ap, subst, inl, inr, ⊎_elim, Ok, Err}
 use Rattle.std.proofs.lemmas.Bool.{cases_Bool, both_ways}
 use Rattle.tla_expr.specs.Tree.{Word}
-use Rattle.tla_value.specs.Value.{Value, Values, no_values, and}
+use Rattle.tla_value.specs.Value.{Value, Values, no_values, and, Trouble, Outcome, ◌>>=◌}
 use Rattle.tla_value.specs.Order.{same}
 use Rattle.pcal_tree.specs.Scope.{Scope, bound}
 use Rattle.action_builder.proofs.Equal.{eq-name, eq-value}
-use Rattle.pcal_tree.specs.Scope.{State, Trouble, Outcome, ◌>>=◌}
+use Rattle.pcal_tree.specs.Scope.{State}
 use Rattle.action_builder.specs.Action.{Names, member, more, mid, Effect, assign, await, branch, either, choose, Effects, done, then, Ways, no_ways, way, Parts, firsts, moved, value_for, hold_sets, settings_of, assigned, assigned_in, assigned_by, Awaits, Chosen, SomeOf, Picks, Next, RunOne, Run, RunSome, unchanged, all_same, and_then, or_all, some_member, holds, hold, hold_some, ended, minus, build_one, build, build_some, OnceOne, Once, OnceSome, IsBad, NotFalse}
 use Rattle.action_builder.proofs.Sets.{or_left, or_right, or_none, more_append, mid_in, mid_out, is_mid, same_minus}
 use Rattle.action_builder.proofs.Frame.{got_bad, frame_one, frame}

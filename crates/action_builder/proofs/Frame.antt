@@ -1,9 +1,9 @@
 -- A run changes no variable that its items don't assign.
 use Rattle.std.proofs.Common.{◌≡◌, List, ◌++◌, Bool, true, false, refl, sym, ◌∙◌, ap, subst, ⊎_elim, Ok, Err}
 use Rattle.tla_expr.specs.Tree.{Word}
-use Rattle.tla_value.specs.Value.{Value, Values, no_values, and}
+use Rattle.tla_value.specs.Value.{Value, Values, no_values, and, Trouble, Outcome}
 use Rattle.pcal_tree.specs.Scope.{Scope, bound}
-use Rattle.pcal_tree.specs.Scope.{State, Trouble, Outcome}
+use Rattle.pcal_tree.specs.Scope.{State}
 use Rattle.action_builder.specs.Action.{member, Effect, assign, await, branch, either, choose, Effects, done, then, Ways, no_ways, way, assigned, assigned_in, assigned_by, Awaits, Chosen, SomeOf, Picks, Next, RunOne, Run, RunSome}
 use Rattle.action_builder.proofs.Parts.{moved_good, value_kept}
 use Rattle.action_builder.proofs.Sets.{or_none, member_append}

@@ -2,11 +2,11 @@
 use Rattle.std.proofs.Common.{◌≡◌, List, [], ◌∷◌, ◌++◌, Bool, true, false, cond, ◌||◌, bytes_eq, ◌⊎◌, refl, sym, ◌∙◌, ap, subst, inl, inr, ⊎_elim, Ok, Err}
 use Rattle.std.proofs.lemmas.Bool.{cases_Bool, or_cases, both_ways}
 use Rattle.tla_expr.specs.Tree.{Word}
-use Rattle.tla_value.specs.Value.{Value, Values, no_values, and}
+use Rattle.tla_value.specs.Value.{Value, Values, no_values, and, Outcome, ◌>>=◌}
 use Rattle.tla_value.specs.Order.{same}
 use Rattle.pcal_tree.specs.Scope.{Scope, bound}
 use Rattle.action_builder.proofs.Equal.{name-true, value-true}
-use Rattle.pcal_tree.specs.Scope.{State, Outcome, ◌>>=◌}
+use Rattle.pcal_tree.specs.Scope.{State}
 use Rattle.action_builder.specs.Action.{Names, member, more, mid, Effect, assign, await, branch, either, choose, Effects, done, then, Ways, no_ways, way, Parts, firsts, moved, value_for, hold_sets, settings_of, assigned, assigned_in, assigned_by, Awaits, Chosen, SomeOf, Picks, RunOne, Run, RunSome, Item, unchanged, Items, none, item, all_same, and_then, or_all, some_member, holds, hold, hold_some, ended, minus, build_one, build, build_some, OnceOne, Once, OnceSome, IsBad}
 use Rattle.action_builder.proofs.Sets.{or_left, or_right, or_none, member_append, more_append, mid_in, mid_out, is_mid, mid_grow, minus_same}
 use Rattle.action_builder.proofs.Parts.{moved_good, moved_bad, value_kept, bad_assigned}

@@ -4,19 +4,20 @@ use Rattle.std.proofs.lemmas.Bool.{cases_Bool, or_cases, both_ways, and_parts}
 use Rattle.tla_token.specs.declared.place.Place.{Place}
 use Rattle.tla_expr.specs.Tree.{Word, Form, name, next, strict, select, Tree, node, Trees, no_trees, tree, Every, EveryOf}
 use Rattle.tla_value.specs.declared.fault.FaultKind.TheVariants.{AssertFailed}
-use Rattle.tla_value.specs.Value.{Value, truth, int, text, model, set, fun, Values, no_values, and, Outcome, ◌>>=◌}
+use Rattle.tla_value.specs.Value.{Value, truth, int, text, model, set, fun, Values, no_values, and, Outcome, ◌>>=◌, fault}
 use Rattle.tla_value.specs.Value as Values
 use Rattle.tla_value.specs.Order.{same}
-use Rattle.tla_value.specs.Stops.{plain, on_truth}
+use Rattle.tla_value.specs.Stops.{plain, truth_at, members_at}
+use Rattle.tla_value.specs.Standard.{printed, asserted, standard_value}
 use Rattle.tla_value.specs.Meaning.{Env, just, bind, eval}
 use Rattle.tla_value.specs.Related.{In}
-use Rattle.tla_value.proofs.Graft.{every_weaker}
+use Rattle.tla_value.proofs.Facts.{every_weaker}
 use Rattle.tla_value.proofs.Primes.{Between, Unprimed, unprimed_law}
 use Rattle.tla_value.proofs.Primes as Primes
-use Rattle.module_text.specs.Truth.{Verdict, as_truth, as_set, at_each, is_value, same_look, items_hold, item_holds, some_branch}
+use Rattle.module_text.specs.Truth.{Verdict, as_truth, as_set, at_each, is_value, is_unchanged, items_hold, item_holds, some_branch}
 use Rattle.module_text.specs.Truth as Module
 use Rattle.pcal_tree.specs.Algorithm.{Assignments, no_assignments, assignment}
-use Rattle.pcal_tree.specs.Scope.{State, Outcome, fault, ◌>>=◌, Scope, bound, root_place, truth_at, members_at}
+use Rattle.pcal_tree.specs.Scope.{State, Scope, bound, root_place}
 use Rattle.action_builder.specs.Action.{Names, member, mid, minus, all_same, and_then, or_all, some_member}
 use Rattle.action_builder.specs.Effects.{head_of}
 use Rattle.action_builder.specs.Written.{Key, sub, fixed, subs, keys_of, keys_first, keys_in, subscripts, own, slot_trees, except_of, is_whole, side_of, primed, left_of}
@@ -46,7 +47,7 @@ match_or (Ok a) q (Err j) w h k = absurd h
 match_or (Err j) q (Ok b) w h k = absurd h
 match_or (Err j) q (Err i) w h k = tt
 
-pub match_value : (o : Outcome Value) (f : Value → Verdict) (g : Value → Outcome Bool) → ((v : Value) → Matches (f v) (g v)) → Matches (o >>= f) ((o >>= Ok) >>= g)
+pub match_value : (o : Outcome Value) (f : Value → Verdict) (g : Value → Outcome Bool) → ((v : Value) → Matches (f v) (g v)) → Matches (o >>= f) (o >>= g)
 match_value (Ok v) f g h = h v
 match_value (Err (Values.fault k p)) f g h = tt
 match_value (Err (Values.over p)) f g h = tt
@@ -72,13 +73,13 @@ match_set at p (model w) f g h = tt
 match_set at p (set vs) f g h = match_members vs f g h
 match_set at p (fun ds rs) f g h = tt
 
-pub match_test : (o : Outcome Value) (at p : Place) (f : Bool → Verdict) (g : Bool → Outcome Bool) → ((b : Bool) → Matches (f b) (g b)) → Matches (o >>= (λ v. as_truth at v f)) (((o >>= Ok) >>= (truth_at p)) >>= g)
+pub match_test : (o : Outcome Value) (at p : Place) (f : Bool → Verdict) (g : Bool → Outcome Bool) → ((b : Bool) → Matches (f b) (g b)) → Matches (o >>= (λ v. as_truth at v f)) ((o >>= (truth_at p)) >>= g)
 match_test o at p f g h =
-    subst (Matches (o >>= (λ v. as_truth at v f))) (sym (on_twice (o >>= Ok) (truth_at p) g)) (match_value o (λ v. as_truth at v f) (λ v. (truth_at p v) >>= g) (λ v. match_truth at p v f g h))
+    subst (Matches (o >>= (λ v. as_truth at v f))) (sym (on_twice o (truth_at p) g)) (match_value o (λ v. as_truth at v f) (λ v. (truth_at p v) >>= g) (λ v. match_truth at p v f g h))
 
-pub match_some : (o : Outcome Value) (at p : Place) (f : Value → Verdict) (g : Value → Outcome Bool) → ((v : Value) → Matches (f v) (g v)) → Matches (o >>= (λ v. as_set at v (λ vs. at_each vs f))) (((o >>= Ok) >>= (members_at p)) >>= (λ vs. some_member vs g))
+pub match_some : (o : Outcome Value) (at p : Place) (f : Value → Verdict) (g : Value → Outcome Bool) → ((v : Value) → Matches (f v) (g v)) → Matches (o >>= (λ v. as_set at v (λ vs. at_each vs f))) ((o >>= (members_at p)) >>= (λ vs. some_member vs g))
 match_some o at p f g h =
-    subst (Matches (o >>= (λ v. as_set at v (λ vs. at_each vs f)))) (sym (on_twice (o >>= Ok) (members_at p) (λ vs. some_member vs g)))
+    subst (Matches (o >>= (λ v. as_set at v (λ vs. at_each vs f)))) (sym (on_twice o (members_at p) (λ vs. some_member vs g)))
     (match_value o (λ v. as_set at v (λ vs. at_each vs f)) (λ v. (members_at p v) >>= (λ vs. some_member vs g)) (λ v. match_set at p v f g h))
 
 pub match_once : (p : Verdict) (v : Outcome Bool) → Matches p v → Matches p (or_all v (Ok false))
@@ -90,16 +91,16 @@ match_once (Ok b) (Err k) h = absurd h
 match_once (Err j) (Ok b) h = absurd h
 match_once (Err j) (Err k) h = tt
 
-pub match_one : (o : Outcome Value) (f : Value → Verdict) (g : Value → Outcome Bool) → ((v : Value) → Matches (f v) (g v)) → Matches (o >>= f) (((o >>= Ok) >>= (λ v. Ok (and v no_values))) >>= (λ vs. some_member vs g))
+pub match_one : (o : Outcome Value) (f : Value → Verdict) (g : Value → Outcome Bool) → ((v : Value) → Matches (f v) (g v)) → Matches (o >>= f) ((o >>= (λ v. Ok (and v no_values))) >>= (λ vs. some_member vs g))
 match_one o f g h =
-    subst (Matches (o >>= f)) (sym (on_twice (o >>= Ok) (λ v. Ok (and v no_values)) (λ vs. some_member vs g)))
+    subst (Matches (o >>= f)) (sym (on_twice o (λ v. Ok (and v no_values)) (λ vs. some_member vs g)))
     (match_value o f (λ v. or_all (g v) (Ok false)) (λ v. match_once (f v) (g v) (h v)))
 
 pub match_true : (v : Outcome Bool) (p : Verdict) → Matches p v → Matches (Module.and_then p (Ok true)) (and_then v (Ok true))
 match_true v p h = match_and p (Ok true) v (Ok true) h refl
 
 -- a truth value that is got as it is
-pub match_told : (o : Outcome Value) (at p : Place) → Matches (o >>= (λ v. as_truth at v Ok)) ((o >>= Ok) >>= (truth_at p))
+pub match_told : (o : Outcome Value) (at p : Place) → Matches (o >>= (λ v. as_truth at v Ok)) (o >>= (truth_at p))
 match_told o at p = match_value o (λ v. as_truth at v Ok) (truth_at p) (λ v. by v)
   where
     by : (v : Value) → Matches (as_truth at v Ok) (truth_at p v)
@@ -110,21 +111,21 @@ match_told o at p = match_value o (λ v. as_truth at v Ok) (truth_at p) (λ v. b
     by (set vs) = tt
     by (fun ds rs) = tt
 
-pub match_print : (o : Outcome Value) (at : Place) → Matches ((o >>= (λ v. Ok (truth true))) >>= (λ v. as_truth at v Ok)) ((o >>= Ok) >>= (λ v. Ok true))
+pub match_print : (o : Outcome Value) (at : Place) → Matches (((o >>= (λ v. Ok (v ∷ []))) >>= standard_value plain printed at) >>= (λ v. as_truth at v Ok)) (o >>= (λ v. Ok true))
 match_print (Ok v) at = refl
 match_print (Err (Values.fault k p)) at = tt
 match_print (Err (Values.over p)) at = tt
 
-pub match_assert : (o : Outcome Value) (at p q : Place) → Matches ((o >>= (λ v. on_truth at v (λ b. cond b (Ok (truth true)) (Err (Values.fault AssertFailed at))))) >>= (λ v. as_truth at v Ok)) (((o >>= Ok) >>= (truth_at p)) >>= (λ b. cond b (Ok true) (Err (fault AssertFailed q))))
-match_assert (Ok (truth true)) at p q = refl
-match_assert (Ok (truth false)) at p q = tt
-match_assert (Ok (int n)) at p q = tt
-match_assert (Ok (text w)) at p q = tt
-match_assert (Ok (model w)) at p q = tt
-match_assert (Ok (set vs)) at p q = tt
-match_assert (Ok (fun ds rs)) at p q = tt
-match_assert (Err (Values.fault k r)) at p q = tt
-match_assert (Err (Values.over r)) at p q = tt
+pub match_assert : (o : Outcome Value) (m : Value) (at p q : Place) → Matches (((o >>= (λ v. Ok (v ∷ m ∷ []))) >>= standard_value plain asserted at) >>= (λ v. as_truth at v Ok)) ((o >>= (truth_at p)) >>= (λ b. cond b (Ok true) (Err (fault AssertFailed q))))
+match_assert (Ok (truth true)) m at p q = refl
+match_assert (Ok (truth false)) m at p q = tt
+match_assert (Ok (int n)) m at p q = tt
+match_assert (Ok (text w)) m at p q = tt
+match_assert (Ok (model w)) m at p q = tt
+match_assert (Ok (set vs)) m at p q = tt
+match_assert (Ok (fun ds rs)) m at p q = tt
+match_assert (Err (Values.fault k r)) m at p q = tt
+match_assert (Err (Values.over r)) m at p q = tt
 
 -- ---- expressions
 
@@ -232,10 +233,10 @@ bool_alike true b f g = sym (f refl)
 bool_alike false true f g = g refl
 bool_alike false false f g = refl
 
-look_same : (vs xs : List Word) (s t : State) → ((x : Word) → member xs x ≡ true → member vs x ≡ true) → Module.all_same (values_of vs s) (values_of vs t) xs ≡ all_same xs s t
+look_same : (vs xs : List Word) (s t : State) → ((x : Word) → member xs x ≡ true → member vs x ≡ true) → Module.are_unchanged (values_of vs s) (values_of vs t) xs ≡ all_same xs s t
 look_same vs [] s t h = refl
 look_same vs (x ∷ xs) s t h =
-    (λ i. same_look (cond (h x here i) (Some (s x)) None) (cond (h x here i) (Some (t x)) None) && Module.all_same (values_of vs s) (values_of vs t) xs)
+    (λ i. is_unchanged (cond (h x here i) (Some (s x)) None) (cond (h x here i) (Some (t x)) None) && Module.are_unchanged (values_of vs s) (values_of vs t) xs)
     ∙ (λ i. same (t x) (s x) && look_same vs xs s t (λ y m. h y (or_right (bytes_eq x y) (member xs y) m)) i)
   where
     here : (bytes_eq x x || member xs x) ≡ true
@@ -279,7 +280,7 @@ same_left (v ∷ vs) all own s t h = by (same_left vs all own s t h) (member all
         (λ i. eq-value (t v) (s v) (h v k.0 k.1) i && all_same (left_of vs all own) s t) ∙ ih
     by ih false p = ih
 
-pub unchanged_same : (vs all own : List Word) (s t : State) → Within all vs → Module.all_same (values_of vs s) (values_of vs t) (left_of vs all own) ≡ all_same (minus all own) s t
+pub unchanged_same : (vs all own : List Word) (s t : State) → Within all vs → Module.are_unchanged (values_of vs s) (values_of vs t) (left_of vs all own) ≡ all_same (minus all own) s t
 unchanged_same vs all own s t w =
     look_same vs (left_of vs all own) s t (kept_in vs all own)
     ∙ bool_alike _ _

@@ -3,16 +3,16 @@ use Rattle.std.proofs.Common.{◌≡◌, [], ◌∷◌, Bool, true, false, cond,
 use Rattle.tla_token.specs.declared.place.Place.{Place}
 use Rattle.tla_expr.specs.Tree.{Word}
 use Rattle.tla_value.specs.declared.fault.FaultKind.TheVariants.{AssertFailed}
-use Rattle.tla_value.specs.Value.{Value, Values, no_values, and}
+use Rattle.tla_value.specs.Value.{Value, Values, no_values, and, Outcome, fault}
 use Rattle.tla_value.specs.Stops.{Check}
 use Rattle.tla_value.specs.Related.{In}
 use Rattle.pcal_tree.specs.Algorithm.{Span, Binds, no_binds, one_of, is, Statement, assign, await, print, assert, skip, branch, either, with, while, goto, macro, call, return, Statements, done, then, mark, Branches, no_branches, or}
-use Rattle.pcal_tree.specs.Scope.{State, Outcome, fault, Scope, bound, test, members, value_of}
+use Rattle.pcal_tree.specs.Scope.{State, Scope, bound, test, members, value_of}
 use Rattle.pcal_tree.specs.Assign.{moved}
 use Rattle.pcal_tree.specs.Run.{Course, stops, Has, HasSome, after, at_each, held, Follow, Rules, unlabelled, label_of, run_binds, run_one, run, run_branches, exit_to}
-use Rattle.pcal_tree.specs.Clean.{following}
 use Rattle.action_builder.specs.Contract.{to_end}
 use Rattle.action_builder.specs.Settled.{Moving, jumps_one, jumps, jumps_some, settled_one, settled, settled_some, Stops, EachBind, Callable, TidyOne, Tidy, TidySome, Outcomes, AnyBad, Close, CloseCourses, Does, Inner}
+use Rattle.pcal_tree.proofs.ExpandRuns.{following}
 
 -- ---- close courses
 

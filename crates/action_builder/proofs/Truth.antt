@@ -6,13 +6,14 @@ use Rattle.tla_expr.specs.Tree.{Word, Tree, Trees, no_trees, tree}
 use Rattle.tla_value.specs.Value.{Value, Outcome, ◌>>=◌}
 use Rattle.tla_value.specs.Order.{same}
 use Rattle.tla_value.specs.Stops.{plain}
-use Rattle.tla_value.specs.Meaning.{Env, called, on_all, eval}
+use Rattle.tla_value.specs.Standard.{printed, asserted, standard_value}
+use Rattle.tla_value.specs.Meaning.{Env, called, part_values, eval}
 use Rattle.tla_value.specs.Definitions.{Valuation}
 use Rattle.module_text.specs.Module.{Items, no_items, item}
 use Rattle.module_text.specs.Truth.{Verdict, as_truth, as_set, at_each, is_value, items_hold, some_branch}
 use Rattle.module_text.specs.Truth as Module
 use Rattle.pcal_tree.specs.Algorithm.{Assignments, Binds, no_binds, one_of, is, Statement, assign, await, print, assert, skip, branch, either, with, Statements, done, then, mark, Branches, no_branches, or}
-use Rattle.pcal_tree.specs.Scope.{State, Outcome, ◌>>=◌, Scope, bound, place_of}
+use Rattle.pcal_tree.specs.Scope.{State, Scope, bound, place_of}
 use Rattle.action_builder.specs.Action.{Names, member, more, mid, firsts, assigned, assigned_in, assigned_by, minus, all_same, and_then, hold, hold_some, holds, hold_sets, build, build_one, build_some, ended, value_for, Effects}
 use Rattle.action_builder.specs.Action as Action
 use Rattle.action_builder.specs.Effects.{parts_of, effect_of, effects_of, ways_of, nested}
@@ -46,7 +47,7 @@ match_filled s t e at (item x xs) v h = h
 pub match_unchanged : (vs all own : List Word) (s t : State) (e : Env) → Within all vs → Matches (items_hold plain (values_of vs s) (values_of vs t) e (unchanged_of (left_of vs all own))) (and_then (Ok (all_same (minus all own) s t)) (Ok true))
 match_unchanged vs all own s t e w = by (left_of vs all own) (unchanged_same vs all own s t w)
   where
-    by : (xs : List Word) → Module.all_same (values_of vs s) (values_of vs t) xs ≡ all_same (minus all own) s t → Matches (items_hold plain (values_of vs s) (values_of vs t) e (unchanged_of xs)) (and_then (Ok (all_same (minus all own) s t)) (Ok true))
+    by : (xs : List Word) → Module.are_unchanged (values_of vs s) (values_of vs t) xs ≡ all_same (minus all own) s t → Matches (items_hold plain (values_of vs s) (values_of vs t) e (unchanged_of xs)) (and_then (Ok (all_same (minus all own) s t)) (Ok true))
     by [] q = subst (λ b. Matches (Ok true) (and_then (Ok b) (Ok true))) q refl
     by (x ∷ xs) q = subst (λ b. Matches (Module.and_then (Ok b) (Ok true)) (and_then (Ok (all_same (minus all own) s t)) (Ok true))) (sym q) (match_true (Ok (all_same (minus all own) s t)) (Ok (all_same (minus all own) s t)) refl)
 
@@ -64,7 +65,7 @@ match_setting : (U : Readable) (vs : List Word) (A : Names) (ms : Assignments) �
 match_setting U vs A ms f sc env k w s t y m in_vs =
     let e : Tree = side_of y (own y ms) in
     subst (λ o. Matches (o.value >>= (λ v. Ok (is_value (values_of vs t y) v))) ((value_for y (parts_of plain ms) sc (mid s t A)) >>= (λ v. Ok (same (t y) v)))) (sym (exp_law U vs A sc env k.paired w (side_of y (own y ms)) (side_fine U A y (own y ms) (f.readable y m) (own_fine U A y ms f.sides)) s t))
-    (subst (λ z. Matches ((eval plain (side_of y (own y ms)) (sc.env (mid s t A))).value >>= (λ v. Ok (is_value (values_of vs t y) v))) (z >>= (λ v. Ok (same (t y) v)))) (value_law y ms f.left sc k.scoped.part (mid s t A) (λ at. k.scoped.reads y in_vs at (mid s t A)))
+    (subst (λ z. Matches ((eval plain (side_of y (own y ms)) (sc.env (mid s t A))).value >>= (λ v. Ok (is_value (values_of vs t y) v))) (z >>= (λ v. Ok (same (t y) v)))) (value_law (member vs) y ms f.left sc k.scoped.part (mid s t A) (λ at. k.scoped.reads y in_vs at (mid s t A)))
     (match_value (eval plain (side_of y (own y ms)) (sc.env (mid s t A))).value (λ v. Ok (is_value (values_of vs t y) v)) (λ v. Ok (same (t y) v)) (λ v. ap (λ b. is_value (cond b (Some (t y)) None) v) in_vs)))
 
 match_sets : (U : Readable) (vs : List Word) (A : Names) (ms : Assignments) → FineMoves U vs A ms → (sc : Scope) (env : State → State → Env) → Stands U vs sc env → IsWithin A (member vs) → (s t : State) (ys : List Word) → Within ys (firsts (parts_of plain ms)) → Within ys vs → (rest : Items) (r : Outcome Bool) → Matches (holds_on vs env rest s t) r → Matches (holds_on vs env (settings_of A ms ys rest) s t) (and_then (hold_sets (Action.settings_of A (parts_of plain ms) ys) sc s t) r)
@@ -111,13 +112,13 @@ mutual
       subst (λ o. Matches (o.value >>= (λ v. as_truth (Module.place_of (primed A e)) v Ok)) (holds (build_one A (effect_of plain at (await e))) sc s t)) (sym (exp_law U vs A sc env k.paired w e f s t))
       (match_told (eval plain e (sc.env (mid s t A))).value (Module.place_of (primed A e)) (place_of e sc))) h
   match_item U vs A at (print e) f a w sc env k s t rest r h = match_and _ (holds_on vs env rest s t) _ r (
-      subst (λ d. Matches ((on_all (eval plain (primed A e) ∷ []) (env s t) (λ us. (called at d us).value)) >>= (λ v. as_truth at v Ok)) (holds (build_one A (effect_of plain at (print e))) sc s t)) (sym (k.paired.print s t))
-      (subst (λ o. Matches ((o.value >>= (λ v. Ok (Rattle.tla_value.specs.Value.truth true))) >>= (λ v. as_truth at v Ok)) (holds (build_one A (effect_of plain at (print e))) sc s t)) (sym (exp_law U vs A sc env k.paired w e f s t))
+      subst (λ d. Matches ((part_values (eval plain (primed A e) ∷ []) (env s t) >>= (λ us. (called at d us).value)) >>= (λ v. as_truth at v Ok)) (holds (build_one A (effect_of plain at (print e))) sc s t)) (sym (k.paired.print s t))
+      (subst (λ o. Matches (((o.value >>= (λ v. Ok (v ∷ []))) >>= standard_value plain printed at) >>= (λ v. as_truth at v Ok)) (holds (build_one A (effect_of plain at (print e))) sc s t)) (sym (exp_law U vs A sc env k.paired w e f s t))
       (match_print (eval plain e (sc.env (mid s t A))).value at))) h
   match_item U vs A at (assert e) f a w sc env k s t rest r h = match_and _ (holds_on vs env rest s t) _ r (
-      subst (λ d. Matches ((on_all (eval plain (primed A e) ∷ eval plain (Rattle.tla_expr.specs.Tree.node (Rattle.tla_expr.specs.Tree.string (codes "Failure of assertion.")) at no_trees) ∷ []) (env s t) (λ us. (called at d us).value)) >>= (λ v. as_truth at v Ok)) (holds (build_one A (effect_of plain at (assert e))) sc s t)) (sym (k.paired.assert s t))
-      (subst (λ o. Matches ((o.value >>= (λ v. Rattle.tla_value.specs.Stops.on_truth at v (λ b. cond b (Ok (Rattle.tla_value.specs.Value.truth true)) (Err (Rattle.tla_value.specs.Value.fault Rattle.tla_value.specs.declared.fault.FaultKind.TheVariants.AssertFailed at))))) >>= (λ v. as_truth at v Ok)) (holds (build_one A (effect_of plain at (assert e))) sc s t)) (sym (exp_law U vs A sc env k.paired w e f s t))
-      (match_assert (eval plain e (sc.env (mid s t A))).value at (place_of e sc) at))) h
+      subst (λ d. Matches ((part_values (eval plain (primed A e) ∷ eval plain (Rattle.tla_expr.specs.Tree.node (Rattle.tla_expr.specs.Tree.string (codes "Failure of assertion.")) at no_trees) ∷ []) (env s t) >>= (λ us. (called at d us).value)) >>= (λ v. as_truth at v Ok)) (holds (build_one A (effect_of plain at (assert e))) sc s t)) (sym (k.paired.assert s t))
+      (subst (λ o. Matches (((o.value >>= (λ v. Ok (v ∷ Rattle.tla_value.specs.Value.text (codes "Failure of assertion.") ∷ []))) >>= standard_value plain asserted at) >>= (λ v. as_truth at v Ok)) (holds (build_one A (effect_of plain at (assert e))) sc s t)) (sym (exp_law U vs A sc env k.paired w e f s t))
+      (match_assert (eval plain e (sc.env (mid s t A))).value (Rattle.tla_value.specs.Value.text (codes "Failure of assertion.")) at (place_of e sc) at))) h
   match_item U vs A at skip f a w sc env k s t rest r h = h
   match_item U vs A at (branch e x y) f a w sc env k s t rest r h =
       let xs = assigned_in (effects_of plain x) in

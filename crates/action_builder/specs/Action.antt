@@ -2,10 +2,10 @@
 -- Manual", section 3.2; actions, "Specifying Systems", sections 2.2 and 16.2.3).
 use Rattle.std.specs.Prelude.{List, [], ◌∷◌, ◌++◌, Bool, true, false, cond, ◌||◌, ◌&&◌, bytes_eq, ◌≡◌, ◌⊎◌, Ok, Err}
 use Rattle.tla_expr.specs.Tree.{Word}
-use Rattle.tla_value.specs.Value.{Value, Values, no_values, and}
+use Rattle.tla_value.specs.Value.{Value, Values, no_values, and, Outcome, ◌>>=◌}
 pub use Rattle.tla_value.specs.Value.{and_then, or_all, IsBad, NotFalse}
 use Rattle.tla_value.specs.Order.{same}
-use Rattle.pcal_tree.specs.Scope.{State, put, Outcome, ◌>>=◌, Scope, bound}
+use Rattle.pcal_tree.specs.Scope.{State, put, Scope, bound}
 
 abbrev pub Names : Type 0
 Names = Word → Bool

@@ -2,10 +2,11 @@
 use Rattle.std.specs.Prelude.{◌≡◌, ◌↔◌, Bool, true, Ok, Err}
 pub use Rattle.tla_value.specs.Value.{TrueExactly}
 use Rattle.pcal_tree.specs.Algorithm.{Statements}
-use Rattle.pcal_tree.specs.Scope.{State, Trouble, Outcome, Scope}
+use Rattle.pcal_tree.specs.Scope.{State, Scope}
 use Rattle.pcal_tree.specs.Run.{ends, Has, Follow, Rules, unlabelled, run}
 use Rattle.action_builder.specs.Action.{Names, more, mid, assigned_in, hold, build, Once, IsBad, Agree}
 use Rattle.action_builder.specs.Effects.{Named, Settled, effects_of}
+use Rattle.tla_value.specs.Value.{Trouble, Outcome}
 
 -- nothing follows
 abbrev pub to_end : Follow
@@ -33,6 +34,6 @@ BadSomewhere A t v = (u : State) × Agree A u t × IsBad (v u)
 abbrev pub SomeTrouble : Rules → Names → Statements → Scope → State → State → Type 0
 SomeTrouble M A ss sc s t = (k : Trouble) × Runs M A ss sc s t (Err k)
 
--- statements of one step, in a scope of plain names, that assign nothing twice and nothing of A
-abbrev pub Built : Rules → Names → Statements → Scope → Type 0
-Built M A ss sc = Settled ss × Named sc × Once A (effects_of M.check ss)
+-- statements of one step, in a scope in which the names of V are variables, that assign nothing twice and nothing of A
+abbrev pub Built : Rules → Names → Names → Statements → Scope → Type 0
+Built M V A ss sc = Settled V ss × Named V sc × Once A (effects_of M.check ss)

@@ -3,14 +3,15 @@ use Rattle.std.specs.Prelude.{◌≡◌, List, [], ◌∷◌, codes, Some, Ok}
 use Rattle.tla_token.specs.declared.place.Place.{Place}
 use Rattle.tla_expr.specs.declared.op.Op.TheVariants.{Concat}
 use Rattle.tla_expr.specs.Tree.{Word, Each, string, name, operator_call, strict, operator, tuple, fields, select, Tree, node, Trees, no_trees, tree}
-use Rattle.tla_value.specs.Value.{Value}
+use Rattle.tla_value.specs.Value.{Value, Outcome, ◌>>=◌}
 use Rattle.tla_value.specs.Stops.{sense_of}
 use Rattle.tla_value.specs.Standard.{first_of, rest_of, standard_sense}
 use Rattle.pcal_tree.specs.Algorithm.{Span, Declaration, Routine, locals, Assignments, no_assignments, assignment, Statements, done, then, assign}
-use Rattle.pcal_tree.specs.Scope.{State, Outcome, ◌>>=◌, Scope, root_place, value_of}
-use Rattle.pcal_tree.specs.Program.{Program, Actor, index, local_index, read_at, written, written_all, pc, stack}
-use Rattle.pcal_tree.specs.Calls.{label_name, first_label, initial_value, frame_fields}
+use Rattle.pcal_tree.specs.Scope.{State, Scope, root_place, value_of}
+use Rattle.pcal_tree.specs.Program.{Program, Actor, index, local_index, read_at, written}
+use Rattle.pcal_tree.specs.Calls.{label_name, first_label, initial_place, initial_value, frame_fields}
 use Rattle.action_builder.specs.Effects.{part_at}
+use Rattle.pcal_tree.specs.Variables.{written_all, pc, stack}
 
 abbrev pub name_at : Place → Word → Tree
 name_at at x = node (name x) at no_trees
@@ -103,7 +104,7 @@ pub record Machine (P : Program) (v : Actor) (p : Routine) (sc : Scope) : Type 0
 abbrev pub Initials : Program → Actor → Routine → Place → Scope → (Declaration → Place) → (Declaration → Tree) → List Declaration → Type 0
 Initials P v p at sc place initial [] = Unit {0}
 Initials P v p at sc place initial (d ∷ ds) =
-    ((s : State) (go : Place → Value → Outcome State) → initial_value P v p at d.start s go ≡ (value_of P.check (initial d) sc s) >>= (go (place d)))
+    (initial_place at d.start ≡ place d) × ((s : State) → initial_value P v p at d.start s ≡ value_of P.check (initial d) sc s)
     × Initials P v p at sc place initial ds
 
 -- an argument for each parameter

@@ -1,11 +1,11 @@
 -- Statements of one step with jumps, loops, calls and returns written as assignments that end it ("A PlusCal User's Manual", sections 3.2 and 3.4).
 use Rattle.std.specs.Prelude.{◌≡◌, ◌↔◌, List, [], ◌∷◌, Bool, true, false, cond, ◌||◌, Ok}
 use Rattle.tla_expr.specs.Tree.{Word, Trees}
-use Rattle.tla_value.specs.Value.{Value}
+use Rattle.tla_value.specs.Value.{Value, Outcome}
 use Rattle.tla_value.specs.Meaning.{evals}
 use Rattle.tla_value.specs.Related.{In}
 use Rattle.pcal_tree.specs.Algorithm.{Name, Span, Binds, no_binds, one_of, is, Statement, assign, await, print, assert, skip, branch, either, with, while, goto, macro, call, return, Statements, done, then, mark, Branches, no_branches, or}
-use Rattle.pcal_tree.specs.Scope.{State, Outcome, Scope, bound, all_valued, places_of}
+use Rattle.pcal_tree.specs.Scope.{State, Scope, bound, all_valued, places_of}
 use Rattle.pcal_tree.specs.Run.{Course, Has, after, Rules, unlabelled, label_of, run}
 use Rattle.action_builder.specs.Action.{IsBad}
 use Rattle.action_builder.specs.Contract.{to_end}
@@ -115,7 +115,7 @@ CloseCourses K L = (s : State) → Close (Has (K s)) (Has (L s))
 -- the assignments do what a jump, a call and a return do, in the scopes that fit
 pub record Does (M : Rules) (W : Moving) (Fit : Scope → Type 0) (F : Word → Type 0) (g : Callable) : Type 0 where
   pub pc : (l : Word) (sc : Scope) → Fit sc → CloseCourses (run M unlabelled (W.pc l) sc to_end) (M.goto l)
-  pub call : (at : Span) (p : Name) (ts : Trees) (l : Word) (sc : Scope) → Fit sc → g p ts ≡ true → CloseCourses (run M unlabelled (W.call at p ts l) sc to_end) (λ s. after (all_valued (evals M.check ts) (sc.env s) Ok) (λ vs. M.call at.first p.word (places_of ts sc) vs l s))
+  pub call : (at : Span) (p : Name) (ts : Trees) (l : Word) (sc : Scope) → Fit sc → g p ts ≡ true → CloseCourses (run M unlabelled (W.call at p ts l) sc to_end) (λ s. after (all_valued (evals M.check ts) (sc.env s)) (λ vs. M.call at.first p.word (places_of ts sc) vs l s))
   pub back : (at : Span) (sc : Scope) → Fit sc → CloseCourses (run M unlabelled (W.back at) sc to_end) (M.return at.first)
   pub bind : (x : Word) (v : Value) (sc : Scope) → F x → Fit sc → Fit (bound x v sc)
 

@@ -8,7 +8,7 @@ use Rattle.tla_expr.specs.Tree.{Word}
 use Rattle.tla_expr.specs.Names.{has, is_same}
 use Rattle.tla_expr.proofs.NameLemmas.{same_refl, has-cons}
 use Rattle.tla_value.specs.declared.fault.FaultKind.TheVariants.{NotInteger}
-use Rattle.tla_value.specs.Value.{Value, text, Outcome}
+use Rattle.tla_value.specs.Value.{Value, text, Outcome, fault}
 use Rattle.tla_value.specs.Order.{same}
 use Rattle.tla_value.specs.Stops.{plain}
 use Rattle.tla_value.specs.Meaning.{Env}
@@ -17,19 +17,23 @@ use Rattle.tla_value.specs.Standard.{standard_name}
 use Rattle.pcal_tree.specs.Algorithm.{Naming}
 use Rattle.pcal_tree.specs.Names.{first_free, kept, taken_outside, naming}
 use Rattle.pcal_tree.specs.Outside.{bound_in}
-use Rattle.pcal_tree.specs.Scope.{State, fault}
+use Rattle.pcal_tree.specs.Scope.{State}
 use Rattle.pcal_tree.specs.Run.{Has}
-use Rattle.pcal_tree.specs.Program.{Program, pc, Actor}
-use Rattle.pcal_tree.specs.Step.{vars, Agree, IsActor, StepFrom, course_of, pc_of, Sound, Step, Stutters}
-use Rattle.module_text.specs.Truth.{Verdict, on, on_test, and_then, or_all, acted, acts_in, is_value, same_look, all_same, scope, next_holds, TrueExactly}
+use Rattle.pcal_tree.specs.Program.{Program, Actor}
+use Rattle.pcal_tree.specs.Step.{StepFrom, course_of, pc_of, Step, Stutters}
+use Rattle.module_text.specs.Truth.{Verdict, on, on_test, and_then, or_all, acted, acts_in, is_value, is_unchanged, are_unchanged, scope, next_holds, TrueExactly}
 use Rattle.module_text.proofs.Tells.{tells_and, tells_or, tells_as, tells_of}
 use Rattle.first_path.specs.Form.{number_operand, variable_operand, Right, single, sum, Parts, is_fit}
-use Rattle.first_path.specs.Placed.{Places, right_tree, is_at, algorithm_at, module_at}
-use Rattle.first_path.specs.Translates.{on_variables, outside_of, NextIs}
+use Rattle.first_path.specs.Placed.{Places, right_tree, is_at, algorithm_at, module_at, integers_alone}
+use Rattle.promise.specs.ConstantsAndStates.{on_variables}
+use Rattle.promise.specs.NextAndInit.{NextIs}
 use Rattle.first_path.proofs.Names.{word_same}
 use Rattle.first_path.proofs.Fit.{Fit, fit_of, not_own}
 use Rattle.first_path.proofs.Means.{true_tells, last_tells, label_free, StandsFor, result, tells_same, label_tells, value_tells, right_tells}
 use Rattle.first_path.proofs.MeansStep.{program_of, got_is, actor, stand, Kept, is_actor, actor_is, stand_is, stands_there, there_stands, course_for, course_is, ended}
+use Rattle.pcal_tree.specs.Variables.{pc, vars, Agree}
+use Rattle.pcal_tree.specs.Processes.{IsActor}
+use Rattle.pcal_tree.specs.Faults.{Sound}
 
 -- ---- the variables in a state
 
@@ -81,7 +85,7 @@ step_items q f T env = and_then (first_item q f env) (and_then (second_item q f 
 -- the action of the stuttering end
 abbrev end_items : Places → Parts → Valuation → Valuation → Env → Verdict
 end_items q f S T env =
-    and_then (on_test plain env (is_at (codes "Done") (q 9) (q 10)) Ok) (and_then (Ok (all_same S T (f.variable ∷ pc ∷ []))) (Ok true))
+    and_then (on_test plain env (is_at (codes "Done") (q 9) (q 10)) Ok) (and_then (Ok (are_unchanged S T (f.variable ∷ pc ∷ []))) (Ok true))
 
 third_tells : (T : Valuation) (t : State) → T pc ≡ Some (t pc) → TrueExactly (third_item T) (t pc ≡ text (codes "Done"))
 unfolding third_item
@@ -144,21 +148,21 @@ both_tell a b P Q (c, e, h) (d, k, g) = (a && b, refl, (to, from))
     from : P × Q → (a && b) ≡ true
     from (x, y) = and_from a b (same_told a c e ∙ h.1 x) (same_told b d k ∙ g.1 y)
 
-look_tells : (o r : Option Value) (v w : Value) → o ≡ Some v → r ≡ Some w → TrueExactly (Ok (same_look o r)) (v ≡ w)
+look_tells : (o r : Option Value) (v w : Value) → o ≡ Some v → r ≡ Some w → TrueExactly (Ok (is_unchanged o r)) (v ≡ w)
 look_tells o r v w d e =
-    tells_of (Ok (same_look o r)) (Ok (same w v)) (v ≡ w) (λ i. Ok (same_look (d i) (e i)))
+    tells_of (Ok (is_unchanged o r)) (Ok (same w v)) (v ≡ w) (λ i. Ok (is_unchanged (d i) (e i)))
     (tells_as (Ok (same w v)) (w ≡ v) (v ≡ w) (tells_same w v) sym sym)
 
-same_tells : (x y : Word) (s t : State) (S T : Valuation) → Two x y s S → Two x y t T → TrueExactly (Ok (all_same S T (x ∷ y ∷ []))) (Agree (x ∷ y ∷ []) s t)
+same_tells : (x y : Word) (s t : State) (S T : Valuation) → Two x y s S → Two x y t T → TrueExactly (Ok (are_unchanged S T (x ∷ y ∷ []))) (Agree (x ∷ y ∷ []) s t)
 same_tells x y s t S T d e =
-    both_tell (same_look (S x) (T x)) (same_look (S y) (T y) && true) (s x ≡ t x) ((s y ≡ t y) × Unit {0})
+    both_tell (is_unchanged (S x) (T x)) (is_unchanged (S y) (T y) && true) (s x ≡ t x) ((s y ≡ t y) × Unit {0})
     (look_tells (S x) (T x) (s x) (t x) d.0 e.0)
-    (both_tell (same_look (S y) (T y)) true (s y ≡ t y) (Unit {0}) (look_tells (S y) (T y) (s y) (t y) d.1 e.1) true_tells)
+    (both_tell (is_unchanged (S y) (T y)) true (s y ≡ t y) (Unit {0}) (look_tells (S y) (T y) (s y) (t y) d.1 e.1) true_tells)
 
 over_tells : (q : Places) (f : Parts) (s t : State) (S T : Valuation) (env : Env) → StandsFor pc (s pc) env → Two f.variable pc s S → Two f.variable pc t T
     → TrueExactly (end_items q f S T env) (Over f s t)
 over_tells q f s t S T env k d e =
-    let same = Ok (all_same S T (f.variable ∷ pc ∷ [])) in
+    let same = Ok (are_unchanged S T (f.variable ∷ pc ∷ [])) in
     let at = on_test plain env (is_at (codes "Done") (q 9) (q 10)) Ok in
     let agree = Agree (f.variable ∷ pc ∷ []) s t in
     tells_and at (and_then same (Ok true)) (s pc ≡ text (codes "Done")) agree (label_tells (codes "Done") (s pc) env k (q 9) (q 10))
@@ -271,16 +275,16 @@ right_bound v (sum variable_operand (number_operand m)) p q = refl
 right_bound v (sum variable_operand variable_operand) p q = refl
 
 -- the label is chosen apart from the variable alone
-taken_are : (p q : Places) (f : Parts) → taken_outside (outside_of (module_at q f)) ++ kept (algorithm_at p f) ≡ f.variable ∷ []
+taken_are : (p q : Places) (f : Parts) → taken_outside integers_alone ++ kept (algorithm_at p f) ≡ f.variable ∷ []
 taken_are p q f = rw (right_bound f.variable f.right (p 12) (p 14)) refl
 
-pub label_kept : (p q : Places) (f : Parts) → Fit f → Kept f (naming (algorithm_at p f) (outside_of (module_at q f)))
+pub label_kept : (p q : Places) (f : Parts) → Fit f → Kept f (naming (algorithm_at p f) integers_alone)
 label_kept p q f h =
-    let taken = taken_outside (outside_of (module_at q f)) ++ kept (algorithm_at p f) in
+    let taken = taken_outside integers_alone ++ kept (algorithm_at p f) in
     ap (λ b. cond b (first_free (codes "Integers" ∷ []) taken f.label) f.label) (word_same f.label)
     ∙ ap (λ ws. first_free (codes "Integers" ∷ []) ws f.label) (taken_are p q f) ∙ label_free f.variable f.label h.label h.not_variable
 
 pub next_is : (p q : Places) (f : Parts) → IsTrue (is_fit f) → NextIs (algorithm_at p f) (module_at q f)
-next_is p q f fit values s t constants sound =
+next_is p q f fit values s t constants from to sound =
     let h = fit_of f fit in
-    next_of p f (naming (algorithm_at p f) (outside_of (module_at q f))) values h (label_kept p q f h) q s t sound
+    next_of p f (naming (algorithm_at p f) integers_alone) values h (label_kept p q f h) q s t sound

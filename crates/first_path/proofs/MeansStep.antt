@@ -4,24 +4,26 @@ use Rattle.tla_token.specs.declared.place.Place.{Place}
 use Rattle.tla_token.proofs.Spelled.{same_bytes}
 use Rattle.tla_expr.specs.Tree.{Word, name}
 use Rattle.tla_value.specs.declared.fault.FaultKind.TheVariants.{NotInteger}
-use Rattle.tla_value.specs.Value.{Value, text, Outcome}
+use Rattle.tla_value.specs.Value.{Value, text, Outcome, fault, ◌>>=◌}
 use Rattle.tla_value.specs.Stops.{plain}
 use Rattle.tla_value.specs.Meaning.{eval}
 use Rattle.tla_value.specs.Definitions.{Valuation}
 use Rattle.pcal_tree.specs.Algorithm.{Naming, Routine, Statements, assign, done, then, no_assignments, assignment, alone_routine, mark}
 use Rattle.pcal_tree.specs.declared.mark.Mark.TheVariants.{Plain}
-use Rattle.pcal_tree.specs.Scope.{State, put, Outcome, fault, ◌>>=◌, Part}
+use Rattle.pcal_tree.specs.Scope.{State, put, Part}
 use Rattle.pcal_tree.specs.Run.{Course, ends, stops, after}
 use Rattle.pcal_tree.specs.StepStart.{Begin, at_label}
 use Rattle.pcal_tree.specs.Assign.{set_all}
-use Rattle.pcal_tree.specs.Program.{Program, Actor, pc, routine_scope, part_of}
+use Rattle.pcal_tree.specs.Program.{Program, Actor, routine_scope, part_of}
 use Rattle.pcal_tree.specs.Calls.{label_value, jumped, finished}
-use Rattle.pcal_tree.specs.Step.{OneOf, IsActor, Stand, StandsAt, course_of}
+use Rattle.pcal_tree.specs.Step.{Stand, StandsAt, course_of}
 use Rattle.first_path.specs.Form.{Parts}
 use Rattle.first_path.specs.Placed.{Places, word_at, leaf, right_tree, statement_span, algorithm_at}
 use Rattle.first_path.proofs.Names.{word_same}
 use Rattle.first_path.proofs.Fit.{Fit, not_own}
 use Rattle.first_path.proofs.Means.{StandsFor, result, outcome, right_evaluates}
+use Rattle.pcal_tree.specs.Variables.{pc}
+use Rattle.pcal_tree.specs.Processes.{OneOf, IsActor}
 
 -- with any written names
 abbrev pub program_of : Places → Parts → Naming → Valuation → Program
@@ -83,7 +85,7 @@ course_for at f s None = stops (fault NotInteger at)
 -- the statement, and then the jump
 steps : Places → Parts → Naming → Valuation → State → Outcome Part → Outcome Value → Course
 steps p f names values s g o =
-    after (g >>= (λ t. (o >>= Ok) >>= (λ v. set_all plain (record { place = p 10; part = t; value = v } ∷ []) s)))
+    after ((g >>= (λ t. o >>= (λ v. Ok (record { place = p 10; part = t; value = v } ∷ [])))) >>= (λ all. set_all plain all s))
     (λ u. finished (jumped (program_of p f names values) (actor p f) (routine p f) (codes "Done") u))
 
 module _ (p : Places) (f : Parts) (names : Naming) (values : Valuation) where

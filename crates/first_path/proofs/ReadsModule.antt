@@ -10,7 +10,7 @@ use Rattle.tla_token.proofs.Signed.{tells_apart}
 use Rattle.module_text.specs.Layout.{layout}
 use Rattle.module_text.specs.Around.{begin_line, end_line}
 use Rattle.module_text.specs.Reading.{stretch, sight, Reads}
-use Rattle.module_text.specs.Module.{extends}
+use Rattle.module_text.specs.Module.{OutsideUnit, extends}
 use Rattle.module_text.specs.Grammar.{last_name}
 use Rattle.module_text.specs.ModuleTokens.{view, cut}
 use Rattle.module_text.specs.Outside.{Sight, AllOutside}
@@ -57,9 +57,13 @@ front_fits body h =
     let ends : Fine (block body ∷ nl []) = record { fit = (h, (refl, tt)) } in
     (word_fine (codes "EXTENDS") refl refl (sp_fine (word_fine (codes "Integers") refl refl (nl_fine ends)))).fit
 
+-- EXTENDS Integers, on a line
+abbrev extends_integers : ℕ → OutsideUnit
+extends_integers l = extends (record { word = codes "Integers"; place = record { line = l; col = 9 } } ∷ [])
+
 -- the tokens of the front are one unit
 abbrev IsFront : Place → ℕ → List ℕ → Sight → Type 0
-IsFront p at body v = AllOutside true v (cut (view (tokens_of p at (front_pieces body)))).units (extends (codes "Integers" ∷ []) ∷ [])
+IsFront p at body v = AllOutside true v (cut (view (tokens_of p at (front_pieces body)))).units (extends_integers p.line ∷ [])
 
 front_at : (l at : ℕ) (body : List ℕ) (v : Sight) → IsFront (record { line = l; col = 1 }) at body v
 unfolding front_pieces
@@ -199,7 +203,8 @@ reads x f h =
         title = refl;
         front = front x f h;
         front_tokens = front_tok x f h;
-        before =
+        before = extends_integers (place_at (translation_of x f) (behind_header f)).line ∷ [];
+        are_before =
             front_outside (place_at (translation_of x f) (behind_header f)) (behind_header f) (comment_of h.gap h.pieces) (sight (module_at r.0 f))
             (front_line x f h);
         middle = middle x f h;
@@ -210,6 +215,8 @@ reads x f h =
         back = [];
         back_tokens = back_tok x f h;
         none_before_behind = refl;
-        behind = tt;
+        behind = [];
+        are_behind = tt;
+        outside = refl;
       },
     )

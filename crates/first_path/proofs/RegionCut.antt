@@ -1,14 +1,13 @@
 -- The tokens of pieces, line by line and by columns, as the grammar of modules sees them; and the units that they are cut into.
-use Rattle.std.proofs.Common.{◌≡◌, ℕ, ◌+◌, ◌^◌, Bool, true, false, not, ◌&&◌, ◌||◌, nat_eq, List, [], ◌∷◌, length, refl, ap, ◌∙◌, arith, Option, Some, None, MatchBool}
+use Rattle.std.proofs.Common.{◌≡◌, ℕ, ◌+◌, ◌^◌, Bool, true, false, not, ◌&&◌, ◌||◌, nat_eq, List, [], ◌∷◌, length, refl, ap, ◌∙◌, arith, Option, Some, MatchBool}
 use Rattle.std.specs.List.{list_all}
 use Rattle.std.proofs.lemmas.Bool.{and_parts, ltb-true, not-true}
 use Rattle.tla_token.specs.declared.place.Place.{Place}
 use Rattle.tla_token.specs.Places.{after}
-use Rattle.tla_token.specs.Signs.{is_among}
 use Rattle.tla_token.specs.Lexemes.{is_word, is_letter, is_digit}
 use Rattle.tla_token.specs.Lexemes as lexeme
 use Rattle.tla_token.specs.Tokens.{Piece, blank, block, line, lexeme, bytes_of, tokens_of}
-use Rattle.tla_token.specs.Words.{tla_words, is_reserved}
+use Rattle.tla_token.specs.Words.{is_reserved}
 use Rattle.tla_token.proofs.Signed.{tells_apart}
 use Rattle.tla_expr.specs.Tree.{Word}
 use Rattle.tla_expr.specs.Lexical as tk

@@ -2,14 +2,15 @@
 use Rattle.std.proofs.Common.{eq-eqb, nat_eq, ◌≡◌, ℕ, true, false, nat_lt, List, [], ◌∷◌, subst, refl, sym, ap, ◌∙◌, arith}
 use Rattle.std.proofs.lemmas.Bool.{both_ways, le-ltb}
 use Rattle.tla_token.specs.declared.place.Place.{Place}
+use Rattle.tla_token.specs.Places.{start}
 use Rattle.tla_expr.specs.declared.op.Op.TheVariants as op
-use Rattle.tla_expr.specs.Tree.{Word}
+use Rattle.tla_expr.specs.Tree.{Word, Name}
 use Rattle.tla_expr.specs.Lexical.{ExprToken, mark, sign, key}
 use Rattle.tla_expr.specs.Lexical as tk
 use Rattle.tla_expr.specs.Spelling.{Right}
 use Rattle.tla_expr.proofs.ReadStops.{is_calm, Calm, calm_right}
-use Rattle.module_text.specs.Module.{test, setting, unchanged, exists, local, if_then_else, either, no_items, item, no_branches, branch}
-use Rattle.module_text.specs.Grammar.{Token, Kind, seen, keyword, see, Names, last_name, more_names, spell_names, words, tree_of, ItemForm, test_form, setting_form, unchanged_form, exists_form, local_form, choice_form, either_form}
+use Rattle.module_text.specs.Module.{test, setting, unchanged, exists, local, if_then_else, either, no_items, item, no_branches, branch, words_of}
+use Rattle.module_text.specs.Grammar.{Token, Kind, seen, keyword, see, Names, last_name, more_names, spell_names, names_of, words, tree_of, ItemForm, test_form, setting_form, unchanged_form, exists_form, local_form, choice_form, either_form}
 use Rattle.module_text.specs.Grammar.{ListForm, last_item, more_items, BranchForms, last_branch, more_branches, spell_item, spell_list, spell_branches, item_of, items_of, branches_of, list_column, branch_column, GoodItem, GoodList, GoodBranches}
 use Rattle.module_text.proofs.OnePhrase.{lowered, one_phrase}
 
@@ -53,16 +54,30 @@ apart ts us n h = both_ways (nat_eq (first_sort ts) (first_sort us)) n (eq-eqb (
 
 -- ---- names with commas
 
+first_place : List Token → Place
+first_place [] = start
+first_place (t ∷ ts) = t.place
+
+pub same_name : (p q : Place) (x y : Word) (r s : List Token) → see p (tk.word x) r ≡ see q (tk.word y) s
+    → ◌≡◌ {A = Name} (record { word = x; place = p }) (record { word = y; place = q })
+unfolding first_place
+same_name p q x y r s same = (let d : p ≡ q = ap first_place same in let e : x ≡ y = ap first_word same in λ i. record { word = e i; place = d i })
+
+pub placed_names : (ns ms : Names) (r s : List Token) → nat_eq (first_sort r) 9 ≡ false → nat_eq (first_sort s) 9 ≡ false
+    → spell_names ns r ≡ spell_names ms s
+    → (names_of ns ≡ names_of ms) × (r ≡ s)
+placed_names (last_name p x) (last_name q y) r s c d same = ((let e = same_name p q x y r s same in λ i. e i ∷ []), ap tail same)
+placed_names (last_name p x) (more_names q y u ms) r s c d same = absurd (apart r _ c (ap tail same))
+placed_names (more_names p x u ns) (last_name q y) r s c d same = absurd (apart s _ d (ap tail (sym same)))
+placed_names (more_names p x u ns) (more_names q y v ms) r s c d same =
+    let e = same_name p q x y _ _ same in
+    let w = placed_names ns ms r s c d (ap (λ (ts : List Token). tail (tail ts)) same) in
+    ((λ i. e i ∷ w.0 i), w.1)
+
 pub one_names : (ns ms : Names) (r s : List Token) → nat_eq (first_sort r) 9 ≡ false → nat_eq (first_sort s) 9 ≡ false
     → spell_names ns r ≡ spell_names ms s
     → (words ns ≡ words ms) × (r ≡ s)
-one_names (last_name p x) (last_name q y) r s c d same = (ap (λ (ts : List Token). first_word ts ∷ []) same, ap tail same)
-one_names (last_name p x) (more_names q y u ms) r s c d same = absurd (apart r _ c (ap tail same))
-one_names (more_names p x u ns) (last_name q y) r s c d same = absurd (apart s _ d (ap tail (sym same)))
-one_names (more_names p x u ns) (more_names q y v ms) r s c d same =
-    let e : x ≡ y = ap first_word same in
-    let w = one_names ns ms r s c d (ap (λ (ts : List Token). tail (tail ts)) same) in
-    ((λ i. e i ∷ w.0 i), w.1)
+one_names ns ms r s c d same = (let w = placed_names ns ms r s c d same in (ap words_of w.0, w.1))
 
 -- ---- calm tokens
 

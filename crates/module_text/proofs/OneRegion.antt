@@ -2,7 +2,7 @@
 use Rattle.std.proofs.Common.{◌≡◌, List, [], ◌∷◌, ◌++◌, map, Option, Some, None, refl, sym, ap, ◌∙◌}
 use Rattle.tla_expr.specs.Tree.{Word, Tree}
 use Rattle.tla_value.specs.Definitions.{Definition}
-use Rattle.module_text.specs.Module.{Action, Region, RegionUnit, variables_unit, definition_unit, vars_unit, init_unit, action_unit, terminating_unit, next_unit, spec_unit, termination_unit, constants_of, process_set_of, units_of}
+use Rattle.module_text.specs.Module.{Action, Region, RegionUnit, variables_unit, definition_unit, vars_unit, init_unit, action_unit, terminating_unit, next_unit, spec_unit, termination_unit, model_value_units, process_set_of, units_of}
 
 -- both lists begin with as many units of a kind, and then with one of another kind
 split_map : {A : Type 0} (g : A → RegionUnit) (back : RegionUnit → Option A) → ((a : A) → back (g a) ≡ Some a)
@@ -28,7 +28,7 @@ action_back (action_unit a) = Some a
 action_back _ = None
 
 behind_constants : (xs ys v w : List Word) (rs qs : List RegionUnit)
-    → constants_of xs ++ (variables_unit v ∷ rs) ≡ constants_of ys ++ (variables_unit w ∷ qs) → (xs ≡ ys) × (v ≡ w) × (rs ≡ qs)
+    → model_value_units xs ++ (variables_unit v ∷ rs) ≡ model_value_units ys ++ (variables_unit w ∷ qs) → (xs ≡ ys) × (v ≡ w) × (rs ≡ qs)
 behind_constants [] [] v w rs qs h = (refl, cc, cc)
 behind_constants [] (y ∷ ys) v w rs qs h = absurd cc
 behind_constants (x ∷ xs) [] v w rs qs h = absurd cc

@@ -2,12 +2,12 @@
 use Rattle.std.specs.Prelude.{◌≡◌, ℕ, nat_lt, IsTrue, List, [], ◌∷◌, codes}
 use Rattle.tla_token.specs.declared.place.Place.{Place}
 use Rattle.tla_expr.specs.declared.op.Op.TheVariants as op
-use Rattle.tla_expr.specs.Tree.{Word, Tree}
+use Rattle.tla_expr.specs.Tree.{Word, Name, Tree}
 use Rattle.tla_expr.specs.Lexical.{ExprToken, Mark, Key, sign, mark, key}
 use Rattle.tla_expr.specs.Lexical as tk
 use Rattle.tla_expr.specs.Spelling.{Phrase, Right, Good, head, is_primary}
 use Rattle.tla_expr.specs.Spelling as spelled
-use Rattle.module_text.specs.Module.{Item, test, setting, unchanged, exists, local, if_then_else, either, Items, no_items, item, Branches, no_branches, branch, Call, call, call_with, Way, one_way, some_way}
+use Rattle.module_text.specs.Module.{Item, test, setting, unchanged, exists, local, if_then_else, either, Items, no_items, item, Branches, no_branches, branch, words_of, Call, call, call_with, Way, one_way, some_way}
 
 -- a token, as expressions see it, or a reserved word of modules
 pub data Kind : Type 0 where
@@ -47,9 +47,12 @@ abbrev pub spell_names : Names → Tokens
 spell_names (last_name p x) r = word p x r
 spell_names (more_names p x q ns) r = word p x (see q (mark tk.comma) (spell_names ns r))
 
+abbrev pub names_of : Names → List Name
+names_of (last_name p x) = record { word = x; place = p } ∷ []
+names_of (more_names p x q ns) = record { word = x; place = p } ∷ names_of ns
+
 abbrev pub words : Names → List Word
-words (last_name p x) = x ∷ []
-words (more_names p x q ns) = x ∷ words ns
+words ns = words_of (names_of ns)
 
 abbrev pub GoodNames : ℕ → Names → Type 0
 GoodNames e (last_name p x) = Right e p

@@ -1,5 +1,5 @@
 -- Tokens as the grammar of modules sees them: reserved words are sorted out, synonyms are one ("Specifying Systems", section 15.1).
-use Rattle.std.specs.Prelude.{◌+◌, ◌&&◌, ◌||◌, not, Bool, true, false, nat_eq, bytes_eq, List, [], ◌∷◌, Option, Some, None, codes, if◌then◌else◌}
+use Rattle.std.specs.Prelude.{◌+◌, ◌&&◌, ◌||◌, not, Bool, true, false, nat_eq, List, [], ◌∷◌, Option, Some, None, codes}
 use Rattle.tla_token.specs.Signs.{is_among}
 use Rattle.tla_token.specs.Lexemes as lexeme
 use Rattle.tla_token.specs.Tokens as text

@@ -4,7 +4,7 @@ use Rattle.tla_token.specs.Tokens as text
 use Rattle.tla_token.specs.Tokens.{Tok}
 use Rattle.tla_token.specs.Lexemes as lexeme
 use Rattle.tla_expr.specs.Tree.{Word}
-use Rattle.module_text.specs.Module.{units_of, Outside, extends, constants, Module}
+use Rattle.module_text.specs.Module.{units_of, OutsideUnit, Module, words_of, outside_of}
 use Rattle.module_text.specs.Around.{Text, Mode, plain, on_some, header_title, is_header, is_start, is_end, at_line, line_of, line_end, ends_module, seek}
 use Rattle.module_text.specs.Grammar.{Token}
 use Rattle.module_text.specs.Units.{IsUnit}
@@ -67,19 +67,9 @@ abbrev pub AllSmall : List text.Token → Type 0
 AllSmall [] = Unit {0}
 AllSmall (t ∷ ts) = is_small t.kind × AllSmall ts
 
-abbrev pub modules_in : List Outside → List Word
-modules_in [] = []
-modules_in (extends ms ∷ us) = ms ++ modules_in us
-modules_in (u ∷ us) = modules_in us
-
-abbrev pub constants_in : List Outside → List Word
-constants_in [] = []
-constants_in (constants xs ∷ us) = xs ++ constants_in us
-constants_in (u ∷ us) = constants_in us
-
 -- modules and constants count wherever they stand
 abbrev pub sight : Module → Sight
-sight m = record { modules = modules_in (m.before ++ m.behind); constants = constants_in (m.before ++ m.behind); earlier = [] }
+sight m = record { modules = m.outside.extended; constants = words_of m.outside.constants; earlier = [] }
 
 -- the text w is the module m
 pub record Reads (w : Text) (m : Module) : Type 0 where
@@ -88,7 +78,8 @@ pub record Reads (w : Text) (m : Module) : Type 0 where
   pub title : m.title ≡ parts.title
   pub front : List text.Token
   pub front_tokens : Tok w parts.before.from parts.before.to front
-  pub before : AllOutside true (sight m) (cut (view front)).units m.before
+  pub before : List OutsideUnit
+  pub are_before : AllOutside true (sight m) (cut (view front)).units before
   pub middle : List text.Token
   pub middle_tokens : Tok w parts.region.from parts.region.to middle
   pub small : AllSmall middle
@@ -97,4 +88,6 @@ pub record Reads (w : Text) (m : Module) : Type 0 where
   pub back : List text.Token
   pub back_tokens : Tok w parts.behind.from parts.behind.to back
   pub none_before_behind : (cut (view back)).front ≡ []
-  pub behind : AllOutside false (sight m) (cut (view back)).units m.behind
+  pub behind : List OutsideUnit
+  pub are_behind : AllOutside false (sight m) (cut (view back)).units behind
+  pub outside : m.outside ≡ outside_of (before ++ behind)

@@ -1,6 +1,6 @@
 -- The truth of actions: what a module says of a pair of states ("Specifying Systems", sections 2.3 and 16.2.3). A conjunction stops at the first conjunct
 -- that isn't true. A disjunction and \E visit all, in order, and the first fault or value past the limits wins.
-use Rattle.std.specs.Prelude.{List, [], ◌∷◌, ◌++◌, Bool, true, false, ◌&&◌, ◌||◌, cond, bytes_eq, Option, Some, None, codes, Ok, Err}
+use Rattle.std.specs.Prelude.{List, [], ◌∷◌, ◌++◌, Bool, true, false, ◌&&◌, cond, bytes_eq, Option, Some, None, codes, Ok, Err}
 use Rattle.tla_token.specs.declared.place.Place.{Place}
 use Rattle.tla_token.specs.Places.{start}
 use Rattle.tla_expr.specs.declared.op.Op.TheVariants.{Cup}
@@ -12,7 +12,7 @@ use Rattle.tla_value.specs.Order.{same, holds}
 use Rattle.tla_value.specs.Stops.{Check}
 use Rattle.tla_value.specs.Meaning.{Env, bind, eval}
 use Rattle.tla_value.specs.Definitions.{Valuation, no_state, Definition, scope_of}
-use Rattle.module_text.specs.Module.{Item, test, setting, unchanged, exists, local, if_then_else, either, Items, no_items, item, Branches, no_branches, branch, Call, call, call_with, Way, one_way, some_way, Body, all_of, some_of, Action, Region, Module, defined_in}
+use Rattle.module_text.specs.Module.{Item, test, setting, unchanged, exists, local, if_then_else, either, Items, no_items, item, Branches, no_branches, branch, Call, call, call_with, Way, one_way, some_way, Body, all_of, some_of, Action, Region, Module, found}
 
 -- what an action is of a pair of states
 abbrev pub Verdict : Type 0
@@ -50,13 +50,14 @@ abbrev pub is_value : Option Value → Value → Bool
 is_value (Some w) v = same w v
 is_value None v = false
 
-abbrev pub same_look : Option Value → Option Value → Bool
-same_look (Some v) w = is_value w v
-same_look None w = true
+-- nothing is unchanged that has no value
+abbrev pub is_unchanged : Option Value → Option Value → Bool
+is_unchanged (Some v) w = is_value w v
+is_unchanged None w = false
 
-abbrev pub all_same : Valuation → Valuation → List Word → Bool
-all_same s t [] = true
-all_same s t (x ∷ xs) = same_look (s x) (t x) && all_same s t xs
+abbrev pub are_unchanged : Valuation → Valuation → List Word → Bool
+are_unchanged s t [] = true
+are_unchanged s t (x ∷ xs) = is_unchanged (s x) (t x) && are_unchanged s t xs
 
 -- ---- actions from s to t; env has the values of s, those of t under primed names, and bound names
 
@@ -64,7 +65,7 @@ abbrev mutual
   pub item_holds : Check → Valuation → Valuation → Env → Item → Verdict
   item_holds c s t env (test e) = on_test c env e Ok
   item_holds c s t env (setting x e) = on c env e (λ v. Ok (is_value (t x) v))
-  item_holds c s t env (unchanged xs) = Ok (all_same s t xs)
+  item_holds c s t env (unchanged xs) = Ok (are_unchanged s t xs)
   item_holds c s t env (exists x e is) = at_members c env e (λ v. items_hold c s t (bind x v env) is)
   item_holds c s t env (local x e is) = on c env e (λ v. items_hold c s t (bind x v env) is)
   item_holds c s t env (if_then_else p a b) = on_test c env p (λ first. cond first (items_hold c s t env a) (items_hold c s t env b))
@@ -129,11 +130,11 @@ process_set_defined None = []
 process_set_defined (Some e) = record { title = codes "ProcSet"; params = []; body = e; outside = false } ∷ []
 
 -- the definitions in sight of the actions
-abbrev pub definitions_of : Module → List Definition
-definitions_of m = defined_in m.before ++ m.region.definitions ++ process_set_defined m.region.process_set
+abbrev pub definitions_in : Module → List Definition
+definitions_in m = found m.outside.definitions ++ m.region.definitions ++ process_set_defined m.region.process_set
 
 abbrev pub scope : Check → Module → Valuation → Valuation → Valuation → Env
-scope c m constants s t = scope_of c constants (definitions_of m) s t
+scope c m constants s t = scope_of c constants (definitions_in m) s t
 
 abbrev pub terminating : Region → Action
 terminating r = record { title = codes "Terminating"; parameter = None; body = all_of (item (test r.ended) (item (unchanged r.vars) no_items)) }

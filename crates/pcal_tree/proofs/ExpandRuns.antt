@@ -5,13 +5,14 @@ use Rattle.tla_expr.specs.Tree.{Word, Tree, Trees, no_trees, tree, Graft}
 use Rattle.tla_value.specs.Stops.{Check}
 use Rattle.tla_value.specs.Meaning.{evals}
 use Rattle.pcal_tree.specs.Algorithm.{Name, Span, Binds, no_binds, one_of, is, Statement, assign, await, print, assert, skip, branch, either, with, while, goto, macro, call, return, Statements, done, then, mark, Branches, no_branches, or, Macro}
-use Rattle.pcal_tree.specs.Scope.{State, fault, all_valued, Scope, bound, places_of, reach_in, through, value_of, test, members}
+use Rattle.pcal_tree.specs.Scope.{State, all_valued, Scope, bound, places_of, reach_in, through, value_of, test, members}
 use Rattle.tla_value.specs.declared.fault.FaultKind.TheVariants.{AssertFailed}
 use Rattle.pcal_tree.specs.Assign.{moved}
 use Rattle.pcal_tree.specs.Run.{Course, chooses, course, held, stops, after, at_each, Follow, Rules, unlabelled, label_of, run_binds, run_one, run, run_branches, arguments, Calling, with_calls, called, with_macros}
 use Rattle.pcal_tree.specs.Expand.{graft_all, joined, Writing, expand_one, expand, expand_some, written_out, expanded}
 use Rattle.pcal_tree.proofs.GraftRuns.{Meets, graft_runs}
-use Rattle.pcal_tree.specs.Clean.{Any, Calls, CallsOne, CallsSome, Chosen, Clean, FineCall, Free, Opens, following}
+use Rattle.tla_value.specs.Value.{fault}
+use Rattle.pcal_tree.specs.laws.Expansion.{Any, Calls, CallsOne, CallsSome, Chosen, Clean, FineCall, Free, Opens}
 
 pub through_meets : (c : Check) (g : Graft) (sc : Scope) → Free sc → Meets c g Any sc (through c g sc)
 through_meets c g sc free = record {
@@ -21,7 +22,7 @@ through_meets c g sc free = record {
   free = free;
 }
 
-same_argument : (ps : List Name) (ts : Trees) (x : Word) (at p : Place) → arguments ps ts x at ≡ arguments ps ts x p
+pub same_argument : (ps : List Name) (ts : Trees) (x : Word) (at p : Place) → arguments ps ts x at ≡ arguments ps ts x p
 same_argument [] ts x at p = refl
 same_argument (y ∷ ys) no_trees x at p = refl
 same_argument (y ∷ ys) (tree t ts) x at p = ap (λ o. cond (bytes_eq y.word x) (Some t) o) (same_argument ys ts x at p)
@@ -34,6 +35,10 @@ through_free c ps ts sc free x at p s = (λ i. reach_in c (same_argument ps ts x
     by None = free x at p s
 
 -- ---- lists one after the other
+
+-- what follows a list: the rest, and then K
+abbrev pub following : Rules → Statements → Scope → Follow → Follow
+following M rest sc K = record { label = label_of rest K.label; goes = run M unlabelled rest sc K }
 
 join_label : (a b : Statements) (l : Word) → label_of (joined a b) l ≡ label_of a (label_of b l)
 join_label done b l = refl
@@ -102,7 +107,7 @@ mutual
   expand_runs_one M f X P w here at skip h sc free K L rest q = λ i s. (q i).goes s
   expand_runs_one M f X P w here at (goto l) h sc free K L rest q = refl
   expand_runs_one M f X P w here at (call p ts) h sc free K L rest q =
-      λ i s. after (all_valued (evals M.check ts) (sc.env s) Ok) (λ vs. M.call at.first p.word (places_of ts sc) vs (q i).label s)
+      λ i s. after (all_valued (evals M.check ts) (sc.env s)) (λ vs. M.call at.first p.word (places_of ts sc) vs (q i).label s)
   expand_runs_one M f X P w here at return h sc free K L rest q = refl
 
   expand_runs : (M : Rules) (f : Calling) (X : Writing) (P : Word → Trees → Type 0) → Written M f X P → (here : Word) (ss : Statements) → Calls P ss → (sc : Scope) → Free sc → (K L : Follow) → K ≡ L → run (with_calls M f) here ss sc K ≡ run (with_macros M []) here (expand X ss) sc L

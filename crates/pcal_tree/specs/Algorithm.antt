@@ -2,6 +2,7 @@
 use Rattle.std.specs.Prelude.{ℕ, suc, ◌+◌, List, [], ◌∷◌, ◌++◌, Bool, true, false, length, bytes_eq, cond, codes}
 use Rattle.tla_token.specs.declared.place.Place.{Place}
 use Rattle.tla_expr.specs.Tree.{Word, Tree, Trees}
+pub use Rattle.tla_expr.specs.Tree.{Name}
 use Rattle.pcal_tree.specs.declared.mark.Mark.{Mark}
 use Rattle.pcal_tree.specs.declared.mark.Fairness.{Fairness}
 
@@ -10,11 +11,6 @@ abbrev pub nowhere : Place
 nowhere = record { line = 0; col = 0 }
 
 -- ---- statements
-
--- a word where it stands, as a name that is declared or a label
-pub record Name : Type 0 where
-  pub word : Word
-  pub place : Place
 
 -- the first token of a statement behind its labels, which is the statement's place, and its last token
 pub record Span : Type 0 where

@@ -1,14 +1,16 @@
 -- Written names: what a module's names would take from each other is told apart by numbers ("A PlusCal User's Manual", section 4, on names in the translation).
 use Rattle.std.specs.Prelude.{ℕ, zero, suc, length, nat_eq, List, [], ◌∷◌, ◌++◌, Bool, true, false, ◌&&◌, ◌||◌, cond, bytes_eq, codes, map}
+use Rattle.std.specs.List.{flat_map}
 use Rattle.std.specs.Fmt.{decimal}
 use Rattle.tla_token.specs.Signs.{is_among}
 use Rattle.tla_token.specs.Words.{is_reserved, is_own, is_standard}
 use Rattle.tla_expr.specs.Tree.{Word}
 use Rattle.pcal_tree.specs.Algorithm.{Assignments, no_assignments, assignment, Binds, no_binds, one_of, is, Statement, assign, await, print, assert, skip, branch, either, with, while, goto, macro, call, return, Statements, done, then, mark, Branches, no_branches, or, Start, unset, equals, among, Declaration, Procedure, Process, Main, alone, processes, Algorithm, Routine, locals, procedure_routines, main_routines, Naming}
-use Rattle.pcal_tree.specs.Program.{words, declared}
-use Rattle.pcal_tree.specs.Offences.{each}
+use Rattle.tla_expr.specs.Tree.{words}
 use Rattle.pcal_tree.specs.OffencesLabels.{label_words}
-use Rattle.pcal_tree.specs.Outside.{Outside, unit_names, bound_in, bound_in_all, bound_outside}
+use Rattle.tla_value.specs.Outside.{Outside}
+use Rattle.pcal_tree.specs.Outside.{unit_names, bound_in, bound_in_all, bound_outside}
+use Rattle.pcal_tree.specs.Variables.{declared}
 
 -- ---- names that an algorithm binds: in expressions and by `with`
 
@@ -52,7 +54,7 @@ bound_in_start (equals e) = bound_in e
 bound_in_start (among e) = bound_in e
 
 abbrev pub bound_in_declared : List Declaration → List Word
-bound_in_declared ds = each (λ d. bound_in_start d.start) ds
+bound_in_declared ds = flat_map (λ d. bound_in_start d.start) ds
 
 abbrev pub bound_in_procedure : Procedure → List Word
 bound_in_procedure p = bound_in_declared (p.params ++ p.variables) ++ bound_in_body p.body
@@ -62,7 +64,7 @@ bound_in_process p = bound_in p.identity ++ (bound_in_declared p.variables ++ bo
 
 abbrev pub bound_in_main : Main → List Word
 bound_in_main (alone b) = bound_in_body b
-bound_in_main (processes ps) = each bound_in_process ps
+bound_in_main (processes ps) = flat_map bound_in_process ps
 
 -- ---- names that are taken from the start
 
@@ -70,9 +72,9 @@ bound_in_main (processes ps) = each bound_in_process ps
 abbrev pub kept : Algorithm → List Word
 kept a =
     declared a.globals ++ (bound_in_declared a.globals
-    ++ (each (λ d. d.name.word ∷ (words d.params ++ bound_in d.body)) a.definitions
-    ++ (each (λ d. words d.params ++ bound_in_body d.body) a.macros
-    ++ (each bound_in_procedure a.procedures ++ bound_in_main a.main))))
+    ++ (flat_map (λ d. d.name.word ∷ (words d.params ++ bound_in d.body)) a.definitions
+    ++ (flat_map (λ d. words d.params ++ bound_in_body d.body) a.macros
+    ++ (flat_map bound_in_procedure a.procedures ++ bound_in_main a.main))))
 
 abbrev pub taken_outside : Outside → List Word
 taken_outside o = unit_names o ++ bound_outside o
@@ -128,11 +130,11 @@ wanted_by u = record { unit = u.number; role = title; word = u.name.word } ∷ w
 
 -- the one body of a uniprocess algorithm has no name
 abbrev pub wanted_by_main : Algorithm → Main → List Want
-wanted_by_main a (alone b) = each wanted_within (main_routines a (alone b))
-wanted_by_main a (processes ps) = each wanted_by (main_routines a (processes ps))
+wanted_by_main a (alone b) = flat_map wanted_within (main_routines a (alone b))
+wanted_by_main a (processes ps) = flat_map wanted_by (main_routines a (processes ps))
 
 abbrev pub wanted : Algorithm → List Want
-wanted a = each wanted_by (procedure_routines a) ++ wanted_by_main a a.main
+wanted a = flat_map wanted_by (procedure_routines a) ++ wanted_by_main a a.main
 
 -- ---- names given
 

@@ -1,5 +1,5 @@
 -- The tree of an expression: one shape for all forms ("Specifying Systems", chapter 16).
-use Rattle.std.specs.Prelude.{ℕ, ◌+◌, List, [], ◌∷◌, Bool, Option, Some, None, map}
+use Rattle.std.specs.Prelude.{ℕ, ◌+◌, List, [], ◌∷◌, ◌++◌, Bool, Option, Some, None, map}
 use Rattle.std.specs.List.{flat_map}
 use Rattle.tla_token.specs.declared.place.Place.{Place}
 use Rattle.tla_expr.specs.declared.op.Op.{Op}
@@ -81,11 +81,22 @@ abbrev pub Each : (Word → Type 0) → List Word → Type 0
 Each P [] = Unit {0}
 Each P (x ∷ xs) = P x × Each P xs
 
--- the names that a form binds in its last part
+-- the names that a form binds
 abbrev pub binders : Form → List Word
 binders (binding b gs) = flat_map words gs
 binders (local xs) = words xs
 binders _ = []
+
+-- from none of them to all
+abbrev pub beginnings : List Word → List (List Word)
+beginnings [] = [] ∷ []
+beginnings (x ∷ xs) = [] ∷ map (λ ys. x ∷ ys) (beginnings xs)
+
+-- those of them that each part sees, part by part: the body of a binder sees all, and what stands in a LET those before it
+abbrev pub seen_names : Form → List (List Word)
+seen_names (binding b groups) = map (λ (xs : List Name). []) groups ++ flat_map words groups ∷ []
+seen_names (local xs) = beginnings (words xs)
+seen_names _ = []
 
 -- the count of nodes
 abbrev mutual

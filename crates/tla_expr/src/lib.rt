@@ -8,13 +8,11 @@ pub mod graft;
 pub mod laws;
 pub mod name;
 pub mod op;
-pub mod outside;
 
 pub use expr::Expr;
 pub use exprs::Exprs;
 pub use name::{Name, NameList, PlacedName, Text};
 pub use op::{Binder, Op, rank};
-pub use outside::Outside;
 
 #[cfg(test)]
 mod tests {

@@ -15,4 +15,6 @@ pub mod Meaning
 pub mod Grafts
 pub mod Standard
 pub mod Definitions
+pub mod Outside
 pub mod Related
+pub mod laws

@@ -1,0 +1,37 @@
+-- Written names that are apart, from each other and from other names ("A PlusCal User's Manual", section 4, on names in the translation).
+use Rattle.std.specs.Prelude.{◌≡◌, ◌+◌, ◌<◌, ◌^◌, length, List, [], ◌∷◌, false, codes}
+use Rattle.tla_token.specs.Signs.{is_among}
+use Rattle.tla_token.specs.Words.{begins_fairness}
+use Rattle.pcal_tree.specs.Algorithm.{Algorithm, routines}
+use Rattle.pcal_tree.specs.OffencesLabels.{label_words}
+use Rattle.tla_value.specs.Outside.{Outside}
+use Rattle.pcal_tree.specs.Names.{standing, is_taken, wanted, Given, given}
+
+abbrev pub Every : {X : Type 0} → (X → Type 0) → List X → Type 0
+Every Q [] = Unit {0}
+Every Q (x ∷ xs) = Q x × Every Q xs
+
+-- so many names as there are 64-bit numbers don't fit in memory
+abbrev pub FewNames : Algorithm → Outside → Type 0
+FewNames a o = length (standing a o) + length (wanted a) < 2 ^ 64
+
+-- all different
+abbrev pub Apart : List Given → Type 0
+Apart [] = Unit {0}
+Apart (g ∷ gs) = Every (λ h. g.written ≡ h.written → ⊥) gs × Apart gs
+
+-- none stands already
+abbrev pub New : Algorithm → Outside → Type 0
+New a o = Every (λ g. is_among (standing a o) g.written ≡ false) (given a o)
+
+-- none stands already or is reserved, the translation's own or standard
+abbrev pub Untaken : Algorithm → Outside → Type 0
+Untaken a o = Every (λ g. is_taken o.extended (standing a o) g.written ≡ false) (given a o)
+
+-- what begins with WF_ or SF_ is no name
+abbrev pub AreNames : Algorithm → Type 0
+AreNames a = Every (λ w. begins_fairness w.word ≡ false) (wanted a)
+
+-- no label is called Done or Error
+abbrev pub NoEndLabels : Algorithm → Type 0
+NoEndLabels a = Every (λ u. Every (λ l. is_among (codes "Done" ∷ codes "Error" ∷ []) l ≡ false) (label_words u.body)) (routines a)
