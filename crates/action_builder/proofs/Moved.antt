@@ -1,10 +1,10 @@
 -- The assignments written for a jump, a return and a call do what these do.
-use Rattle.std.proofs.Common.{◌≡◌, List, [], ◌∷◌, ◌++◌, Option, Some, None, refl, sym, ◌∙◌, ap, Ok, Err}
+use Rattle.std.proofs.Common.{◌≡◌, List, [], ◌∷◌, ◌++◌, refl, sym, ◌∙◌, ap, Ok, Err}
 use Rattle.std.specs.Prelude.{codes}
 use Rattle.tla_token.specs.declared.place.Place.{Place}
-use Rattle.tla_expr.specs.Tree.{Word, select, Tree, Each}
-use Rattle.tla_value.specs.Value.{Value, text, Outcome, fault, over, ◌>>=◌}
-use Rattle.tla_value.specs.Order.{seq_from, sequence_of}
+use Rattle.tla_expr.specs.Tree.{Word, Tree, Each, select}
+use Rattle.tla_value.specs.Value.{Value, text, Outcome, ◌>>=◌}
+use Rattle.tla_value.specs.Order.{seq_from}
 use Rattle.tla_value.specs.Stops.{Check, plain, sequence_at}
 use Rattle.tla_value.specs.Strict.{applied, strict_value}
 use Rattle.tla_value.specs.Standard.{headed, tailed}
@@ -15,8 +15,10 @@ use Rattle.pcal_tree.specs.Assign.{Setting, set_one, set_all, settings, moved}
 use Rattle.pcal_tree.specs.Run.{ends, after, Rules, unlabelled, run}
 use Rattle.pcal_tree.specs.Program.{Program, Actor, index, local_index, read_at}
 use Rattle.pcal_tree.specs.Calls.{label_name, setting, jumped, on_stack, fields_read, part_settings, restored, returned, finished}
-use Rattle.action_builder.specs.Contract.{to_end}
-use Rattle.action_builder.specs.Moved.{name_at, text_at, one_move, jump_written, kept_field, stack_rest, fields_moved, return_moves, StandsAtPath, Machine}
+use Rattle.action_builder.specs.laws.Settling.{to_end}
+use Rattle.action_builder.specs.Jumps.{name_at, text_at, one_move, jump_written, kept_field, stack_rest, fields_moved, return_moves}
+use Rattle.action_builder.specs.laws.Scopes.{StandsAtPath}
+use Rattle.action_builder.specs.laws.Jumps.{Machine}
 use Rattle.tla_value.proofs.Outcomes.{then_ok, then_then}
 use Rattle.action_builder.proofs.Denotations.{on_both}
 use Rattle.pcal_tree.specs.Variables.{written_all, pc, stack}
