@@ -8,7 +8,7 @@ use Rattle.pcal_tree.specs.StepStart.{begin}
 use Rattle.pcal_tree.specs.Expand.{graft_one, graft_all, graft_some, joined, Writing, expand_one, expand, expand_some, written_out, expanded, expand_begin}
 use Rattle.pcal_tree.proofs.ExpandRuns.{opens_joined}
 use Rattle.pcal_tree.proofs.BeginLaws.{WrittenBare, begin_expanded}
-use Rattle.pcal_tree.specs.Clean.{Any, Calls, CallsOne, CallsSome, Chosen, Clean, FineCall, Opens, BareOne, Bare, BareSome, BareBodies}
+use Rattle.pcal_tree.specs.laws.Expansion.{Any, Calls, CallsOne, CallsSome, Chosen, Clean, FineCall, Opens, BareOne, Bare, BareSome, BareBodies}
 
 bare_joined : (a b : Statements) → Bare a → Bare b → Bare (joined a b)
 bare_joined done b h k = k

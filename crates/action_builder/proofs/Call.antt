@@ -11,7 +11,7 @@ use Rattle.pcal_tree.specs.Algorithm.{Declaration, Routine, locals, Assignments,
 use Rattle.pcal_tree.specs.Scope.{State, all_valued, Scope, root_place, place_of, places_of, value_of}
 use Rattle.pcal_tree.specs.Assign.{Setting, set_one, set_all, settings, moved}
 use Rattle.pcal_tree.specs.Run.{Has, after, Rules, unlabelled, run}
-use Rattle.pcal_tree.specs.Program.{Program, Actor, index, local_index, read_at, written, written_all, pc, stack}
+use Rattle.pcal_tree.specs.Program.{Program, Actor, index, local_index, read_at, written}
 use Rattle.pcal_tree.specs.Calls.{setting, frames_at, initial_value, initial_place, all_read, frame, on_stack, argument_settings, variables_started, entered, label_value, label_name, first_label, finished}
 use Rattle.action_builder.specs.Action.{IsBad}
 use Rattle.action_builder.specs.Contract.{to_end}
@@ -21,6 +21,7 @@ use Rattle.action_builder.proofs.Denotations.{on_both}
 use Rattle.action_builder.proofs.Settle.{close_refl}
 use Rattle.action_builder.proofs.Moved.{one_moved, listed, pc_law}
 use Rattle.tla_value.proofs.Outcomes.{then_ok, then_then}
+use Rattle.pcal_tree.specs.Variables.{written_all, pc, stack}
 
 -- ---- the same result, or neither has one
 

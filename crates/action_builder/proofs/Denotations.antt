@@ -14,9 +14,9 @@ use Rattle.pcal_tree.specs.Assign.{Setting, set_all, settings}
 use Rattle.pcal_tree.specs.Assign as Assign
 use Rattle.pcal_tree.specs.Run.{Course, chooses, Has, HasSome, after, at_each, held, stops, Follow, Rules, unlabelled, run_binds, label_of}
 use Rattle.pcal_tree.specs.Run as Courses
-use Rattle.pcal_tree.specs.Clean.{following}
-use Rattle.action_builder.specs.Action.{Changes, no_changes, change, evaluated, applied, moved, Awaits, Chosen, Picks, SomeOf, Next, Effects, RunOne, Run, RunSome}
-use Rattle.action_builder.specs.Effects.{head_of, head_first, changing, part_of, parts_of, nested, effect_of, effects_of, ways_of, part_at, Named, IsLeft, LeftFirst, LeftMoves, SettledOne, Settled, SettledSome}
+use Rattle.pcal_tree.proofs.ExpandRuns.{following}
+use Rattle.action_builder.specs.Action.{Names, Changes, no_changes, change, evaluated, applied, moved, Awaits, Chosen, Picks, SomeOf, Next, Effects, RunOne, Run, RunSome}
+use Rattle.action_builder.specs.Effects.{head_of, head_first, changing, part_of, parts_of, nested, effect_of, effects_of, ways_of, part_at, Named, IsLeft, LeftFirst, LeftSides, SettledOne, Settled, SettledSome}
 
 -- ---- results
 
@@ -37,23 +37,23 @@ on_both (Err k) p f go = refl
 -- ---- assignments
 
 mutual
-  heads : (c : Check) (l : Tree) → IsLeft l → (sc : Scope) → Named sc → (s : State) (go : Part → Outcome State) → (reach c l sc s) >>= go ≡ (reach c l sc s) >>= (λ p. go (part_at (head_of l) p.path))
-  heads c (node (name x) at ts) h sc n s go = let q = n x at s in ap (λ o. o >>= go) q.1 ∙ sym (ap (λ o. o >>= (λ p. go (part_at x p.path))) q.1)
-  heads c (node (strict apply) at ts) h sc n s go = heads_path c at ts h sc n s go
-  heads c (node (strict (select a)) at ts) h sc n s go =
+  heads : (V : Names) (c : Check) (l : Tree) → IsLeft V l → (sc : Scope) → Named V sc → (s : State) (go : Part → Outcome State) → (reach c l sc s) >>= go ≡ (reach c l sc s) >>= (λ p. go (part_at (head_of l) p.path))
+  heads V c (node (name x) at ts) h sc n s go = let q = n x h at s in ap (λ o. o >>= go) q.1 ∙ sym (ap (λ o. o >>= (λ p. go (part_at x p.path))) q.1)
+  heads V c (node (strict apply) at ts) h sc n s go = heads_path V c at ts h sc n s go
+  heads V c (node (strict (select a)) at ts) h sc n s go =
       on_twice (reach_path c at ts sc s) (λ p. Ok (deeper (text a ∷ []) p)) go
-      ∙ heads_path c at ts h sc n s (λ p. go (deeper (text a ∷ []) p))
+      ∙ heads_path V c at ts h sc n s (λ p. go (deeper (text a ∷ []) p))
       ∙ sym (on_twice (reach_path c at ts sc s) (λ p. Ok (deeper (text a ∷ []) p)) (λ p. go (part_at (head_first ts) p.path)))
-  heads c (node _ at ts) h sc n s go = absurd h
+  heads V c (node _ at ts) h sc n s go = absurd h
 
-  heads_path : (c : Check) (at : Place) (ts : Trees) → LeftFirst ts → (sc : Scope) → Named sc → (s : State) (go : Part → Outcome State) → (reach_path c at ts sc s) >>= go ≡ (reach_path c at ts sc s) >>= (λ p. go (part_at (head_first ts) p.path))
-  heads_path c at no_trees h sc n s go = absurd h
-  heads_path c at (tree f us) h sc n s go =
+  heads_path : (V : Names) (c : Check) (at : Place) (ts : Trees) → LeftFirst V ts → (sc : Scope) → Named V sc → (s : State) (go : Part → Outcome State) → (reach_path c at ts sc s) >>= go ≡ (reach_path c at ts sc s) >>= (λ p. go (part_at (head_first ts) p.path))
+  heads_path V c at no_trees h sc n s go = absurd h
+  heads_path V c at (tree f us) h sc n s go =
       on_twice (reach c f sc s) (λ p. (all_valued (evals c us) (sc.env s)) >>= (λ ks. Ok (deeper ks p))) go
-      ∙ heads c f h sc n s (λ p. ((all_valued (evals c us) (sc.env s)) >>= (λ ks. Ok (deeper ks p))) >>= go)
+      ∙ heads V c f h sc n s (λ p. ((all_valued (evals c us) (sc.env s)) >>= (λ ks. Ok (deeper ks p))) >>= go)
       ∙ (λ i. (reach c f sc s) >>= (λ p. (on_twice (all_valued (evals c us) (sc.env s)) (λ ks. Ok (part_at (head_of f) (p.path ++ ks))) go
       ∙ sym (on_twice (all_valued (evals c us) (sc.env s)) (λ ks. Ok (part_at (head_of f) (p.path ++ ks))) (λ q. go (part_at (head_of f) q.path)))) i))
-      ∙ sym (heads c f h sc n s (λ p. ((all_valued (evals c us) (sc.env s)) >>= (λ ks. Ok (deeper ks p))) >>= (λ q. go (part_at (head_of f) q.path))))
+      ∙ sym (heads V c f h sc n s (λ p. ((all_valued (evals c us) (sc.env s)) >>= (λ ks. Ok (deeper ks p))) >>= (λ q. go (part_at (head_of f) q.path))))
       ∙ sym (on_twice (reach c f sc s) (λ p. (all_valued (evals c us) (sc.env s)) >>= (λ ks. Ok (deeper ks p))) (λ q. go (part_at (head_of f) q.path)))
 
 abbrev to_changes : Check → List Setting → Changes
@@ -63,14 +63,14 @@ to_changes c (m ∷ ms) = change m.part.variable (changing c m.place m.part.path
 abbrev setting_at : Place → Word → List Value → Value → Setting
 setting_at at x path v = record { place = at; part = part_at x path; value = v }
 
-settings_law : (c : Check) (ms : Assignments) → LeftMoves ms → (sc : Scope) → Named sc → (s : State) (go : List Setting → Outcome State) (go' : Changes → Outcome State) → ((all : List Setting) → go all ≡ go' (to_changes c all)) → (settings c ms sc s) >>= go ≡ (evaluated (parts_of c ms) sc s) >>= go'
-settings_law c no_assignments h sc n s go go' k = k []
-settings_law c (assignment l e ms) h sc n s go go' k =
+settings_law : (V : Names) (c : Check) (ms : Assignments) → LeftSides V ms → (sc : Scope) → Named V sc → (s : State) (go : List Setting → Outcome State) (go' : Changes → Outcome State) → ((all : List Setting) → go all ≡ go' (to_changes c all)) → (settings c ms sc s) >>= go ≡ (evaluated (parts_of c ms) sc s) >>= go'
+settings_law V c no_assignments h sc n s go go' k = k []
+settings_law V c (assignment l e ms) h sc n s go go' k =
     on_twice (reach c l sc s) (λ p. (value_of c e sc s) >>= (λ v. (settings c ms sc s) >>= (λ rest. Ok (record { place = root_place l; part = p; value = v } ∷ rest)))) go
     ∙ (λ i. (reach c l sc s) >>= (λ p. on_both (value_of c e sc s) (λ v. settings c ms sc s) (λ v rest. record { place = root_place l; part = p; value = v } ∷ rest) go i))
-    ∙ heads c l h.0 sc n s (λ p. (value_of c e sc s) >>= (λ v. (settings c ms sc s) >>= (λ rest. go (record { place = root_place l; part = p; value = v } ∷ rest))))
+    ∙ heads V c l h.0 sc n s (λ p. (value_of c e sc s) >>= (λ v. (settings c ms sc s) >>= (λ rest. go (record { place = root_place l; part = p; value = v } ∷ rest))))
     ∙ (λ i. (reach c l sc s) >>= (λ p. (value_of c e sc s) >>= (λ v.
-    settings_law c ms h.1 sc n s (λ rest. go (setting_at (root_place l) (head_of l) p.path v ∷ rest)) (λ fs. go' (change (head_of l) (changing c (root_place l) p.path v) fs)) (λ all. k (setting_at (root_place l) (head_of l) p.path v ∷ all)) i)))
+    settings_law V c ms h.1 sc n s (λ rest. go (setting_at (root_place l) (head_of l) p.path v ∷ rest)) (λ fs. go' (change (head_of l) (changing c (root_place l) p.path v) fs)) (λ all. k (setting_at (root_place l) (head_of l) p.path v ∷ all)) i)))
     ∙ sym (
     on_twice (part_of c l e sc s) (λ f. (evaluated (parts_of c ms) sc s) >>= (λ fs. Ok (change (head_of l) f fs))) go'
     ∙ (λ i. (part_of c l e sc s) >>= (λ f. on_twice (evaluated (parts_of c ms) sc s) (λ fs. Ok (change (head_of l) f fs)) go' i))
@@ -84,8 +84,8 @@ set_law c (m ∷ ms) s =
     ∙ (λ i. (changed_at m.place m.part.path m.value (s m.part.variable)) >>= (λ w. (c m.place w) >>= (λ u. set_law c ms (put m.part.variable u s) i)))
     ∙ sym (on_valued (changed_at m.place m.part.path m.value (s m.part.variable)) (c m.place) (λ u. applied (to_changes c ms) (put m.part.variable u s)))
 
-pub moved_law : (c : Check) (ms : Assignments) → LeftMoves ms → (sc : Scope) → Named sc → (s : State) → Assign.moved c ms sc s ≡ moved (parts_of c ms) sc s
-moved_law c ms h sc n s = settings_law c ms h sc n s (λ all. set_all c all s) (λ fs. applied fs s) (λ all. set_law c all s)
+pub moved_law : (V : Names) (c : Check) (ms : Assignments) → LeftSides V ms → (sc : Scope) → Named V sc → (s : State) → Assign.moved c ms sc s ≡ moved (parts_of c ms) sc s
+moved_law V c ms h sc n s = settings_law V c ms h sc n s (λ all. set_all c all s) (λ fs. applied fs s) (λ all. set_law c all s)
 
 -- ---- runs
 
@@ -178,50 +178,50 @@ through R L K (Ok u) r h = h u r
 through R L K (Err k) r h = at_stop k K r
 
 -- the body of a `with` in a scope
-abbrev Bodies : (Scope → State → Course) → Effects → (State → Course) → Type 0
-Bodies body es K = (sc : Scope) → Named sc → (s : State) → Parted (Has (body sc s)) (Run es sc s) K
+abbrev Bodies : Names → (Scope → State → Course) → Effects → (State → Course) → Type 0
+Bodies V body es K = (sc : Scope) → Named V sc → (s : State) → Parted (Has (body sc s)) (Run es sc s) K
 
-binds_law : (c : Check) (at : Place) (bs : Binds) (es : Effects) (body : Scope → State → Course) (K : State → Course) → Bodies body es K → (sc : Scope) → Named sc → (s : State) → Parted (Has (run_binds c at bs body sc s)) (Run (nested c bs es) sc s) K
-binds_law c at no_binds es body K h sc n s = h sc n s
-binds_law c at (one_of x e bs) es body K h sc n s =
-    parted_alone _ _ K (parted_picks (members c e sc s) at (λ v. run_binds c at bs body (bound x.word v sc) s) (λ v. Run (nested c bs es) (bound x.word v sc) s) K (λ v. binds_law c at bs es body K h (bound x.word v sc) n s))
-binds_law c at (is x e bs) es body K h sc n s =
-    parted_alone _ _ K (parted_is (value_of c e sc s) (λ v. run_binds c at bs body (bound x.word v sc) s) (λ v. Run (nested c bs es) (bound x.word v sc) s) K (λ v. binds_law c at bs es body K h (bound x.word v sc) n s))
+binds_law : (V : Names) (c : Check) (at : Place) (bs : Binds) (es : Effects) (body : Scope → State → Course) (K : State → Course) → Bodies V body es K → (sc : Scope) → Named V sc → (s : State) → Parted (Has (run_binds c at bs body sc s)) (Run (nested c bs es) sc s) K
+binds_law V c at no_binds es body K h sc n s = h sc n s
+binds_law V c at (one_of x e bs) es body K h sc n s =
+    parted_alone _ _ K (parted_picks (members c e sc s) at (λ v. run_binds c at bs body (bound x.word v sc) s) (λ v. Run (nested c bs es) (bound x.word v sc) s) K (λ v. binds_law V c at bs es body K h (bound x.word v sc) n s))
+binds_law V c at (is x e bs) es body K h sc n s =
+    parted_alone _ _ K (parted_is (value_of c e sc s) (λ v. run_binds c at bs body (bound x.word v sc) s) (λ v. Run (nested c bs es) (bound x.word v sc) s) K (λ v. binds_law V c at bs es body K h (bound x.word v sc) n s))
 
 one_way : (T P : Outcome State → Type 0) (K : State → Course) → Parted T P K → Parted T (λ q. P q ⊎ ⊥) K
 one_way T P K h r = (λ x. let y = (h r).0 x in (y.0, inl y.1, y.2), λ y. (h r).1 (y.0, ⊎_elim (λ a. a) (λ b. absurd b) y.1, y.2))
 
 mutual
-  run_one : (M : Rules) (here : Word) (at : Place) (st : Statement) → SettledOne st → (sc : Scope) → Named sc → (K : Follow) (s : State) → Parted (Has (Courses.run_one M here at st sc K s)) (RunOne (effect_of M.check at st) sc s) K.goes
-  run_one M here at (Source.assign ms) h sc n K s r =
-      subst (λ o. Has (after o K.goes) r ↔ Halves (λ q. q ≡ moved (parts_of M.check ms) sc s) K.goes r) (sym (moved_law M.check ms h sc n s)) (at_result (moved (parts_of M.check ms) sc s) K.goes r)
-  run_one M here at (Source.await e) h sc n K s r = parted_await (test M.check e sc s) at s K.goes r
-  run_one M here at (Source.print e) h sc n K s r = parted_print (value_of M.check e sc s) s K.goes r
-  run_one M here at (Source.assert e) h sc n K s r = parted_assert (test M.check e sc s) at s K.goes r
-  run_one M here at Source.skip h sc n K s r = at_end s K.goes r
-  run_one M here at (Source.branch e a b) h sc n K s r =
-      parted_chosen (test M.check e sc s) (Courses.run M unlabelled a sc K) (Courses.run M unlabelled b sc K) s _ _ K.goes (run M unlabelled a h.0 sc n K s) (run M unlabelled b h.1 sc n K s) r
-  run_one M here at (Source.either bs) h sc n K s r = run_some M bs h sc n K s r
-  run_one M here at (Source.with no_binds b) h sc n K s r = one_way _ _ K.goes (run M unlabelled b h sc n K s) r
-  run_one M here at (Source.with (one_of x e bs) b) h sc n K s r =
+  run_one : (V : Names) (M : Rules) (here : Word) (at : Place) (st : Statement) → SettledOne V st → (sc : Scope) → Named V sc → (K : Follow) (s : State) → Parted (Has (Courses.run_one M here at st sc K s)) (RunOne (effect_of M.check at st) sc s) K.goes
+  run_one V M here at (Source.assign ms) h sc n K s r =
+      subst (λ o. Has (after o K.goes) r ↔ Halves (λ q. q ≡ moved (parts_of M.check ms) sc s) K.goes r) (sym (moved_law V M.check ms h sc n s)) (at_result (moved (parts_of M.check ms) sc s) K.goes r)
+  run_one V M here at (Source.await e) h sc n K s r = parted_await (test M.check e sc s) at s K.goes r
+  run_one V M here at (Source.print e) h sc n K s r = parted_print (value_of M.check e sc s) s K.goes r
+  run_one V M here at (Source.assert e) h sc n K s r = parted_assert (test M.check e sc s) at s K.goes r
+  run_one V M here at Source.skip h sc n K s r = at_end s K.goes r
+  run_one V M here at (Source.branch e a b) h sc n K s r =
+      parted_chosen (test M.check e sc s) (Courses.run M unlabelled a sc K) (Courses.run M unlabelled b sc K) s _ _ K.goes (run V M unlabelled a h.0 sc n K s) (run V M unlabelled b h.1 sc n K s) r
+  run_one V M here at (Source.either bs) h sc n K s r = run_some V M bs h sc n K s r
+  run_one V M here at (Source.with no_binds b) h sc n K s r = one_way _ _ K.goes (run V M unlabelled b h sc n K s) r
+  run_one V M here at (Source.with (one_of x e bs) b) h sc n K s r =
       parted_picks (members M.check e sc s) at (λ v. run_binds M.check at bs (λ inner. Courses.run M unlabelled b inner K) (bound x.word v sc) s) (λ v. Run (nested M.check bs (effects_of M.check b)) (bound x.word v sc) s) K.goes
-      (λ v. binds_law M.check at bs (effects_of M.check b) (λ inner. Courses.run M unlabelled b inner K) K.goes (λ inner k u. run M unlabelled b h inner k K u) (bound x.word v sc) n s) r
-  run_one M here at (Source.with (is x e bs) b) h sc n K s r =
+      (λ v. binds_law V M.check at bs (effects_of M.check b) (λ inner. Courses.run M unlabelled b inner K) K.goes (λ inner k u. run V M unlabelled b h inner k K u) (bound x.word v sc) n s) r
+  run_one V M here at (Source.with (is x e bs) b) h sc n K s r =
       parted_is (value_of M.check e sc s) (λ v. run_binds M.check at bs (λ inner. Courses.run M unlabelled b inner K) (bound x.word v sc) s) (λ v. Run (nested M.check bs (effects_of M.check b)) (bound x.word v sc) s) K.goes
-      (λ v. binds_law M.check at bs (effects_of M.check b) (λ inner. Courses.run M unlabelled b inner K) K.goes (λ inner k u. run M unlabelled b h inner k K u) (bound x.word v sc) n s) r
-  run_one M here at _ h sc n K s r = absurd h
+      (λ v. binds_law V M.check at bs (effects_of M.check b) (λ inner. Courses.run M unlabelled b inner K) K.goes (λ inner k u. run V M unlabelled b h inner k K u) (bound x.word v sc) n s) r
+  run_one V M here at _ h sc n K s r = absurd h
 
-  pub run : (M : Rules) (here : Word) (ss : Statements) → Settled ss → (sc : Scope) → Named sc → (K : Follow) (s : State) → Parted (Has (Courses.run M here ss sc K s)) (Run (effects_of M.check ss) sc s) K.goes
-  run M here Source.done h sc n K s r = at_end s K.goes r
-  run M here (Source.then at st rest) h sc n K s r = (
-    λ x. let y = (run_one M here at.first st h.0 sc n (following M rest sc K) s r).0 x in
-        let z = (through (Run (effects_of M.check rest) sc) (Courses.run M unlabelled rest sc K) K.goes y.0 r (λ u. run M unlabelled rest h.1 sc n K u)).0 y.2 in
+  pub run : (V : Names) (M : Rules) (here : Word) (ss : Statements) → Settled V ss → (sc : Scope) → Named V sc → (K : Follow) (s : State) → Parted (Has (Courses.run M here ss sc K s)) (Run (effects_of M.check ss) sc s) K.goes
+  run V M here Source.done h sc n K s r = at_end s K.goes r
+  run V M here (Source.then at st rest) h sc n K s r = (
+    λ x. let y = (run_one V M here at.first st h.0 sc n (following M rest sc K) s r).0 x in
+        let z = (through (Run (effects_of M.check rest) sc) (Courses.run M unlabelled rest sc K) K.goes y.0 r (λ u. run V M unlabelled rest h.1 sc n K u)).0 y.2 in
         (z.0, (y.0, y.1, z.1), z.2),
-    λ x. (run_one M here at.first st h.0 sc n (following M rest sc K) s r).1 (x.1.0, x.1.1, (through (Run (effects_of M.check rest) sc) (Courses.run M unlabelled rest sc K) K.goes x.1.0 r (λ u. run M unlabelled rest h.1 sc n K u)).1 (x.0, x.1.2, x.2)),
+    λ x. (run_one V M here at.first st h.0 sc n (following M rest sc K) s r).1 (x.1.0, x.1.1, (through (Run (effects_of M.check rest) sc) (Courses.run M unlabelled rest sc K) K.goes x.1.0 r (λ u. run V M unlabelled rest h.1 sc n K u)).1 (x.0, x.1.2, x.2)),
   )
-  run M here (Source.mark l k rest) h sc n K s r = absurd h
+  run V M here (Source.mark l k rest) h sc n K s r = absurd h
 
-  run_some : (M : Rules) (bs : Branches) → SettledSome bs → (sc : Scope) → Named sc → (K : Follow) (s : State) → Parted (HasSome (Courses.run_branches M bs sc K s)) (RunSome (ways_of M.check bs) sc s) K.goes
-  run_some M no_branches h sc n K s r = parted_none K.goes r
-  run_some M (or b bs) h sc n K s r =
-      parted_or (Has (Courses.run M unlabelled b sc K s)) _ (Run (effects_of M.check b) sc s) _ K.goes (run M unlabelled b h.0 sc n K s) (run_some M bs h.1 sc n K s) r
+  run_some : (V : Names) (M : Rules) (bs : Branches) → SettledSome V bs → (sc : Scope) → Named V sc → (K : Follow) (s : State) → Parted (HasSome (Courses.run_branches M bs sc K s)) (RunSome (ways_of M.check bs) sc s) K.goes
+  run_some V M no_branches h sc n K s r = parted_none K.goes r
+  run_some V M (or b bs) h sc n K s r =
+      parted_or (Has (Courses.run M unlabelled b sc K s)) _ (Run (effects_of M.check b) sc s) _ K.goes (run V M unlabelled b h.0 sc n K s) (run_some V M bs h.1 sc n K s) r

@@ -8,8 +8,8 @@ use Rattle.tla_value.specs.Strict.{changed_at, next_slot, updated}
 use Rattle.tla_value.specs.Meaning.{Env, just, on_all, eval, evals}
 use Rattle.pcal_tree.specs.Algorithm.{nowhere, Assignments, no_assignments, assignment}
 use Rattle.pcal_tree.specs.Scope.{State, all_valued, Part, deeper, Scope, reach, reach_path, root_place, value_of}
-use Rattle.action_builder.specs.Action.{all_changes, Change, Parts, no_parts, part, changes_for, folded, value_for}
-use Rattle.action_builder.specs.Effects.{head_of, head_first, changing, part_of, parts_of, part_at, IsPlain as Plain, IsLeft, LeftFirst, LeftMoves}
+use Rattle.action_builder.specs.Action.{Names, all_changes, Change, Parts, no_parts, part, changes_for, folded, value_for}
+use Rattle.action_builder.specs.Effects.{head_of, head_first, changing, part_of, parts_of, part_at, IsPlain as Plain, IsLeft, LeftFirst, LeftSides}
 use Rattle.action_builder.specs.Written.{Key, sub, fixed, subs, keys_of, keys_first, steps_of, subscripts, own, slots_of, slot_trees, except_of, is_whole, side_of}
 use Rattle.tla_value.proofs.Outcomes.{then_ok}
 use Rattle.action_builder.proofs.Denotations.{on_twice, on_both}
@@ -34,20 +34,20 @@ subs_law c (tree t ts) env go =
     ∙ (λ i. (eval c t env).value >>= (λ v. subs_law c ts env (λ vs. go (v ∷ vs)) i))
 
 mutual
-  pub plain_reach : {X : Type 0} (c : Check) (l : Tree) → IsLeft l → (sc : Scope) → Plain sc → (s : State) (go : Part → Outcome X) → (reach c l sc s) >>= go ≡ on_keys c (keys_of l) (sc.env s) (λ ks. go (part_at (head_of l) ks))
-  plain_reach c (node (name x) at ts) h sc n s go = ap (λ o. o >>= go) (n x at s)
-  plain_reach c (node (strict apply) at ts) h sc n s go = plain_path c at ts h sc n s go
-  plain_reach c (node (strict (select a)) at ts) h sc n s go =
+  pub plain_reach : {X : Type 0} (V : Names) (c : Check) (l : Tree) → IsLeft V l → (sc : Scope) → Plain V sc → (s : State) (go : Part → Outcome X) → (reach c l sc s) >>= go ≡ on_keys c (keys_of l) (sc.env s) (λ ks. go (part_at (head_of l) ks))
+  plain_reach V c (node (name x) at ts) h sc n s go = ap (λ o. o >>= go) (n x h at s)
+  plain_reach V c (node (strict apply) at ts) h sc n s go = plain_path V c at ts h sc n s go
+  plain_reach V c (node (strict (select a)) at ts) h sc n s go =
       on_twice (reach_path c at ts sc s) (λ p. Ok (deeper (text a ∷ []) p)) go
-      ∙ plain_path c at ts h sc n s (λ p. go (deeper (text a ∷ []) p))
+      ∙ plain_path V c at ts h sc n s (λ p. go (deeper (text a ∷ []) p))
       ∙ sym (keys_append c (keys_first ts) (fixed a ∷ []) (sc.env s) (λ ks. go (part_at (head_first ts) ks)))
-  plain_reach c (node _ at ts) h sc n s go = absurd h
+  plain_reach V c (node _ at ts) h sc n s go = absurd h
 
-  plain_path : {X : Type 0} (c : Check) (at : Place) (ts : Trees) → LeftFirst ts → (sc : Scope) → Plain sc → (s : State) (go : Part → Outcome X) → (reach_path c at ts sc s) >>= go ≡ on_keys c (keys_first ts) (sc.env s) (λ ks. go (part_at (head_first ts) ks))
-  plain_path c at no_trees h sc n s go = absurd h
-  plain_path c at (tree f us) h sc n s go =
+  plain_path : {X : Type 0} (V : Names) (c : Check) (at : Place) (ts : Trees) → LeftFirst V ts → (sc : Scope) → Plain V sc → (s : State) (go : Part → Outcome X) → (reach_path c at ts sc s) >>= go ≡ on_keys c (keys_first ts) (sc.env s) (λ ks. go (part_at (head_first ts) ks))
+  plain_path V c at no_trees h sc n s go = absurd h
+  plain_path V c at (tree f us) h sc n s go =
       on_twice (reach c f sc s) (λ p. (all_valued (evals c us) (sc.env s)) >>= (λ ks. Ok (deeper ks p))) go
-      ∙ plain_reach c f h sc n s (λ p. ((all_valued (evals c us) (sc.env s)) >>= (λ ks. Ok (deeper ks p))) >>= go)
+      ∙ plain_reach V c f h sc n s (λ p. ((all_valued (evals c us) (sc.env s)) >>= (λ ks. Ok (deeper ks p))) >>= go)
       ∙ (λ i. on_keys c (keys_of f) (sc.env s) (λ js. on_twice (all_valued (evals c us) (sc.env s)) (λ ks. Ok (part_at (head_of f) (js ++ ks))) go i))
       ∙ (λ i. on_keys c (keys_of f) (sc.env s) (λ js. subs_law c us (sc.env s) (λ ks. go (part_at (head_of f) (js ++ ks))) i))
       ∙ sym (keys_append c (keys_of f) (subs us) (sc.env s) (λ ks. go (part_at (head_of f) ks)))
@@ -77,38 +77,38 @@ slot_then c at path v o g =
     ∙ value_twice o (λ old. (changed_at at path v old) >>= (c at)) g
 
 -- the first part, and then the others
-first_change : (c : Check) (l e : Tree) → IsLeft l → (ps : Parts) (sc : Scope) → Plain sc → (s : State) (G : List Change → Outcome Value) →
+first_change : (V : Names) (c : Check) (l e : Tree) → IsLeft V l → (ps : Parts) (sc : Scope) → Plain V sc → (s : State) (G : List Change → Outcome Value) →
     (all_changes (part (head_of l) (part_of c l e) ps) sc s) >>= G ≡ on_keys c (keys_of l) (sc.env s) (λ path. (value_of c e sc s) >>= (λ v. (all_changes ps sc s) >>= (λ fs. G (changing c (root_place l) path v ∷ fs))))
-first_change c l e h ps sc n s G =
+first_change V c l e h ps sc n s G =
     on_twice (part_of c l e sc s) (λ f. (all_changes ps sc s) >>= (λ fs. Ok (f ∷ fs))) G
     ∙ (λ i. (part_of c l e sc s) >>= (λ f. on_twice (all_changes ps sc s) (λ fs. Ok (f ∷ fs)) G i))
     ∙ on_twice (reach c l sc s) (λ p. (value_of c e sc s) >>= (λ v. Ok (changing c (root_place l) p.path v))) (λ f. (all_changes ps sc s) >>= (λ fs. G (f ∷ fs)))
     ∙ (λ i. (reach c l sc s) >>= (λ p. on_twice (value_of c e sc s) (λ v. Ok (changing c (root_place l) p.path v)) (λ f. (all_changes ps sc s) >>= (λ fs. G (f ∷ fs))) i))
-    ∙ plain_reach c l h sc n s (λ p. (value_of c e sc s) >>= (λ v. (all_changes ps sc s) >>= (λ fs. G (changing c (root_place l) p.path v ∷ fs))))
+    ∙ plain_reach V c l h sc n s (λ p. (value_of c e sc s) >>= (λ v. (all_changes ps sc s) >>= (λ fs. G (changing c (root_place l) p.path v ∷ fs))))
 
-slots_law : (c : Check) (ms : Assignments) → LeftMoves ms → (sc : Scope) → Plain sc → (s : State) (o : Outcome Value) →
+slots_law : (V : Names) (c : Check) (ms : Assignments) → LeftSides V ms → (sc : Scope) → Plain V sc → (s : State) (o : Outcome Value) →
     on_all (evals c (slot_trees ms)) (sc.env s) (λ vs. o >>= (updated c (slots_of ms) vs)) ≡ (all_changes (parts_of c ms) sc s) >>= (λ fs. o >>= (folded fs))
-slots_law c no_assignments h sc n s o = refl
-slots_law c (assignment l e ms) h sc n s o =
+slots_law V c no_assignments h sc n s o = refl
+slots_law V c (assignment l e ms) h sc n s o =
     slot_law c (root_place l) (keys_of l) e (slot_trees ms) (sc.env s) o (λ old path v rest. (changed_at (root_place l) path v old) >>= (λ new. (c (root_place l) new) >>= (updated c (slots_of ms) rest)))
     ∙ (λ i. on_keys c (keys_of l) (sc.env s) (λ path. (eval c e (sc.env s)).value >>= (λ v. on_all (evals c (slot_trees ms)) (sc.env s) (λ ws. slot_then c (root_place l) path v o (updated c (slots_of ms) ws) i))))
-    ∙ (λ i. on_keys c (keys_of l) (sc.env s) (λ path. (eval c e (sc.env s)).value >>= (λ v. slots_law c ms h.1 sc n s (after_slot c (root_place l) path v o) i)))
+    ∙ (λ i. on_keys c (keys_of l) (sc.env s) (λ path. (eval c e (sc.env s)).value >>= (λ v. slots_law V c ms h.1 sc n s (after_slot c (root_place l) path v o) i)))
     ∙ (λ i. on_keys c (keys_of l) (sc.env s) (λ path. (eval c e (sc.env s)).value >>= (λ v. (all_changes (parts_of c ms) sc s) >>= (λ fs. on_twice o (changing c (root_place l) path v) (folded fs) i))))
-    ∙ sym (first_change c l e h.0 (parts_of c ms) sc n s (λ fs. o >>= (folded fs)))
+    ∙ sym (first_change V c l e h.0 (parts_of c ms) sc n s (λ fs. o >>= (folded fs)))
 
 -- the law of EXCEPT, within any limits
-pub except_law : (c : Check) (at : Place) (y : Word) (ms : Assignments) → LeftMoves ms → (sc : Scope) → Plain sc → (s : State) → (sc.env s).now y at ≡ just (s y) → (eval c (except_of at y ms) (sc.env s)).value ≡ (all_changes (parts_of c ms) sc s) >>= (λ fs. folded fs (s y))
-except_law c at y ms h sc n s here =
+pub except_law : (V : Names) (c : Check) (at : Place) (y : Word) (ms : Assignments) → LeftSides V ms → (sc : Scope) → Plain V sc → (s : State) → (sc.env s).now y at ≡ just (s y) → (eval c (except_of at y ms) (sc.env s)).value ≡ (all_changes (parts_of c ms) sc s) >>= (λ fs. folded fs (s y))
+except_law V c at y ms h sc n s here =
     (λ i. (here i).value >>= (λ old. on_all (evals c (slot_trees ms)) (sc.env s) (λ vs. updated c (slots_of ms) vs old)))
-    ∙ slots_law c ms h sc n s (Ok (s y))
+    ∙ slots_law V c ms h sc n s (Ok (s y))
 
 -- ---- the right side of a variable
 
-own_left : (y : Word) (ms : Assignments) → LeftMoves ms → LeftMoves (own y ms)
-own_left y no_assignments h = tt
-own_left y (assignment l e ms) h = by (own_left y ms h.1) (bytes_eq (head_of l) y)
+own_left : (V : Names) (y : Word) (ms : Assignments) → LeftSides V ms → LeftSides V (own y ms)
+own_left V y no_assignments h = tt
+own_left V y (assignment l e ms) h = by (own_left V y ms h.1) (bytes_eq (head_of l) y)
   where
-    by : LeftMoves (own y ms) → (b : Bool) → LeftMoves (cond b (assignment l e (own y ms)) (own y ms))
+    by : LeftSides V (own y ms) → (b : Bool) → LeftSides V (cond b (assignment l e (own y ms)) (own y ms))
     by ih true = (h.0, ih)
     by ih false = ih
 
@@ -120,23 +120,23 @@ own_law c y (assignment l e ms) sc s = by (own_law c y ms sc s) (bytes_eq (head_
     by ih true = λ i. (part_of c l e sc s) >>= (λ f. (ih i) >>= (λ fs. Ok (f ∷ fs)))
     by ih false = ih
 
-whole_law : (l e : Tree) → IsLeft l → (sc : Scope) → Plain sc → (s : State) (y : Word) → keys_of l ≡ [] → value_of plain e sc s ≡ (all_changes (part (head_of l) (part_of plain l e) no_parts) sc s) >>= (λ fs. folded fs (s y))
-whole_law l e h sc n s y q =
+whole_law : (V : Names) (l e : Tree) → IsLeft V l → (sc : Scope) → Plain V sc → (s : State) (y : Word) → keys_of l ≡ [] → value_of plain e sc s ≡ (all_changes (part (head_of l) (part_of plain l e) no_parts) sc s) >>= (λ fs. folded fs (s y))
+whole_law V l e h sc n s y q =
     sym (then_ok (value_of plain e sc s))
-    ∙ sym (first_change plain l e h no_parts sc n s (λ fs. folded fs (s y))
+    ∙ sym (first_change V plain l e h no_parts sc n s (λ fs. folded fs (s y))
     ∙ (λ i. on_keys plain (q i) (sc.env s) (λ path. (value_of plain e sc s) >>= (λ v. (changing plain (root_place l) path v (s y)) >>= Ok))))
 
-side_law : (y : Word) (ms : Assignments) → LeftMoves ms → (sc : Scope) → Plain sc → (s : State) → ((at : Place) → (sc.env s).now y at ≡ just (s y)) → (eval plain (side_of y ms) (sc.env s)).value ≡ (all_changes (parts_of plain ms) sc s) >>= (λ fs. folded fs (s y))
-side_law y no_assignments h sc n s here = λ i. (here nowhere i).value
-side_law y (assignment l e ms) h sc n s here = by (keys_of l) refl ms h
+side_law : (V : Names) (y : Word) (ms : Assignments) → LeftSides V ms → (sc : Scope) → Plain V sc → (s : State) → ((at : Place) → (sc.env s).now y at ≡ just (s y)) → (eval plain (side_of y ms) (sc.env s)).value ≡ (all_changes (parts_of plain ms) sc s) >>= (λ fs. folded fs (s y))
+side_law V y no_assignments h sc n s here = λ i. (here nowhere i).value
+side_law V y (assignment l e ms) h sc n s here = by (keys_of l) refl ms h
   where
-    by : (ks : List Key) → keys_of l ≡ ks → (us : Assignments) → LeftMoves (assignment l e us) → (eval plain (cond (is_whole (keys_of l) us) e (except_of (root_place l) y (assignment l e us))) (sc.env s)).value ≡ (all_changes (parts_of plain (assignment l e us)) sc s) >>= (λ fs. folded fs (s y))
-    by [] q no_assignments k = (λ i. (eval plain (cond (is_whole (q i) no_assignments) e (except_of (root_place l) y (assignment l e no_assignments))) (sc.env s)).value) ∙ whole_law l e k.0 sc n s y q
-    by [] q (assignment m f us) k = (λ i. (eval plain (cond (is_whole (q i) (assignment m f us)) e (except_of (root_place l) y (assignment l e (assignment m f us)))) (sc.env s)).value) ∙ except_law plain (root_place l) y (assignment l e (assignment m f us)) k sc n s (here (root_place l))
-    by (x ∷ ks) q us k = (λ i. (eval plain (cond (is_whole (q i) us) e (except_of (root_place l) y (assignment l e us))) (sc.env s)).value) ∙ except_law plain (root_place l) y (assignment l e us) k sc n s (here (root_place l))
+    by : (ks : List Key) → keys_of l ≡ ks → (us : Assignments) → LeftSides V (assignment l e us) → (eval plain (cond (is_whole (keys_of l) us) e (except_of (root_place l) y (assignment l e us))) (sc.env s)).value ≡ (all_changes (parts_of plain (assignment l e us)) sc s) >>= (λ fs. folded fs (s y))
+    by [] q no_assignments k = (λ i. (eval plain (cond (is_whole (q i) no_assignments) e (except_of (root_place l) y (assignment l e no_assignments))) (sc.env s)).value) ∙ whole_law V l e k.0 sc n s y q
+    by [] q (assignment m f us) k = (λ i. (eval plain (cond (is_whole (q i) (assignment m f us)) e (except_of (root_place l) y (assignment l e (assignment m f us)))) (sc.env s)).value) ∙ except_law V plain (root_place l) y (assignment l e (assignment m f us)) k sc n s (here (root_place l))
+    by (x ∷ ks) q us k = (λ i. (eval plain (cond (is_whole (q i) us) e (except_of (root_place l) y (assignment l e us))) (sc.env s)).value) ∙ except_law V plain (root_place l) y (assignment l e us) k sc n s (here (root_place l))
 
 -- the written right side has the value of the variable's assignments
-pub value_law : (y : Word) (ms : Assignments) → LeftMoves ms → (sc : Scope) → Plain sc → (s : State) → ((at : Place) → (sc.env s).now y at ≡ just (s y)) → (eval plain (side_of y (own y ms)) (sc.env s)).value ≡ value_for y (parts_of plain ms) sc s
-value_law y ms h sc n s here =
-    side_law y (own y ms) (own_left y ms h) sc n s here
+pub value_law : (V : Names) (y : Word) (ms : Assignments) → LeftSides V ms → (sc : Scope) → Plain V sc → (s : State) → ((at : Place) → (sc.env s).now y at ≡ just (s y)) → (eval plain (side_of y (own y ms)) (sc.env s)).value ≡ value_for y (parts_of plain ms) sc s
+value_law V y ms h sc n s here =
+    side_law V y (own y ms) (own_left V y ms h) sc n s here
     ∙ (λ i. (sym (own_law plain y ms sc s) i) >>= (λ fs. folded fs (s y)))

@@ -7,7 +7,7 @@ use Rattle.module_text.specs.Truth.{Verdict, TrueExactly}
 use Rattle.pcal_tree.specs.Algorithm.{Statements}
 use Rattle.pcal_tree.specs.Scope.{State, Scope}
 use Rattle.pcal_tree.specs.Run.{Rules}
-use Rattle.action_builder.specs.Action.{Names, more, assigned_in, IsBad, NotFalse, Agree}
+use Rattle.action_builder.specs.Action.{Names, member, more, assigned_in, IsBad, NotFalse, Agree}
 use Rattle.action_builder.specs.Effects.{effects_of}
 use Rattle.action_builder.specs.Contract.{Fits, NoTrouble, verdict, SomeTrouble, Built, BadSomewhere}
 use Rattle.action_builder.specs.Contract as Contract
@@ -44,12 +44,12 @@ match_bad (Err k) v h i = tt
 matched : (M : Rules) (U : Readable) (vs : List Word) (A : Names) (ss : Statements) (sc : Scope) (env : State → State → Env) → Ready U vs A ss sc env → (s t : State) → Matches (holds_on vs env (write vs A ss) s t) (verdict (unlimited M) A ss sc s t)
 matched M U vs A ss sc env r s t = match_all U vs A ss r.fine r.within sc env r.stands s t
 
-built : (M : Rules) (U : Readable) (vs : List Word) (A : Names) (ss : Statements) (sc : Scope) (env : State → State → Env) → Ready U vs A ss sc env → Built (unlimited M) A ss sc
-built M U vs A ss sc env r = (r.settled, λ x at s. ([], r.stands.scoped.part x at s), r.once)
+built : (M : Rules) (U : Readable) (vs : List Word) (A : Names) (ss : Statements) (sc : Scope) (env : State → State → Env) → Ready U vs A ss sc env → Built (unlimited M) (member vs) A ss sc
+built M U vs A ss sc env r = (r.settled, λ x m at s. ([], r.stands.scoped.part x m at s), r.once)
 
 -- where no run faults, the items are true exactly if some run has a fitting end, else false
 pub items_exactly : (M : Rules) (U : Readable) (vs : List Word) (A : Names) (ss : Statements) (sc : Scope) (env : State → State → Env) → Ready U vs A ss sc env → (s t : State) → NoTrouble (unlimited M) A ss sc s t → TrueExactly (holds_on vs env (write vs A ss) s t) (Fits (unlimited M) A ss sc s t)
-items_exactly M U vs A ss sc env r s t fine = by (true_exactly (unlimited M) A ss sc s t (built M U vs A ss sc env r) fine)
+items_exactly M U vs A ss sc env r s t fine = by (true_exactly (unlimited M) (member vs) A ss sc s t (built M U vs A ss sc env r) fine)
   where
     by : Contract.TrueExactly (verdict (unlimited M) A ss sc s t) (Fits (unlimited M) A ss sc s t) → TrueExactly (holds_on vs env (write vs A ss) s t) (Fits (unlimited M) A ss sc s t)
     by x = (x.0, match_is (holds_on vs env (write vs A ss) s t) x.0 (subst (Matches (holds_on vs env (write vs A ss) s t)) x.1 (matched M U vs A ss sc env r s t)), x.2)
@@ -57,17 +57,17 @@ items_exactly M U vs A ss sc env r s t fine = by (true_exactly (unlimited M) A s
 -- where the items are true, some run has a fitting end
 pub items_fit : (M : Rules) (U : Readable) (vs : List Word) (A : Names) (ss : Statements) (sc : Scope) (env : State → State → Env) → Ready U vs A ss sc env → (s t : State) → holds_on vs env (write vs A ss) s t ≡ Ok true → Fits (unlimited M) A ss sc s t
 items_fit M U vs A ss sc env r s t e =
-    true_fits (unlimited M) A ss sc s t (built M U vs A ss sc env r) (match_back true _ (subst (λ p. Matches p (verdict (unlimited M) A ss sc s t)) e (matched M U vs A ss sc env r s t)))
+    true_fits (unlimited M) (member vs) A ss sc s t (built M U vs A ss sc env r) (match_back true _ (subst (λ p. Matches p (verdict (unlimited M) A ss sc s t)) e (matched M U vs A ss sc env r s t)))
 
 -- where some run has a fitting end, the items are true or fault
 pub fit_items : (M : Rules) (U : Readable) (vs : List Word) (A : Names) (ss : Statements) (sc : Scope) (env : State → State → Env) → Ready U vs A ss sc env → (s t : State) → Fits (unlimited M) A ss sc s t → NotFalse (holds_on vs env (write vs A ss) s t)
 fit_items M U vs A ss sc env r s t f =
-    match_not_false (holds_on vs env (write vs A ss) s t) (verdict (unlimited M) A ss sc s t) (matched M U vs A ss sc env r s t) (fits_true (unlimited M) A ss sc s t (built M U vs A ss sc env r) f)
+    match_not_false (holds_on vs env (write vs A ss) s t) (verdict (unlimited M) A ss sc s t) (matched M U vs A ss sc env r s t) (fits_true (unlimited M) (member vs) A ss sc s t (built M U vs A ss sc env r) f)
 
 -- the items fault for some later state that agrees on A exactly if some run faults
 pub items_stop : (M : Rules) (U : Readable) (vs : List Word) (A : Names) (ss : Statements) (sc : Scope) (env : State → State → Env) → Ready U vs A ss sc env → (s t : State) → BadSomewhere A t (holds_on vs env (write vs A ss) s) ↔ SomeTrouble (unlimited M) A ss sc s t
 items_stop M U vs A ss sc env r s t =
-    let q = bad_exactly (unlimited M) A ss sc s t (built M U vs A ss sc env r) in (
+    let q = bad_exactly (unlimited M) (member vs) A ss sc s t (built M U vs A ss sc env r) in (
       λ x. q.0 (x.0, x.1, match_stopped (holds_on vs env (write vs A ss) s x.0) (verdict (unlimited M) A ss sc s x.0) (matched M U vs A ss sc env r s x.0) x.2),
       λ y. let z = q.1 y in (z.0, z.1, match_bad (holds_on vs env (write vs A ss) s z.0) (verdict (unlimited M) A ss sc s z.0) (matched M U vs A ss sc env r s z.0) z.2),
     )

@@ -19,5 +19,9 @@ pub mod Prepared
 pub mod Rules
 pub mod Steps
 pub mod Label
+pub mod Alike
+pub mod SingleProcess
 mod Rows
+mod RowsSample
+pub mod Decided
 pub mod Witness

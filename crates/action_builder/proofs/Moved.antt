@@ -12,12 +12,13 @@ use Rattle.pcal_tree.specs.Algorithm.{Routine, locals}
 use Rattle.pcal_tree.specs.Scope.{State, Scope, value_of}
 use Rattle.pcal_tree.specs.Assign.{Setting, set_one, set_all, settings, moved}
 use Rattle.pcal_tree.specs.Run.{ends, after, Rules, unlabelled, run}
-use Rattle.pcal_tree.specs.Program.{Program, Actor, index, local_index, read_at, written_all, pc, stack}
+use Rattle.pcal_tree.specs.Program.{Program, Actor, index, local_index, read_at}
 use Rattle.pcal_tree.specs.Calls.{label_name, setting, jumped, frames_at, on_stack, fields_read, part_settings, restored, returned, finished}
 use Rattle.action_builder.specs.Contract.{to_end}
 use Rattle.action_builder.specs.Moved.{name_at, text_at, one_move, jump_written, kept_field, stack_rest, fields_moved, return_moves, StandsAtPath, Machine}
 use Rattle.tla_value.proofs.Outcomes.{then_ok, then_then}
 use Rattle.action_builder.proofs.Denotations.{on_both}
+use Rattle.pcal_tree.specs.Variables.{written_all, pc, stack}
 
 pub after_end : (o : Outcome State) → after o (λ u. ends u) ≡ finished o
 after_end (Ok u) = refl

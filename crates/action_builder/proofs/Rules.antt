@@ -8,7 +8,7 @@ use Rattle.pcal_tree.specs.Algorithm.{Name, Span, Routine, procedure_routines}
 use Rattle.pcal_tree.specs.Scope.{State, all_valued, Scope, places_of}
 use Rattle.pcal_tree.specs.Assign.{moved}
 use Rattle.pcal_tree.specs.Run.{Has, after, unlabelled, run}
-use Rattle.pcal_tree.specs.Program.{Program, Actor, written_all}
+use Rattle.pcal_tree.specs.Program.{Program, Actor}
 use Rattle.pcal_tree.specs.Calls.{label_value, label_name, jumped, returned, entered_at, finished, named}
 use Rattle.action_builder.specs.Contract.{to_end}
 use Rattle.action_builder.specs.Settled.{Close, Does, Inner}
@@ -17,6 +17,7 @@ use Rattle.action_builder.specs.Rules.{base_rules, Written, call_to, moving, as_
 use Rattle.action_builder.proofs.Settle.{close_refl, inner_bind}
 use Rattle.action_builder.proofs.Moved.{after_end, jump_law, return_law}
 use Rattle.action_builder.proofs.Call.{call_law}
+use Rattle.pcal_tree.specs.Variables.{written_all}
 
 as_many_is : (xs : List Word) (ts : Trees) → as_many xs ts ≡ true → AsMany xs ts
 as_many_is [] no_trees h = tt

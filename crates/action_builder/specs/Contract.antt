@@ -34,6 +34,6 @@ BadSomewhere A t v = (u : State) × Agree A u t × IsBad (v u)
 abbrev pub SomeTrouble : Rules → Names → Statements → Scope → State → State → Type 0
 SomeTrouble M A ss sc s t = (k : Trouble) × Runs M A ss sc s t (Err k)
 
--- statements of one step, in a scope of plain names, that assign nothing twice and nothing of A
-abbrev pub Built : Rules → Names → Statements → Scope → Type 0
-Built M A ss sc = Settled ss × Named sc × Once A (effects_of M.check ss)
+-- statements of one step, in a scope in which the names of V are variables, that assign nothing twice and nothing of A
+abbrev pub Built : Rules → Names → Names → Statements → Scope → Type 0
+Built M V A ss sc = Settled V ss × Named V sc × Once A (effects_of M.check ss)

@@ -9,7 +9,7 @@ use Rattle.tla_value.specs.Strict.{changed_at}
 use Rattle.pcal_tree.specs.Algorithm.{Assignments, no_assignments, assignment, Binds, no_binds, one_of, is, Statement, Statements, Branches, no_branches, or}
 use Rattle.pcal_tree.specs.Algorithm as Source
 use Rattle.pcal_tree.specs.Scope.{State, Part, Scope, reach, root_place, value_of, test, members}
-use Rattle.action_builder.specs.Action.{Exp, Change, Parts, no_parts, part, Effect, assign, await, branch, either, choose, Effects, done, then, Ways, no_ways, way}
+use Rattle.action_builder.specs.Action.{Names, Exp, Change, Parts, no_parts, part, Effect, assign, await, branch, either, choose, Effects, done, then, Ways, no_ways, way}
 
 -- ---- assignments
 
@@ -85,54 +85,54 @@ abbrev mutual
 
 -- ---- statements that have only effects
 
--- a left side is a name, or a subscript or a field behind one
-abbrev pub LeftIn : Form → Type 0 → Type 0
-LeftIn (name x) P = Unit {0}
-LeftIn (strict apply) P = P
-LeftIn (strict (select a)) P = P
-LeftIn _ P = ⊥
+-- a left side is a name of V, or a subscript or a field after one
+abbrev pub LeftIn : Names → Form → Type 0 → Type 0
+LeftIn V (name x) P = V x ≡ true
+LeftIn V (strict apply) P = P
+LeftIn V (strict (select a)) P = P
+LeftIn V _ P = ⊥
 
 abbrev mutual
-  pub IsLeft : Tree → Type 0
-  IsLeft (node m at ts) = LeftIn m (LeftFirst ts)
+  pub IsLeft : Names → Tree → Type 0
+  IsLeft V (node m at ts) = LeftIn V m (LeftFirst V ts)
 
-  pub LeftFirst : Trees → Type 0
-  LeftFirst no_trees = ⊥
-  LeftFirst (tree f us) = IsLeft f
+  pub LeftFirst : Names → Trees → Type 0
+  LeftFirst V no_trees = ⊥
+  LeftFirst V (tree f us) = IsLeft V f
 
-abbrev pub LeftMoves : Assignments → Type 0
-LeftMoves no_assignments = Unit {0}
-LeftMoves (assignment l e ms) = IsLeft l × LeftMoves ms
+abbrev pub LeftSides : Names → Assignments → Type 0
+LeftSides V no_assignments = Unit {0}
+LeftSides V (assignment l e ms) = IsLeft V l × LeftSides V ms
 
 abbrev pub part_at : Word → List Value → Part
 part_at x path = record { variable = x; path = path }
 
--- each name is a variable, or a part of the variable of that name
-abbrev pub Named : Scope → Type 0
-Named sc = (x : Word) (at : Place) (s : State) → (path : List Value) × (sc.part x at s ≡ Ok (part_at x path))
+-- each name of V is a variable, or a part of the variable of that name
+abbrev pub Named : Names → Scope → Type 0
+Named V sc = (x : Word) → V x ≡ true → (at : Place) (s : State) → (path : List Value) × (sc.part x at s ≡ Ok (part_at x path))
 
--- each name is a variable
-abbrev pub IsPlain : Scope → Type 0
-IsPlain sc = (x : Word) (at : Place) (s : State) → sc.part x at s ≡ Ok (part_at x [])
+-- each name of V is a variable
+abbrev pub IsPlain : Names → Scope → Type 0
+IsPlain V sc = (x : Word) → V x ≡ true → (at : Place) (s : State) → sc.part x at s ≡ Ok (part_at x [])
 
 -- no jump, label, loop, macro call, call or return
 abbrev mutual
-  pub SettledOne : Statement → Type 0
-  SettledOne (Source.assign ms) = LeftMoves ms
-  SettledOne (Source.await e) = Unit {0}
-  SettledOne (Source.print e) = Unit {0}
-  SettledOne (Source.assert e) = Unit {0}
-  SettledOne Source.skip = Unit {0}
-  SettledOne (Source.branch e a b) = Settled a × Settled b
-  SettledOne (Source.either bs) = SettledSome bs
-  SettledOne (Source.with bs b) = Settled b
-  SettledOne _ = ⊥
+  pub SettledOne : Names → Statement → Type 0
+  SettledOne V (Source.assign ms) = LeftSides V ms
+  SettledOne V (Source.await e) = Unit {0}
+  SettledOne V (Source.print e) = Unit {0}
+  SettledOne V (Source.assert e) = Unit {0}
+  SettledOne V Source.skip = Unit {0}
+  SettledOne V (Source.branch e a b) = Settled V a × Settled V b
+  SettledOne V (Source.either bs) = SettledSome V bs
+  SettledOne V (Source.with bs b) = Settled V b
+  SettledOne V _ = ⊥
 
-  pub Settled : Statements → Type 0
-  Settled Source.done = Unit {0}
-  Settled (Source.then at st rest) = SettledOne st × Settled rest
-  Settled (Source.mark l k rest) = ⊥
+  pub Settled : Names → Statements → Type 0
+  Settled V Source.done = Unit {0}
+  Settled V (Source.then at st rest) = SettledOne V st × Settled V rest
+  Settled V (Source.mark l k rest) = ⊥
 
-  pub SettledSome : Branches → Type 0
-  SettledSome no_branches = Unit {0}
-  SettledSome (or b bs) = Settled b × SettledSome bs
+  pub SettledSome : Names → Branches → Type 0
+  SettledSome V no_branches = Unit {0}
+  SettledSome V (or b bs) = Settled V b × SettledSome V bs

@@ -7,4 +7,5 @@ pub mod Ready
 pub mod Moved
 pub mod Prepared
 pub mod Rules
-pub mod Step
+pub mod SingleProcess
+pub mod laws

@@ -8,9 +8,10 @@ use Rattle.tla_value.specs.Stops.{sense_of}
 use Rattle.tla_value.specs.Standard.{first_of, rest_of, standard_sense}
 use Rattle.pcal_tree.specs.Algorithm.{Span, Declaration, Routine, locals, Assignments, no_assignments, assignment, Statements, done, then, assign}
 use Rattle.pcal_tree.specs.Scope.{State, Scope, root_place, value_of}
-use Rattle.pcal_tree.specs.Program.{Program, Actor, index, local_index, read_at, written, written_all, pc, stack}
+use Rattle.pcal_tree.specs.Program.{Program, Actor, index, local_index, read_at, written}
 use Rattle.pcal_tree.specs.Calls.{label_name, first_label, initial_place, initial_value, frame_fields}
 use Rattle.action_builder.specs.Effects.{part_at}
+use Rattle.pcal_tree.specs.Variables.{written_all, pc, stack}
 
 abbrev pub name_at : Place → Word → Tree
 name_at at x = node (name x) at no_trees

@@ -13,7 +13,7 @@ use Rattle.pcal_tree.specs.Algorithm.{Assignments, no_assignments, assignment, B
 use Rattle.pcal_tree.specs.Run.{Rules}
 use Rattle.pcal_tree.specs.Scope.{State, Scope}
 use Rattle.action_builder.specs.Action.{Names, member, more, mid, firsts, assigned, Once, Agree}
-use Rattle.action_builder.specs.Effects.{LeftMoves, part_at, parts_of, effect_of, effects_of, Settled}
+use Rattle.action_builder.specs.Effects.{LeftSides, part_at, parts_of, effect_of, effects_of, Settled}
 
 -- ---- names
 
@@ -35,9 +35,9 @@ pub record Paired (U : Readable) (vs : List Word) (sc : Scope) (env : State → 
   pub print : (s t : State) → (env s t).defs (codes "PrintT") ≡ Some (standard_sense plain printed)
   pub assert : (s t : State) → (env s t).defs (codes "Assert") ≡ Some (standard_sense plain asserted)
 
--- the names of vs are variables that are read in the state, and each name is itself as a left side
+-- the names of vs are variables: each is itself as a left side, and is read in the state
 pub record Scoped (vs : List Word) (sc : Scope) : Type 0 where
-  pub part : (x : Word) (at : Place) (s : State) → sc.part x at s ≡ Ok (part_at x [])
+  pub part : (x : Word) → member vs x ≡ true → (at : Place) (s : State) → sc.part x at s ≡ Ok (part_at x [])
   pub reads : (x : Word) → member vs x ≡ true → (at : Place) (s : State) → (sc.env s).now x at ≡ just (s x)
 
 -- all that is asked of a scope, and of the environments of pairs of states
@@ -63,7 +63,7 @@ FineSides U A no_assignments = Unit {0}
 FineSides U A (assignment l e ms) = FineTree U A l × FineTree U A e × FineSides U A ms
 
 pub record FineMoves (U : Readable) (vs : List Word) (A : Names) (ms : Assignments) : Type 0 where
-  pub left : LeftMoves ms
+  pub left : LeftSides (member vs) ms
   pub sides : FineSides U A ms
   pub readable : (y : Word) → member (firsts (parts_of plain ms)) y ≡ true → U A y ≡ true
 
@@ -121,7 +121,7 @@ unlimited M = record { check = plain; goto = M.goto; call = M.call; return = M.r
 
 -- statements that assign nothing twice and nothing of A, in a scope with environments for pairs of states; vs are all variables
 pub record Ready (U : Readable) (vs : List Word) (A : Names) (ss : Statements) (sc : Scope) (env : State → State → Env) : Type 0 where
-  pub settled : Settled ss
+  pub settled : Settled (member vs) ss
   pub fine : Fine U vs A ss
   pub once : Once A (effects_of plain ss)
   pub within : IsWithin A (member vs)

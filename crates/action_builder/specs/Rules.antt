@@ -4,11 +4,12 @@ use Rattle.tla_token.specs.declared.place.Place.{Place}
 use Rattle.tla_expr.specs.Tree.{Word, Tree, Trees, no_trees, tree}
 use Rattle.pcal_tree.specs.Algorithm.{Span, Declaration, Routine, Statements, done, then, either, no_branches, procedure_routines}
 use Rattle.pcal_tree.specs.Scope.{Scope}
-use Rattle.pcal_tree.specs.Program.{Program, Actor, written_all}
+use Rattle.pcal_tree.specs.Program.{Program, Actor}
 use Rattle.pcal_tree.specs.Run.{Rules, with_macros}
 use Rattle.pcal_tree.specs.Calls.{label_name, named, rules_of}
 use Rattle.action_builder.specs.Settled.{Moving, Callable, Inner}
 use Rattle.action_builder.specs.Moved.{jump_written, return_written, call_written, Machine, Initials}
+use Rattle.pcal_tree.specs.Variables.{written_all}
 
 -- the written initial values of a procedure's variables, and their places in a call at a place: what stands for no initial value stands there
 pub record Written : Type 0 where

@@ -9,7 +9,7 @@ use Rattle.pcal_tree.specs.Grammar.{algorithm_of}
 use Rattle.module_text.specs.Around.{Split}
 use Rattle.first_path.specs.Form.{Parts, IsForm}
 use Rattle.first_path.specs.Placed.{Places}
-use Rattle.first_path.specs.Headline.{Stands}
+use Rattle.promise.specs.Headline.{Stands}
 use Rattle.first_path.proofs.StandsTokens.{AllRight, places, right_phrase, behind_right, right_good, form_text}
 use Rattle.first_path.proofs.Stands.{Laid, laid}
 use Rattle.first_path.proofs.OneAlgorithm.{Whole, one_spelled}

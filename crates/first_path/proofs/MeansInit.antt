@@ -11,7 +11,7 @@ use Rattle.tla_value.specs.Definitions.{Valuation, no_state}
 use Rattle.pcal_tree.specs.Algorithm.{Naming}
 use Rattle.pcal_tree.specs.Names.{naming}
 use Rattle.pcal_tree.specs.Scope.{State}
-use Rattle.pcal_tree.specs.Program.{Program, pc}
+use Rattle.pcal_tree.specs.Program.{Program}
 use Rattle.pcal_tree.specs.Calls.{label_value}
 use Rattle.pcal_tree.specs.InitialStates.{allowed, Initial}
 use Rattle.pcal_tree.specs.InitialStates as initial
@@ -19,11 +19,13 @@ use Rattle.module_text.specs.Truth.{on_test, and_then, scope, init_holds, TrueEx
 use Rattle.module_text.proofs.Tells.{tells_and, tells_as}
 use Rattle.first_path.specs.Form.{Parts, is_fit}
 use Rattle.first_path.specs.Placed.{Places, leaf, infix_of, is_at, algorithm_at, module_at, integers_alone}
-use Rattle.first_path.specs.Translates.{on_variables, InitIs}
+use Rattle.promise.specs.ConstantsAndStates.{on_variables}
+use Rattle.promise.specs.NextAndInit.{InitIs}
 use Rattle.first_path.proofs.Fit.{fit_of}
 use Rattle.first_path.proofs.Means.{last_tells, equal_same, number_tells, label_tells}
 use Rattle.first_path.proofs.MeansStep.{program_of, routine, Kept, label_is}
 use Rattle.first_path.proofs.MeansNext.{two_variables, reads_first, label_kept}
+use Rattle.pcal_tree.specs.Variables.{pc}
 
 -- the variable's test, and then that of pc
 both : Bool → Bool → Outcome Bool
@@ -83,5 +85,5 @@ module _ (p : Places) (f : Parts) (names : Naming) (values : Valuation) (k : Kep
       (first_initial s) (initial_first s)
 
 pub init_is : (p q : Places) (f : Parts) → IsTrue (is_fit f) → InitIs (algorithm_at p f) (module_at q f)
-init_is p q f fit values s constants proper fine =
+init_is p q f fit values s constants state proper fine =
     init_of p f (naming (algorithm_at p f) integers_alone) values (label_kept p q f (fit_of f fit)) q s

@@ -19,17 +19,21 @@ use Rattle.pcal_tree.specs.Names.{first_free, kept, taken_outside, naming}
 use Rattle.pcal_tree.specs.Outside.{bound_in}
 use Rattle.pcal_tree.specs.Scope.{State}
 use Rattle.pcal_tree.specs.Run.{Has}
-use Rattle.pcal_tree.specs.Program.{Program, pc, Actor}
-use Rattle.pcal_tree.specs.Step.{vars, Agree, IsActor, StepFrom, course_of, pc_of, Sound, Step, Stutters}
+use Rattle.pcal_tree.specs.Program.{Program, Actor}
+use Rattle.pcal_tree.specs.Step.{StepFrom, course_of, pc_of, Step, Stutters}
 use Rattle.module_text.specs.Truth.{Verdict, on, on_test, and_then, or_all, acted, acts_in, is_value, is_unchanged, are_unchanged, scope, next_holds, TrueExactly}
 use Rattle.module_text.proofs.Tells.{tells_and, tells_or, tells_as, tells_of}
 use Rattle.first_path.specs.Form.{number_operand, variable_operand, Right, single, sum, Parts, is_fit}
 use Rattle.first_path.specs.Placed.{Places, right_tree, is_at, algorithm_at, module_at, integers_alone}
-use Rattle.first_path.specs.Translates.{on_variables, NextIs}
+use Rattle.promise.specs.ConstantsAndStates.{on_variables}
+use Rattle.promise.specs.NextAndInit.{NextIs}
 use Rattle.first_path.proofs.Names.{word_same}
 use Rattle.first_path.proofs.Fit.{Fit, fit_of, not_own}
 use Rattle.first_path.proofs.Means.{true_tells, last_tells, label_free, StandsFor, result, tells_same, label_tells, value_tells, right_tells}
 use Rattle.first_path.proofs.MeansStep.{program_of, got_is, actor, stand, Kept, is_actor, actor_is, stand_is, stands_there, there_stands, course_for, course_is, ended}
+use Rattle.pcal_tree.specs.Variables.{pc, vars, Agree}
+use Rattle.pcal_tree.specs.Processes.{IsActor}
+use Rattle.pcal_tree.specs.Faults.{Sound}
 
 -- ---- the variables in a state
 
@@ -281,6 +285,6 @@ label_kept p q f h =
     ∙ ap (λ ws. first_free (codes "Integers" ∷ []) ws f.label) (taken_are p q f) ∙ label_free f.variable f.label h.label h.not_variable
 
 pub next_is : (p q : Places) (f : Parts) → IsTrue (is_fit f) → NextIs (algorithm_at p f) (module_at q f)
-next_is p q f fit values s t constants sound =
+next_is p q f fit values s t constants from to sound =
     let h = fit_of f fit in
     next_of p f (naming (algorithm_at p f) integers_alone) values h (label_kept p q f h) q s t sound

@@ -14,14 +14,16 @@ use Rattle.pcal_tree.specs.Scope.{State, put, Part}
 use Rattle.pcal_tree.specs.Run.{Course, ends, stops, after}
 use Rattle.pcal_tree.specs.StepStart.{Begin, at_label}
 use Rattle.pcal_tree.specs.Assign.{set_all}
-use Rattle.pcal_tree.specs.Program.{Program, Actor, pc, routine_scope, part_of}
+use Rattle.pcal_tree.specs.Program.{Program, Actor, routine_scope, part_of}
 use Rattle.pcal_tree.specs.Calls.{label_value, jumped, finished}
-use Rattle.pcal_tree.specs.Step.{OneOf, IsActor, Stand, StandsAt, course_of}
+use Rattle.pcal_tree.specs.Step.{Stand, StandsAt, course_of}
 use Rattle.first_path.specs.Form.{Parts}
 use Rattle.first_path.specs.Placed.{Places, word_at, leaf, right_tree, statement_span, algorithm_at}
 use Rattle.first_path.proofs.Names.{word_same}
 use Rattle.first_path.proofs.Fit.{Fit, not_own}
 use Rattle.first_path.proofs.Means.{StandsFor, result, outcome, right_evaluates}
+use Rattle.pcal_tree.specs.Variables.{pc}
+use Rattle.pcal_tree.specs.Processes.{OneOf, IsActor}
 
 -- with any written names
 abbrev pub program_of : Places → Parts → Naming → Valuation → Program

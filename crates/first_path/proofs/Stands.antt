@@ -18,7 +18,7 @@ use Rattle.module_text.specs.Around.{Text, first_is, line_of, on_some, plain, Fo
 use Rattle.first_path.specs.Form.{Right, single, sum, Operand, number_operand, variable_operand, Parts, IsForm, is_name, is_free, is_small, is_small_right, is_fit, word, operand_kind, right_kinds, kinds, kinds_of, first_lines, last_line}
 use Rattle.first_path.specs.Form as form
 use Rattle.first_path.specs.Placed.{Places, algorithm_at}
-use Rattle.first_path.specs.Headline.{Stands}
+use Rattle.promise.specs.Headline.{Stands}
 use Rattle.first_path.proofs.Names.{name_words}
 use Rattle.first_path.proofs.Fit.{Fit, fit_of}
 use Rattle.first_path.proofs.Stretches.{text_append, all_fit_less, First, first_of, first_written, kinds_gap, stretch_between}

@@ -1,24 +1,29 @@
 -- The worked example meets the premises of the promise, and its algorithm begins, steps and is done.
 use Rattle.std.proofs.Common.{◌≡◌, pos, Bool, true, false, cond, None, Some, [], ◌∷◌, codes, bytes_eq, refl, sym, ap, ◌∙◌, subst, ◌⊎◌, inl, inr, Ok, Err}
+use Rattle.std.proofs.lemmas.Option.{same_Some}
 use Rattle.tla_token.specs.declared.place.Place.{Place}
 use Rattle.tla_expr.specs.Tree.{Word}
 use Rattle.tla_expr.specs.Names.{has}
 use Rattle.tla_value.specs.declared.fault.FaultKind.{FaultKind}
 use Rattle.tla_value.specs.Value.{Value, int, text, Trouble}
+use Rattle.tla_value.specs.Order.{IsCanonical}
 use Rattle.pcal_tree.specs.Algorithm.{Naming}
 use Rattle.pcal_tree.specs.Names.{naming}
 use Rattle.pcal_tree.specs.Scope.{State}
 use Rattle.pcal_tree.specs.Run.{Has}
-use Rattle.pcal_tree.specs.Program.{Program, Actor, pc}
+use Rattle.pcal_tree.specs.Program.{Program, Actor}
 use Rattle.pcal_tree.specs.Calls.{defaultInitValue}
-use Rattle.pcal_tree.specs.Step.{Sound, StepFrom, Step, Stutters, IsActor, Troubled, Stand, StandsAt, course_of, pc_of}
+use Rattle.pcal_tree.specs.Step.{StepFrom, Step, Stutters, Stand, StandsAt, course_of, pc_of}
 use Rattle.pcal_tree.specs.InitialStates.{Initial, InitFault}
 use Rattle.first_path.specs.Form.{IsForm}
 use Rattle.first_path.specs.Placed.{Places, algorithm_at, module_at, integers_alone}
-use Rattle.first_path.specs.Translates.{AreConstants}
+use Rattle.promise.specs.ConstantsAndStates.{AreConstants, IsState}
 use Rattle.first_path.specs.Worked.{worked_text, worked_parts, no_more_constants, worked_program, at_first, at_last}
 use Rattle.first_path.proofs.FormExact.{form_found}
 use Rattle.first_path.proofs.MeansStep.{got_is, actor, stand, Kept, is_actor, actor_is, stand_is, there_stands, ended}
+use Rattle.pcal_tree.specs.Variables.{pc}
+use Rattle.pcal_tree.specs.Faults.{Sound, Troubled}
+use Rattle.pcal_tree.specs.Processes.{IsActor}
 
 pub form_worked : IsForm worked_text worked_parts
 form_worked = form_found worked_text worked_parts refl
@@ -34,14 +39,28 @@ other_name x h = by (bytes_eq (codes "defaultInitValue") x) refl
     by false e = refl
     by true e = absurd cc
 
+-- a model value is in canonical order
+model_canonical : (x : Word) (v : Value) → no_more_constants x ≡ Some v → IsCanonical v
+model_canonical x v e = by (bytes_eq (codes "defaultInitValue") x) e
+  where
+    by : (b : Bool) → cond b (Some defaultInitValue) None ≡ Some v → IsCanonical v
+    by true e = subst IsCanonical (same_Some defaultInitValue v e) tt
+    by false e = absurd cc
+
 pub constants_worked : (q : Places) → AreConstants (module_at q worked_parts) no_more_constants
-constants_worked q = record { unset = refl; given = tt; no_other = other_name }
+constants_worked q = record { unset = refl; given = tt; no_other = other_name; canonical = model_canonical }
 
 -- ---- initial states
 
 module _ (p q : Places) where
   abbrev P : Program
   P = worked_program p q
+
+  pub first_state : IsState P at_first
+  first_state = (tt, (tt, tt))
+
+  pub last_state : IsState P at_last
+  last_state = (tt, (tt, tt))
 
   pub begins_worked : Initial P at_first
   begins_worked = refl

@@ -6,7 +6,7 @@ use Rattle.outer_io.specs.Outer.{Texts, text_at, told_at, HasText, Tells, HasNoT
 use Rattle.tla_token.specs.Offences.{least}
 use Rattle.first_path.specs.Form.{Parts}
 use Rattle.first_path.specs.FormRead.{form_of, form_offences, FirstOffence, left_out}
-use Rattle.first_path.specs.Headline.{Headline}
+use Rattle.promise.specs.Headline.{Headline}
 use Rattle.first_path.proofs.Promise.{first_offence, not_both}
 use Rattle.pcal_cli.specs.Words.{Command, translate}
 use Rattle.pcal_cli.specs.Causes.{most_bytes, OfFile, Writes, WritesInPart, KeepsPromise}

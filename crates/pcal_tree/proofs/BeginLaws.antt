@@ -6,8 +6,8 @@ use Rattle.pcal_tree.specs.Run.{unlabelled, label_of}
 use Rattle.pcal_tree.specs.StepStart.{Begin, begin_in, begin, begin_some}
 use Rattle.pcal_tree.specs.Expand.{joined, Writing, expand_one, expand, expand_some, expand_begin}
 use Rattle.pcal_tree.proofs.ExpandRuns.{opens_joined, no_label}
-use Rattle.pcal_tree.specs.Clean.{Calls, CallsOne, CallsSome, Opens, BareOne, Bare, BareSome}
 use Rattle.std.specs.Option.{option_or}
+use Rattle.pcal_tree.specs.laws.Expansion.{Calls, CallsOne, CallsSome, Opens, BareOne, Bare, BareSome}
 
 -- ---- no label, as in a macro's body
 

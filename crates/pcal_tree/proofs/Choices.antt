@@ -3,9 +3,10 @@ use Rattle.std.proofs.Common.{◌≡◌, ℕ, zero, suc, List, [], ◌∷◌, Op
 use Rattle.tla_token.specs.declared.place.Place.{Place}
 use Rattle.pcal_tree.specs.Scope.{State}
 use Rattle.pcal_tree.specs.Run.{Course, ends, stops, chooses, Courses, no_courses, course, Has, HasSome}
-use Rattle.pcal_tree.specs.Choices.{Walk, missing, walk, walk_into, first_trouble, first_trouble_of, told, landing}
+use Rattle.pcal_tree.specs.Choices.{Walk, missing, walk, walk_into, first_trouble, first_trouble_of}
 use Rattle.tla_value.specs.Value.{Trouble, Outcome}
 use Rattle.std.specs.Option.{option_or}
+use Rattle.pcal_tree.specs.laws.Choosing.{told, landing}
 
 none_told : (cs : Courses) (at : Place) (r : Outcome State) → told (missing cs at) ≡ Some r → ⊥
 none_told no_courses at r e = cc

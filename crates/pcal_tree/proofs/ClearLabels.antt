@@ -9,7 +9,7 @@ use Rattle.pcal_tree.specs.Offences.{offence_if}
 use Rattle.pcal_tree.specs.OffencesLabels.{Label, labels, label_words}
 use Rattle.pcal_tree.specs.OffencesReserved.{labels_of_main, all_labels, reserved_name, reserved_label, reserved_outside, declared_names, reserved_declared}
 use Rattle.tla_value.specs.Outside.{Outside}
-use Rattle.pcal_tree.specs.Apart.{Every, NoEndLabels}
+use Rattle.pcal_tree.specs.laws.Apart.{Every, NoEndLabels}
 use Rattle.pcal_tree.proofs.OneStand.{every_both}
 
 -- two lists without items

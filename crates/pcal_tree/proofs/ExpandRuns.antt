@@ -11,8 +11,8 @@ use Rattle.pcal_tree.specs.Assign.{moved}
 use Rattle.pcal_tree.specs.Run.{Course, chooses, course, held, stops, after, at_each, Follow, Rules, unlabelled, label_of, run_binds, run_one, run, run_branches, arguments, Calling, with_calls, called, with_macros}
 use Rattle.pcal_tree.specs.Expand.{graft_all, joined, Writing, expand_one, expand, expand_some, written_out, expanded}
 use Rattle.pcal_tree.proofs.GraftRuns.{Meets, graft_runs}
-use Rattle.pcal_tree.specs.Clean.{Any, Calls, CallsOne, CallsSome, Chosen, Clean, FineCall, Free, Opens, following}
 use Rattle.tla_value.specs.Value.{fault}
+use Rattle.pcal_tree.specs.laws.Expansion.{Any, Calls, CallsOne, CallsSome, Chosen, Clean, FineCall, Free, Opens}
 
 pub through_meets : (c : Check) (g : Graft) (sc : Scope) → Free sc → Meets c g Any sc (through c g sc)
 through_meets c g sc free = record {
@@ -22,7 +22,7 @@ through_meets c g sc free = record {
   free = free;
 }
 
-same_argument : (ps : List Name) (ts : Trees) (x : Word) (at p : Place) → arguments ps ts x at ≡ arguments ps ts x p
+pub same_argument : (ps : List Name) (ts : Trees) (x : Word) (at p : Place) → arguments ps ts x at ≡ arguments ps ts x p
 same_argument [] ts x at p = refl
 same_argument (y ∷ ys) no_trees x at p = refl
 same_argument (y ∷ ys) (tree t ts) x at p = ap (λ o. cond (bytes_eq y.word x) (Some t) o) (same_argument ys ts x at p)
@@ -35,6 +35,10 @@ through_free c ps ts sc free x at p s = (λ i. reach_in c (same_argument ps ts x
     by None = free x at p s
 
 -- ---- lists one after the other
+
+-- what follows a list: the rest, and then K
+abbrev pub following : Rules → Statements → Scope → Follow → Follow
+following M rest sc K = record { label = label_of rest K.label; goes = run M unlabelled rest sc K }
 
 join_label : (a b : Statements) (l : Word) → label_of (joined a b) l ≡ label_of a (label_of b l)
 join_label done b l = refl

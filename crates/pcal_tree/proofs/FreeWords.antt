@@ -12,7 +12,7 @@ use Rattle.tla_token.specs.Words.{pluscal_words, tla_words, begins_fairness, is_
 use Rattle.tla_token.proofs.Spelled.{begins, begins_is, begins_from}
 use Rattle.tla_expr.specs.Tree.{Word}
 use Rattle.pcal_tree.specs.Names.{is_taken, joint, numbered, free_from, first_free, Want, give}
-use Rattle.pcal_tree.specs.Apart.{Every}
+use Rattle.pcal_tree.specs.laws.Apart.{Every}
 use Rattle.pcal_tree.proofs.FreeNames.{free_is, free_untaken, every_map}
 
 -- whether the last byte is a digit, where b tells it of the byte before these

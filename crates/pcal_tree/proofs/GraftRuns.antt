@@ -14,7 +14,7 @@ use Rattle.pcal_tree.specs.Run.{Course, chooses, course, held, stops, after, at_
 use Rattle.pcal_tree.specs.Expand.{placed_at, graft_left, graft_moves, graft_binds, graft_one, graft_all, graft_some}
 use Rattle.tla_value.specs.Related.{Rel}
 use Rattle.tla_value.specs.Related.{ClearForm}
-use Rattle.pcal_tree.specs.Clean.{Clean, CleanBinds, CleanMoves, CleanOne, CleanSome, ClearName, Unreached}
+use Rattle.pcal_tree.specs.laws.Expansion.{Clean, CleanBinds, CleanMoves, CleanOne, CleanSome, ClearName, Unreached}
 
 -- where names are clear a form keeps that they stand for the trees of g
 form_fits : (c : Check) (g : Graft) (U : Word → Type 0) (m : Form) (at : Place) → ClearForm c g U m at → Fits c (Grafted c g U) g m at

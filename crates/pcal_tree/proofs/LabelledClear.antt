@@ -5,12 +5,12 @@ use Rattle.tla_token.specs.declared.rule.Rule.TheVariants.{FirstLabel}
 use Rattle.tla_expr.specs.Tree.{Word}
 use Rattle.pcal_tree.specs.Algorithm.{Statement, assign, await, print, assert, skip, branch, either, with, while, goto, macro, call, return, Statements, done, then, mark, Branches, no_branches, or, Macro, Process, Procedure, Main, alone, processes, Algorithm, numbered, first_procedure, first_process, procedure_routine, process_routine, procedure_routines, main_routines}
 use Rattle.pcal_tree.specs.Paths.{Effects, nothing, after_one}
-use Rattle.pcal_tree.specs.OffencesSteps.{Before, at_label, at_first, inside, next, procedure_effects, outer_effects}
+use Rattle.pcal_tree.specs.OffencesSteps.{Before, at_label, at_first, inside, next, call_effect, procedure_effects, outer_effects}
 use Rattle.pcal_tree.specs.OffencesLabels.{label_words}
 use Rattle.pcal_tree.specs.Labelled.{added_name, Supply, number, names_after, labelled_if, needs_label, before, add_inside, add, add_some, add_to_macros, add_to_procedures, add_to_processes, add_to_main, typed_labels, with_labels, is_alone, is_empty, labelled}
-use Rattle.pcal_tree.specs.Step as Step
-use Rattle.pcal_tree.specs.Apart.{Every, NoEndLabels}
-use Rattle.pcal_tree.proofs.RoutineNames.{same_labels}
+use Rattle.pcal_tree.proofs.BodyLabels as Body
+use Rattle.pcal_tree.specs.laws.Apart.{Every, NoEndLabels}
+use Rattle.pcal_tree.proofs.BodyLabels.{same_labels}
 use Rattle.pcal_tree.proofs.OneStand.{every_both}
 use Rattle.pcal_tree.proofs.ClearLabels.{is_clear, AllClear}
 
@@ -24,13 +24,13 @@ every_right Q (x ∷ xs) ys h = every_right Q xs ys h.1
 
 -- D holds of each label of a body
 abbrev All : (Word → Type 0) → Statements → Type 0
-All D b = Every D (Step.labels b)
+All D b = Every D (Body.labels b)
 
 abbrev AllOne : (Word → Type 0) → Statement → Type 0
-AllOne D st = Every D (Step.labels_in st)
+AllOne D st = Every D (Body.labels_in st)
 
 abbrev AllSome : (Word → Type 0) → Branches → Type 0
-AllSome D bs = Every D (Step.labels_of bs)
+AllSome D bs = Every D (Body.labels_of bs)
 
 abbrev lbl : Word
 lbl = codes "Lbl_"
@@ -57,9 +57,9 @@ mutual
       → (Q : R → Type 0) (E : Effects) (p : Before) (s : Supply) (st : Statement) (go : Statement → Supply → R)
       → s.root ≡ lbl → AllOne D st → After Q (AllOne D) go → Q (add_inside E p s st go)
   clear_inside D new Q E p s (branch e a b) go r h k =
-      clear_add D new Q E (inside p.path) s a _ r (every_left D (Step.labels a) (Step.labels b) h) (λ a' t q c.
-      clear_add D new Q E (inside p.path) t b _ q (every_right D (Step.labels a) (Step.labels b) h) (λ b' u o d.
-      k (branch e a' b') u o (every_both D (Step.labels a') (Step.labels b') c d)))
+      clear_add D new Q E (inside p.path) s a _ r (every_left D (Body.labels a) (Body.labels b) h) (λ a' t q c.
+      clear_add D new Q E (inside p.path) t b _ q (every_right D (Body.labels a) (Body.labels b) h) (λ b' u o d.
+      k (branch e a' b') u o (every_both D (Body.labels a') (Body.labels b') c d)))
   clear_inside D new Q E p s (either bs) go r h k = clear_add_some D new Q E (inside p.path) s bs _ r h (λ bs' t q c. k (either bs') t q c)
   clear_inside D new Q E p s (while e b) go r h k =
       clear_add D new Q E (inside (after_one E (while e b) p.labelled p.path)) s b _ r h (λ b' t q c. k (while e b') t q c)
@@ -81,20 +81,20 @@ mutual
   clear_add D new Q E p s (mark n m rest) go r h k = clear_add D new Q E at_label s rest _ r h.1 (λ b t q c. k (mark n m b) t q (h.0, c))
   clear_add D new Q E p s (then at st rest) go r h k =
       clear_inside D new Q E (before (needs_label E p at st) p) (names_after (needs_label E p at st) s) st _ (after_root (needs_label E p at st) s r)
-      (every_left D (Step.labels_in st) (Step.labels rest) h) (λ st' t q c.
+      (every_left D (Body.labels_in st) (Body.labels rest) h) (λ st' t q c.
       clear_add D new Q E (next E (before (needs_label E p at st) p) st') t rest _ q
-      (every_right D (Step.labels_in st) (Step.labels rest) h) (λ b u o d.
+      (every_right D (Body.labels_in st) (Body.labels rest) h) (λ b u o d.
       k (labelled_if (needs_label E p at st) s at.first (then at st' b)) u o
-      (labelled_if_clear D new (needs_label E p at st) s at.first (then at st' b) r (every_both D (Step.labels_in st') (Step.labels b) c d))))
+      (labelled_if_clear D new (needs_label E p at st) s at.first (then at st' b) r (every_both D (Body.labels_in st') (Body.labels b) c d))))
 
   clear_add_some : {R : Type 0} (D : Word → Type 0) → Added D
       → (Q : R → Type 0) (E : Effects) (p : Before) (s : Supply) (bs : Branches) (go : Branches → Supply → R)
       → s.root ≡ lbl → AllSome D bs → After Q (AllSome D) go → Q (add_some E p s bs go)
   clear_add_some D new Q E p s no_branches go r h k = k no_branches s r h
   clear_add_some D new Q E p s (or b bs) go r h k =
-      clear_add D new Q E p s b _ r (every_left D (Step.labels b) (Step.labels_of bs) h) (λ b' t q c.
-      clear_add_some D new Q E p t bs _ q (every_right D (Step.labels b) (Step.labels_of bs) h) (λ bs' u o d.
-      k (or b' bs') u o (every_both D (Step.labels b') (Step.labels_of bs') c d)))
+      clear_add D new Q E p s b _ r (every_left D (Body.labels b) (Body.labels_of bs) h) (λ b' t q c.
+      clear_add_some D new Q E p t bs _ q (every_right D (Body.labels b) (Body.labels_of bs) h) (λ bs' u o d.
+      k (or b' bs') u o (every_both D (Body.labels b') (Body.labels_of bs') c d)))
 
 -- ---- algorithms
 
@@ -112,7 +112,7 @@ macros_through : {R : Type 0} (Q : R → Type 0) (s : Supply) (ds : List Macro) 
     → ((es : List Macro) (t : Supply) → t.root ≡ lbl → Q (go es t)) → Q (add_to_macros s ds go)
 macros_through Q s [] go r k = k [] s r
 macros_through Q s (d ∷ ds) go r k =
-    clear_add (λ x. Unit {0}) (λ n. tt) Q (λ st. nothing) (at_first None) s d.body _ r (no_rule (Step.labels d.body)) (λ b t q c.
+    clear_add (λ x. Unit {0}) (λ n. tt) Q (λ st. nothing) (at_first None) s d.body _ r (no_rule (Body.labels d.body)) (λ b t q c.
     macros_through Q t ds _ q (λ es u o. k (record { name = d.name; params = d.params; body = b } ∷ es) u o))
 
 procedures_through : {R : Type 0} (Q : R → Type 0) (ms : List Macro) (s : Supply) (ps : List Procedure) (go : List Procedure → Supply → R)
@@ -121,7 +121,7 @@ procedures_through : {R : Type 0} (Q : R → Type 0) (ms : List Macro) (s : Supp
     → Q (add_to_procedures ms s ps go)
 procedures_through Q ms s [] go r h k = k [] s r tt
 procedures_through Q ms s (p ∷ ps) go r h k =
-    clear_add is_clear added_clear Q (procedure_effects ms p) (at_first (Some FirstLabel)) s p.body _ r h.0 (λ b t q c.
+    clear_add is_clear added_clear Q (procedure_effects (call_effect ms) p) (at_first (Some FirstLabel)) s p.body _ r h.0 (λ b t q c.
     procedures_through Q ms t ps _ q h.1
     (λ qs u o d. k (record { name = p.name; params = p.params; variables = p.variables; body = b } ∷ qs) u o (c, d)))
 
@@ -129,7 +129,7 @@ processes_through : {R : Type 0} (Q : R → Type 0) (ms : List Macro) (s : Suppl
     → Every (λ p. Clear p.body) ps → ((qs : List Process) → Every (λ p. Clear p.body) qs → Q (go qs)) → Q (add_to_processes ms s ps go)
 processes_through Q ms s [] go r h k = k [] tt
 processes_through Q ms s (p ∷ ps) go r h k =
-    clear_add is_clear added_clear Q (outer_effects ms) (at_first (Some FirstLabel)) s p.body _ r h.0 (λ b t q c.
+    clear_add is_clear added_clear Q (outer_effects (call_effect ms)) (at_first (Some FirstLabel)) s p.body _ r h.0 (λ b t q c.
     processes_through Q ms t ps _ q h.1 (λ qs d.
     k (record { name = p.name; fairness = p.fairness; several = p.several; identity = p.identity; variables = p.variables; body = b } ∷ qs) (c, d)))
 
@@ -140,7 +140,7 @@ ClearMain (processes ps) = Every (λ p. Clear p.body) ps
 main_through : {R : Type 0} (Q : R → Type 0) (ms : List Macro) (s : Supply) (m : Main) (go : Main → R) → s.root ≡ lbl → ClearMain m
     → ((m' : Main) → ClearMain m' → Q (go m')) → Q (add_to_main ms s m go)
 main_through Q ms s (alone b) go r h k =
-    clear_add is_clear added_clear Q (outer_effects ms) (at_first (Some FirstLabel)) s b _ r h (λ c t q d. k (alone c) d)
+    clear_add is_clear added_clear Q (outer_effects (call_effect ms)) (at_first (Some FirstLabel)) s b _ r h (λ c t q d. k (alone c) d)
 main_through Q ms s (processes ps) go r h k = processes_through Q ms s ps _ r h (λ qs c. k (processes qs) c)
 
 -- ---- routines

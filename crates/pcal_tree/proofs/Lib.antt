@@ -5,10 +5,12 @@ mod Choices
 pub mod GraftRuns
 pub mod ExpandRuns
 pub mod BeginLaws
+pub mod BodyLabels
 pub mod TroubleLaws
 mod RowsPrinted
 mod RowsC
 mod RowsLabels
+mod RowsSummaries
 mod RowsNames
 mod RowsP
 mod RowsBoth
@@ -18,4 +20,8 @@ pub mod OneStand
 pub mod FreeWords
 pub mod ClearLabels
 pub mod LabelledClear
+pub mod SetLaws
+pub mod TargetLaws
+pub mod SummaryLaws
+pub mod EffectLaws
 mod RowsOffences

@@ -16,11 +16,13 @@ use Rattle.pcal_tree.specs.Calls.{label_name}
 use Rattle.pcal_tree.specs.OffencesLabels.{label_words}
 use Rattle.tla_value.specs.Outside.{Outside}
 use Rattle.pcal_tree.specs.Names.{label, wanted, standing, given, naming, written_for}
-use Rattle.pcal_tree.specs.Step.{identifiers_of, identifiers, identifier, actors_of, all_actors, has_identifier, apart, last_place, united, placed, sorted, actors_in, OneOf, IsActor, Stand, routines_of, StandsAt, StandsOnce}
-use Rattle.pcal_tree.specs.Apart.{Every, FewNames, NoEndLabels}
-use Rattle.pcal_tree.proofs.TroubleLaws.{one_left, one_right, listed}
+use Rattle.pcal_tree.specs.Step.{Stand, routines_of, StandsAt}
+use Rattle.pcal_tree.specs.laws.Apart.{Every, FewNames, NoEndLabels}
+use Rattle.pcal_tree.proofs.TroubleLaws.{one_left, one_right, label_listed}
 use Rattle.pcal_tree.proofs.FreeNames.{given_apart}
-use Rattle.pcal_tree.proofs.RoutineNames.{every_one, one_either, same_labels, label_wanted, one_label}
+use Rattle.pcal_tree.proofs.RoutineNames.{every_one, one_either, label_wanted, one_label}
+use Rattle.pcal_tree.specs.Processes.{identifiers_of, identifiers, identifier, actors_of, all_actors, has_identifier, apart, last_place, united, placed, sorted, actors_in, OneOf, IsActor}
+use Rattle.pcal_tree.specs.laws.Steps.{StandsOnce}
 
 -- ---- what a process runs
 
@@ -202,9 +204,6 @@ label_written P u l e = by (bytes_eq (codes "Done") l) (bytes_eq (codes "Error")
     by true c e = cc
     by false true e = cc
     by false false e = refl
-
-label_listed : (u : Routine) (l : Word) (b : Begin) → at_label u l ≡ Some b → OneOf l (label_words u.body)
-label_listed u l b e = subst (OneOf l) (sym (same_labels u.body)) (listed l unlabelled u.body u.exit b e)
 
 same_stand : (d e : Stand) → at_label d.routine d.label ≡ Some d.begins → at_label e.routine e.label ≡ Some e.begins → d.routine ≡ e.routine
     → d.label ≡ e.label → d ≡ e

@@ -6,13 +6,12 @@ use Rattle.std.proofs.lemmas.Bool.{and_parts, and_from, eqb-true, eq-eqb}
 use Rattle.std.proofs.lemmas.List.{map-append}
 use Rattle.tla_expr.specs.Tree.{Word}
 use Rattle.pcal_tree.specs.Algorithm.{Statement, branch, either, with, while, Statements, done, then, mark, Branches, no_branches, or, Main, alone, processes, Algorithm, Routine, locals, procedure_routines, main_routines, routines}
-use Rattle.pcal_tree.specs.Program.{declared}
 use Rattle.pcal_tree.specs.OffencesLabels.{labels, labels_of_one, labels_of_some, label_words}
-use Rattle.pcal_tree.specs.Step as Step
-use Rattle.pcal_tree.specs.Step.{OneOf}
 use Rattle.pcal_tree.specs.Names.{Role, label, variable, title, Want, wants, wanted_within, wanted_by, wanted_by_main, wanted, Given, give, first_free, same_role, is_for, written_for}
-use Rattle.pcal_tree.specs.Apart.{Every, Apart}
+use Rattle.pcal_tree.specs.laws.Apart.{Every, Apart}
 use Rattle.pcal_tree.proofs.TroubleLaws.{one_left, one_right}
+use Rattle.pcal_tree.specs.Variables.{declared}
+use Rattle.pcal_tree.specs.Processes.{OneOf}
 
 pub every_one : {X : Type 0} (Q : X → Type 0) (x : X) (xs : List X) → Every Q xs → OneOf x xs → Q x
 every_one Q x [] h k = absurd k
@@ -23,29 +22,6 @@ one_each : {X Y : Type 0} (f : X → List Y) (x : X) (y : Y) (xs : List X) → O
 one_each f x y [] h k = absurd h
 one_each f x y (z ∷ zs) (inl e) k = one_left y (f z) (flat_map f zs) (subst (λ u. OneOf y (f u)) e k)
 one_each f x y (z ∷ zs) (inr h) k = one_right y (f z) (flat_map f zs) (one_each f x y zs h k)
-
--- ---- the labels of a body
-
--- two definitions list the same labels
-mutual
-  words_in : (st : Statement) → map (λ l. l.name.word) (labels_of_one st) ≡ Step.labels_in st
-  words_in (branch e a b) = map-append (λ l. l.name.word) (labels false a) (labels false b) ∙ (λ i. words_at false a i ++ words_at false b i)
-  words_in (either bs) = words_some bs
-  words_in (with bs b) = words_at false b
-  words_in (while e b) = words_at false b
-  words_in _ = refl
-
-  words_at : (s : Bool) (b : Statements) → map (λ l. l.name.word) (labels s b) ≡ Step.labels b
-  words_at s done = refl
-  words_at s (then at st rest) = map-append (λ l. l.name.word) (labels_of_one st) (labels false rest) ∙ (λ i. words_in st i ++ words_at false rest i)
-  words_at s (mark n k rest) = ap (λ ls. n.word ∷ ls) (words_at true rest)
-
-  words_some : (bs : Branches) → map (λ l. l.name.word) (labels_of_some bs) ≡ Step.labels_of bs
-  words_some no_branches = refl
-  words_some (or b bs) = map-append (λ l. l.name.word) (labels false b) (labels_of_some bs) ∙ (λ i. words_at false b i ++ words_some bs i)
-
-pub same_labels : (b : Statements) → label_words b ≡ Step.labels b
-same_labels b = words_at false b
 
 -- ---- what is wanted
 

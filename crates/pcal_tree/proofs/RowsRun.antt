@@ -10,9 +10,10 @@ use Rattle.pcal_tree.specs.Scope.{State, put}
 use Rattle.pcal_tree.specs.Run.{Course, Has, run, exit_to}
 use Rattle.pcal_tree.specs.Expand.{expanded}
 use Rattle.pcal_tree.specs.Choices.{walk, went, wanting, first_trouble}
-use Rattle.pcal_tree.specs.Program.{Program, Actor, routine_scope, pc}
+use Rattle.pcal_tree.specs.Program.{Program, Actor, routine_scope}
 use Rattle.pcal_tree.specs.Calls.{rules_of}
 use Rattle.pcal_tree.proofs.Sample.{at, title, x, y, num, var, over, item, and_next, sets, labelled, an_int, one_body, at_start}
+use Rattle.pcal_tree.specs.Variables.{pc}
 
 -- ---- the courses of a step from label A, the end of which goes to Done
 

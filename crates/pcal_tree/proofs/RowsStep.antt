@@ -10,14 +10,17 @@ use Rattle.pcal_tree.specs.Algorithm.{Statement, call, return, skip, Statements,
 use Rattle.pcal_tree.specs.Scope.{State, put}
 use Rattle.pcal_tree.specs.Run.{Course, ends, stops}
 use Rattle.pcal_tree.specs.Choices.{walk, went, failed, wanting}
-use Rattle.pcal_tree.specs.Program.{Program, Actor, pc, stack}
-use Rattle.pcal_tree.specs.Step.{vars, actors, pc_of, Stand, course_of, stand_named, routines_of, trouble_of_all, Step, Stutters, OneOf}
+use Rattle.pcal_tree.specs.Program.{Program, Actor}
+use Rattle.pcal_tree.specs.Step.{pc_of, Stand, course_of, routines_of, Step, Stutters}
 use Rattle.pcal_tree.specs.InitialStates.{allowed}
 use Rattle.pcal_tree.specs.InitialChoice.{started, nothing}
 use Rattle.pcal_tree.proofs.Sample.{at, title, x, num, var, over as sum_of, and_next, sets, labelled, an_int, variable, same_names, program}
 use Rattle.tla_value.specs.Stops.{plain}
 use Rattle.tla_value.specs.Limits.{bounded}
 use Rattle.tla_value.specs.Definitions.{Valuation}
+use Rattle.pcal_tree.specs.Variables.{pc, stack, vars}
+use Rattle.pcal_tree.specs.Processes.{actors, OneOf}
+use Rattle.pcal_tree.specs.FirstTrouble.{stand_named, trouble_of_all}
 
 abbrev one : Statement → Statements
 one st = and_next st done

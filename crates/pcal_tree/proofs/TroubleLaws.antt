@@ -12,9 +12,15 @@ use Rattle.pcal_tree.specs.Choices.{first_trouble}
 use Rattle.pcal_tree.specs.StepStart.{Begin, begin_in, begin, begin_some, at_label}
 use Rattle.pcal_tree.specs.Program.{Program, Actor}
 use Rattle.pcal_tree.specs.Calls.{label_value}
-use Rattle.pcal_tree.specs.Step.{OneOf, pc_of, Stand, routines_of, StandsAt, course_of, Troubled, Sound, IsActor, labels_in, labels, labels_of, Proper, StandsOnce, stand_at, label_named, stand_named, trouble_from, trouble_at, trouble_of_all, FirstTrouble}
+use Rattle.pcal_tree.specs.Step.{pc_of, Stand, routines_of, StandsAt, course_of}
+use Rattle.pcal_tree.specs.OffencesLabels.{label_words}
+use Rattle.pcal_tree.proofs.BodyLabels.{labels_in, labels, labels_of, same_labels}
 use Rattle.pcal_tree.proofs.Choices.{some_inside, first_has, none_has}
 use Rattle.std.specs.Option.{option_or}
+use Rattle.pcal_tree.specs.Processes.{OneOf, IsActor, Proper}
+use Rattle.pcal_tree.specs.Faults.{Troubled, Sound}
+use Rattle.pcal_tree.specs.laws.Steps.{StandsOnce}
+use Rattle.pcal_tree.specs.FirstTrouble.{stand_at, label_named, stand_named, trouble_from, trouble_at, trouble_of_all, FirstTrouble}
 
 -- d is a label of one of the routines, and w names it
 record Found (P : Program) (w : Value) (us : List Routine) (d : Stand) : Type 0 where
@@ -37,7 +43,7 @@ wider x u us (inr h) = absurd h
 
 stand_found : (P : Program) (w : Value) (us : List Routine) (d : Stand) → stand_named P w us ≡ Some d → Found P w us d
 stand_found P w [] d e = cc
-stand_found P w (u ∷ us) d e = by (stand_found P w us d) (label_named P w u (labels u.body)) refl e
+stand_found P w (u ∷ us) d e = by (stand_found P w us d) (label_named P w u (label_words u.body)) refl e
   where
     front : Found P w (u ∷ []) d → Found P w (u ∷ us) d
     front f = record { routine = wider d.routine u us f.routine; begins = f.begins; named = f.named }
@@ -45,8 +51,8 @@ stand_found P w (u ∷ us) d e = by (stand_found P w us d) (label_named P w u (l
     behind : Found P w us d → Found P w (u ∷ us) d
     behind f = record { routine = inr f.routine; begins = f.begins; named = f.named }
 
-    by : (stand_named P w us ≡ Some d → Found P w us d) → (o : Option Stand) → label_named P w u (labels u.body) ≡ o → option_or o (stand_named P w us) ≡ Some d → Found P w (u ∷ us) d
-    by ih (Some c) p e = front (label_found P w u (labels u.body) d (p ∙ e))
+    by : (stand_named P w us ≡ Some d → Found P w us d) → (o : Option Stand) → label_named P w u (label_words u.body) ≡ o → option_or o (stand_named P w us) ≡ Some d → Found P w (u ∷ us) d
+    by ih (Some c) p e = front (label_found P w u (label_words u.body) d (p ∙ e))
     by ih None p e = behind (ih e)
 
 -- what is found is where the process stands
@@ -134,6 +140,9 @@ mutual
       by (inl p) f g = one_left l (labels t) (labels_of bs) (f p)
       by (inr p) f g = one_right l (labels t) (labels_of bs) (g p)
 
+pub label_listed : (u : Routine) (l : Word) (b : Begin) → at_label u l ≡ Some b → OneOf l (label_words u.body)
+label_listed u l b e = subst (OneOf l) (sym (same_labels u.body)) (listed l unlabelled u.body u.exit b e)
+
 abbrev pub IsSomething : {X : Type 0} → Option X → Type 0
 IsSomething {X = X} o = (x : X) × (o ≡ Some x)
 
@@ -153,7 +162,7 @@ label_is_found P u l b e (m ∷ ls) (inr h) = behind_some _ _ (label_is_found P 
 stand_is_found : (P : Program) (d : Stand) → at_label d.routine d.label ≡ Some d.begins → (us : List Routine) → OneOf d.routine us → IsSomething (stand_named P (label_value P d.routine d.label) us)
 stand_is_found P d e [] h = absurd h
 stand_is_found P d e (u ∷ us) (inl p) =
-    front_some _ _ (subst (λ z. IsSomething (label_named P (label_value P d.routine d.label) z (labels z.body))) p (label_is_found P d.routine d.label d.begins e (labels d.routine.body) (listed d.label unlabelled d.routine.body d.routine.exit d.begins e)))
+    front_some _ _ (subst (λ z. IsSomething (label_named P (label_value P d.routine d.label) z (label_words z.body))) p (label_is_found P d.routine d.label d.begins e (label_words d.routine.body) (label_listed d.routine d.label d.begins e)))
 stand_is_found P d e (u ∷ us) (inr h) = behind_some _ _ (stand_is_found P d e us h)
 
 has_first : (c : Course) (k : Trouble) → Has c (Err k) → IsSomething (first_trouble c)

@@ -10,7 +10,8 @@ use Rattle.pcal_tree.specs.Algorithm.{Start, unset, equals, among, Declaration, 
 use Rattle.pcal_tree.specs.Scope.{State, root_place, value_of}
 use Rattle.pcal_tree.specs.Assign.{Setting, set_one, set_all}
 use Rattle.pcal_tree.specs.Run.{Course, ends, stops, held, Rules, with_macros, label_of}
-use Rattle.pcal_tree.specs.Program.{Program, Actor, index, local_index, written, read_at, routine_scope, pc, stack, written_all}
+use Rattle.pcal_tree.specs.Program.{Program, Actor, index, local_index, written, read_at, routine_scope}
+use Rattle.pcal_tree.specs.Variables.{pc, stack, written_all}
 
 -- ---- labels
 

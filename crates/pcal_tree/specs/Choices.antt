@@ -1,10 +1,10 @@
 -- Courses by choices: the one that a list of choices picks, and the first that meets trouble.
-use Rattle.std.specs.Prelude.{ℕ, zero, suc, List, [], ◌∷◌, Option, Some, None, Ok, Err}
+use Rattle.std.specs.Prelude.{ℕ, zero, suc, List, [], ◌∷◌, Option, Some, None}
 use Rattle.std.specs.Option.{option_or}
 use Rattle.tla_token.specs.declared.place.Place.{Place}
 use Rattle.pcal_tree.specs.Scope.{State}
 use Rattle.pcal_tree.specs.Run.{Course, ends, stops, chooses, Courses, no_courses, course}
-use Rattle.tla_value.specs.Value.{Trouble, Outcome}
+use Rattle.tla_value.specs.Value.{Trouble}
 
 -- what comes of a list of choices, each the number, from 1, of a branch or of a member of the set
 pub data Walk : Type 0 where
@@ -44,15 +44,3 @@ abbrev mutual
   pub first_trouble_of : Courses → Option Trouble
   first_trouble_of no_courses = None
   first_trouble_of (course c cs) = option_or (first_trouble c) (first_trouble_of cs)
-
--- the outcome that a walk tells, if any
-abbrev pub told : Walk → Option (Outcome State)
-told (went t ns) = Some (Ok t)
-told (failed k) = Some (Err k)
-told (blocked at) = None
-told (wanting k at) = None
-
--- a walk to an outcome, by choices that are all used
-abbrev pub landing : Outcome State → Walk
-landing (Ok t) = went t []
-landing (Err k) = failed k

@@ -6,10 +6,11 @@ use Rattle.tla_value.specs.Value.{Value, truth, fun, Values, no_values, and, val
 use Rattle.pcal_tree.specs.Algorithm.{Start, unset, equals, among, Declaration, Main, alone, processes, Routine, locals, procedure_routines, main_routines}
 use Rattle.pcal_tree.specs.Scope.{State, put, Scope, value_of, members_at}
 use Rattle.pcal_tree.specs.Run.{Course, ends, chooses, after, at_each}
-use Rattle.pcal_tree.specs.Program.{Program, Actor, written, routine_scope, global_scope, pc, stack}
+use Rattle.pcal_tree.specs.Program.{Program, Actor, written, routine_scope, global_scope}
 use Rattle.pcal_tree.specs.Calls.{defaultInitValue, first_label, label_value}
-use Rattle.pcal_tree.specs.Step.{actors, identifiers}
 use Rattle.pcal_tree.specs.InitialStates.{for_each, values_for, function_on, running, is_multiprocess, empty_stack}
+use Rattle.pcal_tree.specs.Variables.{pc, stack}
+use Rattle.pcal_tree.specs.Processes.{actors, identifiers}
 
 -- a plain variable; a choice stands at its name
 abbrev pub plain_begun : Program → Scope → Place → Start → State → (Value → Course) → Course

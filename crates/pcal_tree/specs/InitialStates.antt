@@ -10,9 +10,10 @@ use Rattle.tla_value.specs.Order.{same, orders, holds, seq_from}
 use Rattle.tla_value.specs.Meaning.{eval}
 use Rattle.pcal_tree.specs.Algorithm.{Start, unset, equals, among, Declaration, Main, alone, processes, Routine, locals, procedure_routines, main_routines}
 use Rattle.pcal_tree.specs.Scope.{State, Scope, value_of, truth_at, members_at}
-use Rattle.pcal_tree.specs.Program.{Program, Actor, written, routine_scope, global_scope, pc, stack}
+use Rattle.pcal_tree.specs.Program.{Program, Actor, written, routine_scope, global_scope}
 use Rattle.pcal_tree.specs.Calls.{defaultInitValue, first_label, label_value}
-use Rattle.pcal_tree.specs.Step.{actors, identifiers}
+use Rattle.pcal_tree.specs.Variables.{pc, stack}
+use Rattle.pcal_tree.specs.Processes.{actors, identifiers}
 
 -- ---- one value
 

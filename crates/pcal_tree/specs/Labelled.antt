@@ -10,7 +10,7 @@ use Rattle.tla_expr.specs.Tree.{Word}
 use Rattle.pcal_tree.specs.declared.mark.Mark.TheVariants.{Plain}
 use Rattle.pcal_tree.specs.Algorithm.{Span, Statement, branch, either, with, while, Statements, done, then, mark, Branches, no_branches, or, Macro, Procedure, Process, Main, alone, processes, Algorithm}
 use Rattle.pcal_tree.specs.Paths.{Effects, nothing, after_one}
-use Rattle.pcal_tree.specs.OffencesSteps.{Before, at_label, at_first, inside, next, visits_inside, offences_at, procedure_effects, outer_effects}
+use Rattle.pcal_tree.specs.OffencesSteps.{Before, at_label, at_first, inside, next, visits_inside, offences_at, call_effect, procedure_effects, outer_effects}
 use Rattle.pcal_tree.specs.OffencesLabels.{label_words}
 
 -- ---- names of added labels
@@ -92,17 +92,17 @@ add_to_macros s (d ∷ ds) go =
 abbrev pub add_to_procedures : {R : Type 0} → List Macro → Supply → List Procedure → (List Procedure → Supply → R) → R
 add_to_procedures ms s [] go = go [] s
 add_to_procedures ms s (p ∷ ps) go =
-    add (procedure_effects ms p) (at_first (Some FirstLabel)) s p.body (λ b t.
+    add (procedure_effects (call_effect ms) p) (at_first (Some FirstLabel)) s p.body (λ b t.
     add_to_procedures ms t ps (λ qs u. go (record { name = p.name; params = p.params; variables = p.variables; body = b } ∷ qs) u))
 
 abbrev pub add_to_processes : {R : Type 0} → List Macro → Supply → List Process → (List Process → R) → R
 add_to_processes ms s [] go = go []
 add_to_processes ms s (p ∷ ps) go =
-    add (outer_effects ms) (at_first (Some FirstLabel)) s p.body (λ b t.
+    add (outer_effects (call_effect ms)) (at_first (Some FirstLabel)) s p.body (λ b t.
     add_to_processes ms t ps (λ qs. go (record { name = p.name; fairness = p.fairness; several = p.several; identity = p.identity; variables = p.variables; body = b } ∷ qs)))
 
 abbrev pub add_to_main : {R : Type 0} → List Macro → Supply → Main → (Main → R) → R
-add_to_main ms s (alone b) go = add (outer_effects ms) (at_first (Some FirstLabel)) s b (λ c t. go (alone c))
+add_to_main ms s (alone b) go = add (outer_effects (call_effect ms)) (at_first (Some FirstLabel)) s b (λ c t. go (alone c))
 add_to_main ms s (processes ps) go = add_to_processes ms s ps (λ qs. go (processes qs))
 
 abbrev pub labels_of_main : Main → List Word

@@ -6,15 +6,18 @@ pub mod Run
 pub mod Choices
 pub mod StepStart
 pub mod Program
+pub mod Variables
 pub mod Calls
+pub mod Processes
 pub mod Step
+pub mod Faults
+pub mod FirstTrouble
 pub mod InitialStates
 pub mod InitialChoice
 pub mod Script
 pub mod Expand
 pub mod Marks
 pub mod Names
-pub mod Clean
 pub mod GrammarView
 pub mod GrammarParts
 pub mod GrammarP
@@ -29,4 +32,4 @@ pub mod Labelled
 pub mod Outside
 pub mod OffencesNames
 pub mod OffencesReserved
-pub mod Apart
+pub mod laws

@@ -6,10 +6,11 @@ use Rattle.tla_token.specs.Signs.{is_among}
 use Rattle.tla_token.specs.Words.{is_reserved, is_own, is_standard}
 use Rattle.tla_expr.specs.Tree.{Word}
 use Rattle.pcal_tree.specs.Algorithm.{Assignments, no_assignments, assignment, Binds, no_binds, one_of, is, Statement, assign, await, print, assert, skip, branch, either, with, while, goto, macro, call, return, Statements, done, then, mark, Branches, no_branches, or, Start, unset, equals, among, Declaration, Procedure, Process, Main, alone, processes, Algorithm, Routine, locals, procedure_routines, main_routines, Naming}
-use Rattle.pcal_tree.specs.Program.{words, declared}
+use Rattle.pcal_tree.specs.Program.{words}
 use Rattle.pcal_tree.specs.OffencesLabels.{label_words}
 use Rattle.tla_value.specs.Outside.{Outside}
 use Rattle.pcal_tree.specs.Outside.{unit_names, bound_in, bound_in_all, bound_outside}
+use Rattle.pcal_tree.specs.Variables.{declared}
 
 -- ---- names that an algorithm binds: in expressions and by `with`
 

@@ -5,10 +5,11 @@ use Rattle.tla_token.specs.declared.place.Place.{Place}
 use Rattle.tla_token.specs.declared.rule.Rule.TheVariants.{LabelInside, UnknownLabel, ReturnOutside, DoubleLabel}
 use Rattle.tla_token.specs.declared.rule.Refusal.{Refusal}
 use Rattle.tla_token.specs.Signs.{is_among}
-use Rattle.tla_expr.specs.Tree.{Word}
+use Rattle.tla_expr.specs.Tree.{Word, Trees}
 use Rattle.pcal_tree.specs.Algorithm.{Name, Statement, branch, either, with, while, goto, call, return, Statements, done, then, mark, Branches, no_branches, or, Macro, Procedure, Main, alone, processes, Algorithm}
 use Rattle.pcal_tree.specs.Offences.{offence_if}
-use Rattle.pcal_tree.specs.OffencesSteps.{missing_in_macro, missing_in_body, procedure_effects, outer_effects}
+use Rattle.pcal_tree.specs.Paths.{Effect}
+use Rattle.pcal_tree.specs.OffencesSteps.{call_effect, missing_in_macro, missing_in_body, procedure_effects, outer_effects}
 
 -- ---- labels and jumps where none may be
 
@@ -89,18 +90,20 @@ misplaced macro procedure b =
 abbrev pub of_macro : Macro → List Refusal
 of_macro d = missing_in_macro d ++ misplaced true false d.body
 
-abbrev pub of_procedure : List Macro → Procedure → List Refusal
-of_procedure ms p = missing_in_body (procedure_effects ms p) p.body ++ misplaced false true p.body
+-- where macro calls assign what C says
+abbrev pub of_procedure : (Word → Trees → Effect) → Procedure → List Refusal
+of_procedure C p = missing_in_body (procedure_effects C p) p.body ++ misplaced false true p.body
 
-abbrev pub of_body : List Macro → Statements → List Refusal
-of_body ms b = missing_in_body (outer_effects ms) b ++ misplaced false false b
+abbrev pub of_body : (Word → Trees → Effect) → Statements → List Refusal
+of_body C b = missing_in_body (outer_effects C) b ++ misplaced false false b
 
-abbrev pub of_main : List Macro → Main → List Refusal
-of_main ms (alone b) = of_body ms b
-of_main ms (processes ps) = flat_map (λ p. of_body ms p.body) ps
+abbrev pub of_main : (Word → Trees → Effect) → Main → List Refusal
+of_main C (alone b) = of_body C b
+of_main C (processes ps) = flat_map (λ p. of_body C p.body) ps
+
+abbrev pub label_offences_by : (Word → Trees → Effect) → Algorithm → List Refusal
+label_offences_by C a = flat_map of_macro a.macros ++ (flat_map (of_procedure C) a.procedures ++ of_main C a.main)
 
 -- against the rules on labels and on what is assigned twice; those of one rule stand in the order of the text
 abbrev pub label_offences : Algorithm → List Refusal
-label_offences a =
-    flat_map of_macro a.macros
-    ++ (flat_map (of_procedure (reverse a.macros)) a.procedures ++ of_main (reverse a.macros) a.main)
+label_offences a = label_offences_by (call_effect (reverse a.macros)) a

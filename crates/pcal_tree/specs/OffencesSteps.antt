@@ -7,11 +7,11 @@ use Rattle.tla_token.specs.declared.rule.Rule.TheVariants.{FirstLabel, WhileLabe
 use Rattle.tla_token.specs.declared.rule.Refusal.{Refusal}
 use Rattle.tla_expr.specs.Tree.{Word, Trees}
 use Rattle.pcal_tree.specs.Algorithm.{Name, Statement, branch, either, with, while, goto, macro, call, return, Statements, done, then, mark, Branches, no_branches, or, Macro, Procedure}
-use Rattle.pcal_tree.specs.Program.{declared}
 use Rattle.pcal_tree.specs.Run.{arguments}
 use Rattle.pcal_tree.specs.Expand.{graft_all}
 use Rattle.pcal_tree.specs.Offences.{offence, offence_if}
 use Rattle.pcal_tree.specs.Paths.{Effect, Effects, sets_once, nothing, assigned, Path, after_one, is_reached, has_assigned}
+use Rattle.pcal_tree.specs.Variables.{declared}
 
 -- ---- where labels must be
 
@@ -140,17 +140,17 @@ call_effect (d ∷ older) m ts =
 
 -- in a procedure of this name with these parameters and variables, or outside one; `call` assigns those of its procedure, and those of
 -- another one are assigned by nothing else in the step
-abbrev pub effects_in : List Macro → Option Name → List Word → Effects
-effects_in ms p xs (macro m ts) = call_effect ms m ts
-effects_in ms (Some p) xs (call q ts) = cond (bytes_eq p.word q.word) (sets_once xs) nothing
-effects_in ms p xs return = sets_once xs
-effects_in ms p xs st = assigned st
+abbrev pub effects_in : (Word → Trees → Effect) → Option Name → List Word → Effects
+effects_in C p xs (macro m ts) = C m ts
+effects_in C (Some p) xs (call q ts) = cond (bytes_eq p.word q.word) (sets_once xs) nothing
+effects_in C p xs return = sets_once xs
+effects_in C p xs st = assigned st
 
-abbrev pub procedure_effects : List Macro → Procedure → Effects
-procedure_effects ms p = effects_in ms (Some p.name) (declared (p.params ++ p.variables))
+abbrev pub procedure_effects : (Word → Trees → Effect) → Procedure → Effects
+procedure_effects C p = effects_in C (Some p.name) (declared (p.params ++ p.variables))
 
-abbrev pub outer_effects : List Macro → Effects
-outer_effects ms = effects_in ms None []
+abbrev pub outer_effects : (Word → Trees → Effect) → Effects
+outer_effects C = effects_in C None []
 
 -- what a macro assigns is looked at where it is called alone
 abbrev pub missing_in_macro : Macro → List Refusal

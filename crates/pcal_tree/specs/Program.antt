@@ -92,17 +92,3 @@ routine_scope P v u = record {
 -- outside all routines
 abbrev pub global_scope : Program → Scope
 global_scope P = record { env = global_env P; part = λ x at s. global_part P x; origin = λ x at. at }
-
--- ---- the variables of the translation
-
-abbrev pub pc : Word
-pc = codes "pc"
-
-abbrev pub stack : Word
-stack = codes "stack"
-
-abbrev pub declared : List Declaration → List Word
-declared ds = map (λ d. d.name.word) ds
-
-abbrev pub written_all : Program → Routine → List Declaration → List Word
-written_all P u ds = map (written P u) (declared ds)

@@ -1,21 +1,29 @@
 //! Laws of what algorithms mean, stated as what functions without a body ensure.
 
-ghost use Rattle.std.specs.Prelude.{◌≡◌, ℕ, List, [], Bool, Some, None};
-ghost use Rattle.tla_expr.specs.Tree.{Word};
+ghost use Rattle.std.specs.Prelude.{◌≡◌, ℕ, List, [], Bool, Some, None, reverse};
+ghost use Rattle.tla_token.specs.Signs.{is_among};
+ghost use Rattle.tla_expr.specs.Tree.{Word, Trees};
 ghost use Rattle.pcal_tree.specs.Algorithm.{Statements, Macro, Algorithm};
 ghost use Rattle.pcal_tree.specs.Expand.{expanded};
-ghost use Rattle.pcal_tree.specs.Clean.{Calls, FineCall, Free};
 ghost use Rattle.pcal_tree.specs.Scope.{State, Scope};
 ghost use Rattle.pcal_tree.specs.Run.{Course, Has, Rules, Follow, run, with_macros};
-ghost use Rattle.pcal_tree.specs.Choices.{walk, told, landing, first_trouble};
+ghost use Rattle.pcal_tree.specs.Choices.{walk, first_trouble};
 ghost use Rattle.pcal_tree.specs.Program.{Program, Actor};
-ghost use Rattle.pcal_tree.specs.Step.{Proper, Sound, IsActor, StandsOnce, FirstTrouble};
 ghost use Rattle.tla_value.specs.Outside.{Outside};
 ghost use Rattle.pcal_tree.specs.OffencesReserved.{reserved_declared};
+ghost use Rattle.pcal_tree.specs.OffencesSteps.{call_effect};
+ghost use Rattle.pcal_tree.specs.OffencesLabels.{label_offences, label_offences_by};
+ghost use Rattle.pcal_tree.specs.laws.MacroSummaries.{summaries, summary_effect};
 ghost use Rattle.pcal_tree.specs.Labelled.{labelled};
 ghost use Rattle.pcal_tree.specs.Names.{given, naming};
-ghost use Rattle.pcal_tree.specs.Apart.{FewNames, Apart, New, Untaken, AreNames, NoEndLabels};
+ghost use Rattle.pcal_tree.specs.laws.Apart.{FewNames, Apart, New, Untaken, AreNames, NoEndLabels};
 ghost use Rattle.tla_value.specs.Value.{Trouble, Outcome};
+ghost use Rattle.pcal_tree.specs.laws.Expansion.{Calls, FineCall, Free};
+ghost use Rattle.pcal_tree.specs.laws.Choosing.{told, landing};
+ghost use Rattle.pcal_tree.specs.Processes.{Proper, IsActor};
+ghost use Rattle.pcal_tree.specs.Faults.{Sound};
+ghost use Rattle.pcal_tree.specs.laws.Steps.{StandsOnce};
+ghost use Rattle.pcal_tree.specs.FirstTrouble.{FirstTrouble};
 
 /// What a list of choices leads to is an outcome of the course, and each outcome has a list of choices that
 /// leads to it, all of them used.
@@ -60,4 +68,14 @@ pub fn processes_stand_at_one_label()
         → (s : State) (v : Actor) → IsActor P v → StandsOnce P s v }
     ensures clear { (a : Algorithm) (o : Outside) → reserved_declared a o ≡ [] → NoEndLabels a }
     ensures added { (forced : Bool) (a : Algorithm) → NoEndLabels a → NoEndLabels (labelled forced a) }
+{}
+
+/// What is computed once for each macro, from its text and from what was computed for older ones, says of each call what it assigns and
+/// whether it assigns a variable twice, as the macro's body does with the arguments in place of the parameters. So it gives the same
+/// offences against the rules on labels, in every algorithm.
+pub fn macros_are_looked_at_once()
+    ensures assigns { (ms : List Macro) (m : Word) (ts : Trees) (x : Word)
+        → is_among (call_effect ms m ts).variables x ≡ is_among (summary_effect (summaries ms) m ts).variables x }
+    ensures twice { (ms : List Macro) (m : Word) (ts : Trees) → (call_effect ms m ts).twice ≡ (summary_effect (summaries ms) m ts).twice }
+    ensures offences { (a : Algorithm) → label_offences a ≡ label_offences_by (summary_effect (summaries (reverse a.macros))) a }
 {}

@@ -5,6 +5,8 @@ pub mod SetOf
 pub mod ValueLists
 pub mod Lookups
 pub mod ValueSpelled
+pub mod Fits
+pub mod ValueWithin
 mod ValueRows
 mod RowsSeen
 pub mod StateLaws

@@ -1,0 +1,5 @@
+pub mod Apart
+pub mod MacroSummaries
+pub mod Choosing
+pub mod Expansion
+pub mod Steps
