@@ -1,26 +1,30 @@
 -- The assignments written for a call have the ends of the call, and trouble where it has trouble.
 use Rattle.std.proofs.Common.{◌≡◌, List, [], ◌∷◌, ◌++◌, ◌⊎◌, refl, sym, ◌∙◌, ap, subst, inl, inr, ⊎_elim, Ok, Err}
+use Rattle.std.specs.Option.{ok_or}
+use Rattle.tla_expr.specs.declared.op.Op.TheVariants.{Concat}
 use Rattle.tla_token.specs.declared.place.Place.{Place}
-use Rattle.tla_expr.specs.Tree.{Word, Each, name, Tree, node, Trees, no_trees, tree}
-use Rattle.tla_value.specs.Value.{Value, text, Trouble, Outcome, ◌>>=◌}
-use Rattle.tla_value.specs.Order.{seq_from, sequence_of}
-use Rattle.tla_value.specs.Stops.{Check, plain, on_list}
-use Rattle.tla_value.specs.Meaning.{Env, Denotation, on_all, eval, evals}
+use Rattle.tla_expr.specs.Tree.{Word, Each, name, Tree, node, Trees, no_trees, tree, operator, tuple, fields}
+use Rattle.tla_value.specs.Value.{Value, text, Trouble, Outcome, ◌>>=◌, IsBad, fault}
+use Rattle.tla_value.specs.Order.{seq_from}
+use Rattle.tla_value.specs.Stops.{Check, plain, sequence_at}
+use Rattle.tla_value.specs.Meaning.{eval, evals, part_values}
+use Rattle.tla_value.specs.declared.fault.FaultKind.TheVariants.{NotSequence}
 use Rattle.tla_value.proofs.OrderFuns.{sequence_of_seq}
+use Rattle.tla_value.specs.Strict.{strict_value}
 use Rattle.pcal_tree.specs.Algorithm.{Declaration, Routine, locals, Assignments, Statements, then, assign}
-use Rattle.pcal_tree.specs.Scope.{State, all_valued, Scope, root_place, place_of, places_of, value_of}
+use Rattle.pcal_tree.specs.Scope.{State, Scope, root_place, place_of, places_of, value_of}
 use Rattle.pcal_tree.specs.Assign.{Setting, set_one, set_all, settings, moved}
 use Rattle.pcal_tree.specs.Run.{Has, after, Rules, unlabelled, run}
 use Rattle.pcal_tree.specs.Program.{Program, Actor, index, local_index, read_at, written}
-use Rattle.pcal_tree.specs.Calls.{setting, frames_at, initial_value, initial_place, all_read, frame, on_stack, argument_settings, variables_started, entered, label_value, label_name, first_label, finished}
-use Rattle.action_builder.specs.Action.{IsBad}
-use Rattle.action_builder.specs.Contract.{to_end}
-use Rattle.action_builder.specs.Settled.{Close}
-use Rattle.action_builder.specs.Moved.{name_at, spot, one_move, jump_written, names_at, stack_pushed, arguments_moved, variables_written, call_written, StandsAtPath, Machine, Initials, AsMany}
+use Rattle.pcal_tree.specs.Calls.{setting, initial_value, initial_place, all_read, frame, on_stack, argument_settings, variables_started, entered, label_value, label_name, first_label, finished, frame_fields}
+use Rattle.action_builder.specs.laws.Settling.{to_end, Close}
+use Rattle.action_builder.specs.Jumps.{name_at, spot, one_move, jump_written, names_at, stack_pushed, arguments_moved, variables_written, call_written}
+use Rattle.action_builder.specs.laws.Scopes.{StandsAtPath}
+use Rattle.action_builder.specs.laws.Jumps.{Machine, Initials, AsMany}
 use Rattle.action_builder.proofs.Denotations.{on_both}
 use Rattle.action_builder.proofs.Settle.{close_refl}
-use Rattle.action_builder.proofs.Moved.{one_moved, listed, pc_law}
-use Rattle.tla_value.proofs.Outcomes.{then_ok, then_then}
+use Rattle.action_builder.proofs.Moved.{one_moved, pc_law}
+use Rattle.tla_value.proofs.Outcomes.{then_two, then_ok, then_then}
 use Rattle.pcal_tree.specs.Variables.{written_all, pc, stack}
 
 -- ---- the same result, or neither has one
@@ -78,40 +82,47 @@ place_is : (t : Tree) (sc : Scope) → ((x : Word) (at : Place) → sc.origin x 
 place_is (node (name x) at ts) sc o = sym (o x at)
 place_is (node m at ts) sc o = refl
 
-arguments_law : (c : Check) (path : List Value) (sc : Scope) → ((x : Word) (at : Place) → sc.origin x at ≡ at) → (xs : List Word) (ts : Trees) → AsMany xs ts → Each (StandsAtPath sc path) xs → (s : State) → settings c (arguments_moved xs ts) sc s ≡ (all_valued (evals c ts) (sc.env s)) >>= (λ vs. Ok (argument_settings path xs (places_of ts sc) vs))
+arguments_law : (c : Check) (path : List Value) (sc : Scope) → ((x : Word) (at : Place) → sc.origin x at ≡ at) → (xs : List Word) (ts : Trees) → AsMany xs ts → Each (StandsAtPath sc path) xs → (s : State) → settings c (arguments_moved xs ts) sc s ≡ (part_values (evals c ts) (sc.env s)) >>= (λ vs. Ok (argument_settings path xs (places_of ts sc) vs))
 arguments_law c path sc o [] no_trees m e s = refl
 arguments_law c path sc o [] (tree t ts) m e s = absurd m
 arguments_law c path sc o (x ∷ xs) no_trees m e s = absurd m
 arguments_law c path sc o (x ∷ xs) (tree t ts) m e s =
     (λ i. ((e.0 (root_place t) s).0 i) >>= (λ r. (value_of c t sc s) >>= (λ w. (settings c (arguments_moved xs ts) sc s) >>= (λ rest. Ok (record { place = place_is t sc o i; part = r; value = w } ∷ rest)))))
     ∙ (λ i. (value_of c t sc s) >>= (λ w. (arguments_law c path sc o xs ts m e.1 s i) >>= (λ rest. Ok (setting (place_of t sc) x path w ∷ rest))))
-    ∙ (λ i. (value_of c t sc s) >>= (λ w. then_then (all_valued (evals c ts) (sc.env s)) (λ vs. Ok (argument_settings path xs (places_of ts sc) vs)) (λ rest. Ok (setting (place_of t sc) x path w ∷ rest)) i))
-    ∙ sym (on_both (value_of c t sc s) (λ w. all_valued (evals c ts) (sc.env s)) (λ w vs. w ∷ vs) (λ vs. Ok (argument_settings path (x ∷ xs) (place_of t sc ∷ places_of ts sc) vs)))
+    ∙ (λ i. (value_of c t sc s) >>= (λ w. then_then (part_values (evals c ts) (sc.env s)) (λ vs. Ok (argument_settings path xs (places_of ts sc) vs)) (λ rest. Ok (setting (place_of t sc) x path w ∷ rest)) i))
+    ∙ sym (on_both (value_of c t sc s) (λ w. part_values (evals c ts) (sc.env s)) (λ w vs. w ∷ vs) (λ vs. Ok (argument_settings path (x ∷ xs) (place_of t sc ∷ places_of ts sc) vs)))
 
 -- ---- the new stack
 
-names_law : (path : List Value) (sc : Scope) (at : Place) (xs : List Word) → Each (StandsAtPath sc path) xs → (s : State) (go : List Value → Outcome Value) → on_all (evals plain (names_at at xs)) (sc.env s) go ≡ (all_read at path xs s) >>= go
-names_law path sc at [] e s go = refl
-names_law path sc at (x ∷ xs) e s go =
-    (λ i. ((e.0 at s).1 i).value >>= (λ w. names_law path sc at xs e.1 s (λ vs. go (w ∷ vs)) i))
-    ∙ sym (on_both (read_at at path (s x)) (λ w. all_read at path xs s) (λ w vs. w ∷ vs) go)
+names_law : (path : List Value) (sc : Scope) (at : Place) (xs : List Word) → Each (StandsAtPath sc path) xs → (s : State) → part_values (evals plain (names_at at xs)) (sc.env s) ≡ all_read at path xs s
+names_law path sc at [] e s = refl
+names_law path sc at (x ∷ xs) e s = λ i. ((e.0 at s).1 i).value >>= (λ w. names_law path sc at xs e.1 s i >>= (λ ws. Ok (w ∷ ws)))
 
 -- <<front>> \o stack
 abbrev put_before : Place → Value → Value → Outcome Value
-put_before at a b = (on_list at (sequence_of a) (λ xs. on_list at (sequence_of b) (λ ys. Ok (seq_from (xs ++ ys))))) >>= (plain at)
+put_before at a b = (sequence_at at a >>= (λ xs. sequence_at at b >>= (λ ys. Ok (seq_from (xs ++ ys))))) >>= (plain at)
 
 before_law : (v : Actor) (sc : Scope) → StandsAtPath sc (index v.self) stack → (at : Place) (s : State) (front : Value) → ((sc.env s).now stack at).value >>= (put_before at (seq_from (front ∷ []))) ≡ (on_stack v at s) >>= (λ frames. Ok (seq_from (front ∷ frames)))
 before_law v sc h at s front =
-    (λ i. ((h at s).1 i).value >>= (λ b. (on_list at (sequence_of_seq (front ∷ []) i) (λ xs. on_list at (sequence_of b) (λ ys. Ok (seq_from (xs ++ ys))))) >>= (plain at)))
-    ∙ (λ i. (read_at at (index v.self) (s stack)) >>= (λ b. then_ok (on_list at (sequence_of b) (λ ys. Ok (seq_from (front ∷ ys)))) i))
-    ∙ (λ i. (read_at at (index v.self) (s stack)) >>= (λ b. listed (sequence_of b) at (λ ys. Ok (seq_from (front ∷ ys))) i))
-    ∙ sym (then_then (read_at at (index v.self) (s stack)) (λ b. frames_at at (sequence_of b)) (λ ys. Ok (seq_from (front ∷ ys))))
+    (λ i. ((h at s).1 i).value >>= (λ b. (ok_or (sequence_of_seq (front ∷ []) i) (fault NotSequence at) >>= (λ xs. sequence_at at b >>= (λ ys. Ok (seq_from (xs ++ ys))))) >>= (plain at)))
+    ∙ (λ i. (read_at at (index v.self) (s stack)) >>= (λ b. then_ok (sequence_at at b >>= (λ ys. Ok (seq_from (front ∷ ys)))) i))
+    ∙ sym (then_then (read_at at (index v.self) (s stack)) (sequence_at at) (λ ys. Ok (seq_from (front ∷ ys))))
+
+-- what the new stack is of the kept values and the old one
+abbrev pushed : Program → Routine → Place → Word → Outcome (List Value) → Outcome Value → Outcome Value
+pushed P p at back olds old =
+    let fields_of = ((olds >>= (λ ws. Ok (text back ∷ ws))) >>= (λ ws. Ok (text (P.naming.title p.number) ∷ ws))) >>= strict_value plain (fields (frame_fields P p)) at in
+    let front = (fields_of >>= (λ f. Ok (f ∷ []))) >>= strict_value plain tuple at in
+    (front >>= (λ a. (old >>= (λ b. Ok (b ∷ []))) >>= (λ rest. Ok (a ∷ rest)))) >>= strict_value plain (operator Concat) at
+
+pushed_is : (P : Program) (p : Routine) (at : Place) (back : Word) (olds : Outcome (List Value)) (old : Outcome Value) → pushed P p at back olds old ≡ olds >>= (λ ws. old >>= (put_before at (seq_from (frame P p (text back) ws ∷ []))))
+pushed_is P p at back (Ok ws) old = then_two (Ok (seq_from (frame P p (text back) ws ∷ []))) old (strict_value plain (operator Concat) at)
+pushed_is P p at back (Err k) old = refl
 
 pushed_law : (P : Program) (v : Actor) (p : Routine) (sc : Scope) → Machine P v p sc → (at : Place) (back : Word) (s : State) → (eval plain (stack_pushed P p at back) (sc.env s)).value ≡ (all_read at (local_index v p) (written_all P p (locals p)) s) >>= (λ olds. (on_stack v at s) >>= (λ frames. Ok (seq_from (frame P p (text back) olds ∷ frames))))
 pushed_law P v p sc m at back s =
-    then_then (on_all (evals plain (names_at at (written_all P p (locals p)))) (sc.env s) (λ olds. Ok (frame P p (text back) olds))) (λ f. Ok (seq_from (f ∷ []))) (λ a. ((sc.env s).now stack at).value >>= (put_before at a))
-    ∙ (λ i. (names_law (local_index v p) sc at (written_all P p (locals p)) m.own s (λ olds. Ok (frame P p (text back) olds)) i) >>= (λ f. ((sc.env s).now stack at).value >>= (put_before at (seq_from (f ∷ [])))))
-    ∙ then_then (all_read at (local_index v p) (written_all P p (locals p)) s) (λ olds. Ok (frame P p (text back) olds)) (λ f. ((sc.env s).now stack at).value >>= (put_before at (seq_from (f ∷ []))))
+    (λ i. pushed P p at back (names_law (local_index v p) sc at (written_all P p (locals p)) m.own s i) ((sc.env s).now stack at).value)
+    ∙ pushed_is P p at back (all_read at (local_index v p) (written_all P p (locals p)) s) ((sc.env s).now stack at).value
     ∙ (λ i. (all_read at (local_index v p) (written_all P p (locals p)) s) >>= (λ olds. before_law v sc m.stack at s (frame P p (text back) olds) i))
 
 -- ---- the order of evaluation
@@ -137,7 +148,7 @@ all_set P v p at ts sc s w vs = (set_all P.check (setting at stack (index v.self
 
 -- the law
 pub call_law : (M : Rules) (P : Program) (v : Actor) (p : Routine) (at : Place) (ts : Trees) (back : Word) (place : Declaration → Place) (initial : Declaration → Tree) (sc : Scope) → M.check ≡ P.check → P.check ≡ plain → Machine P v p sc → AsMany (written_all P p p.params) ts → Initials P v p at sc place initial p.variables → (s : State) →
-    Close (Has (run M unlabelled (call_written P p at ts back place initial) sc to_end s)) (Has (after (all_valued (evals P.check ts) (sc.env s)) (λ vs. finished (entered P v at (text back) p (places_of ts sc) vs s))))
+    Close (Has (run M unlabelled (call_written P p at ts back place initial) sc to_end s)) (Has (after (part_values (evals P.check ts) (sc.env s)) (λ vs. finished (entered P v at (text back) p (places_of ts sc) vs s))))
 call_law M P v p at ts back place initial sc q c m as_many k s =
     subst (λ z. Close (Has z) (Has (after values (λ vs. finished (entered P v at (text back) p (places_of ts sc) vs s))))) (sym left)
     (subst (λ z. Close (Has (finished (pushed >>= (λ w. values >>= (all_set P v p at ts sc s w))))) (Has z)) (sym (after_finished values (λ vs. entered P v at (text back) p (places_of ts sc) vs s)))
@@ -145,7 +156,7 @@ call_law M P v p at ts back place initial sc q c m as_many k s =
     (close_finished _ _ (swap pushed values (all_set P v p at ts sc s)))))
   where
     values : Outcome (List Value)
-    values = all_valued (evals P.check ts) (sc.env s)
+    values = part_values (evals P.check ts) (sc.env s)
 
     pushed : Outcome Value
     pushed = (eval P.check (stack_pushed P p at back) (sc.env s)).value

@@ -1,21 +1,24 @@
 -- The assignments written for a jump, a return and a call do what these do.
-use Rattle.std.proofs.Common.{◌≡◌, List, [], ◌∷◌, ◌++◌, Option, Some, None, refl, sym, ◌∙◌, ap, Ok, Err}
+use Rattle.std.proofs.Common.{◌≡◌, List, [], ◌∷◌, ◌++◌, refl, sym, ◌∙◌, ap, Ok, Err}
+use Rattle.std.specs.Prelude.{codes}
 use Rattle.tla_token.specs.declared.place.Place.{Place}
-use Rattle.tla_expr.specs.Tree.{Word, Tree, Each}
-use Rattle.tla_value.specs.Value.{Value, text, Outcome, fault, over, ◌>>=◌}
-use Rattle.tla_value.specs.Order.{seq_from, sequence_of}
-use Rattle.tla_value.specs.Stops.{Check, plain, on_list}
-use Rattle.tla_value.specs.Strict.{applied}
+use Rattle.tla_expr.specs.Tree.{Word, Tree, Each, select}
+use Rattle.tla_value.specs.Value.{Value, text, Outcome, ◌>>=◌}
+use Rattle.tla_value.specs.Order.{seq_from}
+use Rattle.tla_value.specs.Stops.{Check, plain, sequence_at}
+use Rattle.tla_value.specs.Strict.{applied, strict_value}
 use Rattle.tla_value.specs.Standard.{headed, tailed}
-use Rattle.tla_value.specs.Meaning.{called, eval}
+use Rattle.tla_value.specs.Meaning.{called, part_values, eval}
 use Rattle.pcal_tree.specs.Algorithm.{Routine, locals}
 use Rattle.pcal_tree.specs.Scope.{State, Scope, value_of}
 use Rattle.pcal_tree.specs.Assign.{Setting, set_one, set_all, settings, moved}
 use Rattle.pcal_tree.specs.Run.{ends, after, Rules, unlabelled, run}
 use Rattle.pcal_tree.specs.Program.{Program, Actor, index, local_index, read_at}
-use Rattle.pcal_tree.specs.Calls.{label_name, setting, jumped, frames_at, on_stack, fields_read, part_settings, restored, returned, finished}
-use Rattle.action_builder.specs.Contract.{to_end}
-use Rattle.action_builder.specs.Moved.{name_at, text_at, one_move, jump_written, kept_field, stack_rest, fields_moved, return_moves, StandsAtPath, Machine}
+use Rattle.pcal_tree.specs.Calls.{label_name, setting, jumped, on_stack, fields_read, part_settings, restored, returned, finished}
+use Rattle.action_builder.specs.laws.Settling.{to_end}
+use Rattle.action_builder.specs.Jumps.{name_at, text_at, one_move, jump_written, kept_field, stack_rest, fields_moved, return_moves}
+use Rattle.action_builder.specs.laws.Scopes.{StandsAtPath}
+use Rattle.action_builder.specs.laws.Jumps.{Machine}
 use Rattle.tla_value.proofs.Outcomes.{then_ok, then_then}
 use Rattle.action_builder.proofs.Denotations.{on_both}
 use Rattle.pcal_tree.specs.Variables.{written_all, pc, stack}
@@ -45,25 +48,24 @@ jump_law M P v u l sc h s q = pc_law M P v v.own.name.place (label_name P u l) s
 
 -- ---- a return
 
-pub listed : (o : Option (List Value)) (at : Place) (go : List Value → Outcome Value) → on_list at o go ≡ (frames_at at o) >>= go
-listed None at go = refl
-listed (Some vs) at go = refl
-
 -- of the records on the stack
 field_law : (P : Program) (v : Actor) (p : Routine) (sc : Scope) → Machine P v p sc → (at : Place) (x : Word) (s : State)
     → (eval P.check (kept_field at x) (sc.env s)).value ≡ (on_stack v at s) >>= (λ frames. (headed at frames) >>= (λ front. applied at front (text x)))
 field_law P v p sc m at x s =
-    (λ i. (((sc.env s).now stack at).value >>= (λ st. (called at (m.head s i) (st ∷ [])).value)) >>= (λ f. applied at f (text x)))
-    ∙ (λ i. (((m.stack at s).1 i).value >>= (λ st. listed (sequence_of st) at (headed at) i)) >>= (λ f. applied at f (text x)))
-    ∙ (λ i. (sym (then_then (read_at at (index v.self) (s stack)) (λ st. frames_at at (sequence_of st)) (headed at)) i) >>= (λ f. applied at f (text x)))
+    then_then (part_values ((λ e. e.now stack at) ∷ []) (sc.env s) >>= (λ us. (called at ((sc.env s).defs (codes "Head")) us).value)) (λ f. Ok (f ∷ [])) (strict_value P.check (select x) at)
+    ∙ (λ i. then_then ((sc.env s).now stack at).value (λ st. Ok (st ∷ [])) (λ us. (called at ((sc.env s).defs (codes "Head")) us).value) i >>= (λ f. applied at f (text x)))
+    ∙ (λ i. (((sc.env s).now stack at).value >>= (λ st. (called at (m.head s i) (st ∷ [])).value)) >>= (λ f. applied at f (text x)))
+    ∙ (λ i. (((m.stack at s).1 i).value >>= (λ st. sequence_at at st >>= headed at)) >>= (λ f. applied at f (text x)))
+    ∙ (λ i. (sym (then_then (read_at at (index v.self) (s stack)) (sequence_at at) (headed at)) i) >>= (λ f. applied at f (text x)))
     ∙ then_then (on_stack v at s) (headed at) (λ f. applied at f (text x))
 
 rest_law : (P : Program) (v : Actor) (p : Routine) (sc : Scope) → Machine P v p sc → (at : Place) (s : State)
     → (eval P.check (stack_rest at) (sc.env s)).value ≡ (on_stack v at s) >>= (tailed P.check at)
 rest_law P v p sc m at s =
-    (λ i. ((sc.env s).now stack at).value >>= (λ st. (called at (m.tail s i) (st ∷ [])).value))
-    ∙ (λ i. ((m.stack at s).1 i).value >>= (λ st. listed (sequence_of st) at (tailed P.check at) i))
-    ∙ sym (then_then (read_at at (index v.self) (s stack)) (λ st. frames_at at (sequence_of st)) (tailed P.check at))
+    then_then ((sc.env s).now stack at).value (λ st. Ok (st ∷ [])) (λ us. (called at ((sc.env s).defs (codes "Tail")) us).value)
+    ∙ (λ i. ((sc.env s).now stack at).value >>= (λ st. (called at (m.tail s i) (st ∷ [])).value))
+    ∙ (λ i. ((m.stack at s).1 i).value >>= (λ st. sequence_at at st >>= tailed P.check at))
+    ∙ sym (then_then (read_at at (index v.self) (s stack)) (sequence_at at) (tailed P.check at))
 
 -- the assignments of the kept values and of the stack, which is known to hold these records
 own_law : (P : Program) (v : Actor) (p : Routine) (sc : Scope) → Machine P v p sc → P.check ≡ plain → (at : Place) (s : State) (front : Value) (frames : List Value) → on_stack v at s ≡ Ok (front ∷ frames) → (xs : List Word) → Each (StandsAtPath sc (local_index v p)) xs

@@ -1,25 +1,24 @@
 -- The prepared statements have the ends of the statements as they stand, and trouble where these have trouble.
 use Rattle.std.proofs.Common.{◌≡◌, List, [], ◌∷◌, Bool, true, false, cond, Some, None, refl, sym, ◌∙◌, subst, Ok, Err}
 use Rattle.tla_token.specs.declared.place.Place.{Place}
-use Rattle.tla_expr.specs.Tree.{Word, name, node, no_trees}
-use Rattle.tla_value.specs.Value.{Value, Outcome, fault, over, ◌>>=◌}
-use Rattle.tla_value.specs.Stops.{Check, tested, sense_of}
-use Rattle.tla_value.specs.Strict.{applied}
-use Rattle.tla_value.specs.Meaning.{just, eval}
+use Rattle.tla_expr.specs.Tree.{Word, apply, name, node, no_trees}
+use Rattle.tla_value.specs.Value.{Value, Outcome, Sense, fault, over, ◌>>=◌}
+use Rattle.tla_value.specs.Stops.{Check, sense_of}
+use Rattle.tla_value.specs.Strict.{applied, strict_value, strict_test}
+use Rattle.tla_value.specs.Meaning.{just, eval, part_values}
 use Rattle.tla_value.specs.Grafts.{owned, own_part, read_tree}
 use Rattle.pcal_tree.specs.Algorithm.{Statements}
-use Rattle.pcal_tree.specs.Scope.{State, all_valued, deeper, Scope, reach_in}
+use Rattle.pcal_tree.specs.Scope.{State, deeper, Scope, reach_in}
 use Rattle.pcal_tree.specs.Program.{read_at}
-use Rattle.pcal_tree.specs.Run.{Has, Follow, Rules, unlabelled, run, exit_to}
+use Rattle.pcal_tree.specs.Run.{Has, Follow, Rules, unlabelled, run}
 use Rattle.pcal_tree.specs.Expand.{graft_all}
 use Rattle.pcal_tree.specs.laws.Expansion.{Any, Clean, Free}
 use Rattle.pcal_tree.proofs.GraftRuns.{graft_runs}
 use Rattle.pcal_tree.proofs.ExpandRuns.{through_meets}
-use Rattle.action_builder.specs.Contract.{to_end}
-use Rattle.action_builder.specs.Effects.{part_at}
-use Rattle.action_builder.specs.Settled.{settled, Close}
-use Rattle.action_builder.specs.Moved.{StandsAtPath}
-use Rattle.action_builder.specs.laws.LabelSteps.{own_scope, Whole, own_path, LabelStep, prepared_of, Prepares, Stepped}
+use Rattle.action_builder.specs.laws.Settling.{to_end, Close}
+use Rattle.action_builder.specs.laws.Scopes.{part_at, StandsAtPath, own_scope, Whole, own_path}
+use Rattle.action_builder.specs.Settled.{settled}
+use Rattle.action_builder.specs.laws.LabelSteps.{LabelStep, prepared_of, Prepares, Stepped}
 use Rattle.tla_value.proofs.Outcomes.{then_then}
 use Rattle.action_builder.proofs.Settle.{settle_in}
 
@@ -32,7 +31,7 @@ own_parts : (c : Check) (V : Word → Bool) (self : Word) (v : Value) (own : Wor
 own_parts c V self v own sc h x m at s = by (own x) refl
   where
     by : (b : Bool) → own x ≡ b → reach_in c (cond b (Some (own_part self x at)) None) x at sc s ≡ Ok (part_at x (own_path b v))
-    by true o = (λ i. (h.part x m at s i) >>= (λ p. (all_valued (eval c (node (name self) at no_trees) ∷ []) (sc.env s)) >>= (λ ks. Ok (deeper ks p))))
+    by true o = (λ i. (h.part x m at s i) >>= (λ p. (part_values (eval c (node (name self) at no_trees) ∷ []) (sc.env s)) >>= (λ ks. Ok (deeper ks p))))
         ∙ then_then ((sc.env s).now self at).value (λ k. Ok (k ∷ [])) (λ ks. Ok (deeper ks (part_at x [])))
         ∙ (λ i. (h.identity x o at s i).value >>= (λ k. Ok (deeper (k ∷ []) (part_at x []))))
     by false o = h.part x m at s
@@ -46,11 +45,14 @@ last_read (Err (over p)) at = refl
 pub own_stands : (c : Check) (V : Word → Bool) (self : Word) (v : Value) (own : Word → Bool) (sc : Scope) → Whole V self v own sc → (x : Word) → V x ≡ true → ((at : Place) (s : State) → (sc.env s).now x at ≡ just (s x)) → StandsAtPath (own_scope c self own sc) (own_path (own x) v) x
 own_stands c V self v own sc h x m reads at s = (own_parts c V self v own sc h x m at s, by (own x) refl)
   where
+    parts : Sense → Sense → Outcome (List Value)
+    parts f k = f.value >>= (λ v. (k.value >>= (λ w. Ok (w ∷ []))) >>= (λ ws. Ok (v ∷ ws)))
+
     by : (b : Bool) → own x ≡ b → read_tree c (cond b (Some (own_part self x at)) None) x at (sc.env s) ≡ sense_of (read_at at (own_path b v) (s x))
     by true o =
         (λ i. record {
-          value = (reads at s i).value >>= (λ f. (h.identity x o at s i).value >>= (λ k. applied at f k));
-          test = λ p w. (reads at s i).value >>= (λ f. (h.identity x o at s i).value >>= (λ k. tested p w (applied at f k)));
+          value = parts (reads at s i) (h.identity x o at s i) >>= strict_value c apply at;
+          test = λ p w. parts (reads at s i) (h.identity x o at s i) >>= strict_test c apply at p w;
         }) ∙ (λ i. sense_of (last_read (applied at (s x) v) at i))
     by false o = reads at s
 

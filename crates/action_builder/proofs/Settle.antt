@@ -10,8 +10,9 @@ use Rattle.pcal_tree.specs.Algorithm.{Span, Binds, no_binds, one_of, is, Stateme
 use Rattle.pcal_tree.specs.Scope.{State, Scope, bound, test, members, value_of}
 use Rattle.pcal_tree.specs.Assign.{moved}
 use Rattle.pcal_tree.specs.Run.{Course, stops, Has, HasSome, after, at_each, held, Follow, Rules, unlabelled, label_of, run_binds, run_one, run, run_branches, exit_to}
-use Rattle.action_builder.specs.Contract.{to_end}
-use Rattle.action_builder.specs.Settled.{Moving, jumps_one, jumps, jumps_some, settled_one, settled, settled_some, Stops, EachBind, Callable, TidyOne, Tidy, TidySome, Outcomes, AnyBad, Close, CloseCourses, Does, Inner}
+use Rattle.action_builder.specs.laws.Settling.{to_end, Stops, EachBind, Callable, TidyOne, Tidy, TidySome, Outcomes, AnyBad, Close, CloseCourses, Does}
+use Rattle.action_builder.specs.Settled.{Moving, jumps_one, jumps, jumps_some, settled_one, settled, settled_some}
+use Rattle.action_builder.specs.laws.Scopes.{Inner}
 use Rattle.pcal_tree.proofs.ExpandRuns.{following}
 
 -- ---- close courses

@@ -4,7 +4,7 @@ use Rattle.tla_token.specs.Tokens.{TokAlgorithm}
 use Rattle.tla_token.proofs.Unique as token
 use Rattle.tla_expr.specs.Spelling as spelled
 use Rattle.pcal_tree.specs.Algorithm.{Algorithm}
-use Rattle.pcal_tree.specs.GrammarView.{views}
+use Rattle.pcal_tree.specs.AlgorithmTokens.{views}
 use Rattle.pcal_tree.specs.Grammar.{algorithm_of}
 use Rattle.module_text.specs.Around.{Split}
 use Rattle.first_path.specs.Form.{Parts, IsForm}

@@ -12,6 +12,7 @@ use Rattle.tla_value.specs.Order.{same}
 use Rattle.tla_value.specs.OrderLaws.{same_is, same_self}
 use Rattle.tla_value.specs.Stops.{plain}
 use Rattle.tla_value.specs.Strict.{strict_value}
+use Rattle.tla_value.proofs.Outcomes.{then_two}
 use Rattle.tla_value.specs.Meaning.{Env, just, eval}
 use Rattle.pcal_tree.specs.Names.{first_free, free_from, is_taken}
 use Rattle.module_text.specs.Truth.{and_then, Verdict, as_truth, on, on_test, is_value, TrueExactly}
@@ -76,7 +77,8 @@ pub right_evaluates : (v : Word) (w : Value) (env : Env) → StandsFor v w env �
     → (eval plain (right_tree v r p q) env).value ≡ outcome p (result r w)
 right_evaluates v w env h (single a) p q = operand_evaluates v w env h a p
 right_evaluates v w env h (sum a b) p q =
-    (λ i. (operand_evaluates v w env h a p i) >>= (λ x.
+    then_two (eval plain (operand_tree v a p) env).value (eval plain (operand_tree v b q) env).value (strict_value plain (operator Plus) p)
+    ∙ (λ i. (operand_evaluates v w env h a p i) >>= (λ x.
     (operand_evaluates v w env h b q i) >>= (λ y. strict_value plain (operator Plus) p (x ∷ y ∷ []))))
     ∙ added_is p (operand_value a w) (operand_value b w)
 
@@ -84,7 +86,7 @@ right_evaluates v w env h (sum a b) p q =
 
 -- of the variable's value and another
 tested : Place → Value → Sense → Verdict
-tested p u s = (s.value >>= (λ v. Ok (truth (same v u)))) >>= (λ v. as_truth p v Ok)
+tested p u s = ((s.value >>= (λ v. Ok (v ∷ u ∷ []))) >>= strict_value plain (operator Equal) p) >>= (λ v. as_truth p v Ok)
 
 -- x = n
 pub number_tells : (x : Word) (w : Value) (env : Env) → StandsFor x w env → (n : ℕ) (p q : Place)

@@ -8,7 +8,8 @@ use Rattle.tla_expr.specs.Tree.{Word}
 use Rattle.tla_expr.specs.Lexical as tk
 use Rattle.tla_expr.specs.Spelling.{Phrase, IsGood}
 use Rattle.pcal_tree.specs.Algorithm.{Name, Algorithm}
-use Rattle.pcal_tree.specs.GrammarView.{Token, seen, semicolon, views}
+use Rattle.tla_expr.specs.Lexical.{Token}
+use Rattle.pcal_tree.specs.AlgorithmTokens.{views}
 use Rattle.pcal_tree.specs.GrammarParts as part
 use Rattle.pcal_tree.specs.GrammarParts.{All, key, mark, expression}
 use Rattle.pcal_tree.specs.GrammarP.{sequence}
@@ -26,7 +27,7 @@ record Opened (ts : List Token) : Type 0 where
   other : (c : Bool) → bytes_eq (part.variable_word c) opener ≡ false
 
 opened_calm : (ts : List Token) → Opened ts → Calmly ts
-opened_calm ts o = subst Calmly (sym o.is) (calm_token o.place (seen (tk.reserved o.opener)) o.more refl)
+opened_calm ts o = subst Calmly (sym o.is) (calm_token o.place (tk.reserved o.opener) o.more refl)
 
 opened_sort : (ts : List Token) → Opened ts → first_sort ts ≡ 2
 opened_sort ts o = ap first_sort o.is
@@ -102,7 +103,7 @@ one_value : (k : Declared) (x : Name) (p : Place) (a : Phrase) → IsGood a → 
 one_value k x p a g r s c e =
     let d : x ≡ k.name = same_name x k.name _ _ e in
     let q : p ≡ k.equal = ap (first_place p) (ap tail e) in
-    let w = one_expression a k.value g k.good r (part.semicolon k.last s) c (calm_token k.last semicolon s refl) (ap tail (ap tail e)) in
+    let w = one_expression a k.value g k.good r (part.semicolon k.last s) c (calm_token k.last (tk.mark tk.semicolon) s refl) (ap tail (ap tail e)) in
     (d, (λ i. part.equals (q i) (w.0 i)), w.1)
 
 -- one variable alone stands before a reserved word
@@ -117,10 +118,10 @@ one_variables k (part.last_variable x (part.equals p a) None) g r o q w s e =
     let z = one_value k x p a g r (key q w s) (opened_calm r o) e in
     absurd (apart r _ (ap (λ (n : ℕ). nat_eq n 10) (opened_sort r o)) z.2)
 one_variables k (part.last_variable x (part.equals p a) (Some (part.by_comma t))) g r o q w s e =
-    let z = one_value k x p a g (mark t tk.comma r) (key q w s) (calm_token t (seen (tk.mark tk.comma)) r refl) e in
+    let z = one_value k x p a g (mark t tk.comma r) (key q w s) (calm_token t (tk.mark tk.comma) r refl) e in
     absurd (apart _ _ refl z.2)
 one_variables k (part.last_variable x (part.equals p a) (Some (part.by_semicolon t))) g r o q w s e =
-    let z = one_value k x p a g (part.semicolon t r) (key q w s) (calm_token t semicolon r refl) e in
+    let z = one_value k x p a g (part.semicolon t r) (key q w s) (calm_token t (tk.mark tk.semicolon) r refl) e in
     let d : t ≡ k.last = ap (first_place t) z.2 in
     ((λ i. part.last_variable (z.0 i) (z.1 i) (Some (part.by_semicolon (d i)))), ap tail z.2)
 one_variables k (part.variable x part.unset (part.by_semicolon p) vs) g r o q w s e = absurd (apart _ _ refl (ap tail e))
@@ -128,11 +129,11 @@ one_variables k (part.variable x part.unset (part.by_comma p) vs) g r o q w s e 
 one_variables k (part.variable x (part.among p a) t vs) g r o q w s e = absurd (apart _ _ refl (ap tail e))
 one_variables k (part.variable x (part.equals p a) (part.by_comma t) vs) g r o q w s e =
     let us : List Token = part.variables vs r in
-    let z = one_value k x p a g.0 (mark t tk.comma us) (key q w s) (calm_token t (seen (tk.mark tk.comma)) us refl) e in
+    let z = one_value k x p a g.0 (mark t tk.comma us) (key q w s) (calm_token t (tk.mark tk.comma) us refl) e in
     absurd (apart _ _ refl z.2)
 one_variables k (part.variable x (part.equals p a) (part.by_semicolon t) vs) g r o q w s e =
     let us : List Token = part.variables vs r in
-    let z = one_value k x p a g.0 (part.semicolon t us) (key q w s) (calm_token t semicolon us refl) e in
+    let z = one_value k x p a g.0 (part.semicolon t us) (key q w s) (calm_token t (tk.mark tk.semicolon) us refl) e in
     absurd (apart us (key q w s) (ap (λ (n : ℕ). nat_eq n 2) (variables_first vs r)) (ap tail z.2))
 
 same_declares : (c d : Bool) → part.variable_word c ≡ part.variable_word d → c ≡ d

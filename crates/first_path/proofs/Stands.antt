@@ -11,7 +11,7 @@ use Rattle.tla_token.specs.Tokens.{Piece, blank, lexeme, text_of, Token, AllFit,
 use Rattle.tla_token.proofs.Spelled.{begins, begins_from, same_bytes}
 use Rattle.tla_token.proofs.Signed.{tells_other}
 use Rattle.tla_expr.specs.Tree.{Word}
-use Rattle.pcal_tree.specs.GrammarView as view
+use Rattle.pcal_tree.specs.AlgorithmTokens as view
 use Rattle.pcal_tree.specs.GrammarParts.{variable_word}
 use Rattle.pcal_tree.specs.Grammar.{spell}
 use Rattle.module_text.specs.Around.{Text, first_is, line_of, on_some, plain, Found, seek, past_title, begins_algorithm, past_p, past_c, is_braced, past_algorithm, Split, algorithm_in}

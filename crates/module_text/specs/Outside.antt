@@ -1,12 +1,13 @@
 -- Units outside the translation: which are read, and what is kept of those that are not ("Specifying Systems", sections 17.1 to 17.5; standard modules, chapter 18).
 use Rattle.std.specs.Prelude.{◌≡◌, ◌⊎◌, ℕ, ◌+◌, ◌^◌, max, ◌&&◌, ◌||◌, not, Bool, true, false, nat_lt, nat_le, nat_eq, bytes_eq, IsTrue, List, [], ◌∷◌, ◌++◌, length, Option, Some, None, codes, cond}
+use Rattle.std.specs.List.{flat_map}
 use Rattle.tla_token.specs.declared.place.Place.{Place}
 use Rattle.tla_token.specs.Places.{start}
 use Rattle.tla_token.specs.Signs.{is_among}
 use Rattle.tla_token.specs.Words.{is_standard}
 use Rattle.tla_expr.specs.declared.op.Op.{Op}
 use Rattle.tla_expr.specs.declared.op.Op.TheVariants as op
-use Rattle.tla_expr.specs.Tree.{Word, Name, Form, number, strings, name, next, strict, operator, operator_call, member, binding, local, Tree, node, Trees, no_trees, tree, binders}
+use Rattle.tla_expr.specs.Tree.{Word, Name, Form, number, strings, name, next, strict, operator, operator_call, member, binding, local, Tree, node, Trees, no_trees, tree, words, seen_names}
 use Rattle.tla_expr.specs.Lexical.{mark}
 use Rattle.tla_expr.specs.Lexical as tk
 use Rattle.tla_expr.specs.Spelling.{Phrase, Right, Good}
@@ -109,23 +110,27 @@ form_reads v bs inf (name x) n = is_among bs x || (is_among v.constants x || (is
 form_reads v bs inf (next x) n = false
 form_reads v bs inf (operator_call f) n = is_arity (arity v.earlier f) n || has_standard v inf f n
 form_reads v bs inf (strict (operator o)) n = has_operator v o
-form_reads v bs inf (binding b xs) n = are_fresh v bs xs
-form_reads v bs inf (local x) n = is_fresh v bs x
+form_reads v bs inf (binding b groups) n = are_fresh v bs (flat_map words groups)
+form_reads v bs inf (local xs) n = are_fresh v bs (words xs)
 form_reads v bs inf _ n = true
 
 abbrev pub is_member : Form → Bool
 is_member (member b) = true
 is_member _ = false
 
+abbrev pub is_last : Trees → Bool
+is_last no_trees = true
+is_last (tree t ts) = false
+
 abbrev mutual
   pub tree_reads : Sight → List Word → Bool → Tree → Bool
-  tree_reads v bs inf (node m at ts) = form_reads v bs inf m (count ts) && trees_read v bs (binders m) (is_member m) ts
+  tree_reads v bs inf (node m at ts) = form_reads v bs inf m (count ts) && trees_read v bs (seen_names m) (is_member m) ts
 
-  -- the last part has further names bound, and may be infinite
-  pub trees_read : Sight → List Word → List Word → Bool → Trees → Bool
-  trees_read v bs xs inf no_trees = true
-  trees_read v bs xs inf (tree t no_trees) = tree_reads v (xs ++ bs) inf t
-  trees_read v bs xs inf (tree t (tree u us)) = tree_reads v bs false t && trees_read v bs xs inf (tree u us)
+  -- each part sees further names, and the last may be infinite
+  pub trees_read : Sight → List Word → List (List Word) → Bool → Trees → Bool
+  trees_read v bs names inf no_trees = true
+  trees_read v bs [] inf (tree t ts) = tree_reads v bs (inf && is_last ts) t && trees_read v bs [] inf ts
+  trees_read v bs (xs ∷ names) inf (tree t ts) = tree_reads v (xs ++ bs) (inf && is_last ts) t && trees_read v bs names inf ts
 
 -- how deep a tree nests with the bodies of earlier definitions in place of their names, each use being one form more
 abbrev pub used : (Word → ℕ) → Form → ℕ

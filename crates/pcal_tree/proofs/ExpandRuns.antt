@@ -3,9 +3,9 @@ use Rattle.std.proofs.Common.{◌≡◌, List, [], ◌∷◌, Bool, true, false,
 use Rattle.tla_token.specs.declared.place.Place.{Place}
 use Rattle.tla_expr.specs.Tree.{Word, Tree, Trees, no_trees, tree, Graft}
 use Rattle.tla_value.specs.Stops.{Check}
-use Rattle.tla_value.specs.Meaning.{evals}
+use Rattle.tla_value.specs.Meaning.{evals, part_values}
 use Rattle.pcal_tree.specs.Algorithm.{Name, Span, Binds, no_binds, one_of, is, Statement, assign, await, print, assert, skip, branch, either, with, while, goto, macro, call, return, Statements, done, then, mark, Branches, no_branches, or, Macro}
-use Rattle.pcal_tree.specs.Scope.{State, all_valued, Scope, bound, places_of, reach_in, through, value_of, test, members}
+use Rattle.pcal_tree.specs.Scope.{State, Scope, bound, places_of, reach_in, through, value_of, test, members}
 use Rattle.tla_value.specs.declared.fault.FaultKind.TheVariants.{AssertFailed}
 use Rattle.pcal_tree.specs.Assign.{moved}
 use Rattle.pcal_tree.specs.Run.{Course, chooses, course, held, stops, after, at_each, Follow, Rules, unlabelled, label_of, run_binds, run_one, run, run_branches, arguments, Calling, with_calls, called, with_macros}
@@ -107,7 +107,7 @@ mutual
   expand_runs_one M f X P w here at skip h sc free K L rest q = λ i s. (q i).goes s
   expand_runs_one M f X P w here at (goto l) h sc free K L rest q = refl
   expand_runs_one M f X P w here at (call p ts) h sc free K L rest q =
-      λ i s. after (all_valued (evals M.check ts) (sc.env s)) (λ vs. M.call at.first p.word (places_of ts sc) vs (q i).label s)
+      λ i s. after (part_values (evals M.check ts) (sc.env s)) (λ vs. M.call at.first p.word (places_of ts sc) vs (q i).label s)
   expand_runs_one M f X P w here at return h sc free K L rest q = refl
 
   expand_runs : (M : Rules) (f : Calling) (X : Writing) (P : Word → Trees → Type 0) → Written M f X P → (here : Word) (ss : Statements) → Calls P ss → (sc : Scope) → Free sc → (K L : Follow) → K ≡ L → run (with_calls M f) here ss sc K ≡ run (with_macros M []) here (expand X ss) sc L

@@ -3,12 +3,14 @@ use Rattle.std.proofs.Common.{◌≡◌, List, [], ◌∷◌, cond, Option, Some
 use Rattle.tla_token.specs.declared.place.Place.{Place}
 use Rattle.tla_expr.specs.Tree.{Word, apply, select, Form, name, next, operator_call, strict, binders, Tree, node, Trees, no_trees, tree, Every, EveryOf, Graft, grafted_name, grafted_node, graft, grafts}
 use Rattle.tla_value.specs.Value.{Value, text, Outcome, ◌>>=◌}
-use Rattle.tla_value.specs.Stops.{Check}
-use Rattle.tla_value.specs.Meaning.{Env, Denotation}
-use Rattle.tla_value.proofs.Alike.{AllAlike, none, one}
-use Rattle.tla_value.proofs.Graft.{every_of_weaker, grafts_law, Grafted, bound_grafted, Fits, each_weaker, grafted_law}
+use Rattle.tla_value.specs.Stops.{Check, truth_at, members_at}
+use Rattle.tla_value.specs.Meaning.{Env, Denotation, part_values}
+use Rattle.tla_value.proofs.Facts.{every_of_weaker, each_weaker}
+use Rattle.tla_value.proofs.Joined.{none, one}
+use Rattle.tla_value.proofs.Alike.{AllAlike}
+use Rattle.tla_value.proofs.Graft.{grafts_law, Grafted, bound_grafted, Fits, grafted_law}
 use Rattle.pcal_tree.specs.Algorithm.{Assignments, no_assignments, assignment, Binds, no_binds, one_of, is, Statement, assign, await, print, assert, skip, branch, either, with, while, goto, macro, call, return, Statements, done, then, mark, Branches, no_branches, or}
-use Rattle.pcal_tree.specs.Scope.{State, all_valued, Part, Scope, bound, place_in, place_of, places_of, Reach, deeper, root_place, reach_form, reach, reach_path, reach_in, origin_in, through, value_of, truth_at, test, members_at, members}
+use Rattle.pcal_tree.specs.Scope.{State, Part, Scope, bound, place_in, place_of, places_of, Reach, deeper, root_place, reach_form, reach, reach_path, reach_in, origin_in, through, value_of, test, members}
 use Rattle.pcal_tree.specs.Assign.{Setting, set_all, settings}
 use Rattle.pcal_tree.specs.Run.{Course, chooses, course, held, stops, after, at_each, Follow, Rules, unlabelled, label_of, run_binds, run_one, run, run_branches}
 use Rattle.pcal_tree.specs.Expand.{placed_at, graft_left, graft_moves, graft_binds, graft_one, graft_all, graft_some}
@@ -25,7 +27,7 @@ form_fits c g U m at h = (each_weaker _ _ (bound_grafted c g U) (binders m) h.0,
 
 -- ---- left sides
 
-pub valued_alike : (R : Rel) (ds es : List Denotation) (e f : Env) → AllAlike R ds es → R e f → all_valued ds e ≡ all_valued es f
+pub valued_alike : (R : Rel) (ds es : List Denotation) (e f : Env) → AllAlike R ds es → R e f → part_values ds e ≡ part_values es f
 valued_alike R _ _ e f none r = refl
 valued_alike R _ _ e f (one p ps) r = λ i. (p e f r i).value >>= (λ v. (valued_alike R _ _ e f ps r i) >>= (λ vs. Ok (v ∷ vs)))
 

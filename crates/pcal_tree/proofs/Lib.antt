@@ -25,3 +25,7 @@ pub mod TargetLaws
 pub mod SummaryLaws
 pub mod EffectLaws
 mod RowsOffences
+pub mod SameVariables
+pub mod StepVariables
+pub mod SameSteps
+pub mod SameStarts

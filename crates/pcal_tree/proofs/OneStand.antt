@@ -116,10 +116,10 @@ own_main P (processes ps) vs e = by_all (all_actors P (first_process P.algorithm
     by_all (Ok ws) h e = by_apart ws (h ws refl) (apart [] ws) refl e
     by_all (Err k) h e = cc
 
-own_is_main : (P : Program) (v : Actor) → IsActor P v → OneOf v.own (main_routines P.algorithm P.algorithm.main)
+pub own_is_main : (P : Program) (v : Actor) → IsActor P v → OneOf v.own (main_routines P.algorithm P.algorithm.main)
 own_is_main P v h = every_one (Own (main_routines P.algorithm P.algorithm.main)) v h.0 (own_main P P.algorithm.main h.0 h.1) h.2
 
-runs_routine : (P : Program) (v : Actor) (u : Routine) → IsActor P v → OneOf u (routines_of P v) → OneOf u (routines P.algorithm)
+pub runs_routine : (P : Program) (v : Actor) (u : Routine) → IsActor P v → OneOf u (routines_of P v) → OneOf u (routines P.algorithm)
 runs_routine P v u h (inl e) =
     one_right u (procedure_routines P.algorithm) (main_routines P.algorithm P.algorithm.main)
     (subst (λ w. OneOf w (main_routines P.algorithm P.algorithm.main)) (sym e) (own_is_main P v h))

@@ -14,7 +14,7 @@ use Rattle.tla_expr.specs.Spelling as spelled
 use Rattle.pcal_tree.specs.declared.mark.Mark.TheVariants as fair
 use Rattle.pcal_tree.specs.Algorithm.{Name, Statements}
 use Rattle.pcal_tree.specs.Algorithm as tree
-use Rattle.pcal_tree.specs.GrammarView.{views}
+use Rattle.pcal_tree.specs.AlgorithmTokens.{views}
 use Rattle.pcal_tree.specs.GrammarParts.{assign, last_assignment, skip, label, no_labels, colon}
 use Rattle.pcal_tree.specs.GrammarC.{Statement, Labelled, Sequence, simple, branch, either, compound, behind, no_else, else_then, last_branch, last_statement, more_statements, sequence, statements, GoodSequence, GoodStatement}
 use Rattle.pcal_tree.specs.Grammar.{p_syntax, c_syntax}

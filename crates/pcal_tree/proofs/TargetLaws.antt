@@ -5,9 +5,8 @@ use Rattle.std.specs.List.{list_any, flat_map}
 use Rattle.std.proofs.lemmas.List.Folds.{list_any-append}
 use Rattle.tla_token.specs.declared.place.Place.{Place}
 use Rattle.tla_token.specs.Signs.{is_among}
-use Rattle.tla_expr.specs.Tree.{Word, apply, select, name, strict, Tree, node, Trees, no_trees, tree, Graft, grafted_name, graft, grafts}
+use Rattle.tla_expr.specs.Tree.{Word, apply, select, name, strict, Tree, node, Trees, no_trees, tree, Graft, grafted_name, graft, grafts, words}
 use Rattle.pcal_tree.specs.Algorithm.{nowhere, Name, Assignments, no_assignments, assignment}
-use Rattle.pcal_tree.specs.Program.{words}
 use Rattle.pcal_tree.specs.Run.{arguments}
 use Rattle.pcal_tree.specs.Expand.{placed_at, graft_left, graft_moves}
 use Rattle.pcal_tree.specs.Paths.{root, is_whole, some_word, roots, same_word, clash, clashes_with, clashes}

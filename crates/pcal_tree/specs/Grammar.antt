@@ -10,7 +10,7 @@ use Rattle.pcal_tree.specs.declared.mark.Fairness.{Fairness}
 use Rattle.pcal_tree.specs.declared.mark.Fairness.TheVariants as fairness
 use Rattle.pcal_tree.specs.Algorithm.{Name, Algorithm}
 use Rattle.pcal_tree.specs.Algorithm as tree
-use Rattle.pcal_tree.specs.GrammarView.{views}
+use Rattle.pcal_tree.specs.AlgorithmTokens.{views}
 use Rattle.pcal_tree.specs.GrammarParts.{Tokens, All, word, key, mark, sign, name, expression, maybe_semicolon, Section, section_tokens, declared, GoodSection, MacroParameters, macro_parameters, macro_names, ProcedureParameters, procedure_parameters, procedure_declarations, GoodProcedureParameters, Definitions, definitions, definitions_of, GoodDefinitions, bind_sign}
 use Rattle.pcal_tree.specs.GrammarP as p
 use Rattle.pcal_tree.specs.GrammarC as c

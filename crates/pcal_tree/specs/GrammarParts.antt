@@ -4,15 +4,13 @@ use Rattle.tla_token.specs.declared.place.Place.{Place}
 use Rattle.tla_expr.specs.declared.op.Op.{Op}
 use Rattle.tla_expr.specs.declared.op.Op.TheVariants as op
 use Rattle.tla_expr.specs.Tree.{Word, Trees, no_trees}
-use Rattle.tla_expr.specs.Lexical.{ExprToken, Mark, sign_of}
+use Rattle.tla_expr.specs.Lexical.{ExprToken, Token, Mark, sign_of}
 use Rattle.tla_expr.specs.Lexical as tk
 use Rattle.tla_expr.specs.Spelling.{Phrase, Phrases, IsGood, GoodAll, tree_of, trees_of}
 use Rattle.tla_expr.specs.Spelling as spelled
 use Rattle.pcal_tree.specs.declared.mark.Mark.TheVariants as fair
 use Rattle.pcal_tree.specs.Algorithm.{Name, Span, Start, Declaration, Definition, Statement, Statements, nowhere}
 use Rattle.pcal_tree.specs.Algorithm as tree
-use Rattle.pcal_tree.specs.GrammarView.{Kind, Token, seen, assigns, beside}
-use Rattle.pcal_tree.specs.GrammarView as view
 
 -- ---- tokens
 
@@ -20,34 +18,30 @@ use Rattle.pcal_tree.specs.GrammarView as view
 abbrev pub Tokens : Type 0
 Tokens = List Token → List Token
 
-abbrev pub token : Place → Kind → Tokens
-token p k ts = record { kind = k; place = p } ∷ ts
+abbrev pub token : Place → ExprToken → Tokens
+token p k ts = tk.token p k ∷ ts
 
 abbrev pub mark : Place → Mark → Tokens
-mark p m ts = token p (seen (tk.mark m)) ts
+mark p m ts = token p (tk.mark m) ts
 
 abbrev pub sign : Place → Op → Tokens
-sign p o ts = token p (seen (sign_of o)) ts
+sign p o ts = token p (sign_of o) ts
 
 abbrev pub word : Place → Word → Tokens
-word p x ts = token p (seen (tk.word x)) ts
+word p x ts = token p (tk.word x) ts
 
 -- a reserved word of PlusCal
 abbrev pub key : Place → Word → Tokens
-key p x ts = token p (seen (tk.reserved x)) ts
+key p x ts = token p (tk.reserved x) ts
 
 abbrev pub name : Name → Tokens
 name x ts = word x.place x.word ts
 
-abbrev pub lifted : List tk.Token → Tokens
-lifted [] ts = ts
-lifted (t ∷ us) ts = token t.place (seen t.kind) (lifted us ts)
-
 abbrev pub expression : Phrase → Tokens
-expression a ts = lifted (spelled.spell a []) ts
+expression a ts = spelled.spell a ts
 
 abbrev pub semicolon : Place → Tokens
-semicolon p ts = token p view.semicolon ts
+semicolon p ts = mark p tk.semicolon ts
 
 abbrev pub maybe_semicolon : Option Place → Tokens
 maybe_semicolon None ts = ts
@@ -302,7 +296,7 @@ pub data Arguments : Type 0 where
 
 abbrev pub arguments : Arguments → Tokens
 arguments (no_arguments p q) ts = mark p tk.open_bracket (mark q tk.close_bracket ts)
-arguments (some_arguments p xs q) ts = mark p tk.open_bracket (lifted (spelled.spell_all xs []) (mark q tk.close_bracket ts))
+arguments (some_arguments p xs q) ts = mark p tk.open_bracket (spelled.spell_all xs (mark q tk.close_bracket ts))
 
 abbrev pub arguments_of : Arguments → Trees
 arguments_of (no_arguments p q) = no_trees
@@ -325,8 +319,8 @@ pub data Assignments : Type 0 where
   assignment : Phrase → Place → Phrase → Place → Assignments → Assignments
 
 abbrev pub moves : Assignments → Tokens
-moves (last_assignment l p e) ts = expression l (token p assigns (expression e ts))
-moves (assignment l p e q ms) ts = expression l (token p assigns (expression e (token q beside (moves ms ts))))
+moves (last_assignment l p e) ts = expression l (mark p tk.assigns (expression e ts))
+moves (assignment l p e q ms) ts = expression l (mark p tk.assigns (expression e (mark q tk.beside (moves ms ts))))
 
 abbrev pub moves_of : Assignments → tree.Assignments
 moves_of (last_assignment l p e) = tree.assignment (tree_of l) (tree_of e) tree.no_assignments

@@ -5,10 +5,10 @@ use Rattle.tla_token.specs.declared.place.Place.{Place}
 use Rattle.tla_token.specs.declared.rule.Rule.TheVariants.{Unknown, Duplicate, Arity, OpaqueUnit}
 use Rattle.tla_token.specs.declared.rule.Refusal.{Refusal}
 use Rattle.tla_token.specs.Signs.{is_among}
-use Rattle.tla_expr.specs.Tree.{Word, Form, name, operator_call, Tree, node, Trees, no_trees, tree, binders}
+use Rattle.tla_expr.specs.Tree.{Word, Form, name, operator_call, Tree, node, Trees, no_trees, tree, words, seen_names}
 use Rattle.pcal_tree.specs.Algorithm.{Name, Assignments, no_assignments, assignment, Binds, no_binds, one_of, is, Statement, assign, await, print, assert, skip, branch, either, with, while, goto, macro, call, return, Statements, done, then, mark, Branches, no_branches, or, Start, unset, equals, among, Declaration, Definition, Macro, Procedure, Process, Main, alone, processes, Algorithm}
-use Rattle.pcal_tree.specs.Program.{words}
 use Rattle.pcal_tree.specs.Offences.{offence, offence_if}
+use Rattle.pcal_tree.specs.BoundNames.{bound_lists}
 use Rattle.tla_value.specs.Outside.{Outside, ReadDefinition}
 use Rattle.pcal_tree.specs.Outside.{unit_names}
 use Rattle.pcal_tree.specs.Variables.{declared}
@@ -66,18 +66,15 @@ abbrev pub count : Trees → ℕ
 count no_trees = 0
 count (tree t ts) = suc (count ts)
 
--- a form's names are bound in its last part
-abbrev pub in_last : List Word → Trees → Sight → Sight
-in_last xs no_trees s = seeing_plain xs s
-in_last xs (tree t ts) s = s
-
 abbrev mutual
   pub in_tree : Tree → Sight → List Refusal
-  in_tree (node m at ts) s = form_offences s m (count ts) at ++ in_parts (binders m) ts s
+  in_tree (node m at ts) s = form_offences s m (count ts) at ++ in_parts (seen_names m) ts s
 
-  pub in_parts : List Word → Trees → Sight → List Refusal
-  in_parts xs no_trees s = []
-  in_parts xs (tree t ts) s = in_tree t (in_last xs ts s) ++ in_parts xs ts s
+  -- each part sees further names
+  pub in_parts : List (List Word) → Trees → Sight → List Refusal
+  in_parts names no_trees s = []
+  in_parts [] (tree t ts) s = in_tree t s ++ in_parts [] ts s
+  in_parts (xs ∷ names) (tree t ts) s = in_tree t (seeing_plain xs s) ++ in_parts names ts s
 
 abbrev pub root_offences : Sight → Form → Place → List Refusal
 root_offences s (name x) at = left_offences (use_of s x) at
@@ -234,7 +231,7 @@ repeated_in_main (processes ps) = flat_map (λ p. repeated [] (names_of p.variab
 abbrev pub kept_names : Algorithm → List Name
 kept_names a = names_of a.globals ++ map (λ d. d.name) a.definitions
 
--- in one list or unit; of globals, definitions, macros, procedures and processes; and globals and definitions with the name of an outside unit
+-- in one list or unit, also of names that are bound; of globals, definitions, macros, procedures and processes; and globals and definitions with the name of an outside unit
 abbrev pub repeated_names : Algorithm → Outside → List Refusal
 repeated_names a o =
     repeated (unit_names o) (kept_names a)
@@ -242,4 +239,4 @@ repeated_names a o =
     ++ (flat_map (λ d. repeated [] d.params) a.definitions
     ++ (flat_map (λ d. repeated [] d.params) a.macros
     ++ (flat_map (λ p. repeated [] (names_of (p.params ++ p.variables))) a.procedures
-    ++ repeated_in_main a.main))))
+    ++ (repeated_in_main a.main ++ flat_map (repeated []) (bound_lists a))))))

@@ -8,7 +8,8 @@ use Rattle.tla_value.specs.Order.{order, same, set_from}
 use Rattle.tla_value.specs.Definitions.{no_state}
 use Rattle.tla_value.specs.Meaning.{eval}
 use Rattle.pcal_tree.specs.Algorithm.{Process, Main, alone, processes, Routine, process_routine, alone_routine, first_process}
-use Rattle.pcal_tree.specs.Scope.{members_at, root_place}
+use Rattle.tla_value.specs.Stops.{members_at}
+use Rattle.pcal_tree.specs.Scope.{root_place}
 use Rattle.pcal_tree.specs.Program.{Program, Actor, common_env}
 
 abbrev pub one_value : Bool → Place → Value → Outcome Values

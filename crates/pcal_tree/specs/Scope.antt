@@ -5,10 +5,10 @@ use Rattle.tla_expr.specs.Tree.{Word, apply, select, Form, name, strict, Tree, n
 use Rattle.tla_value.specs.declared.fault.FaultKind.{FaultKind}
 use Rattle.tla_value.specs.declared.fault.FaultKind.TheVariants.{NotBoolean, NotSet, NotFunction}
 use Rattle.tla_value.specs.Value.{Value, truth, text, set, Values, fault, Outcome, ◌>>=◌}
-use Rattle.tla_value.specs.Stops.{Check}
+use Rattle.tla_value.specs.Stops.{Check, truth_at, members_at}
 use Rattle.pcal_tree.specs.Algorithm.{nowhere}
 use Rattle.tla_value.specs.Grafts.{through as through_env}
-use Rattle.tla_value.specs.Meaning.{Env, Denotation, bind, eval, evals}
+use Rattle.tla_value.specs.Meaning.{Env, bind, part_values, eval, evals}
 
 -- ---- states and results
 
@@ -18,14 +18,6 @@ State = Word → Value
 
 abbrev pub put : Word → Value → State → State
 put x v s y = cond (bytes_eq x y) v (s y)
-
--- expressions from left to right
-abbrev pub all_valued : List Denotation → Env → Outcome (List Value)
-all_valued [] env = Ok []
-all_valued (d ∷ ds) env = do
-  v ← (d env).value
-  vs ← all_valued ds env
-  Ok (v ∷ vs)
 
 -- ---- scopes
 
@@ -87,7 +79,7 @@ abbrev mutual
   reach_path c at no_trees sc s = Err (fault NotFunction nowhere)
   reach_path c at (tree f us) sc s = do
     p ← reach c f sc s
-    ks ← all_valued (evals c us) (sc.env s)
+    ks ← part_values (evals c us) (sc.env s)
     Ok (deeper ks p)
 
 -- ---- names that stand for trees, as a macro's parameters do
@@ -113,18 +105,10 @@ through c g sc = record {
 abbrev pub value_of : Check → Tree → Scope → State → Outcome Value
 value_of c e sc s = (eval c e (sc.env s)).value
 
-abbrev pub truth_at : Place → Value → Outcome Bool
-truth_at at (truth b) = Ok b
-truth_at at _ = Err (fault NotBoolean at)
-
 abbrev pub test : Check → Tree → Scope → State → Outcome Bool
 test c e sc s = do
   v ← value_of c e sc s
   truth_at (place_of e sc) v
-
-abbrev pub members_at : Place → Value → Outcome Values
-members_at at (set vs) = Ok vs
-members_at at _ = Err (fault NotSet at)
 
 abbrev pub members : Check → Tree → Scope → State → Outcome Values
 members c e sc s = do

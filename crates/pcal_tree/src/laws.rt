@@ -21,8 +21,14 @@ ghost use Rattle.tla_value.specs.Value.{Trouble, Outcome};
 ghost use Rattle.pcal_tree.specs.laws.Expansion.{Calls, FineCall, Free};
 ghost use Rattle.pcal_tree.specs.laws.Choosing.{told, landing};
 ghost use Rattle.pcal_tree.specs.Processes.{Proper, IsActor};
-ghost use Rattle.pcal_tree.specs.Faults.{Sound};
-ghost use Rattle.pcal_tree.specs.laws.Steps.{StandsOnce};
+ghost use Rattle.pcal_tree.specs.Faults.{Sound, Faulty};
+ghost use Rattle.pcal_tree.specs.laws.Steps.{StandsOnce, ReturnsInProcedures, AgreeAll};
+ghost use Rattle.tla_token.specs.declared.place.Place.{Place};
+ghost use Rattle.tla_value.specs.declared.fault.FaultKind.{FaultKind};
+ghost use Rattle.pcal_tree.specs.Variables.{vars, Agree};
+ghost use Rattle.pcal_tree.specs.Step.{Step, Stutters};
+ghost use Rattle.pcal_tree.specs.InitialStates.{Initial, InitTrouble};
+ghost use Rattle.pcal_tree.specs.Script.{Turn, RunOf};
 ghost use Rattle.pcal_tree.specs.FirstTrouble.{FirstTrouble};
 
 /// What a list of choices leads to is an outcome of the course, and each outcome has a list of choices that
@@ -43,6 +49,24 @@ pub fn first_trouble_is_met()
 pub fn sound_states_have_no_first_trouble()
     ensures sound { (P : Program) (s : State) (k : Trouble) → Sound P s → FirstTrouble P s k → ⊥ }
     ensures quiet { (P : Program) (s : State) → Proper P → ((v : Actor) → IsActor P v → StandsOnce P s v) → ((k : Trouble) → FirstTrouble P s k → ⊥) → Sound P s }
+{}
+
+/// What an algorithm does depends on the variables of its translation alone: two pairs of states that agree on them are
+/// steps alike, and two states that agree on them are sound, initial and in trouble alike. Each `return` must stand in a
+/// procedure, since without procedures no variable holds records that it could take off. The rule on `return` asks for that,
+/// so every algorithm without offences is one.
+pub fn runs_depend_on_the_variables()
+    ensures steps { (P : Program) → ReturnsInProcedures P.algorithm → (s t u w : State) → Agree (vars P) s u → Agree (vars P) t w → Step P s t → Step P u w }
+    ensures stutters { (P : Program) (s t u w : State) → Agree (vars P) s u → Agree (vars P) t w → Stutters P s t → Stutters P u w }
+    ensures sound { (P : Program) → ReturnsInProcedures P.algorithm → (s u : State) → Agree (vars P) s u → Sound P s → Sound P u }
+    ensures faults { (P : Program) → ReturnsInProcedures P.algorithm → (s u : State) → Agree (vars P) s u → (v : Actor) → IsActor P v
+        → (kind : FaultKind) (at : Place) → Faulty P s v kind at → Faulty P u v kind at }
+    ensures first { (P : Program) → ReturnsInProcedures P.algorithm → (s u : State) → Agree (vars P) s u → (k : Trouble) → FirstTrouble P s k → FirstTrouble P u k }
+    ensures scripts { (P : Program) → ReturnsInProcedures P.algorithm → (choices : List ℕ) (turns : List Turn) (ss us : List State) → AgreeAll (vars P) ss us
+        → RunOf P choices turns ss → RunOf P choices turns us }
+    ensures initial { (P : Program) (s u : State) → Agree (vars P) s u → Initial P s → Initial P u }
+    ensures starts { (P : Program) (s u : State) → Agree (vars P) s u → (k : Trouble) → InitTrouble P s k → InitTrouble P u k }
+    ensures rule { (a : Algorithm) → label_offences a ≡ [] → ReturnsInProcedures a }
 {}
 
 /// Statements with their macro calls written out take the courses that they take with the calls, in every scope and

@@ -5,12 +5,12 @@ use Rattle.tla_expr.specs.declared.op.Op.{Op}
 use Rattle.tla_expr.specs.declared.op.Op.TheVariants as op
 use Rattle.tla_expr.specs.declared.op.Binder.{Binder}
 use Rattle.tla_expr.specs.declared.op.Binder.TheVariants as binder
-use Rattle.tla_expr.specs.Tree.{Word, PathStep, Slot, Strict, Form, Tree, Trees, node, no_trees, tree}
+use Rattle.tla_expr.specs.Tree.{Word, Name, PathStep, Slot, Strict, Form, Tree, Trees, node, no_trees, tree}
 use Rattle.tla_expr.specs.Tree as tree
 use Rattle.tla_token.specs.Words.{is_pluscal_word}
 use Rattle.tla_expr.specs.Lexical.{ExprToken, Token}
 use Rattle.tla_expr.specs.Lexical as tk
-use Rattle.tla_expr.specs.Spelling.{Phrase, Phrases, Binds, Fields, Settings, Path, Arms, Field}
+use Rattle.tla_expr.specs.Spelling.{Phrase, Phrases, Binds, Fields, Settings, Path, Arms, Locals, Field}
 use Rattle.tla_expr.specs.Spelling as spelled
 use Rattle.tla_expr.specs.Written.{Piece, blank, token, is_bracketed}
 
@@ -67,26 +67,35 @@ abbrev pub record_phrase : (Fields → Phrase) → List Word → List Part → P
 record_phrase f (x ∷ ys) (a ∷ xs) = f (fields_of x a ys xs)
 record_phrase f ys xs = no_phrase
 
-abbrev pub binds_of : Word → Part → List Word → List Part → Binds
-binds_of x a (y ∷ ys) (b ∷ xs) = spelled.bind nowhere x nowhere (as_operand a) nowhere (binds_of y b ys xs)
-binds_of x a ys xs = spelled.last_bind nowhere x nowhere (as_operand a)
+-- a group of names, of which the last is before the set
+abbrev pub group_of : Name → List Name → (Word → Binds) → Binds
+group_of x [] k = k x.word
+group_of x (y ∷ ys) k = spelled.share nowhere x.word nowhere (group_of y ys k)
 
--- the part behind the sets of these names
-abbrev pub body : List Word → List Part → Part
+abbrev pub binds_of : Name → List Name → Part → List (List Name) → List Part → Binds
+binds_of x ys a ((z ∷ zs) ∷ gs) (b ∷ xs) = group_of x ys (λ v. spelled.bind nowhere v nowhere (as_operand a) nowhere (binds_of z zs b gs xs))
+binds_of x ys a gs xs = group_of x ys (λ v. spelled.last_bind nowhere v nowhere (as_operand a))
+
+abbrev pub locals_of : Name → Part → List Name → List Part → Locals
+locals_of x a (y ∷ ys) (b ∷ xs) = spelled.more_locals nowhere x.word nowhere (plain a) (locals_of y b ys xs)
+locals_of x a ys xs = spelled.last_local nowhere x.word nowhere (plain a)
+
+-- the part after one for each of these
+abbrev pub body : {A : Type 0} → List A → List Part → Part
 body [] (a ∷ xs) = a
 body (y ∷ ys) (a ∷ xs) = body ys xs
 body ys [] = λ b. no_phrase
 
-abbrev pub binding_phrase : Binder → Word → Part → Binds → Part → Phrase
+abbrev pub binding_phrase : Binder → Name → Part → Binds → Part → Phrase
 binding_phrase binder.ForAll x a bs e = spelled.quantified true nowhere bs nowhere (plain e)
 binding_phrase binder.Exists x a bs e = spelled.quantified false nowhere bs nowhere (plain e)
-binding_phrase binder.Filter x a bs e = spelled.filter nowhere nowhere x nowhere (as_operand a) nowhere (plain e) nowhere
+binding_phrase binder.Filter x a bs e = spelled.filter nowhere nowhere x.word nowhere (as_operand a) nowhere (plain e) nowhere
 binding_phrase binder.Image x a bs e = spelled.image nowhere (as_operand e) nowhere bs nowhere
 binding_phrase binder.Function x a bs e = spelled.function nowhere bs nowhere (plain e) nowhere
 
-abbrev pub bound_phrase : Binder → List Word → List Part → Phrase
-bound_phrase b (x ∷ ys) (a ∷ xs) = binding_phrase b x a (binds_of x a ys xs) (body ys xs)
-bound_phrase b ys xs = no_phrase
+abbrev pub bound_phrase : Binder → List (List Name) → List Part → Phrase
+bound_phrase b ((x ∷ ys) ∷ gs) (a ∷ xs) = binding_phrase b x a (binds_of x ys a gs xs) (body gs xs)
+bound_phrase b gs xs = no_phrase
 
 abbrev pub path_of : List PathStep → List Part → (Path → List Part → Phrase) → Phrase
 path_of [] xs k = k spelled.path_end xs
@@ -128,9 +137,9 @@ abbrev pub choice_phrase : List Part → Phrase
 choice_phrase (a ∷ b ∷ c ∷ []) = spelled.if_then_else nowhere (plain a) nowhere (plain b) nowhere (plain c)
 choice_phrase xs = no_phrase
 
-abbrev pub local_phrase : Word → List Part → Phrase
-local_phrase x (a ∷ b ∷ []) = spelled.local nowhere (spelled.last_local nowhere x nowhere (plain a)) nowhere (plain b)
-local_phrase x xs = no_phrase
+abbrev pub local_phrase : List Name → List Part → Phrase
+local_phrase (x ∷ ys) (a ∷ xs) = spelled.local nowhere (locals_of x a ys xs) nowhere (plain (body ys xs))
+local_phrase ys xs = no_phrase
 
 abbrev pub form_phrase : Form → List Part → Phrase
 form_phrase (tree.number n) xs = spelled.number nowhere n
@@ -149,8 +158,8 @@ form_phrase (tree.member true) xs = infix_phrase op.In xs
 form_phrase (tree.member false) xs = infix_phrase op.NotIn xs
 form_phrase tree.if_then_else xs = choice_phrase xs
 form_phrase (tree.cases b) xs = arms_of b xs (λ arms. spelled.cases nowhere arms)
-form_phrase (tree.binding b ys) xs = bound_phrase b ys xs
-form_phrase (tree.local x) xs = local_phrase x xs
+form_phrase (tree.binding b gs) xs = bound_phrase b gs xs
+form_phrase (tree.local ys) xs = local_phrase ys xs
 
 abbrev pub in_brackets : Bool → Phrase → Phrase
 in_brackets true a = spelled.brackets nowhere a nowhere

@@ -81,6 +81,9 @@ mark_number tk.maps = 13
 mark_number tk.defines = 14
 mark_number tk.box = 15
 mark_number tk.prime = 16
+mark_number tk.assigns = 17
+mark_number tk.beside = 18
+mark_number tk.semicolon = 19
 
 abbrev pub key_number : Key → ℕ
 key_number tk.if_key = 0

@@ -11,15 +11,15 @@ pub mod op;
 
 pub use expr::Expr;
 pub use exprs::Exprs;
-pub use name::{Name, NameList, Text};
+pub use name::{Name, NameList, PlacedName, Text};
 pub use op::{Binder, Op, rank};
 
 #[cfg(test)]
 mod tests {
     use super::expr::{Expr, copied};
     use super::form::Form;
-    use super::name::{Name, NameList};
-    use super::op::{Op, rank};
+    use super::name::{Name, NameList, PlacedName};
+    use super::op::{Binder, Op, rank};
     use std::alloc::AllocError;
     use tla_token::Place;
 
@@ -59,6 +59,24 @@ mod tests {
             parts,
         };
         assert_eq!(rt; copied(rt.alloc(), &both)?.parts.len(), 2);
+        Ok(())
+    }
+
+    #[test]
+    fn a_copy_of_a_form_has_the_same_groups(rt: HostRuntime) -> Result<(), AllocError> {
+        let mut group = Vec::new(rt.alloc());
+        for (letter, col) in [(120, 4), (121, 7)] {
+            group.push(PlacedName {
+                name: Name::new(Vec::from_array(rt.alloc(), [letter])?),
+                place: Place { line: 1, col },
+            })?;
+        }
+        let mut groups = Vec::new(rt.alloc());
+        groups.push(group)?;
+        let form = Form::Binding(Binder::Exists, groups).copied(rt.alloc())?;
+        assert!(rt;
+            matches!(&form, Form::Binding(Binder::Exists, groups) if groups.len() == 1 && groups[0].len() == 2)
+        );
         Ok(())
     }
 }

@@ -6,7 +6,7 @@ use Rattle.tla_value.specs.Stops.{Check}
 use Rattle.tla_value.specs.Meaning.{Env, just, eval}
 use Rattle.tla_value.specs.Related.{Bound, Keeps, AgreeOn, ReadsOnly}
 use Rattle.tla_value.proofs.Alike.{eval_alike}
-use Rattle.tla_value.proofs.Graft.{every_weaker}
+use Rattle.tla_value.proofs.Facts.{every_weaker}
 
 agree_bound : (u : Word → Bool) (x : Word) → Bound (AgreeOn u) x
 agree_bound u x e f v r = record {

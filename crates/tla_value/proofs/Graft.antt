@@ -7,21 +7,11 @@ use Rattle.tla_value.specs.Value.{Value}
 use Rattle.tla_value.specs.Stops.{Check}
 use Rattle.tla_value.specs.Meaning.{Env, just, bind, eval, evals}
 use Rattle.tla_value.specs.Grafts.{read_tree, through}
-use Rattle.tla_value.proofs.Alike.{AllAlike, none, one, alike, eval_alike}
+use Rattle.tla_value.proofs.Facts.{each_weaker, every_weaker}
+use Rattle.tla_value.proofs.Joined.{none, one}
+use Rattle.tla_value.proofs.Alike.{AllAlike, alike, eval_alike}
 use Rattle.tla_value.specs.Related.{Alike, Apart, ApartForm, Bound, Keeps, Lacks, LacksIn, Rel, Uses}
 use Rattle.tla_value.specs.Related.{Clear, ClearForm, Unread}
-
-pub each_weaker : (P Q : Word → Type 0) → ((x : Word) → P x → Q x) → (xs : List Word) → Each P xs → Each Q xs
-each_weaker P Q h [] p = tt
-each_weaker P Q h (x ∷ xs) p = (h x p.0, each_weaker P Q h xs p.1)
-
-mutual
-  pub every_weaker : (P Q : Form → Place → Type 0) → ((m : Form) (at : Place) → P m at → Q m at) → (t : Tree) → Every P t → Every Q t
-  every_weaker P Q h (node m at ts) p = (h m at p.0, every_of_weaker P Q h ts p.1)
-
-  pub every_of_weaker : (P Q : Form → Place → Type 0) → ((m : Form) (at : Place) → P m at → Q m at) → (ts : Trees) → EveryOf P ts → EveryOf Q ts
-  every_of_weaker P Q h no_trees p = tt
-  every_of_weaker P Q h (tree t ts) p = (every_weaker P Q h t p.0, every_of_weaker P Q h ts p.1)
 
 -- a name reads the same before the graft and after it, and other forms keep the relation
 abbrev pub Fits : Check → Rel → Graft → Form → Place → Type 0

@@ -10,13 +10,17 @@ pub mod ValueWithin
 mod ValueRows
 mod RowsSeen
 pub mod StateLaws
+pub mod Facts
+pub mod Joined
+pub mod JoinedEval
+pub mod JoinedScopes
 pub mod Alike
 pub mod Graft
 pub mod Primes
 pub mod Owned
 pub mod Below
+pub mod Groups
 mod RowsMeaning
-pub mod BelowScopes
 pub mod MidState
 pub mod Untested
 pub mod UntestedSets

@@ -9,7 +9,7 @@ use Rattle.tla_value.specs.Meaning.{Env, just, eval}
 use Rattle.tla_value.specs.Grafts.{primes}
 use Rattle.tla_value.specs.Definitions.{Valuation, Definition, or_sense, base, in_states, at_use, bind_each, body_sense, defined, with_definitions, scope_of, mid}
 use Rattle.tla_value.proofs.Alike.{eval_alike}
-use Rattle.tla_value.proofs.Graft.{every_weaker}
+use Rattle.tla_value.proofs.Facts.{every_weaker}
 use Rattle.tla_value.proofs.Primes.{Mixed, primed_law}
 use Rattle.tla_value.specs.Related.{AllSettled, Bound, Given, Keeps, OutOf, Settled, Unassigned}
 

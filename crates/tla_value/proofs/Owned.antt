@@ -6,7 +6,8 @@ use Rattle.tla_expr.specs.Tree.{Word, Tree, Every, binders, graft}
 use Rattle.tla_value.specs.Stops.{Check}
 use Rattle.tla_value.specs.Meaning.{Env, eval}
 use Rattle.tla_value.specs.Grafts.{Arguments, arguments, own_part, owned, through}
-use Rattle.tla_value.proofs.Graft.{each_weaker, every_weaker, through_law}
+use Rattle.tla_value.proofs.Facts.{each_weaker, every_weaker}
+use Rattle.tla_value.proofs.Graft.{through_law}
 use Rattle.tla_value.specs.Related.{LacksIn, NoArgument, NotOwned}
 
 -- the body with its arguments put in means what it means where each parameter stands for its argument

@@ -6,7 +6,8 @@ use Rattle.tla_expr.specs.Tree.{Word, Form, name, next, operator_call, Tree, nod
 use Rattle.tla_value.specs.Stops.{Check}
 use Rattle.tla_value.specs.Meaning.{Env, just, eval}
 use Rattle.tla_value.specs.Grafts.{primes, read_tree}
-use Rattle.tla_value.proofs.Graft.{each_weaker, every_weaker, Fits, graft_law, grafted_law}
+use Rattle.tla_value.proofs.Facts.{each_weaker, every_weaker}
+use Rattle.tla_value.proofs.Graft.{Fits, graft_law, grafted_law}
 use Rattle.tla_value.specs.Related.{Bound, OutOf, Uses}
 use Rattle.tla_value.specs.Related.{Clear, Unread}
 

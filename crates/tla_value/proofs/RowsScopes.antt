@@ -3,7 +3,7 @@ use Rattle.std.proofs.Common.{◌≡◌, ℕ, pos, List, [], ◌∷◌, true, fa
 use Rattle.std.specs.Prelude.{codes}
 use Rattle.tla_token.specs.declared.place.Place.{Place}
 use Rattle.tla_expr.specs.declared.op.Op.TheVariants.{Plus, Divide}
-use Rattle.tla_expr.specs.Tree.{Word, operator, Form, number, name, next, strict, operator_call, local, Tree, node, Trees, no_trees, tree, graft}
+use Rattle.tla_expr.specs.Tree.{Word, Name, operator, Form, number, name, next, strict, operator_call, local, Tree, node, Trees, no_trees, tree, graft}
 use Rattle.tla_value.specs.declared.fault.FaultKind.TheVariants.{BadDivisor, NotFunction}
 use Rattle.tla_value.specs.Value.{Value, int, Outcome, fault}
 use Rattle.tla_value.specs.Order.{seq_from}
@@ -14,6 +14,9 @@ use Rattle.tla_value.specs.Definitions.{Valuation, Definition, no_state, scope_o
 
 abbrev here : ℕ → Place
 here n = record { line = 1; col = n }
+
+abbrev named : Word → Name
+named w = record { word = w; place = here 1 }
 
 abbrev list : List Tree → Trees
 list [] = no_trees
@@ -76,7 +79,7 @@ inside_fault = refl
 sees_earlier : gives (at_name (codes "Four") 60) ≡ Ok (int (pos 4))
 sees_earlier = refl
 
-own_scope : gives (of (local y) 60 (num 9 69 ∷ at_name (codes "Four") 74 ∷ [])) ≡ Ok (int (pos 4))
+own_scope : gives (of (local (named y ∷ [])) 60 (num 9 69 ∷ at_name (codes "Four") 74 ∷ [])) ≡ Ok (int (pos 4))
 own_scope = refl
 
 -- y + y' over a pair of states

@@ -2,7 +2,7 @@
 use Rattle.std.specs.Prelude.{◌≡◌, Bool, cond, bytes_eq, List, [], ◌∷◌, Option, Some, None, Ok, Err}
 use Rattle.tla_token.specs.declared.place.Place.{Place}
 use Rattle.tla_expr.specs.Tree.{Word, Tree}
-use Rattle.tla_value.specs.Value.{Value, Outcome, fault, over, Sense}
+use Rattle.tla_value.specs.Value.{Value, Outcome, Trouble, fault, over, Sense}
 use Rattle.tla_value.specs.Stops.{Check, plain, misshapen, sense_of}
 use Rattle.tla_value.specs.Limits.{bounded}
 use Rattle.tla_value.specs.Meaning.{Env, just, bind, eval}
@@ -40,11 +40,14 @@ in_states s t env = record env {
 abbrev pub no_state : Valuation
 no_state x = None
 
+abbrev pub trouble_at : Place → Trouble → Trouble
+trouble_at at (fault k p) = fault k at
+trouble_at at (over p) = over at
+
 -- what stops in the body of an outside definition stops at its use: the body is no expression of the algorithm
 abbrev pub at_use : Bool → Place → Outcome Value → Outcome Value
 at_use outside at (Ok v) = Ok v
-at_use outside at (Err (fault k p)) = Err (fault k (cond outside at p))
-at_use outside at (Err (over p)) = Err (over (cond outside at p))
+at_use outside at (Err k) = Err (cond outside (trouble_at at k) k)
 
 abbrev pub bind_each : List Word → List Value → Env → Env
 bind_each (x ∷ xs) (v ∷ vs) env = bind_each xs vs (bind x v env)

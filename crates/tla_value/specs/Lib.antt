@@ -17,3 +17,4 @@ pub mod Standard
 pub mod Definitions
 pub mod Outside
 pub mod Related
+pub mod laws

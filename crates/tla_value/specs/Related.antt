@@ -1,10 +1,10 @@
 -- What laws of the meaning speak of: relations between environments, names that a tree reads and binds, and outcomes up to limits.
-use Rattle.std.specs.Prelude.{◌≡◌, List, [], ◌∷◌, Bool, true, false, bytes_eq, Option, Some, None, Err}
+use Rattle.std.specs.Prelude.{◌≡◌, List, [], ◌∷◌, Bool, true, false, bytes_eq, Option, Some, None, Ok, Err}
 use Rattle.tla_token.specs.declared.place.Place.{Place}
 use Rattle.tla_expr.specs.Tree.{Word, Form, name, next, operator_call, Tree, Every, Each, binders, Graft}
-use Rattle.tla_value.specs.Value.{Value, Outcome, over}
+use Rattle.tla_value.specs.Value.{Value, Outcome, fault, over, Sense}
 use Rattle.tla_value.specs.Stops.{Check}
-use Rattle.tla_value.specs.Meaning.{Env, Denotation, bind, eval}
+use Rattle.tla_value.specs.Meaning.{Env, Denotation, bind, called, eval}
 use Rattle.tla_value.specs.Grafts.{Arguments}
 use Rattle.tla_value.specs.Definitions.{Definition}
 
@@ -85,9 +85,20 @@ Given (Some v) = Unit {0}
 Given None = ⊥
 
 -- o is o', or passed a limit
-abbrev pub Below : Outcome Value → Outcome Value → Type 0
+abbrev pub Below : {X : Type 0} → Outcome X → Outcome X → Type 0
+Below (Ok x) o' = Ok x ≡ o'
+Below (Err (fault k p)) o' = Err (fault k p) ≡ o'
 Below (Err (over p)) o' = Unit {0}
-Below o o' = o ≡ o'
+
+pub record SensesBelow (s s' : Sense) : Type 0 where
+  pub value : Below s.value s'.value
+  pub test : (p : Place) (v : Value) → Below (s.test p v) (s'.test p v)
+
+-- so is what the names and operators of the environments give
+pub record EnvsBelow (e e' : Env) : Type 0 where
+  pub now : (x : Word) (at : Place) → SensesBelow (e.now x at) (e'.now x at)
+  pub primed : (x : Word) (at : Place) → SensesBelow (e.primed x at) (e'.primed x at)
+  pub defs : (x : Word) (at : Place) (vs : List Value) → SensesBelow (called at (e.defs x) vs) (called at (e'.defs x) vs)
 
 -- the environments agree on the names and operators of u, and on primed names
 pub record AgreeOn (u : Word → Bool) (e f : Env) : Type 0 where

@@ -1,13 +1,17 @@
 //! Laws of the meaning of expressions, stated as what functions without a body ensure.
 
 ghost use Rattle.std.specs.Prelude.{◌≡◌, ◌+◌, ◌<◌, ℕ, ℤ, pos, Bool, true, List};
-ghost use Rattle.tla_expr.specs.Tree.{Word, Tree, Graft, graft, Every};
+ghost use Rattle.tla_token.specs.declared.place.Place.{Place};
+ghost use Rattle.tla_expr.specs.declared.op.Binder.{Binder};
+ghost use Rattle.tla_expr.specs.Tree.{Word, Name, binding, Tree, node, Trees, Graft, graft, Every};
+ghost use Rattle.tla_value.specs.Value.{Value};
 ghost use Rattle.tla_value.specs.Stops.{Check, plain};
 ghost use Rattle.tla_value.specs.Limits.{bounded};
-ghost use Rattle.tla_value.specs.Meaning.{Env, eval};
+ghost use Rattle.tla_value.specs.Meaning.{Env, bind, eval};
 ghost use Rattle.tla_value.specs.Grafts.{Arguments, arguments, primes, owned, through};
 ghost use Rattle.tla_value.specs.Definitions.{Valuation, Definition, scope_of, mid};
-ghost use Rattle.tla_value.specs.Related.{AgreeOn, ReadsOnly, In, ApartForm, NoArgument, NotOwned, OutOf, AllSettled, Given, Below};
+ghost use Rattle.tla_value.specs.laws.Groups.{ungrouped, sets_for_names, HaveSets};
+ghost use Rattle.tla_value.specs.Related.{AgreeOn, ReadsOnly, In, ApartForm, NoArgument, NotOwned, OutOf, AllSettled, Given, EnvsBelow, SensesBelow};
 
 /// What an expression means depends only on the names and operators that it reads.
 pub fn meaning_is_of_what_is_read()
@@ -41,7 +45,17 @@ pub fn primes_read_the_mid_state()
         → eval c (graft (primes assigned) e) (scope_of c constants ds s t) ≡ eval c e (scope_of c constants ds (mid assigned s t) t) }
 {}
 
-/// Under the limits of a run an expression has the outcome that it has without them, or passes one.
+/// Under the limits of a run an expression has the outcome that it has without them, or passes one: in the
+/// scope of an algorithm, with names bound, and with names that stand for trees.
 pub fn limits_change_nothing_else()
-    ensures { (constants : Valuation) (ds : List Definition) (s t : Valuation) (e : Tree) → Below (eval bounded e (scope_of bounded constants ds s t)).value (eval plain e (scope_of plain constants ds s t)).value }
+    ensures scope { (constants : Valuation) (ds : List Definition) (s t : Valuation) → EnvsBelow (scope_of bounded constants ds s t) (scope_of plain constants ds s t) }
+    ensures bound { (x : Word) (v : Value) (e f : Env) → EnvsBelow e f → EnvsBelow (bind x v e) (bind x v f) }
+    ensures grafted { (g : Graft) (e f : Env) → EnvsBelow e f → EnvsBelow (through bounded g e) (through plain g f) }
+    ensures outcome { (t : Tree) (e f : Env) → EnvsBelow e f → SensesBelow (eval bounded t e) (eval plain t f) }
+{}
+
+/// A group's set is evaluated once, and means what it means taken once for each name of the group.
+pub fn a_set_serves_its_group()
+    ensures { (c : Check) (b : Binder) (groups : List (List Name)) (at : Place) (ts : Trees) → HaveSets groups ts → (env : Env)
+        → eval c (node (binding b groups) at ts) env ≡ eval c (node (binding b (ungrouped groups)) at (sets_for_names groups ts)) env }
 {}

@@ -1,0 +1,2 @@
+-- What only laws speak of.
+pub mod Groups
