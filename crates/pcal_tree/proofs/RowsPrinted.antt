@@ -94,7 +94,7 @@ in_p : SpellsP p_tokens counted
 in_p = (text_of (text.to_end (at 5 1) (at 5 5)) (text.begin (at 3 1) (p.last_statement labels (p.simple move_phrase) (Some (at 4 16)))), search, refl, refl)
 
 in_c : SpellsC c_tokens counted
-in_c = (text_of (text.in_braces (at 1 17) (at 6 1)) (text.block (at 3 1) (c.last_statement (c.behind labels (c.simple move_phrase)) (Some (at 4 16))) (at 5 1) None), search, refl, refl)
+in_c = (text_of (text.in_braces (at 1 17) (at 6 1)) (text.block (at 3 1) (c.last_statement (c.labelled labels (c.simple move_phrase)) (Some (at 4 16))) (at 5 1) None), search, refl, refl)
 
 -- ---- what the grammar sees: a prime is no sign of an algorithm, a reserved word no name
 

@@ -18,7 +18,7 @@ ghost use Rattle.pcal_tree.specs.Labelled.{labelled};
 ghost use Rattle.pcal_tree.specs.Names.{given, naming};
 ghost use Rattle.pcal_tree.specs.laws.Apart.{FewNames, Apart, New, Untaken, AreNames, NoEndLabels};
 ghost use Rattle.tla_value.specs.Value.{Trouble, Outcome};
-ghost use Rattle.pcal_tree.specs.laws.Expansion.{Calls, FineCall, Free};
+ghost use Rattle.pcal_tree.specs.laws.Expansion.{Calls, FineCall, AnyPlace};
 ghost use Rattle.pcal_tree.specs.laws.Choosing.{told, landing};
 ghost use Rattle.pcal_tree.specs.Processes.{Proper, IsActor};
 ghost use Rattle.pcal_tree.specs.Faults.{Sound, Faulty};
@@ -70,14 +70,14 @@ pub fn runs_depend_on_the_variables()
 {}
 
 /// Statements with their macro calls written out take the courses that they take with the calls, in every scope and
-/// with anything behind them, kinds and places of faults included. The calls capture nothing, and each macro's body
+/// with anything after them, kinds and places of faults included. The calls capture nothing, and each macro's body
 /// begins with a statement.
 pub fn written_out_macros_run_the_same()
-    ensures { (M : Rules) (ms : List Macro) (here : Word) (ss : Statements) → Calls (FineCall M.check ms) ss → (sc : Scope) → Free sc → (K : Follow)
+    ensures { (M : Rules) (ms : List Macro) (here : Word) (ss : Statements) → Calls (FineCall M.check ms) ss → (sc : Scope) → AnyPlace sc → (K : Follow)
         → run (with_macros M ms) here ss sc K ≡ run (with_macros M []) here (expanded ms ss) sc K }
 {}
 
-/// The written names of an algorithm in a module are all different, and none is a name that stands already. Where those that
+/// The written names of an algorithm in a module are all different, and none is a name that is taken from the start. Where those that
 /// are wanted don't begin with WF_ or SF_, as no name does, none is reserved, the translation's own or standard.
 pub fn written_names_are_apart()
     ensures apart { (a : Algorithm) (o : Outside) → FewNames a o → Apart (given a o) }

@@ -54,18 +54,18 @@ abbrev mutual
   CleanSome c g U (or b bs) = Clean c g U b × CleanSome c g U bs
 
 -- the part that a name is does not rest on its place
-abbrev pub Free : Scope → Type 0
-Free sc = (x : Word) (at p : Place) (s : State) → sc.part x at s ≡ sc.part x p s
+abbrev pub AnyPlace : Scope → Type 0
+AnyPlace sc = (x : Word) (at p : Place) (s : State) → sc.part x at s ≡ sc.part x p s
 
 -- all names
 abbrev pub Any : Word → Type 0
 Any x = Unit {0}
 
 -- the list begins with an unlabelled statement, as each macro's body does
-abbrev pub Opens : Statements → Type 0
-Opens done = ⊥
-Opens (then at st rest) = Unit {0}
-Opens (mark l m rest) = ⊥
+abbrev pub BeginsUnlabelled : Statements → Type 0
+BeginsUnlabelled done = ⊥
+BeginsUnlabelled (then at st rest) = Unit {0}
+BeginsUnlabelled (mark l m rest) = ⊥
 
 -- a fact of each call
 abbrev mutual
@@ -94,7 +94,7 @@ Chosen false A B = B
 abbrev pub FineCall : Check → List Macro → Word → Trees → Type 0
 FineCall c [] m ts = Unit {0}
 FineCall c (d ∷ older) m ts =
-    Chosen (bytes_eq d.name.word m) (Clean c (arguments d.params ts) Any (expand (written_out older) d.body) × Calls (FineCall c older) d.body × Opens d.body) (FineCall c older m ts)
+    Chosen (bytes_eq d.name.word m) (Clean c (arguments d.params ts) Any (expand (written_out older) d.body) × Calls (FineCall c older) d.body × BeginsUnlabelled d.body) (FineCall c older m ts)
 
 -- no label at all, as in a macro's body
 abbrev mutual
