@@ -13,7 +13,7 @@ use Rattle.tla_value.proofs.OrderFuns.{sequence_of_seq}
 use Rattle.tla_value.specs.Strict.{strict_value}
 use Rattle.pcal_tree.specs.Algorithm.{Declaration, Routine, locals, Assignments, Statements, then, assign}
 use Rattle.pcal_tree.specs.Scope.{State, Scope, root_place, place_of, places_of, value_of}
-use Rattle.pcal_tree.specs.Assign.{Setting, set_one, set_all, settings, moved}
+use Rattle.pcal_tree.specs.Assign.{Setting, set_one, set_all, settings, after_assignments}
 use Rattle.pcal_tree.specs.Run.{Has, after, Rules, unlabelled, run}
 use Rattle.pcal_tree.specs.Program.{Program, Actor, index, local_index, read_at, written}
 use Rattle.pcal_tree.specs.Calls.{setting, initial_value, initial_place, all_read, frame, on_stack, argument_settings, variables_started, entered, label_value, label_name, first_label, finished, frame_fields}
@@ -56,8 +56,8 @@ after_finished : {X : Type 0} (o : Outcome X) (f : X → Outcome State) → afte
 after_finished (Ok x) f = refl
 after_finished (Err k) f = refl
 
-assign_is : (M : Rules) (at : Place) (ms : Assignments) (rest : Statements) (sc : Scope) (f : State → Outcome State) → ((s : State) → run M unlabelled rest sc to_end s ≡ finished (f s)) → (s : State) → run M unlabelled (then (spot at) (assign ms) rest) sc to_end s ≡ finished ((moved M.check ms sc s) >>= f)
-assign_is M at ms rest sc f h s = (λ i. after (moved M.check ms sc s) (λ u. h u i)) ∙ after_finished (moved M.check ms sc s) f
+assign_is : (M : Rules) (at : Place) (ms : Assignments) (rest : Statements) (sc : Scope) (f : State → Outcome State) → ((s : State) → run M unlabelled rest sc to_end s ≡ finished (f s)) → (s : State) → run M unlabelled (then (spot at) (assign ms) rest) sc to_end s ≡ finished ((after_assignments M.check ms sc s) >>= f)
+assign_is M at ms rest sc f h s = (λ i. after (after_assignments M.check ms sc s) (λ u. h u i)) ∙ after_finished (after_assignments M.check ms sc s) f
 
 started_law : (M : Rules) (P : Program) (v : Actor) (p : Routine) (at : Place) (sc : Scope) (place : Declaration → Place) (initial : Declaration → Tree) → M.check ≡ P.check → (ds : List Declaration) → Each (StandsAtPath sc (local_index v p)) (written_all P p ds) → Initials P v p at sc place initial ds → (last : Statements) (f : State → Outcome State) → ((s : State) → run M unlabelled last sc to_end s ≡ finished (f s)) → (s : State) → run M unlabelled (variables_written P p place initial ds last) sc to_end s ≡ finished ((variables_started P v p at ds s) >>= f)
 started_law M P v p at sc place initial q [] e k last f h s = h s

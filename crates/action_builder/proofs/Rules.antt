@@ -6,7 +6,7 @@ use Rattle.tla_value.specs.Meaning.{evals, part_values}
 use Rattle.tla_value.specs.Related.{In}
 use Rattle.pcal_tree.specs.Algorithm.{Name, Span, Routine, procedure_routines}
 use Rattle.pcal_tree.specs.Scope.{State, Scope, places_of}
-use Rattle.pcal_tree.specs.Assign.{moved}
+use Rattle.pcal_tree.specs.Assign.{after_assignments}
 use Rattle.pcal_tree.specs.Run.{Has, after, unlabelled, run}
 use Rattle.pcal_tree.specs.Program.{Program, Actor}
 use Rattle.pcal_tree.specs.Calls.{label_value, label_name, jumped, returned, entered_at, finished, named}
@@ -40,4 +40,4 @@ rules_do P v u I f sc c k = record {
 }
   where
     back : (at : Span) (inner : Scope) → Inner f sc inner → (s : State) → run (base_rules P v u) unlabelled ((moving P v u I).back at) inner to_end s ≡ finished (returned P v at.first u s)
-    back at inner fit s = after_end (moved P.check (return_moves P u at.first) inner s) ∙ ap finished (return_law P v u inner (k inner fit).own c at.first s)
+    back at inner fit s = after_end (after_assignments P.check (return_moves P u at.first) inner s) ∙ ap finished (return_law P v u inner (k inner fit).own c at.first s)

@@ -22,7 +22,7 @@ ghost use Rattle.pcal_tree.specs.Scope.{State, Scope};
 ghost use Rattle.pcal_tree.specs.Run.{Rules, Follow, run, exit_to, unlabelled};
 ghost use Rattle.pcal_tree.specs.StepStart.{begin};
 ghost use Rattle.pcal_tree.specs.Expand.{graft_all, expanded, written_out, expand_begin};
-ghost use Rattle.pcal_tree.specs.laws.Expansion.{Any, Calls, Clean, FineCall, BareBodies, Free};
+ghost use Rattle.pcal_tree.specs.laws.Expansion.{Any, Calls, Clean, FineCall, BareBodies, AnyPlace};
 ghost use Rattle.pcal_tree.specs.Program.{Program, Actor};
 ghost use Rattle.action_builder.specs.Assigned.{Names, more, assigned_in};
 ghost use Rattle.action_builder.specs.laws.States.{value_after, Agree, BadSomewhere};
@@ -88,7 +88,7 @@ pub fn written_moves_do_what_the_rules_say()
 /// With the variables of a process written as functions of its identifier, statements take the courses that they
 /// take where these variables are at the identifier; and there they are, read and assigned.
 pub fn own_variables_stand_at_the_identifier()
-    ensures courses { (M : Rules) (self : Word) (own : Word → Bool) (here : Word) (ss : Statements) (sc : Scope) → Free sc → Clean M.check (owned self own) Any ss → (K : Follow)
+    ensures courses { (M : Rules) (self : Word) (own : Word → Bool) (here : Word) (ss : Statements) (sc : Scope) → AnyPlace sc → Clean M.check (owned self own) Any ss → (K : Follow)
         → run M here (graft_all (owned self own) ss) sc K ≡ run M here ss (own_scope M.check self own sc) K }
     ensures there { (c : Check) (V : Word → Bool) (self : Word) (v : Value) (own : Word → Bool) (sc : Scope) → Whole V self v own sc → (x : Word) → V x ≡ true
         → ((at : Place) (s : State) → (sc.env s).now x at ≡ just (s x)) → StandsAtPath (own_scope c self own sc) (own_path (own x) v) x }

@@ -22,7 +22,7 @@ put x v s y = cond (bytes_eq x y) v (s y)
 
 -- ---- scopes
 
--- the part of a variable behind some subscripts
+-- the part of a variable after some subscripts
 pub record Part : Type 0 where
   pub variable : Word
   pub path : List Value
@@ -57,7 +57,7 @@ Reach = Scope → State → Outcome Part
 abbrev pub deeper : List Value → Part → Part
 deeper ks p = record { variable = p.variable; path = p.path ++ ks }
 
--- a name, a subscript behind a left side, or a field; no other tree is a left side
+-- a name, a subscript after a left side, or a field; no other tree is a left side
 abbrev pub reach_form : Form → Place → Reach → Reach
 reach_form (name x) at r sc s = sc.part x at s
 reach_form (strict apply) at r sc s = r sc s

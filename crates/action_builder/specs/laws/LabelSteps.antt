@@ -9,7 +9,7 @@ use Rattle.module_text.specs.Module.{Items}
 use Rattle.pcal_tree.specs.Algorithm.{Statements}
 use Rattle.pcal_tree.specs.Scope.{State, Scope}
 use Rattle.pcal_tree.specs.Run.{Has, Rules, run, exit_to}
-use Rattle.pcal_tree.specs.laws.Expansion.{Any, Clean, Free}
+use Rattle.pcal_tree.specs.laws.Expansion.{Any, Clean, AnyPlace}
 use Rattle.action_builder.specs.Assigned.{Names, member, more, assigned_in}
 use Rattle.action_builder.specs.laws.States.{mid, Agree}
 use Rattle.action_builder.specs.laws.Scopes.{own_scope, Inner}
@@ -47,7 +47,7 @@ action_of vs d = action_items vs (prepared_of d)
 
 -- the assignments of W do what M does, what jumps ends its list, and no bound name is self or a variable of the process
 pub record Prepares (M : Rules) (d : LabelStep) : Type 0 where
-  pub free : Free d.scope
+  pub free : AnyPlace d.scope
   pub does : Does M d.moving (Inner d.names (own_scope M.check d.self d.own d.scope)) (In d.names) d.callable
   pub tidy : Tidy (In d.names) d.callable d.statements
   pub clean : Clean M.check (owned d.self d.own) Any (settled d.moving d.here d.exit d.statements)
