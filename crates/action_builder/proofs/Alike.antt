@@ -1,25 +1,24 @@
 -- Outcomes that are the same but for places.
 use Rattle.std.proofs.Common.{Bool, true, false, cond, refl, subst, Ok, Err}
 use Rattle.tla_token.specs.declared.place.Place.{Place}
-use Rattle.tla_value.specs.Value.{Value, truth, int, text, model, set, fun, Values, no_values, and, Outcome, fault, over, ◌>>=◌, and_then, or_all}
+use Rattle.tla_value.specs.Value.{Value, truth, int, text, model, set, fun, Values, no_values, and, Outcome, Trouble, fault, over, ◌>>=◌, and_then, or_all}
 use Rattle.tla_value.specs.Stops.{truth_at, members_at}
 use Rattle.module_text.specs.ActionTruth.{Verdict, some_member}
-use Rattle.action_builder.specs.laws.Grafts.{SameButPlaces}
+use Rattle.action_builder.specs.laws.Places.{OneKind, SameButPlaces}
+
+one_kind : (k : Trouble) → OneKind k k
+one_kind (fault k p) = refl
+one_kind (over p) = tt
 
 pub same_refl : {X : Type 0} (o : Outcome X) → SameButPlaces o o
 same_refl (Ok x) = refl
-same_refl (Err (fault k p)) = refl
-same_refl (Err (over p)) = tt
+same_refl (Err k) = one_kind k
 
 pub then_same : {X Y : Type 0} (o q : Outcome X) (f g : X → Outcome Y) → SameButPlaces o q → ((x : X) → SameButPlaces (f x) (g x)) → SameButPlaces (o >>= f) (q >>= g)
 then_same (Ok x) (Ok y) f g h k = subst (λ z. SameButPlaces (f x) (g z)) h (k x)
 then_same (Ok x) (Err j) f g h k = absurd h
-then_same (Err (fault i p)) (Ok y) f g h k = absurd h
-then_same (Err (over p)) (Ok y) f g h k = absurd h
-then_same (Err (fault i p)) (Err (fault j q)) f g h k = h
-then_same (Err (fault i p)) (Err (over q)) f g h k = absurd h
-then_same (Err (over p)) (Err (fault j q)) f g h k = absurd h
-then_same (Err (over p)) (Err (over q)) f g h k = tt
+then_same (Err i) (Ok y) f g h k = absurd h
+then_same (Err i) (Err j) f g h k = h
 
 pub and_same : (p q v w : Verdict) → SameButPlaces p v → SameButPlaces q w → SameButPlaces (and_then p q) (and_then v w)
 and_same (Ok true) q (Ok true) w h k = k
@@ -27,12 +26,8 @@ and_same (Ok true) q (Ok false) w h k = cc
 and_same (Ok false) q (Ok true) w h k = cc
 and_same (Ok false) q (Ok false) w h k = refl
 and_same (Ok b) q (Err j) w h k = absurd h
-and_same (Err (fault i p)) q (Ok y) w h k = absurd h
-and_same (Err (over p)) q (Ok y) w h k = absurd h
-and_same (Err (fault i p)) q (Err (fault j r)) w h k = h
-and_same (Err (fault i p)) q (Err (over r)) w h k = absurd h
-and_same (Err (over p)) q (Err (fault j r)) w h k = absurd h
-and_same (Err (over p)) q (Err (over r)) w h k = tt
+and_same (Err i) q (Ok y) w h k = absurd h
+and_same (Err i) q (Err j) w h k = h
 
 pub or_same : (p q v w : Verdict) → SameButPlaces p v → SameButPlaces q w → SameButPlaces (or_all p q) (or_all v w)
 or_same p q v w h k = then_same p v _ _ h (λ a. then_same q w _ _ k (λ b. refl))

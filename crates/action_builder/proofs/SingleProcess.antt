@@ -13,7 +13,8 @@ use Rattle.module_text.specs.Module.{Item, test, setting, unchanged, exists, loc
 use Rattle.module_text.specs.ActionTruth.{truth_in, members_in, item_holds, items_hold, some_branch}
 use Rattle.pcal_tree.specs.laws.Expansion.{Any}
 use Rattle.action_builder.specs.SingleProcess.{in_place_of, graft_item, graft_items, graft_branches}
-use Rattle.action_builder.specs.laws.Grafts.{ClearItem, ClearItems, ClearBranches, SameButPlaces}
+use Rattle.action_builder.specs.laws.Grafts.{ClearItem, ClearItems, ClearBranches}
+use Rattle.action_builder.specs.laws.Places.{SameButPlaces}
 use Rattle.action_builder.proofs.Alike.{same_refl, then_same, and_same, or_same, cond_same, truth_same, members_same, each_same}
 
 -- an expression with trees put in, and what goes on with its value

@@ -19,7 +19,7 @@ use Rattle.action_builder.proofs.Names.{append_none, heads_same, one_names, all_
 use Rattle.action_builder.specs.laws.States.{mid}
 use Rattle.action_builder.proofs.Effects.{effect_names, effects_names, ways_names, Effects, parts_of, effect_of, effects_of, ways_of, nested}
 use Rattle.action_builder.proofs.Actions.{minus, all_same, hold, hold_some, holds, hold_sets, build, build_one, build_some, ended, value_for}
-use Rattle.action_builder.specs.laws.Ready.{SettledOne, Settled, SettledSome, Readable, IsWithin, Stands, FineMoves, FineBinds, FineOne, Fine, FineSome, values_of, holds_on}
+use Rattle.action_builder.specs.laws.Ready.{SettledOne, Settled, SettledSome, Readable, IsWithin, Stands, FineAssignments, FineBinds, FineOne, Fine, FineSome, values_of, holds_on}
 use Rattle.action_builder.proofs.Matching.{Matches, match_and, match_or, match_value, match_test, match_some, match_one, match_true, match_told, match_print, match_assert, exp_law, bound_env, paired_bound, scoped_bound, own_fine, side_fine, unchanged_same}
 use Rattle.action_builder.proofs.Actions as Action
 use Rattle.action_builder.specs.Written.{own, side_of, primed, left_of, unchanged_of, onto, filled, settings_of, nested_items, branch_items, write_one, write, write_some}
@@ -69,14 +69,14 @@ match_lists_same vs all own all' own' p q s t e at xs is' sc w h =
 
 -- ---- assignments
 
-match_setting : (U : Readable) (vs : List Word) (A : Names) (ms : Assignments) → FineMoves U vs A ms → (sc : Scope) (env : State → State → Env) → Stands U vs sc env → IsWithin A (member vs) → (s t : State) (y : Word) → member (heads ms) y ≡ true → member vs y ≡ true → Matches ((eval plain (primed A (side_of y (own y ms))) (env s t)).value >>= (λ v. Ok (is_value (values_of vs t y) v))) ((value_for y (parts_of plain ms) sc (mid s t A)) >>= (λ v. Ok (same (t y) v)))
+match_setting : (U : Readable) (vs : List Word) (A : Names) (ms : Assignments) → FineAssignments U vs A ms → (sc : Scope) (env : State → State → Env) → Stands U vs sc env → IsWithin A (member vs) → (s t : State) (y : Word) → member (heads ms) y ≡ true → member vs y ≡ true → Matches ((eval plain (primed A (side_of y (own y ms))) (env s t)).value >>= (λ v. Ok (is_value (values_of vs t y) v))) ((value_for y (parts_of plain ms) sc (mid s t A)) >>= (λ v. Ok (same (t y) v)))
 match_setting U vs A ms f sc env k w s t y m in_vs =
     let e : Tree = side_of y (own y ms) in
     subst (λ o. Matches (o.value >>= (λ v. Ok (is_value (values_of vs t y) v))) ((value_for y (parts_of plain ms) sc (mid s t A)) >>= (λ v. Ok (same (t y) v)))) (sym (exp_law U vs A sc env k.paired w (side_of y (own y ms)) (side_fine U A y (own y ms) (f.readable y m) (own_fine U A y ms f.sides)) s t))
     (subst (λ z. Matches ((eval plain (side_of y (own y ms)) (sc.env (mid s t A))).value >>= (λ v. Ok (is_value (values_of vs t y) v))) (z >>= (λ v. Ok (same (t y) v)))) (value_law (member vs) y ms f.left sc k.scoped.part (mid s t A) (λ at. k.scoped.reads y in_vs at (mid s t A)))
     (match_value (eval plain (side_of y (own y ms)) (sc.env (mid s t A))).value (λ v. Ok (is_value (values_of vs t y) v)) (λ v. Ok (same (t y) v)) (λ v. ap (λ b. is_value (cond b (Some (t y)) None) v) in_vs)))
 
-match_sets : (U : Readable) (vs : List Word) (A : Names) (ms : Assignments) → FineMoves U vs A ms → (sc : Scope) (env : State → State → Env) → Stands U vs sc env → IsWithin A (member vs) → (s t : State) (ys : List Word) → Within ys (heads ms) → Within ys vs → (rest : Items) (r : Outcome Bool) → Matches (holds_on vs env rest s t) r → Matches (holds_on vs env (settings_of A ms ys rest) s t) (and_then (hold_sets (Action.settings_of A (parts_of plain ms) ys) sc s t) r)
+match_sets : (U : Readable) (vs : List Word) (A : Names) (ms : Assignments) → FineAssignments U vs A ms → (sc : Scope) (env : State → State → Env) → Stands U vs sc env → IsWithin A (member vs) → (s t : State) (ys : List Word) → Within ys (heads ms) → Within ys vs → (rest : Items) (r : Outcome Bool) → Matches (holds_on vs env rest s t) r → Matches (holds_on vs env (settings_of A ms ys rest) s t) (and_then (hold_sets (Action.settings_of A (parts_of plain ms) ys) sc s t) r)
 match_sets U vs A ms f sc env k w s t [] i j rest r h = h
 match_sets U vs A ms f sc env k w s t (y ∷ ys) i j rest r h =
     subst (Matches (holds_on vs env (settings_of A ms (y ∷ ys) rest) s t)) (sym (and_then_assoc ((value_for y (parts_of plain ms) sc (mid s t A)) >>= (λ v. Ok (same (t y) v))) (hold_sets (Action.settings_of A (parts_of plain ms) ys) sc s t) r))
