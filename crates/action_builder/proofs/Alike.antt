@@ -1,5 +1,5 @@
 -- Outcomes that are the same but for places.
-use Rattle.std.proofs.Common.{◌≡◌, Bool, true, false, cond, ◌||◌, refl, subst, Ok, Err}
+use Rattle.std.proofs.Common.{Bool, true, false, cond, refl, subst, Ok, Err}
 use Rattle.tla_token.specs.declared.place.Place.{Place}
 use Rattle.tla_value.specs.Value.{Value, truth, int, text, model, set, fun, Values, no_values, and, Outcome, fault, over, ◌>>=◌, and_then, or_all}
 use Rattle.module_text.specs.Truth.{Verdict, as_truth, as_set, at_each}

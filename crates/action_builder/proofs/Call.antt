@@ -3,24 +3,24 @@ use Rattle.std.proofs.Common.{◌≡◌, List, [], ◌∷◌, ◌++◌, ◌⊎�
 use Rattle.std.specs.Option.{ok_or}
 use Rattle.tla_expr.specs.declared.op.Op.TheVariants.{Concat}
 use Rattle.tla_token.specs.declared.place.Place.{Place}
-use Rattle.tla_expr.specs.Tree.{Word, Each, operator, tuple, fields, name, Tree, node, Trees, no_trees, tree}
-use Rattle.tla_value.specs.Value.{Value, text, fault, Trouble, Outcome, ◌>>=◌}
+use Rattle.tla_expr.specs.Tree.{Word, Each, name, Tree, node, Trees, no_trees, tree, operator, tuple, fields}
+use Rattle.tla_value.specs.Value.{Value, text, Trouble, Outcome, ◌>>=◌, IsBad, fault}
 use Rattle.tla_value.specs.Order.{seq_from}
-use Rattle.tla_value.specs.declared.fault.FaultKind.TheVariants.{NotSequence}
 use Rattle.tla_value.specs.Stops.{Check, plain, sequence_at}
-use Rattle.tla_value.specs.Meaning.{Env, Denotation, part_values, eval, evals}
+use Rattle.tla_value.specs.Meaning.{eval, evals, part_values}
+use Rattle.tla_value.specs.declared.fault.FaultKind.TheVariants.{NotSequence}
 use Rattle.tla_value.proofs.OrderFuns.{sequence_of_seq}
 use Rattle.tla_value.specs.Strict.{strict_value}
 use Rattle.pcal_tree.specs.Algorithm.{Declaration, Routine, locals, Assignments, Statements, then, assign}
-use Rattle.pcal_tree.specs.Scope.{State, all_valued, Scope, root_place, place_of, places_of, value_of}
-use Rattle.pcal_tree.specs.Assign.{Setting, set_one, set_all, settings, moved}
+use Rattle.pcal_tree.specs.Scope.{State, Scope, root_place, place_of, places_of, value_of}
+use Rattle.pcal_tree.specs.Assign.{Setting, set_one, set_all, settings, after_assignments}
 use Rattle.pcal_tree.specs.Run.{Has, after, Rules, unlabelled, run}
 use Rattle.pcal_tree.specs.Program.{Program, Actor, index, local_index, read_at, written}
-use Rattle.pcal_tree.specs.Calls.{setting, frame_fields, initial_value, initial_place, all_read, frame, on_stack, argument_settings, variables_started, entered, label_value, label_name, first_label, finished}
-use Rattle.action_builder.specs.Action.{IsBad}
-use Rattle.action_builder.specs.Contract.{to_end}
-use Rattle.action_builder.specs.Settled.{Close}
-use Rattle.action_builder.specs.Moved.{name_at, spot, one_move, jump_written, names_at, stack_pushed, arguments_moved, variables_written, call_written, StandsAtPath, Machine, Initials, AsMany}
+use Rattle.pcal_tree.specs.Calls.{setting, initial_value, initial_place, all_read, frame, on_stack, argument_settings, variables_started, entered, label_value, label_name, first_label, finished, frame_fields}
+use Rattle.action_builder.specs.laws.Settling.{to_end, Close}
+use Rattle.action_builder.specs.Jumps.{name_at, spot, one_move, jump_written, names_at, stack_pushed, arguments_moved, variables_written, call_written}
+use Rattle.action_builder.specs.laws.Scopes.{StandsAtPath}
+use Rattle.action_builder.specs.laws.Jumps.{Machine, Initials, AsMany}
 use Rattle.action_builder.proofs.Denotations.{on_both}
 use Rattle.action_builder.proofs.Settle.{close_refl}
 use Rattle.action_builder.proofs.Moved.{one_moved, pc_law}
@@ -56,8 +56,8 @@ after_finished : {X : Type 0} (o : Outcome X) (f : X → Outcome State) → afte
 after_finished (Ok x) f = refl
 after_finished (Err k) f = refl
 
-assign_is : (M : Rules) (at : Place) (ms : Assignments) (rest : Statements) (sc : Scope) (f : State → Outcome State) → ((s : State) → run M unlabelled rest sc to_end s ≡ finished (f s)) → (s : State) → run M unlabelled (then (spot at) (assign ms) rest) sc to_end s ≡ finished ((moved M.check ms sc s) >>= f)
-assign_is M at ms rest sc f h s = (λ i. after (moved M.check ms sc s) (λ u. h u i)) ∙ after_finished (moved M.check ms sc s) f
+assign_is : (M : Rules) (at : Place) (ms : Assignments) (rest : Statements) (sc : Scope) (f : State → Outcome State) → ((s : State) → run M unlabelled rest sc to_end s ≡ finished (f s)) → (s : State) → run M unlabelled (then (spot at) (assign ms) rest) sc to_end s ≡ finished ((after_assignments M.check ms sc s) >>= f)
+assign_is M at ms rest sc f h s = (λ i. after (after_assignments M.check ms sc s) (λ u. h u i)) ∙ after_finished (after_assignments M.check ms sc s) f
 
 started_law : (M : Rules) (P : Program) (v : Actor) (p : Routine) (at : Place) (sc : Scope) (place : Declaration → Place) (initial : Declaration → Tree) → M.check ≡ P.check → (ds : List Declaration) → Each (StandsAtPath sc (local_index v p)) (written_all P p ds) → Initials P v p at sc place initial ds → (last : Statements) (f : State → Outcome State) → ((s : State) → run M unlabelled last sc to_end s ≡ finished (f s)) → (s : State) → run M unlabelled (variables_written P p place initial ds last) sc to_end s ≡ finished ((variables_started P v p at ds s) >>= f)
 started_law M P v p at sc place initial q [] e k last f h s = h s
@@ -82,15 +82,15 @@ place_is : (t : Tree) (sc : Scope) → ((x : Word) (at : Place) → sc.origin x 
 place_is (node (name x) at ts) sc o = sym (o x at)
 place_is (node m at ts) sc o = refl
 
-arguments_law : (c : Check) (path : List Value) (sc : Scope) → ((x : Word) (at : Place) → sc.origin x at ≡ at) → (xs : List Word) (ts : Trees) → AsMany xs ts → Each (StandsAtPath sc path) xs → (s : State) → settings c (arguments_moved xs ts) sc s ≡ (all_valued (evals c ts) (sc.env s)) >>= (λ vs. Ok (argument_settings path xs (places_of ts sc) vs))
+arguments_law : (c : Check) (path : List Value) (sc : Scope) → ((x : Word) (at : Place) → sc.origin x at ≡ at) → (xs : List Word) (ts : Trees) → AsMany xs ts → Each (StandsAtPath sc path) xs → (s : State) → settings c (arguments_moved xs ts) sc s ≡ (part_values (evals c ts) (sc.env s)) >>= (λ vs. Ok (argument_settings path xs (places_of ts sc) vs))
 arguments_law c path sc o [] no_trees m e s = refl
 arguments_law c path sc o [] (tree t ts) m e s = absurd m
 arguments_law c path sc o (x ∷ xs) no_trees m e s = absurd m
 arguments_law c path sc o (x ∷ xs) (tree t ts) m e s =
     (λ i. ((e.0 (root_place t) s).0 i) >>= (λ r. (value_of c t sc s) >>= (λ w. (settings c (arguments_moved xs ts) sc s) >>= (λ rest. Ok (record { place = place_is t sc o i; part = r; value = w } ∷ rest)))))
     ∙ (λ i. (value_of c t sc s) >>= (λ w. (arguments_law c path sc o xs ts m e.1 s i) >>= (λ rest. Ok (setting (place_of t sc) x path w ∷ rest))))
-    ∙ (λ i. (value_of c t sc s) >>= (λ w. then_then (all_valued (evals c ts) (sc.env s)) (λ vs. Ok (argument_settings path xs (places_of ts sc) vs)) (λ rest. Ok (setting (place_of t sc) x path w ∷ rest)) i))
-    ∙ sym (on_both (value_of c t sc s) (λ w. all_valued (evals c ts) (sc.env s)) (λ w vs. w ∷ vs) (λ vs. Ok (argument_settings path (x ∷ xs) (place_of t sc ∷ places_of ts sc) vs)))
+    ∙ (λ i. (value_of c t sc s) >>= (λ w. then_then (part_values (evals c ts) (sc.env s)) (λ vs. Ok (argument_settings path xs (places_of ts sc) vs)) (λ rest. Ok (setting (place_of t sc) x path w ∷ rest)) i))
+    ∙ sym (on_both (value_of c t sc s) (λ w. part_values (evals c ts) (sc.env s)) (λ w vs. w ∷ vs) (λ vs. Ok (argument_settings path (x ∷ xs) (place_of t sc ∷ places_of ts sc) vs)))
 
 -- ---- the new stack
 
@@ -148,7 +148,7 @@ all_set P v p at ts sc s w vs = (set_all P.check (setting at stack (index v.self
 
 -- the law
 pub call_law : (M : Rules) (P : Program) (v : Actor) (p : Routine) (at : Place) (ts : Trees) (back : Word) (place : Declaration → Place) (initial : Declaration → Tree) (sc : Scope) → M.check ≡ P.check → P.check ≡ plain → Machine P v p sc → AsMany (written_all P p p.params) ts → Initials P v p at sc place initial p.variables → (s : State) →
-    Close (Has (run M unlabelled (call_written P p at ts back place initial) sc to_end s)) (Has (after (all_valued (evals P.check ts) (sc.env s)) (λ vs. finished (entered P v at (text back) p (places_of ts sc) vs s))))
+    Close (Has (run M unlabelled (call_written P p at ts back place initial) sc to_end s)) (Has (after (part_values (evals P.check ts) (sc.env s)) (λ vs. finished (entered P v at (text back) p (places_of ts sc) vs s))))
 call_law M P v p at ts back place initial sc q c m as_many k s =
     subst (λ z. Close (Has z) (Has (after values (λ vs. finished (entered P v at (text back) p (places_of ts sc) vs s))))) (sym left)
     (subst (λ z. Close (Has (finished (pushed >>= (λ w. values >>= (all_set P v p at ts sc s w))))) (Has z)) (sym (after_finished values (λ vs. entered P v at (text back) p (places_of ts sc) vs s)))
@@ -156,7 +156,7 @@ call_law M P v p at ts back place initial sc q c m as_many k s =
     (close_finished _ _ (swap pushed values (all_set P v p at ts sc s)))))
   where
     values : Outcome (List Value)
-    values = all_valued (evals P.check ts) (sc.env s)
+    values = part_values (evals P.check ts) (sc.env s)
 
     pushed : Outcome Value
     pushed = (eval P.check (stack_pushed P p at back) (sc.env s)).value

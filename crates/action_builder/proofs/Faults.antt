@@ -2,12 +2,14 @@
 use Rattle.std.proofs.Common.{◌≡◌, List, [], ◌∷◌, ◌++◌, Bool, true, false, cond, ◌&&◌, bytes_eq, ◌⊎◌, refl, sym, ◌∙◌, ap, subst, inl, inr, ⊎_elim, Ok, Err}
 use Rattle.std.proofs.lemmas.Bool.{cases_Bool, or_cases, both_ways}
 use Rattle.tla_expr.specs.Tree.{Word}
-use Rattle.tla_value.specs.Value.{Value, Values, no_values, and, Trouble, Outcome, ◌>>=◌}
+use Rattle.tla_value.specs.Value.{Value, Values, no_values, and, Trouble, Outcome, ◌>>=◌, and_then, or_all, IsBad, NotFalse}
 use Rattle.tla_value.specs.Order.{same}
-use Rattle.pcal_tree.specs.Scope.{Scope, bound}
+use Rattle.pcal_tree.specs.Scope.{Scope, bound, State}
 use Rattle.action_builder.proofs.Equal.{name-true, eq-name, eq-value}
-use Rattle.pcal_tree.specs.Scope.{State}
-use Rattle.action_builder.specs.Action.{Names, member, more, mid, Effect, assign, await, branch, either, choose, Effects, done, then, Ways, no_ways, way, Parts, firsts, moved, value_for, hold_sets, settings_of, Apart, assigned, assigned_in, assigned_by, Awaits, Chosen, SomeOf, Picks, Next, RunOne, Run, RunSome, Item, unchanged, Items, all_same, and_then, or_all, some_member, holds, hold, hold_some, ended, minus, build_one, build, build_some, OnceOne, Once, OnceSome, IsBad, NotFalse, Agree}
+use Rattle.action_builder.specs.Assigned.{Names, member, more}
+use Rattle.action_builder.specs.laws.States.{mid, Agree}
+use Rattle.action_builder.proofs.Effects.{Effect, assign, await, branch, either, choose, Effects, done, then, Ways, no_ways, way, Parts, firsts, moved, effect_names, effects_names, ways_names, Awaits, Chosen, SomeOf, Picks, Next, RunOne, Run, RunSome}
+use Rattle.action_builder.proofs.Actions.{value_for, hold_sets, settings_of, Apart, Item, unchanged, Items, all_same, some_member, holds, hold, hold_some, ended, minus, build_one, build, build_some, OnceOne, Once, OnceSome}
 use Rattle.action_builder.proofs.Sets.{or_left, or_right, or_none, more_append, mid_in, mid_out, is_mid}
 use Rattle.action_builder.proofs.Frame.{got_bad, frame_one}
 use Rattle.action_builder.proofs.Parts.{moved_bad, bad_assigned}
@@ -53,29 +55,29 @@ sets_local A ps c s t u h (y ∷ ys) w =
     (sets_local A ps c s t u h ys (λ x m. w x (or_right (bytes_eq y x) (member ys x) m)) i)
 
 mutual
-  pub local_one : (A : Names) (st : Effect) (c : Scope) (s t u : State) → Agree (more A (assigned st)) t u → holds (build_one A st) c s t ≡ holds (build_one A st) c s u
+  pub local_one : (A : Names) (st : Effect) (c : Scope) (s t u : State) → Agree (more A (effect_names st)) t u → holds (build_one A st) c s t ≡ holds (build_one A st) c s u
   local_one A (assign ps) c s t u h = sets_local A ps c s t u h (firsts ps) (λ x m. m)
   local_one A (await e) c s t u h = λ i. e c (mid_agree s t u A (only A [] t u h) i)
   local_one A (branch e a b) c s t u h =
-      let xs = assigned_in a in let ys = assigned_in b in
+      let xs = effects_names a in let ys = effects_names b in
       λ i. (e c (mid_agree s t u A (only A (xs ++ ys) t u h) i)) >>= (λ p. cond p
       (ended_local (build A a) A xs ys (xs ++ ys) c s t u (behind xs ys) h (local_all A a c s t u (smaller A xs (xs ++ ys) t u (in_front xs ys) h)) i)
       (ended_local (build A b) A ys xs (xs ++ ys) c s t u (in_front xs ys) h (local_all A b c s t u (smaller A ys (xs ++ ys) t u (behind xs ys) h)) i))
-  local_one A (either bs) c s t u h = local_some A (assigned_by bs) bs c s t u (λ x m. m) h
+  local_one A (either bs) c s t u h = local_some A (ways_names bs) bs c s t u (λ x m. m) h
   local_one A (choose x e b) c s t u h =
-      λ i. (e c (mid_agree s t u A (only A (assigned_in b) t u h) i)) >>= (λ vs. some_alike vs (λ v. hold (build A b) (bound x v c) s t) (λ v. hold (build A b) (bound x v c) s u) (λ v. local_all A b (bound x v c) s t u h) i)
+      λ i. (e c (mid_agree s t u A (only A (effects_names b) t u h) i)) >>= (λ vs. some_alike vs (λ v. hold (build A b) (bound x v c) s t) (λ v. hold (build A b) (bound x v c) s u) (λ v. local_all A b (bound x v c) s t u h) i)
 
-  pub local_all : (A : Names) (ss : Effects) (c : Scope) (s t u : State) → Agree (more A (assigned_in ss)) t u → hold (build A ss) c s t ≡ hold (build A ss) c s u
+  pub local_all : (A : Names) (ss : Effects) (c : Scope) (s t u : State) → Agree (more A (effects_names ss)) t u → hold (build A ss) c s t ≡ hold (build A ss) c s u
   local_all A done c s t u h = refl
   local_all A (then st rest) c s t u h =
-      let xs = assigned st in let ys = assigned_in rest in
+      let xs = effect_names st in let ys = effects_names rest in
       λ i. and_then (local_one A st c s t u (smaller A xs (xs ++ ys) t u (in_front xs ys) h) i)
       (local_all (more A xs) rest c s t u (subst (λ B. Agree B t u) (more_append A xs ys) h) i)
 
-  local_some : (A : Names) (all : List Word) (bs : Ways) (c : Scope) (s t u : State) → Within (assigned_by bs) all → Agree (more A all) t u → hold_some (build_some A all bs) c s t ≡ hold_some (build_some A all bs) c s u
+  local_some : (A : Names) (all : List Word) (bs : Ways) (c : Scope) (s t u : State) → Within (ways_names bs) all → Agree (more A all) t u → hold_some (build_some A all bs) c s t ≡ hold_some (build_some A all bs) c s u
   local_some A all no_ways c s t u w h = refl
   local_some A all (way b bs) c s t u w h =
-      let xs = assigned_in b in let ys = assigned_by bs in
+      let xs = effects_names b in let ys = ways_names bs in
       λ i. or_all
       (ended_local (build A b) A xs all all c s t u (λ x m. m) h (local_all A b c s t u (smaller A xs all t u (λ x m. w x (in_front xs ys x m)) h)) i)
       (local_some A all bs c s t u (λ x m. w x (behind xs ys x m)) h i)
@@ -184,28 +186,28 @@ mutual
       faults_chosen A t (e c (mid s t A)) (λ u. e c (mid s u A)) _ _ k _ _ (λ u h. ap (e c) (mid_agree s u t A h)) r
       (λ m. let x = fault_all A a c s t k o.0 m in (x.0, x.1, ended_is_bad (build A a) _ c s x.0 x.2))
       (λ m. let x = fault_all A b c s t k o.1 m in (x.0, x.1, ended_is_bad (build A b) _ c s x.0 x.2))
-  fault_one A (either bs) c s t k o r = fault_some A (assigned_by bs) bs c s t k o r
+  fault_one A (either bs) c s t k o r = fault_some A (ways_names bs) bs c s t k o r
   fault_one A (choose x e b) c s t k o r =
       faults_picks A t (e c (mid s t A)) (λ u. e c (mid s u A)) _ k (λ v. hold (build A b) (bound x v c) s) (λ u h. ap (e c) (mid_agree s u t A h)) r (λ v m. fault_all A b (bound x v c) s t k o m)
 
   pub fault_all : (A : Names) (ss : Effects) (c : Scope) (s t : State) (k : Trouble) → Once A ss → Run ss c (mid s t A) (Err k) → Faults A t (hold (build A ss) c s)
   fault_all A done c s t k o r = got_bad (mid s t A) k (sym r)
   fault_all A (then st rest) c s t k o r =
-      let B = more A (assigned st) in
+      let B = more A (effect_names st) in
       parted (Run rest c) r.0 k _ r.2
       (λ j q. let x = fault_one A st c s t j o.0 (subst (RunOne st c (mid s t A)) q r.1) in (x.0, x.1, and_bad_left (holds (build_one A st) c s x.0) _ x.2))
       (λ v q n.
       let one : RunOne st c (mid s t A) (Ok v) = subst (RunOne st c (mid s t A)) q r.1 in
-      let off : (y : Word) → member (assigned st) y ≡ false → v y ≡ mid s t A y = λ y f. frame_one st c (mid s t A) v y one f in
-      let on_a : Agree A v t = λ y e. off y (⊎_elim (λ a. absurd (both_ways (A y) (apart_one A st o.0 y a) e)) (λ b. b) (cases_Bool (member (assigned st) y))) ∙ mid_in s t A y e in
-      let is : v ≡ mid s v B = is_mid s v v B (λ y e. refl) (λ y e. let p = or_none (A y) (member (assigned st) y) e in off y p.1 ∙ mid_out s t A y p.0) in
+      let off : (y : Word) → member (effect_names st) y ≡ false → v y ≡ mid s t A y = λ y f. frame_one st c (mid s t A) v y one f in
+      let on_a : Agree A v t = λ y e. off y (⊎_elim (λ a. absurd (both_ways (A y) (apart_one A st o.0 y a) e)) (λ b. b) (cases_Bool (member (effect_names st) y))) ∙ mid_in s t A y e in
+      let is : v ≡ mid s v B = is_mid s v v B (λ y e. refl) (λ y e. let p = or_none (A y) (member (effect_names st) y) e in off y p.1 ∙ mid_out s t A y p.0) in
       let one' : RunOne st c (mid s v A) (Ok (mid s v B)) = subst (λ w. RunOne st c (mid s v A) (Ok w)) is (subst (λ w. RunOne st c w (Ok v)) (mid_agree s t v A (λ y e. sym (on_a y e))) one) in
       let x = fault_all B rest c s v k o.1 (subst (λ w. Run rest c w (Err k)) is n) in
       let good : NotFalse (holds (build_one A st) c s x.0) = subst NotFalse (local_one A st c s v x.0 (λ y e. sym (x.1 y e))) (fits_one A st c s v o.0 one') in
-      (x.0, λ y e. x.1 y (or_left (A y) (member (assigned st) y) e) ∙ on_a y e, and_bad_right (holds (build_one A st) c s x.0) (hold (build B rest) c s x.0) good x.2))
+      (x.0, λ y e. x.1 y (or_left (A y) (member (effect_names st) y) e) ∙ on_a y e, and_bad_right (holds (build_one A st) c s x.0) (hold (build B rest) c s x.0) good x.2))
 
   fault_some : (A : Names) (all : List Word) (bs : Ways) (c : Scope) (s t : State) (k : Trouble) → OnceSome A bs → RunSome bs c (mid s t A) (Err k) → Faults A t (hold_some (build_some A all bs) c s)
   fault_some A all no_ways c s t k o r = absurd r
   fault_some A all (way b bs) c s t k o r = ⊎_elim
-      (λ m. let x = fault_all A b c s t k o.0 m in (x.0, x.1, or_bad (hold (ended (build A b) (unchanged (minus all (assigned_in b)))) c s x.0) (hold_some (build_some A all bs) c s x.0) (inl (ended_is_bad (build A b) _ c s x.0 x.2))))
-      (λ m. let x = fault_some A all bs c s t k o.1 m in (x.0, x.1, or_bad (hold (ended (build A b) (unchanged (minus all (assigned_in b)))) c s x.0) (hold_some (build_some A all bs) c s x.0) (inr x.2))) r
+      (λ m. let x = fault_all A b c s t k o.0 m in (x.0, x.1, or_bad (hold (ended (build A b) (unchanged (minus all (effects_names b)))) c s x.0) (hold_some (build_some A all bs) c s x.0) (inl (ended_is_bad (build A b) _ c s x.0 x.2))))
+      (λ m. let x = fault_some A all bs c s t k o.1 m in (x.0, x.1, or_bad (hold (ended (build A b) (unchanged (minus all (effects_names b)))) c s x.0) (hold_some (build_some A all bs) c s x.0) (inr x.2))) r

@@ -6,37 +6,32 @@ use Rattle.tla_value.specs.Stops.{plain}
 use Rattle.tla_value.specs.Meaning.{Env}
 use Rattle.module_text.specs.Truth.{Verdict, items_hold, TrueExactly}
 use Rattle.module_text.specs.Truth as Module
-use Rattle.pcal_tree.specs.Algorithm.{Statements, done, then, mark}
 use Rattle.pcal_tree.specs.Scope.{State}
-use Rattle.action_builder.specs.Action.{Names, member, more, assigned, assigned_in, minus, all_same, and_then, IsBad, NotFalse}
-use Rattle.action_builder.specs.Effects.{effect_of, effects_of}
-use Rattle.action_builder.specs.Written.{left_of, unchanged_of}
-use Rattle.action_builder.specs.Ready.{Readable, Fine, values_of, Matches, holds_on, unlimited}
-use Rattle.action_builder.specs.Prepared.{none}
+use Rattle.action_builder.specs.Assigned.{member, assigned_in}
+use Rattle.action_builder.proofs.Effects.{effects_of}
+use Rattle.action_builder.proofs.Actions.{minus, all_same}
+use Rattle.tla_value.specs.Value.{and_then, IsBad, NotFalse}
+use Rattle.action_builder.specs.laws.Ready.{Readable, values_of, holds_on, unlimited}
+use Rattle.action_builder.proofs.Matching.{Matches}
 use Rattle.action_builder.specs.laws.LabelSteps.{LabelStep, prepared_of, items_of, action_of, IsPrepared, IsReady, HasOutcome, EndsIn, StepsTo, MeetsTrouble}
+use Rattle.action_builder.specs.Written.{left_of, unchanged_of}
+use Rattle.action_builder.specs.Prepared.{none}
 use Rattle.action_builder.proofs.Sets.{minus_same, same_minus}
 use Rattle.action_builder.proofs.Frame.{frame}
-use Rattle.action_builder.proofs.Main.{append_cases}
+use Rattle.action_builder.proofs.Names.{all_names, all_in}
 use Rattle.action_builder.proofs.Contract.{runs_law}
 use Rattle.action_builder.proofs.Truth.{hold_onto, match_unchanged}
 use Rattle.action_builder.proofs.Items.{match_is}
 use Rattle.action_builder.proofs.Steps.{close_step, step_exactly, step_fits, fits_step, step_stops}
 
--- all that is assigned is a variable
-fine_assigned : (U : Readable) (vs : List Word) (A : Names) (ss : Statements) → Fine U vs A ss → (x : Word) → member (assigned_in (effects_of plain ss)) x ≡ true → member vs x ≡ true
-fine_assigned U vs A done f x m = absurd (both_ways false refl m)
-fine_assigned U vs A (then at st rest) f x m =
-    ⊎_elim (f.2 x) (fine_assigned U vs (more A (assigned (effect_of plain at.first st))) rest f.1 x) (append_cases (assigned (effect_of plain at.first st)) (assigned_in (effects_of plain rest)) x m)
-fine_assigned U vs A (mark l k rest) f x m = absurd f
-
 abbrev names_of : LabelStep → List Word
-names_of d = assigned_in (effects_of plain (prepared_of d))
+names_of d = assigned_in (prepared_of d)
 
 -- a step changes nothing else
 kept : (d : LabelStep) → IsPrepared d → (U : Readable) (vs : List Word) (env : State → State → Env) → IsReady U vs env none d → (s u : State) → HasOutcome none d s s (Ok u) → (x : Word) → member (names_of d) x ≡ false → u x ≡ s x
 kept d p U vs env r s u o x m =
     let c = close_step none d p s s in
-    frame (effects_of plain (prepared_of d)) d.scope s u x ((runs_law (unlimited d.rules) (member vs) none (prepared_of d) d.scope s s (Ok u) r.settled (λ y m at w. ([], r.stands.scoped.part y m at w))).0 ((c.ends u).1 o)) m
+    frame (effects_of plain (prepared_of d)) d.scope s u x ((runs_law (unlimited d.rules) (member vs) none (prepared_of d) d.scope s s (Ok u) r.settled (λ y m at w. ([], r.stands.scoped.part y m at w))).0 ((c.ends u).1 o)) (ap (λ xs. member xs x) (all_names plain (prepared_of d)) ∙ m)
 
 and_got : (c : Bool) → and_then (Ok c) (Ok true) ≡ Ok c
 and_got true = refl
@@ -52,7 +47,7 @@ there : (d : LabelStep) → IsPrepared d → (U : Readable) (vs : List Word) (en
 there d p U vs env r s t e q = (e.0, e.1, λ x m. ⊎_elim (λ a. e.2 x a) (λ a. kept d p U vs env r s e.0 e.1 x a ∙ sym (minus_same vs (names_of d) s t q x m a)) (cases_Bool (member (names_of d) x)))
 
 ends : (d : LabelStep) (U : Readable) (vs : List Word) (env : State → State → Env) → IsReady U vs env none d → (s t : State) → StepsTo vs d s t → EndsIn none d s t
-ends d U vs env r s t e = (e.0, e.1, λ x m. e.2 x (fine_assigned U vs none (prepared_of d) r.fine x m))
+ends d U vs env r s t e = (e.0, e.1, λ x m. e.2 x (all_in (member vs) (prepared_of d) r.settled x m))
 
 unchanged_there : (d : LabelStep) → IsPrepared d → (U : Readable) (vs : List Word) (env : State → State → Env) → IsReady U vs env none d → (s t : State) → StepsTo vs d s t → all_same (minus vs (names_of d)) s t ≡ true
 unchanged_there d p U vs env r s t e = same_minus vs (names_of d) s t (λ x m a. sym (e.2 x m) ∙ kept d p U vs env r s e.0 e.1 x a)

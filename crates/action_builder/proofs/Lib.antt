@@ -1,3 +1,6 @@
+pub mod Effects
+pub mod Actions
+pub mod Names
 pub mod Equal
 pub mod Sets
 pub mod Parts

@@ -4,30 +4,38 @@ use Rattle.std.proofs.lemmas.Bool.{cases_Bool, or_cases, both_ways, and_parts}
 use Rattle.tla_token.specs.declared.place.Place.{Place}
 use Rattle.tla_expr.specs.Tree.{Word, Form, name, next, strict, select, Tree, node, Trees, no_trees, tree, Every, EveryOf}
 use Rattle.tla_value.specs.declared.fault.FaultKind.TheVariants.{AssertFailed}
-use Rattle.tla_value.specs.Value.{Value, truth, int, text, model, set, fun, Values, no_values, and, Outcome, ◌>>=◌, fault}
+use Rattle.tla_value.specs.Value.{Value, truth, int, text, model, set, fun, Values, no_values, and, Outcome, ◌>>=◌, fault, and_then, or_all}
 use Rattle.tla_value.specs.Value as Values
 use Rattle.tla_value.specs.Order.{same}
 use Rattle.tla_value.specs.Stops.{plain, truth_at, members_at}
 use Rattle.tla_value.specs.Standard.{printed, asserted, standard_value}
 use Rattle.tla_value.specs.Meaning.{Env, just, bind, eval}
 use Rattle.tla_value.specs.Related.{In}
+use Rattle.tla_value.proofs.Primes.{Unprimed, unprimed_law}
 use Rattle.tla_value.proofs.Facts.{every_weaker}
-use Rattle.tla_value.proofs.Primes.{Between, Unprimed, unprimed_law}
 use Rattle.tla_value.proofs.Primes as Primes
-use Rattle.module_text.specs.Truth.{Verdict, as_truth, as_set, at_each, is_value, is_unchanged, items_hold, item_holds, some_branch}
+use Rattle.module_text.specs.Truth.{Verdict, as_truth, as_set, at_each, is_unchanged}
 use Rattle.module_text.specs.Truth as Module
 use Rattle.pcal_tree.specs.Algorithm.{Assignments, no_assignments, assignment}
 use Rattle.pcal_tree.specs.Scope.{State, Scope, bound, root_place}
-use Rattle.action_builder.specs.Action.{Names, member, mid, minus, all_same, and_then, or_all, some_member}
-use Rattle.action_builder.specs.Effects.{head_of}
+use Rattle.action_builder.specs.Assigned.{Names, member, head_of}
+use Rattle.action_builder.specs.laws.States.{mid}
+use Rattle.action_builder.proofs.Actions.{minus, all_same, some_member}
+use Rattle.action_builder.specs.laws.Ready.{Readable, Halfway, IsWithin, Paired, Scoped, NoNext, Plain, FineTree, FineSides, values_of}
 use Rattle.action_builder.specs.Written.{Key, sub, fixed, subs, keys_of, keys_first, keys_in, subscripts, own, slot_trees, except_of, is_whole, side_of, primed, left_of}
-use Rattle.action_builder.specs.Ready.{Readable, Halfway, IsWithin, Paired, Scoped, NoNext, Plain, FineTree, FineSides, values_of, Matches}
 use Rattle.action_builder.proofs.Equal.{name-true, eq-name, value-true, eq-value}
 use Rattle.action_builder.proofs.Sets.{or_left, or_right, minus_same, same_minus}
 use Rattle.action_builder.proofs.Main.{Within}
 use Rattle.action_builder.proofs.Denotations.{on_twice}
 
 -- ---- verdicts that match
+
+-- the same truth value, or neither has one
+abbrev pub Matches : Verdict → Verdict → Type 0
+Matches (Ok a) (Ok b) = a ≡ b
+Matches (Ok a) (Err k) = ⊥
+Matches (Err k) (Ok b) = ⊥
+Matches (Err j) (Err k) = Unit {0}
 
 pub match_and : (p q : Verdict) (v w : Outcome Bool) → Matches p v → Matches q w → Matches (Module.and_then p q) (and_then v w)
 match_and (Ok true) q (Ok true) w h k = k

@@ -1,22 +1,24 @@
 -- The assignments written for a jump, a return and a call do what these do.
-use Rattle.std.proofs.Common.{◌≡◌, List, [], ◌∷◌, ◌++◌, Option, Some, None, refl, sym, ◌∙◌, ap, Ok, Err}
+use Rattle.std.proofs.Common.{◌≡◌, List, [], ◌∷◌, ◌++◌, refl, sym, ◌∙◌, ap, Ok, Err}
 use Rattle.std.specs.Prelude.{codes}
 use Rattle.tla_token.specs.declared.place.Place.{Place}
-use Rattle.tla_expr.specs.Tree.{Word, select, Tree, Each}
-use Rattle.tla_value.specs.Value.{Value, text, Outcome, fault, over, ◌>>=◌}
-use Rattle.tla_value.specs.Order.{seq_from, sequence_of}
+use Rattle.tla_expr.specs.Tree.{Word, Tree, Each, select}
+use Rattle.tla_value.specs.Value.{Value, text, Outcome, ◌>>=◌}
+use Rattle.tla_value.specs.Order.{seq_from}
 use Rattle.tla_value.specs.Stops.{Check, plain, sequence_at}
 use Rattle.tla_value.specs.Strict.{applied, strict_value}
 use Rattle.tla_value.specs.Standard.{headed, tailed}
 use Rattle.tla_value.specs.Meaning.{called, part_values, eval}
 use Rattle.pcal_tree.specs.Algorithm.{Routine, locals}
 use Rattle.pcal_tree.specs.Scope.{State, Scope, value_of}
-use Rattle.pcal_tree.specs.Assign.{Setting, set_one, set_all, settings, moved}
+use Rattle.pcal_tree.specs.Assign.{Setting, set_one, set_all, settings, after_assignments}
 use Rattle.pcal_tree.specs.Run.{ends, after, Rules, unlabelled, run}
 use Rattle.pcal_tree.specs.Program.{Program, Actor, index, local_index, read_at}
 use Rattle.pcal_tree.specs.Calls.{label_name, setting, jumped, on_stack, fields_read, part_settings, restored, returned, finished}
-use Rattle.action_builder.specs.Contract.{to_end}
-use Rattle.action_builder.specs.Moved.{name_at, text_at, one_move, jump_written, kept_field, stack_rest, fields_moved, return_moves, StandsAtPath, Machine}
+use Rattle.action_builder.specs.laws.Settling.{to_end}
+use Rattle.action_builder.specs.Jumps.{name_at, text_at, one_move, jump_written, kept_field, stack_rest, fields_moved, return_moves}
+use Rattle.action_builder.specs.laws.Scopes.{StandsAtPath}
+use Rattle.action_builder.specs.laws.Jumps.{Machine}
 use Rattle.tla_value.proofs.Outcomes.{then_ok, then_then}
 use Rattle.action_builder.proofs.Denotations.{on_both}
 use Rattle.pcal_tree.specs.Variables.{written_all, pc, stack}
@@ -29,7 +31,7 @@ after_end (Err k) = refl
 
 -- one assignment, to a name that stands at a path
 pub one_moved : (c : Check) (at : Place) (x : Word) (path : List Value) (e : Tree) (sc : Scope) → StandsAtPath sc path x → (s : State)
-    → moved c (one_move (name_at at x) e) sc s ≡ (value_of c e sc s) >>= (λ w. set_one c (setting at x path w) s)
+    → after_assignments c (one_move (name_at at x) e) sc s ≡ (value_of c e sc s) >>= (λ w. set_one c (setting at x path w) s)
 one_moved c at x path e sc h s =
     (λ i. (((h at s).0 i) >>= (λ p. (value_of c e sc s) >>= (λ w. Ok (record { place = at; part = p; value = w } ∷ [])))) >>= (λ all. set_all c all s))
     ∙ then_then (value_of c e sc s) (λ w. Ok (setting at x path w ∷ [])) (λ all. set_all c all s)
@@ -37,7 +39,7 @@ one_moved c at x path e sc h s =
 
 pub pc_law : (M : Rules) (P : Program) (v : Actor) (at : Place) (l : Word) (sc : Scope) → StandsAtPath sc (index v.self) pc → (s : State) → M.check ≡ P.check → run M unlabelled (jump_written at l) sc to_end s ≡ finished (set_one P.check (setting at pc (index v.self) (text l)) s)
 pc_law M P v at l sc h s q =
-    after_end (moved M.check (one_move (name_at at pc) (text_at at l)) sc s)
+    after_end (after_assignments M.check (one_move (name_at at pc) (text_at at l)) sc s)
     ∙ ap finished (one_moved M.check at pc (index v.self) (text_at at l) sc h s)
     ∙ (λ i. finished (set_one (q i) (setting at pc (index v.self) (text l)) s))
 
@@ -86,7 +88,7 @@ own_law P v p sc m q at s front frames h (x ∷ xs) e =
     kept vs = part_settings at (local_index v p) xs vs ++ (setting at stack (index v.self) (seq_from frames) ∷ [])
 
 -- the assignment of a return, kinds and places of faults included
-pub return_law : (P : Program) (v : Actor) (p : Routine) (sc : Scope) → Machine P v p sc → P.check ≡ plain → (at : Place) (s : State) → moved P.check (return_moves P p at) sc s ≡ returned P v at p s
+pub return_law : (P : Program) (v : Actor) (p : Routine) (sc : Scope) → Machine P v p sc → P.check ≡ plain → (at : Place) (s : State) → after_assignments P.check (return_moves P p at) sc s ≡ returned P v at p s
 return_law P v p sc m q at s = first ∙ by (on_stack v at s) refl
   where
     others : Outcome (List Setting)
@@ -95,7 +97,7 @@ return_law P v p sc m q at s = first ∙ by (on_stack v at s) refl
     go : Value → Outcome State
     go w = others >>= (λ rest. set_all P.check (setting at pc (index v.self) w ∷ rest) s)
 
-    first : moved P.check (return_moves P p at) sc s ≡ ((on_stack v at s) >>= (λ frames. (headed at frames) >>= (λ front. applied at front (text pc)))) >>= go
+    first : after_assignments P.check (return_moves P p at) sc s ≡ ((on_stack v at s) >>= (λ frames. (headed at frames) >>= (λ front. applied at front (text pc)))) >>= go
     first =
         (λ i. (((m.pc at s).0 i) >>= (λ r. (field_law P v p sc m at pc s i) >>= (λ w. others >>= (λ rest. Ok (record { place = at; part = r; value = w } ∷ rest))))) >>= (λ all. set_all P.check all s))
         ∙ on_both ((on_stack v at s) >>= (λ frames. (headed at frames) >>= (λ front. applied at front (text pc)))) (λ w. others) (λ w rest. setting at pc (index v.self) w ∷ rest) (λ all. set_all P.check all s)

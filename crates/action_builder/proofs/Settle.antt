@@ -8,10 +8,11 @@ use Rattle.tla_value.specs.Stops.{Check}
 use Rattle.tla_value.specs.Related.{In}
 use Rattle.pcal_tree.specs.Algorithm.{Span, Binds, no_binds, one_of, is, Statement, assign, await, print, assert, skip, branch, either, with, while, goto, macro, call, return, Statements, done, then, mark, Branches, no_branches, or}
 use Rattle.pcal_tree.specs.Scope.{State, Scope, bound, test, members, value_of}
-use Rattle.pcal_tree.specs.Assign.{moved}
+use Rattle.pcal_tree.specs.Assign.{after_assignments}
 use Rattle.pcal_tree.specs.Run.{Course, stops, Has, HasSome, after, at_each, held, Follow, Rules, unlabelled, label_of, run_binds, run_one, run, run_branches, exit_to}
-use Rattle.action_builder.specs.Contract.{to_end}
-use Rattle.action_builder.specs.Settled.{Moving, jumps_one, jumps, jumps_some, settled_one, settled, settled_some, Stops, EachBind, Callable, TidyOne, Tidy, TidySome, Outcomes, AnyBad, Close, CloseCourses, Does, Inner}
+use Rattle.action_builder.specs.laws.Settling.{to_end, Stops, EachBind, Callable, TidyOne, Tidy, TidySome, Outcomes, AnyBad, Close, CloseCourses, Does}
+use Rattle.action_builder.specs.Settled.{Moving, jumps_one, jumps, jumps_some, settled_one, settled, settled_some}
+use Rattle.action_builder.specs.laws.Scopes.{Inner}
 use Rattle.pcal_tree.proofs.ExpandRuns.{following}
 
 -- ---- close courses
@@ -78,7 +79,7 @@ each_any (is x e bs) = (tt, each_any bs)
 
 mutual
   pub free_one : (M : Rules) (here there : Word) (at : Place) (st : Statement) → jumps_one st ≡ false → (sc : Scope) (K L : Follow) → CloseCourses K.goes L.goes → CloseCourses (run_one M here at st sc K) (run_one M there at st sc L)
-  free_one M here there at (assign ms) f sc K L h s = close_after (moved M.check ms sc s) K.goes L.goes h
+  free_one M here there at (assign ms) f sc K L h s = close_after (after_assignments M.check ms sc s) K.goes L.goes h
   free_one M here there at (await e) f sc K L h s = close_after (test M.check e sc s) _ _ (λ t. close_cond t K.goes (λ u. held at) L.goes (λ u. held at) s (h s) (close_held at at))
   free_one M here there at (print e) f sc K L h s = close_after (value_of M.check e sc s) (λ v. K.goes s) (λ v. L.goes s) (λ v. h s)
   free_one M here there at (assert e) f sc K L h s =
@@ -120,7 +121,7 @@ by_jump false M here at st st' rest rest' l sc d f h s = f refl s
 
 mutual
   settle_one : (M : Rules) (W : Moving) (Fit : Scope → Type 0) (F : Word → Type 0) (g : Callable) → Does M W Fit F g → (here l : Word) (at : Span) (st : Statement) (rest : Statements) → TidyOne F g st rest → (sc : Scope) → Fit sc → CloseCourses (run M unlabelled (settled W unlabelled l rest) sc to_end) (run M unlabelled rest sc (exit_to M l)) → CloseCourses (run M unlabelled (settled_one W here (label_of rest l) at st (settled W unlabelled l rest)) sc to_end) (run_one M here at.first st sc (following M rest sc (exit_to M l)))
-  settle_one M W Fit F g d here l at (assign ms) rest t sc fit h s = close_after (moved M.check ms sc s) _ _ h
+  settle_one M W Fit F g d here l at (assign ms) rest t sc fit h s = close_after (after_assignments M.check ms sc s) _ _ h
   settle_one M W Fit F g d here l at (await e) rest t sc fit h s = free_one M unlabelled here at.first (await e) refl sc (following M (settled W unlabelled l rest) sc to_end) (following M rest sc (exit_to M l)) h s
   settle_one M W Fit F g d here l at (print e) rest t sc fit h s = free_one M unlabelled here at.first (print e) refl sc (following M (settled W unlabelled l rest) sc to_end) (following M rest sc (exit_to M l)) h s
   settle_one M W Fit F g d here l at (assert e) rest t sc fit h s = free_one M unlabelled here at.first (assert e) refl sc (following M (settled W unlabelled l rest) sc to_end) (following M rest sc (exit_to M l)) h s

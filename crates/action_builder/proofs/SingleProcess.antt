@@ -1,16 +1,16 @@
 -- Items with trees put in for names have the truth that they have where the names stand for the trees, and troubles of the same kinds.
-use Rattle.std.proofs.Common.{◌≡◌, Bool, true, false, cond, bytes_eq, Some, None, refl, sym, ap, subst, Ok}
+use Rattle.std.proofs.Common.{◌≡◌, Bool, true, false, cond, bytes_eq, Some, None, refl, sym, subst, Ok}
 use Rattle.tla_token.specs.declared.place.Place.{Place}
 use Rattle.tla_expr.specs.Tree.{Word, Tree, Every, Graft, graft}
-use Rattle.tla_value.specs.Value.{Value, Outcome, ◌>>=◌}
+use Rattle.tla_value.specs.Value.{Value, ◌>>=◌}
 use Rattle.tla_value.specs.Stops.{Check}
 use Rattle.tla_value.specs.Meaning.{Env, just, bind, eval}
 use Rattle.tla_value.specs.Grafts.{read_tree}
-use Rattle.tla_value.specs.Related.{Clear, ClearForm}
+use Rattle.tla_value.specs.Related.{ClearForm}
 use Rattle.tla_value.specs.Definitions.{Valuation}
 use Rattle.tla_value.proofs.Graft.{Grafted, bound_grafted, grafted_law}
 use Rattle.module_text.specs.Module.{Item, test, setting, unchanged, exists, local, if_then_else, either, Items, no_items, item, Branches, no_branches, branch}
-use Rattle.module_text.specs.Truth.{Verdict, as_truth, as_set, at_each, is_value, place_of, item_holds, items_hold, some_branch}
+use Rattle.module_text.specs.Truth.{Verdict, place_of, item_holds, items_hold, some_branch}
 use Rattle.pcal_tree.specs.laws.Expansion.{Any}
 use Rattle.action_builder.specs.SingleProcess.{in_place_of, graft_item, graft_items, graft_branches}
 use Rattle.action_builder.specs.laws.Grafts.{ClearItem, ClearItems, ClearBranches, SameButPlaces}

@@ -1,29 +1,26 @@
 -- The sample step meets all that the laws ask.
-use Rattle.std.proofs.Common.{◌≡◌, List, [], ◌∷◌, Bool, true, false, cond, ◌||◌, ◌&&◌, bytes_eq, codes, Option, Some, None, refl, sym, ap, subst, ⊎_elim, Ok}
-use Rattle.std.proofs.lemmas.Bool.{or_cases, and_parts}
+use Rattle.std.proofs.Common.{◌≡◌, List, [], ◌∷◌, Bool, true, false, cond, bytes_eq, codes, Option, Some, None, refl, sym, subst}
 use Rattle.tla_token.specs.declared.place.Place.{Place}
 use Rattle.tla_expr.specs.Tree.{Word, Each}
-use Rattle.tla_value.specs.Value.{Value}
-use Rattle.tla_value.specs.Stops.{Check, plain}
-use Rattle.tla_value.specs.Meaning.{Env, just}
+use Rattle.tla_value.specs.Stops.{plain}
+use Rattle.tla_value.specs.Meaning.{just}
 use Rattle.tla_value.specs.Grafts.{owned, own_part}
-use Rattle.tla_value.specs.Related.{In}
-use Rattle.pcal_tree.specs.Algorithm.{no_assignments, assignment, Routine, procedure_routines}
-use Rattle.pcal_tree.specs.Scope.{State, Scope, bound, origin_in}
-use Rattle.pcal_tree.specs.laws.Expansion.{Any, Calls, FineCall, BareBodies}
-use Rattle.pcal_tree.specs.Program.{Program, Actor, index, local_index}
+use Rattle.pcal_tree.specs.Algorithm.{Routine}
+use Rattle.pcal_tree.specs.Scope.{State, Scope, origin_in}
+use Rattle.pcal_tree.specs.laws.Expansion.{Calls, FineCall, BareBodies}
+use Rattle.pcal_tree.specs.Program.{local_index}
 use Rattle.pcal_tree.specs.Variables.{pc, stack, written_all}
-use Rattle.pcal_tree.specs.Calls.{named}
-use Rattle.action_builder.specs.Action.{Names, member, more, Apart}
-use Rattle.action_builder.specs.Effects.{Settled}
-use Rattle.action_builder.specs.Moved.{StandsAtPath, Machine, Initials}
-use Rattle.action_builder.specs.Rules.{Machines, MachinesWithin}
-use Rattle.action_builder.specs.Settled.{settled, Inner}
-use Rattle.action_builder.specs.Ready.{Paired, Scoped}
+use Rattle.action_builder.specs.Assigned.{Names, member, more}
+use Rattle.action_builder.proofs.Actions.{Apart}
+use Rattle.action_builder.specs.laws.Ready.{Settled, Paired, Scoped}
+use Rattle.action_builder.specs.laws.Scopes.{StandsAtPath, Inner, own_scope, own_path, Whole}
+use Rattle.action_builder.specs.laws.Jumps.{Machine, Initials, Machines, MachinesWithin}
+use Rattle.action_builder.specs.Settled.{settled}
+use Rattle.action_builder.specs.laws.LabelSteps.{prepared_of, IsPrepared, IsReady}
 use Rattle.action_builder.specs.Prepared.{none}
-use Rattle.action_builder.specs.laws.LabelSteps.{own_scope, own_path, Whole, prepared_of, IsPrepared, IsReady}
 use Rattle.action_builder.specs.laws.Sample.{macros, unexpanded, program, routine, me, actor, self, variables, own, plain_env, plain_scope, scope, env, any_name, initials, step}
-use Rattle.action_builder.proofs.Decided.{each_name, clear_list, fine_list}
+use Rattle.action_builder.proofs.Names.{each_name}
+use Rattle.action_builder.proofs.Decided.{clear_list, fine_list}
 use Rattle.action_builder.proofs.Prepared.{own_stands}
 use Rattle.action_builder.proofs.Rules.{rules_do}
 use Rattle.action_builder.proofs.Matching.{paired_bound, scoped_bound}

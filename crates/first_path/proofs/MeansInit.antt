@@ -14,7 +14,6 @@ use Rattle.pcal_tree.specs.Scope.{State}
 use Rattle.pcal_tree.specs.Program.{Program}
 use Rattle.pcal_tree.specs.Calls.{label_value}
 use Rattle.pcal_tree.specs.InitialStates.{allowed, Initial}
-use Rattle.pcal_tree.specs.InitialStates as initial
 use Rattle.module_text.specs.Truth.{on_test, and_then, scope, init_holds, TrueExactly}
 use Rattle.module_text.proofs.Tells.{tells_and, tells_as}
 use Rattle.first_path.specs.Form.{Parts, is_fit}
@@ -29,7 +28,7 @@ use Rattle.pcal_tree.specs.Variables.{pc}
 
 -- the variable's test, and then that of pc
 both : Bool → Bool → Outcome Bool
-both a b = initial.and_then (initial.and_then (Ok a) (Ok true)) (Ok b)
+both a b = and_then (and_then (Ok a) (Ok true)) (Ok b)
 
 both_true : (a b : Bool) → both a b ≡ Ok true → (a ≡ true) × (b ≡ true)
 unfolding both
@@ -39,7 +38,7 @@ both_true false b e = cc
 
 true_both : (a b : Bool) → a ≡ true → b ≡ true → both a b ≡ Ok true
 unfolding both
-true_both a b d e = λ i. initial.and_then (initial.and_then (Ok (d i)) (Ok true)) (Ok (e i))
+true_both a b d e = λ i. and_then (and_then (Ok (d i)) (Ok true)) (Ok (e i))
 
 abbrev First : Parts → State → Type 0
 First f s = (s f.variable ≡ int (pos f.initial)) × (s pc ≡ text f.label)

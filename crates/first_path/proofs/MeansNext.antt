@@ -16,7 +16,7 @@ use Rattle.tla_value.specs.Definitions.{Valuation, or_sense}
 use Rattle.tla_value.specs.Standard.{standard_name}
 use Rattle.pcal_tree.specs.Algorithm.{Naming}
 use Rattle.pcal_tree.specs.Names.{first_free, kept, taken_outside, naming}
-use Rattle.pcal_tree.specs.Outside.{bound_in}
+use Rattle.pcal_tree.specs.BoundNames.{lists_in}
 use Rattle.pcal_tree.specs.Scope.{State}
 use Rattle.pcal_tree.specs.Run.{Has}
 use Rattle.pcal_tree.specs.Program.{Program, Actor}
@@ -266,7 +266,7 @@ module _ (p : Places) (f : Parts) (names : Naming) (values : Valuation) (h : Fit
 
 -- ---- with the written names
 
-right_bound : (v : Word) (r : Right) (p q : Place) → bound_in (right_tree v r p q) ≡ []
+right_bound : (v : Word) (r : Right) (p q : Place) → lists_in (right_tree v r p q) ≡ []
 right_bound v (single (number_operand n)) p q = refl
 right_bound v (single variable_operand) p q = refl
 right_bound v (sum (number_operand n) (number_operand m)) p q = refl

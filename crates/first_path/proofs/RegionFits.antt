@@ -180,7 +180,7 @@ vars_fine f v h =
 
 -- ---- brackets
 
--- whether a star stands first: behind `(` it would begin a comment
+-- whether a star stands first: after `(` it would begin a comment
 abbrev star : List ℕ → Bool
 star bytes = starts_with nat_eq bytes (42 ∷ [])
 

@@ -76,7 +76,7 @@ mutual
     choice_form : Place → Phrase → Place → ListForm → Place → ListForm → ItemForm  -- IF e THEN list ELSE list
     either_form : BranchForms → ItemForm
 
-  -- items, each behind its bullet
+  -- items, each after its bullet
   pub data ListForm : Type 0 where
     last_item : Place → ItemForm → ListForm
     more_items : Place → ItemForm → ListForm → ListForm
@@ -183,7 +183,7 @@ abbrev pub GoodWay : ℕ → WayForm → Type 0
 GoodWay e (one_form u) = GoodCall e u
 GoodWay e (some_form p q x s a t u) = Right e p × Right e q × Right e s × Good e a × Right e t × GoodCall e u
 
--- a list of forms, each behind its bullet
+-- a list of forms, each after its bullet
 abbrev pub spell_bullets : {A : Type 0} → ExprToken → (A → Tokens) → List (Place × A) → Tokens
 spell_bullets k f [] r = r
 spell_bullets k f (x ∷ xs) r = see x.0 k (f x.1 (spell_bullets k f xs r))

@@ -1,6 +1,11 @@
 pub mod Module
 pub mod ExprText
 pub mod Layout
+pub mod TextFront
+pub mod Comments
+pub mod HeaderAndRegion
+pub mod AlgorithmStretch
+pub mod RegionPlace
 pub mod Around
 pub mod Truth
 pub mod Grammar

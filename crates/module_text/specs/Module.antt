@@ -69,7 +69,7 @@ pub record Region : Type 0 where
   pub actions : List Action  -- of each procedure and process: its labels' actions, and then its own
   pub ended : Tree  -- the test in Terminating, beside `UNCHANGED vars`
   pub next : List Way  -- the disjuncts of Next
-  pub fairness : List Fairness  -- the conjuncts of Spec behind `Init` and `[][Next]_vars`
+  pub fairness : List Fairness  -- the conjuncts of Spec after `Init` and `[][Next]_vars`
   pub termination : Tree  -- Termination == <>(e)
 
 -- one of them

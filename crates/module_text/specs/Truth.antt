@@ -196,13 +196,13 @@ abbrev pub split_cup : List Way → Tree → List Tree → List Tree
 split_cup (y ∷ ys) (node (strict (operator Cup)) at (tree a (tree b no_trees))) es = split_cup ys a (b ∷ es)
 split_cup _ e es = e ∷ es
 
-abbrev pub behind_first : List Way → List Way
-behind_first [] = []
-behind_first (y ∷ ys) = ys
+abbrev pub after_first : List Way → List Way
+after_first [] = []
+after_first (y ∷ ys) = ys
 
 abbrev pub sets_of : List Way → Option Tree → List Tree
 sets_of ys None = []
-sets_of ys (Some e) = split_cup (behind_first ys) e []
+sets_of ys (Some e) = split_cup (after_first ys) e []
 
 -- the action of a call, with v in place of its argument
 abbrev pub called_for : Acts → Value → Call → Verdict

@@ -1,6 +1,7 @@
 mod Sample
 mod RowsRun
 mod RowsStep
+mod RowsMacros
 mod Choices
 pub mod GraftRuns
 pub mod ExpandRuns
@@ -25,3 +26,7 @@ pub mod TargetLaws
 pub mod SummaryLaws
 pub mod EffectLaws
 mod RowsOffences
+pub mod SameVariables
+pub mod StepVariables
+pub mod SameSteps
+pub mod SameStarts

@@ -132,3 +132,47 @@ label_with_an_own_name = refl
 -- Done: skip
 no_label : reserved (labelled (codes "Done") (stands 2 skip done)) ≡ record { rule = Reserved; place = at 1 } ∷ []
 no_label = refl
+
+-- ---- bound names
+
+abbrev awaiting : Tree → Algorithm
+awaiting e = (one_body [] (labelled (codes "A") (stands 2 (await e) done))).algorithm
+
+-- \A q \in x, q \in y : q
+abbrev bound_twice : Tree
+bound_twice = node (binding ForAll ((named 4 q ∷ []) ∷ (named 6 q ∷ []) ∷ [])) (at 3) (tree (read 5 x) (tree (read 7 y) (tree (read 8 q) no_trees)))
+
+twice_in_a_binder : repeated_names (awaiting bound_twice) around ≡ record { rule = Duplicate; place = at 6 } ∷ []
+twice_in_a_binder = refl
+
+-- \A q, q \in x : q
+twice_in_a_group : repeated_names (awaiting (node (binding ForAll ((named 4 q ∷ named 5 q ∷ []) ∷ [])) (at 3) (tree (read 6 x) (tree (read 7 q) no_trees)))) around
+    ≡ record { rule = Duplicate; place = at 5 } ∷ []
+twice_in_a_group = refl
+
+-- LET q == 0 q == 1 IN q
+twice_in_a_let : repeated_names (awaiting (node (local (named 4 q ∷ named 6 q ∷ [])) (at 3) (tree (num 0) (tree (num 1) (tree (read 7 q) no_trees))))) around
+    ≡ record { rule = Duplicate; place = at 6 } ∷ []
+twice_in_a_let = refl
+
+-- with q = 0, q = 1 do skip; end with
+twice_in_a_with :
+    repeated_names (one_body [] (labelled (codes "A") (stands 2 (with (is (named 3 q) (num 0) (is (named 5 q) (num 1) no_binds)) (stands 7 skip done)) done))).algorithm around
+    ≡ record { rule = Duplicate; place = at 5 } ∷ []
+twice_in_a_with = refl
+
+-- with q = 0 do with q = 1 do skip; end with; end with: an outer form has the name, which another rule refuses
+in_two_lists :
+    repeated_names (one_body [] (labelled (codes "A") (stands 2 (with (is (named 3 q) (num 0) no_binds) (stands 5 (with (is (named 6 q) (num 1) no_binds) (stands 8 skip done)) done)) done))).algorithm around
+    ≡ []
+in_two_lists = refl
+
+-- \A pc \in x : Len
+own_bound_name : reserved_declared (awaiting (node (binding ForAll ((named 4 (codes "pc") ∷ []) ∷ [])) (at 3) (tree (read 5 x) (tree (read 6 (codes "Len")) no_trees)))) around
+    ≡ record { rule = Reserved; place = at 4 } ∷ []
+own_bound_name = refl
+
+-- LET Len == 0 IN x
+standard_bound_name : reserved_declared (awaiting (node (local (named 4 (codes "Len") ∷ [])) (at 3) (tree (num 0) (tree (read 6 x) no_trees)))) around
+    ≡ record { rule = Reserved; place = at 4 } ∷ []
+standard_bound_name = refl

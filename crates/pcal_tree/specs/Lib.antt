@@ -18,7 +18,7 @@ pub mod Script
 pub mod Expand
 pub mod Marks
 pub mod Names
-pub mod GrammarView
+pub mod AlgorithmTokens
 pub mod GrammarParts
 pub mod GrammarP
 pub mod GrammarC
@@ -29,6 +29,7 @@ pub mod Paths
 pub mod OffencesSteps
 pub mod OffencesLabels
 pub mod Labelled
+pub mod BoundNames
 pub mod Outside
 pub mod OffencesNames
 pub mod OffencesReserved

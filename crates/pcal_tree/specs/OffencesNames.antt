@@ -8,6 +8,7 @@ use Rattle.tla_token.specs.Signs.{is_among}
 use Rattle.tla_expr.specs.Tree.{Word, Form, name, operator_call, Tree, node, Trees, no_trees, tree, words, seen_names}
 use Rattle.pcal_tree.specs.Algorithm.{Name, Assignments, no_assignments, assignment, Binds, no_binds, one_of, is, Statement, assign, await, print, assert, skip, branch, either, with, while, goto, macro, call, return, Statements, done, then, mark, Branches, no_branches, or, Start, unset, equals, among, Declaration, Definition, Macro, Procedure, Process, Main, alone, processes, Algorithm}
 use Rattle.pcal_tree.specs.Offences.{offence, offence_if}
+use Rattle.pcal_tree.specs.BoundNames.{bound_lists}
 use Rattle.tla_value.specs.Outside.{Outside, ReadDefinition}
 use Rattle.pcal_tree.specs.Outside.{unit_names}
 use Rattle.pcal_tree.specs.Variables.{declared}
@@ -139,7 +140,7 @@ abbrev mutual
   in_branches C ps no_branches s = []
   in_branches C ps (or b bs) s = in_body C ps b s ++ in_branches C ps bs s
 
--- the names of a macro's body are looked up where the call stands; the macros stand with the newest first, and each calls older ones
+-- the names of a macro's body are looked up where the call is; the macros are given with the newest first, and each calls older ones
 abbrev pub macro_offences : List Macro → List Procedure → Calls
 macro_offences [] ps s at m ts = offence Unknown at
 macro_offences (d ∷ older) ps s at m ts =
@@ -230,7 +231,7 @@ repeated_in_main (processes ps) = flat_map (λ p. repeated [] (names_of p.variab
 abbrev pub kept_names : Algorithm → List Name
 kept_names a = names_of a.globals ++ map (λ d. d.name) a.definitions
 
--- in one list or unit; of globals, definitions, macros, procedures and processes; and globals and definitions with the name of an outside unit
+-- in one list or unit, also of names that are bound; of globals, definitions, macros, procedures and processes; and globals and definitions with the name of an outside unit
 abbrev pub repeated_names : Algorithm → Outside → List Refusal
 repeated_names a o =
     repeated (unit_names o) (kept_names a)
@@ -238,4 +239,4 @@ repeated_names a o =
     ++ (flat_map (λ d. repeated [] d.params) a.definitions
     ++ (flat_map (λ d. repeated [] d.params) a.macros
     ++ (flat_map (λ p. repeated [] (names_of (p.params ++ p.variables))) a.procedures
-    ++ repeated_in_main a.main))))
+    ++ (repeated_in_main a.main ++ flat_map (repeated []) (bound_lists a))))))

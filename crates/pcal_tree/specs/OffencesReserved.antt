@@ -1,12 +1,13 @@
--- Names that the translation or a standard module has, where they are declared; the bound names of expressions are not among these: trees
--- don't hold their places ("A PlusCal User's Manual", appendix A and section 4).
+-- Names that the translation or a standard module has, where they are declared or bound ("A PlusCal User's Manual", appendix A and section 4).
 use Rattle.std.specs.Prelude.{List, [], ◌∷◌, ◌++◌, false, ◌||◌, codes}
 use Rattle.std.specs.List.{flat_map}
 use Rattle.tla_token.specs.declared.rule.Rule.TheVariants.{Reserved}
 use Rattle.tla_token.specs.declared.rule.Refusal.{Refusal}
 use Rattle.tla_token.specs.Signs.{is_among}
 use Rattle.tla_token.specs.Words.{is_own, is_standard}
-use Rattle.pcal_tree.specs.Algorithm.{Name, Binds, no_binds, one_of, is, Statement, branch, either, with, while, Statements, done, then, mark, Branches, no_branches, or, Definition, Macro, Procedure, Process, Main, alone, processes, Algorithm}
+use Rattle.tla_expr.specs.Tree.{Name}
+use Rattle.pcal_tree.specs.Algorithm.{Definition, Macro, Procedure, Process, Main, alone, processes, Algorithm}
+use Rattle.pcal_tree.specs.BoundNames.{all_of, bound_lists}
 use Rattle.pcal_tree.specs.Offences.{offence_if}
 use Rattle.pcal_tree.specs.OffencesLabels.{Label, labels}
 use Rattle.pcal_tree.specs.OffencesNames.{names_of}
@@ -14,51 +15,29 @@ use Rattle.tla_value.specs.Outside.{Outside, Opaque, ReadDefinition}
 
 -- ---- declared names
 
-abbrev pub bind_names : Binds → List Name
-bind_names no_binds = []
-bind_names (one_of x e bs) = x ∷ bind_names bs
-bind_names (is x e bs) = x ∷ bind_names bs
-
--- the names of each `with`
-abbrev mutual
-  pub with_names_of_one : Statement → List Name
-  with_names_of_one (branch e a b) = with_names a ++ with_names b
-  with_names_of_one (either bs) = with_names_of_some bs
-  with_names_of_one (with bs b) = bind_names bs ++ with_names b
-  with_names_of_one (while e b) = with_names b
-  with_names_of_one _ = []
-
-  pub with_names : Statements → List Name
-  with_names done = []
-  with_names (then at st rest) = with_names_of_one st ++ with_names rest
-  with_names (mark l k rest) = with_names rest
-
-  pub with_names_of_some : Branches → List Name
-  with_names_of_some no_branches = []
-  with_names_of_some (or b bs) = with_names b ++ with_names_of_some bs
-
 abbrev pub names_of_definition : Definition → List Name
 names_of_definition d = d.name ∷ d.params
 
 abbrev pub names_of_macro : Macro → List Name
-names_of_macro d = d.name ∷ (d.params ++ with_names d.body)
+names_of_macro d = d.name ∷ d.params
 
 abbrev pub names_of_procedure : Procedure → List Name
-names_of_procedure p = p.name ∷ (names_of (p.params ++ p.variables) ++ with_names p.body)
+names_of_procedure p = p.name ∷ names_of (p.params ++ p.variables)
 
 abbrev pub names_of_process : Process → List Name
-names_of_process p = p.name ∷ (names_of p.variables ++ with_names p.body)
+names_of_process p = p.name ∷ names_of p.variables
 
 abbrev pub names_of_main : Main → List Name
-names_of_main (alone b) = with_names b
+names_of_main (alone b) = []
 names_of_main (processes ps) = flat_map names_of_process ps
 
--- all that an algorithm declares, and the names of each `with`
+-- all that an algorithm declares, and all names that it binds
 abbrev pub declared_names : Algorithm → List Name
 declared_names a =
     names_of a.globals
     ++ (flat_map names_of_definition a.definitions
-    ++ (flat_map names_of_macro a.macros ++ (flat_map names_of_procedure a.procedures ++ names_of_main a.main)))
+    ++ (flat_map names_of_macro a.macros
+    ++ (flat_map names_of_procedure a.procedures ++ (names_of_main a.main ++ all_of (bound_lists a)))))
 
 -- ---- labels
 

@@ -6,9 +6,9 @@ use Rattle.pcal_tree.specs.Algorithm.{nowhere, Name, Span, Assignments, no_assig
 abbrev pub no_span : Span
 no_span = record { first = nowhere; last = nowhere }
 
-abbrev pub moves_placeless : Assignments → Assignments
-moves_placeless no_assignments = no_assignments
-moves_placeless (assignment l e ms) = assignment (tree_placeless l) (tree_placeless e) (moves_placeless ms)
+abbrev pub assignments_placeless : Assignments → Assignments
+assignments_placeless no_assignments = no_assignments
+assignments_placeless (assignment l e ms) = assignment (tree_placeless l) (tree_placeless e) (assignments_placeless ms)
 
 abbrev pub binds_placeless : Binds → Binds
 binds_placeless no_binds = no_binds
@@ -17,7 +17,7 @@ binds_placeless (is x e bs) = is (name_placeless x) (tree_placeless e) (binds_pl
 
 abbrev mutual
   pub statement_placeless : Statement → Statement
-  statement_placeless (assign ms) = assign (moves_placeless ms)
+  statement_placeless (assign ms) = assign (assignments_placeless ms)
   statement_placeless (await e) = await (tree_placeless e)
   statement_placeless (print e) = print (tree_placeless e)
   statement_placeless (assert e) = assert (tree_placeless e)

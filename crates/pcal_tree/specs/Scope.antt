@@ -8,7 +8,7 @@ use Rattle.tla_value.specs.Value.{Value, truth, text, set, Values, fault, Outcom
 use Rattle.tla_value.specs.Stops.{Check, truth_at, members_at}
 use Rattle.pcal_tree.specs.Algorithm.{nowhere}
 use Rattle.tla_value.specs.Grafts.{through as through_env}
-use Rattle.tla_value.specs.Meaning.{Env, Denotation, bind, eval, evals}
+use Rattle.tla_value.specs.Meaning.{Env, bind, part_values, eval, evals}
 
 -- ---- states and results
 
@@ -19,17 +19,9 @@ State = Word → Value
 abbrev pub put : Word → Value → State → State
 put x v s y = cond (bytes_eq x y) v (s y)
 
--- expressions from left to right
-abbrev pub all_valued : List Denotation → Env → Outcome (List Value)
-all_valued [] env = Ok []
-all_valued (d ∷ ds) env = do
-  v ← (d env).value
-  vs ← all_valued ds env
-  Ok (v ∷ vs)
-
 -- ---- scopes
 
--- the part of a variable behind some subscripts
+-- the part of a variable after some subscripts
 pub record Part : Type 0 where
   pub variable : Word
   pub path : List Value
@@ -68,7 +60,7 @@ Reach = Scope → State → Outcome Part
 abbrev pub deeper : List Value → Part → Part
 deeper ks p = record { variable = p.variable; path = p.path ++ ks }
 
--- a name, a subscript behind a left side, or a field; no other tree is a left side
+-- a name, a subscript after a left side, or a field; no other tree is a left side
 abbrev pub reach_form : Form → Place → Reach → Reach
 reach_form (name x) at r sc s = sc.part x at s
 reach_form (strict apply) at r sc s = r sc s
@@ -87,7 +79,7 @@ abbrev mutual
   reach_path c at no_trees sc s = Err (fault NotFunction nowhere)
   reach_path c at (tree f us) sc s = do
     p ← reach c f sc s
-    ks ← all_valued (evals c us) (sc.env s)
+    ks ← part_values (evals c us) (sc.env s)
     Ok (deeper ks p)
 
 -- ---- names that stand for trees, as a macro's parameters do

@@ -1,16 +1,13 @@
 -- The assignments that are written for jumps and returns, and for calls ("A PlusCal User's Manual", sections 3.2.9 and 3.4).
-use Rattle.std.specs.Prelude.{◌≡◌, List, [], ◌∷◌, codes, Some, Ok}
+use Rattle.std.specs.Prelude.{List, [], ◌∷◌, codes, Some, Option, None}
 use Rattle.tla_token.specs.declared.place.Place.{Place}
 use Rattle.tla_expr.specs.declared.op.Op.TheVariants.{Concat}
-use Rattle.tla_expr.specs.Tree.{Word, Each, string, name, operator_call, strict, operator, tuple, fields, select, Tree, node, Trees, no_trees, tree}
-use Rattle.tla_value.specs.Value.{Value, Outcome, ◌>>=◌}
-use Rattle.tla_value.specs.Stops.{sense_of}
-use Rattle.tla_value.specs.Standard.{first_of, rest_of, standard_sense}
-use Rattle.pcal_tree.specs.Algorithm.{Span, Declaration, Routine, locals, Assignments, no_assignments, assignment, Statements, done, then, assign}
-use Rattle.pcal_tree.specs.Scope.{State, Scope, root_place, value_of}
-use Rattle.pcal_tree.specs.Program.{Program, Actor, index, local_index, read_at, written}
-use Rattle.pcal_tree.specs.Calls.{label_name, first_label, initial_place, initial_value, frame_fields}
-use Rattle.action_builder.specs.Effects.{part_at}
+use Rattle.tla_expr.specs.Tree.{Word, string, name, operator_call, strict, operator, tuple, fields, select, Tree, node, Trees, no_trees, tree}
+use Rattle.pcal_tree.specs.Algorithm.{Span, Declaration, Routine, locals, Assignments, no_assignments, assignment, Statements, done, then, assign, procedure_routines, either, no_branches}
+use Rattle.pcal_tree.specs.Scope.{root_place}
+use Rattle.pcal_tree.specs.Program.{Program, Actor, written}
+use Rattle.pcal_tree.specs.Calls.{label_name, first_label, frame_fields, named}
+use Rattle.action_builder.specs.Settled.{Moving}
 use Rattle.pcal_tree.specs.Variables.{written_all, pc, stack}
 
 abbrev pub name_at : Place → Word → Tree
@@ -85,30 +82,21 @@ call_written P p at ts back place initial =
     then (spot at) (assign (assignment (name_at at stack) (stack_pushed P p at back) (arguments_moved (written_all P p p.params) ts)))
     (variables_written P p place initial p.variables (jump_written at (label_name P p (first_label p))))
 
--- ---- scopes
+-- ---- of a routine
 
--- a variable stands at a path
-abbrev pub StandsAtPath : Scope → List Value → Word → Type 0
-StandsAtPath sc path x = (at : Place) (s : State) → (sc.part x at s ≡ Ok (part_at x path)) × ((sc.env s).now x at ≡ sense_of (read_at at path (s x)))
+-- the written initial values of a procedure's variables, and their places in a call at a place: what stands for no initial value stands there
+pub record Written : Type 0 where
+  pub place : Routine → Place → Declaration → Place
+  pub initial : Routine → Declaration → Tree
 
--- pc, the stack and the variables of p stand at the process's identifier, and Head and Tail are those of Sequences
-pub record Machine (P : Program) (v : Actor) (p : Routine) (sc : Scope) : Type 0 where
-  pub pc : StandsAtPath sc (index v.self) pc
-  pub stack : StandsAtPath sc (index v.self) stack
-  pub own : Each (StandsAtPath sc (local_index v p)) (written_all P p (locals p))
-  pub head : (s : State) → (sc.env s).defs (codes "Head") ≡ Some (standard_sense P.check first_of)
-  pub tail : (s : State) → (sc.env s).defs (codes "Tail") ≡ Some (standard_sense P.check rest_of)
-  pub origin : (x : Word) (at : Place) → sc.origin x at ≡ at
+-- a call of no procedure can't be taken
+abbrev pub call_to : Program → Written → Span → Trees → Word → Option Routine → Statements
+call_to P I at ts back None = then at (either no_branches) done
+call_to P I at ts back (Some p) = call_written P p at.first ts back (I.place p at.first) (I.initial p)
 
--- the written initial value of each variable of p, with its place, is the variable's initial value
-abbrev pub Initials : Program → Actor → Routine → Place → Scope → (Declaration → Place) → (Declaration → Tree) → List Declaration → Type 0
-Initials P v p at sc place initial [] = Unit {0}
-Initials P v p at sc place initial (d ∷ ds) =
-    (initial_place at d.start ≡ place d) × ((s : State) → initial_value P v p at d.start s ≡ value_of P.check (initial d) sc s)
-    × Initials P v p at sc place initial ds
-
--- an argument for each parameter
-abbrev pub AsMany : List Word → Trees → Type 0
-AsMany [] no_trees = Unit {0}
-AsMany (x ∷ xs) (tree t ts) = AsMany xs ts
-AsMany _ _ = ⊥
+abbrev pub moving : Program → Actor → Routine → Written → Moving
+moving P v u I = record {
+  pc = λ l. jump_written v.own.name.place (label_name P u l);
+  call = λ at p ts l. call_to P I at ts (label_name P u l) (named p.word (procedure_routines P.algorithm));
+  back = λ at. return_written P u at;
+}

@@ -1,7 +1,7 @@
 -- What is asked of statements and scopes so that the written items mean what the statements do; and the truth of these items.
-use Rattle.std.specs.Prelude.{◌≡◌, List, [], Bool, true, false, cond, codes, Some, None, Ok, Err}
+use Rattle.std.specs.Prelude.{◌≡◌, List, [], Bool, true, false, cond, codes, Some, None, Ok}
 use Rattle.tla_token.specs.declared.place.Place.{Place}
-use Rattle.tla_expr.specs.Tree.{Word, Form, next, Tree, Each, Every, binders}
+use Rattle.tla_expr.specs.Tree.{Word, apply, select, Form, name, strict, next, Tree, node, Trees, no_trees, tree, Each, Every, binders}
 use Rattle.tla_value.specs.Stops.{plain}
 use Rattle.tla_value.specs.Standard.{printed, asserted, standard_sense}
 use Rattle.tla_value.specs.Meaning.{Env, just}
@@ -12,8 +12,9 @@ use Rattle.module_text.specs.Truth.{Verdict, items_hold}
 use Rattle.pcal_tree.specs.Algorithm.{Assignments, no_assignments, assignment, Binds, no_binds, one_of, is, Statement, assign, await, print, assert, skip, branch, either, with, Statements, done, then, mark, Branches, no_branches, or}
 use Rattle.pcal_tree.specs.Run.{Rules}
 use Rattle.pcal_tree.specs.Scope.{State, Scope}
-use Rattle.action_builder.specs.Action.{Names, member, more, mid, firsts, assigned, Once, Agree}
-use Rattle.action_builder.specs.Effects.{LeftSides, part_at, parts_of, effect_of, effects_of, Settled}
+use Rattle.action_builder.specs.Assigned.{Names, member, more, heads, assigned}
+use Rattle.action_builder.specs.laws.States.{mid}
+use Rattle.action_builder.specs.laws.Scopes.{part_at}
 
 -- ---- names
 
@@ -45,7 +46,52 @@ pub record Stands (U : Readable) (vs : List Word) (sc : Scope) (env : State → 
   pub paired : Paired U vs sc env
   pub scoped : Scoped vs sc
 
--- ---- statements
+-- ---- left sides
+
+-- a left side is a name of V, or a subscript or a field after one
+abbrev pub LeftIn : Names → Form → Type 0 → Type 0
+LeftIn V (name x) P = V x ≡ true
+LeftIn V (strict apply) P = P
+LeftIn V (strict (select a)) P = P
+LeftIn V _ P = ⊥
+
+abbrev mutual
+  pub IsLeft : Names → Tree → Type 0
+  IsLeft V (node m at ts) = LeftIn V m (LeftFirst V ts)
+
+  pub LeftFirst : Names → Trees → Type 0
+  LeftFirst V no_trees = ⊥
+  LeftFirst V (tree f us) = IsLeft V f
+
+abbrev pub LeftSides : Names → Assignments → Type 0
+LeftSides V no_assignments = Unit {0}
+LeftSides V (assignment l e ms) = IsLeft V l × LeftSides V ms
+
+-- ---- settled statements
+
+-- no jump, label, loop, macro call, call or return
+abbrev mutual
+  pub SettledOne : Names → Statement → Type 0
+  SettledOne V (assign ms) = LeftSides V ms
+  SettledOne V (await e) = Unit {0}
+  SettledOne V (print e) = Unit {0}
+  SettledOne V (assert e) = Unit {0}
+  SettledOne V skip = Unit {0}
+  SettledOne V (branch e a b) = Settled V a × Settled V b
+  SettledOne V (either bs) = SettledSome V bs
+  SettledOne V (with bs b) = Settled V b
+  SettledOne V _ = ⊥
+
+  pub Settled : Names → Statements → Type 0
+  Settled V done = Unit {0}
+  Settled V (then at st rest) = SettledOne V st × Settled V rest
+  Settled V (mark l k rest) = ⊥
+
+  pub SettledSome : Names → Branches → Type 0
+  SettledSome V no_branches = Unit {0}
+  SettledSome V (or b bs) = Settled V b × SettledSome V bs
+
+-- ---- what expressions read
 
 abbrev pub NoNext : Form → Type 0
 NoNext (next x) = ⊥
@@ -65,14 +111,14 @@ FineSides U A (assignment l e ms) = FineTree U A l × FineTree U A e × FineSide
 pub record FineMoves (U : Readable) (vs : List Word) (A : Names) (ms : Assignments) : Type 0 where
   pub left : LeftSides (member vs) ms
   pub sides : FineSides U A ms
-  pub readable : (y : Word) → member (firsts (parts_of plain ms)) y ≡ true → U A y ≡ true
+  pub readable : (y : Word) → member (heads ms) y ≡ true → U A y ≡ true
 
 abbrev pub FineBinds : Readable → List Word → Names → Binds → Type 0
 FineBinds U vs A no_binds = Unit {0}
 FineBinds U vs A (one_of x e bs) = FineTree U A e × (member vs x.word ≡ false) × FineBinds U vs A bs
 FineBinds U vs A (is x e bs) = FineTree U A e × (member vs x.word ≡ false) × FineBinds U vs A bs
 
--- each expression reads what may be read there, the names of a `with` are no variables, and what is assigned is a variable
+-- each expression reads what may be read there, and the names of a `with` are no variables
 abbrev mutual
   pub FineOne : Readable → List Word → Names → Statement → Type 0
   FineOne U vs A (assign ms) = FineMoves U vs A ms
@@ -87,27 +133,41 @@ abbrev mutual
 
   pub Fine : Readable → List Word → Names → Statements → Type 0
   Fine U vs A done = Unit {0}
-  Fine U vs A (then at st rest) =
-      FineOne U vs A st × Fine U vs (more A (assigned (effect_of plain at.first st))) rest
-      × ((x : Word) → member (assigned (effect_of plain at.first st)) x ≡ true → member vs x ≡ true)
+  Fine U vs A (then at st rest) = FineOne U vs A st × Fine U vs (more A (assigned st)) rest
   Fine U vs A (mark l k rest) = ⊥
 
   pub FineSome : Readable → List Word → Names → Branches → Type 0
   FineSome U vs A no_branches = Unit {0}
   FineSome U vs A (or b bs) = Fine U vs A b × FineSome U vs A bs
 
+-- ---- assigned once
+
+-- no variable is assigned that is in A, or was assigned before
+abbrev pub Apart : Names → List Word → Type 0
+Apart A xs = (x : Word) → member xs x ≡ true → A x ≡ false
+
+abbrev mutual
+  pub OnceOne : Names → Statement → Type 0
+  OnceOne A (assign ms) = Apart A (heads ms)
+  OnceOne A (branch e a b) = Once A a × Once A b
+  OnceOne A (either bs) = OnceSome A bs
+  OnceOne A (with bs b) = Once A b
+  OnceOne A _ = Unit {0}
+
+  pub Once : Names → Statements → Type 0
+  Once A done = Unit {0}
+  Once A (then at st rest) = OnceOne A st × Once (more A (assigned st)) rest
+  Once A (mark l k rest) = Unit {0}
+
+  pub OnceSome : Names → Branches → Type 0
+  OnceSome A no_branches = Unit {0}
+  OnceSome A (or b bs) = Once A b × OnceSome A bs
+
 -- ---- truth
 
 -- the values of the variables
 abbrev pub values_of : List Word → State → Valuation
 values_of vs s x = cond (member vs x) (Some (s x)) None
-
--- the same truth value, or neither has one
-abbrev pub Matches : Verdict → Verdict → Type 0
-Matches (Ok a) (Ok b) = a ≡ b
-Matches (Ok a) (Err k) = ⊥
-Matches (Err k) (Ok b) = ⊥
-Matches (Err j) (Err k) = Unit {0}
 
 -- the items on a pair of states
 abbrev pub holds_on : List Word → (State → State → Env) → Items → State → State → Verdict
@@ -123,6 +183,6 @@ unlimited M = record { check = plain; goto = M.goto; call = M.call; return = M.r
 pub record Ready (U : Readable) (vs : List Word) (A : Names) (ss : Statements) (sc : Scope) (env : State → State → Env) : Type 0 where
   pub settled : Settled (member vs) ss
   pub fine : Fine U vs A ss
-  pub once : Once A (effects_of plain ss)
+  pub once : Once A ss
   pub within : IsWithin A (member vs)
   pub stands : Stands U vs sc env
