@@ -6,7 +6,7 @@ use Rattle.tla_expr.specs.Tree.{Word, Form, name, next, operator_call, binding, 
 use Rattle.tla_value.specs.Stops.{Check}
 use Rattle.tla_value.specs.Related.{In, ClearForm}
 use Rattle.pcal_tree.specs.Algorithm.{Assignments, no_assignments, assignment, Statement, assign, await, print, assert, skip, branch, either, Statements, done, then, mark, Branches, no_branches, or}
-use Rattle.pcal_tree.specs.laws.Expansion.{Any, CleanMoves, CleanOne, Clean, CleanSome}
+use Rattle.pcal_tree.specs.laws.Expansion.{Any, CleanAssignments, CleanOne, Clean, CleanSome}
 use Rattle.action_builder.specs.Assigned.{assigned, Names, member, more}
 use Rattle.action_builder.specs.laws.Ready.{SettledOne, Settled, SettledSome, Plain, FineTree, FineSides, FineOne, Fine, FineSome}
 use Rattle.action_builder.specs.laws.Sample.{any_name}
@@ -79,7 +79,7 @@ clear_form c g m at h = (tt, tt)
 clear : (c : Check) (g : Graft) (t : Tree) → bare t ≡ true → Every (ClearForm c g Any) t
 clear c g t h = every_bare (ClearForm c g Any) (clear_form c g) t h
 
-clear_sides : (c : Check) (g : Graft) (ms : Assignments) → bare_sides ms ≡ true → CleanMoves c g Any ms
+clear_sides : (c : Check) (g : Graft) (ms : Assignments) → bare_sides ms ≡ true → CleanAssignments c g Any ms
 clear_sides c g no_assignments h = tt
 clear_sides c g (assignment l e ms) h =
     let p = and_parts (bare l) (bare e && bare_sides ms) h in

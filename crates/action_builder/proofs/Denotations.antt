@@ -86,7 +86,7 @@ set_law c (m ∷ ms) s =
     ∙ (λ i. (changed_at m.place m.part.path m.value (s m.part.variable)) >>= (λ w. (c m.place w) >>= (λ u. set_law c ms (put m.part.variable u s) i)))
     ∙ sym (on_valued (changed_at m.place m.part.path m.value (s m.part.variable)) (c m.place) (λ u. applied (to_changes c ms) (put m.part.variable u s)))
 
-pub moved_law : (V : Names) (c : Check) (ms : Assignments) → LeftSides V ms → (sc : Scope) → Named V sc → (s : State) → Assign.moved c ms sc s ≡ moved (parts_of c ms) sc s
+pub moved_law : (V : Names) (c : Check) (ms : Assignments) → LeftSides V ms → (sc : Scope) → Named V sc → (s : State) → Assign.after_assignments c ms sc s ≡ moved (parts_of c ms) sc s
 moved_law V c ms h sc n s = settings_law V c ms h sc n s (λ all. set_all c all s) (λ fs. applied fs s) (λ all. set_law c all s)
 
 -- ---- runs

@@ -12,7 +12,7 @@ use Rattle.pcal_tree.specs.Scope.{State, deeper, Scope, reach_in}
 use Rattle.pcal_tree.specs.Program.{read_at}
 use Rattle.pcal_tree.specs.Run.{Has, Follow, Rules, unlabelled, run}
 use Rattle.pcal_tree.specs.Expand.{graft_all}
-use Rattle.pcal_tree.specs.laws.Expansion.{Any, Clean, Free}
+use Rattle.pcal_tree.specs.laws.Expansion.{Any, Clean, AnyPlace}
 use Rattle.pcal_tree.proofs.GraftRuns.{graft_runs}
 use Rattle.pcal_tree.proofs.ExpandRuns.{through_meets}
 use Rattle.action_builder.specs.laws.Settling.{to_end, Close}
@@ -23,7 +23,7 @@ use Rattle.tla_value.proofs.Outcomes.{then_then}
 use Rattle.action_builder.proofs.Settle.{settle_in}
 
 -- the localised statements have the courses of the statements
-pub localised : (M : Rules) (self : Word) (own : Word → Bool) (here : Word) (ss : Statements) (sc : Scope) → Free sc → Clean M.check (owned self own) Any ss → (K : Follow) → run M here (graft_all (owned self own) ss) sc K ≡ run M here ss (own_scope M.check self own sc) K
+pub localised : (M : Rules) (self : Word) (own : Word → Bool) (here : Word) (ss : Statements) (sc : Scope) → AnyPlace sc → Clean M.check (owned self own) Any ss → (K : Follow) → run M here (graft_all (owned self own) ss) sc K ≡ run M here ss (own_scope M.check self own sc) K
 localised M self own here ss sc h clean K =
     graft_runs M (owned self own) Any here ss clean sc (own_scope M.check self own sc) (through_meets M.check (owned self own) sc h) K K refl
 
@@ -59,5 +59,5 @@ own_stands c V self v own sc h x m reads at s = (own_parts c V self v own sc h x
 -- from the prepared statements to the statements as they stand
 pub prepared_law : (M : Rules) (d : LabelStep) → Prepares M d → (s : State) → Close (Has (run M unlabelled (prepared_of d) d.scope to_end s)) (Stepped M d s)
 prepared_law M d p s =
-    subst (λ F. Close (Has (F s)) (Stepped M d s)) (sym (localised M d.self d.own unlabelled (settled d.moving d.here d.exit d.statements) d.scope p.free p.clean to_end))
-    (settle_in M d.moving d.names d.callable (own_scope M.check d.self d.own d.scope) p.does d.here d.exit d.statements p.tidy s)
+    subst (λ F. Close (Has (F s)) (Stepped M d s)) (sym (localised M d.self d.own unlabelled (settled d.jumps d.here d.exit d.statements) d.scope p.free p.clean to_end))
+    (settle_in M d.jumps d.names d.callable (own_scope M.check d.self d.own d.scope) p.does d.here d.exit d.statements p.tidy s)

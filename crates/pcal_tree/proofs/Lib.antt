@@ -1,6 +1,7 @@
 mod Sample
 mod RowsRun
 mod RowsStep
+mod RowsMacros
 mod Choices
 pub mod GraftRuns
 pub mod ExpandRuns

@@ -11,7 +11,7 @@ use Rattle.tla_value.specs.Grafts.{through as through_env}
 use Rattle.tla_value.specs.Meaning.{Env, bind, eval, evals, part_values}
 use Rattle.pcal_tree.specs.Algorithm.{Assignments, no_assignments, assignment, Binds, no_binds, one_of, is, Statement, assign, await, print, assert, skip, branch, either, with, while, goto, macro, call, return, Statements, done, then, mark, Branches, no_branches, or, Macro}
 use Rattle.pcal_tree.specs.Scope.{State, put, Part, Scope, bound, places_of, deeper, root_place, reach_form, reach, reach_path, reach_in, through, value_of, test, members}
-use Rattle.pcal_tree.specs.Assign.{Setting, set_one, set_all, settings, moved}
+use Rattle.pcal_tree.specs.Assign.{Setting, set_one, set_all, settings, after_assignments}
 use Rattle.pcal_tree.specs.Run.{Course, ends, stops, chooses, Courses, no_courses, course, held, after, at_each, Follow, Rules, unlabelled, label_of, run_binds, run_one, run, run_branches, arguments, Calling, with_calls, called, with_macros}
 use Rattle.pcal_tree.specs.Variables.{Agree}
 use Rattle.pcal_tree.specs.Processes.{OneOf}
@@ -210,7 +210,7 @@ module _ (V : List Word) where
       by (Ok p) h (Err j) r k q = cc
       by (Err j) h w r k q = cc
 
-  moved_steady : (c : Check) (ms : Assignments) (sc : Scope) → Narrow sc → SteadyEnd (moved c ms sc)
+  moved_steady : (c : Check) (ms : Assignments) (sc : Scope) → Narrow sc → SteadyEnd (after_assignments c ms sc)
   moved_steady c ms sc n s t a = then_same (settings c ms sc s) (settings c ms sc t) (λ all. set_all c all s) (λ all. set_all c all t) (settings_same c ms sc n s t a) (λ all e. all_set c all (settings_in c ms sc n s all e) s t a)
 
   -- ---- statements
@@ -235,7 +235,7 @@ module _ (V : List Word) where
   module _ (R : Type 0) where
     mutual
       one_steady : (M : Rules) → Even R M → (here : Word) (at : Place) (st : Statement) → (has_return_in st ≡ true → R) → (sc : Scope) → Narrow sc → (K : Follow) → Steady K.goes → Steady (run_one M here at st sc K)
-      one_steady M E here at (assign ms) r sc n K k s t a = after_end (moved M.check ms sc s) (moved M.check ms sc t) K.goes (moved_steady M.check ms sc n s t a) k
+      one_steady M E here at (assign ms) r sc n K k s t a = after_end (after_assignments M.check ms sc s) (after_assignments M.check ms sc t) K.goes (moved_steady M.check ms sc n s t a) k
       one_steady M E here at (await e) r sc n K k s t a = after_same (test M.check e sc s) (test M.check e sc t) _ _ (test_same M.check e sc n s t a) (λ b. cond_steady b K.goes (λ u. held at) k (λ u w q. (refl, tt)) s t a)
       one_steady M E here at (print e) r sc n K k s t a = after_same (value_of M.check e sc s) (value_of M.check e sc t) _ _ (λ i. (eval M.check e (n.env s t a i)).value) (λ v. k s t a)
       one_steady M E here at (assert e) r sc n K k s t a = after_same (test M.check e sc s) (test M.check e sc t) _ _ (test_same M.check e sc n s t a) (λ b. cond_steady b K.goes (λ u. stops (fault AssertFailed at)) k (λ u w q. refl) s t a)

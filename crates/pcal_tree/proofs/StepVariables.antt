@@ -30,7 +30,7 @@ use Rattle.pcal_tree.proofs.RoutineNames.{one_either}
 use Rattle.pcal_tree.proofs.OneStand.{own_is_main, runs_routine}
 use Rattle.pcal_tree.proofs.SameVariables.{agree_sym, agree_trans, value_at, SameEnd, Same, SameAll, Steady, SteadyEnd, then_end, then_same, Narrow, AllIn, one_set, all_set, Even, list_steady, macros_even}
 
--- ---- a `return` behind a label is one of the body
+-- ---- a `return` after a label is one of the body
 
 mutual
   begins_in : (l here : Word) (st : Statement) (x : Word) (b : Begin) → begin_in l here st x ≡ Some b → has_return b.items ≡ true → has_return_in st ≡ true

@@ -8,7 +8,7 @@ use Rattle.tla_value.specs.Stops.{Check}
 use Rattle.tla_value.specs.Meaning.{evals, part_values}
 use Rattle.pcal_tree.specs.Algorithm.{Name, Binds, no_binds, one_of, is, Statement, assign, await, print, assert, skip, branch, either, with, while, goto, macro, call, return, Statements, done, then, mark, Branches, no_branches, or, Macro}
 use Rattle.pcal_tree.specs.Scope.{State, Scope, bound, through, places_of, value_of, test, members}
-use Rattle.pcal_tree.specs.Assign.{moved}
+use Rattle.pcal_tree.specs.Assign.{after_assignments}
 
 -- ---- courses
 
@@ -84,7 +84,7 @@ run_binds c at (is x e bs) body sc s = after (value_of c e sc s) (λ v. run_bind
 -- `here` is the label at which the statement or list stands; K is what follows it. A jump, call or return drops what follows.
 abbrev mutual
   pub run_one : Rules → Word → Place → Statement → Scope → Follow → State → Course
-  run_one M here at (assign ms) sc K s = after (moved M.check ms sc s) K.goes
+  run_one M here at (assign ms) sc K s = after (after_assignments M.check ms sc s) K.goes
   run_one M here at (await e) sc K s = after (test M.check e sc s) (λ t. cond t K.goes (λ u. held at) s)
   run_one M here at (print e) sc K s = after (value_of M.check e sc s) (λ v. K.goes s)
   run_one M here at (assert e) sc K s = after (test M.check e sc s) (λ t. cond t K.goes (λ u. stops (fault AssertFailed at)) s)

@@ -22,7 +22,7 @@ ghost use Rattle.pcal_tree.specs.Labelled.{labelled};
 ghost use Rattle.pcal_tree.specs.Names.{given, naming};
 ghost use Rattle.pcal_tree.specs.laws.Apart.{FewNames, Apart, New, Untaken, AreNames, NoEndLabels};
 ghost use Rattle.tla_value.specs.Value.{Trouble, Outcome};
-ghost use Rattle.pcal_tree.specs.laws.Expansion.{Calls, FineCall, Free};
+ghost use Rattle.pcal_tree.specs.laws.Expansion.{Calls, FineCall, AnyPlace};
 ghost use Rattle.pcal_tree.specs.laws.Choosing.{told, landing};
 ghost use Rattle.pcal_tree.specs.Processes.{Proper, IsActor};
 ghost use Rattle.pcal_tree.specs.Faults.{Sound, Faulty};
@@ -32,7 +32,7 @@ ghost use Rattle.tla_value.specs.declared.fault.FaultKind.{FaultKind};
 ghost use Rattle.pcal_tree.specs.Variables.{vars, Agree};
 ghost use Rattle.pcal_tree.specs.Step.{Step, Stutters};
 ghost use Rattle.pcal_tree.specs.InitialStates.{Initial, InitTrouble};
-ghost use Rattle.pcal_tree.specs.Script.{Turn, RunOf};
+ghost use Rattle.pcal_tree.specs.Script.{Turn, StepBy, RunOf};
 ghost use Rattle.pcal_tree.specs.FirstTrouble.{FirstTrouble};
 
 /// What a list of choices leads to is an outcome of the course, and each outcome has a list of choices that
@@ -77,7 +77,7 @@ pub fn runs_depend_on_the_variables()
 /// with anything after them, kinds and places of faults included. The calls capture nothing, and each macro's body
 /// begins with a statement.
 pub fn written_out_macros_run_the_same()
-    ensures { (M : Rules) (ms : List Macro) (here : Word) (ss : Statements) → Calls (FineCall M.check ms) ss → (sc : Scope) → Free sc → (K : Follow)
+    ensures { (M : Rules) (ms : List Macro) (here : Word) (ss : Statements) → Calls (FineCall M.check ms) ss → (sc : Scope) → AnyPlace sc → (K : Follow)
         → run (with_macros M ms) here ss sc K ≡ run (with_macros M []) here (expanded ms ss) sc K }
 {}
 
@@ -115,4 +115,10 @@ pub fn lines_of_algorithms_do_not_matter()
         → (y : Text) × Good s y × (us ≡ spell y []) × (text_lineless y ≡ text_lineless x) }
     ensures begins { (s : Syntax) (ts more : List Token) (x : Text) → Good s x → spell x [] ≡ ts ++ more → Begins s (looks ts) }
     ensures begun { (s : Syntax) (ts : List Token) → Begins s (looks ts) → (x : Text) × (more : List Token) × Good s x × (spell x [] ≡ ts ++ more) }
+{}
+
+/// Each state of a run by a script after the first is one that a step leads to: that of the process which the script names,
+/// by its choices.
+pub fn scripts_make_steps()
+    ensures { (P : Program) (n : Turn) (s t : State) → StepBy P n s t → Step P s t }
 {}
