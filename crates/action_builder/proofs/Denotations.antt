@@ -6,17 +6,19 @@ use Rattle.tla_value.specs.declared.fault.FaultKind.TheVariants.{AssertFailed}
 use Rattle.tla_value.specs.Value.{Value, text, Values, no_values, and, Outcome, fault, over, Trouble, ◌>>=◌}
 use Rattle.tla_value.specs.Stops.{Check}
 use Rattle.tla_value.specs.Strict.{changed_at}
-use Rattle.tla_value.specs.Meaning.{Env, Denotation, evals}
+use Rattle.tla_value.specs.Meaning.{evals, part_values}
 use Rattle.pcal_tree.specs.Algorithm.{Assignments, no_assignments, assignment, Binds, no_binds, one_of, is, Statement, Statements, Branches, no_branches, or}
 use Rattle.pcal_tree.specs.Algorithm as Source
-use Rattle.pcal_tree.specs.Scope.{State, put, all_valued, Part, deeper, Scope, bound, reach, reach_path, root_place, value_of, test, members}
+use Rattle.pcal_tree.specs.Scope.{State, put, Part, deeper, Scope, bound, reach, reach_path, root_place, value_of, test, members}
 use Rattle.pcal_tree.specs.Assign.{Setting, set_all, settings}
 use Rattle.pcal_tree.specs.Assign as Assign
-use Rattle.pcal_tree.specs.Run.{Course, chooses, Has, HasSome, after, at_each, held, stops, Follow, Rules, unlabelled, run_binds, label_of}
+use Rattle.pcal_tree.specs.Run.{Course, chooses, Has, HasSome, after, at_each, held, stops, Follow, Rules, unlabelled, run_binds}
 use Rattle.pcal_tree.specs.Run as Courses
 use Rattle.pcal_tree.proofs.ExpandRuns.{following}
-use Rattle.action_builder.specs.Action.{Names, Changes, no_changes, change, evaluated, applied, moved, Awaits, Chosen, Picks, SomeOf, Next, Effects, RunOne, Run, RunSome}
-use Rattle.action_builder.specs.Effects.{head_of, head_first, changing, part_of, parts_of, nested, effect_of, effects_of, ways_of, part_at, Named, IsLeft, LeftFirst, LeftSides, SettledOne, Settled, SettledSome}
+use Rattle.action_builder.specs.Assigned.{Names, head_of, head_first}
+use Rattle.action_builder.proofs.Effects.{Changes, no_changes, change, evaluated, applied, moved, Awaits, Chosen, Picks, SomeOf, Next, Effects, RunOne, Run, RunSome, changing, part_of, parts_of, nested, effect_of, effects_of, ways_of, Named}
+use Rattle.action_builder.specs.laws.Scopes.{part_at}
+use Rattle.action_builder.specs.laws.Ready.{IsLeft, LeftFirst, LeftSides, SettledOne, Settled, SettledSome}
 
 -- ---- results
 
@@ -37,7 +39,7 @@ on_both (Err k) p f go = refl
 -- ---- assignments
 
 mutual
-  heads : (V : Names) (c : Check) (l : Tree) → IsLeft V l → (sc : Scope) → Named V sc → (s : State) (go : Part → Outcome State) → (reach c l sc s) >>= go ≡ (reach c l sc s) >>= (λ p. go (part_at (head_of l) p.path))
+  heads : {X : Type 0} (V : Names) (c : Check) (l : Tree) → IsLeft V l → (sc : Scope) → Named V sc → (s : State) (go : Part → Outcome X) → (reach c l sc s) >>= go ≡ (reach c l sc s) >>= (λ p. go (part_at (head_of l) p.path))
   heads V c (node (name x) at ts) h sc n s go = let q = n x h at s in ap (λ o. o >>= go) q.1 ∙ sym (ap (λ o. o >>= (λ p. go (part_at x p.path))) q.1)
   heads V c (node (strict apply) at ts) h sc n s go = heads_path V c at ts h sc n s go
   heads V c (node (strict (select a)) at ts) h sc n s go =
@@ -46,24 +48,24 @@ mutual
       ∙ sym (on_twice (reach_path c at ts sc s) (λ p. Ok (deeper (text a ∷ []) p)) (λ p. go (part_at (head_first ts) p.path)))
   heads V c (node _ at ts) h sc n s go = absurd h
 
-  heads_path : (V : Names) (c : Check) (at : Place) (ts : Trees) → LeftFirst V ts → (sc : Scope) → Named V sc → (s : State) (go : Part → Outcome State) → (reach_path c at ts sc s) >>= go ≡ (reach_path c at ts sc s) >>= (λ p. go (part_at (head_first ts) p.path))
+  heads_path : {X : Type 0} (V : Names) (c : Check) (at : Place) (ts : Trees) → LeftFirst V ts → (sc : Scope) → Named V sc → (s : State) (go : Part → Outcome X) → (reach_path c at ts sc s) >>= go ≡ (reach_path c at ts sc s) >>= (λ p. go (part_at (head_first ts) p.path))
   heads_path V c at no_trees h sc n s go = absurd h
   heads_path V c at (tree f us) h sc n s go =
-      on_twice (reach c f sc s) (λ p. (all_valued (evals c us) (sc.env s)) >>= (λ ks. Ok (deeper ks p))) go
-      ∙ heads V c f h sc n s (λ p. ((all_valued (evals c us) (sc.env s)) >>= (λ ks. Ok (deeper ks p))) >>= go)
-      ∙ (λ i. (reach c f sc s) >>= (λ p. (on_twice (all_valued (evals c us) (sc.env s)) (λ ks. Ok (part_at (head_of f) (p.path ++ ks))) go
-      ∙ sym (on_twice (all_valued (evals c us) (sc.env s)) (λ ks. Ok (part_at (head_of f) (p.path ++ ks))) (λ q. go (part_at (head_of f) q.path)))) i))
-      ∙ sym (heads V c f h sc n s (λ p. ((all_valued (evals c us) (sc.env s)) >>= (λ ks. Ok (deeper ks p))) >>= (λ q. go (part_at (head_of f) q.path))))
-      ∙ sym (on_twice (reach c f sc s) (λ p. (all_valued (evals c us) (sc.env s)) >>= (λ ks. Ok (deeper ks p))) (λ q. go (part_at (head_of f) q.path)))
+      on_twice (reach c f sc s) (λ p. (part_values (evals c us) (sc.env s)) >>= (λ ks. Ok (deeper ks p))) go
+      ∙ heads V c f h sc n s (λ p. ((part_values (evals c us) (sc.env s)) >>= (λ ks. Ok (deeper ks p))) >>= go)
+      ∙ (λ i. (reach c f sc s) >>= (λ p. (on_twice (part_values (evals c us) (sc.env s)) (λ ks. Ok (part_at (head_of f) (p.path ++ ks))) go
+      ∙ sym (on_twice (part_values (evals c us) (sc.env s)) (λ ks. Ok (part_at (head_of f) (p.path ++ ks))) (λ q. go (part_at (head_of f) q.path)))) i))
+      ∙ sym (heads V c f h sc n s (λ p. ((part_values (evals c us) (sc.env s)) >>= (λ ks. Ok (deeper ks p))) >>= (λ q. go (part_at (head_of f) q.path))))
+      ∙ sym (on_twice (reach c f sc s) (λ p. (part_values (evals c us) (sc.env s)) >>= (λ ks. Ok (deeper ks p))) (λ q. go (part_at (head_of f) q.path)))
 
-abbrev to_changes : Check → List Setting → Changes
+abbrev pub to_changes : Check → List Setting → Changes
 to_changes c [] = no_changes
 to_changes c (m ∷ ms) = change m.part.variable (changing c m.place m.part.path m.value) (to_changes c ms)
 
 abbrev setting_at : Place → Word → List Value → Value → Setting
 setting_at at x path v = record { place = at; part = part_at x path; value = v }
 
-settings_law : (V : Names) (c : Check) (ms : Assignments) → LeftSides V ms → (sc : Scope) → Named V sc → (s : State) (go : List Setting → Outcome State) (go' : Changes → Outcome State) → ((all : List Setting) → go all ≡ go' (to_changes c all)) → (settings c ms sc s) >>= go ≡ (evaluated (parts_of c ms) sc s) >>= go'
+pub settings_law : {X : Type 0} (V : Names) (c : Check) (ms : Assignments) → LeftSides V ms → (sc : Scope) → Named V sc → (s : State) (go : List Setting → Outcome X) (go' : Changes → Outcome X) → ((all : List Setting) → go all ≡ go' (to_changes c all)) → (settings c ms sc s) >>= go ≡ (evaluated (parts_of c ms) sc s) >>= go'
 settings_law V c no_assignments h sc n s go go' k = k []
 settings_law V c (assignment l e ms) h sc n s go go' k =
     on_twice (reach c l sc s) (λ p. (value_of c e sc s) >>= (λ v. (settings c ms sc s) >>= (λ rest. Ok (record { place = root_place l; part = p; value = v } ∷ rest)))) go
@@ -84,7 +86,7 @@ set_law c (m ∷ ms) s =
     ∙ (λ i. (changed_at m.place m.part.path m.value (s m.part.variable)) >>= (λ w. (c m.place w) >>= (λ u. set_law c ms (put m.part.variable u s) i)))
     ∙ sym (on_valued (changed_at m.place m.part.path m.value (s m.part.variable)) (c m.place) (λ u. applied (to_changes c ms) (put m.part.variable u s)))
 
-pub moved_law : (V : Names) (c : Check) (ms : Assignments) → LeftSides V ms → (sc : Scope) → Named V sc → (s : State) → Assign.moved c ms sc s ≡ moved (parts_of c ms) sc s
+pub moved_law : (V : Names) (c : Check) (ms : Assignments) → LeftSides V ms → (sc : Scope) → Named V sc → (s : State) → Assign.after_assignments c ms sc s ≡ moved (parts_of c ms) sc s
 moved_law V c ms h sc n s = settings_law V c ms h sc n s (λ all. set_all c all s) (λ fs. applied fs s) (λ all. set_law c all s)
 
 -- ---- runs

@@ -7,12 +7,17 @@ use Rattle.tla_value.specs.Stops.{Check, plain}
 use Rattle.tla_value.specs.Strict.{changed_at, next_slot, updated, strict_value}
 use Rattle.tla_value.specs.Meaning.{Env, just, part_values, eval, evals}
 use Rattle.pcal_tree.specs.Algorithm.{nowhere, Assignments, no_assignments, assignment}
-use Rattle.pcal_tree.specs.Scope.{State, all_valued, Part, deeper, Scope, reach, reach_path, root_place, value_of}
-use Rattle.action_builder.specs.Action.{Names, all_changes, Change, Parts, no_parts, part, changes_for, folded, value_for}
-use Rattle.action_builder.specs.Effects.{head_of, head_first, changing, part_of, parts_of, part_at, IsPlain as Plain, IsLeft, LeftFirst, LeftSides}
+use Rattle.pcal_tree.specs.Scope.{State, Part, deeper, Scope, reach, reach_path, root_place, value_of}
+use Rattle.action_builder.specs.Assigned.{Names, head_of, head_first}
+use Rattle.action_builder.proofs.Actions.{all_changes, changes_for, folded, value_for}
+use Rattle.action_builder.proofs.Effects.{Change, Parts, no_parts, part, changing, part_of, parts_of, Changes, no_changes, change, evaluated, Named}
+use Rattle.action_builder.specs.laws.Scopes.{part_at, IsPlain as Plain}
+use Rattle.action_builder.specs.laws.Ready.{IsLeft, LeftFirst, LeftSides}
 use Rattle.action_builder.specs.Written.{Key, sub, fixed, subs, keys_of, keys_first, steps_of, subscripts, own, slots_of, slot_trees, except_of, is_whole, side_of}
 use Rattle.tla_value.proofs.Outcomes.{then_ok, then_then}
-use Rattle.action_builder.proofs.Denotations.{on_twice, on_both}
+use Rattle.pcal_tree.specs.Assign.{Setting}
+use Rattle.action_builder.specs.laws.States.{changed_by, value_after}
+use Rattle.action_builder.proofs.Denotations.{to_changes, settings_law, on_twice, on_both}
 
 -- ---- left sides
 
@@ -27,10 +32,10 @@ keys_append c [] js env go = refl
 keys_append c (sub t ∷ ks) js env go = λ i. (eval c t env).value >>= (λ v. keys_append c ks js env (λ vs. go (v ∷ vs)) i)
 keys_append c (fixed a ∷ ks) js env go = keys_append c ks js env (λ vs. go (text a ∷ vs))
 
-subs_law : {X : Type 0} (c : Check) (ts : Trees) (env : Env) (go : List Value → Outcome X) → (all_valued (evals c ts) env) >>= go ≡ on_keys c (subs ts) env go
+subs_law : {X : Type 0} (c : Check) (ts : Trees) (env : Env) (go : List Value → Outcome X) → (part_values (evals c ts) env) >>= go ≡ on_keys c (subs ts) env go
 subs_law c no_trees env go = refl
 subs_law c (tree t ts) env go =
-    on_both (eval c t env).value (λ v. all_valued (evals c ts) env) (λ v vs. v ∷ vs) go
+    on_both (eval c t env).value (λ v. part_values (evals c ts) env) (λ v vs. v ∷ vs) go
     ∙ (λ i. (eval c t env).value >>= (λ v. subs_law c ts env (λ vs. go (v ∷ vs)) i))
 
 mutual
@@ -46,9 +51,9 @@ mutual
   plain_path : {X : Type 0} (V : Names) (c : Check) (at : Place) (ts : Trees) → LeftFirst V ts → (sc : Scope) → Plain V sc → (s : State) (go : Part → Outcome X) → (reach_path c at ts sc s) >>= go ≡ on_keys c (keys_first ts) (sc.env s) (λ ks. go (part_at (head_first ts) ks))
   plain_path V c at no_trees h sc n s go = absurd h
   plain_path V c at (tree f us) h sc n s go =
-      on_twice (reach c f sc s) (λ p. (all_valued (evals c us) (sc.env s)) >>= (λ ks. Ok (deeper ks p))) go
-      ∙ plain_reach V c f h sc n s (λ p. ((all_valued (evals c us) (sc.env s)) >>= (λ ks. Ok (deeper ks p))) >>= go)
-      ∙ (λ i. on_keys c (keys_of f) (sc.env s) (λ js. on_twice (all_valued (evals c us) (sc.env s)) (λ ks. Ok (part_at (head_of f) (js ++ ks))) go i))
+      on_twice (reach c f sc s) (λ p. (part_values (evals c us) (sc.env s)) >>= (λ ks. Ok (deeper ks p))) go
+      ∙ plain_reach V c f h sc n s (λ p. ((part_values (evals c us) (sc.env s)) >>= (λ ks. Ok (deeper ks p))) >>= go)
+      ∙ (λ i. on_keys c (keys_of f) (sc.env s) (λ js. on_twice (part_values (evals c us) (sc.env s)) (λ ks. Ok (part_at (head_of f) (js ++ ks))) go i))
       ∙ (λ i. on_keys c (keys_of f) (sc.env s) (λ js. subs_law c us (sc.env s) (λ ks. go (part_at (head_of f) (js ++ ks))) i))
       ∙ sym (keys_append c (keys_of f) (subs us) (sc.env s) (λ ks. go (part_at (head_of f) ks)))
 
@@ -146,3 +151,34 @@ pub value_law : (V : Names) (y : Word) (ms : Assignments) → LeftSides V ms →
 value_law V y ms h sc n s here =
     side_law V y (own y ms) (own_left V y ms h) sc n s here
     ∙ (λ i. (sym (own_law plain y ms sc s) i) >>= (λ fs. folded fs (s y)))
+
+-- ---- by its settings
+
+abbrev changes_of : Changes → List Change
+changes_of no_changes = []
+changes_of (change x f fs) = f ∷ changes_of fs
+
+all_law : {X : Type 0} (ps : Parts) (sc : Scope) (s : State) (G : List Change → Outcome X) → (all_changes ps sc s) >>= G ≡ (evaluated ps sc s) >>= (λ fs. G (changes_of fs))
+all_law no_parts sc s G = refl
+all_law (part x e ps) sc s G =
+    on_twice (e sc s) (λ f. (all_changes ps sc s) >>= (λ fs. Ok (f ∷ fs))) G
+    ∙ (λ i. (e sc s) >>= (λ f. on_twice (all_changes ps sc s) (λ fs. Ok (f ∷ fs)) G i))
+    ∙ (λ i. (e sc s) >>= (λ f. all_law ps sc s (λ fs. G (f ∷ fs)) i))
+    ∙ sym (
+    on_twice (e sc s) (λ f. (evaluated ps sc s) >>= (λ fs. Ok (change x f fs))) (λ fs. G (changes_of fs))
+    ∙ (λ i. (e sc s) >>= (λ f. on_twice (evaluated ps sc s) (λ fs. Ok (change x f fs)) (λ fs. G (changes_of fs)) i)))
+
+by_settings : (c : Check) (all : List Setting) (v : Value) → changed_by c all v ≡ folded (changes_of (to_changes c all)) v
+by_settings c [] v = refl
+by_settings c (m ∷ ms) v =
+    (λ i. (changed_at m.place m.part.path m.value v) >>= (λ w. (c m.place w) >>= (λ u. by_settings c ms u i)))
+    ∙ sym (on_twice (changed_at m.place m.part.path m.value v) (c m.place) (folded (changes_of (to_changes c ms))))
+
+plain_named : (V : Names) (sc : Scope) → Plain V sc → Named V sc
+plain_named V sc h x m at s = ([], h x m at s)
+
+pub except_settings : (V : Names) (c : Check) (at : Place) (y : Word) (ms : Assignments) → LeftSides V ms → (sc : Scope) → Plain V sc → (s : State) → (sc.env s).now y at ≡ just (s y) → (eval c (except_of at y ms) (sc.env s)).value ≡ value_after c ms sc s (s y)
+except_settings V c at y ms h sc n s here =
+    except_law V c at y ms h sc n s here
+    ∙ all_law (parts_of c ms) sc s (λ fs. folded fs (s y))
+    ∙ sym (settings_law V c ms h sc (plain_named V sc n) s (λ all. changed_by c all (s y)) (λ fs. folded (changes_of fs) (s y)) (λ all. by_settings c all (s y)))

@@ -3,19 +3,21 @@ use Rattle.std.proofs.Common.{◌≡◌, List, [], Bool, true, false, ◌↔◌,
 use Rattle.tla_expr.specs.Tree.{Word}
 use Rattle.tla_value.specs.Stops.{plain}
 use Rattle.tla_value.specs.Meaning.{Env}
-use Rattle.module_text.specs.Truth.{Verdict, TrueExactly}
+use Rattle.tla_value.specs.Value.{TrueExactly}
+use Rattle.module_text.specs.ActionTruth.{Verdict}
 use Rattle.pcal_tree.specs.Algorithm.{Statements}
 use Rattle.pcal_tree.specs.Scope.{State, Scope}
 use Rattle.pcal_tree.specs.Run.{Rules}
-use Rattle.action_builder.specs.Action.{Names, member, more, assigned_in, IsBad, NotFalse, Agree}
-use Rattle.action_builder.specs.Effects.{effects_of}
-use Rattle.action_builder.specs.Contract.{Fits, NoTrouble, verdict, SomeTrouble, Built, BadSomewhere}
-use Rattle.action_builder.specs.Contract as Contract
+use Rattle.action_builder.specs.Assigned.{assigned_in, Names, member, more}
+use Rattle.tla_value.specs.Value.{IsBad, NotFalse, Outcome}
+use Rattle.action_builder.specs.laws.States.{SameOn, BadSomewhere}
+use Rattle.action_builder.proofs.Actions.{Fits, NoTrouble, verdict, SomeTrouble, Built}
+use Rattle.action_builder.specs.laws.Ready.{Readable, holds_on, unlimited, Ready}
+use Rattle.action_builder.proofs.Matching.{Matches}
 use Rattle.action_builder.specs.Written.{write}
-use Rattle.action_builder.specs.Ready.{Readable, Matches, holds_on, unlimited, Ready}
 use Rattle.action_builder.proofs.Contract.{true_fits, fits_true, true_exactly, bad_exactly, reads_assigned}
+use Rattle.action_builder.proofs.Names.{all_once}
 use Rattle.action_builder.proofs.Truth.{match_all}
-use Rattle.tla_value.specs.Value.{Outcome}
 
 pub match_is : (p : Verdict) (b : Bool) → Matches p (Ok b) → p ≡ Ok b
 match_is (Ok a) b h = ap Ok h
@@ -42,16 +44,16 @@ match_bad (Ok a) (Err k) h i = absurd h
 match_bad (Err k) v h i = tt
 
 matched : (M : Rules) (U : Readable) (vs : List Word) (A : Names) (ss : Statements) (sc : Scope) (env : State → State → Env) → Ready U vs A ss sc env → (s t : State) → Matches (holds_on vs env (write vs A ss) s t) (verdict (unlimited M) A ss sc s t)
-matched M U vs A ss sc env r s t = match_all U vs A ss r.fine r.within sc env r.stands s t
+matched M U vs A ss sc env r s t = match_all U vs A ss r.settled r.fine r.within sc env r.stands s t
 
 built : (M : Rules) (U : Readable) (vs : List Word) (A : Names) (ss : Statements) (sc : Scope) (env : State → State → Env) → Ready U vs A ss sc env → Built (unlimited M) (member vs) A ss sc
-built M U vs A ss sc env r = (r.settled, λ x m at s. ([], r.stands.scoped.part x m at s), r.once)
+built M U vs A ss sc env r = (r.settled, λ x m at s. ([], r.stands.scoped.part x m at s), all_once plain A ss r.once)
 
 -- where no run faults, the items are true exactly if some run has a fitting end, else false
 pub items_exactly : (M : Rules) (U : Readable) (vs : List Word) (A : Names) (ss : Statements) (sc : Scope) (env : State → State → Env) → Ready U vs A ss sc env → (s t : State) → NoTrouble (unlimited M) A ss sc s t → TrueExactly (holds_on vs env (write vs A ss) s t) (Fits (unlimited M) A ss sc s t)
 items_exactly M U vs A ss sc env r s t fine = by (true_exactly (unlimited M) (member vs) A ss sc s t (built M U vs A ss sc env r) fine)
   where
-    by : Contract.TrueExactly (verdict (unlimited M) A ss sc s t) (Fits (unlimited M) A ss sc s t) → TrueExactly (holds_on vs env (write vs A ss) s t) (Fits (unlimited M) A ss sc s t)
+    by : TrueExactly (verdict (unlimited M) A ss sc s t) (Fits (unlimited M) A ss sc s t) → TrueExactly (holds_on vs env (write vs A ss) s t) (Fits (unlimited M) A ss sc s t)
     by x = (x.0, match_is (holds_on vs env (write vs A ss) s t) x.0 (subst (Matches (holds_on vs env (write vs A ss) s t)) x.1 (matched M U vs A ss sc env r s t)), x.2)
 
 -- where the items are true, some run has a fitting end
@@ -73,7 +75,7 @@ items_stop M U vs A ss sc env r s t =
     )
 
 -- the items' truth rests on no more of the later state than A and what is assigned
-pub items_read : (M : Rules) (U : Readable) (vs : List Word) (A : Names) (ss : Statements) (sc : Scope) (env : State → State → Env) → Ready U vs A ss sc env → (s t u : State) → Agree (more A (assigned_in (effects_of plain ss))) t u → (b : Bool) → holds_on vs env (write vs A ss) s t ≡ Ok b → holds_on vs env (write vs A ss) s u ≡ Ok b
+pub items_read : (M : Rules) (U : Readable) (vs : List Word) (A : Names) (ss : Statements) (sc : Scope) (env : State → State → Env) → Ready U vs A ss sc env → (s t u : State) → SameOn (more A (assigned_in ss)) t u → (b : Bool) → holds_on vs env (write vs A ss) s t ≡ Ok b → holds_on vs env (write vs A ss) s u ≡ Ok b
 items_read M U vs A ss sc env r s t u h b e =
     let known : verdict (unlimited M) A ss sc s t ≡ Ok b = match_back b _ (subst (λ p. Matches p (verdict (unlimited M) A ss sc s t)) e (matched M U vs A ss sc env r s t)) in
     match_is (holds_on vs env (write vs A ss) s u) b (subst (Matches (holds_on vs env (write vs A ss) s u)) (sym (reads_assigned (unlimited M) A ss sc s t u h) ∙ known) (matched M U vs A ss sc env r s u))

@@ -2,11 +2,12 @@
 use Rattle.std.proofs.Common.{◌≡◌, List, [], ◌∷◌, Bool, true, false, cond, ◌||◌, bytes_eq, refl, sym, ◌∙◌, ap, subst, ⊎_elim, Ok, Err}
 use Rattle.std.proofs.lemmas.Bool.{cases_Bool, both_ways}
 use Rattle.tla_expr.specs.Tree.{Word}
-use Rattle.tla_value.specs.Value.{Value, Trouble, Outcome, ◌>>=◌}
-use Rattle.pcal_tree.specs.Scope.{Scope}
+use Rattle.tla_value.specs.Value.{Value, Trouble, Outcome, ◌>>=◌, IsBad}
+use Rattle.pcal_tree.specs.Scope.{Scope, State, put}
 use Rattle.action_builder.proofs.Equal.{name-true, eq-name}
-use Rattle.pcal_tree.specs.Scope.{State, put}
-use Rattle.action_builder.specs.Action.{member, Change, Parts, no_parts, part, without, firsts, Changes, no_changes, change, evaluated, applied, moved, changes_for, folded, value_for, IsBad}
+use Rattle.action_builder.specs.Assigned.{member, without}
+use Rattle.action_builder.proofs.Effects.{Change, Parts, no_parts, part, firsts, Changes, no_changes, change, evaluated, applied, moved}
+use Rattle.action_builder.proofs.Actions.{changes_for, folded, value_for}
 use Rattle.action_builder.proofs.Sets.{or_none}
 
 one_got : {X : Type 0} (x y : X) → ◌≡◌ {A = Outcome X} (Ok x) (Ok y) → x ≡ y

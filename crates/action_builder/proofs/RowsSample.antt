@@ -1,12 +1,12 @@
 -- The action of the sample step on a pair of states, by computation.
-use Rattle.std.proofs.Common.{◌≡◌, pos, List, [], ◌∷◌, Bool, true, false, codes, refl, Ok}
+use Rattle.std.proofs.Common.{◌≡◌, pos, List, [], ◌∷◌, true, false, codes, refl, Ok}
 use Rattle.std.specs.Prelude.{ℕ}
 use Rattle.tla_expr.specs.Tree.{Word}
 use Rattle.tla_value.specs.Value.{Value, int, text, fun, no_values, and}
 use Rattle.tla_value.specs.Order.{seq_from, record_from}
 use Rattle.pcal_tree.specs.Scope.{State, put}
-use Rattle.pcal_tree.specs.Variables.{pc, stack}
-use Rattle.action_builder.specs.Ready.{holds_on}
+use Rattle.pcal_tree.specs.Variables.{pc}
+use Rattle.action_builder.specs.laws.Ready.{holds_on}
 use Rattle.action_builder.specs.laws.LabelSteps.{action_of}
 use Rattle.action_builder.specs.laws.Sample.{me, variables, env, step}
 

@@ -6,7 +6,9 @@ use Rattle.tla_value.specs.Value.{Value}
 use Rattle.tla_value.specs.Order.{same}
 use Rattle.action_builder.proofs.Equal.{name-true, eq-name, value-true, eq-value}
 use Rattle.pcal_tree.specs.Scope.{State, put}
-use Rattle.action_builder.specs.Action.{Names, member, more, mid, minus, all_same}
+use Rattle.action_builder.specs.Assigned.{Names, member, more}
+use Rattle.action_builder.specs.laws.States.{mid}
+use Rattle.action_builder.proofs.Actions.{minus, all_same}
 
 pub or_left : (a b : Bool) → a ≡ true → (a || b) ≡ true
 or_left a b e = ap (λ x. x || b) e

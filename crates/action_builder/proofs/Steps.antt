@@ -2,14 +2,14 @@
 use Rattle.std.proofs.Common.{◌≡◌, List, true, ◌↔◌, Ok, Err}
 use Rattle.tla_expr.specs.Tree.{Word}
 use Rattle.tla_value.specs.Meaning.{Env}
-use Rattle.module_text.specs.Truth.{TrueExactly}
+use Rattle.tla_value.specs.Value.{TrueExactly}
 use Rattle.pcal_tree.specs.Scope.{State}
-use Rattle.tla_value.specs.Value.{Trouble, Outcome}
+use Rattle.tla_value.specs.Value.{Trouble, Outcome, IsBad, NotFalse}
 use Rattle.pcal_tree.specs.Run.{Has, unlabelled, run}
-use Rattle.action_builder.specs.Action.{Names, mid, IsBad, NotFalse}
-use Rattle.action_builder.specs.Contract.{to_end, BadSomewhere}
-use Rattle.action_builder.specs.Settled.{Close}
-use Rattle.action_builder.specs.Ready.{Readable, holds_on, unlimited}
+use Rattle.action_builder.specs.Assigned.{Names}
+use Rattle.action_builder.specs.laws.States.{mid, BadSomewhere}
+use Rattle.action_builder.specs.laws.Settling.{to_end, Close}
+use Rattle.action_builder.specs.laws.Ready.{Readable, holds_on, unlimited}
 use Rattle.action_builder.specs.laws.LabelSteps.{LabelStep, prepared_of, items_of, IsPrepared, IsReady, HasOutcome, EndsIn, IsTroubled}
 use Rattle.action_builder.proofs.Prepared.{prepared_law}
 use Rattle.action_builder.proofs.Items.{items_exactly, items_fit, fit_items, items_stop}

@@ -1,29 +1,26 @@
 -- The sample step meets all that the laws ask.
-use Rattle.std.proofs.Common.{◌≡◌, List, [], ◌∷◌, Bool, true, false, cond, ◌||◌, ◌&&◌, bytes_eq, codes, Option, Some, None, refl, sym, ap, subst, ⊎_elim, Ok}
-use Rattle.std.proofs.lemmas.Bool.{or_cases, and_parts}
+use Rattle.std.proofs.Common.{◌≡◌, List, [], ◌∷◌, Bool, true, false, cond, bytes_eq, codes, Option, Some, None, refl, sym, subst}
 use Rattle.tla_token.specs.declared.place.Place.{Place}
 use Rattle.tla_expr.specs.Tree.{Word, Each}
-use Rattle.tla_value.specs.Value.{Value}
-use Rattle.tla_value.specs.Stops.{Check, plain}
-use Rattle.tla_value.specs.Meaning.{Env, just}
+use Rattle.tla_value.specs.Stops.{plain}
+use Rattle.tla_value.specs.Meaning.{just}
 use Rattle.tla_value.specs.Grafts.{owned, own_part}
-use Rattle.tla_value.specs.Related.{In}
-use Rattle.pcal_tree.specs.Algorithm.{no_assignments, assignment, Routine, procedure_routines}
-use Rattle.pcal_tree.specs.Scope.{State, Scope, bound, origin_in}
-use Rattle.pcal_tree.specs.laws.Expansion.{Any, Calls, FineCall, BareBodies}
-use Rattle.pcal_tree.specs.Program.{Program, Actor, index, local_index}
+use Rattle.pcal_tree.specs.Algorithm.{Routine}
+use Rattle.pcal_tree.specs.Scope.{State, Scope, origin_in}
+use Rattle.pcal_tree.specs.laws.Expansion.{Calls, FineCall, BareBodies}
+use Rattle.pcal_tree.specs.Program.{local_index}
 use Rattle.pcal_tree.specs.Variables.{pc, stack, written_all}
-use Rattle.pcal_tree.specs.Calls.{named}
-use Rattle.action_builder.specs.Action.{Names, member, more, Apart}
-use Rattle.action_builder.specs.Effects.{Settled}
-use Rattle.action_builder.specs.Moved.{StandsAtPath, Machine, Initials}
-use Rattle.action_builder.specs.Rules.{Machines, MachinesWithin}
-use Rattle.action_builder.specs.Settled.{settled, Inner}
-use Rattle.action_builder.specs.Ready.{Paired, Scoped}
+use Rattle.action_builder.specs.Assigned.{Names, member, more}
+use Rattle.action_builder.proofs.Actions.{Apart}
+use Rattle.action_builder.specs.laws.Ready.{Settled, Paired, Scoped}
+use Rattle.action_builder.specs.laws.Scopes.{StandsAtPath, Inner, own_scope, own_path, Whole}
+use Rattle.action_builder.specs.laws.Jumps.{RoutineStands, Initials, RoutinesStand, RoutinesStandWithin}
+use Rattle.action_builder.specs.Settled.{settled}
+use Rattle.action_builder.specs.laws.LabelSteps.{prepared_of, IsPrepared, IsReady}
 use Rattle.action_builder.specs.Prepared.{none}
-use Rattle.action_builder.specs.laws.LabelSteps.{own_scope, own_path, Whole, prepared_of, IsPrepared, IsReady}
-use Rattle.action_builder.specs.laws.Sample.{macros, unexpanded, program, routine, me, actor, self, variables, own, plain_env, plain_scope, scope, env, any_name, initials, step}
-use Rattle.action_builder.proofs.Decided.{each_name, clear_list, fine_list}
+use Rattle.action_builder.specs.laws.Sample.{macros, unexpanded, program, routine, me, actor, self, variables, own, plain_env, plain_scope, scope, env, any_name, initials, places, step}
+use Rattle.action_builder.proofs.Names.{each_name}
+use Rattle.action_builder.proofs.Decided.{clear_list, fine_list}
 use Rattle.action_builder.proofs.Prepared.{own_stands}
 use Rattle.action_builder.proofs.Rules.{rules_do}
 use Rattle.action_builder.proofs.Matching.{paired_bound, scoped_bound}
@@ -62,7 +59,7 @@ origins x at = by (own x)
     by true = refl
     by false = refl
 
-machine : (p : Routine) → Each (StandsAtPath (own_scope plain self own scope) (local_index actor p)) (written_all program p (Rattle.pcal_tree.specs.Algorithm.locals p)) → Machine program actor p (own_scope plain self own scope)
+machine : (p : Routine) → Each (StandsAtPath (own_scope plain self own scope) (local_index actor p)) (written_all program p (Rattle.pcal_tree.specs.Algorithm.locals p)) → RoutineStands program actor p (own_scope plain self own scope)
 machine p h = record {
   pc = there pc refl;
   stack = there stack refl;
@@ -76,24 +73,24 @@ some_is : (b : Bool) (r p : Routine) → ◌≡◌ {A = Option Routine} (cond b 
 some_is true r p e = cc
 some_is false r p e = cc
 
-machines : Machines program actor routine initials (own_scope plain self own scope)
+machines : RoutinesStand program actor routine initials (own_scope plain self own scope)
 machines = record {
   own = machine routine (there (codes "y") refl, tt);
-  called = λ x p e. subst (λ q. Machine program actor q (own_scope plain self own scope)) (some_is (bytes_eq (codes "P") x) _ p e) (machine _ (there (codes "a") refl, (there (codes "b") refl, tt)));
-  initials = λ x p e at. subst (λ q. Initials program actor q at (own_scope plain self own scope) (initials.place q at) (initials.initial q) q.variables) (some_is (bytes_eq (codes "P") x) _ p e) (refl, (λ s. refl), tt);
+  called = λ x p e. subst (λ q. RoutineStands program actor q (own_scope plain self own scope)) (some_is (bytes_eq (codes "P") x) _ p e) (machine _ (there (codes "a") refl, (there (codes "b") refl, tt)));
+  initials = λ x p e at. subst (λ q. Initials program actor q at (own_scope plain self own scope) (initials.initial q) q.variables) (some_is (bytes_eq (codes "P") x) _ p e) ((λ s. refl), tt);
 }
 
-pub within : MachinesWithin program actor routine initials (λ w. false) (own_scope plain self own scope)
-within inner k = subst (Machines program actor routine initials) (sym (only_scope (own_scope plain self own scope) inner k)) machines
+pub within : RoutinesStandWithin program actor routine initials (λ w. false) (own_scope plain self own scope)
+within inner k = subst (RoutinesStand program actor routine initials) (sym (only_scope (own_scope plain self own scope) inner k)) machines
 
 -- ---- the step
 
 pub prepared : IsPrepared step
 prepared = record {
   free = λ x at p s. refl;
-  does = rules_do program actor routine initials (λ w. false) (own_scope plain self own scope) refl within;
+  does = rules_do program actor routine initials places (λ w. false) (own_scope plain self own scope) refl within;
   tidy = (tt, (tt, (((tt, tt), (refl, tt), (λ e. tt)), tt)));
-  clean = clear_list plain (owned self own) (settled step.moving step.here step.exit step.statements) refl;
+  clean = clear_list plain (owned self own) (settled step.jumps step.here step.exit step.statements) refl;
 }
 
 apart : (A : Names) (xs : List Word) → Each (λ w. A w ≡ false) xs → Apart A xs

@@ -5,37 +5,40 @@
 //! `written_out_macros_run_the_same` of pcal_tree, with `written_out_steps_begin_alike` here for where a step begins; all
 //! other laws here are of statements with written names and without macro calls, as expansion and naming leave them.
 
-ghost use Rattle.std.specs.Prelude.{◌≡◌, ◌↔◌, List, [], Bool, true};
+ghost use Rattle.std.specs.Prelude.{◌≡◌, ◌↔◌, List, Bool, true};
 ghost use Rattle.tla_token.specs.declared.place.Place.{Place};
 ghost use Rattle.tla_expr.specs.Tree.{Word, Tree};
-ghost use Rattle.tla_value.specs.Value.{Value};
+ghost use Rattle.tla_value.specs.Value.{Value, NotFalse, IsBad};
 ghost use Rattle.tla_value.specs.Stops.{Check, plain};
 ghost use Rattle.tla_value.specs.Meaning.{Env, just, bind, eval};
 ghost use Rattle.tla_value.specs.Related.{In};
 ghost use Rattle.tla_value.specs.Grafts.{owned};
 ghost use Rattle.tla_value.specs.Definitions.{Valuation};
 ghost use Rattle.module_text.specs.Module.{Items};
-ghost use Rattle.module_text.specs.Truth.{TrueExactly, items_hold};
+ghost use Rattle.tla_value.specs.Value.{TrueExactly};
+ghost use Rattle.module_text.specs.ActionTruth.{items_hold};
 ghost use Rattle.pcal_tree.specs.Algorithm.{Statements, Macro, Assignments, Routine};
 ghost use Rattle.pcal_tree.specs.Scope.{State, Scope};
 ghost use Rattle.pcal_tree.specs.Run.{Rules, Follow, run, exit_to, unlabelled};
 ghost use Rattle.pcal_tree.specs.StepStart.{begin};
 ghost use Rattle.pcal_tree.specs.Expand.{graft_all, expanded, written_out, expand_begin};
-ghost use Rattle.pcal_tree.specs.laws.Expansion.{Any, Calls, Clean, FineCall, BareBodies, Free};
+ghost use Rattle.pcal_tree.specs.laws.Expansion.{Any, Calls, Clean, FineCall, BareBodies, AnyPlace};
 ghost use Rattle.pcal_tree.specs.Program.{Program, Actor};
-ghost use Rattle.action_builder.specs.Action.{folded_all, Names, more, assigned_in, NotFalse, Agree, IsBad};
-ghost use Rattle.action_builder.specs.Effects.{effects_of, parts_of, LeftSides, IsPlain as Plain};
-ghost use Rattle.action_builder.specs.Contract.{BadSomewhere, to_end};
-ghost use Rattle.action_builder.specs.Rules.{Written as Initial, base_rules, moving, callable, MachinesWithin};
+ghost use Rattle.action_builder.specs.Assigned.{Names, more, assigned_in};
+ghost use Rattle.action_builder.specs.laws.States.{value_after, SameOn, BadSomewhere};
+ghost use Rattle.action_builder.specs.laws.Ready.{LeftSides, Readable, holds_on};
+ghost use Rattle.action_builder.specs.laws.Scopes.{IsPlain as Plain, Inner, StandsAtPath, own_scope, own_path, Whole};
+ghost use Rattle.action_builder.specs.laws.Settling.{to_end, Callable, Tidy, CloseCourses, DoesAsRules};
+ghost use Rattle.action_builder.specs.Jumps.{InitialValues, JumpPlaces, written_jumps};
+ghost use Rattle.action_builder.specs.laws.Jumps.{base_rules, callable, RoutinesStandWithin};
+ghost use Rattle.action_builder.specs.Settled.{WrittenJumps, settled};
+ghost use Rattle.action_builder.specs.laws.LabelSteps.{LabelStep, prepared_of, items_of, action_of, IsPrepared, IsReady, EndsIn, IsTroubled, StepsTo, MeetsTrouble};
 ghost use Rattle.action_builder.specs.Prepared.{none};
-ghost use Rattle.action_builder.specs.Settled.{Moving, settled, Callable, Tidy, CloseCourses, Does, Inner};
-ghost use Rattle.action_builder.specs.Moved.{StandsAtPath};
 ghost use Rattle.action_builder.specs.Written.{except_of};
-ghost use Rattle.action_builder.specs.Ready.{Readable, holds_on};
 ghost use Rattle.action_builder.specs.SingleProcess.{in_place_of, graft_items};
-ghost use Rattle.action_builder.specs.laws.Grafts.{ClearItems, SameButPlaces};
+ghost use Rattle.action_builder.specs.laws.Grafts.{ClearItems};
+ghost use Rattle.action_builder.specs.laws.Places.{SameButPlaces};
 ghost use Rattle.action_builder.specs.laws.Sample as sample;
-ghost use Rattle.action_builder.specs.laws.LabelSteps.{own_scope, own_path, Whole, LabelStep, prepared_of, items_of, action_of, IsPrepared, IsReady, EndsIn, IsTroubled, StepsTo, MeetsTrouble};
 
 /// The items that are written for a step where the variables of A are assigned already, on a pair of states. Where no
 /// outcome of the step is trouble, they are true exactly if it ends in a state that agrees with the second on what is
@@ -52,7 +55,7 @@ pub fn items_are_true_of_the_ends_of_a_step()
     ensures faults { (d : LabelStep) → IsPrepared d → (U : Readable) (vs : List Word) (env : State → State → Env) (A : Names) → IsReady U vs env A d → (s t : State)
         → (BadSomewhere A t (holds_on vs env (items_of vs A d) s) ↔ IsTroubled A d s t) }
     ensures reads { (d : LabelStep) (U : Readable) (vs : List Word) (env : State → State → Env) (A : Names) → IsReady U vs env A d → (s t u : State)
-        → Agree (more A (assigned_in (effects_of plain (prepared_of d)))) t u → (b : Bool) → holds_on vs env (items_of vs A d) s t ≡ Ok b → holds_on vs env (items_of vs A d) s u ≡ Ok b }
+        → SameOn (more A (assigned_in (prepared_of d))) t u → (b : Bool) → holds_on vs env (items_of vs A d) s t ≡ Ok b → holds_on vs env (items_of vs A d) s u ≡ Ok b }
 {}
 
 /// The action of a step, which ends with UNCHANGED, on a pair of states. Where no outcome of the step is trouble, it is
@@ -73,20 +76,21 @@ pub fn actions_are_true_of_steps()
 /// Statements whose jumps, loops, calls and returns are written as assignments have the ends of the statements
 /// as they are, and trouble where these have trouble.
 pub fn settled_statements_have_the_same_ends()
-    ensures { (M : Rules) (W : Moving) (f : Word → Bool) (g : Callable) (sc : Scope) → Does M W (Inner f sc) (In f) g → (here l : Word) (ss : Statements) → Tidy (In f) g ss
+    ensures { (M : Rules) (W : WrittenJumps) (f : Word → Bool) (g : Callable) (sc : Scope) → DoesAsRules M W (Inner f sc) (In f) g → (here l : Word) (ss : Statements) → Tidy (In f) g ss
         → CloseCourses (run M unlabelled (settled W here l ss) sc to_end) (run M here ss sc (exit_to M l)) }
 {}
 
-/// The assignments written for the jumps, calls and returns of a routine do what the rules of a step say.
-pub fn written_moves_do_what_the_rules_say()
-    ensures { (P : Program) (v : Actor) (u : Routine) (I : Initial) (f : Word → Bool) (sc : Scope) → P.check ≡ plain → MachinesWithin P v u I f sc
-        → Does (base_rules P v u) (moving P v u I) (Inner f sc) (In f) (callable P) }
+/// The assignments written for the jumps, calls and returns of a routine, at any places, which are the same for all
+/// processes, do what the rules of a step say.
+pub fn written_jumps_do_what_the_rules_say()
+    ensures { (P : Program) (v : Actor) (u : Routine) (I : InitialValues) (places : JumpPlaces) (f : Word → Bool) (sc : Scope) → P.check ≡ plain → RoutinesStandWithin P v u I f sc
+        → DoesAsRules (base_rules P v u) (written_jumps P u I places) (Inner f sc) (In f) (callable P) }
 {}
 
 /// With the variables of a process written as functions of its identifier, statements take the courses that they
 /// take where these variables are at the identifier; and there they are, read and assigned.
 pub fn own_variables_stand_at_the_identifier()
-    ensures courses { (M : Rules) (self : Word) (own : Word → Bool) (here : Word) (ss : Statements) (sc : Scope) → Free sc → Clean M.check (owned self own) Any ss → (K : Follow)
+    ensures courses { (M : Rules) (self : Word) (own : Word → Bool) (here : Word) (ss : Statements) (sc : Scope) → AnyPlace sc → Clean M.check (owned self own) Any ss → (K : Follow)
         → run M here (graft_all (owned self own) ss) sc K ≡ run M here ss (own_scope M.check self own sc) K }
     ensures there { (c : Check) (V : Word → Bool) (self : Word) (v : Value) (own : Word → Bool) (sc : Scope) → Whole V self v own sc → (x : Word) → V x ≡ true
         → ((at : Place) (s : State) → (sc.env s).now x at ≡ just (s x)) → StandsAtPath (own_scope c self own sc) (own_path (own x) v) x }
@@ -95,7 +99,7 @@ pub fn own_variables_stand_at_the_identifier()
 /// The written right side of a variable has the value that the assignments to its parts give it, within any limits.
 pub fn except_makes_the_changes_of_its_parts()
     ensures { (V : Names) (c : Check) (at : Place) (y : Word) (ms : Assignments) → LeftSides V ms → (sc : Scope) → Plain V sc → (s : State) → (sc.env s).now y at ≡ just (s y)
-        → (eval c (except_of at y ms) (sc.env s)).value ≡ folded_all (parts_of c ms) sc s (s y) }
+        → (eval c (except_of at y ms) (sc.env s)).value ≡ value_after c ms sc s (s y) }
 {}
 
 /// With the expression of a single process put in for `self`, which captures nothing, items have on every pair of states
@@ -116,7 +120,7 @@ pub fn written_out_steps_begin_alike()
 /// these laws ask.
 pub fn the_sample_step_meets_all_that_is_asked()
     ensures expanded { Calls (FineCall plain sample.macros) sample.unexpanded × BareBodies sample.macros }
-    ensures jumps { MachinesWithin sample.program sample.actor sample.routine sample.initials sample.step.names (own_scope plain sample.self sample.own sample.scope) }
+    ensures jumps { RoutinesStandWithin sample.program sample.actor sample.routine sample.initials sample.step.names (own_scope plain sample.self sample.own sample.scope) }
     ensures prepared { IsPrepared sample.step }
     ensures ready { IsReady sample.any_name sample.variables sample.env none sample.step }
 {}

@@ -29,12 +29,12 @@ use Rattle.pcal_tree.specs.Processes.{OneOf, IsActor}
 abbrev pub program_of : Places → Parts → Naming → Valuation → Program
 program_of p f names values = record { check = plain; constants = values; outside = []; algorithm = algorithm_at p f; naming = names }
 
-abbrev pub behind_label : Places → Parts → Statements
-behind_label p f =
+abbrev pub after_label : Places → Parts → Statements
+after_label p f =
     then (statement_span p f.right) (assign (assignment (leaf (name f.variable) (p 10)) (right_tree f.variable f.right (p 12) (p 14)) no_assignments)) done
 
 abbrev pub body : Places → Parts → Statements
-body p f = mark (word_at f.label (p 8)) Plain (behind_label p f)
+body p f = mark (word_at f.label (p 8)) Plain (after_label p f)
 
 abbrev pub routine : Places → Parts → Routine
 routine p f = alone_routine (algorithm_at p f) (body p f)
@@ -43,7 +43,7 @@ abbrev pub actor : Places → Parts → Actor
 actor p f = record { self = None; own = routine p f }
 
 abbrev pub begins : Places → Parts → Begin
-begins p f = record { items = behind_label p f; exit = codes "Done" }
+begins p f = record { items = after_label p f; exit = codes "Done" }
 
 abbrev pub stand : Places → Parts → Stand
 stand p f = record { routine = routine p f; label = f.label; begins = begins p f }
@@ -74,7 +74,7 @@ stand_of p f u l b e h = begun l f.label (begins p f) b (subst (λ u. at_label u
 abbrev pub Kept : Parts → Naming → Type 0
 Kept f names = names.label 0 f.label ≡ f.label
 
--- behind the step, where the right side is x
+-- after the step, where the right side is x
 abbrev pub ended : Parts → State → Value → State
 ended f s x = put pc (text (codes "Done")) (put f.variable x s)
 

@@ -14,7 +14,7 @@ use Rattle.tla_expr.proofs.ReadAll.{one_before}
 use Rattle.pcal_tree.specs.Algorithm.{Name}
 use Rattle.pcal_tree.specs.GrammarParts as part
 use Rattle.pcal_tree.specs.GrammarParts.{key, mark, token, expression, is_left_side}
-use Rattle.pcal_tree.specs.GrammarP.{Statement, simple, branch, either, with, loop, Sequence, last_statement, more_statements, statement, sequence, GoodStatement, GoodSequence}
+use Rattle.pcal_tree.specs.GrammarP.{Statement, simple, branch, either, with, while, Sequence, last_statement, more_statements, statement, sequence, GoodStatement, GoodSequence}
 
 -- ---- phrases among the tokens of algorithms
 
@@ -96,12 +96,12 @@ left_no_key l h r q w us e =
 abbrev Ended : (List Token → List Token) → Type 0
 Ended f = (ts : List Token) (q : Place) (us : List Token) → f ts ≡ key q (codes "end") us → ⊥
 
-moves_no_end : (ms : part.Assignments) → part.GoodMoves ms → Ended (part.moves ms)
-moves_no_end (part.last_assignment l p e) g ts q us h = left_no_key l g.0 _ q (codes "end") us h
-moves_no_end (part.assignment l p e s ms) g ts q us h = left_no_key l g.0 _ q (codes "end") us h
+assignments_no_end : (ms : part.Assignments) → part.GoodAssignments ms → Ended (part.assignments ms)
+assignments_no_end (part.last_assignment l p e) g ts q us h = left_no_key l g.0 _ q (codes "end") us h
+assignments_no_end (part.assignment l p e s ms) g ts q us h = left_no_key l g.0 _ q (codes "end") us h
 
 simple_no_end : (s : part.Simple) → part.GoodSimple s → Ended (part.simple_tokens s)
-simple_no_end (part.assign ms) g ts q us h = moves_no_end ms g ts q us h
+simple_no_end (part.assign ms) g ts q us h = assignments_no_end ms g ts q us h
 simple_no_end (part.await p e) g ts q us h = key_apart p q (codes "await") (codes "end") _ us refl refl h
 simple_no_end (part.when p e) g ts q us h = key_apart p q (codes "when") (codes "end") _ us refl refl h
 simple_no_end (part.print p e) g ts q us h = key_apart p q (codes "print") (codes "end") _ us refl refl h
@@ -117,7 +117,7 @@ statement_no_end (simple s) g ts q us h = simple_no_end s g ts q us h
 statement_no_end (branch p e t a b r s) g ts q us h = key_apart p q (codes "if") (codes "end") _ us refl refl h
 statement_no_end (either p a bs r s) g ts q us h = key_apart p q (codes "either") (codes "end") _ us refl refl h
 statement_no_end (with p bs t a r s) g ts q us h = key_apart p q (codes "with") (codes "end") _ us refl refl h
-statement_no_end (loop p e t a r s) g ts q us h = key_apart p q (codes "while") (codes "end") _ us refl refl h
+statement_no_end (while p e t a r s) g ts q us h = key_apart p q (codes "while") (codes "end") _ us refl refl h
 
 pub no_end : (ss : Sequence) → GoodSequence ss → Ended (sequence ss)
 no_end (last_statement part.no_labels st p) g ts q us h = statement_no_end st g _ q us h
@@ -157,7 +157,7 @@ no_label (simple (part.assign (part.last_assignment l a b))) g n h r q s e =
     (calm_token a (tk.mark tk.assigns) (expression b r) refl) (calm_token q (tk.mark tk.colon) s refl) e in
     apart _ _ refl w.1
 no_label (simple (part.assign (part.assignment l a b c ms))) g n h r q s e =
-    let us : List Token = expression b (mark c tk.beside (part.moves ms r)) in
+    let us : List Token = expression b (mark c tk.beside (part.assignments ms r)) in
     let w = one_expression l (spelled.name n.place n.word) g.1 h (mark a tk.assigns us) (mark q tk.colon s)
     (calm_token a (tk.mark tk.assigns) us refl) (calm_token q (tk.mark tk.colon) s refl) e in
     apart _ _ refl w.1
@@ -174,7 +174,7 @@ no_label (simple (part.return p)) g n h r q s e = apart _ _ refl e
 no_label (branch p b t c d u v) g n h r q s e = apart _ _ refl e
 no_label (either p c bs u v) g n h r q s e = apart _ _ refl e
 no_label (with p bs t c u v) g n h r q s e = apart _ _ refl e
-no_label (loop p b t c u v) g n h r q s e = apart _ _ refl e
+no_label (while p b t c u v) g n h r q s e = apart _ _ refl e
 
 one_statement : (k : Labelled) (st : Statement) → GoodStatement st → (r s : List Token) → Calmly r → Calmly s → nat_eq 9 (first_sort s) ≡ false
     → statement st r ≡ statement (assignment k) s → (st ≡ assignment k) × (r ≡ s)
@@ -187,7 +187,7 @@ one_statement k (simple (part.assign (part.last_assignment l a b))) g r s cr cs 
     let u = one_expression b k.value g.2 k.good r s cr cs (ap tail w.1) in
     ((λ i. simple (part.assign (part.last_assignment (w.0 i) (d i) (u.0 i)))), u.1)
 one_statement k (simple (part.assign (part.assignment l a b c ms))) g r s cr cs n e =
-    let ts : List Token = part.moves ms r in
+    let ts : List Token = part.assignments ms r in
     let us : List Token = expression b (mark c tk.beside ts) in
     let vs : List Token = expression k.value s in
     let w = one_expression l (spelled.name k.place k.variable) g.1 k.right (mark a tk.assigns us) (mark k.assigned tk.assigns vs)
@@ -207,7 +207,7 @@ one_statement k (simple (part.return p)) g r s cr cs n e = absurd (apart _ _ ref
 one_statement k (branch p b t c d u v) g r s cr cs n e = absurd (apart _ _ refl e)
 one_statement k (either p c bs u v) g r s cr cs n e = absurd (apart _ _ refl e)
 one_statement k (with p bs t c u v) g r s cr cs n e = absurd (apart _ _ refl e)
-one_statement k (loop p b t c u v) g r s cr cs n e = absurd (apart _ _ refl e)
+one_statement k (while p b t c u v) g r s cr cs n e = absurd (apart _ _ refl e)
 
 pub same_name : (x y : Name) (r s : List Token) → part.name x r ≡ part.name y s → x ≡ y
 same_name x y r s e =

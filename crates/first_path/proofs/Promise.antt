@@ -23,8 +23,8 @@ use Rattle.first_path.proofs.MeansInit.{init_is}
 -- the translation stands around the text wherever its trees say that they stand
 around : (x : List ℕ) (q : Places) (f : Parts) → IsForm x f → Around x (module_at q f) (translation_of x f)
 around x q f h = record {
-  spot = _;
-  is_spot = spot_is x f h;
+  split = _;
+  is_split = spot_is x f h;
   is = rw (placeless q f) (end_order (take (length x - length last_line) x) begin_line (layout (region_of f)) end_line (codes "\n") last_line);
 }
   where

@@ -13,7 +13,7 @@ use Rattle.tla_expr.specs.Tree.{Word}
 use Rattle.tla_expr.specs.Lexical as tk
 use Rattle.module_text.specs.Grammar.{Kind, seen, Token}
 use Rattle.module_text.specs.Reading.{is_small, AllSmall}
-use Rattle.module_text.specs.ModuleTokens.{kind_of, word_kind, view, is_starter, is_dash, begins_run, is_within, begins_unit, Cut, cut_at, cut_behind}
+use Rattle.module_text.specs.ModuleTokens.{kind_of, word_kind, view, is_starter, is_dash, begins_run, is_within, begins_unit, Cut, cut_at, cut_after}
 use Rattle.first_path.proofs.StandsTokens.{word_is}
 use Rattle.first_path.proofs.RegionBytes.{is_inline, all_inline, small_kind, all_small}
 
@@ -116,7 +116,7 @@ turned false true c d h = rw h refl
 turned false false c d h = rw h refl
 
 -- without dashes a unit begins just where a starter stands in column 1
-pub cut_is : (before : Option Token) (ts : List Token) → dashless ts ≡ true → cut_behind before ts ≡ parted ts
+pub cut_is : (before : Option Token) (ts : List Token) → dashless ts ≡ true → cut_after before ts ≡ parted ts
 cut_is before [] h = refl
 cut_is before (t ∷ ts) h =
     let p = and_parts (not (is_dash t)) (dashless ts) h in

@@ -26,7 +26,7 @@ use Rattle.first_path.specs.Form.{Operand, number_operand, variable_operand, Rig
 use Rattle.first_path.specs.Placed.{Places, algorithm_at}
 use Rattle.first_path.proofs.Names.{among_holds}
 use Rattle.first_path.proofs.Fit.{unreserved}
-use Rattle.first_path.proofs.Stretches.{kinds_behind, nth}
+use Rattle.first_path.proofs.Stretches.{kinds_after, nth}
 use Rattle.first_path.proofs.FormKinds.{closing_kinds}
 
 -- ---- the kinds of tokens
@@ -38,7 +38,7 @@ kinds_are p at (blank b ∷ ps) ks e = kinds_are (after p (b ∷ [])) (at + leng
 kinds_are p at (block body ∷ ps) ks e = absurd cc
 kinds_are p at (line body ∷ ps) ks e = absurd cc
 kinds_are p at (lexeme k bytes ∷ ps) ks e =
-    let (js, d, s) = kinds_behind k (kinds_of ps) ks e in
+    let (js, d, s) = kinds_after k (kinds_of ps) ks e in
     ap (λ (us : List Kind). k ∷ us) (kinds_are (after p bytes) (at + length bytes) ps js d) ∙ s
 
 -- the place of each token by its number
@@ -91,7 +91,7 @@ abbrev seen_right : Word → Right → List ExprToken → List ExprToken
 seen_right v (single a) ks = seen_operand v a ∷ ks
 seen_right v (sum a b) ks = seen_operand v a ∷ tk.sign op.Plus ∷ seen_operand v b ∷ ks
 
--- the kinds behind `--algorithm`, as the grammar sees them
+-- the kinds after `--algorithm`, as the grammar sees them
 abbrev seen_kinds : Word → Parts → List ExprToken
 seen_kinds w f =
     tk.word f.algorithm ∷ tk.reserved w ∷ tk.word f.variable ∷ tk.sign op.Equal ∷ tk.number f.initial ∷ tk.mark tk.semicolon
@@ -130,16 +130,16 @@ abbrev pub right_phrase : Word → Right → Places → Phrase
 right_phrase v (single a) p = operand_phrase v a (p 12)
 right_phrase v (sum a b) p = spelled.infix_of (operand_phrase v a (p 12)) (p 13) op.Plus (operand_phrase v b (p 14))
 
--- the number of the token behind the right side
-abbrev pub behind_right : Right → ℕ
-behind_right (single a) = 13
-behind_right (sum a b) = 15
+-- the number of the token after the right side
+abbrev pub semicolon_at : Right → ℕ
+semicolon_at (single a) = 13
+semicolon_at (sum a b) = 15
 
 abbrev pub form_text : Places → Bool → Parts → Text
 form_text p b f = record {
   head = algorithm (p 0);
   name = record { word = f.algorithm; place = p 1 };
-  around = to_end (p (1 + behind_right f.right)) (p (2 + behind_right f.right));
+  around = to_end (p (1 + semicolon_at f.right)) (p (2 + semicolon_at f.right));
   variables = part.section (p 2) b (part.last_variable (record { word = f.variable; place = p 3 })
       (part.equals (p 4) (spelled.number (p 5) f.initial)) (Some (part.by_semicolon (p 6))));
   define = no_define;
@@ -147,7 +147,7 @@ form_text p b f = record {
   procedures = [];
   main = begin (p 7) (last_statement (part.label (record { word = f.label; place = p 8 }) (part.colon (p 9)) part.no_labels)
       (simple (part.assign (part.last_assignment (spelled.name (p 10) f.variable) (p 11) (right_phrase f.variable f.right p))))
-      (Some (p (behind_right f.right))));
+      (Some (p (semicolon_at f.right))));
 }
 
 -- all places are right of column 0

@@ -91,17 +91,17 @@ module _ (p q : Places) where
   label_is : (s : State) (d : Stand) → StandsAt P s only d → d ≡ at_label
   label_is = stand_is p worked_parts names no_more_constants
 
-  -- behind the step, as the algorithm's rules make it
-  behind : State
-  behind = ended worked_parts at_first (int (pos 1))
+  -- after the step, as the algorithm's rules make it
+  after : State
+  after = ended worked_parts at_first (int (pos 1))
 
   pub steps_worked : Step P at_first at_last
-  unfolding behind
+  unfolding after
   steps_worked = (
     only,
     at_label,
     is_actor p worked_parts names no_more_constants,
-    ((inl refl, refl, refl), (behind, refl, (refl, (refl, tt)))),
+    ((inl refl, refl, refl), (after, refl, (refl, (refl, tt)))),
   )
 
   -- a state is sound where a step from the label, if it is there, doesn't stop
@@ -146,8 +146,8 @@ module _ (p q : Places) where
 
   -- a step from the start ends where pc is "Done"
   step_ends : (s : State) → StepFrom P only at_label at_first s → s pc ≡ text (codes "Done")
-  unfolding behind
-  step_ends s (there, (u, has, agree)) = sym agree.1.0 ∙ ap (λ (u : State). u pc) (got_is u behind has)
+  unfolding after
+  step_ends s (there, (u, has, agree)) = sym agree.1.0 ∙ ap (λ (u : State). u pc) (got_is u after has)
 
   labels_differ : text (codes "A") ≡ text (codes "Done") → ⊥
   labels_differ e = absurd cc

@@ -73,8 +73,8 @@ one_outside b v ts u x h k = by (kept b v ts u h) (kept b v ts x k)
     by (inr h) (inl k) = absurd (h.0 x k)
     by (inr h) (inr k) = h.1 ∙ sym k.1
 
-abbrev behind : Sight → OutsideUnit → Sight
-behind v u = record v { earlier = v.earlier ++ found (definitions_of u) }
+abbrev after : Sight → OutsideUnit → Sight
+after v u = record v { earlier = v.earlier ++ found (definitions_of u) }
 
 pub all_outside : (b : Bool) (v : Sight) (tss : List (List Token)) (us xs : List OutsideUnit) → AllOutside b v tss us → AllOutside b v tss xs → us ≡ xs
 all_outside b v [] [] [] h k = refl
@@ -84,8 +84,8 @@ all_outside b v (ts ∷ tss) [] xs h k = absurd h
 all_outside b v (ts ∷ tss) (u ∷ us) [] h k = absurd k
 all_outside b v (ts ∷ tss) (u ∷ us) (x ∷ xs) h k =
     let d = one_outside b v ts u x h.0 k.0 in
-    let j : AllOutside b (behind v u) tss xs = subst (λ (y : OutsideUnit). AllOutside b (behind v y) tss xs) (sym d) k.1 in
-    let more = all_outside b (behind v u) tss us xs h.1 j in
+    let j : AllOutside b (after v u) tss xs = subst (λ (y : OutsideUnit). AllOutside b (after v y) tss xs) (sym d) k.1 in
+    let more = all_outside b (after v u) tss us xs h.1 j in
     λ i. d i ∷ more i
 
 -- ---- what is declared doesn't depend on the sight
@@ -137,5 +137,5 @@ all_declared b v w [] (u ∷ us) xs h k more others m c = absurd h
 all_declared b v w (ts ∷ tss) [] xs h k more others m c = absurd h
 all_declared b v w (ts ∷ tss) (u ∷ us) [] h k more others m c = absurd k
 all_declared b v w (ts ∷ tss) (u ∷ us) (x ∷ xs) h k more others m c =
-    let behind_them = all_declared b (behind v u) (behind w x) tss us xs h.1 k.1 more others m c in
-    same_declared b v w ts u x h.0 k.0 (us ++ more) (xs ++ others) behind_them.0 behind_them.1
+    let after_them = all_declared b (after v u) (after w x) tss us xs h.1 k.1 more others m c in
+    same_declared b v w ts u x h.0 k.0 (us ++ more) (xs ++ others) after_them.0 after_them.1

@@ -7,7 +7,7 @@ use Rattle.pcal_tree.specs.StepStart.{Begin, begin_in, begin, begin_some}
 use Rattle.pcal_tree.specs.Expand.{joined, Writing, expand_one, expand, expand_some, expand_begin}
 use Rattle.pcal_tree.proofs.ExpandRuns.{opens_joined, no_label}
 use Rattle.std.specs.Option.{option_or}
-use Rattle.pcal_tree.specs.laws.Expansion.{Calls, CallsOne, CallsSome, Opens, BareOne, Bare, BareSome}
+use Rattle.pcal_tree.specs.laws.Expansion.{Calls, CallsOne, CallsSome, BeginsUnlabelled, BareOne, Bare, BareSome}
 
 -- ---- no label, as in a macro's body
 
@@ -37,7 +37,7 @@ begin_joined l (then at st a) b x h =
     ap (λ o. option_or o (begin l unlabelled (joined a b) x)) (none_one l unlabelled st (label_of (joined a b) x) h.0) ∙ begin_joined l a b x h.1
 begin_joined l (mark m k a) b x h = absurd h
 
-begin_opened : (l here : Word) (a b : Statements) (x : Word) → Opens a → Bare a → begin l here (joined a b) x ≡ begin l unlabelled b x
+begin_opened : (l here : Word) (a b : Statements) (x : Word) → BeginsUnlabelled a → Bare a → begin l here (joined a b) x ≡ begin l unlabelled b x
 begin_opened l here done b x o h = absurd o
 begin_opened l here (then at st a) b x o h =
     ap (λ q. option_or q (begin l unlabelled (joined a b) x)) (none_one l here st (label_of (joined a b) x) h.0) ∙ begin_joined l a b x h.1
@@ -51,9 +51,9 @@ expand_or X None p = refl
 
 -- what is written for a call has a statement and no label
 abbrev pub WrittenBare : Writing → (Word → Trees → Type 0) → Type 0
-WrittenBare X P = (at : Span) (m : Word) (ts : Trees) → P m ts → Opens (X at m ts) × Bare (X at m ts)
+WrittenBare X P = (at : Span) (m : Word) (ts : Trees) → P m ts → BeginsUnlabelled (X at m ts) × Bare (X at m ts)
 
-opens_one : (X : Writing) (P : Word → Trees → Type 0) → WrittenBare X P → (at : Span) (st : Statement) (rest : Statements) → CallsOne P st → Opens (expand_one X at st rest)
+opens_one : (X : Writing) (P : Word → Trees → Type 0) → WrittenBare X P → (at : Span) (st : Statement) (rest : Statements) → CallsOne P st → BeginsUnlabelled (expand_one X at st rest)
 opens_one X P w at (macro m ts) rest h = opens_joined (X at m ts) rest (w at m ts h).0
 opens_one X P w at st rest h = tt
 

@@ -4,12 +4,12 @@ use Rattle.std.specs.List.{flat_map}
 use Rattle.tla_token.specs.declared.rule.Rule.TheVariants.{Reserved}
 use Rattle.tla_token.specs.Signs.{is_among}
 use Rattle.tla_expr.specs.Tree.{Word}
-use Rattle.pcal_tree.specs.Algorithm.{Process, Procedure, Main, alone, processes, Algorithm, Routine, numbered, first_procedure, first_process, procedure_routine, process_routine, procedure_routines, main_routines}
+use Rattle.pcal_tree.specs.Algorithm.{Every, Process, Procedure, Main, alone, processes, Algorithm, Routine, numbered, first_procedure, first_process, procedure_routine, process_routine, procedure_routines, main_routines}
 use Rattle.pcal_tree.specs.Offences.{offence_if}
 use Rattle.pcal_tree.specs.OffencesLabels.{Label, labels, label_words}
 use Rattle.pcal_tree.specs.OffencesReserved.{labels_of_main, all_labels, reserved_name, reserved_label, reserved_outside, declared_names, reserved_declared}
 use Rattle.tla_value.specs.Outside.{Outside}
-use Rattle.pcal_tree.specs.laws.Apart.{Every, NoEndLabels}
+use Rattle.pcal_tree.specs.laws.Apart.{NoEndLabels}
 use Rattle.pcal_tree.proofs.OneStand.{every_both}
 
 -- two lists without items

@@ -7,8 +7,9 @@ use Rattle.std.proofs.lemmas.List.{append_cancel_left}
 use Rattle.tla_token.specs.Signs.{is_among}
 use Rattle.tla_token.specs.Words.{is_reserved, is_own, is_standard}
 use Rattle.tla_expr.specs.Tree.{Word}
+use Rattle.pcal_tree.specs.Algorithm.{Every}
 use Rattle.pcal_tree.specs.Names.{is_taken, joint, numbered, free_from, first_free, Want, give}
-use Rattle.pcal_tree.specs.laws.Apart.{Every, Apart}
+use Rattle.pcal_tree.specs.laws.Apart.{Apart}
 
 pub numbered_apart : (x : Word) (m n : ℕ) → m < 2 ^ 64 → n < 2 ^ 64 → numbered x m ≡ numbered x n → m ≡ n
 numbered_apart x m n p q e =

@@ -1,4 +1,4 @@
--- A name with a number behind it is no reserved, own or standard name: none of these ends with a digit.
+-- A name with a number after it is no reserved, own or standard name: none of these ends with a digit.
 use Rattle.std.proofs.Common.{◌≡◌, ℕ, ◌+◌, ◌<◌, ◌≤◌, ◌^◌, length, drop, get_or, List, [], ◌∷◌, ◌++◌, Bool, true, false, ◌||◌, ◌&&◌, not, cond, bytes_eq, codes, refl, sym, ◌∙◌, ap, subst, decimal, arith}
 use Rattle.std.specs.List.{list_all}
 use Rattle.std.specs.Str.Parse.{AllDigits, IsNumeral}
@@ -11,8 +11,8 @@ use Rattle.tla_token.specs.Signs.{is_among}
 use Rattle.tla_token.specs.Words.{pluscal_words, tla_words, begins_fairness, is_reserved, own_names, is_own, standard_names, sequence_names, tlc_names, is_standard}
 use Rattle.tla_token.proofs.Spelled.{begins, begins_is, begins_from}
 use Rattle.tla_expr.specs.Tree.{Word}
+use Rattle.pcal_tree.specs.Algorithm.{Every}
 use Rattle.pcal_tree.specs.Names.{is_taken, joint, numbered, free_from, first_free, Want, give}
-use Rattle.pcal_tree.specs.laws.Apart.{Every}
 use Rattle.pcal_tree.proofs.FreeNames.{free_is, free_untaken, every_map}
 
 -- whether the last byte is a digit, where b tells it of the byte before these
@@ -114,7 +114,7 @@ opens_no : (c : ℕ) (x ds : Word) → joint (c ∷ 70 ∷ []) ≡ [] → (95 �
 opens_no c x ds bare other numeral shut =
     false_from_ne_true (begins (x ++ (joint x ++ ds)) (opening c)) (λ h. by x shut (begins_is (x ++ (joint x ++ ds)) (opening c) h))
   where
-    -- what stands behind is left as it is
+    -- what is after it is left as it is
     by : (y : Word) → begins y (opening c) ≡ false → {r : Word} → y ++ (joint y ++ ds) ≡ c ∷ 70 ∷ 95 ∷ r → ⊥
     by [] q {r = r} e = other (ap head e)
     by (b ∷ []) q {r = r} e = differ (ap (λ j. second (b ∷ (j ++ ds))) (sym (one_byte b)) ∙ ap second e)

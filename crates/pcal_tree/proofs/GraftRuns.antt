@@ -4,19 +4,19 @@ use Rattle.tla_token.specs.declared.place.Place.{Place}
 use Rattle.tla_expr.specs.Tree.{Word, apply, select, Form, name, next, operator_call, strict, binders, Tree, node, Trees, no_trees, tree, Every, EveryOf, Graft, grafted_name, grafted_node, graft, grafts}
 use Rattle.tla_value.specs.Value.{Value, text, Outcome, ◌>>=◌}
 use Rattle.tla_value.specs.Stops.{Check, truth_at, members_at}
-use Rattle.tla_value.specs.Meaning.{Env, Denotation}
+use Rattle.tla_value.specs.Meaning.{Env, Denotation, part_values}
 use Rattle.tla_value.proofs.Facts.{every_of_weaker, each_weaker}
 use Rattle.tla_value.proofs.Joined.{none, one}
 use Rattle.tla_value.proofs.Alike.{AllAlike}
 use Rattle.tla_value.proofs.Graft.{grafts_law, Grafted, bound_grafted, Fits, grafted_law}
 use Rattle.pcal_tree.specs.Algorithm.{Assignments, no_assignments, assignment, Binds, no_binds, one_of, is, Statement, assign, await, print, assert, skip, branch, either, with, while, goto, macro, call, return, Statements, done, then, mark, Branches, no_branches, or}
-use Rattle.pcal_tree.specs.Scope.{State, all_valued, Part, Scope, bound, place_in, place_of, places_of, Reach, deeper, root_place, reach_form, reach, reach_path, reach_in, origin_in, through, value_of, test, members}
+use Rattle.pcal_tree.specs.Scope.{State, Part, Scope, bound, place_in, place_of, places_of, Reach, deeper, root_place, reach_form, reach, reach_path, reach_in, origin_in, through, value_of, test, members}
 use Rattle.pcal_tree.specs.Assign.{Setting, set_all, settings}
 use Rattle.pcal_tree.specs.Run.{Course, chooses, course, held, stops, after, at_each, Follow, Rules, unlabelled, label_of, run_binds, run_one, run, run_branches}
-use Rattle.pcal_tree.specs.Expand.{placed_at, graft_left, graft_moves, graft_binds, graft_one, graft_all, graft_some}
+use Rattle.pcal_tree.specs.Expand.{placed_at, graft_left, graft_assignments, graft_binds, graft_one, graft_all, graft_some}
 use Rattle.tla_value.specs.Related.{Rel}
 use Rattle.tla_value.specs.Related.{ClearForm}
-use Rattle.pcal_tree.specs.laws.Expansion.{Clean, CleanBinds, CleanMoves, CleanOne, CleanSome, ClearName, Unreached}
+use Rattle.pcal_tree.specs.laws.Expansion.{Clean, CleanBinds, CleanAssignments, CleanOne, CleanSome, ClearName, Unreached}
 
 -- where names are clear a form keeps that they stand for the trees of g
 form_fits : (c : Check) (g : Graft) (U : Word → Type 0) (m : Form) (at : Place) → ClearForm c g U m at → Fits c (Grafted c g U) g m at
@@ -27,7 +27,7 @@ form_fits c g U m at h = (each_weaker _ _ (bound_grafted c g U) (binders m) h.0,
 
 -- ---- left sides
 
-pub valued_alike : (R : Rel) (ds es : List Denotation) (e f : Env) → AllAlike R ds es → R e f → all_valued ds e ≡ all_valued es f
+pub valued_alike : (R : Rel) (ds es : List Denotation) (e f : Env) → AllAlike R ds es → R e f → part_values ds e ≡ part_values es f
 valued_alike R _ _ e f none r = refl
 valued_alike R _ _ e f (one p ps) r = λ i. (p e f r i).value >>= (λ v. (valued_alike R _ _ e f ps r i) >>= (λ vs. Ok (v ∷ vs)))
 
@@ -127,7 +127,7 @@ value_law c g U t h sc sc' k s = λ i. (grafted_law c g U t h (sc.env s) (sc'.en
 needed_law : {X : Type 0} (c : Check) (g : Graft) (U : Word → Type 0) (t : Tree) → Every (ClearForm c g U) t → (sc sc' : Scope) → Meets c g U sc sc' → (s : State) (go : Place → Value → Outcome X) → (value_of c (graft g t) sc s) >>= (go (place_of (graft g t) sc)) ≡ (value_of c t sc' s) >>= (go (place_of t sc'))
 needed_law c g U t h sc sc' k s go = λ i. (value_law c g U t h sc sc' k s i) >>= (go (place_law c g U t sc sc' k i))
 
-moves_law : (c : Check) (g : Graft) (U : Word → Type 0) (ms : Assignments) → CleanMoves c g U ms → (sc sc' : Scope) → Meets c g U sc sc' → (s : State) → settings c (graft_moves g ms) sc s ≡ settings c ms sc' s
+moves_law : (c : Check) (g : Graft) (U : Word → Type 0) (ms : Assignments) → CleanAssignments c g U ms → (sc sc' : Scope) → Meets c g U sc sc' → (s : State) → settings c (graft_assignments g ms) sc s ≡ settings c ms sc' s
 moves_law c g U no_assignments h sc sc' k s = refl
 moves_law c g U (assignment l e ms) h sc sc' k s =
     λ i. (left_law c g U l h.0 sc sc' k s i) >>= (λ p. (value_law c g U e h.1 sc sc' k s i) >>= (λ v. (moves_law c g U ms h.2 sc sc' k s i) >>= (λ rest. Ok (record { place = left_root g l i; part = p; value = v } ∷ rest))))

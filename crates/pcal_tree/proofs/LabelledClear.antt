@@ -3,13 +3,13 @@ use Rattle.std.proofs.Common.{◌≡◌, ℕ, suc, List, [], ◌∷◌, ◌++◌
 use Rattle.tla_token.specs.declared.place.Place.{Place}
 use Rattle.tla_token.specs.declared.rule.Rule.TheVariants.{FirstLabel}
 use Rattle.tla_expr.specs.Tree.{Word}
-use Rattle.pcal_tree.specs.Algorithm.{Statement, assign, await, print, assert, skip, branch, either, with, while, goto, macro, call, return, Statements, done, then, mark, Branches, no_branches, or, Macro, Process, Procedure, Main, alone, processes, Algorithm, numbered, first_procedure, first_process, procedure_routine, process_routine, procedure_routines, main_routines}
+use Rattle.pcal_tree.specs.Algorithm.{Every, Statement, assign, await, print, assert, skip, branch, either, with, while, goto, macro, call, return, Statements, done, then, mark, Branches, no_branches, or, Macro, Process, Procedure, Main, alone, processes, Algorithm, numbered, first_procedure, first_process, procedure_routine, process_routine, procedure_routines, main_routines}
 use Rattle.pcal_tree.specs.Paths.{Effects, nothing, after_one}
 use Rattle.pcal_tree.specs.OffencesSteps.{Before, at_label, at_first, inside, next, call_effect, procedure_effects, outer_effects}
 use Rattle.pcal_tree.specs.OffencesLabels.{label_words}
 use Rattle.pcal_tree.specs.Labelled.{added_name, Supply, number, names_after, labelled_if, needs_label, before, add_inside, add, add_some, add_to_macros, add_to_procedures, add_to_processes, add_to_main, typed_labels, with_labels, is_alone, is_empty, labelled}
 use Rattle.pcal_tree.proofs.BodyLabels as Body
-use Rattle.pcal_tree.specs.laws.Apart.{Every, NoEndLabels}
+use Rattle.pcal_tree.specs.laws.Apart.{NoEndLabels}
 use Rattle.pcal_tree.proofs.BodyLabels.{same_labels}
 use Rattle.pcal_tree.proofs.OneStand.{every_both}
 use Rattle.pcal_tree.proofs.ClearLabels.{is_clear, AllClear}

@@ -1,6 +1,7 @@
 mod Sample
 mod RowsRun
 mod RowsStep
+mod RowsMacros
 mod Choices
 pub mod GraftRuns
 pub mod ExpandRuns
@@ -21,7 +22,13 @@ pub mod FreeWords
 pub mod ClearLabels
 pub mod LabelledClear
 pub mod SetLaws
+pub mod LinesPut
+pub mod LinesGood
 pub mod TargetLaws
 pub mod SummaryLaws
 pub mod EffectLaws
 mod RowsOffences
+pub mod SameVariables
+pub mod StepVariables
+pub mod SameSteps
+pub mod SameStarts

@@ -7,7 +7,7 @@ use Rattle.tla_expr.specs.Tree.{Word}
 use Rattle.tla_value.specs.declared.fault.FaultKind.TheVariants.{SameIdentifier}
 use Rattle.tla_value.specs.Value.{Value, Values, no_values, and, Outcome, fault, over, set, text, ◌>>=◌}
 use Rattle.tla_value.specs.Order.{order, set_from}
-use Rattle.pcal_tree.specs.Algorithm.{Process, Main, alone, processes, Algorithm, Routine, numbered, first_procedure, first_process, procedure_routine, process_routine, alone_routine, procedure_routines, main_routines, routines}
+use Rattle.pcal_tree.specs.Algorithm.{Every, Process, Main, alone, processes, Algorithm, Routine, numbered, first_procedure, first_process, procedure_routine, process_routine, alone_routine, procedure_routines, main_routines, routines}
 use Rattle.pcal_tree.specs.Run.{unlabelled}
 use Rattle.pcal_tree.specs.Scope.{State}
 use Rattle.pcal_tree.specs.StepStart.{Begin, at_label}
@@ -15,9 +15,9 @@ use Rattle.pcal_tree.specs.Program.{Program, Actor}
 use Rattle.pcal_tree.specs.Calls.{label_name}
 use Rattle.pcal_tree.specs.OffencesLabels.{label_words}
 use Rattle.tla_value.specs.Outside.{Outside}
-use Rattle.pcal_tree.specs.Names.{label, wanted, standing, given, naming, written_for}
+use Rattle.pcal_tree.specs.Names.{label, wanted, taken_at_start, given, naming, written_for}
 use Rattle.pcal_tree.specs.Step.{Stand, routines_of, StandsAt}
-use Rattle.pcal_tree.specs.laws.Apart.{Every, FewNames, NoEndLabels}
+use Rattle.pcal_tree.specs.laws.Apart.{FewNames, NoEndLabels}
 use Rattle.pcal_tree.proofs.TroubleLaws.{one_left, one_right, label_listed}
 use Rattle.pcal_tree.proofs.FreeNames.{given_apart}
 use Rattle.pcal_tree.proofs.RoutineNames.{every_one, one_either, label_wanted, one_label}
@@ -116,10 +116,10 @@ own_main P (processes ps) vs e = by_all (all_actors P (first_process P.algorithm
     by_all (Ok ws) h e = by_apart ws (h ws refl) (apart [] ws) refl e
     by_all (Err k) h e = cc
 
-own_is_main : (P : Program) (v : Actor) → IsActor P v → OneOf v.own (main_routines P.algorithm P.algorithm.main)
+pub own_is_main : (P : Program) (v : Actor) → IsActor P v → OneOf v.own (main_routines P.algorithm P.algorithm.main)
 own_is_main P v h = every_one (Own (main_routines P.algorithm P.algorithm.main)) v h.0 (own_main P P.algorithm.main h.0 h.1) h.2
 
-runs_routine : (P : Program) (v : Actor) (u : Routine) → IsActor P v → OneOf u (routines_of P v) → OneOf u (routines P.algorithm)
+pub runs_routine : (P : Program) (v : Actor) (u : Routine) → IsActor P v → OneOf u (routines_of P v) → OneOf u (routines P.algorithm)
 runs_routine P v u h (inl e) =
     one_right u (procedure_routines P.algorithm) (main_routines P.algorithm P.algorithm.main)
     (subst (λ w. OneOf w (main_routines P.algorithm P.algorithm.main)) (sym e) (own_is_main P v h))
@@ -235,7 +235,7 @@ stands_once P o named few clear s v actor d e h k = same_stand d e h.1 k.1 (one_
 
     same : (d.routine.number ≡ e.routine.number) × (d.label ≡ e.label)
     same =
-        one_label o.extended (standing a o) (wanted a) d.routine.number e.routine.number d.label e.label
-        (given_apart o.extended (standing a o) (wanted a) few)
+        one_label o.extended (taken_at_start a o) (wanted a) d.routine.number e.routine.number d.label e.label
+        (given_apart o.extended (taken_at_start a o) (wanted a) few)
         (label_wanted a d.routine d.label (runs d h) (in_body d h)) (label_wanted a e.routine e.label (runs e k) (in_body e k))
         (sym (written_name d h) ∙ text_is (label_name P d.routine d.label) (label_name P e.routine e.label) (sym h.2 ∙ k.2) ∙ written_name e k)

@@ -8,7 +8,7 @@ use Rattle.tla_token.specs.Signs.{is_among}
 use Rattle.tla_expr.specs.Tree.{Word, apply, select, name, strict, Tree, node, Trees, no_trees, tree, Graft, grafted_name, graft, grafts, words}
 use Rattle.pcal_tree.specs.Algorithm.{nowhere, Name, Assignments, no_assignments, assignment}
 use Rattle.pcal_tree.specs.Run.{arguments}
-use Rattle.pcal_tree.specs.Expand.{placed_at, graft_left, graft_moves}
+use Rattle.pcal_tree.specs.Expand.{placed_at, graft_left, graft_assignments}
 use Rattle.pcal_tree.specs.Paths.{root, is_whole, some_word, roots, same_word, clash, clashes_with, clashes}
 use Rattle.pcal_tree.specs.laws.MacroSummaries.{Target, parameter, variable, Side, Pair, in_turn, at_once, target_in, sides_of, side_in, sides, pairs_of, argument, argument_target, put_target, argument_whole, put_whole, targets_of, put_pair, variable_of, resolved, resolved_whole, is_broken, Found, put_found, effect_by}
 use Rattle.pcal_tree.proofs.ExpandRuns.{same_argument}
@@ -95,7 +95,7 @@ one_root : (ps : List Name) (ts : Trees) (w : Bool) (o : Option Word) (rest : Li
 one_root ps ts w None rest = refl
 one_root ps ts w (Some x) rest = ap (λ (o : Option Word). some_word o ++ variables_of (argument ps ts) (map (λ s. s.target) rest)) (sym (resolved_name ps ts x))
 
-pub roots_graft : (ps : List Name) (ts : Trees) (ms : Assignments) → roots (graft_moves (arguments ps ts) ms) ≡ variables_of (argument ps ts) (map (λ s. s.target) (sides ps ms))
+pub roots_graft : (ps : List Name) (ts : Trees) (ms : Assignments) → roots (graft_assignments (arguments ps ts) ms) ≡ variables_of (argument ps ts) (map (λ s. s.target) (sides ps ms))
 roots_graft ps ts no_assignments = refl
 roots_graft ps ts (assignment l e ms) =
     (λ i. some_word (root_left ps ts l i) ++ roots_graft ps ts ms i) ∙ one_root ps ts (is_whole l) (root l) (sides ps ms)
@@ -126,7 +126,7 @@ clash_graft ps ts l m =
     ∙ two_sides ps ts (is_whole l) (is_whole m) (root l) (root m)
 
 clashes_with_graft : (ps : List Name) (ts : Trees) (l : Tree) (ms : Assignments)
-    → clashes_with (graft_left (arguments ps ts) l) (graft_moves (arguments ps ts) ms) ≡ BrokenOf (argument ps ts) (side_in ps l) (sides ps ms)
+    → clashes_with (graft_left (arguments ps ts) l) (graft_assignments (arguments ps ts) ms) ≡ BrokenOf (argument ps ts) (side_in ps l) (sides ps ms)
 clashes_with_graft ps ts l no_assignments = sym (any_none (λ s. false) (λ s. refl) (side_in ps l))
 clashes_with_graft ps ts l (assignment m e ms) =
     (λ i. clash_graft ps ts l m i || clashes_with_graft ps ts l ms i)
@@ -145,7 +145,7 @@ more_sides g w (Some t) rest =
     s : Side
     s = record { target = t; whole = w }
 
-pub clashes_graft : (ps : List Name) (ts : Trees) (ms : Assignments) → clashes (graft_moves (arguments ps ts) ms) ≡ list_any (is_broken (argument ps ts)) (pairs_of (sides ps ms))
+pub clashes_graft : (ps : List Name) (ts : Trees) (ms : Assignments) → clashes (graft_assignments (arguments ps ts) ms) ≡ list_any (is_broken (argument ps ts)) (pairs_of (sides ps ms))
 clashes_graft ps ts no_assignments = refl
 clashes_graft ps ts (assignment l e ms) =
     (λ i. clashes_with_graft ps ts l ms i || clashes_graft ps ts ms i)

@@ -102,7 +102,7 @@ pub one_right : {X : Type 0} (x : X) (xs ys : List X) → OneOf x ys → OneOf x
 one_right x [] ys h = h
 one_right x (z ∷ xs) ys h = inr (one_right x xs ys h)
 
-either_some : {X : Type 0} (o p : Option X) (x : X) → option_or o p ≡ Some x → (o ≡ Some x) ⊎ (p ≡ Some x)
+pub either_some : {X : Type 0} (o p : Option X) (x : X) → option_or o p ≡ Some x → (o ≡ Some x) ⊎ (p ≡ Some x)
 either_some (Some y) p x e = inl e
 either_some None p x e = inr e
 

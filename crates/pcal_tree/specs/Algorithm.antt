@@ -10,9 +10,14 @@ use Rattle.pcal_tree.specs.declared.mark.Fairness.{Fairness}
 abbrev pub nowhere : Place
 nowhere = record { line = 0; col = 0 }
 
+-- a fact of each member
+abbrev pub Every : {X : Type 0} → (X → Type 0) → List X → Type 0
+Every Q [] = Unit {0}
+Every Q (x ∷ xs) = Q x × Every Q xs
+
 -- ---- statements
 
--- the first token of a statement behind its labels, which is the statement's place, and its last token
+-- the first token of a statement after its labels, which is the statement's place, and its last token
 pub record Span : Type 0 where
   pub first : Place
   pub last : Place

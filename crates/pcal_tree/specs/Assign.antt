@@ -34,7 +34,7 @@ settings c (assignment l e ms) sc s = do
   Ok (record { place = root_place l; part = p; value = v } ∷ rest)
 
 -- x := a || y[i] := b
-abbrev pub moved : Check → Assignments → Scope → State → Outcome State
-moved c ms sc s = do
+abbrev pub after_assignments : Check → Assignments → Scope → State → Outcome State
+after_assignments c ms sc s = do
   all ← settings c ms sc s
   set_all c all s

@@ -3,7 +3,7 @@ use Rattle.std.specs.Prelude.{List, [], ◌∷◌, ◌++◌, cond, bytes_eq, cod
 use Rattle.tla_token.specs.declared.place.Place.{Place}
 use Rattle.tla_expr.specs.Tree.{Word}
 use Rattle.tla_value.specs.declared.fault.FaultKind.TheVariants.{NotFunction, EmptySequence}
-use Rattle.tla_value.specs.Value.{Value, text, model, fault, Outcome, ◌>>=◌}
+use Rattle.tla_value.specs.Value.{Value, text, model, fault, Outcome, ◌>>=◌, in_order}
 use Rattle.tla_value.specs.Order.{seq_from, record_from}
 use Rattle.tla_value.specs.Stops.{sequence_at}
 use Rattle.tla_value.specs.Strict.{applied}
@@ -41,11 +41,7 @@ abbrev pub defaultInitValue : Value
 defaultInitValue = model (codes "defaultInitValue")
 
 abbrev pub all_read : Place → List Value → List Word → State → Outcome (List Value)
-all_read at path [] s = Ok []
-all_read at path (x ∷ xs) s = do
-  v ← read_at at path (s x)
-  vs ← all_read at path xs s
-  Ok (v ∷ vs)
+all_read at path xs s = in_order (λ x. read_at at path (s x)) xs
 
 -- the fields of a record on the stack: the procedure, the label to return to, and its parameters and variables
 abbrev pub frame_fields : Program → Routine → List Word
@@ -99,11 +95,7 @@ entered P v at back p places vs s = do
 -- ---- returns
 
 abbrev pub fields_read : Place → List Word → Value → Outcome (List Value)
-fields_read at [] f = Ok []
-fields_read at (x ∷ xs) f = do
-  v ← applied at f (text x)
-  vs ← fields_read at xs f
-  Ok (v ∷ vs)
+fields_read at xs f = in_order (λ x. applied at f (text x)) xs
 
 abbrev pub part_settings : Place → List Value → List Word → List Value → List Setting
 part_settings at path (x ∷ xs) (v ∷ vs) = setting at x path v ∷ part_settings at path xs vs
@@ -139,12 +131,15 @@ abbrev pub named : Word → List Routine → Option Routine
 named x [] = None
 named x (u ∷ us) = cond (bytes_eq u.name.word x) (Some u) (named x us)
 
--- of process v in routine u
-abbrev pub rules_of : Program → Actor → Routine → Rules
-rules_of P v u = with_macros (record {
+-- of process v in routine u, where there are no macros
+abbrev pub rules_without_macros : Program → Actor → Routine → Rules
+rules_without_macros P v u = record {
   check = P.check;
   goto = λ l s. finished (jumped P v u l s);
   call = λ at p places vs back s. entered_at P v at (label_value P u back) (named p (procedure_routines P.algorithm)) places vs s;
   return = λ at s. finished (returned P v at u s);
   macros = λ here at m ts sc K s. held at;
-}) (reverse P.algorithm.macros)
+}
+
+abbrev pub rules_of : Program → Actor → Routine → Rules
+rules_of P v u = with_macros (rules_without_macros P v u) (reverse P.algorithm.macros)

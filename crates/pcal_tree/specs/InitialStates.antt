@@ -1,11 +1,10 @@
 -- Initial states: each variable in turn has a value that its declaration allows ("A PlusCal User's Manual", sections 3.3 and 3.4, processes, procedures).
-use Rattle.std.specs.Prelude.{◌≡◌, ◌==◌, List, [], ◌∷◌, Bool, true, false, cond, Ok, Err}
+use Rattle.std.specs.Prelude.{◌≡◌, ◌==◌, List, [], ◌∷◌, Bool, true, false, cond, map, Ok, Err}
 use Rattle.std.specs.Ordering.{is_eq}
 use Rattle.tla_token.specs.declared.place.Place.{Place}
 use Rattle.tla_expr.specs.Tree.{Tree}
 use Rattle.tla_value.specs.declared.fault.FaultKind.{FaultKind}
-pub use Rattle.tla_value.specs.Value.{and_then}
-use Rattle.tla_value.specs.Value.{Value, fun, Values, no_values, and, values_in, Trouble, fault, Outcome, ◌>>=◌}
+use Rattle.tla_value.specs.Value.{Value, fun, Values, no_values, and, values_in, Trouble, fault, Outcome, ◌>>=◌, in_order, and_then}
 use Rattle.tla_value.specs.Order.{same, orders, holds, seq_from}
 use Rattle.tla_value.specs.Meaning.{eval}
 use Rattle.pcal_tree.specs.Algorithm.{Start, unset, equals, among, Declaration, Main, alone, processes, Routine, locals, procedure_routines, main_routines}
@@ -37,27 +36,19 @@ abbrev pub has_members : Values → Values → Value → Bool
 has_members ids ws (fun ds us) = cond (is_eq (orders ds ids)) (all_hold us ws) false
 has_members ids ws _ = false
 
-abbrev pub for_each : (Actor → Value) → List Actor → Values
-for_each f [] = no_values
-for_each f (v ∷ vs) = and (f v) (for_each f vs)
-
 -- the values of an expression for all processes, before any is compared
-abbrev pub values_for : Program → Routine → Tree → State → List Actor → Outcome Values
-values_for P u e s [] = Ok no_values
-values_for P u e s (v ∷ vs) = do
-  w ← value_of P.check e (routine_scope P v u) s
-  ws ← values_for P u e s vs
-  Ok (and w ws)
+abbrev pub values_for : Program → Routine → Tree → State → List Actor → Outcome (List Value)
+values_for P u e s vs = in_order (λ v. value_of P.check e (routine_scope P v u) s) vs
 
 -- the function on the identifiers of these processes with these values
-abbrev pub function_on : List Actor → Values → Value
-function_on vs ws = fun (values_in (identifiers vs)) ws
+abbrev pub function_on : List Actor → List Value → Value
+function_on vs ws = fun (values_in (identifiers vs)) (values_in ws)
 
 -- x = e for each process, or x \in S with S evaluated once. The function that is compared is a value that is reached at the variable's name; one
 -- with members of S for its values is within limits where S and the set of all identifiers are.
 abbrev pub spread_allowed : Program → Routine → List Actor → Place → Start → State → Value → Outcome Bool
 spread_allowed P u vs at unset s f = do
-  g ← P.check at (function_on vs (for_each (λ v. defaultInitValue) vs))
+  g ← P.check at (function_on vs (map (λ v. defaultInitValue) vs))
   Ok (same f g)
 spread_allowed P u vs at (equals e) s f = do
   ws ← values_for P u e s vs
@@ -107,7 +98,7 @@ processes_allowed P vs (u ∷ us) s = and_then (locals_allowed P u u.spread (run
 -- a variable of the translation itself, one value for each process. Such functions of labels and empty stacks are within limits where the set of all
 -- identifiers is.
 abbrev pub own_allowed : Main → List Actor → (Actor → Value) → Value → Bool
-own_allowed (processes ps) vs f w = same w (function_on vs (for_each f vs))
+own_allowed (processes ps) vs f w = same w (function_on vs (map f vs))
 own_allowed (alone ss) [] f w = true
 own_allowed (alone ss) (v ∷ vs) f w = same w (f v)
 

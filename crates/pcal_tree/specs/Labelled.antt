@@ -50,7 +50,7 @@ abbrev pub labelled_if : Bool → Supply → Place → Statements → Statements
 labelled_if true s at rest = mark (record { word = added_name s.root (number s); place = at }) Plain rest
 labelled_if false s at rest = rest
 
--- inside a `with` no label can stand: what would need one there makes the `with` need it
+-- inside a `with` no label can be: what would need one there makes the `with` need it
 abbrev pub inside_needs : Effects → Before → Statement → List Refusal
 inside_needs E p (with bs b) = flat_map (offences_at E) (visits_inside E p (with bs b))
 inside_needs E p _ = []

@@ -25,9 +25,9 @@ kept a =
 abbrev pub taken_outside : Outside → List Word
 taken_outside o = unit_names o ++ bound_outside o
 
--- the names that stand already
-abbrev pub standing : Algorithm → Outside → List Word
-standing a o = taken_outside o ++ kept a
+-- the names that are taken from the start
+abbrev pub taken_at_start : Algorithm → Outside → List Word
+taken_at_start a o = taken_outside o ++ kept a
 
 -- a name that no unit can have, or that is among those taken
 abbrev pub is_taken : List Word → List Word → Word → Bool
@@ -35,7 +35,7 @@ is_taken extended taken w = is_reserved w || is_own w || is_standard extended w 
 
 -- ---- the first free name
 
--- what stands between a name and a number: words that begin with WF_ or SF_ are no names
+-- what is between a name and a number: words that begin with WF_ or SF_ are no names
 abbrev pub joint : Word → Word
 joint x = cond (bytes_eq (codes "WF") x || bytes_eq (codes "SF") x) [] (codes "_")
 
@@ -48,7 +48,7 @@ abbrev pub free_from : ℕ → List Word → Word → ℕ → Word
 free_from zero taken x n = numbered x n
 free_from (suc more) taken x n = cond (is_among taken (numbered x n)) (free_from more taken x (suc n)) (numbered x n)
 
--- the first of x, x_1, x_2, .. that isn't taken; with a number behind it a name is no word of a language or module
+-- the first of x, x_1, x_2, .. that isn't taken; with a number after it a name is no word of a language or module
 abbrev pub first_free : List Word → List Word → Word → Word
 first_free extended taken x = cond (is_taken extended taken x) (free_from (length taken) taken x 1) x
 
@@ -120,7 +120,7 @@ naming_by gs = record {
 
 -- the written names of an algorithm in a module
 abbrev pub given : Algorithm → Outside → List Given
-given a o = give o.extended (standing a o) (wanted a)
+given a o = give o.extended (taken_at_start a o) (wanted a)
 
 -- the naming that looks them up
 abbrev pub naming : Algorithm → Outside → Naming

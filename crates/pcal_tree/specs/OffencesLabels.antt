@@ -13,12 +13,12 @@ use Rattle.pcal_tree.specs.OffencesSteps.{call_effect, missing_in_macro, missing
 
 -- ---- labels and jumps where none may be
 
--- a label, and whether another one stands right before it
+-- a label, and whether another one is right before it
 pub record Label : Type 0 where
   pub name : Name
   pub second : Bool
 
--- the labels of a body, in the order of the text; true where a label stands right before the statements
+-- the labels of a body, in the order of the text; true where a label is right before the statements
 abbrev mutual
   pub labels_of_one : Statement → List Label
   labels_of_one (branch e a b) = labels false a ++ labels false b
@@ -39,7 +39,7 @@ abbrev mutual
 abbrev pub label_words : Statements → List Word
 label_words b = map (λ l. l.name.word) (labels false b)
 
--- where statements stand: in a macro, in a `with` of another body, in a procedure
+-- where statements are: in a macro, in a `with` of another body, in a procedure
 pub record Within : Type 0 where
   pub macro : Bool
   pub with : Bool

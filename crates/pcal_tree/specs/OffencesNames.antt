@@ -140,7 +140,7 @@ abbrev mutual
   in_branches C ps no_branches s = []
   in_branches C ps (or b bs) s = in_body C ps b s ++ in_branches C ps bs s
 
--- the names of a macro's body are looked up where the call stands; the macros stand with the newest first, and each calls older ones
+-- the names of a macro's body are looked up where the call is; the macros are given with the newest first, and each calls older ones
 abbrev pub macro_offences : List Macro → List Procedure → Calls
 macro_offences [] ps s at m ts = offence Unknown at
 macro_offences (d ∷ older) ps s at m ts =

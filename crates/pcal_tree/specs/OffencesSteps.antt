@@ -130,7 +130,7 @@ reached_variables E v = cond (is_reached v.before.path) (E v.statement).variable
 abbrev pub effect_of_body : Effects → Statements → Effect
 effect_of_body E b = record { variables = flat_map (reached_variables E) (body_visits E b); twice = list_any (assigns_twice E) (body_visits E b) }
 
--- that of the body with the arguments in place of the parameters; macros stand with the newest first, and each calls older ones. A call of no macro assigns nothing.
+-- that of the body with the arguments in place of the parameters; the macros are given with the newest first, and each calls older ones. A call of no macro assigns nothing.
 abbrev pub call_effect : List Macro → Word → Trees → Effect
 call_effect [] m ts = nothing
 call_effect (d ∷ older) m ts =

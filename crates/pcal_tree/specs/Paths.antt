@@ -80,7 +80,7 @@ joined None q = q
 joined (Some xs) None = Some xs
 joined (Some xs) (Some ys) = Some (xs ++ ys)
 
--- the path behind statements; true where a label stands right before them
+-- the path after statements; true where a label is right before them
 abbrev mutual
   pub after_one : Effects → Statement → Bool → Path → Path
   after_one E (branch e a b) l p = joined (after E a false p) (after E b false p)

@@ -1,4 +1,4 @@
--- Where a step begins: the statements behind a label, and the exit of their sequence ("A PlusCal User's Manual", section 3.7, labels).
+-- Where a step begins: the statements after a label, and the exit of their sequence ("A PlusCal User's Manual", section 3.7, labels).
 use Rattle.std.specs.Prelude.{cond, bytes_eq, Option, Some, None}
 use Rattle.tla_expr.specs.Tree.{Word}
 use Rattle.pcal_tree.specs.Algorithm.{Statement, branch, either, with, while, Statements, done, then, mark, Branches, no_branches, or, Routine}
@@ -9,7 +9,7 @@ pub record Begin : Type 0 where
   pub items : Statements
   pub exit : Word
 
--- The list behind the label l. `here` is the label at which the statement or list stands, and x the exit: of a branch it is the label of what
+-- The list after the label l. `here` is the label at which the statement or list stands, and x the exit: of a branch it is the label of what
 -- follows the branching statement, or the exit of that one's list; of a loop's body it is the loop's label.
 abbrev mutual
   pub begin_in : Word → Word → Statement → Word → Option Begin

@@ -5,15 +5,16 @@ use Rattle.tla_token.specs.Tokens.{Token, TokAlgorithm}
 use Rattle.pcal_tree.specs.Algorithm.{Algorithm}
 use Rattle.pcal_tree.specs.Grammar.{SpellsP, SpellsC}
 use Rattle.pcal_tree.specs.Labelled.{labelled}
-use Rattle.module_text.specs.Around.{Split, algorithm_in}
+use Rattle.module_text.specs.TextFront.{Split}
+use Rattle.module_text.specs.AlgorithmStretch.{algorithm_in}
 use Rattle.promise.specs.Translates.{Translates}
 
 -- the algorithm a stands in the text x, in one of the two syntaxes
 pub record Stands (x : List ℕ) (a : Algorithm) : Type 0 where
-  pub spot : Split
-  pub is_spot : algorithm_in x ≡ Some spot
+  pub split : Split
+  pub is_split : algorithm_in x ≡ Some split
   pub tokens : List Token
-  pub tok : TokAlgorithm x (length spot.front) (length x - length spot.back) tokens
+  pub tok : TokAlgorithm x (length split.front) (length x - length split.back) tokens
   pub spelled : SpellsP tokens a ⊎ SpellsC tokens a
 
 -- w is the text x with the translation of the algorithm that stands in it, labels added where they are forced or there are none

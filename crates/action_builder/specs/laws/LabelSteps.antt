@@ -1,43 +1,29 @@
 -- A step from a label, with all that its items are written from; what is asked of it, and what it ends in.
-use Rattle.std.specs.Prelude.{◌≡◌, List, [], ◌∷◌, Bool, true, cond, Ok, Err}
-use Rattle.tla_token.specs.declared.place.Place.{Place}
+use Rattle.std.specs.Prelude.{List, Bool, Ok, Err}
 use Rattle.tla_expr.specs.Tree.{Word}
-use Rattle.tla_value.specs.Value.{Value, Trouble, Outcome}
-use Rattle.tla_value.specs.Stops.{Check, plain}
+use Rattle.tla_value.specs.Value.{Trouble, Outcome}
 use Rattle.tla_value.specs.Grafts.{owned}
-use Rattle.tla_value.specs.Meaning.{Env, just}
+use Rattle.tla_value.specs.Meaning.{Env}
 use Rattle.tla_value.specs.Related.{In}
 use Rattle.module_text.specs.Module.{Items}
 use Rattle.pcal_tree.specs.Algorithm.{Statements}
-use Rattle.pcal_tree.specs.Scope.{State, Scope, through}
+use Rattle.pcal_tree.specs.Scope.{State, Scope}
 use Rattle.pcal_tree.specs.Run.{Has, Rules, run, exit_to}
-use Rattle.pcal_tree.specs.laws.Expansion.{Any, Clean, Free}
-use Rattle.action_builder.specs.Action.{Names, member, more, mid, assigned_in, Agree}
-use Rattle.action_builder.specs.Effects.{part_at, effects_of}
-use Rattle.action_builder.specs.Settled.{Moving, settled, Callable, Tidy, Does, Inner}
+use Rattle.pcal_tree.specs.laws.Expansion.{Any, Clean, AnyPlace}
+use Rattle.action_builder.specs.Assigned.{Names, member, more, assigned_in}
+use Rattle.action_builder.specs.laws.States.{mid, SameOn}
+use Rattle.action_builder.specs.laws.Scopes.{own_scope, Inner}
+use Rattle.action_builder.specs.Settled.{WrittenJumps, settled}
+use Rattle.action_builder.specs.laws.Settling.{Callable, Tidy, DoesAsRules}
+use Rattle.action_builder.specs.laws.Ready.{Readable, unlimited, Ready}
 use Rattle.action_builder.specs.Written.{write}
-use Rattle.action_builder.specs.Ready.{Readable, unlimited, Ready}
 use Rattle.action_builder.specs.Prepared.{prepared, none, action_items}
-
--- ---- scopes
-
--- the scope in which the process's own variables stand at its identifier
-abbrev pub own_scope : Check → Word → (Word → Bool) → Scope → Scope
-own_scope c self own sc = through c (owned self own) sc
-
--- the names of V stand for themselves as left sides, and self is v where some variable is the process's own
-pub record Whole (V : Word → Bool) (self : Word) (v : Value) (own : Word → Bool) (sc : Scope) : Type 0 where
-  pub part : (x : Word) → V x ≡ true → (at : Place) (s : State) → sc.part x at s ≡ Ok (part_at x [])
-  pub identity : (x : Word) → own x ≡ true → (at : Place) (s : State) → (sc.env s).now self at ≡ just v
-
-abbrev pub own_path : Bool → Value → List Value
-own_path b v = cond b (v ∷ []) []
 
 -- ---- steps
 
 pub record LabelStep : Type 0 where
   pub rules : Rules
-  pub moving : Moving  -- the assignments for jumps, calls and returns
+  pub jumps : WrittenJumps  -- the assignments for jumps, calls and returns
   pub names : Word → Bool  -- those that a `with` may bind
   pub callable : Callable
   pub self : Word
@@ -48,7 +34,7 @@ pub record LabelStep : Type 0 where
   pub statements : Statements  -- with written names, and without macro calls
 
 abbrev pub prepared_of : LabelStep → Statements
-prepared_of d = prepared d.moving d.self d.own d.here d.exit d.statements
+prepared_of d = prepared d.jumps d.self d.own d.here d.exit d.statements
 
 -- A: the variables that are assigned already; vs: all variables, in the order of `vars`
 abbrev pub items_of : List Word → Names → LabelStep → Items
@@ -59,12 +45,12 @@ action_of vs d = action_items vs (prepared_of d)
 
 -- ---- what is asked of them
 
--- the assignments of W do what M does, what jumps ends its list, and no bound name is self or a variable of the process
+-- the assignments for jumps do what M does, what jumps ends its list, and no bound name is self or a variable of the process
 pub record Prepares (M : Rules) (d : LabelStep) : Type 0 where
-  pub free : Free d.scope
-  pub does : Does M d.moving (Inner d.names (own_scope M.check d.self d.own d.scope)) (In d.names) d.callable
+  pub free : AnyPlace d.scope
+  pub does : DoesAsRules M d.jumps (Inner d.names (own_scope M.check d.self d.own d.scope)) (In d.names) d.callable
   pub tidy : Tidy (In d.names) d.callable d.statements
-  pub clean : Clean M.check (owned d.self d.own) Any (settled d.moving d.here d.exit d.statements)
+  pub clean : Clean M.check (owned d.self d.own) Any (settled d.jumps d.here d.exit d.statements)
 
 -- its jumps and variables can be written out
 abbrev pub IsPrepared : LabelStep → Type 0
@@ -86,14 +72,14 @@ HasOutcome A d s t r = Stepped (unlimited d.rules) d (mid s t A) r
 
 -- it ends in a state that agrees with t on A and on what is assigned
 abbrev pub EndsIn : Names → LabelStep → State → State → Type 0
-EndsIn A d s t = (u : State) × HasOutcome A d s t (Ok u) × Agree (more A (assigned_in (effects_of plain (prepared_of d)))) u t
+EndsIn A d s t = (u : State) × HasOutcome A d s t (Ok u) × SameOn (more A (assigned_in (prepared_of d))) u t
 
 abbrev pub IsTroubled : Names → LabelStep → State → State → Type 0
 IsTroubled A d s t = (k : Trouble) × HasOutcome A d s t (Err k)
 
 -- begun in s, it ends in a state that agrees with t on all variables
 abbrev pub StepsTo : List Word → LabelStep → State → State → Type 0
-StepsTo vs d s t = (u : State) × HasOutcome none d s s (Ok u) × Agree (member vs) u t
+StepsTo vs d s t = (u : State) × HasOutcome none d s s (Ok u) × SameOn (member vs) u t
 
 abbrev pub MeetsTrouble : LabelStep → State → Type 0
 MeetsTrouble d s = IsTroubled none d s s

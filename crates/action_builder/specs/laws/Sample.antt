@@ -2,8 +2,7 @@
 --   variables x = 0;  macro inc(n) begin n := n + 1; end macro;
 --   procedure P(a = 0) variable b = 1; begin C: return; end procedure;
 --   process Q \in {"me"} variable y = 0; begin A: inc(x); y := x; if x > 1 then goto A; else call P(y); end if; B: skip; end process;
-use Rattle.std.specs.Prelude.{ℕ, List, [], ◌∷◌, Bool, true, false, ◌||◌, bytes_eq, codes, Some, None, Ok}
-use Rattle.tla_token.specs.declared.place.Place.{Place}
+use Rattle.std.specs.Prelude.{ℕ, List, [], ◌∷◌, Bool, true, false, codes, Some, None, Ok}
 use Rattle.tla_expr.specs.declared.op.Op.{Op}
 use Rattle.tla_expr.specs.declared.op.Op.TheVariants.{Plus, Greater}
 use Rattle.tla_expr.specs.Tree.{Word, number, string, set_of, name, strict, operator, Tree, node, no_trees, tree}
@@ -13,15 +12,16 @@ use Rattle.tla_value.specs.Standard.{standard_of, standard_called}
 use Rattle.tla_value.specs.Meaning.{Env, just, bind}
 use Rattle.pcal_tree.specs.declared.mark.Mark.TheVariants.{Plain}
 use Rattle.pcal_tree.specs.declared.mark.Fairness.TheVariants.{Unfair}
-use Rattle.pcal_tree.specs.Algorithm.{nowhere, Name, Span, no_assignments, assignment, Statement, assign, skip, branch, goto, macro, call, return, Statements, done, then, mark, unset, equals, Declaration, Macro, Procedure, Process, processes, Routine, Algorithm, process_routine, Naming}
+use Rattle.pcal_tree.specs.Algorithm.{nowhere, Name, Span, no_assignments, assignment, Statement, assign, skip, branch, goto, macro, call, return, Statements, done, then, mark, equals, Declaration, Macro, Procedure, Process, processes, Routine, Algorithm, process_routine, Naming}
 use Rattle.pcal_tree.specs.Scope.{State, Scope, bound}
 use Rattle.pcal_tree.specs.Program.{Program, Actor}
 use Rattle.pcal_tree.specs.Variables.{pc, stack}
 use Rattle.pcal_tree.specs.Expand.{expanded}
-use Rattle.action_builder.specs.Action.{member}
-use Rattle.action_builder.specs.Effects.{part_at}
-use Rattle.action_builder.specs.Rules.{Written as Initial, base_rules, moving, callable}
-use Rattle.action_builder.specs.Ready.{Readable}
+use Rattle.action_builder.specs.Assigned.{member}
+use Rattle.action_builder.specs.laws.Scopes.{part_at}
+use Rattle.action_builder.specs.Jumps.{InitialValues, JumpPlaces, written_jumps}
+use Rattle.action_builder.specs.laws.Jumps.{base_rules, callable}
+use Rattle.action_builder.specs.laws.Ready.{Readable}
 use Rattle.action_builder.specs.laws.LabelSteps.{LabelStep}
 
 -- ---- the algorithm
@@ -139,15 +139,18 @@ abbrev pub initial_of : Rattle.pcal_tree.specs.Algorithm.Start → Tree
 initial_of (equals e) = e
 initial_of _ = var (codes "defaultInitValue")
 
-abbrev pub initials : Initial
-initials = record { place = λ p at d. nowhere; initial = λ p d. initial_of d.start }
+abbrev pub initials : InitialValues
+initials = record { place = λ p d. nowhere; initial = λ p d. initial_of d.start }
+
+abbrev pub places : JumpPlaces
+places = record { goto = nowhere; call = λ at. nowhere; return = λ at. nowhere }
 
 -- ---- the step
 
 abbrev pub step : LabelStep
 step = record {
   rules = base_rules program actor routine;
-  moving = moving program actor routine initials;
+  jumps = written_jumps program routine initials places;
   names = λ w. false;
   callable = callable program;
   self = self;

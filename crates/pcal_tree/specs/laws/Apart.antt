@@ -2,31 +2,27 @@
 use Rattle.std.specs.Prelude.{◌≡◌, ◌+◌, ◌<◌, ◌^◌, length, List, [], ◌∷◌, false, codes}
 use Rattle.tla_token.specs.Signs.{is_among}
 use Rattle.tla_token.specs.Words.{begins_fairness}
-use Rattle.pcal_tree.specs.Algorithm.{Algorithm, routines}
+use Rattle.pcal_tree.specs.Algorithm.{Every, Algorithm, routines}
 use Rattle.pcal_tree.specs.OffencesLabels.{label_words}
 use Rattle.tla_value.specs.Outside.{Outside}
-use Rattle.pcal_tree.specs.Names.{standing, is_taken, wanted, Given, given}
-
-abbrev pub Every : {X : Type 0} → (X → Type 0) → List X → Type 0
-Every Q [] = Unit {0}
-Every Q (x ∷ xs) = Q x × Every Q xs
+use Rattle.pcal_tree.specs.Names.{taken_at_start, is_taken, wanted, Given, given}
 
 -- so many names as there are 64-bit numbers don't fit in memory
 abbrev pub FewNames : Algorithm → Outside → Type 0
-FewNames a o = length (standing a o) + length (wanted a) < 2 ^ 64
+FewNames a o = length (taken_at_start a o) + length (wanted a) < 2 ^ 64
 
 -- all different
 abbrev pub Apart : List Given → Type 0
 Apart [] = Unit {0}
 Apart (g ∷ gs) = Every (λ h. g.written ≡ h.written → ⊥) gs × Apart gs
 
--- none stands already
+-- none is taken from the start
 abbrev pub New : Algorithm → Outside → Type 0
-New a o = Every (λ g. is_among (standing a o) g.written ≡ false) (given a o)
+New a o = Every (λ g. is_among (taken_at_start a o) g.written ≡ false) (given a o)
 
--- none stands already or is reserved, the translation's own or standard
+-- none is taken from the start or is reserved, the translation's own or standard
 abbrev pub Untaken : Algorithm → Outside → Type 0
-Untaken a o = Every (λ g. is_taken o.extended (standing a o) g.written ≡ false) (given a o)
+Untaken a o = Every (λ g. is_taken o.extended (taken_at_start a o) g.written ≡ false) (given a o)
 
 -- what begins with WF_ or SF_ is no name
 abbrev pub AreNames : Algorithm → Type 0

@@ -21,9 +21,9 @@ pub record ClearName (c : Check) (g : Graft) (x : Word) : Type 0 where
   pub unreached : (y : Word) (at : Place) → Unreached c x (g y at)
 
 -- no bound name is captured, and there is no macro call
-abbrev pub CleanMoves : Check → Graft → (Word → Type 0) → Assignments → Type 0
-CleanMoves c g U no_assignments = Unit {0}
-CleanMoves c g U (assignment l e ms) = Every (ClearForm c g U) l × Every (ClearForm c g U) e × CleanMoves c g U ms
+abbrev pub CleanAssignments : Check → Graft → (Word → Type 0) → Assignments → Type 0
+CleanAssignments c g U no_assignments = Unit {0}
+CleanAssignments c g U (assignment l e ms) = Every (ClearForm c g U) l × Every (ClearForm c g U) e × CleanAssignments c g U ms
 
 abbrev pub CleanBinds : Check → Graft → (Word → Type 0) → Binds → Type 0
 CleanBinds c g U no_binds = Unit {0}
@@ -32,7 +32,7 @@ CleanBinds c g U (is x e bs) = Every (ClearForm c g U) e × ClearName c g x.word
 
 abbrev mutual
   pub CleanOne : Check → Graft → (Word → Type 0) → Statement → Type 0
-  CleanOne c g U (assign ms) = CleanMoves c g U ms
+  CleanOne c g U (assign ms) = CleanAssignments c g U ms
   CleanOne c g U (await e) = Every (ClearForm c g U) e
   CleanOne c g U (print e) = Every (ClearForm c g U) e
   CleanOne c g U (assert e) = Every (ClearForm c g U) e
@@ -54,18 +54,18 @@ abbrev mutual
   CleanSome c g U (or b bs) = Clean c g U b × CleanSome c g U bs
 
 -- the part that a name is does not rest on its place
-abbrev pub Free : Scope → Type 0
-Free sc = (x : Word) (at p : Place) (s : State) → sc.part x at s ≡ sc.part x p s
+abbrev pub AnyPlace : Scope → Type 0
+AnyPlace sc = (x : Word) (at p : Place) (s : State) → sc.part x at s ≡ sc.part x p s
 
 -- all names
 abbrev pub Any : Word → Type 0
 Any x = Unit {0}
 
 -- the list begins with an unlabelled statement, as each macro's body does
-abbrev pub Opens : Statements → Type 0
-Opens done = ⊥
-Opens (then at st rest) = Unit {0}
-Opens (mark l m rest) = ⊥
+abbrev pub BeginsUnlabelled : Statements → Type 0
+BeginsUnlabelled done = ⊥
+BeginsUnlabelled (then at st rest) = Unit {0}
+BeginsUnlabelled (mark l m rest) = ⊥
 
 -- a fact of each call
 abbrev mutual
@@ -94,7 +94,7 @@ Chosen false A B = B
 abbrev pub FineCall : Check → List Macro → Word → Trees → Type 0
 FineCall c [] m ts = Unit {0}
 FineCall c (d ∷ older) m ts =
-    Chosen (bytes_eq d.name.word m) (Clean c (arguments d.params ts) Any (expand (written_out older) d.body) × Calls (FineCall c older) d.body × Opens d.body) (FineCall c older m ts)
+    Chosen (bytes_eq d.name.word m) (Clean c (arguments d.params ts) Any (expand (written_out older) d.body) × Calls (FineCall c older) d.body × BeginsUnlabelled d.body) (FineCall c older m ts)
 
 -- no label at all, as in a macro's body
 abbrev mutual
