@@ -1,6 +1,6 @@
 -- The phrase that the text of a tree spells: brackets stand where they are written.
 use Rattle.std.specs.Prelude.{Bool, true, false, List, [], ◌∷◌}
-use Rattle.tla_token.specs.Places.{nowhere}
+pub use Rattle.tla_token.specs.Places.{nowhere}
 use Rattle.tla_expr.specs.declared.op.Op.{Op}
 use Rattle.tla_expr.specs.declared.op.Op.TheVariants as op
 use Rattle.tla_expr.specs.declared.op.Binder.{Binder}
