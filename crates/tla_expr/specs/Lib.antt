@@ -12,3 +12,4 @@ pub mod Written
 pub mod Nesting
 pub mod Bracketed
 pub mod Reader
+pub mod Placeless

@@ -15,10 +15,12 @@ pub mod Joined
 pub mod JoinedEval
 pub mod JoinedScopes
 pub mod Alike
+pub mod FreeNames
 pub mod Graft
 pub mod Primes
 pub mod Owned
 pub mod Below
+pub mod Places
 pub mod Groups
 mod RowsMeaning
 pub mod MidState
@@ -30,4 +32,3 @@ mod RowsScopes
 pub mod Canonical
 pub mod CanonicalForms
 pub mod CanonicalEval
-pub mod Agreement

@@ -1,2 +1,4 @@
 -- What only laws speak of.
 pub mod Groups
+pub mod FreeNames
+pub mod Places
