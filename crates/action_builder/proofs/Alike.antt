@@ -2,7 +2,8 @@
 use Rattle.std.proofs.Common.{Bool, true, false, cond, refl, subst, Ok, Err}
 use Rattle.tla_token.specs.declared.place.Place.{Place}
 use Rattle.tla_value.specs.Value.{Value, truth, int, text, model, set, fun, Values, no_values, and, Outcome, Trouble, fault, over, ◌>>=◌, and_then, or_all}
-use Rattle.module_text.specs.Truth.{Verdict, as_truth, as_set, at_each}
+use Rattle.tla_value.specs.Stops.{truth_at, members_at}
+use Rattle.module_text.specs.ActionTruth.{Verdict, some_member}
 use Rattle.tla_value.specs.laws.Places.{SameKind, AgreeButPlaces}
 
 one_kind : (k : Trouble) → SameKind k k
@@ -35,22 +36,22 @@ pub cond_same : (b : Bool) (p q v w : Verdict) → AgreeButPlaces p v → AgreeB
 cond_same true p q v w h k = h
 cond_same false p q v w h k = k
 
-pub truth_same : (at p : Place) (v : Value) (f g : Bool → Verdict) → ((b : Bool) → AgreeButPlaces (f b) (g b)) → AgreeButPlaces (as_truth at v f) (as_truth p v g)
-truth_same at p (truth b) f g h = h b
-truth_same at p (int n) f g h = refl
-truth_same at p (text w) f g h = refl
-truth_same at p (model w) f g h = refl
-truth_same at p (set vs) f g h = refl
-truth_same at p (fun ds rs) f g h = refl
+pub truth_same : (at p : Place) (v : Value) → AgreeButPlaces (truth_at at v) (truth_at p v)
+truth_same at p (truth b) = refl
+truth_same at p (int n) = refl
+truth_same at p (text w) = refl
+truth_same at p (model w) = refl
+truth_same at p (set vs) = refl
+truth_same at p (fun ds rs) = refl
 
-pub each_same : (vs : Values) (f g : Value → Verdict) → ((v : Value) → AgreeButPlaces (f v) (g v)) → AgreeButPlaces (at_each vs f) (at_each vs g)
+pub members_same : (at p : Place) (v : Value) → AgreeButPlaces (members_at at v) (members_at p v)
+members_same at p (truth b) = refl
+members_same at p (int n) = refl
+members_same at p (text w) = refl
+members_same at p (model w) = refl
+members_same at p (set vs) = refl
+members_same at p (fun ds rs) = refl
+
+pub each_same : (vs : Values) (f g : Value → Verdict) → ((v : Value) → AgreeButPlaces (f v) (g v)) → AgreeButPlaces (some_member vs f) (some_member vs g)
 each_same no_values f g h = refl
-each_same (and v vs) f g h = or_same (f v) (at_each vs f) (g v) (at_each vs g) (h v) (each_same vs f g h)
-
-pub set_same : (at p : Place) (v : Value) (f g : Value → Verdict) → ((w : Value) → AgreeButPlaces (f w) (g w)) → AgreeButPlaces (as_set at v (λ vs. at_each vs f)) (as_set p v (λ vs. at_each vs g))
-set_same at p (truth b) f g h = refl
-set_same at p (int n) f g h = refl
-set_same at p (text w) f g h = refl
-set_same at p (model w) f g h = refl
-set_same at p (set vs) f g h = each_same vs f g h
-set_same at p (fun ds rs) f g h = refl
+each_same (and v vs) f g h = or_same (f v) (some_member vs f) (g v) (some_member vs g) (h v) (each_same vs f g h)

@@ -3,7 +3,8 @@ use Rattle.std.proofs.Common.{◌≡◌, List, [], Bool, true, false, ◌↔◌,
 use Rattle.tla_expr.specs.Tree.{Word}
 use Rattle.tla_value.specs.Stops.{plain}
 use Rattle.tla_value.specs.Meaning.{Env}
-use Rattle.module_text.specs.Truth.{Verdict, TrueExactly}
+use Rattle.tla_value.specs.Value.{TrueExactly}
+use Rattle.module_text.specs.ActionTruth.{Verdict}
 use Rattle.pcal_tree.specs.Algorithm.{Statements}
 use Rattle.pcal_tree.specs.Scope.{State, Scope}
 use Rattle.pcal_tree.specs.Run.{Rules}

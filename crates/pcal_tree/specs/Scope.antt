@@ -2,6 +2,7 @@
 use Rattle.std.specs.Prelude.{List, [], ◌∷◌, ◌++◌, Bool, cond, bytes_eq, Option, Some, None, Ok, Err}
 use Rattle.tla_token.specs.declared.place.Place.{Place}
 use Rattle.tla_expr.specs.Tree.{Word, apply, select, Form, name, strict, Tree, node, Trees, no_trees, tree, Graft}
+pub use Rattle.tla_expr.specs.Tree.{root_place}
 use Rattle.tla_value.specs.declared.fault.FaultKind.{FaultKind}
 use Rattle.tla_value.specs.declared.fault.FaultKind.TheVariants.{NotBoolean, NotSet, NotFunction}
 use Rattle.tla_value.specs.Value.{Value, truth, text, set, Values, fault, Outcome, ◌>>=◌}
@@ -35,10 +36,6 @@ pub record Scope : Type 0 where
 -- with a name for a value, as in a `with`
 abbrev pub bound : Word → Value → Scope → Scope
 bound x v sc = record { env = λ s. bind x v (sc.env s); part = sc.part; origin = sc.origin }
-
--- the place at which a tree itself stands, as a left side's, also in a macro
-abbrev pub root_place : Tree → Place
-root_place (node m at ts) = at
 
 -- the place of an expression; that of a macro's parameter alone is its argument's
 abbrev pub place_in : Form → Place → Scope → Place

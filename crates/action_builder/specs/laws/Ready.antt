@@ -8,7 +8,7 @@ use Rattle.tla_value.specs.Meaning.{Env, just}
 use Rattle.tla_value.specs.Related.{Uses, In}
 use Rattle.tla_value.specs.Definitions.{Valuation}
 use Rattle.module_text.specs.Module.{Items}
-use Rattle.module_text.specs.Truth.{Verdict, items_hold}
+use Rattle.module_text.specs.ActionTruth.{Verdict, items_hold}
 use Rattle.pcal_tree.specs.Algorithm.{Assignments, no_assignments, assignment, Binds, no_binds, one_of, is, Statement, assign, await, print, assert, skip, branch, either, with, Statements, done, then, mark, Branches, no_branches, or}
 use Rattle.pcal_tree.specs.Run.{Rules}
 use Rattle.pcal_tree.specs.Scope.{State, Scope}
