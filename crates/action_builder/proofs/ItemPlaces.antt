@@ -1,7 +1,7 @@
 -- Places in items don't matter to their truth but for where a fault is.
 use Rattle.std.proofs.Common.{◌≡◌, refl, ap, subst}
 use Rattle.tla_expr.specs.Tree.{Word, Tree, root_place}
-use Rattle.tla_value.specs.Value.{Value, ◌>>=◌}
+use Rattle.tla_value.specs.Value.{Value, Outcome, ◌>>=◌}
 use Rattle.tla_value.specs.Stops.{Check, truth_at, members_at}
 use Rattle.tla_value.specs.Meaning.{Env, bind, eval}
 use Rattle.tla_value.specs.Definitions.{Valuation}
