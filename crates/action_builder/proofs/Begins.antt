@@ -8,7 +8,7 @@ use Rattle.pcal_tree.specs.StepStart.{begin}
 use Rattle.pcal_tree.specs.Expand.{graft_one, graft_all, graft_some, joined, Writing, expand_one, expand, expand_some, written_out, expanded, expand_begin}
 use Rattle.pcal_tree.proofs.ExpandRuns.{opens_joined}
 use Rattle.pcal_tree.proofs.BeginLaws.{WrittenBare, begin_expanded}
-use Rattle.pcal_tree.specs.Clean.{Any, Calls, CallsOne, CallsSome, Chosen, Clean, FineCall, Opens, BareOne, Bare, BareSome, BareBodies}
+use Rattle.pcal_tree.specs.laws.Expansion.{Any, Calls, CallsOne, CallsSome, Chosen, Clean, FineCall, BeginsUnlabelled, BareOne, Bare, BareSome, BareBodies}
 
 bare_joined : (a b : Statements) → Bare a → Bare b → Bare (joined a b)
 bare_joined done b h k = k
@@ -50,16 +50,16 @@ mutual
   bare_expand_some X P w no_branches c h = tt
   bare_expand_some X P w (or b bs) c h = (bare_expand X P w b c.0 h.0, bare_expand_some X P w bs c.1 h.1)
 
-opens_one : (X : Writing) (P : Word → Trees → Type 0) → WrittenBare X P → (at : Span) (st : Statement) (rest : Statements) → CallsOne P st → Opens (expand_one X at st rest)
+opens_one : (X : Writing) (P : Word → Trees → Type 0) → WrittenBare X P → (at : Span) (st : Statement) (rest : Statements) → CallsOne P st → BeginsUnlabelled (expand_one X at st rest)
 opens_one X P w at (macro m ts) rest h = opens_joined (X at m ts) rest (w at m ts h).0
 opens_one X P w at st rest h = tt
 
-opens_body : (X : Writing) (P : Word → Trees → Type 0) → WrittenBare X P → (ss : Statements) → Calls P ss → Opens ss → Opens (expand X ss)
+opens_body : (X : Writing) (P : Word → Trees → Type 0) → WrittenBare X P → (ss : Statements) → Calls P ss → BeginsUnlabelled ss → BeginsUnlabelled (expand X ss)
 opens_body X P w done c h = absurd h
 opens_body X P w (then at st rest) c h = opens_one X P w at st (expand X rest) c.0
 opens_body X P w (mark m k rest) c h = absurd h
 
-opens_graft : (g : Graft) (ss : Statements) → Opens ss → Opens (graft_all g ss)
+opens_graft : (g : Graft) (ss : Statements) → BeginsUnlabelled ss → BeginsUnlabelled (graft_all g ss)
 opens_graft g done h = absurd h
 opens_graft g (then at st rest) h = tt
 opens_graft g (mark m k rest) h = absurd h
@@ -68,7 +68,7 @@ written_bare : (c : Check) (ms : List Macro) → BareBodies ms → WrittenBare (
 written_bare c [] b at m ts h = (tt, (tt, tt))
 written_bare c (d ∷ older) b at m ts h = by (written_bare c older b.1) (bytes_eq d.name.word m) h
   where
-    by : WrittenBare (written_out older) (FineCall c older) → (q : Bool) → Chosen q (Clean c (arguments d.params ts) Any (expand (written_out older) d.body) × Calls (FineCall c older) d.body × Opens d.body) (FineCall c older m ts) → Opens (cond q (graft_all (arguments d.params ts) (expand (written_out older) d.body)) (written_out older at m ts)) × Bare (cond q (graft_all (arguments d.params ts) (expand (written_out older) d.body)) (written_out older at m ts))
+    by : WrittenBare (written_out older) (FineCall c older) → (q : Bool) → Chosen q (Clean c (arguments d.params ts) Any (expand (written_out older) d.body) × Calls (FineCall c older) d.body × BeginsUnlabelled d.body) (FineCall c older m ts) → BeginsUnlabelled (cond q (graft_all (arguments d.params ts) (expand (written_out older) d.body)) (written_out older at m ts)) × Bare (cond q (graft_all (arguments d.params ts) (expand (written_out older) d.body)) (written_out older at m ts))
     by ih true k = (
       opens_graft (arguments d.params ts) (expand (written_out older) d.body) (opens_body (written_out older) (FineCall c older) ih d.body k.1 k.2),
       bare_graft (arguments d.params ts) (expand (written_out older) d.body) (bare_expand (written_out older) (FineCall c older) ih d.body k.1 b.0),

@@ -1,13 +1,16 @@
 -- A run that fits makes the written action true, or another branch of it faults; a fault of the action is one of a run.
 use Rattle.std.proofs.Common.{◌≡◌, List, [], ◌∷◌, ◌++◌, Bool, true, false, cond, ◌||◌, bytes_eq, ◌⊎◌, refl, sym, ◌∙◌, ap, subst, inl, inr, ⊎_elim, Ok, Err}
 use Rattle.std.proofs.lemmas.Bool.{cases_Bool, both_ways}
+use Rattle.tla_token.specs.Signs.{is_among}
 use Rattle.tla_expr.specs.Tree.{Word}
-use Rattle.tla_value.specs.Value.{Value, Values, no_values, and}
+use Rattle.tla_value.specs.Value.{Value, Values, no_values, and, Trouble, Outcome, ◌>>=◌, and_then, or_all, IsBad, NotFalse}
 use Rattle.tla_value.specs.Order.{same}
-use Rattle.pcal_tree.specs.Scope.{Scope, bound}
+use Rattle.pcal_tree.specs.Scope.{Scope, bound, State}
 use Rattle.action_builder.proofs.Equal.{eq-name, eq-value}
-use Rattle.pcal_tree.specs.Scope.{State, Trouble, Outcome, ◌>>=◌}
-use Rattle.action_builder.specs.Action.{Names, member, more, mid, Effect, assign, await, branch, either, choose, Effects, done, then, Ways, no_ways, way, Parts, firsts, moved, value_for, hold_sets, settings_of, assigned, assigned_in, assigned_by, Awaits, Chosen, SomeOf, Picks, Next, RunOne, Run, RunSome, unchanged, all_same, and_then, or_all, some_member, holds, hold, hold_some, ended, minus, build_one, build, build_some, OnceOne, Once, OnceSome, IsBad, NotFalse}
+use Rattle.action_builder.specs.Assigned.{Names, more}
+use Rattle.action_builder.specs.laws.States.{mid}
+use Rattle.action_builder.proofs.Effects.{Effect, assign, await, branch, either, choose, Effects, done, then, Ways, no_ways, way, Parts, firsts, moved, effect_names, effects_names, ways_names, Awaits, Chosen, SomeOf, Picks, Next, RunOne, Run, RunSome}
+use Rattle.action_builder.proofs.Actions.{value_for, hold_sets, settings_of, unchanged, all_same, some_member, holds, hold, hold_some, ended, minus, build_one, build, build_some, OnceOne, Once, OnceSome}
 use Rattle.action_builder.proofs.Sets.{or_left, or_right, or_none, more_append, mid_in, mid_out, is_mid, same_minus}
 use Rattle.action_builder.proofs.Frame.{got_bad, frame_one, frame}
 use Rattle.action_builder.proofs.Parts.{moved_good}
@@ -27,23 +30,23 @@ or_not_no (Ok false) (Err k) p = tt
 or_not_no (Err k) w p = tt
 
 -- A run that fits meets the state between at each of its items.
-meets : (A : Names) (xs ys : List Word) (s t u : State) → ((x : Word) → member ys x ≡ true → more A xs x ≡ false) → ((x : Word) → member xs x ≡ false → u x ≡ mid s t A x) → ((x : Word) → member ys x ≡ false → mid s t (more A (xs ++ ys)) x ≡ u x) → u ≡ mid s t (more A xs)
+meets : (A : Names) (xs ys : List Word) (s t u : State) → ((x : Word) → is_among ys x ≡ true → more A xs x ≡ false) → ((x : Word) → is_among xs x ≡ false → u x ≡ mid s t A x) → ((x : Word) → is_among ys x ≡ false → mid s t (more A (xs ++ ys)) x ≡ u x) → u ≡ mid s t (more A xs)
 meets A xs ys s t u late before after = is_mid s t u (more A xs) inside outside
   where
     inside : (x : Word) → more A xs x ≡ true → u x ≡ t x
     inside x e =
-        let out : member ys x ≡ false = ⊎_elim (λ a. absurd (both_ways (more A xs x) (late x a) e)) (λ b. b) (cases_Bool (member ys x)) in
-        sym (after x out) ∙ mid_in s t (more A (xs ++ ys)) x (ap (λ B. B x) (more_append A xs ys) ∙ or_left (more A xs x) (member ys x) e)
+        let out : is_among ys x ≡ false = ⊎_elim (λ a. absurd (both_ways (more A xs x) (late x a) e)) (λ b. b) (cases_Bool (is_among ys x)) in
+        sym (after x out) ∙ mid_in s t (more A (xs ++ ys)) x (ap (λ B. B x) (more_append A xs ys) ∙ or_left (more A xs x) (is_among ys x) e)
 
     outside : (x : Word) → more A xs x ≡ false → u x ≡ s x
-    outside x e = let p = or_none (A x) (member xs x) e in before x p.1 ∙ mid_out s t A x p.0
+    outside x e = let p = or_none (A x) (is_among xs x) e in before x p.1 ∙ mid_out s t A x p.0
 
 -- what a branch leaves unchanged, where its end fits
-left : (A : Names) (own other all : List Word) (s t : State) → ((x : Word) → member other x ≡ true → A x ≡ false) → Within other all → ((x : Word) → member own x ≡ false → mid s t (more A all) x ≡ mid s t A x) → all_same (minus other own) s t ≡ true
+left : (A : Names) (own other all : List Word) (s t : State) → ((x : Word) → is_among other x ≡ true → A x ≡ false) → Within other all → ((x : Word) → is_among own x ≡ false → mid s t (more A all) x ≡ mid s t A x) → all_same (minus other own) s t ≡ true
 left A own other all s t late w frames = same_minus other own s t (λ x e f.
-    sym (mid_in s t (more A all) x (or_right (A x) (member all x) (w x e))) ∙ frames x f ∙ mid_out s t A x (late x e))
+    sym (mid_in s t (more A all) x (or_right (A x) (is_among all x) (w x e))) ∙ frames x f ∙ mid_out s t A x (late x e))
 
-ended_fits : (A : Names) (b : Effects) (own other all : List Word) (c : Scope) (s t : State) → Within own all → Within other all → Covers own other all → ((x : Word) → member other x ≡ true → A x ≡ false) → ((x : Word) → member own x ≡ false → mid s t (more A all) x ≡ mid s t A x) → Run b c (mid s t A) (End s t A all) → (Run b c (mid s t A) (End s t A own) → NotFalse (hold (build A b) c s t)) → NotFalse (hold (ended (build A b) (unchanged (minus other own))) c s t)
+ended_fits : (A : Names) (b : Effects) (own other all : List Word) (c : Scope) (s t : State) → Within own all → Within other all → Covers own other all → ((x : Word) → is_among other x ≡ true → A x ≡ false) → ((x : Word) → is_among own x ≡ false → mid s t (more A all) x ≡ mid s t A x) → Run b c (mid s t A) (End s t A all) → (Run b c (mid s t A) (End s t A own) → NotFalse (hold (build A b) c s t)) → NotFalse (hold (ended (build A b) (unchanged (minus other own))) c s t)
 ended_fits A b own other all c s t w w' v late frames r ih =
     let same = left A own other all s t late w' frames in
     let here = subst (λ m. Run b c (mid s t A) (Ok m)) (sym (grown s t A own other all w v same)) r in
@@ -52,15 +55,15 @@ ended_fits A b own other all c s t w w' v late frames r ih =
 and_true : (v w : Outcome Bool) → v ≡ Ok true → w ≡ Ok true → and_then v w ≡ Ok true
 and_true v w p q = ap (λ x. and_then x w) p ∙ q
 
-pub sets_true : (A : Names) (ps : Parts) (c : Scope) (s t : State) (ys : List Word) → ((y : Word) → member ys y ≡ true → value_for y ps c (mid s t A) ≡ Ok (t y)) → hold_sets (settings_of A ps ys) c s t ≡ Ok true
+pub sets_true : (A : Names) (ps : Parts) (c : Scope) (s t : State) (ys : List Word) → ((y : Word) → is_among ys y ≡ true → value_for y ps c (mid s t A) ≡ Ok (t y)) → hold_sets (settings_of A ps ys) c s t ≡ Ok true
 sets_true A ps c s t [] h = refl
 sets_true A ps c s t (z ∷ ys) h =
     and_true _ _
-    (ap (λ o. o >>= (λ v. Ok (same (t z) v))) (h z (or_left (bytes_eq z z) (member ys z) (eq-name z z refl))) ∙ ap Ok (eq-value (t z) (t z) refl))
-    (sets_true A ps c s t ys (λ y m. h y (or_right (bytes_eq z y) (member ys y) m)))
+    (ap (λ o. o >>= (λ v. Ok (same (t z) v))) (h z (or_left (bytes_eq z z) (is_among ys z) (eq-name z z refl))) ∙ ap Ok (eq-value (t z) (t z) refl))
+    (sets_true A ps c s t ys (λ y m. h y (or_right (bytes_eq z y) (is_among ys y) m)))
 
 assign_fits : (A : Names) (ps : Parts) (c : Scope) (s t : State) → Ok (mid s t (more A (firsts ps))) ≡ moved ps c (mid s t A) → NotFalse (hold_sets (settings_of A ps (firsts ps)) c s t)
-assign_fits A ps c s t r = subst NotFalse (sym (sets_true A ps c s t (firsts ps) (λ y m. moved_good ps c (mid s t A) _ (sym r) y ∙ ap Ok (mid_in s t (more A (firsts ps)) y (or_right (A y) (member (firsts ps) y) m))))) tt
+assign_fits A ps c s t r = subst NotFalse (sym (sets_true A ps c s t (firsts ps) (λ y m. moved_good ps c (mid s t A) _ (sym r) y ∙ ap Ok (mid_in s t (more A (firsts ps)) y (or_right (A y) (is_among (firsts ps) y) m))))) tt
 
 await_fits : (o : Outcome Bool) (m : State) (r : State) → Awaits o m (Ok r) → NotFalse o
 await_fits (Ok true) m r e = tt
@@ -86,33 +89,33 @@ halves R (Ok u) r P n h = h u refl n
 halves R (Err k) r P n h = got_bad r k n
 
 mutual
-  pub fits_one : (A : Names) (st : Effect) (c : Scope) (s t : State) → OnceOne A st → RunOne st c (mid s t A) (End s t A (assigned st)) → NotFalse (holds (build_one A st) c s t)
+  pub fits_one : (A : Names) (st : Effect) (c : Scope) (s t : State) → OnceOne A st → RunOne st c (mid s t A) (End s t A (effect_names st)) → NotFalse (holds (build_one A st) c s t)
   fits_one A (assign ps) c s t o r = assign_fits A ps c s t r
   fits_one A (await e) c s t o r = await_fits (e c (mid s t A)) _ _ r
   fits_one A (branch e a b) c s t o r =
       chosen_fits (e c (mid s t A)) _ _ _ _ _ r
-      (λ k. ended_fits A a (assigned_in a) (assigned_in b) (assigned_in a ++ assigned_in b) c s t (in_front (assigned_in a) (assigned_in b)) (behind (assigned_in a) (assigned_in b)) (append_cases (assigned_in a) (assigned_in b)) (apart A b o.1) (λ x f. frame a c (mid s t A) _ x k f) k (λ m. fits_all A a c s t o.0 m))
-      (λ k. ended_fits A b (assigned_in b) (assigned_in a) (assigned_in a ++ assigned_in b) c s t (behind (assigned_in a) (assigned_in b)) (in_front (assigned_in a) (assigned_in b)) (λ x m. ⊎_elim inr inl (append_cases (assigned_in a) (assigned_in b) x m)) (apart A a o.0) (λ x f. frame b c (mid s t A) _ x k f) k (λ m. fits_all A b c s t o.1 m))
-  fits_one A (either bs) c s t o r = fits_some A (assigned_by bs) bs c s t o (λ x m. m) (apart_by A bs o) r
+      (λ k. ended_fits A a (effects_names a) (effects_names b) (effects_names a ++ effects_names b) c s t (in_front (effects_names a) (effects_names b)) (behind (effects_names a) (effects_names b)) (append_cases (effects_names a) (effects_names b)) (apart A b o.1) (λ x f. frame a c (mid s t A) _ x k f) k (λ m. fits_all A a c s t o.0 m))
+      (λ k. ended_fits A b (effects_names b) (effects_names a) (effects_names a ++ effects_names b) c s t (behind (effects_names a) (effects_names b)) (in_front (effects_names a) (effects_names b)) (λ x m. ⊎_elim inr inl (append_cases (effects_names a) (effects_names b) x m)) (apart A a o.0) (λ x f. frame b c (mid s t A) _ x k f) k (λ m. fits_all A b c s t o.1 m))
+  fits_one A (either bs) c s t o r = fits_some A (ways_names bs) bs c s t o (λ x m. m) (apart_by A bs o) r
   fits_one A (choose x e b) c s t o r = pick_fits (e c (mid s t A)) _ _ _ r (λ v k. fits_all A b (bound x v c) s t o k)
 
-  pub fits_all : (A : Names) (ss : Effects) (c : Scope) (s t : State) → Once A ss → Run ss c (mid s t A) (End s t A (assigned_in ss)) → NotFalse (hold (build A ss) c s t)
+  pub fits_all : (A : Names) (ss : Effects) (c : Scope) (s t : State) → Once A ss → Run ss c (mid s t A) (End s t A (effects_names ss)) → NotFalse (hold (build A ss) c s t)
   fits_all A done c s t o r = tt
   fits_all A (then st rest) c s t o r =
       halves (Run rest c) r.0 _ _ r.2 (λ u q n.
       let one : RunOne st c (mid s t A) (Ok u) = subst (RunOne st c (mid s t A)) q r.1 in
-      let between : u ≡ mid s t (more A (assigned st)) = meets A (assigned st) (assigned_in rest) s t u (apart (more A (assigned st)) rest o.1) (λ x f. frame_one st c (mid s t A) u x one f) (λ x f. frame rest c u _ x n f) in
-      let one' : RunOne st c (mid s t A) (End s t A (assigned st)) = subst (λ w. RunOne st c (mid s t A) (Ok w)) between one in
-      let two : Run rest c (mid s t (more A (assigned st))) (Ok (mid s t (more A (assigned st ++ assigned_in rest)))) = subst (λ w. Run rest c w (Ok (mid s t (more A (assigned st ++ assigned_in rest))))) between n in
-      let two' : Run rest c (mid s t (more A (assigned st))) (End s t (more A (assigned st)) (assigned_in rest)) = subst (λ B. Run rest c (mid s t (more A (assigned st))) (Ok (mid s t B))) (more_append A (assigned st) (assigned_in rest)) two in
-      and_not_no (holds (build_one A st) c s t) (hold (build (more A (assigned st)) rest) c s t) (fits_one A st c s t o.0 one') (fits_all (more A (assigned st)) rest c s t o.1 two'))
+      let between : u ≡ mid s t (more A (effect_names st)) = meets A (effect_names st) (effects_names rest) s t u (apart (more A (effect_names st)) rest o.1) (λ x f. frame_one st c (mid s t A) u x one f) (λ x f. frame rest c u _ x n f) in
+      let one' : RunOne st c (mid s t A) (End s t A (effect_names st)) = subst (λ w. RunOne st c (mid s t A) (Ok w)) between one in
+      let two : Run rest c (mid s t (more A (effect_names st))) (Ok (mid s t (more A (effect_names st ++ effects_names rest)))) = subst (λ w. Run rest c w (Ok (mid s t (more A (effect_names st ++ effects_names rest))))) between n in
+      let two' : Run rest c (mid s t (more A (effect_names st))) (End s t (more A (effect_names st)) (effects_names rest)) = subst (λ B. Run rest c (mid s t (more A (effect_names st))) (Ok (mid s t B))) (more_append A (effect_names st) (effects_names rest)) two in
+      and_not_no (holds (build_one A st) c s t) (hold (build (more A (effect_names st)) rest) c s t) (fits_one A st c s t o.0 one') (fits_all (more A (effect_names st)) rest c s t o.1 two'))
 
-  fits_some : (A : Names) (all : List Word) (bs : Ways) (c : Scope) (s t : State) → OnceSome A bs → Within (assigned_by bs) all → ((x : Word) → member all x ≡ true → A x ≡ false) → RunSome bs c (mid s t A) (End s t A all) → NotFalse (hold_some (build_some A all bs) c s t)
+  fits_some : (A : Names) (all : List Word) (bs : Ways) (c : Scope) (s t : State) → OnceSome A bs → Within (ways_names bs) all → ((x : Word) → is_among all x ≡ true → A x ≡ false) → RunSome bs c (mid s t A) (End s t A all) → NotFalse (hold_some (build_some A all bs) c s t)
   fits_some A all no_ways c s t o w late r = absurd r
   fits_some A all (way b bs) c s t o w late r =
       or_not_no _ (hold_some (build_some A all bs) c s t) (⊎_elim
-      (λ k. inl (ended_fits A b (assigned_in b) all all c s t (λ x m. w x (in_front (assigned_in b) (assigned_by bs) x m)) (λ x m. m) (λ x m. inr m) late (λ x f. frame b c (mid s t A) _ x k f) k (λ m. fits_all A b c s t o.0 m)))
-      (λ k. inr (fits_some A all bs c s t o.1 (λ x m. w x (behind (assigned_in b) (assigned_by bs) x m)) late k))
+      (λ k. inl (ended_fits A b (effects_names b) all all c s t (λ x m. w x (in_front (effects_names b) (ways_names bs) x m)) (λ x m. m) (λ x m. inr m) late (λ x f. frame b c (mid s t A) _ x k f) k (λ m. fits_all A b c s t o.0 m)))
+      (λ k. inr (fits_some A all bs c s t o.1 (λ x m. w x (behind (effects_names b) (ways_names bs) x m)) late k))
       r)
 
 -- ---- faults of the action are faults of a run
@@ -184,7 +187,7 @@ mutual
       branch_bad (e c (mid s t A)) (λ j. Run a c (mid s t A) (Err j)) (λ j. Run b c (mid s t A) (Err j)) _ _ k h
       (λ m. bad_all A a c s t k (ended_bad _ _ k (sym (hold_ended (build A a) _ c s t) ∙ m)))
       (λ m. bad_all A b c s t k (ended_bad _ _ k (sym (hold_ended (build A b) _ c s t) ∙ m)))
-  bad_one A (either bs) c s t k h = bad_some A (assigned_by bs) bs c s t k h
+  bad_one A (either bs) c s t k h = bad_some A (ways_names bs) bs c s t k h
   bad_one A (choose x e b) c s t k h = pick_bad (e c (mid s t A)) _ (λ v j. Run b (bound x v c) (mid s t A) (Err j)) k h (λ v m. bad_all A b (bound x v c) s t k m)
 
   pub bad_all : (A : Names) (ss : Effects) (c : Scope) (s t : State) (k : Trouble) → hold (build A ss) c s t ≡ Err k → Some (λ j. Run ss c (mid s t A) (Err j))
@@ -192,8 +195,8 @@ mutual
   bad_all A (then st rest) c s t k h =
       ⊎_elim
       (λ m. let r = bad_one A st c s t k m in (r.0, (Err r.0, r.1, refl)))
-      (λ m. let r = bad_all (more A (assigned st)) rest c s t k m.1 in (r.0, (End s t A (assigned st), true_one A st c s t m.0, r.1)))
-      (both_bad (holds (build_one A st) c s t) (hold (build (more A (assigned st)) rest) c s t) k h)
+      (λ m. let r = bad_all (more A (effect_names st)) rest c s t k m.1 in (r.0, (End s t A (effect_names st), true_one A st c s t m.0, r.1)))
+      (both_bad (holds (build_one A st) c s t) (hold (build (more A (effect_names st)) rest) c s t) k h)
 
   bad_some : (A : Names) (all : List Word) (bs : Ways) (c : Scope) (s t : State) (k : Trouble) → hold_some (build_some A all bs) c s t ≡ Err k → Some (λ j. RunSome bs c (mid s t A) (Err j))
   bad_some A all no_ways c s t k h = got_bad false k h
@@ -208,7 +211,7 @@ mutual
 abbrev pub NoFault : Effects → Scope → State → Type 0
 NoFault ss c m = (k : Trouble) → Run ss c m (Err k) → ⊥
 
-pub true_exactly : (A : Names) (ss : Effects) (c : Scope) (s t : State) → Once A ss → NoFault ss c (mid s t A) → (hold (build A ss) c s t ≡ Ok true → Run ss c (mid s t A) (End s t A (assigned_in ss))) × (Run ss c (mid s t A) (End s t A (assigned_in ss)) → hold (build A ss) c s t ≡ Ok true)
+pub true_exactly : (A : Names) (ss : Effects) (c : Scope) (s t : State) → Once A ss → NoFault ss c (mid s t A) → (hold (build A ss) c s t ≡ Ok true → Run ss c (mid s t A) (End s t A (effects_names ss))) × (Run ss c (mid s t A) (End s t A (effects_names ss)) → hold (build A ss) c s t ≡ Ok true)
 true_exactly A ss c s t o fine = (true_all A ss c s t, λ r. by (hold (build A ss) c s t) refl (fits_all A ss c s t o r))
   where
     by : (v : Outcome Bool) → hold (build A ss) c s t ≡ v → NotFalse v → hold (build A ss) c s t ≡ Ok true
@@ -217,6 +220,6 @@ true_exactly A ss c s t o fine = (true_all A ss c s t, λ r. by (hold (build A s
     by (Err k) e n = let r = bad_all A ss c s t k e in absurd (fine r.0 r.1)
 
 -- an end that agrees with t on A and on all that the items assign is the state between
-pub fitting_end : (A : Names) (ss : Effects) (c : Scope) (s t u : State) → Run ss c (mid s t A) (Ok u) → ((x : Word) → more A (assigned_in ss) x ≡ true → u x ≡ t x) → u ≡ mid s t (more A (assigned_in ss))
-fitting_end A ss c s t u r fits = is_mid s t u (more A (assigned_in ss)) fits (λ x e.
-    let p = or_none (A x) (member (assigned_in ss) x) e in frame ss c (mid s t A) u x r p.1 ∙ mid_out s t A x p.0)
+pub fitting_end : (A : Names) (ss : Effects) (c : Scope) (s t u : State) → Run ss c (mid s t A) (Ok u) → ((x : Word) → more A (effects_names ss) x ≡ true → u x ≡ t x) → u ≡ mid s t (more A (effects_names ss))
+fitting_end A ss c s t u r fits = is_mid s t u (more A (effects_names ss)) fits (λ x e.
+    let p = or_none (A x) (is_among (effects_names ss) x) e in frame ss c (mid s t A) u x r p.1 ∙ mid_out s t A x p.0)

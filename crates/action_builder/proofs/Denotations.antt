@@ -3,20 +3,22 @@ use Rattle.std.proofs.Common.{◌≡◌, List, [], ◌∷◌, ◌++◌, Bool, tr
 use Rattle.tla_token.specs.declared.place.Place.{Place}
 use Rattle.tla_expr.specs.Tree.{Word, apply, select, name, strict, Tree, node, Trees, no_trees, tree}
 use Rattle.tla_value.specs.declared.fault.FaultKind.TheVariants.{AssertFailed}
-use Rattle.tla_value.specs.Value.{Value, text, Values, no_values, and, Outcome, fault, over}
+use Rattle.tla_value.specs.Value.{Value, text, Values, no_values, and, Outcome, fault, over, Trouble, ◌>>=◌}
 use Rattle.tla_value.specs.Stops.{Check}
 use Rattle.tla_value.specs.Strict.{changed_at}
-use Rattle.tla_value.specs.Meaning.{Env, Denotation, evals}
+use Rattle.tla_value.specs.Meaning.{evals, part_values}
 use Rattle.pcal_tree.specs.Algorithm.{Assignments, no_assignments, assignment, Binds, no_binds, one_of, is, Statement, Statements, Branches, no_branches, or}
 use Rattle.pcal_tree.specs.Algorithm as Source
-use Rattle.pcal_tree.specs.Scope.{State, put, Outcome, Trouble, fault, ◌>>=◌, all_valued, Part, deeper, Scope, bound, reach, reach_path, root_place, value_of, test, members}
+use Rattle.pcal_tree.specs.Scope.{State, put, Part, deeper, Scope, bound, reach, reach_path, root_place, value_of, test, members}
 use Rattle.pcal_tree.specs.Assign.{Setting, set_all, settings}
 use Rattle.pcal_tree.specs.Assign as Assign
-use Rattle.pcal_tree.specs.Run.{Course, chooses, Has, HasSome, after, at_each, held, stops, Follow, Rules, unlabelled, run_binds, label_of}
+use Rattle.pcal_tree.specs.Run.{Course, chooses, Has, HasSome, after, at_each, held, stops, Follow, Rules, unlabelled, run_binds}
 use Rattle.pcal_tree.specs.Run as Courses
-use Rattle.pcal_tree.specs.Clean.{following}
-use Rattle.action_builder.specs.Action.{Changes, no_changes, change, evaluated, applied, moved, Awaits, Chosen, Picks, SomeOf, Next, Effects, RunOne, Run, RunSome}
-use Rattle.action_builder.specs.Effects.{head_of, head_first, changing, part_of, parts_of, nested, effect_of, effects_of, ways_of, part_at, Named, IsLeft, LeftFirst, LeftMoves, SettledOne, Settled, SettledSome}
+use Rattle.pcal_tree.proofs.ExpandRuns.{following}
+use Rattle.action_builder.specs.Assigned.{Names, head_of, head_first}
+use Rattle.action_builder.proofs.Effects.{Changes, no_changes, change, evaluated, applied, moved, Awaits, Chosen, Picks, SomeOf, Next, Effects, RunOne, Run, RunSome, changing, part_of, parts_of, nested, effect_of, effects_of, ways_of, Named}
+use Rattle.action_builder.specs.laws.Scopes.{part_at}
+use Rattle.action_builder.specs.laws.Ready.{IsLeft, LeftFirst, LeftSides, SettledOne, Settled, SettledSome}
 
 -- ---- results
 
@@ -29,47 +31,48 @@ on_valued (Ok v) go f = refl
 on_valued (Err (fault k p)) go f = refl
 on_valued (Err (over p)) go f = refl
 
-pub on_all_valued : {X Y : Type 0} (ds : List Denotation) (env : Env) (go : List Value → Outcome X) (f : X → Outcome Y) → (all_valued ds env go) >>= f ≡ all_valued ds env (λ vs. (go vs) >>= f)
-on_all_valued [] env go f = refl
-on_all_valued (d ∷ ds) env go f =
-    on_valued (d env).value (λ v. all_valued ds env (λ vs. go (v ∷ vs))) f
-    ∙ (λ i. (d env).value >>= (λ v. on_all_valued ds env (λ vs. go (v ∷ vs)) f i))
+-- two results, and then what is made of both
+pub on_both : {X Y Z W : Type 0} (o : Outcome X) (p : X → Outcome Y) (f : X → Y → Z) (go : Z → Outcome W) → (o >>= (λ x. (p x) >>= (λ y. Ok (f x y)))) >>= go ≡ o >>= (λ x. (p x) >>= (λ y. go (f x y)))
+on_both (Ok x) p f go = on_twice (p x) (λ y. Ok (f x y)) go
+on_both (Err k) p f go = refl
 
 -- ---- assignments
 
 mutual
-  heads : (c : Check) (l : Tree) → IsLeft l → (sc : Scope) → Named sc → (s : State) (go : Part → Outcome State) → (reach c l sc s) >>= go ≡ (reach c l sc s) >>= (λ p. go (part_at (head_of l) p.path))
-  heads c (node (name x) at ts) h sc n s go = let q = n x at s in ap (λ o. o >>= go) q.1 ∙ sym (ap (λ o. o >>= (λ p. go (part_at x p.path))) q.1)
-  heads c (node (strict apply) at ts) h sc n s go = heads_path c at ts h sc n s go
-  heads c (node (strict (select a)) at ts) h sc n s go =
+  heads : {X : Type 0} (V : Names) (c : Check) (l : Tree) → IsLeft V l → (sc : Scope) → Named V sc → (s : State) (go : Part → Outcome X) → (reach c l sc s) >>= go ≡ (reach c l sc s) >>= (λ p. go (part_at (head_of l) p.path))
+  heads V c (node (name x) at ts) h sc n s go = let q = n x h at s in ap (λ o. o >>= go) q.1 ∙ sym (ap (λ o. o >>= (λ p. go (part_at x p.path))) q.1)
+  heads V c (node (strict apply) at ts) h sc n s go = heads_path V c at ts h sc n s go
+  heads V c (node (strict (select a)) at ts) h sc n s go =
       on_twice (reach_path c at ts sc s) (λ p. Ok (deeper (text a ∷ []) p)) go
-      ∙ heads_path c at ts h sc n s (λ p. go (deeper (text a ∷ []) p))
+      ∙ heads_path V c at ts h sc n s (λ p. go (deeper (text a ∷ []) p))
       ∙ sym (on_twice (reach_path c at ts sc s) (λ p. Ok (deeper (text a ∷ []) p)) (λ p. go (part_at (head_first ts) p.path)))
-  heads c (node _ at ts) h sc n s go = absurd h
+  heads V c (node _ at ts) h sc n s go = absurd h
 
-  heads_path : (c : Check) (at : Place) (ts : Trees) → LeftFirst ts → (sc : Scope) → Named sc → (s : State) (go : Part → Outcome State) → (reach_path c at ts sc s) >>= go ≡ (reach_path c at ts sc s) >>= (λ p. go (part_at (head_first ts) p.path))
-  heads_path c at no_trees h sc n s go = absurd h
-  heads_path c at (tree f us) h sc n s go =
-      on_twice (reach c f sc s) (λ p. all_valued (evals c us) (sc.env s) (λ ks. Ok (deeper ks p))) go
-      ∙ heads c f h sc n s (λ p. (all_valued (evals c us) (sc.env s) (λ ks. Ok (deeper ks p))) >>= go)
-      ∙ (λ i. (reach c f sc s) >>= (λ p. (on_all_valued (evals c us) (sc.env s) (λ ks. Ok (part_at (head_of f) (p.path ++ ks))) go
-      ∙ sym (on_all_valued (evals c us) (sc.env s) (λ ks. Ok (part_at (head_of f) (p.path ++ ks))) (λ q. go (part_at (head_of f) q.path)))) i))
-      ∙ sym (heads c f h sc n s (λ p. (all_valued (evals c us) (sc.env s) (λ ks. Ok (deeper ks p))) >>= (λ q. go (part_at (head_of f) q.path))))
-      ∙ sym (on_twice (reach c f sc s) (λ p. all_valued (evals c us) (sc.env s) (λ ks. Ok (deeper ks p))) (λ q. go (part_at (head_of f) q.path)))
+  heads_path : {X : Type 0} (V : Names) (c : Check) (at : Place) (ts : Trees) → LeftFirst V ts → (sc : Scope) → Named V sc → (s : State) (go : Part → Outcome X) → (reach_path c at ts sc s) >>= go ≡ (reach_path c at ts sc s) >>= (λ p. go (part_at (head_first ts) p.path))
+  heads_path V c at no_trees h sc n s go = absurd h
+  heads_path V c at (tree f us) h sc n s go =
+      on_twice (reach c f sc s) (λ p. (part_values (evals c us) (sc.env s)) >>= (λ ks. Ok (deeper ks p))) go
+      ∙ heads V c f h sc n s (λ p. ((part_values (evals c us) (sc.env s)) >>= (λ ks. Ok (deeper ks p))) >>= go)
+      ∙ (λ i. (reach c f sc s) >>= (λ p. (on_twice (part_values (evals c us) (sc.env s)) (λ ks. Ok (part_at (head_of f) (p.path ++ ks))) go
+      ∙ sym (on_twice (part_values (evals c us) (sc.env s)) (λ ks. Ok (part_at (head_of f) (p.path ++ ks))) (λ q. go (part_at (head_of f) q.path)))) i))
+      ∙ sym (heads V c f h sc n s (λ p. ((part_values (evals c us) (sc.env s)) >>= (λ ks. Ok (deeper ks p))) >>= (λ q. go (part_at (head_of f) q.path))))
+      ∙ sym (on_twice (reach c f sc s) (λ p. (part_values (evals c us) (sc.env s)) >>= (λ ks. Ok (deeper ks p))) (λ q. go (part_at (head_of f) q.path)))
 
-abbrev to_changes : Check → List Setting → Changes
+abbrev pub to_changes : Check → List Setting → Changes
 to_changes c [] = no_changes
 to_changes c (m ∷ ms) = change m.part.variable (changing c m.place m.part.path m.value) (to_changes c ms)
 
 abbrev setting_at : Place → Word → List Value → Value → Setting
 setting_at at x path v = record { place = at; part = part_at x path; value = v }
 
-settings_law : (c : Check) (ms : Assignments) → LeftMoves ms → (sc : Scope) → Named sc → (s : State) (go : List Setting → Outcome State) (go' : Changes → Outcome State) → ((all : List Setting) → go all ≡ go' (to_changes c all)) → settings c ms sc s go ≡ (evaluated (parts_of c ms) sc s) >>= go'
-settings_law c no_assignments h sc n s go go' k = k []
-settings_law c (assignment l e ms) h sc n s go go' k =
-    heads c l h.0 sc n s (λ p. (value_of c e sc s) >>= (λ v. settings c ms sc s (λ rest. go (record { place = root_place l; part = p; value = v } ∷ rest))))
+pub settings_law : {X : Type 0} (V : Names) (c : Check) (ms : Assignments) → LeftSides V ms → (sc : Scope) → Named V sc → (s : State) (go : List Setting → Outcome X) (go' : Changes → Outcome X) → ((all : List Setting) → go all ≡ go' (to_changes c all)) → (settings c ms sc s) >>= go ≡ (evaluated (parts_of c ms) sc s) >>= go'
+settings_law V c no_assignments h sc n s go go' k = k []
+settings_law V c (assignment l e ms) h sc n s go go' k =
+    on_twice (reach c l sc s) (λ p. (value_of c e sc s) >>= (λ v. (settings c ms sc s) >>= (λ rest. Ok (record { place = root_place l; part = p; value = v } ∷ rest)))) go
+    ∙ (λ i. (reach c l sc s) >>= (λ p. on_both (value_of c e sc s) (λ v. settings c ms sc s) (λ v rest. record { place = root_place l; part = p; value = v } ∷ rest) go i))
+    ∙ heads V c l h.0 sc n s (λ p. (value_of c e sc s) >>= (λ v. (settings c ms sc s) >>= (λ rest. go (record { place = root_place l; part = p; value = v } ∷ rest))))
     ∙ (λ i. (reach c l sc s) >>= (λ p. (value_of c e sc s) >>= (λ v.
-    settings_law c ms h.1 sc n s (λ rest. go (setting_at (root_place l) (head_of l) p.path v ∷ rest)) (λ fs. go' (change (head_of l) (changing c (root_place l) p.path v) fs)) (λ all. k (setting_at (root_place l) (head_of l) p.path v ∷ all)) i)))
+    settings_law V c ms h.1 sc n s (λ rest. go (setting_at (root_place l) (head_of l) p.path v ∷ rest)) (λ fs. go' (change (head_of l) (changing c (root_place l) p.path v) fs)) (λ all. k (setting_at (root_place l) (head_of l) p.path v ∷ all)) i)))
     ∙ sym (
     on_twice (part_of c l e sc s) (λ f. (evaluated (parts_of c ms) sc s) >>= (λ fs. Ok (change (head_of l) f fs))) go'
     ∙ (λ i. (part_of c l e sc s) >>= (λ f. on_twice (evaluated (parts_of c ms) sc s) (λ fs. Ok (change (head_of l) f fs)) go' i))
@@ -79,12 +82,12 @@ settings_law c (assignment l e ms) h sc n s go go' k =
 set_law : (c : Check) (all : List Setting) (s : State) → set_all c all s ≡ applied (to_changes c all) s
 set_law c [] s = refl
 set_law c (m ∷ ms) s =
-    (λ i. (changed_at m.place m.part.path m.value (s m.part.variable)) >>= (λ w. (c m.place w) >>= (λ u. set_law c ms (put m.part.variable u s) i)))
-    ∙ (λ i. (changed_at m.place m.part.path m.value (s m.part.variable)) >>= (λ w. sym (on_valued (c m.place w) Ok (λ u. applied (to_changes c ms) (put m.part.variable u s))) i))
-    ∙ sym (on_valued (changed_at m.place m.part.path m.value (s m.part.variable)) (λ w. (c m.place w) >>= Ok) (λ u. applied (to_changes c ms) (put m.part.variable u s)))
+    on_both (changed_at m.place m.part.path m.value (s m.part.variable)) (c m.place) (λ w u. put m.part.variable u s) (set_all c ms)
+    ∙ (λ i. (changed_at m.place m.part.path m.value (s m.part.variable)) >>= (λ w. (c m.place w) >>= (λ u. set_law c ms (put m.part.variable u s) i)))
+    ∙ sym (on_valued (changed_at m.place m.part.path m.value (s m.part.variable)) (c m.place) (λ u. applied (to_changes c ms) (put m.part.variable u s)))
 
-pub moved_law : (c : Check) (ms : Assignments) → LeftMoves ms → (sc : Scope) → Named sc → (s : State) → Assign.moved c ms sc s ≡ moved (parts_of c ms) sc s
-moved_law c ms h sc n s = settings_law c ms h sc n s (λ all. set_all c all s) (λ fs. applied fs s) (λ all. set_law c all s)
+pub moved_law : (V : Names) (c : Check) (ms : Assignments) → LeftSides V ms → (sc : Scope) → Named V sc → (s : State) → Assign.after_assignments c ms sc s ≡ moved (parts_of c ms) sc s
+moved_law V c ms h sc n s = settings_law V c ms h sc n s (λ all. set_all c all s) (λ fs. applied fs s) (λ all. set_law c all s)
 
 -- ---- runs
 
@@ -177,50 +180,50 @@ through R L K (Ok u) r h = h u r
 through R L K (Err k) r h = at_stop k K r
 
 -- the body of a `with` in a scope
-abbrev Bodies : (Scope → State → Course) → Effects → (State → Course) → Type 0
-Bodies body es K = (sc : Scope) → Named sc → (s : State) → Parted (Has (body sc s)) (Run es sc s) K
+abbrev Bodies : Names → (Scope → State → Course) → Effects → (State → Course) → Type 0
+Bodies V body es K = (sc : Scope) → Named V sc → (s : State) → Parted (Has (body sc s)) (Run es sc s) K
 
-binds_law : (c : Check) (at : Place) (bs : Binds) (es : Effects) (body : Scope → State → Course) (K : State → Course) → Bodies body es K → (sc : Scope) → Named sc → (s : State) → Parted (Has (run_binds c at bs body sc s)) (Run (nested c bs es) sc s) K
-binds_law c at no_binds es body K h sc n s = h sc n s
-binds_law c at (one_of x e bs) es body K h sc n s =
-    parted_alone _ _ K (parted_picks (members c e sc s) at (λ v. run_binds c at bs body (bound x.word v sc) s) (λ v. Run (nested c bs es) (bound x.word v sc) s) K (λ v. binds_law c at bs es body K h (bound x.word v sc) n s))
-binds_law c at (is x e bs) es body K h sc n s =
-    parted_alone _ _ K (parted_is (value_of c e sc s) (λ v. run_binds c at bs body (bound x.word v sc) s) (λ v. Run (nested c bs es) (bound x.word v sc) s) K (λ v. binds_law c at bs es body K h (bound x.word v sc) n s))
+binds_law : (V : Names) (c : Check) (at : Place) (bs : Binds) (es : Effects) (body : Scope → State → Course) (K : State → Course) → Bodies V body es K → (sc : Scope) → Named V sc → (s : State) → Parted (Has (run_binds c at bs body sc s)) (Run (nested c bs es) sc s) K
+binds_law V c at no_binds es body K h sc n s = h sc n s
+binds_law V c at (one_of x e bs) es body K h sc n s =
+    parted_alone _ _ K (parted_picks (members c e sc s) at (λ v. run_binds c at bs body (bound x.word v sc) s) (λ v. Run (nested c bs es) (bound x.word v sc) s) K (λ v. binds_law V c at bs es body K h (bound x.word v sc) n s))
+binds_law V c at (is x e bs) es body K h sc n s =
+    parted_alone _ _ K (parted_is (value_of c e sc s) (λ v. run_binds c at bs body (bound x.word v sc) s) (λ v. Run (nested c bs es) (bound x.word v sc) s) K (λ v. binds_law V c at bs es body K h (bound x.word v sc) n s))
 
 one_way : (T P : Outcome State → Type 0) (K : State → Course) → Parted T P K → Parted T (λ q. P q ⊎ ⊥) K
 one_way T P K h r = (λ x. let y = (h r).0 x in (y.0, inl y.1, y.2), λ y. (h r).1 (y.0, ⊎_elim (λ a. a) (λ b. absurd b) y.1, y.2))
 
 mutual
-  run_one : (M : Rules) (here : Word) (at : Place) (st : Statement) → SettledOne st → (sc : Scope) → Named sc → (K : Follow) (s : State) → Parted (Has (Courses.run_one M here at st sc K s)) (RunOne (effect_of M.check at st) sc s) K.goes
-  run_one M here at (Source.assign ms) h sc n K s r =
-      subst (λ o. Has (after o K.goes) r ↔ Halves (λ q. q ≡ moved (parts_of M.check ms) sc s) K.goes r) (sym (moved_law M.check ms h sc n s)) (at_result (moved (parts_of M.check ms) sc s) K.goes r)
-  run_one M here at (Source.await e) h sc n K s r = parted_await (test M.check e sc s) at s K.goes r
-  run_one M here at (Source.print e) h sc n K s r = parted_print (value_of M.check e sc s) s K.goes r
-  run_one M here at (Source.assert e) h sc n K s r = parted_assert (test M.check e sc s) at s K.goes r
-  run_one M here at Source.skip h sc n K s r = at_end s K.goes r
-  run_one M here at (Source.branch e a b) h sc n K s r =
-      parted_chosen (test M.check e sc s) (Courses.run M unlabelled a sc K) (Courses.run M unlabelled b sc K) s _ _ K.goes (run M unlabelled a h.0 sc n K s) (run M unlabelled b h.1 sc n K s) r
-  run_one M here at (Source.either bs) h sc n K s r = run_some M bs h sc n K s r
-  run_one M here at (Source.with no_binds b) h sc n K s r = one_way _ _ K.goes (run M unlabelled b h sc n K s) r
-  run_one M here at (Source.with (one_of x e bs) b) h sc n K s r =
+  run_one : (V : Names) (M : Rules) (here : Word) (at : Place) (st : Statement) → SettledOne V st → (sc : Scope) → Named V sc → (K : Follow) (s : State) → Parted (Has (Courses.run_one M here at st sc K s)) (RunOne (effect_of M.check at st) sc s) K.goes
+  run_one V M here at (Source.assign ms) h sc n K s r =
+      subst (λ o. Has (after o K.goes) r ↔ Halves (λ q. q ≡ moved (parts_of M.check ms) sc s) K.goes r) (sym (moved_law V M.check ms h sc n s)) (at_result (moved (parts_of M.check ms) sc s) K.goes r)
+  run_one V M here at (Source.await e) h sc n K s r = parted_await (test M.check e sc s) at s K.goes r
+  run_one V M here at (Source.print e) h sc n K s r = parted_print (value_of M.check e sc s) s K.goes r
+  run_one V M here at (Source.assert e) h sc n K s r = parted_assert (test M.check e sc s) at s K.goes r
+  run_one V M here at Source.skip h sc n K s r = at_end s K.goes r
+  run_one V M here at (Source.branch e a b) h sc n K s r =
+      parted_chosen (test M.check e sc s) (Courses.run M unlabelled a sc K) (Courses.run M unlabelled b sc K) s _ _ K.goes (run V M unlabelled a h.0 sc n K s) (run V M unlabelled b h.1 sc n K s) r
+  run_one V M here at (Source.either bs) h sc n K s r = run_some V M bs h sc n K s r
+  run_one V M here at (Source.with no_binds b) h sc n K s r = one_way _ _ K.goes (run V M unlabelled b h sc n K s) r
+  run_one V M here at (Source.with (one_of x e bs) b) h sc n K s r =
       parted_picks (members M.check e sc s) at (λ v. run_binds M.check at bs (λ inner. Courses.run M unlabelled b inner K) (bound x.word v sc) s) (λ v. Run (nested M.check bs (effects_of M.check b)) (bound x.word v sc) s) K.goes
-      (λ v. binds_law M.check at bs (effects_of M.check b) (λ inner. Courses.run M unlabelled b inner K) K.goes (λ inner k u. run M unlabelled b h inner k K u) (bound x.word v sc) n s) r
-  run_one M here at (Source.with (is x e bs) b) h sc n K s r =
+      (λ v. binds_law V M.check at bs (effects_of M.check b) (λ inner. Courses.run M unlabelled b inner K) K.goes (λ inner k u. run V M unlabelled b h inner k K u) (bound x.word v sc) n s) r
+  run_one V M here at (Source.with (is x e bs) b) h sc n K s r =
       parted_is (value_of M.check e sc s) (λ v. run_binds M.check at bs (λ inner. Courses.run M unlabelled b inner K) (bound x.word v sc) s) (λ v. Run (nested M.check bs (effects_of M.check b)) (bound x.word v sc) s) K.goes
-      (λ v. binds_law M.check at bs (effects_of M.check b) (λ inner. Courses.run M unlabelled b inner K) K.goes (λ inner k u. run M unlabelled b h inner k K u) (bound x.word v sc) n s) r
-  run_one M here at _ h sc n K s r = absurd h
+      (λ v. binds_law V M.check at bs (effects_of M.check b) (λ inner. Courses.run M unlabelled b inner K) K.goes (λ inner k u. run V M unlabelled b h inner k K u) (bound x.word v sc) n s) r
+  run_one V M here at _ h sc n K s r = absurd h
 
-  pub run : (M : Rules) (here : Word) (ss : Statements) → Settled ss → (sc : Scope) → Named sc → (K : Follow) (s : State) → Parted (Has (Courses.run M here ss sc K s)) (Run (effects_of M.check ss) sc s) K.goes
-  run M here Source.done h sc n K s r = at_end s K.goes r
-  run M here (Source.then at st rest) h sc n K s r = (
-    λ x. let y = (run_one M here at.first st h.0 sc n (following M rest sc K) s r).0 x in
-        let z = (through (Run (effects_of M.check rest) sc) (Courses.run M unlabelled rest sc K) K.goes y.0 r (λ u. run M unlabelled rest h.1 sc n K u)).0 y.2 in
+  pub run : (V : Names) (M : Rules) (here : Word) (ss : Statements) → Settled V ss → (sc : Scope) → Named V sc → (K : Follow) (s : State) → Parted (Has (Courses.run M here ss sc K s)) (Run (effects_of M.check ss) sc s) K.goes
+  run V M here Source.done h sc n K s r = at_end s K.goes r
+  run V M here (Source.then at st rest) h sc n K s r = (
+    λ x. let y = (run_one V M here at.first st h.0 sc n (following M rest sc K) s r).0 x in
+        let z = (through (Run (effects_of M.check rest) sc) (Courses.run M unlabelled rest sc K) K.goes y.0 r (λ u. run V M unlabelled rest h.1 sc n K u)).0 y.2 in
         (z.0, (y.0, y.1, z.1), z.2),
-    λ x. (run_one M here at.first st h.0 sc n (following M rest sc K) s r).1 (x.1.0, x.1.1, (through (Run (effects_of M.check rest) sc) (Courses.run M unlabelled rest sc K) K.goes x.1.0 r (λ u. run M unlabelled rest h.1 sc n K u)).1 (x.0, x.1.2, x.2)),
+    λ x. (run_one V M here at.first st h.0 sc n (following M rest sc K) s r).1 (x.1.0, x.1.1, (through (Run (effects_of M.check rest) sc) (Courses.run M unlabelled rest sc K) K.goes x.1.0 r (λ u. run V M unlabelled rest h.1 sc n K u)).1 (x.0, x.1.2, x.2)),
   )
-  run M here (Source.mark l k rest) h sc n K s r = absurd h
+  run V M here (Source.mark l k rest) h sc n K s r = absurd h
 
-  run_some : (M : Rules) (bs : Branches) → SettledSome bs → (sc : Scope) → Named sc → (K : Follow) (s : State) → Parted (HasSome (Courses.run_branches M bs sc K s)) (RunSome (ways_of M.check bs) sc s) K.goes
-  run_some M no_branches h sc n K s r = parted_none K.goes r
-  run_some M (or b bs) h sc n K s r =
-      parted_or (Has (Courses.run M unlabelled b sc K s)) _ (Run (effects_of M.check b) sc s) _ K.goes (run M unlabelled b h.0 sc n K s) (run_some M bs h.1 sc n K s) r
+  run_some : (V : Names) (M : Rules) (bs : Branches) → SettledSome V bs → (sc : Scope) → Named V sc → (K : Follow) (s : State) → Parted (HasSome (Courses.run_branches M bs sc K s)) (RunSome (ways_of M.check bs) sc s) K.goes
+  run_some V M no_branches h sc n K s r = parted_none K.goes r
+  run_some V M (or b bs) h sc n K s r =
+      parted_or (Has (Courses.run M unlabelled b sc K s)) _ (Run (effects_of M.check b) sc s) _ K.goes (run V M unlabelled b h.0 sc n K s) (run_some V M bs h.1 sc n K s) r

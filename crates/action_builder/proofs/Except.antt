@@ -1,17 +1,23 @@
 -- The written right side of a variable has the value that its assignments give it.
 use Rattle.std.proofs.Common.{◌≡◌, List, [], ◌∷◌, ◌++◌, Bool, true, false, cond, bytes_eq, refl, sym, ◌∙◌, ap, Ok, Err}
 use Rattle.tla_token.specs.declared.place.Place.{Place}
-use Rattle.tla_expr.specs.Tree.{Word, apply, select, name, strict, Tree, node, Trees, no_trees, tree}
+use Rattle.tla_expr.specs.Tree.{Word, index, apply, select, except, name, strict, Tree, node, Trees, no_trees, tree}
 use Rattle.tla_value.specs.Value.{Value, text, Outcome, fault, over, ◌>>=◌}
 use Rattle.tla_value.specs.Stops.{Check, plain}
-use Rattle.tla_value.specs.Strict.{changed_at, next_slot, updated}
-use Rattle.tla_value.specs.Meaning.{Env, just, on_all, eval, evals}
+use Rattle.tla_value.specs.Strict.{changed_at, next_slot, updated, strict_value}
+use Rattle.tla_value.specs.Meaning.{Env, just, part_values, eval, evals}
 use Rattle.pcal_tree.specs.Algorithm.{nowhere, Assignments, no_assignments, assignment}
-use Rattle.pcal_tree.specs.Scope.{State, Outcome, ◌>>=◌, all_valued, Part, deeper, Scope, reach, reach_path, root_place, value_of}
-use Rattle.action_builder.specs.Action.{all_changes, Change, Parts, no_parts, part, changes_for, folded, value_for}
-use Rattle.action_builder.specs.Effects.{head_of, head_first, changing, part_of, parts_of, part_at, IsPlain as Plain, IsLeft, LeftFirst, LeftMoves}
+use Rattle.pcal_tree.specs.Scope.{State, Part, deeper, Scope, reach, reach_path, root_place, value_of}
+use Rattle.action_builder.specs.Assigned.{Names, head_of, head_first}
+use Rattle.action_builder.proofs.Actions.{all_changes, changes_for, folded, value_for}
+use Rattle.action_builder.proofs.Effects.{Change, Parts, no_parts, part, changing, part_of, parts_of, Changes, no_changes, change, evaluated, Named}
+use Rattle.action_builder.specs.laws.Scopes.{part_at, IsPlain as Plain}
+use Rattle.action_builder.specs.laws.Ready.{IsLeft, LeftFirst, LeftSides}
 use Rattle.action_builder.specs.Written.{Key, sub, fixed, subs, keys_of, keys_first, steps_of, subscripts, own, slots_of, slot_trees, except_of, is_whole, side_of}
-use Rattle.action_builder.proofs.Denotations.{on_twice, on_valued, on_all_valued}
+use Rattle.tla_value.proofs.Outcomes.{then_ok, then_then}
+use Rattle.pcal_tree.specs.Assign.{Setting}
+use Rattle.action_builder.specs.laws.States.{changed_by, value_after}
+use Rattle.action_builder.proofs.Denotations.{to_changes, settings_law, on_twice, on_both}
 
 -- ---- left sides
 
@@ -26,45 +32,45 @@ keys_append c [] js env go = refl
 keys_append c (sub t ∷ ks) js env go = λ i. (eval c t env).value >>= (λ v. keys_append c ks js env (λ vs. go (v ∷ vs)) i)
 keys_append c (fixed a ∷ ks) js env go = keys_append c ks js env (λ vs. go (text a ∷ vs))
 
-subs_law : {X : Type 0} (c : Check) (ts : Trees) (env : Env) (go : List Value → Outcome X) → all_valued (evals c ts) env go ≡ on_keys c (subs ts) env go
+subs_law : {X : Type 0} (c : Check) (ts : Trees) (env : Env) (go : List Value → Outcome X) → (part_values (evals c ts) env) >>= go ≡ on_keys c (subs ts) env go
 subs_law c no_trees env go = refl
-subs_law c (tree t ts) env go = λ i. (eval c t env).value >>= (λ v. subs_law c ts env (λ vs. go (v ∷ vs)) i)
+subs_law c (tree t ts) env go =
+    on_both (eval c t env).value (λ v. part_values (evals c ts) env) (λ v vs. v ∷ vs) go
+    ∙ (λ i. (eval c t env).value >>= (λ v. subs_law c ts env (λ vs. go (v ∷ vs)) i))
 
 mutual
-  pub plain_reach : {X : Type 0} (c : Check) (l : Tree) → IsLeft l → (sc : Scope) → Plain sc → (s : State) (go : Part → Outcome X) → (reach c l sc s) >>= go ≡ on_keys c (keys_of l) (sc.env s) (λ ks. go (part_at (head_of l) ks))
-  plain_reach c (node (name x) at ts) h sc n s go = ap (λ o. o >>= go) (n x at s)
-  plain_reach c (node (strict apply) at ts) h sc n s go = plain_path c at ts h sc n s go
-  plain_reach c (node (strict (select a)) at ts) h sc n s go =
+  pub plain_reach : {X : Type 0} (V : Names) (c : Check) (l : Tree) → IsLeft V l → (sc : Scope) → Plain V sc → (s : State) (go : Part → Outcome X) → (reach c l sc s) >>= go ≡ on_keys c (keys_of l) (sc.env s) (λ ks. go (part_at (head_of l) ks))
+  plain_reach V c (node (name x) at ts) h sc n s go = ap (λ o. o >>= go) (n x h at s)
+  plain_reach V c (node (strict apply) at ts) h sc n s go = plain_path V c at ts h sc n s go
+  plain_reach V c (node (strict (select a)) at ts) h sc n s go =
       on_twice (reach_path c at ts sc s) (λ p. Ok (deeper (text a ∷ []) p)) go
-      ∙ plain_path c at ts h sc n s (λ p. go (deeper (text a ∷ []) p))
+      ∙ plain_path V c at ts h sc n s (λ p. go (deeper (text a ∷ []) p))
       ∙ sym (keys_append c (keys_first ts) (fixed a ∷ []) (sc.env s) (λ ks. go (part_at (head_first ts) ks)))
-  plain_reach c (node _ at ts) h sc n s go = absurd h
+  plain_reach V c (node _ at ts) h sc n s go = absurd h
 
-  plain_path : {X : Type 0} (c : Check) (at : Place) (ts : Trees) → LeftFirst ts → (sc : Scope) → Plain sc → (s : State) (go : Part → Outcome X) → (reach_path c at ts sc s) >>= go ≡ on_keys c (keys_first ts) (sc.env s) (λ ks. go (part_at (head_first ts) ks))
-  plain_path c at no_trees h sc n s go = absurd h
-  plain_path c at (tree f us) h sc n s go =
-      on_twice (reach c f sc s) (λ p. all_valued (evals c us) (sc.env s) (λ ks. Ok (deeper ks p))) go
-      ∙ plain_reach c f h sc n s (λ p. (all_valued (evals c us) (sc.env s) (λ ks. Ok (deeper ks p))) >>= go)
-      ∙ (λ i. on_keys c (keys_of f) (sc.env s) (λ js. on_all_valued (evals c us) (sc.env s) (λ ks. Ok (part_at (head_of f) (js ++ ks))) go i))
+  plain_path : {X : Type 0} (V : Names) (c : Check) (at : Place) (ts : Trees) → LeftFirst V ts → (sc : Scope) → Plain V sc → (s : State) (go : Part → Outcome X) → (reach_path c at ts sc s) >>= go ≡ on_keys c (keys_first ts) (sc.env s) (λ ks. go (part_at (head_first ts) ks))
+  plain_path V c at no_trees h sc n s go = absurd h
+  plain_path V c at (tree f us) h sc n s go =
+      on_twice (reach c f sc s) (λ p. (part_values (evals c us) (sc.env s)) >>= (λ ks. Ok (deeper ks p))) go
+      ∙ plain_reach V c f h sc n s (λ p. ((part_values (evals c us) (sc.env s)) >>= (λ ks. Ok (deeper ks p))) >>= go)
+      ∙ (λ i. on_keys c (keys_of f) (sc.env s) (λ js. on_twice (part_values (evals c us) (sc.env s)) (λ ks. Ok (part_at (head_of f) (js ++ ks))) go i))
       ∙ (λ i. on_keys c (keys_of f) (sc.env s) (λ js. subs_law c us (sc.env s) (λ ks. go (part_at (head_of f) (js ++ ks))) i))
       ∙ sym (keys_append c (keys_of f) (subs us) (sc.env s) (λ ks. go (part_at (head_of f) ks)))
 
 -- ---- slots
 
-valued_on : {X : Type 0} (o : Outcome Value) (f : Value → Outcome Value) (go : Value → Outcome X) → (o >>= f) >>= go ≡ o >>= (λ v. (f v) >>= go)
-valued_on (Ok v) f go = refl
-valued_on (Err (fault k p)) f go = refl
-valued_on (Err (over p)) f go = refl
-
 -- one slot takes the values of its keys and its right side; o is the value so far
 slot_law : (c : Check) (at : Place) (ks : List Key) (e : Tree) (more : Trees) (env : Env) (o : Outcome Value) (go : Value → List Value → Value → List Value → Outcome Value) →
-    (on_all (evals c (subscripts ks (tree e more))) env (λ vs. o >>= (λ old. next_slot at (steps_of ks) vs (go old)))) >>= Ok
-    ≡ on_keys c ks env (λ path. (eval c e env).value >>= (λ v. (on_all (evals c more) env (λ ws. o >>= (λ old. go old path v ws))) >>= Ok))
-slot_law c at [] e more env o go = valued_on (eval c e env).value (λ v. on_all (evals c more) env (λ ws. o >>= (λ old. go old [] v ws))) Ok
+    part_values (evals c (subscripts ks (tree e more))) env >>= (λ vs. o >>= (λ old. next_slot at (steps_of ks) vs >>= (λ (path, v, rest). go old path v rest)))
+    ≡ on_keys c ks env (λ path. (eval c e env).value >>= (λ v. part_values (evals c more) env >>= (λ ws. o >>= (λ old. go old path v ws))))
+slot_law c at [] e more env o go = on_both (eval c e env).value (λ v. part_values (evals c more) env) (λ v vs. v ∷ vs) (λ vs. o >>= (λ old. next_slot at [] vs >>= (λ (path, v, rest). go old path v rest)))
 slot_law c at (sub t ∷ ks) e more env o go =
-    valued_on (eval c t env).value (λ k. on_all (evals c (subscripts ks (tree e more))) env (λ vs. o >>= (λ old. next_slot at (steps_of ks) vs (λ path v rest. go old (k ∷ path) v rest)))) Ok
+    on_both (eval c t env).value (λ k. part_values (evals c (subscripts ks (tree e more))) env) (λ k vs. k ∷ vs) (λ vs. o >>= (λ old. next_slot at (index ∷ steps_of ks) vs >>= (λ (path, v, rest). go old path v rest)))
+    ∙ (λ i. (eval c t env).value >>= (λ k. part_values (evals c (subscripts ks (tree e more))) env >>= (λ vs. o >>= (λ old. then_then (next_slot at (steps_of ks) vs) (λ (path, v, rest). Ok (k ∷ path, v, rest)) (λ (path, v, rest). go old path v rest) i))))
     ∙ (λ i. (eval c t env).value >>= (λ k. slot_law c at ks e more env o (λ old path v rest. go old (k ∷ path) v rest) i))
-slot_law c at (fixed a ∷ ks) e more env o go = slot_law c at ks e more env o (λ old path v rest. go old (text a ∷ path) v rest)
+slot_law c at (fixed a ∷ ks) e more env o go =
+    (λ i. part_values (evals c (subscripts ks (tree e more))) env >>= (λ vs. o >>= (λ old. then_then (next_slot at (steps_of ks) vs) (λ (path, v, rest). Ok (text a ∷ path, v, rest)) (λ (path, v, rest). go old path v rest) i)))
+    ∙ slot_law c at ks e more env o (λ old path v rest. go old (text a ∷ path) v rest)
 
 -- the value after one more slot
 abbrev after_slot : Check → Place → List Value → Value → Outcome Value → Outcome Value
@@ -80,51 +86,40 @@ slot_then c at path v o g =
     (λ i. o >>= (λ old. value_twice (changed_at at path v old) (c at) g i))
     ∙ value_twice o (λ old. (changed_at at path v old) >>= (c at)) g
 
-slot_change : (c : Check) (at : Place) (path : List Value) (v : Value) (o : Outcome Value) → (after_slot c at path v o) >>= Ok ≡ (o >>= Ok) >>= (changing c at path v)
-slot_change c at path v (Ok old) = valued_on (changed_at at path v old) (c at) Ok
-slot_change c at path v (Err (fault k p)) = refl
-slot_change c at path v (Err (over p)) = refl
-
 -- the first part, and then the others
-first_change : (c : Check) (l e : Tree) → IsLeft l → (ps : Parts) (sc : Scope) → Plain sc → (s : State) (G : List Change → Outcome Value) →
+first_change : (V : Names) (c : Check) (l e : Tree) → IsLeft V l → (ps : Parts) (sc : Scope) → Plain V sc → (s : State) (G : List Change → Outcome Value) →
     (all_changes (part (head_of l) (part_of c l e) ps) sc s) >>= G ≡ on_keys c (keys_of l) (sc.env s) (λ path. (value_of c e sc s) >>= (λ v. (all_changes ps sc s) >>= (λ fs. G (changing c (root_place l) path v ∷ fs))))
-first_change c l e h ps sc n s G =
+first_change V c l e h ps sc n s G =
     on_twice (part_of c l e sc s) (λ f. (all_changes ps sc s) >>= (λ fs. Ok (f ∷ fs))) G
     ∙ (λ i. (part_of c l e sc s) >>= (λ f. on_twice (all_changes ps sc s) (λ fs. Ok (f ∷ fs)) G i))
     ∙ on_twice (reach c l sc s) (λ p. (value_of c e sc s) >>= (λ v. Ok (changing c (root_place l) p.path v))) (λ f. (all_changes ps sc s) >>= (λ fs. G (f ∷ fs)))
     ∙ (λ i. (reach c l sc s) >>= (λ p. on_twice (value_of c e sc s) (λ v. Ok (changing c (root_place l) p.path v)) (λ f. (all_changes ps sc s) >>= (λ fs. G (f ∷ fs))) i))
-    ∙ plain_reach c l h sc n s (λ p. (value_of c e sc s) >>= (λ v. (all_changes ps sc s) >>= (λ fs. G (changing c (root_place l) p.path v ∷ fs))))
+    ∙ plain_reach V c l h sc n s (λ p. (value_of c e sc s) >>= (λ v. (all_changes ps sc s) >>= (λ fs. G (changing c (root_place l) p.path v ∷ fs))))
 
-last_slot : (o : Outcome Value) → (o >>= (λ old. Ok old)) >>= Ok ≡ (o >>= Ok) >>= Ok
-last_slot (Ok v) = refl
-last_slot (Err (fault k p)) = refl
-last_slot (Err (over p)) = refl
-
-slots_law : (c : Check) (ms : Assignments) → LeftMoves ms → (sc : Scope) → Plain sc → (s : State) (o : Outcome Value) →
-    (on_all (evals c (slot_trees ms)) (sc.env s) (λ vs. o >>= (updated c (slots_of ms) vs))) >>= Ok ≡ (all_changes (parts_of c ms) sc s) >>= (λ fs. (o >>= Ok) >>= (folded fs))
-slots_law c no_assignments h sc n s o = last_slot o
-slots_law c (assignment l e ms) h sc n s o =
+slots_law : (V : Names) (c : Check) (ms : Assignments) → LeftSides V ms → (sc : Scope) → Plain V sc → (s : State) (o : Outcome Value) →
+    part_values (evals c (slot_trees ms)) (sc.env s) >>= (λ vs. o >>= (updated c (slots_of ms) vs)) ≡ (all_changes (parts_of c ms) sc s) >>= (λ fs. o >>= (folded fs))
+slots_law V c no_assignments h sc n s o = refl
+slots_law V c (assignment l e ms) h sc n s o =
     slot_law c (root_place l) (keys_of l) e (slot_trees ms) (sc.env s) o (λ old path v rest. (changed_at (root_place l) path v old) >>= (λ new. (c (root_place l) new) >>= (updated c (slots_of ms) rest)))
-    ∙ (λ i. on_keys c (keys_of l) (sc.env s) (λ path. (eval c e (sc.env s)).value >>= (λ v. (on_all (evals c (slot_trees ms)) (sc.env s) (λ ws. slot_then c (root_place l) path v o (updated c (slots_of ms) ws) i)) >>= Ok)))
-    ∙ (λ i. on_keys c (keys_of l) (sc.env s) (λ path. (eval c e (sc.env s)).value >>= (λ v. slots_law c ms h.1 sc n s (after_slot c (root_place l) path v o) i)))
-    ∙ (λ i. on_keys c (keys_of l) (sc.env s) (λ path. (eval c e (sc.env s)).value >>= (λ v. (all_changes (parts_of c ms) sc s) >>= (λ fs. (slot_change c (root_place l) path v o i) >>= (folded fs)))))
-    ∙ (λ i. on_keys c (keys_of l) (sc.env s) (λ path. (eval c e (sc.env s)).value >>= (λ v. (all_changes (parts_of c ms) sc s) >>= (λ fs. on_twice (o >>= Ok) (changing c (root_place l) path v) (folded fs) i))))
-    ∙ (λ i. on_keys c (keys_of l) (sc.env s) (λ path. sym (on_valued (eval c e (sc.env s)).value Ok (λ v. (all_changes (parts_of c ms) sc s) >>= (λ fs. (o >>= Ok) >>= (folded (changing c (root_place l) path v ∷ fs))))) i))
-    ∙ sym (first_change c l e h.0 (parts_of c ms) sc n s (λ fs. (o >>= Ok) >>= (folded fs)))
+    ∙ (λ i. on_keys c (keys_of l) (sc.env s) (λ path. (eval c e (sc.env s)).value >>= (λ v. part_values (evals c (slot_trees ms)) (sc.env s) >>= (λ ws. slot_then c (root_place l) path v o (updated c (slots_of ms) ws) i))))
+    ∙ (λ i. on_keys c (keys_of l) (sc.env s) (λ path. (eval c e (sc.env s)).value >>= (λ v. slots_law V c ms h.1 sc n s (after_slot c (root_place l) path v o) i)))
+    ∙ (λ i. on_keys c (keys_of l) (sc.env s) (λ path. (eval c e (sc.env s)).value >>= (λ v. (all_changes (parts_of c ms) sc s) >>= (λ fs. on_twice o (changing c (root_place l) path v) (folded fs) i))))
+    ∙ sym (first_change V c l e h.0 (parts_of c ms) sc n s (λ fs. o >>= (folded fs)))
 
 -- the law of EXCEPT, within any limits
-pub except_law : (c : Check) (at : Place) (y : Word) (ms : Assignments) → LeftMoves ms → (sc : Scope) → Plain sc → (s : State) → (sc.env s).now y at ≡ just (s y) → (eval c (except_of at y ms) (sc.env s)).value >>= Ok ≡ (all_changes (parts_of c ms) sc s) >>= (λ fs. folded fs (s y))
-except_law c at y ms h sc n s here =
-    (λ i. ((here i).value >>= (λ old. on_all (evals c (slot_trees ms)) (sc.env s) (λ vs. updated c (slots_of ms) vs old))) >>= Ok)
-    ∙ slots_law c ms h sc n s (Ok (s y))
+pub except_law : (V : Names) (c : Check) (at : Place) (y : Word) (ms : Assignments) → LeftSides V ms → (sc : Scope) → Plain V sc → (s : State) → (sc.env s).now y at ≡ just (s y) → (eval c (except_of at y ms) (sc.env s)).value ≡ (all_changes (parts_of c ms) sc s) >>= (λ fs. folded fs (s y))
+except_law V c at y ms h sc n s here =
+    (λ i. ((here i).value >>= (λ old. part_values (evals c (slot_trees ms)) (sc.env s) >>= (λ vs. Ok (old ∷ vs)))) >>= strict_value c (except (slots_of ms)) at)
+    ∙ then_then (part_values (evals c (slot_trees ms)) (sc.env s)) (λ vs. Ok (s y ∷ vs)) (strict_value c (except (slots_of ms)) at)
+    ∙ slots_law V c ms h sc n s (Ok (s y))
 
 -- ---- the right side of a variable
 
-own_left : (y : Word) (ms : Assignments) → LeftMoves ms → LeftMoves (own y ms)
-own_left y no_assignments h = tt
-own_left y (assignment l e ms) h = by (own_left y ms h.1) (bytes_eq (head_of l) y)
+own_left : (V : Names) (y : Word) (ms : Assignments) → LeftSides V ms → LeftSides V (own y ms)
+own_left V y no_assignments h = tt
+own_left V y (assignment l e ms) h = by (own_left V y ms h.1) (bytes_eq (head_of l) y)
   where
-    by : LeftMoves (own y ms) → (b : Bool) → LeftMoves (cond b (assignment l e (own y ms)) (own y ms))
+    by : LeftSides V (own y ms) → (b : Bool) → LeftSides V (cond b (assignment l e (own y ms)) (own y ms))
     by ih true = (h.0, ih)
     by ih false = ih
 
@@ -136,27 +131,54 @@ own_law c y (assignment l e ms) sc s = by (own_law c y ms sc s) (bytes_eq (head_
     by ih true = λ i. (part_of c l e sc s) >>= (λ f. (ih i) >>= (λ fs. Ok (f ∷ fs)))
     by ih false = ih
 
-value_again : (o : Outcome Value) → o ≡ o >>= (λ v. (Ok v) >>= Ok)
-value_again (Ok v) = refl
-value_again (Err k) = refl
-
-whole_law : (l e : Tree) → IsLeft l → (sc : Scope) → Plain sc → (s : State) (y : Word) → keys_of l ≡ [] → value_of plain e sc s ≡ (all_changes (part (head_of l) (part_of plain l e) no_parts) sc s) >>= (λ fs. folded fs (s y))
-whole_law l e h sc n s y q =
-    value_again (value_of plain e sc s)
-    ∙ sym (first_change plain l e h no_parts sc n s (λ fs. folded fs (s y))
+whole_law : (V : Names) (l e : Tree) → IsLeft V l → (sc : Scope) → Plain V sc → (s : State) (y : Word) → keys_of l ≡ [] → value_of plain e sc s ≡ (all_changes (part (head_of l) (part_of plain l e) no_parts) sc s) >>= (λ fs. folded fs (s y))
+whole_law V l e h sc n s y q =
+    sym (then_ok (value_of plain e sc s))
+    ∙ sym (first_change V plain l e h no_parts sc n s (λ fs. folded fs (s y))
     ∙ (λ i. on_keys plain (q i) (sc.env s) (λ path. (value_of plain e sc s) >>= (λ v. (changing plain (root_place l) path v (s y)) >>= Ok))))
 
-side_law : (y : Word) (ms : Assignments) → LeftMoves ms → (sc : Scope) → Plain sc → (s : State) → ((at : Place) → (sc.env s).now y at ≡ just (s y)) → (eval plain (side_of y ms) (sc.env s)).value >>= Ok ≡ (all_changes (parts_of plain ms) sc s) >>= (λ fs. folded fs (s y))
-side_law y no_assignments h sc n s here = λ i. (here nowhere i).value >>= Ok
-side_law y (assignment l e ms) h sc n s here = by (keys_of l) refl ms h
+side_law : (V : Names) (y : Word) (ms : Assignments) → LeftSides V ms → (sc : Scope) → Plain V sc → (s : State) → ((at : Place) → (sc.env s).now y at ≡ just (s y)) → (eval plain (side_of y ms) (sc.env s)).value ≡ (all_changes (parts_of plain ms) sc s) >>= (λ fs. folded fs (s y))
+side_law V y no_assignments h sc n s here = λ i. (here nowhere i).value
+side_law V y (assignment l e ms) h sc n s here = by (keys_of l) refl ms h
   where
-    by : (ks : List Key) → keys_of l ≡ ks → (us : Assignments) → LeftMoves (assignment l e us) → (eval plain (cond (is_whole (keys_of l) us) e (except_of (root_place l) y (assignment l e us))) (sc.env s)).value >>= Ok ≡ (all_changes (parts_of plain (assignment l e us)) sc s) >>= (λ fs. folded fs (s y))
-    by [] q no_assignments k = (λ i. (eval plain (cond (is_whole (q i) no_assignments) e (except_of (root_place l) y (assignment l e no_assignments))) (sc.env s)).value >>= Ok) ∙ whole_law l e k.0 sc n s y q
-    by [] q (assignment m f us) k = (λ i. (eval plain (cond (is_whole (q i) (assignment m f us)) e (except_of (root_place l) y (assignment l e (assignment m f us)))) (sc.env s)).value >>= Ok) ∙ except_law plain (root_place l) y (assignment l e (assignment m f us)) k sc n s (here (root_place l))
-    by (x ∷ ks) q us k = (λ i. (eval plain (cond (is_whole (q i) us) e (except_of (root_place l) y (assignment l e us))) (sc.env s)).value >>= Ok) ∙ except_law plain (root_place l) y (assignment l e us) k sc n s (here (root_place l))
+    by : (ks : List Key) → keys_of l ≡ ks → (us : Assignments) → LeftSides V (assignment l e us) → (eval plain (cond (is_whole (keys_of l) us) e (except_of (root_place l) y (assignment l e us))) (sc.env s)).value ≡ (all_changes (parts_of plain (assignment l e us)) sc s) >>= (λ fs. folded fs (s y))
+    by [] q no_assignments k = (λ i. (eval plain (cond (is_whole (q i) no_assignments) e (except_of (root_place l) y (assignment l e no_assignments))) (sc.env s)).value) ∙ whole_law V l e k.0 sc n s y q
+    by [] q (assignment m f us) k = (λ i. (eval plain (cond (is_whole (q i) (assignment m f us)) e (except_of (root_place l) y (assignment l e (assignment m f us)))) (sc.env s)).value) ∙ except_law V plain (root_place l) y (assignment l e (assignment m f us)) k sc n s (here (root_place l))
+    by (x ∷ ks) q us k = (λ i. (eval plain (cond (is_whole (q i) us) e (except_of (root_place l) y (assignment l e us))) (sc.env s)).value) ∙ except_law V plain (root_place l) y (assignment l e us) k sc n s (here (root_place l))
 
 -- the written right side has the value of the variable's assignments
-pub value_law : (y : Word) (ms : Assignments) → LeftMoves ms → (sc : Scope) → Plain sc → (s : State) → ((at : Place) → (sc.env s).now y at ≡ just (s y)) → (eval plain (side_of y (own y ms)) (sc.env s)).value >>= Ok ≡ value_for y (parts_of plain ms) sc s
-value_law y ms h sc n s here =
-    side_law y (own y ms) (own_left y ms h) sc n s here
+pub value_law : (V : Names) (y : Word) (ms : Assignments) → LeftSides V ms → (sc : Scope) → Plain V sc → (s : State) → ((at : Place) → (sc.env s).now y at ≡ just (s y)) → (eval plain (side_of y (own y ms)) (sc.env s)).value ≡ value_for y (parts_of plain ms) sc s
+value_law V y ms h sc n s here =
+    side_law V y (own y ms) (own_left V y ms h) sc n s here
     ∙ (λ i. (sym (own_law plain y ms sc s) i) >>= (λ fs. folded fs (s y)))
+
+-- ---- by its settings
+
+abbrev changes_of : Changes → List Change
+changes_of no_changes = []
+changes_of (change x f fs) = f ∷ changes_of fs
+
+all_law : {X : Type 0} (ps : Parts) (sc : Scope) (s : State) (G : List Change → Outcome X) → (all_changes ps sc s) >>= G ≡ (evaluated ps sc s) >>= (λ fs. G (changes_of fs))
+all_law no_parts sc s G = refl
+all_law (part x e ps) sc s G =
+    on_twice (e sc s) (λ f. (all_changes ps sc s) >>= (λ fs. Ok (f ∷ fs))) G
+    ∙ (λ i. (e sc s) >>= (λ f. on_twice (all_changes ps sc s) (λ fs. Ok (f ∷ fs)) G i))
+    ∙ (λ i. (e sc s) >>= (λ f. all_law ps sc s (λ fs. G (f ∷ fs)) i))
+    ∙ sym (
+    on_twice (e sc s) (λ f. (evaluated ps sc s) >>= (λ fs. Ok (change x f fs))) (λ fs. G (changes_of fs))
+    ∙ (λ i. (e sc s) >>= (λ f. on_twice (evaluated ps sc s) (λ fs. Ok (change x f fs)) (λ fs. G (changes_of fs)) i)))
+
+by_settings : (c : Check) (all : List Setting) (v : Value) → changed_by c all v ≡ folded (changes_of (to_changes c all)) v
+by_settings c [] v = refl
+by_settings c (m ∷ ms) v =
+    (λ i. (changed_at m.place m.part.path m.value v) >>= (λ w. (c m.place w) >>= (λ u. by_settings c ms u i)))
+    ∙ sym (on_twice (changed_at m.place m.part.path m.value v) (c m.place) (folded (changes_of (to_changes c ms))))
+
+plain_named : (V : Names) (sc : Scope) → Plain V sc → Named V sc
+plain_named V sc h x m at s = ([], h x m at s)
+
+pub except_settings : (V : Names) (c : Check) (at : Place) (y : Word) (ms : Assignments) → LeftSides V ms → (sc : Scope) → Plain V sc → (s : State) → (sc.env s).now y at ≡ just (s y) → (eval c (except_of at y ms) (sc.env s)).value ≡ value_after c ms sc s (s y)
+except_settings V c at y ms h sc n s here =
+    except_law V c at y ms h sc n s here
+    ∙ all_law (parts_of c ms) sc s (λ fs. folded fs (s y))
+    ∙ sym (settings_law V c ms h sc (plain_named V sc n) s (λ all. changed_by c all (s y)) (λ fs. folded (changes_of fs) (s y)) (λ all. by_settings c all (s y)))

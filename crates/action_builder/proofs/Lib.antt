@@ -1,3 +1,6 @@
+pub mod Effects
+pub mod Actions
+pub mod Names
 pub mod Equal
 pub mod Sets
 pub mod Parts
@@ -13,11 +16,17 @@ pub mod Matching
 pub mod Truth
 pub mod Items
 pub mod Begins
-pub mod Moved
+pub mod Jumps
 pub mod Call
 pub mod Prepared
 pub mod Rules
 pub mod Steps
 pub mod Label
+pub mod Alike
+pub mod ItemPlaces
+pub mod AnyPlace
+pub mod SingleProcess
 mod Rows
+mod RowsSample
+pub mod Decided
 pub mod Witness

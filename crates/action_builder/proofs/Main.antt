@@ -1,13 +1,16 @@
 -- The written action is true exactly of the steps that a run makes.
 use Rattle.std.proofs.Common.{◌≡◌, List, [], ◌∷◌, ◌++◌, Bool, true, false, cond, ◌||◌, bytes_eq, ◌⊎◌, refl, sym, ◌∙◌, ap, subst, inl, inr, ⊎_elim, Ok, Err}
 use Rattle.std.proofs.lemmas.Bool.{cases_Bool, or_cases, both_ways}
+use Rattle.tla_token.specs.Signs.{is_among}
 use Rattle.tla_expr.specs.Tree.{Word}
-use Rattle.tla_value.specs.Value.{Value, Values, no_values, and}
+use Rattle.tla_value.specs.Value.{Value, Values, no_values, and, Outcome, ◌>>=◌, and_then, or_all, IsBad}
 use Rattle.tla_value.specs.Order.{same}
-use Rattle.pcal_tree.specs.Scope.{Scope, bound}
+use Rattle.pcal_tree.specs.Scope.{Scope, bound, State}
 use Rattle.action_builder.proofs.Equal.{name-true, value-true}
-use Rattle.pcal_tree.specs.Scope.{State, Outcome, ◌>>=◌}
-use Rattle.action_builder.specs.Action.{Names, member, more, mid, Effect, assign, await, branch, either, choose, Effects, done, then, Ways, no_ways, way, Parts, firsts, moved, value_for, hold_sets, settings_of, assigned, assigned_in, assigned_by, Awaits, Chosen, SomeOf, Picks, RunOne, Run, RunSome, Item, unchanged, Items, none, item, all_same, and_then, or_all, some_member, holds, hold, hold_some, ended, minus, build_one, build, build_some, OnceOne, Once, OnceSome, IsBad}
+use Rattle.action_builder.specs.Assigned.{Names, more}
+use Rattle.action_builder.specs.laws.States.{mid}
+use Rattle.action_builder.proofs.Effects.{Effect, assign, await, branch, either, choose, Effects, done, then, Ways, no_ways, way, Parts, firsts, moved, effect_names, effects_names, ways_names, Awaits, Chosen, SomeOf, Picks, RunOne, Run, RunSome}
+use Rattle.action_builder.proofs.Actions.{value_for, hold_sets, settings_of, Item, unchanged, Items, none, item, all_same, some_member, holds, hold, hold_some, ended, minus, build_one, build, build_some, OnceOne, Once, OnceSome}
 use Rattle.action_builder.proofs.Sets.{or_left, or_right, or_none, member_append, more_append, mid_in, mid_out, is_mid, mid_grow, minus_same}
 use Rattle.action_builder.proofs.Parts.{moved_good, moved_bad, value_kept, bad_assigned}
 use Rattle.action_builder.proofs.Frame.{got_same, got_bad}
@@ -47,14 +50,14 @@ value_true : (o : Outcome Value) (w : Value) → o >>= (λ v. Ok (same w v)) ≡
 value_true (Ok v) w e = ap Ok (sym (value-true w v (got_same (same w v) true e)))
 value_true (Err k) w e = got_bad true k (sym e)
 
-pub sets_values : (A : Names) (ps : Parts) (c : Scope) (s t : State) (ys : List Word) → hold_sets (settings_of A ps ys) c s t ≡ Ok true → (y : Word) → member ys y ≡ true → value_for y ps c (mid s t A) ≡ Ok (t y)
+pub sets_values : (A : Names) (ps : Parts) (c : Scope) (s t : State) (ys : List Word) → hold_sets (settings_of A ps ys) c s t ≡ Ok true → (y : Word) → is_among ys y ≡ true → value_for y ps c (mid s t A) ≡ Ok (t y)
 sets_values A ps c s t [] h y m = absurd (both_ways false refl m)
 sets_values A ps c s t (z ∷ ys) h y m =
     let p = both_true _ _ h in
     ⊎_elim
     (λ a. subst (λ x. value_for x ps c (mid s t A) ≡ Ok (t x)) (name-true z y a) (value_true (value_for z ps c (mid s t A)) (t z) p.0))
     (λ b. sets_values A ps c s t ys p.1 y b)
-    (or_cases (bytes_eq z y) (member ys y) m)
+    (or_cases (bytes_eq z y) (is_among ys y) m)
 
 is_bad_not : {X P : Type 0} (o : Outcome X) (x : X) → IsBad o → o ≡ Ok x → P
 is_bad_not o x b e = absurd (subst IsBad e b)
@@ -63,17 +66,17 @@ is_bad_not o x b e = absurd (subst IsBad e b)
 pub assign_true : (A : Names) (ps : Parts) (c : Scope) (s t : State) → hold_sets (settings_of A ps (firsts ps)) c s t ≡ Ok true → Ok (mid s t (more A (firsts ps))) ≡ moved ps c (mid s t A)
 assign_true A ps c s t h = by (moved ps c (mid s t A)) refl
   where
-    there : (u : State) → moved ps c (mid s t A) ≡ Ok u → (x : Word) → member (firsts ps) x ≡ true → u x ≡ t x
+    there : (u : State) → moved ps c (mid s t A) ≡ Ok u → (x : Word) → is_among (firsts ps) x ≡ true → u x ≡ t x
     there u p x m = got_same (u x) (t x) (sym (moved_good ps c (mid s t A) u p x) ∙ sets_values A ps c s t (firsts ps) h x m)
 
-    kept : (u : State) → moved ps c (mid s t A) ≡ Ok u → (x : Word) → member (firsts ps) x ≡ false → u x ≡ mid s t A x
+    kept : (u : State) → moved ps c (mid s t A) ≡ Ok u → (x : Word) → is_among (firsts ps) x ≡ false → u x ≡ mid s t A x
     kept u p x m = got_same (u x) (mid s t A x) (sym (moved_good ps c (mid s t A) u p x) ∙ value_kept ps c (mid s t A) x m)
 
     inside : (u : State) → moved ps c (mid s t A) ≡ Ok u → (x : Word) → more A (firsts ps) x ≡ true → u x ≡ t x
-    inside u p x e = ⊎_elim (λ m. there u p x m) (λ m. kept u p x m ∙ mid_in s t A x (⊎_elim (λ a. a) (λ b. absurd (both_ways (member (firsts ps) x) m b)) (or_cases (A x) (member (firsts ps) x) e))) (cases_Bool (member (firsts ps) x))
+    inside u p x e = ⊎_elim (λ m. there u p x m) (λ m. kept u p x m ∙ mid_in s t A x (⊎_elim (λ a. a) (λ b. absurd (both_ways (is_among (firsts ps) x) m b)) (or_cases (A x) (is_among (firsts ps) x) e))) (cases_Bool (is_among (firsts ps) x))
 
     outside : (u : State) → moved ps c (mid s t A) ≡ Ok u → (x : Word) → more A (firsts ps) x ≡ false → u x ≡ s x
-    outside u p x e = let q = or_none (A x) (member (firsts ps) x) e in kept u p x q.1 ∙ mid_out s t A x q.0
+    outside u p x e = let q = or_none (A x) (is_among (firsts ps) x) e in kept u p x q.1 ∙ mid_out s t A x q.0
 
     by : (o : Outcome State) → moved ps c (mid s t A) ≡ o → Ok (mid s t (more A (firsts ps))) ≡ moved ps c (mid s t A)
     by (Ok u) p = sym (p ∙ ap Ok (is_mid s t u (more A (firsts ps)) (inside u p) (outside u p)))
@@ -84,52 +87,52 @@ assign_true A ps c s t h = by (moved ps c (mid s t A)) refl
 -- ---- apart
 
 more_false : (A : Names) (xs : List Word) (x : Word) → more A xs x ≡ false → A x ≡ false
-more_false A xs x e = (or_none (A x) (member xs x) e).0
+more_false A xs x e = (or_none (A x) (is_among xs x) e).0
 
-pub append_cases : (xs ys : List Word) (x : Word) → member (xs ++ ys) x ≡ true → (member xs x ≡ true) ⊎ (member ys x ≡ true)
-append_cases xs ys x e = or_cases (member xs x) (member ys x) (sym (member_append xs ys x) ∙ e)
+pub append_cases : (xs ys : List Word) (x : Word) → is_among (xs ++ ys) x ≡ true → (is_among xs x ≡ true) ⊎ (is_among ys x ≡ true)
+append_cases xs ys x e = or_cases (is_among xs x) (is_among ys x) (sym (member_append xs ys x) ∙ e)
 
-pub in_front : (xs ys : List Word) (x : Word) → member xs x ≡ true → member (xs ++ ys) x ≡ true
-in_front xs ys x e = member_append xs ys x ∙ or_left (member xs x) (member ys x) e
+pub in_front : (xs ys : List Word) (x : Word) → is_among xs x ≡ true → is_among (xs ++ ys) x ≡ true
+in_front xs ys x e = member_append xs ys x ∙ or_left (is_among xs x) (is_among ys x) e
 
-pub behind : (xs ys : List Word) (x : Word) → member ys x ≡ true → member (xs ++ ys) x ≡ true
-behind xs ys x e = member_append xs ys x ∙ or_right (member xs x) (member ys x) e
+pub behind : (xs ys : List Word) (x : Word) → is_among ys x ≡ true → is_among (xs ++ ys) x ≡ true
+behind xs ys x e = member_append xs ys x ∙ or_right (is_among xs x) (is_among ys x) e
 
 mutual
-  pub apart_one : (A : Names) (st : Effect) → OnceOne A st → (x : Word) → member (assigned st) x ≡ true → A x ≡ false
+  pub apart_one : (A : Names) (st : Effect) → OnceOne A st → (x : Word) → is_among (effect_names st) x ≡ true → A x ≡ false
   apart_one A (assign ps) h x m = h x m
   apart_one A (await e) h x m = absurd (both_ways false refl m)
-  apart_one A (branch e a b) h x m = ⊎_elim (apart A a h.0 x) (apart A b h.1 x) (append_cases (assigned_in a) (assigned_in b) x m)
+  apart_one A (branch e a b) h x m = ⊎_elim (apart A a h.0 x) (apart A b h.1 x) (append_cases (effects_names a) (effects_names b) x m)
   apart_one A (either bs) h x m = apart_by A bs h x m
   apart_one A (choose y e b) h x m = apart A b h x m
 
-  pub apart : (A : Names) (ss : Effects) → Once A ss → (x : Word) → member (assigned_in ss) x ≡ true → A x ≡ false
+  pub apart : (A : Names) (ss : Effects) → Once A ss → (x : Word) → is_among (effects_names ss) x ≡ true → A x ≡ false
   apart A done h x m = absurd (both_ways false refl m)
   apart A (then st rest) h x m =
-      ⊎_elim (apart_one A st h.0 x) (λ k. more_false A (assigned st) x (apart (more A (assigned st)) rest h.1 x k)) (append_cases (assigned st) (assigned_in rest) x m)
+      ⊎_elim (apart_one A st h.0 x) (λ k. more_false A (effect_names st) x (apart (more A (effect_names st)) rest h.1 x k)) (append_cases (effect_names st) (effects_names rest) x m)
 
-  pub apart_by : (A : Names) (bs : Ways) → OnceSome A bs → (x : Word) → member (assigned_by bs) x ≡ true → A x ≡ false
+  pub apart_by : (A : Names) (bs : Ways) → OnceSome A bs → (x : Word) → is_among (ways_names bs) x ≡ true → A x ≡ false
   apart_by A no_ways h x m = absurd (both_ways false refl m)
-  apart_by A (way b bs) h x m = ⊎_elim (apart A b h.0 x) (apart_by A bs h.1 x) (append_cases (assigned_in b) (assigned_by bs) x m)
+  apart_by A (way b bs) h x m = ⊎_elim (apart A b h.0 x) (apart_by A bs h.1 x) (append_cases (effects_names b) (ways_names bs) x m)
 
 -- A branch, and what it leaves unchanged of the names of all branches
 
 abbrev pub Within : List Word → List Word → Type 0
-Within xs ys = (x : Word) → member xs x ≡ true → member ys x ≡ true
+Within xs ys = (x : Word) → is_among xs x ≡ true → is_among ys x ≡ true
 
 abbrev pub Covers : List Word → List Word → List Word → Type 0
-Covers own other all = (x : Word) → member all x ≡ true → (member own x ≡ true) ⊎ (member other x ≡ true)
+Covers own other all = (x : Word) → is_among all x ≡ true → (is_among own x ≡ true) ⊎ (is_among other x ≡ true)
 
 more_within : (A : Names) (xs ys : List Word) → Within xs ys → (x : Word) → more A xs x ≡ true → more A ys x ≡ true
-more_within A xs ys h x e = ⊎_elim (λ a. or_left (A x) (member ys x) a) (λ b. or_right (A x) (member ys x) (h x b)) (or_cases (A x) (member xs x) e)
+more_within A xs ys h x e = ⊎_elim (λ a. or_left (A x) (is_among ys x) a) (λ b. or_right (A x) (is_among ys x) (h x b)) (or_cases (A x) (is_among xs x) e)
 
 pub grown : (s t : State) (A : Names) (own other all : List Word) → Within own all → Covers own other all → all_same (minus other own) s t ≡ true → mid s t (more A own) ≡ mid s t (more A all)
-grown s t A own other all w v same = mid_grow s t (more A own) (more A all) (more_within A own all w) (λ x out inside. at x (or_none (A x) (member own x) out) inside)
+grown s t A own other all w v same = mid_grow s t (more A own) (more A all) (more_within A own all w) (λ x out inside. at x (or_none (A x) (is_among own x) out) inside)
   where
-    at : (x : Word) → (A x ≡ false) × (member own x ≡ false) → more A all x ≡ true → t x ≡ s x
+    at : (x : Word) → (A x ≡ false) × (is_among own x ≡ false) → more A all x ≡ true → t x ≡ s x
     at x out inside =
-        let in_all : member all x ≡ true = ⊎_elim (λ a. absurd (both_ways (A x) out.0 a)) (λ b. b) (or_cases (A x) (member all x) inside) in
-        ⊎_elim (λ a. absurd (both_ways (member own x) out.1 a)) (λ b. minus_same other own s t same x b out.1) (v x in_all)
+        let in_all : is_among all x ≡ true = ⊎_elim (λ a. absurd (both_ways (A x) out.0 a)) (λ b. b) (or_cases (A x) (is_among all x) inside) in
+        ⊎_elim (λ a. absurd (both_ways (is_among own x) out.1 a)) (λ b. minus_same other own s t same x b out.1) (v x in_all)
 
 -- ---- true, so a run fits
 
@@ -168,29 +171,29 @@ ended_run A b own other all c s t w v e run =
     subst (λ m. Run b c (mid s t A) (Ok m)) (grown s t A own other all w v parts.1) (run parts.0)
 
 mutual
-  pub true_one : (A : Names) (st : Effect) (c : Scope) (s t : State) → holds (build_one A st) c s t ≡ Ok true → RunOne st c (mid s t A) (End s t A (assigned st))
+  pub true_one : (A : Names) (st : Effect) (c : Scope) (s t : State) → holds (build_one A st) c s t ≡ Ok true → RunOne st c (mid s t A) (End s t A (effect_names st))
   true_one A (assign ps) c s t h = assign_true A ps c s t h
   true_one A (await e) c s t h = await_true (e c (mid s t A)) A s t h
   true_one A (branch e a b) c s t h =
       branch_true (e c (mid s t A)) _ _ _ _ _ h
-      (λ k. ended_run A a (assigned_in a) (assigned_in b) (assigned_in a ++ assigned_in b) c s t (in_front (assigned_in a) (assigned_in b)) (append_cases (assigned_in a) (assigned_in b)) k (λ m. true_all A a c s t m))
-      (λ k. ended_run A b (assigned_in b) (assigned_in a) (assigned_in a ++ assigned_in b) c s t (behind (assigned_in a) (assigned_in b)) (λ x m. ⊎_elim inr inl (append_cases (assigned_in a) (assigned_in b) x m)) k (λ m. true_all A b c s t m))
-  true_one A (either bs) c s t h = true_some A (assigned_by bs) bs c s t (λ x m. m) h
+      (λ k. ended_run A a (effects_names a) (effects_names b) (effects_names a ++ effects_names b) c s t (in_front (effects_names a) (effects_names b)) (append_cases (effects_names a) (effects_names b)) k (λ m. true_all A a c s t m))
+      (λ k. ended_run A b (effects_names b) (effects_names a) (effects_names a ++ effects_names b) c s t (behind (effects_names a) (effects_names b)) (λ x m. ⊎_elim inr inl (append_cases (effects_names a) (effects_names b) x m)) k (λ m. true_all A b c s t m))
+  true_one A (either bs) c s t h = true_some A (ways_names bs) bs c s t (λ x m. m) h
   true_one A (choose x e b) c s t h = pick_true (e c (mid s t A)) _ _ _ h (λ v k. true_all A b (bound x v c) s t k)
 
-  pub true_all : (A : Names) (ss : Effects) (c : Scope) (s t : State) → hold (build A ss) c s t ≡ Ok true → Run ss c (mid s t A) (End s t A (assigned_in ss))
+  pub true_all : (A : Names) (ss : Effects) (c : Scope) (s t : State) → hold (build A ss) c s t ≡ Ok true → Run ss c (mid s t A) (End s t A (effects_names ss))
   true_all A done c s t h = ap Ok (more_nil s t A)
   true_all A (then st rest) c s t h =
-      let parts = both_true (holds (build_one A st) c s t) (hold (build (more A (assigned st)) rest) c s t) h in (
-        End s t A (assigned st),
+      let parts = both_true (holds (build_one A st) c s t) (hold (build (more A (effect_names st)) rest) c s t) h in (
+        End s t A (effect_names st),
         true_one A st c s t parts.0,
-        subst (λ B. Run rest c (mid s t (more A (assigned st))) (Ok (mid s t B))) (sym (more_append A (assigned st) (assigned_in rest))) (true_all (more A (assigned st)) rest c s t parts.1),
+        subst (λ B. Run rest c (mid s t (more A (effect_names st))) (Ok (mid s t B))) (sym (more_append A (effect_names st) (effects_names rest))) (true_all (more A (effect_names st)) rest c s t parts.1),
       )
 
-  true_some : (A : Names) (all : List Word) (bs : Ways) (c : Scope) (s t : State) → Within (assigned_by bs) all → hold_some (build_some A all bs) c s t ≡ Ok true → RunSome bs c (mid s t A) (End s t A all)
+  true_some : (A : Names) (all : List Word) (bs : Ways) (c : Scope) (s t : State) → Within (ways_names bs) all → hold_some (build_some A all bs) c s t ≡ Ok true → RunSome bs c (mid s t A) (End s t A all)
   true_some A all no_ways c s t w h = got_bool h
   true_some A all (way b bs) c s t w h =
       ⊎_elim
-      (λ k. inl (ended_run A b (assigned_in b) all all c s t (λ x m. w x (in_front (assigned_in b) (assigned_by bs) x m)) (λ x m. inr m) k (λ m. true_all A b c s t m)))
-      (λ k. inr (true_some A all bs c s t (λ x m. w x (behind (assigned_in b) (assigned_by bs) x m)) k))
+      (λ k. inl (ended_run A b (effects_names b) all all c s t (λ x m. w x (in_front (effects_names b) (ways_names bs) x m)) (λ x m. inr m) k (λ m. true_all A b c s t m)))
+      (λ k. inr (true_some A all bs c s t (λ x m. w x (behind (effects_names b) (ways_names bs) x m)) k))
       (either_true _ _ h)

@@ -1,26 +1,29 @@
 -- Verdicts that match, and the parts of which the truth of the written items is put together.
 use Rattle.std.proofs.Common.{◌≡◌, List, [], ◌∷◌, ◌++◌, Bool, true, false, cond, not, ◌||◌, ◌&&◌, bytes_eq, Some, None, ◌⊎◌, refl, sym, ◌∙◌, ap, subst, ⊎_elim, inl, inr, Ok, Err}
 use Rattle.std.proofs.lemmas.Bool.{cases_Bool, or_cases, both_ways, and_parts}
+use Rattle.tla_token.specs.Signs.{is_among}
 use Rattle.tla_token.specs.declared.place.Place.{Place}
 use Rattle.tla_expr.specs.Tree.{Word, Form, name, next, strict, select, Tree, node, Trees, no_trees, tree, Every, EveryOf}
 use Rattle.tla_value.specs.declared.fault.FaultKind.TheVariants.{AssertFailed}
-use Rattle.tla_value.specs.Value.{Value, truth, int, text, model, set, fun, Values, no_values, and, Outcome, ◌>>=◌}
+use Rattle.tla_value.specs.Value.{Value, truth, int, text, model, set, fun, Values, no_values, and, Outcome, ◌>>=◌, fault, and_then, or_all}
 use Rattle.tla_value.specs.Value as Values
 use Rattle.tla_value.specs.Order.{same}
-use Rattle.tla_value.specs.Stops.{plain, on_truth}
+use Rattle.tla_value.specs.Stops.{plain, truth_at, members_at}
+use Rattle.tla_value.specs.Standard.{printed, asserted, standard_value}
 use Rattle.tla_value.specs.Meaning.{Env, just, bind, eval}
 use Rattle.tla_value.specs.Related.{In}
-use Rattle.tla_value.proofs.Graft.{every_weaker}
-use Rattle.tla_value.proofs.Primes.{Between, Unprimed, unprimed_law}
+use Rattle.tla_value.proofs.Primes.{Unprimed, unprimed_law}
+use Rattle.tla_value.proofs.Facts.{every_weaker}
 use Rattle.tla_value.proofs.Primes as Primes
-use Rattle.module_text.specs.Truth.{Verdict, as_truth, as_set, at_each, is_value, same_look, items_hold, item_holds, some_branch}
-use Rattle.module_text.specs.Truth as Module
+use Rattle.module_text.specs.ActionTruth.{Verdict, is_unchanged}
+use Rattle.module_text.specs.ActionTruth as Module
 use Rattle.pcal_tree.specs.Algorithm.{Assignments, no_assignments, assignment}
-use Rattle.pcal_tree.specs.Scope.{State, Outcome, fault, ◌>>=◌, Scope, bound, root_place, truth_at, members_at}
-use Rattle.action_builder.specs.Action.{Names, member, mid, minus, all_same, and_then, or_all, some_member}
-use Rattle.action_builder.specs.Effects.{head_of}
+use Rattle.pcal_tree.specs.Scope.{State, Scope, bound, root_place}
+use Rattle.action_builder.specs.Assigned.{Names, head_of}
+use Rattle.action_builder.specs.laws.States.{mid}
+use Rattle.action_builder.proofs.Actions.{minus, all_same, some_member}
+use Rattle.action_builder.specs.laws.Ready.{Readable, Halfway, IsWithin, Paired, Scoped, NoNext, Plain, FineTree, FineSides, values_of}
 use Rattle.action_builder.specs.Written.{Key, sub, fixed, subs, keys_of, keys_first, keys_in, subscripts, own, slot_trees, except_of, is_whole, side_of, primed, left_of}
-use Rattle.action_builder.specs.Ready.{Readable, Halfway, IsWithin, Paired, Scoped, NoNext, Plain, FineTree, FineSides, values_of, Matches}
 use Rattle.action_builder.proofs.Equal.{name-true, eq-name, value-true, eq-value}
 use Rattle.action_builder.proofs.Sets.{or_left, or_right, minus_same, same_minus}
 use Rattle.action_builder.proofs.Main.{Within}
@@ -28,7 +31,14 @@ use Rattle.action_builder.proofs.Denotations.{on_twice}
 
 -- ---- verdicts that match
 
-pub match_and : (p q : Verdict) (v w : Outcome Bool) → Matches p v → Matches q w → Matches (Module.and_then p q) (and_then v w)
+-- the same truth value, or neither has one
+abbrev pub Matches : Verdict → Verdict → Type 0
+Matches (Ok a) (Ok b) = a ≡ b
+Matches (Ok a) (Err k) = ⊥
+Matches (Err k) (Ok b) = ⊥
+Matches (Err j) (Err k) = Unit {0}
+
+pub match_and : (p q : Verdict) (v w : Outcome Bool) → Matches p v → Matches q w → Matches (Values.and_then p q) (and_then v w)
 match_and (Ok true) q (Ok true) w h k = k
 match_and (Ok true) q (Ok false) w h k = cc
 match_and (Ok false) q (Ok true) w h k = cc
@@ -37,7 +47,7 @@ match_and (Ok b) q (Err j) w h k = absurd h
 match_and (Err j) q (Ok b) w h k = absurd h
 match_and (Err j) q (Err i) w h k = tt
 
-pub match_or : (p q : Verdict) (v w : Outcome Bool) → Matches p v → Matches q w → Matches (Module.or_all p q) (or_all v w)
+pub match_or : (p q : Verdict) (v w : Outcome Bool) → Matches p v → Matches q w → Matches (Values.or_all p q) (or_all v w)
 match_or (Ok a) (Ok b) (Ok c) (Ok d) h k = λ i. h i || k i
 match_or (Ok a) (Ok b) (Ok c) (Err j) h k = absurd k
 match_or (Ok a) (Err j) (Ok c) (Ok d) h k = absurd k
@@ -46,13 +56,13 @@ match_or (Ok a) q (Err j) w h k = absurd h
 match_or (Err j) q (Ok b) w h k = absurd h
 match_or (Err j) q (Err i) w h k = tt
 
-pub match_value : (o : Outcome Value) (f : Value → Verdict) (g : Value → Outcome Bool) → ((v : Value) → Matches (f v) (g v)) → Matches (o >>= f) ((o >>= Ok) >>= g)
+pub match_value : (o : Outcome Value) (f : Value → Verdict) (g : Value → Outcome Bool) → ((v : Value) → Matches (f v) (g v)) → Matches (o >>= f) (o >>= g)
 match_value (Ok v) f g h = h v
 match_value (Err (Values.fault k p)) f g h = tt
 match_value (Err (Values.over p)) f g h = tt
 
 -- where a truth value is needed; places do not matter
-pub match_truth : (at p : Place) (v : Value) (f : Bool → Verdict) (g : Bool → Outcome Bool) → ((b : Bool) → Matches (f b) (g b)) → Matches (as_truth at v f) ((truth_at p v) >>= g)
+pub match_truth : (at p : Place) (v : Value) (f : Bool → Verdict) (g : Bool → Outcome Bool) → ((b : Bool) → Matches (f b) (g b)) → Matches ((truth_at at v) >>= f) ((truth_at p v) >>= g)
 match_truth at p (truth b) f g h = h b
 match_truth at p (int n) f g h = tt
 match_truth at p (text w) f g h = tt
@@ -60,11 +70,11 @@ match_truth at p (model w) f g h = tt
 match_truth at p (set vs) f g h = tt
 match_truth at p (fun ds rs) f g h = tt
 
-pub match_members : (vs : Values) (f : Value → Verdict) (g : Value → Outcome Bool) → ((v : Value) → Matches (f v) (g v)) → Matches (at_each vs f) (some_member vs g)
+pub match_members : (vs : Values) (f : Value → Verdict) (g : Value → Outcome Bool) → ((v : Value) → Matches (f v) (g v)) → Matches (Module.some_member vs f) (some_member vs g)
 match_members no_values f g h = refl
-match_members (and v vs) f g h = match_or (f v) (at_each vs f) (g v) (some_member vs g) (h v) (match_members vs f g h)
+match_members (and v vs) f g h = match_or (f v) (Module.some_member vs f) (g v) (some_member vs g) (h v) (match_members vs f g h)
 
-pub match_set : (at p : Place) (v : Value) (f : Value → Verdict) (g : Value → Outcome Bool) → ((v : Value) → Matches (f v) (g v)) → Matches (as_set at v (λ vs. at_each vs f)) ((members_at p v) >>= (λ vs. some_member vs g))
+pub match_set : (at p : Place) (v : Value) (f : Value → Verdict) (g : Value → Outcome Bool) → ((v : Value) → Matches (f v) (g v)) → Matches ((members_at at v) >>= (λ vs. Module.some_member vs f)) ((members_at p v) >>= (λ vs. some_member vs g))
 match_set at p (truth b) f g h = tt
 match_set at p (int n) f g h = tt
 match_set at p (text w) f g h = tt
@@ -72,14 +82,15 @@ match_set at p (model w) f g h = tt
 match_set at p (set vs) f g h = match_members vs f g h
 match_set at p (fun ds rs) f g h = tt
 
-pub match_test : (o : Outcome Value) (at p : Place) (f : Bool → Verdict) (g : Bool → Outcome Bool) → ((b : Bool) → Matches (f b) (g b)) → Matches (o >>= (λ v. as_truth at v f)) (((o >>= Ok) >>= (truth_at p)) >>= g)
-match_test o at p f g h =
-    subst (Matches (o >>= (λ v. as_truth at v f))) (sym (on_twice (o >>= Ok) (truth_at p) g)) (match_value o (λ v. as_truth at v f) (λ v. (truth_at p v) >>= g) (λ v. match_truth at p v f g h))
+pub match_test : (o : Outcome Value) (at p : Place) (f : Bool → Verdict) (g : Bool → Outcome Bool) → ((b : Bool) → Matches (f b) (g b)) → Matches ((o >>= truth_at at) >>= f) ((o >>= (truth_at p)) >>= g)
+match_test (Ok v) at p f g h = match_truth at p v f g h
+match_test (Err (Values.fault k q)) at p f g h = tt
+match_test (Err (Values.over q)) at p f g h = tt
 
-pub match_some : (o : Outcome Value) (at p : Place) (f : Value → Verdict) (g : Value → Outcome Bool) → ((v : Value) → Matches (f v) (g v)) → Matches (o >>= (λ v. as_set at v (λ vs. at_each vs f))) (((o >>= Ok) >>= (members_at p)) >>= (λ vs. some_member vs g))
-match_some o at p f g h =
-    subst (Matches (o >>= (λ v. as_set at v (λ vs. at_each vs f)))) (sym (on_twice (o >>= Ok) (members_at p) (λ vs. some_member vs g)))
-    (match_value o (λ v. as_set at v (λ vs. at_each vs f)) (λ v. (members_at p v) >>= (λ vs. some_member vs g)) (λ v. match_set at p v f g h))
+pub match_some : (o : Outcome Value) (at p : Place) (f : Value → Verdict) (g : Value → Outcome Bool) → ((v : Value) → Matches (f v) (g v)) → Matches ((o >>= members_at at) >>= (λ vs. Module.some_member vs f)) ((o >>= (members_at p)) >>= (λ vs. some_member vs g))
+match_some (Ok v) at p f g h = match_set at p v f g h
+match_some (Err (Values.fault k q)) at p f g h = tt
+match_some (Err (Values.over q)) at p f g h = tt
 
 pub match_once : (p : Verdict) (v : Outcome Bool) → Matches p v → Matches p (or_all v (Ok false))
 match_once (Ok true) (Ok true) h = refl
@@ -90,19 +101,19 @@ match_once (Ok b) (Err k) h = absurd h
 match_once (Err j) (Ok b) h = absurd h
 match_once (Err j) (Err k) h = tt
 
-pub match_one : (o : Outcome Value) (f : Value → Verdict) (g : Value → Outcome Bool) → ((v : Value) → Matches (f v) (g v)) → Matches (o >>= f) (((o >>= Ok) >>= (λ v. Ok (and v no_values))) >>= (λ vs. some_member vs g))
+pub match_one : (o : Outcome Value) (f : Value → Verdict) (g : Value → Outcome Bool) → ((v : Value) → Matches (f v) (g v)) → Matches (o >>= f) ((o >>= (λ v. Ok (and v no_values))) >>= (λ vs. some_member vs g))
 match_one o f g h =
-    subst (Matches (o >>= f)) (sym (on_twice (o >>= Ok) (λ v. Ok (and v no_values)) (λ vs. some_member vs g)))
+    subst (Matches (o >>= f)) (sym (on_twice o (λ v. Ok (and v no_values)) (λ vs. some_member vs g)))
     (match_value o f (λ v. or_all (g v) (Ok false)) (λ v. match_once (f v) (g v) (h v)))
 
-pub match_true : (v : Outcome Bool) (p : Verdict) → Matches p v → Matches (Module.and_then p (Ok true)) (and_then v (Ok true))
+pub match_true : (v : Outcome Bool) (p : Verdict) → Matches p v → Matches (Values.and_then p (Ok true)) (and_then v (Ok true))
 match_true v p h = match_and p (Ok true) v (Ok true) h refl
 
 -- a truth value that is got as it is
-pub match_told : (o : Outcome Value) (at p : Place) → Matches (o >>= (λ v. as_truth at v Ok)) ((o >>= Ok) >>= (truth_at p))
-match_told o at p = match_value o (λ v. as_truth at v Ok) (truth_at p) (λ v. by v)
+pub match_told : (o : Outcome Value) (at p : Place) → Matches (o >>= truth_at at) (o >>= (truth_at p))
+match_told o at p = match_value o (truth_at at) (truth_at p) (λ v. by v)
   where
-    by : (v : Value) → Matches (as_truth at v Ok) (truth_at p v)
+    by : (v : Value) → Matches (truth_at at v) (truth_at p v)
     by (truth b) = refl
     by (int n) = tt
     by (text w) = tt
@@ -110,21 +121,21 @@ match_told o at p = match_value o (λ v. as_truth at v Ok) (truth_at p) (λ v. b
     by (set vs) = tt
     by (fun ds rs) = tt
 
-pub match_print : (o : Outcome Value) (at : Place) → Matches ((o >>= (λ v. Ok (truth true))) >>= (λ v. as_truth at v Ok)) ((o >>= Ok) >>= (λ v. Ok true))
+pub match_print : (o : Outcome Value) (at : Place) → Matches (((o >>= (λ v. Ok (v ∷ []))) >>= standard_value plain printed at) >>= truth_at at) (o >>= (λ v. Ok true))
 match_print (Ok v) at = refl
 match_print (Err (Values.fault k p)) at = tt
 match_print (Err (Values.over p)) at = tt
 
-pub match_assert : (o : Outcome Value) (at p q : Place) → Matches ((o >>= (λ v. on_truth at v (λ b. cond b (Ok (truth true)) (Err (Values.fault AssertFailed at))))) >>= (λ v. as_truth at v Ok)) (((o >>= Ok) >>= (truth_at p)) >>= (λ b. cond b (Ok true) (Err (fault AssertFailed q))))
-match_assert (Ok (truth true)) at p q = refl
-match_assert (Ok (truth false)) at p q = tt
-match_assert (Ok (int n)) at p q = tt
-match_assert (Ok (text w)) at p q = tt
-match_assert (Ok (model w)) at p q = tt
-match_assert (Ok (set vs)) at p q = tt
-match_assert (Ok (fun ds rs)) at p q = tt
-match_assert (Err (Values.fault k r)) at p q = tt
-match_assert (Err (Values.over r)) at p q = tt
+pub match_assert : (o : Outcome Value) (m : Value) (at p q : Place) → Matches (((o >>= (λ v. Ok (v ∷ m ∷ []))) >>= standard_value plain asserted at) >>= truth_at at) ((o >>= (truth_at p)) >>= (λ b. cond b (Ok true) (Err (fault AssertFailed q))))
+match_assert (Ok (truth true)) m at p q = refl
+match_assert (Ok (truth false)) m at p q = tt
+match_assert (Ok (int n)) m at p q = tt
+match_assert (Ok (text w)) m at p q = tt
+match_assert (Ok (model w)) m at p q = tt
+match_assert (Ok (set vs)) m at p q = tt
+match_assert (Ok (fun ds rs)) m at p q = tt
+match_assert (Err (Values.fault k r)) m at p q = tt
+match_assert (Err (Values.over r)) m at p q = tt
 
 -- ---- expressions
 
@@ -135,7 +146,7 @@ no_next m h = tt
 unprimed_of : (A : Names) (U : Word → Type 0) (m : Form) (at : Place) → Plain A U m at → Unprimed A U m at
 unprimed_of A U m at h = (h.0, h.1, no_next m h.2)
 
-pub exp_law : (U : Readable) (vs : List Word) (A : Names) (sc : Scope) (env : State → State → Env) → Paired U vs sc env → IsWithin A (member vs) → (e : Tree) → FineTree U A e → (s t : State) → eval plain (primed A e) (env s t) ≡ eval plain e (sc.env (mid s t A))
+pub exp_law : (U : Readable) (vs : List Word) (A : Names) (sc : Scope) (env : State → State → Env) → Paired U vs sc env → IsWithin A (is_among vs) → (e : Tree) → FineTree U A e → (s t : State) → eval plain (primed A e) (env s t) ≡ eval plain e (sc.env (mid s t A))
 exp_law U vs A sc env p w e f s t =
     let k = p.halfway A w s t in
     unprimed_law plain A (In (U A)) e (every_weaker _ _ (unprimed_of A (In (U A))) e f) (env s t) (sc.env (mid s t A)) (record { now = k.now; defs = k.defs })
@@ -157,18 +168,18 @@ outside A V w x e = ⊎_elim (λ a. absurd (both_ways (V x) e (w x a))) (λ a. a
 abbrev pub bound_env : Word → Value → (State → State → Env) → State → State → Env
 bound_env x v env s t = bind x v (env s t)
 
-pub paired_bound : (U : Readable) (vs : List Word) (sc : Scope) (env : State → State → Env) (x : Word) (v : Value) → member vs x ≡ false → Paired U vs sc env → Paired U vs (bound x v sc) (bound_env x v env)
+pub paired_bound : (U : Readable) (vs : List Word) (sc : Scope) (env : State → State → Env) (x : Word) (v : Value) → is_among vs x ≡ false → Paired U vs sc env → Paired U vs (bound x v sc) (bound_env x v env)
 paired_bound U vs sc env x v out p = record {
-  halfway = λ A w s t. halfway_bound A (In (U A)) x v (outside A (member vs) w x out) (env s t) (sc.env (mid s t A)) (p.halfway A w s t);
+  halfway = λ A w s t. halfway_bound A (In (U A)) x v (outside A (is_among vs) w x out) (env s t) (sc.env (mid s t A)) (p.halfway A w s t);
   print = p.print;
   assert = p.assert;
 }
 
-pub scoped_bound : (vs : List Word) (sc : Scope) (x : Word) (v : Value) → member vs x ≡ false → Scoped vs sc → Scoped vs (bound x v sc)
+pub scoped_bound : (vs : List Word) (sc : Scope) (x : Word) (v : Value) → is_among vs x ≡ false → Scoped vs sc → Scoped vs (bound x v sc)
 scoped_bound vs sc x v out k = record { part = k.part; reads = λ y m at s. by y m at s (bytes_eq x y) refl }
   where
-    by : (y : Word) → member vs y ≡ true → (at : Place) (s : State) (b : Bool) → bytes_eq x y ≡ b → cond (bytes_eq x y) (just v) ((sc.env s).now y at) ≡ just (s y)
-    by y m at s true q = absurd (both_ways (member vs x) out (ap (member vs) (name-true x y q) ∙ m))
+    by : (y : Word) → is_among vs y ≡ true → (at : Place) (s : State) (b : Bool) → bytes_eq x y ≡ b → cond (bytes_eq x y) (just v) ((sc.env s).now y at) ≡ just (s y)
+    by y m at s true q = absurd (both_ways (is_among vs x) out (ap (is_among vs) (name-true x y q) ∙ m))
     by y m at s false q = ap (λ b. cond b (just v) ((sc.env s).now y at)) q ∙ k.reads y m at s
 
 -- ---- the trees of right sides
@@ -232,22 +243,22 @@ bool_alike true b f g = sym (f refl)
 bool_alike false true f g = g refl
 bool_alike false false f g = refl
 
-look_same : (vs xs : List Word) (s t : State) → ((x : Word) → member xs x ≡ true → member vs x ≡ true) → Module.all_same (values_of vs s) (values_of vs t) xs ≡ all_same xs s t
+look_same : (vs xs : List Word) (s t : State) → ((x : Word) → is_among xs x ≡ true → is_among vs x ≡ true) → Module.are_unchanged (values_of vs s) (values_of vs t) xs ≡ all_same xs s t
 look_same vs [] s t h = refl
 look_same vs (x ∷ xs) s t h =
-    (λ i. same_look (cond (h x here i) (Some (s x)) None) (cond (h x here i) (Some (t x)) None) && Module.all_same (values_of vs s) (values_of vs t) xs)
-    ∙ (λ i. same (t x) (s x) && look_same vs xs s t (λ y m. h y (or_right (bytes_eq x y) (member xs y) m)) i)
+    (λ i. is_unchanged (cond (h x here i) (Some (s x)) None) (cond (h x here i) (Some (t x)) None) && Module.are_unchanged (values_of vs s) (values_of vs t) xs)
+    ∙ (λ i. same (t x) (s x) && look_same vs xs s t (λ y m. h y (or_right (bytes_eq x y) (is_among xs y) m)) i)
   where
-    here : (bytes_eq x x || member xs x) ≡ true
-    here = or_left (bytes_eq x x) (member xs x) (eq-name x x refl)
+    here : (bytes_eq x x || is_among xs x) ≡ true
+    here = or_left (bytes_eq x x) (is_among xs x) (eq-name x x refl)
 
-kept_in : (vs all own : List Word) (x : Word) → member (left_of vs all own) x ≡ true → member vs x ≡ true
+kept_in : (vs all own : List Word) (x : Word) → is_among (left_of vs all own) x ≡ true → is_among vs x ≡ true
 kept_in [] all own x m = m
-kept_in (v ∷ vs) all own x m = by (kept_in vs all own x) (member all v && not (member own v)) m
+kept_in (v ∷ vs) all own x m = by (kept_in vs all own x) (is_among all v && not (is_among own v)) m
   where
-    by : (member (left_of vs all own) x ≡ true → member vs x ≡ true) → (b : Bool) → member (cond b (v ∷ left_of vs all own) (left_of vs all own)) x ≡ true → (bytes_eq v x || member vs x) ≡ true
-    by ih true k = ⊎_elim (λ a. or_left (bytes_eq v x) (member vs x) a) (λ a. or_right (bytes_eq v x) (member vs x) (ih a)) (or_cases (bytes_eq v x) (member (left_of vs all own) x) k)
-    by ih false k = or_right (bytes_eq v x) (member vs x) (ih k)
+    by : (is_among (left_of vs all own) x ≡ true → is_among vs x ≡ true) → (b : Bool) → is_among (cond b (v ∷ left_of vs all own) (left_of vs all own)) x ≡ true → (bytes_eq v x || is_among vs x) ≡ true
+    by ih true k = ⊎_elim (λ a. or_left (bytes_eq v x) (is_among vs x) a) (λ a. or_right (bytes_eq v x) (is_among vs x) (ih a)) (or_cases (bytes_eq v x) (is_among (left_of vs all own) x) k)
+    by ih false k = or_right (bytes_eq v x) (is_among vs x) (ih k)
 
 and_not : (a b : Bool) → a ≡ true → b ≡ false → (a && not b) ≡ true
 and_not a b p q = (λ i. p i && not (q i))
@@ -258,28 +269,28 @@ not_and true false e = (refl, refl)
 not_and false b e = cc
 
 -- what is kept of vs is the same: all names of `all` that are not in `own` are
-left_same : (vs all own : List Word) (s t : State) → all_same (left_of vs all own) s t ≡ true → (x : Word) → member vs x ≡ true → member all x ≡ true → member own x ≡ false → t x ≡ s x
+left_same : (vs all own : List Word) (s t : State) → all_same (left_of vs all own) s t ≡ true → (x : Word) → is_among vs x ≡ true → is_among all x ≡ true → is_among own x ≡ false → t x ≡ s x
 left_same [] all own s t h x m a o = cc
 left_same (v ∷ vs) all own s t h x m a o =
-    by (λ g k. left_same vs all own s t g x k a o) (member all v && not (member own v)) refl h (or_cases (bytes_eq v x) (member vs x) m)
+    by (λ g k. left_same vs all own s t g x k a o) (is_among all v && not (is_among own v)) refl h (or_cases (bytes_eq v x) (is_among vs x) m)
   where
-    by : (all_same (left_of vs all own) s t ≡ true → member vs x ≡ true → t x ≡ s x) → (b : Bool) → (member all v && not (member own v)) ≡ b → all_same (cond b (v ∷ left_of vs all own) (left_of vs all own)) s t ≡ true → (bytes_eq v x ≡ true) ⊎ (member vs x ≡ true) → t x ≡ s x
+    by : (all_same (left_of vs all own) s t ≡ true → is_among vs x ≡ true → t x ≡ s x) → (b : Bool) → (is_among all v && not (is_among own v)) ≡ b → all_same (cond b (v ∷ left_of vs all own) (left_of vs all own)) s t ≡ true → (bytes_eq v x ≡ true) ⊎ (is_among vs x ≡ true) → t x ≡ s x
     by ih true p g (inl e) = subst (λ z. t z ≡ s z) (name-true v x e) (value-true (t v) (s v) (and_parts (same (t v) (s v)) (all_same (left_of vs all own) s t) g).0)
     by ih true p g (inr k) = ih (and_parts (same (t v) (s v)) (all_same (left_of vs all own) s t) g).1 k
-    by ih false p g (inl e) = absurd (both_ways (member all v && not (member own v)) p (and_not (member all v) (member own v) (ap (member all) (name-true v x e) ∙ a) (ap (member own) (name-true v x e) ∙ o)))
+    by ih false p g (inl e) = absurd (both_ways (is_among all v && not (is_among own v)) p (and_not (is_among all v) (is_among own v) (ap (is_among all) (name-true v x e) ∙ a) (ap (is_among own) (name-true v x e) ∙ o)))
     by ih false p g (inr k) = ih g k
 
-same_left : (vs all own : List Word) (s t : State) → ((x : Word) → member all x ≡ true → member own x ≡ false → t x ≡ s x) → all_same (left_of vs all own) s t ≡ true
+same_left : (vs all own : List Word) (s t : State) → ((x : Word) → is_among all x ≡ true → is_among own x ≡ false → t x ≡ s x) → all_same (left_of vs all own) s t ≡ true
 same_left [] all own s t h = refl
-same_left (v ∷ vs) all own s t h = by (same_left vs all own s t h) (member all v && not (member own v)) refl
+same_left (v ∷ vs) all own s t h = by (same_left vs all own s t h) (is_among all v && not (is_among own v)) refl
   where
-    by : all_same (left_of vs all own) s t ≡ true → (b : Bool) → (member all v && not (member own v)) ≡ b → all_same (cond b (v ∷ left_of vs all own) (left_of vs all own)) s t ≡ true
+    by : all_same (left_of vs all own) s t ≡ true → (b : Bool) → (is_among all v && not (is_among own v)) ≡ b → all_same (cond b (v ∷ left_of vs all own) (left_of vs all own)) s t ≡ true
     by ih true p =
-        let k = not_and (member all v) (member own v) p in
+        let k = not_and (is_among all v) (is_among own v) p in
         (λ i. eq-value (t v) (s v) (h v k.0 k.1) i && all_same (left_of vs all own) s t) ∙ ih
     by ih false p = ih
 
-pub unchanged_same : (vs all own : List Word) (s t : State) → Within all vs → Module.all_same (values_of vs s) (values_of vs t) (left_of vs all own) ≡ all_same (minus all own) s t
+pub unchanged_same : (vs all own : List Word) (s t : State) → Within all vs → Module.are_unchanged (values_of vs s) (values_of vs t) (left_of vs all own) ≡ all_same (minus all own) s t
 unchanged_same vs all own s t w =
     look_same vs (left_of vs all own) s t (kept_in vs all own)
     ∙ bool_alike _ _

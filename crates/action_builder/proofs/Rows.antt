@@ -1,11 +1,13 @@
 -- What is written for some statements, by computation.
 use Rattle.std.proofs.Common.{◌≡◌, ℕ, [], ◌∷◌, codes, refl}
 use Rattle.tla_token.specs.declared.place.Place.{Place}
-use Rattle.tla_expr.specs.Tree.{Word, index, number, name, next, strict, apply, except, Tree, node, no_trees, tree}
+use Rattle.tla_expr.specs.declared.op.Op.TheVariants.{Equal}
+use Rattle.tla_expr.specs.Tree.{Word, index, number, name, next, strict, operator, apply, except, Tree, node, no_trees, tree}
 use Rattle.module_text.specs.Module.{test, setting, unchanged, exists, if_then_else, either as any, no_items, item, no_branches as no_lists, branch as list}
 use Rattle.pcal_tree.specs.Algorithm.{no_assignments, assignment, no_binds, one_of, Statement, assign, skip, branch, either, with, Statements, done, then, no_branches, or}
 use Rattle.action_builder.specs.Written.{true_at, write}
 use Rattle.action_builder.specs.Prepared.{none}
+use Rattle.action_builder.specs.SingleProcess.{in_place_of, graft_items}
 
 abbrev at : Place
 at = record { line = 1; col = 1 }
@@ -59,3 +61,8 @@ empty_row = refl
 -- with y \in x do x := y
 with_row : write (x ∷ []) none (and_next (with (one_of (record { word = y; place = at }) (var x) no_binds) (and_next (sets (var x) (var y)) done)) done) ≡ item (exists y (var x) (item (setting x (var y)) no_items)) no_items
 with_row = refl
+
+-- process P = 1: (pc[self] = x) and x' = self, with 1 for self
+single_row : graft_items (in_place_of (codes "self") (num 1)) (item (test (node (strict (operator Equal)) at (tree (part (codes "pc") (var (codes "self"))) (tree (var x) no_trees)))) (item (setting x (var (codes "self"))) no_items))
+    ≡ item (test (node (strict (operator Equal)) at (tree (part (codes "pc") (num 1)) (tree (var x) no_trees)))) (item (setting x (num 1)) no_items)
+single_row = refl

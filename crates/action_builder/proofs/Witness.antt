@@ -1,42 +1,103 @@
--- A step that meets all that the laws ask: `x := 1` at a label, with the process's identifier as self.
-use Rattle.std.proofs.Common.{◌≡◌, List, [], ◌∷◌, Bool, true, false, cond, codes, refl, Ok}
-use Rattle.tla_expr.specs.Tree.{Word, number, name, node, no_trees}
-use Rattle.tla_value.specs.Value.{Value, text}
+-- The sample step meets all that the laws ask.
+use Rattle.std.proofs.Common.{◌≡◌, List, [], ◌∷◌, Bool, true, false, cond, bytes_eq, codes, Option, Some, None, refl, sym, subst}
+use Rattle.tla_token.specs.Signs.{is_among}
+use Rattle.tla_token.specs.declared.place.Place.{Place}
+use Rattle.tla_expr.specs.Tree.{Word, Each}
 use Rattle.tla_value.specs.Stops.{plain}
-use Rattle.tla_value.specs.Standard.{standard_of, standard_called}
-use Rattle.tla_value.specs.Meaning.{Env, just}
-use Rattle.pcal_tree.specs.Algorithm.{nowhere, no_assignments, assignment, assign, done, then}
-use Rattle.pcal_tree.specs.Scope.{State, Scope, bound}
-use Rattle.pcal_tree.specs.Run.{ends, held, Rules}
-use Rattle.action_builder.specs.Effects.{part_at}
-use Rattle.action_builder.specs.Settled.{Moving}
-use Rattle.action_builder.specs.Ready.{Readable, Paired, Scoped}
-use Rattle.action_builder.specs.Step.{Step, IsPrepared, IsReady}
-use Rattle.action_builder.proofs.Settle.{close_refl}
-use Rattle.action_builder.proofs.Matching.{bound_env, paired_bound, scoped_bound}
+use Rattle.tla_value.specs.Meaning.{just}
+use Rattle.tla_value.specs.Grafts.{owned, own_part}
+use Rattle.pcal_tree.specs.Algorithm.{Routine}
+use Rattle.pcal_tree.specs.Scope.{State, Scope, origin_in}
+use Rattle.pcal_tree.specs.laws.Expansion.{Calls, FineCall, BareBodies}
+use Rattle.pcal_tree.specs.Program.{local_index}
+use Rattle.pcal_tree.specs.Variables.{pc, stack, written_all}
+use Rattle.action_builder.specs.Assigned.{Names, more}
+use Rattle.action_builder.proofs.Actions.{Apart}
+use Rattle.action_builder.specs.laws.Ready.{Settled, Paired, Scoped}
+use Rattle.action_builder.specs.laws.Scopes.{StandsAtPath, Inner, own_scope, own_path, Whole}
+use Rattle.action_builder.specs.laws.Jumps.{RoutineStands, Initials, RoutinesStand, RoutinesStandWithin}
+use Rattle.action_builder.specs.Settled.{settled}
+use Rattle.action_builder.specs.laws.LabelSteps.{prepared_of, IsPrepared, IsReady}
+use Rattle.action_builder.specs.Prepared.{none}
+use Rattle.action_builder.specs.laws.Sample.{macros, unexpanded, program, routine, me, actor, self, variables, own, plain_env, plain_scope, scope, env, any_name, initials, places, step}
+use Rattle.action_builder.proofs.Names.{each_name}
+use Rattle.action_builder.proofs.Decided.{clear_list, fine_list}
+use Rattle.action_builder.proofs.Prepared.{own_stands}
+use Rattle.action_builder.proofs.Rules.{rules_do}
+use Rattle.action_builder.proofs.Matching.{paired_bound, scoped_bound}
 
-abbrev pub x : Word
-x = codes "x"
+-- ---- macros
 
-abbrev pub self : Word
-self = codes "self"
+pub sample_calls : Calls (FineCall plain macros) unexpanded
+sample_calls = ((((((tt, tt), tt), ((tt, tt), (((tt, tt), tt), (((tt, tt), tt), tt))), tt), tt), (tt, tt), tt), (tt, (((tt, tt), (tt, tt)), (tt, tt))))
 
-abbrev pub me : Value
-me = text (codes "me")
+pub sample_bare : BareBodies macros
+sample_bare = ((tt, tt), tt)
 
-abbrev pub all : List Word
-all = x ∷ []
+-- ---- scopes
 
-abbrev pub base_env : State → State → Env
-base_env s t = record { now = λ y at. just (s y); primed = λ y at. just (t y); defs = λ f. standard_called plain (standard_of f) }
+whole : Whole (is_among variables) self me own scope
+whole = record { part = λ x m at s. refl; identity = λ x o at s. refl }
 
-abbrev base_scope : Scope
-base_scope = record { env = λ s. base_env s s; part = λ y at s. Ok (part_at y []); origin = λ y at. at }
+scoped : Scoped variables plain_scope
+scoped = record { part = λ x m at s. refl; reads = λ x m at s. refl }
 
-abbrev pub any_name : Readable
-any_name A y = true
+reads : Scoped variables scope
+reads = scoped_bound variables plain_scope self me refl scoped
 
-paired : Paired any_name all base_scope base_env
+there : (x : Word) → is_among variables x ≡ true → StandsAtPath (own_scope plain self own scope) (own_path (own x) me) x
+there x m = own_stands plain (is_among variables) self me own scope whole x m (reads.reads x m)
+
+-- with no names bound, the scope is the one
+only_scope : (sc inner : Scope) → Inner (λ w. false) sc inner → inner ≡ sc
+only_scope sc inner ([], k, e) = e
+only_scope sc inner (b ∷ bs, k, e) = cc
+
+origins : (x : Word) (at : Place) → (own_scope plain self own scope).origin x at ≡ at
+origins x at = by (own x)
+  where
+    by : (b : Bool) → origin_in (cond b (Some (own_part self x at)) None) x at scope ≡ at
+    by true = refl
+    by false = refl
+
+machine : (p : Routine) → Each (StandsAtPath (own_scope plain self own scope) (local_index actor p)) (written_all program p (Rattle.pcal_tree.specs.Algorithm.locals p)) → RoutineStands program actor p (own_scope plain self own scope)
+machine p h = record {
+  pc = there pc refl;
+  stack = there stack refl;
+  own = h;
+  head = λ s. refl;
+  tail = λ s. refl;
+  origin = origins;
+}
+
+some_is : (b : Bool) (r p : Routine) → ◌≡◌ {A = Option Routine} (cond b (Some r) None) (Some p) → r ≡ p
+some_is true r p e = cc
+some_is false r p e = cc
+
+machines : RoutinesStand program actor routine initials (own_scope plain self own scope)
+machines = record {
+  own = machine routine (there (codes "y") refl, tt);
+  called = λ x p e. subst (λ q. RoutineStands program actor q (own_scope plain self own scope)) (some_is (bytes_eq (codes "P") x) _ p e) (machine _ (there (codes "a") refl, (there (codes "b") refl, tt)));
+  initials = λ x p e at. subst (λ q. Initials program actor q at (own_scope plain self own scope) (initials.initial q) q.variables) (some_is (bytes_eq (codes "P") x) _ p e) ((λ s. refl), tt);
+}
+
+pub within : RoutinesStandWithin program actor routine initials (λ w. false) (own_scope plain self own scope)
+within inner k = subst (RoutinesStand program actor routine initials) (sym (only_scope (own_scope plain self own scope) inner k)) machines
+
+-- ---- the step
+
+pub prepared : IsPrepared step
+prepared = record {
+  free = λ x at p s. refl;
+  does = rules_do program actor routine initials places (λ w. false) (own_scope plain self own scope) refl within;
+  tidy = (tt, (tt, (((tt, tt), (refl, tt), (λ e. tt)), tt)));
+  clean = clear_list plain (owned self own) (settled step.jumps step.here step.exit step.statements) refl;
+}
+
+apart : (A : Names) (xs : List Word) → Each (λ w. A w ≡ false) xs → Apart A xs
+apart A xs h = each_name (λ w. A w ≡ false) xs h
+
+paired : Paired any_name variables plain_scope plain_env
 paired = record {
   halfway = λ A w s t. record { now = λ y u at. by (A y) s t y; defs = λ y u. refl };
   print = λ s t. refl;
@@ -47,59 +108,38 @@ paired = record {
     by true s t y = refl
     by false s t y = refl
 
-scoped : Scoped all base_scope
-scoped = record { part = λ y at s. refl; reads = λ y m at s. refl }
+abbrev after_x : Names
+after_x = more none (codes "x" ∷ [])
 
-abbrev simple_rules : Rules
-simple_rules = record {
-  check = plain;
-  goto = λ l s. ends s;
-  call = λ at p places vs back s. held at;
-  return = λ at s. ends s;
-  macros = λ here at m ts sc K s. held at;
-}
+abbrev after_y : Names
+after_y = more after_x (codes "y" ∷ [])
 
-abbrev simple_moving : Moving
-simple_moving = record { pc = λ l. done; call = λ at p ts l. done; back = λ at. done }
+abbrev after_call : Names
+after_call = more after_y (stack ∷ codes "a" ∷ [])
 
-abbrev pub simple_step : Step
-simple_step = record {
-  rules = simple_rules;
-  moving = simple_moving;
-  names = λ y. false;
-  callable = λ p ts. false;
-  self = self;
-  identifier = me;
-  own = λ y. false;
-  scope = bound self me base_scope;
-  macros = [];
-  here = codes "L";
-  exit = codes "Done";
-  statements = then (record { first = nowhere; last = nowhere }) (assign (assignment (node (name x) nowhere no_trees) (node (number 1) nowhere no_trees) no_assignments)) done;
-}
+abbrev after_b : Names
+after_b = more after_call (codes "b" ∷ [])
 
-no_truth : {P : Type 0} → false ≡ true → P
-no_truth e = cc
+settled_step : Settled (is_among variables) (prepared_of step)
+settled_step = ((refl, tt), ((refl, tt), ((((refl, tt), tt), ((refl, (refl, tt)), ((refl, tt), ((refl, tt), tt)))), tt)))
 
-pub simple_prepared : IsPrepared simple_step
-simple_prepared = record {
-  whole = record { part = λ y at s. refl; identity = λ at s. refl };
-  does = record {
-    pc = λ l sc fit s. close_refl (λ r. r ≡ Ok s);
-    call = λ at p ts l sc fit h s. no_truth h;
-    back = λ at sc fit s. close_refl (λ r. r ≡ Ok s);
-    bind = λ y v sc h fit. no_truth h;
-  };
-  calls = (tt, tt);
-  tidy = (tt, tt);
-  clean = ((((tt, tt), tt), ((tt, tt), tt), tt), tt);
-}
-
-pub simple_ready : IsReady any_name all (bound_env self me base_env) simple_step
-simple_ready = record {
-  settled = ((tt, tt), tt);
-  fine = (record { left = (tt, tt); sides = (((tt, refl, tt), tt), ((tt, tt, tt), tt), tt); readable = λ y m. refl }, tt, λ y m. m);
-  once = (λ y m. refl, tt);
-  within = λ y e. no_truth e;
-  stands = record { paired = paired_bound any_name all base_scope base_env self me refl paired; scoped = scoped_bound all base_scope self me refl scoped };
+pub ready : IsReady any_name variables env none step
+ready = record {
+  settled = settled_step;
+  fine = fine_list variables none (prepared_of step) settled_step refl;
+  once = (
+    apart none (codes "x" ∷ []) (refl, tt),
+    (
+      apart after_x (codes "y" ∷ []) (refl, tt),
+      (
+        (
+          (apart after_y (pc ∷ []) (refl, tt), tt),
+          (apart after_y (stack ∷ codes "a" ∷ []) (refl, (refl, tt)), (apart after_call (codes "b" ∷ []) (refl, tt), (apart after_b (pc ∷ []) (refl, tt), tt))),
+        ),
+        tt,
+      ),
+    ),
+  );
+  within = λ x e. cc;
+  stands = record { paired = paired_bound any_name variables plain_scope plain_env self me refl paired; scoped = reads };
 }

@@ -1,10 +1,7 @@
-pub mod Action
-pub mod Effects
-pub mod Contract
+pub mod Assigned
 pub mod Settled
+pub mod Jumps
 pub mod Written
-pub mod Ready
-pub mod Moved
 pub mod Prepared
-pub mod Rules
-pub mod Step
+pub mod SingleProcess
+pub mod laws

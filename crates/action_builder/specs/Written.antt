@@ -1,15 +1,14 @@
 -- The items that are written for statements of one step: conjuncts of an action, with assigned variables primed ("Specifying Systems", section 2.2;
 -- assignment, section 16.1.7; the statements, "A PlusCal User's Manual", section 3.2).
 use Rattle.std.specs.Prelude.{List, [], ◌∷◌, ◌++◌, Bool, true, false, cond, not, ◌&&◌, bytes_eq, codes}
+use Rattle.tla_token.specs.Signs.{is_among}
 use Rattle.tla_token.specs.declared.place.Place.{Place}
 use Rattle.tla_expr.specs.Tree.{Word, PathStep, index, field, Slot, select, except, Form, string, truth, name, operator_call, strict, Tree, node, Trees, no_trees, tree, graft}
-use Rattle.tla_value.specs.Stops.{plain}
 use Rattle.tla_value.specs.Grafts.{primes}
 use Rattle.module_text.specs.Module.{test, setting, unchanged, exists, local, if_then_else, either as any, Items, no_items, item, Branches as Lists, no_branches as no_lists, branch as list}
 use Rattle.pcal_tree.specs.Algorithm.{nowhere, Assignments, no_assignments, assignment, Binds, no_binds, one_of, is, Statement, assign, await, print, assert, skip, branch, either, with, Statements, done, then, mark, Branches, no_branches, or}
 use Rattle.pcal_tree.specs.Scope.{root_place}
-use Rattle.action_builder.specs.Action.{Names, more, member, firsts, assigned, assigned_in, assigned_by}
-use Rattle.action_builder.specs.Effects.{head_of, parts_of, effect_of, effects_of, ways_of}
+use Rattle.action_builder.specs.Assigned.{Names, more, head_of, heads, assigned, assigned_in, assigned_by}
 
 -- ---- the right side for a variable
 
@@ -93,7 +92,7 @@ true_at at = node (truth true) at no_trees
 -- the names of vs that are among all and not among own, in the order of vs
 abbrev pub left_of : List Word → List Word → List Word → List Word
 left_of [] all own = []
-left_of (v ∷ vs) all own = cond (member all v && not (member own v)) (v ∷ left_of vs all own) (left_of vs all own)
+left_of (v ∷ vs) all own = cond (is_among all v && not (is_among own v)) (v ∷ left_of vs all own) (left_of vs all own)
 
 -- UNCHANGED, left out where it has no name
 abbrev pub unchanged_of : List Word → Items
@@ -126,28 +125,28 @@ branch_items vs at body all own = filled at (onto body (unchanged_of (left_of vs
 -- vs: all variables, in the order of `vars`; A: those that are assigned already; rest: the items behind
 abbrev mutual
   pub write_one : List Word → Names → Place → Statement → Items → Items
-  write_one vs A at (assign ms) rest = settings_of A ms (firsts (parts_of plain ms)) rest
+  write_one vs A at (assign ms) rest = settings_of A ms (heads ms) rest
   write_one vs A at (await e) rest = item (test (primed A e)) rest
   write_one vs A at (print e) rest = item (test (print_of at (primed A e))) rest
   write_one vs A at (assert e) rest = item (test (assert_of at (primed A e))) rest
   write_one vs A at skip rest = item (test (true_at at)) rest
   write_one vs A at (branch e a b) rest =
       item (if_then_else (primed A e)
-      (branch_items vs at (write vs A a) (assigned_in (effects_of plain b)) (assigned_in (effects_of plain a)))
-      (branch_items vs at (write vs A b) (assigned_in (effects_of plain a)) (assigned_in (effects_of plain b)))) rest
-  write_one vs A at (either bs) rest = item (any (write_some vs A at (assigned_by (ways_of plain bs)) bs)) rest
+      (branch_items vs at (write vs A a) (assigned_in b) (assigned_in a))
+      (branch_items vs at (write vs A b) (assigned_in a) (assigned_in b))) rest
+  write_one vs A at (either bs) rest = item (any (write_some vs A at (assigned_by bs) bs)) rest
   write_one vs A at (with no_binds b) rest =
-      item (any (list (branch_items vs at (write vs A b) (assigned_in (effects_of plain b) ++ []) (assigned_in (effects_of plain b))) no_lists)) rest
+      item (any (list (branch_items vs at (write vs A b) (assigned_in b) (assigned_in b)) no_lists)) rest
   write_one vs A at (with (one_of x e bs) b) rest = item (exists x.word (primed A e) (nested_items A bs (filled at (write vs A b)))) rest
   write_one vs A at (with (is x e bs) b) rest = item (local x.word (primed A e) (nested_items A bs (filled at (write vs A b)))) rest
   write_one vs A at _ rest = item (any no_lists) rest
 
   pub write : List Word → Names → Statements → Items
   write vs A done = no_items
-  write vs A (then at st rest) = write_one vs A at.first st (write vs (more A (assigned (effect_of plain at.first st))) rest)
+  write vs A (then at st rest) = write_one vs A at.first st (write vs (more A (assigned st)) rest)
   write vs A (mark l k rest) = no_items
 
   pub write_some : List Word → Names → Place → List Word → Branches → Lists
   write_some vs A at all no_branches = no_lists
   write_some vs A at all (or b bs) =
-      list (branch_items vs at (write vs A b) all (assigned_in (effects_of plain b))) (write_some vs A at all bs)
+      list (branch_items vs at (write vs A b) all (assigned_in b)) (write_some vs A at all bs)

@@ -1,156 +1,120 @@
 //! What the written actions say, as what functions without a body ensure.
+//!
+//! The passes are, in this order: macro calls are written out, names are given, jumps are settled, the variables of a
+//! process are put at its identifier, and then items are written, with assigned variables primed. The first is the law
+//! `written_out_macros_run_the_same` of pcal_tree, with `written_out_steps_begin_alike` here for where a step begins; all
+//! other laws here are of statements with written names and without macro calls, as expansion and naming leave them.
 
-ghost use Rattle.std.specs.Prelude.{◌≡◌, ◌↔◌, List, [], Bool, true};
-ghost use Rattle.tla_expr.specs.Tree.{Word};
+ghost use Rattle.std.specs.Prelude.{◌≡◌, ◌↔◌, List, Bool, true};
+ghost use Rattle.tla_token.specs.declared.place.Place.{Place};
+ghost use Rattle.tla_expr.specs.Tree.{Word, Tree};
+ghost use Rattle.tla_value.specs.Value.{Value, NotFalse, IsBad};
 ghost use Rattle.tla_value.specs.Stops.{Check, plain};
-ghost use Rattle.tla_value.specs.Meaning.{Env, just, eval};
+ghost use Rattle.tla_value.specs.Meaning.{Env, just, bind, eval};
 ghost use Rattle.tla_value.specs.Related.{In};
-ghost use Rattle.module_text.specs.Truth as written;
+ghost use Rattle.tla_value.specs.Grafts.{owned};
+ghost use Rattle.tla_value.specs.Definitions.{Valuation};
+ghost use Rattle.module_text.specs.Module.{Items};
+ghost use Rattle.tla_value.specs.Value.{TrueExactly};
+ghost use Rattle.module_text.specs.ActionTruth.{items_hold};
 ghost use Rattle.pcal_tree.specs.Algorithm.{Statements, Macro, Assignments, Routine};
 ghost use Rattle.pcal_tree.specs.Scope.{State, Scope};
 ghost use Rattle.pcal_tree.specs.Run.{Rules, Follow, run, exit_to, unlabelled};
 ghost use Rattle.pcal_tree.specs.StepStart.{begin};
 ghost use Rattle.pcal_tree.specs.Expand.{graft_all, expanded, written_out, expand_begin};
-ghost use Rattle.action_builder.specs.Action.{folded_all, Names, more, assigned_in, NotFalse, Agree, IsBad};
-ghost use Rattle.action_builder.specs.Effects.{effects_of, parts_of, LeftMoves, IsPlain as Plain};
-ghost use Rattle.action_builder.specs.Contract.{Fits, NoTrouble, SomeTrouble, BadSomewhere, TrueExactly, Built, verdict, to_end};
-ghost use Rattle.tla_token.specs.declared.place.Place.{Place};
-ghost use Rattle.tla_value.specs.Value.{Value};
-ghost use Rattle.tla_value.specs.Grafts.{owned};
+ghost use Rattle.pcal_tree.specs.laws.Expansion.{Any, Calls, Clean, FineCall, BareBodies, AnyPlace};
 ghost use Rattle.pcal_tree.specs.Program.{Program, Actor};
-ghost use Rattle.action_builder.specs.Prepared.{Whole, own_scope, none};
-ghost use Rattle.action_builder.specs.Rules.{Written as Initial, base_rules, moving, callable, MachinesWithin};
-ghost use Rattle.action_builder.specs.Step.{Step, IsPrepared, IsReady, items_of, action_of, EndsIn, StepsTo, IsTroubled};
-ghost use Rattle.action_builder.specs.Settled.{Moving, settled, Callable, Tidy, CloseCourses, Does, Inner};
-ghost use Rattle.action_builder.specs.Written.{write, except_of};
-ghost use Rattle.action_builder.specs.Ready.{Readable, holds_on, unlimited, Ready};
-ghost use Rattle.pcal_tree.specs.Clean.{Any, Calls, Clean, FineCall, BareBodies};
+ghost use Rattle.action_builder.specs.Assigned.{Names, more, assigned_in};
+ghost use Rattle.action_builder.specs.laws.States.{value_after, SameOn, BadSomewhere};
+ghost use Rattle.action_builder.specs.laws.Ready.{LeftSides, Readable, holds_on};
+ghost use Rattle.action_builder.specs.laws.Scopes.{IsPlain as Plain, Inner, StandsAtPath, own_scope, own_path, Whole};
+ghost use Rattle.action_builder.specs.laws.Settling.{to_end, Callable, Tidy, CloseCourses, DoesAsRules};
+ghost use Rattle.action_builder.specs.Jumps.{InitialValues, JumpPlaces, written_jumps};
+ghost use Rattle.action_builder.specs.laws.Jumps.{base_rules, callable, RoutinesStandWithin};
+ghost use Rattle.action_builder.specs.Settled.{WrittenJumps, settled};
+ghost use Rattle.action_builder.specs.laws.LabelSteps.{LabelStep, prepared_of, items_of, action_of, IsPrepared, IsReady, EndsIn, IsTroubled, StepsTo, MeetsTrouble};
+ghost use Rattle.action_builder.specs.Prepared.{none};
+ghost use Rattle.action_builder.specs.Written.{except_of};
+ghost use Rattle.action_builder.specs.SingleProcess.{in_place_of, graft_items};
+ghost use Rattle.action_builder.specs.laws.Grafts.{ClearItems};
+ghost use Rattle.tla_value.specs.laws.Places.{AgreeButPlaces, ChecksButPlaces, EnvsButPlaces};
+ghost use Rattle.action_builder.specs.laws.Places.{ItemsButPlaces};
+ghost use Rattle.action_builder.specs.laws.Sample as sample;
 
-/// Where no run of the statements faults, their action is true of a pair of states exactly if some run
-/// has an end that agrees with the second state on what is assigned, else it is false. The action is here
-/// one over the meaning of expressions, within any limits.
+/// The items that are written for a step where the variables of A are assigned already, on a pair of states. Where no
+/// outcome of the step is trouble, they are true exactly if it ends in a state that agrees with the second on what is
+/// assigned, else false. Whether or not it meets trouble: where they are true, it ends so, and where it ends so, they are
+/// true or fault. They fault for some second state with the values that are new already exactly if it meets trouble, and
+/// read of the second state only what is assigned.
+pub fn items_are_true_of_the_ends_of_a_step()
+    ensures exactly { (d : LabelStep) → IsPrepared d → (U : Readable) (vs : List Word) (env : State → State → Env) (A : Names) → IsReady U vs env A d → (s t : State)
+        → (IsTroubled A d s t → ⊥) → TrueExactly (holds_on vs env (items_of vs A d) s t) (EndsIn A d s t) }
+    ensures ends { (d : LabelStep) → IsPrepared d → (U : Readable) (vs : List Word) (env : State → State → Env) (A : Names) → IsReady U vs env A d → (s t : State)
+        → holds_on vs env (items_of vs A d) s t ≡ Ok true → EndsIn A d s t }
+    ensures holds { (d : LabelStep) → IsPrepared d → (U : Readable) (vs : List Word) (env : State → State → Env) (A : Names) → IsReady U vs env A d → (s t : State)
+        → EndsIn A d s t → NotFalse (holds_on vs env (items_of vs A d) s t) }
+    ensures faults { (d : LabelStep) → IsPrepared d → (U : Readable) (vs : List Word) (env : State → State → Env) (A : Names) → IsReady U vs env A d → (s t : State)
+        → (BadSomewhere A t (holds_on vs env (items_of vs A d) s) ↔ IsTroubled A d s t) }
+    ensures reads { (d : LabelStep) (U : Readable) (vs : List Word) (env : State → State → Env) (A : Names) → IsReady U vs env A d → (s t u : State)
+        → SameOn (more A (assigned_in (prepared_of d))) t u → (b : Bool) → holds_on vs env (items_of vs A d) s t ≡ Ok b → holds_on vs env (items_of vs A d) s u ≡ Ok b }
+{}
+
+/// The action of a step, which ends with UNCHANGED, on a pair of states. Where no outcome of the step is trouble, it is
+/// true exactly if the step leads from the first to the second, else false. Whether or not the step meets trouble: where
+/// the action is true, the step leads there, and where it leads there, the action is true or faults. The action faults for
+/// some second state exactly if the step meets trouble.
 pub fn actions_are_true_of_steps()
-    ensures { (M : Rules) (A : Names) (ss : Statements) (sc : Scope) (s t : State) → Built M A ss sc → NoTrouble M A ss sc s t → TrueExactly (verdict M A ss sc s t) (Fits M A ss sc s t) }
-{}
-
-/// Whether or not a run faults: where the action is true, some run has a fitting end; where some run has a
-/// fitting end, the action is true or faults.
-pub fn actions_are_never_false_of_steps()
-    ensures fits { (M : Rules) (A : Names) (ss : Statements) (sc : Scope) (s t : State) → Built M A ss sc → verdict M A ss sc s t ≡ Ok true → Fits M A ss sc s t }
-    ensures holds { (M : Rules) (A : Names) (ss : Statements) (sc : Scope) (s t : State) → Built M A ss sc → Fits M A ss sc s t → NotFalse (verdict M A ss sc s t) }
-{}
-
-/// The action faults for some second state, with the values that are new already, exactly if some run faults.
-pub fn actions_fault_as_steps()
-    ensures { (M : Rules) (A : Names) (ss : Statements) (sc : Scope) (s t : State) → Built M A ss sc → (BadSomewhere A t (verdict M A ss sc s) ↔ SomeTrouble M A ss sc s t) }
-{}
-
-/// The action reads of the second state only what is assigned.
-pub fn actions_read_what_is_assigned()
-    ensures { (M : Rules) (A : Names) (ss : Statements) (sc : Scope) (s t u : State) → Agree (more A (assigned_in (effects_of M.check ss))) t u → verdict M A ss sc s t ≡ verdict M A ss sc s u }
-{}
-
-/// Where no run of the statements faults, the items that are written for them are true of a pair of states
-/// exactly if some run has an end that agrees with the second state on what is assigned, else they are false.
-pub fn items_are_true_of_steps()
-    ensures { (M : Rules) (U : Readable) (vs : List Word) (A : Names) (ss : Statements) (sc : Scope) (env : State → State → Env) → Ready U vs A ss sc env → (s t : State)
-        → NoTrouble (unlimited M) A ss sc s t → written.TrueExactly (holds_on vs env (write vs A ss) s t) (Fits (unlimited M) A ss sc s t) }
-{}
-
-/// Whether or not a run faults: where the items are true, some run has a fitting end; where some run has a
-/// fitting end, the items are true or fault.
-pub fn items_are_never_false_of_steps()
-    ensures fits { (M : Rules) (U : Readable) (vs : List Word) (A : Names) (ss : Statements) (sc : Scope) (env : State → State → Env) → Ready U vs A ss sc env → (s t : State)
-        → holds_on vs env (write vs A ss) s t ≡ Ok true → Fits (unlimited M) A ss sc s t }
-    ensures holds { (M : Rules) (U : Readable) (vs : List Word) (A : Names) (ss : Statements) (sc : Scope) (env : State → State → Env) → Ready U vs A ss sc env → (s t : State)
-        → Fits (unlimited M) A ss sc s t → NotFalse (holds_on vs env (write vs A ss) s t) }
-{}
-
-/// The items fault for some second state, with the values that are new already, exactly if some run faults.
-pub fn items_fault_as_steps()
-    ensures { (M : Rules) (U : Readable) (vs : List Word) (A : Names) (ss : Statements) (sc : Scope) (env : State → State → Env) → Ready U vs A ss sc env → (s t : State)
-        → (BadSomewhere A t (holds_on vs env (write vs A ss) s) ↔ SomeTrouble (unlimited M) A ss sc s t) }
-{}
-
-/// The items leave nothing else to the second state than what is assigned.
-pub fn items_read_what_is_assigned()
-    ensures { (M : Rules) (U : Readable) (vs : List Word) (A : Names) (ss : Statements) (sc : Scope) (env : State → State → Env) → Ready U vs A ss sc env → (s t u : State)
-        → Agree (more A (assigned_in (effects_of plain ss))) t u → (b : Bool) → holds_on vs env (write vs A ss) s t ≡ Ok b → holds_on vs env (write vs A ss) s u ≡ Ok b }
+    ensures exactly { (d : LabelStep) → IsPrepared d → (U : Readable) (vs : List Word) (env : State → State → Env) → IsReady U vs env none d → (s t : State)
+        → (MeetsTrouble d s → ⊥) → TrueExactly (holds_on vs env (action_of vs d) s t) (StepsTo vs d s t) }
+    ensures leads { (d : LabelStep) → IsPrepared d → (U : Readable) (vs : List Word) (env : State → State → Env) → IsReady U vs env none d → (s t : State)
+        → holds_on vs env (action_of vs d) s t ≡ Ok true → StepsTo vs d s t }
+    ensures holds { (d : LabelStep) → IsPrepared d → (U : Readable) (vs : List Word) (env : State → State → Env) → IsReady U vs env none d → (s t : State)
+        → StepsTo vs d s t → NotFalse (holds_on vs env (action_of vs d) s t) }
+    ensures faults { (d : LabelStep) → IsPrepared d → (U : Readable) (vs : List Word) (env : State → State → Env) → IsReady U vs env none d → (s : State)
+        → (((u : State) × IsBad (holds_on vs env (action_of vs d) s u)) ↔ MeetsTrouble d s) }
 {}
 
 /// Statements whose jumps, loops, calls and returns are written as assignments have the ends of the statements
-/// as they stand, and trouble where these have trouble.
+/// as they are, and trouble where these have trouble.
 pub fn settled_statements_have_the_same_ends()
-    ensures { (M : Rules) (W : Moving) (f : Word → Bool) (g : Callable) (sc : Scope) → Does M W (Inner f sc) (In f) g → (here l : Word) (ss : Statements) → Tidy (In f) g ss
+    ensures { (M : Rules) (W : WrittenJumps) (f : Word → Bool) (g : Callable) (sc : Scope) → DoesAsRules M W (Inner f sc) (In f) g → (here l : Word) (ss : Statements) → Tidy (In f) g ss
         → CloseCourses (run M unlabelled (settled W here l ss) sc to_end) (run M here ss sc (exit_to M l)) }
 {}
 
-/// With the variables of a process written as functions of its identifier, statements take the courses that they
-/// take where these variables stand at the identifier.
-pub fn own_variables_stand_at_the_identifier()
-    ensures { (M : Rules) (self : Word) (v : Value) (own : Word → Bool) (here : Word) (ss : Statements) (sc : Scope) → Whole self v sc → Clean M.check (owned self own) Any ss → (K : Follow)
-        → run M here (graft_all (owned self own) ss) sc K ≡ run M here ss (own_scope M.check self own sc) K }
+/// The assignments written for the jumps, calls and returns of a routine, at any places, which are the same for all
+/// processes, do what the rules of a step say.
+pub fn written_jumps_do_what_the_rules_say()
+    ensures { (P : Program) (v : Actor) (u : Routine) (I : InitialValues) (places : JumpPlaces) (f : Word → Bool) (sc : Scope) → P.check ≡ plain → RoutinesStandWithin P v u I f sc
+        → DoesAsRules (base_rules P v u) (written_jumps P u I places) (Inner f sc) (In f) (callable P) }
 {}
 
-/// The assignments written for the jumps, calls and returns of a routine do what the rules of a step say.
-pub fn written_moves_do_what_the_rules_say()
-    ensures { (P : Program) (v : Actor) (u : Routine) (I : Initial) (f : Word → Bool) (sc : Scope) → P.check ≡ plain → MachinesWithin P v u I f sc
-        → Does (base_rules P v u) (moving P v u I) (Inner f sc) (In f) (callable P) }
+/// With the variables of a process written as functions of its identifier, statements take the courses that they
+/// take where these variables are at the identifier; and there they are, read and assigned.
+pub fn own_variables_stand_at_the_identifier()
+    ensures courses { (M : Rules) (self : Word) (own : Word → Bool) (here : Word) (ss : Statements) (sc : Scope) → AnyPlace sc → Clean M.check (owned self own) Any ss → (K : Follow)
+        → run M here (graft_all (owned self own) ss) sc K ≡ run M here ss (own_scope M.check self own sc) K }
+    ensures there { (c : Check) (V : Word → Bool) (self : Word) (v : Value) (own : Word → Bool) (sc : Scope) → Whole V self v own sc → (x : Word) → V x ≡ true
+        → ((at : Place) (s : State) → (sc.env s).now x at ≡ just (s x)) → StandsAtPath (own_scope c self own sc) (own_path (own x) v) x }
 {}
 
 /// The written right side of a variable has the value that the assignments to its parts give it, within any limits.
 pub fn except_makes_the_changes_of_its_parts()
-    ensures { (c : Check) (at : Place) (y : Word) (ms : Assignments) → LeftMoves ms → (sc : Scope) → Plain sc → (s : State) → (sc.env s).now y at ≡ just (s y)
-        → (eval c (except_of at y ms) (sc.env s)).value ≡ folded_all (parts_of c ms) sc s (s y) }
+    ensures { (V : Names) (c : Check) (at : Place) (y : Word) (ms : Assignments) → LeftSides V ms → (sc : Scope) → Plain V sc → (s : State) → (sc.env s).now y at ≡ just (s y)
+        → (eval c (except_of at y ms) (sc.env s)).value ≡ value_after c ms sc s (s y) }
 {}
 
-/// Where no outcome of a step is trouble, its items are true of a pair of states exactly if the step ends in a
-/// state that agrees with the second on what is assigned, else they are false.
-pub fn step_items_are_true_of_its_ends()
-    ensures { (d : Step) → IsPrepared d → (U : Readable) (vs : List Word) (env : State → State → Env) → IsReady U vs env d → (s t : State)
-        → (IsTroubled d s → ⊥) → written.TrueExactly (holds_on vs env (items_of vs d) s t) (EndsIn d s t) }
+/// With the expression of a single process put in for `self`, which captures nothing, items have on every pair of states
+/// the truth that they have where `self` is the value of the expression, or trouble of the same kind.
+pub fn single_processes_have_their_expression_for_self()
+    ensures { (c : Check) (self : Word) (e : Tree) (v : Value) (items : Items) → ClearItems c (in_place_of self e) Any items → (s t : Valuation) (env : Env) → eval c e env ≡ just v
+        → AgreeButPlaces (items_hold c s t env (graft_items (in_place_of self e) items)) (items_hold c s t (bind self v env) items) }
 {}
 
-/// Whether or not a step meets trouble: where its items are true, it ends so; where it ends so, they are true or
-/// fault.
-pub fn step_items_are_never_false_of_its_ends()
-    ensures fits { (d : Step) → IsPrepared d → (U : Readable) (vs : List Word) (env : State → State → Env) → IsReady U vs env d → (s t : State)
-        → holds_on vs env (items_of vs d) s t ≡ Ok true → EndsIn d s t }
-    ensures holds { (d : Step) → IsPrepared d → (U : Readable) (vs : List Word) (env : State → State → Env) → IsReady U vs env d → (s t : State)
-        → EndsIn d s t → NotFalse (holds_on vs env (items_of vs d) s t) }
-{}
-
-/// The items of a step fault for some second state exactly if the step meets trouble.
-pub fn step_items_fault_as_the_step()
-    ensures { (d : Step) → IsPrepared d → (U : Readable) (vs : List Word) (env : State → State → Env) → IsReady U vs env d → (s t : State)
-        → (BadSomewhere none t (holds_on vs env (items_of vs d) s) ↔ IsTroubled d s) }
-{}
-
-/// Where no outcome of a step is trouble, its action, which ends with UNCHANGED, is true of a pair of states exactly
-/// if the step leads from the first to the second, else it is false.
-pub fn step_actions_are_true_of_its_steps()
-    ensures { (d : Step) → IsPrepared d → (U : Readable) (vs : List Word) (env : State → State → Env) → IsReady U vs env d → (s t : State)
-        → (IsTroubled d s → ⊥) → written.TrueExactly (holds_on vs env (action_of vs d) s t) (StepsTo vs d s t) }
-{}
-
-/// Whether or not a step meets trouble: where its action is true, it leads there; where it leads there, the action is
-/// true or faults.
-pub fn step_actions_are_never_false_of_its_steps()
-    ensures leads { (d : Step) → IsPrepared d → (U : Readable) (vs : List Word) (env : State → State → Env) → IsReady U vs env d → (s t : State)
-        → holds_on vs env (action_of vs d) s t ≡ Ok true → StepsTo vs d s t }
-    ensures holds { (d : Step) → IsPrepared d → (U : Readable) (vs : List Word) (env : State → State → Env) → IsReady U vs env d → (s t : State)
-        → StepsTo vs d s t → NotFalse (holds_on vs env (action_of vs d) s t) }
-{}
-
-/// The action of a step faults for some second state exactly if the step meets trouble.
-pub fn step_actions_fault_as_the_step()
-    ensures { (d : Step) → IsPrepared d → (U : Readable) (vs : List Word) (env : State → State → Env) → IsReady U vs env d → (s : State)
-        → (((u : State) × IsBad (holds_on vs env (action_of vs d) s u)) ↔ IsTroubled d s) }
-{}
-
-/// Some step meets all that these laws ask.
-pub fn some_step_is_prepared_and_ready()
-    ensures { (d : Step) × (U : Readable) × (vs : List Word) × (env : State → State → Env) × IsPrepared d × IsReady U vs env d }
+/// Places in items matter to nothing but where a fault is: items that are equal, places aside, have on every pair of
+/// states the same truth, or troubles of one kind.
+pub fn places_in_items_matter_to_faults_alone()
+    ensures { (c k : Check) → ChecksButPlaces c k → (s t : Valuation) (items others : Items) → ItemsButPlaces items others → (e f : Env) → EnvsButPlaces e f
+        → AgreeButPlaces (items_hold c s t e items) (items_hold k s t f others) }
 {}
 
 /// A step from a label of the statements with macro calls written out begins with what the step from this label
@@ -158,4 +122,13 @@ pub fn some_step_is_prepared_and_ready()
 pub fn written_out_steps_begin_alike()
     ensures { (c : Check) (ms : List Macro) → BareBodies ms → (l here : Word) (ss : Statements) → Calls (FineCall c ms) ss → (x : Word)
         → begin l here (expanded ms ss) x ≡ expand_begin (written_out ms) (begin l here ss x) }
+{}
+
+/// The sample step, which has a macro call, an assignment to a variable of its process, a jump and a call, meets all that
+/// these laws ask.
+pub fn the_sample_step_meets_all_that_is_asked()
+    ensures expanded { Calls (FineCall plain sample.macros) sample.unexpanded × BareBodies sample.macros }
+    ensures jumps { RoutinesStandWithin sample.program sample.actor sample.routine sample.initials sample.step.names (own_scope plain sample.self sample.own sample.scope) }
+    ensures prepared { IsPrepared sample.step }
+    ensures ready { IsReady sample.any_name sample.variables sample.env none sample.step }
 {}

@@ -4,13 +4,13 @@ use Rattle.tla_token.specs.Tokens.{TokAlgorithm}
 use Rattle.tla_token.proofs.Unique as token
 use Rattle.tla_expr.specs.Spelling as spelled
 use Rattle.pcal_tree.specs.Algorithm.{Algorithm}
-use Rattle.pcal_tree.specs.GrammarView.{views}
+use Rattle.pcal_tree.specs.AlgorithmTokens.{views}
 use Rattle.pcal_tree.specs.Grammar.{algorithm_of}
-use Rattle.module_text.specs.Around.{Split}
+use Rattle.module_text.specs.TextFront.{Split}
 use Rattle.first_path.specs.Form.{Parts, IsForm}
 use Rattle.first_path.specs.Placed.{Places}
-use Rattle.first_path.specs.Headline.{Stands}
-use Rattle.first_path.proofs.StandsTokens.{AllRight, places, right_phrase, behind_right, right_good, form_text}
+use Rattle.promise.specs.Headline.{Stands}
+use Rattle.first_path.proofs.StandsTokens.{AllRight, places, right_phrase, semicolon_at, right_good, form_text}
 use Rattle.first_path.proofs.Stands.{Laid, laid}
 use Rattle.first_path.proofs.OneAlgorithm.{Whole, one_spelled}
 
@@ -36,22 +36,22 @@ whole p b f h = record {
     variable = f.variable;
     assigned = p 11;
     value = right_phrase f.variable f.right p;
-    last = p (behind_right f.right);
+    last = p (semicolon_at f.right);
     label_right = h 8;
     right = h 10;
     good = right_good f.variable f.right p h;
   };
-  ends = p (1 + behind_right f.right);
-  last = p (2 + behind_right f.right);
+  ends = p (1 + semicolon_at f.right);
+  last = p (2 + semicolon_at f.right);
 }
 
 -- the place of the algorithm is a function of the text, and its tokens are those of the form
 same_tokens : (x : List ℕ) (f : Parts) (l : Laid x f) (a : Algorithm) (s : Stands x a) → s.tokens ≡ l.tokens
 same_tokens x f l a s =
-    let found : ◌≡◌ {A = Option Split} (Some s.spot) (Some l.spot) = sym s.is_spot ∙ l.is_spot in
-    let same : s.spot ≡ l.spot = cc in
+    let found : ◌≡◌ {A = Option Split} (Some s.split) (Some l.split) = sym s.is_split ∙ l.is_split in
+    let same : s.split ≡ l.split = cc in
     let tok = subst (λ (p : Split). TokAlgorithm x (length p.front) (length x - length p.back) s.tokens) same s.tok in
-    token.one_algorithm x (length l.spot.front) (length x - length l.spot.back) s.tokens l.tokens tok l.tok
+    token.one_algorithm x (length l.split.front) (length x - length l.split.back) s.tokens l.tokens tok l.tok
 
 -- what stands there is the form's algorithm
 form_stands : (x : List ℕ) (f : Parts) (l : Laid x f) (a : Algorithm) → Stands x a

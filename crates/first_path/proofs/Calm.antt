@@ -10,7 +10,7 @@ use Rattle.tla_token.proofs.Signed.{tells_apart}
 use Rattle.tla_expr.specs.Tree.{Word}
 use Rattle.first_path.specs.Form.{Parts, kinds, kinds_of}
 use Rattle.first_path.proofs.Names.{every, among_holds}
-use Rattle.first_path.proofs.Stretches.{kinds_behind}
+use Rattle.first_path.proofs.Stretches.{kinds_after}
 use Rattle.first_path.proofs.FormKinds.{closing_kinds, right_all}
 
 -- none of ( * " \
@@ -58,7 +58,7 @@ lexemes_calm (blank b ∷ ps) ks h e c = and_from (is_calm b) (list_all is_calm 
 lexemes_calm (block body ∷ ps) ks h e c = absurd cc
 lexemes_calm (line body ∷ ps) ks h e c = absurd cc
 lexemes_calm (lexeme k bytes ∷ ps) ks h e c =
-    let (js, d, s) = kinds_behind k (kinds_of ps) ks e in
+    let (js, d, s) = kinds_after k (kinds_of ps) ks e in
     let b = and_parts (calm_kind k) (list_all calm_kind js) (rw (← s) at c) in
     all_append is_calm bytes (text_of ps) (lexeme_calm k bytes h.0.1 b.0) (lexemes_calm ps js h.1 d b.1)
 

@@ -15,11 +15,11 @@ use Rattle.tla_token.proofs.Parted.{some_part}
 use Rattle.tla_token.proofs.Cutting.{cut_fits}
 use Rattle.tla_token.proofs.Unique.{sound_text, pieces_back}
 use Rattle.tla_expr.specs.Tree.{Word}
-use Rattle.first_path.specs.Form.{Right, single, sum, Parts, is_fit, kinds, behind, kinds_of, first_lines, last_line, IsForm}
+use Rattle.first_path.specs.Form.{Right, single, sum, Parts, is_fit, kinds, after, kinds_of, first_lines, last_line, IsForm}
 use Rattle.first_path.specs.FormRead.{on_some, if_so, declares, parts_in, kinds_in, past, begins_blank, before, gap_skipped, middle_parts, ends_with_line, form_of}
 use Rattle.first_path.proofs.Names.{name_words}
 use Rattle.first_path.proofs.Fit.{fit_of}
-use Rattle.first_path.proofs.Stretches.{text_append, kinds_behind}
+use Rattle.first_path.proofs.Stretches.{text_append, kinds_after}
 use Rattle.first_path.proofs.FormKinds.{so, Standing, parts_stand, parts_read}
 
 some_on : {A B : Type 0} (o : Option A) (go : A → Option B) (r : B) → on_some o go ≡ Some r → (a : A) × (o ≡ Some a) × (go a ≡ Some r)
@@ -35,7 +35,7 @@ sound_kinds (block w ∷ qs) = refl
 sound_kinds (line w ∷ qs) = refl
 sound_kinds (lexeme k w ∷ qs) = ap (λ (o : Option (List Kind)). on_some o (λ ks. Some (k ∷ ks))) (sound_kinds qs) ∙ same (kinds_of qs)
   where
-    same : (o : Option (List Kind)) → on_some o (λ ks. Some (k ∷ ks)) ≡ behind k o
+    same : (o : Option (List Kind)) → on_some o (λ ks. Some (k ∷ ks)) ≡ after k o
     same (Some ks) = refl
     same None = refl
 
@@ -113,18 +113,18 @@ last_byte [] = 0
 last_byte (b ∷ []) = b
 last_byte (b ∷ c ∷ bs) = last_byte (c ∷ bs)
 
-last_behind : (l r : List ℕ) → (r ≡ [] → ⊥) → last_byte (l ++ r) ≡ last_byte r
-last_behind [] r some = refl
-last_behind (b ∷ []) [] some = absurd (some refl)
-last_behind (b ∷ []) (c ∷ r) some = refl
-last_behind (b ∷ c ∷ l) r some = last_behind (c ∷ l) r some
+last_after : (l r : List ℕ) → (r ≡ [] → ⊥) → last_byte (l ++ r) ≡ last_byte r
+last_after [] r some = refl
+last_after (b ∷ []) [] some = absurd (some refl)
+last_after (b ∷ []) (c ∷ r) some = refl
+last_after (b ∷ c ∷ l) r some = last_after (c ∷ l) r some
 
 line_last : (x : List ℕ) → ends_with_line x ≡ true → last_byte x ≡ 10
 line_last x h =
     let u = drop 1 (reverse x) in
     let front : reverse x ≡ (10 ∷ []) ++ u = begins_is (reverse x) (10 ∷ []) h in
     let whole : x ≡ reverse u ++ 10 ∷ [] = sym (reverse-reverse x) ∙ ap reverse front ∙ reverse-append (10 ∷ []) u in
-    ap last_byte whole ∙ last_behind (reverse u) (10 ∷ []) (λ e. cc)
+    ap last_byte whole ∙ last_after (reverse u) (10 ∷ []) (λ e. cc)
 
 last_line_ends : (x l : List ℕ) → x ≡ l ++ 10 ∷ [] → ends_with_line x ≡ true
 last_line_ends x l e = begins_from (reverse x) (10 ∷ []) (reverse l) (ap reverse e ∙ reverse-append l (10 ∷ []))
@@ -162,7 +162,7 @@ some_text q qs (f, h) e = some_part (sound q) (text_of qs) f (front (bytes_of q)
     front [] r e = refl
     front (b ∷ l) r e = absurd cc
 
--- behind the last name stands a blank, if the text ends with one
+-- after the last name stands a blank, if the text ends with one
 name_last : (k : Kind) (w : List ℕ) → is_named k ≡ true → IsLexeme k w → last_byte w ≡ 10 → ⊥
 name_last (name v) w n (same, (all, any)) e = word_last v all (ap last_byte (sym same) ∙ e)
 name_last _ w n l e = absurd cc
@@ -172,14 +172,14 @@ last_blank : (qs : List Piece) (ks : List Kind) → AllFit qs → kinds_of qs �
 last_blank [] ks h k n e = absurd (omega arith)
 last_blank (blank b ∷ []) ks h k n e = ([], ap (λ (c : ℕ). blank c ∷ []) e)
 last_blank (blank b ∷ q ∷ qs) ks (f, h) k n e =
-    let (less, same) = last_blank (q ∷ qs) ks h k n (sym (last_behind (b ∷ []) (text_of (q ∷ qs)) (some_text q qs h)) ∙ e) in
+    let (less, same) = last_blank (q ∷ qs) ks h k n (sym (last_after (b ∷ []) (text_of (q ∷ qs)) (some_text q qs h)) ∙ e) in
     (blank b ∷ less, ap (λ (u : List Piece). blank b ∷ u) same)
 last_blank (lexeme j w ∷ []) ks ((none, is, longest), h) k n e =
     let named : is_named j ≡ true = (let s : j ∷ [] ≡ ks = cc in ap ends_named s ∙ n) in
     absurd (name_last j w named is (ap last_byte (sym (append-nil w)) ∙ e))
 last_blank (lexeme j w ∷ q ∷ qs) ks (f, h) k n e =
-    let (more, k1, s) = kinds_behind j (kinds_of (q ∷ qs)) ks k in
-    let last : last_byte (text_of (q ∷ qs)) ≡ 10 = sym (last_behind w (text_of (q ∷ qs)) (some_text q qs h)) ∙ e in
+    let (more, k1, s) = kinds_after j (kinds_of (q ∷ qs)) ks k in
+    let last : last_byte (text_of (q ∷ qs)) ≡ 10 = sym (last_after w (text_of (q ∷ qs)) (some_text q qs h)) ∙ e in
     let (less, same) = last_blank (q ∷ qs) more h k1 (named_more j more (ap ends_named s ∙ n)) last in
     (lexeme j w ∷ less, ap (λ (u : List Piece). lexeme j w ∷ u) same)
 last_blank (block v ∷ qs) ks h k n e = absurd cc
@@ -228,13 +228,13 @@ middle_found m x f e =
     let (begins, e2) = so (begins_blank r) (on_some (kinds_in (parts r)) (parts_in m)) f e1 in
     let (ks, k, e3) = some_on (kinds_in (parts r)) (parts_in m) f e2 in
     let cut = cut_pieces r ks k in
-    let behind_it : gap_skipped x ≡ opening ++ text_of cut.pieces =
+    let after_it : gap_skipped x ≡ opening ++ text_of cut.pieces =
     past_is opening (gap_skipped x) r past_it ∙ ap (λ (u : List ℕ). opening ++ u) (sym cut.text) in
     record {
       gap = run is_blank x;
       is_gap = run_passes is_blank x;
       pieces = cut.pieces;
-      bytes = gap_splits x ∙ ap (λ (u : List ℕ). run is_blank x ++ u) behind_it;
+      bytes = gap_splits x ∙ ap (λ (u : List ℕ). run is_blank x ++ u) after_it;
       parted = first_blank r cut.pieces begins cut.parted;
       all_fit = cut.fits;
       kind_list = ks;
@@ -255,21 +255,21 @@ middle_ends m x f g h = last_blank g.pieces g.kind_list g.all_fit g.kinds_are na
 
     last : last_byte (text_of g.pieces) ≡ 10
     last =
-        sym (last_behind opening (text_of g.pieces) some) ∙ sym (last_behind g.gap (opening ++ text_of g.pieces) (λ e. cc))
+        sym (last_after opening (text_of g.pieces) some) ∙ sym (last_after g.gap (opening ++ text_of g.pieces) (λ e. cc))
         ∙ sym (ap last_byte g.bytes) ∙ line_last x h
 
 middle_read : (w : Word) (gap : List ℕ) (qs : List Piece) (f : Parts) → list_all is_blank gap ≡ true
     → (b : ℕ) × (more : List Piece) × (qs ≡ blank b ∷ more) → AllFit qs → declares w ≡ true → is_fit f ≡ true → kinds_of qs ≡ Some (kinds w f)
     → middle_parts f.title (gap ++ (opening ++ text_of qs)) ≡ Some f
 middle_read w gap qs f g (b, more, same) fits d h k =
-    ap (λ (u : List ℕ). on_some (past opening u) behind_it) (gap_over gap (text_of qs) g)
-    ∙ ap (λ (o : Option (List ℕ)). on_some o behind_it) (past_over opening (text_of qs))
+    ap (λ (u : List ℕ). on_some (past opening u) after_it) (gap_over gap (text_of qs) g)
+    ∙ ap (λ (o : Option (List ℕ)). on_some o after_it) (past_over opening (text_of qs))
     ∙ ap (λ (j : Bool). if_so j (on_some (kinds_in (parts (text_of qs))) (parts_in f.title))) begins
     ∙ ap (λ (o : Option (List Kind)). on_some o (parts_in f.title)) (pieces_cut qs fits ∙ k)
     ∙ parts_read w f d h
   where
-    behind_it : List ℕ → Option Parts
-    behind_it r = if_so (begins_blank r) (on_some (kinds_in (parts r)) (parts_in f.title))
+    after_it : List ℕ → Option Parts
+    after_it r = if_so (begins_blank r) (on_some (kinds_in (parts r)) (parts_in f.title))
 
     begins : begins_blank (text_of qs) ≡ true
     begins = (let P : List Piece → Type 0 = λ ps. AllFit ps in ap (λ (ps : List Piece). begins_blank (text_of ps)) same ∙ (subst P same fits).0)
@@ -282,22 +282,22 @@ ending = codes "*)\n" ++ last_line
 regroup : (l g a t p q : List ℕ) → ((((l ++ g) ++ a) ++ t) ++ p) ++ q ≡ l ++ ((g ++ (a ++ t)) ++ (p ++ q))
 regroup l g a t p q = simp append_assoc
 
-behind_title : (c m d r : List ℕ) → ((c ++ m) ++ d) ++ r ≡ c ++ (m ++ (d ++ r))
-behind_title c m d r = simp append_assoc
+after_title : (c m d r : List ℕ) → ((c ++ m) ++ d) ++ r ≡ c ++ (m ++ (d ++ r))
+after_title c m d r = simp append_assoc
 
--- behind the first lines, in the module m
+-- after the first lines, in the module m
 abbrev ended_parts : Word → List ℕ → Option Parts
 ended_parts m y = if_so (ends_with_line y) (middle_parts m y)
 
-abbrev behind_lines : Word → List ℕ → Option Parts
-behind_lines m r = on_some (before ending r) (ended_parts m)
+abbrev after_lines : Word → List ℕ → Option Parts
+after_lines m r = on_some (before ending r) (ended_parts m)
 
 abbrev titled_parts : List ℕ → Word → Option Parts
-titled_parts x m = on_some (past (first_lines m) x) (behind_lines m)
+titled_parts x m = on_some (past (first_lines m) x) (after_lines m)
 
 titled_found : (x : List ℕ) (m : Word) (f : Parts) → titled_parts x m ≡ Some f → IsForm x f
 titled_found x m f e =
-    let (r, p, e1) = some_on (past (first_lines m) x) (behind_lines m) f e in
+    let (r, p, e1) = some_on (past (first_lines m) x) (after_lines m) f e in
     let (y, q, e2) = some_on (before ending r) (ended_parts m) f e1 in
     let (h, e3) = so (ends_with_line y) (middle_parts m y) f e2 in
     formed x m f r y (past_is (first_lines m) x r p) (before_is ending r y q) h (middle_found m y f e3)
@@ -331,17 +331,17 @@ form_found x f e =
 abbrev title_end : List ℕ
 title_end = codes " ----\nEXTENDS Integers\n(*\n"
 
-titled_read : (x rest : List ℕ) (m : Word) → x ≡ first_lines m ++ rest → list_all is_word m ≡ true → form_of x ≡ behind_lines m rest
+titled_read : (x rest : List ℕ) (m : Word) → x ≡ first_lines m ++ rest → list_all is_word m ≡ true → form_of x ≡ after_lines m rest
 titled_read x rest m e h =
-    let split : x ≡ codes "---- MODULE " ++ (m ++ (title_end ++ rest)) = e ∙ behind_title (codes "---- MODULE ") m title_end rest in
+    let split : x ≡ codes "---- MODULE " ++ (m ++ (title_end ++ rest)) = e ∙ after_title (codes "---- MODULE ") m title_end rest in
     let title : run is_word (m ++ (title_end ++ rest)) ≡ m = run_over is_word m (title_end ++ rest) h ∙ append-nil m in
     ap (λ (u : List ℕ). on_some (past (codes "---- MODULE ") u) (λ r. titled_parts x (run is_word r))) split
     ∙ ap (λ (o : Option (List ℕ)). on_some o (λ r. titled_parts x (run is_word r))) (past_over (codes "---- MODULE ") (m ++ (title_end ++ rest)))
     ∙ ap (titled_parts x) title
-    ∙ ap (λ (u : List ℕ). on_some (past (first_lines m) u) (behind_lines m)) e
-    ∙ ap (λ (o : Option (List ℕ)). on_some o (behind_lines m)) (past_over (first_lines m) rest)
+    ∙ ap (λ (u : List ℕ). on_some (past (first_lines m) u) (after_lines m)) e
+    ∙ ap (λ (o : Option (List ℕ)). on_some o (after_lines m)) (past_over (first_lines m) rest)
 
-lines_read : (m : Word) (y : List ℕ) → ends_with_line y ≡ true → behind_lines m (y ++ ending) ≡ middle_parts m y
+lines_read : (m : Word) (y : List ℕ) → ends_with_line y ≡ true → after_lines m (y ++ ending) ≡ middle_parts m y
 lines_read m y h = ap (λ (o : Option (List ℕ)). on_some o (ended_parts m)) (before_over ending y) ∙ ap (λ (b : Bool). if_so b (middle_parts m y)) h
 
 middle_line : (gap : List ℕ) (qs : List Piece) → (less : List Piece) × (qs ≡ less ++ blank 10 ∷ [])

@@ -68,7 +68,7 @@ operand_stands v (name w ∷ more) go r e then =
     then variable_operand more (ap (λ (u : Word). name u ∷ more) (same_bytes w v s.0)) s.1
 operand_stands v _ go r e then = absurd cc
 
--- behind the operand a
+-- after the operand a
 right_stands : {A C : Type 0} (v : Word) (a : Operand) (ks : List Kind) (go : Right → List Kind → Option A) (r : A) → on_right v a ks go ≡ Some r
     → ((x : Right) (more : List Kind) → operand_kind v a ∷ ks ≡ right_kinds v x more → go x more ≡ Some r → C) → C
 right_stands v a (one sign.Plus ∷ ks) go r e then =
@@ -95,7 +95,7 @@ standing m ks w g f t d k e =
     let P : Parts → Type 0 = λ h. Standing m ks h in
     subst P s.1 (record { titled = t; fits = s.0; declared_by = w; is_declared = d; kinds_are = k })
 
--- from the semicolon behind the assignment on
+-- from the semicolon after the assignment on
 abbrev closing : List Kind → Option Parts → Option Parts
 closing ks o = on_semicolon ks (λ ks. on_word (codes "end") ks (λ ks. on_word (codes "algorithm") ks (λ ks. on_end ks o)))
 
@@ -113,7 +113,7 @@ closing_stands ks o f e =
     let s = end_stands ks3 o f e3 in
     (link k1 (link k2 (link k3 s.0)), s.1))))
 
--- from the colon behind the label on
+-- from the colon after the label on
 abbrev setting : Word → List Kind → (Right → Option Parts) → Option Parts
 setting v ks o = on_colon ks (λ ks. on_word v ks (λ ks. on_assign ks (λ ks. on_operand v ks (λ a ks. on_right v a ks (λ r ks. closing ks (o r))))))
 
@@ -131,7 +131,7 @@ setting_stands v ks o f e then =
     let s = closing_stands ks5 (o r) f e5 in
     then r (link k1 (link k2 (link k3 (k4 ∙ k5 ∙ ap (right_kinds v r) s.0)))) s.1)))))
 
--- from the sign behind the variable's name on
+-- from the sign after the variable's name on
 abbrev starting : Word → List Kind → (ℕ → Word → Right → Option Parts) → Option Parts
 starting v ks o =
     on_equal ks (λ ks. on_number ks (λ n ks. on_semicolon ks (λ ks. on_word (codes "begin") ks (λ ks. on_name ks (λ l ks. setting v ks (o n l))))))

@@ -8,7 +8,8 @@ use Rattle.tla_token.proofs.Words.{any_append, all_append}
 use Rattle.tla_token.proofs.Signed.{tells_apart, printed_blank}
 use Rattle.tla_token.proofs.Parted.{word_printed}
 use Rattle.tla_expr.specs.Tree.{Word}
-use Rattle.module_text.specs.Around.{Text, first_is, behind, is_space, word_at, past_name, header_title, is_header, at_line, line_of}
+use Rattle.module_text.specs.TextFront.{Text, first_is, past_all, is_space, word_at, past_name, at_line, line_of}
+use Rattle.module_text.specs.HeaderAndRegion.{header_title, is_header}
 use Rattle.first_path.specs.Form.{Parts, is_name, last_line, IsForm}
 use Rattle.first_path.proofs.Names.{name_words, name_letter, every}
 
@@ -25,10 +26,10 @@ word_over [] [] h k = refl
 word_over [] (b ∷ r) h k = rw k refl
 word_over (b ∷ m) r h k = (let w = and_parts (is_word b) (list_all is_word m) h in rw w.0 (ap (λ (u : Text). b ∷ u) (word_over m r w.1 k)))
 
-pub behind_over : (p : ℕ → Bool) (m r : Text) → list_all p m ≡ true → first_is p r ≡ false → behind p (m ++ r) ≡ r
-behind_over p [] [] h k = refl
-behind_over p [] (b ∷ r) h k = rw k refl
-behind_over p (b ∷ m) r h k = (let w = and_parts (p b) (list_all p m) h in rw w.0 (behind_over p m r w.1 k))
+pub after_over : (p : ℕ → Bool) (m r : Text) → list_all p m ≡ true → first_is p r ≡ false → past_all p (m ++ r) ≡ r
+after_over p [] [] h k = refl
+after_over p [] (b ∷ r) h k = rw k refl
+after_over p (b ∷ m) r h k = (let w = and_parts (p b) (list_all p m) h in rw w.0 (after_over p m r w.1 k))
 
 -- a name begins with no byte of a class that has no byte of a word
 pub first_of_name : (p : ℕ → Bool) → ((b : ℕ) → is_word b ≡ true → p b ≡ false) → (w r : Text) → is_name w ≡ true → first_is p (w ++ r) ≡ false
@@ -36,7 +37,7 @@ first_of_name p c [] r h = absurd cc
 first_of_name p c (b ∷ w) r h = c b (and_parts (is_word b) (list_all is_word w) (name_words (b ∷ w) h)).0
 
 pub past_named : (m r : Text) → is_name m ≡ true → first_is is_word r ≡ false → past_name (m ++ r) ≡ Some r
-past_named m r h k = by (word_at (m ++ r)) (behind is_word (m ++ r)) (word_over m r (name_words m h) k) (behind_over is_word m r (name_words m h) k)
+past_named m r h k = by (word_at (m ++ r)) (past_all is_word (m ++ r)) (word_over m r (name_words m h) k) (after_over is_word m r (name_words m h) k)
   where
     by : (w s : Text) → w ≡ m → s ≡ r → (if list_any is_letter w then Some s else None) ≡ Some r
     by w s e f = rw (e, f, name_letter m h) refl
@@ -45,12 +46,12 @@ past_named m r h k = by (word_at (m ++ r)) (behind is_word (m ++ r)) (word_over 
 pub lexeme_name : (w bytes : List ℕ) → IsLexeme (name w) bytes → is_name bytes ≡ true
 lexeme_name w bytes h = ap is_name h.0 ∙ and_from (list_all is_word w) (list_any is_letter w) h.1.0 h.1.1
 
--- where no word goes on, none does with more behind
+-- where no word goes on, none does with more past_all
 pub first_more : (s t : Text) → first_is is_word s ≡ false → first_is is_word t ≡ false → first_is is_word (s ++ t) ≡ false
 first_more [] t h k = k
 first_more (b ∷ s) t h k = h
 
--- behind a longest name no word goes on
+-- past_all a longest name no word goes on
 pub name_stops : (w bytes rest : List ℕ) → IsLexeme (name w) bytes → IsLongest bytes rest → first_is is_word rest ≡ false
 name_stops w bytes [] h l = refl
 name_stops w bytes (b ∷ rest) h l =
@@ -67,7 +68,7 @@ name_stops w bytes (b ∷ rest) h l =
 abbrev pub header_line : Word → List ℕ
 header_line t = codes "---- MODULE " ++ t ++ codes " ----\n"
 
--- behind `(*`, with its end
+-- past_all `(*`, with its end
 abbrev pub comment_of : List ℕ → List Piece → List ℕ
 comment_of gap ps = codes "\n" ++ gap ++ codes "--algorithm" ++ text_of ps ++ codes "*)"
 
@@ -75,7 +76,7 @@ comment_of gap ps = codes "\n" ++ gap ++ codes "--algorithm" ++ text_of ps ++ co
 abbrev pub units_before : List ℕ → List Piece → List ℕ
 units_before gap ps = codes "EXTENDS Integers\n(*" ++ comment_of gap ps ++ codes "\n"
 
--- ---- the first line, and what is behind it
+-- ---- the first line, and what is past_all it
 
 abbrev pub header_of : Word → Text → Text
 header_of t r = codes "---- MODULE " ++ (t ++ (codes " ----\n" ++ r))
@@ -84,8 +85,8 @@ pub title_is : (t r : Text) → is_name t ≡ true → header_title (header_of t
 title_is t r h =
     let s = codes " ----\n" ++ r in
     let w = name_words t h in
-    let blank_first = behind_over is_space [] (t ++ s) refl (first_of_name is_space word_no_space t s h) in
-    rw (blank_first, word_over t s w refl, behind_over is_word t s w refl, name_letter t h) refl
+    let blank_first = after_over is_space [] (t ++ s) refl (first_of_name is_space word_no_space t s h) in
+    rw (blank_first, word_over t s w refl, after_over is_word t s w refl, name_letter t h) refl
 
 pub header_first : (t r : Text) → is_name t ≡ true → at_line is_header true (header_of t r) ≡ Some ([], header_of t r)
 header_first t r h = rw (title_is t r h) refl

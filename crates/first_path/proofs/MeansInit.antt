@@ -3,31 +3,34 @@ use Rattle.std.proofs.Common.{◌≡◌, pos, Bool, true, false, refl, sym, ◌�
 use Rattle.std.specs.Bool.{IsTrue}
 use Rattle.tla_expr.specs.declared.op.Op.TheVariants.{Equal}
 use Rattle.tla_expr.specs.Tree.{number, name}
-use Rattle.tla_value.specs.Value.{Value, int, text}
+use Rattle.tla_value.specs.Value.{Value, int, text, Outcome}
 use Rattle.tla_value.specs.Order.{same}
 use Rattle.tla_value.specs.OrderLaws.{same_is}
 use Rattle.tla_value.specs.Stops.{plain}
 use Rattle.tla_value.specs.Definitions.{Valuation, no_state}
 use Rattle.pcal_tree.specs.Algorithm.{Naming}
 use Rattle.pcal_tree.specs.Names.{naming}
-use Rattle.pcal_tree.specs.Scope.{State, Outcome}
-use Rattle.pcal_tree.specs.Program.{Program, pc}
+use Rattle.pcal_tree.specs.Scope.{State}
+use Rattle.pcal_tree.specs.Program.{Program}
 use Rattle.pcal_tree.specs.Calls.{label_value}
 use Rattle.pcal_tree.specs.InitialStates.{allowed, Initial}
-use Rattle.pcal_tree.specs.InitialStates as initial
-use Rattle.module_text.specs.Truth.{on_test, and_then, scope, init_holds, TrueExactly}
+use Rattle.tla_value.specs.Value.{and_then, TrueExactly}
+use Rattle.module_text.specs.ActionTruth.{truth_in}
+use Rattle.module_text.specs.ModuleTruth.{scope, init_holds}
 use Rattle.module_text.proofs.Tells.{tells_and, tells_as}
 use Rattle.first_path.specs.Form.{Parts, is_fit}
-use Rattle.first_path.specs.Placed.{Places, leaf, infix_of, is_at, algorithm_at, module_at}
-use Rattle.first_path.specs.Translates.{on_variables, outside_of, InitIs}
+use Rattle.first_path.specs.Placed.{Places, leaf, infix_of, is_at, algorithm_at, module_at, integers_alone}
+use Rattle.promise.specs.ConstantsAndStates.{on_variables}
+use Rattle.promise.specs.NextAndInit.{InitIs}
 use Rattle.first_path.proofs.Fit.{fit_of}
 use Rattle.first_path.proofs.Means.{last_tells, equal_same, number_tells, label_tells}
 use Rattle.first_path.proofs.MeansStep.{program_of, routine, Kept, label_is}
 use Rattle.first_path.proofs.MeansNext.{two_variables, reads_first, label_kept}
+use Rattle.pcal_tree.specs.Variables.{pc}
 
 -- the variable's test, and then that of pc
 both : Bool → Bool → Outcome Bool
-both a b = initial.and_then (initial.and_then (Ok a) (Ok true)) (Ok b)
+both a b = and_then (and_then (Ok a) (Ok true)) (Ok b)
 
 both_true : (a b : Bool) → both a b ≡ Ok true → (a ≡ true) × (b ≡ true)
 unfolding both
@@ -37,7 +40,7 @@ both_true false b e = cc
 
 true_both : (a b : Bool) → a ≡ true → b ≡ true → both a b ≡ Ok true
 unfolding both
-true_both a b d e = λ i. initial.and_then (initial.and_then (Ok (d i)) (Ok true)) (Ok (e i))
+true_both a b d e = λ i. and_then (and_then (Ok (d i)) (Ok true)) (Ok (e i))
 
 abbrev First : Parts → State → Type 0
 First f s = (s f.variable ≡ int (pos f.initial)) × (s pc ≡ text f.label)
@@ -72,8 +75,8 @@ module _ (p : Places) (f : Parts) (names : Naming) (values : Valuation) (k : Kep
       let S = on_variables program s in
       let d = two_variables p f names values s in
       let env = scope plain (module_at q f) values S no_state in
-      let first = on_test plain env (infix_of Equal (q 0) (leaf (name f.variable) (q 0)) (leaf (number f.initial) (q 1))) Ok in
-      let then = on_test plain env (is_at f.label (q 2) (q 3)) Ok in
+      let first = truth_in plain env (infix_of Equal (q 0) (leaf (name f.variable) (q 0)) (leaf (number f.initial) (q 1))) in
+      let then = truth_in plain env (is_at f.label (q 2) (q 3)) in
       let at = s pc ≡ text f.label in
       let reads_pc = reads_first q f values s S no_state pc d.1 in
       tells_as (and_then first (and_then then (Ok true))) (First f s) (Initial program s)
@@ -83,5 +86,5 @@ module _ (p : Places) (f : Parts) (names : Naming) (values : Valuation) (k : Kep
       (first_initial s) (initial_first s)
 
 pub init_is : (p q : Places) (f : Parts) → IsTrue (is_fit f) → InitIs (algorithm_at p f) (module_at q f)
-init_is p q f fit values s constants proper fine =
-    init_of p f (naming (algorithm_at p f) (outside_of (module_at q f))) values (label_kept p q f (fit_of f fit)) q s
+init_is p q f fit values s constants state proper fine =
+    init_of p f (naming (algorithm_at p f) integers_alone) values (label_kept p q f (fit_of f fit)) q s

@@ -8,28 +8,35 @@ use Rattle.tla_expr.specs.Tree.{Word}
 use Rattle.tla_expr.specs.Names.{has, is_same}
 use Rattle.tla_expr.proofs.NameLemmas.{same_refl, has-cons}
 use Rattle.tla_value.specs.declared.fault.FaultKind.TheVariants.{NotInteger}
-use Rattle.tla_value.specs.Value.{Value, text, Outcome}
+use Rattle.tla_value.specs.Value.{Value, text, Outcome, fault}
 use Rattle.tla_value.specs.Order.{same}
+use Rattle.tla_value.proofs.Outcomes.{ok_is}
 use Rattle.tla_value.specs.Stops.{plain}
 use Rattle.tla_value.specs.Meaning.{Env}
 use Rattle.tla_value.specs.Definitions.{Valuation, or_sense}
 use Rattle.tla_value.specs.Standard.{standard_name}
 use Rattle.pcal_tree.specs.Algorithm.{Naming}
 use Rattle.pcal_tree.specs.Names.{first_free, kept, taken_outside, naming}
-use Rattle.pcal_tree.specs.Outside.{bound_in}
-use Rattle.pcal_tree.specs.Scope.{State, fault}
+use Rattle.pcal_tree.specs.BoundNames.{lists_in}
+use Rattle.pcal_tree.specs.Scope.{State}
 use Rattle.pcal_tree.specs.Run.{Has}
-use Rattle.pcal_tree.specs.Program.{Program, pc, Actor}
-use Rattle.pcal_tree.specs.Step.{vars, Agree, IsActor, StepFrom, course_of, pc_of, Sound, Step, Stutters}
-use Rattle.module_text.specs.Truth.{Verdict, on, on_test, and_then, or_all, acted, acts_in, is_value, same_look, all_same, scope, next_holds, TrueExactly}
+use Rattle.pcal_tree.specs.Program.{Program, Actor}
+use Rattle.pcal_tree.specs.Step.{StepFrom, course_of, pc_of, Step, Stutters}
+use Rattle.tla_value.specs.Value.{and_then, or_all, TrueExactly, ◌>>=◌}
+use Rattle.module_text.specs.ActionTruth.{Verdict, value_in, truth_in, acted, is_value, is_unchanged, are_unchanged}
+use Rattle.module_text.specs.ModuleTruth.{acts_in, scope, next_holds}
 use Rattle.module_text.proofs.Tells.{tells_and, tells_or, tells_as, tells_of}
 use Rattle.first_path.specs.Form.{number_operand, variable_operand, Right, single, sum, Parts, is_fit}
-use Rattle.first_path.specs.Placed.{Places, right_tree, is_at, algorithm_at, module_at}
-use Rattle.first_path.specs.Translates.{on_variables, outside_of, NextIs}
+use Rattle.first_path.specs.Placed.{Places, right_tree, is_at, algorithm_at, module_at, integers_alone}
+use Rattle.promise.specs.ConstantsAndStates.{on_variables}
+use Rattle.promise.specs.NextAndInit.{NextIs}
 use Rattle.first_path.proofs.Names.{word_same}
 use Rattle.first_path.proofs.Fit.{Fit, fit_of, not_own}
 use Rattle.first_path.proofs.Means.{true_tells, last_tells, label_free, StandsFor, result, tells_same, label_tells, value_tells, right_tells}
-use Rattle.first_path.proofs.MeansStep.{program_of, got_is, actor, stand, Kept, is_actor, actor_is, stand_is, stands_there, there_stands, course_for, course_is, ended}
+use Rattle.first_path.proofs.MeansStep.{program_of, actor, stand, Kept, is_actor, actor_is, stand_is, stands_there, there_stands, course_for, course_is, ended}
+use Rattle.pcal_tree.specs.Variables.{pc, vars, Agree}
+use Rattle.pcal_tree.specs.Processes.{IsActor}
+use Rattle.pcal_tree.specs.Faults.{Sound}
 
 -- ---- the variables in a state
 
@@ -66,10 +73,10 @@ abbrev Taken : Parts → State → State → Type 0
 Taken f s t = (s pc ≡ text f.label) × (Moved f s t × (t pc ≡ text (codes "Done")))
 
 first_item : Places → Parts → Env → Verdict
-first_item q f env = on_test plain env (is_at f.label (q 4) (q 5)) Ok
+first_item q f env = truth_in plain env (is_at f.label (q 4) (q 5))
 
 second_item : Places → Parts → Valuation → Env → Verdict
-second_item q f T env = on plain env (right_tree f.variable f.right (q 6) (q 7)) (λ v. Ok (is_value (T f.variable) v))
+second_item q f T env = value_in plain env (right_tree f.variable f.right (q 6) (q 7)) >>= (λ v. Ok (is_value (T f.variable) v))
 
 third_item : Valuation → Verdict
 third_item T = and_then (Ok (is_value (T pc) (text (codes "Done")))) (Ok true)
@@ -81,7 +88,7 @@ step_items q f T env = and_then (first_item q f env) (and_then (second_item q f 
 -- the action of the stuttering end
 abbrev end_items : Places → Parts → Valuation → Valuation → Env → Verdict
 end_items q f S T env =
-    and_then (on_test plain env (is_at (codes "Done") (q 9) (q 10)) Ok) (and_then (Ok (all_same S T (f.variable ∷ pc ∷ []))) (Ok true))
+    and_then (truth_in plain env (is_at (codes "Done") (q 9) (q 10))) (and_then (Ok (are_unchanged S T (f.variable ∷ pc ∷ []))) (Ok true))
 
 third_tells : (T : Valuation) (t : State) → T pc ≡ Some (t pc) → TrueExactly (third_item T) (t pc ≡ text (codes "Done"))
 unfolding third_item
@@ -93,7 +100,7 @@ second_tells : (q : Places) (f : Parts) (s t : State) (T : Valuation) (env : Env
     → Good f s → TrueExactly (second_item q f T env) (Moved f s t)
 unfolding second_item
 second_tells q f s t T env h e (x, g) =
-    tells_as (on plain env (right_tree f.variable f.right (q 6) (q 7)) (λ v. Ok (is_value (T f.variable) v))) (t f.variable ≡ x) (Moved f s t)
+    tells_as (value_in plain env (right_tree f.variable f.right (q 6) (q 7)) >>= (λ v. Ok (is_value (T f.variable) v))) (t f.variable ≡ x) (Moved f s t)
     (right_tells f.variable (s f.variable) env h f.right (q 6) (q 7) x g (T f.variable) (t f.variable) e) (λ d. (x, g, d)) back
   where
     back : Moved f s t → t f.variable ≡ x
@@ -135,31 +142,28 @@ Over f s t = (s pc ≡ text (codes "Done")) × Agree (f.variable ∷ pc ∷ []) 
 both_tell : (a b : Bool) (P Q : Type 0) → TrueExactly (Ok a) P → TrueExactly (Ok b) Q → TrueExactly (Ok (a && b)) (P × Q)
 both_tell a b P Q (c, e, h) (d, k, g) = (a && b, refl, (to, from))
   where
-    same_told : (x y : Bool) → ◌≡◌ {A = Outcome Bool} (Ok x) (Ok y) → x ≡ y
-    same_told x y e = cc
-
     to : (a && b) ≡ true → P × Q
-    to w = let u = and_parts a b w in (h.0 (sym (same_told a c e) ∙ u.0), g.0 (sym (same_told b d k) ∙ u.1))
+    to w = let u = and_parts a b w in (h.0 (sym (ok_is e) ∙ u.0), g.0 (sym (ok_is k) ∙ u.1))
 
     from : P × Q → (a && b) ≡ true
-    from (x, y) = and_from a b (same_told a c e ∙ h.1 x) (same_told b d k ∙ g.1 y)
+    from (x, y) = and_from a b (ok_is e ∙ h.1 x) (ok_is k ∙ g.1 y)
 
-look_tells : (o r : Option Value) (v w : Value) → o ≡ Some v → r ≡ Some w → TrueExactly (Ok (same_look o r)) (v ≡ w)
+look_tells : (o r : Option Value) (v w : Value) → o ≡ Some v → r ≡ Some w → TrueExactly (Ok (is_unchanged o r)) (v ≡ w)
 look_tells o r v w d e =
-    tells_of (Ok (same_look o r)) (Ok (same w v)) (v ≡ w) (λ i. Ok (same_look (d i) (e i)))
+    tells_of (Ok (is_unchanged o r)) (Ok (same w v)) (v ≡ w) (λ i. Ok (is_unchanged (d i) (e i)))
     (tells_as (Ok (same w v)) (w ≡ v) (v ≡ w) (tells_same w v) sym sym)
 
-same_tells : (x y : Word) (s t : State) (S T : Valuation) → Two x y s S → Two x y t T → TrueExactly (Ok (all_same S T (x ∷ y ∷ []))) (Agree (x ∷ y ∷ []) s t)
+same_tells : (x y : Word) (s t : State) (S T : Valuation) → Two x y s S → Two x y t T → TrueExactly (Ok (are_unchanged S T (x ∷ y ∷ []))) (Agree (x ∷ y ∷ []) s t)
 same_tells x y s t S T d e =
-    both_tell (same_look (S x) (T x)) (same_look (S y) (T y) && true) (s x ≡ t x) ((s y ≡ t y) × Unit {0})
+    both_tell (is_unchanged (S x) (T x)) (is_unchanged (S y) (T y) && true) (s x ≡ t x) ((s y ≡ t y) × Unit {0})
     (look_tells (S x) (T x) (s x) (t x) d.0 e.0)
-    (both_tell (same_look (S y) (T y)) true (s y ≡ t y) (Unit {0}) (look_tells (S y) (T y) (s y) (t y) d.1 e.1) true_tells)
+    (both_tell (is_unchanged (S y) (T y)) true (s y ≡ t y) (Unit {0}) (look_tells (S y) (T y) (s y) (t y) d.1 e.1) true_tells)
 
 over_tells : (q : Places) (f : Parts) (s t : State) (S T : Valuation) (env : Env) → StandsFor pc (s pc) env → Two f.variable pc s S → Two f.variable pc t T
     → TrueExactly (end_items q f S T env) (Over f s t)
 over_tells q f s t S T env k d e =
-    let same = Ok (all_same S T (f.variable ∷ pc ∷ [])) in
-    let at = on_test plain env (is_at (codes "Done") (q 9) (q 10)) Ok in
+    let same = Ok (are_unchanged S T (f.variable ∷ pc ∷ [])) in
+    let at = truth_in plain env (is_at (codes "Done") (q 9) (q 10)) in
     let agree = Agree (f.variable ∷ pc ∷ []) s t in
     tells_and at (and_then same (Ok true)) (s pc ≡ text (codes "Done")) agree (label_tells (codes "Done") (s pc) env k (q 9) (q 10))
     (λ p. last_tells same agree (same_tells f.variable pc s t S T d e))
@@ -187,7 +191,7 @@ module _ (p : Places) (f : Parts) (names : Naming) (values : Valuation) (h : Fit
       by : (o : Option Value) → result f.right (s f.variable) ≡ o → Has (course_for (p 12) f s o) (Ok u) → Moved f s t × (t pc ≡ text (codes "Done"))
       by None e d = absurd cc
       by (Some x) e d =
-          let is = got_is u (ended f s x) d in
+          let is = ok_is d in
           let first : t f.variable ≡ x = sym agree.0 ∙ ap (λ (u : State). u f.variable) is ∙ ended_variable f s x h in
           ((x, e, first), sym agree.1.0 ∙ ap (λ (u : State). u pc) is ∙ ended_pc f s x)
 
@@ -219,7 +223,7 @@ module _ (p : Places) (f : Parts) (names : Naming) (values : Valuation) (h : Fit
           (inr (stand p f, stands_there p f names values s k at, stops)))
 
   still_over : (s t : State) → Stutters program s t → Over f s t
-  still_over s t (done, agree) = (got_is (s pc) (text (codes "Done")) (done (actor p f) (is_actor p f names values)), agree)
+  still_over s t (done, agree) = (ok_is (done (actor p f) (is_actor p f names values)), agree)
 
   over_still : (s t : State) → Over f s t → Stutters program s t
   over_still s t (over, agree) = (done, agree)
@@ -262,7 +266,7 @@ module _ (p : Places) (f : Parts) (names : Naming) (values : Valuation) (h : Fit
 
 -- ---- with the written names
 
-right_bound : (v : Word) (r : Right) (p q : Place) → bound_in (right_tree v r p q) ≡ []
+right_bound : (v : Word) (r : Right) (p q : Place) → lists_in (right_tree v r p q) ≡ []
 right_bound v (single (number_operand n)) p q = refl
 right_bound v (single variable_operand) p q = refl
 right_bound v (sum (number_operand n) (number_operand m)) p q = refl
@@ -271,16 +275,16 @@ right_bound v (sum variable_operand (number_operand m)) p q = refl
 right_bound v (sum variable_operand variable_operand) p q = refl
 
 -- the label is chosen apart from the variable alone
-taken_are : (p q : Places) (f : Parts) → taken_outside (outside_of (module_at q f)) ++ kept (algorithm_at p f) ≡ f.variable ∷ []
+taken_are : (p q : Places) (f : Parts) → taken_outside integers_alone ++ kept (algorithm_at p f) ≡ f.variable ∷ []
 taken_are p q f = rw (right_bound f.variable f.right (p 12) (p 14)) refl
 
-pub label_kept : (p q : Places) (f : Parts) → Fit f → Kept f (naming (algorithm_at p f) (outside_of (module_at q f)))
+pub label_kept : (p q : Places) (f : Parts) → Fit f → Kept f (naming (algorithm_at p f) integers_alone)
 label_kept p q f h =
-    let taken = taken_outside (outside_of (module_at q f)) ++ kept (algorithm_at p f) in
+    let taken = taken_outside integers_alone ++ kept (algorithm_at p f) in
     ap (λ b. cond b (first_free (codes "Integers" ∷ []) taken f.label) f.label) (word_same f.label)
     ∙ ap (λ ws. first_free (codes "Integers" ∷ []) ws f.label) (taken_are p q f) ∙ label_free f.variable f.label h.label h.not_variable
 
 pub next_is : (p q : Places) (f : Parts) → IsTrue (is_fit f) → NextIs (algorithm_at p f) (module_at q f)
-next_is p q f fit values s t constants sound =
+next_is p q f fit values s t constants from to sound =
     let h = fit_of f fit in
-    next_of p f (naming (algorithm_at p f) (outside_of (module_at q f))) values h (label_kept p q f h) q s t sound
+    next_of p f (naming (algorithm_at p f) integers_alone) values h (label_kept p q f h) q s t sound

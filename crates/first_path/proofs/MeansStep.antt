@@ -4,35 +4,38 @@ use Rattle.tla_token.specs.declared.place.Place.{Place}
 use Rattle.tla_token.proofs.Spelled.{same_bytes}
 use Rattle.tla_expr.specs.Tree.{Word, name}
 use Rattle.tla_value.specs.declared.fault.FaultKind.TheVariants.{NotInteger}
-use Rattle.tla_value.specs.Value.{Value, text, Outcome}
+use Rattle.tla_value.specs.Value.{Value, text, Outcome, fault, ◌>>=◌}
+use Rattle.tla_value.proofs.Outcomes.{ok_is}
 use Rattle.tla_value.specs.Stops.{plain}
 use Rattle.tla_value.specs.Meaning.{eval}
 use Rattle.tla_value.specs.Definitions.{Valuation}
 use Rattle.pcal_tree.specs.Algorithm.{Naming, Routine, Statements, assign, done, then, no_assignments, assignment, alone_routine, mark}
 use Rattle.pcal_tree.specs.declared.mark.Mark.TheVariants.{Plain}
-use Rattle.pcal_tree.specs.Scope.{State, put, Outcome, fault, ◌>>=◌, Part}
+use Rattle.pcal_tree.specs.Scope.{State, put, Part}
 use Rattle.pcal_tree.specs.Run.{Course, ends, stops, after}
 use Rattle.pcal_tree.specs.StepStart.{Begin, at_label}
 use Rattle.pcal_tree.specs.Assign.{set_all}
-use Rattle.pcal_tree.specs.Program.{Program, Actor, pc, routine_scope, part_of}
+use Rattle.pcal_tree.specs.Program.{Program, Actor, routine_scope, part_of}
 use Rattle.pcal_tree.specs.Calls.{label_value, jumped, finished}
-use Rattle.pcal_tree.specs.Step.{OneOf, IsActor, Stand, StandsAt, course_of}
+use Rattle.pcal_tree.specs.Step.{Stand, StandsAt, course_of}
 use Rattle.first_path.specs.Form.{Parts}
 use Rattle.first_path.specs.Placed.{Places, word_at, leaf, right_tree, statement_span, algorithm_at}
 use Rattle.first_path.proofs.Names.{word_same}
 use Rattle.first_path.proofs.Fit.{Fit, not_own}
 use Rattle.first_path.proofs.Means.{StandsFor, result, outcome, right_evaluates}
+use Rattle.pcal_tree.specs.Variables.{pc}
+use Rattle.pcal_tree.specs.Processes.{OneOf, IsActor}
 
 -- with any written names
 abbrev pub program_of : Places → Parts → Naming → Valuation → Program
 program_of p f names values = record { check = plain; constants = values; outside = []; algorithm = algorithm_at p f; naming = names }
 
-abbrev pub behind_label : Places → Parts → Statements
-behind_label p f =
+abbrev pub after_label : Places → Parts → Statements
+after_label p f =
     then (statement_span p f.right) (assign (assignment (leaf (name f.variable) (p 10)) (right_tree f.variable f.right (p 12) (p 14)) no_assignments)) done
 
 abbrev pub body : Places → Parts → Statements
-body p f = mark (word_at f.label (p 8)) Plain (behind_label p f)
+body p f = mark (word_at f.label (p 8)) Plain (after_label p f)
 
 abbrev pub routine : Places → Parts → Routine
 routine p f = alone_routine (algorithm_at p f) (body p f)
@@ -41,7 +44,7 @@ abbrev pub actor : Places → Parts → Actor
 actor p f = record { self = None; own = routine p f }
 
 abbrev pub begins : Places → Parts → Begin
-begins p f = record { items = behind_label p f; exit = codes "Done" }
+begins p f = record { items = after_label p f; exit = codes "Done" }
 
 abbrev pub stand : Places → Parts → Stand
 stand p f = record { routine = routine p f; label = f.label; begins = begins p f }
@@ -53,9 +56,6 @@ first_got x v [] e o = absurd o
 first_got x v (w ∷ []) e (inl h) = h ∙ cc
 first_got x v (w ∷ []) e (inr h) = absurd h
 first_got x v (w ∷ y ∷ vs) e o = absurd cc
-
-pub got_is : {X : Type 0} (x y : X) → ◌≡◌ {A = Outcome X} (Ok x) (Ok y) → x ≡ y
-got_is x y e = cc
 
 -- the one label that there is
 begun : (l m : Word) (b d : Begin) → cond (bytes_eq l m) (Some b) None ≡ Some d → (l ≡ m) × (d ≡ b)
@@ -72,7 +72,7 @@ stand_of p f u l b e h = begun l f.label (begins p f) b (subst (λ u. at_label u
 abbrev pub Kept : Parts → Naming → Type 0
 Kept f names = names.label 0 f.label ≡ f.label
 
--- behind the step, where the right side is x
+-- after the step, where the right side is x
 abbrev pub ended : Parts → State → Value → State
 ended f s x = put pc (text (codes "Done")) (put f.variable x s)
 
@@ -83,7 +83,7 @@ course_for at f s None = stops (fault NotInteger at)
 -- the statement, and then the jump
 steps : Places → Parts → Naming → Valuation → State → Outcome Part → Outcome Value → Course
 steps p f names values s g o =
-    after (g >>= (λ t. (o >>= Ok) >>= (λ v. set_all plain (record { place = p 10; part = t; value = v } ∷ []) s)))
+    after ((g >>= (λ t. o >>= (λ v. Ok (record { place = p 10; part = t; value = v } ∷ [])))) >>= (λ all. set_all plain all s))
     (λ u. finished (jumped (program_of p f names values) (actor p f) (routine p f) (codes "Done") u))
 
 module _ (p : Places) (f : Parts) (names : Naming) (values : Valuation) where
@@ -119,7 +119,7 @@ module _ (p : Places) (f : Parts) (names : Naming) (values : Valuation) where
       (inl refl, ap (λ b. cond b (Some (begins p f)) None) (word_same f.label), ap (λ (v : Value). Ok v) (e ∙ sym (label_is h)))
 
   pub there_stands : (s : State) → Kept f names → StandsAt program s (actor p f) (stand p f) → s pc ≡ text f.label
-  there_stands s h (o, b, k) = got_is (s pc) (label_value program (routine p f) f.label) k ∙ label_is h
+  there_stands s h (o, b, k) = ok_is k ∙ label_is h
 
   -- ---- the course
 

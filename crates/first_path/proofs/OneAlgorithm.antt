@@ -8,14 +8,15 @@ use Rattle.tla_expr.specs.Tree.{Word}
 use Rattle.tla_expr.specs.Lexical as tk
 use Rattle.tla_expr.specs.Spelling.{Phrase, IsGood}
 use Rattle.pcal_tree.specs.Algorithm.{Name, Algorithm}
-use Rattle.pcal_tree.specs.GrammarView.{Token, seen, semicolon, views}
+use Rattle.tla_expr.specs.Lexical.{Token}
+use Rattle.pcal_tree.specs.AlgorithmTokens.{views}
 use Rattle.pcal_tree.specs.GrammarParts as part
-use Rattle.pcal_tree.specs.GrammarParts.{All, key, mark, expression}
+use Rattle.pcal_tree.specs.GrammarParts.{key, mark, expression}
 use Rattle.pcal_tree.specs.GrammarP.{sequence}
 use Rattle.pcal_tree.specs.Grammar.{p_syntax, c_syntax, Macro, macro, Procedure, procedure, Fair, unfair, weak, strong, fair, Head, algorithm, fair_algorithm, head, Define, no_define, define_end, define_braces, define, Main, begin, block, processes, each, main, Around, to_end, in_braces, Text, spell, GoodAround, GoodDefine, GoodMain, Good, around, algorithm_of, SpellsP, SpellsC}
 use Rattle.first_path.proofs.OneStatement.{tail, Calmly, one_expression, calm_token, first_sort, first_word, first_place, apart, key_apart, Labelled, sequence_of, same_name, one_sequence}
 
--- ---- what stands behind the variables
+-- ---- what stands after the variables
 
 -- tokens that begin with a reserved word, which doesn't declare
 record Opened (ts : List Token) : Type 0 where
@@ -26,7 +27,7 @@ record Opened (ts : List Token) : Type 0 where
   other : (c : Bool) → bytes_eq (part.variable_word c) opener ≡ false
 
 opened_calm : (ts : List Token) → Opened ts → Calmly ts
-opened_calm ts o = subst Calmly (sym o.is) (calm_token o.place (seen (tk.reserved o.opener)) o.more refl)
+opened_calm ts o = subst Calmly (sym o.is) (calm_token o.place (tk.reserved o.opener) o.more refl)
 
 opened_sort : (ts : List Token) → Opened ts → first_sort ts ≡ 2
 opened_sort ts o = ap first_sort o.is
@@ -45,18 +46,18 @@ fair_opened unfair p ts = opened p (codes "process") ts refl refl
 fair_opened (weak a) p ts = opened a (codes "fair") _ refl refl
 fair_opened (strong a b) p ts = opened a (codes "fair") _ refl refl
 
-abbrev behind : Define → List Macro → List Procedure → Main → List Token → List Token
-behind d ms ps m ts = define d (each macro ms (each procedure ps (main m ts)))
+abbrev after : Define → List Macro → List Procedure → Main → List Token → List Token
+after d ms ps m ts = define d (each macro ms (each procedure ps (main m ts)))
 
-behind_opened : (d : Define) (ms : List Macro) (ps : List Procedure) (m : Main) → GoodDefine p_syntax d → GoodMain p_syntax m → (ts : List Token)
-    → Opened (behind d ms ps m ts)
-behind_opened no_define [] [] (begin a ss) g h ts = opened a (codes "begin") _ refl refl
-behind_opened no_define [] [] (block a ss b s) g h ts = absurd h
-behind_opened no_define [] [] (processes x xs) g h ts = fair_opened x.fair x.place _
-behind_opened no_define [] (x ∷ ps) m g h ts = opened x.place (codes "procedure") _ refl refl
-behind_opened no_define (x ∷ ms) ps m g h ts = opened x.place (codes "macro") _ refl refl
-behind_opened (define_end a ds b d s) ms ps m g h ts = opened a (codes "define") _ refl refl
-behind_opened (define_braces a b ds d s) ms ps m g h ts = absurd g
+after_opened : (d : Define) (ms : List Macro) (ps : List Procedure) (m : Main) → GoodDefine p_syntax d → GoodMain p_syntax m → (ts : List Token)
+    → Opened (after d ms ps m ts)
+after_opened no_define [] [] (begin a ss) g h ts = opened a (codes "begin") _ refl refl
+after_opened no_define [] [] (block a ss b s) g h ts = absurd h
+after_opened no_define [] [] (processes x xs) g h ts = fair_opened x.fair x.place _
+after_opened no_define [] (x ∷ ps) m g h ts = opened x.place (codes "procedure") _ refl refl
+after_opened no_define (x ∷ ms) ps m g h ts = opened x.place (codes "macro") _ refl refl
+after_opened (define_end a ds b d s) ms ps m g h ts = opened a (codes "define") _ refl refl
+after_opened (define_braces a b ds d s) ms ps m g h ts = absurd g
 
 fair_apart : (f : Fair) (p q : Place) (r s : List Token) → fair f (key p (codes "process") r) ≡ key q (codes "begin") s → ⊥
 fair_apart unfair p q r s e = key_apart p q (codes "process") (codes "begin") r s refl refl e
@@ -64,20 +65,20 @@ fair_apart (weak a) p q r s e = key_apart a q (codes "fair") (codes "begin") _ s
 fair_apart (strong a b) p q r s e = key_apart a q (codes "fair") (codes "begin") _ s refl refl e
 
 -- where `begin` is the first, nothing but the statement stands there
-one_behind : (l : Labelled) (q : Place) (d : Define) (ms : List Macro) (ps : List Procedure) (m : Main) → GoodDefine p_syntax d → GoodMain p_syntax m
+one_after : (l : Labelled) (q : Place) (d : Define) (ms : List Macro) (ps : List Procedure) (m : Main) → GoodDefine p_syntax d → GoodMain p_syntax m
     → (a b : Place) (r s : List Token)
-    → behind d ms ps m (key a (codes "end") r) ≡ key q (codes "begin") (sequence (sequence_of l) (key b (codes "end") s))
+    → after d ms ps m (key a (codes "end") r) ≡ key q (codes "begin") (sequence (sequence_of l) (key b (codes "end") s))
     → (d ≡ no_define) × (ms ≡ []) × (ps ≡ []) × (m ≡ begin q (sequence_of l)) × (key a (codes "end") r ≡ key b (codes "end") s)
-one_behind l q no_define [] [] (begin p ss) g h a b r s e =
+one_after l q no_define [] [] (begin p ss) g h a b r s e =
     let w = one_sequence l ss h a b r s (ap tail e) in
     let d : p ≡ q = ap (first_place p) e in
     (refl, refl, refl, (λ i. begin (d i) (w.0 i)), w.1)
-one_behind l q no_define [] [] (block p ss t x) g h a b r s e = absurd h
-one_behind l q no_define [] [] (processes x xs) g h a b r s e = absurd (fair_apart x.fair x.place q _ _ e)
-one_behind l q no_define [] (x ∷ ps) m g h a b r s e = absurd (key_apart x.place q (codes "procedure") (codes "begin") _ _ refl refl e)
-one_behind l q no_define (x ∷ ms) ps m g h a b r s e = absurd (key_apart x.place q (codes "macro") (codes "begin") _ _ refl refl e)
-one_behind l q (define_end p ds t d x) ms ps m g h a b r s e = absurd (key_apart p q (codes "define") (codes "begin") _ _ refl refl e)
-one_behind l q (define_braces p t ds d x) ms ps m g h a b r s e = absurd g
+one_after l q no_define [] [] (block p ss t x) g h a b r s e = absurd h
+one_after l q no_define [] [] (processes x xs) g h a b r s e = absurd (fair_apart x.fair x.place q _ _ e)
+one_after l q no_define [] (x ∷ ps) m g h a b r s e = absurd (key_apart x.place q (codes "procedure") (codes "begin") _ _ refl refl e)
+one_after l q no_define (x ∷ ms) ps m g h a b r s e = absurd (key_apart x.place q (codes "macro") (codes "begin") _ _ refl refl e)
+one_after l q (define_end p ds t d x) ms ps m g h a b r s e = absurd (key_apart p q (codes "define") (codes "begin") _ _ refl refl e)
+one_after l q (define_braces p t ds d x) ms ps m g h a b r s e = absurd g
 
 -- ---- the variable
 
@@ -102,7 +103,7 @@ one_value : (k : Declared) (x : Name) (p : Place) (a : Phrase) → IsGood a → 
 one_value k x p a g r s c e =
     let d : x ≡ k.name = same_name x k.name _ _ e in
     let q : p ≡ k.equal = ap (first_place p) (ap tail e) in
-    let w = one_expression a k.value g k.good r (part.semicolon k.last s) c (calm_token k.last semicolon s refl) (ap tail (ap tail e)) in
+    let w = one_expression a k.value g k.good r (part.semicolon k.last s) c (calm_token k.last (tk.mark tk.semicolon) s refl) (ap tail (ap tail e)) in
     (d, (λ i. part.equals (q i) (w.0 i)), w.1)
 
 -- one variable alone stands before a reserved word
@@ -117,10 +118,10 @@ one_variables k (part.last_variable x (part.equals p a) None) g r o q w s e =
     let z = one_value k x p a g r (key q w s) (opened_calm r o) e in
     absurd (apart r _ (ap (λ (n : ℕ). nat_eq n 10) (opened_sort r o)) z.2)
 one_variables k (part.last_variable x (part.equals p a) (Some (part.by_comma t))) g r o q w s e =
-    let z = one_value k x p a g (mark t tk.comma r) (key q w s) (calm_token t (seen (tk.mark tk.comma)) r refl) e in
+    let z = one_value k x p a g (mark t tk.comma r) (key q w s) (calm_token t (tk.mark tk.comma) r refl) e in
     absurd (apart _ _ refl z.2)
 one_variables k (part.last_variable x (part.equals p a) (Some (part.by_semicolon t))) g r o q w s e =
-    let z = one_value k x p a g (part.semicolon t r) (key q w s) (calm_token t semicolon r refl) e in
+    let z = one_value k x p a g (part.semicolon t r) (key q w s) (calm_token t (tk.mark tk.semicolon) r refl) e in
     let d : t ≡ k.last = ap (first_place t) z.2 in
     ((λ i. part.last_variable (z.0 i) (z.1 i) (Some (part.by_semicolon (d i)))), ap tail z.2)
 one_variables k (part.variable x part.unset (part.by_semicolon p) vs) g r o q w s e = absurd (apart _ _ refl (ap tail e))
@@ -128,11 +129,11 @@ one_variables k (part.variable x part.unset (part.by_comma p) vs) g r o q w s e 
 one_variables k (part.variable x (part.among p a) t vs) g r o q w s e = absurd (apart _ _ refl (ap tail e))
 one_variables k (part.variable x (part.equals p a) (part.by_comma t) vs) g r o q w s e =
     let us : List Token = part.variables vs r in
-    let z = one_value k x p a g.0 (mark t tk.comma us) (key q w s) (calm_token t (seen (tk.mark tk.comma)) us refl) e in
+    let z = one_value k x p a g.0 (mark t tk.comma us) (key q w s) (calm_token t (tk.mark tk.comma) us refl) e in
     absurd (apart _ _ refl z.2)
 one_variables k (part.variable x (part.equals p a) (part.by_semicolon t) vs) g r o q w s e =
     let us : List Token = part.variables vs r in
-    let z = one_value k x p a g.0 (part.semicolon t us) (key q w s) (calm_token t semicolon us refl) e in
+    let z = one_value k x p a g.0 (part.semicolon t us) (key q w s) (calm_token t (tk.mark tk.semicolon) us refl) e in
     absurd (apart us (key q w s) (ap (λ (n : ℕ). nat_eq n 2) (variables_first vs r)) (ap tail z.2))
 
 same_declares : (c d : Bool) → part.variable_word c ≡ part.variable_word d → c ≡ d
@@ -193,21 +194,21 @@ one_head (fair_algorithm a b) p r s e = absurd (both_ways false refl (sym (ap (�
 abbrev end_of : Whole → List Token
 end_of k = key k.ends (codes "end") (key k.last (codes "algorithm") [])
 
--- the tokens behind the algorithm's name
+-- the tokens after the algorithm's name
 abbrev inner_of : Whole → List Token
 inner_of k = part.section_tokens (section_of k) (key k.begins (codes "begin") (sequence (sequence_of k.statement) (end_of k)))
 
 one_inside : (k : Whole) (a : Around) (vs : part.Section) (d : Define) (ms : List Macro) (ps : List Procedure) (m : Main)
     → GoodAround p_syntax a → part.GoodSection true vs → GoodDefine p_syntax d → GoodMain p_syntax m
-    → around a (λ us. part.section_tokens vs (behind d ms ps m us)) [] ≡ inner_of k
+    → around a (λ us. part.section_tokens vs (after d ms ps m us)) [] ≡ inner_of k
     → (a ≡ to_end k.ends k.last) × (vs ≡ section_of k) × (d ≡ no_define) × (ms ≡ []) × (ps ≡ []) × (m ≡ begin k.begins (sequence_of k.statement))
 one_inside k (in_braces p q) vs d ms ps m ga gv gd gm e = absurd ga
 one_inside k (to_end p q) vs d ms ps m ga gv gd gm e =
     let us : List Token = key q (codes "algorithm") [] in
-    let r : List Token = behind d ms ps m (key p (codes "end") us) in
-    let o : Opened r = behind_opened d ms ps m gd gm (key p (codes "end") us) in
+    let r : List Token = after d ms ps m (key p (codes "end") us) in
+    let o : Opened r = after_opened d ms ps m gd gm (key p (codes "end") us) in
     let w = one_section k.variable k.plural k.section vs gv r o k.begins (codes "begin") (sequence (sequence_of k.statement) (end_of k)) e in
-    let z = one_behind k.statement k.begins d ms ps m gd gm p k.ends us (key k.last (codes "algorithm") []) w.1 in
+    let z = one_after k.statement k.begins d ms ps m gd gm p k.ends us (key k.last (codes "algorithm") []) w.1 in
     let b : p ≡ k.ends = ap (first_place p) z.4 in
     let c : q ≡ k.last = ap (first_place q) (ap tail z.4) in
     ((λ i. to_end (b i) (c i)), w.0, z.0, z.1, z.2, z.3)
@@ -229,7 +230,7 @@ one_text k y g e =
       main = w.5 i;
     }
 
--- in the other syntax there is a brace behind the name
+-- in the other syntax there is a brace after the name
 braced : (a : Around) (f : List Token → List Token) (p : Place) (w : Word) (s : List Token) → GoodAround c_syntax a → around a f [] ≡ key p w s → ⊥
 braced (to_end a b) f p w s g e = absurd g
 braced (in_braces a b) f p w s g e = apart _ _ refl e

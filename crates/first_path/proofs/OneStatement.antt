@@ -5,57 +5,32 @@ use Rattle.std.proofs.lemmas.Bool.{both_ways}
 use Rattle.tla_token.specs.declared.place.Place.{Place}
 use Rattle.tla_expr.specs.declared.op.Op.TheVariants as op
 use Rattle.tla_expr.specs.Tree.{Word}
-use Rattle.tla_expr.specs.Lexical.{ExprToken}
+use Rattle.tla_expr.specs.Lexical.{ExprToken, Token}
 use Rattle.tla_expr.specs.Lexical as tk
 use Rattle.tla_expr.specs.Spelling.{Phrase, IsGood}
 use Rattle.tla_expr.specs.Spelling as spelled
 use Rattle.tla_expr.proofs.ReadStops.{is_calm, Calm}
 use Rattle.tla_expr.proofs.ReadAll.{one_before}
-use Rattle.module_text.proofs.OnePhrase.{phrase_joins}
 use Rattle.pcal_tree.specs.Algorithm.{Name}
-use Rattle.pcal_tree.specs.GrammarView.{Kind, Token, seen, assigns, beside, semicolon}
 use Rattle.pcal_tree.specs.GrammarParts as part
-use Rattle.pcal_tree.specs.GrammarParts.{key, mark, token, lifted, expression, is_left_side}
-use Rattle.pcal_tree.specs.GrammarP.{Statement, simple, branch, either, with, loop, Sequence, last_statement, more_statements, statement, sequence, GoodStatement, GoodSequence}
+use Rattle.pcal_tree.specs.GrammarParts.{key, mark, token, expression, is_left_side}
+use Rattle.pcal_tree.specs.GrammarP.{Statement, simple, branch, either, with, while, Sequence, last_statement, more_statements, statement, sequence, GoodStatement, GoodSequence}
 
 -- ---- phrases among the tokens of algorithms
-
-abbrev pub lower : Kind → ExprToken
-lower (seen k) = k
-lower k = tk.other
-
-abbrev pub lowered : List Token → List tk.Token
-lowered [] = []
-lowered (t ∷ ts) = tk.token t.place (lower t.kind) ∷ lowered ts
-
-lowered_lifted : (ts : List tk.Token) (r : List Token) → lowered (lifted ts r) ≡ ts ++ lowered r
-lowered_lifted [] r = refl
-lowered_lifted (t ∷ ts) r = ap (λ (us : List tk.Token). t ∷ us) (lowered_lifted ts r)
 
 abbrev pub tail : List Token → List Token
 tail [] = []
 tail (t ∷ ts) = ts
 
-lifted_back : (ts : List tk.Token) (r s : List Token) → lifted ts r ≡ lifted ts s → r ≡ s
-lifted_back [] r s h = h
-lifted_back (t ∷ ts) r s h = lifted_back ts r s (ap tail h)
-
-lowered_expression : (a : Phrase) (r : List Token) → lowered (expression a r) ≡ spelled.spell a (lowered r)
-lowered_expression a r = lowered_lifted (spelled.spell a []) r ∙ phrase_joins a [] (lowered r)
-
 -- these tokens go on no phrase
 abbrev pub Calmly : List Token → Type 0
-Calmly r = Calm 0 (lowered r)
+Calmly r = Calm 0 r
 
 pub one_expression : (a b : Phrase) → IsGood a → IsGood b → (r s : List Token) → Calmly r → Calmly s → expression a r ≡ expression b s
     → (a ≡ b) × (r ≡ s)
-one_expression a b ga gb r s cr cs same =
-    let tokens : spelled.spell a (lowered r) ≡ spelled.spell b (lowered s) =
-    sym (lowered_expression a r) ∙ ap lowered same ∙ lowered_expression b s in
-    let it = (one_before 0 a b ga gb (lowered r) (lowered s) cr cs tokens).0 in
-    (it, lifted_back (spelled.spell a []) r s (same ∙ sym (ap (λ (c : Phrase). expression c s) it)))
+one_expression a b ga gb r s cr cs same = one_before 0 a b ga gb r s cr cs same
 
-pub calm_token : (p : Place) (k : Kind) (r : List Token) → is_calm (lower k) ≡ true → Calmly (token p k r)
+pub calm_token : (p : Place) (k : ExprToken) (r : List Token) → is_calm k ≡ true → Calmly (token p k r)
 calm_token p k r h = by (nat_lt 0 p.col) refl
   where
     by : (b : Bool) → nat_lt 0 p.col ≡ b → Calmly (token p k r)
@@ -64,26 +39,26 @@ calm_token p k r h = by (nat_lt 0 p.col) refl
 
 -- ---- first tokens
 
-abbrev pub sort : Kind → ℕ
-sort (seen (tk.word x)) = 1
-sort (seen (tk.reserved w)) = 2
-sort (seen (tk.mark tk.colon)) = 3
-sort (seen (tk.mark tk.open_bracket)) = 4
-sort (seen (tk.mark tk.open_brace)) = 5
-sort (seen (tk.mark tk.comma)) = 6
-sort (seen (tk.sign op.Equal)) = 7
-sort assigns = 8
-sort beside = 9
-sort semicolon = 10
+abbrev pub sort : ExprToken → ℕ
+sort (tk.word x) = 1
+sort (tk.reserved w) = 2
+sort (tk.mark tk.colon) = 3
+sort (tk.mark tk.open_bracket) = 4
+sort (tk.mark tk.open_brace) = 5
+sort (tk.mark tk.comma) = 6
+sort (tk.sign op.Equal) = 7
+sort (tk.mark tk.assigns) = 8
+sort (tk.mark tk.beside) = 9
+sort (tk.mark tk.semicolon) = 10
 sort k = 0
 
 abbrev pub first_sort : List Token → ℕ
 first_sort [] = 0
 first_sort (t ∷ ts) = sort t.kind
 
-abbrev pub word_of : Kind → Word
-word_of (seen (tk.word x)) = x
-word_of (seen (tk.reserved x)) = x
+abbrev pub word_of : ExprToken → Word
+word_of (tk.word x) = x
+word_of (tk.reserved x) = x
 word_of k = []
 
 abbrev pub first_word : List Token → Word
@@ -102,8 +77,8 @@ pub key_apart : (p q : Place) (v w : Word) (r s : List Token) → bytes_eq v w �
 key_apart p q v w r s n y e =
     both_ways (bytes_eq v v) (ap (λ (u : Word). bytes_eq v u) (ap first_word e) ∙ n) y
 
-left_start : (l : Phrase) → IsTrue (is_left_side l) → (r : List tk.Token)
-    → (p : Place) × (x : Word) × (us : List tk.Token) × (spelled.spell l r ≡ tk.token p (tk.word x) ∷ us)
+left_start : (l : Phrase) → IsTrue (is_left_side l) → (r : List Token)
+    → (p : Place) × (x : Word) × (us : List Token) × (spelled.spell l r ≡ tk.token p (tk.word x) ∷ us)
 left_start (spelled.name p x) h r = (p, x, r, refl)
 left_start (spelled.apply a p xs q) h r = left_start a h _
 left_start (spelled.select a p f) h r = left_start a h _
@@ -112,9 +87,8 @@ left_start a h r = absurd cc
 -- a left side begins with no reserved word
 left_no_key : (l : Phrase) → IsTrue (is_left_side l) → (r : List Token) (q : Place) (w : Word) (us : List Token) → expression l r ≡ key q w us → ⊥
 left_no_key l h r q w us e =
-    let (p, x, vs, is) = left_start l h [] in
-    let same : expression l r ≡ lifted (tk.token p (tk.word x) ∷ vs) r = ap (λ (ts : List tk.Token). lifted ts r) is in
-    let two : token p (seen (tk.word x)) (lifted vs r) ≡ key q w us = sym same ∙ e in
+    let (p, x, vs, is) = left_start l h r in
+    let two : token p (tk.word x) vs ≡ key q w us = sym is ∙ e in
     apart _ _ refl two
 
 -- ---- no statement begins with `end`
@@ -122,12 +96,12 @@ left_no_key l h r q w us e =
 abbrev Ended : (List Token → List Token) → Type 0
 Ended f = (ts : List Token) (q : Place) (us : List Token) → f ts ≡ key q (codes "end") us → ⊥
 
-moves_no_end : (ms : part.Assignments) → part.GoodMoves ms → Ended (part.moves ms)
-moves_no_end (part.last_assignment l p e) g ts q us h = left_no_key l g.0 _ q (codes "end") us h
-moves_no_end (part.assignment l p e s ms) g ts q us h = left_no_key l g.0 _ q (codes "end") us h
+assignments_no_end : (ms : part.Assignments) → part.GoodAssignments ms → Ended (part.assignments ms)
+assignments_no_end (part.last_assignment l p e) g ts q us h = left_no_key l g.0 _ q (codes "end") us h
+assignments_no_end (part.assignment l p e s ms) g ts q us h = left_no_key l g.0 _ q (codes "end") us h
 
 simple_no_end : (s : part.Simple) → part.GoodSimple s → Ended (part.simple_tokens s)
-simple_no_end (part.assign ms) g ts q us h = moves_no_end ms g ts q us h
+simple_no_end (part.assign ms) g ts q us h = assignments_no_end ms g ts q us h
 simple_no_end (part.await p e) g ts q us h = key_apart p q (codes "await") (codes "end") _ us refl refl h
 simple_no_end (part.when p e) g ts q us h = key_apart p q (codes "when") (codes "end") _ us refl refl h
 simple_no_end (part.print p e) g ts q us h = key_apart p q (codes "print") (codes "end") _ us refl refl h
@@ -143,7 +117,7 @@ statement_no_end (simple s) g ts q us h = simple_no_end s g ts q us h
 statement_no_end (branch p e t a b r s) g ts q us h = key_apart p q (codes "if") (codes "end") _ us refl refl h
 statement_no_end (either p a bs r s) g ts q us h = key_apart p q (codes "either") (codes "end") _ us refl refl h
 statement_no_end (with p bs t a r s) g ts q us h = key_apart p q (codes "with") (codes "end") _ us refl refl h
-statement_no_end (loop p e t a r s) g ts q us h = key_apart p q (codes "while") (codes "end") _ us refl refl h
+statement_no_end (while p e t a r s) g ts q us h = key_apart p q (codes "while") (codes "end") _ us refl refl h
 
 pub no_end : (ss : Sequence) → GoodSequence ss → Ended (sequence ss)
 no_end (last_statement part.no_labels st p) g ts q us h = statement_no_end st g _ q us h
@@ -179,13 +153,13 @@ sequence_of k = last_statement (labels_of k) (assignment k) (Some k.last)
 no_label : (st : Statement) → GoodStatement st → (n : Name) → spelled.Right 0 n.place → (r : List Token) (q : Place) (s : List Token)
     → statement st r ≡ part.name n (mark q tk.colon s) → ⊥
 no_label (simple (part.assign (part.last_assignment l a b))) g n h r q s e =
-    let w = one_expression l (spelled.name n.place n.word) g.1 h (token a assigns (expression b r)) (mark q tk.colon s)
-    (calm_token a assigns (expression b r) refl) (calm_token q (seen (tk.mark tk.colon)) s refl) e in
+    let w = one_expression l (spelled.name n.place n.word) g.1 h (mark a tk.assigns (expression b r)) (mark q tk.colon s)
+    (calm_token a (tk.mark tk.assigns) (expression b r) refl) (calm_token q (tk.mark tk.colon) s refl) e in
     apart _ _ refl w.1
 no_label (simple (part.assign (part.assignment l a b c ms))) g n h r q s e =
-    let us : List Token = expression b (token c beside (part.moves ms r)) in
-    let w = one_expression l (spelled.name n.place n.word) g.1 h (token a assigns us) (mark q tk.colon s)
-    (calm_token a assigns us refl) (calm_token q (seen (tk.mark tk.colon)) s refl) e in
+    let us : List Token = expression b (mark c tk.beside (part.assignments ms r)) in
+    let w = one_expression l (spelled.name n.place n.word) g.1 h (mark a tk.assigns us) (mark q tk.colon s)
+    (calm_token a (tk.mark tk.assigns) us refl) (calm_token q (tk.mark tk.colon) s refl) e in
     apart _ _ refl w.1
 no_label (simple (part.macro x (part.no_arguments a b))) g n h r q s e = apart _ _ refl (ap tail e)
 no_label (simple (part.macro x (part.some_arguments a xs b))) g n h r q s e = apart _ _ refl (ap tail e)
@@ -200,26 +174,26 @@ no_label (simple (part.return p)) g n h r q s e = apart _ _ refl e
 no_label (branch p b t c d u v) g n h r q s e = apart _ _ refl e
 no_label (either p c bs u v) g n h r q s e = apart _ _ refl e
 no_label (with p bs t c u v) g n h r q s e = apart _ _ refl e
-no_label (loop p b t c u v) g n h r q s e = apart _ _ refl e
+no_label (while p b t c u v) g n h r q s e = apart _ _ refl e
 
 one_statement : (k : Labelled) (st : Statement) → GoodStatement st → (r s : List Token) → Calmly r → Calmly s → nat_eq 9 (first_sort s) ≡ false
     → statement st r ≡ statement (assignment k) s → (st ≡ assignment k) × (r ≡ s)
 one_statement k (simple (part.assign (part.last_assignment l a b))) g r s cr cs n e =
     let us : List Token = expression b r in
     let vs : List Token = expression k.value s in
-    let w = one_expression l (spelled.name k.place k.variable) g.1 k.right (token a assigns us) (token k.assigned assigns vs)
-    (calm_token a assigns us refl) (calm_token k.assigned assigns vs refl) e in
+    let w = one_expression l (spelled.name k.place k.variable) g.1 k.right (mark a tk.assigns us) (mark k.assigned tk.assigns vs)
+    (calm_token a (tk.mark tk.assigns) us refl) (calm_token k.assigned (tk.mark tk.assigns) vs refl) e in
     let d : a ≡ k.assigned = ap (first_place a) w.1 in
     let u = one_expression b k.value g.2 k.good r s cr cs (ap tail w.1) in
     ((λ i. simple (part.assign (part.last_assignment (w.0 i) (d i) (u.0 i)))), u.1)
 one_statement k (simple (part.assign (part.assignment l a b c ms))) g r s cr cs n e =
-    let ts : List Token = part.moves ms r in
-    let us : List Token = expression b (token c beside ts) in
+    let ts : List Token = part.assignments ms r in
+    let us : List Token = expression b (mark c tk.beside ts) in
     let vs : List Token = expression k.value s in
-    let w = one_expression l (spelled.name k.place k.variable) g.1 k.right (token a assigns us) (token k.assigned assigns vs)
-    (calm_token a assigns us refl) (calm_token k.assigned assigns vs refl) e in
-    let u = one_expression b k.value g.2 k.good (token c beside ts) s (calm_token c beside ts refl) cs (ap tail w.1) in
-    absurd (apart (token c beside ts) s n u.1)
+    let w = one_expression l (spelled.name k.place k.variable) g.1 k.right (mark a tk.assigns us) (mark k.assigned tk.assigns vs)
+    (calm_token a (tk.mark tk.assigns) us refl) (calm_token k.assigned (tk.mark tk.assigns) vs refl) e in
+    let u = one_expression b k.value g.2 k.good (mark c tk.beside ts) s (calm_token c (tk.mark tk.beside) ts refl) cs (ap tail w.1) in
+    absurd (apart (mark c tk.beside ts) s n u.1)
 one_statement k (simple (part.macro x (part.no_arguments a b))) g r s cr cs n e = absurd (apart _ _ refl (ap tail e))
 one_statement k (simple (part.macro x (part.some_arguments a xs b))) g r s cr cs n e = absurd (apart _ _ refl (ap tail e))
 one_statement k (simple (part.await p b)) g r s cr cs n e = absurd (apart _ _ refl e)
@@ -233,7 +207,7 @@ one_statement k (simple (part.return p)) g r s cr cs n e = absurd (apart _ _ ref
 one_statement k (branch p b t c d u v) g r s cr cs n e = absurd (apart _ _ refl e)
 one_statement k (either p c bs u v) g r s cr cs n e = absurd (apart _ _ refl e)
 one_statement k (with p bs t c u v) g r s cr cs n e = absurd (apart _ _ refl e)
-one_statement k (loop p b t c u v) g r s cr cs n e = absurd (apart _ _ refl e)
+one_statement k (while p b t c u v) g r s cr cs n e = absurd (apart _ _ refl e)
 
 pub same_name : (x y : Name) (r s : List Token) → part.name x r ≡ part.name y s → x ≡ y
 same_name x y r s e =
@@ -267,18 +241,18 @@ pub one_sequence : (k : Labelled) (ss : Sequence) → GoodSequence ss → (a b :
     → (ss ≡ sequence_of k) × (key a (codes "end") r ≡ key b (codes "end") s)
 one_sequence k (last_statement ls st None) g a b r s e =
     let w = one_labelled k ls st g (key a (codes "end") r) (part.semicolon k.last (key b (codes "end") s))
-    (calm_token a (seen (tk.reserved (codes "end"))) r refl) (calm_token k.last semicolon (key b (codes "end") s) refl) refl e in
+    (calm_token a (tk.reserved (codes "end")) r refl) (calm_token k.last (tk.mark tk.semicolon) (key b (codes "end") s) refl) refl e in
     absurd (apart _ _ refl w.2)
 one_sequence k (last_statement ls st (Some m)) g a b r s e =
     let us : List Token = key a (codes "end") r in
     let vs : List Token = key b (codes "end") s in
-    let w = one_labelled k ls st g (part.semicolon m us) (part.semicolon k.last vs) (calm_token m semicolon us refl)
-    (calm_token k.last semicolon vs refl) refl e in
+    let w = one_labelled k ls st g (part.semicolon m us) (part.semicolon k.last vs) (calm_token m (tk.mark tk.semicolon) us refl)
+    (calm_token k.last (tk.mark tk.semicolon) vs refl) refl e in
     let d : m ≡ k.last = ap (first_place m) w.2 in
     ((λ i. last_statement (w.0 i) (w.1 i) (Some (d i))), ap tail w.2)
 one_sequence k (more_statements ls st m ss) g a b r s e =
     let us : List Token = sequence ss (key a (codes "end") r) in
     let vs : List Token = key b (codes "end") s in
-    let w = one_labelled k ls st g.0 (part.semicolon m us) (part.semicolon k.last vs) (calm_token m semicolon us refl)
-    (calm_token k.last semicolon vs refl) refl e in
+    let w = one_labelled k ls st g.0 (part.semicolon m us) (part.semicolon k.last vs) (calm_token m (tk.mark tk.semicolon) us refl)
+    (calm_token k.last (tk.mark tk.semicolon) vs refl) refl e in
     absurd (no_end ss g.1 _ b s (ap tail w.2))

@@ -8,7 +8,7 @@ use Rattle.module_text.specs.Layout.{layout}
 use Rattle.first_path.specs.Form.{Parts, IsForm, last_line}
 use Rattle.first_path.specs.FormRead.{form_of, offence_unless, form_offences, FirstOffence, left_out}
 use Rattle.first_path.specs.Placed.{Places, module_at, region_of, translation_of}
-use Rattle.first_path.specs.Headline.{Headline}
+use Rattle.promise.specs.Headline.{Headline}
 use Rattle.first_path.specs.Written.{Written}
 use Rattle.first_path.proofs.FormExact.{form_found}
 use Rattle.first_path.proofs.Stands.{stands}
@@ -23,8 +23,8 @@ use Rattle.first_path.proofs.MeansInit.{init_is}
 -- the translation stands around the text wherever its trees say that they stand
 around : (x : List ℕ) (q : Places) (f : Parts) → IsForm x f → Around x (module_at q f) (translation_of x f)
 around x q f h = record {
-  spot = _;
-  is_spot = spot_is x f h;
+  split = _;
+  is_split = spot_is x f h;
   is = rw (placeless q f) (end_order (take (length x - length last_line) x) begin_line (layout (region_of f)) end_line (codes "\n") last_line);
 }
   where
@@ -43,6 +43,8 @@ promise x f h =
         around = around x r.0 f h;
         reads = r.1;
         only = λ n s. one_module (translation_of x f) n (module_at r.0 f) s r.1;
+        variables = refl;
+        vars = refl;
         next = next_is s.0 r.0 f h.fit;
         init = init_is s.0 r.0 f h.fit;
       };

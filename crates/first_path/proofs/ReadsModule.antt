@@ -10,7 +10,7 @@ use Rattle.tla_token.proofs.Signed.{tells_apart}
 use Rattle.module_text.specs.Layout.{layout}
 use Rattle.module_text.specs.Around.{begin_line, end_line}
 use Rattle.module_text.specs.Reading.{stretch, sight, Reads}
-use Rattle.module_text.specs.Module.{extends}
+use Rattle.module_text.specs.Module.{OutsideUnit, extends}
 use Rattle.module_text.specs.Grammar.{last_name}
 use Rattle.module_text.specs.ModuleTokens.{view, cut}
 use Rattle.module_text.specs.Outside.{Sight, AllOutside}
@@ -24,7 +24,7 @@ use Rattle.first_path.proofs.Pieces.{region_pieces, sp, nl, word}
 use Rattle.first_path.proofs.RegionText.{region_is}
 use Rattle.first_path.proofs.RegionFits.{region_fits, Fine, sp_fine, nl_fine, word_fine}
 use Rattle.first_path.proofs.RegionUnits.{region_units}
-use Rattle.first_path.proofs.WrittenParts.{written_is, written_apart, behind_header, behind_begin, behind_end, parts_are}
+use Rattle.first_path.proofs.WrittenParts.{written_is, written_apart, after_header, after_begin, after_end, parts_are}
 
 -- ---- the comment with the algorithm
 
@@ -57,9 +57,13 @@ front_fits body h =
     let ends : Fine (block body ∷ nl []) = record { fit = (h, (refl, tt)) } in
     (word_fine (codes "EXTENDS") refl refl (sp_fine (word_fine (codes "Integers") refl refl (nl_fine ends)))).fit
 
+-- EXTENDS Integers, on a line
+abbrev extends_integers : ℕ → OutsideUnit
+extends_integers l = extends (record { word = codes "Integers"; place = record { line = l; col = 9 } } ∷ [])
+
 -- the tokens of the front are one unit
 abbrev IsFront : Place → ℕ → List ℕ → Sight → Type 0
-IsFront p at body v = AllOutside true v (cut (view (tokens_of p at (front_pieces body)))).units (extends (codes "Integers" ∷ []) ∷ [])
+IsFront p at body v = AllOutside true v (cut (view (tokens_of p at (front_pieces body)))).units (extends_integers p.line ∷ [])
 
 front_at : (l at : ℕ) (body : List ℕ) (v : Sight) → IsFront (record { line = l; col = 1 }) at body v
 unfolding front_pieces
@@ -89,7 +93,7 @@ back_stretch a c d e g l = simp append_assoc refl
 
 -- ---- places at the start of a line
 
--- behind a text that ends with a line's end
+-- after a text that ends with a line's end
 line_starts : (w a c r : List ℕ) (n : ℕ) → w ≡ (a ++ (c ++ codes "\n")) ++ r → n ≡ length (a ++ (c ++ codes "\n")) → (place_at w n).col ≡ 1
 line_starts w a c r n e g =
     let k : a ++ (c ++ codes "\n") ≡ (a ++ c) ++ codes "\n" = sym (append_assoc a c (codes "\n")) in
@@ -118,13 +122,13 @@ module _ (x : List ℕ) (f : Parts) (h : IsForm x f) where
 
   -- where the front, the region and the rest begin
   abbrev front_from : ℕ
-  front_from = behind_header f
+  front_from = after_header f
 
   abbrev region_from : ℕ
-  region_from = behind_begin f h.gap h.pieces
+  region_from = after_begin f h.gap h.pieces
 
   abbrev back_from : ℕ
-  back_from = behind_end f h.gap h.pieces
+  back_from = after_end f h.gap h.pieces
 
   abbrev front : List Token
   front = tokens_of (place_at written front_from) front_from (front_pieces (comment_of h.gap h.pieces))
@@ -191,16 +195,17 @@ reads x f h =
       record {
         parts = record {
           title = f.title;
-          before = stretch (behind_header f) (length (units_before h.gap h.pieces));
-          region = stretch (behind_begin f h.gap h.pieces) (length (layout (region_of f)));
-          behind = stretch (behind_end f h.gap h.pieces) 1;
+          before = stretch (after_header f) (length (units_before h.gap h.pieces));
+          region = stretch (after_begin f h.gap h.pieces) (length (layout (region_of f)));
+          after = stretch (after_end f h.gap h.pieces) 1;
         };
         are_parts = parts_are x f h;
         title = refl;
         front = front x f h;
         front_tokens = front_tok x f h;
-        before =
-            front_outside (place_at (translation_of x f) (behind_header f)) (behind_header f) (comment_of h.gap h.pieces) (sight (module_at r.0 f))
+        before = extends_integers (place_at (translation_of x f) (after_header f)).line ∷ [];
+        are_before =
+            front_outside (place_at (translation_of x f) (after_header f)) (after_header f) (comment_of h.gap h.pieces) (sight (module_at r.0 f))
             (front_line x f h);
         middle = middle x f h;
         middle_tokens = region_tok x f h;
@@ -209,7 +214,9 @@ reads x f h =
         region = r.1.units;
         back = [];
         back_tokens = back_tok x f h;
-        none_before_behind = refl;
-        behind = tt;
+        none_before_after = refl;
+        after = [];
+        are_after = tt;
+        outside = refl;
       },
     )

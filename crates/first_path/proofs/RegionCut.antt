@@ -1,20 +1,19 @@
 -- The tokens of pieces, line by line and by columns, as the grammar of modules sees them; and the units that they are cut into.
-use Rattle.std.proofs.Common.{◌≡◌, ℕ, ◌+◌, ◌^◌, Bool, true, false, not, ◌&&◌, ◌||◌, nat_eq, List, [], ◌∷◌, length, refl, ap, ◌∙◌, arith, Option, Some, None, MatchBool}
+use Rattle.std.proofs.Common.{◌≡◌, ℕ, ◌+◌, ◌^◌, Bool, true, false, not, ◌&&◌, ◌||◌, nat_eq, List, [], ◌∷◌, length, refl, ap, ◌∙◌, arith, Option, Some, MatchBool}
 use Rattle.std.specs.List.{list_all}
 use Rattle.std.proofs.lemmas.Bool.{and_parts, ltb-true, not-true}
 use Rattle.tla_token.specs.declared.place.Place.{Place}
 use Rattle.tla_token.specs.Places.{after}
-use Rattle.tla_token.specs.Signs.{is_among}
 use Rattle.tla_token.specs.Lexemes.{is_word, is_letter, is_digit}
 use Rattle.tla_token.specs.Lexemes as lexeme
 use Rattle.tla_token.specs.Tokens.{Piece, blank, block, line, lexeme, bytes_of, tokens_of}
-use Rattle.tla_token.specs.Words.{tla_words, is_reserved}
+use Rattle.tla_token.specs.Words.{is_reserved}
 use Rattle.tla_token.proofs.Signed.{tells_apart}
 use Rattle.tla_expr.specs.Tree.{Word}
 use Rattle.tla_expr.specs.Lexical as tk
 use Rattle.module_text.specs.Grammar.{Kind, seen, Token}
 use Rattle.module_text.specs.Reading.{is_small, AllSmall}
-use Rattle.module_text.specs.ModuleTokens.{kind_of, word_kind, view, is_starter, is_dash, begins_run, is_within, begins_unit, Cut, cut_at, cut_behind}
+use Rattle.module_text.specs.ModuleTokens.{kind_of, word_kind, view, is_starter, is_dash, begins_run, is_within, begins_unit, Cut, cut_at, cut_after}
 use Rattle.first_path.proofs.StandsTokens.{word_is}
 use Rattle.first_path.proofs.RegionBytes.{is_inline, all_inline, small_kind, all_small}
 
@@ -117,7 +116,7 @@ turned false true c d h = rw h refl
 turned false false c d h = rw h refl
 
 -- without dashes a unit begins just where a starter stands in column 1
-pub cut_is : (before : Option Token) (ts : List Token) → dashless ts ≡ true → cut_behind before ts ≡ parted ts
+pub cut_is : (before : Option Token) (ts : List Token) → dashless ts ≡ true → cut_after before ts ≡ parted ts
 cut_is before [] h = refl
 cut_is before (t ∷ ts) h =
     let p = and_parts (not (is_dash t)) (dashless ts) h in

@@ -60,7 +60,7 @@ not_first c h = ne_eqb c 1 (λ e. omega arith)
 abbrev pub pc : Word
 pc = codes "pc"
 
--- the column behind a comma and a blank, behind the name v that stands in column 11
+-- the column after a comma and a blank, after the name v that stands in column 11
 abbrev second_name : Word → ℕ
 second_name v = 11 + length v + 1 + 1
 
@@ -104,7 +104,7 @@ vars_more n f r us h b =
 abbrev pub at_phrase : ℕ → ℕ → ℕ → ℕ → Word → Phrase
 at_phrase n a b c l = spelled.infix_of (spelled.name (put n a) pc) (put n b) op.Equal (spelled.string (put n c) l)
 
--- the sign `=` and the number behind it
+-- the sign `=` and the number after it
 abbrev equal_column : Word → ℕ
 equal_column v = 6 + length v + 1
 

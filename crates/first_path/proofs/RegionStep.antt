@@ -115,18 +115,18 @@ right_good n c v (sum a b) h =
 abbrev defined_column : Word → ℕ
 defined_column l = 1 + length l + 1
 
--- behind the quoted label, which stands in column 12
+-- after the quoted label, which stands in column 12
 abbrev closing_column : Word → ℕ
 closing_column l = 12 + length (34 ∷ (l ++ 34 ∷ []))
 
--- the sign `=` behind the primed variable, which stands in column 6
+-- the sign `=` after the primed variable, which stands in column 6
 abbrev set_column : Word → ℕ
 set_column v = 6 + length v + 1 + 1
 
 abbrev pub right_column : Word → ℕ
 right_column v = set_column v + 1 + 1
 
--- an item behind its bullet
+-- an item after its bullet
 abbrev bullet : ℕ → ItemForm → List Token → List Token
 bullet n i ts = spell_list (last_item (put n 3) i) ts
 
@@ -196,8 +196,8 @@ step_more n f r us h k o b =
     (λ ts s.
     let last : List Token = bullet (m + 1) (done_item (m + 1)) ts in
     let set : List Token = bullet m (assignment_item m v f.right) last in
-    let behind_set = assignment_stands m v f.right (done_line r) last h (done_stands (m + 1) r ts s) in
-    (name_token n 1 l k, (refl, test_stands (n + 1) l (assignment_line v f.right (done_line r)) set behind_set)))
+    let after_set = assignment_stands m v f.right (done_line r) last h (done_stands (m + 1) r ts s) in
+    (name_token n 1 l k, (refl, test_stands (n + 1) l (assignment_line v f.right (done_line r)) set after_set)))
     (λ ts. rw (right_cuts m c v f.right far) refl)
     (λ ts p. right_plain m c v f.right _ ∙ p) (
       rw o refl,

@@ -1,4 +1,4 @@
--- The pieces of a translation, one behind the other, are the text that is laid out.
+-- The pieces of a translation, one after the other, are the text that is laid out.
 use Rattle.std.proofs.Common.{◌≡◌, ℕ, List, [], ◌∷◌, ◌++◌, refl, ap, sym, ◌∙◌, append_assoc, append-nil, true, IsTrue}
 use Rattle.std.specs.Prelude.{codes}
 use Rattle.std.specs.List.{list_all}

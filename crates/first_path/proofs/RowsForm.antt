@@ -1,8 +1,11 @@
 -- Worked examples of the form of text that is translated so far, by computation.
-use Rattle.std.specs.Prelude.{◌≡◌, ◌++◌, List, [], Some, None, codes, ℕ}
+use Rattle.std.specs.Prelude.{◌≡◌, ◌++◌, List, [], ◌∷◌, Some, None, codes, ℕ}
 use Rattle.std.proofs.Common.{refl}
 use Rattle.first_path.specs.Form.{number_operand, variable_operand, Right, single, sum, Parts}
+use Rattle.promise.specs.Translates.{Translates}
 use Rattle.first_path.specs.FormRead.{form_of, form_offences}
+use Rattle.first_path.specs.Placed.{Places, algorithm_at}
+use Rattle.first_path.specs.Worked.{worked_parts}
 
 abbrev module_with : List ℕ → List ℕ
 module_with s =
@@ -25,3 +28,11 @@ no_assignment = refl
 
 other_variable : form_of (module_with (codes "y := 1;")) ≡ None
 other_variable = refl
+
+-- a translation of the worked algorithm declares x and pc, and nothing else
+its_variables : (p : Places) (x w : List ℕ) (t : Translates x (algorithm_at p worked_parts) w)
+    → t.module_of.region.variables ≡ codes "x" ∷ codes "pc" ∷ []
+its_variables p x w t = t.variables
+
+its_vars : (p : Places) (x w : List ℕ) (t : Translates x (algorithm_at p worked_parts) w) → t.module_of.region.vars ≡ codes "x" ∷ codes "pc" ∷ []
+its_vars p x w t = t.vars

@@ -11,14 +11,16 @@ use Rattle.tla_token.specs.Tokens.{Piece, blank, lexeme, text_of, Token, AllFit,
 use Rattle.tla_token.proofs.Spelled.{begins, begins_from, same_bytes}
 use Rattle.tla_token.proofs.Signed.{tells_other}
 use Rattle.tla_expr.specs.Tree.{Word}
-use Rattle.pcal_tree.specs.GrammarView as view
+use Rattle.pcal_tree.specs.AlgorithmTokens as view
 use Rattle.pcal_tree.specs.GrammarParts.{variable_word}
 use Rattle.pcal_tree.specs.Grammar.{spell}
-use Rattle.module_text.specs.Around.{Text, first_is, line_of, on_some, plain, Found, seek, past_title, begins_algorithm, past_p, past_c, is_braced, past_algorithm, Split, algorithm_in}
+use Rattle.module_text.specs.TextFront.{Text, first_is, line_of, on_some, Split}
+use Rattle.module_text.specs.Comments.{plain, Found, seek}
+use Rattle.module_text.specs.AlgorithmStretch.{past_title, begins_algorithm, past_p, past_c, is_braced, past_algorithm, algorithm_in}
 use Rattle.first_path.specs.Form.{Right, single, sum, Operand, number_operand, variable_operand, Parts, IsForm, is_name, is_free, is_small, is_small_right, is_fit, word, operand_kind, right_kinds, kinds, kinds_of, first_lines, last_line}
 use Rattle.first_path.specs.Form as form
 use Rattle.first_path.specs.Placed.{Places, algorithm_at}
-use Rattle.first_path.specs.Headline.{Stands}
+use Rattle.promise.specs.Headline.{Stands}
 use Rattle.first_path.proofs.Names.{name_words}
 use Rattle.first_path.proofs.Fit.{Fit, fit_of}
 use Rattle.first_path.proofs.Stretches.{text_append, all_fit_less, First, first_of, first_written, kinds_gap, stretch_between}
@@ -54,16 +56,16 @@ algorithm_past s t u e h k =
     by : (b : Bool) → b ≡ false → (if b then past_c plain 0 t else past_p plain false t) ≡ past_p plain false t
     by b e = rw e refl
 
-abbrev spot_behind : Text → Option Found → Option Split
-spot_behind l o = on_some o (λ f. on_some (past_algorithm f.from) (λ s. Some (record { front = l ++ f.before; back = s })))
+abbrev spot_after : Text → Option Found → Option Split
+spot_after l o = on_some o (λ f. on_some (past_algorithm f.from) (λ s. Some (record { front = l ++ f.before; back = s })))
 
 abbrev spot_from : Text → Text × Text → Option Split
-spot_from a r = spot_behind (a ++ r.0) (seek begins_algorithm plain true r.1)
+spot_from a r = spot_after (a ++ r.0) (seek begins_algorithm plain true r.1)
 
 abbrev front_of : Word → Text → Text
 front_of t gap = header_line t ++ (codes "EXTENDS Integers\n(*\n" ++ gap)
 
--- the front is before `--algorithm`, the back behind the last word
+-- the front is before `--algorithm`, the back after the last word
 algorithm_spot : (t : Word) (gap : Text) (b : ℕ) (ps : List Piece) (r u : Text) (a : Word) (ks : List Kind) → is_name t ≡ true
     → list_all is_blank gap ≡ true → AllFit (blank b ∷ ps) → kinds_of ps ≡ Some (name a ∷ ks)
     → past_algorithm (codes "--algorithm" ++ (text_of (blank b ∷ ps) ++ (codes "*)\n" ++ r))) ≡ Some u
@@ -72,12 +74,12 @@ algorithm_spot t gap b ps r u a ks n g h e past =
     let body : Text = body_of gap (blank b ∷ ps) r in
     ap (λ (o : Option (Text × Text)). on_some o (λ h. spot_from h.0 (line_of h.1))) (header_first t body n)
     ∙ ap (spot_from []) (line_header t body n)
-    ∙ ap (spot_behind (header_line t)) (algorithm_found gap b ps r a ks g h e)
+    ∙ ap (spot_after (header_line t)) (algorithm_found gap b ps r a ks g h e)
     ∙ ap (λ (o : Option Text). on_some o (λ v. Some (record { front = front_of t gap; back = v }))) past
 
 -- ---- the kinds of the form
 
--- behind the algorithm's name and before `end`
+-- after the algorithm's name and before `end`
 abbrev kinds_between : Word → Parts → List Kind
 kinds_between w f =
     word w ∷ word f.variable ∷ one sign.Equal ∷ number f.initial ∷ one sign.Semicolon ∷ word (codes "begin") ∷ word f.label
@@ -119,7 +121,7 @@ between_usual b f v l =
 
 -- ---- the algorithm among the pieces
 
--- the pieces behind `--algorithm` up to the algorithm's end, and those behind it
+-- the pieces after `--algorithm` up to the algorithm's end, and those after it
 record Parted (pieces : List Piece) (ks : List Kind) (rest : Text) : Type 0 where
   inner : List Piece
   tail : List Piece
@@ -127,7 +129,7 @@ record Parted (pieces : List Piece) (ks : List Kind) (rest : Text) : Type 0 wher
   kinds_are : kinds_of inner ≡ Some ks
   past : past_algorithm (codes "--algorithm" ++ (text_of pieces ++ rest)) ≡ Some (text_of tail ++ rest)
 
--- what is behind the algorithm's name is passed up to its end
+-- what is after the algorithm's name is passed up to its end
 name_before : (b : ℕ) (ps : List Piece) (w : Word) (f : Parts) (rest : Text) → AllFit (blank b ∷ ps)
     → (r : First (word f.algorithm) (kinds_between w f ++ last_kinds) ps) → first_is is_word rest ≡ false → is_braced (text_of r.more ++ rest) ≡ false
     → Ends (kinds_between w f) r.more false rest → Parted (blank b ∷ ps) (kinds w f) rest
@@ -138,7 +140,7 @@ name_before b ps w f rest h r k braced n =
       tail = n.tail;
       whole = ap (λ (qs : List Piece). blank b ∷ qs) (r.whole ∙ ap (λ (qs : List Piece). map blank r.gap ++ (x ∷ qs)) n.whole
           ∙ sym (append_assoc (map blank r.gap) (x ∷ n.inner) n.tail));
-      kinds_are = kinds_gap r.gap (x ∷ n.inner) ∙ ap (form.behind (word f.algorithm)) n.kinds_are ∙ ap Some (sym (kinds_split w f));
+      kinds_are = kinds_gap r.gap (x ∷ n.inner) ∙ ap (form.after (word f.algorithm)) n.kinds_are ∙ ap Some (sym (kinds_split w f));
       past = algorithm_past (codes "--algorithm" ++ (text_of (blank b ∷ ps) ++ rest)) (text_of r.more ++ rest) (text_of n.tail ++ rest)
           (title_there b ps rest f.algorithm (kinds_between w f ++ last_kinds) h r k) braced n.past;
     }
@@ -208,10 +210,10 @@ last_lines = codes "*)\n" ++ last_line
 
 -- where the algorithm is in the text, and its tokens
 pub record Laid (x : Text) (f : Parts) : Type 0 where
-  pub spot : Split
-  pub is_spot : algorithm_in x ≡ Some spot
+  pub split : Split
+  pub is_split : algorithm_in x ≡ Some split
   pub tokens : List Token
-  pub tok : TokAlgorithm x (length spot.front) (length x - length spot.back) tokens
+  pub tok : TokAlgorithm x (length split.front) (length x - length split.back) tokens
   pub plural : Bool
   pub views_are : view.views tokens ≡ spell (spelling.form_text (spelling.places tokens) plural f) []
   pub right : spelling.AllRight (spelling.places tokens)
@@ -237,8 +239,8 @@ laid_in x f c gap b ps n g e fit k parted =
     let right : spelling.EachRight ts =
     (spelling.place_right x (length front), spelling.tokens_right (place_at x place) place parted.inner (spelling.place_right x place)) in
     record {
-      spot = record { front = front; back = back };
-      is_spot = ap algorithm_in e ∙ algorithm_spot f.title gap b ps last_line back f.algorithm _ n.title g fit k parted.past;
+      split = record { front = front; back = back };
+      is_split = ap algorithm_in e ∙ algorithm_spot f.title gap b ps last_line back f.algorithm _ n.title g fit k parted.past;
       tokens = ts;
       tok = tok_algorithm x front back parted.inner w f cut (all_fit_less parted.inner parted.tail (subst AllFit parted.whole fit)) parted.kinds_are;
       plural = c;
@@ -264,8 +266,8 @@ stands x f h =
     let l = laid x f h in (
       spelling.places l.tokens,
       record {
-        spot = l.spot;
-        is_spot = l.is_spot;
+        split = l.split;
+        is_split = l.is_split;
         tokens = l.tokens;
         tok = l.tok;
         spelled = inl (spelling.spells_algorithm (spelling.places l.tokens) l.plural f l.tokens l.right l.views_are);

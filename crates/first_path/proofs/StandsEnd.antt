@@ -1,4 +1,4 @@
--- Where the form's algorithm ends in its text: behind its last words `end` and `algorithm`.
+-- Where the form's algorithm ends in its text: after its last words `end` and `algorithm`.
 use Rattle.std.proofs.Common.{◌≡◌, ℕ, ◌≤◌, Bool, true, false, ◌&&◌, ◌||◌, not, nat_eq, List, [], ◌∷◌, ◌++◌, length, map, drop, Option, Some, None, ◌⊎◌, inl, inr, if◌then◌else◌, refl, sym, ap, subst, ◌∙◌, codes, arith, append_assoc, length-append}
 use Rattle.std.specs.List.{list_all, list_any}
 use Rattle.std.specs.Str.{bytes_eq}
@@ -10,11 +10,14 @@ use Rattle.tla_token.specs.Tokens.{Piece, blank, block, line, lexeme, text_of, F
 use Rattle.tla_token.proofs.Spelled.{begins, begins_is, no_empty}
 use Rattle.tla_token.proofs.Words.{all_append, digits_words, digit_word}
 use Rattle.tla_token.proofs.Signed.{tells_apart, tells_other}
-use Rattle.module_text.specs.Around.{Text, first_is, word_at, past_whole, past_closing, past_gap, past_p, on_some, is_some, Mode, plain, step}
+use Rattle.std.specs.Prelude.{is_some}
+use Rattle.module_text.specs.TextFront.{Text, first_is, word_at, on_some}
+use Rattle.module_text.specs.Comments.{Mode, plain, step}
+use Rattle.module_text.specs.AlgorithmStretch.{past_whole, past_closing, past_gap, past_p}
 use Rattle.first_path.specs.Form as form
 use Rattle.first_path.specs.Form.{kinds_of}
 use Rattle.first_path.proofs.Names.{name_words, name_letter, word_same, among_holds}
-use Rattle.first_path.proofs.Stretches.{first_of, first_written, kinds_behind, kinds_gap}
+use Rattle.first_path.proofs.Stretches.{first_of, first_written, kinds_after, kinds_gap}
 use Rattle.first_path.proofs.FormKinds.{last_kinds}
 use Rattle.first_path.proofs.Calm.{is_calm, word_calm, blank_calm}
 use Rattle.first_path.proofs.Lines.{word_no_blank, word_over, first_more, name_stops, lexeme_name}
@@ -59,7 +62,7 @@ stops_here : (o : Option Text) (m : Mode) (j : Bool) (s u : Text) → o ≡ Some
 stops_here None m j s u e = absurd cc
 stops_here (Some v) m j s u e = e
 
--- bytes among which no `end` begins, all of one sort, a word going on behind each or behind none
+-- bytes among which no `end` begins, all of one sort, a word going on after each or after none
 record Sort (p : ℕ → Bool) (t : Bool) : Type 0 where
   calm : (b : ℕ) → p b ≡ true → is_calm b ≡ true
   no_end : (b : ℕ) → p b ≡ true → nat_eq 101 b ≡ false
@@ -146,20 +149,20 @@ begins_name ps = false
 abbrev Fresh : Bool → List Piece → Type 0
 Fresh inside ps = (inside ≡ false) ⊎ (begins_name ps ≡ false)
 
--- behind a longest word no name begins
-no_name_behind : (bytes : List ℕ) (ps : List Piece) → AllFit ps → list_all is_word bytes ≡ true → IsLongest bytes (text_of ps)
+-- after a longest word no name begins
+no_name_after : (bytes : List ℕ) (ps : List Piece) → AllFit ps → list_all is_word bytes ≡ true → IsLongest bytes (text_of ps)
     → begins_name ps ≡ false
-no_name_behind bytes [] h a l = refl
-no_name_behind bytes (blank b ∷ ps) h a l = refl
-no_name_behind bytes (block body ∷ ps) h a l = refl
-no_name_behind bytes (line body ∷ ps) h a l = refl
-no_name_behind bytes (lexeme (number n) m ∷ ps) h a l = refl
-no_name_behind bytes (lexeme (string w) m ∷ ps) h a l = refl
-no_name_behind bytes (lexeme (one s) m ∷ ps) h a l = refl
-no_name_behind bytes (lexeme (other w) m ∷ ps) h a l = refl
-no_name_behind bytes (lexeme (name w) [] ∷ ps) h a l =
+no_name_after bytes [] h a l = refl
+no_name_after bytes (blank b ∷ ps) h a l = refl
+no_name_after bytes (block body ∷ ps) h a l = refl
+no_name_after bytes (line body ∷ ps) h a l = refl
+no_name_after bytes (lexeme (number n) m ∷ ps) h a l = refl
+no_name_after bytes (lexeme (string w) m ∷ ps) h a l = refl
+no_name_after bytes (lexeme (one s) m ∷ ps) h a l = refl
+no_name_after bytes (lexeme (other w) m ∷ ps) h a l = refl
+no_name_after bytes (lexeme (name w) [] ∷ ps) h a l =
     (let f = name_letter [] (lexeme_name w [] h.0.1) in absurd cc)
-no_name_behind bytes (lexeme (name w) (b ∷ m) ∷ ps) h a l =
+no_name_after bytes (lexeme (name w) (b ∷ m) ∷ ps) h a l =
     let u = bytes ++ (b ∷ m) in
     let is = lexeme_name w (b ∷ m) h.0.1 in
     let all = all_append is_word bytes (b ∷ m) a (name_words (b ∷ m) is) in
@@ -170,9 +173,9 @@ no_name_behind bytes (lexeme (name w) (b ∷ m) ∷ ps) h a l =
 
 -- over the bytes, before the pieces
 record Over (bytes : List ℕ) (ps : List Piece) (inside : Bool) (rest : Text) : Type 0 where
-  behind_it : Bool
-  goes : past_p plain inside (bytes ++ (text_of ps ++ rest)) ≡ past_p plain behind_it (text_of ps ++ rest)
-  fresh : Fresh behind_it ps
+  after_it : Bool
+  goes : past_p plain inside (bytes ++ (text_of ps ++ rest)) ≡ past_p plain after_it (text_of ps ++ rest)
+  fresh : Fresh after_it ps
 
 over_lexeme : (k : Kind) (bytes : List ℕ) (ps : List Piece) (inside : Bool) (rest : Text) → Fits (lexeme k bytes) (text_of ps) → AllFit ps
     → is_usual k ≡ true → first_is is_word rest ≡ false → Fresh inside (lexeme k bytes ∷ ps) → Over bytes ps inside rest
@@ -183,22 +186,22 @@ over_lexeme (name w) (b ∷ m) ps inside rest h g u k f =
     let stops = first_more (text_of ps) rest (name_stops w (b ∷ m) (text_of ps) h.1 h.2) k in
     let start : inside ≡ false = elim f [ inl i ↦ i | inr n ↦ absurd cc ] in
     record {
-      behind_it = true;
+      after_it = true;
       goes = ap (λ (i : Bool). past_p plain i (b ∷ (m ++ (text_of ps ++ rest)))) start ∙ over_name b m (text_of ps ++ rest) x stops e;
-      fresh = inr (no_name_behind (b ∷ m) ps g x h.2);
+      fresh = inr (no_name_after (b ∷ m) ps g x h.2);
     }
 over_lexeme (number n) [] ps inside rest h g u k f = (let some = h.1.0 in absurd (omega arith))
 over_lexeme (number n) (b ∷ m) ps inside rest h g u k f =
     record {
-      behind_it = true;
+      after_it = true;
       goes = over_sort is_digit true digits inside b m (text_of ps ++ rest) h.1.1;
-      fresh = inr (no_name_behind (b ∷ m) ps g (digits_words (b ∷ m) h.1.1) h.2);
+      fresh = inr (no_name_after (b ∷ m) ps g (digits_words (b ∷ m) h.1.1) h.2);
     }
 over_lexeme (string w) bytes ps inside rest h g u k f = absurd cc
 over_lexeme (one s) [] ps inside rest h g u k f = absurd (no_empty s h.1)
 over_lexeme (one s) (b ∷ m) ps inside rest h g u k f =
     record {
-      behind_it = false;
+      after_it = false;
       goes = over_sort is_still false still inside b m (text_of ps ++ rest) (among_holds (λ w. list_all is_still w) (spellings s) (b ∷ m) h.1 u);
       fresh = inl refl;
     }
@@ -214,7 +217,7 @@ past_gap_over (b ∷ gap) c s h k l =
     let w = and_parts (is_blank b) (list_all is_blank gap) h in
     rw (w.0, stays_plain b (gap ++ (c ∷ s)) (blank_calm b w.0)) (past_gap_over gap c s w.1 k l)
 
--- the last word behind `end` and blanks
+-- the last word after `end` and blanks
 closes : (gap : List ℕ) (u t : Text) → t ≡ gap ++ (codes "algorithm" ++ u) → list_all is_blank gap ≡ true
     → first_is is_word t ≡ false → first_is is_word u ≡ false
     → past_closing (codes "end" ++ t) ≡ Some u
@@ -229,7 +232,7 @@ closes gap u t e g k l =
     second_part : (b : Bool) → b ≡ false → (if b then None else Some u) ≡ Some u
     second_part b e = rw e refl
 
--- the pieces up to the last word `algorithm`, and those behind it
+-- the pieces up to the last word `algorithm`, and those after it
 pub record Ends (pre : List Kind) (ps : List Piece) (inside : Bool) (rest : Text) : Type 0 where
   pub inner : List Piece
   pub tail : List Piece
@@ -258,7 +261,7 @@ at_end bytes ps inside rest h g e k i =
       inner = x ∷ (map blank r.gap ++ (y ∷ []));
       tail = r.more;
       whole = ap (λ (qs : List Piece). x ∷ qs) (r.whole ∙ sym (append_assoc (map blank r.gap) (y ∷ []) r.more));
-      kinds_are = ap (form.behind (name (codes "end"))) (kinds_gap r.gap (y ∷ []));
+      kinds_are = ap (form.after (name (codes "end"))) (kinds_gap r.gap (y ∷ []));
       past = ap (λ (s : Text). past_p plain inside s) (append_assoc bytes (text_of ps) rest ∙ ap (λ (s : Text). s ++ t) is_end)
           ∙ ap (λ (j : Bool). past_p plain j (codes "end" ++ t)) i
           ∙ stops_here (past_closing (codes "end" ++ t)) (step plain (codes "end" ++ t)) true (codes "nd" ++ t) u c;
@@ -266,12 +269,12 @@ at_end bytes ps inside rest h g e k i =
 
 -- a lexeme before the pieces
 lexeme_before : (j : Kind) (bytes : List ℕ) (ps : List Piece) (pre : List Kind) (inside : Bool) (rest : Text) → (o : Over bytes ps inside rest)
-    → Ends pre ps o.behind_it rest → Ends (j ∷ pre) (lexeme j bytes ∷ ps) inside rest
+    → Ends pre ps o.after_it rest → Ends (j ∷ pre) (lexeme j bytes ∷ ps) inside rest
 lexeme_before j bytes ps pre inside rest o r = record {
   inner = lexeme j bytes ∷ r.inner;
   tail = r.tail;
   whole = ap (λ (qs : List Piece). lexeme j bytes ∷ qs) r.whole;
-  kinds_are = ap (form.behind j) r.kinds_are;
+  kinds_are = ap (form.after j) r.kinds_are;
   past = ap (past_p plain inside) (append_assoc bytes (text_of ps) rest) ∙ o.goes ∙ r.past;
 }
 
@@ -292,7 +295,7 @@ algorithm_ends (blank b ∷ ps) pre inside rest h e u k f =
 algorithm_ends (block body ∷ ps) pre inside rest h e u k f = absurd cc
 algorithm_ends (line body ∷ ps) pre inside rest h e u k f = absurd cc
 algorithm_ends (lexeme j bytes ∷ ps) [] inside rest h e u k f =
-    let (js, d, s) = kinds_behind j (kinds_of ps) last_kinds e in
+    let (js, d, s) = kinds_after j (kinds_of ps) last_kinds e in
     let same : name (codes "end") ≡ j = cc in
     let more : js ≡ name (codes "algorithm") ∷ [] = cc in
     let fresh : Fresh inside (lexeme (name (codes "end")) bytes ∷ ps) = subst (λ (i : Kind). Fresh inside (lexeme i bytes ∷ ps)) (sym same) f in
@@ -300,10 +303,10 @@ algorithm_ends (lexeme j bytes ∷ ps) [] inside rest h e u k f =
     let fits : Fits (lexeme (name (codes "end")) bytes) (text_of ps) = subst (λ (i : Kind). Fits (lexeme i bytes) (text_of ps)) (sym same) h.0 in
     subst (λ (i : Kind). Ends [] (lexeme i bytes ∷ ps) inside rest) same (at_end bytes ps inside rest fits h.1 (d ∙ ap Some more) k start)
 algorithm_ends (lexeme j bytes ∷ ps) (i ∷ pre) inside rest h e u k f =
-    let (js, d, s) = kinds_behind j (kinds_of ps) (i ∷ (pre ++ last_kinds)) e in
+    let (js, d, s) = kinds_after j (kinds_of ps) (i ∷ (pre ++ last_kinds)) e in
     let same : j ≡ i = cc in
     let more : js ≡ pre ++ last_kinds = cc in
     let both = and_parts (is_usual i) (list_all is_usual pre) u in
     let o = over_lexeme j bytes ps inside rest h.0 h.1 (ap is_usual same ∙ both.0) k f in
-    let r = algorithm_ends ps pre o.behind_it rest h.1 (d ∙ ap Some more) both.1 k o.fresh in
+    let r = algorithm_ends ps pre o.after_it rest h.1 (d ∙ ap Some more) both.1 k o.fresh in
     subst (λ (i : Kind). Ends (i ∷ pre) (lexeme j bytes ∷ ps) inside rest) same (lexeme_before j bytes ps pre inside rest o r)

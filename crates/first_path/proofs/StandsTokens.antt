@@ -17,8 +17,8 @@ use Rattle.tla_expr.specs.Lexical as tk
 use Rattle.tla_expr.specs.ExprTokens.{word_kind, word_kinds, kind_among}
 use Rattle.tla_expr.specs.Spelling.{Phrase}
 use Rattle.tla_expr.specs.Spelling as spelled
-use Rattle.pcal_tree.specs.GrammarView.{views, seen, assigns, semicolon}
-use Rattle.pcal_tree.specs.GrammarView as view
+use Rattle.pcal_tree.specs.AlgorithmTokens.{views}
+use Rattle.pcal_tree.specs.AlgorithmTokens as view
 use Rattle.pcal_tree.specs.GrammarParts as part
 use Rattle.pcal_tree.specs.GrammarP.{simple, last_statement}
 use Rattle.pcal_tree.specs.Grammar.{Text, algorithm, to_end, no_define, begin, spell, algorithm_of, Good, p_syntax, SpellsP}
@@ -26,7 +26,7 @@ use Rattle.first_path.specs.Form.{Operand, number_operand, variable_operand, Rig
 use Rattle.first_path.specs.Placed.{Places, algorithm_at}
 use Rattle.first_path.proofs.Names.{among_holds}
 use Rattle.first_path.proofs.Fit.{unreserved}
-use Rattle.first_path.proofs.Stretches.{kinds_behind, nth}
+use Rattle.first_path.proofs.Stretches.{kinds_after, nth}
 use Rattle.first_path.proofs.FormKinds.{closing_kinds}
 
 -- ---- the kinds of tokens
@@ -38,7 +38,7 @@ kinds_are p at (blank b ∷ ps) ks e = kinds_are (after p (b ∷ [])) (at + leng
 kinds_are p at (block body ∷ ps) ks e = absurd cc
 kinds_are p at (line body ∷ ps) ks e = absurd cc
 kinds_are p at (lexeme k bytes ∷ ps) ks e =
-    let (js, d, s) = kinds_behind k (kinds_of ps) ks e in
+    let (js, d, s) = kinds_after k (kinds_of ps) ks e in
     ap (λ (us : List Kind). k ∷ us) (kinds_are (after p bytes) (at + length bytes) ps js d) ∙ s
 
 -- the place of each token by its number
@@ -46,13 +46,13 @@ abbrev pub places : List text.Token → Places
 places ts = nth (map (λ t. t.place) ts)
 
 -- tokens of these kinds in these places
-abbrev pub placed : Places → List view.Kind → List view.Token
+abbrev pub placed : Places → List ExprToken → List tk.Token
 placed p [] = []
 placed p (k ∷ ks) = record { kind = k; place = p 0 } ∷ placed (λ n. p (suc n)) ks
 
 pub views_placed : (ts : List text.Token) → views ts ≡ placed (places ts) (map view.kind_of (map (λ t. t.kind) ts))
 views_placed [] = refl
-views_placed (t ∷ ts) = ap (λ (us : List view.Token). view.view t ∷ us) (views_placed ts)
+views_placed (t ∷ ts) = ap (λ (us : List tk.Token). view.view t ∷ us) (views_placed ts)
 
 -- ---- names as expressions see them
 
@@ -83,38 +83,38 @@ word_is w h =
 
 -- ---- the spelling
 
-abbrev seen_operand : Word → Operand → view.Kind
-seen_operand v (number_operand n) = seen (tk.number n)
-seen_operand v variable_operand = seen (tk.word v)
+abbrev seen_operand : Word → Operand → ExprToken
+seen_operand v (number_operand n) = tk.number n
+seen_operand v variable_operand = tk.word v
 
-abbrev seen_right : Word → Right → List view.Kind → List view.Kind
+abbrev seen_right : Word → Right → List ExprToken → List ExprToken
 seen_right v (single a) ks = seen_operand v a ∷ ks
-seen_right v (sum a b) ks = seen_operand v a ∷ seen (tk.sign op.Plus) ∷ seen_operand v b ∷ ks
+seen_right v (sum a b) ks = seen_operand v a ∷ tk.sign op.Plus ∷ seen_operand v b ∷ ks
 
--- the kinds behind `--algorithm`, as the grammar sees them
-abbrev seen_kinds : Word → Parts → List view.Kind
+-- the kinds after `--algorithm`, as the grammar sees them
+abbrev seen_kinds : Word → Parts → List ExprToken
 seen_kinds w f =
-    seen (tk.word f.algorithm) ∷ seen (tk.reserved w) ∷ seen (tk.word f.variable) ∷ seen (tk.sign op.Equal) ∷ seen (tk.number f.initial) ∷ semicolon
-    ∷ seen (tk.reserved (codes "begin")) ∷ seen (tk.word f.label) ∷ seen (tk.mark tk.colon) ∷ seen (tk.word f.variable) ∷ assigns
-    ∷ seen_right f.variable f.right (semicolon ∷ seen (tk.reserved (codes "end")) ∷ seen (tk.reserved (codes "algorithm")) ∷ [])
+    tk.word f.algorithm ∷ tk.reserved w ∷ tk.word f.variable ∷ tk.sign op.Equal ∷ tk.number f.initial ∷ tk.mark tk.semicolon
+    ∷ tk.reserved (codes "begin") ∷ tk.word f.label ∷ tk.mark tk.colon ∷ tk.word f.variable ∷ tk.mark tk.assigns
+    ∷ seen_right f.variable f.right (tk.mark tk.semicolon ∷ tk.reserved (codes "end") ∷ tk.reserved (codes "algorithm") ∷ [])
 
 same_cons : {A : Type 0} {x y : A} {xs ys : List A} → x ≡ y → xs ≡ ys → x ∷ xs ≡ y ∷ ys
 same_cons e f = λ i. e i ∷ f i
 
-kind_is : (w : Word) → is_reserved w ≡ false → view.kind_of (word w) ≡ seen (tk.word w)
-kind_is w h = ap seen (word_is w h)
+kind_is : (w : Word) → is_reserved w ≡ false → view.kind_of (word w) ≡ tk.word w
+kind_is w h = word_is w h
 
 operand_seen : (v : Word) (a : Operand) → is_reserved v ≡ false → view.kind_of (operand_kind v a) ≡ seen_operand v a
 operand_seen v (number_operand n) h = refl
 operand_seen v variable_operand h = kind_is v h
 
-right_seen : (v : Word) (r : Right) (ks : List Kind) (js : List view.Kind) → is_reserved v ≡ false → map view.kind_of ks ≡ js
+right_seen : (v : Word) (r : Right) (ks : List Kind) (js : List ExprToken) → is_reserved v ≡ false → map view.kind_of ks ≡ js
     → map view.kind_of (right_kinds v r ks) ≡ seen_right v r js
 right_seen v (single a) ks js h e = same_cons (operand_seen v a h) e
 right_seen v (sum a b) ks js h e = same_cons (operand_seen v a h) (same_cons refl (same_cons (operand_seen v b h) e))
 
 -- the kinds of the form, as the grammar sees them
-kinds_seen : (w : Word) (f : Parts) → view.kind_of (word w) ≡ seen (tk.reserved w) → is_reserved f.algorithm ≡ false → is_reserved f.variable ≡ false
+kinds_seen : (w : Word) (f : Parts) → view.kind_of (word w) ≡ tk.reserved w → is_reserved f.algorithm ≡ false → is_reserved f.variable ≡ false
     → is_reserved f.label ≡ false
     → map view.kind_of (kinds w f) ≡ seen_kinds w f
 kinds_seen w f d a v l =
@@ -130,16 +130,16 @@ abbrev pub right_phrase : Word → Right → Places → Phrase
 right_phrase v (single a) p = operand_phrase v a (p 12)
 right_phrase v (sum a b) p = spelled.infix_of (operand_phrase v a (p 12)) (p 13) op.Plus (operand_phrase v b (p 14))
 
--- the number of the token behind the right side
-abbrev pub behind_right : Right → ℕ
-behind_right (single a) = 13
-behind_right (sum a b) = 15
+-- the number of the token after the right side
+abbrev pub semicolon_at : Right → ℕ
+semicolon_at (single a) = 13
+semicolon_at (sum a b) = 15
 
 abbrev pub form_text : Places → Bool → Parts → Text
 form_text p b f = record {
   head = algorithm (p 0);
   name = record { word = f.algorithm; place = p 1 };
-  around = to_end (p (1 + behind_right f.right)) (p (2 + behind_right f.right));
+  around = to_end (p (1 + semicolon_at f.right)) (p (2 + semicolon_at f.right));
   variables = part.section (p 2) b (part.last_variable (record { word = f.variable; place = p 3 })
       (part.equals (p 4) (spelled.number (p 5) f.initial)) (Some (part.by_semicolon (p 6))));
   define = no_define;
@@ -147,7 +147,7 @@ form_text p b f = record {
   procedures = [];
   main = begin (p 7) (last_statement (part.label (record { word = f.label; place = p 8 }) (part.colon (p 9)) part.no_labels)
       (simple (part.assign (part.last_assignment (spelled.name (p 10) f.variable) (p 11) (right_phrase f.variable f.right p))))
-      (Some (p (behind_right f.right))));
+      (Some (p (semicolon_at f.right))));
 }
 
 -- all places are right of column 0
@@ -180,7 +180,7 @@ form_tree p b m a v n l (sum variable_operand variable_operand) = refl
 
 form_spelled : (p : Places) (b : Bool) (m a v : Word) (n : ℕ) (l : Word) (r : Right)
     → (let f : Parts = record { title = m; algorithm = a; variable = v; initial = n; label = l; right = r } in
-    placed p (seen (tk.word (codes "--algorithm")) ∷ seen_kinds (part.variable_word b) f) ≡ spell (form_text p b f) [])
+    placed p (tk.word (codes "--algorithm") ∷ seen_kinds (part.variable_word b) f) ≡ spell (form_text p b f) [])
 form_spelled p b m a v n l (single (number_operand i)) = refl
 form_spelled p b m a v n l (single variable_operand) = refl
 form_spelled p b m a v n l (sum (number_operand i) (number_operand j)) = refl
@@ -194,11 +194,11 @@ pub spells : (p : Places) (b : Bool) (f : Parts) (ts : List text.Token) → is_r
     → views ts ≡ spell (form_text p b f) []
 spells p b f ts a v l e =
     let k : map view.kind_of (word (codes "--algorithm") ∷ kinds (part.variable_word b) f)
-    ≡ seen (tk.word (codes "--algorithm")) ∷ seen_kinds (part.variable_word b) f
+    ≡ tk.word (codes "--algorithm") ∷ seen_kinds (part.variable_word b) f
     = same_cons refl (kinds_seen (part.variable_word b) f (reserved b) a v l) in
     e ∙ ap (placed p) k ∙ form_spelled p b f.title f.algorithm f.variable f.initial f.label f.right
   where
-    reserved : (b : Bool) → view.kind_of (word (part.variable_word b)) ≡ seen (tk.reserved (part.variable_word b))
+    reserved : (b : Bool) → view.kind_of (word (part.variable_word b)) ≡ tk.reserved (part.variable_word b)
     reserved false = refl
     reserved true = refl
 

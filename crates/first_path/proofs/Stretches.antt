@@ -54,16 +54,16 @@ all_fit_less (p ∷ ps) qs h = (fits_less p (text_of ps) (text_of qs) (subst (Fi
 
 -- ---- kinds of pieces
 
-pub kinds_behind : (k : Kind) (o : Option (List Kind)) (ks : List Kind) → form.behind k o ≡ Some ks
+pub kinds_after : (k : Kind) (o : Option (List Kind)) (ks : List Kind) → form.after k o ≡ Some ks
     → (more : List Kind) × (o ≡ Some more) × (k ∷ more ≡ ks)
-kinds_behind k (Some more) ks e = (more, refl, cc)
-kinds_behind k None ks e = absurd cc
+kinds_after k (Some more) ks e = (more, refl, cc)
+kinds_after k None ks e = absurd cc
 
 pub kinds_gap : (gap : List ℕ) (ps : List Piece) → kinds_of (map blank gap ++ ps) ≡ kinds_of ps
 kinds_gap [] ps = refl
 kinds_gap (b ∷ gap) ps = kinds_gap gap ps
 
--- the pieces begin with blanks and then a lexeme of the kind k; more stand behind
+-- the pieces begin with blanks and then a lexeme of the kind k; more stand after
 pub record First (k : Kind) (ks : List Kind) (ps : List Piece) : Type 0 where
   pub gap : List ℕ
   pub is_gap : list_all is_blank gap ≡ true
@@ -93,7 +93,7 @@ first_of k ks (blank b ∷ ps) h e =
 first_of k ks (block body ∷ ps) h e = absurd cc
 first_of k ks (line body ∷ ps) h e = absurd cc
 first_of k ks (lexeme j bytes ∷ ps) h e =
-    let (js, d, s) = kinds_behind j (kinds_of ps) (k ∷ ks) e in
+    let (js, d, s) = kinds_after j (kinds_of ps) (k ∷ ks) e in
     let same : j ≡ k = cc in
     let rest : js ≡ ks = cc in
     record {
@@ -131,7 +131,7 @@ after_append : (p : Place) (v w : List ℕ) → after p (v ++ w) ≡ after (afte
 after_append p [] w = refl
 after_append p (b ∷ v) w = after_append (step p b) v w
 
--- behind the end of a line
+-- after the end of a line
 pub begins_line : (w m r : List ℕ) (n : ℕ) → w ≡ (m ++ codes "\n") ++ r → n ≡ length (m ++ codes "\n") → (place_at w n).col ≡ 1
 begins_line w m r n e f =
     ap (λ (k : ℕ). (place_at w k).col) f

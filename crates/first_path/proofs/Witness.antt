@@ -1,24 +1,30 @@
 -- The worked example meets the premises of the promise, and its algorithm begins, steps and is done.
 use Rattle.std.proofs.Common.{◌≡◌, pos, Bool, true, false, cond, None, Some, [], ◌∷◌, codes, bytes_eq, refl, sym, ap, ◌∙◌, subst, ◌⊎◌, inl, inr, Ok, Err}
+use Rattle.std.proofs.lemmas.Option.{same_Some}
 use Rattle.tla_token.specs.declared.place.Place.{Place}
 use Rattle.tla_expr.specs.Tree.{Word}
 use Rattle.tla_expr.specs.Names.{has}
 use Rattle.tla_value.specs.declared.fault.FaultKind.{FaultKind}
-use Rattle.tla_value.specs.Value.{Value, int, text}
+use Rattle.tla_value.specs.Value.{Value, int, text, Trouble}
+use Rattle.tla_value.specs.Order.{IsCanonical}
+use Rattle.tla_value.proofs.Outcomes.{ok_is}
 use Rattle.pcal_tree.specs.Algorithm.{Naming}
 use Rattle.pcal_tree.specs.Names.{naming}
-use Rattle.pcal_tree.specs.Scope.{State, Trouble}
+use Rattle.pcal_tree.specs.Scope.{State}
 use Rattle.pcal_tree.specs.Run.{Has}
-use Rattle.pcal_tree.specs.Program.{Program, Actor, pc}
-use Rattle.pcal_tree.specs.Calls.{default}
-use Rattle.pcal_tree.specs.Step.{Sound, StepFrom, Step, Stutters, IsActor, Troubled, Stand, StandsAt, course_of, pc_of}
+use Rattle.pcal_tree.specs.Program.{Program, Actor}
+use Rattle.pcal_tree.specs.Calls.{defaultInitValue}
+use Rattle.pcal_tree.specs.Step.{StepFrom, Step, Stutters, Stand, StandsAt, course_of, pc_of}
 use Rattle.pcal_tree.specs.InitialStates.{Initial, InitFault}
 use Rattle.first_path.specs.Form.{IsForm}
-use Rattle.first_path.specs.Placed.{Places, algorithm_at, module_at}
-use Rattle.first_path.specs.Translates.{outside_of, AreConstants}
+use Rattle.first_path.specs.Placed.{Places, algorithm_at, module_at, integers_alone}
+use Rattle.promise.specs.ConstantsAndStates.{AreConstants, IsState}
 use Rattle.first_path.specs.Worked.{worked_text, worked_parts, no_more_constants, worked_program, at_first, at_last}
 use Rattle.first_path.proofs.FormExact.{form_found}
-use Rattle.first_path.proofs.MeansStep.{got_is, actor, stand, Kept, is_actor, actor_is, stand_is, there_stands, ended}
+use Rattle.first_path.proofs.MeansStep.{actor, stand, Kept, is_actor, actor_is, stand_is, there_stands, ended}
+use Rattle.pcal_tree.specs.Variables.{pc}
+use Rattle.pcal_tree.specs.Faults.{Sound, Troubled}
+use Rattle.pcal_tree.specs.Processes.{IsActor}
 
 pub form_worked : IsForm worked_text worked_parts
 form_worked = form_found worked_text worked_parts refl
@@ -30,18 +36,32 @@ other_name : (x : Word) → has (codes "defaultInitValue" ∷ []) x ≡ false �
 unfolding has
 other_name x h = by (bytes_eq (codes "defaultInitValue") x) refl
   where
-    by : (b : Bool) → bytes_eq (codes "defaultInitValue") x ≡ b → cond b (Some default) None ≡ None
+    by : (b : Bool) → bytes_eq (codes "defaultInitValue") x ≡ b → cond b (Some defaultInitValue) None ≡ None
     by false e = refl
     by true e = absurd cc
 
+-- a model value is in canonical order
+model_canonical : (x : Word) (v : Value) → no_more_constants x ≡ Some v → IsCanonical v
+model_canonical x v e = by (bytes_eq (codes "defaultInitValue") x) e
+  where
+    by : (b : Bool) → cond b (Some defaultInitValue) None ≡ Some v → IsCanonical v
+    by true e = subst IsCanonical (same_Some defaultInitValue v e) tt
+    by false e = absurd cc
+
 pub constants_worked : (q : Places) → AreConstants (module_at q worked_parts) no_more_constants
-constants_worked q = record { unset = refl; given = tt; no_other = other_name }
+constants_worked q = record { unset = refl; given = tt; no_other = other_name; canonical = model_canonical }
 
 -- ---- initial states
 
 module _ (p q : Places) where
   abbrev P : Program
   P = worked_program p q
+
+  pub first_state : IsState P at_first
+  first_state = (tt, (tt, tt))
+
+  pub last_state : IsState P at_last
+  last_state = (tt, (tt, tt))
 
   pub begins_worked : Initial P at_first
   begins_worked = refl
@@ -58,7 +78,7 @@ module _ (p q : Places) where
   -- ---- steps
 
   abbrev names : Naming
-  names = naming (algorithm_at p worked_parts) (outside_of (module_at q worked_parts))
+  names = naming (algorithm_at p worked_parts) integers_alone
 
   abbrev only : Actor
   only = actor p worked_parts
@@ -72,17 +92,17 @@ module _ (p q : Places) where
   label_is : (s : State) (d : Stand) → StandsAt P s only d → d ≡ at_label
   label_is = stand_is p worked_parts names no_more_constants
 
-  -- behind the step, as the algorithm's rules make it
-  behind : State
-  behind = ended worked_parts at_first (int (pos 1))
+  -- after the step, as the algorithm's rules make it
+  after : State
+  after = ended worked_parts at_first (int (pos 1))
 
   pub steps_worked : Step P at_first at_last
-  unfolding behind
+  unfolding after
   steps_worked = (
     only,
     at_label,
     is_actor p worked_parts names no_more_constants,
-    ((inl refl, refl, refl), (behind, refl, (refl, (refl, tt)))),
+    ((inl refl, refl, refl), (after, refl, (refl, (refl, tt)))),
   )
 
   -- a state is sound where a step from the label, if it is there, doesn't stop
@@ -127,8 +147,8 @@ module _ (p q : Places) where
 
   -- a step from the start ends where pc is "Done"
   step_ends : (s : State) → StepFrom P only at_label at_first s → s pc ≡ text (codes "Done")
-  unfolding behind
-  step_ends s (there, (u, has, agree)) = sym agree.1.0 ∙ ap (λ (u : State). u pc) (got_is u behind has)
+  unfolding after
+  step_ends s (there, (u, has, agree)) = sym agree.1.0 ∙ ap (λ (u : State). u pc) (ok_is has)
 
   labels_differ : text (codes "A") ≡ text (codes "Done") → ⊥
   labels_differ e = absurd cc
@@ -139,4 +159,4 @@ module _ (p q : Places) where
       let at = label_is at_first d here.0 in
       labels_differ (step_ends at_first (subst (λ d. StepFrom P only d at_first at_first) at here))
   not_idle (inr (done, agree)) =
-      labels_differ (got_is (at_first pc) (text (codes "Done")) (done only (is_actor p worked_parts names no_more_constants)))
+      labels_differ (ok_is (done only (is_actor p worked_parts names no_more_constants)))

@@ -64,22 +64,22 @@ abbrev pub right_kinds : Word → Right → List Kind → List Kind
 right_kinds v (single a) ks = operand_kind v a ∷ ks
 right_kinds v (sum a b) ks = operand_kind v a ∷ one sign.Plus ∷ operand_kind v b ∷ ks
 
--- behind `--algorithm`, with `variables` or `variable` as the word
+-- after `--algorithm`, with `variables` or `variable` as the word
 abbrev pub kinds : Word → Parts → List Kind
 kinds w f =
     word f.algorithm ∷ word w ∷ word f.variable ∷ one sign.Equal ∷ kind.number f.initial ∷ one sign.Semicolon ∷ word (codes "begin") ∷
     word f.label ∷ one sign.Colon ∷ word f.variable ∷ one sign.Assign ∷
     right_kinds f.variable f.right (one sign.Semicolon ∷ word (codes "end") ∷ word (codes "algorithm") ∷ [])
 
-abbrev pub behind : Kind → Option (List Kind) → Option (List Kind)
-behind k (Some ks) = Some (k ∷ ks)
-behind k None = None
+abbrev pub after : Kind → Option (List Kind) → Option (List Kind)
+after k (Some ks) = Some (k ∷ ks)
+after k None = None
 
 -- the kinds of lexemes with nothing but blanks between them
 abbrev pub kinds_of : List Piece → Option (List Kind)
 kinds_of [] = Some []
 kinds_of (blank b ∷ ps) = kinds_of ps
-kinds_of (lexeme k bytes ∷ ps) = behind k (kinds_of ps)
+kinds_of (lexeme k bytes ∷ ps) = after k (kinds_of ps)
 kinds_of (p ∷ ps) = None
 
 abbrev pub first_lines : Word → List ℕ
@@ -93,7 +93,7 @@ pub record IsForm (x : List ℕ) (f : Parts) : Type 0 where
   pub fit : IsTrue (is_fit f)
   pub gap : List ℕ
   pub is_gap : IsTrue (list_all is_blank gap)
-  pub pieces : List Piece  -- behind `--algorithm`
+  pub pieces : List Piece  -- after `--algorithm`
   pub lines : x ≡ first_lines f.title ++ gap ++ codes "--algorithm" ++ text_of pieces ++ codes "*)\n" ++ last_line
   pub parted : (b : ℕ) × (more : List Piece) × (pieces ≡ blank b ∷ more)
   pub ended : (less : List Piece) × (pieces ≡ less ++ blank 10 ∷ [])

@@ -11,7 +11,7 @@ use Rattle.tla_token.specs.Places.{start, place_at}
 use Rattle.tla_token.specs.Offences.{Part, sound, Offence, least}
 use Rattle.tla_token.specs.Cut.{run, parts}
 use Rattle.tla_expr.specs.Tree.{Word}
-pub use Rattle.module_text.specs.Around.{on_some}
+pub use Rattle.module_text.specs.TextFront.{on_some}
 use Rattle.first_path.specs.Form.{Operand, number_operand, variable_operand, Right, single, sum, Parts, is_fit, first_lines, last_line}
 
 abbrev pub if_so : {A : Type 0} → Bool → Option A → Option A
@@ -67,7 +67,7 @@ declares w = bytes_eq w (codes "variables") || bytes_eq w (codes "variable")
 abbrev pub fit : Parts → Option Parts
 fit f = if_so (is_fit f) (Some f)
 
--- the parts of the algorithm whose tokens are of these kinds, behind `--algorithm`, in the module m
+-- the parts of the algorithm whose tokens are of these kinds, after `--algorithm`, in the module m
 abbrev pub parts_in : Word → List Kind → Option Parts
 parts_in m ks =
     on_name ks (λ a ks. on_name ks (λ w ks. if_so (declares w) (

@@ -6,9 +6,10 @@ use Rattle.tla_expr.specs.declared.op.Op.{Op}
 use Rattle.tla_expr.specs.declared.op.Op.TheVariants.{Equal, Plus}
 use Rattle.tla_expr.specs.Tree.{Word, Tree, node, no_trees, number, string, name, strict}
 use Rattle.tla_expr.specs.Tree as tree
+use Rattle.tla_value.specs.Outside.{Outside}
 use Rattle.pcal_tree.specs.declared.mark.Mark.TheVariants.{Plain}
 use Rattle.pcal_tree.specs.Algorithm.{Name, Algorithm, Span, assign, done, then, mark, no_assignments, assignment, equals, alone}
-use Rattle.module_text.specs.Module.{test, setting, no_items, item, call, one_way, all_of, Action, Region, Module, extends}
+use Rattle.module_text.specs.Module.{test, setting, no_items, item, call, one_way, all_of, Action, Region, Module}
 use Rattle.module_text.specs.Layout.{layout}
 use Rattle.module_text.specs.Around.{begin_line, end_line}
 use Rattle.first_path.specs.Form.{Operand, number_operand, variable_operand, Right, single, sum, Parts, last_line}
@@ -85,9 +86,13 @@ region_at q f = record {
   termination = is_at (codes "Done") (q 11) (q 12);
 }
 
+-- the module extends Integers, and has nothing else outside
+abbrev pub integers_alone : Outside
+integers_alone = record { extended = codes "Integers" ∷ []; constants = []; definitions = []; opaque = [] }
+
 -- the module with it
 abbrev pub module_at : Places → Parts → Module
-module_at q f = record { title = f.title; before = extends (codes "Integers" ∷ []) ∷ []; region = region_at q f; behind = [] }
+module_at q f = record { title = f.title; outside = integers_alone; region = region_at q f }
 
 -- ---- the file
 

@@ -4,12 +4,13 @@ use Rattle.tla_expr.specs.Tree.{Word}
 use Rattle.tla_value.specs.Value.{int, text}
 use Rattle.tla_value.specs.Definitions.{Valuation}
 use Rattle.pcal_tree.specs.Scope.{State, put}
-use Rattle.pcal_tree.specs.Program.{Program, pc}
-use Rattle.pcal_tree.specs.Calls.{default}
+use Rattle.pcal_tree.specs.Program.{Program}
+use Rattle.pcal_tree.specs.Calls.{defaultInitValue}
 use Rattle.pcal_tree.specs.InitialChoice.{nothing}
+use Rattle.pcal_tree.specs.Variables.{pc}
+use Rattle.promise.specs.ConstantsAndStates.{program}
 use Rattle.first_path.specs.Form.{Parts, sum, variable_operand, number_operand}
 use Rattle.first_path.specs.Placed.{Places, algorithm_at, module_at}
-use Rattle.first_path.specs.Translates.{program}
 
 abbrev pub worked_text : List ℕ
 worked_text = codes "---- MODULE M ----\nEXTENDS Integers\n(*\n--algorithm Inc\nvariables x = 0;\nbegin\n  A: x := x + 1;\nend algorithm\n*)\n====\n"
@@ -26,7 +27,7 @@ worked_parts = record {
 
 -- no constants of the module
 abbrev pub no_more_constants : Valuation
-no_more_constants x = cond (bytes_eq (codes "defaultInitValue") x) (Some default) None
+no_more_constants x = cond (bytes_eq (codes "defaultInitValue") x) (Some defaultInitValue) None
 
 -- p and q: the places of the tokens of the algorithm, and of the leaves of its translation
 abbrev pub worked_program : Places → Places → Program

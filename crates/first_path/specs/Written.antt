@@ -3,7 +3,7 @@ use Rattle.std.specs.Prelude.{◌≡◌, ℕ, List, false}
 use Rattle.pcal_tree.specs.Algorithm.{Algorithm}
 use Rattle.first_path.specs.Form.{Parts, IsForm}
 use Rattle.first_path.specs.Placed.{translation_of}
-use Rattle.first_path.specs.Headline.{Stands, Headline}
+use Rattle.promise.specs.Headline.{Stands, Headline}
 
 -- w is the text x with its translation, to the byte, and keeps the promise for the one algorithm that stands in x
 pub record Written (x w : List ℕ) : Type 0 where

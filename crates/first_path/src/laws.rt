@@ -4,15 +4,16 @@ ghost use Rattle.std.specs.Prelude.{◌≡◌, ◌⊎◌, ℕ, List, [], Some, f
 ghost use Rattle.tla_token.specs.declared.place.Place.{Place};
 ghost use Rattle.tla_value.specs.declared.fault.FaultKind.{FaultKind};
 ghost use Rattle.pcal_tree.specs.Algorithm.{Algorithm};
-ghost use Rattle.pcal_tree.specs.Step.{Sound, Step, Stutters};
+ghost use Rattle.pcal_tree.specs.Step.{Step, Stutters};
 ghost use Rattle.pcal_tree.specs.InitialStates.{Initial, InitFault};
 ghost use Rattle.module_text.specs.Reading.{Reads};
 ghost use Rattle.first_path.specs.Form.{Parts, IsForm};
 ghost use Rattle.first_path.specs.FormRead.{form_of, form_offences, FirstOffence, left_out};
 ghost use Rattle.first_path.specs.Placed.{Places, algorithm_at, module_at, translation_of};
-ghost use Rattle.first_path.specs.Translates.{AreConstants};
-ghost use Rattle.first_path.specs.Headline.{Headline, Stands};
+ghost use Rattle.promise.specs.ConstantsAndStates.{AreConstants, IsState};
+ghost use Rattle.promise.specs.Headline.{Headline, Stands};
 ghost use Rattle.first_path.specs.Worked.{worked_text, worked_parts, no_more_constants, worked_program, at_first, at_last};
+ghost use Rattle.pcal_tree.specs.Faults.{Sound};
 
 /// The parts of a text of the form are those that are read of it, and no text that isn't of the form gives any.
 pub fn forms_are_read()
@@ -42,6 +43,7 @@ pub fn translations_keep_the_promise()
 pub fn some_module_steps()
     ensures form { IsForm worked_text worked_parts }
     ensures constants { (q : Places) → AreConstants (module_at q worked_parts) no_more_constants }
+    ensures states { (p q : Places) → IsState (worked_program p q) at_first × IsState (worked_program p q) at_last }
     ensures starts { (p q : Places) → Sound (worked_program p q) at_first × Initial (worked_program p q) at_first }
     ensures no_fault { (p q : Places) (kind : FaultKind) (at : Place) → InitFault (worked_program p q) at_first kind at → ⊥ }
     ensures no_fault_at_last { (p q : Places) (kind : FaultKind) (at : Place) → InitFault (worked_program p q) at_last kind at → ⊥ }

@@ -4,7 +4,7 @@ use Rattle.tla_token.specs.declared.place.Place.{Place}
 use Rattle.tla_expr.specs.declared.op.Op.{Op}
 use Rattle.tla_expr.specs.declared.op.Op.TheVariants.{Equal, Plus}
 use Rattle.tla_expr.specs.Tree.{Word, Form, number, string, name, strict, operator, Tree, node, no_trees, tree}
-use Rattle.module_text.specs.Module.{test, setting, no_items, item, call, one_way, all_of, Action, Region, Module, extends}
+use Rattle.module_text.specs.Module.{test, setting, no_items, item, call, one_way, all_of, Action, Region, Module}
 
 abbrev pub here : Place
 here = record { line = 1; col = 1 }
@@ -47,4 +47,4 @@ region = record {
 }
 
 abbrev pub first : Module
-first = record { title = codes "M"; before = extends (codes "Integers" ∷ []) ∷ []; region = region; behind = [] }
+first = record { title = codes "M"; outside = record { extended = codes "Integers" ∷ []; constants = []; definitions = []; opaque = [] }; region = region }

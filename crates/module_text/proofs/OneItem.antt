@@ -2,14 +2,15 @@
 use Rattle.std.proofs.Common.{eq-eqb, nat_eq, ◌≡◌, ℕ, true, false, nat_lt, List, [], ◌∷◌, subst, refl, sym, ap, ◌∙◌, arith}
 use Rattle.std.proofs.lemmas.Bool.{both_ways, le-ltb}
 use Rattle.tla_token.specs.declared.place.Place.{Place}
+use Rattle.tla_token.specs.Places.{start}
 use Rattle.tla_expr.specs.declared.op.Op.TheVariants as op
-use Rattle.tla_expr.specs.Tree.{Word}
+use Rattle.tla_expr.specs.Tree.{Word, Name, words}
 use Rattle.tla_expr.specs.Lexical.{ExprToken, mark, sign, key}
 use Rattle.tla_expr.specs.Lexical as tk
 use Rattle.tla_expr.specs.Spelling.{Right}
 use Rattle.tla_expr.proofs.ReadStops.{is_calm, Calm, calm_right}
 use Rattle.module_text.specs.Module.{test, setting, unchanged, exists, local, if_then_else, either, no_items, item, no_branches, branch}
-use Rattle.module_text.specs.Grammar.{Token, Kind, seen, keyword, see, Names, last_name, more_names, spell_names, words, tree_of, ItemForm, test_form, setting_form, unchanged_form, exists_form, local_form, choice_form, either_form}
+use Rattle.module_text.specs.Grammar.{Token, Kind, seen, keyword, see, Names, last_name, more_names, spell_names, names_of, words_of, tree_of, ItemForm, test_form, setting_form, unchanged_form, exists_form, local_form, choice_form, either_form}
 use Rattle.module_text.specs.Grammar.{ListForm, last_item, more_items, BranchForms, last_branch, more_branches, spell_item, spell_list, spell_branches, item_of, items_of, branches_of, list_column, branch_column, GoodItem, GoodList, GoodBranches}
 use Rattle.module_text.proofs.OnePhrase.{lowered, one_phrase}
 
@@ -53,16 +54,30 @@ apart ts us n h = both_ways (nat_eq (first_sort ts) (first_sort us)) n (eq-eqb (
 
 -- ---- names with commas
 
+first_place : List Token → Place
+first_place [] = start
+first_place (t ∷ ts) = t.place
+
+pub same_name : (p q : Place) (x y : Word) (r s : List Token) → see p (tk.word x) r ≡ see q (tk.word y) s
+    → ◌≡◌ {A = Name} (record { word = x; place = p }) (record { word = y; place = q })
+unfolding first_place
+same_name p q x y r s same = (let d : p ≡ q = ap first_place same in let e : x ≡ y = ap first_word same in λ i. record { word = e i; place = d i })
+
+pub placed_names : (ns ms : Names) (r s : List Token) → nat_eq (first_sort r) 9 ≡ false → nat_eq (first_sort s) 9 ≡ false
+    → spell_names ns r ≡ spell_names ms s
+    → (names_of ns ≡ names_of ms) × (r ≡ s)
+placed_names (last_name p x) (last_name q y) r s c d same = ((let e = same_name p q x y r s same in λ i. e i ∷ []), ap tail same)
+placed_names (last_name p x) (more_names q y u ms) r s c d same = absurd (apart r _ c (ap tail same))
+placed_names (more_names p x u ns) (last_name q y) r s c d same = absurd (apart s _ d (ap tail (sym same)))
+placed_names (more_names p x u ns) (more_names q y v ms) r s c d same =
+    let e = same_name p q x y _ _ same in
+    let w = placed_names ns ms r s c d (ap (λ (ts : List Token). tail (tail ts)) same) in
+    ((λ i. e i ∷ w.0 i), w.1)
+
 pub one_names : (ns ms : Names) (r s : List Token) → nat_eq (first_sort r) 9 ≡ false → nat_eq (first_sort s) 9 ≡ false
     → spell_names ns r ≡ spell_names ms s
-    → (words ns ≡ words ms) × (r ≡ s)
-one_names (last_name p x) (last_name q y) r s c d same = (ap (λ (ts : List Token). first_word ts ∷ []) same, ap tail same)
-one_names (last_name p x) (more_names q y u ms) r s c d same = absurd (apart r _ c (ap tail same))
-one_names (more_names p x u ns) (last_name q y) r s c d same = absurd (apart s _ d (ap tail (sym same)))
-one_names (more_names p x u ns) (more_names q y v ms) r s c d same =
-    let e : x ≡ y = ap first_word same in
-    let w = one_names ns ms r s c d (ap (λ (ts : List Token). tail (tail ts)) same) in
-    ((λ i. e i ∷ w.0 i), w.1)
+    → (words_of ns ≡ words_of ms) × (r ≡ s)
+one_names ns ms r s c d same = (let w = placed_names ns ms r s c d same in (ap words w.0, w.1))
 
 -- ---- calm tokens
 
@@ -88,17 +103,17 @@ bullet_stirs e c p ts l h k = (let g : nat_lt e p.col ≡ true = ap (λ (n : ℕ
 branch_stirs : (e c : ℕ) (p : Place) (ts : List Token) → nat_lt e c ≡ true → p.col ≡ c → Calm e (lowered (see p (sign op.Or) ts)) → ⊥
 branch_stirs e c p ts l h k = (let g : nat_lt e p.col ≡ true = ap (λ (n : ℕ). nat_lt e n) h ∙ l in both_ways false refl (rw g at k))
 
-no_list_behind : (e c : ℕ) (is : ListForm) (r s : List Token) → nat_lt e c ≡ true → GoodList c is → Calm e (lowered r) → r ≡ spell_list is s → ⊥
-no_list_behind e c (last_item p i) r s l g k same = bullet_stirs e c p (spell_item i s) l g.0
+no_list_after : (e c : ℕ) (is : ListForm) (r s : List Token) → nat_lt e c ≡ true → GoodList c is → Calm e (lowered r) → r ≡ spell_list is s → ⊥
+no_list_after e c (last_item p i) r s l g k same = bullet_stirs e c p (spell_item i s) l g.0
     (subst (λ (ts : List Token). Calm e (lowered ts)) same k)
-no_list_behind e c (more_items p i is) r s l g k same = bullet_stirs e c p (spell_item i (spell_list is s)) l g.0
+no_list_after e c (more_items p i is) r s l g k same = bullet_stirs e c p (spell_item i (spell_list is s)) l g.0
     (subst (λ (ts : List Token). Calm e (lowered ts)) same k)
 
-no_branch_behind : (e c : ℕ) (bs : BranchForms) (r s : List Token) → nat_lt e c ≡ true → GoodBranches c bs → Calm e (lowered r)
+no_branch_after : (e c : ℕ) (bs : BranchForms) (r s : List Token) → nat_lt e c ≡ true → GoodBranches c bs → Calm e (lowered r)
     → r ≡ spell_branches bs s → ⊥
-no_branch_behind e c (last_branch p is) r s l g k same = branch_stirs e c p (spell_list is s) l g.0
+no_branch_after e c (last_branch p is) r s l g k same = branch_stirs e c p (spell_list is s) l g.0
     (subst (λ (ts : List Token). Calm e (lowered ts)) same k)
-no_branch_behind e c (more_branches p is bs) r s l g k same =
+no_branch_after e c (more_branches p is bs) r s l g k same =
     branch_stirs e c p (spell_list is (spell_branches bs s)) l g.0 (subst (λ (ts : List Token). Calm e (lowered ts)) same k)
 
 -- ---- the first token tells which item it is, and the column of a list
@@ -203,10 +218,10 @@ mutual
       ((λ n. item (w.0 n) no_items), w.1)
   one_list e c (last_item p i) (more_items q j js) l g h r s cr cs same =
       let w = one_item c i j g.1 h.1 r (spell_list js s) (calm_right e c (lowered r) l cr) (list_calm c js h.2 s) (ap tail same) in
-      absurd (no_list_behind e c js r s l h.2 cr w.1)
+      absurd (no_list_after e c js r s l h.2 cr w.1)
   one_list e c (more_items p i is) (last_item q j) l g h r s cr cs same =
       let w = one_item c i j g.1 h.1 (spell_list is r) s (list_calm c is g.2 r) (calm_right e c (lowered s) l cs) (ap tail same) in
-      absurd (no_list_behind e c is s r l g.2 cs (sym w.1))
+      absurd (no_list_after e c is s r l g.2 cs (sym w.1))
   one_list e c (more_items p i is) (more_items q j js) l g h r s cr cs same =
       let w = one_item c i j g.1 h.1 (spell_list is r) (spell_list js s) (list_calm c is g.2 r) (list_calm c js h.2 s) (ap tail same) in
       let v = one_list e c is js l g.2 h.2 r s cr cs w.1 in
@@ -224,12 +239,12 @@ mutual
       let lists : spell_list is r ≡ spell_list js (spell_branches ds s) = ap tail same in
       let w = one_list c (list_column is) is js g.1 g.2 (in_column is js r (spell_branches ds s) lists h.2) r (spell_branches ds s)
       (calm_right e c (lowered r) l cr) (branches_calm c ds h.3 s) lists in
-      absurd (no_branch_behind e c ds r s l h.3 cr w.1)
+      absurd (no_branch_after e c ds r s l h.3 cr w.1)
   one_branches e c (more_branches p is bs) (last_branch q js) l g h r s cr cs same =
       let lists : spell_list is (spell_branches bs r) ≡ spell_list js s = ap tail same in
       let w = one_list c (list_column is) is js g.1 g.2 (in_column is js (spell_branches bs r) s lists h.2) (spell_branches bs r) s
       (branches_calm c bs g.3 r) (calm_right e c (lowered s) l cs) lists in
-      absurd (no_branch_behind e c bs s r l g.3 cs (sym w.1))
+      absurd (no_branch_after e c bs s r l g.3 cs (sym w.1))
   one_branches e c (more_branches p is bs) (more_branches q js ds) l g h r s cr cs same =
       let lists : spell_list is (spell_branches bs r) ≡ spell_list js (spell_branches ds s) = ap tail same in
       let w = one_list c (list_column is) is js g.1 g.2 (in_column is js (spell_branches bs r) (spell_branches ds s) lists h.2) (spell_branches bs r)

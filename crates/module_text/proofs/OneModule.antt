@@ -1,16 +1,16 @@
 -- A text reads as one module at most.
-use Rattle.std.proofs.Common.{◌≡◌, ℕ, true, false, List, ◌++◌, [], ◌∷◌, Option, Some, None, subst, refl, sym, ap, ◌∙◌}
+use Rattle.std.proofs.Common.{◌≡◌, ℕ, true, false, List, ◌++◌, [], ◌∷◌, flat_map, Option, Some, None, subst, refl, sym, ap, ◌∙◌}
 use Rattle.std.proofs.lemmas.List.{append-nil}
 use Rattle.tla_token.specs.Tokens as lexical
 use Rattle.tla_token.specs.Tokens.{Tok}
 use Rattle.tla_token.proofs.Unique as unique
-use Rattle.tla_expr.specs.Tree.{Word}
-use Rattle.module_text.specs.Module.{RegionUnit, units_of, Outside, Module}
+use Rattle.tla_expr.specs.Tree.{Name, words}
+use Rattle.module_text.specs.Module.{RegionUnit, units_of, OutsideUnit, Module, modules_of, constants_of, outside_of}
 use Rattle.module_text.specs.Grammar.{Token}
 use Rattle.module_text.specs.Units.{IsUnit}
 use Rattle.module_text.specs.ModuleTokens.{view, cut}
 use Rattle.module_text.specs.Outside.{Sight, AllOutside}
-use Rattle.module_text.specs.Reading.{modules_in, constants_in, Stretch, Parts, AllAre, sight, Reads}
+use Rattle.module_text.specs.Reading.{Stretch, Parts, AllAre, sight, Reads}
 use Rattle.module_text.proofs.OneRegion.{one_region}
 use Rattle.module_text.proofs.OneUnit.{one_unit}
 use Rattle.module_text.proofs.OneOutside.{all_outside, all_declared}
@@ -40,42 +40,52 @@ same_tokens w get a b e ts us h k =
     let j : Tok w (get a).from (get a).to us = subst (λ (p : Parts). Tok w (get p).from (get p).to us) (sym e) k in
     unique.one_list w (get a).from (get a).to us ts j h
 
-same_sight : (m n : Module) → (modules : (sight m).modules ≡ (sight n).modules) → (constants : (sight m).constants ≡ (sight n).constants)
-    → sight m ≡ sight n
-same_sight m n d e = λ i. record { modules = d i; constants = e i; earlier = [] }
+-- what units see of all units
+abbrev sight_of : List OutsideUnit → Sight
+sight_of us = record { modules = words (flat_map modules_of us); constants = words (flat_map constants_of us); earlier = [] }
 
--- outside units of the same tokens, in their own sights
-outside_again : (m n : Module) → sight m ≡ sight n → (front back : List (List Token))
-    → AllOutside true (sight m) front m.before → AllOutside true (sight n) front n.before
-    → AllOutside false (sight m) back m.behind → AllOutside false (sight n) back n.behind → (m.before ≡ n.before) × (m.behind ≡ n.behind)
-outside_again m n e front back h k hb kb = (
-  all_outside true (sight m) front m.before n.before h (subst (λ (v : Sight). AllOutside true v front n.before) (sym e) k),
-  all_outside false (sight m) back m.behind n.behind hb (subst (λ (v : Sight). AllOutside false v back n.behind) (sym e) kb),
-)
+alone : (f : OutsideUnit → List Name) (us xs : List OutsideUnit) → flat_map f (us ++ []) ≡ flat_map f (xs ++ []) → flat_map f us ≡ flat_map f xs
+alone f us xs h = sym (ap (flat_map f) (append-nil us)) ∙ h ∙ ap (flat_map f) (append-nil xs)
 
-alone : (f : List Outside → List Word) (us xs : List Outside) → f (us ++ []) ≡ f (xs ++ []) → f us ≡ f xs
-alone f us xs h = sym (ap f (append-nil us)) ∙ h ∙ ap f (append-nil xs)
+-- units before and after the translation, each list in the sight of both
+record Both (front back : List (List Token)) (us xs : List OutsideUnit) : Type 0 where
+  before : AllOutside true (sight_of (us ++ xs)) front us
+  after : AllOutside false (sight_of (us ++ xs)) back xs
 
-same_outside : (m n : Module) (front back : List (List Token))
-    → AllOutside true (sight m) front m.before → AllOutside true (sight n) front n.before
-    → AllOutside false (sight m) back m.behind → AllOutside false (sight n) back n.behind → (m.before ≡ n.before) × (m.behind ≡ n.behind)
-same_outside m n front back h k hb kb =
-    let behind = all_declared false (sight m) (sight n) back m.behind n.behind hb kb [] [] refl refl in
-    let all = all_declared true (sight m) (sight n) front m.before n.before h k m.behind n.behind
-    (alone modules_in m.behind n.behind behind.0) (alone constants_in m.behind n.behind behind.1) in
-    outside_again m n (same_sight m n all.0 all.1) front back h k hb kb
+same_outside : (front back : List (List Token)) (us xs vs ys : List OutsideUnit) → Both front back us xs → Both front back vs ys
+    → us ++ xs ≡ vs ++ ys
+same_outside front back us xs vs ys h k =
+    let after = all_declared false (sight_of (us ++ xs)) (sight_of (vs ++ ys)) back xs ys h.after k.after [] [] refl refl in
+    let all = all_declared true (sight_of (us ++ xs)) (sight_of (vs ++ ys)) front us vs h.before k.before xs ys
+    (alone modules_of xs ys after.0) (alone constants_of xs ys after.1) in
+    let sights : sight_of (us ++ xs) ≡ sight_of (vs ++ ys) = λ i. record { modules = words (all.0 i); constants = words (all.1 i); earlier = [] } in
+    let front_is = all_outside true (sight_of (us ++ xs)) front us vs h.before (subst (λ (v : Sight). AllOutside true v front vs) (sym sights) k.before) in
+    let back_is = all_outside false (sight_of (us ++ xs)) back xs ys h.after (subst (λ (v : Sight). AllOutside false v back ys) (sym sights) k.after) in
+    λ i. front_is i ++ back_is i
+
+-- the units of a module that is read, of other tokens that are the same
+both : (w : List ℕ) (m : Module) (r : Reads w m) (ts us : List lexical.Token) → ts ≡ r.front → us ≡ r.back
+    → Both (cut (view ts)).units (cut (view us)).units r.before r.after
+both w m r ts us d e =
+    let seen : sight m ≡ sight_of (r.before ++ r.after) = λ i. (let o = r.outside i in record { modules = o.extended; constants = words o.constants; earlier = [] }) in
+    record {
+      before = subst (λ (ts : List lexical.Token). AllOutside true (sight_of (r.before ++ r.after)) (cut (view ts)).units r.before) (sym d)
+          (subst (λ (v : Sight). AllOutside true v (cut (view r.front)).units r.before) seen r.are_before);
+      after = subst (λ (us : List lexical.Token). AllOutside false (sight_of (r.before ++ r.after)) (cut (view us)).units r.after) (sym e)
+          (subst (λ (v : Sight). AllOutside false v (cut (view r.back)).units r.after) seen r.are_after);
+    }
 
 pub one_module : (w : List ℕ) (m n : Module) → Reads w m → Reads w n → m ≡ n
 one_module w m n r s =
     let parts : r.parts ≡ s.parts = same_parts r.parts s.parts (sym r.are_parts ∙ s.are_parts) in
     let front = same_tokens w (λ p. p.before) r.parts s.parts parts r.front s.front r.front_tokens s.front_tokens in
     let middle = same_tokens w (λ p. p.region) r.parts s.parts parts r.middle s.middle r.middle_tokens s.middle_tokens in
-    let back = same_tokens w (λ p. p.behind) r.parts s.parts parts r.back s.back r.back_tokens s.back_tokens in
+    let back = same_tokens w (λ p. p.after) r.parts s.parts parts r.back s.back r.back_tokens s.back_tokens in
     let title : m.title ≡ n.title = r.title ∙ ap (λ (p : Parts). p.title) parts ∙ sym s.title in
-    let outside = same_outside m n (cut (view r.front)).units (cut (view r.back)).units r.before
-    (subst (λ (ts : List lexical.Token). AllOutside true (sight n) (cut (view ts)).units n.before) front s.before) r.behind
-    (subst (λ (ts : List lexical.Token). AllOutside false (sight n) (cut (view ts)).units n.behind) back s.behind) in
+    let units_outside = same_outside (cut (view r.front)).units (cut (view r.back)).units r.before r.after s.before s.after
+    (both w m r r.front r.back refl refl) (both w n s r.front r.back (sym front) (sym back)) in
+    let outside : m.outside ≡ n.outside = r.outside ∙ ap outside_of units_outside ∙ sym s.outside in
     let units = one_units (cut (view r.middle)).units (units_of m.region) (units_of n.region) r.region
     (subst (λ (ts : List lexical.Token). AllAre IsUnit (cut (view ts)).units (units_of n.region)) middle s.region) in
     let region = one_region m.region n.region units in
-    λ i. record { title = title i; before = outside.0 i; region = region i; behind = outside.1 i }
+    λ i. record { title = title i; outside = outside i; region = region i }

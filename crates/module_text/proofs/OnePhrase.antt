@@ -1,4 +1,4 @@
--- Phrases among the tokens of modules: two of them with the same tokens, whatever calm stands behind, are one.
+-- Phrases among the tokens of modules: two of them with the same tokens, whatever calm stands after, are one.
 use Rattle.std.proofs.Common.{◌≡◌, ℕ, List, [], ◌∷◌, ◌++◌, refl, sym, ap, ◌∙◌}
 use Rattle.tla_expr.specs.declared.op.Op.{Op}
 use Rattle.tla_expr.specs.declared.op.Op.TheVariants as op
@@ -12,7 +12,7 @@ use Rattle.tla_expr.proofs.ReadAll.{one_before}
 use Rattle.module_text.specs.Grammar.{Kind, seen, keyword, lifted, phrase}
 use Rattle.module_text.specs.Grammar as text
 
--- ---- what stands behind a phrase can be joined to it
+-- ---- what stands after a phrase can be joined to it
 
 -- a form before other tokens
 abbrev pub Tokens : Type 0

@@ -2,7 +2,7 @@
 use Rattle.std.proofs.Common.{◌≡◌, List, [], ◌∷◌, ◌++◌, map, Option, Some, None, refl, sym, ap, ◌∙◌}
 use Rattle.tla_expr.specs.Tree.{Word, Tree}
 use Rattle.tla_value.specs.Definitions.{Definition}
-use Rattle.module_text.specs.Module.{Action, Region, RegionUnit, variables_unit, definition_unit, vars_unit, init_unit, action_unit, terminating_unit, next_unit, spec_unit, termination_unit, constants_of, process_set_of, units_of}
+use Rattle.module_text.specs.Module.{Action, Region, RegionUnit, variables_unit, definition_unit, vars_unit, init_unit, action_unit, terminating_unit, next_unit, spec_unit, termination_unit, model_value_units, process_set_of, units_of}
 
 -- both lists begin with as many units of a kind, and then with one of another kind
 split_map : {A : Type 0} (g : A → RegionUnit) (back : RegionUnit → Option A) → ((a : A) → back (g a) ≡ Some a)
@@ -27,19 +27,19 @@ abbrev action_back : RegionUnit → Option Action
 action_back (action_unit a) = Some a
 action_back _ = None
 
-behind_constants : (xs ys v w : List Word) (rs qs : List RegionUnit)
-    → constants_of xs ++ (variables_unit v ∷ rs) ≡ constants_of ys ++ (variables_unit w ∷ qs) → (xs ≡ ys) × (v ≡ w) × (rs ≡ qs)
-behind_constants [] [] v w rs qs h = (refl, cc, cc)
-behind_constants [] (y ∷ ys) v w rs qs h = absurd cc
-behind_constants (x ∷ xs) [] v w rs qs h = absurd cc
-behind_constants (x ∷ xs) (y ∷ ys) v w rs qs h = (cc, cc, cc)
+after_constants : (xs ys v w : List Word) (rs qs : List RegionUnit)
+    → model_value_units xs ++ (variables_unit v ∷ rs) ≡ model_value_units ys ++ (variables_unit w ∷ qs) → (xs ≡ ys) × (v ≡ w) × (rs ≡ qs)
+after_constants [] [] v w rs qs h = (refl, cc, cc)
+after_constants [] (y ∷ ys) v w rs qs h = absurd cc
+after_constants (x ∷ xs) [] v w rs qs h = absurd cc
+after_constants (x ∷ xs) (y ∷ ys) v w rs qs h = (cc, cc, cc)
 
-behind_process_set : (x y : Option Tree) (v w : List Tree) (rs qs : List RegionUnit)
+after_process_set : (x y : Option Tree) (v w : List Tree) (rs qs : List RegionUnit)
     → process_set_of x ++ (init_unit v ∷ rs) ≡ process_set_of y ++ (init_unit w ∷ qs) → (x ≡ y) × (v ≡ w) × (rs ≡ qs)
-behind_process_set None None v w rs qs h = (refl, cc, cc)
-behind_process_set None (Some y) v w rs qs h = absurd cc
-behind_process_set (Some x) None v w rs qs h = absurd cc
-behind_process_set (Some x) (Some y) v w rs qs h = (cc, cc, cc)
+after_process_set None None v w rs qs h = (refl, cc, cc)
+after_process_set None (Some y) v w rs qs h = absurd cc
+after_process_set (Some x) None v w rs qs h = absurd cc
+after_process_set (Some x) (Some y) v w rs qs h = (cc, cc, cc)
 
 abbrev last_units : Region → List RegionUnit
 last_units r = next_unit r.next ∷ spec_unit r.fairness ∷ termination_unit r.termination ∷ []
@@ -55,9 +55,9 @@ from_definitions r = map definition_unit r.definitions ++ (vars_unit r.vars ∷ 
 
 pub one_region : (r q : Region) → units_of r ≡ units_of q → r ≡ q
 one_region r q h =
-    let a = behind_constants r.model_values q.model_values r.variables q.variables (from_definitions r) (from_definitions q) h in
+    let a = after_constants r.model_values q.model_values r.variables q.variables (from_definitions r) (from_definitions q) h in
     let b = split_map definition_unit definition_back (λ d. refl) r.definitions q.definitions (vars_unit r.vars) (vars_unit q.vars) (from_process_set r) (from_process_set q) refl refl a.2 in
-    let c = behind_process_set r.process_set q.process_set r.init q.init (from_actions r) (from_actions q) b.2 in
+    let c = after_process_set r.process_set q.process_set r.init q.init (from_actions r) (from_actions q) b.2 in
     let d = split_map action_unit action_back (λ d. refl) r.actions q.actions (terminating_unit r.ended) (terminating_unit q.ended) (last_units r) (last_units q) refl refl c.2 in
     let vars : r.vars ≡ q.vars = (let e = b.1 in cc) in
     let ended : r.ended ≡ q.ended = (let e = d.1 in cc) in

@@ -242,16 +242,16 @@ one_next p q ys x g h same = absurd (units_apart (next_form p q ys) x g h refl s
 abbrev from_start : List Token → List Token
 from_start ts = tail (tail ts)
 
--- the tokens behind `[][Next]_vars`
-abbrev behind_steps : List Token → List Token
-behind_steps ts = tail (tail (tail (tail (tail (tail (tail (tail (tail (tail ts)))))))))
+-- the tokens after `[][Next]_vars`
+abbrev after_steps : List Token → List Token
+after_steps ts = tail (tail (tail (tail (tail (tail (tail (tail (tail (tail ts)))))))))
 
 one_spec : (p q s t u : Place) (k : SpecForm) (fs : List (Place × FairForm)) (g : UnitForm) → GoodUnit (spec_form p q s t u k fs) → GoodUnit g
     → spell_unit (spec_form p q s t u k fs) [] ≡ spell_unit g [] → unit_of (spec_form p q s t u k fs) ≡ unit_of g
 one_spec p q s t u (steps_line a b c d e) fs (spec_form p2 q2 s2 t2 u2 (steps_line a2 b2 c2 d2 e2) gs) g h same =
     let c : s2.col ≡ s.col = ap (λ (ts : List Token). first_col (from_start ts)) (sym same) in
     let good : GoodBullets GoodSpec s.col (fair_specs gs) = subst (λ (n : ℕ). GoodBullets GoodSpec n (fair_specs gs)) c h.2.1.2.2 in
-    ap spec_unit (one_fairs s.col fs gs g.2.1.2.2 good (ap behind_steps same))
+    ap spec_unit (one_fairs s.col fs gs g.2.1.2.2 good (ap after_steps same))
 one_spec p q s t u (steps_line a b c d e) fs (spec_form p2 q2 s2 t2 u2 (start_line a2) gs) g h same = absurd (both_ways false refl h.1)
 one_spec p q s t u (steps_line a b c d e) fs (spec_form p2 q2 s2 t2 u2 (fair_line a2) gs) g h same = absurd (both_ways false refl h.1)
 one_spec p q s t u (start_line a) fs x g h same = absurd (both_ways false refl g.1)

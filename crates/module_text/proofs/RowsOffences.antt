@@ -3,7 +3,7 @@ use Rattle.std.specs.Prelude.{◌≡◌, ◌++◌, Some, None, codes}
 use Rattle.std.proofs.Common.{refl}
 use Rattle.tla_token.specs.declared.rule.Rule.TheVariants.{NoModule, NoAlgorithm, TwoAlgorithms, BadRegion, Placement, Options}
 use Rattle.tla_token.specs.Offences.{least}
-use Rattle.module_text.specs.Around.{Text}
+use Rattle.module_text.specs.TextFront.{Text}
 use Rattle.module_text.specs.Offences.{module_offences}
 
 abbrev head : Text
@@ -36,8 +36,8 @@ end_without_begin = refl
 old_region : least (module_offences (head ++ algorithm ++ codes "\\* BEGIN TRANSLATION\n==== x\n\\* END TRANSLATION\n====\n")) ≡ None
 old_region = refl
 
-behind_the_comment : least (module_offences (head ++ codes "(*\n--algorithm A\nbegin\n  L: skip;\nend algorithm\n*) x\n====\n")) ≡ Some (Placement, 70)
-behind_the_comment = refl
+after_the_comment : least (module_offences (head ++ codes "(*\n--algorithm A\nbegin\n  L: skip;\nend algorithm\n*) x\n====\n")) ≡ Some (Placement, 70)
+after_the_comment = refl
 
 no_unit : least (module_offences (head ++ algorithm ++ codes " x\n====\n")) ≡ Some (Placement, 71)
 no_unit = refl

@@ -3,7 +3,7 @@ use Rattle.std.proofs.Common.{◌≡◌, refl}
 use Rattle.std.specs.Prelude.{◌^◌, Bool, true, false, List, [], ◌∷◌, codes}
 use Rattle.tla_expr.specs.declared.op.Op.TheVariants.{Plus}
 use Rattle.tla_expr.specs.declared.op.Binder.TheVariants.{ForAll}
-use Rattle.tla_expr.specs.Tree.{Word, number, name, member, binding, Tree, node, no_trees, tree}
+use Rattle.tla_expr.specs.Tree.{Word, number, name, member, binding, local, Tree, node, no_trees, tree}
 use Rattle.module_text.specs.Outside.{Sight, definition_reads}
 use Rattle.module_text.proofs.First.{here, leaf, signed}
 
@@ -42,13 +42,23 @@ twice = refl
 
 -- \A y \in S : y \in Nat, and \A y \in Nat : y \in S
 abbrev all : Tree → Tree → Tree
-all s t = node (binding ForAll (codes "y" ∷ [])) here (tree s (tree (node (member true) here (tree (word (codes "y")) (tree t no_trees))) no_trees))
+all s t = node (binding ForAll ((record { word = codes "y"; place = here } ∷ []) ∷ [])) here (tree s (tree (node (member true) here (tree (word (codes "y")) (tree t no_trees))) no_trees))
 
 tested : reads integers [] (all (word (codes "S")) (word (codes "Nat"))) ≡ true
 tested = refl
 
 not_listed : reads integers [] (all (word (codes "Nat")) (word (codes "S"))) ≡ false
 not_listed = refl
+
+-- LET y == 1 z == y IN z, and with the names in the other order
+abbrev lets : Word → Word → Tree
+lets x w = node (local (record { word = x; place = here } ∷ record { word = w; place = here } ∷ [])) here (tree (leaf (number 1)) (tree (word (codes "y")) (tree (word (codes "z")) no_trees)))
+
+seen_later : reads integers [] (lets (codes "y") (codes "z")) ≡ true
+seen_later = refl
+
+not_seen_earlier : reads integers [] (lets (codes "z") (codes "y")) ≡ false
+not_seen_earlier = refl
 
 too_large : reads integers [] (leaf (number (2 ^ 127))) ≡ false
 too_large = refl

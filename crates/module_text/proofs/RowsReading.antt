@@ -1,17 +1,18 @@
 -- Texts of units that are read as these units, by computation.
-use Rattle.std.proofs.Common.{◌≡◌, refl}
+use Rattle.std.proofs.Common.{◌≡◌, inr, refl, true}
 use Rattle.std.specs.Prelude.{ℕ, List, [], ◌∷◌, map, None, codes}
 use Rattle.tla_token.specs.declared.place.Place.{Place}
 use Rattle.tla_token.specs.Cut.{tokens}
 use Rattle.tla_expr.specs.declared.op.Op.TheVariants.{Plus}
-use Rattle.tla_expr.specs.Tree.{Word, number, name, strict, operator, Tree, node, no_trees, tree}
+use Rattle.tla_expr.specs.Tree.{Word, Name, number, name, strict, operator, Tree, node, no_trees, tree}
 use Rattle.tla_expr.specs.Spelling.{Phrase}
 use Rattle.tla_expr.specs.Spelling as spelled
-use Rattle.module_text.specs.Module.{test, setting, unchanged, no_items, item, call, call_with, one_way, some_way, all_of, action_unit, next_unit, spec_unit, termination_unit}
+use Rattle.tla_value.specs.Outside.{ReadDefinition}
+use Rattle.module_text.specs.Module.{extends, constants, defines, outside_of, test, setting, unchanged, no_items, item, call, call_with, one_way, some_way, all_of, action_unit, next_unit, spec_unit, termination_unit}
 use Rattle.module_text.specs.Grammar.{Token, last_name, more_names, test_form, setting_form, unchanged_form, last_item, more_items, call_form, call_with_form, one_form, some_form}
 use Rattle.module_text.specs.Units.{IsUnit, all_form, action_form, next_form, spec_form, steps_line, termination_form}
 use Rattle.module_text.specs.ModuleTokens.{view, cut}
-use Rattle.module_text.specs.Outside.{opaque_of}
+use Rattle.module_text.specs.Outside.{Sight, IsRead, opaque_of}
 
 abbrev at : ℕ → ℕ → Place
 at l c = record { line = l; col = c }
@@ -55,6 +56,46 @@ specs = (
 
 terminations : IsUnit (seen (codes "Termination == <>(pc)\n")) (termination_unit (name_at (at 1 19) (codes "pc")))
 terminations = (termination_form (at 1 1) (at 1 13) (at 1 16) (at 1 17) (at 1 18) (spelled.name (at 1 19) (codes "pc")) (at 1 21), (refl, refl, refl, refl, refl, refl), refl, refl)
+
+-- a constant and a definition outside have the places of their names
+abbrev around : Sight
+around = record { modules = []; constants = []; earlier = [] }
+
+abbrev both_constants : List Name
+both_constants = record { word = codes "C"; place = at 1 11 } ∷ record { word = codes "S"; place = at 1 14 } ∷ []
+
+declared : IsRead true around (seen (codes "CONSTANTS C, S\n")) (constants both_constants)
+declared = inr (record {
+  at = at 1 1;
+  names = more_names (at 1 11) (codes "C") (at 1 12) (last_name (at 1 14) (codes "S"));
+  good = (refl, refl, refl);
+  spelled = refl;
+  are = refl;
+})
+
+abbrev one : ReadDefinition
+one = record { definition = record { title = codes "N"; params = []; body = node (number 1) (at 1 6) no_trees; outside = true }; place = at 1 1 }
+
+defined : IsRead true around (seen (codes "N == 1\n")) (defines one)
+defined = (
+  refl,
+  record {
+    at = at 1 1;
+    params = None;
+    sign = at 1 3;
+    body = spelled.number (at 1 6) 1;
+    good = (tt, refl, refl);
+    spelled = refl;
+    is = refl;
+    shallow = refl;
+    reads = refl;
+  },
+)
+
+-- each kind in the order of the text
+kinds : outside_of (constants both_constants ∷ defines one ∷ extends [] ∷ [])
+    ≡ record { extended = []; constants = both_constants; definitions = one ∷ []; opaque = [] }
+kinds = refl
 
 -- units begin in column 1, or at a run of dashes; what is indented goes on
 units : map (λ ts. (opaque_of ts).names) (cut (seen (codes "a == b\n  c\n------\nTHEOREM x\nTHEOREM T == x\nRECURSIVE f(_), g\nLOCAL d == e\n"))).units

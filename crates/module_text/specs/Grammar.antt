@@ -2,7 +2,7 @@
 use Rattle.std.specs.Prelude.{◌≡◌, ℕ, nat_lt, IsTrue, List, [], ◌∷◌, codes}
 use Rattle.tla_token.specs.declared.place.Place.{Place}
 use Rattle.tla_expr.specs.declared.op.Op.TheVariants as op
-use Rattle.tla_expr.specs.Tree.{Word, Tree}
+use Rattle.tla_expr.specs.Tree.{Word, Name, Tree, words}
 use Rattle.tla_expr.specs.Lexical.{ExprToken, Mark, Key, sign, mark, key}
 use Rattle.tla_expr.specs.Lexical as tk
 use Rattle.tla_expr.specs.Spelling.{Phrase, Right, Good, head, is_primary}
@@ -47,9 +47,12 @@ abbrev pub spell_names : Names → Tokens
 spell_names (last_name p x) r = word p x r
 spell_names (more_names p x q ns) r = word p x (see q (mark tk.comma) (spell_names ns r))
 
-abbrev pub words : Names → List Word
-words (last_name p x) = x ∷ []
-words (more_names p x q ns) = x ∷ words ns
+abbrev pub names_of : Names → List Name
+names_of (last_name p x) = record { word = x; place = p } ∷ []
+names_of (more_names p x q ns) = record { word = x; place = p } ∷ names_of ns
+
+abbrev pub words_of : Names → List Word
+words_of ns = words (names_of ns)
 
 abbrev pub GoodNames : ℕ → Names → Type 0
 GoodNames e (last_name p x) = Right e p
@@ -73,7 +76,7 @@ mutual
     choice_form : Place → Phrase → Place → ListForm → Place → ListForm → ItemForm  -- IF e THEN list ELSE list
     either_form : BranchForms → ItemForm
 
-  -- items, each behind its bullet
+  -- items, each after its bullet
   pub data ListForm : Type 0 where
     last_item : Place → ItemForm → ListForm
     more_items : Place → ItemForm → ListForm → ListForm
@@ -104,7 +107,7 @@ abbrev mutual
   pub item_of : ItemForm → Item
   item_of (test_form p a q) = test (tree_of a)
   item_of (setting_form p x q s a) = setting x (tree_of a)
-  item_of (unchanged_form p q ns s) = unchanged (words ns)
+  item_of (unchanged_form p q ns s) = unchanged (words_of ns)
   item_of (exists_form p q x s a t is) = exists x (tree_of a) (items_of is)
   item_of (local_form p q x s a t is) = local x (tree_of a) (items_of is)
   item_of (choice_form p a q is s js) = if_then_else (tree_of a) (items_of is) (items_of js)
@@ -180,7 +183,7 @@ abbrev pub GoodWay : ℕ → WayForm → Type 0
 GoodWay e (one_form u) = GoodCall e u
 GoodWay e (some_form p q x s a t u) = Right e p × Right e q × Right e s × Good e a × Right e t × GoodCall e u
 
--- a list of forms, each behind its bullet
+-- a list of forms, each after its bullet
 abbrev pub spell_bullets : {A : Type 0} → ExprToken → (A → Tokens) → List (Place × A) → Tokens
 spell_bullets k f [] r = r
 spell_bullets k f (x ∷ xs) r = see x.0 k (f x.1 (spell_bullets k f xs r))

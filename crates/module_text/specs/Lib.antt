@@ -1,8 +1,15 @@
 pub mod Module
 pub mod ExprText
 pub mod Layout
+pub mod TextFront
+pub mod Comments
+pub mod HeaderAndRegion
+pub mod AlgorithmStretch
+pub mod RegionPlace
 pub mod Around
-pub mod Truth
+pub mod ActionTruth
+pub mod ModuleTruth
+pub mod ProcessPart
 pub mod Grammar
 pub mod Units
 pub mod ModuleTokens

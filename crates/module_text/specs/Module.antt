@@ -1,9 +1,9 @@
 -- The tree of a module: the units outside the translation, and the translation ("Specifying Systems", sections 17.1 to 17.5; actions, chapter 2;
 -- processes and their own actions, "A PlusCal User's Manual", section 3).
-use Rattle.std.specs.Prelude.{List, [], ◌∷◌, ◌++◌, map, Bool, Option, Some, None}
-use Rattle.tla_token.specs.declared.place.Place.{Place}
-use Rattle.tla_expr.specs.Tree.{Word, Tree}
+use Rattle.std.specs.Prelude.{List, [], ◌∷◌, ◌++◌, map, flat_map, Bool, Option, Some, None}
+use Rattle.tla_expr.specs.Tree.{Word, Name, Tree, words}
 use Rattle.tla_value.specs.Definitions.{Definition}
+use Rattle.tla_value.specs.Outside.{Opaque, ReadDefinition, Outside}
 
 -- ---- actions
 
@@ -69,7 +69,7 @@ pub record Region : Type 0 where
   pub actions : List Action  -- of each procedure and process: its labels' actions, and then its own
   pub ended : Tree  -- the test in Terminating, beside `UNCHANGED vars`
   pub next : List Way  -- the disjuncts of Next
-  pub fairness : List Fairness  -- the conjuncts of Spec behind `Init` and `[][Next]_vars`
+  pub fairness : List Fairness  -- the conjuncts of Spec after `Init` and `[][Next]_vars`
   pub termination : Tree  -- Termination == <>(e)
 
 -- one of them
@@ -86,9 +86,9 @@ pub data RegionUnit : Type 0 where
   spec_unit : List Fairness → RegionUnit  -- Spec == a /\ list
   termination_unit : Tree → RegionUnit  -- Termination == <>(e)
 
-abbrev pub constants_of : List Word → List RegionUnit
-constants_of [] = []
-constants_of xs = constant_unit xs ∷ []
+abbrev pub model_value_units : List Word → List RegionUnit
+model_value_units [] = []
+model_value_units xs = constant_unit xs ∷ []
 
 abbrev pub process_set_of : Option Tree → List RegionUnit
 process_set_of (Some e) = process_set_unit e ∷ []
@@ -96,34 +96,51 @@ process_set_of None = []
 
 abbrev pub units_of : Region → List RegionUnit
 units_of r =
-    constants_of r.model_values ++ (variables_unit r.variables
+    model_value_units r.model_values ++ (variables_unit r.variables
     ∷ (map definition_unit r.definitions ++ (vars_unit r.vars
     ∷ (process_set_of r.process_set ++ (init_unit r.init
     ∷ (map action_unit r.actions ++ (terminating_unit r.ended ∷ next_unit r.next ∷ spec_unit r.fairness ∷ termination_unit r.termination ∷ [])))))))
 
 -- ---- the module
 
--- a unit that is passed on unread
-pub record Opaque : Type 0 where
-  pub keyword : Word  -- none for a definition
-  pub names : List Word
-  pub place : Place
-
 -- a unit outside the translation
-pub data Outside : Type 0 where
-  extends : List Word → Outside  -- EXTENDS M, N
-  constants : List Word → Outside  -- CONSTANTS x, y
-  defines : Definition → Outside  -- N == e, or N(a, b) == e
-  opaque : Opaque → Outside
+pub data OutsideUnit : Type 0 where
+  extends : List Name → OutsideUnit  -- EXTENDS M, N
+  constants : List Name → OutsideUnit  -- CONSTANTS x, y
+  defines : ReadDefinition → OutsideUnit  -- N == e, or N(a, b) == e
+  opaque : Opaque → OutsideUnit  -- passed on unread
 
 pub record Module : Type 0 where
   pub title : Word
-  pub before : List Outside
+  pub outside : Outside
   pub region : Region
-  pub behind : List Outside
 
--- the definitions among the units
-abbrev pub defined_in : List Outside → List Definition
-defined_in [] = []
-defined_in (defines d ∷ us) = d ∷ defined_in us
-defined_in (u ∷ us) = defined_in us
+-- ---- what units outside the translation have of each kind
+
+abbrev pub modules_of : OutsideUnit → List Name
+modules_of (extends ms) = ms
+modules_of _ = []
+
+abbrev pub constants_of : OutsideUnit → List Name
+constants_of (constants xs) = xs
+constants_of _ = []
+
+abbrev pub definitions_of : OutsideUnit → List ReadDefinition
+definitions_of (defines d) = d ∷ []
+definitions_of _ = []
+
+abbrev pub unread_of : OutsideUnit → List Opaque
+unread_of (opaque o) = o ∷ []
+unread_of _ = []
+
+abbrev pub outside_of : List OutsideUnit → Outside
+outside_of us = record {
+  extended = words (flat_map modules_of us);
+  constants = flat_map constants_of us;
+  definitions = flat_map definitions_of us;
+  opaque = flat_map unread_of us;
+}
+
+-- definitions as an expression finds them
+abbrev pub found : List ReadDefinition → List Definition
+found ds = map (λ d. d.definition) ds

@@ -1,5 +1,5 @@
 -- Tokens as the grammar of modules sees them: reserved words are sorted out, synonyms are one ("Specifying Systems", section 15.1).
-use Rattle.std.specs.Prelude.{◌+◌, ◌&&◌, ◌||◌, not, Bool, true, false, nat_eq, bytes_eq, List, [], ◌∷◌, Option, Some, None, codes, if◌then◌else◌}
+use Rattle.std.specs.Prelude.{◌+◌, ◌&&◌, ◌||◌, not, Bool, true, false, nat_eq, List, [], ◌∷◌, Option, Some, None, codes}
 use Rattle.tla_token.specs.Signs.{is_among}
 use Rattle.tla_token.specs.Lexemes as lexeme
 use Rattle.tla_token.specs.Tokens as text
@@ -43,7 +43,7 @@ is_dash t = by t.kind
     by (seen (sign op.Minus)) = true
     by _ = false
 
--- b is a dash right behind the dash a
+-- b is a dash right after the dash a
 abbrev pub goes_on : Token → Token → Bool
 goes_on a b = is_dash a && (is_dash b && (nat_eq a.place.line b.place.line && nat_eq b.place.col (a.place.col + 1)))
 
@@ -67,9 +67,9 @@ abbrev pub cut_at : Bool → Token → Cut → Cut
 cut_at true t c = record { front = []; units = (t ∷ c.front) ∷ c.units }
 cut_at false t c = record { front = t ∷ c.front; units = c.units }
 
-abbrev pub cut_behind : Option Token → List Token → Cut
-cut_behind before [] = record { front = []; units = [] }
-cut_behind before (t ∷ ts) = cut_at (begins_unit before t ts) t (cut_behind (Some t) ts)
+abbrev pub cut_after : Option Token → List Token → Cut
+cut_after before [] = record { front = []; units = [] }
+cut_after before (t ∷ ts) = cut_at (begins_unit before t ts) t (cut_after (Some t) ts)
 
 abbrev pub cut : List Token → Cut
-cut ts = cut_behind None ts
+cut ts = cut_after None ts

@@ -9,7 +9,11 @@ use Rattle.tla_token.specs.Signs.{is_among}
 use Rattle.tla_token.specs.Words.{is_tla_word}
 use Rattle.tla_token.specs.Lexemes.{is_blank}
 use Rattle.tla_token.specs.Offences.{Offence, least}
-use Rattle.module_text.specs.Around.{Text, begins, is_space, behind, on_some, is_some, past_word, past_blanks, word_at, past_name, is_header, is_begin, is_end, at_line, line_of, line_end, Mode, plain, quoted, block, Found, step, is_plain, ends_module, seek, past_gap, past_algorithm, begins_algorithm, is_start, outside_comments}
+use Rattle.std.specs.Prelude.{is_some}
+use Rattle.module_text.specs.TextFront.{Text, begins, is_space, past_all, on_some, past_word, past_blanks, word_at, past_name, at_line, line_of, line_end}
+use Rattle.module_text.specs.Comments.{Mode, plain, quoted, block, Found, step, is_plain, ends_module, seek, outside_comments}
+use Rattle.module_text.specs.HeaderAndRegion.{is_header, is_begin, is_end, is_start}
+use Rattle.module_text.specs.AlgorithmStretch.{past_gap, past_algorithm, begins_algorithm}
 
 -- ---- what is looked at
 
@@ -17,7 +21,7 @@ use Rattle.module_text.specs.Around.{Text, begins, is_space, behind, on_some, is
 abbrev pub Stretch : Type 0
 Stretch = ℕ × Text
 
--- the whole module, or what is before and behind its region; a BEGIN line without an END line makes no region
+-- the whole module, or what is before and past_all its region; a BEGIN line without an END line makes no region
 abbrev pub looked_at : Text → List Stretch
 looked_at x = stretches (at_line is_header true x)
   where
@@ -25,15 +29,15 @@ looked_at x = stretches (at_line is_header true x)
     around n before m s (Some r) = (n, before) ∷ (m + length r.0 + (length r.1 - length (line_end r.1)), line_end r.1) ∷ []
     around n before m s None = (n, before ++ s) ∷ []
 
-    behind_header : ℕ → Text → List Stretch
-    behind_header n s = by (seek is_start plain true s)
+    after_header : ℕ → Text → List Stretch
+    after_header n s = by (seek is_start plain true s)
       where
         by : Option Found → List Stretch
         by (Some f) = around n f.before (n + length f.before) f.from (at_line is_end false f.from)
         by None = (n, s) ∷ []
 
     stretches : Option (Text × Text) → List Stretch
-    stretches (Some h) = behind_header (length h.0 + length (line_of h.1).0) (line_of h.1).1
+    stretches (Some h) = after_header (length h.0 + length (line_of h.1).0) (line_of h.1).1
     stretches None = []
 
 -- ---- places in a stretch
@@ -70,7 +74,7 @@ offences_at r (n ∷ ns) = (r, n) ∷ offences_at r ns
 
 -- ---- module and algorithm
 
--- a header line and an end behind it; else at the text's end
+-- a header line and an end past_all it; else at the text's end
 abbrev pub no_module : Text → List Offence
 no_module x = if is_some (end_in (looked_at x)) then [] else (NoModule, length x) ∷ []
 
@@ -94,20 +98,20 @@ abbrev pub from_index : ℕ → List ℕ → List ℕ
 from_index k [] = []
 from_index k (n ∷ ns) = index_if (nat_le k n) n (from_index k ns)
 
--- a second beginning, behind the first algorithm or in a comment in it
+-- a second beginning, past_all the first algorithm or in a comment in it
 abbrev pub second_algorithms : Text → List Offence
 second_algorithms x = by (all_in begins_algorithm (looked_at x))
   where
     inside : ℕ → Text → Text → List ℕ
     inside n s r = all_from in_comment plain false n (take (length s - length r) s)
 
-    behind_first : ℕ → Text → Option Text → List ℕ → List Offence
-    behind_first n s (Some r) more = offences_at TwoAlgorithms (inside n s r ++ from_index (n + (length s - length r)) more)
-    behind_first n s None more = offences_at TwoAlgorithms more
+    after_first : ℕ → Text → Option Text → List ℕ → List Offence
+    after_first n s (Some r) more = offences_at TwoAlgorithms (inside n s r ++ from_index (n + (length s - length r)) more)
+    after_first n s None more = offences_at TwoAlgorithms more
 
     by : List ℕ → List Offence
     by [] = []
-    by (n ∷ more) = behind_first n (drop n x) (past_algorithm (drop n x)) more
+    by (n ∷ more) = after_first n (drop n x) (past_algorithm (drop n x)) more
 
 -- ---- the region
 
@@ -133,35 +137,35 @@ begins_unit col s =
     begins s (codes "----") || (begins s (codes "====")
     || (nat_eq col 1 && (is_some (past_name s) && (not (is_tla_word (word_at s)) || is_among unit_words (word_at s)))))
 
--- what is behind the region or the place of insertion, on its own lines, begins no unit
-abbrev pub no_unit_behind : Text → ℕ → Text → List Offence
-no_unit_behind x n s =
+-- what is past_all the region or the place of insertion, on its own lines, begins no unit
+abbrev pub no_unit_after : Text → ℕ → Text → List Offence
+no_unit_after x n s =
     let at = n + (length s - length (past_gap plain s)) in
     if begins_unit (place_at x at).col (past_gap plain s) then [] else (Placement, at) ∷ []
 
--- behind the algorithm's comment, on its line, stand only blanks
+-- past_all the algorithm's comment, on its line, stand only blanks
 abbrev pub rest_of_line : ℕ → Text → List Offence
-rest_of_line n s = by (behind is_space s)
+rest_of_line n s = by (past_all is_space s)
   where
     by : Text → List Offence
     by [] = []
     by (b ∷ r) = if nat_eq b 10 then [] else (Placement, n + (length s - length (b ∷ r))) ∷ []
 
--- no room for the translation, by the stretches of the module: behind an old region, or where a new one is put
+-- no room for the translation, by the stretches of the module: past_all an old region, or where a new one is put
 abbrev pub no_room : Text → List Stretch → List Offence
 no_room x [] = []
-no_room x (before ∷ t ∷ ts) = no_unit_behind x t.0 t.1
+no_room x (before ∷ t ∷ ts) = no_unit_after x t.0 t.1
 no_room x (t ∷ []) = by (seek begins_algorithm plain true t.1)
   where
     put : ℕ → Text → List Offence
-    put n s = rest_of_line n s ++ no_unit_behind x (n + (length s - length (line_of s).1)) (line_of s).1
+    put n s = rest_of_line n s ++ no_unit_after x (n + (length s - length (line_of s).1)) (line_of s).1
 
-    behind_comment : ℕ → Option Found → List Offence
-    behind_comment n (Some g) = put (n + length g.before) g.from
-    behind_comment n None = []
+    after_comment : ℕ → Option Found → List Offence
+    after_comment n (Some g) = put (n + length g.before) g.from
+    after_comment n None = []
 
     by : Option Found → List Offence
-    by (Some f) = behind_comment (t.0 + length f.before) (seek outside_comments f.mode false f.from)
+    by (Some f) = after_comment (t.0 + length f.before) (seek outside_comments f.mode false f.from)
     by None = []
 
 abbrev pub placements : Text → List Offence
@@ -171,7 +175,7 @@ placements x = no_room x (looked_at x) ++ offences_at Placement (all_in is_inner
 abbrev pub is_options : Mode → Bool → Text → Bool
 is_options m first s =
     is_some (on_some (past_word (codes "PlusCal") s) (λ r. on_some (past_blanks is_blank r) (λ r.
-    on_some (past_word (codes "options") r) (λ r. past_word (codes "(") (behind is_blank r)))))
+    on_some (past_word (codes "options") r) (λ r. past_word (codes "(") (past_all is_blank r)))))
 
 abbrev pub options_lines : Text → List Offence
 options_lines x = offences_at Options (all_in is_options (looked_at x))

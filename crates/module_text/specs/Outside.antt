@@ -1,19 +1,21 @@
 -- Units outside the translation: which are read, and what is kept of those that are not ("Specifying Systems", sections 17.1 to 17.5; standard modules, chapter 18).
 use Rattle.std.specs.Prelude.{◌≡◌, ◌⊎◌, ℕ, ◌+◌, ◌^◌, max, ◌&&◌, ◌||◌, not, Bool, true, false, nat_lt, nat_le, nat_eq, bytes_eq, IsTrue, List, [], ◌∷◌, ◌++◌, length, Option, Some, None, codes, cond}
+use Rattle.std.specs.List.{flat_map}
 use Rattle.tla_token.specs.declared.place.Place.{Place}
 use Rattle.tla_token.specs.Places.{start}
 use Rattle.tla_token.specs.Signs.{is_among}
 use Rattle.tla_token.specs.Words.{is_standard}
 use Rattle.tla_expr.specs.declared.op.Op.{Op}
 use Rattle.tla_expr.specs.declared.op.Op.TheVariants as op
-use Rattle.tla_expr.specs.Tree.{Word, Form, number, strings, name, next, strict, operator, operator_call, member, binding, local, Tree, node, Trees, no_trees, tree, binders}
+use Rattle.tla_expr.specs.Tree.{Word, Name, Form, number, strings, name, next, strict, operator, operator_call, member, binding, local, Tree, node, Trees, no_trees, tree, words, seen_names}
 use Rattle.tla_expr.specs.Lexical.{mark}
 use Rattle.tla_expr.specs.Lexical as tk
 use Rattle.tla_expr.specs.Spelling.{Phrase, Right, Good}
 use Rattle.tla_expr.specs.Nesting.{text_nesting}
 use Rattle.tla_value.specs.Definitions.{Definition}
-use Rattle.module_text.specs.Module.{Opaque, Outside, extends, constants, defines, opaque, defined_in}
-use Rattle.module_text.specs.Grammar.{Token, Kind, seen, keyword, reserved, Names, spell_names, words, GoodNames, tree_of}
+use Rattle.tla_value.specs.Outside.{Opaque, ReadDefinition}
+use Rattle.module_text.specs.Module.{OutsideUnit, extends, constants, defines, opaque, definitions_of, found}
+use Rattle.module_text.specs.Grammar.{Token, Kind, seen, keyword, reserved, Names, spell_names, names_of, GoodNames, tree_of}
 use Rattle.module_text.specs.Units.{ParameterForm, parameters, GoodParameters, definition_form, spell_unit}
 
 -- what an outside unit may use
@@ -108,23 +110,27 @@ form_reads v bs inf (name x) n = is_among bs x || (is_among v.constants x || (is
 form_reads v bs inf (next x) n = false
 form_reads v bs inf (operator_call f) n = is_arity (arity v.earlier f) n || has_standard v inf f n
 form_reads v bs inf (strict (operator o)) n = has_operator v o
-form_reads v bs inf (binding b xs) n = are_fresh v bs xs
-form_reads v bs inf (local x) n = is_fresh v bs x
+form_reads v bs inf (binding b groups) n = are_fresh v bs (flat_map words groups)
+form_reads v bs inf (local xs) n = are_fresh v bs (words xs)
 form_reads v bs inf _ n = true
 
 abbrev pub is_member : Form → Bool
 is_member (member b) = true
 is_member _ = false
 
+abbrev pub is_last : Trees → Bool
+is_last no_trees = true
+is_last (tree t ts) = false
+
 abbrev mutual
   pub tree_reads : Sight → List Word → Bool → Tree → Bool
-  tree_reads v bs inf (node m at ts) = form_reads v bs inf m (count ts) && trees_read v bs (binders m) (is_member m) ts
+  tree_reads v bs inf (node m at ts) = form_reads v bs inf m (count ts) && trees_read v bs (seen_names m) (is_member m) ts
 
-  -- the last part has further names bound, and may be infinite
-  pub trees_read : Sight → List Word → List Word → Bool → Trees → Bool
-  trees_read v bs xs inf no_trees = true
-  trees_read v bs xs inf (tree t no_trees) = tree_reads v (xs ++ bs) inf t
-  trees_read v bs xs inf (tree t (tree u us)) = tree_reads v bs false t && trees_read v bs xs inf (tree u us)
+  -- each part sees further names, and the last may be infinite
+  pub trees_read : Sight → List Word → List (List Word) → Bool → Trees → Bool
+  trees_read v bs names inf no_trees = true
+  trees_read v bs [] inf (tree t ts) = tree_reads v bs (inf && is_last ts) t && trees_read v bs [] inf ts
+  trees_read v bs (xs ∷ names) inf (tree t ts) = tree_reads v (xs ++ bs) (inf && is_last ts) t && trees_read v bs names inf ts
 
 -- how deep a tree nests with the bodies of earlier definitions in place of their names, each use being one form more
 abbrev pub used : (Word → ℕ) → Form → ℕ
@@ -187,38 +193,41 @@ opaque_of (t ∷ ts) = record { keyword = keyword_of t.kind; names = names_by (k
 
 -- ---- units
 
-pub record Named (w : Word) (ts : List Token) (xs : List Word) : Type 0 where
+pub record Named (w : Word) (ts : List Token) (xs : List Name) : Type 0 where
   pub at : Place
   pub names : Names
   pub good : GoodNames 1 names
   pub spelled : ts ≡ reserved at w (spell_names names [])
-  pub are : words names ≡ xs
+  pub are : names_of names ≡ xs
 
-pub record Defined (v : Sight) (ts : List Token) (d : Definition) : Type 0 where
+pub record Defined (v : Sight) (ts : List Token) (d : ReadDefinition) : Type 0 where
   pub at : Place
   pub params : Option ParameterForm
   pub sign : Place
   pub body : Phrase
   pub good : GoodParameters params × Right 1 sign × Good 1 body
-  pub spelled : ts ≡ spell_unit (definition_form at d.title params sign body) []
-  pub is : record { title = d.title; params = parameters params; body = tree_of body; outside = true } ≡ d
+  pub spelled : ts ≡ spell_unit (definition_form at d.definition.title params sign body) []
+  pub is : record {
+    definition = record { title = d.definition.title; params = parameters params; body = tree_of body; outside = true };
+    place = at;
+  } ≡ d
   pub shallow : IsTrue (nat_le (text_nesting body) 200)
-  pub reads : IsTrue (definition_reads v d)
+  pub reads : IsTrue (definition_reads v d.definition)
 
 -- the unit is read; definitions are read only before the translation
-abbrev pub IsRead : Bool → Sight → List Token → Outside → Type 0
+abbrev pub IsRead : Bool → Sight → List Token → OutsideUnit → Type 0
 IsRead b v ts (extends ms) = Named (codes "EXTENDS") ts ms
 IsRead b v ts (constants xs) = Named (codes "CONSTANT") ts xs ⊎ Named (codes "CONSTANTS") ts xs
 IsRead b v ts (defines d) = IsTrue b × Defined v ts d
 IsRead b v ts (opaque o) = ⊥
 
 -- it is, or else it is passed on
-abbrev pub IsOutside : Bool → Sight → List Token → Outside → Type 0
-IsOutside b v ts (opaque o) = ((u : Outside) → IsRead b v ts u → ⊥) × (o ≡ opaque_of ts)
+abbrev pub IsOutside : Bool → Sight → List Token → OutsideUnit → Type 0
+IsOutside b v ts (opaque o) = ((u : OutsideUnit) → IsRead b v ts u → ⊥) × (o ≡ opaque_of ts)
 IsOutside b v ts u = IsRead b v ts u
 
 -- each sees the definitions before it
-abbrev pub AllOutside : Bool → Sight → List (List Token) → List Outside → Type 0
+abbrev pub AllOutside : Bool → Sight → List (List Token) → List OutsideUnit → Type 0
 AllOutside b v [] [] = Unit {0}
-AllOutside b v (ts ∷ more) (u ∷ us) = IsOutside b v ts u × AllOutside b (record v { earlier = v.earlier ++ defined_in (u ∷ []) }) more us
+AllOutside b v (ts ∷ more) (u ∷ us) = IsOutside b v ts u × AllOutside b (record v { earlier = v.earlier ++ found (definitions_of u) }) more us
 AllOutside b v _ _ = ⊥

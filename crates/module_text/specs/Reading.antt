@@ -1,11 +1,13 @@
--- Which module a text is: its header, the units before the translation, the translation, and the units behind it ("Specifying Systems", chapter 17).
+-- Which module a text is: its header, the units before the translation, the translation, and the units after it ("Specifying Systems", chapter 17).
 use Rattle.std.specs.Prelude.{◌≡◌, ℕ, ◌+◌, ◌-◌, ◌^◌, ◌<◌, Bool, true, false, List, [], ◌∷◌, ◌++◌, length, Option, Some}
 use Rattle.tla_token.specs.Tokens as text
 use Rattle.tla_token.specs.Tokens.{Tok}
 use Rattle.tla_token.specs.Lexemes as lexeme
-use Rattle.tla_expr.specs.Tree.{Word}
-use Rattle.module_text.specs.Module.{units_of, Outside, extends, constants, Module}
-use Rattle.module_text.specs.Around.{Text, Mode, plain, on_some, header_title, is_header, is_start, is_end, at_line, line_of, line_end, ends_module, seek}
+use Rattle.tla_expr.specs.Tree.{Word, words}
+use Rattle.module_text.specs.Module.{units_of, OutsideUnit, Module, outside_of}
+use Rattle.module_text.specs.TextFront.{Text, on_some, at_line, line_of, line_end}
+use Rattle.module_text.specs.Comments.{Mode, plain, ends_module, seek}
+use Rattle.module_text.specs.HeaderAndRegion.{header_title, is_header, is_start, is_end}
 use Rattle.module_text.specs.Grammar.{Token}
 use Rattle.module_text.specs.Units.{IsUnit}
 use Rattle.module_text.specs.ModuleTokens.{view, cut}
@@ -22,23 +24,23 @@ stretch from n = record { from = from; to = from + n }
 
 pub record Parts : Type 0 where
   pub title : Word
-  pub before : Stretch  -- behind the header
+  pub before : Stretch  -- after the header
   pub region : Stretch  -- between the lines BEGIN TRANSLATION and END TRANSLATION
-  pub behind : Stretch  -- up to the run of four or more `=`
+  pub after : Stretch  -- up to the run of four or more `=`
 
 abbrev pub at_end : Mode → Bool → Text → Bool
 at_end m first s = ends_module m s
 
--- behind the line END TRANSLATION, which begins at n; s begins with it
-abbrev pub parts_behind : Word → Stretch → Stretch → ℕ → Text → Option Parts
-parts_behind title before region n s =
+-- after the line END TRANSLATION, which begins at n; s begins with it
+abbrev pub parts_after : Word → Stretch → Stretch → ℕ → Text → Option Parts
+parts_after title before region n s =
     on_some (seek at_end plain false (line_end s)) (λ e.
-    Some (record { title = title; before = before; region = region; behind = stretch (n + (length s - length (line_end s))) (length e.before) }))
+    Some (record { title = title; before = before; region = region; after = stretch (n + (length s - length (line_end s))) (length e.before) }))
 
--- behind the line BEGIN TRANSLATION, which ends at n
+-- after the line BEGIN TRANSLATION, which ends at n
 abbrev pub parts_from : Word → Stretch → ℕ → Text → Option Parts
 parts_from title before n s =
-    on_some (at_line is_end true s) (λ r. parts_behind title before (stretch n (length r.0)) (n + length r.0) r.1)
+    on_some (at_line is_end true s) (λ r. parts_after title before (stretch n (length r.0)) (n + length r.0) r.1)
 
 abbrev pub parts_in_module : Word → ℕ → Text → Option Parts
 parts_in_module title n s =
@@ -67,19 +69,9 @@ abbrev pub AllSmall : List text.Token → Type 0
 AllSmall [] = Unit {0}
 AllSmall (t ∷ ts) = is_small t.kind × AllSmall ts
 
-abbrev pub modules_in : List Outside → List Word
-modules_in [] = []
-modules_in (extends ms ∷ us) = ms ++ modules_in us
-modules_in (u ∷ us) = modules_in us
-
-abbrev pub constants_in : List Outside → List Word
-constants_in [] = []
-constants_in (constants xs ∷ us) = xs ++ constants_in us
-constants_in (u ∷ us) = constants_in us
-
 -- modules and constants count wherever they stand
 abbrev pub sight : Module → Sight
-sight m = record { modules = modules_in (m.before ++ m.behind); constants = constants_in (m.before ++ m.behind); earlier = [] }
+sight m = record { modules = m.outside.extended; constants = words m.outside.constants; earlier = [] }
 
 -- the text w is the module m
 pub record Reads (w : Text) (m : Module) : Type 0 where
@@ -88,13 +80,16 @@ pub record Reads (w : Text) (m : Module) : Type 0 where
   pub title : m.title ≡ parts.title
   pub front : List text.Token
   pub front_tokens : Tok w parts.before.from parts.before.to front
-  pub before : AllOutside true (sight m) (cut (view front)).units m.before
+  pub before : List OutsideUnit
+  pub are_before : AllOutside true (sight m) (cut (view front)).units before
   pub middle : List text.Token
   pub middle_tokens : Tok w parts.region.from parts.region.to middle
   pub small : AllSmall middle
   pub none_before_region : (cut (view middle)).front ≡ []
   pub region : AllAre IsUnit (cut (view middle)).units (units_of m.region)
   pub back : List text.Token
-  pub back_tokens : Tok w parts.behind.from parts.behind.to back
-  pub none_before_behind : (cut (view back)).front ≡ []
-  pub behind : AllOutside false (sight m) (cut (view back)).units m.behind
+  pub back_tokens : Tok w parts.after.from parts.after.to back
+  pub none_before_after : (cut (view back)).front ≡ []
+  pub after : List OutsideUnit
+  pub are_after : AllOutside false (sight m) (cut (view back)).units after
+  pub outside : m.outside ≡ outside_of (before ++ after)

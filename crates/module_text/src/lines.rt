@@ -10,7 +10,7 @@ pub fn begin_text() -> &'static str
     "\\* BEGIN TRANSLATION\n"
 }
 
-/// The line behind a translation, without a line end: in its place stands what stood behind an old one.
+/// The line after a translation, without a line end: in its place stands what stood after an old one.
 pub fn end_text() -> &'static str
     ensures { result.now ≡ end_line }
 {

@@ -12,9 +12,9 @@ pub record RoseBy (n old new : ℕ) : Type 0 where
 abbrev pub RoseAbove : ℕ → ℕ → ℕ → Type 0
 RoseAbove n old new = min (old + n + 1) (2 ^ 64 - 1) ≤ new
 
--- a count rose, or stands at its last value
-abbrev pub Rose : ℕ → ℕ → Type 0
-Rose old new = RoseAbove 0 old new
+-- how many bytes the reading of a text asks for at a time
+abbrev pub piece_bytes : ℕ
+piece_bytes = 4096
 
 -- names, each with its bytes; of two with one name the first counts
 abbrev pub Texts : Type 0
@@ -39,14 +39,14 @@ abbrev pub Tells : Option Texts → List ℕ → (List ℕ → Type 0) → Type 
 Tells texts name P = IfSome (told_at texts name) P
 
 -- the texts are told, and none has the name
-abbrev pub Lacks : Option Texts → List ℕ → Type 0
-Lacks None name = ⊥
-Lacks (Some ts) name = text_at ts name ≡ None
+abbrev pub HasNoText : Option Texts → List ℕ → Type 0
+HasNoText None name = ⊥
+HasNoText (Some ts) name = text_at ts name ≡ None
 
 -- the texts, where they are told, have just these bytes under the name
-abbrev pub Has : Option Texts → List ℕ → List ℕ → Type 0
-Has None name bytes = Unit {0}
-Has (Some ts) name bytes = text_at ts name ≡ Some bytes
+abbrev pub HasText : Option Texts → List ℕ → List ℕ → Type 0
+HasText None name bytes = Unit {0}
+HasText (Some ts) name bytes = text_at ts name ≡ Some bytes
 
 -- the first n bytes of a buffer are a piece of a text, from a place on; none of a buffer with room only at the text's end
 pub record IsPiece (from n : ℕ) (buffer text : List ℕ) : Type 0 where

@@ -1,7 +1,7 @@
 // A shelf and a sink in memory. They tell all that they hold, and fail at the calls that they are told to.
 ghost use Rattle.std.specs.Prelude.{◌≡◌, ◌⊎◌, ◌+◌, ◌-◌, ◌^◌, ◌<◌, ◌≤◌, min, Some, None, [], IsTrue, IsFalse, IfOk, IsOk, IsErr, OnErr, length, take, vec_len, vec_capacity};
 ghost use Rattle.std.specs.Option.{option_copied};
-ghost use Rattle.outer_io.specs.Outer.{text_at, texts_in, Lacks, Tells, IsPiece, Grows, Rose, RoseBy};
+ghost use Rattle.outer_io.specs.Outer.{text_at, texts_in, HasNoText, Tells, IsPiece, Grows, RoseBy};
 
 use crate::Failed;
 use crate::reading::Shelf;
@@ -122,26 +122,28 @@ impl Shelf for MemShelf {
     fn fetch(&mut self, name: &str, from: u64, into: &mut [u8]) -> Result<usize, Failed>
         ensures room { IfOk result (λ n. n ≤ length into.old) }
         ensures piece { IfOk result (λ n. Tells (texts_of self.old) name.now (IsPiece from n into.new)) }
-        ensures lacking { Lacks (texts_of self.old) name.now → IsErr result }
-        ensures cause { OnErr result (Rose (fetches self.old).failed (fetches self.new).failed
-            ⊎ Lacks (texts_of self.old) name.now) }
+        ensures lacking { HasNoText (texts_of self.old) name.now → IsErr result }
+        ensures cause { OnErr result (RoseBy 1 (fetches self.old).failed (fetches self.new).failed
+            ⊎ HasNoText (texts_of self.old) name.now) }
         ensures texts_stay { texts_of self.new ≡ texts_of self.old }
         ensures given { IfOk result (λ n. RoseBy n (given_of self.old) (given_of self.new)) }
         ensures none_given { OnErr result (given_of self.new ≡ given_of self.old) }
         ensures given_grows { given_of self.old ≤ given_of self.new }
         ensures faults_grow { (fetches self.old).failed ≤ (fetches self.new).failed }
+        ensures ok_faults { IfOk result (λ n. (fetches self.new).failed ≡ (fetches self.old).failed) }
+        ensures once { (fetches self.new).failed ≤ (fetches self.old).failed + 1 }
 
-        // So far the trait's clauses. These say which calls fail, and that no other counts a fault.
+        // So far the trait's clauses. These say which calls fail, and that just these count a fault.
         ensures fails { IsTrue (next_fails (fetches self.old)) → IsErr result }
+        ensures counted { IsTrue (next_fails (fetches self.old))
+            → RoseBy 1 (fetches self.old).failed (fetches self.new).failed }
         ensures no_fault { IsFalse (next_fails (fetches self.old))
             → (fetches self.new).failed ≡ (fetches self.old).failed }
         ensures no_other { IsErr result → IsFalse (next_fails (fetches self.old))
-            → Lacks (texts_of self.old) name.now }
+            → HasNoText (texts_of self.old) name.now }
         ensures call { AddsCall (fetches self.old) (fetches self.new) }
         ensures few { IfOk result (λ n. n ≤ most_given self.old) }
         ensures most_stays { most_given self.new ≡ most_given self.old }
-        ensures ok_faults { IfOk result (λ n. (fetches self.new).failed ≡ (fetches self.old).failed) }
-        ensures once { (fetches self.new).failed ≤ (fetches self.old).failed + 1 }
     {
         if self.calls.begins_failing() {
             return Err(self.calls.fail());
@@ -213,21 +215,20 @@ impl Sink for MemSink {
         ensures within { IfOk result (λ n. n ≤ length piece.now) }
         ensures grows { IfOk result (λ n. Grows (taken_of self.old) (taken_of self.new) (take n piece.now)) }
         ensures none_taken { OnErr result (taken_of self.new ≡ taken_of self.old) }
-        ensures cause { OnErr result (Rose (writes self.old).failed (writes self.new).failed) }
+        ensures cause { OnErr result (RoseBy 1 (writes self.old).failed (writes self.new).failed) }
         ensures faults_grow { (writes self.old).failed ≤ (writes self.new).failed }
+        ensures ok_faults { IfOk result (λ n. (writes self.new).failed ≡ (writes self.old).failed) }
+        ensures once { (writes self.new).failed ≤ (writes self.old).failed + 1 }
 
-        // So far the trait's clauses. These say which calls fail, and that no other counts a fault.
+        // So far the trait's clauses. These say which calls fail.
         ensures fails { IsTrue (next_fails (writes self.old)) → IsErr result }
         ensures full { 0 < length piece.now → room_left self.old ≡ 0 → IsErr result }
         ensures ok { IsFalse (next_fails (writes self.old)) → (0 < length piece.now → 0 < room_left self.old) → IsOk result }
-        ensures no_fault { IsOk result → (writes self.new).failed ≡ (writes self.old).failed }
         ensures call { AddsCall (writes self.old) (writes self.new) }
         ensures few { IfOk result (λ n. n ≤ most_taken self.old) }
         ensures most_stays { most_taken self.new ≡ most_taken self.old }
         ensures room { IfOk result (λ n. room_left self.new + n ≡ room_left self.old) }
         ensures room_stays { OnErr result (room_left self.new ≡ room_left self.old) }
-        ensures ok_faults { IfOk result (λ n. (writes self.new).failed ≡ (writes self.old).failed) }
-        ensures once { (writes self.new).failed ≤ (writes self.old).failed + 1 }
     {
         let fails = self.calls.begins_failing();
         let left = self.room - self.bytes.len();

@@ -1,6 +1,6 @@
 // A shelf of texts, and the reading of a whole text.
 ghost use Rattle.std.specs.Prelude.{◌≡◌, ◌⊎◌, ◌+◌, ℕ, ◌<◌, ◌≤◌, Option, length, IfOk, IsErr, OnErr, IsErrOf};
-ghost use Rattle.outer_io.specs.Outer.{Texts, RoseBy, RoseAbove, Rose, Lacks, Tells, Has, IsPiece};
+ghost use Rattle.outer_io.specs.Outer.{Texts, RoseBy, RoseAbove, HasNoText, Tells, HasText, IsPiece, piece_bytes};
 ghost use Rattle.outer_io.specs.declared.reading.LoadFault.TheVariants as fault;
 
 use crate::Failed;
@@ -58,8 +58,8 @@ pub trait Shelf {
     fn fetch(&mut self, name: &str, from: u64, into: &mut [u8]) -> Result<usize, Failed>
         ensures room { IfOk result (λ n. n ≤ length into.old) }
         ensures piece { IfOk result (λ n. Tells (texts self.old) name.now (IsPiece from n into.new)) }
-        ensures lacking { Lacks (texts self.old) name.now → IsErr result }
-        ensures cause { OnErr result (Rose (faults self.old) (faults self.new) ⊎ Lacks (texts self.old) name.now) }
+        ensures lacking { HasNoText (texts self.old) name.now → IsErr result }
+        ensures cause { OnErr result (RoseBy 1 (faults self.old) (faults self.new) ⊎ HasNoText (texts self.old) name.now) }
 
         // What a call leaves as it was, and how the counts rise.
         ensures texts_stay { texts self.new ≡ texts self.old }
@@ -78,23 +78,26 @@ pub fn load<H: Shelf>(
     name: &str,
     most: u64,
 ) -> Result<Vec<u8>, LoadFault>
-    ensures text { IfOk result (λ v. Has (H.texts shelf.old) name.now v.items) }
+    ensures text { IfOk result (λ v. HasText (H.texts shelf.old) name.now v.items) }
     ensures short { IfOk result (λ v. length v.items ≤ most) }
     ensures given { IfOk result (λ v. RoseBy (length v.items) (H.given shelf.old) (H.given shelf.new)) }
 
     // When each error comes; `Memory` may come at any time.
-    ensures failed { IsErrOf result LoadFault.Failed → Rose (H.faults shelf.old) (H.faults shelf.new)
-        ⊎ Lacks (H.texts shelf.old) name.now }
-    ensures lacking { Lacks (H.texts shelf.old) name.now → IsErrOf result LoadFault.Failed }
+    ensures failed { IsErrOf result LoadFault.Failed → RoseBy 1 (H.faults shelf.old) (H.faults shelf.new)
+        ⊎ HasNoText (H.texts shelf.old) name.now }
+    ensures lacking { HasNoText (H.texts shelf.old) name.now → IsErrOf result LoadFault.Failed }
     ensures too_long { IsErrOf result LoadFault.TooLong → RoseAbove most (H.given shelf.old) (H.given shelf.new) }
     ensures longer { IsErrOf result LoadFault.TooLong
         → Tells (H.texts shelf.old) name.now (λ text. most < length text) }
 
+    // What was handed out, whatever the answer: no byte twice, and no piece after the first that is too much.
+    ensures read_once { Tells (H.texts shelf.old) name.now (λ text. H.given shelf.new ≤ H.given shelf.old + length text) }
+    ensures read_few { H.given shelf.new ≤ H.given shelf.old + most + piece_bytes }
+
     ensures texts_stay { H.texts shelf.new ≡ H.texts shelf.old }
     ensures given_grows { H.given shelf.old ≤ H.given shelf.new }
     ensures faults_grow { H.faults shelf.old ≤ H.faults shelf.new }
-    ensures ok_faults { IfOk result (λ v. H.faults shelf.new ≡ H.faults shelf.old) }
-    ensures too_long_faults { IsErrOf result LoadFault.TooLong → H.faults shelf.new ≡ H.faults shelf.old }
+    ensures counted { IsErrOf result LoadFault.Failed ⊎ (H.faults shelf.new ≡ H.faults shelf.old) }
     ensures once { H.faults shelf.new ≤ H.faults shelf.old + 1 }
 {
     let mut out = Vec::new(alloc);

@@ -106,7 +106,7 @@ mod tests {
     use std::test::Fail;
     use std::{env, process};
 
-    /// A file of more than one piece is read whole; one that isn't there is a counted failure.
+    /// A file of more than one piece is read whole.
     #[test]
     fn reads_a_file(rt: HostRuntime) -> Result<(), Fail> {
         let alloc = rt.alloc();
@@ -122,11 +122,21 @@ mod tests {
         fs::remove_file(&rt, path)?;
         assert!(rt; read.is_ok_and(|bytes| bytes.as_slice() == text.as_slice()));
         assert_eq!(rt; (shelf.given, shelf.faults), (5000, 0));
-        assert_eq!(rt;
-            load(alloc, &mut shelf, path, 5000).err(),
-            Some(LoadFault::Failed)
-        );
-        assert_eq!(rt; (shelf.given, shelf.faults), (5000, 1));
+        Ok(())
+    }
+
+    /// A directory, which opens and can't be read, a file that isn't there, and one below a file that is no directory:
+    /// each is one counted failure, and no empty text.
+    #[test]
+    fn counts_what_cannot_be_read(rt: HostRuntime) -> Result<(), Fail> {
+        let mut shelf = DiskShelf::new(&rt);
+        let mut faults = 0u64;
+        for path in [".", "no such file", "/dev/null/file"] {
+            let read = load(rt.alloc(), &mut shelf, path, 5000);
+            faults = faults.saturating_add(1);
+            assert_eq!(rt; read.err(), Some(LoadFault::Failed), "{path}");
+            assert_eq!(rt; (shelf.given, shelf.faults), (0, faults), "{path}");
+        }
         Ok(())
     }
 

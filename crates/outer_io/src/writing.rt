@@ -1,6 +1,6 @@
 // A sink of bytes, and the writing of all of them.
 ghost use Rattle.std.specs.Prelude.{◌≡◌, ◌+◌, ℕ, ◌<◌, ◌≤◌, List, Option, length, take, IfOk, OnOk, OnErr};
-ghost use Rattle.outer_io.specs.Outer.{Rose, Grows, GrowsInPart};
+ghost use Rattle.outer_io.specs.Outer.{RoseBy, Grows, GrowsInPart};
 
 use crate::Failed;
 
@@ -19,7 +19,7 @@ pub trait Sink {
         ensures within { IfOk result (λ n. n ≤ length piece.now) }
         ensures grows { IfOk result (λ n. Grows (wrote self.old) (wrote self.new) (take n piece.now)) }
         ensures none_taken { OnErr result (wrote self.new ≡ wrote self.old) }
-        ensures cause { OnErr result (Rose (faults self.old) (faults self.new)) }
+        ensures cause { OnErr result (RoseBy 1 (faults self.old) (faults self.new)) }
         ensures faults_grow { faults self.old ≤ faults self.new }
         ensures ok_faults { IfOk result (λ n. faults self.new ≡ faults self.old) }
         ensures once { faults self.new ≤ faults self.old + 1 };
@@ -29,7 +29,7 @@ pub trait Sink {
 pub fn put_all<K: Sink>(sink: &mut K, bytes: &[u8]) -> Result<(), Failed>
     ensures ok { OnOk result (Grows (K.wrote sink.old) (K.wrote sink.new) bytes.now) }
     ensures err { OnErr result (GrowsInPart (K.wrote sink.old) (K.wrote sink.new) bytes.now) }
-    ensures cause { OnErr result (Rose (K.faults sink.old) (K.faults sink.new)) }
+    ensures cause { OnErr result (RoseBy 1 (K.faults sink.old) (K.faults sink.new)) }
     ensures faults_grow { K.faults sink.old ≤ K.faults sink.new }
     ensures ok_faults { OnOk result (K.faults sink.new ≡ K.faults sink.old) }
     ensures once { K.faults sink.new ≤ K.faults sink.old + 1 }

@@ -1,11 +1,14 @@
 -- Why an answer comes, and what becomes of the two outputs.
-use Rattle.std.specs.Prelude.{◌⊎◌, ℕ, Bool, List, Option, Some, None}
-use Rattle.outer_io.specs.Outer.{Texts, Tells, Rose, Grows, GrowsInPart}
+use Rattle.std.specs.Prelude.{◌≡◌, ◌⊎◌, ℕ, Bool, List, Option, Some, None}
+use Rattle.std.specs.Process.{exit_status}
+use Rattle.std.specs.declared.process.ExitCode.{ExitCode}
+use Rattle.outer_io.specs.Outer.{Texts, Tells, RoseBy, Grows, GrowsInPart}
 use Rattle.tla_expr.specs.Tree.{Word}
-use Rattle.first_path.specs.Headline.{Headline}
+use Rattle.promise.specs.Headline.{Headline}
 use Rattle.first_path.specs.Written.{Written}
 use Rattle.pcal_cli.specs.declared.status.Status.{Status}
-use Rattle.pcal_cli.specs.declared.status.Status.TheVariants.{Fine, Memory, ReadFault, WriteFault, Refused, TooLong}
+use Rattle.pcal_cli.specs.declared.status.Status.TheVariants.{Fine, Memory, Usage, ReadFault, WriteFault, Refused, TooLong}
+use Rattle.pcal_cli.specs.Answers.{status_number}
 use Rattle.pcal_cli.specs.Words.{Command, translate}
 
 -- a file has at most so many bytes
@@ -29,6 +32,13 @@ IsAnswer Refused = Unit {0}
 IsAnswer TooLong = Unit {0}
 IsAnswer s = ⊥
 
+-- on these the whole text of the file was read
+abbrev pub IsRead : Status → Type 0
+IsRead Fine = Unit {0}
+IsRead WriteFault = Unit {0}
+IsRead Refused = Unit {0}
+IsRead s = ⊥
+
 -- where there is no such file, or it is too long
 abbrev pub IsUnread : Status → Type 0
 IsUnread Memory = Unit {0}
@@ -47,6 +57,22 @@ IsDone Fine = Unit {0}
 IsDone Memory = Unit {0}
 IsDone s = ⊥
 
+-- where the words mean no command
+abbrev pub IsNoCommand : Status → Type 0
+IsNoCommand Memory = Unit {0}
+IsNoCommand Usage = Unit {0}
+IsNoCommand s = ⊥
+
+-- ---- exit status
+
+-- the program ended with the number of this answer
+abbrev pub Ended : ExitCode → Status → Type 0
+Ended e s = exit_status e ≡ status_number s
+
+-- it ended with the number of an answer of this kind
+abbrev pub EndedIn : ExitCode → (Status → Type 0) → Type 0
+EndedIn e P = (s : Status) × Ended e s × P s
+
 -- ---- outputs
 
 -- on these the output is as it was
@@ -64,9 +90,9 @@ abbrev pub WritesInPart : Option (List ℕ) → Option (List ℕ) → List ℕ �
 WritesInPart old new x = (w : List ℕ) × GrowsInPart old new w × Written x w
 
 -- the promise: the output went on by a text that translates the algorithm in the text of the file
-abbrev pub Keeps : Bool → Option Texts → Word → Option (List ℕ) → Option (List ℕ) → Type 0
-Keeps forced texts file old new = Tells texts file (λ x. (w : List ℕ) × Grows old new w × Headline forced x w)
+abbrev pub KeepsPromise : Bool → Option Texts → Word → Option (List ℕ) → Option (List ℕ) → Type 0
+KeepsPromise forced texts file old new = Tells texts file (λ x. (w : List ℕ) × Grows old new w × Headline forced x w)
 
--- a sink went on by these bytes; where it counted a fault, maybe by the first of them alone
+-- a sink went on by these bytes and counted no fault, or by the first of them alone and counted one
 abbrev pub Told : Option (List ℕ) → Option (List ℕ) → ℕ → ℕ → List ℕ → Type 0
-Told old new before after bytes = Grows old new bytes ⊎ (Rose before after × GrowsInPart old new bytes)
+Told old new before after bytes = (Grows old new bytes × (after ≡ before)) ⊎ (GrowsInPart old new bytes × RoseBy 1 before after)

@@ -1,9 +1,12 @@
 -- What a list of choices leads to is an outcome, each outcome has its list, and the first trouble is found where there is one.
 use Rattle.std.proofs.Common.{◌≡◌, ℕ, zero, suc, List, [], ◌∷◌, Option, Some, None, refl, sym, ◌∙◌, ap, ◌⊎◌, inl, inr, Err}
 use Rattle.tla_token.specs.declared.place.Place.{Place}
-use Rattle.pcal_tree.specs.Scope.{State, Trouble, Outcome}
+use Rattle.pcal_tree.specs.Scope.{State}
 use Rattle.pcal_tree.specs.Run.{Course, ends, stops, chooses, Courses, no_courses, course, Has, HasSome}
-use Rattle.pcal_tree.specs.Choices.{Walk, missing, walk, walk_into, or_else, first_trouble, first_trouble_of, told, landing}
+use Rattle.pcal_tree.specs.Choices.{Walk, missing, walk, walk_into, first_trouble, first_trouble_of}
+use Rattle.tla_value.specs.Value.{Trouble, Outcome}
+use Rattle.std.specs.Option.{option_or}
+use Rattle.pcal_tree.specs.laws.Choosing.{told, landing}
 
 none_told : (cs : Courses) (at : Place) (r : Outcome State) → told (missing cs at) ≡ Some r → ⊥
 none_told no_courses at r e = cc
@@ -36,7 +39,7 @@ mutual
   first_of_has no_courses k e = cc
   first_of_has (course c cs) k e = by (first_trouble c) refl e (first_has c k) (first_of_has cs k)
     where
-      by : (o : Option Trouble) → first_trouble c ≡ o → or_else o (first_trouble_of cs) ≡ Some k → (first_trouble c ≡ Some k → Has c (Err k)) → (first_trouble_of cs ≡ Some k → HasSome cs (Err k)) → Has c (Err k) ⊎ HasSome cs (Err k)
+      by : (o : Option Trouble) → first_trouble c ≡ o → option_or o (first_trouble_of cs) ≡ Some k → (first_trouble c ≡ Some k → Has c (Err k)) → (first_trouble_of cs ≡ Some k → HasSome cs (Err k)) → Has c (Err k) ⊎ HasSome cs (Err k)
       by (Some j) p e f g = inl (f (p ∙ e))
       by None p e f g = inr (g e)
 
@@ -51,7 +54,7 @@ mutual
   none_of_has no_courses k e h = h
   none_of_has (course c cs) k e h = by (first_trouble c) refl e h (none_has c k) (none_of_has cs k)
     where
-      by : (o : Option Trouble) → first_trouble c ≡ o → or_else o (first_trouble_of cs) ≡ None → Has c (Err k) ⊎ HasSome cs (Err k) → (first_trouble c ≡ None → Has c (Err k) → ⊥) → (first_trouble_of cs ≡ None → HasSome cs (Err k) → ⊥) → ⊥
+      by : (o : Option Trouble) → first_trouble c ≡ o → option_or o (first_trouble_of cs) ≡ None → Has c (Err k) ⊎ HasSome cs (Err k) → (first_trouble c ≡ None → Has c (Err k) → ⊥) → (first_trouble_of cs ≡ None → HasSome cs (Err k) → ⊥) → ⊥
       by (Some j) p e h f g = cc
       by None p e (inl h) f g = f p h
       by None p e (inr h) f g = g e h

@@ -3,17 +3,18 @@ use Rattle.std.proofs.Common.{◌≡◌, List, [], ◌∷◌, Bool, true, false,
 use Rattle.tla_token.specs.declared.place.Place.{Place}
 use Rattle.tla_expr.specs.Tree.{Word, Tree, Trees, no_trees, tree, Graft}
 use Rattle.tla_value.specs.Stops.{Check}
-use Rattle.tla_value.specs.Meaning.{evals}
+use Rattle.tla_value.specs.Meaning.{evals, part_values}
 use Rattle.pcal_tree.specs.Algorithm.{Name, Span, Binds, no_binds, one_of, is, Statement, assign, await, print, assert, skip, branch, either, with, while, goto, macro, call, return, Statements, done, then, mark, Branches, no_branches, or, Macro}
-use Rattle.pcal_tree.specs.Scope.{State, fault, all_valued, Scope, bound, places_of, reach_in, through, value_of, test, members}
+use Rattle.pcal_tree.specs.Scope.{State, Scope, bound, places_of, reach_in, through, value_of, test, members}
 use Rattle.tla_value.specs.declared.fault.FaultKind.TheVariants.{AssertFailed}
-use Rattle.pcal_tree.specs.Assign.{moved}
+use Rattle.pcal_tree.specs.Assign.{after_assignments}
 use Rattle.pcal_tree.specs.Run.{Course, chooses, course, held, stops, after, at_each, Follow, Rules, unlabelled, label_of, run_binds, run_one, run, run_branches, arguments, Calling, with_calls, called, with_macros}
 use Rattle.pcal_tree.specs.Expand.{graft_all, joined, Writing, expand_one, expand, expand_some, written_out, expanded}
 use Rattle.pcal_tree.proofs.GraftRuns.{Meets, graft_runs}
-use Rattle.pcal_tree.specs.Clean.{Any, Calls, CallsOne, CallsSome, Chosen, Clean, FineCall, Free, Opens, following}
+use Rattle.tla_value.specs.Value.{fault}
+use Rattle.pcal_tree.specs.laws.Expansion.{Any, Calls, CallsOne, CallsSome, Chosen, Clean, FineCall, AnyPlace, BeginsUnlabelled}
 
-pub through_meets : (c : Check) (g : Graft) (sc : Scope) → Free sc → Meets c g Any sc (through c g sc)
+pub through_meets : (c : Check) (g : Graft) (sc : Scope) → AnyPlace sc → Meets c g Any sc (through c g sc)
 through_meets c g sc free = record {
   env = λ s. record { now = λ x u at. refl; primed = λ x at. refl; defs = λ x u. refl };
   part = λ x at s. refl;
@@ -21,12 +22,12 @@ through_meets c g sc free = record {
   free = free;
 }
 
-same_argument : (ps : List Name) (ts : Trees) (x : Word) (at p : Place) → arguments ps ts x at ≡ arguments ps ts x p
+pub same_argument : (ps : List Name) (ts : Trees) (x : Word) (at p : Place) → arguments ps ts x at ≡ arguments ps ts x p
 same_argument [] ts x at p = refl
 same_argument (y ∷ ys) no_trees x at p = refl
 same_argument (y ∷ ys) (tree t ts) x at p = ap (λ o. cond (bytes_eq y.word x) (Some t) o) (same_argument ys ts x at p)
 
-pub through_free : (c : Check) (ps : List Name) (ts : Trees) (sc : Scope) → Free sc → Free (through c (arguments ps ts) sc)
+pub through_free : (c : Check) (ps : List Name) (ts : Trees) (sc : Scope) → AnyPlace sc → AnyPlace (through c (arguments ps ts) sc)
 through_free c ps ts sc free x at p s = (λ i. reach_in c (same_argument ps ts x at p i) x at sc s) ∙ by (arguments ps ts x p)
   where
     by : (o : Option Tree) → reach_in c o x at sc s ≡ reach_in c o x p sc s
@@ -34,6 +35,10 @@ through_free c ps ts sc free x at p s = (λ i. reach_in c (same_argument ps ts x
     by None = free x at p s
 
 -- ---- lists one after the other
+
+-- what follows a list: the rest, and then K
+abbrev pub following : Rules → Statements → Scope → Follow → Follow
+following M rest sc K = record { label = label_of rest K.label; goes = run M unlabelled rest sc K }
 
 join_label : (a b : Statements) (l : Word) → label_of (joined a b) l ≡ label_of a (label_of b l)
 join_label done b l = refl
@@ -46,7 +51,7 @@ join_runs M (then at st a) b sc K = λ i. run_one M unlabelled at.first st sc (r
 join_runs M (mark l k a) b sc K = refl
 
 -- also at a label, where the first list begins with a statement
-join_opens : (M : Rules) (here : Word) (a b : Statements) → Opens a → (sc : Scope) (K : Follow) → run M here (joined a b) sc K ≡ run M here a sc (following M b sc K)
+join_opens : (M : Rules) (here : Word) (a b : Statements) → BeginsUnlabelled a → (sc : Scope) (K : Follow) → run M here (joined a b) sc K ≡ run M here a sc (following M b sc K)
 join_opens M here done b h sc K = absurd h
 join_opens M here (then at st a) b h sc K = λ i. run_one M here at.first st sc (record { label = join_label a b K.label i; goes = join_runs M a b sc K i })
 join_opens M here (mark l k a) b h sc K = absurd h
@@ -56,18 +61,18 @@ join_opens M here (mark l k a) b h sc K = absurd h
 -- what is written for a call has its courses, where P holds
 abbrev pub Written : Rules → Calling → Writing → (Word → Trees → Type 0) → Type 0
 Written M f X P =
-    (here : Word) (at : Span) (m : Word) (ts : Trees) → P m ts → Opens (X at m ts) × ((sc : Scope) → Free sc → (K : Follow) → f here at.first m ts sc K ≡ run (with_macros M []) here (X at m ts) sc K)
+    (here : Word) (at : Span) (m : Word) (ts : Trees) → P m ts → BeginsUnlabelled (X at m ts) × ((sc : Scope) → AnyPlace sc → (K : Follow) → f here at.first m ts sc K ≡ run (with_macros M []) here (X at m ts) sc K)
 
-pub opens_joined : (a b : Statements) → Opens a → Opens (joined a b)
+pub opens_joined : (a b : Statements) → BeginsUnlabelled a → BeginsUnlabelled (joined a b)
 opens_joined done b h = absurd h
 opens_joined (then at st a) b h = tt
 opens_joined (mark l k a) b h = absurd h
 
-opens_one : (M : Rules) (f : Calling) (X : Writing) (P : Word → Trees → Type 0) → Written M f X P → (at : Span) (st : Statement) (rest : Statements) → CallsOne P st → Opens (expand_one X at st rest)
+opens_one : (M : Rules) (f : Calling) (X : Writing) (P : Word → Trees → Type 0) → Written M f X P → (at : Span) (st : Statement) (rest : Statements) → CallsOne P st → BeginsUnlabelled (expand_one X at st rest)
 opens_one M f X P w at (macro m ts) rest h = opens_joined (X at m ts) rest (w unlabelled at m ts h).0
 opens_one M f X P w at st rest h = tt
 
-pub no_label : (ss : Statements) (l : Word) → Opens ss → unlabelled ≡ label_of ss l
+pub no_label : (ss : Statements) (l : Word) → BeginsUnlabelled ss → unlabelled ≡ label_of ss l
 no_label done l h = absurd h
 no_label (then at st rest) l h = refl
 no_label (mark m k rest) l h = absurd h
@@ -77,14 +82,14 @@ expand_label M f X P w done h q = λ i. (q i).label
 expand_label M f X P w (then at st rest) h {L = L} q = no_label (expand_one X at st (expand X rest)) L.label (opens_one M f X P w at st (expand X rest) h.0)
 expand_label M f X P w (mark l k rest) h q = refl
 
-binds_same : (c : Check) (at : Place) (bs : Binds) (a b : Scope → State → Course) → ((sc : Scope) → Free sc → a sc ≡ b sc) → (sc : Scope) → Free sc → (s : State) → run_binds c at bs a sc s ≡ run_binds c at bs b sc s
+binds_same : (c : Check) (at : Place) (bs : Binds) (a b : Scope → State → Course) → ((sc : Scope) → AnyPlace sc → a sc ≡ b sc) → (sc : Scope) → AnyPlace sc → (s : State) → run_binds c at bs a sc s ≡ run_binds c at bs b sc s
 binds_same c at no_binds a b q sc free s = λ i. q sc free i s
 binds_same c at (one_of x e bs) a b q sc free s =
     λ i. after (members c e sc s) (λ vs. chooses at (at_each vs (λ v. binds_same c at bs a b q (bound x.word v sc) free s i)))
 binds_same c at (is x e bs) a b q sc free s = λ i. after (value_of c e sc s) (λ v. binds_same c at bs a b q (bound x.word v sc) free s i)
 
 mutual
-  expand_runs_one : (M : Rules) (f : Calling) (X : Writing) (P : Word → Trees → Type 0) → Written M f X P → (here : Word) (at : Span) (st : Statement) → CallsOne P st → (sc : Scope) → Free sc → (K L : Follow) (rest : Statements) → K ≡ following (with_macros M []) rest sc L → run_one (with_calls M f) here at.first st sc K ≡ run (with_macros M []) here (expand_one X at st rest) sc L
+  expand_runs_one : (M : Rules) (f : Calling) (X : Writing) (P : Word → Trees → Type 0) → Written M f X P → (here : Word) (at : Span) (st : Statement) → CallsOne P st → (sc : Scope) → AnyPlace sc → (K L : Follow) (rest : Statements) → K ≡ following (with_macros M []) rest sc L → run_one (with_calls M f) here at.first st sc K ≡ run (with_macros M []) here (expand_one X at st rest) sc L
   expand_runs_one M f X P w here at (macro m ts) h sc free K L rest q =
       (w here at m ts h).1 sc free K ∙ (λ i. run (with_macros M []) here (X at m ts) sc (q i)) ∙ sym (join_opens (with_macros M []) here (X at m ts) rest (w here at m ts h).0 sc L)
   expand_runs_one M f X P w here at (branch e a b) h sc free K L rest q =
@@ -94,7 +99,7 @@ mutual
       λ i s. binds_same M.check at.first bs (λ inner. run (with_calls M f) unlabelled b inner K) (λ inner. run (with_macros M []) unlabelled (expand X b) inner (following (with_macros M []) rest sc L)) (λ inner k. expand_runs M f X P w unlabelled b h inner k K (following (with_macros M []) rest sc L) q) sc free s i
   expand_runs_one M f X P w here at (while e b) h sc free K L rest q =
       λ i s. after (test M.check e sc s) (λ yes. cond yes (expand_runs M f X P w unlabelled b h sc free (record { label = here; goes = M.goto here }) (record { label = here; goes = M.goto here }) refl i) (q i).goes s)
-  expand_runs_one M f X P w here at (assign ms) h sc free K L rest q = λ i s. after (moved M.check ms sc s) (q i).goes
+  expand_runs_one M f X P w here at (assign ms) h sc free K L rest q = λ i s. after (after_assignments M.check ms sc s) (q i).goes
   expand_runs_one M f X P w here at (await e) h sc free K L rest q = λ i s. after (test M.check e sc s) (λ b. cond b (q i).goes (λ u. held at.first) s)
   expand_runs_one M f X P w here at (print e) h sc free K L rest q = λ i s. after (value_of M.check e sc s) (λ v. (q i).goes s)
   expand_runs_one M f X P w here at (assert e) h sc free K L rest q =
@@ -102,28 +107,28 @@ mutual
   expand_runs_one M f X P w here at skip h sc free K L rest q = λ i s. (q i).goes s
   expand_runs_one M f X P w here at (goto l) h sc free K L rest q = refl
   expand_runs_one M f X P w here at (call p ts) h sc free K L rest q =
-      λ i s. after (all_valued (evals M.check ts) (sc.env s) Ok) (λ vs. M.call at.first p.word (places_of ts sc) vs (q i).label s)
+      λ i s. after (part_values (evals M.check ts) (sc.env s)) (λ vs. M.call at.first p.word (places_of ts sc) vs (q i).label s)
   expand_runs_one M f X P w here at return h sc free K L rest q = refl
 
-  expand_runs : (M : Rules) (f : Calling) (X : Writing) (P : Word → Trees → Type 0) → Written M f X P → (here : Word) (ss : Statements) → Calls P ss → (sc : Scope) → Free sc → (K L : Follow) → K ≡ L → run (with_calls M f) here ss sc K ≡ run (with_macros M []) here (expand X ss) sc L
+  expand_runs : (M : Rules) (f : Calling) (X : Writing) (P : Word → Trees → Type 0) → Written M f X P → (here : Word) (ss : Statements) → Calls P ss → (sc : Scope) → AnyPlace sc → (K L : Follow) → K ≡ L → run (with_calls M f) here ss sc K ≡ run (with_macros M []) here (expand X ss) sc L
   expand_runs M f X P w here done h sc free K L q = λ i. (q i).goes
   expand_runs M f X P w here (then at st rest) h sc free K L q =
       expand_runs_one M f X P w here at st h.0 sc free (following (with_calls M f) rest sc K) L (expand X rest) (λ i. record { label = expand_label M f X P w rest h.1 q i; goes = expand_runs M f X P w unlabelled rest h.1 sc free K L q i })
   expand_runs M f X P w here (mark l k rest) h sc free K L q = refl
 
-  expand_runs_some : (M : Rules) (f : Calling) (X : Writing) (P : Word → Trees → Type 0) → Written M f X P → (bs : Branches) → CallsSome P bs → (sc : Scope) → Free sc → (K L : Follow) → K ≡ L → run_branches (with_calls M f) bs sc K ≡ run_branches (with_macros M []) (expand_some X bs) sc L
+  expand_runs_some : (M : Rules) (f : Calling) (X : Writing) (P : Word → Trees → Type 0) → Written M f X P → (bs : Branches) → CallsSome P bs → (sc : Scope) → AnyPlace sc → (K L : Follow) → K ≡ L → run_branches (with_calls M f) bs sc K ≡ run_branches (with_macros M []) (expand_some X bs) sc L
   expand_runs_some M f X P w no_branches h sc free K L q = refl
   expand_runs_some M f X P w (or b bs) h sc free K L q =
       λ i s. course (expand_runs M f X P w unlabelled b h.0 sc free K L q i s) (expand_runs_some M f X P w bs h.1 sc free K L q i s)
 
 -- ---- the macros
 
-opens_graft : (g : Graft) (ss : Statements) → Opens ss → Opens (graft_all g ss)
+opens_graft : (g : Graft) (ss : Statements) → BeginsUnlabelled ss → BeginsUnlabelled (graft_all g ss)
 opens_graft g done h = absurd h
 opens_graft g (then at st rest) h = tt
 opens_graft g (mark l k rest) h = absurd h
 
-opens_expand : (M : Rules) (f : Calling) (X : Writing) (P : Word → Trees → Type 0) → Written M f X P → (ss : Statements) → Calls P ss → Opens ss → Opens (expand X ss)
+opens_expand : (M : Rules) (f : Calling) (X : Writing) (P : Word → Trees → Type 0) → Written M f X P → (ss : Statements) → Calls P ss → BeginsUnlabelled ss → BeginsUnlabelled (expand X ss)
 opens_expand M f X P w done h o = absurd o
 opens_expand M f X P w (then at st rest) h o = opens_one M f X P w at st (expand X rest) h.0
 opens_expand M f X P w (mark l k rest) h o = absurd o
@@ -132,7 +137,7 @@ called_law : (M : Rules) (ms : List Macro) → Written M (called M ms) (written_
 called_law M [] here at m ts h = (tt, λ sc free K. refl)
 called_law M (d ∷ older) here at m ts h = by (called_law M older) (bytes_eq d.name.word m) h
   where
-    by : Written M (called M older) (written_out older) (FineCall M.check older) → (b : Bool) → Chosen b (Clean M.check (arguments d.params ts) Any (expand (written_out older) d.body) × Calls (FineCall M.check older) d.body × Opens d.body) (FineCall M.check older m ts) → Opens (cond b (graft_all (arguments d.params ts) (expand (written_out older) d.body)) (written_out older at m ts)) × ((sc : Scope) → Free sc → (K : Follow) → (λ s. cond b (run (with_calls M (called M older)) here d.body (through M.check (arguments d.params ts) sc) K) (called M older here at.first m ts sc K) s) ≡ run (with_macros M []) here (cond b (graft_all (arguments d.params ts) (expand (written_out older) d.body)) (written_out older at m ts)) sc K)
+    by : Written M (called M older) (written_out older) (FineCall M.check older) → (b : Bool) → Chosen b (Clean M.check (arguments d.params ts) Any (expand (written_out older) d.body) × Calls (FineCall M.check older) d.body × BeginsUnlabelled d.body) (FineCall M.check older m ts) → BeginsUnlabelled (cond b (graft_all (arguments d.params ts) (expand (written_out older) d.body)) (written_out older at m ts)) × ((sc : Scope) → AnyPlace sc → (K : Follow) → (λ s. cond b (run (with_calls M (called M older)) here d.body (through M.check (arguments d.params ts) sc) K) (called M older here at.first m ts sc K) s) ≡ run (with_macros M []) here (cond b (graft_all (arguments d.params ts) (expand (written_out older) d.body)) (written_out older at m ts)) sc K)
     by ih true k =
         let g : Graft = arguments d.params ts in (
           opens_graft g (expand (written_out older) d.body) (opens_expand M (called M older) (written_out older) (FineCall M.check older) ih d.body k.1 k.2),
@@ -141,6 +146,6 @@ called_law M (d ∷ older) here at m ts h = by (called_law M older) (bytes_eq d.
         )
     by ih false k = ih here at m ts k
 
--- the same courses, places and kinds of faults included, in every scope and with anything behind
-pub expansion : (M : Rules) (ms : List Macro) (here : Word) (ss : Statements) → Calls (FineCall M.check ms) ss → (sc : Scope) → Free sc → (K : Follow) → run (with_macros M ms) here ss sc K ≡ run (with_macros M []) here (expanded ms ss) sc K
+-- the same courses, places and kinds of faults included, in every scope and with anything after
+pub expansion : (M : Rules) (ms : List Macro) (here : Word) (ss : Statements) → Calls (FineCall M.check ms) ss → (sc : Scope) → AnyPlace sc → (K : Follow) → run (with_macros M ms) here ss sc K ≡ run (with_macros M []) here (expanded ms ss) sc K
 expansion M ms here ss h sc free K = expand_runs M (called M ms) (written_out ms) (FineCall M.check ms) (called_law M ms) here ss h sc free K K refl

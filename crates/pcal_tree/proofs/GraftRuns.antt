@@ -2,19 +2,21 @@
 use Rattle.std.proofs.Common.{◌≡◌, List, [], ◌∷◌, cond, Option, Some, None, refl, sym, ◌∙◌, ap, Ok}
 use Rattle.tla_token.specs.declared.place.Place.{Place}
 use Rattle.tla_expr.specs.Tree.{Word, apply, select, Form, name, next, operator_call, strict, binders, Tree, node, Trees, no_trees, tree, Every, EveryOf, Graft, grafted_name, grafted_node, graft, grafts}
-use Rattle.tla_value.specs.Value.{Value, text}
-use Rattle.tla_value.specs.Stops.{Check}
-use Rattle.tla_value.specs.Meaning.{Env, Denotation}
-use Rattle.tla_value.proofs.Alike.{AllAlike, none, one}
-use Rattle.tla_value.proofs.Graft.{every_of_weaker, grafts_law, Grafted, bound_grafted, Fits, each_weaker, grafted_law}
+use Rattle.tla_value.specs.Value.{Value, text, Outcome, ◌>>=◌}
+use Rattle.tla_value.specs.Stops.{Check, truth_at, members_at}
+use Rattle.tla_value.specs.Meaning.{Env, Denotation, part_values}
+use Rattle.tla_value.proofs.Facts.{every_of_weaker, each_weaker}
+use Rattle.tla_value.proofs.Joined.{none, one}
+use Rattle.tla_value.proofs.Alike.{AllAlike}
+use Rattle.tla_value.proofs.Graft.{grafts_law, Grafted, bound_grafted, Fits, grafted_law}
 use Rattle.pcal_tree.specs.Algorithm.{Assignments, no_assignments, assignment, Binds, no_binds, one_of, is, Statement, assign, await, print, assert, skip, branch, either, with, while, goto, macro, call, return, Statements, done, then, mark, Branches, no_branches, or}
-use Rattle.pcal_tree.specs.Scope.{State, Outcome, ◌>>=◌, all_valued, Part, Scope, bound, place_in, place_of, places_of, Reach, deeper, root_place, reach_form, reach, reach_path, reach_in, origin_in, through, value_of, truth_at, test, members_at, members}
+use Rattle.pcal_tree.specs.Scope.{State, Part, Scope, bound, place_in, place_of, places_of, Reach, deeper, root_place, reach_form, reach, reach_path, reach_in, origin_in, through, value_of, test, members}
 use Rattle.pcal_tree.specs.Assign.{Setting, set_all, settings}
 use Rattle.pcal_tree.specs.Run.{Course, chooses, course, held, stops, after, at_each, Follow, Rules, unlabelled, label_of, run_binds, run_one, run, run_branches}
-use Rattle.pcal_tree.specs.Expand.{placed_at, graft_left, graft_moves, graft_binds, graft_one, graft_all, graft_some}
+use Rattle.pcal_tree.specs.Expand.{placed_at, graft_left, graft_assignments, graft_binds, graft_one, graft_all, graft_some}
 use Rattle.tla_value.specs.Related.{Rel}
 use Rattle.tla_value.specs.Related.{ClearForm}
-use Rattle.pcal_tree.specs.Clean.{Clean, CleanBinds, CleanMoves, CleanOne, CleanSome, ClearName, Unreached}
+use Rattle.pcal_tree.specs.laws.Expansion.{Clean, CleanBinds, CleanAssignments, CleanOne, CleanSome, ClearName, Unreached}
 
 -- where names are clear a form keeps that they stand for the trees of g
 form_fits : (c : Check) (g : Graft) (U : Word → Type 0) (m : Form) (at : Place) → ClearForm c g U m at → Fits c (Grafted c g U) g m at
@@ -25,10 +27,9 @@ form_fits c g U m at h = (each_weaker _ _ (bound_grafted c g U) (binders m) h.0,
 
 -- ---- left sides
 
-pub valued_alike : {X : Type 0} (R : Rel) (ds es : List Denotation) (e f : Env) (go go' : List Value → Outcome X) → AllAlike R ds es → R e f → go ≡ go' → all_valued ds e go ≡ all_valued es f go'
-valued_alike R _ _ e f go go' none r k = λ i. k i []
-valued_alike R _ _ e f go go' (one p ps) r k =
-    λ i. (p e f r i).value >>= (λ v. valued_alike R _ _ e f (λ vs. go (v ∷ vs)) (λ vs. go' (v ∷ vs)) ps r (λ j vs. k j (v ∷ vs)) i)
+pub valued_alike : (R : Rel) (ds es : List Denotation) (e f : Env) → AllAlike R ds es → R e f → part_values ds e ≡ part_values es f
+valued_alike R _ _ e f none r = refl
+valued_alike R _ _ e f (one p ps) r = λ i. (p e f r i).value >>= (λ v. (valued_alike R _ _ e f ps r i) >>= (λ vs. Ok (v ∷ vs)))
 
 -- in sc' the names of U stand for the trees of g in sc; the part that a name is does not rest on its place
 pub record Meets (c : Check) (g : Graft) (U : Word → Type 0) (sc sc' : Scope) : Type 0 where
@@ -57,7 +58,7 @@ mutual
   path_law : (c : Check) (g : Graft) (U : Word → Type 0) (at : Place) (ts : Trees) → EveryOf (ClearForm c g U) ts → (sc sc' : Scope) → Meets c g U sc sc' → (s : State) → reach_path c at (grafts g ts) sc s ≡ reach_path c at ts sc' s
   path_law c g U at no_trees h sc sc' k s = refl
   path_law c g U at (tree f us) h sc sc' k s =
-      λ i. (reach_law c g U f h.0 sc sc' k s i) >>= (λ p. valued_alike (Grafted c g U) _ _ (sc.env s) (sc'.env s) _ _ (grafts_law c (Grafted c g U) g us (every_of_weaker _ _ (form_fits c g U) us h.1)) (k.env s) (λ j ks. Ok (deeper ks p)) i)
+      λ i. (reach_law c g U f h.0 sc sc' k s i) >>= (λ p. (valued_alike (Grafted c g U) _ _ (sc.env s) (sc'.env s) (grafts_law c (Grafted c g U) g us (every_of_weaker _ _ (form_fits c g U) us h.1)) (k.env s) i) >>= (λ ks. Ok (deeper ks p)))
 
 -- the place of a left side's root doesn't matter
 reach_free : (c : Check) (t : Tree) (q : Place) (sc : Scope) (s : State) → ((x : Word) (at p : Place) → sc.part x at s ≡ sc.part x p s) → reach c (placed_at q t) sc s ≡ reach c t sc s
@@ -120,16 +121,16 @@ bound_meets c g U x v sc sc' h k = record {
 -- ---- statements
 
 value_law : (c : Check) (g : Graft) (U : Word → Type 0) (t : Tree) → Every (ClearForm c g U) t → (sc sc' : Scope) → Meets c g U sc sc' → (s : State) → value_of c (graft g t) sc s ≡ value_of c t sc' s
-value_law c g U t h sc sc' k s = λ i. (grafted_law c g U t h (sc.env s) (sc'.env s) (k.env s) i).value >>= Ok
+value_law c g U t h sc sc' k s = λ i. (grafted_law c g U t h (sc.env s) (sc'.env s) (k.env s) i).value
 
 -- a value that is looked at further, at the tree's place
 needed_law : {X : Type 0} (c : Check) (g : Graft) (U : Word → Type 0) (t : Tree) → Every (ClearForm c g U) t → (sc sc' : Scope) → Meets c g U sc sc' → (s : State) (go : Place → Value → Outcome X) → (value_of c (graft g t) sc s) >>= (go (place_of (graft g t) sc)) ≡ (value_of c t sc' s) >>= (go (place_of t sc'))
 needed_law c g U t h sc sc' k s go = λ i. (value_law c g U t h sc sc' k s i) >>= (go (place_law c g U t sc sc' k i))
 
-moves_law : (c : Check) (g : Graft) (U : Word → Type 0) (ms : Assignments) → CleanMoves c g U ms → (sc sc' : Scope) → Meets c g U sc sc' → (s : State) (go : List Setting → Outcome State) → settings c (graft_moves g ms) sc s go ≡ settings c ms sc' s go
-moves_law c g U no_assignments h sc sc' k s go = refl
-moves_law c g U (assignment l e ms) h sc sc' k s go =
-    λ i. (left_law c g U l h.0 sc sc' k s i) >>= (λ p. (value_law c g U e h.1 sc sc' k s i) >>= (λ v. moves_law c g U ms h.2 sc sc' k s (λ rest. go (record { place = left_root g l i; part = p; value = v } ∷ rest)) i))
+moves_law : (c : Check) (g : Graft) (U : Word → Type 0) (ms : Assignments) → CleanAssignments c g U ms → (sc sc' : Scope) → Meets c g U sc sc' → (s : State) → settings c (graft_assignments g ms) sc s ≡ settings c ms sc' s
+moves_law c g U no_assignments h sc sc' k s = refl
+moves_law c g U (assignment l e ms) h sc sc' k s =
+    λ i. (left_law c g U l h.0 sc sc' k s i) >>= (λ p. (value_law c g U e h.1 sc sc' k s i) >>= (λ v. (moves_law c g U ms h.2 sc sc' k s i) >>= (λ rest. Ok (record { place = left_root g l i; part = p; value = v } ∷ rest))))
 
 -- the bodies are alike in all scopes that meet
 abbrev pub BodiesAlike : Check → Graft → (Word → Type 0) → (Scope → State → Course) → (Scope → State → Course) → Type 0
@@ -149,11 +150,11 @@ graft_label g (mark l m rest) q = refl
 
 mutual
   graft_runs_one : (M : Rules) (g : Graft) (U : Word → Type 0) (here : Word) (at : Place) (st : Statement) → CleanOne M.check g U st → (sc sc' : Scope) → Meets M.check g U sc sc' → (K L : Follow) → K ≡ L → run_one M here at (graft_one g st) sc K ≡ run_one M here at st sc' L
-  graft_runs_one M g U here at (assign ms) h sc sc' k K L q = λ i s. after (moves_law M.check g U ms h sc sc' k s (λ all. set_all M.check all s) i) (q i).goes
+  graft_runs_one M g U here at (assign ms) h sc sc' k K L q = λ i s. after ((moves_law M.check g U ms h sc sc' k s i) >>= (λ all. set_all M.check all s)) (q i).goes
   graft_runs_one M g U here at (await e) h sc sc' k K L q = λ i s. after (needed_law M.check g U e h sc sc' k s truth_at i) (λ b. cond b (q i).goes (λ u. held at) s)
   graft_runs_one M g U here at (print e) h sc sc' k K L q = λ i s. after (value_law M.check g U e h sc sc' k s i) (λ v. (q i).goes s)
   graft_runs_one M g U here at (assert e) h sc sc' k K L q =
-      λ i s. after (needed_law M.check g U e h sc sc' k s truth_at i) (λ b. cond b (q i).goes (λ u. stops (Rattle.pcal_tree.specs.Scope.fault Rattle.tla_value.specs.declared.fault.FaultKind.TheVariants.AssertFailed at)) s)
+      λ i s. after (needed_law M.check g U e h sc sc' k s truth_at i) (λ b. cond b (q i).goes (λ u. stops (Rattle.tla_value.specs.Value.fault Rattle.tla_value.specs.declared.fault.FaultKind.TheVariants.AssertFailed at)) s)
   graft_runs_one M g U here at skip h sc sc' k K L q = λ i s. (q i).goes s
   graft_runs_one M g U here at (branch e a b) h sc sc' k K L q =
       λ i s. after (needed_law M.check g U e h.0 sc sc' k s truth_at i) (λ yes. cond yes (graft_runs M g U unlabelled a h.1 sc sc' k K L q i) (graft_runs M g U unlabelled b h.2 sc sc' k K L q i) s)
@@ -165,7 +166,7 @@ mutual
   graft_runs_one M g U here at (goto l) h sc sc' k K L q = refl
   graft_runs_one M g U here at (macro m ts) h sc sc' k K L q = absurd h
   graft_runs_one M g U here at (call p ts) h sc sc' k K L q =
-      λ i s. after (valued_alike (Grafted M.check g U) _ _ (sc.env s) (sc'.env s) Ok Ok (grafts_law M.check (Grafted M.check g U) g ts (every_of_weaker _ _ (form_fits M.check g U) ts h)) (k.env s) refl i) (λ vs. M.call at p.word (places_law M.check g U ts sc sc' k i) vs (q i).label s)
+      λ i s. after (valued_alike (Grafted M.check g U) _ _ (sc.env s) (sc'.env s) (grafts_law M.check (Grafted M.check g U) g ts (every_of_weaker _ _ (form_fits M.check g U) ts h)) (k.env s) i) (λ vs. M.call at p.word (places_law M.check g U ts sc sc' k i) vs (q i).label s)
   graft_runs_one M g U here at return h sc sc' k K L q = refl
 
   -- the courses are equal, kinds and places of faults included

@@ -1,14 +1,17 @@
 mod Sample
 mod RowsRun
 mod RowsStep
+mod RowsMacros
 mod Choices
 pub mod GraftRuns
 pub mod ExpandRuns
 pub mod BeginLaws
+pub mod BodyLabels
 pub mod TroubleLaws
 mod RowsPrinted
 mod RowsC
 mod RowsLabels
+mod RowsSummaries
 mod RowsNames
 mod RowsP
 mod RowsBoth
@@ -18,4 +21,14 @@ pub mod OneStand
 pub mod FreeWords
 pub mod ClearLabels
 pub mod LabelledClear
+pub mod SetLaws
+pub mod LinesPut
+pub mod LinesGood
+pub mod TargetLaws
+pub mod SummaryLaws
+pub mod EffectLaws
 mod RowsOffences
+pub mod SameVariables
+pub mod StepVariables
+pub mod SameSteps
+pub mod SameStarts

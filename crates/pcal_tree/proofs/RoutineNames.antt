@@ -1,51 +1,27 @@
 -- Written labels of different labels differ: each label of a routine is wanted, and routines have different numbers.
 use Rattle.std.proofs.Common.{◌≡◌, ℕ, List, [], ◌∷◌, ◌++◌, Bool, true, false, ◌&&◌, nat_eq, cond, bytes_eq, map, refl, sym, ◌∙◌, ap, subst, inl, inr, ◌⊎◌}
+use Rattle.std.specs.List.{flat_map, AllByRecursion}
 use Rattle.std.proofs.lemmas.Slice.Eq.{bytes_eq-Decides}
 use Rattle.std.proofs.lemmas.Bool.{and_parts, and_from, eqb-true, eq-eqb}
 use Rattle.std.proofs.lemmas.List.{map-append}
 use Rattle.tla_expr.specs.Tree.{Word}
 use Rattle.pcal_tree.specs.Algorithm.{Statement, branch, either, with, while, Statements, done, then, mark, Branches, no_branches, or, Main, alone, processes, Algorithm, Routine, locals, procedure_routines, main_routines, routines}
-use Rattle.pcal_tree.specs.Program.{declared}
-use Rattle.pcal_tree.specs.Offences.{each}
 use Rattle.pcal_tree.specs.OffencesLabels.{labels, labels_of_one, labels_of_some, label_words}
-use Rattle.pcal_tree.specs.Step as Step
-use Rattle.pcal_tree.specs.Step.{OneOf}
 use Rattle.pcal_tree.specs.Names.{Role, label, variable, title, Want, wants, wanted_within, wanted_by, wanted_by_main, wanted, Given, give, first_free, same_role, is_for, written_for}
-use Rattle.pcal_tree.specs.Apart.{Every, Apart}
+use Rattle.pcal_tree.specs.laws.Apart.{Apart}
 use Rattle.pcal_tree.proofs.TroubleLaws.{one_left, one_right}
+use Rattle.pcal_tree.specs.Variables.{declared}
+use Rattle.pcal_tree.specs.Processes.{OneOf}
 
-pub every_one : {X : Type 0} (Q : X → Type 0) (x : X) (xs : List X) → Every Q xs → OneOf x xs → Q x
+pub every_one : {X : Type 0} (Q : X → Type 0) (x : X) (xs : List X) → AllByRecursion Q xs → OneOf x xs → Q x
 every_one Q x [] h k = absurd k
 every_one Q x (y ∷ ys) h (inl e) = subst Q (sym e) h.0
 every_one Q x (y ∷ ys) h (inr k) = every_one Q x ys h.1 k
 
-one_each : {X Y : Type 0} (f : X → List Y) (x : X) (y : Y) (xs : List X) → OneOf x xs → OneOf y (f x) → OneOf y (each f xs)
+one_each : {X Y : Type 0} (f : X → List Y) (x : X) (y : Y) (xs : List X) → OneOf x xs → OneOf y (f x) → OneOf y (flat_map f xs)
 one_each f x y [] h k = absurd h
-one_each f x y (z ∷ zs) (inl e) k = one_left y (f z) (each f zs) (subst (λ u. OneOf y (f u)) e k)
-one_each f x y (z ∷ zs) (inr h) k = one_right y (f z) (each f zs) (one_each f x y zs h k)
-
--- ---- the labels of a body
-
--- two definitions list the same labels
-mutual
-  words_in : (st : Statement) → map (λ l. l.name.word) (labels_of_one st) ≡ Step.labels_in st
-  words_in (branch e a b) = map-append (λ l. l.name.word) (labels false a) (labels false b) ∙ (λ i. words_at false a i ++ words_at false b i)
-  words_in (either bs) = words_some bs
-  words_in (with bs b) = words_at false b
-  words_in (while e b) = words_at false b
-  words_in _ = refl
-
-  words_at : (s : Bool) (b : Statements) → map (λ l. l.name.word) (labels s b) ≡ Step.labels b
-  words_at s done = refl
-  words_at s (then at st rest) = map-append (λ l. l.name.word) (labels_of_one st) (labels false rest) ∙ (λ i. words_in st i ++ words_at false rest i)
-  words_at s (mark n k rest) = ap (λ ls. n.word ∷ ls) (words_at true rest)
-
-  words_some : (bs : Branches) → map (λ l. l.name.word) (labels_of_some bs) ≡ Step.labels_of bs
-  words_some no_branches = refl
-  words_some (or b bs) = map-append (λ l. l.name.word) (labels false b) (labels_of_some bs) ∙ (λ i. words_at false b i ++ words_some bs i)
-
-pub same_labels : (b : Statements) → label_words b ≡ Step.labels b
-same_labels b = words_at false b
+one_each f x y (z ∷ zs) (inl e) k = one_left y (f z) (flat_map f zs) (subst (λ u. OneOf y (f u)) e k)
+one_each f x y (z ∷ zs) (inr h) k = one_right y (f z) (flat_map f zs) (one_each f x y zs h k)
 
 -- ---- what is wanted
 
@@ -81,9 +57,9 @@ label_wanted a u l h k = by (one_either u (procedure_routines a) (main_routines 
   where
     by : OneOf u (procedure_routines a) ⊎ OneOf u (main_routines a a.main) → OneOf (want u l) (wanted a)
     by (inl p) =
-        one_left (want u l) (each wanted_by (procedure_routines a)) (wanted_by_main a a.main)
+        one_left (want u l) (flat_map wanted_by (procedure_routines a)) (wanted_by_main a a.main)
         (one_each wanted_by u (want u l) (procedure_routines a) p (inr (wanted_label u l k)))
-    by (inr p) = one_right (want u l) (each wanted_by (procedure_routines a)) (wanted_by_main a a.main) (main_label a a.main u l p k)
+    by (inr p) = one_right (want u l) (flat_map wanted_by (procedure_routines a)) (wanted_by_main a a.main) (main_label a a.main u l p k)
 
 -- ---- the names given
 

@@ -33,7 +33,7 @@ abbrev f : ℕ → Field
 f k = record { place = at k; is_reserved = false; text = codes "f" }
 
 abbrev bare : c.Statement → c.Labelled
-bare st = c.behind part.no_labels st
+bare st = c.labelled part.no_labels st
 
 -- { s; }
 abbrev in_block : Place → part.Simple → Place → Place → c.Labelled
@@ -95,7 +95,7 @@ p_text = record {
     variables = part.section (at 63) true (part.last_variable (n 64 (codes "e")) (part.equals (at 65) (v 66 (codes "x"))) (Some (part.by_semicolon (at 67))));
     body = text.begin_end (at 68)
         (p.more_statements (part.label (n 69 (codes "L")) (part.colon_plus (at 70) (at 71)) part.no_labels)
-        (p.loop (at 72) (v 73 (codes "T")) (at 74) (p.last_statement part.no_labels (p.simple (part.call (at 75) (n 76 (codes "P")) (part.some_arguments (at 77) (spelled.last (v 78 (codes "x"))) (at 79)))) (Some (at 80))) (at 81) (at 82)) (at 83)
+        (p.while (at 72) (v 73 (codes "T")) (at 74) (p.last_statement part.no_labels (p.simple (part.call (at 75) (n 76 (codes "P")) (part.some_arguments (at 77) (spelled.last (v 78 (codes "x"))) (at 79)))) (Some (at 80))) (at 81) (at 82)) (at 83)
         (p.last_statement part.no_labels
         (p.either (at 84) (p.last_statement part.no_labels (p.simple (part.await (at 85) (v 86 (codes "T")))) (Some (at 87)))
         (p.more_branches (at 88) (p.last_statement part.no_labels (p.simple (part.print (at 89) (v 90 (codes "x")))) (Some (at 91)))
@@ -177,7 +177,7 @@ c_text = record {
     name = n 38 (codes "P");
     parameters = part.some_parameters (at 39) (part.last_parameter (n 40 (codes "b")) (part.equals (at 41) (v 42 (codes "x")))) (at 43);
     variables = part.section (at 44) true (part.last_variable (n 45 (codes "d")) part.unset (Some (part.by_semicolon (at 46))));
-    body = text.braces (at 47) (c.last_statement (c.behind (part.label (n 48 (codes "K")) (part.colon (at 49)) part.no_labels) (c.simple (part.return (at 50)))) (Some (at 51))) (at 52) None;
+    body = text.braces (at 47) (c.last_statement (c.labelled (part.label (n 48 (codes "K")) (part.colon (at 49)) part.no_labels) (c.simple (part.return (at 50)))) (Some (at 51))) (at 52) None;
   } ∷ [];
   main = text.processes (record {
     fair = text.strong (at 53) (at 54);
@@ -185,8 +185,8 @@ c_text = record {
     identity = text.bracketed (at 56) (n 57 (codes "Q")) true (at 58) (v 59 (codes "S")) (at 60);
     variables = part.section (at 61) true (part.last_variable (n 62 (codes "e")) (part.equals (at 63) (v 64 (codes "x"))) (Some (part.by_semicolon (at 65))));
     body = text.braces (at 66)
-        (c.more_statements (c.behind (part.label (n 67 (codes "L")) (part.colon_plus (at 68) (at 69)) part.no_labels)
-        (c.loop (at 70) (at 71) (v 72 (codes "T")) (at 73) (in_block (at 74) (part.call (at 75) (n 76 (codes "P")) (part.some_arguments (at 77) (spelled.last (v 78 (codes "x"))) (at 79))) (at 80) (at 81)))) (Some (at 82))
+        (c.more_statements (c.labelled (part.label (n 67 (codes "L")) (part.colon_plus (at 68) (at 69)) part.no_labels)
+        (c.while (at 70) (at 71) (v 72 (codes "T")) (at 73) (in_block (at 74) (part.call (at 75) (n 76 (codes "P")) (part.some_arguments (at 77) (spelled.last (v 78 (codes "x"))) (at 79))) (at 80) (at 81)))) (Some (at 82))
         (c.last_statement (bare
         (c.either (at 83) (in_block (at 84) (part.await (at 85) (v 86 (codes "T"))) (at 87) (at 88))
         (c.more_branches None (at 89) (in_block (at 90) (part.print (at 91) (v 92 (codes "x"))) (at 93) (at 94))
@@ -198,7 +198,7 @@ c_text = record {
     identity = text.bracketed (at 105) (n 106 (codes "R")) false (at 107) (v 108 (codes "x")) (at 109);
     variables = part.no_section;
     body = text.braces (at 110)
-        (c.last_statement (c.behind (part.label (n 111 (codes "N")) (part.colon_minus (at 112) (at 113)) part.no_labels)
+        (c.last_statement (c.labelled (part.label (n 111 (codes "N")) (part.colon_minus (at 112) (at 113)) part.no_labels)
         (c.with (at 114) (at 115) (part.bind (n 116 (codes "i")) true (at 117) (v 118 (codes "S")) (part.by_comma (at 119)) (part.last_bind (n 120 (codes "j")) false (at 121) (v 122 (codes "x")) None)) (at 123)
         (bare (c.compound (at 124) (c.last_statement (bare
         (c.branch (at 125) (at 126) (v 127 (codes "T")) (at 128) (in_block (at 129) (part.assert (at 130) (v 131 (codes "T"))) (at 132) (at 133))

@@ -14,9 +14,9 @@ use Rattle.tla_expr.specs.Spelling as spelled
 use Rattle.pcal_tree.specs.declared.mark.Mark.TheVariants as fair
 use Rattle.pcal_tree.specs.Algorithm.{Name, Statements}
 use Rattle.pcal_tree.specs.Algorithm as tree
-use Rattle.pcal_tree.specs.GrammarView.{views}
+use Rattle.pcal_tree.specs.AlgorithmTokens.{views}
 use Rattle.pcal_tree.specs.GrammarParts.{assign, last_assignment, skip, label, no_labels, colon}
-use Rattle.pcal_tree.specs.GrammarC.{Statement, Labelled, Sequence, simple, branch, either, compound, behind, no_else, else_then, last_branch, last_statement, more_statements, sequence, statements, GoodSequence, GoodStatement}
+use Rattle.pcal_tree.specs.GrammarC.{Statement, Labelled, Sequence, simple, branch, either, compound, labelled, no_else, else_then, last_branch, last_statement, more_statements, sequence, statements, GoodSequence, GoodStatement}
 use Rattle.pcal_tree.specs.Grammar.{p_syntax, c_syntax}
 use Rattle.pcal_tree.specs.Printed as printed
 
@@ -34,7 +34,7 @@ abbrev sets : ℕ → Word → ℕ → ℕ → ℕ → Statement
 sets k x e f v = simple (assign (last_assignment (spelled.name (at k) x) (at e) (spelled.number (at f) v)))
 
 abbrev plain : Statement → Labelled
-plain st = behind no_labels st
+plain st = labelled no_labels st
 
 -- if (x > 0) { y := 1 } else z := 2; skip
 abbrev tokens : List Token
@@ -90,14 +90,14 @@ lines_in_p = rw (zero_is, one_is, two_is) refl
 lines_in_c : printed.statements c_syntax 2 [] both [] ≡ codes "  if (x > 0) {" ∷ codes "    y := 1;" ∷ codes "  } else {" ∷ codes "    z := 2;" ∷ codes "  };" ∷ codes "  skip;" ∷ []
 lines_in_c = rw (zero_is, one_is, two_is) refl
 
--- a block needs no `;` behind it, another statement does
+-- a block needs no `;` after it, another statement does
 block_first : (p q r s : Place) → GoodSequence (more_statements (plain (compound p (last_statement (plain (simple (skip q))) None) r)) None (last_statement (plain (simple (skip s))) None))
 block_first p q r s = search
 
 skip_first : (p q : Place) → GoodSequence (more_statements (plain (simple (skip p))) None (last_statement (plain (simple (skip q))) None)) → ⊥
 skip_first p q g = cc
 
--- `if (e) if (f) skip else skip`: the `else` is that of the inner `if`, also behind a `;`
+-- `if (e) if (f) skip else skip`: the `else` is that of the inner `if`, also after a `;`
 outer_else : (p q r t u v w x y z : Place) (e f : Phrase) (s : Option Place)
     → GoodStatement (branch p q e r (plain (branch t u f v (plain (simple (skip w))) no_else)) (else_then s x (plain (simple (skip y))))) → ⊥
 outer_else p q r t u v w x y z e f s g = cc
@@ -113,7 +113,7 @@ nested_either : (p q r s : Place) (a b c : Labelled) (o : Option Place) → Good
 nested_either p q r s a b c o g = cc
 
 -- the label of a compound statement goes before the label of its first statement
-flattened : statements (last_statement (behind (label (record { word = codes "A"; place = at 1 }) (colon (at 2)) no_labels)
-    (compound (at 4) (last_statement (behind (label (record { word = codes "B"; place = at 6 }) (colon (at 7)) no_labels) (simple (skip (at 9)))) None) (at 14))) None)
+flattened : statements (last_statement (labelled (label (record { word = codes "A"; place = at 1 }) (colon (at 2)) no_labels)
+    (compound (at 4) (last_statement (labelled (label (record { word = codes "B"; place = at 6 }) (colon (at 7)) no_labels) (simple (skip (at 9)))) None) (at 14))) None)
     ≡ tree.mark (record { word = codes "A"; place = at 1 }) fair.Plain (tree.mark (record { word = codes "B"; place = at 6 }) fair.Plain (then 9 9 tree.skip tree.done))
 flattened = refl

@@ -1,12 +1,13 @@
 -- Added labels and offences against the rules on labels, tried by computation.
-use Rattle.std.proofs.Common.{◌≡◌, ℕ, List, [], ◌∷◌, true, false, codes, Some, refl}
+use Rattle.std.proofs.Common.{◌≡◌, ℕ, List, [], ◌∷◌, true, false, codes, Some, refl, map}
 use Rattle.std.specs.Fmt.{digits}
 use Rattle.tla_token.specs.declared.rule.Rule.TheVariants.{AssignTwice, FirstLabel, UnknownLabel, ReturnOutside, DoubleLabel, LabelInside, WhileLabel, AfterJump}
 use Rattle.tla_expr.specs.declared.op.Op.TheVariants.{Plus, Less, Equal}
-use Rattle.tla_expr.specs.Tree.{Word, no_trees, tree}
+use Rattle.tla_expr.specs.Tree.{Word, Trees, no_trees, tree}
 use Rattle.pcal_tree.specs.declared.mark.Fairness.TheVariants.{Unfair}
 use Rattle.pcal_tree.specs.declared.mark.Mark.TheVariants.{Plain}
 use Rattle.pcal_tree.specs.Algorithm.{no_assignments, assignment, no_binds, is, Statement, assign, skip, branch, with, while, goto, macro, return, Statements, done, then, mark, Macro, Procedure, Process, processes, Algorithm}
+use Rattle.tla_token.specs.declared.rule.Refusal.{Refusal}
 use Rattle.pcal_tree.specs.Offences.{first}
 use Rattle.pcal_tree.specs.OffencesLabels.{label_offences}
 use Rattle.pcal_tree.specs.Labelled.{labelled}
@@ -135,5 +136,62 @@ none_in_processes : labelled false (several proc (stands 4 skip done) (stands 5 
 none_in_processes = refl
 
 -- A: while y = 0 do x := 1; end while; x := 2
-behind_a_loop : label_offences (alg [] (label 1 (codes "A") (stands 2 (while (over Equal (var y) (num 0)) (stands 3 (sets (var x) (num 1)) done)) (stands 4 (sets (var x) (num 2)) done)))) ≡ []
-behind_a_loop = refl
+after_a_loop : label_offences (alg [] (label 1 (codes "A") (stands 2 (while (over Equal (var y) (num 0)) (stands 3 (sets (var x) (num 1)) done)) (stands 4 (sets (var x) (num 2)) done)))) ≡ []
+after_a_loop = refl
+
+-- ---- macros
+
+abbrev macro_of : List Word → Statements → Macro
+macro_of ps b = record { name = title (codes "M"); params = map title ps; body = b }
+
+abbrev calling : Macro → Trees → Statements → List Refusal
+calling d ts rest = label_offences (alg (d ∷ []) (label 2 (codes "A") (stands 3 (macro (codes "M") ts) rest)))
+
+-- A: goto A; x := 2; x := 3
+no_path_after_a_jump : label_offences (alg [] (label 1 (codes "A") (stands 2 (goto (codes "A")) (stands 3 (sets (var x) (num 2)) (stands 4 (sets (var x) (num 3)) done))))) ≡ record { rule = AfterJump; place = at 3 } ∷ []
+no_path_after_a_jump = refl
+
+-- macro M() begin while y = 0 do skip; end while; end macro: that it lacks a label is its own offence, not the call's
+abbrev looping : Macro
+looping = macro_of [] (stands 1 (while (over Equal (var y) (num 0)) (stands 7 skip done)) done)
+
+missing_in_the_macro : calling looping no_trees done ≡ record { rule = WhileLabel; place = at 1 } ∷ record { rule = LabelInside; place = at 1 } ∷ []
+missing_in_the_macro = refl
+
+-- macro M() begin x := 1; if y = 0 then x := 2; end if; end macro
+abbrev twice_on_a_path : Macro
+twice_on_a_path = macro_of [] (stands 1 (sets (var x) (num 1)) (stands 7 (branch (over Equal (var y) (num 0)) (stands 8 (sets (var x) (num 2)) done) done) done))
+
+breaks_at_the_call : calling twice_on_a_path no_trees done ≡ record { rule = AssignTwice; place = at 3 } ∷ []
+breaks_at_the_call = refl
+
+-- macro M() begin if y = 0 then x := 1; goto Done; end if; end macro, and then x := 2
+abbrev leaving : Macro
+leaving = macro_of [] (stands 1 (branch (over Equal (var y) (num 0)) (stands 7 (sets (var x) (num 1)) (stands 8 (goto (codes "Done")) done)) done) done)
+
+assigned_before_a_jump : calling leaving no_trees (stands 4 (sets (var x) (num 2)) done) ≡ record { rule = LabelInside; place = at 8 } ∷ record { rule = AssignTwice; place = at 4 } ∷ []
+assigned_before_a_jump = refl
+
+-- macro M() begin N(); x := 1; end macro, with no macro N
+abbrev calling_none : Macro
+calling_none = macro_of [] (stands 1 (macro (codes "N") no_trees) (stands 7 (sets (var x) (num 1)) done))
+
+unknown_macro_goes_on : calling calling_none no_trees (stands 4 (sets (var x) (num 2)) done) ≡ record { rule = AssignTwice; place = at 4 } ∷ []
+unknown_macro_goes_on = refl
+
+-- macro M(p, q) begin p := 0 || q := 0; end macro: M(1, 2), M(x, x)
+abbrev setting_two : Macro
+setting_two = macro_of (codes "p" ∷ codes "q" ∷ []) (stands 1 (assign (assignment (var (codes "p")) (num 0) (assignment (var (codes "q")) (num 0) no_assignments))) done)
+
+no_variables : calling setting_two (tree (num 1) (tree (num 2) no_trees)) done ≡ []
+no_variables = refl
+
+one_variable : calling setting_two (tree (var x) (tree (var x) no_trees)) done ≡ record { rule = AssignTwice; place = at 3 } ∷ []
+one_variable = refl
+
+-- macro M() begin goto B; end macro and macro M() begin return; end macro
+jump_in_a_macro : calling (macro_of [] (stands 1 (goto (codes "B")) done)) no_trees done ≡ record { rule = LabelInside; place = at 1 } ∷ record { rule = UnknownLabel; place = at 1 } ∷ []
+jump_in_a_macro = refl
+
+return_in_a_macro : calling (macro_of [] (stands 1 return done)) no_trees done ≡ record { rule = LabelInside; place = at 1 } ∷ record { rule = ReturnOutside; place = at 1 } ∷ []
+return_in_a_macro = refl

@@ -3,7 +3,7 @@ use Rattle.std.proofs.Common.{◌≡◌, ℕ, [], ◌∷◌, false, codes, refl,
 use Rattle.std.specs.Fmt.{digits}
 use Rattle.pcal_tree.specs.declared.mark.Fairness.TheVariants.{Unfair}
 use Rattle.pcal_tree.specs.Algorithm.{Name, skip, done, Process, processes, Algorithm}
-use Rattle.pcal_tree.specs.Outside.{Outside}
+use Rattle.tla_value.specs.Outside.{Outside}
 use Rattle.pcal_tree.specs.Names.{give, wanted, kept, naming, first_free}
 use Rattle.pcal_tree.proofs.Sample.{title, num, and_next, labelled, variable}
 

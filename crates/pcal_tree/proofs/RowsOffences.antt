@@ -1,12 +1,12 @@
 -- Unknown names, wrong numbers of arguments and names declared twice, tried by computation.
-use Rattle.std.proofs.Common.{◌≡◌, ℕ, List, [], ◌∷◌, false, codes, Some, refl}
-use Rattle.tla_token.specs.declared.rule.Rule.TheVariants.{Unknown, Arity, Duplicate, Reserved}
+use Rattle.std.proofs.Common.{◌≡◌, ℕ, List, [], ◌∷◌, false, true, codes, Some, refl}
+use Rattle.tla_token.specs.declared.rule.Rule.TheVariants.{Unknown, Arity, Duplicate, Reserved, OpaqueUnit}
 use Rattle.tla_token.specs.declared.rule.Refusal.{Refusal}
 use Rattle.tla_expr.specs.declared.op.Binder.TheVariants.{ForAll}
-use Rattle.tla_expr.specs.Tree.{Word, Tree, node, name, operator_call, binding, no_trees, tree}
+use Rattle.tla_expr.specs.Tree.{Word, Tree, node, name, operator_call, binding, local, no_trees, tree}
 use Rattle.pcal_tree.specs.Algorithm.{no_binds, is, Name, Statement, await, with, macro, call, skip, Statements, done, then, Macro, processes, Algorithm}
 use Rattle.pcal_tree.specs.Offences.{first}
-use Rattle.pcal_tree.specs.Outside.{Outside}
+use Rattle.tla_value.specs.Outside.{Outside, ReadDefinition}
 use Rattle.pcal_tree.specs.OffencesNames.{use_offences_of, repeated_names}
 use Rattle.pcal_tree.specs.OffencesReserved.{reserved_declared}
 use Rattle.pcal_tree.proofs.Sample.{at, title, x, y, num, sets, labelled, one_body}
@@ -37,15 +37,43 @@ unknown_name = refl
 constant : uses [] (await (read 3 (codes "N"))) ≡ []
 constant = refl
 
-not_read : uses [] (await (read 3 (codes "Big"))) ≡ []
+not_read : uses [] (await (read 3 (codes "Big"))) ≡ record { rule = OpaqueUnit; place = at 3 } ∷ []
 not_read = refl
+
+-- Big := x is an offence by another rule
+not_read_on_the_left : uses [] (sets (read 3 (codes "Big")) (read 4 x)) ≡ []
+not_read_on_the_left = refl
+
+-- the unit `Len == ..` was not read: neither Len nor Len(x) is a use of the standard operator
+abbrev hiding : Outside
+hiding = record { extended = []; constants = []; definitions = []; opaque = record { keyword = []; names = codes "Len" ∷ []; place = at 1 } ∷ [] }
+
+hidden_standard_name : use_offences_of (one_body [] (labelled (codes "A") (stands 2 (await (read 3 (codes "Len"))) done))).algorithm hiding ≡ record { rule = OpaqueUnit; place = at 3 } ∷ []
+hidden_standard_name = refl
+
+hidden_standard_operator : use_offences_of (one_body [] (labelled (codes "A") (stands 2 (await (node (operator_call (codes "Len")) (at 3) (tree (read 4 x) no_trees))) done))).algorithm hiding ≡ record { rule = OpaqueUnit; place = at 3 } ∷ []
+hidden_standard_operator = refl
+
+-- F == .. and then F(a) == ..
+abbrev defined_as : List Word → ReadDefinition
+defined_as ps = record { definition = record { title = codes "F"; params = ps; body = num 0; outside = true }; place = at 1 }
+
+abbrev defined_again : Outside
+defined_again = record { extended = []; constants = []; definitions = defined_as [] ∷ defined_as (codes "a" ∷ []) ∷ []; opaque = [] }
+
+the_later_one_is_seen : use_offences_of (one_body [] (labelled (codes "A") (stands 2 (await (read 3 (codes "F"))) done))).algorithm defined_again ≡ record { rule = Arity; place = at 3 } ∷ []
+the_later_one_is_seen = refl
 
 unknown_left : uses [] (sets (read 3 q) (read 4 x)) ≡ record { rule = Unknown; place = at 3 } ∷ []
 unknown_left = refl
 
 -- \A q \in q : q
-only_the_set : uses [] (await (node (binding ForAll (q ∷ [])) (at 3) (tree (read 4 q) (tree (read 5 q) no_trees)))) ≡ record { rule = Unknown; place = at 4 } ∷ []
+only_the_set : uses [] (await (node (binding ForAll ((record { word = q; place = at 3 } ∷ []) ∷ [])) (at 3) (tree (read 4 q) (tree (read 5 q) no_trees)))) ≡ record { rule = Unknown; place = at 4 } ∷ []
 only_the_set = refl
+
+-- LET x == q q == 1 IN q: a right side sees the names before it
+only_those_before : uses [] (await (node (local (record { word = x; place = at 3 } ∷ record { word = q; place = at 5 } ∷ [])) (at 2) (tree (read 4 q) (tree (read 6 x) (tree (read 7 q) no_trees))))) ≡ record { rule = Unknown; place = at 4 } ∷ []
+only_those_before = refl
 
 -- Len, and Len(x, y)
 arguments : uses [] (await (read 3 (codes "Len"))) ≡ record { rule = Arity; place = at 3 } ∷ []
@@ -104,3 +132,47 @@ label_with_an_own_name = refl
 -- Done: skip
 no_label : reserved (labelled (codes "Done") (stands 2 skip done)) ≡ record { rule = Reserved; place = at 1 } ∷ []
 no_label = refl
+
+-- ---- bound names
+
+abbrev awaiting : Tree → Algorithm
+awaiting e = (one_body [] (labelled (codes "A") (stands 2 (await e) done))).algorithm
+
+-- \A q \in x, q \in y : q
+abbrev bound_twice : Tree
+bound_twice = node (binding ForAll ((named 4 q ∷ []) ∷ (named 6 q ∷ []) ∷ [])) (at 3) (tree (read 5 x) (tree (read 7 y) (tree (read 8 q) no_trees)))
+
+twice_in_a_binder : repeated_names (awaiting bound_twice) around ≡ record { rule = Duplicate; place = at 6 } ∷ []
+twice_in_a_binder = refl
+
+-- \A q, q \in x : q
+twice_in_a_group : repeated_names (awaiting (node (binding ForAll ((named 4 q ∷ named 5 q ∷ []) ∷ [])) (at 3) (tree (read 6 x) (tree (read 7 q) no_trees)))) around
+    ≡ record { rule = Duplicate; place = at 5 } ∷ []
+twice_in_a_group = refl
+
+-- LET q == 0 q == 1 IN q
+twice_in_a_let : repeated_names (awaiting (node (local (named 4 q ∷ named 6 q ∷ [])) (at 3) (tree (num 0) (tree (num 1) (tree (read 7 q) no_trees))))) around
+    ≡ record { rule = Duplicate; place = at 6 } ∷ []
+twice_in_a_let = refl
+
+-- with q = 0, q = 1 do skip; end with
+twice_in_a_with :
+    repeated_names (one_body [] (labelled (codes "A") (stands 2 (with (is (named 3 q) (num 0) (is (named 5 q) (num 1) no_binds)) (stands 7 skip done)) done))).algorithm around
+    ≡ record { rule = Duplicate; place = at 5 } ∷ []
+twice_in_a_with = refl
+
+-- with q = 0 do with q = 1 do skip; end with; end with: an outer form has the name, which another rule refuses
+in_two_lists :
+    repeated_names (one_body [] (labelled (codes "A") (stands 2 (with (is (named 3 q) (num 0) no_binds) (stands 5 (with (is (named 6 q) (num 1) no_binds) (stands 8 skip done)) done)) done))).algorithm around
+    ≡ []
+in_two_lists = refl
+
+-- \A pc \in x : Len
+own_bound_name : reserved_declared (awaiting (node (binding ForAll ((named 4 (codes "pc") ∷ []) ∷ [])) (at 3) (tree (read 5 x) (tree (read 6 (codes "Len")) no_trees)))) around
+    ≡ record { rule = Reserved; place = at 4 } ∷ []
+own_bound_name = refl
+
+-- LET Len == 0 IN x
+standard_bound_name : reserved_declared (awaiting (node (local (named 4 (codes "Len") ∷ [])) (at 3) (tree (num 0) (tree (read 6 x) no_trees)))) around
+    ≡ record { rule = Reserved; place = at 4 } ∷ []
+standard_bound_name = refl

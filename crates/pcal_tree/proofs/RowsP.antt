@@ -16,7 +16,7 @@ use Rattle.pcal_tree.specs.declared.mark.Mark.TheVariants as marked
 use Rattle.pcal_tree.specs.declared.mark.Fairness.TheVariants as fairness
 use Rattle.pcal_tree.specs.Algorithm.{Name, Algorithm, Statements, Declaration}
 use Rattle.pcal_tree.specs.Algorithm as tree
-use Rattle.pcal_tree.specs.GrammarView.{views}
+use Rattle.pcal_tree.specs.AlgorithmTokens.{views}
 use Rattle.pcal_tree.specs.GrammarParts as part
 use Rattle.pcal_tree.specs.GrammarP.{Sequence, sequence, statements, GoodSequence, simple, branch, else_then, else_if, last_statement}
 use Rattle.pcal_tree.specs.Printed.{PText, CText}

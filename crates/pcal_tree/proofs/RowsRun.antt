@@ -3,16 +3,17 @@ use Rattle.std.proofs.Common.{◌≡◌, ℕ, List, [], ◌∷◌, codes, Some, 
 use Rattle.tla_expr.specs.declared.op.Op.TheVariants.{Less, Plus}
 use Rattle.tla_expr.specs.Tree.{Word, set_of, strict, node, no_trees, tree, Tree, truth as literal}
 use Rattle.tla_value.specs.declared.fault.FaultKind.TheVariants.{NotBoolean, NotInDomain, AssertFailed}
-use Rattle.tla_value.specs.Value.{text}
+use Rattle.tla_value.specs.Value.{text, Outcome, fault}
 use Rattle.tla_value.specs.Order.{seq_from}
 use Rattle.pcal_tree.specs.Algorithm.{no_assignments, assignment, assign, await, print, assert, branch, either, with, while, goto, macro, Statement, Statements, done, no_branches, or, one_of, is, no_binds, Macro, Routine, alone_routine}
-use Rattle.pcal_tree.specs.Scope.{State, put, Outcome, fault}
+use Rattle.pcal_tree.specs.Scope.{State, put}
 use Rattle.pcal_tree.specs.Run.{Course, Has, run, exit_to}
 use Rattle.pcal_tree.specs.Expand.{expanded}
 use Rattle.pcal_tree.specs.Choices.{walk, went, wanting, first_trouble}
-use Rattle.pcal_tree.specs.Program.{Program, Actor, routine_scope, pc}
+use Rattle.pcal_tree.specs.Program.{Program, Actor, routine_scope}
 use Rattle.pcal_tree.specs.Calls.{rules_of}
 use Rattle.pcal_tree.proofs.Sample.{at, title, x, y, num, var, over, item, and_next, sets, labelled, an_int, one_body, at_start}
+use Rattle.pcal_tree.specs.Variables.{pc}
 
 -- ---- the courses of a step from label A, the end of which goes to Done
 

@@ -1,20 +1,26 @@
 -- Processes, calls and initial states, tried by computation.
-use Rattle.std.proofs.Common.{◌≡◌, ℕ, List, [], ◌∷◌, true, false, codes, Option, Some, None, refl, inl, inr, subst, sym, ap, Ok, Err}
+use Rattle.std.proofs.Common.{◌≡◌, ℕ, zero, suc, List, [], ◌∷◌, true, false, bytes_eq, cond, codes, Option, Some, None, refl, inl, inr, subst, sym, ap, Ok, Err}
 use Rattle.tla_expr.specs.declared.op.Op.TheVariants.{Plus}
-use Rattle.tla_expr.specs.Tree.{set_of, strict, node, no_trees, tree, Tree}
+use Rattle.tla_expr.specs.Tree.{set_of, name, strict, node, no_trees, tree, Tree}
 use Rattle.tla_value.specs.declared.fault.FaultKind.TheVariants.{SameIdentifier, NotInDomain, EmptySequence}
-use Rattle.tla_value.specs.Value.{Value, text, model, fun, no_values, and}
+use Rattle.tla_value.specs.Value.{Value, text, model, set, fun, no_values, and, Outcome, fault, over}
 use Rattle.tla_value.specs.Order.{seq_from, record_from}
 use Rattle.pcal_tree.specs.declared.mark.Fairness.TheVariants.{Unfair}
-use Rattle.pcal_tree.specs.Algorithm.{Statement, call, return, skip, Statements, done, unset, among, Procedure, Process, processes, Routine, procedure_routine, process_routine}
-use Rattle.pcal_tree.specs.Scope.{State, put, Outcome, fault}
+use Rattle.pcal_tree.specs.Algorithm.{Statement, call, return, skip, Statements, done, unset, equals, among, Procedure, Process, processes, Routine, procedure_routine, process_routine}
+use Rattle.pcal_tree.specs.Scope.{State, put}
 use Rattle.pcal_tree.specs.Run.{Course, ends, stops}
-use Rattle.pcal_tree.specs.Choices.{walk, went, wanting}
-use Rattle.pcal_tree.specs.Program.{Program, Actor, pc, stack}
-use Rattle.pcal_tree.specs.Step.{vars, actors, pc_of, Stand, course_of, stand_named, routines_of, trouble_of_all, Step, Stutters, OneOf}
+use Rattle.pcal_tree.specs.Choices.{walk, went, failed, wanting}
+use Rattle.pcal_tree.specs.Program.{Program, Actor}
+use Rattle.pcal_tree.specs.Step.{pc_of, Stand, course_of, routines_of, Step, Stutters}
 use Rattle.pcal_tree.specs.InitialStates.{allowed}
 use Rattle.pcal_tree.specs.InitialChoice.{started, nothing}
-use Rattle.pcal_tree.proofs.Sample.{at, title, x, num, var, over, and_next, sets, labelled, an_int, variable, program}
+use Rattle.pcal_tree.proofs.Sample.{at, title, x, num, var, over as sum_of, and_next, sets, labelled, an_int, variable, same_names, program}
+use Rattle.tla_value.specs.Stops.{plain}
+use Rattle.tla_value.specs.Limits.{bounded}
+use Rattle.tla_value.specs.Definitions.{Valuation}
+use Rattle.pcal_tree.specs.Variables.{pc, stack, vars}
+use Rattle.pcal_tree.specs.Processes.{actors, OneOf}
+use Rattle.pcal_tree.specs.FirstTrouble.{stand_named, trouble_of_all}
 
 abbrev one : Statement → Statements
 one st = and_next st done
@@ -24,14 +30,14 @@ abbrev proc : Procedure
 proc = record {
   name = title (codes "P");
   params = variable (codes "a") (num 0) ∷ [];
-  variables = variable (codes "b") (over Plus (var (codes "a")) (num 1)) ∷ [];
-  body = labelled (codes "D") (and_next (sets (var (codes "b")) (over Plus (var (codes "b")) (var (codes "a")))) (labelled (codes "E") (one return)));
+  variables = variable (codes "b") (sum_of Plus (var (codes "a")) (num 1)) ∷ [];
+  body = labelled (codes "D") (and_next (sets (var (codes "b")) (sum_of Plus (var (codes "b")) (var (codes "a")))) (labelled (codes "E") (one return)));
 }
 
 -- process Q \in {2, 1} variables z = self, w \in {5, 4}, d; begin A: z := z + x; B: call P(z); C: skip; end process
 abbrev behind_a : Statements
 behind_a =
-    and_next (sets (var (codes "z")) (over Plus (var (codes "z")) (var x)))
+    and_next (sets (var (codes "z")) (sum_of Plus (var (codes "z")) (var x)))
     (labelled (codes "B") (and_next (call (title (codes "P")) (tree (var (codes "z")) no_trees)) (labelled (codes "C") (one skip))))
 
 abbrev proc_body : Statements
@@ -172,6 +178,61 @@ on_seven a = fun (and (an_int 7) no_values) (and a no_values)
 
 begun : walk (started S) [] ≡ went (put pc (on_seven (text (codes "F"))) (put (codes "v") (an_int 7) nothing)) []
 begun = refl
+
+-- ---- within the limits
+
+-- sets in sets, so many deep
+abbrev nested : ℕ → Value
+nested zero = an_int 1
+nested (suc n) = set (and (nested n) no_values)
+
+-- process P \in {1} variable v = K, where K is a constant so deep
+abbrev deep_constant : ℕ → Valuation
+deep_constant n w = cond (bytes_eq (codes "K") w) (Some (nested n)) None
+
+abbrev holder : Process
+holder = record {
+  name = record { word = codes "P"; place = at 3 };
+  fairness = Unfair;
+  several = true;
+  identity = node (strict set_of) (at 4) (tree (num 1) no_trees);
+  variables = record { name = record { word = codes "v"; place = at 5 }; start = equals (node (name (codes "K")) (at 6) no_trees) } ∷ [];
+  body = labelled (codes "F") (one skip);
+}
+
+abbrev bounded_program : ℕ → Program
+bounded_program n = record {
+  check = bounded;
+  constants = deep_constant n;
+  outside = [];
+  algorithm = record { name = title (codes "Deep"); fair = false; globals = []; definitions = []; macros = []; procedures = []; main = processes (holder ∷ []) };
+  naming = same_names;
+}
+
+abbrev on_one : Value → Value
+on_one a = fun (and (an_int 1) no_values) (and a no_values)
+
+abbrev deep_state : ℕ → State
+deep_state n = put pc (on_one (text (codes "F"))) (put (codes "v") (on_one (nested n)) nothing)
+
+-- the function of the identifiers is one deeper than K
+deep_within : allowed (bounded_program 199) (deep_state 199) ≡ Ok true
+deep_within = refl
+
+deep_past : allowed (bounded_program 200) (deep_state 200) ≡ Err (over (at 5))
+deep_past = refl
+
+made_within : walk (started (bounded_program 199)) [] ≡ went (deep_state 199) []
+made_within = refl
+
+made_past : walk (started (bounded_program 200)) [] ≡ failed (over (at 5))
+made_past = refl
+
+-- without limits it is a value as any other
+deep_without : allowed (record (bounded_program 200) { check = plain }) (deep_state 200) ≡ Ok true
+deep_without = refl
+
+-- ---- no step
 
 -- where process 7 is done nothing moves
 abbrev ended : State

@@ -8,7 +8,8 @@ use Rattle.tla_value.specs.Stops.{plain}
 use Rattle.pcal_tree.specs.declared.mark.Mark.TheVariants.{Plain}
 use Rattle.pcal_tree.specs.Algorithm.{Name, no_assignments, assignment, Statement, assign, Statements, then, mark, equals, Declaration, Macro, alone, Algorithm, Naming}
 use Rattle.pcal_tree.specs.Scope.{State, put}
-use Rattle.pcal_tree.specs.Program.{Program, pc}
+use Rattle.pcal_tree.specs.Program.{Program}
+use Rattle.pcal_tree.specs.Variables.{pc}
 
 -- places are told apart by their column
 abbrev pub at : ℕ → Place

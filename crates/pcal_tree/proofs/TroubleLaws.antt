@@ -1,19 +1,26 @@
 -- A state that has proper identifiers is sound exactly if there is no first trouble, where written labels are apart.
 use Rattle.std.proofs.Common.{◌≡◌, List, [], ◌∷◌, ◌++◌, Bool, true, false, cond, bytes_eq, Option, Some, None, refl, sym, ◌∙◌, ap, subst, inl, inr, ◌⊎◌, Ok, Err}
 use Rattle.tla_expr.specs.Tree.{Word}
-use Rattle.tla_value.specs.Value.{Value}
+use Rattle.tla_value.specs.Value.{Value, Trouble, Outcome}
 use Rattle.tla_value.specs.Order.{same}
 use Rattle.std.proofs.lemmas.Slice.Eq.{bytes_eq-Decides}
 use Rattle.tla_value.specs.OrderLaws.{same_is, same_self}
 use Rattle.pcal_tree.specs.Algorithm.{Statement, branch, either, with, while, Statements, done, then, mark, Branches, no_branches, or, Routine}
 use Rattle.pcal_tree.specs.Run.{Course, Has, unlabelled, label_of}
-use Rattle.pcal_tree.specs.Scope.{State, Trouble, Outcome}
-use Rattle.pcal_tree.specs.Choices.{or_else, first_trouble}
+use Rattle.pcal_tree.specs.Scope.{State}
+use Rattle.pcal_tree.specs.Choices.{first_trouble}
 use Rattle.pcal_tree.specs.StepStart.{Begin, begin_in, begin, begin_some, at_label}
 use Rattle.pcal_tree.specs.Program.{Program, Actor}
 use Rattle.pcal_tree.specs.Calls.{label_value}
-use Rattle.pcal_tree.specs.Step.{OneOf, pc_of, Stand, routines_of, StandsAt, course_of, Troubled, Sound, IsActor, labels_in, labels, labels_of, Proper, StandsOnce, stand_at, label_named, stand_named, trouble_from, trouble_at, trouble_of_all, FirstTrouble}
+use Rattle.pcal_tree.specs.Step.{pc_of, Stand, routines_of, StandsAt, course_of}
+use Rattle.pcal_tree.specs.OffencesLabels.{label_words}
+use Rattle.pcal_tree.proofs.BodyLabels.{labels_in, labels, labels_of, same_labels}
 use Rattle.pcal_tree.proofs.Choices.{some_inside, first_has, none_has}
+use Rattle.std.specs.Option.{option_or}
+use Rattle.pcal_tree.specs.Processes.{OneOf, IsActor, Proper}
+use Rattle.pcal_tree.specs.Faults.{Troubled, Sound}
+use Rattle.pcal_tree.specs.laws.Steps.{StandsOnce}
+use Rattle.pcal_tree.specs.FirstTrouble.{stand_at, label_named, stand_named, trouble_from, trouble_at, trouble_of_all, FirstTrouble}
 
 -- d is a label of one of the routines, and w names it
 record Found (P : Program) (w : Value) (us : List Routine) (d : Stand) : Type 0 where
@@ -25,7 +32,7 @@ label_found : (P : Program) (w : Value) (u : Routine) (ls : List Word) (d : Stan
 label_found P w u [] d e = cc
 label_found P w u (l ∷ ls) d e = by (label_found P w u ls d) (same w (label_value P u l)) refl (at_label u l) refl e
   where
-    by : (label_named P w u ls ≡ Some d → Found P w (u ∷ []) d) → (b : Bool) → same w (label_value P u l) ≡ b → (o : Option Begin) → at_label u l ≡ o → or_else (cond b (stand_at u l o) None) (label_named P w u ls) ≡ Some d → Found P w (u ∷ []) d
+    by : (label_named P w u ls ≡ Some d → Found P w (u ∷ []) d) → (b : Bool) → same w (label_value P u l) ≡ b → (o : Option Begin) → at_label u l ≡ o → option_or (cond b (stand_at u l o) None) (label_named P w u ls) ≡ Some d → Found P w (u ∷ []) d
     by ih true p (Some b) q e = subst (Found P w (u ∷ [])) (sym (some_inside e)) (record { routine = inl refl; begins = q; named = same_is w (label_value P u l) p })
     by ih true p None q e = ih e
     by ih false p o q e = ih e
@@ -36,7 +43,7 @@ wider x u us (inr h) = absurd h
 
 stand_found : (P : Program) (w : Value) (us : List Routine) (d : Stand) → stand_named P w us ≡ Some d → Found P w us d
 stand_found P w [] d e = cc
-stand_found P w (u ∷ us) d e = by (stand_found P w us d) (label_named P w u (labels u.body)) refl e
+stand_found P w (u ∷ us) d e = by (stand_found P w us d) (label_named P w u (label_words u.body)) refl e
   where
     front : Found P w (u ∷ []) d → Found P w (u ∷ us) d
     front f = record { routine = wider d.routine u us f.routine; begins = f.begins; named = f.named }
@@ -44,8 +51,8 @@ stand_found P w (u ∷ us) d e = by (stand_found P w us d) (label_named P w u (l
     behind : Found P w us d → Found P w (u ∷ us) d
     behind f = record { routine = inr f.routine; begins = f.begins; named = f.named }
 
-    by : (stand_named P w us ≡ Some d → Found P w us d) → (o : Option Stand) → label_named P w u (labels u.body) ≡ o → or_else o (stand_named P w us) ≡ Some d → Found P w (u ∷ us) d
-    by ih (Some c) p e = front (label_found P w u (labels u.body) d (p ∙ e))
+    by : (stand_named P w us ≡ Some d → Found P w us d) → (o : Option Stand) → label_named P w u (label_words u.body) ≡ o → option_or o (stand_named P w us) ≡ Some d → Found P w (u ∷ us) d
+    by ih (Some c) p e = front (label_found P w u (label_words u.body) d (p ∙ e))
     by ih None p e = behind (ih e)
 
 -- what is found is where the process stands
@@ -73,7 +80,7 @@ first_of_all P s (v ∷ vs) k e = by (first_of_all P s vs k) (trouble_at P s v (
     more : ((w : Actor) × OneOf w vs × Troubled P s w k) → (w : Actor) × OneOf w (v ∷ vs) × Troubled P s w k
     more q = (q.0, inr q.1, q.2)
 
-    by : (trouble_of_all P s vs ≡ Some k → (w : Actor) × OneOf w vs × Troubled P s w k) → (o : Option Trouble) → trouble_at P s v (pc_of v s) ≡ o → or_else o (trouble_of_all P s vs) ≡ Some k → (w : Actor) × OneOf w (v ∷ vs) × Troubled P s w k
+    by : (trouble_of_all P s vs ≡ Some k → (w : Actor) × OneOf w vs × Troubled P s w k) → (o : Option Trouble) → trouble_at P s v (pc_of v s) ≡ o → option_or o (trouble_of_all P s vs) ≡ Some k → (w : Actor) × OneOf w (v ∷ vs) × Troubled P s w k
     by ih (Some j) p e = (v, inl refl, trouble_is P s v k (p ∙ e))
     by ih None p e = more (ih e)
 
@@ -95,7 +102,7 @@ pub one_right : {X : Type 0} (x : X) (xs ys : List X) → OneOf x ys → OneOf x
 one_right x [] ys h = h
 one_right x (z ∷ xs) ys h = inr (one_right x xs ys h)
 
-either_some : {X : Type 0} (o p : Option X) (x : X) → or_else o p ≡ Some x → (o ≡ Some x) ⊎ (p ≡ Some x)
+pub either_some : {X : Type 0} (o p : Option X) (x : X) → option_or o p ≡ Some x → (o ≡ Some x) ⊎ (p ≡ Some x)
 either_some (Some y) p x e = inl e
 either_some None p x e = inr e
 
@@ -133,13 +140,16 @@ mutual
       by (inl p) f g = one_left l (labels t) (labels_of bs) (f p)
       by (inr p) f g = one_right l (labels t) (labels_of bs) (g p)
 
+pub label_listed : (u : Routine) (l : Word) (b : Begin) → at_label u l ≡ Some b → OneOf l (label_words u.body)
+label_listed u l b e = subst (OneOf l) (sym (same_labels u.body)) (listed l unlabelled u.body u.exit b e)
+
 abbrev pub IsSomething : {X : Type 0} → Option X → Type 0
 IsSomething {X = X} o = (x : X) × (o ≡ Some x)
 
-front_some : {X : Type 0} (o p : Option X) → IsSomething o → IsSomething (or_else o p)
-front_some o p h = (h.0, ap (λ z. or_else z p) h.1)
+front_some : {X : Type 0} (o p : Option X) → IsSomething o → IsSomething (option_or o p)
+front_some o p h = (h.0, ap (λ z. option_or z p) h.1)
 
-behind_some : {X : Type 0} (o p : Option X) → IsSomething p → IsSomething (or_else o p)
+behind_some : {X : Type 0} (o p : Option X) → IsSomething p → IsSomething (option_or o p)
 behind_some (Some x) p h = (x, refl)
 behind_some None p h = h
 
@@ -152,7 +162,7 @@ label_is_found P u l b e (m ∷ ls) (inr h) = behind_some _ _ (label_is_found P 
 stand_is_found : (P : Program) (d : Stand) → at_label d.routine d.label ≡ Some d.begins → (us : List Routine) → OneOf d.routine us → IsSomething (stand_named P (label_value P d.routine d.label) us)
 stand_is_found P d e [] h = absurd h
 stand_is_found P d e (u ∷ us) (inl p) =
-    front_some _ _ (subst (λ z. IsSomething (label_named P (label_value P d.routine d.label) z (labels z.body))) p (label_is_found P d.routine d.label d.begins e (labels d.routine.body) (listed d.label unlabelled d.routine.body d.routine.exit d.begins e)))
+    front_some _ _ (subst (λ z. IsSomething (label_named P (label_value P d.routine d.label) z (label_words z.body))) p (label_is_found P d.routine d.label d.begins e (label_words d.routine.body) (label_listed d.routine d.label d.begins e)))
 stand_is_found P d e (u ∷ us) (inr h) = behind_some _ _ (stand_is_found P d e us h)
 
 has_first : (c : Course) (k : Trouble) → Has c (Err k) → IsSomething (first_trouble c)

@@ -1,22 +1,16 @@
 -- Algorithms as trees, the same for both syntaxes ("A PlusCal User's Manual", section 3 and its grammars).
 use Rattle.std.specs.Prelude.{ℕ, suc, ◌+◌, List, [], ◌∷◌, ◌++◌, Bool, true, false, length, bytes_eq, cond, codes}
+use Rattle.std.specs.List.{AllByRecursion}
 use Rattle.tla_token.specs.declared.place.Place.{Place}
 use Rattle.tla_expr.specs.Tree.{Word, Tree, Trees}
+pub use Rattle.tla_expr.specs.Tree.{Name}
+pub use Rattle.tla_token.specs.Places.{nowhere}
 use Rattle.pcal_tree.specs.declared.mark.Mark.{Mark}
 use Rattle.pcal_tree.specs.declared.mark.Fairness.{Fairness}
 
--- the place of what stands nowhere
-abbrev pub nowhere : Place
-nowhere = record { line = 0; col = 0 }
-
 -- ---- statements
 
--- a word where it stands, as a name that is declared or a label
-pub record Name : Type 0 where
-  pub word : Word
-  pub place : Place
-
--- the first token of a statement behind its labels, which is the statement's place, and its last token
+-- the first token of a statement after its labels, which is the statement's place, and its last token
 pub record Span : Type 0 where
   pub first : Place
   pub last : Place

@@ -2,15 +2,17 @@
 use Rattle.std.specs.Prelude.{List, [], ◌∷◌, ◌++◌, cond, bytes_eq, codes, Option, Some, None, ◌||◌, reverse, Ok, Err}
 use Rattle.tla_token.specs.declared.place.Place.{Place}
 use Rattle.tla_expr.specs.Tree.{Word}
-use Rattle.tla_value.specs.declared.fault.FaultKind.TheVariants.{NotFunction, NotSequence, EmptySequence}
-use Rattle.tla_value.specs.Value.{Value, text, model}
-use Rattle.tla_value.specs.Order.{seq_from, sequence_of, record_from}
+use Rattle.tla_value.specs.declared.fault.FaultKind.TheVariants.{NotFunction, EmptySequence}
+use Rattle.tla_value.specs.Value.{Value, text, model, fault, Outcome, ◌>>=◌, in_order}
+use Rattle.tla_value.specs.Order.{seq_from, record_from}
+use Rattle.tla_value.specs.Stops.{sequence_at}
 use Rattle.tla_value.specs.Strict.{applied}
 use Rattle.pcal_tree.specs.Algorithm.{Start, unset, equals, among, Declaration, Routine, locals, procedure_routines}
-use Rattle.pcal_tree.specs.Scope.{State, fault, Outcome, ◌>>=◌, place_of, value_of}
-use Rattle.pcal_tree.specs.Assign.{Setting, set_all}
+use Rattle.pcal_tree.specs.Scope.{State, root_place, value_of}
+use Rattle.pcal_tree.specs.Assign.{Setting, set_one, set_all}
 use Rattle.pcal_tree.specs.Run.{Course, ends, stops, held, Rules, with_macros, label_of}
-use Rattle.pcal_tree.specs.Program.{Program, Actor, index, local_index, written, read_at, routine_scope, pc, stack, written_all}
+use Rattle.pcal_tree.specs.Program.{Program, Actor, index, local_index, written, read_at, routine_scope}
+use Rattle.pcal_tree.specs.Variables.{pc, stack, written_all}
 
 -- ---- labels
 
@@ -30,17 +32,16 @@ setting at x path v = record { place = at; part = record { variable = x; path = 
 
 -- a fault stands at the process's name
 abbrev pub jumped : Program → Actor → Routine → Word → State → Outcome State
-jumped P v u l s = set_all P.check (setting v.own.name.place pc (index v.self) (label_value P u l) ∷ []) s
+jumped P v u l = set_one P.check (setting v.own.name.place pc (index v.self) (label_value P u l))
 
 -- ---- calls
 
--- what stands for no initial value
-abbrev pub default : Value
-default = model (codes "defaultInitValue")
+-- what a variable has that is declared without an initial value
+abbrev pub defaultInitValue : Value
+defaultInitValue = model (codes "defaultInitValue")
 
-abbrev pub all_read : Place → List Value → List Word → State → (List Value → Outcome State) → Outcome State
-all_read at path [] s go = go []
-all_read at path (x ∷ xs) s go = (read_at at path (s x)) >>= (λ v. all_read at path xs s (λ vs. go (v ∷ vs)))
+abbrev pub all_read : Place → List Value → List Word → State → Outcome (List Value)
+all_read at path xs s = in_order (λ x. read_at at path (s x)) xs
 
 -- the fields of a record on the stack: the procedure, the label to return to, and its parameters and variables
 abbrev pub frame_fields : Program → Routine → List Word
@@ -49,51 +50,52 @@ frame_fields P p = codes "procedure" ∷ codes "pc" ∷ written_all P p (locals 
 abbrev pub frame : Program → Routine → Value → List Value → Value
 frame P p back olds = record_from (frame_fields P p) (text (P.naming.title p.number) ∷ back ∷ olds)
 
-abbrev pub frames_at : Place → Option (List Value) → (List Value → Outcome State) → Outcome State
-frames_at at None go = Err (fault NotSequence at)
-frames_at at (Some frames) go = go frames
-
 -- the records on a process's stack
-abbrev pub on_stack : Actor → Place → State → (List Value → Outcome State) → Outcome State
-on_stack v at s go = (read_at at (index v.self) (s stack)) >>= (λ st. frames_at at (sequence_of st) go)
+abbrev pub on_stack : Actor → Place → State → Outcome (List Value)
+on_stack v at s = do
+  st ← read_at at (index v.self) (s stack)
+  sequence_at at st
 
 -- parameters with the values and places of the arguments
 abbrev pub argument_settings : List Value → List Word → List Place → List Value → List Setting
 argument_settings path (x ∷ xs) (at ∷ ats) (v ∷ vs) = setting at x path v ∷ argument_settings path xs ats vs
 argument_settings path _ _ _ = []
 
--- a variable's initial value, and its place
-abbrev pub initial_value : Program → Actor → Routine → Place → Start → State → (Place → Value → Outcome State) → Outcome State
-initial_value P v p at unset s go = go at default
-initial_value P v p at (equals e) s go =
-    (value_of P.check e (routine_scope P v p) s) >>= (go (place_of e (routine_scope P v p)))
-initial_value P v p at (among e) s go = Err (fault NotFunction at)  -- a procedure's variable has no set
+-- a variable's initial value
+abbrev pub initial_value : Program → Actor → Routine → Place → Start → State → Outcome Value
+initial_value P v p at unset s = Ok defaultInitValue
+initial_value P v p at (equals e) s = value_of P.check e (routine_scope P v p) s
+initial_value P v p at (among e) s = Err (fault NotFunction at)  -- a procedure's variable has no set
+
+-- where it is set: at its expression, or at the call
+abbrev pub initial_place : Place → Start → Place
+initial_place at (equals e) = root_place e
+initial_place at _ = at
 
 -- variables get their initial values, each reading what was set before
-abbrev pub variables_started : Program → Actor → Routine → Place → List Declaration → State → (State → Outcome State) → Outcome State
-variables_started P v p at [] s go = go s
-variables_started P v p at (d ∷ ds) s go =
-    initial_value P v p at d.start s (λ place w.
-    (set_all P.check (setting place (written P p d.name.word) (local_index v p) w ∷ []) s) >>= (λ u. variables_started P v p at ds u go))
+abbrev pub variables_started : Program → Actor → Routine → Place → List Declaration → State → Outcome State
+variables_started P v p at [] s = Ok s
+variables_started P v p at (d ∷ ds) s = do
+  w ← initial_value P v p at d.start s
+  u ← set_one P.check (setting (initial_place at d.start) (written P p d.name.word) (local_index v p) w) s
+  variables_started P v p at ds u
 
 -- a call of procedure p whose return goes to `back`: the old values of p's parameters and variables go on the stack, parameters get the
 -- arguments, then variables their initial values, and pc becomes p's first label
 abbrev pub entered : Program → Actor → Place → Value → Routine → List Place → List Value → State → Outcome State
-entered P v at back p places vs s =
-    all_read at (local_index v p) (written_all P p (locals p)) s (λ olds.
-    (P.check at (frame P p back olds)) >>= (λ front.
-    on_stack v at s (λ frames.
-    (P.check at (seq_from (front ∷ frames))) >>= (λ new.
-    (set_all P.check
-    (setting at stack (index v.self) new ∷ argument_settings (local_index v p) (written_all P p p.params) places vs) s) >>= (λ u.
-    variables_started P v p at p.variables u (λ w.
-    set_all P.check (setting at pc (index v.self) (label_value P p (first_label p)) ∷ []) w))))))
+entered P v at back p places vs s = do
+  olds ← all_read at (local_index v p) (written_all P p (locals p)) s
+  front ← P.check at (frame P p back olds)
+  frames ← on_stack v at s
+  new ← P.check at (seq_from (front ∷ frames))
+  t ← set_all P.check (setting at stack (index v.self) new ∷ argument_settings (local_index v p) (written_all P p p.params) places vs) s
+  u ← variables_started P v p at p.variables t
+  set_one P.check (setting at pc (index v.self) (label_value P p (first_label p))) u
 
 -- ---- returns
 
-abbrev pub fields_read : Place → List Word → Value → (List Value → Outcome State) → Outcome State
-fields_read at [] f go = go []
-fields_read at (x ∷ xs) f go = (applied at f (text x)) >>= (λ v. fields_read at xs f (λ vs. go (v ∷ vs)))
+abbrev pub fields_read : Place → List Word → Value → Outcome (List Value)
+fields_read at xs f = in_order (λ x. applied at f (text x)) xs
 
 abbrev pub part_settings : Place → List Value → List Word → List Value → List Setting
 part_settings at path (x ∷ xs) (v ∷ vs) = setting at x path v ∷ part_settings at path xs vs
@@ -102,17 +104,18 @@ part_settings at path _ _ = []
 -- pc and the procedure's parameters and variables as the first record on the stack has them
 abbrev pub restored : Program → Actor → Place → Routine → List Value → State → Outcome State
 restored P v at p [] s = Err (fault EmptySequence at)
-restored P v at p (front ∷ frames) s =
-    fields_read at (codes "pc" ∷ []) front (λ label.
-    fields_read at (written_all P p (locals p)) front (λ vs.
-    set_all P.check
-    (part_settings at (index v.self) (pc ∷ []) label
-    ++ part_settings at (local_index v p) (written_all P p (locals p)) vs
-    ++ (setting at stack (index v.self) (seq_from frames) ∷ [])) s))
+restored P v at p (front ∷ frames) s = do
+  label ← applied at front (text pc)
+  vs ← fields_read at (written_all P p (locals p)) front
+  set_all P.check
+      (setting at pc (index v.self) label
+      ∷ (part_settings at (local_index v p) (written_all P p (locals p)) vs ++ (setting at stack (index v.self) (seq_from frames) ∷ []))) s
 
 -- a return in procedure p: the first record is taken off the stack
 abbrev pub returned : Program → Actor → Place → Routine → State → Outcome State
-returned P v at p s = on_stack v at s (λ frames. restored P v at p frames s)
+returned P v at p s = do
+  frames ← on_stack v at s
+  restored P v at p frames s
 
 -- ---- the rules of a step
 
@@ -128,12 +131,15 @@ abbrev pub named : Word → List Routine → Option Routine
 named x [] = None
 named x (u ∷ us) = cond (bytes_eq u.name.word x) (Some u) (named x us)
 
--- of process v in routine u
-abbrev pub rules_of : Program → Actor → Routine → Rules
-rules_of P v u = with_macros (record {
+-- of process v in routine u, where there are no macros
+abbrev pub rules_without_macros : Program → Actor → Routine → Rules
+rules_without_macros P v u = record {
   check = P.check;
   goto = λ l s. finished (jumped P v u l s);
   call = λ at p places vs back s. entered_at P v at (label_value P u back) (named p (procedure_routines P.algorithm)) places vs s;
   return = λ at s. finished (returned P v at u s);
   macros = λ here at m ts sc K s. held at;
-}) (reverse P.algorithm.macros)
+}
+
+abbrev pub rules_of : Program → Actor → Routine → Rules
+rules_of P v u = with_macros (rules_without_macros P v u) (reverse P.algorithm.macros)

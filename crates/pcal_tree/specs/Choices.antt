@@ -1,8 +1,10 @@
 -- Courses by choices: the one that a list of choices picks, and the first that meets trouble.
-use Rattle.std.specs.Prelude.{ℕ, zero, suc, List, [], ◌∷◌, Option, Some, None, Ok, Err}
+use Rattle.std.specs.Prelude.{ℕ, zero, suc, List, [], ◌∷◌, Option, Some, None}
+use Rattle.std.specs.Option.{option_or}
 use Rattle.tla_token.specs.declared.place.Place.{Place}
-use Rattle.pcal_tree.specs.Scope.{State, Trouble, Outcome}
+use Rattle.pcal_tree.specs.Scope.{State}
 use Rattle.pcal_tree.specs.Run.{Course, ends, stops, chooses, Courses, no_courses, course}
+use Rattle.tla_value.specs.Value.{Trouble}
 
 -- what comes of a list of choices, each the number, from 1, of a branch or of a member of the set
 pub data Walk : Type 0 where
@@ -32,10 +34,6 @@ abbrev mutual
   walk_into otherwise (course c cs) (suc (suc n)) ns = walk_into otherwise cs (suc n) ns
   walk_into otherwise _ _ ns = otherwise
 
-abbrev pub or_else : {X : Type 0} → Option X → Option X → Option X
-or_else (Some x) o = Some x
-or_else None o = o
-
 -- the trouble of the least list of choices, item by item, that meets one
 abbrev mutual
   pub first_trouble : Course → Option Trouble
@@ -45,16 +43,4 @@ abbrev mutual
 
   pub first_trouble_of : Courses → Option Trouble
   first_trouble_of no_courses = None
-  first_trouble_of (course c cs) = or_else (first_trouble c) (first_trouble_of cs)
-
--- the outcome that a walk tells, if any
-abbrev pub told : Walk → Option (Outcome State)
-told (went t ns) = Some (Ok t)
-told (failed k) = Some (Err k)
-told (blocked at) = None
-told (wanting k at) = None
-
--- a walk to an outcome, by choices that are all used
-abbrev pub landing : Outcome State → Walk
-landing (Ok t) = went t []
-landing (Err k) = failed k
+  first_trouble_of (course c cs) = option_or (first_trouble c) (first_trouble_of cs)

@@ -15,9 +15,9 @@ placed_at at (node m p ts) = node m at ts
 abbrev pub graft_left : Graft → Tree → Tree
 graft_left g (node m at ts) = placed_at at (graft g (node m at ts))
 
-abbrev pub graft_moves : Graft → Assignments → Assignments
-graft_moves g no_assignments = no_assignments
-graft_moves g (assignment l e ms) = assignment (graft_left g l) (graft g e) (graft_moves g ms)
+abbrev pub graft_assignments : Graft → Assignments → Assignments
+graft_assignments g no_assignments = no_assignments
+graft_assignments g (assignment l e ms) = assignment (graft_left g l) (graft g e) (graft_assignments g ms)
 
 abbrev pub graft_binds : Graft → Binds → Binds
 graft_binds g no_binds = no_binds
@@ -26,7 +26,7 @@ graft_binds g (is x e bs) = is x (graft g e) (graft_binds g bs)
 
 abbrev mutual
   pub graft_one : Graft → Statement → Statement
-  graft_one g (assign ms) = assign (graft_moves g ms)
+  graft_one g (assign ms) = assign (graft_assignments g ms)
   graft_one g (await e) = await (graft g e)
   graft_one g (print e) = print (graft g e)
   graft_one g (assert e) = assert (graft g e)

@@ -1,5 +1,6 @@
 -- Algorithms as the two syntaxes spell them ("A PlusCal User's Manual", section 3 and appendix A of both versions).
 use Rattle.std.specs.Prelude.{◌≡◌, List, [], ◌∷◌, Bool, true, false, Option, codes, map}
+use Rattle.std.specs.List.{AllByRecursion}
 use Rattle.tla_token.specs.declared.place.Place.{Place}
 use Rattle.tla_token.specs.Tokens as text
 use Rattle.tla_expr.specs.declared.op.Op.TheVariants as op
@@ -10,8 +11,8 @@ use Rattle.pcal_tree.specs.declared.mark.Fairness.{Fairness}
 use Rattle.pcal_tree.specs.declared.mark.Fairness.TheVariants as fairness
 use Rattle.pcal_tree.specs.Algorithm.{Name, Algorithm}
 use Rattle.pcal_tree.specs.Algorithm as tree
-use Rattle.pcal_tree.specs.GrammarView.{views}
-use Rattle.pcal_tree.specs.GrammarParts.{Tokens, All, word, key, mark, sign, name, expression, maybe_semicolon, Section, section_tokens, declared, GoodSection, MacroParameters, macro_parameters, macro_names, ProcedureParameters, procedure_parameters, procedure_declarations, GoodProcedureParameters, Definitions, definitions, definitions_of, GoodDefinitions, bind_sign}
+use Rattle.pcal_tree.specs.AlgorithmTokens.{views}
+use Rattle.pcal_tree.specs.GrammarParts.{Tokens, word, key, mark, sign, name, expression, maybe_semicolon, Section, section_tokens, declared, GoodSection, MacroParameters, macro_parameters, macro_names, ProcedureParameters, procedure_parameters, procedure_declarations, GoodProcedureParameters, Definitions, definitions, definitions_of, GoodDefinitions, bind_sign}
 use Rattle.pcal_tree.specs.GrammarP as p
 use Rattle.pcal_tree.specs.GrammarC as c
 
@@ -21,12 +22,12 @@ pub data Syntax : Type 0 where
 
 -- ---- bodies
 
--- of a macro, a procedure or a process; the place behind it is that of a last `;`
+-- of a macro, a procedure or a process; the place after it is that of a last `;`
 pub data Body : Type 0 where
   begin_end : Place → p.Sequence → Place → Place → Option Place → Body  -- begin .. end macro;
   braces : Place → c.Sequence → Place → Option Place → Body  -- { .. };
 
--- the word stands behind `end`
+-- the word is after `end`
 abbrev pub body : Word → Body → Tokens
 body w (begin_end a ss b d s) ts = key a (codes "begin") (p.sequence ss (key b (codes "end") (key d w (maybe_semicolon s ts))))
 body w (braces a ss b s) ts = mark a tk.open_brace (c.sequence ss (mark b tk.close_brace (maybe_semicolon s ts)))
@@ -197,10 +198,10 @@ main_tree (processes x xs) = tree.processes (process_tree x ∷ map process_tree
 abbrev pub GoodMain : Syntax → Main → Type 0
 GoodMain p_syntax (begin a ss) = p.GoodSequence ss
 GoodMain c_syntax (block a ss b s) = c.GoodSequence ss
-GoodMain s (processes x xs) = GoodProcess s x × All (GoodProcess s) xs
+GoodMain s (processes x xs) = GoodProcess s x × AllByRecursion (GoodProcess s) xs
 GoodMain _ _ = ⊥
 
--- what stands round all behind the name
+-- what is around all after the name
 pub data Around : Type 0 where
   to_end : Place → Place → Around  -- .. end algorithm
   in_braces : Place → Place → Around  -- { .. }
@@ -244,8 +245,8 @@ Good s x =
     GoodAround s x.around
     × GoodSection true x.variables
     × GoodDefine s x.define
-    × All (GoodMacro s) x.macros
-    × All (GoodProcedure s) x.procedures
+    × AllByRecursion (GoodMacro s) x.macros
+    × AllByRecursion (GoodProcedure s) x.procedures
     × GoodMain s x.main
 
 -- the tokens, in their columns, spell the algorithm

@@ -3,7 +3,7 @@ use Rattle.std.specs.Prelude.{[], Option, codes}
 use Rattle.tla_token.specs.declared.place.Place.{Place}
 use Rattle.tla_expr.specs.Spelling.{Phrase, IsGood, tree_of}
 use Rattle.pcal_tree.specs.Algorithm as tree
-use Rattle.pcal_tree.specs.GrammarParts.{Tokens, key, expression, semicolon, maybe_semicolon, span, Labels, labels, labelled, Binds, binds, binds_of, GoodBinds, Simple, simple_tokens, simple_tree, GoodSimple}
+use Rattle.pcal_tree.specs.GrammarParts.{Tokens, key, expression, semicolon, maybe_semicolon, span, Labels, labels, with_labels, Binds, binds, binds_of, GoodBinds, Simple, simple_tokens, simple_tree, GoodSimple}
 
 -- the places are those of the words, in their order
 mutual
@@ -12,7 +12,7 @@ mutual
     branch : Place → Phrase → Place → Sequence → Else → Place → Place → Statement  -- if e then .. end if
     either : Place → Sequence → Branches → Place → Place → Statement  -- either .. or .. end either
     with : Place → Binds → Place → Sequence → Place → Place → Statement  -- with x \in e do .. end with
-    loop : Place → Phrase → Place → Sequence → Place → Place → Statement  -- while e do .. end while
+    while : Place → Phrase → Place → Sequence → Place → Place → Statement  -- while e do .. end while
 
   pub data Else : Type 0 where
     no_else : Else
@@ -34,7 +34,7 @@ abbrev mutual
   statement (branch p e q a b r s) ts = key p (codes "if") (expression e (key q (codes "then") (sequence a (else_tokens b (key r (codes "end") (key s (codes "if") ts))))))
   statement (either p a bs r s) ts = key p (codes "either") (sequence a (branches bs (key r (codes "end") (key s (codes "either") ts))))
   statement (with p bs q a r s) ts = key p (codes "with") (binds bs (key q (codes "do") (sequence a (key r (codes "end") (key s (codes "with") ts)))))
-  statement (loop p e q a r s) ts = key p (codes "while") (expression e (key q (codes "do") (sequence a (key r (codes "end") (key s (codes "while") ts)))))
+  statement (while p e q a r s) ts = key p (codes "while") (expression e (key q (codes "do") (sequence a (key r (codes "end") (key s (codes "while") ts)))))
 
   pub else_tokens : Else → Tokens
   else_tokens no_else ts = ts
@@ -57,7 +57,7 @@ abbrev mutual
   statement_tree (branch p e q a b r s) = tree.branch (tree_of e) (statements a) (else_statements s b)
   statement_tree (either p a bs r s) = tree.either (tree.or (statements a) (branch_trees bs))
   statement_tree (with p bs q a r s) = tree.with (binds_of bs) (statements a)
-  statement_tree (loop p e q a r s) = tree.while (tree_of e) (statements a)
+  statement_tree (while p e q a r s) = tree.while (tree_of e) (statements a)
 
   -- `elsif` is an `if` alone in the `else`, which ends where the whole does
   pub else_statements : Place → Else → tree.Statements
@@ -70,8 +70,8 @@ abbrev mutual
   branch_trees (more_branches p a bs) = tree.or (statements a) (branch_trees bs)
 
   pub statements : Sequence → tree.Statements
-  statements (last_statement ls st p) = labelled ls (tree.then (span (statement st [])) (statement_tree st) tree.done)
-  statements (more_statements ls st p ss) = labelled ls (tree.then (span (statement st [])) (statement_tree st) (statements ss))
+  statements (last_statement ls st p) = with_labels ls (tree.then (span (statement st [])) (statement_tree st) tree.done)
+  statements (more_statements ls st p ss) = with_labels ls (tree.then (span (statement st [])) (statement_tree st) (statements ss))
 
 -- ---- what may be spelled
 
@@ -81,7 +81,7 @@ abbrev mutual
   GoodStatement (branch p e q a b r s) = IsGood e × GoodSequence a × GoodElse b
   GoodStatement (either p a bs r s) = GoodSequence a × GoodBranches bs
   GoodStatement (with p bs q a r s) = GoodBinds bs × GoodSequence a
-  GoodStatement (loop p e q a r s) = IsGood e × GoodSequence a
+  GoodStatement (while p e q a r s) = IsGood e × GoodSequence a
 
   pub GoodElse : Else → Type 0
   GoodElse no_else = Unit {0}

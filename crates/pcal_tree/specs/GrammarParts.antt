@@ -4,15 +4,13 @@ use Rattle.tla_token.specs.declared.place.Place.{Place}
 use Rattle.tla_expr.specs.declared.op.Op.{Op}
 use Rattle.tla_expr.specs.declared.op.Op.TheVariants as op
 use Rattle.tla_expr.specs.Tree.{Word, Trees, no_trees}
-use Rattle.tla_expr.specs.Lexical.{ExprToken, Mark, sign_of}
+use Rattle.tla_expr.specs.Lexical.{ExprToken, Token, Mark, sign_of}
 use Rattle.tla_expr.specs.Lexical as tk
 use Rattle.tla_expr.specs.Spelling.{Phrase, Phrases, IsGood, GoodAll, tree_of, trees_of}
 use Rattle.tla_expr.specs.Spelling as spelled
 use Rattle.pcal_tree.specs.declared.mark.Mark.TheVariants as fair
 use Rattle.pcal_tree.specs.Algorithm.{Name, Span, Start, Declaration, Definition, Statement, Statements, nowhere}
 use Rattle.pcal_tree.specs.Algorithm as tree
-use Rattle.pcal_tree.specs.GrammarView.{Kind, Token, seen, assigns, beside}
-use Rattle.pcal_tree.specs.GrammarView as view
 
 -- ---- tokens
 
@@ -20,34 +18,30 @@ use Rattle.pcal_tree.specs.GrammarView as view
 abbrev pub Tokens : Type 0
 Tokens = List Token → List Token
 
-abbrev pub token : Place → Kind → Tokens
-token p k ts = record { kind = k; place = p } ∷ ts
+abbrev pub token : Place → ExprToken → Tokens
+token p k ts = tk.token p k ∷ ts
 
 abbrev pub mark : Place → Mark → Tokens
-mark p m ts = token p (seen (tk.mark m)) ts
+mark p m ts = token p (tk.mark m) ts
 
 abbrev pub sign : Place → Op → Tokens
-sign p o ts = token p (seen (sign_of o)) ts
+sign p o ts = token p (sign_of o) ts
 
 abbrev pub word : Place → Word → Tokens
-word p x ts = token p (seen (tk.word x)) ts
+word p x ts = token p (tk.word x) ts
 
 -- a reserved word of PlusCal
 abbrev pub key : Place → Word → Tokens
-key p x ts = token p (seen (tk.reserved x)) ts
+key p x ts = token p (tk.reserved x) ts
 
 abbrev pub name : Name → Tokens
 name x ts = word x.place x.word ts
 
-abbrev pub lifted : List tk.Token → Tokens
-lifted [] ts = ts
-lifted (t ∷ us) ts = token t.place (seen t.kind) (lifted us ts)
-
 abbrev pub expression : Phrase → Tokens
-expression a ts = lifted (spelled.spell a []) ts
+expression a ts = spelled.spell a ts
 
 abbrev pub semicolon : Place → Tokens
-semicolon p ts = token p view.semicolon ts
+semicolon p ts = mark p tk.semicolon ts
 
 abbrev pub maybe_semicolon : Option Place → Tokens
 maybe_semicolon None ts = ts
@@ -65,11 +59,6 @@ last_place (t ∷ u ∷ ts) = last_place (u ∷ ts)
 
 abbrev pub span : List Token → Span
 span ts = record { first = first_place ts; last = last_place ts }
-
--- each member is so
-abbrev pub All : {A : Type 0} → (A → Type 0) → List A → Type 0
-All P [] = Unit {0}
-All P (x ∷ xs) = P x × All P xs
 
 -- ---- declarations
 
@@ -242,7 +231,7 @@ GoodDefinitions (more_definitions h p e ds) = IsGood e × GoodDefinitions ds
 
 -- ---- labels
 
--- what stands behind the name
+-- what is after the name
 pub data Colon : Type 0 where
   colon : Place → Colon  -- :
   colon_plus : Place → Place → Colon  -- :+
@@ -262,11 +251,11 @@ labels no_labels ts = ts
 labels (label x c ls) ts = name x (colon_tokens c (labels ls ts))
 
 -- the statements with the labels before them
-abbrev pub labelled : Labels → Statements → Statements
-labelled no_labels ss = ss
-labelled (label x (colon p) ls) ss = tree.mark x fair.Plain (labelled ls ss)
-labelled (label x (colon_plus p q) ls) ss = tree.mark x fair.Strong (labelled ls ss)
-labelled (label x (colon_minus p q) ls) ss = tree.mark x fair.LeftOut (labelled ls ss)
+abbrev pub with_labels : Labels → Statements → Statements
+with_labels no_labels ss = ss
+with_labels (label x (colon p) ls) ss = tree.mark x fair.Plain (with_labels ls ss)
+with_labels (label x (colon_plus p q) ls) ss = tree.mark x fair.Strong (with_labels ls ss)
+with_labels (label x (colon_minus p q) ls) ss = tree.mark x fair.LeftOut (with_labels ls ss)
 
 -- ---- what a `with` names: x \in e, y = e; a last separator is allowed
 pub data Binds : Type 0 where
@@ -302,7 +291,7 @@ pub data Arguments : Type 0 where
 
 abbrev pub arguments : Arguments → Tokens
 arguments (no_arguments p q) ts = mark p tk.open_bracket (mark q tk.close_bracket ts)
-arguments (some_arguments p xs q) ts = mark p tk.open_bracket (lifted (spelled.spell_all xs []) (mark q tk.close_bracket ts))
+arguments (some_arguments p xs q) ts = mark p tk.open_bracket (spelled.spell_all xs (mark q tk.close_bracket ts))
 
 abbrev pub arguments_of : Arguments → Trees
 arguments_of (no_arguments p q) = no_trees
@@ -324,17 +313,17 @@ pub data Assignments : Type 0 where
   last_assignment : Phrase → Place → Phrase → Assignments
   assignment : Phrase → Place → Phrase → Place → Assignments → Assignments
 
-abbrev pub moves : Assignments → Tokens
-moves (last_assignment l p e) ts = expression l (token p assigns (expression e ts))
-moves (assignment l p e q ms) ts = expression l (token p assigns (expression e (token q beside (moves ms ts))))
+abbrev pub assignments : Assignments → Tokens
+assignments (last_assignment l p e) ts = expression l (mark p tk.assigns (expression e ts))
+assignments (assignment l p e q ms) ts = expression l (mark p tk.assigns (expression e (mark q tk.beside (assignments ms ts))))
 
-abbrev pub moves_of : Assignments → tree.Assignments
-moves_of (last_assignment l p e) = tree.assignment (tree_of l) (tree_of e) tree.no_assignments
-moves_of (assignment l p e q ms) = tree.assignment (tree_of l) (tree_of e) (moves_of ms)
+abbrev pub assignments_of : Assignments → tree.Assignments
+assignments_of (last_assignment l p e) = tree.assignment (tree_of l) (tree_of e) tree.no_assignments
+assignments_of (assignment l p e q ms) = tree.assignment (tree_of l) (tree_of e) (assignments_of ms)
 
-abbrev pub GoodMoves : Assignments → Type 0
-GoodMoves (last_assignment l p e) = IsTrue (is_left_side l) × IsGood l × IsGood e
-GoodMoves (assignment l p e q ms) = IsTrue (is_left_side l) × IsGood l × IsGood e × GoodMoves ms
+abbrev pub GoodAssignments : Assignments → Type 0
+GoodAssignments (last_assignment l p e) = IsTrue (is_left_side l) × IsGood l × IsGood e
+GoodAssignments (assignment l p e q ms) = IsTrue (is_left_side l) × IsGood l × IsGood e × GoodAssignments ms
 
 pub data Simple : Type 0 where
   assign : Assignments → Simple
@@ -349,7 +338,7 @@ pub data Simple : Type 0 where
   macro : Name → Arguments → Simple  -- N(a, b)
 
 abbrev pub simple_tokens : Simple → Tokens
-simple_tokens (assign ms) ts = moves ms ts
+simple_tokens (assign ms) ts = assignments ms ts
 simple_tokens (await p e) ts = key p (codes "await") (expression e ts)
 simple_tokens (when p e) ts = key p (codes "when") (expression e ts)
 simple_tokens (print p e) ts = key p (codes "print") (expression e ts)
@@ -361,7 +350,7 @@ simple_tokens (return p) ts = key p (codes "return") ts
 simple_tokens (macro x xs) ts = name x (arguments xs ts)
 
 abbrev pub simple_tree : Simple → Statement
-simple_tree (assign ms) = tree.assign (moves_of ms)
+simple_tree (assign ms) = tree.assign (assignments_of ms)
 simple_tree (await p e) = tree.await (tree_of e)
 simple_tree (when p e) = tree.await (tree_of e)
 simple_tree (print p e) = tree.print (tree_of e)
@@ -373,7 +362,7 @@ simple_tree (return p) = tree.return
 simple_tree (macro x xs) = tree.macro x.word (arguments_of xs)
 
 abbrev pub GoodSimple : Simple → Type 0
-GoodSimple (assign ms) = GoodMoves ms
+GoodSimple (assign ms) = GoodAssignments ms
 GoodSimple (await p e) = IsGood e
 GoodSimple (when p e) = IsGood e
 GoodSimple (print p e) = IsGood e

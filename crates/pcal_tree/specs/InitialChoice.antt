@@ -1,38 +1,40 @@
 -- The making of an initial state, where a member is chosen for each variable that is declared by a set ("A PlusCal User's Manual", section 3.3, processes).
-use Rattle.std.specs.Prelude.{List, [], ◌∷◌, Bool, true, false, Ok}
+use Rattle.std.specs.Prelude.{List, [], ◌∷◌, Bool, true, false, map, Ok}
 use Rattle.tla_token.specs.declared.place.Place.{Place}
 use Rattle.tla_expr.specs.Tree.{Word}
-use Rattle.tla_value.specs.Value.{Value, truth, fun, Values, no_values, and, values_in}
+use Rattle.tla_value.specs.Value.{Value, truth, Values, ◌>>=◌}
 use Rattle.pcal_tree.specs.Algorithm.{Start, unset, equals, among, Declaration, Main, alone, processes, Routine, locals, procedure_routines, main_routines}
-use Rattle.pcal_tree.specs.Scope.{State, put, ◌>>=◌, Scope, value_of, members_at}
+use Rattle.tla_value.specs.Stops.{members_at}
+use Rattle.pcal_tree.specs.Scope.{State, put, Scope, value_of}
 use Rattle.pcal_tree.specs.Run.{Course, ends, chooses, after, at_each}
-use Rattle.pcal_tree.specs.Program.{Program, Actor, written, routine_scope, global_scope, pc, stack}
-use Rattle.pcal_tree.specs.Calls.{default, first_label, label_value}
-use Rattle.pcal_tree.specs.Step.{actors, identifiers}
-use Rattle.pcal_tree.specs.InitialStates.{for_each, values_for, running, is_multiprocess, empty_stack}
+use Rattle.pcal_tree.specs.Program.{Program, Actor, written, routine_scope, global_scope}
+use Rattle.pcal_tree.specs.Calls.{defaultInitValue, first_label, label_value}
+use Rattle.pcal_tree.specs.InitialStates.{values_for, function_on, running, is_multiprocess, empty_stack}
+use Rattle.pcal_tree.specs.Variables.{pc, stack}
+use Rattle.pcal_tree.specs.Processes.{actors, identifiers}
 
 -- a plain variable; a choice stands at its name
 abbrev pub plain_begun : Program → Scope → Place → Start → State → (Value → Course) → Course
-plain_begun P sc at unset s go = go default
+plain_begun P sc at unset s go = go defaultInitValue
 plain_begun P sc at (equals e) s go = after (value_of P.check e sc s) go
 plain_begun P sc at (among e) s go = after ((value_of P.check e sc s) >>= (members_at at)) (λ ws. chooses at (at_each ws go))
 
 -- a member for each identifier in turn
-abbrev pub each_chosen : Place → Values → List Actor → (Values → Course) → Course
-each_chosen at ws [] go = go no_values
-each_chosen at ws (v ∷ vs) go = chooses at (at_each ws (λ w. each_chosen at ws vs (λ us. go (and w us))))
+abbrev pub each_chosen : Place → Values → List Actor → (List Value → Course) → Course
+each_chosen at ws [] go = go []
+each_chosen at ws (v ∷ vs) go = chooses at (at_each ws (λ w. each_chosen at ws vs (λ us. go (w ∷ us))))
 
 -- the values for all identifiers
-abbrev pub values_begun : Program → Routine → List Actor → Place → Start → State → (Values → Course) → Course
-values_begun P u vs at unset s go = go (for_each (λ v. default) vs)
-values_begun P u vs at (equals e) s go = after (values_for P u e s vs Ok) go
+abbrev pub values_begun : Program → Routine → List Actor → Place → Start → State → (List Value → Course) → Course
+values_begun P u vs at unset s go = go (map (λ v. defaultInitValue) vs)
+values_begun P u vs at (equals e) s go = after (values_for P u e s vs) go
 values_begun P u vs at (among e) s go =
     after ((value_of P.check e (global_scope P) s) >>= (members_at at)) (λ ws. each_chosen at ws vs go)
 
 -- the function of the identifiers is reached at the variable's name
 abbrev pub spread_begun : Program → Routine → List Actor → Place → Start → State → (Value → Course) → Course
 spread_begun P u vs at d s go =
-    values_begun P u vs at d s (λ ws. after ((P.check at (fun (values_in (identifiers vs)) ws)) >>= Ok) go)
+    values_begun P u vs at d s (λ ws. after (P.check at (function_on vs ws)) go)
 
 abbrev pub globals_begun : Program → List Declaration → State → (State → Course) → Course
 globals_begun P [] s go = go s
@@ -59,7 +61,7 @@ processes_begun P vs [] s go = go s
 processes_begun P vs (u ∷ us) s go = locals_begun P u u.spread (running u vs) (locals u) s (λ t. processes_begun P vs us t go)
 
 abbrev pub own_begun : Main → Word → List Actor → (Actor → Value) → State → State
-own_begun (processes ps) x vs f s = put x (fun (values_in (identifiers vs)) (for_each f vs)) s
+own_begun (processes ps) x vs f s = put x (function_on vs (map f vs)) s
 own_begun (alone ss) x [] f s = s
 own_begun (alone ss) x (v ∷ vs) f s = put x (f v) s
 

@@ -1,58 +1,63 @@
 -- Initial states: each variable in turn has a value that its declaration allows ("A PlusCal User's Manual", sections 3.3 and 3.4, processes, procedures).
-use Rattle.std.specs.Prelude.{◌≡◌, ◌==◌, List, [], ◌∷◌, Bool, true, false, cond, Ok, Err}
+use Rattle.std.specs.Prelude.{◌≡◌, ◌==◌, List, [], ◌∷◌, Bool, true, false, cond, map, Ok, Err}
 use Rattle.std.specs.Ordering.{is_eq}
 use Rattle.tla_token.specs.declared.place.Place.{Place}
 use Rattle.tla_expr.specs.Tree.{Tree}
 use Rattle.tla_value.specs.declared.fault.FaultKind.{FaultKind}
-pub use Rattle.tla_value.specs.Value.{and_then}
-use Rattle.tla_value.specs.Value.{Value, fun, Values, no_values, and, values_in}
+use Rattle.tla_value.specs.Value.{Value, fun, Values, no_values, and, values_in, Trouble, fault, Outcome, ◌>>=◌, in_order, and_then}
 use Rattle.tla_value.specs.Order.{same, orders, holds, seq_from}
 use Rattle.tla_value.specs.Meaning.{eval}
 use Rattle.pcal_tree.specs.Algorithm.{Start, unset, equals, among, Declaration, Main, alone, processes, Routine, locals, procedure_routines, main_routines}
-use Rattle.pcal_tree.specs.Scope.{State, Trouble, fault, Outcome, ◌>>=◌, Scope, value_of, truth_at, members_at}
-use Rattle.pcal_tree.specs.Program.{Program, Actor, written, routine_scope, global_scope, pc, stack}
-use Rattle.pcal_tree.specs.Calls.{default, first_label, label_value}
-use Rattle.pcal_tree.specs.Step.{actors, identifiers}
+use Rattle.tla_value.specs.Stops.{truth_at, members_at}
+use Rattle.pcal_tree.specs.Scope.{State, Scope, value_of}
+use Rattle.pcal_tree.specs.Program.{Program, Actor, written, routine_scope, global_scope}
+use Rattle.pcal_tree.specs.Calls.{defaultInitValue, first_label, label_value}
+use Rattle.pcal_tree.specs.Variables.{pc, stack}
+use Rattle.pcal_tree.specs.Processes.{actors, identifiers}
 
 -- ---- one value
 
 -- x = e or x \in S, tested as the formula is; at the variable's name where S is no set
 abbrev pub plain_allowed : Program → Scope → Place → Start → State → Value → Outcome Bool
-plain_allowed P sc at unset s v = Ok (same v default)
-plain_allowed P sc at (equals e) s v = (value_of P.check e sc s) >>= (λ w. Ok (same v w))
-plain_allowed P sc at (among e) s v = ((eval P.check e (sc.env s)).test at v) >>= (truth_at at)
+plain_allowed P sc at unset s v = Ok (same v defaultInitValue)
+plain_allowed P sc at (equals e) s v = do
+  w ← value_of P.check e sc s
+  Ok (same v w)
+plain_allowed P sc at (among e) s v = (eval P.check e (sc.env s)).test at v
 
 -- ---- a function of identifiers
-
--- just these identifiers with these values
-abbrev pub has_values : Values → Values → Value → Bool
-has_values ids ws (fun ds us) = cond (is_eq (orders ds ids)) (is_eq (orders us ws)) false
-has_values ids ws _ = false
 
 abbrev pub all_hold : Values → Values → Bool
 all_hold no_values ws = true
 all_hold (and v vs) ws = cond (holds v ws) (all_hold vs ws) false
 
--- just these identifiers, each with a member
+-- a function on just these identifiers, with a member for each
 abbrev pub has_members : Values → Values → Value → Bool
 has_members ids ws (fun ds us) = cond (is_eq (orders ds ids)) (all_hold us ws) false
 has_members ids ws _ = false
 
-abbrev pub for_each : (Actor → Value) → List Actor → Values
-for_each f [] = no_values
-for_each f (v ∷ vs) = and (f v) (for_each f vs)
-
 -- the values of an expression for all processes, before any is compared
-abbrev pub values_for : {X : Type 0} → Program → Routine → Tree → State → List Actor → (Values → Outcome X) → Outcome X
-values_for P u e s [] go = go no_values
-values_for P u e s (v ∷ vs) go = (value_of P.check e (routine_scope P v u) s) >>= (λ w. values_for P u e s vs (λ ws. go (and w ws)))
+abbrev pub values_for : Program → Routine → Tree → State → List Actor → Outcome (List Value)
+values_for P u e s vs = in_order (λ v. value_of P.check e (routine_scope P v u) s) vs
 
--- x = e for each process, or x \in S with S evaluated once
+-- the function on the identifiers of these processes with these values
+abbrev pub function_on : List Actor → List Value → Value
+function_on vs ws = fun (values_in (identifiers vs)) (values_in ws)
+
+-- x = e for each process, or x \in S with S evaluated once. The function that is compared is a value that is reached at the variable's name; one
+-- with members of S for its values is within limits where S and the set of all identifiers are.
 abbrev pub spread_allowed : Program → Routine → List Actor → Place → Start → State → Value → Outcome Bool
-spread_allowed P u vs at unset s f = Ok (has_values (values_in (identifiers vs)) (for_each (λ v. default) vs) f)
-spread_allowed P u vs at (equals e) s f = values_for P u e s vs (λ ws. Ok (has_values (values_in (identifiers vs)) ws f))
-spread_allowed P u vs at (among e) s f =
-    (value_of P.check e (global_scope P) s) >>= (λ w. (members_at at w) >>= (λ ws. Ok (has_members (values_in (identifiers vs)) ws f)))
+spread_allowed P u vs at unset s f = do
+  g ← P.check at (function_on vs (map (λ v. defaultInitValue) vs))
+  Ok (same f g)
+spread_allowed P u vs at (equals e) s f = do
+  ws ← values_for P u e s vs
+  g ← P.check at (function_on vs ws)
+  Ok (same f g)
+spread_allowed P u vs at (among e) s f = do
+  w ← value_of P.check e (global_scope P) s
+  ws ← members_at at w
+  Ok (has_members (values_in (identifiers vs)) ws f)
 
 -- ---- all variables
 
@@ -90,9 +95,10 @@ abbrev pub processes_allowed : Program → List Actor → List Routine → State
 processes_allowed P vs [] s = Ok true
 processes_allowed P vs (u ∷ us) s = and_then (locals_allowed P u u.spread (running u vs) (locals u) s) (processes_allowed P vs us s)
 
--- a variable of the translation itself, one value for each process
+-- a variable of the translation itself, one value for each process. Such functions of labels and empty stacks are within limits where the set of all
+-- identifiers is.
 abbrev pub own_allowed : Main → List Actor → (Actor → Value) → Value → Bool
-own_allowed (processes ps) vs f w = has_values (values_in (identifiers vs)) (for_each f vs) w
+own_allowed (processes ps) vs f w = same w (function_on vs (map f vs))
 own_allowed (alone ss) [] f w = true
 own_allowed (alone ss) (v ∷ vs) f w = same w (f v)
 
@@ -109,12 +115,12 @@ pc_allowed P vs s = own_allowed P.algorithm.main vs (λ v. label_value P v.own (
 -- true, false, or the trouble at or before the first variable whose value isn't allowed: globals, variables of procedures and of processes,
 -- and then every stack is empty, and every pc is at its process's first label
 abbrev pub allowed : Program → State → Outcome Bool
-allowed P s =
-    (actors P) >>= (λ vs.
-    and_then (globals_allowed P P.algorithm.globals s)
-    (and_then (procedures_allowed P vs (procedure_routines P.algorithm) s)
-    (and_then (processes_allowed P vs (main_routines P.algorithm P.algorithm.main) s)
-    (and_then (Ok (stack_allowed P (procedure_routines P.algorithm) vs s)) (Ok (pc_allowed P vs s))))))
+allowed P s = do
+  vs ← actors P
+  and_then (globals_allowed P P.algorithm.globals s)
+      (and_then (procedures_allowed P vs (procedure_routines P.algorithm) s)
+      (and_then (processes_allowed P vs (main_routines P.algorithm P.algorithm.main) s)
+      (and_then (Ok (stack_allowed P (procedure_routines P.algorithm) vs s)) (Ok (pc_allowed P vs s)))))
 
 abbrev pub Initial : Program → State → Type 0
 Initial P s = allowed P s ≡ Ok true

@@ -1,5 +1,6 @@
 -- Labels that the translator adds ("A PlusCal User's Manual", section 3.7, labels, and the option `-label`).
 use Rattle.std.specs.Prelude.{ℕ, zero, suc, length, List, [], ◌∷◌, ◌++◌, reverse, Bool, true, false, ◌&&◌, ◌||◌, not, cond, codes, Some, None}
+use Rattle.std.specs.List.{flat_map}
 use Rattle.std.specs.Fmt.{decimal}
 use Rattle.tla_token.specs.declared.place.Place.{Place}
 use Rattle.tla_token.specs.declared.rule.Rule.TheVariants.{FirstLabel}
@@ -8,8 +9,9 @@ use Rattle.tla_token.specs.Signs.{is_among}
 use Rattle.tla_expr.specs.Tree.{Word}
 use Rattle.pcal_tree.specs.declared.mark.Mark.TheVariants.{Plain}
 use Rattle.pcal_tree.specs.Algorithm.{Span, Statement, branch, either, with, while, Statements, done, then, mark, Branches, no_branches, or, Macro, Procedure, Process, Main, alone, processes, Algorithm}
-use Rattle.pcal_tree.specs.Offences.{each}
-use Rattle.pcal_tree.specs.OffencesLabels.{Effects, nothing, Before, at_label, at_first, inside, next, behind_one, step_offences_here, step_offences_inside, is_empty, label_words, procedure_effects, outer_effects}
+use Rattle.pcal_tree.specs.Paths.{Effects, nothing, after_one}
+use Rattle.pcal_tree.specs.OffencesSteps.{Before, at_label, at_first, inside, next, visits_inside, offences_at, call_effect, procedure_effects, outer_effects}
+use Rattle.pcal_tree.specs.OffencesLabels.{label_words}
 
 -- ---- names of added labels
 
@@ -34,8 +36,12 @@ number s = free_number (length s.typed) s.typed s.root s.from
 abbrev pub rest_of : Supply → Supply
 rest_of s = record { root = s.root; typed = s.typed; from = suc (number s) }
 
-abbrev pub after_one : Bool → Supply → Supply
-after_one b s = cond b (rest_of s) s
+abbrev pub names_after : Bool → Supply → Supply
+names_after b s = cond b (rest_of s) s
+
+abbrev pub is_empty : {X : Type 0} → List X → Bool
+is_empty [] = true
+is_empty (x ∷ xs) = false
 
 -- ---- statements
 
@@ -44,13 +50,13 @@ abbrev pub labelled_if : Bool → Supply → Place → Statements → Statements
 labelled_if true s at rest = mark (record { word = added_name s.root (number s); place = at }) Plain rest
 labelled_if false s at rest = rest
 
--- inside a `with` no label can stand: what would need one there makes the `with` need it
+-- inside a `with` no label can be: what would need one there makes the `with` need it
 abbrev pub inside_needs : Effects → Before → Statement → List Refusal
-inside_needs E p (with bs b) = step_offences_inside E p (with bs b)
+inside_needs E p (with bs b) = flat_map (offences_at E) (visits_inside E p (with bs b))
 inside_needs E p _ = []
 
 abbrev pub needs_label : Effects → Before → Span → Statement → Bool
-needs_label E p at st = not p.labelled && not (is_empty (step_offences_here E p at.first st ++ inside_needs E p st))
+needs_label E p at st = not p.labelled && not (is_empty (offences_at E (record { before = p; place = at.first; statement = st }) ++ inside_needs E p st))
 
 abbrev pub before : Bool → Before → Before
 before b p = cond b at_label p
@@ -58,16 +64,16 @@ before b p = cond b at_label p
 -- what follows takes the result and the names that are left
 abbrev mutual
   pub add_inside : {R : Type 0} → Effects → Before → Supply → Statement → (Statement → Supply → R) → R
-  add_inside E p s (branch e a b) go = add E (inside p.variables) s a (λ a' t. add E (inside p.variables) t b (λ b' u. go (branch e a' b') u))
-  add_inside E p s (either bs) go = add_some E (inside p.variables) s bs (λ bs' t. go (either bs') t)
-  add_inside E p s (while e b) go = add E (inside (behind_one E (while e b) p.labelled p.variables)) s b (λ b' t. go (while e b') t)
+  add_inside E p s (branch e a b) go = add E (inside p.path) s a (λ a' t. add E (inside p.path) t b (λ b' u. go (branch e a' b') u))
+  add_inside E p s (either bs) go = add_some E (inside p.path) s bs (λ bs' t. go (either bs') t)
+  add_inside E p s (while e b) go = add E (inside (after_one E (while e b) p.labelled p.path)) s b (λ b' t. go (while e b') t)
   add_inside E p s st go = go st s
 
   pub add : {R : Type 0} → Effects → Before → Supply → Statements → (Statements → Supply → R) → R
   add E p s done go = go done s
   add E p s (mark n k rest) go = add E at_label s rest (λ r t. go (mark n k r) t)
   add E p s (then at st rest) go =
-      add_inside E (before (needs_label E p at st) p) (after_one (needs_label E p at st) s) st (λ st' t.
+      add_inside E (before (needs_label E p at st) p) (names_after (needs_label E p at st) s) st (λ st' t.
       add E (next E (before (needs_label E p at st) p) st') t rest (λ r u.
       go (labelled_if (needs_label E p at st) s at.first (then at st' r)) u))
 
@@ -86,26 +92,26 @@ add_to_macros s (d ∷ ds) go =
 abbrev pub add_to_procedures : {R : Type 0} → List Macro → Supply → List Procedure → (List Procedure → Supply → R) → R
 add_to_procedures ms s [] go = go [] s
 add_to_procedures ms s (p ∷ ps) go =
-    add (procedure_effects ms p) (at_first (Some FirstLabel)) s p.body (λ b t.
+    add (procedure_effects (call_effect ms) p) (at_first (Some FirstLabel)) s p.body (λ b t.
     add_to_procedures ms t ps (λ qs u. go (record { name = p.name; params = p.params; variables = p.variables; body = b } ∷ qs) u))
 
 abbrev pub add_to_processes : {R : Type 0} → List Macro → Supply → List Process → (List Process → R) → R
 add_to_processes ms s [] go = go []
 add_to_processes ms s (p ∷ ps) go =
-    add (outer_effects ms) (at_first (Some FirstLabel)) s p.body (λ b t.
+    add (outer_effects (call_effect ms)) (at_first (Some FirstLabel)) s p.body (λ b t.
     add_to_processes ms t ps (λ qs. go (record { name = p.name; fairness = p.fairness; several = p.several; identity = p.identity; variables = p.variables; body = b } ∷ qs)))
 
 abbrev pub add_to_main : {R : Type 0} → List Macro → Supply → Main → (Main → R) → R
-add_to_main ms s (alone b) go = add (outer_effects ms) (at_first (Some FirstLabel)) s b (λ c t. go (alone c))
+add_to_main ms s (alone b) go = add (outer_effects (call_effect ms)) (at_first (Some FirstLabel)) s b (λ c t. go (alone c))
 add_to_main ms s (processes ps) go = add_to_processes ms s ps (λ qs. go (processes qs))
 
 abbrev pub labels_of_main : Main → List Word
 labels_of_main (alone b) = label_words b
-labels_of_main (processes ps) = each (λ p. label_words p.body) ps
+labels_of_main (processes ps) = flat_map (λ p. label_words p.body) ps
 
 -- the labels that the user typed
 abbrev pub typed_labels : Algorithm → List Word
-typed_labels a = each (λ d. label_words d.body) a.macros ++ (each (λ p. label_words p.body) a.procedures ++ labels_of_main a.main)
+typed_labels a = flat_map (λ d. label_words d.body) a.macros ++ (flat_map (λ p. label_words p.body) a.procedures ++ labels_of_main a.main)
 
 abbrev pub with_labels : Word → Algorithm → Algorithm
 with_labels root a =
@@ -118,10 +124,6 @@ abbrev pub is_alone : Main → Bool
 is_alone (alone b) = true
 is_alone (processes ps) = false
 
-abbrev pub no_words : List Word → Bool
-no_words [] = true
-no_words (w ∷ ws) = false
-
 -- labels are added to every algorithm where they are forced, and in a uniprocess algorithm without any
 abbrev pub labelled : Bool → Algorithm → Algorithm
-labelled forced a = cond (forced || (is_alone a.main && no_words (typed_labels a))) (with_labels (codes "Lbl_") a) a
+labelled forced a = cond (forced || (is_alone a.main && is_empty (typed_labels a))) (with_labels (codes "Lbl_") a) a

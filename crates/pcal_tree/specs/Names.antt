@@ -1,85 +1,33 @@
 -- Written names: what a module's names would take from each other is told apart by numbers ("A PlusCal User's Manual", section 4, on names in the translation).
 use Rattle.std.specs.Prelude.{ℕ, zero, suc, length, nat_eq, List, [], ◌∷◌, ◌++◌, Bool, true, false, ◌&&◌, ◌||◌, cond, bytes_eq, codes, map}
+use Rattle.std.specs.List.{flat_map}
 use Rattle.std.specs.Fmt.{decimal}
 use Rattle.tla_token.specs.Signs.{is_among}
 use Rattle.tla_token.specs.Words.{is_reserved, is_own, is_standard}
 use Rattle.tla_expr.specs.Tree.{Word}
-use Rattle.pcal_tree.specs.Algorithm.{Assignments, no_assignments, assignment, Binds, no_binds, one_of, is, Statement, assign, await, print, assert, skip, branch, either, with, while, goto, macro, call, return, Statements, done, then, mark, Branches, no_branches, or, Start, unset, equals, among, Declaration, Procedure, Process, Main, alone, processes, Algorithm, Routine, locals, procedure_routines, main_routines, Naming}
-use Rattle.pcal_tree.specs.Program.{words, declared}
-use Rattle.pcal_tree.specs.Offences.{each}
+use Rattle.pcal_tree.specs.Algorithm.{Main, alone, processes, Algorithm, Routine, locals, procedure_routines, main_routines, Naming}
+use Rattle.tla_expr.specs.Tree.{words}
 use Rattle.pcal_tree.specs.OffencesLabels.{label_words}
-use Rattle.pcal_tree.specs.Outside.{Outside, unit_names, bound_in, bound_in_all, bound_outside}
-
--- ---- names that an algorithm binds: in expressions and by `with`
-
-abbrev pub bound_in_moves : Assignments → List Word
-bound_in_moves no_assignments = []
-bound_in_moves (assignment l e ms) = bound_in l ++ (bound_in e ++ bound_in_moves ms)
-
-abbrev pub bound_in_binds : Binds → List Word
-bound_in_binds no_binds = []
-bound_in_binds (one_of x e bs) = x.word ∷ (bound_in e ++ bound_in_binds bs)
-bound_in_binds (is x e bs) = x.word ∷ (bound_in e ++ bound_in_binds bs)
-
-abbrev mutual
-  pub bound_in_one : Statement → List Word
-  bound_in_one (assign ms) = bound_in_moves ms
-  bound_in_one (await e) = bound_in e
-  bound_in_one (print e) = bound_in e
-  bound_in_one (assert e) = bound_in e
-  bound_in_one skip = []
-  bound_in_one (branch e a b) = bound_in e ++ (bound_in_body a ++ bound_in_body b)
-  bound_in_one (either bs) = bound_in_branches bs
-  bound_in_one (with bs b) = bound_in_binds bs ++ bound_in_body b
-  bound_in_one (while e b) = bound_in e ++ bound_in_body b
-  bound_in_one (goto l) = []
-  bound_in_one (macro m ts) = bound_in_all ts
-  bound_in_one (call p ts) = bound_in_all ts
-  bound_in_one return = []
-
-  pub bound_in_body : Statements → List Word
-  bound_in_body done = []
-  bound_in_body (then at st rest) = bound_in_one st ++ bound_in_body rest
-  bound_in_body (mark l k rest) = bound_in_body rest
-
-  pub bound_in_branches : Branches → List Word
-  bound_in_branches no_branches = []
-  bound_in_branches (or b bs) = bound_in_body b ++ bound_in_branches bs
-
-abbrev pub bound_in_start : Start → List Word
-bound_in_start unset = []
-bound_in_start (equals e) = bound_in e
-bound_in_start (among e) = bound_in e
-
-abbrev pub bound_in_declared : List Declaration → List Word
-bound_in_declared ds = each (λ d. bound_in_start d.start) ds
-
-abbrev pub bound_in_procedure : Procedure → List Word
-bound_in_procedure p = bound_in_declared (p.params ++ p.variables) ++ bound_in_body p.body
-
-abbrev pub bound_in_process : Process → List Word
-bound_in_process p = bound_in p.identity ++ (bound_in_declared p.variables ++ bound_in_body p.body)
-
-abbrev pub bound_in_main : Main → List Word
-bound_in_main (alone b) = bound_in_body b
-bound_in_main (processes ps) = each bound_in_process ps
+use Rattle.tla_value.specs.Outside.{Outside}
+use Rattle.pcal_tree.specs.BoundNames.{all_of, bound_lists}
+use Rattle.pcal_tree.specs.Outside.{unit_names, bound_outside}
+use Rattle.pcal_tree.specs.Variables.{declared}
 
 -- ---- names that are taken from the start
 
 -- globals, definitions, and all names that are bound, parameters among them
 abbrev pub kept : Algorithm → List Word
 kept a =
-    declared a.globals ++ (bound_in_declared a.globals
-    ++ (each (λ d. d.name.word ∷ (words d.params ++ bound_in d.body)) a.definitions
-    ++ (each (λ d. words d.params ++ bound_in_body d.body) a.macros
-    ++ (each bound_in_procedure a.procedures ++ bound_in_main a.main))))
+    declared a.globals
+    ++ (flat_map (λ d. d.name.word ∷ words d.params) a.definitions
+    ++ (flat_map (λ d. words d.params) a.macros ++ words (all_of (bound_lists a))))
 
 abbrev pub taken_outside : Outside → List Word
 taken_outside o = unit_names o ++ bound_outside o
 
--- the names that stand already
-abbrev pub standing : Algorithm → Outside → List Word
-standing a o = taken_outside o ++ kept a
+-- the names that are taken from the start
+abbrev pub taken_at_start : Algorithm → Outside → List Word
+taken_at_start a o = taken_outside o ++ kept a
 
 -- a name that no unit can have, or that is among those taken
 abbrev pub is_taken : List Word → List Word → Word → Bool
@@ -87,7 +35,7 @@ is_taken extended taken w = is_reserved w || is_own w || is_standard extended w 
 
 -- ---- the first free name
 
--- what stands between a name and a number: words that begin with WF_ or SF_ are no names
+-- what is between a name and a number: words that begin with WF_ or SF_ are no names
 abbrev pub joint : Word → Word
 joint x = cond (bytes_eq (codes "WF") x || bytes_eq (codes "SF") x) [] (codes "_")
 
@@ -100,7 +48,7 @@ abbrev pub free_from : ℕ → List Word → Word → ℕ → Word
 free_from zero taken x n = numbered x n
 free_from (suc more) taken x n = cond (is_among taken (numbered x n)) (free_from more taken x (suc n)) (numbered x n)
 
--- the first of x, x_1, x_2, .. that isn't taken; with a number behind it a name is no word of a language or module
+-- the first of x, x_1, x_2, .. that isn't taken; with a number after it a name is no word of a language or module
 abbrev pub first_free : List Word → List Word → Word → Word
 first_free extended taken x = cond (is_taken extended taken x) (free_from (length taken) taken x 1) x
 
@@ -128,11 +76,11 @@ wanted_by u = record { unit = u.number; role = title; word = u.name.word } ∷ w
 
 -- the one body of a uniprocess algorithm has no name
 abbrev pub wanted_by_main : Algorithm → Main → List Want
-wanted_by_main a (alone b) = each wanted_within (main_routines a (alone b))
-wanted_by_main a (processes ps) = each wanted_by (main_routines a (processes ps))
+wanted_by_main a (alone b) = flat_map wanted_within (main_routines a (alone b))
+wanted_by_main a (processes ps) = flat_map wanted_by (main_routines a (processes ps))
 
 abbrev pub wanted : Algorithm → List Want
-wanted a = each wanted_by (procedure_routines a) ++ wanted_by_main a a.main
+wanted a = flat_map wanted_by (procedure_routines a) ++ wanted_by_main a a.main
 
 -- ---- names given
 
@@ -172,7 +120,7 @@ naming_by gs = record {
 
 -- the written names of an algorithm in a module
 abbrev pub given : Algorithm → Outside → List Given
-given a o = give o.extended (standing a o) (wanted a)
+given a o = give o.extended (taken_at_start a o) (wanted a)
 
 -- the naming that looks them up
 abbrev pub naming : Algorithm → Outside → Naming

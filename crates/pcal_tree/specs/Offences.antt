@@ -1,5 +1,5 @@
 -- Offences against the rules, and the one by which an algorithm is refused.
-use Rattle.std.specs.Prelude.{List, [], ◌∷◌, ◌++◌, Bool, ◌&&◌, ◌||◌, nat_eq, nat_lt, cond, Option, Some, None}
+use Rattle.std.specs.Prelude.{List, [], ◌∷◌, Bool, ◌&&◌, ◌||◌, nat_eq, nat_lt, cond, Option, Some, None}
 use Rattle.tla_token.specs.declared.place.Place.{Place}
 use Rattle.tla_token.specs.declared.rule.Rule.{Rule}
 use Rattle.tla_token.specs.declared.rule.Refusal.{Refusal}
@@ -28,8 +28,3 @@ sooner r (Some q) = cond (is_sooner q r) q r
 abbrev pub first : List Refusal → Option Refusal
 first [] = None
 first (r ∷ rs) = Some (sooner r (first rs))
-
--- those of all, one after the other
-abbrev pub each : {X Y : Type 0} → (X → List Y) → List X → List Y
-each f [] = []
-each f (x ∷ xs) = f x ++ each f xs

@@ -1,72 +1,52 @@
--- Names that the translation or a standard module has, where they are declared; the bound names of expressions are not among these: trees
--- don't hold their places ("A PlusCal User's Manual", appendix A and section 4).
+-- Names that the translation or a standard module has, where they are declared or bound ("A PlusCal User's Manual", appendix A and section 4).
 use Rattle.std.specs.Prelude.{List, [], ◌∷◌, ◌++◌, false, ◌||◌, codes}
+use Rattle.std.specs.List.{flat_map}
 use Rattle.tla_token.specs.declared.rule.Rule.TheVariants.{Reserved}
 use Rattle.tla_token.specs.declared.rule.Refusal.{Refusal}
 use Rattle.tla_token.specs.Signs.{is_among}
 use Rattle.tla_token.specs.Words.{is_own, is_standard}
-use Rattle.pcal_tree.specs.Algorithm.{Name, Binds, no_binds, one_of, is, Statement, branch, either, with, while, Statements, done, then, mark, Branches, no_branches, or, Definition, Macro, Procedure, Process, Main, alone, processes, Algorithm}
-use Rattle.pcal_tree.specs.Offences.{offence_if, each}
+use Rattle.tla_expr.specs.Tree.{Name}
+use Rattle.pcal_tree.specs.Algorithm.{Definition, Macro, Procedure, Process, Main, alone, processes, Algorithm}
+use Rattle.pcal_tree.specs.BoundNames.{all_of, bound_lists}
+use Rattle.pcal_tree.specs.Offences.{offence_if}
 use Rattle.pcal_tree.specs.OffencesLabels.{Label, labels}
 use Rattle.pcal_tree.specs.OffencesNames.{names_of}
-use Rattle.pcal_tree.specs.Outside.{Outside, Opaque, Read}
+use Rattle.tla_value.specs.Outside.{Outside, Opaque, ReadDefinition}
 
 -- ---- declared names
-
-abbrev pub bind_names : Binds → List Name
-bind_names no_binds = []
-bind_names (one_of x e bs) = x ∷ bind_names bs
-bind_names (is x e bs) = x ∷ bind_names bs
-
--- the names of each `with`
-abbrev mutual
-  pub with_names_of_one : Statement → List Name
-  with_names_of_one (branch e a b) = with_names a ++ with_names b
-  with_names_of_one (either bs) = with_names_of_some bs
-  with_names_of_one (with bs b) = bind_names bs ++ with_names b
-  with_names_of_one (while e b) = with_names b
-  with_names_of_one _ = []
-
-  pub with_names : Statements → List Name
-  with_names done = []
-  with_names (then at st rest) = with_names_of_one st ++ with_names rest
-  with_names (mark l k rest) = with_names rest
-
-  pub with_names_of_some : Branches → List Name
-  with_names_of_some no_branches = []
-  with_names_of_some (or b bs) = with_names b ++ with_names_of_some bs
 
 abbrev pub names_of_definition : Definition → List Name
 names_of_definition d = d.name ∷ d.params
 
 abbrev pub names_of_macro : Macro → List Name
-names_of_macro d = d.name ∷ (d.params ++ with_names d.body)
+names_of_macro d = d.name ∷ d.params
 
 abbrev pub names_of_procedure : Procedure → List Name
-names_of_procedure p = p.name ∷ (names_of (p.params ++ p.variables) ++ with_names p.body)
+names_of_procedure p = p.name ∷ names_of (p.params ++ p.variables)
 
 abbrev pub names_of_process : Process → List Name
-names_of_process p = p.name ∷ (names_of p.variables ++ with_names p.body)
+names_of_process p = p.name ∷ names_of p.variables
 
 abbrev pub names_of_main : Main → List Name
-names_of_main (alone b) = with_names b
-names_of_main (processes ps) = each names_of_process ps
+names_of_main (alone b) = []
+names_of_main (processes ps) = flat_map names_of_process ps
 
--- all that an algorithm declares, and the names of each `with`
+-- all that an algorithm declares, and all names that it binds
 abbrev pub declared_names : Algorithm → List Name
 declared_names a =
     names_of a.globals
-    ++ (each names_of_definition a.definitions
-    ++ (each names_of_macro a.macros ++ (each names_of_procedure a.procedures ++ names_of_main a.main)))
+    ++ (flat_map names_of_definition a.definitions
+    ++ (flat_map names_of_macro a.macros
+    ++ (flat_map names_of_procedure a.procedures ++ (names_of_main a.main ++ all_of (bound_lists a)))))
 
 -- ---- labels
 
 abbrev pub labels_of_main : Main → List Label
 labels_of_main (alone b) = labels false b
-labels_of_main (processes ps) = each (λ p. labels false p.body) ps
+labels_of_main (processes ps) = flat_map (λ p. labels false p.body) ps
 
 abbrev pub all_labels : Algorithm → List Label
-all_labels a = each (λ d. labels false d.body) a.macros ++ (each (λ p. labels false p.body) a.procedures ++ labels_of_main a.main)
+all_labels a = flat_map (λ d. labels false d.body) a.macros ++ (flat_map (λ p. labels false p.body) a.procedures ++ labels_of_main a.main)
 
 -- ---- offences
 
@@ -76,15 +56,15 @@ reserved_name o n = offence_if (is_own n.word || is_standard o.extended n.word) 
 abbrev pub reserved_label : Label → List Refusal
 reserved_label l = offence_if (is_among (codes "Done" ∷ codes "Error" ∷ []) l.name.word) Reserved l.name.place
 
-abbrev pub reserved_read : Outside → Read → List Refusal
+abbrev pub reserved_read : Outside → ReadDefinition → List Refusal
 reserved_read o d = reserved_name o (record { word = d.definition.title; place = d.place })
 
 -- a unit that was not read may have a standard name
 abbrev pub reserved_opaque : Opaque → List Refusal
-reserved_opaque u = each (λ w. offence_if (is_own w) Reserved u.place) u.names
+reserved_opaque u = flat_map (λ w. offence_if (is_own w) Reserved u.place) u.names
 
 abbrev pub reserved_outside : Outside → List Refusal
-reserved_outside o = each (reserved_name o) o.constants ++ (each (reserved_read o) o.definitions ++ each reserved_opaque o.opaque)
+reserved_outside o = flat_map (reserved_name o) o.constants ++ (flat_map (reserved_read o) o.definitions ++ flat_map reserved_opaque o.opaque)
 
 abbrev pub reserved_declared : Algorithm → Outside → List Refusal
-reserved_declared a o = reserved_outside o ++ (each (reserved_name o) (declared_names a) ++ each reserved_label (all_labels a))
+reserved_declared a o = reserved_outside o ++ (flat_map (reserved_name o) (declared_names a) ++ flat_map reserved_label (all_labels a))

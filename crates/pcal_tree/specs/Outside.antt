@@ -1,41 +1,14 @@
--- What a module has outside its algorithm and the translation ("Specifying Systems", chapter 17).
-use Rattle.std.specs.Prelude.{List, [], ◌++◌, map}
-use Rattle.tla_token.specs.declared.place.Place.{Place}
-use Rattle.tla_expr.specs.Tree.{Word, Tree, node, Trees, no_trees, tree, binders}
-use Rattle.tla_value.specs.Definitions.{Definition}
-use Rattle.pcal_tree.specs.Algorithm.{Name}
-use Rattle.pcal_tree.specs.Offences.{each}
-
--- a unit that was passed on unread
-pub record Opaque : Type 0 where
-  pub keyword : Word  -- none for a definition
-  pub names : List Word
-  pub place : Place
-
--- a definition that was read
-pub record Read : Type 0 where
-  pub definition : Definition
-  pub place : Place
-
--- its units, each kind in the order of the text
-pub record Outside : Type 0 where
-  pub extended : List Word
-  pub constants : List Name
-  pub definitions : List Read
-  pub opaque : List Opaque
+-- The names that a module has outside its algorithm and the translation ("Specifying Systems", chapter 17).
+use Rattle.std.specs.Prelude.{List, ◌++◌, map}
+use Rattle.std.specs.List.{flat_map}
+use Rattle.tla_expr.specs.Tree.{Word, words}
+use Rattle.tla_value.specs.Outside.{Outside}
+use Rattle.pcal_tree.specs.BoundNames.{all_of, lists_in}
 
 -- the names of the units
 abbrev pub unit_names : Outside → List Word
-unit_names o = map (λ n. n.word) o.constants ++ (map (λ d. d.definition.title) o.definitions ++ each (λ u. u.names) o.opaque)
+unit_names o = words o.constants ++ (map (λ d. d.definition.title) o.definitions ++ flat_map (λ u. u.names) o.opaque)
 
--- the names that a tree binds
-abbrev mutual
-  pub bound_in : Tree → List Word
-  bound_in (node m at ts) = binders m ++ bound_in_all ts
-
-  pub bound_in_all : Trees → List Word
-  bound_in_all no_trees = []
-  bound_in_all (tree t ts) = bound_in t ++ bound_in_all ts
-
+-- parameters and bound names of the definitions that were read
 abbrev pub bound_outside : Outside → List Word
-bound_outside o = each (λ d. d.definition.params ++ bound_in d.definition.body) o.definitions
+bound_outside o = flat_map (λ d. d.definition.params ++ words (all_of (lists_in d.definition.body))) o.definitions

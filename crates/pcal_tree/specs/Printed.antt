@@ -57,9 +57,9 @@ trees_texts (tree t ts) = written t ∷ trees_texts ts
 abbrev pub arguments_text : Trees → Text
 arguments_text ts = bracketed (listed (trees_texts ts))
 
-abbrev pub moves_texts : Assignments → List Text
-moves_texts no_assignments = []
-moves_texts (assignment l e ms) = (written l ++ codes " := " ++ written e) ∷ moves_texts ms
+abbrev pub assignments_texts : Assignments → List Text
+assignments_texts no_assignments = []
+assignments_texts (assignment l e ms) = (written l ++ codes " := " ++ written e) ∷ assignments_texts ms
 
 abbrev pub binds_texts : Binds → List Text
 binds_texts no_binds = []
@@ -88,11 +88,11 @@ abbrev pub closing : Syntax → Text → Text
 closing p_syntax w = codes "end " ++ w ++ codes ";"
 closing c_syntax w = codes "};"
 
--- ---- statements, at an indentation, the first one behind its labels
+-- ---- statements, at an indentation, the first one after its labels
 
 abbrev mutual
   pub statement : Syntax → ℕ → Text → Statement → Lines
-  statement s n ls (assign ms) = line n (ls ++ joined (codes " || ") (moves_texts ms) ++ codes ";")
+  statement s n ls (assign ms) = line n (ls ++ joined (codes " || ") (assignments_texts ms) ++ codes ";")
   statement s n ls (await e) = line n (ls ++ codes "await " ++ written e ++ codes ";")
   statement s n ls (print e) = line n (ls ++ codes "print " ++ written e ++ codes ";")
   statement s n ls (assert e) = line n (ls ++ codes "assert " ++ written e ++ codes ";")
@@ -118,7 +118,7 @@ abbrev mutual
   otherwise s n (then at st ss) = λ rest. line n (middle s (codes "else")) (statement s (n + 2) [] st (statements s (n + 2) [] ss rest))
   otherwise s n (mark l m ss) = λ rest. line n (middle s (codes "else")) (statements s (n + 2) (l.word ++ text_of_mark m ++ codes " ") ss rest)
 
-  -- each branch behind its line: the first is given
+  -- each branch after its line: the first is given
   pub branches : Syntax → ℕ → Text → Branches → Lines
   branches s n w no_branches = λ rest. rest
   branches s n w (or a bs) = λ rest. line n w (statements s (n + 2) [] a (branches s n (middle s (codes "or")) bs rest))

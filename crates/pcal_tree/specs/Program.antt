@@ -1,16 +1,16 @@
 -- What names mean in a routine that a process runs ("A PlusCal User's Manual", sections 3.3 to 3.6, processes, procedures, macros, definitions).
 use Rattle.std.specs.Prelude.{List, [], ◌∷◌, ◌++◌, false, cond, bytes_eq, codes, Option, Some, None, map, Ok, Err}
 use Rattle.tla_token.specs.declared.place.Place.{Place}
-use Rattle.tla_expr.specs.Tree.{Word}
+use Rattle.tla_expr.specs.Tree.{Word, words}
 use Rattle.tla_value.specs.declared.fault.FaultKind.TheVariants.{NotFunction}
-use Rattle.tla_value.specs.Value.{Value, Outcome, Sense, ◌>>=◌}
+use Rattle.tla_value.specs.Value.{Value, Outcome, Sense, ◌>>=◌, fault}
 use Rattle.tla_value.specs.Stops.{Check, sense_of}
 use Rattle.tla_value.specs.Strict.{applied}
 use Rattle.tla_value.specs.Meaning.{Env, just}
 use Rattle.tla_value.specs.Definitions.{Valuation, no_state, scope_of}
 use Rattle.tla_value.specs.Definitions as Outside
 use Rattle.pcal_tree.specs.Algorithm.{nowhere, Name, Declaration, Definition, declares, Routine, locals, Naming, Algorithm}
-use Rattle.pcal_tree.specs.Scope.{State, fault, Outcome, Part, Scope}
+use Rattle.pcal_tree.specs.Scope.{State, Part, Scope}
 
 -- a labelled algorithm, with what its meaning rests on: the limits of values, the constants, the definitions outside the algorithm, and the
 -- written names
@@ -27,9 +27,6 @@ pub record Actor : Type 0 where
   pub own : Routine
 
 -- ---- variables and definitions
-
-abbrev pub words : List Name → List Word
-words xs = map (λ x. x.word) xs
 
 -- the global variables on a state
 abbrev pub globals_on : State → List Declaration → Valuation
@@ -62,7 +59,9 @@ written P u x = P.naming.local u.number x
 -- what stands at a path
 abbrev pub read_at : Place → List Value → Value → Outcome Value
 read_at at [] v = Ok v
-read_at at (k ∷ ks) f = (applied at f k) >>= (read_at at ks)
+read_at at (k ∷ ks) f = do
+  v ← applied at f k
+  read_at at ks v
 
 abbrev pub read_self : Option Value → Sense → Sense
 read_self (Some v) other = just v
@@ -90,17 +89,3 @@ routine_scope P v u = record {
 -- outside all routines
 abbrev pub global_scope : Program → Scope
 global_scope P = record { env = global_env P; part = λ x at s. global_part P x; origin = λ x at. at }
-
--- ---- the variables of the translation
-
-abbrev pub pc : Word
-pc = codes "pc"
-
-abbrev pub stack : Word
-stack = codes "stack"
-
-abbrev pub declared : List Declaration → List Word
-declared ds = map (λ d. d.name.word) ds
-
-abbrev pub written_all : Program → Routine → List Declaration → List Word
-written_all P u ds = map (written P u) (declared ds)

@@ -3,12 +3,12 @@ use Rattle.std.specs.Prelude.{◌≡◌, List, [], ◌∷◌, cond, bytes_eq, So
 use Rattle.tla_token.specs.declared.place.Place.{Place}
 use Rattle.tla_expr.specs.Tree.{Word, Trees, tree, Graft}
 use Rattle.tla_value.specs.declared.fault.FaultKind.TheVariants.{AssertFailed}
-use Rattle.tla_value.specs.Value.{Value, Values, no_values, and}
+use Rattle.tla_value.specs.Value.{Value, Values, no_values, and, Trouble, fault, Outcome}
 use Rattle.tla_value.specs.Stops.{Check}
-use Rattle.tla_value.specs.Meaning.{evals}
+use Rattle.tla_value.specs.Meaning.{evals, part_values}
 use Rattle.pcal_tree.specs.Algorithm.{Name, Binds, no_binds, one_of, is, Statement, assign, await, print, assert, skip, branch, either, with, while, goto, macro, call, return, Statements, done, then, mark, Branches, no_branches, or, Macro}
-use Rattle.pcal_tree.specs.Scope.{State, Trouble, fault, Outcome, all_valued, Scope, bound, through, places_of, value_of, test, members}
-use Rattle.pcal_tree.specs.Assign.{moved}
+use Rattle.pcal_tree.specs.Scope.{State, Scope, bound, through, places_of, value_of, test, members}
+use Rattle.pcal_tree.specs.Assign.{after_assignments}
 
 -- ---- courses
 
@@ -84,7 +84,7 @@ run_binds c at (is x e bs) body sc s = after (value_of c e sc s) (λ v. run_bind
 -- `here` is the label at which the statement or list stands; K is what follows it. A jump, call or return drops what follows.
 abbrev mutual
   pub run_one : Rules → Word → Place → Statement → Scope → Follow → State → Course
-  run_one M here at (assign ms) sc K s = after (moved M.check ms sc s) K.goes
+  run_one M here at (assign ms) sc K s = after (after_assignments M.check ms sc s) K.goes
   run_one M here at (await e) sc K s = after (test M.check e sc s) (λ t. cond t K.goes (λ u. held at) s)
   run_one M here at (print e) sc K s = after (value_of M.check e sc s) (λ v. K.goes s)
   run_one M here at (assert e) sc K s = after (test M.check e sc s) (λ t. cond t K.goes (λ u. stops (fault AssertFailed at)) s)
@@ -98,7 +98,7 @@ abbrev mutual
   run_one M here at (goto l) sc K s = M.goto l s
   run_one M here at (macro m ts) sc K s = M.macros here at m ts sc K s
   run_one M here at (call p ts) sc K s =
-      after (all_valued (evals M.check ts) (sc.env s) Ok) (λ vs. M.call at p.word (places_of ts sc) vs K.label s)
+      after (part_values (evals M.check ts) (sc.env s)) (λ vs. M.call at p.word (places_of ts sc) vs K.label s)
   run_one M here at return sc K s = M.return at s
 
   pub run : Rules → Word → Statements → Scope → Follow → State → Course

@@ -2,14 +2,14 @@
 use Rattle.std.specs.Prelude.{List, [], ◌∷◌, ◌++◌, Bool, cond, bytes_eq, Option, Some, None, Ok, Err}
 use Rattle.tla_token.specs.declared.place.Place.{Place}
 use Rattle.tla_expr.specs.Tree.{Word, apply, select, Form, name, strict, Tree, node, Trees, no_trees, tree, Graft}
+pub use Rattle.tla_expr.specs.Tree.{root_place}
 use Rattle.tla_value.specs.declared.fault.FaultKind.{FaultKind}
 use Rattle.tla_value.specs.declared.fault.FaultKind.TheVariants.{NotBoolean, NotSet, NotFunction}
-use Rattle.tla_value.specs.Value.{Value, truth, text, set, Values}
-pub use Rattle.tla_value.specs.Value.{Trouble, fault, over, Outcome, ◌>>=◌}
-use Rattle.tla_value.specs.Stops.{Check}
+use Rattle.tla_value.specs.Value.{Value, truth, text, set, Values, fault, Outcome, ◌>>=◌}
+use Rattle.tla_value.specs.Stops.{Check, truth_at, members_at}
 use Rattle.pcal_tree.specs.Algorithm.{nowhere}
 use Rattle.tla_value.specs.Grafts.{through as through_env}
-use Rattle.tla_value.specs.Meaning.{Env, Denotation, bind, eval, evals}
+use Rattle.tla_value.specs.Meaning.{Env, bind, part_values, eval, evals}
 
 -- ---- states and results
 
@@ -20,14 +20,9 @@ State = Word → Value
 abbrev pub put : Word → Value → State → State
 put x v s y = cond (bytes_eq x y) v (s y)
 
--- expressions from left to right
-abbrev pub all_valued : {X : Type 0} → List Denotation → Env → (List Value → Outcome X) → Outcome X
-all_valued [] env go = go []
-all_valued (d ∷ ds) env go = (d env).value >>= (λ v. all_valued ds env (λ vs. go (v ∷ vs)))
-
 -- ---- scopes
 
--- the part of a variable behind some subscripts
+-- the part of a variable after some subscripts
 pub record Part : Type 0 where
   pub variable : Word
   pub path : List Value
@@ -41,10 +36,6 @@ pub record Scope : Type 0 where
 -- with a name for a value, as in a `with`
 abbrev pub bound : Word → Value → Scope → Scope
 bound x v sc = record { env = λ s. bind x v (sc.env s); part = sc.part; origin = sc.origin }
-
--- the place at which a tree itself stands, as a left side's, also in a macro
-abbrev pub root_place : Tree → Place
-root_place (node m at ts) = at
 
 -- the place of an expression; that of a macro's parameter alone is its argument's
 abbrev pub place_in : Form → Place → Scope → Place
@@ -66,11 +57,13 @@ Reach = Scope → State → Outcome Part
 abbrev pub deeper : List Value → Part → Part
 deeper ks p = record { variable = p.variable; path = p.path ++ ks }
 
--- a name, a subscript behind a left side, or a field; no other tree is a left side
+-- a name, a subscript after a left side, or a field; no other tree is a left side
 abbrev pub reach_form : Form → Place → Reach → Reach
 reach_form (name x) at r sc s = sc.part x at s
 reach_form (strict apply) at r sc s = r sc s
-reach_form (strict (select a)) at r sc s = (r sc s) >>= (λ p. Ok (deeper (text a ∷ []) p))
+reach_form (strict (select a)) at r sc s = do
+  p ← r sc s
+  Ok (deeper (text a ∷ []) p)
 reach_form _ at r sc s = Err (fault NotFunction nowhere)
 
 -- the part that a left side stands for, its subscripts evaluated
@@ -81,7 +74,10 @@ abbrev mutual
   -- the first tree is the head, the others are subscripts
   pub reach_path : Check → Place → Trees → Reach
   reach_path c at no_trees sc s = Err (fault NotFunction nowhere)
-  reach_path c at (tree f us) sc s = (reach c f sc s) >>= (λ p. all_valued (evals c us) (sc.env s) (λ ks. Ok (deeper ks p)))
+  reach_path c at (tree f us) sc s = do
+    p ← reach c f sc s
+    ks ← part_values (evals c us) (sc.env s)
+    Ok (deeper ks p)
 
 -- ---- names that stand for trees, as a macro's parameters do
 
@@ -104,18 +100,14 @@ through c g sc = record {
 -- ---- what statements need of expressions
 
 abbrev pub value_of : Check → Tree → Scope → State → Outcome Value
-value_of c e sc s = (eval c e (sc.env s)).value >>= Ok
-
-abbrev pub truth_at : Place → Value → Outcome Bool
-truth_at at (truth b) = Ok b
-truth_at at _ = Err (fault NotBoolean at)
+value_of c e sc s = (eval c e (sc.env s)).value
 
 abbrev pub test : Check → Tree → Scope → State → Outcome Bool
-test c e sc s = (value_of c e sc s) >>= (truth_at (place_of e sc))
-
-abbrev pub members_at : Place → Value → Outcome Values
-members_at at (set vs) = Ok vs
-members_at at _ = Err (fault NotSet at)
+test c e sc s = do
+  v ← value_of c e sc s
+  truth_at (place_of e sc) v
 
 abbrev pub members : Check → Tree → Scope → State → Outcome Values
-members c e sc s = (value_of c e sc s) >>= (members_at (place_of e sc))
+members c e sc s = do
+  v ← value_of c e sc s
+  members_at (place_of e sc) v

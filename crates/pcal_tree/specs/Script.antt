@@ -4,8 +4,10 @@ use Rattle.tla_value.specs.Value.{Value}
 use Rattle.pcal_tree.specs.Scope.{State}
 use Rattle.pcal_tree.specs.Choices.{Walk, went, walk}
 use Rattle.pcal_tree.specs.Program.{Program, Actor}
-use Rattle.pcal_tree.specs.Step.{vars, Agree, IsActor, Stand, StandsAt, course_of}
+use Rattle.pcal_tree.specs.Step.{Stand, StandsAt, course_of}
 use Rattle.pcal_tree.specs.InitialChoice.{started}
+use Rattle.pcal_tree.specs.Variables.{vars, Agree}
+use Rattle.pcal_tree.specs.Processes.{IsActor}
 
 -- a process by its identifier, or the one body, and its choices
 pub record Turn : Type 0 where

@@ -1,20 +1,39 @@
 //! Laws of what algorithms mean, stated as what functions without a body ensure.
 
-ghost use Rattle.std.specs.Prelude.{◌≡◌, ℕ, List, [], Bool, Some, None};
-ghost use Rattle.tla_expr.specs.Tree.{Word};
+ghost use Rattle.std.specs.Prelude.{◌≡◌, ℕ, List, [], Bool, Some, None, ◌++◌, reverse};
+ghost use Rattle.tla_token.specs.Signs.{is_among};
+ghost use Rattle.tla_expr.specs.Tree.{Word, Trees};
 ghost use Rattle.pcal_tree.specs.Algorithm.{Statements, Macro, Algorithm};
 ghost use Rattle.pcal_tree.specs.Expand.{expanded};
-ghost use Rattle.pcal_tree.specs.Clean.{Calls, FineCall, Free};
-ghost use Rattle.pcal_tree.specs.Scope.{State, Trouble, Outcome, Scope};
+ghost use Rattle.pcal_tree.specs.Scope.{State, Scope};
 ghost use Rattle.pcal_tree.specs.Run.{Course, Has, Rules, Follow, run, with_macros};
-ghost use Rattle.pcal_tree.specs.Choices.{walk, told, landing, first_trouble};
+ghost use Rattle.pcal_tree.specs.Choices.{walk, first_trouble};
 ghost use Rattle.pcal_tree.specs.Program.{Program, Actor};
-ghost use Rattle.pcal_tree.specs.Step.{Proper, Sound, IsActor, StandsOnce, FirstTrouble};
-ghost use Rattle.pcal_tree.specs.Outside.{Outside};
+ghost use Rattle.tla_value.specs.Outside.{Outside};
 ghost use Rattle.pcal_tree.specs.OffencesReserved.{reserved_declared};
+ghost use Rattle.pcal_tree.specs.OffencesSteps.{call_effect};
+ghost use Rattle.pcal_tree.specs.OffencesLabels.{label_offences, label_offences_by};
+ghost use Rattle.pcal_tree.specs.laws.MacroSummaries.{summaries, summary_effect};
+ghost use Rattle.tla_expr.specs.Lexical.{Token};
+ghost use Rattle.tla_expr.specs.laws.Columns.{looks};
+ghost use Rattle.pcal_tree.specs.Grammar.{Syntax, Text, Good, spell};
+ghost use Rattle.pcal_tree.specs.laws.Lines.{Begins, text_lineless};
 ghost use Rattle.pcal_tree.specs.Labelled.{labelled};
 ghost use Rattle.pcal_tree.specs.Names.{given, naming};
-ghost use Rattle.pcal_tree.specs.Apart.{FewNames, Apart, New, Untaken, AreNames, NoEndLabels};
+ghost use Rattle.pcal_tree.specs.laws.Apart.{FewNames, Apart, New, Untaken, AreNames, NoEndLabels};
+ghost use Rattle.tla_value.specs.Value.{Trouble, Outcome};
+ghost use Rattle.pcal_tree.specs.laws.Expansion.{Calls, FineCall, AnyPlace};
+ghost use Rattle.pcal_tree.specs.laws.Choosing.{told, landing};
+ghost use Rattle.pcal_tree.specs.Processes.{Proper, IsActor};
+ghost use Rattle.pcal_tree.specs.Faults.{Sound, Faulty};
+ghost use Rattle.pcal_tree.specs.laws.Steps.{StandsOnce, ReturnsInProcedures, AgreeAll};
+ghost use Rattle.tla_token.specs.declared.place.Place.{Place};
+ghost use Rattle.tla_value.specs.declared.fault.FaultKind.{FaultKind};
+ghost use Rattle.pcal_tree.specs.Variables.{vars, Agree};
+ghost use Rattle.pcal_tree.specs.Step.{Step, Stutters};
+ghost use Rattle.pcal_tree.specs.InitialStates.{Initial, InitTrouble};
+ghost use Rattle.pcal_tree.specs.Script.{Turn, StepBy, RunOf};
+ghost use Rattle.pcal_tree.specs.FirstTrouble.{FirstTrouble};
 
 /// What a list of choices leads to is an outcome of the course, and each outcome has a list of choices that
 /// leads to it, all of them used.
@@ -36,15 +55,33 @@ pub fn sound_states_have_no_first_trouble()
     ensures quiet { (P : Program) (s : State) → Proper P → ((v : Actor) → IsActor P v → StandsOnce P s v) → ((k : Trouble) → FirstTrouble P s k → ⊥) → Sound P s }
 {}
 
+/// What an algorithm does depends on the variables of its translation alone: two pairs of states that agree on them are
+/// steps alike, and two states that agree on them are sound, initial and in trouble alike. Each `return` must stand in a
+/// procedure, since without procedures no variable holds records that it could take off. The rule on `return` asks for that,
+/// so every algorithm without offences is one.
+pub fn runs_depend_on_the_variables()
+    ensures steps { (P : Program) → ReturnsInProcedures P.algorithm → (s t u w : State) → Agree (vars P) s u → Agree (vars P) t w → Step P s t → Step P u w }
+    ensures stutters { (P : Program) (s t u w : State) → Agree (vars P) s u → Agree (vars P) t w → Stutters P s t → Stutters P u w }
+    ensures sound { (P : Program) → ReturnsInProcedures P.algorithm → (s u : State) → Agree (vars P) s u → Sound P s → Sound P u }
+    ensures faults { (P : Program) → ReturnsInProcedures P.algorithm → (s u : State) → Agree (vars P) s u → (v : Actor) → IsActor P v
+        → (kind : FaultKind) (at : Place) → Faulty P s v kind at → Faulty P u v kind at }
+    ensures first { (P : Program) → ReturnsInProcedures P.algorithm → (s u : State) → Agree (vars P) s u → (k : Trouble) → FirstTrouble P s k → FirstTrouble P u k }
+    ensures scripts { (P : Program) → ReturnsInProcedures P.algorithm → (choices : List ℕ) (turns : List Turn) (ss us : List State) → AgreeAll (vars P) ss us
+        → RunOf P choices turns ss → RunOf P choices turns us }
+    ensures initial { (P : Program) (s u : State) → Agree (vars P) s u → Initial P s → Initial P u }
+    ensures starts { (P : Program) (s u : State) → Agree (vars P) s u → (k : Trouble) → InitTrouble P s k → InitTrouble P u k }
+    ensures rule { (a : Algorithm) → label_offences a ≡ [] → ReturnsInProcedures a }
+{}
+
 /// Statements with their macro calls written out take the courses that they take with the calls, in every scope and
-/// with anything behind them, kinds and places of faults included. The calls capture nothing, and each macro's body
+/// with anything after them, kinds and places of faults included. The calls capture nothing, and each macro's body
 /// begins with a statement.
 pub fn written_out_macros_run_the_same()
-    ensures { (M : Rules) (ms : List Macro) (here : Word) (ss : Statements) → Calls (FineCall M.check ms) ss → (sc : Scope) → Free sc → (K : Follow)
+    ensures { (M : Rules) (ms : List Macro) (here : Word) (ss : Statements) → Calls (FineCall M.check ms) ss → (sc : Scope) → AnyPlace sc → (K : Follow)
         → run (with_macros M ms) here ss sc K ≡ run (with_macros M []) here (expanded ms ss) sc K }
 {}
 
-/// The written names of an algorithm in a module are all different, and none is a name that stands already. Where those that
+/// The written names of an algorithm in a module are all different, and none is a name that is taken from the start. Where those that
 /// are wanted don't begin with WF_ or SF_, as no name does, none is reserved, the translation's own or standard.
 pub fn written_names_are_apart()
     ensures apart { (a : Algorithm) (o : Outside) → FewNames a o → Apart (given a o) }
@@ -59,4 +96,29 @@ pub fn processes_stand_at_one_label()
         → (s : State) (v : Actor) → IsActor P v → StandsOnce P s v }
     ensures clear { (a : Algorithm) (o : Outside) → reserved_declared a o ≡ [] → NoEndLabels a }
     ensures added { (forced : Bool) (a : Algorithm) → NoEndLabels a → NoEndLabels (labelled forced a) }
+{}
+
+/// What is computed once for each macro, from its text and from what was computed for older ones, says of each call what it assigns and
+/// whether it assigns a variable twice, as the macro's body does with the arguments in place of the parameters. So it gives the same
+/// offences against the rules on labels, in every algorithm.
+pub fn macros_are_looked_at_once()
+    ensures assigns { (ms : List Macro) (m : Word) (ts : Trees) (x : Word)
+        → is_among (call_effect ms m ts).variables x ≡ is_among (summary_effect (summaries ms) m ts).variables x }
+    ensures twice { (ms : List Macro) (m : Word) (ts : Trees) → (call_effect ms m ts).twice ≡ (summary_effect (summaries ms) m ts).twice }
+    ensures offences { (a : Algorithm) → label_offences a ≡ label_offences_by (summary_effect (summaries (reverse a.macros))) a }
+{}
+
+/// Whether tokens spell an algorithm rests on their kinds and columns alone: tokens of other lines spell the same text in other lines.
+/// And what may begin a spelled list of tokens is a matter of kinds and columns.
+pub fn lines_of_algorithms_do_not_matter()
+    ensures spelled { (s : Syntax) (ts us : List Token) → looks ts ≡ looks us → (x : Text) → Good s x → ts ≡ spell x []
+        → (y : Text) × Good s y × (us ≡ spell y []) × (text_lineless y ≡ text_lineless x) }
+    ensures begins { (s : Syntax) (ts more : List Token) (x : Text) → Good s x → spell x [] ≡ ts ++ more → Begins s (looks ts) }
+    ensures begun { (s : Syntax) (ts : List Token) → Begins s (looks ts) → (x : Text) × (more : List Token) × Good s x × (spell x [] ≡ ts ++ more) }
+{}
+
+/// Each state of a run by a script after the first is one that a step leads to: that of the process which the script names,
+/// by its choices.
+pub fn scripts_make_steps()
+    ensures { (P : Program) (n : Turn) (s t : State) → StepBy P n s t → Step P s t }
 {}

@@ -3,7 +3,7 @@
 ghost use Rattle.std.specs.Prelude.{◌≡◌};
 ghost use Rattle.pcal_tree.specs.Marks.{text_of_mark, text_of_fairness};
 
-/// The mark behind a label.
+/// The mark after a label.
 #[derive(Clone, Copy, PartialEq, Eq, Debug)]
 pub enum Mark {
     /// `A:`
@@ -25,7 +25,7 @@ pub enum Fairness {
     Strong,
 }
 
-/// How a mark is written behind the name of its label.
+/// How a mark is written after the name of its label.
 pub fn mark_text(mark: Mark) -> &'static str
     ensures { result.now ≡ text_of_mark mark }
 {
@@ -36,7 +36,7 @@ pub fn mark_text(mark: Mark) -> &'static str
     }
 }
 
-/// What stands before the word `process`.
+/// What is before the word `process`.
 pub fn fairness_text(fairness: Fairness) -> &'static str
     ensures { result.now ≡ text_of_fairness fairness }
 {

@@ -2,11 +2,11 @@
 use Rattle.std.proofs.Common.{◌≡◌, refl, true, List, [], ◌∷◌}
 use Rattle.tla_expr.specs.declared.op.Binder.{Binder}
 use Rattle.tla_expr.specs.declared.op.Binder.TheVariants as binder
-use Rattle.tla_expr.specs.Tree.{Word, PathStep, Slot, Strict, Form, Tree, node}
+use Rattle.tla_expr.specs.Tree.{Name, PathStep, Slot, Strict, Form, Tree, node}
 use Rattle.tla_expr.specs.Tree as tree
 use Rattle.tla_expr.specs.Spelling.{Phrase, Settings, Path, head, primary}
 use Rattle.tla_expr.specs.Spelling as spelled
-use Rattle.tla_expr.specs.Bracketed.{Part, part, parts, form_part, path_of, right_side, slots_of, except_phrase}
+use Rattle.tla_expr.specs.laws.Bracketed.{Part, part, parts, form_part, path_of, right_side, slots_of, except_phrase}
 
 abbrev IsPrimary : Phrase → Type 0
 IsPrimary a = head a ≡ primary
@@ -55,18 +55,21 @@ strict_primary (tree.select x) (a ∷ []) = refl
 strict_primary (tree.select x) (a ∷ b ∷ xs) = refl
 strict_primary (tree.except ss) xs = except_primary ss xs
 
-binding_primary : (b : Binder) (ys : List Word) (xs : List Part) → IsPrimary (form_part (tree.binding b ys) xs true)
-binding_primary binder.ForAll ys xs = refl
-binding_primary binder.Exists ys xs = refl
+binding_primary : (b : Binder) (ys : List (List Name)) (xs : List Part) → IsPrimary (form_part (tree.binding b ys) xs true)
+binding_primary binder.ForAll gs xs = refl
+binding_primary binder.Exists gs xs = refl
 binding_primary binder.Filter [] xs = refl
-binding_primary binder.Filter (y ∷ ys) [] = refl
-binding_primary binder.Filter (y ∷ ys) (a ∷ xs) = refl
+binding_primary binder.Filter ([] ∷ gs) xs = refl
+binding_primary binder.Filter ((y ∷ ys) ∷ gs) [] = refl
+binding_primary binder.Filter ((y ∷ ys) ∷ gs) (a ∷ xs) = refl
 binding_primary binder.Image [] xs = refl
-binding_primary binder.Image (y ∷ ys) [] = refl
-binding_primary binder.Image (y ∷ ys) (a ∷ xs) = refl
+binding_primary binder.Image ([] ∷ gs) xs = refl
+binding_primary binder.Image ((y ∷ ys) ∷ gs) [] = refl
+binding_primary binder.Image ((y ∷ ys) ∷ gs) (a ∷ xs) = refl
 binding_primary binder.Function [] xs = refl
-binding_primary binder.Function (y ∷ ys) [] = refl
-binding_primary binder.Function (y ∷ ys) (a ∷ xs) = refl
+binding_primary binder.Function ([] ∷ gs) xs = refl
+binding_primary binder.Function ((y ∷ ys) ∷ gs) [] = refl
+binding_primary binder.Function ((y ∷ ys) ∷ gs) (a ∷ xs) = refl
 
 form_primary : (m : Form) (xs : List Part) → IsPrimary (form_part m xs true)
 form_primary (tree.strict m) xs = strict_primary m xs
@@ -86,7 +89,7 @@ form_primary tree.implication xs = refl
 form_primary (tree.member b) xs = refl
 form_primary tree.if_then_else xs = refl
 form_primary (tree.cases b) xs = refl
-form_primary (tree.local x) xs = refl
+form_primary (tree.local ys) xs = refl
 
 pub operand_primary : (t : Tree) → head (part t true) ≡ primary
 operand_primary (node m at ts) = form_primary m (parts ts)

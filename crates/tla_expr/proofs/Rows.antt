@@ -6,15 +6,16 @@ use Rattle.tla_token.specs.declared.place.Place.{Place}
 use Rattle.tla_expr.specs.declared.op.Op.{Op}
 use Rattle.tla_expr.specs.declared.op.Op.TheVariants as op
 use Rattle.tla_expr.specs.declared.op.Binder.TheVariants as binder
-use Rattle.tla_expr.specs.Tree.{Word, PathStep, Slot, Strict, Tree, Trees, node, no_trees, tree}
+use Rattle.tla_expr.specs.Tree.{Word, Name, binders, PathStep, Slot, Strict, Tree, Trees, node, no_trees, tree}
 use Rattle.tla_expr.specs.Tree as tree
 use Rattle.tla_expr.specs.Lexical.{Token, token, Mark, Key}
 use Rattle.tla_expr.specs.Lexical as tk
 use Rattle.tla_expr.specs.Spelling.{Phrase, Binds, Good, Spells, spell, operation, one, two}
 use Rattle.tla_expr.specs.Spelling as spelled
 use Rattle.tla_expr.specs.Written.{written, pieces}
-use Rattle.tla_expr.specs.Bracketed.{phrase_of, kinds, tokens_of}
+use Rattle.tla_expr.specs.laws.Bracketed.{phrase_of, kinds, tokens_of}
 use Rattle.tla_expr.specs.Nesting.{counts, tree_nesting}
+use Rattle.tla_expr.specs.Shapes.{Shaped}
 
 -- ---- spelling
 abbrev at : ℕ → ℕ → Place
@@ -37,6 +38,9 @@ name l c x = spelled.name (at l c) x
 
 abbrev leaf : ℕ → ℕ → Word → Tree
 leaf l c x = node (tree.name x) (at l c) no_trees
+
+abbrev bound : ℕ → ℕ → Word → Name
+bound l c x = record { word = x; place = at l c }
 
 abbrev infix_tree : Op → Place → Tree → Tree → Tree
 infix_tree o p a b = node (operation o) p (two a b)
@@ -102,7 +106,7 @@ two_columns p q a b l g = let e : q.col ≡ p.col = g.2.2.0 in omega arith
 
 -- `{x \in S : a}` is a filter, and no image
 filtered : Spells (m 1 1 tk.open_brace ∷ w 1 2 x' ∷ s 1 4 op.In ∷ w 1 8 s' ∷ m 1 10 tk.colon ∷ w 1 12 a' ∷ m 1 13 tk.close_brace ∷ [])
-    (node (tree.binding binder.Filter (x' ∷ [])) (at 1 1) (two (leaf 1 8 s') (leaf 1 12 a')))
+    (node (tree.binding binder.Filter ((bound 1 2 x' ∷ []) ∷ [])) (at 1 1) (two (leaf 1 8 s') (leaf 1 12 a')))
 filtered = (spelled.filter (at 1 1) (at 1 2) x' (at 1 4) (name 1 8 s') (at 1 10) (name 1 12 a') (at 1 13), search, refl, refl)
 
 no_image : (p q r t u : Place) (x : Word) (s a : Phrase) (bs : Binds) → Good 0 (spelled.image p (spelled.infix_of (spelled.name q x) r op.In s) t bs u) → ⊥
@@ -110,13 +114,34 @@ no_image p q r t u x s a bs g = let e : false ≡ true = g.5 in cc
 
 -- `{x : x \in S}` is an image
 mapped : Spells (m 1 1 tk.open_brace ∷ w 1 2 x' ∷ m 1 4 tk.colon ∷ w 1 6 x' ∷ s 1 8 op.In ∷ w 1 12 s' ∷ m 1 13 tk.close_brace ∷ [])
-    (node (tree.binding binder.Image (x' ∷ [])) (at 1 1) (two (leaf 1 12 s') (leaf 1 2 x')))
+    (node (tree.binding binder.Image ((bound 1 6 x' ∷ []) ∷ [])) (at 1 1) (two (leaf 1 12 s') (leaf 1 2 x')))
 mapped = (spelled.image (at 1 1) (name 1 2 x') (at 1 4) (spelled.last_bind (at 1 6) x' (at 1 8) (name 1 12 s')) (at 1 13), search, refl, refl)
 
--- `\A x, a \in S : b` has the set for each name
+-- `\A x, a \in S : b` has one set, and its names the places of their tokens
 for_all : Spells (k 1 1 tk.for_all_key ∷ w 1 4 x' ∷ m 1 5 tk.comma ∷ w 1 7 a' ∷ s 1 9 op.In ∷ w 1 13 s' ∷ m 1 15 tk.colon ∷ w 1 17 b' ∷ [])
-    (node (tree.binding binder.ForAll (x' ∷ a' ∷ [])) (at 1 1) (tree (leaf 1 13 s') (two (leaf 1 13 s') (leaf 1 17 b'))))
+    (node (tree.binding binder.ForAll ((bound 1 4 x' ∷ bound 1 7 a' ∷ []) ∷ [])) (at 1 1) (two (leaf 1 13 s') (leaf 1 17 b')))
 for_all = (spelled.quantified true (at 1 1) (spelled.share (at 1 4) x' (at 1 5) (spelled.last_bind (at 1 7) a' (at 1 9) (name 1 13 s'))) (at 1 15) (name 1 17 b'), search, refl, refl)
+
+-- `\E x, a \in S, b \in a : c` has a set for each of its two groups
+abbrev two_groups : List (List Name)
+two_groups = (bound 1 4 x' ∷ bound 1 7 a' ∷ []) ∷ (bound 1 16 b' ∷ []) ∷ []
+
+exists : Spells (k 1 1 tk.exists_key ∷ w 1 4 x' ∷ m 1 5 tk.comma ∷ w 1 7 a' ∷ s 1 9 op.In ∷ w 1 13 s' ∷ m 1 14 tk.comma ∷ w 1 16 b' ∷ s 1 18 op.In ∷ w 1 22 a' ∷ m 1 24 tk.colon ∷ w 1 26 c' ∷ [])
+    (node (tree.binding binder.Exists two_groups) (at 1 1) (tree (leaf 1 13 s') (two (leaf 1 22 a') (leaf 1 26 c'))))
+exists = (spelled.quantified false (at 1 1) (spelled.share (at 1 4) x' (at 1 5) (spelled.bind (at 1 7) a' (at 1 9) (name 1 13 s') (at 1 14) (spelled.last_bind (at 1 16) b' (at 1 18) (name 1 22 a')))) (at 1 24) (name 1 26 c'), search, refl, refl)
+
+binders_of_groups : binders (tree.binding binder.Exists two_groups) ≡ x' ∷ a' ∷ b' ∷ []
+binders_of_groups = refl
+
+-- no group is empty, there is a set for each, and a filter has one name
+no_empty_group : Shaped (tree.binding binder.Exists ((bound 1 4 x' ∷ []) ∷ [] ∷ [])) 3 → ⊥
+no_empty_group h = omega (arith, h.0)
+
+shaped_groups : Shaped (tree.binding binder.Exists two_groups) 3
+shaped_groups = ((omega arith, omega arith), refl)
+
+no_filter_of_two : Shaped (tree.binding binder.Filter ((bound 1 4 x' ∷ bound 1 7 a' ∷ []) ∷ [])) 2 → ⊥
+no_filter_of_two h = h.0
 
 -- `f[a, b]` is f[<<a, b>>]
 applied : Spells (w 1 1 f' ∷ m 1 2 tk.open_square ∷ w 1 3 a' ∷ m 1 4 tk.comma ∷ w 1 6 b' ∷ m 1 7 tk.close_square ∷ [])
@@ -140,8 +165,11 @@ with_other = (spelled.cases (at 1 1) (spelled.other_arm (name 1 6 a') (at 1 8) (
 closed_by_list : Spells (k 1 1 tk.case_key ∷ w 1 6 a' ∷ m 1 8 tk.arrow ∷ s 1 11 op.And ∷ k 1 14 tk.case_key ∷ w 1 19 b' ∷ m 1 21 tk.arrow ∷ w 1 24 c' ∷ m 2 8 tk.box ∷ w 2 11 x' ∷ m 2 13 tk.arrow ∷ w 2 16 b' ∷ []) (node (tree.cases false) (at 1 1) (tree (leaf 1 6 a') (tree (node (tree.cases false) (at 1 14) (two (leaf 1 19 b') (leaf 1 24 c'))) (two (leaf 2 11 x') (leaf 2 16 b')))))
 closed_by_list = (spelled.cases (at 1 1) (spelled.arm (name 1 6 a') (at 1 8) (spelled.list op.And (spelled.last_bullet (at 1 11) (spelled.cases (at 1 14) (spelled.last_arm (name 1 19 b') (at 1 21) (name 1 24 c'))))) (at 2 8) (spelled.last_arm (name 2 11 x') (at 2 13) (name 2 16 b'))), search, refl, refl)
 
--- `LET a == b c == a IN c`
-two_locals : Spells (k 1 1 tk.let_key ∷ w 1 5 a' ∷ m 1 7 tk.defines ∷ w 1 10 b' ∷ w 1 12 c' ∷ m 1 14 tk.defines ∷ w 1 17 a' ∷ k 1 19 tk.in_key ∷ w 1 22 c' ∷ []) (node (tree.local a') (at 1 1) (two (leaf 1 10 b') (node (tree.local c') (at 1 1) (two (leaf 1 17 a') (leaf 1 22 c')))))
+-- `LET a == b c == a IN c` is one form, with a right side for each name
+abbrev two_locals_tree : Tree
+two_locals_tree = node (tree.local (bound 1 5 a' ∷ bound 1 12 c' ∷ [])) (at 1 1) (tree (leaf 1 10 b') (two (leaf 1 17 a') (leaf 1 22 c')))
+
+two_locals : Spells (k 1 1 tk.let_key ∷ w 1 5 a' ∷ m 1 7 tk.defines ∷ w 1 10 b' ∷ w 1 12 c' ∷ m 1 14 tk.defines ∷ w 1 17 a' ∷ k 1 19 tk.in_key ∷ w 1 22 c' ∷ []) two_locals_tree
 two_locals = (spelled.local (at 1 1) (spelled.more_locals (at 1 5) a' (at 1 7) (name 1 10 b') (spelled.last_local (at 1 12) c' (at 1 14) (name 1 17 a'))) (at 1 19) (name 1 22 c'), search, refl, refl)
 
 -- `[pc |-> a, procedure |-> b]`: the name of a field may be a reserved word
@@ -191,16 +219,38 @@ writes_lists = refl
 writes_next : written (o_tree op.Equal (node (tree.next x') (at 1 1) no_trees) (node (tree.string (codes "a\\\"")) (at 1 1) no_trees)) ≡ codes "x' = \"a\\\\\\\"\""
 writes_next = refl
 
-writes_for_all : written (node (tree.binding binder.ForAll (x' ∷ a' ∷ [])) (at 1 1) (tree (o_tree op.Range (number 1) (number 3)) (two (v s') (o_tree op.Equal (v x') (v a'))))) ≡ codes "\\A x \\in (1..3), a \\in S : x = a"
+abbrev for_all_tree : Tree
+for_all_tree = node (tree.binding binder.ForAll ((bound 1 1 x' ∷ []) ∷ (bound 1 1 a' ∷ []) ∷ [])) (at 1 1) (tree (o_tree op.Range (number 1) (number 3)) (two (v s') (o_tree op.Equal (v x') (v a'))))
+
+writes_for_all : written for_all_tree ≡ codes "\\A x \\in (1..3), a \\in S : x = a"
 writes_for_all = rw (one_text, three_text) refl
 
-writes_image : written (node (tree.binding binder.Image (x' ∷ [])) (at 1 1) (two (v s') (o_tree op.Plus (v x') (number 1)))) ≡ codes "{(x + 1) : x \\in S}"
+-- groups and definitions are written as they are read
+abbrev exists_tree : Tree
+exists_tree = node (tree.binding binder.Exists two_groups) (at 1 1) (tree (v s') (two (v a') (v c')))
+
+writes_groups : written exists_tree ≡ codes "\\E x, a \\in S, b \\in a : c"
+writes_groups = refl
+
+writes_function_of_two : written (node (tree.binding binder.Function ((bound 1 1 x' ∷ bound 1 1 a' ∷ []) ∷ [])) (at 1 1) (two (v s') (v x'))) ≡ codes "[x, a \\in S |-> x]"
+writes_function_of_two = refl
+
+writes_two_locals : written two_locals_tree ≡ codes "LET a == b c == a IN c"
+writes_two_locals = refl
+
+abbrev image_tree : Tree
+image_tree = node (tree.binding binder.Image ((bound 1 1 x' ∷ []) ∷ [])) (at 1 1) (two (v s') (o_tree op.Plus (v x') (number 1)))
+
+writes_image : written image_tree ≡ codes "{(x + 1) : x \\in S}"
 writes_image = rw one_text refl
 
 writes_cases : written (node (tree.cases true) (at 1 1) (tree (o_tree op.Equal (v x') (number 1)) (two (v a') (v b')))) ≡ codes "CASE (x = 1) -> a [] OTHER -> b"
 writes_cases = rw one_text refl
 
-writes_local : written (node (tree.local x') (at 1 1) (two (o_tree op.Plus (v a') (number 1)) (node tree.if_then_else (at 1 1) (tree (v a') (two (v b') (v x')))))) ≡ codes "LET x == a + 1 IN IF a THEN b ELSE x"
+abbrev local_tree : Tree
+local_tree = node (tree.local (bound 1 1 x' ∷ [])) (at 1 1) (two (o_tree op.Plus (v a') (number 1)) (node tree.if_then_else (at 1 1) (tree (v a') (two (v b') (v x')))))
+
+writes_local : written local_tree ≡ codes "LET x == a + 1 IN IF a THEN b ELSE x"
 writes_local = rw one_text refl
 
 abbrev slot : List PathStep → Slot
@@ -219,16 +269,22 @@ SameTokens t = kinds (spell (phrase_of t) []) ≡ tokens_of (pieces t)
 phrase_of_product : SameTokens (o_tree op.Times (o_tree op.Plus (v x') (number 1)) (number 2))
 phrase_of_product = refl
 
-phrase_of_for_all : SameTokens (node (tree.binding binder.ForAll (x' ∷ a' ∷ [])) (at 1 1) (tree (o_tree op.Range (number 1) (number 3)) (two (v s') (o_tree op.Equal (v x') (v a')))))
+phrase_of_for_all : SameTokens for_all_tree
 phrase_of_for_all = refl
 
-phrase_of_image : SameTokens (node (tree.binding binder.Image (x' ∷ [])) (at 1 1) (two (v s') (o_tree op.Plus (v x') (number 1))))
+phrase_of_groups : SameTokens exists_tree
+phrase_of_groups = refl
+
+phrase_of_two_locals : SameTokens two_locals_tree
+phrase_of_two_locals = refl
+
+phrase_of_image : SameTokens image_tree
 phrase_of_image = refl
 
 phrase_of_cases : SameTokens (node (tree.cases true) (at 1 1) (tree (o_tree op.Equal (v x') (number 1)) (two (v a') (v b'))))
 phrase_of_cases = refl
 
-phrase_of_local : SameTokens (node (tree.local x') (at 1 1) (two (o_tree op.Plus (v a') (number 1)) (node tree.if_then_else (at 1 1) (tree (v a') (two (v b') (v x'))))))
+phrase_of_local : SameTokens local_tree
 phrase_of_local = refl
 
 phrase_of_except : SameTokens (strict_tree (tree.except (slot (tree.index ∷ []) ∷ slot (tree.index ∷ []) ∷ [])) (tree (v a') (tree (number 1) (tree (number 2) (two (number 2) (strict_tree tree.apply (two (v a') (number 1))))))))
@@ -252,3 +308,7 @@ counts_list = refl
 
 nests_product : tree_nesting (o_tree op.Times (o_tree op.Plus (v x') (number 1)) (number 2)) ≡ 2
 nests_product = refl
+
+-- a LET is one form, however many its definitions are
+nests_two_locals : tree_nesting two_locals_tree ≡ 1
+nests_two_locals = refl

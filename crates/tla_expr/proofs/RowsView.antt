@@ -23,5 +23,5 @@ of_a_left_out_word = refl
 of_a_prime : kind_of (lexeme.other (codes "'")) ≡ tk.mark tk.prime
 of_a_prime = refl
 
-of_an_assignment : kind_of (one sign.Assign) ≡ tk.other
+of_an_assignment : kind_of (one sign.Assign) ≡ tk.mark tk.assigns
 of_an_assignment = refl

@@ -4,13 +4,16 @@ use Rattle.std.specs.Coded.{Coded, codes}
 use Rattle.std.proofs.Common.{ap, subst, sym}
 use base.Stored.{Gv, gnil, gcons}
 use Rattle.tla_token.specs.declared.place.Place.{Place}
-use Rattle.tla_expr.specs.Tree.{Form, Tree, node, Trees, no_trees, tree}
+use Rattle.tla_expr.specs.Tree.{Name, Form, Tree, node, Trees, no_trees, tree}
 
 pub form_code : Coded Form
 form_code = hlevel codes
 
 pub place_code : Coded Place
 place_code = hlevel codes
+
+pub name_code : Coded Name
+name_code = hlevel codes
 
 abbrev front : Gv → Gv
 front (gcons a b) = a

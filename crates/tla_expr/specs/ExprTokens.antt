@@ -1,4 +1,4 @@
--- What the grammar of expressions sees of the tokens of a text.
+-- What the grammars of expressions and of algorithms see of the tokens of a text.
 use Rattle.std.specs.Prelude.{ℕ, List, [], ◌∷◌, Bool, true, false, map, codes, if◌then◌else◌}
 use Rattle.std.specs.Str.{bytes_eq}
 use Rattle.tla_token.specs.declared.sign.Sign.{Sign}
@@ -57,7 +57,9 @@ sign_kind sign.Divide = tk.sign op.Divide
 sign_kind sign.Concat = tk.sign op.Concat
 sign_kind sign.ForAll = tk.key tk.for_all_key
 sign_kind sign.Exists = tk.key tk.exists_key
-sign_kind s = tk.other
+sign_kind sign.Assign = tk.mark tk.assigns
+sign_kind sign.Parallel = tk.mark tk.beside
+sign_kind sign.Semicolon = tk.mark tk.semicolon
 
 -- the kind of the first word that is w
 abbrev pub kind_among : List (Word × ExprToken) → Word → ExprToken → ExprToken

@@ -1,5 +1,6 @@
 -- The form of the pure tree that a form of the code stands for.
-use Rattle.std.specs.Prelude.{List, map}
+use Rattle.std.specs.Prelude.{List, Vec, map}
+use Rattle.std.specs.declared.alloc.Global.{Global}
 use Rattle.tla_expr.specs.Tree as pure
 use Rattle.tla_expr.specs.declared.form.Step.{Step}
 use Rattle.tla_expr.specs.declared.form.Step.TheVariants as step
@@ -33,6 +34,9 @@ strict_of strict.Apply = pure.apply
 strict_of (strict.Select a) = pure.select a
 strict_of (strict.Except slots) = pure.except (slots_of slots.items)
 
+abbrev pub groups_of : List (Vec pure.Name Global) → List (List pure.Name)
+groups_of gs = map (λ (g : Vec pure.Name Global). g.items) gs
+
 abbrev pub form_of : Form → pure.Form
 form_of (form.Number n) = pure.number n
 form_of (form.Quote t) = pure.string t
@@ -49,5 +53,5 @@ form_of form.Implies = pure.implication
 form_of (form.Member b) = pure.member b
 form_of form.Choice = pure.if_then_else
 form_of (form.Cases b) = pure.cases b
-form_of (form.Binding b xs) = pure.binding b xs
-form_of (form.Local x) = pure.local x
+form_of (form.Binding b gs) = pure.binding b (groups_of gs.items)
+form_of (form.Local xs) = pure.local xs.items

@@ -25,6 +25,9 @@ pub data Mark : Type 0 where
   defines : Mark  -- ==
   box : Mark  -- []
   prime : Mark  -- ', in written text alone
+  assigns : Mark  -- :=, which is in no expression, as the next two
+  beside : Mark  -- ||
+  semicolon : Mark  -- ;
 
 -- reserved words and signs that begin or divide a form
 pub data Key : Type 0 where
@@ -123,6 +126,9 @@ mark_text maps = codes "|->"
 mark_text defines = codes "=="
 mark_text box = codes "[]"
 mark_text prime = codes "'"
+mark_text assigns = codes ":="
+mark_text beside = codes "||"
+mark_text semicolon = codes ";"
 
 abbrev pub key_text : Key → List ℕ
 key_text if_key = codes "IF"

@@ -6,7 +6,7 @@ use Rattle.std.specs.Bool.{IsTrue}
 use Rattle.tla_expr.specs.declared.op.Op.{Op}
 use Rattle.tla_expr.specs.declared.op.Op.TheVariants as op
 use Rattle.tla_expr.specs.Rank.{is_prefix}
-use Rattle.tla_expr.specs.Tree.{Word, PathStep, index, field, Slot, Strict, operator, set_of, tuple, fields, records, functions, apply, select, except, Form, number, strict, operator_call, conjunction, disjunction, implication, member, if_then_else, cases, binding, local}
+use Rattle.tla_expr.specs.Tree.{Name, PathStep, index, field, Slot, Strict, operator, set_of, tuple, fields, records, functions, apply, select, except, Form, number, strict, operator_call, conjunction, disjunction, implication, member, if_then_else, cases, binding, local}
 
 -- the others are forms of their own
 abbrev pub is_strict : Op → Bool
@@ -65,10 +65,20 @@ CaseShaped false n = IsPaired n
 CaseShaped true zero = ⊥
 CaseShaped true (suc n) = IsPaired n
 
--- a filter has one name, the others at least one; a set for each, and the body
-abbrev pub BinderShaped : Binder → List Word → ℕ → Type 0
-BinderShaped binder.Filter xs n = (length xs ≡ 1) × (n ≡ 2)
-BinderShaped b xs n = (1 ≤ length xs) × (n ≡ suc (length xs))
+abbrev pub IsOneName : List (List Name) → Type 0
+IsOneName ((x ∷ []) ∷ []) = Unit {0}
+IsOneName gs = ⊥
+
+-- there is a group, and each has a name
+abbrev pub HaveNames : List (List Name) → Type 0
+HaveNames [] = ⊥
+HaveNames (g ∷ []) = 1 ≤ length g
+HaveNames (g ∷ h ∷ gs) = (1 ≤ length g) × HaveNames (h ∷ gs)
+
+-- a filter has one name; a set for each group, and the body
+abbrev pub BinderShaped : Binder → List (List Name) → ℕ → Type 0
+BinderShaped binder.Filter gs n = IsOneName gs × (n ≡ 2)
+BinderShaped b gs n = HaveNames gs × (n ≡ suc (length gs))
 
 -- no number is past 2^127 - 1
 abbrev pub Shaped : Form → ℕ → Type 0
@@ -81,6 +91,6 @@ Shaped implication n = n ≡ 2
 Shaped (member b) n = n ≡ 2
 Shaped if_then_else n = n ≡ 3
 Shaped (cases b) n = CaseShaped b n
-Shaped (binding b xs) n = BinderShaped b xs n
-Shaped (local x) n = n ≡ 2
+Shaped (binding b gs) n = BinderShaped b gs n
+Shaped (local xs) n = (1 ≤ length xs) × (n ≡ suc (length xs))
 Shaped _ n = n ≡ 0

@@ -5,7 +5,7 @@ use Rattle.tla_token.specs.declared.place.Place.{Place}
 use Rattle.tla_expr.specs.declared.op.Op.{Op}
 use Rattle.tla_expr.specs.declared.op.Op.TheVariants as op
 use Rattle.tla_expr.specs.declared.op.Binder.TheVariants as binder
-use Rattle.tla_expr.specs.Tree.{Word, PathStep, Slot, Form, Tree, Trees, node, no_trees, tree}
+use Rattle.tla_expr.specs.Tree.{Word, Name, PathStep, Slot, Form, Tree, Trees, node, no_trees, tree}
 use Rattle.tla_expr.specs.Tree as tree
 use Rattle.tla_expr.specs.Rank.{rank, is_prefix, is_associative, is_bullet, same_op}
 use Rattle.tla_expr.specs.Lexical.{Mark, Key, Constant, truth, booleans, strings, Token, token, sign_of, field_kind}
@@ -231,10 +231,23 @@ constant_form (truth b) = tree.truth b
 constant_form booleans = tree.booleans
 constant_form strings = tree.strings
 
-abbrev pub names : Binds → List Word
-names (last_bind p x q a) = x ∷ []
-names (bind p x q a r bs) = x ∷ names bs
-names (share p x q bs) = x ∷ names bs
+abbrev pub named : Place → Word → Name
+named p x = record { word = x; place = p }
+
+-- the name is one more of the first group
+abbrev pub in_first : Name → List (List Name) → List (List Name)
+in_first x [] = (x ∷ []) ∷ []
+in_first x (g ∷ gs) = (x ∷ g) ∷ gs
+
+-- the names that share a set are a group
+abbrev pub groups : Binds → List (List Name)
+groups (last_bind p x q a) = (named p x ∷ []) ∷ []
+groups (bind p x q a r bs) = (named p x ∷ []) ∷ groups bs
+groups (share p x q bs) = in_first (named p x) (groups bs)
+
+abbrev pub local_names : Locals → List Name
+local_names (last_local p x q a) = named p x ∷ []
+local_names (more_locals p x q a ls) = named p x ∷ local_names ls
 
 abbrev pub labels : Fields → List Word
 labels (last_field f p a) = f.text ∷ []
@@ -266,23 +279,23 @@ abbrev mutual
   tree_of (brackets p a q) = tree_of a
   tree_of (no_set p q) = node (tree.strict tree.set_of) p no_trees
   tree_of (set_of p xs q) = node (tree.strict tree.set_of) p (trees_of xs)
-  tree_of (filter p q x r s t a u) = node (tree.binding binder.Filter (x ∷ [])) p (two (tree_of s) (tree_of a))
-  tree_of (image p a q bs r) = node (tree.binding binder.Image (names bs)) p (sets_before bs (one (tree_of a)))
+  tree_of (filter p q x r s t a u) = node (tree.binding binder.Filter ((named q x ∷ []) ∷ [])) p (two (tree_of s) (tree_of a))
+  tree_of (image p a q bs r) = node (tree.binding binder.Image (groups bs)) p (sets_before bs (one (tree_of a)))
   tree_of (no_tuple p q) = node (tree.strict tree.tuple) p no_trees
   tree_of (tuple p xs q) = node (tree.strict tree.tuple) p (trees_of xs)
   tree_of (fields p fs q) = node (tree.strict (tree.fields (labels fs))) p (field_trees fs)
   tree_of (records p fs q) = node (tree.strict (tree.records (labels fs))) p (field_trees fs)
-  tree_of (function p bs q a r) = node (tree.binding binder.Function (names bs)) p (sets_before bs (one (tree_of a)))
+  tree_of (function p bs q a r) = node (tree.binding binder.Function (groups bs)) p (sets_before bs (one (tree_of a)))
   tree_of (functions p a q b r) = node (tree.strict tree.functions) p (two (tree_of a) (tree_of b))
   tree_of (except p a q ss r) = node (tree.strict (tree.except (slots p ss))) p (tree (tree_of a) (setting_trees ss))
   tree_of (apply a p xs q) = node (tree.strict tree.apply) (start a) (two (tree_of a) (subscript xs))
   tree_of (select a p f) = node (tree.strict (tree.select f.text)) (start a) (one (tree_of a))
   tree_of (list o bs) = joined o bs
-  tree_of (quantified true p bs q a) = node (tree.binding binder.ForAll (names bs)) p (sets_before bs (one (tree_of a)))
-  tree_of (quantified false p bs q a) = node (tree.binding binder.Exists (names bs)) p (sets_before bs (one (tree_of a)))
+  tree_of (quantified true p bs q a) = node (tree.binding binder.ForAll (groups bs)) p (sets_before bs (one (tree_of a)))
+  tree_of (quantified false p bs q a) = node (tree.binding binder.Exists (groups bs)) p (sets_before bs (one (tree_of a)))
   tree_of (if_then_else p a q b r c) = node tree.if_then_else p (tree (tree_of a) (two (tree_of b) (tree_of c)))
   tree_of (cases p xs) = node (tree.cases (has_other xs)) p (arm_trees xs)
-  tree_of (local p ls q a) = local_tree p ls (tree_of a)
+  tree_of (local p ls q a) = node (tree.local (local_names ls)) p (right_sides_before ls (one (tree_of a)))
   tree_of (infix_of a p o b) = node (operation o) (start a) (two (tree_of a) (tree_of b))
   tree_of (prefix_of p o a) = node (operation o) p (one (tree_of a))
 
@@ -295,16 +308,11 @@ abbrev mutual
   subscript (last a) = tree_of a
   subscript (more a p xs) = node (tree.strict tree.tuple) (start a) (tree (tree_of a) (trees_of xs))
 
-  -- a set for each name
+  -- a set for each group
   pub sets_before : Binds → Trees → Trees
   sets_before (last_bind p x q a) ts = tree (tree_of a) ts
   sets_before (bind p x q a r bs) ts = tree (tree_of a) (sets_before bs ts)
-  sets_before (share p x q bs) ts = tree (first_set bs) (sets_before bs ts)
-
-  pub first_set : Binds → Tree
-  first_set (last_bind p x q a) = tree_of a
-  first_set (bind p x q a r bs) = tree_of a
-  first_set (share p x q bs) = first_set bs
+  sets_before (share p x q bs) ts = sets_before bs ts
 
   pub field_trees : Fields → Trees
   field_trees (last_field f p a) = one (tree_of a)
@@ -333,10 +341,9 @@ abbrev mutual
   arm_trees (other_arm a p b q r s c) = tree (tree_of a) (two (tree_of b) (tree_of c))
   arm_trees (arm a p b q xs) = tree (tree_of a) (tree (tree_of b) (arm_trees xs))
 
-  -- LET x == a y == b IN c is LET x == a IN LET y == b IN c, both at the place of the LET
-  pub local_tree : Place → Locals → Tree → Tree
-  local_tree at (last_local p x q a) t = node (tree.local x) at (two (tree_of a) t)
-  local_tree at (more_locals p x q a ls) t = node (tree.local x) at (two (tree_of a) (local_tree at ls t))
+  pub right_sides_before : Locals → Trees → Trees
+  right_sides_before (last_local p x q a) ts = tree (tree_of a) ts
+  right_sides_before (more_locals p x q a ls) ts = tree (tree_of a) (right_sides_before ls ts)
 
 -- ---- ranks
 -- what a phrase is, to the operators beside it

@@ -1,5 +1,6 @@
 -- The tree of an expression: one shape for all forms ("Specifying Systems", chapter 16).
-use Rattle.std.specs.Prelude.{ℕ, ◌+◌, List, [], ◌∷◌, Bool, Option, Some, None}
+use Rattle.std.specs.Prelude.{ℕ, ◌+◌, List, [], ◌∷◌, ◌++◌, Bool, Option, Some, None, map}
+use Rattle.std.specs.List.{flat_map}
 use Rattle.tla_token.specs.declared.place.Place.{Place}
 use Rattle.tla_expr.specs.declared.op.Op.{Op}
 use Rattle.tla_expr.specs.declared.op.Binder.{Binder}
@@ -7,6 +8,14 @@ use Rattle.tla_expr.specs.declared.op.Binder.{Binder}
 -- a name or a string, as its bytes
 abbrev pub Word : Type 0
 Word = List ℕ
+
+-- a word where it is: a name that is bound or declared, or a label
+pub record Name : Type 0 where
+  pub word : Word
+  pub place : Place
+
+abbrev pub words : List Name → List Word
+words xs = map (λ (x : Name). x.word) xs
 
 -- a step of a path behind `!` in an EXCEPT, or behind the variable of a left side
 pub data PathStep : Type 0 where
@@ -47,8 +56,8 @@ pub data Form : Type 0 where
   member : Bool → Form  -- a \in b; with false, a \notin b
   if_then_else : Form  -- IF a THEN b ELSE c
   cases : Bool → Form  -- CASE a -> b [] c -> d; with true, and an OTHER at the end
-  binding : Binder → List Word → Form  -- a set for each name, and the body
-  local : Word → Form  -- LET x == a IN b
+  binding : Binder → List (List Name) → Form  -- x, y \in S, z \in T: a set for each group of names, and the body
+  local : List Name → Form  -- LET x == a y == b IN c: a right side for each name, seen by those after it, and the body
 
 mutual
   pub data Tree : Type 0 where
@@ -57,6 +66,10 @@ mutual
   pub data Trees : Type 0 where
     no_trees : Trees
     tree : Tree → Trees → Trees
+
+-- the place of a tree: that of its first token
+abbrev pub root_place : Tree → Place
+root_place (node m at ts) = at
 
 -- a fact of each node
 abbrev mutual
@@ -72,11 +85,22 @@ abbrev pub Each : (Word → Type 0) → List Word → Type 0
 Each P [] = Unit {0}
 Each P (x ∷ xs) = P x × Each P xs
 
--- the names that a form binds in its last part
+-- the names that a form binds
 abbrev pub binders : Form → List Word
-binders (binding b xs) = xs
-binders (local x) = x ∷ []
+binders (binding b gs) = flat_map words gs
+binders (local xs) = words xs
 binders _ = []
+
+-- from none of them to all
+abbrev pub beginnings : List Word → List (List Word)
+beginnings [] = [] ∷ []
+beginnings (x ∷ xs) = [] ∷ map (λ ys. x ∷ ys) (beginnings xs)
+
+-- those of them that each part sees, part by part: the body of a binder sees all, and what stands in a LET those before it
+abbrev pub seen_names : Form → List (List Word)
+seen_names (binding b groups) = map (λ (xs : List Name). []) groups ++ flat_map words groups ∷ []
+seen_names (local xs) = beginnings (words xs)
+seen_names _ = []
 
 -- the count of nodes
 abbrev mutual

@@ -4,7 +4,7 @@ use Rattle.tla_expr.specs.declared.op.Op.{Op}
 use Rattle.tla_expr.specs.declared.op.Op.TheVariants as op
 use Rattle.tla_expr.specs.declared.op.Binder.{Binder}
 use Rattle.tla_expr.specs.declared.op.Binder.TheVariants as binder
-use Rattle.tla_expr.specs.Tree.{Word, PathStep, Slot, Strict, Form, Tree, Trees, node, no_trees, tree}
+use Rattle.tla_expr.specs.Tree.{Word, Name, PathStep, Slot, Strict, Form, Tree, Trees, node, no_trees, tree}
 use Rattle.tla_expr.specs.Tree as tree
 use Rattle.tla_expr.specs.Lexical.{ExprToken, Mark, Key, sign_of, field_kind, token_text}
 use Rattle.tla_expr.specs.Lexical as tk
@@ -73,14 +73,26 @@ field_pieces s (x ∷ []) (a ∷ []) ps = field x (s (plain a ps))
 field_pieces s (x ∷ y ∷ ys) (a ∷ xs) ps = field x (s (plain a (comma (field_pieces s (y ∷ ys) xs ps))))
 field_pieces s ys xs ps = ps
 
--- x \in S, y \in T
-abbrev pub bind_pieces : List Word → List Part → List Piece → List Piece
-bind_pieces (x ∷ []) (a ∷ xs) ps = word x (spaced (tk.sign op.In) (as_operand a ps))
-bind_pieces (x ∷ y ∷ ys) (a ∷ xs) ps = word x (spaced (tk.sign op.In) (as_operand a (comma (bind_pieces (y ∷ ys) xs ps))))
-bind_pieces ys xs ps = ps
+-- x, y
+abbrev pub name_pieces : List Name → List Piece → List Piece
+name_pieces [] ps = ps
+name_pieces (x ∷ []) ps = word x.word ps
+name_pieces (x ∷ y ∷ xs) ps = word x.word (comma (name_pieces (y ∷ xs) ps))
 
--- the part behind the sets of these names
-abbrev pub body : List Word → List Part → Part
+-- x, y \in S, z \in T
+abbrev pub bind_pieces : List (List Name) → List Part → List Piece → List Piece
+bind_pieces (g ∷ []) (a ∷ xs) ps = name_pieces g (spaced (tk.sign op.In) (as_operand a ps))
+bind_pieces (g ∷ h ∷ gs) (a ∷ xs) ps = name_pieces g (spaced (tk.sign op.In) (as_operand a (comma (bind_pieces (h ∷ gs) xs ps))))
+bind_pieces gs xs ps = ps
+
+-- x == a y == b
+abbrev pub definition_pieces : List Name → List Part → List Piece → List Piece
+definition_pieces (x ∷ []) (a ∷ xs) ps = word x.word (spaced (tk.mark tk.defines) (plain a ps))
+definition_pieces (x ∷ y ∷ ys) (a ∷ xs) ps = word x.word (spaced (tk.mark tk.defines) (plain a (blank ∷ definition_pieces (y ∷ ys) xs ps)))
+definition_pieces ys xs ps = ps
+
+-- the part after one for each of these
+abbrev pub body : {A : Type 0} → List A → List Part → Part
 body [] (a ∷ xs) = a
 body (y ∷ ys) (a ∷ xs) = body ys xs
 body ys [] = λ b ps. ps
@@ -88,12 +100,12 @@ body ys [] = λ b ps. ps
 abbrev pub colon : List Piece → List Piece
 colon ps = blank ∷ mark tk.colon (blank ∷ ps)
 
-abbrev pub binding_pieces : Binder → List Word → List Part → List Piece → List Piece
-binding_pieces binder.ForAll ys xs ps = token (tk.key tk.for_all_key) ∷ blank ∷ bind_pieces ys xs (colon (plain (body ys xs) ps))
-binding_pieces binder.Exists ys xs ps = token (tk.key tk.exists_key) ∷ blank ∷ bind_pieces ys xs (colon (plain (body ys xs) ps))
-binding_pieces binder.Filter ys xs ps = mark tk.open_brace (bind_pieces ys xs (colon (plain (body ys xs) (mark tk.close_brace ps))))
-binding_pieces binder.Image ys xs ps = mark tk.open_brace (as_operand (body ys xs) (colon (bind_pieces ys xs (mark tk.close_brace ps))))
-binding_pieces binder.Function ys xs ps = mark tk.open_square (bind_pieces ys xs (spaced (tk.mark tk.maps) (plain (body ys xs) (mark tk.close_square ps))))
+abbrev pub binding_pieces : Binder → List (List Name) → List Part → List Piece → List Piece
+binding_pieces binder.ForAll gs xs ps = token (tk.key tk.for_all_key) ∷ blank ∷ bind_pieces gs xs (colon (plain (body gs xs) ps))
+binding_pieces binder.Exists gs xs ps = token (tk.key tk.exists_key) ∷ blank ∷ bind_pieces gs xs (colon (plain (body gs xs) ps))
+binding_pieces binder.Filter gs xs ps = mark tk.open_brace (bind_pieces gs xs (colon (plain (body gs xs) (mark tk.close_brace ps))))
+binding_pieces binder.Image gs xs ps = mark tk.open_brace (as_operand (body gs xs) (colon (bind_pieces gs xs (mark tk.close_brace ps))))
+binding_pieces binder.Function gs xs ps = mark tk.open_square (bind_pieces gs xs (spaced (tk.mark tk.maps) (plain (body gs xs) (mark tk.close_square ps))))
 
 -- the steps of a path, and then what the parts behind its subscripts give
 abbrev pub path_pieces : List PathStep → List Part → (List Part → List Piece) → List Piece
@@ -139,9 +151,8 @@ abbrev pub choice_pieces : List Part → List Piece → List Piece
 choice_pieces (a ∷ b ∷ c ∷ []) ps = token (tk.key tk.if_key) ∷ blank ∷ plain a (spaced (tk.key tk.then_key) (plain b (spaced (tk.key tk.else_key) (plain c ps))))
 choice_pieces xs ps = ps
 
-abbrev pub local_pieces : Word → List Part → List Piece → List Piece
-local_pieces x (a ∷ b ∷ []) ps = token (tk.key tk.let_key) ∷ blank ∷ word x (spaced (tk.mark tk.defines) (plain a (spaced (tk.key tk.in_key) (plain b ps))))
-local_pieces x xs ps = ps
+abbrev pub local_pieces : List Name → List Part → List Piece → List Piece
+local_pieces ys xs ps = token (tk.key tk.let_key) ∷ blank ∷ definition_pieces ys xs (spaced (tk.key tk.in_key) (plain (body ys xs) ps))
 
 abbrev pub form_pieces : Form → List Part → List Piece → List Piece
 form_pieces (tree.number n) xs ps = token (tk.number n) ∷ ps
@@ -160,8 +171,8 @@ form_pieces (tree.member true) xs ps = infix_pieces op.In xs ps
 form_pieces (tree.member false) xs ps = infix_pieces op.NotIn xs ps
 form_pieces tree.if_then_else xs ps = choice_pieces xs ps
 form_pieces (tree.cases b) xs ps = token (tk.key tk.case_key) ∷ blank ∷ arm_pieces b xs ps
-form_pieces (tree.binding b ys) xs ps = binding_pieces b ys xs ps
-form_pieces (tree.local x) xs ps = local_pieces x xs ps
+form_pieces (tree.binding b gs) xs ps = binding_pieces b gs xs ps
+form_pieces (tree.local ys) xs ps = local_pieces ys xs ps
 
 -- stands in brackets as an operand: an infix or prefix form, a quantifier, IF, CASE, LET
 abbrev pub is_bracketed : Form → Bool
@@ -172,9 +183,9 @@ is_bracketed tree.implication = true
 is_bracketed (tree.member b) = true
 is_bracketed tree.if_then_else = true
 is_bracketed (tree.cases b) = true
-is_bracketed (tree.binding binder.ForAll ys) = true
-is_bracketed (tree.binding binder.Exists ys) = true
-is_bracketed (tree.local x) = true
+is_bracketed (tree.binding binder.ForAll gs) = true
+is_bracketed (tree.binding binder.Exists gs) = true
+is_bracketed (tree.local ys) = true
 is_bracketed m = false
 
 abbrev pub bracketed : Bool → (List Piece → List Piece) → List Piece → List Piece

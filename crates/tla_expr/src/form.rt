@@ -1,9 +1,9 @@
 //! Forms of expressions: all of an expression but its place and its parts.
 
 ghost use Rattle.std.specs.Prelude.{◌≡◌, IfOk};
-ghost use Rattle.tla_expr.specs.FormOf.{step_of, steps_of, slot_of, slots_of, strict_of, form_of};
+ghost use Rattle.tla_expr.specs.FormOf.{step_of, steps_of, slot_of, slots_of, strict_of, groups_of, form_of};
 
-use crate::name::{Name, NameList, Text};
+use crate::name::{Name, NameList, PlacedName, Text};
 use crate::op::{Binder, Op};
 use std::alloc::{AllocError, Global};
 use tla_token::Place;
@@ -77,10 +77,10 @@ pub enum Form {
     Choice,
     /// `CASE a -> b [] c -> d`, and with true an `OTHER` at the end.
     Cases(bool),
-    /// A set for each name, and the body.
-    Binding(Binder, NameList),
-    /// `LET x == a IN b`
-    Local(Name),
+    /// `x, y \in S, z \in T`: a set for each group of names, and the body.
+    Binding(Binder, Vec<Vec<PlacedName>>),
+    /// `LET x == a y == b IN c`: a right side for each name, and the body.
+    Local(Vec<PlacedName>),
 }
 
 impl Step {
@@ -147,6 +147,29 @@ impl Strict {
     }
 }
 
+fn copied_names(alloc: Global, names: &[PlacedName]) -> Result<Vec<PlacedName>, AllocError>
+    ensures { IfOk result (λ v. v.items ≡ names.now) }
+{
+    let mut copies = Vec::new(alloc);
+    for name in names {
+        copies.push(name.copied()?)?;
+    }
+    Ok(copies)
+}
+
+fn copied_groups(
+    alloc: Global,
+    groups: &[Vec<PlacedName>],
+) -> Result<Vec<Vec<PlacedName>>, AllocError>
+    ensures { IfOk result (λ v. groups_of v.items ≡ groups_of groups.now) }
+{
+    let mut copies = Vec::new(alloc);
+    for group in groups {
+        copies.push(copied_names(alloc, group)?)?;
+    }
+    Ok(copies)
+}
+
 impl Form {
     /// The same form once more.
     pub fn copied(&self, alloc: Global) -> Result<Form, AllocError>
@@ -168,8 +191,11 @@ impl Form {
             Form::Member(sense) => Ok(Form::Member(*sense)),
             Form::Choice => Ok(Form::Choice),
             Form::Cases(other) => Ok(Form::Cases(*other)),
-            Form::Binding(binder, names) => Ok(Form::Binding(*binder, names.copied(alloc)?)),
-            Form::Local(x) => Ok(Form::Local(x.copied()?)),
+            Form::Binding(binder, groups) => Ok(Form::Binding(
+                *binder,
+                copied_groups(alloc, groups)?,
+            )),
+            Form::Local(names) => Ok(Form::Local(copied_names(alloc, names)?)),
         }
     }
 }

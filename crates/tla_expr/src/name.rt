@@ -10,6 +10,7 @@ ghost use Rattle.tla_expr.specs.Names.{has};
 use std::alloc::{AllocError, AllocFailed, Global};
 use std::hash::{Hash, Hasher};
 use std::marker::Model;
+use tla_token::Place;
 
 /// A name, as its bytes. Contracts see the list of its bytes.
 #[derive(Drop)]
@@ -77,6 +78,36 @@ impl Hash for Name {
 
     fn hash<H: Hasher>(&self, state: &mut H) {
         self.bytes.hash(state);
+    }
+}
+
+/// A name where it is: one that is bound. Contracts see the pure name, a word with its place.
+#[derive(Drop)]
+pub struct PlacedName {
+    pub name: Name,
+    pub place: Place,
+}
+
+impl Model for PlacedName {
+    ghost use Rattle.tla_expr.specs.Tree as pure;
+    ghost use Rattle.tla_expr.specs.Code.{name_code};
+
+    ghost Value = { pure.Name };
+
+    ghost coded = { name_code };
+
+    ghost view = { λ n. record { word = n.name; place = n.place } };
+}
+
+impl PlacedName {
+    /// The same name once more, at the same place.
+    pub fn copied(&self) -> Result<PlacedName, AllocError>
+        ensures { IfOk result (λ n. n ≡ self.now) }
+    {
+        Ok(PlacedName {
+            name: self.name.copied()?,
+            place: self.place,
+        })
     }
 }
 

@@ -3,22 +3,32 @@ use Rattle.std.proofs.Common.{◌≡◌, ℕ, zero, suc, ℤ, pos, ◌+ℤ◌, B
 use Rattle.std.specs.Cmp.{int_cmp_is}
 use Rattle.std.specs.declared.cmp.Ordering.TheVariants.{Less}
 use Rattle.std.proofs.lemmas.Int.{ints}
-use Rattle.tla_value.specs.Value.{Value, Values, truth, int, text, model, set, fun, no_values, and, Outcome, fault, over, values_in, ◌>>=◌}
+use Rattle.tla_value.specs.Value.{Value, Values, truth, int, text, model, set, fun, no_values, and, Outcome, values_in, ◌>>=◌}
 use Rattle.tla_value.specs.Order.{order, count, listed, set_from, pairs_of, IsBefore, IsAscending, IsCanonical, AreCanonical, ArePairsCanonical}
 use Rattle.tla_value.specs.Sets.{kept, sublists, subsets, integers, repeated, fronted, members, choices, functions_over}
 use Rattle.tla_value.specs.OrderLaws.{order_total}
 use Rattle.tla_value.proofs.OrderSets.{set_from_ascending, set_from_canonical}
 
+-- the result, if there is one, has the property
+abbrev pub Has : {X : Type 0} → (X → Type 0) → Outcome X → Type 0
+Has P (Ok x) = P x
+Has P (Err k) = Unit {0}
+
+pub then_has : {X Y : Type 0} (P : X → Type 0) (Q : Y → Type 0) (o : Outcome X) (go : X → Outcome Y) → Has P o → ((x : X) → P x → Has Q (go x)) → Has Q (o >>= go)
+then_has P Q (Ok x) go h k = k x h
+then_has P Q (Err j) go h k = tt
+
+pub any_has : {X Y : Type 0} (Q : Y → Type 0) (o : Outcome X) (go : X → Outcome Y) → ((x : X) → Has Q (go x)) → Has Q (o >>= go)
+any_has Q (Ok x) go k = k x
+any_has Q (Err j) go k = tt
+
+pub has_cond : {X : Type 0} (P : X → Type 0) (b : Bool) (o q : Outcome X) → Has P o → Has P q → Has P (cond b o q)
+has_cond P true o q h k = h
+has_cond P false o q h k = k
+
 -- a value, if there is one, is canonical
 abbrev pub Proper : Outcome Value → Type 0
-Proper (Ok v) = IsCanonical v
-Proper (Err (fault k p)) = Unit {0}
-Proper (Err (over p)) = Unit {0}
-
-pub proper_value : (o : Outcome Value) (go : Value → Outcome Value) → Proper o → ((v : Value) → IsCanonical v → Proper (go v)) → Proper (o >>= go)
-proper_value (Ok v) go h k = k v h
-proper_value (Err (fault j p)) go h k = tt
-proper_value (Err (over p)) go h k = tt
+Proper = Has IsCanonical
 
 -- ---- sets
 

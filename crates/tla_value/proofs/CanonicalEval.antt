@@ -3,19 +3,14 @@ use Rattle.std.proofs.Common.{Bool, true, false, cond, bytes_eq, List, [], ◌�
 use Rattle.tla_token.specs.declared.place.Place.{Place}
 use Rattle.tla_expr.specs.declared.op.Binder.{Binder}
 use Rattle.tla_expr.specs.declared.op.Binder.TheVariants.{ForAll, Exists, Filter, Image, Function}
-use Rattle.tla_expr.specs.Tree.{Word, Form, number, string, truth as literal, booleans, strings, name, next, strict, operator_call, conjunction, disjunction, implication, member, if_then_else, cases, binding, local, Tree, node, Trees, no_trees, tree}
-use Rattle.tla_value.specs.Value.{Value, Values, truth, no_values, and, Outcome, fault, over, Sense, values_in, ◌>>=◌}
+use Rattle.tla_expr.specs.Tree.{Word, Name, Form, number, string, truth as literal, booleans, strings, name, next, strict, operator_call, conjunction, disjunction, implication, member, if_then_else, cases, binding, local, Tree, node, Trees, no_trees, tree}
+use Rattle.tla_value.specs.Value.{Value, Values, truth, no_values, and, Outcome, Sense, values_in, ◌>>=◌, in_order}
 use Rattle.tla_value.specs.Order.{IsCanonical, AreCanonical, ArePairsCanonical}
-use Rattle.tla_value.specs.Stops.{Check, on_two, on_three}
-use Rattle.tla_value.specs.Meaning.{Env, Denotation, bind, just, on_all, on_test, Row, Visit, with_first, each_member, each_choice, fits_binder, visit_body, key, is_true, where_true, results, table, gathered, on_sources, first_arm, called, meaning_of, eval, evals}
+use Rattle.tla_value.specs.Stops.{Check, truth_at, members_at, one_of, two_of, three_of}
+use Rattle.tla_value.specs.Meaning.{Env, Denotation, bind, just, part_values, test, Row, with_first, at_members, at_group, at_choices, suited, at_body, key, is_true, where_true, results, table, gathered, sources, local_value, first_arm, called, meaning_of, eval, evals}
 use Rattle.tla_value.proofs.OrderFuns.{fun_from_canonical, seq_from_canonical}
-use Rattle.tla_value.proofs.Canonical.{Proper, proper_value, EachList, IsSet, set_canonical}
-use Rattle.tla_value.proofs.CanonicalForms.{proper_truth, proper_sets, Keeping, strict_proper}
-
-any_value : (o : Outcome Value) (go : Value → Outcome Value) → ((v : Value) → Proper (go v)) → Proper (o >>= go)
-any_value (Ok v) go k = k v
-any_value (Err (fault j p)) go k = tt
-any_value (Err (over p)) go k = tt
+use Rattle.tla_value.proofs.Canonical.{Has, Proper, then_has, any_has, has_cond, EachList, IsSet, set_canonical}
+use Rattle.tla_value.proofs.CanonicalForms.{AreAll, sets_proper, Keeping, strict_proper}
 
 -- names stand for canonical values, and operators give them
 pub record Sound (e : Env) : Type 0 where
@@ -41,29 +36,34 @@ sound_bind x v e c r = record {
   defs = r.defs;
 }
 
-sound_all : (ds : List Denotation) (e : Env) (go : List Value → Outcome Value) → SoundDens ds → Sound e → ((vs : List Value) → AreCanonical (values_in vs) → Proper (go vs)) → Proper (on_all ds e go)
-sound_all [] e go h r k = k [] tt
-sound_all (d ∷ ds) e go h r k = proper_value (d e).value _ (h.0 e r) (λ v c. sound_all ds e _ h.1 r (λ vs cs. k (v ∷ vs) (c, cs)))
+sound_values : (ds : List Denotation) (e : Env) → SoundDens ds → Sound e → Has AreAll (part_values ds e)
+sound_values [] e h r = tt
+sound_values (d ∷ ds) e h r =
+    then_has IsCanonical AreAll (d e).value _ (h.0 e r) (λ v c. then_has AreAll AreAll (part_values ds e) _ (sound_values ds e h.1 r) (λ vs cs. (c, cs)))
 
-sound_two : (at : Place) (ds : List Denotation) (go : Denotation → Denotation → Outcome Value) → SoundDens ds → ((a b : Denotation) → SoundDen a → SoundDen b → Proper (go a b)) → Proper (on_two at ds go)
-sound_two at [] go h k = tt
-sound_two at (a ∷ []) go h k = tt
-sound_two at (a ∷ b ∷ []) go h k = k a b h.0 h.1.0
-sound_two at (a ∷ b ∷ d ∷ ds) go h k = tt
+abbrev SoundTwo : Denotation × Denotation → Type 0
+SoundTwo ab = SoundDen ab.0 × SoundDen ab.1
 
-sound_three : (at : Place) (ds : List Denotation) (go : Denotation → Denotation → Denotation → Outcome Value) → SoundDens ds → ((a b d : Denotation) → SoundDen a → SoundDen b → SoundDen d → Proper (go a b d)) → Proper (on_three at ds go)
-sound_three at [] go h k = tt
-sound_three at (a ∷ []) go h k = tt
-sound_three at (a ∷ b ∷ []) go h k = tt
-sound_three at (a ∷ b ∷ d ∷ []) go h k = k a b d h.0 h.1.0 h.1.1.0
-sound_three at (a ∷ b ∷ d ∷ f ∷ ds) go h k = tt
+sound_two : (at : Place) (ds : List Denotation) → SoundDens ds → Has SoundTwo (two_of at ds)
+sound_two at [] h = tt
+sound_two at (a ∷ []) h = tt
+sound_two at (a ∷ b ∷ []) h = (h.0, h.1.0)
+sound_two at (a ∷ b ∷ d ∷ ds) h = tt
 
-sound_test : (at : Place) (p : Denotation) (e : Env) (go : Bool → Outcome Value) → ((b : Bool) → Proper (go b)) → Proper (on_test at p e go)
-sound_test at p e go k = any_value (p e).value _ (λ v. proper_truth at v go k)
+abbrev SoundThree : Denotation × Denotation × Denotation → Type 0
+SoundThree abd = SoundDen abd.0 × SoundDen abd.1 × SoundDen abd.2
 
-proper_cond : (b : Bool) (o q : Outcome Value) → Proper o → Proper q → Proper (cond b o q)
-proper_cond true o q h k = h
-proper_cond false o q h k = k
+sound_three : (at : Place) (ds : List Denotation) → SoundDens ds → Has SoundThree (three_of at ds)
+sound_three at [] h = tt
+sound_three at (a ∷ []) h = tt
+sound_three at (a ∷ b ∷ []) h = tt
+sound_three at (a ∷ b ∷ d ∷ []) h = (h.0, h.1.0, h.1.1.0)
+sound_three at (a ∷ b ∷ d ∷ f ∷ ds) h = tt
+
+sound_one : (at : Place) (ds : List Denotation) → SoundDens ds → Has SoundDen (one_of at ds)
+sound_one at [] h = tt
+sound_one at (a ∷ []) h = h.0
+sound_one at (a ∷ b ∷ ds) h = tt
 
 sound_arms : (other : Bool) (at : Place) (ds : List Denotation) (e : Env) → SoundDens ds → Sound e → Proper (first_arm other at ds e)
 sound_arms true at [] e h r = tt
@@ -71,7 +71,7 @@ sound_arms false at [] e h r = tt
 sound_arms true at (a ∷ []) e h r = h.0 e r
 sound_arms false at (a ∷ []) e h r = tt
 sound_arms other at (p ∷ a ∷ ds) e h r =
-    sound_test at p e (λ first. cond first (a e).value (first_arm other at ds e)) (λ first. proper_cond first (a e).value (first_arm other at ds e) (h.1.0 e r) (sound_arms other at ds e h.1.1 r))
+    any_has IsCanonical (test at p e) _ (λ first. has_cond IsCanonical first (a e).value (first_arm other at ds e) (h.1.0 e r) (sound_arms other at ds e h.1.1 r))
 
 -- ---- binders
 
@@ -79,39 +79,52 @@ abbrev SoundRows : List Row → Type 0
 SoundRows [] = Unit {0}
 SoundRows (r ∷ rs) = (AreCanonical (values_in r.0) × IsCanonical r.1) × SoundRows rs
 
-abbrev SoundVisit : Visit → Type 0
-SoundVisit p = (e : Env) → Sound e → (go : List Row → Outcome Value) → ((rs : List Row) → SoundRows rs → Proper (go rs)) → Proper (p e go)
+abbrev SoundVisit : (Env → Outcome (List Row)) → Type 0
+SoundVisit go = (e : Env) → Sound e → Has SoundRows (go e)
 
 fronted_rows : (v : Value) (rs more : List Row) → IsCanonical v → SoundRows rs → SoundRows more → SoundRows (map (with_first v) rs ++ more)
 fronted_rows v [] more c h k = k
 fronted_rows v (r ∷ rs) more c h k = (((c, h.0.0), h.0.1), fronted_rows v rs more c h.1 k)
 
-sound_member : (x : Word) (vs : Values) (p : Visit) → AreCanonical vs → SoundVisit p → SoundVisit (each_member x vs p)
-sound_member x no_values p c h e r go k = k [] tt
-sound_member x (and v vs) p c h e r go k =
-    h (bind x v e) (sound_bind x v e c.0 r) _ (λ rows i. sound_member x vs p c.1 h e r _ (λ more j. k (map (with_first v) rows ++ more) (fronted_rows v rows more c.0 i j)))
+sound_members : (x : Word) (vs : Values) (go : Env → Outcome (List Row)) → AreCanonical vs → SoundVisit go → SoundVisit (at_members x vs go)
+sound_members x no_values go c h e r = tt
+sound_members x (and v vs) go c h e r =
+    then_has SoundRows SoundRows (go (bind x v e)) _ (h (bind x v e) (sound_bind x v e c.0 r)) (λ rows i.
+    then_has SoundRows SoundRows (at_members x vs go e) _ (sound_members x vs go c.1 h e r) (λ more j. fronted_rows v rows more c.0 i j))
 
-sound_choice : (xs : List Word) (ss : List Values) (p : Visit) → EachList IsSet ss → SoundVisit p → SoundVisit (each_choice xs ss p)
-sound_choice [] ss p c h = h
-sound_choice (x ∷ xs) [] p c h = h
-sound_choice (x ∷ xs) (s ∷ ss) p c h = sound_member x s (each_choice xs ss p) c.0.1 (sound_choice xs ss p c.1 h)
+sound_group : (xs : List Name) (s : Values) (go : Env → Outcome (List Row)) → AreCanonical s → SoundVisit go → SoundVisit (at_group xs s go)
+sound_group [] s go c h = h
+sound_group (x ∷ xs) s go c h = sound_members x.word s (at_group xs s go) c (sound_group xs s go c h)
 
-sound_fit : (b : Binder) (at : Place) (v : Value) (go : Value → Outcome Value) → IsCanonical v → ((w : Value) → IsCanonical w → Proper (go w)) → Proper (fits_binder b at v go)
-sound_fit Image at v go c k = k v c
-sound_fit Function at v go c k = k v c
-sound_fit ForAll at v go c k = proper_truth at v (λ t. go (truth t)) (λ t. k (truth t) tt)
-sound_fit Exists at v go c k = proper_truth at v (λ t. go (truth t)) (λ t. k (truth t) tt)
-sound_fit Filter at v go c k = proper_truth at v (λ t. go (truth t)) (λ t. k (truth t) tt)
+sound_choices : (groups : List (List Name)) (ss : List Values) (go : Env → Outcome (List Row)) → EachList IsSet ss → SoundVisit go → SoundVisit (at_choices groups ss go)
+sound_choices [] ss go c h = h
+sound_choices (xs ∷ groups) [] go c h = h
+sound_choices (xs ∷ groups) (s ∷ ss) go c h = sound_group xs s (at_choices groups ss go) c.0.1 (sound_choices groups ss go c.1 h)
 
-sound_body : (b : Binder) (at : Place) (body : Denotation) → SoundDen body → SoundVisit (visit_body b at body)
-sound_body b at body h e r go k = proper_value (body e).value _ (h e r) (λ v c. sound_fit b at v _ c (λ w i. k (([], w) ∷ []) ((tt, i), tt)))
+sound_suited : (b : Binder) (at : Place) (v : Value) → IsCanonical v → Proper (suited b at v)
+sound_suited Image at v c = c
+sound_suited Function at v c = c
+sound_suited ForAll at v c = any_has IsCanonical (truth_at at v) _ (λ t. tt)
+sound_suited Exists at v c = any_has IsCanonical (truth_at at v) _ (λ t. tt)
+sound_suited Filter at v c = any_has IsCanonical (truth_at at v) _ (λ t. tt)
 
-sound_sources : (at : Place) (xs : List Word) (ds : List Denotation) (e : Env) (go : List Value → Denotation → Outcome Value) → SoundDens ds → Sound e → ((vs : List Value) (body : Denotation) → AreCanonical (values_in vs) → SoundDen body → Proper (go vs body)) → Proper (on_sources at xs ds e go)
-sound_sources at [] [] e go h r k = tt
-sound_sources at [] (body ∷ []) e go h r k = k [] body tt h.0
-sound_sources at [] (d ∷ f ∷ ds) e go h r k = tt
-sound_sources at (x ∷ xs) [] e go h r k = tt
-sound_sources at (x ∷ xs) (d ∷ ds) e go h r k = proper_value (d e).value _ (h.0 e r) (λ v c. sound_sources at xs ds e _ h.1 r (λ vs body cs i. k (v ∷ vs) body (c, cs) i))
+sound_body : (b : Binder) (at : Place) (body : Denotation) → SoundDen body → SoundVisit (at_body b at body)
+sound_body b at body h e r =
+    then_has IsCanonical SoundRows (body e).value _ (h e r) (λ v c. then_has IsCanonical SoundRows (suited b at v) _ (sound_suited b at v c) (λ w i. ((tt, i), tt)))
+
+abbrev SoundSources : List Value × Denotation → Type 0
+SoundSources s = AreAll s.0 × SoundDen s.1
+
+sound_sources : (at : Place) (groups : List (List Name)) (ds : List Denotation) (e : Env) → SoundDens ds → Sound e → Has SoundSources (sources at groups ds e)
+sound_sources at [] ds e h r = then_has SoundDen SoundSources (one_of at ds) _ (sound_one at ds h) (λ body i. (tt, i))
+sound_sources at (xs ∷ groups) [] e h r = tt
+sound_sources at (xs ∷ groups) (d ∷ ds) e h r =
+    then_has IsCanonical SoundSources (d e).value _ (h.0 e r) (λ v c. then_has SoundSources SoundSources (sources at groups ds e) _ (sound_sources at groups ds e h.1 r) (λ s i. ((c, i.0), i.1)))
+
+sound_local : (at : Place) (xs : List Name) (ds : List Denotation) (e : Env) → SoundDens ds → Sound e → Proper (local_value at xs ds e)
+sound_local at [] ds e h r = then_has SoundDen IsCanonical (one_of at ds) _ (sound_one at ds h) (λ body i. i e r)
+sound_local at (x ∷ xs) [] e h r = tt
+sound_local at (x ∷ xs) (d ∷ ds) e h r = then_has IsCanonical IsCanonical (d e).value _ (h.0 e r) (λ v c. sound_local at xs ds (bind x.word v e) h.1 (sound_bind x.word v e c r))
 
 key_canonical : (vs : List Value) → AreCanonical (values_in vs) → IsCanonical (key vs)
 key_canonical [] h = seq_from_canonical [] h
@@ -151,18 +164,20 @@ sound_form c l booleans at ds h e r = ((refl, (tt, tt)), (tt, (tt, tt)))
 sound_form c l strings at ds h e r = tt
 sound_form c l (name x) at ds h e r = r.now x at
 sound_form c l (next x) at ds h e r = r.primed x at
-sound_form c l (strict o) at ds h e r = sound_all ds e _ h r (strict_proper c l o at)
-sound_form c l (operator_call g) at ds h e r = sound_all ds e _ h r (r.defs g at)
-sound_form c l conjunction at ds h e r = sound_two at ds _ h (λ a b i j. sound_test at a e _ (λ p. proper_cond p (on_test at b e (λ q. Ok (truth q))) (Ok (truth false)) (sound_test at b e _ (λ q. tt)) tt))
-sound_form c l disjunction at ds h e r = sound_two at ds _ h (λ a b i j. sound_test at a e _ (λ p. proper_cond p (Ok (truth true)) (on_test at b e (λ q. Ok (truth q))) tt (sound_test at b e _ (λ q. tt))))
-sound_form c l implication at ds h e r = sound_two at ds _ h (λ a b i j. sound_test at a e _ (λ p. proper_cond p (on_test at b e (λ q. Ok (truth q))) (Ok (truth true)) (sound_test at b e _ (λ q. tt)) tt))
-sound_form c l (member sense) at ds h e r =
-    sound_two at ds _ h (λ a b i j. any_value (a e).value _ (λ v. any_value ((b e).test at v) _ (λ w. proper_truth at w _ (λ t. tt))))
-sound_form c l if_then_else at ds h e r = sound_three at ds _ h (λ p a b i j k. sound_test at p e _ (λ first. proper_cond first (a e).value (b e).value (j e r) (k e r)))
+sound_form c l (strict o) at ds h e r = then_has AreAll IsCanonical (part_values ds e) _ (sound_values ds e h r) (strict_proper c l o at)
+sound_form c l (operator_call g) at ds h e r = then_has AreAll IsCanonical (part_values ds e) _ (sound_values ds e h r) (r.defs g at)
+sound_form c l conjunction at ds h e r = any_has IsCanonical (two_of at ds) _ (λ (a, b). any_has IsCanonical (test at a e) _ (λ p. any_has IsCanonical (cond p (test at b e) (Ok false)) _ (λ q. tt)))
+sound_form c l disjunction at ds h e r = any_has IsCanonical (two_of at ds) _ (λ (a, b). any_has IsCanonical (test at a e) _ (λ p. any_has IsCanonical (cond p (Ok true) (test at b e)) _ (λ q. tt)))
+sound_form c l implication at ds h e r = any_has IsCanonical (two_of at ds) _ (λ (a, b). any_has IsCanonical (test at a e) _ (λ p. any_has IsCanonical (cond p (test at b e) (Ok true)) _ (λ q. tt)))
+sound_form c l (member sense) at ds h e r = any_has IsCanonical (two_of at ds) _ (λ (a, b). any_has IsCanonical (a e).value _ (λ v. any_has IsCanonical ((b e).test at v) _ (λ t. tt)))
+sound_form c l if_then_else at ds h e r =
+    then_has SoundThree IsCanonical (three_of at ds) _ (sound_three at ds h) (λ (p, a, b) k. any_has IsCanonical (test at p e) _ (λ first. has_cond IsCanonical first (a e).value (b e).value (k.1 e r) (k.2 e r)))
 sound_form c l (cases other) at ds h e r = sound_arms other at ds e h r
-sound_form c l (binding b xs) at ds h e r =
-    sound_sources at xs ds e _ h r (λ vs body cs i. proper_sets at vs _ cs (λ ss j. sound_choice xs ss (visit_body b at body) j (sound_body b at body i) e r _ (λ rows k. l at (gathered b rows) (gathered_canonical b rows k))))
-sound_form c l (local x) at ds h e r = sound_two at ds _ h (λ a b i j. proper_value (a e).value _ (i e r) (λ v k. j (bind x v e) (sound_bind x v e k r)))
+sound_form c l (binding b groups) at ds h e r =
+    then_has SoundSources IsCanonical (sources at groups ds e) _ (sound_sources at groups ds e h r) (λ (vs, body) k.
+    then_has (EachList IsSet) IsCanonical (in_order (members_at at) vs) _ (sets_proper at vs k.0) (λ ss j.
+    then_has SoundRows IsCanonical (at_choices groups ss (at_body b at body) e) _ (sound_choices groups ss (at_body b at body) j (sound_body b at body k.1) e r) (λ rows i. l at (gathered b rows) (gathered_canonical b rows i))))
+sound_form c l (local xs) at ds h e r = sound_local at xs ds e h r
 
 mutual
   pub eval_canonical : (c : Check) → Keeping c → (t : Tree) → SoundDen (eval c t)

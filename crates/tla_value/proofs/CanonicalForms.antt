@@ -1,5 +1,7 @@
 -- The value of an expression is canonical where its names stand for canonical values.
 use Rattle.std.proofs.Common.{◌≡◌, suc, ℤ, pos, ◌+ℤ◌, ◌-ℤ◌, Bool, true, false, cond, if◌then◌else◌, List, [], ◌∷◌, ◌++◌, map, Option, Some, None, refl, ◌∙◌, ap, Ok, Err}
+use Rattle.std.specs.Option.{ok_or}
+use Rattle.std.specs.List.{flat_map}
 use Rattle.std.specs.Ordering.{is_eq}
 use Rattle.std.specs.Int.{int_div_euclid, int_rem_euclid}
 use Rattle.tla_token.specs.declared.place.Place.{Place}
@@ -7,136 +9,136 @@ use Rattle.tla_expr.specs.declared.op.Op.{Op}
 use Rattle.tla_expr.specs.declared.op.Op.TheVariants.{Equivalent, Not, Equal, NotEqual, Less, Greater, AtMost, AtLeast, SubsetEq, Override, MapsTo, Cup, Cap, Without, Subset, Union, Range, Domain, Plus, Modulo, Minus, Negate, Times, Concat, Divide}
 use Rattle.tla_expr.specs.Tree.{Word, PathStep, index, field, Slot, Strict, operator, set_of, tuple, fields, records, functions, apply, select, except}
 use Rattle.std.specs.Prelude.{int_lt}
-use Rattle.tla_value.specs.declared.fault.FaultKind.TheVariants.{BadDivisor}
-use Rattle.tla_value.specs.Value.{Value, Values, truth, int, text, model, set, fun, no_values, and, Outcome, fault, values_in}
-use Rattle.tla_value.specs.Order.{same, count, orders, listed, numbered, found_at, sequence_of, pairs_of, field_pairs, record_from, IsCanonical, AreCanonical, ArePairsCanonical}
-use Rattle.tla_value.specs.Stops.{Check, on_truth, on_int, on_set, on_fun, on_list, on_sets, on_one, on_two}
-use Rattle.tla_value.specs.Sets.{on_members, repeated, functions_over, natural}
-use Rattle.tla_value.specs.Strict.{of_ints, of_sets, of_quotient, operated, made, looked_up, applied, changed, changed_at, next_slot, updated, strict_value}
+use Rattle.tla_value.specs.declared.fault.FaultKind.TheVariants.{BadDivisor, NotInDomain, NotSequence}
+use Rattle.tla_value.specs.Value.{Value, Values, truth, int, text, model, set, fun, no_values, and, Outcome, fault, values_in, in_order}
+use Rattle.tla_value.specs.Order.{same, count, orders, listed, numbered, found_at, sequence_of, pairs_of, field_pairs, record_from, IsAscending, IsCanonical, AreCanonical, ArePairsCanonical}
+use Rattle.tla_value.specs.Stops.{Check, truth_at, int_at, members_at, function_at, sequence_at, one_of, two_of}
+use Rattle.tla_value.specs.Sets.{joined, repeated, functions_over, natural}
+use Rattle.tla_value.specs.Strict.{of_ints, of_sets, of_quotient, operated, space_of, made, applied, changed, changed_at, next_slot, updated, strict_value}
 use Rattle.tla_value.proofs.OrderFuns.{fun_from_canonical, seq_from_canonical}
-use Rattle.tla_value.proofs.Canonical.{Proper, proper_value, EachList, IsSet, append_canonical, listed_canonical, set_canonical, kept_canonical, sets_canonical, subsets_canonical, functions_canonical, count_repeated, repeated_canonical, integers_canonical, pairs_canonical}
+use Rattle.tla_value.proofs.Canonical.{Has, Proper, then_has, any_has, has_cond, EachList, IsSet, append_canonical, listed_canonical, set_canonical, kept_canonical, sets_canonical, subsets_canonical, functions_canonical, count_repeated, repeated_canonical, integers_canonical, pairs_canonical}
 
--- ---- what goes on with a canonical value
+-- ---- what is needed of a canonical value
 
-proper_one : (at : Place) (vs : List Value) (go : Value → Outcome Value) → AreCanonical (values_in vs) → ((v : Value) → IsCanonical v → Proper (go v)) → Proper (on_one at vs go)
-proper_one at [] go h k = tt
-proper_one at (v ∷ []) go h k = k v h.0
-proper_one at (v ∷ w ∷ vs) go h k = tt
+abbrev pub AreBoth : Value × Value → Type 0
+AreBoth v = IsCanonical v.0 × IsCanonical v.1
 
-proper_two : (at : Place) (vs : List Value) (go : Value → Value → Outcome Value) → AreCanonical (values_in vs) → ((v w : Value) → IsCanonical v → IsCanonical w → Proper (go v w)) → Proper (on_two at vs go)
-proper_two at [] go h k = tt
-proper_two at (v ∷ []) go h k = tt
-proper_two at (v ∷ w ∷ []) go h k = k v w h.0 h.1.0
-proper_two at (v ∷ w ∷ u ∷ vs) go h k = tt
+abbrev pub AreAll : List Value → Type 0
+AreAll vs = AreCanonical (values_in vs)
 
-pub proper_truth : (at : Place) (v : Value) (go : Bool → Outcome Value) → ((b : Bool) → Proper (go b)) → Proper (on_truth at v go)
-proper_truth at (truth b) go k = k b
-proper_truth at _ go k = tt
+abbrev pub IsFunction : Values × Values → Type 0
+IsFunction f = IsCanonical (fun f.0 f.1)
 
-proper_int : (at : Place) (v : Value) (go : ℤ → Outcome Value) → ((n : ℤ) → Proper (go n)) → Proper (on_int at v go)
-proper_int at (int n) go k = k n
-proper_int at _ go k = tt
+one_proper : (at : Place) (vs : List Value) → AreAll vs → Proper (one_of at vs)
+one_proper at [] h = tt
+one_proper at (v ∷ []) h = h.0
+one_proper at (v ∷ w ∷ vs) h = tt
 
-pub proper_set : (at : Place) (v : Value) (go : Values → Outcome Value) → IsCanonical v → ((vs : Values) → IsSet vs → Proper (go vs)) → Proper (on_set at v go)
-proper_set at (set vs) go h k = k vs h
-proper_set at (truth b) go h k = tt
-proper_set at (int n) go h k = tt
-proper_set at (text w) go h k = tt
-proper_set at (model w) go h k = tt
-proper_set at (fun ds rs) go h k = tt
+two_proper : (at : Place) (vs : List Value) → AreAll vs → Has AreBoth (two_of at vs)
+two_proper at [] h = tt
+two_proper at (v ∷ []) h = tt
+two_proper at (v ∷ w ∷ []) h = (h.0, h.1.0)
+two_proper at (v ∷ w ∷ u ∷ vs) h = tt
 
-proper_fun : (at : Place) (v : Value) (go : Values → Values → Outcome Value) → IsCanonical v → ((ds rs : Values) → IsCanonical (fun ds rs) → Proper (go ds rs)) → Proper (on_fun at v go)
-proper_fun at (fun ds rs) go h k = k ds rs h
-proper_fun at (truth b) go h k = tt
-proper_fun at (int n) go h k = tt
-proper_fun at (text w) go h k = tt
-proper_fun at (model w) go h k = tt
-proper_fun at (set vs) go h k = tt
+pub set_proper : (at : Place) (v : Value) → IsCanonical v → Has IsSet (members_at at v)
+set_proper at (set vs) h = h
+set_proper at (truth b) h = tt
+set_proper at (int n) h = tt
+set_proper at (text w) h = tt
+set_proper at (model w) h = tt
+set_proper at (fun ds rs) h = tt
 
-pub proper_sets : (at : Place) (vs : List Value) (go : List Values → Outcome Value) → AreCanonical (values_in vs) → ((ss : List Values) → EachList IsSet ss → Proper (go ss)) → Proper (on_sets at vs go)
-proper_sets at [] go h k = k [] tt
-proper_sets at (v ∷ vs) go h k = proper_set at v _ h.0 (λ s i. proper_sets at vs _ h.1 (λ ss j. k (s ∷ ss) (i, j)))
+fun_proper : (at : Place) (v : Value) → IsCanonical v → Has IsFunction (function_at at v)
+fun_proper at (fun ds rs) h = h
+fun_proper at (truth b) h = tt
+fun_proper at (int n) h = tt
+fun_proper at (text w) h = tt
+fun_proper at (model w) h = tt
+fun_proper at (set vs) h = tt
 
-abbrev pub IsListCanonical : Option (List Value) → Type 0
-IsListCanonical None = Unit {0}
-IsListCanonical (Some vs) = AreCanonical (values_in vs)
+pub sets_proper : (at : Place) (vs : List Value) → AreAll vs → Has (EachList IsSet) (in_order (members_at at) vs)
+sets_proper at [] h = tt
+sets_proper at (v ∷ vs) h = then_has IsSet (EachList IsSet) (members_at at v) _ (set_proper at v h.0) (λ s i. then_has (EachList IsSet) (EachList IsSet) (in_order (members_at at) vs) _ (sets_proper at vs h.1) (λ ss j. (i, j)))
 
-list_if : (b : Bool) (vs : List Value) → AreCanonical (values_in vs) → IsListCanonical (if b then Some vs else None)
-list_if true vs h = h
-list_if false vs h = tt
+list_if : (at : Place) (b : Bool) (vs : List Value) → AreAll vs → Has AreAll (ok_or (if b then Some vs else None) (fault NotSequence at))
+list_if at true vs h = h
+list_if at false vs h = tt
 
-pub sequence_canonical : (v : Value) → IsCanonical v → IsListCanonical (sequence_of v)
-sequence_canonical (fun ds rs) h = list_if (is_eq (orders ds (numbered 1 (listed rs)))) (listed rs) (listed_canonical rs h.2)
-sequence_canonical (truth b) h = tt
-sequence_canonical (int n) h = tt
-sequence_canonical (text w) h = tt
-sequence_canonical (model w) h = tt
-sequence_canonical (set vs) h = tt
+pub sequence_proper : (at : Place) (v : Value) → IsCanonical v → Has AreAll (sequence_at at v)
+sequence_proper at (fun ds rs) h = list_if at (is_eq (orders ds (numbered 1 (listed rs)))) (listed rs) (listed_canonical rs h.2)
+sequence_proper at (truth b) h = tt
+sequence_proper at (int n) h = tt
+sequence_proper at (text w) h = tt
+sequence_proper at (model w) h = tt
+sequence_proper at (set vs) h = tt
 
-pub proper_list : (at : Place) (o : Option (List Value)) (go : List Value → Outcome Value) → IsListCanonical o → ((vs : List Value) → AreCanonical (values_in vs) → Proper (go vs)) → Proper (on_list at o go)
-proper_list at None go h k = tt
-proper_list at (Some vs) go h k = k vs h
+flat_proper : (ss : List Values) → EachList IsSet ss → AreAll (flat_map listed ss)
+flat_proper [] h = tt
+flat_proper (s ∷ ss) h = append_canonical (listed s) (flat_map listed ss) (listed_canonical s h.0.1) (flat_proper ss h.1)
 
-proper_members : (at : Place) (vs : Values) (go : List Value → Outcome Value) → AreCanonical vs → ((ws : List Value) → AreCanonical (values_in ws) → Proper (go ws)) → Proper (on_members at vs go)
-proper_members at no_values go h k = k [] tt
-proper_members at (and v vs) go h k =
-    proper_set at v _ h.0 (λ s i. proper_members at vs _ h.1 (λ ws j. k (listed s ++ ws) (append_canonical (listed s) ws (listed_canonical s i.1) j)))
-
-proper_cond : (b : Bool) (o q : Outcome Value) → Proper o → Proper q → Proper (cond b o q)
-proper_cond true o q h k = h
-proper_cond false o q h k = k
+joined_proper : (at : Place) (vs : Values) → AreCanonical vs → Has AreAll (joined at vs)
+joined_proper at vs h = then_has (EachList IsSet) AreAll (in_order (members_at at) (listed vs)) _ (sets_proper at (listed vs) (listed_canonical vs h)) flat_proper
 
 -- ---- operators
 
-ints_proper : (at : Place) (vs : List Value) (f : ℤ → ℤ → Value) → AreCanonical (values_in vs) → ((m n : ℤ) → IsCanonical (f m n)) → Proper (of_ints at vs f)
-ints_proper at vs f h k = proper_two at vs _ h (λ a b _ _. proper_int at a _ (λ m. proper_int at b _ (λ n. k m n)))
+ints_proper : (at : Place) (vs : List Value) (f : ℤ → ℤ → Value) → ((m n : ℤ) → IsCanonical (f m n)) → Proper (of_ints at vs f)
+ints_proper at vs f k = any_has IsCanonical (two_of at vs) _ (λ (a, b). any_has IsCanonical (int_at at a) _ (λ m. any_has IsCanonical (int_at at b) _ (λ n. k m n)))
 
-sets_proper : (at : Place) (vs : List Value) (f : Values → Values → Value) → AreCanonical (values_in vs) → ((ss ts : Values) → IsSet ss → IsSet ts → IsCanonical (f ss ts)) → Proper (of_sets at vs f)
-sets_proper at vs f h k = proper_two at vs _ h (λ a b i j. proper_set at a _ i (λ ss p. proper_set at b _ j (λ ts q. k ss ts p q)))
+of_sets_proper : (at : Place) (vs : List Value) (f : Values → Values → Value) → AreAll vs → ((ss ts : Values) → IsSet ss → IsSet ts → IsCanonical (f ss ts)) → Proper (of_sets at vs f)
+of_sets_proper at vs f h k =
+    then_has AreBoth IsCanonical (two_of at vs) _ (two_proper at vs h) (λ (a, b) c. then_has IsSet IsCanonical (members_at at a) _ (set_proper at a c.0) (λ ss p.
+    then_has IsSet IsCanonical (members_at at b) _ (set_proper at b c.1) (λ ts q. k ss ts p q)))
 
-quotient_proper : (at : Place) (vs : List Value) (f : ℤ → ℤ → ℤ) → AreCanonical (values_in vs) → Proper (of_quotient at vs f)
-quotient_proper at vs f h = proper_two at vs _ h (λ a b _ _. proper_int at a _ (λ m. proper_int at b _ (λ n. proper_cond (int_lt (pos 0) n) (Ok (int (f m n))) (Err (fault BadDivisor at)) tt tt)))
+quotient_proper : (at : Place) (vs : List Value) (f : ℤ → ℤ → ℤ) → Proper (of_quotient at vs f)
+quotient_proper at vs f =
+    any_has IsCanonical (two_of at vs) _ (λ (a, b). any_has IsCanonical (int_at at a) _ (λ m. any_has IsCanonical (int_at at b) _ (λ n.
+    has_cond IsCanonical (int_lt (pos 0) n) (Ok (int (f m n))) (Err (fault BadDivisor at)) tt tt)))
 
 pairs_append : (ps qs : List (Value × Value)) → ArePairsCanonical ps → ArePairsCanonical qs → ArePairsCanonical (ps ++ qs)
 pairs_append [] qs h k = k
 pairs_append (p ∷ ps) qs h k = (h.0, pairs_append ps qs h.1 k)
 
-operated_proper : (o : Op) (at : Place) (vs : List Value) → AreCanonical (values_in vs) → Proper (operated o at vs)
-operated_proper Equivalent at vs h = proper_two at vs _ h (λ a b _ _. proper_truth at a _ (λ p. proper_truth at b _ (λ q. tt)))
-operated_proper Not at vs h = proper_one at vs _ h (λ a _. proper_truth at a _ (λ p. tt))
-operated_proper Equal at vs h = proper_two at vs _ h (λ a b _ _. tt)
-operated_proper NotEqual at vs h = proper_two at vs _ h (λ a b _ _. tt)
-operated_proper Less at vs h = ints_proper at vs _ h (λ m n. tt)
-operated_proper Greater at vs h = ints_proper at vs _ h (λ m n. tt)
-operated_proper AtMost at vs h = ints_proper at vs _ h (λ m n. tt)
-operated_proper AtLeast at vs h = ints_proper at vs _ h (λ m n. tt)
-operated_proper SubsetEq at vs h = sets_proper at vs _ h (λ ss ts p q. tt)
+operated_proper : (o : Op) (at : Place) (vs : List Value) → AreAll vs → Proper (operated o at vs)
+operated_proper Equivalent at vs h = any_has IsCanonical (two_of at vs) _ (λ (a, b). any_has IsCanonical (truth_at at a) _ (λ p. any_has IsCanonical (truth_at at b) _ (λ q. tt)))
+operated_proper Not at vs h = any_has IsCanonical (one_of at vs) _ (λ a. any_has IsCanonical (truth_at at a) _ (λ p. tt))
+operated_proper Equal at vs h = any_has IsCanonical (two_of at vs) _ (λ ab. tt)
+operated_proper NotEqual at vs h = any_has IsCanonical (two_of at vs) _ (λ ab. tt)
+operated_proper Less at vs h = ints_proper at vs _ (λ m n. tt)
+operated_proper Greater at vs h = ints_proper at vs _ (λ m n. tt)
+operated_proper AtMost at vs h = ints_proper at vs _ (λ m n. tt)
+operated_proper AtLeast at vs h = ints_proper at vs _ (λ m n. tt)
+operated_proper SubsetEq at vs h = of_sets_proper at vs _ h (λ ss ts p q. tt)
 operated_proper Override at vs h =
-    proper_two at vs _ h (λ f g i j. proper_fun at f _ i (λ ds rs p. proper_fun at g _ j (λ es qs q.
+    then_has AreBoth IsCanonical (two_of at vs) _ (two_proper at vs h) (λ (f, g) k. then_has IsFunction IsCanonical (function_at at f) _ (fun_proper at f k.0) (λ (ds, rs) p.
+    then_has IsFunction IsCanonical (function_at at g) _ (fun_proper at g k.1) (λ (es, qs) q.
     fun_from_canonical (pairs_of ds rs ++ pairs_of es qs) (pairs_append (pairs_of ds rs) (pairs_of es qs) (pairs_canonical ds rs p.1 p.2) (pairs_canonical es qs q.1 q.2)))))
-operated_proper MapsTo at vs h = proper_two at vs _ h (λ d e i j. ((tt, tt), (i, tt), (j, tt), refl))
+operated_proper MapsTo at vs h = then_has AreBoth IsCanonical (two_of at vs) _ (two_proper at vs h) (λ (d, e) k. ((tt, tt), (k.0, tt), (k.1, tt), refl))
 operated_proper Cup at vs h =
-    sets_proper at vs _ h (λ ss ts p q. set_canonical (listed ss ++ listed ts) (append_canonical (listed ss) (listed ts) (listed_canonical ss p.1) (listed_canonical ts q.1)))
-operated_proper Cap at vs h = sets_proper at vs _ h (λ ss ts p q. kept_canonical _ ss p.0 p.1)
-operated_proper Without at vs h = sets_proper at vs _ h (λ ss ts p q. kept_canonical _ ss p.0 p.1)
-operated_proper Subset at vs h = proper_one at vs _ h (λ a i. proper_set at a _ i (λ ss p. subsets_canonical ss p.0 p.1))
-operated_proper Union at vs h = proper_one at vs _ h (λ a i. proper_set at a _ i (λ ss p. proper_members at ss _ p.1 (λ ws k. set_canonical ws k)))
-operated_proper Range at vs h = ints_proper at vs _ h (λ m n. integers_canonical (natural ((n +ℤ pos 1) -ℤ m)) m)
-operated_proper Domain at vs h = proper_one at vs _ h (λ f i. proper_fun at f _ i (λ ds rs p. (p.0, p.1)))
-operated_proper Plus at vs h = ints_proper at vs _ h (λ m n. tt)
-operated_proper Minus at vs h = ints_proper at vs _ h (λ m n. tt)
-operated_proper Times at vs h = ints_proper at vs _ h (λ m n. tt)
-operated_proper Negate at vs h = proper_one at vs _ h (λ a _. proper_int at a _ (λ n. tt))
-operated_proper Divide at vs h = quotient_proper at vs int_div_euclid h
-operated_proper Modulo at vs h = quotient_proper at vs int_rem_euclid h
+    of_sets_proper at vs _ h (λ ss ts p q. set_canonical (listed ss ++ listed ts) (append_canonical (listed ss) (listed ts) (listed_canonical ss p.1) (listed_canonical ts q.1)))
+operated_proper Cap at vs h = of_sets_proper at vs _ h (λ ss ts p q. kept_canonical _ ss p.0 p.1)
+operated_proper Without at vs h = of_sets_proper at vs _ h (λ ss ts p q. kept_canonical _ ss p.0 p.1)
+operated_proper Subset at vs h =
+    then_has IsCanonical IsCanonical (one_of at vs) _ (one_proper at vs h) (λ a i. then_has IsSet IsCanonical (members_at at a) _ (set_proper at a i) (λ ss p. subsets_canonical ss p.0 p.1))
+operated_proper Union at vs h =
+    then_has IsCanonical IsCanonical (one_of at vs) _ (one_proper at vs h) (λ a i. then_has IsSet IsCanonical (members_at at a) _ (set_proper at a i) (λ ss p.
+    then_has AreAll IsCanonical (joined at ss) _ (joined_proper at ss p.1) set_canonical))
+operated_proper Range at vs h = ints_proper at vs _ (λ m n. integers_canonical (natural ((n +ℤ pos 1) -ℤ m)) m)
+operated_proper Domain at vs h =
+    then_has IsCanonical IsCanonical (one_of at vs) _ (one_proper at vs h) (λ f i. then_has IsFunction IsCanonical (function_at at f) _ (fun_proper at f i) (λ g p. (p.0, p.1)))
+operated_proper Plus at vs h = ints_proper at vs _ (λ m n. tt)
+operated_proper Minus at vs h = ints_proper at vs _ (λ m n. tt)
+operated_proper Times at vs h = ints_proper at vs _ (λ m n. tt)
+operated_proper Negate at vs h = any_has IsCanonical (one_of at vs) _ (λ a. any_has IsCanonical (int_at at a) _ (λ n. tt))
+operated_proper Divide at vs h = quotient_proper at vs int_div_euclid
+operated_proper Modulo at vs h = quotient_proper at vs int_rem_euclid
 operated_proper Concat at vs h =
-    proper_two at vs _ h (λ a b i j. proper_list at (sequence_of a) _ (sequence_canonical a i) (λ xs p. proper_list at (sequence_of b) _ (sequence_canonical b j) (λ ys q.
-    seq_from_canonical (xs ++ ys) (append_canonical xs ys p q))))
+    then_has AreBoth IsCanonical (two_of at vs) _ (two_proper at vs h) (λ (a, b) k. then_has AreAll IsCanonical (sequence_at at a) _ (sequence_proper at a k.0) (λ xs p.
+    then_has AreAll IsCanonical (sequence_at at b) _ (sequence_proper at b k.1) (λ ys q. seq_from_canonical (xs ++ ys) (append_canonical xs ys p q))))
 operated_proper _ at vs h = tt
 
 -- ---- other strict forms
 
-fields_canonical : (xs : List Word) (vs : List Value) → AreCanonical (values_in vs) → ArePairsCanonical (field_pairs xs vs)
+fields_canonical : (xs : List Word) (vs : List Value) → AreAll vs → ArePairsCanonical (field_pairs xs vs)
 fields_canonical [] vs h = tt
 fields_canonical (x ∷ xs) [] h = tt
 fields_canonical (x ∷ xs) (v ∷ vs) h = ((tt, h.0), fields_canonical xs vs h.1)
@@ -144,71 +146,83 @@ fields_canonical (x ∷ xs) (v ∷ vs) h = ((tt, h.0), fields_canonical xs vs h.
 record_sets : (xs : List Word) (ss : List Values) → EachList IsSet ss → IsCanonical (record_from xs (map set ss))
 record_sets xs ss h = fun_from_canonical (field_pairs xs (map set ss)) (fields_canonical xs (map set ss) (sets_canonical ss h))
 
-made_proper : (o : Strict) (at : Place) (vs : List Value) → AreCanonical (values_in vs) → Proper (made o at vs)
+-- a domain, and as many sets
+abbrev IsSpace : Values × Values → Type 0
+IsSpace f = IsAscending f.0 × AreCanonical f.0 × AreCanonical f.1 × (count f.0 ≡ count f.1)
+
+space_proper : (o : Strict) (at : Place) (vs : List Value) → AreAll vs → Has IsSpace (space_of o at vs)
+space_proper functions at vs h =
+    then_has AreBoth IsSpace (two_of at vs) _ (two_proper at vs h) (λ (a, b) k. then_has IsSet IsSpace (members_at at a) _ (set_proper at a k.0) (λ ds p.
+    then_has IsSet IsSpace (members_at at b) _ (set_proper at b k.1) (λ ws q. (p.0, p.1, repeated_canonical ds (set ws) q, count_repeated ds (set ws)))))
+space_proper (records xs) at vs h =
+    then_has (EachList IsSet) IsSpace (in_order (members_at at) vs) _ (sets_proper at vs h) (λ ss k. fun_proper at (record_from xs (map set ss)) (record_sets xs ss k))
+space_proper _ at vs h = tt
+
+made_proper : (o : Strict) (at : Place) (vs : List Value) → AreAll vs → Proper (made o at vs)
 made_proper (operator o) at vs h = operated_proper o at vs h
 made_proper set_of at vs h = set_canonical vs h
 made_proper tuple at vs h = seq_from_canonical vs h
 made_proper (fields xs) at vs h = fun_from_canonical (field_pairs xs vs) (fields_canonical xs vs h)
 made_proper (records xs) at vs h =
-    proper_sets at vs _ h (λ ss k. proper_fun at (record_from xs (map set ss)) (λ ds rs. Ok (set (functions_over ds rs))) (record_sets xs ss k) (λ ds rs c. functions_canonical ds rs c.0 c.1 c.2 c.3))
+    then_has IsSpace IsCanonical (space_of (records xs) at vs) _ (space_proper (records xs) at vs h) (λ (ds, ss) k. functions_canonical ds ss k.0 k.1 k.2 k.3)
 made_proper functions at vs h =
-    proper_two at vs _ h (λ a b i j. proper_set at a _ i (λ ds p. proper_set at b _ j (λ ws q.
-    functions_canonical ds (repeated ds (set ws)) p.0 p.1 (repeated_canonical ds (set ws) q) (count_repeated ds (set ws)))))
+    then_has IsSpace IsCanonical (space_of functions at vs) _ (space_proper functions at vs h) (λ (ds, ss) k. functions_canonical ds ss k.0 k.1 k.2 k.3)
 made_proper _ at vs h = tt
 
-abbrev pub IsFoundCanonical : Option Value → Type 0
-IsFoundCanonical None = Unit {0}
-IsFoundCanonical (Some v) = IsCanonical v
+found_if : (at : Place) (b : Bool) (v : Value) (o : Option Value) → IsCanonical v → Proper (ok_or o (fault NotInDomain at)) → Proper (ok_or (if b then Some v else o) (fault NotInDomain at))
+found_if at true v o h k = h
+found_if at false v o h k = k
 
-found_if : (b : Bool) (v : Value) (o : Option Value) → IsCanonical v → IsFoundCanonical o → IsFoundCanonical (if b then Some v else o)
-found_if true v o h k = h
-found_if false v o h k = k
-
-found_canonical : (ds rs : Values) (a : Value) → AreCanonical rs → IsFoundCanonical (found_at ds rs a)
-found_canonical no_values rs a h = tt
-found_canonical (and d ds) no_values a h = tt
-found_canonical (and d ds) (and r rs) a h = found_if (same a d) r (found_at ds rs a) h.0 (found_canonical ds rs a h.1)
-
-looked_proper : (at : Place) (o : Option Value) → IsFoundCanonical o → Proper (looked_up at o)
-looked_proper at None h = tt
-looked_proper at (Some v) h = h
+found_proper : (at : Place) (ds rs : Values) (a : Value) → AreCanonical rs → Proper (ok_or (found_at ds rs a) (fault NotInDomain at))
+found_proper at no_values rs a h = tt
+found_proper at (and d ds) no_values a h = tt
+found_proper at (and d ds) (and r rs) a h = found_if at (same a d) r (found_at ds rs a) h.0 (found_proper at ds rs a h.1)
 
 pub applied_proper : (at : Place) (f a : Value) → IsCanonical f → Proper (applied at f a)
-applied_proper at f a h = proper_fun at f _ h (λ ds rs p. looked_proper at (found_at ds rs a) (found_canonical ds rs a p.2))
+applied_proper at f a h = then_has IsFunction IsCanonical (function_at at f) _ (fun_proper at f h) (λ (ds, rs) p. found_proper at ds rs a p.2)
 
-changed_proper : (k : Value) (g : Value → Outcome Value) (ds rs : Values) (go : Values → Outcome Value) → AreCanonical rs → ((r : Value) → IsCanonical r → Proper (g r)) → ((us : Values) → AreCanonical us → count rs ≡ count us → Proper (go us)) → Proper (changed k g ds rs go)
-changed_proper k g no_values rs go h p q = q rs h refl
-changed_proper k g (and d ds) no_values go h p q = q no_values tt refl
-changed_proper k g (and d ds) (and r rs) go h p q =
-    proper_cond (same k d) _ _ (proper_value (g r) _ (p r h.0) (λ w c. q (and w rs) (c, h.1) refl))
-    (changed_proper k g ds rs _ h.1 p (λ us c e. q (and r us) (h.0, c) (ap suc e)))
+-- as many values
+abbrev AsMany : Values → Values → Type 0
+AsMany rs us = AreCanonical us × (count rs ≡ count us)
+
+changed_proper : (k : Value) (g : Value → Outcome Value) (ds rs : Values) → AreCanonical rs → ((r : Value) → IsCanonical r → Proper (g r)) → Has (AsMany rs) (changed k g ds rs)
+changed_proper k g no_values rs h p = (h, refl)
+changed_proper k g (and d ds) no_values h p = (tt, refl)
+changed_proper k g (and d ds) (and r rs) h p =
+    has_cond (AsMany (and r rs)) (same k d) _ _ (then_has IsCanonical (AsMany (and r rs)) (g r) _ (p r h.0) (λ w c. ((c, h.1), refl)))
+    (then_has (AsMany rs) (AsMany (and r rs)) (changed k g ds rs) _ (changed_proper k g ds rs h.1 p) (λ us c. ((h.0, c.0), ap suc c.1)))
 
 path_proper : (at : Place) (ks : List Value) (v old : Value) → IsCanonical v → IsCanonical old → Proper (changed_at at ks v old)
 path_proper at [] v old h i = h
 path_proper at (k ∷ ks) v old h i =
-    proper_fun at old _ i (λ ds rs p. changed_proper k (changed_at at ks v) ds rs _ p.2 (λ r c. path_proper at ks v r h c) (λ us c e. (p.0, p.1, c, p.3 ∙ e)))
+    then_has IsFunction IsCanonical (function_at at old) _ (fun_proper at old i) (λ (ds, rs) p.
+    then_has (AsMany rs) IsCanonical (changed k (changed_at at ks v) ds rs) _ (changed_proper k (changed_at at ks v) ds rs p.2 (λ r c. path_proper at ks v r h c)) (λ us c. (p.0, p.1, c.0, p.3 ∙ c.1)))
 
-slot_proper : (at : Place) (ps : List PathStep) (vs : List Value) (go : List Value → Value → List Value → Outcome Value) → AreCanonical (values_in vs) → ((path : List Value) (v : Value) (rest : List Value) → IsCanonical v → AreCanonical (values_in rest) → Proper (go path v rest)) → Proper (next_slot at ps vs go)
-slot_proper at [] [] go h k = tt
-slot_proper at [] (v ∷ vs) go h k = k [] v vs h.0 h.1
-slot_proper at (index ∷ ps) [] go h k = tt
-slot_proper at (index ∷ ps) (w ∷ vs) go h k = slot_proper at ps vs _ h.1 (λ path v rest. k (w ∷ path) v rest)
-slot_proper at (field x ∷ ps) vs go h k = slot_proper at ps vs _ h (λ path v rest. k (text x ∷ path) v rest)
+abbrev IsSlot : List Value × Value × List Value → Type 0
+IsSlot n = IsCanonical n.1 × AreAll n.2
+
+slot_proper : (at : Place) (ps : List PathStep) (vs : List Value) → AreAll vs → Has IsSlot (next_slot at ps vs)
+slot_proper at [] [] h = tt
+slot_proper at [] (v ∷ vs) h = h
+slot_proper at (index ∷ ps) [] h = tt
+slot_proper at (index ∷ ps) (w ∷ vs) h = then_has IsSlot IsSlot (next_slot at ps vs) _ (slot_proper at ps vs h.1) (λ n k. k)
+slot_proper at (field x ∷ ps) vs h = then_has IsSlot IsSlot (next_slot at ps vs) _ (slot_proper at ps vs h) (λ n k. k)
 
 -- the check keeps values canonical
 abbrev pub Keeping : Check → Type 0
 Keeping c = (at : Place) (v : Value) → IsCanonical v → Proper (c at v)
 
-slots_proper : (c : Check) → Keeping c → (ns : List Slot) (vs : List Value) (old : Value) → AreCanonical (values_in vs) → IsCanonical old → Proper (updated c ns vs old)
+slots_proper : (c : Check) → Keeping c → (ns : List Slot) (vs : List Value) (old : Value) → AreAll vs → IsCanonical old → Proper (updated c ns vs old)
 slots_proper c l [] vs old h i = i
 slots_proper c l (n ∷ ns) vs old h i =
-    slot_proper n.place n.path vs _ h (λ path v rest p q. proper_value (changed_at n.place path v old) _ (path_proper n.place path v old p i)
-    (λ new r. proper_value (c n.place new) _ (l n.place new r) (λ w s. slots_proper c l ns rest w q s)))
+    then_has IsSlot IsCanonical (next_slot n.place n.path vs) _ (slot_proper n.place n.path vs h) (λ (path, v, rest) p.
+    then_has IsCanonical IsCanonical (changed_at n.place path v old) _ (path_proper n.place path v old p.0 i) (λ new r.
+    then_has IsCanonical IsCanonical (c n.place new) _ (l n.place new r) (λ w s. slots_proper c l ns rest w p.1 s)))
 
 -- what a strict form gives for canonical values
-pub strict_proper : (c : Check) → Keeping c → (o : Strict) (at : Place) (vs : List Value) → AreCanonical (values_in vs) → Proper (strict_value c o at vs)
-strict_proper c l apply at vs h = proper_two at vs _ h (λ f a i j. applied_proper at f a i)
-strict_proper c l (select x) at vs h = proper_one at vs _ h (λ f i. applied_proper at f (text x) i)
+pub strict_proper : (c : Check) → Keeping c → (o : Strict) (at : Place) (vs : List Value) → AreAll vs → Proper (strict_value c o at vs)
+strict_proper c l apply at vs h = then_has AreBoth IsCanonical (two_of at vs) _ (two_proper at vs h) (λ (f, a) k. applied_proper at f a k.0)
+strict_proper c l (select x) at vs h = then_has IsCanonical IsCanonical (one_of at vs) _ (one_proper at vs h) (λ f i. applied_proper at f (text x) i)
 strict_proper c l (except ns) at [] h = tt
 strict_proper c l (except ns) at (old ∷ vs) h = slots_proper c l ns vs old h.1 h.0
-strict_proper c l o at vs h = proper_value (made o at vs) (c at) (made_proper o at vs h) (l at)
+strict_proper c l o at vs h = then_has IsCanonical IsCanonical (made o at vs) (c at) (made_proper o at vs h) (l at)

@@ -4,17 +4,27 @@ pub mod OrderFuns
 pub mod SetOf
 pub mod ValueLists
 pub mod Lookups
+pub mod Searched
+pub mod InOrder
 pub mod ValueSpelled
+pub mod Fits
+pub mod ValueWithin
 mod ValueRows
 mod RowsSeen
 pub mod StateLaws
+pub mod Facts
+pub mod Joined
+pub mod JoinedEval
+pub mod JoinedScopes
 pub mod Alike
+pub mod FreeNames
 pub mod Graft
 pub mod Primes
 pub mod Owned
 pub mod Below
+pub mod Places
+pub mod Groups
 mod RowsMeaning
-pub mod BelowScopes
 pub mod MidState
 pub mod Untested
 pub mod UntestedSets
@@ -24,4 +34,3 @@ mod RowsScopes
 pub mod Canonical
 pub mod CanonicalForms
 pub mod CanonicalEval
-pub mod Agreement

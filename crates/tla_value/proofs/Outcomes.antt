@@ -1,5 +1,5 @@
 -- Laws of outcomes: what goes on with a result as it is, and what goes on twice.
-use Rattle.std.proofs.Common.{◌≡◌, Ok, Err, refl}
+use Rattle.std.proofs.Common.{◌≡◌, List, [], ◌∷◌, Ok, Err, refl}
 use Rattle.tla_value.specs.Value.{◌>>=◌, Outcome}
 
 pub ok_is : {X : Type 0} {x y : X} → ◌≡◌ {A = Outcome X} (Ok x) (Ok y) → x ≡ y
@@ -12,3 +12,9 @@ then_ok (Err k) = refl
 pub then_then : {X Y Z : Type 0} (o : Outcome X) (f : X → Outcome Y) (g : Y → Outcome Z) → ((o >>= f) >>= g) ≡ (o >>= (λ x. f x >>= g))
 then_then (Ok x) f g = refl
 then_then (Err k) f g = refl
+
+-- a form of two parts goes on with both values
+pub then_two : {X Y : Type 0} (o p : Outcome X) (go : List X → Outcome Y) → ((o >>= λ a. (p >>= λ b. Ok (b ∷ [])) >>= λ rest. Ok (a ∷ rest)) >>= go) ≡ (o >>= λ a. p >>= λ b. go (a ∷ b ∷ []))
+then_two (Ok a) (Ok b) go = refl
+then_two (Ok a) (Err k) go = refl
+then_two (Err k) p go = refl

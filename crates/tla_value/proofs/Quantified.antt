@@ -1,14 +1,14 @@
 -- What the forms over one name mean where the body gives a value at each member of the set.
-use Rattle.std.proofs.Common.{◌≡◌, Bool, true, false, cond, ◌&&◌, ◌||◌, List, [], ◌∷◌, map, refl, sym, ◌∙◌, ap, Ok}
+use Rattle.std.proofs.Common.{◌≡◌, Bool, true, false, cond, ◌&&◌, ◌||◌, List, [], ◌∷◌, ◌++◌, map, refl, sym, ◌∙◌, ap, Ok}
 use Rattle.tla_token.specs.declared.place.Place.{Place}
 use Rattle.tla_expr.specs.declared.op.Binder.{Binder}
 use Rattle.tla_expr.specs.declared.op.Binder.TheVariants.{ForAll, Exists, Filter, Image, Function}
-use Rattle.tla_expr.specs.Tree.{Word, binding}
-use Rattle.tla_value.specs.Value.{Value, Values, truth, set, no_values, and, Outcome, ◌>>=◌}
+use Rattle.tla_expr.specs.Tree.{Word, Name, binding}
+use Rattle.tla_value.specs.Value.{Value, Values, truth, set, no_values, and, Outcome, ◌>>=◌, in_order}
 use Rattle.tla_value.specs.Order.{set_from, fun_from, listed}
 use Rattle.tla_value.specs.Sets.{kept}
-use Rattle.tla_value.specs.Stops.{Check, on_sets}
-use Rattle.tla_value.specs.Meaning.{Env, Denotation, bind, Row, each_member, each_choice, fits_binder, visit_body, all_true, some_true, where_true, results, table, gathered, meaning_of}
+use Rattle.tla_value.specs.Stops.{Check, members_at}
+use Rattle.tla_value.specs.Meaning.{Env, Denotation, bind, Row, with_first, at_members, at_choices, suited, at_body, all_true, some_true, where_true, results, table, gathered, meaning_of}
 
 -- a fact of each member
 abbrev pub EachIn : (Value → Type 0) → Values → Type 0
@@ -25,22 +25,20 @@ rows g (and v vs) = (v ∷ [], g v) ∷ rows g vs
 
 -- the kind of g's values is that which the form needs
 abbrev pub Suits : Binder → Place → (Value → Value) → Type 0
-Suits b at g = (v : Value) (go : Value → Outcome Value) → fits_binder b at (g v) go ≡ go (g v)
+Suits b at g = (v : Value) → suited b at (g v) ≡ Ok (g v)
 
-visited : (b : Binder) (at : Place) (x : Word) (vs : Values) (body : Denotation) (env : Env) (g : Value → Value) (go : List Row → Outcome Value) → Suits b at g → EachIn (Gives body x env g) vs →
-    each_member x vs (visit_body b at body) env go ≡ go (rows g vs)
-visited b at x no_values body env g go s h = refl
-visited b at x (and v vs) body env g go s h =
-    (λ i. (h.0 i) >>= (λ w. fits_binder b at w (λ u. each_member x vs (visit_body b at body) env (λ more. go ((v ∷ [], u) ∷ more)))))
-    ∙ s v (λ u. each_member x vs (visit_body b at body) env (λ more. go ((v ∷ [], u) ∷ more)))
-    ∙ visited b at x vs body env g (λ more. go ((v ∷ [], g v) ∷ more)) s h.1
+visited : (b : Binder) (at : Place) (x : Word) (vs : Values) (body : Denotation) (env : Env) (g : Value → Value) → Suits b at g → EachIn (Gives body x env g) vs → at_members x vs (at_body b at body) env ≡ Ok (rows g vs)
+visited b at x no_values body env g s h = refl
+visited b at x (and v vs) body env g s h =
+    (λ i. (h.0 i >>= λ w. suited b at w >>= λ u. Ok (([], u) ∷ [])) >>= λ first. at_members x vs (at_body b at body) env >>= λ more. Ok (map (with_first v) first ++ more))
+    ∙ (λ i. (s v i >>= λ u. Ok (([], u) ∷ [])) >>= λ first. visited b at x vs body env g s h.1 i >>= λ more. Ok (map (with_first v) first ++ more))
 
 -- the form makes what is gathered from all members
-pub one_set : (c : Check) (b : Binder) (x : Word) (at : Place) (s body : Denotation) (env : Env) (vs : Values) (g : Value → Value) → Suits b at g → (s env).value ≡ Ok (set vs) → EachIn (Gives body x env g) vs →
-    (meaning_of c (binding b (x ∷ [])) at (s ∷ body ∷ []) env).value ≡ c at (gathered b (rows g vs))
+pub one_set : (c : Check) (b : Binder) (x : Name) (at : Place) (s body : Denotation) (env : Env) (vs : Values) (g : Value → Value) → Suits b at g → (s env).value ≡ Ok (set vs) → EachIn (Gives body x.word env g) vs →
+    (meaning_of c (binding b ((x ∷ []) ∷ [])) at (s ∷ body ∷ []) env).value ≡ c at (gathered b (rows g vs))
 one_set c b x at s body env vs g k is h =
-    (λ i. (is i) >>= (λ v. on_sets at (v ∷ []) (λ ss. each_choice (x ∷ []) ss (visit_body b at body) env (λ rs. c at (gathered b rs)))))
-    ∙ visited b at x vs body env g (λ rs. c at (gathered b rs)) k h
+    (λ i. (is i >>= λ v. Ok (v ∷ [], body)) >>= λ (us, d). in_order (members_at at) us >>= λ ss. at_choices ((x ∷ []) ∷ []) ss (at_body b at d) env >>= λ rs. c at (gathered b rs))
+    ∙ (λ i. visited b at x.word vs body env g k h i >>= λ rs. c at (gathered b rs))
 
 -- ---- what is gathered
 
@@ -78,26 +76,26 @@ table_rows g no_values = refl
 table_rows g (and v vs) = ap (λ ps. (v, g v) ∷ ps) (table_rows g vs)
 
 -- \A x \in S : t
-pub for_all_law : (c : Check) (x : Word) (at : Place) (s body : Denotation) (env : Env) (vs : Values) (t : Value → Bool) → (s env).value ≡ Ok (set vs) → EachIn (Gives body x env (λ v. truth (t v))) vs →
-    (meaning_of c (binding ForAll (x ∷ [])) at (s ∷ body ∷ []) env).value ≡ c at (truth (every t vs))
-for_all_law c x at s body env vs t is h = one_set c ForAll x at s body env vs (λ v. truth (t v)) (λ v go. refl) is h ∙ ap (λ b. c at (truth b)) (all_rows t vs)
+pub for_all_law : (c : Check) (x : Name) (at : Place) (s body : Denotation) (env : Env) (vs : Values) (t : Value → Bool) → (s env).value ≡ Ok (set vs) → EachIn (Gives body x.word env (λ v. truth (t v))) vs →
+    (meaning_of c (binding ForAll ((x ∷ []) ∷ [])) at (s ∷ body ∷ []) env).value ≡ c at (truth (every t vs))
+for_all_law c x at s body env vs t is h = one_set c ForAll x at s body env vs (λ v. truth (t v)) (λ v. refl) is h ∙ ap (λ b. c at (truth b)) (all_rows t vs)
 
 -- \E x \in S : t
-pub exists_law : (c : Check) (x : Word) (at : Place) (s body : Denotation) (env : Env) (vs : Values) (t : Value → Bool) → (s env).value ≡ Ok (set vs) → EachIn (Gives body x env (λ v. truth (t v))) vs →
-    (meaning_of c (binding Exists (x ∷ [])) at (s ∷ body ∷ []) env).value ≡ c at (truth (some t vs))
-exists_law c x at s body env vs t is h = one_set c Exists x at s body env vs (λ v. truth (t v)) (λ v go. refl) is h ∙ ap (λ b. c at (truth b)) (some_rows t vs)
+pub exists_law : (c : Check) (x : Name) (at : Place) (s body : Denotation) (env : Env) (vs : Values) (t : Value → Bool) → (s env).value ≡ Ok (set vs) → EachIn (Gives body x.word env (λ v. truth (t v))) vs →
+    (meaning_of c (binding Exists ((x ∷ []) ∷ [])) at (s ∷ body ∷ []) env).value ≡ c at (truth (some t vs))
+exists_law c x at s body env vs t is h = one_set c Exists x at s body env vs (λ v. truth (t v)) (λ v. refl) is h ∙ ap (λ b. c at (truth b)) (some_rows t vs)
 
 -- {x \in S : t}
-pub filter_law : (c : Check) (x : Word) (at : Place) (s body : Denotation) (env : Env) (vs : Values) (t : Value → Bool) → (s env).value ≡ Ok (set vs) → EachIn (Gives body x env (λ v. truth (t v))) vs →
-    (meaning_of c (binding Filter (x ∷ [])) at (s ∷ body ∷ []) env).value ≡ c at (set (set_from (listed (kept t vs))))
-filter_law c x at s body env vs t is h = one_set c Filter x at s body env vs (λ v. truth (t v)) (λ v go. refl) is h ∙ ap (λ ws. c at (set (set_from ws))) (kept_rows t vs)
+pub filter_law : (c : Check) (x : Name) (at : Place) (s body : Denotation) (env : Env) (vs : Values) (t : Value → Bool) → (s env).value ≡ Ok (set vs) → EachIn (Gives body x.word env (λ v. truth (t v))) vs →
+    (meaning_of c (binding Filter ((x ∷ []) ∷ [])) at (s ∷ body ∷ []) env).value ≡ c at (set (set_from (listed (kept t vs))))
+filter_law c x at s body env vs t is h = one_set c Filter x at s body env vs (λ v. truth (t v)) (λ v. refl) is h ∙ ap (λ ws. c at (set (set_from ws))) (kept_rows t vs)
 
 -- {g : x \in S}
-pub image_law : (c : Check) (x : Word) (at : Place) (s body : Denotation) (env : Env) (vs : Values) (g : Value → Value) → (s env).value ≡ Ok (set vs) → EachIn (Gives body x env g) vs →
-    (meaning_of c (binding Image (x ∷ [])) at (s ∷ body ∷ []) env).value ≡ c at (set (set_from (map g (listed vs))))
-image_law c x at s body env vs g is h = one_set c Image x at s body env vs g (λ v go. refl) is h ∙ ap (λ ws. c at (set (set_from ws))) (result_rows g vs)
+pub image_law : (c : Check) (x : Name) (at : Place) (s body : Denotation) (env : Env) (vs : Values) (g : Value → Value) → (s env).value ≡ Ok (set vs) → EachIn (Gives body x.word env g) vs →
+    (meaning_of c (binding Image ((x ∷ []) ∷ [])) at (s ∷ body ∷ []) env).value ≡ c at (set (set_from (map g (listed vs))))
+image_law c x at s body env vs g is h = one_set c Image x at s body env vs g (λ v. refl) is h ∙ ap (λ ws. c at (set (set_from ws))) (result_rows g vs)
 
 -- [x \in S |-> g]
-pub function_law : (c : Check) (x : Word) (at : Place) (s body : Denotation) (env : Env) (vs : Values) (g : Value → Value) → (s env).value ≡ Ok (set vs) → EachIn (Gives body x env g) vs →
-    (meaning_of c (binding Function (x ∷ [])) at (s ∷ body ∷ []) env).value ≡ c at (fun_from (map (λ v. (v, g v)) (listed vs)))
-function_law c x at s body env vs g is h = one_set c Function x at s body env vs g (λ v go. refl) is h ∙ ap (λ ps. c at (fun_from ps)) (table_rows g vs)
+pub function_law : (c : Check) (x : Name) (at : Place) (s body : Denotation) (env : Env) (vs : Values) (g : Value → Value) → (s env).value ≡ Ok (set vs) → EachIn (Gives body x.word env g) vs →
+    (meaning_of c (binding Function ((x ∷ []) ∷ [])) at (s ∷ body ∷ []) env).value ≡ c at (fun_from (map (λ v. (v, g v)) (listed vs)))
+function_law c x at s body env vs g is h = one_set c Function x at s body env vs g (λ v. refl) is h ∙ ap (λ ps. c at (fun_from ps)) (table_rows g vs)

@@ -5,7 +5,7 @@ use Rattle.tla_token.specs.declared.place.Place.{Place}
 use Rattle.tla_expr.specs.declared.op.Op.{Op}
 use Rattle.tla_expr.specs.declared.op.Op.TheVariants.{Equal, Plus, Minus, Divide, Modulo, Negate, Range, Subset, Override, MapsTo}
 use Rattle.tla_expr.specs.declared.op.Binder.TheVariants.{Exists, Function}
-use Rattle.tla_expr.specs.Tree.{Word, index, operator, set_of, tuple, fields, functions, apply, select, except, Form, number, string, truth as literal, name, strict, operator_call, conjunction, member, cases, binding, Tree, node, Trees, no_trees, tree}
+use Rattle.tla_expr.specs.Tree.{Word, Name, index, operator, set_of, tuple, fields, functions, apply, select, except, Form, number, string, truth as literal, name, strict, operator_call, conjunction, member, cases, binding, local, Tree, node, Trees, no_trees, tree}
 use Rattle.tla_value.specs.declared.fault.FaultKind.TheVariants.{NotInteger, NotFunction, NotSet, NotInDomain, BadDivisor, NoCase, EmptySequence}
 use Rattle.tla_value.specs.Value.{Value, truth, int, Outcome, fault, over}
 use Rattle.tla_value.specs.Order.{seq_from}
@@ -16,6 +16,9 @@ use Rattle.tla_value.specs.Definitions.{no_state, base}
 
 abbrev here : ℕ → Place
 here n = record { line = 1; col = n }
+
+abbrev named : Word → Name
+named w = record { word = w; place = here 1 }
 
 abbrev list : List Tree → Trees
 list [] = no_trees
@@ -94,7 +97,7 @@ abbrev one_two : Tree
 one_two = of (strict set_of) 8 (num 1 9 ∷ num 2 12 ∷ [])
 
 -- \E x \in {1, 2} : 2 \div (2 - x) = 2 is true at 1, and faults at 2
-visits_all : gives (of (binding Exists (x ∷ [])) 1 (one_two ∷ signed Equal 17 (signed Divide 17 (num 2 17) (signed Minus 25 (num 2 25) (of (name x) 29 []))) (num 2 34) ∷ []))
+visits_all : gives (of (binding Exists ((named x ∷ []) ∷ [])) 1 (one_two ∷ signed Equal 17 (signed Divide 17 (num 2 17) (signed Minus 25 (num 2 25) (of (name x) 29 []))) (num 2 34) ∷ []))
     ≡ Err (fault BadDivisor (here 17))
 visits_all = refl
 
@@ -136,7 +139,7 @@ in_subset : gives (of (member true) 1 (of (strict set_of) 1 [] ∷ of (strict (o
 in_subset = refl
 
 -- [x \in {1, 2}, y \in {1} |-> x + y][2, 1]
-over_pairs : gives (of (strict apply) 1 (of (binding Function (x ∷ y ∷ [])) 1 (one_two ∷ of (strict set_of) 20 (num 1 21 ∷ []) ∷ signed Plus 29 (of (name x) 29 []) (of (name y) 33 []) ∷ [])
+over_pairs : gives (of (strict apply) 1 (of (binding Function ((named x ∷ []) ∷ (named y ∷ []) ∷ [])) 1 (one_two ∷ of (strict set_of) 20 (num 1 21 ∷ []) ∷ signed Plus 29 (of (name x) 29 []) (of (name y) 33 []) ∷ [])
     ∷ of (strict tuple) 36 (num 2 36 ∷ num 1 39 ∷ []) ∷ [])) ≡ Ok (int (pos 3))
 over_pairs = refl
 
@@ -174,14 +177,14 @@ subset_nat : gives (of (member true) 1 (of (strict set_of) 1 [] ∷ of (strict (
 subset_nat = refl
 
 -- {x \in 1, y \in (1 \div 0) ..}: all sets are evaluated before any is found to be none
-sets_first : gives (of (binding Exists (x ∷ y ∷ [])) 1 (num 1 7 ∷ broken ∷ of (literal true) 20 [] ∷ [])) ≡ Err (fault BadDivisor (here 5))
+sets_first : gives (of (binding Exists ((named x ∷ []) ∷ (named y ∷ []) ∷ [])) 1 (num 1 7 ∷ broken ∷ of (literal true) 20 [] ∷ [])) ≡ Err (fault BadDivisor (here 5))
 sets_first = refl
 
-no_set_then : gives (of (binding Exists (x ∷ y ∷ [])) 1 (of (strict set_of) 7 [] ∷ num 1 12 ∷ broken ∷ [])) ≡ Err (fault NotSet (here 1))
+no_set_then : gives (of (binding Exists ((named x ∷ []) ∷ (named y ∷ []) ∷ [])) 1 (of (strict set_of) 7 [] ∷ num 1 12 ∷ broken ∷ [])) ≡ Err (fault NotSet (here 1))
 no_set_then = refl
 
 -- over no members the body is not looked at
-no_members : gives (of (binding Exists (x ∷ [])) 1 (of (strict set_of) 7 [] ∷ broken ∷ [])) ≡ Ok (truth false)
+no_members : gives (of (binding Exists ((named x ∷ []) ∷ [])) 1 (of (strict set_of) 7 [] ∷ broken ∷ [])) ≡ Ok (truth false)
 no_members = refl
 
 -- [a EXCEPT ![5][1 \div 0] = 1]: subscripts are evaluated before the domain is looked at; [a EXCEPT ![5][1] = 1] changes nothing
@@ -209,3 +212,22 @@ below_bounded = refl
 -- 2..1 is empty
 empty_range : gives (signed Equal 1 (signed Range 1 (num 2 1) (num 1 4)) (of (strict set_of) 8 [])) ≡ Ok (truth true)
 empty_range = refl
+
+-- {x \in {1, 2}} over a group: [x, y \in {1, 2} |-> x + y][2, 1], and its set is evaluated once, as a fault in it shows
+over_group : gives (of (strict apply) 1 (of (binding Function ((named x ∷ named y ∷ []) ∷ [])) 1 (one_two ∷ signed Plus 29 (of (name x) 29 []) (of (name y) 33 []) ∷ [])
+    ∷ of (strict tuple) 36 (num 2 36 ∷ num 1 39 ∷ []) ∷ [])) ≡ Ok (int (pos 3))
+over_group = refl
+
+group_fault : gives (of (binding Exists ((named x ∷ named y ∷ []) ∷ [])) 1 (broken ∷ of (literal true) 20 [] ∷ [])) ≡ Err (fault BadDivisor (here 5))
+group_fault = refl
+
+-- LET x == 2 y == x + 1 IN x + y: y sees x; in LET y == x x == 2 IN y, y doesn't
+one_let : gives (of (local (named x ∷ named y ∷ [])) 1 (num 2 10 ∷ signed Plus 17 (of (name x) 17 []) (num 1 21) ∷ signed Plus 26 (of (name x) 26 []) (of (name y) 30 []) ∷ [])) ≡ Ok (int (pos 5))
+one_let = refl
+
+let_order : gives (of (local (named y ∷ named x ∷ [])) 1 (of (name x) 10 [] ∷ num 2 17 ∷ of (name y) 22 [] ∷ [])) ≡ Err (fault NotFunction (here 10))
+let_order = refl
+
+-- SubSeq(<<7, 8, 9>>, m, m) in a run with m = 170141183460469231731687303715884105727: s[i + (m - 1)] asks for no number past the limits
+last_index : gives_bounded (part (2 ^ 127 - 1) (2 ^ 127 - 1)) ≡ Err (fault NotInDomain (here 1))
+last_index = refl

@@ -1,5 +1,5 @@
 -- A test for membership that lists nothing says what the listed set says: of SUBSET A, and so of every form.
-use Rattle.std.proofs.Common.{◌≡◌, Bool, true, false, ◌&&◌, ◌||◌, List, [], ◌∷◌, map, refl, sym, ◌∙◌, ap, subst, Ok}
+use Rattle.std.proofs.Common.{◌≡◌, Bool, true, false, ◌&&◌, ◌||◌, List, [], ◌∷◌, map, refl, sym, ◌∙◌, ap, subst, Ok, Err}
 use Rattle.std.specs.Ordering.{nat_cmp, is_eq}
 use Rattle.std.specs.declared.cmp.Ordering.{Ordering}
 use Rattle.std.specs.declared.cmp.Ordering.TheVariants.{Less, Equal, Greater}
@@ -7,10 +7,10 @@ use Rattle.tla_token.specs.declared.place.Place.{Place}
 use Rattle.tla_expr.specs.declared.op.Op.{Op}
 use Rattle.tla_expr.specs.declared.op.Op.TheVariants.{Subset}
 use Rattle.tla_expr.specs.Tree.{Word, Strict, operator, functions, records}
-use Rattle.tla_value.specs.Value.{Value, Values, truth, int, text, model, fun, set, no_values, and, Outcome, values_in, ◌>>=◌}
-use Rattle.tla_value.specs.Order.{count, order, orders, same, holds, set_from, field_pairs, arguments, values_at, IsBefore, IsAscending, IsCanonical, AreCanonical}
-use Rattle.tla_value.specs.Stops.{plain, on_sets, tested}
-use Rattle.tla_value.specs.Sets.{all_in, sublists, subsets, repeated, is_subset}
+use Rattle.tla_value.specs.Value.{Value, Values, truth, int, text, model, fun, set, no_values, and, Outcome, values_in, ◌>>=◌, in_order}
+use Rattle.tla_value.specs.Order.{record_from, count, order, orders, same, holds, set_from, field_pairs, arguments, values_at, IsBefore, IsAscending, IsCanonical, AreCanonical}
+use Rattle.tla_value.specs.Stops.{plain, members_at, function_at, tested}
+use Rattle.tla_value.specs.Sets.{all_in, sublists, subsets, repeated, functions_over, is_function_over, is_subset}
 use Rattle.tla_value.specs.Strict.{strict_value, strict_test}
 use Rattle.tla_value.specs.OrderLaws.{orders_equal, order_self, order_total, nat_self, same_is}
 use Rattle.tla_value.proofs.OrderSets.{holds_set_from}
@@ -116,7 +116,7 @@ subsets_tested v vs a b = holds_set_from v (map set (sublists vs)) ∙ subset_by
 -- ---- forms
 
 of_two : (at p : Place) (v a b : Value) → strict_test plain functions at p v (a ∷ b ∷ []) ≡ tested p v (strict_value plain functions at (a ∷ b ∷ []))
-of_two at p v (set ds) (set ws) = λ i. Ok (truth (sym (functions_tested v ds (repeated ds (set ws))) i))
+of_two at p v (set ds) (set ws) = λ i. Ok (sym (functions_tested v ds (repeated ds (set ws))) i)
 of_two at p v (set ds) b = refl
 of_two at p v a b = refl
 
@@ -126,23 +126,23 @@ functions_law at p v (a ∷ []) = refl
 functions_law at p v (a ∷ b ∷ []) = of_two at p v a b
 functions_law at p v (a ∷ b ∷ d ∷ vs) = refl
 
-space_law : (at p : Place) (v : Value) (vs : List Value) (go go' : List Values → Outcome Value) → ((ss : List Values) → go ss ≡ tested p v ((go' ss) >>= (plain at))) →
-    on_sets at vs go ≡ tested p v ((on_sets at vs go') >>= (plain at))
-space_law at p v [] go go' h = h []
-space_law at p v (set s ∷ vs) go go' h = space_law at p v vs (λ ss. go (s ∷ ss)) (λ ss. go' (s ∷ ss)) (λ ss. h (s ∷ ss))
-space_law at p v (w ∷ vs) go go' h = refl
-
 abbrev field_sets : List Word → List Values → List (Value × Value)
 field_sets xs ss = field_pairs xs (map set ss)
 
 abbrev field_names : List Word → List Values → Values
 field_names xs ss = set_from (arguments (field_sets xs ss))
 
+records_by : (xs : List Word) (at p : Place) (v : Value) (o : Outcome (List Values)) →
+    ((o >>= λ ss. function_at at (record_from xs (map set ss))) >>= λ (ds, ss). Ok (is_function_over v ds ss))
+    ≡ tested p v (((o >>= λ ss. function_at at (record_from xs (map set ss))) >>= λ (ds, ss). Ok (set (functions_over ds ss))) >>= plain at)
+records_by xs at p v (Ok ss) = λ i. Ok (sym (functions_tested v (field_names xs ss) (values_at (field_sets xs ss) (field_names xs ss))) i)
+records_by xs at p v (Err k) = refl
+
 records_law : (xs : List Word) (at p : Place) (v : Value) (vs : List Value) → strict_test plain (records xs) at p v vs ≡ tested p v (strict_value plain (records xs) at vs)
-records_law xs at p v vs = space_law at p v vs _ _ (λ ss i. Ok (truth (sym (functions_tested v (field_names xs ss) (values_at (field_sets xs ss) (field_names xs ss))) i)))
+records_law xs at p v vs = records_by xs at p v (in_order (members_at at) vs)
 
 of_one : (at p : Place) (v w : Value) → IsCanonical v → IsCanonical w → strict_test plain (operator Subset) at p v (w ∷ []) ≡ tested p v (strict_value plain (operator Subset) at (w ∷ []))
-of_one at p v (set ws) a b = λ i. Ok (truth (sym (subsets_tested v ws a b.0) i))
+of_one at p v (set ws) a b = λ i. Ok (sym (subsets_tested v ws a b.0) i)
 of_one at p v w a b = refl
 
 subset_law : (at p : Place) (v : Value) (vs : List Value) → IsCanonical v → AreCanonical (values_in vs) → strict_test plain (operator Subset) at p v vs ≡ tested p v (strict_value plain (operator Subset) at vs)

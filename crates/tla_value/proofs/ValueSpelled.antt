@@ -6,8 +6,7 @@ use Rattle.tla_expr.specs.Tree.{Word}
 use Rattle.tla_value.specs.Value.{Value, Values, truth, int, text, model, set, fun, no_values, and}
 use Rattle.tla_value.specs.Order.{orders, count, listed, set_from, seq_from, fun_from, pairs_of, numbered, IsAscending, IsCanonical, AreCanonical}
 use Rattle.tla_value.specs.OrderLaws.{orders_equal, is_equal}
-use Rattle.tla_value.specs.Limits.{fits}
-use Rattle.tla_value.specs.ValueText.{IsGood, AreGood, AreGoodFields, AreGoodPairs, HasModelNames, HaveModelNames, Spells, marks, Spellings, no_spellings, spelling, angles, is_identifier, spelled, all_spelled, spelled_fields, spelled_pairs, field_names, with_field, fields_from, pairs_from, shown_other, shown, all_shown}
+use Rattle.tla_value.specs.ValueText.{IsGood, AreGood, AreGoodFields, AreGoodPairs, HasModelNames, HaveModelNames, Spellings, no_spellings, spelling, angles, is_identifier, spelled, all_spelled, spelled_fields, spelled_pairs, field_names, with_field, fields_from, pairs_from, shown_other, shown, all_shown}
 use Rattle.tla_value.proofs.OrderSets.{set_from_listed}
 use Rattle.tla_value.proofs.OrderFuns.{values_listed, fun_from_pairs}
 
@@ -143,7 +142,3 @@ mutual
   pub all_good_shown : (vs : Values) → HaveModelNames vs → AreGood (all_shown vs)
   all_good_shown no_values h = tt
   all_good_shown (and v vs) h = (good_shown v h.0, all_good_shown vs h.1)
-
--- the tokens that are written for a value spell it
-pub spells_shown : (v : Value) → IsCanonical v → HasModelNames v → fits v ≡ true → Spells (marks (shown v) []) v
-spells_shown v canonical names within = (shown v, good_shown v names, refl, spelled_shown v canonical, within)

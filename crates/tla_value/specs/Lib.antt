@@ -7,6 +7,7 @@ pub mod ValueSeen
 pub mod Code
 pub mod ValueOf
 pub mod Falls
+pub mod Answers
 pub mod States
 pub mod Stops
 pub mod Sets
@@ -15,4 +16,6 @@ pub mod Meaning
 pub mod Grafts
 pub mod Standard
 pub mod Definitions
+pub mod Outside
 pub mod Related
+pub mod laws

@@ -23,8 +23,16 @@ abbrev pub fits_int : ℤ → Bool
 fits_int (pos n) = nat_lt n (2 ^ 127)
 fits_int (negsuc n) = nat_lt n (2 ^ 127)
 
+-- how many members a set or a domain may have
+abbrev pub most_members : ℕ
+most_members = 65536
+
+-- how deep a value may be
+abbrev pub deepest : ℕ
+deepest = 200
+
 abbrev pub fits_count : Values → Bool
-fits_count vs = nat_le (count vs) 65536
+fits_count vs = nat_le (count vs) most_members
 
 -- integers and counts of members, in all parts
 abbrev mutual
@@ -41,7 +49,7 @@ abbrev mutual
   all_fit (and v vs) = fits_parts v && all_fit vs
 
 abbrev pub fits : Value → Bool
-fits v = fits_parts v && nat_le (depth v) 200
+fits v = fits_parts v && nat_le (depth v) deepest
 
 -- a value that is made at a place in a run
 abbrev pub bounded : Place → Value → Outcome Value

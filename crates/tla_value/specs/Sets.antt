@@ -1,9 +1,10 @@
 -- Sets of sets, of functions and of integers by their members ("Specifying Systems", sections 6.1, 16.1.6 to 16.1.8).
-use Rattle.std.specs.Prelude.{ℕ, zero, suc, ℤ, pos, negsuc, ◌+ℤ◌, ◌-ℤ◌, Bool, true, false, ◌&&◌, List, [], ◌∷◌, ◌++◌, map, cond, not}
+use Rattle.std.specs.Prelude.{ℕ, zero, suc, ℤ, pos, negsuc, ◌+ℤ◌, ◌-ℤ◌, Bool, true, false, ◌&&◌, List, [], ◌∷◌, ◌++◌, map, cond, not, Ok}
+use Rattle.std.specs.List.{flat_map}
 use Rattle.tla_token.specs.declared.place.Place.{Place}
-use Rattle.tla_value.specs.Value.{Value, Values, int, set, fun, no_values, and, Outcome}
+use Rattle.tla_value.specs.Value.{Value, Values, int, set, fun, no_values, and, Outcome, ◌>>=◌, in_order}
 use Rattle.tla_value.specs.Order.{same, holds, set_from, listed}
-use Rattle.tla_value.specs.Stops.{on_set}
+use Rattle.tla_value.specs.Stops.{members_at}
 
 abbrev pub kept : (Value → Bool) → Values → Values
 kept p no_values = no_values
@@ -24,9 +25,10 @@ abbrev pub without : Values → Values → Values
 without a b = kept (λ v. not (holds v b)) a
 
 -- the members of the members; each must be a set
-abbrev pub on_members : Place → Values → (List Value → Outcome Value) → Outcome Value
-on_members at no_values go = go []
-on_members at (and v vs) go = on_set at v (λ s. on_members at vs (λ ws. go (listed s ++ ws)))
+abbrev pub joined : Place → Values → Outcome (List Value)
+joined at vs = do
+  ss ← in_order (members_at at) (listed vs)
+  Ok (flat_map listed ss)
 
 -- SUBSET
 abbrev pub sublists : Values → List Values

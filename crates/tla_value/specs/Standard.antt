@@ -3,9 +3,9 @@ use Rattle.std.specs.Prelude.{ℤ, pos, ◌+ℤ◌, ◌-ℤ◌, Bool, true, fals
 use Rattle.tla_token.specs.declared.place.Place.{Place}
 use Rattle.tla_expr.specs.Tree.{Word}
 use Rattle.tla_value.specs.declared.fault.FaultKind.TheVariants.{NotSet, EmptySequence, AssertFailed}
-use Rattle.tla_value.specs.Value.{Value, Values, truth, int, set, fun, no_values, and, Outcome, fault, Sense, values_in, ◌>>=◌}
-use Rattle.tla_value.specs.Order.{holds, count, seq_from, sequence_of}
-use Rattle.tla_value.specs.Stops.{Check, on_truth, on_int, on_set, on_sequence, on_one, on_two, on_three, misshapen, sense_of}
+use Rattle.tla_value.specs.Value.{Value, Values, truth, int, set, fun, Outcome, fault, Sense, values_in, ◌>>=◌, in_order}
+use Rattle.tla_value.specs.Order.{holds, count, listed, seq_from, sequence_of}
+use Rattle.tla_value.specs.Stops.{Check, truth_at, int_at, members_at, sequence_at, misshapen, one_of, two_of, three_of, sense_of}
 use Rattle.tla_value.specs.Sets.{range}
 use Rattle.tla_value.specs.Strict.{applied}
 use Rattle.tla_value.specs.Meaning.{only_tested}
@@ -45,32 +45,63 @@ abbrev pub tailed : Check → Place → List Value → Outcome Value
 tailed c at [] = Err (fault EmptySequence at)
 tailed c at (v ∷ vs) = c at (seq_from vs)
 
--- s[i + m - 1] for so many i on
-abbrev pub elements : Check → Place → Value → ℤ → Values → (List Value → Outcome Value) → Outcome Value
-elements c at s m no_values go = go []
-elements c at s m (and i is) go =
-    on_int at i (λ n. (c at (int (n +ℤ m))) >>= (λ _. (c at (int ((n +ℤ m) -ℤ pos 1))) >>= (λ k.
-    (applied at s k) >>= (λ v. elements c at s m is (λ vs. go (v ∷ vs))))))
+-- s[i + m - 1], where `-` binds before `+`
+abbrev pub element : Check → Place → Value → ℤ → Value → Outcome Value
+element c at s m i = do
+  n ← int_at at i
+  _ ← c at (int (m -ℤ pos 1))
+  k ← c at (int (n +ℤ (m -ℤ pos 1)))
+  applied at s k
 
 -- [i \in 1..(n - m + 1) |-> s[i + m - 1]], with all that is reached in it
 abbrev pub part_between : Check → Place → Value → ℤ → ℤ → Outcome Value
-part_between c at s m n =
-    (c at (int (n -ℤ m))) >>= (λ _. (c at (int ((n -ℤ m) +ℤ pos 1))) >>= (λ _.
-    (c at (set (range (pos 1) ((n -ℤ m) +ℤ pos 1)))) >>= (λ is.
-    on_set at is (λ ds. elements c at s m ds (λ vs. c at (fun ds (values_in vs)))))))
+part_between c at s m n = do
+  _ ← c at (int (n -ℤ m))
+  _ ← c at (int ((n -ℤ m) +ℤ pos 1))
+  domain ← c at (set (range (pos 1) ((n -ℤ m) +ℤ pos 1)))
+  is ← members_at at domain
+  vs ← in_order (element c at s m) (listed is)
+  c at (fun is (values_in vs))
 
 abbrev pub standard_value : Check → Standard → Place → List Value → Outcome Value
-standard_value c length_of at vs = on_one at vs (λ s. on_sequence at s (λ es. c at (int (pos (length es)))))
-standard_value c appended at vs = on_two at vs (λ s e. on_sequence at s (λ es. c at (seq_from (es ++ e ∷ []))))
-standard_value c first_of at vs = on_one at vs (λ s. on_sequence at s (headed at))
-standard_value c rest_of at vs = on_one at vs (λ s. on_sequence at s (tailed c at))
-standard_value c part_of at vs =
-    on_three at vs (λ s a b. on_sequence at s (λ _. on_int at a (λ m. on_int at b (λ n. part_between c at s m n))))
+standard_value c length_of at vs = do
+  s ← one_of at vs
+  es ← sequence_at at s
+  c at (int (pos (length es)))
+standard_value c appended at vs = do
+  (s, e) ← two_of at vs
+  es ← sequence_at at s
+  c at (seq_from (es ++ e ∷ []))
+standard_value c first_of at vs = do
+  s ← one_of at vs
+  es ← sequence_at at s
+  headed at es
+standard_value c rest_of at vs = do
+  s ← one_of at vs
+  es ← sequence_at at s
+  tailed c at es
+standard_value c part_of at vs = do
+  (s, a, b) ← three_of at vs
+  _ ← sequence_at at s
+  m ← int_at at a
+  n ← int_at at b
+  part_between c at s m n
 standard_value c sequences at vs = Err (fault NotSet at)
-standard_value c size_of at vs = on_one at vs (λ a. on_set at a (λ ss. c at (int (pos (count ss)))))
-standard_value c is_finite at vs = on_one at vs (λ a. on_set at a (λ ss. Ok (truth true)))
-standard_value c printed at vs = on_one at vs (λ v. Ok (truth true))
-standard_value c asserted at vs = on_two at vs (λ v m. on_truth at v (λ b. cond b (Ok (truth true)) (Err (fault AssertFailed at))))
+standard_value c size_of at vs = do
+  a ← one_of at vs
+  ss ← members_at at a
+  c at (int (pos (count ss)))
+standard_value c is_finite at vs = do
+  a ← one_of at vs
+  _ ← members_at at a
+  Ok (truth true)
+standard_value c printed at vs = do
+  v ← one_of at vs
+  Ok (truth true)
+standard_value c asserted at vs = do
+  (v, m) ← two_of at vs
+  b ← truth_at at v
+  cond b (Ok (truth true)) (Err (fault AssertFailed at))
 
 abbrev pub each_in : List Value → Values → Bool
 each_in [] ws = true
@@ -84,7 +115,7 @@ elements_in (Some vs) ws = each_in vs ws
 abbrev pub standard_sense : Check → Standard → Place → List Value → Sense
 standard_sense c sequences at vs = record {
   value = Err (fault NotSet at);
-  test = λ p v. on_one at vs (λ a. on_set at a (λ ws. Ok (truth (elements_in (sequence_of v) ws))));
+  test = λ p v. (do a ← one_of at vs; ws ← members_at at a; Ok (elements_in (sequence_of v) ws));
 }
 standard_sense c o at vs = sense_of (standard_value c o at vs)
 

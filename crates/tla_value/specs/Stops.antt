@@ -1,8 +1,9 @@
--- Evaluation goes on with a value, of the kind that is needed, and stops at a fault or at a value past the limits.
-use Rattle.std.specs.Prelude.{ℤ, Bool, List, [], ◌∷◌, Option, Some, None, Ok, Err}
+-- What is needed of a value: of its kind, or of the number of parts; and what becomes of a value that is reached.
+use Rattle.std.specs.Prelude.{ℤ, Bool, List, [], ◌∷◌, Ok, Err}
+use Rattle.std.specs.Option.{ok_or}
 use Rattle.tla_token.specs.declared.place.Place.{Place}
 use Rattle.tla_value.specs.declared.fault.FaultKind.TheVariants.{NotBoolean, NotInteger, NotSet, NotFunction, NotSequence}
-use Rattle.tla_value.specs.Value.{◌>>=◌, Value, Values, truth, int, set, fun, Outcome, fault, over, Sense}
+use Rattle.tla_value.specs.Value.{◌>>=◌, Value, Values, truth, int, set, fun, Outcome, fault, Sense}
 use Rattle.tla_value.specs.Order.{holds, sequence_of}
 
 -- what becomes of a value that is reached at a place: itself, or past the limits
@@ -13,54 +14,56 @@ Check = Place → Value → Outcome Value
 abbrev pub plain : Check
 plain at v = Ok v
 
-abbrev pub on_truth : Place → Value → (Bool → Outcome Value) → Outcome Value
-on_truth at (truth b) go = go b
-on_truth at _ go = Err (fault NotBoolean at)
+-- ---- a value of a kind
 
-abbrev pub on_int : Place → Value → (ℤ → Outcome Value) → Outcome Value
-on_int at (int n) go = go n
-on_int at _ go = Err (fault NotInteger at)
+abbrev pub truth_at : Place → Value → Outcome Bool
+truth_at at (truth b) = Ok b
+truth_at at _ = Err (fault NotBoolean at)
 
-abbrev pub on_set : Place → Value → (Values → Outcome Value) → Outcome Value
-on_set at (set vs) go = go vs
-on_set at _ go = Err (fault NotSet at)
+abbrev pub int_at : Place → Value → Outcome ℤ
+int_at at (int n) = Ok n
+int_at at _ = Err (fault NotInteger at)
 
--- a function, by its domain and its values
-abbrev pub on_fun : Place → Value → (Values → Values → Outcome Value) → Outcome Value
-on_fun at (fun ds rs) go = go ds rs
-on_fun at _ go = Err (fault NotFunction at)
+-- the members of a set
+abbrev pub members_at : Place → Value → Outcome Values
+members_at at (set vs) = Ok vs
+members_at at _ = Err (fault NotSet at)
 
-abbrev pub on_list : Place → Option (List Value) → (List Value → Outcome Value) → Outcome Value
-on_list at None go = Err (fault NotSequence at)
-on_list at (Some vs) go = go vs
+-- the domain of a function, and its values
+abbrev pub function_at : Place → Value → Outcome (Values × Values)
+function_at at (fun ds rs) = Ok (ds, rs)
+function_at at _ = Err (fault NotFunction at)
 
-abbrev pub on_sequence : Place → Value → (List Value → Outcome Value) → Outcome Value
-on_sequence at v go = on_list at (sequence_of v) go
+-- the elements of a sequence
+abbrev pub sequence_at : Place → Value → Outcome (List Value)
+sequence_at at v = ok_or (sequence_of v) (fault NotSequence at)
 
--- each of them a set, in order
-abbrev pub on_sets : Place → List Value → (List Values → Outcome Value) → Outcome Value
-on_sets at [] go = go []
-on_sets at (v ∷ vs) go = on_set at v (λ s. on_sets at vs (λ ss. go (s ∷ ss)))
+-- ---- a number of parts
 
 -- no tree of a program has other parts
-abbrev pub misshapen : Place → Outcome Value
+abbrev pub misshapen : {X : Type 0} → Place → Outcome X
 misshapen at = Err (fault NotFunction at)
 
-abbrev pub on_one : {A : Type 0} → Place → List A → (A → Outcome Value) → Outcome Value
-on_one at (a ∷ []) go = go a
-on_one at _ go = misshapen at
+abbrev pub one_of : {X : Type 0} → Place → List X → Outcome X
+one_of at (a ∷ []) = Ok a
+one_of at _ = misshapen at
 
-abbrev pub on_two : {A : Type 0} → Place → List A → (A → A → Outcome Value) → Outcome Value
-on_two at (a ∷ b ∷ []) go = go a b
-on_two at _ go = misshapen at
+abbrev pub two_of : {X : Type 0} → Place → List X → Outcome (X × X)
+two_of at (a ∷ b ∷ []) = Ok (a, b)
+two_of at _ = misshapen at
 
-abbrev pub on_three : {A : Type 0} → Place → List A → (A → A → A → Outcome Value) → Outcome Value
-on_three at (a ∷ b ∷ d ∷ []) go = go a b d
-on_three at _ go = misshapen at
+abbrev pub three_of : {X : Type 0} → Place → List X → Outcome (X × X × X)
+three_of at (a ∷ b ∷ d ∷ []) = Ok (a, b, d)
+three_of at _ = misshapen at
+
+-- ---- membership
 
 -- whether v is a member, at the place of the `\in`
-abbrev pub tested : Place → Value → Outcome Value → Outcome Value
-tested p v o = o >>= (λ s. on_set p s (λ ws. Ok (truth (holds v ws))))
+abbrev pub tested : Place → Value → Outcome Value → Outcome Bool
+tested p v o = do
+  s ← o
+  ws ← members_at p s
+  Ok (holds v ws)
 
 -- a set is tested by its members
 abbrev pub sense_of : Outcome Value → Sense

@@ -37,6 +37,14 @@ abbrev pub ◌>>=◌ : {X Y : Type 0} → Outcome X → (X → Outcome Y) → Ou
 (Ok x) >>= go = go x
 (Err k) >>= go = Err k
 
+-- what go makes of each, from left to right
+abbrev pub in_order : {X Y : Type 0} → (X → Outcome Y) → List X → Outcome (List Y)
+in_order go [] = Ok []
+in_order go (x ∷ xs) = do
+  y ← go x
+  ys ← in_order go xs
+  Ok (y ∷ ys)
+
 -- stops at the first that isn't true
 abbrev pub and_then : Outcome Bool → Outcome Bool → Outcome Bool
 and_then (Ok true) w = w
@@ -66,4 +74,4 @@ NotFalse (Err k) = Unit {0}
 -- an outcome, and what it is to test a value for being a member of it: some sets are tested without being listed
 pub record Sense : Type 0 where
   pub value : Outcome Value
-  pub test : Place → Value → Outcome Value  -- at the place of the `\in`, of the value to its left: a truth value
+  pub test : Place → Value → Outcome Bool  -- at the place of the `\in`, of the value to its left

@@ -1,6 +1,6 @@
 -- Which value stands in a text at a place: the tokens from there on as the grammar of values sees them. Between them stand blanks and comments
 -- to the line's end alone.
-use Rattle.std.specs.Prelude.{◌≡◌, ℕ, Bool, true, false, IsTrue, List, [], ◌∷◌, ◌++◌, drop}
+use Rattle.std.specs.Prelude.{◌≡◌, ℕ, Bool, true, false, IsTrue, List, [], ◌∷◌, ◌++◌, ◌≤◌, length, drop}
 use Rattle.std.specs.List.{list_all}
 use Rattle.tla_token.specs.Signs.{spellings}
 use Rattle.tla_token.specs.Lexemes.{Kind, one}
@@ -46,6 +46,7 @@ ends_in_token (p ∷ q ∷ ps) = ends_in_token (q ∷ ps)
 
 -- the bytes of the text from `at` to `to`, the end of a token, spell the value
 pub record SpellsFrom (bytes : List ℕ) (at to : ℕ) (v : Value) : Type 0 where
+  pub inside : to ≤ length bytes
   pub pieces : List Piece
   pub cut : stretch bytes at to ≡ text_of pieces
   pub fit : FitBefore pieces (drop to bytes)

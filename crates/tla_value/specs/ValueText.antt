@@ -1,5 +1,5 @@
 -- How values are spelled in configurations, scripts and traces, and the one text that is written for a value.
-use Rattle.std.specs.Prelude.{◌≡◌, ℕ, pos, negsuc, neg_ℤ, Bool, true, false, List, [], ◌∷◌, ◌++◌, Option, Some, None, if◌then◌else◌, ◌&&◌, not, suc, codes}
+use Rattle.std.specs.Prelude.{◌≡◌, ℕ, pos, negsuc, neg_ℤ, Bool, true, false, List, [], ◌∷◌, ◌++◌, Option, Some, None, if◌then◌else◌, ◌&&◌, not, zero, suc, codes}
 use Rattle.std.specs.Fmt.{decimal}
 use Rattle.std.specs.Ordering.{is_eq}
 use Rattle.std.specs.List.{list_all, list_any}
@@ -8,7 +8,7 @@ use Rattle.tla_expr.specs.Lexical.{escapes}
 use Rattle.tla_expr.specs.Tree.{Word}
 use Rattle.tla_value.specs.Value.{Value, Values, truth, int, text, model, set, fun, no_values, and}
 use Rattle.tla_value.specs.Order.{orders, same, set_from, listed, fun_from, seq_from, numbered}
-use Rattle.tla_value.specs.Limits.{fits}
+use Rattle.tla_value.specs.Limits.{fits, fits_int, deepest}
 
 -- ---- words
 
@@ -138,9 +138,40 @@ abbrev mutual
   pair_marks no_pairs r = r
   pair_marks (pair k s ps) r = sign (codes "@@") ∷ marks k (sign (codes ":>") ∷ marks s (pair_marks ps r))
 
--- tokens spell a value within the limits
+-- ---- within the limits of a run
+
+-- each part spells a value within the limits, also one that doesn't count, and no part lies in more than d pairs of brackets
+abbrev mutual
+  pub IsWithin : Spelling → ℕ → Type 0
+  IsWithin (truth_word b) d = Unit {0}
+  IsWithin (digits n) d = fits_int (pos n) ≡ true
+  IsWithin (minus n) d = fits_int (neg_ℤ (pos n)) ≡ true
+  IsWithin (quoted w) d = Unit {0}
+  IsWithin (named w) d = Unit {0}
+  IsWithin (braces ss) zero = ⊥
+  IsWithin (braces ss) (suc d) = (fits (spelled (braces ss)) ≡ true) × AreWithin ss d
+  IsWithin (angles ss) zero = ⊥
+  IsWithin (angles ss) (suc d) = (fits (spelled (angles ss)) ≡ true) × AreWithin ss d
+  IsWithin (fields x s fs) zero = ⊥
+  IsWithin (fields x s fs) (suc d) = (fits (spelled (fields x s fs)) ≡ true) × IsWithin s d × AreWithinFields fs d
+  IsWithin (pairs k s ps) zero = ⊥
+  IsWithin (pairs k s ps) (suc d) = (fits (spelled (pairs k s ps)) ≡ true) × IsWithin k d × IsWithin s d × AreWithinPairs ps d
+
+  pub AreWithin : Spellings → ℕ → Type 0
+  AreWithin no_spellings d = Unit {0}
+  AreWithin (spelling s ss) d = IsWithin s d × AreWithin ss d
+
+  pub AreWithinFields : Fields → ℕ → Type 0
+  AreWithinFields no_fields d = Unit {0}
+  AreWithinFields (field x s fs) d = IsWithin s d × AreWithinFields fs d
+
+  pub AreWithinPairs : Pairs → ℕ → Type 0
+  AreWithinPairs no_pairs d = Unit {0}
+  AreWithinPairs (pair k s ps) d = IsWithin k d × IsWithin s d × AreWithinPairs ps d
+
+-- tokens spell a value, all of them within the limits
 abbrev pub Spells : List Mark → Value → Type 0
-Spells ts v = (s : Spelling) × IsGood s × (ts ≡ marks s []) × (spelled s ≡ v) × (fits v ≡ true)
+Spells ts v = (s : Spelling) × IsGood s × IsWithin s deepest × (ts ≡ marks s []) × (spelled s ≡ v)
 
 -- ---- the written text
 
@@ -189,7 +220,7 @@ abbrev mutual
   all_shown no_values = no_spellings
   all_shown (and v vs) = spelling (shown v) (all_shown vs)
 
--- a blank stands behind a comma, and on both sides of |->, :> and @@
+-- a blank comes after a comma, and on both sides of |->, :> and @@
 abbrev mutual
   pub spelling_text : Spelling → Word
   spelling_text (truth_word b) = truth_name b

@@ -1,4 +1,4 @@
-use Rattle.first_path.proofs.Witness.{form_worked, constants_worked, begins_worked, never_fault_worked, never_fault_at_last, not_at_last, steps_worked, first_sound, last_sound, still_worked, not_idle}
+use Rattle.first_path.proofs.Witness.{form_worked, constants_worked, first_state, last_state, begins_worked, never_fault_worked, never_fault_at_last, not_at_last, steps_worked, first_sound, last_sound, still_worked, not_idle}
 use Rattle.first_path.proofs.laws.some_module_steps.Goals as goal
 
 pub returns-clause-form : goal.returns-clause-form
@@ -6,6 +6,9 @@ returns-clause-form c = form_worked
 
 pub returns-clause-constants : goal.returns-clause-constants
 returns-clause-constants c = constants_worked
+
+pub returns-clause-states : goal.returns-clause-states
+returns-clause-states c = λ p q. (first_state p q, last_state p q)
 
 pub returns-clause-starts : goal.returns-clause-starts
 returns-clause-starts c = λ p q. (first_sound p q, begins_worked p q)

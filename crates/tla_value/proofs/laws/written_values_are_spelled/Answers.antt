@@ -1,4 +1,4 @@
-use Rattle.tla_value.proofs.ValueSpelled.{spells_shown}
+use Rattle.tla_value.proofs.ValueWithin.{spells_shown}
 use Rattle.tla_value.proofs.laws.written_values_are_spelled.Goals as goal
 
 pub returns : goal.returns

@@ -1,0 +1,76 @@
+-- What is at the front of a text: words, blanks, names; and its lines ("Specifying Systems", section 15.1).
+use Rattle.std.specs.Prelude.{ℕ, nat_eq, Bool, true, false, ◌&&◌, not, List, [], ◌∷◌, length, drop, Option, Some, None, option_and_then, if◌then◌else◌}
+use Rattle.std.specs.List.{starts_with, list_any}
+use Rattle.tla_token.specs.Lexemes.{is_word, is_letter, is_blank}
+
+abbrev pub Text : Type 0
+Text = List ℕ
+
+abbrev pub begins : Text → Text → Bool
+begins s w = starts_with nat_eq s w
+
+-- a blank within a line
+abbrev pub is_space : ℕ → Bool
+is_space b = is_blank b && not (nat_eq b 10)
+
+-- after all bytes at the front that are so
+abbrev pub past_all : (ℕ → Bool) → Text → Text
+past_all p [] = []
+past_all p (b ∷ s) = if p b then past_all p s else b ∷ s
+
+abbrev pub first_is : (ℕ → Bool) → Text → Bool
+first_is p [] = false
+first_is p (b ∷ s) = p b
+
+-- after the word w, if the text begins with it
+abbrev pub past_word : Text → Text → Option Text
+past_word w s = if begins s w then Some (drop (length w) s) else None
+
+-- goes on with what is there
+abbrev pub on_some : {A B : Type 0} → Option A → (A → Option B) → Option B
+on_some o go = option_and_then go o
+
+-- after at least one blank that is so
+abbrev pub past_blanks : (ℕ → Bool) → Text → Option Text
+past_blanks p s = if first_is p s then Some (past_all p s) else None
+
+-- after four or more of the byte b
+abbrev pub past_run : ℕ → Text → Option Text
+past_run b s = on_some (past_word (b ∷ b ∷ b ∷ b ∷ []) s) (λ r. Some (past_all (nat_eq b) r))
+
+-- the run of letters, digits and underscores at the front
+abbrev pub word_at : Text → Text
+word_at [] = []
+word_at (b ∷ s) = if is_word b then b ∷ word_at s else []
+
+abbrev pub past_name : Text → Option Text
+past_name s = if list_any is_letter (word_at s) then Some (past_all is_word s) else None
+
+abbrev pub ends_line : Text → Bool
+ends_line [] = true
+ends_line (b ∷ s) = nat_eq b 10
+
+-- ---- lines
+
+abbrev pub with_front : ℕ → Option (Text × Text) → Option (Text × Text)
+with_front b (Some (a, r)) = Some (b ∷ a, r)
+with_front b None = None
+
+-- before and from the first line that is so; the first argument says whether a line begins here
+abbrev pub at_line : (Text → Bool) → Bool → Text → Option (Text × Text)
+at_line p first [] = None
+at_line p first (b ∷ s) = if first && p (b ∷ s) then Some ([], b ∷ s) else with_front b (at_line p (nat_eq b 10) s)
+
+-- a line, with its end, and what is after it; the end of a line alone
+abbrev pub line_of : Text → Text × Text
+line_of [] = ([], [])
+line_of (b ∷ s) = if nat_eq b 10 then (b ∷ [], s) else (let r = line_of s in (b ∷ r.0, r.1))
+
+-- from the end of the line on
+abbrev pub line_end : Text → Text
+line_end s = past_all (λ b. not (nat_eq b 10)) s
+
+-- a text in two, with what is between left out; the end of what is left out begins the second part
+pub record Split : Type 0 where
+  pub front : Text
+  pub back : Text

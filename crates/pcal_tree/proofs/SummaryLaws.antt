@@ -1,0 +1,288 @@
+-- What is computed once for each macro says what its calls assign.
+use Rattle.std.proofs.Common.{◌≡◌, List, [], ◌∷◌, ◌++◌, Bool, true, false, ◌&&◌, ◌||◌, cond, bytes_eq, Option, Some, None, refl, sym, ◌∙◌, ap, map}
+use Rattle.std.specs.Option.{option_map}
+use Rattle.std.specs.List.{list_any, flat_map}
+use Rattle.std.proofs.lemmas.List.Folds.{list_any-append}
+use Rattle.std.proofs.lemmas.Grind.{flat_map-append}
+use Rattle.std.proofs.lemmas.Slice.Eq.{bytes_eq-Decides}
+use Rattle.tla_token.specs.declared.place.Place.{Place}
+use Rattle.tla_token.specs.Signs.{is_among}
+use Rattle.tla_expr.specs.Tree.{Word, Tree, Trees, Graft, grafts}
+use Rattle.pcal_tree.specs.Algorithm.{Name, Statement, assign, await, print, assert, skip, branch, either, with, while, goto, macro, call, return, Statements, done, then, mark, Branches, no_branches, or, Macro}
+use Rattle.pcal_tree.specs.Run.{arguments}
+use Rattle.pcal_tree.specs.Expand.{graft_one, graft_all, graft_some}
+use Rattle.pcal_tree.specs.Paths as path
+use Rattle.pcal_tree.specs.Paths.{Effect, Effects, nothing, Path, after_one, after, after_some, is_reached, meets, has_assigned, some_word, same_word}
+use Rattle.pcal_tree.specs.OffencesSteps.{Before, at_label, inside, next, Visit, visits_inside, visits, visits_of_some, assigns_twice, reached_variables, in_macro, effect_of_body, call_effect}
+use Rattle.pcal_tree.specs.laws.MacroSummaries.{Target, parameter, variable, in_turn, at_once, Found, Summary, same_target, same_truth, same_side, same_pair, union, none_found, both, put_found, found_in_call, found_here, argument, Trail, joined, trail_after_one, trail_after, trail_after_some, found_on, found_inside, found, found_in_some, summaries, resolved, is_broken, effect_by, summary_effect}
+use Rattle.pcal_tree.proofs.SetLaws.{or_false, any_flat, any_map, any_same, any_none, Same, same_both, among_flat, meets_any, meets_same, Agree, Sound, any_union}
+use Rattle.pcal_tree.proofs.TargetLaws.{variables_of, roots_graft, clashes_graft, found_put}
+
+-- ---- what is the same is equal
+
+same_words : (x y : Word) → bytes_eq x y ≡ true → x ≡ y
+same_words x y e = (bytes_eq-Decides x y).0 e
+
+both_true : (a b : Bool) → (a && b) ≡ true → (a ≡ true) × (b ≡ true)
+both_true true b e = (refl, e)
+both_true false b e = cc
+
+target_sound : Sound same_target
+target_sound (parameter x) (parameter y) e = ap parameter (same_words x y e)
+target_sound (variable x) (variable y) e = ap variable (same_words x y e)
+target_sound (parameter x) (variable y) e = cc
+target_sound (variable x) (parameter y) e = cc
+
+truth_sound : Sound same_truth
+truth_sound true true e = refl
+truth_sound false false e = refl
+truth_sound true false e = cc
+truth_sound false true e = cc
+
+side_sound : Sound same_side
+side_sound s r e =
+    let h = both_true (same_target s.target r.target) (same_truth s.whole r.whole) e in
+    λ i. record { target = target_sound s.target r.target h.0 i; whole = truth_sound s.whole r.whole h.1 i }
+
+pair_sound : Sound same_pair
+pair_sound (in_turn a b) (in_turn c d) e =
+    let h = both_true (same_target a c) (same_target b d) e in λ i. in_turn (target_sound a c h.0 i) (target_sound b d h.1 i)
+pair_sound (at_once a b) (at_once c d) e =
+    let h = both_true (same_side a c) (same_side b d) e in λ i. at_once (side_sound a c h.0 i) (side_sound b d h.1 i)
+pair_sound (in_turn a b) (at_once c d) e = cc
+pair_sound (at_once a b) (in_turn c d) e = cc
+
+-- ---- paths
+
+-- what a path has assigned, by the targets found on it
+abbrev On : (Word → Option Tree) → Path → Trail → Type 0
+On g None None = Unit {0}
+On g (Some xs) (Some ts) = Same xs (variables_of g ts)
+On g _ _ = ⊥
+
+union_variables : (g : Word → Option Tree) (ts us : List Target) → Same (variables_of g ts ++ variables_of g us) (variables_of g (union same_target ts us))
+union_variables g ts us f =
+    list_any-append f (variables_of g ts) (variables_of g us)
+    ∙ (λ i. any_flat f (λ t. some_word (resolved g t)) ts i || any_flat f (λ t. some_word (resolved g t)) us i)
+    ∙ sym (any_union same_target target_sound (λ t. list_any f (some_word (resolved g t))) ts us)
+    ∙ sym (any_flat f (λ t. some_word (resolved g t)) (union same_target ts us))
+
+same_union : (g : Word → Option Tree) (xs ys : List Word) (ts us : List Target) → Same xs (variables_of g ts) → Same ys (variables_of g us) → Same (xs ++ ys) (variables_of g (union same_target ts us))
+same_union g xs ys ts us s r f = same_both xs (variables_of g ts) ys (variables_of g us) s r f ∙ union_variables g ts us f
+
+on_joined : (g : Word → Option Tree) (p : Path) (q : Trail) (o : Path) (r : Trail) → On g p q → On g o r → On g (path.joined p o) (joined q r)
+on_joined g None None o r h k = k
+on_joined g (Some xs) (Some ts) None None h k = h
+on_joined g (Some xs) (Some ts) (Some ys) (Some us) h k = same_union g xs ys ts us h k
+on_joined g (Some xs) (Some ts) None (Some us) h k = absurd k
+on_joined g (Some xs) (Some ts) (Some ys) None h k = absurd k
+on_joined g None (Some ts) o r h k = absurd h
+on_joined g (Some xs) None o r h k = absurd h
+
+on_chosen : (g : Word → Option Tree) (l : Bool) (p : Path) (q : Trail) (o : Path) (r : Trail) → On g p q → On g o r → On g (cond l p o) (cond l q r)
+on_chosen g true p q o r h k = h
+on_chosen g false p q o r h k = k
+
+on_assigned : (g : Word → Option Tree) (e : Effect) (f : Found) → Agree e (effect_by g f) → (p : Path) (q : Trail) → On g p q
+    → On g (option_map (λ xs. e.variables ++ xs) p) (option_map (λ ts. union same_target f.targets ts) q)
+on_assigned g e f a None None h = h
+on_assigned g e f a (Some xs) (Some ts) h = same_union g e.variables xs f.targets ts a.0 h
+on_assigned g e f a None (Some ts) h = absurd h
+on_assigned g e f a (Some xs) None h = absurd h
+
+-- each statement assigns what was found in it
+abbrev Follows : Graft → (Word → Option Tree) → Effects → (Statement → Found) → Type 0
+Follows h g E S = (st : Statement) → Agree (E (graft_one h st)) (effect_by g (S st))
+
+mutual
+  on_after_one : (h : Graft) (g : Word → Option Tree) (E : Effects) (S : Statement → Found) → Follows h g E S
+      → (st : Statement) (l : Bool) (p : Path) (q : Trail) → On g p q → On g (after_one E (graft_one h st) l p) (trail_after_one S st l q)
+  on_after_one h g E S a (branch e b c) l p q k =
+      on_joined g (after E (graft_all h b) false p) (trail_after S b false q) (after E (graft_all h c) false p) (trail_after S c false q)
+      (on_after h g E S a b false p q k) (on_after h g E S a c false p q k)
+  on_after_one h g E S a (either bs) l p q k = on_after_some h g E S a bs p q k
+  on_after_one h g E S a (with bs b) l p q k = on_after h g E S a b false p q k
+  on_after_one h g E S a (while e b) l p q k =
+      on_chosen g l p q (path.joined (after E (graft_all h b) false p) p) (joined (trail_after S b false q) q) k
+      (on_joined g (after E (graft_all h b) false p) (trail_after S b false q) p q (on_after h g E S a b false p q k) k)
+  on_after_one h g E S a (goto n) l p q k = tt
+  on_after_one h g E S a (call n ts) l p q k = tt
+  on_after_one h g E S a return l p q k = tt
+  on_after_one h g E S a (assign ms) l p q k = on_assigned g (E (graft_one h (assign ms))) (S (assign ms)) (a (assign ms)) p q k
+  on_after_one h g E S a (await e) l p q k = on_assigned g (E (graft_one h (await e))) (S (await e)) (a (await e)) p q k
+  on_after_one h g E S a (print e) l p q k = on_assigned g (E (graft_one h (print e))) (S (print e)) (a (print e)) p q k
+  on_after_one h g E S a (assert e) l p q k = on_assigned g (E (graft_one h (assert e))) (S (assert e)) (a (assert e)) p q k
+  on_after_one h g E S a skip l p q k = on_assigned g (E (graft_one h skip)) (S skip) (a skip) p q k
+  on_after_one h g E S a (macro m ts) l p q k = on_assigned g (E (graft_one h (macro m ts))) (S (macro m ts)) (a (macro m ts)) p q k
+
+  on_after : (h : Graft) (g : Word → Option Tree) (E : Effects) (S : Statement → Found) → Follows h g E S
+      → (b : Statements) (l : Bool) (p : Path) (q : Trail) → On g p q → On g (after E (graft_all h b) l p) (trail_after S b l q)
+  on_after h g E S a done l p q k = k
+  on_after h g E S a (mark n m rest) l p q k = on_after h g E S a rest true (Some []) (Some []) (λ f. refl)
+  on_after h g E S a (then at st rest) l p q k =
+      on_after h g E S a rest false (after_one E (graft_one h st) l p) (trail_after_one S st l q) (on_after_one h g E S a st l p q k)
+
+  on_after_some : (h : Graft) (g : Word → Option Tree) (E : Effects) (S : Statement → Found) → Follows h g E S
+      → (bs : Branches) (p : Path) (q : Trail) → On g p q → On g (after_some E (graft_some h bs) p) (trail_after_some S bs q)
+  on_after_some h g E S a no_branches p q k = tt
+  on_after_some h g E S a (or b bs) p q k =
+      on_joined g (after E (graft_all h b) false p) (trail_after S b false q) (after_some E (graft_some h bs) p) (trail_after_some S bs q)
+      (on_after h g E S a b false p q k) (on_after_some h g E S a bs p q k)
+
+-- ---- statements met
+
+-- what the statements met assign, by what was found
+abbrev Met : (Word → Option Tree) → Effects → List Visit → Found → Type 0
+Met g E vs f = Same (flat_map (reached_variables E) vs) (variables_of g f.targets) × (list_any (assigns_twice E) vs ≡ list_any (is_broken g) f.pairs)
+
+met_none : (g : Word → Option Tree) (E : Effects) → Met g E [] none_found
+met_none g E = (λ f. refl, refl)
+
+met_both : (g : Word → Option Tree) (E : Effects) (vs ws : List Visit) (a b : Found) → Met g E vs a → Met g E ws b → Met g E (vs ++ ws) (both a b)
+met_both g E vs ws a b m n = (
+  λ f. ap (list_any f) (flat_map-append (reached_variables E) vs ws)
+      ∙ same_union g (flat_map (reached_variables E) vs) (flat_map (reached_variables E) ws) a.targets b.targets m.0 n.0 f,
+  list_any-append (assigns_twice E) vs ws ∙ (λ i. m.1 i || n.1 i) ∙ sym (any_union same_pair pair_sound (is_broken g) a.pairs b.pairs),
+)
+
+same_word_none : (o : Option Word) → same_word o None ≡ false
+same_word_none None = refl
+same_word_none (Some x) = refl
+
+-- of what the path has assigned, what is assigned again
+again : (g : Word → Option Tree) (ts us : List Target)
+    → meets (variables_of g ts) (variables_of g us) ≡ list_any (is_broken g) (flat_map (λ y. map (λ x. in_turn x y) ts) us)
+again g ts us =
+    meets_any (variables_of g ts) (variables_of g us)
+    ∙ any_flat (is_among (variables_of g ts)) (λ t. some_word (resolved g t)) us
+    ∙ any_same (λ y. list_any (is_among (variables_of g ts)) (some_word (resolved g y))) (λ y. list_any (is_broken g) (map (λ x. in_turn x y) ts)) one us
+    ∙ sym (any_flat (is_broken g) (λ y. map (λ x. in_turn x y) ts) us)
+  where
+    holds : (w : Word) (o : Option Word) → is_among (some_word o) w ≡ same_word o (Some w)
+    holds w None = refl
+    holds w (Some x) = or_false (bytes_eq x w)
+
+    by : (o : Option Word) → list_any (is_among (variables_of g ts)) (some_word o) ≡ list_any (λ x. same_word (resolved g x) o) ts
+    by None = sym (any_none (λ x. same_word (resolved g x) None) (λ x. same_word_none (resolved g x)) ts)
+    by (Some w) =
+        or_false (is_among (variables_of g ts) w) ∙ among_flat (λ t. some_word (resolved g t)) ts w
+        ∙ any_same (λ x. is_among (some_word (resolved g x)) w) (λ x. same_word (resolved g x) (Some w)) (λ x. holds w (resolved g x)) ts
+
+    one : (y : Target) → list_any (is_among (variables_of g ts)) (some_word (resolved g y)) ≡ list_any (is_broken g) (map (λ x. in_turn x y) ts)
+    one y = by (resolved g y) ∙ sym (any_map (is_broken g) (λ x. in_turn x y) ts)
+
+met_here : (g : Word → Option Tree) (E : Effects) (b : Before) (at : Place) (st : Statement) (q : Trail) (f : Found)
+    → Agree (E st) (effect_by g f) → On g b.path q → Met g E (record { before = b; place = at; statement = st } ∷ []) (found_on q f)
+met_here g E b at st q f a k = by b.path q k
+  where
+    by : (p : Path) (q : Trail) → On g p q
+        → Same (cond (is_reached p) (E st).variables [] ++ []) (variables_of g (found_on q f).targets)
+        × ((((E st).twice || has_assigned p (E st).variables) || false) ≡ list_any (is_broken g) (found_on q f).pairs)
+    by None None h = (λ t. refl, or_false ((E st).twice || false) ∙ or_false (E st).twice ∙ a.1)
+    by (Some xs) (Some ts) h = (
+      λ t. list_any-append t (E st).variables [] ∙ or_false (list_any t (E st).variables) ∙ a.0 t,
+      or_false ((E st).twice || meets xs (E st).variables)
+          ∙ (λ i. a.1 i || meets_same xs (variables_of g ts) (E st).variables (variables_of g f.targets) h a.0 i)
+          ∙ ap (λ (b : Bool). list_any (is_broken g) f.pairs || b) (again g ts f.targets)
+          ∙ sym (any_union same_pair pair_sound (is_broken g) f.pairs (flat_map (λ y. map (λ x. in_turn x y) ts) f.targets)),
+    )
+    by None (Some ts) h = absurd h
+    by (Some xs) None h = absurd h
+
+mutual
+  met_inside : (h : Graft) (g : Word → Option Tree) (E : Effects) (S : Statement → Found) → Follows h g E S
+      → (st : Statement) (b : Before) (q : Trail) → On g b.path q → Met g E (visits_inside E b (graft_one h st)) (found_inside S b.labelled q st)
+  met_inside h g E S a (branch e c d) b q k =
+      met_both g E (visits E (inside b.path) (graft_all h c)) (visits E (inside b.path) (graft_all h d)) (found S false q c) (found S false q d)
+      (met_all h g E S a c (inside b.path) q k) (met_all h g E S a d (inside b.path) q k)
+  met_inside h g E S a (either bs) b q k = met_some h g E S a bs b.path q k
+  met_inside h g E S a (with bs c) b q k = met_all h g E S a c (inside b.path) q k
+  met_inside h g E S a (while e c) b q k =
+      met_all h g E S a c (inside (after_one E (graft_one h (while e c)) b.labelled b.path)) (trail_after_one S (while e c) b.labelled q)
+      (on_after_one h g E S a (while e c) b.labelled b.path q k)
+  met_inside h g E S a (assign ms) b q k = met_none g E
+  met_inside h g E S a (await e) b q k = met_none g E
+  met_inside h g E S a (print e) b q k = met_none g E
+  met_inside h g E S a (assert e) b q k = met_none g E
+  met_inside h g E S a skip b q k = met_none g E
+  met_inside h g E S a (goto n) b q k = met_none g E
+  met_inside h g E S a (macro m ts) b q k = met_none g E
+  met_inside h g E S a (call n ts) b q k = met_none g E
+  met_inside h g E S a return b q k = met_none g E
+
+  met_all : (h : Graft) (g : Word → Option Tree) (E : Effects) (S : Statement → Found) → Follows h g E S
+      → (c : Statements) (b : Before) (q : Trail) → On g b.path q → Met g E (visits E b (graft_all h c)) (found S b.labelled q c)
+  met_all h g E S a done b q k = met_none g E
+  met_all h g E S a (mark n m rest) b q k = met_all h g E S a rest at_label (Some []) (λ f. refl)
+  met_all h g E S a (then at st rest) b q k =
+      met_both g E (record { before = b; place = at.first; statement = graft_one h st } ∷ [])
+      (visits_inside E b (graft_one h st) ++ visits E (next E b (graft_one h st)) (graft_all h rest))
+      (found_on q (S st)) (both (found_inside S b.labelled q st) (found S false (trail_after_one S st b.labelled q) rest))
+      (met_here g E b at.first (graft_one h st) q (S st) (a st) k)
+      (met_both g E (visits_inside E b (graft_one h st)) (visits E (next E b (graft_one h st)) (graft_all h rest))
+      (found_inside S b.labelled q st) (found S false (trail_after_one S st b.labelled q) rest)
+      (met_inside h g E S a st b q k)
+      (met_all h g E S a rest (next E b (graft_one h st)) (trail_after_one S st b.labelled q) (on_after_one h g E S a st b.labelled b.path q k)))
+
+  met_some : (h : Graft) (g : Word → Option Tree) (E : Effects) (S : Statement → Found) → Follows h g E S
+      → (bs : Branches) (p : Path) (q : Trail) → On g p q → Met g E (visits_of_some E (inside p) (graft_some h bs)) (found_in_some S q bs)
+  met_some h g E S a no_branches p q k = met_none g E
+  met_some h g E S a (or c bs) p q k =
+      met_both g E (visits E (inside p) (graft_all h c)) (visits_of_some E (inside p) (graft_some h bs)) (found S false q c) (found_in_some S q bs)
+      (met_all h g E S a c (inside p) q k) (met_some h g E S a bs p q k)
+
+-- ---- calls
+
+abbrev pub Agreeing : (Word → Trees → Effect) → (Word → Trees → Effect) → Type 0
+Agreeing C D = (m : Word) (ts : Trees) → Agree (C m ts) (D m ts)
+
+agree_nothing : Agree nothing nothing
+agree_nothing = (λ f. refl, refl)
+
+agree_then : (e f k : Effect) → Agree e f → Agree f k → Agree e k
+agree_then e f k a b = (λ t. a.0 t ∙ b.0 t, a.1 ∙ b.1)
+
+-- a call in the body
+called_found : (ps : List Name) (ts : Trees) (ss : List Summary) (m : Word) (us : Trees)
+    → Agree (summary_effect ss m (grafts (arguments ps ts) us)) (effect_by (argument ps ts) (found_in_call ps ss m us))
+called_found ps ts [] m us = agree_nothing
+called_found ps ts (s ∷ older) m us = by (bytes_eq s.name m) (called_found ps ts older m us)
+  where
+    by : (b : Bool) → Agree (summary_effect older m (grafts (arguments ps ts) us)) (effect_by (argument ps ts) (found_in_call ps older m us))
+        → Agree (cond b (effect_by (argument s.params (grafts (arguments ps ts) us)) s.found) (summary_effect older m (grafts (arguments ps ts) us)))
+        (effect_by (argument ps ts) (cond b (put_found ps (argument s.params us) s.found) (found_in_call ps older m us)))
+    by true k = found_put ps ts s.params us s.found
+    by false k = k
+
+body_follows : (ps : List Name) (ts : Trees) (C : Word → Trees → Effect) (ss : List Summary) → Agreeing C (summary_effect ss)
+    → Follows (arguments ps ts) (argument ps ts) (in_macro C) (found_here ps ss)
+body_follows ps ts C ss a (assign ms) = (λ f. ap (list_any f) (roots_graft ps ts ms), clashes_graft ps ts ms)
+body_follows ps ts C ss a (macro m us) =
+    agree_then (C m (grafts (arguments ps ts) us)) (summary_effect ss m (grafts (arguments ps ts) us)) (effect_by (argument ps ts) (found_in_call ps ss m us))
+    (a m (grafts (arguments ps ts) us)) (called_found ps ts ss m us)
+body_follows ps ts C ss a (await e) = agree_nothing
+body_follows ps ts C ss a (print e) = agree_nothing
+body_follows ps ts C ss a (assert e) = agree_nothing
+body_follows ps ts C ss a skip = agree_nothing
+body_follows ps ts C ss a (branch e b c) = agree_nothing
+body_follows ps ts C ss a (either bs) = agree_nothing
+body_follows ps ts C ss a (with bs b) = agree_nothing
+body_follows ps ts C ss a (while e b) = agree_nothing
+body_follows ps ts C ss a (goto n) = agree_nothing
+body_follows ps ts C ss a (call n us) = agree_nothing
+body_follows ps ts C ss a return = agree_nothing
+
+pub calls_agree : (ms : List Macro) → Agreeing (call_effect ms) (summary_effect (summaries ms))
+calls_agree [] m ts = agree_nothing
+calls_agree (d ∷ older) m ts = by (bytes_eq d.name.word m) (calls_agree older)
+  where
+    S : Statement → Found
+    S = found_here d.params (summaries older)
+
+    by : (b : Bool) → Agreeing (call_effect older) (summary_effect (summaries older))
+        → Agree (cond b (effect_of_body (in_macro (call_effect older)) (graft_all (arguments d.params ts) d.body)) (call_effect older m ts))
+        (cond b (effect_by (argument d.params ts) (found S false (Some []) d.body)) (summary_effect (summaries older) m ts))
+    by true k =
+        met_all (arguments d.params ts) (argument d.params ts) (in_macro (call_effect older)) S (body_follows d.params ts (call_effect older) (summaries older) k)
+        d.body (inside (Some [])) (Some []) (λ f. refl)
+    by false k = k m ts

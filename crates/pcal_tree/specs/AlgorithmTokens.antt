@@ -1,0 +1,18 @@
+-- What the grammars of algorithms see of the tokens of a text: what expressions see, but for primes ("A PlusCal User's Manual", appendix A).
+use Rattle.std.specs.Prelude.{List, map}
+use Rattle.tla_token.specs.Lexemes as lexeme
+use Rattle.tla_token.specs.Tokens as text
+use Rattle.tla_expr.specs.Lexical.{ExprToken, Token}
+use Rattle.tla_expr.specs.Lexical as tk
+use Rattle.tla_expr.specs.ExprTokens as expression
+
+-- no variable of an algorithm is primed
+abbrev pub kind_of : lexeme.Kind → ExprToken
+kind_of (lexeme.other w) = tk.other
+kind_of k = expression.kind_of k
+
+abbrev pub view : text.Token → Token
+view t = record { kind = kind_of t.kind; place = t.place }
+
+abbrev pub views : List text.Token → List Token
+views ts = map view ts

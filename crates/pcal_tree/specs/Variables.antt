@@ -1,0 +1,36 @@
+-- The variables of the translation, and states that agree on them ("A PlusCal User's Manual", section 4, on the translation).
+use Rattle.std.specs.Prelude.{◌≡◌, List, [], ◌∷◌, ◌++◌, codes, map}
+use Rattle.tla_expr.specs.Tree.{Word, Each}
+use Rattle.pcal_tree.specs.Algorithm.{Declaration, Routine, locals, procedure_routines, main_routines}
+use Rattle.pcal_tree.specs.Scope.{State}
+use Rattle.pcal_tree.specs.Program.{Program, written}
+
+abbrev pub pc : Word
+pc = codes "pc"
+
+abbrev pub stack : Word
+stack = codes "stack"
+
+abbrev pub declared : List Declaration → List Word
+declared ds = map (λ d. d.name.word) ds
+
+abbrev pub written_all : Program → Routine → List Declaration → List Word
+written_all P u ds = map (written P u) (declared ds)
+
+abbrev pub written_by_all : Program → List Routine → List Word
+written_by_all P [] = []
+written_by_all P (u ∷ us) = written_all P u (locals u) ++ written_by_all P us
+
+abbrev pub stack_for : List Routine → List Word
+stack_for [] = []
+stack_for (u ∷ us) = stack ∷ []
+
+-- the names of `vars`: globals, pc, the stack where there are procedures, the variables of procedures and those of processes
+abbrev pub vars : Program → List Word
+vars P =
+    declared P.algorithm.globals ++ (pc ∷ stack_for (procedure_routines P.algorithm))
+    ++ written_by_all P (procedure_routines P.algorithm) ++ written_by_all P (main_routines P.algorithm P.algorithm.main)
+
+-- the same value at each of the names
+abbrev pub Agree : List Word → State → State → Type 0
+Agree xs s t = Each (λ x. s x ≡ t x) xs

@@ -1,0 +1,6 @@
+pub mod Apart
+pub mod Lines
+pub mod MacroSummaries
+pub mod Choosing
+pub mod Expansion
+pub mod Steps

@@ -1,0 +1,4 @@
+pub mod ConstantsAndStates
+pub mod NextAndInit
+pub mod Translates
+pub mod Headline

@@ -1,0 +1,5 @@
+-- What only laws speak of.
+pub mod InOrder
+pub mod Groups
+pub mod FreeNames
+pub mod Places
