@@ -27,6 +27,7 @@ pub mod LinesGood
 pub mod TargetLaws
 pub mod SummaryLaws
 pub mod EffectLaws
+pub mod EffectLabels
 mod RowsOffences
 pub mod SameVariables
 pub mod StepVariables

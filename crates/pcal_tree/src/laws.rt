@@ -18,7 +18,7 @@ ghost use Rattle.tla_expr.specs.Lexical.{Token};
 ghost use Rattle.tla_expr.specs.laws.Columns.{looks};
 ghost use Rattle.pcal_tree.specs.Grammar.{Syntax, Text, Good, spell};
 ghost use Rattle.pcal_tree.specs.laws.Lines.{Begins, text_lineless};
-ghost use Rattle.pcal_tree.specs.Labelled.{labelled};
+ghost use Rattle.pcal_tree.specs.Labelled.{labelled, labelled_by};
 ghost use Rattle.pcal_tree.specs.Names.{given, naming};
 ghost use Rattle.pcal_tree.specs.laws.Apart.{FewNames, Apart, New, Untaken, AreNames, NoEndLabels};
 ghost use Rattle.tla_value.specs.Value.{Trouble, Outcome};
@@ -100,12 +100,13 @@ pub fn processes_stand_at_one_label()
 
 /// What is computed once for each macro, from its text and from what was computed for older ones, says of each call what it assigns and
 /// whether it assigns a variable twice, as the macro's body does with the arguments in place of the parameters. So it gives the same
-/// offences against the rules on labels, in every algorithm.
+/// offences against the rules on labels, and the same labels are added, in every algorithm.
 pub fn macros_are_looked_at_once()
     ensures assigns { (ms : List Macro) (m : Word) (ts : Trees) (x : Word)
         → is_among (call_effect ms m ts).variables x ≡ is_among (summary_effect (summaries ms) m ts).variables x }
     ensures twice { (ms : List Macro) (m : Word) (ts : Trees) → (call_effect ms m ts).twice ≡ (summary_effect (summaries ms) m ts).twice }
     ensures offences { (a : Algorithm) → label_offences a ≡ label_offences_by (summary_effect (summaries (reverse a.macros))) a }
+    ensures labels { (forced : Bool) (a : Algorithm) → labelled forced a ≡ labelled_by (λ ms. summary_effect (summaries ms)) forced a }
 {}
 
 /// Whether tokens spell an algorithm rests on their kinds and columns alone: tokens of other lines spell the same text in other lines.
