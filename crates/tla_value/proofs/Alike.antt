@@ -9,7 +9,7 @@ use Rattle.tla_value.specs.Definitions.{trouble_at}
 use Rattle.tla_value.specs.Related.{Alike, Keeps, Reads, Rel}
 use Rattle.tla_value.proofs.Facts.{every_weaker}
 use Rattle.tla_value.proofs.Joined.{Kin, Same, Both, none, one, Checks}
-use Rattle.tla_value.proofs.JoinedEval.{Senses, Dens, Read, Kept, form_both, eval_both}
+use Rattle.tla_value.proofs.JoinedEval.{Senses, Dens, Read, Kept, form_kept, eval_both}
 
 -- troubles and places stand for themselves alone
 abbrev pub equal : Kin
@@ -60,7 +60,7 @@ all_alike : (R : Rel) (ds es : List Denotation) → Both (Dens equal R) ds es �
 all_alike R _ _ none = none
 all_alike R _ _ (one h hs) = one (λ e f r. senses_are _ _ (h e f r)) (all_alike R _ _ hs)
 
-reads : (R : Rel) (m : Form) → Reads R m → Read equal R m
+pub reads : (R : Rel) (m : Form) → Reads R m → Read equal R m
 reads R (name x) k = λ p q at e f r. senses_from _ _ (k p e f r ∙ (λ i. f.now x (at i)))
 reads R (next x) k = λ p q at e f r. senses_from _ _ (k p e f r ∙ (λ i. f.primed x (at i)))
 reads R (operator_call g) k = λ p q at e f r vs. senses_from _ _ (λ i. called (at i) (k e f r i) vs)
@@ -72,7 +72,7 @@ kept R m at k = (k.0, reads R m k.1)
 -- the law of a form
 pub alike : (R : Rel) (c : Check) (m : Form) (at : Place) (ds es : List Denotation) → Keeps R m at → AllAlike R ds es → Alike R (meaning_of c m at ds) (meaning_of c m at es)
 alike R c m at ds es k ps e f r =
-    senses_are _ _ (form_both equal R c c (checks_equal c) at at refl m ds es (kept R m at k) (all_dens R ds es ps) e f r)
+    senses_are _ _ (form_kept equal R c c (checks_equal c) at at refl m ds es (kept R m at k) (all_dens R ds es ps) e f r)
 
 -- a tree that keeps the relation at each of its nodes
 pub eval_alike : (R : Rel) (c : Check) (t : Tree) → Every (Keeps R) t → Alike R (eval c t) (eval c t)

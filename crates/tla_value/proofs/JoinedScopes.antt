@@ -9,7 +9,7 @@ use Rattle.tla_value.specs.Order.{listed}
 use Rattle.tla_value.specs.Stops.{Check, misshapen}
 use Rattle.tla_value.specs.Meaning.{Env, just, bind, called, only_tested, eval}
 use Rattle.tla_value.specs.Standard.{Standard, length_of, appended, first_of, rest_of, part_of, sequences, size_of, is_finite, printed, asserted, standard_of, headed, tailed, element, part_between, standard_value, standard_sense, standard_called, is_natural, is_int, standard_name}
-use Rattle.tla_value.specs.Definitions.{Valuation, Definition, or_sense, base, in_states, at_use, trouble_at, bind_each, body_sense, defined, with_definitions, scope_of}
+use Rattle.tla_value.specs.Definitions.{Valuation, Definition, or_sense, base, in_states, at_use, trouble_at, with_arguments, body_sense, defined, with_definitions, scope_of}
 use Rattle.tla_value.specs.Related.{Bound}
 use Rattle.tla_value.proofs.Joined.{Kin, Joined, Same, then_same, same_cond, order_same, ones, twos, threes, truths, ints, sets, sequences as as_sequences, tests, or_faults, applications, Checks}
 use Rattle.tla_value.proofs.JoinedEval.{Senses, senses_of, unlisted, Dens, Read, Kept, eval_both}
@@ -45,12 +45,12 @@ module _ (K : Kin) where
   reads_both (operator_call g) = λ p q at e f r vs. r.defs g p q at vs
   reads_both m = tt
 
-  pub form_kept : (m : Form) (at : Place) → Kept K (Envs K) m at
-  form_kept m at = (all_bound (binders m), reads_both m)
+  pub form_in : (m : Form) (at : Place) → Kept K (Envs K) m at
+  form_in m at = (all_bound (binders m), reads_both m)
 
   mutual
     pub tree_kept : (t : Tree) → Every (Kept K (Envs K)) t
-    tree_kept (node m at ts) = (form_kept m at, trees_kept ts)
+    tree_kept (node m at ts) = (form_in m at, trees_kept ts)
 
     pub trees_kept : (ts : Trees) → EveryOf (Kept K (Envs K)) ts
     trees_kept no_trees = tt
@@ -72,10 +72,18 @@ module _ (K : Kin) where
   called_either true p q o o' n n' vs h k = h
   called_either false p q o o' n n' vs h k = k
 
-  bound_each : (xs : List Word) (vs : List Value) (e f : Env) → Envs K e f → Envs K (bind_each xs vs e) (bind_each xs vs f)
-  bound_each [] vs e f r = r
-  bound_each (x ∷ xs) [] e f r = r
-  bound_each (x ∷ xs) (v ∷ vs) e f r = bound_each xs vs _ _ (bound_both x e f v r)
+  -- environments, or none
+  OptionEnvs : Option Env → Option Env → Type 0
+  OptionEnvs (Some e) (Some f) = Envs K e f
+  OptionEnvs None None = Unit {0}
+  OptionEnvs _ _ = ⊥
+
+  arguments_both : (xs : List Word) (vs : List Value) (e f : Env) → Envs K e f → OptionEnvs (with_arguments xs vs e) (with_arguments xs vs f)
+  unfolding OptionEnvs
+  arguments_both [] [] e f r = r
+  arguments_both [] (v ∷ vs) e f r = tt
+  arguments_both (x ∷ xs) [] e f r = tt
+  arguments_both (x ∷ xs) (v ∷ vs) e f r = arguments_both xs vs _ _ (bound_both x e f v r)
 
   or_both : (o : Option Value) (s t : Sense) → Senses K s t → Senses K (or_sense o s) (or_sense o t)
   or_both (Some v) s t h = just_both v
@@ -150,19 +158,24 @@ module _ (K : Kin) where
       defs = λ f p q at vs. called_both p q at (standard_of f) vs;
     }
 
-    bodies : (d : Definition) (e f : Env) → Envs K e f → (p q : Place) → K.place p q → Senses K (body_sense c d e p) (body_sense c' d f q)
-    bodies d e f r p q at = senses_of K _ _ (uses d.outside p q at _ _ (eval_in d.body e f r).value)
+    bodies : (d : Definition) (e f : Option Env) → OptionEnvs e f → (p q : Place) → K.place p q → Senses K (body_sense c d e p) (body_sense c' d f q)
+    unfolding OptionEnvs
+    bodies d (Some e) (Some f) r p q at = senses_of K _ _ (uses d.outside p q at _ _ (eval_in d.body e f r).value)
+    bodies d (Some e) None r p q at = absurd r
+    bodies d None (Some f) r p q at = absurd r
+    bodies d None None r p q at = senses_of K _ _ (K.faults NotFunction p q at)
 
     defined_both : (d : Definition) (ps : List Word) (e f : Env) → Envs K e f → Envs K (defined c d ps e) (defined c' d ps f)
+    unfolding OptionEnvs
     defined_both d [] e f r = record {
-      now = λ x p q at. picked (bytes_eq d.title x) _ _ _ _ (bodies d e f r p q at) (r.now x p q at);
+      now = λ x p q at. picked (bytes_eq d.title x) _ _ _ _ (bodies d (Some e) (Some f) r p q at) (r.now x p q at);
       primed = r.primed;
       defs = r.defs;
     }
     defined_both d (x ∷ xs) e f r = record {
       now = r.now;
       primed = r.primed;
-      defs = λ g p q at vs. called_either (bytes_eq d.title g) p q _ _ _ _ vs (bodies d _ _ (bound_each (x ∷ xs) vs e f r) p q at) (r.defs g p q at vs);
+      defs = λ g p q at vs. called_either (bytes_eq d.title g) p q _ _ _ _ vs (bodies d _ _ (arguments_both (x ∷ xs) vs e f r) p q at) (r.defs g p q at vs);
     }
 
     pub definitions_both : (ds : List Definition) (e f : Env) → Envs K e f → Envs K (with_definitions c ds e) (with_definitions c' ds f)

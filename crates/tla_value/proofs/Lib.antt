@@ -15,6 +15,7 @@ pub mod Joined
 pub mod JoinedEval
 pub mod JoinedScopes
 pub mod Alike
+pub mod FreeNames
 pub mod Graft
 pub mod Primes
 pub mod Owned
@@ -30,4 +31,3 @@ mod RowsScopes
 pub mod Canonical
 pub mod CanonicalForms
 pub mod CanonicalEval
-pub mod Agreement

@@ -2,72 +2,67 @@
 use Rattle.std.proofs.Common.{◌≡◌, List, [], ◌∷◌, Bool, true, false, cond, bytes_eq, Option, Some, None, refl, sym, ◌∙◌, ap, subst}
 use Rattle.std.proofs.lemmas.Slice.Eq.{bytes_eq-Decides}
 use Rattle.tla_token.specs.declared.place.Place.{Place}
-use Rattle.tla_expr.specs.Tree.{Word, Form, name, next, operator_call, Tree, Every, Each, binders, graft}
+use Rattle.tla_expr.specs.Tree.{Word, Tree, Every, graft}
 use Rattle.tla_value.specs.Value.{Value, Sense}
 use Rattle.tla_value.specs.Stops.{Check, sense_of}
-use Rattle.tla_value.specs.Meaning.{Env, just, eval}
+use Rattle.tla_value.specs.Meaning.{Env, bind, eval}
 use Rattle.tla_value.specs.Grafts.{primes}
-use Rattle.tla_value.specs.Definitions.{Valuation, Definition, or_sense, base, in_states, at_use, bind_each, body_sense, defined, with_definitions, scope_of, mid}
-use Rattle.tla_value.proofs.Alike.{eval_alike}
-use Rattle.tla_value.proofs.Facts.{every_weaker}
+use Rattle.tla_value.specs.Definitions.{Valuation, Definition, or_sense, base, in_states, at_use, with_arguments, body_sense, defined, with_definitions, scope_of, mid}
 use Rattle.tla_value.proofs.Primes.{Mixed, primed_law}
-use Rattle.tla_value.specs.Related.{AllSettled, Bound, Given, Keeps, OutOf, Settled, Unassigned}
+use Rattle.tla_value.specs.Related.{AllSettled, BindsNone, Given, OutOf, Settled}
+use Rattle.tla_value.specs.laws.FreeNames.{Or, Also, FreeNames, AgreeOn}
+use Rattle.tla_value.proofs.FreeNames.{free_names, bind_agree}
 
--- the environments agree on the names of U that are not in A
-pub record Beside (A : Word → Bool) (U : Word → Type 0) (e f : Env) : Type 0 where
-  pub now : (x : Word) → U x → A x ≡ false → (at : Place) → e.now x at ≡ f.now x at
-  pub primed : (x : Word) (at : Place) → e.primed x at ≡ f.primed x at
-  pub defs : (x : Word) → U x → e.defs x ≡ f.defs x
-
-beside_bound : (A : Word → Bool) (U : Word → Type 0) (x : Word) → Bound (Beside A U) x
-beside_bound A U x e f v r = record {
-  now = λ y u out at i. cond (bytes_eq x y) (just v) (r.now y u out at i);
+-- they agree on the names of U that are not in A
+mixed_agree : (A : Word → Bool) (U : Word → Type 0) (e f : Env) → Mixed A U e f → AgreeOn (OutOf A U) U e f
+mixed_agree A U e f r = record {
+  now = λ x u at. sym (r.now x u.0 at ∙ ap (λ b. cond b (e.primed x at) (e.now x at)) u.1);
   primed = r.primed;
   defs = r.defs;
 }
 
-all_beside : (A : Word → Bool) (U : Word → Type 0) (xs : List Word) → Each (Bound (Beside A U)) xs
-all_beside A U [] = tt
-all_beside A U (x ∷ xs) = (beside_bound A U x, all_beside A U xs)
+-- environments that agree so, or none
+OptionAgree : (N M : Word → Type 0) → Option Env → Option Env → Type 0
+OptionAgree N M (Some e) (Some f) = AgreeOn N M e f
+OptionAgree N M None None = Unit {0}
+OptionAgree N M _ _ = ⊥
 
-form_beside : (A : Word → Bool) (U : Word → Type 0) (m : Form) (at : Place) → Unassigned A U m at → Keeps (Beside A U) m at
-form_beside A U (name x) at h = (tt, λ at' e f r. r.now x h.0 h.1 at')
-form_beside A U (next x) at h = (tt, λ at' e f r. r.primed x at')
-form_beside A U (operator_call g) at h = (tt, λ e f r. r.defs g h)
-form_beside A U m at h = (all_beside A U (binders m), tt)
+arguments_agree : (M : Word → Type 0) (xs : List Word) (vs : List Value) (N : Word → Type 0) (e f : Env) → AgreeOn N M e f → OptionAgree (Also xs N) M (with_arguments xs vs e) (with_arguments xs vs f)
+unfolding OptionAgree
+arguments_agree M [] [] N e f r = r
+arguments_agree M [] (v ∷ vs) N e f r = tt
+arguments_agree M (x ∷ xs) [] N e f r = tt
+arguments_agree M (x ∷ xs) (v ∷ vs) N e f r = arguments_agree M xs vs (Or x N) _ _ (bind_agree N M x v e f r)
 
-each_beside : (A : Word → Bool) (U : Word → Type 0) (xs : List Word) (vs : List Value) (e f : Env) → Beside A U e f → Beside A U (bind_each xs vs e) (bind_each xs vs f)
-each_beside A U [] vs e f r = r
-each_beside A U (x ∷ xs) [] e f r = r
-each_beside A U (x ∷ xs) (v ∷ vs) e f r = each_beside A U xs vs _ _ (beside_bound A U x e f v r)
+body_agrees : (c : Check) (N M : Word → Type 0) (d : Definition) → FreeNames N M d.body → (e f : Option Env) → OptionAgree N M e f → (at : Place) → body_sense c d e at ≡ body_sense c d f at
+unfolding OptionAgree
+body_agrees c N M d h (Some e) (Some f) r at = λ i. sense_of (at_use d.outside at (free_names c N M d.body h e f r i).value)
+body_agrees c N M d h (Some e) None r at = absurd r
+body_agrees c N M d h None (Some f) r at = absurd r
+body_agrees c N M d h None None r at = refl
 
-mixed_beside : (A : Word → Bool) (U : Word → Type 0) (e f : Env) → Mixed A U e f → Beside A U e f
-mixed_beside A U e f r = record {
-  now = λ x u out at. sym (r.now x u at ∙ ap (λ b. cond b (e.primed x at) (e.now x at)) out);
-  primed = r.primed;
-  defs = r.defs;
-}
+-- a definition of U, with the parameters ps
+abbrev SettledOver : (Word → Bool) → (Word → Type 0) → Definition → List Word → Type 0
+SettledOver A U d ps = (A d.title ≡ false) × FreeNames (Also ps (OutOf A U)) U d.body
 
-body_beside : (c : Check) (A : Word → Bool) (U : Word → Type 0) (d : Definition) → Every (Unassigned A U) d.body → (e f : Env) → Beside A U e f → (at : Place) → body_sense c d e at ≡ body_sense c d f at
-body_beside c A U d h e f r at = λ i. sense_of (at_use d.outside at (eval_alike (Beside A U) c d.body (every_weaker _ _ (form_beside A U) d.body h) e f r i).value)
-
-defined_name : (c : Check) (A : Word → Bool) (U : Word → Type 0) (d : Definition) → (U d.title → Settled A U d) → (e f : Env) → Mixed A U e f → (y : Word) → U y → (at : Place) (b : Bool) → bytes_eq d.title y ≡ b →
-    cond b (body_sense c d f at) (f.now y at) ≡ cond (A y) (e.primed y at) (cond b (body_sense c d e at) (e.now y at))
+defined_name : (c : Check) (A : Word → Bool) (U : Word → Type 0) (d : Definition) → (U d.title → SettledOver A U d []) → (e f : Env) → Mixed A U e f → (y : Word) → U y → (at : Place) (b : Bool) → bytes_eq d.title y ≡ b →
+    cond b (body_sense c d (Some f) at) (f.now y at) ≡ cond (A y) (e.primed y at) (cond b (body_sense c d (Some e) at) (e.now y at))
+unfolding OptionAgree
 defined_name c A U d h e f r y u at true q =
     let titled : d.title ≡ y = (bytes_eq-Decides d.title y).0 q in
-    let settled : Settled A U d = h (subst U (sym titled) u) in
-    sym (body_beside c A U d settled.body e f (mixed_beside A U e f r) at)
-    ∙ sym (ap (λ b. cond b (e.primed y at) (body_sense c d e at)) (sym (ap A titled) ∙ settled.title))
+    let settled : SettledOver A U d [] = h (subst U (sym titled) u) in
+    sym (body_agrees c (OutOf A U) U d settled.1 (Some e) (Some f) (mixed_agree A U e f r) at)
+    ∙ sym (ap (λ b. cond b (e.primed y at) (body_sense c d (Some e) at)) (sym (ap A titled) ∙ settled.0))
 defined_name c A U d h e f r y u at false q = r.now y u at
 
-defined_call : (c : Check) (A : Word → Bool) (U : Word → Type 0) (d : Definition) (ps : List Word) → (U d.title → Settled A U d) → (e f : Env) → Mixed A U e f → (y : Word) → U y → (b : Bool) → bytes_eq d.title y ≡ b →
-    cond b (Some (λ (at : Place) (vs : List Value). body_sense c d (bind_each ps vs e) at)) (e.defs y) ≡ cond b (Some (λ (at : Place) (vs : List Value). body_sense c d (bind_each ps vs f) at)) (f.defs y)
+defined_call : (c : Check) (A : Word → Bool) (U : Word → Type 0) (d : Definition) (ps : List Word) → (U d.title → SettledOver A U d ps) → (e f : Env) → Mixed A U e f → (y : Word) → U y → (b : Bool) → bytes_eq d.title y ≡ b →
+    cond b (Some (λ (at : Place) (vs : List Value). body_sense c d (with_arguments ps vs e) at)) (e.defs y) ≡ cond b (Some (λ (at : Place) (vs : List Value). body_sense c d (with_arguments ps vs f) at)) (f.defs y)
 defined_call c A U d ps h e f r y u true q =
-    let settled : Settled A U d = h (subst U (sym ((bytes_eq-Decides d.title y).0 q)) u) in
-    λ i. Some (λ at vs. body_beside c A U d settled.body _ _ (each_beside A U ps vs e f (mixed_beside A U e f r)) at i)
+    let settled : SettledOver A U d ps = h (subst U (sym ((bytes_eq-Decides d.title y).0 q)) u) in
+    λ i. Some (λ at vs. body_agrees c (Also ps (OutOf A U)) U d settled.1 _ _ (arguments_agree U ps vs (OutOf A U) e f (mixed_agree A U e f r)) at i)
 defined_call c A U d ps h e f r y u false q = r.defs y u
 
-defined_mixed : (c : Check) (A : Word → Bool) (U : Word → Type 0) (d : Definition) (ps : List Word) → (U d.title → Settled A U d) → (e f : Env) → Mixed A U e f → Mixed A U (defined c d ps e) (defined c d ps f)
+defined_mixed : (c : Check) (A : Word → Bool) (U : Word → Type 0) (d : Definition) (ps : List Word) → (U d.title → SettledOver A U d ps) → (e f : Env) → Mixed A U e f → Mixed A U (defined c d ps e) (defined c d ps f)
 defined_mixed c A U d [] h e f r = record {
   now = λ y u at. defined_name c A U d h e f r y u at (bytes_eq d.title y) refl;
   primed = r.primed;
@@ -81,7 +76,7 @@ defined_mixed c A U d (p ∷ ps) h e f r = record {
 
 definitions_mixed : (c : Check) (A : Word → Bool) (U : Word → Type 0) (ds : List Definition) → AllSettled A U ds → (e f : Env) → Mixed A U e f → Mixed A U (with_definitions c ds e) (with_definitions c ds f)
 definitions_mixed c A U [] h e f r = r
-definitions_mixed c A U (d ∷ ds) h e f r = definitions_mixed c A U ds h.1 _ _ (defined_mixed c A U d d.params h.0 e f r)
+definitions_mixed c A U (d ∷ ds) h e f r = definitions_mixed c A U ds h.1 _ _ (defined_mixed c A U d d.params (λ u. ((h.0 u).title, (h.0 u).body)) e f r)
 
 or_mixed : (b : Bool) (s t : Option Value) (n p : Sense) → (b ≡ true → Given t) → or_sense (cond b t s) n ≡ cond b (or_sense t p) (or_sense s n)
 or_mixed true s (Some v) n p h = refl
@@ -98,7 +93,7 @@ states_mixed A U s t e h = record {
 pub scope_mixed : (c : Check) (A : Word → Bool) (U : Word → Type 0) (k : Valuation) (ds : List Definition) (s t : Valuation) → AllSettled A U ds → ((x : Word) → A x ≡ true → Given (t x)) → Mixed A U (scope_of c k ds s t) (scope_of c k ds (mid A s t) t)
 scope_mixed c A U k ds s t h g = definitions_mixed c A U ds h _ _ (states_mixed A U s t (base c k) g)
 
--- e's names are of U, its bound names are not in A, and a definition of U reads nothing of A
+-- e's free names are of U, its bound names are not in A, and a definition of U reads nothing of A
 pub mid_law : (c : Check) (A : Word → Bool) (U : Word → Type 0) (k : Valuation) (ds : List Definition) (s t : Valuation) → AllSettled A U ds → ((x : Word) → A x ≡ true → Given (t x)) →
-    (e : Tree) → Every (OutOf A U) e → eval c (graft (primes A) e) (scope_of c k ds s t) ≡ eval c e (scope_of c k ds (mid A s t) t)
-mid_law c A U k ds s t h g e o = primed_law c A U e o _ _ (scope_mixed c A U k ds s t h g)
+    (e : Tree) → Every (BindsNone A) e → FreeNames U U e → eval c (graft (primes A) e) (scope_of c k ds s t) ≡ eval c e (scope_of c k ds (mid A s t) t)
+mid_law c A U k ds s t h g e b o = primed_law c A U e b o _ _ (scope_mixed c A U k ds s t h g)

@@ -7,8 +7,9 @@ use Rattle.tla_value.specs.Stops.{Check}
 use Rattle.tla_value.specs.Meaning.{Env, just, eval}
 use Rattle.tla_value.specs.Grafts.{primes, read_tree}
 use Rattle.tla_value.proofs.Facts.{each_weaker, every_weaker}
-use Rattle.tla_value.proofs.Graft.{Fits, graft_law, grafted_law}
-use Rattle.tla_value.specs.Related.{Bound, OutOf, Uses}
+use Rattle.tla_value.proofs.Graft.{Fits, graft_law, free_law}
+use Rattle.tla_value.specs.Related.{Bound, BindsNone, Uses}
+use Rattle.tla_value.specs.laws.FreeNames.{FreeNames}
 use Rattle.tla_value.specs.Related.{Clear, Unread}
 
 read_primed : (c : Check) (b : Bool) (x : Word) (at : Place) (e : Env) → cond b (e.primed x at) (e.now x at) ≡ read_tree c (cond b (Some (node (next x) at no_trees)) None) x at e
@@ -31,8 +32,8 @@ pub record Mixed (A : Word → Bool) (U : Word → Type 0) (e f : Env) : Type 0 
   pub primed : (x : Word) (at : Place) → e.primed x at ≡ f.primed x at
   pub defs : (x : Word) → U x → e.defs x ≡ f.defs x
 
-pub primed_law : (c : Check) (A : Word → Bool) (U : Word → Type 0) (t : Tree) → Every (OutOf A U) t → (e f : Env) → Mixed A U e f → eval c (graft (primes A) t) e ≡ eval c t f
-primed_law c A U t h e f r = grafted_law c (primes A) U t (every_weaker _ _ (λ m at k. (each_weaker _ _ (clear_primes c A) (binders m) k.0, k.1)) t h) e f (record {
+pub primed_law : (c : Check) (A : Word → Bool) (U : Word → Type 0) (t : Tree) → Every (BindsNone A) t → FreeNames U U t → (e f : Env) → Mixed A U e f → eval c (graft (primes A) t) e ≡ eval c t f
+primed_law c A U t k h e f r = free_law c (primes A) U t (every_weaker _ _ (λ m at q. each_weaker _ _ (clear_primes c A) (binders m) q) t k) h e f (record {
   now = λ x u at. r.now x u at ∙ read_primed c (A x) x at e;
   primed = r.primed;
   defs = r.defs;

@@ -1,15 +1,18 @@
 -- Meanings in a scope with definitions and states, by computation.
-use Rattle.std.proofs.Common.{◌≡◌, ℕ, pos, List, [], ◌∷◌, true, false, cond, bytes_eq, Some, None, refl, Ok, Err}
-use Rattle.std.specs.Prelude.{codes}
+use Rattle.std.proofs.Common.{◌≡◌, ℕ, pos, List, [], ◌∷◌, Bool, true, false, cond, bytes_eq, Some, None, inl, inr, refl, Ok, Err}
+use Rattle.std.specs.Prelude.{codes, ◌||◌}
 use Rattle.tla_token.specs.declared.place.Place.{Place}
-use Rattle.tla_expr.specs.declared.op.Op.TheVariants.{Plus, Divide}
-use Rattle.tla_expr.specs.Tree.{Word, Name, operator, Form, number, name, next, strict, operator_call, local, Tree, node, Trees, no_trees, tree, graft}
+use Rattle.tla_expr.specs.declared.op.Op.TheVariants.{Equal, Greater, Plus, Divide}
+use Rattle.tla_expr.specs.declared.op.Binder.TheVariants.{Exists}
+use Rattle.tla_expr.specs.Tree.{Word, Name, operator, set_of, Form, number, name, if_then_else, binding, Every, next, strict, operator_call, local, Tree, node, Trees, no_trees, tree, graft}
 use Rattle.tla_value.specs.declared.fault.FaultKind.TheVariants.{BadDivisor, NotFunction}
-use Rattle.tla_value.specs.Value.{Value, int, Outcome, fault}
+use Rattle.tla_value.specs.Value.{Value, truth, int, Outcome, fault}
 use Rattle.tla_value.specs.Order.{seq_from}
 use Rattle.tla_value.specs.Stops.{plain}
 use Rattle.tla_value.specs.Meaning.{eval}
-use Rattle.tla_value.specs.Grafts.{primes, owned}
+use Rattle.tla_value.specs.Grafts.{Arguments, arguments, primes, owned}
+use Rattle.tla_value.specs.Related.{NotFreeIn, NoArgument, Settled}
+use Rattle.tla_value.specs.laws.FreeNames.{NotFree}
 use Rattle.tla_value.specs.Definitions.{Valuation, Definition, no_state, scope_of}
 
 abbrev here : ℕ → Place
@@ -97,3 +100,47 @@ own_variable = refl
 -- a name that nothing gives a meaning
 unknown_name : gives (at_name (codes "z") 3) ≡ Err (fault NotFunction (here 3))
 unknown_name = refl
+
+-- ---- names that are not free
+
+-- Max(x, y) == IF x > y THEN x ELSE y, outside, beside the variables x and y: it reads its parameters alone
+abbrev larger : Definition
+larger = record {
+  title = codes "Max";
+  params = x ∷ y ∷ [];
+  body = of if_then_else 1 (of (strict (operator Greater)) 4 (at_name x 4 ∷ at_name y 8 ∷ []) ∷ at_name x 15 ∷ at_name y 22 ∷ []);
+  outside = true;
+}
+
+abbrev either : Word → Bool
+either w = bytes_eq x w || bytes_eq y w
+
+larger_settled : (U : Word → Type 0) → Settled either U larger
+larger_settled U = record {
+  title = refl;
+  body = (tt, ((tt, ((inr (inl refl), tt), ((inl refl, tt), tt))), ((inr (inl refl), tt), ((inl refl, tt), tt))));
+}
+
+-- \E x \in {1} : x = 1 as an argument for a macro whose body has an \E x of its own
+abbrev some_one : Tree
+some_one = of (binding Exists ((named x ∷ []) ∷ [])) 1 (of (strict set_of) 10 (num 1 11 ∷ []) ∷ of (strict (operator Equal)) 16 (at_name x 16 ∷ num 1 20 ∷ []) ∷ [])
+
+bound_is_not_free : NotFree x some_one
+bound_is_not_free = (tt, ((tt, ((tt, tt), tt)), ((tt, ((inl refl, tt), ((tt, tt), tt))), tt)))
+
+abbrev for_p : Arguments
+for_p w = cond (bytes_eq (codes "p") w) (Some some_one) None
+
+-- \E x \in {2} : p
+abbrev body_of_macro : Tree
+body_of_macro = of (binding Exists ((named x ∷ []) ∷ [])) 1 (of (strict set_of) 10 (num 2 11 ∷ []) ∷ at_name (codes "p") 16 ∷ [])
+
+clear_argument : (b : Bool) → NotFreeIn x (cond b (Some some_one) None)
+clear_argument true = bound_is_not_free
+clear_argument false = tt
+
+no_clash : Every (NoArgument for_p) body_of_macro
+no_clash = (((refl, λ w. clear_argument (bytes_eq (codes "p") w)), tt), ((tt, ((tt, tt), tt)), ((tt, tt), tt)))
+
+put_in : gives (graft (arguments for_p) body_of_macro) ≡ Ok (truth true)
+put_in = refl

@@ -49,17 +49,21 @@ abbrev pub at_use : Bool → Place → Outcome Value → Outcome Value
 at_use outside at (Ok v) = Ok v
 at_use outside at (Err k) = Err (cond outside (trouble_at at k) k)
 
-abbrev pub bind_each : List Word → List Value → Env → Env
-bind_each (x ∷ xs) (v ∷ vs) env = bind_each xs vs (bind x v env)
-bind_each _ _ env = env
+-- a value for each parameter
+abbrev pub with_arguments : List Word → List Value → Env → Option Env
+with_arguments [] [] env = Some env
+with_arguments (x ∷ xs) (v ∷ vs) env = with_arguments xs vs (bind x v env)
+with_arguments _ _ env = None
 
-abbrev pub body_sense : Check → Definition → Env → Place → Sense
-body_sense c d env at = sense_of (at_use d.outside at (eval c d.body env).value)
+-- a body where its definition is used
+abbrev pub body_sense : Check → Definition → Option Env → Place → Sense
+body_sense c d (Some env) at = sense_of (at_use d.outside at (eval c d.body env).value)
+body_sense c d None at = sense_of (misshapen at)
 
 abbrev pub defined : Check → Definition → List Word → Env → Env
-defined c d [] env = record env { now = λ x at. cond (bytes_eq d.title x) (body_sense c d env at) (env.now x at) }
+defined c d [] env = record env { now = λ x at. cond (bytes_eq d.title x) (body_sense c d (Some env) at) (env.now x at) }
 defined c d (p ∷ ps) env = record env {
-  defs = λ f. cond (bytes_eq d.title f) (Some (λ at vs. body_sense c d (bind_each (p ∷ ps) vs env) at)) (env.defs f);
+  defs = λ f. cond (bytes_eq d.title f) (Some (λ at vs. body_sense c d (with_arguments (p ∷ ps) vs env) at)) (env.defs f);
 }
 
 -- each definition sees those before it

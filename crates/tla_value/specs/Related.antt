@@ -7,6 +7,7 @@ use Rattle.tla_value.specs.Stops.{Check}
 use Rattle.tla_value.specs.Meaning.{Env, Denotation, bind, called, eval}
 use Rattle.tla_value.specs.Grafts.{Arguments}
 use Rattle.tla_value.specs.Definitions.{Definition}
+use Rattle.tla_value.specs.laws.FreeNames.{Also, FreeNames, NotFree}
 
 -- a relation between environments
 abbrev pub Rel : Type 1
@@ -35,45 +36,39 @@ Uses U (name x) = U x
 Uses U (operator_call x) = U x
 Uses U _ = Unit {0}
 
-abbrev pub Lacks : Word → Form → Place → Type 0
-Lacks x (name y) at = bytes_eq x y ≡ false
-Lacks x _ at = Unit {0}
+abbrev pub NotFreeIn : Word → Option Tree → Type 0
+NotFreeIn x (Some t) = NotFree x t
+NotFreeIn x None = Unit {0}
 
-abbrev pub LacksIn : Word → Option Tree → Type 0
-LacksIn x (Some t) = Every (Lacks x) t
-LacksIn x None = Unit {0}
-
--- g leaves x alone, and x stands in no tree of g
+-- g leaves x alone, and x is free in no tree of g
 pub record Apart (g : Graft) (x : Word) : Type 0 where
   pub left : (at : Place) → g x at ≡ None
-  pub lacks : (y : Word) (at : Place) → LacksIn x (g y at)
+  pub unread : (y : Word) (at : Place) → NotFreeIn x (g y at)
 
 -- the bound names of a form are apart from g
 abbrev pub ApartForm : Graft → Form → Place → Type 0
 ApartForm g m at = Each (Apart g) (binders m)
 
--- a bound name of the body is no parameter, and stands in no argument
+-- a bound name of the body is no parameter, and is free in no argument
 abbrev pub NoArgument : Arguments → Form → Place → Type 0
-NoArgument s m at = Each (λ x. (s x ≡ None) × ((y : Word) → LacksIn x (s y))) (binders m)
+NoArgument s m at = Each (λ x. (s x ≡ None) × ((y : Word) → NotFreeIn x (s y))) (binders m)
 
 -- a bound name is neither such a variable nor self
 abbrev pub NotOwned : Word → (Word → Bool) → Form → Place → Type 0
 NotOwned self here m at = Each (λ x. (here x ≡ false) × (bytes_eq x self ≡ false)) (binders m)
 
--- no bound name of the tree is in A, and its other names are of U
-abbrev pub OutOf : (Word → Bool) → (Word → Type 0) → Form → Place → Type 0
-OutOf A U m at = Each (λ x. A x ≡ false) (binders m) × Uses U m
+-- no name that a form binds is in A
+abbrev pub BindsNone : (Word → Bool) → Form → Place → Type 0
+BindsNone A m at = Each (λ x. A x ≡ false) (binders m)
 
--- the names that a form reads are of U, and none is in A
-abbrev pub Unassigned : (Word → Bool) → (Word → Type 0) → Form → Place → Type 0
-Unassigned A U (name x) at = U x × (A x ≡ false)
-Unassigned A U (operator_call f) at = U f
-Unassigned A U _ at = Unit {0}
+-- of U, and not in A
+abbrev pub OutOf : (Word → Bool) → (Word → Type 0) → Word → Type 0
+OutOf A U x = U x × (A x ≡ false)
 
--- a definition of U is no variable of A, and reads none
+-- a definition of U is no variable of A, and reads none, but for names of its parameters
 pub record Settled (A : Word → Bool) (U : Word → Type 0) (d : Definition) : Type 0 where
   pub title : A d.title ≡ false
-  pub body : Every (Unassigned A U) d.body
+  pub body : FreeNames (Also d.params (OutOf A U)) U d.body
 
 abbrev pub AllSettled : (Word → Bool) → (Word → Type 0) → List Definition → Type 0
 AllSettled A U [] = Unit {0}
@@ -100,19 +95,9 @@ pub record EnvsBelow (e e' : Env) : Type 0 where
   pub primed : (x : Word) (at : Place) → SensesBelow (e.primed x at) (e'.primed x at)
   pub defs : (x : Word) (at : Place) (vs : List Value) → SensesBelow (called at (e.defs x) vs) (called at (e'.defs x) vs)
 
--- the environments agree on the names and operators of u, and on primed names
-pub record AgreeOn (u : Word → Bool) (e f : Env) : Type 0 where
-  pub now : (x : Word) → u x ≡ true → (at : Place) → e.now x at ≡ f.now x at
-  pub primed : (x : Word) (at : Place) → e.primed x at ≡ f.primed x at
-  pub defs : (x : Word) → u x ≡ true → e.defs x ≡ f.defs x
-
 -- the words of u, as a fact
 abbrev pub In : (Word → Bool) → Word → Type 0
 In u x = u x ≡ true
-
--- a tree whose names and operators are of u
-abbrev pub ReadsOnly : (Word → Bool) → Form → Place → Type 0
-ReadsOnly u m at = Uses (In u) m
 
 -- a tree that may stand where x is bound
 abbrev pub Unread : Check → Word → Option Tree → Type 0

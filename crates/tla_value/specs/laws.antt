@@ -1,2 +1,3 @@
 -- What only laws speak of.
 pub mod Groups
+pub mod FreeNames

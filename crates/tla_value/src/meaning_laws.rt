@@ -11,15 +11,18 @@ ghost use Rattle.tla_value.specs.Meaning.{Env, bind, eval};
 ghost use Rattle.tla_value.specs.Grafts.{Arguments, arguments, primes, owned, through};
 ghost use Rattle.tla_value.specs.Definitions.{Valuation, Definition, scope_of, mid};
 ghost use Rattle.tla_value.specs.laws.Groups.{ungrouped, sets_for_names, HaveSets};
-ghost use Rattle.tla_value.specs.Related.{AgreeOn, ReadsOnly, In, ApartForm, NoArgument, NotOwned, OutOf, AllSettled, Given, EnvsBelow, SensesBelow};
+ghost use Rattle.tla_value.specs.laws.FreeNames.{FreeNames, NotFree, AgreeOn};
+ghost use Rattle.tla_value.specs.Related.{In, ApartForm, NoArgument, NotOwned, BindsNone, AllSettled, Given, EnvsBelow, SensesBelow};
 
-/// What an expression means depends only on the names and operators that it reads.
+/// What an expression means depends only on the names that it reads free, and on its operators. So a name
+/// that isn't free in it may be bound around it.
 pub fn meaning_is_of_what_is_read()
-    ensures { (c : Check) (u : Word → Bool) (t : Tree) → Every (ReadsOnly u) t → (e f : Env) → AgreeOn u e f → eval c t e ≡ eval c t f }
+    ensures names { (c : Check) (u w : Word → Bool) (t : Tree) → FreeNames (In u) (In w) t → (e f : Env) → AgreeOn (In u) (In w) e f → eval c t e ≡ eval c t f }
+    ensures others { (c : Check) (x : Word) (t : Tree) → NotFree x t → (v : Value) (e : Env) → eval c t e ≡ eval c t (bind x v e) }
 {}
 
 /// With trees put in for its names, an expression means what it means where the names stand for these
-/// trees. No name that it binds may be put in for, or stand in a tree that is put in.
+/// trees. No name that it binds may be put in for, or be free in a tree that is put in.
 pub fn grafts_stand_for_names()
     ensures { (c : Check) (g : Graft) (t : Tree) → Every (ApartForm g) t → (e : Env) → eval c (graft g t) e ≡ eval c t (through c g e) }
 {}
@@ -38,10 +41,10 @@ pub fn own_parts_stand_for_locals()
 
 /// With the variables of a set primed, an expression means in a pair of states what it means in the state
 /// half done, in which these variables have their next values. No name that it binds is of the set, and no
-/// definition that it uses reads one.
+/// definition that it uses reads one, though parameters may share their names.
 pub fn primes_read_the_mid_state()
     ensures { (c : Check) (assigned : Word → Bool) (u : Word → Bool) (constants : Valuation) (ds : List Definition) (s t : Valuation)
-        → AllSettled assigned (In u) ds → ((x : Word) → assigned x ≡ true → Given (t x)) → (e : Tree) → Every (OutOf assigned (In u)) e
+        → AllSettled assigned (In u) ds → ((x : Word) → assigned x ≡ true → Given (t x)) → (e : Tree) → Every (BindsNone assigned) e → FreeNames (In u) (In u) e
         → eval c (graft (primes assigned) e) (scope_of c constants ds s t) ≡ eval c e (scope_of c constants ds (mid assigned s t) t) }
 {}
 

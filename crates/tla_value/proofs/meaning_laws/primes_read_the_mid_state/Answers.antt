@@ -3,4 +3,4 @@ use Rattle.tla_value.proofs.MidState.{mid_law}
 use Rattle.tla_value.proofs.meaning_laws.primes_read_the_mid_state.Goals as goal
 
 pub returns : goal.returns
-returns c = λ k A u constants ds s t h g e o. mid_law k A (In u) constants ds s t h g e o
+returns c = λ k A u constants ds s t h g e b o. mid_law k A (In u) constants ds s t h g e b o
