@@ -5,7 +5,7 @@ use Rattle.tla_token.specs.declared.place.Place.{Place}
 use Rattle.tla_expr.specs.Tree.{Word, Form, Tree, Trees, Every, EveryOf, Graft}
 use Rattle.tla_value.specs.Value.{Value}
 use Rattle.tla_value.specs.Stops.{Check}
-use Rattle.tla_value.specs.Related.{Clear, ClearForm}
+use Rattle.tla_value.specs.Related.{Clear, ClearForm, Apart, ApartForm}
 use Rattle.pcal_tree.specs.Algorithm.{Assignments, no_assignments, assignment, Binds, no_binds, one_of, is, Statement, assign, await, print, assert, branch, either, with, while, macro, call, Statements, done, then, mark, Branches, no_branches, or, Macro}
 use Rattle.pcal_tree.specs.Scope.{State, Scope, bound, reach}
 use Rattle.pcal_tree.specs.Run.{arguments}
@@ -73,10 +73,6 @@ CleanSome c g U = ThroughoutSome (ClearForm c g U) (ClearName c g)
 abbrev pub AnyPlace : Scope → Type 0
 AnyPlace sc = (x : Word) (at p : Place) (s : State) → sc.part x at s ≡ sc.part x p s
 
--- all names
-abbrev pub Any : Word → Type 0
-Any x = Unit {0}
-
 -- the list begins with an unlabelled statement, as each macro's body does
 abbrev pub BeginsUnlabelled : Statements → Type 0
 BeginsUnlabelled done = ⊥
@@ -106,11 +102,14 @@ abbrev pub Chosen : Bool → Type 0 → Type 0 → Type 0
 Chosen true A B = A
 Chosen false A B = B
 
--- the arguments of a call capture nothing and are not captured, nor are those of the calls in its body, which begins with a statement
-abbrev pub FineCall : Check → List Macro → Word → Trees → Type 0
-FineCall c [] m ts = Unit {0}
-FineCall c (d ∷ older) m ts =
-    Chosen (bytes_eq d.name.word m) (Clean c (arguments d.params ts) Any (expand (written_out older) d.body) × Calls (FineCall c older) d.body × BeginsUnlabelled d.body) (FineCall c older m ts)
+-- no name that is bound in the body is a parameter or free in an argument; so with the calls in the body, which begins with a statement
+abbrev pub FineCall : List Macro → Word → Trees → Type 0
+FineCall [] m ts = Unit {0}
+FineCall (d ∷ older) m ts =
+    Chosen (bytes_eq d.name.word m)
+    (Throughout (ApartForm (arguments d.params ts)) (Apart (arguments d.params ts)) (expand (written_out older) d.body)
+    × Calls (FineCall older) d.body × BeginsUnlabelled d.body)
+    (FineCall older m ts)
 
 -- no label at all, as in a macro's body
 abbrev mutual
