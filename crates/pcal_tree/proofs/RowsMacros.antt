@@ -1,22 +1,14 @@
 -- Macro calls that can be written out, and one that can't, tried by computation.
-use Rattle.std.proofs.Common.{◌≡◌, List, [], ◌∷◌, Bool, true, false, cond, bytes_eq, codes, Option, Some, None, refl, inl}
-use Rattle.tla_token.specs.declared.place.Place.{Place}
+use Rattle.std.proofs.Common.{◌≡◌, [], ◌∷◌, Bool, true, false, cond, bytes_eq, codes, Some, None, refl, inl}
 use Rattle.tla_expr.specs.declared.op.Op.TheVariants.{Equal}
 use Rattle.tla_expr.specs.declared.op.Binder.TheVariants.{Exists}
 use Rattle.tla_expr.specs.Tree.{Word, set_of, conjunction, binding, strict, Tree, node, no_trees, tree}
-use Rattle.tla_value.specs.Value.{Value, truth, Outcome, Sense}
-use Rattle.tla_value.specs.Stops.{plain}
-use Rattle.tla_value.specs.Meaning.{Env, just, bind, eval}
-use Rattle.tla_value.specs.Definitions.{base}
 use Rattle.tla_value.specs.Related.{Apart, NotFreeIn}
 use Rattle.pcal_tree.specs.Algorithm.{Statement, await, macro, Statements, done, Macro, alone_routine}
-use Rattle.pcal_tree.specs.Scope.{State}
-use Rattle.pcal_tree.specs.Run.{Course, arguments, run, exit_to}
-use Rattle.pcal_tree.specs.Expand.{expanded}
+use Rattle.pcal_tree.specs.Run.{arguments}
 use Rattle.pcal_tree.specs.Program.{Program, Actor, routine_scope}
-use Rattle.pcal_tree.specs.Calls.{rules_of}
-use Rattle.pcal_tree.specs.laws.Expansion.{Unreached, ClearName, Calls, FineCall, AnyPlace}
-use Rattle.pcal_tree.proofs.Sample.{at, title, num, var, over, and_next, an_int, one_body}
+use Rattle.pcal_tree.specs.laws.Expansion.{FineCall, AnyPlace}
+use Rattle.pcal_tree.proofs.Sample.{at, title, num, var, over, and_next}
 
 abbrev i : Word
 i = codes "i"

@@ -1,10 +1,10 @@
 -- Where no bound name is put in for or free in a tree that is put in, nothing is captured.
-use Rattle.std.proofs.Common.{◌≡◌, List, [], ◌∷◌, Option, Some, None, refl, Ok}
+use Rattle.std.proofs.Common.{◌≡◌, [], ◌∷◌, Option, Some, None, refl, Ok}
 use Rattle.tla_token.specs.declared.place.Place.{Place}
 use Rattle.tla_expr.specs.Tree.{Word, apply, select, Form, name, operator_call, strict, binders, Tree, node, Trees, no_trees, tree, Graft}
-use Rattle.tla_value.specs.Value.{Value, text, Outcome, ◌>>=◌}
+use Rattle.tla_value.specs.Value.{Value, text, ◌>>=◌}
 use Rattle.tla_value.specs.Stops.{Check}
-use Rattle.tla_value.specs.Meaning.{part_values, eval, evals}
+use Rattle.tla_value.specs.Meaning.{part_values, evals}
 use Rattle.tla_value.specs.Related.{Uses, Unread, Clear, ClearForm, Apart, ApartForm, NotFreeIn}
 use Rattle.tla_value.specs.laws.FreeNames.{FreeInParts, Any, IsOther, NotFree}
 use Rattle.tla_value.proofs.Facts.{each_weaker, every_weaker, every_of_weaker}
