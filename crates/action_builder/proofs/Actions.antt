@@ -7,7 +7,7 @@ use Rattle.pcal_tree.specs.Algorithm.{Statements}
 use Rattle.pcal_tree.specs.Scope.{State, Scope, bound}
 use Rattle.pcal_tree.specs.Run.{Has, Rules, unlabelled, run}
 use Rattle.action_builder.specs.Assigned.{Names, member, more, assigned_in}
-use Rattle.action_builder.specs.laws.States.{mid, Agree}
+use Rattle.action_builder.specs.laws.States.{mid, SameOn}
 use Rattle.action_builder.specs.laws.Settling.{to_end}
 use Rattle.action_builder.specs.laws.Ready.{Settled}
 use Rattle.action_builder.proofs.Effects.{Exp, Change, Parts, no_parts, part, Effect, assign, await, branch, either, choose, Effects, done, then, Ways, no_ways, way, firsts, effect_names, effects_names, ways_names, effects_of, Named}
@@ -149,7 +149,7 @@ Runs M A ss sc s t r = Has (run M unlabelled ss sc to_end (mid s t A)) r
 
 -- an end that agrees with t on A and on all that the statements assign
 abbrev pub Fits : Rules → Names → Statements → Scope → State → State → Type 0
-Fits M A ss sc s t = (u : State) × Runs M A ss sc s t (Ok u) × Agree (more A (assigned_in ss)) u t
+Fits M A ss sc s t = (u : State) × Runs M A ss sc s t (Ok u) × SameOn (more A (assigned_in ss)) u t
 
 abbrev pub NoTrouble : Rules → Names → Statements → Scope → State → State → Type 0
 NoTrouble M A ss sc s t = (k : Trouble) → Runs M A ss sc s t (Err k) → ⊥

@@ -3,7 +3,7 @@ use Rattle.std.proofs.Common.{◌≡◌, List, [], ◌∷◌, ◌++◌, ◌⊎�
 use Rattle.std.specs.Option.{ok_or}
 use Rattle.tla_expr.specs.declared.op.Op.TheVariants.{Concat}
 use Rattle.tla_token.specs.declared.place.Place.{Place}
-use Rattle.tla_expr.specs.Tree.{Word, Each, name, Tree, node, Trees, no_trees, tree, operator, tuple, fields}
+use Rattle.tla_expr.specs.Tree.{Word, Each, name, Tree, node, Trees, no_trees, tree, operator, tuple, fields, root_place}
 use Rattle.tla_value.specs.Value.{Value, text, Trouble, Outcome, ◌>>=◌, IsBad, fault}
 use Rattle.tla_value.specs.Order.{seq_from}
 use Rattle.tla_value.specs.Stops.{Check, plain, sequence_at}
@@ -12,24 +12,27 @@ use Rattle.tla_value.specs.declared.fault.FaultKind.TheVariants.{NotSequence}
 use Rattle.tla_value.proofs.OrderFuns.{sequence_of_seq}
 use Rattle.tla_value.specs.Strict.{strict_value}
 use Rattle.pcal_tree.specs.Algorithm.{Declaration, Routine, locals, Assignments, Statements, then, assign}
-use Rattle.pcal_tree.specs.Scope.{State, Scope, root_place, place_of, places_of, value_of}
+use Rattle.pcal_tree.specs.Scope.{State, Scope, place_of, places_of, value_of}
 use Rattle.pcal_tree.specs.Assign.{Setting, set_one, set_all, settings, after_assignments}
 use Rattle.pcal_tree.specs.Run.{Has, after, Rules, unlabelled, run}
 use Rattle.pcal_tree.specs.Program.{Program, Actor, index, local_index, read_at, written}
 use Rattle.pcal_tree.specs.Calls.{setting, initial_value, initial_place, all_read, frame, on_stack, argument_settings, variables_started, entered, label_value, label_name, first_label, finished, frame_fields}
 use Rattle.action_builder.specs.laws.Settling.{to_end, Close}
-use Rattle.action_builder.specs.Jumps.{name_at, spot, one_move, jump_written, names_at, stack_pushed, arguments_moved, variables_written, call_written}
+use Rattle.action_builder.specs.Jumps.{name_at, spot, one_assignment, jump_written, names_at, stack_pushed, arguments_assigned, variables_written, call_written}
 use Rattle.action_builder.specs.laws.Scopes.{StandsAtPath}
-use Rattle.action_builder.specs.laws.Jumps.{Machine, Initials, AsMany}
+use Rattle.action_builder.specs.laws.Jumps.{RoutineStands, Initials, AsMany}
 use Rattle.action_builder.proofs.Denotations.{on_both}
+use Rattle.action_builder.specs.laws.Places.{SameButPlaces}
+use Rattle.action_builder.proofs.Alike.{same_refl, then_same}
+use Rattle.action_builder.proofs.AnyPlace.{set_same}
 use Rattle.action_builder.proofs.Settle.{close_refl}
-use Rattle.action_builder.proofs.Moved.{one_moved, pc_law}
+use Rattle.action_builder.proofs.Jumps.{one_assigned, pc_law}
 use Rattle.tla_value.proofs.Outcomes.{then_two, then_ok, then_then}
 use Rattle.pcal_tree.specs.Variables.{written_all, pc, stack}
 
 -- ---- the same result, or neither has one
 
-abbrev Alike : Outcome State → Outcome State → Type 0
+abbrev pub Alike : Outcome State → Outcome State → Type 0
 Alike a b = (a ≡ b) ⊎ (IsBad a × IsBad b)
 
 has_is : (x r : Outcome State) → Has (finished x) r ≡ (r ≡ x)
@@ -47,8 +50,19 @@ close_is x y h = ⊎_elim
       faults = (λ z. (y, b.1, refl), λ z. (x, b.0, refl));
     }) h
 
-close_finished : (x y : Outcome State) → Alike x y → Close (Has (finished x)) (Has (finished y))
+pub close_finished : (x y : Outcome State) → Alike x y → Close (Has (finished x)) (Has (finished y))
 close_finished x y h = subst (λ F. Close F (Has (finished y))) (λ i r. sym (has_is x r) i) (subst (λ F. Close (λ r. r ≡ x) F) (λ i r. sym (has_is y r) i) (close_is x y h))
+
+pub alike_of : (x y : Outcome State) → SameButPlaces x y → Alike x y
+alike_of (Ok t) (Ok u) h = inl (ap Ok h)
+alike_of (Ok t) (Err j) h = absurd h
+alike_of (Err k) (Ok u) h = absurd h
+alike_of (Err k) (Err j) h = inr (tt, tt)
+
+alike_trans : (x y z : Outcome State) → Alike x y → Alike y z → Alike x z
+alike_trans x y z (inl e) h = subst (λ w. Alike w z) (sym e) h
+alike_trans x y z (inr b) (inl e) = inr (b.0, subst IsBad e b.1)
+alike_trans x y z (inr b) (inr d) = inr (b.0, d.1)
 
 -- ---- assignments in a row
 
@@ -59,22 +73,35 @@ after_finished (Err k) f = refl
 assign_is : (M : Rules) (at : Place) (ms : Assignments) (rest : Statements) (sc : Scope) (f : State → Outcome State) → ((s : State) → run M unlabelled rest sc to_end s ≡ finished (f s)) → (s : State) → run M unlabelled (then (spot at) (assign ms) rest) sc to_end s ≡ finished ((after_assignments M.check ms sc s) >>= f)
 assign_is M at ms rest sc f h s = (λ i. after (after_assignments M.check ms sc s) (λ u. h u i)) ∙ after_finished (after_assignments M.check ms sc s) f
 
-started_law : (M : Rules) (P : Program) (v : Actor) (p : Routine) (at : Place) (sc : Scope) (place : Declaration → Place) (initial : Declaration → Tree) → M.check ≡ P.check → (ds : List Declaration) → Each (StandsAtPath sc (local_index v p)) (written_all P p ds) → Initials P v p at sc place initial ds → (last : Statements) (f : State → Outcome State) → ((s : State) → run M unlabelled last sc to_end s ≡ finished (f s)) → (s : State) → run M unlabelled (variables_written P p place initial ds last) sc to_end s ≡ finished ((variables_started P v p at ds s) >>= f)
-started_law M P v p at sc place initial q [] e k last f h s = h s
-started_law M P v p at sc place initial q (d ∷ ds) e k last f h s =
-    assign_is M (place d) (one_move (name_at (place d) (written P p d.name.word)) (initial d)) (variables_written P p place initial ds last) sc (λ u. (variables_started P v p at ds u) >>= f) (started_law M P v p at sc place initial q ds e.1 k.2 last f h) s
-    ∙ (λ i. finished ((one_moved (q i) (place d) (written P p d.name.word) (local_index v p) (initial d) sc e.0 s i) >>= (λ u. (variables_started P v p at ds u) >>= f)))
-    ∙ (λ i. finished (((sym (k.1 s) i) >>= (λ w. set_one P.check (setting (sym k.0 i) (written P p d.name.word) (local_index v p) w) s)) >>= (λ u. (variables_started P v p at ds u) >>= f)))
+-- what the written initial values set, each reading what was set before
+abbrev written_started : Program → Actor → Routine → Scope → (Declaration → Place) → (Declaration → Tree) → List Declaration → State → Outcome State
+written_started P v p sc place initial [] s = Ok s
+written_started P v p sc place initial (d ∷ ds) s = do
+  w ← value_of P.check (initial d) sc s
+  u ← set_one P.check (setting (place d) (written P p d.name.word) (local_index v p) w) s
+  written_started P v p sc place initial ds u
+
+started_law : (M : Rules) (P : Program) (v : Actor) (p : Routine) (sc : Scope) (place : Declaration → Place) (initial : Declaration → Tree) → M.check ≡ P.check → (ds : List Declaration) → Each (StandsAtPath sc (local_index v p)) (written_all P p ds) → (last : Statements) (f : State → Outcome State) → ((s : State) → run M unlabelled last sc to_end s ≡ finished (f s)) → (s : State) → run M unlabelled (variables_written P p place initial ds last) sc to_end s ≡ finished ((written_started P v p sc place initial ds s) >>= f)
+started_law M P v p sc place initial q [] e last f h s = h s
+started_law M P v p sc place initial q (d ∷ ds) e last f h s =
+    assign_is M (place d) (one_assignment (name_at (place d) (written P p d.name.word)) (initial d)) (variables_written P p place initial ds last) sc (λ u. (written_started P v p sc place initial ds u) >>= f) (started_law M P v p sc place initial q ds e.1 last f h) s
+    ∙ (λ i. finished ((one_assigned (q i) (place d) (written P p d.name.word) (local_index v p) (initial d) sc e.0 s i) >>= (λ u. (written_started P v p sc place initial ds u) >>= f)))
     ∙ ap finished (
-    then_then start set (λ u. (variables_started P v p at ds u) >>= f)
-    ∙ (λ i. start >>= (λ w. sym (then_then (set w) (λ u. variables_started P v p at ds u) f) i))
-    ∙ sym (then_then start (λ w. (set w) >>= (λ u. variables_started P v p at ds u)) f))
+    then_then start set (λ u. (written_started P v p sc place initial ds u) >>= f)
+    ∙ (λ i. start >>= (λ w. sym (then_then (set w) (λ u. written_started P v p sc place initial ds u) f) i))
+    ∙ sym (then_then start (λ w. (set w) >>= (λ u. written_started P v p sc place initial ds u)) f))
   where
     start : Outcome Value
-    start = initial_value P v p at d.start s
+    start = value_of P.check (initial d) sc s
 
     set : Value → Outcome State
-    set w = set_one P.check (setting (initial_place at d.start) (written P p d.name.word) (local_index v p) w) s
+    set w = set_one P.check (setting (place d) (written P p d.name.word) (local_index v p) w) s
+
+started_same : (P : Program) (v : Actor) (p : Routine) (at : Place) (sc : Scope) (place : Declaration → Place) (initial : Declaration → Tree) → P.check ≡ plain → (ds : List Declaration) → Initials P v p at sc initial ds → (s : State) → SameButPlaces (written_started P v p sc place initial ds s) (variables_started P v p at ds s)
+started_same P v p at sc place initial c [] k s = refl
+started_same P v p at sc place initial c (d ∷ ds) k s =
+    then_same (value_of P.check (initial d) sc s) (initial_value P v p at d.start s) _ _ (k.0 s) (λ w.
+    then_same _ _ _ _ (set_same P.check c (place d) (initial_place at d.start) (written P p d.name.word) (local_index v p) w s) (λ u. started_same P v p at sc place initial c ds k.1 u))
 
 -- ---- arguments
 
@@ -82,12 +109,12 @@ place_is : (t : Tree) (sc : Scope) → ((x : Word) (at : Place) → sc.origin x 
 place_is (node (name x) at ts) sc o = sym (o x at)
 place_is (node m at ts) sc o = refl
 
-arguments_law : (c : Check) (path : List Value) (sc : Scope) → ((x : Word) (at : Place) → sc.origin x at ≡ at) → (xs : List Word) (ts : Trees) → AsMany xs ts → Each (StandsAtPath sc path) xs → (s : State) → settings c (arguments_moved xs ts) sc s ≡ (part_values (evals c ts) (sc.env s)) >>= (λ vs. Ok (argument_settings path xs (places_of ts sc) vs))
+arguments_law : (c : Check) (path : List Value) (sc : Scope) → ((x : Word) (at : Place) → sc.origin x at ≡ at) → (xs : List Word) (ts : Trees) → AsMany xs ts → Each (StandsAtPath sc path) xs → (s : State) → settings c (arguments_assigned xs ts) sc s ≡ (part_values (evals c ts) (sc.env s)) >>= (λ vs. Ok (argument_settings path xs (places_of ts sc) vs))
 arguments_law c path sc o [] no_trees m e s = refl
 arguments_law c path sc o [] (tree t ts) m e s = absurd m
 arguments_law c path sc o (x ∷ xs) no_trees m e s = absurd m
 arguments_law c path sc o (x ∷ xs) (tree t ts) m e s =
-    (λ i. ((e.0 (root_place t) s).0 i) >>= (λ r. (value_of c t sc s) >>= (λ w. (settings c (arguments_moved xs ts) sc s) >>= (λ rest. Ok (record { place = place_is t sc o i; part = r; value = w } ∷ rest)))))
+    (λ i. ((e.0 (root_place t) s).0 i) >>= (λ r. (value_of c t sc s) >>= (λ w. (settings c (arguments_assigned xs ts) sc s) >>= (λ rest. Ok (record { place = place_is t sc o i; part = r; value = w } ∷ rest)))))
     ∙ (λ i. (value_of c t sc s) >>= (λ w. (arguments_law c path sc o xs ts m e.1 s i) >>= (λ rest. Ok (setting (place_of t sc) x path w ∷ rest))))
     ∙ (λ i. (value_of c t sc s) >>= (λ w. then_then (part_values (evals c ts) (sc.env s)) (λ vs. Ok (argument_settings path xs (places_of ts sc) vs)) (λ rest. Ok (setting (place_of t sc) x path w ∷ rest)) i))
     ∙ sym (on_both (value_of c t sc s) (λ w. part_values (evals c ts) (sc.env s)) (λ w vs. w ∷ vs) (λ vs. Ok (argument_settings path (x ∷ xs) (place_of t sc ∷ places_of ts sc) vs)))
@@ -119,7 +146,7 @@ pushed_is : (P : Program) (p : Routine) (at : Place) (back : Word) (olds : Outco
 pushed_is P p at back (Ok ws) old = then_two (Ok (seq_from (frame P p (text back) ws ∷ []))) old (strict_value plain (operator Concat) at)
 pushed_is P p at back (Err k) old = refl
 
-pushed_law : (P : Program) (v : Actor) (p : Routine) (sc : Scope) → Machine P v p sc → (at : Place) (back : Word) (s : State) → (eval plain (stack_pushed P p at back) (sc.env s)).value ≡ (all_read at (local_index v p) (written_all P p (locals p)) s) >>= (λ olds. (on_stack v at s) >>= (λ frames. Ok (seq_from (frame P p (text back) olds ∷ frames))))
+pushed_law : (P : Program) (v : Actor) (p : Routine) (sc : Scope) → RoutineStands P v p sc → (at : Place) (back : Word) (s : State) → (eval plain (stack_pushed P p at back) (sc.env s)).value ≡ (all_read at (local_index v p) (written_all P p (locals p)) s) >>= (λ olds. (on_stack v at s) >>= (λ frames. Ok (seq_from (frame P p (text back) olds ∷ frames))))
 pushed_law P v p sc m at back s =
     (λ i. pushed P p at back (names_law (local_index v p) sc at (written_all P p (locals p)) m.own s i) ((sc.env s).now stack at).value)
     ∙ pushed_is P p at back (all_read at (local_index v p) (written_all P p (locals p)) s) ((sc.env s).now stack at).value
@@ -143,17 +170,20 @@ each_parts Q P p (d ∷ ds) es h = let r = each_parts Q P p ds es h.1 in ((h.0, 
 abbrev tail_of : Program → Actor → Routine → Place → State → Outcome State
 tail_of P v p at u = (variables_started P v p at p.variables u) >>= (set_one P.check (setting at pc (index v.self) (label_value P p (first_label p))))
 
-abbrev all_set : Program → Actor → Routine → Place → Trees → Scope → State → Value → List Value → Outcome State
-all_set P v p at ts sc s w vs = (set_all P.check (setting at stack (index v.self) w ∷ argument_settings (local_index v p) (written_all P p p.params) (places_of ts sc) vs) s) >>= (tail_of P v p at)
+abbrev written_tail : Program → Actor → Routine → Place → Scope → (Declaration → Place) → (Declaration → Tree) → State → Outcome State
+written_tail P v p at sc place initial u = (written_started P v p sc place initial p.variables u) >>= (set_one P.check (setting at pc (index v.self) (label_value P p (first_label p))))
+
+abbrev all_set : Program → Actor → Routine → Place → Trees → Scope → (State → Outcome State) → State → Value → List Value → Outcome State
+all_set P v p at ts sc tail s w vs = (set_all P.check (setting at stack (index v.self) w ∷ argument_settings (local_index v p) (written_all P p p.params) (places_of ts sc) vs) s) >>= tail
 
 -- the law
-pub call_law : (M : Rules) (P : Program) (v : Actor) (p : Routine) (at : Place) (ts : Trees) (back : Word) (place : Declaration → Place) (initial : Declaration → Tree) (sc : Scope) → M.check ≡ P.check → P.check ≡ plain → Machine P v p sc → AsMany (written_all P p p.params) ts → Initials P v p at sc place initial p.variables → (s : State) →
+pub call_law : (M : Rules) (P : Program) (v : Actor) (p : Routine) (at : Place) (ts : Trees) (back : Word) (place : Declaration → Place) (initial : Declaration → Tree) (sc : Scope) → M.check ≡ P.check → P.check ≡ plain → RoutineStands P v p sc → AsMany (written_all P p p.params) ts → Initials P v p at sc initial p.variables → (s : State) →
     Close (Has (run M unlabelled (call_written P p at ts back place initial) sc to_end s)) (Has (after (part_values (evals P.check ts) (sc.env s)) (λ vs. finished (entered P v at (text back) p (places_of ts sc) vs s))))
 call_law M P v p at ts back place initial sc q c m as_many k s =
     subst (λ z. Close (Has z) (Has (after values (λ vs. finished (entered P v at (text back) p (places_of ts sc) vs s))))) (sym left)
-    (subst (λ z. Close (Has (finished (pushed >>= (λ w. values >>= (all_set P v p at ts sc s w))))) (Has z)) (sym (after_finished values (λ vs. entered P v at (text back) p (places_of ts sc) vs s)))
-    (subst (λ z. Close (Has (finished (pushed >>= (λ w. values >>= (all_set P v p at ts sc s w))))) (Has (finished z))) right
-    (close_finished _ _ (swap pushed values (all_set P v p at ts sc s)))))
+    (subst (λ z. Close (Has (finished (pushed >>= (λ w. values >>= (all_set P v p at ts sc written_rest s w))))) (Has z)) (sym (after_finished values (λ vs. entered P v at (text back) p (places_of ts sc) vs s)))
+    (subst (λ z. Close (Has (finished (pushed >>= (λ w. values >>= (all_set P v p at ts sc written_rest s w))))) (Has (finished z))) right
+    (close_finished _ _ (alike_trans _ _ _ (alike_of _ _ same) (swap pushed values (all_set P v p at ts sc (tail_of P v p at) s))))))
   where
     values : Outcome (List Value)
     values = part_values (evals P.check ts) (sc.env s)
@@ -162,7 +192,7 @@ call_law M P v p at ts back place initial sc q c m as_many k s =
     pushed = (eval P.check (stack_pushed P p at back) (sc.env s)).value
 
     args : Assignments
-    args = arguments_moved (written_all P p p.params) ts
+    args = arguments_assigned (written_all P p p.params) ts
 
     first : Value → Setting
     first w = setting at stack (index v.self) w
@@ -170,27 +200,35 @@ call_law M P v p at ts back place initial sc q c m as_many k s =
     given : List Value → List Setting
     given vs = argument_settings (local_index v p) (written_all P p p.params) (places_of ts sc) vs
 
+    written_rest : State → Outcome State
+    written_rest = written_tail P v p at sc place initial
+
+    same : SameButPlaces (pushed >>= (λ w. values >>= (all_set P v p at ts sc written_rest s w))) (pushed >>= (λ w. values >>= (all_set P v p at ts sc (tail_of P v p at) s w)))
+    same = then_same pushed pushed _ _ (same_refl pushed) (λ w. then_same values values _ _ (same_refl values) (λ vs.
+        then_same _ _ _ _ (same_refl (set_all P.check (first w ∷ given vs) s)) (λ t.
+        then_same _ _ _ _ (started_same P v p at sc place initial c p.variables k t) (λ u. same_refl (set_one P.check (setting at pc (index v.self) (label_value P p (first_label p))) u)))))
+
     own : Each (StandsAtPath sc (local_index v p)) (written_all P p p.params) × Each (StandsAtPath sc (local_index v p)) (written_all P p p.variables)
     own = each_parts (StandsAtPath sc (local_index v p)) P p p.params p.variables m.own
 
-    left : run M unlabelled (call_written P p at ts back place initial) sc to_end s ≡ finished (pushed >>= (λ w. values >>= (all_set P v p at ts sc s w)))
+    left : run M unlabelled (call_written P p at ts back place initial) sc to_end s ≡ finished (pushed >>= (λ w. values >>= (all_set P v p at ts sc written_rest s w)))
     left =
-        assign_is M at (Rattle.pcal_tree.specs.Algorithm.assignment (name_at at stack) (stack_pushed P p at back) args) (variables_written P p place initial p.variables (jump_written at (label_name P p (first_label p)))) sc (tail_of P v p at)
-        (started_law M P v p at sc place initial q p.variables own.1 k (jump_written at (label_name P p (first_label p))) (set_one P.check (setting at pc (index v.self) (label_value P p (first_label p)))) (λ u. pc_law M P v at (label_name P p (first_label p)) sc m.pc u q)) s
-        ∙ (λ i. finished (((((m.stack at s).0 i) >>= (λ r. (value_of (q i) (stack_pushed P p at back) sc s) >>= (λ w. (settings (q i) args sc s) >>= (λ rest. Ok (record { place = at; part = r; value = w } ∷ rest))))) >>= (λ all. set_all (q i) all s)) >>= (tail_of P v p at)))
-        ∙ (λ i. finished ((on_both pushed (λ w. settings P.check args sc s) (λ w rest. first w ∷ rest) (λ all. set_all P.check all s) i) >>= (tail_of P v p at)))
-        ∙ ap finished (then_then pushed (λ w. (settings P.check args sc s) >>= (λ rest. set_all P.check (first w ∷ rest) s)) (tail_of P v p at))
-        ∙ (λ i. finished (pushed >>= (λ w. ((arguments_law P.check (local_index v p) sc m.origin (written_all P p p.params) ts as_many own.0 s i) >>= (λ rest. set_all P.check (first w ∷ rest) s)) >>= (tail_of P v p at))))
-        ∙ (λ i. finished (pushed >>= (λ w. (then_then values (λ vs. Ok (given vs)) (λ rest. set_all P.check (first w ∷ rest) s) i) >>= (tail_of P v p at))))
-        ∙ (λ i. finished (pushed >>= (λ w. then_then values (λ vs. set_all P.check (first w ∷ given vs) s) (tail_of P v p at) i)))
+        assign_is M at (Rattle.pcal_tree.specs.Algorithm.assignment (name_at at stack) (stack_pushed P p at back) args) (variables_written P p place initial p.variables (jump_written at (label_name P p (first_label p)))) sc written_rest
+        (started_law M P v p sc place initial q p.variables own.1 (jump_written at (label_name P p (first_label p))) (set_one P.check (setting at pc (index v.self) (label_value P p (first_label p)))) (λ u. pc_law M P v at (label_name P p (first_label p)) sc m.pc u q)) s
+        ∙ (λ i. finished (((((m.stack at s).0 i) >>= (λ r. (value_of (q i) (stack_pushed P p at back) sc s) >>= (λ w. (settings (q i) args sc s) >>= (λ rest. Ok (record { place = at; part = r; value = w } ∷ rest))))) >>= (λ all. set_all (q i) all s)) >>= written_rest))
+        ∙ (λ i. finished ((on_both pushed (λ w. settings P.check args sc s) (λ w rest. first w ∷ rest) (λ all. set_all P.check all s) i) >>= written_rest))
+        ∙ ap finished (then_then pushed (λ w. (settings P.check args sc s) >>= (λ rest. set_all P.check (first w ∷ rest) s)) written_rest)
+        ∙ (λ i. finished (pushed >>= (λ w. ((arguments_law P.check (local_index v p) sc m.origin (written_all P p p.params) ts as_many own.0 s i) >>= (λ rest. set_all P.check (first w ∷ rest) s)) >>= written_rest)))
+        ∙ (λ i. finished (pushed >>= (λ w. (then_then values (λ vs. Ok (given vs)) (λ rest. set_all P.check (first w ∷ rest) s) i) >>= written_rest)))
+        ∙ (λ i. finished (pushed >>= (λ w. then_then values (λ vs. set_all P.check (first w ∷ given vs) s) written_rest i)))
 
-    right : values >>= (λ vs. pushed >>= (λ w. all_set P v p at ts sc s w vs)) ≡ values >>= (λ vs. entered P v at (text back) p (places_of ts sc) vs s)
+    right : values >>= (λ vs. pushed >>= (λ w. all_set P v p at ts sc (tail_of P v p at) s w vs)) ≡ values >>= (λ vs. entered P v at (text back) p (places_of ts sc) vs s)
     right =
-        (λ i. values >>= (λ vs. (eval (c i) (stack_pushed P p at back) (sc.env s)).value >>= (λ w. all_set P v p at ts sc s w vs)))
-        ∙ (λ i. values >>= (λ vs. (pushed_law P v p sc m at back s i) >>= (λ w. all_set P v p at ts sc s w vs)))
-        ∙ (λ i. values >>= (λ vs. on_both (all_read at (local_index v p) (written_all P p (locals p)) s) (λ olds. on_stack v at s) (λ olds frames. seq_from (frame P p (text back) olds ∷ frames)) (λ w. all_set P v p at ts sc s w vs) i))
+        (λ i. values >>= (λ vs. (eval (c i) (stack_pushed P p at back) (sc.env s)).value >>= (λ w. all_set P v p at ts sc (tail_of P v p at) s w vs)))
+        ∙ (λ i. values >>= (λ vs. (pushed_law P v p sc m at back s i) >>= (λ w. all_set P v p at ts sc (tail_of P v p at) s w vs)))
+        ∙ (λ i. values >>= (λ vs. on_both (all_read at (local_index v p) (written_all P p (locals p)) s) (λ olds. on_stack v at s) (λ olds frames. seq_from (frame P p (text back) olds ∷ frames)) (λ w. all_set P v p at ts sc (tail_of P v p at) s w vs) i))
         ∙ sym (λ i. values >>= (λ vs.
         (all_read at (local_index v p) (written_all P p (locals p)) s) >>= (λ olds.
         (c i at (frame P p (text back) olds)) >>= (λ front.
         (on_stack v at s) >>= (λ frames.
-        (c i at (seq_from (front ∷ frames))) >>= (λ new. all_set P v p at ts sc s new vs))))))
+        (c i at (seq_from (front ∷ frames))) >>= (λ new. all_set P v p at ts sc (tail_of P v p at) s new vs))))))

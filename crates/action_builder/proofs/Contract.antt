@@ -6,7 +6,7 @@ use Rattle.pcal_tree.specs.Run.{Rules, unlabelled}
 use Rattle.tla_value.specs.Stops.{Check}
 use Rattle.action_builder.proofs.Names.{all_names}
 use Rattle.action_builder.specs.Assigned.{assigned_in, Names, more}
-use Rattle.action_builder.specs.laws.States.{mid, Agree, BadSomewhere}
+use Rattle.action_builder.specs.laws.States.{mid, SameOn, BadSomewhere}
 use Rattle.action_builder.proofs.Effects.{effects_names, Run, Named, effects_of}
 use Rattle.tla_value.specs.Value.{IsBad, NotFalse, TrueExactly, Trouble, Outcome}
 use Rattle.action_builder.specs.laws.Ready.{Settled}
@@ -26,11 +26,11 @@ runs_law M V A ss sc s t r z n =
     (λ x. q.0 (p.0 x), λ y. p.1 (q.1 y))
 
 -- the names that are assigned
-to_names : (c : Check) (A : Names) (ss : Statements) (t u : State) → Agree (more A (effects_names (effects_of c ss))) t u → Agree (more A (assigned_in ss)) t u
-to_names c A ss t u h = subst (λ xs. Agree (more A xs) t u) (all_names c ss) h
+to_names : (c : Check) (A : Names) (ss : Statements) (t u : State) → SameOn (more A (effects_names (effects_of c ss))) t u → SameOn (more A (assigned_in ss)) t u
+to_names c A ss t u h = subst (λ xs. SameOn (more A xs) t u) (all_names c ss) h
 
-of_names : (c : Check) (A : Names) (ss : Statements) (t u : State) → Agree (more A (assigned_in ss)) t u → Agree (more A (effects_names (effects_of c ss))) t u
-of_names c A ss t u h = subst (λ xs. Agree (more A xs) t u) (sym (all_names c ss)) h
+of_names : (c : Check) (A : Names) (ss : Statements) (t u : State) → SameOn (more A (assigned_in ss)) t u → SameOn (more A (effects_names (effects_of c ss))) t u
+of_names c A ss t u h = subst (λ xs. SameOn (more A xs) t u) (sym (all_names c ss)) h
 
 -- where the action is true, some run has a fitting end
 pub true_fits : (M : Rules) (V A : Names) (ss : Statements) (sc : Scope) (s t : State) → Built M V A ss sc → verdict M A ss sc s t ≡ Ok true → Fits M A ss sc s t
@@ -69,12 +69,12 @@ true_exactly M V A ss sc s t h fine = by (verdict M A ss sc s t) refl
 pub bad_exactly : (M : Rules) (V A : Names) (ss : Statements) (sc : Scope) (s t : State) → Built M V A ss sc → BadSomewhere A t (verdict M A ss sc s) ↔ SomeTrouble M A ss sc s t
 bad_exactly M V A ss sc s t h = (λ x. by x.0 x.1 (verdict M A ss sc s x.0) refl x.2, λ y. fault_all A (effects_of M.check ss) sc s t y.0 h.2 ((runs_law M V A ss sc s t (Err y.0) h.0 h.1).0 y.1))
   where
-    by : (u : State) → Agree A u t → (o : Outcome Bool) → verdict M A ss sc s u ≡ o → IsBad (verdict M A ss sc s u) → SomeTrouble M A ss sc s t
+    by : (u : State) → SameOn A u t → (o : Outcome Bool) → verdict M A ss sc s u ≡ o → IsBad (verdict M A ss sc s u) → SomeTrouble M A ss sc s t
     by u a (Ok b) e i = absurd (subst IsBad e i)
     by u a (Err k) e i =
         let r = bad_all A (effects_of M.check ss) sc s u k e in
         (r.0, (runs_law M V A ss sc s t (Err r.0) h.0 h.1).1 (subst (λ m. Run (effects_of M.check ss) sc m (Err r.0)) (mid_agree s u t A a) r.1))
 
 -- it reads of the later state only A and what is assigned
-pub reads_assigned : (M : Rules) (A : Names) (ss : Statements) (sc : Scope) (s t u : State) → Agree (more A (assigned_in ss)) t u → verdict M A ss sc s t ≡ verdict M A ss sc s u
+pub reads_assigned : (M : Rules) (A : Names) (ss : Statements) (sc : Scope) (s t u : State) → SameOn (more A (assigned_in ss)) t u → verdict M A ss sc s t ≡ verdict M A ss sc s u
 reads_assigned M A ss sc s t u h = local_all A (effects_of M.check ss) sc s t u (of_names M.check A ss t u h)

@@ -7,7 +7,7 @@ use Rattle.tla_value.specs.Order.{same}
 use Rattle.pcal_tree.specs.Scope.{Scope, bound, State}
 use Rattle.action_builder.proofs.Equal.{name-true, eq-name, eq-value}
 use Rattle.action_builder.specs.Assigned.{Names, member, more}
-use Rattle.action_builder.specs.laws.States.{mid, Agree}
+use Rattle.action_builder.specs.laws.States.{mid, SameOn}
 use Rattle.action_builder.proofs.Effects.{Effect, assign, await, branch, either, choose, Effects, done, then, Ways, no_ways, way, Parts, firsts, moved, effect_names, effects_names, ways_names, Awaits, Chosen, SomeOf, Picks, Next, RunOne, Run, RunSome}
 use Rattle.action_builder.proofs.Actions.{value_for, hold_sets, settings_of, Apart, Item, unchanged, Items, all_same, some_member, holds, hold, hold_some, ended, minus, build_one, build, build_some, OnceOne, Once, OnceSome}
 use Rattle.action_builder.proofs.Sets.{or_left, or_right, or_none, more_append, mid_in, mid_out, is_mid}
@@ -16,7 +16,7 @@ use Rattle.action_builder.proofs.Parts.{moved_bad, bad_assigned}
 use Rattle.action_builder.proofs.Main.{hold_ended, in_front, behind, apart_one, Within}
 use Rattle.action_builder.proofs.Converse.{fits_one}
 
-pub mid_agree : (s t u : State) (A : Names) → Agree A t u → mid s t A ≡ mid s u A
+pub mid_agree : (s t u : State) (A : Names) → SameOn A t u → mid s t A ≡ mid s u A
 mid_agree s t u A h = is_mid s u (mid s t A) A (λ x e. mid_in s t A x e ∙ h x e) (λ x e. mid_out s t A x e)
 
 -- ---- the written action reads of the later state only a and what is assigned
@@ -33,7 +33,7 @@ minus_within (y ∷ xs) ys x e = by (minus_within xs ys x) (member ys y) refl
     by ih true p = or_right (bytes_eq y x) (member xs x) (ih (ap (λ b. member (cond b (minus xs ys) (y ∷ minus xs ys)) x) (sym p) ∙ e))
     by ih false p = ⊎_elim (λ a. or_left (bytes_eq y x) (member xs x) a) (λ b. or_right (bytes_eq y x) (member xs x) (ih b)) (or_cases (bytes_eq y x) (member (minus xs ys) x) (ap (λ b. member (cond b (minus xs ys) (y ∷ minus xs ys)) x) (sym p) ∙ e))
 
-ended_local : (is : Items) (A : Names) (own other all : List Word) (c : Scope) (s t u : State) → Within other all → Agree (more A all) t u → hold is c s t ≡ hold is c s u → hold (ended is (unchanged (minus other own))) c s t ≡ hold (ended is (unchanged (minus other own))) c s u
+ended_local : (is : Items) (A : Names) (own other all : List Word) (c : Scope) (s t u : State) → Within other all → SameOn (more A all) t u → hold is c s t ≡ hold is c s u → hold (ended is (unchanged (minus other own))) c s t ≡ hold (ended is (unchanged (minus other own))) c s u
 ended_local is A own other all c s t u w h p =
     hold_ended is (unchanged (minus other own)) c s t
     ∙ (λ i. and_then (p i) (and_then (Ok (same_local (minus other own) s t u (λ x e. h x (or_right (A x) (member all x) (w x (minus_within other own x e)))) i)) (Ok true)))
@@ -42,20 +42,20 @@ ended_local is A own other all c s t u w h p =
 some_alike : (vs : Values) (p q : Value → Outcome Bool) → ((v : Value) → p v ≡ q v) → some_member vs p ≡ some_member vs q
 some_alike vs p q h = λ i. some_member vs (λ v. h v i)
 
-smaller : (A : Names) (xs ys : List Word) (t u : State) → Within xs ys → Agree (more A ys) t u → Agree (more A xs) t u
+smaller : (A : Names) (xs ys : List Word) (t u : State) → Within xs ys → SameOn (more A ys) t u → SameOn (more A xs) t u
 smaller A xs ys t u w h x e = h x (⊎_elim (λ a. or_left (A x) (member ys x) a) (λ b. or_right (A x) (member ys x) (w x b)) (or_cases (A x) (member xs x) e))
 
-only : (A : Names) (xs : List Word) (t u : State) → Agree (more A xs) t u → Agree A t u
+only : (A : Names) (xs : List Word) (t u : State) → SameOn (more A xs) t u → SameOn A t u
 only A xs t u h x e = h x (or_left (A x) (member xs x) e)
 
-sets_local : (A : Names) (ps : Parts) (c : Scope) (s t u : State) → Agree (more A (firsts ps)) t u → (ys : List Word) → Within ys (firsts ps) → hold_sets (settings_of A ps ys) c s t ≡ hold_sets (settings_of A ps ys) c s u
+sets_local : (A : Names) (ps : Parts) (c : Scope) (s t u : State) → SameOn (more A (firsts ps)) t u → (ys : List Word) → Within ys (firsts ps) → hold_sets (settings_of A ps ys) c s t ≡ hold_sets (settings_of A ps ys) c s u
 sets_local A ps c s t u h [] w = refl
 sets_local A ps c s t u h (y ∷ ys) w =
     λ i. and_then ((value_for y ps c (mid_agree s t u A (only A (firsts ps) t u h) i)) >>= (λ v. Ok (same (h y (or_right (A y) (member (firsts ps) y) (w y (or_left (bytes_eq y y) (member ys y) (eq-name y y refl)))) i) v)))
     (sets_local A ps c s t u h ys (λ x m. w x (or_right (bytes_eq y x) (member ys x) m)) i)
 
 mutual
-  pub local_one : (A : Names) (st : Effect) (c : Scope) (s t u : State) → Agree (more A (effect_names st)) t u → holds (build_one A st) c s t ≡ holds (build_one A st) c s u
+  pub local_one : (A : Names) (st : Effect) (c : Scope) (s t u : State) → SameOn (more A (effect_names st)) t u → holds (build_one A st) c s t ≡ holds (build_one A st) c s u
   local_one A (assign ps) c s t u h = sets_local A ps c s t u h (firsts ps) (λ x m. m)
   local_one A (await e) c s t u h = λ i. e c (mid_agree s t u A (only A [] t u h) i)
   local_one A (branch e a b) c s t u h =
@@ -67,14 +67,14 @@ mutual
   local_one A (choose x e b) c s t u h =
       λ i. (e c (mid_agree s t u A (only A (effects_names b) t u h) i)) >>= (λ vs. some_alike vs (λ v. hold (build A b) (bound x v c) s t) (λ v. hold (build A b) (bound x v c) s u) (λ v. local_all A b (bound x v c) s t u h) i)
 
-  pub local_all : (A : Names) (ss : Effects) (c : Scope) (s t u : State) → Agree (more A (effects_names ss)) t u → hold (build A ss) c s t ≡ hold (build A ss) c s u
+  pub local_all : (A : Names) (ss : Effects) (c : Scope) (s t u : State) → SameOn (more A (effects_names ss)) t u → hold (build A ss) c s t ≡ hold (build A ss) c s u
   local_all A done c s t u h = refl
   local_all A (then st rest) c s t u h =
       let xs = effect_names st in let ys = effects_names rest in
       λ i. and_then (local_one A st c s t u (smaller A xs (xs ++ ys) t u (in_front xs ys) h) i)
-      (local_all (more A xs) rest c s t u (subst (λ B. Agree B t u) (more_append A xs ys) h) i)
+      (local_all (more A xs) rest c s t u (subst (λ B. SameOn B t u) (more_append A xs ys) h) i)
 
-  local_some : (A : Names) (all : List Word) (bs : Ways) (c : Scope) (s t u : State) → Within (ways_names bs) all → Agree (more A all) t u → hold_some (build_some A all bs) c s t ≡ hold_some (build_some A all bs) c s u
+  local_some : (A : Names) (all : List Word) (bs : Ways) (c : Scope) (s t u : State) → Within (ways_names bs) all → SameOn (more A all) t u → hold_some (build_some A all bs) c s t ≡ hold_some (build_some A all bs) c s u
   local_some A all no_ways c s t u w h = refl
   local_some A all (way b bs) c s t u w h =
       let xs = effects_names b in let ys = ways_names bs in
@@ -103,7 +103,7 @@ ended_is_bad is j c s t h = subst IsBad (sym (hold_ended is j c s t)) (and_bad_l
 
 -- some later state that agrees with t on A, at which the verdict is a fault
 abbrev pub Faults : Names → State → (State → Outcome Bool) → Type 0
-Faults A t v = (u : State) × Agree A u t × IsBad (v u)
+Faults A t v = (u : State) × SameOn A u t × IsBad (v u)
 
 abbrev or_else : Outcome Value → Value → Value
 or_else (Ok v) w = v
@@ -142,7 +142,7 @@ faults_assign A ps c s t k out r = (u, agrees, sets_is_bad A ps c s u ys value b
     b : (y : Word) × IsBad (value_for y ps c (mid s t A))
     b = moved_bad ps c (mid s t A) k (sym r)
 
-    agrees : Agree A (λ x. cond (member (firsts ps) x) (or_else (value_for x ps c (mid s t A)) (t x)) (t x)) t
+    agrees : SameOn A (λ x. cond (member (firsts ps) x) (or_else (value_for x ps c (mid s t A)) (t x)) (t x)) t
     agrees x e = ⊎_elim (λ q. absurd (both_ways (A x) (out x q) e)) (λ q. ap (λ z. cond z (or_else (value_for x ps c (mid s t A)) (t x)) (t x)) q) (cases_Bool (member (firsts ps) x))
 
     same : mid s (λ x. cond (member (firsts ps) x) (or_else (value_for x ps c (mid s t A)) (t x)) (t x)) A ≡ mid s t A
@@ -158,7 +158,7 @@ faults_await (Ok true) k s e = got_bad s k (sym e)
 faults_await (Ok false) k s e = e
 faults_await (Err j) k s e = tt
 
-faults_chosen : (A : Names) (t : State) (o : Outcome Bool) (f : State → Outcome Bool) (P Q : Type 0) (k : Trouble) (v w : State → Outcome Bool) → ((u : State) → Agree A u t → f u ≡ o) → Chosen o P Q (Err k) → (P → Faults A t v) → (Q → Faults A t w) → Faults A t (λ u. (f u) >>= (λ p. cond p (v u) (w u)))
+faults_chosen : (A : Names) (t : State) (o : Outcome Bool) (f : State → Outcome Bool) (P Q : Type 0) (k : Trouble) (v w : State → Outcome Bool) → ((u : State) → SameOn A u t → f u ≡ o) → Chosen o P Q (Err k) → (P → Faults A t v) → (Q → Faults A t w) → Faults A t (λ u. (f u) >>= (λ p. cond p (v u) (w u)))
 faults_chosen A t (Ok true) f P Q k v w same r g h = let x = g r in (x.0, x.1, subst (λ o. IsBad (o >>= (λ p. cond p (v x.0) (w x.0)))) (sym (same x.0 x.1)) x.2)
 faults_chosen A t (Ok false) f P Q k v w same r g h = let x = h r in (x.0, x.1, subst (λ o. IsBad (o >>= (λ p. cond p (v x.0) (w x.0)))) (sym (same x.0 x.1)) x.2)
 faults_chosen A t (Err j) f P Q k v w same r g h = (t, λ x e. refl, subst (λ o. IsBad (o >>= (λ p. cond p (v t) (w t)))) (sym (same t (λ x e. refl))) tt)
@@ -169,7 +169,7 @@ faults_some A t (and v vs) P p r h = ⊎_elim
     (λ a. let x = h v a in (x.0, x.1, or_bad (p v x.0) (some_member vs (λ w. p w x.0)) (inl x.2)))
     (λ b. let x = faults_some A t vs P p b h in (x.0, x.1, or_bad (p v x.0) (some_member vs (λ w. p w x.0)) (inr x.2))) r
 
-faults_picks : (A : Names) (t : State) (o : Outcome Values) (f : State → Outcome Values) (P : Value → Type 0) (k : Trouble) (p : Value → State → Outcome Bool) → ((u : State) → Agree A u t → f u ≡ o) → Picks o P (Err k) → ((v : Value) → P v → Faults A t (p v)) → Faults A t (λ u. (f u) >>= (λ vs. some_member vs (λ v. p v u)))
+faults_picks : (A : Names) (t : State) (o : Outcome Values) (f : State → Outcome Values) (P : Value → Type 0) (k : Trouble) (p : Value → State → Outcome Bool) → ((u : State) → SameOn A u t → f u ≡ o) → Picks o P (Err k) → ((v : Value) → P v → Faults A t (p v)) → Faults A t (λ u. (f u) >>= (λ vs. some_member vs (λ v. p v u)))
 faults_picks A t (Ok vs) f P k p same r h = let x = faults_some A t vs P p r h in (x.0, x.1, subst (λ o. IsBad (o >>= (λ ws. some_member ws (λ v. p v x.0)))) (sym (same x.0 x.1)) x.2)
 faults_picks A t (Err j) f P k p same r h = (t, λ x e. refl, subst (λ o. IsBad (o >>= (λ ws. some_member ws (λ v. p v t)))) (sym (same t (λ x e. refl))) tt)
 
@@ -199,7 +199,7 @@ mutual
       (λ v q n.
       let one : RunOne st c (mid s t A) (Ok v) = subst (RunOne st c (mid s t A)) q r.1 in
       let off : (y : Word) → member (effect_names st) y ≡ false → v y ≡ mid s t A y = λ y f. frame_one st c (mid s t A) v y one f in
-      let on_a : Agree A v t = λ y e. off y (⊎_elim (λ a. absurd (both_ways (A y) (apart_one A st o.0 y a) e)) (λ b. b) (cases_Bool (member (effect_names st) y))) ∙ mid_in s t A y e in
+      let on_a : SameOn A v t = λ y e. off y (⊎_elim (λ a. absurd (both_ways (A y) (apart_one A st o.0 y a) e)) (λ b. b) (cases_Bool (member (effect_names st) y))) ∙ mid_in s t A y e in
       let is : v ≡ mid s v B = is_mid s v v B (λ y e. refl) (λ y e. let p = or_none (A y) (member (effect_names st) y) e in off y p.1 ∙ mid_out s t A y p.0) in
       let one' : RunOne st c (mid s v A) (Ok (mid s v B)) = subst (λ w. RunOne st c (mid s v A) (Ok w)) is (subst (λ w. RunOne st c w (Ok v)) (mid_agree s t v A (λ y e. sym (on_a y e))) one) in
       let x = fault_all B rest c s v k o.1 (subst (λ w. Run rest c w (Err k)) is n) in

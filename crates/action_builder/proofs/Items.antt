@@ -3,13 +3,14 @@ use Rattle.std.proofs.Common.{◌≡◌, List, [], Bool, true, false, ◌↔◌,
 use Rattle.tla_expr.specs.Tree.{Word}
 use Rattle.tla_value.specs.Stops.{plain}
 use Rattle.tla_value.specs.Meaning.{Env}
-use Rattle.module_text.specs.Truth.{Verdict, TrueExactly}
+use Rattle.tla_value.specs.Value.{TrueExactly}
+use Rattle.module_text.specs.ActionTruth.{Verdict}
 use Rattle.pcal_tree.specs.Algorithm.{Statements}
 use Rattle.pcal_tree.specs.Scope.{State, Scope}
 use Rattle.pcal_tree.specs.Run.{Rules}
 use Rattle.action_builder.specs.Assigned.{assigned_in, Names, member, more}
 use Rattle.tla_value.specs.Value.{IsBad, NotFalse, Outcome}
-use Rattle.action_builder.specs.laws.States.{Agree, BadSomewhere}
+use Rattle.action_builder.specs.laws.States.{SameOn, BadSomewhere}
 use Rattle.action_builder.proofs.Actions.{Fits, NoTrouble, verdict, SomeTrouble, Built}
 use Rattle.action_builder.specs.laws.Ready.{Readable, holds_on, unlimited, Ready}
 use Rattle.action_builder.proofs.Matching.{Matches}
@@ -74,7 +75,7 @@ items_stop M U vs A ss sc env r s t =
     )
 
 -- the items' truth rests on no more of the later state than A and what is assigned
-pub items_read : (M : Rules) (U : Readable) (vs : List Word) (A : Names) (ss : Statements) (sc : Scope) (env : State → State → Env) → Ready U vs A ss sc env → (s t u : State) → Agree (more A (assigned_in ss)) t u → (b : Bool) → holds_on vs env (write vs A ss) s t ≡ Ok b → holds_on vs env (write vs A ss) s u ≡ Ok b
+pub items_read : (M : Rules) (U : Readable) (vs : List Word) (A : Names) (ss : Statements) (sc : Scope) (env : State → State → Env) → Ready U vs A ss sc env → (s t u : State) → SameOn (more A (assigned_in ss)) t u → (b : Bool) → holds_on vs env (write vs A ss) s t ≡ Ok b → holds_on vs env (write vs A ss) s u ≡ Ok b
 items_read M U vs A ss sc env r s t u h b e =
     let known : verdict (unlimited M) A ss sc s t ≡ Ok b = match_back b _ (subst (λ p. Matches p (verdict (unlimited M) A ss sc s t)) e (matched M U vs A ss sc env r s t)) in
     match_is (holds_on vs env (write vs A ss) s u) b (subst (Matches (holds_on vs env (write vs A ss) s u)) (sym (reads_assigned (unlimited M) A ss sc s t u h) ∙ known) (matched M U vs A ss sc env r s u))

@@ -4,13 +4,12 @@ use Rattle.std.proofs.lemmas.Bool.{cases_Bool, both_ways}
 use Rattle.tla_expr.specs.Tree.{Word}
 use Rattle.tla_value.specs.Stops.{plain}
 use Rattle.tla_value.specs.Meaning.{Env}
-use Rattle.module_text.specs.Truth.{Verdict, items_hold, TrueExactly}
-use Rattle.module_text.specs.Truth as Module
+use Rattle.module_text.specs.ActionTruth.{Verdict, items_hold}
 use Rattle.pcal_tree.specs.Scope.{State}
 use Rattle.action_builder.specs.Assigned.{member, assigned_in}
 use Rattle.action_builder.proofs.Effects.{effects_of}
 use Rattle.action_builder.proofs.Actions.{minus, all_same}
-use Rattle.tla_value.specs.Value.{and_then, IsBad, NotFalse}
+use Rattle.tla_value.specs.Value.{and_then, IsBad, NotFalse, TrueExactly}
 use Rattle.action_builder.specs.laws.Ready.{Readable, values_of, holds_on, unlimited}
 use Rattle.action_builder.proofs.Matching.{Matches}
 use Rattle.action_builder.specs.laws.LabelSteps.{LabelStep, prepared_of, items_of, action_of, IsPrepared, IsReady, HasOutcome, EndsIn, StepsTo, MeetsTrouble}
@@ -38,10 +37,10 @@ and_got true = refl
 and_got false = refl
 
 -- the action is that of the items, and then UNCHANGED
-whole : (U : Readable) (vs : List Word) (env : State → State → Env) (d : LabelStep) (s t : State) → holds_on vs env (action_of vs d) s t ≡ Module.and_then (holds_on vs env (items_of vs none d) s t) (Ok (all_same (minus vs (names_of d)) s t))
+whole : (U : Readable) (vs : List Word) (env : State → State → Env) (d : LabelStep) (s t : State) → holds_on vs env (action_of vs d) s t ≡ and_then (holds_on vs env (items_of vs none d) s t) (Ok (all_same (minus vs (names_of d)) s t))
 whole U vs env d s t =
     hold_onto (values_of vs s) (values_of vs t) (env s t) (items_of vs none d) (unchanged_of (left_of vs vs (names_of d)))
-    ∙ ap (Module.and_then (holds_on vs env (items_of vs none d) s t)) (match_is _ (all_same (minus vs (names_of d)) s t) (subst (Matches (items_hold plain (values_of vs s) (values_of vs t) (env s t) (unchanged_of (left_of vs vs (names_of d))))) (and_got (all_same (minus vs (names_of d)) s t)) (match_unchanged vs vs (names_of d) s t (env s t) (λ x m. m))))
+    ∙ ap (and_then (holds_on vs env (items_of vs none d) s t)) (match_is _ (all_same (minus vs (names_of d)) s t) (subst (Matches (items_hold plain (values_of vs s) (values_of vs t) (env s t) (unchanged_of (left_of vs vs (names_of d))))) (and_got (all_same (minus vs (names_of d)) s t)) (match_unchanged vs vs (names_of d) s t (env s t) (λ x m. m))))
 
 there : (d : LabelStep) → IsPrepared d → (U : Readable) (vs : List Word) (env : State → State → Env) → IsReady U vs env none d → (s t : State) → EndsIn none d s t → all_same (minus vs (names_of d)) s t ≡ true → StepsTo vs d s t
 there d p U vs env r s t e q = (e.0, e.1, λ x m. ⊎_elim (λ a. e.2 x a) (λ a. kept d p U vs env r s e.0 e.1 x a ∙ sym (minus_same vs (names_of d) s t q x m a)) (cases_Bool (member (names_of d) x)))
@@ -58,21 +57,21 @@ action_exactly d p U vs env r s t fine =
     by (step_exactly d p U vs env none r s t fine) (all_same (minus vs (names_of d)) s t) refl
   where
     by : TrueExactly (holds_on vs env (items_of vs none d) s t) (EndsIn none d s t) → (c : Bool) → all_same (minus vs (names_of d)) s t ≡ c → TrueExactly (holds_on vs env (action_of vs d) s t) (StepsTo vs d s t)
-    by (true, e, k) c q = (c, whole U vs env d s t ∙ (λ i. Module.and_then (e i) (Ok (q i))), (λ h. there d p U vs env r s t (k.0 refl) (q ∙ h), λ h. sym q ∙ unchanged_there d p U vs env r s t h))
-    by (false, e, k) c q = (false, whole U vs env d s t ∙ (λ i. Module.and_then (e i) (Ok (q i))), (λ h. absurd (both_ways false refl h), λ h. k.1 (ends d U vs env r s t h)))
+    by (true, e, k) c q = (c, whole U vs env d s t ∙ (λ i. and_then (e i) (Ok (q i))), (λ h. there d p U vs env r s t (k.0 refl) (q ∙ h), λ h. sym q ∙ unchanged_there d p U vs env r s t h))
+    by (false, e, k) c q = (false, whole U vs env d s t ∙ (λ i. and_then (e i) (Ok (q i))), (λ h. absurd (both_ways false refl h), λ h. k.1 (ends d U vs env r s t h)))
 
-both_true : (v : Verdict) (c : Bool) → Module.and_then v (Ok c) ≡ Ok true → (v ≡ Ok true) × (c ≡ true)
+both_true : (v : Verdict) (c : Bool) → and_then v (Ok c) ≡ Ok true → (v ≡ Ok true) × (c ≡ true)
 both_true (Ok true) true e = (refl, refl)
 both_true (Ok true) false e = cc
 both_true (Ok false) c e = cc
 both_true (Err k) c e = cc
 
-not_false : (v : Verdict) (c : Bool) → NotFalse v → c ≡ true → NotFalse (Module.and_then v (Ok c))
+not_false : (v : Verdict) (c : Bool) → NotFalse v → c ≡ true → NotFalse (and_then v (Ok c))
 not_false (Ok true) c h e = subst (λ b. NotFalse (Ok b)) (sym e) tt
 not_false (Ok false) c h e = h
 not_false (Err k) c h e = tt
 
-stopped_first : (v : Verdict) (c : Bool) → IsBad (Module.and_then v (Ok c)) ↔ IsBad v
+stopped_first : (v : Verdict) (c : Bool) → IsBad (and_then v (Ok c)) ↔ IsBad v
 stopped_first (Ok true) c = (λ h. h, λ h. absurd h)
 stopped_first (Ok false) c = (λ h. h, λ h. h)
 stopped_first (Err k) c = (λ h. h, λ h. h)

@@ -16,13 +16,14 @@ pub mod Matching
 pub mod Truth
 pub mod Items
 pub mod Begins
-pub mod Moved
+pub mod Jumps
 pub mod Call
 pub mod Prepared
 pub mod Rules
 pub mod Steps
 pub mod Label
 pub mod Alike
+pub mod AnyPlace
 pub mod SingleProcess
 mod Rows
 mod RowsSample

@@ -2,7 +2,7 @@
 use Rattle.std.proofs.Common.{◌≡◌, List, [], ◌∷◌, ◌++◌, Bool, true, false, cond, not, ◌||◌, ◌&&◌, bytes_eq, Some, None, ◌⊎◌, refl, sym, ◌∙◌, ap, subst, ⊎_elim, inl, inr, Ok, Err}
 use Rattle.std.proofs.lemmas.Bool.{cases_Bool, or_cases, both_ways, and_parts}
 use Rattle.tla_token.specs.declared.place.Place.{Place}
-use Rattle.tla_expr.specs.Tree.{Word, Form, name, next, strict, select, Tree, node, Trees, no_trees, tree, Every, EveryOf}
+use Rattle.tla_expr.specs.Tree.{Word, Form, name, next, strict, select, Tree, node, Trees, no_trees, tree, Every, EveryOf, root_place}
 use Rattle.tla_value.specs.declared.fault.FaultKind.TheVariants.{AssertFailed}
 use Rattle.tla_value.specs.Value.{Value, truth, int, text, model, set, fun, Values, no_values, and, Outcome, ◌>>=◌, fault, and_then, or_all}
 use Rattle.tla_value.specs.Value as Values
@@ -14,10 +14,10 @@ use Rattle.tla_value.specs.Related.{In}
 use Rattle.tla_value.proofs.Primes.{Unprimed, unprimed_law}
 use Rattle.tla_value.proofs.Facts.{every_weaker}
 use Rattle.tla_value.proofs.Primes as Primes
-use Rattle.module_text.specs.Truth.{Verdict, as_truth, as_set, at_each, is_unchanged}
-use Rattle.module_text.specs.Truth as Module
+use Rattle.module_text.specs.ActionTruth.{Verdict, is_unchanged}
+use Rattle.module_text.specs.ActionTruth as Module
 use Rattle.pcal_tree.specs.Algorithm.{Assignments, no_assignments, assignment}
-use Rattle.pcal_tree.specs.Scope.{State, Scope, bound, root_place}
+use Rattle.pcal_tree.specs.Scope.{State, Scope, bound}
 use Rattle.action_builder.specs.Assigned.{Names, member, head_of}
 use Rattle.action_builder.specs.laws.States.{mid}
 use Rattle.action_builder.proofs.Actions.{minus, all_same, some_member}
@@ -37,7 +37,7 @@ Matches (Ok a) (Err k) = ⊥
 Matches (Err k) (Ok b) = ⊥
 Matches (Err j) (Err k) = Unit {0}
 
-pub match_and : (p q : Verdict) (v w : Outcome Bool) → Matches p v → Matches q w → Matches (Module.and_then p q) (and_then v w)
+pub match_and : (p q : Verdict) (v w : Outcome Bool) → Matches p v → Matches q w → Matches (Values.and_then p q) (and_then v w)
 match_and (Ok true) q (Ok true) w h k = k
 match_and (Ok true) q (Ok false) w h k = cc
 match_and (Ok false) q (Ok true) w h k = cc
@@ -46,7 +46,7 @@ match_and (Ok b) q (Err j) w h k = absurd h
 match_and (Err j) q (Ok b) w h k = absurd h
 match_and (Err j) q (Err i) w h k = tt
 
-pub match_or : (p q : Verdict) (v w : Outcome Bool) → Matches p v → Matches q w → Matches (Module.or_all p q) (or_all v w)
+pub match_or : (p q : Verdict) (v w : Outcome Bool) → Matches p v → Matches q w → Matches (Values.or_all p q) (or_all v w)
 match_or (Ok a) (Ok b) (Ok c) (Ok d) h k = λ i. h i || k i
 match_or (Ok a) (Ok b) (Ok c) (Err j) h k = absurd k
 match_or (Ok a) (Err j) (Ok c) (Ok d) h k = absurd k
@@ -61,7 +61,7 @@ match_value (Err (Values.fault k p)) f g h = tt
 match_value (Err (Values.over p)) f g h = tt
 
 -- where a truth value is needed; places do not matter
-pub match_truth : (at p : Place) (v : Value) (f : Bool → Verdict) (g : Bool → Outcome Bool) → ((b : Bool) → Matches (f b) (g b)) → Matches (as_truth at v f) ((truth_at p v) >>= g)
+pub match_truth : (at p : Place) (v : Value) (f : Bool → Verdict) (g : Bool → Outcome Bool) → ((b : Bool) → Matches (f b) (g b)) → Matches ((truth_at at v) >>= f) ((truth_at p v) >>= g)
 match_truth at p (truth b) f g h = h b
 match_truth at p (int n) f g h = tt
 match_truth at p (text w) f g h = tt
@@ -69,11 +69,11 @@ match_truth at p (model w) f g h = tt
 match_truth at p (set vs) f g h = tt
 match_truth at p (fun ds rs) f g h = tt
 
-pub match_members : (vs : Values) (f : Value → Verdict) (g : Value → Outcome Bool) → ((v : Value) → Matches (f v) (g v)) → Matches (at_each vs f) (some_member vs g)
+pub match_members : (vs : Values) (f : Value → Verdict) (g : Value → Outcome Bool) → ((v : Value) → Matches (f v) (g v)) → Matches (Module.some_member vs f) (some_member vs g)
 match_members no_values f g h = refl
-match_members (and v vs) f g h = match_or (f v) (at_each vs f) (g v) (some_member vs g) (h v) (match_members vs f g h)
+match_members (and v vs) f g h = match_or (f v) (Module.some_member vs f) (g v) (some_member vs g) (h v) (match_members vs f g h)
 
-pub match_set : (at p : Place) (v : Value) (f : Value → Verdict) (g : Value → Outcome Bool) → ((v : Value) → Matches (f v) (g v)) → Matches (as_set at v (λ vs. at_each vs f)) ((members_at p v) >>= (λ vs. some_member vs g))
+pub match_set : (at p : Place) (v : Value) (f : Value → Verdict) (g : Value → Outcome Bool) → ((v : Value) → Matches (f v) (g v)) → Matches ((members_at at v) >>= (λ vs. Module.some_member vs f)) ((members_at p v) >>= (λ vs. some_member vs g))
 match_set at p (truth b) f g h = tt
 match_set at p (int n) f g h = tt
 match_set at p (text w) f g h = tt
@@ -81,14 +81,15 @@ match_set at p (model w) f g h = tt
 match_set at p (set vs) f g h = match_members vs f g h
 match_set at p (fun ds rs) f g h = tt
 
-pub match_test : (o : Outcome Value) (at p : Place) (f : Bool → Verdict) (g : Bool → Outcome Bool) → ((b : Bool) → Matches (f b) (g b)) → Matches (o >>= (λ v. as_truth at v f)) ((o >>= (truth_at p)) >>= g)
-match_test o at p f g h =
-    subst (Matches (o >>= (λ v. as_truth at v f))) (sym (on_twice o (truth_at p) g)) (match_value o (λ v. as_truth at v f) (λ v. (truth_at p v) >>= g) (λ v. match_truth at p v f g h))
+pub match_test : (o : Outcome Value) (at p : Place) (f : Bool → Verdict) (g : Bool → Outcome Bool) → ((b : Bool) → Matches (f b) (g b)) → Matches ((o >>= truth_at at) >>= f) ((o >>= (truth_at p)) >>= g)
+match_test (Ok v) at p f g h = match_truth at p v f g h
+match_test (Err (Values.fault k q)) at p f g h = tt
+match_test (Err (Values.over q)) at p f g h = tt
 
-pub match_some : (o : Outcome Value) (at p : Place) (f : Value → Verdict) (g : Value → Outcome Bool) → ((v : Value) → Matches (f v) (g v)) → Matches (o >>= (λ v. as_set at v (λ vs. at_each vs f))) ((o >>= (members_at p)) >>= (λ vs. some_member vs g))
-match_some o at p f g h =
-    subst (Matches (o >>= (λ v. as_set at v (λ vs. at_each vs f)))) (sym (on_twice o (members_at p) (λ vs. some_member vs g)))
-    (match_value o (λ v. as_set at v (λ vs. at_each vs f)) (λ v. (members_at p v) >>= (λ vs. some_member vs g)) (λ v. match_set at p v f g h))
+pub match_some : (o : Outcome Value) (at p : Place) (f : Value → Verdict) (g : Value → Outcome Bool) → ((v : Value) → Matches (f v) (g v)) → Matches ((o >>= members_at at) >>= (λ vs. Module.some_member vs f)) ((o >>= (members_at p)) >>= (λ vs. some_member vs g))
+match_some (Ok v) at p f g h = match_set at p v f g h
+match_some (Err (Values.fault k q)) at p f g h = tt
+match_some (Err (Values.over q)) at p f g h = tt
 
 pub match_once : (p : Verdict) (v : Outcome Bool) → Matches p v → Matches p (or_all v (Ok false))
 match_once (Ok true) (Ok true) h = refl
@@ -104,14 +105,14 @@ match_one o f g h =
     subst (Matches (o >>= f)) (sym (on_twice o (λ v. Ok (and v no_values)) (λ vs. some_member vs g)))
     (match_value o f (λ v. or_all (g v) (Ok false)) (λ v. match_once (f v) (g v) (h v)))
 
-pub match_true : (v : Outcome Bool) (p : Verdict) → Matches p v → Matches (Module.and_then p (Ok true)) (and_then v (Ok true))
+pub match_true : (v : Outcome Bool) (p : Verdict) → Matches p v → Matches (Values.and_then p (Ok true)) (and_then v (Ok true))
 match_true v p h = match_and p (Ok true) v (Ok true) h refl
 
 -- a truth value that is got as it is
-pub match_told : (o : Outcome Value) (at p : Place) → Matches (o >>= (λ v. as_truth at v Ok)) (o >>= (truth_at p))
-match_told o at p = match_value o (λ v. as_truth at v Ok) (truth_at p) (λ v. by v)
+pub match_told : (o : Outcome Value) (at p : Place) → Matches (o >>= truth_at at) (o >>= (truth_at p))
+match_told o at p = match_value o (truth_at at) (truth_at p) (λ v. by v)
   where
-    by : (v : Value) → Matches (as_truth at v Ok) (truth_at p v)
+    by : (v : Value) → Matches (truth_at at v) (truth_at p v)
     by (truth b) = refl
     by (int n) = tt
     by (text w) = tt
@@ -119,12 +120,12 @@ match_told o at p = match_value o (λ v. as_truth at v Ok) (truth_at p) (λ v. b
     by (set vs) = tt
     by (fun ds rs) = tt
 
-pub match_print : (o : Outcome Value) (at : Place) → Matches (((o >>= (λ v. Ok (v ∷ []))) >>= standard_value plain printed at) >>= (λ v. as_truth at v Ok)) (o >>= (λ v. Ok true))
+pub match_print : (o : Outcome Value) (at : Place) → Matches (((o >>= (λ v. Ok (v ∷ []))) >>= standard_value plain printed at) >>= truth_at at) (o >>= (λ v. Ok true))
 match_print (Ok v) at = refl
 match_print (Err (Values.fault k p)) at = tt
 match_print (Err (Values.over p)) at = tt
 
-pub match_assert : (o : Outcome Value) (m : Value) (at p q : Place) → Matches (((o >>= (λ v. Ok (v ∷ m ∷ []))) >>= standard_value plain asserted at) >>= (λ v. as_truth at v Ok)) ((o >>= (truth_at p)) >>= (λ b. cond b (Ok true) (Err (fault AssertFailed q))))
+pub match_assert : (o : Outcome Value) (m : Value) (at p q : Place) → Matches (((o >>= (λ v. Ok (v ∷ m ∷ []))) >>= standard_value plain asserted at) >>= truth_at at) ((o >>= (truth_at p)) >>= (λ b. cond b (Ok true) (Err (fault AssertFailed q))))
 match_assert (Ok (truth true)) m at p q = refl
 match_assert (Ok (truth false)) m at p q = tt
 match_assert (Ok (int n)) m at p q = tt

@@ -60,5 +60,5 @@ own_stands c V self v own sc h x m reads at s = (own_parts c V self v own sc h x
 -- from the prepared statements to the statements as they stand
 pub prepared_law : (M : Rules) (d : LabelStep) → Prepares M d → (s : State) → Close (Has (run M unlabelled (prepared_of d) d.scope to_end s)) (Stepped M d s)
 prepared_law M d p s =
-    subst (λ F. Close (Has (F s)) (Stepped M d s)) (sym (localised M d.self d.own unlabelled (settled d.moving d.here d.exit d.statements) d.scope p.free p.clean to_end))
-    (settle_in M d.moving d.names d.callable (own_scope M.check d.self d.own d.scope) p.does d.here d.exit d.statements p.tidy s)
+    subst (λ F. Close (Has (F s)) (Stepped M d s)) (sym (localised M d.self d.own unlabelled (settled d.jumps d.here d.exit d.statements) d.scope p.free p.clean to_end))
+    (settle_in M d.jumps d.names d.callable (own_scope M.check d.self d.own d.scope) p.does d.here d.exit d.statements p.tidy s)

@@ -10,8 +10,8 @@ use Rattle.pcal_tree.specs.Algorithm.{Span, Binds, no_binds, one_of, is, Stateme
 use Rattle.pcal_tree.specs.Scope.{State, Scope, bound, test, members, value_of}
 use Rattle.pcal_tree.specs.Assign.{after_assignments}
 use Rattle.pcal_tree.specs.Run.{Course, stops, Has, HasSome, after, at_each, held, Follow, Rules, unlabelled, label_of, run_binds, run_one, run, run_branches, exit_to}
-use Rattle.action_builder.specs.laws.Settling.{to_end, Stops, EachBind, Callable, TidyOne, Tidy, TidySome, Outcomes, AnyBad, Close, CloseCourses, Does}
-use Rattle.action_builder.specs.Settled.{Moving, jumps_one, jumps, jumps_some, settled_one, settled, settled_some}
+use Rattle.action_builder.specs.laws.Settling.{to_end, Stops, EachBind, Callable, TidyOne, Tidy, TidySome, Outcomes, AnyBad, Close, CloseCourses, DoesAsRules}
+use Rattle.action_builder.specs.Settled.{WrittenJumps, jumps_one, jumps, jumps_some, settled_one, settled, settled_some}
 use Rattle.action_builder.specs.laws.Scopes.{Inner}
 use Rattle.pcal_tree.proofs.ExpandRuns.{following}
 
@@ -120,7 +120,7 @@ by_jump true M here at st st' rest rest' l sc d f h s = subst (λ F. Close (Has 
 by_jump false M here at st st' rest rest' l sc d f h s = f refl s
 
 mutual
-  settle_one : (M : Rules) (W : Moving) (Fit : Scope → Type 0) (F : Word → Type 0) (g : Callable) → Does M W Fit F g → (here l : Word) (at : Span) (st : Statement) (rest : Statements) → TidyOne F g st rest → (sc : Scope) → Fit sc → CloseCourses (run M unlabelled (settled W unlabelled l rest) sc to_end) (run M unlabelled rest sc (exit_to M l)) → CloseCourses (run M unlabelled (settled_one W here (label_of rest l) at st (settled W unlabelled l rest)) sc to_end) (run_one M here at.first st sc (following M rest sc (exit_to M l)))
+  settle_one : (M : Rules) (W : WrittenJumps) (Fit : Scope → Type 0) (F : Word → Type 0) (g : Callable) → DoesAsRules M W Fit F g → (here l : Word) (at : Span) (st : Statement) (rest : Statements) → TidyOne F g st rest → (sc : Scope) → Fit sc → CloseCourses (run M unlabelled (settled W unlabelled l rest) sc to_end) (run M unlabelled rest sc (exit_to M l)) → CloseCourses (run M unlabelled (settled_one W here (label_of rest l) at st (settled W unlabelled l rest)) sc to_end) (run_one M here at.first st sc (following M rest sc (exit_to M l)))
   settle_one M W Fit F g d here l at (assign ms) rest t sc fit h s = close_after (after_assignments M.check ms sc s) _ _ h
   settle_one M W Fit F g d here l at (await e) rest t sc fit h s = free_one M unlabelled here at.first (await e) refl sc (following M (settled W unlabelled l rest) sc to_end) (following M rest sc (exit_to M l)) h s
   settle_one M W Fit F g d here l at (print e) rest t sc fit h s = free_one M unlabelled here at.first (print e) refl sc (following M (settled W unlabelled l rest) sc to_end) (following M rest sc (exit_to M l)) h s
@@ -139,18 +139,18 @@ mutual
       (close_binds M.check at.first Fit F d.bind bs t.2 (λ inner. run M unlabelled (settled W unlabelled (label_of rest l) b) inner to_end) (λ inner. run M unlabelled b inner (exit_to M (label_of rest l))) (λ inner k. settle M W Fit F g d unlabelled (label_of rest l) b t.0 inner k) sc fit) s
   settle_one M W Fit F g d here l at (while e b) rest t sc fit h s =
       close_after (test M.check e sc s) _ _ (λ yes. close_cond yes (run M unlabelled (settled W unlabelled here b) sc to_end) (run M unlabelled (settled W unlabelled l rest) sc to_end) (run M unlabelled b sc (exit_to M here)) (run M unlabelled rest sc (exit_to M l)) s (settle M W Fit F g d unlabelled here b t sc fit s) (h s))
-  settle_one M W Fit F g d here l at (goto m) rest t sc fit h s = d.pc m sc fit s
+  settle_one M W Fit F g d here l at (goto m) rest t sc fit h s = d.goto m sc fit s
   settle_one M W Fit F g d here l at (macro m ts) rest t sc fit h s = absurd t
   settle_one M W Fit F g d here l at (call p ts) rest t sc fit h s = d.call at p ts (label_of rest l) sc fit t s
-  settle_one M W Fit F g d here l at return rest t sc fit h s = d.back at sc fit s
+  settle_one M W Fit F g d here l at return rest t sc fit h s = d.return at sc fit s
 
   -- the law
-  pub settle : (M : Rules) (W : Moving) (Fit : Scope → Type 0) (F : Word → Type 0) (g : Callable) → Does M W Fit F g → (here l : Word) (ss : Statements) → Tidy F g ss → (sc : Scope) → Fit sc → CloseCourses (run M unlabelled (settled W here l ss) sc to_end) (run M here ss sc (exit_to M l))
-  settle M W Fit F g d here l done t sc fit s = d.pc l sc fit s
+  pub settle : (M : Rules) (W : WrittenJumps) (Fit : Scope → Type 0) (F : Word → Type 0) (g : Callable) → DoesAsRules M W Fit F g → (here l : Word) (ss : Statements) → Tidy F g ss → (sc : Scope) → Fit sc → CloseCourses (run M unlabelled (settled W here l ss) sc to_end) (run M here ss sc (exit_to M l))
+  settle M W Fit F g d here l done t sc fit s = d.goto l sc fit s
   settle M W Fit F g d here l (then at st rest) t sc fit s = settle_one M W Fit F g d here l at st rest t.0 sc fit (settle M W Fit F g d unlabelled l rest t.1 sc fit) s
-  settle M W Fit F g d here l (mark m k rest) t sc fit s = d.pc m.word sc fit s
+  settle M W Fit F g d here l (mark m k rest) t sc fit s = d.goto m.word sc fit s
 
-  settle_some : (M : Rules) (W : Moving) (Fit : Scope → Type 0) (F : Word → Type 0) (g : Callable) → Does M W Fit F g → (l : Word) (bs : Branches) → TidySome F g bs → (sc : Scope) → Fit sc → (s : State) → Close (HasSome (run_branches M (settled_some W l bs) sc to_end s)) (HasSome (run_branches M bs sc (exit_to M l) s))
+  settle_some : (M : Rules) (W : WrittenJumps) (Fit : Scope → Type 0) (F : Word → Type 0) (g : Callable) → DoesAsRules M W Fit F g → (l : Word) (bs : Branches) → TidySome F g bs → (sc : Scope) → Fit sc → (s : State) → Close (HasSome (run_branches M (settled_some W l bs) sc to_end s)) (HasSome (run_branches M bs sc (exit_to M l) s))
   settle_some M W Fit F g d l no_branches t sc fit s = close_refl (λ r. ⊥)
   settle_some M W Fit F g d l (or b bs) t sc fit s =
       close_or (Has (run M unlabelled (settled W unlabelled l b) sc to_end s)) (HasSome (run_branches M (settled_some W l bs) sc to_end s)) (Has (run M unlabelled b sc (exit_to M l) s)) (HasSome (run_branches M bs sc (exit_to M l) s)) (settle M W Fit F g d unlabelled l b t.0 sc fit s) (settle_some M W Fit F g d l bs t.1 sc fit s)
@@ -158,5 +158,5 @@ mutual
 pub inner_bind : (f : Word → Bool) (sc : Scope) (x : Word) (v : Value) (inner : Scope) → In f x → Inner f sc inner → Inner f sc (bound x v inner)
 inner_bind f sc x v inner h k = ((x, v) ∷ k.0, (h, k.1), ap (bound x v) k.2)
 
-pub settle_in : (M : Rules) (W : Moving) (f : Word → Bool) (g : Callable) (sc : Scope) → Does M W (Inner f sc) (In f) g → (here l : Word) (ss : Statements) → Tidy (In f) g ss → CloseCourses (run M unlabelled (settled W here l ss) sc to_end) (run M here ss sc (exit_to M l))
+pub settle_in : (M : Rules) (W : WrittenJumps) (f : Word → Bool) (g : Callable) (sc : Scope) → DoesAsRules M W (Inner f sc) (In f) g → (here l : Word) (ss : Statements) → Tidy (In f) g ss → CloseCourses (run M unlabelled (settled W here l ss) sc to_end) (run M here ss sc (exit_to M l))
 settle_in M W f g sc d here l ss t = settle M W (Inner f sc) (In f) g d here l ss t sc ([], tt, refl)

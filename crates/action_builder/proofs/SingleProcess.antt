@@ -1,38 +1,45 @@
 -- Items with trees put in for names have the truth that they have where the names stand for the trees, and troubles of the same kinds.
 use Rattle.std.proofs.Common.{◌≡◌, Bool, true, false, cond, bytes_eq, Some, None, refl, sym, subst, Ok}
 use Rattle.tla_token.specs.declared.place.Place.{Place}
-use Rattle.tla_expr.specs.Tree.{Word, Tree, Every, Graft, graft}
-use Rattle.tla_value.specs.Value.{Value, ◌>>=◌}
-use Rattle.tla_value.specs.Stops.{Check}
+use Rattle.tla_expr.specs.Tree.{Word, Tree, Every, Graft, graft, root_place}
+use Rattle.tla_value.specs.Value.{Value, Outcome, ◌>>=◌}
+use Rattle.tla_value.specs.Stops.{Check, truth_at, members_at}
 use Rattle.tla_value.specs.Meaning.{Env, just, bind, eval}
 use Rattle.tla_value.specs.Grafts.{read_tree}
 use Rattle.tla_value.specs.Related.{ClearForm}
 use Rattle.tla_value.specs.Definitions.{Valuation}
 use Rattle.tla_value.proofs.Graft.{Grafted, bound_grafted, grafted_law}
 use Rattle.module_text.specs.Module.{Item, test, setting, unchanged, exists, local, if_then_else, either, Items, no_items, item, Branches, no_branches, branch}
-use Rattle.module_text.specs.Truth.{Verdict, place_of, item_holds, items_hold, some_branch}
+use Rattle.module_text.specs.ActionTruth.{truth_in, members_in, item_holds, items_hold, some_branch}
 use Rattle.action_builder.specs.SingleProcess.{in_place_of, graft_item, graft_items, graft_branches}
-use Rattle.action_builder.specs.laws.Grafts.{ClearItem, ClearItems, ClearBranches, SameButPlaces}
-use Rattle.action_builder.proofs.Alike.{same_refl, then_same, and_same, or_same, cond_same, truth_same, set_same}
+use Rattle.action_builder.specs.laws.Grafts.{ClearItem, ClearItems, ClearBranches}
+use Rattle.action_builder.specs.laws.Places.{SameButPlaces}
+use Rattle.action_builder.proofs.Alike.{same_refl, then_same, and_same, or_same, cond_same, truth_same, members_same, each_same}
 use Rattle.tla_value.specs.laws.FreeNames.{Any}
 
 -- an expression with trees put in, and what goes on with its value
-value_same : (c : Check) (g : Graft) (U : Word → Type 0) (e : Tree) → Every (ClearForm c g U) e → (n m : Env) → Grafted c g U n m → (f h : Value → Verdict) → ((v : Value) → SameButPlaces (f v) (h v)) → SameButPlaces ((eval c (graft g e) n).value >>= f) ((eval c e m).value >>= h)
+value_same : {X : Type 0} (c : Check) (g : Graft) (U : Word → Type 0) (e : Tree) → Every (ClearForm c g U) e → (n m : Env) → Grafted c g U n m → (f h : Value → Outcome X) → ((v : Value) → SameButPlaces (f v) (h v)) → SameButPlaces ((eval c (graft g e) n).value >>= f) ((eval c e m).value >>= h)
 value_same c g U e k n m r f h q =
     subst (λ o. SameButPlaces (o.value >>= f) ((eval c e m).value >>= h)) (sym (grafted_law c g U e k n m r)) (then_same (eval c e m).value (eval c e m).value f h (same_refl (eval c e m).value) q)
 
+-- a test with trees put in
+test_same : (c : Check) (g : Graft) (U : Word → Type 0) (e : Tree) → Every (ClearForm c g U) e → (n m : Env) → Grafted c g U n m → SameButPlaces (truth_in c n (graft g e)) (truth_in c m e)
+test_same c g U e k n m r = value_same c g U e k n m r (truth_at (root_place (graft g e))) (truth_at (root_place e)) (truth_same (root_place (graft g e)) (root_place e))
+
 mutual
   item_same : (c : Check) (g : Graft) (U : Word → Type 0) (s t : Valuation) (i : Item) → ClearItem c g U i → (n m : Env) → Grafted c g U n m → SameButPlaces (item_holds c s t n (graft_item g i)) (item_holds c s t m i)
-  item_same c g U s t (test e) k n m r = value_same c g U e k n m r _ _ (λ v. truth_same (place_of (graft g e)) (place_of e) v Ok Ok (λ b. refl))
+  item_same c g U s t (test e) k n m r = test_same c g U e k n m r
   item_same c g U s t (setting x e) k n m r = value_same c g U e k n m r _ _ (λ v. refl)
   item_same c g U s t (unchanged xs) k n m r = refl
   item_same c g U s t (exists x e is) k n m r =
-      value_same c g U e k.0 n m r _ _ (λ v. set_same (place_of (graft g e)) (place_of e) v (λ w. items_hold c s t (bind x w n) (graft_items g is)) (λ w. items_hold c s t (bind x w m) is)
-      (λ w. items_same c g U s t is k.2 (bind x w n) (bind x w m) (bound_grafted c g U x k.1 n m w r)))
+      then_same (members_in c n (graft g e)) (members_in c m e) _ _
+      (value_same c g U e k.0 n m r (members_at (root_place (graft g e))) (members_at (root_place e)) (members_same (root_place (graft g e)) (root_place e)))
+      (λ vs. each_same vs _ _ (λ w. items_same c g U s t is k.2 (bind x w n) (bind x w m) (bound_grafted c g U x k.1 n m w r)))
   item_same c g U s t (local x e is) k n m r =
       value_same c g U e k.0 n m r _ _ (λ w. items_same c g U s t is k.2 (bind x w n) (bind x w m) (bound_grafted c g U x k.1 n m w r))
   item_same c g U s t (if_then_else e a b) k n m r =
-      value_same c g U e k.0 n m r _ _ (λ v. truth_same (place_of (graft g e)) (place_of e) v _ _ (λ p. cond_same p _ _ _ _ (items_same c g U s t a k.1 n m r) (items_same c g U s t b k.2 n m r)))
+      then_same (truth_in c n (graft g e)) (truth_in c m e) _ _ (test_same c g U e k.0 n m r)
+      (λ p. cond_same p _ _ _ _ (items_same c g U s t a k.1 n m r) (items_same c g U s t b k.2 n m r))
   item_same c g U s t (either bs) k n m r = branches_same c g U s t bs k n m r
 
   pub items_same : (c : Check) (g : Graft) (U : Word → Type 0) (s t : Valuation) (is : Items) → ClearItems c g U is → (n m : Env) → Grafted c g U n m → SameButPlaces (items_hold c s t n (graft_items g is)) (items_hold c s t m is)

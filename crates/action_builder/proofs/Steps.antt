@@ -2,7 +2,7 @@
 use Rattle.std.proofs.Common.{◌≡◌, List, true, ◌↔◌, Ok, Err}
 use Rattle.tla_expr.specs.Tree.{Word}
 use Rattle.tla_value.specs.Meaning.{Env}
-use Rattle.module_text.specs.Truth.{TrueExactly}
+use Rattle.tla_value.specs.Value.{TrueExactly}
 use Rattle.pcal_tree.specs.Scope.{State}
 use Rattle.tla_value.specs.Value.{Trouble, Outcome, IsBad, NotFalse}
 use Rattle.pcal_tree.specs.Run.{Has, unlabelled, run}

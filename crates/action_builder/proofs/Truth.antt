@@ -2,16 +2,16 @@
 use Rattle.std.proofs.Common.{◌≡◌, List, [], ◌∷◌, Bool, true, false, cond, ◌||◌, bytes_eq, codes, Some, None, refl, sym, ◌∙◌, ap, subst, ⊎_elim, Ok, Err}
 use Rattle.std.proofs.lemmas.Bool.{or_cases}
 use Rattle.tla_token.specs.declared.place.Place.{Place}
-use Rattle.tla_expr.specs.Tree.{Word, Tree, no_trees}
+use Rattle.tla_expr.specs.Tree.{Word, Tree, no_trees, root_place}
 use Rattle.tla_value.specs.Value.{Value, Outcome, ◌>>=◌, and_then}
 use Rattle.tla_value.specs.Order.{same}
-use Rattle.tla_value.specs.Stops.{plain}
+use Rattle.tla_value.specs.Stops.{plain, truth_at, members_at}
 use Rattle.tla_value.specs.Standard.{printed, asserted, standard_value}
 use Rattle.tla_value.specs.Meaning.{Env, called, part_values, eval}
 use Rattle.tla_value.specs.Definitions.{Valuation}
 use Rattle.module_text.specs.Module.{Items, no_items, item}
-use Rattle.module_text.specs.Truth.{Verdict, as_truth, as_set, at_each, is_value, items_hold, some_branch}
-use Rattle.module_text.specs.Truth as Module
+use Rattle.module_text.specs.ActionTruth.{Verdict, is_value, items_hold, some_branch}
+use Rattle.module_text.specs.ActionTruth as Module
 use Rattle.pcal_tree.specs.Algorithm.{Assignments, Binds, no_binds, one_of, is, Statement, assign, await, print, assert, skip, branch, either, with, Statements, done, then, mark, Branches, no_branches, or}
 use Rattle.pcal_tree.specs.Scope.{State, Scope, bound, place_of}
 use Rattle.action_builder.specs.Assigned.{Names, member, more, heads, assigned, assigned_in, assigned_by}
@@ -19,7 +19,7 @@ use Rattle.action_builder.proofs.Names.{append_none, heads_same, one_names, all_
 use Rattle.action_builder.specs.laws.States.{mid}
 use Rattle.action_builder.proofs.Effects.{effect_names, effects_names, ways_names, Effects, parts_of, effect_of, effects_of, ways_of, nested}
 use Rattle.action_builder.proofs.Actions.{minus, all_same, hold, hold_some, holds, hold_sets, build, build_one, build_some, ended, value_for}
-use Rattle.action_builder.specs.laws.Ready.{SettledOne, Settled, SettledSome, Readable, IsWithin, Stands, FineMoves, FineBinds, FineOne, Fine, FineSome, values_of, holds_on}
+use Rattle.action_builder.specs.laws.Ready.{SettledOne, Settled, SettledSome, Readable, IsWithin, Stands, FineAssignments, FineBinds, FineOne, Fine, FineSome, values_of, holds_on}
 use Rattle.action_builder.proofs.Matching.{Matches, match_and, match_or, match_value, match_test, match_some, match_one, match_true, match_told, match_print, match_assert, exp_law, bound_env, paired_bound, scoped_bound, own_fine, side_fine, unchanged_same}
 use Rattle.action_builder.proofs.Actions as Action
 use Rattle.action_builder.specs.Written.{own, side_of, primed, left_of, unchanged_of, onto, filled, settings_of, nested_items, branch_items, write_one, write, write_some}
@@ -34,11 +34,11 @@ stands_bound U vs sc env x v out k = record { paired = paired_bound U vs sc env 
 
 -- ---- lists of items
 
-pub hold_onto : (s t : Valuation) (e : Env) (xs ys : Items) → items_hold plain s t e (onto xs ys) ≡ Module.and_then (items_hold plain s t e xs) (items_hold plain s t e ys)
+pub hold_onto : (s t : Valuation) (e : Env) (xs ys : Items) → items_hold plain s t e (onto xs ys) ≡ and_then (items_hold plain s t e xs) (items_hold plain s t e ys)
 hold_onto s t e no_items ys = refl
-hold_onto s t e (item x xs) ys = ap (Module.and_then (Module.item_holds plain s t e x)) (hold_onto s t e xs ys) ∙ assoc (Module.item_holds plain s t e x) (items_hold plain s t e xs) (items_hold plain s t e ys)
+hold_onto s t e (item x xs) ys = ap (and_then (Module.item_holds plain s t e x)) (hold_onto s t e xs ys) ∙ assoc (Module.item_holds plain s t e x) (items_hold plain s t e xs) (items_hold plain s t e ys)
   where
-    assoc : (p q r : Verdict) → Module.and_then p (Module.and_then q r) ≡ Module.and_then (Module.and_then p q) r
+    assoc : (p q r : Verdict) → and_then p (and_then q r) ≡ and_then (and_then p q) r
     assoc (Ok true) q r = refl
     assoc (Ok false) q r = refl
     assoc (Err k) q r = refl
@@ -52,7 +52,7 @@ match_unchanged vs all own s t e w = by (left_of vs all own) (unchanged_same vs 
   where
     by : (xs : List Word) → Module.are_unchanged (values_of vs s) (values_of vs t) xs ≡ all_same (minus all own) s t → Matches (items_hold plain (values_of vs s) (values_of vs t) e (unchanged_of xs)) (and_then (Ok (all_same (minus all own) s t)) (Ok true))
     by [] q = subst (λ b. Matches (Ok true) (and_then (Ok b) (Ok true))) q refl
-    by (x ∷ xs) q = subst (λ b. Matches (Module.and_then (Ok b) (Ok true)) (and_then (Ok (all_same (minus all own) s t)) (Ok true))) (sym q) (match_true (Ok (all_same (minus all own) s t)) (Ok (all_same (minus all own) s t)) refl)
+    by (x ∷ xs) q = subst (λ b. Matches (and_then (Ok b) (Ok true)) (and_then (Ok (all_same (minus all own) s t)) (Ok true))) (sym q) (match_true (Ok (all_same (minus all own) s t)) (Ok (all_same (minus all own) s t)) refl)
 
 -- a branch with its UNCHANGED
 match_branch : (vs all own : List Word) (s t : State) (e : Env) (at : Place) (xs : Items) (is' : Action.Items) (sc : Scope) → Within all vs → Matches (items_hold plain (values_of vs s) (values_of vs t) e xs) (hold is' sc s t) → Matches (items_hold plain (values_of vs s) (values_of vs t) e (branch_items vs at xs all own)) (hold (ended is' (Action.unchanged (minus all own))) sc s t)
@@ -69,14 +69,14 @@ match_lists_same vs all own all' own' p q s t e at xs is' sc w h =
 
 -- ---- assignments
 
-match_setting : (U : Readable) (vs : List Word) (A : Names) (ms : Assignments) → FineMoves U vs A ms → (sc : Scope) (env : State → State → Env) → Stands U vs sc env → IsWithin A (member vs) → (s t : State) (y : Word) → member (heads ms) y ≡ true → member vs y ≡ true → Matches ((eval plain (primed A (side_of y (own y ms))) (env s t)).value >>= (λ v. Ok (is_value (values_of vs t y) v))) ((value_for y (parts_of plain ms) sc (mid s t A)) >>= (λ v. Ok (same (t y) v)))
+match_setting : (U : Readable) (vs : List Word) (A : Names) (ms : Assignments) → FineAssignments U vs A ms → (sc : Scope) (env : State → State → Env) → Stands U vs sc env → IsWithin A (member vs) → (s t : State) (y : Word) → member (heads ms) y ≡ true → member vs y ≡ true → Matches ((eval plain (primed A (side_of y (own y ms))) (env s t)).value >>= (λ v. Ok (is_value (values_of vs t y) v))) ((value_for y (parts_of plain ms) sc (mid s t A)) >>= (λ v. Ok (same (t y) v)))
 match_setting U vs A ms f sc env k w s t y m in_vs =
     let e : Tree = side_of y (own y ms) in
     subst (λ o. Matches (o.value >>= (λ v. Ok (is_value (values_of vs t y) v))) ((value_for y (parts_of plain ms) sc (mid s t A)) >>= (λ v. Ok (same (t y) v)))) (sym (exp_law U vs A sc env k.paired w (side_of y (own y ms)) (side_fine U A y (own y ms) (f.readable y m) (own_fine U A y ms f.sides)) s t))
     (subst (λ z. Matches ((eval plain (side_of y (own y ms)) (sc.env (mid s t A))).value >>= (λ v. Ok (is_value (values_of vs t y) v))) (z >>= (λ v. Ok (same (t y) v)))) (value_law (member vs) y ms f.left sc k.scoped.part (mid s t A) (λ at. k.scoped.reads y in_vs at (mid s t A)))
     (match_value (eval plain (side_of y (own y ms)) (sc.env (mid s t A))).value (λ v. Ok (is_value (values_of vs t y) v)) (λ v. Ok (same (t y) v)) (λ v. ap (λ b. is_value (cond b (Some (t y)) None) v) in_vs)))
 
-match_sets : (U : Readable) (vs : List Word) (A : Names) (ms : Assignments) → FineMoves U vs A ms → (sc : Scope) (env : State → State → Env) → Stands U vs sc env → IsWithin A (member vs) → (s t : State) (ys : List Word) → Within ys (heads ms) → Within ys vs → (rest : Items) (r : Outcome Bool) → Matches (holds_on vs env rest s t) r → Matches (holds_on vs env (settings_of A ms ys rest) s t) (and_then (hold_sets (Action.settings_of A (parts_of plain ms) ys) sc s t) r)
+match_sets : (U : Readable) (vs : List Word) (A : Names) (ms : Assignments) → FineAssignments U vs A ms → (sc : Scope) (env : State → State → Env) → Stands U vs sc env → IsWithin A (member vs) → (s t : State) (ys : List Word) → Within ys (heads ms) → Within ys vs → (rest : Items) (r : Outcome Bool) → Matches (holds_on vs env rest s t) r → Matches (holds_on vs env (settings_of A ms ys rest) s t) (and_then (hold_sets (Action.settings_of A (parts_of plain ms) ys) sc s t) r)
 match_sets U vs A ms f sc env k w s t [] i j rest r h = h
 match_sets U vs A ms f sc env k w s t (y ∷ ys) i j rest r h =
     subst (Matches (holds_on vs env (settings_of A ms (y ∷ ys) rest) s t)) (sym (and_then_assoc ((value_for y (parts_of plain ms) sc (mid s t A)) >>= (λ v. Ok (same (t y) v))) (hold_sets (Action.settings_of A (parts_of plain ms) ys) sc s t) r))
@@ -96,8 +96,8 @@ Bodies U vs A s t body es = (sc : Scope) (env : State → State → Env) → Sta
 match_nested : (U : Readable) (vs : List Word) (A : Names) → IsWithin A (member vs) → (s t : State) (bs : Binds) → FineBinds U vs A bs → (body : Items) (es : Effects) → Bodies U vs A s t body es → Bodies U vs A s t (nested_items A bs body) (nested plain bs es)
 match_nested U vs A w s t no_binds f body es h sc env k = h sc env k
 match_nested U vs A w s t (one_of x e bs) f body es h sc env k = match_true _ _ (
-    subst (λ o. Matches (o.value >>= (λ v. as_set (Module.place_of (primed A e)) v (λ us. at_each us (λ u. holds_on vs (bound_env x.word u env) (nested_items A bs body) s t)))) (holds (Action.some x.word (Action.primed A (Rattle.pcal_tree.specs.Scope.members plain e)) (build A (nested plain bs es))) sc s t)) (sym (exp_law U vs A sc env k.paired w e f.0 s t))
-    (match_some (eval plain e (sc.env (mid s t A))).value (Module.place_of (primed A e)) (place_of e sc) (λ u. holds_on vs (bound_env x.word u env) (nested_items A bs body) s t) (λ u. hold (build A (nested plain bs es)) (bound x.word u sc) s t)
+    subst (λ o. Matches ((o.value >>= members_at (root_place (primed A e))) >>= (λ us. Module.some_member us (λ u. holds_on vs (bound_env x.word u env) (nested_items A bs body) s t))) (holds (Action.some x.word (Action.primed A (Rattle.pcal_tree.specs.Scope.members plain e)) (build A (nested plain bs es))) sc s t)) (sym (exp_law U vs A sc env k.paired w e f.0 s t))
+    (match_some (eval plain e (sc.env (mid s t A))).value (root_place (primed A e)) (place_of e sc) (λ u. holds_on vs (bound_env x.word u env) (nested_items A bs body) s t) (λ u. hold (build A (nested plain bs es)) (bound x.word u sc) s t)
     (λ u. match_nested U vs A w s t bs f.2 body es h (bound x.word u sc) (bound_env x.word u env) (stands_bound U vs sc env x.word u f.1 k))))
 match_nested U vs A w s t (is x e bs) f body es h sc env k = match_true _ _ (
     subst (λ o. Matches (o.value >>= (λ u. holds_on vs (bound_env x.word u env) (nested_items A bs body) s t)) (holds (Action.some x.word (Action.primed A (Rattle.action_builder.proofs.Effects.one_member plain e)) (build A (nested plain bs es))) sc s t)) (sym (exp_law U vs A sc env k.paired w e f.0 s t))
@@ -119,23 +119,23 @@ mutual
       subst (λ xs. Matches (holds_on vs env (settings_of A ms (heads ms) rest) s t) (and_then (hold_sets (Action.settings_of A (parts_of plain ms) xs) sc s t) r)) (sym (heads_same plain ms))
       (match_sets U vs A ms f sc env k w s t (heads ms) (λ x m. m) (one_in (member vs) (assign ms) z) rest r h)
   match_item U vs A at (await e) z f w sc env k s t rest r h = match_and _ (holds_on vs env rest s t) _ r (
-      subst (λ o. Matches (o.value >>= (λ v. as_truth (Module.place_of (primed A e)) v Ok)) (holds (build_one A (effect_of plain at (await e))) sc s t)) (sym (exp_law U vs A sc env k.paired w e f s t))
-      (match_told (eval plain e (sc.env (mid s t A))).value (Module.place_of (primed A e)) (place_of e sc))) h
+      subst (λ o. Matches (o.value >>= truth_at (root_place (primed A e))) (holds (build_one A (effect_of plain at (await e))) sc s t)) (sym (exp_law U vs A sc env k.paired w e f s t))
+      (match_told (eval plain e (sc.env (mid s t A))).value (root_place (primed A e)) (place_of e sc))) h
   match_item U vs A at (print e) z f w sc env k s t rest r h = match_and _ (holds_on vs env rest s t) _ r (
-      subst (λ d. Matches ((part_values (eval plain (primed A e) ∷ []) (env s t) >>= (λ us. (called at d us).value)) >>= (λ v. as_truth at v Ok)) (holds (build_one A (effect_of plain at (print e))) sc s t)) (sym (k.paired.print s t))
-      (subst (λ o. Matches (((o.value >>= (λ v. Ok (v ∷ []))) >>= standard_value plain printed at) >>= (λ v. as_truth at v Ok)) (holds (build_one A (effect_of plain at (print e))) sc s t)) (sym (exp_law U vs A sc env k.paired w e f s t))
+      subst (λ d. Matches ((part_values (eval plain (primed A e) ∷ []) (env s t) >>= (λ us. (called at d us).value)) >>= truth_at at) (holds (build_one A (effect_of plain at (print e))) sc s t)) (sym (k.paired.print s t))
+      (subst (λ o. Matches (((o.value >>= (λ v. Ok (v ∷ []))) >>= standard_value plain printed at) >>= truth_at at) (holds (build_one A (effect_of plain at (print e))) sc s t)) (sym (exp_law U vs A sc env k.paired w e f s t))
       (match_print (eval plain e (sc.env (mid s t A))).value at))) h
   match_item U vs A at (assert e) z f w sc env k s t rest r h = match_and _ (holds_on vs env rest s t) _ r (
-      subst (λ d. Matches ((part_values (eval plain (primed A e) ∷ eval plain (Rattle.tla_expr.specs.Tree.node (Rattle.tla_expr.specs.Tree.string (codes "Failure of assertion.")) at no_trees) ∷ []) (env s t) >>= (λ us. (called at d us).value)) >>= (λ v. as_truth at v Ok)) (holds (build_one A (effect_of plain at (assert e))) sc s t)) (sym (k.paired.assert s t))
-      (subst (λ o. Matches (((o.value >>= (λ v. Ok (v ∷ Rattle.tla_value.specs.Value.text (codes "Failure of assertion.") ∷ []))) >>= standard_value plain asserted at) >>= (λ v. as_truth at v Ok)) (holds (build_one A (effect_of plain at (assert e))) sc s t)) (sym (exp_law U vs A sc env k.paired w e f s t))
+      subst (λ d. Matches ((part_values (eval plain (primed A e) ∷ eval plain (Rattle.tla_expr.specs.Tree.node (Rattle.tla_expr.specs.Tree.string (codes "Failure of assertion.")) at no_trees) ∷ []) (env s t) >>= (λ us. (called at d us).value)) >>= truth_at at) (holds (build_one A (effect_of plain at (assert e))) sc s t)) (sym (k.paired.assert s t))
+      (subst (λ o. Matches (((o.value >>= (λ v. Ok (v ∷ Rattle.tla_value.specs.Value.text (codes "Failure of assertion.") ∷ []))) >>= standard_value plain asserted at) >>= truth_at at) (holds (build_one A (effect_of plain at (assert e))) sc s t)) (sym (exp_law U vs A sc env k.paired w e f s t))
       (match_assert (eval plain e (sc.env (mid s t A))).value (Rattle.tla_value.specs.Value.text (codes "Failure of assertion.")) at (place_of e sc) at))) h
   match_item U vs A at skip z f w sc env k s t rest r h = h
   match_item U vs A at (branch e x y) z f w sc env k s t rest r h =
       let xs = assigned_in x in
       let ys = assigned_in y in
       match_and _ (holds_on vs env rest s t) _ r (
-      subst (λ o. Matches (o.value >>= (λ v. as_truth (Module.place_of (primed A e)) v (λ b. cond b (holds_on vs env (branch_items vs at (write vs A x) ys xs) s t) (holds_on vs env (branch_items vs at (write vs A y) xs ys) s t)))) (holds (build_one A (effect_of plain at (branch e x y))) sc s t)) (sym (exp_law U vs A sc env k.paired w e f.0 s t))
-      (match_test (eval plain e (sc.env (mid s t A))).value (Module.place_of (primed A e)) (place_of e sc) _ (λ b. cond b (hold (ended (build A (effects_of plain x)) (Action.unchanged (minus (effects_names (effects_of plain y)) (effects_names (effects_of plain x))))) sc s t) (hold (ended (build A (effects_of plain y)) (Action.unchanged (minus (effects_names (effects_of plain x)) (effects_names (effects_of plain y))))) sc s t)) (λ b. match_cond b _ _ _ _
+      subst (λ o. Matches ((o.value >>= truth_at (root_place (primed A e))) >>= (λ b. cond b (holds_on vs env (branch_items vs at (write vs A x) ys xs) s t) (holds_on vs env (branch_items vs at (write vs A y) xs ys) s t))) (holds (build_one A (effect_of plain at (branch e x y))) sc s t)) (sym (exp_law U vs A sc env k.paired w e f.0 s t))
+      (match_test (eval plain e (sc.env (mid s t A))).value (root_place (primed A e)) (place_of e sc) _ (λ b. cond b (hold (ended (build A (effects_of plain x)) (Action.unchanged (minus (effects_names (effects_of plain y)) (effects_names (effects_of plain x))))) sc s t) (hold (ended (build A (effects_of plain y)) (Action.unchanged (minus (effects_names (effects_of plain x)) (effects_names (effects_of plain y))))) sc s t)) (λ b. match_cond b _ _ _ _
       (match_lists_same vs ys xs _ _ (all_names plain y) (all_names plain x) s t (env s t) at (write vs A x) (build A (effects_of plain x)) sc (all_in (member vs) y z.1) (match_all U vs A x z.0 f.1 w sc env k s t))
       (match_lists_same vs xs ys _ _ (all_names plain x) (all_names plain y) s t (env s t) at (write vs A y) (build A (effects_of plain y)) sc (all_in (member vs) x z.0) (match_all U vs A y z.1 f.2 w sc env k s t))))) h
   match_item U vs A at (either bs) z f w sc env k s t rest r h =
@@ -145,8 +145,8 @@ mutual
       match_or _ (Ok false) _ (Ok false)
       (match_lists_same vs (assigned_in b) (assigned_in b) _ _ (append_none (effects_names (effects_of plain b)) ∙ all_names plain b) (all_names plain b) s t (env s t) at (write vs A b) (build A (effects_of plain b)) sc (all_in (member vs) b z) (match_all U vs A b z f.1 w sc env k s t)) refl) h
   match_item U vs A at (with (one_of x e bs) b) z f w sc env k s t rest r h = match_and _ (holds_on vs env rest s t) _ r (
-      subst (λ o. Matches (o.value >>= (λ v. as_set (Module.place_of (primed A e)) v (λ us. at_each us (λ u. holds_on vs (bound_env x.word u env) (nested_items A bs (filled at (write vs A b))) s t)))) (holds (build_one A (effect_of plain at (with (one_of x e bs) b))) sc s t)) (sym (exp_law U vs A sc env k.paired w e f.0.0 s t))
-      (match_some (eval plain e (sc.env (mid s t A))).value (Module.place_of (primed A e)) (place_of e sc) (λ u. holds_on vs (bound_env x.word u env) (nested_items A bs (filled at (write vs A b))) s t) (λ u. hold (build A (nested plain bs (effects_of plain b))) (bound x.word u sc) s t)
+      subst (λ o. Matches ((o.value >>= members_at (root_place (primed A e))) >>= (λ us. Module.some_member us (λ u. holds_on vs (bound_env x.word u env) (nested_items A bs (filled at (write vs A b))) s t))) (holds (build_one A (effect_of plain at (with (one_of x e bs) b))) sc s t)) (sym (exp_law U vs A sc env k.paired w e f.0.0 s t))
+      (match_some (eval plain e (sc.env (mid s t A))).value (root_place (primed A e)) (place_of e sc) (λ u. holds_on vs (bound_env x.word u env) (nested_items A bs (filled at (write vs A b))) s t) (λ u. hold (build A (nested plain bs (effects_of plain b))) (bound x.word u sc) s t)
       (λ u. match_nested U vs A w s t bs f.0.2 (filled at (write vs A b)) (effects_of plain b) (λ sc' env' k'. match_filled _ _ _ at (write vs A b) _ (match_all U vs A b z f.1 w sc' env' k' s t)) (bound x.word u sc) (bound_env x.word u env) (stands_bound U vs sc env x.word u f.0.1 k)))) h
   match_item U vs A at (with (is x e bs) b) z f w sc env k s t rest r h = match_and _ (holds_on vs env rest s t) _ r (
       subst (λ o. Matches (o.value >>= (λ u. holds_on vs (bound_env x.word u env) (nested_items A bs (filled at (write vs A b))) s t)) (holds (build_one A (effect_of plain at (with (is x e bs) b))) sc s t)) (sym (exp_law U vs A sc env k.paired w e f.0.0 s t))

@@ -14,11 +14,11 @@ use Rattle.action_builder.specs.Assigned.{Names, member, more}
 use Rattle.action_builder.proofs.Actions.{Apart}
 use Rattle.action_builder.specs.laws.Ready.{Settled, Paired, Scoped}
 use Rattle.action_builder.specs.laws.Scopes.{StandsAtPath, Inner, own_scope, own_path, Whole}
-use Rattle.action_builder.specs.laws.Jumps.{Machine, Initials, Machines, MachinesWithin}
+use Rattle.action_builder.specs.laws.Jumps.{RoutineStands, Initials, RoutinesStand, RoutinesStandWithin}
 use Rattle.action_builder.specs.Settled.{settled}
 use Rattle.action_builder.specs.laws.LabelSteps.{prepared_of, IsPrepared, IsReady}
 use Rattle.action_builder.specs.Prepared.{none}
-use Rattle.action_builder.specs.laws.Sample.{macros, unexpanded, program, routine, me, actor, self, variables, own, plain_env, plain_scope, scope, env, any_name, initials, step}
+use Rattle.action_builder.specs.laws.Sample.{macros, unexpanded, program, routine, me, actor, self, variables, own, plain_env, plain_scope, scope, env, any_name, initials, places, step}
 use Rattle.action_builder.proofs.Names.{each_name}
 use Rattle.action_builder.proofs.Decided.{clear_list, fine_list}
 use Rattle.action_builder.proofs.Prepared.{own_stands}
@@ -59,7 +59,7 @@ origins x at = by (own x)
     by true = refl
     by false = refl
 
-machine : (p : Routine) → Each (StandsAtPath (own_scope plain self own scope) (local_index actor p)) (written_all program p (Rattle.pcal_tree.specs.Algorithm.locals p)) → Machine program actor p (own_scope plain self own scope)
+machine : (p : Routine) → Each (StandsAtPath (own_scope plain self own scope) (local_index actor p)) (written_all program p (Rattle.pcal_tree.specs.Algorithm.locals p)) → RoutineStands program actor p (own_scope plain self own scope)
 machine p h = record {
   pc = there pc refl;
   stack = there stack refl;
@@ -73,24 +73,24 @@ some_is : (b : Bool) (r p : Routine) → ◌≡◌ {A = Option Routine} (cond b 
 some_is true r p e = cc
 some_is false r p e = cc
 
-machines : Machines program actor routine initials (own_scope plain self own scope)
+machines : RoutinesStand program actor routine initials (own_scope plain self own scope)
 machines = record {
   own = machine routine (there (codes "y") refl, tt);
-  called = λ x p e. subst (λ q. Machine program actor q (own_scope plain self own scope)) (some_is (bytes_eq (codes "P") x) _ p e) (machine _ (there (codes "a") refl, (there (codes "b") refl, tt)));
-  initials = λ x p e at. subst (λ q. Initials program actor q at (own_scope plain self own scope) (initials.place q at) (initials.initial q) q.variables) (some_is (bytes_eq (codes "P") x) _ p e) (refl, (λ s. refl), tt);
+  called = λ x p e. subst (λ q. RoutineStands program actor q (own_scope plain self own scope)) (some_is (bytes_eq (codes "P") x) _ p e) (machine _ (there (codes "a") refl, (there (codes "b") refl, tt)));
+  initials = λ x p e at. subst (λ q. Initials program actor q at (own_scope plain self own scope) (initials.initial q) q.variables) (some_is (bytes_eq (codes "P") x) _ p e) ((λ s. refl), tt);
 }
 
-pub within : MachinesWithin program actor routine initials (λ w. false) (own_scope plain self own scope)
-within inner k = subst (Machines program actor routine initials) (sym (only_scope (own_scope plain self own scope) inner k)) machines
+pub within : RoutinesStandWithin program actor routine initials (λ w. false) (own_scope plain self own scope)
+within inner k = subst (RoutinesStand program actor routine initials) (sym (only_scope (own_scope plain self own scope) inner k)) machines
 
 -- ---- the step
 
 pub prepared : IsPrepared step
 prepared = record {
   free = λ x at p s. refl;
-  does = rules_do program actor routine initials (λ w. false) (own_scope plain self own scope) refl within;
+  does = rules_do program actor routine initials places (λ w. false) (own_scope plain self own scope) refl within;
   tidy = (tt, (tt, (((tt, tt), (refl, tt), (λ e. tt)), tt)));
-  clean = clear_list plain (owned self own) (settled step.moving step.here step.exit step.statements) refl;
+  clean = clear_list plain (owned self own) (settled step.jumps step.here step.exit step.statements) refl;
 }
 
 apart : (A : Names) (xs : List Word) → Each (λ w. A w ≡ false) xs → Apart A xs

@@ -8,11 +8,11 @@ use Rattle.module_text.specs.Module.{Items}
 use Rattle.pcal_tree.specs.Algorithm.{Statements}
 use Rattle.pcal_tree.specs.Expand.{graft_all}
 use Rattle.action_builder.specs.Assigned.{Names, assigned_in}
-use Rattle.action_builder.specs.Settled.{Moving, settled}
+use Rattle.action_builder.specs.Settled.{WrittenJumps, settled}
 use Rattle.action_builder.specs.Written.{left_of, unchanged_of, onto, write}
 
 -- jumps settled, from the label `here` with the exit l, and then x[self] for each x of own
-abbrev pub prepared : Moving → Word → (Word → Bool) → Word → Word → Statements → Statements
+abbrev pub prepared : WrittenJumps → Word → (Word → Bool) → Word → Word → Statements → Statements
 prepared W self own here l ss = graft_all (owned self own) (settled W here l ss)
 
 -- no variable is assigned yet

@@ -5,10 +5,10 @@ use Rattle.pcal_tree.specs.Algorithm.{Name, Span, Statement, assign, await, prin
 use Rattle.pcal_tree.specs.Run.{unlabelled, label_of}
 
 -- the assignments that stand for a jump to a label, a call that returns to a label, and a return
-pub record Moving : Type 0 where
-  pub pc : Word → Statements
+pub record WrittenJumps : Type 0 where
+  pub goto : Word → Statements
   pub call : Span → Name → Trees → Word → Statements
-  pub back : Span → Statements
+  pub return : Span → Statements
 
 abbrev mutual
   pub jumps_one : Statement → Bool
@@ -33,10 +33,10 @@ abbrev mutual
 
 -- `here`: the label at which the statement or list stands; l: the label of what follows; rest: what follows, settled
 abbrev mutual
-  pub settled_one : Moving → Word → Word → Span → Statement → Statements → Statements
-  settled_one W here l at (goto m) rest = W.pc m
+  pub settled_one : WrittenJumps → Word → Word → Span → Statement → Statements → Statements
+  settled_one W here l at (goto m) rest = W.goto m
   settled_one W here l at (call p ts) rest = W.call at p ts l
-  settled_one W here l at return rest = W.back at
+  settled_one W here l at return rest = W.return at
   settled_one W here l at (branch e a b) rest =
       cond (jumps a || jumps b) (then at (branch e (settled W unlabelled l a) (settled W unlabelled l b)) done) (then at (branch e a b) rest)
   settled_one W here l at (either bs) rest = cond (jumps_some bs) (then at (either (settled_some W l bs)) done) (then at (either bs) rest)
@@ -45,11 +45,11 @@ abbrev mutual
   settled_one W here l at st rest = then at st rest
 
   -- l: the exit
-  pub settled : Moving → Word → Word → Statements → Statements
-  settled W here l done = W.pc l
+  pub settled : WrittenJumps → Word → Word → Statements → Statements
+  settled W here l done = W.goto l
   settled W here l (then at st rest) = settled_one W here (label_of rest l) at st (settled W unlabelled l rest)
-  settled W here l (mark m k rest) = W.pc m.word
+  settled W here l (mark m k rest) = W.goto m.word
 
-  pub settled_some : Moving → Word → Branches → Branches
+  pub settled_some : WrittenJumps → Word → Branches → Branches
   settled_some W l no_branches = no_branches
   settled_some W l (or b bs) = or (settled W unlabelled l b) (settled_some W l bs)

@@ -1,6 +1,7 @@
 -- The words in which the laws are stated.
 pub mod States
 pub mod Scopes
+pub mod Places
 pub mod Settling
 pub mod Jumps
 pub mod Ready

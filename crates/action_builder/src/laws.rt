@@ -15,7 +15,8 @@ ghost use Rattle.tla_value.specs.Related.{In};
 ghost use Rattle.tla_value.specs.Grafts.{owned};
 ghost use Rattle.tla_value.specs.Definitions.{Valuation};
 ghost use Rattle.module_text.specs.Module.{Items};
-ghost use Rattle.module_text.specs.Truth.{TrueExactly, items_hold};
+ghost use Rattle.tla_value.specs.Value.{TrueExactly};
+ghost use Rattle.module_text.specs.ActionTruth.{items_hold};
 ghost use Rattle.pcal_tree.specs.Algorithm.{Statements, Macro, Assignments, Routine};
 ghost use Rattle.pcal_tree.specs.Scope.{State, Scope};
 ghost use Rattle.pcal_tree.specs.Run.{Rules, Follow, run, exit_to, unlabelled};
@@ -24,19 +25,19 @@ ghost use Rattle.pcal_tree.specs.Expand.{graft_all, expanded, written_out, expan
 ghost use Rattle.pcal_tree.specs.laws.Expansion.{Calls, Clean, FineCall, BareBodies, AnyPlace};
 ghost use Rattle.pcal_tree.specs.Program.{Program, Actor};
 ghost use Rattle.action_builder.specs.Assigned.{Names, more, assigned_in};
-ghost use Rattle.action_builder.specs.laws.States.{value_after, Agree, BadSomewhere};
+ghost use Rattle.action_builder.specs.laws.States.{value_after, SameOn, BadSomewhere};
 ghost use Rattle.action_builder.specs.laws.Ready.{LeftSides, Readable, holds_on};
 ghost use Rattle.action_builder.specs.laws.Scopes.{IsPlain as Plain, Inner, StandsAtPath, own_scope, own_path, Whole};
-ghost use Rattle.action_builder.specs.laws.Settling.{to_end, Callable, Tidy, CloseCourses, Does};
-ghost use Rattle.action_builder.specs.Jumps.{Written as Initial, moving};
-ghost use Rattle.action_builder.specs.laws.Jumps.{base_rules, callable, MachinesWithin};
-ghost use Rattle.action_builder.specs.Settled.{Moving, settled};
+ghost use Rattle.action_builder.specs.laws.Settling.{to_end, Callable, Tidy, CloseCourses, DoesAsRules};
+ghost use Rattle.action_builder.specs.Jumps.{InitialValues, JumpPlaces, written_jumps};
+ghost use Rattle.action_builder.specs.laws.Jumps.{base_rules, callable, RoutinesStandWithin};
+ghost use Rattle.action_builder.specs.Settled.{WrittenJumps, settled};
 ghost use Rattle.action_builder.specs.laws.LabelSteps.{LabelStep, prepared_of, items_of, action_of, IsPrepared, IsReady, EndsIn, IsTroubled, StepsTo, MeetsTrouble};
 ghost use Rattle.action_builder.specs.Prepared.{none};
 ghost use Rattle.action_builder.specs.Written.{except_of};
 ghost use Rattle.action_builder.specs.SingleProcess.{in_place_of, graft_items};
-ghost use Rattle.action_builder.specs.laws.Grafts.{ClearItems, SameButPlaces};
-ghost use Rattle.tla_value.specs.laws.FreeNames.{Any};
+ghost use Rattle.action_builder.specs.laws.Grafts.{ClearItems};
+ghost use Rattle.action_builder.specs.laws.Places.{SameButPlaces};
 ghost use Rattle.action_builder.specs.laws.Sample as sample;
 
 /// The items that are written for a step where the variables of A are assigned already, on a pair of states. Where no
@@ -54,7 +55,7 @@ pub fn items_are_true_of_the_ends_of_a_step()
     ensures faults { (d : LabelStep) → IsPrepared d → (U : Readable) (vs : List Word) (env : State → State → Env) (A : Names) → IsReady U vs env A d → (s t : State)
         → (BadSomewhere A t (holds_on vs env (items_of vs A d) s) ↔ IsTroubled A d s t) }
     ensures reads { (d : LabelStep) (U : Readable) (vs : List Word) (env : State → State → Env) (A : Names) → IsReady U vs env A d → (s t u : State)
-        → Agree (more A (assigned_in (prepared_of d))) t u → (b : Bool) → holds_on vs env (items_of vs A d) s t ≡ Ok b → holds_on vs env (items_of vs A d) s u ≡ Ok b }
+        → SameOn (more A (assigned_in (prepared_of d))) t u → (b : Bool) → holds_on vs env (items_of vs A d) s t ≡ Ok b → holds_on vs env (items_of vs A d) s u ≡ Ok b }
 {}
 
 /// The action of a step, which ends with UNCHANGED, on a pair of states. Where no outcome of the step is trouble, it is
@@ -75,14 +76,15 @@ pub fn actions_are_true_of_steps()
 /// Statements whose jumps, loops, calls and returns are written as assignments have the ends of the statements
 /// as they are, and trouble where these have trouble.
 pub fn settled_statements_have_the_same_ends()
-    ensures { (M : Rules) (W : Moving) (f : Word → Bool) (g : Callable) (sc : Scope) → Does M W (Inner f sc) (In f) g → (here l : Word) (ss : Statements) → Tidy (In f) g ss
+    ensures { (M : Rules) (W : WrittenJumps) (f : Word → Bool) (g : Callable) (sc : Scope) → DoesAsRules M W (Inner f sc) (In f) g → (here l : Word) (ss : Statements) → Tidy (In f) g ss
         → CloseCourses (run M unlabelled (settled W here l ss) sc to_end) (run M here ss sc (exit_to M l)) }
 {}
 
-/// The assignments written for the jumps, calls and returns of a routine do what the rules of a step say.
-pub fn written_moves_do_what_the_rules_say()
-    ensures { (P : Program) (v : Actor) (u : Routine) (I : Initial) (f : Word → Bool) (sc : Scope) → P.check ≡ plain → MachinesWithin P v u I f sc
-        → Does (base_rules P v u) (moving P v u I) (Inner f sc) (In f) (callable P) }
+/// The assignments written for the jumps, calls and returns of a routine, at any places, which are the same for all
+/// processes, do what the rules of a step say.
+pub fn written_jumps_do_what_the_rules_say()
+    ensures { (P : Program) (v : Actor) (u : Routine) (I : InitialValues) (places : JumpPlaces) (f : Word → Bool) (sc : Scope) → P.check ≡ plain → RoutinesStandWithin P v u I f sc
+        → DoesAsRules (base_rules P v u) (written_jumps P u I places) (Inner f sc) (In f) (callable P) }
 {}
 
 /// With the variables of a process written as functions of its identifier, statements take the courses that they
@@ -118,7 +120,7 @@ pub fn written_out_steps_begin_alike()
 /// these laws ask.
 pub fn the_sample_step_meets_all_that_is_asked()
     ensures expanded { Calls (FineCall sample.macros) sample.unexpanded × BareBodies sample.macros }
-    ensures jumps { MachinesWithin sample.program sample.actor sample.routine sample.initials sample.step.names (own_scope plain sample.self sample.own sample.scope) }
+    ensures jumps { RoutinesStandWithin sample.program sample.actor sample.routine sample.initials sample.step.names (own_scope plain sample.self sample.own sample.scope) }
     ensures prepared { IsPrepared sample.step }
     ensures ready { IsReady sample.any_name sample.variables sample.env none sample.step }
 {}

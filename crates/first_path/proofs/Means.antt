@@ -10,12 +10,13 @@ use Rattle.tla_value.specs.declared.fault.FaultKind.TheVariants.{NotInteger}
 use Rattle.tla_value.specs.Value.{Value, truth, int, text, model, set, fun, Outcome, fault, Sense, ◌>>=◌}
 use Rattle.tla_value.specs.Order.{same}
 use Rattle.tla_value.specs.OrderLaws.{same_is, same_self}
-use Rattle.tla_value.specs.Stops.{plain}
+use Rattle.tla_value.specs.Stops.{plain, truth_at}
 use Rattle.tla_value.specs.Strict.{strict_value}
 use Rattle.tla_value.proofs.Outcomes.{then_two}
 use Rattle.tla_value.specs.Meaning.{Env, just, eval}
 use Rattle.pcal_tree.specs.Names.{first_free, free_from, is_taken}
-use Rattle.module_text.specs.Truth.{and_then, Verdict, as_truth, on, on_test, is_value, TrueExactly}
+use Rattle.tla_value.specs.Value.{and_then, TrueExactly}
+use Rattle.module_text.specs.ActionTruth.{Verdict, value_in, truth_in, is_value}
 use Rattle.module_text.proofs.Tells.{tells_of, tells_and, tells_as}
 use Rattle.first_path.specs.Form.{Operand, number_operand, variable_operand, Right, single, sum}
 use Rattle.first_path.specs.Placed.{leaf, infix_of, operand_tree, right_tree, is_at}
@@ -86,22 +87,22 @@ right_evaluates v w env h (sum a b) p q =
 
 -- of the variable's value and another
 tested : Place → Value → Sense → Verdict
-tested p u s = ((s.value >>= (λ v. Ok (v ∷ u ∷ []))) >>= strict_value plain (operator Equal) p) >>= (λ v. as_truth p v Ok)
+tested p u s = ((s.value >>= (λ v. Ok (v ∷ u ∷ []))) >>= strict_value plain (operator Equal) p) >>= truth_at p
 
 -- x = n
 pub number_tells : (x : Word) (w : Value) (env : Env) → StandsFor x w env → (n : ℕ) (p q : Place)
-    → TrueExactly (on_test plain env (infix_of Equal p (leaf (name x) p) (leaf (number n) q)) Ok) (w ≡ int (pos n))
+    → TrueExactly (truth_in plain env (infix_of Equal p (leaf (name x) p) (leaf (number n) q))) (w ≡ int (pos n))
 unfolding tested
 number_tells x w env h n p q =
-    tells_of (on_test plain env (infix_of Equal p (leaf (name x) p) (leaf (number n) q)) Ok) (Ok (same w (int (pos n)))) (w ≡ int (pos n))
+    tells_of (truth_in plain env (infix_of Equal p (leaf (name x) p) (leaf (number n) q))) (Ok (same w (int (pos n)))) (w ≡ int (pos n))
     (ap (tested p (int (pos n))) (h p)) (tells_same w (int (pos n)))
 
 -- pc = "L"
 pub label_tells : (l : Word) (w : Value) (env : Env) → StandsFor (codes "pc") w env → (p q : Place)
-    → TrueExactly (on_test plain env (is_at l p q) Ok) (w ≡ text l)
+    → TrueExactly (truth_in plain env (is_at l p q)) (w ≡ text l)
 unfolding tested
 label_tells l w env h p q =
-    tells_of (on_test plain env (is_at l p q) Ok) (Ok (same w (text l))) (w ≡ text l) (ap (tested p (text l)) (h p)) (tells_same w (text l))
+    tells_of (truth_in plain env (is_at l p q)) (Ok (same w (text l))) (w ≡ text l) (ap (tested p (text l)) (h p)) (tells_same w (text l))
 
 -- x' = v
 pub value_tells : (o : Option Value) (u v : Value) → o ≡ Some u → TrueExactly (Ok (is_value o v)) (u ≡ v)
@@ -109,9 +110,9 @@ value_tells o u v e = tells_of (Ok (is_value o v)) (Ok (same u v)) (u ≡ v) (ap
 
 -- x' = the right side
 pub right_tells : (v : Word) (w : Value) (env : Env) → StandsFor v w env → (r : Right) (p q : Place) (x : Value) → result r w ≡ Some x
-    → (o : Option Value) (u : Value) → o ≡ Some u → TrueExactly (on plain env (right_tree v r p q) (λ z. Ok (is_value o z))) (u ≡ x)
+    → (o : Option Value) (u : Value) → o ≡ Some u → TrueExactly (value_in plain env (right_tree v r p q) >>= (λ z. Ok (is_value o z))) (u ≡ x)
 right_tells v w env h r p q x e o u d =
-    tells_of (on plain env (right_tree v r p q) (λ z. Ok (is_value o z))) (Ok (is_value o x)) (u ≡ x)
+    tells_of (value_in plain env (right_tree v r p q) >>= (λ z. Ok (is_value o z))) (Ok (is_value o x)) (u ≡ x)
     (ap (λ g. g >>= (λ z. Ok (is_value o z))) (right_evaluates v w env h r p q ∙ ap (outcome p) e)) (value_tells o u x d)
 
 -- the last of several tests

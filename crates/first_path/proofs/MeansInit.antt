@@ -14,7 +14,9 @@ use Rattle.pcal_tree.specs.Scope.{State}
 use Rattle.pcal_tree.specs.Program.{Program}
 use Rattle.pcal_tree.specs.Calls.{label_value}
 use Rattle.pcal_tree.specs.InitialStates.{allowed, Initial}
-use Rattle.module_text.specs.Truth.{on_test, and_then, scope, init_holds, TrueExactly}
+use Rattle.tla_value.specs.Value.{and_then, TrueExactly}
+use Rattle.module_text.specs.ActionTruth.{truth_in}
+use Rattle.module_text.specs.ModuleTruth.{scope, init_holds}
 use Rattle.module_text.proofs.Tells.{tells_and, tells_as}
 use Rattle.first_path.specs.Form.{Parts, is_fit}
 use Rattle.first_path.specs.Placed.{Places, leaf, infix_of, is_at, algorithm_at, module_at, integers_alone}
@@ -73,8 +75,8 @@ module _ (p : Places) (f : Parts) (names : Naming) (values : Valuation) (k : Kep
       let S = on_variables program s in
       let d = two_variables p f names values s in
       let env = scope plain (module_at q f) values S no_state in
-      let first = on_test plain env (infix_of Equal (q 0) (leaf (name f.variable) (q 0)) (leaf (number f.initial) (q 1))) Ok in
-      let then = on_test plain env (is_at f.label (q 2) (q 3)) Ok in
+      let first = truth_in plain env (infix_of Equal (q 0) (leaf (name f.variable) (q 0)) (leaf (number f.initial) (q 1))) in
+      let then = truth_in plain env (is_at f.label (q 2) (q 3)) in
       let at = s pc ≡ text f.label in
       let reads_pc = reads_first q f values s S no_state pc d.1 in
       tells_as (and_then first (and_then then (Ok true))) (First f s) (Initial program s)

@@ -21,7 +21,9 @@ use Rattle.pcal_tree.specs.Scope.{State}
 use Rattle.pcal_tree.specs.Run.{Has}
 use Rattle.pcal_tree.specs.Program.{Program, Actor}
 use Rattle.pcal_tree.specs.Step.{StepFrom, course_of, pc_of, Step, Stutters}
-use Rattle.module_text.specs.Truth.{Verdict, on, on_test, and_then, or_all, acted, acts_in, is_value, is_unchanged, are_unchanged, scope, next_holds, TrueExactly}
+use Rattle.tla_value.specs.Value.{and_then, or_all, TrueExactly, ◌>>=◌}
+use Rattle.module_text.specs.ActionTruth.{Verdict, value_in, truth_in, acted, is_value, is_unchanged, are_unchanged}
+use Rattle.module_text.specs.ModuleTruth.{acts_in, scope, next_holds}
 use Rattle.module_text.proofs.Tells.{tells_and, tells_or, tells_as, tells_of}
 use Rattle.first_path.specs.Form.{number_operand, variable_operand, Right, single, sum, Parts, is_fit}
 use Rattle.first_path.specs.Placed.{Places, right_tree, is_at, algorithm_at, module_at, integers_alone}
@@ -70,10 +72,10 @@ abbrev Taken : Parts → State → State → Type 0
 Taken f s t = (s pc ≡ text f.label) × (Moved f s t × (t pc ≡ text (codes "Done")))
 
 first_item : Places → Parts → Env → Verdict
-first_item q f env = on_test plain env (is_at f.label (q 4) (q 5)) Ok
+first_item q f env = truth_in plain env (is_at f.label (q 4) (q 5))
 
 second_item : Places → Parts → Valuation → Env → Verdict
-second_item q f T env = on plain env (right_tree f.variable f.right (q 6) (q 7)) (λ v. Ok (is_value (T f.variable) v))
+second_item q f T env = value_in plain env (right_tree f.variable f.right (q 6) (q 7)) >>= (λ v. Ok (is_value (T f.variable) v))
 
 third_item : Valuation → Verdict
 third_item T = and_then (Ok (is_value (T pc) (text (codes "Done")))) (Ok true)
@@ -85,7 +87,7 @@ step_items q f T env = and_then (first_item q f env) (and_then (second_item q f 
 -- the action of the stuttering end
 abbrev end_items : Places → Parts → Valuation → Valuation → Env → Verdict
 end_items q f S T env =
-    and_then (on_test plain env (is_at (codes "Done") (q 9) (q 10)) Ok) (and_then (Ok (are_unchanged S T (f.variable ∷ pc ∷ []))) (Ok true))
+    and_then (truth_in plain env (is_at (codes "Done") (q 9) (q 10))) (and_then (Ok (are_unchanged S T (f.variable ∷ pc ∷ []))) (Ok true))
 
 third_tells : (T : Valuation) (t : State) → T pc ≡ Some (t pc) → TrueExactly (third_item T) (t pc ≡ text (codes "Done"))
 unfolding third_item
@@ -97,7 +99,7 @@ second_tells : (q : Places) (f : Parts) (s t : State) (T : Valuation) (env : Env
     → Good f s → TrueExactly (second_item q f T env) (Moved f s t)
 unfolding second_item
 second_tells q f s t T env h e (x, g) =
-    tells_as (on plain env (right_tree f.variable f.right (q 6) (q 7)) (λ v. Ok (is_value (T f.variable) v))) (t f.variable ≡ x) (Moved f s t)
+    tells_as (value_in plain env (right_tree f.variable f.right (q 6) (q 7)) >>= (λ v. Ok (is_value (T f.variable) v))) (t f.variable ≡ x) (Moved f s t)
     (right_tells f.variable (s f.variable) env h f.right (q 6) (q 7) x g (T f.variable) (t f.variable) e) (λ d. (x, g, d)) back
   where
     back : Moved f s t → t f.variable ≡ x
@@ -163,7 +165,7 @@ over_tells : (q : Places) (f : Parts) (s t : State) (S T : Valuation) (env : Env
     → TrueExactly (end_items q f S T env) (Over f s t)
 over_tells q f s t S T env k d e =
     let same = Ok (are_unchanged S T (f.variable ∷ pc ∷ [])) in
-    let at = on_test plain env (is_at (codes "Done") (q 9) (q 10)) Ok in
+    let at = truth_in plain env (is_at (codes "Done") (q 9) (q 10)) in
     let agree = Agree (f.variable ∷ pc ∷ []) s t in
     tells_and at (and_then same (Ok true)) (s pc ≡ text (codes "Done")) agree (label_tells (codes "Done") (s pc) env k (q 9) (q 10))
     (λ p. last_tells same agree (same_tells f.variable pc s t S T d e))

@@ -3,8 +3,6 @@ use Rattle.std.proofs.Common.{◌≡◌, ℕ, ◌+◌, ◌*◌, ◌-◌, ◌/◌
 use Rattle.std.specs.List.{list_all, list_any}
 use Rattle.std.specs.Str.{bytes_eq}
 use Rattle.std.specs.Fmt.{decimal}
-use Rattle.std.proofs.lemmas.Fmt.{decimal_by_steps_wide}
-use Rattle.std.proofs.lemmas.List.Sums.{fold-append}
 use Rattle.std.proofs.lemmas.Slice.Eq.{bytes_eq-Decides}
 use Rattle.std.proofs.lemmas.Bool.{and_parts, and_from, or_cases, le-leb, ltb-true, false_from_ne_true, both_ways}
 use Rattle.tla_token.specs.Lexemes.{number_of, is_word, is_letter, is_digit}
@@ -12,6 +10,7 @@ use Rattle.tla_token.specs.Signs.{is_among}
 use Rattle.tla_token.proofs.Spelled.{same_bytes}
 use Rattle.tla_token.proofs.Words.{all_append, digits_words}
 use Rattle.tla_expr.specs.Tree.{Word}
+use Rattle.tla_expr.proofs.SpelledTokens.{Spelled, decimal_spelled as digits_stand}
 use Rattle.tla_expr.specs.Lexical.{escaped, escapes}
 use Rattle.first_path.specs.Form.{is_name, is_small}
 
@@ -60,31 +59,8 @@ not_among vs w u e h =
 
 -- ---- numbers
 
--- digits, at least one, that stand for the number
-pub record Spelled (n : ℕ) (ds : List ℕ) : Type 0 where
-  pub some : 0 < length ds
-  pub digits : list_all is_digit ds ≡ true
-  pub value : number_of ds ≡ n
-
-a_digit : (m : ℕ) → m < 10 → is_digit (48 + m) ≡ true
-a_digit m l = and_from (nat_le 48 (48 + m)) (nat_le (48 + m) 57) (le-leb 48 (48 + m) (omega arith)) (le-leb (48 + m) 57 (omega arith))
-
-one_digit : (m : ℕ) → m < 10 → Spelled m ((48 + m) ∷ [])
-one_digit m l = record { some = omega arith; digits = and_from (is_digit (48 + m)) true (a_digit m l) refl; value = omega arith }
-
-more_digits : (m : ℕ) (ds : List ℕ) → 10 ≤ m → Spelled (m / 10) ds → Spelled m (ds ++ ((48 + m % 10) ∷ []))
-more_digits m ds l h =
-    let d = a_digit (m % 10) (omega arith) in
-    record {
-      some = omega (arith, length-append ds ((48 + m % 10) ∷ []));
-      digits = all_append is_digit ds ((48 + m % 10) ∷ []) h.digits (and_from (is_digit (48 + m % 10)) true d refl);
-      value = omega (arith, fold-append (λ n b. 10 * n + (b - 48)) 0 ds ((48 + m % 10) ∷ []), h.value);
-    }
-
 pub decimal_spelled : (n : ℕ) → is_small n ≡ true → Spelled n (decimal n)
-decimal_spelled n h =
-    let l = ltb-true n (2 ^ 127) h in
-    decimal_by_steps_wide (λ m ds. Spelled m ds) one_digit more_digits n (omega arith)
+decimal_spelled n h = digits_stand n (ltb-true n (2 ^ 127) h)
 
 pub decimal_words : (n : ℕ) → is_small n ≡ true → list_all is_word (decimal n) ≡ true
 decimal_words n h = digits_words (decimal n) (decimal_spelled n h).digits

@@ -4,13 +4,13 @@ use Rattle.std.proofs.lemmas.Bool.{both_ways, le-ltb}
 use Rattle.tla_token.specs.declared.place.Place.{Place}
 use Rattle.tla_token.specs.Places.{start}
 use Rattle.tla_expr.specs.declared.op.Op.TheVariants as op
-use Rattle.tla_expr.specs.Tree.{Word, Name}
+use Rattle.tla_expr.specs.Tree.{Word, Name, words}
 use Rattle.tla_expr.specs.Lexical.{ExprToken, mark, sign, key}
 use Rattle.tla_expr.specs.Lexical as tk
 use Rattle.tla_expr.specs.Spelling.{Right}
 use Rattle.tla_expr.proofs.ReadStops.{is_calm, Calm, calm_right}
-use Rattle.module_text.specs.Module.{test, setting, unchanged, exists, local, if_then_else, either, no_items, item, no_branches, branch, words_of}
-use Rattle.module_text.specs.Grammar.{Token, Kind, seen, keyword, see, Names, last_name, more_names, spell_names, names_of, words, tree_of, ItemForm, test_form, setting_form, unchanged_form, exists_form, local_form, choice_form, either_form}
+use Rattle.module_text.specs.Module.{test, setting, unchanged, exists, local, if_then_else, either, no_items, item, no_branches, branch}
+use Rattle.module_text.specs.Grammar.{Token, Kind, seen, keyword, see, Names, last_name, more_names, spell_names, names_of, words_of, tree_of, ItemForm, test_form, setting_form, unchanged_form, exists_form, local_form, choice_form, either_form}
 use Rattle.module_text.specs.Grammar.{ListForm, last_item, more_items, BranchForms, last_branch, more_branches, spell_item, spell_list, spell_branches, item_of, items_of, branches_of, list_column, branch_column, GoodItem, GoodList, GoodBranches}
 use Rattle.module_text.proofs.OnePhrase.{lowered, one_phrase}
 
@@ -76,8 +76,8 @@ placed_names (more_names p x u ns) (more_names q y v ms) r s c d same =
 
 pub one_names : (ns ms : Names) (r s : List Token) → nat_eq (first_sort r) 9 ≡ false → nat_eq (first_sort s) 9 ≡ false
     → spell_names ns r ≡ spell_names ms s
-    → (words ns ≡ words ms) × (r ≡ s)
-one_names ns ms r s c d same = (let w = placed_names ns ms r s c d same in (ap words_of w.0, w.1))
+    → (words_of ns ≡ words_of ms) × (r ≡ s)
+one_names ns ms r s c d same = (let w = placed_names ns ms r s c d same in (ap words w.0, w.1))
 
 -- ---- calm tokens
 

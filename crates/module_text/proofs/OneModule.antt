@@ -4,8 +4,8 @@ use Rattle.std.proofs.lemmas.List.{append-nil}
 use Rattle.tla_token.specs.Tokens as lexical
 use Rattle.tla_token.specs.Tokens.{Tok}
 use Rattle.tla_token.proofs.Unique as unique
-use Rattle.tla_expr.specs.Tree.{Name}
-use Rattle.module_text.specs.Module.{RegionUnit, units_of, OutsideUnit, Module, words_of, modules_of, constants_of, outside_of}
+use Rattle.tla_expr.specs.Tree.{Name, words}
+use Rattle.module_text.specs.Module.{RegionUnit, units_of, OutsideUnit, Module, modules_of, constants_of, outside_of}
 use Rattle.module_text.specs.Grammar.{Token}
 use Rattle.module_text.specs.Units.{IsUnit}
 use Rattle.module_text.specs.ModuleTokens.{view, cut}
@@ -42,7 +42,7 @@ same_tokens w get a b e ts us h k =
 
 -- what units see of all units
 abbrev sight_of : List OutsideUnit → Sight
-sight_of us = record { modules = words_of (flat_map modules_of us); constants = words_of (flat_map constants_of us); earlier = [] }
+sight_of us = record { modules = words (flat_map modules_of us); constants = words (flat_map constants_of us); earlier = [] }
 
 alone : (f : OutsideUnit → List Name) (us xs : List OutsideUnit) → flat_map f (us ++ []) ≡ flat_map f (xs ++ []) → flat_map f us ≡ flat_map f xs
 alone f us xs h = sym (ap (flat_map f) (append-nil us)) ∙ h ∙ ap (flat_map f) (append-nil xs)
@@ -58,7 +58,7 @@ same_outside front back us xs vs ys h k =
     let after = all_declared false (sight_of (us ++ xs)) (sight_of (vs ++ ys)) back xs ys h.after k.after [] [] refl refl in
     let all = all_declared true (sight_of (us ++ xs)) (sight_of (vs ++ ys)) front us vs h.before k.before xs ys
     (alone modules_of xs ys after.0) (alone constants_of xs ys after.1) in
-    let sights : sight_of (us ++ xs) ≡ sight_of (vs ++ ys) = λ i. record { modules = words_of (all.0 i); constants = words_of (all.1 i); earlier = [] } in
+    let sights : sight_of (us ++ xs) ≡ sight_of (vs ++ ys) = λ i. record { modules = words (all.0 i); constants = words (all.1 i); earlier = [] } in
     let front_is = all_outside true (sight_of (us ++ xs)) front us vs h.before (subst (λ (v : Sight). AllOutside true v front vs) (sym sights) k.before) in
     let back_is = all_outside false (sight_of (us ++ xs)) back xs ys h.after (subst (λ (v : Sight). AllOutside false v back ys) (sym sights) k.after) in
     λ i. front_is i ++ back_is i
@@ -67,7 +67,7 @@ same_outside front back us xs vs ys h k =
 both : (w : List ℕ) (m : Module) (r : Reads w m) (ts us : List lexical.Token) → ts ≡ r.front → us ≡ r.back
     → Both (cut (view ts)).units (cut (view us)).units r.before r.after
 both w m r ts us d e =
-    let seen : sight m ≡ sight_of (r.before ++ r.after) = λ i. (let o = r.outside i in record { modules = o.extended; constants = words_of o.constants; earlier = [] }) in
+    let seen : sight m ≡ sight_of (r.before ++ r.after) = λ i. (let o = r.outside i in record { modules = o.extended; constants = words o.constants; earlier = [] }) in
     record {
       before = subst (λ (ts : List lexical.Token). AllOutside true (sight_of (r.before ++ r.after)) (cut (view ts)).units r.before) (sym d)
           (subst (λ (v : Sight). AllOutside true v (cut (view r.front)).units r.before) seen r.are_before);

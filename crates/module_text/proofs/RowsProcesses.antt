@@ -9,7 +9,9 @@ use Rattle.tla_value.specs.Stops.{plain}
 use Rattle.tla_value.specs.Limits.{bounded}
 use Rattle.tla_value.specs.Definitions.{Valuation, no_state}
 use Rattle.module_text.specs.Module.{test, setting, unchanged, no_items, item, call, call_with, one_way, some_way, all_of, some_of, Region, outside_of, Module}
-use Rattle.module_text.specs.Truth.{Verdict, next_holds, mine_holds, action_holds}
+use Rattle.module_text.specs.ActionTruth.{Verdict}
+use Rattle.module_text.specs.ModuleTruth.{next_holds, action_holds}
+use Rattle.module_text.specs.ProcessPart.{mine_holds}
 use Rattle.module_text.proofs.First.{here, leaf, signed}
 
 abbrev n : Word

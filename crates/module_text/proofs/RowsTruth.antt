@@ -7,7 +7,9 @@ use Rattle.tla_value.specs.Value.{Value, truth, int, text, fault}
 use Rattle.tla_value.specs.Stops.{plain}
 use Rattle.tla_value.specs.Definitions.{Valuation, no_state}
 use Rattle.module_text.specs.Module as tree
-use Rattle.module_text.specs.Truth.{Verdict, scope, item_holds, next_holds, init_holds, mine_holds}
+use Rattle.module_text.specs.ActionTruth.{Verdict, item_holds}
+use Rattle.module_text.specs.ModuleTruth.{scope, next_holds, init_holds}
+use Rattle.module_text.specs.ProcessPart.{mine_holds}
 use Rattle.module_text.proofs.First.{x, pc, here, first}
 
 -- the state with these values of x and pc

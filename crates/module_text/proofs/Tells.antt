@@ -2,7 +2,8 @@
 use Rattle.std.proofs.Common.{◌≡◌, true, false, ◌||◌, ◌⊎◌, inl, inr, refl, ap, ◌∙◌}
 use Rattle.std.proofs.lemmas.Bool.{or_cases, or_left, or_right, both_ways}
 use Rattle.tla_value.specs.Value.{Value, Values, no_values, and}
-use Rattle.module_text.specs.Truth.{Verdict, and_then, or_all, at_each, TrueExactly}
+use Rattle.tla_value.specs.Value.{and_then, or_all, TrueExactly}
+use Rattle.module_text.specs.ActionTruth.{Verdict, some_member}
 
 -- the second is looked at only where the first is so
 pub tells_and : (p q : Verdict) (P Q : Type 0) → TrueExactly p P → (P → TrueExactly q Q) → TrueExactly (and_then p q) (P × Q)
@@ -33,6 +34,6 @@ abbrev pub Some_of : Values → (Value → Type 0) → Type 0
 Some_of no_values P = ⊥
 Some_of (and v vs) P = P v ⊎ Some_of vs P
 
-pub tells_some : (vs : Values) (go : Value → Verdict) (P : Value → Type 0) → ((v : Value) → TrueExactly (go v) (P v)) → TrueExactly (at_each vs go) (Some_of vs P)
+pub tells_some : (vs : Values) (go : Value → Verdict) (P : Value → Type 0) → ((v : Value) → TrueExactly (go v) (P v)) → TrueExactly (some_member vs go) (Some_of vs P)
 tells_some no_values go P h = (false, refl, (λ b. absurd (both_ways false refl b), λ x. absurd x))
-tells_some (and v vs) go P h = tells_or (go v) (at_each vs go) (P v) (Some_of vs P) (h v) (tells_some vs go P h)
+tells_some (and v vs) go P h = tells_or (go v) (some_member vs go) (P v) (Some_of vs P) (h v) (tells_some vs go P h)

@@ -2,12 +2,12 @@
 use Rattle.std.specs.Prelude.{◌≡◌, ℕ, nat_lt, IsTrue, List, [], ◌∷◌, codes}
 use Rattle.tla_token.specs.declared.place.Place.{Place}
 use Rattle.tla_expr.specs.declared.op.Op.TheVariants as op
-use Rattle.tla_expr.specs.Tree.{Word, Name, Tree}
+use Rattle.tla_expr.specs.Tree.{Word, Name, Tree, words}
 use Rattle.tla_expr.specs.Lexical.{ExprToken, Mark, Key, sign, mark, key}
 use Rattle.tla_expr.specs.Lexical as tk
 use Rattle.tla_expr.specs.Spelling.{Phrase, Right, Good, head, is_primary}
 use Rattle.tla_expr.specs.Spelling as spelled
-use Rattle.module_text.specs.Module.{Item, test, setting, unchanged, exists, local, if_then_else, either, Items, no_items, item, Branches, no_branches, branch, words_of, Call, call, call_with, Way, one_way, some_way}
+use Rattle.module_text.specs.Module.{Item, test, setting, unchanged, exists, local, if_then_else, either, Items, no_items, item, Branches, no_branches, branch, Call, call, call_with, Way, one_way, some_way}
 
 -- a token, as expressions see it, or a reserved word of modules
 pub data Kind : Type 0 where
@@ -51,8 +51,8 @@ abbrev pub names_of : Names → List Name
 names_of (last_name p x) = record { word = x; place = p } ∷ []
 names_of (more_names p x q ns) = record { word = x; place = p } ∷ names_of ns
 
-abbrev pub words : Names → List Word
-words ns = words_of (names_of ns)
+abbrev pub words_of : Names → List Word
+words_of ns = words (names_of ns)
 
 abbrev pub GoodNames : ℕ → Names → Type 0
 GoodNames e (last_name p x) = Right e p
@@ -107,7 +107,7 @@ abbrev mutual
   pub item_of : ItemForm → Item
   item_of (test_form p a q) = test (tree_of a)
   item_of (setting_form p x q s a) = setting x (tree_of a)
-  item_of (unchanged_form p q ns s) = unchanged (words ns)
+  item_of (unchanged_form p q ns s) = unchanged (words_of ns)
   item_of (exists_form p q x s a t is) = exists x (tree_of a) (items_of is)
   item_of (local_form p q x s a t is) = local x (tree_of a) (items_of is)
   item_of (choice_form p a q is s js) = if_then_else (tree_of a) (items_of is) (items_of js)

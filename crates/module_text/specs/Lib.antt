@@ -7,7 +7,9 @@ pub mod HeaderAndRegion
 pub mod AlgorithmStretch
 pub mod RegionPlace
 pub mod Around
-pub mod Truth
+pub mod ActionTruth
+pub mod ModuleTruth
+pub mod ProcessPart
 pub mod Grammar
 pub mod Units
 pub mod ModuleTokens

@@ -1,7 +1,7 @@
 -- The tree of a module: the units outside the translation, and the translation ("Specifying Systems", sections 17.1 to 17.5; actions, chapter 2;
 -- processes and their own actions, "A PlusCal User's Manual", section 3).
 use Rattle.std.specs.Prelude.{List, [], ◌∷◌, ◌++◌, map, flat_map, Bool, Option, Some, None}
-use Rattle.tla_expr.specs.Tree.{Word, Name, Tree}
+use Rattle.tla_expr.specs.Tree.{Word, Name, Tree, words}
 use Rattle.tla_value.specs.Definitions.{Definition}
 use Rattle.tla_value.specs.Outside.{Opaque, ReadDefinition, Outside}
 
@@ -117,9 +117,6 @@ pub record Module : Type 0 where
 
 -- ---- what units outside the translation have of each kind
 
-abbrev pub words_of : List Name → List Word
-words_of ns = map (λ n. n.word) ns
-
 abbrev pub modules_of : OutsideUnit → List Name
 modules_of (extends ms) = ms
 modules_of _ = []
@@ -138,7 +135,7 @@ unread_of _ = []
 
 abbrev pub outside_of : List OutsideUnit → Outside
 outside_of us = record {
-  extended = words_of (flat_map modules_of us);
+  extended = words (flat_map modules_of us);
   constants = flat_map constants_of us;
   definitions = flat_map definitions_of us;
   opaque = flat_map unread_of us;

@@ -3,8 +3,8 @@ use Rattle.std.specs.Prelude.{◌≡◌, ℕ, ◌+◌, ◌-◌, ◌^◌, ◌<◌
 use Rattle.tla_token.specs.Tokens as text
 use Rattle.tla_token.specs.Tokens.{Tok}
 use Rattle.tla_token.specs.Lexemes as lexeme
-use Rattle.tla_expr.specs.Tree.{Word}
-use Rattle.module_text.specs.Module.{units_of, OutsideUnit, Module, words_of, outside_of}
+use Rattle.tla_expr.specs.Tree.{Word, words}
+use Rattle.module_text.specs.Module.{units_of, OutsideUnit, Module, outside_of}
 use Rattle.module_text.specs.TextFront.{Text, on_some, at_line, line_of, line_end}
 use Rattle.module_text.specs.Comments.{Mode, plain, ends_module, seek}
 use Rattle.module_text.specs.HeaderAndRegion.{header_title, is_header, is_start, is_end}
@@ -71,7 +71,7 @@ AllSmall (t ∷ ts) = is_small t.kind × AllSmall ts
 
 -- modules and constants count wherever they stand
 abbrev pub sight : Module → Sight
-sight m = record { modules = m.outside.extended; constants = words_of m.outside.constants; earlier = [] }
+sight m = record { modules = m.outside.extended; constants = words m.outside.constants; earlier = [] }
 
 -- the text w is the module m
 pub record Reads (w : Text) (m : Module) : Type 0 where

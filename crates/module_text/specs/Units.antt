@@ -9,7 +9,7 @@ use Rattle.tla_expr.specs.Lexical as tk
 use Rattle.tla_expr.specs.Spelling.{Phrase, Right, Good}
 use Rattle.tla_expr.specs.Spelling as spelled
 use Rattle.module_text.specs.Module.{Body, all_of, some_of, Fairness, RegionUnit, constant_unit, variables_unit, definition_unit, vars_unit, process_set_unit, init_unit, action_unit, terminating_unit, next_unit, spec_unit, termination_unit}
-use Rattle.module_text.specs.Grammar.{Token, Tokens, see, reserved, phrase, word, Names, spell_names, words, GoodNames, tree_of, ListForm, spell_list, items_of, list_column, GoodList, CallForm, spell_call, call_of, GoodCall, WayForm, spell_way, way_of, GoodWay, spell_bullets, GoodSome, each}
+use Rattle.module_text.specs.Grammar.{Token, Tokens, see, reserved, phrase, word, Names, spell_names, words_of, GoodNames, tree_of, ListForm, spell_list, items_of, list_column, GoodList, CallForm, spell_call, call_of, GoodCall, WayForm, spell_way, way_of, GoodWay, spell_bullets, GoodSome, each}
 
 -- ---- fairness
 
@@ -107,7 +107,7 @@ spell_parameters (Some f) r = see f.left (mark tk.open_bracket) (spell_names f.n
 
 abbrev pub parameters : Option ParameterForm → List Word
 parameters None = []
-parameters (Some f) = words f.names
+parameters (Some f) = words_of f.names
 
 abbrev pub GoodParameters : Option ParameterForm → Type 0
 GoodParameters None = Unit {0}
@@ -170,10 +170,10 @@ parameter_of None = None
 parameter_of (Some f) = Some f.2
 
 abbrev pub unit_of : UnitForm → RegionUnit
-unit_of (constant_form p ns) = constant_unit (words ns)
-unit_of (variables_form p ns) = variables_unit (words ns)
+unit_of (constant_form p ns) = constant_unit (words_of ns)
+unit_of (variables_form p ns) = variables_unit (words_of ns)
 unit_of (definition_form p x f q a) = definition_unit (record { title = x; params = parameters f; body = tree_of a; outside = false })
-unit_of (vars_form p q s ns t) = vars_unit (words ns)
+unit_of (vars_form p q s ns t) = vars_unit (words_of ns)
 unit_of (process_set_form p q a) = process_set_unit (tree_of a)
 unit_of (init_form p q es) = init_unit (each tree_of es)
 unit_of (action_form p x f q b) = action_unit (record { title = x; parameter = parameter_of f; body = body_of b })

@@ -6,4 +6,5 @@ pub mod Runs
 pub mod Ends
 pub mod WrittenBytes
 pub mod ErrorLine
+pub mod Numbers
 pub mod Told

@@ -2,13 +2,14 @@
 use Rattle.std.specs.Prelude.{IfSome, MatchOption}
 use Rattle.std.proofs.Common.{◌≡◌, ◌⊎◌, ℕ, ◌<◌, ◌≤◌, List, [], length, Option, Some, None, false, ◌∙◌, ap, sym, inl, inr, arith}
 use Rattle.std.proofs.lemmas.Option.{none-some}
-use Rattle.outer_io.specs.Outer.{Texts, text_at, HasText, Tells, HasNoText, Grows, GrowsInPart}
+use Rattle.outer_io.specs.Outer.{Texts, text_at, told_at, HasText, Tells, HasNoText, Grows, GrowsInPart}
 use Rattle.tla_token.specs.Offences.{least}
 use Rattle.first_path.specs.Form.{Parts}
 use Rattle.first_path.specs.FormRead.{form_of, form_offences, FirstOffence, left_out}
 use Rattle.promise.specs.Headline.{Headline}
 use Rattle.first_path.proofs.Promise.{first_offence, not_both}
-use Rattle.pcal_cli.specs.Causes.{most_bytes, Writes, WritesInPart, KeepsPromise}
+use Rattle.pcal_cli.specs.Words.{Command, translate}
+use Rattle.pcal_cli.specs.Causes.{most_bytes, OfFile, Writes, WritesInPart, KeepsPromise}
 use Rattle.pcal_cli.specs.FirstPathBytes.{written_text}
 use Rattle.pcal_cli.proofs.WrittenBytes.{is_written}
 
@@ -82,3 +83,19 @@ failed (Some ts) file R W P h = by (text_at ts file) h
     by None h = tt
     by (Some x) (inl e) = λ l o r w. absurd (r e)
     by (Some x) (inr e) = absurd cc
+
+-- what is answered where nothing is in the way, as Q
+abbrev pub Completes : Option Command → Option Texts → Type 0 → Type 0 → Type 0 → Type 0
+Completes o ts R W Q = OfFile o (λ file. Tells ts file (λ x. length x ≤ most_bytes → form_offences x ≡ [] → (R → ⊥) → (W → ⊥) → Q))
+
+pub completes : (o : Option Command) (ts : Option Texts) (R W P Q : Type 0) → (P → Q) → Completes o ts R W P → Completes o ts R W Q
+completes None ts R W P Q f h = tt
+completes (Some (translate file)) ts R W P Q f h = by (told_at ts file) h
+  where
+    by : (t : Option (List ℕ)) → IfSome t (λ x. length x ≤ most_bytes → form_offences x ≡ [] → (R → ⊥) → (W → ⊥) → P) → IfSome t (λ x. length x ≤ most_bytes → form_offences x ≡ [] → (R → ⊥) → (W → ⊥) → Q)
+    by None h = tt
+    by (Some x) h = λ l o r w. f (h l o r w)
+
+pub completes_always : (o : Option Command) (ts : Option Texts) (R W Q : Type 0) → Q → Completes o ts R W Q
+completes_always None ts R W Q q = tt
+completes_always (Some (translate file)) ts R W Q q = of_all ts file _ (λ x l o r w. q)

@@ -1,11 +1,14 @@
 -- Why an answer comes, and what becomes of the two outputs.
 use Rattle.std.specs.Prelude.{◌≡◌, ◌⊎◌, ℕ, Bool, List, Option, Some, None}
+use Rattle.std.specs.Process.{exit_status}
+use Rattle.std.specs.declared.process.ExitCode.{ExitCode}
 use Rattle.outer_io.specs.Outer.{Texts, Tells, RoseBy, Grows, GrowsInPart}
 use Rattle.tla_expr.specs.Tree.{Word}
 use Rattle.promise.specs.Headline.{Headline}
 use Rattle.first_path.specs.Written.{Written}
 use Rattle.pcal_cli.specs.declared.status.Status.{Status}
-use Rattle.pcal_cli.specs.declared.status.Status.TheVariants.{Fine, Memory, ReadFault, WriteFault, Refused, TooLong}
+use Rattle.pcal_cli.specs.declared.status.Status.TheVariants.{Fine, Memory, Usage, ReadFault, WriteFault, Refused, TooLong}
+use Rattle.pcal_cli.specs.Answers.{status_number}
 use Rattle.pcal_cli.specs.Words.{Command, translate}
 
 -- a file has at most so many bytes
@@ -53,6 +56,22 @@ abbrev pub IsDone : Status → Type 0
 IsDone Fine = Unit {0}
 IsDone Memory = Unit {0}
 IsDone s = ⊥
+
+-- where the words mean no command
+abbrev pub IsNoCommand : Status → Type 0
+IsNoCommand Memory = Unit {0}
+IsNoCommand Usage = Unit {0}
+IsNoCommand s = ⊥
+
+-- ---- exit status
+
+-- the program ended with the number of this answer
+abbrev pub Ended : ExitCode → Status → Type 0
+Ended e s = exit_status e ≡ status_number s
+
+-- it ended with the number of an answer of this kind
+abbrev pub EndedIn : ExitCode → (Status → Type 0) → Type 0
+EndedIn e P = (s : Status) × Ended e s × P s
 
 -- ---- outputs
 

@@ -1,7 +1,10 @@
 -- What the words of a command line mean.
-use Rattle.std.specs.Prelude.{List, [], ◌∷◌, Bool, false, not, nat_eq, ◌&&◌, Option, Some, None, codes, if◌then◌else◌, String, string_bytes, map}
+use Rattle.std.specs.Prelude.{List, [], ◌∷◌, Bool, false, not, nat_eq, ◌&&◌, Option, Some, None, Result, Ok, Err, codes, if◌then◌else◌, String, string_bytes, map}
 use Rattle.std.specs.declared.alloc.Global.{Global}
 use Rattle.std.specs.Str.{bytes_eq}
+use Rattle.std.specs.Vec.Iter.{into_iter_items}
+use Rattle.std.specs.declared.vec.IntoIter.{IntoIter}
+use Rattle.std.specs.declared.io.Error.{Error}
 use Rattle.tla_expr.specs.Tree.{Word}
 
 pub data Command : Type 0 where
@@ -28,6 +31,11 @@ file_meant (Some (translate file)) = file
 -- those of the words of a command line
 abbrev pub command_in : List (String Global) → Option Command
 command_in ws = command_of (words_of ws)
+
+-- the words as the system hands them over; none, where one isn't UTF-8
+abbrev pub words_given : Result (IntoIter (String Global) Global) Error → List (String Global)
+words_given (Ok ws) = into_iter_items ws
+words_given (Err e) = []
 
 abbrev pub file_in : List (String Global) → Word
 file_in ws = file_meant (command_in ws)

@@ -3,9 +3,11 @@
 
 mod form;
 mod names;
+mod program;
 mod region;
 mod status;
 mod top;
 
+pub use program::run;
 pub use status::{Status, number};
 pub use top::pcal;

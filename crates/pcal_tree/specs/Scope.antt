@@ -35,10 +35,6 @@ pub record Scope : Type 0 where
 abbrev pub bound : Word → Value → Scope → Scope
 bound x v sc = record { env = λ s. bind x v (sc.env s); part = sc.part; origin = sc.origin }
 
--- the place at which a tree itself stands, as a left side's, also in a macro
-abbrev pub root_place : Tree → Place
-root_place (node m at ts) = at
-
 -- the place of an expression; that of a macro's parameter alone is its argument's
 abbrev pub place_in : Form → Place → Scope → Place
 place_in (name x) at sc = sc.origin x at

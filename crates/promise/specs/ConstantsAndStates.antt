@@ -2,7 +2,7 @@
 -- ("A PlusCal User's Manual", section 3; values in canonical order, "Specifying Systems", sections 16.1.6 to 16.1.10).
 use Rattle.std.specs.Prelude.{◌≡◌, List, ◌∷◌, Some, None, cond, codes, is_some, false}
 use Rattle.std.specs.Bool.{IsTrue}
-use Rattle.tla_expr.specs.Tree.{Word, Each}
+use Rattle.tla_expr.specs.Tree.{Word, Each, words}
 use Rattle.tla_expr.specs.Names.{has}
 use Rattle.tla_value.specs.Value.{Value}
 use Rattle.tla_value.specs.Order.{IsCanonical}
@@ -14,7 +14,7 @@ use Rattle.pcal_tree.specs.Scope.{State}
 use Rattle.pcal_tree.specs.Program.{Program}
 use Rattle.pcal_tree.specs.Variables.{vars}
 use Rattle.pcal_tree.specs.Calls.{defaultInitValue}
-use Rattle.module_text.specs.Module.{Module, words_of, found}
+use Rattle.module_text.specs.Module.{Module, found}
 
 -- the labelled algorithm g with its written names in the module m, without limits, for these constants
 abbrev pub program : Algorithm → Module → Valuation → Program
@@ -36,8 +36,8 @@ variables_of g m = vars (program g m no_state)
 -- canonical order
 pub record AreConstants (m : Module) (values : Valuation) : Type 0 where
   pub unset : values (codes "defaultInitValue") ≡ Some defaultInitValue
-  pub given : Each (λ x. IsTrue (is_some (values x))) (words_of m.outside.constants)
-  pub no_other : (x : Word) → has (codes "defaultInitValue" ∷ words_of m.outside.constants) x ≡ false → values x ≡ None
+  pub given : Each (λ x. IsTrue (is_some (values x))) (words m.outside.constants)
+  pub no_other : (x : Word) → has (codes "defaultInitValue" ∷ words m.outside.constants) x ≡ false → values x ≡ None
   pub canonical : (x : Word) (v : Value) → values x ≡ Some v → IsCanonical v
 
 -- ---- states

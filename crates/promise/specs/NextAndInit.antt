@@ -13,7 +13,7 @@ use Rattle.pcal_tree.specs.Faults.{Sound}
 use Rattle.pcal_tree.specs.Step.{Step, Stutters}
 use Rattle.pcal_tree.specs.InitialStates.{Initial, InitFault}
 use Rattle.module_text.specs.Module.{Module}
-use Rattle.module_text.specs.Truth.{next_holds, init_holds}
+use Rattle.module_text.specs.ModuleTruth.{next_holds, init_holds}
 use Rattle.promise.specs.ConstantsAndStates.{program, AreConstants, IsState, on_variables}
 
 -- for all constants and sound states Next is true of a pair exactly where some process steps, or all are done and nothing changes; else it is

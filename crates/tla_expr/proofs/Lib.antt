@@ -4,7 +4,20 @@ pub mod Operands
 mod Rows
 mod RowsView
 mod RowsSpelling
+mod RowsReader
+mod RowsWritable
+pub mod ColumnsGood
+pub mod ColumnsPut
+pub mod Columns
+pub mod SpelledTokens
+pub mod SpelledTrees
+pub mod Steps
 pub mod ReadSoon
+pub mod SoundTokens
+pub mod SoundPhrases
+pub mod SoundBraces
+pub mod SoundForms
+pub mod SoundLists
 pub mod ReadStops
 pub mod ReadPhrases
 pub mod ReadForms

@@ -6,7 +6,7 @@ use Rattle.tla_expr.specs.Tree.{Name, PathStep, Slot, Strict, Form, Tree, node}
 use Rattle.tla_expr.specs.Tree as tree
 use Rattle.tla_expr.specs.Spelling.{Phrase, Settings, Path, head, primary}
 use Rattle.tla_expr.specs.Spelling as spelled
-use Rattle.tla_expr.specs.Bracketed.{Part, part, parts, form_part, path_of, right_side, slots_of, except_phrase}
+use Rattle.tla_expr.specs.laws.Bracketed.{Part, part, parts, form_part, path_of, right_side, slots_of, except_phrase}
 
 abbrev IsPrimary : Phrase → Type 0
 IsPrimary a = head a ≡ primary

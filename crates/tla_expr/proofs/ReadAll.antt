@@ -1,11 +1,12 @@
 -- What is spelled is read: all forms together, and so one phrase for a list of tokens.
-use Rattle.std.proofs.Common.{◌≡◌, ℕ, ◌+◌, List, [], Ok, Err, refl, sym, ap, ◌∙◌, arith}
+use Rattle.std.proofs.Common.{◌≡◌, ℕ, ◌+◌, ◌*◌, length, List, [], Ok, Err, refl, sym, ap, ◌∙◌, arith}
 use Rattle.tla_expr.specs.Tree.{Tree}
 use Rattle.tla_expr.specs.Lexical.{Token}
 use Rattle.tla_expr.specs.Spelling.{Phrase, number, string, constant, name, primed, call, brackets, no_set, set_of, filter, image, no_tuple, tuple, fields, records, function, functions, except, apply, select, list, quantified, if_then_else, cases, local, infix_of, prefix_of}
 use Rattle.tla_expr.specs.Spelling.{Phrases, last, more, Binds, last_bind, bind, share, Fields, last_field, field, Settings, last_setting, setting, Path, path_end, index, at_field, Bullets, last_bullet, bullet, Arms, last_arm, other_arm, arm, Locals, last_local, more_locals}
 use Rattle.tla_expr.specs.Spelling.{spell, tree_of, Good, Spells}
-use Rattle.tla_expr.specs.Reader.{Out, free, readers}
+use Rattle.tla_expr.specs.Reader.{Out, free, readers, read}
+use Rattle.tla_expr.proofs.Steps.{steps, few}
 use Rattle.tla_expr.proofs.ReadStops.{Calm}
 use Rattle.tla_expr.proofs.ReadPhrases.{Reads, closed, ReadsAll, reads_last, reads_more, reads_number, reads_quote, reads_constant, reads_name, reads_primed, reads_call, reads_brackets, reads_no_set, reads_no_tuple, reads_infix, reads_prefix}
 use Rattle.tla_expr.proofs.ReadForms.{ReadsBinds, ReadsLocals, reads_tuple, reads_apply, reads_select, reads_last_bind, reads_bind, reads_share, reads_for, reads_choice, reads_last_local, reads_more_locals, reads_local}
@@ -96,8 +97,8 @@ pub one_before : (e : ℕ) (a b : Phrase) → Good e a → Good e b → (r s : L
 one_before e a b ga gb r s ca cb same_tokens =
     let u = closed a (reads a) e ga r ca in
     let v = closed b (reads b) e gb s cb in
-    let n = u.0 + v.0 in
-    let pair : ◌≡◌ {A = Out Phrase} (Ok (a, r)) (Ok (b, s)) = sym (u.1 n (omega arith)) ∙ ap (λ (ts : List Token). (readers n).expr e free ts) same_tokens ∙ v.1 n (omega arith) in
+    let n = (steps a + 3) + (steps b + 3) in
+    let pair : ◌≡◌ {A = Out Phrase} (Ok (a, r)) (Ok (b, s)) = sym (u n (omega arith)) ∙ ap (λ (ts : List Token). (readers n).expr e free ts) same_tokens ∙ v n (omega arith) in
     (ap (λ (x : Out Phrase). phrase_of a x) pair, ap (λ (x : Out Phrase). rest_of r x) pair)
   where
     phrase_of : Phrase → Out Phrase → Phrase
@@ -107,6 +108,9 @@ one_before e a b ga gb r s ca cb same_tokens =
     rest_of : List Token → Out Phrase → List Token
     rest_of d (Ok x) = x.1
     rest_of d (Err ts) = d
+
+pub spelled_is_read : (e : ℕ) (a : Phrase) → Good e a → read e (spell a []) ≡ Ok (a, [])
+spelled_is_read e a g = closed a (reads a) e g [] refl (4 * length (spell a [])) (omega (arith, few a []))
 
 pub one_phrase : (e : ℕ) (a b : Phrase) → Good e a → Good e b → spell a [] ≡ spell b [] → a ≡ b
 one_phrase e a b ga gb same_tokens = (one_before e a b ga gb [] [] refl refl same_tokens).0

@@ -12,6 +12,7 @@ use Rattle.tla_expr.specs.Spelling.{Phrases, last, more, Binds, last_bind, bind,
 use Rattle.tla_expr.specs.Spelling.{mark, key, sign, word, field_token, spell, spell_all, spell_binds, spell_locals, Good, GoodAll, GoodBinds, GoodLocals, Right, head, is_primary, is_short, can_be_left, can_be_head, Head, first_bullet, spell_bullets}
 use Rattle.tla_expr.specs.Spelling as sp
 use Rattle.tla_expr.specs.Reader.{is_sign, Out, field_of, a_field, tuples, then_read, ◌>>=◌, gives, next, peek, a_mark, free, Readers, readers, bind_rest, locals_by}
+use Rattle.tla_expr.proofs.Steps.{steps, steps_all, steps_binds, steps_locals}
 use Rattle.tla_expr.proofs.ReadSoon.{Soon, step, is_tail}
 use Rattle.tla_expr.proofs.ReadStops.{bullets_behind, is_calm}
 use Rattle.tla_expr.proofs.ReadPhrases.{is_call, NoCall, Inner, tail_call, Prime, Full, Begins, Reads, ended, closed, is_end, Ends, end_calm, ReadsAll, primary_reads}
@@ -95,10 +96,10 @@ pub reads_tuple : (p : Place) (xs : Phrases) (q : Place) → ReadsAll xs → Rea
 reads_tuple p xs q hx = primary_reads (tuple p xs q) (λ e d ts s. s) (λ e d ts s. tail_call (next e ts).kind s) (λ e g ts. record { first = token p (tk.mark tk.open_tuple); rest = spell_all xs (mark q tk.close_tuple ts); same_as = refl; right = g.0; as_operand = λ r c us. refl; as_short = λ r us. refl }) prime
   where
     prime : Prime (tuple p xs q)
-    prime e (gp, gx, gq) ts k o h =
+    prime e (gp, gx, gq) ts i k o h =
         let us = mark q tk.close_tuple ts in
         let v = hx e gx us (rw gq refl) in
-        (h.0 + v.0, λ m l. rw gp (ap (λ (x : Out Phrase). then_read x (λ a ts. (readers m).postfix e a ts)) (tuples_at (readers m) e p (spell_all xs us) (starts_all e xs gx us)) ∙ rw (v.1 m (omega arith), gq) (h.1 m (omega arith))))
+        (λ m l. rw gp (ap (λ (x : Out Phrase). then_read x (λ a ts. (readers m).postfix e a ts)) (tuples_at (readers m) e p (spell_all xs us) (starts_all e xs gx us)) ∙ rw (v m (omega arith), gq) (h m (omega arith))))
 
 -- ---- f[a] and r.b
 head_primary : (a : Phrase) (p : Place) → can_be_head a p ≡ true → is_primary (head a) ≡ true
@@ -131,10 +132,10 @@ reads_apply a p xs q ha hx = primary_reads (apply a p xs q) (λ e d ts s. s) (λ
     begins e (ga, can, gp, gx, gq) ts = (let b = ha.begins (head_primary a p can) e ga (mark p tk.open_square (spell_all xs (mark q tk.close_square ts))) in record { first = b.first; rest = b.rest; same_as = b.same_as; right = b.right; as_operand = b.as_operand; as_short = b.as_short })
 
     prime : Prime (apply a p xs q)
-    prime e (ga, can, gp, gx, gq) ts k o h =
+    prime e (ga, can, gp, gx, gq) ts i k o h j u =
         let us = mark p tk.open_square (spell_all xs (mark q tk.close_square ts)) in
         let v = hx e gx (mark q tk.close_square ts) (rw gq refl) in
-        ha.prime (head_primary a p can) e ga us (head_inner e a p (tk.mark tk.open_square) us ga can (rw gp refl) refl) o (step (λ r. r.postfix e a us) o (h.0 + v.0, λ n l. rw (gp, can, v.1 n (omega arith), gq) (h.1 n (omega arith))))
+        ha.prime (head_primary a p can) e ga us (head_inner e a p (tk.mark tk.open_square) us ga can (rw gp refl) refl) (k + steps_all xs + 1) o (step (λ r. r.postfix e a us) o (omega arith) (λ n l. rw (gp, can, v n (omega arith), gq) (h n (omega arith)))) j (omega arith)
 
 field_seen : (p : Place) (b : Bool) (x : Word) → field_of p (field_kind b x) ≡ Some (record { place = p; is_reserved = b; text = x })
 field_seen p true x = refl
@@ -150,9 +151,9 @@ reads_select a p f ha = primary_reads (select a p f) (λ e d ts s. s) (λ e d ts
     begins e (ga, can, gp, gf) ts = (let b = ha.begins (head_primary a p can) e ga (mark p tk.dot (field_token f ts)) in record { first = b.first; rest = b.rest; same_as = b.same_as; right = b.right; as_operand = b.as_operand; as_short = b.as_short })
 
     prime : Prime (select a p f)
-    prime e (ga, can, gp, gf) ts k o h =
+    prime e (ga, can, gp, gf) ts i k o h j u =
         let us = mark p tk.dot (field_token f ts) in
-        ha.prime (head_primary a p can) e ga us (head_inner e a p (tk.mark tk.dot) us ga can (rw gp refl) refl) o (step (λ r. r.postfix e a us) o (h.0, λ n l. rw (gp, can, field_read e f ts gf) (h.1 n l)))
+        ha.prime (head_primary a p can) e ga us (head_inner e a p (tk.mark tk.dot) us ga can (rw gp refl) refl) (k + 1) o (step (λ r. r.postfix e a us) o (omega arith) (λ n l. rw (gp, can, field_read e f ts gf) (h n (omega arith)))) j (omega arith)
 
 -- ---- names with their sets
 pub record BindsRead (e : ℕ) (bs : Binds) (ts : List Token) : Type 0 where
@@ -161,7 +162,7 @@ pub record BindsRead (e : ℕ) (bs : Binds) (ts : List Token) : Type 0 where
   pub rest : List Token
   pub same_as : spell_binds bs ts ≡ word place word_of rest
   pub right : Right e place
-  pub reads : Soon (λ r. r.binds e place word_of rest) (Ok (bs, ts))
+  pub reads : Soon (steps_binds bs) (λ r. r.binds e place word_of rest) (Ok (bs, ts))
 
 abbrev pub ReadsBinds : Binds → Type 0
 ReadsBinds bs = (e : ℕ) → GoodBinds e bs → (ts : List Token) → Ends e ts → BindsRead e bs ts
@@ -174,44 +175,44 @@ pub reads_last_bind : (p : Place) (x : Word) (q : Place) (a : Phrase) → Reads 
 reads_last_bind p x q a h e (gp, gq, ga) ts k =
     let us = sign q op.In (spell a ts) in
     let w = closed a h e ga ts (end_calm (next e ts).kind k) in
-    record { place = p; word_of = x; rest = us; same_as = refl; right = gp; reads = step (λ r. r.binds e p x us) (Ok (last_bind p x q a, ts)) (w.0, λ n l. rw (gq, w.1 n l) (bind_end (readers n) e p x q a (next e ts).place (next e ts).kind ts k)) }
+    record { place = p; word_of = x; rest = us; same_as = refl; right = gp; reads = step (λ r. r.binds e p x us) (Ok (last_bind p x q a, ts)) (omega arith) (λ n l. rw (gq, w n (omega arith)) (bind_end (readers n) e p x q a (next e ts).place (next e ts).kind ts k)) }
 
 pub reads_bind : (p : Place) (x : Word) (q : Place) (a : Phrase) (s : Place) (bs : Binds) → Reads a → ReadsBinds bs → ReadsBinds (bind p x q a s bs)
 reads_bind p x q a s bs h i e (gp, gq, ga, gs, gb) ts k =
     let us = sign q op.In (spell a (mark s tk.comma (spell_binds bs ts))) in
     let w = closed a h e ga (mark s tk.comma (spell_binds bs ts)) (rw gs refl) in
     let v = i e gb ts k in
-    record { place = p; word_of = x; rest = us; same_as = refl; right = gp; reads = step (λ r. r.binds e p x us) (Ok (bind p x q a s bs, ts)) (w.0 + v.reads.0, λ n l. rw (gq, w.1 n (omega arith), gs, v.same_as, v.right, v.reads.1 n (omega arith)) refl) }
+    record { place = p; word_of = x; rest = us; same_as = refl; right = gp; reads = step (λ r. r.binds e p x us) (Ok (bind p x q a s bs, ts)) (omega arith) (λ n l. rw (gq, w n (omega arith), gs, v.same_as, v.right, v.reads n (omega arith)) refl) }
 
 pub reads_share : (p : Place) (x : Word) (q : Place) (bs : Binds) → ReadsBinds bs → ReadsBinds (share p x q bs)
 reads_share p x q bs i e (gp, gq, gb) ts k =
     let us = mark q tk.comma (spell_binds bs ts) in
     let v = i e gb ts k in
-    record { place = p; word_of = x; rest = us; same_as = refl; right = gp; reads = step (λ r. r.binds e p x us) (Ok (share p x q bs, ts)) (v.reads.0, λ n l. rw (gq, v.same_as, v.right, v.reads.1 n l) refl) }
+    record { place = p; word_of = x; rest = us; same_as = refl; right = gp; reads = step (λ r. r.binds e p x us) (Ok (share p x q bs, ts)) (omega arith) (λ n l. rw (gq, v.same_as, v.right, v.reads n (omega arith)) refl) }
 
 -- ---- open forms
 pub reads_for : (b : Bool) (p : Place) (bs : Binds) (q : Place) (a : Phrase) → ReadsBinds bs → Reads a → Reads (quantified b p bs q a)
 reads_for b p bs q a hb ha = record { begins = λ h. absurd cc; prime = λ h. absurd cc; brief = λ e g h. absurd cc; full = full b }
   where
     full : (b : Bool) → Full (quantified b p bs q a)
-    full true e c f (gp, gb, gq, ga) t ts (s, k) o h =
+    full true e c f (gp, gb, gq, ga) t ts (s, k) w o h =
         let v = hb e gb (mark q tk.colon (spell a ts)) (rw gq refl) in
         let u = ended a ha e free tt ga refl ts s k in
-        step (λ r. r.expr e c (spell (quantified true p bs q a) ts)) o (h.0 + v.reads.0 + u.0, λ n l. rw (gp, v.same_as, v.right, v.reads.1 n (omega arith), gq, u.1 n (omega arith)) (h.1 n (omega arith)))
-    full false e c f (gp, gb, gq, ga) t ts (s, k) o h =
+        step (λ r. r.expr e c (spell (quantified true p bs q a) ts)) o (omega arith) (λ n l. rw (gp, v.same_as, v.right, v.reads n (omega arith), gq, u n (omega arith)) (h n (omega arith)))
+    full false e c f (gp, gb, gq, ga) t ts (s, k) w o h =
         let v = hb e gb (mark q tk.colon (spell a ts)) (rw gq refl) in
         let u = ended a ha e free tt ga refl ts s k in
-        step (λ r. r.expr e c (spell (quantified false p bs q a) ts)) o (h.0 + v.reads.0 + u.0, λ n l. rw (gp, v.same_as, v.right, v.reads.1 n (omega arith), gq, u.1 n (omega arith)) (h.1 n (omega arith)))
+        step (λ r. r.expr e c (spell (quantified false p bs q a) ts)) o (omega arith) (λ n l. rw (gp, v.same_as, v.right, v.reads n (omega arith), gq, u n (omega arith)) (h n (omega arith)))
 
 pub reads_choice : (p : Place) (a : Phrase) (q : Place) (b : Phrase) (s : Place) (d : Phrase) → Reads a → Reads b → Reads d → Reads (if_then_else p a q b s d)
 reads_choice p a q b s d ha hb hd = record { begins = λ h. absurd cc; prime = λ h. absurd cc; brief = λ e g h. absurd cc; full = full }
   where
     full : Full (if_then_else p a q b s d)
-    full e c f (gp, ga, gq, gb, gs, gd) t ts (z, k) o h =
+    full e c f (gp, ga, gq, gb, gs, gd) t ts (z, k) w o h =
         let vb = closed b hb e gb (key s tk.else_key (spell d ts)) (rw gs refl) in
         let va = closed a ha e ga (key q tk.then_key (spell b (key s tk.else_key (spell d ts)))) (rw gq refl) in
         let vd = ended d hd e free tt gd refl ts z k in
-        step (λ r. r.expr e c (spell (if_then_else p a q b s d) ts)) o (h.0 + va.0 + vb.0 + vd.0, λ n l. rw (gp, va.1 n (omega arith), gq, vb.1 n (omega arith), gs, vd.1 n (omega arith)) (h.1 n (omega arith)))
+        step (λ r. r.expr e c (spell (if_then_else p a q b s d) ts)) o (omega arith) (λ n l. rw (gp, va n (omega arith), gq, vb n (omega arith), gs, vd n (omega arith)) (h n (omega arith)))
 
 -- ---- local definitions
 abbrev pub is_stop : ExprToken → Bool
@@ -228,7 +229,7 @@ pub record LocalsRead (e : ℕ) (ls : Locals) (ts : List Token) : Type 0 where
   pub rest : List Token
   pub same_as : spell_locals ls ts ≡ word place word_of rest
   pub right : Right e place
-  pub reads : Soon (λ r. r.locals e (spell_locals ls ts)) (Ok (ls, ts))
+  pub reads : Soon (steps_locals ls) (λ r. r.locals e (spell_locals ls ts)) (Ok (ls, ts))
 
 abbrev pub ReadsLocals : Locals → Type 0
 ReadsLocals ls = (e : ℕ) → GoodLocals e ls → (ts : List Token) → is_stop (next e ts).kind ≡ true → LocalsRead e ls ts
@@ -240,20 +241,20 @@ locals_end r e p x q a s k ts h = refl
 pub reads_last_local : (p : Place) (x : Word) (q : Place) (a : Phrase) → Reads a → ReadsLocals (last_local p x q a)
 reads_last_local p x q a h e (gp, gq, ga) ts k =
     let w = closed a h e ga ts (stop_calm (next e ts).kind k) in
-    record { place = p; word_of = x; rest = mark q tk.defines (spell a ts); same_as = refl; right = gp; reads = step (λ r. r.locals e (spell_locals (last_local p x q a) ts)) (Ok (last_local p x q a, ts)) (w.0, λ n l. rw (gp, gq, w.1 n l) (locals_end (readers n) e p x q a (next e ts).place (next e ts).kind ts k)) }
+    record { place = p; word_of = x; rest = mark q tk.defines (spell a ts); same_as = refl; right = gp; reads = step (λ r. r.locals e (spell_locals (last_local p x q a) ts)) (Ok (last_local p x q a, ts)) (omega arith) (λ n l. rw (gp, gq, w n (omega arith)) (locals_end (readers n) e p x q a (next e ts).place (next e ts).kind ts k)) }
 
 pub reads_more_locals : (p : Place) (x : Word) (q : Place) (a : Phrase) (ls : Locals) → Reads a → ReadsLocals ls → ReadsLocals (more_locals p x q a ls)
 reads_more_locals p x q a ls h i e (gp, gq, ga, gl) ts k =
     let v = i e gl ts k in
     let w = closed a h e ga (spell_locals ls ts) (rw (v.same_as, v.right) refl) in
-    let again : Soon (λ r. r.locals e (word v.place v.word_of v.rest)) (Ok (ls, ts)) = rw v.same_as at v.reads in
-    record { place = p; word_of = x; rest = mark q tk.defines (spell a (spell_locals ls ts)); same_as = refl; right = gp; reads = step (λ r. r.locals e (spell_locals (more_locals p x q a ls) ts)) (Ok (more_locals p x q a ls, ts)) (w.0 + again.0, λ n l. rw (gp, gq, w.1 n (omega arith), v.same_as, v.right, again.1 n (omega arith)) refl) }
+    let again : Soon (steps_locals ls) (λ r. r.locals e (word v.place v.word_of v.rest)) (Ok (ls, ts)) = rw v.same_as at v.reads in
+    record { place = p; word_of = x; rest = mark q tk.defines (spell a (spell_locals ls ts)); same_as = refl; right = gp; reads = step (λ r. r.locals e (spell_locals (more_locals p x q a ls) ts)) (Ok (more_locals p x q a ls, ts)) (omega arith) (λ n l. rw (gp, gq, w n (omega arith), v.same_as, v.right, again n (omega arith)) refl) }
 
 pub reads_local : (p : Place) (ls : Locals) (q : Place) (a : Phrase) → ReadsLocals ls → Reads a → Reads (local p ls q a)
 reads_local p ls q a hl ha = record { begins = λ h. absurd cc; prime = λ h. absurd cc; brief = λ e g h. absurd cc; full = full }
   where
     full : Full (local p ls q a)
-    full e c f (gp, gl, gq, ga) t ts (s, k) o h =
+    full e c f (gp, gl, gq, ga) t ts (s, k) w o h =
         let v = hl e gl (key q tk.in_key (spell a ts)) (rw gq refl) in
         let u = ended a ha e free tt ga refl ts s k in
-        step (λ r. r.expr e c (spell (local p ls q a) ts)) o (h.0 + v.reads.0 + u.0, λ n l. rw (gp, v.reads.1 n (omega arith), gq, u.1 n (omega arith)) (h.1 n (omega arith)))
+        step (λ r. r.expr e c (spell (local p ls q a) ts)) o (omega arith) (λ n l. rw (gp, v.reads n (omega arith), gq, u n (omega arith)) (h n (omega arith)))

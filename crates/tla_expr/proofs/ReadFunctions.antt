@@ -9,11 +9,12 @@ use Rattle.tla_expr.specs.Lexical as tk
 use Rattle.tla_expr.specs.Spelling.{Field, Phrase, name, primed, call, functions, except, apply, select, list, quantified, infix_of, prefix_of, last_bullet, bullet, Phrases, Settings, last_setting, setting, Path, path_end, index, at_field}
 use Rattle.tla_expr.specs.Spelling.{mark, key, sign, word, spell, spell_settings, spell_path, is_word, is_in, Right, Good, GoodSettings, GoodPath}
 use Rattle.tla_expr.specs.Reader.{Out, then_read, ◌>>=◌, next, peek, free, Readers, readers, element, from_name, squares, square_name, square_member, square_from, square_rest, settings_by, path_by}
+use Rattle.tla_expr.proofs.Steps.{steps, steps_all, steps_path, steps_settings}
 use Rattle.tla_expr.proofs.ReadSoon.{Soon, step, is_tail, NoTail}
 use Rattle.tla_expr.proofs.ReadStops.{is_calm, Calm}
 use Rattle.tla_expr.proofs.ReadPhrases.{Prime, Reads, closed, is_end, Ends, end_calm, ReadsAll, primary_reads, tail_call}
 use Rattle.tla_expr.proofs.ReadForms.{is_start, Starts, starts, field_read}
-use Rattle.tla_expr.proofs.ReadElements.{from_word, assoc}
+use Rattle.tla_expr.proofs.ReadElements.{from_word, assoc, cut_steps}
 use Rattle.tla_expr.proofs.ReadMembers.{is_name, is_member, cut, member, and_false, primary_member, sign_no_word}
 
 -- ---- behind a square bracket
@@ -66,25 +67,19 @@ Undecided e [] = Unit {0}
 Undecided e (t ∷ vs) = (is_word t.kind && is_decisive (next e vs).kind) ≡ false
 
 abbrev Squared : ℕ → Place → List Token → Type 0
-Squared e p us = (b : Phrase) (ts : List Token) (o : Out Phrase) → Soon (λ r. r.expr e free us) (Ok (b, ts)) → Soon (λ r. peek e (square_rest r e p b) ts) o → Soon (λ r. peek e (squares r e p) us) o
+Squared e p us = (b : Phrase) (ts : List Token) (o : Out Phrase) (j k : ℕ) → Soon j (λ r. r.expr e free us) (Ok (b, ts)) → Soon k (λ r. peek e (square_rest r e p b) ts) o → Soon (j + k) (λ r. peek e (squares r e p) us) o
 
 squared_word : (e : ℕ) (p q : Place) (x : Word) (vs : List Token) → Right e q → is_decisive (next e vs).kind ≡ false → Squared e p (word q x vs)
-squared_word e p q x vs g n b ts o h i =
-    let v = from_word e q x vs (Ok (b, ts)) g h in (
-      v.0 + i.0,
-      λ n' l. rw g (name_other (readers n') e p q x (next e vs).place (next e vs).kind vs n
-          ∙ sym (assoc (from_name (readers n') e q x vs) (λ a us. (readers n').climb e 0 a us) (λ b us. peek e (square_rest (readers n') e p b) us))
-          ∙ ap (λ (y : Out Phrase). then_read y (λ b us. peek e (square_rest (readers n') e p b) us)) (v.1 n' (omega arith)) ∙ i.1 n' (omega arith)),
-    )
+squared_word e p q x vs g n b ts o j k h i =
+    let v = from_word e q x vs (Ok (b, ts)) g h in (λ n' l. rw g (name_other (readers n') e p q x (next e vs).place (next e vs).kind vs n
+    ∙ sym (assoc (from_name (readers n') e q x vs) (λ a us. (readers n').climb e 0 a us) (λ b us. peek e (square_rest (readers n') e p b) us))
+    ∙ ap (λ (y : Out Phrase). then_read y (λ b us. peek e (square_rest (readers n') e p b) us)) (v n' (omega arith)) ∙ i n' (omega arith)))
 
 squared_token : (e : ℕ) (p q : Place) (k : ExprToken) (vs : List Token) → Right e q → is_start k ≡ true
     → (is_word k && is_decisive (next e vs).kind) ≡ false → Squared e p (token q k ∷ vs)
-squared_token e p q (tk.word x) vs g t n b ts o h i = squared_word e p q x vs g n b ts o h i
-squared_token e p q k vs g t n b ts o h i = (
-  h.0 + i.0,
-  λ m l. rw g (squares_other (readers m) e p q k (token q k ∷ vs) t refl
-      ∙ ap (λ (y : Out Phrase). then_read y (λ b us. peek e (square_rest (readers m) e p b) us)) (h.1 m (omega arith)) ∙ i.1 m (omega arith)),
-)
+squared_token e p q (tk.word x) vs g t n b ts o j m h i = squared_word e p q x vs g n b ts o j m h i
+squared_token e p q k vs g t n b ts o u w h i = (λ m l. rw g (squares_other (readers m) e p q k (token q k ∷ vs) t refl
+    ∙ ap (λ (y : Out Phrase). then_read y (λ b us. peek e (square_rest (readers m) e p b) us)) (h m (omega arith)) ∙ i m (omega arith)))
 
 squared : (e : ℕ) (p : Place) (us : List Token) → Starts e us → Undecided e us → Squared e p us
 squared e p us s n = rw s.same_as (squared_token e p s.first.place s.first.kind s.rest s.right s.start (rw s.same_as at n))
@@ -117,22 +112,20 @@ undecided e a g us m h = refl
 
 -- the first expression, before `->` or EXCEPT
 first_part : (e : ℕ) (p : Place) (a : Phrase) → Reads a → Reads (cut a) → Good e a → (us : List Token) → is_divider (next e us).kind ≡ true
-    → (o : Out Phrase) → Soon (λ r. peek e (square_rest r e p a) us) o
-    → Soon (λ r. peek e (squares r e p) (spell a us)) o
-first_part e p a ha hc g us n o h = by (is_member a) refl
+    → (j : ℕ) (o : Out Phrase) → Soon j (λ r. peek e (square_rest r e p a) us) o
+    → Soon (j + steps a + 3) (λ r. peek e (squares r e p) (spell a us)) o
+first_part e p a ha hc g us n j o h = by (is_member a) refl
   where
     calm : Calm e us
     calm = divider_calm (next e us).kind n
 
-    by : (b : Bool) → is_member a ≡ b → Soon (λ r. peek e (squares r e p) (spell a us)) o
-    by false m = squared e p (spell a us) (starts e a g us) (undecided e a g us m (rw (divider_decides (next e us).kind n) (and_false (is_name a)))) a us o (closed a ha e g us calm) h
-    by true m =
+    by : (b : Bool) → is_member a ≡ b → Soon (j + steps a + 3) (λ r. peek e (squares r e p) (spell a us)) o
+    by false m n' l = squared e p (spell a us) (starts e a g us) (undecided e a g us m (rw (divider_decides (next e us).kind n) (and_false (is_name a)))) a us o (steps a + 3) j (closed a ha e g us calm) h n' (omega arith)
+    by true m n' l =
         let v = member e a g m in
-        let w = closed (cut a) hc e v.good us calm in (
-          w.0 + h.0,
-          λ n' l. rw (v.same_as us, v.right, v.right_in, w.1 n' (omega arith))
-              (member_divided (readers n') e p v.place v.word_of v.place_in (cut a) (next e us).place (next e us).kind us n ∙ rw v.joins (h.1 n' (omega arith))),
-        )
+        let w = closed (cut a) hc e v.good us calm in
+        let f = cut_steps a in (rw (v.same_as us, v.right, v.right_in, w n' (omega arith))
+        (member_divided (readers n') e p v.place v.word_of v.place_in (cut a) (next e us).place (next e us).kind us n ∙ rw v.joins (h n' (omega arith))))
 
 -- ---- [S -> T]
 pub reads_functions : (p : Place) (a : Phrase) (q : Place) (b : Phrase) (s : Place) → Reads a → Reads (cut a) → Reads b → Reads (functions p a q b s)
@@ -140,15 +133,15 @@ reads_functions p a q b s ha hc hb = primary_reads (functions p a q b s) (λ e d
     (λ e g ts. record { first = token p (tk.mark tk.open_square); rest = spell a (mark q tk.arrow (spell b (mark s tk.close_square ts))); same_as = refl; right = g.0; as_operand = λ r c us. refl; as_short = λ r us. refl }) prime
   where
     prime : Prime (functions p a q b s)
-    prime e (gp, ga, gq, gb, gs) ts k o h =
+    prime e (gp, ga, gq, gb, gs) ts i k o h =
         let us = mark q tk.arrow (spell b (mark s tk.close_square ts)) in
         let w = closed b hb e gb (mark s tk.close_square ts) (rw gs refl) in
-        let z = first_part e p a ha hc ga us (rw gq refl) (Ok (functions p a q b s, ts)) (w.0, λ n l. rw (gq, w.1 n l, gs) refl) in
-        (h.0 + z.0, λ n l. rw (gp, z.1 n (omega arith)) (h.1 n (omega arith)))
+        let z = first_part e p a ha hc ga us (rw gq refl) (steps b + 3) (Ok (functions p a q b s, ts)) (λ n l. rw (gq, w n (omega arith), gs) refl) in
+        (λ n l. rw (gp, z n (omega arith)) (h n (omega arith)))
 
 -- ---- the places that are set
 abbrev pub ReadsPath : Path → Type 0
-ReadsPath path = (e : ℕ) → GoodPath e path → (ts : List Token) → NoTail e ts → Soon (λ r. r.path e (spell_path path ts)) (Ok (path, ts))
+ReadsPath path = (e : ℕ) → GoodPath e path → (ts : List Token) → NoTail e ts → Soon (steps_path path) (λ r. r.path e (spell_path path ts)) (Ok (path, ts))
 
 path_stops : (r : Readers) (e : ℕ) (p : Place) (k : ExprToken) (ts : List Token) → is_tail k ≡ false → path_by r e p k ts ≡ Ok (path_end, ts)
 path_stops r e p (tk.mark tk.open_square) ts h = absurd cc
@@ -156,22 +149,22 @@ path_stops r e p (tk.mark tk.dot) ts h = absurd cc
 path_stops r e p k ts h = refl
 
 pub reads_path_end : ReadsPath path_end
-reads_path_end e g ts k = step (λ r. r.path e ts) (Ok (path_end, ts)) (0, λ n l. path_stops (readers n) e (next e ts).place (next e ts).kind ts k)
+reads_path_end e g ts k = step (λ r. r.path e ts) (Ok (path_end, ts)) (omega arith) (λ n l. path_stops (readers n) e (next e ts).place (next e ts).kind ts k)
 
 pub reads_index : (p : Place) (xs : Phrases) (q : Place) (path : Path) → ReadsAll xs → ReadsPath path → ReadsPath (index p xs q path)
 reads_index p xs q path hx hp e (gp, gx, gq, g) ts k =
     let v = hx e gx (mark q tk.close_square (spell_path path ts)) (rw gq refl) in
     let w = hp e g ts k in
-    step (λ r. r.path e (spell_path (index p xs q path) ts)) (Ok (index p xs q path, ts)) (v.0 + w.0, λ n l. rw (gp, v.1 n (omega arith), gq, w.1 n (omega arith)) refl)
+    step (λ r. r.path e (spell_path (index p xs q path) ts)) (Ok (index p xs q path, ts)) (omega arith) (λ n l. rw (gp, v n (omega arith), gq, w n (omega arith)) refl)
 
 pub reads_at_field : (p : Place) (f : Field) (path : Path) → ReadsPath path → ReadsPath (at_field p f path)
 reads_at_field p f path hp e (gp, gf, g) ts k =
     let w = hp e g ts k in
-    step (λ r. r.path e (spell_path (at_field p f path) ts)) (Ok (at_field p f path, ts)) (w.0, λ n l. rw (gp, field_read e f (spell_path path ts) gf, w.1 n l) refl)
+    step (λ r. r.path e (spell_path (at_field p f path) ts)) (Ok (at_field p f path, ts)) (omega arith) (λ n l. rw (gp, field_read e f (spell_path path ts) gf, w n (omega arith)) refl)
 
 -- ---- settings
 abbrev pub ReadsSettings : Settings → Type 0
-ReadsSettings ss = (e : ℕ) → GoodSettings e ss → (ts : List Token) → Ends e ts → Soon (λ r. r.settings e (spell_settings ss ts)) (Ok (ss, ts))
+ReadsSettings ss = (e : ℕ) → GoodSettings e ss → (ts : List Token) → Ends e ts → Soon (steps_settings ss) (λ r. r.settings e (spell_settings ss ts)) (Ok (ss, ts))
 
 settings_end : (r : Readers) (e : ℕ) (p : Place) (path : Path) (q : Place) (a : Phrase) (s : Place) (k : ExprToken) (ts : List Token) → is_end k ≡ true
     → settings_by r e p path q a s k ts ≡ Ok (last_setting p path q a, ts)
@@ -182,7 +175,7 @@ pub reads_last_setting : (p : Place) (path : Path) (q : Place) (a : Phrase) → 
 reads_last_setting p path q a hp ha e (gp, some, gpath, gq, ga) ts k =
     let v = hp e gpath (sign q op.Equal (spell a ts)) (rw gq refl) in
     let w = closed a ha e ga ts (end_calm (next e ts).kind k) in
-    step (λ r. r.settings e (spell_settings (last_setting p path q a) ts)) (Ok (last_setting p path q a, ts)) (v.0 + w.0, λ n l. rw (gp, v.1 n (omega arith), some, gq, w.1 n (omega arith)) (settings_end (readers n) e p path q a (next e ts).place (next e ts).kind ts k))
+    step (λ r. r.settings e (spell_settings (last_setting p path q a) ts)) (Ok (last_setting p path q a, ts)) (omega arith) (λ n l. rw (gp, v n (omega arith), some, gq, w n (omega arith)) (settings_end (readers n) e p path q a (next e ts).place (next e ts).kind ts k))
 
 pub reads_setting : (p : Place) (path : Path) (q : Place) (a : Phrase) (s : Place) (ss : Settings) → ReadsPath path → Reads a → ReadsSettings ss
     → ReadsSettings (setting p path q a s ss)
@@ -191,7 +184,7 @@ reads_setting p path q a s ss hp ha hs e (gp, some, gpath, gq, ga, gs, gss) ts k
     let v = hp e gpath (sign q op.Equal (spell a us)) (rw gq refl) in
     let w = closed a ha e ga us (rw gs refl) in
     let u = hs e gss ts k in
-    step (λ r. r.settings e (spell_settings (setting p path q a s ss) ts)) (Ok (setting p path q a s ss, ts)) (v.0 + w.0 + u.0, λ n l. rw (gp, v.1 n (omega arith), some, gq, w.1 n (omega arith), gs, u.1 n (omega arith)) refl)
+    step (λ r. r.settings e (spell_settings (setting p path q a s ss) ts)) (Ok (setting p path q a s ss, ts)) (omega arith) (λ n l. rw (gp, v n (omega arith), some, gq, w n (omega arith), gs, u n (omega arith)) refl)
 
 -- ---- [f EXCEPT !.a = e, ![b] = f]
 pub reads_except : (p : Place) (a : Phrase) (q : Place) (ss : Settings) (s : Place) → Reads a → Reads (cut a) → ReadsSettings ss → Reads (except p a q ss s)
@@ -199,8 +192,8 @@ reads_except p a q ss s ha hc hs = primary_reads (except p a q ss s) (λ e d ts 
     (λ e g ts. record { first = token p (tk.mark tk.open_square); rest = spell a (key q tk.except_key (spell_settings ss (mark s tk.close_square ts))); same_as = refl; right = g.0; as_operand = λ r c us. refl; as_short = λ r us. refl }) prime
   where
     prime : Prime (except p a q ss s)
-    prime e (gp, ga, gq, gss, gs) ts k o h =
+    prime e (gp, ga, gq, gss, gs) ts i k o h =
         let us = key q tk.except_key (spell_settings ss (mark s tk.close_square ts)) in
         let w = hs e gss (mark s tk.close_square ts) (rw gs refl) in
-        let z = first_part e p a ha hc ga us (rw gq refl) (Ok (except p a q ss s, ts)) (w.0, λ n l. rw (gq, w.1 n l, gs) refl) in
-        (h.0 + z.0, λ n l. rw (gp, z.1 n (omega arith)) (h.1 n (omega arith)))
+        let z = first_part e p a ha hc ga us (rw gq refl) (steps_settings ss) (Ok (except p a q ss s, ts)) (λ n l. rw (gq, w n (omega arith), gs) refl) in
+        (λ n l. rw (gp, z n (omega arith)) (h n (omega arith)))

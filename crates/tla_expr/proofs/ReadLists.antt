@@ -11,6 +11,7 @@ use Rattle.tla_expr.specs.Spelling.{Phrase, list, cases}
 use Rattle.tla_expr.specs.Spelling.{Bullets, last_bullet, bullet, Arms, last_arm, other_arm, arm}
 use Rattle.tla_expr.specs.Spelling.{mark, key, sign, spell, Good, Right, first_bullet, spell_bullets, spell_arms, GoodBullets, GoodArms, takes_box}
 use Rattle.tla_expr.specs.Reader.{is_sign, take, bullet_of, arms_by, arms_other, end, ◌>>=◌, gives, next, peek, Context, free, Readers, readers, primary, operand, short_by}
+use Rattle.tla_expr.proofs.Steps.{steps, steps_bullets, steps_arms}
 use Rattle.tla_expr.proofs.ReadSoon.{Soon, step}
 use Rattle.tla_expr.proofs.ReadStops.{ListEnds, BulletsStop, ArmsStop, is_box, box_stops, box_stays, sign_infix}
 use Rattle.tla_expr.proofs.ReadPhrases.{Prime, Full, Begins, Reads, ended, closed, primary_reads}
@@ -46,7 +47,7 @@ is_here e o c q us b l s = record {
 }
 
 abbrev pub ReadsBullets : Bullets → Type 0
-ReadsBullets bs = (e : ℕ) (o : Op) (c : ℕ) → is_bullet o ≡ true → nat_lt e c ≡ true → GoodBullets c bs → (ts : List Token) → ListEnds e o c ts → BulletsStop c bs ts → Soon (λ r. r.bullets e o c (spell_bullets o bs ts)) (Ok (bs, ts))
+ReadsBullets bs = (e : ℕ) (o : Op) (c : ℕ) → is_bullet o ≡ true → nat_lt e c ≡ true → GoodBullets c bs → (ts : List Token) → ListEnds e o c ts → BulletsStop c bs ts → Soon (steps_bullets bs) (λ r. r.bullets e o c (spell_bullets o bs ts)) (Ok (bs, ts))
 
 take_bullet : (e : ℕ) (o : Op) (c : ℕ) (q : Place) (us : List Token) → IsBullet e o c q (sign q o us) → take e (bullet_of o c) (sign q o us) ≡ Ok (q, us)
 take_bullet e o c q us b = rw (b.seen, b.here) refl
@@ -54,13 +55,13 @@ take_bullet e o c q us b = rw (b.seen, b.here) refl
 pub reads_last_bullet : (p : Place) (a : Phrase) → Reads a → ReadsBullets (last_bullet p a)
 reads_last_bullet p a h e o c b l (pc, ga) ts k (s, z) =
     let w = ended a h c free tt ga refl ts s z in
-    step (λ r. r.bullets e o c (sign p o (spell a ts))) (Ok (last_bullet p a, ts)) (w.0, λ n m. rw (take_bullet e o c p (spell a ts) (is_here e o c p (spell a ts) b l pc), w.1 n m, k) refl)
+    step (λ r. r.bullets e o c (sign p o (spell a ts))) (Ok (last_bullet p a, ts)) (omega arith) (λ n m. rw (take_bullet e o c p (spell a ts) (is_here e o c p (spell a ts) b l pc), w n (omega arith), k) refl)
 
 bullets_first : (o : Op) (bs : Bullets) (ts : List Token) → (us : List Token) × (spell_bullets o bs ts ≡ sign (first_bullet bs) o us)
 bullets_first o (last_bullet p a) ts = (spell a ts, refl)
 bullets_first o (bullet p a bs) ts = (spell a (spell_bullets o bs ts), refl)
 
-first_column : (c : ℕ) (bs : Bullets) → GoodBullets c bs → (first_bullet bs).col ≡ c
+pub first_column : (c : ℕ) (bs : Bullets) → GoodBullets c bs → (first_bullet bs).col ≡ c
 first_column c (last_bullet p a) g = g.0
 first_column c (bullet p a bs) g = g.0
 
@@ -71,7 +72,7 @@ reads_bullet p a bs h i e o c b l (pc, ga, gb) ts k s =
     let next_one : IsBullet e o c (first_bullet bs) us = rw f.1 (is_here e o c (first_bullet bs) f.0 b l (first_column c bs gb)) in
     let w = closed a h c ga us (rw next_one.hidden refl) in
     let v = i e o c b l gb ts k s in
-    step (λ r. r.bullets e o c (sign p o (spell a us))) (Ok (bullet p a bs, ts)) (w.0 + v.0, λ n m. rw (take_bullet e o c p (spell a us) (is_here e o c p (spell a us) b l pc), w.1 n (omega arith), next_one.seen, next_one.here, v.1 n (omega arith)) refl)
+    step (λ r. r.bullets e o c (sign p o (spell a us))) (Ok (bullet p a bs, ts)) (omega arith) (λ n m. rw (take_bullet e o c p (spell a us) (is_here e o c p (spell a us) b l pc), w n (omega arith), next_one.seen, next_one.here, v n (omega arith)) refl)
 
 pub reads_list : (o : Op) (bs : Bullets) → ReadsBullets bs → Reads (list o bs)
 reads_list o bs hb = primary_reads (list o bs) (λ e d ts s. s.0) (λ e d ts s. (s.1, s.2)) begins prime
@@ -80,17 +81,17 @@ reads_list o bs hb = primary_reads (list o bs) (λ e d ts s. s.0) (λ e d ts s. 
     begins e (b, l, g) ts = (let f = bullets_first o bs ts in record { first = token (first_bullet bs) (sign_of o); rest = f.0; same_as = f.1; right = l; as_operand = λ r c us. bullet_operand r e c (first_bullet bs) o us b; as_short = λ r us. bullet_short r e (first_bullet bs) o us b })
 
     prime : Prime (list o bs)
-    prime e (b, l, g) ts (k, s) out h =
+    prime e (b, l, g) ts (k, s) w out h =
         let c = (first_bullet bs).col in
         let us = spell_bullets o bs ts in
         let f = bullets_first o bs ts in
         let here : IsBullet e o c (first_bullet bs) us = rw f.1 (is_here e o c (first_bullet bs) f.0 b l refl) in
         let v = hb e o c b l g ts k s in
-        (h.0 + v.0, λ n m. rw (here.seen, b, v.1 n (omega arith)) (h.1 n (omega arith)))
+        (λ n m. rw (here.seen, b, v n (omega arith)) (h n (omega arith)))
 
 -- ---- CASE
 abbrev pub ReadsArms : Arms → Type 0
-ReadsArms xs = (e : ℕ) → GoodArms e xs → (ts : List Token) → ArmsStop e xs ts → Soon (λ r. r.arms e (spell_arms xs ts)) (Ok (xs, ts))
+ReadsArms xs = (e : ℕ) → GoodArms e xs → (ts : List Token) → ArmsStop e xs ts → Soon (steps_arms xs) (λ r. r.arms e (spell_arms xs ts)) (Ok (xs, ts))
 
 arms_end : (r : Readers) (e : ℕ) (a : Phrase) (p : Place) (b : Phrase) (q : Place) (k : ExprToken) (ts : List Token) → is_box k ≡ false → arms_by r e a p b q k ts ≡ Ok (last_arm a p b, ts)
 arms_end r e a p b q (tk.mark tk.box) ts h = absurd cc
@@ -100,10 +101,10 @@ pub reads_last_arm : (a : Phrase) (p : Place) (b : Phrase) → Reads a → Reads
 reads_last_arm a p b ha hb e (ga, gp, gb) ts (s, z, k) =
     let w = closed a ha e ga (mark p tk.arrow (spell b ts)) (rw gp refl) in
     let v = ended b hb e free tt gb refl ts s z in
-    step (λ r. r.arms e (spell_arms (last_arm a p b) ts)) (Ok (last_arm a p b, ts)) (w.0 + v.0, λ n l. rw (w.1 n (omega arith), gp, v.1 n (omega arith)) (arms_end (readers n) e a p b (next e ts).place (next e ts).kind ts k))
+    step (λ r. r.arms e (spell_arms (last_arm a p b) ts)) (Ok (last_arm a p b, ts)) (omega arith) (λ n l. rw (w n (omega arith), gp, v n (omega arith)) (arms_end (readers n) e a p b (next e ts).place (next e ts).kind ts k))
 
 -- before a `[]` that no CASE in it takes
-boxed : (b : Phrase) → Reads b → (e : ℕ) → Good e b → (q : Place) (ts : List Token) → Right e q → not (takes_box q.col b) ≡ true → Soon (λ r. r.expr e free (spell b (mark q tk.box ts))) (Ok (b, mark q tk.box ts))
+boxed : (b : Phrase) → Reads b → (e : ℕ) → Good e b → (q : Place) (ts : List Token) → Right e q → not (takes_box q.col b) ≡ true → Soon (steps b + 3) (λ r. r.expr e free (spell b (mark q tk.box ts))) (Ok (b, mark q tk.box ts))
 boxed b h e g q ts r k =
     let us = mark q tk.box ts in
     let s : next e us ≡ token q (tk.mark tk.box) = rw r refl in
@@ -115,7 +116,7 @@ reads_other_arm a p b q m s d ha hb hd e (ga, gp, gb, z0, gq, gr, gs, gd) ts (y,
     let w = closed a ha e ga (mark p tk.arrow (spell b (mark q tk.box us))) (rw gp refl) in
     let v = boxed b hb e gb q us gq z0 in
     let u = ended d hd e free tt gd refl ts y z in
-    step (λ r. r.arms e (spell_arms (other_arm a p b q m s d) ts)) (Ok (other_arm a p b q m s d, ts)) (w.0 + v.0 + u.0, λ n l. rw (w.1 n (omega arith), gp, v.1 n (omega arith), gq, gr, gs, u.1 n (omega arith)) refl)
+    step (λ r. r.arms e (spell_arms (other_arm a p b q m s d) ts)) (Ok (other_arm a p b q m s d, ts)) (omega arith) (λ n l. rw (w n (omega arith), gp, v n (omega arith), gq, not-true (takes_box q.col b) z0, gr, gs, u n (omega arith)) refl)
 
 starts_arms : (e : ℕ) (xs : Arms) → GoodArms e xs → (ts : List Token) → Starts e (spell_arms xs ts)
 starts_arms e (last_arm a p b) g ts = starts e a g.0 (mark p tk.arrow (spell b ts))
@@ -135,12 +136,12 @@ reads_arm a p b q xs ha hb hx e (ga, gp, gb, z0, gq, gx) ts k =
     let w = closed a ha e ga (mark p tk.arrow (spell b (mark q tk.box us))) (rw gp refl) in
     let v = boxed b hb e gb q us gq z0 in
     let u = hx e gx ts k in
-    step (λ r. r.arms e (spell_arms (arm a p b q xs) ts)) (Ok (arm a p b q xs, ts)) (w.0 + v.0 + u.0, λ n l. rw (w.1 n (omega arith), gp, v.1 n (omega arith), gq) (arms_at (readers n) e a p b q us (starts_arms e xs gx ts) ∙ rw (u.1 n (omega arith)) refl))
+    step (λ r. r.arms e (spell_arms (arm a p b q xs) ts)) (Ok (arm a p b q xs, ts)) (omega arith) (λ n l. rw (w n (omega arith), gp, v n (omega arith), gq, not-true (takes_box q.col b) z0) (arms_at (readers n) e a p b q us (starts_arms e xs gx ts) ∙ rw (u n (omega arith)) refl))
 
 pub reads_cases : (p : Place) (xs : Arms) → ReadsArms xs → Reads (cases p xs)
 reads_cases p xs hx = record { begins = λ h. absurd cc; prime = λ h. absurd cc; brief = λ e g h. absurd cc; full = full }
   where
     full : Full (cases p xs)
-    full e c f (gp, gx) t ts s o h =
+    full e c f (gp, gx) t ts s w o h =
         let v = hx e gx ts s in
-        step (λ r. r.expr e c (spell (cases p xs) ts)) o (h.0 + v.0, λ n l. rw (gp, v.1 n (omega arith)) (h.1 n (omega arith)))
+        step (λ r. r.expr e c (spell (cases p xs) ts)) o (omega arith) (λ n l. rw (gp, v n (omega arith)) (h n (omega arith)))

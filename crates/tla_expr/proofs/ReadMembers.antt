@@ -52,7 +52,7 @@ abbrev begins_word : List Token → Bool
 begins_word [] = false
 begins_word (t ∷ ts) = is_word t.kind
 
-word_bind : (ts : List Token) → begins_word ts ≡ false → is_bind ts ≡ false
+pub word_bind : (ts : List Token) → begins_word ts ≡ false → is_bind ts ≡ false
 word_bind [] h = refl
 word_bind (t ∷ []) h = refl
 word_bind (t ∷ u ∷ ts) h = rw h refl

@@ -12,7 +12,8 @@ use Rattle.tla_expr.specs.Spelling.{Phrase, number, string, constant, name, prim
 use Rattle.tla_expr.specs.Spelling.{Phrases, last, more}
 use Rattle.tla_expr.specs.Spelling.{mark, sign, spell, spell_all, Good, GoodAll, Right, head, is_primary, is_short, first_bullet}
 use Rattle.tla_expr.specs.Reader.{Out, then_read, ◌>>=◌, gives, skip, next, peek, Context, free, right_of, under, bound, fits, is_free, goes_on, Readers, readers, named, primary, under_by, operand, short_by, phrases_by}
-use Rattle.tla_expr.proofs.ReadSoon.{Soon, step, both, same, is_tail, NoTail, Stays, postfix_ends, climb_ends}
+use Rattle.tla_expr.proofs.Steps.{steps, steps_all}
+use Rattle.tla_expr.proofs.ReadSoon.{Soon, step, same, is_tail, NoTail, Stays, postfix_ends, climb_ends}
 use Rattle.tla_expr.proofs.ReadStops.{Stops, ListEnds, BulletsStop, is_calm, Calm, calm_stays, calm_stops, Fine, seen_sign, sign_infix, above_bound, left_parts, fits_left, left_stops, fits_short}
 
 -- ---- the claim
@@ -32,13 +33,13 @@ Inner e a ts = NoCall e ts
 -- a primary is read up to its `[a]` and `.b`, a short form to its end, and any phrase up to its operators: what the loop that goes on from it
 -- gives is given
 abbrev pub Prime : Phrase → Type 0
-Prime a = (e : ℕ) → Good e a → (ts : List Token) → Inner e a ts → (o : Out Phrase) → Soon (λ r. r.postfix e a ts) o → Soon (λ r. peek e (primary r e) (spell a ts)) o
+Prime a = (e : ℕ) → Good e a → (ts : List Token) → Inner e a ts → (k : ℕ) (o : Out Phrase) → Soon k (λ r. r.postfix e a ts) o → Soon (k + steps a) (λ r. peek e (primary r e) (spell a ts)) o
 
 abbrev pub Brief : Phrase → Type 0
-Brief a = (e : ℕ) → Good e a → is_short a ≡ true → (ts : List Token) → Stops e None a ts → Soon (λ r. r.short e (spell a ts)) (Ok (a, ts))
+Brief a = (e : ℕ) → Good e a → is_short a ≡ true → (ts : List Token) → Stops e None a ts → Soon (steps a + 2) (λ r. r.short e (spell a ts)) (Ok (a, ts))
 
 abbrev pub Full : Phrase → Type 0
-Full a = (e : ℕ) (c : Context) → Fine c → Good e a → fits c a ≡ true → (ts : List Token) → Stops e (Some c) a ts → (o : Out Phrase) → Soon (λ r. r.climb e (bound c) a ts) o → Soon (λ r. r.expr e c (spell a ts)) o
+Full a = (e : ℕ) (c : Context) → Fine c → Good e a → fits c a ≡ true → (ts : List Token) → Stops e (Some c) a ts → (k : ℕ) (o : Out Phrase) → Soon k (λ r. r.climb e (bound c) a ts) o → Soon (k + steps a + 2) (λ r. r.expr e c (spell a ts)) o
 
 pub record Begins (e : ℕ) (a : Phrase) (ts : List Token) : Type 0 where
   pub first : Token
@@ -55,11 +56,11 @@ pub record Reads (a : Phrase) : Type 0 where
   pub full : Full a
 
 -- to its end
-pub ended : (a : Phrase) → Reads a → (e : ℕ) (c : Context) → Fine c → Good e a → fits c a ≡ true → (ts : List Token) → Stops e (Some c) a ts → Stays e (bound c) a ts → Soon (λ r. r.expr e c (spell a ts)) (Ok (a, ts))
-ended a h e c f g t ts s k = h.full e c f g t ts s (Ok (a, ts)) (climb_ends e (bound c) a ts k)
+pub ended : (a : Phrase) → Reads a → (e : ℕ) (c : Context) → Fine c → Good e a → fits c a ≡ true → (ts : List Token) → Stops e (Some c) a ts → Stays e (bound c) a ts → Soon (steps a + 3) (λ r. r.expr e c (spell a ts)) (Ok (a, ts))
+ended a h e c f g t ts s k n l = h.full e c f g t ts s 1 (Ok (a, ts)) (climb_ends e (bound c) a ts k) n (omega arith)
 
 -- free, before a token that goes on nothing
-pub closed : (a : Phrase) → Reads a → (e : ℕ) → Good e a → (ts : List Token) → Calm e ts → Soon (λ r. r.expr e free (spell a ts)) (Ok (a, ts))
+pub closed : (a : Phrase) → Reads a → (e : ℕ) → Good e a → (ts : List Token) → Calm e ts → Soon (steps a + 3) (λ r. r.expr e free (spell a ts)) (Ok (a, ts))
 closed a h e g ts k = ended a h e free tt g refl ts (calm_stops e (Some free) a ts g k) (calm_stays e 0 a ts k)
 
 -- ---- lists
@@ -75,7 +76,7 @@ end_calm (tk.mark tk.comma) h = refl
 end_calm k h = h
 
 abbrev pub ReadsAll : Phrases → Type 0
-ReadsAll xs = (e : ℕ) → GoodAll e xs → (ts : List Token) → Ends e ts → Soon (λ r. r.phrases e (spell_all xs ts)) (Ok (xs, ts))
+ReadsAll xs = (e : ℕ) → GoodAll e xs → (ts : List Token) → Ends e ts → Soon (steps_all xs) (λ r. r.phrases e (spell_all xs ts)) (Ok (xs, ts))
 
 phrases_end : (r : Readers) (e : ℕ) (a : Phrase) (p : Place) (k : ExprToken) (ts : List Token) → is_end k ≡ true → phrases_by r e a p k ts ≡ Ok (last a, ts)
 phrases_end r e a p (tk.mark tk.comma) ts h = absurd cc
@@ -84,13 +85,13 @@ phrases_end r e a p k ts h = refl
 pub reads_last : (a : Phrase) → Reads a → ReadsAll (last a)
 reads_last a h e g ts k =
     let w = closed a h e g ts (end_calm (next e ts).kind k) in
-    step (λ r. r.phrases e (spell a ts)) (Ok (last a, ts)) (w.0, λ n l. rw (w.1 n l) (phrases_end (readers n) e a (next e ts).place (next e ts).kind ts k))
+    step (λ r. r.phrases e (spell a ts)) (Ok (last a, ts)) (omega arith) (λ n l. rw (w n (omega arith)) (phrases_end (readers n) e a (next e ts).place (next e ts).kind ts k))
 
 pub reads_more : (a : Phrase) (p : Place) (xs : Phrases) → Reads a → ReadsAll xs → ReadsAll (more a p xs)
 reads_more a p xs h i e (ga, gp, gx) ts k =
     let w = closed a h e ga (mark p tk.comma (spell_all xs ts)) (rw gp refl) in
     let v = i e gx ts k in
-    step (λ r. r.phrases e (spell_all (more a p xs) ts)) (Ok (more a p xs, ts)) (w.0 + v.0, λ n l. rw (w.1 n (omega arith), gp, v.1 n (omega arith)) refl)
+    step (λ r. r.phrases e (spell_all (more a p xs) ts)) (Ok (more a p xs, ts)) (omega arith) (λ n l. rw (w n (omega arith), gp, v n (omega arith)) refl)
 
 -- ---- primaries
 operand_is : (e : ℕ) (a : Phrase) (ts : List Token) → Begins e a ts → (r : Readers) (c : Context) → peek e (operand r e c) (spell a ts) ≡ peek e (primary r e) (spell a ts)
@@ -107,29 +108,28 @@ tail_call k h = refl
 pub primary_reads : (a : Phrase) → ((e : ℕ) (d : Option Context) (ts : List Token) → Stops e d a ts → NoTail e ts) → ((e : ℕ) (d : Option Context) (ts : List Token) → Stops e d a ts → Inner e a ts) → ((e : ℕ) → Good e a → (ts : List Token) → Begins e a ts) → Prime a → Reads a
 primary_reads a stop inner begins prime = record { begins = λ h. begins; prime = λ h. prime; brief = brief; full = full }
   where
-    read : (e : ℕ) (d : Option Context) → Good e a → (ts : List Token) → Stops e d a ts → Soon (λ r. peek e (primary r e) (spell a ts)) (Ok (a, ts))
-    read e d g ts s = prime e g ts (inner e d ts s) (Ok (a, ts)) (postfix_ends e a ts (stop e d ts s))
+    read : (e : ℕ) (d : Option Context) → Good e a → (ts : List Token) → Stops e d a ts → Soon (1 + steps a) (λ r. peek e (primary r e) (spell a ts)) (Ok (a, ts))
+    read e d g ts s = prime e g ts (inner e d ts s) 1 (Ok (a, ts)) (postfix_ends e a ts (stop e d ts s))
 
     brief : Brief a
     brief e g h ts s =
-        step (λ r. r.short e (spell a ts)) (Ok (a, ts)) (same (λ r. peek e (short_by r e) (spell a ts)) (λ r. peek e (primary r e) (spell a ts)) (Ok (a, ts)) (λ r. short_is e a ts (begins e g ts) r) (read e None g ts s))
+        step (λ r. r.short e (spell a ts)) (Ok (a, ts)) (omega arith) (λ n l. short_is e a ts (begins e g ts) (readers n) ∙ read e None g ts s n (omega arith))
 
     full : Full a
-    full e c f g t ts s o h =
-        step (λ r. r.expr e c (spell a ts)) o (both (λ r. peek e (operand r e c) (spell a ts)) (λ r a ts. r.climb e (bound c) a ts) a ts o
-        (same (λ r. peek e (operand r e c) (spell a ts)) (λ r. peek e (primary r e) (spell a ts)) (Ok (a, ts)) (λ r. operand_is e a ts (begins e g ts) r c) (read e (Some c) g ts s)) h)
+    full e c f g t ts s k o h =
+        step (λ r. r.expr e c (spell a ts)) o (omega arith) (λ n l. ap (λ (x : Out Phrase). then_read x (λ a us. (readers n).climb e (bound c) a us)) (operand_is e a ts (begins e g ts) (readers n) c ∙ read e (Some c) g ts s n (omega arith)) ∙ h n (omega arith))
 
 pub reads_number : (p : Place) (n : ℕ) → Reads (number p n)
 reads_number p n = primary_reads (number p n) (λ e d ts s. s) (λ e d ts s. tail_call (next e ts).kind s) (λ e g ts. record { first = token p (tk.number n); rest = ts; same_as = refl; right = g; as_operand = λ r c us. refl; as_short = λ r us. refl })
-    (λ e g ts k o h. (h.0, λ m l. rw g (h.1 m l)))
+    (λ e g ts i k o h. (λ m l. rw g (h m (omega arith))))
 
 pub reads_quote : (p : Place) (x : Word) → Reads (string p x)
 reads_quote p x = primary_reads (string p x) (λ e d ts s. s) (λ e d ts s. tail_call (next e ts).kind s) (λ e g ts. record { first = token p (tk.string x); rest = ts; same_as = refl; right = g; as_operand = λ r c us. refl; as_short = λ r us. refl })
-    (λ e g ts k o h. (h.0, λ m l. rw g (h.1 m l)))
+    (λ e g ts i k o h. (λ m l. rw g (h m (omega arith))))
 
 pub reads_constant : (p : Place) (x : Constant) → Reads (constant p x)
 reads_constant p x = primary_reads (constant p x) (λ e d ts s. s) (λ e d ts s. tail_call (next e ts).kind s) (λ e g ts. record { first = token p (tk.constant x); rest = ts; same_as = refl; right = g; as_operand = λ r c us. refl; as_short = λ r us. refl })
-    (λ e g ts k o h. (h.0, λ m l. rw g (h.1 m l)))
+    (λ e g ts i k o h. (λ m l. rw g (h m (omega arith))))
 
 named_plain : (r : Readers) (e : ℕ) (p : Place) (x : Word) (q : Place) (k : ExprToken) (ts : List Token) → is_call k ≡ false → named r e p x q k ts ≡ Ok (name p x, ts)
 named_plain r e p x q (tk.mark tk.open_bracket) ts h = absurd cc
@@ -138,46 +138,46 @@ named_plain r e p x q k ts h = refl
 
 pub reads_name : (p : Place) (x : Word) → Reads (name p x)
 reads_name p x = primary_reads (name p x) (λ e d ts s. s) (λ e d ts s. tail_call (next e ts).kind s) (λ e g ts. record { first = token p (tk.word x); rest = ts; same_as = refl; right = g; as_operand = λ r c us. refl; as_short = λ r us. refl })
-    (λ e g ts k o h. (h.0, λ m l. rw g (ap (λ (x : Out Phrase). then_read x (λ a us. (readers m).postfix e a us)) (named_plain (readers m) e p x (next e ts).place (next e ts).kind ts k) ∙ h.1 m l)))
+    (λ e g ts i k o h. (λ m l. rw g (ap (λ (x : Out Phrase). then_read x (λ a us. (readers m).postfix e a us)) (named_plain (readers m) e p x (next e ts).place (next e ts).kind ts i) ∙ h m (omega arith))))
 
 pub reads_primed : (p : Place) (x : Word) (q : Place) → Reads (primed p x q)
 reads_primed p x q = primary_reads (primed p x q) (λ e d ts s. s) (λ e d ts s. tail_call (next e ts).kind s) (λ e g ts. record { first = token p (tk.word x); rest = mark q tk.prime ts; same_as = refl; right = g.0; as_operand = λ r c us. refl; as_short = λ r us. refl })
-    (λ e g ts k o h. (h.0, λ m l. rw (g.0, g.1) (h.1 m l)))
+    (λ e g ts i k o h. (λ m l. rw (g.0, g.1) (h m (omega arith))))
 
 pub reads_call : (p : Place) (x : Word) (q : Place) (xs : Phrases) (s : Place) → ReadsAll xs → Reads (call p x q xs s)
 reads_call p x q xs s hx = primary_reads (call p x q xs s) (λ e d ts s. s) (λ e d ts s. tail_call (next e ts).kind s) (λ e g ts. record { first = token p (tk.word x); rest = mark q tk.open_bracket (spell_all xs (mark s tk.close_bracket ts)); same_as = refl; right = g.0; as_operand = λ r c us. refl; as_short = λ r us. refl }) prime
   where
     prime : Prime (call p x q xs s)
-    prime e (gp, gq, gx, gs) ts k o h = (let v = hx e gx (mark s tk.close_bracket ts) (rw gs refl) in (h.0 + v.0, λ m l. rw (gp, gq, v.1 m (omega arith), gs) (h.1 m (omega arith))))
+    prime e (gp, gq, gx, gs) ts i k o h = (let v = hx e gx (mark s tk.close_bracket ts) (rw gs refl) in (λ m l. rw (gp, gq, v m (omega arith), gs) (h m (omega arith))))
 
 pub reads_brackets : (p : Place) (a : Phrase) (q : Place) → Reads a → Reads (brackets p a q)
 reads_brackets p a q ha = primary_reads (brackets p a q) (λ e d ts s. s) (λ e d ts s. tail_call (next e ts).kind s) (λ e g ts. record { first = token p (tk.mark tk.open_bracket); rest = spell a (mark q tk.close_bracket ts); same_as = refl; right = g.0; as_operand = λ r c us. refl; as_short = λ r us. refl }) prime
   where
     prime : Prime (brackets p a q)
-    prime e (gp, ga, gq) ts k o h = (let v = closed a ha e ga (mark q tk.close_bracket ts) (rw gq refl) in (h.0 + v.0, λ m l. rw (gp, v.1 m (omega arith), gq) (h.1 m (omega arith))))
+    prime e (gp, ga, gq) ts i k o h = (let v = closed a ha e ga (mark q tk.close_bracket ts) (rw gq refl) in (λ m l. rw (gp, v m (omega arith), gq) (h m (omega arith))))
 
 pub reads_no_set : (p q : Place) → Reads (no_set p q)
 reads_no_set p q = primary_reads (no_set p q) (λ e d ts s. s) (λ e d ts s. tail_call (next e ts).kind s) (λ e g ts. record { first = token p (tk.mark tk.open_brace); rest = mark q tk.close_brace ts; same_as = refl; right = g.0; as_operand = λ r c us. refl; as_short = λ r us. refl })
-    (λ e g ts k o h. (h.0, λ m l. rw (g.0, g.1) (h.1 m l)))
+    (λ e g ts i k o h. (λ m l. rw (g.0, g.1) (h m (omega arith))))
 
 pub reads_no_tuple : (p q : Place) → Reads (no_tuple p q)
 reads_no_tuple p q = primary_reads (no_tuple p q) (λ e d ts s. s) (λ e d ts s. tail_call (next e ts).kind s) (λ e g ts. record { first = token p (tk.mark tk.open_tuple); rest = mark q tk.close_tuple ts; same_as = refl; right = g.0; as_operand = λ r c us. refl; as_short = λ r us. refl })
-    (λ e g ts k o h. (h.0, λ m l. rw (g.0, g.1) (h.1 m l)))
+    (λ e g ts i k o h. (λ m l. rw (g.0, g.1) (h m (omega arith))))
 
 -- ---- operators
 pub reads_infix : (a : Phrase) (p : Place) (o : Op) (b : Phrase) → Reads a → Reads b → Reads (infix_of a p o b)
 reads_infix a p o b ha hb = record { begins = λ h. absurd cc; prime = λ h. absurd cc; brief = λ e g h. absurd cc; full = full }
   where
     full : Full (infix_of a p o b)
-    full e c f (n, l, m, ga, gp, gb) t ts (s, k) out h =
+    full e c f (n, l, m, ga, gp, gb) t ts (s, k) w out h j i =
         let between : is_prefix o ≡ false = not-true (is_prefix o) n in
         let above = above_bound c f a p o b between t in
         let parts = left_parts a p o l in
         let more_ts = sign p o (spell b ts) in
         let v = ended b hb e (right_of o) tt gb m ts s k in
         let goes : goes_on (bound c) a p o ≡ true = rw (between, lt-ltb (bound c) (rank o).0 above, l) refl in
-        ha.full e c f ga (fits_left c a o parts.0 above) more_ts (left_stops e c a p o more_ts ga parts.1 parts.0 above (seen_sign e p o (spell b ts) gp between)) out
-        (step (λ r. r.climb e (bound c) a more_ts) out (h.0 + v.0, λ n l. rw (gp, sign_infix o between, goes, v.1 n (omega arith)) (h.1 n (omega arith))))
+        ha.full e c f ga (fits_left c a o parts.0 above) more_ts (left_stops e c a p o more_ts ga parts.1 parts.0 above (seen_sign e p o (spell b ts) gp between)) (w + steps b + 4) out
+        (step (λ r. r.climb e (bound c) a more_ts) out (omega arith) (λ n l. rw (gp, sign_infix o between, goes, v n (omega arith)) (h n (omega arith)))) j (omega arith)
 
 prefix_operand : (r : Readers) (e : ℕ) (c : Context) (p : Place) (o : Op) (us : List Token) → is_prefix o ≡ true → operand r e c p (sign_of o) us ≡ skip (under_by (is_free c o) r e o >>= λ a. gives (prefix_of p o a)) us
 prefix_operand r e c p op.Not us h = refl
@@ -201,15 +201,15 @@ reads_prefix p o a ha = record { begins = λ h. absurd cc; prime = λ h. absurd 
     brief : Brief (prefix_of p o a)
     brief e (n, m, gp, ga) t ts s =
         let v = ha.brief e ga t ts s in
-        step (λ r. r.short e (spell (prefix_of p o a) ts)) (Ok (prefix_of p o a, ts)) (v.0, λ n' l. rw gp (prefix_short (readers n') e p o (sign p o (spell a ts)) n ∙ rw (v.1 n' l) refl))
+        step (λ r. r.short e (spell (prefix_of p o a) ts)) (Ok (prefix_of p o a, ts)) (omega arith) (λ n' l. rw gp (prefix_short (readers n') e p o (sign p o (spell a ts)) n ∙ rw (v n' (omega arith)) refl))
 
     under_read : (e : ℕ) (c : Context) (b : Bool) → is_free c o ≡ b → Good e (prefix_of p o a) → fits c (prefix_of p o a) ≡ true → (ts : List Token) → MatchBool b (Stops e (Some (under o)) a ts × Stays e (rank o).1 a ts) (Stops e None a ts)
-        → Soon (λ r. under_by b r e o (spell a ts)) (Ok (a, ts))
-    under_read e c true i (n, m, gp, ga) t ts (s, k) = ended a ha e (under o) n ga m ts s k
-    under_read e c false i (n, m, gp, ga) t ts s = ha.brief e ga (fits_short c p o a i t) ts s
+        → Soon (steps a + 3) (λ r. under_by b r e o (spell a ts)) (Ok (a, ts))
+    under_read e c true i (n, m, gp, ga) t ts (s, k) j l = ended a ha e (under o) n ga m ts s k j l
+    under_read e c false i (n, m, gp, ga) t ts s j l = ha.brief e ga (fits_short c p o a i t) ts s j (omega arith)
 
     full : Full (prefix_of p o a)
-    full e c f g t ts s out h =
+    full e c f g t ts s k out h =
         let v = under_read e c (is_free c o) refl g t ts s in
         step (λ r. r.expr e c (spell (prefix_of p o a) ts)) out
-        (h.0 + v.0, λ n l. rw (g.2, ap (λ (x : Out Phrase). then_read x (λ a us. (readers n).climb e (bound c) a us)) (prefix_operand (readers n) e c p o (sign p o (spell a ts)) g.0), v.1 n (omega arith)) (h.1 n (omega arith)))
+        (omega arith) (λ n l. rw (g.2, ap (λ (x : Out Phrase). then_read x (λ a us. (readers n).climb e (bound c) a us)) (prefix_operand (readers n) e c p o (sign p o (spell a ts)) g.0), v n (omega arith)) (h n (omega arith)))

@@ -6,28 +6,18 @@ use Rattle.tla_expr.specs.Lexical as tk
 use Rattle.tla_expr.specs.Spelling.{Phrase}
 use Rattle.tla_expr.specs.Reader.{Out, then_read, next, Readers, one_step, readers, goes_on, postfix_by, climb_by}
 
--- with each number of steps from some on, it gives o
-abbrev pub Soon : {A : Type 0} → (Readers → Out A) → Out A → Type 0
-Soon f o = (k : ℕ) × ((n : ℕ) → k ≤ n → f (readers n) ≡ o)
+-- with k steps, and with more, it gives o
+abbrev pub Soon : {A : Type 0} → ℕ → (Readers → Out A) → Out A → Type 0
+Soon k f o = (n : ℕ) → k ≤ n → f (readers n) ≡ o
 
--- what a step gives soon is given soon
-pub step : {A : Type 0} (f : Readers → Out A) (o : Out A) → Soon (λ r. f (one_step r)) o → Soon f o
+-- one step and then fewer
+pub step : {A : Type 0} (f : Readers → Out A) (o : Out A) → {k : ℕ} → 1 ≤ k → ((n : ℕ) → k ≤ suc n → f (one_step (readers n)) ≡ o) → Soon k f o
 unfolding readers
-step f o h = (suc h.0, at)
-  where
-    at : (n : ℕ) → suc h.0 ≤ n → f (readers n) ≡ o
-    at zero l = absurd (omega arith)
-    at (suc n) l = h.1 n (omega arith)
+step f o s h zero l = absurd (omega arith)
+step f o s h (suc n) l = h n l
 
-pub now : {A : Type 0} (o : Out A) → Soon (λ r. o) o
-now o = (0, λ n l. refl)
-
--- first one, then the other
-pub both : {A B : Type 0} (f : Readers → Out A) (g : Readers → A → List Token → Out B) (a : A) (ts : List Token) (o : Out B) → Soon f (Ok (a, ts)) → Soon (λ r. g r a ts) o → Soon (λ r. then_read (f r) (g r)) o
-both f g a ts o h i = (h.0 + i.0, λ n l. ap (λ x. then_read x (g (readers n))) (h.1 n (omega arith)) ∙ i.1 n (omega arith))
-
-pub same : {A : Type 0} (f g : Readers → Out A) (o : Out A) → ((r : Readers) → f r ≡ g r) → Soon g o → Soon f o
-same f g o e h = (h.0, λ n l. e (readers n) ∙ h.1 n l)
+pub same : {A : Type 0} (f g : Readers → Out A) (o : Out A) {k : ℕ} → ((r : Readers) → f r ≡ g r) → Soon k g o → Soon k f o
+same f g o e h n l = e (readers n) ∙ h n l
 
 -- ---- where a loop ends
 abbrev pub is_tail : ExprToken → Bool
@@ -57,8 +47,8 @@ climb_stops : (r : Readers) (e b : ℕ) (a : Phrase) (p : Place) (k : ExprToken)
 climb_stops r e b a p (tk.sign o) ts h = rw h refl
 climb_stops r e b a p k ts h = refl
 
-pub postfix_ends : (e : ℕ) (a : Phrase) (ts : List Token) → NoTail e ts → Soon (λ r. r.postfix e a ts) (Ok (a, ts))
-postfix_ends e a ts h = step (λ r. r.postfix e a ts) (Ok (a, ts)) (0, λ n l. postfix_stops (readers n) e a (next e ts).place (next e ts).kind ts h)
+pub postfix_ends : (e : ℕ) (a : Phrase) (ts : List Token) → NoTail e ts → Soon 1 (λ r. r.postfix e a ts) (Ok (a, ts))
+postfix_ends e a ts h = step (λ r. r.postfix e a ts) (Ok (a, ts)) (omega arith) (λ n l. postfix_stops (readers n) e a (next e ts).place (next e ts).kind ts h)
 
-pub climb_ends : (e b : ℕ) (a : Phrase) (ts : List Token) → Stays e b a ts → Soon (λ r. r.climb e b a ts) (Ok (a, ts))
-climb_ends e b a ts h = step (λ r. r.climb e b a ts) (Ok (a, ts)) (0, λ n l. climb_stops (readers n) e b a (next e ts).place (next e ts).kind ts h)
+pub climb_ends : (e b : ℕ) (a : Phrase) (ts : List Token) → Stays e b a ts → Soon 1 (λ r. r.climb e b a ts) (Ok (a, ts))
+climb_ends e b a ts h = step (λ r. r.climb e b a ts) (Ok (a, ts)) (omega arith) (λ n l. climb_stops (readers n) e b a (next e ts).place (next e ts).kind ts h)

@@ -13,7 +13,7 @@ use Rattle.tla_expr.specs.Lexical as tk
 use Rattle.tla_expr.specs.Spelling.{Phrase, Binds, Good, Spells, spell, operation, one, two}
 use Rattle.tla_expr.specs.Spelling as spelled
 use Rattle.tla_expr.specs.Written.{written, pieces}
-use Rattle.tla_expr.specs.Bracketed.{phrase_of, kinds, tokens_of}
+use Rattle.tla_expr.specs.laws.Bracketed.{phrase_of, kinds, tokens_of}
 use Rattle.tla_expr.specs.Nesting.{counts, tree_nesting}
 use Rattle.tla_expr.specs.Shapes.{Shaped}
 

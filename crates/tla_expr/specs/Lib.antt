@@ -10,5 +10,5 @@ pub mod ExprTokens
 pub mod Spelling
 pub mod Written
 pub mod Nesting
-pub mod Bracketed
 pub mod Reader
+pub mod laws

@@ -1,5 +1,5 @@
 -- Reading an expression from left to right, as a function of its tokens ("Specifying Systems", chapter 15).
-use Rattle.std.specs.Prelude.{◌≡◌, ℕ, zero, suc, Bool, true, false, ◌||◌, ◌&&◌, not, nat_lt, nat_eq, List, [], ◌∷◌, Option, Some, None, Result, Ok, Err, length, if◌then◌else◌}
+use Rattle.std.specs.Prelude.{◌≡◌, ℕ, zero, suc, ◌*◌, Bool, true, false, ◌||◌, ◌&&◌, not, nat_lt, nat_eq, List, [], ◌∷◌, Option, Some, None, Result, Ok, Err, length, if◌then◌else◌}
 use Rattle.tla_token.specs.declared.place.Place.{Place}
 use Rattle.tla_expr.specs.declared.op.Op.{Op}
 use Rattle.tla_expr.specs.declared.op.Op.TheVariants as op
@@ -9,7 +9,7 @@ use Rattle.tla_expr.specs.Lexical.{Mark, Key, ExprToken, Token, token}
 use Rattle.tla_expr.specs.Lexical as tk
 use Rattle.tla_expr.specs.Spelling.{Field, Phrase, number, string, constant, name, primed, call, brackets, no_set, set_of, filter, image, no_tuple, tuple, fields, records, function, functions, except, apply, select, list, quantified, if_then_else, cases, local, infix_of, prefix_of}
 use Rattle.tla_expr.specs.Spelling.{Phrases, last, more, Binds, last_bind, bind, share, Fields, last_field, field, Settings, last_setting, setting, Path, path_end, index, at_field, Bullets, last_bullet, bullet, Arms, last_arm, other_arm, arm, Locals, last_local, more_locals}
-use Rattle.tla_expr.specs.Spelling.{can_be_left, can_be_right, can_be_under, can_be_head, is_some_path}
+use Rattle.tla_expr.specs.Spelling.{can_be_left, can_be_right, can_be_under, can_be_head, is_some_path, takes_box}
 
 -- Ok: what was read, and the tokens behind it. Err: the tokens from the refused one on.
 abbrev pub Out : Type 0 → Type 0
@@ -404,8 +404,13 @@ abbrev pub arms_other : Readers → ℕ → Phrase → Place → Phrase → Plac
 arms_other r e a p b q s (tk.key tk.other_key) = skip (a_mark e tk.arrow >>= λ t. r.expr e free >>= λ c. gives (other_arm a p b q s t c))
 arms_other r e a p b q s k = r.arms e >>= λ xs. gives (arm a p b q xs)
 
+-- a `[]` belongs to the nearest CASE that can take it
+abbrev pub arms_if : Bool → Readers → ℕ → Phrase → Place → Phrase → Place → Reader Arms
+arms_if true r e a p b q = gives (last_arm a p b)
+arms_if false r e a p b q = skip (peek e (arms_other r e a p b q))
+
 abbrev pub arms_by : Readers → ℕ → Phrase → Place → Phrase → Place → ExprToken → Reader Arms
-arms_by r e a p b q (tk.mark tk.box) = skip (peek e (arms_other r e a p b q))
+arms_by r e a p b q (tk.mark tk.box) = arms_if (takes_box q.col b) r e a p b q
 arms_by r e a p b q k = gives (last_arm a p b)
 
 abbrev pub locals_by : Readers → ℕ → Place → Word → Place → Phrase → Place → ExprToken → Reader Locals
@@ -449,6 +454,6 @@ unfoldable pub readers : ℕ → Readers
 readers zero = no_steps
 readers (suc n) = one_step (readers n)
 
--- an expression to the right of the edge, with as many steps as there are tokens
+-- an expression to the right of the edge; reading takes four steps for each token at most
 abbrev pub read : ℕ → Reader Phrase
-read e ts = (readers (suc (length ts))).expr e free ts
+read e ts = (readers (4 * length ts)).expr e free ts

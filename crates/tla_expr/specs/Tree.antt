@@ -67,6 +67,10 @@ mutual
     no_trees : Trees
     tree : Tree → Trees → Trees
 
+-- the place of a tree: that of its first token
+abbrev pub root_place : Tree → Place
+root_place (node m at ts) = at
+
 -- a fact of each node
 abbrev mutual
   pub Every : (Form → Place → Type 0) → Tree → Type 0

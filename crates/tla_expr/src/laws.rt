@@ -1,12 +1,41 @@
 //! Laws of expressions, stated as what functions without a body ensure.
 
-ghost use Rattle.std.specs.Prelude.{◌≡◌, List, []};
+ghost use Rattle.std.specs.Prelude.{◌≡◌, ◌++◌, ℕ, List, [], Ok};
 ghost use Rattle.tla_expr.specs.Tree.{Tree};
 ghost use Rattle.tla_expr.specs.Lexical.{Token};
-ghost use Rattle.tla_expr.specs.Spelling.{Phrase, spell, IsGood, Spells};
+ghost use Rattle.tla_expr.specs.Spelling.{Phrase, spell, Good, IsGood, Spells, head, primary};
+ghost use Rattle.tla_expr.specs.Reader.{read};
+ghost use Rattle.tla_expr.specs.laws.Columns.{looks, lineless, Begin};
+ghost use Rattle.tla_expr.specs.Written.{pieces};
+ghost use Rattle.tla_expr.specs.laws.Writable.{IsWritable, AreSpelled};
+ghost use Rattle.tla_expr.specs.laws.Bracketed.{as_operand, part};
 
 /// Tokens spell one expression at most, in one way.
 pub fn expressions_are_spelled_in_one_way()
     ensures phrase { (a b : Phrase) → IsGood a → IsGood b → spell a [] ≡ spell b [] → a ≡ b }
     ensures tree { (ts : List Token) (t u : Tree) → Spells ts t → Spells ts u → t ≡ u }
+{}
+
+/// Reading from left to right gives what is spelled: what is read is a phrase that may be spelled, and the tokens that were
+/// passed are its tokens; and a phrase that may be spelled is read from its tokens, all of it.
+pub fn reading_is_exact()
+    ensures sound { (edge : ℕ) (ts rest : List Token) (a : Phrase) → read edge ts ≡ Ok (a, rest) → Good edge a × (ts ≡ spell a rest) }
+    ensures complete { (edge : ℕ) (a : Phrase) → Good edge a → read edge (spell a []) ≡ Ok (a, []) }
+{}
+
+/// Whether tokens spell an expression, and which, rests on their kinds and columns alone: tokens of other lines spell the same
+/// phrase in other lines, and it is read of them; and what may begin a phrase is a matter of kinds and columns.
+pub fn lines_do_not_matter()
+    ensures good { (edge : ℕ) (a b : Phrase) → lineless a ≡ lineless b → Good edge a → Good edge b }
+    ensures spelled { (edge : ℕ) (ts us : List Token) → looks ts ≡ looks us → (a : Phrase) → Good edge a → ts ≡ spell a [] → (b : Phrase) × Good edge b × (us ≡ spell b []) × (lineless b ≡ lineless a) }
+    ensures read { (edge : ℕ) (ts us : List Token) → looks ts ≡ looks us → (a : Phrase) → read edge ts ≡ Ok (a, []) → (b : Phrase) × (read edge us ≡ Ok (b, [])) × (lineless b ≡ lineless a) }
+    ensures begins { (edge : ℕ) (ts more : List Token) (a : Phrase) → Good edge a → spell a [] ≡ ts ++ more → Begin edge (looks ts) }
+    ensures begun { (edge : ℕ) (ts : List Token) → Begin edge (looks ts) → (a : Phrase) × (more : List Token) × Good edge a × (spell a [] ≡ ts ++ more) }
+{}
+
+/// What is written of a tree whose names, fields, strings and numbers a text can have are texts of tokens, each seen as the token
+/// that was meant. And as an operand each tree is a primary, in brackets where it needs them: how it is read rests on no rank.
+pub fn trees_are_written_in_tokens()
+    ensures tokens { (t : Tree) → IsWritable t → AreSpelled (pieces t) }
+    ensures operand { (t : Tree) → head (as_operand (part t)) ≡ primary }
 {}

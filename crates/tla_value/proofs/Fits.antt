@@ -1,9 +1,13 @@
 -- What it is for a value to be within the limits, part by part.
-use Rattle.std.proofs.Common.{◌≡◌, ℕ, ◌≤◌, Bool, true, false, refl, ap, arith}
-use Rattle.std.specs.Prelude.{◌&&◌, nat_le}
+use Rattle.std.proofs.Common.{◌≡◌, ℕ, suc, pos, ◌+◌, ◌≤◌, ◌<◌, Bool, true, false, List, [], ◌∷◌, length, refl, sym, ap, ◌∙◌, arith, Ok, Err}
+use Rattle.std.specs.Prelude.{◌&&◌, ◌^◌, nat_le, if◌then◌else◌}
 use Rattle.std.proofs.lemmas.Bool.{leb-true, le-leb}
-use Rattle.tla_value.specs.Value.{Value}
-use Rattle.tla_value.specs.Limits.{depth, deepest, fits, fits_parts}
+use Rattle.tla_token.specs.declared.place.Place.{Place}
+use Rattle.tla_value.specs.Value.{Value, Values, set, fun, values_in, over}
+use Rattle.tla_value.specs.Order.{count, numbered, seq_from}
+use Rattle.tla_value.specs.Limits.{depth, depths, deepest, most_members, fits, fits_int, fits_count, fits_parts, all_fit, bounded}
+use Rattle.tla_value.proofs.ValueLists.{count-values_in}
+use Rattle.tla_value.proofs.OrderFuns.{count_numbered}
 
 pub split : (a b : Bool) → (a && b) ≡ true → (a ≡ true) × (b ≡ true)
 split true b h = (refl, h)
@@ -20,3 +24,55 @@ depth_of v h = leb-true (depth v) deepest (split (fits_parts v) (nat_le (depth v
 
 pub fits_by : (v : Value) → fits_parts v ≡ true → depth v ≤ deepest → fits v ≡ true
 fits_by v h k = joined (fits_parts v) (nat_le (depth v) deepest) h (le-leb (depth v) deepest k)
+
+-- ---- sets and functions
+
+not_true : (b : Bool) → (b ≡ true → ⊥) → b ≡ false
+not_true true h = absurd (h refl)
+not_true false h = refl
+
+count_of : (vs : Values) → fits_count vs ≡ true → count vs ≤ most_members
+count_of vs h = leb-true (count vs) most_members h
+
+pub set_many : (vs : Values) → most_members < count vs → fits (set vs) ≡ false
+set_many vs l = not_true (fits (set vs)) (λ h. omega (arith, count_of vs (split (fits_count vs) (all_fit vs) (fits_parts_of (set vs) h)).0))
+
+pub set_deep : (vs : Values) → deepest ≤ depths vs → fits (set vs) ≡ false
+set_deep vs l = not_true (fits (set vs)) (λ h. omega (arith, depth_of (set vs) h))
+
+pub set_fits : (vs : Values) → count vs ≤ most_members → depths vs < deepest → all_fit vs ≡ true → fits (set vs) ≡ true
+set_fits vs l d h = fits_by (set vs) (joined (fits_count vs) (all_fit vs) (le-leb (count vs) most_members l) h) (omega arith)
+
+pub fun_many : (ds vs : Values) → most_members < count ds → fits (fun ds vs) ≡ false
+fun_many ds vs l =
+    not_true (fits (fun ds vs)) (λ h. omega (arith, count_of ds (split (fits_count ds) (all_fit ds && all_fit vs) (fits_parts_of (fun ds vs) h)).0))
+
+pub fun_deep : (ds vs : Values) → deepest ≤ depths vs → fits (fun ds vs) ≡ false
+fun_deep ds vs l = not_true (fits (fun ds vs)) (λ h. omega (arith, depth_of (fun ds vs) h))
+
+pub fun_fits : (ds vs : Values) → count ds ≤ most_members → depths ds < deepest → depths vs < deepest → all_fit ds ≡ true → all_fit vs ≡ true → fits (fun ds vs) ≡ true
+fun_fits ds vs l d e h k =
+    fits_by (fun ds vs) (joined (fits_count ds) (all_fit ds && all_fit vs) (le-leb (count ds) most_members l) (joined (all_fit ds) (all_fit vs) h k)) (omega arith)
+
+-- ---- the domain of a tuple
+
+pub numbered_flat : (n : ℕ) (vs : List Value) → depths (numbered n vs) ≡ 0
+numbered_flat n [] = refl
+numbered_flat n (v ∷ vs) = omega (arith, numbered_flat (suc n) vs)
+
+pub numbered_fit : (n : ℕ) (vs : List Value) → n + length vs ≤ suc most_members → all_fit (numbered n vs) ≡ true
+numbered_fit n [] h = refl
+numbered_fit n (v ∷ vs) h =
+    joined (fits_int (pos n)) (all_fit (numbered (suc n) vs)) (le-leb (suc n) (2 ^ 127) (omega arith)) (numbered_fit (suc n) vs (omega arith))
+
+pub seq_fits : (vs : List Value) → length vs ≤ most_members → depths (values_in vs) < deepest → all_fit (values_in vs) ≡ true → fits (seq_from vs) ≡ true
+seq_fits vs l d h =
+    fun_fits (numbered 1 vs) (values_in vs) (omega (arith, count_numbered 1 vs, count-values_in vs)) (omega (arith, numbered_flat 1 vs)) d (numbered_fit 1 vs (omega arith)) h
+
+-- ---- a value that is reached
+
+pub bounded_past : (at : Place) (v w : Value) → v ≡ w → fits v ≡ false → bounded at w ≡ Err (over at)
+bounded_past at v w e h = ap (bounded at) (sym e) ∙ ap (λ b. if b then Ok v else Err (over at)) h
+
+pub bounded_kept : (at : Place) (v w : Value) → v ≡ w → fits v ≡ true → bounded at w ≡ Ok v
+bounded_kept at v w e h = ap (bounded at) (sym e) ∙ ap (λ b. if b then Ok v else Err (over at)) h

@@ -4,6 +4,8 @@ pub mod OrderFuns
 pub mod SetOf
 pub mod ValueLists
 pub mod Lookups
+pub mod Searched
+pub mod InOrder
 pub mod ValueSpelled
 pub mod Fits
 pub mod ValueWithin

@@ -7,6 +7,7 @@ pub mod ValueSeen
 pub mod Code
 pub mod ValueOf
 pub mod Falls
+pub mod Answers
 pub mod States
 pub mod Stops
 pub mod Sets

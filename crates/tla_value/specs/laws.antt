@@ -1,3 +1,4 @@
 -- What only laws speak of.
+pub mod InOrder
 pub mod Groups
 pub mod FreeNames

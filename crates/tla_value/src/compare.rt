@@ -1,6 +1,6 @@
 //! The canonical order of values, and the place of a value in it.
 
-ghost use Rattle.std.specs.Prelude.{◌≡◌, OnOk};
+ghost use Rattle.std.specs.Prelude.{◌≡◌, OnOk, OnErr};
 ghost use Rattle.tla_value.specs.Value.{values_in};
 ghost use Rattle.tla_value.specs.Order.{order, orders, sized, inserted};
 
@@ -161,9 +161,10 @@ fn compare_all(a: &[Value], b: &[Value]) -> Ordering
 ///
 /// # Errors
 ///
-/// Only for want of memory.
+/// Only for want of memory; the list is then as before.
 pub fn put(values: &mut Vec<Value>, v: Value) -> Result<(), AllocError>
-    ensures { OnOk result (values_in values.new.items ≡ inserted v (values_in values.old.items)) }
+    ensures ok { OnOk result (values_in values.new.items ≡ inserted v (values_in values.old.items)) }
+    ensures err { OnErr result (values.new.items ≡ values.old.items) }
 {
     for i in 0..values.len() {
         match compare(&v, &values[i]) {

@@ -7,6 +7,7 @@ ghost use Rattle.tla_value.specs.Value as pure;
 ghost use Rattle.tla_value.specs.Value.{values_in};
 ghost use Rattle.tla_value.specs.Limits.{fits};
 ghost use Rattle.tla_value.specs.ValueText.{Mark, HasModelNames, Spells, marks, shown};
+ghost use Rattle.tla_value.specs.laws.InOrder.{holds_in_order, found_in_order};
 ghost use Rattle.tla_value.specs.Order.{order, holds, set_from, fun_from, found_at, values_at, arguments, first_at, IsAscending, IsCanonical, ArePairsCanonical};
 
 /// The canonical order is total, and values that are equal in it are one.
@@ -38,4 +39,11 @@ pub fn written_values_are_spelled()
 pub fn spelled_values_are_canonical()
     ensures canonical { (ts : List Mark) (v : pure.Value) → Spells ts v → IsCanonical v }
     ensures within { (ts : List Mark) (v : pure.Value) → Spells ts v → fits v ≡ true }
+{}
+
+/// In an ascending list a look-up that goes by comparison, and no further than the place of the
+/// value, finds what one through the whole list finds.
+pub fn ascending_lists_are_searched_in_order()
+    ensures member { (v : pure.Value) (vs : pure.Values) → IsAscending vs → holds_in_order v vs ≡ holds v vs }
+    ensures value { (ds vs : pure.Values) (v : pure.Value) → IsAscending ds → found_in_order ds vs v ≡ found_at ds vs v }
 {}

@@ -1,7 +1,10 @@
 //! Why an evaluation gives no value.
 
+ghost use Rattle.std.specs.Prelude.{◌≡◌};
+ghost use Rattle.tla_value.specs.declared.stop.EvalStop.TheVariants.{Memory};
+
 use crate::fault::FaultKind;
-use std::alloc::AllocError;
+use std::alloc::{AllocError, AllocFailed};
 use thiserror::Error;
 use tla_token::place::Place;
 
@@ -10,7 +13,7 @@ use tla_token::place::Place;
 pub enum EvalStop {
     /// Memory ran out.
     #[error("out of memory")]
-    Memory(#[from(alloc)] AllocError),
+    Memory,
     /// The expression has no value: the kind of fault, and the first token of the smallest
     /// expression that has none.
     #[error("no value")]
@@ -18,4 +21,20 @@ pub enum EvalStop {
     /// A value is past the limits of a run, at this place.
     #[error("past the limits")]
     Limit(Place),
+}
+
+impl From<AllocError> for EvalStop {
+    ghost from_gives = { λ _ e. e ≡ Memory };
+
+    fn from(_e: AllocError) -> EvalStop {
+        EvalStop::Memory
+    }
+}
+
+impl<T: Drop> From<AllocFailed<T>> for EvalStop {
+    ghost from_gives = { λ _ e. e ≡ Memory };
+
+    fn from(_e: AllocFailed<T>) -> EvalStop {
+        EvalStop::Memory
+    }
 }

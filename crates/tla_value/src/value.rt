@@ -6,7 +6,7 @@ use std::alloc::{AllocError, Global};
 use std::marker::Model;
 use tla_expr::Name;
 
-/// A value of TLA+ ("Specifying Systems", section 16.1).
+/// A value of TLA+ ("Specifying Systems", section 16.1), canonical and within the limits of a run.
 #[derive(Drop)]
 #[cycle(value)]
 pub struct Value {
@@ -64,17 +64,55 @@ impl Model for Value {
 
     ghost coded = { value_code };
 
-    ghost use Rattle.tla_value.specs.ValueOf.{view_of, IsLevelInside};
+    ghost use Rattle.tla_value.specs.ValueOf.{view_of, IsStoredInside};
 
     ghost view = { view_of };
 
-    ghost invariant = { IsLevelInside };
+    ghost invariant = { IsStoredInside };
 
     ghost size = { height };
 
     ghost use Rattle.tla_value.specs.Falls.{parts_fall};
 
     ghost size_decreases = { λ a h. parts_fall a.kind };
+}
+
+impl Value {
+    ghost use Rattle.tla_value.specs.Value as pure;
+
+    /// A truth value.
+    pub fn truth(b: bool) -> Value
+        ensures { result ≡ pure.truth b }
+    {
+        Value {
+            kind: Kind::Bool(b),
+        }
+    }
+
+    /// An integer.
+    pub fn int(n: i128) -> Value
+        ensures { result ≡ pure.int n }
+    {
+        Value { kind: Kind::Int(n) }
+    }
+
+    /// A string.
+    pub fn text(w: Name) -> Value
+        ensures { result ≡ pure.text w }
+    {
+        Value {
+            kind: Kind::Text(w),
+        }
+    }
+
+    /// A model value, by its name.
+    pub fn model(name: Name) -> Value
+        ensures { result ≡ pure.model name }
+    {
+        Value {
+            kind: Kind::Model(name),
+        }
+    }
 }
 
 /// The same value once more.

@@ -1,7 +1,5 @@
--- Items with trees put in for names: what captures nothing, and verdicts that are the same but for places.
-use Rattle.std.specs.Prelude.{◌≡◌, Ok, Err}
+-- Items with trees put in for names: what captures nothing.
 use Rattle.tla_expr.specs.Tree.{Word, Every, Graft}
-use Rattle.tla_value.specs.Value.{Outcome, fault, over}
 use Rattle.tla_value.specs.Stops.{Check}
 use Rattle.tla_value.specs.Related.{Clear, ClearForm}
 use Rattle.module_text.specs.Module.{Item, test, setting, unchanged, exists, local, if_then_else, either, Items, no_items, item, Branches, no_branches, branch}
@@ -24,10 +22,3 @@ abbrev mutual
   pub ClearBranches : Check → Graft → (Word → Type 0) → Branches → Type 0
   ClearBranches c g U no_branches = Unit {0}
   ClearBranches c g U (branch is bs) = ClearItems c g U is × ClearBranches c g U bs
-
--- one result, or troubles of one kind
-abbrev pub SameButPlaces : {X : Type 0} → Outcome X → Outcome X → Type 0
-SameButPlaces (Ok x) (Ok y) = x ≡ y
-SameButPlaces (Err (fault k p)) (Err (fault j q)) = k ≡ j
-SameButPlaces (Err (over p)) (Err (over q)) = Unit {0}
-SameButPlaces _ _ = ⊥

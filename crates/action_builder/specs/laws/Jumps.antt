@@ -8,13 +8,14 @@ use Rattle.pcal_tree.specs.Scope.{State, Scope, value_of}
 use Rattle.pcal_tree.specs.Program.{Program, Actor, index, local_index}
 use Rattle.pcal_tree.specs.Variables.{written_all, pc, stack}
 use Rattle.pcal_tree.specs.Run.{Rules, with_macros}
-use Rattle.pcal_tree.specs.Calls.{initial_place, initial_value, named, rules_of}
-use Rattle.action_builder.specs.Jumps.{Written}
+use Rattle.pcal_tree.specs.Calls.{initial_value, named, rules_of}
+use Rattle.action_builder.specs.Jumps.{InitialValues}
 use Rattle.action_builder.specs.laws.Settling.{Callable}
+use Rattle.action_builder.specs.laws.Places.{SameButPlaces}
 use Rattle.action_builder.specs.laws.Scopes.{StandsAtPath, Inner}
 
 -- pc, the stack and the variables of p stand at the process's identifier, and Head and Tail are those of Sequences
-pub record Machine (P : Program) (v : Actor) (p : Routine) (sc : Scope) : Type 0 where
+pub record RoutineStands (P : Program) (v : Actor) (p : Routine) (sc : Scope) : Type 0 where
   pub pc : StandsAtPath sc (index v.self) pc
   pub stack : StandsAtPath sc (index v.self) stack
   pub own : Each (StandsAtPath sc (local_index v p)) (written_all P p (locals p))
@@ -22,12 +23,11 @@ pub record Machine (P : Program) (v : Actor) (p : Routine) (sc : Scope) : Type 0
   pub tail : (s : State) → (sc.env s).defs (codes "Tail") ≡ Some (standard_sense P.check rest_of)
   pub origin : (x : Word) (at : Place) → sc.origin x at ≡ at
 
--- the written initial value of each variable of p, with its place, is the variable's initial value
-abbrev pub Initials : Program → Actor → Routine → Place → Scope → (Declaration → Place) → (Declaration → Tree) → List Declaration → Type 0
-Initials P v p at sc place initial [] = Unit {0}
-Initials P v p at sc place initial (d ∷ ds) =
-    (initial_place at d.start ≡ place d) × ((s : State) → initial_value P v p at d.start s ≡ value_of P.check (initial d) sc s)
-    × Initials P v p at sc place initial ds
+-- the written initial value of each variable of p is the variable's initial value, but for where a fault is
+abbrev pub Initials : Program → Actor → Routine → Place → Scope → (Declaration → Tree) → List Declaration → Type 0
+Initials P v p at sc initial [] = Unit {0}
+Initials P v p at sc initial (d ∷ ds) =
+    ((s : State) → SameButPlaces (value_of P.check (initial d) sc s) (initial_value P v p at d.start s)) × Initials P v p at sc initial ds
 
 -- an argument for each parameter
 abbrev pub AsMany : List Word → Trees → Type 0
@@ -49,14 +49,14 @@ abbrev pub callable : Program → Callable
 callable P p ts = fitting P (named p.word (procedure_routines P.algorithm)) ts
 
 -- the variables of the routine and of each procedure stand at the process's identifier, and initial values are written as they are
-pub record Machines (P : Program) (v : Actor) (u : Routine) (I : Written) (sc : Scope) : Type 0 where
-  pub own : Machine P v u sc
-  pub called : (x : Word) (p : Routine) → named x (procedure_routines P.algorithm) ≡ Some p → Machine P v p sc
-  pub initials : (x : Word) (p : Routine) → named x (procedure_routines P.algorithm) ≡ Some p → (at : Place) → Initials P v p at sc (I.place p at) (I.initial p) p.variables
+pub record RoutinesStand (P : Program) (v : Actor) (u : Routine) (I : InitialValues) (sc : Scope) : Type 0 where
+  pub own : RoutineStands P v u sc
+  pub called : (x : Word) (p : Routine) → named x (procedure_routines P.algorithm) ≡ Some p → RoutineStands P v p sc
+  pub initials : (x : Word) (p : Routine) → named x (procedure_routines P.algorithm) ≡ Some p → (at : Place) → Initials P v p at sc (I.initial p) p.variables
 
 -- also with names of f bound
-abbrev pub MachinesWithin : Program → Actor → Routine → Written → (Word → Bool) → Scope → Type 0
-MachinesWithin P v u I f sc = (inner : Scope) → Inner f sc inner → Machines P v u I inner
+abbrev pub RoutinesStandWithin : Program → Actor → Routine → InitialValues → (Word → Bool) → Scope → Type 0
+RoutinesStandWithin P v u I f sc = (inner : Scope) → Inner f sc inner → RoutinesStand P v u I inner
 
 -- the rules of a step, without macros
 abbrev pub base_rules : Program → Actor → Routine → Rules

@@ -11,10 +11,10 @@ use Rattle.pcal_tree.specs.Scope.{State, Scope}
 use Rattle.pcal_tree.specs.Run.{Has, Rules, run, exit_to}
 use Rattle.pcal_tree.specs.laws.Expansion.{Clean, AnyPlace}
 use Rattle.action_builder.specs.Assigned.{Names, member, more, assigned_in}
-use Rattle.action_builder.specs.laws.States.{mid, Agree}
+use Rattle.action_builder.specs.laws.States.{mid, SameOn}
 use Rattle.action_builder.specs.laws.Scopes.{own_scope, Inner}
-use Rattle.action_builder.specs.Settled.{Moving, settled}
-use Rattle.action_builder.specs.laws.Settling.{Callable, Tidy, Does}
+use Rattle.action_builder.specs.Settled.{WrittenJumps, settled}
+use Rattle.action_builder.specs.laws.Settling.{Callable, Tidy, DoesAsRules}
 use Rattle.action_builder.specs.laws.Ready.{Readable, unlimited, Ready}
 use Rattle.action_builder.specs.Written.{write}
 use Rattle.action_builder.specs.Prepared.{prepared, none, action_items}
@@ -24,7 +24,7 @@ use Rattle.tla_value.specs.laws.FreeNames.{Any}
 
 pub record LabelStep : Type 0 where
   pub rules : Rules
-  pub moving : Moving  -- the assignments for jumps, calls and returns
+  pub jumps : WrittenJumps  -- the assignments for jumps, calls and returns
   pub names : Word → Bool  -- those that a `with` may bind
   pub callable : Callable
   pub self : Word
@@ -35,7 +35,7 @@ pub record LabelStep : Type 0 where
   pub statements : Statements  -- with written names, and without macro calls
 
 abbrev pub prepared_of : LabelStep → Statements
-prepared_of d = prepared d.moving d.self d.own d.here d.exit d.statements
+prepared_of d = prepared d.jumps d.self d.own d.here d.exit d.statements
 
 -- A: the variables that are assigned already; vs: all variables, in the order of `vars`
 abbrev pub items_of : List Word → Names → LabelStep → Items
@@ -46,12 +46,12 @@ action_of vs d = action_items vs (prepared_of d)
 
 -- ---- what is asked of them
 
--- the assignments of W do what M does, what jumps ends its list, and no bound name is self or a variable of the process
+-- the assignments for jumps do what M does, what jumps ends its list, and no bound name is self or a variable of the process
 pub record Prepares (M : Rules) (d : LabelStep) : Type 0 where
   pub free : AnyPlace d.scope
-  pub does : Does M d.moving (Inner d.names (own_scope M.check d.self d.own d.scope)) (In d.names) d.callable
+  pub does : DoesAsRules M d.jumps (Inner d.names (own_scope M.check d.self d.own d.scope)) (In d.names) d.callable
   pub tidy : Tidy (In d.names) d.callable d.statements
-  pub clean : Clean M.check (owned d.self d.own) Any (settled d.moving d.here d.exit d.statements)
+  pub clean : Clean M.check (owned d.self d.own) Any (settled d.jumps d.here d.exit d.statements)
 
 -- its jumps and variables can be written out
 abbrev pub IsPrepared : LabelStep → Type 0
@@ -73,14 +73,14 @@ HasOutcome A d s t r = Stepped (unlimited d.rules) d (mid s t A) r
 
 -- it ends in a state that agrees with t on A and on what is assigned
 abbrev pub EndsIn : Names → LabelStep → State → State → Type 0
-EndsIn A d s t = (u : State) × HasOutcome A d s t (Ok u) × Agree (more A (assigned_in (prepared_of d))) u t
+EndsIn A d s t = (u : State) × HasOutcome A d s t (Ok u) × SameOn (more A (assigned_in (prepared_of d))) u t
 
 abbrev pub IsTroubled : Names → LabelStep → State → State → Type 0
 IsTroubled A d s t = (k : Trouble) × HasOutcome A d s t (Err k)
 
 -- begun in s, it ends in a state that agrees with t on all variables
 abbrev pub StepsTo : List Word → LabelStep → State → State → Type 0
-StepsTo vs d s t = (u : State) × HasOutcome none d s s (Ok u) × Agree (member vs) u t
+StepsTo vs d s t = (u : State) × HasOutcome none d s s (Ok u) × SameOn (member vs) u t
 
 abbrev pub MeetsTrouble : LabelStep → State → Type 0
 MeetsTrouble d s = IsTroubled none d s s

@@ -8,7 +8,7 @@ use Rattle.tla_value.specs.Meaning.{Env, just}
 use Rattle.tla_value.specs.Related.{Uses, In}
 use Rattle.tla_value.specs.Definitions.{Valuation}
 use Rattle.module_text.specs.Module.{Items}
-use Rattle.module_text.specs.Truth.{Verdict, items_hold}
+use Rattle.module_text.specs.ActionTruth.{Verdict, items_hold}
 use Rattle.pcal_tree.specs.Algorithm.{Assignments, no_assignments, assignment, Binds, no_binds, one_of, is, Statement, assign, await, print, assert, skip, branch, either, with, Statements, done, then, mark, Branches, no_branches, or}
 use Rattle.pcal_tree.specs.Run.{Rules}
 use Rattle.pcal_tree.specs.Scope.{State, Scope}
@@ -108,7 +108,7 @@ abbrev pub FineSides : Readable → Names → Assignments → Type 0
 FineSides U A no_assignments = Unit {0}
 FineSides U A (assignment l e ms) = FineTree U A l × FineTree U A e × FineSides U A ms
 
-pub record FineMoves (U : Readable) (vs : List Word) (A : Names) (ms : Assignments) : Type 0 where
+pub record FineAssignments (U : Readable) (vs : List Word) (A : Names) (ms : Assignments) : Type 0 where
   pub left : LeftSides (member vs) ms
   pub sides : FineSides U A ms
   pub readable : (y : Word) → member (heads ms) y ≡ true → U A y ≡ true
@@ -121,7 +121,7 @@ FineBinds U vs A (is x e bs) = FineTree U A e × (member vs x.word ≡ false) ×
 -- each expression reads what may be read there, and the names of a `with` are no variables
 abbrev mutual
   pub FineOne : Readable → List Word → Names → Statement → Type 0
-  FineOne U vs A (assign ms) = FineMoves U vs A ms
+  FineOne U vs A (assign ms) = FineAssignments U vs A ms
   FineOne U vs A (await e) = FineTree U A e
   FineOne U vs A (print e) = FineTree U A e
   FineOne U vs A (assert e) = FineTree U A e

@@ -19,7 +19,7 @@ use Rattle.pcal_tree.specs.Variables.{pc, stack}
 use Rattle.pcal_tree.specs.Expand.{expanded}
 use Rattle.action_builder.specs.Assigned.{member}
 use Rattle.action_builder.specs.laws.Scopes.{part_at}
-use Rattle.action_builder.specs.Jumps.{Written as Initial, moving}
+use Rattle.action_builder.specs.Jumps.{InitialValues, JumpPlaces, written_jumps}
 use Rattle.action_builder.specs.laws.Jumps.{base_rules, callable}
 use Rattle.action_builder.specs.laws.Ready.{Readable}
 use Rattle.action_builder.specs.laws.LabelSteps.{LabelStep}
@@ -139,15 +139,18 @@ abbrev pub initial_of : Rattle.pcal_tree.specs.Algorithm.Start → Tree
 initial_of (equals e) = e
 initial_of _ = var (codes "defaultInitValue")
 
-abbrev pub initials : Initial
-initials = record { place = λ p at d. nowhere; initial = λ p d. initial_of d.start }
+abbrev pub initials : InitialValues
+initials = record { place = λ p d. nowhere; initial = λ p d. initial_of d.start }
+
+abbrev pub places : JumpPlaces
+places = record { goto = nowhere; call = λ at. nowhere; return = λ at. nowhere }
 
 -- ---- the step
 
 abbrev pub step : LabelStep
 step = record {
   rules = base_rules program actor routine;
-  moving = moving program actor routine initials;
+  jumps = written_jumps program routine initials places;
   names = λ w. false;
   callable = callable program;
   self = self;

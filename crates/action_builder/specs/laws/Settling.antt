@@ -6,7 +6,7 @@ use Rattle.tla_value.specs.Meaning.{evals, part_values}
 use Rattle.pcal_tree.specs.Algorithm.{Name, Span, Binds, no_binds, one_of, is, Statement, branch, either, with, while, macro, call, Statements, done, then, mark, Branches, no_branches, or}
 use Rattle.pcal_tree.specs.Scope.{State, Scope, bound, places_of}
 use Rattle.pcal_tree.specs.Run.{Course, ends, Has, after, Follow, Rules, unlabelled, run}
-use Rattle.action_builder.specs.Settled.{Moving, jumps, jumps_some}
+use Rattle.action_builder.specs.Settled.{WrittenJumps, jumps, jumps_some}
 
 -- nothing follows
 abbrev pub to_end : Follow
@@ -63,8 +63,8 @@ abbrev pub CloseCourses : (State → Course) → (State → Course) → Type 0
 CloseCourses K L = (s : State) → Close (Has (K s)) (Has (L s))
 
 -- the assignments do what a jump, a call and a return do, in the scopes that fit
-pub record Does (M : Rules) (W : Moving) (Fit : Scope → Type 0) (F : Word → Type 0) (g : Callable) : Type 0 where
-  pub pc : (l : Word) (sc : Scope) → Fit sc → CloseCourses (run M unlabelled (W.pc l) sc to_end) (M.goto l)
+pub record DoesAsRules (M : Rules) (W : WrittenJumps) (Fit : Scope → Type 0) (F : Word → Type 0) (g : Callable) : Type 0 where
+  pub goto : (l : Word) (sc : Scope) → Fit sc → CloseCourses (run M unlabelled (W.goto l) sc to_end) (M.goto l)
   pub call : (at : Span) (p : Name) (ts : Trees) (l : Word) (sc : Scope) → Fit sc → g p ts ≡ true → CloseCourses (run M unlabelled (W.call at p ts l) sc to_end) (λ s. after (part_values (evals M.check ts) (sc.env s)) (λ vs. M.call at.first p.word (places_of ts sc) vs l s))
-  pub back : (at : Span) (sc : Scope) → Fit sc → CloseCourses (run M unlabelled (W.back at) sc to_end) (M.return at.first)
+  pub return : (at : Span) (sc : Scope) → Fit sc → CloseCourses (run M unlabelled (W.return at) sc to_end) (M.return at.first)
   pub bind : (x : Word) (v : Value) (sc : Scope) → F x → Fit sc → Fit (bound x v sc)

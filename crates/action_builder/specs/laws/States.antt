@@ -14,12 +14,12 @@ abbrev pub mid : State → State → Names → State
 mid s t A x = cond (A x) (t x) (s x)
 
 -- the same on the names of A
-abbrev pub Agree : Names → State → State → Type 0
-Agree A t u = (x : Word) → A x ≡ true → t x ≡ u x
+abbrev pub SameOn : Names → State → State → Type 0
+SameOn A t u = (x : Word) → A x ≡ true → t x ≡ u x
 
 -- some state that agrees with t on A, in which the verdict is a fault
 abbrev pub BadSomewhere : Names → State → (State → Outcome Bool) → Type 0
-BadSomewhere A t v = (u : State) × Agree A u t × IsBad (v u)
+BadSomewhere A t v = (u : State) × SameOn A u t × IsBad (v u)
 
 -- what assignments to parts of one variable make of its value, from left to right
 abbrev pub changed_by : Check → List Setting → Value → Outcome Value

@@ -1,12 +1,17 @@
-use Rattle.std.proofs.Common.{◌∙◌, sym, ap, arith}
-use Rattle.tla_value.specs.Order.{same}
-use Rattle.tla_value.proofs.Lookups.{found_later, found_no_value}
+use Rattle.std.proofs.Common.{◌∙◌, sym, ap, arith, Some}
+use Rattle.tla_value.specs.OrderLaws.{order_equal}
+use Rattle.tla_value.proofs.ValueLists.{count-values_in}
+use Rattle.tla_value.proofs.Searched.{found_there, unfound, missed}
 use Rattle.tla_value.proofs.build.at.Goals as goal
 
-pub returns-then-i-values : goal.returns-then-i-values
-returns-then-i-values c =
-    sym (c.loop-i.invariant ∙ found_no_value c.args.domain.now c.args.values.now c.loop-i.i c.args.v.now (omega arith))
+pub returns-in-Ok : goal.returns-in-Ok
+returns-in-Ok c =
+    ap Some c.index-values-i.is ∙ sym (found_there c.args.v.now c.args.domain.now c.args.values.now c.in-Ok.i c.args.v.now c.index-values-i.result c.requires.ascending (omega (arith, count-values_in c.args.domain.now, count-values_in c.args.values.now, c.requires.each)) c.in-Ok.ensures.bound (order_equal _ _ (c.in-Ok.ensures.ok c.args.v.now)))
 
-pub loop-i-preserved : goal.loop-i-preserved
-loop-i-preserved c =
-    c.loop-i.invariant ∙ found_later c.args.domain.now c.args.values.now c.loop-i.i c.args.v.now c.index-domain-i.result c.args.v.now (omega arith) (omega arith) (ap (same c.args.v.now) (sym c.index-domain-i.is) ∙ sym c.if-eq.ensures)
+pub returns-in-Err : goal.returns-in-Err
+returns-in-Err c =
+    sym (unfound c.args.v.now c.args.domain.now c.args.values.now (missed c.args.v.now c.args.domain.now c.in-Err.field-0 c.requires.ascending c.in-Err.ensures.position))
+
+pub bounds-values-i : goal.bounds-values-i
+bounds-values-i c =
+    omega (arith, count-values_in c.args.domain.now, count-values_in c.args.values.now, c.requires.each, c.in-Ok.ensures.bound)

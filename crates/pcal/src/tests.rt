@@ -1,0 +1,295 @@
+// The program without the system's words, files and streams: texts of the form and others, and what is answered where something fails.
+
+use outer_io::{DiskShelf, MemShelf, MemSink, Shelf};
+use pcal_cli::run;
+use std::alloc::{AllocError, Global};
+use std::env::Args;
+use std::io;
+use std::process::ExitCode;
+use std::test::Fail;
+
+const WORDS: &str = "pcal translate M.tla";
+
+const REFUSED: &str = "pcal: M.tla:1:1: 11 LeftOutWord\n";
+
+/// A text of the form: before its last two lines, these, and what its translation is.
+const FRONT: &str =
+    "---- MODULE M ----\nEXTENDS Integers\n(*\n--algorithm Inc\nvariables x = 0;\nbegin\n  A: x := x + 1;\nend algorithm\n";
+
+const BACK: &str = "*)\n====\n";
+
+const WORKED: &str = "M|Inc|variables x = 0;|A: x := x + 1;|x|0|A|(x + 1)";
+
+/// Module, algorithm, declaration and statement; then the variable, its initial value, the label and the right side
+/// that are written.
+const OF_THE_FORM: [&str; 8] = [
+    WORKED,
+    "Two_2|A1|variable count = 007 ;|Step:count:=count+count;|count|7|Step|(count + count)",
+    "M|Inc|variables x = 0;|Increment: x := 7;|x|0|Increment|7",
+    "M|Inc|variables x = 0;|A: x := 7;|x|0|A|7",
+    "M|Inc|variables x = 0;|A: x := x;|x|0|A|x",
+    "M|Inc|variables x = 0;|A: x := 3 + x;|x|0|A|(3 + x)",
+    "M|Inc|variables x = 0;|A: x := 170141183460469231731687303715884105727;|x|0|A|170141183460469231731687303715884105727",
+    "M|x|variables 1x = 12;|A_1 : 1x\n:= 1x + 1 ;\n\n|1x|12|A_1|(1x + 1)",
+];
+
+/// Module, algorithm, declaration and statement.
+const OF_NO_FORM: [&str; 28] = [
+    "M|Inc|variables x = 0;|A: skip;",
+    "M|Inc|variables x = 0;|A: x := 170141183460469231731687303715884105728;",
+    "M|Inc|variables x = 170141183460469231731687303715884105728;|A: x := 0;",
+    "M|Inc|variables x = 0;|A: x := y;",
+    "M|Inc|variables x = 0;|A: x := x + 1 + x;",
+    "M|Inc|variables x = 0;|A: x := x + 1",
+    "M|Inc|variables x = 0;|A: y := 1;",
+    "M|Inc|variables x = 0;|A: x := 1; (* a comment *)",
+    "M|Inc|variables x == 0;|A: x := 1;",
+    "M|Inc|variables x => 0;|A: x := 1;",
+    "M|Inc|variables x = 0;|Done: x := 1;",
+    "M|Inc|variables x = 0;|Error: x := 1;",
+    "M|Inc|variables x = 0;|x: x := 1;",
+    "M|Inc|variables x = 0;|while: x := 1;",
+    "M|Inc|variables x = 0;|Init: x := 1;",
+    "M|Inc|variables x = 0;|Len: x := 1;",
+    "M|Inc|variables while = 0;|A: while := 1;",
+    "M|Inc|variables WF_x = 0;|A: WF_x := 1;",
+    "M|Inc|variables LET = 0;|A: LET := 1;",
+    "M|Inc|variables pc = 0;|A: pc := 1;",
+    "M|Inc|variables Nat = 0;|A: Nat := 1;",
+    "M|while|variables x = 0;|A: x := 1;",
+    "M|CASE|variables x = 0;|A: x := 1;",
+    "M|Next|variables x = 0;|A: x := 1;",
+    "M|Append|variables x = 0;|A: x := 1;",
+    "MODULE|Inc|variables x = 0;|A: x := 1;",
+    "SF_M|Inc|variables x = 0;|A: x := 1;",
+    "12|Inc|variables x = 0;|A: x := 1;",
+];
+
+/// What stands before and after the front, in place of the last two lines.
+const OTHER_LINES: [(&str, &str); 6] = [
+    ("Free text.\n", BACK),
+    ("", "*)\n====\nFree text.\n"),
+    ("", "*)\n===="),
+    ("", "*)\n\n====\n"),
+    ("", "*)\n"),
+    ("\n", BACK),
+];
+
+/// The cell of a row with this number, from 0; none is empty.
+fn cell(row: &str, number: usize) -> &str {
+    row.split('|').nth(number).unwrap_or("")
+}
+
+/// The lines of a file, but the last one, that the first four cells of a row tell.
+fn front_of(alloc: Global, row: &str) -> Result<String, AllocError> {
+    format!(in alloc;
+        "---- MODULE {} ----\nEXTENDS Integers\n(*\n--algorithm {}\n{}\nbegin\n  {}\nend algorithm\n*)\n",
+        cell(row, 0),
+        cell(row, 1),
+        cell(row, 2),
+        cell(row, 3)
+    )
+}
+
+/// The translation that the last four cells of a row tell.
+fn region_of(alloc: Global, row: &str) -> Result<String, AllocError> {
+    let (variable, label) = (cell(row, 4), cell(row, 6));
+    let first = format!(in alloc;
+        "\\* BEGIN TRANSLATION\nVARIABLES {variable}, pc\n\nvars == <<{variable}, pc>>\n\nInit ==\n  /\\ {variable} = {}\n  /\\ pc = \"{label}\"\n\n",
+        cell(row, 5)
+    )?;
+    let second = format!(in alloc;
+        "{label} ==\n  /\\ (pc = \"{label}\")\n  /\\ {variable}' = {}\n  /\\ pc' = \"Done\"\n\n",
+        cell(row, 7)
+    )?;
+    let third = "Terminating ==\n  /\\ (pc = \"Done\")\n  /\\ UNCHANGED vars\n\nNext ==\n";
+    let last =
+        "  \\/ Terminating\n\nSpec ==\n  /\\ Init\n  /\\ [][Next]_vars\n\nTermination == <>(pc = \"Done\")\n\\* END TRANSLATION\n";
+    format!(in alloc; "{first}{second}{third}  \\/ {label}\n{last}")
+}
+
+/// The words of a command line, as the system gives them.
+fn words_in(alloc: Global, command: &str) -> Result<Args, AllocError> {
+    let mut list = Vec::new(alloc);
+    for word in command.split_whitespace() {
+        list.push(String::from_str(alloc, word)?)?;
+    }
+    Ok(list.into_iter())
+}
+
+/// A shelf with this text as `M.tla`; the call of this number fails, if it isn't 0.
+fn shelf_of(alloc: Global, text: &str, fails: u64) -> Result<MemShelf, AllocError> {
+    let name = String::from_str(alloc, "M.tla")?;
+    let texts = vec![in alloc; (name, text.as_bytes().to_vec(alloc)?)]?;
+    Ok(MemShelf::new(texts, vec![in alloc; fails]?, 4096))
+}
+
+/// Runs the program, with a call of the output and one of the error output that fail, if not 0. Whether it ends with
+/// this status, and these bytes on both.
+fn ends<H: Shelf>(
+    alloc: Global,
+    words: io::Result<Args>,
+    shelf: &mut H,
+    fails: [u64; 2],
+    expected: (u8, &str, &str),
+) -> Result<bool, AllocError> {
+    let mut out = MemSink::new(alloc, 2_000_000, vec![in alloc; fails[0]]?, 100)?;
+    let mut err = MemSink::new(alloc, 10_000, vec![in alloc; fails[1]]?, 100)?;
+    let code = run(alloc, words, shelf, &mut out, &mut err);
+    Ok(
+        code == ExitCode::from(expected.0)
+            && out.bytes() == expected.1.as_bytes()
+            && err.bytes() == expected.2.as_bytes(),
+    )
+}
+
+/// Whether a command, on this text as `M.tla`, ends with this status, and these bytes on both outputs.
+fn answers(
+    alloc: Global,
+    command: &str,
+    text: &str,
+    expected: (u8, &str, &str),
+) -> Result<bool, AllocError> {
+    let words = words_in(alloc, command)?;
+    ends(
+        alloc,
+        Ok(words),
+        &mut shelf_of(alloc, text, 0)?,
+        [0, 0],
+        expected,
+    )
+}
+
+#[test]
+fn texts_of_the_form_are_translated(rt: HostRuntime) -> Result<(), Fail> {
+    let alloc = rt.alloc();
+    for row in OF_THE_FORM {
+        let front = front_of(alloc, row)?;
+        let text = format!(in alloc; "{front}====\n")?;
+        let written = format!(in alloc; "{front}{}====\n", region_of(alloc, row)?)?;
+        assert!(rt; answers(alloc, WORDS, &text, (0, &written, ""))?, "{row}");
+    }
+    Ok(())
+}
+
+#[test]
+fn other_texts_are_refused(rt: HostRuntime) -> Result<(), Fail> {
+    let alloc = rt.alloc();
+    for row in OF_NO_FORM {
+        let text = format!(in alloc; "{}====\n", front_of(alloc, row)?)?;
+        assert!(rt; answers(alloc, WORDS, &text, (5, "", REFUSED))?, "{row}");
+    }
+    for (front, back) in OTHER_LINES {
+        let text = format!(in alloc; "{front}{FRONT}{back}")?;
+        assert!(rt; answers(alloc, WORDS, &text, (5, "", REFUSED))?, "{text}");
+    }
+    assert!(rt;
+        answers(alloc, WORDS, "", (5, "", REFUSED))?,
+        "an empty file"
+    );
+    Ok(())
+}
+
+#[test]
+fn other_words_are_no_command(rt: HostRuntime) -> Result<(), Fail> {
+    let alloc = rt.alloc();
+    let text = format!(in alloc; "{FRONT}{BACK}")?;
+    let rows = [
+        "pcal translate -M.tla",
+        "pcal translate",
+        "pcal translate M.tla N.tla",
+        "pcal check M.tla",
+        "pcal",
+        "",
+    ];
+    for command in rows {
+        assert!(rt;
+            answers(alloc, command, &text, (2, "", "pcal: usage\n"))?,
+            "{command}"
+        );
+    }
+    Ok(())
+}
+
+/// Each row: the calls of the shelf, the output and the error output that fail, the words, the status, how much of the
+/// text goes out, and the line.
+#[test]
+fn faults_have_their_answers(rt: HostRuntime) -> Result<(), Fail> {
+    let alloc = rt.alloc();
+    let text = format!(in alloc; "{FRONT}{BACK}")?;
+    let whole = format!(in alloc; "{FRONT}*)\n{}====\n", region_of(alloc, WORKED)?)?;
+    let whole = whole.as_str();
+    let part = text.as_str().get(..100).unwrap_or("");
+    let other = "pcal translate N.tla";
+    let rows = [
+        ([0, 0, 1], WORDS, (0, whole, "")),
+        ([1, 0, 0], WORDS, (3, "", "pcal: cannot read M.tla\n")),
+        ([1, 0, 1], WORDS, (3, "", "")),
+        ([0, 0, 0], other, (3, "", "pcal: cannot read N.tla\n")),
+        ([0, 1, 0], WORDS, (4, "", "pcal: cannot write\n")),
+        ([0, 2, 0], WORDS, (4, part, "pcal: cannot write\n")),
+        ([0, 2, 1], WORDS, (4, part, "")),
+    ];
+    for (fails, command, expected) in rows {
+        let mut shelf = shelf_of(alloc, &text, fails[0])?;
+        let words = words_in(alloc, command)?;
+        assert!(rt;
+            ends(alloc, Ok(words), &mut shelf, [fails[1], fails[2]], expected)?,
+            "{fails:?} {command}"
+        );
+    }
+    Ok(())
+}
+
+/// Words that find no memory, and words of which one isn't UTF-8.
+#[test]
+fn words_may_fail(rt: HostRuntime) -> Result<(), Fail> {
+    let alloc = rt.alloc();
+    let rows = [
+        (io::ErrorKind::OutOfMemory, (1, "", "pcal: out of memory\n")),
+        (io::ErrorKind::InvalidData, (2, "", "pcal: usage\n")),
+    ];
+    for (kind, expected) in rows {
+        let mut shelf = shelf_of(alloc, "", 0)?;
+        let words = Err(io::Error::from(kind));
+        assert!(rt;
+            ends(alloc, words, &mut shelf, [0, 0], expected)?,
+            "{kind:?}"
+        );
+    }
+    Ok(())
+}
+
+/// A directory opens and can't be read; another file isn't there.
+#[test]
+fn files_may_fail(rt: HostRuntime) -> Result<(), Fail> {
+    let alloc = rt.alloc();
+    let rows = [
+        ("pcal translate .", "pcal: cannot read .\n"),
+        ("pcal translate no/file", "pcal: cannot read no/file\n"),
+    ];
+    for (command, line) in rows {
+        let mut shelf = DiskShelf::new(&rt);
+        let words = words_in(alloc, command)?;
+        assert!(rt;
+            ends(alloc, Ok(words), &mut shelf, [0, 0], (3, "", line))?,
+            "{command}"
+        );
+    }
+    Ok(())
+}
+
+/// A file of the most bytes that are allowed, and one with a byte more.
+#[test]
+fn a_file_has_a_most_length(rt: HostRuntime) -> Result<(), Fail> {
+    let alloc = rt.alloc();
+    let most = 1_048_576 - FRONT.len() - BACK.len();
+    let lines = "\n".repeat(alloc, most)?;
+    let text = format!(in alloc; "{FRONT}{lines}{BACK}")?;
+    let whole = format!(in alloc; "{FRONT}{lines}*)\n{}====\n", region_of(alloc, WORKED)?)?;
+    assert!(rt; answers(alloc, WORDS, &text, (0, &whole, ""))?);
+    let text = format!(in alloc; "{text}\n")?;
+    let line = "pcal: M.tla is too long\n";
+    assert!(rt; answers(alloc, WORDS, &text, (10, "", line))?);
+    Ok(())
+}

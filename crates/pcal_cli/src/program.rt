@@ -1,0 +1,69 @@
+//! What `main` does: from the words as the system hands them over to the exit status.
+
+ghost use Rattle.std.specs.Prelude.{◌≡◌, ◌⊎◌, ◌<◌, ◌≤◌, [], false, length, IfOk, None};
+ghost use Rattle.outer_io.specs.Outer.{RoseBy, HasNoText, Tells};
+ghost use Rattle.first_path.specs.FormRead.{form_offences, FirstOffence, left_out};
+ghost use Rattle.pcal_cli.specs.Words.{words_given, command_in, file_in};
+ghost use Rattle.pcal_cli.specs.Answers.{line_of};
+ghost use Rattle.pcal_cli.specs.Causes.{most_bytes, OfFile, IsNoCommand, IsDone, IsRead, LeavesOut, Writes, WritesInPart, KeepsPromise, Told, Ended, EndedIn};
+
+use crate::status::{Status, number};
+use crate::top::{pcal, tell};
+use outer_io::{Shelf, Sink};
+use std::alloc::{AllocError, Global};
+use std::env::Args;
+use std::io;
+use std::process::ExitCode;
+
+/// The words of the command line, the program's name first; none, where one of them isn't UTF-8.
+fn words_of(alloc: Global, given: io::Result<Args>) -> Result<Vec<String>, AllocError>
+    ensures { IfOk result (λ words. words.items ≡ words_given given) }
+{
+    let mut words = Vec::new(alloc);
+    match given {
+        Ok(args) => for word in args {
+            words.push(word)?;
+        },
+        Err(error) if error.kind() == io::ErrorKind::OutOfMemory => return Err(AllocError),
+        Err(_) => {}
+    }
+    Ok(words)
+}
+
+/// Does what the words of the command line mean, and ends with the number of the answer. Each clause is one of `pcal`,
+/// said of the exit status.
+#[tactic(auto, using(crate::proofs::Numbers::number_is))]
+pub fn run<H: Shelf, K: Sink, E: Sink>(
+    alloc: Global,
+    given: io::Result<Args>,
+    shelf: &mut H,
+    out: &mut K,
+    err: &mut E,
+) -> ExitCode
+    ensures told { EndedIn result (λ s. Told (E.wrote err.old) (E.wrote err.new) (E.faults err.old) (E.faults err.new) (line_of s (file_in (words_given given)))) }
+    ensures usage { Ended result Status.Usage → command_in (words_given given) ≡ None }
+    ensures no_command { command_in (words_given given) ≡ None → EndedIn result IsNoCommand }
+    ensures read_fault { Ended result Status.ReadFault → RoseBy 1 (H.faults shelf.old) (H.faults shelf.new) ⊎ HasNoText (H.texts shelf.old) (file_in (words_given given)) }
+    ensures write_fault { Ended result Status.WriteFault → RoseBy 1 (K.faults out.old) (K.faults out.new) }
+    ensures longer { Ended result Status.TooLong → Tells (H.texts shelf.old) (file_in (words_given given)) (λ x. most_bytes < length x) }
+    ensures refused { Ended result Status.Refused → Tells (H.texts shelf.old) (file_in (words_given given)) (λ x. FirstOffence x left_out) }
+    ensures complete { OfFile (command_in (words_given given)) (λ file. Tells (H.texts shelf.old) file (λ x. length x ≤ most_bytes → form_offences x ≡ []
+        → (RoseBy 1 (H.faults shelf.old) (H.faults shelf.new) → ⊥) → (RoseBy 1 (K.faults out.old) (K.faults out.new) → ⊥) → EndedIn result IsDone)) }
+    ensures unused { EndedIn result LeavesOut → out.new ≡ out.old }
+    ensures fine { Ended result Status.Fine → Tells (H.texts shelf.old) (file_in (words_given given)) (Writes (K.wrote out.old) (K.wrote out.new)) }
+    ensures headline { Ended result Status.Fine → KeepsPromise false (H.texts shelf.old) (file_in (words_given given)) (K.wrote out.old) (K.wrote out.new) }
+    ensures in_part { Ended result Status.WriteFault → Tells (H.texts shelf.old) (file_in (words_given given)) (WritesInPart (K.wrote out.old) (K.wrote out.new)) }
+    ensures unread { Ended result Status.Usage → shelf.new ≡ shelf.old }
+    ensures given { EndedIn result IsRead → Tells (H.texts shelf.old) (file_in (words_given given)) (λ x. RoseBy (length x) (H.given shelf.old) (H.given shelf.new)) }
+    ensures read_counted { Ended result Status.ReadFault ⊎ (H.faults shelf.new ≡ H.faults shelf.old) }
+    ensures write_counted { Ended result Status.WriteFault ⊎ (K.faults out.new ≡ K.faults out.old) }
+{
+    let status = match words_of(alloc, given) {
+        Ok(words) => pcal(alloc, &words, shelf, out, err),
+        Err(_) => {
+            let _ = tell(err, Status::Memory, b"");
+            Status::Memory
+        }
+    };
+    ExitCode::from(number(status))
+}

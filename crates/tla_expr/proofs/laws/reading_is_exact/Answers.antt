@@ -1,0 +1,9 @@
+use Rattle.tla_expr.proofs.ReadAll.{spelled_is_read}
+use Rattle.tla_expr.proofs.SoundLists.{read_is_spelled}
+use Rattle.tla_expr.proofs.laws.reading_is_exact.Goals as goal
+
+pub returns-clause-sound : goal.returns-clause-sound
+returns-clause-sound c = read_is_spelled
+
+pub returns-clause-complete : goal.returns-clause-complete
+returns-clause-complete c = spelled_is_read

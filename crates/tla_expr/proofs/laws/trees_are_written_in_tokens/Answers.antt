@@ -1,0 +1,9 @@
+use Rattle.tla_expr.proofs.Operands.{operand_primary}
+use Rattle.tla_expr.proofs.SpelledTrees.{written_is_spelled}
+use Rattle.tla_expr.proofs.laws.trees_are_written_in_tokens.Goals as goal
+
+pub returns-clause-tokens : goal.returns-clause-tokens
+returns-clause-tokens c = written_is_spelled
+
+pub returns-clause-operand : goal.returns-clause-operand
+returns-clause-operand c = operand_primary
