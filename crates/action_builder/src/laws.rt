@@ -38,6 +38,7 @@ ghost use Rattle.action_builder.specs.Written.{except_of};
 ghost use Rattle.action_builder.specs.SingleProcess.{in_place_of, graft_items};
 ghost use Rattle.action_builder.specs.laws.Grafts.{ClearItems};
 ghost use Rattle.action_builder.specs.laws.Places.{SameButPlaces};
+ghost use Rattle.tla_value.specs.laws.FreeNames.{Any};
 ghost use Rattle.action_builder.specs.laws.Sample as sample;
 
 /// The items that are written for a step where the variables of A are assigned already, on a pair of states. Where no
