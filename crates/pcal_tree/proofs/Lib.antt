@@ -23,6 +23,8 @@ pub mod FreeWords
 pub mod ClearLabels
 pub mod LabelledClear
 pub mod SetLaws
+pub mod LinesPut
+pub mod LinesGood
 pub mod TargetLaws
 pub mod SummaryLaws
 pub mod EffectLaws

@@ -1,5 +1,5 @@
 -- Worked examples of algorithms as they are spelled and printed, by computation.
-use Rattle.std.proofs.Common.{◌≡◌, refl, arith, ℕ, ◌+◌, ◌++◌, List, [], ◌∷◌, Some, None, false, true, codes}
+use Rattle.std.proofs.Common.{◌≡◌, refl, arith, ℕ, ◌+◌, ◌++◌, List, [], ◌∷◌, Some, None, false, true, codes, drop}
 use Rattle.std.specs.Fmt.{decimal}
 use Rattle.std.proofs.lemmas.Fmt.{decimal_digit}
 use Rattle.tla_token.specs.declared.place.Place.{Place}
@@ -15,11 +15,13 @@ use Rattle.tla_expr.specs.Spelling.{Phrase}
 use Rattle.tla_expr.specs.Spelling as spelled
 use Rattle.pcal_tree.specs.declared.mark.Mark.TheVariants as marked
 use Rattle.pcal_tree.specs.Algorithm.{Name, Algorithm, Statement, assign, assignment, no_assignments, done, then, mark, alone, equals}
-use Rattle.pcal_tree.specs.AlgorithmTokens.{kind_of}
+use Rattle.pcal_tree.specs.AlgorithmTokens.{kind_of, views}
+use Rattle.tla_expr.specs.laws.Columns.{looks}
+use Rattle.pcal_tree.specs.laws.Lines.{Begins}
 use Rattle.pcal_tree.specs.GrammarParts as part
 use Rattle.pcal_tree.specs.GrammarP as p
 use Rattle.pcal_tree.specs.GrammarC as c
-use Rattle.pcal_tree.specs.Grammar.{Text, Spells, SpellsP, SpellsC}
+use Rattle.pcal_tree.specs.Grammar.{Text, p_syntax, SpellsP, SpellsC}
 use Rattle.pcal_tree.specs.Grammar as text
 use Rattle.pcal_tree.specs.Printed.{PText, CText}
 
@@ -95,6 +97,10 @@ in_p = (text_of (text.to_end (at 5 1) (at 5 5)) (text.begin (at 3 1) (p.last_sta
 
 in_c : SpellsC c_tokens counted
 in_c = (text_of (text.in_braces (at 1 17) (at 6 1)) (text.block (at 3 1) (c.last_statement (c.labelled labels (c.simple move_phrase)) (Some (at 4 16))) (at 5 1) None), search, refl, refl)
+
+-- what begins it, in these columns and whatever lines
+begins_so : Begins p_syntax ((tk.word (codes "--algorithm"), 1) ∷ (tk.word (codes "Inc"), 13) ∷ (tk.reserved (codes "variables"), 1) ∷ [])
+begins_so = (text_of (text.to_end (at 5 1) (at 5 5)) (text.begin (at 3 1) (p.last_statement labels (p.simple move_phrase) (Some (at 4 16)))), looks (drop 3 (views p_tokens)), search, refl)
 
 -- ---- what the grammar sees: a prime is no sign of an algorithm, a reserved word no name
 

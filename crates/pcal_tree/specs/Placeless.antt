@@ -1,35 +1,7 @@
 -- Algorithms without their places, in which the trees of one algorithm in the two syntaxes are equal.
 use Rattle.std.specs.Prelude.{List, [], ◌∷◌, map}
-use Rattle.tla_expr.specs.Tree.{Slot, Strict, except, Form, strict, binding, local, Tree, node, Trees, no_trees, tree}
+pub use Rattle.tla_expr.specs.laws.Placeless.{name_placeless, names_placeless, tree_placeless, trees_placeless}
 use Rattle.pcal_tree.specs.Algorithm.{nowhere, Name, Span, Assignments, no_assignments, assignment, Binds, no_binds, one_of, is, Statement, assign, await, print, assert, skip, branch, either, with, while, goto, macro, call, return, Statements, done, then, mark, Branches, no_branches, or, Start, unset, equals, among, Declaration, Definition, Macro, Procedure, Process, Main, alone, processes, Algorithm}
-
-abbrev pub slots_placeless : List Slot → List Slot
-slots_placeless [] = []
-slots_placeless (p ∷ ps) = record { path = p.path; place = nowhere } ∷ slots_placeless ps
-
-abbrev pub strict_placeless : Strict → Strict
-strict_placeless (except ps) = except (slots_placeless ps)
-strict_placeless o = o
-
-abbrev pub name_placeless : Name → Name
-name_placeless x = record { word = x.word; place = nowhere }
-
-abbrev pub names_placeless : List Name → List Name
-names_placeless xs = map name_placeless xs
-
-abbrev pub form_placeless : Form → Form
-form_placeless (strict o) = strict (strict_placeless o)
-form_placeless (binding b groups) = binding b (map names_placeless groups)
-form_placeless (local xs) = local (names_placeless xs)
-form_placeless m = m
-
-abbrev mutual
-  pub tree_placeless : Tree → Tree
-  tree_placeless (node m at ts) = node (form_placeless m) nowhere (trees_placeless ts)
-
-  pub trees_placeless : Trees → Trees
-  trees_placeless no_trees = no_trees
-  trees_placeless (tree t ts) = tree (tree_placeless t) (trees_placeless ts)
 
 abbrev pub no_span : Span
 no_span = record { first = nowhere; last = nowhere }

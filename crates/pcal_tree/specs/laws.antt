@@ -1,4 +1,5 @@
 pub mod Apart
+pub mod Lines
 pub mod MacroSummaries
 pub mod Choosing
 pub mod Expansion

@@ -1,6 +1,6 @@
 //! Laws of what algorithms mean, stated as what functions without a body ensure.
 
-ghost use Rattle.std.specs.Prelude.{◌≡◌, ℕ, List, [], Bool, Some, None, reverse};
+ghost use Rattle.std.specs.Prelude.{◌≡◌, ℕ, List, [], Bool, Some, None, ◌++◌, reverse};
 ghost use Rattle.tla_token.specs.Signs.{is_among};
 ghost use Rattle.tla_expr.specs.Tree.{Word, Trees};
 ghost use Rattle.pcal_tree.specs.Algorithm.{Statements, Macro, Algorithm};
@@ -14,6 +14,10 @@ ghost use Rattle.pcal_tree.specs.OffencesReserved.{reserved_declared};
 ghost use Rattle.pcal_tree.specs.OffencesSteps.{call_effect};
 ghost use Rattle.pcal_tree.specs.OffencesLabels.{label_offences, label_offences_by};
 ghost use Rattle.pcal_tree.specs.laws.MacroSummaries.{summaries, summary_effect};
+ghost use Rattle.tla_expr.specs.Lexical.{Token};
+ghost use Rattle.tla_expr.specs.laws.Columns.{looks};
+ghost use Rattle.pcal_tree.specs.Grammar.{Syntax, Text, Good, spell};
+ghost use Rattle.pcal_tree.specs.laws.Lines.{Begins, text_lineless};
 ghost use Rattle.pcal_tree.specs.Labelled.{labelled};
 ghost use Rattle.pcal_tree.specs.Names.{given, naming};
 ghost use Rattle.pcal_tree.specs.laws.Apart.{FewNames, Apart, New, Untaken, AreNames, NoEndLabels};
@@ -103,6 +107,15 @@ pub fn macros_are_looked_at_once()
         → is_among (call_effect ms m ts).variables x ≡ is_among (summary_effect (summaries ms) m ts).variables x }
     ensures twice { (ms : List Macro) (m : Word) (ts : Trees) → (call_effect ms m ts).twice ≡ (summary_effect (summaries ms) m ts).twice }
     ensures offences { (a : Algorithm) → label_offences a ≡ label_offences_by (summary_effect (summaries (reverse a.macros))) a }
+{}
+
+/// Whether tokens spell an algorithm rests on their kinds and columns alone: tokens of other lines spell the same text in other lines.
+/// And what may begin a spelled list of tokens is a matter of kinds and columns.
+pub fn lines_of_algorithms_do_not_matter()
+    ensures spelled { (s : Syntax) (ts us : List Token) → looks ts ≡ looks us → (x : Text) → Good s x → ts ≡ spell x []
+        → (y : Text) × Good s y × (us ≡ spell y []) × (text_lineless y ≡ text_lineless x) }
+    ensures begins { (s : Syntax) (ts more : List Token) (x : Text) → Good s x → spell x [] ≡ ts ++ more → Begins s (looks ts) }
+    ensures begun { (s : Syntax) (ts : List Token) → Begins s (looks ts) → (x : Text) × (more : List Token) × Good s x × (spell x [] ≡ ts ++ more) }
 {}
 
 /// Each state of a run by a script after the first is one that a step leads to: that of the process which the script names,

@@ -9,7 +9,7 @@ use Rattle.tla_expr.proofs.SoundLists.{read_is_spelled}
 use Rattle.tla_expr.proofs.ColumnsGood.{good_same}
 use Rattle.tla_expr.proofs.ColumnsPut.{put}
 
-no_looks : (ts : List Token) → looks ts ≡ [] → ts ≡ []
+pub no_looks : (ts : List Token) → looks ts ≡ [] → ts ≡ []
 no_looks [] h = refl
 no_looks (t ∷ ts) h = absurd cc
 
@@ -26,16 +26,16 @@ read_again e ts us h a r =
     (v.0, ap (λ (vs : List Token). read e vs) v.2 ∙ spelled_is_read e v.0 v.1, v.3)
 
 -- tokens of these kinds and columns
-bare : ExprToken × ℕ → Token
+pub bare : ExprToken × ℕ → Token
 bare k = token (record { line = 0; col = k.1 }) k.0
 
-looks_of_bare : (ts : List Token) (ks : List (ExprToken × ℕ)) → looks (ts ++ map bare ks) ≡ looks ts ++ ks
+pub looks_of_bare : (ts : List Token) (ks : List (ExprToken × ℕ)) → looks (ts ++ map bare ks) ≡ looks ts ++ ks
 unfolding bare
 looks_of_bare [] [] = refl
 looks_of_bare [] (k ∷ ks) = ap (λ (ls : List (ExprToken × ℕ)). k ∷ ls) (looks_of_bare [] ks)
 looks_of_bare (t ∷ ts) ks = ap (λ (ls : List (ExprToken × ℕ)). look t ∷ ls) (looks_of_bare ts ks)
 
-looks_ahead : (ts us : List Token) → looks (ts ++ us) ≡ looks ts ++ looks us
+pub looks_ahead : (ts us : List Token) → looks (ts ++ us) ≡ looks ts ++ looks us
 looks_ahead [] us = refl
 looks_ahead (t ∷ ts) us = ap (λ (ls : List (ExprToken × ℕ)). look t ∷ ls) (looks_ahead ts us)
 

@@ -86,11 +86,11 @@ bind_same : (a : Phrase) → is_bind (spell (lineless a) []) ≡ is_bind (spell 
 bind_same a = bind_before a [] [] refl
 
 -- ---- the same claim
-abbrev Same : Type 0 → Type 0 → Type 1
+abbrev pub Same : Type 0 → Type 0 → Type 1
 Same A B = ◌≡◌ {A = Type 0} A B
 
 mutual
-  good : (e : ℕ) (x : Phrase) → Same (Good e (lineless x)) (Good e x)
+  pub good : (e : ℕ) (x : Phrase) → Same (Good e (lineless x)) (Good e x)
   good e (number p n) = refl
   good e (string p x) = refl
   good e (constant p c) = refl
@@ -120,7 +120,7 @@ mutual
   good e (infix_of a p o b) = λ i. IsTrue (not (is_prefix o)) × IsTrue (left_same a p o i) × IsTrue (right_same o b i) × good e a i × Right e p × good e b i
   good e (prefix_of p o a) = λ i. IsTrue (is_prefix o) × IsTrue (under_same o a i) × Right e p × good e a i
 
-  good_all : (e : ℕ) (x : Phrases) → Same (GoodAll e (lineless_all x)) (GoodAll e x)
+  pub good_all : (e : ℕ) (x : Phrases) → Same (GoodAll e (lineless_all x)) (GoodAll e x)
   good_all e (last a) = λ i. good e a i
   good_all e (more a p xs) = λ i. good e a i × Right e p × good_all e xs i
 

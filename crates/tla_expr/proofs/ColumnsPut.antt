@@ -26,7 +26,7 @@ other_looks : List (ExprToken × ℕ) → List (ExprToken × ℕ)
 other_looks [] = []
 other_looks (x ∷ xs) = xs
 
-one_token : (p : Place) (k : ExprToken) (ts us : List Token) → looks us ≡ looks (token p k ∷ ts) → Put Place lineless_place (λ q vs. token q k ∷ vs) p ts us
+pub one_token : (p : Place) (k : ExprToken) (ts us : List Token) → looks us ≡ looks (token p k ∷ ts) → Put Place lineless_place (λ q vs. token q k ∷ vs) p ts us
 unfolding first_look other_looks
 one_token p k ts [] h = absurd cc
 one_token p k ts (u ∷ us) h =
@@ -180,7 +180,7 @@ mutual
       let v1 = put a ts v0.rest v0.looks_same in
       record { again = prefix_of v0.again o v1.again; rest = v1.rest; tokens = rw (v1.tokens, v0.tokens) refl; same = λ i. prefix_of (v0.same i) o (v1.same i); looks_same = v1.looks_same }
 
-  put_all : (x : Phrases) (ts us : List Token) → looks us ≡ looks (spell_all x ts) → Put Phrases lineless_all spell_all x ts us
+  pub put_all : (x : Phrases) (ts us : List Token) → looks us ≡ looks (spell_all x ts) → Put Phrases lineless_all spell_all x ts us
   put_all (last a) ts us h =
       let v0 = put a ts us h in
       record { again = last v0.again; rest = v0.rest; tokens = v0.tokens; same = λ i. last (v0.same i); looks_same = v0.looks_same }

@@ -1,17 +1,17 @@
 -- Two evaluations side by side: environments whose names and operators stand for one another, from constants and states to definitions.
-use Rattle.std.proofs.Common.{◌≡◌, ℤ, pos, ◌+ℤ◌, ◌-ℤ◌, Bool, true, false, cond, bytes_eq, List, [], ◌∷◌, Option, Some, None, refl, Ok, Err}
+use Rattle.std.proofs.Common.{◌≡◌, ℤ, pos, ◌+ℤ◌, ◌-ℤ◌, Bool, true, false, cond, bytes_eq, List, [], ◌∷◌, Option, Some, None, refl, subst, Ok, Err}
 use Rattle.std.specs.Prelude.{codes}
 use Rattle.tla_token.specs.declared.place.Place.{Place}
 use Rattle.tla_expr.specs.Tree.{Word, Form, name, next, operator_call, Tree, node, Trees, no_trees, tree, Every, EveryOf, Each, binders}
 use Rattle.tla_value.specs.declared.fault.FaultKind.TheVariants.{NotSet, NotFunction, EmptySequence, AssertFailed}
-use Rattle.tla_value.specs.Value.{Value, Values, int, Outcome, Sense, ◌>>=◌}
+use Rattle.tla_value.specs.Value.{Value, Values, int, Outcome, Trouble, Sense, ◌>>=◌}
 use Rattle.tla_value.specs.Order.{listed}
 use Rattle.tla_value.specs.Stops.{Check, misshapen}
 use Rattle.tla_value.specs.Meaning.{Env, just, bind, called, only_tested, eval}
 use Rattle.tla_value.specs.Standard.{Standard, length_of, appended, first_of, rest_of, part_of, sequences, size_of, is_finite, printed, asserted, standard_of, headed, tailed, element, part_between, standard_value, standard_sense, standard_called, is_natural, is_int, standard_name}
 use Rattle.tla_value.specs.Definitions.{Valuation, Definition, or_sense, base, in_states, at_use, trouble_at, with_arguments, body_sense, defined, with_definitions, scope_of}
 use Rattle.tla_value.specs.Related.{Bound}
-use Rattle.tla_value.proofs.Joined.{Kin, Joined, Same, then_same, same_cond, order_same, ones, twos, threes, truths, ints, sets, sequences as as_sequences, tests, or_faults, applications, Checks}
+use Rattle.tla_value.proofs.Joined.{Kin, Joined, Same, Both, none, one, then_same, same_cond, order_same, ones, twos, threes, truths, ints, sets, sequences as as_sequences, tests, or_faults, applications, Checks}
 use Rattle.tla_value.proofs.JoinedEval.{Senses, senses_of, unlisted, Dens, Read, Kept, eval_both}
 
 -- the environments stand for one another, at places that do
@@ -60,13 +60,23 @@ module _ (K : Kin) where
   headed_both p q at [] = K.faults EmptySequence p q at
   headed_both p q at (v ∷ vs) = refl
 
-  uses : (b : Bool) (p q : Place) → K.place p q → (o o' : Outcome Value) → Same K o o' → Same K (at_use b p o) (at_use b q o')
-  uses b p q at (Ok v) (Ok w) h = h
-  uses b p q at (Ok v) (Err j) h = absurd h
-  uses true p q at (Err k) (Ok w) h = K.free_moved p k h
-  uses false p q at (Err k) (Ok w) h = h
-  uses true p q at (Err k) (Err j) h = K.moved p q at k j h
-  uses false p q at (Err k) (Err j) h = h
+  -- troubles of a body where two definitions are used
+  abbrev pub UsesJoin : Bool → Bool → Type 0
+  UsesJoin b b' = (p q : Place) → K.place p q → (k j : Trouble) → K.beside k j → K.beside (cond b (trouble_at p k) k) (cond b' (trouble_at q j) j)
+
+  used_free : (b : Bool) (p : Place) (k : Trouble) → K.free k → K.free (cond b (trouble_at p k) k)
+  used_free true p k h = K.free_moved p k h
+  used_free false p k h = h
+
+  pub same_use : (b : Bool) → UsesJoin b b
+  same_use true p q at k j h = K.moved p q at k j h
+  same_use false p q at k j h = h
+
+  uses : (b b' : Bool) → UsesJoin b b' → (p q : Place) → K.place p q → (o o' : Outcome Value) → Same K o o' → Same K (at_use b p o) (at_use b' q o')
+  uses b b' u p q at (Ok v) (Ok w) h = h
+  uses b b' u p q at (Ok v) (Err j) h = absurd h
+  uses b b' u p q at (Err k) (Ok w) h = used_free b p k h
+  uses b b' u p q at (Err k) (Err j) h = u p q at k j h
 
   called_either : (b : Bool) (p q : Place) (o o' n n' : Option (Place → List Value → Sense)) (vs : List Value) → Senses K (called p o vs) (called q o' vs) → Senses K (called p n vs) (called q n' vs) → Senses K (called p (cond b o n) vs) (called q (cond b o' n') vs)
   called_either true p q o o' n n' vs h k = h
@@ -158,29 +168,46 @@ module _ (K : Kin) where
       defs = λ f p q at vs. called_both p q at (standard_of f) vs;
     }
 
-    bodies : (d : Definition) (e f : Option Env) → OptionEnvs e f → (p q : Place) → K.place p q → Senses K (body_sense c d e p) (body_sense c' d f q)
-    unfolding OptionEnvs
-    bodies d (Some e) (Some f) r p q at = senses_of K _ _ (uses d.outside p q at _ _ (eval_in d.body e f r).value)
-    bodies d (Some e) None r p q at = absurd r
-    bodies d None (Some f) r p q at = absurd r
-    bodies d None None r p q at = senses_of K _ _ (K.faults NotFunction p q at)
+    -- definitions whose bodies stand for one another
+    pub record DefinitionsJoin (d d' : Definition) : Type 0 where
+      pub title : d.title ≡ d'.title
+      pub params : d.params ≡ d'.params
+      pub body : Dens K (Envs K) (eval c d.body) (eval c' d'.body)
+      pub use_as : UsesJoin d.outside d'.outside
 
-    defined_both : (d : Definition) (ps : List Word) (e f : Env) → Envs K e f → Envs K (defined c d ps e) (defined c' d ps f)
+    bodies : (d d' : Definition) → DefinitionsJoin d d' → (e f : Option Env) → OptionEnvs e f → (p q : Place) → K.place p q → Senses K (body_sense c d e p) (body_sense c' d' f q)
     unfolding OptionEnvs
-    defined_both d [] e f r = record {
-      now = λ x p q at. picked (bytes_eq d.title x) _ _ _ _ (bodies d (Some e) (Some f) r p q at) (r.now x p q at);
+    bodies d d' j (Some e) (Some f) r p q at = senses_of K _ _ (uses d.outside d'.outside j.use_as p q at _ _ (j.body e f r).value)
+    bodies d d' j (Some e) None r p q at = absurd r
+    bodies d d' j None (Some f) r p q at = absurd r
+    bodies d d' j None None r p q at = senses_of K _ _ (K.faults NotFunction p q at)
+
+    defined_both : (d d' : Definition) → DefinitionsJoin d d' → (ps : List Word) (e f : Env) → Envs K e f → Envs K (defined c d ps e) (defined c' d' ps f)
+    unfolding OptionEnvs
+    defined_both d d' j [] e f r = record {
+      now = λ x p q at. subst (λ w. Senses K (cond (bytes_eq d.title x) (body_sense c d (Some e) p) (e.now x p)) (cond (bytes_eq w x) (body_sense c' d' (Some f) q) (f.now x q))) j.title
+          (picked (bytes_eq d.title x) _ _ _ _ (bodies d d' j (Some e) (Some f) r p q at) (r.now x p q at));
       primed = r.primed;
       defs = r.defs;
     }
-    defined_both d (x ∷ xs) e f r = record {
+    defined_both d d' j (x ∷ xs) e f r = record {
       now = r.now;
       primed = r.primed;
-      defs = λ g p q at vs. called_either (bytes_eq d.title g) p q _ _ _ _ vs (bodies d _ _ (arguments_both (x ∷ xs) vs e f r) p q at) (r.defs g p q at vs);
+      defs = λ g p q at vs. subst (λ w. Senses K (called p (cond (bytes_eq d.title g) (Some (λ a us. body_sense c d (with_arguments (x ∷ xs) us e) a)) (e.defs g)) vs) (called q (cond (bytes_eq w g) (Some (λ a us. body_sense c' d' (with_arguments (x ∷ xs) us f) a)) (f.defs g)) vs)) j.title
+          (called_either (bytes_eq d.title g) p q _ _ _ _ vs (bodies d d' j _ _ (arguments_both (x ∷ xs) vs e f r) p q at) (r.defs g p q at vs));
     }
 
-    pub definitions_both : (ds : List Definition) (e f : Env) → Envs K e f → Envs K (with_definitions c ds e) (with_definitions c' ds f)
-    definitions_both [] e f r = r
-    definitions_both (d ∷ ds) e f r = definitions_both ds _ _ (defined_both d d.params e f r)
+    pub definitions_both : (ds ds' : List Definition) → Both DefinitionsJoin ds ds' → (e f : Env) → Envs K e f → Envs K (with_definitions c ds e) (with_definitions c' ds' f)
+    definitions_both _ _ none e f r = r
+    definitions_both _ _ (one {x = d} {y = d'} {xs = ds} {ys = ds'} j js) e f r =
+        definitions_both ds ds' js _ _ (subst (λ ps. Envs K (defined c d d.params e) (defined c' d' ps f)) j.params (defined_both d d' j d.params e f r))
+
+    itself : (ds : List Definition) → Both DefinitionsJoin ds ds
+    itself [] = none
+    itself (d ∷ ds) = one (record { title = refl; params = refl; body = eval_in d.body; use_as = same_use d.outside }) (itself ds)
+
+    pub scopes_both : (k : Valuation) (ds ds' : List Definition) → Both DefinitionsJoin ds ds' → (s t : Valuation) → Envs K (scope_of c k ds s t) (scope_of c' k ds' s t)
+    scopes_both k ds ds' js s t = definitions_both ds ds' js _ _ (states_both s t _ _ (base_both k))
 
     pub scope_both : (k : Valuation) (ds : List Definition) (s t : Valuation) → Envs K (scope_of c k ds s t) (scope_of c' k ds s t)
-    scope_both k ds s t = definitions_both ds _ _ (states_both s t _ _ (base_both k))
+    scope_both k ds s t = scopes_both k ds ds (itself ds) s t

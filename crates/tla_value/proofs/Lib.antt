@@ -22,6 +22,7 @@ pub mod Graft
 pub mod Primes
 pub mod Owned
 pub mod Below
+pub mod Places
 pub mod Groups
 mod RowsMeaning
 pub mod MidState

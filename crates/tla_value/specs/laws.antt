@@ -2,3 +2,4 @@
 pub mod InOrder
 pub mod Groups
 pub mod FreeNames
+pub mod Places

@@ -10,6 +10,7 @@ ghost use Rattle.tla_value.specs.Limits.{bounded};
 ghost use Rattle.tla_value.specs.Meaning.{Env, bind, eval};
 ghost use Rattle.tla_value.specs.Grafts.{Arguments, arguments, primes, owned, through};
 ghost use Rattle.tla_value.specs.Definitions.{Valuation, Definition, scope_of, mid};
+ghost use Rattle.tla_value.specs.laws.Places.{SensesButPlaces, EnvsButPlaces, ChecksButPlaces, TreesButPlaces, DefinitionsButPlaces, GraftsButPlaces};
 ghost use Rattle.tla_value.specs.laws.Groups.{ungrouped, sets_for_names, HaveSets};
 ghost use Rattle.tla_value.specs.laws.FreeNames.{FreeNames, NotFree, AgreeOn};
 ghost use Rattle.tla_value.specs.Related.{In, ApartForm, NoArgument, NotOwned, BindsNone, AllSettled, Given, EnvsBelow, SensesBelow};
@@ -61,4 +62,16 @@ pub fn limits_change_nothing_else()
 pub fn a_set_serves_its_group()
     ensures { (c : Check) (b : Binder) (groups : List (List Name)) (at : Place) (ts : Trees) → HaveSets groups ts → (env : Env)
         → eval c (node (binding b groups) at ts) env ≡ eval c (node (binding b (ungrouped groups)) at (sets_for_names groups ts)) env }
+{}
+
+/// Places matter to a value but for where a trouble is: trees and definitions that are equal, places aside,
+/// have one value, or faults of one kind, or values past the limits.
+pub fn places_matter_to_troubles_alone()
+    ensures outcome { (c k : Check) → ChecksButPlaces c k → (t u : Tree) → TreesButPlaces t u → (e f : Env) → EnvsButPlaces e f → SensesButPlaces (eval c t e) (eval k u f) }
+    ensures plain { ChecksButPlaces plain plain }
+    ensures bounded { ChecksButPlaces bounded bounded }
+    ensures bound { (x : Word) (v : Value) (e f : Env) → EnvsButPlaces e f → EnvsButPlaces (bind x v e) (bind x v f) }
+    ensures grafted { (c k : Check) → ChecksButPlaces c k → (g h : Graft) → GraftsButPlaces g h → (e f : Env) → EnvsButPlaces e f → EnvsButPlaces (through c g e) (through k h f) }
+    ensures scope { (c k : Check) → ChecksButPlaces c k → (constants : Valuation) (ds es : List Definition) → DefinitionsButPlaces ds es → (s t : Valuation)
+        → EnvsButPlaces (scope_of c constants ds s t) (scope_of k constants es s t) }
 {}
