@@ -4,6 +4,7 @@ mod RowsStep
 mod RowsMacros
 mod Choices
 pub mod GraftRuns
+pub mod Uncaptured
 pub mod ExpandRuns
 pub mod BeginLaws
 pub mod BodyLabels
