@@ -8,7 +8,7 @@ use Rattle.tla_value.specs.Value.{Value, truth, Outcome, Sense}
 use Rattle.tla_value.specs.Stops.{plain}
 use Rattle.tla_value.specs.Meaning.{Env, just, bind, eval}
 use Rattle.tla_value.specs.Definitions.{base}
-use Rattle.tla_value.specs.Related.{Unread, Clear}
+use Rattle.tla_value.specs.laws.Grafting.{Unread, Clear}
 use Rattle.pcal_tree.specs.Algorithm.{Statement, await, macro, Statements, done, Macro, alone_routine}
 use Rattle.pcal_tree.specs.Scope.{State}
 use Rattle.pcal_tree.specs.Run.{Course, arguments, run, exit_to}
