@@ -22,7 +22,7 @@ use Rattle.action_builder.specs.Jumps.{name_at, spot, one_assignment, jump_writt
 use Rattle.action_builder.specs.laws.Scopes.{StandsAtPath}
 use Rattle.action_builder.specs.laws.Jumps.{RoutineStands, Initials, AsMany}
 use Rattle.action_builder.proofs.Denotations.{on_both}
-use Rattle.action_builder.specs.laws.Places.{SameButPlaces}
+use Rattle.tla_value.specs.laws.Places.{AgreeButPlaces}
 use Rattle.action_builder.proofs.Alike.{same_refl, then_same}
 use Rattle.action_builder.proofs.AnyPlace.{set_same}
 use Rattle.action_builder.proofs.Settle.{close_refl}
@@ -53,7 +53,7 @@ close_is x y h = ⊎_elim
 pub close_finished : (x y : Outcome State) → Alike x y → Close (Has (finished x)) (Has (finished y))
 close_finished x y h = subst (λ F. Close F (Has (finished y))) (λ i r. sym (has_is x r) i) (subst (λ F. Close (λ r. r ≡ x) F) (λ i r. sym (has_is y r) i) (close_is x y h))
 
-pub alike_of : (x y : Outcome State) → SameButPlaces x y → Alike x y
+pub alike_of : (x y : Outcome State) → AgreeButPlaces x y → Alike x y
 alike_of (Ok t) (Ok u) h = inl (ap Ok h)
 alike_of (Ok t) (Err j) h = absurd h
 alike_of (Err k) (Ok u) h = absurd h
@@ -97,7 +97,7 @@ started_law M P v p sc place initial q (d ∷ ds) e last f h s =
     set : Value → Outcome State
     set w = set_one P.check (setting (place d) (written P p d.name.word) (local_index v p) w) s
 
-started_same : (P : Program) (v : Actor) (p : Routine) (at : Place) (sc : Scope) (place : Declaration → Place) (initial : Declaration → Tree) → P.check ≡ plain → (ds : List Declaration) → Initials P v p at sc initial ds → (s : State) → SameButPlaces (written_started P v p sc place initial ds s) (variables_started P v p at ds s)
+started_same : (P : Program) (v : Actor) (p : Routine) (at : Place) (sc : Scope) (place : Declaration → Place) (initial : Declaration → Tree) → P.check ≡ plain → (ds : List Declaration) → Initials P v p at sc initial ds → (s : State) → AgreeButPlaces (written_started P v p sc place initial ds s) (variables_started P v p at ds s)
 started_same P v p at sc place initial c [] k s = refl
 started_same P v p at sc place initial c (d ∷ ds) k s =
     then_same (value_of P.check (initial d) sc s) (initial_value P v p at d.start s) _ _ (k.0 s) (λ w.
@@ -203,7 +203,7 @@ call_law M P v p at ts back place initial sc q c m as_many k s =
     written_rest : State → Outcome State
     written_rest = written_tail P v p at sc place initial
 
-    same : SameButPlaces (pushed >>= (λ w. values >>= (all_set P v p at ts sc written_rest s w))) (pushed >>= (λ w. values >>= (all_set P v p at ts sc (tail_of P v p at) s w)))
+    same : AgreeButPlaces (pushed >>= (λ w. values >>= (all_set P v p at ts sc written_rest s w))) (pushed >>= (λ w. values >>= (all_set P v p at ts sc (tail_of P v p at) s w)))
     same = then_same pushed pushed _ _ (same_refl pushed) (λ w. then_same values values _ _ (same_refl values) (λ vs.
         then_same _ _ _ _ (same_refl (set_all P.check (first w ∷ given vs) s)) (λ t.
         then_same _ _ _ _ (started_same P v p at sc place initial c p.variables k t) (λ u. same_refl (set_one P.check (setting at pc (index v.self) (label_value P p (first_label p))) u)))))

@@ -37,7 +37,8 @@ ghost use Rattle.action_builder.specs.Prepared.{none};
 ghost use Rattle.action_builder.specs.Written.{except_of};
 ghost use Rattle.action_builder.specs.SingleProcess.{in_place_of, graft_items};
 ghost use Rattle.action_builder.specs.laws.Grafts.{ClearItems};
-ghost use Rattle.action_builder.specs.laws.Places.{SameButPlaces};
+ghost use Rattle.tla_value.specs.laws.Places.{AgreeButPlaces, ChecksButPlaces, EnvsButPlaces};
+ghost use Rattle.action_builder.specs.laws.Places.{ItemsButPlaces};
 ghost use Rattle.action_builder.specs.laws.Sample as sample;
 
 /// The items that are written for a step where the variables of A are assigned already, on a pair of states. Where no
@@ -106,7 +107,14 @@ pub fn except_makes_the_changes_of_its_parts()
 /// the truth that they have where `self` is the value of the expression, or trouble of the same kind.
 pub fn single_processes_have_their_expression_for_self()
     ensures { (c : Check) (self : Word) (e : Tree) (v : Value) (items : Items) → ClearItems c (in_place_of self e) Any items → (s t : Valuation) (env : Env) → eval c e env ≡ just v
-        → SameButPlaces (items_hold c s t env (graft_items (in_place_of self e) items)) (items_hold c s t (bind self v env) items) }
+        → AgreeButPlaces (items_hold c s t env (graft_items (in_place_of self e) items)) (items_hold c s t (bind self v env) items) }
+{}
+
+/// Places in items matter to nothing but where a fault is: items that are equal, places aside, have on every pair of
+/// states the same truth, or troubles of one kind.
+pub fn places_in_items_matter_to_faults_alone()
+    ensures { (c k : Check) → ChecksButPlaces c k → (s t : Valuation) (items others : Items) → ItemsButPlaces items others → (e f : Env) → EnvsButPlaces e f
+        → AgreeButPlaces (items_hold c s t e items) (items_hold k s t f others) }
 {}
 
 /// A step from a label of the statements with macro calls written out begins with what the step from this label
