@@ -94,10 +94,6 @@ abbrev pub folded : List Change → Change
 folded [] v = Ok v
 folded (f ∷ fs) v = (f v) >>= (folded fs)
 
--- what all these parts make of a value
-abbrev pub folded_all : Parts → Scope → State → Value → Outcome Value
-folded_all ps c s v = (all_changes ps c s) >>= (λ fs. folded fs v)
-
 abbrev pub value_for : Word → Parts → Exp Value
 value_for y ps c s = (changes_for y ps c s) >>= (λ fs. folded fs (s y))
 

@@ -30,11 +30,6 @@ Initials P v p at sc initial (d ∷ ds) =
     ((s : State) → AgreeButPlaces (value_of P.check (initial d) sc s) (initial_value P v p at d.start s)) × Initials P v p at sc initial ds
 
 -- an argument for each parameter
-abbrev pub AsMany : List Word → Trees → Type 0
-AsMany [] no_trees = Unit {0}
-AsMany (x ∷ xs) (tree t ts) = AsMany xs ts
-AsMany _ _ = ⊥
-
 abbrev pub as_many : List Word → Trees → Bool
 as_many [] no_trees = true
 as_many (x ∷ xs) (tree t ts) = as_many xs ts
