@@ -6,7 +6,7 @@ use Rattle.tla_value.specs.Value.{Value, Outcome, ◌>>=◌}
 use Rattle.tla_value.specs.Stops.{Check, truth_at, members_at}
 use Rattle.tla_value.specs.Meaning.{Env, just, bind, eval}
 use Rattle.tla_value.specs.Grafts.{read_tree}
-use Rattle.tla_value.specs.Related.{ClearForm}
+use Rattle.tla_value.specs.laws.Grafting.{ClearForm}
 use Rattle.tla_value.specs.Definitions.{Valuation}
 use Rattle.tla_value.proofs.Graft.{Grafted, bound_grafted, grafted_law}
 use Rattle.module_text.specs.Module.{Item, test, setting, unchanged, exists, local, if_then_else, either, Items, no_items, item, Branches, no_branches, branch}

@@ -11,7 +11,7 @@ ghost use Rattle.tla_expr.specs.Tree.{Word, Tree};
 ghost use Rattle.tla_value.specs.Value.{Value, NotFalse, IsBad};
 ghost use Rattle.tla_value.specs.Stops.{Check, plain};
 ghost use Rattle.tla_value.specs.Meaning.{Env, just, bind, eval};
-ghost use Rattle.tla_value.specs.Related.{In};
+ghost use Rattle.tla_value.specs.laws.Grafting.{In};
 ghost use Rattle.tla_value.specs.Grafts.{owned};
 ghost use Rattle.tla_value.specs.Definitions.{Valuation};
 ghost use Rattle.module_text.specs.Module.{Items};

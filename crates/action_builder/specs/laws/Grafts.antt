@@ -1,7 +1,7 @@
 -- Items with trees put in for names: what captures nothing.
 use Rattle.tla_expr.specs.Tree.{Word, Every, Graft}
 use Rattle.tla_value.specs.Stops.{Check}
-use Rattle.tla_value.specs.Related.{Clear, ClearForm}
+use Rattle.tla_value.specs.laws.Grafting.{Clear, ClearForm}
 use Rattle.module_text.specs.Module.{Item, test, setting, unchanged, exists, local, if_then_else, either, Items, no_items, item, Branches, no_branches, branch}
 
 -- no name that is bound is put in for, or read in a tree that is put in; other names are of U
