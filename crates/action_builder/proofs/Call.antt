@@ -3,7 +3,7 @@ use Rattle.std.proofs.Common.{◌≡◌, true, List, [], ◌∷◌, ◌++◌, �
 use Rattle.std.specs.Option.{ok_or}
 use Rattle.tla_expr.specs.declared.op.Op.TheVariants.{Concat}
 use Rattle.tla_token.specs.declared.place.Place.{Place}
-use Rattle.tla_expr.specs.Tree.{Word, Each, name, Tree, node, Trees, no_trees, tree, operator, tuple, fields}
+use Rattle.tla_expr.specs.Tree.{Word, Each, name, Tree, node, Trees, no_trees, tree, operator, tuple, fields, root_place}
 use Rattle.tla_value.specs.Value.{Value, text, Trouble, Outcome, ◌>>=◌, IsBad, fault}
 use Rattle.tla_value.specs.Order.{seq_from}
 use Rattle.tla_value.specs.Stops.{Check, plain, sequence_at}
@@ -12,7 +12,7 @@ use Rattle.tla_value.specs.declared.fault.FaultKind.TheVariants.{NotSequence}
 use Rattle.tla_value.proofs.OrderFuns.{sequence_of_seq}
 use Rattle.tla_value.specs.Strict.{strict_value}
 use Rattle.pcal_tree.specs.Algorithm.{Declaration, Routine, locals, Assignments, Statements, then, assign}
-use Rattle.pcal_tree.specs.Scope.{State, Scope, root_place, place_of, places_of, value_of}
+use Rattle.pcal_tree.specs.Scope.{State, Scope, place_of, places_of, value_of}
 use Rattle.pcal_tree.specs.Assign.{Setting, set_one, set_all, settings, after_assignments}
 use Rattle.pcal_tree.specs.Run.{Has, after, Rules, unlabelled, run}
 use Rattle.pcal_tree.specs.Program.{Program, Actor, index, local_index, read_at, written}

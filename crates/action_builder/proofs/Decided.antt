@@ -7,10 +7,11 @@ use Rattle.tla_expr.specs.Tree.{Word, Form, name, next, operator_call, binding, 
 use Rattle.tla_value.specs.Stops.{Check}
 use Rattle.tla_value.specs.Related.{In, ClearForm}
 use Rattle.pcal_tree.specs.Algorithm.{Assignments, no_assignments, assignment, Statement, assign, await, print, assert, skip, branch, either, Statements, done, then, mark, Branches, no_branches, or}
-use Rattle.pcal_tree.specs.laws.Expansion.{Any, CleanAssignments, CleanOne, Clean, CleanSome}
+use Rattle.pcal_tree.specs.laws.Expansion.{CleanAssignments, CleanOne, Clean, CleanSome}
 use Rattle.action_builder.specs.Assigned.{assigned, Names, more}
 use Rattle.action_builder.specs.laws.Ready.{SettledOne, Settled, SettledSome, Plain, FineTree, FineSides, FineOne, Fine, FineSome}
 use Rattle.action_builder.specs.laws.Sample.{any_name}
+use Rattle.tla_value.specs.laws.FreeNames.{Any}
 
 none_in : {P : Type 0} → false ≡ true → P
 none_in e = cc

@@ -16,11 +16,11 @@ use Rattle.tla_value.specs.Definitions.{Valuation}
 use Rattle.tla_value.proofs.Graft.{Grafted, bound_grafted, grafted_law}
 use Rattle.module_text.specs.Module.{Item, test, setting, unchanged, exists, local, if_then_else, either, Items, no_items, item, Branches, no_branches, branch}
 use Rattle.module_text.specs.ActionTruth.{truth_in, members_in, item_holds, items_hold, some_branch}
-use Rattle.pcal_tree.specs.laws.Expansion.{Any}
 use Rattle.action_builder.specs.SingleProcess.{in_place_of, graft_item, graft_items, graft_branches}
 use Rattle.tla_value.specs.laws.Places.{AgreeButPlaces}
 use Rattle.action_builder.specs.laws.Grafts.{ClearItem, ClearItems, ClearBranches, StrictListed, IsListed}
 use Rattle.action_builder.proofs.Alike.{same_refl, then_same, and_same, or_same, cond_same, truth_same, members_same, each_same}
+use Rattle.tla_value.specs.laws.FreeNames.{Any}
 
 -- an expression with trees put in, and what goes on with its value
 value_same : {X : Type 0} (c : Check) (g : Graft) (U : Word → Type 0) (e : Tree) → Every (ClearForm c g U) e → (n m : Env) → Grafted c g U n m → (f h : Value → Outcome X) → ((v : Value) → AgreeButPlaces (f v) (h v)) → AgreeButPlaces ((eval c (graft g e) n).value >>= f) ((eval c e m).value >>= h)

@@ -21,7 +21,7 @@ ghost use Rattle.pcal_tree.specs.Scope.{State, Scope};
 ghost use Rattle.pcal_tree.specs.Run.{Rules, Follow, run, exit_to, unlabelled};
 ghost use Rattle.pcal_tree.specs.StepStart.{begin};
 ghost use Rattle.pcal_tree.specs.Expand.{graft_all, expanded, written_out, expand_begin};
-ghost use Rattle.pcal_tree.specs.laws.Expansion.{Any, Calls, Clean, FineCall, BareBodies, AnyPlace};
+ghost use Rattle.pcal_tree.specs.laws.Expansion.{Calls, Clean, FineCall, BareBodies, AnyPlace};
 ghost use Rattle.pcal_tree.specs.Program.{Program, Actor};
 ghost use Rattle.action_builder.specs.Assigned.{Names, more, assigned_in};
 ghost use Rattle.action_builder.specs.laws.States.{value_after, SameOn, BadSomewhere};
@@ -36,6 +36,7 @@ ghost use Rattle.action_builder.specs.Prepared.{none};
 ghost use Rattle.action_builder.specs.Written.{except_of};
 ghost use Rattle.action_builder.specs.SingleProcess.{in_place_of, graft_items};
 ghost use Rattle.action_builder.specs.laws.Grafts.{ClearItems, IsListed};
+ghost use Rattle.tla_value.specs.laws.FreeNames.{Any};
 ghost use Rattle.tla_value.specs.laws.Places.{AgreeButPlaces, ChecksButPlaces, EnvsButPlaces};
 ghost use Rattle.action_builder.specs.laws.Places.{ItemsButPlaces};
 ghost use Rattle.action_builder.specs.laws.Sample as sample;
@@ -121,14 +122,14 @@ pub fn places_in_items_matter_to_faults_alone()
 /// A step from a label of the statements with macro calls written out begins with what the step from this label
 /// begins with, written out.
 pub fn written_out_steps_begin_alike()
-    ensures { (c : Check) (ms : List Macro) → BareBodies ms → (l here : Word) (ss : Statements) → Calls (FineCall c ms) ss → (x : Word)
+    ensures { (ms : List Macro) → BareBodies ms → (l here : Word) (ss : Statements) → Calls (FineCall ms) ss → (x : Word)
         → begin l here (expanded ms ss) x ≡ expand_begin (written_out ms) (begin l here ss x) }
 {}
 
 /// The sample step, which has a macro call, an assignment to a variable of its process, a jump and a call, meets all that
 /// these laws ask.
 pub fn the_sample_step_meets_all_that_is_asked()
-    ensures expanded { Calls (FineCall plain sample.macros) sample.unexpanded × BareBodies sample.macros }
+    ensures expanded { Calls (FineCall sample.macros) sample.unexpanded × BareBodies sample.macros }
     ensures jumps { RoutinesStandWithin sample.program sample.actor sample.routine sample.initials sample.step.names (own_scope plain sample.self sample.own sample.scope) }
     ensures prepared { IsPrepared sample.step }
     ensures ready { IsReady sample.any_name sample.variables sample.env none sample.step }

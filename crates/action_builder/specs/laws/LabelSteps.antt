@@ -10,7 +10,7 @@ use Rattle.module_text.specs.Module.{Items}
 use Rattle.pcal_tree.specs.Algorithm.{Statements}
 use Rattle.pcal_tree.specs.Scope.{State, Scope}
 use Rattle.pcal_tree.specs.Run.{Has, Rules, run, exit_to}
-use Rattle.pcal_tree.specs.laws.Expansion.{Any, Clean, AnyPlace}
+use Rattle.pcal_tree.specs.laws.Expansion.{Clean, AnyPlace}
 use Rattle.action_builder.specs.Assigned.{Names, more, assigned_in}
 use Rattle.action_builder.specs.laws.States.{mid, SameOn}
 use Rattle.action_builder.specs.laws.Scopes.{own_scope, Inner}
@@ -19,6 +19,7 @@ use Rattle.action_builder.specs.laws.Settling.{Callable, Tidy, DoesAsRules}
 use Rattle.action_builder.specs.laws.Ready.{Readable, unlimited, Ready}
 use Rattle.action_builder.specs.Written.{write}
 use Rattle.action_builder.specs.Prepared.{prepared, none, action_items}
+use Rattle.tla_value.specs.laws.FreeNames.{Any}
 
 -- ---- steps
 
