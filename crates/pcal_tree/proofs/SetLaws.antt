@@ -1,4 +1,4 @@
--- Lists of words that no test tells apart, and lists without repetitions.
+-- Lists that no test tells apart, and lists without repetitions.
 use Rattle.std.proofs.Common.{◌≡◌, List, [], ◌∷◌, ◌++◌, Bool, true, false, ◌||◌, cond, bytes_eq, refl, sym, ◌∙◌, ap, map}
 use Rattle.std.specs.List.{list_any, flat_map}
 use Rattle.std.proofs.lemmas.List.Folds.{list_any-append}
@@ -40,7 +40,7 @@ pub any_same : {X : Type 0} (f g : X → Bool) → ((x : X) → f x ≡ g x) →
 any_same f g e [] = refl
 any_same f g e (x ∷ xs) = λ i. e x i || any_same f g e xs i
 
-or_mixed : (a b c d : Bool) → ((a || b) || (c || d)) ≡ ((a || c) || (b || d))
+pub or_mixed : (a b c d : Bool) → ((a || b) || (c || d)) ≡ ((a || c) || (b || d))
 or_mixed true b c d = refl
 or_mixed false true true d = refl
 or_mixed false true false d = refl
@@ -54,12 +54,12 @@ pub any_none : {X : Type 0} (f : X → Bool) → ((x : X) → f x ≡ false) →
 any_none f e [] = refl
 any_none f e (x ∷ xs) = λ i. e x i || any_none f e xs i
 
--- ---- lists of words that no test tells apart
+-- ---- lists that no test tells apart
 
-abbrev pub Same : List Word → List Word → Type 0
-Same xs ys = (f : Word → Bool) → list_any f xs ≡ list_any f ys
+abbrev pub Same : {X : Type 0} → List X → List X → Type 0
+Same {X = X} xs ys = (f : X → Bool) → list_any f xs ≡ list_any f ys
 
-pub same_both : (xs us ys vs : List Word) → Same xs us → Same ys vs → Same (xs ++ ys) (us ++ vs)
+pub same_both : {X : Type 0} (xs us ys vs : List X) → Same xs us → Same ys vs → Same (xs ++ ys) (us ++ vs)
 same_both xs us ys vs s r f = list_any-append f xs ys ∙ (λ i. s f i || r f i) ∙ sym (list_any-append f us vs)
 
 pub among_same : (xs ys : List Word) → Same xs ys → (w : Word) → is_among xs w ≡ is_among ys w
