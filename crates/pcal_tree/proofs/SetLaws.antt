@@ -62,12 +62,8 @@ Same xs ys = (f : Word → Bool) → list_any f xs ≡ list_any f ys
 pub same_both : (xs us ys vs : List Word) → Same xs us → Same ys vs → Same (xs ++ ys) (us ++ vs)
 same_both xs us ys vs s r f = list_any-append f xs ys ∙ (λ i. s f i || r f i) ∙ sym (list_any-append f us vs)
 
-among_any : (xs : List Word) (w : Word) → is_among xs w ≡ list_any (λ v. bytes_eq v w) xs
-among_any [] w = refl
-among_any (x ∷ xs) w = ap (λ (b : Bool). bytes_eq x w || b) (among_any xs w)
-
 pub among_same : (xs ys : List Word) → Same xs ys → (w : Word) → is_among xs w ≡ is_among ys w
-among_same xs ys s w = among_any xs w ∙ s (λ v. bytes_eq v w) ∙ sym (among_any ys w)
+among_same xs ys s w = s (λ v. bytes_eq v w)
 
 pub meets_any : (xs ys : List Word) → meets xs ys ≡ list_any (is_among xs) ys
 meets_any xs [] = refl
@@ -78,9 +74,7 @@ meets_same xs us ys vs s r =
     meets_any xs ys ∙ any_same (is_among xs) (is_among us) (among_same xs us s) ys ∙ r (is_among us) ∙ sym (meets_any us vs)
 
 pub among_flat : {X : Type 0} (h : X → List Word) (xs : List X) (w : Word) → is_among (flat_map h xs) w ≡ list_any (λ x. is_among (h x) w) xs
-among_flat h xs w =
-    among_any (flat_map h xs) w ∙ any_flat (λ v. bytes_eq v w) h xs
-    ∙ any_same (λ x. list_any (λ v. bytes_eq v w) (h x)) (λ x. is_among (h x) w) (λ x. sym (among_any (h x) w)) xs
+among_flat h xs w = any_flat (λ v. bytes_eq v w) h xs
 
 -- two effects that no rule tells apart
 abbrev pub Agree : Effect → Effect → Type 0
