@@ -10,9 +10,10 @@ use Rattle.tla_expr.specs.Tree as tree
 use Rattle.tla_expr.specs.Spelling.{Phrase, Right, Good, head, is_primary}
 use Rattle.tla_expr.specs.Spelling as spelled
 use Rattle.module_text.specs.Module.{RegionUnit, test, setting, no_items, item, all_of, action_unit}
-use Rattle.module_text.specs.Grammar.{Token, phrase, ItemForm, spell_list, tree_of, GoodOperand, test_form, setting_form, last_item, more_items}
+use Rattle.tla_expr.specs.Lexical.{Token}
+use Rattle.module_text.specs.Grammar.{phrase, ItemForm, spell_list, tree_of, GoodOperand, test_form, setting_form, last_item, more_items}
 use Rattle.module_text.specs.Units.{UnitForm, all_form, action_form}
-use Rattle.module_text.specs.ModuleTokens.{Cut}
+use Rattle.module_text.specs.UnitCut.{Cut}
 use Rattle.first_path.specs.Form.{Operand, number_operand, variable_operand, single, sum, Parts}
 use Rattle.first_path.specs.Form as form
 use Rattle.first_path.specs.Placed.{leaf, right_tree, is_at}

@@ -10,7 +10,7 @@ use Rattle.tla_token.specs.Words.{is_tla_word}
 use Rattle.tla_token.specs.Lexemes.{is_blank}
 use Rattle.tla_token.specs.Offences.{Offence, least}
 use Rattle.std.specs.Prelude.{is_some}
-use Rattle.module_text.specs.ModuleTokens.{unit_words}
+use Rattle.module_text.specs.UnitCut.{unit_words}
 use Rattle.module_text.specs.TextFront.{Text, begins, is_space, past_all, on_some, past_word, past_blanks, word_at, past_name, at_line, line_of, line_end}
 use Rattle.module_text.specs.Comments.{Mode, plain, quoted, block, Found, step, is_plain, ends_module, seek, outside_comments}
 use Rattle.module_text.specs.HeaderAndRegion.{is_header, is_begin, is_end, is_start}

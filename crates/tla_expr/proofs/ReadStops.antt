@@ -5,7 +5,7 @@ use Rattle.tla_token.specs.declared.place.Place.{Place}
 use Rattle.tla_expr.specs.declared.op.Op.{Op}
 use Rattle.tla_expr.specs.declared.op.Op.TheVariants as op
 use Rattle.tla_expr.specs.Rank.{rank, is_prefix, is_associative, same_op, number_of}
-use Rattle.tla_expr.specs.Lexical.{ExprToken, Token, token, sign_of}
+use Rattle.tla_expr.specs.Lexical.{TokenView, Token, token, sign_of}
 use Rattle.tla_expr.specs.Lexical as tk
 use Rattle.tla_expr.specs.Spelling.{Phrase, list, quantified, if_then_else, cases, local, infix_of, prefix_of}
 use Rattle.tla_expr.specs.Spelling.{Bullets, last_bullet, bullet, Arms, last_arm, other_arm, arm}
@@ -18,7 +18,7 @@ abbrev pub free_in : Option Context → Op → Bool
 free_in None q = false
 free_in (Some c) q = is_free c q
 
-abbrev pub is_box : ExprToken → Bool
+abbrev pub is_box : TokenView → Bool
 is_box (tk.mark tk.box) = true
 is_box k = false
 
@@ -48,25 +48,25 @@ abbrev mutual
   ArmsStop e (arm a p b q xs) ts = ArmsStop e xs ts
 
 -- a token that goes on nothing
-abbrev pub is_calm : ExprToken → Bool
+abbrev pub is_calm : TokenView → Bool
 is_calm (tk.sign o) = false
 is_calm (tk.mark tk.box) = false
 is_calm k = not (is_tail k)
 
-calm_tail : (k : ExprToken) → is_calm k ≡ true → is_tail k ≡ false
+calm_tail : (k : TokenView) → is_calm k ≡ true → is_tail k ≡ false
 calm_tail (tk.sign o) h = refl
 calm_tail (tk.mark tk.box) h = refl
 calm_tail k h = not-true (is_tail k) h
 
-calm_by : (b : ℕ) (a : Phrase) (p : Place) (k : ExprToken) → is_calm k ≡ true → goes_by b a p k ≡ false
+calm_by : (b : ℕ) (a : Phrase) (p : Place) (k : TokenView) → is_calm k ≡ true → goes_by b a p k ≡ false
 calm_by b a p (tk.sign o) h = absurd cc
 calm_by b a p k h = refl
 
-calm_bullet : (o : Op) (b : Bool) (k : ExprToken) → is_calm k ≡ true → (is_sign o k && b) ≡ false
+calm_bullet : (o : Op) (b : Bool) (k : TokenView) → is_calm k ≡ true → (is_sign o k && b) ≡ false
 calm_bullet o b (tk.sign q) h = absurd cc
 calm_bullet o b k h = refl
 
-calm_box : (k : ExprToken) → is_calm k ≡ true → is_box k ≡ false
+calm_box : (k : TokenView) → is_calm k ≡ true → is_box k ≡ false
 calm_box (tk.mark tk.box) h = absurd cc
 calm_box k h = refl
 
@@ -113,7 +113,7 @@ mutual
   calm_arms e (arm a p b q xs) ts g h = calm_arms e xs ts g.5 h
 
 -- a token that stands at the column or left of it is not seen in an item
-pub behind_end : (e c : ℕ) (ts : List Token) (p : Place) (k : ExprToken) → nat_lt e c ≡ true → next e ts ≡ token p k → nat_lt c p.col ≡ false → next c ts ≡ end
+pub behind_end : (e c : ℕ) (ts : List Token) (p : Place) (k : TokenView) → nat_lt e c ≡ true → next e ts ≡ token p k → nat_lt c p.col ≡ false → next c ts ≡ end
 behind_end e c [] p k l s h = refl
 behind_end e c (t ∷ ts) p k l s h = by (nat_lt c t.place.col) refl
   where
@@ -125,7 +125,7 @@ behind_end e c (t ∷ ts) p k l s h = by (nat_lt c t.place.col) refl
         let col : nat_lt c t.place.col ≡ nat_lt c p.col = ap (λ (u : Token). nat_lt c u.place.col) it in
         absurd (both_ways (nat_lt c p.col) h (sym col ∙ g))
 
-pub bullets_behind : (e c : ℕ) (bs : Bullets) (ts : List Token) (p : Place) (k : ExprToken) → GoodBullets c bs → nat_lt e c ≡ true → next e ts ≡ token p k → nat_lt c p.col ≡ false → BulletsStop c bs ts
+pub bullets_behind : (e c : ℕ) (bs : Bullets) (ts : List Token) (p : Place) (k : TokenView) → GoodBullets c bs → nat_lt e c ≡ true → next e ts ≡ token p k → nat_lt c p.col ≡ false → BulletsStop c bs ts
 bullets_behind e c bs ts p k g l s h = calm_bullets c bs ts g (rw (behind_end e c ts p k l s h) refl)
 
 -- ---- `[]` behind a phrase in which no CASE takes it

@@ -3,7 +3,7 @@ use Rattle.std.proofs.Common.{◌≡◌, refl, ℕ, true, ap, arith, List, [], �
 use Rattle.tla_token.specs.declared.place.Place.{Place}
 use Rattle.tla_expr.specs.declared.op.Op.{Op}
 use Rattle.tla_expr.specs.declared.op.Op.TheVariants as op
-use Rattle.tla_expr.specs.Lexical.{Mark, Key, ExprToken, Token, token}
+use Rattle.tla_expr.specs.Lexical.{Mark, Key, TokenView, Token, token}
 use Rattle.tla_expr.specs.Lexical as tk
 use Rattle.tla_expr.specs.Spelling.{Phrase}
 use Rattle.tla_expr.specs.Spelling as spelled
@@ -70,7 +70,7 @@ unfinished = refl
 other_line : looks (token (record { line = 7; col = 1 }) (tk.word (codes "a")) ∷ []) ≡ looks (w 1 ∷ [])
 other_line = refl
 
-abbrev first_col : List (ExprToken × ℕ) → ℕ
+abbrev first_col : List (TokenView × ℕ) → ℕ
 first_col [] = 0
 first_col (x ∷ xs) = x.1
 

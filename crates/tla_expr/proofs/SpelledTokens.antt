@@ -17,9 +17,9 @@ use Rattle.tla_token.proofs.Words.{all_append}
 use Rattle.tla_expr.specs.declared.op.Op.{Op}
 use Rattle.tla_expr.specs.declared.op.Op.TheVariants as op
 use Rattle.tla_expr.specs.Tree.{Word}
-use Rattle.tla_expr.specs.Lexical.{Mark, Key, Constant, ExprToken, sign_of, field_kind, escaped, escapes}
+use Rattle.tla_expr.specs.Lexical.{Mark, Key, Constant, TokenView, sign_of, field_kind, escaped, escapes}
 use Rattle.tla_expr.specs.Lexical as tk
-use Rattle.tla_expr.specs.ExprTokens.{kind_among, word_kinds, word_kind}
+use Rattle.tla_expr.specs.TokenViews.{kind_among, word_kinds, word_kind}
 use Rattle.tla_expr.specs.laws.Writable.{IsIdentifier, IsField, is_spellable, IsString, IsSpelled}
 
 -- ---- signs, marks and words of the language
@@ -96,12 +96,12 @@ sign_spelled op.Union = (name (codes "UNION"), (refl, (refl, refl)), refl)
 sign_spelled op.Domain = (name (codes "DOMAIN"), (refl, (refl, refl)), refl)
 
 -- ---- names and fields
-no_kind : (ps : List (Word × ExprToken)) (w : Word) (k : ExprToken) → list_all (λ (p : Word × ExprToken). is_among tla_words p.0) ps ≡ true → is_among tla_words w ≡ false → kind_among ps w k ≡ k
+no_kind : (ps : List (Word × TokenView)) (w : Word) (k : TokenView) → list_all (λ (p : Word × TokenView). is_among tla_words p.0) ps ≡ true → is_among tla_words w ≡ false → kind_among ps w k ≡ k
 no_kind [] w k h n = refl
 no_kind (p ∷ ps) w k h n = by (bytes_eq p.0 w) refl (no_kind ps w k a.1 n)
   where
-    a : (is_among tla_words p.0 ≡ true) × (list_all (λ (p : Word × ExprToken). is_among tla_words p.0) ps ≡ true)
-    a = and_parts (is_among tla_words p.0) (list_all (λ (p : Word × ExprToken). is_among tla_words p.0) ps) h
+    a : (is_among tla_words p.0 ≡ true) × (list_all (λ (p : Word × TokenView). is_among tla_words p.0) ps ≡ true)
+    a = and_parts (is_among tla_words p.0) (list_all (λ (p : Word × TokenView). is_among tla_words p.0) ps) h
 
     by : (b : Bool) → bytes_eq p.0 w ≡ b → kind_among ps w k ≡ k → (if b then p.1 else kind_among ps w k) ≡ k
     by true e i = (let same : p.0 ≡ w = same_bytes p.0 w e in absurd (both_ways (is_among tla_words w) n (ap (λ v. is_among tla_words v) (sym same) ∙ a.0)))

@@ -415,11 +415,11 @@ abbrev pub can_be_head : Phrase → Place → Bool
 can_be_head (list o bs) p = not (nat_lt (first_bullet bs).col p.col)
 can_be_head a p = is_primary (head a)
 
-abbrev pub is_word : tk.ExprToken → Bool
+abbrev pub is_word : tk.TokenView → Bool
 is_word (tk.word x) = true
 is_word k = false
 
-abbrev pub is_in : tk.ExprToken → Bool
+abbrev pub is_in : tk.TokenView → Bool
 is_in (tk.sign op.In) = true
 is_in k = false
 

@@ -6,13 +6,13 @@ use Rattle.tla_expr.specs.declared.op.Binder.{Binder}
 use Rattle.tla_expr.specs.declared.op.Binder.TheVariants as binder
 use Rattle.tla_expr.specs.Tree.{Word, Name, PathStep, Slot, Strict, Form, Tree, Trees, node, no_trees, tree}
 use Rattle.tla_expr.specs.Tree as tree
-use Rattle.tla_expr.specs.Lexical.{ExprToken, Mark, Key, sign_of, field_kind, token_text}
+use Rattle.tla_expr.specs.Lexical.{TokenView, Mark, Key, sign_of, field_kind, token_text}
 use Rattle.tla_expr.specs.Lexical as tk
 use Rattle.tla_token.specs.Words.{is_pluscal_word}
 
 pub data Piece : Type 0 where
   blank : Piece
-  token : ExprToken → Piece
+  token : TokenView → Piece
 
 abbrev pub text_of : List Piece → List ℕ
 text_of [] = []
@@ -29,7 +29,7 @@ word x ps = token (tk.word x) ∷ ps
 abbrev pub field : Word → List Piece → List Piece
 field x ps = token (field_kind (is_pluscal_word x) x) ∷ ps
 
-abbrev pub spaced : ExprToken → List Piece → List Piece
+abbrev pub spaced : TokenView → List Piece → List Piece
 spaced k ps = blank ∷ token k ∷ blank ∷ ps
 
 abbrev pub comma : List Piece → List Piece

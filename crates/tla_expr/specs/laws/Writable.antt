@@ -6,8 +6,8 @@ use Rattle.tla_token.specs.Words.{is_reserved, is_tla_word}
 use Rattle.tla_token.specs.Lexemes.{Kind, IsName, IsLexeme}
 use Rattle.tla_expr.specs.Tree.{Word, PathStep, index, field, Slot, Strict, fields, records, select, except, Form, string, name, next, strict, operator_call, binders, Each, Tree, Trees, node, no_trees, tree}
 use Rattle.tla_expr.specs.Shapes.{Shaped}
-use Rattle.tla_expr.specs.Lexical.{ExprToken, token_text}
-use Rattle.tla_expr.specs.ExprTokens.{kind_of}
+use Rattle.tla_expr.specs.Lexical.{TokenView, token_text}
+use Rattle.tla_expr.specs.TokenViews.{kind_of}
 use Rattle.tla_expr.specs.Written.{Piece, blank, token}
 
 -- a name that is not reserved
@@ -62,7 +62,7 @@ abbrev mutual
 
 -- ---- what is written
 -- its text is that of a token of a text, which expressions see as this one
-abbrev pub IsSpelled : ExprToken → Type 0
+abbrev pub IsSpelled : TokenView → Type 0
 IsSpelled k = (l : Kind) × IsLexeme l (token_text k) × (kind_of l ≡ k)
 
 abbrev pub AreSpelled : List Piece → Type 0
