@@ -12,8 +12,7 @@ use Rattle.pcal_tree.specs.laws.Expansion.{Calls, FineCall, BareBodies}
 use Rattle.pcal_tree.specs.Program.{local_index}
 use Rattle.pcal_tree.specs.Variables.{pc, stack, written_all}
 use Rattle.action_builder.specs.Assigned.{Names, more}
-use Rattle.action_builder.proofs.Actions.{Apart}
-use Rattle.action_builder.specs.laws.Ready.{Settled, Paired, Scoped}
+use Rattle.action_builder.specs.laws.Ready.{Settled, Paired, Scoped, Apart}
 use Rattle.action_builder.specs.laws.Scopes.{StandsAtPath, Inner, own_scope, own_path, Whole}
 use Rattle.action_builder.specs.laws.Jumps.{RoutineStands, Initials, RoutinesStand, RoutinesStandWithin}
 use Rattle.action_builder.specs.Settled.{settled}

@@ -6,8 +6,8 @@ use Rattle.tla_value.specs.declared.fault.FaultKind.TheVariants.{NotFunction}
 use Rattle.tla_value.specs.Value.{Value, Outcome, Sense, ◌>>=◌, fault}
 use Rattle.tla_value.specs.Stops.{Check, sense_of}
 use Rattle.tla_value.specs.Strict.{applied}
-use Rattle.tla_value.specs.Meaning.{Env, just}
-use Rattle.tla_value.specs.Definitions.{Valuation, no_state, scope_of}
+use Rattle.tla_value.specs.Meaning.{Env}
+use Rattle.tla_value.specs.Definitions.{Valuation, no_state, scope_of, or_sense}
 use Rattle.tla_value.specs.Definitions as Outside
 use Rattle.pcal_tree.specs.Algorithm.{nowhere, Declaration, Definition, declares, Routine, locals, Naming, Algorithm}
 use Rattle.pcal_tree.specs.Scope.{State, Part, Scope}
@@ -63,13 +63,9 @@ read_at at (k ∷ ks) f = do
   v ← applied at f k
   read_at at ks v
 
-abbrev pub read_self : Option Value → Sense → Sense
-read_self (Some v) other = just v
-read_self None other = other
-
 abbrev pub read_name : Program → Actor → Routine → State → Word → Place → Sense
 read_name P v u s x at =
-    cond (bytes_eq (codes "self") x) (read_self v.self ((global_env P s).now x at))
+    cond (bytes_eq (codes "self") x) (or_sense v.self ((global_env P s).now x at))
     (cond (declares (locals u) x) (sense_of (read_at at (local_index v u) (s (written P u x)))) ((global_env P s).now x at))
 
 abbrev pub global_part : Program → Word → Outcome Part

@@ -1,5 +1,6 @@
 -- What is spelled is read: sets of functions, and EXCEPT.
-use Rattle.std.proofs.Common.{◌≡◌, ℕ, ◌+◌, Bool, true, false, ◌&&◌, ◌||◌, List, [], ◌∷◌, Ok, refl, sym, ap, ◌∙◌, arith}
+use Rattle.std.proofs.Common.{◌≡◌, ℕ, ◌+◌, Bool, true, false, ◌&&◌, List, [], ◌∷◌, Ok, refl, sym, ap, ◌∙◌, arith}
+use Rattle.std.proofs.lemmas.Bool.{or_parts}
 use Rattle.tla_token.specs.declared.place.Place.{Place}
 use Rattle.tla_expr.specs.declared.op.Op.{Op}
 use Rattle.tla_expr.specs.declared.op.Op.TheVariants as op
@@ -90,10 +91,6 @@ sign_decides op.In = refl
 sign_decides op.Negate = refl
 sign_decides o = refl
 
-or_false_parts : (x y : Bool) → (x || y) ≡ false → (x ≡ false) × (y ≡ false)
-or_false_parts true y h = absurd cc
-or_false_parts false y h = (refl, h)
-
 undecided : (e : ℕ) (a : Phrase) → Good e a → (us : List Token) → is_member a ≡ false → (is_name a && is_decisive (next e us).kind) ≡ false → Undecided e (spell a us)
 undecided e (name p x) g us m h = h
 undecided e (primed p x q) g us m h = rw g.1 refl
@@ -101,7 +98,7 @@ undecided e (call p x q xs r) g us m h = rw g.1 refl
 undecided e (apply a p xs q) g us m h = undecided e a g.0 _ (primary_member a p g.1) (rw g.2 (and_false (is_name a)))
 undecided e (select a p d) g us m h = undecided e a g.0 _ (primary_member a p g.1) (rw g.2 (and_false (is_name a)))
 undecided e (infix_of a p o b) g us m h =
-    let w = or_false_parts (is_member a) (is_name a && is_in (sign_of o)) m in
+    let w = or_parts (is_member a) (is_name a && is_in (sign_of o)) m in
     undecided e a g.3 (sign p o (spell b us)) w.0 (rw (g.4, sign_decides o) w.1)
 undecided e (prefix_of p o a) g us m h = rw (sign_no_word o) refl
 undecided e (list o (last_bullet p a)) g us m h = rw (sign_no_word o) refl

@@ -6,7 +6,7 @@ use Rattle.std.specs.List.{list_all, list_any}
 use Rattle.std.specs.Fmt.{decimal}
 use Rattle.std.proofs.lemmas.Fmt.{decimal_by_steps_wide}
 use Rattle.std.proofs.lemmas.List.Sums.{fold-append}
-use Rattle.std.proofs.lemmas.Bool.{and_parts, and_from, or_cases, le-leb, leb-true, eqb-true, eqb-false, both_ways, not-true}
+use Rattle.std.proofs.lemmas.Bool.{and_parts, and_from, or_cases, le-leb, leb-true, eqb-true, eqb-false, both_ways, not-true, or_parts}
 use Rattle.tla_token.specs.declared.sign.Sign.TheVariants as sign
 use Rattle.tla_token.specs.Signs.{is_among}
 use Rattle.tla_token.specs.Words.{is_pluscal_word, is_tla_word, is_reserved, tla_words}
@@ -107,21 +107,13 @@ no_kind (p ∷ ps) w k h n = by (bytes_eq p.0 w) refl (no_kind ps w k a.1 n)
     by true e i = (let same : p.0 ≡ w = same_bytes p.0 w e in absurd (both_ways (is_among tla_words w) n (ap (λ v. is_among tla_words v) (sym same) ∙ a.0)))
     by false e i = i
 
-or_false_left : (x y : Bool) → (x || y) ≡ false → x ≡ false
-or_false_left true y h = absurd cc
-or_false_left false y h = refl
-
-or_false_right : (x y : Bool) → (x || y) ≡ false → y ≡ false
-or_false_right true y h = absurd cc
-or_false_right false y h = h
-
 no_tla : (x : Word) → is_tla_word x ≡ false → is_pluscal_word x ≡ false → word_kind x ≡ tk.word x
-no_tla x t p = rw (p, t) (no_kind word_kinds x (tk.word x) refl (or_false_left (is_among tla_words x) _ t))
+no_tla x t p = rw (p, t) (no_kind word_kinds x (tk.word x) refl (or_parts (is_among tla_words x) _ t).0)
 
 pub word_spelled : (x : Word) → IsIdentifier x → IsSpelled (tk.word x)
 word_spelled x (n, r) =
     let f = not-true (is_reserved x) r in
-    (name x, (refl, n), no_tla x (or_false_right (is_pluscal_word x) (is_tla_word x) f) (or_false_left (is_pluscal_word x) (is_tla_word x) f))
+    (name x, (refl, n), no_tla x (or_parts (is_pluscal_word x) (is_tla_word x) f).1 (or_parts (is_pluscal_word x) (is_tla_word x) f).0)
 
 pub field_spelled : (x : Word) → IsField x → IsSpelled (field_kind (is_pluscal_word x) x)
 field_spelled x (n, r) = by (is_pluscal_word x) refl

@@ -7,6 +7,7 @@ use Rattle.tla_token.specs.Lexemes.{is_blank, is_plain, escaped, in_front, unquo
 use Rattle.tla_token.specs.Tokens.{blank, block, line, lexeme, is_pair, Closes, EndsLine}
 use Rattle.tla_token.specs.Offences.{sound, ends_string, string_len, escape_len}
 use Rattle.tla_token.specs.Cut.{run, comment_len, part_at}
+use Rattle.tla_token.proofs.Words.{one_plus}
 
 -- a comment is as long as it takes to close it
 pub closes_len : (d : ℕ) (body rest : List ℕ) → Closes d body → comment_len d (body ++ rest) ≡ Some (length body)
@@ -23,9 +24,6 @@ closes_len (suc d) (a ∷ b ∷ bs) rest h =
     by true e j f h x y z = (let c : Closes (suc (suc d)) bs = rw e at h in rw (e, x c) (ap Some (omega arith)))
     by false e true f h x y z = (let c : Closes d bs = rw (e, f) at h in rw (e, f, y c) (ap Some (omega arith)))
     by false e false f h x y z = (let c : Closes (suc d) (b ∷ bs) = rw (e, f) at h in rw (e, f, z c) (ap Some (omega arith)))
-
-one_plus : (n : ℕ) → 1 + n ≡ suc n
-one_plus n = omega arith
 
 abbrev goes_on : ℕ → Bool
 goes_on b = not (nat_eq b 10)

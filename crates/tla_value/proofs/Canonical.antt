@@ -6,8 +6,7 @@ use Rattle.std.proofs.lemmas.Int.{ints}
 use Rattle.tla_value.specs.Value.{Value, Values, truth, int, text, model, set, fun, no_values, and, Outcome, values_in, ◌>>=◌}
 use Rattle.tla_value.specs.Order.{order, count, listed, set_from, pairs_of, IsBefore, IsAscending, IsCanonical, AreCanonical, ArePairsCanonical}
 use Rattle.tla_value.specs.Sets.{kept, sublists, subsets, integers, repeated, fronted, members, choices, functions_over}
-use Rattle.tla_value.specs.OrderLaws.{order_total}
-use Rattle.tla_value.proofs.OrderSets.{set_from_ascending, set_from_canonical}
+use Rattle.tla_value.proofs.OrderSets.{set_from_ascending, set_from_canonical, before_next}
 
 -- the result, if there is one, has the property
 abbrev pub Has : {X : Type 0} → (X → Type 0) → Outcome X → Type 0
@@ -42,10 +41,6 @@ listed_canonical (and v vs) h = (h.0, listed_canonical vs h.1)
 
 pub set_canonical : (vs : List Value) → AreCanonical (values_in vs) → IsCanonical (set (set_from vs))
 set_canonical vs h = (set_from_ascending vs, set_from_canonical vs h)
-
-before_next : (v w : Value) (ws : Values) → order v w ≡ Less → IsBefore w ws → IsBefore v ws
-before_next v w no_values a b = tt
-before_next v w (and u us) a b = order_total.trans v w u a b
 
 before_kept : (u : Value) (p : Value → Bool) (vs : Values) → IsBefore u vs → IsAscending vs → IsBefore u (kept p vs)
 before_kept u p no_values b h = tt
