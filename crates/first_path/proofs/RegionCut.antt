@@ -50,7 +50,7 @@ Stand n c (p ∷ ps) ts = ⊥
 pub name_token : (n c : ℕ) (w : Word) → is_reserved w ≡ false → tok n c (kind_of (lexeme.name w)) ≡ tok n c (tk.word w)
 name_token n c w h = ap (tok n c) (word_is w h)
 
--- what stands there is what is cut from the text
+-- what is there is what is cut from the text
 pub stand_is : (n c at : ℕ) (ps : List Piece) (ts : List Token) → all_inline ps ≡ true → Stand n c ps ts → views (tokens_of (put n c) at ps) ≡ ts
 stand_is n c at [] ts h s = s
 stand_is n c at (blank b ∷ ps) ts h s =
@@ -111,7 +111,7 @@ turned true false c d h = rw h refl
 turned false true c d h = rw h refl
 turned false false c d h = rw h refl
 
--- without dashes a unit begins just where a starter stands in column 1
+-- without dashes a unit begins just where a starter is in column 1
 pub cut_is : (before : Option Token) (ts : List Token) → dashless ts ≡ true → cut_after before ts ≡ parted ts
 cut_is before [] h = refl
 cut_is before (t ∷ ts) h =

@@ -61,7 +61,7 @@ not_first c h = ne_eqb c 1 (λ e. omega arith)
 abbrev pub pc : Word
 pc = codes "pc"
 
--- the column after a comma and a blank, after the name v that stands in column 11
+-- the column after a comma and a blank, after the name v that is in column 11
 abbrev second_name : Word → ℕ
 second_name v = 11 + length v + 1 + 1
 

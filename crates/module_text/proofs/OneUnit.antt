@@ -21,7 +21,7 @@ use Rattle.module_text.proofs.OneWay.{sorts_apart, some_ways, one_fairs}
 
 -- ---- the first token tells which unit it is
 
--- where a word stands in a list, from its end; 0 if it doesn't
+-- where a word is in a list, from its end; 0 if it doesn't
 abbrev number_in : List Word → Word → ℕ
 number_in [] x = 0
 number_in (w ∷ ws) x = if bytes_eq w x then length ws + 1 else number_in ws x

@@ -104,7 +104,7 @@ units : map (λ ts. (opaque_of ts).names) (cut (seen (codes "a == b\n  c\n------
     ≡ (codes "a" ∷ []) ∷ [] ∷ [] ∷ (codes "T" ∷ []) ∷ (codes "f" ∷ codes "g" ∷ []) ∷ (codes "d" ∷ []) ∷ []
 units = refl
 
--- a sign that stands in no expression begins no unit, nor does a reserved word that begins none
+-- a sign that is in no expression begins no unit, nor does a reserved word that begins none
 not_cut : map (λ ts. (opaque_of ts).names) (cut (seen (codes "a == b\n@ c\nUNCHANGED d\nASSUME e == f\n"))).units
     ≡ (codes "a" ∷ []) ∷ (codes "e" ∷ []) ∷ []
 not_cut = refl

@@ -70,7 +70,7 @@ abbrev pub AllSmall : List text.Token → Type 0
 AllSmall [] = Unit {0}
 AllSmall (t ∷ ts) = is_small t.kind × AllSmall ts
 
--- modules and constants count wherever they stand
+-- modules and constants count wherever they are
 abbrev pub sight : Module → Sight
 sight m = record { modules = m.outside.extended; constants = words m.outside.constants; earlier = [] }
 

@@ -21,7 +21,7 @@ use Rattle.pcal_cli.proofs.Runs.{run_taken}
 
 -- ---- signs of the form
 
--- what stands at the front: a sign of the form, or another that may be none
+-- what is at the front: a sign of the form, or another that may be none
 data Marked (b : ℕ) (bs : List ℕ) : Type 0 where
   marked : (s : Sign) (c : ℕ) (w rest : List ℕ) → b ∷ bs ≡ (c ∷ w) ++ rest → mark_at (b ∷ bs) ≡ Some (s, length (c ∷ w))
       → part_at b bs ≡ sound (lexeme (one s) (c ∷ w)) → Marked b bs

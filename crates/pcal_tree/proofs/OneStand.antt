@@ -1,4 +1,4 @@
--- Each process stands at one label at most: written labels are apart, and what a process runs are routines of the algorithm.
+-- Each process is at one label at most: written labels are apart, and what a process runs are routines of the algorithm.
 use Rattle.std.proofs.Common.{◌≡◌, ℕ, suc, ◌+◌, ◌<◌, ◌≤◌, length, List, [], ◌∷◌, ◌++◌, Bool, true, false, ◌||◌, cond, bytes_eq, codes, Some, refl, sym, ◌∙◌, ap, subst, inl, inr, ◌⊎◌, arith, Ok, Err}
 use Rattle.std.specs.Ordering.{is_lt}
 use Rattle.std.specs.List.{AllByRecursion}

@@ -49,14 +49,14 @@ abbrev pub index : Option Value → List Value
 index (Some v) = v ∷ []
 index None = []
 
--- where the variables of a routine stand
+-- where the variables of a routine are
 abbrev pub local_index : Actor → Routine → List Value
 local_index v u = cond u.spread (index v.self) []
 
 abbrev pub written : Program → Routine → Word → Word
 written P u x = P.naming.local u.number x
 
--- what stands at a path
+-- what is at a path
 abbrev pub read_at : Place → List Value → Value → Outcome Value
 read_at at [] v = Ok v
 read_at at (k ∷ ks) f = do
@@ -74,7 +74,7 @@ global_part P x = cond (declares P.algorithm.globals x) (Ok (record { variable =
 abbrev pub part_of : Program → Actor → Routine → Word → Outcome Part
 part_of P v u x = cond (declares (locals u) x) (Ok (record { variable = written P u x; path = local_index v u })) (global_part P x)
 
--- `self` is the process's identifier, a routine's own variables stand at it, and others are global
+-- `self` is the process's identifier, a routine's own variables are at it, and others are global
 abbrev pub routine_scope : Program → Actor → Routine → Scope
 routine_scope P v u = record {
   env = λ s. record { now = read_name P v u s; primed = (global_env P s).primed; defs = (global_env P s).defs };

@@ -1,4 +1,4 @@
--- Phrases that begin with a name, behind a brace or square bracket.
+-- Phrases that begin with a name, after a brace or square bracket.
 use Rattle.std.proofs.Common.{◌≡◌, ◌≤◌, ℕ, ◌+◌, suc, Bool, true, false, ◌&&◌, List, [], ◌∷◌, Ok, Err, refl, sym, ap, ◌∙◌, arith}
 use Rattle.std.proofs.lemmas.Bool.{not-true}
 use Rattle.tla_token.specs.declared.place.Place.{Place}
@@ -15,7 +15,7 @@ use Rattle.tla_expr.proofs.ReadMembers.{first_in, name_bind, sign_no_word, is_me
 use Rattle.tla_expr.proofs.ReadPhrases.{Prime, Reads, ReadsAll, closed, primary_reads, tail_call}
 use Rattle.tla_expr.proofs.ReadForms.{is_start, Starts, starts, ReadsBinds}
 
--- an expression that begins with a name, behind that name
+-- an expression that begins with a name, after that name
 pub from_word : (e : ℕ) (p : Place) (x : Word) (vs : List Token) (o : Out Phrase) {k : ℕ} → Right e p → Soon k (λ r. r.expr e free (word p x vs)) o
     → Soon k (λ r. then_read (from_name r e p x vs) (λ a us. r.climb e 0 a us)) o
 unfolding readers
@@ -26,7 +26,7 @@ brace_name_other : (r : Readers) (e : ℕ) (p q : Place) (x : Word) (s : Place) 
 brace_name_other r e p q x s (tk.sign op.In) vs h = absurd cc
 brace_name_other r e p q x s k vs h = refl
 
--- ---- behind a brace
+-- ---- after a brace
 abbrev pub NotBind : ℕ → List Token → Type 0
 NotBind e [] = Unit {0}
 NotBind e (t ∷ vs) = (is_word t.kind && is_in (next e vs).kind) ≡ false

@@ -106,7 +106,7 @@ head_primary : (a : Phrase) (p : Place) → can_be_head a p ≡ true → is_prim
 head_primary (list o bs) p h = refl
 head_primary a p h = h
 
--- a list ends before a subscript or field that may stand behind it
+-- a list ends before a subscript or field that may be after it
 or_left : (x y : Bool) → (x || y) ≡ false → x ≡ false
 or_left false y h = refl
 or_left true y h = h

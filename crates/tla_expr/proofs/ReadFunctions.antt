@@ -18,8 +18,8 @@ use Rattle.tla_expr.proofs.ReadForms.{is_start, Starts, starts, field_read}
 use Rattle.tla_expr.proofs.ReadElements.{from_word, assoc, cut_steps}
 use Rattle.tla_expr.proofs.ReadMembers.{is_name, is_member, cut, member, and_false, primary_member, sign_no_word}
 
--- ---- behind a square bracket
--- a token that decides behind a first name
+-- ---- after a square bracket
+-- a token that decides after a first name
 abbrev is_decisive : TokenView → Bool
 is_decisive (tk.mark tk.maps) = true
 is_decisive (tk.mark tk.colon) = true
@@ -27,7 +27,7 @@ is_decisive (tk.mark tk.comma) = true
 is_decisive (tk.sign op.In) = true
 is_decisive k = false
 
--- a token behind a first expression
+-- a token after a first expression
 abbrev is_divider : TokenView → Bool
 is_divider (tk.mark tk.arrow) = true
 is_divider (tk.key tk.except_key) = true
@@ -85,7 +85,7 @@ squared_token e p q k vs g t n b ts o u w h i = (λ m l. rw g (squares_other (re
 squared : (e : ℕ) (p : Place) (us : List Token) → Starts e us → Undecided e us → Squared e p us
 squared e p us s n = rw s.same_as (squared_token e p s.first.place s.first.kind s.rest s.right s.start (rw s.same_as at n))
 
--- ---- what stands behind a first name decides nothing
+-- ---- what is after a first name decides nothing
 sign_decides : (o : Op) → is_decisive (sign_of o) ≡ is_in (sign_of o)
 sign_decides op.In = refl
 sign_decides op.Negate = refl

@@ -95,7 +95,7 @@ reads_function_bind p y x z b t bs q a s hb hs ha = square_form p (bind y x z b 
     let u = closed a ha e ga (mark s tk.close_square ts) (rw gs refl) in
     (λ n l. rw (gy, gz, v n (omega arith), gt, gt, w.same_as, w.right, w.reads n (omega arith), gq, u n (omega arith), gs) refl)))
 
--- the names behind the first
+-- the names after the first
 binds_share : (p : Place) (x : Word) (q : Place) (bs : Binds) (e : ℕ) → GoodBinds e (share p x q bs) → (ts : List Token) → BindsRead e bs ts → Soon (steps_binds bs + 1) (λ r. r.binds e p x (mark q tk.comma (spell_binds bs ts))) (Ok (share p x q bs, ts))
 binds_share p x q bs e (gp, gq, gb) ts v = step (λ r. r.binds e p x (mark q tk.comma (spell_binds bs ts))) (Ok (share p x q bs, ts)) (omega arith) (λ n l. rw (gq, v.same_as, v.right, v.reads n (omega arith)) refl)
 

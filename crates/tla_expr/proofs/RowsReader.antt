@@ -60,7 +60,7 @@ mixed : read 0 (w 1 ∷ s 3 op.And ∷ w 6 ∷ s 8 op.Or ∷ w 11 ∷ []) ≡ Ok
 unfolding readers
 mixed = refl
 
--- `a +` is refused behind its last token
+-- `a +` is refused after its last token
 unfinished : read 0 (w 1 ∷ s 3 op.Plus ∷ []) ≡ Err []
 unfolding readers
 unfinished = refl

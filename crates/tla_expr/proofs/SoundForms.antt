@@ -20,7 +20,7 @@ use Rattle.tla_expr.proofs.SoundTokens.{then_ok, ok_is, given, seen, take_ok, if
 use Rattle.tla_expr.proofs.SoundPhrases.{Fitting, IsPrime, IsGroup, Sound, from_name_sound}
 use Rattle.tla_expr.proofs.SoundBraces.{braces_sound, tuples_sound, squares_sound, bind_rest_sound}
 
--- ---- where a phrase may stand
+-- ---- where a phrase may be
 or_true : (x : Bool) → (x || true) ≡ true
 or_true true = refl
 or_true false = refl

@@ -68,7 +68,7 @@ no_in e a g p x ts us s w = by (is_member a) refl
     by false m = m
     by true m = absurd (both_ways (is_in (next e ts).kind) w (member_in e a g m p x ts us s))
 
--- the element that is put together from a name, `\in` and what is behind
+-- the element that is put together from a name, `\in` and what is after
 abbrev pub IsElement : ℕ → Place → Word → Place → Phrase → Phrase → Type 0
 IsElement e p x q a b = Good e b × ((ts : List Token) → spell b ts ≡ word p x (sign q op.In (spell a ts)))
 

@@ -163,7 +163,7 @@ bound_same binder.Filter ((x ∷ []) ∷ []) (a ∷ c ∷ xs) [] h g ts ps s = a
 bound_same binder.Filter ((x ∷ []) ∷ []) (a ∷ c ∷ xs) (z ∷ []) h g ts ps s = absurd g.1
 
 -- ---- EXCEPT
--- a path, and the parts behind its subscripts
+-- a path, and the parts after its subscripts
 record PathSame (ss : List PathStep) (xs : List b.Part) (zs : List w.Part) (n : ℕ) : Type 0 where
   path : Path
   left : List b.Part

@@ -11,7 +11,7 @@ use Rattle.tla_expr.specs.Spelling.{Field, Phrase, number, string, constant, nam
 use Rattle.tla_expr.specs.Spelling.{Phrases, last, more, Binds, last_bind, bind, share, Fields, last_field, field, Settings, last_setting, setting, Path, path_end, index, at_field, Bullets, last_bullet, bullet, Arms, last_arm, other_arm, arm, Locals, last_local, more_locals}
 use Rattle.tla_expr.specs.Spelling.{can_be_left, can_be_right, can_be_under, can_be_head, is_some_path, takes_box}
 
--- Ok: what was read, and the tokens behind it. Err: the tokens from the refused one on.
+-- Ok: what was read, and the tokens after it. Err: the tokens from the refused one on.
 abbrev pub Out : Type 0 → Type 0
 Out A = Result (A × List Token) (List Token)
 
@@ -33,11 +33,11 @@ gives a ts = Ok (a, ts)
 abbrev pub refuses : {A : Type 0} → Reader A
 refuses ts = Err ts
 
--- what is seen at the end, and where the next token does not stand to the right of the edge
+-- what is seen at the end, and where the next token is not to the right of the edge
 abbrev pub end : Token
 end = token (record { line = 0; col = 0 }) (tk.other [])
 
--- the next token, where it stands to the right of the edge
+-- the next token, where it is to the right of the edge
 abbrev pub next : ℕ → List Token → Token
 next e [] = end
 next e (t ∷ ts) = if nat_lt e t.place.col then t else end
@@ -137,7 +137,7 @@ a_word e = take e word_of
 abbrev pub a_field : ℕ → Reader Field
 a_field e = take e field_of
 
--- ---- where an expression stands: free, to the right of an operator, or under a prefix operator
+-- ---- where an expression is: free, to the right of an operator, or under a prefix operator
 pub data Context : Type 0 where
   free : Context
   right_of : Op → Context
@@ -173,7 +173,7 @@ prefix_by o = None
 abbrev pub goes_on : ℕ → Phrase → Place → Op → Bool
 goes_on b a p o = not (is_prefix o) && (nat_lt b (rank o).0 && can_be_left a p o)
 
--- `x \in` put before the largest left part of a set that may stand there
+-- `x \in` put before the largest left part of a set that may be there
 abbrev pub on_left : Option Phrase → Place → Op → Phrase → Option Phrase
 on_left (Some a) p o b = if can_be_left a p o then Some (infix_of a p o b) else None
 on_left None p o b = None
@@ -182,15 +182,15 @@ abbrev pub element : Place → Word → Place → Phrase → Option Phrase
 element p x q (infix_of a r o b) = if can_be_right op.In (infix_of a r o b) then Some (infix_of (name p x) q op.In (infix_of a r o b)) else on_left (element p x q a) r o b
 element p x q s = if can_be_right op.In s then Some (infix_of (name p x) q op.In s) else None
 
--- ---- the readers that call one another; each has the edge that all its tokens stand to the right of
+-- ---- the readers that call one another; each has the edge that all its tokens are to the right of
 pub record Readers : Type 0 where
   pub expr : ℕ → Context → Reader Phrase
   pub short : ℕ → Reader Phrase  -- a primary, or a prefix operator with a short form
   pub postfix : ℕ → Phrase → Reader Phrase  -- so far, and then `[a]` and `.b`
   pub climb : ℕ → ℕ → Phrase → Reader Phrase  -- so far, and then operators above this rank
   pub phrases : ℕ → Reader Phrases
-  pub binds : ℕ → Place → Word → Reader Binds  -- behind a first name
-  pub fields : ℕ → Mark → Field → Reader Fields  -- behind a first name
+  pub binds : ℕ → Place → Word → Reader Binds  -- after a first name
+  pub fields : ℕ → Mark → Field → Reader Fields  -- after a first name
   pub settings : ℕ → Reader Settings
   pub path : ℕ → Reader Path
   pub bullets : ℕ → Op → ℕ → Reader Bullets  -- in this column
@@ -226,7 +226,7 @@ abbrev pub set_from : Readers → ℕ → Place → Option Phrase → Reader Phr
 set_from r e p (Some a) = peek e (set_rest r e p a)
 set_from r e p None = refuses
 
--- behind `{x \in S`
+-- after `{x \in S`
 abbrev pub member_rest : Readers → ℕ → Place → Place → Word → Place → Phrase → Place → TokenView → Reader Phrase
 member_rest r e p q x s a t (tk.mark tk.colon) = skip (r.expr e free >>= λ b. ended e tk.close_brace (λ u. filter p q x s a t b u))
 member_rest r e p q x s a t k = set_from r e p (element q x s a)
@@ -263,12 +263,12 @@ abbrev pub square_from : Readers → ℕ → Place → Option Phrase → Reader 
 square_from r e p (Some a) = peek e (square_rest r e p a)
 square_from r e p None = refuses
 
--- behind `x \in S`
+-- after `x \in S`
 abbrev pub bind_rest : Readers → ℕ → Place → Word → Place → Phrase → Place → TokenView → Reader Binds
 bind_rest r e p x q a s (tk.mark tk.comma) = skip (a_word e >>= λ y. r.binds e y.0 y.1 >>= λ bs. gives (bind p x q a s bs))
 bind_rest r e p x q a s k = gives (last_bind p x q a)
 
--- behind `[x \in S`
+-- after `[x \in S`
 abbrev pub square_member : Readers → ℕ → Place → Place → Word → Place → Phrase → Place → TokenView → Reader Phrase
 square_member r e p q x s a t (tk.mark tk.maps) = function_rest r e p (last_bind q x s a)
 square_member r e p q x s a t (tk.mark tk.comma) = peek e (bind_rest r e q x s a) >>= λ bs. function_rest r e p bs

@@ -66,7 +66,7 @@ abbrev pub kind_among : List (Word × TokenView) → Word → TokenView → Toke
 kind_among [] w k = k
 kind_among (p ∷ ps) w k = if bytes_eq p.0 w then p.1 else kind_among ps w k
 
--- reserved words of TLA+ that stand in expressions
+-- reserved words of TLA+ that are in expressions
 abbrev pub word_kinds : List (Word × TokenView)
 word_kinds =
     (codes "IF", tk.key tk.if_key) ∷ (codes "THEN", tk.key tk.then_key) ∷ (codes "ELSE", tk.key tk.else_key)
@@ -82,7 +82,7 @@ word_kind w =
     if is_pluscal_word w then tk.reserved w
     else kind_among word_kinds w (if is_tla_word w then tk.other w else tk.word w)
 
--- a prime stands in written text alone, and is no sign elsewhere
+-- a prime is in written text alone, and is no sign elsewhere
 abbrev pub kind_of : Kind → TokenView
 kind_of (name w) = word_kind w
 kind_of (number n) = tk.number n

@@ -16,7 +16,7 @@ use Rattle.tla_token.proofs.Signed.{to_lexeme, to_marks, not_true, picked_mark}
 use Rattle.tla_token.proofs.Longest.{run_letter, Sort, a_name, a_number, a_quote, a_single, a_worded, some_marks, sort_of, same_first, find_passes, spelling_found, some_spelling, sign_stands, marks_longest, none_marks}
 use Rattle.tla_token.proofs.Parted.{first_part, len_closes, parts_step, some_part}
 
--- a part that fits stands at the front, and is what is found there
+-- a part that fits is at the front, and is what is found there
 pub record Cut (t : List ℕ) : Type 0 where
   pub part : Part
   pub rest : List ℕ

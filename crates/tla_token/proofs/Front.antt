@@ -28,7 +28,7 @@ closes_len (suc d) (a ∷ b ∷ bs) rest h =
 abbrev goes_on : ℕ → Bool
 goes_on b = not (nat_eq b 10)
 
--- a line comment takes what stands before the line's end
+-- a line comment takes what is before the line's end
 pub line_run : (body rest : List ℕ) → list_all (λ b. not (nat_eq b 10)) body ≡ true → EndsLine rest → run (λ b. not (nat_eq b 10)) (body ++ rest) ≡ body
 line_run [] [] h e = refl
 line_run [] (b ∷ rest) h e = rw e refl

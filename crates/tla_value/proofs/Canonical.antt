@@ -68,7 +68,7 @@ each_append : (P : Values → Type 0) (ss ts : List Values) → EachList P ss �
 each_append P [] ts h k = k
 each_append P (s ∷ ss) ts h k = (h.0, each_append P ss ts h.1 k)
 
--- in ascending order behind u, and canonical
+-- in ascending order after u, and canonical
 abbrev Behind : Value → Values → Type 0
 Behind u t = IsBefore u t × IsAscending t × AreCanonical t
 

@@ -61,7 +61,7 @@ abbrev pub NoNext : Form → Type 0
 NoNext (next x) = ⊥
 NoNext _ = Unit {0}
 
--- also no primed name stands in the tree
+-- also no primed name is in the tree
 abbrev pub Unprimed : (Word → Bool) → (Word → Type 0) → Form → Place → Type 0
 Unprimed A U m at = Each (λ x. A x ≡ false) (binders m) × Uses U m × NoNext m
 

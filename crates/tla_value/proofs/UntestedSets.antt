@@ -23,7 +23,7 @@ IsLess _ = ⊥
 not_less : (v : Value) → order v v ≡ Less → ⊥
 not_less v h = subst IsLess (sym h ∙ order_self v) tt
 
--- what stands before is another one
+-- what is before is another one
 other_by : (u v : Value) (b : Bool) → same u v ≡ b → order v u ≡ Less → same u v ≡ false
 other_by u v false q h = q
 other_by u v true q h = absurd (not_less v (sym (ap (order v) (same_is u v q)) ∙ h))
@@ -59,7 +59,7 @@ or_false : (x : Bool) → (x || false) ≡ x
 or_false true = refl
 or_false false = refl
 
--- whether w is the first, held behind it, or neither
+-- whether w is the first, held after it, or neither
 first_or_behind : (w v : Value) (ws vs : Values) → IsAscending (and w ws) → IsAscending (and v vs) → (s h : Bool) → same w v ≡ s → holds w vs ≡ h →
     ((h && all_in ws vs) || (s && all_in ws vs)) ≡ ((s || h) && all_in ws (and v vs))
 first_or_behind w v ws vs a b true h q k =

@@ -1,4 +1,4 @@
--- The phrase that the text of a tree spells: brackets stand where they are written.
+-- The phrase that the text of a tree spells: brackets are where they are written.
 use Rattle.std.specs.Prelude.{Bool, true, false, List, [], ◌∷◌}
 pub use Rattle.tla_token.specs.Places.{nowhere}
 use Rattle.tla_expr.specs.declared.op.Op.{Op}

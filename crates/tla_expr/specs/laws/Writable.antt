@@ -18,7 +18,7 @@ IsIdentifier x = IsName x × IsTrue (not (is_reserved x))
 abbrev pub IsField : Word → Type 0
 IsField x = IsName x × IsTrue (not (is_tla_word x))
 
--- a character that stands in a string by itself or by an escape
+-- a character that is in a string by itself or by an escape
 abbrev pub is_spellable : ℕ → Bool
 is_spellable b = (nat_le 32 b && nat_le b 126) || (nat_eq b 9 || (nat_eq b 10 || (nat_eq b 12 || nat_eq b 13)))
 
