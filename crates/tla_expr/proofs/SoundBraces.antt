@@ -1,4 +1,4 @@
--- What is read is spelled: behind braces and square brackets.
+-- What is read is spelled: after braces and square brackets.
 use Rattle.std.proofs.Common.{◌≡◌, ℕ, Bool, true, false, not, List, [], ◌∷◌, Option, Some, None, Ok, refl, sym, ap, ◌∙◌}
 use Rattle.tla_token.specs.declared.place.Place.{Place}
 use Rattle.tla_expr.specs.declared.op.Op.TheVariants as op
