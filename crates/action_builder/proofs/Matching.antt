@@ -1,6 +1,6 @@
 -- Verdicts that match, and the parts of which the truth of the written items is put together.
 use Rattle.std.proofs.Common.{◌≡◌, List, [], ◌∷◌, ◌++◌, Bool, true, false, cond, not, ◌||◌, ◌&&◌, bytes_eq, Some, None, ◌⊎◌, refl, sym, ◌∙◌, ap, subst, ⊎_elim, inl, inr, Ok, Err}
-use Rattle.std.proofs.lemmas.Bool.{cases_Bool, or_cases, both_ways, and_parts}
+use Rattle.std.proofs.lemmas.Bool.{cases_Bool, or_cases, both_ways, and_parts, or_left, or_right}
 use Rattle.tla_token.specs.Signs.{is_among}
 use Rattle.tla_token.specs.declared.place.Place.{Place}
 use Rattle.tla_expr.specs.Tree.{Word, apply, name, strict, select, Tree, node, Trees, no_trees, tree, EveryOf, root_place}
@@ -15,6 +15,7 @@ use Rattle.tla_value.specs.laws.Grafting.{In, BindsNone, IsUnprimed}
 use Rattle.tla_value.specs.laws.FreeNames.{FreeInParts}
 use Rattle.tla_value.proofs.Primes.{unprimed_law}
 use Rattle.tla_value.proofs.Outcomes.{then_then}
+use Rattle.tla_value.specs.OrderLaws.{same_is}
 use Rattle.module_text.specs.ActionTruth.{Verdict, is_unchanged}
 use Rattle.module_text.specs.ActionTruth as Module
 use Rattle.pcal_tree.specs.Algorithm.{Assignments, no_assignments, assignment}
@@ -25,8 +26,8 @@ use Rattle.action_builder.proofs.Actions.{minus, all_same, some_member}
 use Rattle.action_builder.specs.laws.Ready.{Readable, Halfway, IsWithin, Paired, Scoped, IsLeft, LeftFirst, LeftSides, FineTree, FineSides, values_of}
 use Rattle.action_builder.specs.Written.{Key, sub, fixed, subs, keys_of, keys_first, subscripts, own, slot_trees, except_of, is_whole, side_of, primed, left_of}
 use Rattle.action_builder.proofs.Except.{own_left}
-use Rattle.action_builder.proofs.Equal.{name-true, eq-name, value-true, eq-value}
-use Rattle.action_builder.proofs.Sets.{or_left, or_right, minus_same, same_minus}
+use Rattle.action_builder.proofs.Equal.{name-true, eq-name, eq-value}
+use Rattle.action_builder.proofs.Sets.{minus_same, same_minus}
 use Rattle.action_builder.proofs.Main.{Within}
 
 -- ---- verdicts that match
@@ -286,7 +287,7 @@ left_same (v ∷ vs) all own s t h x m a o =
     by (λ g k. left_same vs all own s t g x k a o) (is_among all v && not (is_among own v)) refl h (or_cases (bytes_eq v x) (is_among vs x) m)
   where
     by : (all_same (left_of vs all own) s t ≡ true → is_among vs x ≡ true → t x ≡ s x) → (b : Bool) → (is_among all v && not (is_among own v)) ≡ b → all_same (cond b (v ∷ left_of vs all own) (left_of vs all own)) s t ≡ true → (bytes_eq v x ≡ true) ⊎ (is_among vs x ≡ true) → t x ≡ s x
-    by ih true p g (inl e) = subst (λ z. t z ≡ s z) (name-true v x e) (value-true (t v) (s v) (and_parts (same (t v) (s v)) (all_same (left_of vs all own) s t) g).0)
+    by ih true p g (inl e) = subst (λ z. t z ≡ s z) (name-true v x e) (same_is (t v) (s v) (and_parts (same (t v) (s v)) (all_same (left_of vs all own) s t) g).0)
     by ih true p g (inr k) = ih (and_parts (same (t v) (s v)) (all_same (left_of vs all own) s t) g).1 k
     by ih false p g (inl e) = absurd (both_ways (is_among all v && not (is_among own v)) p (and_not (is_among all v) (is_among own v) (ap (is_among all) (name-true v x e) ∙ a) (ap (is_among own) (name-true v x e) ∙ o)))
     by ih false p g (inr k) = ih g k

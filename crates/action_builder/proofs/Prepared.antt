@@ -1,4 +1,4 @@
--- The prepared statements have the ends of the statements as they stand, and trouble where these have trouble.
+-- The prepared statements have the ends of the statements as they are, and trouble where these have trouble.
 use Rattle.std.proofs.Common.{◌≡◌, List, [], ◌∷◌, Bool, true, false, cond, Some, None, refl, sym, ◌∙◌, subst, Ok, Err}
 use Rattle.tla_token.specs.declared.place.Place.{Place}
 use Rattle.tla_expr.specs.Tree.{Word, apply, name, node, no_trees}
@@ -56,7 +56,7 @@ own_stands c V self v own sc h x m reads at s = (own_parts c V self v own sc h x
         }) ∙ (λ i. sense_of (last_read (applied at (s x) v) at i))
     by false o = reads at s
 
--- from the prepared statements to the statements as they stand
+-- from the prepared statements to the statements as they are
 pub prepared_law : (M : Rules) (d : LabelStep) → Prepares M d → (s : State) → Close (Has (run M unlabelled (prepared_of d) d.scope to_end s)) (Stepped M d s)
 prepared_law M d p s =
     subst (λ F. Close (Has (F s)) (Stepped M d s)) (sym (localised M d.self d.own unlabelled (settled d.jumps d.here d.exit d.statements) d.scope p.free p.clean to_end))

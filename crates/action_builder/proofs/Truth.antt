@@ -1,6 +1,6 @@
 -- The written items have the truth of what their statements mean.
 use Rattle.std.proofs.Common.{◌≡◌, List, [], ◌∷◌, Bool, true, false, cond, ◌||◌, bytes_eq, codes, Some, None, refl, sym, ◌∙◌, ap, subst, ⊎_elim, Ok, Err}
-use Rattle.std.proofs.lemmas.Bool.{or_cases}
+use Rattle.std.proofs.lemmas.Bool.{or_cases, or_left, or_right}
 use Rattle.tla_token.specs.Signs.{is_among}
 use Rattle.tla_token.specs.declared.place.Place.{Place}
 use Rattle.tla_expr.specs.Tree.{Word, Tree, no_trees, root_place}
@@ -25,7 +25,6 @@ use Rattle.action_builder.proofs.Matching.{Matches, match_and, match_or, match_v
 use Rattle.action_builder.proofs.Actions as Action
 use Rattle.action_builder.specs.Written.{own, side_of, primed, left_of, unchanged_of, onto, filled, settings_of, nested_items, branch_items, write_one, write, write_some}
 use Rattle.action_builder.proofs.Equal.{eq-name}
-use Rattle.action_builder.proofs.Sets.{or_left, or_right}
 use Rattle.action_builder.proofs.Main.{and_then_assoc, Within}
 use Rattle.action_builder.proofs.Main as Main
 use Rattle.action_builder.proofs.Except.{value_law}

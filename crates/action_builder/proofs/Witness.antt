@@ -15,10 +15,9 @@ use Rattle.action_builder.specs.Assigned.{Names, more}
 use Rattle.tla_value.specs.laws.Grafting.{Apart}
 use Rattle.tla_value.proofs.Graft.{apart_clear}
 use Rattle.tla_value.proofs.Owned.{owned_apart}
-use Rattle.action_builder.proofs.Actions as Actions
-use Rattle.action_builder.proofs.Sets.{or_right}
 use Rattle.action_builder.proofs.Equal.{name-true, eq-name}
-use Rattle.std.proofs.lemmas.Bool.{both_ways}
+use Rattle.std.proofs.lemmas.Bool.{both_ways, or_right}
+use Rattle.action_builder.specs.laws.Ready as Ready
 use Rattle.action_builder.specs.laws.Ready.{Settled, Paired, Scoped}
 use Rattle.action_builder.specs.laws.Scopes.{StandsAtPath, Inner, own_scope, own_path, Whole}
 use Rattle.action_builder.specs.laws.Jumps.{RoutineStands, Initials, RoutinesStand, RoutinesStandWithin}
@@ -117,7 +116,7 @@ prepared = record {
   clean = clear_list avoided plain (owned self own) (λ x h. apart_clear plain (owned self own) x (own_apart x h)) (settled step.jumps step.here step.exit step.statements) refl;
 }
 
-apart : (A : Names) (xs : List Word) → Each (λ w. A w ≡ false) xs → Actions.Apart A xs
+apart : (A : Names) (xs : List Word) → Each (λ w. A w ≡ false) xs → Ready.Apart A xs
 apart A xs h = each_name (λ w. A w ≡ false) xs h
 
 paired : Paired any_name variables plain_scope plain_env

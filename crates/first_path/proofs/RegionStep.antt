@@ -10,9 +10,10 @@ use Rattle.tla_expr.specs.Tree as tree
 use Rattle.tla_expr.specs.Spelling.{Phrase, Right, Good, head, is_primary}
 use Rattle.tla_expr.specs.Spelling as spelled
 use Rattle.module_text.specs.Module.{RegionUnit, test, setting, no_items, item, all_of, action_unit}
-use Rattle.module_text.specs.Grammar.{Token, phrase, ItemForm, spell_list, tree_of, GoodOperand, test_form, setting_form, last_item, more_items}
+use Rattle.tla_expr.specs.Lexical.{Token}
+use Rattle.module_text.specs.Grammar.{phrase, ItemForm, spell_list, tree_of, GoodOperand, test_form, setting_form, last_item, more_items}
 use Rattle.module_text.specs.Units.{UnitForm, all_form, action_form}
-use Rattle.module_text.specs.ModuleTokens.{Cut}
+use Rattle.module_text.specs.UnitCut.{Cut}
 use Rattle.first_path.specs.Form.{Operand, number_operand, variable_operand, single, sum, Parts}
 use Rattle.first_path.specs.Form as form
 use Rattle.first_path.specs.Placed.{leaf, right_tree, is_at}
@@ -22,7 +23,7 @@ use Rattle.first_path.proofs.Pieces.{Pieces, sp, nl, right, variables_pieces, va
 use Rattle.first_path.proofs.RegionCut.{put, Stand, name_token, parted, dashless}
 use Rattle.first_path.proofs.RegionForms.{Reached, one_more, not_first, pc, at_phrase, done}
 
--- ---- the right side of the assignment, whose first token stands in line n and column c
+-- ---- the right side of the assignment, whose first token is in line n and column c
 
 abbrev operand_length : Word → Operand → ℕ
 operand_length v (number_operand i) = length (decimal i)
@@ -115,11 +116,11 @@ right_good n c v (sum a b) h =
 abbrev defined_column : Word → ℕ
 defined_column l = 1 + length l + 1
 
--- after the quoted label, which stands in column 12
+-- after the quoted label, which is in column 12
 abbrev closing_column : Word → ℕ
 closing_column l = 12 + length (34 ∷ (l ++ 34 ∷ []))
 
--- the sign `=` after the primed variable, which stands in column 6
+-- the sign `=` after the primed variable, which is in column 6
 abbrev set_column : Word → ℕ
 set_column v = 6 + length v + 1 + 1
 

@@ -3,37 +3,25 @@ use Rattle.std.specs.Prelude.{◌≡◌, ℕ, nat_lt, IsTrue, List, [], ◌∷�
 use Rattle.tla_token.specs.declared.place.Place.{Place}
 use Rattle.tla_expr.specs.declared.op.Op.TheVariants as op
 use Rattle.tla_expr.specs.Tree.{Word, Name, Tree, words}
-use Rattle.tla_expr.specs.Lexical.{ExprToken, Mark, Key, sign, mark, key}
+use Rattle.tla_expr.specs.Lexical.{TokenView, Mark, Key, Token, token, sign, mark, key}
 use Rattle.tla_expr.specs.Lexical as tk
 use Rattle.tla_expr.specs.Spelling.{Phrase, Right, Good, head, is_primary}
 use Rattle.tla_expr.specs.Spelling as spelled
 use Rattle.module_text.specs.Module.{Item, test, setting, unchanged, exists, local, if_then_else, either, Items, no_items, item, Branches, no_branches, branch, Call, call, call_with, Way, one_way, some_way}
 
--- a token, as expressions see it, or a reserved word of modules
-pub data Kind : Type 0 where
-  seen : ExprToken → Kind
-  keyword : Word → Kind
-
-pub record Token : Type 0 where
-  pub kind : Kind
-  pub place : Place
-
 -- the tokens of a form before others: t r
 abbrev pub Tokens : Type 0
 Tokens = List Token → List Token
 
-abbrev pub see : Place → ExprToken → Tokens
-see p k r = record { kind = seen k; place = p } ∷ r
+abbrev pub see : Place → TokenView → Tokens
+see p k r = token p k ∷ r
 
-abbrev pub reserved : Place → Word → Tokens
-reserved p w r = record { kind = keyword w; place = p } ∷ r
-
-abbrev pub lifted : List tk.Token → Tokens
-lifted [] r = r
-lifted (t ∷ ts) r = see t.place t.kind (lifted ts r)
+-- a reserved word that stands in no expression
+abbrev pub keyword : Place → Word → Tokens
+keyword p w r = see p (tk.other w) r
 
 abbrev pub phrase : Phrase → Tokens
-phrase a r = lifted (spelled.spell a []) r
+phrase a r = spelled.spell a r
 
 abbrev pub word : Place → Word → Tokens
 word p x r = see p (tk.word x) r
@@ -89,7 +77,7 @@ abbrev mutual
   pub spell_item : ItemForm → Tokens
   spell_item (test_form p a q) r = see p (mark tk.open_bracket) (phrase a (see q (mark tk.close_bracket) r))
   spell_item (setting_form p x q s a) r = word p x (see q (mark tk.prime) (see s (sign op.Equal) (phrase a r)))
-  spell_item (unchanged_form p q ns s) r = reserved p (codes "UNCHANGED") (see q (mark tk.open_tuple) (spell_names ns (see s (mark tk.close_tuple) r)))
+  spell_item (unchanged_form p q ns s) r = keyword p (codes "UNCHANGED") (see q (mark tk.open_tuple) (spell_names ns (see s (mark tk.close_tuple) r)))
   spell_item (exists_form p q x s a t is) r = see p (key tk.exists_key) (word q x (see s (sign op.In) (phrase a (see t (mark tk.colon) (spell_list is r)))))
   spell_item (local_form p q x s a t is) r = see p (key tk.let_key) (word q x (see s (mark tk.defines) (phrase a (see t (key tk.in_key) (spell_list is r)))))
   spell_item (choice_form p a q is s js) r = see p (key tk.if_key) (phrase a (see q (key tk.then_key) (spell_list is (see s (key tk.else_key) (spell_list js r)))))
@@ -184,7 +172,7 @@ GoodWay e (one_form u) = GoodCall e u
 GoodWay e (some_form p q x s a t u) = Right e p × Right e q × Right e s × Good e a × Right e t × GoodCall e u
 
 -- a list of forms, each after its bullet
-abbrev pub spell_bullets : {A : Type 0} → ExprToken → (A → Tokens) → List (Place × A) → Tokens
+abbrev pub spell_bullets : {A : Type 0} → TokenView → (A → Tokens) → List (Place × A) → Tokens
 spell_bullets k f [] r = r
 spell_bullets k f (x ∷ xs) r = see x.0 k (f x.1 (spell_bullets k f xs r))
 

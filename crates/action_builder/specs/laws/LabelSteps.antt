@@ -63,7 +63,7 @@ IsReady U vs env A d = Ready U vs A (prepared_of d) d.scope env
 
 -- ---- what it ends in
 
--- an outcome of the statements as they stand, by the rules M, in the process's own scope
+-- an outcome of the statements as they are, by the rules M, in the process's own scope
 abbrev pub Stepped : Rules → LabelStep → State → Outcome State → Type 0
 Stepped M d s r = Has (run M d.here d.statements (own_scope M.check d.self d.own d.scope) (exit_to M d.exit) s) r
 

@@ -56,7 +56,7 @@ Given None = ⊥
 abbrev pub In : (Word → Bool) → Word → Type 0
 In u x = u x ≡ true
 
--- a tree that may stand where x is bound
+-- a tree that may be where x is bound
 abbrev pub Unread : Check → Word → Option Tree → Type 0
 Unread c x (Some t) = (v : Value) (e : Env) → eval c t e ≡ eval c t (bind x v e)
 Unread c x None = Unit {0}
