@@ -3,11 +3,10 @@
 use Rattle.std.specs.Prelude.{List, [], ◌∷◌, ◌++◌, Bool, true, false, cond, not, ◌&&◌, bytes_eq, codes}
 use Rattle.tla_token.specs.Signs.{is_among}
 use Rattle.tla_token.specs.declared.place.Place.{Place}
-use Rattle.tla_expr.specs.Tree.{Word, PathStep, index, field, Slot, select, except, Form, string, truth, name, operator_call, strict, Tree, node, Trees, no_trees, tree, graft}
+use Rattle.tla_expr.specs.Tree.{Word, PathStep, index, field, Slot, select, except, Form, string, truth, name, operator_call, strict, Tree, node, Trees, no_trees, tree, graft, root_place}
 use Rattle.tla_value.specs.Grafts.{primes}
 use Rattle.module_text.specs.Module.{test, setting, unchanged, exists, local, if_then_else, either as any, Items, no_items, item, Branches as Lists, no_branches as no_lists, branch as list}
 use Rattle.pcal_tree.specs.Algorithm.{nowhere, Assignments, no_assignments, assignment, Binds, no_binds, one_of, is, Statement, assign, await, print, assert, skip, branch, either, with, Statements, done, then, mark, Branches, no_branches, or}
-use Rattle.pcal_tree.specs.Scope.{root_place}
 use Rattle.action_builder.specs.Assigned.{Names, more, head_of, heads, assigned, assigned_in, assigned_by}
 
 -- ---- the right side for a variable
@@ -40,7 +39,7 @@ steps_of [] = []
 steps_of (sub t ∷ ks) = index ∷ steps_of ks
 steps_of (fixed a ∷ ks) = field a ∷ steps_of ks
 
--- the subscripts, with other trees behind them
+-- the subscripts, with other trees after them
 abbrev pub subscripts : List Key → Trees → Trees
 subscripts [] ts = ts
 subscripts (sub t ∷ ks) ts = tree t (subscripts ks ts)
@@ -122,7 +121,7 @@ nested_items A (is x e bs) b = item (local x.word (primed A e) (nested_items A b
 abbrev pub branch_items : List Word → Place → Items → List Word → List Word → Items
 branch_items vs at body all own = filled at (onto body (unchanged_of (left_of vs all own)))
 
--- vs: all variables, in the order of `vars`; A: those that are assigned already; rest: the items behind
+-- vs: all variables, in the order of `vars`; A: those that are assigned already; rest: the items after
 abbrev mutual
   pub write_one : List Word → Names → Place → Statement → Items → Items
   write_one vs A at (assign ms) rest = settings_of A ms (heads ms) rest

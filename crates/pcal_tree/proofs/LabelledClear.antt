@@ -3,9 +3,9 @@ use Rattle.std.proofs.Common.{◌≡◌, ℕ, suc, List, [], ◌∷◌, ◌++◌
 use Rattle.std.specs.List.{AllByRecursion}
 use Rattle.tla_token.specs.declared.place.Place.{Place}
 use Rattle.tla_token.specs.declared.rule.Rule.TheVariants.{FirstLabel}
-use Rattle.tla_expr.specs.Tree.{Word}
+use Rattle.tla_expr.specs.Tree.{Word, Trees}
 use Rattle.pcal_tree.specs.Algorithm.{Statement, assign, await, print, assert, skip, branch, either, with, while, goto, macro, call, return, Statements, done, then, mark, Branches, no_branches, or, Macro, Process, Procedure, Main, alone, processes, Algorithm, numbered, first_procedure, first_process, procedure_routine, process_routine, procedure_routines, main_routines}
-use Rattle.pcal_tree.specs.Paths.{Effects, nothing, after_one}
+use Rattle.pcal_tree.specs.Paths.{Effect, Effects, nothing, after_one}
 use Rattle.pcal_tree.specs.OffencesSteps.{Before, at_label, at_first, inside, next, call_effect, procedure_effects, outer_effects}
 use Rattle.pcal_tree.specs.OffencesLabels.{label_words}
 use Rattle.pcal_tree.specs.Labelled.{added_name, Supply, number, names_after, labelled_if, needs_label, before, add_inside, add, add_some, add_to_macros, add_to_procedures, add_to_processes, add_to_main, typed_labels, with_labels, is_alone, is_empty, labelled}
@@ -116,33 +116,33 @@ macros_through Q s (d ∷ ds) go r k =
     clear_add (λ x. Unit {0}) (λ n. tt) Q (λ st. nothing) (at_first None) s d.body _ r (no_rule (Body.labels d.body)) (λ b t q c.
     macros_through Q t ds _ q (λ es u o. k (record { name = d.name; params = d.params; body = b } ∷ es) u o))
 
-procedures_through : {R : Type 0} (Q : R → Type 0) (ms : List Macro) (s : Supply) (ps : List Procedure) (go : List Procedure → Supply → R)
+procedures_through : {R : Type 0} (Q : R → Type 0) (C : Word → Trees → Effect) (s : Supply) (ps : List Procedure) (go : List Procedure → Supply → R)
     → s.root ≡ lbl
     → AllByRecursion (λ p. Clear p.body) ps → ((qs : List Procedure) (t : Supply) → t.root ≡ lbl → AllByRecursion (λ p. Clear p.body) qs → Q (go qs t))
-    → Q (add_to_procedures ms s ps go)
-procedures_through Q ms s [] go r h k = k [] s r tt
-procedures_through Q ms s (p ∷ ps) go r h k =
-    clear_add is_clear added_clear Q (procedure_effects (call_effect ms) p) (at_first (Some FirstLabel)) s p.body _ r h.0 (λ b t q c.
-    procedures_through Q ms t ps _ q h.1
+    → Q (add_to_procedures C s ps go)
+procedures_through Q C s [] go r h k = k [] s r tt
+procedures_through Q C s (p ∷ ps) go r h k =
+    clear_add is_clear added_clear Q (procedure_effects C p) (at_first (Some FirstLabel)) s p.body _ r h.0 (λ b t q c.
+    procedures_through Q C t ps _ q h.1
     (λ qs u o d. k (record { name = p.name; params = p.params; variables = p.variables; body = b } ∷ qs) u o (c, d)))
 
-processes_through : {R : Type 0} (Q : R → Type 0) (ms : List Macro) (s : Supply) (ps : List Process) (go : List Process → R) → s.root ≡ lbl
-    → AllByRecursion (λ p. Clear p.body) ps → ((qs : List Process) → AllByRecursion (λ p. Clear p.body) qs → Q (go qs)) → Q (add_to_processes ms s ps go)
-processes_through Q ms s [] go r h k = k [] tt
-processes_through Q ms s (p ∷ ps) go r h k =
-    clear_add is_clear added_clear Q (outer_effects (call_effect ms)) (at_first (Some FirstLabel)) s p.body _ r h.0 (λ b t q c.
-    processes_through Q ms t ps _ q h.1 (λ qs d.
+processes_through : {R : Type 0} (Q : R → Type 0) (C : Word → Trees → Effect) (s : Supply) (ps : List Process) (go : List Process → R) → s.root ≡ lbl
+    → AllByRecursion (λ p. Clear p.body) ps → ((qs : List Process) → AllByRecursion (λ p. Clear p.body) qs → Q (go qs)) → Q (add_to_processes C s ps go)
+processes_through Q C s [] go r h k = k [] tt
+processes_through Q C s (p ∷ ps) go r h k =
+    clear_add is_clear added_clear Q (outer_effects C) (at_first (Some FirstLabel)) s p.body _ r h.0 (λ b t q c.
+    processes_through Q C t ps _ q h.1 (λ qs d.
     k (record { name = p.name; fairness = p.fairness; several = p.several; identity = p.identity; variables = p.variables; body = b } ∷ qs) (c, d)))
 
 abbrev ClearMain : Main → Type 0
 ClearMain (alone b) = Clear b
 ClearMain (processes ps) = AllByRecursion (λ p. Clear p.body) ps
 
-main_through : {R : Type 0} (Q : R → Type 0) (ms : List Macro) (s : Supply) (m : Main) (go : Main → R) → s.root ≡ lbl → ClearMain m
-    → ((m' : Main) → ClearMain m' → Q (go m')) → Q (add_to_main ms s m go)
-main_through Q ms s (alone b) go r h k =
-    clear_add is_clear added_clear Q (outer_effects (call_effect ms)) (at_first (Some FirstLabel)) s b _ r h (λ c t q d. k (alone c) d)
-main_through Q ms s (processes ps) go r h k = processes_through Q ms s ps _ r h (λ qs c. k (processes qs) c)
+main_through : {R : Type 0} (Q : R → Type 0) (C : Word → Trees → Effect) (s : Supply) (m : Main) (go : Main → R) → s.root ≡ lbl → ClearMain m
+    → ((m' : Main) → ClearMain m' → Q (go m')) → Q (add_to_main C s m go)
+main_through Q C s (alone b) go r h k =
+    clear_add is_clear added_clear Q (outer_effects C) (at_first (Some FirstLabel)) s b _ r h (λ c t q d. k (alone c) d)
+main_through Q C s (processes ps) go r h k = processes_through Q C s ps _ r h (λ qs c. k (processes qs) c)
 
 -- ---- routines
 
@@ -180,18 +180,18 @@ to_algorithm : (a : Algorithm) → AllByRecursion (λ p. Clear p.body) a.procedu
 to_algorithm a h k =
     every_both AllClear (procedure_routines a) (main_routines a a.main) (to_procedures (first_procedure a) a.procedures h) (to_main a a.main k)
 
-with_labels_clear : (a : Algorithm) → NoEndLabels a → NoEndLabels (with_labels lbl a)
+with_labels_clear : (a : Algorithm) → NoEndLabels a → NoEndLabels (with_labels call_effect lbl a)
 with_labels_clear a h =
     macros_through NoEndLabels (record { root = lbl; typed = typed_labels a; from = 1 }) a.macros _ refl (λ ms s r.
-    procedures_through NoEndLabels (reverse ms) s a.procedures _ r
+    procedures_through NoEndLabels (call_effect (reverse ms)) s a.procedures _ r
     (from_procedures (first_procedure a) a.procedures (every_left AllClear (procedure_routines a) (main_routines a a.main) h)) (λ ps t q c.
-    main_through NoEndLabels (reverse ms) t a.main _ q
+    main_through NoEndLabels (call_effect (reverse ms)) t a.main _ q
     (from_main a a.main (every_right AllClear (procedure_routines a) (main_routines a a.main) h)) (λ m d.
     to_algorithm (record { name = a.name; fair = a.fair; globals = a.globals; definitions = a.definitions; macros = ms; procedures = ps; main = m }) c d)))
 
 pub labelled_clear : (forced : Bool) (a : Algorithm) → NoEndLabels a → NoEndLabels (labelled forced a)
 labelled_clear forced a h = by (forced || (is_alone a.main && is_empty (typed_labels a)))
   where
-    by : (b : Bool) → NoEndLabels (cond b (with_labels lbl a) a)
+    by : (b : Bool) → NoEndLabels (cond b (with_labels call_effect lbl a) a)
     by true = with_labels_clear a h
     by false = h

@@ -4,6 +4,7 @@ mod RowsStep
 mod RowsMacros
 mod Choices
 pub mod GraftRuns
+pub mod Uncaptured
 pub mod ExpandRuns
 pub mod BeginLaws
 pub mod BodyLabels
@@ -12,6 +13,7 @@ mod RowsPrinted
 mod RowsC
 mod RowsLabels
 mod RowsSummaries
+mod RowsUses
 mod RowsNames
 mod RowsP
 mod RowsBoth
@@ -27,7 +29,11 @@ pub mod LinesGood
 pub mod TargetLaws
 pub mod SummaryLaws
 pub mod EffectLaws
-mod RowsOffences
+pub mod EffectLabels
+pub mod FirstLaws
+pub mod UseLaws
+pub mod UsesByMacro
+pub mod RowsOffences
 pub mod SameVariables
 pub mod StepVariables
 pub mod SameSteps

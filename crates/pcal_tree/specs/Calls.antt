@@ -1,14 +1,14 @@
 -- Jumps, calls and returns, and with them the rules of a step ("A PlusCal User's Manual", section 3.4, procedures).
 use Rattle.std.specs.Prelude.{List, [], ◌∷◌, ◌++◌, cond, bytes_eq, codes, Option, Some, None, ◌||◌, reverse, Ok, Err}
 use Rattle.tla_token.specs.declared.place.Place.{Place}
-use Rattle.tla_expr.specs.Tree.{Word}
+use Rattle.tla_expr.specs.Tree.{Word, root_place}
 use Rattle.tla_value.specs.declared.fault.FaultKind.TheVariants.{NotFunction, EmptySequence}
 use Rattle.tla_value.specs.Value.{Value, text, model, fault, Outcome, ◌>>=◌, in_order}
 use Rattle.tla_value.specs.Order.{seq_from, record_from}
 use Rattle.tla_value.specs.Stops.{sequence_at}
 use Rattle.tla_value.specs.Strict.{applied}
 use Rattle.pcal_tree.specs.Algorithm.{Start, unset, equals, among, Declaration, Routine, locals, procedure_routines}
-use Rattle.pcal_tree.specs.Scope.{State, root_place, value_of}
+use Rattle.pcal_tree.specs.Scope.{State, value_of}
 use Rattle.pcal_tree.specs.Assign.{Setting, set_one, set_all}
 use Rattle.pcal_tree.specs.Run.{Course, ends, stops, held, Rules, with_macros, label_of}
 use Rattle.pcal_tree.specs.Program.{Program, Actor, index, local_index, written, read_at, routine_scope}
@@ -30,7 +30,7 @@ first_label u = label_of u.body u.exit
 abbrev pub setting : Place → Word → List Value → Value → Setting
 setting at x path v = record { place = at; part = record { variable = x; path = path }; value = v }
 
--- a fault stands at the process's name
+-- a fault is at the process's name
 abbrev pub jumped : Program → Actor → Routine → Word → State → Outcome State
 jumped P v u l = set_one P.check (setting v.own.name.place pc (index v.self) (label_value P u l))
 

@@ -1,4 +1,3 @@
-pub mod NameLemmas
 pub mod TreeLemmas
 pub mod Operands
 mod Rows
@@ -12,6 +11,7 @@ pub mod Columns
 pub mod SpelledTokens
 pub mod SpelledTrees
 pub mod WrittenPhrase
+pub mod WrittenTree
 pub mod Steps
 pub mod ReadSoon
 pub mod SoundTokens

@@ -8,7 +8,7 @@ use Rattle.tla_value.specs.Stops.{Check, plain}
 use Rattle.tla_value.specs.Meaning.{Env, bind, called, eval}
 use Rattle.tla_value.specs.Definitions.{Valuation, Definition, trouble_at, scope_of}
 use Rattle.tla_value.specs.Grafts.{read_tree, through}
-use Rattle.tla_value.specs.Related.{Below, SensesBelow, EnvsBelow}
+use Rattle.tla_value.specs.laws.UnderLimits.{Below, SensesBelow, EnvsBelow}
 use Rattle.tla_value.proofs.Outcomes.{ok_is}
 use Rattle.tla_value.proofs.Joined.{Kin, Same, Checks}
 use Rattle.tla_value.proofs.JoinedEval.{Senses}
@@ -34,7 +34,7 @@ still_past : (p : Place) (k : Trouble) → Past k → Past (trouble_at p k)
 still_past p (fault k r) h = h
 still_past p (over r) h = h
 
--- for a limit that was passed anything may stand
+-- for a limit that was passed there may be anything
 abbrev limited : Kin
 limited = record {
   beside = OrPast;
