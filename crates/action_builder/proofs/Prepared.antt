@@ -21,12 +21,11 @@ use Rattle.action_builder.specs.Settled.{settled}
 use Rattle.action_builder.specs.laws.LabelSteps.{LabelStep, prepared_of, Prepares, Stepped}
 use Rattle.tla_value.proofs.Outcomes.{then_then}
 use Rattle.action_builder.proofs.Settle.{settle_in}
-use Rattle.tla_value.specs.laws.FreeNames.{Any}
 
 -- the localised statements have the courses of the statements
-pub localised : (M : Rules) (self : Word) (own : Word → Bool) (here : Word) (ss : Statements) (sc : Scope) → AnyPlace sc → Clean M.check (owned self own) Any ss → (K : Follow) → run M here (graft_all (owned self own) ss) sc K ≡ run M here ss (own_scope M.check self own sc) K
+pub localised : (M : Rules) (self : Word) (own : Word → Bool) (here : Word) (ss : Statements) (sc : Scope) → AnyPlace sc → Clean M.check (owned self own) ss → (K : Follow) → run M here (graft_all (owned self own) ss) sc K ≡ run M here ss (own_scope M.check self own sc) K
 localised M self own here ss sc h clean K =
-    graft_runs M (owned self own) Any here ss clean sc (own_scope M.check self own sc) (through_meets M.check (owned self own) sc h) K K refl
+    graft_runs M (owned self own) here ss clean sc (own_scope M.check self own sc) (through_meets M.check (owned self own) sc h) K K refl
 
 own_parts : (c : Check) (V : Word → Bool) (self : Word) (v : Value) (own : Word → Bool) (sc : Scope) → Whole V self v own sc → (x : Word) → V x ≡ true → (at : Place) (s : State) → (own_scope c self own sc).part x at s ≡ Ok (part_at x (own_path (own x) v))
 own_parts c V self v own sc h x m at s = by (own x) refl

@@ -4,7 +4,6 @@ use Rattle.std.specs.List.{list_all}
 use Rattle.std.proofs.lemmas.Bool.{and_parts, ltb-true, not-true}
 use Rattle.tla_token.specs.declared.place.Place.{Place}
 use Rattle.tla_token.specs.Places.{after}
-use Rattle.tla_token.specs.Lexemes.{is_word, is_letter, is_digit}
 use Rattle.tla_token.specs.Lexemes as lexeme
 use Rattle.tla_token.specs.Tokens.{Piece, blank, block, line, lexeme, bytes_of, tokens_of}
 use Rattle.tla_token.specs.Words.{is_reserved}

@@ -6,7 +6,7 @@ use Rattle.tla_token.specs.Tokens.{Piece}
 use Rattle.tla_expr.specs.declared.op.Op.TheVariants as op
 use Rattle.tla_expr.specs.Tree.{Word, Tree}
 use Rattle.tla_expr.specs.Tree as tree
-use Rattle.tla_expr.specs.Spelling.{Phrase, Right, Good, head, is_primary}
+use Rattle.tla_expr.specs.Spelling.{Phrase}
 use Rattle.tla_expr.specs.Spelling as spelled
 use Rattle.module_text.specs.Module.{RegionUnit, call, one_way, variables_unit, vars_unit, init_unit, terminating_unit, next_unit, spec_unit, termination_unit}
 use Rattle.tla_expr.specs.Lexical.{Token}

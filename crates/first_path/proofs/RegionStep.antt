@@ -7,11 +7,11 @@ use Rattle.tla_token.specs.Tokens.{Piece}
 use Rattle.tla_expr.specs.declared.op.Op.TheVariants as op
 use Rattle.tla_expr.specs.Tree.{Word, Tree}
 use Rattle.tla_expr.specs.Tree as tree
-use Rattle.tla_expr.specs.Spelling.{Phrase, Right, Good, head, is_primary}
+use Rattle.tla_expr.specs.Spelling.{Phrase, Right, spell, tree_of}
 use Rattle.tla_expr.specs.Spelling as spelled
 use Rattle.module_text.specs.Module.{RegionUnit, test, setting, no_items, item, all_of, action_unit}
 use Rattle.tla_expr.specs.Lexical.{Token}
-use Rattle.module_text.specs.Grammar.{phrase, ItemForm, spell_list, tree_of, GoodOperand, test_form, setting_form, last_item, more_items}
+use Rattle.module_text.specs.Grammar.{ItemForm, spell_list, GoodOperand, test_form, setting_form, last_item, more_items}
 use Rattle.module_text.specs.Units.{UnitForm, all_form, action_form}
 use Rattle.module_text.specs.UnitCut.{Cut}
 use Rattle.first_path.specs.Form.{Operand, number_operand, variable_operand, single, sum, Parts}
@@ -61,7 +61,7 @@ right_tree_is n c v (sum variable_operand (number_operand j)) = refl
 right_tree_is n c v (sum variable_operand variable_operand) = refl
 
 right_stands : (n c : ℕ) (v : Word) (x : form.Right) (ps : List Piece) (ts : List Token) → is_reserved v ≡ false
-    → Stand (n + 1) 1 ps ts → Stand n c (right v x (nl ps)) (phrase (right_phrase n c v x) ts)
+    → Stand (n + 1) 1 ps ts → Stand n c (right v x (nl ps)) (spell (right_phrase n c v x) ts)
 right_stands n c v (single (number_operand i)) ps ts h s = (refl, s)
 right_stands n c v (single variable_operand) ps ts h s = (name_token n c v h, s)
 right_stands n c v (sum (number_operand i) (number_operand j)) ps ts h s = (refl, (refl, (refl, (refl, (refl, s)))))
@@ -75,7 +75,7 @@ abbrev onto : (List Token → List Token) → Cut → Cut
 onto g c = record { front = g c.front; units = c.units }
 
 right_cuts : (n c : ℕ) (v : Word) (x : form.Right) → 3 < c → (ts : List Token)
-    → parted (phrase (right_phrase n c v x) ts) ≡ onto (phrase (right_phrase n c v x)) (parted ts)
+    → parted (spell (right_phrase n c v x) ts) ≡ onto (spell (right_phrase n c v x)) (parted ts)
 right_cuts n c v (single (number_operand i)) h ts = refl
 right_cuts n c v (single variable_operand) h ts = rw (not_first c (omega arith)) refl
 right_cuts n c v (sum (number_operand i) (number_operand j)) h ts = refl
@@ -84,7 +84,7 @@ right_cuts n c v (sum variable_operand (number_operand j)) h ts = rw (not_first 
 right_cuts n c v (sum variable_operand variable_operand) h ts =
     rw (not_first (c + 1) (omega arith), not_first (second_operand v variable_operand c) (omega arith)) refl
 
-right_plain : (n c : ℕ) (v : Word) (x : form.Right) (ts : List Token) → dashless (phrase (right_phrase n c v x) ts) ≡ dashless ts
+right_plain : (n c : ℕ) (v : Word) (x : form.Right) (ts : List Token) → dashless (spell (right_phrase n c v x) ts) ≡ dashless ts
 right_plain n c v (single (number_operand i)) ts = refl
 right_plain n c v (single variable_operand) ts = refl
 right_plain n c v (sum (number_operand i) (number_operand j)) ts = refl

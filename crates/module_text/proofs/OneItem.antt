@@ -7,10 +7,10 @@ use Rattle.tla_expr.specs.declared.op.Op.TheVariants as op
 use Rattle.tla_expr.specs.Tree.{Word, Name, words}
 use Rattle.tla_expr.specs.Lexical.{TokenView, Token, token, mark, sign, key}
 use Rattle.tla_expr.specs.Lexical as tk
-use Rattle.tla_expr.specs.Spelling.{Right}
+use Rattle.tla_expr.specs.Spelling.{Right, tree_of}
 use Rattle.tla_expr.proofs.ReadStops.{is_calm, Calm, calm_right}
 use Rattle.module_text.specs.Module.{test, setting, unchanged, exists, local, if_then_else, either, no_items, item, no_branches, branch}
-use Rattle.module_text.specs.Grammar.{see, Names, last_name, more_names, spell_names, names_of, words_of, tree_of, ItemForm, test_form, setting_form, unchanged_form, exists_form, local_form, choice_form, either_form}
+use Rattle.module_text.specs.Grammar.{see, Names, last_name, more_names, spell_names, names_of, words_of, ItemForm, test_form, setting_form, unchanged_form, exists_form, local_form, choice_form, either_form}
 use Rattle.module_text.specs.Grammar.{ListForm, last_item, more_items, BranchForms, last_branch, more_branches, spell_item, spell_list, spell_branches, item_of, items_of, branches_of, list_column, branch_column, GoodItem, GoodList, GoodBranches}
 use Rattle.tla_expr.proofs.ReadAll.{one_before}
 

@@ -9,10 +9,10 @@ use Rattle.tla_expr.specs.declared.op.Op.TheVariants as op
 use Rattle.tla_expr.specs.Tree.{Word}
 use Rattle.tla_expr.specs.Lexical.{TokenView, Token, token, mark, sign}
 use Rattle.tla_expr.specs.Lexical as tk
-use Rattle.tla_expr.specs.Spelling.{Phrase, Good, Right, spell}
+use Rattle.tla_expr.specs.Spelling.{Phrase, Good, Right, spell, tree_of, word}
 use Rattle.tla_expr.proofs.ReadStops.{Calm}
 use Rattle.module_text.specs.Module.{all_of, some_of, RegionUnit, constant_unit, variables_unit, definition_unit, vars_unit, process_set_unit, init_unit, action_unit, terminating_unit, next_unit, spec_unit, termination_unit}
-use Rattle.module_text.specs.Grammar.{see, keyword, word, phrase, Names, last_name, tree_of, spell_list, list_column, WayForm, spell_bullets, GoodBullets, GoodSome, each}
+use Rattle.module_text.specs.Grammar.{see, keyword, Names, last_name, spell_list, list_column, WayForm, spell_bullets, GoodBullets, GoodSome, each}
 use Rattle.module_text.specs.Units.{FairForm, SpecForm, steps_line, start_line, fair_line, fair_specs, GoodSpec, ParameterForm, spell_parameters, parameters, BodyForm, all_form, some_form, spell_body, body_of, GoodBody, spell_parameter, parameter_of, begins_list}
 use Rattle.module_text.specs.Units.{UnitForm, constant_form, variables_form, definition_form, vars_form, process_set_form, init_form, action_form, terminating_form, next_form, spec_form, termination_form, spell_unit, unit_of, GoodUnit, IsUnit}
 use Rattle.tla_expr.proofs.ReadAll.{one_before}
@@ -124,18 +124,18 @@ bullet_list : (ts : List Token) → is_bullet_sort (first_sort ts) ≡ true → 
 bullet_list [] h = absurd cc
 bullet_list (t ∷ ts) h = begins_bullet t ts t.kind refl h
 
-no_body : (b : BodyForm) (a : Phrase) → GoodBody b → begins_list (spell a []) ≡ false → spell_body b [] ≡ phrase a [] → ⊥
+no_body : (b : BodyForm) (a : Phrase) → GoodBody b → begins_list (spell a []) ≡ false → spell_body b [] ≡ spell a [] → ⊥
 no_body b a g n same = both_ways (begins_list (spell a [])) n
     (bullet_list (spell a []) (ap (λ (ts : List Token). is_bullet_sort (first_sort ts)) (sym same) ∙ bullet_first b g))
 
 -- ---- the conjuncts of Init
 
 abbrev conjuncts : List (Place × Phrase) → List Token
-conjuncts es = spell_bullets (sign op.And) phrase es []
+conjuncts es = spell_bullets (sign op.And) spell es []
 
 conjuncts_calm : (c : ℕ) (es : List (Place × Phrase)) → GoodBullets Good c es → Calm c (conjuncts es)
 conjuncts_calm c [] g = refl
-conjuncts_calm c (x ∷ es) g = bullet_calm c (token x.0 (sign op.And)) (phrase x.1 (conjuncts es)) g.0
+conjuncts_calm c (x ∷ es) g = bullet_calm c (token x.0 (sign op.And)) (spell x.1 (conjuncts es)) g.0
 
 one_conjuncts : (c : ℕ) (es fs : List (Place × Phrase)) → GoodBullets Good c es → GoodBullets Good c fs → conjuncts es ≡ conjuncts fs
     → each tree_of es ≡ each tree_of fs
@@ -162,11 +162,11 @@ one_definition : (p : Place) (x : Word) (f : Option ParameterForm) (q : Place) (
     → spell_unit (definition_form p x f q a) [] ≡ spell_unit g [] → unit_of (definition_form p x f q a) ≡ unit_of g
 one_definition p x f q a (definition_form l y k m b) g h same =
     let d : x ≡ y = ap first_word same in
-    let v = one_parameters f k q m (phrase a []) (phrase b []) (ap tail same) in
+    let v = one_parameters f k q m (spell a []) (spell b []) (ap tail same) in
     let w = one_before 1 a b g.3 h.3 [] [] refl refl v.1 in
     λ i. definition_unit (record { title = d i; params = v.0 i; body = tree_of (w.0 i); outside = false })
 one_definition p x f q a (action_form l y k m b) g h same =
-    let v = one_parameters f (as_parameters k) q m (phrase a []) (spell_body b [])
+    let v = one_parameters f (as_parameters k) q m (spell a []) (spell_body b [])
     (ap tail same ∙ parameter_spelled k (see m (mark tk.defines) (spell_body b []))) in
     absurd (no_body b a h.3 (not-true (begins_list (spell a [])) g.4) (sym v.1))
 one_definition p x f q a u g h same = absurd (units_apart (definition_form p x f q a) u g h refl same)
@@ -183,7 +183,7 @@ one_action p x f q b (action_form l y k m c) g h same =
     let w = one_body b c g.3 h.3 v.1 in
     λ i. action_unit (record { title = d i; parameter = o i; body = w i })
 one_action p x f q b (definition_form l y k m a) g h same =
-    let v = one_parameters (as_parameters f) k q m (spell_body b []) (phrase a [])
+    let v = one_parameters (as_parameters f) k q m (spell_body b []) (spell a [])
     (sym (parameter_spelled f (see q (mark tk.defines) (spell_body b []))) ∙ ap tail same) in
     absurd (no_body b a g.3 (not-true (begins_list (spell a [])) h.4) v.1)
 one_action p x f q b u g h same = absurd (units_apart (action_form p x f q b) u g h refl same)

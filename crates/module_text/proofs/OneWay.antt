@@ -7,8 +7,9 @@ use Rattle.tla_expr.specs.declared.op.Op.TheVariants as op
 use Rattle.tla_expr.specs.Tree.{Word}
 use Rattle.tla_expr.specs.Lexical.{TokenView, Token, mark, sign}
 use Rattle.tla_expr.specs.Lexical as tk
+use Rattle.tla_expr.specs.Spelling.{tree_of}
 use Rattle.module_text.specs.Module.{call, call_with, one_way, some_way}
-use Rattle.module_text.specs.Grammar.{see, keyword, tree_of, CallForm, call_form, call_with_form, spell_call, call_of, GoodCall, WayForm, one_form, some_form, spell_way, way_of, GoodWay, spell_bullets, GoodBullets, GoodSome, each}
+use Rattle.module_text.specs.Grammar.{see, keyword, CallForm, call_form, call_with_form, spell_call, call_of, GoodCall, WayForm, one_form, some_form, spell_way, way_of, GoodWay, spell_bullets, GoodBullets, GoodSome, each}
 use Rattle.module_text.specs.Units.{OverForm, GuardForm, FairForm, spell_over, spell_guard, spell_fair, over_of, guard_of, fairness_of, GoodOver, GoodGuard, GoodFair, spell_spec, GoodSpec, fair_specs}
 use Rattle.tla_expr.proofs.ReadAll.{one_before}
 use Rattle.module_text.proofs.OneItem.{tail, first_sort, first_word, first_col, apart, calm_at}

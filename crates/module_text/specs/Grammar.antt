@@ -2,11 +2,10 @@
 use Rattle.std.specs.Prelude.{◌≡◌, ℕ, nat_lt, IsTrue, List, [], ◌∷◌, codes}
 use Rattle.tla_token.specs.declared.place.Place.{Place}
 use Rattle.tla_expr.specs.declared.op.Op.TheVariants as op
-use Rattle.tla_expr.specs.Tree.{Word, Name, Tree, words}
-use Rattle.tla_expr.specs.Lexical.{TokenView, Mark, Key, Token, token, sign, mark, key}
+use Rattle.tla_expr.specs.Tree.{Word, Name, words}
+use Rattle.tla_expr.specs.Lexical.{TokenView, Token, token, sign, mark, key}
 use Rattle.tla_expr.specs.Lexical as tk
-use Rattle.tla_expr.specs.Spelling.{Phrase, Right, Good, head, is_primary}
-use Rattle.tla_expr.specs.Spelling as spelled
+use Rattle.tla_expr.specs.Spelling.{Phrase, Right, Good, head, is_primary, word, spell, tree_of}
 use Rattle.module_text.specs.Module.{Item, test, setting, unchanged, exists, local, if_then_else, either, Items, no_items, item, Branches, no_branches, branch, Call, call, call_with, Way, one_way, some_way}
 
 -- the tokens of a form before others: t r
@@ -19,12 +18,6 @@ see p k r = token p k ∷ r
 -- a reserved word that stands in no expression
 abbrev pub keyword : Place → Word → Tokens
 keyword p w r = see p (tk.other w) r
-
-abbrev pub phrase : Phrase → Tokens
-phrase a r = spelled.spell a r
-
-abbrev pub word : Place → Word → Tokens
-word p x r = see p (tk.word x) r
 
 -- ---- names with commas
 pub data Names : Type 0 where
@@ -45,9 +38,6 @@ words_of ns = words (names_of ns)
 abbrev pub GoodNames : ℕ → Names → Type 0
 GoodNames e (last_name p x) = Right e p
 GoodNames e (more_names p x q ns) = Right e p × Right e q × GoodNames e ns
-
-abbrev pub tree_of : Phrase → Tree
-tree_of a = spelled.tree_of a
 
 -- an expression that needs no brackets as an operand
 abbrev pub GoodOperand : ℕ → Phrase → Type 0
@@ -75,12 +65,12 @@ mutual
 
 abbrev mutual
   pub spell_item : ItemForm → Tokens
-  spell_item (test_form p a q) r = see p (mark tk.open_bracket) (phrase a (see q (mark tk.close_bracket) r))
-  spell_item (setting_form p x q s a) r = word p x (see q (mark tk.prime) (see s (sign op.Equal) (phrase a r)))
+  spell_item (test_form p a q) r = see p (mark tk.open_bracket) (spell a (see q (mark tk.close_bracket) r))
+  spell_item (setting_form p x q s a) r = word p x (see q (mark tk.prime) (see s (sign op.Equal) (spell a r)))
   spell_item (unchanged_form p q ns s) r = keyword p (codes "UNCHANGED") (see q (mark tk.open_tuple) (spell_names ns (see s (mark tk.close_tuple) r)))
-  spell_item (exists_form p q x s a t is) r = see p (key tk.exists_key) (word q x (see s (sign op.In) (phrase a (see t (mark tk.colon) (spell_list is r)))))
-  spell_item (local_form p q x s a t is) r = see p (key tk.let_key) (word q x (see s (mark tk.defines) (phrase a (see t (key tk.in_key) (spell_list is r)))))
-  spell_item (choice_form p a q is s js) r = see p (key tk.if_key) (phrase a (see q (key tk.then_key) (spell_list is (see s (key tk.else_key) (spell_list js r)))))
+  spell_item (exists_form p q x s a t is) r = see p (key tk.exists_key) (word q x (see s (sign op.In) (spell a (see t (mark tk.colon) (spell_list is r)))))
+  spell_item (local_form p q x s a t is) r = see p (key tk.let_key) (word q x (see s (mark tk.defines) (spell a (see t (key tk.in_key) (spell_list is r)))))
+  spell_item (choice_form p a q is s js) r = see p (key tk.if_key) (spell a (see q (key tk.then_key) (spell_list is (see s (key tk.else_key) (spell_list js r)))))
   spell_item (either_form bs) r = spell_branches bs r
 
   pub spell_list : ListForm → Tokens
@@ -145,7 +135,7 @@ pub data CallForm : Type 0 where
 
 abbrev pub spell_call : CallForm → Tokens
 spell_call (call_form p x) r = word p x r
-spell_call (call_with_form p x q a s) r = word p x (see q (mark tk.open_bracket) (phrase a (see s (mark tk.close_bracket) r)))
+spell_call (call_with_form p x q a s) r = word p x (see q (mark tk.open_bracket) (spell a (see s (mark tk.close_bracket) r)))
 
 abbrev pub call_of : CallForm → Call
 call_of (call_form p x) = call x
@@ -161,7 +151,7 @@ pub data WayForm : Type 0 where
 
 abbrev pub spell_way : WayForm → Tokens
 spell_way (one_form u) r = spell_call u r
-spell_way (some_form p q x s a t u) r = see p (key tk.exists_key) (word q x (see s (sign op.In) (phrase a (see t (mark tk.colon) (spell_call u r)))))
+spell_way (some_form p q x s a t u) r = see p (key tk.exists_key) (word q x (see s (sign op.In) (spell a (see t (mark tk.colon) (spell_call u r)))))
 
 abbrev pub way_of : WayForm → Way
 way_of (one_form u) = one_way (call_of u)

@@ -10,12 +10,12 @@ use Rattle.tla_expr.specs.declared.op.Op.TheVariants as op
 use Rattle.tla_expr.specs.Tree.{Word, Name, Form, number, strings, name, next, strict, operator, operator_call, member, binding, local, Tree, node, Trees, no_trees, tree, words, seen_names}
 use Rattle.tla_expr.specs.Lexical.{TokenView, Token, mark}
 use Rattle.tla_expr.specs.Lexical as tk
-use Rattle.tla_expr.specs.Spelling.{Phrase, Right, Good}
+use Rattle.tla_expr.specs.Spelling.{Phrase, Right, Good, tree_of}
 use Rattle.tla_expr.specs.Nesting.{text_nesting}
 use Rattle.tla_value.specs.Definitions.{Definition}
 use Rattle.tla_value.specs.Outside.{Opaque, ReadDefinition}
 use Rattle.module_text.specs.Module.{OutsideUnit, extends, constants, defines, opaque, definitions_of, found}
-use Rattle.module_text.specs.Grammar.{keyword, Names, spell_names, names_of, GoodNames, tree_of}
+use Rattle.module_text.specs.Grammar.{keyword, Names, spell_names, names_of, GoodNames}
 use Rattle.module_text.specs.Units.{ParameterForm, parameters, GoodParameters, definition_form, spell_unit}
 
 -- what an outside unit may use
