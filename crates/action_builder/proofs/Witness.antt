@@ -2,6 +2,7 @@
 use Rattle.std.proofs.Common.{◌≡◌, List, [], ◌∷◌, Bool, true, false, cond, ◌||◌, bytes_eq, codes, Option, Some, None, refl, sym, subst}
 use Rattle.tla_token.specs.Signs.{is_among}
 use Rattle.tla_token.specs.declared.place.Place.{Place}
+use Rattle.tla_token.proofs.Spelled.{same_bytes}
 use Rattle.tla_expr.specs.Tree.{Word, Each}
 use Rattle.tla_value.specs.Stops.{plain}
 use Rattle.tla_value.specs.Meaning.{Env, just}
@@ -19,7 +20,7 @@ use Rattle.action_builder.specs.Assigned.{Names, more}
 use Rattle.tla_value.specs.laws.Grafting.{Apart}
 use Rattle.tla_value.proofs.Graft.{apart_clear}
 use Rattle.tla_value.proofs.Owned.{owned_apart}
-use Rattle.action_builder.proofs.Equal.{name-true, eq-name}
+use Rattle.action_builder.proofs.Equal.{eq-name}
 use Rattle.std.proofs.lemmas.Bool.{both_ways, or_right}
 use Rattle.action_builder.specs.laws.Ready as Ready
 use Rattle.action_builder.specs.laws.Ready.{Settled, Paired, Scoped}
@@ -109,7 +110,7 @@ own_apart x h =
     owned_apart self own x (neither (bytes_eq (codes "x") x) (own x) p.1).1 (turned (bytes_eq x self) refl p.0)
   where
     turned : (b : Bool) → bytes_eq x self ≡ b → bytes_eq self x ≡ false → bytes_eq x self ≡ false
-    turned true q o = absurd (both_ways (bytes_eq self x) o (eq-name self x (sym (name-true x self q))))
+    turned true q o = absurd (both_ways (bytes_eq self x) o (eq-name self x (sym (same_bytes x self q))))
     turned false q o = q
 
 pub prepared : IsPrepared step
