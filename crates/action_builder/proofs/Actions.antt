@@ -1,12 +1,13 @@
 -- The action that is written for effects, over what expressions give on a pair of states.
 use Rattle.std.specs.Prelude.{◌≡◌, List, [], ◌∷◌, Bool, true, false, cond, ◌&&◌, bytes_eq, Ok, Err}
+use Rattle.tla_token.specs.Signs.{is_among}
 use Rattle.tla_expr.specs.Tree.{Word}
 use Rattle.tla_value.specs.Value.{Value, Values, no_values, and, Trouble, Outcome, ◌>>=◌, and_then, or_all}
 use Rattle.tla_value.specs.Order.{same}
 use Rattle.pcal_tree.specs.Algorithm.{Statements}
 use Rattle.pcal_tree.specs.Scope.{State, Scope, bound}
 use Rattle.pcal_tree.specs.Run.{Has, Rules, unlabelled, run}
-use Rattle.action_builder.specs.Assigned.{Names, member, more, assigned_in}
+use Rattle.action_builder.specs.Assigned.{Names, more, assigned_in}
 use Rattle.action_builder.specs.laws.States.{mid, SameOn}
 use Rattle.action_builder.specs.laws.Settling.{to_end}
 use Rattle.action_builder.specs.laws.Ready.{Settled}
@@ -76,7 +77,7 @@ ended (item i is) j = item i (ended is j)
 
 abbrev pub minus : List Word → List Word → List Word
 minus [] ys = []
-minus (x ∷ xs) ys = cond (member ys x) (minus xs ys) (x ∷ minus xs ys)
+minus (x ∷ xs) ys = cond (is_among ys x) (minus xs ys) (x ∷ minus xs ys)
 
 -- the value of [y EXCEPT ..] with all parts of y
 abbrev pub changes_for : Word → Parts → Scope → State → Outcome (List Change)
@@ -92,10 +93,6 @@ all_changes (part x e ps) c s = (e c s) >>= (λ f. (all_changes ps c s) >>= (λ 
 abbrev pub folded : List Change → Change
 folded [] v = Ok v
 folded (f ∷ fs) v = (f v) >>= (folded fs)
-
--- what all these parts make of a value
-abbrev pub folded_all : Parts → Scope → State → Value → Outcome Value
-folded_all ps c s v = (all_changes ps c s) >>= (λ fs. folded fs v)
 
 abbrev pub value_for : Word → Parts → Exp Value
 value_for y ps c s = (changes_for y ps c s) >>= (λ fs. folded fs (s y))
@@ -123,7 +120,7 @@ abbrev mutual
 
 -- no variable is assigned that is in A, or was assigned before
 abbrev pub Apart : Names → List Word → Type 0
-Apart A xs = (x : Word) → member xs x ≡ true → A x ≡ false
+Apart A xs = (x : Word) → is_among xs x ≡ true → A x ≡ false
 
 abbrev mutual
   pub OnceOne : Names → Effect → Type 0

@@ -1,14 +1,14 @@
 -- What is written for a macro call has a statement and no label, where the bodies of macros have no label.
 use Rattle.std.proofs.Common.{◌≡◌, List, [], ◌∷◌, Bool, true, false, cond, bytes_eq}
 use Rattle.tla_expr.specs.Tree.{Word, Trees, Graft}
-use Rattle.tla_value.specs.Stops.{Check}
 use Rattle.pcal_tree.specs.Algorithm.{Span, Statement, branch, either, with, while, macro, Statements, done, then, mark, Branches, no_branches, or, Macro}
 use Rattle.pcal_tree.specs.Run.{arguments}
 use Rattle.pcal_tree.specs.StepStart.{begin}
 use Rattle.pcal_tree.specs.Expand.{graft_one, graft_all, graft_some, joined, Writing, expand_one, expand, expand_some, written_out, expanded, expand_begin}
 use Rattle.pcal_tree.proofs.ExpandRuns.{opens_joined}
 use Rattle.pcal_tree.proofs.BeginLaws.{WrittenBare, begin_expanded}
-use Rattle.pcal_tree.specs.laws.Expansion.{Any, Calls, CallsOne, CallsSome, Chosen, Clean, FineCall, BeginsUnlabelled, BareOne, Bare, BareSome, BareBodies}
+use Rattle.pcal_tree.specs.laws.Expansion.{Calls, CallsOne, CallsSome, Chosen, Throughout, FineCall, BeginsUnlabelled, BareOne, Bare, BareSome, BareBodies}
+use Rattle.tla_value.specs.Related.{Apart, ApartForm}
 
 bare_joined : (a b : Statements) → Bare a → Bare b → Bare (joined a b)
 bare_joined done b h k = k
@@ -64,16 +64,16 @@ opens_graft g done h = absurd h
 opens_graft g (then at st rest) h = tt
 opens_graft g (mark m k rest) h = absurd h
 
-written_bare : (c : Check) (ms : List Macro) → BareBodies ms → WrittenBare (written_out ms) (FineCall c ms)
-written_bare c [] b at m ts h = (tt, (tt, tt))
-written_bare c (d ∷ older) b at m ts h = by (written_bare c older b.1) (bytes_eq d.name.word m) h
+written_bare : (ms : List Macro) → BareBodies ms → WrittenBare (written_out ms) (FineCall ms)
+written_bare [] b at m ts h = (tt, (tt, tt))
+written_bare (d ∷ older) b at m ts h = by (written_bare older b.1) (bytes_eq d.name.word m) h
   where
-    by : WrittenBare (written_out older) (FineCall c older) → (q : Bool) → Chosen q (Clean c (arguments d.params ts) Any (expand (written_out older) d.body) × Calls (FineCall c older) d.body × BeginsUnlabelled d.body) (FineCall c older m ts) → BeginsUnlabelled (cond q (graft_all (arguments d.params ts) (expand (written_out older) d.body)) (written_out older at m ts)) × Bare (cond q (graft_all (arguments d.params ts) (expand (written_out older) d.body)) (written_out older at m ts))
+    by : WrittenBare (written_out older) (FineCall older) → (q : Bool) → Chosen q (Throughout (ApartForm (arguments d.params ts)) (Apart (arguments d.params ts)) (expand (written_out older) d.body) × Calls (FineCall older) d.body × BeginsUnlabelled d.body) (FineCall older m ts) → BeginsUnlabelled (cond q (graft_all (arguments d.params ts) (expand (written_out older) d.body)) (written_out older at m ts)) × Bare (cond q (graft_all (arguments d.params ts) (expand (written_out older) d.body)) (written_out older at m ts))
     by ih true k = (
-      opens_graft (arguments d.params ts) (expand (written_out older) d.body) (opens_body (written_out older) (FineCall c older) ih d.body k.1 k.2),
-      bare_graft (arguments d.params ts) (expand (written_out older) d.body) (bare_expand (written_out older) (FineCall c older) ih d.body k.1 b.0),
+      opens_graft (arguments d.params ts) (expand (written_out older) d.body) (opens_body (written_out older) (FineCall older) ih d.body k.1 k.2),
+      bare_graft (arguments d.params ts) (expand (written_out older) d.body) (bare_expand (written_out older) (FineCall older) ih d.body k.1 b.0),
     )
     by ih false k = ih at m ts k
 
-pub begins_expanded : (c : Check) (ms : List Macro) → BareBodies ms → (l here : Word) (ss : Statements) → Calls (FineCall c ms) ss → (x : Word) → begin l here (expanded ms ss) x ≡ expand_begin (written_out ms) (begin l here ss x)
-begins_expanded c ms b l here ss h x = begin_expanded (written_out ms) (FineCall c ms) (written_bare c ms b) l here ss h x
+pub begins_expanded : (ms : List Macro) → BareBodies ms → (l here : Word) (ss : Statements) → Calls (FineCall ms) ss → (x : Word) → begin l here (expanded ms ss) x ≡ expand_begin (written_out ms) (begin l here ss x)
+begins_expanded ms b l here ss h x = begin_expanded (written_out ms) (FineCall ms) (written_bare ms b) l here ss h x

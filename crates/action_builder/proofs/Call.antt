@@ -1,9 +1,9 @@
 -- The assignments written for a call have the ends of the call, and trouble where it has trouble.
-use Rattle.std.proofs.Common.{◌≡◌, List, [], ◌∷◌, ◌++◌, ◌⊎◌, refl, sym, ◌∙◌, ap, subst, inl, inr, ⊎_elim, Ok, Err}
+use Rattle.std.proofs.Common.{◌≡◌, true, List, [], ◌∷◌, ◌++◌, ◌⊎◌, refl, sym, ◌∙◌, ap, subst, inl, inr, ⊎_elim, Ok, Err}
 use Rattle.std.specs.Option.{ok_or}
 use Rattle.tla_expr.specs.declared.op.Op.TheVariants.{Concat}
 use Rattle.tla_token.specs.declared.place.Place.{Place}
-use Rattle.tla_expr.specs.Tree.{Word, Each, name, Tree, node, Trees, no_trees, tree, operator, tuple, fields}
+use Rattle.tla_expr.specs.Tree.{Word, Each, name, Tree, node, Trees, no_trees, tree, operator, tuple, fields, root_place}
 use Rattle.tla_value.specs.Value.{Value, text, Trouble, Outcome, ◌>>=◌, IsBad, fault}
 use Rattle.tla_value.specs.Order.{seq_from}
 use Rattle.tla_value.specs.Stops.{Check, plain, sequence_at}
@@ -12,7 +12,7 @@ use Rattle.tla_value.specs.declared.fault.FaultKind.TheVariants.{NotSequence}
 use Rattle.tla_value.proofs.OrderFuns.{sequence_of_seq}
 use Rattle.tla_value.specs.Strict.{strict_value}
 use Rattle.pcal_tree.specs.Algorithm.{Declaration, Routine, locals, Assignments, Statements, then, assign}
-use Rattle.pcal_tree.specs.Scope.{State, Scope, root_place, place_of, places_of, value_of}
+use Rattle.pcal_tree.specs.Scope.{State, Scope, place_of, places_of, value_of}
 use Rattle.pcal_tree.specs.Assign.{Setting, set_one, set_all, settings, after_assignments}
 use Rattle.pcal_tree.specs.Run.{Has, after, Rules, unlabelled, run}
 use Rattle.pcal_tree.specs.Program.{Program, Actor, index, local_index, read_at, written}
@@ -20,9 +20,9 @@ use Rattle.pcal_tree.specs.Calls.{setting, initial_value, initial_place, all_rea
 use Rattle.action_builder.specs.laws.Settling.{to_end, Close}
 use Rattle.action_builder.specs.Jumps.{name_at, spot, one_assignment, jump_written, names_at, stack_pushed, arguments_assigned, variables_written, call_written}
 use Rattle.action_builder.specs.laws.Scopes.{StandsAtPath}
-use Rattle.action_builder.specs.laws.Jumps.{RoutineStands, Initials, AsMany}
+use Rattle.action_builder.specs.laws.Jumps.{RoutineStands, Initials, as_many}
 use Rattle.action_builder.proofs.Denotations.{on_both}
-use Rattle.action_builder.specs.laws.Places.{SameButPlaces}
+use Rattle.tla_value.specs.laws.Places.{AgreeButPlaces}
 use Rattle.action_builder.proofs.Alike.{same_refl, then_same}
 use Rattle.action_builder.proofs.AnyPlace.{set_same}
 use Rattle.action_builder.proofs.Settle.{close_refl}
@@ -53,7 +53,7 @@ close_is x y h = ⊎_elim
 pub close_finished : (x y : Outcome State) → Alike x y → Close (Has (finished x)) (Has (finished y))
 close_finished x y h = subst (λ F. Close F (Has (finished y))) (λ i r. sym (has_is x r) i) (subst (λ F. Close (λ r. r ≡ x) F) (λ i r. sym (has_is y r) i) (close_is x y h))
 
-pub alike_of : (x y : Outcome State) → SameButPlaces x y → Alike x y
+pub alike_of : (x y : Outcome State) → AgreeButPlaces x y → Alike x y
 alike_of (Ok t) (Ok u) h = inl (ap Ok h)
 alike_of (Ok t) (Err j) h = absurd h
 alike_of (Err k) (Ok u) h = absurd h
@@ -97,7 +97,7 @@ started_law M P v p sc place initial q (d ∷ ds) e last f h s =
     set : Value → Outcome State
     set w = set_one P.check (setting (place d) (written P p d.name.word) (local_index v p) w) s
 
-started_same : (P : Program) (v : Actor) (p : Routine) (at : Place) (sc : Scope) (place : Declaration → Place) (initial : Declaration → Tree) → P.check ≡ plain → (ds : List Declaration) → Initials P v p at sc initial ds → (s : State) → SameButPlaces (written_started P v p sc place initial ds s) (variables_started P v p at ds s)
+started_same : (P : Program) (v : Actor) (p : Routine) (at : Place) (sc : Scope) (place : Declaration → Place) (initial : Declaration → Tree) → P.check ≡ plain → (ds : List Declaration) → Initials P v p at sc initial ds → (s : State) → AgreeButPlaces (written_started P v p sc place initial ds s) (variables_started P v p at ds s)
 started_same P v p at sc place initial c [] k s = refl
 started_same P v p at sc place initial c (d ∷ ds) k s =
     then_same (value_of P.check (initial d) sc s) (initial_value P v p at d.start s) _ _ (k.0 s) (λ w.
@@ -109,10 +109,10 @@ place_is : (t : Tree) (sc : Scope) → ((x : Word) (at : Place) → sc.origin x 
 place_is (node (name x) at ts) sc o = sym (o x at)
 place_is (node m at ts) sc o = refl
 
-arguments_law : (c : Check) (path : List Value) (sc : Scope) → ((x : Word) (at : Place) → sc.origin x at ≡ at) → (xs : List Word) (ts : Trees) → AsMany xs ts → Each (StandsAtPath sc path) xs → (s : State) → settings c (arguments_assigned xs ts) sc s ≡ (part_values (evals c ts) (sc.env s)) >>= (λ vs. Ok (argument_settings path xs (places_of ts sc) vs))
+arguments_law : (c : Check) (path : List Value) (sc : Scope) → ((x : Word) (at : Place) → sc.origin x at ≡ at) → (xs : List Word) (ts : Trees) → as_many xs ts ≡ true → Each (StandsAtPath sc path) xs → (s : State) → settings c (arguments_assigned xs ts) sc s ≡ (part_values (evals c ts) (sc.env s)) >>= (λ vs. Ok (argument_settings path xs (places_of ts sc) vs))
 arguments_law c path sc o [] no_trees m e s = refl
-arguments_law c path sc o [] (tree t ts) m e s = absurd m
-arguments_law c path sc o (x ∷ xs) no_trees m e s = absurd m
+arguments_law c path sc o [] (tree t ts) m e s = cc
+arguments_law c path sc o (x ∷ xs) no_trees m e s = cc
 arguments_law c path sc o (x ∷ xs) (tree t ts) m e s =
     (λ i. ((e.0 (root_place t) s).0 i) >>= (λ r. (value_of c t sc s) >>= (λ w. (settings c (arguments_assigned xs ts) sc s) >>= (λ rest. Ok (record { place = place_is t sc o i; part = r; value = w } ∷ rest)))))
     ∙ (λ i. (value_of c t sc s) >>= (λ w. (arguments_law c path sc o xs ts m e.1 s i) >>= (λ rest. Ok (setting (place_of t sc) x path w ∷ rest))))
@@ -177,9 +177,9 @@ abbrev all_set : Program → Actor → Routine → Place → Trees → Scope →
 all_set P v p at ts sc tail s w vs = (set_all P.check (setting at stack (index v.self) w ∷ argument_settings (local_index v p) (written_all P p p.params) (places_of ts sc) vs) s) >>= tail
 
 -- the law
-pub call_law : (M : Rules) (P : Program) (v : Actor) (p : Routine) (at : Place) (ts : Trees) (back : Word) (place : Declaration → Place) (initial : Declaration → Tree) (sc : Scope) → M.check ≡ P.check → P.check ≡ plain → RoutineStands P v p sc → AsMany (written_all P p p.params) ts → Initials P v p at sc initial p.variables → (s : State) →
+pub call_law : (M : Rules) (P : Program) (v : Actor) (p : Routine) (at : Place) (ts : Trees) (back : Word) (place : Declaration → Place) (initial : Declaration → Tree) (sc : Scope) → M.check ≡ P.check → P.check ≡ plain → RoutineStands P v p sc → as_many (written_all P p p.params) ts ≡ true → Initials P v p at sc initial p.variables → (s : State) →
     Close (Has (run M unlabelled (call_written P p at ts back place initial) sc to_end s)) (Has (after (part_values (evals P.check ts) (sc.env s)) (λ vs. finished (entered P v at (text back) p (places_of ts sc) vs s))))
-call_law M P v p at ts back place initial sc q c m as_many k s =
+call_law M P v p at ts back place initial sc q c m many k s =
     subst (λ z. Close (Has z) (Has (after values (λ vs. finished (entered P v at (text back) p (places_of ts sc) vs s))))) (sym left)
     (subst (λ z. Close (Has (finished (pushed >>= (λ w. values >>= (all_set P v p at ts sc written_rest s w))))) (Has z)) (sym (after_finished values (λ vs. entered P v at (text back) p (places_of ts sc) vs s)))
     (subst (λ z. Close (Has (finished (pushed >>= (λ w. values >>= (all_set P v p at ts sc written_rest s w))))) (Has (finished z))) right
@@ -203,7 +203,7 @@ call_law M P v p at ts back place initial sc q c m as_many k s =
     written_rest : State → Outcome State
     written_rest = written_tail P v p at sc place initial
 
-    same : SameButPlaces (pushed >>= (λ w. values >>= (all_set P v p at ts sc written_rest s w))) (pushed >>= (λ w. values >>= (all_set P v p at ts sc (tail_of P v p at) s w)))
+    same : AgreeButPlaces (pushed >>= (λ w. values >>= (all_set P v p at ts sc written_rest s w))) (pushed >>= (λ w. values >>= (all_set P v p at ts sc (tail_of P v p at) s w)))
     same = then_same pushed pushed _ _ (same_refl pushed) (λ w. then_same values values _ _ (same_refl values) (λ vs.
         then_same _ _ _ _ (same_refl (set_all P.check (first w ∷ given vs) s)) (λ t.
         then_same _ _ _ _ (started_same P v p at sc place initial c p.variables k t) (λ u. same_refl (set_one P.check (setting at pc (index v.self) (label_value P p (first_label p))) u)))))
@@ -218,7 +218,7 @@ call_law M P v p at ts back place initial sc q c m as_many k s =
         ∙ (λ i. finished (((((m.stack at s).0 i) >>= (λ r. (value_of (q i) (stack_pushed P p at back) sc s) >>= (λ w. (settings (q i) args sc s) >>= (λ rest. Ok (record { place = at; part = r; value = w } ∷ rest))))) >>= (λ all. set_all (q i) all s)) >>= written_rest))
         ∙ (λ i. finished ((on_both pushed (λ w. settings P.check args sc s) (λ w rest. first w ∷ rest) (λ all. set_all P.check all s) i) >>= written_rest))
         ∙ ap finished (then_then pushed (λ w. (settings P.check args sc s) >>= (λ rest. set_all P.check (first w ∷ rest) s)) written_rest)
-        ∙ (λ i. finished (pushed >>= (λ w. ((arguments_law P.check (local_index v p) sc m.origin (written_all P p p.params) ts as_many own.0 s i) >>= (λ rest. set_all P.check (first w ∷ rest) s)) >>= written_rest)))
+        ∙ (λ i. finished (pushed >>= (λ w. ((arguments_law P.check (local_index v p) sc m.origin (written_all P p p.params) ts many own.0 s i) >>= (λ rest. set_all P.check (first w ∷ rest) s)) >>= written_rest)))
         ∙ (λ i. finished (pushed >>= (λ w. (then_then values (λ vs. Ok (given vs)) (λ rest. set_all P.check (first w ∷ rest) s) i) >>= written_rest)))
         ∙ (λ i. finished (pushed >>= (λ w. then_then values (λ vs. set_all P.check (first w ∷ given vs) s) written_rest i)))
 

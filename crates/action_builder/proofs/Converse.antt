@@ -1,12 +1,13 @@
 -- A run that fits makes the written action true, or another branch of it faults; a fault of the action is one of a run.
 use Rattle.std.proofs.Common.{◌≡◌, List, [], ◌∷◌, ◌++◌, Bool, true, false, cond, ◌||◌, bytes_eq, ◌⊎◌, refl, sym, ◌∙◌, ap, subst, inl, inr, ⊎_elim, Ok, Err}
 use Rattle.std.proofs.lemmas.Bool.{cases_Bool, both_ways}
+use Rattle.tla_token.specs.Signs.{is_among}
 use Rattle.tla_expr.specs.Tree.{Word}
 use Rattle.tla_value.specs.Value.{Value, Values, no_values, and, Trouble, Outcome, ◌>>=◌, and_then, or_all, IsBad, NotFalse}
 use Rattle.tla_value.specs.Order.{same}
 use Rattle.pcal_tree.specs.Scope.{Scope, bound, State}
 use Rattle.action_builder.proofs.Equal.{eq-name, eq-value}
-use Rattle.action_builder.specs.Assigned.{Names, member, more}
+use Rattle.action_builder.specs.Assigned.{Names, more}
 use Rattle.action_builder.specs.laws.States.{mid}
 use Rattle.action_builder.proofs.Effects.{Effect, assign, await, branch, either, choose, Effects, done, then, Ways, no_ways, way, Parts, firsts, moved, effect_names, effects_names, ways_names, Awaits, Chosen, SomeOf, Picks, Next, RunOne, Run, RunSome}
 use Rattle.action_builder.proofs.Actions.{value_for, hold_sets, settings_of, unchanged, all_same, some_member, holds, hold, hold_some, ended, minus, build_one, build, build_some, OnceOne, Once, OnceSome}
@@ -29,23 +30,23 @@ or_not_no (Ok false) (Err k) p = tt
 or_not_no (Err k) w p = tt
 
 -- A run that fits meets the state between at each of its items.
-meets : (A : Names) (xs ys : List Word) (s t u : State) → ((x : Word) → member ys x ≡ true → more A xs x ≡ false) → ((x : Word) → member xs x ≡ false → u x ≡ mid s t A x) → ((x : Word) → member ys x ≡ false → mid s t (more A (xs ++ ys)) x ≡ u x) → u ≡ mid s t (more A xs)
+meets : (A : Names) (xs ys : List Word) (s t u : State) → ((x : Word) → is_among ys x ≡ true → more A xs x ≡ false) → ((x : Word) → is_among xs x ≡ false → u x ≡ mid s t A x) → ((x : Word) → is_among ys x ≡ false → mid s t (more A (xs ++ ys)) x ≡ u x) → u ≡ mid s t (more A xs)
 meets A xs ys s t u late before after = is_mid s t u (more A xs) inside outside
   where
     inside : (x : Word) → more A xs x ≡ true → u x ≡ t x
     inside x e =
-        let out : member ys x ≡ false = ⊎_elim (λ a. absurd (both_ways (more A xs x) (late x a) e)) (λ b. b) (cases_Bool (member ys x)) in
-        sym (after x out) ∙ mid_in s t (more A (xs ++ ys)) x (ap (λ B. B x) (more_append A xs ys) ∙ or_left (more A xs x) (member ys x) e)
+        let out : is_among ys x ≡ false = ⊎_elim (λ a. absurd (both_ways (more A xs x) (late x a) e)) (λ b. b) (cases_Bool (is_among ys x)) in
+        sym (after x out) ∙ mid_in s t (more A (xs ++ ys)) x (ap (λ B. B x) (more_append A xs ys) ∙ or_left (more A xs x) (is_among ys x) e)
 
     outside : (x : Word) → more A xs x ≡ false → u x ≡ s x
-    outside x e = let p = or_none (A x) (member xs x) e in before x p.1 ∙ mid_out s t A x p.0
+    outside x e = let p = or_none (A x) (is_among xs x) e in before x p.1 ∙ mid_out s t A x p.0
 
 -- what a branch leaves unchanged, where its end fits
-left : (A : Names) (own other all : List Word) (s t : State) → ((x : Word) → member other x ≡ true → A x ≡ false) → Within other all → ((x : Word) → member own x ≡ false → mid s t (more A all) x ≡ mid s t A x) → all_same (minus other own) s t ≡ true
+left : (A : Names) (own other all : List Word) (s t : State) → ((x : Word) → is_among other x ≡ true → A x ≡ false) → Within other all → ((x : Word) → is_among own x ≡ false → mid s t (more A all) x ≡ mid s t A x) → all_same (minus other own) s t ≡ true
 left A own other all s t late w frames = same_minus other own s t (λ x e f.
-    sym (mid_in s t (more A all) x (or_right (A x) (member all x) (w x e))) ∙ frames x f ∙ mid_out s t A x (late x e))
+    sym (mid_in s t (more A all) x (or_right (A x) (is_among all x) (w x e))) ∙ frames x f ∙ mid_out s t A x (late x e))
 
-ended_fits : (A : Names) (b : Effects) (own other all : List Word) (c : Scope) (s t : State) → Within own all → Within other all → Covers own other all → ((x : Word) → member other x ≡ true → A x ≡ false) → ((x : Word) → member own x ≡ false → mid s t (more A all) x ≡ mid s t A x) → Run b c (mid s t A) (End s t A all) → (Run b c (mid s t A) (End s t A own) → NotFalse (hold (build A b) c s t)) → NotFalse (hold (ended (build A b) (unchanged (minus other own))) c s t)
+ended_fits : (A : Names) (b : Effects) (own other all : List Word) (c : Scope) (s t : State) → Within own all → Within other all → Covers own other all → ((x : Word) → is_among other x ≡ true → A x ≡ false) → ((x : Word) → is_among own x ≡ false → mid s t (more A all) x ≡ mid s t A x) → Run b c (mid s t A) (End s t A all) → (Run b c (mid s t A) (End s t A own) → NotFalse (hold (build A b) c s t)) → NotFalse (hold (ended (build A b) (unchanged (minus other own))) c s t)
 ended_fits A b own other all c s t w w' v late frames r ih =
     let same = left A own other all s t late w' frames in
     let here = subst (λ m. Run b c (mid s t A) (Ok m)) (sym (grown s t A own other all w v same)) r in
@@ -54,15 +55,15 @@ ended_fits A b own other all c s t w w' v late frames r ih =
 and_true : (v w : Outcome Bool) → v ≡ Ok true → w ≡ Ok true → and_then v w ≡ Ok true
 and_true v w p q = ap (λ x. and_then x w) p ∙ q
 
-pub sets_true : (A : Names) (ps : Parts) (c : Scope) (s t : State) (ys : List Word) → ((y : Word) → member ys y ≡ true → value_for y ps c (mid s t A) ≡ Ok (t y)) → hold_sets (settings_of A ps ys) c s t ≡ Ok true
+pub sets_true : (A : Names) (ps : Parts) (c : Scope) (s t : State) (ys : List Word) → ((y : Word) → is_among ys y ≡ true → value_for y ps c (mid s t A) ≡ Ok (t y)) → hold_sets (settings_of A ps ys) c s t ≡ Ok true
 sets_true A ps c s t [] h = refl
 sets_true A ps c s t (z ∷ ys) h =
     and_true _ _
-    (ap (λ o. o >>= (λ v. Ok (same (t z) v))) (h z (or_left (bytes_eq z z) (member ys z) (eq-name z z refl))) ∙ ap Ok (eq-value (t z) (t z) refl))
-    (sets_true A ps c s t ys (λ y m. h y (or_right (bytes_eq z y) (member ys y) m)))
+    (ap (λ o. o >>= (λ v. Ok (same (t z) v))) (h z (or_left (bytes_eq z z) (is_among ys z) (eq-name z z refl))) ∙ ap Ok (eq-value (t z) (t z) refl))
+    (sets_true A ps c s t ys (λ y m. h y (or_right (bytes_eq z y) (is_among ys y) m)))
 
 assign_fits : (A : Names) (ps : Parts) (c : Scope) (s t : State) → Ok (mid s t (more A (firsts ps))) ≡ moved ps c (mid s t A) → NotFalse (hold_sets (settings_of A ps (firsts ps)) c s t)
-assign_fits A ps c s t r = subst NotFalse (sym (sets_true A ps c s t (firsts ps) (λ y m. moved_good ps c (mid s t A) _ (sym r) y ∙ ap Ok (mid_in s t (more A (firsts ps)) y (or_right (A y) (member (firsts ps) y) m))))) tt
+assign_fits A ps c s t r = subst NotFalse (sym (sets_true A ps c s t (firsts ps) (λ y m. moved_good ps c (mid s t A) _ (sym r) y ∙ ap Ok (mid_in s t (more A (firsts ps)) y (or_right (A y) (is_among (firsts ps) y) m))))) tt
 
 await_fits : (o : Outcome Bool) (m : State) (r : State) → Awaits o m (Ok r) → NotFalse o
 await_fits (Ok true) m r e = tt
@@ -109,7 +110,7 @@ mutual
       let two' : Run rest c (mid s t (more A (effect_names st))) (End s t (more A (effect_names st)) (effects_names rest)) = subst (λ B. Run rest c (mid s t (more A (effect_names st))) (Ok (mid s t B))) (more_append A (effect_names st) (effects_names rest)) two in
       and_not_no (holds (build_one A st) c s t) (hold (build (more A (effect_names st)) rest) c s t) (fits_one A st c s t o.0 one') (fits_all (more A (effect_names st)) rest c s t o.1 two'))
 
-  fits_some : (A : Names) (all : List Word) (bs : Ways) (c : Scope) (s t : State) → OnceSome A bs → Within (ways_names bs) all → ((x : Word) → member all x ≡ true → A x ≡ false) → RunSome bs c (mid s t A) (End s t A all) → NotFalse (hold_some (build_some A all bs) c s t)
+  fits_some : (A : Names) (all : List Word) (bs : Ways) (c : Scope) (s t : State) → OnceSome A bs → Within (ways_names bs) all → ((x : Word) → is_among all x ≡ true → A x ≡ false) → RunSome bs c (mid s t A) (End s t A all) → NotFalse (hold_some (build_some A all bs) c s t)
   fits_some A all no_ways c s t o w late r = absurd r
   fits_some A all (way b bs) c s t o w late r =
       or_not_no _ (hold_some (build_some A all bs) c s t) (⊎_elim
@@ -221,4 +222,4 @@ true_exactly A ss c s t o fine = (true_all A ss c s t, λ r. by (hold (build A s
 -- an end that agrees with t on A and on all that the items assign is the state between
 pub fitting_end : (A : Names) (ss : Effects) (c : Scope) (s t u : State) → Run ss c (mid s t A) (Ok u) → ((x : Word) → more A (effects_names ss) x ≡ true → u x ≡ t x) → u ≡ mid s t (more A (effects_names ss))
 fitting_end A ss c s t u r fits = is_mid s t u (more A (effects_names ss)) fits (λ x e.
-    let p = or_none (A x) (member (effects_names ss) x) e in frame ss c (mid s t A) u x r p.1 ∙ mid_out s t A x p.0)
+    let p = or_none (A x) (is_among (effects_names ss) x) e in frame ss c (mid s t A) u x r p.1 ∙ mid_out s t A x p.0)

@@ -1,15 +1,17 @@
 -- What the laws ask of statements, where no expression binds a name or has a primed one.
 use Rattle.std.proofs.Common.{◌≡◌, List, Bool, true, false, ◌&&◌, refl}
 use Rattle.std.proofs.lemmas.Bool.{and_parts}
+use Rattle.tla_token.specs.Signs.{is_among}
 use Rattle.tla_token.specs.declared.place.Place.{Place}
 use Rattle.tla_expr.specs.Tree.{Word, Form, name, next, operator_call, binding, local, Tree, node, Trees, no_trees, tree, Every, EveryOf, Graft}
 use Rattle.tla_value.specs.Stops.{Check}
 use Rattle.tla_value.specs.Related.{In, ClearForm}
 use Rattle.pcal_tree.specs.Algorithm.{Assignments, no_assignments, assignment, Statement, assign, await, print, assert, skip, branch, either, Statements, done, then, mark, Branches, no_branches, or}
-use Rattle.pcal_tree.specs.laws.Expansion.{Any, CleanAssignments, CleanOne, Clean, CleanSome}
-use Rattle.action_builder.specs.Assigned.{assigned, Names, member, more}
+use Rattle.pcal_tree.specs.laws.Expansion.{CleanAssignments, CleanOne, Clean, CleanSome}
+use Rattle.action_builder.specs.Assigned.{assigned, Names, more}
 use Rattle.action_builder.specs.laws.Ready.{SettledOne, Settled, SettledSome, Plain, FineTree, FineSides, FineOne, Fine, FineSome}
 use Rattle.action_builder.specs.laws.Sample.{any_name}
+use Rattle.tla_value.specs.laws.FreeNames.{Any}
 
 none_in : {P : Type 0} → false ≡ true → P
 none_in e = cc
@@ -130,7 +132,7 @@ fine_sides A (assignment l e ms) h =
     (fine A l p.0, fine A e q.0, fine_sides A ms q.1)
 
 mutual
-  fine_one : (vs : List Word) (A : Names) (st : Statement) → SettledOne (member vs) st → bare_one st ≡ true → FineOne any_name vs A st
+  fine_one : (vs : List Word) (A : Names) (st : Statement) → SettledOne (is_among vs) st → bare_one st ≡ true → FineOne any_name vs A st
   fine_one vs A (assign ms) z h = record { left = z; sides = fine_sides A ms h; readable = λ y m. refl }
   fine_one vs A (await e) z h = fine A e h
   fine_one vs A (print e) z h = fine A e h
@@ -143,13 +145,13 @@ mutual
   fine_one vs A (either bs) z h = fine_branches vs A bs z h
   fine_one vs A _ z h = none_in h
 
-  pub fine_list : (vs : List Word) (A : Names) (ss : Statements) → Settled (member vs) ss → bare_list ss ≡ true → Fine any_name vs A ss
+  pub fine_list : (vs : List Word) (A : Names) (ss : Statements) → Settled (is_among vs) ss → bare_list ss ≡ true → Fine any_name vs A ss
   fine_list vs A done z h = tt
   fine_list vs A (then at st rest) z h =
       let p = and_parts (bare_one st) (bare_list rest) h in
       (fine_one vs A st z.0 p.0, fine_list vs (more A (assigned st)) rest z.1 p.1)
   fine_list vs A (mark l k rest) z h = none_in h
 
-  fine_branches : (vs : List Word) (A : Names) (bs : Branches) → SettledSome (member vs) bs → bare_branches bs ≡ true → FineSome any_name vs A bs
+  fine_branches : (vs : List Word) (A : Names) (bs : Branches) → SettledSome (is_among vs) bs → bare_branches bs ≡ true → FineSome any_name vs A bs
   fine_branches vs A no_branches z h = tt
   fine_branches vs A (or b bs) z h = let p = and_parts (bare_list b) (bare_branches bs) h in (fine_list vs A b z.0 p.0, fine_branches vs A bs z.1 p.1)

@@ -1,7 +1,7 @@
 -- A run of the statements is a run of their effects, and then what follows.
 use Rattle.std.proofs.Common.{◌≡◌, List, [], ◌∷◌, ◌++◌, Bool, true, false, cond, ◌⊎◌, ◌↔◌, refl, sym, ◌∙◌, ap, subst, inl, inr, ⊎_elim, Ok, Err}
 use Rattle.tla_token.specs.declared.place.Place.{Place}
-use Rattle.tla_expr.specs.Tree.{Word, apply, select, name, strict, Tree, node, Trees, no_trees, tree}
+use Rattle.tla_expr.specs.Tree.{Word, apply, select, name, strict, Tree, node, Trees, no_trees, tree, root_place}
 use Rattle.tla_value.specs.declared.fault.FaultKind.TheVariants.{AssertFailed}
 use Rattle.tla_value.specs.Value.{Value, text, Values, no_values, and, Outcome, fault, over, Trouble, ◌>>=◌}
 use Rattle.tla_value.specs.Stops.{Check}
@@ -9,7 +9,7 @@ use Rattle.tla_value.specs.Strict.{changed_at}
 use Rattle.tla_value.specs.Meaning.{evals, part_values}
 use Rattle.pcal_tree.specs.Algorithm.{Assignments, no_assignments, assignment, Binds, no_binds, one_of, is, Statement, Statements, Branches, no_branches, or}
 use Rattle.pcal_tree.specs.Algorithm as Source
-use Rattle.pcal_tree.specs.Scope.{State, put, Part, deeper, Scope, bound, reach, reach_path, root_place, value_of, test, members}
+use Rattle.pcal_tree.specs.Scope.{State, put, Part, deeper, Scope, bound, reach, reach_path, value_of, test, members}
 use Rattle.pcal_tree.specs.Assign.{Setting, set_all, settings}
 use Rattle.pcal_tree.specs.Assign as Assign
 use Rattle.pcal_tree.specs.Run.{Course, chooses, Has, HasSome, after, at_each, held, stops, Follow, Rules, unlabelled, run_binds}

@@ -1,14 +1,14 @@
 -- Effects of statements that have no jump, label, loop or call, over what expressions give in a scope and a state, and their runs.
 use Rattle.std.specs.Prelude.{◌≡◌, List, [], ◌∷◌, ◌++◌, Bool, true, false, cond, ◌⊎◌, Ok, Err}
 use Rattle.tla_token.specs.declared.place.Place.{Place}
-use Rattle.tla_expr.specs.Tree.{Word, Tree}
+use Rattle.tla_expr.specs.Tree.{Word, Tree, root_place}
 use Rattle.tla_value.specs.declared.fault.FaultKind.TheVariants.{AssertFailed}
 use Rattle.tla_value.specs.Value.{Value, Values, no_values, and, fault, Outcome, ◌>>=◌}
 use Rattle.tla_value.specs.Stops.{Check}
 use Rattle.tla_value.specs.Strict.{changed_at}
 use Rattle.pcal_tree.specs.Algorithm.{Assignments, no_assignments, assignment, Binds, no_binds, one_of, is, Statement, Statements, Branches, no_branches, or}
 use Rattle.pcal_tree.specs.Algorithm as Source
-use Rattle.pcal_tree.specs.Scope.{State, put, Scope, bound, reach, root_place, value_of, test, members}
+use Rattle.pcal_tree.specs.Scope.{State, put, Scope, bound, reach, value_of, test, members}
 use Rattle.action_builder.specs.Assigned.{Names, without, head_of}
 use Rattle.action_builder.specs.laws.Scopes.{part_at}
 

@@ -1,13 +1,13 @@
 -- The written right side of a variable has the value that its assignments give it.
 use Rattle.std.proofs.Common.{◌≡◌, List, [], ◌∷◌, ◌++◌, Bool, true, false, cond, bytes_eq, refl, sym, ◌∙◌, ap, Ok, Err}
 use Rattle.tla_token.specs.declared.place.Place.{Place}
-use Rattle.tla_expr.specs.Tree.{Word, index, apply, select, except, name, strict, Tree, node, Trees, no_trees, tree}
+use Rattle.tla_expr.specs.Tree.{Word, index, apply, select, except, name, strict, Tree, node, Trees, no_trees, tree, root_place}
 use Rattle.tla_value.specs.Value.{Value, text, Outcome, fault, over, ◌>>=◌}
 use Rattle.tla_value.specs.Stops.{Check, plain}
 use Rattle.tla_value.specs.Strict.{changed_at, next_slot, updated, strict_value}
 use Rattle.tla_value.specs.Meaning.{Env, just, part_values, eval, evals}
 use Rattle.pcal_tree.specs.Algorithm.{nowhere, Assignments, no_assignments, assignment}
-use Rattle.pcal_tree.specs.Scope.{State, Part, deeper, Scope, reach, reach_path, root_place, value_of}
+use Rattle.pcal_tree.specs.Scope.{State, Part, deeper, Scope, reach, reach_path, value_of}
 use Rattle.action_builder.specs.Assigned.{Names, head_of, head_first}
 use Rattle.action_builder.proofs.Actions.{all_changes, changes_for, folded, value_for}
 use Rattle.action_builder.proofs.Effects.{Change, Parts, no_parts, part, changing, part_of, parts_of, Changes, no_changes, change, evaluated, Named}

@@ -1,12 +1,13 @@
 -- Where some run faults, the written action faults for some later state that agrees on A.
 use Rattle.std.proofs.Common.{◌≡◌, List, [], ◌∷◌, ◌++◌, Bool, true, false, cond, ◌&&◌, bytes_eq, ◌⊎◌, refl, sym, ◌∙◌, ap, subst, inl, inr, ⊎_elim, Ok, Err}
 use Rattle.std.proofs.lemmas.Bool.{cases_Bool, or_cases, both_ways}
+use Rattle.tla_token.specs.Signs.{is_among}
 use Rattle.tla_expr.specs.Tree.{Word}
 use Rattle.tla_value.specs.Value.{Value, Values, no_values, and, Trouble, Outcome, ◌>>=◌, and_then, or_all, IsBad, NotFalse}
 use Rattle.tla_value.specs.Order.{same}
 use Rattle.pcal_tree.specs.Scope.{Scope, bound, State}
 use Rattle.action_builder.proofs.Equal.{name-true, eq-name, eq-value}
-use Rattle.action_builder.specs.Assigned.{Names, member, more}
+use Rattle.action_builder.specs.Assigned.{Names, more}
 use Rattle.action_builder.specs.laws.States.{mid, SameOn}
 use Rattle.action_builder.proofs.Effects.{Effect, assign, await, branch, either, choose, Effects, done, then, Ways, no_ways, way, Parts, firsts, moved, effect_names, effects_names, ways_names, Awaits, Chosen, SomeOf, Picks, Next, RunOne, Run, RunSome}
 use Rattle.action_builder.proofs.Actions.{value_for, hold_sets, settings_of, Apart, Item, unchanged, Items, all_same, some_member, holds, hold, hold_some, ended, minus, build_one, build, build_some, OnceOne, Once, OnceSome}
@@ -21,38 +22,38 @@ mid_agree s t u A h = is_mid s u (mid s t A) A (λ x e. mid_in s t A x e ∙ h x
 
 -- ---- the written action reads of the later state only a and what is assigned
 
-same_local : (xs : List Word) (s t u : State) → ((x : Word) → member xs x ≡ true → t x ≡ u x) → all_same xs s t ≡ all_same xs s u
+same_local : (xs : List Word) (s t u : State) → ((x : Word) → is_among xs x ≡ true → t x ≡ u x) → all_same xs s t ≡ all_same xs s u
 same_local [] s t u h = refl
-same_local (y ∷ xs) s t u h = λ i. same (h y (or_left (bytes_eq y y) (member xs y) (eq-name y y refl)) i) (s y) && same_local xs s t u (λ x e. h x (or_right (bytes_eq y x) (member xs x) e)) i
+same_local (y ∷ xs) s t u h = λ i. same (h y (or_left (bytes_eq y y) (is_among xs y) (eq-name y y refl)) i) (s y) && same_local xs s t u (λ x e. h x (or_right (bytes_eq y x) (is_among xs x) e)) i
 
-minus_within : (xs ys : List Word) (x : Word) → member (minus xs ys) x ≡ true → member xs x ≡ true
+minus_within : (xs ys : List Word) (x : Word) → is_among (minus xs ys) x ≡ true → is_among xs x ≡ true
 minus_within [] ys x e = e
-minus_within (y ∷ xs) ys x e = by (minus_within xs ys x) (member ys y) refl
+minus_within (y ∷ xs) ys x e = by (minus_within xs ys x) (is_among ys y) refl
   where
-    by : (member (minus xs ys) x ≡ true → member xs x ≡ true) → (b : Bool) → member ys y ≡ b → member (y ∷ xs) x ≡ true
-    by ih true p = or_right (bytes_eq y x) (member xs x) (ih (ap (λ b. member (cond b (minus xs ys) (y ∷ minus xs ys)) x) (sym p) ∙ e))
-    by ih false p = ⊎_elim (λ a. or_left (bytes_eq y x) (member xs x) a) (λ b. or_right (bytes_eq y x) (member xs x) (ih b)) (or_cases (bytes_eq y x) (member (minus xs ys) x) (ap (λ b. member (cond b (minus xs ys) (y ∷ minus xs ys)) x) (sym p) ∙ e))
+    by : (is_among (minus xs ys) x ≡ true → is_among xs x ≡ true) → (b : Bool) → is_among ys y ≡ b → is_among (y ∷ xs) x ≡ true
+    by ih true p = or_right (bytes_eq y x) (is_among xs x) (ih (ap (λ b. is_among (cond b (minus xs ys) (y ∷ minus xs ys)) x) (sym p) ∙ e))
+    by ih false p = ⊎_elim (λ a. or_left (bytes_eq y x) (is_among xs x) a) (λ b. or_right (bytes_eq y x) (is_among xs x) (ih b)) (or_cases (bytes_eq y x) (is_among (minus xs ys) x) (ap (λ b. is_among (cond b (minus xs ys) (y ∷ minus xs ys)) x) (sym p) ∙ e))
 
 ended_local : (is : Items) (A : Names) (own other all : List Word) (c : Scope) (s t u : State) → Within other all → SameOn (more A all) t u → hold is c s t ≡ hold is c s u → hold (ended is (unchanged (minus other own))) c s t ≡ hold (ended is (unchanged (minus other own))) c s u
 ended_local is A own other all c s t u w h p =
     hold_ended is (unchanged (minus other own)) c s t
-    ∙ (λ i. and_then (p i) (and_then (Ok (same_local (minus other own) s t u (λ x e. h x (or_right (A x) (member all x) (w x (minus_within other own x e)))) i)) (Ok true)))
+    ∙ (λ i. and_then (p i) (and_then (Ok (same_local (minus other own) s t u (λ x e. h x (or_right (A x) (is_among all x) (w x (minus_within other own x e)))) i)) (Ok true)))
     ∙ sym (hold_ended is (unchanged (minus other own)) c s u)
 
 some_alike : (vs : Values) (p q : Value → Outcome Bool) → ((v : Value) → p v ≡ q v) → some_member vs p ≡ some_member vs q
 some_alike vs p q h = λ i. some_member vs (λ v. h v i)
 
 smaller : (A : Names) (xs ys : List Word) (t u : State) → Within xs ys → SameOn (more A ys) t u → SameOn (more A xs) t u
-smaller A xs ys t u w h x e = h x (⊎_elim (λ a. or_left (A x) (member ys x) a) (λ b. or_right (A x) (member ys x) (w x b)) (or_cases (A x) (member xs x) e))
+smaller A xs ys t u w h x e = h x (⊎_elim (λ a. or_left (A x) (is_among ys x) a) (λ b. or_right (A x) (is_among ys x) (w x b)) (or_cases (A x) (is_among xs x) e))
 
 only : (A : Names) (xs : List Word) (t u : State) → SameOn (more A xs) t u → SameOn A t u
-only A xs t u h x e = h x (or_left (A x) (member xs x) e)
+only A xs t u h x e = h x (or_left (A x) (is_among xs x) e)
 
 sets_local : (A : Names) (ps : Parts) (c : Scope) (s t u : State) → SameOn (more A (firsts ps)) t u → (ys : List Word) → Within ys (firsts ps) → hold_sets (settings_of A ps ys) c s t ≡ hold_sets (settings_of A ps ys) c s u
 sets_local A ps c s t u h [] w = refl
 sets_local A ps c s t u h (y ∷ ys) w =
-    λ i. and_then ((value_for y ps c (mid_agree s t u A (only A (firsts ps) t u h) i)) >>= (λ v. Ok (same (h y (or_right (A y) (member (firsts ps) y) (w y (or_left (bytes_eq y y) (member ys y) (eq-name y y refl)))) i) v)))
-    (sets_local A ps c s t u h ys (λ x m. w x (or_right (bytes_eq y x) (member ys x) m)) i)
+    λ i. and_then ((value_for y ps c (mid_agree s t u A (only A (firsts ps) t u h) i)) >>= (λ v. Ok (same (h y (or_right (A y) (is_among (firsts ps) y) (w y (or_left (bytes_eq y y) (is_among ys y) (eq-name y y refl)))) i) v)))
+    (sets_local A ps c s t u h ys (λ x m. w x (or_right (bytes_eq y x) (is_among ys x) m)) i)
 
 mutual
   pub local_one : (A : Names) (st : Effect) (c : Scope) (s t u : State) → SameOn (more A (effect_names st)) t u → holds (build_one A st) c s t ≡ holds (build_one A st) c s u
@@ -109,12 +110,12 @@ abbrev or_else : Outcome Value → Value → Value
 or_else (Ok v) w = v
 or_else (Err k) w = w
 
-sets_is_bad : (A : Names) (ps : Parts) (c : Scope) (s u : State) (ys : List Word) → ((x : Word) (v : Value) → member ys x ≡ true → value_for x ps c (mid s u A) ≡ Ok v → u x ≡ v) → (y : Word) → member ys y ≡ true → IsBad (value_for y ps c (mid s u A)) → IsBad (hold_sets (settings_of A ps ys) c s u)
+sets_is_bad : (A : Names) (ps : Parts) (c : Scope) (s u : State) (ys : List Word) → ((x : Word) (v : Value) → is_among ys x ≡ true → value_for x ps c (mid s u A) ≡ Ok v → u x ≡ v) → (y : Word) → is_among ys y ≡ true → IsBad (value_for y ps c (mid s u A)) → IsBad (hold_sets (settings_of A ps ys) c s u)
 sets_is_bad A ps c s u [] h y m b = absurd (both_ways false refl m)
 sets_is_bad A ps c s u (z ∷ ys) h y m b = ⊎_elim
     (λ a. and_bad_left ((value_for z ps c (mid s u A)) >>= (λ v. Ok (same (u z) v))) _ (here (value_for z ps c (mid s u A)) (subst (λ x. IsBad (value_for x ps c (mid s u A))) (sym (name-true z y a)) b)))
-    (λ k. by (value_for z ps c (mid s u A)) refl (sets_is_bad A ps c s u ys (λ x v n p. h x v (or_right (bytes_eq z x) (member ys x) n) p) y k b))
-    (or_cases (bytes_eq z y) (member ys y) m)
+    (λ k. by (value_for z ps c (mid s u A)) refl (sets_is_bad A ps c s u ys (λ x v n p. h x v (or_right (bytes_eq z x) (is_among ys x) n) p) y k b))
+    (or_cases (bytes_eq z y) (is_among ys y) m)
   where
     here : (o : Outcome Value) → IsBad o → IsBad (o >>= (λ v. Ok (same (u z) v)))
     here (Ok v) k = absurd k
@@ -122,7 +123,7 @@ sets_is_bad A ps c s u (z ∷ ys) h y m b = ⊎_elim
 
     by : (o : Outcome Value) → value_for z ps c (mid s u A) ≡ o → IsBad (hold_sets (settings_of A ps ys) c s u) → IsBad (and_then ((value_for z ps c (mid s u A)) >>= (λ v. Ok (same (u z) v))) (hold_sets (settings_of A ps ys) c s u))
     by (Ok v) p r =
-        let agree : same (u z) v ≡ true = eq-value (u z) v (h z v (or_left (bytes_eq z z) (member ys z) (eq-name z z refl)) p) in
+        let agree : same (u z) v ≡ true = eq-value (u z) v (h z v (or_left (bytes_eq z z) (is_among ys z) (eq-name z z refl)) p) in
         subst (λ w. IsBad (and_then w (hold_sets (settings_of A ps ys) c s u))) (sym (ap (λ o. o >>= (λ v. Ok (same (u z) v))) p ∙ ap Ok agree)) r
     by (Err j) p r = subst (λ o. IsBad (and_then (o >>= (λ v. Ok (same (u z) v))) (hold_sets (settings_of A ps ys) c s u))) (sym p) tt
 
@@ -137,18 +138,18 @@ faults_assign A ps c s t k out r = (u, agrees, sets_is_bad A ps c s u ys value b
     m = mid s t A
 
     u : State
-    u = λ x. cond (member (firsts ps) x) (or_else (value_for x ps c (mid s t A)) (t x)) (t x)
+    u = λ x. cond (is_among (firsts ps) x) (or_else (value_for x ps c (mid s t A)) (t x)) (t x)
 
     b : (y : Word) × IsBad (value_for y ps c (mid s t A))
     b = moved_bad ps c (mid s t A) k (sym r)
 
-    agrees : SameOn A (λ x. cond (member (firsts ps) x) (or_else (value_for x ps c (mid s t A)) (t x)) (t x)) t
-    agrees x e = ⊎_elim (λ q. absurd (both_ways (A x) (out x q) e)) (λ q. ap (λ z. cond z (or_else (value_for x ps c (mid s t A)) (t x)) (t x)) q) (cases_Bool (member (firsts ps) x))
+    agrees : SameOn A (λ x. cond (is_among (firsts ps) x) (or_else (value_for x ps c (mid s t A)) (t x)) (t x)) t
+    agrees x e = ⊎_elim (λ q. absurd (both_ways (A x) (out x q) e)) (λ q. ap (λ z. cond z (or_else (value_for x ps c (mid s t A)) (t x)) (t x)) q) (cases_Bool (is_among (firsts ps) x))
 
-    same : mid s (λ x. cond (member (firsts ps) x) (or_else (value_for x ps c (mid s t A)) (t x)) (t x)) A ≡ mid s t A
+    same : mid s (λ x. cond (is_among (firsts ps) x) (or_else (value_for x ps c (mid s t A)) (t x)) (t x)) A ≡ mid s t A
     same = mid_agree s _ t A agrees
 
-    value : (x : Word) (v : Value) → member (firsts ps) x ≡ true → value_for x ps c (mid s (λ x. cond (member (firsts ps) x) (or_else (value_for x ps c (mid s t A)) (t x)) (t x)) A) ≡ Ok v → cond (member (firsts ps) x) (or_else (value_for x ps c (mid s t A)) (t x)) (t x) ≡ v
+    value : (x : Word) (v : Value) → is_among (firsts ps) x ≡ true → value_for x ps c (mid s (λ x. cond (is_among (firsts ps) x) (or_else (value_for x ps c (mid s t A)) (t x)) (t x)) A) ≡ Ok v → cond (is_among (firsts ps) x) (or_else (value_for x ps c (mid s t A)) (t x)) (t x) ≡ v
     value x v q p =
         ap (λ z. cond z (or_else (value_for x ps c (mid s t A)) (t x)) (t x)) q
         ∙ ap (λ o. or_else o (t x)) (ap (λ w. value_for x ps c w) (sym same) ∙ p)
@@ -198,13 +199,13 @@ mutual
       (λ j q. let x = fault_one A st c s t j o.0 (subst (RunOne st c (mid s t A)) q r.1) in (x.0, x.1, and_bad_left (holds (build_one A st) c s x.0) _ x.2))
       (λ v q n.
       let one : RunOne st c (mid s t A) (Ok v) = subst (RunOne st c (mid s t A)) q r.1 in
-      let off : (y : Word) → member (effect_names st) y ≡ false → v y ≡ mid s t A y = λ y f. frame_one st c (mid s t A) v y one f in
-      let on_a : SameOn A v t = λ y e. off y (⊎_elim (λ a. absurd (both_ways (A y) (apart_one A st o.0 y a) e)) (λ b. b) (cases_Bool (member (effect_names st) y))) ∙ mid_in s t A y e in
-      let is : v ≡ mid s v B = is_mid s v v B (λ y e. refl) (λ y e. let p = or_none (A y) (member (effect_names st) y) e in off y p.1 ∙ mid_out s t A y p.0) in
+      let off : (y : Word) → is_among (effect_names st) y ≡ false → v y ≡ mid s t A y = λ y f. frame_one st c (mid s t A) v y one f in
+      let on_a : SameOn A v t = λ y e. off y (⊎_elim (λ a. absurd (both_ways (A y) (apart_one A st o.0 y a) e)) (λ b. b) (cases_Bool (is_among (effect_names st) y))) ∙ mid_in s t A y e in
+      let is : v ≡ mid s v B = is_mid s v v B (λ y e. refl) (λ y e. let p = or_none (A y) (is_among (effect_names st) y) e in off y p.1 ∙ mid_out s t A y p.0) in
       let one' : RunOne st c (mid s v A) (Ok (mid s v B)) = subst (λ w. RunOne st c (mid s v A) (Ok w)) is (subst (λ w. RunOne st c w (Ok v)) (mid_agree s t v A (λ y e. sym (on_a y e))) one) in
       let x = fault_all B rest c s v k o.1 (subst (λ w. Run rest c w (Err k)) is n) in
       let good : NotFalse (holds (build_one A st) c s x.0) = subst NotFalse (local_one A st c s v x.0 (λ y e. sym (x.1 y e))) (fits_one A st c s v o.0 one') in
-      (x.0, λ y e. x.1 y (or_left (A y) (member (effect_names st) y) e) ∙ on_a y e, and_bad_right (holds (build_one A st) c s x.0) (hold (build B rest) c s x.0) good x.2))
+      (x.0, λ y e. x.1 y (or_left (A y) (is_among (effect_names st) y) e) ∙ on_a y e, and_bad_right (holds (build_one A st) c s x.0) (hold (build B rest) c s x.0) good x.2))
 
   fault_some : (A : Names) (all : List Word) (bs : Ways) (c : Scope) (s t : State) (k : Trouble) → OnceSome A bs → RunSome bs c (mid s t A) (Err k) → Faults A t (hold_some (build_some A all bs) c s)
   fault_some A all no_ways c s t k o r = absurd r

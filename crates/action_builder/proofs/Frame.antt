@@ -3,7 +3,7 @@ use Rattle.std.proofs.Common.{◌≡◌, List, ◌++◌, Bool, true, false, refl
 use Rattle.tla_expr.specs.Tree.{Word}
 use Rattle.tla_value.specs.Value.{Value, Values, no_values, and, Trouble, Outcome}
 use Rattle.pcal_tree.specs.Scope.{Scope, bound, State}
-use Rattle.action_builder.specs.Assigned.{member}
+use Rattle.tla_token.specs.Signs.{is_among}
 use Rattle.action_builder.proofs.Effects.{Effect, assign, await, branch, either, choose, Effects, done, then, Ways, no_ways, way, effect_names, effects_names, ways_names, Awaits, Chosen, SomeOf, Picks, Next, RunOne, Run, RunSome}
 use Rattle.action_builder.proofs.Parts.{moved_good, value_kept}
 use Rattle.action_builder.proofs.Sets.{or_none, member_append}
@@ -14,11 +14,11 @@ got_same x y e = cc
 pub got_bad : {X P : Type 0} (x : X) (k : Trouble) → Ok x ≡ Err k → P
 got_bad x k e = cc
 
-pub not_in_front : (xs ys : List Word) (x : Word) → member (xs ++ ys) x ≡ false → member xs x ≡ false
-not_in_front xs ys x e = (or_none (member xs x) (member ys x) (sym (member_append xs ys x) ∙ e)).0
+pub not_in_front : (xs ys : List Word) (x : Word) → is_among (xs ++ ys) x ≡ false → is_among xs x ≡ false
+not_in_front xs ys x e = (or_none (is_among xs x) (is_among ys x) (sym (member_append xs ys x) ∙ e)).0
 
-pub not_behind : (xs ys : List Word) (x : Word) → member (xs ++ ys) x ≡ false → member ys x ≡ false
-not_behind xs ys x e = (or_none (member xs x) (member ys x) (sym (member_append xs ys x) ∙ e)).1
+pub not_behind : (xs ys : List Word) (x : Word) → is_among (xs ++ ys) x ≡ false → is_among ys x ≡ false
+not_behind xs ys x e = (or_none (is_among xs x) (is_among ys x) (sym (member_append xs ys x) ∙ e)).1
 
 pub frame_awaits : (o : Outcome Bool) (s u : State) → Awaits o s (Ok u) → u ≡ s
 frame_awaits (Ok true) s u e = got_same u s e
@@ -43,7 +43,7 @@ frame_next R (Ok w) s u x n h k = k w n ∙ h w refl
 frame_next R (Err j) s u x n h k = got_bad u j n
 
 mutual
-  pub frame_one : (st : Effect) (c : Scope) (s u : State) (x : Word) → RunOne st c s (Ok u) → member (effect_names st) x ≡ false → u x ≡ s x
+  pub frame_one : (st : Effect) (c : Scope) (s u : State) (x : Word) → RunOne st c s (Ok u) → is_among (effect_names st) x ≡ false → u x ≡ s x
   frame_one (assign ps) c s u x r f = got_same (u x) (s x) (sym (moved_good ps c s u (sym r) x) ∙ value_kept ps c s x f)
   frame_one (await e) c s u x r f = ap (λ w. w x) (frame_awaits (e c s) s u r)
   frame_one (branch e a b) c s u x r f =
@@ -51,14 +51,14 @@ mutual
   frame_one (either bs) c s u x r f = frame_by bs c s u x r f
   frame_one (choose y e b) c s u x r f = frame_picks (e c s) _ _ u r (λ v p. frame b (bound y v c) s u x p f)
 
-  pub frame : (ss : Effects) (c : Scope) (s u : State) (x : Word) → Run ss c s (Ok u) → member (effects_names ss) x ≡ false → u x ≡ s x
+  pub frame : (ss : Effects) (c : Scope) (s u : State) (x : Word) → Run ss c s (Ok u) → is_among (effects_names ss) x ≡ false → u x ≡ s x
   frame done c s u x r f = ap (λ w. w x) (got_same u s r)
   frame (then st rest) c s u x r f =
       frame_next (Run rest c) r.0 s u x r.2
       (λ w q. frame_one st c s w x (subst (RunOne st c s) q r.1) (not_in_front (effect_names st) (effects_names rest) x f))
       (λ w n. frame rest c w u x n (not_behind (effect_names st) (effects_names rest) x f))
 
-  pub frame_by : (bs : Ways) (c : Scope) (s u : State) (x : Word) → RunSome bs c s (Ok u) → member (ways_names bs) x ≡ false → u x ≡ s x
+  pub frame_by : (bs : Ways) (c : Scope) (s u : State) (x : Word) → RunSome bs c s (Ok u) → is_among (ways_names bs) x ≡ false → u x ≡ s x
   frame_by no_ways c s u x r f = absurd r
   frame_by (way b bs) c s u x r f =
       ⊎_elim (λ p. frame b c s u x p (not_in_front (effects_names b) (ways_names bs) x f)) (λ q. frame_by bs c s u x q (not_behind (effects_names b) (ways_names bs) x f)) r

@@ -1,5 +1,6 @@
 -- The laws of the written items, for statements and their runs.
 use Rattle.std.proofs.Common.{◌≡◌, List, [], Bool, true, false, ◌↔◌, sym, ◌∙◌, ap, subst, Ok, Err}
+use Rattle.tla_token.specs.Signs.{is_among}
 use Rattle.tla_expr.specs.Tree.{Word}
 use Rattle.tla_value.specs.Stops.{plain}
 use Rattle.tla_value.specs.Meaning.{Env}
@@ -8,7 +9,7 @@ use Rattle.module_text.specs.ActionTruth.{Verdict}
 use Rattle.pcal_tree.specs.Algorithm.{Statements}
 use Rattle.pcal_tree.specs.Scope.{State, Scope}
 use Rattle.pcal_tree.specs.Run.{Rules}
-use Rattle.action_builder.specs.Assigned.{assigned_in, Names, member, more}
+use Rattle.action_builder.specs.Assigned.{assigned_in, Names, more}
 use Rattle.tla_value.specs.Value.{IsBad, NotFalse, Outcome}
 use Rattle.action_builder.specs.laws.States.{SameOn, BadSomewhere}
 use Rattle.action_builder.proofs.Actions.{Fits, NoTrouble, verdict, SomeTrouble, Built}
@@ -46,12 +47,12 @@ match_bad (Err k) v h i = tt
 matched : (M : Rules) (U : Readable) (vs : List Word) (A : Names) (ss : Statements) (sc : Scope) (env : State → State → Env) → Ready U vs A ss sc env → (s t : State) → Matches (holds_on vs env (write vs A ss) s t) (verdict (unlimited M) A ss sc s t)
 matched M U vs A ss sc env r s t = match_all U vs A ss r.settled r.fine r.within sc env r.stands s t
 
-built : (M : Rules) (U : Readable) (vs : List Word) (A : Names) (ss : Statements) (sc : Scope) (env : State → State → Env) → Ready U vs A ss sc env → Built (unlimited M) (member vs) A ss sc
+built : (M : Rules) (U : Readable) (vs : List Word) (A : Names) (ss : Statements) (sc : Scope) (env : State → State → Env) → Ready U vs A ss sc env → Built (unlimited M) (is_among vs) A ss sc
 built M U vs A ss sc env r = (r.settled, λ x m at s. ([], r.stands.scoped.part x m at s), all_once plain A ss r.once)
 
 -- where no run faults, the items are true exactly if some run has a fitting end, else false
 pub items_exactly : (M : Rules) (U : Readable) (vs : List Word) (A : Names) (ss : Statements) (sc : Scope) (env : State → State → Env) → Ready U vs A ss sc env → (s t : State) → NoTrouble (unlimited M) A ss sc s t → TrueExactly (holds_on vs env (write vs A ss) s t) (Fits (unlimited M) A ss sc s t)
-items_exactly M U vs A ss sc env r s t fine = by (true_exactly (unlimited M) (member vs) A ss sc s t (built M U vs A ss sc env r) fine)
+items_exactly M U vs A ss sc env r s t fine = by (true_exactly (unlimited M) (is_among vs) A ss sc s t (built M U vs A ss sc env r) fine)
   where
     by : TrueExactly (verdict (unlimited M) A ss sc s t) (Fits (unlimited M) A ss sc s t) → TrueExactly (holds_on vs env (write vs A ss) s t) (Fits (unlimited M) A ss sc s t)
     by x = (x.0, match_is (holds_on vs env (write vs A ss) s t) x.0 (subst (Matches (holds_on vs env (write vs A ss) s t)) x.1 (matched M U vs A ss sc env r s t)), x.2)
@@ -59,17 +60,17 @@ items_exactly M U vs A ss sc env r s t fine = by (true_exactly (unlimited M) (me
 -- where the items are true, some run has a fitting end
 pub items_fit : (M : Rules) (U : Readable) (vs : List Word) (A : Names) (ss : Statements) (sc : Scope) (env : State → State → Env) → Ready U vs A ss sc env → (s t : State) → holds_on vs env (write vs A ss) s t ≡ Ok true → Fits (unlimited M) A ss sc s t
 items_fit M U vs A ss sc env r s t e =
-    true_fits (unlimited M) (member vs) A ss sc s t (built M U vs A ss sc env r) (match_back true _ (subst (λ p. Matches p (verdict (unlimited M) A ss sc s t)) e (matched M U vs A ss sc env r s t)))
+    true_fits (unlimited M) (is_among vs) A ss sc s t (built M U vs A ss sc env r) (match_back true _ (subst (λ p. Matches p (verdict (unlimited M) A ss sc s t)) e (matched M U vs A ss sc env r s t)))
 
 -- where some run has a fitting end, the items are true or fault
 pub fit_items : (M : Rules) (U : Readable) (vs : List Word) (A : Names) (ss : Statements) (sc : Scope) (env : State → State → Env) → Ready U vs A ss sc env → (s t : State) → Fits (unlimited M) A ss sc s t → NotFalse (holds_on vs env (write vs A ss) s t)
 fit_items M U vs A ss sc env r s t f =
-    match_not_false (holds_on vs env (write vs A ss) s t) (verdict (unlimited M) A ss sc s t) (matched M U vs A ss sc env r s t) (fits_true (unlimited M) (member vs) A ss sc s t (built M U vs A ss sc env r) f)
+    match_not_false (holds_on vs env (write vs A ss) s t) (verdict (unlimited M) A ss sc s t) (matched M U vs A ss sc env r s t) (fits_true (unlimited M) (is_among vs) A ss sc s t (built M U vs A ss sc env r) f)
 
 -- the items fault for some later state that agrees on A exactly if some run faults
 pub items_stop : (M : Rules) (U : Readable) (vs : List Word) (A : Names) (ss : Statements) (sc : Scope) (env : State → State → Env) → Ready U vs A ss sc env → (s t : State) → BadSomewhere A t (holds_on vs env (write vs A ss) s) ↔ SomeTrouble (unlimited M) A ss sc s t
 items_stop M U vs A ss sc env r s t =
-    let q = bad_exactly (unlimited M) (member vs) A ss sc s t (built M U vs A ss sc env r) in (
+    let q = bad_exactly (unlimited M) (is_among vs) A ss sc s t (built M U vs A ss sc env r) in (
       λ x. q.0 (x.0, x.1, match_stopped (holds_on vs env (write vs A ss) s x.0) (verdict (unlimited M) A ss sc s x.0) (matched M U vs A ss sc env r s x.0) x.2),
       λ y. let z = q.1 y in (z.0, z.1, match_bad (holds_on vs env (write vs A ss) s z.0) (verdict (unlimited M) A ss sc s z.0) (matched M U vs A ss sc env r s z.0) z.2),
     )

@@ -1,12 +1,13 @@
 -- With UNCHANGED for what a step assigns nowhere, its items are true exactly of the states that it steps to.
 use Rattle.std.proofs.Common.{◌≡◌, List, [], Bool, true, false, ◌↔◌, refl, sym, ◌∙◌, ap, subst, ⊎_elim, Ok, Err}
 use Rattle.std.proofs.lemmas.Bool.{cases_Bool, both_ways}
+use Rattle.tla_token.specs.Signs.{is_among}
 use Rattle.tla_expr.specs.Tree.{Word}
 use Rattle.tla_value.specs.Stops.{plain}
 use Rattle.tla_value.specs.Meaning.{Env}
 use Rattle.module_text.specs.ActionTruth.{Verdict, items_hold}
 use Rattle.pcal_tree.specs.Scope.{State}
-use Rattle.action_builder.specs.Assigned.{member, assigned_in}
+use Rattle.action_builder.specs.Assigned.{assigned_in}
 use Rattle.action_builder.proofs.Effects.{effects_of}
 use Rattle.action_builder.proofs.Actions.{minus, all_same}
 use Rattle.tla_value.specs.Value.{and_then, IsBad, NotFalse, TrueExactly}
@@ -27,10 +28,10 @@ abbrev names_of : LabelStep → List Word
 names_of d = assigned_in (prepared_of d)
 
 -- a step changes nothing else
-kept : (d : LabelStep) → IsPrepared d → (U : Readable) (vs : List Word) (env : State → State → Env) → IsReady U vs env none d → (s u : State) → HasOutcome none d s s (Ok u) → (x : Word) → member (names_of d) x ≡ false → u x ≡ s x
+kept : (d : LabelStep) → IsPrepared d → (U : Readable) (vs : List Word) (env : State → State → Env) → IsReady U vs env none d → (s u : State) → HasOutcome none d s s (Ok u) → (x : Word) → is_among (names_of d) x ≡ false → u x ≡ s x
 kept d p U vs env r s u o x m =
     let c = close_step none d p s s in
-    frame (effects_of plain (prepared_of d)) d.scope s u x ((runs_law (unlimited d.rules) (member vs) none (prepared_of d) d.scope s s (Ok u) r.settled (λ y m at w. ([], r.stands.scoped.part y m at w))).0 ((c.ends u).1 o)) (ap (λ xs. member xs x) (all_names plain (prepared_of d)) ∙ m)
+    frame (effects_of plain (prepared_of d)) d.scope s u x ((runs_law (unlimited d.rules) (is_among vs) none (prepared_of d) d.scope s s (Ok u) r.settled (λ y m at w. ([], r.stands.scoped.part y m at w))).0 ((c.ends u).1 o)) (ap (λ xs. is_among xs x) (all_names plain (prepared_of d)) ∙ m)
 
 and_got : (c : Bool) → and_then (Ok c) (Ok true) ≡ Ok c
 and_got true = refl
@@ -43,10 +44,10 @@ whole U vs env d s t =
     ∙ ap (and_then (holds_on vs env (items_of vs none d) s t)) (match_is _ (all_same (minus vs (names_of d)) s t) (subst (Matches (items_hold plain (values_of vs s) (values_of vs t) (env s t) (unchanged_of (left_of vs vs (names_of d))))) (and_got (all_same (minus vs (names_of d)) s t)) (match_unchanged vs vs (names_of d) s t (env s t) (λ x m. m))))
 
 there : (d : LabelStep) → IsPrepared d → (U : Readable) (vs : List Word) (env : State → State → Env) → IsReady U vs env none d → (s t : State) → EndsIn none d s t → all_same (minus vs (names_of d)) s t ≡ true → StepsTo vs d s t
-there d p U vs env r s t e q = (e.0, e.1, λ x m. ⊎_elim (λ a. e.2 x a) (λ a. kept d p U vs env r s e.0 e.1 x a ∙ sym (minus_same vs (names_of d) s t q x m a)) (cases_Bool (member (names_of d) x)))
+there d p U vs env r s t e q = (e.0, e.1, λ x m. ⊎_elim (λ a. e.2 x a) (λ a. kept d p U vs env r s e.0 e.1 x a ∙ sym (minus_same vs (names_of d) s t q x m a)) (cases_Bool (is_among (names_of d) x)))
 
 ends : (d : LabelStep) (U : Readable) (vs : List Word) (env : State → State → Env) → IsReady U vs env none d → (s t : State) → StepsTo vs d s t → EndsIn none d s t
-ends d U vs env r s t e = (e.0, e.1, λ x m. e.2 x (all_in (member vs) (prepared_of d) r.settled x m))
+ends d U vs env r s t e = (e.0, e.1, λ x m. e.2 x (all_in (is_among vs) (prepared_of d) r.settled x m))
 
 unchanged_there : (d : LabelStep) → IsPrepared d → (U : Readable) (vs : List Word) (env : State → State → Env) → IsReady U vs env none d → (s t : State) → StepsTo vs d s t → all_same (minus vs (names_of d)) s t ≡ true
 unchanged_there d p U vs env r s t e = same_minus vs (names_of d) s t (λ x m a. sym (e.2 x m) ∙ kept d p U vs env r s e.0 e.1 x a)

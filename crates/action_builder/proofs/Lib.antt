@@ -23,6 +23,7 @@ pub mod Rules
 pub mod Steps
 pub mod Label
 pub mod Alike
+pub mod ItemPlaces
 pub mod AnyPlace
 pub mod SingleProcess
 mod Rows

@@ -1,12 +1,13 @@
 -- The written action is true exactly of the steps that a run makes.
 use Rattle.std.proofs.Common.{◌≡◌, List, [], ◌∷◌, ◌++◌, Bool, true, false, cond, ◌||◌, bytes_eq, ◌⊎◌, refl, sym, ◌∙◌, ap, subst, inl, inr, ⊎_elim, Ok, Err}
 use Rattle.std.proofs.lemmas.Bool.{cases_Bool, or_cases, both_ways}
+use Rattle.tla_token.specs.Signs.{is_among}
 use Rattle.tla_expr.specs.Tree.{Word}
 use Rattle.tla_value.specs.Value.{Value, Values, no_values, and, Outcome, ◌>>=◌, and_then, or_all, IsBad}
 use Rattle.tla_value.specs.Order.{same}
 use Rattle.pcal_tree.specs.Scope.{Scope, bound, State}
 use Rattle.action_builder.proofs.Equal.{name-true, value-true}
-use Rattle.action_builder.specs.Assigned.{Names, member, more}
+use Rattle.action_builder.specs.Assigned.{Names, more}
 use Rattle.action_builder.specs.laws.States.{mid}
 use Rattle.action_builder.proofs.Effects.{Effect, assign, await, branch, either, choose, Effects, done, then, Ways, no_ways, way, Parts, firsts, moved, effect_names, effects_names, ways_names, Awaits, Chosen, SomeOf, Picks, RunOne, Run, RunSome}
 use Rattle.action_builder.proofs.Actions.{value_for, hold_sets, settings_of, Item, unchanged, Items, none, item, all_same, some_member, holds, hold, hold_some, ended, minus, build_one, build, build_some, OnceOne, Once, OnceSome}
@@ -49,14 +50,14 @@ value_true : (o : Outcome Value) (w : Value) → o >>= (λ v. Ok (same w v)) ≡
 value_true (Ok v) w e = ap Ok (sym (value-true w v (got_same (same w v) true e)))
 value_true (Err k) w e = got_bad true k (sym e)
 
-pub sets_values : (A : Names) (ps : Parts) (c : Scope) (s t : State) (ys : List Word) → hold_sets (settings_of A ps ys) c s t ≡ Ok true → (y : Word) → member ys y ≡ true → value_for y ps c (mid s t A) ≡ Ok (t y)
+pub sets_values : (A : Names) (ps : Parts) (c : Scope) (s t : State) (ys : List Word) → hold_sets (settings_of A ps ys) c s t ≡ Ok true → (y : Word) → is_among ys y ≡ true → value_for y ps c (mid s t A) ≡ Ok (t y)
 sets_values A ps c s t [] h y m = absurd (both_ways false refl m)
 sets_values A ps c s t (z ∷ ys) h y m =
     let p = both_true _ _ h in
     ⊎_elim
     (λ a. subst (λ x. value_for x ps c (mid s t A) ≡ Ok (t x)) (name-true z y a) (value_true (value_for z ps c (mid s t A)) (t z) p.0))
     (λ b. sets_values A ps c s t ys p.1 y b)
-    (or_cases (bytes_eq z y) (member ys y) m)
+    (or_cases (bytes_eq z y) (is_among ys y) m)
 
 is_bad_not : {X P : Type 0} (o : Outcome X) (x : X) → IsBad o → o ≡ Ok x → P
 is_bad_not o x b e = absurd (subst IsBad e b)
@@ -65,17 +66,17 @@ is_bad_not o x b e = absurd (subst IsBad e b)
 pub assign_true : (A : Names) (ps : Parts) (c : Scope) (s t : State) → hold_sets (settings_of A ps (firsts ps)) c s t ≡ Ok true → Ok (mid s t (more A (firsts ps))) ≡ moved ps c (mid s t A)
 assign_true A ps c s t h = by (moved ps c (mid s t A)) refl
   where
-    there : (u : State) → moved ps c (mid s t A) ≡ Ok u → (x : Word) → member (firsts ps) x ≡ true → u x ≡ t x
+    there : (u : State) → moved ps c (mid s t A) ≡ Ok u → (x : Word) → is_among (firsts ps) x ≡ true → u x ≡ t x
     there u p x m = got_same (u x) (t x) (sym (moved_good ps c (mid s t A) u p x) ∙ sets_values A ps c s t (firsts ps) h x m)
 
-    kept : (u : State) → moved ps c (mid s t A) ≡ Ok u → (x : Word) → member (firsts ps) x ≡ false → u x ≡ mid s t A x
+    kept : (u : State) → moved ps c (mid s t A) ≡ Ok u → (x : Word) → is_among (firsts ps) x ≡ false → u x ≡ mid s t A x
     kept u p x m = got_same (u x) (mid s t A x) (sym (moved_good ps c (mid s t A) u p x) ∙ value_kept ps c (mid s t A) x m)
 
     inside : (u : State) → moved ps c (mid s t A) ≡ Ok u → (x : Word) → more A (firsts ps) x ≡ true → u x ≡ t x
-    inside u p x e = ⊎_elim (λ m. there u p x m) (λ m. kept u p x m ∙ mid_in s t A x (⊎_elim (λ a. a) (λ b. absurd (both_ways (member (firsts ps) x) m b)) (or_cases (A x) (member (firsts ps) x) e))) (cases_Bool (member (firsts ps) x))
+    inside u p x e = ⊎_elim (λ m. there u p x m) (λ m. kept u p x m ∙ mid_in s t A x (⊎_elim (λ a. a) (λ b. absurd (both_ways (is_among (firsts ps) x) m b)) (or_cases (A x) (is_among (firsts ps) x) e))) (cases_Bool (is_among (firsts ps) x))
 
     outside : (u : State) → moved ps c (mid s t A) ≡ Ok u → (x : Word) → more A (firsts ps) x ≡ false → u x ≡ s x
-    outside u p x e = let q = or_none (A x) (member (firsts ps) x) e in kept u p x q.1 ∙ mid_out s t A x q.0
+    outside u p x e = let q = or_none (A x) (is_among (firsts ps) x) e in kept u p x q.1 ∙ mid_out s t A x q.0
 
     by : (o : Outcome State) → moved ps c (mid s t A) ≡ o → Ok (mid s t (more A (firsts ps))) ≡ moved ps c (mid s t A)
     by (Ok u) p = sym (p ∙ ap Ok (is_mid s t u (more A (firsts ps)) (inside u p) (outside u p)))
@@ -86,52 +87,52 @@ assign_true A ps c s t h = by (moved ps c (mid s t A)) refl
 -- ---- apart
 
 more_false : (A : Names) (xs : List Word) (x : Word) → more A xs x ≡ false → A x ≡ false
-more_false A xs x e = (or_none (A x) (member xs x) e).0
+more_false A xs x e = (or_none (A x) (is_among xs x) e).0
 
-pub append_cases : (xs ys : List Word) (x : Word) → member (xs ++ ys) x ≡ true → (member xs x ≡ true) ⊎ (member ys x ≡ true)
-append_cases xs ys x e = or_cases (member xs x) (member ys x) (sym (member_append xs ys x) ∙ e)
+pub append_cases : (xs ys : List Word) (x : Word) → is_among (xs ++ ys) x ≡ true → (is_among xs x ≡ true) ⊎ (is_among ys x ≡ true)
+append_cases xs ys x e = or_cases (is_among xs x) (is_among ys x) (sym (member_append xs ys x) ∙ e)
 
-pub in_front : (xs ys : List Word) (x : Word) → member xs x ≡ true → member (xs ++ ys) x ≡ true
-in_front xs ys x e = member_append xs ys x ∙ or_left (member xs x) (member ys x) e
+pub in_front : (xs ys : List Word) (x : Word) → is_among xs x ≡ true → is_among (xs ++ ys) x ≡ true
+in_front xs ys x e = member_append xs ys x ∙ or_left (is_among xs x) (is_among ys x) e
 
-pub behind : (xs ys : List Word) (x : Word) → member ys x ≡ true → member (xs ++ ys) x ≡ true
-behind xs ys x e = member_append xs ys x ∙ or_right (member xs x) (member ys x) e
+pub behind : (xs ys : List Word) (x : Word) → is_among ys x ≡ true → is_among (xs ++ ys) x ≡ true
+behind xs ys x e = member_append xs ys x ∙ or_right (is_among xs x) (is_among ys x) e
 
 mutual
-  pub apart_one : (A : Names) (st : Effect) → OnceOne A st → (x : Word) → member (effect_names st) x ≡ true → A x ≡ false
+  pub apart_one : (A : Names) (st : Effect) → OnceOne A st → (x : Word) → is_among (effect_names st) x ≡ true → A x ≡ false
   apart_one A (assign ps) h x m = h x m
   apart_one A (await e) h x m = absurd (both_ways false refl m)
   apart_one A (branch e a b) h x m = ⊎_elim (apart A a h.0 x) (apart A b h.1 x) (append_cases (effects_names a) (effects_names b) x m)
   apart_one A (either bs) h x m = apart_by A bs h x m
   apart_one A (choose y e b) h x m = apart A b h x m
 
-  pub apart : (A : Names) (ss : Effects) → Once A ss → (x : Word) → member (effects_names ss) x ≡ true → A x ≡ false
+  pub apart : (A : Names) (ss : Effects) → Once A ss → (x : Word) → is_among (effects_names ss) x ≡ true → A x ≡ false
   apart A done h x m = absurd (both_ways false refl m)
   apart A (then st rest) h x m =
       ⊎_elim (apart_one A st h.0 x) (λ k. more_false A (effect_names st) x (apart (more A (effect_names st)) rest h.1 x k)) (append_cases (effect_names st) (effects_names rest) x m)
 
-  pub apart_by : (A : Names) (bs : Ways) → OnceSome A bs → (x : Word) → member (ways_names bs) x ≡ true → A x ≡ false
+  pub apart_by : (A : Names) (bs : Ways) → OnceSome A bs → (x : Word) → is_among (ways_names bs) x ≡ true → A x ≡ false
   apart_by A no_ways h x m = absurd (both_ways false refl m)
   apart_by A (way b bs) h x m = ⊎_elim (apart A b h.0 x) (apart_by A bs h.1 x) (append_cases (effects_names b) (ways_names bs) x m)
 
 -- A branch, and what it leaves unchanged of the names of all branches
 
 abbrev pub Within : List Word → List Word → Type 0
-Within xs ys = (x : Word) → member xs x ≡ true → member ys x ≡ true
+Within xs ys = (x : Word) → is_among xs x ≡ true → is_among ys x ≡ true
 
 abbrev pub Covers : List Word → List Word → List Word → Type 0
-Covers own other all = (x : Word) → member all x ≡ true → (member own x ≡ true) ⊎ (member other x ≡ true)
+Covers own other all = (x : Word) → is_among all x ≡ true → (is_among own x ≡ true) ⊎ (is_among other x ≡ true)
 
 more_within : (A : Names) (xs ys : List Word) → Within xs ys → (x : Word) → more A xs x ≡ true → more A ys x ≡ true
-more_within A xs ys h x e = ⊎_elim (λ a. or_left (A x) (member ys x) a) (λ b. or_right (A x) (member ys x) (h x b)) (or_cases (A x) (member xs x) e)
+more_within A xs ys h x e = ⊎_elim (λ a. or_left (A x) (is_among ys x) a) (λ b. or_right (A x) (is_among ys x) (h x b)) (or_cases (A x) (is_among xs x) e)
 
 pub grown : (s t : State) (A : Names) (own other all : List Word) → Within own all → Covers own other all → all_same (minus other own) s t ≡ true → mid s t (more A own) ≡ mid s t (more A all)
-grown s t A own other all w v same = mid_grow s t (more A own) (more A all) (more_within A own all w) (λ x out inside. at x (or_none (A x) (member own x) out) inside)
+grown s t A own other all w v same = mid_grow s t (more A own) (more A all) (more_within A own all w) (λ x out inside. at x (or_none (A x) (is_among own x) out) inside)
   where
-    at : (x : Word) → (A x ≡ false) × (member own x ≡ false) → more A all x ≡ true → t x ≡ s x
+    at : (x : Word) → (A x ≡ false) × (is_among own x ≡ false) → more A all x ≡ true → t x ≡ s x
     at x out inside =
-        let in_all : member all x ≡ true = ⊎_elim (λ a. absurd (both_ways (A x) out.0 a)) (λ b. b) (or_cases (A x) (member all x) inside) in
-        ⊎_elim (λ a. absurd (both_ways (member own x) out.1 a)) (λ b. minus_same other own s t same x b out.1) (v x in_all)
+        let in_all : is_among all x ≡ true = ⊎_elim (λ a. absurd (both_ways (A x) out.0 a)) (λ b. b) (or_cases (A x) (is_among all x) inside) in
+        ⊎_elim (λ a. absurd (both_ways (is_among own x) out.1 a)) (λ b. minus_same other own s t same x b out.1) (v x in_all)
 
 -- ---- true, so a run fits
 

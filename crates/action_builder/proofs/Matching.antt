@@ -1,8 +1,9 @@
 -- Verdicts that match, and the parts of which the truth of the written items is put together.
 use Rattle.std.proofs.Common.{◌≡◌, List, [], ◌∷◌, ◌++◌, Bool, true, false, cond, not, ◌||◌, ◌&&◌, bytes_eq, Some, None, ◌⊎◌, refl, sym, ◌∙◌, ap, subst, ⊎_elim, inl, inr, Ok, Err}
 use Rattle.std.proofs.lemmas.Bool.{cases_Bool, or_cases, both_ways, and_parts}
+use Rattle.tla_token.specs.Signs.{is_among}
 use Rattle.tla_token.specs.declared.place.Place.{Place}
-use Rattle.tla_expr.specs.Tree.{Word, Form, name, next, strict, select, Tree, node, Trees, no_trees, tree, Every, EveryOf}
+use Rattle.tla_expr.specs.Tree.{Word, Form, name, next, strict, select, Tree, node, Trees, no_trees, tree, Every, EveryOf, root_place}
 use Rattle.tla_value.specs.declared.fault.FaultKind.TheVariants.{AssertFailed}
 use Rattle.tla_value.specs.Value.{Value, truth, int, text, model, set, fun, Values, no_values, and, Outcome, ◌>>=◌, fault, and_then, or_all}
 use Rattle.tla_value.specs.Value as Values
@@ -17,8 +18,8 @@ use Rattle.tla_value.proofs.Primes as Primes
 use Rattle.module_text.specs.ActionTruth.{Verdict, is_unchanged}
 use Rattle.module_text.specs.ActionTruth as Module
 use Rattle.pcal_tree.specs.Algorithm.{Assignments, no_assignments, assignment}
-use Rattle.pcal_tree.specs.Scope.{State, Scope, bound, root_place}
-use Rattle.action_builder.specs.Assigned.{Names, member, head_of}
+use Rattle.pcal_tree.specs.Scope.{State, Scope, bound}
+use Rattle.action_builder.specs.Assigned.{Names, head_of}
 use Rattle.action_builder.specs.laws.States.{mid}
 use Rattle.action_builder.proofs.Actions.{minus, all_same, some_member}
 use Rattle.action_builder.specs.laws.Ready.{Readable, Halfway, IsWithin, Paired, Scoped, NoNext, Plain, FineTree, FineSides, values_of}
@@ -145,7 +146,7 @@ no_next m h = tt
 unprimed_of : (A : Names) (U : Word → Type 0) (m : Form) (at : Place) → Plain A U m at → Unprimed A U m at
 unprimed_of A U m at h = (h.0, h.1, no_next m h.2)
 
-pub exp_law : (U : Readable) (vs : List Word) (A : Names) (sc : Scope) (env : State → State → Env) → Paired U vs sc env → IsWithin A (member vs) → (e : Tree) → FineTree U A e → (s t : State) → eval plain (primed A e) (env s t) ≡ eval plain e (sc.env (mid s t A))
+pub exp_law : (U : Readable) (vs : List Word) (A : Names) (sc : Scope) (env : State → State → Env) → Paired U vs sc env → IsWithin A (is_among vs) → (e : Tree) → FineTree U A e → (s t : State) → eval plain (primed A e) (env s t) ≡ eval plain e (sc.env (mid s t A))
 exp_law U vs A sc env p w e f s t =
     let k = p.halfway A w s t in
     unprimed_law plain A (In (U A)) e (every_weaker _ _ (unprimed_of A (In (U A))) e f) (env s t) (sc.env (mid s t A)) (record { now = k.now; defs = k.defs })
@@ -167,18 +168,18 @@ outside A V w x e = ⊎_elim (λ a. absurd (both_ways (V x) e (w x a))) (λ a. a
 abbrev pub bound_env : Word → Value → (State → State → Env) → State → State → Env
 bound_env x v env s t = bind x v (env s t)
 
-pub paired_bound : (U : Readable) (vs : List Word) (sc : Scope) (env : State → State → Env) (x : Word) (v : Value) → member vs x ≡ false → Paired U vs sc env → Paired U vs (bound x v sc) (bound_env x v env)
+pub paired_bound : (U : Readable) (vs : List Word) (sc : Scope) (env : State → State → Env) (x : Word) (v : Value) → is_among vs x ≡ false → Paired U vs sc env → Paired U vs (bound x v sc) (bound_env x v env)
 paired_bound U vs sc env x v out p = record {
-  halfway = λ A w s t. halfway_bound A (In (U A)) x v (outside A (member vs) w x out) (env s t) (sc.env (mid s t A)) (p.halfway A w s t);
+  halfway = λ A w s t. halfway_bound A (In (U A)) x v (outside A (is_among vs) w x out) (env s t) (sc.env (mid s t A)) (p.halfway A w s t);
   print = p.print;
   assert = p.assert;
 }
 
-pub scoped_bound : (vs : List Word) (sc : Scope) (x : Word) (v : Value) → member vs x ≡ false → Scoped vs sc → Scoped vs (bound x v sc)
+pub scoped_bound : (vs : List Word) (sc : Scope) (x : Word) (v : Value) → is_among vs x ≡ false → Scoped vs sc → Scoped vs (bound x v sc)
 scoped_bound vs sc x v out k = record { part = k.part; reads = λ y m at s. by y m at s (bytes_eq x y) refl }
   where
-    by : (y : Word) → member vs y ≡ true → (at : Place) (s : State) (b : Bool) → bytes_eq x y ≡ b → cond (bytes_eq x y) (just v) ((sc.env s).now y at) ≡ just (s y)
-    by y m at s true q = absurd (both_ways (member vs x) out (ap (member vs) (name-true x y q) ∙ m))
+    by : (y : Word) → is_among vs y ≡ true → (at : Place) (s : State) (b : Bool) → bytes_eq x y ≡ b → cond (bytes_eq x y) (just v) ((sc.env s).now y at) ≡ just (s y)
+    by y m at s true q = absurd (both_ways (is_among vs x) out (ap (is_among vs) (name-true x y q) ∙ m))
     by y m at s false q = ap (λ b. cond b (just v) ((sc.env s).now y at)) q ∙ k.reads y m at s
 
 -- ---- the trees of right sides
@@ -242,22 +243,22 @@ bool_alike true b f g = sym (f refl)
 bool_alike false true f g = g refl
 bool_alike false false f g = refl
 
-look_same : (vs xs : List Word) (s t : State) → ((x : Word) → member xs x ≡ true → member vs x ≡ true) → Module.are_unchanged (values_of vs s) (values_of vs t) xs ≡ all_same xs s t
+look_same : (vs xs : List Word) (s t : State) → ((x : Word) → is_among xs x ≡ true → is_among vs x ≡ true) → Module.are_unchanged (values_of vs s) (values_of vs t) xs ≡ all_same xs s t
 look_same vs [] s t h = refl
 look_same vs (x ∷ xs) s t h =
     (λ i. is_unchanged (cond (h x here i) (Some (s x)) None) (cond (h x here i) (Some (t x)) None) && Module.are_unchanged (values_of vs s) (values_of vs t) xs)
-    ∙ (λ i. same (t x) (s x) && look_same vs xs s t (λ y m. h y (or_right (bytes_eq x y) (member xs y) m)) i)
+    ∙ (λ i. same (t x) (s x) && look_same vs xs s t (λ y m. h y (or_right (bytes_eq x y) (is_among xs y) m)) i)
   where
-    here : (bytes_eq x x || member xs x) ≡ true
-    here = or_left (bytes_eq x x) (member xs x) (eq-name x x refl)
+    here : (bytes_eq x x || is_among xs x) ≡ true
+    here = or_left (bytes_eq x x) (is_among xs x) (eq-name x x refl)
 
-kept_in : (vs all own : List Word) (x : Word) → member (left_of vs all own) x ≡ true → member vs x ≡ true
+kept_in : (vs all own : List Word) (x : Word) → is_among (left_of vs all own) x ≡ true → is_among vs x ≡ true
 kept_in [] all own x m = m
-kept_in (v ∷ vs) all own x m = by (kept_in vs all own x) (member all v && not (member own v)) m
+kept_in (v ∷ vs) all own x m = by (kept_in vs all own x) (is_among all v && not (is_among own v)) m
   where
-    by : (member (left_of vs all own) x ≡ true → member vs x ≡ true) → (b : Bool) → member (cond b (v ∷ left_of vs all own) (left_of vs all own)) x ≡ true → (bytes_eq v x || member vs x) ≡ true
-    by ih true k = ⊎_elim (λ a. or_left (bytes_eq v x) (member vs x) a) (λ a. or_right (bytes_eq v x) (member vs x) (ih a)) (or_cases (bytes_eq v x) (member (left_of vs all own) x) k)
-    by ih false k = or_right (bytes_eq v x) (member vs x) (ih k)
+    by : (is_among (left_of vs all own) x ≡ true → is_among vs x ≡ true) → (b : Bool) → is_among (cond b (v ∷ left_of vs all own) (left_of vs all own)) x ≡ true → (bytes_eq v x || is_among vs x) ≡ true
+    by ih true k = ⊎_elim (λ a. or_left (bytes_eq v x) (is_among vs x) a) (λ a. or_right (bytes_eq v x) (is_among vs x) (ih a)) (or_cases (bytes_eq v x) (is_among (left_of vs all own) x) k)
+    by ih false k = or_right (bytes_eq v x) (is_among vs x) (ih k)
 
 and_not : (a b : Bool) → a ≡ true → b ≡ false → (a && not b) ≡ true
 and_not a b p q = (λ i. p i && not (q i))
@@ -268,24 +269,24 @@ not_and true false e = (refl, refl)
 not_and false b e = cc
 
 -- what is kept of vs is the same: all names of `all` that are not in `own` are
-left_same : (vs all own : List Word) (s t : State) → all_same (left_of vs all own) s t ≡ true → (x : Word) → member vs x ≡ true → member all x ≡ true → member own x ≡ false → t x ≡ s x
+left_same : (vs all own : List Word) (s t : State) → all_same (left_of vs all own) s t ≡ true → (x : Word) → is_among vs x ≡ true → is_among all x ≡ true → is_among own x ≡ false → t x ≡ s x
 left_same [] all own s t h x m a o = cc
 left_same (v ∷ vs) all own s t h x m a o =
-    by (λ g k. left_same vs all own s t g x k a o) (member all v && not (member own v)) refl h (or_cases (bytes_eq v x) (member vs x) m)
+    by (λ g k. left_same vs all own s t g x k a o) (is_among all v && not (is_among own v)) refl h (or_cases (bytes_eq v x) (is_among vs x) m)
   where
-    by : (all_same (left_of vs all own) s t ≡ true → member vs x ≡ true → t x ≡ s x) → (b : Bool) → (member all v && not (member own v)) ≡ b → all_same (cond b (v ∷ left_of vs all own) (left_of vs all own)) s t ≡ true → (bytes_eq v x ≡ true) ⊎ (member vs x ≡ true) → t x ≡ s x
+    by : (all_same (left_of vs all own) s t ≡ true → is_among vs x ≡ true → t x ≡ s x) → (b : Bool) → (is_among all v && not (is_among own v)) ≡ b → all_same (cond b (v ∷ left_of vs all own) (left_of vs all own)) s t ≡ true → (bytes_eq v x ≡ true) ⊎ (is_among vs x ≡ true) → t x ≡ s x
     by ih true p g (inl e) = subst (λ z. t z ≡ s z) (name-true v x e) (value-true (t v) (s v) (and_parts (same (t v) (s v)) (all_same (left_of vs all own) s t) g).0)
     by ih true p g (inr k) = ih (and_parts (same (t v) (s v)) (all_same (left_of vs all own) s t) g).1 k
-    by ih false p g (inl e) = absurd (both_ways (member all v && not (member own v)) p (and_not (member all v) (member own v) (ap (member all) (name-true v x e) ∙ a) (ap (member own) (name-true v x e) ∙ o)))
+    by ih false p g (inl e) = absurd (both_ways (is_among all v && not (is_among own v)) p (and_not (is_among all v) (is_among own v) (ap (is_among all) (name-true v x e) ∙ a) (ap (is_among own) (name-true v x e) ∙ o)))
     by ih false p g (inr k) = ih g k
 
-same_left : (vs all own : List Word) (s t : State) → ((x : Word) → member all x ≡ true → member own x ≡ false → t x ≡ s x) → all_same (left_of vs all own) s t ≡ true
+same_left : (vs all own : List Word) (s t : State) → ((x : Word) → is_among all x ≡ true → is_among own x ≡ false → t x ≡ s x) → all_same (left_of vs all own) s t ≡ true
 same_left [] all own s t h = refl
-same_left (v ∷ vs) all own s t h = by (same_left vs all own s t h) (member all v && not (member own v)) refl
+same_left (v ∷ vs) all own s t h = by (same_left vs all own s t h) (is_among all v && not (is_among own v)) refl
   where
-    by : all_same (left_of vs all own) s t ≡ true → (b : Bool) → (member all v && not (member own v)) ≡ b → all_same (cond b (v ∷ left_of vs all own) (left_of vs all own)) s t ≡ true
+    by : all_same (left_of vs all own) s t ≡ true → (b : Bool) → (is_among all v && not (is_among own v)) ≡ b → all_same (cond b (v ∷ left_of vs all own) (left_of vs all own)) s t ≡ true
     by ih true p =
-        let k = not_and (member all v) (member own v) p in
+        let k = not_and (is_among all v) (is_among own v) p in
         (λ i. eq-value (t v) (s v) (h v k.0 k.1) i && all_same (left_of vs all own) s t) ∙ ih
     by ih false p = ih
 

@@ -1,11 +1,12 @@
 -- The variables that statements assign are those of their effects, and settled statements assign only variables.
 use Rattle.std.proofs.Common.{◌≡◌, List, [], ◌∷◌, ◌++◌, Bool, true, false, cond, ◌||◌, bytes_eq, refl, sym, ◌∙◌, subst, ⊎_elim}
 use Rattle.std.proofs.lemmas.Bool.{or_cases}
+use Rattle.tla_token.specs.Signs.{is_among}
 use Rattle.tla_token.specs.declared.place.Place.{Place}
 use Rattle.tla_expr.specs.Tree.{Word, apply, select, name, strict, Tree, node, Trees, no_trees, tree, Each}
 use Rattle.tla_value.specs.Stops.{Check}
 use Rattle.pcal_tree.specs.Algorithm.{Assignments, no_assignments, assignment, Binds, no_binds, one_of, is, Statement, assign, await, print, assert, skip, branch, either, with, while, goto, macro, call, return, Statements, done, then, mark, Branches, no_branches, or}
-use Rattle.action_builder.specs.Assigned.{Names, member, more, without, head_of, head_first, heads, assigned, assigned_in, assigned_by}
+use Rattle.action_builder.specs.Assigned.{Names, more, without, head_of, head_first, heads, assigned, assigned_in, assigned_by}
 use Rattle.action_builder.specs.laws.Ready.{Apart, OnceOne, Once, OnceSome, IsLeft, LeftFirst, LeftSides, SettledOne, Settled, SettledSome}
 use Rattle.action_builder.proofs.Effects.{Effects, firsts, effect_names, effects_names, ways_names, parts_of, nested, effect_of, effects_of, ways_of}
 use Rattle.action_builder.proofs.Actions as Actions
@@ -55,9 +56,9 @@ mutual
 -- ---- settled statements assign only names of V
 
 -- what holds of each name of a list
-pub each_name : (P : Word → Type 0) (xs : List Word) → Each P xs → (x : Word) → member xs x ≡ true → P x
+pub each_name : (P : Word → Type 0) (xs : List Word) → Each P xs → (x : Word) → is_among xs x ≡ true → P x
 each_name P [] h x m = cc
-each_name P (y ∷ ys) h x m = ⊎_elim (λ e. subst P (name-true y x e) h.0) (λ k. each_name P ys h.1 x k) (or_cases (bytes_eq y x) (member ys x) m)
+each_name P (y ∷ ys) h x m = ⊎_elim (λ e. subst P (name-true y x e) h.0) (λ k. each_name P ys h.1 x k) (or_cases (bytes_eq y x) (is_among ys x) m)
 
 mutual
   head_left : (V : Names) (l : Tree) → IsLeft V l → V (head_of l) ≡ true
@@ -70,7 +71,7 @@ mutual
   first_left V no_trees h = absurd h
   first_left V (tree f us) h = head_left V f h
 
-without_in : (x : Word) (ys : List Word) (y : Word) → member (without x ys) y ≡ true → member ys y ≡ true
+without_in : (x : Word) (ys : List Word) (y : Word) → is_among (without x ys) y ≡ true → is_among ys y ≡ true
 without_in x [] y m = m
 without_in x (z ∷ zs) y m = by (without_in x zs y) (bytes_eq x z) m
   where
@@ -82,21 +83,21 @@ without_in x (z ∷ zs) y m = by (without_in x zs y) (bytes_eq x z) m
     both true b d f e = cc
     both false b d f e = f e
 
-    by : (member (without x zs) y ≡ true → member zs y ≡ true) → (b : Bool) → member (cond b (without x zs) (z ∷ without x zs)) y ≡ true → (bytes_eq z y || member zs y) ≡ true
-    by ih true k = or_second (bytes_eq z y) (member zs y) (ih k)
-    by ih false k = both (bytes_eq z y) (member (without x zs) y) (member zs y) ih k
+    by : (is_among (without x zs) y ≡ true → is_among zs y ≡ true) → (b : Bool) → is_among (cond b (without x zs) (z ∷ without x zs)) y ≡ true → (bytes_eq z y || is_among zs y) ≡ true
+    by ih true k = or_second (bytes_eq z y) (is_among zs y) (ih k)
+    by ih false k = both (bytes_eq z y) (is_among (without x zs) y) (is_among zs y) ih k
 
-heads_in : (V : Names) (ms : Assignments) → LeftSides V ms → (x : Word) → member (heads ms) x ≡ true → V x ≡ true
+heads_in : (V : Names) (ms : Assignments) → LeftSides V ms → (x : Word) → is_among (heads ms) x ≡ true → V x ≡ true
 heads_in V no_assignments h x m = cc
 heads_in V (assignment l e ms) h x m =
     ⊎_elim (λ q. subst (λ y. V y ≡ true) (name-true (head_of l) x q) (head_left V l h.0)) (λ k. heads_in V ms h.1 x (without_in (head_of l) (heads ms) x k))
-    (or_cases (bytes_eq (head_of l) x) (member (without (head_of l) (heads ms)) x) m)
+    (or_cases (bytes_eq (head_of l) x) (is_among (without (head_of l) (heads ms)) x) m)
 
 none_in : {P : Type 0} → false ≡ true → P
 none_in e = cc
 
 mutual
-  pub one_in : (V : Names) (st : Statement) → SettledOne V st → (x : Word) → member (assigned st) x ≡ true → V x ≡ true
+  pub one_in : (V : Names) (st : Statement) → SettledOne V st → (x : Word) → is_among (assigned st) x ≡ true → V x ≡ true
   one_in V (assign ms) h x m = heads_in V ms h x m
   one_in V (branch e a b) h x m = ⊎_elim (all_in V a h.0 x) (all_in V b h.1 x) (append_cases (assigned_in a) (assigned_in b) x m)
   one_in V (either bs) h x m = some_in V bs h x m
@@ -107,12 +108,12 @@ mutual
   one_in V skip h x m = none_in m
   one_in V _ h x m = absurd h
 
-  pub all_in : (V : Names) (ss : Statements) → Settled V ss → (x : Word) → member (assigned_in ss) x ≡ true → V x ≡ true
+  pub all_in : (V : Names) (ss : Statements) → Settled V ss → (x : Word) → is_among (assigned_in ss) x ≡ true → V x ≡ true
   all_in V done h x m = none_in m
   all_in V (then at st rest) h x m = ⊎_elim (one_in V st h.0 x) (all_in V rest h.1 x) (append_cases (assigned st) (assigned_in rest) x m)
   all_in V (mark l k rest) h x m = absurd h
 
-  pub some_in : (V : Names) (bs : Branches) → SettledSome V bs → (x : Word) → member (assigned_by bs) x ≡ true → V x ≡ true
+  pub some_in : (V : Names) (bs : Branches) → SettledSome V bs → (x : Word) → is_among (assigned_by bs) x ≡ true → V x ≡ true
   some_in V no_branches h x m = none_in m
   some_in V (or b bs) h x m = ⊎_elim (all_in V b h.0 x) (some_in V bs h.1 x) (append_cases (assigned_in b) (assigned_by bs) x m)
 

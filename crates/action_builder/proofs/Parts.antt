@@ -1,11 +1,12 @@
 -- The parts of an assignment in the order written, and variable by variable.
 use Rattle.std.proofs.Common.{◌≡◌, List, [], ◌∷◌, Bool, true, false, cond, ◌||◌, bytes_eq, refl, sym, ◌∙◌, ap, subst, ⊎_elim, Ok, Err}
 use Rattle.std.proofs.lemmas.Bool.{cases_Bool, both_ways}
+use Rattle.tla_token.specs.Signs.{is_among}
 use Rattle.tla_expr.specs.Tree.{Word}
 use Rattle.tla_value.specs.Value.{Value, Trouble, Outcome, ◌>>=◌, IsBad}
 use Rattle.pcal_tree.specs.Scope.{Scope, State, put}
 use Rattle.action_builder.proofs.Equal.{name-true, eq-name}
-use Rattle.action_builder.specs.Assigned.{member, without}
+use Rattle.action_builder.specs.Assigned.{without}
 use Rattle.action_builder.proofs.Effects.{Change, Parts, no_parts, part, firsts, Changes, no_changes, change, evaluated, applied, moved}
 use Rattle.action_builder.proofs.Actions.{changes_for, folded, value_for}
 use Rattle.action_builder.proofs.Sets.{or_none}
@@ -128,26 +129,26 @@ moved_bad ps c s k h = by (evaluated ps c s) refl h
 
 -- ---- no part
 
-without_other : (x y : Word) (zs : List Word) → bytes_eq x y ≡ false → member (without x zs) y ≡ member zs y
+without_other : (x y : Word) (zs : List Word) → bytes_eq x y ≡ false → is_among (without x zs) y ≡ is_among zs y
 without_other x y [] e = refl
 without_other x y (z ∷ zs) e = by (without_other x y zs e) (bytes_eq x z) refl
   where
-    by : member (without x zs) y ≡ member zs y → (b : Bool) → bytes_eq x z ≡ b → member (cond (bytes_eq x z) (without x zs) (z ∷ without x zs)) y ≡ (bytes_eq z y || member zs y)
+    by : is_among (without x zs) y ≡ is_among zs y → (b : Bool) → bytes_eq x z ≡ b → is_among (cond (bytes_eq x z) (without x zs) (z ∷ without x zs)) y ≡ (bytes_eq z y || is_among zs y)
     by ih true p =
-        ap (λ b. member (cond b (without x zs) (z ∷ without x zs)) y) p ∙ ih
-        ∙ sym (ap (λ b. b || member zs y) (ap (λ w. bytes_eq w y) (sym (name-true x z p)) ∙ e))
-    by ih false p = ap (λ b. member (cond b (without x zs) (z ∷ without x zs)) y) p ∙ ap (λ b. bytes_eq z y || b) ih
+        ap (λ b. is_among (cond b (without x zs) (z ∷ without x zs)) y) p ∙ ih
+        ∙ sym (ap (λ b. b || is_among zs y) (ap (λ w. bytes_eq w y) (sym (name-true x z p)) ∙ e))
+    by ih false p = ap (λ b. is_among (cond b (without x zs) (z ∷ without x zs)) y) p ∙ ap (λ b. bytes_eq z y || b) ih
 
-none_for : (ps : Parts) (c : Scope) (s : State) (y : Word) → member (firsts ps) y ≡ false → changes_for y ps c s ≡ Ok []
+none_for : (ps : Parts) (c : Scope) (s : State) (y : Word) → is_among (firsts ps) y ≡ false → changes_for y ps c s ≡ Ok []
 none_for no_parts c s y h = refl
 none_for (part x e ps) c s y h =
-    let p = or_none (bytes_eq x y) (member (without x (firsts ps)) y) h in
+    let p = or_none (bytes_eq x y) (is_among (without x (firsts ps)) y) h in
     ap (λ b. cond b ((e c s) >>= (λ f. (changes_for y ps c s) >>= (λ fs. Ok (f ∷ fs)))) (changes_for y ps c s)) p.0
     ∙ none_for ps c s y (sym (without_other x y (firsts ps) p.0) ∙ p.1)
 
-pub value_kept : (ps : Parts) (c : Scope) (s : State) (y : Word) → member (firsts ps) y ≡ false → value_for y ps c s ≡ Ok (s y)
+pub value_kept : (ps : Parts) (c : Scope) (s : State) (y : Word) → is_among (firsts ps) y ≡ false → value_for y ps c s ≡ Ok (s y)
 value_kept ps c s y h = ap (λ o. o >>= (λ fs. folded fs (s y))) (none_for ps c s y h)
 
 -- a variable whose item faults is one of those assigned
-pub bad_assigned : (ps : Parts) (c : Scope) (s : State) (y : Word) → IsBad (value_for y ps c s) → member (firsts ps) y ≡ true
-bad_assigned ps c s y h = ⊎_elim (λ a. a) (λ b. absurd (subst IsBad (value_kept ps c s y b) h)) (cases_Bool (member (firsts ps) y))
+pub bad_assigned : (ps : Parts) (c : Scope) (s : State) (y : Word) → IsBad (value_for y ps c s) → is_among (firsts ps) y ≡ true
+bad_assigned ps c s y h = ⊎_elim (λ a. a) (λ b. absurd (subst IsBad (value_kept ps c s y b) h)) (cases_Bool (is_among (firsts ps) y))

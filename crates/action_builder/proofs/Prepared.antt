@@ -12,7 +12,7 @@ use Rattle.pcal_tree.specs.Scope.{State, deeper, Scope, reach_in}
 use Rattle.pcal_tree.specs.Program.{read_at}
 use Rattle.pcal_tree.specs.Run.{Has, Follow, Rules, unlabelled, run}
 use Rattle.pcal_tree.specs.Expand.{graft_all}
-use Rattle.pcal_tree.specs.laws.Expansion.{Any, Clean, AnyPlace}
+use Rattle.pcal_tree.specs.laws.Expansion.{Clean, AnyPlace}
 use Rattle.pcal_tree.proofs.GraftRuns.{graft_runs}
 use Rattle.pcal_tree.proofs.ExpandRuns.{through_meets}
 use Rattle.action_builder.specs.laws.Settling.{to_end, Close}
@@ -21,6 +21,7 @@ use Rattle.action_builder.specs.Settled.{settled}
 use Rattle.action_builder.specs.laws.LabelSteps.{LabelStep, prepared_of, Prepares, Stepped}
 use Rattle.tla_value.proofs.Outcomes.{then_then}
 use Rattle.action_builder.proofs.Settle.{settle_in}
+use Rattle.tla_value.specs.laws.FreeNames.{Any}
 
 -- the localised statements have the courses of the statements
 pub localised : (M : Rules) (self : Word) (own : Word → Bool) (here : Word) (ss : Statements) (sc : Scope) → AnyPlace sc → Clean M.check (owned self own) Any ss → (K : Follow) → run M here (graft_all (owned self own) ss) sc K ≡ run M here ss (own_scope M.check self own sc) K

@@ -1,7 +1,7 @@
 -- The assignments written for a routine's jumps, calls and returns do what the rules of a step say.
-use Rattle.std.proofs.Common.{◌≡◌, List, [], ◌∷◌, Bool, true, Option, Some, None, refl, sym, ◌∙◌, ap, subst}
+use Rattle.std.proofs.Common.{◌≡◌, Bool, true, Option, Some, None, refl, sym, ◌∙◌, ap, subst}
 use Rattle.tla_token.specs.declared.place.Place.{Place}
-use Rattle.tla_expr.specs.Tree.{Word, Trees, no_trees, tree}
+use Rattle.tla_expr.specs.Tree.{Word, Trees}
 use Rattle.tla_value.specs.Stops.{plain}
 use Rattle.tla_value.specs.Meaning.{evals, part_values}
 use Rattle.tla_value.specs.Related.{In}
@@ -13,19 +13,13 @@ use Rattle.pcal_tree.specs.Program.{Program, Actor, index}
 use Rattle.pcal_tree.specs.Calls.{label_value, label_name, jumped, returned, entered_at, finished, named}
 use Rattle.action_builder.specs.laws.Settling.{to_end, Close, Outcomes, DoesAsRules}
 use Rattle.action_builder.specs.laws.Scopes.{Inner}
-use Rattle.action_builder.specs.laws.Jumps.{AsMany, base_rules, as_many, fitting, callable, RoutinesStand, RoutinesStandWithin}
+use Rattle.action_builder.specs.laws.Jumps.{base_rules, fitting, callable, RoutinesStand, RoutinesStandWithin}
 use Rattle.action_builder.specs.Jumps.{InitialValues, JumpPlaces, return_assignments, return_written, call_to, written_jumps}
 use Rattle.action_builder.proofs.Settle.{close_after, inner_bind}
 use Rattle.action_builder.proofs.Jumps.{after_end, pc_law, return_law}
 use Rattle.action_builder.proofs.Call.{alike_of, close_finished, call_law}
 use Rattle.action_builder.proofs.AnyPlace.{set_same, entered_same, returned_same}
-use Rattle.pcal_tree.specs.Variables.{written_all, pc}
-
-as_many_is : (xs : List Word) (ts : Trees) → as_many xs ts ≡ true → AsMany xs ts
-as_many_is [] no_trees h = tt
-as_many_is [] (tree t ts) h = cc
-as_many_is (x ∷ xs) no_trees h = cc
-as_many_is (x ∷ xs) (tree t ts) h = as_many_is xs ts h
+use Rattle.pcal_tree.specs.Variables.{pc}
 
 close_trans : (P Q R : Outcomes) → Close P Q → Close Q R → Close P R
 close_trans P Q R h k = record {
@@ -38,7 +32,7 @@ call_does : (P : Program) (v : Actor) (u : Routine) (I : InitialValues) (sc : Sc
 call_does P v u I sc q k c at p ts l None e h s = cc
 call_does P v u I sc q k c at p ts l (Some x) e h s =
     close_trans _ _ _
-    (call_law (base_rules P v u) P v x c ts (label_name P u l) (I.place x) (I.initial x) sc refl q (k.called p.word x e) (as_many_is (written_all P x x.params) ts h) (k.initials p.word x e c) s)
+    (call_law (base_rules P v u) P v x c ts (label_name P u l) (I.place x) (I.initial x) sc refl q (k.called p.word x e) h (k.initials p.word x e c) s)
     (close_after (part_values (evals P.check ts) (sc.env s)) _ _ (λ vs. close_finished _ _ (alike_of _ _ (entered_same P q v c at (label_value P u l) x (places_of ts sc) vs s))))
 
 pub rules_do : (P : Program) (v : Actor) (u : Routine) (I : InitialValues) (places : JumpPlaces) (f : Word → Bool) (sc : Scope) → P.check ≡ plain → RoutinesStandWithin P v u I f sc → DoesAsRules (base_rules P v u) (written_jumps P u I places) (Inner f sc) (In f) (callable P)

@@ -1,12 +1,13 @@
 -- Sets of names, and the state between two states.
 use Rattle.std.proofs.Common.{◌≡◌, List, [], ◌∷◌, ◌++◌, Bool, true, false, cond, ◌||◌, ◌&&◌, bytes_eq, ◌⊎◌, refl, sym, ◌∙◌, ap, subst, ⊎_elim}
 use Rattle.std.proofs.lemmas.Bool.{cases_Bool, or_cases, both_ways, and_parts}
+use Rattle.tla_token.specs.Signs.{is_among}
 use Rattle.tla_expr.specs.Tree.{Word}
 use Rattle.tla_value.specs.Value.{Value}
 use Rattle.tla_value.specs.Order.{same}
 use Rattle.action_builder.proofs.Equal.{name-true, eq-name, value-true, eq-value}
 use Rattle.pcal_tree.specs.Scope.{State, put}
-use Rattle.action_builder.specs.Assigned.{Names, member, more}
+use Rattle.action_builder.specs.Assigned.{Names, more}
 use Rattle.action_builder.specs.laws.States.{mid}
 use Rattle.action_builder.proofs.Actions.{minus, all_same}
 
@@ -24,9 +25,9 @@ or_none false b e = (refl, e)
 pub or_both : (a b : Bool) → a ≡ false → b ≡ false → (a || b) ≡ false
 or_both a b e f = ap (λ x. x || b) e ∙ f
 
-pub member_append : (xs ys : List Word) (x : Word) → member (xs ++ ys) x ≡ (member xs x || member ys x)
+pub member_append : (xs ys : List Word) (x : Word) → is_among (xs ++ ys) x ≡ (is_among xs x || is_among ys x)
 member_append [] ys x = refl
-member_append (y ∷ xs) ys x = ap (λ b. bytes_eq y x || b) (member_append xs ys x) ∙ or_assoc (bytes_eq y x) (member xs x) (member ys x)
+member_append (y ∷ xs) ys x = ap (λ b. bytes_eq y x || b) (member_append xs ys x) ∙ or_assoc (bytes_eq y x) (is_among xs x) (is_among ys x)
   where
     or_assoc : (a b c : Bool) → (a || (b || c)) ≡ ((a || b) || c)
     or_assoc true b c = refl
@@ -40,7 +41,7 @@ more_append A xs ys = λ i x. at x i
     or_assoc false b c = refl
 
     at : (x : Word) → more A (xs ++ ys) x ≡ more (more A xs) ys x
-    at x = ap (λ b. A x || b) (member_append xs ys x) ∙ or_assoc (A x) (member xs x) (member ys x)
+    at x = ap (λ b. A x || b) (member_append xs ys x) ∙ or_assoc (A x) (is_among xs x) (is_among ys x)
 
 pub mid_in : (s t : State) (A : Names) (x : Word) → A x ≡ true → mid s t A x ≡ t x
 mid_in s t A x e = ap (λ b. cond b (t x) (s x)) e
@@ -87,29 +88,29 @@ put_mid s t A x v e = is_mid s t (put x v (mid s t A)) (more A (x ∷ [])) insid
         put_other y (or_none (bytes_eq x y) false p.1).0 ∙ mid_out s t A y p.0
 
 -- all names of a list that are not in another are the same
-pub minus_same : (xs ys : List Word) (s t : State) → all_same (minus xs ys) s t ≡ true → (x : Word) → member xs x ≡ true → member ys x ≡ false → t x ≡ s x
+pub minus_same : (xs ys : List Word) (s t : State) → all_same (minus xs ys) s t ≡ true → (x : Word) → is_among xs x ≡ true → is_among ys x ≡ false → t x ≡ s x
 minus_same [] ys s t h x e f = cc
-minus_same (y ∷ xs) ys s t h x e f = by (λ g m. minus_same xs ys s t g x m f) (member ys y) refl
+minus_same (y ∷ xs) ys s t h x e f = by (λ g m. minus_same xs ys s t g x m f) (is_among ys y) refl
   where
-    rest : (all_same (minus xs ys) s t ≡ true → member xs x ≡ true → t x ≡ s x) → all_same (minus xs ys) s t ≡ true → bytes_eq y x ≡ false → t x ≡ s x
-    rest ih g q = ih g (⊎_elim (λ a. absurd (both_ways (bytes_eq y x) q a)) (λ b. b) (or_cases (bytes_eq y x) (member xs x) e))
+    rest : (all_same (minus xs ys) s t ≡ true → is_among xs x ≡ true → t x ≡ s x) → all_same (minus xs ys) s t ≡ true → bytes_eq y x ≡ false → t x ≡ s x
+    rest ih g q = ih g (⊎_elim (λ a. absurd (both_ways (bytes_eq y x) q a)) (λ b. b) (or_cases (bytes_eq y x) (is_among xs x) e))
 
-    by : (all_same (minus xs ys) s t ≡ true → member xs x ≡ true → t x ≡ s x) → (b : Bool) → member ys y ≡ b → t x ≡ s x
+    by : (all_same (minus xs ys) s t ≡ true → is_among xs x ≡ true → t x ≡ s x) → (b : Bool) → is_among ys y ≡ b → t x ≡ s x
     by ih true p =
-        let other : bytes_eq y x ≡ false = ⊎_elim (λ a. absurd (both_ways (member ys x) f (subst (λ z. member ys z ≡ true) (name-true y x a) p))) (λ b. b) (cases_Bool (bytes_eq y x)) in
+        let other : bytes_eq y x ≡ false = ⊎_elim (λ a. absurd (both_ways (is_among ys x) f (subst (λ z. is_among ys z ≡ true) (name-true y x a) p))) (λ b. b) (cases_Bool (bytes_eq y x)) in
         rest ih (ap (λ b. all_same (cond b (minus xs ys) (y ∷ minus xs ys)) s t) (sym p) ∙ h) other
     by ih false p =
         let g = ap (λ b. all_same (cond b (minus xs ys) (y ∷ minus xs ys)) s t) (sym p) ∙ h in
         let parts = and_parts (same (t y) (s y)) (all_same (minus xs ys) s t) g in
         ⊎_elim (λ a. subst (λ z. t z ≡ s z) (name-true y x a) (value-true (t y) (s y) parts.0)) (λ b. rest ih parts.1 b) (cases_Bool (bytes_eq y x))
 
-pub same_minus : (xs ys : List Word) (s t : State) → ((x : Word) → member xs x ≡ true → member ys x ≡ false → t x ≡ s x) → all_same (minus xs ys) s t ≡ true
+pub same_minus : (xs ys : List Word) (s t : State) → ((x : Word) → is_among xs x ≡ true → is_among ys x ≡ false → t x ≡ s x) → all_same (minus xs ys) s t ≡ true
 same_minus [] ys s t h = refl
-same_minus (y ∷ xs) ys s t h = by (same_minus xs ys s t (λ x e f. h x (or_right (bytes_eq y x) (member xs x) e) f)) (member ys y) refl
+same_minus (y ∷ xs) ys s t h = by (same_minus xs ys s t (λ x e f. h x (or_right (bytes_eq y x) (is_among xs x) e) f)) (is_among ys y) refl
   where
-    by : all_same (minus xs ys) s t ≡ true → (b : Bool) → member ys y ≡ b → all_same (cond (member ys y) (minus xs ys) (y ∷ minus xs ys)) s t ≡ true
+    by : all_same (minus xs ys) s t ≡ true → (b : Bool) → is_among ys y ≡ b → all_same (cond (is_among ys y) (minus xs ys) (y ∷ minus xs ys)) s t ≡ true
     by rest true p = ap (λ b. all_same (cond b (minus xs ys) (y ∷ minus xs ys)) s t) p ∙ rest
     by rest false p =
         ap (λ b. all_same (cond b (minus xs ys) (y ∷ minus xs ys)) s t) p
-        ∙ ap (λ b. b && all_same (minus xs ys) s t) (eq-value (t y) (s y) (h y (or_left (bytes_eq y y) (member xs y) (eq-name y y refl)) p))
+        ∙ ap (λ b. b && all_same (minus xs ys) s t) (eq-value (t y) (s y) (h y (or_left (bytes_eq y y) (is_among xs y) (eq-name y y refl)) p))
         ∙ rest

@@ -1,6 +1,7 @@
 -- The written items have the truth of what their statements mean.
 use Rattle.std.proofs.Common.{◌≡◌, List, [], ◌∷◌, Bool, true, false, cond, ◌||◌, bytes_eq, codes, Some, None, refl, sym, ◌∙◌, ap, subst, ⊎_elim, Ok, Err}
 use Rattle.std.proofs.lemmas.Bool.{or_cases}
+use Rattle.tla_token.specs.Signs.{is_among}
 use Rattle.tla_token.specs.declared.place.Place.{Place}
 use Rattle.tla_expr.specs.Tree.{Word, Tree, no_trees, root_place}
 use Rattle.tla_value.specs.Value.{Value, Outcome, ◌>>=◌, and_then}
@@ -14,7 +15,7 @@ use Rattle.module_text.specs.ActionTruth.{Verdict, is_value, items_hold, some_br
 use Rattle.module_text.specs.ActionTruth as Module
 use Rattle.pcal_tree.specs.Algorithm.{Assignments, Binds, no_binds, one_of, is, Statement, assign, await, print, assert, skip, branch, either, with, Statements, done, then, mark, Branches, no_branches, or}
 use Rattle.pcal_tree.specs.Scope.{State, Scope, bound, place_of}
-use Rattle.action_builder.specs.Assigned.{Names, member, more, heads, assigned, assigned_in, assigned_by}
+use Rattle.action_builder.specs.Assigned.{Names, more, heads, assigned, assigned_in, assigned_by}
 use Rattle.action_builder.proofs.Names.{append_none, heads_same, one_names, all_names, some_names, one_in, all_in, some_in}
 use Rattle.action_builder.specs.laws.States.{mid}
 use Rattle.action_builder.proofs.Effects.{effect_names, effects_names, ways_names, Effects, parts_of, effect_of, effects_of, ways_of, nested}
@@ -29,7 +30,7 @@ use Rattle.action_builder.proofs.Main.{and_then_assoc, Within}
 use Rattle.action_builder.proofs.Main as Main
 use Rattle.action_builder.proofs.Except.{value_law}
 
-stands_bound : (U : Readable) (vs : List Word) (sc : Scope) (env : State → State → Env) (x : Word) (v : Value) → member vs x ≡ false → Stands U vs sc env → Stands U vs (bound x v sc) (bound_env x v env)
+stands_bound : (U : Readable) (vs : List Word) (sc : Scope) (env : State → State → Env) (x : Word) (v : Value) → is_among vs x ≡ false → Stands U vs sc env → Stands U vs (bound x v sc) (bound_env x v env)
 stands_bound U vs sc env x v out k = record { paired = paired_bound U vs sc env x v out k.paired; scoped = scoped_bound vs sc x v out k.scoped }
 
 -- ---- lists of items
@@ -69,23 +70,23 @@ match_lists_same vs all own all' own' p q s t e at xs is' sc w h =
 
 -- ---- assignments
 
-match_setting : (U : Readable) (vs : List Word) (A : Names) (ms : Assignments) → FineAssignments U vs A ms → (sc : Scope) (env : State → State → Env) → Stands U vs sc env → IsWithin A (member vs) → (s t : State) (y : Word) → member (heads ms) y ≡ true → member vs y ≡ true → Matches ((eval plain (primed A (side_of y (own y ms))) (env s t)).value >>= (λ v. Ok (is_value (values_of vs t y) v))) ((value_for y (parts_of plain ms) sc (mid s t A)) >>= (λ v. Ok (same (t y) v)))
+match_setting : (U : Readable) (vs : List Word) (A : Names) (ms : Assignments) → FineAssignments U vs A ms → (sc : Scope) (env : State → State → Env) → Stands U vs sc env → IsWithin A (is_among vs) → (s t : State) (y : Word) → is_among (heads ms) y ≡ true → is_among vs y ≡ true → Matches ((eval plain (primed A (side_of y (own y ms))) (env s t)).value >>= (λ v. Ok (is_value (values_of vs t y) v))) ((value_for y (parts_of plain ms) sc (mid s t A)) >>= (λ v. Ok (same (t y) v)))
 match_setting U vs A ms f sc env k w s t y m in_vs =
     let e : Tree = side_of y (own y ms) in
     subst (λ o. Matches (o.value >>= (λ v. Ok (is_value (values_of vs t y) v))) ((value_for y (parts_of plain ms) sc (mid s t A)) >>= (λ v. Ok (same (t y) v)))) (sym (exp_law U vs A sc env k.paired w (side_of y (own y ms)) (side_fine U A y (own y ms) (f.readable y m) (own_fine U A y ms f.sides)) s t))
-    (subst (λ z. Matches ((eval plain (side_of y (own y ms)) (sc.env (mid s t A))).value >>= (λ v. Ok (is_value (values_of vs t y) v))) (z >>= (λ v. Ok (same (t y) v)))) (value_law (member vs) y ms f.left sc k.scoped.part (mid s t A) (λ at. k.scoped.reads y in_vs at (mid s t A)))
+    (subst (λ z. Matches ((eval plain (side_of y (own y ms)) (sc.env (mid s t A))).value >>= (λ v. Ok (is_value (values_of vs t y) v))) (z >>= (λ v. Ok (same (t y) v)))) (value_law (is_among vs) y ms f.left sc k.scoped.part (mid s t A) (λ at. k.scoped.reads y in_vs at (mid s t A)))
     (match_value (eval plain (side_of y (own y ms)) (sc.env (mid s t A))).value (λ v. Ok (is_value (values_of vs t y) v)) (λ v. Ok (same (t y) v)) (λ v. ap (λ b. is_value (cond b (Some (t y)) None) v) in_vs)))
 
-match_sets : (U : Readable) (vs : List Word) (A : Names) (ms : Assignments) → FineAssignments U vs A ms → (sc : Scope) (env : State → State → Env) → Stands U vs sc env → IsWithin A (member vs) → (s t : State) (ys : List Word) → Within ys (heads ms) → Within ys vs → (rest : Items) (r : Outcome Bool) → Matches (holds_on vs env rest s t) r → Matches (holds_on vs env (settings_of A ms ys rest) s t) (and_then (hold_sets (Action.settings_of A (parts_of plain ms) ys) sc s t) r)
+match_sets : (U : Readable) (vs : List Word) (A : Names) (ms : Assignments) → FineAssignments U vs A ms → (sc : Scope) (env : State → State → Env) → Stands U vs sc env → IsWithin A (is_among vs) → (s t : State) (ys : List Word) → Within ys (heads ms) → Within ys vs → (rest : Items) (r : Outcome Bool) → Matches (holds_on vs env rest s t) r → Matches (holds_on vs env (settings_of A ms ys rest) s t) (and_then (hold_sets (Action.settings_of A (parts_of plain ms) ys) sc s t) r)
 match_sets U vs A ms f sc env k w s t [] i j rest r h = h
 match_sets U vs A ms f sc env k w s t (y ∷ ys) i j rest r h =
     subst (Matches (holds_on vs env (settings_of A ms (y ∷ ys) rest) s t)) (sym (and_then_assoc ((value_for y (parts_of plain ms) sc (mid s t A)) >>= (λ v. Ok (same (t y) v))) (hold_sets (Action.settings_of A (parts_of plain ms) ys) sc s t) r))
     (match_and _ (holds_on vs env (settings_of A ms ys rest) s t) _ (and_then (hold_sets (Action.settings_of A (parts_of plain ms) ys) sc s t) r)
     (match_setting U vs A ms f sc env k w s t y (i y here) (j y here))
-    (match_sets U vs A ms f sc env k w s t ys (λ x m. i x (or_right (bytes_eq y x) (member ys x) m)) (λ x m. j x (or_right (bytes_eq y x) (member ys x) m)) rest r h))
+    (match_sets U vs A ms f sc env k w s t ys (λ x m. i x (or_right (bytes_eq y x) (is_among ys x) m)) (λ x m. j x (or_right (bytes_eq y x) (is_among ys x) m)) rest r h))
   where
-    here : (bytes_eq y y || member ys y) ≡ true
-    here = or_left (bytes_eq y y) (member ys y) (eq-name y y refl)
+    here : (bytes_eq y y || is_among ys y) ≡ true
+    here = or_left (bytes_eq y y) (is_among ys y) (eq-name y y refl)
 
 -- ---- `with`
 
@@ -93,7 +94,7 @@ match_sets U vs A ms f sc env k w s t (y ∷ ys) i j rest r h =
 abbrev Bodies : Readable → List Word → Names → State → State → Items → Effects → Type 0
 Bodies U vs A s t body es = (sc : Scope) (env : State → State → Env) → Stands U vs sc env → Matches (holds_on vs env body s t) (hold (build A es) sc s t)
 
-match_nested : (U : Readable) (vs : List Word) (A : Names) → IsWithin A (member vs) → (s t : State) (bs : Binds) → FineBinds U vs A bs → (body : Items) (es : Effects) → Bodies U vs A s t body es → Bodies U vs A s t (nested_items A bs body) (nested plain bs es)
+match_nested : (U : Readable) (vs : List Word) (A : Names) → IsWithin A (is_among vs) → (s t : State) (bs : Binds) → FineBinds U vs A bs → (body : Items) (es : Effects) → Bodies U vs A s t body es → Bodies U vs A s t (nested_items A bs body) (nested plain bs es)
 match_nested U vs A w s t no_binds f body es h sc env k = h sc env k
 match_nested U vs A w s t (one_of x e bs) f body es h sc env k = match_true _ _ (
     subst (λ o. Matches ((o.value >>= members_at (root_place (primed A e))) >>= (λ us. Module.some_member us (λ u. holds_on vs (bound_env x.word u env) (nested_items A bs body) s t))) (holds (Action.some x.word (Action.primed A (Rattle.pcal_tree.specs.Scope.members plain e)) (build A (nested plain bs es))) sc s t)) (sym (exp_law U vs A sc env k.paired w e f.0 s t))
@@ -106,18 +107,18 @@ match_nested U vs A w s t (is x e bs) f body es h sc env k = match_true _ _ (
 
 -- ---- statements
 
-within_more : (A : Names) (xs vs : List Word) → IsWithin A (member vs) → Within xs vs → IsWithin (more A xs) (member vs)
-within_more A xs vs w k x e = ⊎_elim (λ a. w x a) (λ b. k x b) (or_cases (A x) (member xs x) e)
+within_more : (A : Names) (xs vs : List Word) → IsWithin A (is_among vs) → Within xs vs → IsWithin (more A xs) (is_among vs)
+within_more A xs vs w k x e = ⊎_elim (λ a. w x a) (λ b. k x b) (or_cases (A x) (is_among xs x) e)
 
 match_cond : (b : Bool) (p q : Verdict) (v u : Outcome Bool) → Matches p v → Matches q u → Matches (cond b p q) (cond b v u)
 match_cond true p q v u m n = m
 match_cond false p q v u m n = n
 
 mutual
-  match_item : (U : Readable) (vs : List Word) (A : Names) (at : Place) (st : Statement) → SettledOne (member vs) st → FineOne U vs A st → IsWithin A (member vs) → (sc : Scope) (env : State → State → Env) → Stands U vs sc env → (s t : State) (rest : Items) (r : Outcome Bool) → Matches (holds_on vs env rest s t) r → Matches (holds_on vs env (write_one vs A at st rest) s t) (and_then (holds (build_one A (effect_of plain at st)) sc s t) r)
+  match_item : (U : Readable) (vs : List Word) (A : Names) (at : Place) (st : Statement) → SettledOne (is_among vs) st → FineOne U vs A st → IsWithin A (is_among vs) → (sc : Scope) (env : State → State → Env) → Stands U vs sc env → (s t : State) (rest : Items) (r : Outcome Bool) → Matches (holds_on vs env rest s t) r → Matches (holds_on vs env (write_one vs A at st rest) s t) (and_then (holds (build_one A (effect_of plain at st)) sc s t) r)
   match_item U vs A at (assign ms) z f w sc env k s t rest r h =
       subst (λ xs. Matches (holds_on vs env (settings_of A ms (heads ms) rest) s t) (and_then (hold_sets (Action.settings_of A (parts_of plain ms) xs) sc s t) r)) (sym (heads_same plain ms))
-      (match_sets U vs A ms f sc env k w s t (heads ms) (λ x m. m) (one_in (member vs) (assign ms) z) rest r h)
+      (match_sets U vs A ms f sc env k w s t (heads ms) (λ x m. m) (one_in (is_among vs) (assign ms) z) rest r h)
   match_item U vs A at (await e) z f w sc env k s t rest r h = match_and _ (holds_on vs env rest s t) _ r (
       subst (λ o. Matches (o.value >>= truth_at (root_place (primed A e))) (holds (build_one A (effect_of plain at (await e))) sc s t)) (sym (exp_law U vs A sc env k.paired w e f s t))
       (match_told (eval plain e (sc.env (mid s t A))).value (root_place (primed A e)) (place_of e sc))) h
@@ -136,14 +137,14 @@ mutual
       match_and _ (holds_on vs env rest s t) _ r (
       subst (λ o. Matches ((o.value >>= truth_at (root_place (primed A e))) >>= (λ b. cond b (holds_on vs env (branch_items vs at (write vs A x) ys xs) s t) (holds_on vs env (branch_items vs at (write vs A y) xs ys) s t))) (holds (build_one A (effect_of plain at (branch e x y))) sc s t)) (sym (exp_law U vs A sc env k.paired w e f.0 s t))
       (match_test (eval plain e (sc.env (mid s t A))).value (root_place (primed A e)) (place_of e sc) _ (λ b. cond b (hold (ended (build A (effects_of plain x)) (Action.unchanged (minus (effects_names (effects_of plain y)) (effects_names (effects_of plain x))))) sc s t) (hold (ended (build A (effects_of plain y)) (Action.unchanged (minus (effects_names (effects_of plain x)) (effects_names (effects_of plain y))))) sc s t)) (λ b. match_cond b _ _ _ _
-      (match_lists_same vs ys xs _ _ (all_names plain y) (all_names plain x) s t (env s t) at (write vs A x) (build A (effects_of plain x)) sc (all_in (member vs) y z.1) (match_all U vs A x z.0 f.1 w sc env k s t))
-      (match_lists_same vs xs ys _ _ (all_names plain x) (all_names plain y) s t (env s t) at (write vs A y) (build A (effects_of plain y)) sc (all_in (member vs) x z.0) (match_all U vs A y z.1 f.2 w sc env k s t))))) h
+      (match_lists_same vs ys xs _ _ (all_names plain y) (all_names plain x) s t (env s t) at (write vs A x) (build A (effects_of plain x)) sc (all_in (is_among vs) y z.1) (match_all U vs A x z.0 f.1 w sc env k s t))
+      (match_lists_same vs xs ys _ _ (all_names plain x) (all_names plain y) s t (env s t) at (write vs A y) (build A (effects_of plain y)) sc (all_in (is_among vs) x z.0) (match_all U vs A y z.1 f.2 w sc env k s t))))) h
   match_item U vs A at (either bs) z f w sc env k s t rest r h =
-      match_and _ (holds_on vs env rest s t) _ r (match_lists U vs A at (assigned_by bs) (ways_names (ways_of plain bs)) (some_names plain bs) bs z f (some_in (member vs) bs z) w sc env k s t) h
+      match_and _ (holds_on vs env rest s t) _ r (match_lists U vs A at (assigned_by bs) (ways_names (ways_of plain bs)) (some_names plain bs) bs z f (some_in (is_among vs) bs z) w sc env k s t) h
   match_item U vs A at (with no_binds b) z f w sc env k s t rest r h =
       match_and _ (holds_on vs env rest s t) _ r (
       match_or _ (Ok false) _ (Ok false)
-      (match_lists_same vs (assigned_in b) (assigned_in b) _ _ (append_none (effects_names (effects_of plain b)) ∙ all_names plain b) (all_names plain b) s t (env s t) at (write vs A b) (build A (effects_of plain b)) sc (all_in (member vs) b z) (match_all U vs A b z f.1 w sc env k s t)) refl) h
+      (match_lists_same vs (assigned_in b) (assigned_in b) _ _ (append_none (effects_names (effects_of plain b)) ∙ all_names plain b) (all_names plain b) s t (env s t) at (write vs A b) (build A (effects_of plain b)) sc (all_in (is_among vs) b z) (match_all U vs A b z f.1 w sc env k s t)) refl) h
   match_item U vs A at (with (one_of x e bs) b) z f w sc env k s t rest r h = match_and _ (holds_on vs env rest s t) _ r (
       subst (λ o. Matches ((o.value >>= members_at (root_place (primed A e))) >>= (λ us. Module.some_member us (λ u. holds_on vs (bound_env x.word u env) (nested_items A bs (filled at (write vs A b))) s t))) (holds (build_one A (effect_of plain at (with (one_of x e bs) b))) sc s t)) (sym (exp_law U vs A sc env k.paired w e f.0.0 s t))
       (match_some (eval plain e (sc.env (mid s t A))).value (root_place (primed A e)) (place_of e sc) (λ u. holds_on vs (bound_env x.word u env) (nested_items A bs (filled at (write vs A b))) s t) (λ u. hold (build A (nested plain bs (effects_of plain b))) (bound x.word u sc) s t)
@@ -154,15 +155,15 @@ mutual
       (λ u. match_nested U vs A w s t bs f.0.2 (filled at (write vs A b)) (effects_of plain b) (λ sc' env' k'. match_filled _ _ _ at (write vs A b) _ (match_all U vs A b z f.1 w sc' env' k' s t)) (bound x.word u sc) (bound_env x.word u env) (stands_bound U vs sc env x.word u f.0.1 k)))) h
   match_item U vs A at _ z f w sc env k s t rest r h = absurd f
 
-  pub match_all : (U : Readable) (vs : List Word) (A : Names) (ss : Statements) → Settled (member vs) ss → Fine U vs A ss → IsWithin A (member vs) → (sc : Scope) (env : State → State → Env) → Stands U vs sc env → (s t : State) → Matches (holds_on vs env (write vs A ss) s t) (hold (build A (effects_of plain ss)) sc s t)
+  pub match_all : (U : Readable) (vs : List Word) (A : Names) (ss : Statements) → Settled (is_among vs) ss → Fine U vs A ss → IsWithin A (is_among vs) → (sc : Scope) (env : State → State → Env) → Stands U vs sc env → (s t : State) → Matches (holds_on vs env (write vs A ss) s t) (hold (build A (effects_of plain ss)) sc s t)
   match_all U vs A done z f w sc env k s t = refl
   match_all U vs A (then at st rest) z f w sc env k s t =
       match_item U vs A at.first st z.0 f.0 w sc env k s t (write vs (more A (assigned st)) rest) (hold (build (more A (effect_names (effect_of plain at.first st))) (effects_of plain rest)) sc s t)
       (subst (λ xs. Matches (holds_on vs env (write vs (more A (assigned st)) rest) s t) (hold (build (more A xs) (effects_of plain rest)) sc s t)) (sym (one_names plain at.first st))
-      (match_all U vs (more A (assigned st)) rest z.1 f.1 (within_more A (assigned st) vs w (one_in (member vs) st z.0)) sc env k s t))
+      (match_all U vs (more A (assigned st)) rest z.1 f.1 (within_more A (assigned st) vs w (one_in (is_among vs) st z.0)) sc env k s t))
   match_all U vs A (mark l j rest) z f w sc env k s t = absurd f
 
-  match_lists : (U : Readable) (vs : List Word) (A : Names) (at : Place) (all all' : List Word) → all' ≡ all → (bs : Branches) → SettledSome (member vs) bs → FineSome U vs A bs → Within all vs → IsWithin A (member vs) → (sc : Scope) (env : State → State → Env) → Stands U vs sc env → (s t : State) → Matches (some_branch plain (values_of vs s) (values_of vs t) (env s t) (write_some vs A at all bs)) (hold_some (build_some A all' (ways_of plain bs)) sc s t)
+  match_lists : (U : Readable) (vs : List Word) (A : Names) (at : Place) (all all' : List Word) → all' ≡ all → (bs : Branches) → SettledSome (is_among vs) bs → FineSome U vs A bs → Within all vs → IsWithin A (is_among vs) → (sc : Scope) (env : State → State → Env) → Stands U vs sc env → (s t : State) → Matches (some_branch plain (values_of vs s) (values_of vs t) (env s t) (write_some vs A at all bs)) (hold_some (build_some A all' (ways_of plain bs)) sc s t)
   match_lists U vs A at all all' e no_branches z f a w sc env k s t = refl
   match_lists U vs A at all all' e (or b bs) z f a w sc env k s t =
       match_or _ (some_branch plain (values_of vs s) (values_of vs t) (env s t) (write_some vs A at all bs)) _ (hold_some (build_some A all' (ways_of plain bs)) sc s t)

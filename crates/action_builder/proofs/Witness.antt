@@ -1,5 +1,6 @@
 -- The sample step meets all that the laws ask.
 use Rattle.std.proofs.Common.{◌≡◌, List, [], ◌∷◌, Bool, true, false, cond, bytes_eq, codes, Option, Some, None, refl, sym, subst}
+use Rattle.tla_token.specs.Signs.{is_among}
 use Rattle.tla_token.specs.declared.place.Place.{Place}
 use Rattle.tla_expr.specs.Tree.{Word, Each}
 use Rattle.tla_value.specs.Stops.{plain}
@@ -10,7 +11,7 @@ use Rattle.pcal_tree.specs.Scope.{State, Scope, origin_in}
 use Rattle.pcal_tree.specs.laws.Expansion.{Calls, FineCall, BareBodies}
 use Rattle.pcal_tree.specs.Program.{local_index}
 use Rattle.pcal_tree.specs.Variables.{pc, stack, written_all}
-use Rattle.action_builder.specs.Assigned.{Names, member, more}
+use Rattle.action_builder.specs.Assigned.{Names, more}
 use Rattle.action_builder.proofs.Actions.{Apart}
 use Rattle.action_builder.specs.laws.Ready.{Settled, Paired, Scoped}
 use Rattle.action_builder.specs.laws.Scopes.{StandsAtPath, Inner, own_scope, own_path, Whole}
@@ -27,15 +28,15 @@ use Rattle.action_builder.proofs.Matching.{paired_bound, scoped_bound}
 
 -- ---- macros
 
-pub sample_calls : Calls (FineCall plain macros) unexpanded
-sample_calls = ((((((tt, tt), tt), ((tt, tt), (((tt, tt), tt), (((tt, tt), tt), tt))), tt), tt), (tt, tt), tt), (tt, (((tt, tt), (tt, tt)), (tt, tt))))
+pub sample_calls : Calls (FineCall macros) unexpanded
+sample_calls = (((((tt, tt), (tt, ((tt, tt), ((tt, tt), tt))), tt), tt), (tt, tt), tt), (tt, (((tt, tt), (tt, tt)), (tt, tt))))
 
 pub sample_bare : BareBodies macros
 sample_bare = ((tt, tt), tt)
 
 -- ---- scopes
 
-whole : Whole (member variables) self me own scope
+whole : Whole (is_among variables) self me own scope
 whole = record { part = λ x m at s. refl; identity = λ x o at s. refl }
 
 scoped : Scoped variables plain_scope
@@ -44,8 +45,8 @@ scoped = record { part = λ x m at s. refl; reads = λ x m at s. refl }
 reads : Scoped variables scope
 reads = scoped_bound variables plain_scope self me refl scoped
 
-there : (x : Word) → member variables x ≡ true → StandsAtPath (own_scope plain self own scope) (own_path (own x) me) x
-there x m = own_stands plain (member variables) self me own scope whole x m (reads.reads x m)
+there : (x : Word) → is_among variables x ≡ true → StandsAtPath (own_scope plain self own scope) (own_path (own x) me) x
+there x m = own_stands plain (is_among variables) self me own scope whole x m (reads.reads x m)
 
 -- with no names bound, the scope is the one
 only_scope : (sc inner : Scope) → Inner (λ w. false) sc inner → inner ≡ sc
@@ -119,7 +120,7 @@ after_call = more after_y (stack ∷ codes "a" ∷ [])
 abbrev after_b : Names
 after_b = more after_call (codes "b" ∷ [])
 
-settled_step : Settled (member variables) (prepared_of step)
+settled_step : Settled (is_among variables) (prepared_of step)
 settled_step = ((refl, tt), ((refl, tt), ((((refl, tt), tt), ((refl, (refl, tt)), ((refl, tt), ((refl, tt), tt)))), tt)))
 
 pub ready : IsReady any_name variables env none step

@@ -1,17 +1,14 @@
 -- The variables that statements assign ("A PlusCal User's Manual", section 3.2.1).
-use Rattle.std.specs.Prelude.{List, [], ◌∷◌, ◌++◌, Bool, false, cond, ◌||◌, bytes_eq}
+use Rattle.std.specs.Prelude.{List, [], ◌∷◌, ◌++◌, Bool, cond, ◌||◌, bytes_eq}
+use Rattle.tla_token.specs.Signs.{is_among}
 use Rattle.tla_expr.specs.Tree.{Word, Form, name, Tree, node, Trees, no_trees, tree}
 use Rattle.pcal_tree.specs.Algorithm.{Assignments, no_assignments, assignment, Statement, assign, branch, either, with, Statements, done, then, mark, Branches, no_branches, or}
 
 abbrev pub Names : Type 0
 Names = Word → Bool
 
-abbrev pub member : List Word → Names
-member [] x = false
-member (y ∷ ys) x = bytes_eq y x || member ys x
-
 abbrev pub more : Names → List Word → Names
-more A xs x = A x || member xs x
+more A xs x = A x || is_among xs x
 
 abbrev head_in : Form → Word → Word
 head_in (name x) w = x

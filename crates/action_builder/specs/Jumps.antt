@@ -2,9 +2,8 @@
 use Rattle.std.specs.Prelude.{List, [], ◌∷◌, codes, Some, Option, None}
 use Rattle.tla_token.specs.declared.place.Place.{Place}
 use Rattle.tla_expr.specs.declared.op.Op.TheVariants.{Concat}
-use Rattle.tla_expr.specs.Tree.{Word, string, name, operator_call, strict, operator, tuple, fields, select, Tree, node, Trees, no_trees, tree}
+use Rattle.tla_expr.specs.Tree.{Word, string, name, operator_call, strict, operator, tuple, fields, select, Tree, node, Trees, no_trees, tree, root_place}
 use Rattle.pcal_tree.specs.Algorithm.{Span, Declaration, Routine, locals, Assignments, no_assignments, assignment, Statements, done, then, assign, procedure_routines, either, no_branches}
-use Rattle.pcal_tree.specs.Scope.{root_place}
 use Rattle.pcal_tree.specs.Program.{Program, written}
 use Rattle.pcal_tree.specs.Calls.{label_name, first_label, frame_fields, named}
 use Rattle.action_builder.specs.Settled.{WrittenJumps}

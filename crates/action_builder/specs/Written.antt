@@ -1,13 +1,13 @@
 -- The items that are written for statements of one step: conjuncts of an action, with assigned variables primed ("Specifying Systems", section 2.2;
 -- assignment, section 16.1.7; the statements, "A PlusCal User's Manual", section 3.2).
 use Rattle.std.specs.Prelude.{List, [], ◌∷◌, ◌++◌, Bool, true, false, cond, not, ◌&&◌, bytes_eq, codes}
+use Rattle.tla_token.specs.Signs.{is_among}
 use Rattle.tla_token.specs.declared.place.Place.{Place}
-use Rattle.tla_expr.specs.Tree.{Word, PathStep, index, field, Slot, select, except, Form, string, truth, name, operator_call, strict, Tree, node, Trees, no_trees, tree, graft}
+use Rattle.tla_expr.specs.Tree.{Word, PathStep, index, field, Slot, select, except, Form, string, truth, name, operator_call, strict, Tree, node, Trees, no_trees, tree, graft, root_place}
 use Rattle.tla_value.specs.Grafts.{primes}
 use Rattle.module_text.specs.Module.{test, setting, unchanged, exists, local, if_then_else, either as any, Items, no_items, item, Branches as Lists, no_branches as no_lists, branch as list}
 use Rattle.pcal_tree.specs.Algorithm.{nowhere, Assignments, no_assignments, assignment, Binds, no_binds, one_of, is, Statement, assign, await, print, assert, skip, branch, either, with, Statements, done, then, mark, Branches, no_branches, or}
-use Rattle.pcal_tree.specs.Scope.{root_place}
-use Rattle.action_builder.specs.Assigned.{Names, more, member, head_of, heads, assigned, assigned_in, assigned_by}
+use Rattle.action_builder.specs.Assigned.{Names, more, head_of, heads, assigned, assigned_in, assigned_by}
 
 -- ---- the right side for a variable
 
@@ -91,7 +91,7 @@ true_at at = node (truth true) at no_trees
 -- the names of vs that are among all and not among own, in the order of vs
 abbrev pub left_of : List Word → List Word → List Word → List Word
 left_of [] all own = []
-left_of (v ∷ vs) all own = cond (member all v && not (member own v)) (v ∷ left_of vs all own) (left_of vs all own)
+left_of (v ∷ vs) all own = cond (is_among all v && not (is_among own v)) (v ∷ left_of vs all own) (left_of vs all own)
 
 -- UNCHANGED, left out where it has no name
 abbrev pub unchanged_of : List Word → Items

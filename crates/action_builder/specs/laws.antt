@@ -1,10 +1,10 @@
 -- The words in which the laws are stated.
 pub mod States
 pub mod Scopes
-pub mod Places
 pub mod Settling
 pub mod Jumps
 pub mod Ready
 pub mod LabelSteps
 pub mod Grafts
+pub mod Places
 pub mod Sample

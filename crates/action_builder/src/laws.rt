@@ -22,7 +22,7 @@ ghost use Rattle.pcal_tree.specs.Scope.{State, Scope};
 ghost use Rattle.pcal_tree.specs.Run.{Rules, Follow, run, exit_to, unlabelled};
 ghost use Rattle.pcal_tree.specs.StepStart.{begin};
 ghost use Rattle.pcal_tree.specs.Expand.{graft_all, expanded, written_out, expand_begin};
-ghost use Rattle.pcal_tree.specs.laws.Expansion.{Any, Calls, Clean, FineCall, BareBodies, AnyPlace};
+ghost use Rattle.pcal_tree.specs.laws.Expansion.{Calls, Clean, FineCall, BareBodies, AnyPlace};
 ghost use Rattle.pcal_tree.specs.Program.{Program, Actor};
 ghost use Rattle.action_builder.specs.Assigned.{Names, more, assigned_in};
 ghost use Rattle.action_builder.specs.laws.States.{value_after, SameOn, BadSomewhere};
@@ -37,7 +37,9 @@ ghost use Rattle.action_builder.specs.Prepared.{none};
 ghost use Rattle.action_builder.specs.Written.{except_of};
 ghost use Rattle.action_builder.specs.SingleProcess.{in_place_of, graft_items};
 ghost use Rattle.action_builder.specs.laws.Grafts.{ClearItems};
-ghost use Rattle.action_builder.specs.laws.Places.{SameButPlaces};
+ghost use Rattle.tla_value.specs.laws.FreeNames.{Any};
+ghost use Rattle.tla_value.specs.laws.Places.{AgreeButPlaces, ChecksButPlaces, EnvsButPlaces};
+ghost use Rattle.action_builder.specs.laws.Places.{ItemsButPlaces};
 ghost use Rattle.action_builder.specs.laws.Sample as sample;
 
 /// The items that are written for a step where the variables of A are assigned already, on a pair of states. Where no
@@ -106,20 +108,27 @@ pub fn except_makes_the_changes_of_its_parts()
 /// the truth that they have where `self` is the value of the expression, or trouble of the same kind.
 pub fn single_processes_have_their_expression_for_self()
     ensures { (c : Check) (self : Word) (e : Tree) (v : Value) (items : Items) → ClearItems c (in_place_of self e) Any items → (s t : Valuation) (env : Env) → eval c e env ≡ just v
-        → SameButPlaces (items_hold c s t env (graft_items (in_place_of self e) items)) (items_hold c s t (bind self v env) items) }
+        → AgreeButPlaces (items_hold c s t env (graft_items (in_place_of self e) items)) (items_hold c s t (bind self v env) items) }
+{}
+
+/// Places in items matter to nothing but where a fault is: items that are equal, places aside, have on every pair of
+/// states the same truth, or troubles of one kind.
+pub fn places_in_items_matter_to_faults_alone()
+    ensures { (c k : Check) → ChecksButPlaces c k → (s t : Valuation) (items others : Items) → ItemsButPlaces items others → (e f : Env) → EnvsButPlaces e f
+        → AgreeButPlaces (items_hold c s t e items) (items_hold k s t f others) }
 {}
 
 /// A step from a label of the statements with macro calls written out begins with what the step from this label
 /// begins with, written out.
 pub fn written_out_steps_begin_alike()
-    ensures { (c : Check) (ms : List Macro) → BareBodies ms → (l here : Word) (ss : Statements) → Calls (FineCall c ms) ss → (x : Word)
+    ensures { (ms : List Macro) → BareBodies ms → (l here : Word) (ss : Statements) → Calls (FineCall ms) ss → (x : Word)
         → begin l here (expanded ms ss) x ≡ expand_begin (written_out ms) (begin l here ss x) }
 {}
 
 /// The sample step, which has a macro call, an assignment to a variable of its process, a jump and a call, meets all that
 /// these laws ask.
 pub fn the_sample_step_meets_all_that_is_asked()
-    ensures expanded { Calls (FineCall plain sample.macros) sample.unexpanded × BareBodies sample.macros }
+    ensures expanded { Calls (FineCall sample.macros) sample.unexpanded × BareBodies sample.macros }
     ensures jumps { RoutinesStandWithin sample.program sample.actor sample.routine sample.initials sample.step.names (own_scope plain sample.self sample.own sample.scope) }
     ensures prepared { IsPrepared sample.step }
     ensures ready { IsReady sample.any_name sample.variables sample.env none sample.step }

@@ -10,6 +10,7 @@ use Rattle.tla_expr.proofs.NameLemmas.{same_refl, has-cons}
 use Rattle.tla_value.specs.declared.fault.FaultKind.TheVariants.{NotInteger}
 use Rattle.tla_value.specs.Value.{Value, text, Outcome, fault}
 use Rattle.tla_value.specs.Order.{same}
+use Rattle.tla_value.proofs.Outcomes.{ok_is}
 use Rattle.tla_value.specs.Stops.{plain}
 use Rattle.tla_value.specs.Meaning.{Env}
 use Rattle.tla_value.specs.Definitions.{Valuation, or_sense}
@@ -32,7 +33,7 @@ use Rattle.promise.specs.NextAndInit.{NextIs}
 use Rattle.first_path.proofs.Names.{word_same}
 use Rattle.first_path.proofs.Fit.{Fit, fit_of, not_own}
 use Rattle.first_path.proofs.Means.{true_tells, last_tells, label_free, StandsFor, result, tells_same, label_tells, value_tells, right_tells}
-use Rattle.first_path.proofs.MeansStep.{program_of, got_is, actor, stand, Kept, is_actor, actor_is, stand_is, stands_there, there_stands, course_for, course_is, ended}
+use Rattle.first_path.proofs.MeansStep.{program_of, actor, stand, Kept, is_actor, actor_is, stand_is, stands_there, there_stands, course_for, course_is, ended}
 use Rattle.pcal_tree.specs.Variables.{pc, vars, Agree}
 use Rattle.pcal_tree.specs.Processes.{IsActor}
 use Rattle.pcal_tree.specs.Faults.{Sound}
@@ -141,14 +142,11 @@ Over f s t = (s pc ≡ text (codes "Done")) × Agree (f.variable ∷ pc ∷ []) 
 both_tell : (a b : Bool) (P Q : Type 0) → TrueExactly (Ok a) P → TrueExactly (Ok b) Q → TrueExactly (Ok (a && b)) (P × Q)
 both_tell a b P Q (c, e, h) (d, k, g) = (a && b, refl, (to, from))
   where
-    same_told : (x y : Bool) → ◌≡◌ {A = Outcome Bool} (Ok x) (Ok y) → x ≡ y
-    same_told x y e = cc
-
     to : (a && b) ≡ true → P × Q
-    to w = let u = and_parts a b w in (h.0 (sym (same_told a c e) ∙ u.0), g.0 (sym (same_told b d k) ∙ u.1))
+    to w = let u = and_parts a b w in (h.0 (sym (ok_is e) ∙ u.0), g.0 (sym (ok_is k) ∙ u.1))
 
     from : P × Q → (a && b) ≡ true
-    from (x, y) = and_from a b (same_told a c e ∙ h.1 x) (same_told b d k ∙ g.1 y)
+    from (x, y) = and_from a b (ok_is e ∙ h.1 x) (ok_is k ∙ g.1 y)
 
 look_tells : (o r : Option Value) (v w : Value) → o ≡ Some v → r ≡ Some w → TrueExactly (Ok (is_unchanged o r)) (v ≡ w)
 look_tells o r v w d e =
@@ -193,7 +191,7 @@ module _ (p : Places) (f : Parts) (names : Naming) (values : Valuation) (h : Fit
       by : (o : Option Value) → result f.right (s f.variable) ≡ o → Has (course_for (p 12) f s o) (Ok u) → Moved f s t × (t pc ≡ text (codes "Done"))
       by None e d = absurd cc
       by (Some x) e d =
-          let is = got_is u (ended f s x) d in
+          let is = ok_is d in
           let first : t f.variable ≡ x = sym agree.0 ∙ ap (λ (u : State). u f.variable) is ∙ ended_variable f s x h in
           ((x, e, first), sym agree.1.0 ∙ ap (λ (u : State). u pc) is ∙ ended_pc f s x)
 
@@ -225,7 +223,7 @@ module _ (p : Places) (f : Parts) (names : Naming) (values : Valuation) (h : Fit
           (inr (stand p f, stands_there p f names values s k at, stops)))
 
   still_over : (s t : State) → Stutters program s t → Over f s t
-  still_over s t (done, agree) = (got_is (s pc) (text (codes "Done")) (done (actor p f) (is_actor p f names values)), agree)
+  still_over s t (done, agree) = (ok_is (done (actor p f) (is_actor p f names values)), agree)
 
   over_still : (s t : State) → Over f s t → Stutters program s t
   over_still s t (over, agree) = (done, agree)

@@ -5,6 +5,7 @@ use Rattle.tla_token.proofs.Spelled.{same_bytes}
 use Rattle.tla_expr.specs.Tree.{Word, name}
 use Rattle.tla_value.specs.declared.fault.FaultKind.TheVariants.{NotInteger}
 use Rattle.tla_value.specs.Value.{Value, text, Outcome, fault, ◌>>=◌}
+use Rattle.tla_value.proofs.Outcomes.{ok_is}
 use Rattle.tla_value.specs.Stops.{plain}
 use Rattle.tla_value.specs.Meaning.{eval}
 use Rattle.tla_value.specs.Definitions.{Valuation}
@@ -55,9 +56,6 @@ first_got x v [] e o = absurd o
 first_got x v (w ∷ []) e (inl h) = h ∙ cc
 first_got x v (w ∷ []) e (inr h) = absurd h
 first_got x v (w ∷ y ∷ vs) e o = absurd cc
-
-pub got_is : {X : Type 0} (x y : X) → ◌≡◌ {A = Outcome X} (Ok x) (Ok y) → x ≡ y
-got_is x y e = cc
 
 -- the one label that there is
 begun : (l m : Word) (b d : Begin) → cond (bytes_eq l m) (Some b) None ≡ Some d → (l ≡ m) × (d ≡ b)
@@ -121,7 +119,7 @@ module _ (p : Places) (f : Parts) (names : Naming) (values : Valuation) where
       (inl refl, ap (λ b. cond b (Some (begins p f)) None) (word_same f.label), ap (λ (v : Value). Ok v) (e ∙ sym (label_is h)))
 
   pub there_stands : (s : State) → Kept f names → StandsAt program s (actor p f) (stand p f) → s pc ≡ text f.label
-  there_stands s h (o, b, k) = got_is (s pc) (label_value program (routine p f) f.label) k ∙ label_is h
+  there_stands s h (o, b, k) = ok_is k ∙ label_is h
 
   -- ---- the course
 

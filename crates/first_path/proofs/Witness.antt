@@ -7,6 +7,7 @@ use Rattle.tla_expr.specs.Names.{has}
 use Rattle.tla_value.specs.declared.fault.FaultKind.{FaultKind}
 use Rattle.tla_value.specs.Value.{Value, int, text, Trouble}
 use Rattle.tla_value.specs.Order.{IsCanonical}
+use Rattle.tla_value.proofs.Outcomes.{ok_is}
 use Rattle.pcal_tree.specs.Algorithm.{Naming}
 use Rattle.pcal_tree.specs.Names.{naming}
 use Rattle.pcal_tree.specs.Scope.{State}
@@ -20,7 +21,7 @@ use Rattle.first_path.specs.Placed.{Places, algorithm_at, module_at, integers_al
 use Rattle.promise.specs.ConstantsAndStates.{AreConstants, IsState}
 use Rattle.first_path.specs.Worked.{worked_text, worked_parts, no_more_constants, worked_program, at_first, at_last}
 use Rattle.first_path.proofs.FormExact.{form_found}
-use Rattle.first_path.proofs.MeansStep.{got_is, actor, stand, Kept, is_actor, actor_is, stand_is, there_stands, ended}
+use Rattle.first_path.proofs.MeansStep.{actor, stand, Kept, is_actor, actor_is, stand_is, there_stands, ended}
 use Rattle.pcal_tree.specs.Variables.{pc}
 use Rattle.pcal_tree.specs.Faults.{Sound, Troubled}
 use Rattle.pcal_tree.specs.Processes.{IsActor}
@@ -147,7 +148,7 @@ module _ (p q : Places) where
   -- a step from the start ends where pc is "Done"
   step_ends : (s : State) → StepFrom P only at_label at_first s → s pc ≡ text (codes "Done")
   unfolding after
-  step_ends s (there, (u, has, agree)) = sym agree.1.0 ∙ ap (λ (u : State). u pc) (got_is u after has)
+  step_ends s (there, (u, has, agree)) = sym agree.1.0 ∙ ap (λ (u : State). u pc) (ok_is has)
 
   labels_differ : text (codes "A") ≡ text (codes "Done") → ⊥
   labels_differ e = absurd cc
@@ -158,4 +159,4 @@ module _ (p q : Places) where
       let at = label_is at_first d here.0 in
       labels_differ (step_ends at_first (subst (λ d. StepFrom P only d at_first at_first) at here))
   not_idle (inr (done, agree)) =
-      labels_differ (got_is (at_first pc) (text (codes "Done")) (done only (is_actor p worked_parts names no_more_constants)))
+      labels_differ (ok_is (done only (is_actor p worked_parts names no_more_constants)))

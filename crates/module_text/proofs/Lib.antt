@@ -5,6 +5,7 @@ pub mod OneWay
 pub mod OneUnit
 pub mod OneOutside
 pub mod OneModule
+pub mod OnePlace
 pub mod Tells
 pub mod First
 mod RowsLayout

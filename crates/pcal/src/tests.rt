@@ -18,6 +18,13 @@ const FRONT: &str =
 
 const BACK: &str = "*)\n====\n";
 
+/// The lines of a file before the last one, and a translation, with the numbers of cells.
+const FILE: &str =
+    "---- MODULE @0@ ----\nEXTENDS Integers\n(*\n--algorithm @1@\n@2@\nbegin\n  @3@\nend algorithm\n*)\n";
+
+const REGION: &str =
+    "\\* BEGIN TRANSLATION\nVARIABLES @4@, pc\n\nvars == <<@4@, pc>>\n\nInit ==\n  /\\ @4@ = @5@\n  /\\ pc = \"@6@\"\n\n@6@ ==\n  /\\ (pc = \"@6@\")\n  /\\ @4@' = @7@\n  /\\ pc' = \"Done\"\n\nTerminating ==\n  /\\ (pc = \"Done\")\n  /\\ UNCHANGED vars\n\nNext ==\n  \\/ @6@\n  \\/ Terminating\n\nSpec ==\n  /\\ Init\n  /\\ [][Next]_vars\n\nTermination == <>(pc = \"Done\")\n\\* END TRANSLATION\n";
+
 const WORKED: &str = "M|Inc|variables x = 0;|A: x := x + 1;|x|0|A|(x + 1)";
 
 /// Module, algorithm, declaration and statement; then the variable, its initial value, the label and the right side
@@ -80,32 +87,14 @@ fn cell(row: &str, number: usize) -> &str {
     row.split('|').nth(number).unwrap_or("")
 }
 
-/// The lines of a file, but the last one, that the first four cells of a row tell.
-fn front_of(alloc: Global, row: &str) -> Result<String, AllocError> {
-    format!(in alloc;
-        "---- MODULE {} ----\nEXTENDS Integers\n(*\n--algorithm {}\n{}\nbegin\n  {}\nend algorithm\n*)\n",
-        cell(row, 0),
-        cell(row, 1),
-        cell(row, 2),
-        cell(row, 3)
-    )
-}
-
-/// The translation that the last four cells of a row tell.
-fn region_of(alloc: Global, row: &str) -> Result<String, AllocError> {
-    let (variable, label) = (cell(row, 4), cell(row, 6));
-    let first = format!(in alloc;
-        "\\* BEGIN TRANSLATION\nVARIABLES {variable}, pc\n\nvars == <<{variable}, pc>>\n\nInit ==\n  /\\ {variable} = {}\n  /\\ pc = \"{label}\"\n\n",
-        cell(row, 5)
-    )?;
-    let second = format!(in alloc;
-        "{label} ==\n  /\\ (pc = \"{label}\")\n  /\\ {variable}' = {}\n  /\\ pc' = \"Done\"\n\n",
-        cell(row, 7)
-    )?;
-    let third = "Terminating ==\n  /\\ (pc = \"Done\")\n  /\\ UNCHANGED vars\n\nNext ==\n";
-    let last =
-        "  \\/ Terminating\n\nSpec ==\n  /\\ Init\n  /\\ [][Next]_vars\n\nTermination == <>(pc = \"Done\")\n\\* END TRANSLATION\n";
-    format!(in alloc; "{first}{second}{third}  \\/ {label}\n{last}")
+/// A text between whose marks the numbers of cells stand, with these cells of a row in their place.
+fn filled(alloc: Global, template: &str, row: &str) -> Result<String, AllocError> {
+    let mut text = String::new(alloc);
+    for (i, part) in template.split('@').enumerate() {
+        let number = part.parse().unwrap_or(0);
+        text.push_str(if i % 2 == 0 { part } else { cell(row, number) })?;
+    }
+    Ok(text)
 }
 
 /// The words of a command line, as the system gives them.
@@ -164,9 +153,9 @@ fn answers(
 fn texts_of_the_form_are_translated(rt: HostRuntime) -> Result<(), Fail> {
     let alloc = rt.alloc();
     for row in OF_THE_FORM {
-        let front = front_of(alloc, row)?;
+        let front = filled(alloc, FILE, row)?;
         let text = format!(in alloc; "{front}====\n")?;
-        let written = format!(in alloc; "{front}{}====\n", region_of(alloc, row)?)?;
+        let written = format!(in alloc; "{front}{}====\n", filled(alloc, REGION, row)?)?;
         assert!(rt; answers(alloc, WORDS, &text, (0, &written, ""))?, "{row}");
     }
     Ok(())
@@ -176,7 +165,7 @@ fn texts_of_the_form_are_translated(rt: HostRuntime) -> Result<(), Fail> {
 fn other_texts_are_refused(rt: HostRuntime) -> Result<(), Fail> {
     let alloc = rt.alloc();
     for row in OF_NO_FORM {
-        let text = format!(in alloc; "{}====\n", front_of(alloc, row)?)?;
+        let text = format!(in alloc; "{}====\n", filled(alloc, FILE, row)?)?;
         assert!(rt; answers(alloc, WORDS, &text, (5, "", REFUSED))?, "{row}");
     }
     for (front, back) in OTHER_LINES {
@@ -211,31 +200,44 @@ fn other_words_are_no_command(rt: HostRuntime) -> Result<(), Fail> {
     Ok(())
 }
 
-/// Each row: the calls of the shelf, the output and the error output that fail, the words, the status, how much of the
-/// text goes out, and the line.
+/// Each row: the calls of the shelf, the output and the error output that fail, if not 0; the words, the status, how many
+/// bytes of the whole text go out, if not all, and the line.
+const FAULTS: [(u64, u64, u64, &str, u8, usize, &str); 7] = [
+    (0, 0, 1, WORDS, 0, usize::MAX, ""),
+    (1, 0, 0, WORDS, 3, 0, "pcal: cannot read M.tla\n"),
+    (1, 0, 1, WORDS, 3, 0, ""),
+    (
+        0,
+        0,
+        0,
+        "pcal translate N.tla",
+        3,
+        0,
+        "pcal: cannot read N.tla\n",
+    ),
+    (0, 1, 0, WORDS, 4, 0, "pcal: cannot write\n"),
+    (0, 2, 0, WORDS, 4, 100, "pcal: cannot write\n"),
+    (0, 2, 1, WORDS, 4, 100, ""),
+];
+
 #[test]
 fn faults_have_their_answers(rt: HostRuntime) -> Result<(), Fail> {
     let alloc = rt.alloc();
     let text = format!(in alloc; "{FRONT}{BACK}")?;
-    let whole = format!(in alloc; "{FRONT}*)\n{}====\n", region_of(alloc, WORKED)?)?;
-    let whole = whole.as_str();
-    let part = text.as_str().get(..100).unwrap_or("");
-    let other = "pcal translate N.tla";
-    let rows = [
-        ([0, 0, 1], WORDS, (0, whole, "")),
-        ([1, 0, 0], WORDS, (3, "", "pcal: cannot read M.tla\n")),
-        ([1, 0, 1], WORDS, (3, "", "")),
-        ([0, 0, 0], other, (3, "", "pcal: cannot read N.tla\n")),
-        ([0, 1, 0], WORDS, (4, "", "pcal: cannot write\n")),
-        ([0, 2, 0], WORDS, (4, part, "pcal: cannot write\n")),
-        ([0, 2, 1], WORDS, (4, part, "")),
-    ];
-    for (fails, command, expected) in rows {
-        let mut shelf = shelf_of(alloc, &text, fails[0])?;
+    let whole = format!(in alloc; "{FRONT}*)\n{}====\n", filled(alloc, REGION, WORKED)?)?;
+    for (shelf, out, err, command, status, bytes, line) in FAULTS {
+        let mut shelf = shelf_of(alloc, &text, shelf)?;
         let words = words_in(alloc, command)?;
+        let written = whole.as_str().get(..bytes).unwrap_or(&whole);
         assert!(rt;
-            ends(alloc, Ok(words), &mut shelf, [fails[1], fails[2]], expected)?,
-            "{fails:?} {command}"
+            ends(
+                alloc,
+                Ok(words),
+                &mut shelf,
+                [out, err],
+                (status, written, line)
+            )?,
+            "{status} {line}"
         );
     }
     Ok(())
@@ -286,7 +288,10 @@ fn a_file_has_a_most_length(rt: HostRuntime) -> Result<(), Fail> {
     let most = 1_048_576 - FRONT.len() - BACK.len();
     let lines = "\n".repeat(alloc, most)?;
     let text = format!(in alloc; "{FRONT}{lines}{BACK}")?;
-    let whole = format!(in alloc; "{FRONT}{lines}*)\n{}====\n", region_of(alloc, WORKED)?)?;
+    let whole = format!(in alloc;
+        "{FRONT}{lines}*)\n{}====\n",
+        filled(alloc, REGION, WORKED)?
+    )?;
     assert!(rt; answers(alloc, WORDS, &text, (0, &whole, ""))?);
     let text = format!(in alloc; "{text}\n")?;
     let line = "pcal: M.tla is too long\n";

@@ -25,7 +25,7 @@ past_numbers = 2 ^ 127
 abbrev pub capped : ℕ → ℕ
 capped n = min n past_numbers
 
--- the sign at the front and its length, where it is one of the form's and no longer sign stands there
+-- the sign at the front and its length, where it is one of the form's and there is no longer sign
 abbrev pub mark_at : List ℕ → Option (Sign × ℕ)
 mark_at x =
     if starts_with nat_eq x (codes ":=") then Some (sign.Assign, 2)
@@ -35,7 +35,7 @@ mark_at x =
     else (if starts_with nat_eq x (codes ";") then Some (sign.Semicolon, 1)
     else (if starts_with nat_eq x (codes "+") then Some (sign.Plus, 1) else None)))))
 
--- the token at the front, and what stands behind it
+-- the token at the front, and what comes after it
 abbrev pub token_at : List ℕ → Option (Kind × List ℕ)
 token_at x =
     if list_any is_letter (run is_word x) then Some (name (run is_word x), drop (length (run is_word x)) x)
@@ -105,7 +105,7 @@ as_sign sign.Semicolon k r = as_semicolon k r
 as_sign sign.Plus k r = as_plus k r
 as_sign _ k r = None
 
--- behind a sign that `taken` takes
+-- after a sign that `taken` takes
 abbrev pub past_sign : (Kind → List ℕ → Option (List ℕ)) → List ℕ → Option (List ℕ)
 past_sign taken x = on_some (next_of x) (λ t. taken t.0 t.1)
 
@@ -119,7 +119,7 @@ operand_at v x = on_some (next_of x) (λ t. as_operand v t.0 t.1)
 
 -- ---- stretches of tokens
 
--- behind the left operand: where a plus stands there, the right one is read too
+-- after the left operand: where a plus is there, the right one is read too
 abbrev pub sum_from : Word → Operand → List ℕ → Option (List ℕ) → Option (Right × List ℕ)
 sum_from v a x (Some r) = on_some (operand_at v r) (λ b. Some (sum a b.0, b.1))
 sum_from v a x None = Some (single a, x)
@@ -127,7 +127,7 @@ sum_from v a x None = Some (single a, x)
 abbrev pub right_at : Word → List ℕ → Option (Right × List ℕ)
 right_at v x = on_some (operand_at v x) (λ a. sum_from v a.0 a.1 (past_sign as_plus a.1))
 
--- behind `variables` or `variable`
+-- after `variables` or `variable`
 abbrev pub first_of : {A : Type 0} → Option A → Option A → Option A
 first_of (Some a) o = Some a
 first_of None o = o
@@ -155,7 +155,7 @@ is_empty (b ∷ bs) = false
 abbrev pub is_gap : List ℕ → Bool
 is_gap x = is_empty (gap_skipped x)
 
--- behind `--algorithm`, in the module m
+-- after `--algorithm`, in the module m
 abbrev pub algorithm_in : Word → List ℕ → Option Parts
 algorithm_in m x =
     on_some (name_at x) (λ a. on_some (declaration_at a.1) (λ d. on_some (past_word (codes "begin") d.2) (λ r. on_some (statement_at d.0 r) (λ s.

@@ -115,7 +115,7 @@ fn blanks_len(text: &[u8]) -> usize
     text.len()
 }
 
-/// What stands behind the blanks at the front.
+/// What comes after the blanks at the front.
 fn past_blanks(text: &[u8]) -> &[u8]
     ensures { result.now ≡ gap_skipped text.now }
 {
@@ -152,7 +152,7 @@ fn number_of(digits: &[u8]) -> u128
     number
 }
 
-/// The sign at the front and its length, where it is one of the form's and no longer sign stands there.
+/// The sign at the front and its length, where it is one of the form's and there is no longer sign.
 fn sign_at(text: &[u8]) -> Option<(Sign, usize)>
     ensures { result ≡ mark_at text.now }
 {
@@ -177,7 +177,7 @@ fn sign_at(text: &[u8]) -> Option<(Sign, usize)>
     }
 }
 
-/// The token at the front, where it is of a kind that the form has, and what stands behind it.
+/// The token at the front, where it is of a kind that the form has, and what comes after it.
 fn token_at(text: &[u8]) -> Option<(Lexeme<'_>, &[u8])>
     ensures { MatchOption result (token_at_of text.now ≡ None) (λ t. token_at_of text.now ≡ Some (kind_of t.0, t.1.now)) }
 {
@@ -193,14 +193,14 @@ fn token_at(text: &[u8]) -> Option<(Lexeme<'_>, &[u8])>
     Some((Lexeme::One(sign), &text[n..]))
 }
 
-/// The token behind blanks, where it is of a kind that the form has, and what stands behind it.
+/// The token after blanks, where it is of a kind that the form has, and what comes after it.
 fn next_lexeme(text: &[u8]) -> Option<(Lexeme<'_>, &[u8])>
     ensures { MatchOption result (next_of text.now ≡ None) (λ t. next_of text.now ≡ Some (kind_of t.0, t.1.now)) }
 {
     token_at(past_blanks(text))
 }
 
-/// What stands behind a token that is this word.
+/// What comes after a token that is this word.
 fn past_word<'a>(text: &'a [u8], word: &[u8]) -> Option<&'a [u8]>
     ensures { MatchOption result (past_word_of word.now text.now ≡ None) (λ r. past_word_of word.now text.now ≡ Some r.now) }
 {
@@ -210,7 +210,7 @@ fn past_word<'a>(text: &'a [u8], word: &[u8]) -> Option<&'a [u8]>
     }
 }
 
-/// What stands behind a token that is this sign.
+/// What comes after a token that is this sign.
 fn past_sign(text: &[u8], sign: Sign) -> Option<&[u8]>
     requires { is_mark sign ≡ true }
     ensures { MatchOption result (past_sign_of (as_sign sign) text.now ≡ None) (λ r. past_sign_of (as_sign sign) text.now ≡ Some r.now) }
@@ -221,7 +221,7 @@ fn past_sign(text: &[u8], sign: Sign) -> Option<&[u8]>
     }
 }
 
-/// A name, and what stands behind it.
+/// A name, and what comes after it.
 fn name_at(text: &[u8]) -> Option<(&[u8], &[u8])>
     ensures { MatchOption result (name_at_of text.now ≡ None) (λ w. name_at_of text.now ≡ Some (w.0.now, w.1.now)) }
 {
@@ -231,7 +231,7 @@ fn name_at(text: &[u8]) -> Option<(&[u8], &[u8])>
     }
 }
 
-/// A number, and what stands behind it.
+/// A number, and what comes after it.
 fn number_at(text: &[u8]) -> Option<(u128, &[u8])>
     ensures { MatchOption result (number_at_of text.now ≡ None) (λ n. number_at_of text.now ≡ Some (n.0, n.1.now)) }
 {
@@ -241,7 +241,7 @@ fn number_at(text: &[u8]) -> Option<(u128, &[u8])>
     }
 }
 
-/// A number or the variable, and what stands behind it.
+/// A number or the variable, and what comes after it.
 fn operand_at<'a>(text: &'a [u8], variable: &[u8]) -> Option<(Operand, &'a [u8])>
     ensures { MatchOption result (operand_at_of variable.now text.now ≡ None) (λ a. operand_at_of variable.now text.now ≡ Some (operand_of a.0, a.1.now)) }
 {
@@ -252,7 +252,7 @@ fn operand_at<'a>(text: &'a [u8], variable: &[u8]) -> Option<(Operand, &'a [u8])
     }
 }
 
-/// The right side of the assignment, and what stands behind it.
+/// The right side of the assignment, and what comes after it.
 fn right_at<'a>(text: &'a [u8], variable: &[u8]) -> Option<(Right, &'a [u8])>
     ensures { MatchOption result (right_at_of variable.now text.now ≡ None) (λ e. right_at_of variable.now text.now ≡ Some (right_of e.0, e.1.now)) }
 {
@@ -266,7 +266,7 @@ fn right_at<'a>(text: &'a [u8], variable: &[u8]) -> Option<(Right, &'a [u8])>
     }
 }
 
-/// What stands behind `variables` or `variable`.
+/// What comes after `variables` or `variable`.
 fn past_declares(text: &[u8]) -> Option<&[u8]>
     ensures { MatchOption result (past_declares_of text.now ≡ None) (λ r. past_declares_of text.now ≡ Some r.now) }
 {
@@ -276,7 +276,7 @@ fn past_declares(text: &[u8]) -> Option<&[u8]>
     }
 }
 
-/// The declaration `variable v = n ;`, and what stands behind it.
+/// The declaration `variable v = n ;`, and what comes after it.
 fn declaration_at(text: &[u8]) -> Option<(&[u8], u128, &[u8])>
     ensures { MatchOption result (declaration_at_of text.now ≡ None) (λ d. declaration_at_of text.now ≡ Some (d.0.now, d.1, d.2.now)) }
 {
@@ -286,7 +286,7 @@ fn declaration_at(text: &[u8]) -> Option<(&[u8], u128, &[u8])>
     Some((variable, initial, rest))
 }
 
-/// The statement `L : v := e ;`, and what stands behind it.
+/// The statement `L : v := e ;`, and what comes after it.
 fn statement_at<'a>(text: &'a [u8], variable: &[u8]) -> Option<(&'a [u8], Right, &'a [u8])>
     ensures { MatchOption result (statement_at_of variable.now text.now ≡ None) (λ s. statement_at_of variable.now text.now ≡ Some (s.0.now, right_of s.1, s.2.now)) }
 {
@@ -354,7 +354,7 @@ fn is_gap(text: &[u8]) -> bool
     past_blanks(text).is_empty()
 }
 
-/// Whether a blank stands first.
+/// Whether a blank is first.
 fn begins_blank(text: &[u8]) -> bool
     ensures { result ≡ begins_blank_of text.now }
 {
@@ -364,7 +364,7 @@ fn begins_blank(text: &[u8]) -> bool
     }
 }
 
-/// What stands behind bytes at the front.
+/// What comes after bytes at the front.
 fn past<'a>(text: &'a [u8], front: &[u8]) -> Option<&'a [u8]>
     ensures { MatchOption result (past_of front.now text.now ≡ None) (λ r. past_of front.now text.now ≡ Some r.now) }
 {
@@ -401,7 +401,7 @@ fn module_lines(text: &[u8]) -> Option<(&[u8], &[u8])>
     }
 }
 
-/// The parts of the algorithm behind `--algorithm`, in the module of this title.
+/// The parts of the algorithm after `--algorithm`, in the module of this title.
 fn algorithm_in<'a>(title: &'a [u8], text: &'a [u8]) -> Option<Form<'a>>
     ensures { MatchOption result (algorithm_in_of title.now text.now ≡ None) (λ f. algorithm_in_of title.now text.now ≡ Some (parts_of f)) }
 {

@@ -139,7 +139,7 @@ fn write_action(alloc: Global, form: &Form<'_>, out: &mut Vec<u8>) -> Result<(),
     out.extend_from_slice(bytes_of(Fixed::ActionEnd))
 }
 
-/// Writes all that stands behind the action.
+/// Writes all that comes after the action.
 #[tactic(auto, unfolding(crate::specs::FirstPathBytes::ending_text))]
 fn write_ending(form: &Form<'_>, out: &mut Vec<u8>) -> Result<(), AllocError>
     ensures { OnOk result (out.new.items ≡ out.old.items ++ ending_text (parts_of form.now)) }

@@ -87,7 +87,7 @@ fn translate<H: Shelf, K: Sink>(alloc: Global, file: &str, shelf: &mut H, out: &
     }
 }
 
-/// Writes three texts, one behind the other.
+/// Writes three texts, one after the other.
 fn put_three<E: Sink>(err: &mut E, first: &[u8], second: &[u8], third: &[u8]) -> Result<(), Failed>
     ensures ok { OnOk result (Grows (E.wrote err.old) (E.wrote err.new) (first.now ++ (second.now ++ third.now))) }
     ensures err { OnErr result (GrowsInPart (E.wrote err.old) (E.wrote err.new) (first.now ++ (second.now ++ third.now))) }
@@ -102,7 +102,7 @@ fn put_three<E: Sink>(err: &mut E, first: &[u8], second: &[u8], third: &[u8]) ->
     Ok(())
 }
 
-/// Writes the line that an answer has on the error output. It takes no memory, so the one refusal stands here as it is printed.
+/// Writes the line that an answer has on the error output. It takes no memory, so the one refusal is here as it is printed.
 pub fn tell<E: Sink>(err: &mut E, status: Status, file: &[u8]) -> Result<(), Failed>
     ensures ok { OnOk result (Grows (E.wrote err.old) (E.wrote err.new) (line_of status file.now)) }
     ensures err { OnErr result (GrowsInPart (E.wrote err.old) (E.wrote err.new) (line_of status file.now)) }

@@ -1,10 +1,10 @@
 -- Where no rule on reserved names is offended, no label is called Done or Error.
 use Rattle.std.proofs.Common.{◌≡◌, ℕ, suc, List, [], ◌∷◌, ◌++◌, Bool, true, false, codes, map, refl, ◌∙◌, ap}
-use Rattle.std.specs.List.{flat_map}
+use Rattle.std.specs.List.{flat_map, AllByRecursion}
 use Rattle.tla_token.specs.declared.rule.Rule.TheVariants.{Reserved}
 use Rattle.tla_token.specs.Signs.{is_among}
 use Rattle.tla_expr.specs.Tree.{Word}
-use Rattle.pcal_tree.specs.Algorithm.{Every, Process, Procedure, Main, alone, processes, Algorithm, Routine, numbered, first_procedure, first_process, procedure_routine, process_routine, procedure_routines, main_routines}
+use Rattle.pcal_tree.specs.Algorithm.{Process, Procedure, Main, alone, processes, Algorithm, Routine, numbered, first_procedure, first_process, procedure_routine, process_routine, procedure_routines, main_routines}
 use Rattle.pcal_tree.specs.Offences.{offence_if}
 use Rattle.pcal_tree.specs.OffencesLabels.{Label, labels, label_words}
 use Rattle.pcal_tree.specs.OffencesReserved.{labels_of_main, all_labels, reserved_name, reserved_label, reserved_outside, declared_names, reserved_declared}
@@ -25,7 +25,7 @@ abbrev pub is_clear : Word → Type 0
 is_clear w = is_among (codes "Done" ∷ codes "Error" ∷ []) w ≡ false
 
 abbrev pub AllClear : Routine → Type 0
-AllClear u = Every is_clear (label_words u.body)
+AllClear u = AllByRecursion is_clear (label_words u.body)
 
 one_clear : (l : Label) → reserved_label l ≡ [] → is_clear l.name.word
 one_clear l e = by (is_among (codes "Done" ∷ codes "Error" ∷ []) l.name.word) e
@@ -34,7 +34,7 @@ one_clear l e = by (is_among (codes "Done" ∷ codes "Error" ∷ []) l.name.word
     by true e = cc
     by false e = refl
 
-all_clear : (ls : List Label) → flat_map reserved_label ls ≡ [] → Every is_clear (map (λ l. l.name.word) ls)
+all_clear : (ls : List Label) → flat_map reserved_label ls ≡ [] → AllByRecursion is_clear (map (λ l. l.name.word) ls)
 all_clear [] e = tt
 all_clear (l ∷ ls) e = (
   one_clear l (nothing_left (reserved_label l) (flat_map reserved_label ls) e),
@@ -48,20 +48,20 @@ each_of_both f (x ∷ xs) ys e =
     (ap (λ l. l ++ flat_map f xs) (nothing_left (f x) (flat_map f (xs ++ ys)) e) ∙ rest.0, rest.1)
 
 procedures_clear : (n : ℕ) (ps : List Procedure)
-    → flat_map reserved_label (flat_map (λ p. labels false p.body) ps) ≡ [] → Every AllClear (numbered procedure_routine n ps)
+    → flat_map reserved_label (flat_map (λ p. labels false p.body) ps) ≡ [] → AllByRecursion AllClear (numbered procedure_routine n ps)
 procedures_clear n [] e = tt
 procedures_clear n (p ∷ ps) e =
     let both = each_of_both reserved_label (labels false p.body) (flat_map (λ p. labels false p.body) ps) e in
     (all_clear (labels false p.body) both.0, procedures_clear (suc n) ps both.1)
 
 processes_clear : (n : ℕ) (ps : List Process)
-    → flat_map reserved_label (flat_map (λ p. labels false p.body) ps) ≡ [] → Every AllClear (numbered process_routine n ps)
+    → flat_map reserved_label (flat_map (λ p. labels false p.body) ps) ≡ [] → AllByRecursion AllClear (numbered process_routine n ps)
 processes_clear n [] e = tt
 processes_clear n (p ∷ ps) e =
     let both = each_of_both reserved_label (labels false p.body) (flat_map (λ p. labels false p.body) ps) e in
     (all_clear (labels false p.body) both.0, processes_clear (suc n) ps both.1)
 
-main_clear : (a : Algorithm) (m : Main) → flat_map reserved_label (labels_of_main m) ≡ [] → Every AllClear (main_routines a m)
+main_clear : (a : Algorithm) (m : Main) → flat_map reserved_label (labels_of_main m) ≡ [] → AllByRecursion AllClear (main_routines a m)
 main_clear a (alone b) e = (all_clear (labels false b) e, tt)
 main_clear a (processes ps) e = processes_clear (first_process a) ps e
 

@@ -20,7 +20,7 @@ use Rattle.pcal_tree.proofs.SummaryLaws.{Agreeing, calls_agree}
 
 -- ---- paths
 
-abbrev Alike : Path → Path → Type 0
+abbrev pub Alike : Path → Path → Type 0
 Alike None None = Unit {0}
 Alike (Some xs) (Some ys) = Same xs ys
 Alike _ _ = ⊥
@@ -44,11 +44,11 @@ alike_assigned e f a (Some xs) (Some ys) h = same_both e.variables f.variables x
 alike_assigned e f a None (Some ys) h = absurd h
 alike_assigned e f a (Some xs) None h = absurd h
 
-abbrev AgreeAll : Effects → Effects → Type 0
+abbrev pub AgreeAll : Effects → Effects → Type 0
 AgreeAll E F = (st : Statement) → Agree (E st) (F st)
 
 mutual
-  alike_after_one : (E F : Effects) → AgreeAll E F → (st : Statement) (l : Bool) (p q : Path) → Alike p q → Alike (after_one E st l p) (after_one F st l q)
+  pub alike_after_one : (E F : Effects) → AgreeAll E F → (st : Statement) (l : Bool) (p q : Path) → Alike p q → Alike (after_one E st l p) (after_one F st l q)
   alike_after_one E F a (branch e b c) l p q k =
       alike_joined (after E b false p) (after F b false q) (after E c false p) (after F c false q) (alike_after E F a b false p q k) (alike_after E F a c false p q k)
   alike_after_one E F a (either bs) l p q k = alike_after_some E F a bs p q k
@@ -85,22 +85,22 @@ alike_assign (Some xs) (Some ys) e f k a = λ i. a.1 i || meets_same xs ys e.var
 alike_assign None (Some ys) e f k a = absurd k
 alike_assign (Some xs) None e f k a = absurd k
 
-abbrev At : Bool → Option Rule → Path → Before
+abbrev pub At : Bool → Option Rule → Path → Before
 At l r p = record { labelled = l; due = r; path = p }
 
-abbrev Listed : Effects → List Visit → List Refusal
+abbrev pub Listed : Effects → List Visit → List Refusal
 Listed E vs = flat_map (offences_at E) vs
 
 listed_both : (E F : Effects) (vs ws us xs : List Visit) → Listed E vs ≡ Listed F us → Listed E ws ≡ Listed F xs → Listed E (vs ++ ws) ≡ Listed F (us ++ xs)
 listed_both E F vs ws us xs h k = flat_map-append (offences_at E) vs ws ∙ (λ i. h i ++ k i) ∙ sym (flat_map-append (offences_at F) us xs)
 
-here_alike : (E F : Effects) → AgreeAll E F → (l : Bool) (r : Option Rule) (p q : Path) → Alike p q → (at : Place) (st : Statement)
+pub here_alike : (E F : Effects) → AgreeAll E F → (l : Bool) (r : Option Rule) (p q : Path) → Alike p q → (at : Place) (st : Statement)
     → offences_at E (record { before = At l r p; place = at; statement = st }) ≡ offences_at F (record { before = At l r q; place = at; statement = st })
 here_alike E F a l r p q k at st =
     ap (λ (b : Bool). missing_label (record { before = At l r p; place = at; statement = st }) ++ offence_if b AssignTwice at) (alike_assign p q (E st) (F st) k (a st))
 
 mutual
-  inside_alike : (E F : Effects) → AgreeAll E F → (st : Statement) (l : Bool) (r : Option Rule) (p q : Path) → Alike p q
+  pub inside_alike : (E F : Effects) → AgreeAll E F → (st : Statement) (l : Bool) (r : Option Rule) (p q : Path) → Alike p q
       → Listed E (visits_inside E (At l r p) st) ≡ Listed F (visits_inside F (At l r q) st)
   inside_alike E F a (branch e b c) l r p q k =
       listed_both E F (visits E (inside p) b) (visits E (inside p) c) (visits F (inside q) b) (visits F (inside q) c)
@@ -140,7 +140,7 @@ mutual
 
 -- ---- algorithms
 
-effects_agree : (C D : Word → Trees → Effect) → Agreeing C D → (p : Option Name) (xs : List Word) → AgreeAll (effects_in C p xs) (effects_in D p xs)
+pub effects_agree : (C D : Word → Trees → Effect) → Agreeing C D → (p : Option Name) (xs : List Word) → AgreeAll (effects_in C p xs) (effects_in D p xs)
 effects_agree C D a None xs (macro m ts) = a m ts
 effects_agree C D a (Some p) xs (macro m ts) = a m ts
 effects_agree C D a None xs st = (λ f. refl, refl)

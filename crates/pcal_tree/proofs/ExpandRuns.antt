@@ -1,5 +1,5 @@
 -- The expanded statements take the same courses.
-use Rattle.std.proofs.Common.{◌≡◌, List, [], ◌∷◌, Bool, true, false, cond, bytes_eq, Option, Some, None, refl, sym, ◌∙◌, ap, Ok}
+use Rattle.std.proofs.Common.{◌≡◌, List, [], ◌∷◌, Bool, true, false, cond, bytes_eq, Option, Some, None, refl, sym, ◌∙◌, ap}
 use Rattle.tla_token.specs.declared.place.Place.{Place}
 use Rattle.tla_expr.specs.Tree.{Word, Tree, Trees, no_trees, tree, Graft}
 use Rattle.tla_value.specs.Stops.{Check}
@@ -12,7 +12,10 @@ use Rattle.pcal_tree.specs.Run.{Course, chooses, course, held, stops, after, at_
 use Rattle.pcal_tree.specs.Expand.{graft_all, joined, Writing, expand_one, expand, expand_some, written_out, expanded}
 use Rattle.pcal_tree.proofs.GraftRuns.{Meets, graft_runs}
 use Rattle.tla_value.specs.Value.{fault}
-use Rattle.pcal_tree.specs.laws.Expansion.{Any, Calls, CallsOne, CallsSome, Chosen, Clean, FineCall, AnyPlace, BeginsUnlabelled}
+use Rattle.pcal_tree.specs.laws.Expansion.{Calls, CallsOne, CallsSome, Chosen, Throughout, FineCall, AnyPlace, BeginsUnlabelled}
+use Rattle.tla_value.specs.laws.FreeNames.{Any}
+use Rattle.tla_value.specs.Related.{Apart, ApartForm}
+use Rattle.pcal_tree.proofs.Uncaptured.{uncaptured}
 
 pub through_meets : (c : Check) (g : Graft) (sc : Scope) → AnyPlace sc → Meets c g Any sc (through c g sc)
 through_meets c g sc free = record {
@@ -133,19 +136,19 @@ opens_expand M f X P w done h o = absurd o
 opens_expand M f X P w (then at st rest) h o = opens_one M f X P w at st (expand X rest) h.0
 opens_expand M f X P w (mark l k rest) h o = absurd o
 
-called_law : (M : Rules) (ms : List Macro) → Written M (called M ms) (written_out ms) (FineCall M.check ms)
+called_law : (M : Rules) (ms : List Macro) → Written M (called M ms) (written_out ms) (FineCall ms)
 called_law M [] here at m ts h = (tt, λ sc free K. refl)
 called_law M (d ∷ older) here at m ts h = by (called_law M older) (bytes_eq d.name.word m) h
   where
-    by : Written M (called M older) (written_out older) (FineCall M.check older) → (b : Bool) → Chosen b (Clean M.check (arguments d.params ts) Any (expand (written_out older) d.body) × Calls (FineCall M.check older) d.body × BeginsUnlabelled d.body) (FineCall M.check older m ts) → BeginsUnlabelled (cond b (graft_all (arguments d.params ts) (expand (written_out older) d.body)) (written_out older at m ts)) × ((sc : Scope) → AnyPlace sc → (K : Follow) → (λ s. cond b (run (with_calls M (called M older)) here d.body (through M.check (arguments d.params ts) sc) K) (called M older here at.first m ts sc K) s) ≡ run (with_macros M []) here (cond b (graft_all (arguments d.params ts) (expand (written_out older) d.body)) (written_out older at m ts)) sc K)
+    by : Written M (called M older) (written_out older) (FineCall older) → (b : Bool) → Chosen b (Throughout (ApartForm (arguments d.params ts)) (Apart (arguments d.params ts)) (expand (written_out older) d.body) × Calls (FineCall older) d.body × BeginsUnlabelled d.body) (FineCall older m ts) → BeginsUnlabelled (cond b (graft_all (arguments d.params ts) (expand (written_out older) d.body)) (written_out older at m ts)) × ((sc : Scope) → AnyPlace sc → (K : Follow) → (λ s. cond b (run (with_calls M (called M older)) here d.body (through M.check (arguments d.params ts) sc) K) (called M older here at.first m ts sc K) s) ≡ run (with_macros M []) here (cond b (graft_all (arguments d.params ts) (expand (written_out older) d.body)) (written_out older at m ts)) sc K)
     by ih true k =
         let g : Graft = arguments d.params ts in (
-          opens_graft g (expand (written_out older) d.body) (opens_expand M (called M older) (written_out older) (FineCall M.check older) ih d.body k.1 k.2),
-          λ sc free K. expand_runs M (called M older) (written_out older) (FineCall M.check older) ih here d.body k.1 (through M.check g sc) (through_free M.check d.params ts sc free) K K refl
-              ∙ sym (graft_runs (with_macros M []) g Any here (expand (written_out older) d.body) k.0 sc (through M.check g sc) (through_meets M.check g sc free) K K refl),
+          opens_graft g (expand (written_out older) d.body) (opens_expand M (called M older) (written_out older) (FineCall older) ih d.body k.1 k.2),
+          λ sc free K. expand_runs M (called M older) (written_out older) (FineCall older) ih here d.body k.1 (through M.check g sc) (through_free M.check d.params ts sc free) K K refl
+              ∙ sym (graft_runs (with_macros M []) g Any here (expand (written_out older) d.body) (uncaptured M.check g (expand (written_out older) d.body) k.0) sc (through M.check g sc) (through_meets M.check g sc free) K K refl),
         )
     by ih false k = ih here at m ts k
 
 -- the same courses, places and kinds of faults included, in every scope and with anything after
-pub expansion : (M : Rules) (ms : List Macro) (here : Word) (ss : Statements) → Calls (FineCall M.check ms) ss → (sc : Scope) → AnyPlace sc → (K : Follow) → run (with_macros M ms) here ss sc K ≡ run (with_macros M []) here (expanded ms ss) sc K
-expansion M ms here ss h sc free K = expand_runs M (called M ms) (written_out ms) (FineCall M.check ms) (called_law M ms) here ss h sc free K K refl
+pub expansion : (M : Rules) (ms : List Macro) (here : Word) (ss : Statements) → Calls (FineCall ms) ss → (sc : Scope) → AnyPlace sc → (K : Follow) → run (with_macros M ms) here ss sc K ≡ run (with_macros M []) here (expanded ms ss) sc K
+expansion M ms here ss h sc free K = expand_runs M (called M ms) (written_out ms) (FineCall ms) (called_law M ms) here ss h sc free K K refl

@@ -7,7 +7,7 @@ use Rattle.std.proofs.lemmas.List.{append_cancel_left}
 use Rattle.tla_token.specs.Signs.{is_among}
 use Rattle.tla_token.specs.Words.{is_reserved, is_own, is_standard}
 use Rattle.tla_expr.specs.Tree.{Word}
-use Rattle.pcal_tree.specs.Algorithm.{Every}
+use Rattle.std.specs.List.{AllByRecursion}
 use Rattle.pcal_tree.specs.Names.{is_taken, joint, numbered, free_from, first_free, Want, give}
 use Rattle.pcal_tree.specs.laws.Apart.{Apart}
 
@@ -124,13 +124,13 @@ later f w taken e = (
   right_false (bytes_eq f w) (is_among taken w) e,
 )
 
-pub every_map : {X : Type 0} (Q R : X → Type 0) → ((x : X) → Q x → R x) → (xs : List X) → Every Q xs → Every R xs
+pub every_map : {X : Type 0} (Q R : X → Type 0) → ((x : X) → Q x → R x) → (xs : List X) → AllByRecursion Q xs → AllByRecursion R xs
 every_map Q R f [] h = tt
 every_map Q R f (x ∷ xs) h = (f x h.0, every_map Q R f xs h.1)
 
 -- none is taken already
 pub given_untaken : (extended taken : List Word) (ws : List Want) → length taken + length ws < 2 ^ 64
-    → Every (λ g. is_among taken g.written ≡ false) (give extended taken ws)
+    → AllByRecursion (λ g. is_among taken g.written ≡ false) (give extended taken ws)
 given_untaken extended taken [] few = tt
 given_untaken extended taken (w ∷ ws) few =
     let name : Word = first_free extended taken w.word in (

@@ -1,6 +1,6 @@
 -- A name with a number after it is no reserved, own or standard name: none of these ends with a digit.
 use Rattle.std.proofs.Common.{◌≡◌, ℕ, ◌+◌, ◌<◌, ◌≤◌, ◌^◌, length, drop, get_or, List, [], ◌∷◌, ◌++◌, Bool, true, false, ◌||◌, ◌&&◌, not, cond, bytes_eq, codes, refl, sym, ◌∙◌, ap, subst, decimal, arith}
-use Rattle.std.specs.List.{list_all}
+use Rattle.std.specs.List.{list_all, AllByRecursion}
 use Rattle.std.specs.Str.Parse.{AllDigits, IsNumeral}
 use Rattle.std.proofs.lemmas.Slice.Eq.{bytes_eq-Decides}
 use Rattle.std.proofs.lemmas.Bool.{and_parts, and_from, or_left, or_right, false_from_ne_true, not-true, le-leb}
@@ -11,7 +11,6 @@ use Rattle.tla_token.specs.Signs.{is_among}
 use Rattle.tla_token.specs.Words.{pluscal_words, tla_words, begins_fairness, is_reserved, own_names, is_own, standard_names, sequence_names, tlc_names, is_standard}
 use Rattle.tla_token.proofs.Spelled.{begins, begins_is, begins_from}
 use Rattle.tla_expr.specs.Tree.{Word}
-use Rattle.pcal_tree.specs.Algorithm.{Every}
 use Rattle.pcal_tree.specs.Names.{is_taken, joint, numbered, free_from, first_free, Want, give}
 use Rattle.pcal_tree.proofs.FreeNames.{free_is, free_untaken, every_map}
 
@@ -198,7 +197,7 @@ fewer_taken extended taken f w e = by (is_reserved w || is_own w || is_standard 
         by_name false e = e
 
 pub given_free : (extended taken : List Word) (ws : List Want) → length taken + length ws < 2 ^ 64
-    → Every (λ w. begins_fairness w.word ≡ false) ws → Every (λ g. is_taken extended taken g.written ≡ false) (give extended taken ws)
+    → AllByRecursion (λ w. begins_fairness w.word ≡ false) ws → AllByRecursion (λ g. is_taken extended taken g.written ≡ false) (give extended taken ws)
 given_free extended taken [] few fair = tt
 given_free extended taken (w ∷ ws) few fair =
     let name : Word = first_free extended taken w.word in (

@@ -1,7 +1,7 @@
 -- Statements with trees put in for names take the courses that the statements take where the names stand for these trees.
 use Rattle.std.proofs.Common.{◌≡◌, List, [], ◌∷◌, cond, Option, Some, None, refl, sym, ◌∙◌, ap, Ok}
 use Rattle.tla_token.specs.declared.place.Place.{Place}
-use Rattle.tla_expr.specs.Tree.{Word, apply, select, Form, name, next, operator_call, strict, binders, Tree, node, Trees, no_trees, tree, Every, EveryOf, Graft, grafted_name, grafted_node, graft, grafts}
+use Rattle.tla_expr.specs.Tree.{Word, apply, select, Form, name, next, operator_call, strict, binders, Tree, node, Trees, no_trees, tree, Every, EveryOf, Graft, grafted_name, grafted_node, graft, grafts, root_place}
 use Rattle.tla_value.specs.Value.{Value, text, Outcome, ◌>>=◌}
 use Rattle.tla_value.specs.Stops.{Check, truth_at, members_at}
 use Rattle.tla_value.specs.Meaning.{Env, Denotation, part_values}
@@ -10,8 +10,8 @@ use Rattle.tla_value.proofs.Joined.{none, one}
 use Rattle.tla_value.proofs.Alike.{AllAlike}
 use Rattle.tla_value.proofs.Graft.{grafts_law, Grafted, bound_grafted, Fits, grafted_law}
 use Rattle.pcal_tree.specs.Algorithm.{Assignments, no_assignments, assignment, Binds, no_binds, one_of, is, Statement, assign, await, print, assert, skip, branch, either, with, while, goto, macro, call, return, Statements, done, then, mark, Branches, no_branches, or}
-use Rattle.pcal_tree.specs.Scope.{State, Part, Scope, bound, place_in, place_of, places_of, Reach, deeper, root_place, reach_form, reach, reach_path, reach_in, origin_in, through, value_of, test, members}
-use Rattle.pcal_tree.specs.Assign.{Setting, set_all, settings}
+use Rattle.pcal_tree.specs.Scope.{State, Part, Scope, bound, place_in, place_of, places_of, deeper, reach, reach_path, reach_in, origin_in, value_of}
+use Rattle.pcal_tree.specs.Assign.{set_all, settings}
 use Rattle.pcal_tree.specs.Run.{Course, chooses, course, held, stops, after, at_each, Follow, Rules, unlabelled, label_of, run_binds, run_one, run, run_branches}
 use Rattle.pcal_tree.specs.Expand.{placed_at, graft_left, graft_assignments, graft_binds, graft_one, graft_all, graft_some}
 use Rattle.tla_value.specs.Related.{Rel}

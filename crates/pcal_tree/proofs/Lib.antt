@@ -4,6 +4,7 @@ mod RowsStep
 mod RowsMacros
 mod Choices
 pub mod GraftRuns
+pub mod Uncaptured
 pub mod ExpandRuns
 pub mod BeginLaws
 pub mod BodyLabels
@@ -27,6 +28,7 @@ pub mod LinesGood
 pub mod TargetLaws
 pub mod SummaryLaws
 pub mod EffectLaws
+pub mod EffectLabels
 mod RowsOffences
 pub mod SameVariables
 pub mod StepVariables

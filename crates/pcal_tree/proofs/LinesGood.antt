@@ -8,7 +8,7 @@ use Rattle.tla_expr.specs.Spelling as spelled
 use Rattle.tla_expr.specs.laws.Columns.{looks, lineless_place, lineless}
 use Rattle.tla_expr.proofs.ColumnsGood.{Same, good, good_all}
 use Rattle.tla_expr.proofs.Columns.{no_looks, bare, looks_of_bare, looks_ahead}
-use Rattle.pcal_tree.specs.Algorithm.{Every}
+use Rattle.std.specs.List.{AllByRecursion}
 use Rattle.pcal_tree.specs.GrammarParts as part
 use Rattle.pcal_tree.specs.GrammarP as psyntax
 use Rattle.pcal_tree.specs.GrammarC as csyntax
@@ -195,7 +195,7 @@ good_define g.c_syntax (g.define_end a ds b d s) = refl
 good_define g.p_syntax (g.define_braces a b ds d s) = refl
 good_define g.c_syntax (g.define_braces a b ds d s) = good_definitions ds
 
-every_good : {A : Type 0} (bare : A → A) (Q : A → Type 0) → ((x : A) → Same (Q (bare x)) (Q x)) → (xs : List A) → Same (Every Q (map bare xs)) (Every Q xs)
+every_good : {A : Type 0} (bare : A → A) (Q : A → Type 0) → ((x : A) → Same (Q (bare x)) (Q x)) → (xs : List A) → Same (AllByRecursion Q (map bare xs)) (AllByRecursion Q xs)
 every_good bare Q f [] = refl
 every_good bare Q f (x ∷ xs) = λ z. f x z × every_good bare Q f xs z
 

@@ -1,16 +1,17 @@
 -- Each process stands at one label at most: written labels are apart, and what a process runs are routines of the algorithm.
 use Rattle.std.proofs.Common.{◌≡◌, ℕ, suc, ◌+◌, ◌<◌, ◌≤◌, length, List, [], ◌∷◌, ◌++◌, Bool, true, false, ◌||◌, cond, bytes_eq, codes, Some, refl, sym, ◌∙◌, ap, subst, inl, inr, ◌⊎◌, arith, Ok, Err}
 use Rattle.std.specs.Ordering.{is_lt}
+use Rattle.std.specs.List.{AllByRecursion}
 use Rattle.tla_token.specs.declared.place.Place.{Place}
 use Rattle.tla_token.specs.Signs.{is_among}
 use Rattle.tla_expr.specs.Tree.{Word}
 use Rattle.tla_value.specs.declared.fault.FaultKind.TheVariants.{SameIdentifier}
 use Rattle.tla_value.specs.Value.{Value, Values, no_values, and, Outcome, fault, over, set, text, ◌>>=◌}
 use Rattle.tla_value.specs.Order.{order, set_from}
-use Rattle.pcal_tree.specs.Algorithm.{Every, Process, Main, alone, processes, Algorithm, Routine, numbered, first_procedure, first_process, procedure_routine, process_routine, alone_routine, procedure_routines, main_routines, routines}
+use Rattle.pcal_tree.specs.Algorithm.{Process, Main, alone, processes, Algorithm, Routine, numbered, first_procedure, first_process, procedure_routine, process_routine, alone_routine, procedure_routines, main_routines, routines}
 use Rattle.pcal_tree.specs.Run.{unlabelled}
 use Rattle.pcal_tree.specs.Scope.{State}
-use Rattle.pcal_tree.specs.StepStart.{Begin, at_label}
+use Rattle.pcal_tree.specs.StepStart.{at_label}
 use Rattle.pcal_tree.specs.Program.{Program, Actor}
 use Rattle.pcal_tree.specs.Calls.{label_name}
 use Rattle.pcal_tree.specs.OffencesLabels.{label_words}
@@ -26,7 +27,7 @@ use Rattle.pcal_tree.specs.laws.Steps.{StandsOnce}
 
 -- ---- what a process runs
 
-pub every_both : {X : Type 0} (Q : X → Type 0) (xs ys : List X) → Every Q xs → Every Q ys → Every Q (xs ++ ys)
+pub every_both : {X : Type 0} (Q : X → Type 0) (xs ys : List X) → AllByRecursion Q xs → AllByRecursion Q ys → AllByRecursion Q (xs ++ ys)
 every_both Q [] ys h k = k
 every_both Q (x ∷ xs) ys h k = (h.0, every_both Q xs ys h.1 k)
 
@@ -34,7 +35,7 @@ every_both Q (x ∷ xs) ys h k = (h.0, every_both Q xs ys h.1 k)
 abbrev Own : List Routine → Actor → Type 0
 Own us v = OneOf v.own us
 
-own_of : (u : Routine) (us : List Routine) (vs : Values) → OneOf u us → Every (Own us) (actors_of u vs)
+own_of : (u : Routine) (us : List Routine) (vs : Values) → OneOf u us → AllByRecursion (Own us) (actors_of u vs)
 own_of u us no_values h = tt
 own_of u us (and v vs) h = (h, own_of u us vs h)
 
@@ -42,44 +43,44 @@ got_is : {X : Type 0} {x y : X} → ◌≡◌ {A = Outcome X} (Ok x) (Ok y) → 
 got_is e = cc
 
 own_all : (P : Program) (us : List Routine) (n : ℕ) (ps : List Process) → ((u : Routine) → OneOf u (numbered process_routine n ps) → OneOf u us)
-    → (vs : List Actor) → all_actors P n ps ≡ Ok vs → Every (Own us) vs
-own_all P us n [] h vs e = subst (Every (Own us)) (got_is e) tt
+    → (vs : List Actor) → all_actors P n ps ≡ Ok vs → AllByRecursion (Own us) vs
+own_all P us n [] h vs e = subst (AllByRecursion (Own us)) (got_is e) tt
 own_all P us n (p ∷ ps) h vs e = by (own_all P us (suc n) ps (λ u k. h u (inr k))) (identifiers_of P p) e
   where
-    by_rest : (is : Values) (o : Outcome (List Actor)) → ((ws : List Actor) → o ≡ Ok ws → Every (Own us) ws)
-        → o >>= (λ more. Ok (actors_of (process_routine n p) is ++ more)) ≡ Ok vs → Every (Own us) vs
+    by_rest : (is : Values) (o : Outcome (List Actor)) → ((ws : List Actor) → o ≡ Ok ws → AllByRecursion (Own us) ws)
+        → o >>= (λ more. Ok (actors_of (process_routine n p) is ++ more)) ≡ Ok vs → AllByRecursion (Own us) vs
     by_rest is (Ok ws) ih e =
-        subst (Every (Own us)) (got_is e)
+        subst (AllByRecursion (Own us)) (got_is e)
         (every_both (Own us) (actors_of (process_routine n p) is) ws (own_of (process_routine n p) us is (h (process_routine n p) (inl refl)))
         (ih ws refl))
     by_rest is (Err k) ih e = cc
 
-    by : ((ws : List Actor) → all_actors P (suc n) ps ≡ Ok ws → Every (Own us) ws) → (o : Outcome Values)
-        → o >>= (λ is. (all_actors P (suc n) ps) >>= (λ more. Ok (actors_of (process_routine n p) is ++ more))) ≡ Ok vs → Every (Own us) vs
+    by : ((ws : List Actor) → all_actors P (suc n) ps ≡ Ok ws → AllByRecursion (Own us) ws) → (o : Outcome Values)
+        → o >>= (λ is. (all_actors P (suc n) ps) >>= (λ more. Ok (actors_of (process_routine n p) is ++ more))) ≡ Ok vs → AllByRecursion (Own us) vs
     by ih (Ok is) e = by_rest is (all_actors P (suc n) ps) ih e
     by ih (Err k) e = cc
 
-own_apart : (us : List Routine) (earlier vs ws : List Actor) → Every (Own us) earlier → Every (Own us) vs → apart earlier vs ≡ Ok ws
-    → Every (Own us) ws
-own_apart us earlier [] ws h k e = subst (Every (Own us)) (got_is e) h
+own_apart : (us : List Routine) (earlier vs ws : List Actor) → AllByRecursion (Own us) earlier → AllByRecursion (Own us) vs → apart earlier vs ≡ Ok ws
+    → AllByRecursion (Own us) ws
+own_apart us earlier [] ws h k e = subst (AllByRecursion (Own us)) (got_is e) h
 own_apart us earlier (v ∷ vs) ws h k e =
     by (own_apart us (earlier ++ (v ∷ [])) vs ws (every_both (Own us) earlier (v ∷ []) h (k.0, tt)) k.1)
     (has_identifier (identifier v.self) earlier) e
   where
-    by : (apart (earlier ++ (v ∷ [])) vs ≡ Ok ws → Every (Own us) ws) → (b : Bool)
-        → cond b (Err (fault SameIdentifier v.own.name.place)) (apart (earlier ++ (v ∷ [])) vs) ≡ Ok ws → Every (Own us) ws
+    by : (apart (earlier ++ (v ∷ [])) vs ≡ Ok ws → AllByRecursion (Own us) ws) → (b : Bool)
+        → cond b (Err (fault SameIdentifier v.own.name.place)) (apart (earlier ++ (v ∷ [])) vs) ≡ Ok ws → AllByRecursion (Own us) ws
     by ih true e = cc
     by ih false e = ih e
 
-own_placed : (us : List Routine) (v : Actor) (ws : List Actor) → Own us v → Every (Own us) ws → Every (Own us) (placed v ws)
+own_placed : (us : List Routine) (v : Actor) (ws : List Actor) → Own us v → AllByRecursion (Own us) ws → AllByRecursion (Own us) (placed v ws)
 own_placed us v [] h k = (h, tt)
 own_placed us v (w ∷ ws) h k = by (is_lt (order (identifier v.self) (identifier w.self))) (own_placed us v ws h k.1)
   where
-    by : (b : Bool) → Every (Own us) (placed v ws) → Every (Own us) (cond b (v ∷ w ∷ ws) (w ∷ placed v ws))
+    by : (b : Bool) → AllByRecursion (Own us) (placed v ws) → AllByRecursion (Own us) (cond b (v ∷ w ∷ ws) (w ∷ placed v ws))
     by true ih = (h, k)
     by false ih = (k.0, ih)
 
-own_sorted : (us : List Routine) (vs : List Actor) → Every (Own us) vs → Every (Own us) (sorted vs)
+own_sorted : (us : List Routine) (vs : List Actor) → AllByRecursion (Own us) vs → AllByRecursion (Own us) (sorted vs)
 own_sorted us [] h = tt
 own_sorted us (v ∷ vs) h = own_placed us v (sorted vs) h.0 (own_sorted us vs h.1)
 
@@ -91,8 +92,8 @@ united_same P at vs ws e = by (P.check at (set (set_from (identifiers vs)))) e
     by (Err (fault k p)) e = cc
     by (Err (over p)) e = cc
 
-own_main : (P : Program) (m : Main) (vs : List Actor) → actors_in P m ≡ Ok vs → Every (Own (main_routines P.algorithm m)) vs
-own_main P (alone ss) vs e = subst (Every (Own (main_routines P.algorithm (alone ss)))) (got_is e) (inl refl, tt)
+own_main : (P : Program) (m : Main) (vs : List Actor) → actors_in P m ≡ Ok vs → AllByRecursion (Own (main_routines P.algorithm m)) vs
+own_main P (alone ss) vs e = subst (AllByRecursion (Own (main_routines P.algorithm (alone ss)))) (got_is e) (inl refl, tt)
 own_main P (processes ps) vs e = by_all (all_actors P (first_process P.algorithm) ps) (own_all P us (first_process P.algorithm) ps (λ u h. h)) e
   where
     us : List Routine
@@ -101,18 +102,18 @@ own_main P (processes ps) vs e = by_all (all_actors P (first_process P.algorithm
     at : Place
     at = last_place P.algorithm.name.place ps
 
-    by_union : (ws : List Actor) → Every (Own us) ws → (o : Outcome (List Actor)) → united P at ws ≡ o
-        → o >>= (λ us. Ok (sorted us)) ≡ Ok vs → Every (Own us) vs
-    by_union ws h (Ok ts) q e = subst (Every (Own us)) (got_is e) (own_sorted us ts (subst (Every (Own us)) (united_same P at ws ts q) h))
+    by_union : (ws : List Actor) → AllByRecursion (Own us) ws → (o : Outcome (List Actor)) → united P at ws ≡ o
+        → o >>= (λ us. Ok (sorted us)) ≡ Ok vs → AllByRecursion (Own us) vs
+    by_union ws h (Ok ts) q e = subst (AllByRecursion (Own us)) (got_is e) (own_sorted us ts (subst (AllByRecursion (Own us)) (united_same P at ws ts q) h))
     by_union ws h (Err k) q e = cc
 
-    by_apart : (ws : List Actor) → Every (Own us) ws → (o : Outcome (List Actor)) → apart [] ws ≡ o
-        → o >>= (λ ts. (united P at ts) >>= (λ us. Ok (sorted us))) ≡ Ok vs → Every (Own us) vs
+    by_apart : (ws : List Actor) → AllByRecursion (Own us) ws → (o : Outcome (List Actor)) → apart [] ws ≡ o
+        → o >>= (λ ts. (united P at ts) >>= (λ us. Ok (sorted us))) ≡ Ok vs → AllByRecursion (Own us) vs
     by_apart ws h (Ok ts) q e = by_union ts (own_apart us [] ws ts tt h q) (united P at ts) refl e
     by_apart ws h (Err k) q e = cc
 
-    by_all : (o : Outcome (List Actor)) → ((ws : List Actor) → o ≡ Ok ws → Every (Own us) ws)
-        → o >>= (λ ws. (apart [] ws) >>= (λ ts. (united P at ts) >>= (λ us. Ok (sorted us)))) ≡ Ok vs → Every (Own us) vs
+    by_all : (o : Outcome (List Actor)) → ((ws : List Actor) → o ≡ Ok ws → AllByRecursion (Own us) ws)
+        → o >>= (λ ws. (apart [] ws) >>= (λ ts. (united P at ts) >>= (λ us. Ok (sorted us)))) ≡ Ok vs → AllByRecursion (Own us) vs
     by_all (Ok ws) h e = by_apart ws (h ws refl) (apart [] ws) refl e
     by_all (Err k) h e = cc
 
@@ -227,7 +228,7 @@ stands_once P o named few clear s v actor d e h k = same_stand d e h.1 k.1 (one_
     no_end : (f : Stand) → StandsAt P s v f → is_among (codes "Done" ∷ codes "Error" ∷ []) f.label ≡ false
     no_end f h =
         every_one (λ l. is_among (codes "Done" ∷ codes "Error" ∷ []) l ≡ false) f.label (label_words f.routine.body)
-        (every_one (λ u. Every (λ l. is_among (codes "Done" ∷ codes "Error" ∷ []) l ≡ false) (label_words u.body)) f.routine (routines a) clear
+        (every_one (λ u. AllByRecursion (λ l. is_among (codes "Done" ∷ codes "Error" ∷ []) l ≡ false) (label_words u.body)) f.routine (routines a) clear
         (runs f h)) (in_body f h)
 
     written_name : (f : Stand) → StandsAt P s v f → label_name P f.routine f.label ≡ written_for (given a o) f.routine.number label f.label

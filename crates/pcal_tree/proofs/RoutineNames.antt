@@ -1,11 +1,10 @@
 -- Written labels of different labels differ: each label of a routine is wanted, and routines have different numbers.
 use Rattle.std.proofs.Common.{◌≡◌, ℕ, List, [], ◌∷◌, ◌++◌, Bool, true, false, ◌&&◌, nat_eq, cond, bytes_eq, map, refl, sym, ◌∙◌, ap, subst, inl, inr, ◌⊎◌}
-use Rattle.std.specs.List.{flat_map}
+use Rattle.std.specs.List.{flat_map, AllByRecursion}
 use Rattle.std.proofs.lemmas.Slice.Eq.{bytes_eq-Decides}
 use Rattle.std.proofs.lemmas.Bool.{and_parts, and_from, eqb-true, eq-eqb}
-use Rattle.std.proofs.lemmas.List.{map-append}
 use Rattle.tla_expr.specs.Tree.{Word}
-use Rattle.pcal_tree.specs.Algorithm.{Every, Statement, branch, either, with, while, Statements, done, then, mark, Branches, no_branches, or, Main, alone, processes, Algorithm, Routine, locals, procedure_routines, main_routines, routines}
+use Rattle.pcal_tree.specs.Algorithm.{Statement, branch, either, with, while, Statements, done, then, mark, Branches, no_branches, or, Main, alone, processes, Algorithm, Routine, locals, procedure_routines, main_routines, routines}
 use Rattle.pcal_tree.specs.OffencesLabels.{labels, labels_of_one, labels_of_some, label_words}
 use Rattle.pcal_tree.specs.Names.{Role, label, variable, title, Want, wants, wanted_within, wanted_by, wanted_by_main, wanted, Given, give, first_free, same_role, is_for, written_for}
 use Rattle.pcal_tree.specs.laws.Apart.{Apart}
@@ -13,7 +12,7 @@ use Rattle.pcal_tree.proofs.TroubleLaws.{one_left, one_right}
 use Rattle.pcal_tree.specs.Variables.{declared}
 use Rattle.pcal_tree.specs.Processes.{OneOf}
 
-pub every_one : {X : Type 0} (Q : X → Type 0) (x : X) (xs : List X) → Every Q xs → OneOf x xs → Q x
+pub every_one : {X : Type 0} (Q : X → Type 0) (x : X) (xs : List X) → AllByRecursion Q xs → OneOf x xs → Q x
 every_one Q x [] h k = absurd k
 every_one Q x (y ∷ ys) h (inl e) = subst Q (sym e) h.0
 every_one Q x (y ∷ ys) h (inr k) = every_one Q x ys h.1 k

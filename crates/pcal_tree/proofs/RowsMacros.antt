@@ -1,22 +1,14 @@
 -- Macro calls that can be written out, and one that can't, tried by computation.
-use Rattle.std.proofs.Common.{◌≡◌, List, [], ◌∷◌, Bool, true, false, cond, bytes_eq, codes, Option, Some, None, refl, ap, Ok, Err}
-use Rattle.tla_token.specs.declared.place.Place.{Place}
+use Rattle.std.proofs.Common.{◌≡◌, [], ◌∷◌, Bool, true, false, cond, bytes_eq, codes, Some, None, refl, inl}
 use Rattle.tla_expr.specs.declared.op.Op.TheVariants.{Equal}
 use Rattle.tla_expr.specs.declared.op.Binder.TheVariants.{Exists}
 use Rattle.tla_expr.specs.Tree.{Word, set_of, conjunction, binding, strict, Tree, node, no_trees, tree}
-use Rattle.tla_value.specs.Value.{Value, truth, Outcome, Sense}
-use Rattle.tla_value.specs.Stops.{plain}
-use Rattle.tla_value.specs.Meaning.{Env, just, bind, eval}
-use Rattle.tla_value.specs.Definitions.{base}
-use Rattle.tla_value.specs.Related.{Unread, Clear}
+use Rattle.tla_value.specs.Related.{Apart, NotFreeIn}
 use Rattle.pcal_tree.specs.Algorithm.{Statement, await, macro, Statements, done, Macro, alone_routine}
-use Rattle.pcal_tree.specs.Scope.{State}
-use Rattle.pcal_tree.specs.Run.{Course, arguments, run, exit_to}
-use Rattle.pcal_tree.specs.Expand.{expanded}
+use Rattle.pcal_tree.specs.Run.{arguments}
 use Rattle.pcal_tree.specs.Program.{Program, Actor, routine_scope}
-use Rattle.pcal_tree.specs.Calls.{rules_of}
-use Rattle.pcal_tree.specs.laws.Expansion.{Unreached, ClearName, Calls, FineCall, AnyPlace}
-use Rattle.pcal_tree.proofs.Sample.{at, title, num, var, over, and_next, an_int, one_body}
+use Rattle.pcal_tree.specs.laws.Expansion.{FineCall, AnyPlace}
+use Rattle.pcal_tree.proofs.Sample.{at, title, num, var, over, and_next}
 
 abbrev i : Word
 i = codes "i"
@@ -38,17 +30,17 @@ both = await_macro (node conjunction (at 1) (tree (some_member (num 1) (over Equ
 abbrev own_i : Tree
 own_i = some_member (num 2) (over Equal (var i) (num 2))
 
--- the argument's i is its own, so it doesn't read the i of the body
-own_unread : (c : Bool) → Unread plain i (cond c (Some own_i) None)
-own_unread true = λ v e. refl
-own_unread false = tt
+-- the i of the argument is its own, so it isn't free there
+own_not_free : (c : Bool) → NotFreeIn i (cond c (Some own_i) None)
+own_not_free true = (tt, ((tt, ((tt, tt), tt)), ((tt, ((inl refl, tt), ((tt, tt), tt))), tt)))
+own_not_free false = tt
 
-i_is_clear : Clear plain (arguments (title p ∷ []) (tree own_i no_trees)) i
-i_is_clear = record { left = λ at. refl; unread = λ y at. own_unread (bytes_eq p y) }
+i_is_apart : Apart (arguments (title p ∷ []) (tree own_i no_trees)) i
+i_is_apart = record { left = λ at. refl; unread = λ y at. own_not_free (bytes_eq p y) }
 
-call_is_fine : FineCall plain (both ∷ []) (codes "N") (tree own_i no_trees)
+call_is_fine : FineCall (both ∷ []) (codes "N") (tree own_i no_trees)
 call_is_fine =
-    ((((tt, tt), ((((i_is_clear, tt), tt), (((tt, tt), (((tt, tt), tt), tt)), (((tt, tt), (((tt, tt), tt), (((tt, tt), tt), tt))), tt))), (((tt, tt), tt), tt))), tt), (tt, tt), tt)
+    (((tt, ((((i_is_apart, tt)), ((tt, ((tt, tt), tt)), ((tt, ((tt, tt), ((tt, tt), tt))), tt))), ((tt, tt), tt))), tt), (tt, tt), tt)
 
 -- macro N(p) begin await \E i \in {1} : p; end macro, called as N(i = 2): the i of the call would be captured
 abbrev capturing : Macro
@@ -57,17 +49,11 @@ capturing = await_macro (some_member (num 1) (var p))
 abbrev other_i : Tree
 other_i = over Equal (var i) (num 2)
 
-abbrev where_two : Env
-where_two = bind i (an_int 2) (base plain (λ w. None))
-
-capture_is_refused : FineCall plain (capturing ∷ []) (codes "N") (tree other_i no_trees) → ⊥
-capture_is_refused h = apart (ap (λ s. s.value) (unread h))
+capture_is_refused : FineCall (capturing ∷ []) (codes "N") (tree other_i no_trees) → ⊥
+capture_is_refused h = apart ((h.0.0.0.0).unread p (at 1)).1.0.0
   where
-    apart : ◌≡◌ {A = Outcome Value} (Ok (truth true)) (Ok (truth false)) → ⊥
+    apart : true ≡ false → ⊥
     apart e = cc
-
-    unread : FineCall plain (capturing ∷ []) (codes "N") (tree other_i no_trees) → eval plain other_i where_two ≡ eval plain other_i (bind i (an_int 1) where_two)
-    unread h = (h.0.0.0.0.0).unread p (at 1) (an_int 1) where_two
 
 -- what a process's statements stand in looks at no places
 scopes_look_at_no_place : (P : Program) (v : Actor) (u : Rattle.pcal_tree.specs.Algorithm.Routine) → AnyPlace (routine_scope P v u)

@@ -1,22 +1,21 @@
 -- Whether a state is initial depends on the variables of the translation alone; and the rule on `return` keeps it in procedures.
-use Rattle.std.proofs.Common.{◌≡◌, ℕ, suc, List, [], ◌∷◌, ◌++◌, Bool, true, false, ◌||◌, not, map, refl, sym, ◌∙◌, ap, subst, inl, inr, Ok}
+use Rattle.std.proofs.Common.{◌≡◌, ℕ, suc, List, [], ◌∷◌, ◌++◌, Bool, true, false, ◌||◌, not, map, refl, ◌∙◌, ap, inl, inr, Ok}
 use Rattle.std.specs.List.{flat_map}
 use Rattle.tla_token.specs.declared.place.Place.{Place}
-use Rattle.tla_token.specs.declared.rule.Refusal.{Refusal}
 use Rattle.tla_expr.specs.Tree.{Word, Tree, Trees}
 use Rattle.pcal_tree.specs.Paths.{Effect}
-use Rattle.tla_value.specs.Value.{Value, Outcome, values_in, and_then, ◌>>=◌}
+use Rattle.tla_value.specs.Value.{Value, values_in, and_then, ◌>>=◌}
 use Rattle.tla_value.specs.Order.{same}
 use Rattle.tla_value.specs.Meaning.{eval}
-use Rattle.pcal_tree.specs.Algorithm.{Start, unset, equals, among, Declaration, Statement, branch, either, with, while, goto, call, return, Statements, done, then, mark, Branches, no_branches, or, Macro, Process, Main, alone, processes, Algorithm, Routine, locals, numbered, process_routine, procedure_routines, main_routines, routines, first_process}
+use Rattle.pcal_tree.specs.Algorithm.{Start, unset, equals, among, Declaration, Statement, branch, either, with, while, return, Statements, done, then, mark, Branches, no_branches, or, Process, Main, alone, processes, Algorithm, Routine, locals, numbered, process_routine, procedure_routines, main_routines, routines, first_process}
 use Rattle.pcal_tree.specs.Scope.{State, Scope}
 use Rattle.tla_value.specs.Stops.{members_at}
 use Rattle.pcal_tree.specs.Program.{Program, Actor, written, routine_scope, global_scope}
 use Rattle.pcal_tree.specs.Variables.{pc, stack, vars, Agree}
 use Rattle.pcal_tree.specs.Calls.{defaultInitValue, first_label, label_value}
 use Rattle.pcal_tree.specs.Processes.{actors, identifiers, OneOf}
-use Rattle.pcal_tree.specs.InitialStates.{plain_allowed, has_members, values_for, function_on, spread_allowed, globals_allowed, local_allowed, locals_allowed, is_multiprocess, procedures_allowed, running, processes_allowed, own_allowed, empty_stack, stack_allowed, pc_allowed, allowed}
-use Rattle.pcal_tree.specs.OffencesLabels.{Within, within_with, jump_offences_here, jump_offences_inside, jump_offences, jump_offences_of_some, second_labels, labels, label_words, misplaced, of_macro, of_procedure, of_body, of_main, label_offences}
+use Rattle.pcal_tree.specs.InitialStates.{plain_allowed, has_members, values_for, function_on, spread_allowed, globals_allowed, local_allowed, locals_allowed, is_multiprocess, procedures_allowed, running, processes_allowed, own_allowed, empty_stack, stack_allowed, allowed}
+use Rattle.pcal_tree.specs.OffencesLabels.{Within, within_with, jump_offences_here, jump_offences_inside, jump_offences, jump_offences_of_some, second_labels, labels, misplaced, of_macro, of_body, of_main, label_offences}
 use Rattle.pcal_tree.specs.laws.Steps.{has_return_in, has_return, has_return_of, ReturnsInProcedures}
 use Rattle.pcal_tree.proofs.TroubleLaws.{one_left, one_right}
 use Rattle.pcal_tree.proofs.SameVariables.{value_at, Narrow}

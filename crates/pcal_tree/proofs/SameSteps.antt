@@ -1,5 +1,5 @@
 -- Steps, troubles and runs by a script are the same from states that agree on the variables of the translation.
-use Rattle.std.proofs.Common.{◌≡◌, ℕ, zero, suc, List, [], ◌∷◌, Option, Some, None, refl, sym, ◌∙◌, ap, subst, inl, inr, ◌⊎◌, Ok, Err}
+use Rattle.std.proofs.Common.{◌≡◌, ℕ, zero, suc, List, [], ◌∷◌, Option, Some, None, refl, sym, ◌∙◌, ap, subst, inl, inr, Ok, Err}
 use Rattle.std.specs.Option.{option_or}
 use Rattle.tla_token.specs.declared.place.Place.{Place}
 use Rattle.tla_expr.specs.Tree.{Word}
@@ -7,10 +7,10 @@ use Rattle.tla_value.specs.Value.{Value, Trouble, Outcome}
 use Rattle.tla_value.proofs.Outcomes.{ok_is}
 use Rattle.pcal_tree.specs.Scope.{State}
 use Rattle.pcal_tree.specs.Run.{Course, ends, stops, chooses, Courses, no_courses, course, Has, HasSome}
-use Rattle.pcal_tree.specs.Choices.{Walk, went, failed, blocked, wanting, count_courses, missing, walk, walk_into, first_trouble, first_trouble_of}
+use Rattle.pcal_tree.specs.Choices.{Walk, went, failed, blocked, wanting, missing, walk, walk_into, first_trouble, first_trouble_of}
 use Rattle.pcal_tree.specs.Program.{Program, Actor, index, read_at}
 use Rattle.pcal_tree.specs.Variables.{pc, vars, Agree}
-use Rattle.pcal_tree.specs.Processes.{actors, OneOf, IsActor}
+use Rattle.pcal_tree.specs.Processes.{OneOf, IsActor}
 use Rattle.pcal_tree.specs.Step.{pc_of, Stand, routines_of, StandsAt, course_of, Step, Stutters}
 use Rattle.pcal_tree.specs.Faults.{Troubled, Sound}
 use Rattle.pcal_tree.specs.FirstTrouble.{stand_named, trouble_from, trouble_at, trouble_of_all, FirstTrouble}

@@ -1,6 +1,5 @@
 -- What an algorithm does from a state depends on the variables of the translation alone.
 use Rattle.std.proofs.Common.{◌≡◌, List, [], ◌∷◌, ◌++◌, reverse, Bool, true, false, ◌||◌, cond, bytes_eq, codes, map, Option, Some, None, refl, sym, ◌∙◌, ap, subst, inl, inr, ◌⊎◌, Ok, Err}
-use Rattle.std.specs.Option.{option_or}
 use Rattle.std.proofs.lemmas.Bool.{or_left, or_right}
 use Rattle.std.proofs.lemmas.Grind.{reverse_onto}
 use Rattle.std.proofs.lemmas.Slice.Eq.{bytes_eq-Decides}
@@ -12,23 +11,20 @@ use Rattle.tla_value.specs.Strict.{applied}
 use Rattle.tla_value.specs.Stops.{sense_of, sequence_at}
 use Rattle.tla_value.specs.Meaning.{eval}
 use Rattle.pcal_tree.specs.Algorithm.{Start, unset, equals, among, Declaration, declares, Statement, branch, either, with, while, Statements, done, then, mark, Branches, no_branches, or, Macro, Routine, locals, procedure_routines, main_routines, routines}
-use Rattle.pcal_tree.specs.Scope.{State, Part, Scope}
+use Rattle.pcal_tree.specs.Scope.{State, Part}
 use Rattle.pcal_tree.specs.Assign.{Setting, set_one, set_all}
-use Rattle.pcal_tree.specs.Run.{Course, ends, stops, chooses, Courses, no_courses, course, Has, HasSome, held, unlabelled, label_of, run, exit_to}
-use Rattle.pcal_tree.specs.Choices.{first_trouble, first_trouble_of}
+use Rattle.pcal_tree.specs.Run.{unlabelled, label_of, exit_to}
 use Rattle.pcal_tree.specs.StepStart.{Begin, begin_in, begin, begin_some, at_label}
-use Rattle.pcal_tree.specs.Program.{Program, Actor, index, local_index, written, globals_on, common_env, global_env, read_at, read_self, read_name, global_part, part_of, routine_scope, global_scope}
+use Rattle.pcal_tree.specs.Program.{Program, Actor, index, local_index, written, common_env, global_env, read_at, read_self, read_name, global_part, routine_scope, global_scope}
 use Rattle.pcal_tree.specs.Variables.{pc, stack, declared, written_all, written_by_all, stack_for, vars, Agree}
 use Rattle.pcal_tree.specs.Calls.{label_value, setting, jumped, all_read, frame, on_stack, argument_settings, initial_value, initial_place, variables_started, entered, fields_read, part_settings, restored, returned, finished, entered_at, named, rules_without_macros, rules_of, first_label}
 use Rattle.pcal_tree.specs.Processes.{OneOf, IsActor}
-use Rattle.pcal_tree.specs.Step.{pc_of, Stand, routines_of, StandsAt, course_of, Step, Stutters}
-use Rattle.pcal_tree.specs.Faults.{Troubled, Sound}
-use Rattle.pcal_tree.specs.FirstTrouble.{stand_named, trouble_from, trouble_at, trouble_of_all, FirstTrouble}
+use Rattle.pcal_tree.specs.Step.{Stand, routines_of, course_of}
 use Rattle.pcal_tree.specs.laws.Steps.{has_return_in, has_return, has_return_of, ReturnsInProcedures}
-use Rattle.pcal_tree.proofs.TroubleLaws.{one_left, one_right, either_some, found_stands}
+use Rattle.pcal_tree.proofs.TroubleLaws.{one_left, one_right, either_some}
 use Rattle.pcal_tree.proofs.RoutineNames.{one_either}
 use Rattle.pcal_tree.proofs.OneStand.{own_is_main, runs_routine}
-use Rattle.pcal_tree.proofs.SameVariables.{agree_sym, agree_trans, value_at, SameEnd, Same, SameAll, Steady, SteadyEnd, then_end, then_same, Narrow, AllIn, one_set, all_set, Even, list_steady, macros_even}
+use Rattle.pcal_tree.proofs.SameVariables.{value_at, SameEnd, Same, Steady, SteadyEnd, then_end, then_same, Narrow, AllIn, one_set, all_set, Even, list_steady, macros_even}
 
 -- ---- a `return` after a label is one of the body
 

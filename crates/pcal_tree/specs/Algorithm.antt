@@ -1,19 +1,12 @@
 -- Algorithms as trees, the same for both syntaxes ("A PlusCal User's Manual", section 3 and its grammars).
 use Rattle.std.specs.Prelude.{ℕ, suc, ◌+◌, List, [], ◌∷◌, ◌++◌, Bool, true, false, length, bytes_eq, cond, codes}
+use Rattle.std.specs.List.{AllByRecursion}
 use Rattle.tla_token.specs.declared.place.Place.{Place}
 use Rattle.tla_expr.specs.Tree.{Word, Tree, Trees}
 pub use Rattle.tla_expr.specs.Tree.{Name}
+pub use Rattle.tla_token.specs.Places.{nowhere}
 use Rattle.pcal_tree.specs.declared.mark.Mark.{Mark}
 use Rattle.pcal_tree.specs.declared.mark.Fairness.{Fairness}
-
--- the place of what stands nowhere
-abbrev pub nowhere : Place
-nowhere = record { line = 0; col = 0 }
-
--- a fact of each member
-abbrev pub Every : {X : Type 0} → (X → Type 0) → List X → Type 0
-Every Q [] = Unit {0}
-Every Q (x ∷ xs) = Q x × Every Q xs
 
 -- ---- statements
 

@@ -5,7 +5,8 @@ use Rattle.tla_value.specs.Value.{Value, Outcome, ◌>>=◌}
 use Rattle.tla_value.specs.Stops.{Check}
 use Rattle.tla_value.specs.Strict.{changed_at}
 use Rattle.pcal_tree.specs.Algorithm.{Assignments, no_assignments, assignment}
-use Rattle.pcal_tree.specs.Scope.{State, put, Part, Scope, reach, root_place, value_of}
+use Rattle.pcal_tree.specs.Scope.{State, put, Part, Scope, reach, value_of}
+use Rattle.tla_expr.specs.Tree.{root_place}
 
 -- a part of a variable, its new value, and the place at which setting it faults
 pub record Setting : Type 0 where

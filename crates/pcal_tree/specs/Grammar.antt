@@ -1,5 +1,6 @@
 -- Algorithms as the two syntaxes spell them ("A PlusCal User's Manual", section 3 and appendix A of both versions).
 use Rattle.std.specs.Prelude.{◌≡◌, List, [], ◌∷◌, Bool, true, false, Option, codes, map}
+use Rattle.std.specs.List.{AllByRecursion}
 use Rattle.tla_token.specs.declared.place.Place.{Place}
 use Rattle.tla_token.specs.Tokens as text
 use Rattle.tla_expr.specs.declared.op.Op.TheVariants as op
@@ -8,7 +9,7 @@ use Rattle.tla_expr.specs.Lexical as tk
 use Rattle.tla_expr.specs.Spelling.{Phrase, IsGood, tree_of}
 use Rattle.pcal_tree.specs.declared.mark.Fairness.{Fairness}
 use Rattle.pcal_tree.specs.declared.mark.Fairness.TheVariants as fairness
-use Rattle.pcal_tree.specs.Algorithm.{Every, Name, Algorithm}
+use Rattle.pcal_tree.specs.Algorithm.{Name, Algorithm}
 use Rattle.pcal_tree.specs.Algorithm as tree
 use Rattle.pcal_tree.specs.AlgorithmTokens.{views}
 use Rattle.pcal_tree.specs.GrammarParts.{Tokens, word, key, mark, sign, name, expression, maybe_semicolon, Section, section_tokens, declared, GoodSection, MacroParameters, macro_parameters, macro_names, ProcedureParameters, procedure_parameters, procedure_declarations, GoodProcedureParameters, Definitions, definitions, definitions_of, GoodDefinitions, bind_sign}
@@ -197,7 +198,7 @@ main_tree (processes x xs) = tree.processes (process_tree x ∷ map process_tree
 abbrev pub GoodMain : Syntax → Main → Type 0
 GoodMain p_syntax (begin a ss) = p.GoodSequence ss
 GoodMain c_syntax (block a ss b s) = c.GoodSequence ss
-GoodMain s (processes x xs) = GoodProcess s x × Every (GoodProcess s) xs
+GoodMain s (processes x xs) = GoodProcess s x × AllByRecursion (GoodProcess s) xs
 GoodMain _ _ = ⊥
 
 -- what is around all after the name
@@ -244,8 +245,8 @@ Good s x =
     GoodAround s x.around
     × GoodSection true x.variables
     × GoodDefine s x.define
-    × Every (GoodMacro s) x.macros
-    × Every (GoodProcedure s) x.procedures
+    × AllByRecursion (GoodMacro s) x.macros
+    × AllByRecursion (GoodProcedure s) x.procedures
     × GoodMain s x.main
 
 -- the tokens, in their columns, spell the algorithm

@@ -1,5 +1,5 @@
 -- The making of an initial state, where a member is chosen for each variable that is declared by a set ("A PlusCal User's Manual", section 3.3, processes).
-use Rattle.std.specs.Prelude.{List, [], ◌∷◌, Bool, true, false, map, Ok}
+use Rattle.std.specs.Prelude.{List, [], ◌∷◌, Bool, true, false, map}
 use Rattle.tla_token.specs.declared.place.Place.{Place}
 use Rattle.tla_expr.specs.Tree.{Word}
 use Rattle.tla_value.specs.Value.{Value, truth, Values, ◌>>=◌}
@@ -11,7 +11,7 @@ use Rattle.pcal_tree.specs.Program.{Program, Actor, written, routine_scope, glob
 use Rattle.pcal_tree.specs.Calls.{defaultInitValue, first_label, label_value}
 use Rattle.pcal_tree.specs.InitialStates.{values_for, function_on, running, is_multiprocess, empty_stack}
 use Rattle.pcal_tree.specs.Variables.{pc, stack}
-use Rattle.pcal_tree.specs.Processes.{actors, identifiers}
+use Rattle.pcal_tree.specs.Processes.{actors}
 
 -- a plain variable; a choice stands at its name
 abbrev pub plain_begun : Program → Scope → Place → Start → State → (Value → Course) → Course

@@ -8,7 +8,7 @@ use Rattle.tla_value.specs.Value.{Value, fun, Values, no_values, and, values_in,
 use Rattle.tla_value.specs.Order.{same, orders, holds, seq_from}
 use Rattle.tla_value.specs.Meaning.{eval}
 use Rattle.pcal_tree.specs.Algorithm.{Start, unset, equals, among, Declaration, Main, alone, processes, Routine, locals, procedure_routines, main_routines}
-use Rattle.tla_value.specs.Stops.{truth_at, members_at}
+use Rattle.tla_value.specs.Stops.{members_at}
 use Rattle.pcal_tree.specs.Scope.{State, Scope, value_of}
 use Rattle.pcal_tree.specs.Program.{Program, Actor, written, routine_scope, global_scope}
 use Rattle.pcal_tree.specs.Calls.{defaultInitValue, first_label, label_value}

@@ -6,10 +6,10 @@ use Rattle.tla_token.specs.declared.place.Place.{Place}
 use Rattle.tla_token.specs.declared.rule.Rule.TheVariants.{FirstLabel}
 use Rattle.tla_token.specs.declared.rule.Refusal.{Refusal}
 use Rattle.tla_token.specs.Signs.{is_among}
-use Rattle.tla_expr.specs.Tree.{Word}
+use Rattle.tla_expr.specs.Tree.{Word, Trees}
 use Rattle.pcal_tree.specs.declared.mark.Mark.TheVariants.{Plain}
 use Rattle.pcal_tree.specs.Algorithm.{Span, Statement, branch, either, with, while, Statements, done, then, mark, Branches, no_branches, or, Macro, Procedure, Process, Main, alone, processes, Algorithm}
-use Rattle.pcal_tree.specs.Paths.{Effects, nothing, after_one}
+use Rattle.pcal_tree.specs.Paths.{Effect, Effects, nothing, after_one}
 use Rattle.pcal_tree.specs.OffencesSteps.{Before, at_label, at_first, inside, next, visits_inside, offences_at, call_effect, procedure_effects, outer_effects}
 use Rattle.pcal_tree.specs.OffencesLabels.{label_words}
 
@@ -89,21 +89,22 @@ add_to_macros s (d ∷ ds) go =
     add (λ st. nothing) (at_first None) s d.body (λ b t.
     add_to_macros t ds (λ es u. go (record { name = d.name; params = d.params; body = b } ∷ es) u))
 
-abbrev pub add_to_procedures : {R : Type 0} → List Macro → Supply → List Procedure → (List Procedure → Supply → R) → R
-add_to_procedures ms s [] go = go [] s
-add_to_procedures ms s (p ∷ ps) go =
-    add (procedure_effects (call_effect ms) p) (at_first (Some FirstLabel)) s p.body (λ b t.
-    add_to_procedures ms t ps (λ qs u. go (record { name = p.name; params = p.params; variables = p.variables; body = b } ∷ qs) u))
+-- where macro calls assign what C says
+abbrev pub add_to_procedures : {R : Type 0} → (Word → Trees → Effect) → Supply → List Procedure → (List Procedure → Supply → R) → R
+add_to_procedures C s [] go = go [] s
+add_to_procedures C s (p ∷ ps) go =
+    add (procedure_effects C p) (at_first (Some FirstLabel)) s p.body (λ b t.
+    add_to_procedures C t ps (λ qs u. go (record { name = p.name; params = p.params; variables = p.variables; body = b } ∷ qs) u))
 
-abbrev pub add_to_processes : {R : Type 0} → List Macro → Supply → List Process → (List Process → R) → R
-add_to_processes ms s [] go = go []
-add_to_processes ms s (p ∷ ps) go =
-    add (outer_effects (call_effect ms)) (at_first (Some FirstLabel)) s p.body (λ b t.
-    add_to_processes ms t ps (λ qs. go (record { name = p.name; fairness = p.fairness; several = p.several; identity = p.identity; variables = p.variables; body = b } ∷ qs)))
+abbrev pub add_to_processes : {R : Type 0} → (Word → Trees → Effect) → Supply → List Process → (List Process → R) → R
+add_to_processes C s [] go = go []
+add_to_processes C s (p ∷ ps) go =
+    add (outer_effects C) (at_first (Some FirstLabel)) s p.body (λ b t.
+    add_to_processes C t ps (λ qs. go (record { name = p.name; fairness = p.fairness; several = p.several; identity = p.identity; variables = p.variables; body = b } ∷ qs)))
 
-abbrev pub add_to_main : {R : Type 0} → List Macro → Supply → Main → (Main → R) → R
-add_to_main ms s (alone b) go = add (outer_effects (call_effect ms)) (at_first (Some FirstLabel)) s b (λ c t. go (alone c))
-add_to_main ms s (processes ps) go = add_to_processes ms s ps (λ qs. go (processes qs))
+abbrev pub add_to_main : {R : Type 0} → (Word → Trees → Effect) → Supply → Main → (Main → R) → R
+add_to_main C s (alone b) go = add (outer_effects C) (at_first (Some FirstLabel)) s b (λ c t. go (alone c))
+add_to_main C s (processes ps) go = add_to_processes C s ps (λ qs. go (processes qs))
 
 abbrev pub labels_of_main : Main → List Word
 labels_of_main (alone b) = label_words b
@@ -113,11 +114,12 @@ labels_of_main (processes ps) = flat_map (λ p. label_words p.body) ps
 abbrev pub typed_labels : Algorithm → List Word
 typed_labels a = flat_map (λ d. label_words d.body) a.macros ++ (flat_map (λ p. label_words p.body) a.procedures ++ labels_of_main a.main)
 
-abbrev pub with_labels : Word → Algorithm → Algorithm
-with_labels root a =
+-- F says what calls of macros assign, the newest of these being the first
+abbrev pub with_labels : (List Macro → Word → Trees → Effect) → Word → Algorithm → Algorithm
+with_labels F root a =
     add_to_macros (record { root = root; typed = typed_labels a; from = 1 }) a.macros (λ ms s.
-    add_to_procedures (reverse ms) s a.procedures (λ ps t.
-    add_to_main (reverse ms) t a.main (λ m.
+    add_to_procedures (F (reverse ms)) s a.procedures (λ ps t.
+    add_to_main (F (reverse ms)) t a.main (λ m.
     record { name = a.name; fair = a.fair; globals = a.globals; definitions = a.definitions; macros = ms; procedures = ps; main = m })))
 
 abbrev pub is_alone : Main → Bool
@@ -125,5 +127,8 @@ is_alone (alone b) = true
 is_alone (processes ps) = false
 
 -- labels are added to every algorithm where they are forced, and in a uniprocess algorithm without any
+abbrev pub labelled_by : (List Macro → Word → Trees → Effect) → Bool → Algorithm → Algorithm
+labelled_by F forced a = cond (forced || (is_alone a.main && is_empty (typed_labels a))) (with_labels F (codes "Lbl_") a) a
+
 abbrev pub labelled : Bool → Algorithm → Algorithm
-labelled forced a = cond (forced || (is_alone a.main && is_empty (typed_labels a))) (with_labels (codes "Lbl_") a) a
+labelled forced a = labelled_by call_effect forced a

@@ -9,7 +9,7 @@ use Rattle.tla_value.specs.Strict.{applied}
 use Rattle.tla_value.specs.Meaning.{Env, just}
 use Rattle.tla_value.specs.Definitions.{Valuation, no_state, scope_of}
 use Rattle.tla_value.specs.Definitions as Outside
-use Rattle.pcal_tree.specs.Algorithm.{nowhere, Name, Declaration, Definition, declares, Routine, locals, Naming, Algorithm}
+use Rattle.pcal_tree.specs.Algorithm.{nowhere, Declaration, Definition, declares, Routine, locals, Naming, Algorithm}
 use Rattle.pcal_tree.specs.Scope.{State, Part, Scope}
 
 -- a labelled algorithm, with what its meaning rests on: the limits of values, the constants, the definitions outside the algorithm, and the

@@ -2,10 +2,8 @@
 use Rattle.std.specs.Prelude.{List, [], ◌∷◌, ◌++◌, Bool, cond, bytes_eq, Option, Some, None, Ok, Err}
 use Rattle.tla_token.specs.declared.place.Place.{Place}
 use Rattle.tla_expr.specs.Tree.{Word, apply, select, Form, name, strict, Tree, node, Trees, no_trees, tree, Graft}
-pub use Rattle.tla_expr.specs.Tree.{root_place}
-use Rattle.tla_value.specs.declared.fault.FaultKind.{FaultKind}
-use Rattle.tla_value.specs.declared.fault.FaultKind.TheVariants.{NotBoolean, NotSet, NotFunction}
-use Rattle.tla_value.specs.Value.{Value, truth, text, set, Values, fault, Outcome, ◌>>=◌}
+use Rattle.tla_value.specs.declared.fault.FaultKind.TheVariants.{NotFunction}
+use Rattle.tla_value.specs.Value.{Value, text, Values, fault, Outcome, ◌>>=◌}
 use Rattle.tla_value.specs.Stops.{Check, truth_at, members_at}
 use Rattle.pcal_tree.specs.Algorithm.{nowhere}
 use Rattle.tla_value.specs.Grafts.{through as through_env}

@@ -18,7 +18,7 @@ ghost use Rattle.tla_expr.specs.Lexical.{Token};
 ghost use Rattle.tla_expr.specs.laws.Columns.{looks};
 ghost use Rattle.pcal_tree.specs.Grammar.{Syntax, Text, Good, spell};
 ghost use Rattle.pcal_tree.specs.laws.Lines.{Begins, text_lineless};
-ghost use Rattle.pcal_tree.specs.Labelled.{labelled};
+ghost use Rattle.pcal_tree.specs.Labelled.{labelled, labelled_by};
 ghost use Rattle.pcal_tree.specs.Names.{given, naming};
 ghost use Rattle.pcal_tree.specs.laws.Apart.{FewNames, Apart, New, Untaken, AreNames, NoEndLabels};
 ghost use Rattle.tla_value.specs.Value.{Trouble, Outcome};
@@ -74,10 +74,11 @@ pub fn runs_depend_on_the_variables()
 {}
 
 /// Statements with their macro calls written out take the courses that they take with the calls, in every scope and
-/// with anything after them, kinds and places of faults included. The calls capture nothing, and each macro's body
+/// with anything after them, kinds and places of faults included. The calls capture nothing: no name that
+/// a macro's body binds is a parameter or free in an argument. And each macro's body
 /// begins with a statement.
 pub fn written_out_macros_run_the_same()
-    ensures { (M : Rules) (ms : List Macro) (here : Word) (ss : Statements) → Calls (FineCall M.check ms) ss → (sc : Scope) → AnyPlace sc → (K : Follow)
+    ensures { (M : Rules) (ms : List Macro) (here : Word) (ss : Statements) → Calls (FineCall ms) ss → (sc : Scope) → AnyPlace sc → (K : Follow)
         → run (with_macros M ms) here ss sc K ≡ run (with_macros M []) here (expanded ms ss) sc K }
 {}
 
@@ -100,12 +101,13 @@ pub fn processes_stand_at_one_label()
 
 /// What is computed once for each macro, from its text and from what was computed for older ones, says of each call what it assigns and
 /// whether it assigns a variable twice, as the macro's body does with the arguments in place of the parameters. So it gives the same
-/// offences against the rules on labels, in every algorithm.
+/// offences against the rules on labels, and the same labels are added, in every algorithm.
 pub fn macros_are_looked_at_once()
     ensures assigns { (ms : List Macro) (m : Word) (ts : Trees) (x : Word)
         → is_among (call_effect ms m ts).variables x ≡ is_among (summary_effect (summaries ms) m ts).variables x }
     ensures twice { (ms : List Macro) (m : Word) (ts : Trees) → (call_effect ms m ts).twice ≡ (summary_effect (summaries ms) m ts).twice }
     ensures offences { (a : Algorithm) → label_offences a ≡ label_offences_by (summary_effect (summaries (reverse a.macros))) a }
+    ensures labels { (forced : Bool) (a : Algorithm) → labelled forced a ≡ labelled_by (λ ms. summary_effect (summaries ms)) forced a }
 {}
 
 /// Whether tokens spell an algorithm rests on their kinds and columns alone: tokens of other lines spell the same text in other lines.

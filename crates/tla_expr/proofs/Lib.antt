@@ -11,6 +11,7 @@ pub mod ColumnsPut
 pub mod Columns
 pub mod SpelledTokens
 pub mod SpelledTrees
+pub mod WrittenPhrase
 pub mod Steps
 pub mod ReadSoon
 pub mod SoundTokens

@@ -8,7 +8,7 @@ ghost use Rattle.tla_expr.specs.Reader.{read};
 ghost use Rattle.tla_expr.specs.laws.Columns.{looks, lineless, Begin};
 ghost use Rattle.tla_expr.specs.Written.{pieces};
 ghost use Rattle.tla_expr.specs.laws.Writable.{IsWritable, AreSpelled};
-ghost use Rattle.tla_expr.specs.laws.Bracketed.{as_operand, part};
+ghost use Rattle.tla_expr.specs.laws.Bracketed.{as_operand, part, phrase_of, kinds, tokens_of};
 
 /// Tokens spell one expression at most, in one way.
 pub fn expressions_are_spelled_in_one_way()
@@ -34,8 +34,10 @@ pub fn lines_do_not_matter()
 {}
 
 /// What is written of a tree whose names, fields, strings and numbers a text can have are texts of tokens, each seen as the token
-/// that was meant. And as an operand each tree is a primary, in brackets where it needs them: how it is read rests on no rank.
+/// that was meant; and these are the tokens of its phrase, with brackets where they are written. As an operand each tree is a
+/// primary, so how it is read rests on no rank.
 pub fn trees_are_written_in_tokens()
     ensures tokens { (t : Tree) → IsWritable t → AreSpelled (pieces t) }
+    ensures phrase { (t : Tree) → IsWritable t → kinds (spell (phrase_of t) []) ≡ tokens_of (pieces t) }
     ensures operand { (t : Tree) → head (as_operand (part t)) ≡ primary }
 {}

@@ -17,10 +17,12 @@ pub use op::{Binder, Op, rank};
 #[cfg(test)]
 mod tests {
     use super::expr::{Expr, copied};
+    use super::exprs::Exprs;
     use super::form::Form;
-    use super::name::{Name, NameList, PlacedName};
+    use super::graft::{Grafting, grafted};
+    use super::name::{Name, NameList, PlacedName, Text};
     use super::op::{Binder, Op, rank};
-    use std::alloc::AllocError;
+    use std::alloc::{AllocError, Global};
     use tla_token::Place;
 
     #[test]
@@ -59,6 +61,67 @@ mod tests {
             parts,
         };
         assert_eq!(rt; copied(rt.alloc(), &both)?.parts.len(), 2);
+        Ok(())
+    }
+
+    #[test]
+    fn lists_and_texts_are_copied(rt: HostRuntime) -> Result<(), AllocError> {
+        let place = Place { line: 1, col: 1 };
+        let mut exprs = Exprs::new(rt.alloc());
+        for n in [1, 2] {
+            exprs.push(Expr {
+                form: Form::Number(n),
+                place,
+                parts: Vec::new(rt.alloc()),
+            })?;
+        }
+        assert_eq!(rt; exprs.copied(rt.alloc())?.len(), 2);
+        let text = Text::new(Vec::from_array(rt.alloc(), [120, 121])?);
+        assert_eq!(rt; text.copied()?.bytes().len(), 2);
+        Ok(())
+    }
+
+    // One for each name.
+    struct Ones;
+
+    impl Grafting for Ones {
+        ghost use Rattle.std.specs.Prelude.{Some};
+        ghost use Rattle.tla_expr.specs.Tree.{node, number, no_trees};
+
+        ghost graft = { λ g x at. Some (node (number 1) at no_trees) };
+
+        fn put(&self, alloc: Global, _x: &Name, place: Place) -> Result<Option<Expr>, AllocError> {
+            Ok(Some(Expr {
+                form: Form::Number(1),
+                place,
+                parts: Vec::new(alloc),
+            }))
+        }
+    }
+
+    fn name_of(alloc: Global, letter: u8) -> Result<Expr, AllocError> {
+        Ok(Expr {
+            form: Form::Name(Name::new(Vec::from_array(alloc, [letter])?)),
+            place: Place { line: 1, col: 1 },
+            parts: Vec::new(alloc),
+        })
+    }
+
+    #[test]
+    fn each_name_is_put_in_for(rt: HostRuntime) -> Result<(), AllocError> {
+        let mut parts = Vec::new(rt.alloc());
+        parts.push(name_of(rt.alloc(), 120)?)?;
+        parts.push(name_of(rt.alloc(), 121)?)?;
+        let both = Expr {
+            form: Form::Both,
+            place: Place { line: 1, col: 1 },
+            parts,
+        };
+        let grafted = grafted(rt.alloc(), &both, &Ones)?;
+        assert_eq!(rt; grafted.parts.len(), 2);
+        for part in &grafted.parts {
+            assert!(rt; matches!(part.form, Form::Number(1)));
+        }
         Ok(())
     }
 

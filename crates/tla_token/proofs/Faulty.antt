@@ -1,13 +1,14 @@
 -- A stretch outside algorithms has a token list exactly where nothing in it is refused.
 use Rattle.std.proofs.Common.{◌≡◌, ℕ, suc, ◌+◌, Bool, true, false, ◌&&◌, ◌||◌, nat_eq, nat_le, List, [], ◌∷◌, ◌++◌, length, map, Option, Some, None, ◌⊎◌, refl, sym, ap, ◌∙◌, inl, inr, arith, if◌then◌else◌}
 use Rattle.std.proofs.lemmas.Bool.{and_parts, or_parts, leb-true, le-leb, eqb-true, both_ways}
+use Rattle.std.specs.Option.{is_none}
 use Rattle.tla_token.specs.declared.rule.Rule.{Rule}
 use Rattle.tla_token.specs.declared.rule.Rule.TheVariants.{NotAscii, BadToken}
 use Rattle.tla_token.specs.declared.rule.Refusal.{Refusal}
 use Rattle.tla_token.specs.Places.{place_at}
 use Rattle.tla_token.specs.Lexemes.{name, number, string, one, other, is_printed, is_plain, escaped, unquoted, behind_backslash}
 use Rattle.tla_token.specs.Tokens.{Token, Piece, blank, block, line, lexeme, bytes_of, tokens_of, stretch, holds_mark, Tok}
-use Rattle.tla_token.specs.Offences.{Part, sound, stray, bad_string, cut_string, open_string, open_block, part_bytes, PartFits, PartsFit, parts_text, is_stray, ends_string, string_len, escape_len, is_none, has_bad_escape, is_bad_behind, Offence, offence_if, byte_offences, part_offences, offences, earlier, or_earlier, least, Offends}
+use Rattle.tla_token.specs.Offences.{Part, sound, stray, bad_string, cut_string, open_string, open_block, part_bytes, PartFits, PartsFit, parts_text, is_stray, ends_string, string_len, escape_len, has_bad_escape, is_bad_behind, Offence, offence_if, byte_offences, part_offences, offences, earlier, or_earlier, least, Offends}
 use Rattle.tla_token.specs.Cut.{parts}
 use Rattle.tla_token.proofs.Unique.{tok_parts, offends_parts}
 use Rattle.tla_token.proofs.Exact.{parts_tok, parts_offend}

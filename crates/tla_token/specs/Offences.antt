@@ -2,6 +2,7 @@
 -- algorithm numbers that are too big. The least rule counts, at its first place.
 use Rattle.std.specs.Prelude.{◌≡◌, ℕ, ◌+◌, ◌^◌, Bool, true, false, ◌&&◌, ◌||◌, not, nat_eq, nat_le, nat_lt, IsTrue, List, [], ◌∷◌, ◌++◌, length, Option, Some, None, codes, if◌then◌else◌}
 use Rattle.std.specs.List.{starts_with}
+use Rattle.std.specs.Option.{is_none}
 use Rattle.tla_token.specs.declared.rule.Rule.{Rule}
 use Rattle.tla_token.specs.declared.rule.Rule.TheVariants.{NotAscii, BadToken, OpenComment, OpenString, NumberTooBig}
 use Rattle.tla_token.specs.declared.rule.Refusal.{Refusal}
@@ -29,10 +30,6 @@ abbrev mutual
   pub escape_len : List ℕ → ℕ
   escape_len [] = 0
   escape_len (b ∷ bs) = if nat_eq b 10 then 0 else 2 + string_len bs
-
-abbrev pub is_none : Option ℕ → Bool
-is_none None = true
-is_none (Some b) = false
 
 -- a backslash before a byte that it does not go with
 abbrev mutual

@@ -16,6 +16,10 @@ after p (b ∷ bs) = after (step p b) bs
 abbrev pub start : Place
 start = record { line = 1; col = 1 }
 
+-- the place of what is at no place of a text
+abbrev pub nowhere : Place
+nowhere = record { line = 0; col = 0 }
+
 -- the place of a byte, or of the text's end
 abbrev pub place_at : List ℕ → ℕ → Place
 place_at text at = after start (take at text)

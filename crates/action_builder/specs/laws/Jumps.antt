@@ -11,7 +11,7 @@ use Rattle.pcal_tree.specs.Run.{Rules, with_macros}
 use Rattle.pcal_tree.specs.Calls.{initial_value, named, rules_of}
 use Rattle.action_builder.specs.Jumps.{InitialValues}
 use Rattle.action_builder.specs.laws.Settling.{Callable}
-use Rattle.action_builder.specs.laws.Places.{SameButPlaces}
+use Rattle.tla_value.specs.laws.Places.{AgreeButPlaces}
 use Rattle.action_builder.specs.laws.Scopes.{StandsAtPath, Inner}
 
 -- pc, the stack and the variables of p stand at the process's identifier, and Head and Tail are those of Sequences
@@ -27,14 +27,9 @@ pub record RoutineStands (P : Program) (v : Actor) (p : Routine) (sc : Scope) : 
 abbrev pub Initials : Program → Actor → Routine → Place → Scope → (Declaration → Tree) → List Declaration → Type 0
 Initials P v p at sc initial [] = Unit {0}
 Initials P v p at sc initial (d ∷ ds) =
-    ((s : State) → SameButPlaces (value_of P.check (initial d) sc s) (initial_value P v p at d.start s)) × Initials P v p at sc initial ds
+    ((s : State) → AgreeButPlaces (value_of P.check (initial d) sc s) (initial_value P v p at d.start s)) × Initials P v p at sc initial ds
 
 -- an argument for each parameter
-abbrev pub AsMany : List Word → Trees → Type 0
-AsMany [] no_trees = Unit {0}
-AsMany (x ∷ xs) (tree t ts) = AsMany xs ts
-AsMany _ _ = ⊥
-
 abbrev pub as_many : List Word → Trees → Bool
 as_many [] no_trees = true
 as_many (x ∷ xs) (tree t ts) = as_many xs ts

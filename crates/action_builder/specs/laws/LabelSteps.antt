@@ -1,5 +1,6 @@
 -- A step from a label, with all that its items are written from; what is asked of it, and what it ends in.
 use Rattle.std.specs.Prelude.{List, Bool, Ok, Err}
+use Rattle.tla_token.specs.Signs.{is_among}
 use Rattle.tla_expr.specs.Tree.{Word}
 use Rattle.tla_value.specs.Value.{Trouble, Outcome}
 use Rattle.tla_value.specs.Grafts.{owned}
@@ -9,8 +10,8 @@ use Rattle.module_text.specs.Module.{Items}
 use Rattle.pcal_tree.specs.Algorithm.{Statements}
 use Rattle.pcal_tree.specs.Scope.{State, Scope}
 use Rattle.pcal_tree.specs.Run.{Has, Rules, run, exit_to}
-use Rattle.pcal_tree.specs.laws.Expansion.{Any, Clean, AnyPlace}
-use Rattle.action_builder.specs.Assigned.{Names, member, more, assigned_in}
+use Rattle.pcal_tree.specs.laws.Expansion.{Clean, AnyPlace}
+use Rattle.action_builder.specs.Assigned.{Names, more, assigned_in}
 use Rattle.action_builder.specs.laws.States.{mid, SameOn}
 use Rattle.action_builder.specs.laws.Scopes.{own_scope, Inner}
 use Rattle.action_builder.specs.Settled.{WrittenJumps, settled}
@@ -18,6 +19,7 @@ use Rattle.action_builder.specs.laws.Settling.{Callable, Tidy, DoesAsRules}
 use Rattle.action_builder.specs.laws.Ready.{Readable, unlimited, Ready}
 use Rattle.action_builder.specs.Written.{write}
 use Rattle.action_builder.specs.Prepared.{prepared, none, action_items}
+use Rattle.tla_value.specs.laws.FreeNames.{Any}
 
 -- ---- steps
 
@@ -79,7 +81,7 @@ IsTroubled A d s t = (k : Trouble) × HasOutcome A d s t (Err k)
 
 -- begun in s, it ends in a state that agrees with t on all variables
 abbrev pub StepsTo : List Word → LabelStep → State → State → Type 0
-StepsTo vs d s t = (u : State) × HasOutcome none d s s (Ok u) × SameOn (member vs) u t
+StepsTo vs d s t = (u : State) × HasOutcome none d s s (Ok u) × SameOn (is_among vs) u t
 
 abbrev pub MeetsTrouble : LabelStep → State → Type 0
 MeetsTrouble d s = IsTroubled none d s s

@@ -1,5 +1,6 @@
 -- What is asked of statements and scopes so that the written items mean what the statements do; and the truth of these items.
 use Rattle.std.specs.Prelude.{◌≡◌, List, [], Bool, true, false, cond, codes, Some, None, Ok}
+use Rattle.tla_token.specs.Signs.{is_among}
 use Rattle.tla_token.specs.declared.place.Place.{Place}
 use Rattle.tla_expr.specs.Tree.{Word, apply, select, Form, name, strict, next, Tree, node, Trees, no_trees, tree, Each, Every, binders}
 use Rattle.tla_value.specs.Stops.{plain}
@@ -12,7 +13,7 @@ use Rattle.module_text.specs.ActionTruth.{Verdict, items_hold}
 use Rattle.pcal_tree.specs.Algorithm.{Assignments, no_assignments, assignment, Binds, no_binds, one_of, is, Statement, assign, await, print, assert, skip, branch, either, with, Statements, done, then, mark, Branches, no_branches, or}
 use Rattle.pcal_tree.specs.Run.{Rules}
 use Rattle.pcal_tree.specs.Scope.{State, Scope}
-use Rattle.action_builder.specs.Assigned.{Names, member, more, heads, assigned}
+use Rattle.action_builder.specs.Assigned.{Names, more, heads, assigned}
 use Rattle.action_builder.specs.laws.States.{mid}
 use Rattle.action_builder.specs.laws.Scopes.{part_at}
 
@@ -32,14 +33,14 @@ IsWithin A V = (x : Word) → A x ≡ true → V x ≡ true
 
 -- the environment of each pair of states goes with the scope, whichever variables are assigned; PrintT and Assert are those of TLC
 pub record Paired (U : Readable) (vs : List Word) (sc : Scope) (env : State → State → Env) : Type 0 where
-  pub halfway : (A : Names) → IsWithin A (member vs) → (s t : State) → Halfway A (In (U A)) (env s t) (sc.env (mid s t A))
+  pub halfway : (A : Names) → IsWithin A (is_among vs) → (s t : State) → Halfway A (In (U A)) (env s t) (sc.env (mid s t A))
   pub print : (s t : State) → (env s t).defs (codes "PrintT") ≡ Some (standard_sense plain printed)
   pub assert : (s t : State) → (env s t).defs (codes "Assert") ≡ Some (standard_sense plain asserted)
 
 -- the names of vs are variables: each is itself as a left side, and is read in the state
 pub record Scoped (vs : List Word) (sc : Scope) : Type 0 where
-  pub part : (x : Word) → member vs x ≡ true → (at : Place) (s : State) → sc.part x at s ≡ Ok (part_at x [])
-  pub reads : (x : Word) → member vs x ≡ true → (at : Place) (s : State) → (sc.env s).now x at ≡ just (s x)
+  pub part : (x : Word) → is_among vs x ≡ true → (at : Place) (s : State) → sc.part x at s ≡ Ok (part_at x [])
+  pub reads : (x : Word) → is_among vs x ≡ true → (at : Place) (s : State) → (sc.env s).now x at ≡ just (s x)
 
 -- all that is asked of a scope, and of the environments of pairs of states
 pub record Stands (U : Readable) (vs : List Word) (sc : Scope) (env : State → State → Env) : Type 0 where
@@ -109,14 +110,14 @@ FineSides U A no_assignments = Unit {0}
 FineSides U A (assignment l e ms) = FineTree U A l × FineTree U A e × FineSides U A ms
 
 pub record FineAssignments (U : Readable) (vs : List Word) (A : Names) (ms : Assignments) : Type 0 where
-  pub left : LeftSides (member vs) ms
+  pub left : LeftSides (is_among vs) ms
   pub sides : FineSides U A ms
-  pub readable : (y : Word) → member (heads ms) y ≡ true → U A y ≡ true
+  pub readable : (y : Word) → is_among (heads ms) y ≡ true → U A y ≡ true
 
 abbrev pub FineBinds : Readable → List Word → Names → Binds → Type 0
 FineBinds U vs A no_binds = Unit {0}
-FineBinds U vs A (one_of x e bs) = FineTree U A e × (member vs x.word ≡ false) × FineBinds U vs A bs
-FineBinds U vs A (is x e bs) = FineTree U A e × (member vs x.word ≡ false) × FineBinds U vs A bs
+FineBinds U vs A (one_of x e bs) = FineTree U A e × (is_among vs x.word ≡ false) × FineBinds U vs A bs
+FineBinds U vs A (is x e bs) = FineTree U A e × (is_among vs x.word ≡ false) × FineBinds U vs A bs
 
 -- each expression reads what may be read there, and the names of a `with` are no variables
 abbrev mutual
@@ -144,7 +145,7 @@ abbrev mutual
 
 -- no variable is assigned that is in A, or was assigned before
 abbrev pub Apart : Names → List Word → Type 0
-Apart A xs = (x : Word) → member xs x ≡ true → A x ≡ false
+Apart A xs = (x : Word) → is_among xs x ≡ true → A x ≡ false
 
 abbrev mutual
   pub OnceOne : Names → Statement → Type 0
@@ -167,7 +168,7 @@ abbrev mutual
 
 -- the values of the variables
 abbrev pub values_of : List Word → State → Valuation
-values_of vs s x = cond (member vs x) (Some (s x)) None
+values_of vs s x = cond (is_among vs x) (Some (s x)) None
 
 -- the items on a pair of states
 abbrev pub holds_on : List Word → (State → State → Env) → Items → State → State → Verdict
@@ -181,8 +182,8 @@ unlimited M = record { check = plain; goto = M.goto; call = M.call; return = M.r
 
 -- statements that assign nothing twice and nothing of A, in a scope with environments for pairs of states; vs are all variables
 pub record Ready (U : Readable) (vs : List Word) (A : Names) (ss : Statements) (sc : Scope) (env : State → State → Env) : Type 0 where
-  pub settled : Settled (member vs) ss
+  pub settled : Settled (is_among vs) ss
   pub fine : Fine U vs A ss
   pub once : Once A ss
-  pub within : IsWithin A (member vs)
+  pub within : IsWithin A (is_among vs)
   pub stands : Stands U vs sc env

@@ -17,7 +17,7 @@ use Rattle.pcal_tree.specs.Scope.{State, Scope, bound}
 use Rattle.pcal_tree.specs.Program.{Program, Actor}
 use Rattle.pcal_tree.specs.Variables.{pc, stack}
 use Rattle.pcal_tree.specs.Expand.{expanded}
-use Rattle.action_builder.specs.Assigned.{member}
+use Rattle.tla_token.specs.Signs.{is_among}
 use Rattle.action_builder.specs.laws.Scopes.{part_at}
 use Rattle.action_builder.specs.Jumps.{InitialValues, JumpPlaces, written_jumps}
 use Rattle.action_builder.specs.laws.Jumps.{base_rules, callable}
@@ -114,7 +114,7 @@ abbrev pub variables : List Word
 variables = codes "x" ∷ pc ∷ stack ∷ codes "a" ∷ codes "b" ∷ codes "y" ∷ []
 
 abbrev pub own : Word → Bool
-own w = member (pc ∷ stack ∷ codes "a" ∷ codes "b" ∷ codes "y" ∷ []) w
+own w = is_among (pc ∷ stack ∷ codes "a" ∷ codes "b" ∷ codes "y" ∷ []) w
 
 -- each variable has its value in the state, or primed in the second
 abbrev pub plain_env : State → State → Env

@@ -2,10 +2,10 @@
 -- Manual", section 3.5, macros).
 use Rattle.std.specs.Prelude.{◌≡◌, List, [], ◌∷◌, Bool, true, false, bytes_eq, Option, Some, None}
 use Rattle.tla_token.specs.declared.place.Place.{Place}
-use Rattle.tla_expr.specs.Tree.{Word, Tree, Trees, Every, EveryOf, Graft}
+use Rattle.tla_expr.specs.Tree.{Word, Form, Tree, Trees, Every, EveryOf, Graft}
 use Rattle.tla_value.specs.Value.{Value}
 use Rattle.tla_value.specs.Stops.{Check}
-use Rattle.tla_value.specs.Related.{Clear, ClearForm}
+use Rattle.tla_value.specs.Related.{Clear, ClearForm, Apart, ApartForm}
 use Rattle.pcal_tree.specs.Algorithm.{Assignments, no_assignments, assignment, Binds, no_binds, one_of, is, Statement, assign, await, print, assert, branch, either, with, while, macro, call, Statements, done, then, mark, Branches, no_branches, or, Macro}
 use Rattle.pcal_tree.specs.Scope.{State, Scope, bound, reach}
 use Rattle.pcal_tree.specs.Run.{arguments}
@@ -20,46 +20,58 @@ pub record ClearName (c : Check) (g : Graft) (x : Word) : Type 0 where
   pub clear : Clear c g x
   pub unreached : (y : Word) (at : Place) → Unreached c x (g y at)
 
--- no bound name is captured, and there is no macro call
-abbrev pub CleanAssignments : Check → Graft → (Word → Type 0) → Assignments → Type 0
-CleanAssignments c g U no_assignments = Unit {0}
-CleanAssignments c g U (assignment l e ms) = Every (ClearForm c g U) l × Every (ClearForm c g U) e × CleanAssignments c g U ms
+-- the forms of all expressions have F, the names of each `with` have N, and there is no macro call
+abbrev pub ThroughoutAssignments : (Form → Place → Type 0) → Assignments → Type 0
+ThroughoutAssignments F no_assignments = Unit {0}
+ThroughoutAssignments F (assignment l e ms) = Every F l × Every F e × ThroughoutAssignments F ms
 
-abbrev pub CleanBinds : Check → Graft → (Word → Type 0) → Binds → Type 0
-CleanBinds c g U no_binds = Unit {0}
-CleanBinds c g U (one_of x e bs) = Every (ClearForm c g U) e × ClearName c g x.word × CleanBinds c g U bs
-CleanBinds c g U (is x e bs) = Every (ClearForm c g U) e × ClearName c g x.word × CleanBinds c g U bs
+abbrev pub ThroughoutBinds : (Form → Place → Type 0) → (Word → Type 0) → Binds → Type 0
+ThroughoutBinds F N no_binds = Unit {0}
+ThroughoutBinds F N (one_of x e bs) = Every F e × N x.word × ThroughoutBinds F N bs
+ThroughoutBinds F N (is x e bs) = Every F e × N x.word × ThroughoutBinds F N bs
 
 abbrev mutual
-  pub CleanOne : Check → Graft → (Word → Type 0) → Statement → Type 0
-  CleanOne c g U (assign ms) = CleanAssignments c g U ms
-  CleanOne c g U (await e) = Every (ClearForm c g U) e
-  CleanOne c g U (print e) = Every (ClearForm c g U) e
-  CleanOne c g U (assert e) = Every (ClearForm c g U) e
-  CleanOne c g U (branch e a b) = Every (ClearForm c g U) e × Clean c g U a × Clean c g U b
-  CleanOne c g U (either bs) = CleanSome c g U bs
-  CleanOne c g U (with bs b) = CleanBinds c g U bs × Clean c g U b
-  CleanOne c g U (while e b) = Every (ClearForm c g U) e × Clean c g U b
-  CleanOne c g U (macro m ts) = ⊥
-  CleanOne c g U (call p ts) = EveryOf (ClearForm c g U) ts
-  CleanOne c g U _ = Unit {0}
+  pub ThroughoutOne : (Form → Place → Type 0) → (Word → Type 0) → Statement → Type 0
+  ThroughoutOne F N (assign ms) = ThroughoutAssignments F ms
+  ThroughoutOne F N (await e) = Every F e
+  ThroughoutOne F N (print e) = Every F e
+  ThroughoutOne F N (assert e) = Every F e
+  ThroughoutOne F N (branch e a b) = Every F e × Throughout F N a × Throughout F N b
+  ThroughoutOne F N (either bs) = ThroughoutSome F N bs
+  ThroughoutOne F N (with bs b) = ThroughoutBinds F N bs × Throughout F N b
+  ThroughoutOne F N (while e b) = Every F e × Throughout F N b
+  ThroughoutOne F N (macro m ts) = ⊥
+  ThroughoutOne F N (call p ts) = EveryOf F ts
+  ThroughoutOne F N _ = Unit {0}
 
-  pub Clean : Check → Graft → (Word → Type 0) → Statements → Type 0
-  Clean c g U done = Unit {0}
-  Clean c g U (then at st rest) = CleanOne c g U st × Clean c g U rest
-  Clean c g U (mark l m rest) = Unit {0}
+  pub Throughout : (Form → Place → Type 0) → (Word → Type 0) → Statements → Type 0
+  Throughout F N done = Unit {0}
+  Throughout F N (then at st rest) = ThroughoutOne F N st × Throughout F N rest
+  Throughout F N (mark l m rest) = Unit {0}
 
-  pub CleanSome : Check → Graft → (Word → Type 0) → Branches → Type 0
-  CleanSome c g U no_branches = Unit {0}
-  CleanSome c g U (or b bs) = Clean c g U b × CleanSome c g U bs
+  pub ThroughoutSome : (Form → Place → Type 0) → (Word → Type 0) → Branches → Type 0
+  ThroughoutSome F N no_branches = Unit {0}
+  ThroughoutSome F N (or b bs) = Throughout F N b × ThroughoutSome F N bs
+
+-- no bound name is captured
+abbrev pub CleanAssignments : Check → Graft → (Word → Type 0) → Assignments → Type 0
+CleanAssignments c g U = ThroughoutAssignments (ClearForm c g U)
+
+abbrev pub CleanBinds : Check → Graft → (Word → Type 0) → Binds → Type 0
+CleanBinds c g U = ThroughoutBinds (ClearForm c g U) (ClearName c g)
+
+abbrev pub CleanOne : Check → Graft → (Word → Type 0) → Statement → Type 0
+CleanOne c g U = ThroughoutOne (ClearForm c g U) (ClearName c g)
+
+abbrev pub Clean : Check → Graft → (Word → Type 0) → Statements → Type 0
+Clean c g U = Throughout (ClearForm c g U) (ClearName c g)
+
+abbrev pub CleanSome : Check → Graft → (Word → Type 0) → Branches → Type 0
+CleanSome c g U = ThroughoutSome (ClearForm c g U) (ClearName c g)
 
 -- the part that a name is does not rest on its place
 abbrev pub AnyPlace : Scope → Type 0
 AnyPlace sc = (x : Word) (at p : Place) (s : State) → sc.part x at s ≡ sc.part x p s
-
--- all names
-abbrev pub Any : Word → Type 0
-Any x = Unit {0}
 
 -- the list begins with an unlabelled statement, as each macro's body does
 abbrev pub BeginsUnlabelled : Statements → Type 0
@@ -90,11 +102,14 @@ abbrev pub Chosen : Bool → Type 0 → Type 0 → Type 0
 Chosen true A B = A
 Chosen false A B = B
 
--- the arguments of a call capture nothing and are not captured, nor are those of the calls in its body, which begins with a statement
-abbrev pub FineCall : Check → List Macro → Word → Trees → Type 0
-FineCall c [] m ts = Unit {0}
-FineCall c (d ∷ older) m ts =
-    Chosen (bytes_eq d.name.word m) (Clean c (arguments d.params ts) Any (expand (written_out older) d.body) × Calls (FineCall c older) d.body × BeginsUnlabelled d.body) (FineCall c older m ts)
+-- no name that is bound in the body is a parameter or free in an argument; so with the calls in the body, which begins with a statement
+abbrev pub FineCall : List Macro → Word → Trees → Type 0
+FineCall [] m ts = Unit {0}
+FineCall (d ∷ older) m ts =
+    Chosen (bytes_eq d.name.word m)
+    (Throughout (ApartForm (arguments d.params ts)) (Apart (arguments d.params ts)) (expand (written_out older) d.body)
+    × Calls (FineCall older) d.body × BeginsUnlabelled d.body)
+    (FineCall older m ts)
 
 -- no label at all, as in a macro's body
 abbrev mutual

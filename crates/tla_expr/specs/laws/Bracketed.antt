@@ -1,6 +1,6 @@
 -- The phrase that the text of a tree spells: brackets stand where they are written.
 use Rattle.std.specs.Prelude.{Bool, true, false, List, [], ◌∷◌}
-use Rattle.tla_token.specs.declared.place.Place.{Place}
+pub use Rattle.tla_token.specs.Places.{nowhere}
 use Rattle.tla_expr.specs.declared.op.Op.{Op}
 use Rattle.tla_expr.specs.declared.op.Op.TheVariants as op
 use Rattle.tla_expr.specs.declared.op.Binder.{Binder}
@@ -13,10 +13,6 @@ use Rattle.tla_expr.specs.Lexical as tk
 use Rattle.tla_expr.specs.Spelling.{Phrase, Phrases, Binds, Fields, Settings, Path, Arms, Locals, Field}
 use Rattle.tla_expr.specs.Spelling as spelled
 use Rattle.tla_expr.specs.Written.{Piece, blank, token, is_bracketed}
-
--- the phrase as a whole is at no place yet
-abbrev pub nowhere : Place
-nowhere = record { line = 0; col = 0 }
 
 -- of a tree whose form has another number of parts
 abbrev pub no_phrase : Phrase

@@ -1,6 +1,6 @@
 -- Trees without their places: two that differ in places alone are equal so.
 use Rattle.std.specs.Prelude.{List, [], ◌∷◌, map}
-use Rattle.tla_expr.specs.laws.Bracketed.{nowhere}
+use Rattle.tla_token.specs.Places.{nowhere}
 use Rattle.tla_expr.specs.Tree.{Name, Slot, Strict, except, Form, strict, binding, local, Tree, node, Trees, no_trees, tree}
 
 abbrev pub name_placeless : Name → Name

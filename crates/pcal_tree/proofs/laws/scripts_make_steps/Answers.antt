@@ -1,5 +1,4 @@
 use Rattle.std.proofs.Common.{ap, Ok}
-use Rattle.pcal_tree.specs.Choices.{walk}
 use Rattle.pcal_tree.specs.Step.{course_of}
 use Rattle.pcal_tree.specs.laws.Choosing.{told}
 use Rattle.pcal_tree.proofs.Choices.{walk_has}

@@ -1,5 +1,6 @@
 use Rattle.tla_expr.proofs.Operands.{operand_primary}
 use Rattle.tla_expr.proofs.SpelledTrees.{written_is_spelled}
+use Rattle.tla_expr.proofs.WrittenPhrase.{written_phrase}
 use Rattle.tla_expr.proofs.laws.trees_are_written_in_tokens.Goals as goal
 
 pub returns-clause-tokens : goal.returns-clause-tokens
@@ -7,3 +8,6 @@ returns-clause-tokens c = written_is_spelled
 
 pub returns-clause-operand : goal.returns-clause-operand
 returns-clause-operand c = operand_primary
+
+pub returns-clause-phrase : goal.returns-clause-phrase
+returns-clause-phrase c = written_phrase
