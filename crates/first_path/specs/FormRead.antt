@@ -11,7 +11,7 @@ use Rattle.tla_token.specs.Places.{start, place_at}
 use Rattle.tla_token.specs.Offences.{Part, sound, Offence, least}
 use Rattle.tla_token.specs.Cut.{run, parts}
 use Rattle.tla_expr.specs.Tree.{Word}
-pub use Rattle.module_text.specs.TextFront.{on_some}
+pub use Rattle.module_text.specs.TextFront.{on_some, past_word as past}
 use Rattle.first_path.specs.Form.{Operand, number_operand, variable_operand, Right, single, sum, Parts, is_fit, first_lines, last_line}
 
 abbrev pub if_so : {A : Type 0} → Bool → Option A → Option A
@@ -85,9 +85,6 @@ kinds_in [] = Some []
 kinds_in (sound (blank b) ∷ ps) = kinds_in ps
 kinds_in (sound (lexeme k bytes) ∷ ps) = on_some (kinds_in ps) (λ ks. Some (k ∷ ks))
 kinds_in (p ∷ ps) = None
-
-abbrev pub past : List ℕ → List ℕ → Option (List ℕ)
-past w x = if starts_with nat_eq x w then Some (drop (length w) x) else None
 
 abbrev pub begins_blank : List ℕ → Bool
 begins_blank [] = false

@@ -10,6 +10,7 @@ use Rattle.tla_token.specs.Words.{is_tla_word}
 use Rattle.tla_token.specs.Lexemes.{is_blank}
 use Rattle.tla_token.specs.Offences.{Offence, least}
 use Rattle.std.specs.Prelude.{is_some}
+use Rattle.module_text.specs.ModuleTokens.{unit_words}
 use Rattle.module_text.specs.TextFront.{Text, begins, is_space, past_all, on_some, past_word, past_blanks, word_at, past_name, at_line, line_of, line_end}
 use Rattle.module_text.specs.Comments.{Mode, plain, quoted, block, Found, step, is_plain, ends_module, seek, outside_comments}
 use Rattle.module_text.specs.HeaderAndRegion.{is_header, is_begin, is_end, is_start}
@@ -124,12 +125,6 @@ region_lines x = offences_at BadRegion (all_in is_region_line (looked_at x))
 
 abbrev pub is_inner_header : Mode → Bool → Text → Bool
 is_inner_header m first s = is_plain m && (first && is_header s)
-
--- words that begin a unit, besides names
-abbrev pub unit_words : List Text
-unit_words =
-    codes "ASSUME" ∷ codes "ASSUMPTION" ∷ codes "AXIOM" ∷ codes "CONSTANT" ∷ codes "CONSTANTS" ∷ codes "EXTENDS" ∷ codes "INSTANCE"
-    ∷ codes "LOCAL" ∷ codes "RECURSIVE" ∷ codes "THEOREM" ∷ codes "VARIABLE" ∷ codes "VARIABLES" ∷ []
 
 -- a unit begins, or the module ends: a name or such a word in column 1, a run of dashes, or one of `=`
 abbrev pub begins_unit : ℕ → Text → Bool

@@ -12,6 +12,7 @@ pub mod Columns
 pub mod SpelledTokens
 pub mod SpelledTrees
 pub mod WrittenPhrase
+pub mod WrittenTree
 pub mod Steps
 pub mod ReadSoon
 pub mod SoundTokens

@@ -336,7 +336,7 @@ part_same m xs zs h g true ts ps s = by (w.is_bracketed m)
     by true = cons (tk.mark tk.open_bracket) (form_same m xs zs h g _ _ (cons (tk.mark tk.close_bracket) s))
     by false = form_same m xs zs h g ts ps s
 
-counted : (ts : Trees) → count ts ≡ length (b.parts ts)
+pub counted : (ts : Trees) → count ts ≡ length (b.parts ts)
 counted no_trees = refl
 counted (tree t ts) = omega (arith, counted ts)
 

@@ -3,11 +3,12 @@
 ghost use Rattle.std.specs.Prelude.{◌≡◌, ◌++◌, ℕ, List, [], Ok};
 ghost use Rattle.tla_expr.specs.Tree.{Tree};
 ghost use Rattle.tla_expr.specs.Lexical.{Token};
-ghost use Rattle.tla_expr.specs.Spelling.{Phrase, spell, Good, IsGood, Spells, head, primary};
+ghost use Rattle.tla_expr.specs.Spelling.{Phrase, spell, tree_of, Good, IsGood, Spells, head, primary};
 ghost use Rattle.tla_expr.specs.Reader.{read};
 ghost use Rattle.tla_expr.specs.laws.Columns.{looks, lineless, Begin};
 ghost use Rattle.tla_expr.specs.Written.{pieces};
 ghost use Rattle.tla_expr.specs.laws.Writable.{IsWritable, AreSpelled};
+ghost use Rattle.tla_expr.specs.laws.Placeless.{tree_placeless};
 ghost use Rattle.tla_expr.specs.laws.Bracketed.{as_operand, part, phrase_of, kinds, tokens_of};
 
 /// Tokens spell one expression at most, in one way.
@@ -34,10 +35,11 @@ pub fn lines_do_not_matter()
 {}
 
 /// What is written of a tree whose names, fields, strings and numbers a text can have are texts of tokens, each seen as the token
-/// that was meant; and these are the tokens of its phrase, with brackets where they are written. As an operand each tree is a
-/// primary, so how it is read rests on no rank.
+/// that was meant; and these are the tokens of its phrase, with brackets where they are written, which has that tree,
+/// places aside. As an operand each tree is a primary, so how it is read rests on no rank.
 pub fn trees_are_written_in_tokens()
     ensures tokens { (t : Tree) → IsWritable t → AreSpelled (pieces t) }
     ensures phrase { (t : Tree) → IsWritable t → kinds (spell (phrase_of t) []) ≡ tokens_of (pieces t) }
+    ensures tree { (t : Tree) → IsWritable t → tree_placeless (tree_of (phrase_of t)) ≡ tree_placeless t }
     ensures operand { (t : Tree) → head (as_operand (part t)) ≡ primary }
 {}

@@ -1,6 +1,7 @@
 use Rattle.tla_expr.proofs.Operands.{operand_primary}
 use Rattle.tla_expr.proofs.SpelledTrees.{written_is_spelled}
 use Rattle.tla_expr.proofs.WrittenPhrase.{written_phrase}
+use Rattle.tla_expr.proofs.WrittenTree.{written_tree}
 use Rattle.tla_expr.proofs.laws.trees_are_written_in_tokens.Goals as goal
 
 pub returns-clause-tokens : goal.returns-clause-tokens
@@ -11,3 +12,6 @@ returns-clause-operand c = operand_primary
 
 pub returns-clause-phrase : goal.returns-clause-phrase
 returns-clause-phrase c = written_phrase
+
+pub returns-clause-tree : goal.returns-clause-tree
+returns-clause-tree c = written_tree
