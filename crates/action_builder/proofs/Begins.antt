@@ -8,7 +8,7 @@ use Rattle.pcal_tree.specs.Expand.{graft_one, graft_all, graft_some, joined, Wri
 use Rattle.pcal_tree.proofs.ExpandRuns.{opens_joined}
 use Rattle.pcal_tree.proofs.BeginLaws.{WrittenBare, begin_expanded}
 use Rattle.pcal_tree.specs.laws.Expansion.{Calls, CallsOne, CallsSome, Chosen, Throughout, FineCall, BeginsUnlabelled, BareOne, Bare, BareSome, BareBodies}
-use Rattle.tla_value.specs.Related.{Apart, ApartForm}
+use Rattle.tla_value.specs.laws.Grafting.{Apart, ApartForm}
 
 bare_joined : (a b : Statements) → Bare a → Bare b → Bare (joined a b)
 bare_joined done b h k = k

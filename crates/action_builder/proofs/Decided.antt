@@ -5,7 +5,7 @@ use Rattle.tla_token.specs.Signs.{is_among}
 use Rattle.tla_token.specs.declared.place.Place.{Place}
 use Rattle.tla_expr.specs.Tree.{Word, Form, name, next, operator_call, binding, local, Tree, node, Trees, no_trees, tree, Every, EveryOf, Graft}
 use Rattle.tla_value.specs.Stops.{Check}
-use Rattle.tla_value.specs.Related.{In, ClearForm}
+use Rattle.tla_value.specs.laws.Grafting.{In, ClearForm}
 use Rattle.pcal_tree.specs.Algorithm.{Assignments, no_assignments, assignment, Statement, assign, await, print, assert, skip, branch, either, Statements, done, then, mark, Branches, no_branches, or}
 use Rattle.pcal_tree.specs.laws.Expansion.{CleanAssignments, CleanOne, Clean, CleanSome}
 use Rattle.action_builder.specs.Assigned.{assigned, Names, more}

@@ -11,7 +11,7 @@ use Rattle.tla_value.specs.Order.{same}
 use Rattle.tla_value.specs.Stops.{plain, truth_at, members_at}
 use Rattle.tla_value.specs.Standard.{printed, asserted, standard_value}
 use Rattle.tla_value.specs.Meaning.{Env, just, bind, eval}
-use Rattle.tla_value.specs.Related.{In}
+use Rattle.tla_value.specs.laws.Grafting.{In}
 use Rattle.tla_value.proofs.Primes.{Unprimed, unprimed_law}
 use Rattle.tla_value.proofs.Facts.{every_weaker}
 use Rattle.tla_value.proofs.Primes as Primes

@@ -4,7 +4,7 @@ use Rattle.tla_token.specs.declared.place.Place.{Place}
 use Rattle.tla_expr.specs.Tree.{Word, Trees}
 use Rattle.tla_value.specs.Stops.{plain}
 use Rattle.tla_value.specs.Meaning.{evals, part_values}
-use Rattle.tla_value.specs.Related.{In}
+use Rattle.tla_value.specs.laws.Grafting.{In}
 use Rattle.pcal_tree.specs.Algorithm.{Name, Routine, procedure_routines}
 use Rattle.pcal_tree.specs.Scope.{State, Scope, places_of}
 use Rattle.pcal_tree.specs.Assign.{after_assignments}

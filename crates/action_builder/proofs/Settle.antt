@@ -5,7 +5,7 @@ use Rattle.tla_expr.specs.Tree.{Word}
 use Rattle.tla_value.specs.declared.fault.FaultKind.TheVariants.{AssertFailed}
 use Rattle.tla_value.specs.Value.{Value, Values, no_values, and, Outcome, fault}
 use Rattle.tla_value.specs.Stops.{Check}
-use Rattle.tla_value.specs.Related.{In}
+use Rattle.tla_value.specs.laws.Grafting.{In}
 use Rattle.pcal_tree.specs.Algorithm.{Span, Binds, no_binds, one_of, is, Statement, assign, await, print, assert, skip, branch, either, with, while, goto, macro, call, return, Statements, done, then, mark, Branches, no_branches, or}
 use Rattle.pcal_tree.specs.Scope.{State, Scope, bound, test, members, value_of}
 use Rattle.pcal_tree.specs.Assign.{after_assignments}

@@ -1,19 +1,24 @@
 -- Items with trees put in for names have the truth that they have where the names stand for the trees, and troubles of the same kinds.
-use Rattle.std.proofs.Common.{◌≡◌, Bool, true, false, cond, bytes_eq, Some, None, refl, sym, subst, Ok}
+use Rattle.std.proofs.Common.{◌≡◌, List, ◌∙◌, ap, Bool, true, false, cond, bytes_eq, Some, None, refl, sym, subst, Ok}
 use Rattle.tla_token.specs.declared.place.Place.{Place}
-use Rattle.tla_expr.specs.Tree.{Word, Tree, Every, Graft, graft, root_place}
+use Rattle.tla_expr.specs.Tree.{Word, Strict, operator, functions, records, name, next, operator_call, strings, strict, Tree, node, Every, Graft, graft, root_place}
 use Rattle.tla_value.specs.Value.{Value, Outcome, ◌>>=◌}
-use Rattle.tla_value.specs.Stops.{Check, truth_at, members_at}
-use Rattle.tla_value.specs.Meaning.{Env, just, bind, eval}
+use Rattle.tla_value.specs.Order.{holds}
+use Rattle.tla_value.specs.Strict.{strict_value, strict_test}
+use Rattle.tla_value.proofs.Outcomes.{then_then}
+use Rattle.tla_expr.specs.declared.op.Op.{Op}
+use Rattle.tla_expr.specs.declared.op.Op.TheVariants.{Subset}
+use Rattle.tla_value.specs.Stops.{Check, truth_at, members_at, tested, sense_of}
+use Rattle.tla_value.specs.Meaning.{Env, just, bind, part_values, eval, evals}
 use Rattle.tla_value.specs.Grafts.{read_tree}
-use Rattle.tla_value.specs.Related.{ClearForm}
+use Rattle.tla_value.specs.laws.Grafting.{ClearForm}
 use Rattle.tla_value.specs.Definitions.{Valuation}
 use Rattle.tla_value.proofs.Graft.{Grafted, bound_grafted, grafted_law}
 use Rattle.module_text.specs.Module.{Item, test, setting, unchanged, exists, local, if_then_else, either, Items, no_items, item, Branches, no_branches, branch}
 use Rattle.module_text.specs.ActionTruth.{truth_in, members_in, item_holds, items_hold, some_branch}
 use Rattle.action_builder.specs.SingleProcess.{in_place_of, graft_item, graft_items, graft_branches}
 use Rattle.tla_value.specs.laws.Places.{AgreeButPlaces}
-use Rattle.action_builder.specs.laws.Grafts.{ClearItem, ClearItems, ClearBranches}
+use Rattle.action_builder.specs.laws.Grafts.{ClearItem, ClearItems, ClearBranches, StrictListed, IsListed}
 use Rattle.action_builder.proofs.Alike.{same_refl, then_same, and_same, or_same, cond_same, truth_same, members_same, each_same}
 use Rattle.tla_value.specs.laws.FreeNames.{Any}
 
@@ -59,3 +64,32 @@ put_for c self e v env q = record { now = λ x u at. by x at (bytes_eq self x); 
 
 pub single_law : (c : Check) (self : Word) (e : Tree) (v : Value) (is : Items) → ClearItems c (in_place_of self e) Any is → (s t : Valuation) (env : Env) → eval c e env ≡ just v → AgreeButPlaces (items_hold c s t env (graft_items (in_place_of self e) is)) (items_hold c s t (bind self v env) is)
 single_law c self e v is k s t env q = items_same c (in_place_of self e) Any s t is k env (bind self v env) (put_for c self e v env q)
+
+-- ---- an expression that means its value
+
+operator_listed : (c : Check) (o : Op) → StrictListed (operator o) → (at p : Place) (w : Value) (vs : List Value) → strict_test c (operator o) at p w vs ≡ tested p w (strict_value c (operator o) at vs)
+operator_listed c Subset h at p w vs = absurd h
+operator_listed c o h at p w vs = refl
+
+strict_listed : (c : Check) (o : Strict) → StrictListed o → (at p : Place) (w : Value) (vs : List Value) → strict_test c o at p w vs ≡ tested p w (strict_value c o at vs)
+strict_listed c (operator o) h at p w vs = operator_listed c o h at p w vs
+strict_listed c functions h at p w vs = absurd h
+strict_listed c (records xs) h at p w vs = absurd h
+strict_listed c o h at p w vs = refl
+
+pub means_value : (c : Check) (e : Tree) → IsListed e → (env : Env) (v : Value) → (eval c e env).value ≡ Ok v → eval c e env ≡ just v
+means_value c (node (name x) at ts) h env v q = absurd h
+means_value c (node (next x) at ts) h env v q = absurd h
+means_value c (node (operator_call f) at ts) h env v q = absurd h
+means_value c (node strings at ts) h env v q = absurd h
+means_value c (node (strict o) at ts) h env v q =
+    (λ i. record {
+      value = part_values (evals c ts) env >>= strict_value c o at;
+      test = λ p w. part_values (evals c ts) env >>= (λ vs. strict_listed c o h at p w vs i);
+    })
+    ∙ (λ i. record {
+      value = part_values (evals c ts) env >>= strict_value c o at;
+      test = λ p w. sym (then_then (part_values (evals c ts) env) (strict_value c o at) (λ s. members_at p s >>= (λ ws. Ok (holds w ws)))) i;
+    })
+    ∙ ap sense_of q
+means_value c (node m at ts) h env v q = ap sense_of q

@@ -8,14 +8,13 @@
 ghost use Rattle.std.specs.Prelude.{◌≡◌, ◌↔◌, List, Bool, true};
 ghost use Rattle.tla_token.specs.declared.place.Place.{Place};
 ghost use Rattle.tla_expr.specs.Tree.{Word, Tree};
-ghost use Rattle.tla_value.specs.Value.{Value, NotFalse, IsBad};
+ghost use Rattle.tla_value.specs.Value.{Value, NotFalse, IsBad, TrueExactly};
 ghost use Rattle.tla_value.specs.Stops.{Check, plain};
 ghost use Rattle.tla_value.specs.Meaning.{Env, just, bind, eval};
-ghost use Rattle.tla_value.specs.Related.{In};
+ghost use Rattle.tla_value.specs.laws.Grafting.{In};
 ghost use Rattle.tla_value.specs.Grafts.{owned};
 ghost use Rattle.tla_value.specs.Definitions.{Valuation};
 ghost use Rattle.module_text.specs.Module.{Items};
-ghost use Rattle.tla_value.specs.Value.{TrueExactly};
 ghost use Rattle.module_text.specs.ActionTruth.{items_hold};
 ghost use Rattle.pcal_tree.specs.Algorithm.{Statements, Macro, Assignments, Routine};
 ghost use Rattle.pcal_tree.specs.Scope.{State, Scope};
@@ -36,7 +35,7 @@ ghost use Rattle.action_builder.specs.laws.LabelSteps.{LabelStep, prepared_of, i
 ghost use Rattle.action_builder.specs.Prepared.{none};
 ghost use Rattle.action_builder.specs.Written.{except_of};
 ghost use Rattle.action_builder.specs.SingleProcess.{in_place_of, graft_items};
-ghost use Rattle.action_builder.specs.laws.Grafts.{ClearItems};
+ghost use Rattle.action_builder.specs.laws.Grafts.{ClearItems, IsListed};
 ghost use Rattle.tla_value.specs.laws.FreeNames.{Any};
 ghost use Rattle.tla_value.specs.laws.Places.{AgreeButPlaces, ChecksButPlaces, EnvsButPlaces};
 ghost use Rattle.action_builder.specs.laws.Places.{ItemsButPlaces};
@@ -105,10 +104,12 @@ pub fn except_makes_the_changes_of_its_parts()
 {}
 
 /// With the expression of a single process put in for `self`, which captures nothing, items have on every pair of states
-/// the truth that they have where `self` is the value of the expression, or trouble of the same kind.
+/// the truth that they have where `self` is the value of the expression, or trouble of the same kind. The expression means
+/// just its value, but for sets that are tested without being listed, and for names and operators, which have theirs.
 pub fn single_processes_have_their_expression_for_self()
-    ensures { (c : Check) (self : Word) (e : Tree) (v : Value) (items : Items) → ClearItems c (in_place_of self e) Any items → (s t : Valuation) (env : Env) → eval c e env ≡ just v
+    ensures truth { (c : Check) (self : Word) (e : Tree) (v : Value) (items : Items) → ClearItems c (in_place_of self e) Any items → (s t : Valuation) (env : Env) → eval c e env ≡ just v
         → AgreeButPlaces (items_hold c s t env (graft_items (in_place_of self e) items)) (items_hold c s t (bind self v env) items) }
+    ensures value { (c : Check) (e : Tree) → IsListed e → (env : Env) (v : Value) → (eval c e env).value ≡ Ok v → eval c e env ≡ just v }
 {}
 
 /// Places in items matter to nothing but where a fault is: items that are equal, places aside, have on every pair of

@@ -14,7 +14,7 @@ use Rattle.pcal_tree.proofs.GraftRuns.{Meets, graft_runs}
 use Rattle.tla_value.specs.Value.{fault}
 use Rattle.pcal_tree.specs.laws.Expansion.{Calls, CallsOne, CallsSome, Chosen, Throughout, FineCall, AnyPlace, BeginsUnlabelled}
 use Rattle.tla_value.specs.laws.FreeNames.{Any}
-use Rattle.tla_value.specs.Related.{Apart, ApartForm}
+use Rattle.tla_value.specs.laws.Grafting.{Apart, ApartForm}
 use Rattle.pcal_tree.proofs.Uncaptured.{uncaptured}
 
 pub through_meets : (c : Check) (g : Graft) (sc : Scope) → AnyPlace sc → Meets c g Any sc (through c g sc)

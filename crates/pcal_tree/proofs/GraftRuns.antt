@@ -14,8 +14,8 @@ use Rattle.pcal_tree.specs.Scope.{State, Part, Scope, bound, place_in, place_of,
 use Rattle.pcal_tree.specs.Assign.{set_all, settings}
 use Rattle.pcal_tree.specs.Run.{Course, chooses, course, held, stops, after, at_each, Follow, Rules, unlabelled, label_of, run_binds, run_one, run, run_branches}
 use Rattle.pcal_tree.specs.Expand.{placed_at, graft_left, graft_assignments, graft_binds, graft_one, graft_all, graft_some}
-use Rattle.tla_value.specs.Related.{Rel}
-use Rattle.tla_value.specs.Related.{ClearForm}
+use Rattle.tla_value.proofs.Relations.{Rel}
+use Rattle.tla_value.specs.laws.Grafting.{ClearForm}
 use Rattle.pcal_tree.specs.laws.Expansion.{Clean, CleanBinds, CleanAssignments, CleanOne, CleanSome, ClearName, Unreached}
 
 -- where names are clear a form keeps that they stand for the trees of g

@@ -3,7 +3,7 @@ use Rattle.std.proofs.Common.{◌≡◌, [], ◌∷◌, Bool, true, false, cond,
 use Rattle.tla_expr.specs.declared.op.Op.TheVariants.{Equal}
 use Rattle.tla_expr.specs.declared.op.Binder.TheVariants.{Exists}
 use Rattle.tla_expr.specs.Tree.{Word, set_of, conjunction, binding, strict, Tree, node, no_trees, tree}
-use Rattle.tla_value.specs.Related.{Apart, NotFreeIn}
+use Rattle.tla_value.specs.laws.Grafting.{Apart, NotFreeIn}
 use Rattle.pcal_tree.specs.Algorithm.{Statement, await, macro, Statements, done, Macro, alone_routine}
 use Rattle.pcal_tree.specs.Run.{arguments}
 use Rattle.pcal_tree.specs.Program.{Program, Actor, routine_scope}

@@ -87,7 +87,7 @@ declares_one (d ∷ ds) x e = by (declares_one ds x) (bytes_eq d.name.word x) re
     more : ((c : Declaration) × OneOf c ds × (c.name.word ≡ x)) → (c : Declaration) × OneOf c (d ∷ ds) × (c.name.word ≡ x)
     more q = (q.0, inr q.1, q.2)
 
-    by : (declares ds x ≡ true → (c : Declaration) × OneOf c ds × (c.name.word ≡ x)) → (b : Bool) → bytes_eq d.name.word x ≡ b → cond b true (declares ds x) ≡ true → (c : Declaration) × OneOf c (d ∷ ds) × (c.name.word ≡ x)
+    by : (declares ds x ≡ true → (c : Declaration) × OneOf c ds × (c.name.word ≡ x)) → (b : Bool) → bytes_eq d.name.word x ≡ b → (b || declares ds x) ≡ true → (c : Declaration) × OneOf c (d ∷ ds) × (c.name.word ≡ x)
     by ih true p e = (d, inl refl, (bytes_eq-Decides d.name.word x).0 p)
     by ih false p e = more (ih e)
 

@@ -5,7 +5,7 @@ use Rattle.tla_expr.specs.Tree.{Word, apply, select, Form, name, operator_call, 
 use Rattle.tla_value.specs.Value.{Value, text, ◌>>=◌}
 use Rattle.tla_value.specs.Stops.{Check}
 use Rattle.tla_value.specs.Meaning.{part_values, evals}
-use Rattle.tla_value.specs.Related.{Uses, Unread, Clear, ClearForm, Apart, ApartForm, NotFreeIn}
+use Rattle.tla_value.specs.laws.Grafting.{Uses, Unread, Clear, ClearForm, Apart, ApartForm, NotFreeIn}
 use Rattle.tla_value.specs.laws.FreeNames.{FreeInParts, Any, IsOther, NotFree}
 use Rattle.tla_value.proofs.Facts.{each_weaker, every_weaker, every_of_weaker}
 use Rattle.tla_value.proofs.FreeNames.{not_free}

@@ -1,7 +1,7 @@
 -- Algorithms as trees, the same for both syntaxes ("A PlusCal User's Manual", section 3 and its grammars).
-use Rattle.std.specs.Prelude.{ℕ, suc, ◌+◌, List, [], ◌∷◌, ◌++◌, Bool, true, false, length, bytes_eq, cond, codes}
-use Rattle.std.specs.List.{AllByRecursion}
+use Rattle.std.specs.Prelude.{ℕ, suc, ◌+◌, List, [], ◌∷◌, ◌++◌, Bool, true, false, length, map, codes}
 use Rattle.tla_token.specs.declared.place.Place.{Place}
+use Rattle.tla_token.specs.Signs.{is_among}
 use Rattle.tla_expr.specs.Tree.{Word, Tree, Trees}
 pub use Rattle.tla_expr.specs.Tree.{Name}
 pub use Rattle.tla_token.specs.Places.{nowhere}
@@ -151,8 +151,7 @@ routines a = procedure_routines a ++ main_routines a a.main
 -- ---- names that are declared
 
 abbrev pub declares : List Declaration → Word → Bool
-declares [] x = false
-declares (d ∷ ds) x = cond (bytes_eq d.name.word x) true (declares ds x)
+declares ds x = is_among (map (λ d. d.name.word) ds) x
 
 -- the written name of each variable and parameter, label and unit; units are numbered as routines are. Globals keep their names.
 pub record Naming : Type 0 where

@@ -6,7 +6,7 @@ use Rattle.tla_value.specs.Value.{Outcome, Sense, fault}
 use Rattle.tla_value.specs.Stops.{Check}
 use Rattle.tla_value.specs.Meaning.{Denotation, called, meaning_of, eval, evals}
 use Rattle.tla_value.specs.Definitions.{trouble_at}
-use Rattle.tla_value.specs.Related.{Alike, Keeps, Reads, Rel}
+use Rattle.tla_value.proofs.Relations.{Alike, KeptBy, ReadsAlike, Rel}
 use Rattle.tla_value.proofs.Facts.{every_weaker}
 use Rattle.tla_value.proofs.Joined.{Kin, Same, Both, none, one, Checks}
 use Rattle.tla_value.proofs.JoinedEval.{Senses, Dens, Read, Kept, form_kept, eval_both}
@@ -60,20 +60,20 @@ all_alike : (R : Rel) (ds es : List Denotation) → Both (Dens equal R) ds es �
 all_alike R _ _ none = none
 all_alike R _ _ (one h hs) = one (λ e f r. senses_are _ _ (h e f r)) (all_alike R _ _ hs)
 
-pub reads : (R : Rel) (m : Form) → Reads R m → Read equal R m
+pub reads : (R : Rel) (m : Form) → ReadsAlike R m → Read equal R m
 reads R (name x) k = λ p q at e f r. senses_from _ _ (k p e f r ∙ (λ i. f.now x (at i)))
 reads R (next x) k = λ p q at e f r. senses_from _ _ (k p e f r ∙ (λ i. f.primed x (at i)))
 reads R (operator_call g) k = λ p q at e f r vs. senses_from _ _ (λ i. called (at i) (k e f r i) vs)
 reads R m k = tt
 
-kept : (R : Rel) (m : Form) (at : Place) → Keeps R m at → Kept equal R m at
+kept : (R : Rel) (m : Form) (at : Place) → KeptBy R m at → Kept equal R m at
 kept R m at k = (k.0, reads R m k.1)
 
 -- the law of a form
-pub alike : (R : Rel) (c : Check) (m : Form) (at : Place) (ds es : List Denotation) → Keeps R m at → AllAlike R ds es → Alike R (meaning_of c m at ds) (meaning_of c m at es)
+pub alike : (R : Rel) (c : Check) (m : Form) (at : Place) (ds es : List Denotation) → KeptBy R m at → AllAlike R ds es → Alike R (meaning_of c m at ds) (meaning_of c m at es)
 alike R c m at ds es k ps e f r =
     senses_are _ _ (form_kept equal R c c (checks_equal c) at at refl m ds es (kept R m at k) (all_dens R ds es ps) e f r)
 
 -- a tree that keeps the relation at each of its nodes
-pub eval_alike : (R : Rel) (c : Check) (t : Tree) → Every (Keeps R) t → Alike R (eval c t) (eval c t)
+pub eval_alike : (R : Rel) (c : Check) (t : Tree) → Every (KeptBy R) t → Alike R (eval c t) (eval c t)
 eval_alike R c t k e f r = senses_are _ _ (eval_both equal R c c (checks_equal c) t (every_weaker _ _ (kept R) t k) e f r)

@@ -8,7 +8,7 @@ use Rattle.tla_value.specs.Stops.{Check, plain}
 use Rattle.tla_value.specs.Meaning.{Env, bind, called, eval}
 use Rattle.tla_value.specs.Definitions.{Valuation, Definition, trouble_at, scope_of}
 use Rattle.tla_value.specs.Grafts.{read_tree, through}
-use Rattle.tla_value.specs.Related.{Below, SensesBelow, EnvsBelow}
+use Rattle.tla_value.specs.laws.UnderLimits.{Below, SensesBelow, EnvsBelow}
 use Rattle.tla_value.proofs.Outcomes.{ok_is}
 use Rattle.tla_value.proofs.Joined.{Kin, Same, Checks}
 use Rattle.tla_value.proofs.JoinedEval.{Senses}

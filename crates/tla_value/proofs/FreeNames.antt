@@ -6,7 +6,7 @@ use Rattle.tla_expr.specs.Tree.{Word, Form, name, next, operator_call, Tree, nod
 use Rattle.tla_value.specs.Value.{Value}
 use Rattle.tla_value.specs.Stops.{Check}
 use Rattle.tla_value.specs.Meaning.{Env, just, bind, eval, evals}
-use Rattle.tla_value.specs.Related.{Reads, Rel}
+use Rattle.tla_value.proofs.Relations.{ReadsAlike, Rel}
 use Rattle.tla_value.specs.laws.FreeNames.{Or, Also, FormReads, FreeNames, FreeInParts, Any, IsOther, NotFree, AgreeOn}
 use Rattle.tla_value.proofs.JoinedEval.{Dens, BoundIn, at_value, After, Parts, no_parts, part, seeing, form_both}
 use Rattle.tla_value.proofs.Alike.{equal, senses_are, checks_equal, reads}
@@ -40,7 +40,7 @@ after_agree : (M : Word → Type 0) (xs : List Word) (N : Word → Type 0) (R : 
 after_agree M [] N R h e f r = h e f r
 after_agree M (x ∷ xs) N R h e f r = after_agree M xs (Or x N) (BoundIn R x) (bound_agree N M R x h) e f r
 
-form_reads : (N M : Word → Type 0) (m : Form) → FormReads N M m → Reads (AgreeOn N M) m
+form_reads : (N M : Word → Type 0) (m : Form) → FormReads N M m → ReadsAlike (AgreeOn N M) m
 form_reads N M (name x) h = λ at e f r. r.now x h at
 form_reads N M (next x) h = λ at e f r. r.primed x at
 form_reads N M (operator_call g) h = λ e f r. r.defs g h

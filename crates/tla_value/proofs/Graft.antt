@@ -10,16 +10,17 @@ use Rattle.tla_value.specs.Grafts.{read_tree, through}
 use Rattle.tla_value.proofs.Facts.{each_weaker, every_weaker}
 use Rattle.tla_value.proofs.Joined.{none, one}
 use Rattle.tla_value.proofs.Alike.{equal, senses_are, senses_from, checks_equal, reads, AllAlike, alike}
-use Rattle.tla_value.specs.Related.{Alike, Apart, ApartForm, Bound, Keeps, NotFreeIn, Rel, Uses}
+use Rattle.tla_value.proofs.Relations.{Alike, Bound, KeptBy, Rel}
+use Rattle.tla_value.specs.laws.Grafting.{Apart, ApartForm, NotFreeIn, Uses}
 use Rattle.tla_value.specs.laws.FreeNames.{Or, Also, FormReads, FreeNames, FreeInParts, Any}
 use Rattle.tla_value.proofs.JoinedEval.{Dens, BoundIn, at_value, After, Parts, no_parts, part, seeing, form_both, EachList, each_seen}
 use Rattle.tla_value.proofs.FreeNames.{other_of, not_free, any_names}
-use Rattle.tla_value.specs.Related.{Clear, ClearForm, Unread}
+use Rattle.tla_value.specs.laws.Grafting.{Clear, ClearForm, Unread}
 
 -- a name reads the same before the graft and after it, and other forms keep the relation
 abbrev pub Fits : Check → Rel → Graft → Form → Place → Type 0
 Fits c R g (name x) at = (e f : Env) → R e f → read_tree c (g x at) x at e ≡ f.now x at
-Fits c R g m at = Keeps R m at
+Fits c R g m at = KeptBy R m at
 
 name_reads : (c : Check) (o : Option Tree) (x : Word) (at : Place) (ts : Trees) (e : Env) → eval c (grafted_name o (name x) at ts) e ≡ read_tree c o x at e
 name_reads c (Some t) x at ts e = refl

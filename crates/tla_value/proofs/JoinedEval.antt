@@ -9,7 +9,7 @@ use Rattle.tla_value.specs.declared.fault.FaultKind.TheVariants.{NotSet, NotFunc
 use Rattle.tla_value.specs.Value.{Value, Values, truth, set, no_values, and, Outcome, Sense, ◌>>=◌, in_order}
 use Rattle.tla_value.specs.Stops.{Check, truth_at, members_at, one_of, tested, sense_of}
 use Rattle.tla_value.specs.Meaning.{Env, Denotation, bind, part_values, test, Row, with_first, at_members, at_group, at_choices, suited, at_body, gathered, sources, local_value, first_arm, called, only_tested, is_text, meaning_of, eval, evals}
-use Rattle.tla_value.specs.Related.{Bound, Rel}
+use Rattle.tla_value.proofs.Relations.{Bound, Rel}
 use Rattle.tla_value.proofs.Joined.{Kin, Joined, Same, then_joined, then_same, same_cond, Both, Pairs, Triples, none, one, order_both, order_same, joined_one, joined_two, joined_three, ones, truths, sets, tests, FormsJoin, form, Checks, strict_values, strict_tests}
 
 pub record Senses (K : Kin) (s t : Sense) : Type 0 where

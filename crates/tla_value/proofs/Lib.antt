@@ -13,6 +13,7 @@ mod ValueRows
 mod RowsSeen
 pub mod StateLaws
 pub mod Facts
+pub mod Relations
 pub mod Joined
 pub mod JoinedEval
 pub mod JoinedScopes

@@ -8,7 +8,7 @@ use Rattle.tla_value.specs.Meaning.{Env, eval}
 use Rattle.tla_value.specs.Grafts.{Arguments, arguments, own_part, owned, through}
 use Rattle.tla_value.proofs.Facts.{each_weaker, every_weaker}
 use Rattle.tla_value.proofs.Graft.{through_law}
-use Rattle.tla_value.specs.Related.{NotFreeIn, NoArgument, NotOwned}
+use Rattle.tla_value.specs.laws.Grafting.{NotFreeIn, NoArgument, NotOwned}
 
 -- the body with its arguments put in means what it means where each parameter stands for its argument
 pub macro_law : (c : Check) (s : Arguments) (t : Tree) → Every (NoArgument s) t → (e : Env) → eval c (graft (arguments s) t) e ≡ eval c t (through c (arguments s) e)

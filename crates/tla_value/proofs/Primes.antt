@@ -8,9 +8,10 @@ use Rattle.tla_value.specs.Meaning.{Env, just, eval}
 use Rattle.tla_value.specs.Grafts.{primes, read_tree}
 use Rattle.tla_value.proofs.Facts.{each_weaker, every_weaker}
 use Rattle.tla_value.proofs.Graft.{Fits, graft_law, free_law}
-use Rattle.tla_value.specs.Related.{Bound, BindsNone, Uses}
+use Rattle.tla_value.proofs.Relations.{Bound}
+use Rattle.tla_value.specs.laws.Grafting.{BindsNone, Uses}
 use Rattle.tla_value.specs.laws.FreeNames.{FreeNames}
-use Rattle.tla_value.specs.Related.{Clear, Unread}
+use Rattle.tla_value.specs.laws.Grafting.{Clear, Unread}
 
 read_primed : (c : Check) (b : Bool) (x : Word) (at : Place) (e : Env) → cond b (e.primed x at) (e.now x at) ≡ read_tree c (cond b (Some (node (next x) at no_trees)) None) x at e
 read_primed c true x at e = refl

@@ -11,7 +11,7 @@ use Rattle.tla_value.specs.Order.{seq_from}
 use Rattle.tla_value.specs.Stops.{plain}
 use Rattle.tla_value.specs.Meaning.{eval}
 use Rattle.tla_value.specs.Grafts.{Arguments, arguments, primes, owned}
-use Rattle.tla_value.specs.Related.{NotFreeIn, NoArgument, Settled}
+use Rattle.tla_value.specs.laws.Grafting.{NotFreeIn, NoArgument, Settled}
 use Rattle.tla_value.specs.laws.FreeNames.{NotFree}
 use Rattle.tla_value.specs.Definitions.{Valuation, Definition, no_state, scope_of}
 

@@ -1,10 +1,9 @@
 -- The names that an expression finds outside its binders: constants, variables, standard operators, and definitions ("Specifying Systems", section 17.3).
-use Rattle.std.specs.Prelude.{◌≡◌, Bool, cond, bytes_eq, List, [], ◌∷◌, Option, Some, None, Ok, Err}
+use Rattle.std.specs.Prelude.{Bool, cond, bytes_eq, List, [], ◌∷◌, Option, Some, None, Ok, Err}
 use Rattle.tla_token.specs.declared.place.Place.{Place}
 use Rattle.tla_expr.specs.Tree.{Word, Tree}
 use Rattle.tla_value.specs.Value.{Value, Outcome, Trouble, fault, over, Sense}
-use Rattle.tla_value.specs.Stops.{Check, plain, misshapen, sense_of}
-use Rattle.tla_value.specs.Limits.{bounded}
+use Rattle.tla_value.specs.Stops.{Check, misshapen, sense_of}
 use Rattle.tla_value.specs.Meaning.{Env, just, bind, eval}
 use Rattle.tla_value.specs.Standard.{standard_of, standard_called, standard_name}
 
@@ -74,14 +73,6 @@ with_definitions c (d ∷ ds) env = with_definitions c ds (defined c d d.params 
 -- where expressions of the algorithm are evaluated, in a state and the next one
 abbrev pub scope_of : Check → Valuation → List Definition → Valuation → Valuation → Env
 scope_of c constants ds s t = with_definitions c ds (in_states s t (base c constants))
-
--- e gives r under the names of env: a value, or a fault with its kind and place
-abbrev pub Val : Tree → Env → Outcome Value → Type 0
-Val e env r = (eval plain e env).value ≡ r
-
--- the same in a run, where the first value past the limits stops as well. The names of env have been evaluated in a run too.
-abbrev pub ValB : Tree → Env → Outcome Value → Type 0
-ValB e env r = (eval bounded e env).value ≡ r
 
 -- a step half done: the names of A have their next values already
 abbrev pub mid : (Word → Bool) → Valuation → Valuation → Valuation

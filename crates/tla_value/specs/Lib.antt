@@ -17,5 +17,4 @@ pub mod Grafts
 pub mod Standard
 pub mod Definitions
 pub mod Outside
-pub mod Related
 pub mod laws

@@ -124,7 +124,7 @@ sucs m n Less h = omega arith
 sucs m n Equal h = ap suc h
 sucs m n Greater h = omega arith
 
-pub nat_suc : (m n : ℕ) → nat_cmp (suc m) (suc n) ≡ nat_cmp m n
+nat_suc : (m n : ℕ) → nat_cmp (suc m) (suc n) ≡ nat_cmp m n
 nat_suc m n = sym (nat_cmp_is (suc m) (suc n) (nat_cmp m n) (sucs m n (nat_cmp m n) (ranked m n (nat_cmp m n) refl)))
 
 nat_zero : (n : ℕ) → nat_cmp 0 (suc n) ≡ Less

@@ -3,3 +3,5 @@ pub mod InOrder
 pub mod Groups
 pub mod FreeNames
 pub mod Places
+pub mod Grafting
+pub mod UnderLimits

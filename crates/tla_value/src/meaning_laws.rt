@@ -13,7 +13,8 @@ ghost use Rattle.tla_value.specs.Definitions.{Valuation, Definition, scope_of, m
 ghost use Rattle.tla_value.specs.laws.Places.{SensesButPlaces, EnvsButPlaces, ChecksButPlaces, TreesButPlaces, DefinitionsButPlaces, GraftsButPlaces};
 ghost use Rattle.tla_value.specs.laws.Groups.{ungrouped, sets_for_names, HaveSets};
 ghost use Rattle.tla_value.specs.laws.FreeNames.{FreeNames, NotFree, AgreeOn};
-ghost use Rattle.tla_value.specs.Related.{In, ApartForm, NoArgument, NotOwned, BindsNone, AllSettled, Given, EnvsBelow, SensesBelow};
+ghost use Rattle.tla_value.specs.laws.UnderLimits.{EnvsBelow, SensesBelow};
+ghost use Rattle.tla_value.specs.laws.Grafting.{In, ApartForm, NoArgument, NotOwned, BindsNone, AllSettled, Given};
 
 /// What an expression means depends only on the names that it reads free, and on its operators. So a name
 /// that isn't free in it may be bound around it.

@@ -1,7 +1,8 @@
 -- Items with trees put in for names: what captures nothing.
-use Rattle.tla_expr.specs.Tree.{Word, Every, Graft}
+use Rattle.tla_expr.specs.declared.op.Op.TheVariants.{Subset}
+use Rattle.tla_expr.specs.Tree.{Word, Strict, operator, functions, records, name, next, operator_call, strings, strict, Tree, node, Every, Graft}
 use Rattle.tla_value.specs.Stops.{Check}
-use Rattle.tla_value.specs.Related.{Clear, ClearForm}
+use Rattle.tla_value.specs.laws.Grafting.{Clear, ClearForm}
 use Rattle.module_text.specs.Module.{Item, test, setting, unchanged, exists, local, if_then_else, either, Items, no_items, item, Branches, no_branches, branch}
 
 -- no name that is bound is put in for, or read in a tree that is put in; other names are of U
@@ -22,3 +23,18 @@ abbrev mutual
   pub ClearBranches : Check → Graft → (Word → Type 0) → Branches → Type 0
   ClearBranches c g U no_branches = Unit {0}
   ClearBranches c g U (branch is bs) = ClearItems c g U is × ClearBranches c g U bs
+
+-- no form that is tested for its members without being listed, or whose meaning is a name's or an operator's
+abbrev pub StrictListed : Strict → Type 0
+StrictListed (operator Subset) = ⊥
+StrictListed functions = ⊥
+StrictListed (records xs) = ⊥
+StrictListed o = Unit {0}
+
+abbrev pub IsListed : Tree → Type 0
+IsListed (node (name x) at ts) = ⊥
+IsListed (node (next x) at ts) = ⊥
+IsListed (node (operator_call f) at ts) = ⊥
+IsListed (node strings at ts) = ⊥
+IsListed (node (strict o) at ts) = StrictListed o
+IsListed t = Unit {0}

@@ -5,7 +5,7 @@ use Rattle.tla_expr.specs.Tree.{Word}
 use Rattle.tla_value.specs.Value.{Trouble, Outcome}
 use Rattle.tla_value.specs.Grafts.{owned}
 use Rattle.tla_value.specs.Meaning.{Env}
-use Rattle.tla_value.specs.Related.{In}
+use Rattle.tla_value.specs.laws.Grafting.{In}
 use Rattle.module_text.specs.Module.{Items}
 use Rattle.pcal_tree.specs.Algorithm.{Statements}
 use Rattle.pcal_tree.specs.Scope.{State, Scope}

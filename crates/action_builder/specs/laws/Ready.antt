@@ -6,7 +6,7 @@ use Rattle.tla_expr.specs.Tree.{Word, apply, select, Form, name, strict, next, T
 use Rattle.tla_value.specs.Stops.{plain}
 use Rattle.tla_value.specs.Standard.{printed, asserted, standard_sense}
 use Rattle.tla_value.specs.Meaning.{Env, just}
-use Rattle.tla_value.specs.Related.{Uses, In}
+use Rattle.tla_value.specs.laws.Grafting.{Uses, In}
 use Rattle.tla_value.specs.Definitions.{Valuation}
 use Rattle.module_text.specs.Module.{Items}
 use Rattle.module_text.specs.ActionTruth.{Verdict, items_hold}

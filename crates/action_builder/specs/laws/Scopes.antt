@@ -6,7 +6,7 @@ use Rattle.tla_value.specs.Value.{Value}
 use Rattle.tla_value.specs.Stops.{Check, sense_of}
 use Rattle.tla_value.specs.Grafts.{owned}
 use Rattle.tla_value.specs.Meaning.{just}
-use Rattle.tla_value.specs.Related.{In}
+use Rattle.tla_value.specs.laws.Grafting.{In}
 use Rattle.pcal_tree.specs.Scope.{State, Part, Scope, bound, through}
 use Rattle.pcal_tree.specs.Program.{read_at}
 use Rattle.action_builder.specs.Assigned.{Names}

@@ -5,7 +5,7 @@ use Rattle.tla_token.specs.declared.place.Place.{Place}
 use Rattle.tla_expr.specs.Tree.{Word, Form, Tree, Trees, Every, EveryOf, Graft}
 use Rattle.tla_value.specs.Value.{Value}
 use Rattle.tla_value.specs.Stops.{Check}
-use Rattle.tla_value.specs.Related.{Clear, ClearForm, Apart, ApartForm}
+use Rattle.tla_value.specs.laws.Grafting.{Clear, ClearForm, Apart, ApartForm}
 use Rattle.pcal_tree.specs.Algorithm.{Assignments, no_assignments, assignment, Binds, no_binds, one_of, is, Statement, assign, await, print, assert, branch, either, with, while, macro, call, Statements, done, then, mark, Branches, no_branches, or, Macro}
 use Rattle.pcal_tree.specs.Scope.{State, Scope, bound, reach}
 use Rattle.pcal_tree.specs.Run.{arguments}

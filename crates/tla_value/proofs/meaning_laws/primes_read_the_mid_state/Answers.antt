@@ -1,4 +1,4 @@
-use Rattle.tla_value.specs.Related.{In}
+use Rattle.tla_value.specs.laws.Grafting.{In}
 use Rattle.tla_value.proofs.MidState.{mid_law}
 use Rattle.tla_value.proofs.meaning_laws.primes_read_the_mid_state.Goals as goal
 

@@ -1,34 +1,13 @@
--- What laws of the meaning speak of: relations between environments, names that a tree reads and binds, and outcomes up to limits.
-use Rattle.std.specs.Prelude.{◌≡◌, List, [], ◌∷◌, Bool, true, false, bytes_eq, Option, Some, None, Ok, Err}
+-- When trees may be put in for names: which names a tree binds, and which are free in what is put in.
+use Rattle.std.specs.Prelude.{◌≡◌, List, [], ◌∷◌, Bool, true, false, bytes_eq, Option, Some, None}
 use Rattle.tla_token.specs.declared.place.Place.{Place}
-use Rattle.tla_expr.specs.Tree.{Word, Form, name, next, operator_call, Tree, Every, Each, binders, Graft}
-use Rattle.tla_value.specs.Value.{Value, Outcome, fault, over, Sense}
+use Rattle.tla_expr.specs.Tree.{Word, Form, name, operator_call, Tree, Each, binders, Graft}
+use Rattle.tla_value.specs.Value.{Value}
 use Rattle.tla_value.specs.Stops.{Check}
-use Rattle.tla_value.specs.Meaning.{Env, Denotation, bind, called, eval}
+use Rattle.tla_value.specs.Meaning.{Env, bind, eval}
 use Rattle.tla_value.specs.Grafts.{Arguments}
 use Rattle.tla_value.specs.Definitions.{Definition}
 use Rattle.tla_value.specs.laws.FreeNames.{Also, FreeNames, NotFree}
-
--- a relation between environments
-abbrev pub Rel : Type 1
-Rel = Env → Env → Type 0
-
--- the relation passes a binder of x
-abbrev pub Bound : Rel → Word → Type 0
-Bound R x = (e f : Env) (v : Value) → R e f → R (bind x v e) (bind x v f)
-
--- what a form reads of its environment is the same
-abbrev pub Reads : Rel → Form → Type 0
-Reads R (name x) = (at : Place) (e f : Env) → R e f → e.now x at ≡ f.now x at
-Reads R (next x) = (at : Place) (e f : Env) → R e f → e.primed x at ≡ f.primed x at
-Reads R (operator_call g) = (e f : Env) → R e f → e.defs g ≡ f.defs g
-Reads R _ = Unit {0}
-
-abbrev pub Keeps : Rel → Form → Place → Type 0
-Keeps R m at = Each (Bound R) (binders m) × Reads R m
-
-abbrev pub Alike : Rel → Denotation → Denotation → Type 0
-Alike R a b = (e f : Env) → R e f → a e ≡ b f
 
 -- the names and operators that a form reads, but for primed names, are among U
 abbrev pub Uses : (Word → Type 0) → Form → Type 0
@@ -78,22 +57,6 @@ AllSettled A U (d ∷ ds) = (U d.title → Settled A U d) × AllSettled A U ds
 abbrev pub Given : Option Value → Type 0
 Given (Some v) = Unit {0}
 Given None = ⊥
-
--- o is o', or passed a limit
-abbrev pub Below : {X : Type 0} → Outcome X → Outcome X → Type 0
-Below (Ok x) o' = Ok x ≡ o'
-Below (Err (fault k p)) o' = Err (fault k p) ≡ o'
-Below (Err (over p)) o' = Unit {0}
-
-pub record SensesBelow (s s' : Sense) : Type 0 where
-  pub value : Below s.value s'.value
-  pub test : (p : Place) (v : Value) → Below (s.test p v) (s'.test p v)
-
--- so is what the names and operators of the environments give
-pub record EnvsBelow (e e' : Env) : Type 0 where
-  pub now : (x : Word) (at : Place) → SensesBelow (e.now x at) (e'.now x at)
-  pub primed : (x : Word) (at : Place) → SensesBelow (e.primed x at) (e'.primed x at)
-  pub defs : (x : Word) (at : Place) (vs : List Value) → SensesBelow (called at (e.defs x) vs) (called at (e'.defs x) vs)
 
 -- the words of u, as a fact
 abbrev pub In : (Word → Bool) → Word → Type 0
