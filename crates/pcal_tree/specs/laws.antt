@@ -1,6 +1,8 @@
+-- Words that only laws speak of.
 pub mod Apart
 pub mod Lines
 pub mod MacroSummaries
+pub mod MacroUses
 pub mod Choosing
 pub mod Expansion
 pub mod Steps

@@ -1,12 +1,11 @@
 pub mod Tree
-pub mod Names
 pub mod FormOf
 pub mod Shapes
 pub mod TreeOf
 pub mod Code
 pub mod Rank
 pub mod Lexical
-pub mod ExprTokens
+pub mod TokenViews
 pub mod Spelling
 pub mod Written
 pub mod Nesting

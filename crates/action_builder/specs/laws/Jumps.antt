@@ -7,14 +7,13 @@ use Rattle.pcal_tree.specs.Algorithm.{Declaration, Routine, locals, procedure_ro
 use Rattle.pcal_tree.specs.Scope.{State, Scope, value_of}
 use Rattle.pcal_tree.specs.Program.{Program, Actor, index, local_index}
 use Rattle.pcal_tree.specs.Variables.{written_all, pc, stack}
-use Rattle.pcal_tree.specs.Run.{Rules, with_macros}
-use Rattle.pcal_tree.specs.Calls.{initial_value, named, rules_of}
+use Rattle.pcal_tree.specs.Calls.{initial_value, named}
 use Rattle.action_builder.specs.Jumps.{InitialValues}
 use Rattle.action_builder.specs.laws.Settling.{Callable}
 use Rattle.tla_value.specs.laws.Places.{AgreeButPlaces}
 use Rattle.action_builder.specs.laws.Scopes.{StandsAtPath, Inner}
 
--- pc, the stack and the variables of p stand at the process's identifier, and Head and Tail are those of Sequences
+-- pc, the stack and the variables of p are at the process's identifier, and Head and Tail are those of Sequences
 pub record RoutineStands (P : Program) (v : Actor) (p : Routine) (sc : Scope) : Type 0 where
   pub pc : StandsAtPath sc (index v.self) pc
   pub stack : StandsAtPath sc (index v.self) stack
@@ -43,7 +42,7 @@ fitting P (Some p) ts = as_many (written_all P p p.params) ts
 abbrev pub callable : Program → Callable
 callable P p ts = fitting P (named p.word (procedure_routines P.algorithm)) ts
 
--- the variables of the routine and of each procedure stand at the process's identifier, and initial values are written as they are
+-- the variables of the routine and of each procedure are at the process's identifier, and initial values are written as they are
 pub record RoutinesStand (P : Program) (v : Actor) (u : Routine) (I : InitialValues) (sc : Scope) : Type 0 where
   pub own : RoutineStands P v u sc
   pub called : (x : Word) (p : Routine) → named x (procedure_routines P.algorithm) ≡ Some p → RoutineStands P v p sc
@@ -52,7 +51,3 @@ pub record RoutinesStand (P : Program) (v : Actor) (u : Routine) (I : InitialVal
 -- also with names of f bound
 abbrev pub RoutinesStandWithin : Program → Actor → Routine → InitialValues → (Word → Bool) → Scope → Type 0
 RoutinesStandWithin P v u I f sc = (inner : Scope) → Inner f sc inner → RoutinesStand P v u I inner
-
--- the rules of a step, without macros
-abbrev pub base_rules : Program → Actor → Routine → Rules
-base_rules P v u = with_macros (rules_of P v u) []
