@@ -3,10 +3,11 @@ use Rattle.std.proofs.Common.{◌≡◌, List, [], ◌∷◌, ◌++◌, Bool, tr
 use Rattle.tla_token.specs.declared.place.Place.{Place}
 use Rattle.tla_expr.specs.Tree.{Word, apply, select, name, strict, Tree, node, Trees, no_trees, tree, root_place}
 use Rattle.tla_value.specs.declared.fault.FaultKind.TheVariants.{AssertFailed}
-use Rattle.tla_value.specs.Value.{Value, text, Values, no_values, and, Outcome, fault, over, Trouble, ◌>>=◌}
+use Rattle.tla_value.specs.Value.{Value, text, Values, no_values, and, Outcome, fault, Trouble, ◌>>=◌}
 use Rattle.tla_value.specs.Stops.{Check}
 use Rattle.tla_value.specs.Strict.{changed_at}
 use Rattle.tla_value.specs.Meaning.{evals, part_values}
+use Rattle.tla_value.proofs.Outcomes.{then_then}
 use Rattle.pcal_tree.specs.Algorithm.{Assignments, no_assignments, assignment, Binds, no_binds, one_of, is, Statement, Statements, Branches, no_branches, or}
 use Rattle.pcal_tree.specs.Algorithm as Source
 use Rattle.pcal_tree.specs.Scope.{State, put, Part, deeper, Scope, bound, reach, reach_path, value_of, test, members}
@@ -22,18 +23,9 @@ use Rattle.action_builder.specs.laws.Ready.{IsLeft, LeftFirst, LeftSides, Settle
 
 -- ---- results
 
-pub on_twice : {X Y Z : Type 0} (o : Outcome X) (f : X → Outcome Y) (g : Y → Outcome Z) → (o >>= f) >>= g ≡ o >>= (λ x. (f x) >>= g)
-on_twice (Ok x) f g = refl
-on_twice (Err k) f g = refl
-
-pub on_valued : {X Y : Type 0} (o : Outcome Value) (go : Value → Outcome X) (f : X → Outcome Y) → (o >>= go) >>= f ≡ o >>= (λ v. (go v) >>= f)
-on_valued (Ok v) go f = refl
-on_valued (Err (fault k p)) go f = refl
-on_valued (Err (over p)) go f = refl
-
 -- two results, and then what is made of both
 pub on_both : {X Y Z W : Type 0} (o : Outcome X) (p : X → Outcome Y) (f : X → Y → Z) (go : Z → Outcome W) → (o >>= (λ x. (p x) >>= (λ y. Ok (f x y)))) >>= go ≡ o >>= (λ x. (p x) >>= (λ y. go (f x y)))
-on_both (Ok x) p f go = on_twice (p x) (λ y. Ok (f x y)) go
+on_both (Ok x) p f go = then_then (p x) (λ y. Ok (f x y)) go
 on_both (Err k) p f go = refl
 
 -- ---- assignments
@@ -43,20 +35,20 @@ mutual
   heads V c (node (name x) at ts) h sc n s go = let q = n x h at s in ap (λ o. o >>= go) q.1 ∙ sym (ap (λ o. o >>= (λ p. go (part_at x p.path))) q.1)
   heads V c (node (strict apply) at ts) h sc n s go = heads_path V c at ts h sc n s go
   heads V c (node (strict (select a)) at ts) h sc n s go =
-      on_twice (reach_path c at ts sc s) (λ p. Ok (deeper (text a ∷ []) p)) go
+      then_then (reach_path c at ts sc s) (λ p. Ok (deeper (text a ∷ []) p)) go
       ∙ heads_path V c at ts h sc n s (λ p. go (deeper (text a ∷ []) p))
-      ∙ sym (on_twice (reach_path c at ts sc s) (λ p. Ok (deeper (text a ∷ []) p)) (λ p. go (part_at (head_first ts) p.path)))
+      ∙ sym (then_then (reach_path c at ts sc s) (λ p. Ok (deeper (text a ∷ []) p)) (λ p. go (part_at (head_first ts) p.path)))
   heads V c (node _ at ts) h sc n s go = absurd h
 
   heads_path : {X : Type 0} (V : Names) (c : Check) (at : Place) (ts : Trees) → LeftFirst V ts → (sc : Scope) → Named V sc → (s : State) (go : Part → Outcome X) → (reach_path c at ts sc s) >>= go ≡ (reach_path c at ts sc s) >>= (λ p. go (part_at (head_first ts) p.path))
   heads_path V c at no_trees h sc n s go = absurd h
   heads_path V c at (tree f us) h sc n s go =
-      on_twice (reach c f sc s) (λ p. (part_values (evals c us) (sc.env s)) >>= (λ ks. Ok (deeper ks p))) go
+      then_then (reach c f sc s) (λ p. (part_values (evals c us) (sc.env s)) >>= (λ ks. Ok (deeper ks p))) go
       ∙ heads V c f h sc n s (λ p. ((part_values (evals c us) (sc.env s)) >>= (λ ks. Ok (deeper ks p))) >>= go)
-      ∙ (λ i. (reach c f sc s) >>= (λ p. (on_twice (part_values (evals c us) (sc.env s)) (λ ks. Ok (part_at (head_of f) (p.path ++ ks))) go
-      ∙ sym (on_twice (part_values (evals c us) (sc.env s)) (λ ks. Ok (part_at (head_of f) (p.path ++ ks))) (λ q. go (part_at (head_of f) q.path)))) i))
+      ∙ (λ i. (reach c f sc s) >>= (λ p. (then_then (part_values (evals c us) (sc.env s)) (λ ks. Ok (part_at (head_of f) (p.path ++ ks))) go
+      ∙ sym (then_then (part_values (evals c us) (sc.env s)) (λ ks. Ok (part_at (head_of f) (p.path ++ ks))) (λ q. go (part_at (head_of f) q.path)))) i))
       ∙ sym (heads V c f h sc n s (λ p. ((part_values (evals c us) (sc.env s)) >>= (λ ks. Ok (deeper ks p))) >>= (λ q. go (part_at (head_of f) q.path))))
-      ∙ sym (on_twice (reach c f sc s) (λ p. (part_values (evals c us) (sc.env s)) >>= (λ ks. Ok (deeper ks p))) (λ q. go (part_at (head_of f) q.path)))
+      ∙ sym (then_then (reach c f sc s) (λ p. (part_values (evals c us) (sc.env s)) >>= (λ ks. Ok (deeper ks p))) (λ q. go (part_at (head_of f) q.path)))
 
 abbrev pub to_changes : Check → List Setting → Changes
 to_changes c [] = no_changes
@@ -68,23 +60,23 @@ setting_at at x path v = record { place = at; part = part_at x path; value = v }
 pub settings_law : {X : Type 0} (V : Names) (c : Check) (ms : Assignments) → LeftSides V ms → (sc : Scope) → Named V sc → (s : State) (go : List Setting → Outcome X) (go' : Changes → Outcome X) → ((all : List Setting) → go all ≡ go' (to_changes c all)) → (settings c ms sc s) >>= go ≡ (evaluated (parts_of c ms) sc s) >>= go'
 settings_law V c no_assignments h sc n s go go' k = k []
 settings_law V c (assignment l e ms) h sc n s go go' k =
-    on_twice (reach c l sc s) (λ p. (value_of c e sc s) >>= (λ v. (settings c ms sc s) >>= (λ rest. Ok (record { place = root_place l; part = p; value = v } ∷ rest)))) go
+    then_then (reach c l sc s) (λ p. (value_of c e sc s) >>= (λ v. (settings c ms sc s) >>= (λ rest. Ok (record { place = root_place l; part = p; value = v } ∷ rest)))) go
     ∙ (λ i. (reach c l sc s) >>= (λ p. on_both (value_of c e sc s) (λ v. settings c ms sc s) (λ v rest. record { place = root_place l; part = p; value = v } ∷ rest) go i))
     ∙ heads V c l h.0 sc n s (λ p. (value_of c e sc s) >>= (λ v. (settings c ms sc s) >>= (λ rest. go (record { place = root_place l; part = p; value = v } ∷ rest))))
     ∙ (λ i. (reach c l sc s) >>= (λ p. (value_of c e sc s) >>= (λ v.
     settings_law V c ms h.1 sc n s (λ rest. go (setting_at (root_place l) (head_of l) p.path v ∷ rest)) (λ fs. go' (change (head_of l) (changing c (root_place l) p.path v) fs)) (λ all. k (setting_at (root_place l) (head_of l) p.path v ∷ all)) i)))
     ∙ sym (
-    on_twice (part_of c l e sc s) (λ f. (evaluated (parts_of c ms) sc s) >>= (λ fs. Ok (change (head_of l) f fs))) go'
-    ∙ (λ i. (part_of c l e sc s) >>= (λ f. on_twice (evaluated (parts_of c ms) sc s) (λ fs. Ok (change (head_of l) f fs)) go' i))
-    ∙ on_twice (reach c l sc s) (λ p. (value_of c e sc s) >>= (λ v. Ok (changing c (root_place l) p.path v))) (λ f. (evaluated (parts_of c ms) sc s) >>= (λ fs. go' (change (head_of l) f fs)))
-    ∙ (λ i. (reach c l sc s) >>= (λ p. on_twice (value_of c e sc s) (λ v. Ok (changing c (root_place l) p.path v)) (λ f. (evaluated (parts_of c ms) sc s) >>= (λ fs. go' (change (head_of l) f fs))) i)))
+    then_then (part_of c l e sc s) (λ f. (evaluated (parts_of c ms) sc s) >>= (λ fs. Ok (change (head_of l) f fs))) go'
+    ∙ (λ i. (part_of c l e sc s) >>= (λ f. then_then (evaluated (parts_of c ms) sc s) (λ fs. Ok (change (head_of l) f fs)) go' i))
+    ∙ then_then (reach c l sc s) (λ p. (value_of c e sc s) >>= (λ v. Ok (changing c (root_place l) p.path v))) (λ f. (evaluated (parts_of c ms) sc s) >>= (λ fs. go' (change (head_of l) f fs)))
+    ∙ (λ i. (reach c l sc s) >>= (λ p. then_then (value_of c e sc s) (λ v. Ok (changing c (root_place l) p.path v)) (λ f. (evaluated (parts_of c ms) sc s) >>= (λ fs. go' (change (head_of l) f fs))) i)))
 
 set_law : (c : Check) (all : List Setting) (s : State) → set_all c all s ≡ applied (to_changes c all) s
 set_law c [] s = refl
 set_law c (m ∷ ms) s =
     on_both (changed_at m.place m.part.path m.value (s m.part.variable)) (c m.place) (λ w u. put m.part.variable u s) (set_all c ms)
     ∙ (λ i. (changed_at m.place m.part.path m.value (s m.part.variable)) >>= (λ w. (c m.place w) >>= (λ u. set_law c ms (put m.part.variable u s) i)))
-    ∙ sym (on_valued (changed_at m.place m.part.path m.value (s m.part.variable)) (c m.place) (λ u. applied (to_changes c ms) (put m.part.variable u s)))
+    ∙ sym (then_then (changed_at m.place m.part.path m.value (s m.part.variable)) (c m.place) (λ u. applied (to_changes c ms) (put m.part.variable u s)))
 
 pub moved_law : (V : Names) (c : Check) (ms : Assignments) → LeftSides V ms → (sc : Scope) → Named V sc → (s : State) → Assign.after_assignments c ms sc s ≡ moved (parts_of c ms) sc s
 moved_law V c ms h sc n s = settings_law V c ms h sc n s (λ all. set_all c all s) (λ fs. applied fs s) (λ all. set_law c all s)

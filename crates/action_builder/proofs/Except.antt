@@ -17,7 +17,7 @@ use Rattle.action_builder.specs.Written.{Key, sub, fixed, subs, keys_of, keys_fi
 use Rattle.tla_value.proofs.Outcomes.{then_ok, then_then}
 use Rattle.pcal_tree.specs.Assign.{Setting}
 use Rattle.action_builder.specs.laws.States.{changed_by, value_after}
-use Rattle.action_builder.proofs.Denotations.{to_changes, settings_law, on_twice, on_both}
+use Rattle.action_builder.proofs.Denotations.{to_changes, settings_law, on_both}
 
 -- ---- left sides
 
@@ -43,7 +43,7 @@ mutual
   plain_reach V c (node (name x) at ts) h sc n s go = ap (λ o. o >>= go) (n x h at s)
   plain_reach V c (node (strict apply) at ts) h sc n s go = plain_path V c at ts h sc n s go
   plain_reach V c (node (strict (select a)) at ts) h sc n s go =
-      on_twice (reach_path c at ts sc s) (λ p. Ok (deeper (text a ∷ []) p)) go
+      then_then (reach_path c at ts sc s) (λ p. Ok (deeper (text a ∷ []) p)) go
       ∙ plain_path V c at ts h sc n s (λ p. go (deeper (text a ∷ []) p))
       ∙ sym (keys_append c (keys_first ts) (fixed a ∷ []) (sc.env s) (λ ks. go (part_at (head_first ts) ks)))
   plain_reach V c (node _ at ts) h sc n s go = absurd h
@@ -51,9 +51,9 @@ mutual
   plain_path : {X : Type 0} (V : Names) (c : Check) (at : Place) (ts : Trees) → LeftFirst V ts → (sc : Scope) → Plain V sc → (s : State) (go : Part → Outcome X) → (reach_path c at ts sc s) >>= go ≡ on_keys c (keys_first ts) (sc.env s) (λ ks. go (part_at (head_first ts) ks))
   plain_path V c at no_trees h sc n s go = absurd h
   plain_path V c at (tree f us) h sc n s go =
-      on_twice (reach c f sc s) (λ p. (part_values (evals c us) (sc.env s)) >>= (λ ks. Ok (deeper ks p))) go
+      then_then (reach c f sc s) (λ p. (part_values (evals c us) (sc.env s)) >>= (λ ks. Ok (deeper ks p))) go
       ∙ plain_reach V c f h sc n s (λ p. ((part_values (evals c us) (sc.env s)) >>= (λ ks. Ok (deeper ks p))) >>= go)
-      ∙ (λ i. on_keys c (keys_of f) (sc.env s) (λ js. on_twice (part_values (evals c us) (sc.env s)) (λ ks. Ok (part_at (head_of f) (js ++ ks))) go i))
+      ∙ (λ i. on_keys c (keys_of f) (sc.env s) (λ js. then_then (part_values (evals c us) (sc.env s)) (λ ks. Ok (part_at (head_of f) (js ++ ks))) go i))
       ∙ (λ i. on_keys c (keys_of f) (sc.env s) (λ js. subs_law c us (sc.env s) (λ ks. go (part_at (head_of f) (js ++ ks))) i))
       ∙ sym (keys_append c (keys_of f) (subs us) (sc.env s) (λ ks. go (part_at (head_of f) ks)))
 
@@ -90,10 +90,10 @@ slot_then c at path v o g =
 first_change : (V : Names) (c : Check) (l e : Tree) → IsLeft V l → (ps : Parts) (sc : Scope) → Plain V sc → (s : State) (G : List Change → Outcome Value) →
     (all_changes (part (head_of l) (part_of c l e) ps) sc s) >>= G ≡ on_keys c (keys_of l) (sc.env s) (λ path. (value_of c e sc s) >>= (λ v. (all_changes ps sc s) >>= (λ fs. G (changing c (root_place l) path v ∷ fs))))
 first_change V c l e h ps sc n s G =
-    on_twice (part_of c l e sc s) (λ f. (all_changes ps sc s) >>= (λ fs. Ok (f ∷ fs))) G
-    ∙ (λ i. (part_of c l e sc s) >>= (λ f. on_twice (all_changes ps sc s) (λ fs. Ok (f ∷ fs)) G i))
-    ∙ on_twice (reach c l sc s) (λ p. (value_of c e sc s) >>= (λ v. Ok (changing c (root_place l) p.path v))) (λ f. (all_changes ps sc s) >>= (λ fs. G (f ∷ fs)))
-    ∙ (λ i. (reach c l sc s) >>= (λ p. on_twice (value_of c e sc s) (λ v. Ok (changing c (root_place l) p.path v)) (λ f. (all_changes ps sc s) >>= (λ fs. G (f ∷ fs))) i))
+    then_then (part_of c l e sc s) (λ f. (all_changes ps sc s) >>= (λ fs. Ok (f ∷ fs))) G
+    ∙ (λ i. (part_of c l e sc s) >>= (λ f. then_then (all_changes ps sc s) (λ fs. Ok (f ∷ fs)) G i))
+    ∙ then_then (reach c l sc s) (λ p. (value_of c e sc s) >>= (λ v. Ok (changing c (root_place l) p.path v))) (λ f. (all_changes ps sc s) >>= (λ fs. G (f ∷ fs)))
+    ∙ (λ i. (reach c l sc s) >>= (λ p. then_then (value_of c e sc s) (λ v. Ok (changing c (root_place l) p.path v)) (λ f. (all_changes ps sc s) >>= (λ fs. G (f ∷ fs))) i))
     ∙ plain_reach V c l h sc n s (λ p. (value_of c e sc s) >>= (λ v. (all_changes ps sc s) >>= (λ fs. G (changing c (root_place l) p.path v ∷ fs))))
 
 slots_law : (V : Names) (c : Check) (ms : Assignments) → LeftSides V ms → (sc : Scope) → Plain V sc → (s : State) (o : Outcome Value) →
@@ -103,7 +103,7 @@ slots_law V c (assignment l e ms) h sc n s o =
     slot_law c (root_place l) (keys_of l) e (slot_trees ms) (sc.env s) o (λ old path v rest. (changed_at (root_place l) path v old) >>= (λ new. (c (root_place l) new) >>= (updated c (slots_of ms) rest)))
     ∙ (λ i. on_keys c (keys_of l) (sc.env s) (λ path. (eval c e (sc.env s)).value >>= (λ v. part_values (evals c (slot_trees ms)) (sc.env s) >>= (λ ws. slot_then c (root_place l) path v o (updated c (slots_of ms) ws) i))))
     ∙ (λ i. on_keys c (keys_of l) (sc.env s) (λ path. (eval c e (sc.env s)).value >>= (λ v. slots_law V c ms h.1 sc n s (after_slot c (root_place l) path v o) i)))
-    ∙ (λ i. on_keys c (keys_of l) (sc.env s) (λ path. (eval c e (sc.env s)).value >>= (λ v. (all_changes (parts_of c ms) sc s) >>= (λ fs. on_twice o (changing c (root_place l) path v) (folded fs) i))))
+    ∙ (λ i. on_keys c (keys_of l) (sc.env s) (λ path. (eval c e (sc.env s)).value >>= (λ v. (all_changes (parts_of c ms) sc s) >>= (λ fs. then_then o (changing c (root_place l) path v) (folded fs) i))))
     ∙ sym (first_change V c l e h.0 (parts_of c ms) sc n s (λ fs. o >>= (folded fs)))
 
 -- the law of EXCEPT, within any limits
@@ -161,18 +161,18 @@ changes_of (change x f fs) = f ∷ changes_of fs
 all_law : {X : Type 0} (ps : Parts) (sc : Scope) (s : State) (G : List Change → Outcome X) → (all_changes ps sc s) >>= G ≡ (evaluated ps sc s) >>= (λ fs. G (changes_of fs))
 all_law no_parts sc s G = refl
 all_law (part x e ps) sc s G =
-    on_twice (e sc s) (λ f. (all_changes ps sc s) >>= (λ fs. Ok (f ∷ fs))) G
-    ∙ (λ i. (e sc s) >>= (λ f. on_twice (all_changes ps sc s) (λ fs. Ok (f ∷ fs)) G i))
+    then_then (e sc s) (λ f. (all_changes ps sc s) >>= (λ fs. Ok (f ∷ fs))) G
+    ∙ (λ i. (e sc s) >>= (λ f. then_then (all_changes ps sc s) (λ fs. Ok (f ∷ fs)) G i))
     ∙ (λ i. (e sc s) >>= (λ f. all_law ps sc s (λ fs. G (f ∷ fs)) i))
     ∙ sym (
-    on_twice (e sc s) (λ f. (evaluated ps sc s) >>= (λ fs. Ok (change x f fs))) (λ fs. G (changes_of fs))
-    ∙ (λ i. (e sc s) >>= (λ f. on_twice (evaluated ps sc s) (λ fs. Ok (change x f fs)) (λ fs. G (changes_of fs)) i)))
+    then_then (e sc s) (λ f. (evaluated ps sc s) >>= (λ fs. Ok (change x f fs))) (λ fs. G (changes_of fs))
+    ∙ (λ i. (e sc s) >>= (λ f. then_then (evaluated ps sc s) (λ fs. Ok (change x f fs)) (λ fs. G (changes_of fs)) i)))
 
 by_settings : (c : Check) (all : List Setting) (v : Value) → changed_by c all v ≡ folded (changes_of (to_changes c all)) v
 by_settings c [] v = refl
 by_settings c (m ∷ ms) v =
     (λ i. (changed_at m.place m.part.path m.value v) >>= (λ w. (c m.place w) >>= (λ u. by_settings c ms u i)))
-    ∙ sym (on_twice (changed_at m.place m.part.path m.value v) (c m.place) (folded (changes_of (to_changes c ms))))
+    ∙ sym (then_then (changed_at m.place m.part.path m.value v) (c m.place) (folded (changes_of (to_changes c ms))))
 
 plain_named : (V : Names) (sc : Scope) → Plain V sc → Named V sc
 plain_named V sc h x m at s = ([], h x m at s)

@@ -15,6 +15,7 @@ use Rattle.tla_value.specs.laws.Grafting.{In}
 use Rattle.tla_value.proofs.Primes.{Unprimed, unprimed_law}
 use Rattle.tla_value.proofs.Facts.{every_weaker}
 use Rattle.tla_value.proofs.Primes as Primes
+use Rattle.tla_value.proofs.Outcomes.{then_then}
 use Rattle.module_text.specs.ActionTruth.{Verdict, is_unchanged}
 use Rattle.module_text.specs.ActionTruth as Module
 use Rattle.pcal_tree.specs.Algorithm.{Assignments, no_assignments, assignment}
@@ -27,7 +28,6 @@ use Rattle.action_builder.specs.Written.{Key, sub, fixed, subs, keys_of, keys_fi
 use Rattle.action_builder.proofs.Equal.{name-true, eq-name, value-true, eq-value}
 use Rattle.action_builder.proofs.Sets.{or_left, or_right, minus_same, same_minus}
 use Rattle.action_builder.proofs.Main.{Within}
-use Rattle.action_builder.proofs.Denotations.{on_twice}
 
 -- ---- verdicts that match
 
@@ -103,7 +103,7 @@ match_once (Err j) (Err k) h = tt
 
 pub match_one : (o : Outcome Value) (f : Value → Verdict) (g : Value → Outcome Bool) → ((v : Value) → Matches (f v) (g v)) → Matches (o >>= f) ((o >>= (λ v. Ok (and v no_values))) >>= (λ vs. some_member vs g))
 match_one o f g h =
-    subst (Matches (o >>= f)) (sym (on_twice o (λ v. Ok (and v no_values)) (λ vs. some_member vs g)))
+    subst (Matches (o >>= f)) (sym (then_then o (λ v. Ok (and v no_values)) (λ vs. some_member vs g)))
     (match_value o f (λ v. or_all (g v) (Ok false)) (λ v. match_once (f v) (g v) (h v)))
 
 pub match_true : (v : Outcome Bool) (p : Verdict) → Matches p v → Matches (Values.and_then p (Ok true)) (and_then v (Ok true))

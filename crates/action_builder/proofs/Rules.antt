@@ -10,10 +10,10 @@ use Rattle.pcal_tree.specs.Scope.{State, Scope, places_of}
 use Rattle.pcal_tree.specs.Assign.{after_assignments}
 use Rattle.pcal_tree.specs.Run.{Has, after, unlabelled, run}
 use Rattle.pcal_tree.specs.Program.{Program, Actor, index}
-use Rattle.pcal_tree.specs.Calls.{label_value, label_name, jumped, returned, entered_at, finished, named}
+use Rattle.pcal_tree.specs.Calls.{label_value, label_name, jumped, returned, entered_at, finished, named, rules_without_macros}
 use Rattle.action_builder.specs.laws.Settling.{to_end, Close, Outcomes, DoesAsRules}
 use Rattle.action_builder.specs.laws.Scopes.{Inner}
-use Rattle.action_builder.specs.laws.Jumps.{base_rules, fitting, callable, RoutinesStand, RoutinesStandWithin}
+use Rattle.action_builder.specs.laws.Jumps.{fitting, callable, RoutinesStand, RoutinesStandWithin}
 use Rattle.action_builder.specs.Jumps.{InitialValues, JumpPlaces, return_assignments, return_written, call_to, written_jumps}
 use Rattle.action_builder.proofs.Settle.{close_after, inner_bind}
 use Rattle.action_builder.proofs.Jumps.{after_end, pc_law, return_law}
@@ -28,21 +28,21 @@ close_trans P Q R h k = record {
 }
 
 call_does : (P : Program) (v : Actor) (u : Routine) (I : InitialValues) (sc : Scope) → P.check ≡ plain → RoutinesStand P v u I sc → (c at : Place) (p : Name) (ts : Trees) (l : Word) → (o : Option Routine) → named p.word (procedure_routines P.algorithm) ≡ o → fitting P o ts ≡ true → (s : State) →
-    Close (Has (run (base_rules P v u) unlabelled (call_to P I c ts (label_name P u l) o) sc to_end s)) (Has (after (part_values (evals P.check ts) (sc.env s)) (λ vs. entered_at P v at (label_value P u l) o (places_of ts sc) vs s)))
+    Close (Has (run (rules_without_macros P v u) unlabelled (call_to P I c ts (label_name P u l) o) sc to_end s)) (Has (after (part_values (evals P.check ts) (sc.env s)) (λ vs. entered_at P v at (label_value P u l) o (places_of ts sc) vs s)))
 call_does P v u I sc q k c at p ts l None e h s = cc
 call_does P v u I sc q k c at p ts l (Some x) e h s =
     close_trans _ _ _
-    (call_law (base_rules P v u) P v x c ts (label_name P u l) (I.place x) (I.initial x) sc refl q (k.called p.word x e) h (k.initials p.word x e c) s)
+    (call_law (rules_without_macros P v u) P v x c ts (label_name P u l) (I.place x) (I.initial x) sc refl q (k.called p.word x e) h (k.initials p.word x e c) s)
     (close_after (part_values (evals P.check ts) (sc.env s)) _ _ (λ vs. close_finished _ _ (alike_of _ _ (entered_same P q v c at (label_value P u l) x (places_of ts sc) vs s))))
 
-pub rules_do : (P : Program) (v : Actor) (u : Routine) (I : InitialValues) (places : JumpPlaces) (f : Word → Bool) (sc : Scope) → P.check ≡ plain → RoutinesStandWithin P v u I f sc → DoesAsRules (base_rules P v u) (written_jumps P u I places) (Inner f sc) (In f) (callable P)
+pub rules_do : (P : Program) (v : Actor) (u : Routine) (I : InitialValues) (places : JumpPlaces) (f : Word → Bool) (sc : Scope) → P.check ≡ plain → RoutinesStandWithin P v u I f sc → DoesAsRules (rules_without_macros P v u) (written_jumps P u I places) (Inner f sc) (In f) (callable P)
 rules_do P v u I places f sc q k = record {
-  goto = λ l inner fit s. subst (λ z. Close (Has z) (Has (finished (jumped P v u l s)))) (sym (pc_law (base_rules P v u) P v places.goto (label_name P u l) inner (k inner fit).own.pc s refl))
+  goto = λ l inner fit s. subst (λ z. Close (Has z) (Has (finished (jumped P v u l s)))) (sym (pc_law (rules_without_macros P v u) P v places.goto (label_name P u l) inner (k inner fit).own.pc s refl))
       (close_finished _ _ (alike_of _ _ (set_same P.check q places.goto v.own.name.place pc (index v.self) (label_value P u l) s)));
   call = λ at p ts l inner fit h s. call_does P v u I inner q (k inner fit) (places.call at) at.first p ts l (named p.word (procedure_routines P.algorithm)) refl h s;
   return = λ at inner fit s. subst (λ z. Close (Has z) (Has (finished (returned P v at.first u s)))) (sym (back (places.return at) inner fit s)) (close_finished _ _ (alike_of _ _ (returned_same P q v (places.return at) at.first u s)));
   bind = λ x w inner h fit. inner_bind f sc x w inner h fit;
 }
   where
-    back : (at : Place) (inner : Scope) → Inner f sc inner → (s : State) → run (base_rules P v u) unlabelled (return_written P u at) inner to_end s ≡ finished (returned P v at u s)
+    back : (at : Place) (inner : Scope) → Inner f sc inner → (s : State) → run (rules_without_macros P v u) unlabelled (return_written P u at) inner to_end s ≡ finished (returned P v at u s)
     back at inner fit s = after_end (after_assignments P.check (return_assignments P u at) inner s) ∙ ap finished (return_law P v u inner (k inner fit).own q at s)

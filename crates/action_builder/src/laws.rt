@@ -23,13 +23,14 @@ ghost use Rattle.pcal_tree.specs.StepStart.{begin};
 ghost use Rattle.pcal_tree.specs.Expand.{graft_all, expanded, written_out, expand_begin};
 ghost use Rattle.pcal_tree.specs.laws.Expansion.{Calls, Clean, FineCall, BareBodies, AnyPlace};
 ghost use Rattle.pcal_tree.specs.Program.{Program, Actor};
+ghost use Rattle.pcal_tree.specs.Calls.{rules_without_macros};
 ghost use Rattle.action_builder.specs.Assigned.{Names, more, assigned_in};
 ghost use Rattle.action_builder.specs.laws.States.{value_after, SameOn, BadSomewhere};
 ghost use Rattle.action_builder.specs.laws.Ready.{LeftSides, Readable, holds_on};
 ghost use Rattle.action_builder.specs.laws.Scopes.{IsPlain as Plain, Inner, StandsAtPath, own_scope, own_path, Whole};
 ghost use Rattle.action_builder.specs.laws.Settling.{to_end, Callable, Tidy, CloseCourses, DoesAsRules};
 ghost use Rattle.action_builder.specs.Jumps.{InitialValues, JumpPlaces, written_jumps};
-ghost use Rattle.action_builder.specs.laws.Jumps.{base_rules, callable, RoutinesStandWithin};
+ghost use Rattle.action_builder.specs.laws.Jumps.{callable, RoutinesStandWithin};
 ghost use Rattle.action_builder.specs.Settled.{WrittenJumps, settled};
 ghost use Rattle.action_builder.specs.laws.LabelSteps.{LabelStep, prepared_of, items_of, action_of, IsPrepared, IsReady, EndsIn, IsTroubled, StepsTo, MeetsTrouble};
 ghost use Rattle.action_builder.specs.Prepared.{none};
@@ -85,7 +86,7 @@ pub fn settled_statements_have_the_same_ends()
 /// processes, do what the rules of a step say.
 pub fn written_jumps_do_what_the_rules_say()
     ensures { (P : Program) (v : Actor) (u : Routine) (I : InitialValues) (places : JumpPlaces) (f : Word → Bool) (sc : Scope) → P.check ≡ plain → RoutinesStandWithin P v u I f sc
-        → DoesAsRules (base_rules P v u) (written_jumps P u I places) (Inner f sc) (In f) (callable P) }
+        → DoesAsRules (rules_without_macros P v u) (written_jumps P u I places) (Inner f sc) (In f) (callable P) }
 {}
 
 /// With the variables of a process written as functions of its identifier, statements take the courses that they

@@ -1,12 +1,12 @@
 -- Next of the form's translation is true exactly of the algorithm's steps, and of its stuttering end.
-use Rattle.std.proofs.Common.{◌≡◌, [], ◌∷◌, ◌++◌, Bool, true, false, ◌&&◌, cond, Option, Some, None, codes, refl, sym, ap, ◌∙◌, subst, ◌⊎◌, inl, inr, Ok, Err}
+use Rattle.std.proofs.Common.{◌≡◌, [], ◌∷◌, ◌++◌, Bool, true, false, ◌&&◌, cond, bytes_eq, Option, Some, None, codes, refl, sym, ap, ◌∙◌, subst, ◌⊎◌, inl, inr, Ok, Err}
 use Rattle.std.specs.Bool.{IsTrue}
 use Rattle.std.proofs.lemmas.Bool.{and_parts, and_from, or_left, or_right, both_ways}
 use Rattle.std.proofs.lemmas.Option.{same_Some}
 use Rattle.tla_token.specs.declared.place.Place.{Place}
+use Rattle.tla_token.specs.Signs.{is_among}
+use Rattle.tla_token.proofs.Spelled.{among_head}
 use Rattle.tla_expr.specs.Tree.{Word}
-use Rattle.tla_expr.specs.Names.{has, is_same}
-use Rattle.tla_expr.proofs.NameLemmas.{same_refl, has-cons}
 use Rattle.tla_value.specs.declared.fault.FaultKind.TheVariants.{NotInteger}
 use Rattle.tla_value.specs.Value.{Value, text, Outcome, fault}
 use Rattle.tla_value.specs.Order.{same}
@@ -40,12 +40,9 @@ use Rattle.pcal_tree.specs.Faults.{Sound}
 
 -- ---- the variables in a state
 
--- the two variables are among themselves
-has_first : (x y : Word) → has (x ∷ y ∷ []) x ≡ true
-has_first x y = has-cons x x (y ∷ []) ∙ or_left (is_same x x) (has (y ∷ []) x) (same_refl x)
-
-has_second : (x y : Word) → has (x ∷ y ∷ []) y ≡ true
-has_second x y = has-cons x y (y ∷ []) ∙ or_right (is_same x y) (has (y ∷ []) y) (has-cons y y [] ∙ or_left (is_same y y) (has [] y) (same_refl y))
+-- the second of two variables is among them
+among_second : (x y : Word) → is_among (x ∷ y ∷ []) y ≡ true
+among_second x y = or_right (bytes_eq x y) (is_among (y ∷ []) y) (among_head y [])
 
 -- the values of x and y alone
 abbrev pub Two : Word → Word → State → Valuation → Type 0
@@ -54,7 +51,7 @@ Two x y s S = (S x ≡ Some (s x)) × (S y ≡ Some (s y))
 pub two_variables : (p : Places) (f : Parts) (names : Naming) (values : Valuation) (s : State)
     → Two f.variable pc s (on_variables (program_of p f names values) s)
 two_variables p f names values s =
-    (ap (λ b. cond b (Some (s f.variable)) None) (has_first f.variable pc), ap (λ b. cond b (Some (s pc)) None) (has_second f.variable pc))
+    (ap (λ b. cond b (Some (s f.variable)) None) (among_head f.variable (pc ∷ [])), ap (λ b. cond b (Some (s pc)) None) (among_second f.variable pc))
 
 -- a variable that the state has is read of the state
 pub reads_first : (q : Places) (f : Parts) (values : Valuation) (s : State) (S T : Valuation) (x : Word) → S x ≡ Some (s x)

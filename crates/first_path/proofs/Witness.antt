@@ -2,8 +2,8 @@
 use Rattle.std.proofs.Common.{◌≡◌, pos, Bool, true, false, cond, None, Some, [], ◌∷◌, codes, bytes_eq, refl, sym, ap, ◌∙◌, subst, ◌⊎◌, inl, inr, Ok, Err}
 use Rattle.std.proofs.lemmas.Option.{same_Some}
 use Rattle.tla_token.specs.declared.place.Place.{Place}
+use Rattle.tla_token.specs.Signs.{is_among}
 use Rattle.tla_expr.specs.Tree.{Word}
-use Rattle.tla_expr.specs.Names.{has}
 use Rattle.tla_value.specs.declared.fault.FaultKind.{FaultKind}
 use Rattle.tla_value.specs.Value.{Value, int, text, Trouble}
 use Rattle.tla_value.specs.Order.{IsCanonical}
@@ -32,8 +32,7 @@ form_worked = form_found worked_text worked_parts refl
 -- ---- constants
 
 -- no name but the one has a value
-other_name : (x : Word) → has (codes "defaultInitValue" ∷ []) x ≡ false → no_more_constants x ≡ None
-unfolding has
+other_name : (x : Word) → is_among (codes "defaultInitValue" ∷ []) x ≡ false → no_more_constants x ≡ None
 other_name x h = by (bytes_eq (codes "defaultInitValue") x) refl
   where
     by : (b : Bool) → bytes_eq (codes "defaultInitValue") x ≡ b → cond b (Some defaultInitValue) None ≡ None

@@ -13,6 +13,7 @@ mod RowsPrinted
 mod RowsC
 mod RowsLabels
 mod RowsSummaries
+mod RowsUses
 mod RowsNames
 mod RowsP
 mod RowsBoth
@@ -29,7 +30,10 @@ pub mod TargetLaws
 pub mod SummaryLaws
 pub mod EffectLaws
 pub mod EffectLabels
-mod RowsOffences
+pub mod FirstLaws
+pub mod UseLaws
+pub mod UsesByMacro
+pub mod RowsOffences
 pub mod SameVariables
 pub mod StepVariables
 pub mod SameSteps

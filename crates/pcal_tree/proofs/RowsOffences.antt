@@ -12,16 +12,16 @@ use Rattle.pcal_tree.specs.OffencesReserved.{reserved_declared}
 use Rattle.pcal_tree.proofs.Sample.{at, title, x, y, num, sets, labelled, one_body}
 use Rattle.pcal_tree.proofs.RowsNames.{counter}
 
-abbrev stands : ℕ → Statement → Statements → Statements
+abbrev pub stands : ℕ → Statement → Statements → Statements
 stands n st rest = then (record { first = at n; last = at n }) st rest
 
-abbrev read : ℕ → Word → Tree
+abbrev pub read : ℕ → Word → Tree
 read n w = node (name w) (at n) no_trees
 
-abbrev named : ℕ → Word → Name
+abbrev pub named : ℕ → Word → Name
 named n w = record { word = w; place = at n }
 
-abbrev q : Word
+abbrev pub q : Word
 q = codes "q"
 
 -- the unit `ASSUME Big == ..` was not read

@@ -1,4 +1,4 @@
--- Lists of words that no test tells apart, and lists without repetitions.
+-- Lists that no test tells apart, and lists without repetitions.
 use Rattle.std.proofs.Common.{◌≡◌, List, [], ◌∷◌, ◌++◌, Bool, true, false, ◌||◌, cond, bytes_eq, refl, sym, ◌∙◌, ap, map}
 use Rattle.std.specs.List.{list_any, flat_map}
 use Rattle.std.proofs.lemmas.List.Folds.{list_any-append}
@@ -40,7 +40,7 @@ pub any_same : {X : Type 0} (f g : X → Bool) → ((x : X) → f x ≡ g x) →
 any_same f g e [] = refl
 any_same f g e (x ∷ xs) = λ i. e x i || any_same f g e xs i
 
-or_mixed : (a b c d : Bool) → ((a || b) || (c || d)) ≡ ((a || c) || (b || d))
+pub or_mixed : (a b c d : Bool) → ((a || b) || (c || d)) ≡ ((a || c) || (b || d))
 or_mixed true b c d = refl
 or_mixed false true true d = refl
 or_mixed false true false d = refl
@@ -54,20 +54,16 @@ pub any_none : {X : Type 0} (f : X → Bool) → ((x : X) → f x ≡ false) →
 any_none f e [] = refl
 any_none f e (x ∷ xs) = λ i. e x i || any_none f e xs i
 
--- ---- lists of words that no test tells apart
+-- ---- lists that no test tells apart
 
-abbrev pub Same : List Word → List Word → Type 0
-Same xs ys = (f : Word → Bool) → list_any f xs ≡ list_any f ys
+abbrev pub Same : {X : Type 0} → List X → List X → Type 0
+Same {X = X} xs ys = (f : X → Bool) → list_any f xs ≡ list_any f ys
 
-pub same_both : (xs us ys vs : List Word) → Same xs us → Same ys vs → Same (xs ++ ys) (us ++ vs)
+pub same_both : {X : Type 0} (xs us ys vs : List X) → Same xs us → Same ys vs → Same (xs ++ ys) (us ++ vs)
 same_both xs us ys vs s r f = list_any-append f xs ys ∙ (λ i. s f i || r f i) ∙ sym (list_any-append f us vs)
 
-among_any : (xs : List Word) (w : Word) → is_among xs w ≡ list_any (λ v. bytes_eq v w) xs
-among_any [] w = refl
-among_any (x ∷ xs) w = ap (λ (b : Bool). bytes_eq x w || b) (among_any xs w)
-
 pub among_same : (xs ys : List Word) → Same xs ys → (w : Word) → is_among xs w ≡ is_among ys w
-among_same xs ys s w = among_any xs w ∙ s (λ v. bytes_eq v w) ∙ sym (among_any ys w)
+among_same xs ys s w = s (λ v. bytes_eq v w)
 
 pub meets_any : (xs ys : List Word) → meets xs ys ≡ list_any (is_among xs) ys
 meets_any xs [] = refl
@@ -78,9 +74,7 @@ meets_same xs us ys vs s r =
     meets_any xs ys ∙ any_same (is_among xs) (is_among us) (among_same xs us s) ys ∙ r (is_among us) ∙ sym (meets_any us vs)
 
 pub among_flat : {X : Type 0} (h : X → List Word) (xs : List X) (w : Word) → is_among (flat_map h xs) w ≡ list_any (λ x. is_among (h x) w) xs
-among_flat h xs w =
-    among_any (flat_map h xs) w ∙ any_flat (λ v. bytes_eq v w) h xs
-    ∙ any_same (λ x. list_any (λ v. bytes_eq v w) (h x)) (λ x. is_among (h x) w) (λ x. sym (among_any (h x) w)) xs
+among_flat h xs w = any_flat (λ v. bytes_eq v w) h xs
 
 -- two effects that no rule tells apart
 abbrev pub Agree : Effect → Effect → Type 0

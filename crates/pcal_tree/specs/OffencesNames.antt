@@ -202,13 +202,15 @@ abbrev pub in_main : Calls → List Procedure → Sight → Main → List Refusa
 in_main C ps s (alone b) = in_body C ps b s
 in_main C ps s (processes qs) = flat_map (in_process C ps s) qs
 
--- unknown names, wrong numbers of arguments, and uses of units that were not read
-abbrev pub use_offences_of : Algorithm → Outside → List Refusal
-use_offences_of a o =
+-- unknown names, wrong numbers of arguments, and uses of units that were not read, where macro calls are looked at by C
+abbrev pub use_offences_by : Calls → Algorithm → Outside → List Refusal
+use_offences_by C a o =
     in_declared a.globals (sight_inside a o)
     ++ (in_definitions a.definitions (seeing_plain (declared a.globals) (sight_outside o))
-    ++ (flat_map (in_procedure (macro_offences (reverse a.macros) a.procedures) a.procedures (sight_inside a o)) a.procedures
-    ++ in_main (macro_offences (reverse a.macros) a.procedures) a.procedures (sight_inside a o) a.main))
+    ++ (flat_map (in_procedure C a.procedures (sight_inside a o)) a.procedures ++ in_main C a.procedures (sight_inside a o) a.main))
+
+abbrev pub use_offences_of : Algorithm → Outside → List Refusal
+use_offences_of a o = use_offences_by (macro_offences (reverse a.macros) a.procedures) a o
 
 -- ---- names declared twice
 

@@ -1,6 +1,7 @@
 pub mod Apart
 pub mod Lines
 pub mod MacroSummaries
+pub mod MacroUses
 pub mod Choosing
 pub mod Expansion
 pub mod Steps

@@ -1,6 +1,6 @@
 //! Laws of what algorithms mean, stated as what functions without a body ensure.
 
-ghost use Rattle.std.specs.Prelude.{◌≡◌, ℕ, List, [], Bool, Some, None, ◌++◌, reverse};
+ghost use Rattle.std.specs.Prelude.{◌≡◌, ℕ, List, [], Bool, Some, None, ◌++◌, reverse, Contains, ◌↔◌};
 ghost use Rattle.tla_token.specs.Signs.{is_among};
 ghost use Rattle.tla_expr.specs.Tree.{Word, Trees};
 ghost use Rattle.pcal_tree.specs.Algorithm.{Statements, Macro, Algorithm};
@@ -14,6 +14,10 @@ ghost use Rattle.pcal_tree.specs.OffencesReserved.{reserved_declared};
 ghost use Rattle.pcal_tree.specs.OffencesSteps.{call_effect};
 ghost use Rattle.pcal_tree.specs.OffencesLabels.{label_offences, label_offences_by};
 ghost use Rattle.pcal_tree.specs.laws.MacroSummaries.{summaries, summary_effect};
+ghost use Rattle.tla_token.specs.declared.rule.Refusal.{Refusal};
+ghost use Rattle.pcal_tree.specs.Offences.{first};
+ghost use Rattle.pcal_tree.specs.OffencesNames.{use_offences_by, use_offences_of};
+ghost use Rattle.pcal_tree.specs.laws.MacroUses.{macro_uses, offences_by_uses};
 ghost use Rattle.tla_expr.specs.Lexical.{Token};
 ghost use Rattle.tla_expr.specs.laws.Columns.{looks};
 ghost use Rattle.pcal_tree.specs.Grammar.{Syntax, Text, Good, spell};
@@ -108,6 +112,16 @@ pub fn macros_are_looked_at_once()
     ensures twice { (ms : List Macro) (m : Word) (ts : Trees) → (call_effect ms m ts).twice ≡ (summary_effect (summaries ms) m ts).twice }
     ensures offences { (a : Algorithm) → label_offences a ≡ label_offences_by (summary_effect (summaries (reverse a.macros))) a }
     ensures labels { (forced : Bool) (a : Algorithm) → labelled forced a ≡ labelled_by (λ ms. summary_effect (summaries ms)) forced a }
+{}
+
+/// What is computed once for each macro, from its text and from what was computed for older ones, says of each call what is wrong with the
+/// names that the macro's body uses: those that it doesn't bind are looked up where the call is. So it gives the same offences of uses of
+/// names, if not as often nor in the same order, in every algorithm and whatever is outside of it, and the same one comes first, also among others.
+pub fn uses_in_macros_are_looked_at_once()
+    ensures offences { (a : Algorithm) (o : Outside) (r : Refusal)
+        → Contains (use_offences_of a o) r ↔ Contains (use_offences_by (offences_by_uses (macro_uses (reverse a.macros) a.procedures)) a o) r }
+    ensures first { (a : Algorithm) (o : Outside) (others : List Refusal)
+        → first (use_offences_of a o ++ others) ≡ first (use_offences_by (offences_by_uses (macro_uses (reverse a.macros) a.procedures)) a o ++ others) }
 {}
 
 /// Whether tokens spell an algorithm rests on their kinds and columns alone: tokens of other lines spell the same text in other lines.

@@ -2,8 +2,8 @@
 -- ("A PlusCal User's Manual", section 3; values in canonical order, "Specifying Systems", sections 16.1.6 to 16.1.10).
 use Rattle.std.specs.Prelude.{◌≡◌, List, ◌∷◌, Some, None, cond, codes, is_some, false}
 use Rattle.std.specs.Bool.{IsTrue}
+use Rattle.tla_token.specs.Signs.{is_among}
 use Rattle.tla_expr.specs.Tree.{Word, Each, words}
-use Rattle.tla_expr.specs.Names.{has}
 use Rattle.tla_value.specs.Value.{Value}
 use Rattle.tla_value.specs.Order.{IsCanonical}
 use Rattle.tla_value.specs.Stops.{plain}
@@ -37,7 +37,7 @@ variables_of g m = vars (program g m no_state)
 pub record AreConstants (m : Module) (values : Valuation) : Type 0 where
   pub unset : values (codes "defaultInitValue") ≡ Some defaultInitValue
   pub given : Each (λ x. IsTrue (is_some (values x))) (words m.outside.constants)
-  pub no_other : (x : Word) → has (codes "defaultInitValue" ∷ words m.outside.constants) x ≡ false → values x ≡ None
+  pub no_other : (x : Word) → is_among (codes "defaultInitValue" ∷ words m.outside.constants) x ≡ false → values x ≡ None
   pub canonical : (x : Word) (v : Value) → values x ≡ Some v → IsCanonical v
 
 -- ---- states
@@ -48,4 +48,4 @@ IsState P s = Each (λ x. IsCanonical (s x)) (vars P)
 
 -- a state as the values of the variables of the translation
 abbrev pub on_variables : Program → State → Valuation
-on_variables P s x = cond (has (vars P) x) (Some (s x)) None
+on_variables P s x = cond (is_among (vars P) x) (Some (s x)) None

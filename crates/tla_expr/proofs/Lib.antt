@@ -1,4 +1,3 @@
-pub mod NameLemmas
 pub mod TreeLemmas
 pub mod Operands
 mod Rows

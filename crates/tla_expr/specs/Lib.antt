@@ -1,5 +1,4 @@
 pub mod Tree
-pub mod Names
 pub mod FormOf
 pub mod Shapes
 pub mod TreeOf

@@ -5,7 +5,7 @@ ghost use Rattle.std.proofs.Common.{rules};
 ghost use Rattle.std.specs.Cmp.Rules.{comparing, hashing};
 ghost use Rattle.std.specs.Cmp.Lexicographic.{pointwise};
 ghost use Rattle.std.specs.Hash as fed;
-ghost use Rattle.tla_expr.specs.Names.{has};
+ghost use Rattle.tla_token.specs.Signs.{is_among};
 
 use std::alloc::{AllocError, AllocFailed, Global};
 use std::hash::{Hash, Hasher};
@@ -197,9 +197,8 @@ impl NameList {
     }
 
     /// Whether one of them is this name.
-    #[tactic(auto, unfolding(crate::specs::Names::has))]
     pub fn contains(&self, name: &Name) -> bool
-        ensures { result ≡ has self.now name.now }
+        ensures { result ≡ is_among self.now name.now }
     {
         self.names.contains(name)
     }

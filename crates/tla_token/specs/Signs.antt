@@ -1,6 +1,7 @@
 -- Signs: how each is spelled, and where a spelling is one of a sign ("Specifying Systems", section 15.1 and Tables 5 to 8).
-use Rattle.std.specs.Prelude.{ℕ, List, [], ◌∷◌, Bool, false, ◌||◌, codes}
+use Rattle.std.specs.Prelude.{ℕ, List, [], ◌∷◌, Bool, codes}
 use Rattle.std.specs.Str.{bytes_eq}
+use Rattle.std.specs.List.{list_any}
 use Rattle.tla_token.specs.declared.sign.Sign.{Sign}
 use Rattle.tla_token.specs.declared.sign.Sign.TheVariants as sign
 
@@ -54,16 +55,15 @@ spellings sign.Concat = codes "\\o" ∷ codes "\\circ" ∷ []
 spellings sign.ForAll = codes "\\A" ∷ []
 spellings sign.Exists = codes "\\E" ∷ []
 
+-- one of these words is this one
 abbrev pub is_among : List (List ℕ) → List ℕ → Bool
-is_among [] w = false
-is_among (v ∷ vs) w = bytes_eq v w || is_among vs w
+is_among vs w = list_any (λ v. bytes_eq v w) vs
 
 abbrev pub all_signs : List Sign
 all_signs = sign.MapsTo ∷ sign.Equivalent ∷ sign.Assign ∷ sign.Parallel ∷ sign.Pair ∷ sign.Override ∷ sign.Range ∷ sign.And ∷ sign.Or ∷ sign.Implies ∷ sign.Arrow ∷ sign.Defined ∷ sign.OpenTuple ∷ sign.CloseTuple ∷ sign.AtMost ∷ sign.AtLeast ∷ sign.NotEqual ∷ sign.Box ∷ sign.Colon ∷ sign.Semicolon ∷ sign.Comma ∷ sign.Dot ∷ sign.OpenRound ∷ sign.CloseRound ∷ sign.OpenSquare ∷ sign.CloseSquare ∷ sign.OpenCurly ∷ sign.CloseCurly ∷ sign.Equal ∷ sign.Less ∷ sign.Greater ∷ sign.Plus ∷ sign.Minus ∷ sign.Times ∷ sign.Percent ∷ sign.Not ∷ sign.Bang ∷ sign.Without ∷ sign.In ∷ sign.NotIn ∷ sign.SubsetEq ∷ sign.Cup ∷ sign.Cap ∷ sign.Divide ∷ sign.Concat ∷ sign.ForAll ∷ sign.Exists ∷ []
 
 abbrev pub spelled_by : List Sign → List ℕ → Bool
-spelled_by [] w = false
-spelled_by (s ∷ ss) w = is_among (spellings s) w || spelled_by ss w
+spelled_by ss w = list_any (λ s. is_among (spellings s) w) ss
 
 -- some sign is spelled so
 abbrev pub is_sign : List ℕ → Bool

@@ -7,8 +7,7 @@ use Rattle.pcal_tree.specs.Algorithm.{Declaration, Routine, locals, procedure_ro
 use Rattle.pcal_tree.specs.Scope.{State, Scope, value_of}
 use Rattle.pcal_tree.specs.Program.{Program, Actor, index, local_index}
 use Rattle.pcal_tree.specs.Variables.{written_all, pc, stack}
-use Rattle.pcal_tree.specs.Run.{Rules, with_macros}
-use Rattle.pcal_tree.specs.Calls.{initial_value, named, rules_of}
+use Rattle.pcal_tree.specs.Calls.{initial_value, named}
 use Rattle.action_builder.specs.Jumps.{InitialValues}
 use Rattle.action_builder.specs.laws.Settling.{Callable}
 use Rattle.tla_value.specs.laws.Places.{AgreeButPlaces}
@@ -52,7 +51,3 @@ pub record RoutinesStand (P : Program) (v : Actor) (u : Routine) (I : InitialVal
 -- also with names of f bound
 abbrev pub RoutinesStandWithin : Program → Actor → Routine → InitialValues → (Word → Bool) → Scope → Type 0
 RoutinesStandWithin P v u I f sc = (inner : Scope) → Inner f sc inner → RoutinesStand P v u I inner
-
--- the rules of a step, without macros
-abbrev pub base_rules : Program → Actor → Routine → Rules
-base_rules P v u = with_macros (rules_of P v u) []

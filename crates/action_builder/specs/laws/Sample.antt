@@ -16,11 +16,12 @@ use Rattle.pcal_tree.specs.Algorithm.{nowhere, Name, Span, no_assignments, assig
 use Rattle.pcal_tree.specs.Scope.{State, Scope, bound}
 use Rattle.pcal_tree.specs.Program.{Program, Actor}
 use Rattle.pcal_tree.specs.Variables.{pc, stack}
+use Rattle.pcal_tree.specs.Calls.{rules_without_macros}
 use Rattle.pcal_tree.specs.Expand.{expanded}
 use Rattle.tla_token.specs.Signs.{is_among}
 use Rattle.action_builder.specs.laws.Scopes.{part_at}
 use Rattle.action_builder.specs.Jumps.{InitialValues, JumpPlaces, written_jumps}
-use Rattle.action_builder.specs.laws.Jumps.{base_rules, callable}
+use Rattle.action_builder.specs.laws.Jumps.{callable}
 use Rattle.action_builder.specs.laws.Ready.{Readable}
 use Rattle.action_builder.specs.laws.LabelSteps.{LabelStep}
 
@@ -149,7 +150,7 @@ places = record { goto = nowhere; call = λ at. nowhere; return = λ at. nowhere
 
 abbrev pub step : LabelStep
 step = record {
-  rules = base_rules program actor routine;
+  rules = rules_without_macros program actor routine;
   jumps = written_jumps program routine initials places;
   names = λ w. false;
   callable = callable program;
