@@ -1,5 +1,5 @@
 -- The action that is written for effects, over what expressions give on a pair of states.
-use Rattle.std.specs.Prelude.{◌≡◌, List, [], ◌∷◌, Bool, true, false, cond, ◌&&◌, bytes_eq, Ok, Err}
+use Rattle.std.specs.Prelude.{List, [], ◌∷◌, Bool, true, false, cond, ◌&&◌, bytes_eq, Ok, Err}
 use Rattle.tla_token.specs.Signs.{is_among}
 use Rattle.tla_expr.specs.Tree.{Word}
 use Rattle.tla_value.specs.Value.{Value, Values, no_values, and, Trouble, Outcome, ◌>>=◌, and_then, or_all}
@@ -10,7 +10,7 @@ use Rattle.pcal_tree.specs.Run.{Has, Rules, unlabelled, run}
 use Rattle.action_builder.specs.Assigned.{Names, more, assigned_in}
 use Rattle.action_builder.specs.laws.States.{mid, SameOn}
 use Rattle.action_builder.specs.laws.Settling.{to_end}
-use Rattle.action_builder.specs.laws.Ready.{Settled}
+use Rattle.action_builder.specs.laws.Ready.{Settled, Apart}
 use Rattle.action_builder.proofs.Effects.{Exp, Change, Parts, no_parts, part, Effect, assign, await, branch, either, choose, Effects, done, then, Ways, no_ways, way, firsts, effect_names, effects_names, ways_names, effects_of, Named}
 
 abbrev pub PairExp : Type 0 → Type 0
@@ -117,10 +117,6 @@ abbrev mutual
   pub build_some : Names → List Word → Ways → Lists
   build_some A all no_ways = no_lists
   build_some A all (way b bs) = list (ended (build A b) (unchanged (minus all (effects_names b)))) (build_some A all bs)
-
--- no variable is assigned that is in A, or was assigned before
-abbrev pub Apart : Names → List Word → Type 0
-Apart A xs = (x : Word) → is_among xs x ≡ true → A x ≡ false
 
 abbrev mutual
   pub OnceOne : Names → Effect → Type 0

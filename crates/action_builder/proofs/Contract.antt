@@ -18,7 +18,7 @@ use Rattle.action_builder.proofs.Main.{true_all}
 use Rattle.action_builder.proofs.Converse.{fits_all, bad_all, fitting_end}
 use Rattle.action_builder.proofs.Faults.{mid_agree, local_all, fault_all}
 
--- with nothing behind, the outcomes of the statements are those of their effects
+-- with nothing after, the outcomes of the statements are those of their effects
 pub runs_law : (M : Rules) (V A : Names) (ss : Statements) (sc : Scope) (s t : State) (r : Outcome State) → Settled V ss → Named V sc → Runs M A ss sc s t r ↔ Run (effects_of M.check ss) sc (mid s t A) r
 runs_law M V A ss sc s t r z n =
     let p = run V M unlabelled ss z sc n to_end (mid s t A) r in

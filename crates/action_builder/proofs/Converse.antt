@@ -1,6 +1,6 @@
 -- A run that fits makes the written action true, or another branch of it faults; a fault of the action is one of a run.
 use Rattle.std.proofs.Common.{◌≡◌, List, [], ◌∷◌, ◌++◌, Bool, true, false, cond, ◌||◌, bytes_eq, ◌⊎◌, refl, sym, ◌∙◌, ap, subst, inl, inr, ⊎_elim, Ok, Err}
-use Rattle.std.proofs.lemmas.Bool.{cases_Bool, both_ways}
+use Rattle.std.proofs.lemmas.Bool.{cases_Bool, both_ways, or_left, or_right, or_parts}
 use Rattle.tla_token.specs.Signs.{is_among}
 use Rattle.tla_expr.specs.Tree.{Word}
 use Rattle.tla_value.specs.Value.{Value, Values, no_values, and, Trouble, Outcome, ◌>>=◌, and_then, or_all, IsBad, NotFalse}
@@ -11,9 +11,9 @@ use Rattle.action_builder.specs.Assigned.{Names, more}
 use Rattle.action_builder.specs.laws.States.{mid}
 use Rattle.action_builder.proofs.Effects.{Effect, assign, await, branch, either, choose, Effects, done, then, Ways, no_ways, way, Parts, firsts, moved, effect_names, effects_names, ways_names, Awaits, Chosen, SomeOf, Picks, Next, RunOne, Run, RunSome}
 use Rattle.action_builder.proofs.Actions.{value_for, hold_sets, settings_of, unchanged, all_same, some_member, holds, hold, hold_some, ended, minus, build_one, build, build_some, OnceOne, Once, OnceSome}
-use Rattle.action_builder.proofs.Sets.{or_left, or_right, or_none, more_append, mid_in, mid_out, is_mid, same_minus}
-use Rattle.action_builder.proofs.Frame.{got_bad, frame_one, frame}
-use Rattle.action_builder.proofs.Parts.{moved_good}
+use Rattle.action_builder.proofs.Sets.{more_append, mid_in, mid_out, is_mid, same_minus}
+use Rattle.action_builder.proofs.Frame.{frame_one, frame}
+use Rattle.action_builder.proofs.Parts.{moved_good, not_bad}
 use Rattle.action_builder.proofs.Main.{hold_ended, append_cases, in_front, behind, apart, apart_by, Within, Covers, grown, End, true_one, true_all}
 
 and_not_no : (v w : Outcome Bool) → NotFalse v → NotFalse w → NotFalse (and_then v w)
@@ -39,7 +39,7 @@ meets A xs ys s t u late before after = is_mid s t u (more A xs) inside outside
         sym (after x out) ∙ mid_in s t (more A (xs ++ ys)) x (ap (λ B. B x) (more_append A xs ys) ∙ or_left (more A xs x) (is_among ys x) e)
 
     outside : (x : Word) → more A xs x ≡ false → u x ≡ s x
-    outside x e = let p = or_none (A x) (is_among xs x) e in before x p.1 ∙ mid_out s t A x p.0
+    outside x e = let p = or_parts (A x) (is_among xs x) e in before x p.1 ∙ mid_out s t A x p.0
 
 -- what a branch leaves unchanged, where its end fits
 left : (A : Names) (own other all : List Word) (s t : State) → ((x : Word) → is_among other x ≡ true → A x ≡ false) → Within other all → ((x : Word) → is_among own x ≡ false → mid s t (more A all) x ≡ mid s t A x) → all_same (minus other own) s t ≡ true
@@ -86,7 +86,7 @@ pick_fits (Err k) p P r h f = tt
 -- the middle of a run of two parts
 halves : (R : State → Outcome State → Type 0) (q : Outcome State) (r : State) (P : Type 0) → Next R q (Ok r) → ((u : State) → q ≡ Ok u → R u (Ok r) → P) → P
 halves R (Ok u) r P n h = h u refl n
-halves R (Err k) r P n h = got_bad r k n
+halves R (Err k) r P n h = not_bad r k n
 
 mutual
   pub fits_one : (A : Names) (st : Effect) (c : Scope) (s t : State) → OnceOne A st → RunOne st c (mid s t A) (End s t A (effect_names st)) → NotFalse (holds (build_one A st) c s t)
@@ -128,15 +128,15 @@ bad_same j k e = cc
 
 both_bad : (v w : Outcome Bool) (k : Trouble) → and_then v w ≡ Err k → (v ≡ Err k) ⊎ ((v ≡ Ok true) × (w ≡ Err k))
 both_bad (Ok true) w k e = inr (refl, e)
-both_bad (Ok false) w k e = got_bad false k e
+both_bad (Ok false) w k e = not_bad false k e
 both_bad (Err j) w k e = inl e
 
 ended_bad : (v : Outcome Bool) (b : Bool) (k : Trouble) → and_then v (and_then (Ok b) (Ok true)) ≡ Err k → v ≡ Err k
-ended_bad v true k e = ⊎_elim (λ a. a) (λ p. got_bad true k p.1) (both_bad v (Ok true) k e)
-ended_bad v false k e = ⊎_elim (λ a. a) (λ p. got_bad false k p.1) (both_bad v (Ok false) k e)
+ended_bad v true k e = ⊎_elim (λ a. a) (λ p. not_bad true k p.1) (both_bad v (Ok true) k e)
+ended_bad v false k e = ⊎_elim (λ a. a) (λ p. not_bad false k p.1) (both_bad v (Ok false) k e)
 
 either_bad : (v w : Outcome Bool) (k : Trouble) → or_all v w ≡ Err k → (v ≡ Err k) ⊎ (w ≡ Err k)
-either_bad (Ok a) (Ok b) k e = got_bad (a || b) k e
+either_bad (Ok a) (Ok b) k e = not_bad (a || b) k e
 either_bad (Ok a) (Err j) k e = inr e
 either_bad (Err j) w k e = inl e
 
@@ -145,14 +145,14 @@ abbrev pub Some : (Trouble → Type 0) → Type 0
 Some P = (j : Trouble) × P j
 
 sets_bad : (A : Names) (ps : Parts) (c : Scope) (s t : State) (ys : List Word) (k : Trouble) → hold_sets (settings_of A ps ys) c s t ≡ Err k → (y : Word) × IsBad (value_for y ps c (mid s t A))
-sets_bad A ps c s t [] k h = got_bad true k h
+sets_bad A ps c s t [] k h = not_bad true k h
 sets_bad A ps c s t (z ∷ ys) k h = ⊎_elim
     (λ a. (z, by (value_for z ps c (mid s t A)) a))
     (λ b. sets_bad A ps c s t ys k b.1)
     (both_bad _ (hold_sets (settings_of A ps ys) c s t) k h)
   where
     by : (o : Outcome Value) → o >>= (λ v. Ok (same (t z) v)) ≡ Err k → IsBad o
-    by (Ok v) e = got_bad (same (t z) v) k e
+    by (Ok v) e = not_bad (same (t z) v) k e
     by (Err j) e = tt
 
 assign_bad : (A : Names) (ps : Parts) (c : Scope) (s t : State) (k : Trouble) → hold_sets (settings_of A ps (firsts ps)) c s t ≡ Err k → Some (λ j. Err j ≡ moved ps c (mid s t A))
@@ -163,7 +163,7 @@ assign_bad A ps c s t k h = by (moved ps c (mid s t A)) refl (sets_bad A ps c s 
     by (Err j) p b = (j, sym p)
 
 await_bad : (o : Outcome Bool) (k : Trouble) (s : State) → o ≡ Err k → Some (λ j. Awaits o s (Err j))
-await_bad (Ok b) k s e = got_bad b k e
+await_bad (Ok b) k s e = not_bad b k e
 await_bad (Err j) k s e = (j, refl)
 
 branch_bad : (o : Outcome Bool) (P Q : Trouble → Type 0) (v w : Outcome Bool) (k : Trouble) → o >>= (λ p. cond p v w) ≡ Err k → (v ≡ Err k → Some P) → (w ≡ Err k → Some Q) → Some (λ j. Chosen o (P j) (Q j) (Err j))
@@ -172,7 +172,7 @@ branch_bad (Ok false) P Q v w k e f g = g e
 branch_bad (Err j) P Q v w k e f g = (j, refl)
 
 some_bad : (vs : Values) (p : Value → Outcome Bool) (P : Value → Trouble → Type 0) (k : Trouble) → some_member vs p ≡ Err k → ((v : Value) → p v ≡ Err k → Some (P v)) → Some (λ j. SomeOf vs (λ v. P v j))
-some_bad no_values p P k e f = got_bad false k e
+some_bad no_values p P k e f = not_bad false k e
 some_bad (and v vs) p P k e f = ⊎_elim (λ a. let r = f v a in (r.0, inl r.1)) (λ b. let r = some_bad vs p P k b f in (r.0, inr r.1)) (either_bad (p v) (some_member vs p) k e)
 
 pick_bad : (o : Outcome Values) (p : Value → Outcome Bool) (P : Value → Trouble → Type 0) (k : Trouble) → o >>= (λ vs. some_member vs p) ≡ Err k → ((v : Value) → p v ≡ Err k → Some (P v)) → Some (λ j. Picks o (λ v. P v j) (Err j))
@@ -191,7 +191,7 @@ mutual
   bad_one A (choose x e b) c s t k h = pick_bad (e c (mid s t A)) _ (λ v j. Run b (bound x v c) (mid s t A) (Err j)) k h (λ v m. bad_all A b (bound x v c) s t k m)
 
   pub bad_all : (A : Names) (ss : Effects) (c : Scope) (s t : State) (k : Trouble) → hold (build A ss) c s t ≡ Err k → Some (λ j. Run ss c (mid s t A) (Err j))
-  bad_all A done c s t k h = got_bad true k h
+  bad_all A done c s t k h = not_bad true k h
   bad_all A (then st rest) c s t k h =
       ⊎_elim
       (λ m. let r = bad_one A st c s t k m in (r.0, (Err r.0, r.1, refl)))
@@ -199,7 +199,7 @@ mutual
       (both_bad (holds (build_one A st) c s t) (hold (build (more A (effect_names st)) rest) c s t) k h)
 
   bad_some : (A : Names) (all : List Word) (bs : Ways) (c : Scope) (s t : State) (k : Trouble) → hold_some (build_some A all bs) c s t ≡ Err k → Some (λ j. RunSome bs c (mid s t A) (Err j))
-  bad_some A all no_ways c s t k h = got_bad false k h
+  bad_some A all no_ways c s t k h = not_bad false k h
   bad_some A all (way b bs) c s t k h =
       ⊎_elim
       (λ m. let r = bad_all A b c s t k (ended_bad _ _ k (sym (hold_ended (build A b) _ c s t) ∙ m)) in (r.0, inl r.1))
@@ -222,4 +222,4 @@ true_exactly A ss c s t o fine = (true_all A ss c s t, λ r. by (hold (build A s
 -- an end that agrees with t on A and on all that the items assign is the state between
 pub fitting_end : (A : Names) (ss : Effects) (c : Scope) (s t u : State) → Run ss c (mid s t A) (Ok u) → ((x : Word) → more A (effects_names ss) x ≡ true → u x ≡ t x) → u ≡ mid s t (more A (effects_names ss))
 fitting_end A ss c s t u r fits = is_mid s t u (more A (effects_names ss)) fits (λ x e.
-    let p = or_none (A x) (is_among (effects_names ss) x) e in frame ss c (mid s t A) u x r p.1 ∙ mid_out s t A x p.0)
+    let p = or_parts (A x) (is_among (effects_names ss) x) e in frame ss c (mid s t A) u x r p.1 ∙ mid_out s t A x p.0)

@@ -16,6 +16,7 @@ use Rattle.pcal_tree.specs.Assign as Assign
 use Rattle.pcal_tree.specs.Run.{Course, chooses, Has, HasSome, after, at_each, held, stops, Follow, Rules, unlabelled, run_binds}
 use Rattle.pcal_tree.specs.Run as Courses
 use Rattle.pcal_tree.proofs.ExpandRuns.{following}
+use Rattle.pcal_tree.specs.Calls.{setting}
 use Rattle.action_builder.specs.Assigned.{Names, head_of, head_first}
 use Rattle.action_builder.proofs.Effects.{Changes, no_changes, change, evaluated, applied, moved, Awaits, Chosen, Picks, SomeOf, Next, Effects, RunOne, Run, RunSome, changing, part_of, parts_of, nested, effect_of, effects_of, ways_of, Named}
 use Rattle.action_builder.specs.laws.Scopes.{part_at}
@@ -54,9 +55,6 @@ abbrev pub to_changes : Check → List Setting → Changes
 to_changes c [] = no_changes
 to_changes c (m ∷ ms) = change m.part.variable (changing c m.place m.part.path m.value) (to_changes c ms)
 
-abbrev setting_at : Place → Word → List Value → Value → Setting
-setting_at at x path v = record { place = at; part = part_at x path; value = v }
-
 pub settings_law : {X : Type 0} (V : Names) (c : Check) (ms : Assignments) → LeftSides V ms → (sc : Scope) → Named V sc → (s : State) (go : List Setting → Outcome X) (go' : Changes → Outcome X) → ((all : List Setting) → go all ≡ go' (to_changes c all)) → (settings c ms sc s) >>= go ≡ (evaluated (parts_of c ms) sc s) >>= go'
 settings_law V c no_assignments h sc n s go go' k = k []
 settings_law V c (assignment l e ms) h sc n s go go' k =
@@ -64,7 +62,7 @@ settings_law V c (assignment l e ms) h sc n s go go' k =
     ∙ (λ i. (reach c l sc s) >>= (λ p. on_both (value_of c e sc s) (λ v. settings c ms sc s) (λ v rest. record { place = root_place l; part = p; value = v } ∷ rest) go i))
     ∙ heads V c l h.0 sc n s (λ p. (value_of c e sc s) >>= (λ v. (settings c ms sc s) >>= (λ rest. go (record { place = root_place l; part = p; value = v } ∷ rest))))
     ∙ (λ i. (reach c l sc s) >>= (λ p. (value_of c e sc s) >>= (λ v.
-    settings_law V c ms h.1 sc n s (λ rest. go (setting_at (root_place l) (head_of l) p.path v ∷ rest)) (λ fs. go' (change (head_of l) (changing c (root_place l) p.path v) fs)) (λ all. k (setting_at (root_place l) (head_of l) p.path v ∷ all)) i)))
+    settings_law V c ms h.1 sc n s (λ rest. go (setting (root_place l) (head_of l) p.path v ∷ rest)) (λ fs. go' (change (head_of l) (changing c (root_place l) p.path v) fs)) (λ all. k (setting (root_place l) (head_of l) p.path v ∷ all)) i)))
     ∙ sym (
     then_then (part_of c l e sc s) (λ f. (evaluated (parts_of c ms) sc s) >>= (λ fs. Ok (change (head_of l) f fs))) go'
     ∙ (λ i. (part_of c l e sc s) >>= (λ f. then_then (evaluated (parts_of c ms) sc s) (λ fs. Ok (change (head_of l) f fs)) go' i))

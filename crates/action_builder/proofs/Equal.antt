@@ -4,16 +4,13 @@ use Rattle.std.proofs.lemmas.Slice.Eq.{bytes_eq-Decides}
 use Rattle.tla_expr.specs.Tree.{Word}
 use Rattle.tla_value.specs.Value.{Value}
 use Rattle.tla_value.specs.Order.{same}
-use Rattle.tla_value.specs.OrderLaws.{same_is, same_self}
+use Rattle.tla_value.specs.OrderLaws.{same_self}
 
 pub name-true : (x y : Word) → bytes_eq x y ≡ true → x ≡ y
 name-true x y e = (bytes_eq-Decides x y).0 e
 
 pub eq-name : (x y : Word) → x ≡ y → bytes_eq x y ≡ true
 eq-name x y e = (bytes_eq-Decides x y).1 e
-
-pub value-true : (v w : Value) → same v w ≡ true → v ≡ w
-value-true v w e = same_is v w e
 
 pub eq-value : (v w : Value) → v ≡ w → same v w ≡ true
 eq-value v w e = subst (λ z. same v z ≡ true) e (same_self v)

@@ -115,7 +115,7 @@ except_law V c at y ms h sc n s here =
 
 -- ---- the right side of a variable
 
-own_left : (V : Names) (y : Word) (ms : Assignments) → LeftSides V ms → LeftSides V (own y ms)
+pub own_left : (V : Names) (y : Word) (ms : Assignments) → LeftSides V ms → LeftSides V (own y ms)
 own_left V y no_assignments h = tt
 own_left V y (assignment l e ms) h = by (own_left V y ms h.1) (bytes_eq (head_of l) y)
   where

@@ -1,6 +1,6 @@
 -- Where some run faults, the written action faults for some later state that agrees on A.
 use Rattle.std.proofs.Common.{◌≡◌, List, [], ◌∷◌, ◌++◌, Bool, true, false, cond, ◌&&◌, bytes_eq, ◌⊎◌, refl, sym, ◌∙◌, ap, subst, inl, inr, ⊎_elim, Ok, Err}
-use Rattle.std.proofs.lemmas.Bool.{cases_Bool, or_cases, both_ways}
+use Rattle.std.proofs.lemmas.Bool.{cases_Bool, or_cases, both_ways, or_left, or_right, or_parts}
 use Rattle.tla_token.specs.Signs.{is_among}
 use Rattle.tla_expr.specs.Tree.{Word}
 use Rattle.tla_value.specs.Value.{Value, Values, no_values, and, Trouble, Outcome, ◌>>=◌, and_then, or_all, IsBad, NotFalse}
@@ -10,12 +10,13 @@ use Rattle.action_builder.proofs.Equal.{name-true, eq-name, eq-value}
 use Rattle.action_builder.specs.Assigned.{Names, more}
 use Rattle.action_builder.specs.laws.States.{mid, SameOn}
 use Rattle.action_builder.proofs.Effects.{Effect, assign, await, branch, either, choose, Effects, done, then, Ways, no_ways, way, Parts, firsts, moved, effect_names, effects_names, ways_names, Awaits, Chosen, SomeOf, Picks, Next, RunOne, Run, RunSome}
-use Rattle.action_builder.proofs.Actions.{value_for, hold_sets, settings_of, Apart, Item, unchanged, Items, all_same, some_member, holds, hold, hold_some, ended, minus, build_one, build, build_some, OnceOne, Once, OnceSome}
-use Rattle.action_builder.proofs.Sets.{or_left, or_right, or_none, more_append, mid_in, mid_out, is_mid}
-use Rattle.action_builder.proofs.Frame.{got_bad, frame_one}
-use Rattle.action_builder.proofs.Parts.{moved_bad, bad_assigned}
+use Rattle.action_builder.proofs.Actions.{value_for, hold_sets, settings_of, Item, unchanged, Items, all_same, some_member, holds, hold, hold_some, ended, minus, build_one, build, build_some, OnceOne, Once, OnceSome}
+use Rattle.action_builder.proofs.Sets.{more_append, mid_in, mid_out, is_mid}
+use Rattle.action_builder.proofs.Frame.{frame_one}
+use Rattle.action_builder.proofs.Parts.{moved_bad, bad_assigned, not_bad}
 use Rattle.action_builder.proofs.Main.{hold_ended, in_front, behind, apart_one, Within}
 use Rattle.action_builder.proofs.Converse.{fits_one}
+use Rattle.action_builder.specs.laws.Ready.{Apart}
 
 pub mid_agree : (s t u : State) (A : Names) → SameOn A t u → mid s t A ≡ mid s u A
 mid_agree s t u A h = is_mid s u (mid s t A) A (λ x e. mid_in s t A x e ∙ h x e) (λ x e. mid_out s t A x e)
@@ -155,7 +156,7 @@ faults_assign A ps c s t k out r = (u, agrees, sets_is_bad A ps c s u ys value b
         ∙ ap (λ o. or_else o (t x)) (ap (λ w. value_for x ps c w) (sym same) ∙ p)
 
 faults_await : (o : Outcome Bool) (k : Trouble) (s : State) → Awaits o s (Err k) → IsBad o
-faults_await (Ok true) k s e = got_bad s k (sym e)
+faults_await (Ok true) k s e = not_bad s k (sym e)
 faults_await (Ok false) k s e = e
 faults_await (Err j) k s e = tt
 
@@ -192,7 +193,7 @@ mutual
       faults_picks A t (e c (mid s t A)) (λ u. e c (mid s u A)) _ k (λ v. hold (build A b) (bound x v c) s) (λ u h. ap (e c) (mid_agree s u t A h)) r (λ v m. fault_all A b (bound x v c) s t k o m)
 
   pub fault_all : (A : Names) (ss : Effects) (c : Scope) (s t : State) (k : Trouble) → Once A ss → Run ss c (mid s t A) (Err k) → Faults A t (hold (build A ss) c s)
-  fault_all A done c s t k o r = got_bad (mid s t A) k (sym r)
+  fault_all A done c s t k o r = not_bad (mid s t A) k (sym r)
   fault_all A (then st rest) c s t k o r =
       let B = more A (effect_names st) in
       parted (Run rest c) r.0 k _ r.2
@@ -201,7 +202,7 @@ mutual
       let one : RunOne st c (mid s t A) (Ok v) = subst (RunOne st c (mid s t A)) q r.1 in
       let off : (y : Word) → is_among (effect_names st) y ≡ false → v y ≡ mid s t A y = λ y f. frame_one st c (mid s t A) v y one f in
       let on_a : SameOn A v t = λ y e. off y (⊎_elim (λ a. absurd (both_ways (A y) (apart_one A st o.0 y a) e)) (λ b. b) (cases_Bool (is_among (effect_names st) y))) ∙ mid_in s t A y e in
-      let is : v ≡ mid s v B = is_mid s v v B (λ y e. refl) (λ y e. let p = or_none (A y) (is_among (effect_names st) y) e in off y p.1 ∙ mid_out s t A y p.0) in
+      let is : v ≡ mid s v B = is_mid s v v B (λ y e. refl) (λ y e. let p = or_parts (A y) (is_among (effect_names st) y) e in off y p.1 ∙ mid_out s t A y p.0) in
       let one' : RunOne st c (mid s v A) (Ok (mid s v B)) = subst (λ w. RunOne st c (mid s v A) (Ok w)) is (subst (λ w. RunOne st c w (Ok v)) (mid_agree s t v A (λ y e. sym (on_a y e))) one) in
       let x = fault_all B rest c s v k o.1 (subst (λ w. Run rest c w (Err k)) is n) in
       let good : NotFalse (holds (build_one A st) c s x.0) = subst NotFalse (local_one A st c s v x.0 (λ y e. sym (x.1 y e))) (fits_one A st c s v o.0 one') in

@@ -29,7 +29,7 @@ after_end (Err k) = refl
 
 -- ---- a jump
 
--- one assignment, to a name that stands at a path
+-- one assignment, to a name that is at a path
 pub one_assigned : (c : Check) (at : Place) (x : Word) (path : List Value) (e : Tree) (sc : Scope) → StandsAtPath sc path x → (s : State)
     → after_assignments c (one_assignment (name_at at x) e) sc s ≡ (value_of c e sc s) >>= (λ w. set_one c (setting at x path w) s)
 one_assigned c at x path e sc h s =

@@ -1,19 +1,20 @@
 -- The written action is true exactly of the steps that a run makes.
 use Rattle.std.proofs.Common.{◌≡◌, List, [], ◌∷◌, ◌++◌, Bool, true, false, cond, ◌||◌, bytes_eq, ◌⊎◌, refl, sym, ◌∙◌, ap, subst, inl, inr, ⊎_elim, Ok, Err}
-use Rattle.std.proofs.lemmas.Bool.{cases_Bool, or_cases, both_ways}
+use Rattle.std.proofs.lemmas.Bool.{cases_Bool, or_cases, both_ways, or_left, or_right, or_parts}
 use Rattle.tla_token.specs.Signs.{is_among}
 use Rattle.tla_expr.specs.Tree.{Word}
 use Rattle.tla_value.specs.Value.{Value, Values, no_values, and, Outcome, ◌>>=◌, and_then, or_all, IsBad}
 use Rattle.tla_value.specs.Order.{same}
+use Rattle.tla_value.proofs.Outcomes.{ok_is}
+use Rattle.tla_value.specs.OrderLaws.{same_is}
 use Rattle.pcal_tree.specs.Scope.{Scope, bound, State}
-use Rattle.action_builder.proofs.Equal.{name-true, value-true}
+use Rattle.action_builder.proofs.Equal.{name-true}
 use Rattle.action_builder.specs.Assigned.{Names, more}
 use Rattle.action_builder.specs.laws.States.{mid}
 use Rattle.action_builder.proofs.Effects.{Effect, assign, await, branch, either, choose, Effects, done, then, Ways, no_ways, way, Parts, firsts, moved, effect_names, effects_names, ways_names, Awaits, Chosen, SomeOf, Picks, RunOne, Run, RunSome}
 use Rattle.action_builder.proofs.Actions.{value_for, hold_sets, settings_of, Item, unchanged, Items, none, item, all_same, some_member, holds, hold, hold_some, ended, minus, build_one, build, build_some, OnceOne, Once, OnceSome}
-use Rattle.action_builder.proofs.Sets.{or_left, or_right, or_none, member_append, more_append, mid_in, mid_out, is_mid, mid_grow, minus_same}
-use Rattle.action_builder.proofs.Parts.{moved_good, moved_bad, value_kept, bad_assigned}
-use Rattle.action_builder.proofs.Frame.{got_same, got_bad}
+use Rattle.action_builder.proofs.Sets.{member_append, more_append, mid_in, mid_out, is_mid, mid_grow, minus_same}
+use Rattle.action_builder.proofs.Parts.{moved_good, moved_bad, value_kept, bad_assigned, not_bad}
 
 -- ---- verdicts
 
@@ -32,7 +33,7 @@ got_bool e = cc
 pub both_true : (v w : Outcome Bool) → and_then v w ≡ Ok true → (v ≡ Ok true) × (w ≡ Ok true)
 both_true (Ok true) w e = (refl, e)
 both_true (Ok false) w e = got_bool e
-both_true (Err k) w e = got_bad true k (sym e)
+both_true (Err k) w e = not_bad true k (sym e)
 
 pub ended_true : (v : Outcome Bool) (b : Bool) → and_then v (and_then (Ok b) (Ok true)) ≡ Ok true → (v ≡ Ok true) × (b ≡ true)
 ended_true v true e = ((both_true v (Ok true) e).0, refl)
@@ -41,14 +42,14 @@ ended_true v false e = got_bool (both_true v (Ok false) e).1
 pub either_true : (v w : Outcome Bool) → or_all v w ≡ Ok true → (v ≡ Ok true) ⊎ (w ≡ Ok true)
 either_true (Ok true) w e = inl refl
 either_true (Ok false) (Ok b) e = inr e
-either_true (Ok false) (Err k) e = got_bad true k (sym e)
-either_true (Err k) w e = got_bad true k (sym e)
+either_true (Ok false) (Err k) e = not_bad true k (sym e)
+either_true (Err k) w e = not_bad true k (sym e)
 
 -- ---- assignments
 
 value_true : (o : Outcome Value) (w : Value) → o >>= (λ v. Ok (same w v)) ≡ Ok true → o ≡ Ok w
-value_true (Ok v) w e = ap Ok (sym (value-true w v (got_same (same w v) true e)))
-value_true (Err k) w e = got_bad true k (sym e)
+value_true (Ok v) w e = ap Ok (sym (same_is w v (ok_is e)))
+value_true (Err k) w e = not_bad true k (sym e)
 
 pub sets_values : (A : Names) (ps : Parts) (c : Scope) (s t : State) (ys : List Word) → hold_sets (settings_of A ps ys) c s t ≡ Ok true → (y : Word) → is_among ys y ≡ true → value_for y ps c (mid s t A) ≡ Ok (t y)
 sets_values A ps c s t [] h y m = absurd (both_ways false refl m)
@@ -67,16 +68,16 @@ pub assign_true : (A : Names) (ps : Parts) (c : Scope) (s t : State) → hold_se
 assign_true A ps c s t h = by (moved ps c (mid s t A)) refl
   where
     there : (u : State) → moved ps c (mid s t A) ≡ Ok u → (x : Word) → is_among (firsts ps) x ≡ true → u x ≡ t x
-    there u p x m = got_same (u x) (t x) (sym (moved_good ps c (mid s t A) u p x) ∙ sets_values A ps c s t (firsts ps) h x m)
+    there u p x m = ok_is (sym (moved_good ps c (mid s t A) u p x) ∙ sets_values A ps c s t (firsts ps) h x m)
 
     kept : (u : State) → moved ps c (mid s t A) ≡ Ok u → (x : Word) → is_among (firsts ps) x ≡ false → u x ≡ mid s t A x
-    kept u p x m = got_same (u x) (mid s t A x) (sym (moved_good ps c (mid s t A) u p x) ∙ value_kept ps c (mid s t A) x m)
+    kept u p x m = ok_is (sym (moved_good ps c (mid s t A) u p x) ∙ value_kept ps c (mid s t A) x m)
 
     inside : (u : State) → moved ps c (mid s t A) ≡ Ok u → (x : Word) → more A (firsts ps) x ≡ true → u x ≡ t x
     inside u p x e = ⊎_elim (λ m. there u p x m) (λ m. kept u p x m ∙ mid_in s t A x (⊎_elim (λ a. a) (λ b. absurd (both_ways (is_among (firsts ps) x) m b)) (or_cases (A x) (is_among (firsts ps) x) e))) (cases_Bool (is_among (firsts ps) x))
 
     outside : (u : State) → moved ps c (mid s t A) ≡ Ok u → (x : Word) → more A (firsts ps) x ≡ false → u x ≡ s x
-    outside u p x e = let q = or_none (A x) (is_among (firsts ps) x) e in kept u p x q.1 ∙ mid_out s t A x q.0
+    outside u p x e = let q = or_parts (A x) (is_among (firsts ps) x) e in kept u p x q.1 ∙ mid_out s t A x q.0
 
     by : (o : Outcome State) → moved ps c (mid s t A) ≡ o → Ok (mid s t (more A (firsts ps))) ≡ moved ps c (mid s t A)
     by (Ok u) p = sym (p ∙ ap Ok (is_mid s t u (more A (firsts ps)) (inside u p) (outside u p)))
@@ -87,7 +88,7 @@ assign_true A ps c s t h = by (moved ps c (mid s t A)) refl
 -- ---- apart
 
 more_false : (A : Names) (xs : List Word) (x : Word) → more A xs x ≡ false → A x ≡ false
-more_false A xs x e = (or_none (A x) (is_among xs x) e).0
+more_false A xs x e = (or_parts (A x) (is_among xs x) e).0
 
 pub append_cases : (xs ys : List Word) (x : Word) → is_among (xs ++ ys) x ≡ true → (is_among xs x ≡ true) ⊎ (is_among ys x ≡ true)
 append_cases xs ys x e = or_cases (is_among xs x) (is_among ys x) (sym (member_append xs ys x) ∙ e)
@@ -127,7 +128,7 @@ more_within : (A : Names) (xs ys : List Word) → Within xs ys → (x : Word) �
 more_within A xs ys h x e = ⊎_elim (λ a. or_left (A x) (is_among ys x) a) (λ b. or_right (A x) (is_among ys x) (h x b)) (or_cases (A x) (is_among xs x) e)
 
 pub grown : (s t : State) (A : Names) (own other all : List Word) → Within own all → Covers own other all → all_same (minus other own) s t ≡ true → mid s t (more A own) ≡ mid s t (more A all)
-grown s t A own other all w v same = mid_grow s t (more A own) (more A all) (more_within A own all w) (λ x out inside. at x (or_none (A x) (is_among own x) out) inside)
+grown s t A own other all w v same = mid_grow s t (more A own) (more A all) (more_within A own all w) (λ x out inside. at x (or_parts (A x) (is_among own x) out) inside)
   where
     at : (x : Word) → (A x ≡ false) × (is_among own x ≡ false) → more A all x ≡ true → t x ≡ s x
     at x out inside =
@@ -149,12 +150,12 @@ End s t A xs = Ok (mid s t (more A xs))
 await_true : (o : Outcome Bool) (A : Names) (s t : State) → o ≡ Ok true → Awaits o (mid s t A) (End s t A [])
 await_true (Ok true) A s t e = ap Ok (more_nil s t A)
 await_true (Ok false) A s t e = got_bool e
-await_true (Err k) A s t e = got_bad true k (sym e)
+await_true (Err k) A s t e = not_bad true k (sym e)
 
 branch_true : (o : Outcome Bool) (P Q : Type 0) (v w : Outcome Bool) (r : Outcome State) → o >>= (λ p. cond p v w) ≡ Ok true → (v ≡ Ok true → P) → (w ≡ Ok true → Q) → Chosen o P Q r
 branch_true (Ok true) P Q v w r e f g = f e
 branch_true (Ok false) P Q v w r e f g = g e
-branch_true (Err k) P Q v w r e f g = got_bad true k (sym e)
+branch_true (Err k) P Q v w r e f g = not_bad true k (sym e)
 
 some_true : (vs : Values) (p : Value → Outcome Bool) (P : Value → Type 0) → some_member vs p ≡ Ok true → ((v : Value) → p v ≡ Ok true → P v) → SomeOf vs P
 some_true no_values p P e f = got_bool e
@@ -162,7 +163,7 @@ some_true (and v vs) p P e f = ⊎_elim (λ a. inl (f v a)) (λ b. inr (some_tru
 
 pick_true : (o : Outcome Values) (p : Value → Outcome Bool) (P : Value → Type 0) (r : Outcome State) → o >>= (λ vs. some_member vs p) ≡ Ok true → ((v : Value) → p v ≡ Ok true → P v) → Picks o P r
 pick_true (Ok vs) p P r e f = some_true vs p P e f
-pick_true (Err k) p P r e f = got_bad true k (sym e)
+pick_true (Err k) p P r e f = not_bad true k (sym e)
 
 -- a branch with its UNCHANGED, true
 ended_run : (A : Names) (b : Effects) (own other all : List Word) (c : Scope) (s t : State) → Within own all → Covers own other all → hold (ended (build A b) (unchanged (minus other own))) c s t ≡ Ok true → (hold (build A b) c s t ≡ Ok true → Run b c (mid s t A) (End s t A own)) → Run b c (mid s t A) (End s t A all)

@@ -1,9 +1,9 @@
 -- Verdicts that match, and the parts of which the truth of the written items is put together.
 use Rattle.std.proofs.Common.{◌≡◌, List, [], ◌∷◌, ◌++◌, Bool, true, false, cond, not, ◌||◌, ◌&&◌, bytes_eq, Some, None, ◌⊎◌, refl, sym, ◌∙◌, ap, subst, ⊎_elim, inl, inr, Ok, Err}
-use Rattle.std.proofs.lemmas.Bool.{cases_Bool, or_cases, both_ways, and_parts}
+use Rattle.std.proofs.lemmas.Bool.{cases_Bool, or_cases, both_ways, and_parts, or_left, or_right}
 use Rattle.tla_token.specs.Signs.{is_among}
 use Rattle.tla_token.specs.declared.place.Place.{Place}
-use Rattle.tla_expr.specs.Tree.{Word, Form, name, next, strict, select, Tree, node, Trees, no_trees, tree, Every, EveryOf, root_place}
+use Rattle.tla_expr.specs.Tree.{Word, apply, name, strict, select, Tree, node, Trees, no_trees, tree, EveryOf, root_place}
 use Rattle.tla_value.specs.declared.fault.FaultKind.TheVariants.{AssertFailed}
 use Rattle.tla_value.specs.Value.{Value, truth, int, text, model, set, fun, Values, no_values, and, Outcome, ◌>>=◌, fault, and_then, or_all}
 use Rattle.tla_value.specs.Value as Values
@@ -11,11 +11,11 @@ use Rattle.tla_value.specs.Order.{same}
 use Rattle.tla_value.specs.Stops.{plain, truth_at, members_at}
 use Rattle.tla_value.specs.Standard.{printed, asserted, standard_value}
 use Rattle.tla_value.specs.Meaning.{Env, just, bind, eval}
-use Rattle.tla_value.specs.laws.Grafting.{In}
-use Rattle.tla_value.proofs.Primes.{Unprimed, unprimed_law}
-use Rattle.tla_value.proofs.Facts.{every_weaker}
-use Rattle.tla_value.proofs.Primes as Primes
+use Rattle.tla_value.specs.laws.Grafting.{In, BindsNone, IsUnprimed}
+use Rattle.tla_value.specs.laws.FreeNames.{FreeInParts}
+use Rattle.tla_value.proofs.Primes.{unprimed_law}
 use Rattle.tla_value.proofs.Outcomes.{then_then}
+use Rattle.tla_value.specs.OrderLaws.{same_is}
 use Rattle.module_text.specs.ActionTruth.{Verdict, is_unchanged}
 use Rattle.module_text.specs.ActionTruth as Module
 use Rattle.pcal_tree.specs.Algorithm.{Assignments, no_assignments, assignment}
@@ -23,10 +23,11 @@ use Rattle.pcal_tree.specs.Scope.{State, Scope, bound}
 use Rattle.action_builder.specs.Assigned.{Names, head_of}
 use Rattle.action_builder.specs.laws.States.{mid}
 use Rattle.action_builder.proofs.Actions.{minus, all_same, some_member}
-use Rattle.action_builder.specs.laws.Ready.{Readable, Halfway, IsWithin, Paired, Scoped, NoNext, Plain, FineTree, FineSides, values_of}
-use Rattle.action_builder.specs.Written.{Key, sub, fixed, subs, keys_of, keys_first, keys_in, subscripts, own, slot_trees, except_of, is_whole, side_of, primed, left_of}
-use Rattle.action_builder.proofs.Equal.{name-true, eq-name, value-true, eq-value}
-use Rattle.action_builder.proofs.Sets.{or_left, or_right, minus_same, same_minus}
+use Rattle.action_builder.specs.laws.Ready.{Readable, Halfway, IsWithin, Paired, Scoped, IsLeft, LeftFirst, LeftSides, FineTree, FineSides, values_of}
+use Rattle.action_builder.specs.Written.{Key, sub, fixed, subs, keys_of, keys_first, subscripts, own, slot_trees, except_of, is_whole, side_of, primed, left_of}
+use Rattle.action_builder.proofs.Except.{own_left}
+use Rattle.action_builder.proofs.Equal.{name-true, eq-name, eq-value}
+use Rattle.action_builder.proofs.Sets.{minus_same, same_minus}
 use Rattle.action_builder.proofs.Main.{Within}
 
 -- ---- verdicts that match
@@ -139,17 +140,10 @@ match_assert (Err (Values.over r)) m at p q = tt
 
 -- ---- expressions
 
-no_next : (m : Form) → NoNext m → Primes.NoNext m
-no_next (next x) h = h
-no_next m h = tt
-
-unprimed_of : (A : Names) (U : Word → Type 0) (m : Form) (at : Place) → Plain A U m at → Unprimed A U m at
-unprimed_of A U m at h = (h.0, h.1, no_next m h.2)
-
 pub exp_law : (U : Readable) (vs : List Word) (A : Names) (sc : Scope) (env : State → State → Env) → Paired U vs sc env → IsWithin A (is_among vs) → (e : Tree) → FineTree U A e → (s t : State) → eval plain (primed A e) (env s t) ≡ eval plain e (sc.env (mid s t A))
 exp_law U vs A sc env p w e f s t =
     let k = p.halfway A w s t in
-    unprimed_law plain A (In (U A)) e (every_weaker _ _ (unprimed_of A (In (U A))) e f) (env s t) (sc.env (mid s t A)) (record { now = k.now; defs = k.defs })
+    unprimed_law plain A (In (U A)) e f.0 f.1 f.2 (env s t) (sc.env (mid s t A)) (record { now = k.now; defs = k.defs })
 
 halfway_bound : (A : Names) (U : Word → Type 0) (x : Word) (v : Value) → A x ≡ false → (e f : Env) → Halfway A U e f → Halfway A U (bind x v e) (bind x v f)
 halfway_bound A U x v out e f r = record { now = λ y u at. by y u at (bytes_eq x y) refl; defs = r.defs }
@@ -162,7 +156,7 @@ halfway_bound A U x v out e f r = record { now = λ y u at. by y u at (bytes_eq 
         ap (λ b. cond b (just v) (f.now y at)) q ∙ r.now y u at
         ∙ sym (ap (λ b. cond (A y) (e.primed y at) (cond b (just v) (e.now y at))) q)
 
-outside : (A V : Names) → IsWithin A V → (x : Word) → V x ≡ false → A x ≡ false
+pub outside : (A V : Names) → IsWithin A V → (x : Word) → V x ≡ false → A x ≡ false
 outside A V w x e = ⊎_elim (λ a. absurd (both_ways (V x) e (w x a))) (λ a. a) (cases_Bool (A x))
 
 abbrev pub bound_env : Word → Value → (State → State → Env) → State → State → Env
@@ -184,57 +178,75 @@ scoped_bound vs sc x v out k = record { part = k.part; reads = λ y m at s. by y
 
 -- ---- the trees of right sides
 
-abbrev EachKey : (Form → Place → Type 0) → List Key → Type 0
-EachKey P [] = Unit {0}
-EachKey P (sub t ∷ ks) = Every P t × EachKey P ks
-EachKey P (fixed a ∷ ks) = EachKey P ks
+module _ (U : Readable) (A : Names) where
+  abbrev AllFine : Trees → Type 0
+  AllFine no_trees = Unit {0}
+  AllFine (tree t ts) = FineTree U A t × AllFine ts
 
-keys_both : (P : Form → Place → Type 0) (ks js : List Key) → EachKey P ks → EachKey P js → EachKey P (ks ++ js)
-keys_both P [] js h k = k
-keys_both P (sub t ∷ ks) js h k = (h.0, keys_both P ks js h.1 k)
-keys_both P (fixed a ∷ ks) js h k = keys_both P ks js h k
+  abbrev EachKey : List Key → Type 0
+  EachKey [] = Unit {0}
+  EachKey (sub t ∷ ks) = FineTree U A t × EachKey ks
+  EachKey (fixed a ∷ ks) = EachKey ks
 
-subs_every : (P : Form → Place → Type 0) (ts : Trees) → EveryOf P ts → EachKey P (subs ts)
-subs_every P no_trees h = tt
-subs_every P (tree t ts) h = (h.0, subs_every P ts h.1)
+  -- trees under a form that binds no name
+  parts_fine : (ts : Trees) → EveryOf (BindsNone A) ts → EveryOf IsUnprimed ts → FreeInParts (In (U A)) (In (U A)) [] ts → AllFine ts
+  parts_fine no_trees b n h = tt
+  parts_fine (tree t ts) b n h = ((b.0, n.0, h.0), parts_fine ts b.1 n.1 h.1)
 
-form_keys : (P : Form → Place → Type 0) (m : Form) (ks : List Key) → EachKey P ks → EachKey P (keys_in m ks)
-form_keys P (name x) ks h = tt
-form_keys P (strict (select a)) ks h = keys_both P ks (fixed a ∷ []) h tt
-form_keys P m ks h = h
+  fine_parts : (ts : Trees) → AllFine ts → EveryOf (BindsNone A) ts × EveryOf IsUnprimed ts × FreeInParts (In (U A)) (In (U A)) [] ts
+  fine_parts no_trees h = (tt, tt, tt)
+  fine_parts (tree t ts) h = let k = fine_parts ts h.1 in ((h.0.0, k.0), (h.0.1, k.1), (h.0.2, k.2))
 
-mutual
-  keys_every : (P : Form → Place → Type 0) (l : Tree) → Every P l → EachKey P (keys_of l)
-  keys_every P (node m at ts) h = form_keys P m (keys_first ts) (first_every P ts h.1)
+  keys_both : (ks js : List Key) → EachKey ks → EachKey js → EachKey (ks ++ js)
+  keys_both [] js h k = k
+  keys_both (sub t ∷ ks) js h k = (h.0, keys_both ks js h.1 k)
+  keys_both (fixed a ∷ ks) js h k = keys_both ks js h k
 
-  first_every : (P : Form → Place → Type 0) (ts : Trees) → EveryOf P ts → EachKey P (keys_first ts)
-  first_every P no_trees h = tt
-  first_every P (tree f us) h = keys_both P (keys_of f) (subs us) (keys_every P f h.0) (subs_every P us h.1)
+  subs_fine : (ts : Trees) → AllFine ts → EachKey (subs ts)
+  subs_fine no_trees h = tt
+  subs_fine (tree t ts) h = (h.0, subs_fine ts h.1)
 
-subscripts_every : (P : Form → Place → Type 0) (ks : List Key) (ts : Trees) → EachKey P ks → EveryOf P ts → EveryOf P (subscripts ks ts)
-subscripts_every P [] ts h k = k
-subscripts_every P (sub t ∷ ks) ts h k = (h.0, subscripts_every P ks ts h.1 k)
-subscripts_every P (fixed a ∷ ks) ts h k = subscripts_every P ks ts h k
+  mutual
+    keys_fine : (V : Names) (l : Tree) → IsLeft V l → FineTree U A l → EachKey (keys_of l)
+    keys_fine V (node (name x) at ts) k h = tt
+    keys_fine V (node (strict apply) at ts) k h = first_fine V ts k (parts_fine ts h.0.1 h.1.1 h.2.1)
+    keys_fine V (node (strict (select a)) at ts) k h = keys_both (keys_first ts) (fixed a ∷ []) (first_fine V ts k (parts_fine ts h.0.1 h.1.1 h.2.1)) tt
+    keys_fine V (node _ at ts) k h = absurd k
 
-slots_every : (U : Readable) (A : Names) (ms : Assignments) → FineSides U A ms → EveryOf (Plain A (In (U A))) (slot_trees ms)
-slots_every U A no_assignments h = tt
-slots_every U A (assignment l e ms) h = subscripts_every (Plain A (In (U A))) (keys_of l) (tree e (slot_trees ms)) (keys_every (Plain A (In (U A))) l h.0) (h.1, slots_every U A ms h.2)
+    first_fine : (V : Names) (ts : Trees) → LeftFirst V ts → AllFine ts → EachKey (keys_first ts)
+    first_fine V no_trees k h = tt
+    first_fine V (tree f us) k h = keys_both (keys_of f) (subs us) (keys_fine V f k h.0) (subs_fine us h.1)
 
-pub own_fine : (U : Readable) (A : Names) (y : Word) (ms : Assignments) → FineSides U A ms → FineSides U A (own y ms)
-own_fine U A y no_assignments h = tt
-own_fine U A y (assignment l e ms) h = by (own_fine U A y ms h.2) (bytes_eq (head_of l) y)
-  where
-    by : FineSides U A (own y ms) → (b : Bool) → FineSides U A (cond b (assignment l e (own y ms)) (own y ms))
-    by ih true = (h.0, h.1, ih)
-    by ih false = ih
+  subscripts_fine : (ks : List Key) (ts : Trees) → EachKey ks → AllFine ts → AllFine (subscripts ks ts)
+  subscripts_fine [] ts h k = k
+  subscripts_fine (sub t ∷ ks) ts h k = (h.0, subscripts_fine ks ts h.1 k)
+  subscripts_fine (fixed a ∷ ks) ts h k = subscripts_fine ks ts h k
 
-pub side_fine : (U : Readable) (A : Names) (y : Word) (ms : Assignments) → U A y ≡ true → FineSides U A ms → FineTree U A (side_of y ms)
-side_fine U A y no_assignments u h = ((tt, u, tt), tt)
-side_fine U A y (assignment l e ms) u h = by (is_whole (keys_of l) ms)
-  where
-    by : (b : Bool) → FineTree U A (cond b e (except_of (root_place l) y (assignment l e ms)))
-    by true = h.1
-    by false = ((tt, tt, tt), (((tt, u, tt), tt), slots_every U A (assignment l e ms) h))
+  slots_fine : (V : Names) (ms : Assignments) → LeftSides V ms → FineSides U A ms → AllFine (slot_trees ms)
+  slots_fine V no_assignments k h = tt
+  slots_fine V (assignment l e ms) k h = subscripts_fine (keys_of l) (tree e (slot_trees ms)) (keys_fine V l k.0 h.0) (h.1, slots_fine V ms k.1 h.2)
+
+  own_fine : (y : Word) (ms : Assignments) → FineSides U A ms → FineSides U A (own y ms)
+  own_fine y no_assignments h = tt
+  own_fine y (assignment l e ms) h = by (own_fine y ms h.2) (bytes_eq (head_of l) y)
+    where
+      by : FineSides U A (own y ms) → (b : Bool) → FineSides U A (cond b (assignment l e (own y ms)) (own y ms))
+      by ih true = (h.0, h.1, ih)
+      by ih false = ih
+
+  fine_side : (V : Names) (y : Word) (ms : Assignments) → U A y ≡ true → LeftSides V ms → FineSides U A ms → FineTree U A (side_of y ms)
+  fine_side V y no_assignments u k h = ((tt, tt), (tt, tt), (u, tt))
+  fine_side V y (assignment l e ms) u k h = by (is_whole (keys_of l) ms)
+    where
+      by : (b : Bool) → FineTree U A (cond b e (except_of (root_place l) y (assignment l e ms)))
+      by true = h.1
+      by false =
+          let p = fine_parts (slot_trees (assignment l e ms)) (slots_fine V (assignment l e ms) k h) in
+          ((tt, ((tt, tt), p.0)), (tt, ((tt, tt), p.1)), (tt, ((u, tt), p.2)))
+
+  -- the right side that is written for a variable
+  pub side_fine : (V : Names) (y : Word) (ms : Assignments) → U A y ≡ true → LeftSides V ms → FineSides U A ms → FineTree U A (side_of y (own y ms))
+  side_fine V y ms u k h = fine_side V y (own y ms) u (own_left V y ms k) (own_fine y ms h)
 
 -- ---- UNCHANGED
 
@@ -275,7 +287,7 @@ left_same (v ∷ vs) all own s t h x m a o =
     by (λ g k. left_same vs all own s t g x k a o) (is_among all v && not (is_among own v)) refl h (or_cases (bytes_eq v x) (is_among vs x) m)
   where
     by : (all_same (left_of vs all own) s t ≡ true → is_among vs x ≡ true → t x ≡ s x) → (b : Bool) → (is_among all v && not (is_among own v)) ≡ b → all_same (cond b (v ∷ left_of vs all own) (left_of vs all own)) s t ≡ true → (bytes_eq v x ≡ true) ⊎ (is_among vs x ≡ true) → t x ≡ s x
-    by ih true p g (inl e) = subst (λ z. t z ≡ s z) (name-true v x e) (value-true (t v) (s v) (and_parts (same (t v) (s v)) (all_same (left_of vs all own) s t) g).0)
+    by ih true p g (inl e) = subst (λ z. t z ≡ s z) (name-true v x e) (same_is (t v) (s v) (and_parts (same (t v) (s v)) (all_same (left_of vs all own) s t) g).0)
     by ih true p g (inr k) = ih (and_parts (same (t v) (s v)) (all_same (left_of vs all own) s t) g).1 k
     by ih false p g (inl e) = absurd (both_ways (is_among all v && not (is_among own v)) p (and_not (is_among all v) (is_among own v) (ap (is_among all) (name-true v x e) ∙ a) (ap (is_among own) (name-true v x e) ∙ o)))
     by ih false p g (inr k) = ih g k

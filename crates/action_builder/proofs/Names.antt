@@ -126,7 +126,7 @@ nested_once c A (is x e bs) es h = (nested_once c A bs es h, tt)
 
 mutual
   one_once : (c : Check) (A : Names) (at : Place) (st : Statement) → OnceOne A st → Actions.OnceOne A (effect_of c at st)
-  one_once c A at (assign ms) h = subst (Actions.Apart A) (sym (heads_same c ms)) h
+  one_once c A at (assign ms) h = subst (Apart A) (sym (heads_same c ms)) h
   one_once c A at (branch e a b) h = (all_once c A a h.0, all_once c A b h.1)
   one_once c A at (either bs) h = some_once c A bs h
   one_once c A at (with no_binds b) h = (all_once c A b h, tt)

@@ -1,20 +1,17 @@
 -- The parts of an assignment in the order written, and variable by variable.
 use Rattle.std.proofs.Common.{◌≡◌, List, [], ◌∷◌, Bool, true, false, cond, ◌||◌, bytes_eq, refl, sym, ◌∙◌, ap, subst, ⊎_elim, Ok, Err}
-use Rattle.std.proofs.lemmas.Bool.{cases_Bool, both_ways}
+use Rattle.std.proofs.lemmas.Bool.{cases_Bool, both_ways, or_parts}
 use Rattle.tla_token.specs.Signs.{is_among}
 use Rattle.tla_expr.specs.Tree.{Word}
 use Rattle.tla_value.specs.Value.{Value, Trouble, Outcome, ◌>>=◌, IsBad}
+use Rattle.tla_value.proofs.Outcomes.{ok_is}
 use Rattle.pcal_tree.specs.Scope.{Scope, State, put}
 use Rattle.action_builder.proofs.Equal.{name-true, eq-name}
 use Rattle.action_builder.specs.Assigned.{without}
 use Rattle.action_builder.proofs.Effects.{Change, Parts, no_parts, part, firsts, Changes, no_changes, change, evaluated, applied, moved}
 use Rattle.action_builder.proofs.Actions.{changes_for, folded, value_for}
-use Rattle.action_builder.proofs.Sets.{or_none}
 
-one_got : {X : Type 0} (x y : X) → ◌≡◌ {A = Outcome X} (Ok x) (Ok y) → x ≡ y
-one_got x y e = cc
-
-not_bad : {X P : Type 0} (x : X) (k : Trouble) → Ok x ≡ Err k → P
+pub not_bad : {X P : Type 0} (x : X) (k : Trouble) → Ok x ≡ Err k → P
 not_bad x k e = cc
 
 abbrev kept : Word → Changes → List Change
@@ -31,19 +28,19 @@ evaluated_step : (o : Outcome Change) (q : Outcome Changes) (q' : Outcome (List 
 evaluated_step (Ok f) (Ok gs) q' x y fs ih h = unfolding_kept
   where
     unfolding_kept : cond (bytes_eq x y) (q' >>= (λ ks. Ok (f ∷ ks))) q' ≡ Ok (kept y fs)
-    unfolding_kept = pull (bytes_eq x y) f q' (kept y gs) (ih gs refl) ∙ ap (λ z. Ok (kept y z)) (one_got (change x f gs) fs h)
+    unfolding_kept = pull (bytes_eq x y) f q' (kept y gs) (ih gs refl) ∙ ap (λ z. Ok (kept y z)) (ok_is h)
 evaluated_step (Ok f) (Err k) q' x y fs ih h = not_bad fs k (sym h)
 evaluated_step (Err k) q q' x y fs ih h = not_bad fs k (sym h)
 
 evaluated_for : (ps : Parts) (y : Word) (c : Scope) (s : State) (fs : Changes) → evaluated ps c s ≡ Ok fs → changes_for y ps c s ≡ Ok (kept y fs)
-evaluated_for no_parts y c s fs h = ap (λ z. Ok (kept y z)) (one_got no_changes fs h)
+evaluated_for no_parts y c s fs h = ap (λ z. Ok (kept y z)) (ok_is h)
 evaluated_for (part x e ps) y c s fs h = evaluated_step (e c s) (evaluated ps c s) (changes_for y ps c s) x y fs (evaluated_for ps y c s) h
 
 put_at : (x : Word) (v : Value) (y : Word) (s : State) (b : Bool) → bytes_eq x y ≡ b → put x v s y ≡ cond b v (s y)
 put_at x v y s b e = ap (λ z. cond z v (s y)) e
 
 applied_for : (fs : Changes) (y : Word) (s u : State) → applied fs s ≡ Ok u → folded (kept y fs) (s y) ≡ Ok (u y)
-applied_for no_changes y s u h = ap (λ z. Ok (z y)) (one_got s u h)
+applied_for no_changes y s u h = ap (λ z. Ok (z y)) (ok_is h)
 applied_for (change x f fs) y s u h = by (λ v. applied_for fs y (put x v s) u) (f (s x)) refl h (bytes_eq x y) refl
   where
     by : ((v : Value) → applied fs (put x v s) ≡ Ok u → folded (kept y fs) (put x v s y) ≡ Ok (u y)) → (o : Outcome Value) → f (s x) ≡ o → o >>= (λ v. applied fs (put x v s)) ≡ Ok u → (b : Bool) → bytes_eq x y ≡ b → folded (cond (bytes_eq x y) (f ∷ kept y fs) (kept y fs)) (s y) ≡ Ok (u y)
@@ -142,7 +139,7 @@ without_other x y (z ∷ zs) e = by (without_other x y zs e) (bytes_eq x z) refl
 none_for : (ps : Parts) (c : Scope) (s : State) (y : Word) → is_among (firsts ps) y ≡ false → changes_for y ps c s ≡ Ok []
 none_for no_parts c s y h = refl
 none_for (part x e ps) c s y h =
-    let p = or_none (bytes_eq x y) (is_among (without x (firsts ps)) y) h in
+    let p = or_parts (bytes_eq x y) (is_among (without x (firsts ps)) y) h in
     ap (λ b. cond b ((e c s) >>= (λ f. (changes_for y ps c s) >>= (λ fs. Ok (f ∷ fs)))) (changes_for y ps c s)) p.0
     ∙ none_for ps c s y (sym (without_other x y (firsts ps) p.0) ∙ p.1)
 

@@ -1,4 +1,4 @@
--- The prepared statements have the ends of the statements as they stand, and trouble where these have trouble.
+-- The prepared statements have the ends of the statements as they are, and trouble where these have trouble.
 use Rattle.std.proofs.Common.{◌≡◌, List, [], ◌∷◌, Bool, true, false, cond, Some, None, refl, sym, ◌∙◌, subst, Ok, Err}
 use Rattle.tla_token.specs.declared.place.Place.{Place}
 use Rattle.tla_expr.specs.Tree.{Word, apply, name, node, no_trees}
@@ -21,12 +21,11 @@ use Rattle.action_builder.specs.Settled.{settled}
 use Rattle.action_builder.specs.laws.LabelSteps.{LabelStep, prepared_of, Prepares, Stepped}
 use Rattle.tla_value.proofs.Outcomes.{then_then}
 use Rattle.action_builder.proofs.Settle.{settle_in}
-use Rattle.tla_value.specs.laws.FreeNames.{Any}
 
 -- the localised statements have the courses of the statements
-pub localised : (M : Rules) (self : Word) (own : Word → Bool) (here : Word) (ss : Statements) (sc : Scope) → AnyPlace sc → Clean M.check (owned self own) Any ss → (K : Follow) → run M here (graft_all (owned self own) ss) sc K ≡ run M here ss (own_scope M.check self own sc) K
+pub localised : (M : Rules) (self : Word) (own : Word → Bool) (here : Word) (ss : Statements) (sc : Scope) → AnyPlace sc → Clean M.check (owned self own) ss → (K : Follow) → run M here (graft_all (owned self own) ss) sc K ≡ run M here ss (own_scope M.check self own sc) K
 localised M self own here ss sc h clean K =
-    graft_runs M (owned self own) Any here ss clean sc (own_scope M.check self own sc) (through_meets M.check (owned self own) sc h) K K refl
+    graft_runs M (owned self own) here ss clean sc (own_scope M.check self own sc) (through_meets M.check (owned self own) sc h) K K refl
 
 own_parts : (c : Check) (V : Word → Bool) (self : Word) (v : Value) (own : Word → Bool) (sc : Scope) → Whole V self v own sc → (x : Word) → V x ≡ true → (at : Place) (s : State) → (own_scope c self own sc).part x at s ≡ Ok (part_at x (own_path (own x) v))
 own_parts c V self v own sc h x m at s = by (own x) refl
@@ -57,7 +56,7 @@ own_stands c V self v own sc h x m reads at s = (own_parts c V self v own sc h x
         }) ∙ (λ i. sense_of (last_read (applied at (s x) v) at i))
     by false o = reads at s
 
--- from the prepared statements to the statements as they stand
+-- from the prepared statements to the statements as they are
 pub prepared_law : (M : Rules) (d : LabelStep) → Prepares M d → (s : State) → Close (Has (run M unlabelled (prepared_of d) d.scope to_end s)) (Stepped M d s)
 prepared_law M d p s =
     subst (λ F. Close (Has (F s)) (Stepped M d s)) (sym (localised M d.self d.own unlabelled (settled d.jumps d.here d.exit d.statements) d.scope p.free p.clean to_end))

@@ -32,6 +32,10 @@ call_row = refl
 goto_row : holds_on variables env (action_of variables step) (state 1 0 0 7 (codes "A") []) (state 2 2 0 7 (codes "A") []) ≡ Ok true
 goto_row = refl
 
+-- not where no i of {2, 3} is larger than x: there the `await` waits
+await_row : holds_on variables env (action_of variables step) (state 2 0 0 7 (codes "A") []) (state 3 3 0 7 (codes "A") []) ≡ Ok false
+await_row = refl
+
 -- not with another argument
 other_row : holds_on variables env (action_of variables step) (state 0 0 0 7 (codes "A") []) (state 1 1 0 1 (codes "C") (frame ∷ [])) ≡ Ok false
 other_row = refl

@@ -1,29 +1,16 @@
 -- Sets of names, and the state between two states.
 use Rattle.std.proofs.Common.{◌≡◌, List, [], ◌∷◌, ◌++◌, Bool, true, false, cond, ◌||◌, ◌&&◌, bytes_eq, ◌⊎◌, refl, sym, ◌∙◌, ap, subst, ⊎_elim}
-use Rattle.std.proofs.lemmas.Bool.{cases_Bool, or_cases, both_ways, and_parts}
+use Rattle.std.proofs.lemmas.Bool.{cases_Bool, or_cases, both_ways, and_parts, or_from, or_left, or_right, or_parts}
 use Rattle.tla_token.specs.Signs.{is_among}
 use Rattle.tla_expr.specs.Tree.{Word}
 use Rattle.tla_value.specs.Value.{Value}
 use Rattle.tla_value.specs.Order.{same}
-use Rattle.action_builder.proofs.Equal.{name-true, eq-name, value-true, eq-value}
+use Rattle.tla_value.specs.OrderLaws.{same_is}
+use Rattle.action_builder.proofs.Equal.{name-true, eq-name, eq-value}
 use Rattle.pcal_tree.specs.Scope.{State, put}
 use Rattle.action_builder.specs.Assigned.{Names, more}
 use Rattle.action_builder.specs.laws.States.{mid}
 use Rattle.action_builder.proofs.Actions.{minus, all_same}
-
-pub or_left : (a b : Bool) → a ≡ true → (a || b) ≡ true
-or_left a b e = ap (λ x. x || b) e
-
-pub or_right : (a b : Bool) → b ≡ true → (a || b) ≡ true
-or_right true b e = refl
-or_right false b e = e
-
-pub or_none : (a b : Bool) → (a || b) ≡ false → (a ≡ false) × (b ≡ false)
-or_none true b e = cc
-or_none false b e = (refl, e)
-
-pub or_both : (a b : Bool) → a ≡ false → b ≡ false → (a || b) ≡ false
-or_both a b e f = ap (λ x. x || b) e ∙ f
 
 pub member_append : (xs ys : List Word) (x : Word) → is_among (xs ++ ys) x ≡ (is_among xs x || is_among ys x)
 member_append [] ys x = refl
@@ -79,13 +66,13 @@ put_mid s t A x v e = is_mid s t (put x v (mid s t A)) (more A (x ∷ [])) insid
     inside : (y : Word) → (A y || (bytes_eq x y || false)) ≡ true → put x v (mid s t A) y ≡ t y
     inside y h = ⊎_elim
         (λ f. put_here y f)
-        (λ f. put_other y f ∙ mid_in s t A y (⊎_elim (λ a. a) (λ b. absurd (both_ways (bytes_eq x y || false) (or_both (bytes_eq x y) false f refl) b)) (or_cases (A y) (bytes_eq x y || false) h)))
+        (λ f. put_other y f ∙ mid_in s t A y (⊎_elim (λ a. a) (λ b. absurd (both_ways (bytes_eq x y || false) (or_from (bytes_eq x y) false f refl) b)) (or_cases (A y) (bytes_eq x y || false) h)))
         (cases_Bool (bytes_eq x y))
 
     outside : (y : Word) → (A y || (bytes_eq x y || false)) ≡ false → put x v (mid s t A) y ≡ s y
     outside y h =
-        let p = or_none (A y) (bytes_eq x y || false) h in
-        put_other y (or_none (bytes_eq x y) false p.1).0 ∙ mid_out s t A y p.0
+        let p = or_parts (A y) (bytes_eq x y || false) h in
+        put_other y (or_parts (bytes_eq x y) false p.1).0 ∙ mid_out s t A y p.0
 
 -- all names of a list that are not in another are the same
 pub minus_same : (xs ys : List Word) (s t : State) → all_same (minus xs ys) s t ≡ true → (x : Word) → is_among xs x ≡ true → is_among ys x ≡ false → t x ≡ s x
@@ -102,7 +89,7 @@ minus_same (y ∷ xs) ys s t h x e f = by (λ g m. minus_same xs ys s t g x m f)
     by ih false p =
         let g = ap (λ b. all_same (cond b (minus xs ys) (y ∷ minus xs ys)) s t) (sym p) ∙ h in
         let parts = and_parts (same (t y) (s y)) (all_same (minus xs ys) s t) g in
-        ⊎_elim (λ a. subst (λ z. t z ≡ s z) (name-true y x a) (value-true (t y) (s y) parts.0)) (λ b. rest ih parts.1 b) (cases_Bool (bytes_eq y x))
+        ⊎_elim (λ a. subst (λ z. t z ≡ s z) (name-true y x a) (same_is (t y) (s y) parts.0)) (λ b. rest ih parts.1 b) (cases_Bool (bytes_eq y x))
 
 pub same_minus : (xs ys : List Word) (s t : State) → ((x : Word) → is_among xs x ≡ true → is_among ys x ≡ false → t x ≡ s x) → all_same (minus xs ys) s t ≡ true
 same_minus [] ys s t h = refl

@@ -1,5 +1,6 @@
 -- Settled statements have the ends of the statements, and trouble where these have trouble.
 use Rattle.std.proofs.Common.{◌≡◌, [], ◌∷◌, Bool, true, false, cond, ◌||◌, ◌⊎◌, refl, ap, subst, inl, inr, ⊎_elim, Ok, Err}
+use Rattle.std.proofs.lemmas.Bool.{or_parts}
 use Rattle.tla_token.specs.declared.place.Place.{Place}
 use Rattle.tla_expr.specs.Tree.{Word}
 use Rattle.tla_value.specs.declared.fault.FaultKind.TheVariants.{AssertFailed}
@@ -59,10 +60,6 @@ close_binds c at Fit F keep (is x e bs) h f g k sc fit s =
 
 -- ---- what follows may be changed for what is close, where nothing jumps
 
-or_none : (a b : Bool) → (a || b) ≡ false → (a ≡ false) × (b ≡ false)
-or_none true b e = cc
-or_none false b e = (refl, e)
-
 true_false : {P : Type 0} → true ≡ false → P
 true_false e = cc
 
@@ -86,7 +83,7 @@ mutual
       close_after (test M.check e sc s) _ _ (λ t. close_cond t K.goes (λ u. stops (fault AssertFailed at)) L.goes (λ u. stops (fault AssertFailed at)) s (h s) (close_refl (λ r. r ≡ Err (fault AssertFailed at))))
   free_one M here there at skip f sc K L h s = h s
   free_one M here there at (branch e a b) f sc K L h s =
-      let q = or_none (jumps a) (jumps b) f in
+      let q = or_parts (jumps a) (jumps b) f in
       close_after (test M.check e sc s) _ _ (λ t. close_cond t (run M unlabelled a sc K) (run M unlabelled b sc K) (run M unlabelled a sc L) (run M unlabelled b sc L) s (free M unlabelled unlabelled a q.0 sc K L h s) (free M unlabelled unlabelled b q.1 sc K L h s))
   free_one M here there at (either bs) f sc K L h s = free_some M bs f sc K L h s
   free_one M here there at (with bs b) f sc K L h s =
@@ -96,14 +93,14 @@ mutual
   pub free : (M : Rules) (here there : Word) (ss : Statements) → jumps ss ≡ false → (sc : Scope) (K L : Follow) → CloseCourses K.goes L.goes → CloseCourses (run M here ss sc K) (run M there ss sc L)
   free M here there done f sc K L h s = h s
   free M here there (then at st rest) f sc K L h s =
-      let q = or_none (jumps_one st) (jumps rest) f in
+      let q = or_parts (jumps_one st) (jumps rest) f in
       free_one M here there at.first st q.0 sc (following M rest sc K) (following M rest sc L) (free M unlabelled unlabelled rest q.1 sc K L h) s
   free M here there (mark l k rest) f sc K L h s = true_false f
 
   pub free_some : (M : Rules) (bs : Branches) → jumps_some bs ≡ false → (sc : Scope) (K L : Follow) → CloseCourses K.goes L.goes → (s : State) → Close (HasSome (run_branches M bs sc K s)) (HasSome (run_branches M bs sc L s))
   free_some M no_branches f sc K L h s = close_refl (λ r. ⊥)
   free_some M (or b bs) f sc K L h s =
-      let q = or_none (jumps b) (jumps_some bs) f in
+      let q = or_parts (jumps b) (jumps_some bs) f in
       close_or (Has (run M unlabelled b sc K s)) (HasSome (run_branches M bs sc K s)) (Has (run M unlabelled b sc L s)) (HasSome (run_branches M bs sc L s)) (free M unlabelled unlabelled b q.0 sc K L h s) (free_some M bs q.1 sc K L h s)
 
 -- ---- settling

@@ -11,7 +11,7 @@ use Rattle.tla_expr.specs.declared.op.Op.TheVariants.{Subset}
 use Rattle.tla_value.specs.Stops.{Check, truth_at, members_at, tested, sense_of}
 use Rattle.tla_value.specs.Meaning.{Env, just, bind, part_values, eval, evals}
 use Rattle.tla_value.specs.Grafts.{read_tree}
-use Rattle.tla_value.specs.laws.Grafting.{ClearForm}
+use Rattle.tla_value.specs.laws.Grafting.{BindsClear}
 use Rattle.tla_value.specs.Definitions.{Valuation}
 use Rattle.tla_value.proofs.Graft.{Grafted, bound_grafted, grafted_law}
 use Rattle.module_text.specs.Module.{Item, test, setting, unchanged, exists, local, if_then_else, either, Items, no_items, item, Branches, no_branches, branch}
@@ -23,37 +23,37 @@ use Rattle.action_builder.proofs.Alike.{same_refl, then_same, and_same, or_same,
 use Rattle.tla_value.specs.laws.FreeNames.{Any}
 
 -- an expression with trees put in, and what goes on with its value
-value_same : {X : Type 0} (c : Check) (g : Graft) (U : Word → Type 0) (e : Tree) → Every (ClearForm c g U) e → (n m : Env) → Grafted c g U n m → (f h : Value → Outcome X) → ((v : Value) → AgreeButPlaces (f v) (h v)) → AgreeButPlaces ((eval c (graft g e) n).value >>= f) ((eval c e m).value >>= h)
-value_same c g U e k n m r f h q =
-    subst (λ o. AgreeButPlaces (o.value >>= f) ((eval c e m).value >>= h)) (sym (grafted_law c g U e k n m r)) (then_same (eval c e m).value (eval c e m).value f h (same_refl (eval c e m).value) q)
+value_same : {X : Type 0} (c : Check) (g : Graft) (e : Tree) → Every (BindsClear c g) e → (n m : Env) → Grafted c g Any n m → (f h : Value → Outcome X) → ((v : Value) → AgreeButPlaces (f v) (h v)) → AgreeButPlaces ((eval c (graft g e) n).value >>= f) ((eval c e m).value >>= h)
+value_same c g e k n m r f h q =
+    subst (λ o. AgreeButPlaces (o.value >>= f) ((eval c e m).value >>= h)) (sym (grafted_law c g e k n m r)) (then_same (eval c e m).value (eval c e m).value f h (same_refl (eval c e m).value) q)
 
 -- a test with trees put in
-test_same : (c : Check) (g : Graft) (U : Word → Type 0) (e : Tree) → Every (ClearForm c g U) e → (n m : Env) → Grafted c g U n m → AgreeButPlaces (truth_in c n (graft g e)) (truth_in c m e)
-test_same c g U e k n m r = value_same c g U e k n m r (truth_at (root_place (graft g e))) (truth_at (root_place e)) (truth_same (root_place (graft g e)) (root_place e))
+test_same : (c : Check) (g : Graft) (e : Tree) → Every (BindsClear c g) e → (n m : Env) → Grafted c g Any n m → AgreeButPlaces (truth_in c n (graft g e)) (truth_in c m e)
+test_same c g e k n m r = value_same c g e k n m r (truth_at (root_place (graft g e))) (truth_at (root_place e)) (truth_same (root_place (graft g e)) (root_place e))
 
 mutual
-  item_same : (c : Check) (g : Graft) (U : Word → Type 0) (s t : Valuation) (i : Item) → ClearItem c g U i → (n m : Env) → Grafted c g U n m → AgreeButPlaces (item_holds c s t n (graft_item g i)) (item_holds c s t m i)
-  item_same c g U s t (test e) k n m r = test_same c g U e k n m r
-  item_same c g U s t (setting x e) k n m r = value_same c g U e k n m r _ _ (λ v. refl)
-  item_same c g U s t (unchanged xs) k n m r = refl
-  item_same c g U s t (exists x e is) k n m r =
+  item_same : (c : Check) (g : Graft) (s t : Valuation) (i : Item) → ClearItem c g i → (n m : Env) → Grafted c g Any n m → AgreeButPlaces (item_holds c s t n (graft_item g i)) (item_holds c s t m i)
+  item_same c g s t (test e) k n m r = test_same c g e k n m r
+  item_same c g s t (setting x e) k n m r = value_same c g e k n m r _ _ (λ v. refl)
+  item_same c g s t (unchanged xs) k n m r = refl
+  item_same c g s t (exists x e is) k n m r =
       then_same (members_in c n (graft g e)) (members_in c m e) _ _
-      (value_same c g U e k.0 n m r (members_at (root_place (graft g e))) (members_at (root_place e)) (members_same (root_place (graft g e)) (root_place e)))
-      (λ vs. each_same vs _ _ (λ w. items_same c g U s t is k.2 (bind x w n) (bind x w m) (bound_grafted c g U x k.1 n m w r)))
-  item_same c g U s t (local x e is) k n m r =
-      value_same c g U e k.0 n m r _ _ (λ w. items_same c g U s t is k.2 (bind x w n) (bind x w m) (bound_grafted c g U x k.1 n m w r))
-  item_same c g U s t (if_then_else e a b) k n m r =
-      then_same (truth_in c n (graft g e)) (truth_in c m e) _ _ (test_same c g U e k.0 n m r)
-      (λ p. cond_same p _ _ _ _ (items_same c g U s t a k.1 n m r) (items_same c g U s t b k.2 n m r))
-  item_same c g U s t (either bs) k n m r = branches_same c g U s t bs k n m r
+      (value_same c g e k.0 n m r (members_at (root_place (graft g e))) (members_at (root_place e)) (members_same (root_place (graft g e)) (root_place e)))
+      (λ vs. each_same vs _ _ (λ w. items_same c g s t is k.2 (bind x w n) (bind x w m) (bound_grafted c g Any x k.1 n m w r)))
+  item_same c g s t (local x e is) k n m r =
+      value_same c g e k.0 n m r _ _ (λ w. items_same c g s t is k.2 (bind x w n) (bind x w m) (bound_grafted c g Any x k.1 n m w r))
+  item_same c g s t (if_then_else e a b) k n m r =
+      then_same (truth_in c n (graft g e)) (truth_in c m e) _ _ (test_same c g e k.0 n m r)
+      (λ p. cond_same p _ _ _ _ (items_same c g s t a k.1 n m r) (items_same c g s t b k.2 n m r))
+  item_same c g s t (either bs) k n m r = branches_same c g s t bs k n m r
 
-  pub items_same : (c : Check) (g : Graft) (U : Word → Type 0) (s t : Valuation) (is : Items) → ClearItems c g U is → (n m : Env) → Grafted c g U n m → AgreeButPlaces (items_hold c s t n (graft_items g is)) (items_hold c s t m is)
-  items_same c g U s t no_items k n m r = refl
-  items_same c g U s t (item i is) k n m r = and_same _ _ _ _ (item_same c g U s t i k.0 n m r) (items_same c g U s t is k.1 n m r)
+  pub items_same : (c : Check) (g : Graft) (s t : Valuation) (is : Items) → ClearItems c g is → (n m : Env) → Grafted c g Any n m → AgreeButPlaces (items_hold c s t n (graft_items g is)) (items_hold c s t m is)
+  items_same c g s t no_items k n m r = refl
+  items_same c g s t (item i is) k n m r = and_same _ _ _ _ (item_same c g s t i k.0 n m r) (items_same c g s t is k.1 n m r)
 
-  branches_same : (c : Check) (g : Graft) (U : Word → Type 0) (s t : Valuation) (bs : Branches) → ClearBranches c g U bs → (n m : Env) → Grafted c g U n m → AgreeButPlaces (some_branch c s t n (graft_branches g bs)) (some_branch c s t m bs)
-  branches_same c g U s t no_branches k n m r = refl
-  branches_same c g U s t (branch is bs) k n m r = or_same _ _ _ _ (items_same c g U s t is k.0 n m r) (branches_same c g U s t bs k.1 n m r)
+  branches_same : (c : Check) (g : Graft) (s t : Valuation) (bs : Branches) → ClearBranches c g bs → (n m : Env) → Grafted c g Any n m → AgreeButPlaces (some_branch c s t n (graft_branches g bs)) (some_branch c s t m bs)
+  branches_same c g s t no_branches k n m r = refl
+  branches_same c g s t (branch is bs) k n m r = or_same _ _ _ _ (items_same c g s t is k.0 n m r) (branches_same c g s t bs k.1 n m r)
 
 put_for : (c : Check) (self : Word) (e : Tree) (v : Value) (env : Env) → eval c e env ≡ just v → Grafted c (in_place_of self e) Any env (bind self v env)
 put_for c self e v env q = record { now = λ x u at. by x at (bytes_eq self x); primed = λ x at. refl; defs = λ x u. refl }
@@ -62,8 +62,8 @@ put_for c self e v env q = record { now = λ x u at. by x at (bytes_eq self x); 
     by x at true = sym q
     by x at false = refl
 
-pub single_law : (c : Check) (self : Word) (e : Tree) (v : Value) (is : Items) → ClearItems c (in_place_of self e) Any is → (s t : Valuation) (env : Env) → eval c e env ≡ just v → AgreeButPlaces (items_hold c s t env (graft_items (in_place_of self e) is)) (items_hold c s t (bind self v env) is)
-single_law c self e v is k s t env q = items_same c (in_place_of self e) Any s t is k env (bind self v env) (put_for c self e v env q)
+pub single_law : (c : Check) (self : Word) (e : Tree) (v : Value) (is : Items) → ClearItems c (in_place_of self e) is → (s t : Valuation) (env : Env) → eval c e env ≡ just v → AgreeButPlaces (items_hold c s t env (graft_items (in_place_of self e) is)) (items_hold c s t (bind self v env) is)
+single_law c self e v is k s t env q = items_same c (in_place_of self e) s t is k env (bind self v env) (put_for c self e v env q)
 
 -- ---- an expression that means its value
 

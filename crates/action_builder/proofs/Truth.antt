@@ -1,6 +1,6 @@
 -- The written items have the truth of what their statements mean.
 use Rattle.std.proofs.Common.{◌≡◌, List, [], ◌∷◌, Bool, true, false, cond, ◌||◌, bytes_eq, codes, Some, None, refl, sym, ◌∙◌, ap, subst, ⊎_elim, Ok, Err}
-use Rattle.std.proofs.lemmas.Bool.{or_cases}
+use Rattle.std.proofs.lemmas.Bool.{or_cases, or_left, or_right}
 use Rattle.tla_token.specs.Signs.{is_among}
 use Rattle.tla_token.specs.declared.place.Place.{Place}
 use Rattle.tla_expr.specs.Tree.{Word, Tree, no_trees, root_place}
@@ -21,11 +21,10 @@ use Rattle.action_builder.specs.laws.States.{mid}
 use Rattle.action_builder.proofs.Effects.{effect_names, effects_names, ways_names, Effects, parts_of, effect_of, effects_of, ways_of, nested}
 use Rattle.action_builder.proofs.Actions.{minus, all_same, hold, hold_some, holds, hold_sets, build, build_one, build_some, ended, value_for}
 use Rattle.action_builder.specs.laws.Ready.{SettledOne, Settled, SettledSome, Readable, IsWithin, Stands, FineAssignments, FineBinds, FineOne, Fine, FineSome, values_of, holds_on}
-use Rattle.action_builder.proofs.Matching.{Matches, match_and, match_or, match_value, match_test, match_some, match_one, match_true, match_told, match_print, match_assert, exp_law, bound_env, paired_bound, scoped_bound, own_fine, side_fine, unchanged_same}
+use Rattle.action_builder.proofs.Matching.{Matches, match_and, match_or, match_value, match_test, match_some, match_one, match_true, match_told, match_print, match_assert, exp_law, bound_env, paired_bound, scoped_bound, side_fine, unchanged_same}
 use Rattle.action_builder.proofs.Actions as Action
 use Rattle.action_builder.specs.Written.{own, side_of, primed, left_of, unchanged_of, onto, filled, settings_of, nested_items, branch_items, write_one, write, write_some}
 use Rattle.action_builder.proofs.Equal.{eq-name}
-use Rattle.action_builder.proofs.Sets.{or_left, or_right}
 use Rattle.action_builder.proofs.Main.{and_then_assoc, Within}
 use Rattle.action_builder.proofs.Main as Main
 use Rattle.action_builder.proofs.Except.{value_law}
@@ -73,7 +72,7 @@ match_lists_same vs all own all' own' p q s t e at xs is' sc w h =
 match_setting : (U : Readable) (vs : List Word) (A : Names) (ms : Assignments) → FineAssignments U vs A ms → (sc : Scope) (env : State → State → Env) → Stands U vs sc env → IsWithin A (is_among vs) → (s t : State) (y : Word) → is_among (heads ms) y ≡ true → is_among vs y ≡ true → Matches ((eval plain (primed A (side_of y (own y ms))) (env s t)).value >>= (λ v. Ok (is_value (values_of vs t y) v))) ((value_for y (parts_of plain ms) sc (mid s t A)) >>= (λ v. Ok (same (t y) v)))
 match_setting U vs A ms f sc env k w s t y m in_vs =
     let e : Tree = side_of y (own y ms) in
-    subst (λ o. Matches (o.value >>= (λ v. Ok (is_value (values_of vs t y) v))) ((value_for y (parts_of plain ms) sc (mid s t A)) >>= (λ v. Ok (same (t y) v)))) (sym (exp_law U vs A sc env k.paired w (side_of y (own y ms)) (side_fine U A y (own y ms) (f.readable y m) (own_fine U A y ms f.sides)) s t))
+    subst (λ o. Matches (o.value >>= (λ v. Ok (is_value (values_of vs t y) v))) ((value_for y (parts_of plain ms) sc (mid s t A)) >>= (λ v. Ok (same (t y) v)))) (sym (exp_law U vs A sc env k.paired w (side_of y (own y ms)) (side_fine U A (is_among vs) y ms (f.readable y m) f.left f.sides) s t))
     (subst (λ z. Matches ((eval plain (side_of y (own y ms)) (sc.env (mid s t A))).value >>= (λ v. Ok (is_value (values_of vs t y) v))) (z >>= (λ v. Ok (same (t y) v)))) (value_law (is_among vs) y ms f.left sc k.scoped.part (mid s t A) (λ at. k.scoped.reads y in_vs at (mid s t A)))
     (match_value (eval plain (side_of y (own y ms)) (sc.env (mid s t A))).value (λ v. Ok (is_value (values_of vs t y) v)) (λ v. Ok (same (t y) v)) (λ v. ap (λ b. is_value (cond b (Some (t y)) None) v) in_vs)))
 
@@ -107,7 +106,7 @@ match_nested U vs A w s t (is x e bs) f body es h sc env k = match_true _ _ (
 
 -- ---- statements
 
-within_more : (A : Names) (xs vs : List Word) → IsWithin A (is_among vs) → Within xs vs → IsWithin (more A xs) (is_among vs)
+pub within_more : (A : Names) (xs vs : List Word) → IsWithin A (is_among vs) → Within xs vs → IsWithin (more A xs) (is_among vs)
 within_more A xs vs w k x e = ⊎_elim (λ a. w x a) (λ b. k x b) (or_cases (A x) (is_among xs x) e)
 
 match_cond : (b : Bool) (p q : Verdict) (v u : Outcome Bool) → Matches p v → Matches q u → Matches (cond b p q) (cond b v u)

@@ -1,5 +1,5 @@
 -- The sample step meets all that the laws ask.
-use Rattle.std.proofs.Common.{◌≡◌, List, [], ◌∷◌, Bool, true, false, cond, bytes_eq, codes, Option, Some, None, refl, sym, subst}
+use Rattle.std.proofs.Common.{◌≡◌, List, [], ◌∷◌, Bool, true, false, cond, ◌||◌, bytes_eq, codes, Option, Some, None, refl, sym, subst}
 use Rattle.tla_token.specs.Signs.{is_among}
 use Rattle.tla_token.specs.declared.place.Place.{Place}
 use Rattle.tla_expr.specs.Tree.{Word, Each}
@@ -12,7 +12,12 @@ use Rattle.pcal_tree.specs.laws.Expansion.{Calls, FineCall, BareBodies}
 use Rattle.pcal_tree.specs.Program.{local_index}
 use Rattle.pcal_tree.specs.Variables.{pc, stack, written_all}
 use Rattle.action_builder.specs.Assigned.{Names, more}
-use Rattle.action_builder.proofs.Actions.{Apart}
+use Rattle.tla_value.specs.laws.Grafting.{Apart}
+use Rattle.tla_value.proofs.Graft.{apart_clear}
+use Rattle.tla_value.proofs.Owned.{owned_apart}
+use Rattle.action_builder.proofs.Equal.{name-true, eq-name}
+use Rattle.std.proofs.lemmas.Bool.{both_ways, or_right}
+use Rattle.action_builder.specs.laws.Ready as Ready
 use Rattle.action_builder.specs.laws.Ready.{Settled, Paired, Scoped}
 use Rattle.action_builder.specs.laws.Scopes.{StandsAtPath, Inner, own_scope, own_path, Whole}
 use Rattle.action_builder.specs.laws.Jumps.{RoutineStands, Initials, RoutinesStand, RoutinesStandWithin}
@@ -29,7 +34,7 @@ use Rattle.action_builder.proofs.Matching.{paired_bound, scoped_bound}
 -- ---- macros
 
 pub sample_calls : Calls (FineCall macros) unexpanded
-sample_calls = (((((tt, tt), (tt, ((tt, tt), ((tt, tt), tt))), tt), tt), (tt, tt), tt), (tt, (((tt, tt), (tt, tt)), (tt, tt))))
+sample_calls = (((((tt, tt), (tt, ((tt, tt), ((tt, tt), tt))), tt), tt), (tt, tt), tt), (tt, (tt, (((tt, tt), (tt, tt)), (tt, tt)))))
 
 pub sample_bare : BareBodies macros
 sample_bare = ((tt, tt), tt)
@@ -86,15 +91,32 @@ within inner k = subst (RoutinesStand program actor routine initials) (sym (only
 
 -- ---- the step
 
+-- names that no expression may bind
+abbrev avoided : Word → Bool
+avoided w = is_among (self ∷ variables) w
+
+neither : (a b : Bool) → (a || b) ≡ false → (a ≡ false) × (b ≡ false)
+neither true b h = cc
+neither false b h = (refl, h)
+
+own_apart : (x : Word) → avoided x ≡ false → Apart (owned self own) x
+own_apart x h =
+    let p = neither (bytes_eq self x) (is_among variables x) h in
+    owned_apart self own x (neither (bytes_eq (codes "x") x) (own x) p.1).1 (turned (bytes_eq x self) refl p.0)
+  where
+    turned : (b : Bool) → bytes_eq x self ≡ b → bytes_eq self x ≡ false → bytes_eq x self ≡ false
+    turned true q o = absurd (both_ways (bytes_eq self x) o (eq-name self x (sym (name-true x self q))))
+    turned false q o = q
+
 pub prepared : IsPrepared step
 prepared = record {
   free = λ x at p s. refl;
   does = rules_do program actor routine initials places (λ w. false) (own_scope plain self own scope) refl within;
-  tidy = (tt, (tt, (((tt, tt), (refl, tt), (λ e. tt)), tt)));
-  clean = clear_list plain (owned self own) (settled step.jumps step.here step.exit step.statements) refl;
+  tidy = (tt, (tt, (tt, (((tt, tt), (refl, tt), (λ e. tt)), tt))));
+  clean = clear_list avoided plain (owned self own) (λ x h. apart_clear plain (owned self own) x (own_apart x h)) (settled step.jumps step.here step.exit step.statements) refl;
 }
 
-apart : (A : Names) (xs : List Word) → Each (λ w. A w ≡ false) xs → Apart A xs
+apart : (A : Names) (xs : List Word) → Each (λ w. A w ≡ false) xs → Ready.Apart A xs
 apart A xs h = each_name (λ w. A w ≡ false) xs h
 
 paired : Paired any_name variables plain_scope plain_env
@@ -114,29 +136,35 @@ after_x = more none (codes "x" ∷ [])
 abbrev after_y : Names
 after_y = more after_x (codes "y" ∷ [])
 
+abbrev after_await : Names
+after_await = more after_y []
+
 abbrev after_call : Names
-after_call = more after_y (stack ∷ codes "a" ∷ [])
+after_call = more after_await (stack ∷ codes "a" ∷ [])
 
 abbrev after_b : Names
 after_b = more after_call (codes "b" ∷ [])
 
 settled_step : Settled (is_among variables) (prepared_of step)
-settled_step = ((refl, tt), ((refl, tt), ((((refl, tt), tt), ((refl, (refl, tt)), ((refl, tt), ((refl, tt), tt)))), tt)))
+settled_step = ((refl, tt), ((refl, tt), (tt, ((((refl, tt), tt), ((refl, (refl, tt)), ((refl, tt), ((refl, tt), tt)))), tt))))
 
 pub ready : IsReady any_name variables env none step
 ready = record {
   settled = settled_step;
-  fine = fine_list variables none (prepared_of step) settled_step refl;
+  fine = fine_list avoided variables (λ x m. or_right (bytes_eq self x) (is_among variables x) m) none (λ x e. cc) (prepared_of step) settled_step refl;
   once = (
     apart none (codes "x" ∷ []) (refl, tt),
     (
       apart after_x (codes "y" ∷ []) (refl, tt),
       (
-        (
-          (apart after_y (pc ∷ []) (refl, tt), tt),
-          (apart after_y (stack ∷ codes "a" ∷ []) (refl, (refl, tt)), (apart after_call (codes "b" ∷ []) (refl, tt), (apart after_b (pc ∷ []) (refl, tt), tt))),
-        ),
         tt,
+        (
+          (
+            (apart after_await (pc ∷ []) (refl, tt), tt),
+            (apart after_await (stack ∷ codes "a" ∷ []) (refl, (refl, tt)), (apart after_call (codes "b" ∷ []) (refl, tt), (apart after_b (pc ∷ []) (refl, tt), tt))),
+          ),
+          tt,
+        ),
       ),
     ),
   );

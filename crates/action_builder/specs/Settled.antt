@@ -31,7 +31,7 @@ abbrev mutual
   jumps_some no_branches = false
   jumps_some (or b bs) = jumps b || jumps_some bs
 
--- `here`: the label at which the statement or list stands; l: the label of what follows; rest: what follows, settled
+-- `here`: the label at which the statement or list is; l: the label of what follows; rest: what follows, settled
 abbrev mutual
   pub settled_one : WrittenJumps → Word → Word → Span → Statement → Statements → Statements
   settled_one W here l at (goto m) rest = W.goto m

@@ -39,7 +39,7 @@ steps_of [] = []
 steps_of (sub t ∷ ks) = index ∷ steps_of ks
 steps_of (fixed a ∷ ks) = field a ∷ steps_of ks
 
--- the subscripts, with other trees behind them
+-- the subscripts, with other trees after them
 abbrev pub subscripts : List Key → Trees → Trees
 subscripts [] ts = ts
 subscripts (sub t ∷ ks) ts = tree t (subscripts ks ts)
@@ -121,7 +121,7 @@ nested_items A (is x e bs) b = item (local x.word (primed A e) (nested_items A b
 abbrev pub branch_items : List Word → Place → Items → List Word → List Word → Items
 branch_items vs at body all own = filled at (onto body (unchanged_of (left_of vs all own)))
 
--- vs: all variables, in the order of `vars`; A: those that are assigned already; rest: the items behind
+-- vs: all variables, in the order of `vars`; A: those that are assigned already; rest: the items after
 abbrev mutual
   pub write_one : List Word → Names → Place → Statement → Items → Items
   write_one vs A at (assign ms) rest = settings_of A ms (heads ms) rest

@@ -37,7 +37,6 @@ ghost use Rattle.action_builder.specs.Prepared.{none};
 ghost use Rattle.action_builder.specs.Written.{except_of};
 ghost use Rattle.action_builder.specs.SingleProcess.{in_place_of, graft_items};
 ghost use Rattle.action_builder.specs.laws.Grafts.{ClearItems, IsListed};
-ghost use Rattle.tla_value.specs.laws.FreeNames.{Any};
 ghost use Rattle.tla_value.specs.laws.Places.{AgreeButPlaces, ChecksButPlaces, EnvsButPlaces};
 ghost use Rattle.action_builder.specs.laws.Places.{ItemsButPlaces};
 ghost use Rattle.action_builder.specs.laws.Sample as sample;
@@ -92,7 +91,7 @@ pub fn written_jumps_do_what_the_rules_say()
 /// With the variables of a process written as functions of its identifier, statements take the courses that they
 /// take where these variables are at the identifier; and there they are, read and assigned.
 pub fn own_variables_stand_at_the_identifier()
-    ensures courses { (M : Rules) (self : Word) (own : Word → Bool) (here : Word) (ss : Statements) (sc : Scope) → AnyPlace sc → Clean M.check (owned self own) Any ss → (K : Follow)
+    ensures courses { (M : Rules) (self : Word) (own : Word → Bool) (here : Word) (ss : Statements) (sc : Scope) → AnyPlace sc → Clean M.check (owned self own) ss → (K : Follow)
         → run M here (graft_all (owned self own) ss) sc K ≡ run M here ss (own_scope M.check self own sc) K }
     ensures there { (c : Check) (V : Word → Bool) (self : Word) (v : Value) (own : Word → Bool) (sc : Scope) → Whole V self v own sc → (x : Word) → V x ≡ true
         → ((at : Place) (s : State) → (sc.env s).now x at ≡ just (s x)) → StandsAtPath (own_scope c self own sc) (own_path (own x) v) x }
@@ -108,7 +107,7 @@ pub fn except_makes_the_changes_of_its_parts()
 /// the truth that they have where `self` is the value of the expression, or trouble of the same kind. The expression means
 /// just its value, but for sets that are tested without being listed, and for names and operators, which have theirs.
 pub fn single_processes_have_their_expression_for_self()
-    ensures truth { (c : Check) (self : Word) (e : Tree) (v : Value) (items : Items) → ClearItems c (in_place_of self e) Any items → (s t : Valuation) (env : Env) → eval c e env ≡ just v
+    ensures truth { (c : Check) (self : Word) (e : Tree) (v : Value) (items : Items) → ClearItems c (in_place_of self e) items → (s t : Valuation) (env : Env) → eval c e env ≡ just v
         → AgreeButPlaces (items_hold c s t env (graft_items (in_place_of self e) items)) (items_hold c s t (bind self v env) items) }
     ensures value { (c : Check) (e : Tree) → IsListed e → (env : Env) (v : Value) → (eval c e env).value ≡ Ok v → eval c e env ≡ just v }
 {}
@@ -127,8 +126,8 @@ pub fn written_out_steps_begin_alike()
         → begin l here (expanded ms ss) x ≡ expand_begin (written_out ms) (begin l here ss x) }
 {}
 
-/// The sample step, which has a macro call, an assignment to a variable of its process, a jump and a call, meets all that
-/// these laws ask.
+/// The sample step, which has a macro call, an assignment to a variable of its process, an `await` with a bound name, a jump
+/// and a call, meets all that these laws ask.
 pub fn the_sample_step_meets_all_that_is_asked()
     ensures expanded { Calls (FineCall sample.macros) sample.unexpanded × BareBodies sample.macros }
     ensures jumps { RoutinesStandWithin sample.program sample.actor sample.routine sample.initials sample.step.names (own_scope plain sample.self sample.own sample.scope) }

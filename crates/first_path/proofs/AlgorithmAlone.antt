@@ -1,4 +1,4 @@
--- In a text of the form one algorithm alone stands.
+-- In a text of the form is one algorithm alone.
 use Rattle.std.proofs.Common.{◌≡◌, ℕ, ◌+◌, ◌-◌, Bool, List, Option, Some, length, sym, ap, subst, ◌∙◌}
 use Rattle.tla_token.specs.Tokens.{TokAlgorithm}
 use Rattle.tla_token.proofs.Unique as token
@@ -53,7 +53,7 @@ same_tokens x f l a s =
     let tok = subst (λ (p : Split). TokAlgorithm x (length p.front) (length x - length p.back) s.tokens) same s.tok in
     token.one_algorithm x (length l.split.front) (length x - length l.split.back) s.tokens l.tokens tok l.tok
 
--- what stands there is the form's algorithm
+-- what is there is the form's algorithm
 form_stands : (x : List ℕ) (f : Parts) (l : Laid x f) (a : Algorithm) → Stands x a
     → a ≡ algorithm_of (form_text (places l.tokens) l.plural f)
 form_stands x f l a s =

@@ -162,7 +162,7 @@ some_text q qs (f, h) e = some_part (sound q) (text_of qs) f (front (bytes_of q)
     front [] r e = refl
     front (b ∷ l) r e = absurd cc
 
--- after the last name stands a blank, if the text ends with one
+-- after the last name is a blank, if the text ends with one
 name_last : (k : Kind) (w : List ℕ) → is_named k ≡ true → IsLexeme k w → last_byte w ≡ 10 → ⊥
 name_last (name v) w n (same, (all, any)) e = word_last v all (ap last_byte (sym same) ∙ e)
 name_last _ w n l e = absurd cc

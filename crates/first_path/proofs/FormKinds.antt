@@ -17,7 +17,7 @@ so false o r e = absurd cc
 link : {A : Type 0} {x : A} {xs ys zs : List A} → xs ≡ x ∷ ys → ys ≡ zs → xs ≡ x ∷ zs
 link {x = x} e f = e ∙ ap (λ u. x ∷ u) f
 
--- ---- each reader: what it found stands there, as the facts that `then` is given say
+-- ---- each reader: what it found is there, as the facts that `then` is given say
 
 name_stands : {A C : Type 0} (ks : List Kind) (go : Word → List Kind → Option A) (r : A) → on_name ks go ≡ Some r
     → ((w : Word) (more : List Kind) → ks ≡ name w ∷ more → go w more ≡ Some r → C) → C

@@ -1,4 +1,4 @@
--- The algorithm of the form: its one process, the one label where it stands, and the course of a step from there.
+-- The algorithm of the form: its one process, the one label where it is, and the course of a step from there.
 use Rattle.std.proofs.Common.{◌≡◌, List, [], ◌∷◌, Bool, true, false, ◌||◌, cond, Option, Some, None, codes, bytes_eq, refl, sym, ap, ◌∙◌, subst, inl, inr, Ok}
 use Rattle.tla_token.specs.declared.place.Place.{Place}
 use Rattle.tla_token.proofs.Spelled.{same_bytes}
@@ -100,7 +100,7 @@ module _ (p : Places) (f : Parts) (names : Naming) (values : Valuation) where
 
   -- ---- the label
 
-  -- the process stands nowhere else
+  -- the process is nowhere else
   pub stand_is : (s : State) (d : Stand) → StandsAt program s (actor p f) d → d ≡ stand p f
   stand_is s d (inl e, h, k) =
       (let w = stand_of p f d.routine d.label d.begins e h in λ i. record { routine = e i; label = w.0 i; begins = w.1 i })
@@ -113,7 +113,7 @@ module _ (p : Places) (f : Parts) (names : Naming) (values : Valuation) where
       by true = refl
       by false = ap text h
 
-  -- it stands at the label where pc has its name
+  -- it is at the label where pc has its name
   pub stands_there : (s : State) → Kept f names → s pc ≡ text f.label → StandsAt program s (actor p f) (stand p f)
   stands_there s h e =
       (inl refl, ap (λ b. cond b (Some (begins p f)) None) (word_same f.label), ap (λ (v : Value). Ok v) (e ∙ sym (label_is h)))

@@ -16,7 +16,7 @@ use Rattle.pcal_tree.specs.GrammarP.{sequence}
 use Rattle.pcal_tree.specs.Grammar.{p_syntax, c_syntax, Macro, macro, Procedure, procedure, Fair, unfair, weak, strong, fair, Head, algorithm, fair_algorithm, head, Define, no_define, define_end, define_braces, define, Main, begin, block, processes, each, main, Around, to_end, in_braces, Text, spell, GoodAround, GoodDefine, GoodMain, Good, around, algorithm_of, SpellsP, SpellsC}
 use Rattle.first_path.proofs.OneStatement.{tail, Calmly, one_expression, calm_token, first_sort, first_word, first_place, apart, key_apart, Labelled, sequence_of, same_name, one_sequence}
 
--- ---- what stands after the variables
+-- ---- what is after the variables
 
 -- tokens that begin with a reserved word, which doesn't declare
 record Opened (ts : List Token) : Type 0 where
@@ -64,7 +64,7 @@ fair_apart unfair p q r s e = key_apart p q (codes "process") (codes "begin") r 
 fair_apart (weak a) p q r s e = key_apart a q (codes "fair") (codes "begin") _ s refl refl e
 fair_apart (strong a b) p q r s e = key_apart a q (codes "fair") (codes "begin") _ s refl refl e
 
--- where `begin` is the first, nothing but the statement stands there
+-- where `begin` is the first, nothing but the statement is there
 one_after : (l : Labelled) (q : Place) (d : Define) (ms : List Macro) (ps : List Procedure) (m : Main) → GoodDefine p_syntax d → GoodMain p_syntax m
     → (a b : Place) (r s : List Token)
     → after d ms ps m (key a (codes "end") r) ≡ key q (codes "begin") (sequence (sequence_of l) (key b (codes "end") s))
@@ -106,7 +106,7 @@ one_value k x p a g r s c e =
     let w = one_expression a k.value g k.good r (part.semicolon k.last s) c (calm_token k.last (tk.mark tk.semicolon) s refl) (ap tail (ap tail e)) in
     (d, (λ i. part.equals (q i) (w.0 i)), w.1)
 
--- one variable alone stands before a reserved word
+-- one variable alone is before a reserved word
 one_variables : (k : Declared) (vs : part.Variables) → part.GoodVariables true vs → (r : List Token) → Opened r
     → (q : Place) (w : Word) (s : List Token) → part.variables vs r ≡ part.variables (variables_of k) (key q w s) → (vs ≡ variables_of k) × (r ≡ key q w s)
 one_variables k (part.last_variable x part.unset None) g r o q w s e =

@@ -5,7 +5,7 @@ use Rattle.std.proofs.lemmas.Bool.{both_ways}
 use Rattle.tla_token.specs.declared.place.Place.{Place}
 use Rattle.tla_expr.specs.declared.op.Op.TheVariants as op
 use Rattle.tla_expr.specs.Tree.{Word}
-use Rattle.tla_expr.specs.Lexical.{ExprToken, Token}
+use Rattle.tla_expr.specs.Lexical.{TokenView, Token}
 use Rattle.tla_expr.specs.Lexical as tk
 use Rattle.tla_expr.specs.Spelling.{Phrase, IsGood}
 use Rattle.tla_expr.specs.Spelling as spelled
@@ -30,7 +30,7 @@ pub one_expression : (a b : Phrase) → IsGood a → IsGood b → (r s : List To
     → (a ≡ b) × (r ≡ s)
 one_expression a b ga gb r s cr cs same = one_before 0 a b ga gb r s cr cs same
 
-pub calm_token : (p : Place) (k : ExprToken) (r : List Token) → is_calm k ≡ true → Calmly (token p k r)
+pub calm_token : (p : Place) (k : TokenView) (r : List Token) → is_calm k ≡ true → Calmly (token p k r)
 calm_token p k r h = by (nat_lt 0 p.col) refl
   where
     by : (b : Bool) → nat_lt 0 p.col ≡ b → Calmly (token p k r)
@@ -39,7 +39,7 @@ calm_token p k r h = by (nat_lt 0 p.col) refl
 
 -- ---- first tokens
 
-abbrev pub sort : ExprToken → ℕ
+abbrev pub sort : TokenView → ℕ
 sort (tk.word x) = 1
 sort (tk.reserved w) = 2
 sort (tk.mark tk.colon) = 3
@@ -56,7 +56,7 @@ abbrev pub first_sort : List Token → ℕ
 first_sort [] = 0
 first_sort (t ∷ ts) = sort t.kind
 
-abbrev pub word_of : ExprToken → Word
+abbrev pub word_of : TokenView → Word
 word_of (tk.word x) = x
 word_of (tk.reserved x) = x
 word_of k = []

@@ -20,7 +20,7 @@ use Rattle.module_text.proofs.OneModule.{one_module}
 use Rattle.first_path.proofs.MeansNext.{next_is}
 use Rattle.first_path.proofs.MeansInit.{init_is}
 
--- the translation stands around the text wherever its trees say that they stand
+-- the translation is around the text wherever its trees say that they are
 around : (x : List ℕ) (q : Places) (f : Parts) → IsForm x f → Around x (module_at q f) (translation_of x f)
 around x q f h = record {
   split = _;

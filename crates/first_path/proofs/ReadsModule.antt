@@ -12,7 +12,8 @@ use Rattle.module_text.specs.Around.{begin_line, end_line}
 use Rattle.module_text.specs.Reading.{stretch, sight, Reads}
 use Rattle.module_text.specs.Module.{OutsideUnit, extends}
 use Rattle.module_text.specs.Grammar.{last_name}
-use Rattle.module_text.specs.ModuleTokens.{view, cut}
+use Rattle.tla_expr.specs.TokenViews.{views}
+use Rattle.module_text.specs.UnitCut.{cut}
 use Rattle.module_text.specs.Outside.{Sight, AllOutside}
 use Rattle.first_path.specs.Form.{Parts, IsForm, last_line}
 use Rattle.first_path.specs.Placed.{Places, region_of, module_at, translation_of}
@@ -63,7 +64,7 @@ extends_integers l = extends (record { word = codes "Integers"; place = record {
 
 -- the tokens of the front are one unit
 abbrev IsFront : Place → ℕ → List ℕ → Sight → Type 0
-IsFront p at body v = AllOutside true v (cut (view (tokens_of p at (front_pieces body)))).units (extends_integers p.line ∷ [])
+IsFront p at body v = AllOutside true v (cut (views (tokens_of p at (front_pieces body)))).units (extends_integers p.line ∷ [])
 
 front_at : (l at : ℕ) (body : List ℕ) (v : Sight) → IsFront (record { line = l; col = 1 }) at body v
 unfolding front_pieces

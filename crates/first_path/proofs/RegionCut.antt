@@ -4,23 +4,18 @@ use Rattle.std.specs.List.{list_all}
 use Rattle.std.proofs.lemmas.Bool.{and_parts, ltb-true, not-true}
 use Rattle.tla_token.specs.declared.place.Place.{Place}
 use Rattle.tla_token.specs.Places.{after}
-use Rattle.tla_token.specs.Lexemes.{is_word, is_letter, is_digit}
 use Rattle.tla_token.specs.Lexemes as lexeme
 use Rattle.tla_token.specs.Tokens.{Piece, blank, block, line, lexeme, bytes_of, tokens_of}
 use Rattle.tla_token.specs.Words.{is_reserved}
 use Rattle.tla_token.proofs.Signed.{tells_apart}
 use Rattle.tla_expr.specs.Tree.{Word}
 use Rattle.tla_expr.specs.Lexical as tk
-use Rattle.module_text.specs.Grammar.{Kind, seen, Token}
+use Rattle.tla_expr.specs.Lexical.{TokenView, Token}
+use Rattle.tla_expr.specs.TokenViews.{kind_of, views}
 use Rattle.module_text.specs.Reading.{is_small, AllSmall}
-use Rattle.module_text.specs.ModuleTokens.{kind_of, word_kind, view, is_starter, is_dash, begins_run, is_within, begins_unit, Cut, cut_at, cut_after}
+use Rattle.module_text.specs.UnitCut.{is_starter, is_dash, begins_run, is_within, begins_unit, Cut, cut_at, cut_after}
 use Rattle.first_path.proofs.StandsTokens.{word_is}
 use Rattle.first_path.proofs.RegionBytes.{is_inline, all_inline, small_kind, all_small}
-
--- ---- a name that is not reserved is a word
-
-seen_name : (w : Word) → is_reserved w ≡ false → kind_of (lexeme.name w) ≡ seen (tk.word w)
-seen_name w h = ap (λ k. word_kind k w) (word_is w h)
 
 -- ---- places: lines, and columns within them
 
@@ -39,7 +34,7 @@ after_inline n c (b ∷ w) h =
 
 -- ---- the tokens of pieces
 
-abbrev pub tok : ℕ → ℕ → Kind → Token
+abbrev pub tok : ℕ → ℕ → TokenView → Token
 tok n c k = record { kind = k; place = put n c }
 
 -- these are the tokens of the pieces, which begin in line n and column c
@@ -51,19 +46,19 @@ Stand n c (lexeme k bytes ∷ ps) (t ∷ ts) = (tok n c (kind_of k) ≡ t) × St
 Stand n c (p ∷ ps) ts = ⊥
 
 -- a name that is not reserved, as a token
-pub name_token : (n c : ℕ) (w : Word) → is_reserved w ≡ false → tok n c (kind_of (lexeme.name w)) ≡ tok n c (seen (tk.word w))
-name_token n c w h = ap (tok n c) (seen_name w h)
+pub name_token : (n c : ℕ) (w : Word) → is_reserved w ≡ false → tok n c (kind_of (lexeme.name w)) ≡ tok n c (tk.word w)
+name_token n c w h = ap (tok n c) (word_is w h)
 
--- what stands there is what is cut from the text
-pub stand_is : (n c at : ℕ) (ps : List Piece) (ts : List Token) → all_inline ps ≡ true → Stand n c ps ts → view (tokens_of (put n c) at ps) ≡ ts
+-- what is there is what is cut from the text
+pub stand_is : (n c at : ℕ) (ps : List Piece) (ts : List Token) → all_inline ps ≡ true → Stand n c ps ts → views (tokens_of (put n c) at ps) ≡ ts
 stand_is n c at [] ts h s = s
 stand_is n c at (blank b ∷ ps) ts h s =
     let p = and_parts (not (nat_eq b 9)) (all_inline ps) h in
     by (nat_eq b 10) refl (not-true (nat_eq b 9) p.0) (stand_is (n + 1) 1 (at + 1) ps ts p.1) (stand_is n (c + 1) (at + 1) ps ts p.1) s
   where
-    by : (k : Bool) → nat_eq b 10 ≡ k → nat_eq b 9 ≡ false → (Stand (n + 1) 1 ps ts → view (tokens_of (put (n + 1) 1) (at + 1) ps) ≡ ts)
-        → (Stand n (c + 1) ps ts → view (tokens_of (put n (c + 1)) (at + 1) ps) ≡ ts) → MatchBool k (Stand (n + 1) 1 ps ts) (Stand n (c + 1) ps ts)
-        → view (tokens_of (put n c) at (blank b ∷ ps)) ≡ ts
+    by : (k : Bool) → nat_eq b 10 ≡ k → nat_eq b 9 ≡ false → (Stand (n + 1) 1 ps ts → views (tokens_of (put (n + 1) 1) (at + 1) ps) ≡ ts)
+        → (Stand n (c + 1) ps ts → views (tokens_of (put n (c + 1)) (at + 1) ps) ≡ ts) → MatchBool k (Stand (n + 1) 1 ps ts) (Stand n (c + 1) ps ts)
+        → views (tokens_of (put n c) at (blank b ∷ ps)) ≡ ts
     by true e o go stay s = rw e (go s)
     by false e o go stay s = rw (e, o) (stay s)
 stand_is n c at (block body ∷ ps) ts h s = absurd s
@@ -115,7 +110,7 @@ turned true false c d h = rw h refl
 turned false true c d h = rw h refl
 turned false false c d h = rw h refl
 
--- without dashes a unit begins just where a starter stands in column 1
+-- without dashes a unit begins just where a starter is in column 1
 pub cut_is : (before : Option Token) (ts : List Token) → dashless ts ≡ true → cut_after before ts ≡ parted ts
 cut_is before [] h = refl
 cut_is before (t ∷ ts) h =

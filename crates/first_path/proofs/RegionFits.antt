@@ -1,4 +1,4 @@
--- Each lexeme of a translation is the longest that stands there.
+-- Each lexeme of a translation is the longest that is there.
 use Rattle.std.proofs.Common.{◌≡◌, ℕ, ◌<◌, Bool, true, false, nat_eq, nat_le, not, List, [], ◌∷◌, ◌++◌, length, Some, refl, ap, subst, ◌∙◌, arith, append_assoc, append-nil, IsTrue}
 use Rattle.std.specs.Prelude.{codes}
 use Rattle.std.specs.List.{list_all, list_any, starts_with}
@@ -37,7 +37,7 @@ fits_found x b m rest e found =
 
 -- ---- names
 
--- the text ends here, or a byte stands here that is of no word
+-- the text ends here, or a byte is here that is of no word
 abbrev ends_word : List ℕ → Bool
 ends_word [] = true
 ends_word (b ∷ bs) = not (is_word b)
@@ -181,7 +181,7 @@ vars_fine f v h =
 
 -- ---- brackets
 
--- whether a star stands first: after `(` it would begin a comment
+-- whether a star is first: after `(` it would begin a comment
 abbrev star : List ℕ → Bool
 star bytes = starts_with nat_eq bytes (42 ∷ [])
 

@@ -6,12 +6,13 @@ use Rattle.tla_token.specs.Tokens.{Piece}
 use Rattle.tla_expr.specs.declared.op.Op.TheVariants as op
 use Rattle.tla_expr.specs.Tree.{Word, Tree}
 use Rattle.tla_expr.specs.Tree as tree
-use Rattle.tla_expr.specs.Spelling.{Phrase, Right, Good, head, is_primary}
+use Rattle.tla_expr.specs.Spelling.{Phrase}
 use Rattle.tla_expr.specs.Spelling as spelled
 use Rattle.module_text.specs.Module.{RegionUnit, call, one_way, variables_unit, vars_unit, init_unit, terminating_unit, next_unit, spec_unit, termination_unit}
-use Rattle.module_text.specs.Grammar.{Token, last_name, more_names, call_form, one_form}
+use Rattle.tla_expr.specs.Lexical.{Token}
+use Rattle.module_text.specs.Grammar.{last_name, more_names, call_form, one_form}
 use Rattle.module_text.specs.Units.{UnitForm, spell_unit, unit_of, GoodUnit, IsUnit, variables_form, vars_form, init_form, terminating_form, next_form, spec_form, steps_line, termination_form}
-use Rattle.module_text.specs.ModuleTokens.{Cut}
+use Rattle.module_text.specs.UnitCut.{Cut}
 use Rattle.module_text.specs.Reading.{AllAre}
 use Rattle.first_path.specs.Form.{Parts}
 use Rattle.first_path.specs.Placed.{leaf, infix_of, is_at}
@@ -60,7 +61,7 @@ not_first c h = ne_eqb c 1 (λ e. omega arith)
 abbrev pub pc : Word
 pc = codes "pc"
 
--- the column after a comma and a blank, after the name v that stands in column 11
+-- the column after a comma and a blank, after the name v that is in column 11
 abbrev second_name : Word → ℕ
 second_name v = 11 + length v + 1 + 1
 

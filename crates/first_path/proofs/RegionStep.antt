@@ -7,12 +7,13 @@ use Rattle.tla_token.specs.Tokens.{Piece}
 use Rattle.tla_expr.specs.declared.op.Op.TheVariants as op
 use Rattle.tla_expr.specs.Tree.{Word, Tree}
 use Rattle.tla_expr.specs.Tree as tree
-use Rattle.tla_expr.specs.Spelling.{Phrase, Right, Good, head, is_primary}
+use Rattle.tla_expr.specs.Spelling.{Phrase, Right, spell, tree_of}
 use Rattle.tla_expr.specs.Spelling as spelled
 use Rattle.module_text.specs.Module.{RegionUnit, test, setting, no_items, item, all_of, action_unit}
-use Rattle.module_text.specs.Grammar.{Token, phrase, ItemForm, spell_list, tree_of, GoodOperand, test_form, setting_form, last_item, more_items}
+use Rattle.tla_expr.specs.Lexical.{Token}
+use Rattle.module_text.specs.Grammar.{ItemForm, spell_list, GoodOperand, test_form, setting_form, last_item, more_items}
 use Rattle.module_text.specs.Units.{UnitForm, all_form, action_form}
-use Rattle.module_text.specs.ModuleTokens.{Cut}
+use Rattle.module_text.specs.UnitCut.{Cut}
 use Rattle.first_path.specs.Form.{Operand, number_operand, variable_operand, single, sum, Parts}
 use Rattle.first_path.specs.Form as form
 use Rattle.first_path.specs.Placed.{leaf, right_tree, is_at}
@@ -22,7 +23,7 @@ use Rattle.first_path.proofs.Pieces.{Pieces, sp, nl, right, variables_pieces, va
 use Rattle.first_path.proofs.RegionCut.{put, Stand, name_token, parted, dashless}
 use Rattle.first_path.proofs.RegionForms.{Reached, one_more, not_first, pc, at_phrase, done}
 
--- ---- the right side of the assignment, whose first token stands in line n and column c
+-- ---- the right side of the assignment, whose first token is in line n and column c
 
 abbrev operand_length : Word → Operand → ℕ
 operand_length v (number_operand i) = length (decimal i)
@@ -60,7 +61,7 @@ right_tree_is n c v (sum variable_operand (number_operand j)) = refl
 right_tree_is n c v (sum variable_operand variable_operand) = refl
 
 right_stands : (n c : ℕ) (v : Word) (x : form.Right) (ps : List Piece) (ts : List Token) → is_reserved v ≡ false
-    → Stand (n + 1) 1 ps ts → Stand n c (right v x (nl ps)) (phrase (right_phrase n c v x) ts)
+    → Stand (n + 1) 1 ps ts → Stand n c (right v x (nl ps)) (spell (right_phrase n c v x) ts)
 right_stands n c v (single (number_operand i)) ps ts h s = (refl, s)
 right_stands n c v (single variable_operand) ps ts h s = (name_token n c v h, s)
 right_stands n c v (sum (number_operand i) (number_operand j)) ps ts h s = (refl, (refl, (refl, (refl, (refl, s)))))
@@ -74,7 +75,7 @@ abbrev onto : (List Token → List Token) → Cut → Cut
 onto g c = record { front = g c.front; units = c.units }
 
 right_cuts : (n c : ℕ) (v : Word) (x : form.Right) → 3 < c → (ts : List Token)
-    → parted (phrase (right_phrase n c v x) ts) ≡ onto (phrase (right_phrase n c v x)) (parted ts)
+    → parted (spell (right_phrase n c v x) ts) ≡ onto (spell (right_phrase n c v x)) (parted ts)
 right_cuts n c v (single (number_operand i)) h ts = refl
 right_cuts n c v (single variable_operand) h ts = rw (not_first c (omega arith)) refl
 right_cuts n c v (sum (number_operand i) (number_operand j)) h ts = refl
@@ -83,7 +84,7 @@ right_cuts n c v (sum variable_operand (number_operand j)) h ts = rw (not_first 
 right_cuts n c v (sum variable_operand variable_operand) h ts =
     rw (not_first (c + 1) (omega arith), not_first (second_operand v variable_operand c) (omega arith)) refl
 
-right_plain : (n c : ℕ) (v : Word) (x : form.Right) (ts : List Token) → dashless (phrase (right_phrase n c v x) ts) ≡ dashless ts
+right_plain : (n c : ℕ) (v : Word) (x : form.Right) (ts : List Token) → dashless (spell (right_phrase n c v x) ts) ≡ dashless ts
 right_plain n c v (single (number_operand i)) ts = refl
 right_plain n c v (single variable_operand) ts = refl
 right_plain n c v (sum (number_operand i) (number_operand j)) ts = refl
@@ -115,11 +116,11 @@ right_good n c v (sum a b) h =
 abbrev defined_column : Word → ℕ
 defined_column l = 1 + length l + 1
 
--- after the quoted label, which stands in column 12
+-- after the quoted label, which is in column 12
 abbrev closing_column : Word → ℕ
 closing_column l = 12 + length (34 ∷ (l ++ 34 ∷ []))
 
--- the sign `=` after the primed variable, which stands in column 6
+-- the sign `=` after the primed variable, which is in column 6
 abbrev set_column : Word → ℕ
 set_column v = 6 + length v + 1 + 1
 

@@ -4,7 +4,8 @@ use Rattle.tla_token.specs.declared.place.Place.{Place}
 use Rattle.tla_token.specs.Tokens.{tokens_of}
 use Rattle.module_text.specs.Module.{units_of}
 use Rattle.module_text.specs.Units.{IsUnit}
-use Rattle.module_text.specs.ModuleTokens.{Cut, view, cut}
+use Rattle.tla_expr.specs.TokenViews.{views}
+use Rattle.module_text.specs.UnitCut.{Cut, cut}
 use Rattle.module_text.specs.Reading.{AllAre, AllSmall}
 use Rattle.first_path.specs.Form.{Parts, is_fit}
 use Rattle.first_path.specs.Placed.{Places, region_at}
@@ -66,13 +67,13 @@ all_reached n f h =
 
 pub record AreUnits (f : Parts) (p : Place) (at : ℕ) (q : Places) : Type 0 where
   pub small : AllSmall (tokens_of p at (region_pieces f))
-  pub no_front : (cut (view (tokens_of p at (region_pieces f)))).front ≡ []
-  pub units : AllAre IsUnit (cut (view (tokens_of p at (region_pieces f)))).units (units_of (region_at q f))
+  pub no_front : (cut (views (tokens_of p at (region_pieces f)))).front ≡ []
+  pub units : AllAre IsUnit (cut (views (tokens_of p at (region_pieces f)))).units (units_of (region_at q f))
 
 at_line : (n at : ℕ) (f : Parts) → Fit f → AreUnits f (put n 1) at (places_from n f)
 at_line n at f h =
     let b = all_reached n f h in
-    let e : cut (view (tokens_of (put n 1) at (region_pieces f))) ≡ parted b.tokens =
+    let e : cut (views (tokens_of (put n 1) at (region_pieces f))) ≡ parted b.tokens =
     ap cut (stand_is n 1 at (region_pieces f) b.tokens (region_inline f h) b.stand) ∙ cut_is None b.tokens b.plain in
     record {
       small = small_tokens (put n 1) at (region_pieces f) (region_small f h);

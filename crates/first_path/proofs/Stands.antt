@@ -1,4 +1,4 @@
--- The algorithm of a text of the form stands in it, and no labels are added to it.
+-- The algorithm of a text of the form is in it, and no labels are added to it.
 use Rattle.std.proofs.Common.{◌≡◌, ℕ, ◌+◌, ◌-◌, Bool, true, false, ◌&&◌, ◌||◌, not, nat_eq, List, [], ◌∷◌, ◌++◌, length, map, Option, Some, inl, inr, if◌then◌else◌, refl, sym, ap, subst, ◌∙◌, codes, append_assoc, length-append}
 use Rattle.std.specs.List.{list_all}
 use Rattle.std.specs.Str.{bytes_eq}
@@ -200,7 +200,7 @@ declared_word w h =
       | inr e ↦ (false, same_bytes w (codes "variable") e)
     ]
 
--- ---- the algorithm stands in the text
+-- ---- the algorithm is in the text
 
 regrouped : (a m b d g s : Text) → a ++ (m ++ (b ++ (d ++ (g ++ s)))) ≡ ((a ++ m) ++ b) ++ (d ++ g) ++ s
 regrouped a m b d g s = simp append_assoc

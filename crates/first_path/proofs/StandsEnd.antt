@@ -24,7 +24,7 @@ use Rattle.first_path.proofs.Lines.{word_no_blank, word_over, first_more, name_s
 
 -- ---- words
 
--- another word than w stands here
+-- another word than w is here
 other_whole : (w m r : Text) → list_all is_word w ≡ true → list_all is_word m ≡ true → first_is is_word r ≡ false → bytes_eq w m ≡ false
     → past_whole w (m ++ r) ≡ None
 other_whole w m r a b k e = by (begins (m ++ r) w) refl

@@ -12,9 +12,9 @@ use Rattle.tla_token.specs.Tokens.{Piece, blank, block, line, lexeme, tokens_of}
 use Rattle.tla_token.specs.Tokens as text
 use Rattle.tla_expr.specs.declared.op.Op.TheVariants as op
 use Rattle.tla_expr.specs.Tree.{Word}
-use Rattle.tla_expr.specs.Lexical.{ExprToken}
+use Rattle.tla_expr.specs.Lexical.{TokenView}
 use Rattle.tla_expr.specs.Lexical as tk
-use Rattle.tla_expr.specs.ExprTokens.{word_kind, word_kinds, kind_among}
+use Rattle.tla_expr.specs.TokenViews.{word_kind, word_kinds, kind_among}
 use Rattle.tla_expr.specs.Spelling.{Phrase}
 use Rattle.tla_expr.specs.Spelling as spelled
 use Rattle.pcal_tree.specs.AlgorithmTokens.{views}
@@ -46,7 +46,7 @@ abbrev pub places : List text.Token → Places
 places ts = nth (map (λ t. t.place) ts)
 
 -- tokens of these kinds in these places
-abbrev pub placed : Places → List ExprToken → List tk.Token
+abbrev pub placed : Places → List TokenView → List tk.Token
 placed p [] = []
 placed p (k ∷ ks) = record { kind = k; place = p 0 } ∷ placed (λ n. p (suc n)) ks
 
@@ -59,7 +59,7 @@ views_placed (t ∷ ts) = ap (λ (us : List tk.Token). view.view t ∷ us) (view
 among_less : (us vs : List Word) (w : Word) → is_among vs w ≡ false → list_all (is_among vs) us ≡ true → is_among us w ≡ false
 among_less us vs w h k = false_from_ne_true (is_among us w) (λ e. both_ways (is_among vs w) h (among_holds (is_among vs) us w e k))
 
-none_among : (ps : List (Word × ExprToken)) (w : Word) (k : ExprToken) → is_among (map (λ p. p.0) ps) w ≡ false → kind_among ps w k ≡ k
+none_among : (ps : List (Word × TokenView)) (w : Word) (k : TokenView) → is_among (map (λ p. p.0) ps) w ≡ false → kind_among ps w k ≡ k
 none_among [] w k h = refl
 none_among (p ∷ ps) w k h =
     let both = or_parts (bytes_eq p.0 w) (is_among (map (λ p. p.0) ps) w) h in
@@ -76,23 +76,23 @@ word_is w h =
     (none_among word_kinds w (tk.word w) (among_less (map (λ p. p.0) word_kinds) tla_words w u.tla_words refl))
   where
     by : (p t : Bool) → p ≡ false → t ≡ false → kind_among word_kinds w (tk.word w) ≡ tk.word w
-        → (if p then tk.reserved w else kind_among word_kinds w (if t then tk.other else tk.word w)) ≡ tk.word w
+        → (if p then tk.reserved w else kind_among word_kinds w (if t then tk.other w else tk.word w)) ≡ tk.word w
     by false false e f r = r
     by false true e f r = absurd cc
     by true t e f r = absurd cc
 
 -- ---- the spelling
 
-abbrev seen_operand : Word → Operand → ExprToken
+abbrev seen_operand : Word → Operand → TokenView
 seen_operand v (number_operand n) = tk.number n
 seen_operand v variable_operand = tk.word v
 
-abbrev seen_right : Word → Right → List ExprToken → List ExprToken
+abbrev seen_right : Word → Right → List TokenView → List TokenView
 seen_right v (single a) ks = seen_operand v a ∷ ks
 seen_right v (sum a b) ks = seen_operand v a ∷ tk.sign op.Plus ∷ seen_operand v b ∷ ks
 
 -- the kinds after `--algorithm`, as the grammar sees them
-abbrev seen_kinds : Word → Parts → List ExprToken
+abbrev seen_kinds : Word → Parts → List TokenView
 seen_kinds w f =
     tk.word f.algorithm ∷ tk.reserved w ∷ tk.word f.variable ∷ tk.sign op.Equal ∷ tk.number f.initial ∷ tk.mark tk.semicolon
     ∷ tk.reserved (codes "begin") ∷ tk.word f.label ∷ tk.mark tk.colon ∷ tk.word f.variable ∷ tk.mark tk.assigns
@@ -108,7 +108,7 @@ operand_seen : (v : Word) (a : Operand) → is_reserved v ≡ false → view.kin
 operand_seen v (number_operand n) h = refl
 operand_seen v variable_operand h = kind_is v h
 
-right_seen : (v : Word) (r : Right) (ks : List Kind) (js : List ExprToken) → is_reserved v ≡ false → map view.kind_of ks ≡ js
+right_seen : (v : Word) (r : Right) (ks : List Kind) (js : List TokenView) → is_reserved v ≡ false → map view.kind_of ks ≡ js
     → map view.kind_of (right_kinds v r ks) ≡ seen_right v r js
 right_seen v (single a) ks js h e = same_cons (operand_seen v a h) e
 right_seen v (sum a b) ks js h e = same_cons (operand_seen v a h) (same_cons refl (same_cons (operand_seen v b h) e))

@@ -63,7 +63,7 @@ pub kinds_gap : (gap : List ℕ) (ps : List Piece) → kinds_of (map blank gap +
 kinds_gap [] ps = refl
 kinds_gap (b ∷ gap) ps = kinds_gap gap ps
 
--- the pieces begin with blanks and then a lexeme of the kind k; more stand after
+-- the pieces begin with blanks and then a lexeme of the kind k; more are after
 pub record First (k : Kind) (ks : List Kind) (ps : List Piece) : Type 0 where
   pub gap : List ℕ
   pub is_gap : list_all is_blank gap ≡ true

@@ -126,7 +126,7 @@ module _ (p q : Places) where
       ends : (k : Trouble) → Err k ≡ Ok (ended worked_parts at_first (int (pos 1))) → ⊥
       ends k e = absurd cc
 
-  -- at the end it stands at no label
+  -- at the end it is at no label
   pub last_sound : Sound P at_last
   last_sound = never_bad at_last (λ k there has. elsewhere (there_stands p worked_parts names no_more_constants at_last kept there))
     where

@@ -31,7 +31,7 @@ use Rattle.first_path.proofs.RegionText.{region_is}
 use Rattle.first_path.proofs.RegionFits.{region_fits}
 use Rattle.first_path.proofs.RegionBytes.{is_inline, all_inline, region_inline}
 
--- ---- no star stands in the translation
+-- ---- no star is in the translation
 
 abbrev no_star : ℕ → Bool
 no_star b = not (nat_eq b 42)

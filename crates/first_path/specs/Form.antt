@@ -47,7 +47,7 @@ abbrev pub is_small_right : Right → Bool
 is_small_right (single a) = is_small_operand a
 is_small_right (sum a b) = is_small_operand a && is_small_operand b
 
--- the names may stand where they do, and no number is past `2^127 - 1`
+-- the names may be where they are, and no number is past `2^127 - 1`
 abbrev pub is_fit : Parts → Bool
 is_fit f =
     is_name f.title && not (is_reserved f.title) && is_free f.algorithm && is_free f.variable && is_small f.initial && is_free f.label

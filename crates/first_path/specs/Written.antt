@@ -5,7 +5,7 @@ use Rattle.first_path.specs.Form.{Parts, IsForm}
 use Rattle.first_path.specs.Placed.{translation_of}
 use Rattle.promise.specs.Headline.{Stands, Headline}
 
--- w is the text x with its translation, to the byte, and keeps the promise for the one algorithm that stands in x
+-- w is the text x with its translation, to the byte, and keeps the promise for the one algorithm that is in x
 pub record Written (x w : List ℕ) : Type 0 where
   pub parts : Parts
   pub form : IsForm x parts

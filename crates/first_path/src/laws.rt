@@ -29,8 +29,8 @@ pub fn offences_are_of_other_texts()
 
 /// What is written for a text of the form reads as one module alone, lies around the text, and where no
 /// expression that is reached faults its Next and Init are true exactly of the steps and initial states of the
-/// algorithm that stands in the text. This algorithm and this module are those of the form's parts, wherever
-/// their tokens stand.
+/// algorithm that is in the text. This algorithm and this module are those of the form's parts, wherever
+/// their tokens are.
 pub fn translations_keep_the_promise()
     ensures promise { (x : List ℕ) (f : Parts) → IsForm x f → Headline false x (translation_of x f) }
     ensures algorithm { (x : List ℕ) (f : Parts) → IsForm x f → (p : Places) × Stands x (algorithm_at p f) }
@@ -38,7 +38,7 @@ pub fn translations_keep_the_promise()
 {}
 
 /// The premises of the promise can be met, and neither of its sides is empty: the worked module is of the form, and
-/// wherever its tokens stand its algorithm has constants, begins in a sound state, steps from it, and is done in
+/// wherever its tokens are its algorithm has constants, begins in a sound state, steps from it, and is done in
 /// another, sound too. It doesn't begin in that one, and doesn't stay where it begins.
 pub fn some_module_steps()
     ensures form { IsForm worked_text worked_parts }
@@ -53,7 +53,7 @@ pub fn some_module_steps()
     ensures no_step { (p q : Places) → Step (worked_program p q) at_first at_first ⊎ Stutters (worked_program p q) at_first at_first → ⊥ }
 {}
 
-/// The algorithm that stands in a text of the form is one alone.
+/// The algorithm that is in a text of the form is one alone.
 pub fn one_algorithm_stands()
     ensures { (x : List ℕ) (f : Parts) → IsForm x f → (a b : Algorithm) → Stands x a → Stands x b → a ≡ b }
 {}

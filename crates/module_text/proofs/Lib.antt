@@ -1,5 +1,4 @@
 pub mod OneRegion
-pub mod OnePhrase
 pub mod OneItem
 pub mod OneWay
 pub mod OneUnit

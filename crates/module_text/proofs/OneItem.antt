@@ -5,39 +5,39 @@ use Rattle.tla_token.specs.declared.place.Place.{Place}
 use Rattle.tla_token.specs.Places.{start}
 use Rattle.tla_expr.specs.declared.op.Op.TheVariants as op
 use Rattle.tla_expr.specs.Tree.{Word, Name, words}
-use Rattle.tla_expr.specs.Lexical.{ExprToken, mark, sign, key}
+use Rattle.tla_expr.specs.Lexical.{TokenView, Token, token, mark, sign, key}
 use Rattle.tla_expr.specs.Lexical as tk
-use Rattle.tla_expr.specs.Spelling.{Right}
+use Rattle.tla_expr.specs.Spelling.{Right, tree_of}
 use Rattle.tla_expr.proofs.ReadStops.{is_calm, Calm, calm_right}
 use Rattle.module_text.specs.Module.{test, setting, unchanged, exists, local, if_then_else, either, no_items, item, no_branches, branch}
-use Rattle.module_text.specs.Grammar.{Token, Kind, seen, keyword, see, Names, last_name, more_names, spell_names, names_of, words_of, tree_of, ItemForm, test_form, setting_form, unchanged_form, exists_form, local_form, choice_form, either_form}
+use Rattle.module_text.specs.Grammar.{see, Names, last_name, more_names, spell_names, names_of, words_of, ItemForm, test_form, setting_form, unchanged_form, exists_form, local_form, choice_form, either_form}
 use Rattle.module_text.specs.Grammar.{ListForm, last_item, more_items, BranchForms, last_branch, more_branches, spell_item, spell_list, spell_branches, item_of, items_of, branches_of, list_column, branch_column, GoodItem, GoodList, GoodBranches}
-use Rattle.module_text.proofs.OnePhrase.{lowered, one_phrase}
+use Rattle.tla_expr.proofs.ReadAll.{one_before}
 
 -- ---- the first token
 abbrev pub tail : List Token → List Token
 tail [] = []
 tail (t ∷ ts) = ts
 
-abbrev pub sort : Kind → ℕ
-sort (seen (mark tk.open_bracket)) = 1
-sort (seen (tk.word x)) = 2
-sort (seen (sign op.And)) = 3
-sort (seen (sign op.Or)) = 4
-sort (seen (key tk.exists_key)) = 5
-sort (seen (key tk.let_key)) = 6
-sort (seen (key tk.if_key)) = 7
-sort (seen (key tk.for_all_key)) = 8
-sort (seen (mark tk.comma)) = 9
-sort (keyword w) = 10
+abbrev pub sort : TokenView → ℕ
+sort (mark tk.open_bracket) = 1
+sort (tk.word x) = 2
+sort (sign op.And) = 3
+sort (sign op.Or) = 4
+sort (key tk.exists_key) = 5
+sort (key tk.let_key) = 6
+sort (key tk.if_key) = 7
+sort (key tk.for_all_key) = 8
+sort (mark tk.comma) = 9
+sort (tk.other w) = 10
 sort k = 0
 
 abbrev pub first_sort : List Token → ℕ
 first_sort [] = 0
 first_sort (t ∷ ts) = sort t.kind
 
-abbrev pub word_of : Kind → Word
-word_of (seen (tk.word x)) = x
+abbrev pub word_of : TokenView → Word
+word_of (tk.word x) = x
 word_of k = []
 
 abbrev pub first_word : List Token → Word
@@ -81,40 +81,40 @@ one_names ns ms r s c d same = (let w = placed_names ns ms r s c d same in (ap w
 
 -- ---- calm tokens
 
-pub calm_at : (e : ℕ) (p : Place) (k : ExprToken) (r : List Token) → Right e p → is_calm k ≡ true → Calm e (lowered (see p k r))
+pub calm_at : (e : ℕ) (p : Place) (k : TokenView) (r : List Token) → Right e p → is_calm k ≡ true → Calm e ((see p k r))
 calm_at e p k r g c = rw g c
 
 -- a token in the column of the edge goes on nothing
-pub bullet_calm : (c : ℕ) (t : Token) (ts : List Token) → t.place.col ≡ c → Calm c (lowered (t ∷ ts))
+pub bullet_calm : (c : ℕ) (t : Token) (ts : List Token) → t.place.col ≡ c → Calm c ((t ∷ ts))
 bullet_calm c t ts h = (let g : nat_lt c t.place.col ≡ false = le-ltb c t.place.col (omega arith) in rw g refl)
 
-pub list_calm : (c : ℕ) (is : ListForm) → GoodList c is → (r : List Token) → Calm c (lowered (spell_list is r))
-list_calm c (last_item p i) g r = bullet_calm c (record { kind = seen (sign op.And); place = p }) (spell_item i r) g.0
-list_calm c (more_items p i is) g r = bullet_calm c (record { kind = seen (sign op.And); place = p }) (spell_item i (spell_list is r)) g.0
+pub list_calm : (c : ℕ) (is : ListForm) → GoodList c is → (r : List Token) → Calm c ((spell_list is r))
+list_calm c (last_item p i) g r = bullet_calm c (token p (sign op.And)) (spell_item i r) g.0
+list_calm c (more_items p i is) g r = bullet_calm c (token p (sign op.And)) (spell_item i (spell_list is r)) g.0
 
-branches_calm : (c : ℕ) (bs : BranchForms) → GoodBranches c bs → (r : List Token) → Calm c (lowered (spell_branches bs r))
-branches_calm c (last_branch p is) g r = bullet_calm c (record { kind = seen (sign op.Or); place = p }) (spell_list is r) g.0
-branches_calm c (more_branches p is bs) g r = bullet_calm c (record { kind = seen (sign op.Or); place = p }) (spell_list is (spell_branches bs r)) g.0
+branches_calm : (c : ℕ) (bs : BranchForms) → GoodBranches c bs → (r : List Token) → Calm c ((spell_branches bs r))
+branches_calm c (last_branch p is) g r = bullet_calm c (token p (sign op.Or)) (spell_list is r) g.0
+branches_calm c (more_branches p is bs) g r = bullet_calm c (token p (sign op.Or)) (spell_list is (spell_branches bs r)) g.0
 
 -- a bullet right of the edge isn't calm
-bullet_stirs : (e c : ℕ) (p : Place) (ts : List Token) → nat_lt e c ≡ true → p.col ≡ c → Calm e (lowered (see p (sign op.And) ts)) → ⊥
+bullet_stirs : (e c : ℕ) (p : Place) (ts : List Token) → nat_lt e c ≡ true → p.col ≡ c → Calm e ((see p (sign op.And) ts)) → ⊥
 bullet_stirs e c p ts l h k = (let g : nat_lt e p.col ≡ true = ap (λ (n : ℕ). nat_lt e n) h ∙ l in both_ways false refl (rw g at k))
 
-branch_stirs : (e c : ℕ) (p : Place) (ts : List Token) → nat_lt e c ≡ true → p.col ≡ c → Calm e (lowered (see p (sign op.Or) ts)) → ⊥
+branch_stirs : (e c : ℕ) (p : Place) (ts : List Token) → nat_lt e c ≡ true → p.col ≡ c → Calm e ((see p (sign op.Or) ts)) → ⊥
 branch_stirs e c p ts l h k = (let g : nat_lt e p.col ≡ true = ap (λ (n : ℕ). nat_lt e n) h ∙ l in both_ways false refl (rw g at k))
 
-no_list_after : (e c : ℕ) (is : ListForm) (r s : List Token) → nat_lt e c ≡ true → GoodList c is → Calm e (lowered r) → r ≡ spell_list is s → ⊥
+no_list_after : (e c : ℕ) (is : ListForm) (r s : List Token) → nat_lt e c ≡ true → GoodList c is → Calm e r → r ≡ spell_list is s → ⊥
 no_list_after e c (last_item p i) r s l g k same = bullet_stirs e c p (spell_item i s) l g.0
-    (subst (λ (ts : List Token). Calm e (lowered ts)) same k)
+    (subst (λ (ts : List Token). Calm e ts) same k)
 no_list_after e c (more_items p i is) r s l g k same = bullet_stirs e c p (spell_item i (spell_list is s)) l g.0
-    (subst (λ (ts : List Token). Calm e (lowered ts)) same k)
+    (subst (λ (ts : List Token). Calm e ts) same k)
 
-no_branch_after : (e c : ℕ) (bs : BranchForms) (r s : List Token) → nat_lt e c ≡ true → GoodBranches c bs → Calm e (lowered r)
+no_branch_after : (e c : ℕ) (bs : BranchForms) (r s : List Token) → nat_lt e c ≡ true → GoodBranches c bs → Calm e r
     → r ≡ spell_branches bs s → ⊥
 no_branch_after e c (last_branch p is) r s l g k same = branch_stirs e c p (spell_list is s) l g.0
-    (subst (λ (ts : List Token). Calm e (lowered ts)) same k)
+    (subst (λ (ts : List Token). Calm e ts) same k)
 no_branch_after e c (more_branches p is bs) r s l g k same =
-    branch_stirs e c p (spell_list is (spell_branches bs s)) l g.0 (subst (λ (ts : List Token). Calm e (lowered ts)) same k)
+    branch_stirs e c p (spell_list is (spell_branches bs s)) l g.0 (subst (λ (ts : List Token). Calm e ts) same k)
 
 -- ---- the first token tells which item it is, and the column of a list
 
@@ -165,15 +165,15 @@ branches_in_column bs ds r s same g = subst (λ (n : ℕ). GoodBranches n ds) (s
 -- ---- items
 
 mutual
-  pub one_item : (e : ℕ) (i j : ItemForm) → GoodItem e i → GoodItem e j → (r s : List Token) → Calm e (lowered r) → Calm e (lowered s)
+  pub one_item : (e : ℕ) (i j : ItemForm) → GoodItem e i → GoodItem e j → (r s : List Token) → Calm e r → Calm e s
       → spell_item i r ≡ spell_item j s → (item_of i ≡ item_of j) × (r ≡ s)
   one_item e (test_form p a q) (test_form x b y) g h r s cr cs same =
-      let w = one_phrase e a b g.1 h.1 (see q (mark tk.close_bracket) r) (see y (mark tk.close_bracket) s)
+      let w = one_before e a b g.1 h.1 (see q (mark tk.close_bracket) r) (see y (mark tk.close_bracket) s)
       (calm_at e q (mark tk.close_bracket) r g.2 refl) (calm_at e y (mark tk.close_bracket) s h.2 refl) (ap tail same) in
       ((λ i. test (tree_of (w.0 i))), ap tail w.1)
   one_item e (setting_form p x q u a) (setting_form l y m n b) g h r s cr cs same =
       let d : x ≡ y = ap first_word same in
-      let w = one_phrase e a b g.3.1 h.3.1 r s cr cs (ap (λ (ts : List Token). tail (tail (tail ts))) same) in
+      let w = one_before e a b g.3.1 h.3.1 r s cr cs (ap (λ (ts : List Token). tail (tail (tail ts))) same) in
       ((λ i. setting (d i) (tree_of (w.0 i))), w.1)
   one_item e (unchanged_form p q ns t) (unchanged_form l m ms u) g h r s cr cs same =
       let w = one_names ns ms (see t (mark tk.close_tuple) r) (see u (mark tk.close_tuple) s) refl refl
@@ -181,7 +181,7 @@ mutual
       ((λ i. unchanged (w.0 i)), ap tail w.1)
   one_item e (exists_form p q x t a u is) (exists_form l m y n b o js) g h r s cr cs same =
       let d : x ≡ y = ap (λ (ts : List Token). first_word (tail ts)) same in
-      let w = one_phrase e a b g.3 h.3 (see u (mark tk.colon) (spell_list is r)) (see o (mark tk.colon) (spell_list js s))
+      let w = one_before e a b g.3 h.3 (see u (mark tk.colon) (spell_list is r)) (see o (mark tk.colon) (spell_list js s))
       (calm_at e u (mark tk.colon) (spell_list is r) g.4 refl) (calm_at e o (mark tk.colon) (spell_list js s) h.4 refl)
       (ap (λ (ts : List Token). tail (tail (tail ts))) same) in
       let lists : spell_list is r ≡ spell_list js s = ap tail w.1 in
@@ -189,7 +189,7 @@ mutual
       ((λ i. exists (d i) (tree_of (w.0 i)) (v.0 i)), v.1)
   one_item e (local_form p q x t a u is) (local_form l m y n b o js) g h r s cr cs same =
       let d : x ≡ y = ap (λ (ts : List Token). first_word (tail ts)) same in
-      let w = one_phrase e a b g.3 h.3 (see u (key tk.in_key) (spell_list is r)) (see o (key tk.in_key) (spell_list js s))
+      let w = one_before e a b g.3 h.3 (see u (key tk.in_key) (spell_list is r)) (see o (key tk.in_key) (spell_list js s))
       (calm_at e u (key tk.in_key) (spell_list is r) g.4 refl) (calm_at e o (key tk.in_key) (spell_list js s) h.4 refl)
       (ap (λ (ts : List Token). tail (tail (tail ts))) same) in
       let lists : spell_list is r ≡ spell_list js s = ap tail w.1 in
@@ -198,7 +198,7 @@ mutual
   one_item e (choice_form p a q is t ks) (choice_form l b m js u ls) g h r s cr cs same =
       let r2 = see t (key tk.else_key) (spell_list ks r) in
       let s2 = see u (key tk.else_key) (spell_list ls s) in
-      let w = one_phrase e a b g.1 h.1 (see q (key tk.then_key) (spell_list is r2)) (see m (key tk.then_key) (spell_list js s2))
+      let w = one_before e a b g.1 h.1 (see q (key tk.then_key) (spell_list is r2)) (see m (key tk.then_key) (spell_list js s2))
       (calm_at e q (key tk.then_key) (spell_list is r2) g.2 refl) (calm_at e m (key tk.then_key) (spell_list js s2) h.2 refl) (ap tail same) in
       let lists : spell_list is r2 ≡ spell_list js s2 = ap tail w.1 in
       let v = one_list e (list_column is) is js g.3 g.4 (in_column is js r2 s2 lists h.4) r2 s2
@@ -212,15 +212,15 @@ mutual
   one_item e i j g h r s cr cs same = absurd (items_apart i j r s refl same)
 
   pub one_list : (e c : ℕ) (is js : ListForm) → nat_lt e c ≡ true → GoodList c is → GoodList c js
-      → (r s : List Token) → Calm e (lowered r) → Calm e (lowered s) → spell_list is r ≡ spell_list js s → (items_of is ≡ items_of js) × (r ≡ s)
+      → (r s : List Token) → Calm e r → Calm e s → spell_list is r ≡ spell_list js s → (items_of is ≡ items_of js) × (r ≡ s)
   one_list e c (last_item p i) (last_item q j) l g h r s cr cs same =
-      let w = one_item c i j g.1 h.1 r s (calm_right e c (lowered r) l cr) (calm_right e c (lowered s) l cs) (ap tail same) in
+      let w = one_item c i j g.1 h.1 r s (calm_right e c r l cr) (calm_right e c s l cs) (ap tail same) in
       ((λ n. item (w.0 n) no_items), w.1)
   one_list e c (last_item p i) (more_items q j js) l g h r s cr cs same =
-      let w = one_item c i j g.1 h.1 r (spell_list js s) (calm_right e c (lowered r) l cr) (list_calm c js h.2 s) (ap tail same) in
+      let w = one_item c i j g.1 h.1 r (spell_list js s) (calm_right e c r l cr) (list_calm c js h.2 s) (ap tail same) in
       absurd (no_list_after e c js r s l h.2 cr w.1)
   one_list e c (more_items p i is) (last_item q j) l g h r s cr cs same =
-      let w = one_item c i j g.1 h.1 (spell_list is r) s (list_calm c is g.2 r) (calm_right e c (lowered s) l cs) (ap tail same) in
+      let w = one_item c i j g.1 h.1 (spell_list is r) s (list_calm c is g.2 r) (calm_right e c s l cs) (ap tail same) in
       absurd (no_list_after e c is s r l g.2 cs (sym w.1))
   one_list e c (more_items p i is) (more_items q j js) l g h r s cr cs same =
       let w = one_item c i j g.1 h.1 (spell_list is r) (spell_list js s) (list_calm c is g.2 r) (list_calm c js h.2 s) (ap tail same) in
@@ -228,22 +228,22 @@ mutual
       ((λ n. item (w.0 n) (v.0 n)), v.1)
 
   one_branches : (e c : ℕ) (bs ds : BranchForms) → nat_lt e c ≡ true → GoodBranches c bs → GoodBranches c ds
-      → (r s : List Token) → Calm e (lowered r) → Calm e (lowered s) → spell_branches bs r ≡ spell_branches ds s
+      → (r s : List Token) → Calm e r → Calm e s → spell_branches bs r ≡ spell_branches ds s
       → (branches_of bs ≡ branches_of ds) × (r ≡ s)
   one_branches e c (last_branch p is) (last_branch q js) l g h r s cr cs same =
       let lists : spell_list is r ≡ spell_list js s = ap tail same in
-      let w = one_list c (list_column is) is js g.1 g.2 (in_column is js r s lists h.2) r s (calm_right e c (lowered r) l cr)
-      (calm_right e c (lowered s) l cs) lists in
+      let w = one_list c (list_column is) is js g.1 g.2 (in_column is js r s lists h.2) r s (calm_right e c r l cr)
+      (calm_right e c s l cs) lists in
       ((λ n. branch (w.0 n) no_branches), w.1)
   one_branches e c (last_branch p is) (more_branches q js ds) l g h r s cr cs same =
       let lists : spell_list is r ≡ spell_list js (spell_branches ds s) = ap tail same in
       let w = one_list c (list_column is) is js g.1 g.2 (in_column is js r (spell_branches ds s) lists h.2) r (spell_branches ds s)
-      (calm_right e c (lowered r) l cr) (branches_calm c ds h.3 s) lists in
+      (calm_right e c r l cr) (branches_calm c ds h.3 s) lists in
       absurd (no_branch_after e c ds r s l h.3 cr w.1)
   one_branches e c (more_branches p is bs) (last_branch q js) l g h r s cr cs same =
       let lists : spell_list is (spell_branches bs r) ≡ spell_list js s = ap tail same in
       let w = one_list c (list_column is) is js g.1 g.2 (in_column is js (spell_branches bs r) s lists h.2) (spell_branches bs r) s
-      (branches_calm c bs g.3 r) (calm_right e c (lowered s) l cs) lists in
+      (branches_calm c bs g.3 r) (calm_right e c s l cs) lists in
       absurd (no_branch_after e c bs s r l g.3 cs (sym w.1))
   one_branches e c (more_branches p is bs) (more_branches q js ds) l g h r s cr cs same =
       let lists : spell_list is (spell_branches bs r) ≡ spell_list js (spell_branches ds s) = ap tail same in

@@ -6,9 +6,10 @@ use Rattle.tla_token.specs.Tokens.{Tok}
 use Rattle.tla_token.proofs.Unique as unique
 use Rattle.tla_expr.specs.Tree.{Name, words}
 use Rattle.module_text.specs.Module.{RegionUnit, units_of, OutsideUnit, Module, modules_of, constants_of, outside_of}
-use Rattle.module_text.specs.Grammar.{Token}
+use Rattle.tla_expr.specs.Lexical.{Token}
 use Rattle.module_text.specs.Units.{IsUnit}
-use Rattle.module_text.specs.ModuleTokens.{view, cut}
+use Rattle.tla_expr.specs.TokenViews.{views}
+use Rattle.module_text.specs.UnitCut.{cut}
 use Rattle.module_text.specs.Outside.{Sight, AllOutside}
 use Rattle.module_text.specs.Reading.{Stretch, Parts, AllAre, sight, Reads}
 use Rattle.module_text.proofs.OneRegion.{one_region}
@@ -65,14 +66,14 @@ same_outside front back us xs vs ys h k =
 
 -- the units of a module that is read, of other tokens that are the same
 both : (w : List ℕ) (m : Module) (r : Reads w m) (ts us : List lexical.Token) → ts ≡ r.front → us ≡ r.back
-    → Both (cut (view ts)).units (cut (view us)).units r.before r.after
+    → Both (cut (views ts)).units (cut (views us)).units r.before r.after
 both w m r ts us d e =
     let seen : sight m ≡ sight_of (r.before ++ r.after) = λ i. (let o = r.outside i in record { modules = o.extended; constants = words o.constants; earlier = [] }) in
     record {
-      before = subst (λ (ts : List lexical.Token). AllOutside true (sight_of (r.before ++ r.after)) (cut (view ts)).units r.before) (sym d)
-          (subst (λ (v : Sight). AllOutside true v (cut (view r.front)).units r.before) seen r.are_before);
-      after = subst (λ (us : List lexical.Token). AllOutside false (sight_of (r.before ++ r.after)) (cut (view us)).units r.after) (sym e)
-          (subst (λ (v : Sight). AllOutside false v (cut (view r.back)).units r.after) seen r.are_after);
+      before = subst (λ (ts : List lexical.Token). AllOutside true (sight_of (r.before ++ r.after)) (cut (views ts)).units r.before) (sym d)
+          (subst (λ (v : Sight). AllOutside true v (cut (views r.front)).units r.before) seen r.are_before);
+      after = subst (λ (us : List lexical.Token). AllOutside false (sight_of (r.before ++ r.after)) (cut (views us)).units r.after) (sym e)
+          (subst (λ (v : Sight). AllOutside false v (cut (views r.back)).units r.after) seen r.are_after);
     }
 
 pub one_module : (w : List ℕ) (m n : Module) → Reads w m → Reads w n → m ≡ n
@@ -82,10 +83,10 @@ one_module w m n r s =
     let middle = same_tokens w (λ p. p.region) r.parts s.parts parts r.middle s.middle r.middle_tokens s.middle_tokens in
     let back = same_tokens w (λ p. p.after) r.parts s.parts parts r.back s.back r.back_tokens s.back_tokens in
     let title : m.title ≡ n.title = r.title ∙ ap (λ (p : Parts). p.title) parts ∙ sym s.title in
-    let units_outside = same_outside (cut (view r.front)).units (cut (view r.back)).units r.before r.after s.before s.after
+    let units_outside = same_outside (cut (views r.front)).units (cut (views r.back)).units r.before r.after s.before s.after
     (both w m r r.front r.back refl refl) (both w n s r.front r.back (sym front) (sym back)) in
     let outside : m.outside ≡ n.outside = r.outside ∙ ap outside_of units_outside ∙ sym s.outside in
-    let units = one_units (cut (view r.middle)).units (units_of m.region) (units_of n.region) r.region
-    (subst (λ (ts : List lexical.Token). AllAre IsUnit (cut (view ts)).units (units_of n.region)) middle s.region) in
+    let units = one_units (cut (views r.middle)).units (units_of m.region) (units_of n.region) r.region
+    (subst (λ (ts : List lexical.Token). AllAre IsUnit (cut (views ts)).units (units_of n.region)) middle s.region) in
     let region = one_region m.region n.region units in
     λ i. record { title = title i; outside = outside i; region = region i }

@@ -2,10 +2,11 @@
 use Rattle.std.proofs.Common.{◌≡◌, ◌⊎◌, Bool, true, List, [], ◌∷◌, ◌++◌, flat_map, length, codes, inl, inr, subst, refl, sym, ap, ◌∙◌}
 use Rattle.tla_expr.specs.Tree.{Word, Name}
 use Rattle.tla_value.specs.Outside.{ReadDefinition}
+use Rattle.tla_expr.specs.Spelling.{spell, tree_of}
 use Rattle.module_text.specs.Module.{OutsideUnit, extends, constants, defines, opaque, modules_of, constants_of, definitions_of, found}
-use Rattle.module_text.specs.Grammar.{Token, phrase, tree_of}
 use Rattle.module_text.specs.Outside.{Sight, Named, Defined, opaque_of, IsRead, IsOutside, AllOutside}
-use Rattle.module_text.proofs.OnePhrase.{one_phrase}
+use Rattle.tla_expr.specs.Lexical.{Token}
+use Rattle.tla_expr.proofs.ReadAll.{one_before}
 use Rattle.module_text.proofs.OneItem.{tail, first_word, same_name, apart, placed_names}
 use Rattle.module_text.proofs.OneWay.{first_keyword}
 use Rattle.module_text.proofs.OneUnit.{one_parameters}
@@ -23,8 +24,8 @@ same_definition v w ts d e h k =
     let same = sym h.spelled ∙ k.spelled in
     let at : h.at ≡ k.at = (let f = same_name h.at k.at d.definition.title e.definition.title _ _ same in ap (λ (n : Name). n.place) f) in
     let title : d.definition.title ≡ e.definition.title = ap first_word same in
-    let params = one_parameters h.params k.params h.sign k.sign (phrase h.body []) (phrase k.body []) (ap tail same) in
-    let body = one_phrase 1 h.body k.body h.good.2 k.good.2 [] [] refl refl params.1 in
+    let params = one_parameters h.params k.params h.sign k.sign (spell h.body []) (spell k.body []) (ap tail same) in
+    let body = one_before 1 h.body k.body h.good.2 k.good.2 [] [] refl refl params.1 in
     sym h.is ∙ (λ i. record { definition = record { title = title i; params = params.0 i; body = tree_of (body.0 i); outside = true }; place = at i }) ∙ k.is
 
 not_defined : (v : Sight) (w : Word) (ts : List Token) (xs : List Name) (d : ReadDefinition) → Named w ts xs → Defined v ts d → ⊥

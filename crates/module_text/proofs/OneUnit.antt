@@ -7,21 +7,21 @@ use Rattle.tla_token.specs.Signs.{is_among}
 use Rattle.tla_token.specs.Words.{own_names, is_own}
 use Rattle.tla_expr.specs.declared.op.Op.TheVariants as op
 use Rattle.tla_expr.specs.Tree.{Word}
-use Rattle.tla_expr.specs.Lexical.{ExprToken, mark, sign}
+use Rattle.tla_expr.specs.Lexical.{TokenView, Token, token, mark, sign}
 use Rattle.tla_expr.specs.Lexical as tk
-use Rattle.tla_expr.specs.Spelling.{Phrase, Good, Right, spell}
+use Rattle.tla_expr.specs.Spelling.{Phrase, Good, Right, spell, tree_of, word}
 use Rattle.tla_expr.proofs.ReadStops.{Calm}
 use Rattle.module_text.specs.Module.{all_of, some_of, RegionUnit, constant_unit, variables_unit, definition_unit, vars_unit, process_set_unit, init_unit, action_unit, terminating_unit, next_unit, spec_unit, termination_unit}
-use Rattle.module_text.specs.Grammar.{Token, Kind, seen, keyword, see, reserved, word, phrase, lifted, Names, last_name, tree_of, spell_list, list_column, WayForm, spell_bullets, GoodBullets, GoodSome, each}
+use Rattle.module_text.specs.Grammar.{see, keyword, Names, last_name, spell_list, list_column, WayForm, spell_bullets, GoodBullets, GoodSome, each}
 use Rattle.module_text.specs.Units.{FairForm, SpecForm, steps_line, start_line, fair_line, fair_specs, GoodSpec, ParameterForm, spell_parameters, parameters, BodyForm, all_form, some_form, spell_body, body_of, GoodBody, spell_parameter, parameter_of, begins_list}
 use Rattle.module_text.specs.Units.{UnitForm, constant_form, variables_form, definition_form, vars_form, process_set_form, init_form, action_form, terminating_form, next_form, spec_form, termination_form, spell_unit, unit_of, GoodUnit, IsUnit}
-use Rattle.module_text.proofs.OnePhrase.{lowered, one_phrase}
+use Rattle.tla_expr.proofs.ReadAll.{one_before}
 use Rattle.module_text.proofs.OneItem.{tail, sort, first_sort, first_word, first_col, apart, one_names, calm_at, bullet_calm, list_first, in_column, one_list}
 use Rattle.module_text.proofs.OneWay.{sorts_apart, some_ways, one_fairs}
 
 -- ---- the first token tells which unit it is
 
--- where a word stands in a list, from its end; 0 if it doesn't
+-- where a word is in a list, from its end; 0 if it doesn't
 abbrev number_in : List Word → Word → ℕ
 number_in [] x = 0
 number_in (w ∷ ws) x = if bytes_eq w x then length ws + 1 else number_in ws x
@@ -34,9 +34,9 @@ not_among (w ∷ ws) x h = by (bytes_eq w x) refl h (not_among ws x)
     by true e h go = absurd (both_ways true h refl)
     by false e h go = rw e (go h)
 
-abbrev title_sort : Kind → ℕ
-title_sort (seen (tk.word x)) = number_in own_names x
-title_sort (keyword w) = if bytes_eq w (codes "CONSTANT") then 12 else 13
+abbrev title_sort : TokenView → ℕ
+title_sort (tk.word x) = number_in own_names x
+title_sort (tk.other w) = if bytes_eq w (codes "CONSTANT") then 12 else 13
 title_sort k = 14
 
 abbrev first_title : List Token → ℕ
@@ -113,29 +113,29 @@ bullet_first (all_form is) g = rw (list_first is []) refl
 bullet_first (some_form []) g = absurd g
 bullet_first (some_form (y ∷ ys)) g = refl
 
-begins_bullet : (t : tk.Token) (ts : List tk.Token) (k : ExprToken) → t.kind ≡ k → is_bullet_sort (sort (seen k)) ≡ true → begins_list (t ∷ ts) ≡ true
+begins_bullet : (t : Token) (ts : List Token) (k : TokenView) → t.kind ≡ k → is_bullet_sort (sort k) ≡ true → begins_list (t ∷ ts) ≡ true
 begins_bullet t ts (sign op.And) e h = rw e refl
 begins_bullet t ts (sign op.Or) e h = rw e refl
 begins_bullet t ts (mark tk.comma) e h = absurd (both_ways false refl h)
 begins_bullet t ts (tk.key tk.if_key) e h = absurd (both_ways false refl h)
 begins_bullet t ts k e h = absurd (both_ways false refl h)
 
-lifted_list : (ts : List tk.Token) → is_bullet_sort (first_sort (lifted ts [])) ≡ true → begins_list ts ≡ true
-lifted_list [] h = absurd cc
-lifted_list (t ∷ ts) h = begins_bullet t ts t.kind refl h
+bullet_list : (ts : List Token) → is_bullet_sort (first_sort ts) ≡ true → begins_list ts ≡ true
+bullet_list [] h = absurd cc
+bullet_list (t ∷ ts) h = begins_bullet t ts t.kind refl h
 
-no_body : (b : BodyForm) (a : Phrase) → GoodBody b → begins_list (spell a []) ≡ false → spell_body b [] ≡ phrase a [] → ⊥
+no_body : (b : BodyForm) (a : Phrase) → GoodBody b → begins_list (spell a []) ≡ false → spell_body b [] ≡ spell a [] → ⊥
 no_body b a g n same = both_ways (begins_list (spell a [])) n
-    (lifted_list (spell a []) (ap (λ (ts : List Token). is_bullet_sort (first_sort ts)) (sym same) ∙ bullet_first b g))
+    (bullet_list (spell a []) (ap (λ (ts : List Token). is_bullet_sort (first_sort ts)) (sym same) ∙ bullet_first b g))
 
 -- ---- the conjuncts of Init
 
 abbrev conjuncts : List (Place × Phrase) → List Token
-conjuncts es = spell_bullets (sign op.And) phrase es []
+conjuncts es = spell_bullets (sign op.And) spell es []
 
-conjuncts_calm : (c : ℕ) (es : List (Place × Phrase)) → GoodBullets Good c es → Calm c (lowered (conjuncts es))
+conjuncts_calm : (c : ℕ) (es : List (Place × Phrase)) → GoodBullets Good c es → Calm c (conjuncts es)
 conjuncts_calm c [] g = refl
-conjuncts_calm c (x ∷ es) g = bullet_calm c (record { kind = seen (sign op.And); place = x.0 }) (phrase x.1 (conjuncts es)) g.0
+conjuncts_calm c (x ∷ es) g = bullet_calm c (token x.0 (sign op.And)) (spell x.1 (conjuncts es)) g.0
 
 one_conjuncts : (c : ℕ) (es fs : List (Place × Phrase)) → GoodBullets Good c es → GoodBullets Good c fs → conjuncts es ≡ conjuncts fs
     → each tree_of es ≡ each tree_of fs
@@ -143,7 +143,7 @@ one_conjuncts c [] [] g h same = refl
 one_conjuncts c [] (y ∷ fs) g h same = absurd (apart _ _ refl same)
 one_conjuncts c (x ∷ es) [] g h same = absurd (apart _ _ refl same)
 one_conjuncts c (x ∷ es) (y ∷ fs) g h same =
-    let w = one_phrase c x.1 y.1 g.1 h.1 (conjuncts es) (conjuncts fs) (conjuncts_calm c es g.2) (conjuncts_calm c fs h.2) (ap tail same) in
+    let w = one_before c x.1 y.1 g.1 h.1 (conjuncts es) (conjuncts fs) (conjuncts_calm c es g.2) (conjuncts_calm c fs h.2) (ap tail same) in
     let more = one_conjuncts c es fs g.2 h.2 w.1 in
     λ i. tree_of (w.0 i) ∷ more i
 
@@ -162,11 +162,11 @@ one_definition : (p : Place) (x : Word) (f : Option ParameterForm) (q : Place) (
     → spell_unit (definition_form p x f q a) [] ≡ spell_unit g [] → unit_of (definition_form p x f q a) ≡ unit_of g
 one_definition p x f q a (definition_form l y k m b) g h same =
     let d : x ≡ y = ap first_word same in
-    let v = one_parameters f k q m (phrase a []) (phrase b []) (ap tail same) in
-    let w = one_phrase 1 a b g.3 h.3 [] [] refl refl v.1 in
+    let v = one_parameters f k q m (spell a []) (spell b []) (ap tail same) in
+    let w = one_before 1 a b g.3 h.3 [] [] refl refl v.1 in
     λ i. definition_unit (record { title = d i; params = v.0 i; body = tree_of (w.0 i); outside = false })
 one_definition p x f q a (action_form l y k m b) g h same =
-    let v = one_parameters f (as_parameters k) q m (phrase a []) (spell_body b [])
+    let v = one_parameters f (as_parameters k) q m (spell a []) (spell_body b [])
     (ap tail same ∙ parameter_spelled k (see m (mark tk.defines) (spell_body b []))) in
     absurd (no_body b a h.3 (not-true (begins_list (spell a [])) g.4) (sym v.1))
 one_definition p x f q a u g h same = absurd (units_apart (definition_form p x f q a) u g h refl same)
@@ -183,7 +183,7 @@ one_action p x f q b (action_form l y k m c) g h same =
     let w = one_body b c g.3 h.3 v.1 in
     λ i. action_unit (record { title = d i; parameter = o i; body = w i })
 one_action p x f q b (definition_form l y k m a) g h same =
-    let v = one_parameters (as_parameters f) k q m (spell_body b []) (phrase a [])
+    let v = one_parameters (as_parameters f) k q m (spell_body b []) (spell a [])
     (sym (parameter_spelled f (see q (mark tk.defines) (spell_body b []))) ∙ ap tail same) in
     absurd (no_body b a g.3 (not-true (begins_list (spell a [])) h.4) v.1)
 one_action p x f q b u g h same = absurd (units_apart (action_form p x f q b) u g h refl same)
@@ -210,7 +210,7 @@ one_vars p q s ns t x g h same = absurd (units_apart (vars_form p q s ns t) x g 
 one_process_set : (p q : Place) (a : Phrase) (g : UnitForm) → GoodUnit (process_set_form p q a) → GoodUnit g
     → spell_unit (process_set_form p q a) [] ≡ spell_unit g [] → unit_of (process_set_form p q a) ≡ unit_of g
 one_process_set p q a (process_set_form l m b) g h same =
-    let w = one_phrase 1 a b g.1 h.1 [] [] refl refl (ap (λ (ts : List Token). tail (tail ts)) same) in
+    let w = one_before 1 a b g.1 h.1 [] [] refl refl (ap (λ (ts : List Token). tail (tail ts)) same) in
     ap (λ (d : Phrase). process_set_unit (tree_of d)) w.0
 one_process_set p q a x g h same = absurd (units_apart (process_set_form p q a) x g h refl same)
 
@@ -225,9 +225,9 @@ one_terminating p q s t a u v w z (terminating_form p2 q2 s2 t2 b u2 v2 w2 z2) g
     let c : s2.col ≡ s.col = ap (λ (ts : List Token). first_col (tail (tail ts))) (sym same) in
     let good : Good s.col b = subst (λ (n : ℕ). Good n b) c h.3 in
     let right : Right s.col u2 = subst (λ (n : ℕ). Right n u2) c h.4 in
-    let r = see v (sign op.And) (reserved w (codes "UNCHANGED") (word z (codes "vars") [])) in
-    let r2 = see v2 (sign op.And) (reserved w2 (codes "UNCHANGED") (word z2 (codes "vars") [])) in
-    let k = one_phrase s.col a b g.3 good (see u (mark tk.close_bracket) r) (see u2 (mark tk.close_bracket) r2)
+    let r = see v (sign op.And) (keyword w (codes "UNCHANGED") (word z (codes "vars") [])) in
+    let r2 = see v2 (sign op.And) (keyword w2 (codes "UNCHANGED") (word z2 (codes "vars") [])) in
+    let k = one_before s.col a b g.3 good (see u (mark tk.close_bracket) r) (see u2 (mark tk.close_bracket) r2)
     (calm_at s.col u (mark tk.close_bracket) r g.4 refl) (calm_at s.col u2 (mark tk.close_bracket) r2 right refl)
     (ap (λ (ts : List Token). tail (tail (tail (tail ts)))) same) in
     ap (λ (d : Phrase). terminating_unit (tree_of d)) k.0
@@ -261,7 +261,7 @@ one_spec p q s t u k fs x g h same = absurd (units_apart (spec_form p q s t u k 
 one_termination : (p q s t u : Place) (a : Phrase) (v : Place) (g : UnitForm) → GoodUnit (termination_form p q s t u a v) → GoodUnit g
     → spell_unit (termination_form p q s t u a v) [] ≡ spell_unit g [] → unit_of (termination_form p q s t u a v) ≡ unit_of g
 one_termination p q s t u a v (termination_form p2 q2 s2 t2 u2 b v2) g h same =
-    let k = one_phrase 1 a b g.4 h.4 (see v (mark tk.close_bracket) []) (see v2 (mark tk.close_bracket) [])
+    let k = one_before 1 a b g.4 h.4 (see v (mark tk.close_bracket) []) (see v2 (mark tk.close_bracket) [])
     (calm_at 1 v (mark tk.close_bracket) [] g.5 refl) (calm_at 1 v2 (mark tk.close_bracket) [] h.5 refl)
     (ap (λ (ts : List Token). tail (tail (tail (tail (tail ts))))) same) in
     ap (λ (d : Phrase). termination_unit (tree_of d)) k.0

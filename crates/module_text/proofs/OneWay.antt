@@ -5,12 +5,13 @@ use Rattle.std.specs.Str.{bytes_eq}
 use Rattle.tla_token.specs.declared.place.Place.{Place}
 use Rattle.tla_expr.specs.declared.op.Op.TheVariants as op
 use Rattle.tla_expr.specs.Tree.{Word}
-use Rattle.tla_expr.specs.Lexical.{mark, sign}
+use Rattle.tla_expr.specs.Lexical.{TokenView, Token, mark, sign}
 use Rattle.tla_expr.specs.Lexical as tk
+use Rattle.tla_expr.specs.Spelling.{tree_of}
 use Rattle.module_text.specs.Module.{call, call_with, one_way, some_way}
-use Rattle.module_text.specs.Grammar.{Token, Kind, keyword, see, reserved, tree_of, CallForm, call_form, call_with_form, spell_call, call_of, GoodCall, WayForm, one_form, some_form, spell_way, way_of, GoodWay, spell_bullets, GoodBullets, GoodSome, each}
+use Rattle.module_text.specs.Grammar.{see, keyword, CallForm, call_form, call_with_form, spell_call, call_of, GoodCall, WayForm, one_form, some_form, spell_way, way_of, GoodWay, spell_bullets, GoodBullets, GoodSome, each}
 use Rattle.module_text.specs.Units.{OverForm, GuardForm, FairForm, spell_over, spell_guard, spell_fair, over_of, guard_of, fairness_of, GoodOver, GoodGuard, GoodFair, spell_spec, GoodSpec, fair_specs}
-use Rattle.module_text.proofs.OnePhrase.{one_phrase}
+use Rattle.tla_expr.proofs.ReadAll.{one_before}
 use Rattle.module_text.proofs.OneItem.{tail, first_sort, first_word, first_col, apart, calm_at}
 
 pub sorts_apart : (n m : ℕ) (ts us : List Token) → nat_eq n m ≡ false → first_sort ts ≡ n → first_sort us ≡ m → ts ≡ us → ⊥
@@ -29,7 +30,7 @@ one_call e (call_form p x) (call_with_form q y t a u) g h r s nr ns same = absur
 one_call e (call_with_form p x q a t) (call_form l y) g h r s nr ns same = absurd (apart s _ ns (ap tail (sym same)))
 one_call e (call_with_form p x q a t) (call_with_form l y m b u) g h r s nr ns same =
     let d : x ≡ y = ap first_word same in
-    let w = one_phrase e a b g.2 h.2 (see t (mark tk.close_bracket) r) (see u (mark tk.close_bracket) s)
+    let w = one_before e a b g.2 h.2 (see t (mark tk.close_bracket) r) (see u (mark tk.close_bracket) s)
     (calm_at e t (mark tk.close_bracket) r g.3 refl) (calm_at e u (mark tk.close_bracket) s h.3 refl)
     (ap (λ (ts : List Token). tail (tail ts)) same) in
     ((λ i. call_with (d i) (tree_of (w.0 i))), ap tail w.1)
@@ -50,7 +51,7 @@ one_way_alone e (some_form p q x t a u c) (one_form d) g h r s nr ns same = absu
     (sorts_apart 2 5 (spell_call d s) _ refl (call_first d s) refl (sym same))
 one_way_alone e (some_form p q x t a u c) (some_form l m y n b o d) g h r s nr ns same =
     let z : x ≡ y = ap (λ (ts : List Token). first_word (tail ts)) same in
-    let w = one_phrase e a b g.3 h.3 (see u (mark tk.colon) (spell_call c r)) (see o (mark tk.colon) (spell_call d s))
+    let w = one_before e a b g.3 h.3 (see u (mark tk.colon) (spell_call c r)) (see o (mark tk.colon) (spell_call d s))
     (calm_at e u (mark tk.colon) (spell_call c r) g.4 refl) (calm_at e o (mark tk.colon) (spell_call d s) h.4 refl)
     (ap (λ (ts : List Token). tail (tail (tail ts))) same) in
     let v = one_call e c d g.5 h.5 r s nr ns (ap tail w.1) in
@@ -90,7 +91,7 @@ one_over e None (Some y) g h r s fr fs same = absurd (sorts_apart 10 8 r _ refl 
 one_over e (Some x) None g h r s fr fs same = absurd (sorts_apart 10 8 s _ refl fs refl (sym same))
 one_over e (Some x) (Some y) g h r s fr fs same =
     let d : x.name ≡ y.name = ap (λ (ts : List Token). first_word (tail ts)) same in
-    let w = one_phrase e x.set y.set g.3 h.3 (see x.colon (mark tk.colon) r) (see y.colon (mark tk.colon) s)
+    let w = one_before e x.set y.set g.3 h.3 (see x.colon (mark tk.colon) r) (see y.colon (mark tk.colon) s)
     (calm_at e x.colon (mark tk.colon) r g.4 refl) (calm_at e y.colon (mark tk.colon) s h.4 refl)
     (ap (λ (ts : List Token). tail (tail (tail ts))) same) in
     ((λ i. Some (d i, tree_of (w.0 i))), ap tail w.1)
@@ -103,12 +104,12 @@ one_guard e (Some x) None g h r s fr fs same = absurd (sorts_apart 2 1 s _ refl 
 one_guard e (Some x) (Some y) g h r s fr fs same =
     let r2 = see x.and_at (sign op.And) r in
     let s2 = see y.and_at (sign op.And) s in
-    let w = one_phrase e x.test y.test g.1 h.1 (see x.right (mark tk.close_bracket) r2) (see y.right (mark tk.close_bracket) s2)
+    let w = one_before e x.test y.test g.1 h.1 (see x.right (mark tk.close_bracket) r2) (see y.right (mark tk.close_bracket) s2)
     (calm_at e x.right (mark tk.close_bracket) r2 g.2 refl) (calm_at e y.right (mark tk.close_bracket) s2 h.2 refl) (ap tail same) in
     ((λ i. Some (tree_of (w.0 i))), ap (λ (ts : List Token). tail (tail ts)) w.1)
 
-abbrev pub keyword_in : Kind → Word
-keyword_in (keyword w) = w
+abbrev pub keyword_in : TokenView → Word
+keyword_in (tk.other w) = w
 keyword_in k = []
 
 abbrev pub first_keyword : List Token → Word
@@ -129,8 +130,8 @@ one_fair e f g gf gg r s same =
     let r3 = spell_call f.action r2 in
     let s3 = spell_call g.action s2 in
     let over = one_over e f.over g.over gf.0 gg.0
-    (reserved f.at (cond f.strong (codes "SF_vars") (codes "WF_vars")) (see f.left (mark tk.open_bracket) (spell_guard f.guard r3)))
-    (reserved g.at (cond g.strong (codes "SF_vars") (codes "WF_vars"))
+    (keyword f.at (cond f.strong (codes "SF_vars") (codes "WF_vars")) (see f.left (mark tk.open_bracket) (spell_guard f.guard r3)))
+    (keyword g.at (cond g.strong (codes "SF_vars") (codes "WF_vars"))
     (see g.left (mark tk.open_bracket) (spell_guard g.guard s3))) refl refl same in
     let strong = one_strength f.strong g.strong (ap first_keyword over.1) in
     let guard = one_guard e f.guard g.guard gf.3 gg.3 r3 s3 (call_first f.action r2) (call_first g.action s2)

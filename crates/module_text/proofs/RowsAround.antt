@@ -1,4 +1,4 @@
--- Where translations stand in some small files, by computation.
+-- Where translations are in some small files, by computation.
 use Rattle.std.proofs.Common.{◌≡◌, Some, None, refl}
 use Rattle.std.specs.Prelude.{codes}
 use Rattle.module_text.specs.AlgorithmStretch.{algorithm_in}

@@ -9,16 +9,18 @@ use Rattle.tla_expr.specs.Spelling.{Phrase}
 use Rattle.tla_expr.specs.Spelling as spelled
 use Rattle.tla_value.specs.Outside.{ReadDefinition}
 use Rattle.module_text.specs.Module.{extends, constants, defines, outside_of, test, setting, unchanged, no_items, item, call, call_with, one_way, some_way, all_of, action_unit, next_unit, spec_unit, termination_unit}
-use Rattle.module_text.specs.Grammar.{Token, last_name, more_names, test_form, setting_form, unchanged_form, last_item, more_items, call_form, call_with_form, one_form, some_form}
+use Rattle.module_text.specs.Grammar.{last_name, more_names, test_form, setting_form, unchanged_form, last_item, more_items, call_form, call_with_form, one_form, some_form}
 use Rattle.module_text.specs.Units.{IsUnit, all_form, action_form, next_form, spec_form, steps_line, termination_form}
-use Rattle.module_text.specs.ModuleTokens.{view, cut}
+use Rattle.tla_expr.specs.Lexical.{Token}
+use Rattle.tla_expr.specs.TokenViews.{views}
+use Rattle.module_text.specs.UnitCut.{cut}
 use Rattle.module_text.specs.Outside.{Sight, IsRead, opaque_of}
 
 abbrev at : ℕ → ℕ → Place
 at l c = record { line = l; col = c }
 
 abbrev seen : List ℕ → List Token
-seen text = view (tokens text)
+seen text = views (tokens text)
 
 abbrev name_at : Place → Word → Tree
 name_at p x = node (name x) p no_trees
@@ -101,3 +103,11 @@ kinds = refl
 units : map (λ ts. (opaque_of ts).names) (cut (seen (codes "a == b\n  c\n------\nTHEOREM x\nTHEOREM T == x\nRECURSIVE f(_), g\nLOCAL d == e\n"))).units
     ≡ (codes "a" ∷ []) ∷ [] ∷ [] ∷ (codes "T" ∷ []) ∷ (codes "f" ∷ codes "g" ∷ []) ∷ (codes "d" ∷ []) ∷ []
 units = refl
+
+-- a sign that is in no expression begins no unit, nor does a reserved word that begins none
+not_cut : map (λ ts. (opaque_of ts).names) (cut (seen (codes "a == b\n@ c\nUNCHANGED d\nASSUME e == f\n"))).units
+    ≡ (codes "a" ∷ []) ∷ (codes "e" ∷ []) ∷ []
+not_cut = refl
+
+keywords : map (λ ts. (opaque_of ts).keyword) (cut (seen (codes "a == b\nASSUME e == f\n"))).units ≡ [] ∷ codes "ASSUME" ∷ []
+keywords = refl

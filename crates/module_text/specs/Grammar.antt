@@ -2,41 +2,22 @@
 use Rattle.std.specs.Prelude.{◌≡◌, ℕ, nat_lt, IsTrue, List, [], ◌∷◌, codes}
 use Rattle.tla_token.specs.declared.place.Place.{Place}
 use Rattle.tla_expr.specs.declared.op.Op.TheVariants as op
-use Rattle.tla_expr.specs.Tree.{Word, Name, Tree, words}
-use Rattle.tla_expr.specs.Lexical.{ExprToken, Mark, Key, sign, mark, key}
+use Rattle.tla_expr.specs.Tree.{Word, Name, words}
+use Rattle.tla_expr.specs.Lexical.{TokenView, Token, token, sign, mark, key}
 use Rattle.tla_expr.specs.Lexical as tk
-use Rattle.tla_expr.specs.Spelling.{Phrase, Right, Good, head, is_primary}
-use Rattle.tla_expr.specs.Spelling as spelled
+use Rattle.tla_expr.specs.Spelling.{Phrase, Right, Good, head, is_primary, word, spell, tree_of}
 use Rattle.module_text.specs.Module.{Item, test, setting, unchanged, exists, local, if_then_else, either, Items, no_items, item, Branches, no_branches, branch, Call, call, call_with, Way, one_way, some_way}
-
--- a token, as expressions see it, or a reserved word of modules
-pub data Kind : Type 0 where
-  seen : ExprToken → Kind
-  keyword : Word → Kind
-
-pub record Token : Type 0 where
-  pub kind : Kind
-  pub place : Place
 
 -- the tokens of a form before others: t r
 abbrev pub Tokens : Type 0
 Tokens = List Token → List Token
 
-abbrev pub see : Place → ExprToken → Tokens
-see p k r = record { kind = seen k; place = p } ∷ r
+abbrev pub see : Place → TokenView → Tokens
+see p k r = token p k ∷ r
 
-abbrev pub reserved : Place → Word → Tokens
-reserved p w r = record { kind = keyword w; place = p } ∷ r
-
-abbrev pub lifted : List tk.Token → Tokens
-lifted [] r = r
-lifted (t ∷ ts) r = see t.place t.kind (lifted ts r)
-
-abbrev pub phrase : Phrase → Tokens
-phrase a r = lifted (spelled.spell a []) r
-
-abbrev pub word : Place → Word → Tokens
-word p x r = see p (tk.word x) r
+-- a reserved word that stands in no expression
+abbrev pub keyword : Place → Word → Tokens
+keyword p w r = see p (tk.other w) r
 
 -- ---- names with commas
 pub data Names : Type 0 where
@@ -57,9 +38,6 @@ words_of ns = words (names_of ns)
 abbrev pub GoodNames : ℕ → Names → Type 0
 GoodNames e (last_name p x) = Right e p
 GoodNames e (more_names p x q ns) = Right e p × Right e q × GoodNames e ns
-
-abbrev pub tree_of : Phrase → Tree
-tree_of a = spelled.tree_of a
 
 -- an expression that needs no brackets as an operand
 abbrev pub GoodOperand : ℕ → Phrase → Type 0
@@ -87,12 +65,12 @@ mutual
 
 abbrev mutual
   pub spell_item : ItemForm → Tokens
-  spell_item (test_form p a q) r = see p (mark tk.open_bracket) (phrase a (see q (mark tk.close_bracket) r))
-  spell_item (setting_form p x q s a) r = word p x (see q (mark tk.prime) (see s (sign op.Equal) (phrase a r)))
-  spell_item (unchanged_form p q ns s) r = reserved p (codes "UNCHANGED") (see q (mark tk.open_tuple) (spell_names ns (see s (mark tk.close_tuple) r)))
-  spell_item (exists_form p q x s a t is) r = see p (key tk.exists_key) (word q x (see s (sign op.In) (phrase a (see t (mark tk.colon) (spell_list is r)))))
-  spell_item (local_form p q x s a t is) r = see p (key tk.let_key) (word q x (see s (mark tk.defines) (phrase a (see t (key tk.in_key) (spell_list is r)))))
-  spell_item (choice_form p a q is s js) r = see p (key tk.if_key) (phrase a (see q (key tk.then_key) (spell_list is (see s (key tk.else_key) (spell_list js r)))))
+  spell_item (test_form p a q) r = see p (mark tk.open_bracket) (spell a (see q (mark tk.close_bracket) r))
+  spell_item (setting_form p x q s a) r = word p x (see q (mark tk.prime) (see s (sign op.Equal) (spell a r)))
+  spell_item (unchanged_form p q ns s) r = keyword p (codes "UNCHANGED") (see q (mark tk.open_tuple) (spell_names ns (see s (mark tk.close_tuple) r)))
+  spell_item (exists_form p q x s a t is) r = see p (key tk.exists_key) (word q x (see s (sign op.In) (spell a (see t (mark tk.colon) (spell_list is r)))))
+  spell_item (local_form p q x s a t is) r = see p (key tk.let_key) (word q x (see s (mark tk.defines) (spell a (see t (key tk.in_key) (spell_list is r)))))
+  spell_item (choice_form p a q is s js) r = see p (key tk.if_key) (spell a (see q (key tk.then_key) (spell_list is (see s (key tk.else_key) (spell_list js r)))))
   spell_item (either_form bs) r = spell_branches bs r
 
   pub spell_list : ListForm → Tokens
@@ -157,7 +135,7 @@ pub data CallForm : Type 0 where
 
 abbrev pub spell_call : CallForm → Tokens
 spell_call (call_form p x) r = word p x r
-spell_call (call_with_form p x q a s) r = word p x (see q (mark tk.open_bracket) (phrase a (see s (mark tk.close_bracket) r)))
+spell_call (call_with_form p x q a s) r = word p x (see q (mark tk.open_bracket) (spell a (see s (mark tk.close_bracket) r)))
 
 abbrev pub call_of : CallForm → Call
 call_of (call_form p x) = call x
@@ -173,7 +151,7 @@ pub data WayForm : Type 0 where
 
 abbrev pub spell_way : WayForm → Tokens
 spell_way (one_form u) r = spell_call u r
-spell_way (some_form p q x s a t u) r = see p (key tk.exists_key) (word q x (see s (sign op.In) (phrase a (see t (mark tk.colon) (spell_call u r)))))
+spell_way (some_form p q x s a t u) r = see p (key tk.exists_key) (word q x (see s (sign op.In) (spell a (see t (mark tk.colon) (spell_call u r)))))
 
 abbrev pub way_of : WayForm → Way
 way_of (one_form u) = one_way (call_of u)
@@ -184,7 +162,7 @@ GoodWay e (one_form u) = GoodCall e u
 GoodWay e (some_form p q x s a t u) = Right e p × Right e q × Right e s × Good e a × Right e t × GoodCall e u
 
 -- a list of forms, each after its bullet
-abbrev pub spell_bullets : {A : Type 0} → ExprToken → (A → Tokens) → List (Place × A) → Tokens
+abbrev pub spell_bullets : {A : Type 0} → TokenView → (A → Tokens) → List (Place × A) → Tokens
 spell_bullets k f [] r = r
 spell_bullets k f (x ∷ xs) r = see x.0 k (f x.1 (spell_bullets k f xs r))
 

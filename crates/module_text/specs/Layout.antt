@@ -1,4 +1,4 @@
--- The text of a translation: its units in their order, one empty line between two, each line ended by LF. A list stands at an indentation, its
+-- The text of a translation: its units in their order, one empty line between two, each line ended by LF. A list is at an indentation, its
 -- bullets in one column ("Specifying Systems", section 15.2 on lists of /\ and \/).
 use Rattle.std.specs.Prelude.{ℕ, zero, suc, ◌+◌, List, [], ◌∷◌, ◌++◌, map, cond, Option, Some, None, codes}
 use Rattle.tla_expr.specs.Tree.{Word, Tree}

@@ -12,7 +12,7 @@ pub mod ModuleTruth
 pub mod ProcessPart
 pub mod Grammar
 pub mod Units
-pub mod ModuleTokens
+pub mod UnitCut
 pub mod Outside
 pub mod Reading
 pub mod Offences

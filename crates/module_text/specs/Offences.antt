@@ -1,5 +1,5 @@
 -- What is wrong with a file before its algorithm is read: no module or algorithm, two algorithms, a broken region, no room for the translation, options
--- ("A PlusCal User's Manual", sections 2.1 and 2.2; "Specifying Systems", section 15.1). Below these stand the rules on tokens.
+-- ("A PlusCal User's Manual", sections 2.1 and 2.2; "Specifying Systems", section 15.1). Below these are the rules on tokens.
 use Rattle.std.specs.Prelude.{◌≡◌, ℕ, suc, ◌+◌, ◌-◌, Bool, true, false, ◌&&◌, ◌||◌, not, nat_eq, nat_le, List, [], ◌∷◌, ◌++◌, length, take, drop, Option, Some, None, codes, if◌then◌else◌}
 use Rattle.tla_token.specs.declared.rule.Rule.{Rule}
 use Rattle.tla_token.specs.declared.rule.Rule.TheVariants.{NoModule, NoAlgorithm, TwoAlgorithms, BadRegion, Placement, Options}
@@ -10,7 +10,7 @@ use Rattle.tla_token.specs.Words.{is_tla_word}
 use Rattle.tla_token.specs.Lexemes.{is_blank}
 use Rattle.tla_token.specs.Offences.{Offence, least}
 use Rattle.std.specs.Prelude.{is_some}
-use Rattle.module_text.specs.ModuleTokens.{unit_words}
+use Rattle.module_text.specs.UnitCut.{unit_words}
 use Rattle.module_text.specs.TextFront.{Text, begins, is_space, past_all, on_some, past_word, past_blanks, word_at, past_name, at_line, line_of, line_end}
 use Rattle.module_text.specs.Comments.{Mode, plain, quoted, block, Found, step, is_plain, ends_module, seek, outside_comments}
 use Rattle.module_text.specs.HeaderAndRegion.{is_header, is_begin, is_end, is_start}
@@ -138,7 +138,7 @@ no_unit_after x n s =
     let at = n + (length s - length (past_gap plain s)) in
     if begins_unit (place_at x at).col (past_gap plain s) then [] else (Placement, at) ∷ []
 
--- past_all the algorithm's comment, on its line, stand only blanks
+-- past_all the algorithm's comment, on its line, are only blanks
 abbrev pub rest_of_line : ℕ → Text → List Offence
 rest_of_line n s = by (past_all is_space s)
   where
@@ -166,7 +166,7 @@ no_room x (t ∷ []) = by (seek begins_algorithm plain true t.1)
 abbrev pub placements : Text → List Offence
 placements x = no_room x (looked_at x) ++ offences_at Placement (all_in is_inner_header (looked_at x))
 
--- `PlusCal options (`, wherever it stands outside the region
+-- `PlusCal options (`, wherever it is outside the region
 abbrev pub is_options : Mode → Bool → Text → Bool
 is_options m first s =
     is_some (on_some (past_word (codes "PlusCal") s) (λ r. on_some (past_blanks is_blank r) (λ r.

@@ -8,14 +8,14 @@ use Rattle.tla_token.specs.Words.{is_standard}
 use Rattle.tla_expr.specs.declared.op.Op.{Op}
 use Rattle.tla_expr.specs.declared.op.Op.TheVariants as op
 use Rattle.tla_expr.specs.Tree.{Word, Name, Form, number, strings, name, next, strict, operator, operator_call, member, binding, local, Tree, node, Trees, no_trees, tree, words, seen_names}
-use Rattle.tla_expr.specs.Lexical.{mark}
+use Rattle.tla_expr.specs.Lexical.{TokenView, Token, mark}
 use Rattle.tla_expr.specs.Lexical as tk
-use Rattle.tla_expr.specs.Spelling.{Phrase, Right, Good}
+use Rattle.tla_expr.specs.Spelling.{Phrase, Right, Good, tree_of}
 use Rattle.tla_expr.specs.Nesting.{text_nesting}
 use Rattle.tla_value.specs.Definitions.{Definition}
 use Rattle.tla_value.specs.Outside.{Opaque, ReadDefinition}
 use Rattle.module_text.specs.Module.{OutsideUnit, extends, constants, defines, opaque, definitions_of, found}
-use Rattle.module_text.specs.Grammar.{Token, Kind, seen, keyword, reserved, Names, spell_names, names_of, GoodNames, tree_of}
+use Rattle.module_text.specs.Grammar.{keyword, Names, spell_names, names_of, GoodNames}
 use Rattle.module_text.specs.Units.{ParameterForm, parameters, GoodParameters, definition_form, spell_unit}
 
 -- what an outside unit may use
@@ -160,17 +160,17 @@ abbrev pub identifiers : List Token → List Word
 identifiers [] = []
 identifiers (t ∷ ts) = by t.kind (identifiers ts)
   where
-    by : Kind → List Word → List Word
-    by (seen (tk.word x)) xs = x ∷ xs
-    by (seen (tk.reserved x)) xs = x ∷ xs
+    by : TokenView → List Word → List Word
+    by (tk.word x) xs = x ∷ xs
+    by (tk.reserved x) xs = x ∷ xs
     by _ xs = xs
 
 abbrev pub first_one : List Word → List Word
 first_one [] = []
 first_one (x ∷ xs) = x ∷ []
 
-abbrev pub is_define : Kind → Bool
-is_define (seen (mark tk.defines)) = true
+abbrev pub is_define : TokenView → Bool
+is_define (mark tk.defines) = true
 is_define _ = false
 
 -- N, where `N ==` stands here
@@ -178,8 +178,8 @@ abbrev pub title_at : List Token → List Word
 title_at (t ∷ u ∷ ts) = cond (is_define u.kind) (identifiers (t ∷ [])) []
 title_at _ = []
 
-abbrev pub keyword_of : Kind → Word
-keyword_of (keyword w) = w
+abbrev pub keyword_of : TokenView → Word
+keyword_of (tk.other w) = w
 keyword_of _ = []
 
 abbrev pub names_by : Word → Token → List Token → List Word
@@ -197,7 +197,7 @@ pub record Named (w : Word) (ts : List Token) (xs : List Name) : Type 0 where
   pub at : Place
   pub names : Names
   pub good : GoodNames 1 names
-  pub spelled : ts ≡ reserved at w (spell_names names [])
+  pub spelled : ts ≡ keyword at w (spell_names names [])
   pub are : names_of names ≡ xs
 
 pub record Defined (v : Sight) (ts : List Token) (d : ReadDefinition) : Type 0 where

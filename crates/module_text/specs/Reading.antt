@@ -8,9 +8,10 @@ use Rattle.module_text.specs.Module.{units_of, OutsideUnit, Module, outside_of}
 use Rattle.module_text.specs.TextFront.{Text, on_some, at_line, line_of, line_end}
 use Rattle.module_text.specs.Comments.{Mode, plain, ends_module, seek}
 use Rattle.module_text.specs.HeaderAndRegion.{header_title, is_header, is_start, is_end}
-use Rattle.module_text.specs.Grammar.{Token}
+use Rattle.tla_expr.specs.Lexical.{Token}
 use Rattle.module_text.specs.Units.{IsUnit}
-use Rattle.module_text.specs.ModuleTokens.{view, cut}
+use Rattle.tla_expr.specs.TokenViews.{views}
+use Rattle.module_text.specs.UnitCut.{cut}
 use Rattle.module_text.specs.Outside.{Sight, AllOutside}
 
 -- from the byte `from` up to the byte `to` of the text
@@ -69,7 +70,7 @@ abbrev pub AllSmall : List text.Token → Type 0
 AllSmall [] = Unit {0}
 AllSmall (t ∷ ts) = is_small t.kind × AllSmall ts
 
--- modules and constants count wherever they stand
+-- modules and constants count wherever they are
 abbrev pub sight : Module → Sight
 sight m = record { modules = m.outside.extended; constants = words m.outside.constants; earlier = [] }
 
@@ -81,15 +82,15 @@ pub record Reads (w : Text) (m : Module) : Type 0 where
   pub front : List text.Token
   pub front_tokens : Tok w parts.before.from parts.before.to front
   pub before : List OutsideUnit
-  pub are_before : AllOutside true (sight m) (cut (view front)).units before
+  pub are_before : AllOutside true (sight m) (cut (views front)).units before
   pub middle : List text.Token
   pub middle_tokens : Tok w parts.region.from parts.region.to middle
   pub small : AllSmall middle
-  pub none_before_region : (cut (view middle)).front ≡ []
-  pub region : AllAre IsUnit (cut (view middle)).units (units_of m.region)
+  pub none_before_region : (cut (views middle)).front ≡ []
+  pub region : AllAre IsUnit (cut (views middle)).units (units_of m.region)
   pub back : List text.Token
   pub back_tokens : Tok w parts.after.from parts.after.to back
-  pub none_before_after : (cut (view back)).front ≡ []
+  pub none_before_after : (cut (views back)).front ≡ []
   pub after : List OutsideUnit
-  pub are_after : AllOutside false (sight m) (cut (view back)).units after
+  pub are_after : AllOutside false (sight m) (cut (views back)).units after
   pub outside : m.outside ≡ outside_of (before ++ after)

@@ -4,12 +4,11 @@ use Rattle.tla_token.specs.declared.place.Place.{Place}
 use Rattle.tla_token.specs.Words.{is_own}
 use Rattle.tla_expr.specs.declared.op.Op.TheVariants as op
 use Rattle.tla_expr.specs.Tree.{Word, Tree}
-use Rattle.tla_expr.specs.Lexical.{ExprToken, sign, mark, key}
+use Rattle.tla_expr.specs.Lexical.{TokenView, Token, sign, mark, key}
 use Rattle.tla_expr.specs.Lexical as tk
-use Rattle.tla_expr.specs.Spelling.{Phrase, Right, Good}
-use Rattle.tla_expr.specs.Spelling as spelled
+use Rattle.tla_expr.specs.Spelling.{Phrase, Right, Good, spell, tree_of, word}
 use Rattle.module_text.specs.Module.{Body, all_of, some_of, Fairness, RegionUnit, constant_unit, variables_unit, definition_unit, vars_unit, process_set_unit, init_unit, action_unit, terminating_unit, next_unit, spec_unit, termination_unit}
-use Rattle.module_text.specs.Grammar.{Token, Tokens, see, reserved, phrase, word, Names, spell_names, words_of, GoodNames, tree_of, ListForm, spell_list, items_of, list_column, GoodList, CallForm, spell_call, call_of, GoodCall, WayForm, spell_way, way_of, GoodWay, spell_bullets, GoodSome, each}
+use Rattle.module_text.specs.Grammar.{Tokens, see, keyword, Names, spell_names, words_of, GoodNames, ListForm, spell_list, items_of, list_column, GoodList, CallForm, spell_call, call_of, GoodCall, WayForm, spell_way, way_of, GoodWay, spell_bullets, GoodSome, each}
 
 -- ---- fairness
 
@@ -40,15 +39,15 @@ pub record FairForm : Type 0 where
 
 abbrev pub spell_over : Option OverForm → Tokens
 spell_over None r = r
-spell_over (Some f) r = see f.all (key tk.for_all_key) (word f.at f.name (see f.in_at (sign op.In) (phrase f.set (see f.colon (mark tk.colon) r))))
+spell_over (Some f) r = see f.all (key tk.for_all_key) (word f.at f.name (see f.in_at (sign op.In) (spell f.set (see f.colon (mark tk.colon) r))))
 
 abbrev pub spell_guard : Option GuardForm → Tokens
 spell_guard None r = r
-spell_guard (Some f) r = see f.left (mark tk.open_bracket) (phrase f.test (see f.right (mark tk.close_bracket) (see f.and_at (sign op.And) r)))
+spell_guard (Some f) r = see f.left (mark tk.open_bracket) (spell f.test (see f.right (mark tk.close_bracket) (see f.and_at (sign op.And) r)))
 
 abbrev pub spell_fair : FairForm → Tokens
 spell_fair f r =
-    spell_over f.over (reserved f.at (cond f.strong (codes "SF_vars") (codes "WF_vars")) (see f.left (mark tk.open_bracket)
+    spell_over f.over (keyword f.at (cond f.strong (codes "SF_vars") (codes "WF_vars")) (see f.left (mark tk.open_bracket)
     (spell_guard f.guard (spell_call f.action (see f.right (mark tk.close_bracket) r)))))
 
 abbrev pub over_of : Option OverForm → Option (Word × Tree)
@@ -150,20 +149,20 @@ spell_parameter None r = r
 spell_parameter (Some f) r = see f.0 (mark tk.open_bracket) (word f.1 f.2 (see f.3 (mark tk.close_bracket) r))
 
 abbrev pub spell_unit : UnitForm → Tokens
-spell_unit (constant_form p ns) r = reserved p (codes "CONSTANT") (spell_names ns r)
-spell_unit (variables_form p ns) r = reserved p (codes "VARIABLES") (spell_names ns r)
-spell_unit (definition_form p x f q a) r = word p x (spell_parameters f (see q (mark tk.defines) (phrase a r)))
+spell_unit (constant_form p ns) r = keyword p (codes "CONSTANT") (spell_names ns r)
+spell_unit (variables_form p ns) r = keyword p (codes "VARIABLES") (spell_names ns r)
+spell_unit (definition_form p x f q a) r = word p x (spell_parameters f (see q (mark tk.defines) (spell a r)))
 spell_unit (vars_form p q s ns t) r = titled p (codes "vars") q (see s (mark tk.open_tuple) (spell_names ns (see t (mark tk.close_tuple) r)))
-spell_unit (process_set_form p q a) r = titled p (codes "ProcSet") q (phrase a r)
-spell_unit (init_form p q es) r = titled p (codes "Init") q (spell_bullets (sign op.And) phrase es r)
+spell_unit (process_set_form p q a) r = titled p (codes "ProcSet") q (spell a r)
+spell_unit (init_form p q es) r = titled p (codes "Init") q (spell_bullets (sign op.And) spell es r)
 spell_unit (action_form p x f q b) r = word p x (spell_parameter f (see q (mark tk.defines) (spell_body b r)))
 spell_unit (terminating_form p q s t a u v w z) r =
-    titled p (codes "Terminating") q (see s (sign op.And) (see t (mark tk.open_bracket) (phrase a (see u (mark tk.close_bracket)
-    (see v (sign op.And) (reserved w (codes "UNCHANGED") (word z (codes "vars") r)))))))
+    titled p (codes "Terminating") q (see s (sign op.And) (see t (mark tk.open_bracket) (spell a (see u (mark tk.close_bracket)
+    (see v (sign op.And) (keyword w (codes "UNCHANGED") (word z (codes "vars") r)))))))
 spell_unit (next_form p q ys) r = titled p (codes "Next") q (spell_bullets (sign op.Or) spell_way ys r)
 spell_unit (spec_form p q s t u f fs) r = titled p (codes "Spec") q (spell_bullets (sign op.And) spell_spec ((s, start_line t) ∷ (u, f) ∷ fair_specs fs) r)
 spell_unit (termination_form p q s t u a v) r =
-    titled p (codes "Termination") q (see s (sign op.Less) (see t (sign op.Greater) (see u (mark tk.open_bracket) (phrase a (see v (mark tk.close_bracket) r)))))
+    titled p (codes "Termination") q (see s (sign op.Less) (see t (sign op.Greater) (see u (mark tk.open_bracket) (spell a (see v (mark tk.close_bracket) r)))))
 
 abbrev pub parameter_of : Option (Place × Place × Word × Place) → Option Word
 parameter_of None = None
@@ -183,11 +182,11 @@ unit_of (spec_form p q s t u f fs) = spec_unit (each fairness_of fs)
 unit_of (termination_form p q s t u a v) = termination_unit (tree_of a)
 
 -- the body of a definition begins with no bullet: what does is an action
-abbrev pub begins_list : List tk.Token → Bool
+abbrev pub begins_list : List Token → Bool
 begins_list [] = false
 begins_list (t ∷ ts) = is_bullet t.kind
   where
-    is_bullet : ExprToken → Bool
+    is_bullet : TokenView → Bool
     is_bullet (sign op.And) = true
     is_bullet (sign op.Or) = true
     is_bullet _ = false
@@ -204,7 +203,7 @@ GoodParameter (Some f) = Right 1 f.0 × Right 1 f.1 × Right 1 f.3
 abbrev pub GoodUnit : UnitForm → Type 0
 GoodUnit (constant_form p ns) = GoodNames 1 ns
 GoodUnit (variables_form p ns) = GoodNames 1 ns
-GoodUnit (definition_form p x f q a) = IsTrue (not (is_own x)) × GoodParameters f × Right 1 q × Good 1 a × IsTrue (not (begins_list (spelled.spell a [])))
+GoodUnit (definition_form p x f q a) = IsTrue (not (is_own x)) × GoodParameters f × Right 1 q × Good 1 a × IsTrue (not (begins_list (spell a [])))
 GoodUnit (vars_form p q s ns t) = Right 1 q × Right 1 s × GoodNames 1 ns × Right 1 t
 GoodUnit (process_set_form p q a) = Right 1 q × Good 1 a
 GoodUnit (init_form p q es) = Right 1 q × GoodSome Good es

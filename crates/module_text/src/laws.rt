@@ -3,7 +3,7 @@
 ghost use Rattle.std.specs.Prelude.{◌≡◌, ℕ, List};
 ghost use Rattle.tla_token.specs.declared.rule.Refusal.{Refusal};
 ghost use Rattle.module_text.specs.Module.{Region, RegionUnit, units_of, Module};
-ghost use Rattle.module_text.specs.Grammar.{Token};
+ghost use Rattle.tla_expr.specs.Lexical.{Token};
 ghost use Rattle.module_text.specs.Units.{IsUnit};
 ghost use Rattle.module_text.specs.Reading.{Reads};
 ghost use Rattle.module_text.specs.Around.{Around, Swapped};

@@ -1,4 +1,4 @@
-//! Modules of TLA+: their trees, the text of a translation, where it stands in a file, and what it says of states.
+//! Modules of TLA+: their trees, the text of a translation, where it is in a file, and what it says of states.
 #![tactic(auto)]
 
 pub mod laws;

@@ -10,7 +10,7 @@ pub fn begin_text() -> &'static str
     "\\* BEGIN TRANSLATION\n"
 }
 
-/// The line after a translation, without a line end: in its place stands what stood after an old one.
+/// The line after a translation, without a line end: in its place is what was after an old one.
 pub fn end_text() -> &'static str
     ensures { result.now ≡ end_line }
 {

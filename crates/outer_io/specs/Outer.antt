@@ -3,12 +3,12 @@ use Rattle.std.specs.Prelude.{◌≡◌, ℕ, ◌+◌, ◌-◌, ◌^◌, ◌<◌
 use Rattle.std.specs.Str.{bytes_eq}
 use Rattle.std.specs.declared.alloc.Global.{Global}
 
--- a count rose by so many, or by fewer and stands at its last value
+-- a count rose by so many, or by fewer and is at its last value
 pub record RoseBy (n old new : ℕ) : Type 0 where
   pub no_less : min (old + n) (2 ^ 64 - 1) ≤ new
   pub no_more : new ≤ old + n
 
--- a count rose by more than so many, or stands at its last value
+-- a count rose by more than so many, or is at its last value
 abbrev pub RoseAbove : ℕ → ℕ → ℕ → Type 0
 RoseAbove n old new = min (old + n + 1) (2 ^ 64 - 1) ≤ new
 

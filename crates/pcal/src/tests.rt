@@ -72,7 +72,7 @@ const OF_NO_FORM: [&str; 28] = [
     "12|Inc|variables x = 0;|A: x := 1;",
 ];
 
-/// What stands before and after the front, in place of the last two lines.
+/// What is before and after the front, in place of the last two lines.
 const OTHER_LINES: [(&str, &str); 6] = [
     ("Free text.\n", BACK),
     ("", "*)\n====\nFree text.\n"),
@@ -87,7 +87,7 @@ fn cell(row: &str, number: usize) -> &str {
     row.split('|').nth(number).unwrap_or("")
 }
 
-/// A text between whose marks the numbers of cells stand, with these cells of a row in their place.
+/// A text between whose marks the numbers of cells are, with these cells of a row in their place.
 fn filled(alloc: Global, template: &str, row: &str) -> Result<String, AllocError> {
     let mut text = String::new(alloc);
     for (i, part) in template.split('@').enumerate() {

@@ -1,13 +1,10 @@
 -- Bytes at the front of a text that pass a test, counted one by one.
-use Rattle.std.proofs.Common.{◌≡◌, ℕ, suc, ◌+◌, ◌≤◌, Bool, true, false, nat_eq, List, [], ◌∷◌, length, take, refl, ap, ◌∙◌, arith, length-append}
+use Rattle.std.proofs.Common.{◌≡◌, ℕ, suc, ◌≤◌, Bool, true, false, nat_eq, List, [], ◌∷◌, length, take, refl, ap, ◌∙◌, arith, length-append}
 use Rattle.std.specs.List.{list_all}
 use Rattle.std.proofs.Math.Seq.{take-append_seam}
 use Rattle.std.proofs.lemmas.Bool.{ne_eqb, eq-eqb, eqb-true, eqb-false}
 use Rattle.tla_token.specs.Cut.{run}
-use Rattle.tla_token.proofs.Words.{run_splits}
-
-one_plus : (n : ℕ) → 1 + n ≡ suc n
-one_plus n = omega arith
+use Rattle.tla_token.proofs.Words.{run_splits, one_plus}
 
 pub run_taken : (p : ℕ → Bool) (x : List ℕ) → take (length (run p x)) x ≡ run p x
 run_taken p x = (let s = run_splits p x in ap (take (length (run p x))) s.1 ∙ take-append_seam (run p x) s.0)

@@ -1,5 +1,5 @@
 -- The code's order of reading a text of the form gives what the definition gives: a token at the front is the first of the kinds.
-use Rattle.std.proofs.Common.{◌≡◌, ℕ, suc, ◌+◌, ◌-◌, ◌≤◌, Bool, true, false, ◌&&◌, nat_eq, nat_lt, List, [], ◌∷◌, ◌++◌, length, take, drop, Option, Some, None, refl, sym, ap, subst, ◌∙◌, arith, codes, length-append, length-drop}
+use Rattle.std.proofs.Common.{◌≡◌, ℕ, ◌+◌, ◌-◌, ◌≤◌, Bool, true, false, ◌&&◌, nat_eq, nat_lt, List, [], ◌∷◌, ◌++◌, length, take, drop, Option, Some, None, refl, sym, ap, subst, ◌∙◌, arith, codes, length-append, length-drop}
 use Rattle.std.proofs.lemmas.Option.{none-some}
 use Rattle.std.specs.List.{list_any, starts_with}
 use Rattle.std.proofs.lemmas.Bool.{and_parts, eqb-true, lt-ltb}
@@ -12,7 +12,7 @@ use Rattle.tla_token.specs.Lexemes.{Kind, name, number, one, number_of, unquoted
 use Rattle.tla_token.specs.Tokens.{blank, block, line, lexeme}
 use Rattle.tla_token.specs.Offences.{Part, sound, stray, bad_string, cut_string, open_string, open_block, part_bytes, string_len, begins_with}
 use Rattle.tla_token.specs.Cut.{run, comment_len, block_part, string_part, or_other, part_at, lexeme_part, sign_part, sign_at, sign_of, parts, parts_at}
-use Rattle.tla_token.proofs.Words.{run_splits, word_front, digit_word}
+use Rattle.tla_token.proofs.Words.{run_splits, word_front, digit_word, one_plus}
 use Rattle.tla_token.proofs.Longest.{find_passes, sign_stands}
 use Rattle.tla_token.proofs.Parted.{first_part, parts_step}
 use Rattle.first_path.specs.FormRead.{on_some, kinds_in, gap_skipped}
@@ -21,7 +21,7 @@ use Rattle.pcal_cli.proofs.Runs.{run_taken}
 
 -- ---- signs of the form
 
--- what stands at the front: a sign of the form, or another that may be none
+-- what is at the front: a sign of the form, or another that may be none
 data Marked (b : ℕ) (bs : List ℕ) : Type 0 where
   marked : (s : Sign) (c : ℕ) (w rest : List ℕ) → b ∷ bs ≡ (c ∷ w) ++ rest → mark_at (b ∷ bs) ≡ Some (s, length (c ∷ w))
       → part_at b bs ≡ sound (lexeme (one s) (c ∷ w)) → Marked b bs
@@ -70,9 +70,6 @@ marks b bs = by (nat_eq 58 b) refl (nat_eq 61 b) refl (nat_eq 59 b) refl (nat_eq
     by false k false f false g false e = unmarked (rw (k, f, g, e) refl) (elsewhere b bs k f g e)
 
 -- ---- blanks
-
-one_plus : (n : ℕ) → 1 + n ≡ suc n
-one_plus n = omega arith
 
 skipped : (b : ℕ) (bs : List ℕ) → is_blank b ≡ true → gap_skipped (b ∷ bs) ≡ gap_skipped bs
 skipped b bs h = rw (h, one_plus) refl

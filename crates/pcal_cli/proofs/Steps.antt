@@ -159,7 +159,7 @@ alone : {A : Type 0} (v : Word) (a : Operand) (f : Right → List Kind → Optio
 alone v a f (Some (one sign.Plus ∷ ks)) h = absurd h
 alone v a f _ h = refl
 
--- a plus stands first in the text, or there is none among the kinds either
+-- a plus is first in the text, or there is none among the kinds either
 data Plus (x : List ℕ) : Type 0 where
   plus : (r : List ℕ) → past_sign as_plus x ≡ Some r → kinds_in (parts x) ≡ on_some (kinds_in (parts r)) (λ ks. Some (one sign.Plus ∷ ks)) → Plus x
   no_plus : past_sign as_plus x ≡ None → NotPlus (kinds_in (parts x)) → Plus x
@@ -219,7 +219,7 @@ behind_plus : {A : Type 0} (o : Option (List Kind)) (F : List Kind → Option A)
 behind_plus None F = refl
 behind_plus (Some ks) F = refl
 
--- behind the left operand
+-- after the left operand
 sum_step : {A : Type 0} (v : Word) (a : Operand) (f : Right → List Kind → Option A) (go : Right × List ℕ → Option A) (x : List ℕ)
     → ((e : Right) (r : List ℕ) → on_some (kinds_in (parts r)) (f e) ≡ go (capped_right e, r))
     → on_some (kinds_in (parts x)) (λ ks. on_right v a ks f) ≡ on_some (sum_from v (capped_operand a) x (past_sign as_plus x)) go

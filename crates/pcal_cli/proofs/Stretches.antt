@@ -1,7 +1,7 @@
 -- The stretches of tokens that the code reads, and the whole algorithm, are what the definition reads.
 use Rattle.std.proofs.Common.{◌≡◌, ℕ, ◌<◌, ◌≤◌, Bool, true, false, ◌&&◌, not, nat_lt, List, Option, Some, None, refl, sym, ap, ◌∙◌, arith, codes, min}
 use Rattle.std.specs.Str.{bytes_eq}
-use Rattle.std.proofs.lemmas.Bool.{and_parts, false_from_ne_true, ltb-true, ltb-false, lt-ltb}
+use Rattle.std.proofs.lemmas.Bool.{and_parts, false_from_ne_true, ltb-true, ltb-false, lt-ltb, and_right}
 use Rattle.tla_token.specs.Lexemes.{Kind}
 use Rattle.tla_token.specs.Cut.{parts}
 use Rattle.tla_token.specs.Words.{is_reserved}
@@ -104,10 +104,6 @@ false_within : (p s b c d g r : Bool) → s ≡ false → (p && s && b && c && d
 false_within true s b c d g r e = rw e refl
 false_within false s b c d g r e = refl
 
-false_last : (p r : Bool) → r ≡ false → (p && r) ≡ false
-false_last true r e = e
-false_last false r e = refl
-
 unfit : (f : Parts) → is_fit f ≡ false → fit f ≡ None
 unfit f h = ap (λ (k : Bool). if_so k (Some f)) h
 
@@ -118,7 +114,7 @@ unfit_initial f h =
 
 unfit_right : (f : Parts) → is_small_right f.right ≡ false → fit f ≡ None
 unfit_right f h =
-    unfit f (false_last (is_name f.title && not (is_reserved f.title) && is_free f.algorithm && is_free f.variable && is_small f.initial && is_free f.label
+    unfit f (and_right (is_name f.title && not (is_reserved f.title) && is_free f.algorithm && is_free f.variable && is_small f.initial && is_free f.label
     && not (bytes_eq f.label f.variable) && not (bytes_eq f.label (codes "Done")) && not (bytes_eq f.label (codes "Error"))) (is_small_right f.right) h)
 
 -- parts with a number past the greatest don't fit, nor do they with the number that is read in its place

@@ -79,7 +79,7 @@ fn is_blank(byte: u8) -> bool
     byte == b' ' || byte == b'\t' || byte == b'\n' || byte == b'\r'
 }
 
-/// How many letters, digits and underscores stand at the front.
+/// How many letters, digits and underscores are at the front.
 fn word_len(text: &[u8]) -> usize
     ensures { result ≡ length (run is_word_of text.now) }
 {
@@ -91,7 +91,7 @@ fn word_len(text: &[u8]) -> usize
     text.len()
 }
 
-/// How many digits stand at the front.
+/// How many digits are at the front.
 fn digits_len(text: &[u8]) -> usize
     ensures { result ≡ length (run is_digit_of text.now) }
 {
@@ -103,7 +103,7 @@ fn digits_len(text: &[u8]) -> usize
     text.len()
 }
 
-/// How many blanks stand at the front.
+/// How many blanks are at the front.
 fn blanks_len(text: &[u8]) -> usize
     ensures { result ≡ length (run is_blank_of text.now) }
 {
@@ -331,7 +331,7 @@ fn is_small_right(right: Right) -> bool
     }
 }
 
-/// Whether the names may stand where they do, and no number is past those of the form.
+/// Whether the names may be where they are, and no number is past those of the form.
 fn is_fit(form: &Form<'_>) -> bool
     ensures { result ≡ is_fit_of (parts_of form.now) }
 {
@@ -371,7 +371,7 @@ fn past<'a>(text: &'a [u8], front: &[u8]) -> Option<&'a [u8]>
     text.strip_prefix(front)
 }
 
-/// What stands before bytes at the end.
+/// What is before bytes at the end.
 fn before<'a>(text: &'a [u8], end: &[u8]) -> Option<&'a [u8]>
     ensures { MatchOption result (before_of end.now text.now ≡ None) (λ r. before_of end.now text.now ≡ Some r.now) }
 {

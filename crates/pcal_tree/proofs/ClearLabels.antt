@@ -13,11 +13,11 @@ use Rattle.pcal_tree.specs.laws.Apart.{NoEndLabels}
 use Rattle.pcal_tree.proofs.OneStand.{every_both}
 
 -- two lists without items
-nothing_left : {X : Type 0} (xs ys : List X) → xs ++ ys ≡ [] → xs ≡ []
+pub nothing_left : {X : Type 0} (xs ys : List X) → xs ++ ys ≡ [] → xs ≡ []
 nothing_left [] ys e = refl
 nothing_left (x ∷ xs) ys e = cc
 
-nothing_right : {X : Type 0} (xs ys : List X) → xs ++ ys ≡ [] → ys ≡ []
+pub nothing_right : {X : Type 0} (xs ys : List X) → xs ++ ys ≡ [] → ys ≡ []
 nothing_right [] ys e = e
 nothing_right (x ∷ xs) ys e = cc
 

@@ -1,9 +1,9 @@
 -- A name with a number after it is no reserved, own or standard name: none of these ends with a digit.
-use Rattle.std.proofs.Common.{◌≡◌, ℕ, ◌+◌, ◌<◌, ◌≤◌, ◌^◌, length, drop, get_or, List, [], ◌∷◌, ◌++◌, Bool, true, false, ◌||◌, ◌&&◌, not, cond, bytes_eq, codes, refl, sym, ◌∙◌, ap, subst, decimal, arith}
+use Rattle.std.proofs.Common.{◌≡◌, ℕ, ◌+◌, ◌<◌, ◌≤◌, ◌^◌, length, drop, get_or, List, [], ◌∷◌, ◌++◌, Bool, true, false, ◌||◌, not, cond, bytes_eq, codes, refl, sym, ◌∙◌, ap, subst, decimal, arith}
 use Rattle.std.specs.List.{list_all, AllByRecursion}
 use Rattle.std.specs.Str.Parse.{AllDigits, IsNumeral}
 use Rattle.std.proofs.lemmas.Slice.Eq.{bytes_eq-Decides}
-use Rattle.std.proofs.lemmas.Bool.{and_parts, and_from, or_left, or_right, false_from_ne_true, not-true, le-leb}
+use Rattle.std.proofs.lemmas.Bool.{and_parts, and_from, or_left, or_right, false_from_ne_true, not-true, le-leb, or_from, and_right}
 use Rattle.std.proofs.lemmas.Fmt.{decimal_is_IsNumeral}
 use Rattle.std.proofs.lemmas.Str.Parse.{digit_from_value}
 use Rattle.tla_token.specs.Lexemes.{is_digit}
@@ -77,10 +77,6 @@ tlc_plain = refl
 
 -- ---- fairness
 
-both_false : (a b : Bool) → a ≡ false → b ≡ false → (a || b) ≡ false
-both_false true b e f = cc
-both_false false b e f = f
-
 -- c_F_, for W or S
 abbrev opening : ℕ → Word
 opening c = c ∷ 70 ∷ 95 ∷ []
@@ -130,7 +126,7 @@ opens_no c x ds bare other numeral shut =
 no_fairness : (x : Word) (n : ℕ) → n < 2 ^ 64 → begins_fairness x ≡ false → begins_fairness (numbered x n) ≡ false
 no_fairness x n p e =
     let numeral = (decimal_is_IsNumeral n p).0 in
-    both_false _ _
+    or_from _ _
     (opens_no 87 x (decimal n) refl (λ s. omega arith) numeral (false_from_ne_true (begins x (opening 87)) (λ h. clash (sym (or_left _ _ h) ∙ e))))
     (opens_no 83 x (decimal n) refl (λ s. omega arith) numeral
     (false_from_ne_true (begins x (opening 83)) (λ h. clash (sym (or_right (begins x (opening 87)) (begins x (opening 83)) h) ∙ e))))
@@ -143,30 +139,26 @@ no_fairness x n p e =
 none_of_reserved : (x : Word) (n : ℕ) → n < 2 ^ 64 → begins_fairness x ≡ false → is_reserved (numbered x n) ≡ false
 none_of_reserved x n p e =
     let d = last_of_numbered x n p in
-    both_false (is_among pluscal_words (numbered x n)) (is_among tla_words (numbered x n) || begins_fairness (numbered x n))
+    or_from (is_among pluscal_words (numbered x n)) (is_among tla_words (numbered x n) || begins_fairness (numbered x n))
     (not_there (numbered x n) pluscal_words d pluscal_plain)
-    (both_false (is_among tla_words (numbered x n)) (begins_fairness (numbered x n)) (not_there (numbered x n) tla_words d tla_plain)
+    (or_from (is_among tla_words (numbered x n)) (begins_fairness (numbered x n)) (not_there (numbered x n) tla_words d tla_plain)
     (no_fairness x n p e))
-
-and_no : (a b : Bool) → b ≡ false → (a && b) ≡ false
-and_no true b e = e
-and_no false b e = refl
 
 none_of_standard : (extended : List Word) (x : Word) (n : ℕ) → n < 2 ^ 64 → is_standard extended (numbered x n) ≡ false
 none_of_standard extended x n p =
     let d = last_of_numbered x n p in
-    both_false _ _
-    (both_false _ _ (not_there (numbered x n) standard_names d standard_plain)
-    (and_no (is_among extended (codes "Sequences")) (is_among sequence_names (numbered x n))
+    or_from _ _
+    (or_from _ _ (not_there (numbered x n) standard_names d standard_plain)
+    (and_right (is_among extended (codes "Sequences")) (is_among sequence_names (numbered x n))
     (not_there (numbered x n) sequence_names d sequence_plain)))
-    (and_no (is_among extended (codes "TLC")) (is_among tlc_names (numbered x n)) (not_there (numbered x n) tlc_names d tlc_plain))
+    (and_right (is_among extended (codes "TLC")) (is_among tlc_names (numbered x n)) (not_there (numbered x n) tlc_names d tlc_plain))
 
 number_free : (extended taken : List Word) (x : Word) (n : ℕ) → n < 2 ^ 64 → begins_fairness x ≡ false → is_among taken (numbered x n) ≡ false
     → is_taken extended taken (numbered x n) ≡ false
 number_free extended taken x n p e q =
-    both_false (is_reserved (numbered x n) || is_own (numbered x n) || is_standard extended (numbered x n)) (is_among taken (numbered x n))
-    (both_false (is_reserved (numbered x n) || is_own (numbered x n)) (is_standard extended (numbered x n))
-    (both_false (is_reserved (numbered x n)) (is_own (numbered x n)) (none_of_reserved x n p e)
+    or_from (is_reserved (numbered x n) || is_own (numbered x n) || is_standard extended (numbered x n)) (is_among taken (numbered x n))
+    (or_from (is_reserved (numbered x n) || is_own (numbered x n)) (is_standard extended (numbered x n))
+    (or_from (is_reserved (numbered x n)) (is_own (numbered x n)) (none_of_reserved x n p e)
     (not_there (numbered x n) own_names (last_of_numbered x n p) own_plain))
     (none_of_standard extended x n p)) q
 

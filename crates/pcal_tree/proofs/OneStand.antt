@@ -1,4 +1,4 @@
--- Each process stands at one label at most: written labels are apart, and what a process runs are routines of the algorithm.
+-- Each process is at one label at most: written labels are apart, and what a process runs are routines of the algorithm.
 use Rattle.std.proofs.Common.{◌≡◌, ℕ, suc, ◌+◌, ◌<◌, ◌≤◌, length, List, [], ◌∷◌, ◌++◌, Bool, true, false, ◌||◌, cond, bytes_eq, codes, Some, refl, sym, ◌∙◌, ap, subst, inl, inr, ◌⊎◌, arith, Ok, Err}
 use Rattle.std.specs.Ordering.{is_lt}
 use Rattle.std.specs.List.{AllByRecursion}
@@ -16,6 +16,7 @@ use Rattle.pcal_tree.specs.Program.{Program, Actor}
 use Rattle.pcal_tree.specs.Calls.{label_name}
 use Rattle.pcal_tree.specs.OffencesLabels.{label_words}
 use Rattle.tla_value.specs.Outside.{Outside}
+use Rattle.tla_value.proofs.Outcomes.{ok_is}
 use Rattle.pcal_tree.specs.Names.{label, wanted, taken_at_start, given, naming, written_for}
 use Rattle.pcal_tree.specs.Step.{Stand, routines_of, StandsAt}
 use Rattle.pcal_tree.specs.laws.Apart.{FewNames, NoEndLabels}
@@ -39,18 +40,15 @@ own_of : (u : Routine) (us : List Routine) (vs : Values) → OneOf u us → AllB
 own_of u us no_values h = tt
 own_of u us (and v vs) h = (h, own_of u us vs h)
 
-got_is : {X : Type 0} {x y : X} → ◌≡◌ {A = Outcome X} (Ok x) (Ok y) → x ≡ y
-got_is e = cc
-
 own_all : (P : Program) (us : List Routine) (n : ℕ) (ps : List Process) → ((u : Routine) → OneOf u (numbered process_routine n ps) → OneOf u us)
     → (vs : List Actor) → all_actors P n ps ≡ Ok vs → AllByRecursion (Own us) vs
-own_all P us n [] h vs e = subst (AllByRecursion (Own us)) (got_is e) tt
+own_all P us n [] h vs e = subst (AllByRecursion (Own us)) (ok_is e) tt
 own_all P us n (p ∷ ps) h vs e = by (own_all P us (suc n) ps (λ u k. h u (inr k))) (identifiers_of P p) e
   where
     by_rest : (is : Values) (o : Outcome (List Actor)) → ((ws : List Actor) → o ≡ Ok ws → AllByRecursion (Own us) ws)
         → o >>= (λ more. Ok (actors_of (process_routine n p) is ++ more)) ≡ Ok vs → AllByRecursion (Own us) vs
     by_rest is (Ok ws) ih e =
-        subst (AllByRecursion (Own us)) (got_is e)
+        subst (AllByRecursion (Own us)) (ok_is e)
         (every_both (Own us) (actors_of (process_routine n p) is) ws (own_of (process_routine n p) us is (h (process_routine n p) (inl refl)))
         (ih ws refl))
     by_rest is (Err k) ih e = cc
@@ -62,7 +60,7 @@ own_all P us n (p ∷ ps) h vs e = by (own_all P us (suc n) ps (λ u k. h u (inr
 
 own_apart : (us : List Routine) (earlier vs ws : List Actor) → AllByRecursion (Own us) earlier → AllByRecursion (Own us) vs → apart earlier vs ≡ Ok ws
     → AllByRecursion (Own us) ws
-own_apart us earlier [] ws h k e = subst (AllByRecursion (Own us)) (got_is e) h
+own_apart us earlier [] ws h k e = subst (AllByRecursion (Own us)) (ok_is e) h
 own_apart us earlier (v ∷ vs) ws h k e =
     by (own_apart us (earlier ++ (v ∷ [])) vs ws (every_both (Own us) earlier (v ∷ []) h (k.0, tt)) k.1)
     (has_identifier (identifier v.self) earlier) e
@@ -88,12 +86,12 @@ united_same : (P : Program) (at : Place) (vs ws : List Actor) → united P at vs
 united_same P at vs ws e = by (P.check at (set (set_from (identifiers vs)))) e
   where
     by : (o : Outcome Value) → o >>= (λ w. Ok vs) ≡ Ok ws → vs ≡ ws
-    by (Ok v) e = got_is e
+    by (Ok v) e = ok_is e
     by (Err (fault k p)) e = cc
     by (Err (over p)) e = cc
 
 own_main : (P : Program) (m : Main) (vs : List Actor) → actors_in P m ≡ Ok vs → AllByRecursion (Own (main_routines P.algorithm m)) vs
-own_main P (alone ss) vs e = subst (AllByRecursion (Own (main_routines P.algorithm (alone ss)))) (got_is e) (inl refl, tt)
+own_main P (alone ss) vs e = subst (AllByRecursion (Own (main_routines P.algorithm (alone ss)))) (ok_is e) (inl refl, tt)
 own_main P (processes ps) vs e = by_all (all_actors P (first_process P.algorithm) ps) (own_all P us (first_process P.algorithm) ps (λ u h. h)) e
   where
     us : List Routine
@@ -104,7 +102,7 @@ own_main P (processes ps) vs e = by_all (all_actors P (first_process P.algorithm
 
     by_union : (ws : List Actor) → AllByRecursion (Own us) ws → (o : Outcome (List Actor)) → united P at ws ≡ o
         → o >>= (λ us. Ok (sorted us)) ≡ Ok vs → AllByRecursion (Own us) vs
-    by_union ws h (Ok ts) q e = subst (AllByRecursion (Own us)) (got_is e) (own_sorted us ts (subst (AllByRecursion (Own us)) (united_same P at ws ts q) h))
+    by_union ws h (Ok ts) q e = subst (AllByRecursion (Own us)) (ok_is e) (own_sorted us ts (subst (AllByRecursion (Own us)) (united_same P at ws ts q) h))
     by_union ws h (Err k) q e = cc
 
     by_apart : (ws : List Actor) → AllByRecursion (Own us) ws → (o : Outcome (List Actor)) → apart [] ws ≡ o

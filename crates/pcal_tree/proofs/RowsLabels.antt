@@ -94,7 +94,7 @@ through_a_macro = refl
 abbrev nested : Statements → Statements
 nested b = stands 2 (with (is (title (codes "z")) (num 0) no_binds) (stands 3 (with (is (title (codes "w")) (num 0) no_binds) b) done)) done
 
--- the label stands before the outer `with`; a number whose name is typed is skipped
+-- the label is before the outer `with`; a number whose name is typed is skipped
 before_the_outermost :
     labelled true (alg [] (label 1 (codes "Lbl_1") (stands 1 (sets (var x) (num 1)) (nested (stands 4 (sets (var x) (num 2)) done)))))
     ≡ alg [] (label 1 (codes "Lbl_1") (stands 1 (sets (var x) (num 1)) (label 2 (codes "Lbl_2") (nested (stands 4 (sets (var x) (num 2)) done)))))

@@ -55,6 +55,6 @@ capture_is_refused h = apart ((h.0.0.0.0).unread p (at 1)).1.0.0
     apart : true ≡ false → ⊥
     apart e = cc
 
--- what a process's statements stand in looks at no places
+-- what a process's statements are in looks at no places
 scopes_look_at_no_place : (P : Program) (v : Actor) (u : Rattle.pcal_tree.specs.Algorithm.Routine) → AnyPlace (routine_scope P v u)
 scopes_look_at_no_place P v u x at p s = refl

@@ -104,7 +104,7 @@ begins_so = (text_of (text.to_end (at 5 1) (at 5 5)) (text.begin (at 3 1) (p.las
 
 -- ---- what the grammar sees: a prime is no sign of an algorithm, a reserved word no name
 
-no_prime : kind_of (lexeme.other (codes "'")) ≡ tk.other
+no_prime : kind_of (lexeme.other (codes "'")) ≡ tk.other (codes "'")
 no_prime = refl
 
 reserved_word : kind_of (name (codes "begin")) ≡ tk.reserved (codes "begin")

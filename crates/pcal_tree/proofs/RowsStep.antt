@@ -123,7 +123,7 @@ from_pc v (Ok w) s = from_stand v (stand_named P w (routines_of P v)) s
 abbrev step_of : Actor → State → Course
 step_of v s = from_pc v (pc_of v s) s
 
--- A: z := z + x. The local of process 2 stands at [2]
+-- A: z := z + x. The local of process 2 is at [2]
 a_local : step_of number_two first_state ≡ ends (put pc (on_both (text (codes "A")) (text (codes "B"))) (put (codes "z") (on_both (an_int 1) (an_int 5)) first_state))
 a_local = refl
 
@@ -155,7 +155,7 @@ no_record = refl
 unreadable : trouble_of_all P (put pc (fun no_values no_values) first_state) (number_two ∷ []) ≡ Some (fault NotInDomain (at 1))
 unreadable = refl
 
--- the first of these steps as a relation: process 2 stands at A, of its own body
+-- the first of these steps as a relation: process 2 is at A, of its own body
 abbrev at_a : Stand
 at_a = record { routine = the_process; label = codes "A"; begins = record { items = behind_a; exit = codes "Done" } }
 

@@ -1,6 +1,7 @@
 -- Whether a state is initial depends on the variables of the translation alone; and the rule on `return` keeps it in procedures.
-use Rattle.std.proofs.Common.{◌≡◌, ℕ, suc, List, [], ◌∷◌, ◌++◌, Bool, true, false, ◌||◌, not, map, refl, ◌∙◌, ap, inl, inr, Ok}
+use Rattle.std.proofs.Common.{◌≡◌, ℕ, suc, List, [], ◌∷◌, ◌++◌, Bool, true, false, not, map, refl, ◌∙◌, ap, inl, inr, Ok}
 use Rattle.std.specs.List.{flat_map}
+use Rattle.std.proofs.lemmas.Bool.{or_from}
 use Rattle.tla_token.specs.declared.place.Place.{Place}
 use Rattle.tla_expr.specs.Tree.{Word, Tree, Trees}
 use Rattle.pcal_tree.specs.Paths.{Effect}
@@ -20,6 +21,7 @@ use Rattle.pcal_tree.specs.laws.Steps.{has_return_in, has_return, has_return_of,
 use Rattle.pcal_tree.proofs.TroubleLaws.{one_left, one_right}
 use Rattle.pcal_tree.proofs.SameVariables.{value_at, Narrow}
 use Rattle.pcal_tree.proofs.StepVariables.{pc_in, stack_in, global_in, local_in, Held, global_narrow, routine_narrow}
+use Rattle.pcal_tree.proofs.ClearLabels.{nothing_left, nothing_right}
 
 module _ (P : Program) (s t : State) (a : Agree (vars P) s t) where
   plain_same : (sc : Scope) → Narrow (vars P) sc → (at : Place) (st : Start) (v w : Value) → v ≡ w → plain_allowed P sc at st s v ≡ plain_allowed P sc at st t w
@@ -76,29 +78,18 @@ module _ (P : Program) (s t : State) (a : Agree (vars P) s t) where
 
 -- ---- the rule on `return`
 
-left_empty : {X : Type 0} (xs ys : List X) → xs ++ ys ≡ [] → xs ≡ []
-left_empty [] ys e = refl
-left_empty (x ∷ xs) ys e = cc
-
-right_empty : {X : Type 0} (xs ys : List X) → xs ++ ys ≡ [] → ys ≡ []
-right_empty [] ys e = e
-right_empty (x ∷ xs) ys e = cc
-
 empty_at : {X Y : Type 0} (f : X → List Y) (x : X) (xs : List X) → OneOf x xs → flat_map f xs ≡ [] → f x ≡ []
 empty_at f x [] h e = absurd h
-empty_at f x (y ∷ ys) (inl q) e = ap f q ∙ left_empty (f y) (flat_map f ys) e
-empty_at f x (y ∷ ys) (inr h) e = empty_at f x ys h (right_empty (f y) (flat_map f ys) e)
-
-neither : (x y : Bool) → x ≡ false → y ≡ false → (x || y) ≡ false
-neither x y p q = λ i. (p i) || (q i)
+empty_at f x (y ∷ ys) (inl q) e = ap f q ∙ nothing_left (f y) (flat_map f ys) e
+empty_at f x (y ∷ ys) (inr h) e = empty_at f x ys h (nothing_right (f y) (flat_map f ys) e)
 
 mutual
   none_here : (w : Within) (at : Place) (st : Statement) → w.procedure ≡ false → jump_offences_here w at st ≡ [] → jump_offences_inside w st ≡ [] → has_return_in st ≡ false
-  none_here w at (branch e x y) p q r = neither (has_return x) (has_return y) (none w x p (left_empty (jump_offences w x) (jump_offences w y) r)) (none w y p (right_empty (jump_offences w x) (jump_offences w y) r))
+  none_here w at (branch e x y) p q r = or_from (has_return x) (has_return y) (none w x p (nothing_left (jump_offences w x) (jump_offences w y) r)) (none w y p (nothing_right (jump_offences w x) (jump_offences w y) r))
   none_here w at (either bs) p q r = none_of w bs p r
   none_here w at (with bs b) p q r = none (within_with w) b p r
   none_here w at (while e b) p q r = none w b p r
-  none_here w at return p q r = offends w.procedure p (right_empty _ _ q)
+  none_here w at return p q r = offends w.procedure p (nothing_right _ _ q)
     where
       offends : (b : Bool) → b ≡ false → Rattle.pcal_tree.specs.Offences.offence_if (not b) Rattle.tla_token.specs.declared.rule.Rule.TheVariants.ReturnOutside at ≡ [] → true ≡ false
       offends true e q = e
@@ -107,28 +98,28 @@ mutual
 
   none : (w : Within) (b : Statements) → w.procedure ≡ false → jump_offences w b ≡ [] → has_return b ≡ false
   none w done p e = refl
-  none w (mark n k rest) p e = none w rest p (right_empty _ (jump_offences w rest) e)
+  none w (mark n k rest) p e = none w rest p (nothing_right _ (jump_offences w rest) e)
   none w (then at st rest) p e =
-      let more = right_empty (jump_offences_here w at.first st) (jump_offences_inside w st ++ jump_offences w rest) e in
-      neither (has_return_in st) (has_return rest)
-      (none_here w at.first st p (left_empty (jump_offences_here w at.first st) (jump_offences_inside w st ++ jump_offences w rest) e) (left_empty (jump_offences_inside w st) (jump_offences w rest) more))
-      (none w rest p (right_empty (jump_offences_inside w st) (jump_offences w rest) more))
+      let more = nothing_right (jump_offences_here w at.first st) (jump_offences_inside w st ++ jump_offences w rest) e in
+      or_from (has_return_in st) (has_return rest)
+      (none_here w at.first st p (nothing_left (jump_offences_here w at.first st) (jump_offences_inside w st ++ jump_offences w rest) e) (nothing_left (jump_offences_inside w st) (jump_offences w rest) more))
+      (none w rest p (nothing_right (jump_offences_inside w st) (jump_offences w rest) more))
 
   none_of : (w : Within) (bs : Branches) → w.procedure ≡ false → jump_offences_of_some w bs ≡ [] → has_return_of bs ≡ false
   none_of w no_branches p e = refl
   none_of w (or b bs) p e =
-      neither (has_return b) (has_return_of bs) (none w b p (left_empty (jump_offences w b) (jump_offences_of_some w bs) e)) (none_of w bs p (right_empty (jump_offences w b) (jump_offences_of_some w bs) e))
+      or_from (has_return b) (has_return_of bs) (none w b p (nothing_left (jump_offences w b) (jump_offences_of_some w bs) e)) (none_of w bs p (nothing_right (jump_offences w b) (jump_offences_of_some w bs) e))
 
 none_placed : (macro : Bool) (b : Statements) → misplaced macro false b ≡ [] → has_return b ≡ false
-none_placed macro b e = none _ b refl (left_empty _ (second_labels [] (labels false b)) e)
+none_placed macro b e = none _ b refl (nothing_left _ (second_labels [] (labels false b)) e)
 
 none_in_body : (ms : Word → Trees → Effect) (b : Statements) → of_body ms b ≡ [] → has_return b ≡ false
-none_in_body ms b e = none_placed false b (right_empty _ (misplaced false false b) e)
+none_in_body ms b e = none_placed false b (nothing_right _ (misplaced false false b) e)
 
 none_in_processes : (ms : Word → Trees → Effect) (n : ℕ) (ps : List Process) → flat_map (λ p. of_body ms p.body) ps ≡ [] → (u : Routine) → OneOf u (numbered process_routine n ps) → has_return u.body ≡ false
 none_in_processes ms n [] e u h = absurd h
-none_in_processes ms n (p ∷ ps) e u (inl q) = ap (λ w. has_return w.body) q ∙ none_in_body ms p.body (left_empty (of_body ms p.body) (flat_map (λ p. of_body ms p.body) ps) e)
-none_in_processes ms n (p ∷ ps) e u (inr h) = none_in_processes ms (suc n) ps (right_empty (of_body ms p.body) (flat_map (λ p. of_body ms p.body) ps) e) u h
+none_in_processes ms n (p ∷ ps) e u (inl q) = ap (λ w. has_return w.body) q ∙ none_in_body ms p.body (nothing_left (of_body ms p.body) (flat_map (λ p. of_body ms p.body) ps) e)
+none_in_processes ms n (p ∷ ps) e u (inr h) = none_in_processes ms (suc n) ps (nothing_right (of_body ms p.body) (flat_map (λ p. of_body ms p.body) ps) e) u h
 
 none_in_main : (b : Algorithm) (ms : Word → Trees → Effect) (m : Main) → of_main ms m ≡ [] → (u : Routine) → OneOf u (main_routines b m) → has_return u.body ≡ false
 none_in_main b ms (alone ss) e u (inl q) = ap (λ w. has_return w.body) q ∙ none_in_body ms ss e
@@ -137,6 +128,6 @@ none_in_main b ms (processes ps) e u h = none_in_processes ms (first_process b) 
 
 pub returns_placed : (b : Algorithm) → label_offences b ≡ [] → ReturnsInProcedures b
 returns_placed b e = record {
-  macros = λ d h. none_placed true d.body (right_empty _ (misplaced true false d.body) (empty_at of_macro d b.macros h (left_empty (flat_map of_macro b.macros) _ e)));
-  main = λ u h. none_in_main b _ b.main (right_empty _ _ (right_empty (flat_map of_macro b.macros) _ e)) u h;
+  macros = λ d h. none_placed true d.body (nothing_right _ (misplaced true false d.body) (empty_at of_macro d b.macros h (nothing_left (flat_map of_macro b.macros) _ e)));
+  main = λ u h. none_in_main b _ b.main (nothing_right _ _ (nothing_right (flat_map of_macro b.macros) _ e)) u h;
 }

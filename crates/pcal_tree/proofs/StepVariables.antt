@@ -10,12 +10,13 @@ use Rattle.tla_value.specs.Order.{seq_from}
 use Rattle.tla_value.specs.Strict.{applied}
 use Rattle.tla_value.specs.Stops.{sense_of, sequence_at}
 use Rattle.tla_value.specs.Meaning.{eval}
+use Rattle.tla_value.specs.Definitions.{or_sense}
 use Rattle.pcal_tree.specs.Algorithm.{Start, unset, equals, among, Declaration, declares, Statement, branch, either, with, while, Statements, done, then, mark, Branches, no_branches, or, Macro, Routine, locals, procedure_routines, main_routines, routines}
 use Rattle.pcal_tree.specs.Scope.{State, Part}
 use Rattle.pcal_tree.specs.Assign.{Setting, set_one, set_all}
 use Rattle.pcal_tree.specs.Run.{unlabelled, label_of, exit_to}
 use Rattle.pcal_tree.specs.StepStart.{Begin, begin_in, begin, begin_some, at_label}
-use Rattle.pcal_tree.specs.Program.{Program, Actor, index, local_index, written, common_env, global_env, read_at, read_self, read_name, global_part, routine_scope, global_scope}
+use Rattle.pcal_tree.specs.Program.{Program, Actor, index, local_index, written, common_env, global_env, read_at, read_name, global_part, routine_scope, global_scope}
 use Rattle.pcal_tree.specs.Variables.{pc, stack, declared, written_all, written_by_all, stack_for, vars, Agree}
 use Rattle.pcal_tree.specs.Calls.{label_value, setting, jumped, all_read, frame, on_stack, argument_settings, initial_value, initial_place, variables_started, entered, fields_read, part_settings, restored, returned, finished, entered_at, named, rules_without_macros, rules_of, first_label}
 use Rattle.pcal_tree.specs.Processes.{OneOf, IsActor}
@@ -180,7 +181,7 @@ module _ (P : Program) where
   local_same u h s t a x e = let q = declares_one (locals u) x e in subst (λ y. s (written P u y) ≡ t (written P u y)) q.2 (value_at (vars P) s t a (written P u q.0.name.word) (local_in u h q.0 q.1))
 
   read_same : (v : Actor) (u : Routine) → OneOf u (routines P.algorithm) → (s t : State) → Agree (vars P) s t → (x : Word) (at : Place) → read_name P v u s x at ≡ read_name P v u t x at
-  read_same v u h s t a x at = λ i. cond (bytes_eq (codes "self") x) (read_self v.self ((global_same s t a i).now x at)) (by (declares (locals u) x) refl i)
+  read_same v u h s t a x at = λ i. cond (bytes_eq (codes "self") x) (or_sense v.self ((global_same s t a i).now x at)) (by (declares (locals u) x) refl i)
     where
       by : (b : Bool) → declares (locals u) x ≡ b → cond b (sense_of (read_at at (local_index v u) (s (written P u x)))) ((global_env P s).now x at) ≡ cond b (sense_of (read_at at (local_index v u) (t (written P u x)))) ((global_env P t).now x at)
       by true e = λ i. sense_of (read_at at (local_index v u) (local_same u h s t a x e i))

@@ -1,12 +1,13 @@
 -- What is computed once for each macro says what its calls assign.
-use Rattle.std.proofs.Common.{◌≡◌, List, [], ◌∷◌, ◌++◌, Bool, true, false, ◌&&◌, ◌||◌, cond, bytes_eq, Option, Some, None, refl, sym, ◌∙◌, ap, map}
+use Rattle.std.proofs.Common.{◌≡◌, List, [], ◌∷◌, ◌++◌, Bool, true, false, ◌||◌, cond, bytes_eq, Option, Some, None, refl, sym, ◌∙◌, ap, map}
 use Rattle.std.specs.Option.{option_map}
 use Rattle.std.specs.List.{list_any, flat_map}
 use Rattle.std.proofs.lemmas.List.Folds.{list_any-append}
 use Rattle.std.proofs.lemmas.Grind.{flat_map-append}
-use Rattle.std.proofs.lemmas.Slice.Eq.{bytes_eq-Decides}
+use Rattle.std.proofs.lemmas.Bool.{and_parts}
 use Rattle.tla_token.specs.declared.place.Place.{Place}
 use Rattle.tla_token.specs.Signs.{is_among}
+use Rattle.tla_token.proofs.Spelled.{same_bytes}
 use Rattle.tla_expr.specs.Tree.{Word, Tree, Trees, Graft, grafts}
 use Rattle.pcal_tree.specs.Algorithm.{Name, Statement, assign, await, print, assert, skip, branch, either, with, while, goto, macro, call, return, Statements, done, then, mark, Branches, no_branches, or, Macro}
 use Rattle.pcal_tree.specs.Run.{arguments}
@@ -16,20 +17,13 @@ use Rattle.pcal_tree.specs.Paths.{Effect, Effects, nothing, Path, after_one, aft
 use Rattle.pcal_tree.specs.OffencesSteps.{Before, at_label, inside, next, Visit, visits_inside, visits, visits_of_some, assigns_twice, reached_variables, in_macro, effect_of_body, call_effect}
 use Rattle.pcal_tree.specs.laws.MacroSummaries.{Target, parameter, variable, in_turn, at_once, Found, Summary, same_target, same_truth, same_side, same_pair, union, none_found, both, put_found, found_in_call, found_here, argument, Trail, joined, trail_after_one, trail_after, trail_after_some, found_on, found_inside, found, found_in_some, summaries, resolved, is_broken, effect_by, summary_effect}
 use Rattle.pcal_tree.proofs.SetLaws.{or_false, any_flat, any_map, any_same, any_none, Same, same_both, among_flat, meets_any, meets_same, Agree, Sound, any_union}
-use Rattle.pcal_tree.proofs.TargetLaws.{variables_of, roots_graft, clashes_graft, found_put}
+use Rattle.pcal_tree.proofs.TargetLaws.{variables_of, roots_graft, clashes_graft, found_put, same_none}
 
 -- ---- what is the same is equal
 
-same_words : (x y : Word) → bytes_eq x y ≡ true → x ≡ y
-same_words x y e = (bytes_eq-Decides x y).0 e
-
-both_true : (a b : Bool) → (a && b) ≡ true → (a ≡ true) × (b ≡ true)
-both_true true b e = (refl, e)
-both_true false b e = cc
-
 target_sound : Sound same_target
-target_sound (parameter x) (parameter y) e = ap parameter (same_words x y e)
-target_sound (variable x) (variable y) e = ap variable (same_words x y e)
+target_sound (parameter x) (parameter y) e = ap parameter (same_bytes x y e)
+target_sound (variable x) (variable y) e = ap variable (same_bytes x y e)
 target_sound (parameter x) (variable y) e = cc
 target_sound (variable x) (parameter y) e = cc
 
@@ -41,14 +35,14 @@ truth_sound false true e = cc
 
 side_sound : Sound same_side
 side_sound s r e =
-    let h = both_true (same_target s.target r.target) (same_truth s.whole r.whole) e in
+    let h = and_parts (same_target s.target r.target) (same_truth s.whole r.whole) e in
     λ i. record { target = target_sound s.target r.target h.0 i; whole = truth_sound s.whole r.whole h.1 i }
 
 pair_sound : Sound same_pair
 pair_sound (in_turn a b) (in_turn c d) e =
-    let h = both_true (same_target a c) (same_target b d) e in λ i. in_turn (target_sound a c h.0 i) (target_sound b d h.1 i)
+    let h = and_parts (same_target a c) (same_target b d) e in λ i. in_turn (target_sound a c h.0 i) (target_sound b d h.1 i)
 pair_sound (at_once a b) (at_once c d) e =
-    let h = both_true (same_side a c) (same_side b d) e in λ i. at_once (side_sound a c h.0 i) (side_sound b d h.1 i)
+    let h = and_parts (same_side a c) (same_side b d) e in λ i. at_once (side_sound a c h.0 i) (side_sound b d h.1 i)
 pair_sound (in_turn a b) (at_once c d) e = cc
 pair_sound (at_once a b) (in_turn c d) e = cc
 
@@ -145,10 +139,6 @@ met_both g E vs ws a b m n = (
   list_any-append (assigns_twice E) vs ws ∙ (λ i. m.1 i || n.1 i) ∙ sym (any_union same_pair pair_sound (is_broken g) a.pairs b.pairs),
 )
 
-same_word_none : (o : Option Word) → same_word o None ≡ false
-same_word_none None = refl
-same_word_none (Some x) = refl
-
 -- of what the path has assigned, what is assigned again
 again : (g : Word → Option Tree) (ts us : List Target)
     → meets (variables_of g ts) (variables_of g us) ≡ list_any (is_broken g) (flat_map (λ y. map (λ x. in_turn x y) ts) us)
@@ -163,7 +153,7 @@ again g ts us =
     holds w (Some x) = or_false (bytes_eq x w)
 
     by : (o : Option Word) → list_any (is_among (variables_of g ts)) (some_word o) ≡ list_any (λ x. same_word (resolved g x) o) ts
-    by None = sym (any_none (λ x. same_word (resolved g x) None) (λ x. same_word_none (resolved g x)) ts)
+    by None = sym (any_none (λ x. same_word (resolved g x) None) (λ x. same_none (resolved g x)) ts)
     by (Some w) =
         or_false (is_among (variables_of g ts) w) ∙ among_flat (λ t. some_word (resolved g t)) ts w
         ∙ any_same (λ x. is_among (some_word (resolved g x)) w) (λ x. same_word (resolved g x) (Some w)) (λ x. holds w (resolved g x)) ts

@@ -100,7 +100,7 @@ roots_graft ps ts no_assignments = refl
 roots_graft ps ts (assignment l e ms) =
     (λ i. some_word (root_left ps ts l i) ++ roots_graft ps ts ms i) ∙ one_root ps ts (is_whole l) (root l) (sides ps ms)
 
-same_none : (o : Option Word) → same_word o None ≡ false
+pub same_none : (o : Option Word) → same_word o None ≡ false
 same_none None = refl
 same_none (Some x) = refl
 

@@ -55,7 +55,7 @@ stand_found P w (u ∷ us) d e = by (stand_found P w us d) (label_named P w u (l
     by ih (Some c) p e = front (label_found P w u (label_words u.body) d (p ∙ e))
     by ih None p e = behind (ih e)
 
--- what is found is where the process stands
+-- what is found is where the process is
 pub found_stands : (P : Program) (s : State) (v : Actor) (w : Value) (d : Stand) → pc_of v s ≡ Ok w → stand_named P w (routines_of P v) ≡ Some d → StandsAt P s v d
 found_stands P s v w d p e = by (stand_found P w (routines_of P v) d e)
   where

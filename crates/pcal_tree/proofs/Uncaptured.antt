@@ -1,14 +1,15 @@
 -- Where no bound name is put in for or free in a tree that is put in, nothing is captured.
 use Rattle.std.proofs.Common.{◌≡◌, [], ◌∷◌, Option, Some, None, refl, Ok}
 use Rattle.tla_token.specs.declared.place.Place.{Place}
-use Rattle.tla_expr.specs.Tree.{Word, apply, select, Form, name, operator_call, strict, binders, Tree, node, Trees, no_trees, tree, Graft}
+use Rattle.tla_expr.specs.Tree.{Word, apply, select, Form, name, strict, binders, Tree, node, Trees, no_trees, tree, Graft}
 use Rattle.tla_value.specs.Value.{Value, text, ◌>>=◌}
 use Rattle.tla_value.specs.Stops.{Check}
 use Rattle.tla_value.specs.Meaning.{part_values, evals}
-use Rattle.tla_value.specs.laws.Grafting.{Uses, Unread, Clear, ClearForm, Apart, ApartForm, NotFreeIn}
+use Rattle.tla_value.specs.laws.Grafting.{Clear, BindsClear, Apart, ApartForm, NotFreeIn}
 use Rattle.tla_value.specs.laws.FreeNames.{FreeInParts, Any, IsOther, NotFree}
 use Rattle.tla_value.proofs.Facts.{each_weaker, every_weaker, every_of_weaker}
 use Rattle.tla_value.proofs.FreeNames.{not_free}
+use Rattle.tla_value.proofs.Graft.{apart_clear}
 use Rattle.pcal_tree.specs.Algorithm.{Assignments, no_assignments, assignment, Binds, no_binds, one_of, is, Statement, assign, await, print, assert, branch, either, with, while, macro, call, Statements, done, then, mark, Branches, no_branches, or}
 use Rattle.pcal_tree.specs.Scope.{State, Scope, bound, deeper, reach, reach_path}
 use Rattle.pcal_tree.specs.laws.Expansion.{Unreached, ClearName, ThroughoutAssignments, ThroughoutBinds, ThroughoutOne, Throughout, ThroughoutSome, Clean}
@@ -67,13 +68,6 @@ mutual
 
 -- ---- what is apart is clear
 
-apart_clear : (c : Check) (g : Graft) (x : Word) → Apart g x → Clear c g x
-apart_clear c g x h = record { left = h.left; unread = λ y at. by (g y at) (h.unread y at) }
-  where
-    by : (o : Option Tree) → NotFreeIn x o → Unread c x o
-    by (Some t) k = not_free c x t k
-    by None k = tt
-
 apart_name : (c : Check) (g : Graft) (x : Word) → Apart g x → ClearName c g x
 apart_name c g x h = record { clear = apart_clear c g x h; unreached = λ y at. by (g y at) (h.unread y at) }
   where
@@ -81,11 +75,6 @@ apart_name c g x h = record { clear = apart_clear c g x h; unreached = λ y at. 
     by (Some t) k = reach_unread c x t k
     by None k = tt
 
-any_used : (m : Form) → Uses Any m
-any_used (name x) = tt
-any_used (operator_call f) = tt
-any_used m = tt
-
-pub uncaptured : (c : Check) (g : Graft) (ss : Statements) → Throughout (ApartForm g) (Apart g) ss → Clean c g Any ss
+pub uncaptured : (c : Check) (g : Graft) (ss : Statements) → Throughout (ApartForm g) (Apart g) ss → Clean c g ss
 uncaptured c g =
-    throughout_weaker (ApartForm g) (ClearForm c g Any) (Apart g) (ClearName c g) (λ m at h. (each_weaker (Apart g) (Clear c g) (apart_clear c g) (binders m) h, any_used m)) (apart_name c g)
+    throughout_weaker (ApartForm g) (BindsClear c g) (Apart g) (ClearName c g) (λ m at. each_weaker (Apart g) (Clear c g) (apart_clear c g) (binders m)) (apart_name c g)

@@ -2,13 +2,13 @@
 use Rattle.std.specs.Prelude.{List, map}
 use Rattle.tla_token.specs.Lexemes as lexeme
 use Rattle.tla_token.specs.Tokens as text
-use Rattle.tla_expr.specs.Lexical.{ExprToken, Token}
+use Rattle.tla_expr.specs.Lexical.{TokenView, Token}
 use Rattle.tla_expr.specs.Lexical as tk
-use Rattle.tla_expr.specs.ExprTokens as expression
+use Rattle.tla_expr.specs.TokenViews as expression
 
 -- no variable of an algorithm is primed
-abbrev pub kind_of : lexeme.Kind → ExprToken
-kind_of (lexeme.other w) = tk.other
+abbrev pub kind_of : lexeme.Kind → TokenView
+kind_of (lexeme.other w) = tk.other w
 kind_of k = expression.kind_of k
 
 abbrev pub view : text.Token → Token

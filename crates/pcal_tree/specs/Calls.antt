@@ -30,7 +30,7 @@ first_label u = label_of u.body u.exit
 abbrev pub setting : Place → Word → List Value → Value → Setting
 setting at x path v = record { place = at; part = record { variable = x; path = path }; value = v }
 
--- a fault stands at the process's name
+-- a fault is at the process's name
 abbrev pub jumped : Program → Actor → Routine → Word → State → Outcome State
 jumped P v u l = set_one P.check (setting v.own.name.place pc (index v.self) (label_value P u l))
 

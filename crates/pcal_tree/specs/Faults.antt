@@ -9,7 +9,7 @@ use Rattle.pcal_tree.specs.Program.{Program, Actor}
 use Rattle.pcal_tree.specs.Processes.{Proper, IsActor}
 use Rattle.pcal_tree.specs.Step.{pc_of, Stand, StandsAt, course_of}
 
--- process v's pc can't be read, or a step from where it stands stops
+-- process v's pc can't be read, or a step from where it is stops
 abbrev pub Troubled : Program → State → Actor → Trouble → Type 0
 Troubled P s v k = (pc_of v s ≡ Err k) ⊎ ((d : Stand) × StandsAt P s v d × Has (course_of P v d s) (Err k))
 

@@ -4,7 +4,7 @@ use Rattle.tla_token.specs.declared.place.Place.{Place}
 use Rattle.tla_expr.specs.declared.op.Op.{Op}
 use Rattle.tla_expr.specs.declared.op.Op.TheVariants as op
 use Rattle.tla_expr.specs.Tree.{Word, Trees, no_trees}
-use Rattle.tla_expr.specs.Lexical.{ExprToken, Token, Mark, sign_of}
+use Rattle.tla_expr.specs.Lexical.{TokenView, Token, Mark, sign_of}
 use Rattle.tla_expr.specs.Lexical as tk
 use Rattle.tla_expr.specs.Spelling.{Phrase, Phrases, IsGood, GoodAll, tree_of, trees_of}
 use Rattle.tla_expr.specs.Spelling as spelled
@@ -18,7 +18,7 @@ use Rattle.pcal_tree.specs.Algorithm as tree
 abbrev pub Tokens : Type 0
 Tokens = List Token → List Token
 
-abbrev pub token : Place → ExprToken → Tokens
+abbrev pub token : Place → TokenView → Tokens
 token p k ts = tk.token p k ∷ ts
 
 abbrev pub mark : Place → Mark → Tokens

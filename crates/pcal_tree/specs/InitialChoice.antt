@@ -13,7 +13,7 @@ use Rattle.pcal_tree.specs.InitialStates.{values_for, function_on, running, is_m
 use Rattle.pcal_tree.specs.Variables.{pc, stack}
 use Rattle.pcal_tree.specs.Processes.{actors}
 
--- a plain variable; a choice stands at its name
+-- a plain variable; a choice is at its name
 abbrev pub plain_begun : Program → Scope → Place → Start → State → (Value → Course) → Course
 plain_begun P sc at unset s go = go defaultInitValue
 plain_begun P sc at (equals e) s go = after (value_of P.check e sc s) go

@@ -104,6 +104,6 @@ of_main C (processes ps) = flat_map (λ p. of_body C p.body) ps
 abbrev pub label_offences_by : (Word → Trees → Effect) → Algorithm → List Refusal
 label_offences_by C a = flat_map of_macro a.macros ++ (flat_map (of_procedure C) a.procedures ++ of_main C a.main)
 
--- against the rules on labels and on what is assigned twice; those of one rule stand in the order of the text
+-- against the rules on labels and on what is assigned twice; those of one rule are in the order of the text
 abbrev pub label_offences : Algorithm → List Refusal
 label_offences a = label_offences_by (call_effect (reverse a.macros)) a

@@ -106,7 +106,7 @@ abbrev mutual
   statement s n ls (call x ts) = line n (ls ++ codes "call " ++ x.word ++ arguments_text ts ++ codes ";")
   statement s n ls return = line n (ls ++ codes "return;")
 
-  -- with the texts of the labels that stand before the next statement
+  -- with the texts of the labels that are before the next statement
   pub statements : Syntax → ℕ → Text → Statements → Lines
   statements s n ls done = λ rest. rest
   statements s n ls (then at st ss) = λ rest. statement s n ls st (statements s n [] ss rest)

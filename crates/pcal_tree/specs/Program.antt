@@ -6,8 +6,8 @@ use Rattle.tla_value.specs.declared.fault.FaultKind.TheVariants.{NotFunction}
 use Rattle.tla_value.specs.Value.{Value, Outcome, Sense, ◌>>=◌, fault}
 use Rattle.tla_value.specs.Stops.{Check, sense_of}
 use Rattle.tla_value.specs.Strict.{applied}
-use Rattle.tla_value.specs.Meaning.{Env, just}
-use Rattle.tla_value.specs.Definitions.{Valuation, no_state, scope_of}
+use Rattle.tla_value.specs.Meaning.{Env}
+use Rattle.tla_value.specs.Definitions.{Valuation, no_state, scope_of, or_sense}
 use Rattle.tla_value.specs.Definitions as Outside
 use Rattle.pcal_tree.specs.Algorithm.{nowhere, Declaration, Definition, declares, Routine, locals, Naming, Algorithm}
 use Rattle.pcal_tree.specs.Scope.{State, Part, Scope}
@@ -49,27 +49,23 @@ abbrev pub index : Option Value → List Value
 index (Some v) = v ∷ []
 index None = []
 
--- where the variables of a routine stand
+-- where the variables of a routine are
 abbrev pub local_index : Actor → Routine → List Value
 local_index v u = cond u.spread (index v.self) []
 
 abbrev pub written : Program → Routine → Word → Word
 written P u x = P.naming.local u.number x
 
--- what stands at a path
+-- what is at a path
 abbrev pub read_at : Place → List Value → Value → Outcome Value
 read_at at [] v = Ok v
 read_at at (k ∷ ks) f = do
   v ← applied at f k
   read_at at ks v
 
-abbrev pub read_self : Option Value → Sense → Sense
-read_self (Some v) other = just v
-read_self None other = other
-
 abbrev pub read_name : Program → Actor → Routine → State → Word → Place → Sense
 read_name P v u s x at =
-    cond (bytes_eq (codes "self") x) (read_self v.self ((global_env P s).now x at))
+    cond (bytes_eq (codes "self") x) (or_sense v.self ((global_env P s).now x at))
     (cond (declares (locals u) x) (sense_of (read_at at (local_index v u) (s (written P u x)))) ((global_env P s).now x at))
 
 abbrev pub global_part : Program → Word → Outcome Part
@@ -78,7 +74,7 @@ global_part P x = cond (declares P.algorithm.globals x) (Ok (record { variable =
 abbrev pub part_of : Program → Actor → Routine → Word → Outcome Part
 part_of P v u x = cond (declares (locals u) x) (Ok (record { variable = written P u x; path = local_index v u })) (global_part P x)
 
--- `self` is the process's identifier, a routine's own variables stand at it, and others are global
+-- `self` is the process's identifier, a routine's own variables are at it, and others are global
 abbrev pub routine_scope : Program → Actor → Routine → Scope
 routine_scope P v u = record {
   env = λ s. record { now = read_name P v u s; primed = (global_env P s).primed; defs = (global_env P s).defs };

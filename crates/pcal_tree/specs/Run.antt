@@ -54,7 +54,7 @@ pub record Follow : Type 0 where
   pub goes : State → Course
 
 -- what a step does but for its statements: limits, a jump to a label, a call with its arguments' places and values, a return, and macro calls
--- with the label and the place at which they stand
+-- with the label and the place at which they are
 pub record Rules : Type 0 where
   pub check : Check
   pub goto : Word → State → Course
@@ -81,7 +81,7 @@ run_binds c at (one_of x e bs) body sc s =
     after (members c e sc s) (λ vs. chooses at (at_each vs (λ v. run_binds c at bs body (bound x.word v sc) s)))
 run_binds c at (is x e bs) body sc s = after (value_of c e sc s) (λ v. run_binds c at bs body (bound x.word v sc) s)
 
--- `here` is the label at which the statement or list stands; K is what follows it. A jump, call or return drops what follows.
+-- `here` is the label at which the statement or list is; K is what follows it. A jump, call or return drops what follows.
 abbrev mutual
   pub run_one : Rules → Word → Place → Statement → Scope → Follow → State → Course
   run_one M here at (assign ms) sc K s = after (after_assignments M.check ms sc s) K.goes

@@ -1,4 +1,4 @@
--- States, and what names stand for where a statement stands ("A PlusCal User's Manual", section 3.1, expressions).
+-- States, and what names stand for where a statement is ("A PlusCal User's Manual", section 3.1, expressions).
 use Rattle.std.specs.Prelude.{List, [], ◌∷◌, ◌++◌, Bool, cond, bytes_eq, Option, Some, None, Ok, Err}
 use Rattle.tla_token.specs.declared.place.Place.{Place}
 use Rattle.tla_expr.specs.Tree.{Word, apply, select, Form, name, strict, Tree, node, Trees, no_trees, tree, Graft}

@@ -25,7 +25,7 @@ pub record Stand : Type 0 where
 abbrev pub routines_of : Program → Actor → List Routine
 routines_of P v = v.own ∷ procedure_routines P.algorithm
 
--- process v stands at a label of its own body or of a procedure
+-- process v is at a label of its own body or of a procedure
 abbrev pub StandsAt : Program → State → Actor → Stand → Type 0
 StandsAt P s v d =
     OneOf d.routine (routines_of P v) × (at_label d.routine d.label ≡ Some d.begins) × (pc_of v s ≡ Ok (label_value P d.routine d.label))

@@ -9,7 +9,7 @@ pub record Begin : Type 0 where
   pub items : Statements
   pub exit : Word
 
--- The list after the label l. `here` is the label at which the statement or list stands, and x the exit: of a branch it is the label of what
+-- The list after the label l. `here` is the label at which the statement or list is, and x the exit: of a branch it is the label of what
 -- follows the branching statement, or the exit of that one's list; of a loop's body it is the loop's label.
 abbrev mutual
   pub begin_in : Word → Word → Statement → Word → Option Begin

@@ -1,3 +1,4 @@
+-- Words that only laws speak of.
 pub mod Apart
 pub mod Lines
 pub mod MacroSummaries

@@ -53,14 +53,14 @@ pub fn first_trouble_is_met()
 {}
 
 /// A state is sound, that is, no step from it can meet trouble, exactly where it has no first trouble, if the
-/// identifiers are proper and each process stands at one label at most.
+/// identifiers are proper and each process is at one label at most.
 pub fn sound_states_have_no_first_trouble()
     ensures sound { (P : Program) (s : State) (k : Trouble) → Sound P s → FirstTrouble P s k → ⊥ }
     ensures quiet { (P : Program) (s : State) → Proper P → ((v : Actor) → IsActor P v → StandsOnce P s v) → ((k : Trouble) → FirstTrouble P s k → ⊥) → Sound P s }
 {}
 
 /// What an algorithm does depends on the variables of its translation alone: two pairs of states that agree on them are
-/// steps alike, and two states that agree on them are sound, initial and in trouble alike. Each `return` must stand in a
+/// steps alike, and two states that agree on them are sound, initial and in trouble alike. Each `return` must be in a
 /// procedure, since without procedures no variable holds records that it could take off. The rule on `return` asks for that,
 /// so every algorithm without offences is one.
 pub fn runs_depend_on_the_variables()
@@ -94,7 +94,7 @@ pub fn written_names_are_apart()
     ensures untaken { (a : Algorithm) (o : Outside) → FewNames a o → AreNames a → Untaken a o }
 {}
 
-/// Where no label is called Done or Error, each process stands at one label at most. The rule on reserved names asks for that,
+/// Where no label is called Done or Error, each process is at one label at most. The rule on reserved names asks for that,
 /// and added labels are no such ones.
 pub fn processes_stand_at_one_label()
     ensures once { (P : Program) (o : Outside) → P.naming ≡ naming P.algorithm o → FewNames P.algorithm o → NoEndLabels P.algorithm

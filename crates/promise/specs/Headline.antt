@@ -9,7 +9,7 @@ use Rattle.module_text.specs.TextFront.{Split}
 use Rattle.module_text.specs.AlgorithmStretch.{algorithm_in}
 use Rattle.promise.specs.Translates.{Translates}
 
--- the algorithm a stands in the text x, in one of the two syntaxes
+-- the algorithm a is in the text x, in one of the two syntaxes
 pub record Stands (x : List ℕ) (a : Algorithm) : Type 0 where
   pub split : Split
   pub is_split : algorithm_in x ≡ Some split
@@ -17,7 +17,7 @@ pub record Stands (x : List ℕ) (a : Algorithm) : Type 0 where
   pub tok : TokAlgorithm x (length split.front) (length x - length split.back) tokens
   pub spelled : SpellsP tokens a ⊎ SpellsC tokens a
 
--- w is the text x with the translation of the algorithm that stands in it, labels added where they are forced or there are none
+-- w is the text x with the translation of the algorithm that is in it, labels added where they are forced or there are none
 pub record Headline (forced : Bool) (x w : List ℕ) : Type 0 where
   pub algorithm : Algorithm
   pub stands : Stands x algorithm

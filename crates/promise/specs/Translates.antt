@@ -8,7 +8,7 @@ use Rattle.module_text.specs.Reading.{Reads}
 use Rattle.promise.specs.ConstantsAndStates.{variables_of}
 use Rattle.promise.specs.NextAndInit.{NextIs, InitIs}
 
--- the text w translates the labelled algorithm g that stands in the text x
+-- the text w translates the labelled algorithm g that is in the text x
 pub record Translates (x : List ℕ) (g : Algorithm) (w : List ℕ) : Type 0 where
   pub module_of : Module
   pub around : Around x module_of w

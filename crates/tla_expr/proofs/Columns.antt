@@ -1,6 +1,6 @@
 -- What is spelled and what is read rests on kinds and columns.
 use Rattle.std.proofs.Common.{◌≡◌, ℕ, List, [], ◌∷◌, ◌++◌, map, Ok, refl, sym, ap, ◌∙◌}
-use Rattle.tla_expr.specs.Lexical.{ExprToken, Token, token}
+use Rattle.tla_expr.specs.Lexical.{TokenView, Token, token}
 use Rattle.tla_expr.specs.Spelling.{Phrase, Good, spell}
 use Rattle.tla_expr.specs.Reader.{read}
 use Rattle.tla_expr.specs.laws.Columns.{look, looks, lineless, Begin}
@@ -26,18 +26,18 @@ read_again e ts us h a r =
     (v.0, ap (λ (vs : List Token). read e vs) v.2 ∙ spelled_is_read e v.0 v.1, v.3)
 
 -- tokens of these kinds and columns
-pub bare : ExprToken × ℕ → Token
+pub bare : TokenView × ℕ → Token
 bare k = token (record { line = 0; col = k.1 }) k.0
 
-pub looks_of_bare : (ts : List Token) (ks : List (ExprToken × ℕ)) → looks (ts ++ map bare ks) ≡ looks ts ++ ks
+pub looks_of_bare : (ts : List Token) (ks : List (TokenView × ℕ)) → looks (ts ++ map bare ks) ≡ looks ts ++ ks
 unfolding bare
 looks_of_bare [] [] = refl
-looks_of_bare [] (k ∷ ks) = ap (λ (ls : List (ExprToken × ℕ)). k ∷ ls) (looks_of_bare [] ks)
-looks_of_bare (t ∷ ts) ks = ap (λ (ls : List (ExprToken × ℕ)). look t ∷ ls) (looks_of_bare ts ks)
+looks_of_bare [] (k ∷ ks) = ap (λ (ls : List (TokenView × ℕ)). k ∷ ls) (looks_of_bare [] ks)
+looks_of_bare (t ∷ ts) ks = ap (λ (ls : List (TokenView × ℕ)). look t ∷ ls) (looks_of_bare ts ks)
 
 pub looks_ahead : (ts us : List Token) → looks (ts ++ us) ≡ looks ts ++ looks us
 looks_ahead [] us = refl
-looks_ahead (t ∷ ts) us = ap (λ (ls : List (ExprToken × ℕ)). look t ∷ ls) (looks_ahead ts us)
+looks_ahead (t ∷ ts) us = ap (λ (ls : List (TokenView × ℕ)). look t ∷ ls) (looks_ahead ts us)
 
 pub begun : (e : ℕ) (ts : List Token) → Begin e (looks ts) → (a : Phrase) × (more : List Token) × Good e a × (spell a [] ≡ ts ++ more)
 begun e ts (a, ks, g, s) =

@@ -3,7 +3,7 @@ use Rattle.std.proofs.Common.{◌≡◌, ℕ, List, [], ◌∷◌, refl, sym, ap
 use Rattle.tla_token.specs.declared.place.Place.{Place}
 use Rattle.tla_expr.specs.declared.op.Op.{Op}
 use Rattle.tla_expr.specs.declared.op.Op.TheVariants as op
-use Rattle.tla_expr.specs.Lexical.{Mark, ExprToken, Token, token, sign_of, field_kind}
+use Rattle.tla_expr.specs.Lexical.{Mark, TokenView, Token, token, sign_of, field_kind}
 use Rattle.tla_expr.specs.Lexical as tk
 use Rattle.tla_expr.specs.Spelling.{Phrase, number, string, constant, name, primed, call, brackets, no_set, set_of, filter, image, no_tuple, tuple, fields, records, function, functions, except, apply, select, list, quantified, if_then_else, cases, local, infix_of, prefix_of}
 use Rattle.tla_expr.specs.Spelling.{Phrases, last, more, Binds, last_bind, bind, share, Fields, last_field, field, Settings, last_setting, setting, Path, path_end, index, at_field, Bullets, last_bullet, bullet, Arms, last_arm, other_arm, arm, Locals, last_local, more_locals}
@@ -18,19 +18,19 @@ pub record Put (A : Type 0) (bare : A → A) (spells : A → List Token → List
   pub same : bare again ≡ bare x
   pub looks_same : looks rest ≡ looks ts
 
-first_look : ExprToken × ℕ → List (ExprToken × ℕ) → ExprToken × ℕ
+first_look : TokenView × ℕ → List (TokenView × ℕ) → TokenView × ℕ
 first_look d [] = d
 first_look d (x ∷ xs) = x
 
-other_looks : List (ExprToken × ℕ) → List (ExprToken × ℕ)
+other_looks : List (TokenView × ℕ) → List (TokenView × ℕ)
 other_looks [] = []
 other_looks (x ∷ xs) = xs
 
-pub one_token : (p : Place) (k : ExprToken) (ts us : List Token) → looks us ≡ looks (token p k ∷ ts) → Put Place lineless_place (λ q vs. token q k ∷ vs) p ts us
+pub one_token : (p : Place) (k : TokenView) (ts us : List Token) → looks us ≡ looks (token p k ∷ ts) → Put Place lineless_place (λ q vs. token q k ∷ vs) p ts us
 unfolding first_look other_looks
 one_token p k ts [] h = absurd cc
 one_token p k ts (u ∷ us) h =
-    let first : look u ≡ look (token p k) = ap (λ (ls : List (ExprToken × ℕ)). first_look (look u) ls) h in
+    let first : look u ≡ look (token p k) = ap (λ (ls : List (TokenView × ℕ)). first_look (look u) ls) h in
     record { again = u.place; rest = us; tokens = λ i. token u.place ((sym first i).0) ∷ us; same = λ i. record { line = 0; col = (first i).1 }; looks_same = ap other_looks h }
 
 one_field : (f : Field) (ts us : List Token) → looks us ≡ looks (field_token f ts) → Put Field lineless_field (λ g vs. field_token g vs) f ts us

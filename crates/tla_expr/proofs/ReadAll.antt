@@ -50,7 +50,7 @@ mutual
   reads (infix_of a p o b) = reads_infix a p o b (reads a) (reads b)
   reads (prefix_of p o a) = reads_prefix p o a (reads a)
 
-  -- what is behind `x \in`
+  -- what is after `x \in`
   pub reads_cut : (a : Phrase) → Reads a → Reads (cut a)
   reads_cut (infix_of (name p x) q o b) h = reads b
   reads_cut (infix_of a q o b) h = reads_infix (cut a) q o b (reads_cut a (reads a)) (reads b)

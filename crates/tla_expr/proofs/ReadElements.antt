@@ -1,10 +1,10 @@
--- Phrases that begin with a name, behind a brace or square bracket.
+-- Phrases that begin with a name, after a brace or square bracket.
 use Rattle.std.proofs.Common.{◌≡◌, ◌≤◌, ℕ, ◌+◌, suc, Bool, true, false, ◌&&◌, List, [], ◌∷◌, Ok, Err, refl, sym, ap, ◌∙◌, arith}
 use Rattle.std.proofs.lemmas.Bool.{not-true}
 use Rattle.tla_token.specs.declared.place.Place.{Place}
 use Rattle.tla_expr.specs.declared.op.Op.TheVariants as op
 use Rattle.tla_expr.specs.Tree.{Word}
-use Rattle.tla_expr.specs.Lexical.{ExprToken, Token, token, sign_of}
+use Rattle.tla_expr.specs.Lexical.{TokenView, Token, token, sign_of}
 use Rattle.tla_expr.specs.Lexical as tk
 use Rattle.tla_expr.specs.Spelling.{Phrase, name, primed, call, set_of, image, Phrases, last, more, apply, select, list, quantified, infix_of, prefix_of, Binds, last_bullet, bullet, mark, sign, word, field_token, spell, spell_all, spell_binds, is_word, is_in, is_bind, Right, Good}
 use Rattle.tla_expr.specs.Reader.{Out, then_read, ◌>>=◌, next, peek, free, Readers, readers, from_name, element, set_from, set_rest, member_rest, brace_name, brace_rest, braces}
@@ -15,23 +15,23 @@ use Rattle.tla_expr.proofs.ReadMembers.{first_in, name_bind, sign_no_word, is_me
 use Rattle.tla_expr.proofs.ReadPhrases.{Prime, Reads, ReadsAll, closed, primary_reads, tail_call}
 use Rattle.tla_expr.proofs.ReadForms.{is_start, Starts, starts, ReadsBinds}
 
--- an expression that begins with a name, behind that name
+-- an expression that begins with a name, after that name
 pub from_word : (e : ℕ) (p : Place) (x : Word) (vs : List Token) (o : Out Phrase) {k : ℕ} → Right e p → Soon k (λ r. r.expr e free (word p x vs)) o
     → Soon k (λ r. then_read (from_name r e p x vs) (λ a us. r.climb e 0 a us)) o
 unfolding readers
 from_word e p x vs o g h = (λ n l. (let at : (readers (suc n)).expr e free (word p x vs) ≡ then_read (from_name (readers n) e p x vs) (λ a us. (readers n).climb e 0 a us) = rw g refl in sym at ∙ h (suc n) (omega arith)))
 
-brace_name_other : (r : Readers) (e : ℕ) (p q : Place) (x : Word) (s : Place) (k : ExprToken) (vs : List Token) → is_in k ≡ false
+brace_name_other : (r : Readers) (e : ℕ) (p q : Place) (x : Word) (s : Place) (k : TokenView) (vs : List Token) → is_in k ≡ false
     → brace_name r e p q x s k vs ≡ (from_name r e q x >>= λ a. r.climb e 0 a >>= λ b. peek e (brace_rest r e p b)) vs
 brace_name_other r e p q x s (tk.sign op.In) vs h = absurd cc
 brace_name_other r e p q x s k vs h = refl
 
--- ---- behind a brace
+-- ---- after a brace
 abbrev pub NotBind : ℕ → List Token → Type 0
 NotBind e [] = Unit {0}
 NotBind e (t ∷ vs) = (is_word t.kind && is_in (next e vs).kind) ≡ false
 
-braces_other : (r : Readers) (e : ℕ) (p q : Place) (k : ExprToken) (us : List Token) → is_start k ≡ true → is_word k ≡ false
+braces_other : (r : Readers) (e : ℕ) (p q : Place) (k : TokenView) (us : List Token) → is_start k ≡ true → is_word k ≡ false
     → braces r e p q k us ≡ (r.expr e free >>= λ a. peek e (brace_rest r e p a)) us
 braces_other r e p q (tk.mark tk.close_brace) us h w = absurd cc
 braces_other r e p q (tk.word x) us h w = absurd cc
@@ -50,7 +50,7 @@ braced_word e p q x vs g n b ts o j k h i =
     let v = from_word e q x vs (Ok (b, ts)) g h in
     (λ n' l. rw g (brace_name_other (readers n') e p q x (next e vs).place (next e vs).kind vs n ∙ sym (assoc (from_name (readers n') e q x vs) (λ a us. (readers n').climb e 0 a us) (λ b us. peek e (brace_rest (readers n') e p b) us)) ∙ ap (λ (y : Out Phrase). then_read y (λ b us. peek e (brace_rest (readers n') e p b) us)) (v n' (omega arith)) ∙ i n' (omega arith)))
 
-braced_token : (e : ℕ) (p q : Place) (k : ExprToken) (vs : List Token) → Right e q → is_start k ≡ true → (is_word k && is_in (next e vs).kind) ≡ false
+braced_token : (e : ℕ) (p q : Place) (k : TokenView) (vs : List Token) → Right e q → is_start k ≡ true → (is_word k && is_in (next e vs).kind) ≡ false
     → Braced e p (token q k ∷ vs)
 braced_token e p q (tk.word x) vs g t n b ts o j m h i = braced_word e p q x vs g n b ts o j m h i
 braced_token e p q k vs g t n b ts o u w h i = (λ m l. rw g (braces_other (readers m) e p q k (token q k ∷ vs) t refl ∙ ap (λ (y : Out Phrase). then_read y (λ b us. peek e (brace_rest (readers m) e p b) us)) (h m (omega arith)) ∙ i m (omega arith)))
@@ -87,21 +87,21 @@ reads_image p a q bs s ha hb = primary_reads (image p a q bs s) (λ e d ts s. s)
         (λ n l. rw (gp, z n (omega arith)) (h n (omega arith)))
 
 -- ---- {a, b}
-abbrev is_colon : ExprToken → Bool
+abbrev is_colon : TokenView → Bool
 is_colon (tk.mark tk.colon) = true
 is_colon k = false
 
-rest_other : (r : Readers) (e : ℕ) (p : Place) (a : Phrase) (q : Place) (k : ExprToken) (us : List Token) → is_colon k ≡ false
+rest_other : (r : Readers) (e : ℕ) (p : Place) (a : Phrase) (q : Place) (k : TokenView) (us : List Token) → is_colon k ≡ false
     → brace_rest r e p a q k us ≡ set_rest r e p a q k us
 rest_other r e p a q (tk.mark tk.colon) us h = absurd cc
 rest_other r e p a q k us h = refl
 
-member_other : (r : Readers) (e : ℕ) (p q : Place) (x : Word) (s : Place) (b : Phrase) (t : Place) (k : ExprToken) (us : List Token) → is_colon k ≡ false
+member_other : (r : Readers) (e : ℕ) (p q : Place) (x : Word) (s : Place) (b : Phrase) (t : Place) (k : TokenView) (us : List Token) → is_colon k ≡ false
     → member_rest r e p q x s b t k us ≡ set_from r e p (element q x s b) us
 member_other r e p q x s b t (tk.mark tk.colon) us h = absurd cc
 member_other r e p q x s b t k us h = refl
 
-pub calm_in : (k : ExprToken) → is_calm k ≡ true → is_in k ≡ false
+pub calm_in : (k : TokenView) → is_calm k ≡ true → is_in k ≡ false
 calm_in (tk.sign o) h = absurd cc
 calm_in k h = refl
 

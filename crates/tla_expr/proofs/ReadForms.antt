@@ -5,7 +5,7 @@ use Rattle.tla_token.specs.declared.place.Place.{Place}
 use Rattle.tla_expr.specs.declared.op.Op.{Op}
 use Rattle.tla_expr.specs.declared.op.Op.TheVariants as op
 use Rattle.tla_expr.specs.Tree.{Word}
-use Rattle.tla_expr.specs.Lexical.{Constant, ExprToken, Token, token, sign_of, field_kind}
+use Rattle.tla_expr.specs.Lexical.{Constant, TokenView, Token, token, sign_of, field_kind}
 use Rattle.tla_expr.specs.Lexical as tk
 use Rattle.tla_expr.specs.Spelling.{Field, Phrase, number, string, constant, name, primed, call, brackets, no_set, set_of, filter, image, no_tuple, tuple, fields, records, function, functions, except, apply, select, list, quantified, if_then_else, cases, local, infix_of, prefix_of}
 use Rattle.tla_expr.specs.Spelling.{Phrases, last, more, Binds, last_bind, bind, share, Locals, last_local, more_locals, Bullets, last_bullet, bullet}
@@ -18,7 +18,7 @@ use Rattle.tla_expr.proofs.ReadStops.{bullets_behind, is_calm}
 use Rattle.tla_expr.proofs.ReadPhrases.{is_call, NoCall, Inner, tail_call, Prime, Full, Begins, Reads, ended, closed, is_end, Ends, end_calm, ReadsAll, primary_reads}
 
 -- ---- how a phrase begins
-abbrev pub is_start : ExprToken → Bool
+abbrev pub is_start : TokenView → Bool
 is_start (tk.number n) = true
 is_start (tk.string x) = true
 is_start (tk.constant c) = true
@@ -43,7 +43,7 @@ sign_starts : (o : Op) → is_start (sign_of o) ≡ true
 sign_starts op.Negate = refl
 sign_starts o = refl
 
-starts_with : (e : ℕ) (p : Place) (k : ExprToken) (us : List Token) → Right e p → is_start k ≡ true → Starts e (token p k ∷ us)
+starts_with : (e : ℕ) (p : Place) (k : TokenView) (us : List Token) → Right e p → is_start k ≡ true → Starts e (token p k ∷ us)
 starts_with e p k us r h = record { first = token p k; rest = us; same_as = refl; right = r; start = h }
 
 quantifier_starts : (e : ℕ) (b : Bool) (p : Place) (us : List Token) → Right e p → Starts e (key p (sp.quantifier b) us)
@@ -85,7 +85,7 @@ starts_all e (last a) g ts = starts e a g ts
 starts_all e (more a p xs) g ts = starts e a g.0 (mark p tk.comma (spell_all xs ts))
 
 -- ---- tuples
-tuples_by : (r : Readers) (e : ℕ) (p q : Place) (k : ExprToken) (us : List Token) → is_start k ≡ true → tuples r e p q k us ≡ (r.phrases e >>= λ xs. a_mark e tk.close_tuple >>= λ s. gives (tuple p xs s)) us
+tuples_by : (r : Readers) (e : ℕ) (p q : Place) (k : TokenView) (us : List Token) → is_start k ≡ true → tuples r e p q k us ≡ (r.phrases e >>= λ xs. a_mark e tk.close_tuple >>= λ s. gives (tuple p xs s)) us
 tuples_by r e p q (tk.mark tk.close_tuple) us h = absurd cc
 tuples_by r e p q k us h = refl
 
@@ -106,16 +106,16 @@ head_primary : (a : Phrase) (p : Place) → can_be_head a p ≡ true → is_prim
 head_primary (list o bs) p h = refl
 head_primary a p h = h
 
--- a list ends before a subscript or field that may stand behind it
+-- a list ends before a subscript or field that may be after it
 or_left : (x y : Bool) → (x || y) ≡ false → x ≡ false
 or_left false y h = refl
 or_left true y h = h
 
-no_bullet : (o : Op) (b : Bool) (k : ExprToken) → (is_call k || not (is_calm k || is_tail k)) ≡ false → (is_sign o k && b) ≡ false
+no_bullet : (o : Op) (b : Bool) (k : TokenView) → (is_call k || not (is_calm k || is_tail k)) ≡ false → (is_sign o k && b) ≡ false
 no_bullet o b (tk.sign q) h = absurd cc
 no_bullet o b k h = refl
 
-head_inner : (e : ℕ) (a : Phrase) (p : Place) (k : ExprToken) (us : List Token) → Good e a → can_be_head a p ≡ true → next e us ≡ token p k → (is_call k || not (is_calm k || is_tail k)) ≡ false → Inner e a us
+head_inner : (e : ℕ) (a : Phrase) (p : Place) (k : TokenView) (us : List Token) → Good e a → can_be_head a p ≡ true → next e us ≡ token p k → (is_call k || not (is_calm k || is_tail k)) ≡ false → Inner e a us
 head_inner e a p k us g can s t = inner a g can
   where
     no_call : NoCall e us
@@ -167,7 +167,7 @@ pub record BindsRead (e : ℕ) (bs : Binds) (ts : List Token) : Type 0 where
 abbrev pub ReadsBinds : Binds → Type 0
 ReadsBinds bs = (e : ℕ) → GoodBinds e bs → (ts : List Token) → Ends e ts → BindsRead e bs ts
 
-bind_end : (r : Readers) (e : ℕ) (p : Place) (x : Word) (q : Place) (a : Phrase) (s : Place) (k : ExprToken) (ts : List Token) → is_end k ≡ true → bind_rest r e p x q a s k ts ≡ Ok (last_bind p x q a, ts)
+bind_end : (r : Readers) (e : ℕ) (p : Place) (x : Word) (q : Place) (a : Phrase) (s : Place) (k : TokenView) (ts : List Token) → is_end k ≡ true → bind_rest r e p x q a s k ts ≡ Ok (last_bind p x q a, ts)
 bind_end r e p x q a s (tk.mark tk.comma) ts h = absurd cc
 bind_end r e p x q a s k ts h = refl
 
@@ -215,11 +215,11 @@ reads_choice p a q b s d ha hb hd = record { begins = λ h. absurd cc; prime = �
         step (λ r. r.expr e c (spell (if_then_else p a q b s d) ts)) o (omega arith) (λ n l. rw (gp, va n (omega arith), gq, vb n (omega arith), gs, vd n (omega arith)) (h n (omega arith)))
 
 -- ---- local definitions
-abbrev pub is_stop : ExprToken → Bool
+abbrev pub is_stop : TokenView → Bool
 is_stop (tk.word x) = false
 is_stop k = is_calm k
 
-stop_calm : (k : ExprToken) → is_stop k ≡ true → is_calm k ≡ true
+stop_calm : (k : TokenView) → is_stop k ≡ true → is_calm k ≡ true
 stop_calm (tk.word x) h = refl
 stop_calm k h = h
 
@@ -234,7 +234,7 @@ pub record LocalsRead (e : ℕ) (ls : Locals) (ts : List Token) : Type 0 where
 abbrev pub ReadsLocals : Locals → Type 0
 ReadsLocals ls = (e : ℕ) → GoodLocals e ls → (ts : List Token) → is_stop (next e ts).kind ≡ true → LocalsRead e ls ts
 
-locals_end : (r : Readers) (e : ℕ) (p : Place) (x : Word) (q : Place) (a : Phrase) (s : Place) (k : ExprToken) (ts : List Token) → is_stop k ≡ true → locals_by r e p x q a s k ts ≡ Ok (last_local p x q a, ts)
+locals_end : (r : Readers) (e : ℕ) (p : Place) (x : Word) (q : Place) (a : Phrase) (s : Place) (k : TokenView) (ts : List Token) → is_stop k ≡ true → locals_by r e p x q a s k ts ≡ Ok (last_local p x q a, ts)
 locals_end r e p x q a s (tk.word y) ts h = absurd cc
 locals_end r e p x q a s k ts h = refl
 

@@ -1,10 +1,11 @@
 -- What is spelled is read: sets of functions, and EXCEPT.
-use Rattle.std.proofs.Common.{◌≡◌, ℕ, ◌+◌, Bool, true, false, ◌&&◌, ◌||◌, List, [], ◌∷◌, Ok, refl, sym, ap, ◌∙◌, arith}
+use Rattle.std.proofs.Common.{◌≡◌, ℕ, ◌+◌, Bool, true, false, ◌&&◌, List, [], ◌∷◌, Ok, refl, sym, ap, ◌∙◌, arith}
+use Rattle.std.proofs.lemmas.Bool.{or_parts}
 use Rattle.tla_token.specs.declared.place.Place.{Place}
 use Rattle.tla_expr.specs.declared.op.Op.{Op}
 use Rattle.tla_expr.specs.declared.op.Op.TheVariants as op
 use Rattle.tla_expr.specs.Tree.{Word}
-use Rattle.tla_expr.specs.Lexical.{ExprToken, Token, token, sign_of}
+use Rattle.tla_expr.specs.Lexical.{TokenView, Token, token, sign_of}
 use Rattle.tla_expr.specs.Lexical as tk
 use Rattle.tla_expr.specs.Spelling.{Field, Phrase, name, primed, call, functions, except, apply, select, list, quantified, infix_of, prefix_of, last_bullet, bullet, Phrases, Settings, last_setting, setting, Path, path_end, index, at_field}
 use Rattle.tla_expr.specs.Spelling.{mark, key, sign, word, spell, spell_settings, spell_path, is_word, is_in, Right, Good, GoodSettings, GoodPath}
@@ -17,44 +18,44 @@ use Rattle.tla_expr.proofs.ReadForms.{is_start, Starts, starts, field_read}
 use Rattle.tla_expr.proofs.ReadElements.{from_word, assoc, cut_steps}
 use Rattle.tla_expr.proofs.ReadMembers.{is_name, is_member, cut, member, and_false, primary_member, sign_no_word}
 
--- ---- behind a square bracket
--- a token that decides behind a first name
-abbrev is_decisive : ExprToken → Bool
+-- ---- after a square bracket
+-- a token that decides after a first name
+abbrev is_decisive : TokenView → Bool
 is_decisive (tk.mark tk.maps) = true
 is_decisive (tk.mark tk.colon) = true
 is_decisive (tk.mark tk.comma) = true
 is_decisive (tk.sign op.In) = true
 is_decisive k = false
 
--- a token behind a first expression
-abbrev is_divider : ExprToken → Bool
+-- a token after a first expression
+abbrev is_divider : TokenView → Bool
 is_divider (tk.mark tk.arrow) = true
 is_divider (tk.key tk.except_key) = true
 is_divider k = false
 
-divider_calm : (k : ExprToken) → is_divider k ≡ true → is_calm k ≡ true
+divider_calm : (k : TokenView) → is_divider k ≡ true → is_calm k ≡ true
 divider_calm (tk.mark tk.arrow) h = refl
 divider_calm (tk.key tk.except_key) h = refl
 divider_calm k h = absurd cc
 
-divider_decides : (k : ExprToken) → is_divider k ≡ true → is_decisive k ≡ false
+divider_decides : (k : TokenView) → is_divider k ≡ true → is_decisive k ≡ false
 divider_decides (tk.mark tk.arrow) h = refl
 divider_decides (tk.key tk.except_key) h = refl
 divider_decides k h = absurd cc
 
-member_divided : (r : Readers) (e : ℕ) (p q : Place) (x : Word) (s : Place) (b : Phrase) (t : Place) (k : ExprToken) (us : List Token)
+member_divided : (r : Readers) (e : ℕ) (p q : Place) (x : Word) (s : Place) (b : Phrase) (t : Place) (k : TokenView) (us : List Token)
     → is_divider k ≡ true → square_member r e p q x s b t k us ≡ square_from r e p (element q x s b) us
 member_divided r e p q x s b t (tk.mark tk.arrow) us h = refl
 member_divided r e p q x s b t (tk.key tk.except_key) us h = refl
 member_divided r e p q x s b t k us h = absurd cc
 
-squares_other : (r : Readers) (e : ℕ) (p q : Place) (k : ExprToken) (us : List Token) → is_start k ≡ true → is_word k ≡ false
+squares_other : (r : Readers) (e : ℕ) (p q : Place) (k : TokenView) (us : List Token) → is_start k ≡ true → is_word k ≡ false
     → squares r e p q k us ≡ (r.expr e free >>= λ a. peek e (square_rest r e p a)) us
 squares_other r e p q (tk.reserved x) us h w = absurd cc
 squares_other r e p q (tk.word x) us h w = absurd cc
 squares_other r e p q k us h w = refl
 
-name_other : (r : Readers) (e : ℕ) (p q : Place) (x : Word) (s : Place) (k : ExprToken) (vs : List Token) → is_decisive k ≡ false
+name_other : (r : Readers) (e : ℕ) (p q : Place) (x : Word) (s : Place) (k : TokenView) (vs : List Token) → is_decisive k ≡ false
     → square_name r e p q x s k vs ≡ (from_name r e q x >>= λ a. r.climb e 0 a >>= λ b. peek e (square_rest r e p b)) vs
 name_other r e p q x s (tk.mark tk.maps) vs h = absurd cc
 name_other r e p q x s (tk.mark tk.colon) vs h = absurd cc
@@ -75,7 +76,7 @@ squared_word e p q x vs g n b ts o j k h i =
     ∙ sym (assoc (from_name (readers n') e q x vs) (λ a us. (readers n').climb e 0 a us) (λ b us. peek e (square_rest (readers n') e p b) us))
     ∙ ap (λ (y : Out Phrase). then_read y (λ b us. peek e (square_rest (readers n') e p b) us)) (v n' (omega arith)) ∙ i n' (omega arith)))
 
-squared_token : (e : ℕ) (p q : Place) (k : ExprToken) (vs : List Token) → Right e q → is_start k ≡ true
+squared_token : (e : ℕ) (p q : Place) (k : TokenView) (vs : List Token) → Right e q → is_start k ≡ true
     → (is_word k && is_decisive (next e vs).kind) ≡ false → Squared e p (token q k ∷ vs)
 squared_token e p q (tk.word x) vs g t n b ts o j m h i = squared_word e p q x vs g n b ts o j m h i
 squared_token e p q k vs g t n b ts o u w h i = (λ m l. rw g (squares_other (readers m) e p q k (token q k ∷ vs) t refl
@@ -84,15 +85,11 @@ squared_token e p q k vs g t n b ts o u w h i = (λ m l. rw g (squares_other (re
 squared : (e : ℕ) (p : Place) (us : List Token) → Starts e us → Undecided e us → Squared e p us
 squared e p us s n = rw s.same_as (squared_token e p s.first.place s.first.kind s.rest s.right s.start (rw s.same_as at n))
 
--- ---- what stands behind a first name decides nothing
+-- ---- what is after a first name decides nothing
 sign_decides : (o : Op) → is_decisive (sign_of o) ≡ is_in (sign_of o)
 sign_decides op.In = refl
 sign_decides op.Negate = refl
 sign_decides o = refl
-
-or_false_parts : (x y : Bool) → (x || y) ≡ false → (x ≡ false) × (y ≡ false)
-or_false_parts true y h = absurd cc
-or_false_parts false y h = (refl, h)
 
 undecided : (e : ℕ) (a : Phrase) → Good e a → (us : List Token) → is_member a ≡ false → (is_name a && is_decisive (next e us).kind) ≡ false → Undecided e (spell a us)
 undecided e (name p x) g us m h = h
@@ -101,7 +98,7 @@ undecided e (call p x q xs r) g us m h = rw g.1 refl
 undecided e (apply a p xs q) g us m h = undecided e a g.0 _ (primary_member a p g.1) (rw g.2 (and_false (is_name a)))
 undecided e (select a p d) g us m h = undecided e a g.0 _ (primary_member a p g.1) (rw g.2 (and_false (is_name a)))
 undecided e (infix_of a p o b) g us m h =
-    let w = or_false_parts (is_member a) (is_name a && is_in (sign_of o)) m in
+    let w = or_parts (is_member a) (is_name a && is_in (sign_of o)) m in
     undecided e a g.3 (sign p o (spell b us)) w.0 (rw (g.4, sign_decides o) w.1)
 undecided e (prefix_of p o a) g us m h = rw (sign_no_word o) refl
 undecided e (list o (last_bullet p a)) g us m h = rw (sign_no_word o) refl
@@ -143,7 +140,7 @@ reads_functions p a q b s ha hc hb = primary_reads (functions p a q b s) (λ e d
 abbrev pub ReadsPath : Path → Type 0
 ReadsPath path = (e : ℕ) → GoodPath e path → (ts : List Token) → NoTail e ts → Soon (steps_path path) (λ r. r.path e (spell_path path ts)) (Ok (path, ts))
 
-path_stops : (r : Readers) (e : ℕ) (p : Place) (k : ExprToken) (ts : List Token) → is_tail k ≡ false → path_by r e p k ts ≡ Ok (path_end, ts)
+path_stops : (r : Readers) (e : ℕ) (p : Place) (k : TokenView) (ts : List Token) → is_tail k ≡ false → path_by r e p k ts ≡ Ok (path_end, ts)
 path_stops r e p (tk.mark tk.open_square) ts h = absurd cc
 path_stops r e p (tk.mark tk.dot) ts h = absurd cc
 path_stops r e p k ts h = refl
@@ -166,7 +163,7 @@ reads_at_field p f path hp e (gp, gf, g) ts k =
 abbrev pub ReadsSettings : Settings → Type 0
 ReadsSettings ss = (e : ℕ) → GoodSettings e ss → (ts : List Token) → Ends e ts → Soon (steps_settings ss) (λ r. r.settings e (spell_settings ss ts)) (Ok (ss, ts))
 
-settings_end : (r : Readers) (e : ℕ) (p : Place) (path : Path) (q : Place) (a : Phrase) (s : Place) (k : ExprToken) (ts : List Token) → is_end k ≡ true
+settings_end : (r : Readers) (e : ℕ) (p : Place) (path : Path) (q : Place) (a : Phrase) (s : Place) (k : TokenView) (ts : List Token) → is_end k ≡ true
     → settings_by r e p path q a s k ts ≡ Ok (last_setting p path q a, ts)
 settings_end r e p path q a s (tk.mark tk.comma) ts h = absurd cc
 settings_end r e p path q a s k ts h = refl

@@ -5,7 +5,7 @@ use Rattle.tla_token.specs.declared.place.Place.{Place}
 use Rattle.tla_expr.specs.declared.op.Op.{Op}
 use Rattle.tla_expr.specs.declared.op.Op.TheVariants as op
 use Rattle.tla_expr.specs.Rank.{is_prefix, is_bullet, number_of}
-use Rattle.tla_expr.specs.Lexical.{Constant, ExprToken, Token, token, sign_of, field_kind}
+use Rattle.tla_expr.specs.Lexical.{Constant, TokenView, Token, token, sign_of, field_kind}
 use Rattle.tla_expr.specs.Lexical as tk
 use Rattle.tla_expr.specs.Spelling.{Phrase, list, cases}
 use Rattle.tla_expr.specs.Spelling.{Bullets, last_bullet, bullet, Arms, last_arm, other_arm, arm}
@@ -93,7 +93,7 @@ reads_list o bs hb = primary_reads (list o bs) (λ e d ts s. s.0) (λ e d ts s. 
 abbrev pub ReadsArms : Arms → Type 0
 ReadsArms xs = (e : ℕ) → GoodArms e xs → (ts : List Token) → ArmsStop e xs ts → Soon (steps_arms xs) (λ r. r.arms e (spell_arms xs ts)) (Ok (xs, ts))
 
-arms_end : (r : Readers) (e : ℕ) (a : Phrase) (p : Place) (b : Phrase) (q : Place) (k : ExprToken) (ts : List Token) → is_box k ≡ false → arms_by r e a p b q k ts ≡ Ok (last_arm a p b, ts)
+arms_end : (r : Readers) (e : ℕ) (a : Phrase) (p : Place) (b : Phrase) (q : Place) (k : TokenView) (ts : List Token) → is_box k ≡ false → arms_by r e a p b q k ts ≡ Ok (last_arm a p b, ts)
 arms_end r e a p b q (tk.mark tk.box) ts h = absurd cc
 arms_end r e a p b q k ts h = refl
 
@@ -123,7 +123,7 @@ starts_arms e (last_arm a p b) g ts = starts e a g.0 (mark p tk.arrow (spell b t
 starts_arms e (other_arm a p b q r s c) g ts = starts e a g.0 (mark p tk.arrow (spell b (mark q tk.box (key r tk.other_key (mark s tk.arrow (spell c ts))))))
 starts_arms e (arm a p b q xs) g ts = starts e a g.0 (mark p tk.arrow (spell b (mark q tk.box (spell_arms xs ts))))
 
-arms_by_start : (r : Readers) (e : ℕ) (a : Phrase) (p : Place) (b : Phrase) (q s : Place) (k : ExprToken) (us : List Token) → is_start k ≡ true → arms_other r e a p b q s k us ≡ (r.arms e >>= λ xs. gives (arm a p b q xs)) us
+arms_by_start : (r : Readers) (e : ℕ) (a : Phrase) (p : Place) (b : Phrase) (q s : Place) (k : TokenView) (us : List Token) → is_start k ≡ true → arms_other r e a p b q s k us ≡ (r.arms e >>= λ xs. gives (arm a p b q xs)) us
 arms_by_start r e a p b q s (tk.key tk.other_key) us h = absurd cc
 arms_by_start r e a p b q s k us h = refl
 

@@ -1,4 +1,4 @@
--- Phrases that begin with a name and `\in`: what stands behind these two tokens is one phrase, and the element is put together from it.
+-- Phrases that begin with a name and `\in`: what is after these two tokens is one phrase, and the element is put together from it.
 use Rattle.std.proofs.Common.{◌≡◌, ℕ, ◌≤◌, Bool, true, false, ◌||◌, ◌&&◌, not, nat_lt, List, [], ◌∷◌, Some, refl, sym, ap, ◌∙◌, arith, inl, inr}
 use Rattle.std.proofs.lemmas.Bool.{and_parts, or_cases, both_ways, ltb-true, le-ltb, lt-ltb, not-true}
 use Rattle.tla_token.specs.declared.place.Place.{Place}
@@ -16,12 +16,12 @@ abbrev pub is_name : Phrase → Bool
 is_name (name p x) = true
 is_name a = false
 
--- an element `x \in S`, with operators behind it or not
+-- an element `x \in S`, with operators after it or not
 abbrev pub is_member : Phrase → Bool
 is_member (infix_of a q o b) = is_member a || (is_name a && is_in (sign_of o))
 is_member a = false
 
--- what stands behind `x \in`
+-- what is after `x \in`
 abbrev pub cut : Phrase → Phrase
 cut (infix_of (name p x) q o b) = b
 cut (infix_of a q o b) = infix_of (cut a) q o b
@@ -76,7 +76,7 @@ bind_by e a g ts = word_bind (spell a ts) refl
 pub bind_member : (e : ℕ) (a : Phrase) → Good e a → is_bind (spell a []) ≡ is_member a
 bind_member e a g = bind_by e a g [] ∙ rw (and_false (is_name a)) (or_false (is_member a))
 
--- ---- what is behind `x \in` may stand where the whole may
+-- ---- what is after `x \in` may be where the whole may
 low_infix : (o : Op) → is_prefix o ≡ false → nat_lt (rank o).1 5 ≡ true → nat_lt (rank o).1 4 ≡ true
 low_infix op.Implies h l = refl
 low_infix op.Equivalent h l = refl
@@ -114,7 +114,7 @@ below_in u h = elim (or_cases (nat_lt (rank u).1 5) (is_associative u && same_op
   | inr k ↦ (let w = and_parts (is_associative u) (same_op u op.In) k in absurd (both_ways (is_associative u) (ap is_associative (same_is u op.In w.1)) w.0))
 ]
 
--- ---- the name, `\in`, and what is behind
+-- ---- the name, `\in`, and what is after
 pub record Member (e : ℕ) (d : Phrase) : Type 0 where
   pub place : Place
   pub word_of : Word

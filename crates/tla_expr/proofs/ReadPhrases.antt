@@ -6,7 +6,7 @@ use Rattle.tla_expr.specs.declared.op.Op.{Op}
 use Rattle.tla_expr.specs.declared.op.Op.TheVariants as op
 use Rattle.tla_expr.specs.Tree.{Word}
 use Rattle.tla_expr.specs.Rank.{rank, is_prefix}
-use Rattle.tla_expr.specs.Lexical.{Constant, ExprToken, Token, token, sign_of}
+use Rattle.tla_expr.specs.Lexical.{Constant, TokenView, Token, token, sign_of}
 use Rattle.tla_expr.specs.Lexical as tk
 use Rattle.tla_expr.specs.Spelling.{Phrase, number, string, constant, name, primed, call, brackets, no_set, no_tuple, list, infix_of, prefix_of}
 use Rattle.tla_expr.specs.Spelling.{Phrases, last, more}
@@ -17,7 +17,7 @@ use Rattle.tla_expr.proofs.ReadSoon.{Soon, step, same, is_tail, NoTail, Stays, p
 use Rattle.tla_expr.proofs.ReadStops.{Stops, ListEnds, BulletsStop, is_calm, Calm, calm_stays, calm_stops, Fine, seen_sign, sign_infix, above_bound, left_parts, fits_left, left_stops, fits_short}
 
 -- ---- the claim
-abbrev pub is_call : ExprToken → Bool
+abbrev pub is_call : TokenView → Bool
 is_call (tk.mark tk.open_bracket) = true
 is_call (tk.mark tk.prime) = true
 is_call k = false
@@ -64,21 +64,21 @@ pub closed : (a : Phrase) → Reads a → (e : ℕ) → Good e a → (ts : List 
 closed a h e g ts k = ended a h e free tt g refl ts (calm_stops e (Some free) a ts g k) (calm_stays e 0 a ts k)
 
 -- ---- lists
-abbrev pub is_end : ExprToken → Bool
+abbrev pub is_end : TokenView → Bool
 is_end (tk.mark tk.comma) = false
 is_end k = is_calm k
 
 abbrev pub Ends : ℕ → List Token → Type 0
 Ends e ts = is_end (next e ts).kind ≡ true
 
-pub end_calm : (k : ExprToken) → is_end k ≡ true → is_calm k ≡ true
+pub end_calm : (k : TokenView) → is_end k ≡ true → is_calm k ≡ true
 end_calm (tk.mark tk.comma) h = refl
 end_calm k h = h
 
 abbrev pub ReadsAll : Phrases → Type 0
 ReadsAll xs = (e : ℕ) → GoodAll e xs → (ts : List Token) → Ends e ts → Soon (steps_all xs) (λ r. r.phrases e (spell_all xs ts)) (Ok (xs, ts))
 
-phrases_end : (r : Readers) (e : ℕ) (a : Phrase) (p : Place) (k : ExprToken) (ts : List Token) → is_end k ≡ true → phrases_by r e a p k ts ≡ Ok (last a, ts)
+phrases_end : (r : Readers) (e : ℕ) (a : Phrase) (p : Place) (k : TokenView) (ts : List Token) → is_end k ≡ true → phrases_by r e a p k ts ≡ Ok (last a, ts)
 phrases_end r e a p (tk.mark tk.comma) ts h = absurd cc
 phrases_end r e a p k ts h = refl
 
@@ -100,7 +100,7 @@ operand_is e a ts b r c = rw (b.same_as, b.right) (b.as_operand r c (b.first ∷
 short_is : (e : ℕ) (a : Phrase) (ts : List Token) → Begins e a ts → (r : Readers) → peek e (short_by r e) (spell a ts) ≡ peek e (primary r e) (spell a ts)
 short_is e a ts b r = rw (b.same_as, b.right) (b.as_short r (b.first ∷ b.rest))
 
-pub tail_call : (k : ExprToken) → is_tail k ≡ false → is_call k ≡ false
+pub tail_call : (k : TokenView) → is_tail k ≡ false → is_call k ≡ false
 tail_call (tk.mark tk.open_bracket) h = absurd cc
 tail_call (tk.mark tk.prime) h = absurd cc
 tail_call k h = refl
@@ -131,7 +131,7 @@ pub reads_constant : (p : Place) (x : Constant) → Reads (constant p x)
 reads_constant p x = primary_reads (constant p x) (λ e d ts s. s) (λ e d ts s. tail_call (next e ts).kind s) (λ e g ts. record { first = token p (tk.constant x); rest = ts; same_as = refl; right = g; as_operand = λ r c us. refl; as_short = λ r us. refl })
     (λ e g ts i k o h. (λ m l. rw g (h m (omega arith))))
 
-named_plain : (r : Readers) (e : ℕ) (p : Place) (x : Word) (q : Place) (k : ExprToken) (ts : List Token) → is_call k ≡ false → named r e p x q k ts ≡ Ok (name p x, ts)
+named_plain : (r : Readers) (e : ℕ) (p : Place) (x : Word) (q : Place) (k : TokenView) (ts : List Token) → is_call k ≡ false → named r e p x q k ts ≡ Ok (name p x, ts)
 named_plain r e p x q (tk.mark tk.open_bracket) ts h = absurd cc
 named_plain r e p x q (tk.mark tk.prime) ts h = absurd cc
 named_plain r e p x q k ts h = refl

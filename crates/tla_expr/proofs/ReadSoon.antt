@@ -1,7 +1,7 @@
 -- What the readers give with enough steps, and the tokens that are seen.
 use Rattle.std.proofs.Common.{◌≡◌, ℕ, zero, suc, ◌+◌, ◌≤◌, Bool, true, false, List, Ok, refl, ap, ◌∙◌, arith}
 use Rattle.tla_token.specs.declared.place.Place.{Place}
-use Rattle.tla_expr.specs.Lexical.{ExprToken, Token, token}
+use Rattle.tla_expr.specs.Lexical.{TokenView, Token, token}
 use Rattle.tla_expr.specs.Lexical as tk
 use Rattle.tla_expr.specs.Spelling.{Phrase}
 use Rattle.tla_expr.specs.Reader.{Out, then_read, next, Readers, one_step, readers, goes_on, postfix_by, climb_by}
@@ -20,14 +20,14 @@ pub same : {A : Type 0} (f g : Readers → Out A) (o : Out A) {k : ℕ} → ((r 
 same f g o e h n l = e (readers n) ∙ h n l
 
 -- ---- where a loop ends
-abbrev pub is_tail : ExprToken → Bool
+abbrev pub is_tail : TokenView → Bool
 is_tail (tk.mark tk.open_square) = true
 is_tail (tk.mark tk.dot) = true
 is_tail (tk.mark tk.open_bracket) = true
 is_tail (tk.mark tk.prime) = true
 is_tail k = false
 
-abbrev pub goes_by : ℕ → Phrase → Place → ExprToken → Bool
+abbrev pub goes_by : ℕ → Phrase → Place → TokenView → Bool
 goes_by b a p (tk.sign o) = goes_on b a p o
 goes_by b a p k = false
 
@@ -38,12 +38,12 @@ Stays e b a ts = goes_by b a (next e ts).place (next e ts).kind ≡ false
 abbrev pub NoTail : ℕ → List Token → Type 0
 NoTail e ts = is_tail (next e ts).kind ≡ false
 
-postfix_stops : (r : Readers) (e : ℕ) (a : Phrase) (p : Place) (k : ExprToken) (ts : List Token) → is_tail k ≡ false → postfix_by r e a p k ts ≡ Ok (a, ts)
+postfix_stops : (r : Readers) (e : ℕ) (a : Phrase) (p : Place) (k : TokenView) (ts : List Token) → is_tail k ≡ false → postfix_by r e a p k ts ≡ Ok (a, ts)
 postfix_stops r e a p (tk.mark tk.open_square) ts h = absurd cc
 postfix_stops r e a p (tk.mark tk.dot) ts h = absurd cc
 postfix_stops r e a p k ts h = refl
 
-climb_stops : (r : Readers) (e b : ℕ) (a : Phrase) (p : Place) (k : ExprToken) (ts : List Token) → goes_by b a p k ≡ false → climb_by r e b a p k ts ≡ Ok (a, ts)
+climb_stops : (r : Readers) (e b : ℕ) (a : Phrase) (p : Place) (k : TokenView) (ts : List Token) → goes_by b a p k ≡ false → climb_by r e b a p k ts ≡ Ok (a, ts)
 climb_stops r e b a p (tk.sign o) ts h = rw h refl
 climb_stops r e b a p k ts h = refl
 

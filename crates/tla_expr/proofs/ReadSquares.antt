@@ -3,7 +3,7 @@ use Rattle.std.proofs.Common.{eq-eqb, ◌≡◌, ℕ, ◌+◌, Bool, true, false
 use Rattle.tla_token.specs.declared.place.Place.{Place}
 use Rattle.tla_expr.specs.declared.op.Op.TheVariants as op
 use Rattle.tla_expr.specs.Tree.{Word}
-use Rattle.tla_expr.specs.Lexical.{Mark, Constant, ExprToken, Token, token, sign_of, field_kind}
+use Rattle.tla_expr.specs.Lexical.{Mark, Constant, TokenView, Token, token, sign_of, field_kind}
 use Rattle.tla_expr.specs.Lexical as tk
 use Rattle.tla_expr.specs.Spelling.{Field, Phrase, filter, fields, records, function}
 use Rattle.tla_expr.specs.Spelling.{Binds, last_bind, bind, share, Fields, last_field, field}
@@ -30,7 +30,7 @@ pub record FieldsRead (e : ℕ) (m : Mark) (fs : Fields) (ts : List Token) : Typ
 abbrev pub ReadsFields : Fields → Type 0
 ReadsFields fs = (e : ℕ) (m : Mark) → GoodFields e fs → (ts : List Token) → Ends e ts → FieldsRead e m fs ts
 
-fields_end : (r : Readers) (e : ℕ) (m : Mark) (f : Field) (p : Place) (a : Phrase) (q : Place) (k : ExprToken) (ts : List Token) → is_end k ≡ true → fields_by r e m f p a q k ts ≡ Ok (last_field f p a, ts)
+fields_end : (r : Readers) (e : ℕ) (m : Mark) (f : Field) (p : Place) (a : Phrase) (q : Place) (k : TokenView) (ts : List Token) → is_end k ≡ true → fields_by r e m f p a q k ts ≡ Ok (last_field f p a, ts)
 fields_end r e m f p a q (tk.mark tk.comma) ts h = absurd cc
 fields_end r e m f p a q k ts h = refl
 
@@ -95,7 +95,7 @@ reads_function_bind p y x z b t bs q a s hb hs ha = square_form p (bind y x z b 
     let u = closed a ha e ga (mark s tk.close_square ts) (rw gs refl) in
     (λ n l. rw (gy, gz, v n (omega arith), gt, gt, w.same_as, w.right, w.reads n (omega arith), gq, u n (omega arith), gs) refl)))
 
--- the names behind the first
+-- the names after the first
 binds_share : (p : Place) (x : Word) (q : Place) (bs : Binds) (e : ℕ) → GoodBinds e (share p x q bs) → (ts : List Token) → BindsRead e bs ts → Soon (steps_binds bs + 1) (λ r. r.binds e p x (mark q tk.comma (spell_binds bs ts))) (Ok (share p x q bs, ts))
 binds_share p x q bs e (gp, gq, gb) ts v = step (λ r. r.binds e p x (mark q tk.comma (spell_binds bs ts))) (Ok (share p x q bs, ts)) (omega arith) (λ n l. rw (gq, v.same_as, v.right, v.reads n (omega arith)) refl)
 

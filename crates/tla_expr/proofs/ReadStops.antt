@@ -1,11 +1,11 @@
--- Which token ends a phrase where it stands.
+-- Which token ends a phrase where it is.
 use Rattle.std.proofs.Common.{◌≡◌, ℕ, ◌<◌, ◌≤◌, ◌⊎◌, nat_eq, Bool, true, false, not, ◌&&◌, ◌||◌, nat_lt, zero, suc, List, [], ◌∷◌, Option, Some, None, refl, sym, ap, ◌∙◌, arith, MatchBool, inl, inr}
 use Rattle.std.proofs.lemmas.Bool.{and_parts, or_cases, both_ways, eqb-true, ltb-true, le-ltb, lt-ltb, not-true}
 use Rattle.tla_token.specs.declared.place.Place.{Place}
 use Rattle.tla_expr.specs.declared.op.Op.{Op}
 use Rattle.tla_expr.specs.declared.op.Op.TheVariants as op
 use Rattle.tla_expr.specs.Rank.{rank, is_prefix, is_associative, same_op, number_of}
-use Rattle.tla_expr.specs.Lexical.{ExprToken, Token, token, sign_of}
+use Rattle.tla_expr.specs.Lexical.{TokenView, Token, token, sign_of}
 use Rattle.tla_expr.specs.Lexical as tk
 use Rattle.tla_expr.specs.Spelling.{Phrase, list, quantified, if_then_else, cases, local, infix_of, prefix_of}
 use Rattle.tla_expr.specs.Spelling.{Bullets, last_bullet, bullet, Arms, last_arm, other_arm, arm}
@@ -18,7 +18,7 @@ abbrev pub free_in : Option Context → Op → Bool
 free_in None q = false
 free_in (Some c) q = is_free c q
 
-abbrev pub is_box : ExprToken → Bool
+abbrev pub is_box : TokenView → Bool
 is_box (tk.mark tk.box) = true
 is_box k = false
 
@@ -48,25 +48,25 @@ abbrev mutual
   ArmsStop e (arm a p b q xs) ts = ArmsStop e xs ts
 
 -- a token that goes on nothing
-abbrev pub is_calm : ExprToken → Bool
+abbrev pub is_calm : TokenView → Bool
 is_calm (tk.sign o) = false
 is_calm (tk.mark tk.box) = false
 is_calm k = not (is_tail k)
 
-calm_tail : (k : ExprToken) → is_calm k ≡ true → is_tail k ≡ false
+calm_tail : (k : TokenView) → is_calm k ≡ true → is_tail k ≡ false
 calm_tail (tk.sign o) h = refl
 calm_tail (tk.mark tk.box) h = refl
 calm_tail k h = not-true (is_tail k) h
 
-calm_by : (b : ℕ) (a : Phrase) (p : Place) (k : ExprToken) → is_calm k ≡ true → goes_by b a p k ≡ false
+calm_by : (b : ℕ) (a : Phrase) (p : Place) (k : TokenView) → is_calm k ≡ true → goes_by b a p k ≡ false
 calm_by b a p (tk.sign o) h = absurd cc
 calm_by b a p k h = refl
 
-calm_bullet : (o : Op) (b : Bool) (k : ExprToken) → is_calm k ≡ true → (is_sign o k && b) ≡ false
+calm_bullet : (o : Op) (b : Bool) (k : TokenView) → is_calm k ≡ true → (is_sign o k && b) ≡ false
 calm_bullet o b (tk.sign q) h = absurd cc
 calm_bullet o b k h = refl
 
-calm_box : (k : ExprToken) → is_calm k ≡ true → is_box k ≡ false
+calm_box : (k : TokenView) → is_calm k ≡ true → is_box k ≡ false
 calm_box (tk.mark tk.box) h = absurd cc
 calm_box k h = refl
 
@@ -112,8 +112,8 @@ mutual
   calm_arms e (other_arm a p b q r s c) ts g h = (calm_stops e (Some free) c ts g.7 h, calm_stays e 0 c ts h)
   calm_arms e (arm a p b q xs) ts g h = calm_arms e xs ts g.5 h
 
--- a token that stands at the column or left of it is not seen in an item
-pub behind_end : (e c : ℕ) (ts : List Token) (p : Place) (k : ExprToken) → nat_lt e c ≡ true → next e ts ≡ token p k → nat_lt c p.col ≡ false → next c ts ≡ end
+-- a token that is at the column or left of it is not seen in an item
+pub behind_end : (e c : ℕ) (ts : List Token) (p : Place) (k : TokenView) → nat_lt e c ≡ true → next e ts ≡ token p k → nat_lt c p.col ≡ false → next c ts ≡ end
 behind_end e c [] p k l s h = refl
 behind_end e c (t ∷ ts) p k l s h = by (nat_lt c t.place.col) refl
   where
@@ -125,10 +125,10 @@ behind_end e c (t ∷ ts) p k l s h = by (nat_lt c t.place.col) refl
         let col : nat_lt c t.place.col ≡ nat_lt c p.col = ap (λ (u : Token). nat_lt c u.place.col) it in
         absurd (both_ways (nat_lt c p.col) h (sym col ∙ g))
 
-pub bullets_behind : (e c : ℕ) (bs : Bullets) (ts : List Token) (p : Place) (k : ExprToken) → GoodBullets c bs → nat_lt e c ≡ true → next e ts ≡ token p k → nat_lt c p.col ≡ false → BulletsStop c bs ts
+pub bullets_behind : (e c : ℕ) (bs : Bullets) (ts : List Token) (p : Place) (k : TokenView) → GoodBullets c bs → nat_lt e c ≡ true → next e ts ≡ token p k → nat_lt c p.col ≡ false → BulletsStop c bs ts
 bullets_behind e c bs ts p k g l s h = calm_bullets c bs ts g (rw (behind_end e c ts p k l s h) refl)
 
--- ---- `[]` behind a phrase in which no CASE takes it
+-- ---- `[]` after a phrase in which no CASE takes it
 box_right : (e c : ℕ) (ts : List Token) (p : Place) → nat_lt e c ≡ true → next e ts ≡ token p (tk.mark tk.box) → (nat_lt c p.col ≡ false × Calm c ts) ⊎ (nat_lt c p.col ≡ true × (next c ts ≡ token p (tk.mark tk.box)))
 box_right e c ts p l s = by (nat_lt c p.col) refl
   where
@@ -331,7 +331,7 @@ fits_short (under r) p q a e h = elim (or_cases (nat_lt (rank r).1 (rank q).0) (
     or_right true y h = refl
     or_right false y h = h
 
--- behind a list
+-- after a list
 list_stops : (e : ℕ) (q : Op) (bs : Bullets) (p : Place) (o : Op) (ts : List Token) → Right e (first_bullet bs) → GoodBullets (first_bullet bs).col bs → is_behind (Some (q, (first_bullet bs).col)) o p ≡ true → Seen e p o ts → NoTail e ts × ListEnds e q (first_bullet bs).col ts × BulletsStop (first_bullet bs).col bs ts
 list_stops e q bs p o ts r g h s =
     let c = (first_bullet bs).col in
@@ -348,7 +348,7 @@ short_stops e (cases r xs) p o ts g z h s = absurd cc
 short_stops e (list q bs) p o ts g z h s = list_stops e q bs p o ts g.1 g.2 z s
 short_stops e a p o ts g z h s = seen_tail e p o ts s
 
--- an operator that is not above its place stops all that stands there
+-- an operator that is not above its place stops all that is there
 pub low_stops : (e : ℕ) (c : Context) (a : Phrase) (p : Place) (o : Op) (ts : List Token) → Good e a → Fine c → (ends_open a ≡ false) × (is_behind (end_list a) o p ≡ true) → fits c a ≡ true → (rank o).0 ≤ bound c → Seen e p o ts → Stops e (Some c) a ts
 low_stops e c (infix_of a r q b) p o ts (n, l, m, ga, gr, gb) f w t le s =
     let d = above_bound c f a r q b (not-true _ n) t in
@@ -366,7 +366,7 @@ low_stops e c (cases r xs) p o ts g f w t le s = absurd (both_ways true w.0 refl
 low_stops e c (list q bs) p o ts g f w t le s = list_stops e q bs p o ts g.1 g.2 w.1 s
 low_stops e c a p o ts g f w t le s = seen_tail e p o ts s
 
--- what may stand to the left of an operator
+-- what may be to the left of an operator
 pub record Left (o : Op) (h : Head) : Type 0 where
   pub above : (r : Op) → (rank r).1 < (rank o).0 → is_above r h ≡ true
   pub own : (q : Op) → h ≡ applied q → ((rank o).0 ≤ (rank q).0) × ((rank o).0 ≤ (rank q).1)
@@ -404,7 +404,7 @@ left_parts a p o h =
     let v = and_parts (not (ends_open a)) (is_behind (end_list a) o p) w.1 in
     (left_head o (head a) w.0, (not-true (ends_open a) v.0, v.1))
 
--- it may stand where the operator may
+-- it may be where the operator may
 pub fits_left : (c : Context) (a : Phrase) (o : Op) → Left o (head a) → bound c < (rank o).0 → fits c a ≡ true
 fits_left free a o l k = refl
 fits_left (right_of r) a o l k = rw (l.above r k) refl

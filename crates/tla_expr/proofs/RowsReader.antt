@@ -3,7 +3,7 @@ use Rattle.std.proofs.Common.{◌≡◌, refl, ℕ, true, ap, arith, List, [], �
 use Rattle.tla_token.specs.declared.place.Place.{Place}
 use Rattle.tla_expr.specs.declared.op.Op.{Op}
 use Rattle.tla_expr.specs.declared.op.Op.TheVariants as op
-use Rattle.tla_expr.specs.Lexical.{Mark, Key, ExprToken, Token, token}
+use Rattle.tla_expr.specs.Lexical.{Mark, Key, TokenView, Token, token}
 use Rattle.tla_expr.specs.Lexical as tk
 use Rattle.tla_expr.specs.Spelling.{Phrase}
 use Rattle.tla_expr.specs.Spelling as spelled
@@ -60,7 +60,7 @@ mixed : read 0 (w 1 ∷ s 3 op.And ∷ w 6 ∷ s 8 op.Or ∷ w 11 ∷ []) ≡ Ok
 unfolding readers
 mixed = refl
 
--- `a +` is refused behind its last token
+-- `a +` is refused after its last token
 unfinished : read 0 (w 1 ∷ s 3 op.Plus ∷ []) ≡ Err []
 unfolding readers
 unfinished = refl
@@ -70,7 +70,7 @@ unfinished = refl
 other_line : looks (token (record { line = 7; col = 1 }) (tk.word (codes "a")) ∷ []) ≡ looks (w 1 ∷ [])
 other_line = refl
 
-abbrev first_col : List (ExprToken × ℕ) → ℕ
+abbrev first_col : List (TokenView × ℕ) → ℕ
 first_col [] = 0
 first_col (x ∷ xs) = x.1
 

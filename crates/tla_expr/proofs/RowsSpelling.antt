@@ -92,7 +92,7 @@ no_operator g = cc
 other_sign : Good 0 (joined 3 3 op.Or two_items (name 3 6))
 other_sign = search
 
--- also behind `a +`
+-- also after `a +`
 no_operator_behind : Good 0 (joined 2 7 op.And (joined 1 3 op.Plus (name 1 1) (spelled.list op.And (spelled.last_bullet (at 1 7) (name 1 10)))) (name 2 10)) → ⊥
 no_operator_behind g = cc
 
@@ -110,7 +110,7 @@ next_item = search
 no_bracket_out : Good 0 (spelled.list op.And (spelled.last_bullet (at 1 3) (spelled.brackets (at 1 6) (name 1 7) (at 2 3)))) → ⊥
 no_bracket_out g = cc
 
--- an item may end in an open form before an operator behind the list
+-- an item may end in an open form before an operator after the list
 abbrev open_item : Phrase
 open_item = spelled.list op.Or (spelled.last_bullet (at 1 1) (all_of (name 1 16)))
 

@@ -6,7 +6,7 @@ use Rattle.tla_expr.specs.declared.op.Op.{Op}
 use Rattle.tla_expr.specs.declared.op.Op.TheVariants as op
 use Rattle.tla_expr.specs.Tree.{Word}
 use Rattle.tla_expr.specs.Rank.{rank, is_prefix, is_bullet, same_op}
-use Rattle.tla_expr.specs.Lexical.{Mark, Key, ExprToken, Token, token, sign_of}
+use Rattle.tla_expr.specs.Lexical.{Mark, Key, TokenView, Token, token, sign_of}
 use Rattle.tla_expr.specs.Lexical as tk
 use Rattle.tla_expr.specs.Spelling.{Field, Phrase, number, string, constant, brackets, apply, select, list, quantified, if_then_else, cases, local, infix_of, prefix_of}
 use Rattle.tla_expr.specs.Spelling.{Phrases, last, more, Binds, share, Fields, last_field, field, Settings, last_setting, setting, Path, path_end, index, at_field, Bullets, last_bullet, bullet, Arms, last_arm, other_arm, arm, Locals, last_local, more_locals}
@@ -20,7 +20,7 @@ use Rattle.tla_expr.proofs.SoundTokens.{then_ok, ok_is, given, seen, take_ok, if
 use Rattle.tla_expr.proofs.SoundPhrases.{Fitting, IsPrime, IsGroup, Sound, from_name_sound}
 use Rattle.tla_expr.proofs.SoundBraces.{braces_sound, tuples_sound, squares_sound, bind_rest_sound}
 
--- ---- where a phrase may stand
+-- ---- where a phrase may be
 or_true : (x : Bool) → (x || true) ≡ true
 or_true true = refl
 or_true false = refl
@@ -94,7 +94,7 @@ module _ (r : Readers) (h : Sound r) where
           (z.0, z.1, z.2 ∙ w.2)
       by false b i = absurd cc
 
-  pub primary_sound : (e : ℕ) (p : Place) (k : ExprToken) (ts : List Token) (a : Phrase) (us : List Token) → next e ts ≡ token p k → rd.primary r e p k ts ≡ Ok (a, us) → IsPrime e ts a us
+  pub primary_sound : (e : ℕ) (p : Place) (k : TokenView) (ts : List Token) (a : Phrase) (us : List Token) → next e ts ≡ token p k → rd.primary r e p k ts ≡ Ok (a, us) → IsPrime e ts a us
   primary_sound e p (tk.number n) ts a us s o =
       let m = seen e ts p (tk.number n) s refl in
       let z = h.postfix e (number p n) m.0 refl (tail ts) a us o in
@@ -217,12 +217,12 @@ module _ (r : Readers) (h : Sound r) where
       by (Some q) m i = prefix_sound e c p o q m ts a us s i
       by None m i = (let z = list_sound e p o ts a us i in (z.0, prime_fits c a z.1, z.2))
 
-  pub operand_sound : (e : ℕ) (c : Context) (p : Place) (k : ExprToken) (ts : List Token) (a : Phrase) (us : List Token) → next e ts ≡ token p k → operand r e c p k ts ≡ Ok (a, us) → Fitting c e ts a us
+  pub operand_sound : (e : ℕ) (c : Context) (p : Place) (k : TokenView) (ts : List Token) (a : Phrase) (us : List Token) → next e ts ≡ token p k → operand r e c p k ts ≡ Ok (a, us) → Fitting c e ts a us
   operand_sound e c p (tk.key k) ts a us s o = (let z = keyed_sound e p k ts a us s o in (z.0, open_fits c a z.1, z.2))
   operand_sound e c p (tk.sign o) ts a us s i = signed_sound e c p o ts a us s i
   operand_sound e c p k ts a us s o = (let z = primary_sound e p k ts a us s o in (z.0, prime_fits c a z.1, z.2))
 
-  pub short_sound : (e : ℕ) (p : Place) (k : ExprToken) (ts : List Token) (a : Phrase) (us : List Token) → next e ts ≡ token p k → short_by r e p k ts ≡ Ok (a, us) → Good e a × (is_short a ≡ true) × (spell a us ≡ ts)
+  pub short_sound : (e : ℕ) (p : Place) (k : TokenView) (ts : List Token) (a : Phrase) (us : List Token) → next e ts ≡ token p k → short_by r e p k ts ≡ Ok (a, us) → Good e a × (is_short a ≡ true) × (spell a us ≡ ts)
   short_sound e p (tk.sign o) ts a us s i = by (prefix_by o) refl i
     where
       by : (m : Option Op) → prefix_by o ≡ m → short_signed r e p o m ts ≡ Ok (a, us) → Good e a × (is_short a ≡ true) × (spell a us ≡ ts)
@@ -236,7 +236,7 @@ module _ (r : Readers) (h : Sound r) where
   short_sound e p k ts a us s o = (let z = primary_sound e p k ts a us s o in (z.0, prime_short a z.1, z.2))
 
   -- ---- loops
-  pub postfix_sound : (e : ℕ) (b : Phrase) → Good e b → is_primary (head b) ≡ true → (p : Place) (k : ExprToken) (ts : List Token) (a : Phrase) (us : List Token) → next e ts ≡ token p k → postfix_by r e b p k ts ≡ Ok (a, us) → IsPrime e (spell b ts) a us
+  pub postfix_sound : (e : ℕ) (b : Phrase) → Good e b → is_primary (head b) ≡ true → (p : Place) (k : TokenView) (ts : List Token) (a : Phrase) (us : List Token) → next e ts ≡ token p k → postfix_by r e b p k ts ≡ Ok (a, us) → IsPrime e (spell b ts) a us
   postfix_sound e b g f p (tk.mark tk.open_square) ts a us s o = by (can_be_head b p) refl o
     where
       by : (m : Bool) → can_be_head b p ≡ m → apply_if m r e b p ts ≡ Ok (a, us) → IsPrime e (spell b ts) a us
@@ -261,7 +261,7 @@ module _ (r : Readers) (h : Sound r) where
       by false m o = given (λ d vs. IsPrime e (spell b ts) d vs) o (g, f, refl)
   postfix_sound e b g f p k ts a us s o = given (λ d vs. IsPrime e (spell b ts) d vs) o (g, f, refl)
 
-  pub climb_sound : (e : ℕ) (c : Context) (b : Phrase) → Good e b → fits c b ≡ true → (p : Place) (k : ExprToken) (ts : List Token) (a : Phrase) (us : List Token) → next e ts ≡ token p k → climb_by r e (bound c) b p k ts ≡ Ok (a, us) → Fitting c e (spell b ts) a us
+  pub climb_sound : (e : ℕ) (c : Context) (b : Phrase) → Good e b → fits c b ≡ true → (p : Place) (k : TokenView) (ts : List Token) (a : Phrase) (us : List Token) → next e ts ≡ token p k → climb_by r e (bound c) b p k ts ≡ Ok (a, us) → Fitting c e (spell b ts) a us
   climb_sound e c b g f p (tk.sign o) ts a us s i = by (goes_on (bound c) b p o) refl i
     where
       by : (m : Bool) → goes_on (bound c) b p o ≡ m → climb_if m r e (bound c) b p o ts ≡ Ok (a, us) → Fitting c e (spell b ts) a us

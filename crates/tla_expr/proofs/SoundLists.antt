@@ -6,7 +6,7 @@ use Rattle.tla_expr.specs.declared.op.Op.{Op}
 use Rattle.tla_expr.specs.declared.op.Op.TheVariants as op
 use Rattle.tla_expr.specs.Tree.{Word}
 use Rattle.tla_expr.specs.Rank.{is_bullet}
-use Rattle.tla_expr.specs.Lexical.{Mark, ExprToken, Token, token}
+use Rattle.tla_expr.specs.Lexical.{Mark, TokenView, Token, token}
 use Rattle.tla_expr.specs.Lexical as tk
 use Rattle.tla_expr.specs.Spelling.{Field, Phrase}
 use Rattle.tla_expr.specs.Spelling.{Phrases, last, more, Binds, share, Fields, last_field, field, Settings, last_setting, setting, Path, path_end, index, at_field, Bullets, last_bullet, bullet, Arms, last_arm, other_arm, arm, Locals, last_local, more_locals}
@@ -40,7 +40,7 @@ abbrev AreLocals : ℕ → List Token → Locals → List Token → Type 0
 AreLocals e ts ls us = GoodLocals e ls × (spell_locals ls us ≡ ts)
 
 module _ (r : Readers) (h : Sound r) where
-  phrases_sound : (e : ℕ) (a : Phrase) → Good e a → (p : Place) (k : ExprToken) (ts : List Token) (xs : Phrases) (us : List Token) → next e ts ≡ token p k → phrases_by r e a p k ts ≡ Ok (xs, us) → IsList e (spell a ts) xs us
+  phrases_sound : (e : ℕ) (a : Phrase) → Good e a → (p : Place) (k : TokenView) (ts : List Token) (xs : Phrases) (us : List Token) → next e ts ≡ token p k → phrases_by r e a p k ts ≡ Ok (xs, us) → IsList e (spell a ts) xs us
   phrases_sound e a g p (tk.mark tk.comma) ts xs us s o =
       let n = seen e ts p (tk.mark tk.comma) s refl in
       let v = then_ok o in
@@ -48,7 +48,7 @@ module _ (r : Readers) (h : Sound r) where
       given (λ d vs. IsList e (spell a ts) d vs) v.3 ((g, n.0, w.0), rw (w.1, n.1) refl)
   phrases_sound e a g p k ts xs us s o = given (λ d vs. IsList e (spell a ts) d vs) o (g, refl)
 
-  binds_sound : (e : ℕ) (p : Place) (x : Word) → Right e p → (q : Place) (k : ExprToken) (ts : List Token) (bs : Binds) (us : List Token) → next e ts ≡ token q k → binds_by r e p x q k ts ≡ Ok (bs, us) → IsGroup e (word p x ts) bs us
+  binds_sound : (e : ℕ) (p : Place) (x : Word) → Right e p → (q : Place) (k : TokenView) (ts : List Token) (bs : Binds) (us : List Token) → next e ts ≡ token q k → binds_by r e p x q k ts ≡ Ok (bs, us) → IsGroup e (word p x ts) bs us
   binds_sound e p x g q (tk.sign op.In) ts bs us s o =
       let n = seen e ts q (tk.sign op.In) s refl in
       let v = then_ok o in
@@ -64,7 +64,7 @@ module _ (r : Readers) (h : Sound r) where
       given (λ d vs. IsGroup e (word p x ts) d vs) u.3 ((g, n.0, i.0), rw (i.1, w.1, n.1) refl)
   binds_sound e p x g q k ts bs us s o = absurd cc
 
-  fields_sound : (e : ℕ) (m : Mark) (f : Field) → Right e f.place → (p : Place) → Right e p → (a : Phrase) → Good e a → (q : Place) (k : ExprToken) (ts : List Token) (fs : Fields) (us : List Token) → next e ts ≡ token q k → fields_by r e m f p a q k ts ≡ Ok (fs, us) → AreFields e m (field_token f (mark p m (spell a ts))) fs us
+  fields_sound : (e : ℕ) (m : Mark) (f : Field) → Right e f.place → (p : Place) → Right e p → (a : Phrase) → Good e a → (q : Place) (k : TokenView) (ts : List Token) (fs : Fields) (us : List Token) → next e ts ≡ token q k → fields_by r e m f p a q k ts ≡ Ok (fs, us) → AreFields e m (field_token f (mark p m (spell a ts))) fs us
   fields_sound e m f gf p gp a g q (tk.mark tk.comma) ts fs us s o =
       let n = seen e ts q (tk.mark tk.comma) s refl in
       let v = then_ok o in
@@ -74,7 +74,7 @@ module _ (r : Readers) (h : Sound r) where
       given (λ d vs. AreFields e m (field_token f (mark p m (spell a ts))) d vs) u.3 ((gf, gp, g, n.0, i.0), rw (i.1, w.1, n.1) refl)
   fields_sound e m f gf p gp a g q k ts fs us s o = given (λ d vs. AreFields e m (field_token f (mark p m (spell a ts))) d vs) o ((gf, gp, g), refl)
 
-  settings_sound : (e : ℕ) (p : Place) → Right e p → (path : Path) → is_some_path path ≡ true → GoodPath e path → (q : Place) → Right e q → (a : Phrase) → Good e a → (j : Place) (k : ExprToken) (ts : List Token) (ss : Settings) (us : List Token) → next e ts ≡ token j k → settings_by r e p path q a j k ts ≡ Ok (ss, us) → AreSettings e (mark p tk.bang (spell_path path (sign q op.Equal (spell a ts)))) ss us
+  settings_sound : (e : ℕ) (p : Place) → Right e p → (path : Path) → is_some_path path ≡ true → GoodPath e path → (q : Place) → Right e q → (a : Phrase) → Good e a → (j : Place) (k : TokenView) (ts : List Token) (ss : Settings) (us : List Token) → next e ts ≡ token j k → settings_by r e p path q a j k ts ≡ Ok (ss, us) → AreSettings e (mark p tk.bang (spell_path path (sign q op.Equal (spell a ts)))) ss us
   settings_sound e p gp path some gpath q gq a g j (tk.mark tk.comma) ts ss us s o =
       let n = seen e ts j (tk.mark tk.comma) s refl in
       let v = then_ok o in
@@ -95,7 +95,7 @@ module _ (r : Readers) (h : Sound r) where
           (z.0, z.1 ∙ rw (w.2, m.1) refl)
       by false some o = absurd cc
 
-  path_sound : (e : ℕ) (p : Place) (k : ExprToken) (ts : List Token) (path : Path) (us : List Token) → next e ts ≡ token p k → path_by r e p k ts ≡ Ok (path, us) → IsPath e ts path us
+  path_sound : (e : ℕ) (p : Place) (k : TokenView) (ts : List Token) (path : Path) (us : List Token) → next e ts ≡ token p k → path_by r e p k ts ≡ Ok (path, us) → IsPath e ts path us
   path_sound e p (tk.mark tk.open_square) ts path us s o =
       let n = seen e ts p (tk.mark tk.open_square) s refl in
       let v = then_ok o in
@@ -129,7 +129,7 @@ module _ (r : Readers) (h : Sound r) where
       given (λ d vs. AreBullets e o c (sign p o (spell a ts)) d vs) v.3 ((pc, g, w.0), gp, rw w.2 refl)
   bullets_sound e o c ob p gp pc a g false ts bs us i = given (λ d vs. AreBullets e o c (sign p o (spell a ts)) d vs) i ((pc, g), gp, refl)
 
-  arms_other_sound : (e : ℕ) (a : Phrase) → Good e a → (p : Place) → Right e p → (b : Phrase) → Good e b → (q : Place) → not (takes_box q.col b) ≡ true → Right e q → (j : Place) (k : ExprToken) (ts : List Token) (xs : Arms) (us : List Token) → next e ts ≡ token j k → arms_other r e a p b q j k ts ≡ Ok (xs, us) → AreArms e (spell a (mark p tk.arrow (spell b (mark q tk.box ts)))) xs us
+  arms_other_sound : (e : ℕ) (a : Phrase) → Good e a → (p : Place) → Right e p → (b : Phrase) → Good e b → (q : Place) → not (takes_box q.col b) ≡ true → Right e q → (j : Place) (k : TokenView) (ts : List Token) (xs : Arms) (us : List Token) → next e ts ≡ token j k → arms_other r e a p b q j k ts ≡ Ok (xs, us) → AreArms e (spell a (mark p tk.arrow (spell b (mark q tk.box ts)))) xs us
   arms_other_sound e a ga p gp b gb q t gq j (tk.key tk.other_key) ts xs us s o =
       let n = seen e ts j (tk.key tk.other_key) s refl in
       let v = then_ok o in
@@ -145,7 +145,7 @@ module _ (r : Readers) (h : Sound r) where
           let w = h.arms e ts v.0 v.1 v.2 in
           given (λ d vs. AreArms e (spell a (mark p tk.arrow (spell b (mark q tk.box ts)))) d vs) v.3 ((ga, gp, gb, t, gq, w.0), rw w.1 refl)
 
-  arms_sound : (e : ℕ) (a : Phrase) → Good e a → (p : Place) → Right e p → (b : Phrase) → Good e b → (q : Place) (k : ExprToken) (ts : List Token) (xs : Arms) (us : List Token) → next e ts ≡ token q k → arms_by r e a p b q k ts ≡ Ok (xs, us) → AreArms e (spell a (mark p tk.arrow (spell b ts))) xs us
+  arms_sound : (e : ℕ) (a : Phrase) → Good e a → (p : Place) → Right e p → (b : Phrase) → Good e b → (q : Place) (k : TokenView) (ts : List Token) (xs : Arms) (us : List Token) → next e ts ≡ token q k → arms_by r e a p b q k ts ≡ Ok (xs, us) → AreArms e (spell a (mark p tk.arrow (spell b ts))) xs us
   arms_sound e a ga p gp b gb q (tk.mark tk.box) ts xs us s o = by (takes_box q.col b) refl o
     where
       by : (m : Bool) → takes_box q.col b ≡ m → arms_if m r e a p b q ts ≡ Ok (xs, us) → AreArms e (spell a (mark p tk.arrow (spell b ts))) xs us
@@ -156,7 +156,7 @@ module _ (r : Readers) (h : Sound r) where
           (z.0, z.1 ∙ rw n.1 refl)
   arms_sound e a ga p gp b gb q k ts xs us s o = given (λ d vs. AreArms e (spell a (mark p tk.arrow (spell b ts))) d vs) o ((ga, gp, gb), refl)
 
-  locals_sound : (e : ℕ) (p : Place) (x : Word) → Right e p → (q : Place) → Right e q → (a : Phrase) → Good e a → (j : Place) (k : ExprToken) (ts : List Token) (ls : Locals) (us : List Token) → locals_by r e p x q a j k ts ≡ Ok (ls, us) → AreLocals e (word p x (mark q tk.defines (spell a ts))) ls us
+  locals_sound : (e : ℕ) (p : Place) (x : Word) → Right e p → (q : Place) → Right e q → (a : Phrase) → Good e a → (j : Place) (k : TokenView) (ts : List Token) (ls : Locals) (us : List Token) → locals_by r e p x q a j k ts ≡ Ok (ls, us) → AreLocals e (word p x (mark q tk.defines (spell a ts))) ls us
   locals_sound e p x gp q gq a g j (tk.word y) ts ls us o =
       let v = then_ok o in
       let w = h.locals e ts v.0 v.1 v.2 in

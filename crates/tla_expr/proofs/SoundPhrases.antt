@@ -6,7 +6,7 @@ use Rattle.tla_expr.specs.declared.op.Op.{Op}
 use Rattle.tla_expr.specs.declared.op.Op.TheVariants as op
 use Rattle.tla_expr.specs.Tree.{Word}
 use Rattle.tla_expr.specs.Rank.{is_bullet}
-use Rattle.tla_expr.specs.Lexical.{Mark, ExprToken, Token, token}
+use Rattle.tla_expr.specs.Lexical.{Mark, TokenView, Token, token}
 use Rattle.tla_expr.specs.Lexical as tk
 use Rattle.tla_expr.specs.Spelling.{Field, Phrase, name, primed, call, no_set, set_of, filter, image, no_tuple, tuple, fields, records, function, functions, except, infix_of, prefix_of}
 use Rattle.tla_expr.specs.Spelling.{Phrases, last, more, Binds, last_bind, bind, Fields, Settings, Path, Bullets, Arms, Locals}
@@ -68,7 +68,7 @@ no_in e a g p x ts us s w = by (is_member a) refl
     by false m = m
     by true m = absurd (both_ways (is_in (next e ts).kind) w (member_in e a g m p x ts us s))
 
--- the element that is put together from a name, `\in` and what is behind
+-- the element that is put together from a name, `\in` and what is after
 abbrev pub IsElement : ℕ → Place → Word → Place → Phrase → Phrase → Type 0
 IsElement e p x q a b = Good e b × ((ts : List Token) → spell b ts ≡ word p x (sign q op.In (spell a ts)))
 
@@ -98,7 +98,7 @@ element_is e p x q gp gq a b g h = whole_element e p x q a b gp gq g h
 
 module _ (r : Readers) (h : Sound r) where
   -- ---- names
-  named_sound : (e : ℕ) (p : Place) (x : Word) → Right e p → (q : Place) (k : ExprToken) (ts : List Token) (a : Phrase) (us : List Token) → next e ts ≡ token q k → named r e p x q k ts ≡ Ok (a, us) → IsPrime e (word p x ts) a us
+  named_sound : (e : ℕ) (p : Place) (x : Word) → Right e p → (q : Place) (k : TokenView) (ts : List Token) (a : Phrase) (us : List Token) → next e ts ≡ token q k → named r e p x q k ts ≡ Ok (a, us) → IsPrime e (word p x ts) a us
   named_sound e p x g q (tk.mark tk.open_bracket) ts a us s o =
       let n = seen e ts q (tk.mark tk.open_bracket) s refl in
       let v = then_ok o in

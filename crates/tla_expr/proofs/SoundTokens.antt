@@ -4,7 +4,7 @@ use Rattle.std.proofs.lemmas.Bool.{eqb-true}
 use Rattle.tla_token.specs.declared.place.Place.{Place}
 use Rattle.tla_expr.specs.declared.op.Op.{Op}
 use Rattle.tla_expr.specs.Tree.{Word}
-use Rattle.tla_expr.specs.Lexical.{Mark, Key, ExprToken, Token, token, field_kind}
+use Rattle.tla_expr.specs.Lexical.{Mark, Key, TokenView, Token, token, field_kind}
 use Rattle.tla_expr.specs.Lexical as tk
 use Rattle.tla_expr.specs.Spelling.{Field, Right, mark, key, word, field_token}
 use Rattle.tla_expr.specs.Reader.{Out, Reader, then_read, next, tail, end, took, take, mark_number, key_number, is_mark, is_key, is_sign, place_if, a_mark, a_key, a_sign, word_of, field_of, a_word, a_field, ended}
@@ -30,17 +30,17 @@ pub given : {A : Type 0} (P : A → List Token → Type 0) {x y : A} {u v : List
 given P {x} {y} {u} {v} h g = (let w = ok_is h in subst (λ z. P y z) w.1 (subst (λ z. P z u) w.0 g))
 
 -- ---- the next token
-abbrev is_other : ExprToken → Bool
-is_other tk.other = true
+abbrev is_other : TokenView → Bool
+is_other (tk.other w) = true
 is_other k = false
 
-pub seen : (e : ℕ) (ts : List Token) (p : Place) (k : ExprToken) → next e ts ≡ token p k → is_other k ≡ false → Right e p × (token p k ∷ tail ts ≡ ts)
-seen e [] p k s h = (let other : tk.other ≡ k = ap (λ (t : Token). t.kind) s in absurd cc)
+pub seen : (e : ℕ) (ts : List Token) (p : Place) (k : TokenView) → next e ts ≡ token p k → is_other k ≡ false → Right e p × (token p k ∷ tail ts ≡ ts)
+seen e [] p k s h = (let other : tk.other [] ≡ k = ap (λ (t : Token). t.kind) s in absurd cc)
 seen e (t ∷ ts) p k s h = by (nat_lt e t.place.col) refl
   where
     by : (b : Bool) → nat_lt e t.place.col ≡ b → Right e p × (token p k ∷ ts ≡ t ∷ ts)
     by true l = (let it : t ≡ token p k = rw l at s in (ap (λ (u : Token). nat_lt e u.place.col) (sym it) ∙ l, ap (λ (u : Token). u ∷ ts) (sym it)))
-    by false l = (let it : end ≡ token p k = rw l at s in let other : tk.other ≡ k = ap (λ (t : Token). t.kind) it in absurd cc)
+    by false l = (let it : end ≡ token p k = rw l at s in let other : tk.other [] ≡ k = ap (λ (t : Token). t.kind) it in absurd cc)
 
 -- ---- a token that is taken
 took_ok : {A : Type 0} (o : Option A) (ts : List Token) (x : A) (us : List Token) → took o ts ≡ Ok (x, us) → (o ≡ Some x) × (tail ts ≡ us)
@@ -51,14 +51,14 @@ pub if_some : {A : Type 0} (b : Bool) (x y : A) → (if b then Some x else None)
 if_some true x y e = (refl, cc)
 if_some false x y e = absurd cc
 
-pub take_ok : {A : Type 0} (e : ℕ) (f : Place → ExprToken → Option A) (ts : List Token) (x : A) (us : List Token) → take e f ts ≡ Ok (x, us) → (f (next e ts).place (next e ts).kind ≡ Some x) × (tail ts ≡ us)
+pub take_ok : {A : Type 0} (e : ℕ) (f : Place → TokenView → Option A) (ts : List Token) (x : A) (us : List Token) → take e f ts ≡ Ok (x, us) → (f (next e ts).place (next e ts).kind ≡ Some x) × (tail ts ≡ us)
 take_ok e f ts x us h = took_ok (f (next e ts).place (next e ts).kind) ts x us h
 
 -- the token that is seen, of which f tells something
-abbrev pub Taken : ℕ → Place → ExprToken → List Token → List Token → Type 0
+abbrev pub Taken : ℕ → Place → TokenView → List Token → List Token → Type 0
 Taken e p k us ts = Right e p × (token p k ∷ us ≡ ts)
 
-pub taken : (e : ℕ) (ts : List Token) (p : Place) (k : ExprToken) (us : List Token) → next e ts ≡ token p k → is_other k ≡ false → tail ts ≡ us → Taken e p k us ts
+pub taken : (e : ℕ) (ts : List Token) (p : Place) (k : TokenView) (us : List Token) → next e ts ≡ token p k → is_other k ≡ false → tail ts ≡ us → Taken e p k us ts
 taken e ts p k us s h t = (let w = seen e ts p k s h in (w.0, ap (λ (vs : List Token). token p k ∷ vs) (sym t) ∙ w.1))
 
 -- ---- marks, keys and signs
@@ -109,20 +109,20 @@ key_back tk.except_key = refl
 key_back tk.for_all_key = refl
 key_back tk.exists_key = refl
 
-mark_is : (m : Mark) (k : ExprToken) → is_mark m k ≡ true → k ≡ tk.mark m
+mark_is : (m : Mark) (k : TokenView) → is_mark m k ≡ true → k ≡ tk.mark m
 mark_is m (tk.mark n) h = ap (λ (x : Mark). tk.mark x) (sym (mark_back n) ∙ ap (λ (i : ℕ). nth tk.comma marks i) (sym (eqb-true (mark_number m) (mark_number n) h)) ∙ mark_back m)
 mark_is m k h = absurd cc
 
-key_is : (m : Key) (k : ExprToken) → is_key m k ≡ true → k ≡ tk.key m
+key_is : (m : Key) (k : TokenView) → is_key m k ≡ true → k ≡ tk.key m
 key_is m (tk.key n) h = ap (λ (x : Key). tk.key x) (sym (key_back n) ∙ ap (λ (i : ℕ). nth tk.if_key keys i) (sym (eqb-true (key_number m) (key_number n) h)) ∙ key_back m)
 key_is m k h = absurd cc
 
-pub sign_is : (o : Op) (k : ExprToken) → is_sign o k ≡ true → k ≡ tk.sign o
+pub sign_is : (o : Op) (k : TokenView) → is_sign o k ≡ true → k ≡ tk.sign o
 sign_is o (tk.sign q) h = ap (λ (x : Op). tk.sign x) (sym (same_is o q h))
 sign_is o k h = absurd cc
 
 -- a test of the next token's kind that it passes
-placed_ok : (e : ℕ) (f : ExprToken → Bool) (k : ExprToken) → is_other k ≡ false → ((j : ExprToken) → f j ≡ true → j ≡ k) → (ts : List Token) (p : Place) (us : List Token) → take e (place_if f) ts ≡ Ok (p, us) → Taken e p k us ts
+placed_ok : (e : ℕ) (f : TokenView → Bool) (k : TokenView) → is_other k ≡ false → ((j : TokenView) → f j ≡ true → j ≡ k) → (ts : List Token) (p : Place) (us : List Token) → take e (place_if f) ts ≡ Ok (p, us) → Taken e p k us ts
 placed_ok e f k o is ts p us h =
     let w = take_ok e (place_if f) ts p us h in
     let v = if_some (f (next e ts).kind) (next e ts).place p w.0 in
@@ -139,7 +139,7 @@ pub sign_ok : (e : ℕ) (o : Op) (ts : List Token) (p : Place) (us : List Token)
 sign_ok e o ts p us h = placed_ok e (is_sign o) (tk.sign o) refl (sign_is o) ts p us h
 
 -- ---- words and fields
-word_is : (p : Place) (k : ExprToken) (x : Place × Word) → word_of p k ≡ Some x → (p ≡ x.0) × (k ≡ tk.word x.1)
+word_is : (p : Place) (k : TokenView) (x : Place × Word) → word_of p k ≡ Some x → (p ≡ x.0) × (k ≡ tk.word x.1)
 word_is p (tk.word y) x h = (let it : ◌≡◌ {A = Place × Word} (p, y) x = cc in (ap (λ (z : Place × Word). z.0) it, ap (λ (z : Place × Word). tk.word z.1) it))
 word_is p k x h = absurd cc
 
@@ -150,7 +150,7 @@ word_ok e ts x us h =
     let s : next e ts ≡ token x.0 (tk.word x.1) = λ i. token (v.0 i) (v.1 i) in
     taken e ts x.0 (tk.word x.1) us s refl w.1
 
-field_is : (p : Place) (k : ExprToken) (f : Field) → field_of p k ≡ Some f → (p ≡ f.place) × (k ≡ field_kind f.is_reserved f.text) × (is_other (field_kind f.is_reserved f.text) ≡ false)
+field_is : (p : Place) (k : TokenView) (f : Field) → field_of p k ≡ Some f → (p ≡ f.place) × (k ≡ field_kind f.is_reserved f.text) × (is_other (field_kind f.is_reserved f.text) ≡ false)
 field_is p (tk.word y) f h = (let it : record { place = p; is_reserved = false; text = y } ≡ f = cc in rw (sym it) (refl, refl, refl))
 field_is p (tk.reserved y) f h = (let it : record { place = p; is_reserved = true; text = y } ≡ f = cc in rw (sym it) (refl, refl, refl))
 field_is p k f h = absurd cc

@@ -6,7 +6,7 @@ use Rattle.std.specs.List.{list_all, list_any}
 use Rattle.std.specs.Fmt.{decimal}
 use Rattle.std.proofs.lemmas.Fmt.{decimal_by_steps_wide}
 use Rattle.std.proofs.lemmas.List.Sums.{fold-append}
-use Rattle.std.proofs.lemmas.Bool.{and_parts, and_from, or_cases, le-leb, leb-true, eqb-true, eqb-false, both_ways, not-true}
+use Rattle.std.proofs.lemmas.Bool.{and_parts, and_from, or_cases, le-leb, leb-true, eqb-true, eqb-false, both_ways, not-true, or_parts}
 use Rattle.tla_token.specs.declared.sign.Sign.TheVariants as sign
 use Rattle.tla_token.specs.Signs.{is_among}
 use Rattle.tla_token.specs.Words.{is_pluscal_word, is_tla_word, is_reserved, tla_words}
@@ -17,9 +17,9 @@ use Rattle.tla_token.proofs.Words.{all_append}
 use Rattle.tla_expr.specs.declared.op.Op.{Op}
 use Rattle.tla_expr.specs.declared.op.Op.TheVariants as op
 use Rattle.tla_expr.specs.Tree.{Word}
-use Rattle.tla_expr.specs.Lexical.{Mark, Key, Constant, ExprToken, sign_of, field_kind, escaped, escapes}
+use Rattle.tla_expr.specs.Lexical.{Mark, Key, Constant, TokenView, sign_of, field_kind, escaped, escapes}
 use Rattle.tla_expr.specs.Lexical as tk
-use Rattle.tla_expr.specs.ExprTokens.{kind_among, word_kinds, word_kind}
+use Rattle.tla_expr.specs.TokenViews.{kind_among, word_kinds, word_kind}
 use Rattle.tla_expr.specs.laws.Writable.{IsIdentifier, IsField, is_spellable, IsString, IsSpelled}
 
 -- ---- signs, marks and words of the language
@@ -96,32 +96,24 @@ sign_spelled op.Union = (name (codes "UNION"), (refl, (refl, refl)), refl)
 sign_spelled op.Domain = (name (codes "DOMAIN"), (refl, (refl, refl)), refl)
 
 -- ---- names and fields
-no_kind : (ps : List (Word × ExprToken)) (w : Word) (k : ExprToken) → list_all (λ (p : Word × ExprToken). is_among tla_words p.0) ps ≡ true → is_among tla_words w ≡ false → kind_among ps w k ≡ k
+no_kind : (ps : List (Word × TokenView)) (w : Word) (k : TokenView) → list_all (λ (p : Word × TokenView). is_among tla_words p.0) ps ≡ true → is_among tla_words w ≡ false → kind_among ps w k ≡ k
 no_kind [] w k h n = refl
 no_kind (p ∷ ps) w k h n = by (bytes_eq p.0 w) refl (no_kind ps w k a.1 n)
   where
-    a : (is_among tla_words p.0 ≡ true) × (list_all (λ (p : Word × ExprToken). is_among tla_words p.0) ps ≡ true)
-    a = and_parts (is_among tla_words p.0) (list_all (λ (p : Word × ExprToken). is_among tla_words p.0) ps) h
+    a : (is_among tla_words p.0 ≡ true) × (list_all (λ (p : Word × TokenView). is_among tla_words p.0) ps ≡ true)
+    a = and_parts (is_among tla_words p.0) (list_all (λ (p : Word × TokenView). is_among tla_words p.0) ps) h
 
     by : (b : Bool) → bytes_eq p.0 w ≡ b → kind_among ps w k ≡ k → (if b then p.1 else kind_among ps w k) ≡ k
     by true e i = (let same : p.0 ≡ w = same_bytes p.0 w e in absurd (both_ways (is_among tla_words w) n (ap (λ v. is_among tla_words v) (sym same) ∙ a.0)))
     by false e i = i
 
-or_false_left : (x y : Bool) → (x || y) ≡ false → x ≡ false
-or_false_left true y h = absurd cc
-or_false_left false y h = refl
-
-or_false_right : (x y : Bool) → (x || y) ≡ false → y ≡ false
-or_false_right true y h = absurd cc
-or_false_right false y h = h
-
 no_tla : (x : Word) → is_tla_word x ≡ false → is_pluscal_word x ≡ false → word_kind x ≡ tk.word x
-no_tla x t p = rw (p, t) (no_kind word_kinds x (tk.word x) refl (or_false_left (is_among tla_words x) _ t))
+no_tla x t p = rw (p, t) (no_kind word_kinds x (tk.word x) refl (or_parts (is_among tla_words x) _ t).0)
 
 pub word_spelled : (x : Word) → IsIdentifier x → IsSpelled (tk.word x)
 word_spelled x (n, r) =
     let f = not-true (is_reserved x) r in
-    (name x, (refl, n), no_tla x (or_false_right (is_pluscal_word x) (is_tla_word x) f) (or_false_left (is_pluscal_word x) (is_tla_word x) f))
+    (name x, (refl, n), no_tla x (or_parts (is_pluscal_word x) (is_tla_word x) f).1 (or_parts (is_pluscal_word x) (is_tla_word x) f).0)
 
 pub field_spelled : (x : Word) → IsField x → IsSpelled (field_kind (is_pluscal_word x) x)
 field_spelled x (n, r) = by (is_pluscal_word x) refl

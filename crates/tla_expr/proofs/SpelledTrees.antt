@@ -9,7 +9,7 @@ use Rattle.tla_expr.specs.Rank.{is_prefix}
 use Rattle.tla_expr.specs.Tree.{Word, Name, words, Each, PathStep, Slot, Strict, Form, Tree, Trees, node, no_trees, tree}
 use Rattle.tla_expr.specs.Tree as tree
 use Rattle.tla_expr.specs.Shapes.{Shaped, operands}
-use Rattle.tla_expr.specs.Lexical.{Mark, Key, ExprToken, sign_of}
+use Rattle.tla_expr.specs.Lexical.{Mark, Key, TokenView, sign_of}
 use Rattle.tla_expr.specs.Lexical as tk
 use Rattle.tla_expr.specs.Written.{Piece, blank, token, Part, mark, spaced, infix_sign, prefix_sign, infix_pieces, listed, field_pieces, name_pieces, bind_pieces, definition_pieces, body, colon, binding_pieces, path_pieces, right_side, slot_pieces, except_pieces, strict_pieces, arm_pieces, choice_pieces, local_pieces, form_pieces, is_bracketed, bracketed, form_part, part, parts, pieces}
 use Rattle.tla_expr.specs.laws.Writable.{IsIdentifier, IsField, IsString, fields_in_path, names_in, fields_in, strings_in, count, IsWritable, AreWritable, IsSpelled, AreSpelled}

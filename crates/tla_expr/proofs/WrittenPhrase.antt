@@ -8,7 +8,7 @@ use Rattle.tla_expr.specs.Rank.{is_prefix}
 use Rattle.tla_expr.specs.Tree.{Word, Name, PathStep, Slot, Strict, Form, Tree, Trees, node, no_trees, tree}
 use Rattle.tla_expr.specs.Tree as tree
 use Rattle.tla_expr.specs.Shapes.{Shaped, StrictShaped, BinderShaped, CaseShaped, IsPaired, HaveNames, HavePaths, operands, subscripts, settings}
-use Rattle.tla_expr.specs.Lexical.{Mark, ExprToken, Token, sign_of}
+use Rattle.tla_expr.specs.Lexical.{Mark, TokenView, Token, sign_of}
 use Rattle.tla_expr.specs.Lexical as tk
 use Rattle.tla_expr.specs.Spelling.{Phrase, Phrases, Binds, Fields, Settings, Path, Arms, Locals, spell, spell_all, spell_binds, spell_fields, spell_settings, spell_path, spell_arms, spell_locals}
 use Rattle.tla_expr.specs.Spelling as spelled
@@ -32,8 +32,8 @@ Agrees [] [] = Unit {0}
 Agrees (a ∷ xs) (x ∷ ys) = Agree a x × Agrees xs ys
 Agrees xs ys = ⊥
 
-cons : (k : ExprToken) {ks ls : List ExprToken} → ks ≡ ls → ◌≡◌ {A = List ExprToken} (k ∷ ks) (k ∷ ls)
-cons k h = ap (λ (l : List ExprToken). k ∷ l) h
+cons : (k : TokenView) {ks ls : List TokenView} → ks ≡ ls → ◌≡◌ {A = List TokenView} (k ∷ ks) (k ∷ ls)
+cons k h = ap (λ (l : List TokenView). k ∷ l) h
 
 -- ---- operators
 infix_tokens : (o : Op) (ps : List Piece) → tokens_of (w.infix_sign o ps) ≡ tk.sign o ∷ tokens_of ps
@@ -48,7 +48,7 @@ prefix_tokens o ps = refl
 infix_same : (o : Op) (xs : List b.Part) (ys : List w.Part) → length xs ≡ operands (is_prefix o) → Agrees xs ys → (ts : List Token) (ps : List Piece) → Same ts ps → Same (spell (b.infix_phrase o xs) ts) (w.infix_pieces o ys ps)
 infix_same o (a ∷ []) (x ∷ []) n g ts ps s = cons (sign_of o) (g.0 true ts ps s) ∙ sym (prefix_tokens o (x true ps))
 infix_same o (a ∷ c ∷ []) (x ∷ y ∷ []) n g ts ps s =
-    g.0 true (spelled.sign b.nowhere o (spell (c true) ts)) (w.infix_sign o (y true ps)) (ap (λ (k : ExprToken). k ∷ kinds (spell (c true) ts)) (sign_infix o (two (is_prefix o) n)) ∙ cons (tk.sign o) (g.1.0 true ts ps s) ∙ sym (infix_tokens o (y true ps)))
+    g.0 true (spelled.sign b.nowhere o (spell (c true) ts)) (w.infix_sign o (y true ps)) (ap (λ (k : TokenView). k ∷ kinds (spell (c true) ts)) (sign_infix o (two (is_prefix o) n)) ∙ cons (tk.sign o) (g.1.0 true ts ps s) ∙ sym (infix_tokens o (y true ps)))
   where
     two : (p : Bool) → ◌≡◌ {A = ℕ} 2 (operands p) → p ≡ false
     two true h = absurd (omega (arith, h))
@@ -163,7 +163,7 @@ bound_same binder.Filter ((x ∷ []) ∷ []) (a ∷ c ∷ xs) [] h g ts ps s = a
 bound_same binder.Filter ((x ∷ []) ∷ []) (a ∷ c ∷ xs) (z ∷ []) h g ts ps s = absurd g.1
 
 -- ---- EXCEPT
--- a path, and the parts behind its subscripts
+-- a path, and the parts after its subscripts
 record PathSame (ss : List PathStep) (xs : List b.Part) (zs : List w.Part) (n : ℕ) : Type 0 where
   path : Path
   left : List b.Part

@@ -1,7 +1,6 @@
--- What the grammar of expressions sees of a token, and how it is written ("Specifying Systems", sections 15.1 and 16.1).
+-- What the grammars of expressions, of algorithms and of modules see of a token, and how it is written ("Specifying Systems", sections 15.1 and 16.1).
 use Rattle.std.specs.Prelude.{ℕ, Bool, true, false, List, [], ◌∷◌, ◌++◌, ◌&&◌, codes, nat_eq, if◌then◌else◌}
 use Rattle.std.specs.Fmt.{decimal}
-use Rattle.std.specs.List.{list_any}
 use Rattle.tla_token.specs.declared.place.Place.{Place}
 use Rattle.tla_expr.specs.declared.op.Op.{Op}
 use Rattle.tla_expr.specs.declared.op.Op.TheVariants as op
@@ -47,31 +46,31 @@ pub data Constant : Type 0 where
   booleans : Constant  -- BOOLEAN
   strings : Constant  -- STRING
 
-pub data ExprToken : Type 0 where
-  sign : Op → ExprToken  -- a sign or word of an operator: synonyms are one; `-` is Minus, also as a prefix
-  word : Word → ExprToken  -- an identifier that is not reserved
-  reserved : Word → ExprToken  -- a reserved word of PlusCal
-  number : ℕ → ExprToken
-  string : Word → ExprToken  -- a string, without its quotes and escapes
-  constant : Constant → ExprToken
-  mark : Mark → ExprToken
-  key : Key → ExprToken
-  other : ExprToken  -- what stands in no expression
+pub data TokenView : Type 0 where
+  sign : Op → TokenView  -- a sign or word of an operator: synonyms are one; `-` is Minus, also as a prefix
+  word : Word → TokenView  -- an identifier that is not reserved
+  reserved : Word → TokenView  -- a reserved word of PlusCal
+  number : ℕ → TokenView
+  string : Word → TokenView  -- a string, without its quotes and escapes
+  constant : Constant → TokenView
+  mark : Mark → TokenView
+  key : Key → TokenView
+  other : Word → TokenView  -- a reserved word of TLA+ or a sign that stands in no expression
 
 -- the token of a word that is the name of a field
-abbrev pub field_kind : Bool → Word → ExprToken
+abbrev pub field_kind : Bool → Word → TokenView
 field_kind true x = reserved x
 field_kind false x = word x
 
 pub record Token : Type 0 where
-  pub kind : ExprToken
+  pub kind : TokenView
   pub place : Place
 
-abbrev pub token : Place → ExprToken → Token
+abbrev pub token : Place → TokenView → Token
 token p k = record { kind = k; place = p }
 
 -- the sign of an operator: negation has that of subtraction
-abbrev pub sign_of : Op → ExprToken
+abbrev pub sign_of : Op → TokenView
 sign_of op.Negate = sign op.Minus
 sign_of o = sign o
 
@@ -156,7 +155,7 @@ abbrev pub escapes : Word → List ℕ
 escapes [] = []
 escapes (b ∷ bs) = escaped b ++ escapes bs
 
-abbrev pub token_text : ExprToken → List ℕ
+abbrev pub token_text : TokenView → List ℕ
 token_text (sign o) = op_text o
 token_text (word x) = x
 token_text (reserved x) = x
@@ -165,4 +164,4 @@ token_text (string x) = codes "\"" ++ (escapes x ++ codes "\"")
 token_text (constant c) = constant_text c
 token_text (mark m) = mark_text m
 token_text (key k) = key_text k
-token_text other = []
+token_text (other w) = w

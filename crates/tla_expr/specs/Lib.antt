@@ -5,7 +5,7 @@ pub mod TreeOf
 pub mod Code
 pub mod Rank
 pub mod Lexical
-pub mod ExprTokens
+pub mod TokenViews
 pub mod Spelling
 pub mod Written
 pub mod Nesting

@@ -36,7 +36,7 @@ rank op.Times = (13, 13)
 rank op.Concat = (13, 13)
 rank op.Divide = (13, 13)
 
--- stands before its one operand; all others stand between two
+-- is before its one operand; all others are between two
 abbrev pub is_prefix : Op → Bool
 is_prefix op.Not = true
 is_prefix op.Subset = true

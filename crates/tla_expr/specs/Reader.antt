@@ -5,13 +5,13 @@ use Rattle.tla_expr.specs.declared.op.Op.{Op}
 use Rattle.tla_expr.specs.declared.op.Op.TheVariants as op
 use Rattle.tla_expr.specs.Tree.{Word}
 use Rattle.tla_expr.specs.Rank.{rank, is_prefix, is_bullet, same_op}
-use Rattle.tla_expr.specs.Lexical.{Mark, Key, ExprToken, Token, token}
+use Rattle.tla_expr.specs.Lexical.{Mark, Key, TokenView, Token, token}
 use Rattle.tla_expr.specs.Lexical as tk
 use Rattle.tla_expr.specs.Spelling.{Field, Phrase, number, string, constant, name, primed, call, brackets, no_set, set_of, filter, image, no_tuple, tuple, fields, records, function, functions, except, apply, select, list, quantified, if_then_else, cases, local, infix_of, prefix_of}
 use Rattle.tla_expr.specs.Spelling.{Phrases, last, more, Binds, last_bind, bind, share, Fields, last_field, field, Settings, last_setting, setting, Path, path_end, index, at_field, Bullets, last_bullet, bullet, Arms, last_arm, other_arm, arm, Locals, last_local, more_locals}
 use Rattle.tla_expr.specs.Spelling.{can_be_left, can_be_right, can_be_under, can_be_head, is_some_path, takes_box}
 
--- Ok: what was read, and the tokens behind it. Err: the tokens from the refused one on.
+-- Ok: what was read, and the tokens after it. Err: the tokens from the refused one on.
 abbrev pub Out : Type 0 → Type 0
 Out A = Result (A × List Token) (List Token)
 
@@ -33,11 +33,11 @@ gives a ts = Ok (a, ts)
 abbrev pub refuses : {A : Type 0} → Reader A
 refuses ts = Err ts
 
--- what is seen at the end, and where the next token does not stand to the right of the edge
+-- what is seen at the end, and where the next token is not to the right of the edge
 abbrev pub end : Token
-end = token (record { line = 0; col = 0 }) tk.other
+end = token (record { line = 0; col = 0 }) (tk.other [])
 
--- the next token, where it stands to the right of the edge
+-- the next token, where it is to the right of the edge
 abbrev pub next : ℕ → List Token → Token
 next e [] = end
 next e (t ∷ ts) = if nat_lt e t.place.col then t else end
@@ -47,7 +47,7 @@ tail [] = []
 tail (t ∷ ts) = ts
 
 -- by the place and kind of the next token, which stays
-abbrev pub peek : {A : Type 0} → ℕ → (Place → ExprToken → Reader A) → Reader A
+abbrev pub peek : {A : Type 0} → ℕ → (Place → TokenView → Reader A) → Reader A
 peek e f ts = f (next e ts).place (next e ts).kind ts
 
 -- past the next token
@@ -59,7 +59,7 @@ took (Some a) ts = Ok (a, tail ts)
 took None ts = Err ts
 
 -- past a token of which f tells something
-abbrev pub take : {A : Type 0} → ℕ → (Place → ExprToken → Option A) → Reader A
+abbrev pub take : {A : Type 0} → ℕ → (Place → TokenView → Option A) → Reader A
 take e f = peek e (λ p k. took (f p k))
 
 -- ---- kinds of tokens
@@ -97,19 +97,19 @@ key_number tk.except_key = 7
 key_number tk.for_all_key = 8
 key_number tk.exists_key = 9
 
-abbrev pub is_mark : Mark → ExprToken → Bool
+abbrev pub is_mark : Mark → TokenView → Bool
 is_mark m (tk.mark n) = nat_eq (mark_number m) (mark_number n)
 is_mark m k = false
 
-abbrev pub is_key : Key → ExprToken → Bool
+abbrev pub is_key : Key → TokenView → Bool
 is_key m (tk.key n) = nat_eq (key_number m) (key_number n)
 is_key m k = false
 
-abbrev pub is_sign : Op → ExprToken → Bool
+abbrev pub is_sign : Op → TokenView → Bool
 is_sign o (tk.sign q) = same_op o q
 is_sign o k = false
 
-abbrev pub place_if : (ExprToken → Bool) → Place → ExprToken → Option Place
+abbrev pub place_if : (TokenView → Bool) → Place → TokenView → Option Place
 place_if f p k = if f k then Some p else None
 
 -- past this mark, key or sign: its place
@@ -122,11 +122,11 @@ a_key e k = take e (place_if (is_key k))
 abbrev pub a_sign : ℕ → Op → Reader Place
 a_sign e o = take e (place_if (is_sign o))
 
-abbrev pub word_of : Place → ExprToken → Option (Place × Word)
+abbrev pub word_of : Place → TokenView → Option (Place × Word)
 word_of p (tk.word x) = Some (p, x)
 word_of p k = None
 
-abbrev pub field_of : Place → ExprToken → Option Field
+abbrev pub field_of : Place → TokenView → Option Field
 field_of p (tk.word x) = Some (record { place = p; is_reserved = false; text = x })
 field_of p (tk.reserved x) = Some (record { place = p; is_reserved = true; text = x })
 field_of p k = None
@@ -137,7 +137,7 @@ a_word e = take e word_of
 abbrev pub a_field : ℕ → Reader Field
 a_field e = take e field_of
 
--- ---- where an expression stands: free, to the right of an operator, or under a prefix operator
+-- ---- where an expression is: free, to the right of an operator, or under a prefix operator
 pub data Context : Type 0 where
   free : Context
   right_of : Op → Context
@@ -173,7 +173,7 @@ prefix_by o = None
 abbrev pub goes_on : ℕ → Phrase → Place → Op → Bool
 goes_on b a p o = not (is_prefix o) && (nat_lt b (rank o).0 && can_be_left a p o)
 
--- `x \in` put before the largest left part of a set that may stand there
+-- `x \in` put before the largest left part of a set that may be there
 abbrev pub on_left : Option Phrase → Place → Op → Phrase → Option Phrase
 on_left (Some a) p o b = if can_be_left a p o then Some (infix_of a p o b) else None
 on_left None p o b = None
@@ -182,15 +182,15 @@ abbrev pub element : Place → Word → Place → Phrase → Option Phrase
 element p x q (infix_of a r o b) = if can_be_right op.In (infix_of a r o b) then Some (infix_of (name p x) q op.In (infix_of a r o b)) else on_left (element p x q a) r o b
 element p x q s = if can_be_right op.In s then Some (infix_of (name p x) q op.In s) else None
 
--- ---- the readers that call one another; each has the edge that all its tokens stand to the right of
+-- ---- the readers that call one another; each has the edge that all its tokens are to the right of
 pub record Readers : Type 0 where
   pub expr : ℕ → Context → Reader Phrase
   pub short : ℕ → Reader Phrase  -- a primary, or a prefix operator with a short form
   pub postfix : ℕ → Phrase → Reader Phrase  -- so far, and then `[a]` and `.b`
   pub climb : ℕ → ℕ → Phrase → Reader Phrase  -- so far, and then operators above this rank
   pub phrases : ℕ → Reader Phrases
-  pub binds : ℕ → Place → Word → Reader Binds  -- behind a first name
-  pub fields : ℕ → Mark → Field → Reader Fields  -- behind a first name
+  pub binds : ℕ → Place → Word → Reader Binds  -- after a first name
+  pub fields : ℕ → Mark → Field → Reader Fields  -- after a first name
   pub settings : ℕ → Reader Settings
   pub path : ℕ → Reader Path
   pub bullets : ℕ → Op → ℕ → Reader Bullets  -- in this column
@@ -202,7 +202,7 @@ abbrev pub ended : {A : Type 0} → ℕ → Mark → (Place → A) → Reader A
 ended e m f = a_mark e m >>= λ p. gives (f p)
 
 -- ---- names
-abbrev pub named : Readers → ℕ → Place → Word → Place → ExprToken → Reader Phrase
+abbrev pub named : Readers → ℕ → Place → Word → Place → TokenView → Reader Phrase
 named r e p x q (tk.mark tk.open_bracket) = skip (r.phrases e >>= λ xs. ended e tk.close_bracket (λ s. call p x q xs s))
 named r e p x q (tk.mark tk.prime) = skip (gives (primed p x q))
 named r e p x q k = gives (name p x)
@@ -211,14 +211,14 @@ abbrev pub from_name : Readers → ℕ → Place → Word → Reader Phrase
 from_name r e p x = peek e (named r e p x) >>= λ a. r.postfix e a
 
 -- ---- braces
-abbrev pub set_rest : Readers → ℕ → Place → Phrase → Place → ExprToken → Reader Phrase
+abbrev pub set_rest : Readers → ℕ → Place → Phrase → Place → TokenView → Reader Phrase
 set_rest r e p a q (tk.mark tk.comma) = skip (r.phrases e >>= λ xs. ended e tk.close_brace (λ s. set_of p (more a q xs) s))
 set_rest r e p a q k = ended e tk.close_brace (λ s. set_of p (last a) s)
 
 abbrev pub image_rest : Readers → ℕ → Place → Phrase → Place → Reader Phrase
 image_rest r e p a q = a_word e >>= λ x. r.binds e x.0 x.1 >>= λ bs. ended e tk.close_brace (λ s. image p a q bs s)
 
-abbrev pub brace_rest : Readers → ℕ → Place → Phrase → Place → ExprToken → Reader Phrase
+abbrev pub brace_rest : Readers → ℕ → Place → Phrase → Place → TokenView → Reader Phrase
 brace_rest r e p a q (tk.mark tk.colon) = skip (image_rest r e p a q)
 brace_rest r e p a q k = set_rest r e p a q k
 
@@ -226,27 +226,27 @@ abbrev pub set_from : Readers → ℕ → Place → Option Phrase → Reader Phr
 set_from r e p (Some a) = peek e (set_rest r e p a)
 set_from r e p None = refuses
 
--- behind `{x \in S`
-abbrev pub member_rest : Readers → ℕ → Place → Place → Word → Place → Phrase → Place → ExprToken → Reader Phrase
+-- after `{x \in S`
+abbrev pub member_rest : Readers → ℕ → Place → Place → Word → Place → Phrase → Place → TokenView → Reader Phrase
 member_rest r e p q x s a t (tk.mark tk.colon) = skip (r.expr e free >>= λ b. ended e tk.close_brace (λ u. filter p q x s a t b u))
 member_rest r e p q x s a t k = set_from r e p (element q x s a)
 
-abbrev pub brace_name : Readers → ℕ → Place → Place → Word → Place → ExprToken → Reader Phrase
+abbrev pub brace_name : Readers → ℕ → Place → Place → Word → Place → TokenView → Reader Phrase
 brace_name r e p q x s (tk.sign op.In) = skip (r.expr e free >>= λ a. peek e (member_rest r e p q x s a))
 brace_name r e p q x s k = from_name r e q x >>= λ a. r.climb e 0 a >>= λ b. peek e (brace_rest r e p b)
 
-abbrev pub braces : Readers → ℕ → Place → Place → ExprToken → Reader Phrase
+abbrev pub braces : Readers → ℕ → Place → Place → TokenView → Reader Phrase
 braces r e p q (tk.mark tk.close_brace) = skip (gives (no_set p q))
 braces r e p q (tk.word x) = skip (peek e (brace_name r e p q x))
 braces r e p q k = r.expr e free >>= λ a. peek e (brace_rest r e p a)
 
 -- ---- tuples
-abbrev pub tuples : Readers → ℕ → Place → Place → ExprToken → Reader Phrase
+abbrev pub tuples : Readers → ℕ → Place → Place → TokenView → Reader Phrase
 tuples r e p q (tk.mark tk.close_tuple) = skip (gives (no_tuple p q))
 tuples r e p q k = r.phrases e >>= λ xs. ended e tk.close_tuple (λ s. tuple p xs s)
 
 -- ---- square brackets
-abbrev pub field_rest : Readers → ℕ → Place → Field → Place → ExprToken → Reader Phrase
+abbrev pub field_rest : Readers → ℕ → Place → Field → Place → TokenView → Reader Phrase
 field_rest r e p f q (tk.mark tk.maps) = r.fields e tk.maps f >>= λ fs. ended e tk.close_square (λ s. fields p fs s)
 field_rest r e p f q (tk.mark tk.colon) = r.fields e tk.colon f >>= λ fs. ended e tk.close_square (λ s. records p fs s)
 field_rest r e p f q k = refuses
@@ -254,7 +254,7 @@ field_rest r e p f q k = refuses
 abbrev pub function_rest : Readers → ℕ → Place → Binds → Reader Phrase
 function_rest r e p bs = a_mark e tk.maps >>= λ q. r.expr e free >>= λ a. ended e tk.close_square (λ s. function p bs q a s)
 
-abbrev pub square_rest : Readers → ℕ → Place → Phrase → Place → ExprToken → Reader Phrase
+abbrev pub square_rest : Readers → ℕ → Place → Phrase → Place → TokenView → Reader Phrase
 square_rest r e p a q (tk.mark tk.arrow) = skip (r.expr e free >>= λ b. ended e tk.close_square (λ s. functions p a q b s))
 square_rest r e p a q (tk.key tk.except_key) = skip (r.settings e >>= λ ss. ended e tk.close_square (λ s. except p a q ss s))
 square_rest r e p a q k = refuses
@@ -263,13 +263,13 @@ abbrev pub square_from : Readers → ℕ → Place → Option Phrase → Reader 
 square_from r e p (Some a) = peek e (square_rest r e p a)
 square_from r e p None = refuses
 
--- behind `x \in S`
-abbrev pub bind_rest : Readers → ℕ → Place → Word → Place → Phrase → Place → ExprToken → Reader Binds
+-- after `x \in S`
+abbrev pub bind_rest : Readers → ℕ → Place → Word → Place → Phrase → Place → TokenView → Reader Binds
 bind_rest r e p x q a s (tk.mark tk.comma) = skip (a_word e >>= λ y. r.binds e y.0 y.1 >>= λ bs. gives (bind p x q a s bs))
 bind_rest r e p x q a s k = gives (last_bind p x q a)
 
--- behind `[x \in S`
-abbrev pub square_member : Readers → ℕ → Place → Place → Word → Place → Phrase → Place → ExprToken → Reader Phrase
+-- after `[x \in S`
+abbrev pub square_member : Readers → ℕ → Place → Place → Word → Place → Phrase → Place → TokenView → Reader Phrase
 square_member r e p q x s a t (tk.mark tk.maps) = function_rest r e p (last_bind q x s a)
 square_member r e p q x s a t (tk.mark tk.comma) = peek e (bind_rest r e q x s a) >>= λ bs. function_rest r e p bs
 square_member r e p q x s a t k = square_from r e p (element q x s a)
@@ -277,14 +277,14 @@ square_member r e p q x s a t k = square_from r e p (element q x s a)
 abbrev pub plain_field : Place → Word → Field
 plain_field p x = record { place = p; is_reserved = false; text = x }
 
-abbrev pub square_name : Readers → ℕ → Place → Place → Word → Place → ExprToken → Reader Phrase
+abbrev pub square_name : Readers → ℕ → Place → Place → Word → Place → TokenView → Reader Phrase
 square_name r e p q x s (tk.mark tk.maps) = field_rest r e p (plain_field q x) s (tk.mark tk.maps)
 square_name r e p q x s (tk.mark tk.colon) = field_rest r e p (plain_field q x) s (tk.mark tk.colon)
 square_name r e p q x s (tk.mark tk.comma) = r.binds e q x >>= λ bs. function_rest r e p bs
 square_name r e p q x s (tk.sign op.In) = skip (r.expr e free >>= λ a. peek e (square_member r e p q x s a))
 square_name r e p q x s k = from_name r e q x >>= λ a. r.climb e 0 a >>= λ b. peek e (square_rest r e p b)
 
-abbrev pub squares : Readers → ℕ → Place → Place → ExprToken → Reader Phrase
+abbrev pub squares : Readers → ℕ → Place → Place → TokenView → Reader Phrase
 squares r e p q (tk.reserved x) = skip (peek e (field_rest r e p (record { place = q; is_reserved = true; text = x })))
 squares r e p q (tk.word x) = skip (peek e (square_name r e p q x))
 squares r e p q k = r.expr e free >>= λ a. peek e (square_rest r e p a)
@@ -294,7 +294,7 @@ abbrev pub list_if : Bool → Readers → ℕ → Place → Op → Reader Phrase
 list_if true r e p o = r.bullets e o p.col >>= λ bs. r.postfix e (list o bs)
 list_if false r e p o = refuses
 
-abbrev pub primary : Readers → ℕ → Place → ExprToken → Reader Phrase
+abbrev pub primary : Readers → ℕ → Place → TokenView → Reader Phrase
 primary r e p (tk.number n) = skip (r.postfix e (number p n))
 primary r e p (tk.string x) = skip (r.postfix e (string p x))
 primary r e p (tk.constant c) = skip (r.postfix e (constant p c))
@@ -330,7 +330,7 @@ abbrev pub signed : Readers → ℕ → Context → Place → Op → Option Op �
 signed r e c p o (Some q) = skip (under_by (is_free c q) r e q >>= λ a. gives (prefix_of p q a))
 signed r e c p o None = primary r e p (tk.sign o)
 
-abbrev pub operand : Readers → ℕ → Context → Place → ExprToken → Reader Phrase
+abbrev pub operand : Readers → ℕ → Context → Place → TokenView → Reader Phrase
 operand r e c p (tk.key k) = keyed r e p k
 operand r e c p (tk.sign o) = signed r e c p o (prefix_by o)
 operand r e c p k = primary r e p k
@@ -339,7 +339,7 @@ abbrev pub short_signed : Readers → ℕ → Place → Op → Option Op → Rea
 short_signed r e p o (Some q) = skip (r.short e >>= λ a. gives (prefix_of p q a))
 short_signed r e p o None = primary r e p (tk.sign o)
 
-abbrev pub short_by : Readers → ℕ → Place → ExprToken → Reader Phrase
+abbrev pub short_by : Readers → ℕ → Place → TokenView → Reader Phrase
 short_by r e p (tk.sign o) = short_signed r e p o (prefix_by o)
 short_by r e p k = primary r e p k
 
@@ -352,7 +352,7 @@ abbrev pub select_if : Bool → Readers → ℕ → Phrase → Place → Reader 
 select_if true r e a p = skip (a_field e >>= λ f. r.postfix e (select a p f))
 select_if false r e a p = gives a
 
-abbrev pub postfix_by : Readers → ℕ → Phrase → Place → ExprToken → Reader Phrase
+abbrev pub postfix_by : Readers → ℕ → Phrase → Place → TokenView → Reader Phrase
 postfix_by r e a p (tk.mark tk.open_square) = apply_if (can_be_head a p) r e a p
 postfix_by r e a p (tk.mark tk.dot) = select_if (can_be_head a p) r e a p
 postfix_by r e a p k = gives a
@@ -361,25 +361,25 @@ abbrev pub climb_if : Bool → Readers → ℕ → ℕ → Phrase → Place → 
 climb_if true r e b a p o = skip (r.expr e (right_of o) >>= λ d. r.climb e b (infix_of a p o d))
 climb_if false r e b a p o = gives a
 
-abbrev pub climb_by : Readers → ℕ → ℕ → Phrase → Place → ExprToken → Reader Phrase
+abbrev pub climb_by : Readers → ℕ → ℕ → Phrase → Place → TokenView → Reader Phrase
 climb_by r e b a p (tk.sign o) = climb_if (goes_on b a p o) r e b a p o
 climb_by r e b a p k = gives a
 
 -- ---- lists
-abbrev pub phrases_by : Readers → ℕ → Phrase → Place → ExprToken → Reader Phrases
+abbrev pub phrases_by : Readers → ℕ → Phrase → Place → TokenView → Reader Phrases
 phrases_by r e a p (tk.mark tk.comma) = skip (r.phrases e >>= λ xs. gives (more a p xs))
 phrases_by r e a p k = gives (last a)
 
-abbrev pub binds_by : Readers → ℕ → Place → Word → Place → ExprToken → Reader Binds
+abbrev pub binds_by : Readers → ℕ → Place → Word → Place → TokenView → Reader Binds
 binds_by r e p x q (tk.sign op.In) = skip (r.expr e free >>= λ a. peek e (bind_rest r e p x q a))
 binds_by r e p x q (tk.mark tk.comma) = skip (a_word e >>= λ y. r.binds e y.0 y.1 >>= λ bs. gives (share p x q bs))
 binds_by r e p x q k = refuses
 
-abbrev pub fields_by : Readers → ℕ → Mark → Field → Place → Phrase → Place → ExprToken → Reader Fields
+abbrev pub fields_by : Readers → ℕ → Mark → Field → Place → Phrase → Place → TokenView → Reader Fields
 fields_by r e m f p a q (tk.mark tk.comma) = skip (a_field e >>= λ g. r.fields e m g >>= λ fs. gives (field f p a q fs))
 fields_by r e m f p a q k = gives (last_field f p a)
 
-abbrev pub settings_by : Readers → ℕ → Place → Path → Place → Phrase → Place → ExprToken → Reader Settings
+abbrev pub settings_by : Readers → ℕ → Place → Path → Place → Phrase → Place → TokenView → Reader Settings
 settings_by r e p path q a s (tk.mark tk.comma) = skip (r.settings e >>= λ ss. gives (setting p path q a s ss))
 settings_by r e p path q a s k = gives (last_setting p path q a)
 
@@ -387,20 +387,20 @@ abbrev pub setting_if : Bool → Readers → ℕ → Place → Path → Reader S
 setting_if true r e p path = a_sign e op.Equal >>= λ q. r.expr e free >>= λ a. peek e (settings_by r e p path q a)
 setting_if false r e p path = refuses
 
-abbrev pub path_by : Readers → ℕ → Place → ExprToken → Reader Path
+abbrev pub path_by : Readers → ℕ → Place → TokenView → Reader Path
 path_by r e p (tk.mark tk.open_square) = skip (r.phrases e >>= λ xs. a_mark e tk.close_square >>= λ q. r.path e >>= λ path. gives (index p xs q path))
 path_by r e p (tk.mark tk.dot) = skip (a_field e >>= λ f. r.path e >>= λ path. gives (at_field p f path))
 path_by r e p k = gives path_end
 
 -- a sign of this operator in this column
-abbrev pub bullet_of : Op → ℕ → Place → ExprToken → Option Place
+abbrev pub bullet_of : Op → ℕ → Place → TokenView → Option Place
 bullet_of o c p k = if is_sign o k && nat_eq c p.col then Some p else None
 
 abbrev pub bullets_if : Bool → Readers → ℕ → Op → ℕ → Place → Phrase → Reader Bullets
 bullets_if true r e o c p a = r.bullets e o c >>= λ bs. gives (bullet p a bs)
 bullets_if false r e o c p a = gives (last_bullet p a)
 
-abbrev pub arms_other : Readers → ℕ → Phrase → Place → Phrase → Place → Place → ExprToken → Reader Arms
+abbrev pub arms_other : Readers → ℕ → Phrase → Place → Phrase → Place → Place → TokenView → Reader Arms
 arms_other r e a p b q s (tk.key tk.other_key) = skip (a_mark e tk.arrow >>= λ t. r.expr e free >>= λ c. gives (other_arm a p b q s t c))
 arms_other r e a p b q s k = r.arms e >>= λ xs. gives (arm a p b q xs)
 
@@ -409,11 +409,11 @@ abbrev pub arms_if : Bool → Readers → ℕ → Phrase → Place → Phrase �
 arms_if true r e a p b q = gives (last_arm a p b)
 arms_if false r e a p b q = skip (peek e (arms_other r e a p b q))
 
-abbrev pub arms_by : Readers → ℕ → Phrase → Place → Phrase → Place → ExprToken → Reader Arms
+abbrev pub arms_by : Readers → ℕ → Phrase → Place → Phrase → Place → TokenView → Reader Arms
 arms_by r e a p b q (tk.mark tk.box) = arms_if (takes_box q.col b) r e a p b q
 arms_by r e a p b q k = gives (last_arm a p b)
 
-abbrev pub locals_by : Readers → ℕ → Place → Word → Place → Phrase → Place → ExprToken → Reader Locals
+abbrev pub locals_by : Readers → ℕ → Place → Word → Place → Phrase → Place → TokenView → Reader Locals
 locals_by r e p x q a s (tk.word y) = r.locals e >>= λ ls. gives (more_locals p x q a ls)
 locals_by r e p x q a s k = gives (last_local p x q a)
 

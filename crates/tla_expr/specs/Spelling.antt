@@ -396,7 +396,7 @@ end_list (infix_of a p o b) = end_list b
 end_list (prefix_of p o a) = end_list a
 end_list a = None
 
--- behind a list an operator stands at its column or left of it, and is no further bullet
+-- after a list an operator is at its column or left of it, and is no further bullet
 abbrev pub is_behind : Option (Op × ℕ) → Op → Place → Bool
 is_behind None o p = true
 is_behind (Some l) o p = not (nat_lt l.1 p.col) && not (same_op l.0 o && nat_eq l.1 p.col)
@@ -410,16 +410,16 @@ can_be_right o b = is_above o (head b) || (is_open (head b) || is_short b)
 abbrev pub can_be_under : Op → Phrase → Bool
 can_be_under o a = is_above o (head a) || (is_applied o (head a) || (is_open (head a) || is_short a))
 
--- a primary; behind a list, `[` and `.` stand at its column or left of it
+-- a primary; after a list, `[` and `.` are at its column or left of it
 abbrev pub can_be_head : Phrase → Place → Bool
 can_be_head (list o bs) p = not (nat_lt (first_bullet bs).col p.col)
 can_be_head a p = is_primary (head a)
 
-abbrev pub is_word : tk.ExprToken → Bool
+abbrev pub is_word : tk.TokenView → Bool
 is_word (tk.word x) = true
 is_word k = false
 
-abbrev pub is_in : tk.ExprToken → Bool
+abbrev pub is_in : tk.TokenView → Bool
 is_in (tk.sign op.In) = true
 is_in k = false
 
@@ -428,7 +428,7 @@ abbrev pub is_bind : List Token → Bool
 is_bind (t ∷ u ∷ ts) = is_word t.kind && is_in u.kind
 is_bind ts = false
 
--- a `[]` in this column, behind the phrase, belongs to a CASE in it
+-- a `[]` in this column, after the phrase, belongs to a CASE in it
 abbrev mutual
   pub takes_box : ℕ → Phrase → Bool
   takes_box c (cases p xs) = true
@@ -445,7 +445,7 @@ abbrev mutual
   last_takes_box c (bullet p a bs) = last_takes_box c bs
 
 -- ---- what may be spelled
--- the token stands to the right of the edge
+-- the token is to the right of the edge
 abbrev pub Right : ℕ → Place → Type 0
 Right e p = IsTrue (nat_lt e p.col)
 
@@ -453,7 +453,7 @@ abbrev pub is_some_path : Path → Bool
 is_some_path path_end = false
 is_some_path path = true
 
--- operands are as the ranks allow, lists as the columns do, and each token stands to the right of the edge e
+-- operands are as the ranks allow, lists as the columns do, and each token is to the right of the edge e
 abbrev mutual
   pub Good : ℕ → Phrase → Type 0
   Good e (number p n) = Right e p
@@ -507,7 +507,7 @@ abbrev mutual
   GoodPath e (index p xs q path) = Right e p × GoodAll e xs × Right e q × GoodPath e path
   GoodPath e (at_field p f path) = Right e p × Right e f.place × GoodPath e path
 
-  -- the bullets stand in one column, and each item to the right of it
+  -- the bullets are in one column, and each item to the right of it
   pub GoodBullets : ℕ → Bullets → Type 0
   GoodBullets c (last_bullet p a) = (p.col ≡ c) × Good c a
   GoodBullets c (bullet p a bs) = (p.col ≡ c) × Good c a × GoodBullets c bs

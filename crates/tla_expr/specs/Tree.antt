@@ -17,7 +17,7 @@ pub record Name : Type 0 where
 abbrev pub words : List Name → List Word
 words xs = map (λ (x : Name). x.word) xs
 
--- a step of a path behind `!` in an EXCEPT, or behind the variable of a left side
+-- a step of a path after `!` in an EXCEPT, or after the variable of a left side
 pub data PathStep : Type 0 where
   index : PathStep  -- [e], the expression being a part of the tree
   field : Word → PathStep  -- .a
@@ -96,7 +96,7 @@ abbrev pub beginnings : List Word → List (List Word)
 beginnings [] = [] ∷ []
 beginnings (x ∷ xs) = [] ∷ map (λ ys. x ∷ ys) (beginnings xs)
 
--- those of them that each part sees, part by part: the body of a binder sees all, and what stands in a LET those before it
+-- those of them that each part sees, part by part: the body of a binder sees all, and what is in a LET those before it
 abbrev pub seen_names : Form → List (List Word)
 seen_names (binding b groups) = map (λ (xs : List Name). []) groups ++ flat_map words groups ∷ []
 seen_names (local xs) = beginnings (words xs)

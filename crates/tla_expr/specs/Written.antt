@@ -6,13 +6,13 @@ use Rattle.tla_expr.specs.declared.op.Binder.{Binder}
 use Rattle.tla_expr.specs.declared.op.Binder.TheVariants as binder
 use Rattle.tla_expr.specs.Tree.{Word, Name, PathStep, Slot, Strict, Form, Tree, Trees, node, no_trees, tree}
 use Rattle.tla_expr.specs.Tree as tree
-use Rattle.tla_expr.specs.Lexical.{ExprToken, Mark, Key, sign_of, field_kind, token_text}
+use Rattle.tla_expr.specs.Lexical.{TokenView, Mark, Key, sign_of, field_kind, token_text}
 use Rattle.tla_expr.specs.Lexical as tk
 use Rattle.tla_token.specs.Words.{is_pluscal_word}
 
 pub data Piece : Type 0 where
   blank : Piece
-  token : ExprToken → Piece
+  token : TokenView → Piece
 
 abbrev pub text_of : List Piece → List ℕ
 text_of [] = []
@@ -29,7 +29,7 @@ word x ps = token (tk.word x) ∷ ps
 abbrev pub field : Word → List Piece → List Piece
 field x ps = token (field_kind (is_pluscal_word x) x) ∷ ps
 
-abbrev pub spaced : ExprToken → List Piece → List Piece
+abbrev pub spaced : TokenView → List Piece → List Piece
 spaced k ps = blank ∷ token k ∷ blank ∷ ps
 
 abbrev pub comma : List Piece → List Piece
@@ -107,7 +107,7 @@ binding_pieces binder.Filter gs xs ps = mark tk.open_brace (bind_pieces gs xs (c
 binding_pieces binder.Image gs xs ps = mark tk.open_brace (as_operand (body gs xs) (colon (bind_pieces gs xs (mark tk.close_brace ps))))
 binding_pieces binder.Function gs xs ps = mark tk.open_square (bind_pieces gs xs (spaced (tk.mark tk.maps) (plain (body gs xs) (mark tk.close_square ps))))
 
--- the steps of a path, and then what the parts behind its subscripts give
+-- the steps of a path, and then what the parts after its subscripts give
 abbrev pub path_pieces : List PathStep → List Part → (List Part → List Piece) → List Piece
 path_pieces [] xs rest = rest xs
 path_pieces (tree.index ∷ ss) (a ∷ xs) rest = mark tk.open_square (plain a (mark tk.close_square (path_pieces ss xs rest)))
@@ -140,7 +140,7 @@ strict_pieces (tree.select x) (a ∷ xs) ps = as_operand a (mark tk.dot (field x
 strict_pieces (tree.except ss) xs ps = except_pieces ss xs ps
 strict_pieces m xs ps = ps
 
--- a -> b [] c -> d, behind what stands before the first
+-- a -> b [] c -> d, after what is before the first
 abbrev pub arm_pieces : Bool → List Part → List Piece → List Piece
 arm_pieces true (a ∷ []) ps = token (tk.key tk.other_key) ∷ spaced (tk.mark tk.arrow) (as_operand a ps)
 arm_pieces b (c ∷ a ∷ []) ps = as_operand c (spaced (tk.mark tk.arrow) (as_operand a ps))
@@ -174,7 +174,7 @@ form_pieces (tree.cases b) xs ps = token (tk.key tk.case_key) ∷ blank ∷ arm_
 form_pieces (tree.binding b gs) xs ps = binding_pieces b gs xs ps
 form_pieces (tree.local ys) xs ps = local_pieces ys xs ps
 
--- stands in brackets as an operand: an infix or prefix form, a quantifier, IF, CASE, LET
+-- is in brackets as an operand: an infix or prefix form, a quantifier, IF, CASE, LET
 abbrev pub is_bracketed : Form → Bool
 is_bracketed (tree.strict (tree.operator o)) = true
 is_bracketed tree.conjunction = true

@@ -8,7 +8,7 @@ use crate::op::{Binder, Op};
 use std::alloc::{AllocError, Global};
 use tla_token::Place;
 
-/// A step of a path behind `!` in an `EXCEPT`.
+/// A step of a path after `!` in an `EXCEPT`.
 #[derive(Drop)]
 pub enum Step {
     /// `[e]`, the expression being a part of the `EXCEPT`.

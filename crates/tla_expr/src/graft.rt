@@ -9,7 +9,7 @@ use crate::name::Name;
 use std::alloc::{AllocError, Global};
 use tla_token::Place;
 
-/// What is put in for a name that stands at a place.
+/// What is put in for a name that is at a place.
 pub trait Grafting {
     /// The tree for a name at a place, or none where the name is left alone.
     ghost graft: { Self → Graft };

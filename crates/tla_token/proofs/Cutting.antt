@@ -1,8 +1,8 @@
 -- What the cutting function gives are parts of the text, and they fit.
-use Rattle.std.proofs.Common.{◌≡◌, ℕ, zero, suc, ◌+◌, ◌<◌, ◌≤◌, Bool, true, false, not, ◌&&◌, ◌||◌, nat_eq, List, [], ◌∷◌, ◌++◌, length, take, drop, Option, Some, None, refl, sym, ap, subst, ◌∙◌, arith, codes, find, append_assoc, append-nil, length-append}
+use Rattle.std.proofs.Common.{◌≡◌, ℕ, zero, suc, ◌+◌, ◌<◌, ◌≤◌, Bool, true, false, not, ◌&&◌, nat_eq, List, [], ◌∷◌, ◌++◌, length, take, drop, Option, Some, None, refl, sym, ap, subst, ◌∙◌, arith, codes, find, append_assoc, append-nil, length-append}
 use Rattle.std.specs.List.{list_all, list_any, starts_with}
 use Rattle.std.proofs.lemmas.List.{take-append-drop, length-take-le}
-use Rattle.std.proofs.lemmas.Bool.{and_parts, and_from, or_left, or_right, eqb-true, false_from_ne_true, both_ways}
+use Rattle.std.proofs.lemmas.Bool.{and_parts, and_from, eqb-true, false_from_ne_true, both_ways}
 use Rattle.tla_token.specs.declared.sign.Sign.{Sign}
 use Rattle.tla_token.specs.Signs.{spellings, is_among, all_signs, spelled_by, is_sign}
 use Rattle.tla_token.specs.Lexemes.{Kind, name, number, string, one, other, number_of, unquoted, is_word, is_letter, is_digit, is_blank, is_printed, is_other, IsLexeme}
@@ -10,13 +10,13 @@ use Rattle.tla_token.specs.Tokens.{blank, block, line, lexeme, EndsLine, opens_c
 use Rattle.tla_token.specs.Offences.{Part, sound, stray, bad_string, cut_string, open_string, open_block, part_bytes, parts_text, PartFits, PartsFit, ends_string, string_len, escape_len, begins_with}
 use Rattle.tla_token.specs.Cut.{run, comment_len, block_part, closed_part, string_part, part_at, lexeme_part, sign_part, sign_at, sign_of, spelling_at, or_other, parts}
 use Rattle.tla_token.proofs.Front.{blank_front, closes_len, string_closes}
-use Rattle.tla_token.proofs.Words.{run_splits, run_passes}
+use Rattle.tla_token.proofs.Words.{run_splits, run_passes, digit_word, one_plus}
 use Rattle.tla_token.proofs.Spelled.{begins_is, is_worded, is_mark, Row, row_of, spelled_some, no_empty}
 use Rattle.tla_token.proofs.Signed.{to_lexeme, to_marks, not_true, picked_mark}
 use Rattle.tla_token.proofs.Longest.{run_letter, Sort, a_name, a_number, a_quote, a_single, a_worded, some_marks, sort_of, same_first, find_passes, spelling_found, some_spelling, sign_stands, marks_longest, none_marks}
 use Rattle.tla_token.proofs.Parted.{first_part, len_closes, parts_step, some_part}
 
--- a part that fits stands at the front, and is what is found there
+-- a part that fits is at the front, and is what is found there
 pub record Cut (t : List ℕ) : Type 0 where
   pub part : Part
   pub rest : List ℕ
@@ -133,9 +133,6 @@ block_cut bs = by (comment_len 1 bs) refl
           fits = (len_closes 1 bs n e).1;
         }
 
-one_plus : (n : ℕ) → 1 + n ≡ suc n
-one_plus n = omega arith
-
 line_splits : (bs : List ℕ) → (rest : List ℕ) × (bs ≡ run (λ c. not (nat_eq c 10)) bs ++ rest) × EndsLine rest
 line_splits [] = ([], refl, tt)
 line_splits (b ∷ bs) = by (nat_eq b 10) refl (line_splits bs)
@@ -207,9 +204,6 @@ name_cut b bs filled no_mark none any =
     most m (a_worded e x l) = absurd (word_back b e (letter_first b bs any))
     most m (some_marks s marks at spelled r f) = absurd (both_ways (is_word b) (marks_first s m r b bs marks at f) (letter_first b bs any))
 
-digit_is_word : (b : ℕ) → is_digit b ≡ true → is_word b ≡ true
-digit_is_word b h = or_left (is_letter b || is_digit b) (nat_eq b 95) (or_right (is_letter b) (is_digit b) h)
-
 one_digit : (b : ℕ) (bs : List ℕ) → is_digit b ≡ true → 0 < length (run is_digit (b ∷ bs))
 one_digit b bs d = rw (d, one_plus) (omega arith)
 
@@ -227,8 +221,8 @@ number_cut b bs filled no_mark none wordless d =
     most m (a_number l r x) = l
     most m (a_quote raw w f u q) = absurd (both_ways (nat_eq b 34) no_mark q)
     most m (a_single l) = (let x = one_digit b bs d in omega arith)
-    most m (a_worded e x l) = absurd (word_back b e (digit_is_word b d))
-    most m (some_marks s marks at spelled r f) = absurd (both_ways (is_word b) (marks_first s m r b bs marks at f) (digit_is_word b d))
+    most m (a_worded e x l) = absurd (word_back b e (digit_word b d))
+    most m (some_marks s marks at spelled r f) = absurd (both_ways (is_word b) (marks_first s m r b bs marks at f) (digit_word b d))
 
 none_found : (w : List ℕ) (ss : List Sign) → find (λ s. is_among (spellings s) w) ss ≡ None → spelled_by ss w ≡ false
 none_found w [] e = refl

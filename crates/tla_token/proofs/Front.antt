@@ -7,6 +7,7 @@ use Rattle.tla_token.specs.Lexemes.{is_blank, is_plain, escaped, in_front, unquo
 use Rattle.tla_token.specs.Tokens.{blank, block, line, lexeme, is_pair, Closes, EndsLine}
 use Rattle.tla_token.specs.Offences.{sound, ends_string, string_len, escape_len}
 use Rattle.tla_token.specs.Cut.{run, comment_len, part_at}
+use Rattle.tla_token.proofs.Words.{one_plus}
 
 -- a comment is as long as it takes to close it
 pub closes_len : (d : ℕ) (body rest : List ℕ) → Closes d body → comment_len d (body ++ rest) ≡ Some (length body)
@@ -24,13 +25,10 @@ closes_len (suc d) (a ∷ b ∷ bs) rest h =
     by false e true f h x y z = (let c : Closes d bs = rw (e, f) at h in rw (e, f, y c) (ap Some (omega arith)))
     by false e false f h x y z = (let c : Closes (suc d) (b ∷ bs) = rw (e, f) at h in rw (e, f, z c) (ap Some (omega arith)))
 
-one_plus : (n : ℕ) → 1 + n ≡ suc n
-one_plus n = omega arith
-
 abbrev goes_on : ℕ → Bool
 goes_on b = not (nat_eq b 10)
 
--- a line comment takes what stands before the line's end
+-- a line comment takes what is before the line's end
 pub line_run : (body rest : List ℕ) → list_all (λ b. not (nat_eq b 10)) body ≡ true → EndsLine rest → run (λ b. not (nat_eq b 10)) (body ++ rest) ≡ body
 line_run [] [] h e = refl
 line_run [] (b ∷ rest) h e = rw e refl

@@ -1,4 +1,4 @@
--- What lexemes can stand at the front of a text, and which of them is the longest.
+-- What lexemes can be at the front of a text, and which of them is the longest.
 use Rattle.std.proofs.Common.{◌≡◌, ℕ, suc, ◌<◌, ◌≤◌, Bool, true, false, not, ◌&&◌, nat_eq, List, [], ◌∷◌, ◌++◌, length, drop, Some, None, refl, sym, ap, ◌∙◌, inl, inr, arith, find, append_assoc, length-append}
 use Rattle.std.specs.List.{list_all, list_any}
 use Rattle.std.specs.Str.{bytes_eq}
@@ -80,7 +80,7 @@ begins_more m more u h =
 stands_more : (m more : List ℕ) (s : Sign) → stands_at m s ≡ true → stands_at (m ++ more) s ≡ true
 stands_more m more s h = (let r = any_some m (spellings s) h in any_from (m ++ more) (spellings s) r.0 r.1 (begins_more m more r.0 r.2))
 
--- the marks of a sign that stand at the front are no longer than those that are found
+-- the marks of a sign that are at the front are no longer than those that are found
 pub marks_longest : (s r : Sign) (w u more : List ℕ) → sign_at (u ++ more) ≡ Some s → spelling_at (spellings s) (u ++ more) ≡ Some w
     → sign_at u ≡ Some r → spelling_at (spellings r) u ≡ Some u → length u ≤ length w
 marks_longest s r w u more at spelled own whole =
@@ -99,7 +99,7 @@ marks_longest s r w u more at spelled own whole =
         let e : u ≡ w = cc in
         let l = ap length e in omega arith
 
--- where no sign is found, none stands
+-- where no sign is found, none is there
 pub none_marks : (r : Sign) (u more : List ℕ) → sign_at (u ++ more) ≡ None → sign_at u ≡ Some r → ⊥
 none_marks r u more at own = find_wider (stands_at (u ++ more)) (stands_at u) all_signs r own (stands_more u more) at
 

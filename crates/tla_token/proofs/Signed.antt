@@ -48,7 +48,7 @@ worded_lexeme (c ∷ v) all any = by (is_sign (92 ∷ c ∷ v)) refl
 pub cut_run : (v rest : List ℕ) → (more : List ℕ) × (v ++ rest ≡ (v ++ run is_word rest) ++ more)
 cut_run v rest = (let s = run_splits is_word rest in (s.0, ap (λ (u : List ℕ). v ++ u) s.1 ∙ sym (append_assoc v (run is_word rest) s.0)))
 
--- a longest one is the whole run behind the backslash
+-- a longest one is the whole run after the backslash
 pub worded_run : (v rest : List ℕ) → list_all is_word v ≡ true → list_any is_letter v ≡ true → IsLongest (92 ∷ v) rest → run is_word (v ++ rest) ≡ v
 worded_run v rest all any longest =
     let r = run is_word rest in
@@ -68,7 +68,7 @@ worded_front v rest o all any is none longest =
 
 -- ---- marks
 
--- behind a backslash that is a sign by itself or begins marks, no word stands
+-- after a backslash that is a sign by itself or begins marks is no word
 pub no_word_behind : (b : ℕ) (v rest : List ℕ) → list_all is_mark v ≡ true → IsLongest (b ∷ v) rest → (nat_eq b 92 && list_any is_letter (run is_word (v ++ rest))) ≡ false
 no_word_behind b v rest marks longest =
     false_from_ne_true (nat_eq b 92 && list_any is_letter (run is_word (v ++ rest))) (λ t.

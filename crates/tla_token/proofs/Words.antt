@@ -7,7 +7,7 @@ use Rattle.tla_token.specs.Tokens.{lexeme}
 use Rattle.tla_token.specs.Offences.{sound}
 use Rattle.tla_token.specs.Cut.{run, part_at, lexeme_part}
 
-one_plus : (n : ℕ) → 1 + n ≡ suc n
+pub one_plus : (n : ℕ) → 1 + n ≡ suc n
 one_plus n = omega arith
 
 -- ---- runs

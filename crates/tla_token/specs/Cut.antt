@@ -33,7 +33,7 @@ abbrev pub closed_part : Option (List ℕ) → List ℕ → Part
 closed_part None raw = bad_string raw
 closed_part (Some w) raw = sound (lexeme (string w) (34 ∷ (raw ++ 34 ∷ [])))
 
--- behind a quote: what belongs to the string, and what stands behind that
+-- after a quote: what belongs to the string, and what is after that
 abbrev pub string_part : List ℕ → List ℕ → Part
 string_part raw rest =
     if begins_with 34 rest then closed_part (unquoted raw) raw
@@ -42,7 +42,7 @@ string_part raw rest =
 abbrev pub spelling_at : List (List ℕ) → List ℕ → Option (List ℕ)
 spelling_at ws bytes = find (λ w. starts_with nat_eq bytes w) ws
 
--- the longest sign that is no word stands first among those that stand here
+-- the longest sign that is no word is first among those that are here
 abbrev pub sign_at : List ℕ → Option Sign
 sign_at bytes = find (λ s. list_any (λ w. starts_with nat_eq bytes w) (spellings s)) all_signs
 

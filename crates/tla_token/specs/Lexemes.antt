@@ -38,7 +38,7 @@ IsName w = IsTrue (list_all is_word w) × IsTrue (list_any is_letter w)
 abbrev pub number_of : List ℕ → ℕ
 number_of ds = fold (λ n b. 10 * n + (b - 48)) 0 ds
 
--- what stands for the character behind a backslash
+-- what stands for the character after a backslash
 abbrev pub escaped : ℕ → Option ℕ
 escaped b =
     if nat_eq b 34 || nat_eq b 92 then Some b

@@ -21,7 +21,7 @@ is_stray b = not (is_blank b) && not (is_printed b)
 abbrev pub ends_string : ℕ → Bool
 ends_string b = nat_eq b 34 || nat_eq b 9 || nat_eq b 10 || nat_eq b 13
 
--- how many bytes behind a quote belong to the string, a backslash with the byte behind it
+-- how many bytes after a quote belong to the string, a backslash with the byte after it
 abbrev mutual
   pub string_len : List ℕ → ℕ
   string_len [] = 0
@@ -41,15 +41,15 @@ abbrev mutual
   is_bad_behind [] = true
   is_bad_behind (b ∷ bs) = is_none (escaped b) || has_bad_escape bs
 
--- ---- a text cut into parts, whatever stands in it
+-- ---- a text cut into parts, whatever is in it
 
 pub data Part : Type 0 where
   sound : Piece → Part
   stray : ℕ → Part  -- a byte that is no blank and not printable
-  bad_string : List ℕ → Part  -- between its quotes, as the next two behind their quote
+  bad_string : List ℕ → Part  -- between its quotes, as the next two after their quote
   cut_string : List ℕ → Part  -- a backslash at the line's end cuts it off
   open_string : List ℕ → Part
-  open_block : List ℕ → Part  -- behind its opener
+  open_block : List ℕ → Part  -- after its opener
 
 abbrev pub part_bytes : Part → List ℕ
 part_bytes (sound p) = bytes_of p

@@ -2,7 +2,7 @@
 use Rattle.std.specs.Prelude.{ℕ, ◌+◌, ◌*◌, ◌/◌, List, [], ◌∷◌, nat_eq, take, if◌then◌else◌}
 use Rattle.tla_token.specs.declared.place.Place.{Place}
 
--- where the byte behind b stands
+-- where the byte after b is
 abbrev pub step : Place → ℕ → Place
 step p b =
     if nat_eq b 10 then record { line = p.line + 1; col = 1 }

@@ -95,6 +95,6 @@ rule_name BadLine = codes "BadLine"
 abbrev pub rule_text : Rule → List ℕ
 rule_text r = decimal (rule_number r) ++ (codes " " ++ rule_name r)
 
--- behind its line and column: 12:3: 45 AssignTwice
+-- after its line and column: 12:3: 45 AssignTwice
 abbrev pub refusal_text : Refusal → List ℕ
 refusal_text r = decimal r.place.line ++ (codes ":" ++ (decimal r.place.col ++ (codes ": " ++ rule_text r.rule)))

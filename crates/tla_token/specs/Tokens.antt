@@ -1,4 +1,4 @@
--- The tokens of a stretch of a text: it is cut into blanks, comments and lexemes, each lexeme the longest that stands there
+-- The tokens of a stretch of a text: it is cut into blanks, comments and lexemes, each lexeme the longest that is there
 -- ("Specifying Systems", section 15.1; comments, section 3.5).
 use Rattle.std.specs.Prelude.{◌≡◌, ℕ, zero, suc, ◌+◌, ◌-◌, Bool, true, false, ◌&&◌, ◌||◌, not, nat_eq, IsTrue, List, [], ◌∷◌, ◌++◌, length, take, drop, codes, MatchBool}
 use Rattle.std.specs.List.{list_all, starts_with}
@@ -14,8 +14,8 @@ pub record Token : Type 0 where
 
 pub data Piece : Type 0 where
   blank : ℕ → Piece
-  block : List ℕ → Piece  -- a (* comment, behind its opener
-  line : List ℕ → Piece  -- a \* comment, behind its opener
+  block : List ℕ → Piece  -- a (* comment, after its opener
+  line : List ℕ → Piece  -- a \* comment, after its opener
   lexeme : Kind → List ℕ → Piece
 
 abbrev pub bytes_of : Piece → List ℕ
@@ -81,7 +81,7 @@ pub record Tok (text : List ℕ) (from to : ℕ) (ts : List Token) : Type 0 wher
 abbrev pub openings : List (List ℕ)
 openings = codes "--algorithm" ∷ codes "--fair" ∷ []
 
--- `(*` or `*)` stands in it
+-- `(*` or `*)` is in it
 abbrev pub holds_mark : List ℕ → Bool
 holds_mark [] = false
 holds_mark (b ∷ bs) = starts_with nat_eq (b ∷ bs) (codes "(*") || starts_with nat_eq (b ∷ bs) (codes "*)") || holds_mark bs

@@ -27,7 +27,7 @@ pub enum Rule {
     TwoAlgorithms,
     /// The lines that begin and end the translation don't make one region.
     BadRegion,
-    /// What stands next to the region, or to the place of a new one, leaves no room for it.
+    /// What is next to the region, or to the place of a new one, leaves no room for it.
     Placement,
     /// A line of PlusCal options.
     Options,
@@ -41,7 +41,7 @@ pub enum Rule {
     TooDeep,
     /// The first token that no algorithm can have there.
     Syntax,
-    /// A name that is nothing where it stands.
+    /// A name that is nothing where it is.
     Unknown,
     /// A second declaration of a name.
     Duplicate,
@@ -75,11 +75,11 @@ pub enum Rule {
     FirstLabel,
     /// A `while` without a label.
     WhileLabel,
-    /// An unlabelled statement behind `call`, `return` or `goto`.
+    /// An unlabelled statement after `call`, `return` or `goto`.
     AfterJump,
-    /// An unlabelled statement behind a statement that holds a jump or a label.
+    /// An unlabelled statement after a statement that holds a jump or a label.
     AfterBranch,
-    /// A label or a jump where none may stand.
+    /// A label or a jump where none may be.
     LabelInside,
     /// A variable that is assigned twice in a step.
     AssignTwice,

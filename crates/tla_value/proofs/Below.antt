@@ -34,7 +34,7 @@ still_past : (p : Place) (k : Trouble) → Past k → Past (trouble_at p k)
 still_past p (fault k r) h = h
 still_past p (over r) h = h
 
--- for a limit that was passed anything may stand
+-- for a limit that was passed there may be anything
 abbrev limited : Kin
 limited = record {
   beside = OrPast;

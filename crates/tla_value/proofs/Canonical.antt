@@ -6,8 +6,7 @@ use Rattle.std.proofs.lemmas.Int.{ints}
 use Rattle.tla_value.specs.Value.{Value, Values, truth, int, text, model, set, fun, no_values, and, Outcome, values_in, ◌>>=◌}
 use Rattle.tla_value.specs.Order.{order, count, listed, set_from, pairs_of, IsBefore, IsAscending, IsCanonical, AreCanonical, ArePairsCanonical}
 use Rattle.tla_value.specs.Sets.{kept, sublists, subsets, integers, repeated, fronted, members, choices, functions_over}
-use Rattle.tla_value.specs.OrderLaws.{order_total}
-use Rattle.tla_value.proofs.OrderSets.{set_from_ascending, set_from_canonical}
+use Rattle.tla_value.proofs.OrderSets.{set_from_ascending, set_from_canonical, before_next}
 
 -- the result, if there is one, has the property
 abbrev pub Has : {X : Type 0} → (X → Type 0) → Outcome X → Type 0
@@ -43,10 +42,6 @@ listed_canonical (and v vs) h = (h.0, listed_canonical vs h.1)
 pub set_canonical : (vs : List Value) → AreCanonical (values_in vs) → IsCanonical (set (set_from vs))
 set_canonical vs h = (set_from_ascending vs, set_from_canonical vs h)
 
-before_next : (v w : Value) (ws : Values) → order v w ≡ Less → IsBefore w ws → IsBefore v ws
-before_next v w no_values a b = tt
-before_next v w (and u us) a b = order_total.trans v w u a b
-
 before_kept : (u : Value) (p : Value → Bool) (vs : Values) → IsBefore u vs → IsAscending vs → IsBefore u (kept p vs)
 before_kept u p no_values b h = tt
 before_kept u p (and v vs) b h = either (p v) (before_kept u p vs (before_next u v vs b h.0) h.1)
@@ -73,7 +68,7 @@ each_append : (P : Values → Type 0) (ss ts : List Values) → EachList P ss �
 each_append P [] ts h k = k
 each_append P (s ∷ ss) ts h k = (h.0, each_append P ss ts h.1 k)
 
--- in ascending order behind u, and canonical
+-- in ascending order after u, and canonical
 abbrev Behind : Value → Values → Type 0
 Behind u t = IsBefore u t × IsAscending t × AreCanonical t
 

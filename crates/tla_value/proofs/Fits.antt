@@ -1,7 +1,7 @@
 -- What it is for a value to be within the limits, part by part.
 use Rattle.std.proofs.Common.{◌≡◌, ℕ, suc, pos, ◌+◌, ◌≤◌, ◌<◌, Bool, true, false, List, [], ◌∷◌, length, refl, sym, ap, ◌∙◌, arith, Ok, Err}
 use Rattle.std.specs.Prelude.{◌&&◌, ◌^◌, nat_le, if◌then◌else◌}
-use Rattle.std.proofs.lemmas.Bool.{leb-true, le-leb}
+use Rattle.std.proofs.lemmas.Bool.{leb-true, le-leb, and_parts}
 use Rattle.tla_token.specs.declared.place.Place.{Place}
 use Rattle.tla_value.specs.Value.{Value, Values, set, fun, values_in, over}
 use Rattle.tla_value.specs.Order.{count, numbered, seq_from}
@@ -9,18 +9,14 @@ use Rattle.tla_value.specs.Limits.{depth, depths, deepest, most_members, fits, f
 use Rattle.tla_value.proofs.ValueLists.{count-values_in}
 use Rattle.tla_value.proofs.OrderFuns.{count_numbered}
 
-pub split : (a b : Bool) → (a && b) ≡ true → (a ≡ true) × (b ≡ true)
-split true b h = (refl, h)
-split false b h = cc
-
 pub joined : (a b : Bool) → a ≡ true → b ≡ true → (a && b) ≡ true
 joined a b h k = λ i. h i && k i
 
 pub fits_parts_of : (v : Value) → fits v ≡ true → fits_parts v ≡ true
-fits_parts_of v h = (split (fits_parts v) (nat_le (depth v) deepest) h).0
+fits_parts_of v h = (and_parts (fits_parts v) (nat_le (depth v) deepest) h).0
 
 pub depth_of : (v : Value) → fits v ≡ true → depth v ≤ deepest
-depth_of v h = leb-true (depth v) deepest (split (fits_parts v) (nat_le (depth v) deepest) h).1
+depth_of v h = leb-true (depth v) deepest (and_parts (fits_parts v) (nat_le (depth v) deepest) h).1
 
 pub fits_by : (v : Value) → fits_parts v ≡ true → depth v ≤ deepest → fits v ≡ true
 fits_by v h k = joined (fits_parts v) (nat_le (depth v) deepest) h (le-leb (depth v) deepest k)
@@ -35,7 +31,7 @@ count_of : (vs : Values) → fits_count vs ≡ true → count vs ≤ most_member
 count_of vs h = leb-true (count vs) most_members h
 
 pub set_many : (vs : Values) → most_members < count vs → fits (set vs) ≡ false
-set_many vs l = not_true (fits (set vs)) (λ h. omega (arith, count_of vs (split (fits_count vs) (all_fit vs) (fits_parts_of (set vs) h)).0))
+set_many vs l = not_true (fits (set vs)) (λ h. omega (arith, count_of vs (and_parts (fits_count vs) (all_fit vs) (fits_parts_of (set vs) h)).0))
 
 pub set_deep : (vs : Values) → deepest ≤ depths vs → fits (set vs) ≡ false
 set_deep vs l = not_true (fits (set vs)) (λ h. omega (arith, depth_of (set vs) h))
@@ -45,7 +41,7 @@ set_fits vs l d h = fits_by (set vs) (joined (fits_count vs) (all_fit vs) (le-le
 
 pub fun_many : (ds vs : Values) → most_members < count ds → fits (fun ds vs) ≡ false
 fun_many ds vs l =
-    not_true (fits (fun ds vs)) (λ h. omega (arith, count_of ds (split (fits_count ds) (all_fit ds && all_fit vs) (fits_parts_of (fun ds vs) h)).0))
+    not_true (fits (fun ds vs)) (λ h. omega (arith, count_of ds (and_parts (fits_count ds) (all_fit ds && all_fit vs) (fits_parts_of (fun ds vs) h)).0))
 
 pub fun_deep : (ds vs : Values) → deepest ≤ depths vs → fits (fun ds vs) ≡ false
 fun_deep ds vs l = not_true (fits (fun ds vs)) (λ h. omega (arith, depth_of (fun ds vs) h))

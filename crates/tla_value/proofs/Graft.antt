@@ -9,34 +9,16 @@ use Rattle.tla_value.specs.Meaning.{Env, just, bind, eval, evals}
 use Rattle.tla_value.specs.Grafts.{read_tree, through}
 use Rattle.tla_value.proofs.Facts.{each_weaker, every_weaker}
 use Rattle.tla_value.proofs.Joined.{none, one}
-use Rattle.tla_value.proofs.Alike.{equal, senses_are, senses_from, checks_equal, reads, AllAlike, alike}
-use Rattle.tla_value.proofs.Relations.{Alike, Bound, KeptBy, Rel}
-use Rattle.tla_value.specs.laws.Grafting.{Apart, ApartForm, NotFreeIn, Uses}
+use Rattle.tla_value.proofs.Alike.{equal, senses_are, senses_from, checks_equal, reads, AllAlike}
+use Rattle.tla_value.proofs.Relations.{Bound, Rel}
+use Rattle.tla_value.specs.laws.Grafting.{Apart, ApartForm, NotFreeIn, Clear, BindsClear, Unread}
 use Rattle.tla_value.specs.laws.FreeNames.{Or, Also, FormReads, FreeNames, FreeInParts, Any}
 use Rattle.tla_value.proofs.JoinedEval.{Dens, BoundIn, at_value, After, Parts, no_parts, part, seeing, form_both, EachList, each_seen}
 use Rattle.tla_value.proofs.FreeNames.{other_of, not_free, any_names}
-use Rattle.tla_value.specs.laws.Grafting.{Clear, ClearForm, Unread}
-
--- a name reads the same before the graft and after it, and other forms keep the relation
-abbrev pub Fits : Check → Rel → Graft → Form → Place → Type 0
-Fits c R g (name x) at = (e f : Env) → R e f → read_tree c (g x at) x at e ≡ f.now x at
-Fits c R g m at = KeptBy R m at
 
 name_reads : (c : Check) (o : Option Tree) (x : Word) (at : Place) (ts : Trees) (e : Env) → eval c (grafted_name o (name x) at ts) e ≡ read_tree c o x at e
 name_reads c (Some t) x at ts e = refl
 name_reads c None x at ts e = refl
-
-node_law : (c : Check) (R : Rel) (g : Graft) (m : Form) (at : Place) (ts us : Trees) → Fits c R g m at → AllAlike R (evals c us) (evals c ts) → Alike R (eval c (grafted_node g m at us)) (eval c (node m at ts))
-node_law c R g (name x) at ts us k ps = λ e f r. name_reads c (g x at) x at us e ∙ k e f r
-node_law c R g m at ts us k ps = alike R c m at _ _ k ps
-
-mutual
-  pub graft_law : (c : Check) (R : Rel) (g : Graft) (t : Tree) → Every (Fits c R g) t → Alike R (eval c (graft g t)) (eval c t)
-  graft_law c R g (node m at ts) k = node_law c R g m at ts (grafts g ts) k.0 (grafts_law c R g ts k.1)
-
-  pub grafts_law : (c : Check) (R : Rel) (g : Graft) (ts : Trees) → EveryOf (Fits c R g) ts → AllAlike R (evals c (grafts g ts)) (evals c ts)
-  grafts_law c R g no_trees k = none
-  grafts_law c R g (tree t ts) k = one (graft_law c R g t k.0) (grafts_law c R g ts k.1)
 
 -- ---- name by name
 
@@ -65,16 +47,6 @@ bound_grafted c g U x k e f v r = record {
         ∙ sym (ap (λ o. read_tree c o y at (bind x v e)) untouched)
     by_test y u at false q = ap (λ b. cond b (just v) (f.now y at)) q ∙ r.now y u at ∙ bound_read c x y at v e (g y at) (k.unread y at) q
 
-form_fits : (c : Check) (g : Graft) (U : Word → Type 0) (m : Form) (at : Place) → ClearForm c g U m at → Fits c (Grafted c g U) g m at
-form_fits c g U (name x) at h = λ e f r. sym (r.now x h.1 at)
-form_fits c g U (next x) at h = (tt, λ at' e f r. r.primed x at')
-form_fits c g U (operator_call x) at h = (tt, λ e f r. r.defs x h.1)
-form_fits c g U m at h = (each_weaker _ _ (bound_grafted c g U) (binders m) h.0, tt)
-
--- the grafted tree means in e what the tree means where its names stand for the grafts in e
-pub grafted_law : (c : Check) (g : Graft) (U : Word → Type 0) (t : Tree) → Every (ClearForm c g U) t → (e f : Env) → Grafted c g U e f → eval c (graft g t) e ≡ eval c t f
-grafted_law c g U t h = graft_law c (Grafted c g U) g t (every_weaker _ _ (form_fits c g U) t h)
-
 -- ---- names that are free
 
 -- for the names of N and the operators of M, f is where they stand for the trees of g in e
@@ -102,9 +74,6 @@ after_on : (c : Check) (g : Graft) (M : Word → Type 0) (xs : List Word) (N : W
 after_on c g M [] N R k h e f r = h e f r
 after_on c g M (x ∷ xs) N R k h e f r = after_on c g M xs (Or x N) (BoundIn R x) k.1 (bound_on c g N M R x k.0 h) e f r
 
-abbrev BindsClear : Check → Graft → Form → Place → Type 0
-BindsClear c g m at = Each (Clear c g) (binders m)
-
 node_on : (c : Check) (g : Graft) (N M : Word → Type 0) (m : Form) (at : Place) (ts us : Trees) → FormReads N M m → Parts equal (GraftedOn c g N M) (GraftedOn c g N M) (seen_names m) (evals c us) (evals c ts) → Dens equal (GraftedOn c g N M) (eval c (grafted_node g m at us)) (eval c (node m at ts))
 node_on c g N M (name x) at ts us h ps = λ e f r. senses_from _ _ (name_reads c (g x at) x at us e ∙ sym (r.now x h at))
 node_on c g N M (next x) at ts us h ps = λ e f r. senses_from _ _ (r.primed x at)
@@ -125,6 +94,15 @@ mutual
 pub free_law : (c : Check) (g : Graft) (U : Word → Type 0) (t : Tree) → Every (BindsClear c g) t → FreeNames U U t → (e f : Env) → Grafted c g U e f → eval c (graft g t) e ≡ eval c t f
 free_law c g U t k h e f r = senses_are _ _ (tree_on c g U U t k h e f (record { now = r.now; primed = r.primed; defs = r.defs }))
 
+-- and what the tree means where all names stand for them
+pub grafted_law : (c : Check) (g : Graft) (t : Tree) → Every (BindsClear c g) t → (e f : Env) → Grafted c g Any e f → eval c (graft g t) e ≡ eval c t f
+grafted_law c g t k = free_law c g Any t k (any_names Any Any (λ x. tt) (λ x. tt) t)
+
+-- the same of all trees of a list, whatever they read
+pub all_grafted : (c : Check) (g : Graft) (ts : Trees) → EveryOf (BindsClear c g) ts → AllAlike (Grafted c g Any) (evals c (grafts g ts)) (evals c ts)
+all_grafted c g no_trees k = none
+all_grafted c g (tree t ts) k = one (grafted_law c g t k.0) (all_grafted c g ts k.1)
+
 -- ---- premises by names
 
 pub unread_in : (c : Check) (x : Word) (o : Option Tree) → NotFreeIn x o → Unread c x o
@@ -137,7 +115,7 @@ apart_clear c g x k = record { left = k.left; unread = λ y at. unread_in c x (g
 -- with trees put in, a tree means what it means where its names stand for them
 pub through_law : (c : Check) (g : Graft) (t : Tree) → Every (ApartForm g) t → (e : Env) → eval c (graft g t) e ≡ eval c t (through c g e)
 through_law c g t h e =
-    free_law c g Any t (every_weaker _ _ (λ m at k. each_weaker _ _ (apart_clear c g) (binders m) k) t h) (any_names Any Any (λ x. tt) (λ x. tt) t) e (through c g e) (record {
+    grafted_law c g t (every_weaker _ _ (λ m at k. each_weaker _ _ (apart_clear c g) (binders m) k) t h) e (through c g e) (record {
       now = λ x u at. refl;
       primed = λ x at. refl;
       defs = λ x u. refl;

@@ -150,7 +150,7 @@ arguments_pairs (and d ds) (and w ws) h = ap (λ us. d ∷ us) (arguments_pairs 
 after : (d e : Value) → order d e ≡ Less → same e d ≡ false
 after d e h = ap is_eq (order_total.antisymm e d ∙ ap ordering_reverse h)
 
--- a pair whose argument stands before a domain gives it nothing
+-- a pair whose argument is before a domain gives it nothing
 pair_before : (d w : Value) (ps : List (Value × Value)) (ds : Values) → IsBefore d ds → IsAscending ds → values_at ((d, w) ∷ ps) ds ≡ values_at ps ds
 pair_before d w ps no_values b h = refl
 pair_before d w ps (and e es) b h = λ i. in_front (if after d e b i then Some w else first_at ps e) (pair_before d w ps es (before_next d e es b h.0) h.1 i)

@@ -79,7 +79,7 @@ pub before_next : (v w : Value) (ws : Values) → order v w ≡ Less → IsBefor
 before_next v w no_values a b = tt
 before_next v w (and u us) a b = order_total.trans v w u a b
 
--- what stands before all is no member
+-- what is before all is no member
 pub not_held : (v : Value) (vs : Values) → IsBefore v vs → IsAscending vs → holds v vs ≡ false
 not_held v no_values b h = refl
 not_held v (and w ws) b h =

@@ -1,15 +1,15 @@
 -- An expression with the assigned names primed means over a pair of states what it means in the state half done.
-use Rattle.std.proofs.Common.{◌≡◌, Bool, true, false, cond, bytes_eq, Some, None, refl, sym, ◌∙◌, ap}
-use Rattle.std.proofs.lemmas.Slice.Eq.{bytes_eq-Decides}
+use Rattle.std.proofs.Common.{◌≡◌, List, [], ◌∷◌, Bool, true, false, cond, bytes_eq, Some, None, refl, ◌∙◌, ap}
 use Rattle.tla_token.specs.declared.place.Place.{Place}
 use Rattle.tla_expr.specs.Tree.{Word, Form, name, next, operator_call, Tree, node, no_trees, Every, Each, binders, graft}
 use Rattle.tla_value.specs.Stops.{Check}
 use Rattle.tla_value.specs.Meaning.{Env, just, eval}
 use Rattle.tla_value.specs.Grafts.{primes, read_tree}
 use Rattle.tla_value.proofs.Facts.{each_weaker, every_weaker}
-use Rattle.tla_value.proofs.Graft.{Fits, graft_law, free_law}
-use Rattle.tla_value.proofs.Relations.{Bound}
-use Rattle.tla_value.specs.laws.Grafting.{BindsNone, Uses}
+use Rattle.tla_value.proofs.Alike.{eval_alike}
+use Rattle.tla_value.proofs.Graft.{free_law}
+use Rattle.tla_value.proofs.Relations.{Bound, KeptBy}
+use Rattle.tla_value.specs.laws.Grafting.{BindsNone, IsUnprimed}
 use Rattle.tla_value.specs.laws.FreeNames.{FreeNames}
 use Rattle.tla_value.specs.laws.Grafting.{Clear, Unread}
 
@@ -46,30 +46,26 @@ pub record Between (A : Word → Bool) (U : Word → Type 0) (e f : Env) : Type 
   pub now : (x : Word) → U x → (at : Place) → f.now x at ≡ cond (A x) (e.primed x at) (e.now x at)
   pub defs : (x : Word) → U x → e.defs x ≡ f.defs x
 
-bound_between : (A : Word → Bool) (U : Word → Type 0) (x : Word) → A x ≡ false → Bound (Between A U) x
-bound_between A U x out e f v r = record { now = λ y u at. by y u at (bytes_eq x y) refl; defs = r.defs }
-  where
-    by : (y : Word) → U y → (at : Place) (b : Bool) → bytes_eq x y ≡ b → cond (bytes_eq x y) (just v) (f.now y at) ≡ cond (A y) (e.primed y at) (cond (bytes_eq x y) (just v) (e.now y at))
-    by y u at true q =
-        ap (λ b. cond b (just v) (f.now y at)) q
-        ∙ sym (ap (λ a. cond a (e.primed y at) (cond (bytes_eq x y) (just v) (e.now y at))) (sym (ap A ((bytes_eq-Decides x y).0 q)) ∙ out) ∙ ap (λ b. cond b (just v) (e.now y at)) q)
-    by y u at false q =
-        ap (λ b. cond b (just v) (f.now y at)) q ∙ r.now y u at
-        ∙ sym (ap (λ b. cond (A y) (e.primed y at) (cond b (just v) (e.now y at))) q)
+-- environments that agree but for primed names
+record AgreeNow (e f : Env) : Type 0 where
+  now : (x : Word) (at : Place) → e.now x at ≡ f.now x at
+  defs : (x : Word) → e.defs x ≡ f.defs x
 
-abbrev pub NoNext : Form → Type 0
-NoNext (next x) = ⊥
-NoNext _ = Unit {0}
+bound_now : (x : Word) → Bound AgreeNow x
+bound_now x e f v r = record { now = λ y at i. cond (bytes_eq x y) (just v) (r.now y at i); defs = r.defs }
 
--- also no primed name stands in the tree
-abbrev pub Unprimed : (Word → Bool) → (Word → Type 0) → Form → Place → Type 0
-Unprimed A U m at = Each (λ x. A x ≡ false) (binders m) × Uses U m × NoNext m
+all_bound : (xs : List Word) → Each (Bound AgreeNow) xs
+all_bound [] = tt
+all_bound (x ∷ xs) = (bound_now x, all_bound xs)
 
-form_primed : (c : Check) (A : Word → Bool) (U : Word → Type 0) (m : Form) (at : Place) → Unprimed A U m at → Fits c (Between A U) (primes A) m at
-form_primed c A U (name x) at h = λ e f r. sym (r.now x h.1 at ∙ read_primed c (A x) x at e)
-form_primed c A U (next x) at h = absurd h.2
-form_primed c A U (operator_call g) at h = (tt, λ e f r. r.defs g h.1)
-form_primed c A U m at h = (each_weaker _ _ (bound_between A U) (binders m) h.0, tt)
+form_unprimed : (m : Form) (at : Place) → IsUnprimed m at → KeptBy AgreeNow m at
+form_unprimed (name x) at h = (tt, λ p e f r. r.now x p)
+form_unprimed (next x) at h = absurd h
+form_unprimed (operator_call g) at h = (tt, λ e f r. r.defs g)
+form_unprimed m at h = (all_bound (binders m), tt)
 
-pub unprimed_law : (c : Check) (A : Word → Bool) (U : Word → Type 0) (t : Tree) → Every (Unprimed A U) t → (e f : Env) → Between A U e f → eval c (graft (primes A) t) e ≡ eval c t f
-unprimed_law c A U t h = graft_law c (Between A U) (primes A) t (every_weaker _ _ (form_primed c A U) t h)
+pub unprimed_law : (c : Check) (A : Word → Bool) (U : Word → Type 0) (t : Tree) → Every (BindsNone A) t → Every IsUnprimed t → FreeNames U U t → (e f : Env) → Between A U e f → eval c (graft (primes A) t) e ≡ eval c t f
+unprimed_law c A U t k n h e f r =
+    let m : Env = record { now = f.now; primed = e.primed; defs = f.defs } in
+    primed_law c A U t k h e m (record { now = r.now; primed = λ x at. refl; defs = r.defs })
+    ∙ eval_alike AgreeNow c t (every_weaker _ _ form_unprimed t n) m f (record { now = λ x at. refl; defs = λ x. refl })

@@ -21,7 +21,7 @@ held_apart true true u v r h = absurd (h refl refl)
 held_apart true false u v r h = refl
 held_apart false c u v r h = refl
 
--- the entry of a name k, with what is behind it, after the assignment of x
+-- the entry of a name k, with what is after it, after the assignment of x
 entry : (x y k : Word) (u v : Value) (s : Entries) (a : Bool) → equal x k ≡ a → value_of (updated s x v) y ≡ (if equal y x then Some v else value_of s y) → value_of (if a then (k, v) ∷ s else (k, u) ∷ updated s x v) y ≡ (if equal y x then Some v else value_of ((k, u) ∷ s) y)
 entry x y k u v s true e h =
     held_once (equal y k) (Some u) (Some v) (value_of s y) ∙ ap (λ z. if equal y z then Some v else value_of ((k, u) ∷ s) y) (sym (equal_is x k e))

@@ -41,7 +41,7 @@ none_in : (a : Bool) → false ≡ (a && false)
 none_in true = refl
 none_in false = refl
 
--- behind one first member
+-- after one first member
 pub among_fronts : (u w : Value) (us : Values) (ts : List Values) → is_among (and u us) (map (and w) ts) ≡ (same u w && is_among us ts)
 among_fronts u w us [] = none_in (same u w)
 among_fronts u w us (t ∷ ts) =

@@ -12,8 +12,8 @@ use Rattle.tla_value.specs.Order.{record_from, count, order, orders, same, holds
 use Rattle.tla_value.specs.Stops.{plain, members_at, function_at, tested}
 use Rattle.tla_value.specs.Sets.{all_in, sublists, subsets, repeated, functions_over, is_function_over, is_subset}
 use Rattle.tla_value.specs.Strict.{strict_value, strict_test}
-use Rattle.tla_value.specs.OrderLaws.{orders_equal, order_self, order_total, nat_self, same_is}
-use Rattle.tla_value.proofs.OrderSets.{holds_set_from}
+use Rattle.tla_value.specs.OrderLaws.{orders_equal, order_self, nat_self, same_is}
+use Rattle.tla_value.proofs.OrderSets.{holds_set_from, before_next}
 use Rattle.tla_value.proofs.Untested.{then_eq, is_among, among_both, among_fronts, functions_tested}
 
 abbrev IsLess : Ordering → Type 0
@@ -23,14 +23,10 @@ IsLess _ = ⊥
 not_less : (v : Value) → order v v ≡ Less → ⊥
 not_less v h = subst IsLess (sym h ∙ order_self v) tt
 
--- what stands before is another one
+-- what is before is another one
 other_by : (u v : Value) (b : Bool) → same u v ≡ b → order v u ≡ Less → same u v ≡ false
 other_by u v false q h = q
 other_by u v true q h = absurd (not_less v (sym (ap (order v) (same_is u v q)) ∙ h))
-
-before_next : (v w : Value) (ws : Values) → order v w ≡ Less → IsBefore w ws → IsBefore v ws
-before_next v w no_values a b = tt
-before_next v w (and u us) a b = order_total.trans v w u a b
 
 past_first : (v : Value) (ws vs : Values) → IsBefore v ws → IsAscending ws → all_in ws (and v vs) ≡ all_in ws vs
 past_first v no_values vs b h = refl
@@ -63,7 +59,7 @@ or_false : (x : Bool) → (x || false) ≡ x
 or_false true = refl
 or_false false = refl
 
--- whether w is the first, held behind it, or neither
+-- whether w is the first, held after it, or neither
 first_or_behind : (w v : Value) (ws vs : Values) → IsAscending (and w ws) → IsAscending (and v vs) → (s h : Bool) → same w v ≡ s → holds w vs ≡ h →
     ((h && all_in ws vs) || (s && all_in ws vs)) ≡ ((s || h) && all_in ws (and v vs))
 first_or_behind w v ws vs a b true h q k =

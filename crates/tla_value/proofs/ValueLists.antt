@@ -9,7 +9,7 @@ use Rattle.std.specs.declared.cmp.Ordering.TheVariants.{Less, Equal, Greater}
 use Rattle.tla_value.specs.Value.{Value, Values, no_values, and, values_in}
 use Rattle.tla_value.specs.Order.{count, order, orders, inserted, placed}
 
--- the values of a row, and behind them those of another
+-- the values of a row, and after them those of another
 abbrev pub follow : Values → Values → Values
 follow no_values us = us
 follow (and v vs) us = and v (follow vs us)

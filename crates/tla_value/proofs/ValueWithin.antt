@@ -2,6 +2,7 @@
 use Rattle.std.proofs.Common.{◌≡◌, ℕ, zero, suc, ◌≤◌, pos, negsuc, Bool, true, false, List, [], ◌∷◌, refl, sym, ◌∙◌, ap, subst, arith, Option, Some, None}
 use Rattle.std.specs.Prelude.{max, neg_ℤ, ◌&&◌, if◌then◌else◌}
 use Rattle.std.specs.Ordering.{is_eq}
+use Rattle.std.proofs.lemmas.Bool.{and_parts}
 use Rattle.tla_expr.specs.Tree.{Word}
 use Rattle.tla_value.specs.Value.{Value, Values, truth, int, text, model, set, fun, no_values, and, values_in}
 use Rattle.tla_value.specs.Order.{orders, listed, numbered, set_from, fun_from, seq_from, IsCanonical, AreCanonical, ArePairsCanonical}
@@ -9,7 +10,7 @@ use Rattle.tla_value.specs.Limits.{depth, depths, deepest, fits, fits_parts, all
 use Rattle.tla_value.specs.ValueText.{Mark, Spelling, Spellings, Fields, Pairs, truth_word, digits, minus, quoted, named, braces, angles, fields, pairs, no_spellings, spelling, no_fields, field, no_pairs, pair, spelled, all_spelled, spelled_fields, spelled_pairs, IsWithin, AreWithin, AreWithinFields, AreWithinPairs, Spells, HasModelNames, field_names, fields_from, pairs_from, shown_other, shown_fun, shown, all_shown, marks}
 use Rattle.tla_value.proofs.Canonical.{set_canonical}
 use Rattle.tla_value.proofs.OrderFuns.{seq_from_canonical, fun_from_canonical}
-use Rattle.tla_value.proofs.Fits.{split, fits_parts_of, depth_of, fits_by}
+use Rattle.tla_value.proofs.Fits.{fits_parts_of, depth_of, fits_by}
 use Rattle.tla_value.proofs.ValueSpelled.{spelled_shown, good_shown}
 
 -- ---- what is written
@@ -46,11 +47,11 @@ mutual
   shown_within zero (set vs) l c f h = absurd (omega arith)
   shown_within (suc d) (set vs) l c f h = (
     ap fits (spelled_shown (set vs) c) ∙ fits_by (set vs) f (omega arith),
-    all_shown_within d vs (omega arith) c.1 (split (fits_count vs) (all_fit vs) f).1 (omega arith),
+    all_shown_within d vs (omega arith) c.1 (and_parts (fits_count vs) (all_fit vs) f).1 (omega arith),
   )
   shown_within zero (fun ds vs) l c f h = absurd (omega arith)
   shown_within (suc d) (fun ds vs) l c f h =
-      let parts = split (all_fit ds) (all_fit vs) (split (fits_count ds) (all_fit ds && all_fit vs) f).1 in
+      let parts = and_parts (all_fit ds) (all_fit vs) (and_parts (fits_count ds) (all_fit ds && all_fit vs) f).1 in
       fun_within d (is_eq (orders ds (numbered 1 (listed vs)))) ds (all_shown ds) (all_shown vs)
       (ap fits (spelled_shown (fun ds vs) c) ∙ fits_by (fun ds vs) f (omega arith))
       (all_shown_within d ds (omega arith) c.1 parts.0 (omega arith))
@@ -59,7 +60,7 @@ mutual
   all_shown_within : (d : ℕ) (vs : Values) → d ≤ deepest → AreCanonical vs → all_fit vs ≡ true → depths vs ≤ d → AreWithin (all_shown vs) d
   all_shown_within d no_values l c f h = tt
   all_shown_within d (and v vs) l c f h =
-      let parts = split (fits_parts v) (all_fit vs) f in
+      let parts = and_parts (fits_parts v) (all_fit vs) f in
       (shown_within d v l c.0 parts.0 (omega arith), all_shown_within d vs l c.1 parts.1 (omega arith))
 
 -- the tokens that are written for a value spell it

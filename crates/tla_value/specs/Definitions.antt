@@ -15,7 +15,7 @@ pub record Definition : Type 0 where
   pub title : Word
   pub params : List Word
   pub body : Tree
-  pub outside : Bool  -- it stands in the module, outside the algorithm
+  pub outside : Bool  -- it is in the module, outside the algorithm
 
 abbrev pub or_sense : Option Value → Sense → Sense
 or_sense (Some v) other = just v

@@ -7,7 +7,7 @@ use Rattle.std.specs.declared.cmp.Ordering.TheVariants.{Less, Equal, Greater}
 use Rattle.tla_expr.specs.Tree.{Word}
 use Rattle.tla_value.specs.Value.{Value, Values, truth, int, text, model, set, fun, no_values, and, values_in}
 
--- where a kind stands in the order of kinds
+-- where a kind is in the order of kinds
 abbrev pub kind_of : Value → ℕ
 kind_of (truth b) = 0
 kind_of (int z) = 1
@@ -57,7 +57,7 @@ abbrev pub holds : Value → Values → Bool
 holds v no_values = false
 holds v (and w ws) = same v w || holds v ws
 
--- v before w, in the place of w, or behind it, where `more` is what v makes of the members behind w
+-- v before w, in the place of w, or after it, where `more` is what v makes of the members after w
 abbrev pub placed : Ordering → Value → Value → Values → Values → Values
 placed Less v w ws more = and v (and w ws)
 placed Equal v w ws more = and w ws
@@ -119,7 +119,7 @@ abbrev pub fun_over : List (Value × Value) → Values → Value
 fun_over ps ds = fun ds (values_at ps ds)
 
 -- the function of some pairs of argument and value; of a repeated argument the first pair counts.
--- So f @@ g is that of the pairs of f with those of g behind them.
+-- So f @@ g is that of the pairs of f with those of g after them.
 abbrev pub fun_from : List (Value × Value) → Value
 fun_from ps = fun_over ps (set_from (arguments ps))
 
@@ -151,7 +151,7 @@ record_from xs vs = fun_from (field_pairs xs vs)
 
 -- ---- canonical values
 
--- v stands before a list
+-- v is before a list
 abbrev pub IsBefore : Value → Values → Type 0
 IsBefore v no_values = Unit {0}
 IsBefore v (and w ws) = order v w ≡ Less

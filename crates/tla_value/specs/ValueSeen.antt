@@ -1,4 +1,4 @@
--- Which value stands in a text at a place: the tokens from there on as the grammar of values sees them. Between them stand blanks and comments
+-- Which value is in a text at a place: the tokens from there on as the grammar of values sees them. Between them are blanks and comments
 -- to the line's end alone.
 use Rattle.std.specs.Prelude.{◌≡◌, ℕ, Bool, true, false, IsTrue, List, [], ◌∷◌, ◌++◌, ◌≤◌, length, drop}
 use Rattle.std.specs.List.{list_all}

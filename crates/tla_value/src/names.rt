@@ -34,7 +34,7 @@ pub struct Definition {
     pub name: Name,
     pub params: NameList,
     pub body: Expr,
-    /// Whether it stands outside the algorithm; then a fault or limit in its body is at its use.
+    /// Whether it is outside the algorithm; then a fault or limit in its body is at its use.
     pub outside: bool,
     pub place: Place,
 }

@@ -1,28 +1,28 @@
 -- Items with trees put in for names: what captures nothing.
 use Rattle.tla_expr.specs.declared.op.Op.TheVariants.{Subset}
-use Rattle.tla_expr.specs.Tree.{Word, Strict, operator, functions, records, name, next, operator_call, strings, strict, Tree, node, Every, Graft}
+use Rattle.tla_expr.specs.Tree.{Strict, operator, functions, records, name, next, operator_call, strings, strict, Tree, node, Every, Graft}
 use Rattle.tla_value.specs.Stops.{Check}
-use Rattle.tla_value.specs.laws.Grafting.{Clear, ClearForm}
+use Rattle.tla_value.specs.laws.Grafting.{Clear, BindsClear}
 use Rattle.module_text.specs.Module.{Item, test, setting, unchanged, exists, local, if_then_else, either, Items, no_items, item, Branches, no_branches, branch}
 
--- no name that is bound is put in for, or read in a tree that is put in; other names are of U
+-- no name that is bound is put in for, or read in a tree that is put in
 abbrev mutual
-  pub ClearItem : Check → Graft → (Word → Type 0) → Item → Type 0
-  ClearItem c g U (test e) = Every (ClearForm c g U) e
-  ClearItem c g U (setting x e) = Every (ClearForm c g U) e
-  ClearItem c g U (unchanged xs) = Unit {0}
-  ClearItem c g U (exists x e is) = Every (ClearForm c g U) e × Clear c g x × ClearItems c g U is
-  ClearItem c g U (local x e is) = Every (ClearForm c g U) e × Clear c g x × ClearItems c g U is
-  ClearItem c g U (if_then_else e a b) = Every (ClearForm c g U) e × ClearItems c g U a × ClearItems c g U b
-  ClearItem c g U (either bs) = ClearBranches c g U bs
+  pub ClearItem : Check → Graft → Item → Type 0
+  ClearItem c g (test e) = Every (BindsClear c g) e
+  ClearItem c g (setting x e) = Every (BindsClear c g) e
+  ClearItem c g (unchanged xs) = Unit {0}
+  ClearItem c g (exists x e is) = Every (BindsClear c g) e × Clear c g x × ClearItems c g is
+  ClearItem c g (local x e is) = Every (BindsClear c g) e × Clear c g x × ClearItems c g is
+  ClearItem c g (if_then_else e a b) = Every (BindsClear c g) e × ClearItems c g a × ClearItems c g b
+  ClearItem c g (either bs) = ClearBranches c g bs
 
-  pub ClearItems : Check → Graft → (Word → Type 0) → Items → Type 0
-  ClearItems c g U no_items = Unit {0}
-  ClearItems c g U (item i is) = ClearItem c g U i × ClearItems c g U is
+  pub ClearItems : Check → Graft → Items → Type 0
+  ClearItems c g no_items = Unit {0}
+  ClearItems c g (item i is) = ClearItem c g i × ClearItems c g is
 
-  pub ClearBranches : Check → Graft → (Word → Type 0) → Branches → Type 0
-  ClearBranches c g U no_branches = Unit {0}
-  ClearBranches c g U (branch is bs) = ClearItems c g U is × ClearBranches c g U bs
+  pub ClearBranches : Check → Graft → Branches → Type 0
+  ClearBranches c g no_branches = Unit {0}
+  ClearBranches c g (branch is bs) = ClearItems c g is × ClearBranches c g bs
 
 -- no form that is tested for its members without being listed, or whose meaning is a name's or an operator's
 abbrev pub StrictListed : Strict → Type 0

@@ -13,7 +13,7 @@ use Rattle.action_builder.specs.laws.Settling.{Callable}
 use Rattle.tla_value.specs.laws.Places.{AgreeButPlaces}
 use Rattle.action_builder.specs.laws.Scopes.{StandsAtPath, Inner}
 
--- pc, the stack and the variables of p stand at the process's identifier, and Head and Tail are those of Sequences
+-- pc, the stack and the variables of p are at the process's identifier, and Head and Tail are those of Sequences
 pub record RoutineStands (P : Program) (v : Actor) (p : Routine) (sc : Scope) : Type 0 where
   pub pc : StandsAtPath sc (index v.self) pc
   pub stack : StandsAtPath sc (index v.self) stack
@@ -42,7 +42,7 @@ fitting P (Some p) ts = as_many (written_all P p p.params) ts
 abbrev pub callable : Program → Callable
 callable P p ts = fitting P (named p.word (procedure_routines P.algorithm)) ts
 
--- the variables of the routine and of each procedure stand at the process's identifier, and initial values are written as they are
+-- the variables of the routine and of each procedure are at the process's identifier, and initial values are written as they are
 pub record RoutinesStand (P : Program) (v : Actor) (u : Routine) (I : InitialValues) (sc : Scope) : Type 0 where
   pub own : RoutineStands P v u sc
   pub called : (x : Word) (p : Routine) → named x (procedure_routines P.algorithm) ≡ Some p → RoutineStands P v p sc

@@ -19,7 +19,6 @@ use Rattle.action_builder.specs.laws.Settling.{Callable, Tidy, DoesAsRules}
 use Rattle.action_builder.specs.laws.Ready.{Readable, unlimited, Ready}
 use Rattle.action_builder.specs.Written.{write}
 use Rattle.action_builder.specs.Prepared.{prepared, none, action_items}
-use Rattle.tla_value.specs.laws.FreeNames.{Any}
 
 -- ---- steps
 
@@ -52,7 +51,7 @@ pub record Prepares (M : Rules) (d : LabelStep) : Type 0 where
   pub free : AnyPlace d.scope
   pub does : DoesAsRules M d.jumps (Inner d.names (own_scope M.check d.self d.own d.scope)) (In d.names) d.callable
   pub tidy : Tidy (In d.names) d.callable d.statements
-  pub clean : Clean M.check (owned d.self d.own) Any (settled d.jumps d.here d.exit d.statements)
+  pub clean : Clean M.check (owned d.self d.own) (settled d.jumps d.here d.exit d.statements)
 
 -- its jumps and variables can be written out
 abbrev pub IsPrepared : LabelStep → Type 0
@@ -64,7 +63,7 @@ IsReady U vs env A d = Ready U vs A (prepared_of d) d.scope env
 
 -- ---- what it ends in
 
--- an outcome of the statements as they stand, by the rules M, in the process's own scope
+-- an outcome of the statements as they are, by the rules M, in the process's own scope
 abbrev pub Stepped : Rules → LabelStep → State → Outcome State → Type 0
 Stepped M d s r = Has (run M d.here d.statements (own_scope M.check d.self d.own d.scope) (exit_to M d.exit) s) r
 

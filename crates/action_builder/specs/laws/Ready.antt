@@ -2,11 +2,12 @@
 use Rattle.std.specs.Prelude.{◌≡◌, List, [], Bool, true, false, cond, codes, Some, None, Ok}
 use Rattle.tla_token.specs.Signs.{is_among}
 use Rattle.tla_token.specs.declared.place.Place.{Place}
-use Rattle.tla_expr.specs.Tree.{Word, apply, select, Form, name, strict, next, Tree, node, Trees, no_trees, tree, Each, Every, binders}
+use Rattle.tla_expr.specs.Tree.{Word, apply, select, Form, name, strict, Tree, node, Trees, no_trees, tree, Every}
 use Rattle.tla_value.specs.Stops.{plain}
 use Rattle.tla_value.specs.Standard.{printed, asserted, standard_sense}
 use Rattle.tla_value.specs.Meaning.{Env, just}
-use Rattle.tla_value.specs.laws.Grafting.{Uses, In}
+use Rattle.tla_value.specs.laws.Grafting.{In, BindsNone, IsUnprimed}
+use Rattle.tla_value.specs.laws.FreeNames.{FreeNames}
 use Rattle.tla_value.specs.Definitions.{Valuation}
 use Rattle.module_text.specs.Module.{Items}
 use Rattle.module_text.specs.ActionTruth.{Verdict, items_hold}
@@ -94,16 +95,9 @@ abbrev mutual
 
 -- ---- what expressions read
 
-abbrev pub NoNext : Form → Type 0
-NoNext (next x) = ⊥
-NoNext _ = Unit {0}
-
--- the form binds no name of A, reads only names of U, and is no primed name
-abbrev pub Plain : Names → (Word → Type 0) → Form → Place → Type 0
-Plain A U m at = Each (λ x. A x ≡ false) (binders m) × Uses U m × NoNext m
-
+-- the expression binds no name of A, has no primed name, and reads only names that may be read free
 abbrev pub FineTree : Readable → Names → Tree → Type 0
-FineTree U A e = Every (Plain A (In (U A))) e
+FineTree U A e = Every (BindsNone A) e × Every IsUnprimed e × FreeNames (In (U A)) (In (U A)) e
 
 abbrev pub FineSides : Readable → Names → Assignments → Type 0
 FineSides U A no_assignments = Unit {0}

@@ -1,18 +1,19 @@
--- A step with a macro call, an assignment to a variable of the process, a jump and a call, to which all laws apply:
+-- A step with a macro call, an assignment to a variable of the process, a bound name in an `await`, a jump and a call, to which all laws apply:
 --   variables x = 0;  macro inc(n) begin n := n + 1; end macro;
 --   procedure P(a = 0) variable b = 1; begin C: return; end procedure;
---   process Q \in {"me"} variable y = 0; begin A: inc(x); y := x; if x > 1 then goto A; else call P(y); end if; B: skip; end process;
+--   process Q \in {"me"} variable y = 0; begin A: inc(x); y := x; await \E i \in {2, 3}: i > x; if x > 1 then goto A; else call P(y); end if; B: skip; end process;
 use Rattle.std.specs.Prelude.{ℕ, List, [], ◌∷◌, Bool, true, false, codes, Some, None, Ok}
+use Rattle.tla_expr.specs.declared.op.Binder.TheVariants.{Exists}
 use Rattle.tla_expr.specs.declared.op.Op.{Op}
 use Rattle.tla_expr.specs.declared.op.Op.TheVariants.{Plus, Greater}
-use Rattle.tla_expr.specs.Tree.{Word, number, string, set_of, name, strict, operator, Tree, node, no_trees, tree}
+use Rattle.tla_expr.specs.Tree.{Word, number, string, set_of, name, strict, operator, binding, Tree, node, no_trees, tree}
 use Rattle.tla_value.specs.Value.{Value, text}
 use Rattle.tla_value.specs.Stops.{plain}
 use Rattle.tla_value.specs.Standard.{standard_of, standard_called}
 use Rattle.tla_value.specs.Meaning.{Env, just, bind}
 use Rattle.pcal_tree.specs.declared.mark.Mark.TheVariants.{Plain}
 use Rattle.pcal_tree.specs.declared.mark.Fairness.TheVariants.{Unfair}
-use Rattle.pcal_tree.specs.Algorithm.{nowhere, Name, Span, no_assignments, assignment, Statement, assign, skip, branch, goto, macro, call, return, Statements, done, then, mark, equals, Declaration, Macro, Procedure, Process, processes, Routine, Algorithm, process_routine, Naming}
+use Rattle.pcal_tree.specs.Algorithm.{nowhere, Name, Span, no_assignments, assignment, Statement, assign, await, skip, branch, goto, macro, call, return, Statements, done, then, mark, equals, Declaration, Macro, Procedure, Process, processes, Routine, Algorithm, process_routine, Naming}
 use Rattle.pcal_tree.specs.Scope.{State, Scope, bound}
 use Rattle.pcal_tree.specs.Program.{Program, Actor}
 use Rattle.pcal_tree.specs.Variables.{pc, stack}
@@ -42,6 +43,10 @@ over o a b = node (strict (operator o)) nowhere (tree a (tree b no_trees))
 abbrev pub no_span : Span
 no_span = record { first = nowhere; last = nowhere }
 
+-- \E i \in {2, 3}: i > x
+abbrev larger : Tree
+larger = node (binding Exists ((title (codes "i") ∷ []) ∷ [])) nowhere (tree (node (strict set_of) nowhere (tree (num 2) (tree (num 3) no_trees))) (tree (over Greater (var (codes "i")) (var (codes "x"))) no_trees))
+
 abbrev and_next : Statement → Statements → Statements
 and_next st rest = then no_span st rest
 
@@ -59,8 +64,9 @@ abbrev pub unexpanded : Statements
 unexpanded =
     and_next (macro (codes "inc") (tree (var (codes "x")) no_trees)) (
     and_next (sets (codes "y") (var (codes "x"))) (
+    and_next (await larger) (
     and_next (branch (over Greater (var (codes "x")) (num 1)) (and_next (goto (codes "A")) done) (and_next (call (title (codes "P")) (tree (var (codes "y")) no_trees)) done)) (
-    mark (title (codes "B")) Plain (and_next skip done))))
+    mark (title (codes "B")) Plain (and_next skip done)))))
 
 abbrev declares : Word → ℕ → Declaration
 declares w k = record { name = title w; start = equals (num k) }

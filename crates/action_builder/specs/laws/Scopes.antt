@@ -18,11 +18,11 @@ part_at x path = record { variable = x; path = path }
 abbrev pub IsPlain : Names → Scope → Type 0
 IsPlain V sc = (x : Word) → V x ≡ true → (at : Place) (s : State) → sc.part x at s ≡ Ok (part_at x [])
 
--- a variable stands at a path
+-- a variable is at a path
 abbrev pub StandsAtPath : Scope → List Value → Word → Type 0
 StandsAtPath sc path x = (at : Place) (s : State) → (sc.part x at s ≡ Ok (part_at x path)) × ((sc.env s).now x at ≡ sense_of (read_at at path (s x)))
 
--- the scope in which the process's own variables stand at its identifier
+-- the scope in which the process's own variables are at its identifier
 abbrev pub own_scope : Check → Word → (Word → Bool) → Scope → Scope
 own_scope c self own sc = through c (owned self own) sc
 

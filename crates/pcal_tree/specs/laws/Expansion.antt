@@ -5,7 +5,7 @@ use Rattle.tla_token.specs.declared.place.Place.{Place}
 use Rattle.tla_expr.specs.Tree.{Word, Form, Tree, Trees, Every, EveryOf, Graft}
 use Rattle.tla_value.specs.Value.{Value}
 use Rattle.tla_value.specs.Stops.{Check}
-use Rattle.tla_value.specs.laws.Grafting.{Clear, ClearForm, Apart, ApartForm}
+use Rattle.tla_value.specs.laws.Grafting.{Clear, BindsClear, Apart, ApartForm}
 use Rattle.pcal_tree.specs.Algorithm.{Assignments, no_assignments, assignment, Binds, no_binds, one_of, is, Statement, assign, await, print, assert, branch, either, with, while, macro, call, Statements, done, then, mark, Branches, no_branches, or, Macro}
 use Rattle.pcal_tree.specs.Scope.{State, Scope, bound, reach}
 use Rattle.pcal_tree.specs.Run.{arguments}
@@ -54,20 +54,20 @@ abbrev mutual
   ThroughoutSome F N (or b bs) = Throughout F N b × ThroughoutSome F N bs
 
 -- no bound name is captured
-abbrev pub CleanAssignments : Check → Graft → (Word → Type 0) → Assignments → Type 0
-CleanAssignments c g U = ThroughoutAssignments (ClearForm c g U)
+abbrev pub CleanAssignments : Check → Graft → Assignments → Type 0
+CleanAssignments c g = ThroughoutAssignments (BindsClear c g)
 
-abbrev pub CleanBinds : Check → Graft → (Word → Type 0) → Binds → Type 0
-CleanBinds c g U = ThroughoutBinds (ClearForm c g U) (ClearName c g)
+abbrev pub CleanBinds : Check → Graft → Binds → Type 0
+CleanBinds c g = ThroughoutBinds (BindsClear c g) (ClearName c g)
 
-abbrev pub CleanOne : Check → Graft → (Word → Type 0) → Statement → Type 0
-CleanOne c g U = ThroughoutOne (ClearForm c g U) (ClearName c g)
+abbrev pub CleanOne : Check → Graft → Statement → Type 0
+CleanOne c g = ThroughoutOne (BindsClear c g) (ClearName c g)
 
-abbrev pub Clean : Check → Graft → (Word → Type 0) → Statements → Type 0
-Clean c g U = Throughout (ClearForm c g U) (ClearName c g)
+abbrev pub Clean : Check → Graft → Statements → Type 0
+Clean c g = Throughout (BindsClear c g) (ClearName c g)
 
-abbrev pub CleanSome : Check → Graft → (Word → Type 0) → Branches → Type 0
-CleanSome c g U = ThroughoutSome (ClearForm c g U) (ClearName c g)
+abbrev pub CleanSome : Check → Graft → Branches → Type 0
+CleanSome c g = ThroughoutSome (BindsClear c g) (ClearName c g)
 
 -- the part that a name is does not rest on its place
 abbrev pub AnyPlace : Scope → Type 0

@@ -2,7 +2,7 @@
 use Rattle.std.specs.Prelude.{◌≡◌, ℕ, List, [], ◌++◌, Option, map}
 use Rattle.std.specs.Option.{option_map}
 use Rattle.tla_expr.specs.Tree.{Name}
-use Rattle.tla_expr.specs.Lexical.{ExprToken}
+use Rattle.tla_expr.specs.Lexical.{TokenView}
 use Rattle.tla_expr.specs.laws.Columns.{looks, lineless_place, lineless, lineless_all}
 use Rattle.pcal_tree.specs.GrammarParts as part
 use Rattle.pcal_tree.specs.GrammarP as psyntax
@@ -10,8 +10,8 @@ use Rattle.pcal_tree.specs.GrammarC as csyntax
 use Rattle.pcal_tree.specs.Grammar as g
 
 -- tokens of these kinds in these columns begin an algorithm
-abbrev pub Begins : g.Syntax → List (ExprToken × ℕ) → Type 0
-Begins s ks = (x : g.Text) × (more : List (ExprToken × ℕ)) × g.Good s x × (looks (g.spell x []) ≡ ks ++ more)
+abbrev pub Begins : g.Syntax → List (TokenView × ℕ) → Type 0
+Begins s ks = (x : g.Text) × (more : List (TokenView × ℕ)) × g.Good s x × (looks (g.spell x []) ≡ ks ++ more)
 
 -- ---- an algorithm as it is spelled, without its lines
 

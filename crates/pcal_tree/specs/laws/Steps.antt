@@ -8,7 +8,7 @@ use Rattle.pcal_tree.specs.Program.{Program, Actor}
 use Rattle.pcal_tree.specs.Processes.{OneOf}
 use Rattle.pcal_tree.specs.Step.{Stand, StandsAt}
 
--- the process stands at one place, as where written labels are apart
+-- the process is at one place, as where written labels are apart
 abbrev pub StandsOnce : Program → State → Actor → Type 0
 StandsOnce P s v = (d e : Stand) → StandsAt P s v d → StandsAt P s v e → d ≡ e
 

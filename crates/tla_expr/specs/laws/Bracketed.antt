@@ -1,4 +1,4 @@
--- The phrase that the text of a tree spells: brackets stand where they are written.
+-- The phrase that the text of a tree spells: brackets are where they are written.
 use Rattle.std.specs.Prelude.{Bool, true, false, List, [], ◌∷◌}
 pub use Rattle.tla_token.specs.Places.{nowhere}
 use Rattle.tla_expr.specs.declared.op.Op.{Op}
@@ -8,7 +8,7 @@ use Rattle.tla_expr.specs.declared.op.Binder.TheVariants as binder
 use Rattle.tla_expr.specs.Tree.{Word, Name, PathStep, Slot, Strict, Form, Tree, Trees, node, no_trees, tree}
 use Rattle.tla_expr.specs.Tree as tree
 use Rattle.tla_token.specs.Words.{is_pluscal_word}
-use Rattle.tla_expr.specs.Lexical.{ExprToken, Token}
+use Rattle.tla_expr.specs.Lexical.{TokenView, Token}
 use Rattle.tla_expr.specs.Lexical as tk
 use Rattle.tla_expr.specs.Spelling.{Phrase, Phrases, Binds, Fields, Settings, Path, Arms, Locals, Field}
 use Rattle.tla_expr.specs.Spelling as spelled
@@ -177,11 +177,11 @@ abbrev pub phrase_of : Tree → Phrase
 phrase_of t = plain (part t)
 
 -- what is read of tokens, and of pieces
-abbrev pub kinds : List Token → List ExprToken
+abbrev pub kinds : List Token → List TokenView
 kinds [] = []
 kinds (t ∷ ts) = t.kind ∷ kinds ts
 
-abbrev pub tokens_of : List Piece → List ExprToken
+abbrev pub tokens_of : List Piece → List TokenView
 tokens_of [] = []
 tokens_of (blank ∷ ps) = tokens_of ps
 tokens_of (token k ∷ ps) = k ∷ tokens_of ps

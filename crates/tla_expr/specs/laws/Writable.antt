@@ -6,8 +6,8 @@ use Rattle.tla_token.specs.Words.{is_reserved, is_tla_word}
 use Rattle.tla_token.specs.Lexemes.{Kind, IsName, IsLexeme}
 use Rattle.tla_expr.specs.Tree.{Word, PathStep, index, field, Slot, Strict, fields, records, select, except, Form, string, name, next, strict, operator_call, binders, Each, Tree, Trees, node, no_trees, tree}
 use Rattle.tla_expr.specs.Shapes.{Shaped}
-use Rattle.tla_expr.specs.Lexical.{ExprToken, token_text}
-use Rattle.tla_expr.specs.ExprTokens.{kind_of}
+use Rattle.tla_expr.specs.Lexical.{TokenView, token_text}
+use Rattle.tla_expr.specs.TokenViews.{kind_of}
 use Rattle.tla_expr.specs.Written.{Piece, blank, token}
 
 -- a name that is not reserved
@@ -18,7 +18,7 @@ IsIdentifier x = IsName x × IsTrue (not (is_reserved x))
 abbrev pub IsField : Word → Type 0
 IsField x = IsName x × IsTrue (not (is_tla_word x))
 
--- a character that stands in a string by itself or by an escape
+-- a character that is in a string by itself or by an escape
 abbrev pub is_spellable : ℕ → Bool
 is_spellable b = (nat_le 32 b && nat_le b 126) || (nat_eq b 9 || (nat_eq b 10 || (nat_eq b 12 || nat_eq b 13)))
 
@@ -62,7 +62,7 @@ abbrev mutual
 
 -- ---- what is written
 -- its text is that of a token of a text, which expressions see as this one
-abbrev pub IsSpelled : ExprToken → Type 0
+abbrev pub IsSpelled : TokenView → Type 0
 IsSpelled k = (l : Kind) × IsLexeme l (token_text k) × (kind_of l ≡ k)
 
 abbrev pub AreSpelled : List Piece → Type 0

@@ -1,19 +1,13 @@
 -- When trees may be put in for names: which names a tree binds, and which are free in what is put in.
 use Rattle.std.specs.Prelude.{◌≡◌, List, [], ◌∷◌, Bool, true, false, bytes_eq, Option, Some, None}
 use Rattle.tla_token.specs.declared.place.Place.{Place}
-use Rattle.tla_expr.specs.Tree.{Word, Form, name, operator_call, Tree, Each, binders, Graft}
+use Rattle.tla_expr.specs.Tree.{Word, Form, next, Tree, Each, binders, Graft}
 use Rattle.tla_value.specs.Value.{Value}
 use Rattle.tla_value.specs.Stops.{Check}
 use Rattle.tla_value.specs.Meaning.{Env, bind, eval}
 use Rattle.tla_value.specs.Grafts.{Arguments}
 use Rattle.tla_value.specs.Definitions.{Definition}
 use Rattle.tla_value.specs.laws.FreeNames.{Also, FreeNames, NotFree}
-
--- the names and operators that a form reads, but for primed names, are among U
-abbrev pub Uses : (Word → Type 0) → Form → Type 0
-Uses U (name x) = U x
-Uses U (operator_call x) = U x
-Uses U _ = Unit {0}
 
 abbrev pub NotFreeIn : Word → Option Tree → Type 0
 NotFreeIn x (Some t) = NotFree x t
@@ -62,7 +56,7 @@ Given None = ⊥
 abbrev pub In : (Word → Bool) → Word → Type 0
 In u x = u x ≡ true
 
--- a tree that may stand where x is bound
+-- a tree that may be where x is bound
 abbrev pub Unread : Check → Word → Option Tree → Type 0
 Unread c x (Some t) = (v : Value) (e : Env) → eval c t e ≡ eval c t (bind x v e)
 Unread c x None = Unit {0}
@@ -72,5 +66,11 @@ pub record Clear (c : Check) (g : Graft) (x : Word) : Type 0 where
   pub left : (at : Place) → g x at ≡ None
   pub unread : (y : Word) (at : Place) → Unread c x (g y at)
 
-abbrev pub ClearForm : Check → Graft → (Word → Type 0) → Form → Place → Type 0
-ClearForm c g U m at = Each (Clear c g) (binders m) × Uses U m
+-- the bound names of a form are clear
+abbrev pub BindsClear : Check → Graft → Form → Place → Type 0
+BindsClear c g m at = Each (Clear c g) (binders m)
+
+-- the form is no primed name
+abbrev pub IsUnprimed : Form → Place → Type 0
+IsUnprimed (next x) at = ⊥
+IsUnprimed _ at = Unit {0}

@@ -1,4 +1,4 @@
--- Look-ups in ascending lists: by comparison, and no further than the place where the value would stand.
+-- Look-ups in ascending lists: by comparison, and no further than the place where the value would be.
 use Rattle.std.specs.Prelude.{Bool, true, false, Option, Some, None}
 use Rattle.std.specs.declared.cmp.Ordering.{Ordering}
 use Rattle.std.specs.declared.cmp.Ordering.TheVariants.{Less, Equal, Greater}

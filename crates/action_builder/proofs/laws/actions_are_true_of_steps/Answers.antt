@@ -1,3 +1,4 @@
+-- Proves the law `actions_are_true_of_steps`.
 use Rattle.action_builder.proofs.Label.{action_exactly, action_leads, leads_action, action_stops}
 use Rattle.action_builder.proofs.laws.actions_are_true_of_steps.Goals as goal
 

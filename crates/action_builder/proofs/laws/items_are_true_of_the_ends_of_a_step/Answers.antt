@@ -1,3 +1,4 @@
+-- Proves the law `items_are_true_of_the_ends_of_a_step`.
 use Rattle.action_builder.specs.laws.LabelSteps.{prepared_of}
 use Rattle.action_builder.proofs.Steps.{step_exactly, step_fits, fits_step, step_stops}
 use Rattle.action_builder.proofs.Items.{items_read}

@@ -1,3 +1,4 @@
+-- Proves the law `own_variables_stand_at_the_identifier`.
 use Rattle.action_builder.proofs.Prepared.{localised, own_stands}
 use Rattle.action_builder.proofs.laws.own_variables_stand_at_the_identifier.Goals as goal
 

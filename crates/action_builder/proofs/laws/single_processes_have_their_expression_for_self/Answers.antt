@@ -1,3 +1,4 @@
+-- Proves the law `single_processes_have_their_expression_for_self`.
 use Rattle.action_builder.proofs.SingleProcess.{single_law, means_value}
 use Rattle.action_builder.proofs.laws.single_processes_have_their_expression_for_self.Goals as goal
 

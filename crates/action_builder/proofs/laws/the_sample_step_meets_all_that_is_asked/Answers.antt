@@ -1,3 +1,4 @@
+-- Proves the law `the_sample_step_meets_all_that_is_asked`.
 use Rattle.action_builder.proofs.Witness.{sample_calls, sample_bare, within, prepared, ready}
 use Rattle.action_builder.proofs.laws.the_sample_step_meets_all_that_is_asked.Goals as goal
 

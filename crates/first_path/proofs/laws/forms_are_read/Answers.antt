@@ -1,3 +1,4 @@
+-- Proves the law `forms_are_read`.
 use Rattle.first_path.proofs.FormExact.{form_found, form_read}
 use Rattle.first_path.proofs.laws.forms_are_read.Goals as goal
 

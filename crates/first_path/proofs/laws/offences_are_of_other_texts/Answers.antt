@@ -1,3 +1,4 @@
+-- Proves the law `offences_are_of_other_texts`.
 use Rattle.first_path.proofs.FormExact.{form_read}
 use Rattle.first_path.proofs.Promise.{no_offence, other_refused}
 use Rattle.first_path.proofs.laws.offences_are_of_other_texts.Goals as goal

@@ -1,3 +1,4 @@
+-- Proves the law `some_module_steps`.
 use Rattle.first_path.proofs.Witness.{form_worked, constants_worked, first_state, last_state, begins_worked, never_fault_worked, never_fault_at_last, not_at_last, steps_worked, first_sound, last_sound, still_worked, not_idle}
 use Rattle.first_path.proofs.laws.some_module_steps.Goals as goal
 

@@ -1,3 +1,4 @@
+-- Proves the law `translations_keep_the_promise`.
 use Rattle.first_path.proofs.Promise.{promise}
 use Rattle.first_path.proofs.ReadsModule.{reads}
 use Rattle.first_path.proofs.Stands.{stands}

@@ -1,3 +1,4 @@
+-- Proves the law `a_text_is_one_module`.
 use Rattle.module_text.proofs.OneModule.{one_module}
 use Rattle.module_text.proofs.laws.a_text_is_one_module.Goals as goal
 

@@ -1,3 +1,4 @@
+-- Proves the law `files_have_one_place`.
 use Rattle.module_text.proofs.OnePlace.{one_around, one_swapped}
 use Rattle.module_text.proofs.laws.files_have_one_place.Goals as goal
 

@@ -1,3 +1,4 @@
+-- Proves the law `tokens_are_one_unit`.
 use Rattle.module_text.proofs.OneUnit.{one_unit}
 use Rattle.module_text.proofs.laws.tokens_are_one_unit.Goals as goal
 

@@ -1,3 +1,4 @@
+-- Proves the law `units_are_of_one_region`.
 use Rattle.module_text.proofs.OneRegion.{one_region}
 use Rattle.module_text.proofs.laws.units_are_of_one_region.Goals as goal
 

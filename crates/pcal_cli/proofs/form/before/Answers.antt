@@ -1,3 +1,4 @@
+-- Proves what is asked of `before`.
 use Rattle.std.proofs.lemmas.Bool.Decides.{Decides-eqb}
 use Rattle.std.proofs.lemmas.Slice.Eq.{strip_suffix_is}
 use Rattle.pcal_cli.proofs.Ends.{before_from}

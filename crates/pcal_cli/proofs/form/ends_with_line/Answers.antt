@@ -1,3 +1,4 @@
+-- Proves what is asked of `ends_with_line`.
 use Rattle.pcal_cli.proofs.Ends.{line_ends}
 use Rattle.pcal_cli.proofs.form.ends_with_line.Goals as goal
 

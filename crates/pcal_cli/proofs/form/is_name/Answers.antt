@@ -1,3 +1,4 @@
+-- Proves what is asked of `is_name`.
 use Rattle.std.proofs.Common.{refl, nat_eq, ◌≡◌, length, true, false, ap, sym, ◌∙◌, eq-eqb}
 use Rattle.std.specs.List.{list_all}
 use Rattle.std.proofs.lemmas.Bool.{ne_eqb}

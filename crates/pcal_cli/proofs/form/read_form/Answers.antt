@@ -1,3 +1,4 @@
+-- Proves what is asked of `read_form`.
 use Rattle.std.proofs.Common.{rules, ◌≡◌, Option, Some, None, MatchOption, subst, sym, ◌∙◌}
 use Rattle.first_path.specs.Form.{Parts}
 use Rattle.pcal_cli.specs.declared.form.Form.{Form}

@@ -1,3 +1,4 @@
+-- Proves what is asked of `token_at`.
 use Rattle.std.proofs.Common.{sym, ◌∙◌}
 use Rattle.pcal_cli.proofs.Scanning.{mark_within, token_marked}
 use Rattle.pcal_cli.proofs.form.token_at.Goals as goal

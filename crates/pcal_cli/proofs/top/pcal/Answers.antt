@@ -1,3 +1,4 @@
+-- Proves what is asked of `pcal`.
 use Rattle.pcal_cli.proofs.top.pcal.Goals.{in-Some, in-None}
 use Rattle.pcal_cli.proofs.top.pcal.Goals as goal
 

@@ -1,3 +1,4 @@
+-- Proves what is asked of `put_three`.
 use Rattle.std.proofs.Common.{append_assoc}
 use Rattle.std.proofs.lemmas.Result.{err_from_is_err_and}
 use Rattle.pcal_cli.proofs.ErrorLine.{part_two, part_three}

@@ -1,3 +1,4 @@
+-- Proves what is asked of `tell`.
 use Rattle.pcal_cli.proofs.ErrorLine.{refused_is, refused_in_part}
 use Rattle.pcal_cli.proofs.top.tell.Goals as goal
 

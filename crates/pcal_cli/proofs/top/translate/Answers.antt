@@ -1,3 +1,4 @@
+-- Proves what is asked of `translate`.
 use Rattle.pcal_cli.specs.FirstPathBytes.{parts_of}
 use Rattle.pcal_cli.proofs.Told.{found, missing, refused, not_lacking, writes, writes_in_part, keeps_written, unoffending, unlong}
 use Rattle.pcal_cli.proofs.top.translate.Goals as goal

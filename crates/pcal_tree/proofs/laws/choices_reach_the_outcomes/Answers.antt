@@ -1,3 +1,4 @@
+-- Proves the law `choices_reach_the_outcomes`.
 use Rattle.pcal_tree.proofs.Choices.{walk_has, has_walk}
 use Rattle.pcal_tree.proofs.laws.choices_reach_the_outcomes.Goals as goal
 

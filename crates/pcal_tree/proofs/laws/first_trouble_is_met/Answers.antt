@@ -1,3 +1,4 @@
+-- Proves the law `first_trouble_is_met`.
 use Rattle.pcal_tree.proofs.Choices.{first_has, none_has}
 use Rattle.pcal_tree.proofs.laws.first_trouble_is_met.Goals as goal
 

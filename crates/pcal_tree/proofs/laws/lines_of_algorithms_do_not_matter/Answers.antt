@@ -1,3 +1,4 @@
+-- Proves the law `lines_of_algorithms_do_not_matter`.
 use Rattle.pcal_tree.proofs.LinesGood.{spelled_again, begins, begun}
 use Rattle.pcal_tree.proofs.laws.lines_of_algorithms_do_not_matter.Goals as goal
 

@@ -1,3 +1,4 @@
+-- Proves the law `macros_are_looked_at_once`.
 use Rattle.pcal_tree.specs.OffencesSteps.{call_effect}
 use Rattle.pcal_tree.specs.laws.MacroSummaries.{summaries, summary_effect}
 use Rattle.pcal_tree.proofs.SetLaws.{among_same}

@@ -1,3 +1,4 @@
+-- Proves the law `processes_stand_at_one_label`.
 use Rattle.pcal_tree.proofs.OneStand.{stands_once}
 use Rattle.pcal_tree.proofs.ClearLabels.{clear_labels}
 use Rattle.pcal_tree.proofs.LabelledClear.{labelled_clear}

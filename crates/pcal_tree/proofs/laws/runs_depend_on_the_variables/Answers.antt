@@ -1,3 +1,4 @@
+-- Proves the law `runs_depend_on_the_variables`.
 use Rattle.std.proofs.Common.{sym, ◌∙◌}
 use Rattle.tla_value.specs.Value.{fault}
 use Rattle.pcal_tree.proofs.SameSteps.{step_same, stutters_same, trouble_same, sound_same, first_trouble_same, run_same}

@@ -1,3 +1,4 @@
+-- Proves the law `scripts_make_steps`.
 use Rattle.std.proofs.Common.{ap, Ok}
 use Rattle.pcal_tree.specs.Step.{course_of}
 use Rattle.pcal_tree.specs.laws.Choosing.{told}

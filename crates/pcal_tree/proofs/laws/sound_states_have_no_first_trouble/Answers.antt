@@ -1,3 +1,4 @@
+-- Proves the law `sound_states_have_no_first_trouble`.
 use Rattle.pcal_tree.proofs.TroubleLaws.{sound_quiet, quiet_sound}
 use Rattle.pcal_tree.proofs.laws.sound_states_have_no_first_trouble.Goals as goal
 

@@ -1,3 +1,4 @@
+-- Proves the law `uses_in_macros_are_looked_at_once`.
 use Rattle.pcal_tree.specs.OffencesNames.{use_offences_by, use_offences_of}
 use Rattle.pcal_tree.specs.laws.MacroUses.{macro_uses, offences_by_uses}
 use Rattle.std.specs.Prelude.{reverse}

@@ -1,3 +1,4 @@
+-- Proves the law `written_names_are_apart`.
 use Rattle.pcal_tree.specs.Names.{taken_at_start, wanted}
 use Rattle.pcal_tree.proofs.FreeNames.{given_apart, given_untaken}
 use Rattle.pcal_tree.proofs.FreeWords.{given_free}

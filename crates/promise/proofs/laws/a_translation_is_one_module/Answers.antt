@@ -1,3 +1,4 @@
+-- Proves the law `a_translation_is_one_module`.
 use Rattle.std.proofs.Common.{sym}
 use Rattle.promise.proofs.laws.a_translation_is_one_module.Goals as goal
 

@@ -1,3 +1,4 @@
+-- What the loop of `copied_groups` keeps.
 use Rattle.std.proofs.Common.{◌≡◌, take}
 use Rattle.tla_expr.specs.FormOf.{groups_of}
 use Rattle.tla_expr.proofs.form.copied_groups.Given as goal

@@ -1,3 +1,4 @@
+-- What the loop of `copied_names` keeps.
 use Rattle.std.proofs.Common.{◌≡◌, take}
 use Rattle.tla_expr.proofs.form.copied_names.Given as goal
 

@@ -1,3 +1,4 @@
+-- What the loop of `copied_slots` keeps.
 use Rattle.std.proofs.Common.{◌≡◌, take}
 use Rattle.tla_expr.specs.FormOf.{slots_of}
 use Rattle.tla_expr.proofs.form.copied_slots.Given as goal

@@ -1,3 +1,4 @@
+-- What the loop of `copied_steps` keeps.
 use Rattle.std.proofs.Common.{◌≡◌, take}
 use Rattle.tla_expr.specs.FormOf.{steps_of}
 use Rattle.tla_expr.proofs.form.copied_steps.Given as goal

@@ -1,3 +1,4 @@
+-- Proves what is asked of `grafted`.
 use Rattle.std.proofs.Common.{arith}
 use Rattle.std.proofs.lemmas.Grind.{common_steps}
 use Rattle.tla_expr.proofs.TreeLemmas.{grafts_from}

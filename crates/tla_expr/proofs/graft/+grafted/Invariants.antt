@@ -1,3 +1,4 @@
+-- What the loop of `grafted` keeps.
 use Rattle.std.proofs.Common.{◌≡◌, take, map}
 use Rattle.tla_expr.specs.Tree.{graft}
 use Rattle.tla_expr.proofs.graft.+grafted.Given as goal

@@ -1,3 +1,4 @@
+-- Proves the law `expressions_are_spelled_in_one_way`.
 use Rattle.tla_expr.proofs.ReadAll.{one_phrase, one_tree}
 use Rattle.tla_expr.proofs.laws.expressions_are_spelled_in_one_way.Goals as goal
 

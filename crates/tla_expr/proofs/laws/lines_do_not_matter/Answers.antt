@@ -1,3 +1,4 @@
+-- Proves the law `lines_do_not_matter`.
 use Rattle.tla_expr.proofs.Columns.{spelled_again, read_again, begins, begun}
 use Rattle.tla_expr.proofs.ColumnsGood.{good_same}
 use Rattle.tla_expr.proofs.laws.lines_do_not_matter.Goals as goal

@@ -1,3 +1,4 @@
+-- Proves the law `reading_is_exact`.
 use Rattle.tla_expr.proofs.ReadAll.{spelled_is_read}
 use Rattle.tla_expr.proofs.SoundLists.{read_is_spelled}
 use Rattle.tla_expr.proofs.laws.reading_is_exact.Goals as goal

@@ -1,3 +1,4 @@
+-- Proves the law `trees_are_written_in_tokens`.
 use Rattle.tla_expr.proofs.Operands.{operand_primary}
 use Rattle.tla_expr.proofs.SpelledTrees.{written_is_spelled}
 use Rattle.tla_expr.proofs.WrittenPhrase.{written_phrase}

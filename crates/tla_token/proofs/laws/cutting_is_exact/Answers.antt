@@ -1,3 +1,4 @@
+-- Proves the law `cutting_is_exact`.
 use Rattle.tla_token.proofs.Parted.{cut_back}
 use Rattle.tla_token.proofs.Cutting.{cut_fits}
 use Rattle.tla_token.proofs.laws.cutting_is_exact.Goals as goal

@@ -1,3 +1,4 @@
+-- Proves the law `refusals_are_cut`.
 use Rattle.tla_token.proofs.Unique.{offends_parts, tok_offences}
 use Rattle.tla_token.proofs.Exact.{parts_offend}
 use Rattle.tla_token.proofs.laws.refusals_are_cut.Goals as goal

@@ -1,3 +1,4 @@
+-- Proves the law `tokens_are_cut`.
 use Rattle.tla_token.proofs.Unique.{tok_parts}
 use Rattle.tla_token.proofs.Exact.{parts_tok}
 use Rattle.tla_token.proofs.laws.tokens_are_cut.Goals as goal

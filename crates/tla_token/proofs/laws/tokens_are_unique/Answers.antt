@@ -1,3 +1,4 @@
+-- Proves the law `tokens_are_unique`.
 use Rattle.tla_token.proofs.Unique.{one_list, one_algorithm}
 use Rattle.tla_token.proofs.laws.tokens_are_unique.Goals as goal
 

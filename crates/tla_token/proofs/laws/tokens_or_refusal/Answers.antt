@@ -1,3 +1,4 @@
+-- Proves the law `tokens_or_refusal`.
 use Rattle.tla_token.proofs.Faulty.{either, never_both}
 use Rattle.tla_token.proofs.laws.tokens_or_refusal.Goals as goal
 

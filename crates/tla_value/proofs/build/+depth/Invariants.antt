@@ -1,3 +1,4 @@
+-- What the loop of `depth` keeps.
 use Rattle.std.proofs.Common.{◌≡◌, ◌≤◌, drop}
 use Rattle.std.specs.Prelude.{max}
 use Rattle.tla_value.specs.Value.{values_in}

@@ -1,3 +1,4 @@
+-- Proves what is asked of `at`.
 use Rattle.std.proofs.Common.{◌∙◌, sym, ap, arith, Some}
 use Rattle.tla_value.specs.OrderLaws.{order_equal}
 use Rattle.tla_value.proofs.ValueLists.{count-values_in}

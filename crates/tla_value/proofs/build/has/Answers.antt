@@ -1,3 +1,4 @@
+-- Proves what is asked of `has`.
 use Rattle.std.proofs.Common.{◌∙◌}
 use Rattle.tla_value.proofs.Searched.{held}
 use Rattle.tla_value.proofs.build.has.Goals as goal

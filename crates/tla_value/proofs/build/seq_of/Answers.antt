@@ -1,3 +1,4 @@
+-- Proves what is asked of `seq_of`.
 use Rattle.std.proofs.Common.{refl, Ok, ◌∙◌, sym, arith, ap, subst, pos, length-append, ◌∷◌, ◌++◌, length, [], ◌+◌}
 use Rattle.tla_value.specs.Value.{int, fun, values_in}
 use Rattle.tla_value.specs.Order.{seq_from, numbered}

@@ -1,3 +1,4 @@
+-- What the loop of `seq_of` keeps.
 use Rattle.std.proofs.Common.{◌≡◌, drop, length, suc}
 use Rattle.tla_value.specs.Value.{values_in}
 use Rattle.tla_value.specs.Order.{numbered}

@@ -1,3 +1,4 @@
+-- Proves what is asked of `compare`.
 use Rattle.std.proofs.Common.{arith, sym, ◌∙◌}
 use Rattle.std.proofs.lemmas.Grind.{common_steps}
 use Rattle.tla_value.proofs.ValueLists.{orders-longer, orders-shorter, count-values_in}

@@ -1,3 +1,4 @@
+-- What the loop of `compare` keeps.
 use Rattle.std.proofs.Common.{◌≡◌, drop, ◌≤◌, length}
 use Rattle.tla_value.specs.Value.{values_in}
 use Rattle.tla_value.specs.Order.{orders}

@@ -1,3 +1,4 @@
+-- Proves what is asked of `put`.
 use Rattle.std.proofs.Common.{arith, sym, ap, length}
 use Rattle.tla_value.proofs.ValueLists.{put-less, put-equal, put-greater, put-end}
 use Rattle.tla_value.proofs.compare.put.Goals as goal

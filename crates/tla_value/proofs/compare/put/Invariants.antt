@@ -1,3 +1,4 @@
+-- What the loop of `put` keeps.
 use Rattle.std.proofs.Common.{◌≡◌, drop, take}
 use Rattle.tla_value.specs.Value.{values_in}
 use Rattle.tla_value.specs.Order.{inserted}

@@ -1,3 +1,4 @@
+-- Proves the law `ascending_lists_are_searched_in_order`.
 use Rattle.tla_value.proofs.InOrder.{holds_in_order_is, found_in_order_is}
 use Rattle.tla_value.proofs.laws.ascending_lists_are_searched_in_order.Goals as goal
 

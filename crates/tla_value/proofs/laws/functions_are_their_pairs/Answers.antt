@@ -1,3 +1,4 @@
+-- Proves the law `functions_are_their_pairs`.
 use Rattle.tla_value.proofs.OrderFuns.{fun_from_at, fun_from_canonical}
 use Rattle.tla_value.proofs.laws.functions_are_their_pairs.Goals as goal
 

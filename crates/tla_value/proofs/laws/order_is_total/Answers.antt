@@ -1,3 +1,4 @@
+-- Proves the law `order_is_total`.
 use Rattle.tla_value.specs.OrderLaws.{order_equal, order_total}
 use Rattle.tla_value.proofs.laws.order_is_total.Goals as goal
 

@@ -1,3 +1,4 @@
+-- Proves the law `sets_are_their_members`.
 use Rattle.tla_value.proofs.OrderSets.{same_members, holds_set_from, set_from_ascending}
 use Rattle.tla_value.proofs.laws.sets_are_their_members.Goals as goal
 

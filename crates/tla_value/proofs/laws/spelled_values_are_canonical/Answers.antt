@@ -1,3 +1,4 @@
+-- Proves the law `spelled_values_are_canonical`.
 use Rattle.tla_value.proofs.ValueWithin.{spelled_is_canonical, spelled_fits}
 use Rattle.tla_value.proofs.laws.spelled_values_are_canonical.Goals as goal
 

@@ -1,3 +1,4 @@
+-- Proves the law `grafts_stand_for_names`.
 use Rattle.tla_value.proofs.Graft.{through_law}
 use Rattle.tla_value.proofs.meaning_laws.grafts_stand_for_names.Goals as goal
 

@@ -1,3 +1,4 @@
+-- Proves the law `limits_change_nothing_else`.
 use Rattle.tla_value.proofs.Below.{scope_below, bind_below, through_below, eval_below}
 use Rattle.tla_value.proofs.meaning_laws.limits_change_nothing_else.Goals as goal
 

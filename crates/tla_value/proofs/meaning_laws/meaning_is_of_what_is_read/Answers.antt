@@ -1,3 +1,4 @@
+-- Proves the law `meaning_is_of_what_is_read`.
 use Rattle.tla_value.specs.laws.Grafting.{In}
 use Rattle.tla_value.proofs.FreeNames.{free_names, not_free}
 use Rattle.tla_value.proofs.meaning_laws.meaning_is_of_what_is_read.Goals as goal

@@ -1,3 +1,4 @@
+-- Proves the law `places_matter_to_troubles_alone`.
 use Rattle.tla_value.proofs.Places.{eval_places, plain_places, bounded_places, bind_places, through_places, scope_places}
 use Rattle.tla_value.proofs.meaning_laws.places_matter_to_troubles_alone.Goals as goal
 

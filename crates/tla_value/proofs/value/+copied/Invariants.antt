@@ -1,3 +1,4 @@
+-- What the loop of `copied` keeps.
 use Rattle.std.proofs.Common.{◌≡◌, take}
 use Rattle.tla_value.proofs.value.+copied.Given as goal
 

@@ -1,5 +1,5 @@
--- What the grammars of expressions and of algorithms see of the tokens of a text.
-use Rattle.std.specs.Prelude.{ℕ, List, [], ◌∷◌, Bool, true, false, map, codes, if◌then◌else◌}
+-- What the grammars of expressions, of algorithms and of modules see of the tokens of a text.
+use Rattle.std.specs.Prelude.{List, [], ◌∷◌, true, false, map, codes, if◌then◌else◌}
 use Rattle.std.specs.Str.{bytes_eq}
 use Rattle.tla_token.specs.declared.sign.Sign.{Sign}
 use Rattle.tla_token.specs.declared.sign.Sign.TheVariants as sign
@@ -9,10 +9,10 @@ use Rattle.tla_token.specs.Lexemes as lexeme
 use Rattle.tla_token.specs.Tokens as text
 use Rattle.tla_expr.specs.declared.op.Op.TheVariants as op
 use Rattle.tla_expr.specs.Tree.{Word}
-use Rattle.tla_expr.specs.Lexical.{ExprToken, Token}
+use Rattle.tla_expr.specs.Lexical.{TokenView, Token}
 use Rattle.tla_expr.specs.Lexical as tk
 
-abbrev pub sign_kind : Sign → ExprToken
+abbrev pub sign_kind : Sign → TokenView
 sign_kind sign.MapsTo = tk.mark tk.maps
 sign_kind sign.Equivalent = tk.sign op.Equivalent
 sign_kind sign.Pair = tk.sign op.MapsTo
@@ -62,12 +62,12 @@ sign_kind sign.Parallel = tk.mark tk.beside
 sign_kind sign.Semicolon = tk.mark tk.semicolon
 
 -- the kind of the first word that is w
-abbrev pub kind_among : List (Word × ExprToken) → Word → ExprToken → ExprToken
+abbrev pub kind_among : List (Word × TokenView) → Word → TokenView → TokenView
 kind_among [] w k = k
 kind_among (p ∷ ps) w k = if bytes_eq p.0 w then p.1 else kind_among ps w k
 
--- reserved words of TLA+ that stand in expressions
-abbrev pub word_kinds : List (Word × ExprToken)
+-- reserved words of TLA+ that are in expressions
+abbrev pub word_kinds : List (Word × TokenView)
 word_kinds =
     (codes "IF", tk.key tk.if_key) ∷ (codes "THEN", tk.key tk.then_key) ∷ (codes "ELSE", tk.key tk.else_key)
     ∷ (codes "CASE", tk.key tk.case_key) ∷ (codes "OTHER", tk.key tk.other_key) ∷ (codes "LET", tk.key tk.let_key)
@@ -77,18 +77,18 @@ word_kinds =
     ∷ (codes "SUBSET", tk.sign op.Subset) ∷ (codes "UNION", tk.sign op.Union) ∷ (codes "DOMAIN", tk.sign op.Domain) ∷ []
 
 -- an identifier that is not reserved, a reserved word of PlusCal, or one of TLA+
-abbrev pub word_kind : Word → ExprToken
+abbrev pub word_kind : Word → TokenView
 word_kind w =
     if is_pluscal_word w then tk.reserved w
-    else kind_among word_kinds w (if is_tla_word w then tk.other else tk.word w)
+    else kind_among word_kinds w (if is_tla_word w then tk.other w else tk.word w)
 
--- a prime stands in written text alone, and is no sign elsewhere
-abbrev pub kind_of : Kind → ExprToken
+-- a prime is in written text alone, and is no sign elsewhere
+abbrev pub kind_of : Kind → TokenView
 kind_of (name w) = word_kind w
 kind_of (number n) = tk.number n
 kind_of (string w) = tk.string w
 kind_of (one s) = sign_kind s
-kind_of (lexeme.other w) = if bytes_eq w (codes "'") then tk.mark tk.prime else tk.other
+kind_of (lexeme.other w) = if bytes_eq w (codes "'") then tk.mark tk.prime else tk.other w
 
 abbrev pub view : text.Token → Token
 view t = record { kind = kind_of t.kind; place = t.place }

@@ -1,46 +1,27 @@
--- Tokens as the grammar of modules sees them: reserved words are sorted out, synonyms are one ("Specifying Systems", section 15.1).
+-- How the tokens of a module are cut into units: each begins in column 1 with an identifier or one of these words, or at a run of dashes ("Specifying Systems", section 15.2).
 use Rattle.std.specs.Prelude.{◌+◌, ◌&&◌, ◌||◌, not, Bool, true, false, nat_eq, List, [], ◌∷◌, Option, Some, None, codes}
 use Rattle.tla_token.specs.Signs.{is_among}
-use Rattle.tla_token.specs.Lexemes as lexeme
-use Rattle.tla_token.specs.Tokens as text
 use Rattle.tla_expr.specs.declared.op.Op.TheVariants as op
 use Rattle.tla_expr.specs.Tree.{Word}
-use Rattle.tla_expr.specs.Lexical.{ExprToken, sign, mark, key, constant}
+use Rattle.tla_expr.specs.Lexical.{TokenView, Token, sign}
 use Rattle.tla_expr.specs.Lexical as tk
-use Rattle.tla_expr.specs.ExprTokens as expression
-use Rattle.module_text.specs.Grammar.{Kind, seen, keyword, Token}
-
--- what expressions see of the token; a reserved word that they don't have is one of modules
-abbrev pub word_kind : ExprToken → Word → Kind
-word_kind tk.other w = keyword w
-word_kind k w = seen k
-
-abbrev pub kind_of : lexeme.Kind → Kind
-kind_of (lexeme.name w) = word_kind (expression.kind_of (lexeme.name w)) w
-kind_of k = seen (expression.kind_of k)
-
-abbrev pub view : List text.Token → List Token
-view [] = []
-view (t ∷ ts) = record { kind = kind_of t.kind; place = t.place } ∷ view ts
-
--- ---- units: each begins in column 1 with an identifier or one of these words, or at a run of dashes
 
 abbrev pub unit_words : List Word
 unit_words =
     codes "ASSUME" ∷ codes "ASSUMPTION" ∷ codes "AXIOM" ∷ codes "CONSTANT" ∷ codes "CONSTANTS" ∷ codes "EXTENDS" ∷ codes "INSTANCE" ∷ codes "LOCAL"
     ∷ codes "RECURSIVE" ∷ codes "THEOREM" ∷ codes "VARIABLE" ∷ codes "VARIABLES" ∷ []
 
-abbrev pub is_starter : Kind → Bool
-is_starter (seen (tk.word x)) = true
-is_starter (seen (tk.reserved x)) = true
-is_starter (seen k) = false
-is_starter (keyword w) = is_among unit_words w
+abbrev pub is_starter : TokenView → Bool
+is_starter (tk.word x) = true
+is_starter (tk.reserved x) = true
+is_starter (tk.other w) = is_among unit_words w
+is_starter k = false
 
 abbrev pub is_dash : Token → Bool
 is_dash t = by t.kind
   where
-    by : Kind → Bool
-    by (seen (sign op.Minus)) = true
+    by : TokenView → Bool
+    by (sign op.Minus) = true
     by _ = false
 
 -- b is a dash right after the dash a
