@@ -1,13 +1,11 @@
 -- The tests on names and values.
 use Rattle.std.proofs.Common.{◌≡◌, true, bytes_eq, subst}
 use Rattle.std.proofs.lemmas.Slice.Eq.{bytes_eq-Decides}
+use Rattle.tla_token.proofs.Spelled.{same_bytes}
 use Rattle.tla_expr.specs.Tree.{Word}
 use Rattle.tla_value.specs.Value.{Value}
 use Rattle.tla_value.specs.Order.{same}
 use Rattle.tla_value.specs.OrderLaws.{same_self}
-
-pub name-true : (x y : Word) → bytes_eq x y ≡ true → x ≡ y
-name-true x y e = (bytes_eq-Decides x y).0 e
 
 pub eq-name : (x y : Word) → x ≡ y → bytes_eq x y ≡ true
 eq-name x y e = (bytes_eq-Decides x y).1 e

@@ -2,11 +2,12 @@
 use Rattle.std.proofs.Common.{◌≡◌, List, [], ◌∷◌, ◌++◌, Bool, true, false, cond, ◌&&◌, bytes_eq, ◌⊎◌, refl, sym, ◌∙◌, ap, subst, inl, inr, ⊎_elim, Ok, Err}
 use Rattle.std.proofs.lemmas.Bool.{cases_Bool, or_cases, both_ways, or_left, or_right, or_parts}
 use Rattle.tla_token.specs.Signs.{is_among}
+use Rattle.tla_token.proofs.Spelled.{same_bytes}
 use Rattle.tla_expr.specs.Tree.{Word}
 use Rattle.tla_value.specs.Value.{Value, Values, no_values, and, Trouble, Outcome, ◌>>=◌, and_then, or_all, IsBad, NotFalse}
 use Rattle.tla_value.specs.Order.{same}
 use Rattle.pcal_tree.specs.Scope.{Scope, bound, State}
-use Rattle.action_builder.proofs.Equal.{name-true, eq-name, eq-value}
+use Rattle.action_builder.proofs.Equal.{eq-name, eq-value}
 use Rattle.action_builder.specs.Assigned.{Names, more}
 use Rattle.action_builder.specs.laws.States.{mid, SameOn}
 use Rattle.action_builder.proofs.Effects.{Effect, assign, await, branch, either, choose, Effects, done, then, Ways, no_ways, way, Parts, firsts, moved, effect_names, effects_names, ways_names, Awaits, Chosen, SomeOf, Picks, Next, RunOne, Run, RunSome}
@@ -114,7 +115,7 @@ or_else (Err k) w = w
 sets_is_bad : (A : Names) (ps : Parts) (c : Scope) (s u : State) (ys : List Word) → ((x : Word) (v : Value) → is_among ys x ≡ true → value_for x ps c (mid s u A) ≡ Ok v → u x ≡ v) → (y : Word) → is_among ys y ≡ true → IsBad (value_for y ps c (mid s u A)) → IsBad (hold_sets (settings_of A ps ys) c s u)
 sets_is_bad A ps c s u [] h y m b = absurd (both_ways false refl m)
 sets_is_bad A ps c s u (z ∷ ys) h y m b = ⊎_elim
-    (λ a. and_bad_left ((value_for z ps c (mid s u A)) >>= (λ v. Ok (same (u z) v))) _ (here (value_for z ps c (mid s u A)) (subst (λ x. IsBad (value_for x ps c (mid s u A))) (sym (name-true z y a)) b)))
+    (λ a. and_bad_left ((value_for z ps c (mid s u A)) >>= (λ v. Ok (same (u z) v))) _ (here (value_for z ps c (mid s u A)) (subst (λ x. IsBad (value_for x ps c (mid s u A))) (sym (same_bytes z y a)) b)))
     (λ k. by (value_for z ps c (mid s u A)) refl (sets_is_bad A ps c s u ys (λ x v n p. h x v (or_right (bytes_eq z x) (is_among ys x) n) p) y k b))
     (or_cases (bytes_eq z y) (is_among ys y) m)
   where

@@ -2,13 +2,13 @@
 use Rattle.std.proofs.Common.{◌≡◌, List, [], ◌∷◌, ◌++◌, Bool, true, false, cond, ◌||◌, bytes_eq, ◌⊎◌, refl, sym, ◌∙◌, ap, subst, inl, inr, ⊎_elim, Ok, Err}
 use Rattle.std.proofs.lemmas.Bool.{cases_Bool, or_cases, both_ways, or_left, or_right, or_parts}
 use Rattle.tla_token.specs.Signs.{is_among}
+use Rattle.tla_token.proofs.Spelled.{same_bytes}
 use Rattle.tla_expr.specs.Tree.{Word}
 use Rattle.tla_value.specs.Value.{Value, Values, no_values, and, Outcome, ◌>>=◌, and_then, or_all, IsBad}
 use Rattle.tla_value.specs.Order.{same}
 use Rattle.tla_value.proofs.Outcomes.{ok_is}
 use Rattle.tla_value.specs.OrderLaws.{same_is}
 use Rattle.pcal_tree.specs.Scope.{Scope, bound, State}
-use Rattle.action_builder.proofs.Equal.{name-true}
 use Rattle.action_builder.specs.Assigned.{Names, more}
 use Rattle.action_builder.specs.laws.States.{mid}
 use Rattle.action_builder.proofs.Effects.{Effect, assign, await, branch, either, choose, Effects, done, then, Ways, no_ways, way, Parts, firsts, moved, effect_names, effects_names, ways_names, Awaits, Chosen, SomeOf, Picks, RunOne, Run, RunSome}
@@ -56,7 +56,7 @@ sets_values A ps c s t [] h y m = absurd (both_ways false refl m)
 sets_values A ps c s t (z ∷ ys) h y m =
     let p = both_true _ _ h in
     ⊎_elim
-    (λ a. subst (λ x. value_for x ps c (mid s t A) ≡ Ok (t x)) (name-true z y a) (value_true (value_for z ps c (mid s t A)) (t z) p.0))
+    (λ a. subst (λ x. value_for x ps c (mid s t A) ≡ Ok (t x)) (same_bytes z y a) (value_true (value_for z ps c (mid s t A)) (t z) p.0))
     (λ b. sets_values A ps c s t ys p.1 y b)
     (or_cases (bytes_eq z y) (is_among ys y) m)
 

@@ -3,6 +3,7 @@ use Rattle.std.proofs.Common.{◌≡◌, List, [], ◌∷◌, ◌++◌, Bool, tr
 use Rattle.std.proofs.lemmas.Bool.{cases_Bool, or_cases, both_ways, and_parts, or_left, or_right}
 use Rattle.tla_token.specs.Signs.{is_among}
 use Rattle.tla_token.specs.declared.place.Place.{Place}
+use Rattle.tla_token.proofs.Spelled.{same_bytes}
 use Rattle.tla_expr.specs.Tree.{Word, apply, name, strict, select, Tree, node, Trees, no_trees, tree, EveryOf, root_place}
 use Rattle.tla_value.specs.declared.fault.FaultKind.TheVariants.{AssertFailed}
 use Rattle.tla_value.specs.Value.{Value, truth, int, text, model, set, fun, Values, no_values, and, Outcome, ◌>>=◌, fault, and_then, or_all}
@@ -26,7 +27,7 @@ use Rattle.action_builder.proofs.Actions.{minus, all_same, some_member}
 use Rattle.action_builder.specs.laws.Ready.{Readable, Halfway, IsWithin, Paired, Scoped, IsLeft, LeftFirst, LeftSides, FineTree, FineSides, values_of}
 use Rattle.action_builder.specs.Written.{Key, sub, fixed, subs, keys_of, keys_first, subscripts, own, slot_trees, except_of, is_whole, side_of, primed, left_of}
 use Rattle.action_builder.proofs.Except.{own_left}
-use Rattle.action_builder.proofs.Equal.{name-true, eq-name, eq-value}
+use Rattle.action_builder.proofs.Equal.{eq-name, eq-value}
 use Rattle.action_builder.proofs.Sets.{minus_same, same_minus}
 use Rattle.action_builder.proofs.Main.{Within}
 
@@ -151,7 +152,7 @@ halfway_bound A U x v out e f r = record { now = λ y u at. by y u at (bytes_eq 
     by : (y : Word) → U y → (at : Place) (b : Bool) → bytes_eq x y ≡ b → cond (bytes_eq x y) (just v) (f.now y at) ≡ cond (A y) (e.primed y at) (cond (bytes_eq x y) (just v) (e.now y at))
     by y u at true q =
         ap (λ b. cond b (just v) (f.now y at)) q
-        ∙ sym (ap (λ a. cond a (e.primed y at) (cond (bytes_eq x y) (just v) (e.now y at))) (sym (ap A (name-true x y q)) ∙ out) ∙ ap (λ b. cond b (just v) (e.now y at)) q)
+        ∙ sym (ap (λ a. cond a (e.primed y at) (cond (bytes_eq x y) (just v) (e.now y at))) (sym (ap A (same_bytes x y q)) ∙ out) ∙ ap (λ b. cond b (just v) (e.now y at)) q)
     by y u at false q =
         ap (λ b. cond b (just v) (f.now y at)) q ∙ r.now y u at
         ∙ sym (ap (λ b. cond (A y) (e.primed y at) (cond b (just v) (e.now y at))) q)
@@ -173,7 +174,7 @@ pub scoped_bound : (vs : List Word) (sc : Scope) (x : Word) (v : Value) → is_a
 scoped_bound vs sc x v out k = record { part = k.part; reads = λ y m at s. by y m at s (bytes_eq x y) refl }
   where
     by : (y : Word) → is_among vs y ≡ true → (at : Place) (s : State) (b : Bool) → bytes_eq x y ≡ b → cond (bytes_eq x y) (just v) ((sc.env s).now y at) ≡ just (s y)
-    by y m at s true q = absurd (both_ways (is_among vs x) out (ap (is_among vs) (name-true x y q) ∙ m))
+    by y m at s true q = absurd (both_ways (is_among vs x) out (ap (is_among vs) (same_bytes x y q) ∙ m))
     by y m at s false q = ap (λ b. cond b (just v) ((sc.env s).now y at)) q ∙ k.reads y m at s
 
 -- ---- the trees of right sides
@@ -287,9 +288,9 @@ left_same (v ∷ vs) all own s t h x m a o =
     by (λ g k. left_same vs all own s t g x k a o) (is_among all v && not (is_among own v)) refl h (or_cases (bytes_eq v x) (is_among vs x) m)
   where
     by : (all_same (left_of vs all own) s t ≡ true → is_among vs x ≡ true → t x ≡ s x) → (b : Bool) → (is_among all v && not (is_among own v)) ≡ b → all_same (cond b (v ∷ left_of vs all own) (left_of vs all own)) s t ≡ true → (bytes_eq v x ≡ true) ⊎ (is_among vs x ≡ true) → t x ≡ s x
-    by ih true p g (inl e) = subst (λ z. t z ≡ s z) (name-true v x e) (same_is (t v) (s v) (and_parts (same (t v) (s v)) (all_same (left_of vs all own) s t) g).0)
+    by ih true p g (inl e) = subst (λ z. t z ≡ s z) (same_bytes v x e) (same_is (t v) (s v) (and_parts (same (t v) (s v)) (all_same (left_of vs all own) s t) g).0)
     by ih true p g (inr k) = ih (and_parts (same (t v) (s v)) (all_same (left_of vs all own) s t) g).1 k
-    by ih false p g (inl e) = absurd (both_ways (is_among all v && not (is_among own v)) p (and_not (is_among all v) (is_among own v) (ap (is_among all) (name-true v x e) ∙ a) (ap (is_among own) (name-true v x e) ∙ o)))
+    by ih false p g (inl e) = absurd (both_ways (is_among all v && not (is_among own v)) p (and_not (is_among all v) (is_among own v) (ap (is_among all) (same_bytes v x e) ∙ a) (ap (is_among own) (same_bytes v x e) ∙ o)))
     by ih false p g (inr k) = ih g k
 
 same_left : (vs all own : List Word) (s t : State) → ((x : Word) → is_among all x ≡ true → is_among own x ≡ false → t x ≡ s x) → all_same (left_of vs all own) s t ≡ true

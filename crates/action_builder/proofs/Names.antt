@@ -3,6 +3,7 @@ use Rattle.std.proofs.Common.{◌≡◌, List, [], ◌∷◌, ◌++◌, Bool, tr
 use Rattle.std.proofs.lemmas.Bool.{or_cases}
 use Rattle.tla_token.specs.Signs.{is_among}
 use Rattle.tla_token.specs.declared.place.Place.{Place}
+use Rattle.tla_token.proofs.Spelled.{same_bytes}
 use Rattle.tla_expr.specs.Tree.{Word, apply, select, name, strict, Tree, node, Trees, no_trees, tree, Each}
 use Rattle.tla_value.specs.Stops.{Check}
 use Rattle.pcal_tree.specs.Algorithm.{Assignments, no_assignments, assignment, Binds, no_binds, one_of, is, Statement, assign, await, print, assert, skip, branch, either, with, while, goto, macro, call, return, Statements, done, then, mark, Branches, no_branches, or}
@@ -10,7 +11,6 @@ use Rattle.action_builder.specs.Assigned.{Names, more, without, head_of, head_fi
 use Rattle.action_builder.specs.laws.Ready.{Apart, OnceOne, Once, OnceSome, IsLeft, LeftFirst, LeftSides, SettledOne, Settled, SettledSome}
 use Rattle.action_builder.proofs.Effects.{Effects, firsts, effect_names, effects_names, ways_names, parts_of, nested, effect_of, effects_of, ways_of}
 use Rattle.action_builder.proofs.Actions as Actions
-use Rattle.action_builder.proofs.Equal.{name-true}
 use Rattle.action_builder.proofs.Main.{append_cases}
 
 pub append_none : (xs : List Word) → xs ++ [] ≡ xs
@@ -58,7 +58,7 @@ mutual
 -- what holds of each name of a list
 pub each_name : (P : Word → Type 0) (xs : List Word) → Each P xs → (x : Word) → is_among xs x ≡ true → P x
 each_name P [] h x m = cc
-each_name P (y ∷ ys) h x m = ⊎_elim (λ e. subst P (name-true y x e) h.0) (λ k. each_name P ys h.1 x k) (or_cases (bytes_eq y x) (is_among ys x) m)
+each_name P (y ∷ ys) h x m = ⊎_elim (λ e. subst P (same_bytes y x e) h.0) (λ k. each_name P ys h.1 x k) (or_cases (bytes_eq y x) (is_among ys x) m)
 
 mutual
   head_left : (V : Names) (l : Tree) → IsLeft V l → V (head_of l) ≡ true
@@ -90,7 +90,7 @@ without_in x (z ∷ zs) y m = by (without_in x zs y) (bytes_eq x z) m
 heads_in : (V : Names) (ms : Assignments) → LeftSides V ms → (x : Word) → is_among (heads ms) x ≡ true → V x ≡ true
 heads_in V no_assignments h x m = cc
 heads_in V (assignment l e ms) h x m =
-    ⊎_elim (λ q. subst (λ y. V y ≡ true) (name-true (head_of l) x q) (head_left V l h.0)) (λ k. heads_in V ms h.1 x (without_in (head_of l) (heads ms) x k))
+    ⊎_elim (λ q. subst (λ y. V y ≡ true) (same_bytes (head_of l) x q) (head_left V l h.0)) (λ k. heads_in V ms h.1 x (without_in (head_of l) (heads ms) x k))
     (or_cases (bytes_eq (head_of l) x) (is_among (without (head_of l) (heads ms)) x) m)
 
 none_in : {P : Type 0} → false ≡ true → P

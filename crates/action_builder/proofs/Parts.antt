@@ -2,11 +2,12 @@
 use Rattle.std.proofs.Common.{◌≡◌, List, [], ◌∷◌, Bool, true, false, cond, ◌||◌, bytes_eq, refl, sym, ◌∙◌, ap, subst, ⊎_elim, Ok, Err}
 use Rattle.std.proofs.lemmas.Bool.{cases_Bool, both_ways, or_parts}
 use Rattle.tla_token.specs.Signs.{is_among}
+use Rattle.tla_token.proofs.Spelled.{same_bytes}
 use Rattle.tla_expr.specs.Tree.{Word}
 use Rattle.tla_value.specs.Value.{Value, Trouble, Outcome, ◌>>=◌, IsBad}
 use Rattle.tla_value.proofs.Outcomes.{ok_is}
 use Rattle.pcal_tree.specs.Scope.{Scope, State, put}
-use Rattle.action_builder.proofs.Equal.{name-true, eq-name}
+use Rattle.action_builder.proofs.Equal.{eq-name}
 use Rattle.action_builder.specs.Assigned.{without}
 use Rattle.action_builder.proofs.Effects.{Change, Parts, no_parts, part, firsts, Changes, no_changes, change, evaluated, applied, moved}
 use Rattle.action_builder.proofs.Actions.{changes_for, folded, value_for}
@@ -46,7 +47,7 @@ applied_for (change x f fs) y s u h = by (λ v. applied_for fs y (put x v s) u) 
     by : ((v : Value) → applied fs (put x v s) ≡ Ok u → folded (kept y fs) (put x v s y) ≡ Ok (u y)) → (o : Outcome Value) → f (s x) ≡ o → o >>= (λ v. applied fs (put x v s)) ≡ Ok u → (b : Bool) → bytes_eq x y ≡ b → folded (cond (bytes_eq x y) (f ∷ kept y fs) (kept y fs)) (s y) ≡ Ok (u y)
     by ih (Ok v) p k true e =
         ap (λ b. folded (cond b (f ∷ kept y fs) (kept y fs)) (s y)) e
-        ∙ ap (λ z. (f (s z)) >>= (folded (kept y fs))) (sym (name-true x y e))
+        ∙ ap (λ z. (f (s z)) >>= (folded (kept y fs))) (sym (same_bytes x y e))
         ∙ ap (λ o. o >>= (folded (kept y fs))) p
         ∙ sym (ap (folded (kept y fs)) (put_at x v y s true e))
         ∙ ih v k
@@ -100,7 +101,7 @@ applied_bad (change x f fs) s k h = by (λ v. applied_bad fs (put x v s) k) (f (
     later v y true p e r = subst IsBad (
         ap (folded (kept y fs)) (put_at x v y s true e)
         ∙ sym (ap (λ o. o >>= (folded (kept y fs))) p)
-        ∙ ap (λ z. (f (s z)) >>= (folded (kept y fs))) (name-true x y e)
+        ∙ ap (λ z. (f (s z)) >>= (folded (kept y fs))) (same_bytes x y e)
         ∙ sym (ap (λ b. folded (cond b (f ∷ kept y fs) (kept y fs)) (s y)) e)) r
     later v y false p e r = subst IsBad (
         ap (folded (kept y fs)) (put_at x v y s false e)
@@ -133,7 +134,7 @@ without_other x y (z ∷ zs) e = by (without_other x y zs e) (bytes_eq x z) refl
     by : is_among (without x zs) y ≡ is_among zs y → (b : Bool) → bytes_eq x z ≡ b → is_among (cond (bytes_eq x z) (without x zs) (z ∷ without x zs)) y ≡ (bytes_eq z y || is_among zs y)
     by ih true p =
         ap (λ b. is_among (cond b (without x zs) (z ∷ without x zs)) y) p ∙ ih
-        ∙ sym (ap (λ b. b || is_among zs y) (ap (λ w. bytes_eq w y) (sym (name-true x z p)) ∙ e))
+        ∙ sym (ap (λ b. b || is_among zs y) (ap (λ w. bytes_eq w y) (sym (same_bytes x z p)) ∙ e))
     by ih false p = ap (λ b. is_among (cond b (without x zs) (z ∷ without x zs)) y) p ∙ ap (λ b. bytes_eq z y || b) ih
 
 none_for : (ps : Parts) (c : Scope) (s : State) (y : Word) → is_among (firsts ps) y ≡ false → changes_for y ps c s ≡ Ok []

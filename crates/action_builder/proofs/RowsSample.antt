@@ -1,14 +1,15 @@
 -- The action of the sample step on a pair of states, by computation.
-use Rattle.std.proofs.Common.{◌≡◌, pos, List, [], ◌∷◌, true, false, codes, refl, Ok}
+use Rattle.std.proofs.Common.{◌≡◌, pos, List, [], ◌∷◌, true, false, codes, refl, inl, inr, Ok}
+use Rattle.tla_token.specs.Signs.{is_among}
 use Rattle.std.specs.Prelude.{ℕ}
 use Rattle.tla_expr.specs.Tree.{Word}
 use Rattle.tla_value.specs.Value.{Value, int, text, fun, no_values, and}
 use Rattle.tla_value.specs.Order.{seq_from, record_from}
 use Rattle.pcal_tree.specs.Scope.{State, put}
 use Rattle.pcal_tree.specs.Variables.{pc}
-use Rattle.action_builder.specs.laws.Ready.{holds_on}
+use Rattle.action_builder.specs.laws.Ready.{Readable, FineTree, holds_on}
 use Rattle.action_builder.specs.laws.LabelSteps.{action_of}
-use Rattle.action_builder.specs.laws.Sample.{me, variables, env, step}
+use Rattle.action_builder.specs.laws.Sample.{me, larger, variables, env, step}
 
 abbrev of_me : Value → Value
 of_me v = fun (and me no_values) (and v no_values)
@@ -24,7 +25,7 @@ state x y a b l st =
 abbrev frame : Value
 frame = record_from (codes "procedure" ∷ pc ∷ codes "a" ∷ codes "b" ∷ []) (text (codes "P") ∷ text (codes "B") ∷ num 0 ∷ num 7 ∷ [])
 
--- x becomes 1, which is y then; P is called with it
+-- x becomes 1, which is larger than y, so y is 1 then; P is called with it
 call_row : holds_on variables env (action_of variables step) (state 0 0 0 7 (codes "A") []) (state 1 1 1 1 (codes "C") (frame ∷ [])) ≡ Ok true
 call_row = refl
 
@@ -39,3 +40,20 @@ await_row = refl
 -- not with another argument
 other_row : holds_on variables env (action_of variables step) (state 0 0 0 7 (codes "A") []) (state 1 1 0 1 (codes "C") (frame ∷ [])) ≡ Ok false
 other_row = refl
+
+-- ---- names that are not free
+
+-- the variables, and none else, may be read
+abbrev of_variables : Readable
+of_variables A w = is_among variables w
+
+not_readable : of_variables (is_among (codes "x" ∷ [])) (codes "i") ≡ false
+not_readable = refl
+
+-- the expression of the `await` may bind i even so, where x is assigned already
+binds_its_own : FineTree of_variables (is_among (codes "x" ∷ [])) larger
+binds_its_own = (
+  ((refl, tt), ((tt, ((tt, tt), ((tt, tt), tt))), ((tt, ((tt, tt), ((tt, tt), tt))), tt))),
+  (tt, ((tt, ((tt, tt), ((tt, tt), tt))), ((tt, ((tt, tt), ((tt, tt), tt))), tt))),
+  (tt, ((tt, ((tt, tt), ((tt, tt), tt))), ((tt, ((inl refl, tt), ((inr refl, tt), tt))), tt))),
+)

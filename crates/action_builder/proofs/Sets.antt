@@ -2,11 +2,12 @@
 use Rattle.std.proofs.Common.{◌≡◌, List, [], ◌∷◌, ◌++◌, Bool, true, false, cond, ◌||◌, ◌&&◌, bytes_eq, ◌⊎◌, refl, sym, ◌∙◌, ap, subst, ⊎_elim}
 use Rattle.std.proofs.lemmas.Bool.{cases_Bool, or_cases, both_ways, and_parts, or_from, or_left, or_right, or_parts}
 use Rattle.tla_token.specs.Signs.{is_among}
+use Rattle.tla_token.proofs.Spelled.{same_bytes}
 use Rattle.tla_expr.specs.Tree.{Word}
 use Rattle.tla_value.specs.Value.{Value}
 use Rattle.tla_value.specs.Order.{same}
 use Rattle.tla_value.specs.OrderLaws.{same_is}
-use Rattle.action_builder.proofs.Equal.{name-true, eq-name, eq-value}
+use Rattle.action_builder.proofs.Equal.{eq-name, eq-value}
 use Rattle.pcal_tree.specs.Scope.{State, put}
 use Rattle.action_builder.specs.Assigned.{Names, more}
 use Rattle.action_builder.specs.laws.States.{mid}
@@ -61,7 +62,7 @@ put_mid s t A x v e = is_mid s t (put x v (mid s t A)) (more A (x ∷ [])) insid
     put_other y f = ap (λ b. cond b v (mid s t A y)) f
 
     put_here : (y : Word) → bytes_eq x y ≡ true → put x v (mid s t A) y ≡ t y
-    put_here y f = ap (λ b. cond b v (mid s t A y)) f ∙ e ∙ ap t (name-true x y f)
+    put_here y f = ap (λ b. cond b v (mid s t A y)) f ∙ e ∙ ap t (same_bytes x y f)
 
     inside : (y : Word) → (A y || (bytes_eq x y || false)) ≡ true → put x v (mid s t A) y ≡ t y
     inside y h = ⊎_elim
@@ -84,12 +85,12 @@ minus_same (y ∷ xs) ys s t h x e f = by (λ g m. minus_same xs ys s t g x m f)
 
     by : (all_same (minus xs ys) s t ≡ true → is_among xs x ≡ true → t x ≡ s x) → (b : Bool) → is_among ys y ≡ b → t x ≡ s x
     by ih true p =
-        let other : bytes_eq y x ≡ false = ⊎_elim (λ a. absurd (both_ways (is_among ys x) f (subst (λ z. is_among ys z ≡ true) (name-true y x a) p))) (λ b. b) (cases_Bool (bytes_eq y x)) in
+        let other : bytes_eq y x ≡ false = ⊎_elim (λ a. absurd (both_ways (is_among ys x) f (subst (λ z. is_among ys z ≡ true) (same_bytes y x a) p))) (λ b. b) (cases_Bool (bytes_eq y x)) in
         rest ih (ap (λ b. all_same (cond b (minus xs ys) (y ∷ minus xs ys)) s t) (sym p) ∙ h) other
     by ih false p =
         let g = ap (λ b. all_same (cond b (minus xs ys) (y ∷ minus xs ys)) s t) (sym p) ∙ h in
         let parts = and_parts (same (t y) (s y)) (all_same (minus xs ys) s t) g in
-        ⊎_elim (λ a. subst (λ z. t z ≡ s z) (name-true y x a) (same_is (t y) (s y) parts.0)) (λ b. rest ih parts.1 b) (cases_Bool (bytes_eq y x))
+        ⊎_elim (λ a. subst (λ z. t z ≡ s z) (same_bytes y x a) (same_is (t y) (s y) parts.0)) (λ b. rest ih parts.1 b) (cases_Bool (bytes_eq y x))
 
 pub same_minus : (xs ys : List Word) (s t : State) → ((x : Word) → is_among xs x ≡ true → is_among ys x ≡ false → t x ≡ s x) → all_same (minus xs ys) s t ≡ true
 same_minus [] ys s t h = refl

@@ -2,9 +2,14 @@
 use Rattle.std.proofs.Common.{◌≡◌, List, [], ◌∷◌, Bool, true, false, cond, ◌||◌, bytes_eq, codes, Option, Some, None, refl, sym, subst}
 use Rattle.tla_token.specs.Signs.{is_among}
 use Rattle.tla_token.specs.declared.place.Place.{Place}
+use Rattle.tla_token.proofs.Spelled.{same_bytes}
 use Rattle.tla_expr.specs.Tree.{Word, Each}
 use Rattle.tla_value.specs.Stops.{plain}
-use Rattle.tla_value.specs.Meaning.{just}
+use Rattle.tla_value.specs.Meaning.{Env, just}
+use Rattle.tla_value.specs.Value.{Value}
+use Rattle.tla_value.specs.Standard.{standard_of, standard_called}
+use Rattle.tla_value.specs.Definitions.{with_arguments, body_sense}
+use Rattle.action_builder.specs.laws.States.{mid}
 use Rattle.tla_value.specs.Grafts.{owned, own_part}
 use Rattle.pcal_tree.specs.Algorithm.{Routine}
 use Rattle.pcal_tree.specs.Scope.{State, Scope, origin_in}
@@ -15,7 +20,7 @@ use Rattle.action_builder.specs.Assigned.{Names, more}
 use Rattle.tla_value.specs.laws.Grafting.{Apart}
 use Rattle.tla_value.proofs.Graft.{apart_clear}
 use Rattle.tla_value.proofs.Owned.{owned_apart}
-use Rattle.action_builder.proofs.Equal.{name-true, eq-name}
+use Rattle.action_builder.proofs.Equal.{eq-name}
 use Rattle.std.proofs.lemmas.Bool.{both_ways, or_right}
 use Rattle.action_builder.specs.laws.Ready as Ready
 use Rattle.action_builder.specs.laws.Ready.{Settled, Paired, Scoped}
@@ -24,7 +29,7 @@ use Rattle.action_builder.specs.laws.Jumps.{RoutineStands, Initials, RoutinesSta
 use Rattle.action_builder.specs.Settled.{settled}
 use Rattle.action_builder.specs.laws.LabelSteps.{prepared_of, IsPrepared, IsReady}
 use Rattle.action_builder.specs.Prepared.{none}
-use Rattle.action_builder.specs.laws.Sample.{macros, unexpanded, program, routine, me, actor, self, variables, own, plain_env, plain_scope, scope, env, any_name, initials, places, step}
+use Rattle.action_builder.specs.laws.Sample.{macros, unexpanded, program, routine, me, actor, self, variables, own, larger_of_two, variables_env, plain_env, plain_scope, scope, env, any_name, initials, places, step}
 use Rattle.action_builder.proofs.Names.{each_name}
 use Rattle.action_builder.proofs.Decided.{clear_list, fine_list}
 use Rattle.action_builder.proofs.Prepared.{own_stands}
@@ -105,7 +110,7 @@ own_apart x h =
     owned_apart self own x (neither (bytes_eq (codes "x") x) (own x) p.1).1 (turned (bytes_eq x self) refl p.0)
   where
     turned : (b : Bool) → bytes_eq x self ≡ b → bytes_eq self x ≡ false → bytes_eq x self ≡ false
-    turned true q o = absurd (both_ways (bytes_eq self x) o (eq-name self x (sym (name-true x self q))))
+    turned true q o = absurd (both_ways (bytes_eq self x) o (eq-name self x (sym (same_bytes x self q))))
     turned false q o = q
 
 pub prepared : IsPrepared step
@@ -119,13 +124,24 @@ prepared = record {
 apart : (A : Names) (xs : List Word) → Each (λ w. A w ≡ false) xs → Ready.Apart A xs
 apart A xs h = each_name (λ w. A w ≡ false) xs h
 
+-- Max reads its arguments alone
+max_same : (e f : Env) (at : Place) (vs : List Value) → body_sense plain larger_of_two (with_arguments larger_of_two.params vs e) at ≡ body_sense plain larger_of_two (with_arguments larger_of_two.params vs f) at
+max_same e f at [] = refl
+max_same e f at (v ∷ []) = refl
+max_same e f at (v ∷ w ∷ []) = refl
+max_same e f at (v ∷ w ∷ u ∷ us) = refl
+
 paired : Paired any_name variables plain_scope plain_env
 paired = record {
-  halfway = λ A w s t. record { now = λ y u at. by (A y) s t y; defs = λ y u. refl };
+  halfway = λ A w s t. record { now = λ y u at. by (A y) s t y; defs = λ y u. defs y (variables_env s t) (variables_env (mid s t A) (mid s t A)) };
   print = λ s t. refl;
   assert = λ s t. refl;
 }
   where
+    defs : (y : Word) (e f : Env) → cond (bytes_eq (codes "Max") y) (Some (λ at vs. body_sense plain larger_of_two (with_arguments larger_of_two.params vs e) at)) (standard_called plain (standard_of y))
+        ≡ cond (bytes_eq (codes "Max") y) (Some (λ at vs. body_sense plain larger_of_two (with_arguments larger_of_two.params vs f) at)) (standard_called plain (standard_of y))
+    defs y e f = λ i. cond (bytes_eq (codes "Max") y) (Some (λ at vs. max_same e f at vs i)) (standard_called plain (standard_of y))
+
     by : (b : Bool) (s t : State) (y : Word) → just (cond b (t y) (s y)) ≡ cond b (just (t y)) (just (s y))
     by true s t y = refl
     by false s t y = refl

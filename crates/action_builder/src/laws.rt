@@ -126,8 +126,8 @@ pub fn written_out_steps_begin_alike()
         → begin l here (expanded ms ss) x ≡ expand_begin (written_out ms) (begin l here ss x) }
 {}
 
-/// The sample step, which has a macro call, an assignment to a variable of its process, an `await` with a bound name, a jump
-/// and a call, meets all that these laws ask.
+/// The sample step meets all that these laws ask. It has a macro call, an assignment to a variable of its process, a
+/// definition beside variables of its parameters' names, an `await` with a bound name, a jump and a call.
 pub fn the_sample_step_meets_all_that_is_asked()
     ensures expanded { Calls (FineCall sample.macros) sample.unexpanded × BareBodies sample.macros }
     ensures jumps { RoutinesStandWithin sample.program sample.actor sample.routine sample.initials sample.step.names (own_scope plain sample.self sample.own sample.scope) }

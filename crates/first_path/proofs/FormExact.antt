@@ -5,7 +5,7 @@ use Rattle.std.proofs.lemmas.List.{reverse-append, reverse-reverse}
 use Rattle.std.proofs.lemmas.Bool.{and_parts}
 use Rattle.std.proofs.Math.Seq.{drop-append_seam}
 use Rattle.tla_token.specs.Lexemes.{Kind, name, is_word, is_blank, IsLexeme}
-use Rattle.tla_token.specs.Tokens.{Piece, blank, block, line, lexeme, bytes_of, text_of, Fits, AllFit}
+use Rattle.tla_token.specs.Tokens.{Piece, blank, block, line, lexeme, bytes_of, text_of, AllFit}
 use Rattle.tla_token.specs.Offences.{Part, sound, parts_text, PartsFit}
 use Rattle.tla_token.specs.Cut.{run, parts, part_at}
 use Rattle.tla_token.proofs.Front.{blank_front}
@@ -14,6 +14,7 @@ use Rattle.tla_token.proofs.Spelled.{begins_is, begins_from}
 use Rattle.tla_token.proofs.Parted.{some_part}
 use Rattle.tla_token.proofs.Cutting.{cut_fits}
 use Rattle.tla_token.proofs.Unique.{sound_text, pieces_back}
+use Rattle.tla_token.proofs.Exact.{fit_sound}
 use Rattle.tla_expr.specs.Tree.{Word}
 use Rattle.first_path.specs.Form.{Right, single, sum, Parts, is_fit, kinds, after, kinds_of, first_lines, last_line, IsForm}
 use Rattle.first_path.specs.FormRead.{on_some, if_so, declares, parts_in, kinds_in, past, begins_blank, before, gap_skipped, middle_parts, ends_with_line, form_of}
@@ -50,10 +51,6 @@ all_sound (sound (lexeme k w) ∷ ps) ks e =
     (lexeme k w ∷ qs, ap (λ (rs : List Part). sound (lexeme k w) ∷ rs) same)
 all_sound (p ∷ ps) ks e = absurd cc
 
-fit_pieces : (qs : List Piece) → PartsFit (map sound qs) → AllFit qs
-fit_pieces [] h = tt
-fit_pieces (q ∷ qs) (f, h) = (let P : List ℕ → Type 0 = λ u. Fits q u in (subst P (sound_text qs) f, fit_pieces qs h))
-
 -- the text is cut into these pieces
 record CutInto (x : List ℕ) (ks : List Kind) : Type 0 where
   pub pieces : List Piece
@@ -70,7 +67,7 @@ cut_pieces x ks e =
     record {
       pieces = qs;
       text = sym (sound_text qs) ∙ ap parts_text (sym same) ∙ text;
-      fits = fit_pieces qs (subst P same fit);
+      fits = fit_sound qs (subst P same fit);
       kinds_are = sym (sound_kinds qs) ∙ ap kinds_in (sym same) ∙ e;
       parted = same;
     }

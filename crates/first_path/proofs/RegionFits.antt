@@ -13,7 +13,7 @@ use Rattle.tla_token.proofs.Words.{run_over, word_at, at_word, word_front, digit
 use Rattle.tla_token.proofs.Front.{quote_front}
 use Rattle.tla_token.proofs.Parted.{parts_step, word_printed}
 use Rattle.tla_token.proofs.Signed.{not_true}
-use Rattle.tla_token.proofs.Cutting.{cut_fits}
+use Rattle.tla_token.proofs.Cutting.{cut_fits, some_letters}
 use Rattle.tla_token.specs.declared.sign.Sign.{Sign}
 use Rattle.tla_token.specs.declared.sign.Sign.TheVariants as s
 use Rattle.tla_token.specs.Signs.{spellings}
@@ -189,12 +189,8 @@ word_star : (w rest : List ℕ) → 0 < length w → list_all is_word w ≡ true
 word_star [] rest some all = absurd (omega arith)
 word_star (b ∷ l) rest some all = rw (at_word 42 b (and_parts (is_word b) (list_all is_word l) all).0 refl) refl
 
-some_letter : (w : List ℕ) → list_any is_letter w ≡ true → 0 < length w
-some_letter [] h = absurd cc
-some_letter (b ∷ w) h = omega arith
-
 name_star : (w : Word) (rest : List ℕ) → is_name w ≡ true → star (w ++ rest) ≡ false
-name_star w rest n = word_star w rest (some_letter w (name_letter w n)) (name_words w n)
+name_star w rest n = word_star w rest (some_letters w (name_letter w n)) (name_words w n)
 
 open_found : (rest : List ℕ) → star rest ≡ false → part_at 40 rest ≡ sound (lexeme (kind.one s.OpenRound) (codes "("))
 open_found rest e = rw e refl

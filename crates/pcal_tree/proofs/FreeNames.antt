@@ -1,7 +1,7 @@
 -- Names with numbers are all different, so that one of them is free; written names are apart.
 use Rattle.std.proofs.Common.{◌≡◌, ℕ, zero, suc, ◌+◌, ◌<◌, ◌≤◌, ◌^◌, length, List, [], ◌∷◌, ◌++◌, Bool, true, false, ◌||◌, cond, bytes_eq, refl, sym, ◌∙◌, ap, decimal, arith}
 use Rattle.std.proofs.lemmas.Slice.Eq.{bytes_eq-Decides}
-use Rattle.std.proofs.lemmas.Bool.{or_left}
+use Rattle.std.proofs.lemmas.Bool.{or_left, or_parts}
 use Rattle.std.proofs.lemmas.Fmt.{decimal_injective}
 use Rattle.std.proofs.lemmas.List.{append_cancel_left}
 use Rattle.tla_token.specs.Signs.{is_among}
@@ -97,13 +97,9 @@ free_untaken (suc k) taken x n l p = by (is_among taken (numbered x n)) refl (fr
         sym moved ∙ ap (is_among rest) (sym (free_same k rest taken x (suc n) other)) ∙ ih (omega arith) (omega arith)
     by false e ih = e
 
-right_false : (a b : Bool) → (a || b) ≡ false → b ≡ false
-right_false true b e = cc
-right_false false b e = e
-
 -- what isn't taken isn't among those taken
 pub untaken_among : (extended taken : List Word) (x : Word) → is_taken extended taken x ≡ false → is_among taken x ≡ false
-untaken_among extended taken x e = right_false (is_reserved x || is_own x || is_standard extended x) (is_among taken x) e
+untaken_among extended taken x e = (or_parts (is_reserved x || is_own x || is_standard extended x) (is_among taken x) e).1
 
 true_false : true ≡ false → ⊥
 true_false e = cc
@@ -121,7 +117,7 @@ first_untaken extended taken x few = by (is_taken extended taken x) refl (free_u
 later : (f w : Word) (taken : List Word) → is_among (f ∷ taken) w ≡ false → (f ≡ w → ⊥) × (is_among taken w ≡ false)
 later f w taken e = (
   λ s. true_false (sym (or_left (bytes_eq f w) (is_among taken w) ((bytes_eq-Decides f w).1 s)) ∙ e),
-  right_false (bytes_eq f w) (is_among taken w) e,
+  (or_parts (bytes_eq f w) (is_among taken w) e).1,
 )
 
 pub every_map : {X : Type 0} (Q R : X → Type 0) → ((x : X) → Q x → R x) → (xs : List X) → AllByRecursion Q xs → AllByRecursion R xs

@@ -5,6 +5,7 @@ use Rattle.std.specs.List.{list_any, flat_map}
 use Rattle.std.proofs.lemmas.List.Folds.{list_any-append}
 use Rattle.std.proofs.lemmas.Grind.{flat_map-append}
 use Rattle.std.proofs.lemmas.Bool.{and_parts}
+use Rattle.std.proofs.Math.Bool.{or-false}
 use Rattle.tla_token.specs.declared.place.Place.{Place}
 use Rattle.tla_token.specs.Signs.{is_among}
 use Rattle.tla_token.proofs.Spelled.{same_bytes}
@@ -16,7 +17,7 @@ use Rattle.pcal_tree.specs.Paths as path
 use Rattle.pcal_tree.specs.Paths.{Effect, Effects, nothing, Path, after_one, after, after_some, is_reached, meets, has_assigned, some_word, same_word}
 use Rattle.pcal_tree.specs.OffencesSteps.{Before, at_label, inside, next, Visit, visits_inside, visits, visits_of_some, assigns_twice, reached_variables, in_macro, effect_of_body, call_effect}
 use Rattle.pcal_tree.specs.laws.MacroSummaries.{Target, parameter, variable, in_turn, at_once, Found, Summary, same_target, same_truth, same_side, same_pair, union, none_found, both, put_found, found_in_call, found_here, argument, Trail, joined, trail_after_one, trail_after, trail_after_some, found_on, found_inside, found, found_in_some, summaries, resolved, is_broken, effect_by, summary_effect}
-use Rattle.pcal_tree.proofs.SetLaws.{or_false, any_flat, any_map, any_same, any_none, Same, same_both, among_flat, meets_any, meets_same, Agree, Sound, any_union}
+use Rattle.pcal_tree.proofs.SetLaws.{any_flat, any_map, any_same, any_none, Same, same_both, among_flat, meets_any, meets_same, Agree, Sound, any_union}
 use Rattle.pcal_tree.proofs.TargetLaws.{variables_of, roots_graft, clashes_graft, found_put, same_none}
 
 -- ---- what is the same is equal
@@ -150,12 +151,12 @@ again g ts us =
   where
     holds : (w : Word) (o : Option Word) → is_among (some_word o) w ≡ same_word o (Some w)
     holds w None = refl
-    holds w (Some x) = or_false (bytes_eq x w)
+    holds w (Some x) = or-false (bytes_eq x w)
 
     by : (o : Option Word) → list_any (is_among (variables_of g ts)) (some_word o) ≡ list_any (λ x. same_word (resolved g x) o) ts
     by None = sym (any_none (λ x. same_word (resolved g x) None) (λ x. same_none (resolved g x)) ts)
     by (Some w) =
-        or_false (is_among (variables_of g ts) w) ∙ among_flat (λ t. some_word (resolved g t)) ts w
+        or-false (is_among (variables_of g ts) w) ∙ among_flat (λ t. some_word (resolved g t)) ts w
         ∙ any_same (λ x. is_among (some_word (resolved g x)) w) (λ x. same_word (resolved g x) (Some w)) (λ x. holds w (resolved g x)) ts
 
     one : (y : Target) → list_any (is_among (variables_of g ts)) (some_word (resolved g y)) ≡ list_any (is_broken g) (map (λ x. in_turn x y) ts)
@@ -168,10 +169,10 @@ met_here g E b at st q f a k = by b.path q k
     by : (p : Path) (q : Trail) → On g p q
         → Same (cond (is_reached p) (E st).variables [] ++ []) (variables_of g (found_on q f).targets)
         × ((((E st).twice || has_assigned p (E st).variables) || false) ≡ list_any (is_broken g) (found_on q f).pairs)
-    by None None h = (λ t. refl, or_false ((E st).twice || false) ∙ or_false (E st).twice ∙ a.1)
+    by None None h = (λ t. refl, or-false ((E st).twice || false) ∙ or-false (E st).twice ∙ a.1)
     by (Some xs) (Some ts) h = (
-      λ t. list_any-append t (E st).variables [] ∙ or_false (list_any t (E st).variables) ∙ a.0 t,
-      or_false ((E st).twice || meets xs (E st).variables)
+      λ t. list_any-append t (E st).variables [] ∙ or-false (list_any t (E st).variables) ∙ a.0 t,
+      or-false ((E st).twice || meets xs (E st).variables)
           ∙ (λ i. a.1 i || meets_same xs (variables_of g ts) (E st).variables (variables_of g f.targets) h a.0 i)
           ∙ ap (λ (b : Bool). list_any (is_broken g) f.pairs || b) (again g ts f.targets)
           ∙ sym (any_union same_pair pair_sound (is_broken g) f.pairs (flat_map (λ y. map (λ x. in_turn x y) ts) f.targets)),

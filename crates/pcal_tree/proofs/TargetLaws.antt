@@ -3,6 +3,7 @@ use Rattle.std.proofs.Common.{◌≡◌, List, [], ◌∷◌, ◌++◌, Bool, tr
 use Rattle.std.specs.Option.{option_map}
 use Rattle.std.specs.List.{list_any, flat_map}
 use Rattle.std.proofs.lemmas.List.Folds.{list_any-append}
+use Rattle.std.proofs.Math.Bool.{or-false}
 use Rattle.tla_token.specs.declared.place.Place.{Place}
 use Rattle.tla_token.specs.Signs.{is_among}
 use Rattle.tla_expr.specs.Tree.{Word, apply, select, name, strict, Tree, node, Trees, no_trees, tree, Graft, grafted_name, graft, grafts, words}
@@ -12,7 +13,7 @@ use Rattle.pcal_tree.specs.Expand.{placed_at, graft_left, graft_assignments}
 use Rattle.pcal_tree.specs.Paths.{root, is_whole, some_word, roots, same_word, clash, clashes_with, clashes}
 use Rattle.pcal_tree.specs.laws.MacroSummaries.{Target, parameter, variable, Side, Pair, in_turn, at_once, target_in, sides_of, side_in, sides, pairs_of, argument, argument_target, put_target, argument_whole, put_whole, targets_of, put_pair, variable_of, resolved, resolved_whole, is_broken, Found, put_found, effect_by}
 use Rattle.pcal_tree.proofs.ExpandRuns.{same_argument}
-use Rattle.pcal_tree.proofs.SetLaws.{or_false, any_map, any_flat, any_same, any_none, any_or, Agree}
+use Rattle.pcal_tree.proofs.SetLaws.{any_map, any_flat, any_same, any_none, any_or, Agree}
 
 -- ---- the variable of a left side
 
@@ -115,7 +116,7 @@ two_sides ps ts w v None p = refl
 two_sides ps ts w v (Some x) None = ap (λ (b : Bool). b && ((w && argument_whole (argument ps ts x)) || (v && true))) (same_none (variable_of (argument ps ts x) x))
 two_sides ps ts w v (Some x) (Some y) =
     sym (λ i. same_word (resolved_name ps ts x i) (resolved_name ps ts y i) && ((w && whole_name ps ts x i) || (v && whole_name ps ts y i)))
-    ∙ sym (or_false one) ∙ sym (or_false (one || false))
+    ∙ sym (or-false one) ∙ sym (or-false (one || false))
   where
     one : Bool
     one = is_broken (argument ps ts) (at_once (record { target = target_in ps x; whole = w }) (record { target = target_in ps y; whole = v }))
@@ -140,7 +141,7 @@ more_sides : (g : Word → Option Tree) (w : Bool) (o : Option Target) (rest : L
 more_sides g w None rest = refl
 more_sides g w (Some t) rest =
     list_any-append (is_broken g) (map (at_once s) rest) (pairs_of rest)
-    ∙ ap (λ (b : Bool). b || list_any (is_broken g) (pairs_of rest)) (any_map (is_broken g) (at_once s) rest ∙ sym (or_false (list_any (λ r. is_broken g (at_once s r)) rest)))
+    ∙ ap (λ (b : Bool). b || list_any (is_broken g) (pairs_of rest)) (any_map (is_broken g) (at_once s) rest ∙ sym (or-false (list_any (λ r. is_broken g (at_once s r)) rest)))
   where
     s : Side
     s = record { target = t; whole = w }
@@ -205,13 +206,13 @@ turn_put : (g : Word → Option Tree) (o p : Option Target)
     → same_word (ResolvedOf g o) (ResolvedOf g p) ≡ list_any (is_broken g) (flat_map (λ c. map (in_turn c) (targets_of p)) (targets_of o))
 turn_put g None p = refl
 turn_put g (Some c) None = same_none (resolved g c)
-turn_put g (Some c) (Some d) = sym (or_false (same_word (resolved g c) (resolved g d)))
+turn_put g (Some c) (Some d) = sym (or-false (same_word (resolved g c) (resolved g d)))
 
 once_put : (g : Word → Option Tree) (w v : Bool) (o p : Option Target)
     → (same_word (ResolvedOf g o) (ResolvedOf g p) && ((w && WholeOf g o) || (v && WholeOf g p))) ≡ list_any (is_broken g) (flat_map (λ c. map (at_once c) (sides_of v p)) (sides_of w o))
 once_put g w v None p = refl
 once_put g w v (Some c) None = ap (λ (b : Bool). b && ((w && put_whole g c) || (v && true))) (same_none (resolved g c))
-once_put g w v (Some c) (Some d) = sym (or_false (is_broken g (at_once (record { target = c; whole = w }) (record { target = d; whole = v }))))
+once_put g w v (Some c) (Some d) = sym (or-false (is_broken g (at_once (record { target = c; whole = w }) (record { target = d; whole = v }))))
 
 pair_put : (ps : List Name) (ts : Trees) (qs : List Name) (us : Trees) (p : Pair)
     → is_broken (argument qs (grafts (arguments ps ts) us)) p ≡ list_any (is_broken (argument ps ts)) (put_pair ps (argument qs us) p)
@@ -241,7 +242,7 @@ found_put ps ts qs us f = (
   where
     of : (k : Word → Bool) (o : Option Target) → list_any k (some_word (ResolvedOf (argument ps ts) o)) ≡ list_any (λ u. list_any k (some_word (resolved (argument ps ts) u))) (targets_of o)
     of k None = refl
-    of k (Some u) = sym (or_false (list_any k (some_word (resolved (argument ps ts) u))))
+    of k (Some u) = sym (or-false (list_any k (some_word (resolved (argument ps ts) u))))
 
     one : (k : Word → Bool) (t : Target) → list_any k (some_word (resolved (argument qs (grafts (arguments ps ts) us)) t))
         ≡ list_any (λ u. list_any k (some_word (resolved (argument ps ts) u))) (targets_of (put_target ps (argument qs us) t))

@@ -1,6 +1,6 @@
 -- What is spelled is read: tuples, subscripts, fields, open forms; and all forms together.
 use Rattle.std.proofs.Common.{◌≡◌, ℕ, nat_eq, ◌+◌, Bool, true, false, not, ◌&&◌, ◌||◌, nat_lt, List, ◌∷◌, Some, Ok, refl, ap, ◌∙◌, arith}
-use Rattle.std.proofs.lemmas.Bool.{not-true}
+use Rattle.std.proofs.lemmas.Bool.{not-true, or_parts}
 use Rattle.tla_token.specs.declared.place.Place.{Place}
 use Rattle.tla_expr.specs.declared.op.Op.{Op}
 use Rattle.tla_expr.specs.declared.op.Op.TheVariants as op
@@ -107,10 +107,6 @@ head_primary (list o bs) p h = refl
 head_primary a p h = h
 
 -- a list ends before a subscript or field that may be after it
-or_left : (x y : Bool) → (x || y) ≡ false → x ≡ false
-or_left false y h = refl
-or_left true y h = h
-
 no_bullet : (o : Op) (b : Bool) (k : TokenView) → (is_call k || not (is_calm k || is_tail k)) ≡ false → (is_sign o k && b) ≡ false
 no_bullet o b (tk.sign q) h = absurd cc
 no_bullet o b k h = refl
@@ -119,7 +115,7 @@ head_inner : (e : ℕ) (a : Phrase) (p : Place) (k : TokenView) (us : List Token
 head_inner e a p k us g can s t = inner a g can
   where
     no_call : NoCall e us
-    no_call = rw s (or_left (is_call k) (not (is_calm k || is_tail k)) t)
+    no_call = rw s (or_parts (is_call k) (not (is_calm k || is_tail k)) t).0
 
     inner : (a : Phrase) → Good e a → can_be_head a p ≡ true → Inner e a us
     inner (list o bs) g can = (rw s (no_bullet o (nat_eq (first_bullet bs).col p.col) k t), bullets_behind e (first_bullet bs).col bs us p k g.2 g.1 s (not-true (nat_lt (first_bullet bs).col p.col) can))

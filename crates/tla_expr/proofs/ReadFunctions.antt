@@ -1,6 +1,7 @@
 -- What is spelled is read: sets of functions, and EXCEPT.
 use Rattle.std.proofs.Common.{◌≡◌, ℕ, ◌+◌, Bool, true, false, ◌&&◌, List, [], ◌∷◌, Ok, refl, sym, ap, ◌∙◌, arith}
 use Rattle.std.proofs.lemmas.Bool.{or_parts}
+use Rattle.std.proofs.Math.Bool.{and-false}
 use Rattle.tla_token.specs.declared.place.Place.{Place}
 use Rattle.tla_expr.specs.declared.op.Op.{Op}
 use Rattle.tla_expr.specs.declared.op.Op.TheVariants as op
@@ -16,7 +17,7 @@ use Rattle.tla_expr.proofs.ReadStops.{is_calm, Calm}
 use Rattle.tla_expr.proofs.ReadPhrases.{Prime, Reads, closed, is_end, Ends, end_calm, ReadsAll, primary_reads, tail_call}
 use Rattle.tla_expr.proofs.ReadForms.{is_start, Starts, starts, field_read}
 use Rattle.tla_expr.proofs.ReadElements.{from_word, assoc, cut_steps}
-use Rattle.tla_expr.proofs.ReadMembers.{is_name, is_member, cut, member, and_false, primary_member, sign_no_word}
+use Rattle.tla_expr.proofs.ReadMembers.{is_name, is_member, cut, member, primary_member, sign_no_word}
 
 -- ---- after a square bracket
 -- a token that decides after a first name
@@ -95,8 +96,8 @@ undecided : (e : ℕ) (a : Phrase) → Good e a → (us : List Token) → is_mem
 undecided e (name p x) g us m h = h
 undecided e (primed p x q) g us m h = rw g.1 refl
 undecided e (call p x q xs r) g us m h = rw g.1 refl
-undecided e (apply a p xs q) g us m h = undecided e a g.0 _ (primary_member a p g.1) (rw g.2 (and_false (is_name a)))
-undecided e (select a p d) g us m h = undecided e a g.0 _ (primary_member a p g.1) (rw g.2 (and_false (is_name a)))
+undecided e (apply a p xs q) g us m h = undecided e a g.0 _ (primary_member a p g.1) (rw g.2 (and-false (is_name a)))
+undecided e (select a p d) g us m h = undecided e a g.0 _ (primary_member a p g.1) (rw g.2 (and-false (is_name a)))
 undecided e (infix_of a p o b) g us m h =
     let w = or_parts (is_member a) (is_name a && is_in (sign_of o)) m in
     undecided e a g.3 (sign p o (spell b us)) w.0 (rw (g.4, sign_decides o) w.1)
@@ -117,7 +118,7 @@ first_part e p a ha hc g us n j o h = by (is_member a) refl
     calm = divider_calm (next e us).kind n
 
     by : (b : Bool) → is_member a ≡ b → Soon (j + steps a + 3) (λ r. peek e (squares r e p) (spell a us)) o
-    by false m n' l = squared e p (spell a us) (starts e a g us) (undecided e a g us m (rw (divider_decides (next e us).kind n) (and_false (is_name a)))) a us o (steps a + 3) j (closed a ha e g us calm) h n' (omega arith)
+    by false m n' l = squared e p (spell a us) (starts e a g us) (undecided e a g us m (rw (divider_decides (next e us).kind n) (and-false (is_name a)))) a us o (steps a + 3) j (closed a ha e g us calm) h n' (omega arith)
     by true m n' l =
         let v = member e a g m in
         let w = closed (cut a) hc e v.good us calm in

@@ -1,6 +1,7 @@
 -- Phrases that begin with a name and `\in`: what is after these two tokens is one phrase, and the element is put together from it.
 use Rattle.std.proofs.Common.{◌≡◌, ℕ, ◌≤◌, Bool, true, false, ◌||◌, ◌&&◌, not, nat_lt, List, [], ◌∷◌, Some, refl, sym, ap, ◌∙◌, arith, inl, inr}
 use Rattle.std.proofs.lemmas.Bool.{and_parts, or_cases, both_ways, ltb-true, le-ltb, lt-ltb, not-true}
+use Rattle.std.proofs.Math.Bool.{or-false, and-false}
 use Rattle.tla_token.specs.declared.place.Place.{Place}
 use Rattle.tla_expr.specs.declared.op.Op.{Op}
 use Rattle.tla_expr.specs.declared.op.Op.TheVariants as op
@@ -36,14 +37,6 @@ pub name_bind : (p : Place) (x : Word) (ts : List Token) → is_bind (word p x t
 name_bind p x [] = refl
 name_bind p x (t ∷ ts) = refl
 
-pub or_false : (x : Bool) → (x || false) ≡ x
-or_false true = refl
-or_false false = refl
-
-pub and_false : (x : Bool) → (x && false) ≡ false
-and_false true = refl
-and_false false = refl
-
 pub primary_member : (a : Phrase) (p : Place) → can_be_head a p ≡ true → is_member a ≡ false
 primary_member (infix_of a q o b) p h = absurd cc
 primary_member a p h = refl
@@ -63,9 +56,9 @@ sign_no_word o = refl
 
 bind_by : (e : ℕ) (a : Phrase) → Good e a → (ts : List Token) → is_bind (spell a ts) ≡ (is_member a || (is_name a && first_in ts))
 bind_by e (name p x) g ts = name_bind p x ts
-bind_by e (infix_of a q o b) g ts = bind_by e a g.3 (sign q o (spell b ts)) ∙ sym (or_false (is_member a || (is_name a && is_in (sign_of o))))
-bind_by e (apply a p xs q) g ts = bind_by e a g.0 (mark p tk.open_square (spell_all xs (mark q tk.close_square ts))) ∙ rw (primary_member a p g.1) (and_false (is_name a))
-bind_by e (select a p f) g ts = bind_by e a g.0 (mark p tk.dot (field_token f ts)) ∙ rw (primary_member a p g.1) (and_false (is_name a))
+bind_by e (infix_of a q o b) g ts = bind_by e a g.3 (sign q o (spell b ts)) ∙ sym (or-false (is_member a || (is_name a && is_in (sign_of o))))
+bind_by e (apply a p xs q) g ts = bind_by e a g.0 (mark p tk.open_square (spell_all xs (mark q tk.close_square ts))) ∙ rw (primary_member a p g.1) (and-false (is_name a))
+bind_by e (select a p f) g ts = bind_by e a g.0 (mark p tk.dot (field_token f ts)) ∙ rw (primary_member a p g.1) (and-false (is_name a))
 bind_by e (primed p x q) g ts = refl
 bind_by e (call p x q xs r) g ts = refl
 bind_by e (prefix_of p o a) g ts = word_bind (sign p o (spell a ts)) (sign_no_word o)
@@ -74,7 +67,7 @@ bind_by e (list o (bullet p a bs)) g ts = word_bind (spell (list o (bullet p a b
 bind_by e a g ts = word_bind (spell a ts) refl
 
 pub bind_member : (e : ℕ) (a : Phrase) → Good e a → is_bind (spell a []) ≡ is_member a
-bind_member e a g = bind_by e a g [] ∙ rw (and_false (is_name a)) (or_false (is_member a))
+bind_member e a g = bind_by e a g [] ∙ rw (and-false (is_name a)) (or-false (is_member a))
 
 -- ---- what is after `x \in` may be where the whole may
 low_infix : (o : Op) → is_prefix o ≡ false → nat_lt (rank o).1 5 ≡ true → nat_lt (rank o).1 4 ≡ true
@@ -95,7 +88,7 @@ prefix_high o h = absurd cc
 above_right : (e : ℕ) (u : Op) (b : Phrase) → Good e b → can_be_right op.In b ≡ true → ends_open b ≡ false → is_prefix u ≡ false
     → nat_lt (rank u).1 5 ≡ true → is_above u (head b) ≡ true
 above_right e u (infix_of a p o c) g m w n l =
-    let i = ltb-true 5 (rank o).0 (sym (or_false (nat_lt 5 (rank o).0)) ∙ m) in
+    let i = ltb-true 5 (rank o).0 (sym (or-false (nat_lt 5 (rank o).0)) ∙ m) in
     let j = ltb-true (rank u).1 5 l in
     lt-ltb (rank u).1 (rank o).0 (omega arith)
 above_right e u (prefix_of p o c) g m w n l =
@@ -178,5 +171,5 @@ more_member e a r u b q o d (n, l, m, ga, gq, gd) v = record {
 
 pub member : (e : ℕ) (d : Phrase) → Good e d → is_member d ≡ true → Member e d
 member e (infix_of (name p x) q op.In b) g h = one_member e p x q b g
-member e (infix_of (infix_of a r u b) q o d) g h = more_member e a r u b q o d g (member e (infix_of a r u b) g.3 (sym (or_false (is_member (infix_of a r u b))) ∙ h))
+member e (infix_of (infix_of a r u b) q o d) g h = more_member e a r u b q o d g (member e (infix_of a r u b) g.3 (sym (or-false (is_member (infix_of a r u b))) ∙ h))
 member e d g h = absurd cc

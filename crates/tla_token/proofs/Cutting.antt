@@ -180,7 +180,7 @@ letter_first b bs any = by (is_word b) refl
     by true e = refl
     by false e = (let f : false ≡ true = rw e at any in f)
 
-some_letters : (m : List ℕ) → list_any is_letter m ≡ true → 0 < length m
+pub some_letters : (m : List ℕ) → list_any is_letter m ≡ true → 0 < length m
 some_letters [] h = absurd cc
 some_letters (b ∷ m) h = omega arith
 

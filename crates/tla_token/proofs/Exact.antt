@@ -8,7 +8,7 @@ use Rattle.tla_token.specs.Cut.{parts}
 use Rattle.tla_token.proofs.Unique.{sound_text}
 use Rattle.tla_token.proofs.Cutting.{cut_fits}
 
-fit_sound : (ps : List Piece) → PartsFit (map sound ps) → AllFit ps
+pub fit_sound : (ps : List Piece) → PartsFit (map sound ps) → AllFit ps
 fit_sound [] h = tt
 fit_sound (p ∷ ps) (f, h) = (let F : List ℕ → Type 0 = λ u. Fits p u in (subst F (sound_text ps) f, fit_sound ps h))
 

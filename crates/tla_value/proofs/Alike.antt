@@ -1,15 +1,15 @@
--- A tree means the same in related environments: one law of each form, for any relation that its binders keep.
+-- A tree means the same in related environments, for any relation that its binders keep.
 use Rattle.std.proofs.Common.{◌≡◌, List, refl, subst, ap, ◌∙◌, Ok, Err}
 use Rattle.tla_token.specs.declared.place.Place.{Place}
-use Rattle.tla_expr.specs.Tree.{Form, name, next, operator_call, Tree, Trees, Every, EveryOf}
+use Rattle.tla_expr.specs.Tree.{Form, name, next, operator_call, Tree, Every}
 use Rattle.tla_value.specs.Value.{Outcome, Sense, fault}
 use Rattle.tla_value.specs.Stops.{Check}
-use Rattle.tla_value.specs.Meaning.{Denotation, called, meaning_of, eval, evals}
+use Rattle.tla_value.specs.Meaning.{Denotation, called, eval}
 use Rattle.tla_value.specs.Definitions.{trouble_at}
 use Rattle.tla_value.proofs.Relations.{Alike, KeptBy, ReadsAlike, Rel}
 use Rattle.tla_value.proofs.Facts.{every_weaker}
-use Rattle.tla_value.proofs.Joined.{Kin, Same, Both, none, one, Checks}
-use Rattle.tla_value.proofs.JoinedEval.{Senses, Dens, Read, Kept, form_kept, eval_both}
+use Rattle.tla_value.proofs.Joined.{Kin, Same, Both, Checks}
+use Rattle.tla_value.proofs.JoinedEval.{Senses, Read, Kept, eval_both}
 
 -- troubles and places stand for themselves alone
 abbrev pub equal : Kin
@@ -52,14 +52,6 @@ checks_equal c p q at v = joined_of _ _ (λ i. c (at i) v)
 abbrev pub AllAlike : Rel → List Denotation → List Denotation → Type 0
 AllAlike R = Both (Alike R)
 
-all_dens : (R : Rel) (ds es : List Denotation) → AllAlike R ds es → Both (Dens equal R) ds es
-all_dens R _ _ none = none
-all_dens R _ _ (one h hs) = one (λ e f r. senses_from _ _ (h e f r)) (all_dens R _ _ hs)
-
-all_alike : (R : Rel) (ds es : List Denotation) → Both (Dens equal R) ds es → AllAlike R ds es
-all_alike R _ _ none = none
-all_alike R _ _ (one h hs) = one (λ e f r. senses_are _ _ (h e f r)) (all_alike R _ _ hs)
-
 pub reads : (R : Rel) (m : Form) → ReadsAlike R m → Read equal R m
 reads R (name x) k = λ p q at e f r. senses_from _ _ (k p e f r ∙ (λ i. f.now x (at i)))
 reads R (next x) k = λ p q at e f r. senses_from _ _ (k p e f r ∙ (λ i. f.primed x (at i)))
@@ -68,11 +60,6 @@ reads R m k = tt
 
 kept : (R : Rel) (m : Form) (at : Place) → KeptBy R m at → Kept equal R m at
 kept R m at k = (k.0, reads R m k.1)
-
--- the law of a form
-pub alike : (R : Rel) (c : Check) (m : Form) (at : Place) (ds es : List Denotation) → KeptBy R m at → AllAlike R ds es → Alike R (meaning_of c m at ds) (meaning_of c m at es)
-alike R c m at ds es k ps e f r =
-    senses_are _ _ (form_kept equal R c c (checks_equal c) at at refl m ds es (kept R m at k) (all_dens R ds es ps) e f r)
 
 -- a tree that keeps the relation at each of its nodes
 pub eval_alike : (R : Rel) (c : Check) (t : Tree) → Every (KeptBy R) t → Alike R (eval c t) (eval c t)

@@ -5,6 +5,7 @@ use Rattle.std.specs.Cmp.{int_cmp_is}
 use Rattle.std.specs.Ordering.{is_eq, ordering_reverse}
 use Rattle.std.specs.declared.cmp.Ordering.TheVariants.{Less}
 use Rattle.std.proofs.lemmas.Int.{ints}
+use Rattle.std.proofs.lemmas.Bool.{or_right}
 use Rattle.tla_value.specs.Value.{Value, Values, fun, int, no_values, and, values_in}
 use Rattle.tla_value.specs.Order.{order, orders, same, holds, count, set_from, listed, found_at, pairs_of, arguments, first_at, in_front, values_at, fun_from, numbered, seq_from, sequence_of, IsBefore, IsAscending, IsCanonical, AreCanonical, ArePairsCanonical}
 use Rattle.tla_value.specs.OrderLaws.{order_total, orders_self, same_is, same_self}
@@ -37,14 +38,10 @@ has_none : (ps : List (Value × Value)) (v : Value) → holds v (values_in (argu
 has_none [] v h = refl
 has_none (p ∷ ps) v h = none_by p ps v (same v p.0) h (has_none ps v)
 
-or_else : (b c : Bool) → c ≡ true → (b || c) ≡ true
-or_else true c h = refl
-or_else false c h = h
-
 all_keyed : (ps : List (Value × Value)) (ds : Values) → ((u : Value) → holds u ds ≡ true → holds u (values_in (arguments ps)) ≡ true) → AreKeyed ps ds
 all_keyed ps no_values h = tt
 all_keyed ps (and d ds) h =
-    (has_first ps d (h d (first_held d ds)), all_keyed ps ds (λ u e. h u (or_else (same u d) (holds u ds) e)))
+    (has_first ps d (h d (first_held d ds)), all_keyed ps ds (λ u e. h u (or_right (same u d) (holds u ds) e)))
 
 domain_keyed : (ps : List (Value × Value)) → AreKeyed ps (set_from (arguments ps))
 domain_keyed ps = all_keyed ps (set_from (arguments ps)) (λ u e. sym (holds_set_from u (arguments ps)) ∙ e)

@@ -3,6 +3,7 @@ use Rattle.std.proofs.Common.{◌≡◌, Bool, true, false, ◌&&◌, ◌||◌, 
 use Rattle.std.specs.Ordering.{nat_cmp, is_eq}
 use Rattle.std.specs.declared.cmp.Ordering.{Ordering}
 use Rattle.std.specs.declared.cmp.Ordering.TheVariants.{Less, Equal, Greater}
+use Rattle.std.proofs.Math.Bool.{or-false}
 use Rattle.tla_token.specs.declared.place.Place.{Place}
 use Rattle.tla_expr.specs.declared.op.Op.{Op}
 use Rattle.tla_expr.specs.declared.op.Op.TheVariants.{Subset}
@@ -55,17 +56,13 @@ absorbed true true = refl
 absorbed true false = refl
 absorbed false x = refl
 
-or_false : (x : Bool) → (x || false) ≡ x
-or_false true = refl
-or_false false = refl
-
 -- whether w is the first, held after it, or neither
 first_or_behind : (w v : Value) (ws vs : Values) → IsAscending (and w ws) → IsAscending (and v vs) → (s h : Bool) → same w v ≡ s → holds w vs ≡ h →
     ((h && all_in ws vs) || (s && all_in ws vs)) ≡ ((s || h) && all_in ws (and v vs))
 first_or_behind w v ws vs a b true h q k =
     absorbed h (all_in ws vs) ∙ sym (past_first v ws vs (subst (λ x. IsBefore x ws) (same_is w v q) a.0) a.1)
 first_or_behind w v ws vs a b false true q k =
-    or_false (all_in ws vs) ∙ sym (past_first v ws vs (before_next v w ws (held_behind v w vs b.0 b.1 k) a.0) a.1)
+    or-false (all_in ws vs) ∙ sym (past_first v ws vs (before_next v w ws (held_behind v w vs b.0 b.1 k) a.0) a.1)
 first_or_behind w v ws vs a b false false q k = refl
 
 among_sublists : (ws vs : Values) → IsAscending ws → IsAscending vs → is_among ws (sublists vs) ≡ all_in ws vs

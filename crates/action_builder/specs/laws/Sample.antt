@@ -1,16 +1,20 @@
--- A step with a macro call, an assignment to a variable of the process, a bound name in an `await`, a jump and a call, to which all laws apply:
+-- A step to which all laws apply, with a macro call, an assignment to a variable of the process, a definition beside variables of its
+-- parameters' names, a bound name in an `await`, a jump and a call:
+--   outside: Max(x, y) == IF x > y THEN x ELSE y
 --   variables x = 0;  macro inc(n) begin n := n + 1; end macro;
 --   procedure P(a = 0) variable b = 1; begin C: return; end procedure;
---   process Q \in {"me"} variable y = 0; begin A: inc(x); y := x; await \E i \in {2, 3}: i > x; if x > 1 then goto A; else call P(y); end if; B: skip; end process;
+--   process Q \in {"me"} variable y = 0; begin A: inc(x); y := Max(x, y); await \E i \in {2, 3}: i > x;
+--     if x > 1 then goto A; else call P(y); end if; B: skip; end process;
 use Rattle.std.specs.Prelude.{ℕ, List, [], ◌∷◌, Bool, true, false, codes, Some, None, Ok}
 use Rattle.tla_expr.specs.declared.op.Binder.TheVariants.{Exists}
 use Rattle.tla_expr.specs.declared.op.Op.{Op}
 use Rattle.tla_expr.specs.declared.op.Op.TheVariants.{Plus, Greater}
-use Rattle.tla_expr.specs.Tree.{Word, number, string, set_of, name, strict, operator, binding, Tree, node, no_trees, tree}
+use Rattle.tla_expr.specs.Tree.{Word, number, string, set_of, name, strict, operator, operator_call, if_then_else, binding, Tree, node, no_trees, tree}
 use Rattle.tla_value.specs.Value.{Value, text}
 use Rattle.tla_value.specs.Stops.{plain}
 use Rattle.tla_value.specs.Standard.{standard_of, standard_called}
 use Rattle.tla_value.specs.Meaning.{Env, just, bind}
+use Rattle.tla_value.specs.Definitions.{Definition, with_definitions}
 use Rattle.pcal_tree.specs.declared.mark.Mark.TheVariants.{Plain}
 use Rattle.pcal_tree.specs.declared.mark.Fairness.TheVariants.{Unfair}
 use Rattle.pcal_tree.specs.Algorithm.{nowhere, Name, Span, no_assignments, assignment, Statement, assign, await, skip, branch, goto, macro, call, return, Statements, done, then, mark, equals, Declaration, Macro, Procedure, Process, processes, Routine, Algorithm, process_routine, Naming}
@@ -43,8 +47,17 @@ over o a b = node (strict (operator o)) nowhere (tree a (tree b no_trees))
 abbrev pub no_span : Span
 no_span = record { first = nowhere; last = nowhere }
 
+-- Max(x, y) == IF x > y THEN x ELSE y
+abbrev pub larger_of_two : Definition
+larger_of_two = record {
+  title = codes "Max";
+  params = codes "x" ∷ codes "y" ∷ [];
+  body = node if_then_else nowhere (tree (over Greater (var (codes "x")) (var (codes "y"))) (tree (var (codes "x")) (tree (var (codes "y")) no_trees)));
+  outside = true;
+}
+
 -- \E i \in {2, 3}: i > x
-abbrev larger : Tree
+abbrev pub larger : Tree
 larger = node (binding Exists ((title (codes "i") ∷ []) ∷ [])) nowhere (tree (node (strict set_of) nowhere (tree (num 2) (tree (num 3) no_trees))) (tree (over Greater (var (codes "i")) (var (codes "x"))) no_trees))
 
 abbrev and_next : Statement → Statements → Statements
@@ -63,7 +76,7 @@ macros = inc ∷ []
 abbrev pub unexpanded : Statements
 unexpanded =
     and_next (macro (codes "inc") (tree (var (codes "x")) no_trees)) (
-    and_next (sets (codes "y") (var (codes "x"))) (
+    and_next (sets (codes "y") (node (operator_call (codes "Max")) nowhere (tree (var (codes "x")) (tree (var (codes "y")) no_trees)))) (
     and_next (await larger) (
     and_next (branch (over Greater (var (codes "x")) (num 1)) (and_next (goto (codes "A")) done) (and_next (call (title (codes "P")) (tree (var (codes "y")) no_trees)) done)) (
     mark (title (codes "B")) Plain (and_next skip done)))))
@@ -100,7 +113,7 @@ abbrev names : Naming
 names = record { local = λ n w. w; label = λ n l. l; title = λ n. codes "P" }
 
 abbrev pub program : Program
-program = record { check = plain; constants = λ w. None; outside = []; algorithm = algorithm; naming = names }
+program = record { check = plain; constants = λ w. None; outside = larger_of_two ∷ []; algorithm = algorithm; naming = names }
 
 abbrev pub routine : Routine
 routine = process_routine 2 process
@@ -123,9 +136,12 @@ variables = codes "x" ∷ pc ∷ stack ∷ codes "a" ∷ codes "b" ∷ codes "y"
 abbrev pub own : Word → Bool
 own w = is_among (pc ∷ stack ∷ codes "a" ∷ codes "b" ∷ codes "y" ∷ []) w
 
--- each variable has its value in the state, or primed in the second
+abbrev pub variables_env : State → State → Env
+variables_env s t = record { now = λ w at. just (s w); primed = λ w at. just (t w); defs = λ f. standard_called plain (standard_of f) }
+
+-- each variable has its value in the state, or primed in the second, and Max is defined
 abbrev pub plain_env : State → State → Env
-plain_env s t = record { now = λ w at. just (s w); primed = λ w at. just (t w); defs = λ f. standard_called plain (standard_of f) }
+plain_env s t = with_definitions plain (larger_of_two ∷ []) (variables_env s t)
 
 abbrev pub plain_scope : Scope
 plain_scope = record { env = λ s. plain_env s s; part = λ w at s. Ok (part_at w []); origin = λ w at. at }
