@@ -1,4 +1,5 @@
 pub mod TreeLemmas
+pub mod PoolGrown
 pub mod Operands
 mod Rows
 mod RowsView

@@ -7,12 +7,16 @@ pub mod form;
 pub mod graft;
 pub mod laws;
 pub mod name;
+pub mod node;
 pub mod op;
+pub mod pool;
 
 pub use expr::Expr;
 pub use exprs::Exprs;
 pub use name::{Name, NameList, PlacedName, Text};
+pub use node::{Node, NodeId};
 pub use op::{Binder, Op, rank};
+pub use pool::Pool;
 
 #[cfg(test)]
 mod tests {
@@ -22,6 +26,7 @@ mod tests {
     use super::graft::{Grafting, grafted};
     use super::name::{Name, NameList, PlacedName, Text};
     use super::op::{Binder, Op, rank};
+    use super::pool::Pool;
     use std::alloc::{AllocError, Global};
     use tla_token::Place;
 
@@ -140,6 +145,38 @@ mod tests {
         assert!(rt;
             matches!(&form, Form::Binding(Binder::Exists, groups) if groups.len() == 1 && groups[0].len() == 2)
         );
+        Ok(())
+    }
+
+    #[test]
+    fn equal_trees_have_one_number(rt: HostRuntime) -> Result<(), AllocError> {
+        let alloc = rt.alloc();
+        let here = Place { line: 1, col: 1 };
+        let there = Place { line: 1, col: 2 };
+        let mut pool = Pool::new(alloc);
+        let first = pool.put(Form::Number(1), here, Vec::new(alloc))?;
+        let again = pool.put(Form::Number(1), here, Vec::new(alloc))?;
+        let elsewhere = pool.put(Form::Number(1), there, Vec::new(alloc))?;
+        let other = pool.put(Form::Truth(true), here, Vec::new(alloc))?;
+        assert_eq!(rt; first, again);
+        assert!(rt; first != elsewhere);
+        assert!(rt; first != other);
+        assert_eq!(rt; pool.len(), 3);
+        Ok(())
+    }
+
+    #[test]
+    fn a_chain_is_as_long_as_its_different_nodes(rt: HostRuntime) -> Result<(), AllocError> {
+        let alloc = rt.alloc();
+        let place = Place { line: 1, col: 1 };
+        let mut pool = Pool::new(alloc);
+        let mut last = pool.put(Form::Truth(true), place, Vec::new(alloc))?;
+        for _ in 0..3000 {
+            assert!(rt; last < pool.len());
+            let parts = Vec::from_array(alloc, [last, last])?;
+            last = pool.put(Form::Both, place, parts)?;
+        }
+        assert_eq!(rt; pool.len(), 3001);
         Ok(())
     }
 }
