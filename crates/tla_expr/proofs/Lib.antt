@@ -1,5 +1,6 @@
 pub mod TreeLemmas
 pub mod PoolGrown
+pub mod PoolNumbers
 pub mod Operands
 mod Rows
 mod RowsView
