@@ -5,6 +5,7 @@ pub mod Operands
 mod Rows
 mod RowsView
 mod RowsSpelling
+mod RowsPool
 mod RowsReader
 mod RowsWritable
 pub mod ColumnsGood

@@ -1,9 +1,9 @@
 -- The test for equal nodes, and what is hashed of one.
-use Rattle.std.specs.Prelude.{◌++◌, ◌≡◌, Bool, true, false, IsTrue, ◌↔◌, refl}
+use Rattle.std.specs.Prelude.{◌++◌, ◌≡◌, true}
 use Rattle.std.specs.Bool.{Decides}
 use Rattle.std.specs.Cmp.{IsEquivalence, IsPartialEquivalence}
 use Rattle.std.specs.Hash as fed
-use Rattle.std.proofs.Common.{ap, sym}
+use Rattle.std.proofs.Common.{ap}
 use Rattle.tla_expr.specs.Pool.{Entry, entry_code, same_entry}
 use Rattle.tla_expr.specs.Same.{same_by-Decides, equivalence_by, partial_by}
 
@@ -23,9 +23,3 @@ fed_entry n = fed.u32 n.place.line ++ fed.u32 n.place.col ++ fed.slice fed.usize
 
 pub fed_same : (a b : Entry) → same_entry a b ≡ true → fed_entry a ≡ fed_entry b
 fed_same a b h = ap fed_entry ((same_entry-Decides a b).0 h)
-
--- two tests of one thing
-pub told : {P : Type 0} (r e : Bool) → (IsTrue r ↔ P) → Decides e P → r ≡ e
-told true e h d = sym (d.1 (h.0 refl))
-told false true h d = h.1 (d.0 refl)
-told false false h d = refl

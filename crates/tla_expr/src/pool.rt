@@ -1,6 +1,6 @@
 //! The pool: expressions as numbered nodes, each node once.
 
-ghost use Rattle.std.specs.Prelude.{◌≡◌, ◌<◌, [], length, IfOk, OnErr, IsTrue, ◌↔◌};
+ghost use Rattle.std.specs.Prelude.{◌≡◌, ◌<◌, [], length, IfOk, OnErr};
 ghost use Rattle.tla_expr.specs.Tree.{node};
 ghost use Rattle.tla_expr.specs.FormOf.{form_of};
 ghost use Rattle.tla_expr.specs.Pool.{at, trees_at, AllBelow, Keeps, Differ};
