@@ -1,8 +1,11 @@
 pub mod TreeLemmas
+pub mod PoolGrown
+pub mod PoolNumbers
 pub mod Operands
 mod Rows
 mod RowsView
 mod RowsSpelling
+mod RowsPool
 mod RowsReader
 mod RowsWritable
 pub mod ColumnsGood

@@ -3,6 +3,9 @@ pub mod FormOf
 pub mod Shapes
 pub mod TreeOf
 pub mod Code
+pub mod Same
+pub mod Pool
+pub mod PoolEquality
 pub mod Rank
 pub mod Lexical
 pub mod TokenViews

@@ -1,6 +1,6 @@
 //! Forms of expressions: all of an expression but its place and its parts.
 
-ghost use Rattle.std.specs.Prelude.{◌≡◌, IfOk};
+ghost use Rattle.std.specs.Prelude.{◌≡◌, IfOk, IsTrue, ◌↔◌};
 ghost use Rattle.tla_expr.specs.FormOf.{step_of, steps_of, slot_of, slots_of, strict_of, groups_of, form_of};
 
 use crate::name::{Name, NameList, PlacedName, Text};
@@ -93,6 +93,31 @@ impl Step {
             Step::Field(a) => Ok(Step::Field(a.copied()?)),
         }
     }
+
+    /// Whether the two are the same step.
+    pub fn is(&self, other: &Step) -> bool
+        ensures { IsTrue result ↔ (step_of self.now ≡ step_of other.now) }
+    {
+        match self {
+            Step::Index => matches!(other, Step::Index),
+            Step::Field(a) => match other {
+                Step::Field(b) => a.is(b),
+                _ => false,
+            },
+        }
+    }
+}
+
+fn same_steps(xs: &[Step], ys: &[Step]) -> bool
+    ensures { IsTrue result ↔ (steps_of xs.now ≡ steps_of ys.now) }
+{
+    match xs.split_first() {
+        None => ys.is_empty(),
+        Some((x, xs)) => match ys.split_first() {
+            None => false,
+            Some((y, ys)) => x.is(y) && same_steps(xs, ys),
+        },
+    }
 }
 
 fn copied_steps(alloc: Global, steps: &[Step]) -> Result<Vec<Step>, AllocError>
@@ -115,6 +140,25 @@ impl Slot {
             path,
             place: self.place,
         })
+    }
+
+    /// Whether the two are the same setting.
+    pub fn is(&self, other: &Slot) -> bool
+        ensures { IsTrue result ↔ (slot_of self.now ≡ slot_of other.now) }
+    {
+        same_steps(&self.path, &other.path) && self.place == other.place
+    }
+}
+
+fn same_slots(xs: &[Slot], ys: &[Slot]) -> bool
+    ensures { IsTrue result ↔ (slots_of xs.now ≡ slots_of ys.now) }
+{
+    match xs.split_first() {
+        None => ys.is_empty(),
+        Some((x, xs)) => match ys.split_first() {
+            None => false,
+            Some((y, ys)) => x.is(y) && same_slots(xs, ys),
+        },
     }
 }
 
@@ -144,6 +188,62 @@ impl Strict {
             Strict::Select(a) => Ok(Strict::Select(a.copied()?)),
             Strict::Except(slots) => Ok(Strict::Except(copied_slots(alloc, slots)?)),
         }
+    }
+
+    /// Whether the two are the same form.
+    pub fn is(&self, other: &Strict) -> bool
+        ensures { IsTrue result ↔ (strict_of self.now ≡ strict_of other.now) }
+    {
+        match self {
+            Strict::Operator(a) => match other {
+                Strict::Operator(b) => *a == *b,
+                _ => false,
+            },
+            Strict::SetOf => matches!(other, Strict::SetOf),
+            Strict::Tuple => matches!(other, Strict::Tuple),
+            Strict::Fields(a) => match other {
+                Strict::Fields(b) => a.is(b),
+                _ => false,
+            },
+            Strict::Records(a) => match other {
+                Strict::Records(b) => a.is(b),
+                _ => false,
+            },
+            Strict::Functions => matches!(other, Strict::Functions),
+            Strict::Apply => matches!(other, Strict::Apply),
+            Strict::Select(a) => match other {
+                Strict::Select(b) => a.is(b),
+                _ => false,
+            },
+            Strict::Except(a) => match other {
+                Strict::Except(b) => same_slots(a, b),
+                _ => false,
+            },
+        }
+    }
+}
+
+fn same_names(xs: &[PlacedName], ys: &[PlacedName]) -> bool
+    ensures { IsTrue result ↔ (xs.now ≡ ys.now) }
+{
+    match xs.split_first() {
+        None => ys.is_empty(),
+        Some((x, xs)) => match ys.split_first() {
+            None => false,
+            Some((y, ys)) => x.is(y) && same_names(xs, ys),
+        },
+    }
+}
+
+fn same_groups(xs: &[Vec<PlacedName>], ys: &[Vec<PlacedName>]) -> bool
+    ensures { IsTrue result ↔ (groups_of xs.now ≡ groups_of ys.now) }
+{
+    match xs.split_first() {
+        None => ys.is_empty(),
+        Some((x, xs)) => match ys.split_first() {
+            None => false,
+            Some((y, ys)) => same_names(x, y) && same_groups(xs, ys),
+        },
     }
 }
 
@@ -196,6 +296,64 @@ impl Form {
                 copied_groups(alloc, groups)?,
             )),
             Form::Local(names) => Ok(Form::Local(copied_names(alloc, names)?)),
+        }
+    }
+
+    /// Whether the two are the same form.
+    pub fn is(&self, other: &Form) -> bool
+        ensures { IsTrue result ↔ (form_of self.now ≡ form_of other.now) }
+    {
+        match self {
+            Form::Number(a) => match other {
+                Form::Number(b) => *a == *b,
+                _ => false,
+            },
+            Form::Quote(a) => match other {
+                Form::Quote(b) => a.is(b),
+                _ => false,
+            },
+            Form::Truth(a) => match other {
+                Form::Truth(b) => *a == *b,
+                _ => false,
+            },
+            Form::Booleans => matches!(other, Form::Booleans),
+            Form::Strings => matches!(other, Form::Strings),
+            Form::Name(a) => match other {
+                Form::Name(b) => a.is(b),
+                _ => false,
+            },
+            Form::Next(a) => match other {
+                Form::Next(b) => a.is(b),
+                _ => false,
+            },
+            Form::Strict(a) => match other {
+                Form::Strict(b) => a.is(b),
+                _ => false,
+            },
+            Form::Call(a) => match other {
+                Form::Call(b) => a.is(b),
+                _ => false,
+            },
+            Form::Both => matches!(other, Form::Both),
+            Form::OrElse => matches!(other, Form::OrElse),
+            Form::Implies => matches!(other, Form::Implies),
+            Form::Member(a) => match other {
+                Form::Member(b) => *a == *b,
+                _ => false,
+            },
+            Form::Choice => matches!(other, Form::Choice),
+            Form::Cases(a) => match other {
+                Form::Cases(b) => *a == *b,
+                _ => false,
+            },
+            Form::Binding(a, groups) => match other {
+                Form::Binding(b, others) => *a == *b && same_groups(groups, others),
+                _ => false,
+            },
+            Form::Local(a) => match other {
+                Form::Local(b) => same_names(a, b),
+                _ => false,
+            },
         }
     }
 }

@@ -109,6 +109,13 @@ impl PlacedName {
             place: self.place,
         })
     }
+
+    /// Whether the two are the same name at the same place.
+    pub fn is(&self, other: &PlacedName) -> bool
+        ensures { IsTrue result ↔ (self.now ≡ other.now) }
+    {
+        self.name.is(&other.name) && self.place == other.place
+    }
 }
 
 /// A text, as its bytes: a string, or what is written. Contracts see the list of its bytes.
@@ -146,6 +153,13 @@ impl Text {
     {
         let bytes = self.bytes.clone()?;
         Ok(Text { bytes })
+    }
+
+    /// Whether the two are the same text.
+    pub fn is(&self, other: &Text) -> bool
+        ensures { IsTrue result ↔ (self.now ≡ other.now) }
+    {
+        self.bytes() == other.bytes()
     }
 }
 
@@ -212,5 +226,12 @@ impl NameList {
             names.push(name.copied()?)?;
         }
         Ok(NameList { names })
+    }
+
+    /// Whether the two are the same names in the same order.
+    pub fn is(&self, other: &NameList) -> bool
+        ensures { IsTrue result ↔ (self.now ≡ other.now) }
+    {
+        self.names == other.names
     }
 }

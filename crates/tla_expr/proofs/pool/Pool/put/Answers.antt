@@ -1,0 +1,31 @@
+-- Proves what is asked of `put`.
+use Rattle.std.proofs.Common.{◌≡◌, arith, length, subst, sym, []}
+use Rattle.tla_expr.specs.Tree.{node}
+use Rattle.tla_expr.specs.FormOf.{form_of}
+use Rattle.tla_expr.specs.Pool.{Entry, at, trees_at, AllBelow, Keeps, grown}
+use Rattle.tla_expr.proofs.PoolGrown.{AreShaped-insert, length-grown, Keeps-insert, AreOlder-insert, put-tree}
+use Rattle.tla_expr.proofs.pool.Pool.put.Goals as goal
+
+pub invariant_of-self-2 : goal.invariant_of-self-2
+invariant_of-self-2 c = (
+  AreOlder-insert c.self.inside.nodes.keys _ (record { form = form_of c.args.form; place = c.args.place; parts = c.args.parts.items }) c.self.invariant.0
+      (subst (λ ts. AllBelow (length ts) c.args.parts.items) (sym c.self.view_is) c.requires.below) c.in_ok-id.ensures.keys,
+  AreShaped-insert c.self.inside.nodes.keys _ (record { form = form_of c.args.form; place = c.args.place; parts = c.args.parts.items }) c.self.invariant.1 c.requires.shaped c.in_ok-id.ensures.keys,
+)
+
+pub returns-clause-kept : goal.returns-clause-kept
+returns-clause-kept c = subst (λ ts. Keeps ts (grown [] c.insert_full.new.self.keys)) c.self.view_is (Keeps-insert c.self.inside.nodes.keys _ _ c.in_ok-id.ensures.keys)
+
+pub returns-clause-within : goal.returns-clause-within
+returns-clause-within c = omega (arith, length-grown [] c.insert_full.new.self.keys, c.in_ok-id.ensures.within)
+
+pub returns-clause-tree : goal.returns-clause-tree
+returns-clause-tree c =
+    let ns = c.self.inside.nodes.keys in
+    let n : Entry = record { form = form_of c.args.form; place = c.args.place; parts = c.args.parts.items } in
+    let below : AllBelow (length (grown [] ns)) n.parts = subst (λ ts. AllBelow (length ts) c.args.parts.items) (sym c.self.view_is) c.requires.below in
+    let older = AreOlder-insert ns _ n c.self.invariant.0 below c.in_ok-id.ensures.keys in
+    let kept = Keeps-insert ns _ _ c.in_ok-id.ensures.keys in
+    let s = c.in_ok-id.ensures.stored in
+    subst (λ ts. at (grown [] c.insert_full.new.self.keys) c.in_ok-id.id ≡ node n.form n.place (trees_at ts n.parts)) c.self.view_is
+    (put-tree ns _ n s.0 c.in_ok-id.id older below kept c.in_ok-id.ensures.within s.1 s.2)
