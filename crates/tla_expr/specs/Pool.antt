@@ -2,6 +2,7 @@
 use Rattle.std.specs.Prelude.{◌≡◌, ℕ, ◌+◌, ◌<◌, ◌≤◌, Bool, List, [], ◌∷◌, ◌++◌, length, map, get_or}
 use Rattle.std.specs.Coded.{Coded, codes}
 use Rattle.tla_token.specs.declared.place.Place.{Place}
+use Rattle.tla_token.specs.Places.{nowhere}
 use Rattle.tla_expr.specs.Tree.{Form, Tree, node, Trees, no_trees, number}
 use Rattle.tla_expr.specs.TreeOf.{trees_from}
 use Rattle.tla_expr.specs.Shapes.{Shaped}
@@ -21,7 +22,7 @@ same_entry a b = same_by entry_code a b
 
 -- the tree of a number; past the list, any
 abbrev pub nothing : Tree
-nothing = node (number 0) (record { line = 0; col = 0 }) no_trees
+nothing = node (number 0) nowhere no_trees
 
 abbrev pub at : List Tree → ℕ → Tree
 at ts i = get_or ts i nothing

@@ -1,6 +1,7 @@
 -- Reading an expression from left to right, as a function of its tokens ("Specifying Systems", chapter 15).
 use Rattle.std.specs.Prelude.{◌≡◌, ℕ, zero, suc, ◌*◌, Bool, true, false, ◌||◌, ◌&&◌, not, nat_lt, nat_eq, List, [], ◌∷◌, Option, Some, None, Result, Ok, Err, length, if◌then◌else◌}
 use Rattle.tla_token.specs.declared.place.Place.{Place}
+use Rattle.tla_token.specs.Places.{nowhere}
 use Rattle.tla_expr.specs.declared.op.Op.{Op}
 use Rattle.tla_expr.specs.declared.op.Op.TheVariants as op
 use Rattle.tla_expr.specs.Tree.{Word}
@@ -35,7 +36,7 @@ refuses ts = Err ts
 
 -- what is seen at the end, and where the next token is not to the right of the edge
 abbrev pub end : Token
-end = token (record { line = 0; col = 0 }) (tk.other [])
+end = token nowhere (tk.other [])
 
 -- the next token, where it is to the right of the edge
 abbrev pub next : ℕ → List Token → Token
