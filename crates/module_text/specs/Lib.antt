@@ -1,4 +1,5 @@
 pub mod Module
+pub mod Ways
 pub mod ExprText
 pub mod Layout
 pub mod TextFront
