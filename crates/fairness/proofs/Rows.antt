@@ -1,0 +1,1 @@
+-- Demands of small algorithms, by computation.
