@@ -5,7 +5,7 @@ use Rattle.module_text.specs.Module.{call, Way, one_way, some_way}
 use Rattle.module_text.specs.Formulas.{self, named, quoted, process_set, equal, at, for_all_self}
 use Rattle.pcal_tree.specs.Algorithm.{Main, alone, processes}
 use Rattle.pcal_tree.specs.OffencesLabels.{label_words}
-use Rattle.pcal_tree.specs.Takers.{Takers, each_of, single, lone, Taken, taken_main}
+use Rattle.pcal_tree.specs.Takers.{Takers, each_of, Taken, taken_main}
 use Rattle.pcal_tree.specs.Program.{Program}
 use Rattle.pcal_tree.specs.Calls.{label_name}
 use Rattle.pcal_tree.specs.Variables.{pc}

@@ -2,7 +2,7 @@
 -- section 8.6).
 use Rattle.std.specs.Prelude.{ℕ, List, [], ◌∷◌, map, flat_map, Bool, true, false, Option, Some, None}
 use Rattle.tla_expr.specs.Tree.{Word}
-use Rattle.pcal_tree.specs.Algorithm.{Routine, routines, Algorithm}
+use Rattle.pcal_tree.specs.Algorithm.{Routine, routines}
 use Rattle.pcal_tree.specs.OffencesLabels.{label_words}
 use Rattle.pcal_tree.specs.Program.{Program}
 use Rattle.pcal_tree.specs.Calls.{label_name}

@@ -1,3 +1,5 @@
 pub mod Trees
-pub mod RowsWhole
-pub mod RowsSteps
+mod RowsWhole
+mod RowsSteps
+mod RowsProcesses
+mod RowsAll

@@ -1,5 +1,5 @@
 -- A whole translation, to the byte, by computation.
-use Rattle.std.proofs.Common.{◌≡◌, [], ◌∷◌, ◌++◌, true, false, codes, refl}
+use Rattle.std.proofs.Common.{◌≡◌, [], ◌∷◌, true, false, codes, refl}
 use Rattle.std.specs.Fmt.{digits}
 use Rattle.tla_expr.specs.declared.op.Op.TheVariants.{Plus}
 use Rattle.module_text.specs.Formulas.{named}

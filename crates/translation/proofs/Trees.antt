@@ -1,14 +1,13 @@
 -- Small algorithms on which the written module is tried, in few words.
 use Rattle.std.specs.Prelude.{ℕ, List, [], ◌∷◌, ◌++◌, false, codes}
 use Rattle.tla_expr.specs.declared.op.Op.{Op}
-use Rattle.tla_expr.specs.Tree.{Word, Name, number, strict, operator, tuple, truth, Tree, node, no_trees, tree}
+use Rattle.tla_expr.specs.Tree.{Word, Name, number, strict, operator, tuple, Tree, node, no_trees, tree}
 use Rattle.tla_value.specs.Outside.{Outside}
-use Rattle.module_text.specs.Formulas.{named, trees_of, at}
-use Rattle.module_text.specs.Module.{Action, action_unit, Region}
+use Rattle.module_text.specs.Formulas.{named}
+use Rattle.module_text.specs.Module.{Action, action_unit}
 use Rattle.module_text.specs.Layout.{unit_text}
 use Rattle.pcal_tree.specs.declared.mark.Mark.TheVariants.{Plain}
-use Rattle.pcal_tree.specs.declared.mark.Fairness.TheVariants.{Unfair}
-use Rattle.pcal_tree.specs.Algorithm.{nowhere, Assignments, no_assignments, assignment, Statement, assign, Statements, done, then, mark, equals, Declaration, Macro, Procedure, Process, Main, alone, processes, Algorithm}
+use Rattle.pcal_tree.specs.Algorithm.{nowhere, no_assignments, assignment, Statement, assign, Statements, done, then, mark, equals, Declaration, Procedure, Process, Main, alone, processes, Algorithm}
 use Rattle.pcal_tree.specs.Placeless.{no_span}
 
 abbrev pub word : Word → Name

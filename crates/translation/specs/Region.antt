@@ -1,6 +1,6 @@
 -- The written module: the one that is written for a labelled algorithm, with what the module has outside and the option `--no-terminating`
 -- ("A PlusCal User's Manual", sections 3 and 4).
-use Rattle.std.specs.Prelude.{List, Bool, map}
+use Rattle.std.specs.Prelude.{Bool, map}
 use Rattle.tla_expr.specs.Tree.{Word}
 use Rattle.tla_value.specs.Outside.{Outside}
 use Rattle.module_text.specs.Module.{Region, Module}
