@@ -3,3 +3,4 @@ mod RowsWhole
 mod RowsSteps
 mod RowsProcesses
 mod RowsAll
+pub mod NoPlaces

@@ -5,10 +5,21 @@ ghost use Rattle.tla_expr.specs.Tree.{Word};
 ghost use Rattle.tla_value.specs.Outside.{Outside};
 ghost use Rattle.pcal_tree.specs.Algorithm.{Algorithm};
 ghost use Rattle.pcal_tree.specs.Placeless.{placeless};
-ghost use Rattle.translation.specs.Region.{written_module};
+ghost use Rattle.pcal_tree.specs.Names.{naming};
+ghost use Rattle.pcal_tree.specs.Variables.{vars};
+ghost use Rattle.action_builder.specs.WrittenNames.{with_names};
+ghost use Rattle.translation.specs.Region.{written_region, written_module};
 
 /// The written module of an algorithm and of the same one with other places are the same.
 pub fn no_place_matters_to_the_written_module()
     ensures { (no_terminating : Bool) (title : Word) (o : Outside) (g h : Algorithm) → placeless g ≡ placeless h
         → written_module no_terminating title o g ≡ written_module no_terminating title o h }
+{}
+
+/// The written names of an algorithm don't depend on its places; so the variables of the written module are the algorithm's
+/// variables under their written names, in their order, also in its tuple `vars`.
+pub fn the_variables_are_the_written_names()
+    ensures names { (o : Outside) (g : Algorithm) → naming (placeless g) o ≡ naming g o }
+    ensures variables { (no_terminating : Bool) (o : Outside) (g : Algorithm) → (written_region no_terminating o g).variables ≡ vars (with_names o g) }
+    ensures vars { (no_terminating : Bool) (o : Outside) (g : Algorithm) → (written_region no_terminating o g).vars ≡ vars (with_names o g) }
 {}
