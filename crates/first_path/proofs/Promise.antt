@@ -22,7 +22,7 @@ use Rattle.first_path.proofs.MeansNext.{next_is}
 use Rattle.first_path.proofs.MeansInit.{init_is}
 
 -- the translation is around the text wherever its trees say that they are
-around : (x : List ℕ) (q : Places) (f : Parts) → IsForm x f → Around x (module_at q f) (translation_of x f)
+pub around : (x : List ℕ) (q : Places) (f : Parts) → IsForm x f → Around x (module_at q f) (translation_of x f)
 around x q f h = record {
   split = _;
   is_split = spot_is x f h;

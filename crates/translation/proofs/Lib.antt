@@ -4,3 +4,4 @@ mod RowsSteps
 mod RowsProcesses
 mod RowsAll
 pub mod NoPlaces
+pub mod OfForm
