@@ -1,0 +1,2 @@
+-- The words in which the laws are stated.
+pub mod Steps
