@@ -11,7 +11,9 @@ pub mod Fits
 pub mod ValueWithin
 mod ValueRows
 mod RowsSeen
+mod RowsDefs
 pub mod StateLaws
+pub mod DefsGrown
 pub mod Facts
 pub mod Relations
 pub mod Joined

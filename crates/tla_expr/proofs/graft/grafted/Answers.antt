@@ -1,6 +1,6 @@
 -- Proves what is asked of `grafted`.
 use Rattle.std.proofs.Common.{arith, sym, ◌∙◌}
-use Rattle.tla_expr.proofs.pool_graft.grafted.Goals as goal
+use Rattle.tla_expr.proofs.graft.grafted.Goals as goal
 
 pub returns-clause-same : goal.returns-clause-same
 returns-clause-same g c = λ plain.
