@@ -281,7 +281,7 @@ label_kept p q f h =
     ap (λ b. cond b (first_free (codes "Integers" ∷ []) taken f.label) f.label) (word_same f.label)
     ∙ ap (λ ws. first_free (codes "Integers" ∷ []) ws f.label) (taken_are p q f) ∙ label_free f.variable f.label h.label h.not_variable
 
-pub next_is : (p q : Places) (f : Parts) → IsTrue (is_fit f) → NextIs (algorithm_at p f) (module_at q f)
+pub next_is : (p q : Places) (f : Parts) → IsTrue (is_fit f) → NextIs false (algorithm_at p f) (module_at q f)
 next_is p q f fit values s t constants from to sound =
     let h = fit_of f fit in
     next_of p f (naming (algorithm_at p f) integers_alone) values h (label_kept p q f h) q s t sound

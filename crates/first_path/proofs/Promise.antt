@@ -1,5 +1,5 @@
 -- What is written for a text of the form keeps the promise; and a text has an offence exactly if it isn't of the form.
-use Rattle.std.specs.Prelude.{◌≡◌, ℕ, ◌-◌, List, [], ◌++◌, length, take, Option, Some, None, false, codes}
+use Rattle.std.specs.Prelude.{◌≡◌, ℕ, ◌-◌, List, [], ◌++◌, length, take, Option, Some, None, codes}
 use Rattle.std.proofs.Common.{refl, sym, ◌∙◌, ap, append_assoc}
 use Rattle.std.proofs.lemmas.Option.{none-some}
 use Rattle.tla_token.specs.Offences.{least}
@@ -8,6 +8,7 @@ use Rattle.module_text.specs.Layout.{layout}
 use Rattle.first_path.specs.Form.{Parts, IsForm, last_line}
 use Rattle.first_path.specs.FormRead.{form_of, offence_unless, form_offences, FirstOffence, left_out}
 use Rattle.first_path.specs.Placed.{Places, module_at, region_of, translation_of}
+use Rattle.promise.specs.Options.{no_options}
 use Rattle.promise.specs.Headline.{Headline}
 use Rattle.first_path.specs.Written.{Written}
 use Rattle.first_path.proofs.FormExact.{form_found}
@@ -21,7 +22,7 @@ use Rattle.first_path.proofs.MeansNext.{next_is}
 use Rattle.first_path.proofs.MeansInit.{init_is}
 
 -- the translation is around the text wherever its trees say that they are
-around : (x : List ℕ) (q : Places) (f : Parts) → IsForm x f → Around x (module_at q f) (translation_of x f)
+pub around : (x : List ℕ) (q : Places) (f : Parts) → IsForm x f → Around x (module_at q f) (translation_of x f)
 around x q f h = record {
   split = _;
   is_split = spot_is x f h;
@@ -31,7 +32,7 @@ around x q f h = record {
     end_order : (a b c d e l : List ℕ) → a ++ b ++ c ++ d ++ e ++ l ≡ a ++ b ++ c ++ d ++ (e ++ l)
     end_order a b c d e l = simp append_assoc refl
 
-pub promise : (x : List ℕ) (f : Parts) → IsForm x f → Headline false x (translation_of x f)
+pub promise : (x : List ℕ) (f : Parts) → IsForm x f → Headline no_options x (translation_of x f)
 promise x f h =
     let s = stands x f h in
     let r = reads x f h in

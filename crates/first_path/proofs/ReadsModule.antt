@@ -1,5 +1,5 @@
 -- The text with a translation reads as the module with it.
-use Rattle.std.proofs.Common.{◌≡◌, ℕ, ◌+◌, List, [], ◌∷◌, ◌++◌, length, refl, sym, ap, ◌∙◌, arith, append_assoc, length-append, true, subst}
+use Rattle.std.proofs.Common.{◌≡◌, ℕ, ◌+◌, List, [], ◌∷◌, ◌++◌, length, refl, sym, ap, ◌∙◌, arith, append_assoc, length-append, Bool, true, false, ◌||◌, bytes_eq, subst}
 use Rattle.std.specs.Prelude.{codes}
 use Rattle.std.specs.List.{list_all}
 use Rattle.std.proofs.lemmas.Bool.{and_parts}
@@ -189,6 +189,11 @@ module _ (x : List ℕ) (f : Parts) (h : IsForm x f) where
   region_line : (place_at written region_from).col ≡ 1
   region_line = line_starts written (header ++ units) (codes "\\* BEGIN TRANSLATION") _ region_from region_apart region_starts
 
+-- Next's last disjunct is Terminating
+any_last : (b : Bool) → true ≡ (b || (true || false))
+any_last true = refl
+any_last false = refl
+
 pub reads : (x : List ℕ) (f : Parts) → IsForm x f → (q : Places) × Reads (translation_of x f) (module_at q f)
 reads x f h =
     let r = region_units (place_at (translation_of x f) (region_from x f h)) (region_from x f h) f h.fit (region_line x f h) in (
@@ -219,5 +224,6 @@ reads x f h =
         after = [];
         are_after = tt;
         outside = refl;
+        terminating = any_last (bytes_eq f.label (codes "Terminating"));
       },
     )

@@ -1,5 +1,5 @@
 -- Worked examples of the form of text that is translated so far, by computation.
-use Rattle.std.specs.Prelude.{◌≡◌, ◌++◌, List, [], ◌∷◌, Some, None, codes, ℕ}
+use Rattle.std.specs.Prelude.{◌≡◌, ◌++◌, false, List, [], ◌∷◌, Some, None, codes, ℕ}
 use Rattle.std.proofs.Common.{refl}
 use Rattle.first_path.specs.Form.{number_operand, variable_operand, Right, single, sum, Parts}
 use Rattle.promise.specs.Translates.{Translates}
@@ -30,9 +30,9 @@ other_variable : form_of (module_with (codes "y := 1;")) ≡ None
 other_variable = refl
 
 -- a translation of the worked algorithm declares x and pc, and nothing else
-its_variables : (p : Places) (x w : List ℕ) (t : Translates x (algorithm_at p worked_parts) w)
+its_variables : (p : Places) (x w : List ℕ) (t : Translates false x (algorithm_at p worked_parts) w)
     → t.module_of.region.variables ≡ codes "x" ∷ codes "pc" ∷ []
 its_variables p x w t = t.variables
 
-its_vars : (p : Places) (x w : List ℕ) (t : Translates x (algorithm_at p worked_parts) w) → t.module_of.region.vars ≡ codes "x" ∷ codes "pc" ∷ []
+its_vars : (p : Places) (x w : List ℕ) (t : Translates false x (algorithm_at p worked_parts) w) → t.module_of.region.vars ≡ codes "x" ∷ codes "pc" ∷ []
 its_vars p x w t = t.vars

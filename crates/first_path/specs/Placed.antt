@@ -1,5 +1,5 @@
 -- The algorithm of a text of the form, and its translation, as trees; and the file with the translation ("A PlusCal User's Manual", chapter 3).
-use Rattle.std.specs.Prelude.{ℕ, ◌-◌, List, [], ◌∷◌, ◌++◌, length, take, false, None, codes}
+use Rattle.std.specs.Prelude.{ℕ, ◌-◌, List, [], ◌∷◌, ◌++◌, length, take, false, Some, None, codes}
 use Rattle.tla_token.specs.declared.place.Place.{Place}
 use Rattle.tla_token.specs.Places.{start}
 use Rattle.tla_expr.specs.declared.op.Op.{Op}
@@ -71,6 +71,10 @@ step_at q f = record {
       (item (setting (codes "pc") (leaf (string (codes "Done")) (q 8))) no_items)));
 }
 
+-- the test in Terminating
+abbrev pub ended_at : Places → Tree
+ended_at q = is_at (codes "Done") (q 9) (q 10)
+
 abbrev pub region_at : Places → Parts → Region
 region_at q f = record {
   model_values = [];
@@ -80,7 +84,7 @@ region_at q f = record {
   process_set = None;
   init = infix_of Equal (q 0) (leaf (name f.variable) (q 0)) (leaf (number f.initial) (q 1)) ∷ is_at f.label (q 2) (q 3) ∷ [];
   actions = step_at q f ∷ [];
-  ended = is_at (codes "Done") (q 9) (q 10);
+  ended = Some (ended_at q);
   next = one_way (call f.label) ∷ one_way (call (codes "Terminating")) ∷ [];
   fairness = [];
   termination = is_at (codes "Done") (q 11) (q 12);

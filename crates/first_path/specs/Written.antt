@@ -1,8 +1,9 @@
 -- What is written for a text of the form.
-use Rattle.std.specs.Prelude.{◌≡◌, ℕ, List, false}
+use Rattle.std.specs.Prelude.{◌≡◌, ℕ, List}
 use Rattle.pcal_tree.specs.Algorithm.{Algorithm}
 use Rattle.first_path.specs.Form.{Parts, IsForm}
 use Rattle.first_path.specs.Placed.{translation_of}
+use Rattle.promise.specs.Options.{no_options}
 use Rattle.promise.specs.Headline.{Stands, Headline}
 
 -- w is the text x with its translation, to the byte, and keeps the promise for the one algorithm that is in x
@@ -10,5 +11,5 @@ pub record Written (x w : List ℕ) : Type 0 where
   pub parts : Parts
   pub form : IsForm x parts
   pub bytes : w ≡ translation_of x parts
-  pub promise : Headline false x w
+  pub promise : Headline no_options x w
   pub alone : (a b : Algorithm) → Stands x a → Stands x b → a ≡ b  -- the promise speaks of the algorithm of the text

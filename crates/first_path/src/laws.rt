@@ -1,6 +1,6 @@
 //! Laws of the form, stated as what functions without a body ensure.
 
-ghost use Rattle.std.specs.Prelude.{◌≡◌, ◌⊎◌, ℕ, List, [], Some, false};
+ghost use Rattle.std.specs.Prelude.{◌≡◌, ◌⊎◌, ℕ, List, [], Some};
 ghost use Rattle.tla_token.specs.declared.place.Place.{Place};
 ghost use Rattle.tla_value.specs.declared.fault.FaultKind.{FaultKind};
 ghost use Rattle.pcal_tree.specs.Algorithm.{Algorithm};
@@ -11,6 +11,7 @@ ghost use Rattle.first_path.specs.Form.{Parts, IsForm};
 ghost use Rattle.first_path.specs.FormRead.{form_of, form_offences, FirstOffence, left_out};
 ghost use Rattle.first_path.specs.Placed.{Places, algorithm_at, module_at, translation_of};
 ghost use Rattle.promise.specs.ConstantsAndStates.{AreConstants, IsState};
+ghost use Rattle.promise.specs.Options.{no_options};
 ghost use Rattle.promise.specs.Headline.{Headline, Stands};
 ghost use Rattle.first_path.specs.Worked.{worked_text, worked_parts, no_more_constants, worked_program, at_first, at_last};
 ghost use Rattle.pcal_tree.specs.Faults.{Sound};
@@ -32,7 +33,7 @@ pub fn offences_are_of_other_texts()
 /// algorithm that is in the text. This algorithm and this module are those of the form's parts, wherever
 /// their tokens are.
 pub fn translations_keep_the_promise()
-    ensures promise { (x : List ℕ) (f : Parts) → IsForm x f → Headline false x (translation_of x f) }
+    ensures promise { (x : List ℕ) (f : Parts) → IsForm x f → Headline no_options x (translation_of x f) }
     ensures algorithm { (x : List ℕ) (f : Parts) → IsForm x f → (p : Places) × Stands x (algorithm_at p f) }
     ensures module { (x : List ℕ) (f : Parts) → IsForm x f → (q : Places) × Reads (translation_of x f) (module_at q f) }
 {}

@@ -1,5 +1,5 @@
 -- The module of a first algorithm: x counts one step, from label A.
-use Rattle.std.specs.Prelude.{[], ◌∷◌, None, codes}
+use Rattle.std.specs.Prelude.{[], ◌∷◌, Some, None, codes}
 use Rattle.tla_token.specs.declared.place.Place.{Place}
 use Rattle.tla_expr.specs.declared.op.Op.{Op}
 use Rattle.tla_expr.specs.declared.op.Op.TheVariants.{Equal, Plus}
@@ -40,7 +40,7 @@ region = record {
   process_set = None;
   init = signed Equal (leaf (name x)) (leaf (number 0)) ∷ equals_text pc (codes "A") ∷ [];
   actions = step ∷ [];
-  ended = equals_text pc (codes "Done");
+  ended = Some (equals_text pc (codes "Done"));
   next = one_way (call (codes "A")) ∷ one_way (call (codes "Terminating")) ∷ [];
   fairness = [];
   termination = equals_text pc (codes "Done");

@@ -53,7 +53,7 @@ region = record {
       ∷ record { title = codes "B"; parameter = Some (codes "self"); body = all_of (item (test (stands self (codes "B"))) (item (setting pc (ended self)) (item (unchanged (n ∷ [])) no_items))) }
       ∷ record { title = codes "Q"; parameter = Some (codes "self"); body = some_of (one_way (call_with (codes "B") self) ∷ []) }
       ∷ [];
-  ended = leaf (name n);
+  ended = None;
   next = one_way (call (codes "P")) ∷ some_way (codes "self") one_two (call_with (codes "Q") self) ∷ [];
   fairness = [];
   termination = leaf (name n);

@@ -5,6 +5,7 @@ use Rattle.tla_expr.specs.Tree.{Word, Tree}
 use Rattle.tla_expr.specs.Written.{written}
 use Rattle.module_text.specs.ExprText.{operand, joined}
 use Rattle.module_text.specs.Module.{Item, test, setting, unchanged, exists, local, if_then_else, either, Items, no_items, item, Branches, no_branches, branch, Call, call, call_with, Way, one_way, some_way, Body, all_of, some_of, Fairness, Region, RegionUnit, constant_unit, variables_unit, definition_unit, vars_unit, process_set_unit, init_unit, action_unit, terminating_unit, next_unit, spec_unit, termination_unit, units_of}
+use Rattle.module_text.specs.Ways.{sets_in, processes_in}
 
 abbrev pub blanks : ℕ → List ℕ
 blanks zero = []
@@ -86,24 +87,36 @@ abbrev pub conjuncts_text : List (List ℕ) → List ℕ
 conjuncts_text [] = []
 conjuncts_text (w ∷ ws) = line 2 (codes "/\\ " ++ w) ++ conjuncts_text ws
 
-abbrev pub unit_text : RegionUnit → List ℕ
-unit_text (constant_unit xs) = line 0 (codes "CONSTANT " ++ joined xs)
-unit_text (variables_unit xs) = line 0 (codes "VARIABLES " ++ joined xs)
-unit_text (definition_unit d) = line 0 (d.title ++ parameters_text d.params ++ codes " == " ++ written d.body)
-unit_text (vars_unit xs) = line 0 (codes "vars == " ++ tuple_of xs)
-unit_text (process_set_unit e) = line 0 (codes "ProcSet == " ++ written e)
-unit_text (init_unit es) = line 0 (codes "Init ==") ++ conjuncts_text (map written es)
-unit_text (action_unit a) = line 0 (a.title ++ parameter_text a.parameter ++ codes " ==") ++ body_text a.body
-unit_text (terminating_unit e) = line 0 (codes "Terminating ==") ++ item_text 2 (test e) ++ line 2 (codes "/\\ UNCHANGED vars")
-unit_text (next_unit ys) = line 0 (codes "Next ==") ++ ways_text ys
-unit_text (spec_unit fs) = line 0 (codes "Spec ==") ++ conjuncts_text (codes "Init" ∷ codes "[][Next]_vars" ∷ map fairness_text fs)
-unit_text (termination_unit e) = line 0 (codes "Termination == <>(" ++ written e ++ codes ")")
+-- sets with \cup between them
+abbrev pub union_text : List Tree → List ℕ
+union_text [] = []
+union_text (e ∷ []) = operand e
+union_text (e ∷ d ∷ es) = operand e ++ codes " \\cup " ++ union_text (d ∷ es)
 
-abbrev pub units_text : List RegionUnit → List ℕ
-units_text [] = []
-units_text (u ∷ []) = unit_text u
-units_text (u ∷ us) = unit_text u ++ codes "\n" ++ units_text us
+-- a single set is no operand
+abbrev pub sets_text : List Tree → List ℕ
+sets_text (e ∷ []) = written e
+sets_text es = union_text es
+
+-- of a translation with n processes: their sets are the chain of ProcSet, which has no brackets of its own
+abbrev pub unit_text : ℕ → RegionUnit → List ℕ
+unit_text n (constant_unit xs) = line 0 (codes "CONSTANT " ++ joined xs)
+unit_text n (variables_unit xs) = line 0 (codes "VARIABLES " ++ joined xs)
+unit_text n (definition_unit d) = line 0 (d.title ++ parameters_text d.params ++ codes " == " ++ written d.body)
+unit_text n (vars_unit xs) = line 0 (codes "vars == " ++ tuple_of xs)
+unit_text n (process_set_unit e) = line 0 (codes "ProcSet == " ++ sets_text (sets_in n e))
+unit_text n (init_unit es) = line 0 (codes "Init ==") ++ conjuncts_text (map written es)
+unit_text n (action_unit a) = line 0 (a.title ++ parameter_text a.parameter ++ codes " ==") ++ body_text a.body
+unit_text n (terminating_unit e) = line 0 (codes "Terminating ==") ++ item_text 2 (test e) ++ line 2 (codes "/\\ UNCHANGED vars")
+unit_text n (next_unit ys) = line 0 (codes "Next ==") ++ ways_text ys
+unit_text n (spec_unit fs) = line 0 (codes "Spec ==") ++ conjuncts_text (codes "Init" ∷ codes "[][Next]_vars" ∷ map fairness_text fs)
+unit_text n (termination_unit e) = line 0 (codes "Termination == <>(" ++ written e ++ codes ")")
+
+abbrev pub units_text : ℕ → List RegionUnit → List ℕ
+units_text n [] = []
+units_text n (u ∷ []) = unit_text n u
+units_text n (u ∷ us) = unit_text n u ++ codes "\n" ++ units_text n us
 
 -- the text of a translation, between its two lines
 abbrev pub layout : Region → List ℕ
-layout r = units_text (units_of r)
+layout r = units_text (processes_in r.next) (units_of r)

@@ -1,4 +1,6 @@
 pub mod Module
+pub mod Ways
+pub mod Formulas
 pub mod ExprText
 pub mod Layout
 pub mod TextFront

@@ -67,7 +67,7 @@ pub record Region : Type 0 where
   pub process_set : Option Tree  -- ProcSet, of an algorithm with processes
   pub init : List Tree  -- the conjuncts of Init
   pub actions : List Action  -- of each procedure and process: its labels' actions, and then its own
-  pub ended : Tree  -- the test in Terminating, beside `UNCHANGED vars`
+  pub ended : Option Tree  -- the test in Terminating, beside `UNCHANGED vars`; none where there is no Terminating
   pub next : List Way  -- the disjuncts of Next
   pub fairness : List Fairness  -- the conjuncts of Spec after `Init` and `[][Next]_vars`
   pub termination : Tree  -- Termination == <>(e)
@@ -94,12 +94,16 @@ abbrev pub process_set_of : Option Tree → List RegionUnit
 process_set_of (Some e) = process_set_unit e ∷ []
 process_set_of None = []
 
+abbrev pub terminating_of : Option Tree → List RegionUnit
+terminating_of (Some e) = terminating_unit e ∷ []
+terminating_of None = []
+
 abbrev pub units_of : Region → List RegionUnit
 units_of r =
     model_value_units r.model_values ++ (variables_unit r.variables
     ∷ (map definition_unit r.definitions ++ (vars_unit r.vars
     ∷ (process_set_of r.process_set ++ (init_unit r.init
-    ∷ (map action_unit r.actions ++ (terminating_unit r.ended ∷ next_unit r.next ∷ spec_unit r.fairness ∷ termination_unit r.termination ∷ [])))))))
+    ∷ (map action_unit r.actions ++ (terminating_of r.ended ++ (next_unit r.next ∷ spec_unit r.fairness ∷ termination_unit r.termination ∷ []))))))))
 
 -- ---- the module
 

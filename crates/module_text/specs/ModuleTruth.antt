@@ -5,7 +5,7 @@ use Rattle.tla_value.specs.Value.{Value, and_then}
 use Rattle.tla_value.specs.Stops.{Check}
 use Rattle.tla_value.specs.Meaning.{Env}
 use Rattle.tla_value.specs.Definitions.{Valuation, no_state, Definition, scope_of}
-use Rattle.module_text.specs.Module.{test, unchanged, no_items, item, all_of, Action, Region, Module, found}
+use Rattle.module_text.specs.Module.{test, unchanged, no_items, item, all_of, Action, Module, found}
 use Rattle.module_text.specs.ActionTruth.{Verdict, truth_in, Acts, no_acts, acted, acts_of, some_way_holds}
 
 abbrev pub process_set_defined : Option Tree → List Definition
@@ -19,11 +19,13 @@ definitions_in m = found m.outside.definitions ++ m.region.definitions ++ proces
 abbrev pub scope : Check → Module → Valuation → Valuation → Valuation → Env
 scope c m constants s t = scope_of c constants (definitions_in m) s t
 
-abbrev pub terminating : Region → Action
-terminating r = record { title = codes "Terminating"; parameter = None; body = all_of (item (test r.ended) (item (unchanged r.vars) no_items)) }
+-- Terminating, of a translation that has it
+abbrev pub terminating : List Word → Option Tree → List Action
+terminating vs (Some e) = record { title = codes "Terminating"; parameter = None; body = all_of (item (test e) (item (unchanged vs) no_items)) } ∷ []
+terminating vs None = []
 
 abbrev pub acts_in : Check → Module → Valuation → Valuation → Valuation → Acts
-acts_in c m constants s t = acts_of c s t (scope c m constants s t) (m.region.actions ++ (terminating m.region ∷ [])) no_acts
+acts_in c m constants s t = acts_of c s t (scope c m constants s t) (m.region.actions ++ terminating m.region.vars m.region.ended) no_acts
 
 -- Next on (s, t)
 abbrev pub next_holds : Check → Module → Valuation → Valuation → Valuation → Verdict

@@ -1,5 +1,6 @@
 -- Which module a text is: its header, the units before the translation, the translation, and the units after it ("Specifying Systems", chapter 17).
-use Rattle.std.specs.Prelude.{◌≡◌, ℕ, ◌+◌, ◌-◌, ◌^◌, ◌<◌, Bool, true, false, List, [], ◌∷◌, ◌++◌, length, Option, Some}
+use Rattle.std.specs.Prelude.{◌≡◌, ℕ, ◌+◌, ◌-◌, ◌^◌, ◌<◌, Bool, true, false, List, [], ◌∷◌, ◌++◌, length, Option, Some, is_some}
+use Rattle.std.specs.List.{list_any}
 use Rattle.tla_token.specs.Tokens as text
 use Rattle.tla_token.specs.Tokens.{Tok}
 use Rattle.tla_token.specs.Lexemes as lexeme
@@ -13,6 +14,7 @@ use Rattle.module_text.specs.Units.{IsUnit}
 use Rattle.tla_expr.specs.TokenViews.{views}
 use Rattle.module_text.specs.UnitCut.{cut}
 use Rattle.module_text.specs.Outside.{Sight, AllOutside}
+use Rattle.module_text.specs.Ways.{is_terminating}
 
 -- from the byte `from` up to the byte `to` of the text
 pub record Stretch : Type 0 where
@@ -94,3 +96,4 @@ pub record Reads (w : Text) (m : Module) : Type 0 where
   pub after : List OutsideUnit
   pub are_after : AllOutside false (sight m) (cut (views back)).units after
   pub outside : m.outside ≡ outside_of (before ++ after)
+  pub terminating : is_some m.region.ended ≡ list_any is_terminating m.region.next  -- that unit and Next's item of its name stand both or neither

@@ -1,11 +1,12 @@
 -- What was read is what is told, and what is written for it went out.
 use Rattle.std.specs.Prelude.{IfSome, MatchOption}
-use Rattle.std.proofs.Common.{◌≡◌, ◌⊎◌, ℕ, ◌<◌, ◌≤◌, List, [], length, Option, Some, None, false, ◌∙◌, ap, sym, inl, inr, arith}
+use Rattle.std.proofs.Common.{◌≡◌, ◌⊎◌, ℕ, ◌<◌, ◌≤◌, List, [], length, Option, Some, None, ◌∙◌, ap, sym, inl, inr, arith}
 use Rattle.std.proofs.lemmas.Option.{none-some}
 use Rattle.outer_io.specs.Outer.{Texts, text_at, told_at, HasText, Tells, HasNoText, Grows, GrowsInPart}
 use Rattle.tla_token.specs.Offences.{least}
 use Rattle.first_path.specs.Form.{Parts}
 use Rattle.first_path.specs.FormRead.{form_of, form_offences, FirstOffence, left_out}
+use Rattle.promise.specs.Options.{no_options}
 use Rattle.promise.specs.Headline.{Headline}
 use Rattle.first_path.proofs.Promise.{first_offence, not_both}
 use Rattle.pcal_cli.specs.Words.{Command, translate}
@@ -49,14 +50,14 @@ pub writes_in_part : (ts : Option Texts) (file t u v b w : List ℕ) (f : Parts)
 writes_in_part ts file t u v b w f old new h e i k g j grows = told ts file v (WritesInPart old new) h (w, grows, is_written v w f (rw e at k) (j ∙ g ∙ ap (λ x. written_text x f) i))
 
 -- the promise is a part of what is written
-keeps : (ts : Option Texts) (file : List ℕ) (old new : Option (List ℕ)) → Tells ts file (Writes old new) → KeepsPromise false ts file old new
+keeps : (ts : Option Texts) (file : List ℕ) (old new : Option (List ℕ)) → Tells ts file (Writes old new) → KeepsPromise no_options ts file old new
 keeps ts file old new h = of_some _ h
   where
-    of_some : (o : Option (List ℕ)) → IfSome o (Writes old new) → IfSome o (λ x. (w : List ℕ) × Grows old new w × Headline false x w)
+    of_some : (o : Option (List ℕ)) → IfSome o (Writes old new) → IfSome o (λ x. (w : List ℕ) × Grows old new w × Headline no_options x w)
     of_some None h = tt
     of_some (Some x) h = (h.0, h.1, h.2.promise)
 
-pub keeps_written : (ts : Option Texts) (file t u v b w : List ℕ) (f : Parts) (old new : Option (List ℕ)) → HasText ts file v → t ≡ v → u ≡ v → form_of t ≡ Some f → b ≡ written_text u f → w ≡ b → Grows old new w → KeepsPromise false ts file old new
+pub keeps_written : (ts : Option Texts) (file t u v b w : List ℕ) (f : Parts) (old new : Option (List ℕ)) → HasText ts file v → t ≡ v → u ≡ v → form_of t ≡ Some f → b ≡ written_text u f → w ≡ b → Grows old new w → KeepsPromise no_options ts file old new
 keeps_written ts file t u v b w f old new h e i k g j grows = keeps ts file old new (writes ts file t u v b w f old new h e i k g j grows)
 
 -- a text of the form has no offence

@@ -1,9 +1,10 @@
 -- Why an answer comes, and what becomes of the two outputs.
-use Rattle.std.specs.Prelude.{◌≡◌, ◌⊎◌, ℕ, Bool, List, Option, Some, None}
+use Rattle.std.specs.Prelude.{◌≡◌, ◌⊎◌, ℕ, List, Option, Some, None}
 use Rattle.std.specs.Process.{exit_status}
 use Rattle.std.specs.declared.process.ExitCode.{ExitCode}
 use Rattle.outer_io.specs.Outer.{Texts, Tells, RoseBy, Grows, GrowsInPart}
 use Rattle.tla_expr.specs.Tree.{Word}
+use Rattle.promise.specs.Options.{Options}
 use Rattle.promise.specs.Headline.{Headline}
 use Rattle.first_path.specs.Written.{Written}
 use Rattle.pcal_cli.specs.declared.status.Status.{Status}
@@ -90,8 +91,8 @@ abbrev pub WritesInPart : Option (List ℕ) → Option (List ℕ) → List ℕ �
 WritesInPart old new x = (w : List ℕ) × GrowsInPart old new w × Written x w
 
 -- the promise: the output went on by a text that translates the algorithm in the text of the file
-abbrev pub KeepsPromise : Bool → Option Texts → Word → Option (List ℕ) → Option (List ℕ) → Type 0
-KeepsPromise forced texts file old new = Tells texts file (λ x. (w : List ℕ) × Grows old new w × Headline forced x w)
+abbrev pub KeepsPromise : Options → Option Texts → Word → Option (List ℕ) → Option (List ℕ) → Type 0
+KeepsPromise options texts file old new = Tells texts file (λ x. (w : List ℕ) × Grows old new w × Headline options x w)
 
 -- a sink went on by these bytes and counted no fault, or by the first of them alone and counted one
 abbrev pub Told : Option (List ℕ) → Option (List ℕ) → ℕ → ℕ → List ℕ → Type 0

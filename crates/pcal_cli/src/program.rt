@@ -1,10 +1,11 @@
 //! What `main` does: from the words as the system hands them over to the exit status.
 
-ghost use Rattle.std.specs.Prelude.{◌≡◌, ◌⊎◌, ◌<◌, ◌≤◌, [], false, length, IfOk, None};
+ghost use Rattle.std.specs.Prelude.{◌≡◌, ◌⊎◌, ◌<◌, ◌≤◌, [], length, IfOk, None};
 ghost use Rattle.outer_io.specs.Outer.{RoseBy, HasNoText, Tells};
 ghost use Rattle.first_path.specs.FormRead.{form_offences, FirstOffence, left_out};
 ghost use Rattle.pcal_cli.specs.Words.{words_given, command_in, file_in};
 ghost use Rattle.pcal_cli.specs.Answers.{line_of};
+ghost use Rattle.promise.specs.Options.{no_options};
 ghost use Rattle.pcal_cli.specs.Causes.{most_bytes, OfFile, IsNoCommand, IsDone, IsRead, LeavesOut, Writes, WritesInPart, KeepsPromise, Told, Ended, EndedIn};
 
 use crate::status::{Status, number};
@@ -51,7 +52,7 @@ pub fn run<H: Shelf, K: Sink, E: Sink>(
         → (RoseBy 1 (H.faults shelf.old) (H.faults shelf.new) → ⊥) → (RoseBy 1 (K.faults out.old) (K.faults out.new) → ⊥) → EndedIn result IsDone)) }
     ensures unused { EndedIn result LeavesOut → out.new ≡ out.old }
     ensures fine { Ended result Status.Fine → Tells (H.texts shelf.old) (file_in (words_given given)) (Writes (K.wrote out.old) (K.wrote out.new)) }
-    ensures headline { Ended result Status.Fine → KeepsPromise false (H.texts shelf.old) (file_in (words_given given)) (K.wrote out.old) (K.wrote out.new) }
+    ensures headline { Ended result Status.Fine → KeepsPromise no_options (H.texts shelf.old) (file_in (words_given given)) (K.wrote out.old) (K.wrote out.new) }
     ensures in_part { Ended result Status.WriteFault → Tells (H.texts shelf.old) (file_in (words_given given)) (WritesInPart (K.wrote out.old) (K.wrote out.new)) }
     ensures unread { Ended result Status.Usage → shelf.new ≡ shelf.old }
     ensures given { EndedIn result IsRead → Tells (H.texts shelf.old) (file_in (words_given given)) (λ x. RoseBy (length x) (H.given shelf.old) (H.given shelf.new)) }

@@ -1,7 +1,8 @@
 //! The top call: from the words of a command line to an answer.
 
-ghost use Rattle.std.specs.Prelude.{◌≡◌, ◌⊎◌, ◌+◌, ◌<◌, ◌≤◌, ◌++◌, [], false, length, IfOk, OnOk, OnErr, Some, None, MatchOption};
+ghost use Rattle.std.specs.Prelude.{◌≡◌, ◌⊎◌, ◌+◌, ◌<◌, ◌≤◌, ◌++◌, [], length, IfOk, OnOk, OnErr, Some, None, MatchOption};
 ghost use Rattle.outer_io.specs.Outer.{RoseBy, RoseAbove, HasNoText, Tells, Grows, GrowsInPart, piece_bytes};
+ghost use Rattle.promise.specs.Options.{no_options};
 ghost use Rattle.first_path.specs.FormRead.{form_of, form_offences, FirstOffence, left_out};
 ghost use Rattle.pcal_cli.specs.Words.{translate as translate_of, command_in, file_in};
 ghost use Rattle.pcal_cli.specs.Answers.{line_of};
@@ -53,7 +54,7 @@ fn translate<H: Shelf, K: Sink>(alloc: Global, file: &str, shelf: &mut H, out: &
 
     ensures unused { LeavesOut result → out.new ≡ out.old }
     ensures fine { result ≡ Status.Fine → Tells (H.texts shelf.old) file.now (Writes (K.wrote out.old) (K.wrote out.new)) }
-    ensures headline { result ≡ Status.Fine → KeepsPromise false (H.texts shelf.old) file.now (K.wrote out.old) (K.wrote out.new) }
+    ensures headline { result ≡ Status.Fine → KeepsPromise no_options (H.texts shelf.old) file.now (K.wrote out.old) (K.wrote out.new) }
     ensures in_part { result ≡ Status.WriteFault → Tells (H.texts shelf.old) file.now (WritesInPart (K.wrote out.old) (K.wrote out.new)) }
 
     // What a call leaves as it was, and how the counts rise: of the shelf's bytes, and of faults by one at most.
@@ -162,7 +163,7 @@ pub fn pcal<H: Shelf, K: Sink, E: Sink>(
     ensures unused { LeavesOut result → out.new ≡ out.old }
     // The promise is a part of what is written; it is said once more by itself.
     ensures fine { result ≡ Status.Fine → Tells (H.texts shelf.old) (file_in words.now) (Writes (K.wrote out.old) (K.wrote out.new)) }
-    ensures headline { result ≡ Status.Fine → KeepsPromise false (H.texts shelf.old) (file_in words.now) (K.wrote out.old) (K.wrote out.new) }
+    ensures headline { result ≡ Status.Fine → KeepsPromise no_options (H.texts shelf.old) (file_in words.now) (K.wrote out.old) (K.wrote out.new) }
     ensures in_part { result ≡ Status.WriteFault → Tells (H.texts shelf.old) (file_in words.now) (WritesInPart (K.wrote out.old) (K.wrote out.new)) }
     ensures told { Told (E.wrote err.old) (E.wrote err.new) (E.faults err.old) (E.faults err.new) (line_of result (file_in words.now)) }
 

@@ -34,3 +34,4 @@ pub mod Outside
 pub mod OffencesNames
 pub mod OffencesReserved
 pub mod laws
+pub mod Takers

@@ -1,3 +1,4 @@
+pub mod Options
 pub mod ConstantsAndStates
 pub mod NextAndInit
 pub mod Translates

@@ -1,6 +1,6 @@
 //! Laws of the promise, stated as what functions without a body ensure.
 
-ghost use Rattle.std.specs.Prelude.{◌≡◌, ℕ, List};
+ghost use Rattle.std.specs.Prelude.{◌≡◌, ℕ, Bool, List};
 ghost use Rattle.tla_expr.specs.Tree.{Word, Each};
 ghost use Rattle.tla_value.specs.Order.{IsCanonical};
 ghost use Rattle.tla_value.specs.Definitions.{Valuation};
@@ -10,9 +10,9 @@ ghost use Rattle.module_text.specs.Module.{Module};
 ghost use Rattle.promise.specs.ConstantsAndStates.{program, variables_of};
 ghost use Rattle.promise.specs.Translates.{Translates};
 
-/// A text translates any algorithm into one module at most.
+/// A text translates any algorithm, with any options, into one module at most.
 pub fn a_translation_is_one_module()
-    ensures { (x w : List ℕ) (g h : Algorithm) (a : Translates x g w) (b : Translates x h w) → a.module_of ≡ b.module_of }
+    ensures { (n o : Bool) (x w : List ℕ) (g h : Algorithm) (a : Translates n x g w) (b : Translates o x h w) → a.module_of ≡ b.module_of }
 {}
 
 /// The names of the module's variables don't depend on the constants.

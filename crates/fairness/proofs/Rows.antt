@@ -1,0 +1,93 @@
+-- What Spec demands of small algorithms, by computation.
+use Rattle.std.proofs.Common.{◌≡◌, Bool, List, [], ◌∷◌, true, false, codes, refl, map, Some, None}
+use Rattle.tla_expr.specs.Tree.{Word, Name, no_trees}
+use Rattle.tla_value.specs.Stops.{plain}
+use Rattle.tla_value.specs.Definitions.{no_state}
+use Rattle.module_text.specs.Module.{call_with}
+use Rattle.module_text.specs.Formulas.{self, named, quoted, at, is_in, set}
+use Rattle.pcal_tree.specs.declared.mark.Mark.TheVariants as marked
+use Rattle.pcal_tree.specs.declared.mark.Fairness.{Fairness}
+use Rattle.pcal_tree.specs.declared.mark.Fairness.TheVariants.{Weak, Strong}
+use Rattle.pcal_tree.specs.Algorithm.{nowhere, skip, call, return, Statement, Statements, done, then, mark, Procedure, Process, Main, alone, processes, Algorithm, Naming}
+use Rattle.pcal_tree.specs.Placeless.{no_span}
+use Rattle.pcal_tree.specs.Program.{Program}
+use Rattle.pcal_tree.specs.Takers.{taken_process}
+use Rattle.fairness.specs.ReachedProcedures.{reached}
+use Rattle.fairness.specs.Obligations.{obligations}
+use Rattle.fairness.specs.FairnessLines.{fairness_lines}
+
+abbrev word : Word → Name
+word w = record { word = w; place = nowhere }
+
+abbrev calls : Word → Statement
+calls p = call (word p) no_trees
+
+abbrev just : Statement → Statements
+just st = then no_span st done
+
+-- procedure P begin L: S; return; end procedure
+abbrev procedure : Word → Word → Statement → Procedure
+procedure p l st = record { name = word p; params = []; variables = []; body = mark (word l) marked.Strong (then no_span st (mark (word (codes "R")) marked.LeftOut (just return))) }
+
+-- First calls Third, Second is not called, and Third calls First
+abbrev three : List Procedure
+three = procedure (codes "First") (codes "A") (calls (codes "Third")) ∷ procedure (codes "Second") (codes "B") skip ∷ procedure (codes "Third") (codes "C") (calls (codes "First")) ∷ []
+
+-- process Q \in S begin N:- call First(); E: skip; end process
+abbrev caller : Fairness → Process
+caller f = record {
+  name = word (codes "Q");
+  fairness = f;
+  several = true;
+  identity = named (codes "S");
+  variables = [];
+  body = mark (word (codes "N")) marked.LeftOut (then no_span (calls (codes "First")) (mark (word (codes "E")) marked.Plain (just skip)));
+}
+
+abbrev with_main : Bool → Main → Algorithm
+with_main fair m = record { name = word (codes "F"); fair = fair; globals = []; definitions = []; macros = []; procedures = three; main = m }
+
+-- all names keep theirs
+abbrev names : Naming
+names = record { local = λ n w. w; label = λ n l. l; title = λ n. codes "T" }
+
+abbrev program : Algorithm → Program
+program a = record { check = plain; constants = no_state; outside = []; algorithm = a; naming = names }
+
+abbrev weak : Algorithm
+weak = with_main true (processes (caller Weak ∷ []))
+
+abbrev strong : Algorithm
+strong = with_main false (processes (caller Strong ∷ []))
+
+-- in the order of the text, through the calls of procedures
+both_reached : map (λ u. u.name.word) (reached weak (taken_process 3 (caller Weak)).routine) ≡ codes "First" ∷ codes "Third" ∷ []
+both_reached = refl
+
+-- `--fair` comes first, of all labels; then the process, and each procedure that it reaches with its label marked `:+`
+weak_obligations : obligations (program weak)
+    ≡ record { strong = false; process = None; labels = codes "A" ∷ codes "R" ∷ codes "B" ∷ codes "R" ∷ codes "C" ∷ codes "R" ∷ codes "N" ∷ codes "E" ∷ [] }
+    ∷ record { strong = false; process = Some 3; labels = codes "E" ∷ [] }
+    ∷ record { strong = false; process = Some 3; labels = codes "A" ∷ [] }
+    ∷ record { strong = true; process = Some 3; labels = codes "A" ∷ [] }
+    ∷ record { strong = false; process = Some 3; labels = codes "C" ∷ [] }
+    ∷ record { strong = true; process = Some 3; labels = codes "C" ∷ [] } ∷ []
+weak_obligations = refl
+
+-- in a strongly fair process the mark `:+` asks for nothing more
+strong_obligations : obligations (program strong)
+    ≡ record { strong = true; process = Some 3; labels = codes "E" ∷ [] }
+    ∷ record { strong = true; process = Some 3; labels = codes "A" ∷ [] }
+    ∷ record { strong = true; process = Some 3; labels = codes "C" ∷ [] } ∷ []
+strong_obligations = refl
+
+-- for each member of the process set
+strong_lines : fairness_lines (program strong)
+    ≡ record { over = Some (self, named (codes "S")); strong = true; guard = Some (is_in false (at (named (codes "pc")) (named self)) (set (quoted (codes "N") ∷ []))); action = call_with (codes "T") (named self) }
+    ∷ record { over = Some (self, named (codes "S")); strong = true; guard = Some (is_in false (at (named (codes "pc")) (named self)) (set (quoted (codes "R") ∷ []))); action = call_with (codes "T") (named self) }
+    ∷ record { over = Some (self, named (codes "S")); strong = true; guard = Some (is_in false (at (named (codes "pc")) (named self)) (set (quoted (codes "R") ∷ []))); action = call_with (codes "T") (named self) } ∷ []
+strong_lines = refl
+
+-- marks have no effect in a uniprocess algorithm
+no_effect : obligations (program (with_main false (alone (mark (word (codes "A")) marked.Strong (just skip))))) ≡ []
+no_effect = refl

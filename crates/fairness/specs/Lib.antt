@@ -1,0 +1,5 @@
+pub mod MarkedLabels
+pub mod ReachedProcedures
+pub mod Demands
+pub mod Obligations
+pub mod FairnessLines

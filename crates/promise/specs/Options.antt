@@ -1,0 +1,9 @@
+-- The options of `translate` that change what is written ("A PlusCal User's Manual", section 4, on the translator's options).
+use Rattle.std.specs.Prelude.{Bool, false}
+
+pub record Options : Type 0 where
+  pub label : Bool  -- --label: labels are added where none are forced too
+  pub no_terminating : Bool  -- --no-terminating: no unit Terminating, and no disjunct of Next of that name
+
+abbrev pub no_options : Options
+no_options = record { label = false; no_terminating = false }

@@ -1,0 +1,7 @@
+pub mod Trees
+mod RowsWhole
+mod RowsSteps
+mod RowsProcesses
+mod RowsAll
+pub mod NoPlaces
+pub mod OfForm

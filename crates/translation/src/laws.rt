@@ -1,0 +1,37 @@
+//! Laws of the written module, stated as what functions without a body ensure.
+
+ghost use Rattle.std.specs.Prelude.{◌≡◌, ℕ, List, Bool, false};
+ghost use Rattle.tla_expr.specs.Tree.{Word};
+ghost use Rattle.tla_value.specs.Outside.{Outside};
+ghost use Rattle.pcal_tree.specs.Algorithm.{Algorithm};
+ghost use Rattle.pcal_tree.specs.Placeless.{placeless};
+ghost use Rattle.pcal_tree.specs.Names.{naming};
+ghost use Rattle.pcal_tree.specs.Variables.{vars};
+ghost use Rattle.pcal_tree.specs.Labelled.{labelled};
+ghost use Rattle.module_text.specs.Around.{Around};
+ghost use Rattle.promise.specs.Headline.{Stands};
+ghost use Rattle.first_path.specs.Form.{Parts, IsForm};
+ghost use Rattle.first_path.specs.Placed.{integers_alone, translation_of};
+ghost use Rattle.action_builder.specs.WrittenNames.{with_names};
+ghost use Rattle.translation.specs.Region.{written_region, written_module};
+
+/// The written module of an algorithm and of the same one with other places are the same.
+pub fn no_place_matters_to_the_written_module()
+    ensures { (no_terminating : Bool) (title : Word) (o : Outside) (g h : Algorithm) → placeless g ≡ placeless h
+        → written_module no_terminating title o g ≡ written_module no_terminating title o h }
+{}
+
+/// The written names of an algorithm don't depend on its places; so the variables of the written module are the algorithm's
+/// variables under their written names, in their order, also in its tuple `vars`.
+pub fn the_variables_are_the_written_names()
+    ensures names { (o : Outside) (g : Algorithm) → naming (placeless g) o ≡ naming g o }
+    ensures variables { (no_terminating : Bool) (o : Outside) (g : Algorithm) → (written_region no_terminating o g).variables ≡ vars (with_names o g) }
+    ensures vars { (no_terminating : Bool) (o : Outside) (g : Algorithm) → (written_region no_terminating o g).vars ≡ vars (with_names o g) }
+{}
+
+/// What is written for a text of the form is the text with the written module of the algorithm that is in it, labels added
+/// where there are none: the form's own translation is an instance of the whole one.
+pub fn the_form_is_translated_as_any_algorithm()
+    ensures { (x : List ℕ) (f : Parts) → IsForm x f → (a : Algorithm) → Stands x a
+        → Around x (written_module false f.title integers_alone (labelled false a)) (translation_of x f) }
+{}
