@@ -4,7 +4,8 @@ use Rattle.std.specs.Fmt.{digits}
 use Rattle.tla_token.specs.declared.place.Place.{Place}
 use Rattle.tla_expr.specs.declared.op.Op.TheVariants.{Less, Plus}
 use Rattle.tla_expr.specs.Tree.{Word, Tree, Trees, name, number, truth as literal, strict, operator, set_of, node, no_trees, tree}
-use Rattle.tla_value.specs.Value.{Value, int, text, truth, fun, no_values, and}
+use Rattle.tla_value.specs.declared.fault.FaultKind.TheVariants.{BadDivisor}
+use Rattle.tla_value.specs.Value.{Value, int, text, truth, fault, over}
 use Rattle.tla_value.specs.Order.{seq_from, same}
 use Rattle.tla_value.specs.Stops.{plain}
 use Rattle.tla_value.specs.Definitions.{Valuation}
@@ -17,10 +18,11 @@ use Rattle.pcal_tree.specs.Variables.{pc}
 use Rattle.pcal_tree.specs.InitialChoice.{nothing}
 use Rattle.pcal_tree.specs.Processes.{actors}
 use Rattle.pcal_tree.specs.Script.{Turn}
-use Rattle.pcal_tree.specs.StepAnswers.{Reply, reached, held_at, no_label, needs_choice, too_many_choices}
+use Rattle.pcal_tree.specs.StepAnswers.{held_at, no_label, needs_choice, too_many_choices}
 use Rattle.module_text.specs.Module.{Module}
 use Rattle.module_text.specs.ActionTruth.{Verdict}
-use Rattle.step_runner.specs.Shown.{state_text, initial, terminating, run_text, trace_text, known, first_holding, step_by, before_text, why_text}
+use Rattle.step_runner.specs.StopLines.{script_line, state_line, trouble_line}
+use Rattle.step_runner.specs.Shown.{run_text, trace_text, known, first_holding, step_by, before_text, why_text}
 
 abbrev at : ℕ → ℕ → Place
 at l c = record { line = l; col = c }
@@ -121,3 +123,24 @@ of_two = refl
 left_over : why_text {X = State} (too_many_choices (at 7 3)) ≡ Some (codes "too many choices at 7:3")
 unfolding digits
 left_over = refl
+
+-- ---- lines of stops
+
+script_stops : script_line {X = State} 1 (held_at (at 7 6)) ≡ Some (codes "pcal: script step 1: held at 7:6\n")
+unfolding digits
+script_stops = refl
+
+not_initial : state_line 0 ≡ codes "pcal: state 0 is not initial\n"
+not_initial = refl
+
+no_step : state_line 1 ≡ codes "pcal: state 1 is no step\n"
+unfolding digits
+no_step = refl
+
+faults : trouble_line (codes "M.tla") (fault BadDivisor (at 7 11)) ≡ codes "pcal: M.tla:7:11: fault BadDivisor\n"
+unfolding digits
+faults = refl
+
+limited : trouble_line (codes "M.tla") (over (at 7 11)) ≡ codes "pcal: M.tla:7:11: limit\n"
+unfolding digits
+limited = refl

@@ -5,3 +5,4 @@ pub mod Config
 pub mod Script
 pub mod Trace
 pub mod Shown
+pub mod StopLines
