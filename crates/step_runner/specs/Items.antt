@@ -1,5 +1,5 @@
 -- Items that give names their values, free over lines: x = v, or /\ x = v.
-use Rattle.std.specs.Prelude.{◌≡◌, ◌⊎◌, ◌<◌, ℕ, Bool, true, false, not, ◌&&◌, List, [], ◌∷◌, length, map, codes, Option, Some, None, option_and_then, option_map}
+use Rattle.std.specs.Prelude.{◌≡◌, ◌⊎◌, ◌<◌, ℕ, Bool, true, false, not, ◌&&◌, List, [], ◌∷◌, ◌++◌, length, map, codes, Option, Some, None, option_and_then, option_map}
 use Rattle.std.specs.List.{list_all}
 use Rattle.tla_token.specs.Signs.{is_among}
 use Rattle.tla_expr.specs.Tree.{Word}
@@ -42,7 +42,7 @@ is_new known before x = is_among known x && not (is_among before x)
 
 abbrev pub are_new : List Word → List Word → List Word → Bool
 are_new known before [] = true
-are_new known before (x ∷ xs) = is_new known before x && are_new known (x ∷ before) xs
+are_new known before (x ∷ xs) = is_new known before x && are_new known (before ++ (x ∷ [])) xs
 
 -- none of the known names is missing
 abbrev pub are_all : List Word → List Word → Bool
