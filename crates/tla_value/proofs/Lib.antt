@@ -9,6 +9,8 @@ pub mod InOrder
 pub mod ValueSpelled
 pub mod Fits
 pub mod ValueWithin
+pub mod ValueReader
+pub mod ValueOnce
 mod ValueRows
 mod RowsSeen
 mod RowsDefs
