@@ -1,6 +1,7 @@
 mod Sample
 mod RowsRun
 mod RowsStep
+mod RowsAnswers
 mod RowsMacros
 mod Choices
 pub mod GraftRuns

@@ -15,6 +15,7 @@ pub mod FirstTrouble
 pub mod InitialStates
 pub mod InitialChoice
 pub mod Script
+pub mod StepAnswers
 pub mod Expand
 pub mod Marks
 pub mod Names

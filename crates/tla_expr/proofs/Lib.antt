@@ -1,6 +1,7 @@
 pub mod TreeLemmas
 pub mod PoolGrown
 pub mod PoolNumbers
+pub mod DoneLemmas
 pub mod Operands
 mod Rows
 mod RowsView

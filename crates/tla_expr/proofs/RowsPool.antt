@@ -1,9 +1,11 @@
 -- Worked examples of the trees that the nodes of a pool stand for.
-use Rattle.std.specs.Prelude.{◌≡◌, [], ◌∷◌, ◌++◌, true}
+use Rattle.std.specs.Prelude.{◌≡◌, List, [], ◌∷◌, ◌++◌, Option, Some, true}
 use Rattle.std.specs.Hash as fed
 use Rattle.std.proofs.Common.{ap, refl, arith}
 use Rattle.tla_token.specs.declared.place.Place.{Place}
-use Rattle.tla_expr.specs.Tree.{Tree, node, no_trees, tree, number, conjunction}
+use Rattle.tla_expr.specs.Tree.{Word, Tree, node, no_trees, tree, number, name, conjunction}
+use Rattle.tla_expr.specs.TreeOf.{root_form, root_parts}
+use Rattle.tla_expr.specs.Done.{AreMade}
 use Rattle.tla_expr.specs.Pool.{Entry, same_entry, at, grown, AllBelow, AreOlder, AreShaped}
 use Rattle.tla_expr.specs.PoolEquality.{fed_entry, same_entry-Decides}
 
@@ -45,3 +47,19 @@ another_place_is_another_node h =
 
 place_and_parts_are_hashed : fed_entry both ≡ fed.u32 1 ++ fed.u32 1 ++ fed.slice fed.usize (0 ∷ 0 ∷ [])
 place_and_parts_are_hashed = refl
+
+a_tree_has_its_form : root_form (node conjunction here (tree leaf (tree leaf no_trees))) ≡ conjunction
+a_tree_has_its_form = refl
+
+a_tree_has_its_parts : root_parts (node conjunction here (tree leaf (tree leaf no_trees))) ≡ leaf ∷ leaf ∷ []
+a_tree_has_its_parts = refl
+
+-- a 1 for each name
+abbrev ones : Word → Place → Option Tree
+ones x p = Some leaf
+
+abbrev two : List Tree
+two = leaf ∷ node (name (120 ∷ [])) here no_trees ∷ []
+
+of_a_name_and_of_a_1_a_1_is_made : AreMade ones two ((1, 0) ∷ (0, 0) ∷ [])
+of_a_name_and_of_a_1_a_1_is_made = ((omega arith, omega arith, refl), ((omega arith, omega arith, refl), tt))

@@ -6,6 +6,7 @@ pub mod Code
 pub mod Same
 pub mod Pool
 pub mod PoolEquality
+pub mod Done
 pub mod Rank
 pub mod Lexical
 pub mod TokenViews

@@ -1,6 +1,6 @@
 //! The pool: expressions as numbered nodes, each node once.
 
-ghost use Rattle.std.specs.Prelude.{◌≡◌, ◌<◌, [], length, IfOk, OnErr};
+ghost use Rattle.std.specs.Prelude.{◌≡◌, ◌<◌, ℕ, [], length, IfOk, OnErr};
 ghost use Rattle.tla_expr.specs.Tree.{node};
 ghost use Rattle.tla_expr.specs.FormOf.{form_of};
 ghost use Rattle.tla_expr.specs.Pool.{at, trees_at, AllBelow, Keeps, Differ};
@@ -67,6 +67,7 @@ impl Pool {
         requires shaped { Shaped (form_of form) (length parts.items) }
         ensures tree { IfOk result (λ id. at self.new id ≡ node (form_of form) place (trees_at self.old parts.items)) }
         ensures within { IfOk result (λ id. id < length self.new) }
+        ensures old { IfOk result (λ id. (i : ℕ) → i < length self.old → at self.old i ≡ node (form_of form) place (trees_at self.old parts.items) → id ≡ i) }
         ensures kept { Keeps self.old self.new }
         ensures err { OnErr result (self.new ≡ self.old) }
     {

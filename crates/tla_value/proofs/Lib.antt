@@ -9,9 +9,13 @@ pub mod InOrder
 pub mod ValueSpelled
 pub mod Fits
 pub mod ValueWithin
+pub mod ValueReader
+pub mod ValueOnce
 mod ValueRows
 mod RowsSeen
+mod RowsDefs
 pub mod StateLaws
+pub mod DefsGrown
 pub mod Facts
 pub mod Relations
 pub mod Joined

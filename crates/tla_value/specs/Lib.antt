@@ -17,4 +17,6 @@ pub mod Grafts
 pub mod Standard
 pub mod Definitions
 pub mod Outside
+pub mod Defs
+pub mod Instances
 pub mod laws

@@ -1,12 +1,13 @@
 //! Laws of the canonical order, stated as what functions without a body ensure.
 
-ghost use Rattle.std.specs.Prelude.{◌≡◌, List, [], true};
+ghost use Rattle.std.specs.Prelude.{◌≡◌, ℕ, List, [], true};
 ghost use Rattle.std.specs.Cmp.{IsTotalOrder};
 ghost use Rattle.std.specs.declared.cmp.Ordering.TheVariants.{Equal};
 ghost use Rattle.tla_value.specs.Value as pure;
 ghost use Rattle.tla_value.specs.Value.{values_in};
 ghost use Rattle.tla_value.specs.Limits.{fits};
 ghost use Rattle.tla_value.specs.ValueText.{Mark, HasModelNames, Spells, marks, shown};
+ghost use Rattle.tla_value.specs.ValueSeen.{SpellsFrom};
 ghost use Rattle.tla_value.specs.laws.InOrder.{holds_in_order, found_in_order};
 ghost use Rattle.tla_value.specs.Order.{order, holds, set_from, fun_from, found_at, values_at, arguments, first_at, IsAscending, IsCanonical, ArePairsCanonical};
 
@@ -39,6 +40,13 @@ pub fn written_values_are_spelled()
 pub fn spelled_values_are_canonical()
     ensures canonical { (ts : List Mark) (v : pure.Value) → Spells ts v → IsCanonical v }
     ensures within { (ts : List Mark) (v : pure.Value) → Spells ts v → fits v ≡ true }
+{}
+
+/// At a place of a text there is one value at most, with one end. So a value has no farther end than the one that is found.
+pub fn a_spelled_value_ends_once()
+    ensures end { (bytes : List ℕ) (at to end : ℕ) (v w : pure.Value) → SpellsFrom bytes at to v → SpellsFrom bytes at end w → to ≡ end }
+    ensures value { (bytes : List ℕ) (at to end : ℕ) (v w : pure.Value) → SpellsFrom bytes at to v → SpellsFrom bytes at end w → v ≡ w }
+    ensures tokens { (ts : List Mark) (v w : pure.Value) → Spells ts v → Spells ts w → v ≡ w }
 {}
 
 /// In an ascending list a look-up that goes by comparison, and no further than the place of the

@@ -15,12 +15,13 @@ pub mod value;
 mod tests {
     use super::build::{at, depth_of, has, seq_of, set_of};
     use super::compare::{compare, put};
+    use super::names::{Definition, Defs, Instance};
     use super::state::State;
     use super::stop::EvalStop;
     use super::value::{Kind, Value, Values, all_copied, copied};
     use std::alloc::{AllocError, Global};
     use std::cmp::Ordering;
-    use tla_expr::Name;
+    use tla_expr::{Name, NameList};
     use tla_token::Place;
 
     const HERE: Place = Place { line: 1, col: 1 };
@@ -126,6 +127,30 @@ mod tests {
             Some(v) => assert!(rt; compare(v, &Value::int(2)) == Ordering::Equal),
             None => assert!(rt; false),
         }
+        Ok(())
+    }
+
+    #[test]
+    fn the_last_definition_of_a_name_is_found(rt: HostRuntime) -> Result<(), AllocError> {
+        let mut defs = Defs::new(rt.alloc());
+        for (byte, body) in [(120, 5), (121, 6), (120, 7)] {
+            defs.push(Definition {
+                name: name(rt.alloc(), byte)?,
+                params: NameList::new(rt.alloc()),
+                body,
+                outside: true,
+                place: HERE,
+            })?;
+        }
+        let instance = Instance {
+            constants: State::new(rt.alloc()),
+            defs,
+        };
+        let x = name(rt.alloc(), 120)?;
+        assert_eq!(rt; instance.defs.as_slice().len(), 3);
+        assert!(rt; matches!(instance.defs.latest(&x, 3), Some(2)));
+        assert!(rt; matches!(instance.defs.latest(&x, 2), Some(0)));
+        assert_eq!(rt; instance.constants.len(), 0);
         Ok(())
     }
 }

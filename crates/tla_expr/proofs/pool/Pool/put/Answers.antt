@@ -1,9 +1,9 @@
 -- Proves what is asked of `put`.
-use Rattle.std.proofs.Common.{◌≡◌, arith, length, subst, sym, []}
+use Rattle.std.proofs.Common.{◌≡◌, ◌<◌, ◌∙◌, ℕ, arith, length, subst, sym, []}
 use Rattle.tla_expr.specs.Tree.{node}
 use Rattle.tla_expr.specs.FormOf.{form_of}
 use Rattle.tla_expr.specs.Pool.{Entry, at, trees_at, AllBelow, Keeps, grown}
-use Rattle.tla_expr.proofs.PoolGrown.{AreShaped-insert, length-grown, Keeps-insert, AreOlder-insert, put-tree}
+use Rattle.tla_expr.proofs.PoolGrown.{AreShaped-insert, Differ-grown, length-grown, Keeps-insert, AreOlder-insert, put-tree}
 use Rattle.tla_expr.proofs.pool.Pool.put.Goals as goal
 
 pub invariant_of-self-2 : goal.invariant_of-self-2
@@ -29,3 +29,17 @@ returns-clause-tree c =
     let s = c.in_ok-id.ensures.stored in
     subst (λ ts. at (grown [] c.insert_full.new.self.keys) c.in_ok-id.id ≡ node n.form n.place (trees_at ts n.parts)) c.self.view_is
     (put-tree ns _ n s.0 c.in_ok-id.id older below kept c.in_ok-id.ensures.within s.1 s.2)
+
+pub returns-clause-old : goal.returns-clause-old
+returns-clause-old c =
+    let ns = c.self.inside.nodes.keys in
+    let ms = c.insert_full.new.self.keys in
+    let n : Entry = record { form = form_of c.args.form; place = c.args.place; parts = c.args.parts.items } in
+    let below : AllBelow (length (grown [] ns)) n.parts = subst (λ ts. AllBelow (length ts) c.args.parts.items) (sym c.self.view_is) c.requires.below in
+    let older = AreOlder-insert ns ms n c.self.invariant.0 below c.in_ok-id.ensures.keys in
+    let kept = Keeps-insert ns ms n c.in_ok-id.ensures.keys in
+    let s = c.in_ok-id.ensures.stored in
+    let tree = put-tree ns ms n s.0 c.in_ok-id.id older below kept c.in_ok-id.ensures.within s.1 s.2 in
+    let within : c.in_ok-id.id < length (grown [] ms) = omega (arith, length-grown [] ms, c.in_ok-id.ensures.within) in
+    subst (λ ts. (i : ℕ) → i < length ts → at ts i ≡ node n.form n.place (trees_at ts n.parts) → c.in_ok-id.id ≡ i) c.self.view_is
+    (λ i lt e. Differ-grown ms older c.in_ok-id.ensures.unique c.in_ok-id.id i within (omega (arith, lt, kept.longer)) (tree ∙ sym (kept.same i lt ∙ e)))

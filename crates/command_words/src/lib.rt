@@ -1,0 +1,2 @@
+//! What the words of a command line mean.
+#![tactic(auto)]

@@ -1,0 +1,2 @@
+//! The module that `make` writes.
+#![tactic(auto)]

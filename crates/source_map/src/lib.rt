@@ -1,0 +1,2 @@
+//! Where the labels of an algorithm are.
+#![tactic(auto)]

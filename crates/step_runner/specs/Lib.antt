@@ -1,0 +1,8 @@
+pub mod Fronts
+pub mod Stretches
+pub mod Items
+pub mod Config
+pub mod Script
+pub mod Trace
+pub mod Shown
+pub mod StopLines

@@ -1,0 +1,4 @@
+//! Constants, scripts and traces as files spell them, and the text that is written for states.
+#![tactic(auto)]
+
+pub mod laws;

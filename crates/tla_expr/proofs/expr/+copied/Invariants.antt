@@ -1,6 +1,0 @@
--- What the loop of `copied` keeps.
-use Rattle.std.proofs.Common.{◌≡◌, take}
-use Rattle.tla_expr.proofs.expr.+copied.Given as goal
-
-abbrev pub invariant-loop-part : goal.invariant-loop-part
-invariant-loop-part l = l.parts.items ≡ take l.part-index l.part-items
