@@ -1,6 +1,6 @@
 //! Laws of the written module, stated as what functions without a body ensure.
 
-ghost use Rattle.std.specs.Prelude.{◌≡◌, ℕ, List, Bool, false, Some};
+ghost use Rattle.std.specs.Prelude.{◌≡◌, ℕ, List, Bool, false, Some, map};
 ghost use Rattle.tla_expr.specs.Tree.{Word};
 ghost use Rattle.tla_value.specs.Outside.{Outside};
 ghost use Rattle.module_text.specs.Module.{test, item};
@@ -21,6 +21,7 @@ ghost use Rattle.action_builder.specs.WrittenNames.{with_names};
 ghost use Rattle.action_builder.specs.LabelActions.{at_test, items_from};
 ghost use Rattle.action_builder.specs.laws.Settling.{Callable};
 ghost use Rattle.action_builder.specs.laws.LabelSteps.{action_of};
+ghost use Rattle.translation.specs.laws.ActionNames.{action_names};
 ghost use Rattle.translation.specs.laws.Steps.{written_step};
 ghost use Rattle.translation.specs.Region.{written_region, written_module};
 
@@ -36,6 +37,12 @@ pub fn the_variables_are_the_written_names()
     ensures names { (o : Outside) (g : Algorithm) → naming (placeless g) o ≡ naming g o }
     ensures variables { (no_terminating : Bool) (o : Outside) (g : Algorithm) → (written_region no_terminating o g).variables ≡ vars (with_names o g) }
     ensures vars { (no_terminating : Bool) (o : Outside) (g : Algorithm) → (written_region no_terminating o g).vars ≡ vars (with_names o g) }
+{}
+
+/// The written module has an action for each label under its written name, and one for each procedure and process under its
+/// own, in the order of the text; and none else.
+pub fn the_actions_have_the_written_names()
+    ensures { (no_terminating : Bool) (o : Outside) (g : Algorithm) → map (λ a. a.title) (written_region no_terminating o g).actions ≡ action_names (with_names o g) }
 {}
 
 /// What the action of a label has after its test of pc is the action of a step, of which the laws of written actions speak.
