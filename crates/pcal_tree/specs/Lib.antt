@@ -31,6 +31,7 @@ pub mod OffencesLabels
 pub mod Labelled
 pub mod BoundNames
 pub mod Outside
+pub mod NameUses
 pub mod OffencesNames
 pub mod OffencesReserved
 pub mod laws
