@@ -33,6 +33,8 @@ pub mod EffectLabels
 pub mod FirstLaws
 pub mod UseLaws
 pub mod UsesByMacro
+pub mod RebindLaws
+pub mod RebindsByMacro
 pub mod RowsOffences
 pub mod SameVariables
 pub mod StepVariables

@@ -19,7 +19,7 @@ use Rattle.pcal_tree.proofs.UseLaws.{around_all, says_body, says_call}
 abbrev pub Alike : Calls → Calls → Type 0
 Alike C D = (s : Sight) (at : Place) (m : Word) (ts : Trees) → Same (C s at m ts) (D s at m ts)
 
-same_after : (rs xs ys : List Refusal) → Same xs ys → Same (rs ++ xs) (rs ++ ys)
+pub same_after : (rs xs ys : List Refusal) → Same xs ys → Same (rs ++ xs) (rs ++ ys)
 same_after rs xs ys s = same_both rs rs xs ys (λ f. refl) s
 
 pub same_before : (xs ys rs : List Refusal) → Same xs ys → Same (xs ++ rs) (ys ++ rs)
@@ -60,7 +60,7 @@ mutual
 
 -- ---- macros
 
-same_then : (xs ys zs : List Refusal) → Same xs ys → Same ys zs → Same xs zs
+pub same_then : (xs ys zs : List Refusal) → Same xs ys → Same ys zs → Same xs zs
 same_then xs ys zs s r f = s f ∙ r f
 
 macros_alike : (ms : List Macro) (ps : List Procedure) → Alike (macro_offences ms ps) (offences_by_uses (macro_uses ms ps))
@@ -89,7 +89,7 @@ macros_alike (d ∷ older) ps s at m ts = by (bytes_eq d.name.word m) (macros_al
 
 -- ---- algorithms
 
-same_flat : {X : Type 0} (g h : X → List Refusal) → ((x : X) → Same (g x) (h x)) → (xs : List X) → Same (flat_map g xs) (flat_map h xs)
+pub same_flat : {X : Type 0} (g h : X → List Refusal) → ((x : X) → Same (g x) (h x)) → (xs : List X) → Same (flat_map g xs) (flat_map h xs)
 same_flat g h e [] = λ f. refl
 same_flat g h e (x ∷ xs) = same_both (g x) (h x) (flat_map g xs) (flat_map h xs) (e x) (same_flat g h e xs)
 

@@ -34,4 +34,7 @@ pub mod Outside
 pub mod NameUses
 pub mod OffencesNames
 pub mod OffencesReserved
+pub mod Expressions
+pub mod OffencesModules
+pub mod OffencesRebind
 pub mod laws
