@@ -35,6 +35,8 @@ pub mod UseLaws
 pub mod UsesByMacro
 pub mod RebindLaws
 pub mod RebindsByMacro
+mod RowsRebind
+mod RowsVariables
 pub mod RowsOffences
 pub mod SameVariables
 pub mod StepVariables

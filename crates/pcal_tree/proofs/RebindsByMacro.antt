@@ -1,5 +1,5 @@
 -- Names that are bound again rest on what calls offend, and not on how that is found; so what is computed once for each macro gives the same offences.
-use Rattle.std.proofs.Common.{◌≡◌, List, [], ◌∷◌, ◌++◌, Bool, true, false, cond, bytes_eq, reverse, map, refl, ◌∙◌}
+use Rattle.std.proofs.Common.{◌≡◌, List, [], ◌∷◌, ◌++◌, Bool, true, false, cond, bytes_eq, reverse, refl}
 use Rattle.std.specs.List.{flat_map}
 use Rattle.tla_token.specs.declared.rule.Refusal.{Refusal}
 use Rattle.tla_expr.specs.Tree.{Word, Trees, words}
@@ -8,7 +8,7 @@ use Rattle.pcal_tree.specs.Algorithm.{Statement, assign, await, print, assert, s
 use Rattle.pcal_tree.specs.BoundNames.{names_of_binds}
 use Rattle.pcal_tree.specs.Variables.{declared}
 use Rattle.pcal_tree.specs.Offences.{first}
-use Rattle.pcal_tree.specs.OffencesRebind.{Standings, naming, rebound_all, any_name, Calls, starts_rebind, jump_rebinds, call_rebinds, whole_rebinds, each_rebinds, binds_rebind, one_rebinds, body_rebinds, branches_rebind, putting_in, macro_rebinds, CallsAmong, texts_rebind, standing_outside, standing_inside, definitions_rebind, locals_rebind, procedure_rebinds, in_process_body, process_rebinds, main_rebinds, rebind_offences_by, rebind_offences_of}
+use Rattle.pcal_tree.specs.OffencesRebind.{Standings, naming, rebound_all, any_name, Calls, starts_rebind, whole_rebinds, each_rebinds, binds_rebind, one_rebinds, body_rebinds, branches_rebind, putting_in, macro_rebinds, CallsAmong, texts_rebind, standing_outside, standing_inside, definitions_rebind, locals_rebind, procedure_rebinds, in_process_body, process_rebinds, main_rebinds, rebind_offences_by, rebind_offences_of}
 use Rattle.pcal_tree.specs.laws.MacroBindings.{MacroBindings, body_bindings, call_bindings, macro_bindings, offences_seen, rebinds_by}
 use Rattle.pcal_tree.proofs.SetLaws.{Same, same_both}
 use Rattle.pcal_tree.proofs.FirstLaws.{same_first}

@@ -25,7 +25,7 @@ abbrev pub q : Word
 q = codes "q"
 
 -- the unit `ASSUME Big == ..` was not read
-abbrev around : Outside
+abbrev pub around : Outside
 around = record { extended = codes "Sequences" ∷ []; constants = title (codes "N") ∷ []; definitions = []; opaque = record { keyword = codes "ASSUME"; names = codes "Big" ∷ []; place = at 1 } ∷ [] }
 
 abbrev uses : List Macro → Statement → List Refusal
@@ -45,7 +45,7 @@ not_read_on_the_left : uses [] (sets (read 3 (codes "Big")) (read 4 x)) ≡ reco
 not_read_on_the_left = refl
 
 -- the unit `Len == ..` was not read: neither Len nor Len(x) is a use of the standard operator
-abbrev hiding : Outside
+abbrev pub hiding : Outside
 hiding = record { extended = []; constants = []; definitions = []; opaque = record { keyword = []; names = codes "Len" ∷ []; place = at 1 } ∷ [] }
 
 hidden_standard_name : use_offences_of (one_body [] (labelled (codes "A") (stands 2 (await (read 3 (codes "Len"))) done))).algorithm hiding ≡ record { rule = OpaqueUnit; place = at 3 } ∷ []

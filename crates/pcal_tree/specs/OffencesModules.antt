@@ -11,7 +11,7 @@ use Rattle.tla_value.specs.Outside.{Outside}
 use Rattle.tla_value.specs.StandardModules.{sequence_modules, tlc_modules, extends_one, has_operator, is_member, is_last}
 use Rattle.pcal_tree.specs.Algorithm.{Statement, print, assert, Procedure, Algorithm}
 use Rattle.pcal_tree.specs.Offences.{offence_if}
-use Rattle.pcal_tree.specs.Expressions.{StatementAt, all_statements, all_expressions}
+use Rattle.pcal_tree.specs.Expressions.{all_statements, all_expressions}
 
 -- ---- expressions
 
