@@ -29,12 +29,12 @@ pub mod Paths
 pub mod OffencesSteps
 pub mod OffencesLabels
 pub mod Labelled
+pub mod Expressions
 pub mod BoundNames
 pub mod Outside
 pub mod NameUses
 pub mod OffencesNames
 pub mod OffencesReserved
-pub mod Expressions
 pub mod OffencesModules
 pub mod OffencesRebind
 pub mod laws

@@ -1,5 +1,5 @@
--- What the text of an algorithm needs of modules that aren't extended, sets of all strings where none may be, and variables that are declared outside of it ("Specifying Systems",
--- chapter 18 and sections 14.5.3 and 17.5; "A PlusCal User's Manual", sections 3.2 and 3.4).
+-- What the text of an algorithm needs of modules that aren't extended, sets of all strings where none may be, and variables that are declared outside of
+-- it ("Specifying Systems", chapter 18 and sections 14.5.3 and 17.5; "A PlusCal User's Manual", sections 3.2 and 3.4).
 use Rattle.std.specs.Prelude.{List, [], ◌∷◌, ◌++◌, Bool, false, ◌&&◌, not, codes}
 use Rattle.std.specs.List.{flat_map}
 use Rattle.tla_token.specs.declared.place.Place.{Place}

@@ -1,5 +1,5 @@
--- All uses of names: names that are nothing where they are, wrong numbers of arguments, assignments to what is no variable, operators of modules that aren't extended, infinite sets, uses of
--- units that were not read; and names declared twice ("A PlusCal User's Manual", sections 3.2 to 3.6).
+-- All uses of names: names that are nothing where they are, wrong numbers of arguments, assignments to what is no variable, operators of modules that
+-- aren't extended, infinite sets, uses of units that were not read; and names declared twice ("A PlusCal User's Manual", sections 3.2 to 3.6).
 use Rattle.std.specs.Prelude.{ℕ, suc, length, nat_eq, List, [], ◌∷◌, ◌++◌, Bool, false, ◌&&◌, reverse, map, not, cond, bytes_eq, codes, Option, Some, None}
 use Rattle.std.specs.List.{flat_map}
 use Rattle.tla_token.specs.declared.place.Place.{Place}

@@ -1,5 +1,5 @@
--- Names that are bound or declared where they are in scope already, also where macro calls, processes' identifiers and procedures' initial values are put in ("A PlusCal User's
--- Manual", sections 3.4 and 3.5, with and macros; "Specifying Systems", section 17.3).
+-- Names that are bound or declared where they are in scope already, also where macro calls, processes' identifiers and procedures' initial values are
+-- put in ("A PlusCal User's Manual", sections 3.4 and 3.5, with and macros; "Specifying Systems", section 17.3).
 use Rattle.std.specs.Prelude.{List, [], ◌∷◌, ◌++◌, Bool, true, false, ◌&&◌, ◌||◌, reverse, map, not, cond, bytes_eq, codes}
 use Rattle.std.specs.List.{flat_map}
 use Rattle.tla_token.specs.declared.rule.Rule.TheVariants.{Rebind}
@@ -181,7 +181,9 @@ putting_in _ _ s r = r
 abbrev pub macro_rebinds : List Word → List Procedure → List Macro → Calls
 macro_rebinds extended ps [] s m ts = []
 macro_rebinds extended ps (d ∷ older) s m ts =
-    cond (bytes_eq d.name.word m) (body_rebinds extended ps (macro_rebinds extended ps older) d.body (putting_in d.params ts s s)) (macro_rebinds extended ps older s m ts)
+    cond (bytes_eq d.name.word m)
+    (body_rebinds extended ps (macro_rebinds extended ps older) d.body (putting_in d.params ts s s))
+    (macro_rebinds extended ps older s m ts)
 
 -- what a call in a macro does with macros older than it
 abbrev pub CallsAmong : Type 0

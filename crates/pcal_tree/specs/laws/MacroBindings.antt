@@ -1,5 +1,5 @@
--- What is computed once for each macro, in place of looking through its body at each call: the names that it binds, and the names for which other text may be put in, each with
--- the names that are bound around it ("A PlusCal User's Manual", section 3.5, macros; "Specifying Systems", section 17.3).
+-- What is computed once for each macro, in place of looking through its body at each call: the names that it binds, and the names for which other text
+-- may be put in, each with the names that are bound around it ("A PlusCal User's Manual", section 3.5, macros; "Specifying Systems", section 17.3).
 use Rattle.std.specs.Prelude.{List, [], ◌∷◌, ◌++◌, Bool, false, ◌&&◌, map, cond, bytes_eq, codes, Option, Some, None}
 use Rattle.std.specs.List.{flat_map}
 use Rattle.tla_token.specs.declared.rule.Refusal.{Refusal}
