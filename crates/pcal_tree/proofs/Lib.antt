@@ -37,6 +37,7 @@ pub mod RebindLaws
 pub mod RebindsByMacro
 mod RowsRebind
 mod RowsVariables
+mod RowsDeclared
 pub mod RowsOffences
 pub mod SameVariables
 pub mod StepVariables
