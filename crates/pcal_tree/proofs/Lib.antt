@@ -14,6 +14,11 @@ mod RowsC
 mod RowsLabels
 mod RowsSummaries
 mod RowsUses
+pub mod RebindLaws
+pub mod RebindsByMacro
+mod RowsRebind
+mod RowsVariables
+mod RowsDeclared
 mod RowsNames
 mod RowsP
 mod RowsBoth
@@ -33,11 +38,6 @@ pub mod EffectLabels
 pub mod FirstLaws
 pub mod UseLaws
 pub mod UsesByMacro
-pub mod RebindLaws
-pub mod RebindsByMacro
-mod RowsRebind
-mod RowsVariables
-mod RowsDeclared
 pub mod RowsOffences
 pub mod SameVariables
 pub mod StepVariables

@@ -33,8 +33,8 @@ pub mod Expressions
 pub mod BoundNames
 pub mod Outside
 pub mod NameUses
-pub mod OffencesNames
-pub mod OffencesReserved
 pub mod OffencesModules
 pub mod OffencesRebind
+pub mod OffencesNames
+pub mod OffencesReserved
 pub mod laws

@@ -1,9 +1,9 @@
 -- Words that only laws speak of.
 pub mod Apart
 pub mod Lines
+pub mod MacroBindings
 pub mod MacroSummaries
 pub mod MacroUses
-pub mod MacroBindings
 pub mod Choosing
 pub mod Expansion
 pub mod Steps
