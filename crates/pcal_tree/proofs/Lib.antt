@@ -14,6 +14,7 @@ mod RowsC
 mod RowsLabels
 mod RowsSummaries
 mod RowsUses
+pub mod RebindNames
 pub mod RebindLaws
 pub mod RebindsByMacro
 mod RowsRebind

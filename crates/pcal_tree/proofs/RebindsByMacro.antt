@@ -13,7 +13,8 @@ use Rattle.pcal_tree.specs.laws.MacroBindings.{MacroBindings, body_bindings, cal
 use Rattle.pcal_tree.proofs.SetLaws.{Same, same_both}
 use Rattle.pcal_tree.proofs.FirstLaws.{same_first}
 use Rattle.pcal_tree.proofs.UsesByMacro.{same_after, same_before, same_then, same_flat}
-use Rattle.pcal_tree.proofs.RebindLaws.{around_none, says_body, says_call}
+use Rattle.pcal_tree.proofs.RebindNames.{around_none}
+use Rattle.pcal_tree.proofs.RebindLaws.{says_body, says_call}
 
 abbrev pub Alike : Calls → Calls → Type 0
 Alike C D = (s : Standings) (m : Word) (ts : Trees) → Same (C s m ts) (D s m ts)
