@@ -15,6 +15,12 @@ mod RowsC
 mod RowsLabels
 mod RowsSummaries
 mod RowsUses
+pub mod RebindNames
+pub mod RebindLaws
+pub mod RebindsByMacro
+mod RowsRebind
+mod RowsVariables
+mod RowsDeclared
 mod RowsNames
 mod RowsP
 mod RowsBoth

@@ -30,8 +30,12 @@ pub mod Paths
 pub mod OffencesSteps
 pub mod OffencesLabels
 pub mod Labelled
+pub mod Expressions
 pub mod BoundNames
 pub mod Outside
+pub mod NameUses
+pub mod OffencesModules
+pub mod OffencesRebind
 pub mod OffencesNames
 pub mod OffencesReserved
 pub mod laws

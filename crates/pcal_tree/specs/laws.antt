@@ -1,6 +1,7 @@
 -- Words that only laws speak of.
 pub mod Apart
 pub mod Lines
+pub mod MacroBindings
 pub mod MacroSummaries
 pub mod MacroUses
 pub mod Choosing

@@ -11,6 +11,8 @@ ghost use Rattle.pcal_tree.specs.Choices.{walk, first_trouble};
 ghost use Rattle.pcal_tree.specs.Program.{Program, Actor};
 ghost use Rattle.tla_value.specs.Outside.{Outside};
 ghost use Rattle.pcal_tree.specs.OffencesReserved.{reserved_declared};
+ghost use Rattle.pcal_tree.specs.OffencesRebind.{rebind_offences_by, rebind_offences_of};
+ghost use Rattle.pcal_tree.specs.laws.MacroBindings.{macro_bindings, rebinds_by};
 ghost use Rattle.pcal_tree.specs.OffencesSteps.{call_effect};
 ghost use Rattle.pcal_tree.specs.OffencesLabels.{label_offences, label_offences_by};
 ghost use Rattle.pcal_tree.specs.laws.MacroSummaries.{summaries, summary_effect};
@@ -114,9 +116,19 @@ pub fn macros_are_looked_at_once()
     ensures labels { (forced : Bool) (a : Algorithm) → labelled forced a ≡ labelled_by (λ ms. summary_effect (summaries ms)) forced a }
 {}
 
+/// What is computed once for each macro, from its text and from what was computed for older ones, says of each call which names would be bound
+/// that are in scope already, with the arguments in place of the parameters. So it gives the same offences of names bound again, if not as often
+/// nor in the same order, in every algorithm and whatever is outside of it, and the same one comes first, also among others.
+pub fn bound_names_in_macros_are_looked_at_once()
+    ensures offences { (a : Algorithm) (o : Outside) (r : Refusal)
+        → Contains (rebind_offences_of a o) r ↔ Contains (rebind_offences_by (λ ms. rebinds_by o.extended (macro_bindings o.extended a.procedures ms)) a o) r }
+    ensures first { (a : Algorithm) (o : Outside) (others : List Refusal)
+        → first (rebind_offences_of a o ++ others) ≡ first (rebind_offences_by (λ ms. rebinds_by o.extended (macro_bindings o.extended a.procedures ms)) a o ++ others) }
+{}
+
 /// What is computed once for each macro, from its text and from what was computed for older ones, says of each call what is wrong with the
-/// names that the macro's body uses: those that it doesn't bind are looked up where the call is. So it gives the same offences of uses of
-/// names, if not as often nor in the same order, in every algorithm and whatever is outside of it, and the same one comes first, also among others.
+/// names that the macro's body uses, and with the arguments that it assigns: those that it doesn't bind are looked up where the call is. So it
+/// gives the same offences of uses of names, if not as often nor in the same order, in every algorithm and whatever is outside of it, and the same one comes first, also among others.
 pub fn uses_in_macros_are_looked_at_once()
     ensures offences { (a : Algorithm) (o : Outside) (r : Refusal)
         → Contains (use_offences_of a o) r ↔ Contains (use_offences_by (offences_by_uses (macro_uses (reverse a.macros) a.procedures)) a o) r }
