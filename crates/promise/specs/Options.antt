@@ -1,8 +1,8 @@
--- The options of `translate` that change what is written ("A PlusCal User's Manual", section 4, on the translator's options).
+-- The options of `translate` that change what is written ("A PlusCal User's Manual", section 3.7, on the option `-label`; the end that stutters, section 4).
 use Rattle.std.specs.Prelude.{Bool, false}
 
 pub record Options : Type 0 where
-  pub label : Bool  -- --label: labels are added where none are forced too
+  pub label : Bool  -- --label: labels are added in every algorithm, not only in a uniprocess one without any
   pub no_terminating : Bool  -- --no-terminating: no unit Terminating, and no disjunct of Next of that name
 
 abbrev pub no_options : Options

@@ -5,3 +5,4 @@ mod RowsProcesses
 mod RowsAll
 pub mod NoPlaces
 pub mod OfForm
+pub mod ActionTitles

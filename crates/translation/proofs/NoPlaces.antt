@@ -213,7 +213,7 @@ mutual
   one_labels (call p ts) = refl
   one_labels return = refl
 
-  all_labels : (s : Bool) (b : Statements) → named (labels s (statements_placeless b)) ≡ named (labels s b)
+  pub all_labels : (s : Bool) (b : Statements) → named (labels s (statements_placeless b)) ≡ named (labels s b)
   all_labels s done = refl
   all_labels s (mark l k rest) = λ i. l.word ∷ all_labels true rest i
   all_labels s (then at st rest) = named_two (labels_of_one (statement_placeless st)) (labels false (statements_placeless rest)) (labels_of_one st) (labels false rest) (one_labels st) (all_labels false rest)
@@ -237,7 +237,7 @@ process_wants n [] = refl
 process_wants n (p ∷ ps) =
     λ i. (record { unit = n; role = title; word = p.name.word } ∷ wants_of n (declared_bare p.variables i) (all_labels false p.body i)) ++ process_wants (suc n) ps i
 
-as_many_macros : (ms : List Macro) → length (macros_placeless ms) ≡ length ms
+pub as_many_macros : (ms : List Macro) → length (macros_placeless ms) ≡ length ms
 as_many_macros [] = refl
 as_many_macros (m ∷ ms) = ap suc (as_many_macros ms)
 
@@ -245,7 +245,7 @@ as_many_procedures : (ps : List Procedure) → length (procedures_placeless ps) 
 as_many_procedures [] = refl
 as_many_procedures (p ∷ ps) = ap suc (as_many_procedures ps)
 
-first_process_bare : (a : Algorithm) → first_process (placeless a) ≡ first_process a
+pub first_process_bare : (a : Algorithm) → first_process (placeless a) ≡ first_process a
 first_process_bare a = λ i. as_many_macros a.macros i + as_many_procedures a.procedures i
 
 main_wants : (a : Algorithm) (m : Main) → wanted_by_main (placeless a) (main_placeless m) ≡ wanted_by_main a m

@@ -7,7 +7,7 @@ use Rattle.tla_value.specs.Outside.{Outside}
 use Rattle.module_text.specs.Module.{init_unit, next_unit}
 use Rattle.module_text.specs.Layout.{unit_text}
 use Rattle.module_text.specs.Formulas.{named, at, set}
-use Rattle.pcal_tree.specs.Algorithm.{nowhere, no_binds, one_of, await, skip, branch, either, with, while, macro, call, return, Statement, Statements, done, no_branches, or, Macro, Procedure, alone, Algorithm}
+use Rattle.pcal_tree.specs.Algorithm.{nowhere, no_binds, one_of, is, await, print, assert, skip, branch, either, with, while, macro, call, return, Statement, Statements, done, no_branches, or, Macro, Procedure, alone, Algorithm}
 use Rattle.pcal_tree.specs.Labelled as labels
 use Rattle.translation.specs.Region.{written_region}
 use Rattle.translation.proofs.Trees.{word, x, y, z, num, over, pair, and_next, just, sets, both, labelled, variable, zero_of, with_main, one_body, integers, texts}
@@ -120,6 +120,17 @@ plain_next = refl
 some_member : actions_of (one_body (zero_of x ∷ []) (labelled (codes "A") (just (with (one_of (word (codes "v")) (set []) no_binds) (just (sets x (named (codes "v")))))))) ≡ codes "A ==\n  /\\ (pc = \"A\")\n  /\\ \\E v \\in {} :\n       /\\ x' = v\n  /\\ pc' = \"Done\"\n"
 unfolding digits
 some_member = refl
+
+-- x, y = 0;  A: print x; assert x = 0; with v \in {1}, w = v + x do x := w; y := v; end with;
+abbrev told : Statements
+told =
+    and_next (print (named x)) (and_next (assert (over Equal (named x) (num 0)))
+    (just (with (one_of (word (codes "v")) (set (num 1 ∷ [])) (is (word (codes "w")) (over Plus (named (codes "v")) (named x)) no_binds))
+    (and_next (sets x (named (codes "w"))) (just (sets y (named (codes "v"))))))))
+
+nested_names : actions_of (one_body (zero_of x ∷ zero_of y ∷ []) (labelled (codes "A") told)) ≡ codes "A ==\n  /\\ (pc = \"A\")\n  /\\ (PrintT(x))\n  /\\ (Assert(x = 0, \"Failure of assertion.\"))\n  /\\ \\E v \\in {1} :\n       /\\ LET w == v + x IN\n            /\\ x' = w\n            /\\ y' = v\n  /\\ pc' = \"Done\"\n"
+unfolding digits
+nested_names = refl
 
 -- x = 0;  A: either x := 1; or skip; end either;
 either_way : actions_of (one_body (zero_of x ∷ []) (labelled (codes "A") (just (either (or (just (sets x (num 1))) (or (just skip) no_branches)))))) ≡ codes "A ==\n  /\\ (pc = \"A\")\n  /\\\n       \\/\n            /\\ x' = 1\n       \\/\n            /\\ (TRUE)\n            /\\ UNCHANGED <<x>>\n  /\\ pc' = \"Done\"\n"

@@ -1,9 +1,14 @@
 //! Laws of the written module, stated as what functions without a body ensure.
 
-ghost use Rattle.std.specs.Prelude.{◌≡◌, ℕ, List, Bool, false};
+ghost use Rattle.std.specs.Prelude.{◌≡◌, ℕ, List, Bool, false, Some, map};
 ghost use Rattle.tla_expr.specs.Tree.{Word};
 ghost use Rattle.tla_value.specs.Outside.{Outside};
-ghost use Rattle.pcal_tree.specs.Algorithm.{Algorithm};
+ghost use Rattle.module_text.specs.Module.{test, item};
+ghost use Rattle.pcal_tree.specs.Algorithm.{Routine, Algorithm};
+ghost use Rattle.pcal_tree.specs.Scope.{Scope};
+ghost use Rattle.pcal_tree.specs.Run.{Rules};
+ghost use Rattle.pcal_tree.specs.StepStart.{Begin};
+ghost use Rattle.pcal_tree.specs.Program.{Program};
 ghost use Rattle.pcal_tree.specs.Placeless.{placeless};
 ghost use Rattle.pcal_tree.specs.Names.{naming};
 ghost use Rattle.pcal_tree.specs.Variables.{vars};
@@ -13,6 +18,11 @@ ghost use Rattle.promise.specs.Headline.{Stands};
 ghost use Rattle.first_path.specs.Form.{Parts, IsForm};
 ghost use Rattle.first_path.specs.Placed.{integers_alone, translation_of};
 ghost use Rattle.action_builder.specs.WrittenNames.{with_names};
+ghost use Rattle.action_builder.specs.LabelActions.{at_test, items_from};
+ghost use Rattle.action_builder.specs.laws.Settling.{Callable};
+ghost use Rattle.action_builder.specs.laws.LabelSteps.{action_of};
+ghost use Rattle.translation.specs.laws.ActionNames.{action_names};
+ghost use Rattle.translation.specs.laws.Steps.{written_step};
 ghost use Rattle.translation.specs.Region.{written_region, written_module};
 
 /// The written module of an algorithm and of the same one with other places are the same.
@@ -27,6 +37,18 @@ pub fn the_variables_are_the_written_names()
     ensures names { (o : Outside) (g : Algorithm) → naming (placeless g) o ≡ naming g o }
     ensures variables { (no_terminating : Bool) (o : Outside) (g : Algorithm) → (written_region no_terminating o g).variables ≡ vars (with_names o g) }
     ensures vars { (no_terminating : Bool) (o : Outside) (g : Algorithm) → (written_region no_terminating o g).vars ≡ vars (with_names o g) }
+{}
+
+/// The written module has an action for each label under its written name, and one for each procedure and process under its
+/// own, in the order of the text; and none else.
+pub fn the_actions_have_the_written_names()
+    ensures { (no_terminating : Bool) (o : Outside) (g : Algorithm) → map (λ a. a.title) (written_region no_terminating o g).actions ≡ action_names (with_names o g) }
+{}
+
+/// What the action of a label has after its test of pc is the action of a step, of which the laws of written actions speak.
+pub fn the_actions_of_labels_are_those_of_steps()
+    ensures { (P : Program) (u : Routine) (l : Word) (b : Begin) (rules : Rules) (names : Word → Bool) (callable : Callable) (scope : Scope)
+        → items_from P u l (Some b) ≡ item (test (at_test P u l)) (action_of (vars P) (written_step P u l b rules names callable scope)) }
 {}
 
 /// What is written for a text of the form is the text with the written module of the algorithm that is in it, labels added

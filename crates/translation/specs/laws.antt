@@ -1,0 +1,3 @@
+-- The words in which the laws are stated.
+pub mod Steps
+pub mod ActionNames
