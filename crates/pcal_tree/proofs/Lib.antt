@@ -2,6 +2,7 @@ mod Sample
 mod RowsRun
 mod RowsStep
 mod RowsMacros
+mod RowsPairs
 mod Choices
 pub mod GraftRuns
 pub mod Uncaptured
