@@ -27,6 +27,7 @@ pub mod ItemPlaces
 pub mod AnyPlace
 pub mod SingleProcess
 mod Rows
+mod RowsPairs
 mod RowsSample
 pub mod Decided
 pub mod Witness

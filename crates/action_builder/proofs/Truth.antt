@@ -1,5 +1,5 @@
 -- The written items have the truth of what their statements mean.
-use Rattle.std.proofs.Common.{◌≡◌, List, [], ◌∷◌, Bool, true, false, cond, ◌||◌, bytes_eq, codes, Some, None, refl, sym, ◌∙◌, ap, subst, ⊎_elim, Ok, Err}
+use Rattle.std.proofs.Common.{◌≡◌, List, [], ◌∷◌, Bool, true, false, cond, not, ◌&&◌, ◌||◌, bytes_eq, codes, Some, None, refl, sym, ◌∙◌, ap, subst, ⊎_elim, Ok, Err}
 use Rattle.std.proofs.lemmas.Bool.{or_cases, or_left, or_right}
 use Rattle.tla_token.specs.Signs.{is_among}
 use Rattle.tla_token.specs.declared.place.Place.{Place}
@@ -10,6 +10,7 @@ use Rattle.tla_value.specs.Stops.{plain, truth_at, members_at}
 use Rattle.tla_value.specs.Standard.{printed, asserted, standard_value}
 use Rattle.tla_value.specs.Meaning.{Env, called, part_values, eval}
 use Rattle.tla_value.specs.Definitions.{Valuation}
+use Rattle.module_text.specs.Module as Line
 use Rattle.module_text.specs.Module.{Items, no_items, item}
 use Rattle.module_text.specs.ActionTruth.{Verdict, is_value, items_hold, some_branch}
 use Rattle.module_text.specs.ActionTruth as Module
@@ -18,12 +19,13 @@ use Rattle.pcal_tree.specs.Scope.{State, Scope, bound, place_of}
 use Rattle.action_builder.specs.Assigned.{Names, more, heads, assigned, assigned_in, assigned_by}
 use Rattle.action_builder.proofs.Names.{append_none, heads_same, one_names, all_names, some_names, one_in, all_in, some_in}
 use Rattle.action_builder.specs.laws.States.{mid}
-use Rattle.action_builder.proofs.Effects.{effect_names, effects_names, ways_names, Effects, parts_of, effect_of, effects_of, ways_of, nested}
+use Rattle.pcal_tree.specs.Variables.{pc}
+use Rattle.action_builder.proofs.Effects.{firsts, effect_names, effects_names, ways_names, Effects, parts_of, effect_of, effects_of, ways_of, nested}
 use Rattle.action_builder.proofs.Actions.{minus, all_same, hold, hold_some, holds, hold_sets, build, build_one, build_some, ended, value_for}
 use Rattle.action_builder.specs.laws.Ready.{SettledOne, Settled, SettledSome, Readable, IsWithin, Stands, FineAssignments, FineBinds, FineOne, Fine, FineSome, values_of, holds_on}
 use Rattle.action_builder.proofs.Matching.{Matches, match_and, match_or, match_value, match_test, match_some, match_one, match_true, match_told, match_print, match_assert, exp_law, bound_env, paired_bound, scoped_bound, side_fine, unchanged_same}
 use Rattle.action_builder.proofs.Actions as Action
-use Rattle.action_builder.specs.Written.{own, side_of, primed, left_of, unchanged_of, onto, filled, settings_of, nested_items, branch_items, write_one, write, write_some}
+use Rattle.action_builder.specs.Written.{own, side_of, primed, left_of, unchanged_of, onto, filled, settings_of, late, before_pc, assignment_items, nested_items, branch_items, write_one, write, write_some}
 use Rattle.action_builder.proofs.Equal.{eq-name}
 use Rattle.action_builder.proofs.Main.{and_then_assoc, Within}
 use Rattle.action_builder.proofs.Main as Main
@@ -87,6 +89,27 @@ match_sets U vs A ms f sc env k w s t (y ∷ ys) i j rest r h =
     here : (bytes_eq y y || is_among ys y) ≡ true
     here = or_left (bytes_eq y y) (is_among ys y) (eq-name y y refl)
 
+-- where nothing is written later, the settings are in the order of the assignments
+all_left : (ys all : List Word) → Within ys all → left_of ys all [] ≡ ys
+all_left [] all h = refl
+all_left (y ∷ ys) all h =
+    (λ i. cond (h y (or_left (bytes_eq y y) (is_among ys y) (eq-name y y refl)) i && not (is_among [] y)) (y ∷ left_of ys all []) (left_of ys all []))
+    ∙ ap (λ (zs : List Word). y ∷ zs) (all_left ys all (λ x m. h x (or_right (bytes_eq y x) (is_among ys x) m)))
+
+none_before : (js : Items) → before_pc no_items js ≡ js
+none_before no_items = refl
+none_before (item (Line.setting x e) js) = by (none_before js) (bytes_eq x pc)
+  where
+    by : before_pc no_items js ≡ js → (b : Bool) → cond b (item (Line.setting x e) js) (item (Line.setting x e) (before_pc no_items js)) ≡ item (Line.setting x e) js
+    by ih true = refl
+    by ih false = ap (item (Line.setting x e)) ih
+none_before (item i js) = ap (item i) (none_before js)
+
+in_order : (A : Names) (ms : Assignments) (rest : Items) → late ms ≡ [] → assignment_items A ms rest ≡ settings_of A ms (heads ms) rest
+in_order A ms rest e =
+    (λ i. settings_of A ms (left_of (heads ms) (heads ms) (e i)) (before_pc (settings_of A ms (e i) no_items) rest))
+    ∙ (λ i. settings_of A ms (all_left (heads ms) (heads ms) (λ x m. m) i) (none_before rest i))
+
 -- ---- `with`
 
 -- the body's list matches in all scopes
@@ -116,8 +139,9 @@ match_cond false p q v u m n = n
 mutual
   match_item : (U : Readable) (vs : List Word) (A : Names) (at : Place) (st : Statement) → SettledOne (is_among vs) st → FineOne U vs A st → IsWithin A (is_among vs) → (sc : Scope) (env : State → State → Env) → Stands U vs sc env → (s t : State) (rest : Items) (r : Outcome Bool) → Matches (holds_on vs env rest s t) r → Matches (holds_on vs env (write_one vs A at st rest) s t) (and_then (holds (build_one A (effect_of plain at st)) sc s t) r)
   match_item U vs A at (assign ms) z f w sc env k s t rest r h =
-      subst (λ xs. Matches (holds_on vs env (settings_of A ms (heads ms) rest) s t) (and_then (hold_sets (Action.settings_of A (parts_of plain ms) xs) sc s t) r)) (sym (heads_same plain ms))
-      (match_sets U vs A ms f sc env k w s t (heads ms) (λ x m. m) (one_in (is_among vs) (assign ms) z) rest r h)
+      subst (λ js. Matches (holds_on vs env js s t) (and_then (hold_sets (Action.settings_of A (parts_of plain ms) (firsts (parts_of plain ms))) sc s t) r)) (sym (in_order A ms rest f.order))
+      (subst (λ xs. Matches (holds_on vs env (settings_of A ms (heads ms) rest) s t) (and_then (hold_sets (Action.settings_of A (parts_of plain ms) xs) sc s t) r)) (sym (heads_same plain ms))
+      (match_sets U vs A ms f sc env k w s t (heads ms) (λ x m. m) (one_in (is_among vs) (assign ms) z) rest r h))
   match_item U vs A at (await e) z f w sc env k s t rest r h = match_and _ (holds_on vs env rest s t) _ r (
       subst (λ o. Matches (o.value >>= truth_at (root_place (primed A e))) (holds (build_one A (effect_of plain at (await e))) sc s t)) (sym (exp_law U vs A sc env k.paired w e f s t))
       (match_told (eval plain e (sc.env (mid s t A))).value (root_place (primed A e)) (place_of e sc))) h

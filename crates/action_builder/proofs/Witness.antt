@@ -39,7 +39,7 @@ use Rattle.action_builder.proofs.Matching.{paired_bound, scoped_bound}
 -- ---- macros
 
 pub sample_calls : Calls (FineCall macros) unexpanded
-sample_calls = (((((tt, tt), (tt, ((tt, tt), ((tt, tt), tt))), tt), tt), (tt, tt), tt), (tt, (tt, (((tt, tt), (tt, tt)), (tt, tt)))))
+sample_calls = (((((tt, tt), (tt, ((tt, tt), ((tt, tt), tt))), tt), tt), (tt, tt), tt, (tt, tt)), (tt, (tt, (((tt, tt), (tt, tt)), (tt, tt)))))
 
 pub sample_bare : BareBodies macros
 sample_bare = ((tt, tt), tt)

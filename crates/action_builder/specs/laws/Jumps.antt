@@ -1,10 +1,11 @@
 -- What is asked of a scope so that the assignments written for jumps, calls and returns do what these do.
-use Rattle.std.specs.Prelude.{◌≡◌, List, [], ◌∷◌, codes, Bool, true, false, Option, Some, None}
+use Rattle.std.specs.Prelude.{◌≡◌, List, [], ◌∷◌, codes, Bool, true, false, not, ◌&&◌, Option, Some, None}
 use Rattle.tla_token.specs.declared.place.Place.{Place}
 use Rattle.tla_expr.specs.Tree.{Word, Each, Tree, Trees, no_trees, tree}
 use Rattle.tla_value.specs.Standard.{first_of, rest_of, standard_sense}
 use Rattle.pcal_tree.specs.Algorithm.{Declaration, Routine, locals, procedure_routines}
 use Rattle.pcal_tree.specs.Scope.{State, Scope, value_of}
+use Rattle.pcal_tree.specs.Run.{is_return}
 use Rattle.pcal_tree.specs.Program.{Program, Actor, index, local_index}
 use Rattle.pcal_tree.specs.Variables.{written_all, pc, stack}
 use Rattle.pcal_tree.specs.Calls.{initial_value, named}
@@ -39,8 +40,9 @@ abbrev pub fitting : Program → Option Routine → Trees → Bool
 fitting P None ts = false
 fitting P (Some p) ts = as_many (written_all P p p.params) ts
 
+-- no call that is one statement with a `return`
 abbrev pub callable : Program → Callable
-callable P p ts = fitting P (named p.word (procedure_routines P.algorithm)) ts
+callable P p ts j = not (is_return j) && fitting P (named p.word (procedure_routines P.algorithm)) ts
 
 -- the variables of the routine and of each procedure are at the process's identifier, and initial values are written as they are
 pub record RoutinesStand (P : Program) (v : Actor) (u : Routine) (I : InitialValues) (sc : Scope) : Type 0 where

@@ -15,6 +15,7 @@ use Rattle.pcal_tree.specs.Algorithm.{Assignments, no_assignments, assignment, B
 use Rattle.pcal_tree.specs.Run.{Rules}
 use Rattle.pcal_tree.specs.Scope.{State, Scope}
 use Rattle.action_builder.specs.Assigned.{Names, more, heads, assigned}
+use Rattle.action_builder.specs.Written.{late}
 use Rattle.action_builder.specs.laws.States.{mid}
 use Rattle.action_builder.specs.laws.Scopes.{part_at}
 
@@ -107,6 +108,7 @@ pub record FineAssignments (U : Readable) (vs : List Word) (A : Names) (ms : Ass
   pub left : LeftSides (is_among vs) ms
   pub sides : FineSides U A ms
   pub readable : (y : Word) → is_among (heads ms) y ≡ true → U A y ≡ true
+  pub order : late ms ≡ []  -- no setting is written later
 
 abbrev pub FineBinds : Readable → List Word → Names → Binds → Type 0
 FineBinds U vs A no_binds = Unit {0}
