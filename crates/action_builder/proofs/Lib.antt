@@ -25,6 +25,7 @@ pub mod Label
 pub mod Alike
 pub mod ItemPlaces
 pub mod AnyPlace
+pub mod SetAgain
 pub mod SingleProcess
 mod Rows
 mod RowsPairs
