@@ -56,7 +56,7 @@ all_read_same : (a b : Place) (path : List Value) (xs : List Word) (s : State) �
 all_read_same a b path [] s = refl
 all_read_same a b path (x ∷ xs) s = then_same _ _ _ _ (read_same a b path (s x)) (λ v. then_same _ _ _ _ (all_read_same a b path xs s) (λ vs. refl))
 
-stack_same : (v : Actor) (a b : Place) (s : State) → AgreeButPlaces (on_stack v a s) (on_stack v b s)
+pub stack_same : (v : Actor) (a b : Place) (s : State) → AgreeButPlaces (on_stack v a s) (on_stack v b s)
 stack_same v a b s = then_same _ _ _ _ (read_same a b (index v.self) (s stack)) (λ st. of_joined _ _ (sequences anywhere a b tt st))
 
 initial_same : (P : Program) (v : Actor) (p : Routine) (a b : Place) (d : Start) (s : State) → AgreeButPlaces (initial_value P v p a d s) (initial_value P v p b d s)

@@ -26,6 +26,7 @@ pub mod Alike
 pub mod ItemPlaces
 pub mod AnyPlace
 pub mod SetAgain
+pub mod Pairs
 pub mod SingleProcess
 mod Rows
 mod RowsPairs
