@@ -27,6 +27,7 @@ pub mod ItemPlaces
 pub mod AnyPlace
 pub mod SetAgain
 pub mod Pairs
+pub mod PairLaw
 pub mod SingleProcess
 mod Rows
 mod RowsPairs

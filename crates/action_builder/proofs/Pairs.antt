@@ -21,44 +21,44 @@ use Rattle.action_builder.proofs.SetAgain.{Like, like_ends, unlike, set_twice, s
 abbrev pub loose : Program → Program
 loose P = record { check = plain; constants = P.constants; outside = P.outside; algorithm = P.algorithm; naming = P.naming }
 
-then_known : {X Y : Type 0} (o : Outcome X) (f g : X → Outcome Y) → ((x : X) → o ≡ Ok x → Like (f x) (g x)) → Like (o >>= f) (o >>= g)
+pub then_known : {X Y : Type 0} (o : Outcome X) (f g : X → Outcome Y) → ((x : X) → o ≡ Ok x → Like (f x) (g x)) → Like (o >>= f) (o >>= g)
 then_known (Ok x) f g h = h x refl
 then_known (Err k) f g h = inr (tt, tt)
 
 -- ---- names of settings
 
-arguments_others : (x : Word) (path : List Value) (xs : List Word) (ats : List Place) (vs : List Value) → Unlike x xs → Others x (argument_settings path xs ats vs)
+pub arguments_others : (x : Word) (path : List Value) (xs : List Word) (ats : List Place) (vs : List Value) → Unlike x xs → Others x (argument_settings path xs ats vs)
 arguments_others x path [] ats vs h = tt
 arguments_others x path (y ∷ xs) [] vs h = tt
 arguments_others x path (y ∷ xs) (at ∷ ats) [] h = tt
 arguments_others x path (y ∷ xs) (at ∷ ats) (v ∷ vs) h = (h.0, arguments_others x path xs ats vs h.1)
 
-parts_others : (x : Word) (at : Place) (path : List Value) (xs : List Word) (vs : List Value) → Unlike x xs → Others x (part_settings at path xs vs)
+pub parts_others : (x : Word) (at : Place) (path : List Value) (xs : List Word) (vs : List Value) → Unlike x xs → Others x (part_settings at path xs vs)
 parts_others x at path [] vs h = tt
 parts_others x at path (y ∷ xs) [] h = tt
 parts_others x at path (y ∷ xs) (v ∷ vs) h = (h.0, parts_others x at path xs vs h.1)
 
-parts_all_others : (at : Place) (path : List Value) (xs : List Word) (vs : List Value) (ns : List Setting) → Each (λ x. Others x ns) xs → AllOthers (part_settings at path xs vs) ns
+pub parts_all_others : (at : Place) (path : List Value) (xs : List Word) (vs : List Value) (ns : List Setting) → Each (λ x. Others x ns) xs → AllOthers (part_settings at path xs vs) ns
 parts_all_others at path [] vs ns h = tt
 parts_all_others at path (x ∷ xs) [] ns h = tt
 parts_all_others at path (x ∷ xs) (v ∷ vs) ns h = (h.0, parts_all_others at path xs vs ns h.1)
 
-one_part : (at : Place) (path : List Value) (xs : List Word) (vs : List Value) (m : Setting) → OneOf m (part_settings at path xs vs) → (x : Word) × (w : Value) × OneOf x xs × (m ≡ setting at x path w)
+pub one_part : (at : Place) (path : List Value) (xs : List Word) (vs : List Value) (m : Setting) → OneOf m (part_settings at path xs vs) → (x : Word) × (w : Value) × OneOf x xs × (m ≡ setting at x path w)
 one_part at path [] vs m h = absurd h
 one_part at path (x ∷ xs) [] m h = absurd h
 one_part at path (x ∷ xs) (v ∷ vs) m (inl e) = (x, v, inl refl, e)
 one_part at path (x ∷ xs) (v ∷ vs) m (inr h) = let q = one_part at path xs vs m h in (q.0, q.1, inr q.2, q.3)
 
-all_read_else : (at : Place) (path : List Value) (xs : List Word) (s t : State) → Each (λ x. t x ≡ s x) xs → all_read at path xs t ≡ all_read at path xs s
+pub all_read_else : (at : Place) (path : List Value) (xs : List Word) (s t : State) → Each (λ x. t x ≡ s x) xs → all_read at path xs t ≡ all_read at path xs s
 all_read_else at path [] s t h = refl
 all_read_else at path (x ∷ xs) s t h = λ i. read_at at path (h.0 i) >>= (λ v. all_read_else at path xs s t h.1 i >>= (λ vs. Ok (v ∷ vs)))
 
-each_map : (Q R : Word → Type 0) → ((x : Word) → Q x → R x) → (xs : List Word) → Each Q xs → Each R xs
+pub each_map : (Q R : Word → Type 0) → ((x : Word) → Q x → R x) → (xs : List Word) → Each Q xs → Each R xs
 each_map Q R f [] h = tt
 each_map Q R f (x ∷ xs) h = (f x h.0, each_map Q R f xs h.1)
 
 -- an argument for each name
-abbrev Long : List Word → List Place → List Value → Type 0
+abbrev pub Long : List Word → List Place → List Value → Type 0
 Long [] ats vs = Unit {0}
 Long (x ∷ xs) (at ∷ ats) (v ∷ vs) = Long xs ats vs
 Long (x ∷ xs) _ _ = ⊥
@@ -172,13 +172,13 @@ module _ (P0 : Program) (v : Actor) (p : Routine) (at : Place) where
         let q = each_parts (λ y. bytes_eq (written P p d.name.word) y ≡ false) P p ds es h.0 in
         ((q.0, r.0), r.1, (q.1, r.2))
 
-    pc_in_entering : (b : Place) (z new : Value) (ats : List Place) (vs : List Value) → Absorbs (set_one plain (setting b pc idx z)) (entering new ats vs)
+    pub pc_in_entering : (b : Place) (z new : Value) (ats : List Place) (vs : List Value) → Absorbs (set_one plain (setting b pc idx z)) (entering new ats vs)
     pc_in_entering b z new ats vs =
         absorbs_past (set_one plain (setting b pc idx z)) (set_all plain (setting at stack idx new ∷ argument_settings path params ats vs)) (tail p.variables)
         (one_all (setting b pc idx z) (setting at stack idx new ∷ argument_settings path params ats vs) (refl, arguments_others pc path params ats vs pc_params))
         (pc_in_tail b z p.variables pc_variables rests)
 
-    stack_in_entering : (b : Place) (z new : Value) (ats : List Place) (vs : List Value) → Absorbs (set_one plain (setting b stack idx z)) (entering new ats vs)
+    pub stack_in_entering : (b : Place) (z new : Value) (ats : List Place) (vs : List Value) → Absorbs (set_one plain (setting b stack idx z)) (entering new ats vs)
     stack_in_entering b z new ats vs =
         list_step (setting at stack idx new) (argument_settings path params ats vs) (set_one plain (setting b stack idx z)) (tail p.variables)
         (absorbs_again b at stack idx z new (then_do (set_all plain (argument_settings path params ats vs)) (tail p.variables)))
@@ -192,7 +192,7 @@ module _ (P0 : Program) (v : Actor) (p : Routine) (at : Place) where
         by (inl k) = inl (inr k)
         by (inr k) = inr k
 
-    own_in_entering : (b : Place) (x : Word) (z new : Value) (ats : List Place) (vs : List Value) → Long params ats vs → OneOf x of_p → Absorbs (set_one plain (setting b x path z)) (entering new ats vs)
+    pub own_in_entering : (b : Place) (x : Word) (z new : Value) (ats : List Place) (vs : List Value) → Long params ats vs → OneOf x of_p → Absorbs (set_one plain (setting b x path z)) (entering new ats vs)
     own_in_entering b x z new ats vs l k =
         list_step (setting at stack idx new) (argument_settings path params ats vs) (set_one plain (setting b x path z)) (tail p.variables)
         (absorbs_past (set_one plain (setting b x path z)) (set_one plain (setting at stack idx new)) (then_do (set_all plain (argument_settings path params ats vs)) (tail p.variables))
