@@ -28,6 +28,7 @@ pub mod AnyPlace
 pub mod SetAgain
 pub mod Pairs
 pub mod PairLaw
+pub mod PairWritten
 pub mod SingleProcess
 mod Rows
 mod RowsPairs

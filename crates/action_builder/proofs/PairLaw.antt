@@ -1,43 +1,33 @@
 -- The assignments written for a call that is one statement with a return have the ends of it, and trouble where it has trouble.
-use Rattle.std.proofs.Common.{◌≡◌, List, [], ◌∷◌, ◌++◌, Bool, true, false, cond, bytes_eq, codes, nat_eq, refl, sym, ◌∙◌, ap, subst, inl, inr, Ok, Err}
+use Rattle.std.proofs.Common.{◌≡◌, List, [], ◌∷◌, ◌++◌, Bool, true, false, cond, bytes_eq, nat_eq, refl, sym, ◌∙◌, ap, subst, inl, Ok, Err}
 use Rattle.std.specs.Option.{ok_or}
 use Rattle.tla_token.specs.declared.place.Place.{Place}
-use Rattle.tla_expr.specs.declared.op.Op.TheVariants.{Concat}
-use Rattle.tla_expr.specs.Tree.{Word, Each, Tree, Trees, no_trees, tree, operator, tuple, fields}
-use Rattle.tla_value.specs.declared.fault.FaultKind.TheVariants.{NotSequence, EmptySequence}
-use Rattle.tla_value.specs.Value.{Value, text, Trouble, fault, Outcome, ◌>>=◌, IsBad}
+use Rattle.tla_expr.specs.Tree.{Word}
+use Rattle.tla_value.specs.declared.fault.FaultKind.TheVariants.{NotSequence}
+use Rattle.tla_value.specs.Value.{Value, fault, Outcome, ◌>>=◌, IsBad}
 use Rattle.tla_value.specs.Order.{seq_from}
 use Rattle.tla_value.specs.Stops.{plain, sequence_at}
 use Rattle.tla_value.specs.Strict.{applied, strict_value}
-use Rattle.tla_value.specs.Standard.{headed, tailed}
-use Rattle.tla_value.specs.Meaning.{Env, eval, evals, part_values}
 use Rattle.tla_value.specs.laws.Places.{AgreeButPlaces}
 use Rattle.tla_value.proofs.OrderFuns.{sequence_of_seq}
-use Rattle.tla_value.proofs.Outcomes.{then_ok, then_then, then_two}
-use Rattle.pcal_tree.specs.Algorithm.{Declaration, Routine, locals, Assignments, no_assignments, assignment}
-use Rattle.pcal_tree.specs.Scope.{State, put, Part, Scope, reach, places_of, value_of}
-use Rattle.pcal_tree.specs.Assign.{Setting, set_one, set_all, settings, after_assignments}
-use Rattle.pcal_tree.specs.Run.{Has, after, Rules, unlabelled, run}
+use Rattle.tla_value.proofs.Outcomes.{then_ok, then_then}
+use Rattle.pcal_tree.specs.Algorithm.{Routine, locals}
+use Rattle.pcal_tree.specs.Scope.{State, put}
+use Rattle.pcal_tree.specs.Assign.{Setting, set_one, set_all}
 use Rattle.pcal_tree.specs.Program.{Program, Actor, index, local_index, read_at}
 use Rattle.pcal_tree.specs.Variables.{written_all, pc, stack}
 use Rattle.pcal_tree.specs.Processes.{OneOf}
-use Rattle.pcal_tree.specs.Calls.{setting, all_read, frame, frame_fields, on_stack, argument_settings, entered_keeping, fields_read, part_settings, finished, label_value, label_name, first_label, replaced, returned_and_entered}
+use Rattle.pcal_tree.specs.Calls.{setting, all_read, frame, on_stack, argument_settings, entered_keeping, part_settings}
 use Rattle.pcal_tree.proofs.SameVariables.{of_each, each_of}
-use Rattle.action_builder.specs.Jumps.{spot, names_at, name_at, kept_field, kept_fields, stack_rest, fields_restored, pushed_on, and_also, arguments_assigned, variables_written, jump_written, pair_written}
-use Rattle.action_builder.specs.laws.Settling.{to_end, Close}
-use Rattle.action_builder.specs.laws.Scopes.{StandsAtPath}
-use Rattle.action_builder.specs.laws.Jumps.{RoutineStands, Initials, as_many, Unlike, AllUnlike, PairStands}
-use Rattle.action_builder.proofs.Alike.{same_refl, then_same}
+use Rattle.action_builder.specs.laws.Jumps.{Unlike, PairStands}
 use Rattle.action_builder.proofs.AnyPlace.{stack_same}
-use Rattle.action_builder.proofs.Denotations.{on_both}
-use Rattle.action_builder.proofs.Jumps.{pc_law, field_law, rest_law}
-use Rattle.action_builder.proofs.Call.{alike_of, close_finished, after_finished, assign_is, started_law, started_same, written_tail, put_before, names_law, arguments_law, each_parts}
+use Rattle.action_builder.proofs.Call.{each_parts}
 use Rattle.action_builder.proofs.SetAgain.{Like, like_refl, like_sym, like_trans, bad_then, like_then, like_ends, read_changed, put_here, put_else, unlike, then_do, Others, one_all, all_all, Absorbs, absorbs_past, absorbs_all, set_put, all_else, all_both}
 use Rattle.action_builder.proofs.Pairs.{loose, then_known, arguments_others, parts_others, parts_all_others, one_part, all_read_else, each_map, Long, tail, entering, pc_in_entering, stack_in_entering, own_in_entering}
 
 -- ---- results
 
-bad_known : {X Y : Type 0} (o : Outcome X) (f : X → Outcome Y) → ((x : X) → o ≡ Ok x → IsBad (f x)) → IsBad (o >>= f)
+pub bad_known : {X Y : Type 0} (o : Outcome X) (f : X → Outcome Y) → ((x : X) → o ≡ Ok x → IsBad (f x)) → IsBad (o >>= f)
 bad_known (Ok x) f h = h x refl
 bad_known (Err k) f h = tt
 
@@ -67,26 +57,26 @@ module _ (P0 : Program) (v : Actor) (u p : Routine) (at end : Place) (h : PairSt
   abbrev params : List Word
   params = written_all P p p.params
 
-  abbrev to_pc : Value → Setting
+  abbrev pub to_pc : Value → Setting
   to_pc label = setting end pc idx label
 
-  abbrev restores : List Value → List Setting
+  abbrev pub restores : List Value → List Setting
   restores us = part_settings end (local_index v u) of_u us
 
-  abbrev to_stack : List Value → Setting
+  abbrev pub to_stack : List Value → Setting
   to_stack fr = setting end stack idx (seq_from fr)
 
   -- what the called procedure's variables are after the return; the truth value tells whether it is the returning one
   abbrev left_by : Bool → Outcome (List Value) → State → Outcome (List Value)
   left_by b us t = cond b us (all_read at (local_index v p) of_p t)
 
-  abbrev then_enters : Bool → Value → Outcome (List Value) → List Place → List Value → State → Outcome State
+  abbrev pub then_enters : Bool → Value → Outcome (List Value) → List Place → List Value → State → Outcome State
   then_enters b back us ats vs t = left_by b us t >>= (λ olds. entered_keeping P v at back p ats vs olds t)
 
   abbrev enters : Value → List Value → List Value → List Place → List Value → State → Outcome State
   enters back olds fr ats vs = entering P0 v p at (seq_from (frame P p back olds ∷ fr)) ats vs
 
-  returns_is : (back : Value) (us fr : List Value) (go : State → Outcome State) (s : State)
+  pub returns_is : (back : Value) (us fr : List Value) (go : State → Outcome State) (s : State)
       → set_all plain (to_pc back ∷ (restores us ++ (to_stack fr ∷ []))) s >>= go ≡ set_all plain (to_pc back ∷ restores us) s >>= (λ t. set_one plain (to_stack fr) t >>= go)
   returns_is back us fr go s =
       (λ i. all_both (to_pc back ∷ restores us) (to_stack fr ∷ []) s i >>= go)
@@ -140,7 +130,7 @@ module _ (P0 : Program) (v : Actor) (u p : Routine) (at end : Place) (h : PairSt
           ∙ (λ i. stack_after s t w back us fr front frames e q r i >>= (λ fs. enters back olds fs ats vs w))
 
   -- another procedure's variables are as before
-  others_left : (s t w : State) (back : Value) (us fr : List Value) → nat_eq u.number p.number ≡ false → set_all plain (to_pc back ∷ restores us) s ≡ Ok t → set_one plain (to_stack fr) t ≡ Ok w → all_read at (local_index v p) of_p w ≡ all_read at (local_index v p) of_p s
+  pub others_left : (s t w : State) (back : Value) (us fr : List Value) → nat_eq u.number p.number ≡ false → set_all plain (to_pc back ∷ restores us) s ≡ Ok t → set_one plain (to_stack fr) t ≡ Ok w → all_read at (local_index v p) of_p w ≡ all_read at (local_index v p) of_p s
   others_left s t w back us fr n q r = all_read_else at (local_index v p) of_p s w (each_of (λ x. w x ≡ s x) of_p one)
     where
       one : (x : Word) → OneOf x of_p → w x ≡ s x
@@ -152,11 +142,11 @@ module _ (P0 : Program) (v : Actor) (u p : Routine) (at end : Place) (h : PairSt
 
   -- ---- against the assignments
 
-  abbrev first_setting : Value → List Value → List Value → Setting
+  abbrev pub first_setting : Value → List Value → List Value → Setting
   first_setting back olds fr = setting at stack idx (seq_from (frame P p back olds ∷ fr))
 
   -- of the returning procedure itself nothing is left of what the return restores
-  same_procedure : (back : Value) (us fr : List Value) (front : Value) (frames : List Value) (ats : List Place) (vs : List Value) (s : State) → nat_eq u.number p.number ≡ true → Long params ats vs → on_stack v end s ≡ Ok (front ∷ frames)
+  pub same_procedure : (back : Value) (us fr : List Value) (front : Value) (frames : List Value) (ats : List Place) (vs : List Value) (s : State) → nat_eq u.number p.number ≡ true → Long params ats vs → on_stack v end s ≡ Ok (front ∷ frames)
       → Like (set_all plain (to_pc back ∷ (restores us ++ (to_stack fr ∷ []))) s >>= then_enters true back (Ok us) ats vs) (enters back us fr ats vs s)
   same_procedure back us fr front frames ats vs s n l e =
       like_trans _ (set_all plain (restores us) s >>= enters back us fr ats vs) _
@@ -171,7 +161,7 @@ module _ (P0 : Program) (v : Actor) (u p : Routine) (at end : Place) (h : PairSt
           (own_in_entering P0 v p at h.pc_of_p h.stack_of_p h.once (h.initials at) end q.0 q.1 (seq_from (frame P p back us ∷ fr)) ats vs l (subst (λ w. OneOf q.0 (written_all P w (locals w))) (h.same n) q.2)))
 
   -- of another procedure both are set in any order
-  other_procedure : (back : Value) (us olds fr : List Value) (front : Value) (frames : List Value) (ats : List Place) (vs : List Value) (s : State) → nat_eq u.number p.number ≡ false → all_read at (local_index v p) of_p s ≡ Ok olds → on_stack v end s ≡ Ok (front ∷ frames)
+  pub other_procedure : (back : Value) (us olds fr : List Value) (front : Value) (frames : List Value) (ats : List Place) (vs : List Value) (s : State) → nat_eq u.number p.number ≡ false → all_read at (local_index v p) of_p s ≡ Ok olds → on_stack v end s ≡ Ok (front ∷ frames)
       → Like (set_all plain (to_pc back ∷ (restores us ++ (to_stack fr ∷ []))) s >>= then_enters false back (Ok us) ats vs)
       (set_all plain (first_setting back olds fr ∷ (argument_settings (local_index v p) params ats vs ++ restores us)) s >>= tail P0 v p at p.variables)
   other_procedure back us olds fr front frames ats vs s n o e =
