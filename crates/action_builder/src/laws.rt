@@ -130,10 +130,12 @@ pub fn written_out_steps_begin_alike()
 {}
 
 /// The sample step meets all that these laws ask. It has a macro call, an assignment to a variable of its process, a
-/// definition beside variables of its parameters' names, an `await` with a bound name, a jump and a call.
+/// definition beside variables of its parameters' names, an `await` with a bound name, a jump and a call; and its procedure
+/// may call itself in one statement with a return.
 pub fn the_sample_step_meets_all_that_is_asked()
     ensures expanded { Calls (FineCall sample.macros) sample.unexpanded × BareBodies sample.macros }
     ensures jumps { RoutinesStandWithin sample.program sample.actor sample.routine sample.initials sample.step.names (own_scope plain sample.self sample.own sample.scope) }
+    ensures pairs { PairsStand sample.program sample.actor sample.called }
     ensures prepared { IsPrepared sample.step }
     ensures ready { IsReady sample.any_name sample.variables sample.env none sample.step }
 {}
