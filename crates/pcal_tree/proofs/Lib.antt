@@ -3,6 +3,7 @@ mod RowsRun
 mod RowsStep
 mod RowsAnswers
 mod RowsMacros
+mod RowsPairs
 mod Choices
 pub mod GraftRuns
 pub mod Uncaptured

@@ -82,7 +82,7 @@ pub fn runs_depend_on_the_variables()
 /// Statements with their macro calls written out take the courses that they take with the calls, in every scope and
 /// with anything after them, kinds and places of faults included. The calls capture nothing: no name that
 /// a macro's body binds is a parameter or free in an argument. And each macro's body
-/// begins with a statement.
+/// begins with a statement, and no statement of its list is a call, a `goto` or a `return`.
 pub fn written_out_macros_run_the_same()
     ensures { (M : Rules) (ms : List Macro) (here : Word) (ss : Statements) → Calls (FineCall ms) ss → (sc : Scope) → AnyPlace sc → (K : Follow)
         → run (with_macros M ms) here ss sc K ≡ run (with_macros M []) here (expanded ms ss) sc K }
