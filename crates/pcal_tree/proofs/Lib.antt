@@ -34,6 +34,8 @@ pub mod FirstLaws
 pub mod UseLaws
 pub mod UsesByMacro
 pub mod RowsOffences
+pub mod RowsReads
+mod RowsStale
 pub mod SameVariables
 pub mod StepVariables
 pub mod SameSteps

@@ -33,4 +33,10 @@ pub mod BoundNames
 pub mod Outside
 pub mod OffencesNames
 pub mod OffencesReserved
+pub mod Reads
+pub mod Spots
+pub mod OffencesReads
+pub mod OffencesSelf
+pub mod OffencesStale
+pub mod OffencesOfNames
 pub mod laws
