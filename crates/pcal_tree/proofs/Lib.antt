@@ -33,6 +33,7 @@ pub mod EffectLabels
 pub mod FirstLaws
 pub mod UseLaws
 pub mod UsesByMacro
+pub mod SelfByMacro
 pub mod RowsOffences
 pub mod RowsReads
 mod RowsStale

@@ -10,6 +10,7 @@ use Rattle.pcal_tree.specs.Labelled as labels
 use Rattle.pcal_tree.specs.OffencesOfNames.{name_offences}
 use Rattle.pcal_tree.specs.OffencesSelf.{self_offences}
 use Rattle.pcal_tree.specs.OffencesStale.{stale_offences}
+use Rattle.pcal_tree.specs.laws.MacroSelves.{self_offences_by_calls}
 use Rattle.tla_value.specs.Outside.{Outside}
 use Rattle.pcal_tree.proofs.Sample.{at, title, x, y, num, over, sets, item, labelled, variable}
 use Rattle.pcal_tree.proofs.RowsOffences.{stands, read, named}
@@ -197,6 +198,16 @@ in_a_called_macro = refl
 
 in_no_called_macro : alone_with (T ∷ U ∷ []) (stands 53 skip done) ≡ []
 in_no_called_macro = refl
+
+-- U(); U(); T(): once, where a look through each call finds it three times
+abbrev calls_three : Algorithm
+calls_three = whole (T ∷ U ∷ []) [] (alone (labelled (codes "A") (stands 53 (macro (codes "U") no_trees) (stands 54 (macro (codes "U") no_trees) (stands 55 (macro (codes "T") no_trees) done)))))
+
+found_once : self_offences calls_three ≡ outside 51
+found_once = refl
+
+found_at_each_call : self_offences_by_calls calls_three ≡ outside 51 ++ (outside 51 ++ outside 51)
+found_at_each_call = refl
 
 -- U is before T, so its call is of no macro
 not_before : alone_with (U ∷ T ∷ []) (stands 53 (macro (codes "U") no_trees) done) ≡ []

@@ -12,8 +12,11 @@ use Rattle.pcal_tree.specs.Paths.{nothing}
 use Rattle.pcal_tree.specs.Reads.{used, initial}
 use Rattle.pcal_tree.specs.Spots.{used_in_body}
 
+abbrev pub self_offence : Name → List Refusal
+self_offence n = offence_if (bytes_eq (codes "self") n.word) SelfOutside n.place
+
 abbrev pub selves : List Name → List Refusal
-selves ns = flat_map (λ n. offence_if (bytes_eq (codes "self") n.word) SelfOutside n.place) ns
+selves ns = flat_map self_offence ns
 
 abbrev pub used_by_starts : List Declaration → List Name
 used_by_starts ds = flat_map (λ d. flat_map (λ e. used e []) (initial d.start)) ds
@@ -37,6 +40,9 @@ reached calls [] = []
 reached calls (d ∷ older) =
     cond (is_among calls d.name.word) (d ∷ reached (called_in d.body ++ without d.name.word calls) older) (reached calls older)
 
+abbrev pub used_in_macros : List Macro → List Name
+used_in_macros ds = flat_map (λ d. used_in_body d.body) ds
+
 -- ---- algorithms
 
 abbrev pub used_by_procedure : Procedure → List Name
@@ -46,10 +52,12 @@ used_by_procedure p = used_by_starts (p.params ++ p.variables) ++ used_in_body p
 abbrev pub used_outside : Algorithm → Main → List Name
 used_outside a (alone b) =
     flat_map used_by_procedure a.procedures
-    ++ (used_in_body b
-    ++ flat_map (λ d. used_in_body d.body) (reached (flat_map (λ p. called_in p.body) a.procedures ++ called_in b) (reverse a.macros)))
+    ++ (used_in_body b ++ used_in_macros (reached (flat_map (λ p. called_in p.body) a.procedures ++ called_in b) (reverse a.macros)))
 used_outside a (processes ps) = flat_map (λ p. used p.identity []) ps
 
--- also in initial values of globals and in definitions
+-- in initial values of globals, and in definitions
+abbrev pub used_at_the_top : Algorithm → List Name
+used_at_the_top a = used_by_starts a.globals ++ flat_map (λ d. used d.body (words d.params)) a.definitions
+
 abbrev pub self_offences : Algorithm → List Refusal
-self_offences a = selves (used_by_starts a.globals ++ (flat_map (λ d. used d.body (words d.params)) a.definitions ++ used_outside a a.main))
+self_offences a = selves (used_at_the_top a ++ used_outside a a.main)

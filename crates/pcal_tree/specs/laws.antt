@@ -3,6 +3,7 @@ pub mod Apart
 pub mod Lines
 pub mod MacroSummaries
 pub mod MacroUses
+pub mod MacroSelves
 pub mod Choosing
 pub mod Expansion
 pub mod Steps

@@ -18,6 +18,8 @@ ghost use Rattle.tla_token.specs.declared.rule.Refusal.{Refusal};
 ghost use Rattle.pcal_tree.specs.Offences.{first};
 ghost use Rattle.pcal_tree.specs.OffencesNames.{use_offences_by, use_offences_of};
 ghost use Rattle.pcal_tree.specs.laws.MacroUses.{macro_uses, offences_by_uses};
+ghost use Rattle.pcal_tree.specs.OffencesSelf.{self_offences};
+ghost use Rattle.pcal_tree.specs.laws.MacroSelves.{self_offences_by_calls};
 ghost use Rattle.tla_expr.specs.Lexical.{Token};
 ghost use Rattle.tla_expr.specs.laws.Columns.{looks};
 ghost use Rattle.pcal_tree.specs.Grammar.{Syntax, Text, Good, spell};
@@ -122,6 +124,13 @@ pub fn uses_in_macros_are_looked_at_once()
         → Contains (use_offences_of a o) r ↔ Contains (use_offences_by (offences_by_uses (macro_uses (reverse a.macros) a.procedures)) a o) r }
     ensures first { (a : Algorithm) (o : Outside) (others : List Refusal)
         → first (use_offences_of a o ++ others) ≡ first (use_offences_by (offences_by_uses (macro_uses (reverse a.macros) a.procedures)) a o ++ others) }
+{}
+
+/// The macros that calls reach are walked through once each, from their texts alone. That gives the same offences of `self` where no process is as
+/// looking through the macro at each call, if not as often nor in the same order, in every algorithm, and the same one comes first, also among others.
+pub fn self_in_macros_is_looked_for_once()
+    ensures offences { (a : Algorithm) (r : Refusal) → Contains (self_offences a) r ↔ Contains (self_offences_by_calls a) r }
+    ensures first { (a : Algorithm) (others : List Refusal) → first (self_offences a ++ others) ≡ first (self_offences_by_calls a ++ others) }
 {}
 
 /// Whether tokens spell an algorithm rests on their kinds and columns alone: tokens of other lines spell the same text in other lines.
