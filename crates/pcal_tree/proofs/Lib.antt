@@ -34,9 +34,15 @@ pub mod FirstLaws
 pub mod UseLaws
 pub mod UsesByMacro
 pub mod SelfByMacro
+pub mod SpotGrafts
+pub mod SpotCalls
+pub mod SpotMacros
+pub mod SpotsSeen
+pub mod StaleByMacro
 pub mod RowsOffences
 pub mod RowsReads
-mod RowsStale
+pub mod RowsStale
+mod RowsSelf
 pub mod SameVariables
 pub mod StepVariables
 pub mod SameSteps

@@ -1,22 +1,19 @@
--- Definitions that are used after an assignment, and `self` where no process is, tried by computation.
-use Rattle.std.proofs.Common.{◌≡◌, ℕ, List, [], ◌∷◌, ◌++◌, false, codes, refl}
-use Rattle.tla_token.specs.declared.rule.Rule.TheVariants.{DefinedStale, SelfOutside, ProcessNotConstant}
+-- Definitions that are used after an assignment, tried by computation.
+use Rattle.std.proofs.Common.{◌≡◌, ℕ, zero, suc, List, [], ◌∷◌, ◌++◌, false, true, codes, refl}
+use Rattle.tla_token.specs.declared.rule.Rule.TheVariants.{DefinedStale}
 use Rattle.tla_token.specs.declared.rule.Refusal.{Refusal}
 use Rattle.tla_expr.specs.declared.op.Op.TheVariants.{Plus}
 use Rattle.tla_expr.specs.Tree.{Word, Tree, no_trees, tree}
 use Rattle.pcal_tree.specs.declared.mark.Fairness.TheVariants.{Unfair}
 use Rattle.pcal_tree.specs.Algorithm.{no_assignments, assignment, no_binds, is, assign, await, skip, branch, either, with, while, goto, macro, call, Statements, done, no_branches, or, equals, Macro, Procedure, Process, Main, alone, processes, Algorithm}
 use Rattle.pcal_tree.specs.Labelled as labels
-use Rattle.pcal_tree.specs.OffencesOfNames.{name_offences}
-use Rattle.pcal_tree.specs.OffencesSelf.{self_offences}
-use Rattle.pcal_tree.specs.OffencesStale.{stale_offences}
-use Rattle.pcal_tree.specs.laws.MacroSelves.{self_offences_by_calls}
-use Rattle.tla_value.specs.Outside.{Outside}
+use Rattle.pcal_tree.specs.OffencesStale.{stale_offences, stale_offences_by}
+use Rattle.pcal_tree.specs.laws.MacroSpots.{spots_by_macros, rebinds_definitions}
 use Rattle.pcal_tree.proofs.Sample.{at, title, x, y, num, over, sets, item, labelled, variable}
 use Rattle.pcal_tree.proofs.RowsOffences.{stands, read, named}
 use Rattle.pcal_tree.proofs.RowsReads.{D, E, declared_as, three_definitions}
 
-abbrev whole : List Macro → List Procedure → Main → Algorithm
+abbrev pub whole : List Macro → List Procedure → Main → Algorithm
 whole ms ps m = record {
   name = title (codes "One");
   fair = false;
@@ -28,17 +25,17 @@ whole ms ps m = record {
 }
 
 -- x := 1
-abbrev x_set : Statements → Statements
+abbrev pub x_set : Statements → Statements
 x_set rest = stands 2 (sets (read 2 x) (num 1)) rest
 
 -- await e
-abbrev awaits : Tree → Statements
+abbrev pub awaits : Tree → Statements
 awaits e = stands 3 (await e) done
 
 abbrev body : Statements → List Refusal
 body b = stale_offences (whole [] [] (alone (labelled (codes "A") b)))
 
-abbrev stale : ℕ → List Refusal
+abbrev pub stale : ℕ → List Refusal
 stale n = record { rule = DefinedStale; place = at n } ∷ []
 
 -- ---- uses of definitions after assignments
@@ -98,14 +95,14 @@ with_added_labels = refl
 -- ---- macros
 
 -- macro M(p) begin x := 1; await p; await D; end macro
-abbrev M : Macro
+abbrev pub M : Macro
 M = record { name = title (codes "M"); params = title (codes "p") ∷ []; body = x_set (stands 10 (await (read 11 (codes "p"))) (stands 12 (await (read 13 D)) done)) }
 
 -- macro N(r) begin M(r); end macro
 abbrev N : Macro
 N = record { name = title (codes "N"); params = title (codes "r") ∷ []; body = stands 20 (macro (codes "M") (tree (read 21 (codes "r")) no_trees)) done }
 
-abbrev calls : Word → Tree → Statements → Statements
+abbrev pub calls : Word → Tree → Statements → Statements
 calls m t rest = stands 30 (macro m (tree t no_trees)) rest
 
 abbrev with_macros : List Macro → Statements → List Refusal
@@ -140,10 +137,39 @@ argument_assigned = refl
 another_argument_assigned : with_macros (assigns_its_own ∷ []) (calls (codes "S") (read 31 y) done) ≡ []
 another_argument_assigned = refl
 
+-- ---- what is computed once for each macro
+
+-- n macros, each of which calls the one before twice, the newest last; the oldest is M
+abbrev chain : ℕ → List Macro
+chain zero = record M { name = title (0 ∷ []) } ∷ []
+chain (suc n) =
+    let calls_it = macro (n ∷ []) (tree (read 21 (codes "p")) no_trees) in
+    chain n ++ (record { name = title (suc n ∷ []); params = title (codes "p") ∷ []; body = stands 20 calls_it (stands 22 calls_it done) } ∷ [])
+
+-- M12(D)
+abbrev chained : Algorithm
+chained = whole (chain 12) [] (alone (labelled (codes "A") (calls (12 ∷ []) (read 31 D) done)))
+
+-- written out, M12 would offend 8,192 times
+twelve : stale_offences_by (spots_by_macros chained) chained ≡ stale 31 ++ stale 13
+twelve = refl
+
+-- what is bound in the macro's body is not left out, so such an algorithm must have none: macro B() begin x := 1; with D = 0 do await D end with; end macro
+abbrev binds_it : Algorithm
+binds_it =
+    whole (record { name = title (codes "B"); params = []; body = x_set (stands 10 (with (is (named 11 D) (num 0) no_binds) (stands 12 (await (read 13 D)) done)) done) } ∷ []) []
+    (alone (labelled (codes "A") (stands 30 (macro (codes "B") no_trees) done)))
+
+binds_a_definition : rebinds_definitions binds_it ≡ true
+binds_a_definition = refl
+
+binds_none : rebinds_definitions (whole (M ∷ N ∷ []) [] (alone (labelled (codes "A") (calls (codes "N") (read 31 E) done)))) ≡ false
+binds_none = refl
+
 -- ---- calls and jumps
 
 -- procedure R(a = D) variable v = 1
-abbrev procedure : Tree → Procedure
+abbrev pub procedure : Tree → Procedure
 procedure e = record { name = title (codes "R"); params = declared_as (codes "a") (equals (read 40 D)) ∷ []; variables = declared_as (codes "v") (equals e) ∷ []; body = labelled (codes "B") (stands 41 skip done) }
 
 abbrev calling : Tree → Tree → List Refusal
@@ -160,7 +186,7 @@ parameters_initial_value = refl
 argument_of_a_call : calling (num 1) (read 7 D) ≡ stale 7
 argument_of_a_call = refl
 
-abbrev process : Tree → Statements → Process
+abbrev pub process : Tree → Statements → Process
 process e b = record { name = title (codes "P"); fairness = Unfair; several = false; identity = e; variables = []; body = labelled (codes "A") b }
 
 -- process P = D begin A: x := 1; goto A; end process: the jump sets `pc` at D
@@ -170,81 +196,3 @@ identity_at_a_jump = refl
 -- y := self; x := 1; await self
 identity_at_self : stale_offences (whole [] [] (processes (process (read 9 D) (stands 5 (sets (read 5 y) (read 6 (codes "self"))) (x_set (awaits (read 7 (codes "self"))))) ∷ []))) ≡ stale 9
 identity_at_self = refl
-
--- ---- self
-
-abbrev outside : ℕ → List Refusal
-outside n = record { rule = SelfOutside; place = at n } ∷ []
-
-abbrev self : ℕ → Tree
-self n = read n (codes "self")
-
--- macro T() begin await self; end macro, macro U() begin T(); end macro
-abbrev T : Macro
-T = record { name = title (codes "T"); params = []; body = stands 50 (await (self 51)) done }
-
-abbrev U : Macro
-U = record { name = title (codes "U"); params = []; body = stands 52 (macro (codes "T") no_trees) done }
-
-abbrev alone_with : List Macro → Statements → List Refusal
-alone_with ms b = self_offences (whole ms [] (alone (labelled (codes "A") b)))
-
-in_one_body : alone_with [] (awaits (self 4)) ≡ outside 4
-in_one_body = refl
-
--- U() reaches T
-in_a_called_macro : alone_with (T ∷ U ∷ []) (stands 53 (macro (codes "U") no_trees) done) ≡ outside 51
-in_a_called_macro = refl
-
-in_no_called_macro : alone_with (T ∷ U ∷ []) (stands 53 skip done) ≡ []
-in_no_called_macro = refl
-
--- U(); U(); T(): once, where a look through each call finds it three times
-abbrev calls_three : Algorithm
-calls_three = whole (T ∷ U ∷ []) [] (alone (labelled (codes "A") (stands 53 (macro (codes "U") no_trees) (stands 54 (macro (codes "U") no_trees) (stands 55 (macro (codes "T") no_trees) done)))))
-
-found_once : self_offences calls_three ≡ outside 51
-found_once = refl
-
-found_at_each_call : self_offences_by_calls calls_three ≡ outside 51 ++ (outside 51 ++ outside 51)
-found_at_each_call = refl
-
--- U is before T, so its call is of no macro
-not_before : alone_with (U ∷ T ∷ []) (stands 53 (macro (codes "U") no_trees) done) ≡ []
-not_before = refl
-
--- M(self): once, in the argument
-self_as_argument : alone_with (M ∷ []) (calls (codes "M") (self 31) done) ≡ outside 31
-self_as_argument = refl
-
--- a procedure of a uniprocess algorithm: in the initial value of v
-in_a_procedure : self_offences (whole [] (procedure (self 42) ∷ []) (alone (labelled (codes "A") (stands 53 skip done)))) ≡ outside 42
-in_a_procedure = refl
-
--- a process, a procedure beside it, and the macros that they call; but not the process's head
-abbrev in_processes : Tree → List Refusal
-in_processes e = self_offences (whole (T ∷ []) (procedure (self 42) ∷ []) (processes (process e (stands 53 (macro (codes "T") no_trees) (awaits (self 4))) ∷ [])))
-
-in_a_process : in_processes (num 1) ≡ []
-in_a_process = refl
-
-in_a_head : in_processes (self 9) ≡ outside 9
-in_a_head = refl
-
--- variable x = self; define D == self end define
-abbrev at_the_top : Algorithm
-at_the_top = record (whole [] [] (processes [])) { globals = variable x (self 60) ∷ []; definitions = record { name = title D; params = []; body = self 61 } ∷ [] }
-
-in_globals_and_definitions : self_offences at_the_top ≡ outside 60 ++ outside 61
-in_globals_and_definitions = refl
-
--- ---- all together
-
-abbrev nothing_outside : Outside
-nothing_outside = record { extended = codes "Naturals" ∷ []; constants = []; definitions = []; opaque = [] }
-
--- process P = D begin A: x := 1; await E + self; end process
-all_of_an_algorithm :
-    name_offences (whole [] [] (processes (process (read 9 D) (x_set (awaits (over Plus (read 4 E) (self 5)))) ∷ []))) nothing_outside
-    ≡ record { rule = ProcessNotConstant; place = at 9 } ∷ (stale 4 ++ stale 9)
-all_of_an_algorithm = refl

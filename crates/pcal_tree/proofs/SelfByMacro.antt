@@ -17,7 +17,7 @@ use Rattle.pcal_tree.proofs.UsesByMacro.{same_before}
 
 -- ---- words
 
-turned : (x y : Word) → bytes_eq x y ≡ bytes_eq y x
+pub turned : (x y : Word) → bytes_eq x y ≡ bytes_eq y x
 turned x y = by (bytes_eq x y) (bytes_eq y x) (λ e. (bytes_eq-Decides y x).1 (sym ((bytes_eq-Decides x y).0 e))) (λ e. (bytes_eq-Decides x y).1 (sym ((bytes_eq-Decides y x).0 e)))
   where
     by : (b c : Bool) → (b ≡ true → c ≡ true) → (c ≡ true → b ≡ true) → b ≡ c

@@ -10,7 +10,7 @@ use Rattle.pcal_tree.specs.Expand.{expanded}
 use Rattle.pcal_tree.specs.Offences.{offence_if}
 use Rattle.pcal_tree.specs.Paths.{has_assigned}
 use Rattle.pcal_tree.specs.Reads.{named, used, initial, Reading, through, readings_of}
-use Rattle.pcal_tree.specs.Spots.{Spot, after_path, Further, spots_in}
+use Rattle.pcal_tree.specs.Spots.{Spot, Further, spots_in}
 use Rattle.pcal_tree.specs.Variables.{declared}
 
 -- ---- what calls and jumps use
@@ -34,29 +34,39 @@ jumps_use ps at _ = []
 
 -- ---- offences
 
--- where `self` stands for an expression that uses these names
-abbrev pub with_identity : List Name → Spot → List Spot
-with_identity ns s = s ∷ after_path s.path (cond (bytes_eq (codes "self") s.name.word) ns [])
+-- a name, and those that the expression uses for which `self` stands
+abbrev pub stands_for : List Name → Name → List Name
+stands_for ns n = n ∷ cond (bytes_eq (codes "self") n.word) ns []
 
-abbrev pub stale_at : List Reading → Spot → List Refusal
-stale_at ds s = offence_if (has_assigned s.path (through ds s.name.word)) DefinedStale s.name.place
+abbrev pub stale_at : List Reading → List Name → Spot → List Refusal
+stale_at ds ns s = flat_map (λ n. offence_if (has_assigned s.path (through ds n.word)) DefinedStale n.place) (stands_for ns s.name)
 
--- of a body with its macro calls written out, where `self` uses the names ns and the names xs are its own
-abbrev pub stale_in : Algorithm → List Name → List Word → Statements → List Refusal
-stale_in a ns xs b =
-    flat_map (stale_at (readings_of a)) (flat_map (with_identity ns) (spots_in (jumps_use a.procedures) (expanded (reverse a.macros) b) xs))
+-- what is used in a body, where the names xs are its own
+abbrev pub Looking : Type 0
+Looking = List Word → Statements → List Spot
 
-abbrev pub stale_in_procedure : Algorithm → Procedure → List Refusal
-stale_in_procedure a p = stale_in a [] (declared (p.params ++ p.variables)) p.body
+-- where `self` uses the names ns
+abbrev pub stale_in : Looking → List Reading → List Name → List Word → Statements → List Refusal
+stale_in L ds ns xs b = flat_map (stale_at ds ns) (L xs b)
+
+abbrev pub stale_in_procedure : Looking → List Reading → Procedure → List Refusal
+stale_in_procedure L ds p = stale_in L ds [] (declared (p.params ++ p.variables)) p.body
 
 -- in a single process `self` is its expression
-abbrev pub stale_in_process : Algorithm → Process → List Refusal
-stale_in_process a p = stale_in a (cond p.several [] (used p.identity [])) (declared p.variables) p.body
+abbrev pub stale_in_process : Looking → List Reading → Process → List Refusal
+stale_in_process L ds p = stale_in L ds (cond p.several [] (used p.identity [])) (declared p.variables) p.body
 
-abbrev pub stale_in_main : Algorithm → Main → List Refusal
-stale_in_main a (alone b) = stale_in a [] [] b
-stale_in_main a (processes ps) = flat_map (stale_in_process a) ps
+abbrev pub stale_in_main : Looking → List Reading → Main → List Refusal
+stale_in_main L ds (alone b) = stale_in L ds [] [] b
+stale_in_main L ds (processes ps) = flat_map (stale_in_process L ds) ps
+
+abbrev pub stale_offences_by : Looking → Algorithm → List Refusal
+stale_offences_by L a = flat_map (stale_in_procedure L (readings_of a)) a.procedures ++ stale_in_main L (readings_of a) a.main
+
+-- with macro calls written out
+abbrev pub written_out_spots : Algorithm → Looking
+written_out_spots a xs b = spots_in (jumps_use a.procedures) (expanded (reverse a.macros) b) xs
 
 -- of an algorithm with its labels added
 abbrev pub stale_offences : Algorithm → List Refusal
-stale_offences a = flat_map (stale_in_procedure a) a.procedures ++ stale_in_main a a.main
+stale_offences a = stale_offences_by (written_out_spots a) a

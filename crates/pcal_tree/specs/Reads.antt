@@ -16,14 +16,15 @@ named x at = record { word = x; place = at }
 abbrev pub if_free : List Word → Name → List Name
 if_free xs n = cond (is_among xs n.word) [] (n ∷ [])
 
-abbrev pub used_by_form : Form → Place → List Word → List Name
-used_by_form (name x) at xs = if_free xs (named x at)
-used_by_form (operator_call f) at xs = if_free xs (named f at)
-used_by_form _ at xs = []
+-- with those of its parts, which a name doesn't have
+abbrev pub used_by_form : Form → Place → List Word → List Name → List Name
+used_by_form (name x) at xs ns = if_free xs (named x at)
+used_by_form (operator_call f) at xs ns = if_free xs (named f at) ++ ns
+used_by_form _ at xs ns = ns
 
 abbrev mutual
   pub used : Tree → List Word → List Name
-  used (node m at ts) xs = used_by_form m at xs ++ used_by_parts (seen_names m) ts xs
+  used (node m at ts) xs = used_by_form m at xs (used_by_parts (seen_names m) ts xs)
 
   -- each part sees further names
   pub used_by_parts : List (List Word) → Trees → List Word → List Name

@@ -4,6 +4,7 @@ pub mod Lines
 pub mod MacroSummaries
 pub mod MacroUses
 pub mod MacroSelves
+pub mod MacroSpots
 pub mod Choosing
 pub mod Expansion
 pub mod Steps

@@ -1,6 +1,6 @@
 //! Laws of what algorithms mean, stated as what functions without a body ensure.
 
-ghost use Rattle.std.specs.Prelude.{◌≡◌, ℕ, List, [], Bool, Some, None, ◌++◌, reverse, Contains, ◌↔◌};
+ghost use Rattle.std.specs.Prelude.{◌≡◌, ℕ, List, [], Bool, false, Some, None, ◌++◌, reverse, Contains, ◌↔◌};
 ghost use Rattle.tla_token.specs.Signs.{is_among};
 ghost use Rattle.tla_expr.specs.Tree.{Word, Trees};
 ghost use Rattle.pcal_tree.specs.Algorithm.{Statements, Macro, Algorithm};
@@ -19,6 +19,8 @@ ghost use Rattle.pcal_tree.specs.Offences.{first};
 ghost use Rattle.pcal_tree.specs.OffencesNames.{use_offences_by, use_offences_of};
 ghost use Rattle.pcal_tree.specs.laws.MacroUses.{macro_uses, offences_by_uses};
 ghost use Rattle.pcal_tree.specs.OffencesSelf.{self_offences};
+ghost use Rattle.pcal_tree.specs.OffencesStale.{stale_offences, stale_offences_by};
+ghost use Rattle.pcal_tree.specs.laws.MacroSpots.{spots_by_macros, rebinds_definitions};
 ghost use Rattle.pcal_tree.specs.laws.MacroSelves.{self_offences_by_calls};
 ghost use Rattle.tla_expr.specs.Lexical.{Token};
 ghost use Rattle.tla_expr.specs.laws.Columns.{looks};
@@ -131,6 +133,17 @@ pub fn uses_in_macros_are_looked_at_once()
 pub fn self_in_macros_is_looked_for_once()
     ensures offences { (a : Algorithm) (r : Refusal) → Contains (self_offences a) r ↔ Contains (self_offences_by_calls a) r }
     ensures first { (a : Algorithm) (others : List Refusal) → first (self_offences a ++ others) ≡ first (self_offences_by_calls a ++ others) }
+{}
+
+/// What is computed once for each macro, from its text and from what was computed for older ones, says of each call which names its body uses, and after
+/// which assignments. So it gives the same offences of definitions that are used after an assignment to what they read, if not as often nor in the same
+/// order, and the same one comes first, also among others. No body may bind or declare the name of a definition, or `self`, its macro calls written out: the
+/// rules on names that are bound again and on reserved names ask for that, and of offences against these the first comes before.
+pub fn definitions_in_macros_are_looked_at_once()
+    ensures offences { (a : Algorithm) → rebinds_definitions a ≡ false
+        → (r : Refusal) → Contains (stale_offences a) r ↔ Contains (stale_offences_by (spots_by_macros a) a) r }
+    ensures first { (a : Algorithm) → rebinds_definitions a ≡ false
+        → (others : List Refusal) → first (stale_offences a ++ others) ≡ first (stale_offences_by (spots_by_macros a) a ++ others) }
 {}
 
 /// Whether tokens spell an algorithm rests on their kinds and columns alone: tokens of other lines spell the same text in other lines.
