@@ -8,7 +8,8 @@ use Rattle.pcal_tree.specs.declared.mark.Fairness.TheVariants.{Unfair}
 use Rattle.pcal_tree.specs.Algorithm.{no_assignments, assignment, no_binds, is, assign, await, skip, branch, either, with, while, goto, macro, call, Statements, done, no_branches, or, equals, Macro, Procedure, Process, Main, alone, processes, Algorithm}
 use Rattle.pcal_tree.specs.Labelled as labels
 use Rattle.pcal_tree.specs.OffencesStale.{stale_offences, stale_offences_by}
-use Rattle.pcal_tree.specs.laws.MacroSpots.{spots_by_macros, rebinds_definitions}
+use Rattle.pcal_tree.specs.laws.MacroSpots.{spots_by_macros}
+use Rattle.pcal_tree.specs.laws.BoundDefinitions.{rebinds_definitions}
 use Rattle.pcal_tree.proofs.Sample.{at, title, x, y, num, over, sets, item, labelled, variable}
 use Rattle.pcal_tree.proofs.RowsOffences.{stands, read, named}
 use Rattle.pcal_tree.proofs.RowsReads.{D, E, declared_as, three_definitions}

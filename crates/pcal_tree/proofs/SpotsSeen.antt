@@ -10,13 +10,14 @@ use Rattle.tla_token.specs.declared.place.Place.{Place}
 use Rattle.tla_token.specs.Signs.{is_among}
 use Rattle.tla_expr.specs.Tree.{Word, Name, Form, number, string, truth, booleans, strings, name, next, strict, operator_call, conjunction, disjunction, implication, member, if_then_else, cases, binding, local, Tree, node, Trees, no_trees, tree, words, beginnings, seen_names}
 use Rattle.pcal_tree.specs.Algorithm.{Assignments, no_assignments, assignment, Binds, no_binds, one_of, is, Statement, assign, await, print, assert, skip, branch, either, with, while, goto, macro, call, return, Statements, done, then, mark, Branches, no_branches, or, Procedure}
-use Rattle.pcal_tree.specs.BoundNames.{Lists, all_of, lists_of, lists_in, lists_in_all, lists_in_assignments, names_of_binds, lists_in_binds, lists_in_one, lists_in_body, lists_in_branches}
+use Rattle.pcal_tree.specs.BoundNames.{Lists, all_of, lists_of, lists_in, lists_in_all, names_of_binds}
 use Rattle.pcal_tree.specs.OffencesStale.{jumps_use}
 use Rattle.pcal_tree.specs.Paths as path
 use Rattle.pcal_tree.specs.Paths.{Path, roots, after_one, after, after_some}
 use Rattle.pcal_tree.specs.Reads.{named, if_free, used, used_by_parts, used_by_all, used_by_assignments, used_by_binds}
 use Rattle.pcal_tree.specs.Spots.{Spot, after_path, spots_of_one, spots, spots_of_some}
-use Rattle.pcal_tree.specs.laws.MacroSpots.{Use, other, uses, uses_of_all, left_uses, uses_of_assignments, uses_of_binds, name_used, Origin, earlier, assigned, Trail, unlabelled, inside, Seen, on_trail, joined, assigning, one_end, end_of, end_of_some, one_seen, seen_in, seen_in_some, starting, binds_some}
+use Rattle.pcal_tree.specs.laws.MacroSpots.{Use, other, uses, uses_of_all, left_uses, uses_of_assignments, uses_of_binds, name_used, Origin, earlier, assigned, Trail, unlabelled, inside, Seen, on_trail, joined, assigning, one_end, end_of, end_of_some, one_seen, seen_in, seen_in_some, starting}
+use Rattle.pcal_tree.specs.laws.BoundDefinitions.{has_one, lists_have_one, bound_in_assignments, bound_in_binds, bound_in_one, bound_in_body, bound_in_branches}
 use Rattle.pcal_tree.proofs.SetLaws.{any_flat, any_map, any_same, any_none}
 use Rattle.pcal_tree.proofs.SpotGrafts.{no_calls}
 use Rattle.pcal_tree.proofs.SpotCalls.{met, passes}
@@ -54,15 +55,14 @@ abbrev Clear : Test → List Word → Type 0
 Clear T ws = list_any T.matters ws ≡ false
 
 abbrev Free : Test → Lists → Type 0
-Free T xss = binds_some T.matters xss ≡ false
+Free T xss = lists_have_one T.matters xss ≡ false
 
 free_both : (T : Test) (xss yss : Lists) → Free T (xss ++ yss) → Free T xss × Free T yss
 free_both T xss yss e =
-    let f : List Name → Bool = λ ns. list_any (λ n. T.matters n.word) ns in
-    or_clear (list_any f xss) (list_any f yss) (sym (list_any-append f xss yss) ∙ e)
+    or_clear (lists_have_one T.matters xss) (lists_have_one T.matters yss) (sym (list_any-append (has_one T.matters) xss yss) ∙ e)
 
 free_first : (T : Test) (ns : List Name) (xss : Lists) → Free T (ns ∷ xss) → (list_any (λ n. T.matters n.word) ns ≡ false) × Free T xss
-free_first T ns xss e = or_clear (list_any (λ n. T.matters n.word) ns) (binds_some T.matters xss) e
+free_first T ns xss e = or_clear (has_one T.matters ns) (lists_have_one T.matters xss) e
 
 clear_both : (T : Test) (ws vs : List Word) → Clear T ws → Clear T vs → Clear T (ws ++ vs)
 clear_both T ws vs e f = list_any-append T.matters ws vs ∙ (λ i. e i || f i)
@@ -166,27 +166,28 @@ left_finds : (T : Test) (p : Path) (t : Tree) → list_any (λ u. hit T p (name_
 left_finds T p (node (name x) at ts) = refl
 left_finds T p (node m at ts) = refl
 
-assignments_find : (T : Test) (p : Path) (ms : Assignments) (xs : List Word) → Clear T xs → Free T (lists_in_assignments ms)
+assignments_find : (T : Test) (p : Path) (ms : Assignments) (xs : List Word) → Clear T xs → bound_in_assignments T.matters ms ≡ false
     → Finds T p (used_by_assignments ms xs) (uses_of_assignments ms)
 assignments_find T p no_assignments xs c f = refl
 assignments_find T p (assignment l e ms) xs c f =
-    let h = free_both T (lists_in l) (lists_in e ++ lists_in_assignments ms) f in
-    let k = free_both T (lists_in e) (lists_in_assignments ms) h.1 in
+    let D = T.matters in
+    let h = or_clear (lists_have_one D (lists_in l)) (lists_have_one D (lists_in e) || bound_in_assignments D ms) f in
+    let k = or_clear (lists_have_one D (lists_in e)) (bound_in_assignments D ms) h.1 in
     finds_both T p (used l xs) (used e xs ++ used_by_assignments ms xs) (left_uses l) (uses e ++ uses_of_assignments ms)
     (used_finds T p l xs c h.0 ∙ left_finds T p l)
     (finds_both T p (used e xs) (used_by_assignments ms xs) (uses e) (uses_of_assignments ms) (used_finds T p e xs c k.0) (assignments_find T p ms xs c k.1))
 
-binds_find : (T : Test) (p : Path) (bs : Binds) (xs : List Word) → Clear T xs → list_any (λ n. T.matters n.word) (names_of_binds bs) ≡ false → Free T (lists_in_binds bs)
+binds_find : (T : Test) (p : Path) (bs : Binds) (xs : List Word) → Clear T xs → has_one T.matters (names_of_binds bs) ≡ false → bound_in_binds T.matters bs ≡ false
     → Finds T p (used_by_binds bs xs) (uses_of_binds bs)
 binds_find T p no_binds xs c a f = refl
 binds_find T p (one_of x e bs) xs c a f =
-    let h = free_both T (lists_in e) (lists_in_binds bs) f in
-    let k = or_clear (T.matters x.word) (list_any (λ n. T.matters n.word) (names_of_binds bs)) a in
+    let h = or_clear (lists_have_one T.matters (lists_in e)) (bound_in_binds T.matters bs) f in
+    let k = or_clear (T.matters x.word) (has_one T.matters (names_of_binds bs)) a in
     finds_both T p (used e xs) (used_by_binds bs (x.word ∷ xs)) (uses e) (uses_of_binds bs)
     (used_finds T p e xs c h.0) (binds_find T p bs (x.word ∷ xs) (λ i. k.0 i || c i) k.1 h.1)
 binds_find T p (is x e bs) xs c a f =
-    let h = free_both T (lists_in e) (lists_in_binds bs) f in
-    let k = or_clear (T.matters x.word) (list_any (λ n. T.matters n.word) (names_of_binds bs)) a in
+    let h = or_clear (lists_have_one T.matters (lists_in e)) (bound_in_binds T.matters bs) f in
+    let k = or_clear (T.matters x.word) (has_one T.matters (names_of_binds bs)) a in
     finds_both T p (used e xs) (used_by_binds bs (x.word ∷ xs)) (uses e) (uses_of_binds bs)
     (used_finds T p e xs c h.0) (binds_find T p bs (x.word ∷ xs) (λ i. k.0 i || c i) k.1 h.1)
 
@@ -266,7 +267,7 @@ others_find : (T : Test) (p : Path) (ns : List Name) → Finds T p ns (map other
 others_find T p ns = sym (any_map (λ u. hit T p (name_used u)) other ns)
 
 mutual
-  one_sees : (T : Test) (ps : List Procedure) (l : Bool) (p : Path) (at : Place) (st : Statement) (xs : List Word) → Clear T xs → Free T (lists_in_one st)
+  one_sees : (T : Test) (ps : List Procedure) (l : Bool) (p : Path) (at : Place) (st : Statement) (xs : List Word) → Clear T xs → bound_in_one T.matters st ≡ false
       → Sees T (spots_of_one (jumps_use ps) l p at st xs) (one_seen no_calls ps at st (starting l (traced p)))
   one_sees T ps l p at (assign ms) xs c f = sees_on T p (used_by_assignments ms xs) (uses_of_assignments ms) (assignments_find T p ms xs c f)
   one_sees T ps l p at (await e) xs c f = sees_on T p (used e xs) (uses e) (used_finds T p e xs c f)
@@ -274,8 +275,9 @@ mutual
   one_sees T ps l p at (assert e) xs c f = sees_on T p (used e xs) (uses e) (used_finds T p e xs c f)
   one_sees T ps l p at skip xs c f = refl
   one_sees T ps l p at (branch e a b) xs c f =
-      let h = free_both T (lists_in e) (lists_in_body a ++ lists_in_body b) f in
-      let k = free_both T (lists_in_body a) (lists_in_body b) h.1 in
+      let D = T.matters in
+      let h = or_clear (lists_have_one D (lists_in e)) (bound_in_body D a || bound_in_body D b) f in
+      let k = or_clear (bound_in_body D a) (bound_in_body D b) h.1 in
       let F = jumps_use ps in
       let A = seen_in no_calls ps a (starting false (traced p)) in
       let B = seen_in no_calls ps b (starting false (traced p)) in
@@ -284,14 +286,14 @@ mutual
       (sees_both T (spots F false p a xs) (spots F false p b xs) A B (list_sees T ps false p a xs c k.0) (list_sees T ps false p b xs c k.1))
   one_sees T ps l p at (either bs) xs c f = some_sees T ps l p bs xs c f
   one_sees T ps l p at (with bs b) xs c f =
-      let d = free_first T (names_of_binds bs) (lists_in_binds bs ++ lists_in_body b) f in
-      let h = free_both T (lists_in_binds bs) (lists_in_body b) d.1 in
+      let d = or_clear (has_one T.matters (names_of_binds bs)) (bound_in_binds T.matters bs || bound_in_body T.matters b) f in
+      let h = or_clear (bound_in_binds T.matters bs) (bound_in_body T.matters b) d.1 in
       let ys = words (names_of_binds bs) ++ xs in
       sees_both T (after_path p (used_by_binds bs xs)) (spots (jumps_use ps) false p b ys) (on_trail (traced p) (uses_of_binds bs)) (seen_in no_calls ps b (starting false (traced p)))
       (sees_on T p (used_by_binds bs xs) (uses_of_binds bs) (binds_find T p bs xs c d.0 h.0))
       (list_sees T ps false p b ys (clear_both T (words (names_of_binds bs)) xs (clear_words T (names_of_binds bs) d.0) c) h.1)
   one_sees T ps l p at (while e b) xs c f =
-      let h = free_both T (lists_in e) (lists_in_body b) f in
+      let h = or_clear (lists_have_one T.matters (lists_in e)) (bound_in_body T.matters b) f in
       let F = jumps_use ps in
       let r = after_one path.assigned (while e b) l p in
       sees_both T (after_path r (used e xs)) (spots F false r b xs) (on_trail (traced r) (uses e)) (seen_in no_calls ps b (starting false (traced r)))
@@ -306,21 +308,21 @@ mutual
       (finds_both T p (used_by_all ts xs) ns (uses_of_all ts) (map other ns) (parts_find T p [] ts xs c refl f) (others_find T p ns))
   one_sees T ps l p at return xs c f = refl
 
-  pub list_sees : (T : Test) (ps : List Procedure) (l : Bool) (p : Path) (b : Statements) (xs : List Word) → Clear T xs → Free T (lists_in_body b)
+  pub list_sees : (T : Test) (ps : List Procedure) (l : Bool) (p : Path) (b : Statements) (xs : List Word) → Clear T xs → bound_in_body T.matters b ≡ false
       → Sees T (spots (jumps_use ps) l p b xs) (seen_in no_calls ps b (starting l (traced p)))
   list_sees T ps l p done xs c f = refl
   list_sees T ps l p (then at st rest) xs c f =
-      let h = free_both T (lists_in_one st) (lists_in_body rest) f in
+      let h = or_clear (bound_in_one T.matters st) (bound_in_body T.matters rest) f in
       let r = after_one path.assigned st l p in
       sees_both T (spots_of_one (jumps_use ps) l p at.first st xs) (spots (jumps_use ps) false r rest xs) (one_seen no_calls ps at.first st (starting l (traced p))) (seen_in no_calls ps rest (starting false (traced r)))
       (one_sees T ps l p at.first st xs c h.0) (list_sees T ps false r rest xs c h.1)
       ∙ sym (λ i. list_any (passes (origin_test T)) (one_seen no_calls ps at.first st (starting l (traced p)) ++ seen_in no_calls ps rest (one_traced st l p i)))
   list_sees T ps l p (mark n k rest) xs c f = list_sees T ps true (Some []) rest xs c f
 
-  some_sees : (T : Test) (ps : List Procedure) (l : Bool) (p : Path) (bs : Branches) (xs : List Word) → Clear T xs → Free T (lists_in_branches bs)
+  some_sees : (T : Test) (ps : List Procedure) (l : Bool) (p : Path) (bs : Branches) (xs : List Word) → Clear T xs → bound_in_branches T.matters bs ≡ false
       → Sees T (spots_of_some (jumps_use ps) p bs xs) (seen_in_some no_calls ps bs (starting l (traced p)))
   some_sees T ps l p no_branches xs c f = refl
   some_sees T ps l p (or b bs) xs c f =
-      let h = free_both T (lists_in_body b) (lists_in_branches bs) f in
+      let h = or_clear (bound_in_body T.matters b) (bound_in_branches T.matters bs) f in
       sees_both T (spots (jumps_use ps) false p b xs) (spots_of_some (jumps_use ps) p bs xs) (seen_in no_calls ps b (starting false (traced p))) (seen_in_some no_calls ps bs (starting l (traced p)))
       (list_sees T ps false p b xs c h.0) (some_sees T ps l p bs xs c h.1)

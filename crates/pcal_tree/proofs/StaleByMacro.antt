@@ -8,14 +8,14 @@ use Rattle.tla_token.specs.declared.rule.Refusal.{Refusal}
 use Rattle.tla_token.specs.Signs.{is_among}
 use Rattle.tla_expr.specs.Tree.{Word}
 use Rattle.pcal_tree.specs.Algorithm.{Name, Statements, Procedure, Main, alone, processes, Algorithm}
-use Rattle.pcal_tree.specs.BoundNames.{lists_in_body}
 use Rattle.pcal_tree.specs.Expand.{written_out, expanded}
 use Rattle.pcal_tree.specs.Offences.{offence_if, first}
 use Rattle.pcal_tree.specs.OffencesStale.{stands_for, stale_at, stale_in, stale_in_procedure, stale_in_process, stale_in_main, stale_offences_by, written_out_spots, stale_offences}
 use Rattle.pcal_tree.specs.Paths.{Path, meets}
 use Rattle.pcal_tree.specs.Reads.{used, Reading, through, readings_of}
 use Rattle.pcal_tree.specs.Variables.{declared}
-use Rattle.pcal_tree.specs.laws.MacroSpots.{Use, Origin, earlier, assigned, Trail, seen_in, seen_in_call, macros_seen, starting, name_used, word_of, spot_of, spots_by_macros, binds_some, may_be_stale, rebinds_in, rebinds_in_main, rebinds_definitions}
+use Rattle.pcal_tree.specs.laws.MacroSpots.{Use, Origin, earlier, assigned, Trail, seen_in, seen_in_call, macros_seen, starting, name_used, word_of, spot_of, spots_by_macros}
+use Rattle.pcal_tree.specs.laws.BoundDefinitions.{bound_in_body, may_be_stale, rebinds_in, rebinds_in_main, rebinds_definitions}
 use Rattle.pcal_tree.proofs.FirstLaws.{same_offences, same_first}
 use Rattle.pcal_tree.proofs.SelfByMacro.{turned}
 use Rattle.pcal_tree.proofs.SetLaws.{Same, same_both, any_flat, any_map, any_same, any_none, meets_any}
@@ -111,7 +111,7 @@ body_same a ns xs b e f =
     let S = seen_in_call (macros_seen ps ms) in
     let start = starting false (Some []) in
     let seen = seen_in S ps b start in
-    let h = or_clear (list_any (may_be_stale a) xs) (binds_some (may_be_stale a) (lists_in_body (expanded ms b))) e in
+    let h = or_clear (list_any (may_be_stale a) xs) (bound_in_body (may_be_stale a) (expanded ms b)) e in
     any_flat f (stale_at ds ns) (written_out_spots a xs b)
     ∙ any_same (λ s. list_any f (stale_at ds ns s)) (hits T) (λ s. stale_hit a ns f s.path s.name) (written_out_spots a xs b)
     ∙ list_sees T ps false (Some []) (expanded ms b) xs h.0 h.1

@@ -5,6 +5,7 @@ pub mod MacroSummaries
 pub mod MacroUses
 pub mod MacroSelves
 pub mod MacroSpots
+pub mod BoundDefinitions
 pub mod Choosing
 pub mod Expansion
 pub mod Steps

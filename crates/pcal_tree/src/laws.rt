@@ -20,7 +20,8 @@ ghost use Rattle.pcal_tree.specs.OffencesNames.{use_offences_by, use_offences_of
 ghost use Rattle.pcal_tree.specs.laws.MacroUses.{macro_uses, offences_by_uses};
 ghost use Rattle.pcal_tree.specs.OffencesSelf.{self_offences};
 ghost use Rattle.pcal_tree.specs.OffencesStale.{stale_offences, stale_offences_by};
-ghost use Rattle.pcal_tree.specs.laws.MacroSpots.{spots_by_macros, rebinds_definitions};
+ghost use Rattle.pcal_tree.specs.laws.MacroSpots.{spots_by_macros};
+ghost use Rattle.pcal_tree.specs.laws.BoundDefinitions.{rebinds_definitions};
 ghost use Rattle.pcal_tree.specs.laws.MacroSelves.{self_offences_by_calls};
 ghost use Rattle.tla_expr.specs.Lexical.{Token};
 ghost use Rattle.tla_expr.specs.laws.Columns.{looks};

@@ -1,18 +1,15 @@
 -- What is computed once for each macro, in place of writing it out at each call: the names that its text uses, and what may have been assigned before
 -- ("A PlusCal User's Manual", sections 3.5, macros, and 3.7, labels).
-use Rattle.std.specs.Prelude.{List, [], ◌∷◌, ◌++◌, Bool, true, false, ◌&&◌, ◌||◌, cond, bytes_eq, codes, Option, Some, None, option_map, map, reverse}
-use Rattle.std.specs.List.{list_any, flat_map}
+use Rattle.std.specs.Prelude.{List, [], ◌∷◌, ◌++◌, Bool, true, false, ◌&&◌, cond, bytes_eq, Option, Some, None, option_map, map, reverse}
+use Rattle.std.specs.List.{flat_map}
 use Rattle.tla_token.specs.declared.place.Place.{Place}
-use Rattle.tla_token.specs.Signs.{is_among}
 use Rattle.tla_expr.specs.Tree.{Word, Form, name, operator_call, Tree, node, Trees, no_trees, tree}
-use Rattle.pcal_tree.specs.Algorithm.{Name, Assignments, no_assignments, assignment, Binds, no_binds, one_of, is, Statement, assign, await, print, assert, skip, branch, either, with, while, goto, macro, call, return, Statements, done, then, mark, Branches, no_branches, or, Macro, Procedure, Main, alone, processes, Algorithm}
-use Rattle.pcal_tree.specs.BoundNames.{Lists, lists_in_body}
-use Rattle.pcal_tree.specs.Expand.{placed_at, expanded}
+use Rattle.pcal_tree.specs.Algorithm.{Name, Assignments, no_assignments, assignment, Binds, no_binds, one_of, is, Statement, assign, await, print, assert, skip, branch, either, with, while, goto, macro, call, return, Statements, done, then, mark, Branches, no_branches, or, Macro, Procedure, Algorithm}
+use Rattle.pcal_tree.specs.Expand.{placed_at}
 use Rattle.pcal_tree.specs.OffencesStale.{Looking, jumps_use}
 use Rattle.pcal_tree.specs.Paths.{roots, some_word}
-use Rattle.pcal_tree.specs.Reads.{named, readings_of}
+use Rattle.pcal_tree.specs.Reads.{named}
 use Rattle.pcal_tree.specs.Spots.{Spot}
-use Rattle.pcal_tree.specs.Variables.{declared}
 use Rattle.pcal_tree.specs.laws.MacroSummaries.{union, argument, variable_of}
 use Rattle.pcal_tree.specs.laws.MacroUses.{same_place}
 
@@ -291,25 +288,3 @@ spot_of s = record { name = name_used s.use_of; path = option_map (flat_map word
 -- by what was computed once for each macro
 abbrev pub spots_by_macros : Algorithm → Looking
 spots_by_macros a xs b = map spot_of (seen_in (seen_in_call (macros_seen a.procedures (reverse a.macros))) a.procedures b (starting false (Some [])))
-
--- ---- names that are bound
-
--- one of the lists has a name of this kind
-abbrev pub binds_some : (Word → Bool) → Lists → Bool
-binds_some D xss = list_any (λ ns. list_any (λ n. D n.word) ns) xss
-
--- `self`, or the name of a definition
-abbrev pub may_be_stale : Algorithm → Word → Bool
-may_be_stale a x = is_among (codes "self" ∷ map (λ d. d.title) (readings_of a)) x
-
--- such a name is one of the names xs, or is bound in the body with its macro calls written out
-abbrev pub rebinds_in : Algorithm → List Word → Statements → Bool
-rebinds_in a xs b = list_any (may_be_stale a) xs || binds_some (may_be_stale a) (lists_in_body (expanded (reverse a.macros) b))
-
-abbrev pub rebinds_in_main : Algorithm → Main → Bool
-rebinds_in_main a (alone b) = rebinds_in a [] b
-rebinds_in_main a (processes ps) = list_any (λ p. rebinds_in a (declared p.variables) p.body) ps
-
--- in some body
-abbrev pub rebinds_definitions : Algorithm → Bool
-rebinds_definitions a = list_any (λ p. rebinds_in a (declared (p.params ++ p.variables)) p.body) a.procedures || rebinds_in_main a a.main
