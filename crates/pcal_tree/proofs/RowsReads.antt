@@ -87,6 +87,11 @@ local_in_the_set = refl
 self_in_a_value : starting true (equals (read 5 (codes "self"))) ≡ []
 self_in_a_value = refl
 
+-- S == self, q \in {S}: the definition offends by another rule
+self_in_a_definition :
+    own_offences (record (algorithm [] [] (processes (process true (num 1) (declared_as q (among (set_with (read 5 (codes "S")))) ∷ []) ∷ []))) { definitions = defined_as (codes "S") (read 90 (codes "self")) ∷ [] }) ≡ []
+self_in_a_definition = refl
+
 -- process P = .. variables y = 0, q \in {self}
 in_a_single_process : starting false (among (set_with (read 5 (codes "self")))) ≡ []
 in_a_single_process = refl

@@ -138,6 +138,11 @@ argument_assigned = refl
 another_argument_assigned : with_macros (assigns_its_own ∷ []) (calls (codes "S") (read 31 y) done) ≡ []
 another_argument_assigned = refl
 
+-- macro L() begin x := 1; B: skip; end macro, and L(); await D: a label in a macro, which another rule refuses, begins a step too
+label_in_a_macro :
+    with_macros (record { name = title (codes "L"); params = []; body = x_set (labelled (codes "B") (stands 10 skip done)) } ∷ []) (stands 30 (macro (codes "L") no_trees) (awaits (read 4 D))) ≡ []
+label_in_a_macro = refl
+
 -- ---- what is computed once for each macro
 
 -- n macros, each of which calls the one before twice, the newest last; the oldest is M
@@ -193,6 +198,15 @@ process e b = record { name = title (codes "P"); fairness = Unfair; several = fa
 -- process P = D begin A: x := 1; goto A; end process: the jump sets `pc` at D
 identity_at_a_jump : stale_offences (whole [] [] (processes (process (read 9 D) (x_set (stands 5 (goto (codes "A")) done)) ∷ []))) ≡ stale 9
 identity_at_a_jump = refl
+
+-- x := 1; call R(1): so does a call
+identity_at_a_call :
+    stale_offences (whole [] (procedure (num 1) ∷ []) (processes (process (read 9 D) (x_set (stands 5 (call (named 6 (codes "R")) (tree (num 1) no_trees)) done)) ∷ []))) ≡ stale 9
+identity_at_a_call = refl
+
+-- process P \in D: `self` is one of its members
+in_a_set : stale_offences (whole [] [] (processes (record (process (read 9 D) (x_set (stands 5 (goto (codes "A")) done))) { several = true } ∷ []))) ≡ []
+in_a_set = refl
 
 -- y := self; x := 1; await self
 identity_at_self : stale_offences (whole [] [] (processes (process (read 9 D) (stands 5 (sets (read 5 y) (read 6 (codes "self"))) (x_set (awaits (read 7 (codes "self"))))) ∷ []))) ≡ stale 9
