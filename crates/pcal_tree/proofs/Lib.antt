@@ -39,6 +39,7 @@ pub mod SpotCalls
 pub mod SpotMacros
 pub mod SpotsSeen
 pub mod StaleByMacro
+pub mod BoundWrittenOut
 pub mod RowsOffences
 pub mod RowsReads
 pub mod RowsStale

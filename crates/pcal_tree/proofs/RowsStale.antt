@@ -9,7 +9,7 @@ use Rattle.pcal_tree.specs.Algorithm.{no_assignments, assignment, no_binds, is, 
 use Rattle.pcal_tree.specs.Labelled as labels
 use Rattle.pcal_tree.specs.OffencesStale.{stale_offences, stale_offences_by}
 use Rattle.pcal_tree.specs.laws.MacroSpots.{spots_by_macros}
-use Rattle.pcal_tree.specs.laws.BoundDefinitions.{rebinds_definitions}
+use Rattle.pcal_tree.specs.laws.BoundDefinitions.{rebinds_definitions, binds_definitions}
 use Rattle.pcal_tree.proofs.Sample.{at, title, x, y, num, over, sets, item, labelled, variable}
 use Rattle.pcal_tree.proofs.RowsOffences.{stands, read, named}
 use Rattle.pcal_tree.proofs.RowsReads.{D, E, declared_as, three_definitions}
@@ -168,6 +168,9 @@ binds_it =
 
 binds_a_definition : rebinds_definitions binds_it ≡ true
 binds_a_definition = refl
+
+binds_it_in_its_text : binds_definitions binds_it ≡ true
+binds_it_in_its_text = refl
 
 binds_none : rebinds_definitions (whole (M ∷ N ∷ []) [] (alone (labelled (codes "A") (calls (codes "N") (read 31 E) done)))) ≡ false
 binds_none = refl

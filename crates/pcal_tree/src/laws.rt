@@ -21,7 +21,7 @@ ghost use Rattle.pcal_tree.specs.laws.MacroUses.{macro_uses, offences_by_uses};
 ghost use Rattle.pcal_tree.specs.OffencesSelf.{self_offences};
 ghost use Rattle.pcal_tree.specs.OffencesStale.{stale_offences, stale_offences_by};
 ghost use Rattle.pcal_tree.specs.laws.MacroSpots.{spots_by_macros};
-ghost use Rattle.pcal_tree.specs.laws.BoundDefinitions.{rebinds_definitions};
+ghost use Rattle.pcal_tree.specs.laws.BoundDefinitions.{rebinds_definitions, binds_definitions};
 ghost use Rattle.pcal_tree.specs.laws.MacroSelves.{self_offences_by_calls};
 ghost use Rattle.tla_expr.specs.Lexical.{Token};
 ghost use Rattle.tla_expr.specs.laws.Columns.{looks};
@@ -138,13 +138,14 @@ pub fn self_in_macros_is_looked_for_once()
 
 /// What is computed once for each macro, from its text and from what was computed for older ones, says of each call which names its body uses, and after
 /// which assignments. So it gives the same offences of definitions that are used after an assignment to what they read, if not as often nor in the same
-/// order, and the same one comes first, also among others. No body may bind or declare the name of a definition, or `self`, its macro calls written out: the
-/// rules on names that are bound again and on reserved names ask for that, and of offences against these the first comes before.
+/// order, and the same one comes first, also among others. No body may bind or declare the name of a definition, or `self`, its macro calls written out, and
+/// none does where no text does: the rules on names that are bound again and on reserved names ask for that, and of offences against these the first comes before.
 pub fn definitions_in_macros_are_looked_at_once()
     ensures offences { (a : Algorithm) → rebinds_definitions a ≡ false
         → (r : Refusal) → Contains (stale_offences a) r ↔ Contains (stale_offences_by (spots_by_macros a) a) r }
     ensures first { (a : Algorithm) → rebinds_definitions a ≡ false
         → (others : List Refusal) → first (stale_offences a ++ others) ≡ first (stale_offences_by (spots_by_macros a) a ++ others) }
+    ensures text { (a : Algorithm) → binds_definitions a ≡ false → rebinds_definitions a ≡ false }
 {}
 
 /// Whether tokens spell an algorithm rests on their kinds and columns alone: tokens of other lines spell the same text in other lines.

@@ -68,3 +68,18 @@ rebinds_in_main a (processes ps) = list_any (λ p. rebinds_in a (declared p.vari
 -- in some body
 abbrev pub rebinds_definitions : Algorithm → Bool
 rebinds_definitions a = list_any (λ p. rebinds_in a (declared (p.params ++ p.variables)) p.body) a.procedures || rebinds_in_main a a.main
+
+-- ---- in the text alone
+
+abbrev pub bound_in_text : (Word → Bool) → List Word → Statements → Bool
+bound_in_text D xs b = list_any D xs || bound_in_body D b
+
+abbrev pub bound_in_main : (Word → Bool) → Main → Bool
+bound_in_main D (alone b) = bound_in_text D [] b
+bound_in_main D (processes ps) = list_any (λ p. bound_in_text D (declared p.variables) p.body) ps
+
+-- such a name is bound in the text of a macro, procedure, process or body, or is a variable or parameter of a procedure or process
+abbrev pub binds_definitions : Algorithm → Bool
+binds_definitions a =
+    list_any (λ d. bound_in_body (may_be_stale a) d.body) a.macros
+    || (list_any (λ p. bound_in_text (may_be_stale a) (declared (p.params ++ p.variables)) p.body) a.procedures || bound_in_main (may_be_stale a) a.main)
