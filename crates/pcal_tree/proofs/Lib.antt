@@ -41,7 +41,17 @@ pub mod EffectLabels
 pub mod FirstLaws
 pub mod UseLaws
 pub mod UsesByMacro
+pub mod SelfByMacro
+pub mod SpotGrafts
+pub mod SpotCalls
+pub mod SpotMacros
+pub mod SpotsSeen
+pub mod StaleByMacro
+pub mod BoundWrittenOut
 pub mod RowsOffences
+pub mod RowsReads
+pub mod RowsStale
+mod RowsSelf
 pub mod SameVariables
 pub mod StepVariables
 pub mod SameSteps

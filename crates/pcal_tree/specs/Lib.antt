@@ -38,5 +38,11 @@ pub mod OffencesModules
 pub mod OffencesRebind
 pub mod OffencesNames
 pub mod OffencesReserved
+pub mod Reads
+pub mod Spots
+pub mod OffencesReads
+pub mod OffencesSelf
+pub mod OffencesStale
+pub mod OffencesOfNames
 pub mod laws
 pub mod Takers

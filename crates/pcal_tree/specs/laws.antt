@@ -4,6 +4,9 @@ pub mod Lines
 pub mod MacroBindings
 pub mod MacroSummaries
 pub mod MacroUses
+pub mod MacroSelves
+pub mod MacroSpots
+pub mod BoundDefinitions
 pub mod Choosing
 pub mod Expansion
 pub mod Steps
