@@ -1,5 +1,5 @@
 -- Where a jump, a call or a return is doesn't matter to its end, and not to the kind of its trouble.
-use Rattle.std.proofs.Common.{◌≡◌, List, [], ◌∷◌, ◌++◌, refl, sym, subst, Ok, Err}
+use Rattle.std.proofs.Common.{◌≡◌, List, [], ◌∷◌, ◌++◌, Bool, true, false, cond, nat_eq, refl, sym, subst, Ok, Err}
 use Rattle.tla_token.specs.declared.place.Place.{Place}
 use Rattle.tla_expr.specs.Tree.{Word}
 use Rattle.tla_value.specs.Value.{Value, Trouble, fault, over, Outcome, text}
@@ -11,7 +11,7 @@ use Rattle.pcal_tree.specs.Scope.{State, value_of}
 use Rattle.pcal_tree.specs.Assign.{Setting, set_one, set_all}
 use Rattle.pcal_tree.specs.Program.{Program, Actor, index, local_index, read_at, written, routine_scope}
 use Rattle.pcal_tree.specs.Variables.{written_all, pc, stack}
-use Rattle.pcal_tree.specs.Calls.{setting, all_read, on_stack, initial_value, initial_place, variables_started, argument_settings, entered, fields_read, part_settings, restored, returned}
+use Rattle.pcal_tree.specs.Calls.{setting, all_read, on_stack, initial_value, initial_place, variables_started, argument_settings, entered_keeping, entered, fields_read, part_settings, restored, returned, replaced, returned_and_entered}
 use Rattle.tla_value.specs.laws.Places.{SameKind, AgreeButPlaces}
 use Rattle.action_builder.proofs.Alike.{same_refl, then_same}
 
@@ -56,7 +56,7 @@ all_read_same : (a b : Place) (path : List Value) (xs : List Word) (s : State) �
 all_read_same a b path [] s = refl
 all_read_same a b path (x ∷ xs) s = then_same _ _ _ _ (read_same a b path (s x)) (λ v. then_same _ _ _ _ (all_read_same a b path xs s) (λ vs. refl))
 
-stack_same : (v : Actor) (a b : Place) (s : State) → AgreeButPlaces (on_stack v a s) (on_stack v b s)
+pub stack_same : (v : Actor) (a b : Place) (s : State) → AgreeButPlaces (on_stack v a s) (on_stack v b s)
 stack_same v a b s = then_same _ _ _ _ (read_same a b (index v.self) (s stack)) (λ st. of_joined _ _ (sequences anywhere a b tt st))
 
 initial_same : (P : Program) (v : Actor) (p : Routine) (a b : Place) (d : Start) (s : State) → AgreeButPlaces (initial_value P v p a d s) (initial_value P v p b d s)
@@ -70,14 +70,17 @@ variables_same P q v p a b (d ∷ ds) s =
     then_same _ _ _ _ (initial_same P v p a b d.start s) (λ w.
     then_same _ _ _ _ (set_same P.check q (initial_place a d.start) (initial_place b d.start) (written P p d.name.word) (local_index v p) w s) (λ u. variables_same P q v p a b ds u))
 
-pub entered_same : (P : Program) → P.check ≡ plain → (v : Actor) (a b : Place) (back : Value) (p : Routine) (places : List Place) (vs : List Value) (s : State) → AgreeButPlaces (entered P v a back p places vs s) (entered P v b back p places vs s)
-entered_same P q v a b back p places vs s =
-    then_same _ _ _ _ (all_read_same a b (local_index v p) (written_all P p (locals p)) s) (λ olds.
+keeping_same : (P : Program) → P.check ≡ plain → (v : Actor) (a b : Place) (back : Value) (p : Routine) (places : List Place) (vs olds : List Value) (s : State) → AgreeButPlaces (entered_keeping P v a back p places vs olds s) (entered_keeping P v b back p places vs olds s)
+keeping_same P q v a b back p places vs olds s =
     then_same _ _ _ _ (check_same P.check q a b _) (λ front.
     then_same _ _ _ _ (stack_same v a b s) (λ frames.
     then_same _ _ _ _ (check_same P.check q a b _) (λ new.
     then_same _ _ _ _ (then_same _ _ _ _ (set_same P.check q a b stack (index v.self) new s) (λ u. same_refl (set_all P.check (argument_settings (local_index v p) (written_all P p p.params) places vs) u))) (λ t.
-    then_same _ _ _ _ (variables_same P q v p a b p.variables t) (λ u. set_same P.check q a b pc (index v.self) _ u))))))
+    then_same _ _ _ _ (variables_same P q v p a b p.variables t) (λ u. set_same P.check q a b pc (index v.self) _ u)))))
+
+pub entered_same : (P : Program) → P.check ≡ plain → (v : Actor) (a b : Place) (back : Value) (p : Routine) (places : List Place) (vs : List Value) (s : State) → AgreeButPlaces (entered P v a back p places vs s) (entered P v b back p places vs s)
+entered_same P q v a b back p places vs s =
+    then_same _ _ _ _ (all_read_same a b (local_index v p) (written_all P p (locals p)) s) (λ olds. keeping_same P q v a b back p places vs olds s)
 
 fields_same : (a b : Place) (xs : List Word) (f : Value) → AgreeButPlaces (fields_read a xs f) (fields_read b xs f)
 fields_same a b [] f = refl
@@ -98,3 +101,19 @@ restored_same P q v a b p (front ∷ frames) s =
 
 pub returned_same : (P : Program) → P.check ≡ plain → (v : Actor) (a b : Place) (p : Routine) (s : State) → AgreeButPlaces (returned P v a p s) (returned P v b p s)
 returned_same P q v a b p s = then_same _ _ _ _ (stack_same v a b s) (λ frames. restored_same P q v a b p frames s)
+
+left_same : (c : Bool) (o p q r : Outcome (List Value)) → AgreeButPlaces o p → AgreeButPlaces q r → AgreeButPlaces (cond c o q) (cond c p r)
+left_same true o p q r h k = h
+left_same false o p q r h k = k
+
+-- with the places of the call and of the return
+replaced_same : (P : Program) → P.check ≡ plain → (v : Actor) (a b c d : Place) (u p : Routine) (places : List Place) (vs frames : List Value) (s : State) → AgreeButPlaces (replaced P v a c u p places vs frames s) (replaced P v b d u p places vs frames s)
+replaced_same P q v a b c d u p places vs [] s = refl
+replaced_same P q v a b c d u p places vs (front ∷ frames) s =
+    then_same _ _ _ _ (of_joined _ _ (applications anywhere c d tt front (text pc))) (λ back.
+    then_same _ _ _ _ (restored_same P q v c d u (front ∷ frames) s) (λ t.
+    then_same _ _ _ _ (left_same (nat_eq u.number p.number) _ _ _ _ (fields_same c d (written_all P u (locals u)) front) (all_read_same a b (local_index v p) (written_all P p (locals p)) t)) (λ olds.
+    keeping_same P q v a b back p places vs olds t)))
+
+pub returned_and_entered_same : (P : Program) → P.check ≡ plain → (v : Actor) (a b c d : Place) (u p : Routine) (places : List Place) (vs : List Value) (s : State) → AgreeButPlaces (returned_and_entered P v a c u p places vs s) (returned_and_entered P v b d u p places vs s)
+returned_and_entered_same P q v a b c d u p places vs s = then_same _ _ _ _ (stack_same v c d s) (λ frames. replaced_same P q v a b c d u p places vs frames s)

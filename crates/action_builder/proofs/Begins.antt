@@ -7,7 +7,7 @@ use Rattle.pcal_tree.specs.StepStart.{begin}
 use Rattle.pcal_tree.specs.Expand.{graft_one, graft_all, graft_some, joined, Writing, expand_one, expand, expand_some, written_out, expanded, expand_begin}
 use Rattle.pcal_tree.proofs.ExpandRuns.{opens_joined}
 use Rattle.pcal_tree.proofs.BeginLaws.{WrittenBare, begin_expanded}
-use Rattle.pcal_tree.specs.laws.Expansion.{Calls, CallsOne, CallsSome, Chosen, Throughout, FineCall, BeginsUnlabelled, BareOne, Bare, BareSome, BareBodies}
+use Rattle.pcal_tree.specs.laws.Expansion.{Calls, CallsOne, CallsSome, Chosen, Throughout, FineCall, BeginsUnlabelled, Stays, BareOne, Bare, BareSome, BareBodies}
 use Rattle.tla_value.specs.laws.Grafting.{Apart, ApartForm}
 
 bare_joined : (a b : Statements) → Bare a → Bare b → Bare (joined a b)
@@ -68,7 +68,7 @@ written_bare : (ms : List Macro) → BareBodies ms → WrittenBare (written_out 
 written_bare [] b at m ts h = (tt, (tt, tt))
 written_bare (d ∷ older) b at m ts h = by (written_bare older b.1) (bytes_eq d.name.word m) h
   where
-    by : WrittenBare (written_out older) (FineCall older) → (q : Bool) → Chosen q (Throughout (ApartForm (arguments d.params ts)) (Apart (arguments d.params ts)) (expand (written_out older) d.body) × Calls (FineCall older) d.body × BeginsUnlabelled d.body) (FineCall older m ts) → BeginsUnlabelled (cond q (graft_all (arguments d.params ts) (expand (written_out older) d.body)) (written_out older at m ts)) × Bare (cond q (graft_all (arguments d.params ts) (expand (written_out older) d.body)) (written_out older at m ts))
+    by : WrittenBare (written_out older) (FineCall older) → (q : Bool) → Chosen q (Throughout (ApartForm (arguments d.params ts)) (Apart (arguments d.params ts)) (expand (written_out older) d.body) × Calls (FineCall older) d.body × BeginsUnlabelled d.body × Stays d.body) (FineCall older m ts) → BeginsUnlabelled (cond q (graft_all (arguments d.params ts) (expand (written_out older) d.body)) (written_out older at m ts)) × Bare (cond q (graft_all (arguments d.params ts) (expand (written_out older) d.body)) (written_out older at m ts))
     by ih true k = (
       opens_graft (arguments d.params ts) (expand (written_out older) d.body) (opens_body (written_out older) (FineCall older) ih d.body k.1 k.2),
       bare_graft (arguments d.params ts) (expand (written_out older) d.body) (bare_expand (written_out older) (FineCall older) ih d.body k.1 b.0),

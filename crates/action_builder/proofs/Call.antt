@@ -59,29 +59,29 @@ alike_of (Ok t) (Err j) h = absurd h
 alike_of (Err k) (Ok u) h = absurd h
 alike_of (Err k) (Err j) h = inr (tt, tt)
 
-alike_trans : (x y z : Outcome State) → Alike x y → Alike y z → Alike x z
+pub alike_trans : (x y z : Outcome State) → Alike x y → Alike y z → Alike x z
 alike_trans x y z (inl e) h = subst (λ w. Alike w z) (sym e) h
 alike_trans x y z (inr b) (inl e) = inr (b.0, subst IsBad e b.1)
 alike_trans x y z (inr b) (inr d) = inr (b.0, d.1)
 
 -- ---- assignments in a row
 
-after_finished : {X : Type 0} (o : Outcome X) (f : X → Outcome State) → after o (λ x. finished (f x)) ≡ finished (o >>= f)
+pub after_finished : {X : Type 0} (o : Outcome X) (f : X → Outcome State) → after o (λ x. finished (f x)) ≡ finished (o >>= f)
 after_finished (Ok x) f = refl
 after_finished (Err k) f = refl
 
-assign_is : (M : Rules) (at : Place) (ms : Assignments) (rest : Statements) (sc : Scope) (f : State → Outcome State) → ((s : State) → run M unlabelled rest sc to_end s ≡ finished (f s)) → (s : State) → run M unlabelled (then (spot at) (assign ms) rest) sc to_end s ≡ finished ((after_assignments M.check ms sc s) >>= f)
+pub assign_is : (M : Rules) (at : Place) (ms : Assignments) (rest : Statements) (sc : Scope) (f : State → Outcome State) → ((s : State) → run M unlabelled rest sc to_end s ≡ finished (f s)) → (s : State) → run M unlabelled (then (spot at) (assign ms) rest) sc to_end s ≡ finished ((after_assignments M.check ms sc s) >>= f)
 assign_is M at ms rest sc f h s = (λ i. after (after_assignments M.check ms sc s) (λ u. h u i)) ∙ after_finished (after_assignments M.check ms sc s) f
 
 -- what the written initial values set, each reading what was set before
-abbrev written_started : Program → Actor → Routine → Scope → (Declaration → Place) → (Declaration → Tree) → List Declaration → State → Outcome State
+abbrev pub written_started : Program → Actor → Routine → Scope → (Declaration → Place) → (Declaration → Tree) → List Declaration → State → Outcome State
 written_started P v p sc place initial [] s = Ok s
 written_started P v p sc place initial (d ∷ ds) s = do
   w ← value_of P.check (initial d) sc s
   u ← set_one P.check (setting (place d) (written P p d.name.word) (local_index v p) w) s
   written_started P v p sc place initial ds u
 
-started_law : (M : Rules) (P : Program) (v : Actor) (p : Routine) (sc : Scope) (place : Declaration → Place) (initial : Declaration → Tree) → M.check ≡ P.check → (ds : List Declaration) → Each (StandsAtPath sc (local_index v p)) (written_all P p ds) → (last : Statements) (f : State → Outcome State) → ((s : State) → run M unlabelled last sc to_end s ≡ finished (f s)) → (s : State) → run M unlabelled (variables_written P p place initial ds last) sc to_end s ≡ finished ((written_started P v p sc place initial ds s) >>= f)
+pub started_law : (M : Rules) (P : Program) (v : Actor) (p : Routine) (sc : Scope) (place : Declaration → Place) (initial : Declaration → Tree) → M.check ≡ P.check → (ds : List Declaration) → Each (StandsAtPath sc (local_index v p)) (written_all P p ds) → (last : Statements) (f : State → Outcome State) → ((s : State) → run M unlabelled last sc to_end s ≡ finished (f s)) → (s : State) → run M unlabelled (variables_written P p place initial ds last) sc to_end s ≡ finished ((written_started P v p sc place initial ds s) >>= f)
 started_law M P v p sc place initial q [] e last f h s = h s
 started_law M P v p sc place initial q (d ∷ ds) e last f h s =
     assign_is M (place d) (one_assignment (name_at (place d) (written P p d.name.word)) (initial d)) (variables_written P p place initial ds last) sc (λ u. (written_started P v p sc place initial ds u) >>= f) (started_law M P v p sc place initial q ds e.1 last f h) s
@@ -97,7 +97,7 @@ started_law M P v p sc place initial q (d ∷ ds) e last f h s =
     set : Value → Outcome State
     set w = set_one P.check (setting (place d) (written P p d.name.word) (local_index v p) w) s
 
-started_same : (P : Program) (v : Actor) (p : Routine) (at : Place) (sc : Scope) (place : Declaration → Place) (initial : Declaration → Tree) → P.check ≡ plain → (ds : List Declaration) → Initials P v p at sc initial ds → (s : State) → AgreeButPlaces (written_started P v p sc place initial ds s) (variables_started P v p at ds s)
+pub started_same : (P : Program) (v : Actor) (p : Routine) (at : Place) (sc : Scope) (place : Declaration → Place) (initial : Declaration → Tree) → P.check ≡ plain → (ds : List Declaration) → Initials P v p at sc initial ds → (s : State) → AgreeButPlaces (written_started P v p sc place initial ds s) (variables_started P v p at ds s)
 started_same P v p at sc place initial c [] k s = refl
 started_same P v p at sc place initial c (d ∷ ds) k s =
     then_same (value_of P.check (initial d) sc s) (initial_value P v p at d.start s) _ _ (k.0 s) (λ w.
@@ -109,7 +109,7 @@ place_is : (t : Tree) (sc : Scope) → ((x : Word) (at : Place) → sc.origin x 
 place_is (node (name x) at ts) sc o = sym (o x at)
 place_is (node m at ts) sc o = refl
 
-arguments_law : (c : Check) (path : List Value) (sc : Scope) → ((x : Word) (at : Place) → sc.origin x at ≡ at) → (xs : List Word) (ts : Trees) → as_many xs ts ≡ true → Each (StandsAtPath sc path) xs → (s : State) → settings c (arguments_assigned xs ts) sc s ≡ (part_values (evals c ts) (sc.env s)) >>= (λ vs. Ok (argument_settings path xs (places_of ts sc) vs))
+pub arguments_law : (c : Check) (path : List Value) (sc : Scope) → ((x : Word) (at : Place) → sc.origin x at ≡ at) → (xs : List Word) (ts : Trees) → as_many xs ts ≡ true → Each (StandsAtPath sc path) xs → (s : State) → settings c (arguments_assigned xs ts) sc s ≡ (part_values (evals c ts) (sc.env s)) >>= (λ vs. Ok (argument_settings path xs (places_of ts sc) vs))
 arguments_law c path sc o [] no_trees m e s = refl
 arguments_law c path sc o [] (tree t ts) m e s = cc
 arguments_law c path sc o (x ∷ xs) no_trees m e s = cc
@@ -121,12 +121,12 @@ arguments_law c path sc o (x ∷ xs) (tree t ts) m e s =
 
 -- ---- the new stack
 
-names_law : (path : List Value) (sc : Scope) (at : Place) (xs : List Word) → Each (StandsAtPath sc path) xs → (s : State) → part_values (evals plain (names_at at xs)) (sc.env s) ≡ all_read at path xs s
+pub names_law : (path : List Value) (sc : Scope) (at : Place) (xs : List Word) → Each (StandsAtPath sc path) xs → (s : State) → part_values (evals plain (names_at at xs)) (sc.env s) ≡ all_read at path xs s
 names_law path sc at [] e s = refl
 names_law path sc at (x ∷ xs) e s = λ i. ((e.0 at s).1 i).value >>= (λ w. names_law path sc at xs e.1 s i >>= (λ ws. Ok (w ∷ ws)))
 
 -- <<front>> \o stack
-abbrev put_before : Place → Value → Value → Outcome Value
+abbrev pub put_before : Place → Value → Value → Outcome Value
 put_before at a b = (sequence_at at a >>= (λ xs. sequence_at at b >>= (λ ys. Ok (seq_from (xs ++ ys))))) >>= (plain at)
 
 before_law : (v : Actor) (sc : Scope) → StandsAtPath sc (index v.self) stack → (at : Place) (s : State) (front : Value) → ((sc.env s).now stack at).value >>= (put_before at (seq_from (front ∷ []))) ≡ (on_stack v at s) >>= (λ frames. Ok (seq_from (front ∷ frames)))
@@ -158,19 +158,19 @@ then_bad : {X : Type 0} (o : Outcome X) (k : Trouble) → IsBad (◌>>=◌ {Y = 
 then_bad (Ok x) k = tt
 then_bad (Err j) k = tt
 
-swap : {X : Type 0} (o : Outcome Value) (p : Outcome X) (F : Value → X → Outcome State) → Alike (o >>= (λ w. p >>= (F w))) (p >>= (λ x. o >>= (λ w. F w x)))
+pub swap : {X : Type 0} (o : Outcome Value) (p : Outcome X) (F : Value → X → Outcome State) → Alike (o >>= (λ w. p >>= (F w))) (p >>= (λ x. o >>= (λ w. F w x)))
 swap (Ok w) p F = inl refl
 swap (Err k) p F = inr (tt, then_bad p k)
 
-each_parts : (Q : Word → Type 0) (P : Program) (p : Routine) (ds es : List Declaration) → Each Q (written_all P p (ds ++ es)) → Each Q (written_all P p ds) × Each Q (written_all P p es)
+pub each_parts : (Q : Word → Type 0) (P : Program) (p : Routine) (ds es : List Declaration) → Each Q (written_all P p (ds ++ es)) → Each Q (written_all P p ds) × Each Q (written_all P p es)
 each_parts Q P p [] es h = (tt, h)
 each_parts Q P p (d ∷ ds) es h = let r = each_parts Q P p ds es h.1 in ((h.0, r.0), r.1)
 
 -- what follows the assignment of the stack and the parameters
-abbrev tail_of : Program → Actor → Routine → Place → State → Outcome State
+abbrev pub tail_of : Program → Actor → Routine → Place → State → Outcome State
 tail_of P v p at u = (variables_started P v p at p.variables u) >>= (set_one P.check (setting at pc (index v.self) (label_value P p (first_label p))))
 
-abbrev written_tail : Program → Actor → Routine → Place → Scope → (Declaration → Place) → (Declaration → Tree) → State → Outcome State
+abbrev pub written_tail : Program → Actor → Routine → Place → Scope → (Declaration → Place) → (Declaration → Tree) → State → Outcome State
 written_tail P v p at sc place initial u = (written_started P v p sc place initial p.variables u) >>= (set_one P.check (setting at pc (index v.self) (label_value P p (first_label p))))
 
 abbrev all_set : Program → Actor → Routine → Place → Trees → Scope → (State → Outcome State) → State → Value → List Value → Outcome State

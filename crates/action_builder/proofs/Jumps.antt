@@ -46,7 +46,7 @@ pc_law M P v at l sc h s q =
 -- ---- a return
 
 -- of the records on the stack
-field_law : (P : Program) (v : Actor) (p : Routine) (sc : Scope) → RoutineStands P v p sc → (at : Place) (x : Word) (s : State)
+pub field_law : (P : Program) (v : Actor) (p : Routine) (sc : Scope) → RoutineStands P v p sc → (at : Place) (x : Word) (s : State)
     → (eval P.check (kept_field at x) (sc.env s)).value ≡ (on_stack v at s) >>= (λ frames. (headed at frames) >>= (λ front. applied at front (text x)))
 field_law P v p sc m at x s =
     then_then (part_values ((λ e. e.now stack at) ∷ []) (sc.env s) >>= (λ us. (called at ((sc.env s).defs (codes "Head")) us).value)) (λ f. Ok (f ∷ [])) (strict_value P.check (select x) at)
@@ -56,7 +56,7 @@ field_law P v p sc m at x s =
     ∙ (λ i. (sym (then_then (read_at at (index v.self) (s stack)) (sequence_at at) (headed at)) i) >>= (λ f. applied at f (text x)))
     ∙ then_then (on_stack v at s) (headed at) (λ f. applied at f (text x))
 
-rest_law : (P : Program) (v : Actor) (p : Routine) (sc : Scope) → RoutineStands P v p sc → (at : Place) (s : State)
+pub rest_law : (P : Program) (v : Actor) (p : Routine) (sc : Scope) → RoutineStands P v p sc → (at : Place) (s : State)
     → (eval P.check (stack_rest at) (sc.env s)).value ≡ (on_stack v at s) >>= (tailed P.check at)
 rest_law P v p sc m at s =
     then_then ((sc.env s).now stack at).value (λ st. Ok (st ∷ [])) (λ us. (called at ((sc.env s).defs (codes "Tail")) us).value)

@@ -25,8 +25,13 @@ pub mod Label
 pub mod Alike
 pub mod ItemPlaces
 pub mod AnyPlace
+pub mod SetAgain
+pub mod Pairs
+pub mod PairLaw
+pub mod PairWritten
 pub mod SingleProcess
 mod Rows
+mod RowsPairs
 mod RowsSample
 pub mod Decided
 pub mod Witness

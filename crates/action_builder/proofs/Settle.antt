@@ -10,7 +10,7 @@ use Rattle.tla_value.specs.laws.Grafting.{In}
 use Rattle.pcal_tree.specs.Algorithm.{Span, Binds, no_binds, one_of, is, Statement, assign, await, print, assert, skip, branch, either, with, while, goto, macro, call, return, Statements, done, then, mark, Branches, no_branches, or}
 use Rattle.pcal_tree.specs.Scope.{State, Scope, bound, test, members, value_of}
 use Rattle.pcal_tree.specs.Assign.{after_assignments}
-use Rattle.pcal_tree.specs.Run.{Course, stops, Has, HasSome, after, at_each, held, Follow, Rules, unlabelled, label_of, run_binds, run_one, run, run_branches, exit_to}
+use Rattle.pcal_tree.specs.Run.{Course, stops, Has, HasSome, after, at_each, held, Follow, Rules, unlabelled, label_of, partner_of, run_binds, run_one, run, run_branches, exit_to}
 use Rattle.action_builder.specs.laws.Settling.{to_end, Stops, EachBind, Callable, TidyOne, Tidy, TidySome, Outcomes, AnyBad, Close, CloseCourses, DoesAsRules}
 use Rattle.action_builder.specs.Settled.{WrittenJumps, jumps_one, jumps, jumps_some, settled_one, settled, settled_some}
 use Rattle.action_builder.specs.laws.Scopes.{Inner}
@@ -117,7 +117,7 @@ by_jump true M here at st st' rest rest' l sc d f h s = subst (λ F. Close (Has 
 by_jump false M here at st st' rest rest' l sc d f h s = f refl s
 
 mutual
-  settle_one : (M : Rules) (W : WrittenJumps) (Fit : Scope → Type 0) (F : Word → Type 0) (g : Callable) → DoesAsRules M W Fit F g → (here l : Word) (at : Span) (st : Statement) (rest : Statements) → TidyOne F g st rest → (sc : Scope) → Fit sc → CloseCourses (run M unlabelled (settled W unlabelled l rest) sc to_end) (run M unlabelled rest sc (exit_to M l)) → CloseCourses (run M unlabelled (settled_one W here (label_of rest l) at st (settled W unlabelled l rest)) sc to_end) (run_one M here at.first st sc (following M rest sc (exit_to M l)))
+  settle_one : (M : Rules) (W : WrittenJumps) (Fit : Scope → Type 0) (F : Word → Type 0) (g : Callable) → DoesAsRules M W Fit F g → (here l : Word) (at : Span) (st : Statement) (rest : Statements) → TidyOne F g st rest → (sc : Scope) → Fit sc → CloseCourses (run M unlabelled (settled W unlabelled l rest) sc to_end) (run M unlabelled rest sc (exit_to M l)) → CloseCourses (run M unlabelled (settled_one W here (label_of rest l) (partner_of rest) at st (settled W unlabelled l rest)) sc to_end) (run_one M here at.first st sc (following M rest sc (exit_to M l)))
   settle_one M W Fit F g d here l at (assign ms) rest t sc fit h s = close_after (after_assignments M.check ms sc s) _ _ h
   settle_one M W Fit F g d here l at (await e) rest t sc fit h s = free_one M unlabelled here at.first (await e) refl sc (following M (settled W unlabelled l rest) sc to_end) (following M rest sc (exit_to M l)) h s
   settle_one M W Fit F g d here l at (print e) rest t sc fit h s = free_one M unlabelled here at.first (print e) refl sc (following M (settled W unlabelled l rest) sc to_end) (following M rest sc (exit_to M l)) h s
@@ -138,7 +138,7 @@ mutual
       close_after (test M.check e sc s) _ _ (λ yes. close_cond yes (run M unlabelled (settled W unlabelled here b) sc to_end) (run M unlabelled (settled W unlabelled l rest) sc to_end) (run M unlabelled b sc (exit_to M here)) (run M unlabelled rest sc (exit_to M l)) s (settle M W Fit F g d unlabelled here b t sc fit s) (h s))
   settle_one M W Fit F g d here l at (goto m) rest t sc fit h s = d.goto m sc fit s
   settle_one M W Fit F g d here l at (macro m ts) rest t sc fit h s = absurd t
-  settle_one M W Fit F g d here l at (call p ts) rest t sc fit h s = d.call at p ts (label_of rest l) sc fit t s
+  settle_one M W Fit F g d here l at (call p ts) rest t sc fit h s = d.call at p ts (label_of rest l) (partner_of rest) sc fit t s
   settle_one M W Fit F g d here l at return rest t sc fit h s = d.return at sc fit s
 
   -- the law

@@ -25,11 +25,11 @@ use Rattle.std.proofs.lemmas.Bool.{both_ways, or_right}
 use Rattle.action_builder.specs.laws.Ready as Ready
 use Rattle.action_builder.specs.laws.Ready.{Settled, Paired, Scoped}
 use Rattle.action_builder.specs.laws.Scopes.{StandsAtPath, Inner, own_scope, own_path, Whole}
-use Rattle.action_builder.specs.laws.Jumps.{RoutineStands, Initials, RoutinesStand, RoutinesStandWithin}
+use Rattle.action_builder.specs.laws.Jumps.{RoutineStands, Initials, RoutinesStand, RoutinesStandWithin, PairStands, PairsStand}
 use Rattle.action_builder.specs.Settled.{settled}
 use Rattle.action_builder.specs.laws.LabelSteps.{prepared_of, IsPrepared, IsReady}
 use Rattle.action_builder.specs.Prepared.{none}
-use Rattle.action_builder.specs.laws.Sample.{macros, unexpanded, program, routine, me, actor, self, variables, own, larger_of_two, variables_env, plain_env, plain_scope, scope, env, any_name, initials, places, step}
+use Rattle.action_builder.specs.laws.Sample.{macros, unexpanded, program, routine, called, me, actor, self, variables, own, larger_of_two, variables_env, plain_env, plain_scope, scope, env, any_name, initials, places, step}
 use Rattle.action_builder.proofs.Names.{each_name}
 use Rattle.action_builder.proofs.Decided.{clear_list, fine_list}
 use Rattle.action_builder.proofs.Prepared.{own_stands}
@@ -39,7 +39,7 @@ use Rattle.action_builder.proofs.Matching.{paired_bound, scoped_bound}
 -- ---- macros
 
 pub sample_calls : Calls (FineCall macros) unexpanded
-sample_calls = (((((tt, tt), (tt, ((tt, tt), ((tt, tt), tt))), tt), tt), (tt, tt), tt), (tt, (tt, (((tt, tt), (tt, tt)), (tt, tt)))))
+sample_calls = (((((tt, tt), (tt, ((tt, tt), ((tt, tt), tt))), tt), tt), (tt, tt), tt, (tt, tt)), (tt, (tt, (((tt, tt), (tt, tt)), (tt, tt)))))
 
 pub sample_bare : BareBodies macros
 sample_bare = ((tt, tt), tt)
@@ -187,3 +187,21 @@ ready = record {
   within = λ x e. cc;
   stands = record { paired = paired_bound any_name variables plain_scope plain_env self me refl paired; scoped = reads };
 }
+
+-- ---- a call of the procedure in itself, with a return
+
+-- its own initial value is a number
+pub pairs_stand : PairsStand program actor called
+pairs_stand x p e = subst (PairStands program actor called) (some_is (bytes_eq (codes "P") x) called p e) own_call
+  where
+    own_call : PairStands program actor called called
+    own_call = record {
+      same = λ n. refl;
+      pc_of_u = (refl, (refl, tt));
+      pc_of_p = (refl, (refl, tt));
+      stack_of_u = (refl, (refl, tt));
+      stack_of_p = (refl, (refl, tt));
+      apart = λ n. cc;
+      once = ((refl, tt), (tt, tt));
+      initials = λ at. (((λ w s. refl), ((λ w s. refl), tt)), tt);
+    }

@@ -1,9 +1,10 @@
 -- The assignments that are written for jumps and returns, and for calls ("A PlusCal User's Manual", sections 3.2.9 and 3.4).
-use Rattle.std.specs.Prelude.{List, [], ◌∷◌, codes, Some, Option, None}
+use Rattle.std.specs.Prelude.{List, [], ◌∷◌, codes, nat_eq, cond, Some, Option, None}
 use Rattle.tla_token.specs.declared.place.Place.{Place}
 use Rattle.tla_expr.specs.declared.op.Op.TheVariants.{Concat}
 use Rattle.tla_expr.specs.Tree.{Word, string, name, operator_call, strict, operator, tuple, fields, select, Tree, node, Trees, no_trees, tree, root_place}
 use Rattle.pcal_tree.specs.Algorithm.{Span, Declaration, Routine, locals, Assignments, no_assignments, assignment, Statements, done, then, assign, procedure_routines, either, no_branches}
+use Rattle.pcal_tree.specs.Run.{Partner, no_partner, goto_partner, return_partner}
 use Rattle.pcal_tree.specs.Program.{Program, written}
 use Rattle.pcal_tree.specs.Calls.{label_name, first_label, frame_fields, named}
 use Rattle.action_builder.specs.Settled.{WrittenJumps}
@@ -56,13 +57,16 @@ abbrev pub names_at : Place → List Word → Trees
 names_at at [] = no_trees
 names_at at (x ∷ xs) = tree (name_at at x) (names_at at xs)
 
+-- <<[procedure |-> "P", pc |-> back, x |-> kept, ..]>> \o rest
+abbrev pub pushed_on : Program → Routine → Place → Tree → Trees → Tree → Tree
+pushed_on P p at back kept rest =
+    node (strict (operator Concat)) at (tree
+    (node (strict tuple) at (tree (node (strict (fields (frame_fields P p))) at (tree (text_at at (P.naming.title p.number)) (tree back kept))) no_trees))
+    (tree rest no_trees))
+
 -- <<[procedure |-> "P", pc |-> "L", x |-> x, ..]>> \o stack
 abbrev pub stack_pushed : Program → Routine → Place → Word → Tree
-stack_pushed P p at back =
-    node (strict (operator Concat)) at (tree
-    (node (strict tuple) at (tree
-    (node (strict (fields (frame_fields P p))) at (tree (text_at at (P.naming.title p.number)) (tree (text_at at back) (names_at at (written_all P p (locals p))))))
-    no_trees)) (tree (name_at at stack) no_trees))
+stack_pushed P p at back = pushed_on P p at (text_at at back) (names_at at (written_all P p (locals p))) (name_at at stack)
 
 -- a parameter for each argument, at the argument's place
 abbrev pub arguments_assigned : List Word → Trees → Assignments
@@ -81,6 +85,35 @@ call_written P p at ts back place initial =
     then (spot at) (assign (assignment (name_at at stack) (stack_pushed P p at back) (arguments_assigned (written_all P p p.params) ts)))
     (variables_written P p place initial p.variables (jump_written at (label_name P p (first_label p))))
 
+-- ---- a call that is one statement with a return
+
+abbrev pub kept_fields : Place → List Word → Trees
+kept_fields at [] = no_trees
+kept_fields at (x ∷ xs) = tree (kept_field at x) (kept_fields at xs)
+
+-- the values that the record keeps: where p is the returning procedure u itself, those of the record that is taken off
+abbrev pub values_kept : Program → Routine → Routine → Place → Place → Trees
+values_kept P u p at end = cond (nat_eq u.number p.number) (kept_fields end (written_all P u (locals u))) (names_at at (written_all P p (locals p)))
+
+-- <<[procedure |-> "P", pc |-> Head(stack).pc, x |-> .., ..]>> \o Tail(stack)
+abbrev pub stack_replaced : Program → Routine → Routine → Place → Place → Tree
+stack_replaced P u p at end = pushed_on P p at (kept_field end pc) (values_kept P u p at end) (stack_rest end)
+
+-- assignments with others after them
+abbrev pub and_also : Assignments → Assignments → Assignments
+and_also no_assignments ns = ns
+and_also (assignment l e ms) ns = assignment l e (and_also ms ns)
+
+-- what the return restores, where p is another procedure
+abbrev pub others_restored : Program → Routine → Routine → Place → Assignments
+others_restored P u p end = cond (nat_eq u.number p.number) no_assignments (fields_restored end (written_all P u (locals u)) no_assignments)
+
+-- the stack, the parameters of p and what the return restores in one assignment, then the variables of p, then pc
+abbrev pub pair_written : Program → Routine → Routine → Place → Place → Trees → (Declaration → Place) → (Declaration → Tree) → Statements
+pair_written P u p at end ts place initial =
+    then (spot at) (assign (assignment (name_at at stack) (stack_replaced P u p at end) (and_also (arguments_assigned (written_all P p p.params) ts) (others_restored P u p end))))
+    (variables_written P p place initial p.variables (jump_written at (label_name P p (first_label p))))
+
 -- ---- of a routine
 
 -- the written initial values of a procedure's variables, and their places
@@ -94,15 +127,21 @@ pub record JumpPlaces : Type 0 where
   pub call : Span → Place
   pub return : Span → Place
 
+-- a call of p in the routine u
+abbrev pub call_with : Program → Routine → InitialValues → JumpPlaces → Span → Trees → Word → Partner → Routine → Statements
+call_with P u I places at ts l no_partner p = call_written P p (places.call at) ts (label_name P u l) (I.place p) (I.initial p)
+call_with P u I places at ts l (goto_partner m) p = call_written P p (places.call at) ts (label_name P u m) (I.place p) (I.initial p)
+call_with P u I places at ts l (return_partner end) p = pair_written P u p (places.call at) (places.return end) ts (I.place p) (I.initial p)
+
 -- a call of no procedure can't be taken
-abbrev pub call_to : Program → InitialValues → Place → Trees → Word → Option Routine → Statements
-call_to P I at ts back None = then (spot at) (either no_branches) done
-call_to P I at ts back (Some p) = call_written P p at ts back (I.place p) (I.initial p)
+abbrev pub call_to : Program → Routine → InitialValues → JumpPlaces → Span → Trees → Word → Partner → Option Routine → Statements
+call_to P u I places at ts l j None = then (spot (places.call at)) (either no_branches) done
+call_to P u I places at ts l j (Some p) = call_with P u I places at ts l j p
 
 -- they are the same for all processes
 abbrev pub written_jumps : Program → Routine → InitialValues → JumpPlaces → WrittenJumps
 written_jumps P u I places = record {
   goto = λ l. jump_written places.goto (label_name P u l);
-  call = λ at p ts l. call_to P I (places.call at) ts (label_name P u l) (named p.word (procedure_routines P.algorithm));
+  call = λ at p ts l j. call_to P u I places at ts l j (named p.word (procedure_routines P.algorithm));
   return = λ at. return_written P u (places.return at);
 }

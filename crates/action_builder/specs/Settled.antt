@@ -2,12 +2,12 @@
 use Rattle.std.specs.Prelude.{Bool, true, false, cond, ◌||◌}
 use Rattle.tla_expr.specs.Tree.{Word, Trees}
 use Rattle.pcal_tree.specs.Algorithm.{Name, Span, Statement, assign, await, print, assert, skip, branch, either, with, while, goto, call, return, Statements, done, then, mark, Branches, no_branches, or}
-use Rattle.pcal_tree.specs.Run.{unlabelled, label_of}
+use Rattle.pcal_tree.specs.Run.{unlabelled, label_of, Partner, partner_of}
 
--- the assignments that stand for a jump to a label, a call that returns to a label, and a return
+-- the assignments that stand for a jump to a label, a call with the label that it keeps and its partner, and a return
 pub record WrittenJumps : Type 0 where
   pub goto : Word → Statements
-  pub call : Span → Name → Trees → Word → Statements
+  pub call : Span → Name → Trees → Word → Partner → Statements
   pub return : Span → Statements
 
 abbrev mutual
@@ -31,23 +31,23 @@ abbrev mutual
   jumps_some no_branches = false
   jumps_some (or b bs) = jumps b || jumps_some bs
 
--- `here`: the label at which the statement or list is; l: the label of what follows; rest: what follows, settled
+-- `here`: the label at which the statement or list is; l: the label of what follows; j: its partner, if it is a call; rest: what follows, settled
 abbrev mutual
-  pub settled_one : WrittenJumps → Word → Word → Span → Statement → Statements → Statements
-  settled_one W here l at (goto m) rest = W.goto m
-  settled_one W here l at (call p ts) rest = W.call at p ts l
-  settled_one W here l at return rest = W.return at
-  settled_one W here l at (branch e a b) rest =
+  pub settled_one : WrittenJumps → Word → Word → Partner → Span → Statement → Statements → Statements
+  settled_one W here l j at (goto m) rest = W.goto m
+  settled_one W here l j at (call p ts) rest = W.call at p ts l j
+  settled_one W here l j at return rest = W.return at
+  settled_one W here l j at (branch e a b) rest =
       cond (jumps a || jumps b) (then at (branch e (settled W unlabelled l a) (settled W unlabelled l b)) done) (then at (branch e a b) rest)
-  settled_one W here l at (either bs) rest = cond (jumps_some bs) (then at (either (settled_some W l bs)) done) (then at (either bs) rest)
-  settled_one W here l at (with bs b) rest = cond (jumps b) (then at (with bs (settled W unlabelled l b)) done) (then at (with bs b) rest)
-  settled_one W here l at (while e b) rest = then at (branch e (settled W unlabelled here b) rest) done
-  settled_one W here l at st rest = then at st rest
+  settled_one W here l j at (either bs) rest = cond (jumps_some bs) (then at (either (settled_some W l bs)) done) (then at (either bs) rest)
+  settled_one W here l j at (with bs b) rest = cond (jumps b) (then at (with bs (settled W unlabelled l b)) done) (then at (with bs b) rest)
+  settled_one W here l j at (while e b) rest = then at (branch e (settled W unlabelled here b) rest) done
+  settled_one W here l j at st rest = then at st rest
 
   -- l: the exit
   pub settled : WrittenJumps → Word → Word → Statements → Statements
   settled W here l done = W.goto l
-  settled W here l (then at st rest) = settled_one W here (label_of rest l) at st (settled W unlabelled l rest)
+  settled W here l (then at st rest) = settled_one W here (label_of rest l) (partner_of rest) at st (settled W unlabelled l rest)
   settled W here l (mark m k rest) = W.goto m.word
 
   pub settled_some : WrittenJumps → Word → Branches → Branches

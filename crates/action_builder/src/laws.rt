@@ -30,7 +30,7 @@ ghost use Rattle.action_builder.specs.laws.Ready.{LeftSides, Readable, holds_on}
 ghost use Rattle.action_builder.specs.laws.Scopes.{IsPlain as Plain, Inner, StandsAtPath, own_scope, own_path, Whole};
 ghost use Rattle.action_builder.specs.laws.Settling.{to_end, Callable, Tidy, CloseCourses, DoesAsRules};
 ghost use Rattle.action_builder.specs.Jumps.{InitialValues, JumpPlaces, written_jumps};
-ghost use Rattle.action_builder.specs.laws.Jumps.{callable, RoutinesStandWithin};
+ghost use Rattle.action_builder.specs.laws.Jumps.{callable, callable_in_pairs, RoutinesStandWithin, PairsStand};
 ghost use Rattle.action_builder.specs.Settled.{WrittenJumps, settled};
 ghost use Rattle.action_builder.specs.laws.LabelSteps.{LabelStep, prepared_of, items_of, action_of, IsPrepared, IsReady, EndsIn, IsTroubled, StepsTo, MeetsTrouble};
 ghost use Rattle.action_builder.specs.Prepared.{none};
@@ -82,10 +82,13 @@ pub fn settled_statements_have_the_same_ends()
 {}
 
 /// The assignments written for the jumps, calls and returns of a routine, at any places, which are the same for all
-/// processes, do what the rules of a step say.
+/// processes, do what the rules of a step say; so do those for a call that is one statement with a `return`, where
+/// written names are apart and the initial values of a procedure's variables rest on nothing that is set later.
 pub fn written_jumps_do_what_the_rules_say()
-    ensures { (P : Program) (v : Actor) (u : Routine) (I : InitialValues) (places : JumpPlaces) (f : Word → Bool) (sc : Scope) → P.check ≡ plain → RoutinesStandWithin P v u I f sc
+    ensures calls { (P : Program) (v : Actor) (u : Routine) (I : InitialValues) (places : JumpPlaces) (f : Word → Bool) (sc : Scope) → P.check ≡ plain → RoutinesStandWithin P v u I f sc
         → DoesAsRules (rules_without_macros P v u) (written_jumps P u I places) (Inner f sc) (In f) (callable P) }
+    ensures pairs { (P : Program) (v : Actor) (u : Routine) (I : InitialValues) (places : JumpPlaces) (f : Word → Bool) (sc : Scope) → P.check ≡ plain → RoutinesStandWithin P v u I f sc
+        → PairsStand P v u → DoesAsRules (rules_without_macros P v u) (written_jumps P u I places) (Inner f sc) (In f) (callable_in_pairs P) }
 {}
 
 /// With the variables of a process written as functions of its identifier, statements take the courses that they
@@ -127,10 +130,12 @@ pub fn written_out_steps_begin_alike()
 {}
 
 /// The sample step meets all that these laws ask. It has a macro call, an assignment to a variable of its process, a
-/// definition beside variables of its parameters' names, an `await` with a bound name, a jump and a call.
+/// definition beside variables of its parameters' names, an `await` with a bound name, a jump and a call; and its procedure
+/// may call itself in one statement with a return.
 pub fn the_sample_step_meets_all_that_is_asked()
     ensures expanded { Calls (FineCall sample.macros) sample.unexpanded × BareBodies sample.macros }
     ensures jumps { RoutinesStandWithin sample.program sample.actor sample.routine sample.initials sample.step.names (own_scope plain sample.self sample.own sample.scope) }
+    ensures pairs { PairsStand sample.program sample.actor sample.called }
     ensures prepared { IsPrepared sample.step }
     ensures ready { IsReady sample.any_name sample.variables sample.env none sample.step }
 {}

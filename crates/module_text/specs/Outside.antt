@@ -5,15 +5,14 @@ use Rattle.tla_token.specs.declared.place.Place.{Place}
 use Rattle.tla_token.specs.Places.{start}
 use Rattle.tla_token.specs.Signs.{is_among}
 use Rattle.tla_token.specs.Words.{is_standard}
-use Rattle.tla_expr.specs.declared.op.Op.{Op}
-use Rattle.tla_expr.specs.declared.op.Op.TheVariants as op
-use Rattle.tla_expr.specs.Tree.{Word, Name, Form, number, strings, name, next, strict, operator, operator_call, member, binding, local, Tree, node, Trees, no_trees, tree, words, seen_names}
+use Rattle.tla_expr.specs.Tree.{Word, Name, Form, number, strings, name, next, strict, operator, operator_call, binding, local, Tree, node, Trees, no_trees, tree, words, seen_names}
 use Rattle.tla_expr.specs.Lexical.{TokenView, Token, mark}
 use Rattle.tla_expr.specs.Lexical as tk
 use Rattle.tla_expr.specs.Spelling.{Phrase, Right, Good, tree_of}
 use Rattle.tla_expr.specs.Nesting.{text_nesting}
 use Rattle.tla_value.specs.Definitions.{Definition}
 use Rattle.tla_value.specs.Outside.{Opaque, ReadDefinition}
+use Rattle.tla_value.specs.StandardModules.{extends_one, has_operator, StandardName, standard_table, standard_in, is_member, is_last}
 use Rattle.module_text.specs.Module.{OutsideUnit, extends, constants, defines, opaque, definitions_of, found}
 use Rattle.module_text.specs.Grammar.{keyword, Names, spell_names, names_of, GoodNames}
 use Rattle.module_text.specs.Units.{ParameterForm, parameters, GoodParameters, definition_form, spell_unit}
@@ -24,51 +23,15 @@ pub record Sight : Type 0 where
   pub constants : List Word  -- those declared anywhere in it
   pub earlier : List Definition  -- those read before
 
--- ---- operators of standard modules
+-- ---- names of standard modules
 
-abbrev pub extends_one : Sight → List Word → Bool
-extends_one v [] = false
-extends_one v (m ∷ ms) = is_among v.modules m || extends_one v ms
+-- with n arguments; an infinite set stands only where it may
+abbrev pub standard_reads : Sight → Bool → Option StandardName → ℕ → Bool
+standard_reads v inf None n = false
+standard_reads v inf (Some d) n = nat_eq d.arity n && (extends_one v.modules d.modules && (inf || not d.infinite))
 
-abbrev pub has_numbers : Sight → Bool
-has_numbers v = extends_one v (codes "Naturals" ∷ codes "Integers" ∷ [])
-
-abbrev pub has_sequences : Sight → Bool
-has_sequences v = extends_one v (codes "Sequences" ∷ [])
-
-abbrev pub has_tlc : Sight → Bool
-has_tlc v = extends_one v (codes "TLC" ∷ [])
-
-abbrev pub has_operator : Sight → Op → Bool
-has_operator v op.Plus = has_numbers v
-has_operator v op.Minus = has_numbers v
-has_operator v op.Times = has_numbers v
-has_operator v op.Divide = has_numbers v
-has_operator v op.Modulo = has_numbers v
-has_operator v op.Range = has_numbers v
-has_operator v op.Less = has_numbers v
-has_operator v op.Greater = has_numbers v
-has_operator v op.AtMost = has_numbers v
-has_operator v op.AtLeast = has_numbers v
-has_operator v op.Negate = extends_one v (codes "Integers" ∷ [])
-has_operator v op.Concat = has_sequences v
-has_operator v op.MapsTo = has_tlc v
-has_operator v op.Override = has_tlc v
-has_operator v _ = true
-
--- f is a standard operator of n arguments; Seq stands only where a set may be infinite
 abbrev pub has_standard : Sight → Bool → Word → ℕ → Bool
-has_standard v inf f n =
-    (nat_eq n 1 && (has_sequences v && is_among (codes "Len" ∷ codes "Head" ∷ codes "Tail" ∷ []) f))
-    || ((nat_eq n 2 && (has_sequences v && bytes_eq f (codes "Append")))
-    || ((nat_eq n 3 && (has_sequences v && bytes_eq f (codes "SubSeq")))
-    || ((nat_eq n 1 && (has_sequences v && (inf && bytes_eq f (codes "Seq"))))
-    || ((nat_eq n 1 && (extends_one v (codes "FiniteSets" ∷ []) && is_among (codes "Cardinality" ∷ codes "IsFiniteSet" ∷ []) f))
-    || ((nat_eq n 1 && (has_tlc v && bytes_eq f (codes "PrintT")))
-    || (nat_eq n 2 && (has_tlc v && bytes_eq f (codes "Assert"))))))))
-
-abbrev pub has_infinite : Sight → Word → Bool
-has_infinite v x = (has_numbers v && bytes_eq x (codes "Nat")) || (extends_one v (codes "Integers" ∷ []) && bytes_eq x (codes "Int"))
+has_standard v inf f n = standard_reads v inf (standard_in standard_table f) n
 
 -- how many parameters the last definition of that name has
 abbrev pub arity : List Definition → Word → Option ℕ
@@ -106,21 +69,13 @@ count (tree t ts) = count ts + 1
 abbrev pub form_reads : Sight → List Word → Bool → Form → ℕ → Bool
 form_reads v bs inf (number k) n = nat_lt k (2 ^ 127)
 form_reads v bs inf strings n = inf
-form_reads v bs inf (name x) n = is_among bs x || (is_among v.constants x || (is_arity (arity v.earlier x) 0 || (inf && has_infinite v x)))
+form_reads v bs inf (name x) n = is_among bs x || (is_among v.constants x || (is_arity (arity v.earlier x) 0 || has_standard v inf x 0))
 form_reads v bs inf (next x) n = false
 form_reads v bs inf (operator_call f) n = is_arity (arity v.earlier f) n || has_standard v inf f n
-form_reads v bs inf (strict (operator o)) n = has_operator v o
+form_reads v bs inf (strict (operator o)) n = has_operator v.modules o
 form_reads v bs inf (binding b groups) n = are_fresh v bs (flat_map words groups)
 form_reads v bs inf (local xs) n = are_fresh v bs (words xs)
 form_reads v bs inf _ n = true
-
-abbrev pub is_member : Form → Bool
-is_member (member b) = true
-is_member _ = false
-
-abbrev pub is_last : Trees → Bool
-is_last no_trees = true
-is_last (tree t ts) = false
 
 abbrev mutual
   pub tree_reads : Sight → List Word → Bool → Tree → Bool

@@ -1,14 +1,13 @@
 -- The labels that are added rest on what calls assign, and not on how that is computed.
 use Rattle.std.proofs.Common.{◌≡◌, List, [], ◌∷◌, ◌++◌, Bool, true, false, ◌&&◌, ◌||◌, not, cond, codes, Option, Some, None, reverse, refl, ◌∙◌, ap}
-use Rattle.tla_token.specs.declared.place.Place.{Place}
 use Rattle.tla_token.specs.declared.rule.Rule.{Rule}
 use Rattle.tla_token.specs.declared.rule.Rule.TheVariants.{FirstLabel}
-use Rattle.tla_token.specs.declared.rule.Refusal.{Refusal}
 use Rattle.tla_expr.specs.Tree.{Word, Trees}
 use Rattle.pcal_tree.specs.Algorithm.{Span, Statement, assign, await, print, assert, skip, branch, either, with, while, goto, macro, call, return, Statements, done, then, mark, Branches, no_branches, or, Macro, Procedure, Process, Main, alone, processes, Algorithm}
+use Rattle.pcal_tree.specs.Run.{Partner, partner_of}
 use Rattle.pcal_tree.specs.Paths.{Effect, Effects, Path, after_one}
 use Rattle.pcal_tree.specs.Variables.{declared}
-use Rattle.pcal_tree.specs.OffencesSteps.{Before, due_after, inside, next, offences_at, call_effect, procedure_effects, outer_effects}
+use Rattle.pcal_tree.specs.OffencesSteps.{Before, due_after, inside, next, call_effect, procedure_effects, outer_effects}
 use Rattle.pcal_tree.specs.Labelled.{Supply, names_after, is_empty, labelled_if, inside_needs, needs_label, before, add_inside, add, add_some, add_to_macros, add_to_procedures, add_to_processes, add_to_main, typed_labels, with_labels, is_alone, labelled, labelled_by}
 use Rattle.pcal_tree.specs.laws.MacroSummaries.{summaries, summary_effect}
 use Rattle.pcal_tree.proofs.SummaryLaws.{Agreeing, calls_agree}
@@ -19,15 +18,15 @@ needs_inside : (E F : Effects) → AgreeAll E F → (l : Bool) (r : Option Rule)
 needs_inside E F a l r p q k (with bs b) = inside_alike E F a (with bs b) l r p q k
 needs_inside E F a l r p q k st = refl
 
-needs_alike : (E F : Effects) → AgreeAll E F → (l : Bool) (r : Option Rule) (p q : Path) → Alike p q → (at : Span) (st : Statement)
-    → needs_label E (At l r p) at st ≡ needs_label F (At l r q) at st
-needs_alike E F a l r p q k at st =
-    λ i. not l && not (is_empty (here_alike E F a l r p q k at.first st i ++ needs_inside E F a l r p q k st i))
+needs_alike : (E F : Effects) → AgreeAll E F → (l : Bool) (r : Option Rule) (p q : Path) → Alike p q → (at : Span) (st : Statement) (j : Partner)
+    → needs_label E (At l r p) at st j ≡ needs_label F (At l r q) at st j
+needs_alike E F a l r p q k at st j =
+    λ i. not l && not (is_empty (here_alike E F a l r p q k at.first st j i ++ needs_inside E F a l r p q k st i))
 
 -- a statement before others, with a label before it or none
 abbrev With : {R : Type 0} → Effects → Bool → Before → Supply → Span → Statement → Statements → (Statements → Supply → R) → R
 With E n b s at st rest go =
-    add_inside E (before n b) (names_after n s) st (λ st' t. add E (next E (before n b) st') t rest (λ r u. go (labelled_if n s at.first (then at st' r)) u))
+    add_inside E (before n b) (names_after n s) st (λ st' t. add E (next E (before n b) st' (partner_of rest)) t rest (λ r u. go (labelled_if n s at.first (then at st' r)) u))
 
 mutual
   inside_added : {R : Type 0} (E F : Effects) → AgreeAll E F → (st : Statement) (l : Bool) (r : Option Rule) (p q : Path) → Alike p q
@@ -57,14 +56,14 @@ mutual
   all_added E F a (mark n m rest) l r p q k s go to same =
       all_added E F a rest true None (Some []) (Some []) (λ f. refl) s _ _ (λ c t. same (mark n m c) t)
   all_added E F a (then at st rest) l r p q k s go to same =
-      elim (needs_label E (At l r p) at st) as (λ n. With E n (At l r p) s at st rest go ≡ With F n (At l r q) s at st rest to) [
+      elim (needs_label E (At l r p) at st (partner_of rest)) as (λ n. With E n (At l r p) s at st rest go ≡ With F n (At l r q) s at st rest to) [
         | true ↦ inside_added E F a st true None (Some []) (Some []) (λ f. refl) (names_after true s) _ _
-            (λ st' t. all_added E F a rest false (due_after st') (after_one E st' true (Some [])) (after_one F st' true (Some []))
+            (λ st' t. all_added E F a rest false (due_after st' (partner_of rest)) (after_one E st' true (Some [])) (after_one F st' true (Some []))
             (alike_after_one E F a st' true (Some []) (Some []) (λ f. refl)) t _ _ (λ c u. same (labelled_if true s at.first (then at st' c)) u))
         | false ↦ inside_added E F a st l r p q k (names_after false s) _ _
-            (λ st' t. all_added E F a rest false (due_after st') (after_one E st' l p) (after_one F st' l q)
+            (λ st' t. all_added E F a rest false (due_after st' (partner_of rest)) (after_one E st' l p) (after_one F st' l q)
             (alike_after_one E F a st' l p q k) t _ _ (λ c u. same (labelled_if false s at.first (then at st' c)) u))
-      ] ∙ ap (λ (n : Bool). With F n (At l r q) s at st rest to) (needs_alike E F a l r p q k at st)
+      ] ∙ ap (λ (n : Bool). With F n (At l r q) s at st rest to) (needs_alike E F a l r p q k at st (partner_of rest))
 
   some_added : {R : Type 0} (E F : Effects) → AgreeAll E F → (bs : Branches) (p q : Path) → Alike p q
       → (s : Supply) (go to : Branches → Supply → R) → ((c : Branches) (t : Supply) → go c t ≡ to c t)

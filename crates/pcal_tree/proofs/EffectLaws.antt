@@ -11,8 +11,9 @@ use Rattle.tla_expr.specs.Tree.{Word, Trees}
 use Rattle.pcal_tree.specs.Algorithm.{Name, Statement, assign, await, print, assert, skip, branch, either, with, while, goto, macro, call, return, Statements, done, then, mark, Branches, no_branches, or, Procedure, Main, alone, processes, Algorithm}
 use Rattle.pcal_tree.specs.Variables.{declared}
 use Rattle.pcal_tree.specs.Offences.{offence_if}
+use Rattle.pcal_tree.specs.Run.{Partner, return_partner, partner_of}
 use Rattle.pcal_tree.specs.Paths.{Effect, Effects, Path, joined, after_one, after, after_some, has_assigned}
-use Rattle.pcal_tree.specs.OffencesSteps.{Before, due_after, inside, Visit, visits_inside, visits, visits_of_some, missing_label, offences_at, call_effect, effects_in, missing_in_body}
+use Rattle.pcal_tree.specs.OffencesSteps.{Before, due_after, inside, Visit, visits_inside, visits, visits_of_some, missing_label, effect_with, offences_at, call_effect, effects_in, missing_in_body}
 use Rattle.pcal_tree.specs.OffencesLabels.{misplaced, of_macro, of_procedure, of_body, of_main, label_offences, label_offences_by}
 use Rattle.pcal_tree.specs.laws.MacroSummaries.{summaries, summary_effect}
 use Rattle.pcal_tree.proofs.SetLaws.{Same, same_both, meets_same, Agree}
@@ -94,10 +95,15 @@ Listed E vs = flat_map (offences_at E) vs
 listed_both : (E F : Effects) (vs ws us xs : List Visit) → Listed E vs ≡ Listed F us → Listed E ws ≡ Listed F xs → Listed E (vs ++ ws) ≡ Listed F (us ++ xs)
 listed_both E F vs ws us xs h k = flat_map-append (offences_at E) vs ws ∙ (λ i. h i ++ k i) ∙ sym (flat_map-append (offences_at F) us xs)
 
-pub here_alike : (E F : Effects) → AgreeAll E F → (l : Bool) (r : Option Rule) (p q : Path) → Alike p q → (at : Place) (st : Statement)
-    → offences_at E (record { before = At l r p; place = at; statement = st }) ≡ offences_at F (record { before = At l r q; place = at; statement = st })
-here_alike E F a l r p q k at st =
-    ap (λ (b : Bool). missing_label (record { before = At l r p; place = at; statement = st }) ++ offence_if b AssignTwice at) (alike_assign p q (E st) (F st) k (a st))
+with_alike : (E F : Effects) → AgreeAll E F → (st : Statement) (j : Partner) → Agree (effect_with E st j) (effect_with F st j)
+with_alike E F a (call p ts) (return_partner at) = a return
+with_alike E F a st j = a st
+
+pub here_alike : (E F : Effects) → AgreeAll E F → (l : Bool) (r : Option Rule) (p q : Path) → Alike p q → (at : Place) (st : Statement) (j : Partner)
+    → offences_at E (record { before = At l r p; place = at; statement = st; partner = j }) ≡ offences_at F (record { before = At l r q; place = at; statement = st; partner = j })
+here_alike E F a l r p q k at st j =
+    ap (λ (b : Bool). missing_label (record { before = At l r p; place = at; statement = st; partner = j }) ++ offence_if b AssignTwice at)
+    (alike_assign p q (effect_with E st j) (effect_with F st j) k (with_alike E F a st j))
 
 mutual
   pub inside_alike : (E F : Effects) → AgreeAll E F → (st : Statement) (l : Bool) (r : Option Rule) (p q : Path) → Alike p q
@@ -124,12 +130,12 @@ mutual
   all_alike E F a done l r p q k = refl
   all_alike E F a (mark n m rest) l r p q k = all_alike E F a rest true None (Some []) (Some []) (λ f. refl)
   all_alike E F a (then at st rest) l r p q k =
-      let more : Listed E (visits_inside E (At l r p) st ++ visits E (At false (due_after st) (after_one E st l p)) rest) ≡ Listed F (visits_inside F (At l r q) st ++ visits F (At false (due_after st) (after_one F st l q)) rest) =
-      listed_both E F (visits_inside E (At l r p) st) (visits E (At false (due_after st) (after_one E st l p)) rest)
-      (visits_inside F (At l r q) st) (visits F (At false (due_after st) (after_one F st l q)) rest)
+      let more : Listed E (visits_inside E (At l r p) st ++ visits E (At false (due_after st (partner_of rest)) (after_one E st l p)) rest) ≡ Listed F (visits_inside F (At l r q) st ++ visits F (At false (due_after st (partner_of rest)) (after_one F st l q)) rest) =
+      listed_both E F (visits_inside E (At l r p) st) (visits E (At false (due_after st (partner_of rest)) (after_one E st l p)) rest)
+      (visits_inside F (At l r q) st) (visits F (At false (due_after st (partner_of rest)) (after_one F st l q)) rest)
       (inside_alike E F a st l r p q k)
-      (all_alike E F a rest false (due_after st) (after_one E st l p) (after_one F st l q) (alike_after_one E F a st l p q k)) in
-      λ i. here_alike E F a l r p q k at.first st i ++ more i
+      (all_alike E F a rest false (due_after st (partner_of rest)) (after_one E st l p) (after_one F st l q) (alike_after_one E F a st l p q k)) in
+      λ i. here_alike E F a l r p q k at.first st (partner_of rest) i ++ more i
 
   some_alike : (E F : Effects) → AgreeAll E F → (bs : Branches) (p q : Path) → Alike p q
       → Listed E (visits_of_some E (inside p) bs) ≡ Listed F (visits_of_some F (inside q) bs)

@@ -8,11 +8,11 @@ use Rattle.pcal_tree.specs.Algorithm.{Name, Span, Binds, no_binds, one_of, is, S
 use Rattle.pcal_tree.specs.Scope.{State, Scope, bound, places_of, reach_in, through, value_of, test, members}
 use Rattle.tla_value.specs.declared.fault.FaultKind.TheVariants.{AssertFailed}
 use Rattle.pcal_tree.specs.Assign.{after_assignments}
-use Rattle.pcal_tree.specs.Run.{Course, chooses, course, held, stops, after, at_each, Follow, Rules, unlabelled, label_of, run_binds, run_one, run, run_branches, arguments, Calling, with_calls, called, with_macros}
-use Rattle.pcal_tree.specs.Expand.{graft_all, joined, Writing, expand_one, expand, expand_some, written_out, expanded}
+use Rattle.pcal_tree.specs.Run.{Course, chooses, course, held, stops, after, at_each, no_partner, partner_of, Follow, Rules, unlabelled, label_of, run_binds, run_one, run, run_branches, arguments, Calling, with_calls, called, with_macros}
+use Rattle.pcal_tree.specs.Expand.{graft_one, graft_all, joined, Writing, expand_one, expand, expand_some, written_out, expanded}
 use Rattle.pcal_tree.proofs.GraftRuns.{Meets, graft_runs}
 use Rattle.tla_value.specs.Value.{fault}
-use Rattle.pcal_tree.specs.laws.Expansion.{Calls, CallsOne, CallsSome, Chosen, Throughout, FineCall, AnyPlace, BeginsUnlabelled}
+use Rattle.pcal_tree.specs.laws.Expansion.{Calls, CallsOne, CallsSome, Chosen, Throughout, FineCall, AnyPlace, BeginsUnlabelled, StaysOne, Stays}
 use Rattle.tla_value.specs.laws.Grafting.{Apart, ApartForm}
 use Rattle.pcal_tree.proofs.Uncaptured.{uncaptured}
 
@@ -40,30 +40,71 @@ through_free c ps ts sc free x at p s = (λ i. reach_in c (same_argument ps ts x
 
 -- what follows a list: the rest, and then K
 abbrev pub following : Rules → Statements → Scope → Follow → Follow
-following M rest sc K = record { label = label_of rest K.label; goes = run M unlabelled rest sc K }
+following M rest sc K = record { label = label_of rest K.label; partner = partner_of rest; goes = run M unlabelled rest sc K }
 
 join_label : (a b : Statements) (l : Word) → label_of (joined a b) l ≡ label_of a (label_of b l)
 join_label done b l = refl
 join_label (then at st a) b l = refl
 join_label (mark m k a) b l = refl
 
-pub join_runs : (M : Rules) (a b : Statements) (sc : Scope) (K : Follow) → run M unlabelled (joined a b) sc K ≡ run M unlabelled a sc (following M b sc K)
-join_runs M done b sc K = refl
-join_runs M (then at st a) b sc K = λ i. run_one M unlabelled at.first st sc (record { label = join_label a b K.label i; goes = join_runs M a b sc K i })
-join_runs M (mark l k a) b sc K = refl
+-- what follows a list has its label and the rest of the step, and nothing else of it matters
+mutual
+  part_unread : (M : Rules) (here : Word) (at : Place) (st : Statement) → StaysOne st → (sc : Scope) (K L : Follow) → K.label ≡ L.label → K.goes ≡ L.goes
+      → run_one (with_macros M []) here at st sc K ≡ run_one (with_macros M []) here at st sc L
+  part_unread M here at (assign ms) h sc K L p q = λ i s. after (after_assignments M.check ms sc s) (q i)
+  part_unread M here at (await e) h sc K L p q = λ i s. after (test M.check e sc s) (λ b. cond b (q i) (λ u. held at) s)
+  part_unread M here at (print e) h sc K L p q = λ i s. after (value_of M.check e sc s) (λ v. q i s)
+  part_unread M here at (assert e) h sc K L p q = λ i s. after (test M.check e sc s) (λ b. cond b (q i) (λ u. stops (fault AssertFailed at)) s)
+  part_unread M here at skip h sc K L p q = q
+  part_unread M here at (branch e a b) h sc K L p q =
+      λ i s. after (test M.check e sc s) (λ yes. cond yes (list_unread M unlabelled a sc K L p q i) (list_unread M unlabelled b sc K L p q i) s)
+  part_unread M here at (either bs) h sc K L p q = λ i s. chooses at (some_unread M bs sc K L p q i s)
+  part_unread M here at (with bs b) h sc K L p q = λ i s. run_binds M.check at bs (λ inner. list_unread M unlabelled b inner K L p q i) sc s
+  part_unread M here at (while e b) h sc K L p q =
+      λ i s. after (test M.check e sc s) (λ yes. cond yes (run (with_macros M []) unlabelled b sc (record { label = here; partner = no_partner; goes = M.goto here })) (q i) s)
+  part_unread M here at (macro m ts) h sc K L p q = λ i s. held at
+  part_unread M here at (goto l) h sc K L p q = absurd h
+  part_unread M here at (call n ts) h sc K L p q = absurd h
+  part_unread M here at return h sc K L p q = absurd h
+
+  list_unread : (M : Rules) (here : Word) (ss : Statements) (sc : Scope) (K L : Follow) → K.label ≡ L.label → K.goes ≡ L.goes
+      → run (with_macros M []) here ss sc K ≡ run (with_macros M []) here ss sc L
+  list_unread M here done sc K L p q = q
+  list_unread M here (then at st rest) sc K L p q =
+      λ i. run_one (with_macros M []) here at.first st sc (record { label = label_of rest (p i); partner = partner_of rest; goes = list_unread M unlabelled rest sc K L p q i })
+  list_unread M here (mark l k rest) sc K L p q = refl
+
+  some_unread : (M : Rules) (bs : Branches) (sc : Scope) (K L : Follow) → K.label ≡ L.label → K.goes ≡ L.goes
+      → run_branches (with_macros M []) bs sc K ≡ run_branches (with_macros M []) bs sc L
+  some_unread M no_branches sc K L p q = refl
+  some_unread M (or b bs) sc K L p q = λ i s. course (list_unread M unlabelled b sc K L p q i s) (some_unread M bs sc K L p q i s)
+
+join_one : (M : Rules) (here : Word) (at : Span) (st : Statement) (a b : Statements) → StaysOne st → (sc : Scope) (K : Follow)
+    → run (with_macros M []) unlabelled (joined a b) sc K ≡ run (with_macros M []) unlabelled a sc (following (with_macros M []) b sc K)
+    → run (with_macros M []) here (then at st (joined a b)) sc K ≡ run (with_macros M []) here (then at st a) sc (following (with_macros M []) b sc K)
+join_one M here at st a b h sc K q =
+    part_unread M here at.first st h sc (following (with_macros M []) (joined a b) sc K) (following (with_macros M []) a sc (following (with_macros M []) b sc K))
+    (join_label a b K.label) q
+
+join_runs : (M : Rules) (a b : Statements) → Stays a → (sc : Scope) (K : Follow)
+    → run (with_macros M []) unlabelled (joined a b) sc K ≡ run (with_macros M []) unlabelled a sc (following (with_macros M []) b sc K)
+join_runs M done b h sc K = refl
+join_runs M (then at st a) b h sc K = join_one M unlabelled at st a b h.0 sc K (join_runs M a b h.1 sc K)
+join_runs M (mark l k a) b h sc K = refl
 
 -- also at a label, where the first list begins with a statement
-join_opens : (M : Rules) (here : Word) (a b : Statements) → BeginsUnlabelled a → (sc : Scope) (K : Follow) → run M here (joined a b) sc K ≡ run M here a sc (following M b sc K)
-join_opens M here done b h sc K = absurd h
-join_opens M here (then at st a) b h sc K = λ i. run_one M here at.first st sc (record { label = join_label a b K.label i; goes = join_runs M a b sc K i })
-join_opens M here (mark l k a) b h sc K = absurd h
+join_opens : (M : Rules) (here : Word) (a b : Statements) → BeginsUnlabelled a → Stays a → (sc : Scope) (K : Follow)
+    → run (with_macros M []) here (joined a b) sc K ≡ run (with_macros M []) here a sc (following (with_macros M []) b sc K)
+join_opens M here done b o h sc K = absurd o
+join_opens M here (then at st a) b o h sc K = join_one M here at st a b h.0 sc K (join_runs M a b h.1 sc K)
+join_opens M here (mark l k a) b o h sc K = absurd o
 
 -- ---- calls written out
 
 -- what is written for a call has its courses, where P holds
 abbrev pub Written : Rules → Calling → Writing → (Word → Trees → Type 0) → Type 0
 Written M f X P =
-    (here : Word) (at : Span) (m : Word) (ts : Trees) → P m ts → BeginsUnlabelled (X at m ts) × ((sc : Scope) → AnyPlace sc → (K : Follow) → f here at.first m ts sc K ≡ run (with_macros M []) here (X at m ts) sc K)
+    (here : Word) (at : Span) (m : Word) (ts : Trees) → P m ts → BeginsUnlabelled (X at m ts) × Stays (X at m ts) × ((sc : Scope) → AnyPlace sc → (K : Follow) → f here at.first m ts sc K ≡ run (with_macros M []) here (X at m ts) sc K)
 
 pub opens_joined : (a b : Statements) → BeginsUnlabelled a → BeginsUnlabelled (joined a b)
 opens_joined done b h = absurd h
@@ -84,6 +125,26 @@ expand_label M f X P w done h q = λ i. (q i).label
 expand_label M f X P w (then at st rest) h {L = L} q = no_label (expand_one X at st (expand X rest)) L.label (opens_one M f X P w at st (expand X rest) h.0)
 expand_label M f X P w (mark l k rest) h q = refl
 
+stays_partner : (at : Span) (st : Statement) (rest : Statements) → StaysOne st → no_partner ≡ partner_of (then at st rest)
+stays_partner at (goto l) rest h = absurd h
+stays_partner at (call p ts) rest h = absurd h
+stays_partner at return rest h = absurd h
+stays_partner at st rest h = refl
+
+no_partner_joined : (a b : Statements) → BeginsUnlabelled a → Stays a → no_partner ≡ partner_of (joined a b)
+no_partner_joined done b o h = absurd o
+no_partner_joined (then at st a) b o h = stays_partner at st (joined a b) h.0
+no_partner_joined (mark l k a) b o h = absurd o
+
+expand_partner_one : (M : Rules) (f : Calling) (X : Writing) (P : Word → Trees → Type 0) → Written M f X P → (at : Span) (st : Statement) → CallsOne P st → (rest over : Statements) → partner_of (then at st rest) ≡ partner_of (expand_one X at st over)
+expand_partner_one M f X P w at (macro m ts) h rest over = no_partner_joined (X at m ts) over (w unlabelled at m ts h).0 (w unlabelled at m ts h).1
+expand_partner_one M f X P w at st h rest over = refl
+
+expand_partner : (M : Rules) (f : Calling) (X : Writing) (P : Word → Trees → Type 0) → Written M f X P → (ss : Statements) → Calls P ss → partner_of ss ≡ partner_of (expand X ss)
+expand_partner M f X P w done h = refl
+expand_partner M f X P w (then at st rest) h = expand_partner_one M f X P w at st h.0 rest (expand X rest)
+expand_partner M f X P w (mark l k rest) h = refl
+
 binds_same : (c : Check) (at : Place) (bs : Binds) (a b : Scope → State → Course) → ((sc : Scope) → AnyPlace sc → a sc ≡ b sc) → (sc : Scope) → AnyPlace sc → (s : State) → run_binds c at bs a sc s ≡ run_binds c at bs b sc s
 binds_same c at no_binds a b q sc free s = λ i. q sc free i s
 binds_same c at (one_of x e bs) a b q sc free s =
@@ -93,14 +154,14 @@ binds_same c at (is x e bs) a b q sc free s = λ i. after (value_of c e sc s) (�
 mutual
   expand_runs_one : (M : Rules) (f : Calling) (X : Writing) (P : Word → Trees → Type 0) → Written M f X P → (here : Word) (at : Span) (st : Statement) → CallsOne P st → (sc : Scope) → AnyPlace sc → (K L : Follow) (rest : Statements) → K ≡ following (with_macros M []) rest sc L → run_one (with_calls M f) here at.first st sc K ≡ run (with_macros M []) here (expand_one X at st rest) sc L
   expand_runs_one M f X P w here at (macro m ts) h sc free K L rest q =
-      (w here at m ts h).1 sc free K ∙ (λ i. run (with_macros M []) here (X at m ts) sc (q i)) ∙ sym (join_opens (with_macros M []) here (X at m ts) rest (w here at m ts h).0 sc L)
+      (w here at m ts h).2 sc free K ∙ (λ i. run (with_macros M []) here (X at m ts) sc (q i)) ∙ sym (join_opens M here (X at m ts) rest (w here at m ts h).0 (w here at m ts h).1 sc L)
   expand_runs_one M f X P w here at (branch e a b) h sc free K L rest q =
       λ i s. after (test M.check e sc s) (λ yes. cond yes (expand_runs M f X P w unlabelled a h.0 sc free K _ q i) (expand_runs M f X P w unlabelled b h.1 sc free K _ q i) s)
   expand_runs_one M f X P w here at (either bs) h sc free K L rest q = λ i s. chooses at.first (expand_runs_some M f X P w bs h sc free K _ q i s)
   expand_runs_one M f X P w here at (with bs b) h sc free K L rest q =
       λ i s. binds_same M.check at.first bs (λ inner. run (with_calls M f) unlabelled b inner K) (λ inner. run (with_macros M []) unlabelled (expand X b) inner (following (with_macros M []) rest sc L)) (λ inner k. expand_runs M f X P w unlabelled b h inner k K (following (with_macros M []) rest sc L) q) sc free s i
   expand_runs_one M f X P w here at (while e b) h sc free K L rest q =
-      λ i s. after (test M.check e sc s) (λ yes. cond yes (expand_runs M f X P w unlabelled b h sc free (record { label = here; goes = M.goto here }) (record { label = here; goes = M.goto here }) refl i) (q i).goes s)
+      λ i s. after (test M.check e sc s) (λ yes. cond yes (expand_runs M f X P w unlabelled b h sc free (record { label = here; partner = no_partner; goes = M.goto here }) (record { label = here; partner = no_partner; goes = M.goto here }) refl i) (q i).goes s)
   expand_runs_one M f X P w here at (assign ms) h sc free K L rest q = λ i s. after (after_assignments M.check ms sc s) (q i).goes
   expand_runs_one M f X P w here at (await e) h sc free K L rest q = λ i s. after (test M.check e sc s) (λ b. cond b (q i).goes (λ u. held at.first) s)
   expand_runs_one M f X P w here at (print e) h sc free K L rest q = λ i s. after (value_of M.check e sc s) (λ v. (q i).goes s)
@@ -109,13 +170,13 @@ mutual
   expand_runs_one M f X P w here at skip h sc free K L rest q = λ i s. (q i).goes s
   expand_runs_one M f X P w here at (goto l) h sc free K L rest q = refl
   expand_runs_one M f X P w here at (call p ts) h sc free K L rest q =
-      λ i s. after (part_values (evals M.check ts) (sc.env s)) (λ vs. M.call at.first p.word (places_of ts sc) vs (q i).label s)
+      λ i s. after (part_values (evals M.check ts) (sc.env s)) (λ vs. M.call at.first p.word (places_of ts sc) vs (q i).label (q i).partner s)
   expand_runs_one M f X P w here at return h sc free K L rest q = refl
 
   expand_runs : (M : Rules) (f : Calling) (X : Writing) (P : Word → Trees → Type 0) → Written M f X P → (here : Word) (ss : Statements) → Calls P ss → (sc : Scope) → AnyPlace sc → (K L : Follow) → K ≡ L → run (with_calls M f) here ss sc K ≡ run (with_macros M []) here (expand X ss) sc L
   expand_runs M f X P w here done h sc free K L q = λ i. (q i).goes
   expand_runs M f X P w here (then at st rest) h sc free K L q =
-      expand_runs_one M f X P w here at st h.0 sc free (following (with_calls M f) rest sc K) L (expand X rest) (λ i. record { label = expand_label M f X P w rest h.1 q i; goes = expand_runs M f X P w unlabelled rest h.1 sc free K L q i })
+      expand_runs_one M f X P w here at st h.0 sc free (following (with_calls M f) rest sc K) L (expand X rest) (λ i. record { label = expand_label M f X P w rest h.1 q i; partner = expand_partner M f X P w rest h.1 i; goes = expand_runs M f X P w unlabelled rest h.1 sc free K L q i })
   expand_runs M f X P w here (mark l k rest) h sc free K L q = refl
 
   expand_runs_some : (M : Rules) (f : Calling) (X : Writing) (P : Word → Trees → Type 0) → Written M f X P → (bs : Branches) → CallsSome P bs → (sc : Scope) → AnyPlace sc → (K L : Follow) → K ≡ L → run_branches (with_calls M f) bs sc K ≡ run_branches (with_macros M []) (expand_some X bs) sc L
@@ -135,14 +196,43 @@ opens_expand M f X P w done h o = absurd o
 opens_expand M f X P w (then at st rest) h o = opens_one M f X P w at st (expand X rest) h.0
 opens_expand M f X P w (mark l k rest) h o = absurd o
 
+stays_graft_one : (g : Graft) (st : Statement) → StaysOne st → StaysOne (graft_one g st)
+stays_graft_one g (goto l) h = absurd h
+stays_graft_one g (call p ts) h = absurd h
+stays_graft_one g return h = absurd h
+stays_graft_one g st h = tt
+
+stays_graft : (g : Graft) (ss : Statements) → Stays ss → Stays (graft_all g ss)
+stays_graft g done h = tt
+stays_graft g (then at st rest) h = (stays_graft_one g st h.0, stays_graft g rest h.1)
+stays_graft g (mark l k rest) h = tt
+
+stays_joined : (a b : Statements) → Stays a → Stays b → Stays (joined a b)
+stays_joined done b h k = k
+stays_joined (then at st a) b h k = (h.0, stays_joined a b h.1 k)
+stays_joined (mark l m a) b h k = tt
+
+stays_expand_one : (M : Rules) (f : Calling) (X : Writing) (P : Word → Trees → Type 0) → Written M f X P → (at : Span) (st : Statement) (rest : Statements) → CallsOne P st → StaysOne st → Stays rest → Stays (expand_one X at st rest)
+stays_expand_one M f X P w at (macro m ts) rest c h k = stays_joined (X at m ts) rest (w unlabelled at m ts c).1 k
+stays_expand_one M f X P w at (goto l) rest c h k = absurd h
+stays_expand_one M f X P w at (call p ts) rest c h k = absurd h
+stays_expand_one M f X P w at return rest c h k = absurd h
+stays_expand_one M f X P w at st rest c h k = (tt, k)
+
+stays_expand : (M : Rules) (f : Calling) (X : Writing) (P : Word → Trees → Type 0) → Written M f X P → (ss : Statements) → Calls P ss → Stays ss → Stays (expand X ss)
+stays_expand M f X P w done c h = tt
+stays_expand M f X P w (then at st rest) c h = stays_expand_one M f X P w at st (expand X rest) c.0 h.0 (stays_expand M f X P w rest c.1 h.1)
+stays_expand M f X P w (mark l k rest) c h = tt
+
 called_law : (M : Rules) (ms : List Macro) → Written M (called M ms) (written_out ms) (FineCall ms)
-called_law M [] here at m ts h = (tt, λ sc free K. refl)
+called_law M [] here at m ts h = (tt, (tt, tt), λ sc free K. refl)
 called_law M (d ∷ older) here at m ts h = by (called_law M older) (bytes_eq d.name.word m) h
   where
-    by : Written M (called M older) (written_out older) (FineCall older) → (b : Bool) → Chosen b (Throughout (ApartForm (arguments d.params ts)) (Apart (arguments d.params ts)) (expand (written_out older) d.body) × Calls (FineCall older) d.body × BeginsUnlabelled d.body) (FineCall older m ts) → BeginsUnlabelled (cond b (graft_all (arguments d.params ts) (expand (written_out older) d.body)) (written_out older at m ts)) × ((sc : Scope) → AnyPlace sc → (K : Follow) → (λ s. cond b (run (with_calls M (called M older)) here d.body (through M.check (arguments d.params ts) sc) K) (called M older here at.first m ts sc K) s) ≡ run (with_macros M []) here (cond b (graft_all (arguments d.params ts) (expand (written_out older) d.body)) (written_out older at m ts)) sc K)
+    by : Written M (called M older) (written_out older) (FineCall older) → (b : Bool) → Chosen b (Throughout (ApartForm (arguments d.params ts)) (Apart (arguments d.params ts)) (expand (written_out older) d.body) × Calls (FineCall older) d.body × BeginsUnlabelled d.body × Stays d.body) (FineCall older m ts) → BeginsUnlabelled (cond b (graft_all (arguments d.params ts) (expand (written_out older) d.body)) (written_out older at m ts)) × Stays (cond b (graft_all (arguments d.params ts) (expand (written_out older) d.body)) (written_out older at m ts)) × ((sc : Scope) → AnyPlace sc → (K : Follow) → (λ s. cond b (run (with_calls M (called M older)) here d.body (through M.check (arguments d.params ts) sc) K) (called M older here at.first m ts sc K) s) ≡ run (with_macros M []) here (cond b (graft_all (arguments d.params ts) (expand (written_out older) d.body)) (written_out older at m ts)) sc K)
     by ih true k =
         let g : Graft = arguments d.params ts in (
           opens_graft g (expand (written_out older) d.body) (opens_expand M (called M older) (written_out older) (FineCall older) ih d.body k.1 k.2),
+          stays_graft g (expand (written_out older) d.body) (stays_expand M (called M older) (written_out older) (FineCall older) ih d.body k.1 k.3),
           λ sc free K. expand_runs M (called M older) (written_out older) (FineCall older) ih here d.body k.1 (through M.check g sc) (through_free M.check d.params ts sc free) K K refl
               ∙ sym (graft_runs (with_macros M []) g here (expand (written_out older) d.body) (uncaptured M.check g (expand (written_out older) d.body) k.0) sc (through M.check g sc) (through_meets M.check g sc free) K K refl),
         )

@@ -8,10 +8,10 @@ use Rattle.tla_value.specs.Meaning.{Env, Denotation, part_values}
 use Rattle.tla_value.proofs.Joined.{none, one}
 use Rattle.tla_value.proofs.Alike.{AllAlike}
 use Rattle.tla_value.proofs.Graft.{Grafted, bound_grafted, grafted_law, all_grafted}
-use Rattle.pcal_tree.specs.Algorithm.{Assignments, no_assignments, assignment, Binds, no_binds, one_of, is, Statement, assign, await, print, assert, skip, branch, either, with, while, goto, macro, call, return, Statements, done, then, mark, Branches, no_branches, or}
+use Rattle.pcal_tree.specs.Algorithm.{Span, Assignments, no_assignments, assignment, Binds, no_binds, one_of, is, Statement, assign, await, print, assert, skip, branch, either, with, while, goto, macro, call, return, Statements, done, then, mark, Branches, no_branches, or}
 use Rattle.pcal_tree.specs.Scope.{State, Part, Scope, bound, place_in, place_of, places_of, deeper, reach, reach_path, reach_in, origin_in, value_of}
 use Rattle.pcal_tree.specs.Assign.{set_all, settings}
-use Rattle.pcal_tree.specs.Run.{Course, chooses, course, held, stops, after, at_each, Follow, Rules, unlabelled, label_of, run_binds, run_one, run, run_branches}
+use Rattle.pcal_tree.specs.Run.{Course, chooses, course, held, stops, after, at_each, no_partner, partner_of, Follow, Rules, unlabelled, label_of, run_binds, run_one, run, run_branches}
 use Rattle.pcal_tree.specs.Expand.{placed_at, graft_left, graft_assignments, graft_binds, graft_one, graft_all, graft_some}
 use Rattle.tla_value.proofs.Relations.{Rel}
 use Rattle.tla_value.specs.laws.Grafting.{BindsClear}
@@ -141,6 +141,15 @@ graft_label g done q = λ i. (q i).label
 graft_label g (then at st rest) q = refl
 graft_label g (mark l m rest) q = refl
 
+graft_partner_one : (g : Graft) (at : Span) (st : Statement) (r s : Statements) → partner_of (then at (graft_one g st) r) ≡ partner_of (then at st s)
+graft_partner_one g at return r s = refl
+graft_partner_one g at st r s = refl
+
+graft_partner : (g : Graft) (ss : Statements) → partner_of (graft_all g ss) ≡ partner_of ss
+graft_partner g done = refl
+graft_partner g (then at st rest) = graft_partner_one g at st (graft_all g rest) rest
+graft_partner g (mark l m rest) = refl
+
 mutual
   graft_runs_one : (M : Rules) (g : Graft) (here : Word) (at : Place) (st : Statement) → CleanOne M.check g st → (sc sc' : Scope) → Meets M.check g sc sc' → (K L : Follow) → K ≡ L → run_one M here at (graft_one g st) sc K ≡ run_one M here at st sc' L
   graft_runs_one M g here at (assign ms) h sc sc' k K L q = λ i s. after ((moves_law M.check g ms h sc sc' k s i) >>= (λ all. set_all M.check all s)) (q i).goes
@@ -155,18 +164,18 @@ mutual
   graft_runs_one M g here at (with bs b) h sc sc' k K L q =
       λ i s. binds_law M.check g at bs h.0 (λ inner. run M unlabelled (graft_all g b) inner K) (λ inner. run M unlabelled b inner L) (λ a a' m. graft_runs M g unlabelled b h.1 a a' m K L q) sc sc' k s i
   graft_runs_one M g here at (while e b) h sc sc' k K L q =
-      λ i s. after (needed_law M.check g e h.0 sc sc' k s truth_at i) (λ yes. cond yes (graft_runs M g unlabelled b h.1 sc sc' k (record { label = here; goes = M.goto here }) (record { label = here; goes = M.goto here }) refl i) (q i).goes s)
+      λ i s. after (needed_law M.check g e h.0 sc sc' k s truth_at i) (λ yes. cond yes (graft_runs M g unlabelled b h.1 sc sc' k (record { label = here; partner = no_partner; goes = M.goto here }) (record { label = here; partner = no_partner; goes = M.goto here }) refl i) (q i).goes s)
   graft_runs_one M g here at (goto l) h sc sc' k K L q = refl
   graft_runs_one M g here at (macro m ts) h sc sc' k K L q = absurd h
   graft_runs_one M g here at (call p ts) h sc sc' k K L q =
-      λ i s. after (valued_alike (Grafted M.check g Any) _ _ (sc.env s) (sc'.env s) (all_grafted M.check g ts h) (k.env s) i) (λ vs. M.call at p.word (places_law M.check g ts sc sc' k i) vs (q i).label s)
+      λ i s. after (valued_alike (Grafted M.check g Any) _ _ (sc.env s) (sc'.env s) (all_grafted M.check g ts h) (k.env s) i) (λ vs. M.call at p.word (places_law M.check g ts sc sc' k i) vs (q i).label (q i).partner s)
   graft_runs_one M g here at return h sc sc' k K L q = refl
 
   -- the courses are equal, kinds and places of faults included
   pub graft_runs : (M : Rules) (g : Graft) (here : Word) (ss : Statements) → Clean M.check g ss → (sc sc' : Scope) → Meets M.check g sc sc' → (K L : Follow) → K ≡ L → run M here (graft_all g ss) sc K ≡ run M here ss sc' L
   graft_runs M g here done h sc sc' k K L q = λ i. (q i).goes
   graft_runs M g here (then at st rest) h sc sc' k K L q =
-      graft_runs_one M g here at.first st h.0 sc sc' k (record { label = label_of (graft_all g rest) K.label; goes = run M unlabelled (graft_all g rest) sc K }) (record { label = label_of rest L.label; goes = run M unlabelled rest sc' L }) (λ i. record { label = graft_label g rest q i; goes = graft_runs M g unlabelled rest h.1 sc sc' k K L q i })
+      graft_runs_one M g here at.first st h.0 sc sc' k (record { label = label_of (graft_all g rest) K.label; partner = partner_of (graft_all g rest); goes = run M unlabelled (graft_all g rest) sc K }) (record { label = label_of rest L.label; partner = partner_of rest; goes = run M unlabelled rest sc' L }) (λ i. record { label = graft_label g rest q i; partner = graft_partner g rest i; goes = graft_runs M g unlabelled rest h.1 sc sc' k K L q i })
   graft_runs M g here (mark l m rest) h sc sc' k K L q = refl
 
   graft_runs_some : (M : Rules) (g : Graft) (bs : Branches) → CleanSome M.check g bs → (sc sc' : Scope) → Meets M.check g sc sc' → (K L : Follow) → K ≡ L → run_branches M (graft_some g bs) sc K ≡ run_branches M bs sc' L

@@ -5,6 +5,7 @@ use Rattle.tla_token.specs.declared.place.Place.{Place}
 use Rattle.tla_token.specs.declared.rule.Rule.TheVariants.{FirstLabel}
 use Rattle.tla_expr.specs.Tree.{Word, Trees}
 use Rattle.pcal_tree.specs.Algorithm.{Statement, assign, await, print, assert, skip, branch, either, with, while, goto, macro, call, return, Statements, done, then, mark, Branches, no_branches, or, Macro, Process, Procedure, Main, alone, processes, Algorithm, numbered, first_procedure, first_process, procedure_routine, process_routine, procedure_routines, main_routines}
+use Rattle.pcal_tree.specs.Run.{partner_of}
 use Rattle.pcal_tree.specs.Paths.{Effect, Effects, nothing, after_one}
 use Rattle.pcal_tree.specs.OffencesSteps.{Before, at_label, at_first, inside, next, call_effect, procedure_effects, outer_effects}
 use Rattle.pcal_tree.specs.OffencesLabels.{label_words}
@@ -81,12 +82,12 @@ mutual
   clear_add D new Q E p s done go r h k = k done s r h
   clear_add D new Q E p s (mark n m rest) go r h k = clear_add D new Q E at_label s rest _ r h.1 (λ b t q c. k (mark n m b) t q (h.0, c))
   clear_add D new Q E p s (then at st rest) go r h k =
-      clear_inside D new Q E (before (needs_label E p at st) p) (names_after (needs_label E p at st) s) st _ (after_root (needs_label E p at st) s r)
+      clear_inside D new Q E (before (needs_label E p at st (partner_of rest)) p) (names_after (needs_label E p at st (partner_of rest)) s) st _ (after_root (needs_label E p at st (partner_of rest)) s r)
       (every_left D (Body.labels_in st) (Body.labels rest) h) (λ st' t q c.
-      clear_add D new Q E (next E (before (needs_label E p at st) p) st') t rest _ q
+      clear_add D new Q E (next E (before (needs_label E p at st (partner_of rest)) p) st' (partner_of rest)) t rest _ q
       (every_right D (Body.labels_in st) (Body.labels rest) h) (λ b u o d.
-      k (labelled_if (needs_label E p at st) s at.first (then at st' b)) u o
-      (labelled_if_clear D new (needs_label E p at st) s at.first (then at st' b) r (every_both D (Body.labels_in st') (Body.labels b) c d))))
+      k (labelled_if (needs_label E p at st (partner_of rest)) s at.first (then at st' b)) u o
+      (labelled_if_clear D new (needs_label E p at st (partner_of rest)) s at.first (then at st' b) r (every_both D (Body.labels_in st') (Body.labels b) c d))))
 
   clear_add_some : {R : Type 0} (D : Word → Type 0) → Added D
       → (Q : R → Type 0) (E : Effects) (p : Before) (s : Supply) (bs : Branches) (go : Branches → Supply → R)

@@ -3,6 +3,7 @@ mod RowsRun
 mod RowsStep
 mod RowsAnswers
 mod RowsMacros
+mod RowsPairs
 mod Choices
 pub mod GraftRuns
 pub mod Uncaptured
@@ -15,6 +16,12 @@ mod RowsC
 mod RowsLabels
 mod RowsSummaries
 mod RowsUses
+pub mod RebindNames
+pub mod RebindLaws
+pub mod RebindsByMacro
+mod RowsRebind
+mod RowsVariables
+mod RowsDeclared
 mod RowsNames
 mod RowsP
 mod RowsBoth
@@ -34,7 +41,17 @@ pub mod EffectLabels
 pub mod FirstLaws
 pub mod UseLaws
 pub mod UsesByMacro
+pub mod SelfByMacro
+pub mod SpotGrafts
+pub mod SpotCalls
+pub mod SpotMacros
+pub mod SpotsSeen
+pub mod StaleByMacro
+pub mod BoundWrittenOut
 pub mod RowsOffences
+pub mod RowsReads
+pub mod RowsStale
+mod RowsSelf
 pub mod SameVariables
 pub mod StepVariables
 pub mod SameSteps

@@ -40,7 +40,7 @@ i_is_apart = record { left = λ at. refl; unread = λ y at. own_not_free (bytes_
 
 call_is_fine : FineCall (both ∷ []) (codes "N") (tree own_i no_trees)
 call_is_fine =
-    (((tt, ((((i_is_apart, tt)), ((tt, ((tt, tt), tt)), ((tt, ((tt, tt), ((tt, tt), tt))), tt))), ((tt, tt), tt))), tt), (tt, tt), tt)
+    (((tt, ((((i_is_apart, tt)), ((tt, ((tt, tt), tt)), ((tt, ((tt, tt), ((tt, tt), tt))), tt))), ((tt, tt), tt))), tt), (tt, tt), tt, (tt, tt))
 
 -- macro N(p) begin await \E i \in {1} : p; end macro, called as N(i = 2): the i of the call would be captured
 abbrev capturing : Macro

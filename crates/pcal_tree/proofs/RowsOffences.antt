@@ -1,6 +1,6 @@
 -- Unknown names, wrong numbers of arguments and names declared twice, tried by computation.
 use Rattle.std.proofs.Common.{◌≡◌, ℕ, List, [], ◌∷◌, false, true, codes, Some, refl}
-use Rattle.tla_token.specs.declared.rule.Rule.TheVariants.{Unknown, Arity, Duplicate, Reserved, OpaqueUnit}
+use Rattle.tla_token.specs.declared.rule.Rule.TheVariants.{Unknown, Arity, NotVariable, Duplicate, Reserved, OpaqueUnit}
 use Rattle.tla_token.specs.declared.rule.Refusal.{Refusal}
 use Rattle.tla_expr.specs.declared.op.Binder.TheVariants.{ForAll}
 use Rattle.tla_expr.specs.Tree.{Word, Tree, node, name, operator_call, binding, local, no_trees, tree}
@@ -25,8 +25,8 @@ abbrev pub q : Word
 q = codes "q"
 
 -- the unit `ASSUME Big == ..` was not read
-abbrev around : Outside
-around = record { extended = []; constants = title (codes "N") ∷ []; definitions = []; opaque = record { keyword = codes "ASSUME"; names = codes "Big" ∷ []; place = at 1 } ∷ [] }
+abbrev pub around : Outside
+around = record { extended = codes "Sequences" ∷ []; constants = title (codes "N") ∷ []; definitions = []; opaque = record { keyword = codes "ASSUME"; names = codes "Big" ∷ []; place = at 1 } ∷ [] }
 
 abbrev uses : List Macro → Statement → List Refusal
 uses ms st = use_offences_of (one_body ms (labelled (codes "A") (stands 2 st done))).algorithm around
@@ -40,12 +40,12 @@ constant = refl
 not_read : uses [] (await (read 3 (codes "Big"))) ≡ record { rule = OpaqueUnit; place = at 3 } ∷ []
 not_read = refl
 
--- Big := x is an offence by another rule
-not_read_on_the_left : uses [] (sets (read 3 (codes "Big")) (read 4 x)) ≡ []
+-- Big := x: no variable, whatever else it is
+not_read_on_the_left : uses [] (sets (read 3 (codes "Big")) (read 4 x)) ≡ record { rule = NotVariable; place = at 3 } ∷ []
 not_read_on_the_left = refl
 
 -- the unit `Len == ..` was not read: neither Len nor Len(x) is a use of the standard operator
-abbrev hiding : Outside
+abbrev pub hiding : Outside
 hiding = record { extended = []; constants = []; definitions = []; opaque = record { keyword = []; names = codes "Len" ∷ []; place = at 1 } ∷ [] }
 
 hidden_standard_name : use_offences_of (one_body [] (labelled (codes "A") (stands 2 (await (read 3 (codes "Len"))) done))).algorithm hiding ≡ record { rule = OpaqueUnit; place = at 3 } ∷ []
@@ -64,7 +64,7 @@ defined_again = record { extended = []; constants = []; definitions = defined_as
 the_later_one_is_seen : use_offences_of (one_body [] (labelled (codes "A") (stands 2 (await (read 3 (codes "F"))) done))).algorithm defined_again ≡ record { rule = Arity; place = at 3 } ∷ []
 the_later_one_is_seen = refl
 
-unknown_left : uses [] (sets (read 3 q) (read 4 x)) ≡ record { rule = Unknown; place = at 3 } ∷ []
+unknown_left : uses [] (sets (read 3 q) (read 4 x)) ≡ record { rule = Unknown; place = at 3 } ∷ record { rule = NotVariable; place = at 3 } ∷ []
 unknown_left = refl
 
 -- \A q \in q : q

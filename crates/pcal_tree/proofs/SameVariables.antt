@@ -9,10 +9,10 @@ use Rattle.tla_value.specs.Stops.{Check, truth_at, members_at}
 use Rattle.tla_value.specs.Strict.{changed_at}
 use Rattle.tla_value.specs.Grafts.{through as through_env}
 use Rattle.tla_value.specs.Meaning.{bind, eval, evals, part_values}
-use Rattle.pcal_tree.specs.Algorithm.{Assignments, no_assignments, assignment, Binds, no_binds, one_of, is, Statement, assign, await, print, assert, skip, branch, either, with, while, goto, macro, call, return, Statements, done, then, mark, Branches, no_branches, or, Macro}
+use Rattle.pcal_tree.specs.Algorithm.{Span, Assignments, no_assignments, assignment, Binds, no_binds, one_of, is, Statement, assign, await, print, assert, skip, branch, either, with, while, goto, macro, call, return, Statements, done, then, mark, Branches, no_branches, or, Macro}
 use Rattle.pcal_tree.specs.Scope.{State, put, Part, Scope, bound, places_of, deeper, reach_form, reach, reach_path, reach_in, through, value_of, test, members}
 use Rattle.pcal_tree.specs.Assign.{Setting, set_one, set_all, settings, after_assignments}
-use Rattle.pcal_tree.specs.Run.{Course, ends, stops, chooses, Courses, no_courses, course, held, after, at_each, Follow, Rules, unlabelled, label_of, run_binds, run_one, run, run_branches, arguments, Calling, with_calls, called, with_macros}
+use Rattle.pcal_tree.specs.Run.{Course, ends, stops, chooses, Courses, no_courses, course, held, after, at_each, Partner, no_partner, partner_of, is_return, Follow, Rules, unlabelled, label_of, run_binds, run_one, run, run_branches, arguments, Calling, with_calls, called, with_macros}
 use Rattle.pcal_tree.specs.Variables.{Agree}
 use Rattle.pcal_tree.specs.Processes.{OneOf}
 use Rattle.pcal_tree.specs.laws.Steps.{has_return_in, has_return, has_return_of}
@@ -218,7 +218,7 @@ module _ (V : List Word) where
   -- of the rules of a step; `return` is looked at only where R is known
   pub record Even (R : Type 0) (M : Rules) : Type 0 where
     pub goto : (l : Word) → Steady (M.goto l)
-    pub call : (at : Place) (p : Word) (ats : List Place) (vs : List Value) (back : Word) → Steady (M.call at p ats vs back)
+    pub call : (at : Place) (p : Word) (ats : List Place) (vs : List Value) (l : Word) (j : Partner) → (is_return j ≡ true → R) → Steady (M.call at p ats vs l j)
     pub return : R → (at : Place) → Steady (M.return at)
     pub macros : (here : Word) (at : Place) (m : Word) (ts : Trees) (sc : Scope) (K : Follow) → Narrow sc → Steady K.goes → Steady (M.macros here at m ts sc K)
 
@@ -233,32 +233,43 @@ module _ (V : List Word) where
   test_same c e sc n s t a i = (eval c e (n.env s t a i)).value >>= (truth_at (Rattle.pcal_tree.specs.Scope.place_of e sc))
 
   module _ (R : Type 0) where
+    partner_in : (at : Span) (st : Statement) (rest : Statements) → is_return (partner_of (then at st rest)) ≡ true → has_return (then at st rest) ≡ true
+    partner_in at return rest h = refl
+    partner_in at (goto l) rest h = cc
+    partner_in at st rest h = cc
+
+    partner_returns : (ss : Statements) → is_return (partner_of ss) ≡ true → has_return ss ≡ true
+    partner_returns done h = cc
+    partner_returns (then at st rest) h = partner_in at st rest h
+    partner_returns (mark l m rest) h = cc
+
     mutual
-      one_steady : (M : Rules) → Even R M → (here : Word) (at : Place) (st : Statement) → (has_return_in st ≡ true → R) → (sc : Scope) → Narrow sc → (K : Follow) → Steady K.goes → Steady (run_one M here at st sc K)
-      one_steady M E here at (assign ms) r sc n K k s t a = after_end (after_assignments M.check ms sc s) (after_assignments M.check ms sc t) K.goes (moved_steady M.check ms sc n s t a) k
-      one_steady M E here at (await e) r sc n K k s t a = after_same (test M.check e sc s) (test M.check e sc t) _ _ (test_same M.check e sc n s t a) (λ b. cond_steady b K.goes (λ u. held at) k (λ u w q. (refl, tt)) s t a)
-      one_steady M E here at (print e) r sc n K k s t a = after_same (value_of M.check e sc s) (value_of M.check e sc t) _ _ (λ i. (eval M.check e (n.env s t a i)).value) (λ v. k s t a)
-      one_steady M E here at (assert e) r sc n K k s t a = after_same (test M.check e sc s) (test M.check e sc t) _ _ (test_same M.check e sc n s t a) (λ b. cond_steady b K.goes (λ u. stops (fault AssertFailed at)) k (λ u w q. refl) s t a)
-      one_steady M E here at skip r sc n K k s t a = k s t a
-      one_steady M E here at (branch e x y) r sc n K k s t a =
+      one_steady : (M : Rules) → Even R M → (here : Word) (at : Place) (st : Statement) → (has_return_in st ≡ true → R) → (sc : Scope) → Narrow sc → (K : Follow) → (is_return K.partner ≡ true → R) → Steady K.goes → Steady (run_one M here at st sc K)
+      one_steady M E here at (assign ms) r sc n K j k s t a = after_end (after_assignments M.check ms sc s) (after_assignments M.check ms sc t) K.goes (moved_steady M.check ms sc n s t a) k
+      one_steady M E here at (await e) r sc n K j k s t a = after_same (test M.check e sc s) (test M.check e sc t) _ _ (test_same M.check e sc n s t a) (λ b. cond_steady b K.goes (λ u. held at) k (λ u w q. (refl, tt)) s t a)
+      one_steady M E here at (print e) r sc n K j k s t a = after_same (value_of M.check e sc s) (value_of M.check e sc t) _ _ (λ i. (eval M.check e (n.env s t a i)).value) (λ v. k s t a)
+      one_steady M E here at (assert e) r sc n K j k s t a = after_same (test M.check e sc s) (test M.check e sc t) _ _ (test_same M.check e sc n s t a) (λ b. cond_steady b K.goes (λ u. stops (fault AssertFailed at)) k (λ u w q. refl) s t a)
+      one_steady M E here at skip r sc n K j k s t a = k s t a
+      one_steady M E here at (branch e x y) r sc n K j k s t a =
           after_same (test M.check e sc s) (test M.check e sc t) _ _ (test_same M.check e sc n s t a) (λ b. cond_steady b (run M unlabelled x sc K) (run M unlabelled y sc K)
           (list_steady M E unlabelled x (λ h. r (or_left (has_return x) (has_return y) h)) sc n K k) (list_steady M E unlabelled y (λ h. r (or_right (has_return x) (has_return y) h)) sc n K k) s t a)
-      one_steady M E here at (either bs) r sc n K k s t a = (refl, branches_steady M E bs r sc n K k s t a)
-      one_steady M E here at (with bs b) r sc n K k s t a =
+      one_steady M E here at (either bs) r sc n K j k s t a = (refl, branches_steady M E bs r sc n K k s t a)
+      one_steady M E here at (with bs b) r sc n K j k s t a =
           binds_steady M.check at bs (λ inner. run M unlabelled b inner K) (λ inner m. list_steady M E unlabelled b r inner m K k) sc n s t a
-      one_steady M E here at (while e b) r sc n K k s t a =
-          after_same (test M.check e sc s) (test M.check e sc t) _ _ (test_same M.check e sc n s t a) (λ yes. cond_steady yes (run M unlabelled b sc (record { label = here; goes = M.goto here })) K.goes
-          (list_steady M E unlabelled b r sc n (record { label = here; goes = M.goto here }) (E.goto here)) k s t a)
-      one_steady M E here at (goto l) r sc n K k s t a = E.goto l s t a
-      one_steady M E here at (macro m ts) r sc n K k s t a = E.macros here at m ts sc K n k s t a
-      one_steady M E here at (call p ts) r sc n K k s t a =
-          after_same (part_values (evals M.check ts) (sc.env s)) (part_values (evals M.check ts) (sc.env t)) _ _ (λ i. part_values (evals M.check ts) (n.env s t a i)) (λ vs. E.call at p.word (places_of ts sc) vs K.label s t a)
-      one_steady M E here at return r sc n K k s t a = E.return (r refl) at s t a
+      one_steady M E here at (while e b) r sc n K j k s t a =
+          after_same (test M.check e sc s) (test M.check e sc t) _ _ (test_same M.check e sc n s t a) (λ yes. cond_steady yes (run M unlabelled b sc (record { label = here; partner = no_partner; goes = M.goto here })) K.goes
+          (list_steady M E unlabelled b r sc n (record { label = here; partner = no_partner; goes = M.goto here }) (E.goto here)) k s t a)
+      one_steady M E here at (goto l) r sc n K j k s t a = E.goto l s t a
+      one_steady M E here at (macro m ts) r sc n K j k s t a = E.macros here at m ts sc K n k s t a
+      one_steady M E here at (call p ts) r sc n K j k s t a =
+          after_same (part_values (evals M.check ts) (sc.env s)) (part_values (evals M.check ts) (sc.env t)) _ _ (λ i. part_values (evals M.check ts) (n.env s t a i)) (λ vs. E.call at p.word (places_of ts sc) vs K.label K.partner j s t a)
+      one_steady M E here at return r sc n K j k s t a = E.return (r refl) at s t a
 
       pub list_steady : (M : Rules) → Even R M → (here : Word) (ss : Statements) → (has_return ss ≡ true → R) → (sc : Scope) → Narrow sc → (K : Follow) → Steady K.goes → Steady (run M here ss sc K)
       list_steady M E here done r sc n K k s t a = k s t a
       list_steady M E here (then at st rest) r sc n K k s t a =
-          one_steady M E here at.first st (λ h. r (or_left (has_return_in st) (has_return rest) h)) sc n (record { label = label_of rest K.label; goes = run M unlabelled rest sc K })
+          one_steady M E here at.first st (λ h. r (or_left (has_return_in st) (has_return rest) h)) sc n (record { label = label_of rest K.label; partner = partner_of rest; goes = run M unlabelled rest sc K })
+          (λ h. r (or_right (has_return_in st) (has_return rest) (partner_returns rest h)))
           (list_steady M E unlabelled rest (λ h. r (or_right (has_return_in st) (has_return rest) h)) sc n K k) s t a
       list_steady M E here (mark l m rest) r sc n K k s t a = E.goto l.word s t a
 

@@ -1,5 +1,5 @@
 -- What an algorithm does from a state depends on the variables of the translation alone.
-use Rattle.std.proofs.Common.{◌≡◌, List, [], ◌∷◌, ◌++◌, reverse, Bool, true, false, ◌||◌, cond, bytes_eq, codes, map, Option, Some, None, refl, sym, ◌∙◌, ap, subst, inl, inr, ◌⊎◌, Ok, Err}
+use Rattle.std.proofs.Common.{◌≡◌, List, [], ◌∷◌, ◌++◌, reverse, nat_eq, Bool, true, false, ◌||◌, cond, bytes_eq, codes, map, Option, Some, None, refl, sym, ◌∙◌, ap, subst, inl, inr, ◌⊎◌, Ok, Err}
 use Rattle.std.proofs.lemmas.Bool.{or_left, or_right}
 use Rattle.std.proofs.lemmas.Grind.{reverse_onto}
 use Rattle.std.proofs.lemmas.Slice.Eq.{bytes_eq-Decides}
@@ -14,11 +14,11 @@ use Rattle.tla_value.specs.Definitions.{or_sense}
 use Rattle.pcal_tree.specs.Algorithm.{Start, unset, equals, among, Declaration, declares, Statement, branch, either, with, while, Statements, done, then, mark, Branches, no_branches, or, Macro, Routine, locals, procedure_routines, main_routines, routines}
 use Rattle.pcal_tree.specs.Scope.{State, Part}
 use Rattle.pcal_tree.specs.Assign.{Setting, set_one, set_all}
-use Rattle.pcal_tree.specs.Run.{unlabelled, label_of, exit_to}
+use Rattle.pcal_tree.specs.Run.{unlabelled, label_of, Partner, no_partner, goto_partner, return_partner, is_return, exit_to}
 use Rattle.pcal_tree.specs.StepStart.{Begin, begin_in, begin, begin_some, at_label}
 use Rattle.pcal_tree.specs.Program.{Program, Actor, index, local_index, written, common_env, global_env, read_at, read_name, global_part, routine_scope, global_scope}
 use Rattle.pcal_tree.specs.Variables.{pc, stack, declared, written_all, written_by_all, stack_for, vars, Agree}
-use Rattle.pcal_tree.specs.Calls.{label_value, setting, jumped, all_read, frame, on_stack, argument_settings, initial_value, initial_place, variables_started, entered, fields_read, part_settings, restored, returned, finished, entered_at, named, rules_without_macros, rules_of, first_label}
+use Rattle.pcal_tree.specs.Calls.{label_value, setting, jumped, all_read, frame, on_stack, argument_settings, initial_value, initial_place, variables_started, entered_keeping, entered, fields_read, part_settings, restored, returned, values_left, replaced, returned_and_entered, finished, called_with, entered_at, named, rules_without_macros, rules_of, first_label}
 use Rattle.pcal_tree.specs.Processes.{OneOf, IsActor}
 use Rattle.pcal_tree.specs.Step.{Stand, routines_of, course_of}
 use Rattle.pcal_tree.specs.laws.Steps.{has_return_in, has_return, has_return_of, ReturnsInProcedures}
@@ -258,22 +258,22 @@ module _ (P : Program) where
       then_end (vars P) (set_one P.check (setting (initial_place at d.start) (written P p d.name.word) (local_index v p) w) s) (set_one P.check (setting (initial_place at d.start) (written P p d.name.word) (local_index v p) w) t) (variables_started P v p at ds)
       (one_set (vars P) P.check (setting (initial_place at d.start) (written P p d.name.word) (local_index v p) w) (k d (inl refl)) s t a) (started_steady v p h at ds (λ c q. k c (inr q))))
 
-  entered_steady : (v : Actor) (p : Routine) → OneOf p procs → (at : Place) (back : Value) (ats : List Place) (vs : List Value) → SteadyEnd (vars P) (entered P v at back p ats vs)
-  entered_steady v p h at back ats vs s t a =
-      then_same (vars P) (all_read at (local_index v p) (written_all P p (locals p)) s) (all_read at (local_index v p) (written_all P p (locals p)) t) _ _ (old_same p at (local_index v p) (locals p) (procedure_in p h) s t a) (λ olds e.
+  keeping_steady : (v : Actor) (p : Routine) → OneOf p procs → (at : Place) (back : Value) (ats : List Place) (vs olds : List Value) → SteadyEnd (vars P) (entered_keeping P v at back p ats vs olds)
+  keeping_steady v p h at back ats vs olds s t a =
       then_same (vars P) (P.check at (frame P p back olds)) (P.check at (frame P p back olds)) _ _ refl (λ front e.
       then_same (vars P) (on_stack v at s) (on_stack v at t) _ _ (stack_same v p h at s t a) (λ frames e.
       then_same (vars P) (P.check at (seq_from (front ∷ frames))) (P.check at (seq_from (front ∷ frames))) _ _ refl (λ new e.
       then_end (vars P) (set_all P.check (all new) s) (set_all P.check (all new) t) _ (all_set (vars P) P.check (all new) (stack_in p h, arguments_in p (local_index v p) p.params (λ d k. procedure_in p h d (one_left d p.params p.variables k)) ats vs) s t a) (λ q r b.
       then_end (vars P) (variables_started P v p at p.variables q) (variables_started P v p at p.variables r) _ (started_steady v p h at p.variables (λ d k. procedure_in p h d (one_right d p.params p.variables k)) q r b)
-      (one_set (vars P) P.check (setting at pc (index v.self) (label_value P p (first_label p))) pc_in))))))
+      (one_set (vars P) P.check (setting at pc (index v.self) (label_value P p (first_label p))) pc_in)))))
     where
       all : Value → List Setting
       all new = setting at stack (index v.self) new ∷ argument_settings (local_index v p) (written_all P p p.params) ats vs
 
-  call_steady : (v : Actor) (at : Place) (back : Value) (o : Option Routine) → ((p : Routine) → o ≡ Some p → OneOf p procs) → (ats : List Place) (vs : List Value) → Steady (vars P) (entered_at P v at back o ats vs)
-  call_steady v at back None h ats vs s t a = (refl, tt)
-  call_steady v at back (Some p) h ats vs s t a = finished_same (entered P v at back p ats vs s) (entered P v at back p ats vs t) (entered_steady v p (h p refl) at back ats vs s t a)
+  entered_steady : (v : Actor) (p : Routine) → OneOf p procs → (at : Place) (back : Value) (ats : List Place) (vs : List Value) → SteadyEnd (vars P) (entered P v at back p ats vs)
+  entered_steady v p h at back ats vs s t a =
+      then_same (vars P) (all_read at (local_index v p) (written_all P p (locals p)) s) (all_read at (local_index v p) (written_all P p (locals p)) t) _ _ (old_same p at (local_index v p) (locals p) (procedure_in p h) s t a) (λ olds e.
+      keeping_steady v p h at back ats vs olds s t a)
 
   restored_steady : (v : Actor) (p : Routine) → OneOf p procs → (at : Place) (frames : List Value) → SteadyEnd (vars P) (restored P v at p frames)
   restored_steady v p h at [] s t a = refl
@@ -287,12 +287,39 @@ module _ (P : Program) where
   return_steady v p h at s t a = finished_same (returned P v at p s) (returned P v at p t) (
       then_same (vars P) (on_stack v at s) (on_stack v at t) _ _ (stack_same v p h at s t a) (λ frames e. restored_steady v p h at frames s t a))
 
+  -- ---- calls that are one statement with a return
+
+  left_same : (v : Actor) (at end : Place) (u p : Routine) → OneOf p procs → (front : Value) (s t : State) → Agree (vars P) s t → values_left P v at end u p front s ≡ values_left P v at end u p front t
+  left_same v at end u p h front s t a =
+      ap (cond (nat_eq u.number p.number) (fields_read end (written_all P u (locals u)) front)) (old_same p at (local_index v p) (locals p) (procedure_in p h) s t a)
+
+  replaced_steady : (v : Actor) (at end : Place) (u p : Routine) → OneOf u procs → OneOf p procs → (ats : List Place) (vs frames : List Value) → SteadyEnd (vars P) (replaced P v at end u p ats vs frames)
+  replaced_steady v at end u p k h ats vs [] s t a = refl
+  replaced_steady v at end u p k h ats vs (front ∷ frames) s t a =
+      then_same (vars P) (applied end front (text pc)) (applied end front (text pc)) _ _ refl (λ back e.
+      then_end (vars P) (restored P v end u (front ∷ frames) s) (restored P v end u (front ∷ frames) t) _ (restored_steady v u k end (front ∷ frames) s t a) (λ q r b.
+      then_same (vars P) (values_left P v at end u p front q) (values_left P v at end u p front r) _ _ (left_same v at end u p h front q r b) (λ olds e.
+      keeping_steady v p h at back ats vs olds q r b)))
+
+  returned_entered_steady : (v : Actor) (at end : Place) (u p : Routine) → OneOf u procs → OneOf p procs → (ats : List Place) (vs : List Value) → SteadyEnd (vars P) (returned_and_entered P v at end u p ats vs)
+  returned_entered_steady v at end u p k h ats vs s t a =
+      then_same (vars P) (on_stack v end s) (on_stack v end t) _ _ (stack_same v p h end s t a) (λ frames e. replaced_steady v at end u p k h ats vs frames s t a)
+
+  with_steady : (v : Actor) (u : Routine) (at : Place) (p : Routine) → OneOf p procs → (ats : List Place) (vs : List Value) (l : Word) (j : Partner) → (is_return j ≡ true → OneOf u procs) → SteadyEnd (vars P) (called_with P v u at p ats vs l j)
+  with_steady v u at p h ats vs l no_partner k = entered_steady v p h at (label_value P u l) ats vs
+  with_steady v u at p h ats vs l (goto_partner m) k = entered_steady v p h at (label_value P u m) ats vs
+  with_steady v u at p h ats vs l (return_partner end) k = returned_entered_steady v at end.first u p (k refl) h ats vs
+
+  call_steady : (v : Actor) (u : Routine) (at : Place) (o : Option Routine) → ((p : Routine) → o ≡ Some p → OneOf p procs) → (ats : List Place) (vs : List Value) (l : Word) (j : Partner) → (is_return j ≡ true → OneOf u procs) → Steady (vars P) (entered_at P v u at o ats vs l j)
+  call_steady v u at None h ats vs l j k s t a = (refl, tt)
+  call_steady v u at (Some p) h ats vs l j k s t a = finished_same (called_with P v u at p ats vs l j s) (called_with P v u at p ats vs l j t) (with_steady v u at p (h p refl) ats vs l j k s t a)
+
   -- ---- the rules of a step
 
   without_even : (v : Actor) (u : Routine) → Even (vars P) (OneOf u procs) (rules_without_macros P v u)
   without_even v u = record {
     goto = λ l. jump_steady v u l;
-    call = λ at p ats vs back. call_steady v at (label_value P u back) (named p procs) (λ q e. named_one p procs q e) ats vs;
+    call = λ at p ats vs l j k. call_steady v u at (named p procs) (λ q e. named_one p procs q e) ats vs l j k;
     return = λ h at. return_steady v u h at;
     macros = λ here at m ts sc K n k s t a. (refl, tt);
   }

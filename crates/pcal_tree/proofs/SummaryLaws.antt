@@ -11,11 +11,11 @@ use Rattle.tla_token.specs.Signs.{is_among}
 use Rattle.tla_token.proofs.Spelled.{same_bytes}
 use Rattle.tla_expr.specs.Tree.{Word, Tree, Trees, Graft, grafts}
 use Rattle.pcal_tree.specs.Algorithm.{Name, Statement, assign, await, print, assert, skip, branch, either, with, while, goto, macro, call, return, Statements, done, then, mark, Branches, no_branches, or, Macro}
-use Rattle.pcal_tree.specs.Run.{arguments}
+use Rattle.pcal_tree.specs.Run.{Partner, no_partner, goto_partner, return_partner, partner_of, arguments}
 use Rattle.pcal_tree.specs.Expand.{graft_one, graft_all, graft_some}
 use Rattle.pcal_tree.specs.Paths as path
 use Rattle.pcal_tree.specs.Paths.{Effect, Effects, nothing, Path, after_one, after, after_some, is_reached, meets, has_assigned, some_word, same_word}
-use Rattle.pcal_tree.specs.OffencesSteps.{Before, at_label, inside, next, Visit, visits_inside, visits, visits_of_some, assigns_twice, reached_variables, in_macro, effect_of_body, call_effect}
+use Rattle.pcal_tree.specs.OffencesSteps.{Before, at_label, inside, next, Visit, visits_inside, visits, visits_of_some, effect_with, assigns_twice, reached_variables, in_macro, effect_of_body, call_effect}
 use Rattle.pcal_tree.specs.laws.MacroSummaries.{Target, parameter, variable, in_turn, at_once, Found, Summary, same_target, same_truth, same_side, same_pair, union, none_found, both, put_found, found_in_call, found_here, argument, Trail, joined, trail_after_one, trail_after, trail_after_some, found_on, found_inside, found, found_in_some, summaries, resolved, is_broken, effect_by, summary_effect}
 use Rattle.pcal_tree.proofs.SetLaws.{any_flat, any_map, any_same, any_none, Same, same_both, among_flat, meets_any, meets_same, Agree, Sound, any_union}
 use Rattle.pcal_tree.proofs.TargetLaws.{variables_of, roots_graft, clashes_graft, found_put, same_none}
@@ -85,9 +85,9 @@ on_assigned g e f a (Some xs) (Some ts) h = same_union g e.variables xs f.target
 on_assigned g e f a None (Some ts) h = absurd h
 on_assigned g e f a (Some xs) None h = absurd h
 
--- each statement assigns what was found in it
+-- each statement assigns what was found in it, whatever directly follows it
 abbrev Follows : Graft → (Word → Option Tree) → Effects → (Statement → Found) → Type 0
-Follows h g E S = (st : Statement) → Agree (E (graft_one h st)) (effect_by g (S st))
+Follows h g E S = (st : Statement) (j : Partner) → Agree (effect_with E (graft_one h st) j) (effect_by g (S st))
 
 mutual
   on_after_one : (h : Graft) (g : Word → Option Tree) (E : Effects) (S : Statement → Found) → Follows h g E S
@@ -103,12 +103,12 @@ mutual
   on_after_one h g E S a (goto n) l p q k = tt
   on_after_one h g E S a (call n ts) l p q k = tt
   on_after_one h g E S a return l p q k = tt
-  on_after_one h g E S a (assign ms) l p q k = on_assigned g (E (graft_one h (assign ms))) (S (assign ms)) (a (assign ms)) p q k
-  on_after_one h g E S a (await e) l p q k = on_assigned g (E (graft_one h (await e))) (S (await e)) (a (await e)) p q k
-  on_after_one h g E S a (print e) l p q k = on_assigned g (E (graft_one h (print e))) (S (print e)) (a (print e)) p q k
-  on_after_one h g E S a (assert e) l p q k = on_assigned g (E (graft_one h (assert e))) (S (assert e)) (a (assert e)) p q k
-  on_after_one h g E S a skip l p q k = on_assigned g (E (graft_one h skip)) (S skip) (a skip) p q k
-  on_after_one h g E S a (macro m ts) l p q k = on_assigned g (E (graft_one h (macro m ts))) (S (macro m ts)) (a (macro m ts)) p q k
+  on_after_one h g E S a (assign ms) l p q k = on_assigned g (E (graft_one h (assign ms))) (S (assign ms)) (a (assign ms) no_partner) p q k
+  on_after_one h g E S a (await e) l p q k = on_assigned g (E (graft_one h (await e))) (S (await e)) (a (await e) no_partner) p q k
+  on_after_one h g E S a (print e) l p q k = on_assigned g (E (graft_one h (print e))) (S (print e)) (a (print e) no_partner) p q k
+  on_after_one h g E S a (assert e) l p q k = on_assigned g (E (graft_one h (assert e))) (S (assert e)) (a (assert e) no_partner) p q k
+  on_after_one h g E S a skip l p q k = on_assigned g (E (graft_one h skip)) (S skip) (a skip no_partner) p q k
+  on_after_one h g E S a (macro m ts) l p q k = on_assigned g (E (graft_one h (macro m ts))) (S (macro m ts)) (a (macro m ts) no_partner) p q k
 
   on_after : (h : Graft) (g : Word → Option Tree) (E : Effects) (S : Statement → Found) → Follows h g E S
       → (b : Statements) (l : Bool) (p : Path) (q : Trail) → On g p q → On g (after E (graft_all h b) l p) (trail_after S b l q)
@@ -162,18 +162,18 @@ again g ts us =
     one : (y : Target) → list_any (is_among (variables_of g ts)) (some_word (resolved g y)) ≡ list_any (is_broken g) (map (λ x. in_turn x y) ts)
     one y = by (resolved g y) ∙ sym (any_map (is_broken g) (λ x. in_turn x y) ts)
 
-met_here : (g : Word → Option Tree) (E : Effects) (b : Before) (at : Place) (st : Statement) (q : Trail) (f : Found)
-    → Agree (E st) (effect_by g f) → On g b.path q → Met g E (record { before = b; place = at; statement = st } ∷ []) (found_on q f)
-met_here g E b at st q f a k = by b.path q k
+met_here : (g : Word → Option Tree) (E : Effects) (b : Before) (at : Place) (st : Statement) (j : Partner) (q : Trail) (f : Found)
+    → Agree (effect_with E st j) (effect_by g f) → On g b.path q → Met g E (record { before = b; place = at; statement = st; partner = j } ∷ []) (found_on q f)
+met_here g E b at st j q f a k = by b.path q k
   where
     by : (p : Path) (q : Trail) → On g p q
-        → Same (cond (is_reached p) (E st).variables [] ++ []) (variables_of g (found_on q f).targets)
-        × ((((E st).twice || has_assigned p (E st).variables) || false) ≡ list_any (is_broken g) (found_on q f).pairs)
-    by None None h = (λ t. refl, or-false ((E st).twice || false) ∙ or-false (E st).twice ∙ a.1)
+        → Same (cond (is_reached p) (effect_with E st j).variables [] ++ []) (variables_of g (found_on q f).targets)
+        × ((((effect_with E st j).twice || has_assigned p (effect_with E st j).variables) || false) ≡ list_any (is_broken g) (found_on q f).pairs)
+    by None None h = (λ t. refl, or-false ((effect_with E st j).twice || false) ∙ or-false (effect_with E st j).twice ∙ a.1)
     by (Some xs) (Some ts) h = (
-      λ t. list_any-append t (E st).variables [] ∙ or-false (list_any t (E st).variables) ∙ a.0 t,
-      or-false ((E st).twice || meets xs (E st).variables)
-          ∙ (λ i. a.1 i || meets_same xs (variables_of g ts) (E st).variables (variables_of g f.targets) h a.0 i)
+      λ t. list_any-append t (effect_with E st j).variables [] ∙ or-false (list_any t (effect_with E st j).variables) ∙ a.0 t,
+      or-false ((effect_with E st j).twice || meets xs (effect_with E st j).variables)
+          ∙ (λ i. a.1 i || meets_same xs (variables_of g ts) (effect_with E st j).variables (variables_of g f.targets) h a.0 i)
           ∙ ap (λ (b : Bool). list_any (is_broken g) f.pairs || b) (again g ts f.targets)
           ∙ sym (any_union same_pair pair_sound (is_broken g) f.pairs (flat_map (λ y. map (λ x. in_turn x y) ts) f.targets)),
     )
@@ -206,14 +206,14 @@ mutual
   met_all h g E S a done b q k = met_none g E
   met_all h g E S a (mark n m rest) b q k = met_all h g E S a rest at_label (Some []) (λ f. refl)
   met_all h g E S a (then at st rest) b q k =
-      met_both g E (record { before = b; place = at.first; statement = graft_one h st } ∷ [])
-      (visits_inside E b (graft_one h st) ++ visits E (next E b (graft_one h st)) (graft_all h rest))
+      met_both g E (record { before = b; place = at.first; statement = graft_one h st; partner = partner_of (graft_all h rest) } ∷ [])
+      (visits_inside E b (graft_one h st) ++ visits E (next E b (graft_one h st) (partner_of (graft_all h rest))) (graft_all h rest))
       (found_on q (S st)) (both (found_inside S b.labelled q st) (found S false (trail_after_one S st b.labelled q) rest))
-      (met_here g E b at.first (graft_one h st) q (S st) (a st) k)
-      (met_both g E (visits_inside E b (graft_one h st)) (visits E (next E b (graft_one h st)) (graft_all h rest))
+      (met_here g E b at.first (graft_one h st) (partner_of (graft_all h rest)) q (S st) (a st (partner_of (graft_all h rest))) k)
+      (met_both g E (visits_inside E b (graft_one h st)) (visits E (next E b (graft_one h st) (partner_of (graft_all h rest))) (graft_all h rest))
       (found_inside S b.labelled q st) (found S false (trail_after_one S st b.labelled q) rest)
       (met_inside h g E S a st b q k)
-      (met_all h g E S a rest (next E b (graft_one h st)) (trail_after_one S st b.labelled q) (on_after_one h g E S a st b.labelled b.path q k)))
+      (met_all h g E S a rest (next E b (graft_one h st) (partner_of (graft_all h rest))) (trail_after_one S st b.labelled q) (on_after_one h g E S a st b.labelled b.path q k)))
 
   met_some : (h : Graft) (g : Word → Option Tree) (E : Effects) (S : Statement → Found) → Follows h g E S
       → (bs : Branches) (p : Path) (q : Trail) → On g p q → Met g E (visits_of_some E (inside p) (graft_some h bs)) (found_in_some S q bs)
@@ -247,21 +247,23 @@ called_found ps ts (s ∷ older) m us = by (bytes_eq s.name m) (called_found ps 
 
 body_follows : (ps : List Name) (ts : Trees) (C : Word → Trees → Effect) (ss : List Summary) → Agreeing C (summary_effect ss)
     → Follows (arguments ps ts) (argument ps ts) (in_macro C) (found_here ps ss)
-body_follows ps ts C ss a (assign ms) = (λ f. ap (list_any f) (roots_graft ps ts ms), clashes_graft ps ts ms)
-body_follows ps ts C ss a (macro m us) =
+body_follows ps ts C ss a (assign ms) j = (λ f. ap (list_any f) (roots_graft ps ts ms), clashes_graft ps ts ms)
+body_follows ps ts C ss a (macro m us) j =
     agree_then (C m (grafts (arguments ps ts) us)) (summary_effect ss m (grafts (arguments ps ts) us)) (effect_by (argument ps ts) (found_in_call ps ss m us))
     (a m (grafts (arguments ps ts) us)) (called_found ps ts ss m us)
-body_follows ps ts C ss a (await e) = agree_nothing
-body_follows ps ts C ss a (print e) = agree_nothing
-body_follows ps ts C ss a (assert e) = agree_nothing
-body_follows ps ts C ss a skip = agree_nothing
-body_follows ps ts C ss a (branch e b c) = agree_nothing
-body_follows ps ts C ss a (either bs) = agree_nothing
-body_follows ps ts C ss a (with bs b) = agree_nothing
-body_follows ps ts C ss a (while e b) = agree_nothing
-body_follows ps ts C ss a (goto n) = agree_nothing
-body_follows ps ts C ss a (call n us) = agree_nothing
-body_follows ps ts C ss a return = agree_nothing
+body_follows ps ts C ss a (await e) j = agree_nothing
+body_follows ps ts C ss a (print e) j = agree_nothing
+body_follows ps ts C ss a (assert e) j = agree_nothing
+body_follows ps ts C ss a skip j = agree_nothing
+body_follows ps ts C ss a (branch e b c) j = agree_nothing
+body_follows ps ts C ss a (either bs) j = agree_nothing
+body_follows ps ts C ss a (with bs b) j = agree_nothing
+body_follows ps ts C ss a (while e b) j = agree_nothing
+body_follows ps ts C ss a (goto n) j = agree_nothing
+body_follows ps ts C ss a (call n us) no_partner = agree_nothing
+body_follows ps ts C ss a (call n us) (goto_partner l) = agree_nothing
+body_follows ps ts C ss a (call n us) (return_partner at) = agree_nothing
+body_follows ps ts C ss a return j = agree_nothing
 
 pub calls_agree : (ms : List Macro) → Agreeing (call_effect ms) (summary_effect (summaries ms))
 calls_agree [] m ts = agree_nothing

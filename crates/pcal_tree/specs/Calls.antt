@@ -1,5 +1,5 @@
 -- Jumps, calls and returns, and with them the rules of a step ("A PlusCal User's Manual", section 3.4, procedures).
-use Rattle.std.specs.Prelude.{List, [], ◌∷◌, ◌++◌, cond, bytes_eq, codes, Option, Some, None, ◌||◌, reverse, Ok, Err}
+use Rattle.std.specs.Prelude.{List, [], ◌∷◌, ◌++◌, cond, bytes_eq, codes, Option, Some, None, ◌||◌, reverse, nat_eq, Ok, Err}
 use Rattle.tla_token.specs.declared.place.Place.{Place}
 use Rattle.tla_expr.specs.Tree.{Word, root_place}
 use Rattle.tla_value.specs.declared.fault.FaultKind.TheVariants.{NotFunction, EmptySequence}
@@ -10,7 +10,7 @@ use Rattle.tla_value.specs.Strict.{applied}
 use Rattle.pcal_tree.specs.Algorithm.{Start, unset, equals, among, Declaration, Routine, locals, procedure_routines}
 use Rattle.pcal_tree.specs.Scope.{State, value_of}
 use Rattle.pcal_tree.specs.Assign.{Setting, set_one, set_all}
-use Rattle.pcal_tree.specs.Run.{Course, ends, stops, held, Rules, with_macros, label_of}
+use Rattle.pcal_tree.specs.Run.{Course, ends, stops, held, Partner, no_partner, goto_partner, return_partner, Rules, with_macros, label_of}
 use Rattle.pcal_tree.specs.Program.{Program, Actor, index, local_index, written, read_at, routine_scope}
 use Rattle.pcal_tree.specs.Variables.{pc, stack, written_all}
 
@@ -80,17 +80,22 @@ variables_started P v p at (d ∷ ds) s = do
   u ← set_one P.check (setting (initial_place at d.start) (written P p d.name.word) (local_index v p) w) s
   variables_started P v p at ds u
 
--- a call of procedure p whose return goes to `back`: the old values of p's parameters and variables go on the stack, parameters get the
+-- a call of procedure p whose return goes to `back`: the values to keep of p's parameters and variables go on the stack, parameters get the
 -- arguments, then variables their initial values, and pc becomes p's first label
-abbrev pub entered : Program → Actor → Place → Value → Routine → List Place → List Value → State → Outcome State
-entered P v at back p places vs s = do
-  olds ← all_read at (local_index v p) (written_all P p (locals p)) s
+abbrev pub entered_keeping : Program → Actor → Place → Value → Routine → List Place → List Value → List Value → State → Outcome State
+entered_keeping P v at back p places vs olds s = do
   front ← P.check at (frame P p back olds)
   frames ← on_stack v at s
   new ← P.check at (seq_from (front ∷ frames))
   t ← set_all P.check (setting at stack (index v.self) new ∷ argument_settings (local_index v p) (written_all P p p.params) places vs) s
   u ← variables_started P v p at p.variables t
   set_one P.check (setting at pc (index v.self) (label_value P p (first_label p))) u
+
+-- it keeps the values that p's parameters and variables have
+abbrev pub entered : Program → Actor → Place → Value → Routine → List Place → List Value → State → Outcome State
+entered P v at back p places vs s = do
+  olds ← all_read at (local_index v p) (written_all P p (locals p)) s
+  entered_keeping P v at back p places vs olds s
 
 -- ---- returns
 
@@ -117,15 +122,42 @@ returned P v at p s = do
   frames ← on_stack v at s
   restored P v at p frames s
 
+-- ---- a call that is one statement with a return
+
+-- the values of p's parameters and variables after a return in u: where p is u itself, those of the record that was taken off
+abbrev pub values_left : Program → Actor → Place → Place → Routine → Routine → Value → State → Outcome (List Value)
+values_left P v at end u p front t =
+    cond (nat_eq u.number p.number) (fields_read end (written_all P u (locals u)) front) (all_read at (local_index v p) (written_all P p (locals p)) t)
+
+-- a return in u at `end`, and then a call of p whose return goes where that return goes
+abbrev pub replaced : Program → Actor → Place → Place → Routine → Routine → List Place → List Value → List Value → State → Outcome State
+replaced P v at end u p places vs [] s = Err (fault EmptySequence end)
+replaced P v at end u p places vs (front ∷ frames) s = do
+  back ← applied end front (text pc)
+  t ← restored P v end u (front ∷ frames) s
+  olds ← values_left P v at end u p front t
+  entered_keeping P v at back p places vs olds t
+
+abbrev pub returned_and_entered : Program → Actor → Place → Place → Routine → Routine → List Place → List Value → State → Outcome State
+returned_and_entered P v at end u p places vs s = do
+  frames ← on_stack v end s
+  replaced P v at end u p places vs frames s
+
 -- ---- the rules of a step
 
 abbrev pub finished : Outcome State → Course
 finished (Ok t) = ends t
 finished (Err k) = stops k
 
-abbrev pub entered_at : Program → Actor → Place → Value → Option Routine → List Place → List Value → State → Course
-entered_at P v at back None places vs s = held at  -- no such procedure
-entered_at P v at back (Some p) places vs s = finished (entered P v at back p places vs s)
+-- a call in routine u, with the label of what follows and its partner
+abbrev pub called_with : Program → Actor → Routine → Place → Routine → List Place → List Value → Word → Partner → State → Outcome State
+called_with P v u at p places vs l no_partner s = entered P v at (label_value P u l) p places vs s
+called_with P v u at p places vs l (goto_partner m) s = entered P v at (label_value P u m) p places vs s
+called_with P v u at p places vs l (return_partner end) s = returned_and_entered P v at end.first u p places vs s
+
+abbrev pub entered_at : Program → Actor → Routine → Place → Option Routine → List Place → List Value → Word → Partner → State → Course
+entered_at P v u at None places vs l j s = held at  -- no such procedure
+entered_at P v u at (Some p) places vs l j s = finished (called_with P v u at p places vs l j s)
 
 abbrev pub named : Word → List Routine → Option Routine
 named x [] = None
@@ -136,7 +168,7 @@ abbrev pub rules_without_macros : Program → Actor → Routine → Rules
 rules_without_macros P v u = record {
   check = P.check;
   goto = λ l s. finished (jumped P v u l s);
-  call = λ at p places vs back s. entered_at P v at (label_value P u back) (named p (procedure_routines P.algorithm)) places vs s;
+  call = λ at p places vs l j s. entered_at P v u at (named p (procedure_routines P.algorithm)) places vs l j s;
   return = λ at s. finished (returned P v at u s);
   macros = λ here at m ts sc K s. held at;
 }

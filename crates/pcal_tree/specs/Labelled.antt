@@ -9,6 +9,7 @@ use Rattle.tla_token.specs.Signs.{is_among}
 use Rattle.tla_expr.specs.Tree.{Word, Trees}
 use Rattle.pcal_tree.specs.declared.mark.Mark.TheVariants.{Plain}
 use Rattle.pcal_tree.specs.Algorithm.{Span, Statement, branch, either, with, while, Statements, done, then, mark, Branches, no_branches, or, Macro, Procedure, Process, Main, alone, processes, Algorithm}
+use Rattle.pcal_tree.specs.Run.{Partner, partner_of}
 use Rattle.pcal_tree.specs.Paths.{Effect, Effects, nothing, after_one}
 use Rattle.pcal_tree.specs.OffencesSteps.{Before, at_label, at_first, inside, next, visits_inside, offences_at, call_effect, procedure_effects, outer_effects}
 use Rattle.pcal_tree.specs.OffencesLabels.{label_words}
@@ -55,8 +56,9 @@ abbrev pub inside_needs : Effects → Before → Statement → List Refusal
 inside_needs E p (with bs b) = flat_map (offences_at E) (visits_inside E p (with bs b))
 inside_needs E p _ = []
 
-abbrev pub needs_label : Effects → Before → Span → Statement → Bool
-needs_label E p at st = not p.labelled && not (is_empty (offences_at E (record { before = p; place = at.first; statement = st }) ++ inside_needs E p st))
+abbrev pub needs_label : Effects → Before → Span → Statement → Partner → Bool
+needs_label E p at st j =
+    not p.labelled && not (is_empty (offences_at E (record { before = p; place = at.first; statement = st; partner = j }) ++ inside_needs E p st))
 
 abbrev pub before : Bool → Before → Before
 before b p = cond b at_label p
@@ -73,9 +75,9 @@ abbrev mutual
   add E p s done go = go done s
   add E p s (mark n k rest) go = add E at_label s rest (λ r t. go (mark n k r) t)
   add E p s (then at st rest) go =
-      add_inside E (before (needs_label E p at st) p) (names_after (needs_label E p at st) s) st (λ st' t.
-      add E (next E (before (needs_label E p at st) p) st') t rest (λ r u.
-      go (labelled_if (needs_label E p at st) s at.first (then at st' r)) u))
+      add_inside E (before (needs_label E p at st (partner_of rest)) p) (names_after (needs_label E p at st (partner_of rest)) s) st (λ st' t.
+      add E (next E (before (needs_label E p at st (partner_of rest)) p) st' (partner_of rest)) t rest (λ r u.
+      go (labelled_if (needs_label E p at st (partner_of rest)) s at.first (then at st' r)) u))
 
   pub add_some : {R : Type 0} → Effects → Before → Supply → Branches → (Branches → Supply → R) → R
   add_some E p s no_branches go = go no_branches s

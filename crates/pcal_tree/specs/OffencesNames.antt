@@ -1,80 +1,51 @@
--- Names that are nothing where they are, wrong numbers of arguments, uses of units that were not read, and names declared twice ("A PlusCal User's Manual", sections 3.3 to 3.6).
-use Rattle.std.specs.Prelude.{ℕ, suc, length, nat_eq, List, [], ◌∷◌, ◌++◌, reverse, map, not, cond, bytes_eq, codes, Option, Some, None}
+-- All uses of names: names that are nothing where they are, wrong numbers of arguments, assignments to what is no variable, operators of modules that
+-- aren't extended, infinite sets, uses of units that were not read; and names declared twice ("A PlusCal User's Manual", sections 3.2 to 3.6).
+use Rattle.std.specs.Prelude.{ℕ, suc, length, nat_eq, List, [], ◌∷◌, ◌++◌, Bool, false, ◌&&◌, reverse, map, not, cond, bytes_eq, codes, Option, Some, None}
 use Rattle.std.specs.List.{flat_map}
 use Rattle.tla_token.specs.declared.place.Place.{Place}
-use Rattle.tla_token.specs.declared.rule.Rule.TheVariants.{Unknown, Duplicate, Arity, OpaqueUnit}
+use Rattle.tla_token.specs.declared.rule.Rule.TheVariants.{Unknown, Duplicate, Arity}
 use Rattle.tla_token.specs.declared.rule.Refusal.{Refusal}
 use Rattle.tla_token.specs.Signs.{is_among}
-use Rattle.tla_expr.specs.Tree.{Word, Form, name, operator_call, Tree, node, Trees, no_trees, tree, words, seen_names}
+use Rattle.tla_expr.specs.Tree.{Word, Form, name, operator_call, Tree, node, Trees, no_trees, tree, words, seen_names, root_place}
 use Rattle.pcal_tree.specs.Algorithm.{Name, Assignments, no_assignments, assignment, Binds, no_binds, one_of, is, Statement, assign, await, print, assert, skip, branch, either, with, while, goto, macro, call, return, Statements, done, then, mark, Branches, no_branches, or, Start, unset, equals, among, Declaration, Definition, Macro, Procedure, Process, Main, alone, processes, Algorithm}
 use Rattle.pcal_tree.specs.Offences.{offence, offence_if}
 use Rattle.pcal_tree.specs.BoundNames.{bound_lists}
 use Rattle.tla_value.specs.Outside.{Outside, ReadDefinition}
+use Rattle.tla_value.specs.StandardModules.{standard_table, is_member, is_last}
 use Rattle.pcal_tree.specs.Outside.{unit_names}
+use Rattle.pcal_tree.specs.Paths.{root}
+pub use Rattle.pcal_tree.specs.NameUses.{Use, takes, variable, argument, standard, unread, Known, Sight, knowing, taking, plain, hidden, known_standard, seeing_plain, seeing_variables, use_of, applied_offences, left_offences, handed_use}
 use Rattle.pcal_tree.specs.Variables.{declared}
-
--- ---- what is in scope
-
--- what a name may be used as: with so many arguments, or not at all where its unit was not read
-pub data Use : Type 0 where
-  takes : ℕ → Use
-  unread : Use
-
-pub record Known : Type 0 where
-  pub word : Word
-  pub use_as : Use
-
--- the names that are known, the latest first
-abbrev pub Sight : Type 0
-Sight = List Known
-
-abbrev pub taking : ℕ → Word → Known
-taking n x = record { word = x; use_as = takes n }
-
-abbrev pub plain : Word → Known
-plain x = taking 0 x
-
-abbrev pub hidden : Word → Known
-hidden x = record { word = x; use_as = unread }
-
-abbrev pub seeing_plain : List Word → Sight → Sight
-seeing_plain xs s = map plain xs ++ s
-
-abbrev pub use_of : Sight → Word → Option Use
-use_of [] x = None
-use_of (k ∷ ks) x = cond (bytes_eq k.word x) (Some k.use_as) (use_of ks x)
-
--- a name used with so many arguments
-abbrev pub use_offences : Option Use → ℕ → Place → List Refusal
-use_offences None n at = offence Unknown at
-use_offences (Some unread) n at = offence OpaqueUnit at
-use_offences (Some (takes k)) n at = offence_if (not (nat_eq k n)) Arity at
-
--- a left side begins with a name; that it is a variable is asked by another rule
-abbrev pub left_offences : Option Use → Place → List Refusal
-left_offences None at = offence Unknown at
-left_offences (Some u) at = []
 
 -- ---- expressions
 
-abbrev pub form_offences : Sight → Form → ℕ → Place → List Refusal
-form_offences s (name x) n at = use_offences (use_of s x) 0 at
-form_offences s (operator_call f) n at = use_offences (use_of s f) n at
-form_offences s _ n at = []
+-- with n parts; true where the form is directly right of \in or \notin
+abbrev pub form_offences : Sight → Bool → Form → ℕ → Place → List Refusal
+form_offences s right (name x) n at = applied_offences (use_of s x) 0 right at
+form_offences s right (operator_call f) n at = applied_offences (use_of s f) n right at
+form_offences s right _ n at = []
 
 abbrev pub count : Trees → ℕ
 count no_trees = 0
 count (tree t ts) = suc (count ts)
 
 abbrev mutual
-  pub in_tree : Tree → Sight → List Refusal
-  in_tree (node m at ts) s = form_offences s m (count ts) at ++ in_parts (seen_names m) ts s
+  pub in_tree : Tree → Bool → Sight → List Refusal
+  in_tree (node m at ts) right s = form_offences s right m (count ts) at ++ in_parts (seen_names m) (is_member m) ts s
 
-  -- each part sees further names
-  pub in_parts : List (List Word) → Trees → Sight → List Refusal
-  in_parts names no_trees s = []
-  in_parts [] (tree t ts) s = in_tree t s ++ in_parts [] ts s
-  in_parts (xs ∷ names) (tree t ts) s = in_tree t (seeing_plain xs s) ++ in_parts names ts s
+  -- each part sees further names; true where the last is directly right of \in or \notin
+  pub in_parts : List (List Word) → Bool → Trees → Sight → List Refusal
+  in_parts names right no_trees s = []
+  in_parts [] right (tree t ts) s = in_tree t (right && is_last ts) s ++ in_parts [] right ts s
+  in_parts (xs ∷ names) right (tree t ts) s = in_tree t (right && is_last ts) (seeing_plain xs s) ++ in_parts names right ts s
+
+-- an expression of its own
+abbrev pub in_whole : Tree → Sight → List Refusal
+in_whole t s = in_tree t false s
+
+-- arguments and subscripts
+abbrev pub in_each : Trees → Sight → List Refusal
+in_each ts s = in_parts [] false ts s
 
 abbrev pub root_offences : Sight → Form → Place → List Refusal
 root_offences s (name x) at = left_offences (use_of s x) at
@@ -86,7 +57,7 @@ abbrev mutual
 
   pub in_left_parts : Trees → Sight → List Refusal
   in_left_parts no_trees s = []
-  in_left_parts (tree t ts) s = in_left t s ++ in_parts [] ts s
+  in_left_parts (tree t ts) s = in_left t s ++ in_each ts s
 
 -- ---- statements
 
@@ -102,13 +73,13 @@ call_offences (d ∷ ds) at p n =
 
 abbrev pub in_assignments : Assignments → Sight → List Refusal
 in_assignments no_assignments s = []
-in_assignments (assignment l e ms) s = in_left l s ++ (in_tree e s ++ in_assignments ms s)
+in_assignments (assignment l e ms) s = in_left l s ++ (in_whole e s ++ in_assignments ms s)
 
 -- each name is seen by those after it
 abbrev pub in_binds : Binds → Sight → List Refusal
 in_binds no_binds s = []
-in_binds (one_of x e bs) s = in_tree e s ++ in_binds bs (seeing_plain (x.word ∷ []) s)
-in_binds (is x e bs) s = in_tree e s ++ in_binds bs (seeing_plain (x.word ∷ []) s)
+in_binds (one_of x e bs) s = in_whole e s ++ in_binds bs (seeing_plain (x.word ∷ []) s)
+in_binds (is x e bs) s = in_whole e s ++ in_binds bs (seeing_plain (x.word ∷ []) s)
 
 abbrev pub after_binds : Binds → Sight → Sight
 after_binds no_binds s = s
@@ -118,17 +89,17 @@ after_binds (is x e bs) s = after_binds bs (seeing_plain (x.word ∷ []) s)
 abbrev mutual
   pub in_one : Calls → List Procedure → Place → Statement → Sight → List Refusal
   in_one C ps at (assign ms) s = in_assignments ms s
-  in_one C ps at (await e) s = in_tree e s
-  in_one C ps at (print e) s = in_tree e s
-  in_one C ps at (assert e) s = in_tree e s
+  in_one C ps at (await e) s = in_whole e s
+  in_one C ps at (print e) s = in_whole e s
+  in_one C ps at (assert e) s = in_whole e s
   in_one C ps at skip s = []
-  in_one C ps at (branch e a b) s = in_tree e s ++ (in_body C ps a s ++ in_body C ps b s)
+  in_one C ps at (branch e a b) s = in_whole e s ++ (in_body C ps a s ++ in_body C ps b s)
   in_one C ps at (either bs) s = in_branches C ps bs s
   in_one C ps at (with bs b) s = in_binds bs s ++ in_body C ps b (after_binds bs s)
-  in_one C ps at (while e b) s = in_tree e s ++ in_body C ps b s
+  in_one C ps at (while e b) s = in_whole e s ++ in_body C ps b s
   in_one C ps at (goto l) s = []
-  in_one C ps at (macro m ts) s = C s at m ts ++ in_parts [] ts s
-  in_one C ps at (call p ts) s = call_offences ps at p (count ts) ++ in_parts [] ts s
+  in_one C ps at (macro m ts) s = C s at m ts ++ in_each ts s
+  in_one C ps at (call p ts) s = call_offences ps at p (count ts) ++ in_each ts s
   in_one C ps at return s = []
 
   pub in_body : Calls → List Procedure → Statements → Sight → List Refusal
@@ -140,23 +111,31 @@ abbrev mutual
   in_branches C ps no_branches s = []
   in_branches C ps (or b bs) s = in_body C ps b s ++ in_branches C ps bs s
 
+-- a parameter may be assigned where its argument is a variable with subscripts and fields
+abbrev pub parameter_use : Option Word → Place → Sight → Use
+parameter_use None at s = argument at
+parameter_use (Some x) at s = handed_use (use_of s x) at
+
+-- in r, the parameters of a macro that is called in s
+abbrev pub seeing_parameters : List Name → Trees → Sight → Sight → Sight
+seeing_parameters [] ts s r = r
+seeing_parameters (p ∷ ps) no_trees s r = knowing variable p.word ∷ seeing_parameters ps no_trees s r
+seeing_parameters (p ∷ ps) (tree t ts) s r = knowing (parameter_use (root t) (root_place t) s) p.word ∷ seeing_parameters ps ts s r
+
 -- the names of a macro's body are looked up where the call is; the macros are given with the newest first, and each calls older ones
 abbrev pub macro_offences : List Macro → List Procedure → Calls
 macro_offences [] ps s at m ts = offence Unknown at
 macro_offences (d ∷ older) ps s at m ts =
     cond (bytes_eq d.name.word m)
     (offence_if (not (nat_eq (length d.params) (count ts))) Arity at
-    ++ in_body (macro_offences older ps) ps d.body (seeing_plain (words d.params) s))
+    ++ in_body (macro_offences older ps) ps d.body (seeing_parameters d.params ts s s))
     (macro_offences older ps s at m ts)
 
 -- ---- algorithms
 
--- of standard modules, whether these are extended or not; and `self`, of which another rule says where it may be
-abbrev pub always_known : Sight
-always_known =
-    plain (codes "self") ∷ plain (codes "Nat") ∷ plain (codes "Int") ∷ taking 1 (codes "Seq") ∷ taking 1 (codes "Len")
-    ∷ taking 2 (codes "Append") ∷ taking 1 (codes "Head") ∷ taking 1 (codes "Tail") ∷ taking 3 (codes "SubSeq")
-    ∷ taking 1 (codes "Cardinality") ∷ taking 1 (codes "IsFiniteSet") ∷ taking 1 (codes "PrintT") ∷ taking 2 (codes "Assert") ∷ []
+-- names of standard modules, whether these are extended or not; and `self`, of which another rule says where it may be
+abbrev pub always_known : List Word → Sight
+always_known extended = plain (codes "self") ∷ map (known_standard extended) standard_table
 
 abbrev pub defined_inside : Definition → Known
 defined_inside d = taking (length d.params) d.name.word
@@ -168,16 +147,16 @@ defined_outside d = taking (length d.definition.params) d.definition.title
 abbrev pub sight_outside : Outside → Sight
 sight_outside o =
     map hidden (flat_map (λ u. u.names) o.opaque)
-    ++ (map plain (words o.constants) ++ (map defined_outside (reverse o.definitions) ++ always_known))
+    ++ (map plain (words o.constants) ++ (map defined_outside (reverse o.definitions) ++ always_known o.extended))
 
 -- globals, and the definitions of the algorithm
 abbrev pub sight_inside : Algorithm → Outside → Sight
-sight_inside a o = map defined_inside a.definitions ++ seeing_plain (declared a.globals) (sight_outside o)
+sight_inside a o = map defined_inside a.definitions ++ seeing_variables (declared a.globals) (sight_outside o)
 
 abbrev pub in_start : Start → Sight → List Refusal
 in_start unset s = []
-in_start (equals e) s = in_tree e s
-in_start (among e) s = in_tree e s
+in_start (equals e) s = in_whole e s
+in_start (among e) s = in_whole e s
 
 abbrev pub in_declared : List Declaration → Sight → List Refusal
 in_declared ds s = flat_map (λ d. in_start d.start s) ds
@@ -185,18 +164,18 @@ in_declared ds s = flat_map (λ d. in_start d.start s) ds
 -- each definition sees those before it
 abbrev pub in_definitions : List Definition → Sight → List Refusal
 in_definitions [] s = []
-in_definitions (d ∷ ds) s = in_tree d.body (seeing_plain (words d.params) s) ++ in_definitions ds (defined_inside d ∷ s)
+in_definitions (d ∷ ds) s = in_whole d.body (seeing_plain (words d.params) s) ++ in_definitions ds (defined_inside d ∷ s)
 
 abbrev pub in_procedure : Calls → List Procedure → Sight → Procedure → List Refusal
 in_procedure C ps s p =
-    in_declared (p.params ++ p.variables) (seeing_plain (declared (p.params ++ p.variables)) s)
-    ++ in_body C ps p.body (seeing_plain (declared (p.params ++ p.variables)) s)
+    in_declared (p.params ++ p.variables) (seeing_variables (declared (p.params ++ p.variables)) s)
+    ++ in_body C ps p.body (seeing_variables (declared (p.params ++ p.variables)) s)
 
 -- a process's head doesn't see its variables
 abbrev pub in_process : Calls → List Procedure → Sight → Process → List Refusal
 in_process C ps s p =
-    in_tree p.identity s
-    ++ (in_declared p.variables (seeing_plain (declared p.variables) s) ++ in_body C ps p.body (seeing_plain (declared p.variables) s))
+    in_whole p.identity s
+    ++ (in_declared p.variables (seeing_variables (declared p.variables) s) ++ in_body C ps p.body (seeing_variables (declared p.variables) s))
 
 abbrev pub in_main : Calls → List Procedure → Sight → Main → List Refusal
 in_main C ps s (alone b) = in_body C ps b s
@@ -206,7 +185,7 @@ in_main C ps s (processes qs) = flat_map (in_process C ps s) qs
 abbrev pub use_offences_by : Calls → Algorithm → Outside → List Refusal
 use_offences_by C a o =
     in_declared a.globals (sight_inside a o)
-    ++ (in_definitions a.definitions (seeing_plain (declared a.globals) (sight_outside o))
+    ++ (in_definitions a.definitions (seeing_variables (declared a.globals) (sight_outside o))
     ++ (flat_map (in_procedure C a.procedures (sight_inside a o)) a.procedures ++ in_main C a.procedures (sight_inside a o) a.main))
 
 abbrev pub use_offences_of : Algorithm → Outside → List Refusal

@@ -7,7 +7,7 @@ use Rattle.tla_token.specs.declared.rule.Rule.TheVariants.{FirstLabel, WhileLabe
 use Rattle.tla_token.specs.declared.rule.Refusal.{Refusal}
 use Rattle.tla_expr.specs.Tree.{Word, Trees}
 use Rattle.pcal_tree.specs.Algorithm.{Name, Statement, branch, either, with, while, goto, macro, call, return, Statements, done, then, mark, Branches, no_branches, or, Macro, Procedure}
-use Rattle.pcal_tree.specs.Run.{arguments}
+use Rattle.pcal_tree.specs.Run.{Partner, return_partner, partner_of, is_pair, arguments}
 use Rattle.pcal_tree.specs.Expand.{graft_all}
 use Rattle.pcal_tree.specs.Offences.{offence, offence_if}
 use Rattle.pcal_tree.specs.Paths.{Effect, Effects, sets_once, nothing, assigned, Path, after_one, is_reached, has_assigned}
@@ -36,15 +36,15 @@ abbrev mutual
   holds_some no_branches = false
   holds_some (or b bs) = holds b || holds_some bs
 
--- the rule by which the statement after this one needs a label
-abbrev pub due_after : Statement → Option Rule
-due_after (goto n) = Some AfterJump
-due_after (call p ts) = Some AfterJump
-due_after return = Some AfterJump
-due_after (branch e a b) = cond (holds a || holds b) (Some AfterBranch) None
-due_after (either bs) = cond (holds_some bs) (Some AfterBranch) None
-due_after (with bs b) = cond (holds b) (Some AfterBranch) None
-due_after _ = None
+-- the rule by which the statement after this one needs a label: a call's partner needs none
+abbrev pub due_after : Statement → Partner → Option Rule
+due_after (goto n) j = Some AfterJump
+due_after (call p ts) j = cond (is_pair j) None (Some AfterJump)
+due_after return j = Some AfterJump
+due_after (branch e a b) j = cond (holds a || holds b) (Some AfterBranch) None
+due_after (either bs) j = cond (holds_some bs) (Some AfterBranch) None
+due_after (with bs b) j = cond (holds b) (Some AfterBranch) None
+due_after _ j = None
 
 -- what is before a statement: a label, or the rule by which one must be there, and the path that leads to it
 pub record Before : Type 0 where
@@ -63,14 +63,15 @@ at_first r = record { labelled = false; due = r; path = Some [] }
 abbrev pub inside : Path → Before
 inside p = record { labelled = false; due = None; path = p }
 
-abbrev pub next : Effects → Before → Statement → Before
-next E p st = record { labelled = false; due = due_after st; path = after_one E st p.labelled p.path }
+abbrev pub next : Effects → Before → Statement → Partner → Before
+next E p st j = record { labelled = false; due = due_after st j; path = after_one E st p.labelled p.path }
 
--- a statement with what is before it
+-- a statement with what is before it, and the partner that it has if it is a call
 pub record Visit : Type 0 where
   pub before : Before
   pub place : Place
   pub statement : Statement
+  pub partner : Partner
 
 -- all statements, those inside others too, in the order of the text
 abbrev mutual
@@ -84,7 +85,8 @@ abbrev mutual
   pub visits : Effects → Before → Statements → List Visit
   visits E p done = []
   visits E p (mark n k rest) = visits E at_label rest
-  visits E p (then at st rest) = record { before = p; place = at.first; statement = st } ∷ (visits_inside E p st ++ visits E (next E p st) rest)
+  visits E p (then at st rest) =
+      record { before = p; place = at.first; statement = st; partner = partner_of rest } ∷ (visits_inside E p st ++ visits E (next E p st (partner_of rest)) rest)
 
   pub visits_of_some : Effects → Before → Branches → List Visit
   visits_of_some E p no_branches = []
@@ -102,9 +104,18 @@ while_offence _ at = []
 abbrev pub missing_label : Visit → List Refusal
 missing_label v = cond v.before.labelled [] (due_offence v.before.due v.place ++ while_offence v.statement v.place)
 
+-- a call that is one statement with a `return` assigns what the `return` assigns: the called procedure's variables are these, or are assigned by nothing
+-- else in the step
+abbrev pub effect_with : Effects → Statement → Partner → Effect
+effect_with E (call p ts) (return_partner at) = E return
+effect_with E st j = E st
+
+abbrev pub effect_at : Effects → Visit → Effect
+effect_at E v = effect_with E v.statement v.partner
+
 -- it assigns what some path to it, or the statement itself, has assigned
 abbrev pub assigns_twice : Effects → Visit → Bool
-assigns_twice E v = (E v.statement).twice || has_assigned v.before.path (E v.statement).variables
+assigns_twice E v = (effect_at E v).twice || has_assigned v.before.path (effect_at E v).variables
 
 abbrev pub offences_at : Effects → Visit → List Refusal
 offences_at E v = missing_label v ++ offence_if (assigns_twice E v) AssignTwice v.place
@@ -124,7 +135,7 @@ abbrev pub body_visits : Effects → Statements → List Visit
 body_visits E b = visits E (inside (Some [])) b
 
 abbrev pub reached_variables : Effects → Visit → List Word
-reached_variables E v = cond (is_reached v.before.path) (E v.statement).variables []
+reached_variables E v = cond (is_reached v.before.path) (effect_at E v).variables []
 
 -- what the statements assign on any path, and whether one of them assigns twice
 abbrev pub effect_of_body : Effects → Statements → Effect

@@ -1,8 +1,12 @@
 -- Words that only laws speak of.
 pub mod Apart
 pub mod Lines
+pub mod MacroBindings
 pub mod MacroSummaries
 pub mod MacroUses
+pub mod MacroSelves
+pub mod MacroSpots
+pub mod BoundDefinitions
 pub mod Choosing
 pub mod Expansion
 pub mod Steps

@@ -1,6 +1,6 @@
 //! Laws of what algorithms mean, stated as what functions without a body ensure.
 
-ghost use Rattle.std.specs.Prelude.{◌≡◌, ℕ, List, [], Bool, Some, None, ◌++◌, reverse, Contains, ◌↔◌};
+ghost use Rattle.std.specs.Prelude.{◌≡◌, ℕ, List, [], Bool, false, Some, None, ◌++◌, reverse, Contains, ◌↔◌};
 ghost use Rattle.tla_token.specs.Signs.{is_among};
 ghost use Rattle.tla_expr.specs.Tree.{Word, Trees};
 ghost use Rattle.pcal_tree.specs.Algorithm.{Statements, Macro, Algorithm};
@@ -11,6 +11,8 @@ ghost use Rattle.pcal_tree.specs.Choices.{walk, first_trouble};
 ghost use Rattle.pcal_tree.specs.Program.{Program, Actor};
 ghost use Rattle.tla_value.specs.Outside.{Outside};
 ghost use Rattle.pcal_tree.specs.OffencesReserved.{reserved_declared};
+ghost use Rattle.pcal_tree.specs.OffencesRebind.{rebind_offences_by, rebind_offences_of};
+ghost use Rattle.pcal_tree.specs.laws.MacroBindings.{macro_bindings, rebinds_by};
 ghost use Rattle.pcal_tree.specs.OffencesSteps.{call_effect};
 ghost use Rattle.pcal_tree.specs.OffencesLabels.{label_offences, label_offences_by};
 ghost use Rattle.pcal_tree.specs.laws.MacroSummaries.{summaries, summary_effect};
@@ -18,6 +20,11 @@ ghost use Rattle.tla_token.specs.declared.rule.Refusal.{Refusal};
 ghost use Rattle.pcal_tree.specs.Offences.{first};
 ghost use Rattle.pcal_tree.specs.OffencesNames.{use_offences_by, use_offences_of};
 ghost use Rattle.pcal_tree.specs.laws.MacroUses.{macro_uses, offences_by_uses};
+ghost use Rattle.pcal_tree.specs.OffencesSelf.{self_offences};
+ghost use Rattle.pcal_tree.specs.OffencesStale.{stale_offences, stale_offences_by};
+ghost use Rattle.pcal_tree.specs.laws.MacroSpots.{spots_by_macros};
+ghost use Rattle.pcal_tree.specs.laws.BoundDefinitions.{rebinds_definitions, binds_definitions};
+ghost use Rattle.pcal_tree.specs.laws.MacroSelves.{self_offences_by_calls};
 ghost use Rattle.tla_expr.specs.Lexical.{Token};
 ghost use Rattle.tla_expr.specs.laws.Columns.{looks};
 ghost use Rattle.pcal_tree.specs.Grammar.{Syntax, Text, Good, spell};
@@ -80,7 +87,7 @@ pub fn runs_depend_on_the_variables()
 /// Statements with their macro calls written out take the courses that they take with the calls, in every scope and
 /// with anything after them, kinds and places of faults included. The calls capture nothing: no name that
 /// a macro's body binds is a parameter or free in an argument. And each macro's body
-/// begins with a statement.
+/// begins with a statement, and no statement of its list is a call, a `goto` or a `return`.
 pub fn written_out_macros_run_the_same()
     ensures { (M : Rules) (ms : List Macro) (here : Word) (ss : Statements) → Calls (FineCall ms) ss → (sc : Scope) → AnyPlace sc → (K : Follow)
         → run (with_macros M ms) here ss sc K ≡ run (with_macros M []) here (expanded ms ss) sc K }
@@ -114,14 +121,43 @@ pub fn macros_are_looked_at_once()
     ensures labels { (forced : Bool) (a : Algorithm) → labelled forced a ≡ labelled_by (λ ms. summary_effect (summaries ms)) forced a }
 {}
 
+/// What is computed once for each macro, from its text and from what was computed for older ones, says of each call which names would be bound
+/// that are in scope already, with the arguments in place of the parameters. So it gives the same offences of names bound again, if not as often
+/// nor in the same order, in every algorithm and whatever is outside of it, and the same one comes first, also among others.
+pub fn bound_names_in_macros_are_looked_at_once()
+    ensures offences { (a : Algorithm) (o : Outside) (r : Refusal)
+        → Contains (rebind_offences_of a o) r ↔ Contains (rebind_offences_by (λ ms. rebinds_by o.extended (macro_bindings o.extended a.procedures ms)) a o) r }
+    ensures first { (a : Algorithm) (o : Outside) (others : List Refusal)
+        → first (rebind_offences_of a o ++ others) ≡ first (rebind_offences_by (λ ms. rebinds_by o.extended (macro_bindings o.extended a.procedures ms)) a o ++ others) }
+{}
+
 /// What is computed once for each macro, from its text and from what was computed for older ones, says of each call what is wrong with the
-/// names that the macro's body uses: those that it doesn't bind are looked up where the call is. So it gives the same offences of uses of
-/// names, if not as often nor in the same order, in every algorithm and whatever is outside of it, and the same one comes first, also among others.
+/// names that the macro's body uses, and with the arguments that it assigns: those that it doesn't bind are looked up where the call is. So it
+/// gives the same offences of uses of names, if not as often nor in the same order, in every algorithm and whatever is outside of it, and the same one comes first, also among others.
 pub fn uses_in_macros_are_looked_at_once()
     ensures offences { (a : Algorithm) (o : Outside) (r : Refusal)
         → Contains (use_offences_of a o) r ↔ Contains (use_offences_by (offences_by_uses (macro_uses (reverse a.macros) a.procedures)) a o) r }
     ensures first { (a : Algorithm) (o : Outside) (others : List Refusal)
         → first (use_offences_of a o ++ others) ≡ first (use_offences_by (offences_by_uses (macro_uses (reverse a.macros) a.procedures)) a o ++ others) }
+{}
+
+/// The macros that calls reach are walked through once each, from their texts alone. That gives the same offences of `self` where no process is as
+/// looking through the macro at each call, if not as often nor in the same order, in every algorithm, and the same one comes first, also among others.
+pub fn self_in_macros_is_looked_for_once()
+    ensures offences { (a : Algorithm) (r : Refusal) → Contains (self_offences a) r ↔ Contains (self_offences_by_calls a) r }
+    ensures first { (a : Algorithm) (others : List Refusal) → first (self_offences a ++ others) ≡ first (self_offences_by_calls a ++ others) }
+{}
+
+/// What is computed once for each macro, from its text and from what was computed for older ones, says of each call which names its body uses, and after
+/// which assignments. So it gives the same offences of definitions that are used after an assignment to what they read, if not as often nor in the same
+/// order, and the same one comes first, also among others. No body may bind or declare the name of a definition, or `self`, its macro calls written out, and
+/// none does where no text does: the rules on names that are bound again and on reserved names ask for that, and of offences against these the first comes before.
+pub fn definitions_in_macros_are_looked_at_once()
+    ensures offences { (a : Algorithm) → rebinds_definitions a ≡ false
+        → (r : Refusal) → Contains (stale_offences a) r ↔ Contains (stale_offences_by (spots_by_macros a) a) r }
+    ensures first { (a : Algorithm) → rebinds_definitions a ≡ false
+        → (others : List Refusal) → first (stale_offences a ++ others) ≡ first (stale_offences_by (spots_by_macros a) a ++ others) }
+    ensures text { (a : Algorithm) → binds_definitions a ≡ false → rebinds_definitions a ≡ false }
 {}
 
 /// Whether tokens spell an algorithm rests on their kinds and columns alone: tokens of other lines spell the same text in other lines.

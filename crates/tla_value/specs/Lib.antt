@@ -15,6 +15,7 @@ pub mod Strict
 pub mod Meaning
 pub mod Grafts
 pub mod Standard
+pub mod StandardModules
 pub mod Definitions
 pub mod Outside
 pub mod Defs

@@ -1,10 +1,12 @@
 -- What is asked of a scope so that the assignments written for jumps, calls and returns do what these do.
-use Rattle.std.specs.Prelude.{◌≡◌, List, [], ◌∷◌, codes, Bool, true, false, Option, Some, None}
+use Rattle.std.specs.Prelude.{◌≡◌, List, [], ◌∷◌, codes, Bool, true, false, not, ◌&&◌, nat_eq, bytes_eq, Option, Some, None}
 use Rattle.tla_token.specs.declared.place.Place.{Place}
 use Rattle.tla_expr.specs.Tree.{Word, Each, Tree, Trees, no_trees, tree}
 use Rattle.tla_value.specs.Standard.{first_of, rest_of, standard_sense}
 use Rattle.pcal_tree.specs.Algorithm.{Declaration, Routine, locals, procedure_routines}
-use Rattle.pcal_tree.specs.Scope.{State, Scope, value_of}
+use Rattle.tla_value.specs.Value.{Value}
+use Rattle.pcal_tree.specs.Scope.{State, put, Scope, value_of}
+use Rattle.pcal_tree.specs.Run.{is_return}
 use Rattle.pcal_tree.specs.Program.{Program, Actor, index, local_index}
 use Rattle.pcal_tree.specs.Variables.{written_all, pc, stack}
 use Rattle.pcal_tree.specs.Calls.{initial_value, named}
@@ -39,8 +41,13 @@ abbrev pub fitting : Program → Option Routine → Trees → Bool
 fitting P None ts = false
 fitting P (Some p) ts = as_many (written_all P p p.params) ts
 
+-- no call that is one statement with a `return`
 abbrev pub callable : Program → Callable
-callable P p ts = fitting P (named p.word (procedure_routines P.algorithm)) ts
+callable P p ts j = not (is_return j) && fitting P (named p.word (procedure_routines P.algorithm)) ts
+
+-- also those that are one statement with a `return`
+abbrev pub callable_in_pairs : Program → Callable
+callable_in_pairs P p ts j = fitting P (named p.word (procedure_routines P.algorithm)) ts
 
 -- the variables of the routine and of each procedure are at the process's identifier, and initial values are written as they are
 pub record RoutinesStand (P : Program) (v : Actor) (u : Routine) (I : InitialValues) (sc : Scope) : Type 0 where
@@ -51,3 +58,34 @@ pub record RoutinesStand (P : Program) (v : Actor) (u : Routine) (I : InitialVal
 -- also with names of f bound
 abbrev pub RoutinesStandWithin : Program → Actor → Routine → InitialValues → (Word → Bool) → Scope → Type 0
 RoutinesStandWithin P v u I f sc = (inner : Scope) → Inner f sc inner → RoutinesStand P v u I inner
+
+-- ---- a call that is one statement with a return
+
+-- x is none of the names
+abbrev pub Unlike : Word → List Word → Type 0
+Unlike x ys = Each (λ y. bytes_eq x y ≡ false) ys
+
+-- each is there once
+abbrev pub AllUnlike : List Word → Type 0
+AllUnlike [] = Unit {0}
+AllUnlike (x ∷ xs) = Unlike x xs × AllUnlike xs
+
+-- the initial value of each variable is the same, whatever pc is and the variables that are not set yet
+abbrev pub RestOnEarlier : Program → Actor → Routine → Place → List Declaration → Type 0
+RestOnEarlier P v p at [] = Unit {0}
+RestOnEarlier P v p at (d ∷ ds) =
+    Each (λ x. (w : Value) (s : State) → initial_value P v p at d.start (put x w s) ≡ initial_value P v p at d.start s) (pc ∷ written_all P p (d ∷ ds)) × RestOnEarlier P v p at ds
+
+-- of a call of p and a return in u: written names are apart, and routines of one number are one
+pub record PairStands (P : Program) (v : Actor) (u p : Routine) : Type 0 where
+  pub same : nat_eq u.number p.number ≡ true → u ≡ p
+  pub pc_of_u : Unlike pc (written_all P u (locals u))
+  pub pc_of_p : Unlike pc (written_all P p (locals p))
+  pub stack_of_u : Unlike stack (written_all P u (locals u))
+  pub stack_of_p : Unlike stack (written_all P p (locals p))
+  pub apart : nat_eq u.number p.number ≡ false → Each (λ x. Unlike x (written_all P p (locals p))) (written_all P u (locals u))
+  pub once : AllUnlike (written_all P p (locals p))
+  pub initials : (at : Place) → RestOnEarlier P v p at p.variables
+
+abbrev pub PairsStand : Program → Actor → Routine → Type 0
+PairsStand P v u = (x : Word) (p : Routine) → named x (procedure_routines P.algorithm) ≡ Some p → PairStands P v u p

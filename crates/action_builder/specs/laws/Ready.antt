@@ -15,6 +15,7 @@ use Rattle.pcal_tree.specs.Algorithm.{Assignments, no_assignments, assignment, B
 use Rattle.pcal_tree.specs.Run.{Rules}
 use Rattle.pcal_tree.specs.Scope.{State, Scope}
 use Rattle.action_builder.specs.Assigned.{Names, more, heads, assigned}
+use Rattle.action_builder.specs.Written.{settings_of, assignment_items, write}
 use Rattle.action_builder.specs.laws.States.{mid}
 use Rattle.action_builder.specs.laws.Scopes.{part_at}
 
@@ -113,7 +114,12 @@ FineBinds U vs A no_binds = Unit {0}
 FineBinds U vs A (one_of x e bs) = FineTree U A e × (is_among vs x.word ≡ false) × FineBinds U vs A bs
 FineBinds U vs A (is x e bs) = FineTree U A e × (is_among vs x.word ≡ false) × FineBinds U vs A bs
 
--- each expression reads what may be read there, and the names of a `with` are no variables
+-- the items of an assignment are in the order of its variables, with the items after them: nothing is written later
+abbrev pub Ordered : Names → Statement → Items → Type 0
+Ordered A (assign ms) later = assignment_items A ms later ≡ settings_of A ms (heads ms) later
+Ordered A _ later = Unit {0}
+
+-- each expression reads what may be read there, the names of a `with` are no variables, and items are in order
 abbrev mutual
   pub FineOne : Readable → List Word → Names → Statement → Type 0
   FineOne U vs A (assign ms) = FineAssignments U vs A ms
@@ -128,7 +134,7 @@ abbrev mutual
 
   pub Fine : Readable → List Word → Names → Statements → Type 0
   Fine U vs A done = Unit {0}
-  Fine U vs A (then at st rest) = FineOne U vs A st × Fine U vs (more A (assigned st)) rest
+  Fine U vs A (then at st rest) = FineOne U vs A st × Fine U vs (more A (assigned st)) rest × Ordered A st (write vs (more A (assigned st)) rest)
   Fine U vs A (mark l k rest) = ⊥
 
   pub FineSome : Readable → List Word → Names → Branches → Type 0

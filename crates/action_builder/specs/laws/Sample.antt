@@ -17,7 +17,7 @@ use Rattle.tla_value.specs.Meaning.{Env, just, bind}
 use Rattle.tla_value.specs.Definitions.{Definition, with_definitions}
 use Rattle.pcal_tree.specs.declared.mark.Mark.TheVariants.{Plain}
 use Rattle.pcal_tree.specs.declared.mark.Fairness.TheVariants.{Unfair}
-use Rattle.pcal_tree.specs.Algorithm.{nowhere, Name, Span, no_assignments, assignment, Statement, assign, await, skip, branch, goto, macro, call, return, Statements, done, then, mark, equals, Declaration, Macro, Procedure, Process, processes, Routine, Algorithm, process_routine, Naming}
+use Rattle.pcal_tree.specs.Algorithm.{nowhere, Name, Span, no_assignments, assignment, Statement, assign, await, skip, branch, goto, macro, call, return, Statements, done, then, mark, equals, Declaration, Macro, Procedure, Process, processes, Routine, Algorithm, procedure_routine, process_routine, Naming}
 use Rattle.pcal_tree.specs.Scope.{State, Scope, bound}
 use Rattle.pcal_tree.specs.Program.{Program, Actor}
 use Rattle.pcal_tree.specs.Variables.{pc, stack}
@@ -117,6 +117,10 @@ program = record { check = plain; constants = λ w. None; outside = larger_of_tw
 
 abbrev pub routine : Routine
 routine = process_routine 2 process
+
+-- the procedure, which could call itself and return
+abbrev pub called : Routine
+called = procedure_routine 1 procedure
 
 abbrev pub me : Value
 me = text (codes "me")

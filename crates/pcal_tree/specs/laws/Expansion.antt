@@ -1,12 +1,12 @@
--- Macro calls that can be written out: nothing is captured, and each macro's body begins with a statement and has no label ("A PlusCal User's
--- Manual", section 3.5, macros).
+-- Macro calls that can be written out: nothing is captured, and each macro's body begins with a statement and has no label, and no call or jump of
+-- its own ("A PlusCal User's Manual", section 3.5, macros).
 use Rattle.std.specs.Prelude.{◌≡◌, List, [], ◌∷◌, Bool, true, false, bytes_eq, Option, Some, None}
 use Rattle.tla_token.specs.declared.place.Place.{Place}
 use Rattle.tla_expr.specs.Tree.{Word, Form, Tree, Trees, Every, EveryOf, Graft}
 use Rattle.tla_value.specs.Value.{Value}
 use Rattle.tla_value.specs.Stops.{Check}
 use Rattle.tla_value.specs.laws.Grafting.{Clear, BindsClear, Apart, ApartForm}
-use Rattle.pcal_tree.specs.Algorithm.{Assignments, no_assignments, assignment, Binds, no_binds, one_of, is, Statement, assign, await, print, assert, branch, either, with, while, macro, call, Statements, done, then, mark, Branches, no_branches, or, Macro}
+use Rattle.pcal_tree.specs.Algorithm.{Assignments, no_assignments, assignment, Binds, no_binds, one_of, is, Statement, assign, await, print, assert, branch, either, with, while, goto, macro, call, return, Statements, done, then, mark, Branches, no_branches, or, Macro}
 use Rattle.pcal_tree.specs.Scope.{State, Scope, bound, reach}
 use Rattle.pcal_tree.specs.Run.{arguments}
 use Rattle.pcal_tree.specs.Expand.{expand, written_out}
@@ -79,6 +79,18 @@ BeginsUnlabelled done = ⊥
 BeginsUnlabelled (then at st rest) = Unit {0}
 BeginsUnlabelled (mark l m rest) = ⊥
 
+-- no statement of the list itself is a call, a `goto` or a `return`, so that none can be one statement with what stands around a macro call
+abbrev pub StaysOne : Statement → Type 0
+StaysOne (goto l) = ⊥
+StaysOne (call p ts) = ⊥
+StaysOne return = ⊥
+StaysOne _ = Unit {0}
+
+abbrev pub Stays : Statements → Type 0
+Stays done = Unit {0}
+Stays (then at st rest) = StaysOne st × Stays rest
+Stays (mark l m rest) = Unit {0}
+
 -- a fact of each call
 abbrev mutual
   pub CallsOne : (Word → Trees → Type 0) → Statement → Type 0
@@ -102,13 +114,14 @@ abbrev pub Chosen : Bool → Type 0 → Type 0 → Type 0
 Chosen true A B = A
 Chosen false A B = B
 
--- no name that is bound in the body is a parameter or free in an argument; so with the calls in the body, which begins with a statement
+-- no name that is bound in the body is a parameter or free in an argument; so with the calls in the body, which begins with a statement, and in which
+-- no statement is a call, a `goto` or a `return`, as none in a macro may be
 abbrev pub FineCall : List Macro → Word → Trees → Type 0
 FineCall [] m ts = Unit {0}
 FineCall (d ∷ older) m ts =
     Chosen (bytes_eq d.name.word m)
     (Throughout (ApartForm (arguments d.params ts)) (Apart (arguments d.params ts)) (expand (written_out older) d.body)
-    × Calls (FineCall older) d.body × BeginsUnlabelled d.body)
+    × Calls (FineCall older) d.body × BeginsUnlabelled d.body × Stays d.body)
     (FineCall older m ts)
 
 -- no label at all, as in a macro's body
