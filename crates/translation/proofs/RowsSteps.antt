@@ -7,7 +7,7 @@ use Rattle.tla_value.specs.Outside.{Outside}
 use Rattle.module_text.specs.Module.{init_unit, next_unit}
 use Rattle.module_text.specs.Layout.{unit_text}
 use Rattle.module_text.specs.Formulas.{named, at, set}
-use Rattle.pcal_tree.specs.Algorithm.{nowhere, no_binds, one_of, is, await, print, assert, skip, branch, either, with, while, macro, call, return, Statement, Statements, done, no_branches, or, Macro, Procedure, alone, Algorithm}
+use Rattle.pcal_tree.specs.Algorithm.{nowhere, no_binds, one_of, is, await, print, assert, skip, branch, either, with, while, goto, macro, call, return, Statement, Statements, done, no_branches, or, Macro, Procedure, alone, Algorithm}
 use Rattle.pcal_tree.specs.Labelled as labels
 use Rattle.translation.specs.Region.{written_region}
 use Rattle.translation.proofs.Trees.{word, x, y, z, num, over, pair, and_next, just, sets, both, labelled, variable, zero_of, with_main, one_body, integers, texts}
@@ -115,6 +115,26 @@ plain_init = refl
 plain_next : unit_text 1 (next_unit (written_region false sequences add_one).next) ≡ codes "Next ==\n  \\/ Add\n  \\/ A\n  \\/ Terminating\n"
 unfolding digits
 plain_next = refl
+
+-- a call directly followed by a return is one statement with it, and so is one followed by a jump
+abbrev tail_adds : Statements
+tail_adds =
+    labelled (codes "P") (and_next (sets (codes "r") (over Plus (named (codes "r")) n))
+    (just (branch (over Greater n (num 0)) (and_next (calls (over Minus n (num 1))) (just return)) (just return))))
+
+abbrev tail_adder : Procedure
+tail_adder = record { name = word (codes "Add"); params = zero_of (codes "n") ∷ []; variables = []; body = tail_adds }
+
+call_with_return : around sequences (with_main (zero_of (codes "r") ∷ []) (tail_adder ∷ []) (alone (labelled (codes "A") (just (calls (num 2)))))) ≡ codes "P ==\n  /\\ (pc = \"P\")\n  /\\ r' = (r + n)\n  /\\ IF n > 0\n     THEN\n       /\\ stack' = (<<[procedure |-> \"Add\", pc |-> Head(stack).pc, n |-> Head(stack).n]>> \\o Tail(stack))\n       /\\ n' = (n - 1)\n       /\\ pc' = \"P\"\n     ELSE\n       /\\ pc' = Head(stack).pc\n       /\\ n' = Head(stack).n\n       /\\ stack' = Tail(stack)\nAdd ==\n  \\/ P\nA ==\n  /\\ (pc = \"A\")\n  /\\ stack' = (<<[procedure |-> \"Add\", pc |-> \"Done\", n |-> n]>> \\o stack)\n  /\\ n' = 2\n  /\\ pc' = \"P\"\n  /\\ UNCHANGED <<r>>\n"
+unfolding digits
+call_with_return = refl
+
+abbrev idle : Procedure
+idle = record { name = word (codes "Z"); params = []; variables = []; body = labelled (codes "B") (just return) }
+
+call_with_goto : around sequences (with_main [] (idle ∷ []) (alone (labelled (codes "A") (and_next (call (word (codes "Z")) no_trees) (just (goto (codes "A"))))))) ≡ codes "B ==\n  /\\ (pc = \"B\")\n  /\\ pc' = Head(stack).pc\n  /\\ stack' = Tail(stack)\nZ ==\n  \\/ B\nA ==\n  /\\ (pc = \"A\")\n  /\\ stack' = (<<[procedure |-> \"Z\", pc |-> \"A\"]>> \\o stack)\n  /\\ pc' = \"B\"\n"
+unfolding digits
+call_with_goto = refl
 
 -- x = 0;  A: with v \in {} do x := v; end with;
 some_member : actions_of (one_body (zero_of x ∷ []) (labelled (codes "A") (just (with (one_of (word (codes "v")) (set []) no_binds) (just (sets x (named (codes "v")))))))) ≡ codes "A ==\n  /\\ (pc = \"A\")\n  /\\ \\E v \\in {} :\n       /\\ x' = v\n  /\\ pc' = \"Done\"\n"
