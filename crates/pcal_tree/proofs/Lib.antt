@@ -38,3 +38,4 @@ pub mod SameVariables
 pub mod StepVariables
 pub mod SameSteps
 pub mod SameStarts
+pub mod RowsCounts

@@ -1,5 +1,5 @@
 -- Worked examples of algorithms as they are spelled and printed, by computation.
-use Rattle.std.proofs.Common.{◌≡◌, refl, arith, ℕ, ◌+◌, ◌++◌, List, [], ◌∷◌, Some, None, false, true, codes, drop}
+use Rattle.std.proofs.Common.{◌≡◌, refl, arith, ℕ, ◌+◌, ◌++◌, List, [], ◌∷◌, Some, None, false, true, codes, drop, map}
 use Rattle.std.specs.Fmt.{decimal}
 use Rattle.std.proofs.lemmas.Fmt.{decimal_digit}
 use Rattle.tla_token.specs.declared.place.Place.{Place}
@@ -16,13 +16,14 @@ use Rattle.tla_expr.specs.Spelling as spelled
 use Rattle.pcal_tree.specs.declared.mark.Mark.TheVariants as marked
 use Rattle.pcal_tree.specs.Algorithm.{Name, Algorithm, Statement, assign, assignment, no_assignments, done, then, mark, alone, equals}
 use Rattle.pcal_tree.specs.AlgorithmTokens.{kind_of, views}
-use Rattle.tla_expr.specs.laws.Columns.{looks}
-use Rattle.pcal_tree.specs.laws.Lines.{Begins}
+use Rattle.tla_expr.specs.FirstStop.{to_end, Begins}
 use Rattle.pcal_tree.specs.GrammarParts as part
 use Rattle.pcal_tree.specs.GrammarP as p
 use Rattle.pcal_tree.specs.GrammarC as c
 use Rattle.pcal_tree.specs.Grammar.{Text, p_syntax, SpellsP, SpellsC}
 use Rattle.pcal_tree.specs.Grammar as text
+use Rattle.pcal_tree.specs.OpenForms.{opens}
+use Rattle.pcal_tree.specs.OffencesSyntax.{algorithms}
 use Rattle.pcal_tree.specs.Printed.{PText, CText}
 
 abbrev at : ℕ → ℕ → Place
@@ -92,15 +93,21 @@ move_phrase = part.assign (part.last_assignment (spelled.name (at 4 6) (codes "x
 abbrev text_of : text.Around → text.Main → Text
 text_of r m = record { head = text.algorithm (at 1 1); name = n 1 13 (codes "Inc"); around = r; variables = variables; define = text.no_define; macros = []; procedures = []; main = m }
 
+abbrev pub in_p_text : Text
+in_p_text = text_of (text.to_end (at 5 1) (at 5 5)) (text.begin (at 3 1) (p.last_statement labels (p.simple move_phrase) (Some (at 4 16))))
+
 in_p : SpellsP p_tokens counted
-in_p = (text_of (text.to_end (at 5 1) (at 5 5)) (text.begin (at 3 1) (p.last_statement labels (p.simple move_phrase) (Some (at 4 16)))), search, refl, refl)
+in_p = (in_p_text, search, refl, refl)
+
+abbrev pub in_c_text : Text
+in_c_text = text_of (text.in_braces (at 1 17) (at 6 1)) (text.block (at 3 1) (c.last_statement (c.labelled labels (c.simple move_phrase)) (Some (at 4 16))) (at 5 1) None)
 
 in_c : SpellsC c_tokens counted
-in_c = (text_of (text.in_braces (at 1 17) (at 6 1)) (text.block (at 3 1) (c.last_statement (c.labelled labels (c.simple move_phrase)) (Some (at 4 16))) (at 5 1) None), search, refl, refl)
+in_c = (in_c_text, search, refl, refl)
 
 -- what begins it, in these columns and whatever lines
-begins_so : Begins p_syntax ((tk.word (codes "--algorithm"), 1) ∷ (tk.word (codes "Inc"), 13) ∷ (tk.reserved (codes "variables"), 1) ∷ [])
-begins_so = (text_of (text.to_end (at 5 1) (at 5 5)) (text.begin (at 3 1) (p.last_statement labels (p.simple move_phrase) (Some (at 4 16)))), looks (drop 3 (views p_tokens)), search, refl)
+begins_so : Begins (algorithms p_syntax) (map Some ((tk.word (codes "--algorithm"), 1) ∷ (tk.word (codes "Inc"), 13) ∷ (tk.reserved (codes "variables"), 1) ∷ []))
+begins_so = (drop 3 (to_end (views p_tokens)), opens in_p_text, (in_p_text, search, refl, refl))
 
 -- ---- what the grammar sees: a prime is no sign of an algorithm, a reserved word no name
 

@@ -23,6 +23,7 @@ pub mod GrammarParts
 pub mod GrammarP
 pub mod GrammarC
 pub mod Grammar
+pub mod OpenForms
 pub mod Printed
 pub mod Offences
 pub mod Paths
@@ -33,4 +34,6 @@ pub mod BoundNames
 pub mod Outside
 pub mod OffencesNames
 pub mod OffencesReserved
+pub mod OffencesSyntax
+pub mod OffencesCounts
 pub mod laws

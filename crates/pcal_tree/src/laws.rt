@@ -1,6 +1,6 @@
 //! Laws of what algorithms mean, stated as what functions without a body ensure.
 
-ghost use Rattle.std.specs.Prelude.{◌≡◌, ℕ, List, [], Bool, Some, None, ◌++◌, reverse, Contains, ◌↔◌};
+ghost use Rattle.std.specs.Prelude.{◌≡◌, ℕ, List, [], Bool, map, Some, None, ◌++◌, reverse, Contains, ◌↔◌};
 ghost use Rattle.tla_token.specs.Signs.{is_among};
 ghost use Rattle.tla_expr.specs.Tree.{Word, Trees};
 ghost use Rattle.pcal_tree.specs.Algorithm.{Statements, Macro, Algorithm};
@@ -19,9 +19,10 @@ ghost use Rattle.pcal_tree.specs.Offences.{first};
 ghost use Rattle.pcal_tree.specs.OffencesNames.{use_offences_by, use_offences_of};
 ghost use Rattle.pcal_tree.specs.laws.MacroUses.{macro_uses, offences_by_uses};
 ghost use Rattle.tla_expr.specs.Lexical.{Token};
-ghost use Rattle.tla_expr.specs.laws.Columns.{looks};
+ghost use Rattle.tla_expr.specs.FirstStop.{looks, Begins};
 ghost use Rattle.pcal_tree.specs.Grammar.{Syntax, Text, Good, spell};
-ghost use Rattle.pcal_tree.specs.laws.Lines.{Begins, text_lineless};
+ghost use Rattle.pcal_tree.specs.OffencesSyntax.{algorithms};
+ghost use Rattle.pcal_tree.specs.laws.Lines.{text_lineless};
 ghost use Rattle.pcal_tree.specs.Labelled.{labelled, labelled_by};
 ghost use Rattle.pcal_tree.specs.Names.{given, naming};
 ghost use Rattle.pcal_tree.specs.laws.Apart.{FewNames, Apart, New, Untaken, AreNames, NoEndLabels};
@@ -129,8 +130,8 @@ pub fn uses_in_macros_are_looked_at_once()
 pub fn lines_of_algorithms_do_not_matter()
     ensures spelled { (s : Syntax) (ts us : List Token) → looks ts ≡ looks us → (x : Text) → Good s x → ts ≡ spell x []
         → (y : Text) × Good s y × (us ≡ spell y []) × (text_lineless y ≡ text_lineless x) }
-    ensures begins { (s : Syntax) (ts more : List Token) (x : Text) → Good s x → spell x [] ≡ ts ++ more → Begins s (looks ts) }
-    ensures begun { (s : Syntax) (ts : List Token) → Begins s (looks ts) → (x : Text) × (more : List Token) × Good s x × (spell x [] ≡ ts ++ more) }
+    ensures begins { (s : Syntax) (ts more : List Token) (x : Text) → Good s x → spell x [] ≡ ts ++ more → Begins (algorithms s) (map Some (looks ts)) }
+    ensures begun { (s : Syntax) (ts : List Token) → Begins (algorithms s) (map Some (looks ts)) → (x : Text) × (more : List Token) × Good s x × (spell x [] ≡ ts ++ more) }
 {}
 
 /// Each state of a run by a script after the first is one that a step leads to: that of the process which the script names,

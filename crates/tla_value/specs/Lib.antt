@@ -16,5 +16,6 @@ pub mod Meaning
 pub mod Grafts
 pub mod Standard
 pub mod Definitions
+pub mod DefinitionNesting
 pub mod Outside
 pub mod laws
