@@ -29,13 +29,13 @@ label_names b = map (λ l. l.name) (labels false b)
 abbrev pub all_label_names : Algorithm → List Name
 all_label_names a = flat_map (λ d. label_names d.body) a.macros ++ flat_map (λ u. label_names u.body) (routines a)
 
+abbrev pub at_first_name : List Name → List Refusal
+at_first_name [] = []
+at_first_name (x ∷ more) = offence TooMany x.place
+
 -- the first one past a limit
 abbrev pub first_past : ℕ → List Name → List Refusal
-first_past n xs = by (drop n xs)
-  where
-    by : List Name → List Refusal
-    by [] = []
-    by (x ∷ more) = offence TooMany x.place
+first_past n xs = at_first_name (drop n xs)
 
 -- ---- chains of macros
 
