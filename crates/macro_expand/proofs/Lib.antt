@@ -3,3 +3,4 @@ pub mod TreeSums
 pub mod MeasureLaws
 pub mod CountLaws
 pub mod Rows
+pub mod SizeLimits

@@ -40,3 +40,4 @@ pub mod SameSteps
 pub mod SameStarts
 pub mod RowsCounts
 pub mod CountLimits
+pub mod RefusedOnce

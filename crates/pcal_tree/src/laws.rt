@@ -21,7 +21,8 @@ ghost use Rattle.pcal_tree.specs.laws.MacroUses.{macro_uses, offences_by_uses};
 ghost use Rattle.tla_expr.specs.Lexical.{Token};
 ghost use Rattle.tla_expr.specs.FirstStop.{looks, Begins};
 ghost use Rattle.pcal_tree.specs.Grammar.{Syntax, Text, Good, spell};
-ghost use Rattle.pcal_tree.specs.OffencesSyntax.{algorithms};
+ghost use Rattle.pcal_tree.specs.OffencesSyntax.{algorithms, PassesTokens, RefusesTokens};
+ghost use Rattle.tla_token.specs.Tokens as text;
 ghost use Rattle.tla_token.specs.Limits.{most_variables, most_processes, most_procedures, most_labels};
 ghost use Rattle.pcal_tree.specs.OffencesCounts.{variable_names, procedure_names, all_label_names, count_offences};
 ghost use Rattle.pcal_tree.specs.laws.Lines.{text_lineless};
@@ -144,6 +145,12 @@ pub fn counts_are_within_the_limits()
     ensures procedures { (a : Algorithm) → count_offences a ≡ [] → length (procedure_names a) ≤ most_procedures }
     ensures labels { (a : Algorithm) → count_offences a ≡ [] → length (all_label_names a) ≤ most_labels }
     ensures names { (a : Algorithm) → count_offences a ≡ [] → length (wanted a) ≤ most_procedures + most_processes + most_variables + most_labels }
+{}
+
+/// The tokens of an algorithm are refused at one place at most, by one rule, and then they don't pass.
+pub fn tokens_are_refused_once()
+    ensures once { (s : Syntax) (ts : List text.Token) (end : Place) (r q : Refusal) → RefusesTokens s ts end r → RefusesTokens s ts end q → r ≡ q }
+    ensures not_both { (s : Syntax) (ts : List text.Token) (end : Place) (r : Refusal) → PassesTokens s ts → RefusesTokens s ts end r → ⊥ }
 {}
 
 /// Each state of a run by a script after the first is one that a step leads to: that of the process which the script names,

@@ -31,3 +31,5 @@ pub mod ReadAll
 pub mod ReadElements
 pub mod ReadMembers
 pub mod ReadFunctions
+pub mod StopLaws
+pub mod RowsStops

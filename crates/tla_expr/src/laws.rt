@@ -5,7 +5,9 @@ ghost use Rattle.tla_expr.specs.Tree.{Tree};
 ghost use Rattle.tla_expr.specs.Lexical.{Token};
 ghost use Rattle.tla_expr.specs.Spelling.{Phrase, spell, tree_of, Good, IsGood, Spells, head, primary};
 ghost use Rattle.tla_expr.specs.Reader.{read};
-ghost use Rattle.tla_expr.specs.FirstStop.{looks, Begins, phrases};
+ghost use Rattle.tla_token.specs.declared.place.Place.{Place};
+ghost use Rattle.tla_token.specs.declared.rule.Refusal.{Refusal};
+ghost use Rattle.tla_expr.specs.FirstStop.{looks, Begins, phrases, RefusesExpression};
 ghost use Rattle.tla_expr.specs.laws.Columns.{lineless};
 ghost use Rattle.tla_expr.specs.Written.{pieces};
 ghost use Rattle.tla_expr.specs.laws.Writable.{IsWritable, AreSpelled};
@@ -33,6 +35,11 @@ pub fn lines_do_not_matter()
     ensures read { (edge : ℕ) (ts us : List Token) → looks ts ≡ looks us → (a : Phrase) → read edge ts ≡ Ok (a, []) → (b : Phrase) × (read edge us ≡ Ok (b, [])) × (lineless b ≡ lineless a) }
     ensures begins { (edge : ℕ) (ts more : List Token) (a : Phrase) → Good edge a → spell a [] ≡ ts ++ more → Begins (phrases edge) (map Some (looks ts)) }
     ensures begun { (edge : ℕ) (ts : List Token) → Begins (phrases edge) (map Some (looks ts)) → (a : Phrase) × (more : List Token) × Good edge a × (spell a [] ≡ ts ++ more) }
+{}
+
+/// An expression is refused at one place at most, by one rule.
+pub fn expressions_are_refused_once()
+    ensures { (ts : List Token) (end : Place) (r q : Refusal) → RefusesExpression ts end r → RefusesExpression ts end q → r ≡ q }
 {}
 
 /// What is written of a tree whose names, fields, strings and numbers a text can have are texts of tokens, each seen as the token
