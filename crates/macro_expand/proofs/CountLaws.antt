@@ -7,9 +7,9 @@ use Rattle.pcal_tree.specs.Run.{arguments}
 use Rattle.pcal_tree.specs.Expand.{expand, expanded, written_out, graft_all, graft_left}
 use Rattle.macro_expand.specs.Measured.{Measure, Calls, of_trees, of_all, of_each, of_declared, of_procedure, of_process, of_main, of_algorithm}
 use Rattle.macro_expand.specs.Size.{Size, no_size, both, one_node_more, deeper, one_label_more, sizes, call_size, expansion, expanded_main, expanded_size}
-use Rattle.macro_expand.specs.Sums.{Unknown, counting, nesting, number, plus, value, as_names, tree_sum, left_sum, argument}
-use Rattle.macro_expand.specs.MacroSizes.{Counts, counts, MacroCounts, with_arguments, unknown_call, call_counts, with_macro, macro_counts, size_at_names, size_by_macros}
-use Rattle.macro_expand.specs.MacroSizes as macros
+use Rattle.macro_expand.specs.laws.Sums.{Unknown, counting, nesting, number, plus, value, as_names, tree_sum, left_sum, argument}
+use Rattle.macro_expand.specs.laws.MacroSizes.{Counts, counts, MacroCounts, with_arguments, unknown_call, call_counts, with_macro, macro_counts, size_at_names, size_by_macros}
+use Rattle.macro_expand.specs.laws.MacroSizes as macros
 use Rattle.macro_expand.proofs.SumLaws.{is_counting, is_nesting, value_plus, value_put, max_of_three}
 use Rattle.macro_expand.proofs.TreeSums.{under, tree_put, left_put, nodes_are, nesting_is, subscript_nodes_are, left_nesting_is}
 use Rattle.macro_expand.proofs.MeasureLaws.{Carries, carry_trees, carry_all, carry_algorithm, Joins, written_all, Puts, put_trees, put_all}

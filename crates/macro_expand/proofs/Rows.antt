@@ -14,7 +14,7 @@ use Rattle.pcal_tree.specs.declared.mark.Mark.TheVariants.{Plain}
 use Rattle.pcal_tree.specs.Algorithm.{nowhere, Span, no_assignments, assignment, no_binds, one_of, Statement, assign, await, skip, with, macro, Statements, done, then, mark, alone, Macro, Declaration, unset, Algorithm}
 use Rattle.pcal_tree.specs.Offences.{offence, offence_if}
 use Rattle.macro_expand.specs.Size.{nodes, subscript_nodes, left_nesting, Size, expanded_size}
-use Rattle.macro_expand.specs.MacroSizes.{size_by_macros}
+use Rattle.macro_expand.specs.laws.MacroSizes.{size_by_macros}
 use Rattle.macro_expand.specs.TooLarge.{is_too_large, too_large, counted}
 use Rattle.macro_expand.proofs.CountLaws.{counted_once}
 

@@ -2,7 +2,7 @@
 use Rattle.std.proofs.Common.{◌≡◌, ℕ, ◌+◌, ◌*◌, List, [], ◌∷◌, map, Bool, true, false, cond, max, refl, sym, ap, ◌∙◌, arith}
 use Rattle.std.proofs.Math.Nat.{max_comm, max-zero, mul_assoc}
 use Rattle.std.proofs.lemmas.Slice.Eq.{bytes_eq-Decides}
-use Rattle.macro_expand.specs.Sums.{Unknown, whole, root, same_unknown, Arithmetic, counting, nesting, Sum, number, only, with_term, with_terms, plus, times, put_terms, put, value_of_terms, value}
+use Rattle.macro_expand.specs.laws.Sums.{Unknown, whole, root, same_unknown, Arithmetic, counting, nesting, Sum, number, only, with_term, with_terms, plus, times, put_terms, put, value_of_terms, value}
 
 pub record IsArithmetic (A : Arithmetic) : Type 0 where
   pub comm : (a b : ℕ) → A.plus a b ≡ A.plus b a

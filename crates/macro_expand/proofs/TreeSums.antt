@@ -8,7 +8,7 @@ use Rattle.pcal_tree.specs.Algorithm.{nowhere}
 use Rattle.pcal_tree.specs.Run.{arguments}
 use Rattle.pcal_tree.specs.Expand.{placed_at, graft_left}
 use Rattle.macro_expand.specs.Size.{weights, form_nodes, nodes, weighed, in_left, after_first, subscript_nodes, first_subscript_nodes, left_nesting, first_left_nesting}
-use Rattle.macro_expand.specs.Sums.{Unknown, whole, root, Arithmetic, counting, nesting, Sum, number, only, plus, times, value, as_names, form_sum, tree_sum, weighed_sum, sum_in_left, left_sum, first_left_sum, whole_sum, root_sum, argument}
+use Rattle.macro_expand.specs.laws.Sums.{Unknown, whole, root, Arithmetic, counting, nesting, Sum, number, only, plus, times, value, as_names, form_sum, tree_sum, weighed_sum, sum_in_left, left_sum, first_left_sum, whole_sum, root_sum, argument}
 use Rattle.macro_expand.proofs.SumLaws.{IsArithmetic, is_counting, is_nesting, value_plus, value_times, value_only}
 
 -- arguments don't depend on places

@@ -1,5 +1,4 @@
 pub mod Measured
 pub mod Size
-pub mod Sums
-pub mod MacroSizes
 pub mod TooLarge
+pub mod laws

@@ -4,7 +4,7 @@ ghost use Rattle.std.specs.Prelude.{◌≡◌, ◌≤◌, []};
 ghost use Rattle.tla_token.specs.Limits.{most_nodes, most_labels, deepest_expression, deepest_statement};
 ghost use Rattle.pcal_tree.specs.Algorithm.{Algorithm};
 ghost use Rattle.macro_expand.specs.Size.{expanded_size};
-ghost use Rattle.macro_expand.specs.MacroSizes.{size_by_macros};
+ghost use Rattle.macro_expand.specs.laws.MacroSizes.{size_by_macros};
 ghost use Rattle.macro_expand.specs.TooLarge.{too_large, size_of_expansion};
 
 /// What is counted once for each macro, from its text and from what was counted for older ones, gives the size that an algorithm has with all its

@@ -1,4 +1,4 @@
--- How large a value may get in a run: integers from -2^127 to 2^127 - 1, sets and functions of at most 65,536 members, and values nested at most 200 deep.
+-- How large a value may get in a run: its integers, the members of its sets and functions, how deep it is nested.
 use Rattle.std.specs.Prelude.{ℕ, ℤ, pos, negsuc, Bool, true, if◌then◌else◌, ◌&&◌, nat_lt, nat_le, suc, max, Ok, Err}
 use Rattle.tla_token.specs.declared.place.Place.{Place}
 use Rattle.tla_token.specs.Limits.{past_numbers, most_members, deepest_value}

@@ -5,7 +5,7 @@ use Rattle.tla_expr.specs.Tree.{Word, Name, Trees}
 use Rattle.pcal_tree.specs.Algorithm.{Macro, Algorithm}
 use Rattle.macro_expand.specs.Measured.{Measure, Calls, of_all, of_algorithm}
 use Rattle.macro_expand.specs.Size.{Size}
-use Rattle.macro_expand.specs.Sums.{Unknown, counting, nesting, Sum, number, plus, put, value, as_names, tree_sum, left_sum, argument}
+use Rattle.macro_expand.specs.laws.Sums.{Unknown, counting, nesting, Sum, number, plus, put, value, as_names, tree_sum, left_sum, argument}
 
 pub record Counts : Type 0 where
   pub nodes : Sum
