@@ -33,3 +33,4 @@ pub mod ReadMembers
 pub mod ReadFunctions
 pub mod StopLaws
 pub mod RowsStops
+pub mod CountsLaws

@@ -1,12 +1,13 @@
 //! Laws of expressions, stated as what functions without a body ensure.
 
-ghost use Rattle.std.specs.Prelude.{◌≡◌, ◌++◌, ℕ, List, [], map, Some, Ok};
+ghost use Rattle.std.specs.Prelude.{◌≡◌, ◌++◌, ℕ, List, [], length, map, Some, Ok};
 ghost use Rattle.tla_expr.specs.Tree.{Tree};
 ghost use Rattle.tla_expr.specs.Lexical.{Token};
 ghost use Rattle.tla_expr.specs.Spelling.{Phrase, spell, tree_of, Good, IsGood, Spells, head, primary};
 ghost use Rattle.tla_expr.specs.Reader.{read};
 ghost use Rattle.tla_token.specs.declared.place.Place.{Place};
 ghost use Rattle.tla_token.specs.declared.rule.Refusal.{Refusal};
+ghost use Rattle.tla_expr.specs.Nesting.{counts};
 ghost use Rattle.tla_expr.specs.FirstStop.{looks, Begins, phrases, RefusesExpression};
 ghost use Rattle.tla_expr.specs.laws.Columns.{lineless};
 ghost use Rattle.tla_expr.specs.Written.{pieces};
@@ -35,6 +36,11 @@ pub fn lines_do_not_matter()
     ensures read { (edge : ℕ) (ts us : List Token) → looks ts ≡ looks us → (a : Phrase) → read edge ts ≡ Ok (a, []) → (b : Phrase) × (read edge us ≡ Ok (b, [])) × (lineless b ≡ lineless a) }
     ensures begins { (edge : ℕ) (ts more : List Token) (a : Phrase) → Good edge a → spell a [] ≡ ts ++ more → Begins (phrases edge) (map Some (looks ts)) }
     ensures begun { (edge : ℕ) (ts : List Token) → Begins (phrases edge) (map Some (looks ts)) → (a : Phrase) × (more : List Token) × Good edge a × (spell a [] ≡ ts ++ more) }
+{}
+
+/// Each token of a phrase has one count of the forms that are open at it.
+pub fn each_token_of_a_phrase_has_its_count()
+    ensures { (n : ℕ) (a : Phrase) → length (counts n a []) ≡ length (spell a []) }
 {}
 
 /// An expression is refused at one place at most, by one rule.
