@@ -41,3 +41,4 @@ pub mod SameStarts
 pub mod RowsCounts
 pub mod CountLimits
 pub mod RefusedOnce
+pub mod OpensLaws

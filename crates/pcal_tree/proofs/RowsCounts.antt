@@ -14,6 +14,7 @@ use Rattle.pcal_tree.specs.GrammarParts as part
 use Rattle.pcal_tree.specs.GrammarP as p
 use Rattle.pcal_tree.specs.GrammarC as c
 use Rattle.pcal_tree.specs.Offences.{offence}
+use Rattle.pcal_tree.specs.OffencesNames.{names_of}
 use Rattle.pcal_tree.specs.OpenForms.{opens, simple_opens, p_statement, c_statement}
 use Rattle.pcal_tree.specs.OffencesCounts.{variable_names, first_past, long_chains, deep_definitions, count_offences}
 use Rattle.pcal_tree.proofs.RowsPrinted.{in_p_text, in_c_text}
@@ -105,6 +106,13 @@ enough_variables = refl
 
 too_many_variables : count_offences (algorithm (variables 1026 []) [] []) ≡ offence TooMany (place 1025)
 too_many_variables = refl
+
+-- of five names three are allowed
+first_name_past : first_past 3 (names_of (variables 5 [])) ≡ offence TooMany (place 4)
+first_name_past = refl
+
+no_name_past : first_past 5 (names_of (variables 5 [])) ≡ []
+no_name_past = refl
 
 -- k macros before others, each but the first calling the one before it
 abbrev calling : ℕ → Statements

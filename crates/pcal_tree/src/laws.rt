@@ -21,6 +21,7 @@ ghost use Rattle.pcal_tree.specs.laws.MacroUses.{macro_uses, offences_by_uses};
 ghost use Rattle.tla_expr.specs.Lexical.{Token};
 ghost use Rattle.tla_expr.specs.FirstStop.{looks, Begins};
 ghost use Rattle.pcal_tree.specs.Grammar.{Syntax, Text, Good, spell};
+ghost use Rattle.pcal_tree.specs.OpenForms.{opens};
 ghost use Rattle.pcal_tree.specs.OffencesSyntax.{algorithms, PassesTokens, RefusesTokens};
 ghost use Rattle.tla_token.specs.Tokens as text;
 ghost use Rattle.tla_token.specs.Limits.{most_variables, most_processes, most_procedures, most_labels};
@@ -145,6 +146,11 @@ pub fn counts_are_within_the_limits()
     ensures procedures { (a : Algorithm) → count_offences a ≡ [] → length (procedure_names a) ≤ most_procedures }
     ensures labels { (a : Algorithm) → count_offences a ≡ [] → length (all_label_names a) ≤ most_labels }
     ensures names { (a : Algorithm) → count_offences a ≡ [] → length (wanted a) ≤ most_procedures + most_processes + most_variables + most_labels }
+{}
+
+/// Each token of an algorithm has one count of the forms that are open at it.
+pub fn each_token_has_its_count()
+    ensures { (x : Text) → length (opens x) ≡ length (spell x []) }
 {}
 
 /// The tokens of an algorithm are refused at one place at most, by one rule, and then they don't pass.
