@@ -1,5 +1,5 @@
 -- The form of text that is translated so far: one variable, and one label with an assignment ("A PlusCal User's Manual", section 2.2 and chapter 3).
-use Rattle.std.specs.Prelude.{◌≡◌, ℕ, ◌^◌, Bool, true, ◌&&◌, ◌||◌, not, nat_lt, IsTrue, List, [], ◌∷◌, ◌++◌, Option, Some, None, codes}
+use Rattle.std.specs.Prelude.{◌≡◌, ℕ, Bool, true, ◌&&◌, ◌||◌, not, nat_lt, IsTrue, List, [], ◌∷◌, ◌++◌, Option, Some, None, codes}
 use Rattle.std.specs.List.{list_all, list_any}
 use Rattle.std.specs.Str.{bytes_eq}
 use Rattle.tla_token.specs.declared.sign.Sign.TheVariants as sign
@@ -7,6 +7,7 @@ use Rattle.tla_token.specs.Lexemes.{Kind, one, is_word, is_letter, is_blank}
 use Rattle.tla_token.specs.Lexemes as kind
 use Rattle.tla_token.specs.Tokens.{Piece, blank, lexeme, text_of, AllFit}
 use Rattle.tla_token.specs.Words.{is_reserved, is_own, is_standard}
+use Rattle.tla_token.specs.Limits.{past_numbers}
 use Rattle.tla_expr.specs.Tree.{Word}
 
 -- a number, or the algorithm's variable
@@ -37,7 +38,7 @@ abbrev pub is_free : Word → Bool
 is_free w = is_name w && not (is_reserved w || is_own w || is_standard [] w)
 
 abbrev pub is_small : ℕ → Bool
-is_small n = nat_lt n (2 ^ 127)
+is_small n = nat_lt n past_numbers
 
 abbrev pub is_small_operand : Operand → Bool
 is_small_operand (number_operand n) = is_small n

@@ -1,8 +1,9 @@
 -- Units outside the translation: which are read, and what is kept of those that are not ("Specifying Systems", sections 17.1 to 17.5; standard modules, chapter 18).
-use Rattle.std.specs.Prelude.{◌≡◌, ◌⊎◌, ℕ, ◌+◌, ◌^◌, max, ◌&&◌, ◌||◌, not, Bool, true, false, nat_lt, nat_le, nat_eq, bytes_eq, IsTrue, List, [], ◌∷◌, ◌++◌, length, Option, Some, None, codes, cond}
+use Rattle.std.specs.Prelude.{◌≡◌, ◌⊎◌, ℕ, ◌+◌, ◌&&◌, ◌||◌, not, Bool, true, false, nat_lt, nat_le, nat_eq, bytes_eq, IsTrue, List, [], ◌∷◌, ◌++◌, length, Option, Some, None, codes, cond}
 use Rattle.std.specs.List.{flat_map}
 use Rattle.tla_token.specs.declared.place.Place.{Place}
 use Rattle.tla_token.specs.Places.{start}
+use Rattle.tla_token.specs.Limits.{past_numbers, deepest_expression, deepest_definition}
 use Rattle.tla_token.specs.Signs.{is_among}
 use Rattle.tla_token.specs.Words.{is_standard}
 use Rattle.tla_expr.specs.Tree.{Word, Name, Form, number, strings, name, next, strict, operator, operator_call, binding, local, Tree, node, Trees, no_trees, tree, words, seen_names}
@@ -11,6 +12,7 @@ use Rattle.tla_expr.specs.Lexical as tk
 use Rattle.tla_expr.specs.Spelling.{Phrase, Right, Good, tree_of}
 use Rattle.tla_expr.specs.Nesting.{text_nesting}
 use Rattle.tla_value.specs.Definitions.{Definition}
+use Rattle.tla_value.specs.DefinitionNesting.{definition_nests, depths}
 use Rattle.tla_value.specs.Outside.{Opaque, ReadDefinition}
 use Rattle.tla_value.specs.StandardModules.{extends_one, has_operator, StandardName, standard_table, standard_in, is_member, is_last}
 use Rattle.module_text.specs.Module.{OutsideUnit, extends, constants, defines, opaque, definitions_of, found}
@@ -67,7 +69,7 @@ count (tree t ts) = count ts + 1
 
 -- the form alone, with n parts, where the names of bs are bound; `inf` says that it stands directly right of \in or \notin
 abbrev pub form_reads : Sight → List Word → Bool → Form → ℕ → Bool
-form_reads v bs inf (number k) n = nat_lt k (2 ^ 127)
+form_reads v bs inf (number k) n = nat_lt k past_numbers
 form_reads v bs inf strings n = inf
 form_reads v bs inf (name x) n = is_among bs x || (is_among v.constants x || (is_arity (arity v.earlier x) 0 || has_standard v inf x 0))
 form_reads v bs inf (next x) n = false
@@ -87,27 +89,9 @@ abbrev mutual
   trees_read v bs [] inf (tree t ts) = tree_reads v bs (inf && is_last ts) t && trees_read v bs [] inf ts
   trees_read v bs (xs ∷ names) inf (tree t ts) = tree_reads v (xs ++ bs) (inf && is_last ts) t && trees_read v bs names inf ts
 
--- how deep a tree nests with the bodies of earlier definitions in place of their names, each use being one form more
-abbrev pub used : (Word → ℕ) → Form → ℕ
-used deep (name x) = deep x
-used deep (operator_call f) = deep f
-used deep _ = 0
-
-abbrev mutual
-  pub nests : (Word → ℕ) → Tree → ℕ
-  nests deep (node m at ts) = max (used deep m) (nest deep ts)
-
-  pub nest : (Word → ℕ) → Trees → ℕ
-  nest deep no_trees = 0
-  nest deep (tree t ts) = max (1 + nests deep t) (nest deep ts)
-
-abbrev pub depths : List Definition → (Word → ℕ) → Word → ℕ
-depths [] deep = deep
-depths (d ∷ ds) deep = depths ds (λ x. cond (bytes_eq d.title x) (1 + nests deep d.body) (deep x))
-
 abbrev pub definition_reads : Sight → Definition → Bool
 definition_reads v d =
-    are_fresh v [] d.params && (tree_reads v d.params false d.body && nat_le (nests (depths v.earlier (λ x. 0)) d.body) 500)
+    are_fresh v [] d.params && (tree_reads v d.params false d.body && nat_le (definition_nests (depths [] v.earlier) d) deepest_definition)
 
 -- ---- what is kept of a unit that is not read
 
@@ -166,7 +150,7 @@ pub record Defined (v : Sight) (ts : List Token) (d : ReadDefinition) : Type 0 w
     definition = record { title = d.definition.title; params = parameters params; body = tree_of body; outside = true };
     place = at;
   } ≡ d
-  pub shallow : IsTrue (nat_le (text_nesting body) 200)
+  pub shallow : IsTrue (nat_le (text_nesting body) deepest_expression)
   pub reads : IsTrue (definition_reads v d.definition)
 
 -- the unit is read; definitions are read only before the translation

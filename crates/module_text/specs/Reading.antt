@@ -1,9 +1,10 @@
 -- Which module a text is: its header, the units before the translation, the translation, and the units after it ("Specifying Systems", chapter 17).
-use Rattle.std.specs.Prelude.{◌≡◌, ℕ, ◌+◌, ◌-◌, ◌^◌, ◌<◌, Bool, true, false, List, [], ◌∷◌, ◌++◌, length, Option, Some, is_some}
+use Rattle.std.specs.Prelude.{◌≡◌, ℕ, ◌+◌, ◌-◌, ◌<◌, Bool, true, false, List, [], ◌∷◌, ◌++◌, length, Option, Some, is_some}
 use Rattle.std.specs.List.{list_any}
 use Rattle.tla_token.specs.Tokens as text
 use Rattle.tla_token.specs.Tokens.{Tok}
 use Rattle.tla_token.specs.Lexemes as lexeme
+use Rattle.tla_token.specs.Limits.{past_numbers}
 use Rattle.tla_expr.specs.Tree.{Word, words}
 use Rattle.module_text.specs.Module.{units_of, OutsideUnit, Module, outside_of}
 use Rattle.module_text.specs.TextFront.{Text, on_some, at_line, line_of, line_end}
@@ -65,7 +66,7 @@ AllAre P _ _ = ⊥
 
 -- no number is past 2^127 - 1
 abbrev pub is_small : lexeme.Kind → Type 0
-is_small (lexeme.number n) = n < 2 ^ 127
+is_small (lexeme.number n) = n < past_numbers
 is_small _ = Unit {0}
 
 abbrev pub AllSmall : List text.Token → Type 0

@@ -8,3 +8,4 @@ pub mod WrittenBytes
 pub mod ErrorLine
 pub mod Numbers
 pub mod Told
+pub mod RowsRefusals

@@ -5,10 +5,11 @@ use Rattle.std.proofs.lemmas.Bool.{and_parts, false_from_ne_true, ltb-true, ltb-
 use Rattle.tla_token.specs.Lexemes.{Kind}
 use Rattle.tla_token.specs.Cut.{parts}
 use Rattle.tla_token.specs.Words.{is_reserved}
+use Rattle.tla_token.specs.Limits.{past_numbers}
 use Rattle.tla_expr.specs.Tree.{Word}
 use Rattle.first_path.specs.Form.{Operand, number_operand, variable_operand, Right, single, sum, Parts, is_name, is_free, is_small, is_small_operand, is_small_right, is_fit}
 use Rattle.first_path.specs.FormRead.{on_some, if_so, on_name, on_number, on_word, on_equal, on_semicolon, on_colon, on_assign, on_operand, on_right, declares, fit, parts_in, kinds_in}
-use Rattle.pcal_cli.specs.FirstPathScan.{past_numbers, capped, name_at, number_at, past_word, as_equal, as_semicolon, as_colon, as_assign, past_sign, right_at, past_declares, declaration_at, statement_at, is_gap, algorithm_in}
+use Rattle.pcal_cli.specs.FirstPathScan.{capped, name_at, number_at, past_word, as_equal, as_semicolon, as_colon, as_assign, past_sign, right_at, past_declares, declaration_at, statement_at, is_gap, algorithm_in}
 use Rattle.pcal_cli.proofs.Steps.{in_turn, alike, name_step, number_step, word_step, equal_step, semicolon_step, colon_step, assign_step, capped_operand, capped_right, right_step, declares_step, end_step}
 
 declaration_go : {A : Type 0} (go : Word × ℕ × List ℕ → Option A) (x : List ℕ) → on_some (declaration_at x) go

@@ -4,13 +4,14 @@ use Rattle.std.proofs.Common.{◌≡◌, ◌⊎◌, ℕ, ◌<◌, ◌≤◌, Lis
 use Rattle.std.proofs.lemmas.Option.{none-some}
 use Rattle.outer_io.specs.Outer.{Texts, text_at, told_at, HasText, Tells, HasNoText, Grows, GrowsInPart}
 use Rattle.tla_token.specs.Offences.{least}
+use Rattle.tla_token.specs.Limits.{most_bytes}
 use Rattle.first_path.specs.Form.{Parts}
 use Rattle.first_path.specs.FormRead.{form_of, form_offences, FirstOffence, left_out}
 use Rattle.promise.specs.Options.{no_options}
 use Rattle.promise.specs.Headline.{Headline}
 use Rattle.first_path.proofs.Promise.{first_offence, not_both}
 use Rattle.pcal_cli.specs.Words.{Command, translate}
-use Rattle.pcal_cli.specs.Causes.{most_bytes, OfFile, Writes, WritesInPart, KeepsPromise}
+use Rattle.pcal_cli.specs.Causes.{OfFile, Writes, WritesInPart, KeepsPromise}
 use Rattle.pcal_cli.specs.FirstPathBytes.{written_text}
 use Rattle.pcal_cli.proofs.WrittenBytes.{is_written}
 

@@ -12,10 +12,6 @@ use Rattle.pcal_cli.specs.declared.status.Status.TheVariants.{Fine, Memory, Usag
 use Rattle.pcal_cli.specs.Answers.{status_number}
 use Rattle.pcal_cli.specs.Words.{Command, translate}
 
--- a file has at most so many bytes
-abbrev pub most_bytes : ℕ
-most_bytes = 1048576
-
 -- what holds of the file of a command; where there is no command nothing is said
 abbrev pub OfFile : Option Command → (Word → Type 0) → Type 0
 OfFile None P = Unit {0}

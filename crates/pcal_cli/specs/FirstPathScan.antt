@@ -1,11 +1,12 @@
 -- Reading a text of the form as the code does, token by token.
-use Rattle.std.specs.Prelude.{ℕ, ◌^◌, Bool, true, false, nat_lt, nat_eq, List, [], ◌∷◌, ◌++◌, length, drop, Option, Some, None, codes, if◌then◌else◌, ◌||◌, min}
+use Rattle.std.specs.Prelude.{ℕ, Bool, true, false, nat_lt, nat_eq, List, [], ◌∷◌, ◌++◌, length, drop, Option, Some, None, codes, if◌then◌else◌, ◌||◌, min}
 use Rattle.std.specs.List.{list_any, starts_with}
 use Rattle.std.specs.Str.{bytes_eq}
 use Rattle.tla_token.specs.declared.sign.Sign.{Sign}
 use Rattle.tla_token.specs.declared.sign.Sign.TheVariants as sign
 use Rattle.tla_token.specs.Lexemes.{Kind, name, number, one, number_of, is_word, is_letter, is_digit}
 use Rattle.tla_token.specs.Cut.{run}
+use Rattle.tla_token.specs.Limits.{past_numbers}
 use Rattle.tla_expr.specs.Tree.{Word}
 use Rattle.first_path.specs.Form.{Operand, number_operand, variable_operand, Right, single, sum, Parts, last_line}
 use Rattle.first_path.specs.FormRead.{on_some, if_so, past, before, begins_blank, gap_skipped, ends_with_line, fit}
@@ -18,10 +19,7 @@ kind_of (lexeme.Name w) = name w.now
 kind_of (lexeme.Number n) = number n
 kind_of (lexeme.One s) = one s
 
--- a number that is no number of the form, as all that are greater are read
-abbrev pub past_numbers : ℕ
-past_numbers = 2 ^ 127
-
+-- all numbers that are too big are read as the least of them
 abbrev pub capped : ℕ → ℕ
 capped n = min n past_numbers
 

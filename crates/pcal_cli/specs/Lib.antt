@@ -3,3 +3,4 @@ pub mod Answers
 pub mod Causes
 pub mod FirstPathBytes
 pub mod FirstPathScan
+pub mod Refusals

@@ -1,12 +1,13 @@
 //! What `main` does: from the words as the system hands them over to the exit status.
 
 ghost use Rattle.std.specs.Prelude.{◌≡◌, ◌⊎◌, ◌<◌, ◌≤◌, [], length, IfOk, None};
+ghost use Rattle.tla_token.specs.Limits.{most_bytes};
 ghost use Rattle.outer_io.specs.Outer.{RoseBy, HasNoText, Tells};
 ghost use Rattle.first_path.specs.FormRead.{form_offences, FirstOffence, left_out};
 ghost use Rattle.pcal_cli.specs.Words.{words_given, command_in, file_in};
 ghost use Rattle.pcal_cli.specs.Answers.{line_of};
 ghost use Rattle.promise.specs.Options.{no_options};
-ghost use Rattle.pcal_cli.specs.Causes.{most_bytes, OfFile, IsNoCommand, IsDone, IsRead, LeavesOut, Writes, WritesInPart, KeepsPromise, Told, Ended, EndedIn};
+ghost use Rattle.pcal_cli.specs.Causes.{OfFile, IsNoCommand, IsDone, IsRead, LeavesOut, Writes, WritesInPart, KeepsPromise, Told, Ended, EndedIn};
 
 use crate::status::{Status, number};
 use crate::top::{pcal, tell};

@@ -1,12 +1,13 @@
 //! The top call: from the words of a command line to an answer.
 
 ghost use Rattle.std.specs.Prelude.{◌≡◌, ◌⊎◌, ◌+◌, ◌<◌, ◌≤◌, ◌++◌, [], length, IfOk, OnOk, OnErr, Some, None, MatchOption};
+ghost use Rattle.tla_token.specs.Limits.{most_bytes};
 ghost use Rattle.outer_io.specs.Outer.{RoseBy, RoseAbove, HasNoText, Tells, Grows, GrowsInPart, piece_bytes};
 ghost use Rattle.promise.specs.Options.{no_options};
 ghost use Rattle.first_path.specs.FormRead.{form_of, form_offences, FirstOffence, left_out};
 ghost use Rattle.pcal_cli.specs.Words.{translate as translate_of, command_in, file_in};
 ghost use Rattle.pcal_cli.specs.Answers.{line_of};
-ghost use Rattle.pcal_cli.specs.Causes.{most_bytes, OfFile, IsAnswer, IsUnread, IsUnwritten, IsDone, IsRead, LeavesOut, Writes, WritesInPart, KeepsPromise, Told};
+ghost use Rattle.pcal_cli.specs.Causes.{OfFile, IsAnswer, IsUnread, IsUnwritten, IsDone, IsRead, LeavesOut, Writes, WritesInPart, KeepsPromise, Told};
 ghost use Rattle.pcal_cli.specs.FirstPathBytes.{parts_of, written_text};
 
 use crate::form::{Form, read_form};

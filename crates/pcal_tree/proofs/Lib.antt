@@ -56,3 +56,7 @@ pub mod SameVariables
 pub mod StepVariables
 pub mod SameSteps
 pub mod SameStarts
+pub mod RowsCounts
+pub mod CountLimits
+pub mod RefusedOnce
+pub mod OpensLaws

@@ -1,19 +1,23 @@
 -- Whether an algorithm may be spelled rests on kinds and columns, and not on lines.
 use Rattle.std.proofs.Common.{◌≡◌, Bool, true, false, not, IsTrue, List, [], ◌∷◌, ◌++◌, Option, Some, None, map, refl, sym, subst, ◌∙◌, ap}
 use Rattle.std.specs.Option.{option_map}
+use Rattle.std.proofs.lemmas.List.{append_assoc}
 use Rattle.tla_token.specs.declared.place.Place.{Place}
 use Rattle.tla_expr.specs.Lexical.{Token}
 use Rattle.tla_expr.specs.Spelling.{Phrase}
 use Rattle.tla_expr.specs.Spelling as spelled
-use Rattle.tla_expr.specs.laws.Columns.{looks, lineless_place, lineless}
+use Rattle.tla_expr.specs.FirstStop.{looks, Begins, Look}
+use Rattle.tla_expr.specs.laws.Columns.{lineless_place, lineless}
 use Rattle.tla_expr.proofs.ColumnsGood.{Same, good, good_all}
-use Rattle.tla_expr.proofs.Columns.{no_looks, bare, looks_of_bare, looks_ahead}
+use Rattle.tla_expr.proofs.Columns.{no_looks, bare, looks_of_bare, looked_ahead, begun_looks}
 use Rattle.std.specs.List.{AllByRecursion}
 use Rattle.pcal_tree.specs.GrammarParts as part
 use Rattle.pcal_tree.specs.GrammarP as psyntax
 use Rattle.pcal_tree.specs.GrammarC as csyntax
 use Rattle.pcal_tree.specs.Grammar as g
-use Rattle.pcal_tree.specs.laws.Lines.{Begins, separator_lineless, initial_lineless, variables_lineless, section_lineless, names_lineless, macro_parameters_lineless, parameters_lineless, procedure_parameters_lineless, heading_lineless, definitions_lineless, colon_lineless, labels_lineless, binds_lineless, arguments_lineless, assignments_lineless, simple_lineless, p_statement_lineless, p_else_lineless, p_branches_lineless, p_sequence_lineless, c_statement_lineless, c_labelled_lineless, c_else_lineless, c_branches_lineless, c_sequence_lineless, body_lineless, macro_lineless, procedure_lineless, fair_lineless, identity_lineless, process_lineless, head_lineless, define_lineless, main_lineless, around_lineless, text_lineless}
+use Rattle.pcal_tree.specs.OpenForms.{opens}
+use Rattle.pcal_tree.specs.OffencesSyntax.{algorithms}
+use Rattle.pcal_tree.specs.laws.Lines.{separator_lineless, initial_lineless, variables_lineless, section_lineless, names_lineless, macro_parameters_lineless, parameters_lineless, procedure_parameters_lineless, heading_lineless, definitions_lineless, colon_lineless, labels_lineless, binds_lineless, arguments_lineless, assignments_lineless, simple_lineless, p_statement_lineless, p_else_lineless, p_branches_lineless, p_sequence_lineless, c_statement_lineless, c_labelled_lineless, c_else_lineless, c_branches_lineless, c_sequence_lineless, body_lineless, macro_lineless, procedure_lineless, fair_lineless, identity_lineless, process_lineless, head_lineless, define_lineless, main_lineless, around_lineless, text_lineless}
 use Rattle.pcal_tree.proofs.LinesPut.{put_text}
 
 left_side_same : (l : Phrase) → part.is_left_side (lineless l) ≡ part.is_left_side l
@@ -238,10 +242,16 @@ spelled_again s ts us h x k e =
     let none = no_looks v.rest v.looks_same in
     (v.again, good_lines s x v.again (sym v.same) k, sym v.tokens ∙ ap (λ (vs : List Token). g.spell v.again vs) none, v.same)
 
-pub begins : (s : g.Syntax) (ts more : List Token) (x : g.Text) → g.Good s x → g.spell x [] ≡ ts ++ more → Begins s (looks ts)
-begins s ts more x k e = (x, looks more, k, ap looks e ∙ looks_ahead ts more)
+pub begins : (s : g.Syntax) (ts more : List Token) (x : g.Text) → g.Good s x → g.spell x [] ≡ ts ++ more → Begins (algorithms s) (map Some (looks ts))
+begins s ts more x k e =
+    let split = ap (λ (us : List Token). map Some (looks us)) e ∙ looked_ahead ts more in (
+      map Some (looks more) ++ None ∷ [],
+      opens x,
+      (x, k, ap (λ (ls : List (Option Look)). ls ++ None ∷ []) split ∙ append_assoc (map Some (looks ts)) (map Some (looks more)) (None ∷ []), refl),
+    )
 
-pub begun : (s : g.Syntax) (ts : List Token) → Begins s (looks ts) → (x : g.Text) × (more : List Token) × g.Good s x × (g.spell x [] ≡ ts ++ more)
-begun s ts (x, ks, k, e) =
-    let v = spelled_again s (g.spell x []) (ts ++ map bare ks) (e ∙ sym (looks_of_bare ts ks)) x k refl in
-    (v.0, map bare ks, v.1, sym v.2)
+pub begun : (s : g.Syntax) (ts : List Token) → Begins (algorithms s) (map Some (looks ts)) → (x : g.Text) × (more : List Token) × g.Good s x × (g.spell x [] ≡ ts ++ more)
+begun s ts (more, ns, (x, k, e, c)) =
+    let ks = begun_looks (looks (g.spell x [])) (looks ts) (None ∷ []) more (λ y vs n. cc) e in
+    let v = spelled_again s (g.spell x []) (ts ++ map bare ks.0) (ks.1 ∙ sym (looks_of_bare ts ks.0)) x k refl in
+    (v.0, map bare ks.0, v.1, sym v.2)

@@ -1,5 +1,5 @@
 -- Worked examples of algorithms as they are spelled and printed, by computation.
-use Rattle.std.proofs.Common.{◌≡◌, refl, arith, ℕ, ◌+◌, ◌++◌, List, [], ◌∷◌, Some, None, false, true, codes, drop}
+use Rattle.std.proofs.Common.{◌≡◌, refl, arith, ℕ, ◌+◌, ◌++◌, List, [], ◌∷◌, Some, None, false, true, codes, drop, map}
 use Rattle.std.specs.Fmt.{decimal}
 use Rattle.std.proofs.lemmas.Fmt.{decimal_digit}
 use Rattle.tla_token.specs.declared.place.Place.{Place}
@@ -16,13 +16,14 @@ use Rattle.tla_expr.specs.Spelling as spelled
 use Rattle.pcal_tree.specs.declared.mark.Mark.TheVariants as marked
 use Rattle.pcal_tree.specs.Algorithm.{Name, Algorithm, Statement, assign, assignment, no_assignments, done, then, mark, alone, equals}
 use Rattle.pcal_tree.specs.AlgorithmTokens.{kind_of, views}
-use Rattle.tla_expr.specs.laws.Columns.{looks}
-use Rattle.pcal_tree.specs.laws.Lines.{Begins}
+use Rattle.tla_expr.specs.FirstStop.{looks, to_end, Begins, Passes}
 use Rattle.pcal_tree.specs.GrammarParts as part
 use Rattle.pcal_tree.specs.GrammarP as p
 use Rattle.pcal_tree.specs.GrammarC as c
-use Rattle.pcal_tree.specs.Grammar.{Text, p_syntax, SpellsP, SpellsC}
+use Rattle.pcal_tree.specs.Grammar.{Text, p_syntax, c_syntax, SpellsP, SpellsC}
 use Rattle.pcal_tree.specs.Grammar as text
+use Rattle.pcal_tree.specs.OpenForms.{opens}
+use Rattle.pcal_tree.specs.OffencesSyntax.{algorithms}
 use Rattle.pcal_tree.specs.Printed.{PText, CText}
 
 abbrev at : ℕ → ℕ → Place
@@ -92,15 +93,56 @@ move_phrase = part.assign (part.last_assignment (spelled.name (at 4 6) (codes "x
 abbrev text_of : text.Around → text.Main → Text
 text_of r m = record { head = text.algorithm (at 1 1); name = n 1 13 (codes "Inc"); around = r; variables = variables; define = text.no_define; macros = []; procedures = []; main = m }
 
+abbrev pub in_p_text : Text
+in_p_text = text_of (text.to_end (at 5 1) (at 5 5)) (text.begin (at 3 1) (p.last_statement labels (p.simple move_phrase) (Some (at 4 16))))
+
 in_p : SpellsP p_tokens counted
-in_p = (text_of (text.to_end (at 5 1) (at 5 5)) (text.begin (at 3 1) (p.last_statement labels (p.simple move_phrase) (Some (at 4 16)))), search, refl, refl)
+in_p = (in_p_text, search, refl, refl)
+
+abbrev pub in_c_text : Text
+in_c_text = text_of (text.in_braces (at 1 17) (at 6 1)) (text.block (at 3 1) (c.last_statement (c.labelled labels (c.simple move_phrase)) (Some (at 4 16))) (at 5 1) None)
 
 in_c : SpellsC c_tokens counted
-in_c = (text_of (text.in_braces (at 1 17) (at 6 1)) (text.block (at 3 1) (c.last_statement (c.labelled labels (c.simple move_phrase)) (Some (at 4 16))) (at 5 1) None), search, refl, refl)
+in_c = (in_c_text, search, refl, refl)
 
 -- what begins it, in these columns and whatever lines
-begins_so : Begins p_syntax ((tk.word (codes "--algorithm"), 1) ∷ (tk.word (codes "Inc"), 13) ∷ (tk.reserved (codes "variables"), 1) ∷ [])
-begins_so = (text_of (text.to_end (at 5 1) (at 5 5)) (text.begin (at 3 1) (p.last_statement labels (p.simple move_phrase) (Some (at 4 16)))), looks (drop 3 (views p_tokens)), search, refl)
+begins_so : Begins (algorithms p_syntax) (map Some ((tk.word (codes "--algorithm"), 1) ∷ (tk.word (codes "Inc"), 13) ∷ (tk.reserved (codes "variables"), 1) ∷ []))
+begins_so = (drop 3 (to_end (views p_tokens)), opens in_p_text, (in_p_text, search, refl, refl))
+
+-- ---- tokens that pass before one that doesn't
+
+abbrev p_front : List Token
+p_front = (token 1 1 (name (codes "--algorithm")) ∷ token 1 13 (name (codes "Inc")) ∷ variable_tokens) ++ (token 3 1 (name (codes "begin")) ∷ token 4 3 (name (codes "A")) ∷ token 4 4 (one sign.Colon) ∷ [])
+
+abbrev c_front : List Token
+c_front = (token 1 1 (name (codes "--algorithm")) ∷ token 1 13 (name (codes "Inc")) ∷ token 1 17 (one sign.OpenCurly) ∷ variable_tokens) ++ (token 3 1 (one sign.OpenCurly) ∷ token 4 3 (name (codes "A")) ∷ token 4 4 (one sign.Colon) ∷ [])
+
+abbrev x_at : ℕ → Phrase
+x_at k = spelled.name (at 4 k) (codes "x")
+
+abbrev p_with : p.Statement → Text
+p_with s = text_of (text.to_end (at 5 1) (at 5 5)) (text.begin (at 3 1) (p.last_statement labels s None))
+
+-- `A: x := (x + ;` up to the semicolon at 4:16
+abbrev open_sum : Text
+open_sum = p_with (p.simple (part.assign (part.last_assignment (x_at 6) (at 4 8) (spelled.brackets (at 4 11) (spelled.infix_of (x_at 12) (at 4 14) op.Plus (x_at 16)) (at 4 17)))))
+
+open_sum_passes : Passes (algorithms p_syntax) (map Some (looks (views (p_front ++ (token 4 6 (name (codes "x")) ∷ token 4 8 (one sign.Assign) ∷ token 4 11 (one sign.OpenRound) ∷ token 4 12 (name (codes "x")) ∷ token 4 14 (one sign.Plus) ∷ [])))))
+open_sum_passes = (drop 15 (to_end (text.spell open_sum [])), opens open_sum, (open_sum, search, refl, refl), refl)
+
+-- `A: if x > 0 y := 1;` up to `y` at 4:15
+abbrev open_if : Text
+open_if = p_with (p.branch (at 4 6) (spelled.infix_of (x_at 9) (at 4 11) op.Greater (spelled.number (at 4 13) 0)) (at 4 15) (p.last_statement part.no_labels (p.simple (part.skip (at 4 20))) None) p.no_else (at 4 25) (at 4 29))
+
+open_if_passes : Passes (algorithms p_syntax) (map Some (looks (views (p_front ++ (token 4 6 (name (codes "if")) ∷ token 4 9 (name (codes "x")) ∷ token 4 11 (one sign.Greater) ∷ token 4 13 (number 0) ∷ [])))))
+open_if_passes = (drop 14 (to_end (text.spell open_if [])), opens open_if, (open_if, search, refl, refl), refl)
+
+-- `A: x := ;` in C up to the semicolon at 4:11
+abbrev open_assignment : Text
+open_assignment = text_of (text.in_braces (at 1 17) (at 6 1)) (text.block (at 3 1) (c.last_statement (c.labelled labels (c.simple (part.assign (part.last_assignment (x_at 6) (at 4 8) (x_at 11))))) None) (at 5 1) None)
+
+open_assignment_passes : Passes (algorithms c_syntax) (map Some (looks (views (c_front ++ (token 4 6 (name (codes "x")) ∷ token 4 8 (one sign.Assign) ∷ [])))))
+open_assignment_passes = (drop 13 (to_end (text.spell open_assignment [])), opens open_assignment, (open_assignment, search, refl, refl), refl)
 
 -- ---- what the grammar sees: a prime is no sign of an algorithm, a reserved word no name
 

@@ -24,6 +24,7 @@ pub mod GrammarParts
 pub mod GrammarP
 pub mod GrammarC
 pub mod Grammar
+pub mod OpenForms
 pub mod Printed
 pub mod Offences
 pub mod Paths
@@ -44,5 +45,7 @@ pub mod OffencesReads
 pub mod OffencesSelf
 pub mod OffencesStale
 pub mod OffencesOfNames
+pub mod OffencesSyntax
+pub mod OffencesCounts
 pub mod laws
 pub mod Takers

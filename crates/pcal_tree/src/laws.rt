@@ -1,6 +1,6 @@
 //! Laws of what algorithms mean, stated as what functions without a body ensure.
 
-ghost use Rattle.std.specs.Prelude.{◌≡◌, ℕ, List, [], Bool, false, Some, None, ◌++◌, reverse, Contains, ◌↔◌};
+ghost use Rattle.std.specs.Prelude.{◌≡◌, ℕ, List, [], Bool, false, map, Some, None, ◌++◌, ◌+◌, ◌≤◌, length, reverse, Contains, ◌↔◌};
 ghost use Rattle.tla_token.specs.Signs.{is_among};
 ghost use Rattle.tla_expr.specs.Tree.{Word, Trees};
 ghost use Rattle.pcal_tree.specs.Algorithm.{Statements, Macro, Algorithm};
@@ -18,7 +18,7 @@ ghost use Rattle.pcal_tree.specs.OffencesLabels.{label_offences, label_offences_
 ghost use Rattle.pcal_tree.specs.laws.MacroSummaries.{summaries, summary_effect};
 ghost use Rattle.tla_token.specs.declared.rule.Refusal.{Refusal};
 ghost use Rattle.pcal_tree.specs.Offences.{first};
-ghost use Rattle.pcal_tree.specs.OffencesNames.{use_offences_by, use_offences_of};
+ghost use Rattle.pcal_tree.specs.OffencesNames.{process_names, use_offences_by, use_offences_of};
 ghost use Rattle.pcal_tree.specs.laws.MacroUses.{macro_uses, offences_by_uses};
 ghost use Rattle.pcal_tree.specs.OffencesSelf.{self_offences};
 ghost use Rattle.pcal_tree.specs.OffencesStale.{stale_offences, stale_offences_by};
@@ -26,11 +26,16 @@ ghost use Rattle.pcal_tree.specs.laws.MacroSpots.{spots_by_macros};
 ghost use Rattle.pcal_tree.specs.laws.BoundDefinitions.{rebinds_definitions, binds_definitions};
 ghost use Rattle.pcal_tree.specs.laws.MacroSelves.{self_offences_by_calls};
 ghost use Rattle.tla_expr.specs.Lexical.{Token};
-ghost use Rattle.tla_expr.specs.laws.Columns.{looks};
+ghost use Rattle.tla_expr.specs.FirstStop.{looks, Begins};
 ghost use Rattle.pcal_tree.specs.Grammar.{Syntax, Text, Good, spell};
-ghost use Rattle.pcal_tree.specs.laws.Lines.{Begins, text_lineless};
+ghost use Rattle.pcal_tree.specs.OpenForms.{opens};
+ghost use Rattle.pcal_tree.specs.OffencesSyntax.{algorithms, PassesTokens, RefusesTokens};
+ghost use Rattle.tla_token.specs.Tokens as text;
+ghost use Rattle.tla_token.specs.Limits.{most_variables, most_processes, most_procedures, most_labels};
+ghost use Rattle.pcal_tree.specs.OffencesCounts.{variable_names, procedure_names, all_label_names, count_offences};
+ghost use Rattle.pcal_tree.specs.laws.Lines.{text_lineless};
 ghost use Rattle.pcal_tree.specs.Labelled.{labelled, labelled_by};
-ghost use Rattle.pcal_tree.specs.Names.{given, naming};
+ghost use Rattle.pcal_tree.specs.Names.{wanted, given, naming};
 ghost use Rattle.pcal_tree.specs.laws.Apart.{FewNames, Apart, New, Untaken, AreNames, NoEndLabels};
 ghost use Rattle.tla_value.specs.Value.{Trouble, Outcome};
 ghost use Rattle.pcal_tree.specs.laws.Expansion.{Calls, FineCall, AnyPlace};
@@ -165,8 +170,29 @@ pub fn definitions_in_macros_are_looked_at_once()
 pub fn lines_of_algorithms_do_not_matter()
     ensures spelled { (s : Syntax) (ts us : List Token) → looks ts ≡ looks us → (x : Text) → Good s x → ts ≡ spell x []
         → (y : Text) × Good s y × (us ≡ spell y []) × (text_lineless y ≡ text_lineless x) }
-    ensures begins { (s : Syntax) (ts more : List Token) (x : Text) → Good s x → spell x [] ≡ ts ++ more → Begins s (looks ts) }
-    ensures begun { (s : Syntax) (ts : List Token) → Begins s (looks ts) → (x : Text) × (more : List Token) × Good s x × (spell x [] ≡ ts ++ more) }
+    ensures begins { (s : Syntax) (ts more : List Token) (x : Text) → Good s x → spell x [] ≡ ts ++ more → Begins (algorithms s) (map Some (looks ts)) }
+    ensures begun { (s : Syntax) (ts : List Token) → Begins (algorithms s) (map Some (looks ts)) → (x : Text) × (more : List Token) × Good s x × (spell x [] ≡ ts ++ more) }
+{}
+
+/// An algorithm that offends against no limit of counts has so many names at most: variables, processes, procedures, labels, and so all those that want
+/// a written name.
+pub fn counts_are_within_the_limits()
+    ensures variables { (a : Algorithm) → count_offences a ≡ [] → length (variable_names a) ≤ most_variables }
+    ensures processes { (a : Algorithm) → count_offences a ≡ [] → length (process_names a.main) ≤ most_processes }
+    ensures procedures { (a : Algorithm) → count_offences a ≡ [] → length (procedure_names a) ≤ most_procedures }
+    ensures labels { (a : Algorithm) → count_offences a ≡ [] → length (all_label_names a) ≤ most_labels }
+    ensures names { (a : Algorithm) → count_offences a ≡ [] → length (wanted a) ≤ most_procedures + most_processes + most_variables + most_labels }
+{}
+
+/// Each token of an algorithm has one count of the forms that are open at it.
+pub fn each_token_has_its_count()
+    ensures { (x : Text) → length (opens x) ≡ length (spell x []) }
+{}
+
+/// The tokens of an algorithm are refused at one place at most, by one rule, and then they don't pass.
+pub fn tokens_are_refused_once()
+    ensures once { (s : Syntax) (ts : List text.Token) (end : Place) (r q : Refusal) → RefusesTokens s ts end r → RefusesTokens s ts end q → r ≡ q }
+    ensures not_both { (s : Syntax) (ts : List text.Token) (end : Place) (r : Refusal) → PassesTokens s ts → RefusesTokens s ts end r → ⊥ }
 {}
 
 /// Each state of a run by a script after the first is one that a step leads to: that of the process which the script names,

@@ -8,7 +8,8 @@ use Rattle.tla_expr.specs.Lexical as tk
 use Rattle.tla_expr.specs.Spelling.{Phrase, number, string, constant, name, primed, call, brackets, no_set, set_of, filter, image, no_tuple, tuple, fields, records, function, functions, except, apply, select, list, quantified, if_then_else, cases, local, infix_of, prefix_of}
 use Rattle.tla_expr.specs.Spelling.{Phrases, last, more, Binds, last_bind, bind, share, Fields, last_field, field, Settings, last_setting, setting, Path, path_end, index, at_field, Bullets, last_bullet, bullet, Arms, last_arm, other_arm, arm, Locals, last_local, more_locals}
 use Rattle.tla_expr.specs.Spelling.{Field, field_token, quantifier, spell, spell_all, spell_binds, spell_fields, spell_settings, spell_path, spell_bullets, spell_arms, spell_locals}
-use Rattle.tla_expr.specs.laws.Columns.{look, looks, lineless_place, lineless_field, lineless, lineless_all, lineless_binds, lineless_fields, lineless_settings, lineless_path, lineless_bullets, lineless_arms, lineless_locals}
+use Rattle.tla_expr.specs.FirstStop.{look, looks}
+use Rattle.tla_expr.specs.laws.Columns.{lineless_place, lineless_field, lineless, lineless_all, lineless_binds, lineless_fields, lineless_settings, lineless_path, lineless_bullets, lineless_arms, lineless_locals}
 
 -- something that is spelled, again from us, and what is left of these
 pub record Put (A : Type 0) (bare : A → A) (spells : A → List Token → List Token) (x : A) (ts us : List Token) : Type 0 where

@@ -32,3 +32,6 @@ pub mod ReadAll
 pub mod ReadElements
 pub mod ReadMembers
 pub mod ReadFunctions
+pub mod StopLaws
+pub mod RowsStops
+pub mod CountsLaws

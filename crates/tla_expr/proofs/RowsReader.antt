@@ -1,5 +1,5 @@
 -- Worked rows of reading, by computation.
-use Rattle.std.proofs.Common.{◌≡◌, refl, ℕ, true, ap, arith, List, [], ◌∷◌, Ok, Err, codes}
+use Rattle.std.proofs.Common.{◌≡◌, refl, ℕ, true, ap, arith, List, [], ◌∷◌, map, Some, Ok, Err, codes}
 use Rattle.tla_token.specs.declared.place.Place.{Place}
 use Rattle.tla_expr.specs.declared.op.Op.{Op}
 use Rattle.tla_expr.specs.declared.op.Op.TheVariants as op
@@ -8,7 +8,9 @@ use Rattle.tla_expr.specs.Lexical as tk
 use Rattle.tla_expr.specs.Spelling.{Phrase}
 use Rattle.tla_expr.specs.Spelling as spelled
 use Rattle.tla_expr.specs.Reader.{read, readers}
-use Rattle.tla_expr.specs.laws.Columns.{looks, lineless, Begin}
+use Rattle.tla_expr.specs.Nesting.{counts}
+use Rattle.tla_expr.specs.FirstStop.{looks, Begins, Passes, phrases, in_expression}
+use Rattle.tla_expr.specs.laws.Columns.{lineless}
 
 abbrev at : ℕ → Place
 at c = record { line = 1; col = c }
@@ -80,6 +82,12 @@ other_column h = (let same : ◌≡◌ {A = ℕ} 2 1 = ap first_col h in cc)
 bare_sum : lineless (spelled.infix_of (name 1) (at 3) op.Plus (spelled.name (record { line = 2; col = 1 }) (codes "b"))) ≡ spelled.infix_of (spelled.name (record { line = 0; col = 1 }) (codes "a")) (record { line = 0; col = 3 }) op.Plus (spelled.name (record { line = 0; col = 1 }) (codes "b"))
 bare_sum = refl
 
--- `a +` begins a phrase, right of column 0
-sum_begins : Begin 0 (looks (w 1 ∷ s 3 op.Plus ∷ []))
-sum_begins = (spelled.infix_of (name 1) (at 3) op.Plus (name 5), looks (w 5 ∷ []), search, refl)
+abbrev sum : Phrase
+sum = spelled.infix_of (name 1) (at 3) op.Plus (name 5)
+
+-- `a +` begins a phrase, right of column 0, and passes
+sum_begins : Begins (phrases 0) (map Some (looks (w 1 ∷ s 3 op.Plus ∷ [])))
+sum_begins = (map Some (looks (w 5 ∷ [])), map in_expression (counts 0 sum []), (sum, search, refl, refl))
+
+sum_passes : Passes (phrases 0) (map Some (looks (w 1 ∷ s 3 op.Plus ∷ [])))
+sum_passes = (map Some (looks (w 5 ∷ [])), map in_expression (counts 0 sum []), (sum, search, refl, refl), refl)

@@ -13,5 +13,6 @@ pub mod TokenViews
 pub mod Spelling
 pub mod Written
 pub mod Nesting
+pub mod FirstStop
 pub mod Reader
 pub mod laws

@@ -1,6 +1,6 @@
 -- How deep expressions nest: the forms that are open at a token, and those round a part of a tree.
 use Rattle.std.specs.Prelude.{ℕ, ◌+◌, max, List, [], ◌∷◌}
-use Rattle.tla_expr.specs.Tree.{Tree, Trees, node, no_trees, tree}
+use Rattle.tla_expr.specs.Tree.{Form, name, Tree, Trees, node, no_trees, tree}
 use Rattle.tla_expr.specs.Spelling.{Phrase, Phrases, Binds, Fields, Settings, Path, Bullets, Arms, Locals}
 use Rattle.tla_expr.specs.Spelling as spelled
 
@@ -93,10 +93,14 @@ greatest (n ∷ ns) = max n (greatest ns)
 abbrev pub text_nesting : Phrase → ℕ
 text_nesting a = greatest (counts 0 a [])
 
--- ---- on the tree: each form counts one in each of its parts
+-- ---- on the tree: each form counts one in each of its parts, and a name has none
+abbrev pub form_nesting : Form → ℕ → ℕ
+form_nesting (name x) n = 0
+form_nesting m n = n
+
 abbrev mutual
   pub tree_nesting : Tree → ℕ
-  tree_nesting (node m at ts) = trees_nesting ts
+  tree_nesting (node m at ts) = form_nesting m (trees_nesting ts)
 
   pub trees_nesting : Trees → ℕ
   trees_nesting no_trees = 0

@@ -1,5 +1,6 @@
 -- How many parts a form has, and how large a number is.
-use Rattle.std.specs.Prelude.{ℕ, zero, suc, ◌+◌, ◌^◌, ◌≡◌, ◌≤◌, ◌<◌, List, [], ◌∷◌, length, Bool, true, false}
+use Rattle.std.specs.Prelude.{ℕ, zero, suc, ◌+◌, ◌≡◌, ◌≤◌, ◌<◌, List, [], ◌∷◌, length, Bool, true, false}
+use Rattle.tla_token.specs.Limits.{past_numbers}
 use Rattle.tla_expr.specs.declared.op.Binder.{Binder}
 use Rattle.tla_expr.specs.declared.op.Binder.TheVariants as binder
 use Rattle.std.specs.Bool.{IsTrue}
@@ -82,7 +83,7 @@ BinderShaped b gs n = HaveNames gs × (n ≡ suc (length gs))
 
 -- no number is past 2^127 - 1
 abbrev pub Shaped : Form → ℕ → Type 0
-Shaped (number k) n = (k < 2 ^ 127) × (n ≡ 0)
+Shaped (number k) n = (k < past_numbers) × (n ≡ 0)
 Shaped (strict o) n = StrictShaped o n
 Shaped (operator_call f) n = 1 ≤ n
 Shaped conjunction n = n ≡ 2

@@ -1,11 +1,15 @@
 //! Laws of expressions, stated as what functions without a body ensure.
 
-ghost use Rattle.std.specs.Prelude.{◌≡◌, ◌++◌, ℕ, List, [], Ok};
+ghost use Rattle.std.specs.Prelude.{◌≡◌, ◌++◌, ℕ, List, [], length, map, Some, Ok};
 ghost use Rattle.tla_expr.specs.Tree.{Tree};
 ghost use Rattle.tla_expr.specs.Lexical.{Token};
 ghost use Rattle.tla_expr.specs.Spelling.{Phrase, spell, tree_of, Good, IsGood, Spells, head, primary};
 ghost use Rattle.tla_expr.specs.Reader.{read};
-ghost use Rattle.tla_expr.specs.laws.Columns.{looks, lineless, Begin};
+ghost use Rattle.tla_token.specs.declared.place.Place.{Place};
+ghost use Rattle.tla_token.specs.declared.rule.Refusal.{Refusal};
+ghost use Rattle.tla_expr.specs.Nesting.{counts};
+ghost use Rattle.tla_expr.specs.FirstStop.{looks, Begins, phrases, RefusesExpression};
+ghost use Rattle.tla_expr.specs.laws.Columns.{lineless};
 ghost use Rattle.tla_expr.specs.Written.{pieces};
 ghost use Rattle.tla_expr.specs.laws.Writable.{IsWritable, AreSpelled};
 ghost use Rattle.tla_expr.specs.laws.Placeless.{tree_placeless};
@@ -30,8 +34,18 @@ pub fn lines_do_not_matter()
     ensures good { (edge : ℕ) (a b : Phrase) → lineless a ≡ lineless b → Good edge a → Good edge b }
     ensures spelled { (edge : ℕ) (ts us : List Token) → looks ts ≡ looks us → (a : Phrase) → Good edge a → ts ≡ spell a [] → (b : Phrase) × Good edge b × (us ≡ spell b []) × (lineless b ≡ lineless a) }
     ensures read { (edge : ℕ) (ts us : List Token) → looks ts ≡ looks us → (a : Phrase) → read edge ts ≡ Ok (a, []) → (b : Phrase) × (read edge us ≡ Ok (b, [])) × (lineless b ≡ lineless a) }
-    ensures begins { (edge : ℕ) (ts more : List Token) (a : Phrase) → Good edge a → spell a [] ≡ ts ++ more → Begin edge (looks ts) }
-    ensures begun { (edge : ℕ) (ts : List Token) → Begin edge (looks ts) → (a : Phrase) × (more : List Token) × Good edge a × (spell a [] ≡ ts ++ more) }
+    ensures begins { (edge : ℕ) (ts more : List Token) (a : Phrase) → Good edge a → spell a [] ≡ ts ++ more → Begins (phrases edge) (map Some (looks ts)) }
+    ensures begun { (edge : ℕ) (ts : List Token) → Begins (phrases edge) (map Some (looks ts)) → (a : Phrase) × (more : List Token) × Good edge a × (spell a [] ≡ ts ++ more) }
+{}
+
+/// Each token of a phrase has one count of the forms that are open at it.
+pub fn each_token_of_a_phrase_has_its_count()
+    ensures { (n : ℕ) (a : Phrase) → length (counts n a []) ≡ length (spell a []) }
+{}
+
+/// An expression is refused at one place at most, by one rule.
+pub fn expressions_are_refused_once()
+    ensures { (ts : List Token) (end : Place) (r q : Refusal) → RefusesExpression ts end r → RefusesExpression ts end q → r ≡ q }
 {}
 
 /// What is written of a tree whose names, fields, strings and numbers a text can have are texts of tokens, each seen as the token

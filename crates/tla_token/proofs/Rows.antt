@@ -9,6 +9,7 @@ use Rattle.tla_token.specs.declared.sign.Sign.TheVariants as sign
 use Rattle.tla_token.specs.Lexemes.{Kind, name, number, string, one, other, number_of, unquoted, is_other}
 use Rattle.tla_token.specs.Tokens.{Token, Closes}
 use Rattle.tla_token.specs.Offences.{Offence, offences, least}
+use Rattle.tla_token.specs.AlgorithmOffences.{left_out, number_offences, algorithm_offences}
 use Rattle.tla_token.specs.Cut.{parts, tokens}
 
 behind_a_tab : place_at (codes "ab\tc") 3 ≡ record { line = 1; col = 9 }
@@ -144,3 +145,20 @@ return_behind_backslash = refl
 
 control_byte_in_string : wrong (codes "x \"a" ++ 1 ∷ codes "\"") ≡ Some (rule.BadToken, 4)
 control_byte_in_string = refl
+
+-- ---- tokens that an algorithm can't have
+
+abbrev wrong_words : List ℕ
+wrong_words = codes "x := CHOOSE y ! z ^ WF_v ![ !.a !"
+
+words_left_out : left_out (tokens wrong_words) ≡ (rule.LeftOutWord, 5) ∷ (rule.LeftOutWord, 14) ∷ (rule.LeftOutWord, 18) ∷ (rule.LeftOutWord, 20) ∷ (rule.LeftOutWord, 32) ∷ []
+words_left_out = refl
+
+token_too_big : number_offences (tokens (codes "1 170141183460469231731687303715884105728 2")) ≡ (rule.NumberTooBig, 2) ∷ []
+token_too_big = refl
+
+largest_token : number_offences (tokens (codes "170141183460469231731687303715884105727")) ≡ []
+largest_token = refl
+
+few_tokens : algorithm_offences (tokens (codes "--x y")) ≡ []
+few_tokens = refl

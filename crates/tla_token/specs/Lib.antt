@@ -1,8 +1,10 @@
 pub mod Rules
 pub mod Places
+pub mod Limits
 pub mod Signs
 pub mod Words
 pub mod Lexemes
 pub mod Tokens
 pub mod Offences
+pub mod AlgorithmOffences
 pub mod Cut

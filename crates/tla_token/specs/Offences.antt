@@ -1,12 +1,13 @@
 -- What is wrong with a stretch of text below its grammar: bytes and strings that make no token, open comments and strings, and in an
 -- algorithm numbers that are too big. The least rule counts, at its first place.
-use Rattle.std.specs.Prelude.{◌≡◌, ℕ, ◌+◌, ◌^◌, Bool, true, false, ◌&&◌, ◌||◌, not, nat_eq, nat_le, nat_lt, IsTrue, List, [], ◌∷◌, ◌++◌, length, Option, Some, None, codes, if◌then◌else◌}
+use Rattle.std.specs.Prelude.{◌≡◌, ℕ, ◌+◌, Bool, true, false, ◌&&◌, ◌||◌, not, nat_eq, nat_le, nat_lt, IsTrue, List, [], ◌∷◌, ◌++◌, length, Option, Some, None, codes, if◌then◌else◌}
 use Rattle.std.specs.List.{starts_with}
 use Rattle.std.specs.Option.{is_none}
 use Rattle.tla_token.specs.declared.rule.Rule.{Rule}
 use Rattle.tla_token.specs.declared.rule.Rule.TheVariants.{NotAscii, BadToken, OpenComment, OpenString, NumberTooBig}
 use Rattle.tla_token.specs.declared.rule.Refusal.{Refusal}
 use Rattle.tla_token.specs.Places.{place_at}
+use Rattle.tla_token.specs.Limits.{past_numbers}
 use Rattle.tla_token.specs.Rules.{rule_number}
 use Rattle.tla_token.specs.Lexemes.{Kind, number, string, is_blank, is_printed, escaped, unquoted}
 use Rattle.tla_token.specs.Tokens.{Piece, lexeme, bytes_of, Fits, Closes, stretch, holds_mark}
@@ -95,7 +96,7 @@ byte_offences at (b ∷ bs) = offence_if (is_stray b) (if nat_le 128 b then NotA
 
 -- a token that an algorithm can't have
 abbrev pub kind_offences : Bool → ℕ → Kind → List Offence
-kind_offences in_algorithm at (number n) = offence_if (in_algorithm && nat_le (2 ^ 127) n) NumberTooBig at
+kind_offences in_algorithm at (number n) = offence_if (in_algorithm && nat_le past_numbers n) NumberTooBig at
 kind_offences in_algorithm at (string w) = offence_if (in_algorithm && holds_mark w) BadToken at
 kind_offences in_algorithm at k = []
 

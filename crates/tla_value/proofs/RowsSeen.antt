@@ -5,9 +5,10 @@ use Rattle.tla_token.specs.Lexemes.{Kind, IsLexeme}
 use Rattle.tla_token.specs.Lexemes as lexeme
 use Rattle.tla_token.specs.Tokens as text_piece
 use Rattle.tla_token.specs.Cut.{parts, pieces}
+use Rattle.tla_token.specs.Limits.{deepest_value}
 use Rattle.tla_value.specs.Value.{Value, truth, int, text, model, set}
 use Rattle.tla_value.specs.Order.{set_from, seq_from, fun_from, record_from}
-use Rattle.tla_value.specs.Limits.{fits_int, deepest}
+use Rattle.tla_value.specs.Limits.{fits_int}
 use Rattle.tla_value.specs.ValueText.{Mark, word, number, sign, Spells, IsWithin, AreWithinFields, marks, field_marks, Spelling, Fields, truth_word, digits, minus, quoted, named, braces, angles, fields, pairs, no_spellings, spelling, no_fields, field, no_pairs, pair}
 use Rattle.tla_value.specs.ValueSeen.{marks_of, SpellsFrom}
 
@@ -51,7 +52,7 @@ no_number n d r q (fields x s fs) f w e = cc
 no_number n d r q (pairs k s ps) f w e = cc
 
 past_largest : (v : Value) → Spells (seen (codes "170141183460469231731687303715884105728")) v → ⊥
-past_largest v s = no_number past deepest [] [] s.0 refl s.2 s.3
+past_largest v s = no_number past deepest_value [] [] s.0 refl s.2 s.3
 
 abbrev f : Mark
 f = word (codes "f")
@@ -82,7 +83,7 @@ second : (d : ℕ) (fs : Fields) → AreWithinFields fs d → sign (codes ",") �
 second d no_fields w e = cc
 second d (field x s fs) w e = no_number past d close (field_marks fs close) s refl w.0 cc
 
-whole : (s : Spelling) → IsWithin s deepest → sign (codes "[") ∷ f ∷ to ∷ number 1 ∷ sign (codes ",") ∷ f ∷ to ∷ number past ∷ close ≡ marks s [] → ⊥
+whole : (s : Spelling) → IsWithin s deepest_value → sign (codes "[") ∷ f ∷ to ∷ number 1 ∷ sign (codes ",") ∷ f ∷ to ∷ number past ∷ close ≡ marks s [] → ⊥
 whole (fields x s fs) w e = second 199 fs w.2 (after 1 (sign (codes ",") ∷ f ∷ to ∷ number past ∷ close) (field_marks fs close) s cc)
 whole (truth_word b) w e = cc
 whole (digits n) w e = cc

@@ -3,10 +3,11 @@ use Rattle.std.proofs.Common.{◌≡◌, ℕ, zero, suc, ◌≤◌, pos, negsuc,
 use Rattle.std.specs.Prelude.{max, neg_ℤ, ◌&&◌, if◌then◌else◌}
 use Rattle.std.specs.Ordering.{is_eq}
 use Rattle.std.proofs.lemmas.Bool.{and_parts}
+use Rattle.tla_token.specs.Limits.{deepest_value}
 use Rattle.tla_expr.specs.Tree.{Word}
 use Rattle.tla_value.specs.Value.{Value, Values, truth, int, text, model, set, fun, no_values, and, values_in}
 use Rattle.tla_value.specs.Order.{orders, listed, numbered, set_from, fun_from, seq_from, IsCanonical, AreCanonical, ArePairsCanonical}
-use Rattle.tla_value.specs.Limits.{depth, depths, deepest, fits, fits_parts, all_fit, fits_count}
+use Rattle.tla_value.specs.Limits.{depth, depths, fits, fits_parts, all_fit, fits_count}
 use Rattle.tla_value.specs.ValueText.{Mark, Spelling, Spellings, Fields, Pairs, truth_word, digits, minus, quoted, named, braces, angles, fields, pairs, no_spellings, spelling, no_fields, field, no_pairs, pair, spelled, all_spelled, spelled_fields, spelled_pairs, IsWithin, AreWithin, AreWithinFields, AreWithinPairs, Spells, HasModelNames, field_names, fields_from, pairs_from, shown_other, shown_fun, shown, all_shown, marks}
 use Rattle.tla_value.proofs.Canonical.{set_canonical}
 use Rattle.tla_value.proofs.OrderFuns.{seq_from_canonical, fun_from_canonical}
@@ -38,7 +39,7 @@ fun_within d true ds ks ss f g h = (f, h)
 fun_within d false ds ks ss f g h = other_within d (field_names ds) ks ss f g h
 
 mutual
-  shown_within : (d : ℕ) (v : Value) → d ≤ deepest → IsCanonical v → fits_parts v ≡ true → depth v ≤ d → IsWithin (shown v) d
+  shown_within : (d : ℕ) (v : Value) → d ≤ deepest_value → IsCanonical v → fits_parts v ≡ true → depth v ≤ d → IsWithin (shown v) d
   shown_within d (truth b) l c f h = tt
   shown_within d (int (pos n)) l c f h = f
   shown_within d (int (negsuc n)) l c f h = f
@@ -57,7 +58,7 @@ mutual
       (all_shown_within d ds (omega arith) c.1 parts.0 (omega arith))
       (all_shown_within d vs (omega arith) c.2 parts.1 (omega arith))
 
-  all_shown_within : (d : ℕ) (vs : Values) → d ≤ deepest → AreCanonical vs → all_fit vs ≡ true → depths vs ≤ d → AreWithin (all_shown vs) d
+  all_shown_within : (d : ℕ) (vs : Values) → d ≤ deepest_value → AreCanonical vs → all_fit vs ≡ true → depths vs ≤ d → AreWithin (all_shown vs) d
   all_shown_within d no_values l c f h = tt
   all_shown_within d (and v vs) l c f h =
       let parts = and_parts (fits_parts v) (all_fit vs) f in
@@ -66,7 +67,7 @@ mutual
 -- the tokens that are written for a value spell it
 pub spells_shown : (v : Value) → IsCanonical v → HasModelNames v → fits v ≡ true → Spells (marks (shown v) []) v
 spells_shown v canonical names within =
-    (shown v, good_shown v names, shown_within deepest v (omega arith) canonical (fits_parts_of v within) (depth_of v within), refl, spelled_shown v canonical)
+    (shown v, good_shown v names, shown_within deepest_value v (omega arith) canonical (fits_parts_of v within) (depth_of v within), refl, spelled_shown v canonical)
 
 -- ---- what is spelled
 
@@ -114,4 +115,4 @@ pub spelled_is_canonical : (ts : List Mark) (v : Value) → Spells ts v → IsCa
 spelled_is_canonical ts v h = subst IsCanonical h.4 (spelled_canonical h.0)
 
 pub spelled_fits : (ts : List Mark) (v : Value) → Spells ts v → fits v ≡ true
-spelled_fits ts v h = ap fits (sym h.4) ∙ within_fits deepest h.0 h.2
+spelled_fits ts v h = ap fits (sym h.4) ∙ within_fits deepest_value h.0 h.2

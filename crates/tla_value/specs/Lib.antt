@@ -17,6 +17,7 @@ pub mod Grafts
 pub mod Standard
 pub mod StandardModules
 pub mod Definitions
+pub mod DefinitionNesting
 pub mod Outside
 pub mod Defs
 pub mod Instances

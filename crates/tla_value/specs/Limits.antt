@@ -1,6 +1,7 @@
--- How large a value may get in a run: integers from -2^127 to 2^127 - 1, sets and functions of at most 65,536 members, and values nested at most 200 deep.
-use Rattle.std.specs.Prelude.{ℕ, ℤ, pos, negsuc, Bool, true, if◌then◌else◌, ◌&&◌, nat_lt, nat_le, ◌^◌, suc, max, Ok, Err}
+-- How large a value may get in a run: its integers, the members of its sets and functions, how deep it is nested.
+use Rattle.std.specs.Prelude.{ℕ, ℤ, pos, negsuc, Bool, true, if◌then◌else◌, ◌&&◌, nat_lt, nat_le, suc, max, Ok, Err}
 use Rattle.tla_token.specs.declared.place.Place.{Place}
+use Rattle.tla_token.specs.Limits.{past_numbers, most_members, deepest_value}
 use Rattle.tla_value.specs.Value.{Value, Values, truth, int, text, model, set, fun, no_values, and, Outcome, over}
 use Rattle.tla_value.specs.Order.{count}
 
@@ -20,16 +21,8 @@ abbrev mutual
 
 -- from -2^127 to 2^127 - 1
 abbrev pub fits_int : ℤ → Bool
-fits_int (pos n) = nat_lt n (2 ^ 127)
-fits_int (negsuc n) = nat_lt n (2 ^ 127)
-
--- how many members a set or a domain may have
-abbrev pub most_members : ℕ
-most_members = 65536
-
--- how deep a value may be
-abbrev pub deepest : ℕ
-deepest = 200
+fits_int (pos n) = nat_lt n past_numbers
+fits_int (negsuc n) = nat_lt n past_numbers
 
 abbrev pub fits_count : Values → Bool
 fits_count vs = nat_le (count vs) most_members
@@ -49,7 +42,7 @@ abbrev mutual
   all_fit (and v vs) = fits_parts v && all_fit vs
 
 abbrev pub fits : Value → Bool
-fits v = fits_parts v && nat_le (depth v) deepest
+fits v = fits_parts v && nat_le (depth v) deepest_value
 
 -- a value that is made at a place in a run
 abbrev pub bounded : Place → Value → Outcome Value

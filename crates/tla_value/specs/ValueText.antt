@@ -4,11 +4,12 @@ use Rattle.std.specs.Fmt.{decimal}
 use Rattle.std.specs.Ordering.{is_eq}
 use Rattle.std.specs.List.{list_all, list_any}
 use Rattle.tla_token.specs.Lexemes.{is_word, is_letter}
+use Rattle.tla_token.specs.Limits.{deepest_value}
 use Rattle.tla_expr.specs.Lexical.{escapes}
 use Rattle.tla_expr.specs.Tree.{Word}
 use Rattle.tla_value.specs.Value.{Value, Values, truth, int, text, model, set, fun, no_values, and}
 use Rattle.tla_value.specs.Order.{orders, same, set_from, listed, fun_from, seq_from, numbered}
-use Rattle.tla_value.specs.Limits.{fits, fits_int, deepest}
+use Rattle.tla_value.specs.Limits.{fits, fits_int}
 
 -- ---- words
 
@@ -171,7 +172,7 @@ abbrev mutual
 
 -- tokens spell a value, all of them within the limits
 abbrev pub Spells : List Mark → Value → Type 0
-Spells ts v = (s : Spelling) × IsGood s × IsWithin s deepest × (ts ≡ marks s []) × (spelled s ≡ v)
+Spells ts v = (s : Spelling) × IsGood s × IsWithin s deepest_value × (ts ≡ marks s []) × (spelled s ≡ v)
 
 -- ---- the written text
 

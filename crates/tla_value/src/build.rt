@@ -3,6 +3,7 @@
 
 ghost use Rattle.std.specs.Prelude.{◌≡◌, ◌≤◌, pos};
 ghost use Rattle.std.specs.Option.{option_copied};
+ghost use Rattle.tla_token.specs.Limits.{deepest_value};
 ghost use Rattle.tla_value.specs.Value.{int, set, values_in};
 ghost use Rattle.tla_value.specs.Order.{count, set_from, seq_from, holds, found_at, IsAscending};
 ghost use Rattle.tla_value.specs.Limits.{depth, depths, bounded};
@@ -24,7 +25,7 @@ pub const DEEPEST: usize = 200;
 #[cycle(depth)]
 pub fn depth_of(v: &Value) -> usize
     ensures depth { result ≡ depth v.now }
-    ensures small { result ≤ 200 }
+    ensures small { result ≤ deepest_value }
     ensures stored { IsStored v.now }
 {
     match &v.kind {
@@ -45,7 +46,7 @@ pub fn depth_of(v: &Value) -> usize
 #[cycle(depth)]
 pub fn depth_in(values: &[Value]) -> usize
     ensures depth { result ≡ depths (values_in values.now) }
-    ensures small { result ≤ 200 }
+    ensures small { result ≤ deepest_value }
     ensures stored { AreStored (values_in values.now) }
 {
     let mut deep = 0;

@@ -1,17 +1,12 @@
--- What of its tokens the spelling of an algorithm looks at: kinds and columns. Lines are only where an offence is said to be.
-use Rattle.std.specs.Prelude.{◌≡◌, ℕ, List, [], ◌++◌, Option, map}
+-- Algorithms as they are spelled, without their lines, which no grammar looks at.
+use Rattle.std.specs.Prelude.{map}
 use Rattle.std.specs.Option.{option_map}
 use Rattle.tla_expr.specs.Tree.{Name}
-use Rattle.tla_expr.specs.Lexical.{TokenView}
-use Rattle.tla_expr.specs.laws.Columns.{looks, lineless_place, lineless, lineless_all}
+use Rattle.tla_expr.specs.laws.Columns.{lineless_place, lineless, lineless_all}
 use Rattle.pcal_tree.specs.GrammarParts as part
 use Rattle.pcal_tree.specs.GrammarP as psyntax
 use Rattle.pcal_tree.specs.GrammarC as csyntax
 use Rattle.pcal_tree.specs.Grammar as g
-
--- tokens of these kinds in these columns begin an algorithm
-abbrev pub Begins : g.Syntax → List (TokenView × ℕ) → Type 0
-Begins s ks = (x : g.Text) × (more : List (TokenView × ℕ)) × g.Good s x × (looks (g.spell x []) ≡ ks ++ more)
 
 -- ---- an algorithm as it is spelled, without its lines
 

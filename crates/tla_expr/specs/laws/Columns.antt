@@ -1,20 +1,8 @@
--- What of a token the grammar looks at: its kind and its column. Lines are only where a fault is said to be.
-use Rattle.std.specs.Prelude.{◌≡◌, ℕ, List, [], ◌∷◌, ◌++◌, map}
+-- Phrases without their lines, which no grammar looks at.
 use Rattle.tla_token.specs.declared.place.Place.{Place}
-use Rattle.tla_expr.specs.Lexical.{TokenView, Token}
 use Rattle.tla_expr.specs.Spelling.{Phrase, number, string, constant, name, primed, call, brackets, no_set, set_of, filter, image, no_tuple, tuple, fields, records, function, functions, except, apply, select, list, quantified, if_then_else, cases, local, infix_of, prefix_of}
 use Rattle.tla_expr.specs.Spelling.{Phrases, last, more, Binds, last_bind, bind, share, Fields, last_field, field, Settings, last_setting, setting, Path, path_end, index, at_field, Bullets, last_bullet, bullet, Arms, last_arm, other_arm, arm, Locals, last_local, more_locals}
-use Rattle.tla_expr.specs.Spelling.{Field, Good, spell}
-
-abbrev pub look : Token → TokenView × ℕ
-look t = (t.kind, t.place.col)
-
-abbrev pub looks : List Token → List (TokenView × ℕ)
-looks ts = map look ts
-
--- tokens of these kinds in these columns begin a phrase, to the right of the edge
-abbrev pub Begin : ℕ → List (TokenView × ℕ) → Type 0
-Begin e ks = (a : Phrase) × (more : List (TokenView × ℕ)) × Good e a × (looks (spell a []) ≡ ks ++ more)
+use Rattle.tla_expr.specs.Spelling.{Field}
 
 -- ---- a phrase without its lines
 abbrev pub lineless_place : Place → Place

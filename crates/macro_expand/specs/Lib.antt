@@ -1,0 +1,4 @@
+pub mod Measured
+pub mod Size
+pub mod TooLarge
+pub mod laws

@@ -1,0 +1,4 @@
+//! Algorithms with their macro calls written out, and how large they are.
+#![tactic(auto)]
+
+pub mod laws;
