@@ -1,12 +1,14 @@
 -- The labels that are added rest on what calls assign, and not on how that is computed.
 use Rattle.std.proofs.Common.{◌≡◌, List, [], ◌∷◌, ◌++◌, Bool, true, false, ◌&&◌, ◌||◌, not, cond, codes, Option, Some, None, reverse, refl, ◌∙◌, ap}
+use Rattle.tla_token.specs.declared.place.Place.{Place}
 use Rattle.tla_token.specs.declared.rule.Rule.{Rule}
 use Rattle.tla_token.specs.declared.rule.Rule.TheVariants.{FirstLabel}
+use Rattle.tla_token.specs.declared.rule.Refusal.{Refusal}
 use Rattle.tla_expr.specs.Tree.{Word, Trees}
 use Rattle.pcal_tree.specs.Algorithm.{Span, Statement, assign, await, print, assert, skip, branch, either, with, while, goto, macro, call, return, Statements, done, then, mark, Branches, no_branches, or, Macro, Procedure, Process, Main, alone, processes, Algorithm}
 use Rattle.pcal_tree.specs.Paths.{Effect, Effects, Path, after_one}
 use Rattle.pcal_tree.specs.Variables.{declared}
-use Rattle.pcal_tree.specs.OffencesSteps.{Before, due_after, inside, next, call_effect, procedure_effects, outer_effects}
+use Rattle.pcal_tree.specs.OffencesSteps.{Before, due_after, inside, next, offences_at, call_effect, procedure_effects, outer_effects}
 use Rattle.pcal_tree.specs.Labelled.{Supply, names_after, is_empty, labelled_if, inside_needs, needs_label, before, add_inside, add, add_some, add_to_macros, add_to_procedures, add_to_processes, add_to_main, typed_labels, with_labels, is_alone, labelled, labelled_by}
 use Rattle.pcal_tree.specs.laws.MacroSummaries.{summaries, summary_effect}
 use Rattle.pcal_tree.proofs.SummaryLaws.{Agreeing, calls_agree}

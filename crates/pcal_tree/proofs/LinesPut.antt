@@ -7,7 +7,7 @@ use Rattle.tla_expr.specs.Tree.{Word, Name}
 use Rattle.tla_expr.specs.Lexical.{Token, sign_of}
 use Rattle.tla_expr.specs.Lexical as tk
 use Rattle.tla_expr.specs.Spelling.{spell, spell_all}
-use Rattle.tla_expr.specs.laws.Columns.{looks, lineless_place}
+use Rattle.tla_expr.specs.laws.Columns.{looks, lineless_place, lineless, lineless_all}
 use Rattle.tla_expr.proofs.ColumnsPut.{Put, one_token, put, put_all}
 use Rattle.pcal_tree.specs.GrammarParts as part
 use Rattle.pcal_tree.specs.GrammarP as psyntax

@@ -1,5 +1,5 @@
 -- What of its tokens the spelling of an algorithm looks at: kinds and columns. Lines are only where an offence is said to be.
-use Rattle.std.specs.Prelude.{◌≡◌, ℕ, List, [], ◌++◌, map}
+use Rattle.std.specs.Prelude.{◌≡◌, ℕ, List, [], ◌++◌, Option, map}
 use Rattle.std.specs.Option.{option_map}
 use Rattle.tla_expr.specs.Tree.{Name}
 use Rattle.tla_expr.specs.Lexical.{TokenView}
