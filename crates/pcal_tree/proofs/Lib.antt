@@ -39,3 +39,4 @@ pub mod SameVariables
 pub mod StepVariables
 pub mod SameSteps
 pub mod SameStarts
+pub mod ReplyLaws
