@@ -40,3 +40,4 @@ pub mod StepVariables
 pub mod SameSteps
 pub mod SameStarts
 pub mod ReplyLaws
+pub mod ReplyConverse

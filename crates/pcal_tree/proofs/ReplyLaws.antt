@@ -42,7 +42,7 @@ self_is None None h = refl
 self_is (Some v) None h = cc
 self_is None (Some w) h = cc
 
-found_self : (who : Option Value) (vs : List Actor) (v : Actor) → with_self who vs ≡ Some v → OneOf v vs × (v.self ≡ who)
+pub found_self : (who : Option Value) (vs : List Actor) (v : Actor) → with_self who vs ≡ Some v → OneOf v vs × (v.self ≡ who)
 found_self who [] v e = cc
 found_self who (w ∷ vs) v e = by (found_self who vs v) (is_self who w.self) refl e
   where
