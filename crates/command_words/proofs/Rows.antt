@@ -1,5 +1,5 @@
 -- What written-out words mean, by computation.
-use Rattle.std.proofs.Common.{◌≡◌, true, false, List, [], ◌∷◌, Some, None, refl, codes}
+use Rattle.std.proofs.Common.{◌≡◌, true, false, [], ◌∷◌, Some, None, refl, codes}
 use Rattle.clap.proofs.OnLiterals.{clap_on_literals}
 use Rattle.pcal_tree.specs.Grammar.{p_syntax, c_syntax}
 use Rattle.command_words.specs.Table.{commands, translate}

@@ -1,12 +1,12 @@
 -- Made modules, by computation.
-use Rattle.std.proofs.Common.{◌≡◌, ℕ, List, [], ◌∷◌, false, refl, codes}
+use Rattle.std.proofs.Common.{◌≡◌, [], ◌∷◌, false, refl, codes}
 use Rattle.std.specs.Prelude.{replicate}
 use Rattle.std.specs.Fmt.{digits}
 use Rattle.tla_token.specs.Places.{nowhere}
 use Rattle.tla_expr.specs.Tree.{Word}
 use Rattle.pcal_tree.specs.declared.mark.Mark.TheVariants.{Plain}
 use Rattle.pcal_tree.specs.Algorithm.{Name, skip, done, then, mark, alone, Algorithm}
-use Rattle.made_module.specs.Big.{next_number, kind_of, line_text, lines_from, big, counts_text}
+use Rattle.made_module.specs.Big.{next_number, kind_of, lines_from, big, counts_text}
 
 first_kind : kind_of (next_number 1) ≡ 2
 first_kind = refl

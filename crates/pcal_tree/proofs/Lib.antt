@@ -60,3 +60,5 @@ pub mod RowsCounts
 pub mod CountLimits
 pub mod RefusedOnce
 pub mod OpensLaws
+pub mod ReplyLaws
+pub mod ReplyConverse

@@ -1,13 +1,13 @@
 -- What comes of one step, and of a start, tried by computation.
-use Rattle.std.proofs.Common.{◌≡◌, ℕ, List, [], ◌∷◌, true, false, codes, Option, Some, None, refl}
+use Rattle.std.proofs.Common.{◌≡◌, ℕ, List, [], ◌∷◌, true, false, codes, Some, None, refl}
 use Rattle.tla_token.specs.declared.place.Place.{Place}
 use Rattle.tla_expr.specs.declared.op.Op.TheVariants.{Less, Divide}
 use Rattle.tla_expr.specs.Tree.{Tree, Trees, set_of, strict, node, no_trees, tree}
 use Rattle.tla_value.specs.declared.fault.FaultKind.TheVariants.{BadDivisor, NotFunction}
-use Rattle.tla_value.specs.Value.{Value, text, fault}
+use Rattle.tla_value.specs.Value.{text, fault}
 use Rattle.pcal_tree.specs.declared.mark.Mark.TheVariants.{Plain}
 use Rattle.pcal_tree.specs.declared.mark.Fairness.TheVariants.{Unfair}
-use Rattle.pcal_tree.specs.Algorithm.{Statement, skip, await, with, either, one_of, no_binds, no_branches, or, Statements, done, then, mark, equals, among, Declaration, Process, processes, Main, alone}
+use Rattle.pcal_tree.specs.Algorithm.{Statement, skip, await, with, one_of, no_binds, Statements, done, then, mark, among, Declaration, processes, Main, alone}
 use Rattle.pcal_tree.specs.Scope.{State, put}
 use Rattle.pcal_tree.specs.Program.{Program}
 use Rattle.pcal_tree.specs.Variables.{pc}

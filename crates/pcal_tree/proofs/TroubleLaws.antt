@@ -159,7 +159,7 @@ label_is_found P u l b e (m ∷ ls) (inl p) =
     front_some _ _ (record { routine = u; label = m; begins = b }, (λ i. cond (same (label_value P u l) (label_value P u (sym p i))) (stand_at u m (at_label u m)) None) ∙ (λ i. cond (same_self (label_value P u l) i) (stand_at u m ((ap (at_label u) (sym p) ∙ e) i)) None))
 label_is_found P u l b e (m ∷ ls) (inr h) = behind_some _ _ (label_is_found P u l b e ls h)
 
-stand_is_found : (P : Program) (d : Stand) → at_label d.routine d.label ≡ Some d.begins → (us : List Routine) → OneOf d.routine us → IsSomething (stand_named P (label_value P d.routine d.label) us)
+pub stand_is_found : (P : Program) (d : Stand) → at_label d.routine d.label ≡ Some d.begins → (us : List Routine) → OneOf d.routine us → IsSomething (stand_named P (label_value P d.routine d.label) us)
 stand_is_found P d e [] h = absurd h
 stand_is_found P d e (u ∷ us) (inl p) =
     front_some _ _ (subst (λ z. IsSomething (label_named P (label_value P d.routine d.label) z (label_words z.body))) p (label_is_found P d.routine d.label d.begins e (label_words d.routine.body) (label_listed d.routine d.label d.begins e)))

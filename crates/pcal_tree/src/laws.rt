@@ -48,7 +48,9 @@ ghost use Rattle.tla_value.specs.declared.fault.FaultKind.{FaultKind};
 ghost use Rattle.pcal_tree.specs.Variables.{vars, Agree};
 ghost use Rattle.pcal_tree.specs.Step.{Step, Stutters};
 ghost use Rattle.pcal_tree.specs.InitialStates.{Initial, InitTrouble};
-ghost use Rattle.pcal_tree.specs.Script.{Turn, StepBy, RunOf};
+ghost use Rattle.pcal_tree.specs.Script.{Turn, Reaches, StepBy, RunOf};
+ghost use Rattle.pcal_tree.specs.StepAnswers.{reached, stepped, start_by};
+ghost use Rattle.pcal_tree.specs.InitialChoice.{started};
 ghost use Rattle.pcal_tree.specs.FirstTrouble.{FirstTrouble};
 
 /// What a list of choices leads to is an outcome of the course, and each outcome has a list of choices that
@@ -199,4 +201,13 @@ pub fn tokens_are_refused_once()
 /// by its choices.
 pub fn scripts_make_steps()
     ensures { (P : Program) (n : Turn) (s t : State) → StepBy P n s t → Step P s t }
+{}
+
+/// A state that comes of a step by choices, or of a start, is one to which just these choices lead in a run by a script;
+/// and where a script's step leads to a state, it is replied to with that state, if each process is at one label at most.
+pub fn replies_are_of_scripts()
+    ensures step { (P : Program) (n : Turn) (s t : State) (l : Word) → stepped P s n.who n.choices ≡ reached (t, l) → StepBy P n s t }
+    ensures taken { (P : Program) (n : Turn) (s t : State) → ((v : Actor) → IsActor P v → StandsOnce P s v) → StepBy P n s t
+        → (u : State) × (l : Word) × (stepped P s n.who n.choices ≡ reached (u, l)) × Agree (vars P) u t }
+    ensures start { (P : Program) (choices : List ℕ) (s : State) → start_by P choices ≡ reached s → Reaches P (walk (started P) choices) s }
 {}

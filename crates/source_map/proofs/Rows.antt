@@ -1,15 +1,15 @@
 -- Lines of labels, by computation.
-use Rattle.std.proofs.Common.{◌≡◌, ℕ, List, [], ◌∷◌, ◌++◌, true, false, refl, codes}
+use Rattle.std.proofs.Common.{◌≡◌, ℕ, List, [], ◌∷◌, false, refl, codes}
 use Rattle.std.specs.Fmt.{digits}
 use Rattle.tla_token.specs.declared.place.Place.{Place}
 use Rattle.tla_expr.specs.Tree.{Word, Tree, number, name, node, no_trees}
 use Rattle.tla_value.specs.Outside.{Outside}
 use Rattle.pcal_tree.specs.declared.mark.Mark.TheVariants.{Plain}
 use Rattle.pcal_tree.specs.declared.mark.Fairness.TheVariants.{Unfair}
-use Rattle.pcal_tree.specs.Algorithm.{Name, Statement, Statements, done, then, mark, no_binds, is, no_branches, or, no_assignments, assignment, assign, skip, branch, either, with, while, return, call, Procedure, Process, Main, alone, processes, Algorithm}
+use Rattle.pcal_tree.specs.Algorithm.{Name, Statement, Statements, done, then, mark, no_branches, or, no_assignments, assignment, assign, skip, branch, either, while, return, call, Procedure, Process, Main, alone, processes, Algorithm}
 use Rattle.pcal_tree.specs.Names.{naming}
 use Rattle.pcal_tree.specs.Labelled.{labelled}
-use Rattle.source_map.specs.Lines.{Line, lines, lines_text}
+use Rattle.source_map.specs.Lines.{lines, lines_text}
 
 abbrev at : ℕ → ℕ → Place
 at l c = record { line = l; col = c }

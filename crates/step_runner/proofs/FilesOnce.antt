@@ -1,16 +1,14 @@
 -- A file of constants, a script and a trace each spell one thing, or have one refusal.
-use Rattle.std.proofs.Common.{◌≡◌, ◌⊎◌, inl, inr, ◌<◌, ◌+◌, ℕ, Bool, true, false, List, [], ◌∷◌, length, Option, Some, None, refl, sym, ap, subst, ◌∙◌, arith}
+use Rattle.std.proofs.Common.{◌≡◌, ◌⊎◌, inl, inr, ◌+◌, ℕ, Bool, true, false, List, [], ◌∷◌, length, Option, Some, None, refl, sym, ap, subst, ◌∙◌, arith}
 use Rattle.tla_token.specs.declared.rule.Refusal.{Refusal}
 use Rattle.tla_expr.specs.Tree.{Word, words}
 use Rattle.tla_value.specs.Value.{Value}
 use Rattle.tla_value.specs.States.{Entries}
 use Rattle.tla_value.specs.Outside.{Outside}
-use Rattle.tla_value.specs.ValueSeen.{SpellsFrom}
 use Rattle.tla_value.proofs.ValueOnce.{value_once}
 use Rattle.pcal_tree.specs.Script.{Turn}
 use Rattle.step_runner.specs.Fronts.{Text, bad_line, next_at}
-use Rattle.step_runner.specs.Stretches.{Stretch, States, states_of}
-use Rattle.step_runner.specs.Items.{SpellsValues, OffendsAt}
+use Rattle.step_runner.specs.Stretches.{Stretch, states_of}
 use Rattle.step_runner.specs.Config.{SpellsConfig, ConfigOffends}
 use Rattle.step_runner.specs.Script.{Script, SpellsWho, SpellsTurn, SpellTurns, SpellsLines, SpellsScript, TurnOffends, StartOffends, LinesOffend, ScriptOffends, step_choices, start_choices, told_lines}
 use Rattle.step_runner.specs.Trace.{SpellStates, SpellsTrace, StatesOffend, EachOffend, FrontOffends, TraceOffends}
@@ -33,7 +31,7 @@ config_refused_once o x r q s t = same_refusal x s.0 t.0 r q (offence_once false
 
 -- ---- scripts
 
-who_once : (m : Bool) (l : Text) (from to end : ℕ) (v w : Option Value) → SpellsWho m l from to v → SpellsWho m l from end w → (to ≡ end) × (v ≡ w)
+pub who_once : (m : Bool) (l : Text) (from to end : ℕ) (v w : Option Value) → SpellsWho m l from to v → SpellsWho m l from end w → (to ≡ end) × (v ≡ w)
 who_once true l from to end (Some v) (Some w) s t =
     let once = value_once l (next_at l from) to end v w s t in (once.0, ap (λ (u : Value). Some u) once.1)
 who_once true l from to end None w s t = absurd s

@@ -1,6 +1,5 @@
 -- A text gives its names one list of values, or has one first offence.
-use Rattle.std.proofs.Common.{◌≡◌, ◌⊎◌, inl, inr, ◌<◌, ℕ, Bool, true, false, true≢false, List, [], ◌∷◌, ◌++◌, length, drop, map, Option, Some, None, refl, sym, ap, subst, ◌∙◌, arith}
-use Rattle.std.specs.Prelude.{◌&&◌, option_and_then}
+use Rattle.std.proofs.Common.{◌≡◌, ◌⊎◌, inl, inr, ℕ, Bool, true, false, true≢false, List, [], ◌∷◌, ◌++◌, length, drop, None, refl, sym, ap, subst, ◌∙◌, arith}
 use Rattle.std.proofs.lemmas.List.{append_assoc, length-drop}
 use Rattle.std.proofs.lemmas.Bool.{and_parts}
 use Rattle.tla_token.specs.Cut.{parts}
@@ -13,7 +12,7 @@ use Rattle.step_runner.specs.Fronts.{Text, next_at, token_at, first_token}
 use Rattle.step_runner.specs.Items.{item_begins, SpellsItem, SpellsItems, names_of, is_new, are_new, are_all, SpellsValues, NoNewItem, OffendsAt}
 use Rattle.step_runner.proofs.Offended.{none_some, same_some}
 
-abbrev Entry : Type 0
+abbrev pub Entry : Type 0
 Entry = Word × Value
 
 -- ---- one item

@@ -1,5 +1,5 @@
 -- Where no item with a new name begins.
-use Rattle.std.proofs.Common.{◌≡◌, ◌<◌, ℕ, Bool, false, List, length, Option, Some, None, sym, ap, ◌∙◌, subst}
+use Rattle.std.proofs.Common.{◌≡◌, ◌<◌, ℕ, Bool, false, List, length, Some, None, sym, ap, ◌∙◌}
 use Rattle.tla_expr.specs.Tree.{Word}
 use Rattle.step_runner.specs.Fronts.{Text}
 use Rattle.step_runner.specs.Items.{item_begins, is_new, NoNewItem}

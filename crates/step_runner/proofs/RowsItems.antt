@@ -1,5 +1,5 @@
 -- Files of constants, tried by computation.
-use Rattle.std.proofs.Common.{◌≡◌, ◌<◌, ℕ, pos, true, false, List, [], ◌∷◌, Some, None, refl, codes, arith, inl, inr, map}
+use Rattle.std.proofs.Common.{◌≡◌, ℕ, pos, false, List, [], ◌∷◌, Some, None, refl, codes, arith, inl, inr, map}
 use Rattle.tla_token.specs.declared.place.Place.{Place}
 use Rattle.tla_token.specs.declared.rule.Rule.TheVariants.{BadLine}
 use Rattle.tla_token.specs.Places.{nowhere}
@@ -10,7 +10,7 @@ use Rattle.tla_value.specs.Outside.{Outside}
 use Rattle.tla_value.specs.ValueText.{digits, named, braces, no_spellings, spelling}
 use Rattle.tla_value.specs.ValueSeen.{SpellsFrom}
 use Rattle.step_runner.specs.Fronts.{Text}
-use Rattle.step_runner.specs.Items.{item_begins, OffendsAt}
+use Rattle.step_runner.specs.Items.{item_begins}
 use Rattle.step_runner.specs.Config.{SpellsConfig, ConfigOffends, constants_of}
 use Rattle.step_runner.proofs.Spelled.{value_here}
 use Rattle.step_runner.proofs.Offended.{no_item, old_name}

@@ -11,7 +11,7 @@ use Rattle.tla_value.specs.Stops.{plain}
 use Rattle.tla_value.specs.Definitions.{Valuation}
 use Rattle.pcal_tree.specs.declared.mark.Mark.TheVariants.{Plain}
 use Rattle.pcal_tree.specs.declared.mark.Fairness.TheVariants.{Unfair}
-use Rattle.pcal_tree.specs.Algorithm.{Statement, skip, assign, no_assignments, assignment, while, Statements, done, then, mark, equals, Declaration, Process, Main, alone, processes}
+use Rattle.pcal_tree.specs.Algorithm.{Statement, skip, assign, no_assignments, assignment, while, Statements, done, then, mark, equals, Declaration, Main, alone, processes}
 use Rattle.pcal_tree.specs.Scope.{State, put}
 use Rattle.pcal_tree.specs.Program.{Program}
 use Rattle.pcal_tree.specs.Variables.{pc}

@@ -1,5 +1,5 @@
 -- Traces, tried by computation.
-use Rattle.std.proofs.Common.{◌≡◌, ℕ, pos, true, false, List, [], ◌∷◌, Some, None, refl, codes, arith, inl, inr}
+use Rattle.std.proofs.Common.{◌≡◌, ℕ, pos, true, List, [], ◌∷◌, None, refl, codes, arith, inl, inr}
 use Rattle.tla_token.specs.declared.place.Place.{Place}
 use Rattle.tla_token.specs.declared.rule.Rule.TheVariants.{BadLine}
 use Rattle.tla_expr.specs.Tree.{Word}
@@ -7,7 +7,7 @@ use Rattle.tla_value.specs.Value.{Value, int, text}
 use Rattle.tla_value.specs.ValueText.{digits, quoted}
 use Rattle.tla_value.specs.ValueSeen.{SpellsFrom}
 use Rattle.step_runner.specs.Fronts.{Text}
-use Rattle.step_runner.specs.Stretches.{Stretch, States, states_of}
+use Rattle.step_runner.specs.Stretches.{states_of}
 use Rattle.step_runner.specs.Items.{SpellsValues, OffendsAt, item_begins}
 use Rattle.step_runner.specs.Trace.{SpellsTrace, TraceOffends}
 use Rattle.step_runner.proofs.Spelled.{value_here}

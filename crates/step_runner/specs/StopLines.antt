@@ -1,5 +1,5 @@
 -- The lines that are written on the error output where a run or a trace stops.
-use Rattle.std.specs.Prelude.{ℕ, zero, suc, List, ◌++◌, codes, Option, option_map}
+use Rattle.std.specs.Prelude.{ℕ, zero, suc, ◌++◌, codes, Option, option_map}
 use Rattle.std.specs.Fmt.{decimal}
 use Rattle.tla_expr.specs.Tree.{Word}
 use Rattle.tla_value.specs.declared.fault.FaultKind.{FaultKind}

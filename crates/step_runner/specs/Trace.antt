@@ -6,7 +6,7 @@ use Rattle.tla_value.specs.States.{Entries}
 use Rattle.pcal_tree.specs.Scope.{State, put}
 use Rattle.pcal_tree.specs.InitialChoice.{nothing}
 use Rattle.step_runner.specs.Fronts.{Text, bad_line, next_at}
-use Rattle.step_runner.specs.Stretches.{Stretch, States, states_of}
+use Rattle.step_runner.specs.Stretches.{Stretch, states_of}
 use Rattle.step_runner.specs.Items.{SpellsValues, OffendsAt}
 
 -- ---- a whole trace

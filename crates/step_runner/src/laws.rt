@@ -1,6 +1,6 @@
 //! Laws of files of constants, scripts and traces, stated as what functions without a body ensure.
 
-ghost use Rattle.std.specs.Prelude.{◌≡◌, Bool, List};
+ghost use Rattle.std.specs.Prelude.{◌≡◌, ◌⊎◌, Bool, List};
 ghost use Rattle.tla_token.specs.declared.rule.Refusal as code;
 ghost use Rattle.tla_expr.specs.Tree.{Word};
 ghost use Rattle.tla_value.specs.States.{Entries};
@@ -9,6 +9,13 @@ ghost use Rattle.step_runner.specs.Fronts.{Text};
 ghost use Rattle.step_runner.specs.Config.{SpellsConfig, ConfigOffends};
 ghost use Rattle.step_runner.specs.Script.{Script, SpellsScript, ScriptOffends};
 ghost use Rattle.step_runner.specs.Trace.{SpellsTrace, TraceOffends};
+
+/// A file spells something, or has a refusal.
+pub fn a_file_is_spelled_or_refused()
+    ensures config { (o : Outside) (x : Text) → ((es : Entries) × SpellsConfig o x es) ⊎ ((r : code.Refusal) × ConfigOffends o x r) }
+    ensures script { (multi : Bool) (x : Text) → ((s : Script) × SpellsScript multi x s) ⊎ ((r : code.Refusal) × ScriptOffends multi x r) }
+    ensures trace { (vars : List Word) (x : Text) → ((a : List Entries) × SpellsTrace vars x a) ⊎ ((r : code.Refusal) × TraceOffends vars x r) }
+{}
 
 /// A file spells one thing at most.
 pub fn a_file_spells_one_thing()

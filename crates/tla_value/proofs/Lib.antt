@@ -11,6 +11,7 @@ pub mod Fits
 pub mod ValueWithin
 pub mod ValueReader
 pub mod ValueOnce
+pub mod ValueDecided
 mod ValueRows
 mod RowsSeen
 mod RowsDefs

@@ -1,10 +1,9 @@
 -- At a place of a text there is one value at most, and it has one end.
-use Rattle.std.proofs.Common.{◌≡◌, ◌⊎◌, inl, inr, ◌<◌, ◌≤◌, ◌+◌, ◌-◌, ℕ, zero, suc, Bool, true, false, true≢false, IsTrue, List, [], ◌∷◌, ◌++◌, length, take, drop, map, refl, sym, ap, subst, ◌∙◌, arith, codes}
+use Rattle.std.proofs.Common.{◌≡◌, ◌⊎◌, inl, inr, ◌<◌, ◌≤◌, ◌+◌, ◌-◌, ℕ, IsTrue, List, [], ◌∷◌, ◌++◌, length, take, drop, map, refl, sym, ap, subst, ◌∙◌, arith, codes}
 use Rattle.std.proofs.lemmas.Bool.{cases_lt}
 use Rattle.std.proofs.lemmas.List.{append_assoc, drop-drop, length-take-le, length-drop, take-append-drop}
-use Rattle.tla_token.specs.Lexemes.{Kind}
-use Rattle.tla_token.specs.Tokens.{Piece, blank, block, line, lexeme, bytes_of, text_of, stretch, Fits}
-use Rattle.tla_token.specs.Offences.{Part, sound, stray, bad_string, cut_string, open_string, open_block, part_bytes, parts_text, PartsFit}
+use Rattle.tla_token.specs.Tokens.{Piece, blank, block, line, lexeme, bytes_of, text_of, Fits}
+use Rattle.tla_token.specs.Offences.{Part, sound, parts_text, PartsFit}
 use Rattle.tla_token.specs.Cut.{parts}
 use Rattle.tla_token.proofs.Cutting.{cut_fits}
 use Rattle.tla_token.proofs.Parted.{cut_back, some_part}
@@ -54,7 +53,7 @@ ends_one (blank b) h = absurd cc
 ends_one (block body) h = absurd cc
 ends_one (line body) h = absurd cc
 
-ends_more : (p q : Piece) (ps : List Piece) → ends_in_token (p ∷ q ∷ ps) ≡ ends_in_token (q ∷ ps)
+pub ends_more : (p q : Piece) (ps : List Piece) → ends_in_token (p ∷ q ∷ ps) ≡ ends_in_token (q ∷ ps)
 ends_more (lexeme k bytes) q ps = refl
 ends_more (blank b) q ps = refl
 ends_more (block body) q ps = refl
@@ -105,7 +104,7 @@ ahead (line body ∷ ps) more = ahead ps more
 
 -- the tokens of a spelling, and others after them
 mutual
-  joined : (s : Spelling) (r q : List Mark) → marks s r ++ q ≡ marks s (r ++ q)
+  pub joined : (s : Spelling) (r q : List Mark) → marks s r ++ q ≡ marks s (r ++ q)
   joined (truth_word b) r q = refl
   joined (digits n) r q = refl
   joined (minus n) r q = refl
@@ -136,7 +135,7 @@ mutual
 -- ---- one value, and one end
 
 -- a value isn't empty
-some_text : (ps : List Piece) (rest : List ℕ) → FitBefore ps rest → IsTrue (ends_in_token ps) → text_of ps ≡ [] → ⊥
+pub some_text : (ps : List Piece) (rest : List ℕ) → FitBefore ps rest → IsTrue (ends_in_token ps) → text_of ps ≡ [] → ⊥
 some_text [] rest f h e = cc
 some_text (p ∷ ps) rest (f, g) h e = some_part (sound p) (text_of ps ++ rest) f (no_front (bytes_of p) (text_of ps) e)
   where
@@ -144,7 +143,7 @@ some_text (p ∷ ps) rest (f, g) h e = some_part (sound p) (text_of ps ++ rest) 
     no_front [] b e = refl
     no_front (x ∷ a) b e = cc
 
-starts_before : (bytes : List ℕ) (at to : ℕ) (v : Value) → SpellsFrom bytes at to v → at < to
+pub starts_before : (bytes : List ℕ) (at to : ℕ) (v : Value) → SpellsFrom bytes at to v → at < to
 starts_before bytes at to v s = by (cases_lt at to)
   where
     none : (n : ℕ) → n ≡ 0 → take n (drop at bytes) ≡ []
@@ -154,7 +153,7 @@ starts_before bytes at to v s = by (cases_lt at to)
     by (inl l) = l
     by (inr l) = absurd (some_text s.pieces (drop to bytes) s.fit s.ends (sym s.cut ∙ none (to - at) (omega (arith, l))))
 
-cut_at : (bytes : List ℕ) (at to : ℕ) (v : Value) (s : SpellsFrom bytes at to v) → parts (drop at bytes) ≡ map sound s.pieces ++ parts (drop to bytes)
+pub cut_at : (bytes : List ℕ) (at to : ℕ) (v : Value) (s : SpellsFrom bytes at to v) → parts (drop at bytes) ≡ map sound s.pieces ++ parts (drop to bytes)
 cut_at bytes at to v s =
     let behind : drop (to - at) (drop at bytes) ≡ drop to bytes = drop-drop (to - at) at bytes ∙ ap (λ (k : ℕ). drop k bytes) (omega (arith, starts_before bytes at to v s)) in
     let whole : drop at bytes ≡ text_of s.pieces ++ drop to bytes =

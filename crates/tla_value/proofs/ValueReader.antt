@@ -3,7 +3,7 @@ use Rattle.std.proofs.Common.{◌≡◌, ◌<◌, ◌≤◌, ◌+◌, ℕ, zero,
 use Rattle.std.specs.Prelude.{bytes_eq, option_and_then, if◌then◌else◌, not, ◌&&◌}
 use Rattle.std.proofs.lemmas.Bool.{and_parts}
 use Rattle.tla_expr.specs.Tree.{Word}
-use Rattle.tla_value.specs.Value.{Value, text}
+use Rattle.tla_value.specs.Value.{text}
 use Rattle.tla_value.specs.Order.{same}
 use Rattle.tla_value.specs.ValueText.{Mark, word, number, quote, sign, Spelling, Spellings, Fields, Pairs, truth_word, digits, minus, quoted, named, braces, angles, fields, pairs, no_spellings, spelling, no_fields, field, no_pairs, pair, marks, marks_in, more_marks, field_marks, pair_marks, IsGood, AreGood, AreGoodFields, AreGoodPairs, truth_name, is_identifier}
 
@@ -35,12 +35,12 @@ field_read (word x ∷ ts) = on (past (codes "|->") ts) (λ r. Some (x, r))
 field_read _ = None
 
 -- what closes a set, or a tuple
-abbrev close : Bool → Word
+abbrev pub close : Bool → Word
 close true = codes "}"
 close false = codes ">>"
 
 abbrev mutual
-  read : ℕ → List Mark → Read Spelling
+  pub read : ℕ → List Mark → Read Spelling
   read zero ts = None
   read (suc k) [] = None
   read (suc k) (word w ∷ ts) = Some (word_read w, ts)
@@ -79,7 +79,7 @@ abbrev mutual
 -- ---- its steps
 
 abbrev mutual
-  steps : Spelling → ℕ
+  pub steps : Spelling → ℕ
   steps (truth_word b) = 1
   steps (digits n) = 1
   steps (minus n) = 1
@@ -90,15 +90,15 @@ abbrev mutual
   steps (fields x s fs) = suc (steps s + field_steps fs)
   steps (pairs d s ps) = suc (steps d + steps s + pair_steps ps)
 
-  member_steps : Spellings → ℕ
+  pub member_steps : Spellings → ℕ
   member_steps no_spellings = 1
   member_steps (spelling s ss) = suc (steps s + member_steps ss)
 
-  field_steps : Fields → ℕ
+  pub field_steps : Fields → ℕ
   field_steps no_fields = 1
   field_steps (field x s fs) = suc (steps s + field_steps fs)
 
-  pair_steps : Pairs → ℕ
+  pub pair_steps : Pairs → ℕ
   pair_steps no_pairs = 1
   pair_steps (pair d s ps) = suc (steps d + steps s + pair_steps ps)
 

@@ -1,6 +1,6 @@
 //! Laws of the canonical order, stated as what functions without a body ensure.
 
-ghost use Rattle.std.specs.Prelude.{◌≡◌, ℕ, List, [], true};
+ghost use Rattle.std.specs.Prelude.{◌≡◌, ◌⊎◌, ℕ, List, [], true};
 ghost use Rattle.std.specs.Cmp.{IsTotalOrder};
 ghost use Rattle.std.specs.declared.cmp.Ordering.TheVariants.{Equal};
 ghost use Rattle.tla_value.specs.Value as pure;
@@ -47,6 +47,11 @@ pub fn a_spelled_value_ends_once()
     ensures end { (bytes : List ℕ) (at to end : ℕ) (v w : pure.Value) → SpellsFrom bytes at to v → SpellsFrom bytes at end w → to ≡ end }
     ensures value { (bytes : List ℕ) (at to end : ℕ) (v w : pure.Value) → SpellsFrom bytes at to v → SpellsFrom bytes at end w → v ≡ w }
     ensures tokens { (ts : List Mark) (v w : pure.Value) → Spells ts v → Spells ts w → v ≡ w }
+{}
+
+/// At each place of a text there is a value, or none.
+pub fn whether_a_value_is_spelled_can_be_told()
+    ensures { (bytes : List ℕ) (at : ℕ) → ((to : ℕ) × (v : pure.Value) × SpellsFrom bytes at to v) ⊎ (((to : ℕ) × (v : pure.Value) × SpellsFrom bytes at to v) → ⊥) }
 {}
 
 /// In an ascending list a look-up that goes by comparison, and no further than the place of the
