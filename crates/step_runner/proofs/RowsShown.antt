@@ -22,7 +22,7 @@ use Rattle.pcal_tree.specs.StepAnswers.{held_at, no_label, needs_choice, too_man
 use Rattle.module_text.specs.Module.{Module}
 use Rattle.module_text.specs.ActionTruth.{Verdict}
 use Rattle.step_runner.specs.StopLines.{script_line, state_line, trouble_line}
-use Rattle.step_runner.specs.Shown.{run_text, trace_text, known, first_holding, step_by, before_text, why_text}
+use Rattle.step_runner.specs.Shown.{run_text, trace_text, known, first_holding, step_before, before_text, why_text}
 
 abbrev at : ℕ → ℕ → Place
 at l c = record { line = l; col = c }
@@ -100,11 +100,11 @@ abbrev is_past : Option Value → Verdict
 is_past None = Ok false
 is_past (Some v) = cond (same v (an_int 1)) (Ok false) (Ok true)
 
-the_second : before_text (step_by three at_a (first_holding is_past (known (actors three)))) ≡ codes "A_1 of 2 at 7:3"
+the_second : before_text (step_before three at_a (first_holding is_past (known (actors three)))) ≡ codes "A_1 of 2 at 7:3"
 unfolding digits
 the_second = refl
 
-none_holds : before_text (step_by three at_a (first_holding (λ v. Ok false) (known (actors three)))) ≡ codes "Terminating"
+none_holds : before_text (step_before three at_a (first_holding (λ v. Ok false) (known (actors three)))) ≡ codes "Terminating"
 none_holds = refl
 
 -- ---- why a step can't be taken
