@@ -42,3 +42,6 @@ pub mod RowsCounts
 pub mod CountLimits
 pub mod RefusedOnce
 pub mod OpensLaws
+pub mod AfterSigns
+pub mod AfterSignsAll
+pub mod RowsRefused
