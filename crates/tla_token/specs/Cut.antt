@@ -67,14 +67,17 @@ lexeme_part b bs =
     else (if nat_eq b 92 && list_any is_letter (run is_word bs) then or_other (sign_of (b ∷ run is_word bs)) (b ∷ run is_word bs)
     else sign_part (sign_at (b ∷ bs)) b (b ∷ bs)))
 
--- the first part of a text that isn't empty
-abbrev pub part_at : ℕ → List ℕ → Part
-part_at b bs =
+-- the first part of a text that isn't empty, where this gives its lexemes
+abbrev pub part_by : (ℕ → List ℕ → Part) → ℕ → List ℕ → Part
+part_by lexemes b bs =
     if is_blank b then sound (blank b)
     else (if nat_eq b 34 then string_part (take (string_len bs) bs) (drop (string_len bs) bs)
     else (if starts_with nat_eq (b ∷ bs) (codes "(*") then block_part (comment_len 1 (drop 1 bs)) (drop 1 bs)
     else (if starts_with nat_eq (b ∷ bs) (codes "\\*") then sound (line (run (λ c. not (nat_eq c 10)) (drop 1 bs)))
-    else lexeme_part b bs)))
+    else lexemes b bs)))
+
+abbrev pub part_at : ℕ → List ℕ → Part
+part_at b bs = part_by lexeme_part b bs
 
 -- k bytes at the front belong to the part before
 abbrev pub parts_at : ℕ → List ℕ → List Part
