@@ -1,14 +1,15 @@
 -- The lines of a text of the form, its first line, and the words in it.
-use Rattle.std.proofs.Common.{◌≡◌, ℕ, ◌≤◌, Bool, true, false, not, nat_eq, List, [], ◌∷◌, ◌++◌, length, Some, None, if◌then◌else◌, refl, ap, sym, ◌∙◌, codes, arith, append_assoc, length-append}
+use Rattle.std.proofs.Common.{◌≡◌, ℕ, ◌≤◌, Bool, true, false, not, nat_eq, List, [], ◌∷◌, ◌++◌, length, Some, None, if◌then◌else◌, refl, ap, sym, ◌∙◌, codes, arith, append_assoc, append-nil, length-append}
 use Rattle.std.specs.List.{list_all, list_any}
 use Rattle.std.proofs.lemmas.Bool.{and_parts, and_from, false_from_ne_true, not-true}
 use Rattle.tla_token.specs.Lexemes.{name, is_word, is_letter, is_blank, IsLexeme, IsLongest}
 use Rattle.tla_token.specs.Tokens.{Piece, text_of}
-use Rattle.tla_token.proofs.Words.{any_append, all_append}
+use Rattle.tla_token.specs.Cut.{run}
+use Rattle.tla_token.proofs.Words.{run_over, any_append, all_append}
 use Rattle.tla_token.proofs.Signed.{tells_apart, printed_blank}
 use Rattle.tla_token.proofs.Parted.{word_printed}
 use Rattle.tla_expr.specs.Tree.{Word}
-use Rattle.module_text.specs.TextFront.{Text, first_is, past_all, is_space, word_at, past_name, at_line, line_of}
+use Rattle.module_text.specs.TextFront.{Text, first_is, past_all, is_space, past_name, at_line, line_of}
 use Rattle.module_text.specs.HeaderAndRegion.{header_title, is_header}
 use Rattle.first_path.specs.Form.{Parts, is_name, last_line, IsForm}
 use Rattle.first_path.proofs.Names.{name_words, name_letter, every}
@@ -21,10 +22,12 @@ word_no_blank b h = printed_blank b (word_printed b h)
 word_no_space : (b : ℕ) → is_word b ≡ true → is_space b ≡ false
 word_no_space b h = rw (word_no_blank b h) refl
 
-pub word_over : (m r : Text) → list_all is_word m ≡ true → first_is is_word r ≡ false → word_at (m ++ r) ≡ m
-word_over [] [] h k = refl
-word_over [] (b ∷ r) h k = rw k refl
-word_over (b ∷ m) r h k = (let w = and_parts (is_word b) (list_all is_word m) h in rw w.0 (ap (λ (u : Text). b ∷ u) (word_over m r w.1 k)))
+pub word_over : (m r : Text) → list_all is_word m ≡ true → first_is is_word r ≡ false → run is_word (m ++ r) ≡ m
+word_over m r h k = run_over is_word m r h ∙ ap (λ (u : Text). m ++ u) (none r k) ∙ append-nil m
+  where
+    none : (r : Text) → first_is is_word r ≡ false → run is_word r ≡ []
+    none [] k = refl
+    none (b ∷ r) k = rw k refl
 
 pub after_over : (p : ℕ → Bool) (m r : Text) → list_all p m ≡ true → first_is p r ≡ false → past_all p (m ++ r) ≡ r
 after_over p [] [] h k = refl
@@ -37,7 +40,7 @@ first_of_name p c [] r h = absurd cc
 first_of_name p c (b ∷ w) r h = c b (and_parts (is_word b) (list_all is_word w) (name_words (b ∷ w) h)).0
 
 pub past_named : (m r : Text) → is_name m ≡ true → first_is is_word r ≡ false → past_name (m ++ r) ≡ Some r
-past_named m r h k = by (word_at (m ++ r)) (past_all is_word (m ++ r)) (word_over m r (name_words m h) k) (after_over is_word m r (name_words m h) k)
+past_named m r h k = by (run is_word (m ++ r)) (past_all is_word (m ++ r)) (word_over m r (name_words m h) k) (after_over is_word m r (name_words m h) k)
   where
     by : (w s : Text) → w ≡ m → s ≡ r → (if list_any is_letter w then Some s else None) ≡ Some r
     by w s e f = rw (e, f, name_letter m h) refl

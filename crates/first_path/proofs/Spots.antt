@@ -6,7 +6,7 @@ use Rattle.tla_token.specs.Lexemes.{Kind, name, is_blank}
 use Rattle.tla_token.proofs.Words.{all_append}
 use Rattle.tla_token.specs.Tokens.{Piece, blank, text_of, AllFit}
 use Rattle.tla_expr.specs.Tree.{Word}
-use Rattle.module_text.specs.TextFront.{Text, past_all as past, is_space, word_at, at_line, line_of, Split}
+use Rattle.module_text.specs.TextFront.{Text, past_all as past, is_space, at_line, line_of, Split}
 use Rattle.module_text.specs.Comments.{Mode, plain, second, Found, found_past, step, seek, outside_comments}
 use Rattle.module_text.specs.HeaderAndRegion.{is_start, header_title, is_header}
 use Rattle.module_text.specs.AlgorithmStretch.{begins_algorithm}

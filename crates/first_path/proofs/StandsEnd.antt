@@ -7,11 +7,12 @@ use Rattle.std.proofs.lemmas.List.Folds.{list_any-append}
 use Rattle.tla_token.specs.Signs.{spellings}
 use Rattle.tla_token.specs.Lexemes.{Kind, name, number, string, one, other, IsLongest, is_word, is_letter, is_digit, is_blank}
 use Rattle.tla_token.specs.Tokens.{Piece, blank, block, line, lexeme, text_of, Fits, AllFit}
+use Rattle.tla_token.specs.Cut.{run}
 use Rattle.tla_token.proofs.Spelled.{begins, begins_is, no_empty}
 use Rattle.tla_token.proofs.Words.{all_append, digits_words, digit_word}
 use Rattle.tla_token.proofs.Signed.{tells_apart, tells_other}
 use Rattle.std.specs.Prelude.{is_some}
-use Rattle.module_text.specs.TextFront.{Text, first_is, word_at, on_some}
+use Rattle.module_text.specs.TextFront.{Text, first_is, on_some}
 use Rattle.module_text.specs.Comments.{Mode, plain, step}
 use Rattle.module_text.specs.AlgorithmStretch.{past_whole, past_closing, past_gap, past_p}
 use Rattle.first_path.specs.Form as form
@@ -35,7 +36,7 @@ other_whole w m r a b k e = by (begins (m ++ r) w) refl
     by true f =
         let u = drop (length w) (m ++ r) in
         let g : first_is is_word u ≡ true = true_from_ne_false (first_is is_word u) (λ s.
-        let same : m ≡ w = sym (word_over m r b k) ∙ ap word_at (begins_is (m ++ r) w f) ∙ word_over w u a s in
+        let same : m ≡ w = sym (word_over m r b k) ∙ ap (run is_word) (begins_is (m ++ r) w f) ∙ word_over w u a s in
         both_ways (bytes_eq w m) e (rw same (word_same w))) in
         rw g refl
 

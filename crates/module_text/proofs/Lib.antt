@@ -16,3 +16,12 @@ mod RowsProcesses
 mod RowsOutside
 mod RowsReading
 mod RowsOffences
+mod RowsFiles
+pub mod WalkLines
+pub mod WalkWhole
+pub mod WalkResumed
+pub mod WalkWritten
+pub mod WalkMoved
+pub mod WalkParted
+pub mod WalkAround
+pub mod WalkAgain

@@ -9,7 +9,7 @@ placed : region_in (codes "a (* b\n---- MODULE M ----\nEXTENDS Integers\n(* --al
 placed = refl
 
 -- a line in a comment is none, nor is one in the region
-found : region_in (codes "---- MODULE M ----\n(* --algorithm Inc\n\\* BEGIN TRANSLATION\n*)\n  \\*BEGIN  TRANSLATION (1)\n(*\n\\* END TRANSLATION 2\nInv == 1\n====\n") ≡ Some (record { front = codes "---- MODULE M ----\n(* --algorithm Inc\n\\* BEGIN TRANSLATION\n*)\n"; back = codes "\nInv == 1\n====\n" })
+found : region_in (codes "---- MODULE M ----\n(* --algorithm Inc\n\\* BEGIN TRANSLATION\n*)\n  \\*BEGIN TRANSLATION (1)\n(*\n\\* END TRANSLATION 2\nInv == 1\n====\n") ≡ Some (record { front = codes "---- MODULE M ----\n(* --algorithm Inc\n\\* BEGIN TRANSLATION\n*)\n"; back = codes "\nInv == 1\n====\n" })
 found = refl
 
 -- no algorithm within the module

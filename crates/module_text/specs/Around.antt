@@ -1,16 +1,11 @@
 -- A file with another translation, or another algorithm, in the same place ("A PlusCal User's Manual", sections 2.1 and 2.2).
-use Rattle.std.specs.Prelude.{◌≡◌, ◌++◌, Some, codes}
+use Rattle.std.specs.Prelude.{◌≡◌, ◌++◌, Some}
 use Rattle.module_text.specs.Module.{Module}
 use Rattle.module_text.specs.Layout.{layout}
 use Rattle.module_text.specs.TextFront.{Text, Split}
 use Rattle.module_text.specs.AlgorithmStretch.{algorithm_in}
 use Rattle.module_text.specs.RegionPlace.{region_in}
-
-abbrev pub begin_line : Text
-begin_line = codes "\\* BEGIN TRANSLATION\n"
-
-abbrev pub end_line : Text
-end_line = codes "\\* END TRANSLATION"
+pub use Rattle.module_text.specs.WithTranslation.{begin_line, end_line}
 
 -- w is x with the translation of m between the two lines; all other bytes are as in x
 pub record Around (x : Text) (m : Module) (w : Text) : Type 0 where

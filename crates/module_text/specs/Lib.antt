@@ -6,6 +6,14 @@ pub mod Comments
 pub mod HeaderAndRegion
 pub mod AlgorithmStretch
 pub mod RegionPlace
+pub mod Beginnings
+pub mod ModuleParts
+pub mod Walk
+pub mod FileParts
+pub mod AlgorithmText
+pub mod FileUnits
+pub mod FileOffences
+pub mod WithTranslation
 pub mod Around
 pub mod ActionTruth
 pub mod ModuleTruth
@@ -16,3 +24,4 @@ pub mod UnitCut
 pub mod Outside
 pub mod Reading
 pub mod Offences
+pub mod laws

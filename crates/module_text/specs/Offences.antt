@@ -7,11 +7,12 @@ use Rattle.tla_token.specs.declared.rule.Refusal.{Refusal}
 use Rattle.tla_token.specs.Places.{place_at}
 use Rattle.tla_token.specs.Signs.{is_among}
 use Rattle.tla_token.specs.Words.{is_tla_word}
-use Rattle.tla_token.specs.Lexemes.{is_blank}
+use Rattle.tla_token.specs.Lexemes.{is_blank, is_word}
+use Rattle.tla_token.specs.Cut.{run}
 use Rattle.tla_token.specs.Offences.{Offence, least}
 use Rattle.std.specs.Prelude.{is_some}
 use Rattle.module_text.specs.UnitCut.{unit_words}
-use Rattle.module_text.specs.TextFront.{Text, begins, is_space, past_all, on_some, past_word, past_blanks, word_at, past_name, at_line, line_of, line_end}
+use Rattle.module_text.specs.TextFront.{Text, begins, is_space, past_all, on_some, past_word, past_blanks, past_name, at_line, line_of, line_end}
 use Rattle.module_text.specs.Comments.{Mode, plain, quoted, block, Found, step, is_plain, ends_module, seek, outside_comments}
 use Rattle.module_text.specs.HeaderAndRegion.{is_header, is_begin, is_end, is_start}
 use Rattle.module_text.specs.AlgorithmStretch.{past_gap, past_algorithm, begins_algorithm}
@@ -130,7 +131,7 @@ is_inner_header m first s = is_plain m && (first && is_header s)
 abbrev pub begins_unit : ℕ → Text → Bool
 begins_unit col s =
     begins s (codes "----") || (begins s (codes "====")
-    || (nat_eq col 1 && (is_some (past_name s) && (not (is_tla_word (word_at s)) || is_among unit_words (word_at s)))))
+    || (nat_eq col 1 && (is_some (past_name s) && (not (is_tla_word (run is_word s)) || is_among unit_words (run is_word s)))))
 
 -- what is past_all the region or the place of insertion, on its own lines, begins no unit
 abbrev pub no_unit_after : Text → ℕ → Text → List Offence
