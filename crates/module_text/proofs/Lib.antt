@@ -9,13 +9,10 @@ pub mod Tells
 pub mod First
 mod RowsLayout
 mod RowsItems
-mod RowsAround
 mod RowsTruth
-mod RowsParts
 mod RowsProcesses
 mod RowsOutside
 mod RowsReading
-mod RowsOffences
 mod RowsFiles
 pub mod WalkLines
 pub mod WalkWhole
@@ -25,3 +22,5 @@ pub mod WalkMoved
 pub mod WalkParted
 pub mod WalkAround
 pub mod WalkAgain
+pub mod WalkPieces
+pub mod InsidePieces

@@ -39,7 +39,7 @@ newline_here st c h = by (nat_eq st.place.col 1) refl
     by true k = rw (h, k) refl
     by false k = rw (h, k) refl
 
-newline_walk : (st : State) (c : Text) → st.headed ≡ true → walk_from st 0 (10 ∷ c) ≡ record { at = st.at; place = st.place; is = newline_segment } ∷ walk_from (after_segment st newline_segment) 0 c
+pub newline_walk : (st : State) (c : Text) → st.headed ≡ true → walk_from st 0 (10 ∷ c) ≡ record { at = st.at; place = st.place; is = newline_segment } ∷ walk_from (after_segment st newline_segment) 0 c
 newline_walk st c h = one_segment st 10 c newline_segment [] c (newline_here st c h) refl refl
 
 -- the text before the place is walked as in the file

@@ -86,7 +86,7 @@ three_parts st b v v' t w c g e is made =
     ap (λ (u : Text). walk_from st 0 (u ++ (t ++ (w ++ c)))) e ∙ one_segment st b (v' ++ (t ++ (w ++ c))) g (v' ++ (t ++ w)) c is bytes_are split
 
 -- a translation is one segment
-region_walk : (st : State) (t c : Text) → IsOpen st → IsInside t → EndsLine c
+pub region_walk : (st : State) (t c : Text) → IsOpen st → IsInside t → EndsLine c
     → walk_from st 0 (begin_line ++ (t ++ (end_line ++ c))) ≡ record { at = st.at; place = st.place; is = made t } ∷ walk_from (after_segment st (made t)) 0 c
 region_walk st t c o i h = three_parts st 92 begin_line (drop 1 begin_line) t end_line c (made t) refl (region_here st t c o i h) refl
 

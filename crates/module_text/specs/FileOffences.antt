@@ -28,6 +28,9 @@ segment_offences at (mark w) = (BadRegion, at) ∷ []
 segment_offences at (inner w) = (Placement, at) ∷ []
 segment_offences at g = []
 
+abbrev pub offences_of : List Located → List Offence
+offences_of ds = flat_map (λ d. segment_offences d.at d.is) ds
+
 abbrev pub algorithm_offences : Option AlgorithmText → List Offence
 algorithm_offences (Some a) = flat_map (λ p. part_offences true p.0 p.1) a.rest.parts
 algorithm_offences None = []
@@ -96,7 +99,7 @@ abbrev pub file_offences : Text → List Offence
 file_offences x =
     let ds = walk x in
     let a = algorithm_of x ds in
-    flat_map (λ d. segment_offences d.at d.is) ds
+    offences_of ds
     ++ (algorithm_offences a
     ++ (no_module x (module_end ds)
     ++ (no_algorithm (module_end ds) (beginnings ds)

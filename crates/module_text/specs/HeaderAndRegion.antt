@@ -3,7 +3,6 @@ use Rattle.std.specs.Prelude.{Bool, ◌&&◌, ◌++◌, Option, Some, None, is_s
 use Rattle.tla_token.specs.Lexemes.{is_word}
 use Rattle.tla_token.specs.Cut.{run}
 use Rattle.module_text.specs.TextFront.{Text, is_space, past_all, past_word, on_some, past_blanks, past_run, past_name, ends_line}
-use Rattle.module_text.specs.Comments.{Mode, is_plain}
 
 -- the name in a line `---- MODULE Name ----`
 abbrev pub header_title : Text → Option Text
@@ -27,6 +26,3 @@ is_begin s = is_translation_line (codes "BEGIN") s
 
 abbrev pub is_end : Text → Bool
 is_end s = is_translation_line (codes "END") s
-
-abbrev pub is_start : Mode → Bool → Text → Bool
-is_start m first s = is_plain m && (first && is_begin s)

@@ -2,10 +2,7 @@ pub mod Module
 pub mod ExprText
 pub mod Layout
 pub mod TextFront
-pub mod Comments
 pub mod HeaderAndRegion
-pub mod AlgorithmStretch
-pub mod RegionPlace
 pub mod Beginnings
 pub mod ModuleParts
 pub mod Walk
@@ -20,8 +17,6 @@ pub mod ModuleTruth
 pub mod ProcessPart
 pub mod Grammar
 pub mod Units
-pub mod UnitCut
 pub mod Outside
 pub mod Reading
-pub mod Offences
 pub mod laws

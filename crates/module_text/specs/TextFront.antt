@@ -56,26 +56,3 @@ line_here s = run (λ b. not (nat_eq b 10)) s
 abbrev pub whole_line : Text → Text
 whole_line [] = []
 whole_line (b ∷ s) = if nat_eq b 10 then b ∷ [] else b ∷ whole_line s
-
-abbrev pub with_front : ℕ → Option (Text × Text) → Option (Text × Text)
-with_front b (Some (a, r)) = Some (b ∷ a, r)
-with_front b None = None
-
--- before and from the first line that is so; the first argument says whether a line begins here
-abbrev pub at_line : (Text → Bool) → Bool → Text → Option (Text × Text)
-at_line p first [] = None
-at_line p first (b ∷ s) = if first && p (b ∷ s) then Some ([], b ∷ s) else with_front b (at_line p (nat_eq b 10) s)
-
--- a line, with its end, and what is after it; the end of a line alone
-abbrev pub line_of : Text → Text × Text
-line_of [] = ([], [])
-line_of (b ∷ s) = if nat_eq b 10 then (b ∷ [], s) else (let r = line_of s in (b ∷ r.0, r.1))
-
--- from the end of the line on
-abbrev pub line_end : Text → Text
-line_end s = past_all (λ b. not (nat_eq b 10)) s
-
--- a text in two, with what is between left out; the end of what is left out begins the second part
-pub record Split : Type 0 where
-  pub front : Text
-  pub back : Text

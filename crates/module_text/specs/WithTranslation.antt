@@ -22,7 +22,7 @@ pub record WithTranslation (x text w : Text) : Type 0 where
   pub is : w ≡ take at.from x ++ (begin_line ++ (text ++ (end_line ++ (line_end_if_new x ++ drop at.to x))))
 
 -- w is x with u in place of its algorithm
-pub record WithAlgorithm (x u w : Text) : Type 0 where
+pub record Swapped (x u w : Text) : Type 0 where
   pub old : AlgorithmText
   pub is_old : algorithm_in x ≡ Some old
   pub is : w ≡ take old.from x ++ (u ++ drop old.rest.to x)

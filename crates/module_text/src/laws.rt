@@ -8,7 +8,7 @@ ghost use Rattle.tla_expr.specs.Lexical.{Token};
 ghost use Rattle.module_text.specs.Units.{IsUnit};
 ghost use Rattle.module_text.specs.Reading.{Reads};
 ghost use Rattle.module_text.specs.Around.{Around, Swapped};
-ghost use Rattle.module_text.specs.Offences.{RefusesModule};
+ghost use Rattle.module_text.specs.FileOffences.{RefusesFile};
 ghost use Rattle.module_text.specs.TextFront.{Text};
 ghost use Rattle.module_text.specs.Walk.{State, Located, region, walk, walk_from, at_start, after_segment};
 ghost use Rattle.module_text.specs.WithTranslation.{begin_line, end_line, WithTranslation};
@@ -35,9 +35,9 @@ pub fn files_have_one_place()
     ensures swapped { (x u w v : List ℕ) → Swapped x u w → Swapped x u v → w ≡ v }
 {}
 
-/// A file without a module, an algorithm or a place for the translation is refused in one way.
+/// A file that is refused before its algorithm is read is refused in one way.
 pub fn a_file_is_refused_in_one_way()
-    ensures { (x : List ℕ) (r s : Refusal) → RefusesModule x r → RefusesModule x s → r ≡ s }
+    ensures { (x : List ℕ) (r s : Refusal) → RefusesFile x r → RefusesFile x s → r ≡ s }
 {}
 
 /// The segments of a file make it up.

@@ -117,7 +117,7 @@ all_sound a at (x ∷ xs) (f, h) e =
     (p.0 ∷ r.0, ap (λ (y : Part). y ∷ xs) p.1 ∙ ap (λ (ys : List Part). sound p.0 ∷ ys) r.1)
 
 -- outside algorithms, sound parts have no offences
-sound_fine : (at : ℕ) (p : Piece) → part_offences false at (sound p) ≡ []
+pub sound_fine : (at : ℕ) (p : Piece) → part_offences false at (sound p) ≡ []
 sound_fine at (blank b) = refl
 sound_fine at (block body) = refl
 sound_fine at (line body) = refl
