@@ -7,12 +7,13 @@ pub mod Calm
 pub mod Lines
 pub mod Search
 pub mod StandsEnd
+pub mod Spots
 pub mod StandsTokens
 pub mod Stands
 pub mod OneStatement
 pub mod OneAlgorithm
 pub mod AlgorithmAlone
-pub mod Spots
+pub mod Walked
 pub mod Pieces
 pub mod RegionText
 pub mod RegionFits
@@ -21,8 +22,8 @@ pub mod RegionCut
 pub mod RegionForms
 pub mod RegionStep
 pub mod RegionUnits
-pub mod WrittenParts
-pub mod ReadsModule
+-- WrittenParts
+-- ReadsModule
 pub mod Means
 pub mod MeansStep
 pub mod MeansNext

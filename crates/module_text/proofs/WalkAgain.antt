@@ -38,7 +38,7 @@ found_after (c ∷ ds) es d n h =
     not_true true e = cc
     not_true false e = refl
 
-at_after : (st : State) (ds : List Located) → (after_all st ds).at ≡ st.at + length (text_of ds)
+pub at_after : (st : State) (ds : List Located) → (after_all st ds).at ≡ st.at + length (text_of ds)
 at_after st [] = omega arith
 at_after st (d ∷ ds) = (let e = at_after (after_segment st d.is) ds in omega (arith, e, length-append (bytes d.is) (text_of ds)))
 

@@ -23,6 +23,7 @@ use Rattle.module_text.specs.FileParts.{first_that}
 use Rattle.module_text.specs.FileUnits.{tokens_in}
 use Rattle.module_text.specs.FileOffences.{offences_of}
 use Rattle.module_text.specs.laws.Walks.{located, are_calm}
+use Rattle.module_text.specs.laws.Walks as segments
 use Rattle.module_text.proofs.WalkWritten.{one_segment}
 
 -- ---- pieces among which is no bar
@@ -225,3 +226,11 @@ pieces_calm st (p ∷ ps) = pieces_calm (after_segment st (part (sound p))) ps
 pub none_among : (q : Segment → Bool) → ((x : Part) → q (part x) ≡ false) → (st : State) (ps : List Piece) (ds : List Located) → first_that q (located_pieces st ps ++ ds) ≡ first_that q ds
 none_among q n st [] ds = refl
 none_among q n st (p ∷ ps) ds = rw (n (sound p)) (none_among q n (after_segment st (part (sound p))) ps ds)
+
+pub none_in : (q : Segment → Bool) → ((x : Part) → q (part x) ≡ false) → (st : State) (ps : List Piece) → first_that q (located_pieces st ps) ≡ None
+none_in q n st [] = refl
+none_in q n st (p ∷ ps) = rw (n (sound p)) (none_in q n (after_segment st (part (sound p))) ps)
+
+pub text_located : (st : State) (ps : List Piece) → segments.text_of (located_pieces st ps) ≡ text_of ps
+text_located st [] = refl
+text_located st (p ∷ ps) = ap (λ (u : Text). bytes_of p ++ u) (text_located (after_segment st (part (sound p))) ps)

@@ -27,6 +27,11 @@ pub lined_over : (m rest : Text) → is_lined (m ++ rest) ≡ true → is_lined 
 lined_over [] rest e = e
 lined_over (b ∷ m) rest e = lined_over m rest (lined_rest b (m ++ rest) e)
 
+pub lined_end : (u : Text) → is_lined (u ++ 10 ∷ []) ≡ true
+lined_end [] = refl
+lined_end (b ∷ []) = refl
+lined_end (b ∷ c ∷ u) = lined_end (c ∷ u)
+
 abbrev pub Newline : Text → Type 0
 Newline t = (l : Text) × (t ≡ l ++ 10 ∷ [])
 

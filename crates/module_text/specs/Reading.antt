@@ -40,17 +40,21 @@ pub record ReadsRegion (region : Located) (m : Module) : Type 0 where
   pub no_front : (units_in (inside_region region)).front ≡ []
   pub units : AllAre IsUnit (units_in (inside_region region)).units (units_of m.region)
 
--- the text w is the module m
-pub record Reads (w : Text) (m : Module) : Type 0 where
-  pub title : title (walk w) ≡ Some m.title
-  pub ended : is_some (module_end (walk w)) ≡ true
-  pub sound : offences_of (walk w) ≡ []
+-- a text with these segments is the module m
+pub record AreModule (ds : List Located) (m : Module) : Type 0 where
+  pub title : title ds ≡ Some m.title
+  pub ended : is_some (module_end ds) ≡ true
+  pub sound : offences_of ds ≡ []
   pub before : List OutsideUnit
-  pub are_before : AllOutside true (sight m) (units_in (before_spot (walk w))).units before
+  pub are_before : AllOutside true (sight m) (units_in (before_spot ds)).units before
   pub region : Located
-  pub is_region : region_of (walk w) ≡ Some region
+  pub is_region : region_of ds ≡ Some region
   pub reads_region : ReadsRegion region m
-  pub none_before_after : (units_in (after_spot (walk w))).front ≡ []
+  pub none_before_after : (units_in (after_spot ds)).front ≡ []
   pub after : List OutsideUnit
-  pub are_after : AllOutside false (sight m) (units_in (after_spot (walk w))).units after
+  pub are_after : AllOutside false (sight m) (units_in (after_spot ds)).units after
   pub outside : m.outside ≡ outside_of (before ++ after)
+
+-- the text w is the module m
+abbrev pub Reads : Text → Module → Type 0
+Reads w m = AreModule (walk w) m
