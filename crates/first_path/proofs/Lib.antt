@@ -18,12 +18,13 @@ pub mod Pieces
 pub mod RegionText
 pub mod RegionFits
 pub mod RegionBytes
+pub mod RegionBars
 pub mod RegionCut
 pub mod RegionForms
 pub mod RegionStep
 pub mod RegionUnits
--- WrittenParts
--- ReadsModule
+pub mod WrittenWalk
+pub mod ReadsModule
 pub mod Means
 pub mod MeansStep
 pub mod MeansNext

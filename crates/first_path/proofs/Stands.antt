@@ -78,7 +78,7 @@ name_leads : (b : Bool) (f : Parts) → is_reserved f.algorithm ≡ false → is
 name_leads b f a v l = (
   refl,
   subst (λ (e : Bool). Leads (titled e) (kinds_between (variable_word b) f)) (sym (not-true (is_word (codes "end") (word f.algorithm)) (not_end f.algorithm a)))
-  (refl, (usual_leads (kinds_between (variable_word b) f) (between_usual b f v l)).1),
+      (refl, (usual_leads (kinds_between (variable_word b) f) (between_usual b f v l)).1),
 )
 
 -- ---- the algorithm among the pieces

@@ -121,22 +121,9 @@ stretch_is w a b c from to e f g =
     let n : to - from ≡ length b = omega arith in
     rw (n, f, e, drop-append_seam a (b ++ c)) (take-append_seam b c)
 
--- without so many bytes at the end
-pub stretch_between : (w a b c : List ℕ) → w ≡ a ++ (b ++ c) → stretch w (length a) (length w - length c) ≡ b
-stretch_between w a b c e =
-    let n : length w ≡ length a + (length b + length c) = ap length e ∙ length-append a (b ++ c) ∙ ap (λ (k : ℕ). length a + k) (length-append b c) in
-    stretch_is w a b c (length a) (length w - length c) e refl (omega arith)
-
-after_append : (p : Place) (v w : List ℕ) → after p (v ++ w) ≡ after (after p v) w
+pub after_append : (p : Place) (v w : List ℕ) → after p (v ++ w) ≡ after (after p v) w
 after_append p [] w = refl
 after_append p (b ∷ v) w = after_append (step p b) v w
-
--- after the end of a line
-pub begins_line : (w m r : List ℕ) (n : ℕ) → w ≡ (m ++ codes "\n") ++ r → n ≡ length (m ++ codes "\n") → (place_at w n).col ≡ 1
-begins_line w m r n e f =
-    ap (λ (k : ℕ). (place_at w k).col) f
-    ∙ ap (λ (u : List ℕ). (after start u).col) (ap (take (length (m ++ codes "\n"))) e ∙ take-append_seam (m ++ codes "\n") r)
-    ∙ ap (λ (p : Place). p.col) (after_append start m (codes "\n"))
 
 -- the place with this number
 abbrev pub nth : List Place → Places

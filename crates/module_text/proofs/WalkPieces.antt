@@ -1,11 +1,11 @@
 -- A text of the module that is cut into pieces is walked piece by piece, where no bar is in it and no comment goes to a line's end.
 use Rattle.std.proofs.Common.{◌≡◌, ℕ, ◌+◌, Bool, true, false, not, ◌&&◌, ◌||◌, nat_eq, List, [], ◌∷◌, ◌++◌, length, Option, Some, None, refl, sym, ap, subst, ◌∙◌, codes, append_assoc, find}
-use Rattle.std.specs.List.{list_all, list_any, starts_with}
+use Rattle.std.specs.List.{list_all}
 use Rattle.std.proofs.Math.Seq.{take-append_seam}
 use Rattle.std.proofs.lemmas.Bool.{and_parts, or_parts, not-true, false_from_ne_true}
 use Rattle.tla_token.specs.declared.place.Place.{Place}
 use Rattle.tla_token.specs.Places.{after}
-use Rattle.tla_token.specs.Lexemes.{Kind, name, number, string, one, other, is_word, is_letter, is_blank, unquoted, IsLexeme}
+use Rattle.tla_token.specs.Lexemes.{Kind, name, number, string, one, other, is_word, is_blank, unquoted, IsLexeme}
 use Rattle.tla_token.specs.Tokens.{Token, Piece, blank, block, line, lexeme, bytes_of, text_of, Fits, AllFit, tokens_of}
 use Rattle.tla_token.specs.Offences.{Part, sound}
 use Rattle.tla_token.specs.Cut.{part_at}
@@ -46,16 +46,11 @@ are_barless (lexeme k bytes ∷ ps) = unbarred k bytes (text_of ps) && are_barle
 are_barless (line body ∷ ps) = false
 are_barless (p ∷ ps) = are_barless ps
 
-word_bar : (b : ℕ) (s : Text) → is_word b ≡ true → begins_bar (b ∷ s) ≡ false
+pub word_bar : (b : ℕ) (s : Text) → is_word b ≡ true → begins_bar (b ∷ s) ≡ false
 word_bar b s h = rw (tells_other is_word 45 b h refl, tells_other is_word 61 b h refl) refl
 
 blank_bar : (b : ℕ) (s : Text) → is_blank b ≡ true → begins_bar (b ∷ s) ≡ false
 blank_bar b s h = rw (tells_other is_blank 45 b h refl, tells_other is_blank 61 b h refl) refl
-
--- a text that begins with a byte of a word
-pub words_bar : (w rest : Text) → list_all is_word w ≡ true → list_any is_letter w ≡ true → begins_bar (w ++ rest) ≡ false
-words_bar [] rest h k = absurd cc
-words_bar (b ∷ w) rest h k = word_bar b (w ++ rest) (and_parts (is_word b) (list_all is_word w) h).0
 
 words_barless : (b : ℕ) (w rest : Text) → list_all is_word (b ∷ w) ≡ true → not (begins_bar rest) ≡ true → barless ((b ∷ w) ++ rest) ≡ true
 words_barless b [] rest h k = rw (word_bar b rest (and_parts (is_word b) true h).0, not-true (begins_bar rest) k) refl
