@@ -24,3 +24,5 @@ pub mod WalkAround
 pub mod WalkAgain
 pub mod WalkPieces
 pub mod InsidePieces
+pub mod WalkPlace
+pub mod WalkKept

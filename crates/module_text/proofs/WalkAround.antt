@@ -17,7 +17,7 @@ use Rattle.module_text.proofs.WalkMoved.{moved}
 use Rattle.module_text.proofs.WalkParted.{parted, cancel, first_is, rest_is, no_stand}
 
 -- what is after the first segments is walked from where they end
-suffixed : (ds es : List Located) (st : State) (x : Text) → walk_from st 0 x ≡ ds ++ es → (c : Text) × (x ≡ text_of ds ++ c) × (walk_from (after_all st ds) 0 c ≡ es)
+pub suffixed : (ds es : List Located) (st : State) (x : Text) → walk_from st 0 x ≡ ds ++ es → (c : Text) × (x ≡ text_of ds ++ c) × (walk_from (after_all st ds) 0 c ≡ es)
 suffixed [] es st x w = (x, refl, w)
 suffixed (d ∷ ds) es st [] w = absurd (no_stand d (ds ++ es) w)
 suffixed (d ∷ ds) es st (b ∷ s) w =
@@ -146,8 +146,8 @@ region_closes first b s v w e = by (first && is_begin (b ∷ s)) refl (at_end_li
     by false i o oo false j false k true l = absurd (never (tail (b ∷ s)) (rw (i, j, k, l) refl) refl)
     by false i o oo false j false k false l = absurd (never (part (module_part b s)) (rw (i, j, k, l) refl) refl)
 
-after_region : (st : State) (x v w : Text) (old here : Located) (es : List Located) → st.headed ≡ true → st.marked ≡ false → walk_from st 0 x ≡ old ∷ here ∷ es → old.is ≡ region v w
-    → (c : Text) × (x ≡ (v ++ w) ++ 10 ∷ c) × (walk_from (after_segment (after_segment st (region v w)) newline_segment) 0 c ≡ es)
+pub after_region : (st : State) (x v w : Text) (old here : Located) (es : List Located) → st.headed ≡ true → st.marked ≡ false → walk_from st 0 x ≡ old ∷ here ∷ es → old.is ≡ region v w
+    → (c : Text) × (x ≡ (v ++ w) ++ 10 ∷ c) × (walk_from (after_segment (after_segment st (region v w)) newline_segment) 0 c ≡ es) × (here.is ≡ newline_segment)
 after_region st [] v w old here es headed unmarked e r = absurd (no_stand old (here ∷ es) e)
 after_region st (b ∷ s) v w old here es headed unmarked e r = by closed.0 closed.1 closed.2
   where
@@ -175,7 +175,7 @@ after_region st (b ∷ s) v w old here es headed unmarked e r = by closed.0 clos
     next : State
     next = after_segment st (region v w)
 
-    by : (rest : Text) → b ∷ s ≡ (v ++ w) ++ rest → EndsLine rest → (c : Text) × (b ∷ s ≡ (v ++ w) ++ 10 ∷ c) × (walk_from (after_segment (after_segment st (region v w)) newline_segment) 0 c ≡ es)
+    by : (rest : Text) → b ∷ s ≡ (v ++ w) ++ rest → EndsLine rest → (c : Text) × (b ∷ s ≡ (v ++ w) ++ 10 ∷ c) × (walk_from (after_segment (after_segment st (region v w)) newline_segment) 0 c ≡ es) × (here.is ≡ newline_segment)
     by rest split ends = on rest split ends (walked rest split)
       where
         walked : (rest : Text) → b ∷ s ≡ (v ++ w) ++ rest → walk_from next 0 rest ≡ here ∷ es
@@ -185,14 +185,17 @@ after_region st (b ∷ s) v w old here es headed unmarked e r = by closed.0 clos
             ∙ rest_is stand more old (here ∷ es) e
 
         on : (rest : Text) → b ∷ s ≡ (v ++ w) ++ rest → EndsLine rest → walk_from next 0 rest ≡ here ∷ es
-            → (c : Text) × (b ∷ s ≡ (v ++ w) ++ 10 ∷ c) × (walk_from (after_segment (after_segment st (region v w)) newline_segment) 0 c ≡ es)
+            → (c : Text) × (b ∷ s ≡ (v ++ w) ++ 10 ∷ c) × (walk_from (after_segment (after_segment st (region v w)) newline_segment) 0 c ≡ es) × (here.is ≡ newline_segment)
         on [] split ends walk = absurd (no_stand here es walk)
         on (k ∷ c) split ends walk =
             let line : walk_from next 0 (10 ∷ c) ≡ here ∷ es = ap (λ (k : ℕ). walk_from next 0 (k ∷ c)) (sym ends) ∙ walk in
-            let newline : Located = record { at = next.at; place = next.place; is = newline_segment } in (
+            let newline : Located = record { at = next.at; place = next.place; is = newline_segment } in
+            let more = walk_from (after_segment next newline_segment) 0 c in
+            let whole = sym (newline_walk next c (rw headed refl)) ∙ line in (
               c,
               split ∙ ap (λ (k : ℕ). (v ++ w) ++ k ∷ c) ends,
-              rest_is newline (walk_from (after_segment next newline_segment) 0 c) here es (sym (newline_walk next c (rw headed refl)) ∙ line),
+              rest_is newline more here es whole,
+              ap (λ (d : Located). d.is) (sym (first_is newline more here es whole)),
             )
 
 -- put in the place of another: all that is after its line is moved
