@@ -26,3 +26,4 @@ pub mod WalkPieces
 pub mod InsidePieces
 pub mod WalkPlace
 pub mod WalkKept
+pub mod WalkSame

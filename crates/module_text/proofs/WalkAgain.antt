@@ -28,7 +28,7 @@ none_marked st (d ∷ ds) e =
     let here = (or_false st.marked (is_region d.is) (was_unmarked (after_segment st d.is) ds e)).1 in
     and_from (not (is_region d.is)) (no_regions ds) (ap not here) (none_marked (after_segment st d.is) ds e)
 
-found_after : (ds es : List Located) (d : Located) → no_regions ds ≡ true → is_region d.is ≡ true → find (λ d. is_region d.is) (ds ++ d ∷ es) ≡ Some d
+pub found_after : (ds es : List Located) (d : Located) → no_regions ds ≡ true → is_region d.is ≡ true → find (λ d. is_region d.is) (ds ++ d ∷ es) ≡ Some d
 found_after [] es d n h = rw h refl
 found_after (c ∷ ds) es d n h =
     let p = and_parts (not (is_region c.is)) (no_regions ds) n in

@@ -170,7 +170,10 @@ line_ends (d ∷ ds) h e = by (is_newline d) refl (line_ends ds)
 
 -- ---- the place
 
--- the segments before it and after it, the text with a translation there
+abbrev pub IsWritten : List Located → List Located → Text → Text → Text → Type 0
+IsWritten front back c t w = (w ≡ text_of front ++ (begin_line ++ (t ++ (end_line ++ 10 ∷ c)))) × Put front back t (10 ∷ c)
+
+-- the segments before it and after it, and the text with a translation there
 pub record HasPlace (x : Text) : Type 0 where
   pub front : List Located
   pub back : List Located
@@ -183,8 +186,8 @@ pub record HasPlace (x : Text) : Type 0 where
   pub ends : has_tail back ≡ true
   pub rest : List Located
   pub whole : walk x ≡ front ++ rest
-  pub written : (t w : Text) → IsInside t → WithTranslation x t w
-      → (c : Text) × (w ≡ text_of front ++ (begin_line ++ (t ++ (end_line ++ 10 ∷ c)))) × Put front back t (10 ∷ c)
+  pub rest_text : Text
+  pub written : (t w : Text) → IsInside t → WithTranslation x t w → IsWritten front back rest_text t w
 
 -- the index of a segment is the number of bytes before it
 at_is : (ds es : List Located) (d : Located) (x : Text) → walk x ≡ ds ++ d ∷ es → d.at ≡ length (text_of ds)
@@ -213,16 +216,18 @@ new_place x f none =
       ends = line.ends;
       rest = back;
       whole = sym whole;
+      rest_text = drop (line.end.at + 1) x;
       written = λ t w i a.
           (let p = inserted x t front back (sym whole) lined calm opened i common in
           let size : line.end.at + 1 ≡ length (text_of front) = end_at in
           let front_bytes : take (line.end.at + 1) x ≡ text_of front = ap (λ (n : ℕ). take n x) size ∙ ap (take (length (text_of front))) p.1 ∙ take-append_seam (text_of front) p.0 in
           let back_bytes : drop (line.end.at + 1) x ≡ p.0 = ap (λ (n : ℕ). drop n x) size ∙ ap (drop (length (text_of front))) p.1 ∙ drop-append_seam (text_of front) p.0 in
-          (p.0,
-          a.is ∙ ap (λ (o : Option Located). filled x t w o a.at) none ∙ ap (λ (r : Span). filled x t w None r) (same_Some a.at place (sym a.is_spot ∙ spot_here))
-          ∙ ap (λ (u : Text). u ++ (begin_line ++ (t ++ (end_line ++ (10 ∷ drop (line.end.at + 1) x))))) front_bytes
-          ∙ ap (λ (u : Text). text_of front ++ (begin_line ++ (t ++ (end_line ++ (10 ∷ u))))) back_bytes,
-          p.2));
+          subst (λ (c : Text). IsWritten front back c t w) (sym back_bytes) (
+            a.is ∙ ap (λ (o : Option Located). filled x t w o a.at) none ∙ ap (λ (r : Span). filled x t w None r) (same_Some a.at place (sym a.is_spot ∙ spot_here))
+                ∙ ap (λ (u : Text). u ++ (begin_line ++ (t ++ (end_line ++ (10 ∷ drop (line.end.at + 1) x))))) front_bytes
+                ∙ ap (λ (u : Text). text_of front ++ (begin_line ++ (t ++ (end_line ++ (10 ∷ u))))) back_bytes,
+            p.2,
+          ));
     }
   where
     comment : Commented (walk x)
@@ -407,6 +412,7 @@ old_place x f old some = by (after_first (λ d. is_region d.is) (walk x)) refl (
           ends = tail_after (here ∷ []) es (rw here_tail refl) (tail_after (old ∷ []) (here ∷ es) (rw old_tail refl) (ap (λ (es : List Located). has_tail (old ∷ es)) (sym e) ∙ ends));
           rest = old ∷ here ∷ es;
           whole = walked;
+          rest_text = drop 1 (drop (old.at + length (bytes old.is)) x);
           written = λ t u i a.
               (let p = replaced x t v w front es old here walked is lined calm opened i in
               let n : old.at ≡ length (text_of front) = at_is front (here ∷ es) old x walked in
@@ -416,11 +422,12 @@ old_place x f old some = by (after_first (λ d. is_region d.is) (walk x)) refl (
               let back_bytes : drop (old.at + length (bytes old.is)) x ≡ 10 ∷ p.0 =
               ap (λ (n : ℕ). drop n x) size ∙ ap (drop (length (text_of front ++ (v ++ w)))) (p.1 ∙ sym (append_assoc (text_of front) (v ++ w) (10 ∷ p.0)))
               ∙ drop-append_seam (text_of front ++ (v ++ w)) (10 ∷ p.0) in
-              (p.0,
-              a.is ∙ ap (λ (o : Option Located). filled x t u o a.at) some ∙ ap (λ (r : Span). filled x t u (Some old) r) (same_Some a.at (span_of old) (sym a.is_spot ∙ spot_here))
-              ∙ ap (λ (u : Text). u ++ (begin_line ++ (t ++ (end_line ++ drop (old.at + length (bytes old.is)) x)))) front_bytes
-              ∙ ap (λ (u : Text). text_of front ++ (begin_line ++ (t ++ (end_line ++ u)))) back_bytes,
-              p.2));
+              subst (λ (c : Text). IsWritten front es c t u) (sym (ap (drop 1) back_bytes)) (
+                a.is ∙ ap (λ (o : Option Located). filled x t u o a.at) some ∙ ap (λ (r : Span). filled x t u (Some old) r) (same_Some a.at (span_of old) (sym a.is_spot ∙ spot_here))
+                    ∙ ap (λ (u : Text). u ++ (begin_line ++ (t ++ (end_line ++ drop (old.at + length (bytes old.is)) x)))) front_bytes
+                    ∙ ap (λ (u : Text). text_of front ++ (begin_line ++ (t ++ (end_line ++ u)))) back_bytes,
+                p.2,
+              ));
         }
       where
         no_token : (d : Located) (es : List Located) → d.is ≡ newline_segment → tokens_in (d ∷ es) ≡ tokens_in es

@@ -12,6 +12,7 @@ ghost use Rattle.module_text.specs.FileOffences.{RefusesFile};
 ghost use Rattle.module_text.specs.TextFront.{Text};
 ghost use Rattle.module_text.specs.Walk.{State, Located, region, walk, walk_from, at_start, after_segment};
 ghost use Rattle.module_text.specs.WithTranslation.{begin_line, end_line, WithTranslation};
+ghost use Rattle.module_text.specs.laws.Kept.{IsFine, KeepsFile, IsPut};
 ghost use Rattle.module_text.specs.laws.Walks.{text_of, is_lined, are_calm, after_all, after_text, IsOpen, IsInside, made, located, Near, Fit, Moved, are_common, Put};
 
 /// A list of units is that of one translation at most.
@@ -78,4 +79,13 @@ pub fn replacements_are_regions()
 /// In a written file the translation is found again: another one takes exactly its place, and the same one changes nothing.
 pub fn translations_are_found_again()
     ensures { (a t c v u : Text) (ds more : List Located) → walk (a ++ (begin_line ++ (t ++ (end_line ++ c)))) ≡ ds ++ located (after_all at_start ds) (made t) ∷ more → text_of ds ≡ a → (after_all at_start ds).marked ≡ false → WithTranslation (a ++ (begin_line ++ (t ++ (end_line ++ c)))) v u → u ≡ a ++ (begin_line ++ (v ++ (end_line ++ c))) }
+{}
+
+/// A translation that is put into a file which is not refused is one segment after the file's own, and what is after it is
+/// moved. The file keeps its title and its units, no segment of it breaks a rule, and another translation of it is one of
+/// the file that was read.
+pub fn translations_keep_files()
+    ensures place { (x t w : Text) → IsFine x → IsInside t → WithTranslation x t w → IsPut x t w }
+    ensures kept { (x t w : Text) → IsFine x → IsInside t → WithTranslation x t w → KeepsFile x t w }
+    ensures again { (x t w v u : Text) → IsFine x → IsInside t → IsInside v → WithTranslation x t w → WithTranslation w v u → WithTranslation x v u }
 {}
