@@ -24,10 +24,10 @@ inside_pieces st n (p ∷ ps) =
 
 -- ---- strings
 
-no_bad : (raw : Text) (p : Piece) → bad_string raw ≡ sound p → ⊥
+pub no_bad : (raw : Text) (p : Piece) → bad_string raw ≡ sound p → ⊥
 no_bad raw p e = cc
 
-no_open : (raw : Text) (p : Piece) → open_string raw ≡ sound p → ⊥
+pub no_open : (raw : Text) (p : Piece) → open_string raw ≡ sound p → ⊥
 no_open raw p e = cc
 
 -- what is found of a closed string doesn't rest on what is after it
@@ -74,7 +74,7 @@ piece_found p b m rest r e h = by (nat_eq b 34) refl
     by false k = choose k ∙ ap (part_at b) (take-append_seam (m ++ rest) r) ∙ found
 
 -- the bytes of a part are passed over
-passed : (st : Stage) (m u : Text) (n k left : ℕ) → left ≡ length m + k → inside st n (length m) left (m ++ u) ≡ inside st (n + length m) 0 k u
+pub passed : (st : Stage) (m u : Text) (n k left : ℕ) → left ≡ length m + k → inside st n (length m) left (m ++ u) ≡ inside st (n + length m) 0 k u
 passed st [] u n k left e = (let same : left ≡ k = omega arith in ap (λ (l : ℕ). inside st n 0 l u) same ∙ ap (λ (i : ℕ). inside st i 0 k u) (none n))
   where
     none : (n : ℕ) → n ≡ n + 0

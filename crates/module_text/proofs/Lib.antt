@@ -27,3 +27,4 @@ pub mod InsidePieces
 pub mod WalkPlace
 pub mod WalkKept
 pub mod WalkSame
+pub mod AlgorithmTokens
