@@ -6,7 +6,7 @@ use Rattle.std.proofs.lemmas.Bool.{eqb-true, eq-eqb}
 use Rattle.std.proofs.lemmas.Slice.Eq.{bytes_eq-Decides}
 use Rattle.std.proofs.lemmas.List.{length-drop, drop-drop}
 use Rattle.tla_token.specs.Tokens.{Piece, blank, block, line, lexeme, text_of, Fits}
-use Rattle.tla_token.specs.Offences.{Part, sound, stray, bad_string, cut_string, open_string, open_block, parts_text, PartsFit}
+use Rattle.tla_token.specs.Offences.{Part, sound, stray, bad_string, open_string, open_block, parts_text, PartsFit}
 use Rattle.tla_token.specs.Cut.{parts}
 use Rattle.tla_token.proofs.Cutting.{cut_fits}
 use Rattle.tla_token.proofs.Spelled.{same_bytes}
@@ -259,7 +259,6 @@ front (sound (line body) ∷ ps) m ms r e = skipped (line body) ps m ms (λ qs. 
 front (sound (block body) ∷ ps) m ms r e = absurd cc
 front (stray b ∷ ps) m ms r e = absurd cc
 front (bad_string raw ∷ ps) m ms r e = absurd cc
-front (cut_string raw ∷ ps) m ms r e = absurd cc
 front (open_string raw ∷ ps) m ms r e = absurd cc
 front (open_block body ∷ ps) m ms r e = absurd cc
 
