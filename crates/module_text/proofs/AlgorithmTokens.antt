@@ -1,20 +1,24 @@
 -- Where no rule on bytes and strings is broken in an algorithm, its tokens are those of its stretch.
 use Rattle.std.proofs.Common.{◌≡◌, ℕ, zero, suc, ◌+◌, ◌-◌, ◌<◌, Bool, true, false, not, ◌||◌, nat_eq, List, [], ◌∷◌, ◌++◌, length, map, take, drop, Option, Some, None, refl, sym, ap, subst, ◌∙◌, codes, arith, append_assoc, append-nil, length-append}
-use Rattle.std.specs.Prelude.{if◌then◌else◌}
-use Rattle.std.specs.List.{list_all, starts_with}
-use Rattle.std.proofs.lemmas.Bool.{and_parts, eqb-true, eq-eqb, not-true, or_right, both_ways}
+use Rattle.std.specs.Prelude.{if◌then◌else◌, nat_le, ◌&&◌}
+use Rattle.std.specs.List.{list_all, list_any, flat_map, starts_with}
+use Rattle.std.proofs.lemmas.Bool.{and_parts, and_from, eqb-true, eq-eqb, not-true, or_right, both_ways}
 use Rattle.std.proofs.lemmas.Option.{none-some, same_Some}
 use Rattle.std.proofs.lemmas.List.{take-append-drop}
 use Rattle.std.proofs.Math.Seq.{take-append_seam}
-use Rattle.tla_token.specs.Lexemes.{Kind, string, unquoted, behind_backslash, in_front, escaped, is_plain}
-use Rattle.tla_token.specs.Tokens.{Piece, lexeme, bytes_of, text_of, Fits, AllFit, holds_mark}
-use Rattle.tla_token.specs.Offences.{Part, sound, stray, bad_string, open_string, open_block, part_bytes, parts_text, PartFits, string_len, begins_with}
+use Rattle.tla_token.specs.Lexemes.{name, number, string, one, other, unquoted, behind_backslash, in_front, escaped, is_plain}
+use Rattle.tla_token.specs.Tokens.{Piece, blank, block, line, lexeme, bytes_of, text_of, Fits, AllFit, holds_mark, unmarked_kind}
+use Rattle.tla_token.specs.Offences.{Part, sound, stray, bad_string, open_string, open_block, part_bytes, parts_text, PartFits, string_len, begins_with, is_stray, has_bad_escape, breaks_string, Offence, offence_if, byte_offences, part_offences}
+use Rattle.tla_token.specs.Rules.{rule_number}
+use Rattle.tla_token.specs.declared.rule.Rule.{Rule}
+use Rattle.tla_token.specs.declared.rule.Rule.TheVariants.{NotAscii, BadToken, OpenString}
 use Rattle.tla_token.specs.Cut.{part_at, parts_at, string_part}
 use Rattle.tla_token.proofs.Spelled.{begins_is}
 use Rattle.tla_token.proofs.Front.{quote_front}
 use Rattle.tla_token.proofs.Longest.{same_first}
 use Rattle.tla_token.proofs.Parted.{some_part}
 use Rattle.tla_token.proofs.Cutting.{cut_fits}
+use Rattle.tla_token.proofs.Faulty.{sound_part}
 use Rattle.tla_token.proofs.Less.{fits_less}
 use Rattle.module_text.specs.TextFront.{Text}
 use Rattle.module_text.specs.ModuleParts.{kind_in}
@@ -97,12 +101,8 @@ within_end v (a ∷ b ∷ r) raw rest h e w u m =
 
 -- ---- a sound part of an algorithm
 
-abbrev pub plain_string : Kind → Bool
-plain_string (string w) = not (holds_mark w)
-plain_string k = true
-
 abbrev pub plain_piece : Piece → Bool
-plain_piece (lexeme k bytes) = plain_string k
+plain_piece (lexeme k bytes) = unmarked_kind k
 plain_piece p = true
 
 -- it is the first part of what is in the comment
@@ -177,31 +177,99 @@ abbrev pub is_plain_part : Part → Bool
 is_plain_part (sound p) = plain_piece p
 is_plain_part p = false
 
+-- of rule 12
+abbrev pub is_large : Offence → Bool
+is_large o = nat_eq (rule_number o.0) 12
+
+-- numbers that are too big, and nothing else
+abbrev pub only_large : List Offence → Bool
+only_large os = list_all is_large os
+
 abbrev pub are_plain : List IndexedPart → Bool
-are_plain ps = list_all (λ p. is_plain_part p.1) ps
+are_plain ps = only_large (flat_map (λ p. part_offences true p.0 p.1) ps)
+
+large_parts : (os qs : List Offence) → only_large (os ++ qs) ≡ true → (only_large os ≡ true) × (only_large qs ≡ true)
+large_parts [] qs h = (refl, h)
+large_parts (o ∷ os) qs h =
+    let k = and_parts (is_large o) (only_large (os ++ qs)) h in
+    let m = large_parts os qs k.1 in
+    (and_from (is_large o) (only_large os) k.0 m.0, m.1)
+
+-- of another rule there is none
+none_of : (k : Bool) (q : Rule) (at : ℕ) → nat_eq (rule_number q) 12 ≡ false → only_large (offence_if k q at) ≡ true → (k ≡ false) × (offence_if k q at ≡ [])
+none_of true q at n h = absurd (both_ways (nat_eq (rule_number q) 12) n (and_parts (nat_eq (rule_number q) 12) true h).0)
+none_of false q at n h = (refl, refl)
+
+byte_rule : (b : ℕ) → nat_eq (rule_number (if nat_le 128 b then NotAscii else BadToken)) 12 ≡ false
+byte_rule b = by (nat_le 128 b)
+  where
+    by : (k : Bool) → nat_eq (rule_number (if k then NotAscii else BadToken)) 12 ≡ false
+    by true = refl
+    by false = refl
+
+no_bytes : (at : ℕ) (raw : Text) → only_large (byte_offences at raw) ≡ true → byte_offences at raw ≡ []
+no_bytes at [] h = refl
+no_bytes at (b ∷ bs) h =
+    let q = if nat_le 128 b then NotAscii else BadToken in
+    let k = large_parts (offence_if (is_stray b) q at) (byte_offences (at + 1) bs) h in
+    rw (none_of (is_stray b) q at (byte_rule b) k.0).1 (no_bytes (at + 1) bs k.1)
+
+-- a part that breaks no other rule is a sound one
+plain_part : (q : Part) (rest : Text) (at : ℕ) → PartFits q rest → only_large (part_offences true at q) ≡ true → is_plain_part q ≡ true
+plain_part (sound (blank b)) rest at f h = refl
+plain_part (sound (block body)) rest at f h = refl
+plain_part (sound (line body)) rest at f h = refl
+plain_part (sound (lexeme (name w) bytes)) rest at f h = refl
+plain_part (sound (lexeme (number n) bytes)) rest at f h = refl
+plain_part (sound (lexeme (string w) bytes)) rest at f h = ap not (none_of (holds_mark w) BadToken at refl h).0
+plain_part (sound (lexeme (one s) bytes)) rest at f h = refl
+plain_part (sound (lexeme (other w) bytes)) rest at f h = refl
+plain_part (stray b) rest at f h =
+    let q = if nat_le 128 b then NotAscii else BadToken in
+    let k = large_parts (offence_if (is_stray b) q at) [] h in
+    absurd (both_ways (is_stray b) (none_of (is_stray b) q at (byte_rule b) k.0).0 f)
+plain_part (bad_string raw) rest at f h =
+    let bad = has_bad_escape raw || (true && holds_mark raw) in
+    let broken = list_any breaks_string raw in
+    let k = large_parts (offence_if bad BadToken at) (offence_if broken OpenString at ++ byte_offences (at + 1) raw) h in
+    let m = large_parts (offence_if broken OpenString at) (byte_offences (at + 1) raw) k.1 in
+    let none : part_offences true at (bad_string raw) ≡ [] = three (offence_if bad BadToken at) (offence_if broken OpenString at) (byte_offences (at + 1) raw)
+    (none_of bad BadToken at refl k.0).1 (none_of broken OpenString at refl m.0).1 (no_bytes (at + 1) raw m.1) in
+    let s = sound_part true at (bad_string raw) rest f none in
+    absurd (no_bad raw s.0 s.1)
+  where
+    three : (a b c : List Offence) → a ≡ [] → b ≡ [] → c ≡ [] → a ++ (b ++ c) ≡ []
+    three a b c e f g = λ i. e i ++ (f i ++ g i)
+plain_part (open_string raw) rest at f h = absurd cc
+plain_part (open_block body) rest at f h = absurd cc
+
+plain_first : (at b : ℕ) (t : Text) → only_large (part_offences true at (part_at b t)) ≡ true → is_plain_part (part_at b t) ≡ true
+plain_first at b t h = plain_part (part_at b t) (parts_text (parts_at (length (part_bytes (part_at b t)) - 1) t)) at (cut_fits (b ∷ t)).1.0 h
 
 pub record Cut (i : Inside) (n : ℕ) (v : Text) : Type 0 where
   pub pieces : List Piece
   pub more : Text
   pub split : v ≡ text_of pieces ++ more
   pub fit : AllFit pieces
+  pub plain : list_all plain_piece pieces ≡ true
   pub parts : map (λ p. p.1) i.parts ≡ map sound pieces
   pub to : i.to ≡ n + length (text_of pieces)
 
 nothing : (st : Stage) (n : ℕ) (v : Text) → Cut (record { parts = []; stage = st; to = n }) n v
-nothing st n v = record { pieces = []; more = v; split = refl; fit = tt; parts = refl; to = none n }
+nothing st n v = record { pieces = []; more = v; split = refl; fit = tt; plain = refl; parts = refl; to = none n }
   where
     none : (n : ℕ) → n ≡ n + 0
     none n = omega arith
 
 -- one before others
-one_more : (p : Piece) (i : Inside) (n : ℕ) (b : ℕ) (v : Text) → (f : Found p b v) → Cut i (n + length (bytes_of p)) f.rest → Cut (with_part (n, sound p) i) n (b ∷ v)
-one_more p i n b v f c = record {
+one_more : (p : Piece) (i : Inside) (n : ℕ) (b : ℕ) (v : Text) → plain_piece p ≡ true → (f : Found p b v) → Cut i (n + length (bytes_of p)) f.rest → Cut (with_part (n, sound p) i) n (b ∷ v)
+one_more p i n b v plain f c = record {
   pieces = p ∷ c.pieces;
   more = c.more;
   split = ap (λ (u : Text). b ∷ u) f.split ∙ ap (λ (u : Text). u ++ f.rest) (sym f.is) ∙ ap (λ (u : Text). bytes_of p ++ u) c.split
       ∙ sym (append_assoc (bytes_of p) (text_of c.pieces) c.more);
   fit = (fits_less p (text_of c.pieces) c.more (subst (Fits p) c.split f.fits), c.fit);
+  plain = and_from (plain_piece p) (list_all plain_piece c.pieces) plain c.plain;
   parts = ap (λ (ps : List Part). sound p ∷ ps) c.parts;
   to = c.to ∙ sum (length-append (bytes_of p) (text_of c.pieces));
 }
@@ -236,17 +304,17 @@ cut_within (suc fuel) st n (b ∷ v) r l h e = by (is_past st) refl (λ st n v. 
     by true k deeper = subst (λ (i : Inside). Cut i n (b ∷ v)) (sym (opened true k)) (nothing st n (b ∷ v))
     by false k deeper =
         let plain : are_plain (cut_by first).parts ≡ true = ap (λ (i : Inside). are_plain i.parts) (sym (opened false k)) ∙ e in
-        let both = and_parts (is_plain_part first) _ plain in
-        let s = sound_of first both.0 in
+        let both = large_parts (part_offences true n first) _ plain in
+        let s = sound_of first (plain_first n b (if nat_eq b 34 then v ++ r else take (length v) (v ++ r)) both.0) in
         let f = found_first s.0 b v (part_found b v r s.0 h s.1 s.2) in
         let next = after_part st (kind_in (sound s.0)) in
         let passed_over : inside next (suc n) (length (bytes_of s.0) - 1) (length v) (v ++ r) ≡ inside next (n + length (bytes_of s.0)) 0 (length f.rest) (f.rest ++ r) = over s.0 f next in
         let is : cut_by first ≡ with_part (n, sound s.0) (inside next (n + length (bytes_of s.0)) 0 (length f.rest) (f.rest ++ r)) =
         ap cut_by s.1 ∙ ap (with_part (n, sound s.0)) passed_over in
         let plain_rest : are_plain (inside next (n + length (bytes_of s.0)) 0 (length f.rest) (f.rest ++ r)).parts ≡ true =
-        (and_parts (plain_piece s.0) _ (ap (λ (i : Inside). are_plain i.parts) (sym is) ∙ plain)).1 in
+        (large_parts (part_offences true n (sound s.0)) _ (ap (λ (i : Inside). are_plain i.parts) (sym is) ∙ plain)).1 in
         let c = deeper next (n + length (bytes_of s.0)) f.rest (shorter s.0 f) h plain_rest in
-        subst (λ (i : Inside). Cut i n (b ∷ v)) (sym (opened false k ∙ is)) (one_more s.0 _ n b v f c)
+        subst (λ (i : Inside). Cut i n (b ∷ v)) (sym (opened false k ∙ is)) (one_more s.0 _ n b v s.2 f c)
       where
         shorter : (p : Piece) (f : Found p b v) → length f.rest < fuel
         shorter p f = (let n = ap length f.split in omega (arith, l, n, length-append f.m f.rest))

@@ -28,3 +28,4 @@ pub mod WalkPlace
 pub mod WalkKept
 pub mod WalkSame
 pub mod AlgorithmTokens
+pub mod AlgorithmFound

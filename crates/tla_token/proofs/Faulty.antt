@@ -96,7 +96,7 @@ no_front : (xs ys : List Offence) → xs ++ ys ≡ [] → (xs ≡ []) × (ys ≡
 no_front [] ys e = (refl, e)
 no_front (x ∷ xs) ys e = absurd cc
 
-sound_part : (a : Bool) (at : ℕ) (x : Part) (rest : List ℕ) → PartFits x rest → part_offences a at x ≡ [] → (p : Piece) × (x ≡ sound p)
+pub sound_part : (a : Bool) (at : ℕ) (x : Part) (rest : List ℕ) → PartFits x rest → part_offences a at x ≡ [] → (p : Piece) × (x ≡ sound p)
 sound_part a at (sound p) rest h e = (p, refl)
 sound_part a at (stray b) rest h e = absurd (both_ways (is_stray b) (byte_fine at b [] e).0 h)
 sound_part a at (bad_string raw) rest (n, u) e =
