@@ -22,6 +22,7 @@ use Rattle.tla_token.proofs.Faulty.{sound_part}
 use Rattle.tla_token.proofs.Less.{fits_less}
 use Rattle.module_text.specs.TextFront.{Text}
 use Rattle.module_text.specs.ModuleParts.{kind_in}
+use Rattle.module_text.specs.laws.Kept.{is_large, only_large}
 use Rattle.module_text.specs.AlgorithmText.{Stage, is_past, after_part, IndexedPart, Inside, with_part, inner_part, inside}
 use Rattle.module_text.proofs.InsidePieces.{passed, no_bad, no_open}
 
@@ -158,6 +159,7 @@ string_found v r p h e n = by (begins_with 34 rest) refl (unquoted raw) refl
         let c = within_end v r raw (drop 1 rest) h split w o (not-true (holds_mark w) plain) in
         ap (part_at 34) c.1 ∙ quote_front raw c.0 w o ∙ sym x ∙ e
     by false k o oo = (let x : string_part raw rest ≡ open_string raw = rw k refl in absurd (no_open raw p (sym x ∙ e)))
+
 part_found : (b : ℕ) (v r : Text) (p : Piece) → Ends r → inner_part (length v) b (v ++ r) ≡ sound p → plain_piece p ≡ true → part_at b v ≡ sound p
 part_found b v r p h e n = by (nat_eq b 34) refl
   where
@@ -176,14 +178,6 @@ part_found b v r p h e n = by (nat_eq b 34) refl
 abbrev pub is_plain_part : Part → Bool
 is_plain_part (sound p) = plain_piece p
 is_plain_part p = false
-
--- of rule 12
-abbrev pub is_large : Offence → Bool
-is_large o = nat_eq (rule_number o.0) 12
-
--- numbers that are too big, and nothing else
-abbrev pub only_large : List Offence → Bool
-only_large os = list_all is_large os
 
 abbrev pub are_plain : List IndexedPart → Bool
 are_plain ps = only_large (flat_map (λ p. part_offences true p.0 p.1) ps)

@@ -29,3 +29,4 @@ pub mod WalkKept
 pub mod WalkSame
 pub mod AlgorithmTokens
 pub mod AlgorithmFound
+pub mod AlgorithmIsCut

@@ -9,8 +9,9 @@ use Rattle.tla_token.specs.Offences.{least}
 use Rattle.tla_expr.specs.Lexical.{Token}
 use Rattle.module_text.specs.TextFront.{Text, on_some}
 use Rattle.module_text.specs.Walk.{walk}
-use Rattle.module_text.specs.FileParts.{spot}
-use Rattle.module_text.specs.AlgorithmText.{Stage, open_p, past_p, past_c, algorithm_in}
+use Rattle.module_text.specs.FileParts.{title, region_of, spot, before_spot, after_spot, inside_region}
+use Rattle.module_text.specs.WithTranslation.{WithTranslation, Swapped}
+use Rattle.module_text.specs.AlgorithmText.{Stage, open_p, past_p, past_c, algorithm_in, algorithm_tokens}
 use Rattle.module_text.specs.FileUnits.{units_in}
 use Rattle.module_text.specs.FileOffences.{file_offences}
 
@@ -192,3 +193,37 @@ put_after_the_comment = refl
 
 old_region : spot_in (head ++ region_text ++ algorithm_text ++ foot) ≡ Some (19, 62)
 old_region = refl
+
+-- ---- what is read off
+
+file_title : title (walk (codes "free\n" ++ head ++ algorithm_text ++ foot)) ≡ Some (codes "M")
+file_title = refl
+
+abbrev with_region : Text
+with_region = head ++ codes "A == 1\n" ++ algorithm_text ++ codes "\\* BEGIN TRANSLATION\nB == 2\nC == 3\n\\* END TRANSLATION\nD == 4\n" ++ foot
+
+-- the units before the region, in it and after it
+units_before : sizes (units_in (before_spot (walk with_region))).units ≡ (2, 3) ∷ []
+units_before = refl
+
+units_inside : on_some (region_of (walk with_region)) (λ d. Some (sizes (units_in (inside_region d)).units)) ≡ Some ((10, 3) ∷ (11, 3) ∷ [])
+units_inside = refl
+
+units_after : sizes (units_in (after_spot (walk with_region))).units ≡ (13, 3) ∷ []
+units_after = refl
+
+-- the first word is one token, and dashes in an algorithm are signs
+abbrev with_dashes : Text
+with_dashes = head ++ codes "(* --fair algorithm A { ----x } *)\n" ++ foot
+
+algorithm_size : on_some (algorithm_in with_dashes) (λ a. Some (length (algorithm_tokens with_dashes a))) ≡ Some 10
+algorithm_size = refl
+
+translated : WithTranslation (head ++ algorithm_text ++ foot) (codes "A == 1\n") (head ++ algorithm_text ++ codes "\\* BEGIN TRANSLATION\nA == 1\n\\* END TRANSLATION\n" ++ foot)
+translated = record { at = record { from = 70; to = 70 }; is_spot = refl; is = refl }
+
+translated_again : WithTranslation (head ++ algorithm_text ++ region_text ++ foot) (codes "A == 1\n") (head ++ algorithm_text ++ codes "\\* BEGIN TRANSLATION\nA == 1\n\\* END TRANSLATION\n" ++ foot)
+translated_again = record { at = record { from = 70; to = 113 }; is_spot = refl; is = refl }
+
+swapped : Swapped (head ++ codes "(* --algorithm A { } *)\n" ++ foot) (codes "B") (head ++ codes "(* B *)\n" ++ foot)
+swapped = record { old = _; is_old = refl; is = refl }

@@ -190,7 +190,7 @@ pub record HasPlace (x : Text) : Type 0 where
   pub written : (t w : Text) → IsInside t → WithTranslation x t w → IsWritten front back rest_text t w
 
 -- the index of a segment is the number of bytes before it
-at_is : (ds es : List Located) (d : Located) (x : Text) → walk x ≡ ds ++ d ∷ es → d.at ≡ length (text_of ds)
+pub at_is : (ds es : List Located) (d : Located) (x : Text) → walk x ≡ ds ++ d ∷ es → d.at ≡ length (text_of ds)
 at_is ds es d x w =
     let m = met ds d es at_start x w in
     ap (λ (d : Located). d.at) (sym m.is) ∙ at_after at_start ds ∙ none (length (text_of ds))

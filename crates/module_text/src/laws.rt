@@ -1,7 +1,7 @@
 //! Laws of modules, stated as what functions without a body ensure.
 
-ghost use Rattle.std.specs.Prelude.{◌≡◌, ◌++◌, ◌∷◌, ℕ, List, true, false};
-ghost use Rattle.tla_token.specs.Tokens.{EndsLine};
+ghost use Rattle.std.specs.Prelude.{◌≡◌, ◌++◌, ◌∷◌, [], ℕ, List, Some, true, false};
+ghost use Rattle.tla_token.specs.Tokens.{EndsLine, TokAlgorithm};
 ghost use Rattle.tla_token.specs.declared.rule.Refusal.{Refusal};
 ghost use Rattle.module_text.specs.Module.{Region, RegionUnit, units_of, Module};
 ghost use Rattle.tla_expr.specs.Lexical.{Token};
@@ -12,7 +12,9 @@ ghost use Rattle.module_text.specs.FileOffences.{RefusesFile};
 ghost use Rattle.module_text.specs.TextFront.{Text};
 ghost use Rattle.module_text.specs.Walk.{State, Located, region, walk, walk_from, at_start, after_segment};
 ghost use Rattle.module_text.specs.WithTranslation.{begin_line, end_line, WithTranslation};
-ghost use Rattle.module_text.specs.laws.Kept.{IsFine, KeepsFile, IsPut};
+ghost use Rattle.module_text.specs.laws.Kept.{IsFine, only_large, KeepsFile, IsPut};
+ghost use Rattle.module_text.specs.AlgorithmText.{AlgorithmText, algorithm_in, algorithm_tokens};
+ghost use Rattle.module_text.specs.FileOffences.{offences_of, algorithm_offences};
 ghost use Rattle.module_text.specs.laws.Walks.{text_of, is_lined, are_calm, after_all, after_text, IsOpen, IsInside, made, located, Near, Fit, Moved, are_common, Put};
 
 /// A list of units is that of one translation at most.
@@ -88,4 +90,10 @@ pub fn translations_keep_files()
     ensures place { (x t w : Text) → IsFine x → IsInside t → WithTranslation x t w → IsPut x t w }
     ensures kept { (x t w : Text) → IsFine x → IsInside t → WithTranslation x t w → KeepsFile x t w }
     ensures again { (x t w v u : Text) → IsFine x → IsInside t → IsInside v → WithTranslation x t w → WithTranslation w v u → WithTranslation x v u }
+{}
+
+/// Where no segment of a file and no part of its algorithm breaks a rule, but for numbers that are too big, the algorithm's
+/// stretch has just the tokens that the walk gives.
+pub fn algorithms_have_tokens()
+    ensures { (x : Text) (a : AlgorithmText) → offences_of (walk x) ≡ [] → algorithm_in x ≡ Some a → only_large (algorithm_offences (Some a)) ≡ true → TokAlgorithm x a.from a.rest.to (algorithm_tokens x a) }
 {}

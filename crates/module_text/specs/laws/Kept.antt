@@ -1,6 +1,9 @@
 -- What the laws of files that are translated speak of: where a translation goes in a file that is not refused, and what of the file stays as it was.
-use Rattle.std.specs.Prelude.{◌≡◌, ℕ, true, [], ◌∷◌, ◌++◌, List, Some, map, is_some}
+use Rattle.std.specs.Prelude.{◌≡◌, ℕ, nat_eq, Bool, true, [], ◌∷◌, ◌++◌, List, Some, map, is_some}
+use Rattle.std.specs.List.{list_all}
+use Rattle.tla_token.specs.Rules.{rule_number}
 use Rattle.tla_token.specs.Lexemes.{Kind}
+use Rattle.tla_token.specs.Offences.{Offence}
 use Rattle.tla_token.specs.Tokens.{Token}
 use Rattle.module_text.specs.TextFront.{Text}
 use Rattle.module_text.specs.Walk.{Located, walk, at_start}
@@ -13,6 +16,14 @@ use Rattle.module_text.specs.laws.Walks.{text_of, after_all, made, located, Put}
 -- no rule is broken by what stands in the file
 abbrev pub IsFine : Text → Type 0
 IsFine x = file_offences x ≡ []
+
+-- of rule 12
+abbrev pub is_large : Offence → Bool
+is_large o = nat_eq (rule_number o.0) 12
+
+-- numbers that are too big, and nothing else
+abbrev pub only_large : List Offence → Bool
+only_large os = list_all is_large os
 
 -- tokens but for their indexes and lines: their kinds and columns
 abbrev pub looks : List Token → List (Kind × ℕ)
