@@ -14,13 +14,14 @@ use Rattle.module_text.specs.HeaderAndRegion.{is_end}
 use Rattle.module_text.specs.Walk.{tail, State, at_end_line, after_segment, Located, walk}
 use Rattle.module_text.specs.Around.{begin_line, end_line}
 use Rattle.module_text.specs.Layout.{layout, unit_text, units_text}
+use Rattle.module_text.specs.Ways.{processes_in}
 use Rattle.module_text.specs.Module.{RegionUnit, variables_unit, vars_unit, init_unit, action_unit, terminating_unit, next_unit, spec_unit, termination_unit}
 use Rattle.module_text.specs.laws.Walks.{is_lined, IsInside, made, located, newline_segment}
 use Rattle.module_text.proofs.WalkResumed.{lined_end}
 use Rattle.module_text.proofs.WalkWritten.{region_walk}
 use Rattle.module_text.proofs.WalkAround.{newline_walk}
 use Rattle.first_path.specs.Form.{Parts, is_fit, last_line, IsForm}
-use Rattle.first_path.specs.Placed.{step_at, region_of, translation_of}
+use Rattle.first_path.specs.Placed.{step_at, ended_at, region_of, translation_of}
 use Rattle.first_path.proofs.Names.{every}
 use Rattle.first_path.proofs.Fit.{fit_of}
 use Rattle.first_path.proofs.Lines.{header_line, comment_of, units_before}
@@ -57,24 +58,24 @@ layout_starless f h =
     ap (λ (w : List ℕ). list_all no_star w) (sym (region_is f h)) ∙ pieces_starless (region_pieces f) (region_fits f h) (region_inline f (fit_of f h))
 
 -- where the last unit ends a line, all of them do
-units_end : (us : List RegionUnit) (u : RegionUnit) (last : Text) → unit_text u ≡ last ++ codes "\n"
-    → (less : Text) × (units_text (us ++ u ∷ []) ≡ less ++ codes "\n")
-units_end [] u last e = (last, e)
-units_end (v ∷ []) u last e = (
-  (unit_text v ++ codes "\n") ++ last,
-  ap (λ w. (unit_text v ++ codes "\n") ++ w) e ∙ sym (append_assoc (unit_text v ++ codes "\n") last (codes "\n")),
+units_end : (n : ℕ) (us : List RegionUnit) (u : RegionUnit) (last : Text) → unit_text n u ≡ last ++ codes "\n"
+    → (less : Text) × (units_text n (us ++ u ∷ []) ≡ less ++ codes "\n")
+units_end n [] u last e = (last, e)
+units_end n (v ∷ []) u last e = (
+  (unit_text n v ++ codes "\n") ++ last,
+  ap (λ w. (unit_text n v ++ codes "\n") ++ w) e ∙ sym (append_assoc (unit_text n v ++ codes "\n") last (codes "\n")),
 )
-units_end (v ∷ w ∷ us) u last e =
-    let (less, d) = units_end (w ∷ us) u last e in (
-      (unit_text v ++ codes "\n") ++ less,
-      ap (λ w. (unit_text v ++ codes "\n") ++ w) d ∙ sym (append_assoc (unit_text v ++ codes "\n") less (codes "\n")),
+units_end n (v ∷ w ∷ us) u last e =
+    let (less, d) = units_end n (w ∷ us) u last e in (
+      (unit_text n v ++ codes "\n") ++ less,
+      ap (λ w. (unit_text n v ++ codes "\n") ++ w) d ∙ sym (append_assoc (unit_text n v ++ codes "\n") less (codes "\n")),
     )
 
 layout_ends : (f : Parts) → (less : Text) × (layout (region_of f) ≡ less ++ codes "\n")
 layout_ends f =
     let r = region_of f in
     let vs = f.variable ∷ codes "pc" ∷ [] in
-    units_end (variables_unit vs ∷ vars_unit vs ∷ init_unit r.init ∷ action_unit (step_at (λ i. start) f) ∷ terminating_unit r.ended
+    units_end (processes_in r.next) (variables_unit vs ∷ vars_unit vs ∷ init_unit r.init ∷ action_unit (step_at (λ i. start) f) ∷ terminating_unit (ended_at (λ i. start))
     ∷ next_unit r.next ∷ spec_unit [] ∷ []) (termination_unit r.termination) (codes "Termination == <>(pc = \"Done\")") refl
 
 -- ---- none of its lines is an END line
