@@ -192,6 +192,7 @@ pub record Placed (x : Text) (d : Located) (n : ℕ) : Type 0 where
   pub ends : Ends r
   pub here : begins_algorithm v ≡ true
   pub inner : within d.is ≡ u ++ v
+  pub at : n ≡ d.at + 2 + length u
 
 pub placed : (x : Text) (ds es : List Located) (d : Located) (n : ℕ) → segment_offences d.at d.is ≡ [] → walk x ≡ ds ++ d ∷ es → first_of (beginnings_in d) ≡ Some n → Placed x d n
 placed x ds es d n fine split first =
@@ -217,6 +218,7 @@ placed x ds es d n fine split first =
       ends = (refl, refl);
       here = f.here;
       inner = within_is ∙ f.split;
+      at = f.at;
     }
   where
     in_order : (t o f v m es : Text) → t ++ ((o ++ ((f ++ v) ++ m)) ++ es) ≡ (t ++ (o ++ f)) ++ (v ++ (m ++ es))
