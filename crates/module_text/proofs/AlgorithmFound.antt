@@ -94,7 +94,7 @@ word_after v h r = by (begins v (codes "--fair")) refl
                             begun false k = (let g : false ≡ true = rw k at f in absurd cc)
                             begun true k = ap (λ (m : Text). is_some (past_word (codes "algorithm") (m ++ r))) (begins_is m (codes "algorithm") k)
 
-opened : (v : Text) → begins_algorithm v ≡ true → Opened v
+pub opened : (v : Text) → begins_algorithm v ≡ true → Opened v
 opened v h = by (is_fair v) refl
   where
     word_is : (k : Bool) → is_fair v ≡ k → opening v ≡ (if k then codes "--fair" else codes "--algorithm")
@@ -149,6 +149,36 @@ stretch_is w a b c from to e f g =
     rw (n, f, e, drop-append_seam a (b ++ c)) (take-append_seam b c)
 
 -- an algorithm that begins after the bytes p, with v left in its comment
+pub made_there : (x p v r : Text) (n left : ℕ) → x ≡ p ++ (v ++ r) → n ≡ length p → left ≡ length v → (o : Opened v)
+    → algorithm_at n left (drop n x) ≡ record {
+      from = n;
+      opening = opening v;
+      rest = inside (head (if is_fair v then 1 else 0)) (n + length (opening v)) 0 (length o.rest) (o.rest ++ r);
+    }
+made_there x p v r n left e size count o =
+    ap (algorithm_at n left) from_text
+    ∙ ap (λ (k : Bool). made k (left - length (if k then codes "--fair" else codes "--algorithm")) (drop (length (if k then codes "--fair" else codes "--algorithm")) (v ++ r))) (o.more r)
+    ∙ ap (λ (l : ℕ). made (is_fair v) l (drop (length w) (v ++ r))) (ap (λ (l : ℕ). l - length w) count ∙ less)
+    ∙ ap (made (is_fair v) (length o.rest)) after_word
+  where
+    w : Text
+    w = opening v
+
+    from_text : drop n x ≡ v ++ r
+    from_text = ap (λ (k : ℕ). drop k x) size ∙ ap (drop (length p)) e ∙ drop-append_seam p (v ++ r)
+
+    made : (k : Bool) (l : ℕ) (s : Text) → AlgorithmText
+    made k l s =
+        let w = if k then codes "--fair" else codes "--algorithm" in
+        record { from = n; opening = w; rest = inside (head (if k then 1 else 0)) (n + length w) 0 l s }
+
+    after_word : drop (length w) (v ++ r) ≡ o.rest ++ r
+    after_word = ap (λ (u : Text). drop (length w) (u ++ r)) o.is ∙ ap (drop (length w)) (append_assoc w o.rest r) ∙ drop-append_seam w (o.rest ++ r)
+
+    less : length v - length w ≡ length o.rest
+    less = (let n = ap length o.is in omega (arith, n, length-append w o.rest))
+
+-- its tokens
 pub tokens_there : (x p v r : Text) (n left : ℕ) → x ≡ p ++ (v ++ r) → n ≡ length p → left ≡ length v → Ends r → begins_algorithm v ≡ true
     → are_plain (algorithm_at n left (drop n x)).rest.parts ≡ true
     → TokAlgorithm x n (algorithm_at n left (drop n x)).rest.to (algorithm_tokens x (algorithm_at n left (drop n x)))
@@ -167,26 +197,8 @@ tokens_there x p v r n left e size count h begun plain =
     a : AlgorithmText
     a = record { from = n; opening = w; rest = i }
 
-    from_text : drop n x ≡ v ++ r
-    from_text = ap (λ (k : ℕ). drop k x) size ∙ ap (drop (length p)) e ∙ drop-append_seam p (v ++ r)
-
-    made : (k : Bool) (l : ℕ) (s : Text) → AlgorithmText
-    made k l s =
-        let w = if k then codes "--fair" else codes "--algorithm" in
-        record { from = n; opening = w; rest = inside (head (if k then 1 else 0)) (n + length w) 0 l s }
-
-    after_word : drop (length w) (v ++ r) ≡ o.rest ++ r
-    after_word = ap (λ (u : Text). drop (length w) (u ++ r)) o.is ∙ ap (drop (length w)) (append_assoc w o.rest r) ∙ drop-append_seam w (o.rest ++ r)
-
-    less : length v - length w ≡ length o.rest
-    less = (let n = ap length o.is in omega (arith, n, length-append w o.rest))
-
     is : algorithm_at n left (drop n x) ≡ a
-    is =
-        ap (algorithm_at n left) from_text
-        ∙ ap (λ (k : Bool). made k (left - length (if k then codes "--fair" else codes "--algorithm")) (drop (length (if k then codes "--fair" else codes "--algorithm")) (v ++ r))) (o.more r)
-        ∙ ap (λ (l : ℕ). made (is_fair v) l (drop (length w) (v ++ r))) (ap (λ (l : ℕ). l - length w) count ∙ less)
-        ∙ ap (made (is_fair v) (length o.rest)) after_word
+    is = made_there x p v r n left e size count o
 
     tok : are_plain i.parts ≡ true → TokAlgorithm x n i.to (algorithm_tokens x a)
     tok plain =

@@ -26,6 +26,7 @@ use Rattle.module_text.proofs.WalkWhole.{whole}
 use Rattle.module_text.proofs.WalkPlace.{both_empty, before_whole, text_append, offences_append, Met, met}
 use Rattle.module_text.proofs.WalkKept.{at_is}
 use Rattle.module_text.proofs.AlgorithmFound.{First, first_at, tokens_there}
+use Rattle.module_text.proofs.AlgorithmTokens.{Ends}
 
 -- ---- the comment that holds it
 
@@ -179,12 +180,23 @@ within_mark u = ap (λ (n : ℕ). take n (u ++ 42 ∷ 41 ∷ [])) (less (length 
     less : (n m : ℕ) → m ≡ n + 2 → m - 2 ≡ n
     less n m e = omega arith
 
-algorithm_there : (x : Text) (ds es : List Located) (d : Located) (n : ℕ) → offences_of (walk x) ≡ [] → walk x ≡ ds ++ d ∷ es → first_of (beginnings_in d) ≡ Some n
-    → only_large (algorithm_offences (Some (algorithm_at n (d.at + 2 + length (within d.is) - n) (drop n x)))) ≡ true
-    → TokAlgorithm x n (algorithm_at n (d.at + 2 + length (within d.is) - n) (drop n x)).rest.to (algorithm_tokens x (algorithm_at n (d.at + 2 + length (within d.is) - n) (drop n x)))
-algorithm_there x ds es d n fine split first plain =
-    let o = both_empty (segment_offences d.at d.is) (offences_of es) (both_empty (offences_of ds) (offences_of (d ∷ es)) (sym (offences_append ds (d ∷ es)) ∙ ap offences_of (sym split) ∙ fine)).1 in
-    let blk = block_segment d.at n d.is o.0 first in
+-- where the algorithm is: after the bytes p, with v left in its comment
+pub record Placed (x : Text) (d : Located) (n : ℕ) : Type 0 where
+  pub p : Text
+  pub u : Text
+  pub v : Text
+  pub r : Text
+  pub text : x ≡ p ++ (v ++ r)
+  pub from : n ≡ length p
+  pub left : d.at + 2 + length (within d.is) - n ≡ length v
+  pub ends : Ends r
+  pub here : begins_algorithm v ≡ true
+  pub inner : within d.is ≡ u ++ v
+  pub at : n ≡ d.at + 2 + length u
+
+pub placed : (x : Text) (ds es : List Located) (d : Located) (n : ℕ) → segment_offences d.at d.is ≡ [] → walk x ≡ ds ++ d ∷ es → first_of (beginnings_in d) ≡ Some n → Placed x d n
+placed x ds es d n fine split first =
+    let blk = block_segment d.at n d.is fine first in
     let m = met ds d es at_start x split in
     let closes = block_closed m.b m.s blk.0 (part_there (after_all at_start ds) m.b m.s (sound (block blk.0)) (ap (λ (d : Located). d.is) m.is ∙ blk.1)) in
     let e = closes_end zero blk.0 closes in
@@ -192,15 +204,22 @@ algorithm_there x ds es d n fine split first plain =
     let within_is : within d.is ≡ u = ap within blk.1 ∙ ap (λ (body : Text). take (length body - 2) body) e.1 ∙ within_mark u in
     let f : First begins_algorithm (d.at + 2) n u = first_at begins_algorithm (d.at + 2) n u (ap (λ (u : Text). first_of (all_at begins_algorithm (d.at + 2) u)) (sym within_is) ∙ first) in
     let p = text_of ds ++ (40 ∷ 42 ∷ f.front) in
-    let r = 42 ∷ 41 ∷ text_of es in
     let size = at_is ds es d x split in
     let bytes_is : bytes d.is ≡ 40 ∷ 42 ∷ ((f.front ++ f.rest) ++ 42 ∷ 41 ∷ []) = ap bytes blk.1 ∙ ap (λ (body : Text). 40 ∷ 42 ∷ body) e.1 ∙ ap (λ (u : Text). 40 ∷ 42 ∷ (u ++ 42 ∷ 41 ∷ [])) f.split in
-    let text : x ≡ p ++ (f.rest ++ r) =
-    sym (whole x) ∙ ap text_of split ∙ text_append ds (d ∷ es) ∙ ap (λ (w : Text). text_of ds ++ (w ++ text_of es)) bytes_is ∙ in_order (text_of ds) (40 ∷ 42 ∷ []) f.front f.rest (42 ∷ 41 ∷ []) (text_of es) in
-    let from : n ≡ length p = counted n d.at (length f.front) (length (text_of ds)) (length p) f.at size (length-append (text_of ds) (40 ∷ 42 ∷ f.front)) in
-    let left : d.at + 2 + length (within d.is) - n ≡ length f.rest =
-    remaining d.at (length (within d.is)) n (length f.front) (length f.rest) (ap length within_is ∙ ap length f.split ∙ length-append f.front f.rest) f.at in
-    tokens_there x p f.rest r n (d.at + 2 + length (within d.is) - n) text from left (refl, refl) f.here plain
+    record {
+      p = p;
+      u = f.front;
+      v = f.rest;
+      r = 42 ∷ 41 ∷ text_of es;
+      text = sym (whole x) ∙ ap text_of split ∙ text_append ds (d ∷ es) ∙ ap (λ (w : Text). text_of ds ++ (w ++ text_of es)) bytes_is
+          ∙ in_order (text_of ds) (40 ∷ 42 ∷ []) f.front f.rest (42 ∷ 41 ∷ []) (text_of es);
+      from = counted n d.at (length f.front) (length (text_of ds)) (length p) f.at size (length-append (text_of ds) (40 ∷ 42 ∷ f.front));
+      left = remaining d.at (length (within d.is)) n (length f.front) (length f.rest) (ap length within_is ∙ ap length f.split ∙ length-append f.front f.rest) f.at;
+      ends = (refl, refl);
+      here = f.here;
+      inner = within_is ∙ f.split;
+      at = f.at;
+    }
   where
     in_order : (t o f v m es : Text) → t ++ ((o ++ ((f ++ v) ++ m)) ++ es) ≡ (t ++ (o ++ f)) ++ (v ++ (m ++ es))
     in_order t o f v m es = simp append_assoc refl
@@ -210,6 +229,17 @@ algorithm_there x ds es d n fine split first plain =
 
     remaining : (a w n f v : ℕ) → w ≡ f + v → n ≡ a + 2 + f → a + 2 + w - n ≡ v
     remaining a w n f v e g = omega arith
+
+pub fine_here : (x : Text) (ds es : List Located) (d : Located) → offences_of (walk x) ≡ [] → walk x ≡ ds ++ d ∷ es → segment_offences d.at d.is ≡ []
+fine_here x ds es d fine split =
+    (both_empty (segment_offences d.at d.is) (offences_of es) (both_empty (offences_of ds) (offences_of (d ∷ es)) (sym (offences_append ds (d ∷ es)) ∙ ap offences_of (sym split) ∙ fine)).1).0
+
+algorithm_there : (x : Text) (ds es : List Located) (d : Located) (n : ℕ) → offences_of (walk x) ≡ [] → walk x ≡ ds ++ d ∷ es → first_of (beginnings_in d) ≡ Some n
+    → only_large (algorithm_offences (Some (algorithm_at n (d.at + 2 + length (within d.is) - n) (drop n x)))) ≡ true
+    → TokAlgorithm x n (algorithm_at n (d.at + 2 + length (within d.is) - n) (drop n x)).rest.to (algorithm_tokens x (algorithm_at n (d.at + 2 + length (within d.is) - n) (drop n x)))
+algorithm_there x ds es d n fine split first plain =
+    let q = placed x ds es d n (fine_here x ds es d fine split) split first in
+    tokens_there x q.p q.v q.r n (d.at + 2 + length (within d.is) - n) q.text q.from q.left q.ends q.here plain
 
 pub algorithm_is_cut : (x : Text) (a : AlgorithmText) → offences_of (walk x) ≡ [] → algorithm_in x ≡ Some a → only_large (algorithm_offences (Some a)) ≡ true
     → TokAlgorithm x a.from a.rest.to (algorithm_tokens x a)

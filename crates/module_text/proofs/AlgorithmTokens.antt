@@ -114,7 +114,7 @@ pub record Found (p : Piece) (b : ℕ) (v : Text) : Type 0 where
   pub split : v ≡ m ++ rest
   pub fits : Fits p rest
 
-found_first : (p : Piece) (b : ℕ) (v : Text) → part_at b v ≡ sound p → Found p b v
+pub found_first : (p : Piece) (b : ℕ) (v : Text) → part_at b v ≡ sound p → Found p b v
 found_first p b v e = by (bytes_of p) refl
   where
     rest : Text
@@ -160,7 +160,7 @@ string_found v r p h e n = by (begins_with 34 rest) refl (unquoted raw) refl
         ap (part_at 34) c.1 ∙ quote_front raw c.0 w o ∙ sym x ∙ e
     by false k o oo = (let x : string_part raw rest ≡ open_string raw = rw k refl in absurd (no_open raw p (sym x ∙ e)))
 
-part_found : (b : ℕ) (v r : Text) (p : Piece) → Ends r → inner_part (length v) b (v ++ r) ≡ sound p → plain_piece p ≡ true → part_at b v ≡ sound p
+pub part_found : (b : ℕ) (v r : Text) (p : Piece) → Ends r → inner_part (length v) b (v ++ r) ≡ sound p → plain_piece p ≡ true → part_at b v ≡ sound p
 part_found b v r p h e n = by (nat_eq b 34) refl
   where
     choose : {k : Bool} → nat_eq b 34 ≡ k → part_at b (if k then v ++ r else take (length v) (v ++ r)) ≡ sound p
@@ -182,7 +182,7 @@ is_plain_part p = false
 abbrev pub are_plain : List IndexedPart → Bool
 are_plain ps = only_large (flat_map (λ p. part_offences true p.0 p.1) ps)
 
-large_parts : (os qs : List Offence) → only_large (os ++ qs) ≡ true → (only_large os ≡ true) × (only_large qs ≡ true)
+pub large_parts : (os qs : List Offence) → only_large (os ++ qs) ≡ true → (only_large os ≡ true) × (only_large qs ≡ true)
 large_parts [] qs h = (refl, h)
 large_parts (o ∷ os) qs h =
     let k = and_parts (is_large o) (only_large (os ++ qs)) h in
@@ -237,7 +237,7 @@ plain_part (bad_string raw) rest at f h =
 plain_part (open_string raw) rest at f h = absurd cc
 plain_part (open_block body) rest at f h = absurd cc
 
-plain_first : (at b : ℕ) (t : Text) → only_large (part_offences true at (part_at b t)) ≡ true → is_plain_part (part_at b t) ≡ true
+pub plain_first : (at b : ℕ) (t : Text) → only_large (part_offences true at (part_at b t)) ≡ true → is_plain_part (part_at b t) ≡ true
 plain_first at b t h = plain_part (part_at b t) (parts_text (parts_at (length (part_bytes (part_at b t)) - 1) t)) at (cut_fits (b ∷ t)).1.0 h
 
 pub record Cut (i : Inside) (n : ℕ) (v : Text) : Type 0 where
@@ -271,7 +271,7 @@ one_more p i n b v plain f c = record {
     sum : {u : ℕ} → u ≡ length (bytes_of p) + length (text_of c.pieces) → n + length (bytes_of p) + length (text_of c.pieces) ≡ n + u
     sum e = omega arith
 
-sound_of : (q : Part) → is_plain_part q ≡ true → (p : Piece) × (q ≡ sound p) × (plain_piece p ≡ true)
+pub sound_of : (q : Part) → is_plain_part q ≡ true → (p : Piece) × (q ≡ sound p) × (plain_piece p ≡ true)
 sound_of (sound p) h = (p, refl, h)
 sound_of (stray b) h = absurd cc
 sound_of (bad_string raw) h = absurd cc

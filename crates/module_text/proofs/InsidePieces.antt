@@ -31,7 +31,7 @@ pub no_open : (raw : Text) (p : Piece) → open_string raw ≡ sound p → ⊥
 no_open raw p e = cc
 
 -- what is found of a closed string doesn't rest on what is after it
-quoted : (s r : Text) (p : Piece) → part_at 34 s ≡ sound p → part_at 34 (s ++ r) ≡ sound p
+pub quoted : (s r : Text) (p : Piece) → part_at 34 s ≡ sound p → part_at 34 (s ++ r) ≡ sound p
 quoted s r p e = by (begins_with 34 rest) refl (unquoted raw) refl
   where
     raw : Text

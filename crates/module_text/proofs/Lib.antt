@@ -30,3 +30,4 @@ pub mod WalkSame
 pub mod AlgorithmTokens
 pub mod AlgorithmFound
 pub mod AlgorithmIsCut
+pub mod AlgorithmSame

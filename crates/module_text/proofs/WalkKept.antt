@@ -186,6 +186,7 @@ pub record HasPlace (x : Text) : Type 0 where
   pub ends : has_tail back ≡ true
   pub rest : List Located
   pub whole : walk x ≡ front ++ rest
+  pub found : find holds_algorithm rest ≡ find holds_algorithm back
   pub rest_text : Text
   pub written : (t w : Text) → IsInside t → WithTranslation x t w → IsWritten front back rest_text t w
 
@@ -216,6 +217,7 @@ new_place x f none =
       ends = line.ends;
       rest = back;
       whole = sym whole;
+      found = refl;
       rest_text = drop (line.end.at + 1) x;
       written = λ t w i a.
           (let p = inserted x t front back (sym whole) lined calm opened i common in
@@ -412,6 +414,7 @@ old_place x f old some = by (after_first (λ d. is_region d.is) (walk x)) refl (
           ends = tail_after (here ∷ []) es (rw here_tail refl) (tail_after (old ∷ []) (here ∷ es) (rw old_tail refl) (ap (λ (es : List Located). has_tail (old ∷ es)) (sym e) ∙ ends));
           rest = old ∷ here ∷ es;
           whole = walked;
+          found = none_held old here es (ap (within) is) (ap (within) new);
           rest_text = drop 1 (drop (old.at + length (bytes old.is)) x);
           written = λ t u i a.
               (let p = replaced x t v w front es old here walked is lined calm opened i in
@@ -432,6 +435,9 @@ old_place x f old some = by (after_first (λ d. is_region d.is) (walk x)) refl (
       where
         no_token : (d : Located) (es : List Located) → d.is ≡ newline_segment → tokens_in (d ∷ es) ≡ tokens_in es
         no_token d es n = rw n refl
+
+        none_held : (c d : Located) (es : List Located) → within c.is ≡ [] → within d.is ≡ [] → find holds_algorithm (c ∷ d ∷ es) ≡ find holds_algorithm es
+        none_held c d es n m = rw (n, m) refl
     by (here ∷ es) e g is = (let f : false ≡ true = sym (ap is_region is) ∙ is_old (walk x) some in absurd cc)
 
 pub has_place : (x : Text) → IsFine x → HasPlace x

@@ -12,7 +12,7 @@ ghost use Rattle.module_text.specs.FileOffences.{RefusesFile};
 ghost use Rattle.module_text.specs.TextFront.{Text};
 ghost use Rattle.module_text.specs.Walk.{State, Located, region, walk, walk_from, at_start, after_segment};
 ghost use Rattle.module_text.specs.WithTranslation.{begin_line, end_line, WithTranslation};
-ghost use Rattle.module_text.specs.laws.Kept.{IsFine, only_large, KeepsFile, IsPut};
+ghost use Rattle.module_text.specs.laws.Kept.{IsFine, only_large, KeepsFile, SameAlgorithm, IsPut};
 ghost use Rattle.module_text.specs.AlgorithmText.{AlgorithmText, algorithm_in, algorithm_tokens};
 ghost use Rattle.module_text.specs.FileOffences.{offences_of, algorithm_offences};
 ghost use Rattle.module_text.specs.laws.Walks.{text_of, is_lined, are_calm, after_all, after_text, IsOpen, IsInside, made, located, Near, Fit, Moved, are_common, Put};
@@ -84,11 +84,12 @@ pub fn translations_are_found_again()
 {}
 
 /// A translation that is put into a file which is not refused is one segment after the file's own, and what is after it is
-/// moved. The file keeps its title and its units, no segment of it breaks a rule, and another translation of it is one of
-/// the file that was read.
+/// moved. The file keeps its title, its units and its algorithm, no segment of it breaks a rule, and another translation of
+/// it is one of the file that was read.
 pub fn translations_keep_files()
     ensures place { (x t w : Text) → IsFine x → IsInside t → WithTranslation x t w → IsPut x t w }
     ensures kept { (x t w : Text) → IsFine x → IsInside t → WithTranslation x t w → KeepsFile x t w }
+    ensures algorithm { (x t w : Text) (a : AlgorithmText) → IsFine x → IsInside t → WithTranslation x t w → algorithm_in x ≡ Some a → (b : AlgorithmText) × (algorithm_in w ≡ Some b) × SameAlgorithm a b }
     ensures again { (x t w v u : Text) → IsFine x → IsInside t → IsInside v → WithTranslation x t w → WithTranslation w v u → WithTranslation x v u }
 {}
 

@@ -8,6 +8,7 @@ use Rattle.tla_token.specs.Tokens.{Token}
 use Rattle.module_text.specs.TextFront.{Text}
 use Rattle.module_text.specs.Walk.{Located, walk, at_start}
 use Rattle.module_text.specs.FileParts.{title, module_end, region_of, before_spot, after_spot}
+use Rattle.module_text.specs.AlgorithmText.{AlgorithmText}
 use Rattle.module_text.specs.FileUnits.{tokens_in}
 use Rattle.module_text.specs.FileOffences.{file_offences, offences_of}
 use Rattle.module_text.specs.WithTranslation.{begin_line, end_line}
@@ -46,3 +47,9 @@ pub record IsPut (x t w : Text) : Type 0 where
   pub is_front : before_spot (walk x) ≡ front
   pub bytes : w ≡ text_of front ++ (begin_line ++ (t ++ (end_line ++ 10 ∷ rest)))
   pub put : Put front back t (10 ∷ rest)
+
+-- the same first word, parts and end, wherever they are
+pub record SameAlgorithm (a b : AlgorithmText) : Type 0 where
+  pub opening : a.opening ≡ b.opening
+  pub parts : map (λ p. p.1) a.rest.parts ≡ map (λ p. p.1) b.rest.parts
+  pub stage : a.rest.stage ≡ b.rest.stage
