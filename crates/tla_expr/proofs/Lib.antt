@@ -35,3 +35,4 @@ pub mod ReadFunctions
 pub mod StopLaws
 pub mod RowsStops
 pub mod CountsLaws
+pub mod FitTokens
