@@ -36,3 +36,4 @@ pub mod StopLaws
 pub mod RowsStops
 pub mod CountsLaws
 pub mod FitTokens
+pub mod FitTrees
