@@ -10,6 +10,7 @@ mod RowsPool
 mod RowsReader
 mod RowsWritable
 pub mod ColumnsGood
+pub mod Placed
 pub mod ColumnsPut
 pub mod Columns
 pub mod SpelledTokens
