@@ -38,3 +38,4 @@ pub mod RowsStops
 pub mod CountsLaws
 pub mod FitTokens
 pub mod FitTrees
+pub mod PlacedGood
