@@ -39,3 +39,4 @@ pub mod CountsLaws
 pub mod FitTokens
 pub mod FitTrees
 pub mod PlacedGood
+pub mod PlacedTree
