@@ -40,3 +40,4 @@ pub mod FitTokens
 pub mod FitTrees
 pub mod PlacedGood
 pub mod PlacedTree
+pub mod WrittenGood

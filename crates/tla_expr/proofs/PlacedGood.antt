@@ -32,12 +32,12 @@ edge_of e (infix_of a p o b) g = edge_of e a g.3
 edge_of e (prefix_of p o a) g = g.2
 edge_of e a g = g.0
 
-no_list : (o : Op) (bs : Bullets) → Good 0 (flat (list o bs)) → ⊥
+pub no_list : (o : Op) (bs : Bullets) → Good 0 (flat (list o bs)) → ⊥
 no_list o (last_bullet p a) g = (let f : nat_lt 1 1 ≡ true = edge_of 1 a g.2.1 in cc)
 no_list o (bullet p a bs) g = (let f : nat_lt 1 1 ≡ true = edge_of 1 a g.2.1 in cc)
 
 -- ---- what an operator beside a phrase looks at
-head_flat : (a : Phrase) → head (flat a) ≡ head a
+pub head_flat : (a : Phrase) → head (flat a) ≡ head a
 head_flat (infix_of a p o b) = refl
 head_flat a = refl
 
@@ -75,7 +75,7 @@ primary_flat : (a : Phrase) (p q : Place) → Good 0 (flat a) → can_be_head (f
 primary_flat (list o bs) p q g h = absurd (no_list o bs g)
 primary_flat a p q g h = h
 
-some_flat : (path : Path) → is_some_path (moved_path first_column path) ≡ is_some_path path
+pub some_flat : (path : Path) → is_some_path (moved_path first_column path) ≡ is_some_path path
 some_flat path_end = refl
 some_flat path = refl
 
