@@ -41,3 +41,4 @@ pub mod FitTrees
 pub mod PlacedGood
 pub mod PlacedTree
 pub mod WrittenGood
+pub mod InText

@@ -212,3 +212,6 @@ mutual
 
 pub written_is_spelled : (t : Tree) → IsWritable t → AreSpelled (pieces t)
 written_is_spelled t w = tree_ok t w false [] tt
+
+pub part_is_spelled : (t : Tree) → IsWritable t → (o : Bool) → AreSpelled (part t o [])
+part_is_spelled t w o = tree_ok t w o [] tt
