@@ -6,6 +6,7 @@ use Rattle.tla_token.specs.declared.place.Place.{Place}
 use Rattle.tla_token.specs.Places.{after, place_at}
 use Rattle.tla_token.specs.Tokens.{Fits, AllFit, Tok, stretch}
 use Rattle.tla_token.specs.Tokens as text
+use Rattle.tla_token.proofs.Unique.{one_list}
 use Rattle.tla_token.proofs.OneLine.{lexeme_stays, after_right}
 use Rattle.tla_expr.specs.Tree.{Tree}
 use Rattle.tla_expr.specs.Lexical.{TokenView, Token, token_text}
@@ -18,6 +19,7 @@ use Rattle.tla_expr.specs.laws.Bracketed as b
 use Rattle.tla_expr.specs.laws.Writable.{IsWritable, AreSpelled}
 use Rattle.tla_expr.specs.laws.Placeless.{tree_placeless}
 use Rattle.tla_expr.specs.laws.InText.{ends_word, IsSpelling, IsCut}
+use Rattle.tla_expr.proofs.ReadAll.{spelled_is_read, one_phrase}
 use Rattle.tla_expr.proofs.SpelledTrees.{part_is_spelled}
 use Rattle.tla_expr.proofs.WrittenPhrase.{written_part}
 use Rattle.tla_expr.proofs.WrittenTree.{written_part_tree}
@@ -103,3 +105,30 @@ cut t o v =
       fit = λ rest a e. lexed_fit ps h rest a (written_fits (text.text_of rest) t v o e);
       spelling = λ edge p at r. spelled edge o t v (text.tokens_of p at (lexed ps h)) (lexed_kinds ps h p at) (lexed_right edge ps h p at r);
     }
+
+-- ---- the text of a tree alone
+all_of : (bytes : List ℕ) → stretch bytes 0 (length bytes) ≡ bytes
+all_of bytes = take_all (length bytes - 0) bytes (omega arith)
+
+pub read_back : (t : Tree) → IsWritable t → (ts : List text.Token) × Tok (written t) 0 (length (written t)) ts × IsSpelling 0 false t ts
+read_back t v =
+    let c = cut t false v in
+    let F : List text.Piece → Type 0 = λ ps. AllFit ps in (
+      text.tokens_of (place_at (written t) 0) 0 c.pieces,
+      record { pieces = c.pieces; cut = all_of (written t) ∙ sym c.bytes; fit = subst F (append-nil c.pieces) (c.fit [] tt refl); tokens = refl },
+      c.spelling 0 (place_at (written t) 0) 0 refl,
+    )
+
+spelling_of : (t : Tree) (ts : List text.Token) → IsWritable t → Tok (written t) 0 (length (written t)) ts → IsSpelling 0 false t ts
+spelling_of t ts v k =
+    let r = read_back t v in
+    subst (λ (us : List text.Token). IsSpelling 0 false t us) (one_list (written t) 0 (length (written t)) r.0 ts r.1 k) r.2
+
+pub only_tree : (t u : Tree) (ts : List text.Token) → IsWritable t → Tok (written t) 0 (length (written t)) ts → Spells (views ts) u → tree_placeless u ≡ tree_placeless t
+only_tree t u ts v k (b, g, s, e) =
+    let p = spelling_of t ts v k in
+    let same : b ≡ p.phrase = one_phrase 0 b p.phrase g p.good (sym s ∙ p.tokens) in
+    ap tree_placeless (sym e) ∙ ap (λ (c : Phrase). tree_placeless (tree_of c)) same ∙ p.tree
+
+pub reads_back : (t : Tree) (ts : List text.Token) → IsWritable t → Tok (written t) 0 (length (written t)) ts → (a : Phrase) × (read 0 (views ts) ≡ Ok (a, [])) × (tree_placeless (tree_of a) ≡ tree_placeless t)
+reads_back t ts v k = (let p = spelling_of t ts v k in (p.phrase, ap (λ (us : List Token). read 0 us) p.tokens ∙ spelled_is_read 0 p.phrase p.good, p.tree))

@@ -42,3 +42,4 @@ pub mod PlacedGood
 pub mod PlacedTree
 pub mod WrittenGood
 pub mod InText
+pub mod SpellAppend
