@@ -26,7 +26,7 @@ use Rattle.tla_expr.proofs.WrittenTree.{written_part_tree}
 use Rattle.tla_expr.proofs.WrittenGood.{written_good}
 use Rattle.tla_expr.proofs.FitTrees.{Fit, written_fits}
 use Rattle.tla_expr.proofs.Placed.{looks_by, place}
-use Rattle.tla_expr.proofs.PlacedGood.{first_column, flat, head_flat, AllRight, placed_good}
+use Rattle.tla_expr.proofs.PlacedGood.{first_column, flat, head_flat, no_end_list, AllRight, placed_good}
 use Rattle.tla_expr.proofs.PlacedTree.{tree_moved}
 use Rattle.tla_expr.proofs.Operands.{operand_primary}
 
@@ -92,6 +92,7 @@ spelled edge o t v ts k r =
       good = placed_good edge w.again flat_good (subst (λ (us : List Token). AllRight edge us) found r);
       tokens = found;
       tree = sym (tree_moved first_column w.again) ∙ ap (λ (c : Phrase). tree_placeless (tree_of c)) w.same ∙ tree_moved first_column a ∙ written_part_tree t v o;
+      unlisted = no_end_list w.again flat_good;
       operand = λ e. sym (head_flat w.again) ∙ ap head w.same ∙ head_flat a ∙ ap (λ (x : Bool). head (b.part t x)) e ∙ operand_primary t;
     }
 

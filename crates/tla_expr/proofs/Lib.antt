@@ -43,3 +43,4 @@ pub mod PlacedTree
 pub mod WrittenGood
 pub mod InText
 pub mod SpellAppend
+pub mod Following

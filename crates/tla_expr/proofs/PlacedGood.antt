@@ -50,7 +50,7 @@ short_flat : (a : Phrase) → is_short (flat a) ≡ is_short a
 short_flat (prefix_of p o a) = short_flat a
 short_flat a = refl
 
-no_end_list : (a : Phrase) → Good 0 (flat a) → end_list a ≡ None
+pub no_end_list : (a : Phrase) → Good 0 (flat a) → end_list a ≡ None
 no_end_list (list o bs) g = absurd (no_list o bs g)
 no_end_list (infix_of a p o b) g = no_end_list b g.5
 no_end_list (prefix_of p o a) g = no_end_list a g.3
