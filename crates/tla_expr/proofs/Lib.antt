@@ -10,6 +10,7 @@ mod RowsPool
 mod RowsReader
 mod RowsWritable
 pub mod ColumnsGood
+pub mod Placed
 pub mod ColumnsPut
 pub mod Columns
 pub mod SpelledTokens
@@ -36,3 +37,11 @@ pub mod StopLaws
 pub mod RowsStops
 pub mod CountsLaws
 pub mod BracketCounts
+pub mod FitTokens
+pub mod FitTrees
+pub mod PlacedGood
+pub mod PlacedTree
+pub mod WrittenGood
+pub mod InText
+pub mod SpellAppend
+pub mod Following

@@ -4,6 +4,7 @@ use Rattle.tla_token.specs.declared.place.Place.{Place}
 use Rattle.tla_expr.specs.Lexical.{TokenView, Token, token}
 use Rattle.tla_expr.specs.Lexical as tk
 use Rattle.tla_expr.specs.Spelling.{Phrase}
+pub use Rattle.tla_expr.specs.laws.Following.{is_tail, NoTail}
 use Rattle.tla_expr.specs.Reader.{Out, then_read, next, Readers, one_step, readers, goes_on, postfix_by, climb_by}
 
 -- with k steps, and with more, it gives o
@@ -20,13 +21,6 @@ pub same : {A : Type 0} (f g : Readers → Out A) (o : Out A) {k : ℕ} → ((r 
 same f g o e h n l = e (readers n) ∙ h n l
 
 -- ---- where a loop ends
-abbrev pub is_tail : TokenView → Bool
-is_tail (tk.mark tk.open_square) = true
-is_tail (tk.mark tk.dot) = true
-is_tail (tk.mark tk.open_bracket) = true
-is_tail (tk.mark tk.prime) = true
-is_tail k = false
-
 abbrev pub goes_by : ℕ → Phrase → Place → TokenView → Bool
 goes_by b a p (tk.sign o) = goes_on b a p o
 goes_by b a p k = false
@@ -34,9 +28,6 @@ goes_by b a p k = false
 -- no operator above this rank goes on
 abbrev pub Stays : ℕ → ℕ → Phrase → List Token → Type 0
 Stays e b a ts = goes_by b a (next e ts).place (next e ts).kind ≡ false
-
-abbrev pub NoTail : ℕ → List Token → Type 0
-NoTail e ts = is_tail (next e ts).kind ≡ false
 
 postfix_stops : (r : Readers) (e : ℕ) (a : Phrase) (p : Place) (k : TokenView) (ts : List Token) → is_tail k ≡ false → postfix_by r e a p k ts ≡ Ok (a, ts)
 postfix_stops r e a p (tk.mark tk.open_square) ts h = absurd cc

@@ -11,6 +11,7 @@ use Rattle.tla_expr.specs.Spelling.{Phrase, list, quantified, if_then_else, case
 use Rattle.tla_expr.specs.Spelling.{Bullets, last_bullet, bullet, Arms, last_arm, other_arm, arm}
 use Rattle.tla_expr.specs.Spelling.{Good, GoodBullets, GoodArms, first_bullet, takes_box, last_takes_box, Right, head, is_above, is_applied, is_short, ends_open, end_list, is_behind, can_be_left, applied, primary, open_form, Head}
 use Rattle.tla_expr.specs.Reader.{next, end, is_sign, Context, free, right_of, under, bound, fits, is_free}
+pub use Rattle.tla_expr.specs.laws.Following.{is_calm, Calm}
 use Rattle.tla_expr.proofs.ReadSoon.{is_tail, NoTail, Stays, goes_by}
 
 -- None: a short form
@@ -47,12 +48,6 @@ abbrev mutual
   ArmsStop e (other_arm a p b q r s c) ts = Stops e (Some free) c ts × Stays e 0 c ts
   ArmsStop e (arm a p b q xs) ts = ArmsStop e xs ts
 
--- a token that goes on nothing
-abbrev pub is_calm : TokenView → Bool
-is_calm (tk.sign o) = false
-is_calm (tk.mark tk.box) = false
-is_calm k = not (is_tail k)
-
 calm_tail : (k : TokenView) → is_calm k ≡ true → is_tail k ≡ false
 calm_tail (tk.sign o) h = refl
 calm_tail (tk.mark tk.box) h = refl
@@ -69,9 +64,6 @@ calm_bullet o b k h = refl
 calm_box : (k : TokenView) → is_calm k ≡ true → is_box k ≡ false
 calm_box (tk.mark tk.box) h = absurd cc
 calm_box k h = refl
-
-abbrev pub Calm : ℕ → List Token → Type 0
-Calm e ts = is_calm (next e ts).kind ≡ true
 
 pub calm_stays : (e b : ℕ) (a : Phrase) (ts : List Token) → Calm e ts → Stays e b a ts
 calm_stays e b a ts h = calm_by b a (next e ts).place (next e ts).kind h

@@ -157,7 +157,7 @@ one_character b bs rest h u = quote (nat_eq b 34) refl
     quote true e = rw (sym (at 34 e)) (rw u refl)
     quote false e = slash e (nat_eq b 92) refl
 
-escapes_read : (x : Word) → IsString x → unquoted (escapes x) ≡ Some x
+pub escapes_read : (x : Word) → IsString x → unquoted (escapes x) ≡ Some x
 escapes_read [] h = refl
 escapes_read (b ∷ bs) h = (let k = and_parts (is_spellable b) (list_all is_spellable bs) h in one_character b bs (escapes bs) k.0 (escapes_read bs k.1))
 

@@ -24,11 +24,11 @@ Write [] = Unit {0}
 Write (a ∷ xs) = Writes a × Write xs
 
 -- ---- lists of words
-each_left : (P : Word → Type 0) (xs ys : List Word) → Each P (xs ++ ys) → Each P xs
+pub each_left : (P : Word → Type 0) (xs ys : List Word) → Each P (xs ++ ys) → Each P xs
 each_left P [] ys h = tt
 each_left P (x ∷ xs) ys h = (h.0, each_left P xs ys h.1)
 
-each_right : (P : Word → Type 0) (xs ys : List Word) → Each P (xs ++ ys) → Each P ys
+pub each_right : (P : Word → Type 0) (xs ys : List Word) → Each P (xs ++ ys) → Each P ys
 each_right P [] ys h = h
 each_right P (x ∷ xs) ys h = each_right P xs ys h.1
 
@@ -198,7 +198,7 @@ part_ok m xs h true ps s = by (is_bracketed m)
     by true = (mark_spelled tk.open_bracket, h _ (mark_spelled tk.close_bracket, s))
     by false = h ps s
 
-counted : (ts : Trees) → count ts ≡ length (parts ts)
+pub counted : (ts : Trees) → count ts ≡ length (parts ts)
 counted no_trees = refl
 counted (tree t ts) = omega (arith, counted ts)
 
@@ -212,3 +212,6 @@ mutual
 
 pub written_is_spelled : (t : Tree) → IsWritable t → AreSpelled (pieces t)
 written_is_spelled t w = tree_ok t w false [] tt
+
+pub part_is_spelled : (t : Tree) → IsWritable t → (o : Bool) → AreSpelled (part t o [])
+part_is_spelled t w o = tree_ok t w o [] tt

@@ -350,3 +350,6 @@ mutual
 
 pub written_phrase : (t : Tree) → IsWritable t → kinds (spell (b.phrase_of t) []) ≡ tokens_of (w.pieces t)
 written_phrase t v = tree_same t v false [] [] refl
+
+pub written_part : (t : Tree) → IsWritable t → (o : Bool) → kinds (spell (b.part t o) []) ≡ tokens_of (w.part t o [])
+written_part t v o = tree_same t v o [] [] refl

@@ -354,3 +354,6 @@ mutual
 
 pub written_tree : (t : Tree) → IsWritable t → tree_placeless (tree_of (b.phrase_of t)) ≡ tree_placeless t
 written_tree t v = has_tree t v false
+
+pub written_part_tree : (t : Tree) → IsWritable t → (o : Bool) → tree_placeless (tree_of (b.part t o)) ≡ tree_placeless t
+written_part_tree t v o = has_tree t v o

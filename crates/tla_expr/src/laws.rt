@@ -1,16 +1,21 @@
 //! Laws of expressions, stated as what functions without a body ensure.
 
-ghost use Rattle.std.specs.Prelude.{◌≡◌, ◌++◌, ℕ, List, [], length, map, Some, Ok};
+ghost use Rattle.std.specs.Prelude.{◌≡◌, ◌++◌, ℕ, Bool, true, false, List, [], length, map, Some, None, Ok};
 ghost use Rattle.tla_expr.specs.Tree.{Tree};
 ghost use Rattle.tla_expr.specs.Lexical.{Token};
-ghost use Rattle.tla_expr.specs.Spelling.{Phrase, spell, tree_of, Good, IsGood, Spells, head, primary};
+ghost use Rattle.tla_expr.specs.Spelling.{Phrase, spell, tree_of, Good, IsGood, Spells, head, primary, end_list};
 ghost use Rattle.tla_expr.specs.Reader.{read};
 ghost use Rattle.tla_token.specs.declared.place.Place.{Place};
 ghost use Rattle.tla_token.specs.declared.rule.Refusal.{Refusal};
 ghost use Rattle.tla_expr.specs.Nesting.{counts};
 ghost use Rattle.tla_expr.specs.FirstStop.{looks, Begins, phrases, RefusesExpression};
 ghost use Rattle.tla_expr.specs.laws.Columns.{lineless};
-ghost use Rattle.tla_expr.specs.Written.{pieces};
+ghost use Rattle.tla_expr.specs.Written.{pieces, written};
+ghost use Rattle.tla_token.specs.Tokens as text;
+ghost use Rattle.tla_token.specs.Tokens.{Tok};
+ghost use Rattle.tla_expr.specs.TokenViews.{views};
+ghost use Rattle.tla_expr.specs.laws.InText.{IsSpelling, IsCut};
+ghost use Rattle.tla_expr.specs.laws.Following.{Calm, NoTail};
 ghost use Rattle.tla_expr.specs.laws.Writable.{IsWritable, AreSpelled};
 ghost use Rattle.tla_expr.specs.laws.Placeless.{tree_placeless};
 ghost use Rattle.tla_expr.specs.laws.Bracketed.{as_operand, part, phrase_of, kinds, tokens_of};
@@ -56,4 +61,24 @@ pub fn trees_are_written_in_tokens()
     ensures phrase { (t : Tree) → IsWritable t → kinds (spell (phrase_of t) []) ≡ tokens_of (pieces t) }
     ensures tree { (t : Tree) → IsWritable t → tree_placeless (tree_of (phrase_of t)) ≡ tree_placeless t }
     ensures operand { (t : Tree) → head (as_operand (part t)) ≡ primary }
+{}
+
+/// What is written of a tree, as an operand or not, is cut into just its tokens wherever it is before what begins with no byte of a word; and these tokens,
+/// in whatever place they begin and right of whatever edge, spell that tree, places aside; as an operand they spell a primary.
+pub fn written_trees_are_spelled()
+    ensures { (t : Tree) (is_operand : Bool) → IsWritable t → IsCut is_operand t }
+{}
+
+/// The text of a tree has tokens that spell that tree, places aside; what they spell is no other tree, and it is read of them.
+pub fn written_trees_are_read_back()
+    ensures tokens { (t : Tree) → IsWritable t → (ts : List text.Token) × Tok (written t) 0 (length (written t)) ts × IsSpelling 0 false t ts }
+    ensures only { (t u : Tree) (ts : List text.Token) → IsWritable t → Tok (written t) 0 (length (written t)) ts → Spells (views ts) u → tree_placeless u ≡ tree_placeless t }
+    ensures read { (t : Tree) (ts : List text.Token) → IsWritable t → Tok (written t) 0 (length (written t)) ts → (a : Phrase) × (read 0 (views ts) ≡ Ok (a, [])) × (tree_placeless (tree_of a) ≡ tree_placeless t) }
+{}
+
+/// Where the tokens that spell a tree are before tokens that go on with no expression, no other expression is there; and where those of an operand are before
+/// tokens that go on with no primary, as operators are, no other primary is there that is no list by columns.
+pub fn written_trees_end_where_they_do()
+    ensures whole { (edge : ℕ) (is_operand : Bool) (t : Tree) (ts : List text.Token) → IsSpelling edge is_operand t ts → (b : Phrase) (r s : List Token) → Good edge b → Calm edge r → Calm edge s → views ts ++ r ≡ spell b s → (tree_placeless (tree_of b) ≡ tree_placeless t) × (r ≡ s) }
+    ensures operand { (edge : ℕ) (t : Tree) (ts : List text.Token) → IsSpelling edge true t ts → (b : Phrase) (r s : List Token) → Good edge b → head b ≡ primary → end_list b ≡ None → NoTail edge r → NoTail edge s → views ts ++ r ≡ spell b s → (tree_placeless (tree_of b) ≡ tree_placeless t) × (r ≡ s) }
 {}
