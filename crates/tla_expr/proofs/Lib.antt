@@ -35,3 +35,7 @@ pub mod ReadFunctions
 pub mod StopLaws
 pub mod RowsStops
 pub mod CountsLaws
+pub mod Alike
+pub mod AlikeSteps
+pub mod Farthest
+pub mod SpellAhead
