@@ -39,3 +39,5 @@ pub mod Alike
 pub mod AlikeSteps
 pub mod Farthest
 pub mod SpellAhead
+pub mod Mended
+pub mod MendedBraces
