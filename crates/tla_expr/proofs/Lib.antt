@@ -41,3 +41,5 @@ pub mod Farthest
 pub mod SpellAhead
 pub mod Mended
 pub mod MendedBraces
+pub mod MendedForms
+pub mod MendedLists
