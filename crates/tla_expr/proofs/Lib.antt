@@ -45,3 +45,11 @@ pub mod WrittenGood
 pub mod InText
 pub mod SpellAppend
 pub mod Following
+pub mod Alike
+pub mod AlikeSteps
+pub mod Farthest
+pub mod SpellAhead
+pub mod Mended
+pub mod MendedBraces
+pub mod MendedForms
+pub mod MendedLists

@@ -21,50 +21,50 @@ use Rattle.tla_expr.proofs.SoundPhrases.{Fitting, IsPrime, IsGroup, Sound, from_
 use Rattle.tla_expr.proofs.SoundBraces.{braces_sound, tuples_sound, squares_sound, bind_rest_sound}
 
 -- ---- where a phrase may be
-or_true : (x : Bool) → (x || true) ≡ true
+pub or_true : (x : Bool) → (x || true) ≡ true
 or_true true = refl
 or_true false = refl
 
-above_all : (o : Op) (h : Head) → is_primary h ≡ true → is_above o h ≡ true
+pub above_all : (o : Op) (h : Head) → is_primary h ≡ true → is_above o h ≡ true
 above_all o primary k = refl
 above_all o (applied q) k = absurd cc
 above_all o open_form k = absurd cc
 
-prime_fits : (c : Context) (a : Phrase) → is_primary (head a) ≡ true → fits c a ≡ true
+pub prime_fits : (c : Context) (a : Phrase) → is_primary (head a) ≡ true → fits c a ≡ true
 prime_fits free a k = refl
 prime_fits (right_of o) a k = rw (above_all o (head a) k) refl
 prime_fits (under o) a k = rw (above_all o (head a) k) refl
 
-prime_short : (a : Phrase) → is_primary (head a) ≡ true → is_short a ≡ true
+pub prime_short : (a : Phrase) → is_primary (head a) ≡ true → is_short a ≡ true
 prime_short (prefix_of p o a) k = absurd cc
 prime_short a k = k
 
-open_fits : (c : Context) (a : Phrase) → is_open (head a) ≡ true → fits c a ≡ true
+pub open_fits : (c : Context) (a : Phrase) → is_open (head a) ≡ true → fits c a ≡ true
 open_fits free a k = refl
 open_fits (right_of o) a k = rw k (or_true (is_above o (head a)))
 open_fits (under o) a k = rw (k, or_true (is_applied o (head a))) (or_true (is_above o (head a)))
 
-short_under : (o : Op) (a : Phrase) → is_short a ≡ true → can_be_under o a ≡ true
+pub short_under : (o : Op) (a : Phrase) → is_short a ≡ true → can_be_under o a ≡ true
 short_under o a k = rw (k, or_true (is_open (head a)), or_true (is_applied o (head a))) (or_true (is_above o (head a)))
 
 -- a prefix operator, with a short form or in a place where it is free
-short_fits : (c : Context) (p : Place) (q : Op) (a : Phrase) → is_short a ≡ true → fits c (prefix_of p q a) ≡ true
+pub short_fits : (c : Context) (p : Place) (q : Op) (a : Phrase) → is_short a ≡ true → fits c (prefix_of p q a) ≡ true
 short_fits free p q a k = refl
 short_fits (right_of o) p q a k = rw k (or_true (is_above o (applied q)))
 short_fits (under o) p q a k = rw (k, or_true (same_op o q)) (or_true (is_above o (applied q)))
 
-free_fits : (c : Context) (p : Place) (q : Op) (a : Phrase) → is_free c q ≡ true → fits c (prefix_of p q a) ≡ true
+pub free_fits : (c : Context) (p : Place) (q : Op) (a : Phrase) → is_free c q ≡ true → fits c (prefix_of p q a) ≡ true
 free_fits free p q a k = refl
 free_fits (right_of o) p q a k = rw k refl
 free_fits (under o) p q a k = elim (or_cases (nat_lt (rank o).1 (rank q).0) (same_op o q) k) [ inl i ↦ rw i refl | inr i ↦ rw i (or_true (nat_lt (rank o).1 (rank q).0)) ]
 
-infix_fits : (c : Context) (a : Phrase) (p : Place) (o : Op) (d : Phrase) → nat_lt (bound c) (rank o).0 ≡ true → fits c (infix_of a p o d) ≡ true
+pub infix_fits : (c : Context) (a : Phrase) (p : Place) (o : Op) (d : Phrase) → nat_lt (bound c) (rank o).0 ≡ true → fits c (infix_of a p o d) ≡ true
 infix_fits free a p o d k = refl
 infix_fits (right_of q) a p o d k = rw k refl
 infix_fits (under q) a p o d k = rw k refl
 
 -- the prefix operator of a sign
-prefix_is : (o q : Op) → prefix_by o ≡ Some q → (is_prefix q ≡ true) × (sign_of q ≡ tk.sign o)
+pub prefix_is : (o q : Op) → prefix_by o ≡ Some q → (is_prefix q ≡ true) × (sign_of q ≡ tk.sign o)
 prefix_is op.Minus q h = (let it : op.Negate ≡ q = cc in rw (sym it) (refl, refl))
 prefix_is op.Not q h = (let it : op.Not ≡ q = cc in rw (sym it) (refl, refl))
 prefix_is op.Subset q h = (let it : op.Subset ≡ q = cc in rw (sym it) (refl, refl))

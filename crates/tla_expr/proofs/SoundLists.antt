@@ -114,7 +114,7 @@ module _ (r : Readers) (h : Sound r) where
       given (λ d vs. IsPath e ts d vs) z.3 ((n.0, w.0, i.0), rw (i.1, w.1, n.1) refl)
   path_sound e p k ts path us s o = given (λ d vs. IsPath e ts d vs) o (tt, refl)
 
-  bullet_sound : (e : ℕ) (o : Op) (c : ℕ) (ts : List Token) (p : Place) (us : List Token) → take e (bullet_of o c) ts ≡ Ok (p, us) → Right e p × (p.col ≡ c) × (token p (tk.sign o) ∷ us ≡ ts)
+  pub bullet_sound : (e : ℕ) (o : Op) (c : ℕ) (ts : List Token) (p : Place) (us : List Token) → take e (bullet_of o c) ts ≡ Ok (p, us) → Right e p × (p.col ≡ c) × (token p (tk.sign o) ∷ us ≡ ts)
   bullet_sound e o c ts p us i =
       let w = take_ok e (bullet_of o c) ts p us i in
       let v = if_some (is_sign o (next e ts).kind && nat_eq c (next e ts).place.col) (next e ts).place p w.0 in
@@ -238,7 +238,7 @@ no_steps_sound = record {
   locals = λ e ts ls us o. absurd cc;
 }
 
-sound : (n : ℕ) → Sound (readers n)
+pub sound : (n : ℕ) → Sound (readers n)
 unfolding readers
 sound zero = no_steps_sound
 sound (suc n) = step_sound (readers n) (sound n)

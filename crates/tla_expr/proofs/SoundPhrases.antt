@@ -98,7 +98,7 @@ element_is e p x q gp gq a b g h = whole_element e p x q a b gp gq g h
 
 module _ (r : Readers) (h : Sound r) where
   -- ---- names
-  named_sound : (e : ℕ) (p : Place) (x : Word) → Right e p → (q : Place) (k : TokenView) (ts : List Token) (a : Phrase) (us : List Token) → next e ts ≡ token q k → named r e p x q k ts ≡ Ok (a, us) → IsPrime e (word p x ts) a us
+  pub named_sound : (e : ℕ) (p : Place) (x : Word) → Right e p → (q : Place) (k : TokenView) (ts : List Token) (a : Phrase) (us : List Token) → next e ts ≡ token q k → named r e p x q k ts ≡ Ok (a, us) → IsPrime e (word p x ts) a us
   named_sound e p x g q (tk.mark tk.open_bracket) ts a us s o =
       let n = seen e ts q (tk.mark tk.open_bracket) s refl in
       let v = then_ok o in

@@ -1,6 +1,6 @@
 //! Laws of expressions, stated as what functions without a body ensure.
 
-ghost use Rattle.std.specs.Prelude.{◌≡◌, ◌++◌, ℕ, Bool, true, false, List, [], length, map, Some, None, Ok};
+ghost use Rattle.std.specs.Prelude.{◌≡◌, ◌++◌, ℕ, Bool, true, false, List, [], ◌∷◌, length, map, Some, None, Ok, Err};
 ghost use Rattle.tla_expr.specs.Tree.{Tree};
 ghost use Rattle.tla_expr.specs.Lexical.{Token};
 ghost use Rattle.tla_expr.specs.Spelling.{Phrase, spell, tree_of, Good, IsGood, Spells, head, primary, end_list};
@@ -31,6 +31,14 @@ pub fn expressions_are_spelled_in_one_way()
 pub fn reading_is_exact()
     ensures sound { (edge : ℕ) (ts rest : List Token) (a : Phrase) → read edge ts ≡ Ok (a, rest) → Good edge a × (ts ≡ spell a rest) }
     ensures complete { (edge : ℕ) (a : Phrase) → Good edge a → read edge (spell a []) ≡ Ok (a, []) }
+{}
+
+/// What is read is the farthest, and a refusal is not early: no spelled expression begins with the tokens through the one at which
+/// reading stops, whatever comes after them; and what is refused, at a token or at the end, is no expression.
+pub fn nothing_passes_where_reading_stops()
+    ensures read { (edge : ℕ) (ts : List Token) (a : Phrase) (t : Token) (rest : List Token) → read edge ts ≡ Ok (a, t ∷ rest) → (passed : List Token) → ts ≡ passed ++ t ∷ rest → Begins (phrases edge) (map Some (looks (passed ++ t ∷ []))) → ⊥ }
+    ensures refused { (edge : ℕ) (ts : List Token) (t : Token) (rest : List Token) → read edge ts ≡ Err (t ∷ rest) → (passed : List Token) → ts ≡ passed ++ t ∷ rest → Begins (phrases edge) (map Some (looks (passed ++ t ∷ []))) → ⊥ }
+    ensures unspelled { (edge : ℕ) (ts rest : List Token) → read edge ts ≡ Err rest → (a : Phrase) → Good edge a → ts ≡ spell a [] → ⊥ }
 {}
 
 /// Whether tokens spell an expression, and which, rests on their kinds and columns alone: tokens of other lines spell the same
