@@ -44,3 +44,4 @@ pub mod WrittenGood
 pub mod InText
 pub mod SpellAppend
 pub mod Following
+pub mod WritingLemmas

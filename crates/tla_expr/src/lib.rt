@@ -10,12 +10,14 @@ pub mod node;
 pub mod op;
 pub mod pool;
 pub mod seen;
+pub mod write;
 
 pub use name::{Name, NameList, PlacedName, Text};
 pub use node::{Node, NodeId};
 pub use op::{Binder, Op, rank};
 pub use pool::Pool;
 pub use seen::Seen;
+pub use write::{write_expr, write_operand};
 
 #[cfg(test)]
 mod tests {
