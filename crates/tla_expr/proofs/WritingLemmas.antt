@@ -1,10 +1,12 @@
 -- Items that are put one after the other, and what they show.
-use Rattle.std.proofs.Common.{◌≡◌, ℕ, zero, suc, ◌+◌, ◌-◌, ◌<◌, ◌≤◌, Bool, true, false, nat_lt, List, [], ◌∷◌, ◌++◌, length, drop, take, map, get_or, Some, refl, sym, ap, subst, ◌∙◌, arith, append_assoc, length-drop, Vec}
+use Rattle.std.proofs.Common.{◌≡◌, ℕ, zero, suc, ◌+◌, ◌-◌, ◌<◌, ◌≤◌, Bool, true, false, nat_lt, List, [], ◌∷◌, ◌++◌, length, drop, take, map, get_or, Some, refl, sym, ap, subst, ◌∙◌, arith, append_assoc, append-nil, length-drop, Vec}
 use Rattle.std.specs.declared.alloc.Global.{Global}
 use Rattle.std.proofs.lemmas.List.{length-map}
 use Rattle.std.specs.Prelude.{slice_get}
 use Rattle.std.proofs.lemmas.Bool.{ltb-true, lt-ltb, both_ways}
+use Rattle.tla_token.specs.Words.{is_pluscal_word}
 use Rattle.tla_expr.specs.declared.write.Fixed.TheVariants as fixed
+use Rattle.tla_expr.proofs.FitTokens.{field_text}
 use Rattle.tla_expr.specs.declared.write.Item.{Item}
 use Rattle.tla_expr.specs.declared.write.Item.TheVariants as item
 use Rattle.tla_expr.specs.declared.op.Op.{Op}
@@ -14,10 +16,11 @@ use Rattle.tla_expr.specs.declared.op.Binder.{Binder}
 use Rattle.tla_expr.specs.declared.op.Binder.TheVariants as binder
 use Rattle.tla_expr.specs.FormOf.{groups_of}
 use Rattle.tla_expr.specs.Shapes.{operands, subscripts, settings, IsPaired, CaseShaped, BinderShaped}
-use Rattle.tla_expr.specs.Tree.{Word, Name, PathStep, Slot, Tree}
+use Rattle.tla_expr.specs.Tree.{Word, Name, PathStep, Slot, Form, Tree, Trees, node, no_trees, size, sizes}
+use Rattle.tla_expr.specs.TreeOf.{list_of, root_form, root_parts}
 use Rattle.tla_expr.specs.Tree as tree
 use Rattle.tla_expr.specs.Lexical as tk
-use Rattle.tla_expr.specs.Written.{Piece, blank, token, Part, mark, word, field, spaced, comma, prefix_sign, infix_sign, infix_pieces, choice_pieces, listed, field_pieces, name_pieces, bind_pieces, definition_pieces, body, path_pieces, right_side, slot_pieces, strict_pieces, arm_pieces, part}
+use Rattle.tla_expr.specs.Written.{Piece, blank, token, Part, mark, word, field, spaced, comma, prefix_sign, infix_sign, infix_pieces, choice_pieces, listed, field_pieces, name_pieces, bind_pieces, definition_pieces, body, path_pieces, right_side, slot_pieces, strict_pieces, arm_pieces, form_pieces, is_bracketed, bracketed, form_part, part, parts, text_of}
 use Rattle.tla_expr.specs.Writing.{part_at, item_pieces, shown, comma_items, blank_items, box_items, slots_behind, IsTwice}
 
 pub shown_append : (xs : List Part) (is js : List Item) (ps : List Piece) → shown xs (is ++ js) ps ≡ shown xs js (shown xs is ps)
@@ -190,6 +193,10 @@ map_get f (y ∷ ys) (suc k) d = map_get f ys k d
 pub map_next : {A B : Type 0} (f : A → B) (ys : List A) (i : ℕ) (y : A) → y ≡ get_or ys (i - 1) y → 0 < i → i ≤ length ys → drop (i - 1) (map f ys) ≡ f y ∷ drop i (map f ys)
 map_next f ys i y e p l = drop_next (map f ys) i (f y) p (omega (arith, l, length-map ys f)) ∙ (λ j. (sym (map_get f ys (i - 1) y) ∙ ap f (sym e)) j ∷ drop i (map f ys))
 
+pub drop_none : {A : Type 0} (ys : List A) → drop 0 ys ≡ ys
+drop_none [] = refl
+drop_none (y ∷ ys) = refl
+
 -- ---- CASE
 pub other_shown : (xs : List Part) (i : ℕ) → length xs ≡ suc i → (ps : List Piece) → token (tk.key tk.other_key) ∷ spaced (tk.mark tk.arrow) (part_at xs i true ps) ≡ arm_pieces true (drop i xs) ps
 other_shown xs i h ps = (let r = part_drop xs i (omega (arith, h)) in last (drop (suc i) xs) (length-drop (suc i) xs) ∙ ap (λ (l : List Part). arm_pieces true l ps) (sym r))
@@ -320,3 +327,28 @@ pub part_past : (ts : List Tree) (i : ℕ) (b : Bool) (ps : List Piece) → leng
 part_past [] i b ps h = refl
 part_past (t ∷ ts) zero b ps h = absurd (omega (arith, h))
 part_past (t ∷ ts) (suc i) b ps h = part_past ts i b ps (omega (arith, h))
+
+parts_listed : (ts : Trees) → parts ts ≡ map part (list_of ts)
+parts_listed no_trees = refl
+parts_listed (tree.tree t ts) = ap (λ (l : List Part). part t ∷ l) (parts_listed ts)
+
+pub part_is : (t : Tree) (b : Bool) (ps : List Piece) → form_part (root_form t) (map part (root_parts t)) b ps ≡ part t b ps
+part_is (node m at ts) b ps = ap (λ (xs : List Part). form_part m xs b ps) (sym (parts_listed ts))
+
+sizes_less : (ts : Trees) (i : ℕ) (r : Tree) → slice_get (list_of ts) i ≡ Some r → size r ≤ sizes ts
+sizes_less no_trees i r h = absurd cc
+sizes_less (tree.tree t ts) zero r h = (let e : t ≡ r = cc in omega (arith, ap size e))
+sizes_less (tree.tree t ts) (suc i) r h = (let l = sizes_less ts i r h in omega (arith, l))
+
+pub part_less : (t : Tree) (i : ℕ) (r : Tree) → slice_get (root_parts t) i ≡ Some r → size r < size t
+part_less (node m at ts) i r h = (let l = sizes_less ts i r h in omega (arith, l))
+
+pub field_written : (old new bytes : List ℕ) (x : Word) → new ≡ old ++ bytes → bytes ≡ x → (ps : List Piece) → new ++ text_of ps ≡ old ++ text_of (field x ps)
+field_written old new bytes x e b ps = ap (λ (l : List ℕ). l ++ text_of ps) e ∙ append_assoc old bytes (text_of ps) ∙ ap (λ (l : List ℕ). old ++ (l ++ text_of ps)) (b ∙ sym (field_text (is_pluscal_word x) x))
+
+pub bracketed_part : (m : Form) (xs : List Part) (o : Bool) → o ≡ true → is_bracketed m ≡ true → (ps : List Piece) → mark tk.open_bracket (form_pieces m xs (mark tk.close_bracket ps)) ≡ form_part m xs o ps
+bracketed_part m xs o e b ps = ap (λ (k : Bool). bracketed k (form_pieces m xs) ps) (sym b) ∙ ap (λ (k : Bool). form_part m xs k ps) (sym e)
+
+-- what is written, with nothing behind it
+pub all_written : (old new bytes : List ℕ) (t u : Tree) (b : Bool) → old ≡ [] → bytes ≡ new → u ≡ t → ((ps : List Piece) → new ++ text_of ps ≡ old ++ text_of (part u b ps)) → bytes ≡ text_of (part t b [])
+all_written old new bytes t u b o e s h = e ∙ sym (append-nil new) ∙ h [] ∙ ap (λ (l : List ℕ). l ++ text_of (part u b [])) o ∙ ap (λ (v : Tree). text_of (part v b [])) s

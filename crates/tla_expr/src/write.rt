@@ -158,6 +158,12 @@ fn is_bracketed(form: &Form) -> bool
     }
 }
 
+fn truth(sense: bool) -> Fixed
+    ensures { fixed_token result ≡ tk.constant (tk.truth sense) }
+{
+    if sense { Fixed::True } else { Fixed::False }
+}
+
 // ---- items, from the last one to the first
 
 fn put_comma_if(more: bool, plan: &mut Vec<Item<'_>>) -> Result<(), AllocError>
@@ -550,8 +556,7 @@ fn put_form<'a>(form: &'a Form, n: usize, plan: &mut Vec<Item<'a>>) -> Result<()
     match form {
         Form::Number(n) => plan.push(Item::Number(*n))?,
         Form::Quote(text) => plan.push(Item::Quote(text))?,
-        Form::Truth(true) => plan.push(Item::Fixed(Fixed::True))?,
-        Form::Truth(false) => plan.push(Item::Fixed(Fixed::False))?,
+        Form::Truth(sense) => plan.push(Item::Fixed(truth(*sense)))?,
         Form::Booleans => plan.push(Item::Fixed(Fixed::Booleans))?,
         Form::Strings => plan.push(Item::Fixed(Fixed::Strings))?,
         Form::Name(name) => plan.push(Item::Word(name))?,
@@ -579,6 +584,29 @@ fn put_form<'a>(form: &'a Form, n: usize, plan: &mut Vec<Item<'a>>) -> Result<()
         }
         Form::Binding(binder, groups) => put_binding(*binder, groups, plan)?,
         Form::Local(names) => put_local(names, plan)?,
+    }
+    Ok(())
+}
+
+fn put_part<'a>(
+    form: &'a Form,
+    operand: bool,
+    n: usize,
+    plan: &mut Vec<Item<'a>>,
+) -> Result<(), AllocError>
+    requires { Shaped (form_of form.now) n }
+    ensures { OnOk result (Puts n plan.old.items plan.new.items (λ xs. pure.form_part (form_of form.now) xs operand)) }
+{
+    if operand {
+        if is_bracketed(form) {
+            plan.push(Item::Fixed(Fixed::CloseBracket))?;
+            put_form(form, n, plan)?;
+            plan.push(Item::Fixed(Fixed::OpenBracket))?;
+        } else {
+            put_form(form, n, plan)?;
+        }
+    } else {
+        put_form(form, n, plan)?;
     }
     Ok(())
 }
@@ -651,16 +679,9 @@ fn write_part(
 ) -> Result<(), AllocError>
     ensures { OnOk result (Writes into.old into.new (part e.now operand)) }
 {
-    let form = e.form();
-    let brackets = operand && is_bracketed(form);
     let mut plan = Vec::new(alloc);
-    if brackets {
-        plan.push(Item::Fixed(Fixed::CloseBracket))?;
-    }
-    put_form(form, e.len(), &mut plan)?;
-    if brackets {
-        plan.push(Item::Fixed(Fixed::OpenBracket))?;
-    }
+    e.shaped();
+    put_part(e.form(), operand, e.len(), &mut plan)?;
     while let Some(item) = plan.pop() {
         write_item(alloc, e, item, into)?;
     }
