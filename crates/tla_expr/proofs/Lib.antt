@@ -45,3 +45,4 @@ pub mod InText
 pub mod SpellAppend
 pub mod Following
 pub mod WritingLemmas
+pub mod RowsWriting

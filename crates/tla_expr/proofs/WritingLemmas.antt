@@ -5,10 +5,8 @@ use Rattle.std.proofs.lemmas.List.{length-map}
 use Rattle.std.specs.Prelude.{slice_get}
 use Rattle.std.proofs.lemmas.Bool.{ltb-true, lt-ltb, both_ways}
 use Rattle.tla_token.specs.Words.{is_pluscal_word}
-use Rattle.tla_expr.specs.declared.write.Fixed.TheVariants as fixed
 use Rattle.tla_expr.proofs.FitTokens.{field_text}
 use Rattle.tla_expr.specs.declared.write.Item.{Item}
-use Rattle.tla_expr.specs.declared.write.Item.TheVariants as item
 use Rattle.tla_expr.specs.declared.op.Op.{Op}
 use Rattle.tla_expr.specs.declared.op.Op.TheVariants as op
 use Rattle.tla_expr.specs.Rank.{is_prefix}

@@ -169,7 +169,12 @@ mod tests {
             "\"a\\\"\\\\\\t\\n\\f\\r\"",
         ))?;
         rows.push((Form::Truth(true), Vec::new(alloc), "TRUE", "TRUE"))?;
-        rows.push((Form::Both, Vec::from_array(alloc, [a, b])?, "a /\\ b", "(a /\\ b)"))?;
+        rows.push((
+            Form::Both,
+            Vec::from_array(alloc, [a, b])?,
+            "a /\\ b",
+            "(a /\\ b)",
+        ))?;
         rows.push((
             Form::Strict(Strict::Operator(Op::Negate)),
             Vec::from_array(alloc, [a])?,

@@ -290,10 +290,7 @@ fn put_names<'a>(names: &'a [PlacedName], plan: &mut Vec<Item<'a>>) -> Result<()
     Ok(())
 }
 
-fn put_binds<'a>(
-    groups: &'a [Vec<PlacedName>],
-    plan: &mut Vec<Item<'a>>,
-) -> Result<(), AllocError>
+fn put_binds<'a>(groups: &'a [Vec<PlacedName>], plan: &mut Vec<Item<'a>>) -> Result<(), AllocError>
     ensures { OnOk result (Puts (suc (length groups.now)) plan.old.items plan.new.items (bind_pieces (groups_of groups.now))) }
 {
     let mut i = groups.len();
@@ -364,10 +361,7 @@ fn put_blank_if(more: bool, plan: &mut Vec<Item<'_>>) -> Result<(), AllocError>
     Ok(())
 }
 
-fn put_definitions<'a>(
-    names: &'a [PlacedName],
-    plan: &mut Vec<Item<'a>>,
-) -> Result<(), AllocError>
+fn put_definitions<'a>(names: &'a [PlacedName], plan: &mut Vec<Item<'a>>) -> Result<(), AllocError>
     ensures { OnOk result (Puts (suc (length names.now)) plan.old.items plan.new.items (definition_pieces names.now)) }
 {
     let mut i = names.len();
@@ -423,11 +417,7 @@ fn put_path<'a>(
     Ok(first)
 }
 
-fn put_slots<'a>(
-    slots: &'a [Slot],
-    n: usize,
-    plan: &mut Vec<Item<'a>>,
-) -> Result<(), AllocError>
+fn put_slots<'a>(slots: &'a [Slot], n: usize, plan: &mut Vec<Item<'a>>) -> Result<(), AllocError>
     requires { n ≡ suc (settings (slots_of slots.now)) }
     ensures { OnOk result (Puts n plan.old.items plan.new.items (slots_behind (slots_of slots.now))) }
 {
@@ -456,12 +446,7 @@ fn put_other(i: usize, plan: &mut Vec<Item<'_>>) -> Result<(), AllocError>
 }
 
 // The arms before those from `from` on, of n parts.
-fn put_pairs(
-    other: bool,
-    from: usize,
-    n: usize,
-    plan: &mut Vec<Item<'_>>,
-) -> Result<(), AllocError>
+fn put_pairs(other: bool, from: usize, n: usize, plan: &mut Vec<Item<'_>>) -> Result<(), AllocError>
     requires within { from ≤ n }
     requires paired { IsTwice from }
     ensures { OnOk result (PutsArms other from n plan.old.items plan.new.items) }
@@ -490,11 +475,7 @@ fn put_arms(other: bool, n: usize, plan: &mut Vec<Item<'_>>) -> Result<(), Alloc
     Ok(())
 }
 
-fn put_strict<'a>(
-    strict: &'a Strict,
-    n: usize,
-    plan: &mut Vec<Item<'a>>,
-) -> Result<(), AllocError>
+fn put_strict<'a>(strict: &'a Strict, n: usize, plan: &mut Vec<Item<'a>>) -> Result<(), AllocError>
     requires { StrictShaped (strict_of strict.now) n }
     ensures { OnOk result (Puts n plan.old.items plan.new.items (strict_pieces (strict_of strict.now))) }
 {
@@ -671,12 +652,7 @@ fn write_item(
 }
 
 #[cycle(write)]
-fn write_part(
-    alloc: Global,
-    e: &Seen<'_>,
-    operand: bool,
-    into: &mut Text,
-) -> Result<(), AllocError>
+fn write_part(alloc: Global, e: &Seen<'_>, operand: bool, into: &mut Text) -> Result<(), AllocError>
     ensures { OnOk result (Writes into.old into.new (part e.now operand)) }
 {
     let mut plan = Vec::new(alloc);
@@ -693,12 +669,7 @@ fn write_part(
 /// # Errors
 ///
 /// Only for want of memory; the text is then as before.
-pub fn write_expr(
-    alloc: Global,
-    pool: &Pool,
-    e: NodeId,
-    into: &mut Text,
-) -> Result<(), AllocError>
+pub fn write_expr(alloc: Global, pool: &Pool, e: NodeId, into: &mut Text) -> Result<(), AllocError>
     requires { e < length pool.now }
     ensures ok { OnOk result (into.new ≡ into.old ++ written (at pool.now e)) }
     ensures err { OnErr result (into.new ≡ into.old) }

@@ -1,5 +1,5 @@
 -- Proves what is asked of `write_item` and `write_part`.
-use Rattle.std.proofs.Common.{◌≡◌, ◌≤◌, ℕ, List, [], ◌∷◌, ◌++◌, arith, sym, ap, subst, ◌∙◌, length}
+use Rattle.std.proofs.Common.{◌≡◌, ℕ, List, [], ◌∷◌, ◌++◌, arith, sym, ap, subst, ◌∙◌, length}
 use Rattle.std.proofs.lemmas.List.{length-map}
 use Rattle.tla_expr.specs.declared.write.Item.{Item}
 use Rattle.tla_expr.specs.Tree.{Form}

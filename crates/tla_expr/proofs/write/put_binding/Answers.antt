@@ -1,5 +1,5 @@
 -- Proves what is asked of `put_binding`.
-use Rattle.std.proofs.Common.{◌≡◌, ◌∷◌, arith, sym, ap, subst, ◌∙◌, length}
+use Rattle.std.proofs.Common.{◌∷◌, sym, ap, ◌∙◌}
 use Rattle.tla_expr.specs.Writing.{shown}
 use Rattle.std.proofs.Common.{true, false}
 use Rattle.tla_expr.specs.Lexical as tk

@@ -1,5 +1,4 @@
 -- Proves what is asked of `put_choice`.
-use Rattle.std.proofs.Common.{◌≡◌, arith, sym, ap, ◌∙◌, length}
 use Rattle.tla_expr.specs.Writing.{shown}
 use Rattle.tla_expr.proofs.WritingLemmas.{shown_append, choice_shown}
 use Rattle.tla_expr.proofs.write.put_choice.Goals as goal

@@ -1,5 +1,5 @@
 -- Proves what is asked of `put_listed`.
-use Rattle.std.proofs.Common.{◌≡◌, arith, sym, ap, ◌∙◌, length}
+use Rattle.std.proofs.Common.{arith}
 use Rattle.tla_expr.specs.Writing.{shown}
 use Rattle.tla_expr.proofs.WritingLemmas.{shown_append, listed_next}
 use Rattle.tla_expr.proofs.write.put_listed.Goals as goal

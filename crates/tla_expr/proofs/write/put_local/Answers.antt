@@ -1,5 +1,5 @@
 -- Proves what is asked of `put_local`.
-use Rattle.std.proofs.Common.{◌≡◌, ◌∷◌, false, arith, sym, ap, subst, ◌∙◌, length}
+use Rattle.std.proofs.Common.{◌∷◌, false, ap}
 use Rattle.tla_expr.specs.Writing.{shown}
 use Rattle.tla_expr.specs.Lexical as tk
 use Rattle.tla_expr.specs.Written.{Part, blank, token, spaced, definition_pieces}

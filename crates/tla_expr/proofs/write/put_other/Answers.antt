@@ -1,5 +1,4 @@
 -- Proves what is asked of `put_other`.
-use Rattle.std.proofs.Common.{◌≡◌, ◌∷◌, arith, sym, ap, subst, ◌∙◌, length}
 use Rattle.tla_expr.specs.Writing.{shown}
 use Rattle.tla_expr.proofs.WritingLemmas.{shown_append, other_shown}
 use Rattle.tla_expr.proofs.write.put_other.Goals as goal

@@ -10,7 +10,7 @@ loop-i-preserved c =
       omega (arith, inv.0),
       (inv.1.0 - 1, omega (arith, inv.1.1, c.loop-i-test.true)),
       λ xs h ps end e. rw (c.in_ok-push-2.ensures.items, c.in_ok-put_spaced.ensures, c.in_ok-push.ensures.items, c.in_ok-put_box_if.ensures)
-      (simp shown_append (rw (inv.2 xs h ps end e) (arms_next c.args.other xs c.args.n c.loop-i.i h (omega (arith, c.loop-i-test.true)) inv.0 end))),
+          (simp shown_append (rw (inv.2 xs h ps end e) (arms_next c.args.other xs c.args.n c.loop-i.i h (omega (arith, c.loop-i-test.true)) inv.0 end))),
     )
 
 pub returns : goal.returns

@@ -1,11 +1,9 @@
 -- Proves what is asked of `put_path`.
-use Rattle.std.proofs.Common.{◌≡◌, ◌∷◌, arith, sym, ap, subst, ◌∙◌, length}
-use Rattle.tla_expr.specs.Writing.{shown}
+use Rattle.std.proofs.Common.{◌∷◌, arith, sym, ap, ◌∙◌}
 use Rattle.std.proofs.Common.{◌-◌, ◌≤◌, drop}
 use Rattle.tla_expr.specs.Shapes.{subscripts}
 use Rattle.tla_expr.specs.declared.form.Step.{Step}
 use Rattle.tla_expr.specs.FormOf.{step_of, steps_of}
-use Rattle.tla_expr.specs.Tree.{PathStep}
 use Rattle.tla_expr.specs.Written.{path_pieces}
 use Rattle.tla_expr.proofs.WritingLemmas.{shown_append, map_next, part_next, subscripts_less}
 use Rattle.tla_expr.proofs.write.put_path.Goals as goal
@@ -26,7 +24,7 @@ loop-i-preserved-in-Continue-branch-3 c =
       (
         omega (arith, inv.1.0, less, ap subscripts step),
         λ xs l ps rest e. rw (c.in_ok-push-in-Index-3.ensures.items, c.in_ok-push-in-Index-2.ensures.items, c.in_ok-push-in-Index.ensures.items)
-        (simp shown_append (rw (inv.1.1 xs l ps rest e) (λ j. path_pieces (sym step j) (sym (part_next xs c.loop-i.first less (omega (arith, l, inv.1.0))) j) rest))),
+            (simp shown_append (rw (inv.1.1 xs l ps rest e) (λ j. path_pieces (sym step j) (sym (part_next xs c.loop-i.first less (omega (arith, l, inv.1.0))) j) rest))),
       ),
     )
 
@@ -39,6 +37,6 @@ loop-i-preserved c =
       (
         omega (arith, inv.1.0, ap subscripts step),
         λ xs l ps rest e. rw (c.in_ok-push-in-Field-2.ensures.items, c.in_ok-push-in-Field.ensures.items)
-        (simp shown_append (rw (inv.1.1 xs l ps rest e) (λ j. path_pieces (sym step j) (drop c.loop-i.first xs) rest))),
+            (simp shown_append (rw (inv.1.1 xs l ps rest e) (λ j. path_pieces (sym step j) (drop c.loop-i.first xs) rest))),
       ),
     )

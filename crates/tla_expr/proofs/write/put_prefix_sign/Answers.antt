@@ -1,5 +1,5 @@
 -- Proves what is asked of `put_prefix_sign`.
-use Rattle.std.proofs.Common.{◌≡◌, arith, sym, ap, ◌∙◌, length}
+use Rattle.std.proofs.Common.{sym, ap}
 use Rattle.tla_expr.specs.declared.op.Op.{Op}
 use Rattle.tla_expr.specs.Written.{prefix_sign}
 use Rattle.tla_expr.specs.Writing.{shown}

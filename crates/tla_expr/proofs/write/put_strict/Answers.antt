@@ -1,5 +1,5 @@
 -- Proves what is asked of `put_strict`.
-use Rattle.std.proofs.Common.{◌≡◌, ◌∷◌, arith, sym, ap, subst, ◌∙◌, length}
+use Rattle.std.proofs.Common.{arith, sym, ap, subst, ◌∙◌, length}
 use Rattle.tla_expr.specs.Writing.{shown}
 use Rattle.tla_expr.specs.declared.form.Strict.{Strict}
 use Rattle.tla_expr.specs.FormOf.{strict_of, slots_of}
