@@ -53,3 +53,5 @@ pub mod Mended
 pub mod MendedBraces
 pub mod MendedForms
 pub mod MendedLists
+pub mod WritingLemmas
+pub mod RowsWriting
