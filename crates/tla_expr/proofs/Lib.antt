@@ -43,3 +43,8 @@ pub mod Mended
 pub mod MendedBraces
 pub mod MendedForms
 pub mod MendedLists
+pub mod SlowCounts
+pub mod StopsThere
+pub mod AlikeEnds
+pub mod AlikeEndsSteps
+mod RowsRefused
