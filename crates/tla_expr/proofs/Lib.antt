@@ -55,3 +55,8 @@ pub mod MendedForms
 pub mod MendedLists
 pub mod WritingLemmas
 pub mod RowsWriting
+pub mod SlowCounts
+pub mod StopsThere
+pub mod AlikeEnds
+pub mod AlikeEndsSteps
+mod RowsRefused
