@@ -1,5 +1,5 @@
 -- Worked examples of whole files, by computation.
-use Rattle.std.specs.Prelude.{◌≡◌, ℕ, ◌+◌, List, [], ◌∷◌, ◌++◌, length, false, Option, Some, None, codes}
+use Rattle.std.specs.Prelude.{◌≡◌, ℕ, ◌+◌, List, [], ◌∷◌, ◌++◌, length, Bool, true, false, Option, Some, None, codes}
 use Rattle.std.proofs.Common.{refl}
 use Rattle.tla_token.specs.declared.rule.Rule.{Rule}
 use Rattle.tla_token.specs.declared.rule.Rule.TheVariants.{NotAscii, BadToken, OpenComment, OpenString, NoModule, NoAlgorithm, TwoAlgorithms, BadRegion, Placement, Options, NumberTooBig}
@@ -11,7 +11,7 @@ use Rattle.module_text.specs.TextFront.{Text, on_some}
 use Rattle.module_text.specs.Walk.{walk}
 use Rattle.module_text.specs.FileParts.{title, region_of, spot, before_spot, after_spot, inside_region}
 use Rattle.module_text.specs.WithTranslation.{WithTranslation, Swapped}
-use Rattle.module_text.specs.AlgorithmText.{Stage, open_p, past_p, past_c, algorithm_in, algorithm_tokens}
+use Rattle.module_text.specs.AlgorithmText.{Stage, open_p, past_p, past_c, is_c, algorithm_in, algorithm_tokens}
 use Rattle.module_text.specs.FileUnits.{units_in}
 use Rattle.module_text.specs.FileOffences.{file_offences}
 
@@ -227,3 +227,14 @@ translated_again = record { at = record { from = 70; to = 113 }; is_spot = refl;
 
 swapped : Swapped (head ++ codes "(* --algorithm A { } *)\n" ++ foot) (codes "B") (head ++ codes "(* B *)\n" ++ foot)
 swapped = record { old = _; is_old = refl; is = refl }
+
+-- whether a brace follows the algorithm's name
+abbrev in_c : Text → Option Bool
+in_c x = on_some (algorithm_in x) (λ a. Some (is_c a.rest.stage))
+
+in_p_syntax : in_c (head ++ algorithm_text ++ foot) ≡ Some false
+in_p_syntax = refl
+
+-- also where its end is missing
+in_c_syntax : in_c (head ++ codes "(*\n--algorithm A { { L: skip; }\n*)\n" ++ foot) ≡ Some true
+in_c_syntax = refl
