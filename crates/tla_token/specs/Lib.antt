@@ -6,3 +6,7 @@ pub mod Lexemes
 pub mod Tokens
 pub mod Offences
 pub mod Cut
+pub mod Scan
+pub mod Readings
+pub mod TokensSeen
+pub mod Scanning

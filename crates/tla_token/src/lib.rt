@@ -1,10 +1,15 @@
 //! Texts of TLA+ modules: places, tokens and the rules by which a module is refused.
 #![tactic(auto)]
 
+pub mod bytes;
+pub mod fault;
 pub mod laws;
+pub mod part;
 pub mod place;
 pub mod rule;
+pub mod scan;
 pub mod sign;
+pub mod token;
 
 pub use place::Place;
 pub use rule::{Refusal, Rule, Stop};
