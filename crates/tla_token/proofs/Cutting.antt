@@ -334,7 +334,7 @@ marks_cut b bs filled no_mark none wordless d back = by (sign_at (b ∷ bs)) ref
 
 -- ---- all parts
 
-front_cut : (b : ℕ) (bs : List ℕ) → Cut (b ∷ bs)
+pub front_cut : (b : ℕ) (bs : List ℕ) → Cut (b ∷ bs)
 front_cut b bs =
     by (is_blank b) refl (nat_eq b 34) refl (starts_with nat_eq (b ∷ bs) (codes "(*")) refl (starts_with nat_eq (b ∷ bs) (codes "\\*")) refl
     (list_any is_letter (run is_word (b ∷ bs))) refl (is_digit b) refl (nat_eq b 92 && list_any is_letter (run is_word bs)) refl

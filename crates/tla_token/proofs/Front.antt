@@ -46,7 +46,7 @@ pub line_front : (body rest : List ℕ) → list_all (λ b. not (nat_eq b 10)) b
 line_front body rest h e = ap (λ (bs : List ℕ). sound (line bs)) (line_run body rest h e)
 
 -- ---- strings
-in_front_some : (o : Option ℕ) (p : Option (List ℕ)) (w : List ℕ) → in_front o p ≡ Some w → (b : ℕ) × (v : List ℕ) × (o ≡ Some b) × (p ≡ Some v)
+pub in_front_some : (o : Option ℕ) (p : Option (List ℕ)) (w : List ℕ) → in_front o p ≡ Some w → (b : ℕ) × (v : List ℕ) × (o ≡ Some b) × (p ≡ Some v)
 in_front_some (Some b) (Some v) w e = (b, v, refl, refl)
 in_front_some (Some b) None w e = absurd cc
 in_front_some None p w e = absurd cc

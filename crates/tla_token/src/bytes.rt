@@ -86,6 +86,13 @@ pub fn number_len(text: &[u8]) -> usize
     text.iter().take_while(|b| is_digit(**b)).count()
 }
 
+pub fn blank_len(text: &[u8]) -> usize
+    ensures value { result ≡ length (run is_blank text.now) }
+    ensures bound { result ≤ length text.now }
+{
+    text.iter().take_while(|b| is_blank(**b)).count()
+}
+
 /// How many bytes there are before the line's end.
 pub fn line_len(text: &[u8]) -> usize
     ensures { result ≡ length (run (λ b. not (nat_eq b 10)) text.now) }

@@ -1,6 +1,6 @@
 //! Places in a text.
 
-ghost use Rattle.std.specs.Prelude.{◌≡◌, ◌+◌, ◌*◌, ◌-◌, ◌^◌, ◌<◌, ◌≤◌, length};
+ghost use Rattle.std.specs.Prelude.{◌≡◌, ◌+◌, ◌*◌, ◌^◌, ◌<◌, ◌≤◌, length};
 ghost use Rattle.tla_token.specs.Places.{step, after, place_at};
 
 /// A place in a text: line and column, both from 1. A column counts bytes; a tab goes to the next
@@ -15,7 +15,9 @@ pub struct Place {
 pub fn place_of(text: &[u8], at: usize) -> Place
     requires within { at ≤ length text.now }
     requires small { length text.now < 2 ^ 29 }
-    ensures { result ≡ place_at text.now at }
+    ensures value { result ≡ place_at text.now at }
+    ensures line { result.line ≤ 1 + at }
+    ensures col { result.col ≤ 1 + 8 * at }
 {
     place_after(Place { line: 1, col: 1 }, &text[..at])
 }

@@ -1,17 +1,19 @@
 //! Scanning: the tokens of a stretch of a text, or the offence that counts in it.
 
-ghost use Rattle.std.specs.Prelude.{◌≡◌, ◌+◌, ◌-◌, ◌^◌, ◌<◌, ◌≤◌, ◌++◌, [], None, Some, length, drop, map, option_map, IfOk, Err};
+ghost use Rattle.std.specs.Prelude.{◌≡◌, ℕ, List, ◌+◌, ◌-◌, ◌^◌, ◌<◌, ◌≤◌, ◌++◌, [], None, Some, length, take, drop, map, option_map, is_some, true, IfOk, Err};
 ghost use Rattle.tla_token.specs.declared.rule.Refusal as code;
 ghost use Rattle.tla_token.specs.Places.{place_at};
 ghost use Rattle.tla_token.specs.Tokens.{stretch, Tok};
 ghost use Rattle.tla_token.specs.Cut.{parts};
+ghost use Rattle.tla_token.specs.Scan.{is_quoted, inner, front};
+ghost use Rattle.tla_token.specs.Lexemes.{unquoted};
 ghost use Rattle.tla_token.specs.Readings.{first_offence, IsRefused, names_algorithm, opening_of, AreTokens, given_offence, IsGivenRefused};
-ghost use Rattle.tla_token.specs.TokensSeen.{token_seen, tokens_seen, lexemes_of};
-ghost use Rattle.tla_token.specs.Scanning.{Stands, GoesOn};
+ghost use Rattle.tla_token.specs.TokensSeen.{kind_seen, token_seen, tokens_seen};
+ghost use Rattle.tla_token.specs.Scanning.{token_at, lexemes_of, Stands, GoesOn};
 
-use crate::bytes::is_blank;
+use crate::bytes::blank_len;
 use crate::fault::{Reading, part_fault, sooner};
-use crate::part::part_at;
+use crate::part::{Class, Part, part_at};
 use crate::place::{Place, place_after, place_of};
 use crate::rule::{Refusal, Rule, Stop};
 use crate::token::{Kind, Span, Token, Tokens, kind_at};
@@ -115,10 +117,11 @@ fn opening(text: &[u8]) -> Option<usize>
 }
 
 // Whether blanks and `algorithm` are in front.
+#[tactic(auto, using(crate::proofs::Scans::blanks_before, crate::proofs::Scans::no_blanks))]
 fn names_algorithm(text: &[u8]) -> bool
     ensures { result ≡ names_algorithm text.now }
 {
-    let n = text.iter().take_while(|b| is_blank(**b)).count();
+    let n = blank_len(text);
     n > 0 && text[n..].starts_with(b"algorithm")
 }
 
@@ -183,21 +186,72 @@ fn next(
     match part_at(&bytes[scan.at..], &mut wordless) {
         None => Ok(None),
         Some(part) => {
-            let piece = &bytes[scan.at..scan.at + part.len];
-            let at = from + scan.at;
-            if let Some(kind) = kind_at(bytes, scan.at, part) {
-                items.push(Token {
-                    kind,
-                    at,
-                    place: scan.place,
-                })?;
-            }
-            Ok(Some(Scan {
-                at: scan.at + part.len,
-                place: place_after(scan.place, piece),
-                wordless: wordless.saturating_sub(part.len),
-                fault: sooner(scan.fault, part_fault(part.class, piece, at, reading)),
-            }))
+            let here = Scan {
+                at: scan.at,
+                place: scan.place,
+                wordless,
+                fault: scan.fault,
+            };
+            let there = past(alloc, bytes, from, reading, here, part, items)?;
+            Ok(Some(there))
         }
     }
+}
+
+// Past the part in front.
+fn past(
+    alloc: Global,
+    bytes: &[u8],
+    from: usize,
+    reading: Reading,
+    scan: Scan,
+    part: Part,
+    items: &mut Vec<Token>,
+) -> Result<Scan, AllocError>
+    requires stands { Stands from bytes.now scan }
+    requires small { from + length bytes.now < 2 ^ 29 }
+    requires part { Some part ≡ front (drop scan.at bytes.now) }
+    ensures { IfOk result (λ s. GoesOn reading from bytes.now (map (token_seen bytes.now) items.old.items) (map (token_seen bytes.now) items.new.items) scan (Some s)) }
+{
+    let piece = piece_of(&bytes[scan.at..], part);
+    let at = from + scan.at;
+    let kind = kind_at(bytes, scan.at, part);
+    let place = place_after(scan.place, piece);
+    let fault = sooner(scan.fault, part_fault(part.class, piece, at, reading));
+    keep(items, kind, at, scan.place)?;
+    Ok(Scan {
+        at: scan.at + part.len,
+        place,
+        wordless: scan.wordless.saturating_sub(part.len),
+        fault,
+    })
+}
+
+// The bytes of the part in front.
+#[tactic(auto, using(crate::proofs::Scans::part_within, crate::proofs::Scans::part_size, crate::proofs::Scans::part_some, crate::proofs::Scans::part_quoted, crate::proofs::Scans::part_text))]
+fn piece_of(rest: &[u8], part: Part) -> &[u8]
+    requires { Some part ≡ front rest.now }
+    ensures value { result.now ≡ take part.len rest.now }
+    ensures size { length result.now ≡ part.len }
+    ensures within { part.len ≤ length rest.now }
+    ensures some { 0 < part.len }
+    ensures quoted { is_quoted part.class ≡ true → 2 ≤ part.len }
+    ensures text { part.class ≡ Class.Text → is_some (unquoted (inner result.now)) ≡ true }
+{
+    &rest[..part.len]
+}
+
+// Adds a token, where there is one.
+fn keep(
+    items: &mut Vec<Token>,
+    kind: Option<Kind>,
+    at: usize,
+    place: Place,
+) -> Result<(), AllocError>
+    ensures { (bytes : List ℕ) → IfOk result (λ u. map (token_seen bytes) items.new.items ≡ map (token_seen bytes) items.old.items ++ token_at place at (option_map (kind_seen bytes) kind)) }
+{
+    if let Some(kind) = kind {
+        items.push(Token { kind, at, place })?;
+    }
+    Ok(())
 }

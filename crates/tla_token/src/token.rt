@@ -1,8 +1,8 @@
 //! Tokens of a text.
 
-ghost use Rattle.std.specs.Prelude.{◌≡◌, ◌+◌, ◌≤◌, length, take, drop, option_map};
+ghost use Rattle.std.specs.Prelude.{◌≡◌, true, ◌+◌, ◌≤◌, length, take, drop, option_map};
 ghost use Rattle.tla_token.specs.declared.part.Class as class;
-ghost use Rattle.tla_token.specs.Scan.{part_of};
+ghost use Rattle.tla_token.specs.Scan.{is_quoted, part_of};
 ghost use Rattle.tla_token.specs.TokensSeen.{kind_seen, part_kind, span_bytes};
 
 use crate::bytes::number_value;
@@ -77,7 +77,7 @@ fn head(bytes: &[u8], n: usize) -> &[u8]
 #[tactic(auto, using(crate::proofs::TokenKinds::span_whole, crate::proofs::TokenKinds::span_inner, crate::proofs::TokenKinds::number_fits))]
 pub fn kind_at(bytes: &[u8], at: usize, part: Part) -> Option<Kind>
     requires within { at + part.len ≤ length bytes.now }
-    requires quoted { part.class ≡ Class.Text → 2 ≤ part.len }
+    requires quoted { is_quoted part.class ≡ true → 2 ≤ part.len }
     ensures { option_map (kind_seen bytes.now) result ≡ part_kind (part_of part.class (take part.len (drop at bytes.now))) }
 {
     let span = Span {

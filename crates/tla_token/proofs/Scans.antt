@@ -1,0 +1,205 @@
+-- One step of a scanner, and what it has found at the end.
+use Rattle.std.proofs.Common.{◌≡◌, ℕ, zero, suc, ◌+◌, ◌-◌, ◌<◌, ◌≤◌, ◌||◌, min, nat_le, Bool, true, false, nat_eq, codes, List, [], ◌∷◌, ◌++◌, length, take, drop, map, Option, Some, None, is_some, refl, sym, ap, subst, ◌∙◌, arith, append_assoc, append-nil, length-append}
+use Rattle.std.specs.List.{list_any, starts_with}
+use Rattle.std.proofs.Math.Seq.{drop-nil, take-add}
+use Rattle.std.proofs.lemmas.List.{take-append-drop, drop_all, drop-take, length-take-le}
+use Rattle.std.proofs.lemmas.Bool.{or_parts, leb-true, leb-false}
+use Rattle.tla_token.specs.declared.place.Place.{Place}
+use Rattle.tla_token.specs.declared.rule.Rule.{Rule}
+use Rattle.tla_token.specs.declared.fault.Reading.{Reading}
+use Rattle.tla_token.specs.declared.fault.Reading.TheVariants as reading
+use Rattle.tla_token.specs.declared.part.Class.TheVariants as class
+use Rattle.tla_token.specs.declared.part.Part as code
+use Rattle.tla_token.specs.declared.scan.Scan.{Scan}
+use Rattle.tla_token.specs.Places.{step, after, start, place_at}
+use Rattle.tla_token.specs.Lexemes.{is_word, is_letter, is_blank, unquoted}
+use Rattle.tla_token.specs.Tokens.{Token, stretch}
+use Rattle.tla_token.specs.Offences.{Part, part_bytes, Offence, least, offences, part_offences}
+use Rattle.tla_token.specs.Cut.{run, parts}
+use Rattle.tla_token.specs.Scan.{is_quoted, inner, part_of, front, IsWordless}
+use Rattle.tla_token.specs.Readings.{read_offences, offences_in, part_offences_in, number_offences, joined, first_offence, names_algorithm}
+use Rattle.tla_token.specs.TokensSeen.{part_kind}
+use Rattle.tla_token.specs.Scanning.{token_at, lexemes_of, Outcome, outcome}
+use Rattle.tla_token.proofs.Words.{one_plus}
+use Rattle.tla_token.proofs.Faults.{joined_assoc, joined_none, least_append}
+use Rattle.tla_token.proofs.Found.{Found, found}
+
+pub after_append : (p : Place) (xs ys : List ℕ) → after p (xs ++ ys) ≡ after (after p xs) ys
+after_append p [] ys = refl
+after_append p (x ∷ xs) ys = after_append (step p x) xs ys
+
+pub offences_first : (r : Reading) (at : ℕ) (x : Part) (xs : List Part) → offences_in r at (x ∷ xs) ≡ part_offences_in r at x ++ offences_in r (at + length (part_bytes x)) xs
+offences_first reading.Unread at x xs = refl
+offences_first reading.Read at x xs = refl
+offences_first reading.Algorithm at x xs = refl
+
+-- what is found of a text whose first part this is
+tokens_on : (ts : List Token) (p : Place) (at n : ℕ) (t : List ℕ) (x : Part) → part_bytes x ≡ take n t → n ≤ length t → parts t ≡ x ∷ parts (drop n t)
+    → ts ++ lexemes_of p at (parts t) ≡ (ts ++ token_at p at (part_kind x)) ++ lexemes_of (after p (take n t)) (at + n) (parts (drop n t))
+tokens_on ts p at n t x bytes l cut =
+    let size : length (part_bytes x) ≡ n = ap length bytes ∙ length-take-le n t l in
+    ap (λ (xs : List Part). ts ++ lexemes_of p at xs) cut
+    ∙ ap (λ (us : List Token). ts ++ us) (ap (λ (us : List Token). token_at p at (part_kind x) ++ us) (λ i. lexemes_of (after p (bytes i)) (at + size i) (parts (drop n t))))
+    ∙ sym (append_assoc ts (token_at p at (part_kind x)) (lexemes_of (after p (take n t)) (at + n) (parts (drop n t))))
+
+offence_on : (r : Reading) (f : Option Offence) (at n : ℕ) (t : List ℕ) (x : Part) → part_bytes x ≡ take n t → n ≤ length t → parts t ≡ x ∷ parts (drop n t)
+    → joined f (least (offences_in r at (parts t))) ≡ joined (joined f (least (part_offences_in r at x))) (least (offences_in r (at + n) (parts (drop n t))))
+offence_on r f at n t x bytes l cut =
+    let size : length (part_bytes x) ≡ n = ap length bytes ∙ length-take-le n t l in
+    let rest = parts (drop n t) in
+    ap (λ (xs : List Part). joined f (least (offences_in r at xs))) cut
+    ∙ ap (λ (os : List Offence). joined f (least os)) (offences_first r at x rest ∙ ap (λ (m : ℕ). part_offences_in r at x ++ offences_in r (at + m) rest) size)
+    ∙ ap (joined f) (least_append (part_offences_in r at x) (offences_in r (at + n) rest))
+    ∙ sym (joined_assoc f (least (part_offences_in r at x)) (least (offences_in r (at + n) rest)))
+
+end_on : (p : Place) (n : ℕ) (t : List ℕ) → after p t ≡ after (after p (take n t)) (drop n t)
+end_on p n t = ap (after p) (sym (take-append-drop n t)) ∙ after_append p (take n t) (drop n t)
+
+pub drop_more : (m n : ℕ) (t : List ℕ) → drop n (drop m t) ≡ drop (m + n) t
+drop_more zero n t = (let e : 0 + n ≡ n = omega arith in rw e refl)
+drop_more (suc m) n [] = drop-nil n ∙ sym (drop-nil (suc m + n))
+drop_more (suc m) n (x ∷ t) = (let e : suc m + n ≡ suc (m + n) = omega arith in rw e (drop_more m n t))
+
+pub steps_on : (r : Reading) (from : ℕ) (bytes : List ℕ) (s t : Scan) (p : code.Part) (ts us : List Token)
+    → Some p ≡ front (drop s.at bytes)
+    → t.at ≡ s.at + p.len
+    → t.place ≡ after s.place (take p.len (drop s.at bytes))
+    → t.fault ≡ joined s.fault (least (part_offences_in r (from + s.at) (part_of p.class (take p.len (drop s.at bytes)))))
+    → us ≡ ts ++ token_at s.place (from + s.at) (part_kind (part_of p.class (take p.len (drop s.at bytes))))
+    → outcome r from ts s (drop s.at bytes) ≡ outcome r from us t (drop t.at bytes)
+unfolding outcome
+steps_on r from bytes s t p ts us e at place fault tokens =
+    let rest = drop s.at bytes in
+    let f = found rest p e in
+    let goes : from + s.at + p.len ≡ from + t.at = omega arith in
+    let dropped : drop p.len rest ≡ drop t.at bytes = drop_more s.at p.len bytes ∙ ap (λ (k : ℕ). drop k bytes) (sym at) in
+    let x : ts ++ lexemes_of s.place (from + s.at) (parts rest) ≡ us ++ lexemes_of t.place (from + t.at) (parts (drop t.at bytes)) =
+    (tokens_on ts s.place (from + s.at) p.len rest f.part f.bytes f.within f.cut
+    ∙ ap (λ (u : List Token). u ++ lexemes_of (after s.place (take p.len rest)) (from + s.at + p.len) (parts (drop p.len rest))) (ap (λ (y : Part). ts ++ token_at s.place (from + s.at) (part_kind y)) (sym f.is) ∙ sym tokens)
+    ∙ (λ i. us ++ lexemes_of (sym place i) (goes i) (parts (dropped i)))) in
+    let y : joined s.fault (least (offences_in r (from + s.at) (parts rest))) ≡ joined t.fault (least (offences_in r (from + t.at) (parts (drop t.at bytes)))) =
+    (offence_on r s.fault (from + s.at) p.len rest f.part f.bytes f.within f.cut
+    ∙ ap (λ (o : Option Offence). joined o (least (offences_in r (from + s.at + p.len) (parts (drop p.len rest))))) (ap (λ (y : Part). joined s.fault (least (part_offences_in r (from + s.at) y))) (sym f.is) ∙ sym fault)
+    ∙ (λ i. joined t.fault (least (offences_in r (goes i) (parts (dropped i)))))) in
+    let z : after s.place rest ≡ after t.place (drop t.at bytes) = end_on s.place p.len rest ∙ (λ i. after (sym place i) (dropped i)) in
+    λ i. record { tokens = x i; offence = y i; end = z i }
+
+run_first : (p : ℕ → Bool) (b : ℕ) (bs : List ℕ) → p b ≡ true → run p (b ∷ bs) ≡ b ∷ run p bs
+run_first p b bs h = rw (h, one_plus) refl
+
+-- ---- the part in front
+
+pub part_within : (t : List ℕ) (p : code.Part) → Some p ≡ front t → p.len ≤ length t
+part_within t p e = (found t p e).within
+
+pub part_size : (t : List ℕ) (p : code.Part) → Some p ≡ front t → length (take p.len t) ≡ p.len
+part_size t p e = length-take-le p.len t (found t p e).within
+
+pub part_some : (t : List ℕ) (p : code.Part) → Some p ≡ front t → 0 < p.len
+part_some t p e = (found t p e).some
+
+pub part_quoted : (t : List ℕ) (p : code.Part) → Some p ≡ front t → is_quoted p.class ≡ true → 2 ≤ p.len
+part_quoted t p e = (found t p e).quoted
+
+pub part_text : (t : List ℕ) (p : code.Part) → Some p ≡ front t → p.class ≡ class.Text → is_some (unquoted (inner (take p.len t))) ≡ true
+part_text t p e = (found t p e).text
+
+-- ---- blanks before a word
+
+pub blanks_before : (t : List ℕ) (n : ℕ) → n ≡ length (run is_blank t) → 0 < n → starts_with nat_eq (drop n t) (codes "algorithm") ≡ names_algorithm t
+blanks_before [] n e l = absurd (omega arith)
+blanks_before (b ∷ bs) n e l = by (is_blank b) refl
+  where
+    by : (k : Bool) → is_blank b ≡ k → starts_with nat_eq (drop n (b ∷ bs)) (codes "algorithm") ≡ names_algorithm (b ∷ bs)
+    by true k = rw (k, e) refl
+    by false k = (let z : n ≡ 0 = rw k at e in absurd (omega arith))
+
+pub no_blanks : (t : List ℕ) (n : ℕ) → n ≡ length (run is_blank t) → n ≤ 0 → false ≡ names_algorithm t
+no_blanks [] n e l = refl
+no_blanks (b ∷ bs) n e l = by (is_blank b) refl
+  where
+    by : (k : Bool) → is_blank b ≡ k → false ≡ names_algorithm (b ∷ bs)
+    by true k = (let z : n ≡ length (b ∷ run is_blank bs) = e ∙ ap length (run_first is_blank b bs k) in absurd (omega arith))
+    by false k = rw k refl
+
+-- ---- what is known of a word without a letter
+
+none_known : (t : List ℕ) → IsWordless 0 t
+none_known t = (omega arith, λ l. absurd (omega arith))
+
+wordless_past : (w n : ℕ) (t : List ℕ) → IsWordless w t → IsWordless (w - n) (drop n t)
+wordless_past zero n t h = (let e : 0 - n ≡ 0 = omega arith in rw e (none_known (drop n t)))
+wordless_past (suc w) zero t h = (let e : suc w - 0 ≡ suc w = omega arith in rw e h)
+wordless_past (suc w) (suc n) [] h = absurd (omega (arith, h.0))
+wordless_past (suc w) (suc n) (b ∷ bs) h = by (is_word b) refl
+  where
+    fewer : suc w - suc n ≡ w - n
+    fewer = omega arith
+
+    by : (k : Bool) → is_word b ≡ k → IsWordless (suc w - suc n) (drop (suc n) (b ∷ bs))
+    by false k = (let z : suc w ≤ 0 = rw k at h.0 in absurd (omega arith))
+    by true k =
+        let r : run is_word (b ∷ bs) ≡ b ∷ run is_word bs = run_first is_word b bs k in
+        let l : suc w ≤ suc (length (run is_word bs)) = rw r at h.0 in
+        let none : 0 < suc w → (is_letter b || list_any is_letter (run is_word bs)) ≡ false = rw r at h.1 in
+        let more : IsWordless w bs = (omega arith, λ z. (or_parts (is_letter b) (list_any is_letter (run is_word bs)) (none (omega arith))).1) in
+        rw fewer (wordless_past w n bs more)
+
+pub wordless_on : (w n at : ℕ) (bytes : List ℕ) → IsWordless w (drop at bytes) → IsWordless (w - n) (drop (at + n) bytes)
+wordless_on w n at bytes h = (let P : List ℕ → Type 0 = λ u. IsWordless (w - n) u in subst P (drop_more at n bytes) (wordless_past w n (drop at bytes) h))
+
+-- ---- the end
+
+pub all_found : (r : Reading) (from : ℕ) (bytes : List ℕ) (s b : Scan) (us ts : List Token) → outcome r from us s (drop s.at bytes) ≡ outcome r from ts b (drop b.at bytes) → length bytes ≤ s.at → b.fault ≡ None
+    → (us ≡ ts ++ lexemes_of b.place (from + b.at) (parts (drop b.at bytes))) × (s.fault ≡ least (offences_in r (from + b.at) (parts (drop b.at bytes)))) × (s.place ≡ after b.place (drop b.at bytes))
+unfolding outcome
+all_found r from bytes s b us ts e l none =
+    let d : drop s.at bytes ≡ [] = drop_all s.at bytes l in
+    let tokens : us ++ lexemes_of s.place (from + s.at) (parts (drop s.at bytes)) ≡ ts ++ lexemes_of b.place (from + b.at) (parts (drop b.at bytes)) = ap (λ (o : Outcome). o.tokens) e in
+    let offence : joined s.fault (least (offences_in r (from + s.at) (parts (drop s.at bytes)))) ≡ joined b.fault (least (offences_in r (from + b.at) (parts (drop b.at bytes)))) = ap (λ (o : Outcome). o.offence) e in
+    let end : after s.place (drop s.at bytes) ≡ after b.place (drop b.at bytes) = ap (λ (o : Outcome). o.end) e in
+    (
+      sym (append-nil us) ∙ ap (λ (u : List ℕ). us ++ lexemes_of s.place (from + s.at) (parts u)) (sym d) ∙ tokens,
+      sym (joined_none s.fault)
+      ∙ ap (joined s.fault) (sym (nothing r (from + s.at)))
+      ∙ ap (λ (u : List ℕ). joined s.fault (least (offences_in r (from + s.at) (parts u)))) (sym d)
+      ∙ offence
+      ∙ ap (λ (o : Option Offence). joined o (least (offences_in r (from + b.at) (parts (drop b.at bytes))))) none,
+      ap (after s.place) (sym d) ∙ end,
+    )
+  where
+    nothing : (r : Reading) (at : ℕ) → least (offences_in r at (parts [])) ≡ None
+    nothing reading.Unread at = refl
+    nothing reading.Read at = refl
+    nothing reading.Algorithm at = refl
+
+-- ---- stretches
+
+pub stretch_on : (text : List ℕ) (from begin to : ℕ) → from ≤ begin → begin ≤ to → drop (begin - from) (stretch text from to) ≡ stretch text begin to
+stretch_on text from begin to f t =
+    let e : to - from ≡ (begin - from) + (to - begin) = omega arith in
+    let g : from + (begin - from) ≡ begin = omega arith in
+    ap (λ (n : ℕ). drop (begin - from) (take n (drop from text))) e
+    ∙ drop-take (begin - from) (to - begin) (drop from text)
+    ∙ ap (take (to - begin)) (drop_more from (begin - from) text ∙ ap (λ (n : ℕ). drop n text) g)
+
+pub stretch_end : (text : List ℕ) (begin to : ℕ) → begin ≤ to → after (place_at text begin) (stretch text begin to) ≡ place_at text to
+stretch_end text begin to l =
+    let e : begin + (to - begin) ≡ to = omega arith in
+    sym (after_append start (take begin text) (stretch text begin to)) ∙ ap (after start) (sym (take-add begin (to - begin) text) ∙ ap (λ (n : ℕ). take n text) e)
+
+take_all : (n : ℕ) (xs : List ℕ) → length xs ≤ n → take n xs ≡ xs
+take_all zero [] l = refl
+take_all (suc n) [] l = refl
+take_all zero (x ∷ xs) l = absurd (omega arith)
+take_all (suc n) (x ∷ xs) l = ap (λ (u : List ℕ). x ∷ u) (take_all n xs (omega arith))
+
+pub place_within : (text : List ℕ) (at : ℕ) → place_at text (min at (length text)) ≡ place_at text at
+place_within text at = by (nat_le at (length text)) refl
+  where
+    by : (k : Bool) → nat_le at (length text) ≡ k → place_at text (min at (length text)) ≡ place_at text at
+    by true k = (let l : at ≤ length text = leb-true at (length text) k in let e : min at (length text) ≡ at = omega arith in ap (place_at text) e)
+    by false k =
+        let l : length text < at = leb-false at (length text) k in
+        let e : min at (length text) ≡ length text = omega arith in
+        ap (after start) (ap (λ (n : ℕ). take n text) e ∙ take_all (length text) text (omega arith) ∙ sym (take_all at text (omega arith)))

@@ -1,0 +1,8 @@
+use Rattle.tla_token.proofs.Given.{opening_within, algorithm_by}
+use Rattle.tla_token.proofs.scan.algorithm_tokens.Goals as goal
+
+pub rest_of-requires-clause-starts : goal.rest_of-requires-clause-starts
+rest_of-requires-clause-starts c = opening_within c.args.text.now c.args.from c.args.to c.args.opening c.requires.begins c.requires.ends c.requires.opening
+
+pub returns-clause-tokens : goal.returns-clause-tokens
+returns-clause-tokens c = ?
