@@ -1,5 +1,5 @@
 -- What is found of a stretch without an offence are its tokens, also where it is an algorithm's.
-use Rattle.std.proofs.Common.{◌≡◌, ℕ, zero, suc, ◌+◌, ◌-◌, ◌<◌, ◌≤◌, Bool, true, false, not, ◌&&◌, nat_eq, List, [], ◌∷◌, ◌++◌, length, take, drop, map, codes, Option, Some, None, refl, sym, ap, subst, ◌∙◌, arith, length-append, length-drop}
+use Rattle.std.proofs.Common.{◌≡◌, ℕ, zero, suc, ◌+◌, ◌-◌, ◌<◌, ◌≤◌, Bool, true, false, not, ◌&&◌, nat_eq, List, [], ◌∷◌, ◌++◌, length, take, drop, map, codes, Option, Some, None, Result, Ok, Err, IfOk, refl, sym, ap, subst, ◌∙◌, arith, length-append, length-drop}
 use Rattle.std.specs.Option.{option_map}
 use Rattle.std.specs.List.{list_all, flat_map, starts_with}
 use Rattle.std.proofs.Math.Seq.{take-append_seam}
@@ -9,6 +9,10 @@ use Rattle.tla_token.specs.declared.place.Place.{Place}
 use Rattle.tla_token.specs.declared.fault.Reading.{Reading}
 use Rattle.tla_token.specs.declared.fault.Reading.TheVariants as reading
 use Rattle.tla_token.specs.declared.rule.Refusal.{Refusal}
+use Rattle.tla_token.specs.declared.rule.Stop.{Stop}
+use Rattle.tla_token.specs.declared.token.Token as code
+use Rattle.tla_token.specs.declared.token.Tokens.{Tokens}
+use Rattle.tla_token.specs.declared.token.Kind.TheVariants as kinds
 use Rattle.tla_token.specs.Places.{after, place_at}
 use Rattle.tla_token.specs.Lexemes.{Kind, name, number, string, one, other}
 use Rattle.tla_token.specs.Signs.{is_among}
@@ -16,6 +20,7 @@ use Rattle.tla_token.specs.Tokens.{openings, Token, Piece, blank, block, line, l
 use Rattle.tla_token.specs.Offences.{Part, sound, part_bytes, parts_text, PartsFit, Offence, kind_offences, part_offences, offences, or_earlier, least}
 use Rattle.tla_token.specs.Cut.{parts}
 use Rattle.tla_token.specs.Readings.{read_offences, number_offences, offences_in, first_offence, IsRefused, names_algorithm, opening_of, IsCutAs, offence_as, AreTokens, given_offence, IsGivenRefused}
+use Rattle.tla_token.specs.TokensSeen.{token_seen, tokens_seen}
 use Rattle.tla_token.specs.Scanning.{lexemes_of}
 use Rattle.tla_token.proofs.Spelled.{begins_is}
 use Rattle.tla_token.proofs.Unique.{tok_offences}
@@ -171,3 +176,33 @@ given_refused text from to r e (at, f, p) = (at, sym (given_fine text from to e)
 
 pub algorithm_refused : (text : List ℕ) (from to n : ℕ) (r : Refusal) → Some n ≡ option_map length (opening_of (stretch text from to)) → IsRefused reading.Algorithm text (from + n) to r → IsGivenRefused text from to r
 algorithm_refused text from to n r e (at, f, p) = (at, sym (algorithm_fine text from to n e) ∙ f, p)
+
+-- ---- as code answers
+
+pub tok_ok : (rd : Reading) (r : Result Tokens Stop) (text : List ℕ) (from to : ℕ) (items : List code.Token) → items ≡ []
+    → IfOk r (λ v. map (token_seen v.bytes.items) v.items.items ≡ map (token_seen v.bytes.items) items ++ lexemes_of (place_at text from) from (parts (stretch text from to)))
+    → IfOk r (λ v. first_offence rd text from to ≡ None) → IfOk r (λ v. Tok text from to (tokens_seen v))
+tok_ok rd (Ok v) text from to items none is fine =
+    tok_by rd text from to (tokens_seen v) (is ∙ ap (λ (us : List code.Token). map (token_seen v.bytes.items) us ++ lexemes_of (place_at text from) from (parts (stretch text from to))) none) fine
+tok_ok rd (Err e) text from to items none is fine = tt
+
+pub algorithm_ok : (r : Result Tokens Stop) (text : List ℕ) (from to n : ℕ) (p : Place) (items : List code.Token) → Some n ≡ option_map length (opening_of (stretch text from to)) → p ≡ place_at text from
+    → items ≡ record { kind = kinds.Name (record { from = 0; to = n }); at = from; place = p } ∷ []
+    → IfOk r (λ v. v.bytes.items ≡ stretch text from to)
+    → IfOk r (λ v. map (token_seen v.bytes.items) v.items.items ≡ map (token_seen v.bytes.items) items ++ lexemes_of (place_at text (from + n)) (from + n) (parts (stretch text (from + n) to)))
+    → IfOk r (λ v. first_offence reading.Algorithm text (from + n) to ≡ None) → IfOk r (λ v. AreTokens text from to (tokens_seen v))
+algorithm_ok (Ok v) text from to n p items opens place one bytes is fine =
+    let more = lexemes_of (place_at text (from + n)) (from + n) (parts (stretch text (from + n) to)) in
+    let first : map (token_seen v.bytes.items) items ++ more ≡ record { kind = name (stretch v.bytes.items 0 n); at = from; place = p } ∷ more = ap (λ (us : List code.Token). map (token_seen v.bytes.items) us ++ more) one in
+    let whole : record { kind = name (stretch v.bytes.items 0 n); at = from; place = p } ∷ more ≡ record { kind = name (stretch (stretch text from to) 0 n); at = from; place = place_at text from } ∷ more =
+    (λ i. record { kind = name (stretch (bytes i) 0 n); at = from; place = place i } ∷ more) in
+    algorithm_by text from to n (tokens_seen v) opens fine (is ∙ first ∙ whole)
+algorithm_ok (Err e) text from to n p items opens place one bytes is fine = tt
+
+pub given_tokens_ok : (r : Result Tokens Stop) (text : List ℕ) (from to : ℕ) → None ≡ option_map length (opening_of (stretch text from to)) → IfOk r (λ v. Tok text from to (tokens_seen v)) → IfOk r (λ v. AreTokens text from to (tokens_seen v))
+given_tokens_ok (Ok v) text from to e t = given_tokens text from to (tokens_seen v) e t
+given_tokens_ok (Err x) text from to e t = tt
+
+pub given_fine_ok : (r : Result Tokens Stop) (text : List ℕ) (from to : ℕ) → None ≡ option_map length (opening_of (stretch text from to)) → IfOk r (λ v. first_offence reading.Read text from to ≡ None) → IfOk r (λ v. given_offence text from to ≡ None)
+given_fine_ok (Ok v) text from to e f = sym (given_fine text from to e) ∙ f
+given_fine_ok (Err x) text from to e f = tt

@@ -1,5 +1,5 @@
 -- One step of a scanner, and what it has found at the end.
-use Rattle.std.proofs.Common.{◌≡◌, ℕ, zero, suc, ◌+◌, ◌-◌, ◌<◌, ◌≤◌, ◌||◌, min, nat_le, Bool, true, false, nat_eq, codes, List, [], ◌∷◌, ◌++◌, length, take, drop, map, Option, Some, None, is_some, refl, sym, ap, subst, ◌∙◌, arith, append_assoc, append-nil, length-append}
+use Rattle.std.proofs.Common.{◌≡◌, ℕ, zero, suc, ◌+◌, ◌-◌, ◌*◌, ◌<◌, ◌≤◌, ◌||◌, min, nat_le, Bool, true, false, nat_eq, codes, List, [], ◌∷◌, ◌++◌, length, take, drop, map, Option, Some, None, is_some, refl, sym, ap, subst, ◌∙◌, arith, append_assoc, append-nil, length-append, length-drop}
 use Rattle.std.specs.List.{list_any, starts_with}
 use Rattle.std.proofs.Math.Seq.{drop-nil, take-add}
 use Rattle.std.proofs.lemmas.List.{take-append-drop, drop_all, drop-take, length-take-le}
@@ -12,14 +12,14 @@ use Rattle.tla_token.specs.declared.part.Class.TheVariants as class
 use Rattle.tla_token.specs.declared.part.Part as code
 use Rattle.tla_token.specs.declared.scan.Scan.{Scan}
 use Rattle.tla_token.specs.Places.{step, after, start, place_at}
-use Rattle.tla_token.specs.Lexemes.{is_word, is_letter, is_blank, unquoted}
+use Rattle.tla_token.specs.Lexemes.{Kind, is_word, is_letter, is_blank, unquoted}
 use Rattle.tla_token.specs.Tokens.{Token, stretch}
 use Rattle.tla_token.specs.Offences.{Part, part_bytes, Offence, least, offences, part_offences}
 use Rattle.tla_token.specs.Cut.{run, parts}
 use Rattle.tla_token.specs.Scan.{is_quoted, inner, part_of, front, IsWordless}
 use Rattle.tla_token.specs.Readings.{read_offences, offences_in, part_offences_in, number_offences, joined, first_offence, names_algorithm}
 use Rattle.tla_token.specs.TokensSeen.{part_kind}
-use Rattle.tla_token.specs.Scanning.{token_at, lexemes_of, Outcome, outcome}
+use Rattle.tla_token.specs.Scanning.{token_at, lexemes_of, Outcome, outcome, Stands, GoesOn}
 use Rattle.tla_token.proofs.Words.{one_plus}
 use Rattle.tla_token.proofs.Faults.{joined_assoc, joined_none, least_append}
 use Rattle.tla_token.proofs.Found.{Found, found}
@@ -38,8 +38,10 @@ tokens_on : (ts : List Token) (p : Place) (at n : ℕ) (t : List ℕ) (x : Part)
     → ts ++ lexemes_of p at (parts t) ≡ (ts ++ token_at p at (part_kind x)) ++ lexemes_of (after p (take n t)) (at + n) (parts (drop n t))
 tokens_on ts p at n t x bytes l cut =
     let size : length (part_bytes x) ≡ n = ap length bytes ∙ length-take-le n t l in
+    let later : lexemes_of (after p (part_bytes x)) (at + length (part_bytes x)) (parts (drop n t)) ≡ lexemes_of (after p (take n t)) (at + n) (parts (drop n t)) =
+    (λ i. lexemes_of (after p (bytes i)) (at + size i) (parts (drop n t))) in
     ap (λ (xs : List Part). ts ++ lexemes_of p at xs) cut
-    ∙ ap (λ (us : List Token). ts ++ us) (ap (λ (us : List Token). token_at p at (part_kind x) ++ us) (λ i. lexemes_of (after p (bytes i)) (at + size i) (parts (drop n t))))
+    ∙ ap (λ (us : List Token). ts ++ (token_at p at (part_kind x) ++ us)) later
     ∙ sym (append_assoc ts (token_at p at (part_kind x)) (lexemes_of (after p (take n t)) (at + n) (parts (drop n t))))
 
 offence_on : (r : Reading) (f : Option Offence) (at n : ℕ) (t : List ℕ) (x : Part) → part_bytes x ≡ take n t → n ≤ length t → parts t ≡ x ∷ parts (drop n t)
@@ -73,15 +75,20 @@ steps_on r from bytes s t p ts us e at place fault tokens =
     let f = found rest p e in
     let goes : from + s.at + p.len ≡ from + t.at = omega arith in
     let dropped : drop p.len rest ≡ drop t.at bytes = drop_more s.at p.len bytes ∙ ap (λ (k : ℕ). drop k bytes) (sym at) in
+    let tokens_moved : us ++ lexemes_of (after s.place (take p.len rest)) (from + s.at + p.len) (parts (drop p.len rest)) ≡ us ++ lexemes_of t.place (from + t.at) (parts (drop t.at bytes)) =
+    (λ i. us ++ lexemes_of (sym place i) (goes i) (parts (dropped i))) in
+    let offence_moved : joined t.fault (least (offences_in r (from + s.at + p.len) (parts (drop p.len rest)))) ≡ joined t.fault (least (offences_in r (from + t.at) (parts (drop t.at bytes)))) =
+    (λ i. joined t.fault (least (offences_in r (goes i) (parts (dropped i))))) in
+    let end_moved : after (after s.place (take p.len rest)) (drop p.len rest) ≡ after t.place (drop t.at bytes) = (λ i. after (sym place i) (dropped i)) in
     let x : ts ++ lexemes_of s.place (from + s.at) (parts rest) ≡ us ++ lexemes_of t.place (from + t.at) (parts (drop t.at bytes)) =
     (tokens_on ts s.place (from + s.at) p.len rest f.part f.bytes f.within f.cut
     ∙ ap (λ (u : List Token). u ++ lexemes_of (after s.place (take p.len rest)) (from + s.at + p.len) (parts (drop p.len rest))) (ap (λ (y : Part). ts ++ token_at s.place (from + s.at) (part_kind y)) (sym f.is) ∙ sym tokens)
-    ∙ (λ i. us ++ lexemes_of (sym place i) (goes i) (parts (dropped i)))) in
+    ∙ tokens_moved) in
     let y : joined s.fault (least (offences_in r (from + s.at) (parts rest))) ≡ joined t.fault (least (offences_in r (from + t.at) (parts (drop t.at bytes)))) =
     (offence_on r s.fault (from + s.at) p.len rest f.part f.bytes f.within f.cut
     ∙ ap (λ (o : Option Offence). joined o (least (offences_in r (from + s.at + p.len) (parts (drop p.len rest))))) (ap (λ (y : Part). joined s.fault (least (part_offences_in r (from + s.at) y))) (sym f.is) ∙ sym fault)
-    ∙ (λ i. joined t.fault (least (offences_in r (goes i) (parts (dropped i)))))) in
-    let z : after s.place rest ≡ after t.place (drop t.at bytes) = end_on s.place p.len rest ∙ (λ i. after (sym place i) (dropped i)) in
+    ∙ offence_moved) in
+    let z : after s.place rest ≡ after t.place (drop t.at bytes) = end_on s.place p.len rest ∙ end_moved in
     λ i. record { tokens = x i; offence = y i; end = z i }
 
 run_first : (p : ℕ → Bool) (b : ℕ) (bs : List ℕ) → p b ≡ true → run p (b ∷ bs) ≡ b ∷ run p bs
@@ -203,3 +210,55 @@ place_within text at = by (nat_le at (length text)) refl
         let l : length text < at = leb-false at (length text) k in
         let e : min at (length text) ≡ length text = omega arith in
         ap (after start) (ap (λ (n : ℕ). take n text) e ∙ take_all (length text) text (omega arith) ∙ sym (take_all at text (omega arith)))
+
+pub begins_there : (text : List ℕ) (from begin to : ℕ) (s : Scan) → from ≤ begin → begin ≤ to → to ≤ length text → s.at ≡ begin - from → s.place.line ≤ 1 + begin → s.place.col ≤ 1 + 8 * begin → s.wordless ≡ 0
+    → Stands from (stretch text from to) s
+begins_there text from begin to s f t l at line col w =
+    let size : length (stretch text from to) ≡ to - from = length-take-le (to - from) (drop from text) (omega (arith, length-drop from text)) in
+    let e : from + s.at ≡ begin = omega arith in
+    let P : ℕ → Type 0 = λ n. IsWordless n (drop s.at (stretch text from to)) in
+    record { within = omega arith; line = omega arith; col = omega arith; wordless = subst P (sym w) (none_known (drop s.at (stretch text from to))) }
+
+-- what is found of a stretch from `begin` on
+pub rest_found : (r : Reading) (text : List ℕ) (from begin to : ℕ) (s b : Scan) (us ts : List Token) → from ≤ begin → begin ≤ to → b.at ≡ begin - from → b.fault ≡ None → b.place ≡ place_at text begin
+    → outcome r from us s (drop s.at (stretch text from to)) ≡ outcome r from ts b (drop b.at (stretch text from to)) → length (stretch text from to) ≤ s.at
+    → (us ≡ ts ++ lexemes_of (place_at text begin) begin (parts (stretch text begin to))) × (s.fault ≡ first_offence r text begin to) × (s.place ≡ place_at text to)
+rest_found r text from begin to s b us ts f t at none place e l =
+    let x = all_found r from (stretch text from to) s b us ts e l none in
+    let d : drop b.at (stretch text from to) ≡ stretch text begin to = ap (λ (n : ℕ). drop n (stretch text from to)) at ∙ stretch_on text from begin to f t in
+    let g : from + b.at ≡ begin = omega arith in
+    let u : ts ++ lexemes_of b.place (from + b.at) (parts (drop b.at (stretch text from to))) ≡ ts ++ lexemes_of (place_at text begin) begin (parts (stretch text begin to)) = (λ i. ts ++ lexemes_of (place i) (g i) (parts (d i))) in
+    let v : least (offences_in r (from + b.at) (parts (drop b.at (stretch text from to)))) ≡ first_offence r text begin to = (λ i. least (offences_in r (g i) (parts (d i)))) in
+    let w : after b.place (drop b.at (stretch text from to)) ≡ after (place_at text begin) (stretch text begin to) = (λ i. after (place i) (d i)) in
+    (x.0 ∙ u, x.1 ∙ v, x.2 ∙ w ∙ stretch_end text begin to t)
+
+-- ---- one part further
+
+pub goes_past : (r : Reading) (from : ℕ) (bytes : List ℕ) (s : Scan) (p : code.Part) (piece : List ℕ) (place : Place) (w : ℕ) (f : Option Offence) (ts us : List Token) (kind : Option Kind)
+    → Stands from bytes s
+    → Some p ≡ front (drop s.at bytes)
+    → piece ≡ take p.len (drop s.at bytes)
+    → place ≡ after s.place piece
+    → place.line ≤ s.place.line + length piece
+    → place.col ≤ s.place.col + 8 * length piece
+    → w ≡ s.wordless - p.len
+    → f ≡ joined s.fault (least (part_offences_in r (from + s.at) (part_of p.class piece)))
+    → kind ≡ part_kind (part_of p.class (take p.len (drop s.at bytes)))
+    → us ≡ ts ++ token_at s.place (from + s.at) kind
+    → GoesOn r from bytes ts us s (Some (record { at = s.at + p.len; place = place; wordless = w; fault = f }))
+goes_past r from bytes s p piece place w f ts us kind stands e is moved line col known fault sort kept =
+    let rest = drop s.at bytes in
+    let t : Scan = record { at = s.at + p.len; place = place; wordless = w; fault = f } in
+    let size : length piece ≡ p.len = ap length is ∙ part_size rest p e in
+    let left : length rest ≡ length bytes - s.at = length-drop s.at bytes in
+    let in_rest : p.len ≤ length rest = part_within rest p e in
+    let here : s.at ≤ length bytes = stands.within in
+    let low : s.place.line ≤ 1 + (from + s.at) = stands.line in
+    let right : s.place.col ≤ 1 + 8 * (from + s.at) = stands.col in
+    let some : 0 < p.len = part_some rest p e in
+    let P : ℕ → Type 0 = λ n. IsWordless n (drop (s.at + p.len) bytes) in
+    let there : Stands from bytes t = record { within = omega arith; line = omega arith; col = omega arith; wordless = subst P (sym known) (wordless_on s.wordless p.len s.at bytes stands.wordless) } in
+    let goes : outcome r from ts s rest ≡ outcome r from us t (drop t.at bytes) =
+    steps_on r from bytes s t p ts us e refl (moved ∙ ap (after s.place) is) (fault ∙ ap (λ (u : List ℕ). joined s.fault (least (part_offences_in r (from + s.at) (part_of p.class u)))) is)
+    (kept ∙ ap (λ (k : Option Kind). ts ++ token_at s.place (from + s.at) k) sort) in
+    (omega arith, there, goes)

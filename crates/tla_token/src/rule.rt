@@ -258,6 +258,6 @@ impl<T: Drop> From<AllocFailed<T>> for Stop {
     ghost from_gives = { λ _ e. e ≡ stop.Memory };
 
     fn from(_: AllocFailed<T>) -> Self {
-        Stop::Memory
+        Self::Memory
     }
 }

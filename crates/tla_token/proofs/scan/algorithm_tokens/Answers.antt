@@ -1,8 +1,10 @@
-use Rattle.tla_token.proofs.Given.{opening_within, algorithm_by}
+use Rattle.tla_token.proofs.Given.{opening_within, algorithm_ok}
 use Rattle.tla_token.proofs.scan.algorithm_tokens.Goals as goal
 
 pub rest_of-requires-clause-starts : goal.rest_of-requires-clause-starts
 rest_of-requires-clause-starts c = opening_within c.args.text.now c.args.from c.args.to c.args.opening c.requires.begins c.requires.ends c.requires.opening
 
 pub returns-clause-tokens : goal.returns-clause-tokens
-returns-clause-tokens c = ?
+returns-clause-tokens c =
+    algorithm_ok c.rest_of.result c.args.text.now c.args.from c.args.to c.args.opening c.place_of.result _ c.requires.opening c.place_of.ensures.value (let h = c.in_ok-push.ensures in ?)
+    c.rest_of.ensures.bytes c.rest_of.ensures.tokens c.rest_of.ensures.fine

@@ -1,11 +1,14 @@
-use Rattle.std.proofs.Common.{◌≡◌, ◌≤◌, ◌+◌, ◌-◌, ◌++◌, length, drop, map, refl, sym, ap, ◌∙◌, arith, Some, None, length-drop}
-use Rattle.std.proofs.lemmas.List.{length-take-le}
+use Rattle.std.proofs.Common.{◌≡◌, ◌≤◌, ◌+◌, ◌-◌, ◌++◌, length, drop, map, refl, sym, ap, ◌∙◌, arith, Some, None}
 use Rattle.tla_token.specs.Tokens.{stretch}
-use Rattle.tla_token.proofs.Scans.{all_found, stretch_on, stretch_end, place_within, none_known}
+use Rattle.tla_token.specs.Scanning.{Stands}
+use Rattle.tla_token.proofs.Scans.{begins_there, rest_found, place_within}
 use Rattle.tla_token.proofs.scan.rest_of.Goals as goal
 
 pub parts-init : goal.parts-init
-parts-init c = record { stands = record { within = ?; line = ?; col = ?; wordless = none_known _ }; so_far = refl }
+parts-init c = record {
+  stands = begins_there c.args.text.now c.args.from c.args.start c.args.to _ c.requires.begins c.requires.starts c.requires.ends refl c.place_of.ensures.line c.place_of.ensures.col refl;
+  so_far = refl;
+}
 
 pub returns-in-Some-fault-clause-refused : goal.returns-in-Some-fault-clause-refused
 returns-in-Some-fault-clause-refused c r e = ?
