@@ -1,14 +1,14 @@
 -- What code finds in front of a text is the first of its parts.
-use Rattle.std.proofs.Common.{◌≡◌, ℕ, zero, suc, ◌+◌, ◌-◌, ◌<◌, ◌≤◌, Bool, true, false, List, [], ◌∷◌, ◌++◌, length, take, drop, Option, Some, None, is_some, refl, sym, ap, subst, ◌∙◌, arith, length-append}
+use Rattle.std.proofs.Common.{◌≡◌, ℕ, suc, ◌-◌, ◌<◌, ◌≤◌, true, List, [], ◌∷◌, ◌++◌, length, take, drop, Option, Some, None, is_some, refl, sym, ap, subst, ◌∙◌, arith, length-append}
 use Rattle.std.specs.Option.{option_map, unwrap_or}
 use Rattle.std.proofs.Math.Seq.{take-append_seam, drop-append_seam}
 use Rattle.tla_token.specs.declared.part.Class.TheVariants as class
 use Rattle.tla_token.specs.declared.part.Part as code
 use Rattle.tla_token.specs.Lexemes.{Kind, name, number, string, one, other, unquoted}
-use Rattle.tla_token.specs.Tokens.{Piece, blank, block, line, lexeme, Fits}
+use Rattle.tla_token.specs.Tokens.{blank, block, line, lexeme, Fits}
 use Rattle.tla_token.specs.Offences.{Part, sound, stray, bad_string, open_string, open_block, part_bytes, PartFits}
-use Rattle.tla_token.specs.Cut.{parts, part_at}
-use Rattle.tla_token.specs.Scan.{is_quoted, inner, part_class, part_of, outline, first_by, front}
+use Rattle.tla_token.specs.Cut.{parts}
+use Rattle.tla_token.specs.Scan.{is_quoted, inner, part_class, part_of, outline, front}
 use Rattle.tla_token.proofs.Parted.{first_part, some_part, parts_step}
 use Rattle.tla_token.proofs.Cutting.{Cut, front_cut}
 

@@ -1,5 +1,5 @@
 -- The part in front of a text, by its first bytes.
-use Rattle.std.proofs.Common.{◌≡◌, ℕ, zero, suc, ◌+◌, ◌-◌, ◌<◌, ◌≤◌, Bool, true, false, not, ◌&&◌, nat_eq, List, [], ◌∷◌, ◌++◌, length, get_or, take, drop, Option, Some, None, codes, refl, sym, ap, ◌∙◌, arith}
+use Rattle.std.proofs.Common.{◌≡◌, ℕ, zero, suc, ◌+◌, ◌<◌, Bool, true, false, not, ◌&&◌, nat_eq, List, [], ◌∷◌, length, get_or, take, drop, Option, Some, None, codes, refl, sym, ap, ◌∙◌, arith}
 use Rattle.std.specs.List.{list_any, starts_with}
 use Rattle.std.specs.Option.{option_map, unwrap_or}
 use Rattle.std.proofs.Math.Seq.{take-append_seam}
@@ -11,7 +11,7 @@ use Rattle.tla_token.specs.Signs.{spellings}
 use Rattle.tla_token.specs.Lexemes.{name, number, number_of, is_blank, is_word, is_letter, is_digit, is_printed}
 use Rattle.tla_token.specs.Tokens.{lexeme}
 use Rattle.tla_token.specs.Offences.{Part, sound, string_len}
-use Rattle.tla_token.specs.Cut.{run, part_by, part_at, lexeme_part, string_part, block_part, comment_len, or_other, sign_of, sign_at, sign_part, sign_bytes, spelling_at}
+use Rattle.tla_token.specs.Cut.{run, part_by, lexeme_part, string_part, block_part, comment_len, or_other, sign_of, sign_at, sign_part, sign_bytes, spelling_at}
 use Rattle.tla_token.specs.Scan.{outline, front_by, front, lexeme_front, mark_front, worded}
 use Rattle.tla_token.proofs.Words.{one_plus, run_splits}
 use Rattle.tla_token.proofs.Signed.{to_marks}

@@ -1,10 +1,10 @@
 -- What is found of a stretch without an offence are its tokens, also where it is an algorithm's.
-use Rattle.std.proofs.Common.{◌≡◌, ℕ, zero, suc, ◌+◌, ◌-◌, ◌<◌, ◌≤◌, Bool, true, false, not, ◌&&◌, nat_eq, List, [], ◌∷◌, ◌++◌, length, take, drop, map, codes, Option, Some, None, Result, Ok, Err, IfOk, refl, sym, ap, subst, ◌∙◌, arith, length-append, length-drop}
+use Rattle.std.proofs.Common.{◌≡◌, ℕ, ◌+◌, ◌-◌, ◌≤◌, Bool, true, false, not, nat_eq, List, [], ◌∷◌, ◌++◌, length, take, drop, map, codes, Option, Some, None, Result, Ok, Err, IfOk, refl, sym, ap, subst, ◌∙◌, arith, length-append, length-drop}
 use Rattle.std.specs.Option.{option_map}
 use Rattle.std.specs.List.{list_all, flat_map, starts_with}
 use Rattle.std.proofs.Math.Seq.{take-append_seam}
 use Rattle.std.proofs.lemmas.List.{length-take-le}
-use Rattle.std.proofs.lemmas.Bool.{and_parts, and_from}
+use Rattle.std.proofs.lemmas.Bool.{and_from}
 use Rattle.tla_token.specs.declared.place.Place.{Place}
 use Rattle.tla_token.specs.declared.fault.Reading.{Reading}
 use Rattle.tla_token.specs.declared.fault.Reading.TheVariants as reading
@@ -17,7 +17,7 @@ use Rattle.tla_token.specs.Places.{after, place_at}
 use Rattle.tla_token.specs.Lexemes.{Kind, name, number, string, one, other}
 use Rattle.tla_token.specs.Signs.{is_among}
 use Rattle.tla_token.specs.Tokens.{openings, Token, Piece, blank, block, line, lexeme, bytes_of, tokens_of, stretch, holds_mark, is_unmarked, Tok, TokAlgorithm}
-use Rattle.tla_token.specs.Offences.{Part, sound, part_bytes, parts_text, PartsFit, Offence, kind_offences, part_offences, offences, or_earlier, least}
+use Rattle.tla_token.specs.Offences.{Part, sound, part_bytes, PartsFit, Offence, kind_offences, part_offences, offences, or_earlier, least}
 use Rattle.tla_token.specs.Cut.{parts}
 use Rattle.tla_token.specs.Readings.{read_offences, number_offences, offences_in, first_offence, IsRefused, names_algorithm, opening_of, IsCutAs, offence_as, AreTokens, given_offence, IsGivenRefused}
 use Rattle.tla_token.specs.TokensSeen.{token_seen, tokens_seen}
@@ -191,13 +191,13 @@ pub algorithm_ok : (r : Result Tokens Stop) (text : List ℕ) (from to n : ℕ) 
     → IfOk r (λ v. v.bytes.items ≡ stretch text from to)
     → IfOk r (λ v. map (token_seen v.bytes.items) v.items.items ≡ map (token_seen v.bytes.items) items ++ lexemes_of (place_at text (from + n)) (from + n) (parts (stretch text (from + n) to)))
     → IfOk r (λ v. first_offence reading.Algorithm text (from + n) to ≡ None) → IfOk r (λ v. AreTokens text from to (tokens_seen v))
-algorithm_ok (Ok v) text from to n p items opens place one bytes is fine =
+algorithm_ok (Ok v) text from to n p items opens place single bytes is fine =
     let more = lexemes_of (place_at text (from + n)) (from + n) (parts (stretch text (from + n) to)) in
-    let first : map (token_seen v.bytes.items) items ++ more ≡ record { kind = name (stretch v.bytes.items 0 n); at = from; place = p } ∷ more = ap (λ (us : List code.Token). map (token_seen v.bytes.items) us ++ more) one in
+    let first : map (token_seen v.bytes.items) items ++ more ≡ record { kind = name (stretch v.bytes.items 0 n); at = from; place = p } ∷ more = ap (λ (us : List code.Token). map (token_seen v.bytes.items) us ++ more) single in
     let whole : record { kind = name (stretch v.bytes.items 0 n); at = from; place = p } ∷ more ≡ record { kind = name (stretch (stretch text from to) 0 n); at = from; place = place_at text from } ∷ more =
     (λ i. record { kind = name (stretch (bytes i) 0 n); at = from; place = place i } ∷ more) in
     algorithm_by text from to n (tokens_seen v) opens fine (is ∙ first ∙ whole)
-algorithm_ok (Err e) text from to n p items opens place one bytes is fine = tt
+algorithm_ok (Err e) text from to n p items opens place single bytes is fine = tt
 
 pub given_tokens_ok : (r : Result Tokens Stop) (text : List ℕ) (from to : ℕ) → None ≡ option_map length (opening_of (stretch text from to)) → IfOk r (λ v. Tok text from to (tokens_seen v)) → IfOk r (λ v. AreTokens text from to (tokens_seen v))
 given_tokens_ok (Ok v) text from to e t = given_tokens text from to (tokens_seen v) e t

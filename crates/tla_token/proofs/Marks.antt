@@ -1,5 +1,5 @@
 -- A string holds a mark of a comment exactly where what spells it does: no escape stands for a byte of one.
-use Rattle.std.proofs.Common.{◌≡◌, ℕ, Bool, true, false, not, ◌&&◌, ◌||◌, nat_eq, List, [], ◌∷◌, take, codes, Option, Some, None, is_some, refl, sym, ap, ◌∙◌, inl, inr}
+use Rattle.std.proofs.Common.{◌≡◌, ℕ, Bool, true, false, not, ◌&&◌, ◌||◌, nat_eq, List, [], ◌∷◌, Option, Some, None, is_some, refl, sym, ap, ◌∙◌, inl, inr}
 use Rattle.std.specs.Option.{unwrap_or}
 use Rattle.std.specs.List.{starts_with}
 use Rattle.std.proofs.lemmas.Bool.{and_parts, or_cases, eqb-true}
@@ -13,6 +13,9 @@ use Rattle.tla_token.specs.Scan.{inner, part_of}
 use Rattle.tla_token.specs.Readings.{part_offences_in}
 use Rattle.tla_token.proofs.Front.{in_front_some}
 use Rattle.tla_token.proofs.Signed.{not_true}
+
+front_of : (o : Option ℕ) (p : Option (List ℕ)) (b : ℕ) (v w : List ℕ) → o ≡ Some b → p ≡ Some v → in_front o p ≡ Some w → w ≡ b ∷ v
+front_of o p b v w e f g = (let h : in_front (Some b) (Some v) ≡ Some w = rw (e, f) at g in cc)
 
 -- what holds of each escape and what it stands for
 escape_pairs : (P : ℕ → ℕ → Bool) → P 34 34 ≡ true → P 92 92 ≡ true → P 116 9 ≡ true → P 110 10 ≡ true → P 102 12 ≡ true → P 114 13 ≡ true → (d x : ℕ) → escaped d ≡ Some x → P d x ≡ true
@@ -64,7 +67,7 @@ same_next k apart (b ∷ bs) v e = by (nat_eq b 92) refl (is_plain b) refl
     behind [] f = absurd cc
     behind (c ∷ cs) f =
         let i = in_front_some (escaped c) (unquoted cs) v f in
-        let w : v ≡ i.0 ∷ i.1 = (let g : in_front (Some i.0) (Some i.1) ≡ Some v = rw (i.2, i.3) at f in cc) in
+        let w : v ≡ i.0 ∷ i.1 = front_of (escaped c) (unquoted cs) i.0 i.1 v i.2 i.3 f in
         ap (next_is k) w ∙ unlike i.0 k i.1 (apart i.0 (escapes_unmarked c i.0 i.2).1)
 
     by : (j : Bool) → nat_eq b 92 ≡ j → (l : Bool) → is_plain b ≡ l → next_is k (b ∷ bs) ≡ next_is k v
@@ -75,7 +78,7 @@ same_next k apart (b ∷ bs) v e = by (nat_eq b 92) refl (is_plain b) refl
     by false j true p =
         let f : in_front (Some b) (unquoted bs) ≡ Some v = rw (p, j) at e in
         let i = in_front_some (Some b) (unquoted bs) v f in
-        let w : v ≡ b ∷ i.1 = (let g : in_front (Some b) (Some i.1) ≡ Some v = rw i.3 at f in cc) in
+        let w : v ≡ b ∷ i.1 = front_of (Some b) (unquoted bs) b i.1 v refl i.3 f in
         sym (ap (next_is k) w)
     by false j false p = (let f : in_front None (unquoted bs) ≡ Some v = rw (p, j) at e in absurd cc)
 
@@ -105,7 +108,7 @@ marks_step b bs w e x y = by (nat_eq b 92) refl (is_plain b) refl
     by false j true p =
         let f : in_front (Some b) (unquoted bs) ≡ Some w = rw (p, j) at e in
         let i = in_front_some (Some b) (unquoted bs) w f in
-        let s : w ≡ b ∷ i.1 = (let g : in_front (Some b) (Some i.1) ≡ Some w = rw i.3 at f in cc) in
+        let s : w ≡ b ∷ i.1 = front_of (Some b) (unquoted bs) b i.1 w refl i.3 f in
         ap holds_mark s ∙ plain_marks b bs i.1 i.3 (y i.1 i.3)
     by false j false p = (let f : in_front None (unquoted bs) ≡ Some w = rw (p, j) at e in absurd cc)
 
@@ -118,7 +121,7 @@ mutual
   marks_behind [] w e = absurd cc
   marks_behind (c ∷ cs) w e =
       let i = in_front_some (escaped c) (unquoted cs) w e in
-      let s : w ≡ i.0 ∷ i.1 = (let g : in_front (Some i.0) (Some i.1) ≡ Some w = rw (i.2, i.3) at e in cc) in
+      let s : w ≡ i.0 ∷ i.1 = front_of (escaped c) (unquoted cs) i.0 i.1 w i.2 i.3 e in
       let u = escapes_unmarked c i.0 i.2 in
       ap holds_mark s ∙ skipped i.0 i.1 u.1 ∙ marks_stay cs i.1 i.3 ∙ sym (skipped c cs u.0)
 

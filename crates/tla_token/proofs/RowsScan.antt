@@ -1,9 +1,8 @@
 -- Worked examples of readings and of what code finds in front of a text, by computation.
-use Rattle.std.specs.Prelude.{◌≡◌, ℕ, ◌+◌, ◌^◌, List, [], ◌∷◌, Option, Some, None, codes}
+use Rattle.std.specs.Prelude.{◌≡◌, ℕ, ◌^◌, List, Some, None, codes}
 use Rattle.std.proofs.Common.{refl}
 use Rattle.tla_token.specs.declared.fault.Reading.TheVariants as reading
 use Rattle.tla_token.specs.declared.part.Class.TheVariants as class
-use Rattle.tla_token.specs.declared.part.Part as code
 use Rattle.tla_token.specs.declared.rule.Rule.TheVariants as rule
 use Rattle.tla_token.specs.Lexemes.{string}
 use Rattle.tla_token.specs.Tokens.{lexeme}

@@ -1,11 +1,15 @@
 -- One step of a scanner, and what it has found at the end.
-use Rattle.std.proofs.Common.{◌≡◌, ℕ, zero, suc, ◌+◌, ◌-◌, ◌*◌, ◌<◌, ◌≤◌, ◌||◌, min, nat_le, Bool, true, false, nat_eq, codes, List, [], ◌∷◌, ◌++◌, length, take, drop, map, Option, Some, None, is_some, refl, sym, ap, subst, ◌∙◌, arith, append_assoc, append-nil, length-append, length-drop}
+use Rattle.std.proofs.Common.{◌≡◌, ℕ, zero, suc, ◌+◌, ◌-◌, ◌*◌, ◌<◌, ◌≤◌, ◌&&◌, ◌||◌, Bool, true, false, nat_eq, codes, List, [], ◌∷◌, ◌++◌, length, take, drop, Option, Some, None, Result, Err, is_some, refl, sym, ap, subst, ◌∙◌, arith, append_assoc, append-nil, length-drop}
 use Rattle.std.specs.List.{list_any, starts_with}
 use Rattle.std.proofs.Math.Seq.{drop-nil, take-add}
-use Rattle.std.proofs.lemmas.List.{take-append-drop, drop_all, drop-take, length-take-le}
-use Rattle.std.proofs.lemmas.Bool.{or_parts, leb-true, leb-false}
+use Rattle.std.proofs.lemmas.List.{take-append-drop, take_rest, drop_all, drop-take, length-take-le}
+use Rattle.std.proofs.lemmas.Bool.{or_parts}
 use Rattle.tla_token.specs.declared.place.Place.{Place}
 use Rattle.tla_token.specs.declared.rule.Rule.{Rule}
+use Rattle.tla_token.specs.declared.rule.Refusal.{Refusal}
+use Rattle.tla_token.specs.declared.rule.Stop.{Stop}
+use Rattle.tla_token.specs.declared.rule.Stop.TheVariants as stop
+use Rattle.tla_token.specs.declared.token.Tokens.{Tokens}
 use Rattle.tla_token.specs.declared.fault.Reading.{Reading}
 use Rattle.tla_token.specs.declared.fault.Reading.TheVariants as reading
 use Rattle.tla_token.specs.declared.part.Class.TheVariants as class
@@ -14,15 +18,15 @@ use Rattle.tla_token.specs.declared.scan.Scan.{Scan}
 use Rattle.tla_token.specs.Places.{step, after, start, place_at}
 use Rattle.tla_token.specs.Lexemes.{Kind, is_word, is_letter, is_blank, unquoted}
 use Rattle.tla_token.specs.Tokens.{Token, stretch}
-use Rattle.tla_token.specs.Offences.{Part, part_bytes, Offence, least, offences, part_offences}
+use Rattle.tla_token.specs.Offences.{Part, part_bytes, Offence, least}
 use Rattle.tla_token.specs.Cut.{run, parts}
 use Rattle.tla_token.specs.Scan.{is_quoted, inner, part_of, front, IsWordless}
-use Rattle.tla_token.specs.Readings.{read_offences, offences_in, part_offences_in, number_offences, joined, first_offence, names_algorithm}
+use Rattle.tla_token.specs.Readings.{offences_in, part_offences_in, joined, first_offence, names_algorithm}
 use Rattle.tla_token.specs.TokensSeen.{part_kind}
 use Rattle.tla_token.specs.Scanning.{token_at, lexemes_of, Outcome, outcome, Stands, GoesOn}
 use Rattle.tla_token.proofs.Words.{one_plus}
 use Rattle.tla_token.proofs.Faults.{joined_assoc, joined_none, least_append}
-use Rattle.tla_token.proofs.Found.{Found, found}
+use Rattle.tla_token.proofs.Found.{found, nothing_found}
 
 pub after_append : (p : Place) (xs ys : List ℕ) → after p (xs ++ ys) ≡ after (after p xs) ys
 after_append p [] ys = refl
@@ -118,7 +122,9 @@ blanks_before [] n e l = absurd (omega arith)
 blanks_before (b ∷ bs) n e l = by (is_blank b) refl
   where
     by : (k : Bool) → is_blank b ≡ k → starts_with nat_eq (drop n (b ∷ bs)) (codes "algorithm") ≡ names_algorithm (b ∷ bs)
-    by true k = rw (k, e) refl
+    by true k =
+        let x = starts_with nat_eq (drop (length (run is_blank (b ∷ bs))) (b ∷ bs)) (codes "algorithm") in
+        ap (λ (m : ℕ). starts_with nat_eq (drop m (b ∷ bs)) (codes "algorithm")) e ∙ sym (ap (λ (c : Bool). c && x) k)
     by false k = (let z : n ≡ 0 = rw k at e in absurd (omega arith))
 
 pub no_blanks : (t : List ℕ) (n : ℕ) → n ≡ length (run is_blank t) → n ≤ 0 → false ≡ names_algorithm t
@@ -138,19 +144,19 @@ wordless_past : (w n : ℕ) (t : List ℕ) → IsWordless w t → IsWordless (w 
 wordless_past zero n t h = (let e : 0 - n ≡ 0 = omega arith in rw e (none_known (drop n t)))
 wordless_past (suc w) zero t h = (let e : suc w - 0 ≡ suc w = omega arith in rw e h)
 wordless_past (suc w) (suc n) [] h = absurd (omega (arith, h.0))
-wordless_past (suc w) (suc n) (b ∷ bs) h = by (is_word b) refl
+wordless_past (suc w) (suc n) (b ∷ bs) h = by (is_word b) refl (λ m. wordless_past w n bs m)
   where
     fewer : suc w - suc n ≡ w - n
     fewer = omega arith
 
-    by : (k : Bool) → is_word b ≡ k → IsWordless (suc w - suc n) (drop (suc n) (b ∷ bs))
-    by false k = (let z : suc w ≤ 0 = rw k at h.0 in absurd (omega arith))
-    by true k =
+    by : (k : Bool) → is_word b ≡ k → (IsWordless w bs → IsWordless (w - n) (drop n bs)) → IsWordless (suc w - suc n) (drop (suc n) (b ∷ bs))
+    by false k go = (let z : suc w ≤ 0 = rw k at h.0 in absurd (omega arith))
+    by true k go =
         let r : run is_word (b ∷ bs) ≡ b ∷ run is_word bs = run_first is_word b bs k in
         let l : suc w ≤ suc (length (run is_word bs)) = rw r at h.0 in
         let none : 0 < suc w → (is_letter b || list_any is_letter (run is_word bs)) ≡ false = rw r at h.1 in
         let more : IsWordless w bs = (omega arith, λ z. (or_parts (is_letter b) (list_any is_letter (run is_word bs)) (none (omega arith))).1) in
-        rw fewer (wordless_past w n bs more)
+        rw fewer (go more)
 
 pub wordless_on : (w n at : ℕ) (bytes : List ℕ) → IsWordless w (drop at bytes) → IsWordless (w - n) (drop (at + n) bytes)
 wordless_on w n at bytes h = (let P : List ℕ → Type 0 = λ u. IsWordless (w - n) u in subst P (drop_more at n bytes) (wordless_past w n (drop at bytes) h))
@@ -164,14 +170,13 @@ all_found r from bytes s b us ts e l none =
     let d : drop s.at bytes ≡ [] = drop_all s.at bytes l in
     let tokens : us ++ lexemes_of s.place (from + s.at) (parts (drop s.at bytes)) ≡ ts ++ lexemes_of b.place (from + b.at) (parts (drop b.at bytes)) = ap (λ (o : Outcome). o.tokens) e in
     let offence : joined s.fault (least (offences_in r (from + s.at) (parts (drop s.at bytes)))) ≡ joined b.fault (least (offences_in r (from + b.at) (parts (drop b.at bytes)))) = ap (λ (o : Outcome). o.offence) e in
-    let end : after s.place (drop s.at bytes) ≡ after b.place (drop b.at bytes) = ap (λ (o : Outcome). o.end) e in
-    (
+    let end : after s.place (drop s.at bytes) ≡ after b.place (drop b.at bytes) = ap (λ (o : Outcome). o.end) e in (
       sym (append-nil us) ∙ ap (λ (u : List ℕ). us ++ lexemes_of s.place (from + s.at) (parts u)) (sym d) ∙ tokens,
       sym (joined_none s.fault)
-      ∙ ap (joined s.fault) (sym (nothing r (from + s.at)))
-      ∙ ap (λ (u : List ℕ). joined s.fault (least (offences_in r (from + s.at) (parts u)))) (sym d)
-      ∙ offence
-      ∙ ap (λ (o : Option Offence). joined o (least (offences_in r (from + b.at) (parts (drop b.at bytes))))) none,
+          ∙ ap (joined s.fault) (sym (nothing r (from + s.at)))
+          ∙ ap (λ (u : List ℕ). joined s.fault (least (offences_in r (from + s.at) (parts u)))) (sym d)
+          ∙ offence
+          ∙ ap (λ (o : Option Offence). joined o (least (offences_in r (from + b.at) (parts (drop b.at bytes))))) none,
       ap (after s.place) (sym d) ∙ end,
     )
   where
@@ -201,15 +206,8 @@ take_all (suc n) [] l = refl
 take_all zero (x ∷ xs) l = absurd (omega arith)
 take_all (suc n) (x ∷ xs) l = ap (λ (u : List ℕ). x ∷ u) (take_all n xs (omega arith))
 
-pub place_within : (text : List ℕ) (at : ℕ) → place_at text (min at (length text)) ≡ place_at text at
-place_within text at = by (nat_le at (length text)) refl
-  where
-    by : (k : Bool) → nat_le at (length text) ≡ k → place_at text (min at (length text)) ≡ place_at text at
-    by true k = (let l : at ≤ length text = leb-true at (length text) k in let e : min at (length text) ≡ at = omega arith in ap (place_at text) e)
-    by false k =
-        let l : length text < at = leb-false at (length text) k in
-        let e : min at (length text) ≡ length text = omega arith in
-        ap (after start) (ap (λ (n : ℕ). take n text) e ∙ take_all (length text) text (omega arith) ∙ sym (take_all at text (omega arith)))
+pub place_beyond : (text : List ℕ) (at : ℕ) → length text ≤ at → place_at text (length text) ≡ place_at text at
+place_beyond text at l = ap (after start) (take_all (length text) text (omega arith) ∙ sym (take_all at text l))
 
 pub begins_there : (text : List ℕ) (from begin to : ℕ) (s : Scan) → from ≤ begin → begin ≤ to → to ≤ length text → s.at ≡ begin - from → s.place.line ≤ 1 + begin → s.place.col ≤ 1 + 8 * begin → s.wordless ≡ 0
     → Stands from (stretch text from to) s
@@ -262,3 +260,32 @@ goes_past r from bytes s p piece place w f ts us kind stands e is moved line col
     steps_on r from bytes s t p ts us e refl (moved ∙ ap (after s.place) is) (fault ∙ ap (λ (u : List ℕ). joined s.fault (least (part_offences_in r (from + s.at) (part_of p.class u)))) is)
     (kept ∙ ap (λ (k : Option Kind). ts ++ token_at s.place (from + s.at) k) sort) in
     (omega arith, there, goes)
+
+-- ---- at the end
+
+pub goes_end : (r : Reading) (from : ℕ) (bytes : List ℕ) (ts us : List Token) (s : Scan) (o : Option Scan) → ((t : Scan) → o ≡ Some t → ⊥) → GoesOn r from bytes ts us s o → (length bytes ≤ s.at) × (us ≡ ts)
+goes_end r from bytes ts us s None none h = h
+goes_end r from bytes ts us s (Some t) none h = absurd (none t refl)
+
+pub refused_so : (text : List ℕ) (fault offence : Option Offence) (rule : Rule) (at : ℕ) (place : Place) (q r : Refusal) → fault ≡ Some (rule, at) → fault ≡ offence → place ≡ place_at text at → q ≡ r → q.rule ≡ rule → q.place ≡ place
+    → (x : ℕ) × (offence ≡ Some (r.rule, x)) × (r.place ≡ place_at text x)
+refused_so text fault offence rule at place q r f same is e rules places =
+    let known : rule ≡ r.rule = sym rules ∙ ap (λ (x : Refusal). x.rule) e in
+    (at, sym same ∙ f ∙ ap (λ (x : Rule). Some (x, at)) known, ap (λ (x : Refusal). x.place) (sym e) ∙ places ∙ is)
+
+pub same_refused : (q r : Refusal) → ◌≡◌ {A = Result Tokens Stop} (Err (stop.Refused q)) (Err (stop.Refused r)) → q ≡ r
+same_refused q r e = cc
+
+pub at_end : (bytes : List ℕ) (at : ℕ) → None ≡ front (take (length bytes - at) (drop at bytes)) → length bytes ≤ at
+at_end bytes at e =
+    let f : None ≡ front (drop at bytes) = e ∙ ap front (take_rest bytes at) in
+    let n = nothing_found (drop at bytes) f in
+    omega (arith, length-drop at bytes)
+
+-- what is known of words changes nothing of what is found
+known_alike : (r : Reading) (from : ℕ) (ts : List Token) (s : Scan) (w : ℕ) (rest : List ℕ) → outcome r from ts s rest ≡ outcome r from ts (record { at = s.at; place = s.place; wordless = w; fault = s.fault }) rest
+unfolding outcome
+known_alike r from ts s w rest = refl
+
+pub goes_known : (r : Reading) (from : ℕ) (bytes : List ℕ) (ts us : List Token) (s : Scan) (w : ℕ) (t : Scan) → GoesOn r from bytes ts us (record { at = s.at; place = s.place; wordless = w; fault = s.fault }) (Some t) → GoesOn r from bytes ts us s (Some t)
+goes_known r from bytes ts us s w t h = (h.0, h.1, known_alike r from ts s w (drop s.at bytes) ∙ h.2)

@@ -155,7 +155,10 @@ fn open_text_fault(bytes: &[u8], at: usize, reading: Reading) -> Option<(Rule, u
     requires small { at + length bytes.now < 2 ^ 32 }
     ensures { result ≡ least (part_offences_in reading at (part_of class.OpenText bytes.now)) }
 {
-    sooner(Some((Rule::OpenString, at)), byte_fault(&bytes[1..], at + 1))
+    sooner(
+        Some((Rule::OpenString, at)),
+        byte_fault(&bytes[1..], at + 1),
+    )
 }
 
 /// What is wrong with a part that these bytes make up.

@@ -112,14 +112,26 @@ mod tests {
             ("a \\* b (* c\n d", "na|nd|"),
             ("/\\* a", "=And|=Times|na|"),
             ("(*)*)", ""),
-            ("\\in \\in2 \\1 \\union \\", "=In|o\\in2|=Without|=1|=Cup|=Without|"),
-            ("=< <= =<> <=> |-> || | ||-", "=AtMost|=AtMost|=AtMost|=Greater|=Equivalent|=MapsTo|=Parallel|o||=Parallel|=Minus|"),
+            (
+                "\\in \\in2 \\1 \\union \\",
+                "=In|o\\in2|=Without|=1|=Cup|=Without|",
+            ),
+            (
+                "=< <= =<> <=> |-> || | ||-",
+                "=AtMost|=AtMost|=AtMost|=Greater|=Equivalent|=MapsTo|=Parallel|o||=Parallel|=Minus|",
+            ),
             ("1_2_a 1_2_ _", "n1_2_a|=1|o_|=2|o_|o_|"),
             ("'..'", "o'|=Range|o'|"),
             ("\"a\\\"b\\\\\" c", "ta\\\"b\\\\|nc|"),
             ("\"(* \" *)", "t(* |=Times|=CloseRound|"),
-            ("170141183460469231731687303715884105727", "=170141183460469231731687303715884105727|"),
-            ("\n 170141183460469231731687303715884105728", "2:2: 12 NumberTooBig"),
+            (
+                "170141183460469231731687303715884105727",
+                "=170141183460469231731687303715884105727|",
+            ),
+            (
+                "\n 170141183460469231731687303715884105728",
+                "2:2: 12 NumberTooBig",
+            ),
             ("00000000000000000000000000000000000000000000000001", "=1|"),
             ("--algorithm A (* x *)", "n--algorithm|nA|"),
             ("--fair\n algorithm", "n--fair|nalgorithm|"),
@@ -140,7 +152,11 @@ mod tests {
             ("\x02 \u{80}", "1:3: 1 NotAscii"),
         ];
         for (text, wanted) in cases {
-            assert_eq!(rt; told(rt.alloc(), text.as_bytes())?.as_slice(), wanted.as_bytes(), "{text}");
+            assert_eq!(rt;
+                told(rt.alloc(), text.as_bytes())?.as_slice(),
+                wanted.as_bytes(),
+                "{text}"
+            );
         }
         Ok(())
     }

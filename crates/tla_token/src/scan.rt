@@ -100,7 +100,15 @@ fn algorithm_tokens(
         at: from,
         place: place_of(text, from),
     })?;
-    rest_of(alloc, text, from, from + opening, to, Reading::Algorithm, items)
+    rest_of(
+        alloc,
+        text,
+        from,
+        from + opening,
+        to,
+        Reading::Algorithm,
+        items,
+    )
 }
 
 // How long the first token of an algorithm is, where a stretch begins with one.
@@ -159,7 +167,7 @@ fn rest_of(
     if let Some((rule, at)) = scan.fault {
         return Err(Stop::Refused(Refusal {
             rule,
-            place: place_of(text, at.min(text.len())),
+            place: place_near(text, at),
         }));
     }
     Ok(Tokens {
@@ -167,6 +175,19 @@ fn rest_of(
         items,
         end: scan.place,
     })
+}
+
+// The place of a byte, or of the text's end for all behind it.
+#[tactic(auto, using(crate::proofs::Scans::place_beyond))]
+fn place_near(text: &[u8], at: usize) -> Place
+    requires { length text.now < 2 ^ 29 }
+    ensures { result ≡ place_at text.now at }
+{
+    if at < text.len() {
+        place_of(text, at)
+    } else {
+        place_of(text, text.len())
+    }
 }
 
 // Past the next part, with its token added where it is one; nothing at the end.

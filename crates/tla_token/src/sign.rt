@@ -158,7 +158,11 @@ const SIGNS: [Sign; 47] = [
 fn one_len(text: &[u8], v: &[u8]) -> Option<usize>
     ensures { result ≡ option_map length (find (λ x. starts_with nat_eq text.now x) (v.now ∷ [])) }
 {
-    if text.starts_with(v) { Some(v.len()) } else { None }
+    if text.starts_with(v) {
+        Some(v.len())
+    } else {
+        None
+    }
 }
 
 fn two_len(text: &[u8], v: &[u8], w: &[u8]) -> Option<usize>

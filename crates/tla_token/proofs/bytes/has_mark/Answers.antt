@@ -1,4 +1,4 @@
-use Rattle.std.proofs.Common.{sym, ◌∙◌, arith}
+use Rattle.std.proofs.Common.{◌∙◌, arith}
 use Rattle.tla_token.proofs.Steps.{short_mark}
 use Rattle.tla_token.proofs.bytes.has_mark.Goals as goal
 

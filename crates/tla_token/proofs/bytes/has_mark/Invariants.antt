@@ -1,4 +1,4 @@
-use Rattle.std.proofs.Common.{◌≡◌, ◌-◌, ◌<◌, length, drop}
+use Rattle.std.proofs.Common.{◌≡◌, ◌-◌, drop}
 use Rattle.tla_token.specs.Tokens.{holds_mark}
 use Rattle.tla_token.proofs.bytes.has_mark.Given as goal
 

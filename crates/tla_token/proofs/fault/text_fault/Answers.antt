@@ -1,4 +1,4 @@
-use Rattle.std.proofs.Common.{◌≡◌, Some, None, ap, ◌∙◌, sym}
+use Rattle.std.proofs.Common.{ap, ◌∙◌, sym}
 use Rattle.tla_token.specs.Offences.{least}
 use Rattle.tla_token.specs.Scan.{part_of}
 use Rattle.tla_token.specs.declared.part.Class.TheVariants as class

@@ -1,4 +1,3 @@
-use Rattle.std.proofs.Common.{refl}
 use Rattle.tla_token.proofs.Fronts.{mark_sign}
 use Rattle.tla_token.proofs.part.mark_at.Goals as goal
 
