@@ -1,5 +1,5 @@
 -- What the cutting function gives are parts of the text, and they fit.
-use Rattle.std.proofs.Common.{◌≡◌, ℕ, zero, suc, ◌+◌, ◌<◌, ◌≤◌, Bool, true, false, not, ◌&&◌, nat_eq, List, [], ◌∷◌, ◌++◌, length, take, drop, Option, Some, None, refl, sym, ap, subst, ◌∙◌, arith, codes, find, append_assoc, append-nil, length-append}
+use Rattle.std.proofs.Common.{◌≡◌, ℕ, zero, suc, ◌<◌, ◌≤◌, Bool, true, false, not, ◌&&◌, nat_eq, List, [], ◌∷◌, ◌++◌, length, take, drop, Option, Some, None, refl, sym, ap, subst, ◌∙◌, arith, codes, find, append_assoc, append-nil, length-append}
 use Rattle.std.specs.List.{list_all, list_any, starts_with}
 use Rattle.std.proofs.lemmas.List.{take-append-drop, length-take-le}
 use Rattle.std.proofs.lemmas.Bool.{and_parts, and_from, eqb-true, false_from_ne_true, both_ways}
@@ -334,7 +334,7 @@ marks_cut b bs filled no_mark none wordless d back = by (sign_at (b ∷ bs)) ref
 
 -- ---- all parts
 
-front_cut : (b : ℕ) (bs : List ℕ) → Cut (b ∷ bs)
+pub front_cut : (b : ℕ) (bs : List ℕ) → Cut (b ∷ bs)
 front_cut b bs =
     by (is_blank b) refl (nat_eq b 34) refl (starts_with nat_eq (b ∷ bs) (codes "(*")) refl (starts_with nat_eq (b ∷ bs) (codes "\\*")) refl
     (list_any is_letter (run is_word (b ∷ bs))) refl (is_digit b) refl (nat_eq b 92 && list_any is_letter (run is_word bs)) refl

@@ -108,7 +108,7 @@ sound_part a at (bad_string raw) rest (n, u) e =
 sound_part a at (open_string raw) rest h e = absurd cc
 sound_part a at (open_block body) rest h e = absurd cc
 
-all_sound : (a : Bool) (at : ℕ) (xs : List Part) → PartsFit xs → offences a at xs ≡ [] → (ps : List Piece) × (xs ≡ map sound ps)
+pub all_sound : (a : Bool) (at : ℕ) (xs : List Part) → PartsFit xs → offences a at xs ≡ [] → (ps : List Piece) × (xs ≡ map sound ps)
 all_sound a at [] h e = ([], refl)
 all_sound a at (x ∷ xs) (f, h) e =
     let s = no_front (part_offences a at x) (offences a (at + length (part_bytes x)) xs) e in

@@ -8,3 +8,7 @@ pub mod Tokens
 pub mod Offences
 pub mod AlgorithmOffences
 pub mod Cut
+pub mod Scan
+pub mod Readings
+pub mod TokensSeen
+pub mod Scanning

@@ -1,0 +1,278 @@
+//! Scanning: the tokens of a stretch of a text, or the offence that counts in it.
+
+ghost use Rattle.std.specs.Prelude.{◌≡◌, ℕ, List, ◌+◌, ◌-◌, ◌^◌, ◌<◌, ◌≤◌, ◌++◌, [], None, Some, length, take, drop, map, option_map, is_some, true, IfOk, Err};
+ghost use Rattle.tla_token.specs.declared.rule.Refusal as code;
+ghost use Rattle.tla_token.specs.Places.{place_at};
+ghost use Rattle.tla_token.specs.Tokens.{stretch, Tok};
+ghost use Rattle.tla_token.specs.Cut.{parts};
+ghost use Rattle.tla_token.specs.Scan.{is_quoted, inner, front};
+ghost use Rattle.tla_token.specs.Lexemes.{unquoted};
+ghost use Rattle.tla_token.specs.Readings.{first_offence, IsRefused, names_algorithm, opening_of, AreTokens, given_offence, IsGivenRefused};
+ghost use Rattle.tla_token.specs.TokensSeen.{kind_seen, token_seen, tokens_seen};
+ghost use Rattle.tla_token.specs.Scanning.{token_at, lexemes_of, Stands, GoesOn};
+
+use crate::bytes::blank_len;
+use crate::fault::{Reading, part_fault, sooner};
+use crate::part::{Class, Part, part_at};
+use crate::place::{Place, place_after, place_of};
+use crate::rule::{Refusal, Rule, Stop};
+use crate::token::{Kind, Span, Token, Tokens, kind_at};
+use std::alloc::{AllocError, Global};
+
+/// Where a scanner is in a stretch, and what it knows.
+#[derive(Clone, Copy, PartialEq, Eq, Debug)]
+pub struct Scan {
+    pub at: usize,
+    pub place: Place,
+    /// So many bytes from here on are known to be in a word without a letter.
+    pub wordless: usize,
+    /// The offence that counts so far.
+    pub fault: Option<(Rule, usize)>,
+}
+
+/// The tokens of a stretch of a text that is given to be read, as an algorithm's where it begins with `--algorithm`,
+/// or with `--fair`, blanks and `algorithm`.
+///
+/// # Errors
+///
+/// The least of the rules 1 to 4 and 12 that the stretch offends, at its first place; or want of memory.
+pub fn tokens(alloc: Global, text: &[u8], from: usize, to: usize) -> Result<Tokens, Stop>
+    requires begins { from ≤ to }
+    requires ends { to ≤ length text.now }
+    requires small { length text.now < 2 ^ 29 }
+    ensures tokens { IfOk result (λ v. AreTokens text.now from to (tokens_seen v)) }
+    ensures fine { IfOk result (λ v. given_offence text.now from to ≡ None) }
+    ensures end { IfOk result (λ v. v.end ≡ place_at text.now to) }
+    ensures refused { (r : code.Refusal) → result ≡ Err (Stop.Refused r) → IsGivenRefused text.now from to r }
+{
+    match opening(&text[from..to]) {
+        None => tokens_as(alloc, text, from, to, Reading::Read),
+        Some(n) => algorithm_tokens(alloc, text, from, to, n),
+    }
+}
+
+/// The tokens of a stretch of a text that is looked at so.
+///
+/// # Errors
+///
+/// The least rule that the stretch offends, at its first place; or want of memory.
+pub fn tokens_as(
+    alloc: Global,
+    text: &[u8],
+    from: usize,
+    to: usize,
+    reading: Reading,
+) -> Result<Tokens, Stop>
+    requires begins { from ≤ to }
+    requires ends { to ≤ length text.now }
+    requires small { length text.now < 2 ^ 29 }
+    ensures tokens { IfOk result (λ v. Tok text.now from to (tokens_seen v)) }
+    ensures fine { IfOk result (λ v. first_offence reading text.now from to ≡ None) }
+    ensures end { IfOk result (λ v. v.end ≡ place_at text.now to) }
+    ensures refused { (r : code.Refusal) → result ≡ Err (Stop.Refused r) → IsRefused reading text.now from to r }
+{
+    rest_of(alloc, text, from, from, to, reading, Vec::new(alloc))
+}
+
+// The tokens of an algorithm whose first token has so many bytes.
+fn algorithm_tokens(
+    alloc: Global,
+    text: &[u8],
+    from: usize,
+    to: usize,
+    opening: usize,
+) -> Result<Tokens, Stop>
+    requires begins { from ≤ to }
+    requires ends { to ≤ length text.now }
+    requires small { length text.now < 2 ^ 29 }
+    requires opening { Some opening ≡ option_map length (opening_of (stretch text.now from to)) }
+    ensures tokens { IfOk result (λ v. AreTokens text.now from to (tokens_seen v)) }
+    ensures fine { IfOk result (λ v. given_offence text.now from to ≡ None) }
+    ensures end { IfOk result (λ v. v.end ≡ place_at text.now to) }
+    ensures refused { (r : code.Refusal) → result ≡ Err (Stop.Refused r) → IsGivenRefused text.now from to r }
+{
+    let mut items = Vec::new(alloc);
+    items.push(Token {
+        kind: Kind::Name(Span {
+            from: 0,
+            to: opening,
+        }),
+        at: from,
+        place: place_of(text, from),
+    })?;
+    rest_of(
+        alloc,
+        text,
+        from,
+        from + opening,
+        to,
+        Reading::Algorithm,
+        items,
+    )
+}
+
+// How long the first token of an algorithm is, where a stretch begins with one.
+fn opening(text: &[u8]) -> Option<usize>
+    ensures { result ≡ option_map length (opening_of text.now) }
+{
+    if text.starts_with(b"--algorithm") {
+        Some(11)
+    } else if text.starts_with(b"--fair") && names_algorithm(&text[6..]) {
+        Some(6)
+    } else {
+        None
+    }
+}
+
+// Whether blanks and `algorithm` are in front.
+#[tactic(auto, using(crate::proofs::Scans::blanks_before, crate::proofs::Scans::no_blanks))]
+fn names_algorithm(text: &[u8]) -> bool
+    ensures { result ≡ names_algorithm text.now }
+{
+    let n = blank_len(text);
+    n > 0 && text[n..].starts_with(b"algorithm")
+}
+
+// The tokens of a stretch behind those that are there, from `start` on.
+fn rest_of(
+    alloc: Global,
+    text: &[u8],
+    from: usize,
+    start: usize,
+    to: usize,
+    reading: Reading,
+    items: Vec<Token>,
+) -> Result<Tokens, Stop>
+    requires begins { from ≤ start }
+    requires starts { start ≤ to }
+    requires ends { to ≤ length text.now }
+    requires small { length text.now < 2 ^ 29 }
+    ensures bytes { IfOk result (λ v. v.bytes.items ≡ stretch text.now from to) }
+    ensures tokens { IfOk result (λ v. map (token_seen v.bytes.items) v.items.items ≡ map (token_seen v.bytes.items) items.items ++ lexemes_of (place_at text.now start) start (parts (stretch text.now start to))) }
+    ensures fine { IfOk result (λ v. first_offence reading text.now start to ≡ None) }
+    ensures end { IfOk result (λ v. v.end ≡ place_at text.now to) }
+    ensures refused { (r : code.Refusal) → result ≡ Err (Stop.Refused r) → IsRefused reading text.now start to r }
+{
+    let bytes = &text[from..to];
+    let mut items = items;
+    let mut scan = Scan {
+        at: start - from,
+        place: place_of(text, start),
+        wordless: 0,
+        fault: None,
+    };
+    'parts: while let Some(after) = next(alloc, bytes, from, reading, scan, &mut items)? {
+        scan = after;
+    }
+    if let Some((rule, at)) = scan.fault {
+        return Err(Stop::Refused(Refusal {
+            rule,
+            place: place_near(text, at),
+        }));
+    }
+    Ok(Tokens {
+        bytes: Vec::from_slice(alloc, bytes)?,
+        items,
+        end: scan.place,
+    })
+}
+
+// The place of a byte, or of the text's end for all behind it.
+#[tactic(auto, using(crate::proofs::Scans::place_beyond))]
+fn place_near(text: &[u8], at: usize) -> Place
+    requires { length text.now < 2 ^ 29 }
+    ensures { result ≡ place_at text.now at }
+{
+    if at < text.len() {
+        place_of(text, at)
+    } else {
+        place_of(text, text.len())
+    }
+}
+
+// Past the next part, with its token added where it is one; nothing at the end.
+fn next(
+    alloc: Global,
+    bytes: &[u8],
+    from: usize,
+    reading: Reading,
+    scan: Scan,
+    items: &mut Vec<Token>,
+) -> Result<Option<Scan>, AllocError>
+    requires stands { Stands from bytes.now scan }
+    requires small { from + length bytes.now < 2 ^ 29 }
+    ensures { IfOk result (λ o. GoesOn reading from bytes.now (map (token_seen bytes.now) items.old.items) (map (token_seen bytes.now) items.new.items) scan o) }
+{
+    let mut wordless = scan.wordless;
+    match part_at(&bytes[scan.at..], &mut wordless) {
+        None => Ok(None),
+        Some(part) => {
+            let here = Scan {
+                at: scan.at,
+                place: scan.place,
+                wordless,
+                fault: scan.fault,
+            };
+            let there = past(alloc, bytes, from, reading, here, part, items)?;
+            Ok(Some(there))
+        }
+    }
+}
+
+// Past the part in front.
+fn past(
+    alloc: Global,
+    bytes: &[u8],
+    from: usize,
+    reading: Reading,
+    scan: Scan,
+    part: Part,
+    items: &mut Vec<Token>,
+) -> Result<Scan, AllocError>
+    requires stands { Stands from bytes.now scan }
+    requires small { from + length bytes.now < 2 ^ 29 }
+    requires part { Some part ≡ front (drop scan.at bytes.now) }
+    ensures { IfOk result (λ s. GoesOn reading from bytes.now (map (token_seen bytes.now) items.old.items) (map (token_seen bytes.now) items.new.items) scan (Some s)) }
+{
+    let piece = piece_of(&bytes[scan.at..], part);
+    let at = from + scan.at;
+    let kind = kind_at(bytes, scan.at, part);
+    let place = place_after(scan.place, piece);
+    let fault = sooner(scan.fault, part_fault(part.class, piece, at, reading));
+    keep(items, kind, at, scan.place)?;
+    Ok(Scan {
+        at: scan.at + part.len,
+        place,
+        wordless: scan.wordless.saturating_sub(part.len),
+        fault,
+    })
+}
+
+// The bytes of the part in front.
+#[tactic(auto, using(crate::proofs::Scans::part_within, crate::proofs::Scans::part_size, crate::proofs::Scans::part_some, crate::proofs::Scans::part_quoted, crate::proofs::Scans::part_text))]
+fn piece_of(rest: &[u8], part: Part) -> &[u8]
+    requires { Some part ≡ front rest.now }
+    ensures value { result.now ≡ take part.len rest.now }
+    ensures size { length result.now ≡ part.len }
+    ensures within { part.len ≤ length rest.now }
+    ensures some { 0 < part.len }
+    ensures quoted { is_quoted part.class ≡ true → 2 ≤ part.len }
+    ensures text { part.class ≡ Class.Text → is_some (unquoted (inner result.now)) ≡ true }
+{
+    &rest[..part.len]
+}
+
+// Adds a token, where there is one.
+fn keep(
+    items: &mut Vec<Token>,
+    kind: Option<Kind>,
+    at: usize,
+    place: Place,
+) -> Result<(), AllocError>
+    ensures { (bytes : List ℕ) → IfOk result (λ u. map (token_seen bytes) items.new.items ≡ map (token_seen bytes) items.old.items ++ token_at place at (option_map (kind_seen bytes) kind)) }
+{
+    if let Some(kind) = kind {
+        items.push(Token { kind, at, place })?;
+    }
+    Ok(())
+}
