@@ -64,4 +64,6 @@ pub mod ReplyLaws
 pub mod ReplyConverse
 pub mod AfterSigns
 pub mod AfterSignsAll
+pub mod AfterColons
+pub mod AfterColonsAll
 pub mod RowsRefused
