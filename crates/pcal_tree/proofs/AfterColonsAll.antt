@@ -1,5 +1,5 @@
 -- Behind the colon of a label, `await` and `if` have an expression, and after it comes a token that ends it: in algorithms in P-syntax.
-use Rattle.std.proofs.Common.{◌≡◌, ℕ, zero, suc, ◌+◌, ◌≤◌, Bool, true, false, List, [], ◌∷◌, ◌++◌, Option, Some, None, Ok, Err, map, codes, nat_lt, if◌then◌else◌, refl, sym, ap, ◌∙◌, subst, arith}
+use Rattle.std.proofs.Common.{◌≡◌, ℕ, zero, suc, ◌+◌, ◌≤◌, Bool, true, false, List, [], ◌∷◌, ◌++◌, Option, Some, None, Ok, Err, map, codes, nat_lt, refl, sym, ap, ◌∙◌, subst, arith}
 use Rattle.std.specs.List.{AllByRecursion}
 use Rattle.tla_token.specs.declared.place.Place.{Place}
 use Rattle.tla_expr.specs.declared.op.Op.TheVariants as op
@@ -7,7 +7,6 @@ use Rattle.tla_expr.specs.Tree.{Word}
 use Rattle.tla_expr.specs.Lexical.{TokenView, Token, sign_of}
 use Rattle.tla_expr.specs.Lexical as tk
 use Rattle.tla_expr.specs.Spelling.{Phrase}
-use Rattle.tla_expr.specs.Spelling as spelled
 use Rattle.tla_expr.specs.Reader.{Out, readers, free}
 use Rattle.tla_expr.specs.FirstStop.{looks, Begins}
 use Rattle.tla_expr.specs.laws.Following.{is_calm, Calm}

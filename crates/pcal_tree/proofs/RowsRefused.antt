@@ -1,7 +1,6 @@
 -- Worked examples of algorithms that are refused at a token.
-use Rattle.std.proofs.Common.{◌≡◌, ℕ, ◌+◌, List, [], ◌∷◌, ◌++◌, take, drop, map, true, Some, None, refl, arith, inl, inr, codes}
+use Rattle.std.proofs.Common.{ℕ, ◌+◌, List, [], ◌∷◌, ◌++◌, take, drop, true, Some, None, refl, arith, inr, codes}
 use Rattle.tla_token.specs.declared.rule.Rule.TheVariants.{Syntax}
-use Rattle.tla_token.specs.declared.rule.Refusal.{Refusal}
 use Rattle.tla_token.specs.declared.sign.Sign.TheVariants as sign
 use Rattle.tla_token.specs.Lexemes.{name, number, one}
 use Rattle.tla_token.specs.Tokens.{Token}
@@ -9,7 +8,7 @@ use Rattle.tla_expr.specs.declared.op.Op.TheVariants as op
 use Rattle.tla_expr.specs.Spelling.{Phrase}
 use Rattle.tla_expr.specs.Spelling as spelled
 use Rattle.tla_expr.specs.Reader.{readers}
-use Rattle.tla_expr.specs.FirstStop.{looks, to_end, Begins, Passes, StopsAt}
+use Rattle.tla_expr.specs.FirstStop.{to_end, Begins, Passes}
 use Rattle.tla_expr.proofs.StopLaws.{passes_begins}
 use Rattle.pcal_tree.specs.AlgorithmTokens.{views}
 use Rattle.pcal_tree.specs.GrammarParts as part
@@ -71,7 +70,7 @@ with_statement s = record {
   name = n 4 13 (codes "Two");
   around = text.to_end (at 9 1) (at 9 5);
   variables = part.section (at 5 1) true (part.variable (n 5 11 (codes "x")) (part.equals (at 5 13) (spelled.number (at 5 15) 1)) (part.by_comma (at 5 16))
-    (part.last_variable (n 5 18 (codes "y")) (part.equals (at 5 20) (spelled.number (at 5 22) 0)) (Some (part.by_semicolon (at 5 23)))));
+      (part.last_variable (n 5 18 (codes "y")) (part.equals (at 5 20) (spelled.number (at 5 22) 0)) (Some (part.by_semicolon (at 5 23)))));
   define = text.no_define;
   macros = [];
   procedures = [];
