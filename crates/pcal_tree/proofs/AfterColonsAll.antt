@@ -21,7 +21,8 @@ use Rattle.pcal_tree.specs.Grammar.{p_syntax}
 use Rattle.pcal_tree.specs.Grammar as g
 use Rattle.pcal_tree.specs.OffencesSyntax.{algorithms}
 use Rattle.pcal_tree.proofs.LinesGood.{begun}
-use Rattle.pcal_tree.proofs.AfterColons.{is_stop, stops, Expression, AfterColon, first_reserved, Sound, after, other_first, starts_one, keeps_one, keeps_all}
+use Rattle.pcal_tree.proofs.ExpressionTokens.{begins_phrase, phrase_begins}
+use Rattle.pcal_tree.proofs.AfterColons.{is_stop, stops, Expression, AfterColon, Sound, after, other_first, keeps_one, keeps_all}
 
 keeps_maybe_semicolon : (s : Option Place) (ts : List Token) → Sound ts → Sound (part.maybe_semicolon s ts)
 keeps_maybe_semicolon None ts so = so
@@ -38,8 +39,8 @@ keeps_separator (part.by_comma p) ts so = so
 
 keeps_initial : (x : part.Initial) (ts : List Token) → Sound ts → Sound (part.initial x ts)
 keeps_initial part.unset ts so = so
-keeps_initial (part.equals p e) ts so = after (sign_of op.Equal) p (part.expression e ts) (starts_one e ts) (keeps_one e ts so)
-keeps_initial (part.among p e) ts so = after (sign_of op.In) p (part.expression e ts) (starts_one e ts) (keeps_one e ts so)
+keeps_initial (part.equals p e) ts so = after (sign_of op.Equal) p (part.expression e ts) (phrase_begins e ts) (keeps_one e ts so)
+keeps_initial (part.among p e) ts so = after (sign_of op.In) p (part.expression e ts) (phrase_begins e ts) (keeps_one e ts so)
 
 keeps_variables : (x : part.Variables) (ts : List Token) → Sound ts → Sound (part.variables x ts)
 keeps_variables (part.last_variable x i s) ts so = keeps_initial i (part.maybe_separator s ts) (keeps_maybe_separator s ts so)
@@ -87,20 +88,20 @@ keeps_labels part.no_labels ts f so = so
 keeps_labels (part.label x c ls) ts f so = keeps_colon_tokens c (part.labels ls ts) (starts_labels ls ts f) (keeps_labels ls ts f so)
 
 keeps_binds : (x : part.Binds) (ts : List Token) → Sound ts → Sound (part.binds x ts)
-keeps_binds (part.last_bind x b p e s) ts so = after (sign_of (bind_sign b)) p (part.expression e (part.maybe_separator s ts)) (starts_one e (part.maybe_separator s ts)) (keeps_one e (part.maybe_separator s ts) (keeps_maybe_separator s ts so))
-keeps_binds (part.bind x b p e s bs) ts so = after (sign_of (bind_sign b)) p (part.expression e (part.separator s (part.binds bs ts))) (starts_one e (part.separator s (part.binds bs ts))) (keeps_one e (part.separator s (part.binds bs ts)) (keeps_separator s (part.binds bs ts) (keeps_binds bs ts so)))
+keeps_binds (part.last_bind x b p e s) ts so = after (sign_of (bind_sign b)) p (part.expression e (part.maybe_separator s ts)) (phrase_begins e (part.maybe_separator s ts)) (keeps_one e (part.maybe_separator s ts) (keeps_maybe_separator s ts so))
+keeps_binds (part.bind x b p e s bs) ts so = after (sign_of (bind_sign b)) p (part.expression e (part.separator s (part.binds bs ts))) (phrase_begins e (part.separator s (part.binds bs ts))) (keeps_one e (part.separator s (part.binds bs ts)) (keeps_separator s (part.binds bs ts) (keeps_binds bs ts so)))
 
 keeps_arguments : (x : part.Arguments) (ts : List Token) → Sound ts → Sound (part.arguments x ts)
 keeps_arguments (part.no_arguments p q) ts so = so
 keeps_arguments (part.some_arguments p xs q) ts so = keeps_all xs (part.mark q tk.close_bracket ts) so
 
-starts_assignments : (x : part.Assignments) (ts : List Token) → first_reserved (part.assignments x ts) ≡ false
-starts_assignments (part.last_assignment l p e) ts = starts_one l (part.mark p tk.assigns (part.expression e ts))
-starts_assignments (part.assignment l p e q ms) ts = starts_one l (part.mark p tk.assigns (part.expression e (part.mark q tk.beside (part.assignments ms ts))))
+starts_assignments : (x : part.Assignments) (ts : List Token) → begins_phrase (part.assignments x ts) ≡ true
+starts_assignments (part.last_assignment l p e) ts = phrase_begins l (part.mark p tk.assigns (part.expression e ts))
+starts_assignments (part.assignment l p e q ms) ts = phrase_begins l (part.mark p tk.assigns (part.expression e (part.mark q tk.beside (part.assignments ms ts))))
 
 keeps_assignments : (x : part.Assignments) (ts : List Token) → Sound ts → Sound (part.assignments x ts)
-keeps_assignments (part.last_assignment l p e) ts so = keeps_one l (part.mark p tk.assigns (part.expression e ts)) (after (tk.mark tk.assigns) p (part.expression e ts) (starts_one e ts) (keeps_one e ts so))
-keeps_assignments (part.assignment l p e q ms) ts so = keeps_one l (part.mark p tk.assigns (part.expression e (part.mark q tk.beside (part.assignments ms ts)))) (after (tk.mark tk.assigns) p (part.expression e (part.mark q tk.beside (part.assignments ms ts))) (starts_one e (part.mark q tk.beside (part.assignments ms ts))) (keeps_one e (part.mark q tk.beside (part.assignments ms ts)) (keeps_assignments ms ts so)))
+keeps_assignments (part.last_assignment l p e) ts so = keeps_one l (part.mark p tk.assigns (part.expression e ts)) (after (tk.mark tk.assigns) p (part.expression e ts) (phrase_begins e ts) (keeps_one e ts so))
+keeps_assignments (part.assignment l p e q ms) ts so = keeps_one l (part.mark p tk.assigns (part.expression e (part.mark q tk.beside (part.assignments ms ts)))) (after (tk.mark tk.assigns) p (part.expression e (part.mark q tk.beside (part.assignments ms ts))) (phrase_begins e (part.mark q tk.beside (part.assignments ms ts))) (keeps_one e (part.mark q tk.beside (part.assignments ms ts)) (keeps_assignments ms ts so)))
 
 keeps_simple_tokens : (x : part.Simple) (ts : List Token) → Sound ts → Sound (part.simple_tokens x ts)
 keeps_simple_tokens (part.assign ms) ts so = keeps_assignments ms ts so
@@ -194,8 +195,8 @@ keeps_fair (g.weak a) ts so = so
 keeps_fair (g.strong a b) ts so = so
 
 keeps_identity : (x : g.Identity) (ts : List Token) → Sound ts → Sound (g.identity x ts)
-keeps_identity (g.bare x b a e) ts so = after (sign_of (bind_sign b)) a (part.expression e ts) (starts_one e ts) (keeps_one e ts so)
-keeps_identity (g.bracketed q x b a e r) ts so = after (sign_of (bind_sign b)) a (part.expression e (part.mark r tk.close_bracket ts)) (starts_one e (part.mark r tk.close_bracket ts)) (keeps_one e (part.mark r tk.close_bracket ts) so)
+keeps_identity (g.bare x b a e) ts so = after (sign_of (bind_sign b)) a (part.expression e ts) (phrase_begins e ts) (keeps_one e ts so)
+keeps_identity (g.bracketed q x b a e r) ts so = after (sign_of (bind_sign b)) a (part.expression e (part.mark r tk.close_bracket ts)) (phrase_begins e (part.mark r tk.close_bracket ts)) (keeps_one e (part.mark r tk.close_bracket ts) so)
 
 keeps_define : (x : g.Define) (ts : List Token) → Sound ts → Sound (g.define x ts)
 keeps_define g.no_define ts so = so

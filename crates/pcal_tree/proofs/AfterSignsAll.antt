@@ -14,7 +14,7 @@ use Rattle.pcal_tree.specs.GrammarC as csyntax
 use Rattle.pcal_tree.specs.Grammar as g
 use Rattle.pcal_tree.specs.OffencesSyntax.{algorithms}
 use Rattle.pcal_tree.proofs.LinesGood.{begun}
-use Rattle.pcal_tree.proofs.AfterSigns.{needs, is_end, first_ends, sound, Sound, after, no_end, keeps_one, starts_one, keeps_all, starts_all}
+use Rattle.pcal_tree.proofs.AfterSigns.{first_ends, sound, Sound, after, keeps_one, starts_one, keeps_all}
 
 keeps_maybe_semicolon : (s : Option Place) (ts : List Token) → Sound ts → Sound (part.maybe_semicolon s ts)
 keeps_maybe_semicolon None ts so = so

@@ -62,6 +62,7 @@ pub mod RefusedOnce
 pub mod OpensLaws
 pub mod ReplyLaws
 pub mod ReplyConverse
+pub mod ExpressionTokens
 pub mod AfterSigns
 pub mod AfterSignsAll
 pub mod AfterColons
