@@ -5,8 +5,8 @@ use Rattle.tla_token.specs.declared.place.Place.{Place}
 use Rattle.tla_expr.specs.Tree.{Word}
 use Rattle.tla_expr.specs.Lexical.{TokenView, Token, token}
 use Rattle.tla_expr.specs.Lexical as tk
-use Rattle.tla_expr.specs.Spelling.{Phrase, Phrases, IsGood, spell, spell_all}
-use Rattle.pcal_tree.proofs.ExpressionTokens.{begins_phrase, Kept, keep, keep_all}
+use Rattle.tla_expr.specs.Spelling.{Phrase, IsGood, spell}
+use Rattle.pcal_tree.proofs.ExpressionTokens.{begins_phrase, Kept, keep}
 use Rattle.pcal_tree.proofs.ExpressionTokens as expression
 
 -- a token that ends the expression of a statement in P-syntax
@@ -69,7 +69,7 @@ plain : (k : TokenView) (ts : List Token) (A : Type 0) → expression.needs k �
 plain (tk.mark tk.colon) ts A e h = absurd cc
 plain k ts A e h = h
 
-kept : Kept Sound
+pub kept : Kept Sound
 kept = record {
   plain = λ t ts e so. plain t.kind ts (Sound ts) e so;
   before_phrase = λ t ts f so. after t.kind t.place ts f so;
@@ -77,6 +77,3 @@ kept = record {
 
 pub keeps_one : (x : Phrase) (ts : List Token) → Sound ts → Sound (spell x ts)
 keeps_one x ts h = (keep kept x).keeps ts h
-
-pub keeps_all : (x : Phrases) (ts : List Token) → Sound ts → Sound (spell_all x ts)
-keeps_all x ts h = (keep_all kept x).keeps ts h

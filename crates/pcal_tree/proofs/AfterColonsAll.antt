@@ -2,9 +2,8 @@
 use Rattle.std.proofs.Common.{◌≡◌, ℕ, zero, suc, ◌+◌, ◌≤◌, Bool, true, false, List, [], ◌∷◌, ◌++◌, Option, Some, None, Ok, Err, map, codes, nat_lt, refl, sym, ap, ◌∙◌, subst, arith}
 use Rattle.std.specs.List.{AllByRecursion}
 use Rattle.tla_token.specs.declared.place.Place.{Place}
-use Rattle.tla_expr.specs.declared.op.Op.TheVariants as op
 use Rattle.tla_expr.specs.Tree.{Word}
-use Rattle.tla_expr.specs.Lexical.{TokenView, Token, sign_of}
+use Rattle.tla_expr.specs.Lexical.{TokenView, Token}
 use Rattle.tla_expr.specs.Lexical as tk
 use Rattle.tla_expr.specs.Spelling.{Phrase}
 use Rattle.tla_expr.specs.Reader.{Out, readers, free}
@@ -14,65 +13,14 @@ use Rattle.tla_expr.proofs.Steps.{steps}
 use Rattle.tla_expr.proofs.ReadPhrases.{closed}
 use Rattle.tla_expr.proofs.ReadAll.{reads}
 use Rattle.tla_expr.proofs.StopLaws.{steps_and}
-use Rattle.pcal_tree.specs.GrammarParts.{bind_sign}
 use Rattle.pcal_tree.specs.GrammarParts as part
 use Rattle.pcal_tree.specs.GrammarP as psyntax
 use Rattle.pcal_tree.specs.Grammar.{p_syntax}
 use Rattle.pcal_tree.specs.Grammar as g
 use Rattle.pcal_tree.specs.OffencesSyntax.{algorithms}
 use Rattle.pcal_tree.proofs.LinesGood.{begun}
-use Rattle.pcal_tree.proofs.ExpressionTokens.{begins_phrase, phrase_begins}
-use Rattle.pcal_tree.proofs.AfterColons.{is_stop, stops, Expression, AfterColon, Sound, after, other_first, keeps_one, keeps_all}
-
-keeps_maybe_semicolon : (s : Option Place) (ts : List Token) → Sound ts → Sound (part.maybe_semicolon s ts)
-keeps_maybe_semicolon None ts so = so
-keeps_maybe_semicolon (Some p) ts so = so
-
-keeps_maybe_separator : (s : Option part.Separator) (ts : List Token) → Sound ts → Sound (part.maybe_separator s ts)
-keeps_maybe_separator None ts so = so
-keeps_maybe_separator (Some (part.by_semicolon p)) ts so = so
-keeps_maybe_separator (Some (part.by_comma p)) ts so = so
-
-keeps_separator : (x : part.Separator) (ts : List Token) → Sound ts → Sound (part.separator x ts)
-keeps_separator (part.by_semicolon p) ts so = so
-keeps_separator (part.by_comma p) ts so = so
-
-keeps_initial : (x : part.Initial) (ts : List Token) → Sound ts → Sound (part.initial x ts)
-keeps_initial part.unset ts so = so
-keeps_initial (part.equals p e) ts so = after (sign_of op.Equal) p (part.expression e ts) (phrase_begins e ts) (keeps_one e ts so)
-keeps_initial (part.among p e) ts so = after (sign_of op.In) p (part.expression e ts) (phrase_begins e ts) (keeps_one e ts so)
-
-keeps_variables : (x : part.Variables) (ts : List Token) → Sound ts → Sound (part.variables x ts)
-keeps_variables (part.last_variable x i s) ts so = keeps_initial i (part.maybe_separator s ts) (keeps_maybe_separator s ts so)
-keeps_variables (part.variable x i s vs) ts so = keeps_initial i (part.separator s (part.variables vs ts)) (keeps_separator s (part.variables vs ts) (keeps_variables vs ts so))
-
-keeps_section_tokens : (x : part.Section) (ts : List Token) → Sound ts → Sound (part.section_tokens x ts)
-keeps_section_tokens part.no_section ts so = so
-keeps_section_tokens (part.section p b vs) ts so = keeps_variables vs ts so
-
-keeps_names : (x : part.Names) (ts : List Token) → Sound ts → Sound (part.names x ts)
-keeps_names (part.last_name x) ts so = so
-keeps_names (part.more_names x p xs) ts so = keeps_names xs ts so
-
-keeps_macro_parameters : (x : part.MacroParameters) (ts : List Token) → Sound ts → Sound (part.macro_parameters x ts)
-keeps_macro_parameters (part.no_names p q) ts so = so
-keeps_macro_parameters (part.some_names p xs q) ts so = keeps_names xs (part.mark q tk.close_bracket ts) so
-
-keeps_parameters : (x : part.Parameters) (ts : List Token) → Sound ts → Sound (part.parameters x ts)
-keeps_parameters (part.last_parameter x i) ts so = keeps_initial i ts so
-keeps_parameters (part.parameter x i p xs) ts so = keeps_initial i (part.mark p tk.comma (part.parameters xs ts)) (keeps_parameters xs ts so)
-
-keeps_procedure_parameters : (x : part.ProcedureParameters) (ts : List Token) → Sound ts → Sound (part.procedure_parameters x ts)
-keeps_procedure_parameters (part.no_parameters p q) ts so = so
-keeps_procedure_parameters (part.some_parameters p xs q) ts so = keeps_parameters xs (part.mark q tk.close_bracket ts) so
-
-keeps_heading : (x : part.Heading) (ts : List Token) → Sound ts → Sound (part.heading x ts)
-keeps_heading (part.plain x) ts so = so
-keeps_heading (part.applied x p xs q) ts so = keeps_names xs (part.mark q tk.close_bracket ts) so
-
-keeps_definitions : (x : part.Definitions) (ts : List Token) → Sound ts → Sound (part.definitions x ts)
-keeps_definitions (part.last_definition h p e) ts so = keeps_heading h (part.mark p tk.defines (part.expression e ts)) (keeps_one e ts so)
-keeps_definitions (part.more_definitions h p e ds) ts so = keeps_heading h (part.mark p tk.defines (part.expression e (part.definitions ds ts))) (keeps_one e (part.definitions ds ts) (keeps_definitions ds ts so))
+use Rattle.pcal_tree.proofs.PartTokens.{assignments_begin, keep_binds, keep_define, keep_identity, keep_macro_parameters, keep_maybe_semicolon, keep_procedure_parameters, keep_section_tokens, keep_simple_tokens}
+use Rattle.pcal_tree.proofs.AfterColons.{is_stop, stops, Expression, AfterColon, Sound, other_first, kept, keeps_one}
 
 keeps_colon_tokens : (x : part.Colon) (ts : List Token) → AfterColon ts → Sound ts → Sound (part.colon_tokens x ts)
 keeps_colon_tokens (part.colon p) ts f so = (f, so)
@@ -87,38 +35,10 @@ keeps_labels : (x : part.Labels) (ts : List Token) → AfterColon ts → Sound t
 keeps_labels part.no_labels ts f so = so
 keeps_labels (part.label x c ls) ts f so = keeps_colon_tokens c (part.labels ls ts) (starts_labels ls ts f) (keeps_labels ls ts f so)
 
-keeps_binds : (x : part.Binds) (ts : List Token) → Sound ts → Sound (part.binds x ts)
-keeps_binds (part.last_bind x b p e s) ts so = after (sign_of (bind_sign b)) p (part.expression e (part.maybe_separator s ts)) (phrase_begins e (part.maybe_separator s ts)) (keeps_one e (part.maybe_separator s ts) (keeps_maybe_separator s ts so))
-keeps_binds (part.bind x b p e s bs) ts so = after (sign_of (bind_sign b)) p (part.expression e (part.separator s (part.binds bs ts))) (phrase_begins e (part.separator s (part.binds bs ts))) (keeps_one e (part.separator s (part.binds bs ts)) (keeps_separator s (part.binds bs ts) (keeps_binds bs ts so)))
-
-keeps_arguments : (x : part.Arguments) (ts : List Token) → Sound ts → Sound (part.arguments x ts)
-keeps_arguments (part.no_arguments p q) ts so = so
-keeps_arguments (part.some_arguments p xs q) ts so = keeps_all xs (part.mark q tk.close_bracket ts) so
-
-starts_assignments : (x : part.Assignments) (ts : List Token) → begins_phrase (part.assignments x ts) ≡ true
-starts_assignments (part.last_assignment l p e) ts = phrase_begins l (part.mark p tk.assigns (part.expression e ts))
-starts_assignments (part.assignment l p e q ms) ts = phrase_begins l (part.mark p tk.assigns (part.expression e (part.mark q tk.beside (part.assignments ms ts))))
-
-keeps_assignments : (x : part.Assignments) (ts : List Token) → Sound ts → Sound (part.assignments x ts)
-keeps_assignments (part.last_assignment l p e) ts so = keeps_one l (part.mark p tk.assigns (part.expression e ts)) (after (tk.mark tk.assigns) p (part.expression e ts) (phrase_begins e ts) (keeps_one e ts so))
-keeps_assignments (part.assignment l p e q ms) ts so = keeps_one l (part.mark p tk.assigns (part.expression e (part.mark q tk.beside (part.assignments ms ts)))) (after (tk.mark tk.assigns) p (part.expression e (part.mark q tk.beside (part.assignments ms ts))) (phrase_begins e (part.mark q tk.beside (part.assignments ms ts))) (keeps_one e (part.mark q tk.beside (part.assignments ms ts)) (keeps_assignments ms ts so)))
-
-keeps_simple_tokens : (x : part.Simple) (ts : List Token) → Sound ts → Sound (part.simple_tokens x ts)
-keeps_simple_tokens (part.assign ms) ts so = keeps_assignments ms ts so
-keeps_simple_tokens (part.await p e) ts so = keeps_one e ts so
-keeps_simple_tokens (part.when p e) ts so = keeps_one e ts so
-keeps_simple_tokens (part.print p e) ts so = keeps_one e ts so
-keeps_simple_tokens (part.assert p e) ts so = keeps_one e ts so
-keeps_simple_tokens (part.skip p) ts so = so
-keeps_simple_tokens (part.goto p x) ts so = so
-keeps_simple_tokens (part.call p x xs) ts so = keeps_arguments xs ts so
-keeps_simple_tokens (part.return p) ts so = so
-keeps_simple_tokens (part.macro x xs) ts so = keeps_arguments xs ts so
-
 -- ---- statements
 
 starts_simple : (x : part.Simple) (ts : List Token) → part.GoodSimple x → stops ts ≡ true → AfterColon (part.simple_tokens x ts)
-starts_simple (part.assign ms) ts k s = other_first (part.assignments ms ts) (starts_assignments ms ts)
+starts_simple (part.assign ms) ts k s = other_first (part.assignments ms ts) (assignments_begin ms ts)
 starts_simple (part.await p e) ts k s = (e, ts, k, s, refl)
 starts_simple (part.when p e) ts k s = tt
 starts_simple (part.print p e) ts k s = tt
@@ -151,7 +71,7 @@ stops_branches (psyntax.more_branches p a bs) ts = refl
 
 mutual
   keeps_statement : (x : psyntax.Statement) (ts : List Token) → psyntax.GoodStatement x → Sound ts → Sound (psyntax.statement x ts)
-  keeps_statement (psyntax.simple x) ts k so = keeps_simple_tokens x ts so
+  keeps_statement (psyntax.simple x) ts k so = (keep_simple_tokens kept x).keeps ts so
   keeps_statement (psyntax.branch p e q a b r t) ts k so =
       let end : List Token = part.key r (codes "end") (part.key t (codes "if") ts) in
       keeps_one e (part.key q (codes "then") (psyntax.sequence a (psyntax.else_tokens b end))) (keeps_sequence a (psyntax.else_tokens b end) k.1 (stops_else b end refl) (keeps_else b end k.2 refl so))
@@ -160,7 +80,7 @@ mutual
       keeps_sequence a (psyntax.branches bs end) k.0 (stops_branches bs end) (keeps_branches bs end k.1 refl so)
   keeps_statement (psyntax.with p bs q a r t) ts k so =
       let end : List Token = part.key r (codes "end") (part.key t (codes "with") ts) in
-      keeps_binds bs (part.key q (codes "do") (psyntax.sequence a end)) (keeps_sequence a end k.1 refl so)
+      (keep_binds kept bs).keeps (part.key q (codes "do") (psyntax.sequence a end)) (keeps_sequence a end k.1 refl so)
   keeps_statement (psyntax.while p e q a r t) ts k so =
       let end : List Token = part.key r (codes "end") (part.key t (codes "while") ts) in
       keeps_one e (part.key q (codes "do") (psyntax.sequence a end)) (keeps_sequence a end k.1 refl so)
@@ -178,7 +98,7 @@ mutual
   keeps_sequence : (x : psyntax.Sequence) (ts : List Token) → psyntax.GoodSequence x → stops ts ≡ true → Sound ts → Sound (psyntax.sequence x ts)
   keeps_sequence (psyntax.last_statement ls st p) ts k s so =
       let end : List Token = part.maybe_semicolon p ts in
-      keeps_labels ls (psyntax.statement st end) (starts_statement st end k (stops_maybe_semicolon p ts s)) (keeps_statement st end k (keeps_maybe_semicolon p ts so))
+      keeps_labels ls (psyntax.statement st end) (starts_statement st end k (stops_maybe_semicolon p ts s)) (keeps_statement st end k ((keep_maybe_semicolon kept p).keeps ts so))
   keeps_sequence (psyntax.more_statements ls st p ss) ts k s so =
       let end : List Token = part.semicolon p (psyntax.sequence ss ts) in
       keeps_labels ls (psyntax.statement st end) (starts_statement st end k.0 refl) (keeps_statement st end k.0 (keeps_sequence ss ts k.1 s so))
@@ -186,7 +106,7 @@ mutual
 -- ---- algorithms
 
 keeps_body : (w : Word) (x : g.Body) (ts : List Token) → g.GoodBody p_syntax x → Sound ts → Sound (g.body w x ts)
-keeps_body w (g.begin_end a ss b d s) ts k so = keeps_sequence ss (part.key b (codes "end") (part.key d w (part.maybe_semicolon s ts))) k refl (keeps_maybe_semicolon s ts so)
+keeps_body w (g.begin_end a ss b d s) ts k so = keeps_sequence ss (part.key b (codes "end") (part.key d w (part.maybe_semicolon s ts))) k refl ((keep_maybe_semicolon kept s).keeps ts so)
 keeps_body w (g.braces a ss b s) ts k so = absurd k
 
 keeps_fair : (x : g.Fair) (ts : List Token) → Sound ts → Sound (g.fair x ts)
@@ -194,28 +114,19 @@ keeps_fair g.unfair ts so = so
 keeps_fair (g.weak a) ts so = so
 keeps_fair (g.strong a b) ts so = so
 
-keeps_identity : (x : g.Identity) (ts : List Token) → Sound ts → Sound (g.identity x ts)
-keeps_identity (g.bare x b a e) ts so = after (sign_of (bind_sign b)) a (part.expression e ts) (phrase_begins e ts) (keeps_one e ts so)
-keeps_identity (g.bracketed q x b a e r) ts so = after (sign_of (bind_sign b)) a (part.expression e (part.mark r tk.close_bracket ts)) (phrase_begins e (part.mark r tk.close_bracket ts)) (keeps_one e (part.mark r tk.close_bracket ts) so)
-
-keeps_define : (x : g.Define) (ts : List Token) → Sound ts → Sound (g.define x ts)
-keeps_define g.no_define ts so = so
-keeps_define (g.define_end a ds b d s) ts so = keeps_definitions ds (part.key b (codes "end") (part.key d (codes "define") (part.maybe_semicolon s ts))) (keeps_maybe_semicolon s ts so)
-keeps_define (g.define_braces a b ds d s) ts so = keeps_definitions ds (part.mark d tk.close_brace (part.maybe_semicolon s ts)) (keeps_maybe_semicolon s ts so)
-
 keeps_macro : (m : g.Macro) (ts : List Token) → g.GoodMacro p_syntax m → Sound ts → Sound (g.macro m ts)
-keeps_macro m ts k so = keeps_macro_parameters m.parameters (g.body (codes "macro") m.body ts) (keeps_body (codes "macro") m.body ts k so)
+keeps_macro m ts k so = (keep_macro_parameters kept m.parameters).keeps (g.body (codes "macro") m.body ts) (keeps_body (codes "macro") m.body ts k so)
 
 keeps_procedure : (x : g.Procedure) (ts : List Token) → g.GoodProcedure p_syntax x → Sound ts → Sound (g.procedure x ts)
 keeps_procedure x ts k so =
-    keeps_procedure_parameters x.parameters (part.section_tokens x.variables (g.body (codes "procedure") x.body ts))
-    (keeps_section_tokens x.variables (g.body (codes "procedure") x.body ts) (keeps_body (codes "procedure") x.body ts k.2 so))
+    (keep_procedure_parameters kept x.parameters).keeps (part.section_tokens x.variables (g.body (codes "procedure") x.body ts))
+    ((keep_section_tokens kept x.variables).keeps (g.body (codes "procedure") x.body ts) (keeps_body (codes "procedure") x.body ts k.2 so))
 
 keeps_process : (x : g.Process) (ts : List Token) → g.GoodProcess p_syntax x → Sound ts → Sound (g.process x ts)
 keeps_process x ts k so =
     keeps_fair x.fair (part.key x.place (codes "process") (g.identity x.identity (part.section_tokens x.variables (g.body (codes "process") x.body ts))))
-    (keeps_identity x.identity (part.section_tokens x.variables (g.body (codes "process") x.body ts))
-    (keeps_section_tokens x.variables (g.body (codes "process") x.body ts) (keeps_body (codes "process") x.body ts k.2 so)))
+    ((keep_identity kept x.identity).keeps (part.section_tokens x.variables (g.body (codes "process") x.body ts))
+    ((keep_section_tokens kept x.variables).keeps (g.body (codes "process") x.body ts) (keeps_body (codes "process") x.body ts k.2 so)))
 
 keeps_each : {A : Type 0} (f : A → List Token → List Token) (Q : A → Type 0) → ((x : A) (ts : List Token) → Q x → Sound ts → Sound (f x ts)) → (xs : List A) (ts : List Token) → AllByRecursion Q xs → Sound ts → Sound (g.each f xs ts)
 keeps_each f Q h [] ts k so = so
@@ -231,8 +142,8 @@ inside x ts = part.section_tokens x.variables (g.define x.define (g.each g.macro
 
 keeps_inside : (x : g.Text) (ts : List Token) → g.Good p_syntax x → stops ts ≡ true → Sound ts → Sound (inside x ts)
 keeps_inside x ts k s so =
-    keeps_section_tokens x.variables (g.define x.define (g.each g.macro x.macros (g.each g.procedure x.procedures (g.main x.main ts))))
-    (keeps_define x.define (g.each g.macro x.macros (g.each g.procedure x.procedures (g.main x.main ts)))
+    (keep_section_tokens kept x.variables).keeps (g.define x.define (g.each g.macro x.macros (g.each g.procedure x.procedures (g.main x.main ts))))
+    ((keep_define kept x.define).keeps (g.each g.macro x.macros (g.each g.procedure x.procedures (g.main x.main ts)))
     (keeps_each g.macro (g.GoodMacro p_syntax) keeps_macro x.macros (g.each g.procedure x.procedures (g.main x.main ts)) k.3
     (keeps_each g.procedure (g.GoodProcedure p_syntax) keeps_procedure x.procedures (g.main x.main ts) k.4 (keeps_main x.main ts k.5 s so))))
 

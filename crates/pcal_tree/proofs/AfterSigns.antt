@@ -1,10 +1,10 @@
 -- After the sign of an operator no expression has a semicolon.
-use Rattle.std.proofs.Common.{◌≡◌, Bool, true, false, not, ◌&&◌, List, [], ◌∷◌, refl, sym, ap, ◌∙◌}
+use Rattle.std.proofs.Common.{◌≡◌, Bool, true, false, not, ◌&&◌, List, [], ◌∷◌, refl}
 use Rattle.tla_token.specs.declared.place.Place.{Place}
 use Rattle.tla_expr.specs.Lexical.{TokenView, Token, token}
 use Rattle.tla_expr.specs.Lexical as tk
-use Rattle.tla_expr.specs.Spelling.{Phrase, Phrases, spell, spell_all}
-use Rattle.pcal_tree.proofs.ExpressionTokens.{begins_phrase, Kept, phrase_begins, keep, keep_all}
+use Rattle.tla_expr.specs.Spelling.{Phrase, spell}
+use Rattle.pcal_tree.proofs.ExpressionTokens.{begins_phrase, Kept, phrase_begins, keep}
 use Rattle.pcal_tree.proofs.ExpressionTokens as expression
 
 -- an operand comes after it
@@ -46,7 +46,7 @@ no_end : (k : TokenView) → expression.is_first k ≡ true → is_end k ≡ fal
 no_end (tk.mark tk.semicolon) h = absurd cc
 no_end k h = refl
 
-begins_on : (ts : List Token) → begins_phrase ts ≡ true → first_ends ts ≡ false
+pub begins_on : (ts : List Token) → begins_phrase ts ≡ true → first_ends ts ≡ false
 begins_on [] h = refl
 begins_on (t ∷ ts) h = no_end t.kind h
 
@@ -55,7 +55,7 @@ plain (tk.sign o) h b = absurd cc
 plain (tk.mark tk.assigns) h b = absurd cc
 plain k h b = refl
 
-kept : Kept Sound
+pub kept : Kept Sound
 kept = record {
   plain = λ t ts e so. both_true (needs t.kind && first_ends ts) (sound ts) (plain t.kind e (first_ends ts)) so;
   before_phrase = λ t ts f so. after t.kind t.place ts (begins_on ts f) so;
@@ -66,6 +66,3 @@ starts_one x ts = begins_on (spell x ts) (phrase_begins x ts)
 
 pub keeps_one : (x : Phrase) (ts : List Token) → Sound ts → Sound (spell x ts)
 keeps_one x ts h = (keep kept x).keeps ts h
-
-pub keeps_all : (x : Phrases) (ts : List Token) → Sound ts → Sound (spell_all x ts)
-keeps_all x ts h = (keep_all kept x).keeps ts h

@@ -1,13 +1,12 @@
 -- What an expression keeps of the tokens after it: any property that each of its tokens keeps, given that an operand comes after a sign and after a colon.
 use Rattle.std.proofs.Common.{◌≡◌, Bool, true, false, List, [], ◌∷◌, refl}
-use Rattle.tla_token.specs.declared.place.Place.{Place}
 use Rattle.tla_expr.specs.declared.op.Op.{Op}
 use Rattle.tla_expr.specs.declared.op.Op.TheVariants as op
-use Rattle.tla_expr.specs.Lexical.{Mark, TokenView, Token, token, sign_of}
+use Rattle.tla_expr.specs.Lexical.{Mark, TokenView, Token, sign_of}
 use Rattle.tla_expr.specs.Lexical as tk
 use Rattle.tla_expr.specs.Spelling.{Field, Phrase, number, string, constant, name, primed, call, brackets, no_set, set_of, filter, image, no_tuple, tuple, fields, records, function, functions, except, apply, select, list, quantified, if_then_else, cases, local, infix_of, prefix_of}
 use Rattle.tla_expr.specs.Spelling.{Phrases, last, more, Binds, last_bind, bind, share, Fields, last_field, field, Settings, last_setting, setting, Path, path_end, index, at_field, Bullets, last_bullet, bullet, Arms, last_arm, other_arm, arm, Locals, last_local, more_locals}
-use Rattle.tla_expr.specs.Spelling.{mark, key, sign, word, field_token, spell, spell_all, spell_binds, spell_fields, spell_settings, spell_path, spell_bullets, spell_arms, spell_locals}
+use Rattle.tla_expr.specs.Spelling.{mark, sign, word, field_token, spell, spell_all, spell_binds, spell_fields, spell_settings, spell_path, spell_bullets, spell_arms, spell_locals}
 
 -- in no expression it comes before a semicolon or a reserved word
 abbrev pub needs : TokenView → Bool
@@ -85,16 +84,16 @@ mutual
   bullets_begin o (last_bullet p a) ts = sign_begins o
   bullets_begin o (bullet p a bs) ts = sign_begins o
 
-held : {H : List Token → Type 0} → Keeps H (λ v. v)
+pub held : {H : List Token → Type 0} → Keeps H (λ v. v)
 held = record { keeps = λ ts h. h }
 
-put : {H : List Token → Type 0} {t : Token} {x : List Token → List Token} → Kept H → needs t.kind ≡ false → Keeps H x → Keeps H (λ v. t ∷ x v)
+pub put : {H : List Token → Type 0} {t : Token} {x : List Token → List Token} → Kept H → needs t.kind ≡ false → Keeps H x → Keeps H (λ v. t ∷ x v)
 put {t} {x} l e k = record { keeps = λ ts h. l.plain t (x ts) e (k.keeps ts h) }
 
-both : {H : List Token → Type 0} {f x : List Token → List Token} → Keeps H f → Keeps H x → Keeps H (λ v. f (x v))
+pub both : {H : List Token → Type 0} {f x : List Token → List Token} → Keeps H f → Keeps H x → Keeps H (λ v. f (x v))
 both {x} k m = record { keeps = λ ts h. k.keeps (x ts) (m.keeps ts h) }
 
-operand : {H : List Token → Type 0} {t : Token} {x : List Token → List Token} → Kept H → (a : Phrase) → Keeps H (spell a) → Keeps H x → Keeps H (λ v. t ∷ spell a (x v))
+pub operand : {H : List Token → Type 0} {t : Token} {x : List Token → List Token} → Kept H → (a : Phrase) → Keeps H (spell a) → Keeps H x → Keeps H (λ v. t ∷ spell a (x v))
 operand {t} {x} l a k m = record { keeps = λ ts h. l.before_phrase t (spell a (x ts)) (phrase_begins a (x ts)) (k.keeps (x ts) (m.keeps ts h)) }
 
 binds_after : {H : List Token → Type 0} {t : Token} {x : List Token → List Token} → Kept H → (bs : Binds) → Keeps H (spell_binds bs) → Keeps H x → Keeps H (λ v. t ∷ spell_binds bs (x v))

@@ -63,6 +63,7 @@ pub mod OpensLaws
 pub mod ReplyLaws
 pub mod ReplyConverse
 pub mod ExpressionTokens
+pub mod PartTokens
 pub mod AfterSigns
 pub mod AfterSignsAll
 pub mod AfterColons
