@@ -1,9 +1,8 @@
 -- The procedures that a process can reach by calls ("A PlusCal User's Manual", section 3.4, procedures).
-use Rattle.std.specs.Prelude.{ℕ, zero, suc, length, List, [], ◌∷◌, ◌++◌, filter, flat_map, reverse}
+use Rattle.std.specs.Prelude.{ℕ, zero, suc, length, List, [], ◌∷◌, ◌++◌, filter, flat_map}
 use Rattle.tla_token.specs.Signs.{is_among}
 use Rattle.tla_expr.specs.Tree.{Word}
 use Rattle.pcal_tree.specs.Algorithm.{Statement, branch, either, with, while, call, Statements, done, then, mark, Branches, no_branches, or, Routine, procedure_routines, Algorithm}
-use Rattle.pcal_tree.specs.Expand.{expanded}
 
 -- the names of the procedures that statements call
 abbrev mutual
@@ -24,14 +23,14 @@ abbrev mutual
   calls_some no_branches = []
   calls_some (or b bs) = calls b ++ calls_some bs
 
--- by some of these routines, with macro calls written out
-abbrev pub called_by : Algorithm → List Routine → List Word
-called_by a us = flat_map (λ u. calls (expanded (reverse a.macros) u.body)) us
+-- by some of these routines; no macro has a call
+abbrev pub called_by : List Routine → List Word
+called_by us = flat_map (λ u. calls u.body) us
 
 -- by chains of so many calls at most, in the order of the text
 abbrev pub reached_within : ℕ → Algorithm → Routine → List Routine
 reached_within zero a u = []
-reached_within (suc n) a u = filter (λ p. is_among (called_by a (u ∷ reached_within n a u)) p.name.word) (procedure_routines a)
+reached_within (suc n) a u = filter (λ p. is_among (called_by (u ∷ reached_within n a u)) p.name.word) (procedure_routines a)
 
 -- no chain need be longer than there are procedures
 abbrev pub reached : Algorithm → Routine → List Routine

@@ -47,7 +47,7 @@ big seed count = front_text ++ (lines_from count 1 seed ++ back_text)
 abbrev pub count_text : Word → ℕ → List ℕ
 count_text w n = w ++ (codes " " ++ (decimal n ++ codes "\n"))
 
--- how many labels its algorithm has, how many names are in VARIABLES, and how many bytes its translation
+-- how many labels its algorithm has, how many names are in VARIABLES, and how many bytes the module with its translation has
 abbrev pub counts_text : Algorithm → List Word → List ℕ → List ℕ
 counts_text g variables written =
     count_text (codes "labels") (length (flat_map (λ u. label_words u.body) (routines g)))

@@ -4,6 +4,7 @@ use Rattle.std.proofs.Common.{◌≡◌, refl}
 use Rattle.tla_token.specs.declared.rule.Rule.{Rule}
 use Rattle.tla_token.specs.declared.rule.Rule.TheVariants as rule
 use Rattle.tla_token.specs.declared.rule.Refusal.{Refusal}
+use Rattle.pcal_cli.specs.Checked.{checked_text}
 use Rattle.pcal_cli.specs.Refusals.{in_text, Wrong, of_spelling, of_completion, of_all, refusal_of, refused}
 
 abbrev r : Rule → ℕ → ℕ → Refusal
@@ -14,6 +15,10 @@ nothing = record { bytes = []; parts = []; tokens = []; syntax = None; counts = 
 
 no_refusal : refusal_of of_all nothing ≡ None
 no_refusal = refl
+
+-- of such a module `check` writes a line
+ok : checked_text ≡ 111 ∷ 107 ∷ 10 ∷ []
+ok = refl
 
 -- bytes come first, whatever else there is
 bytes_first : refusal_of of_all (record nothing { bytes = r rule.OpenComment 9 1 ∷ []; parts = r rule.NoModule 1 1 ∷ [] }) ≡ Some (r rule.OpenComment 9 1)

@@ -4,3 +4,4 @@ pub mod Causes
 pub mod FirstPathBytes
 pub mod FirstPathScan
 pub mod Refusals
+pub mod Checked

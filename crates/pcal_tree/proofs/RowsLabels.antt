@@ -74,6 +74,17 @@ one_forced = refl
 two_paths : label_offences (alg [] (label 1 (codes "A") (stands 2 (branch (over Equal (var y) (num 0)) (stands 3 (sets (var x) (num 1)) done) (stands 4 (sets (var x) (num 2)) done)) done))) ≡ []
 two_paths = refl
 
+-- A: if y = 0 then x := 1; else y := 2; end if; y := 3, and with skip for y := 2
+abbrev after_branches : Statement → Statements
+after_branches st =
+    label 3 (codes "A") (stands 6 (branch (over Equal (var y) (num 0)) (stands 20 (sets (var x) (num 1)) done) (stands 33 st done)) (stands 49 (sets (var y) (num 3)) done))
+
+assigned_in_a_branch : label_offences (alg [] (after_branches (sets (var y) (num 2)))) ≡ record { rule = AssignTwice; place = at 49 } ∷ []
+assigned_in_a_branch = refl
+
+assigned_in_none : label_offences (alg [] (after_branches skip)) ≡ []
+assigned_in_none = refl
+
 -- A: x[1] := 1 || x[2] := 2
 two_parts : label_offences (alg [] (label 1 (codes "A") (stands 2 (assign (assignment (item (var x) (num 1)) (num 1) (assignment (item (var x) (num 2)) (num 2) no_assignments))) done))) ≡ []
 two_parts = refl

@@ -80,11 +80,11 @@ fair_peek {A} {b} e {f} {g} h = record {
 
 -- ---- one after the other
 module _ {A B : Type 0} {b : ℕ} {f g : A → Reader B} (h : (a : A) → IsFair b (f a) (g a)) where
-  left_then : (r : List Token) (o : Out A) → Within r o → Within r (then_read o f)
+  pub left_then : (r : List Token) (o : Out A) → Within r o → Within r (then_read o f)
   left_then r (Ok (a, u)) (x, e) = (let w = (h a).left u in (x ++ w.0, e ∙ ap (λ (v : List Token). x ++ v) w.1 ∙ sym (append_assoc x w.0 (rest_of (f a u)))))
   left_then r (Err u) w = w
 
-  right_then : (r : List Token) (o : Out A) → Within r o → Within r (then_read o g)
+  pub right_then : (r : List Token) (o : Out A) → Within r o → Within r (then_read o g)
   right_then r (Ok (a, u)) (x, e) = (let w = (h a).right u in (x ++ w.0, e ∙ ap (λ (v : List Token). x ++ v) w.1 ∙ sym (append_assoc x w.0 (rest_of (g a u)))))
   right_then r (Err u) w = w
 

@@ -34,7 +34,7 @@ nothing_through e k t r stop a more g s =
     apart k t r more (read e (k ++ t ∷ r)) (read e (k ++ t ∷ more)) both stop (ap rest_of ends)
 
 -- a text that begins so is a phrase before others
-begun_none : (e : ℕ) (k : List Token) (t : Token) (r : List Token) → rest_of (read e (k ++ t ∷ r)) ≡ t ∷ r → Begins (phrases e) (map Some (looks (k ++ t ∷ []))) → ⊥
+pub begun_none : (e : ℕ) (k : List Token) (t : Token) (r : List Token) → rest_of (read e (k ++ t ∷ r)) ≡ t ∷ r → Begins (phrases e) (map Some (looks (k ++ t ∷ []))) → ⊥
 begun_none e k t r stop h =
     let w = begun e (k ++ t ∷ []) h in
     nothing_through e k t r stop w.0 w.1 w.2 (w.3 ∙ append_assoc k (t ∷ []) w.1)

@@ -1,15 +1,14 @@
 -- Each token that is written is the longest one where it is written.
 use Rattle.std.proofs.Common.{◌≡◌, ℕ, ◌<◌, ◌^◌, Bool, true, false, not, ◌&&◌, nat_eq, List, [], ◌∷◌, ◌++◌, length, refl, sym, ap, subst, ◌∙◌, arith, codes}
-use Rattle.std.specs.List.{list_all, list_any}
+use Rattle.std.specs.List.{list_all}
 use Rattle.std.specs.Fmt.{decimal}
 use Rattle.std.proofs.lemmas.Bool.{and_parts}
-use Rattle.tla_token.specs.Lexemes.{is_word, is_letter, IsName, IsLongest}
-use Rattle.tla_token.specs.Words.{is_pluscal_word}
+use Rattle.tla_token.specs.Lexemes.{is_word, IsName, IsLongest}
 use Rattle.tla_token.specs.Tokens.{opens_comment}
 use Rattle.tla_token.specs.Cut.{run}
 use Rattle.tla_token.proofs.Words.{word_at, at_word, digits_words}
 use Rattle.tla_token.proofs.Signed.{not_true}
-use Rattle.tla_token.proofs.Before.{end_before, word_before, worded_before, marks_before, marks_alone, string_before}
+use Rattle.tla_token.proofs.Before.{word_before, worded_before, marks_before, marks_alone, string_before}
 use Rattle.tla_expr.specs.declared.op.Op.{Op}
 use Rattle.tla_expr.specs.declared.op.Op.TheVariants as op
 use Rattle.tla_expr.specs.Tree.{Word}

@@ -1,5 +1,5 @@
 -- What is written of a tree is cut into just its tokens: each is the longest where it is.
-use Rattle.std.proofs.Common.{◌≡◌, ℕ, zero, suc, ◌+◌, ◌≤◌, Bool, true, false, List, [], ◌∷◌, ◌++◌, length, refl, sym, ap, subst, ◌∙◌, arith}
+use Rattle.std.proofs.Common.{◌≡◌, ℕ, ◌≤◌, Bool, true, false, List, [], ◌∷◌, ◌++◌, length, refl, ap, subst, ◌∙◌, arith}
 use Rattle.std.specs.List.{flat_map}
 use Rattle.tla_token.specs.Words.{is_pluscal_word}
 use Rattle.tla_expr.specs.declared.op.Op.{Op}
@@ -9,11 +9,11 @@ use Rattle.tla_expr.specs.declared.op.Binder.TheVariants as binder
 use Rattle.tla_expr.specs.Rank.{is_prefix}
 use Rattle.tla_expr.specs.Tree.{Word, Name, words, Each, PathStep, Slot, Strict, Form, Tree, Trees, node, no_trees, tree}
 use Rattle.tla_expr.specs.Tree as tree
-use Rattle.tla_expr.specs.Shapes.{Shaped, StrictShaped, operands, settings}
+use Rattle.tla_expr.specs.Shapes.{Shaped, StrictShaped, operands}
 use Rattle.tla_expr.specs.Lexical.{Mark, TokenView, field_kind, token_text, sign_of}
 use Rattle.tla_expr.specs.Lexical as tk
-use Rattle.tla_expr.specs.Written.{Piece, blank, token, text_of, Part, mark, field, spaced, comma, infix_sign, prefix_sign, infix_pieces, listed, field_pieces, name_pieces, bind_pieces, definition_pieces, body, colon, binding_pieces, path_pieces, right_side, slot_pieces, except_pieces, strict_pieces, arm_pieces, choice_pieces, local_pieces, form_pieces, is_bracketed, bracketed, form_part, part, parts, pieces}
-use Rattle.tla_expr.specs.laws.Writable.{IsIdentifier, IsField, IsString, fields_in_path, names_in, fields_in, strings_in, count, IsWritable, AreWritable}
+use Rattle.tla_expr.specs.Written.{Piece, blank, token, text_of, Part, mark, field, spaced, comma, infix_sign, prefix_sign, infix_pieces, listed, field_pieces, name_pieces, bind_pieces, definition_pieces, body, colon, binding_pieces, path_pieces, right_side, slot_pieces, strict_pieces, arm_pieces, choice_pieces, form_pieces, is_bracketed, bracketed, form_part, part, parts}
+use Rattle.tla_expr.specs.laws.Writable.{IsIdentifier, IsField, IsString, fields_in_path, names_in, fields_in, strings_in, IsWritable, AreWritable}
 use Rattle.tla_expr.specs.laws.InText.{ends_word}
 use Rattle.tla_expr.proofs.FitTokens.{Before, starts, is_first, Wordy, word_fits, word_starts, word_first, name_wordy, number_wordy, field_text, sign_fits, key_fits, constant_wordy, comma_fits, colon_fits, arrow_fits, maps_fits, defines_fits, box_fits, close_bracket_fits, close_square_fits, open_brace_fits, close_brace_fits, open_tuple_fits, close_tuple_fits, bang_fits, prime_fits, range_fits, not_fits, string_fits, open_bracket_fits, open_square_fits, minus_fits, dot_fits}
 use Rattle.tla_expr.proofs.SpelledTrees.{each_left, each_right, counted}

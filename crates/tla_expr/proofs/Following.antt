@@ -1,5 +1,5 @@
 -- Before tokens that go on with nothing, no two phrases have the same tokens.
-use Rattle.std.proofs.Common.{◌≡◌, ℕ, ◌+◌, Bool, true, false, List, [], ◌∷◌, ◌++◌, None, Ok, Err, refl, sym, ap, ◌∙◌, arith}
+use Rattle.std.proofs.Common.{◌≡◌, ℕ, ◌+◌, Bool, true, false, List, ◌++◌, None, Ok, Err, refl, sym, ap, ◌∙◌, arith}
 use Rattle.tla_token.specs.Tokens as text
 use Rattle.tla_expr.specs.Tree.{Tree}
 use Rattle.tla_expr.specs.Lexical.{TokenView, Token}
@@ -13,7 +13,7 @@ use Rattle.tla_expr.specs.laws.InText.{IsSpelling}
 use Rattle.tla_expr.specs.laws.Following.{is_tail, NoTail, Calm}
 use Rattle.tla_expr.proofs.Steps.{steps}
 use Rattle.tla_expr.proofs.ReadSoon.{Soon, postfix_ends}
-use Rattle.tla_expr.proofs.ReadPhrases.{is_call, NoCall, Inner, Reads}
+use Rattle.tla_expr.proofs.ReadPhrases.{is_call, NoCall, Inner}
 use Rattle.tla_expr.proofs.ReadAll.{reads, one_before}
 use Rattle.tla_expr.proofs.SpellAppend.{spell_then}
 

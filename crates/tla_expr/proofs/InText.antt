@@ -1,5 +1,5 @@
 -- The text of a tree within another text: its pieces fit there, and their tokens spell the tree.
-use Rattle.std.proofs.Common.{◌≡◌, ℕ, ◌+◌, ◌-◌, ◌≤◌, Bool, true, false, nat_lt, List, [], ◌∷◌, ◌++◌, length, map, take, drop, Ok, refl, sym, ap, subst, ◌∙◌, arith, append_assoc, append-nil}
+use Rattle.std.proofs.Common.{◌≡◌, ℕ, ◌-◌, ◌≤◌, Bool, true, false, nat_lt, List, [], ◌∷◌, ◌++◌, length, map, Ok, refl, sym, ap, subst, ◌∙◌, arith, append_assoc, append-nil}
 use Rattle.std.proofs.lemmas.Bool.{ltb-true, lt-ltb}
 use Rattle.std.proofs.lemmas.List.{take_all}
 use Rattle.tla_token.specs.declared.place.Place.{Place}
@@ -11,14 +11,14 @@ use Rattle.tla_token.proofs.OneLine.{lexeme_stays, after_right}
 use Rattle.tla_expr.specs.Tree.{Tree}
 use Rattle.tla_expr.specs.Lexical.{TokenView, Token, token_text}
 use Rattle.tla_expr.specs.TokenViews.{kind_of, views}
-use Rattle.tla_expr.specs.Spelling.{Phrase, Right, Good, Spells, spell, tree_of, head, primary}
+use Rattle.tla_expr.specs.Spelling.{Phrase, Right, Good, Spells, spell, tree_of, head}
 use Rattle.tla_expr.specs.Reader.{read}
 use Rattle.tla_expr.specs.Written.{Piece, blank, token, text_of, part, written}
 use Rattle.tla_expr.specs.laws.Bracketed.{kinds, tokens_of}
 use Rattle.tla_expr.specs.laws.Bracketed as b
 use Rattle.tla_expr.specs.laws.Writable.{IsWritable, AreSpelled}
 use Rattle.tla_expr.specs.laws.Placeless.{tree_placeless}
-use Rattle.tla_expr.specs.laws.InText.{ends_word, IsSpelling, IsCut}
+use Rattle.tla_expr.specs.laws.InText.{IsSpelling, IsCut}
 use Rattle.tla_expr.proofs.ReadAll.{spelled_is_read, one_phrase}
 use Rattle.tla_expr.proofs.SpelledTrees.{part_is_spelled}
 use Rattle.tla_expr.proofs.WrittenPhrase.{written_part}

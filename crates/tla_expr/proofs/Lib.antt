@@ -53,3 +53,10 @@ pub mod Mended
 pub mod MendedBraces
 pub mod MendedForms
 pub mod MendedLists
+pub mod WritingLemmas
+pub mod RowsWriting
+pub mod SlowCounts
+pub mod StopsThere
+pub mod AlikeEnds
+pub mod AlikeEndsSteps
+mod RowsRefused

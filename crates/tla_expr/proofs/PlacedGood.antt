@@ -1,14 +1,14 @@
 -- A phrase that may be spelled with all its tokens in one column holds no list, so it may be spelled wherever its tokens are.
-use Rattle.std.proofs.Common.{◌≡◌, ℕ, Bool, true, false, not, ◌&&◌, ◌||◌, nat_lt, List, [], ◌∷◌, Option, Some, None, refl, sym, ap, ◌∙◌, IsTrue}
-use Rattle.std.proofs.lemmas.Bool.{and_parts, and_from, both_ways}
+use Rattle.std.proofs.Common.{◌≡◌, ℕ, Bool, true, not, ◌&&◌, ◌||◌, nat_lt, List, [], ◌∷◌, Option, None, refl, sym, ap, ◌∙◌}
+use Rattle.std.proofs.lemmas.Bool.{and_parts, and_from}
 use Rattle.tla_token.specs.declared.place.Place.{Place}
 use Rattle.tla_expr.specs.declared.op.Op.{Op}
 use Rattle.tla_expr.specs.Lexical.{Mark, Token}
 use Rattle.tla_expr.specs.Spelling.{Phrase, number, string, constant, name, primed, call, brackets, no_set, set_of, filter, image, no_tuple, tuple, fields, records, function, functions, except, apply, select, list, quantified, if_then_else, cases, local, infix_of, prefix_of}
 use Rattle.tla_expr.specs.Spelling.{Phrases, last, more, Binds, last_bind, bind, share, Fields, last_field, field, Settings, last_setting, setting, Path, path_end, index, at_field, Bullets, last_bullet, bullet, Arms, last_arm, other_arm, arm, Locals, last_local, more_locals}
-use Rattle.tla_expr.specs.Spelling.{Good, GoodAll, GoodBinds, GoodFields, GoodSettings, GoodPath, GoodBullets, GoodArms, GoodLocals, Right, Head, head, is_above, is_applied, is_primary, ends_open, end_list, is_behind, is_short, can_be_left, can_be_right, can_be_under, can_be_head, is_some_path, takes_box, is_bind, spell, spell_all, spell_binds, spell_fields, spell_settings, spell_path, spell_arms, spell_locals, quantifier}
+use Rattle.tla_expr.specs.Spelling.{Good, GoodAll, GoodBinds, GoodFields, GoodSettings, GoodPath, GoodArms, GoodLocals, Right, Head, head, is_above, is_applied, ends_open, end_list, is_behind, is_short, can_be_left, can_be_right, can_be_under, can_be_head, is_some_path, takes_box, is_bind, spell, spell_all, spell_binds, spell_fields, spell_settings, spell_path, spell_arms, spell_locals}
 use Rattle.tla_expr.specs.Rank.{is_associative}
-use Rattle.tla_expr.specs.laws.Columns.{moved, moved_all, moved_binds, moved_fields, moved_settings, moved_path, moved_bullets, moved_arms, moved_locals}
+use Rattle.tla_expr.specs.laws.Columns.{moved, moved_all, moved_binds, moved_fields, moved_settings, moved_path, moved_arms, moved_locals}
 use Rattle.tla_expr.proofs.ReadMembers.{is_name, is_member, bind_member}
 
 -- ---- all tokens in column 1

@@ -1,5 +1,5 @@
 -- The tree of a phrase, places aside, rests on no place.
-use Rattle.std.proofs.Common.{◌≡◌, ℕ, Bool, true, false, List, [], ◌∷◌, map, refl, sym, ap, ◌∙◌}
+use Rattle.std.proofs.Common.{◌≡◌, ℕ, true, false, List, [], ◌∷◌, map, refl}
 use Rattle.tla_token.specs.declared.place.Place.{Place}
 use Rattle.tla_token.specs.Places.{nowhere}
 use Rattle.tla_expr.specs.declared.op.Op.{Op}
@@ -8,7 +8,7 @@ use Rattle.tla_expr.specs.Tree.{Word, Name, PathStep, Slot, Tree, Trees, node, n
 use Rattle.tla_expr.specs.Tree as pure
 use Rattle.tla_expr.specs.Spelling.{Phrase, number, string, constant, name, primed, call, brackets, no_set, set_of, filter, image, no_tuple, tuple, fields, records, function, functions, except, apply, select, list, quantified, if_then_else, cases, local, infix_of, prefix_of}
 use Rattle.tla_expr.specs.Spelling.{Phrases, last, more, Binds, last_bind, bind, share, Fields, last_field, field, Settings, last_setting, setting, Path, path_end, index, at_field, Bullets, last_bullet, bullet, Arms, last_arm, other_arm, arm, Locals, last_local, more_locals}
-use Rattle.tla_expr.specs.Spelling.{operation, constant_form, named, in_first, groups, local_names, labels, steps, slots, has_other, one, tree_of, trees_of, subscript, sets_before, field_trees, setting_trees, subscripts, joined, joined_to, arm_trees, right_sides_before}
+use Rattle.tla_expr.specs.Spelling.{operation, in_first, groups, local_names, labels, steps, slots, has_other, one, tree_of, trees_of, subscript, sets_before, field_trees, setting_trees, subscripts, joined, joined_to, arm_trees, right_sides_before}
 use Rattle.tla_expr.specs.laws.Columns.{moved, moved_all, moved_binds, moved_fields, moved_settings, moved_path, moved_bullets, moved_arms, moved_locals}
 use Rattle.tla_expr.specs.laws.Placeless.{name_placeless, names_placeless, slot_placeless, form_placeless, tree_placeless, trees_placeless}
 

@@ -1,11 +1,11 @@
 -- What the readers give with enough steps, and the tokens that are seen.
-use Rattle.std.proofs.Common.{◌≡◌, ℕ, zero, suc, ◌+◌, ◌≤◌, Bool, true, false, List, Ok, refl, ap, ◌∙◌, arith}
+use Rattle.std.proofs.Common.{◌≡◌, ℕ, zero, suc, ◌≤◌, Bool, false, List, Ok, refl, ◌∙◌, arith}
 use Rattle.tla_token.specs.declared.place.Place.{Place}
 use Rattle.tla_expr.specs.Lexical.{TokenView, Token, token}
 use Rattle.tla_expr.specs.Lexical as tk
 use Rattle.tla_expr.specs.Spelling.{Phrase}
 pub use Rattle.tla_expr.specs.laws.Following.{is_tail, NoTail}
-use Rattle.tla_expr.specs.Reader.{Out, then_read, next, Readers, one_step, readers, goes_on, postfix_by, climb_by}
+use Rattle.tla_expr.specs.Reader.{Out, next, Readers, one_step, readers, goes_on, postfix_by, climb_by}
 
 -- with k steps, and with more, it gives o
 abbrev pub Soon : {A : Type 0} → ℕ → (Readers → Out A) → Out A → Type 0

@@ -18,19 +18,19 @@ use Rattle.tla_expr.proofs.StopLaws.{begins_none, all_read, passes_begins, stops
 use Rattle.tla_expr.proofs.BracketCounts.{too_many_brackets}
 use Rattle.std.proofs.lemmas.Bool.{lt-ltb}
 
-abbrev at : ℕ → Place
+abbrev pub at : ℕ → Place
 at c = record { line = 7; col = c }
 
-abbrev w : ℕ → Token
+abbrev pub w : ℕ → Token
 w c = token (at c) (tk.word (codes "a"))
 
-abbrev s : ℕ → Op → Token
+abbrev pub s : ℕ → Op → Token
 s c o = token (at c) (tk.sign o)
 
-abbrev m : ℕ → Mark → Token
+abbrev pub m : ℕ → Mark → Token
 m c k = token (at c) (tk.mark k)
 
-abbrev name : ℕ → Phrase
+abbrev pub name : ℕ → Phrase
 name c = spelled.name (at c) (codes "a")
 
 -- ---- `(a + ;` is refused at the semicolon

@@ -18,13 +18,13 @@ use Rattle.tla_expr.proofs.Columns.{begun}
 
 -- ---- one token, one rule
 
-longer : {A : Type 0} (n m : ℕ) (xs : List A) → n ≤ m → (ys : List A) × (take m xs ≡ take n xs ++ ys)
+pub longer : {A : Type 0} (n m : ℕ) (xs : List A) → n ≤ m → (ys : List A) × (take m xs ≡ take n xs ++ ys)
 longer zero m xs h = (take m xs, refl)
 longer (suc n) zero xs h = absurd (omega arith)
 longer (suc n) (suc m) [] h = ([], refl)
 longer {A = A} (suc n) (suc m) (x ∷ xs) h = (let w = longer n m xs (omega arith) in (w.0, ap (λ (ys : List A). x ∷ ys) w.1))
 
-fewer : {A : Type 0} (p : A → Bool) (n m : ℕ) (xs : List A) → n ≤ m → list_all p (take m xs) ≡ true → list_all p (take n xs) ≡ true
+pub fewer : {A : Type 0} (p : A → Bool) (n m : ℕ) (xs : List A) → n ≤ m → list_all p (take m xs) ≡ true → list_all p (take n xs) ≡ true
 fewer p n m xs h e =
     let w = longer n m xs h in
     (and_parts (list_all p (take n xs)) (list_all p w.0) (sym (list_all-append p (take n xs) w.0) ∙ ap (list_all p) (sym w.1) ∙ e)).0

@@ -1,5 +1,5 @@
 -- The phrase of a written tree may be spelled with all its tokens in one column.
-use Rattle.std.proofs.Common.{◌≡◌, ℕ, suc, ◌+◌, ◌≤◌, Bool, true, false, not, ◌&&◌, ◌||◌, List, [], ◌∷◌, length, Option, Some, None, refl, sym, ap, subst, ◌∙◌, arith, IsTrue}
+use Rattle.std.proofs.Common.{◌≡◌, ℕ, Bool, true, false, not, ◌&&◌, ◌||◌, List, [], ◌∷◌, length, Option, None, refl, ap, subst, ◌∙◌, arith}
 use Rattle.std.proofs.lemmas.Bool.{and_from}
 use Rattle.tla_token.specs.declared.place.Place.{Place}
 use Rattle.tla_expr.specs.declared.op.Op.{Op}
@@ -13,8 +13,8 @@ use Rattle.tla_expr.specs.Shapes.{Shaped, StrictShaped, HasPath, HavePaths, oper
 use Rattle.tla_expr.specs.Spelling.{Phrase, Phrases, Binds, Fields, Settings, Path, Arms, Locals, Bullets, Head, primary, list, infix_of, prefix_of, quantified, if_then_else, cases, local, head, is_primary, is_above, is_applied, is_short, is_open, ends_open, end_list, is_behind, can_be_left, can_be_right, can_be_under, can_be_head, is_some_path, takes_box, is_bind, spell, Good, GoodAll, GoodBinds, GoodFields, GoodSettings, GoodPath, GoodArms, GoodLocals}
 use Rattle.tla_expr.specs.Spelling as spelled
 use Rattle.tla_expr.specs.Written.{is_bracketed}
-use Rattle.tla_expr.specs.laws.Bracketed.{Part, nowhere, no_phrase, field_of, infix_phrase, phrases, set_phrase, tuple_phrase, call_phrase, fields_of, record_phrase, group_of, binds_of, locals_of, body, binding_phrase, bound_phrase, path_of, right_side, slots_of, except_phrase, strict_phrase, arms_of, choice_phrase, local_phrase, form_phrase, in_brackets, form_part, part, parts, phrase_of}
-use Rattle.tla_expr.specs.laws.Columns.{moved, moved_all, moved_binds, moved_fields, moved_settings, moved_path, moved_arms, moved_locals}
+use Rattle.tla_expr.specs.laws.Bracketed.{Part, nowhere, no_phrase, field_of, infix_phrase, phrases, set_phrase, tuple_phrase, call_phrase, fields_of, group_of, binds_of, locals_of, body, binding_phrase, bound_phrase, path_of, right_side, slots_of, except_phrase, strict_phrase, arms_of, choice_phrase, local_phrase, form_phrase, in_brackets, form_part, part, parts}
+use Rattle.tla_expr.specs.laws.Columns.{moved_all, moved_binds, moved_fields, moved_settings, moved_path, moved_arms, moved_locals}
 use Rattle.tla_expr.specs.laws.Writable.{IsWritable, AreWritable}
 use Rattle.tla_expr.proofs.ReadMembers.{is_member, bind_member}
 use Rattle.tla_expr.proofs.PlacedGood.{first_column, flat, head_flat, no_list, some_flat}

@@ -12,6 +12,7 @@ pub mod Lexical
 pub mod TokenViews
 pub mod Spelling
 pub mod Written
+pub mod Writing
 pub mod Nesting
 pub mod FirstStop
 pub mod Reader

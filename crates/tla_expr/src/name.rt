@@ -155,6 +155,31 @@ impl Text {
         Ok(Text { bytes })
     }
 
+    /// One more byte at the end; without memory for it the text is as before.
+    ///
+    /// # Errors
+    ///
+    /// Only for want of memory.
+    pub fn push(&mut self, b: u8) -> Result<(), AllocError>
+        ensures ok { OnOk result (self.new ≡ self.old ++ (b ∷ [])) }
+        ensures err { OnErr result (self.new ≡ self.old) }
+    {
+        self.bytes.push(b)?;
+        Ok(())
+    }
+
+    /// More bytes at the end; without memory for them the text is as before.
+    ///
+    /// # Errors
+    ///
+    /// Only for want of memory.
+    pub fn extend(&mut self, bytes: &[u8]) -> Result<(), AllocError>
+        ensures ok { OnOk result (self.new ≡ self.old ++ bytes.now) }
+        ensures err { OnErr result (self.new ≡ self.old) }
+    {
+        self.bytes.extend_from_slice(bytes)
+    }
+
     /// Whether the two are the same text.
     pub fn is(&self, other: &Text) -> bool
         ensures { IsTrue result ↔ (self.now ≡ other.now) }

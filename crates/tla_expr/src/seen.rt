@@ -4,6 +4,7 @@ ghost use Rattle.std.specs.Prelude.{◌≡◌, ◌<◌, length, slice_get, Some}
 ghost use Rattle.tla_expr.specs.FormOf.{form_of};
 ghost use Rattle.tla_expr.specs.Tree.{root_place};
 ghost use Rattle.tla_expr.specs.TreeOf.{root_form, root_parts};
+ghost use Rattle.tla_expr.specs.Shapes.{Shaped};
 ghost use Rattle.tla_expr.specs.Pool.{at};
 
 use crate::form::Form;
@@ -78,5 +79,12 @@ impl<'p> Seen<'p> {
             pool,
             id: node.parts[i],
         }
+    }
+
+    /// It has as many parts as its form asks for.
+    pub fn shaped(&self)
+        ensures { Shaped (root_form self.now) (length (root_parts self.now)) }
+    {
+        let _node = self.pool.node(self.id);
     }
 }
