@@ -62,6 +62,10 @@ pub mod RefusedOnce
 pub mod OpensLaws
 pub mod ReplyLaws
 pub mod ReplyConverse
+pub mod ExpressionTokens
+pub mod PartTokens
 pub mod AfterSigns
 pub mod AfterSignsAll
+pub mod AfterColons
+pub mod AfterColonsAll
 pub mod RowsRefused

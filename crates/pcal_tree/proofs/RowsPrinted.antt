@@ -32,7 +32,7 @@ at l k = record { line = l; col = k }
 abbrev pub token : ℕ → ℕ → Kind → Token
 token l k w = record { kind = w; at = 0; place = at l k }
 
-abbrev n : ℕ → ℕ → Word → Name
+abbrev pub n : ℕ → ℕ → Word → Name
 n l k w = record { word = w; place = at l k }
 
 abbrev name_at : ℕ → ℕ → Word → Tree
@@ -129,13 +129,6 @@ open_sum = p_with (p.simple (part.assign (part.last_assignment (x_at 6) (at 4 8)
 
 pub open_sum_passes : Passes (algorithms p_syntax) (map Some (looks (views (p_front ++ (token 4 6 (name (codes "x")) ∷ token 4 8 (one sign.Assign) ∷ token 4 11 (one sign.OpenRound) ∷ token 4 12 (name (codes "x")) ∷ token 4 14 (one sign.Plus) ∷ [])))))
 open_sum_passes = (drop 15 (to_end (text.spell open_sum [])), opens open_sum, (open_sum, search, refl, refl), refl)
-
--- `A: if x > 0 y := 1;` up to `y` at 4:15
-abbrev open_if : Text
-open_if = p_with (p.branch (at 4 6) (spelled.infix_of (x_at 9) (at 4 11) op.Greater (spelled.number (at 4 13) 0)) (at 4 15) (p.last_statement part.no_labels (p.simple (part.skip (at 4 20))) None) p.no_else (at 4 25) (at 4 29))
-
-pub open_if_passes : Passes (algorithms p_syntax) (map Some (looks (views (p_front ++ (token 4 6 (name (codes "if")) ∷ token 4 9 (name (codes "x")) ∷ token 4 11 (one sign.Greater) ∷ token 4 13 (number 0) ∷ [])))))
-open_if_passes = (drop 14 (to_end (text.spell open_if [])), opens open_if, (open_if, search, refl, refl), refl)
 
 -- `A: x := ;` in C up to the semicolon at 4:11
 abbrev open_assignment : Text
