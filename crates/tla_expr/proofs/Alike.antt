@@ -1,6 +1,6 @@
 -- A reader looks no further than the token at which it stops, and the steps that it has left may differ: two readers of the same make
 -- do the same before different rests, as long as both have enough steps.
-use Rattle.std.proofs.Common.{◌≡◌, ℕ, zero, suc, ◌+◌, ◌*◌, ◌≤◌, Bool, true, false, List, [], ◌∷◌, ◌++◌, length, Option, Some, None, Result, Ok, Err, ◌⊎◌, inl, inr, refl, sym, ap, ◌∙◌, append_assoc, arith}
+use Rattle.std.proofs.Common.{◌≡◌, ℕ, ◌+◌, ◌*◌, ◌≤◌, List, [], ◌∷◌, ◌++◌, length, Option, Some, None, Ok, Err, ◌⊎◌, inl, inr, refl, sym, ap, ◌∙◌, append_assoc, arith}
 use Rattle.tla_token.specs.declared.place.Place.{Place}
 use Rattle.tla_expr.specs.Lexical.{TokenView, Token}
 use Rattle.tla_expr.specs.Reader.{Out, Reader, then_read, ◌>>=◌, gives, refuses, next, tail, peek, skip, took, take}

@@ -1,12 +1,12 @@
 -- A reader that ends well at the end of the tokens gives the same before a token, or goes past it.
-use Rattle.std.proofs.Common.{◌≡◌, ℕ, zero, suc, ◌+◌, ◌*◌, ◌≤◌, Bool, true, false, List, [], ◌∷◌, ◌++◌, length, Option, Some, None, Result, Ok, Err, ◌⊎◌, inl, inr, refl, sym, ap, ◌∙◌, append_assoc, length-append, arith}
+use Rattle.std.proofs.Common.{◌≡◌, ℕ, ◌+◌, ◌≤◌, List, [], ◌∷◌, ◌++◌, length, Option, Some, None, Ok, Err, ◌⊎◌, inl, inr, refl, sym, ap, ◌∙◌, length-append, arith}
 use Rattle.tla_token.specs.declared.place.Place.{Place}
 use Rattle.tla_token.specs.Places.{nowhere}
 use Rattle.tla_expr.specs.Lexical.{TokenView, Token, token}
 use Rattle.tla_expr.specs.Lexical as tk
-use Rattle.tla_expr.specs.Reader.{Out, Reader, then_read, ◌>>=◌, gives, refuses, next, tail, peek, skip, took, take}
+use Rattle.tla_expr.specs.Reader.{Out, Reader, then_read, ◌>>=◌, gives, refuses, next, peek, skip, took, take}
 use Rattle.tla_expr.proofs.SoundTokens.{then_ok}
-use Rattle.tla_expr.proofs.Alike.{rest_of, Within, Enough, IsFair, fair_gives, fair_refuses, fair_skip, fair_peek, fair_bind, fair_take, weaker, left_then, right_then}
+use Rattle.tla_expr.proofs.Alike.{rest_of, Within, Enough, IsFair, fair_gives, fair_refuses, fair_skip, fair_peek, fair_bind, fair_take, weaker, right_then}
 
 abbrev pub GoesOn : {A : Type 0} → Token → List Token → Out A → Out A → Type 0
 GoesOn t r (Ok x) q = (q ≡ Ok (x.0, x.1 ++ t ∷ r)) ⊎ ((x.1 ≡ []) × Within r q)

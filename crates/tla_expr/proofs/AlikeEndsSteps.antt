@@ -1,5 +1,5 @@
 -- The readers with some steps at the end of the tokens, and those with others where a token is after them.
-use Rattle.std.proofs.Common.{◌≡◌, ℕ, zero, suc, ◌+◌, ◌*◌, ◌≤◌, ◌&&◌, nat_eq, Bool, true, false, List, [], ◌∷◌, ◌++◌, length, Option, Some, None, Result, Ok, Err, ◌⊎◌, inl, inr, if◌then◌else◌, refl, sym, ap, ◌∙◌, length-append, arith}
+use Rattle.std.proofs.Common.{◌≡◌, ℕ, zero, suc, ◌+◌, ◌*◌, ◌≤◌, ◌&&◌, nat_eq, Bool, true, false, List, [], ◌∷◌, ◌++◌, length, Option, Some, None, Ok, Err, inl, inr, if◌then◌else◌, refl, sym, ap, ◌∙◌, length-append, arith}
 use Rattle.std.proofs.lemmas.List.{append-nil}
 use Rattle.tla_token.specs.declared.place.Place.{Place}
 use Rattle.tla_token.specs.Places.{nowhere}
@@ -9,12 +9,12 @@ use Rattle.tla_expr.specs.Tree.{Word}
 use Rattle.tla_expr.specs.Rank.{is_bullet}
 use Rattle.tla_expr.specs.Lexical.{Mark, Key, TokenView, Token, token}
 use Rattle.tla_expr.specs.Lexical as tk
-use Rattle.tla_expr.specs.Spelling.{Field, Phrase, call, apply, select, infix_of, Phrases, last, more, Binds, bind, Fields, last_field, field, Settings, setting, Path, path_end, index, at_field, Bullets, last_bullet, bullet, Arms, last_arm, Locals, more_locals, can_be_head, is_some_path, takes_box, Good, spell}
-use Rattle.tla_expr.specs.Reader.{Out, Reader, then_read, ◌>>=◌, gives, next, peek, took, is_mark, is_key, is_sign, place_if, a_mark, a_key, a_sign, word_of, field_of, a_word, a_field, bullet_of, Context, free, right_of, under, bound, is_free, prefix_by, goes_on, element, Readers, ended, named, from_name, set_rest, image_rest, brace_rest, set_from, member_rest, brace_name, braces, tuples, field_rest, function_rest, square_rest, square_from, bind_rest, square_member, plain_field, square_name, squares, list_if, primary, quantifier, choice_from, keyed, under_by, signed, operand, short_signed, short_by, apply_if, select_if, postfix_by, climb_if, climb_by, phrases_by, binds_by, fields_by, settings_by, setting_if, path_by, bullets_if, arms_other, arms_if, arms_by, locals_by, one_step, no_steps, readers, read}
-use Rattle.tla_expr.proofs.Alike.{Enough, Within, IsFair, weaker, fair_gives, right_then}
+use Rattle.tla_expr.specs.Spelling.{Field, Phrase, call, apply, select, infix_of, last, more, Binds, bind, last_field, field, setting, Path, path_end, index, at_field, Bullets, last_bullet, bullet, last_arm, Locals, more_locals, can_be_head, is_some_path, takes_box, Good, spell}
+use Rattle.tla_expr.specs.Reader.{Out, Reader, then_read, ◌>>=◌, gives, next, peek, took, is_mark, is_key, is_sign, place_if, a_mark, a_key, a_sign, word_of, field_of, a_word, a_field, bullet_of, Context, free, right_of, under, bound, is_free, prefix_by, goes_on, element, Readers, ended, named, from_name, set_rest, image_rest, brace_rest, set_from, member_rest, brace_name, braces, tuples, field_rest, function_rest, square_rest, square_from, bind_rest, square_member, plain_field, square_name, squares, list_if, primary, quantifier, choice_from, keyed, under_by, signed, operand, short_signed, short_by, apply_if, select_if, postfix_by, climb_if, climb_by, phrases_by, binds_by, fields_by, settings_by, setting_if, path_by, bullets_if, arms_other, arms_if, arms_by, locals_by, one_step, readers, read}
+use Rattle.tla_expr.proofs.Alike.{Within, IsFair, fair_gives, right_then}
 use Rattle.tla_expr.proofs.AlikeSteps.{AreFair, fair_readers}
 use Rattle.tla_expr.proofs.AlikeEnds.{GoesOn, Ends, less, ends_gives, ends_refuses, ends_skip, Settles, ends_peek, ends_bind, ends_take, Shut, shut_on, shut_then, shut_first}
-use Rattle.tla_expr.proofs.Steps.{steps, few}
+use Rattle.tla_expr.proofs.Steps.{few}
 use Rattle.tla_expr.proofs.ReadPhrases.{closed}
 use Rattle.tla_expr.proofs.ReadAll.{reads}
 

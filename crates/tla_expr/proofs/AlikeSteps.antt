@@ -1,5 +1,5 @@
 -- The readers with some steps and those with others do the same up to a token for which both have enough steps.
-use Rattle.std.proofs.Common.{◌≡◌, ℕ, zero, suc, ◌+◌, ◌≤◌, ◌&&◌, nat_eq, Bool, true, false, List, [], ◌∷◌, Option, Some, None, arith}
+use Rattle.std.proofs.Common.{ℕ, zero, suc, ◌+◌, ◌≤◌, ◌&&◌, nat_eq, Bool, true, false, List, Option, Some, None, arith}
 use Rattle.tla_token.specs.declared.place.Place.{Place}
 use Rattle.tla_expr.specs.declared.op.Op.{Op}
 use Rattle.tla_expr.specs.declared.op.Op.TheVariants as op
@@ -7,9 +7,9 @@ use Rattle.tla_expr.specs.Tree.{Word}
 use Rattle.tla_expr.specs.Rank.{is_bullet}
 use Rattle.tla_expr.specs.Lexical.{Mark, Key, TokenView, Token}
 use Rattle.tla_expr.specs.Lexical as tk
-use Rattle.tla_expr.specs.Spelling.{Field, Phrase, Phrases, Binds, Fields, Settings, Path, Bullets, Arms, Locals, can_be_head, is_some_path, takes_box}
+use Rattle.tla_expr.specs.Spelling.{Field, Phrase, Binds, Path, can_be_head, is_some_path, takes_box}
 use Rattle.tla_expr.specs.Reader.{Reader, ◌>>=◌, is_mark, is_key, is_sign, place_if, a_mark, a_key, a_sign, word_of, field_of, a_word, a_field, bullet_of, Context, free, right_of, under, bound, is_free, prefix_by, goes_on, element, Readers, ended, named, from_name, set_rest, image_rest, brace_rest, set_from, member_rest, brace_name, braces, tuples, field_rest, function_rest, square_rest, square_from, bind_rest, square_member, plain_field, square_name, squares, list_if, primary, quantifier, choice_from, keyed, under_by, signed, operand, short_signed, short_by, apply_if, select_if, postfix_by, climb_if, climb_by, phrases_by, binds_by, fields_by, settings_by, setting_if, path_by, bullets_if, arms_other, arms_if, arms_by, locals_by, one_step, no_steps, readers}
-use Rattle.tla_expr.proofs.Alike.{Enough, Within, IsFair, weaker, fair_gives, fair_refuses, fair_skip, fair_peek, fair_bind, fair_take}
+use Rattle.tla_expr.proofs.Alike.{Within, IsFair, weaker, fair_gives, fair_refuses, fair_skip, fair_peek, fair_bind, fair_take}
 
 -- with n steps and more
 pub record AreFair (n : ℕ) (r q : Readers) : Type 0 where

@@ -1,12 +1,11 @@
 -- What is read is the farthest: no spelled expression begins with the tokens through the one at which reading stops.
-use Rattle.std.proofs.Common.{◌≡◌, ℕ, zero, suc, ◌+◌, ◌*◌, ◌≤◌, List, [], ◌∷◌, ◌++◌, length, map, Option, Some, None, Result, Ok, Err, ◌⊎◌, inl, inr, refl, sym, ap, ◌∙◌, append_assoc, length-append, arith}
+use Rattle.std.proofs.Common.{◌≡◌, ℕ, suc, ◌+◌, ◌*◌, ◌≤◌, List, [], ◌∷◌, ◌++◌, length, map, Some, Ok, Err, inl, inr, sym, ap, ◌∙◌, append_assoc, length-append, arith}
 use Rattle.tla_expr.specs.Lexical.{Token}
 use Rattle.tla_expr.specs.Spelling.{Phrase, Good, spell}
-use Rattle.tla_expr.specs.Reader.{Out, free, readers, read}
+use Rattle.tla_expr.specs.Reader.{Out, free, read}
 use Rattle.tla_expr.specs.FirstStop.{looks, Begins, phrases}
 use Rattle.tla_expr.proofs.Columns.{begun}
 use Rattle.tla_expr.proofs.ReadAll.{spelled_is_read}
-use Rattle.tla_expr.proofs.SoundLists.{read_is_spelled}
 use Rattle.tla_expr.proofs.Alike.{rest_of, Alike}
 use Rattle.tla_expr.proofs.AlikeSteps.{fair_readers}
 

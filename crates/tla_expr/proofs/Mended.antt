@@ -1,5 +1,5 @@
 -- What stands before a refused token can be gone on with: the claim for all readers, and how a part that is mended mends the whole.
-use Rattle.std.proofs.Common.{◌≡◌, ℕ, zero, suc, nat_lt, Bool, true, false, List, [], ◌∷◌, ◌++◌, Option, Some, None, Result, Ok, Err, refl, sym, ap, ◌∙◌, append_assoc, arith}
+use Rattle.std.proofs.Common.{◌≡◌, ℕ, suc, nat_lt, true, false, List, [], ◌∷◌, ◌++◌, Option, Some, None, Ok, Err, refl, sym, ap, ◌∙◌, append_assoc, arith}
 use Rattle.std.proofs.lemmas.Bool.{lt-ltb}
 use Rattle.tla_token.specs.declared.place.Place.{Place}
 use Rattle.tla_expr.specs.declared.op.Op.{Op}
@@ -7,9 +7,9 @@ use Rattle.tla_expr.specs.Tree.{Word}
 use Rattle.tla_expr.specs.Rank.{is_bullet}
 use Rattle.tla_expr.specs.Lexical.{Mark, Key, TokenView, Token, token}
 use Rattle.tla_expr.specs.Lexical as tk
-use Rattle.tla_expr.specs.Spelling.{Field, Phrase, number, Phrases, last, Binds, last_bind, Fields, last_field, Settings, last_setting, Path, path_end, at_field, Bullets, last_bullet, Arms, last_arm, Locals, last_local}
+use Rattle.tla_expr.specs.Spelling.{Field, Phrase, number, Binds, last_bind, Path, path_end, at_field, Bullets}
 use Rattle.tla_expr.specs.Spelling.{word, field_token, spell, spell_all, spell_binds, spell_fields, spell_settings, spell_path, spell_bullets, spell_arms, spell_locals, Right, Good, GoodAll, GoodBinds, GoodFields, GoodSettings, GoodPath, GoodBullets, GoodArms, GoodLocals, head, is_primary, is_short, first_bullet, is_some_path}
-use Rattle.tla_expr.specs.Reader.{Out, Reader, then_read, next, tail, took, take, place_if, is_mark, is_key, is_sign, word_of, field_of, a_mark, a_key, a_sign, a_word, a_field, gives, ended, Context, bound, fits, Readers}
+use Rattle.tla_expr.specs.Reader.{Out, Reader, then_read, next, took, take, place_if, is_mark, is_key, is_sign, word_of, field_of, a_mark, a_key, a_sign, a_word, a_field, gives, ended, Context, bound, fits, Readers}
 use Rattle.tla_expr.proofs.SpellAhead.{Ahead}
 
 -- ---- tokens and phrases that can be put anywhere to the right of the edge

@@ -1,19 +1,16 @@
 -- What stands before a refused token can be gone on with: names, braces, tuples and square brackets.
-use Rattle.std.proofs.Common.{◌≡◌, ℕ, Bool, true, false, not, List, [], ◌∷◌, Option, Some, None, Ok, Err, refl, sym, ap, ◌∙◌}
+use Rattle.std.proofs.Common.{◌≡◌, ℕ, true, false, not, List, [], ◌∷◌, Option, Some, None, Err, refl, sym, ap, ◌∙◌}
 use Rattle.tla_token.specs.declared.place.Place.{Place}
-use Rattle.tla_expr.specs.declared.op.Op.{Op}
 use Rattle.tla_expr.specs.declared.op.Op.TheVariants as op
 use Rattle.tla_expr.specs.Tree.{Word}
-use Rattle.tla_expr.specs.Rank.{rank, is_prefix, is_bullet}
 use Rattle.tla_expr.specs.Lexical.{Mark, Key, TokenView, Token, token}
 use Rattle.tla_expr.specs.Lexical as tk
-use Rattle.tla_expr.specs.Spelling.{Field, Phrase, number, string, constant, name, primed, call, brackets, no_set, set_of, filter, image, no_tuple, tuple, fields, records, function, functions, except, apply, select, list, quantified, if_then_else, cases, local, infix_of, prefix_of}
-use Rattle.tla_expr.specs.Spelling.{Phrases, last, more, Binds, last_bind, bind, share, Fields, last_field, field, Settings, last_setting, setting, Path, path_end, index, at_field, Bullets, last_bullet, bullet, Arms, last_arm, other_arm, arm, Locals, last_local, more_locals}
-use Rattle.tla_expr.specs.Spelling.{mark, key, sign, word, field_token, spell, spell_all, spell_binds, spell_fields, spell_settings, spell_path, spell_bullets, spell_arms, spell_locals, Right, Good, GoodAll, GoodBinds, GoodFields, GoodSettings, GoodPath, GoodBullets, GoodArms, GoodLocals, head, is_primary, is_short, first_bullet, can_be_left, can_be_under, can_be_head, is_some_path, takes_box, is_word, is_in}
-use Rattle.tla_expr.specs.Spelling as sp
-use Rattle.tla_expr.proofs.SpellAhead.{held, put_ahead, then_ahead, ahead, ahead_all, ahead_binds, ahead_fields, ahead_settings, ahead_path, ahead_bullets, ahead_arms, ahead_locals}
-use Rattle.tla_expr.proofs.Mended.{right_after, after, mark_at, key_at, sign_at, number_at, an_x, word_at, some, some_bind, some_field, some_path, Mend, inside, missing, better, onto, left_is, broken, mark_err, word_err, gives_err, ended_err, Fits, Prime, Brief, SomePath, Listed, Mends}
-use Rattle.tla_expr.specs.Reader.{next, tail, peek, free, Readers, element, named, from_name, set_rest, image_rest, brace_rest, set_from, member_rest, brace_name, braces, tuples, field_rest, function_rest, square_rest, square_from, bind_rest, square_member, plain_field, square_name, squares}
+use Rattle.tla_expr.specs.Spelling.{Field, Phrase, call, set_of, filter, image, tuple, fields, records, function, functions, except}
+use Rattle.tla_expr.specs.Spelling.{last, more, Binds, last_bind, bind, last_field}
+use Rattle.tla_expr.specs.Spelling.{mark, key, sign, word, field_token, spell, spell_all, spell_binds, spell_fields, spell_settings, Right, Good, GoodBinds, is_word, is_in}
+use Rattle.tla_expr.proofs.SpellAhead.{held, put_ahead, then_ahead, ahead, ahead_all, ahead_binds, ahead_fields, ahead_settings}
+use Rattle.tla_expr.proofs.Mended.{right_after, after, mark_at, sign_at, number_at, word_at, some, some_bind, Mend, inside, missing, onto, left_is, broken, mark_err, word_err, gives_err, ended_err, Fits, Prime, Mends}
+use Rattle.tla_expr.specs.Reader.{next, tail, free, Readers, element, named, from_name, set_rest, brace_rest, set_from, member_rest, brace_name, braces, tuples, field_rest, function_rest, square_rest, square_from, bind_rest, square_member, plain_field, square_name, squares}
 use Rattle.tla_expr.proofs.ReadMembers.{is_member, bind_member}
 use Rattle.tla_expr.proofs.SoundTokens.{seen, mark_ok, word_ok}
 use Rattle.tla_expr.proofs.SoundPhrases.{Sound, no_word, no_in, element_is, named_sound, from_name_sound}

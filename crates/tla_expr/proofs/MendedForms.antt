@@ -1,10 +1,9 @@
 -- What stands before a refused token can be gone on with: primaries, open forms and operators.
-use Rattle.std.proofs.Common.{◌≡◌, ℕ, nat_lt, Bool, true, false, not, ◌&&◌, List, [], ◌∷◌, Option, Some, None, Ok, Err, refl, sym, ap, ◌∙◌}
+use Rattle.std.proofs.Common.{◌≡◌, ℕ, nat_lt, Bool, true, false, not, ◌&&◌, List, [], ◌∷◌, Option, Some, None, Err, refl, sym, ◌∙◌}
 use Rattle.std.proofs.lemmas.Bool.{and_parts, not-true}
 use Rattle.tla_token.specs.declared.place.Place.{Place}
 use Rattle.tla_expr.specs.declared.op.Op.{Op}
 use Rattle.tla_expr.specs.declared.op.Op.TheVariants as op
-use Rattle.tla_expr.specs.Tree.{Word}
 use Rattle.tla_expr.specs.Rank.{rank, is_prefix, is_bullet}
 use Rattle.tla_expr.specs.Lexical.{Mark, Key, TokenView, Token, token}
 use Rattle.tla_expr.specs.Lexical as tk
@@ -12,8 +11,8 @@ use Rattle.tla_expr.specs.Spelling.{Field, Phrase, number, string, constant, nam
 use Rattle.tla_expr.specs.Spelling.{Phrases, last, more, Binds, last_bind, bind, share, Fields, last_field, field, Settings, last_setting, setting, Path, path_end, index, at_field, Bullets, last_bullet, bullet, Arms, last_arm, other_arm, arm, Locals, last_local, more_locals}
 use Rattle.tla_expr.specs.Spelling.{mark, key, sign, word, field_token, spell, spell_all, spell_binds, spell_fields, spell_settings, spell_path, spell_bullets, spell_arms, spell_locals, Right, Good, GoodAll, GoodBinds, GoodFields, GoodSettings, GoodPath, GoodBullets, GoodArms, GoodLocals, head, is_primary, is_short, first_bullet, can_be_left, can_be_under, can_be_head, is_some_path, takes_box, is_word, is_in}
 use Rattle.tla_expr.specs.Spelling as sp
-use Rattle.tla_expr.proofs.SpellAhead.{held, put_ahead, then_ahead, ahead, ahead_all, ahead_binds, ahead_fields, ahead_settings, ahead_path, ahead_bullets, ahead_arms, ahead_locals}
-use Rattle.tla_expr.proofs.Mended.{right_after, after, mark_at, key_at, sign_at, number_at, an_x, word_at, some, some_bind, some_field, some_path, Mend, inside, missing, better, onto, left_is, broken, mark_err, key_err, sign_err, word_err, field_err, take_err, gives_err, ended_err, Fits, Prime, Brief, SomePath, Listed, Mends}
+use Rattle.tla_expr.proofs.SpellAhead.{held, put_ahead, then_ahead, ahead, ahead_all, ahead_binds, ahead_locals}
+use Rattle.tla_expr.proofs.Mended.{right_after, after, mark_at, key_at, sign_at, number_at, word_at, some, some_bind, some_field, Mend, inside, missing, better, onto, left_is, broken, mark_err, key_err, word_err, field_err, gives_err, Fits, Prime, Brief, Mends}
 use Rattle.tla_expr.specs.Reader.{◌>>=◌, gives, next, tail, peek, Context, free, right_of, under, bound, fits, is_free, prefix_by, goes_on, Readers, list_if, keyed, under_by, signed, operand, short_signed, short_by, apply_if, select_if, postfix_by, climb_if, climb_by}
 use Rattle.tla_expr.specs.Reader as rd
 use Rattle.tla_expr.proofs.ReadStops.{sign_infix}

@@ -1,21 +1,19 @@
 -- What stands before a refused token can be gone on with: lists of all kinds, and all readers together.
-use Rattle.std.proofs.Common.{◌≡◌, ℕ, zero, suc, ◌*◌, ◌++◌, length, map, nat_eq, nat_lt, Bool, true, false, not, ◌&&◌, List, [], ◌∷◌, Option, Some, None, Ok, Err, refl, sym, ap, ◌∙◌}
-use Rattle.std.proofs.lemmas.Bool.{and_parts, eqb-true}
+use Rattle.std.proofs.Common.{◌≡◌, ℕ, zero, suc, ◌*◌, ◌++◌, length, nat_eq, nat_lt, Bool, true, false, not, ◌&&◌, List, [], ◌∷◌, Err, refl, sym, ap, ◌∙◌}
 use Rattle.std.proofs.lemmas.List.{append-nil}
 use Rattle.tla_token.specs.declared.place.Place.{Place}
 use Rattle.tla_expr.specs.declared.op.Op.{Op}
 use Rattle.tla_expr.specs.declared.op.Op.TheVariants as op
 use Rattle.tla_expr.specs.Tree.{Word}
-use Rattle.tla_expr.specs.Rank.{rank, is_prefix, is_bullet}
+use Rattle.tla_expr.specs.Rank.{is_bullet}
 use Rattle.tla_expr.specs.Lexical.{Mark, Key, TokenView, Token, token, sign_of}
 use Rattle.tla_expr.specs.Lexical as tk
-use Rattle.tla_expr.specs.Spelling.{Field, Phrase, number, string, constant, name, primed, call, brackets, no_set, set_of, filter, image, no_tuple, tuple, fields, records, function, functions, except, apply, select, list, quantified, if_then_else, cases, local, infix_of, prefix_of}
-use Rattle.tla_expr.specs.Spelling.{Phrases, last, more, Binds, last_bind, bind, share, Fields, last_field, field, Settings, last_setting, setting, Path, path_end, index, at_field, Bullets, last_bullet, bullet, Arms, last_arm, other_arm, arm, Locals, last_local, more_locals}
-use Rattle.tla_expr.specs.Spelling.{mark, key, sign, word, field_token, spell, spell_all, spell_binds, spell_fields, spell_settings, spell_path, spell_bullets, spell_arms, spell_locals, Right, Good, GoodAll, GoodBinds, GoodFields, GoodSettings, GoodPath, GoodBullets, GoodArms, GoodLocals, head, is_primary, is_short, first_bullet, can_be_left, can_be_under, can_be_head, is_some_path, takes_box, is_word, is_in}
-use Rattle.tla_expr.specs.Spelling as sp
-use Rattle.tla_expr.proofs.SpellAhead.{held, put_ahead, then_ahead, ahead, ahead_all, ahead_binds, ahead_fields, ahead_settings, ahead_path, ahead_bullets, ahead_arms, ahead_locals}
-use Rattle.tla_expr.proofs.Mended.{right_after, after, mark_at, key_at, sign_at, number_at, an_x, word_at, some, some_bind, some_field, some_path, Mend, inside, missing, better, onto, left_is, broken, mark_err, key_err, sign_err, word_err, field_err, take_err, gives_err, ended_err, Fits, Prime, Brief, SomePath, Listed, Mends}
-use Rattle.tla_expr.specs.Reader.{◌>>=◌, gives, next, tail, peek, take, is_sign, bullet_of, Context, free, bound, Readers, one_step, no_steps, readers, read, phrases_by, binds_by, fields_by, settings_by, setting_if, path_by, bullets_if, arms_other, arms_if, arms_by, locals_by}
+use Rattle.tla_expr.specs.Spelling.{Field, Phrase}
+use Rattle.tla_expr.specs.Spelling.{Phrases, last, more, Binds, last_bind, share, Fields, last_field, field, Settings, last_setting, setting, Path, path_end, index, at_field, Bullets, last_bullet, bullet, Arms, last_arm, other_arm, arm, Locals, last_local, more_locals}
+use Rattle.tla_expr.specs.Spelling.{mark, key, sign, word, field_token, spell, spell_all, spell_binds, spell_fields, spell_settings, spell_path, spell_bullets, spell_arms, spell_locals, Right, Good, GoodAll, GoodBinds, GoodFields, GoodSettings, GoodPath, GoodArms, GoodLocals, is_some_path, takes_box}
+use Rattle.tla_expr.proofs.SpellAhead.{held, put_ahead, then_ahead, ahead, ahead_all, ahead_path}
+use Rattle.tla_expr.proofs.Mended.{right_after, after, mark_at, sign_at, number_at, an_x, word_at, some, some_bind, some_field, some_path, Mend, inside, missing, onto, left_is, broken, mark_err, sign_err, word_err, field_err, take_err, gives_err, Fits, SomePath, Listed, Mends}
+use Rattle.tla_expr.specs.Reader.{◌>>=◌, gives, next, tail, is_sign, bullet_of, Context, free, Readers, one_step, no_steps, readers, read, phrases_by, binds_by, fields_by, settings_by, setting_if, path_by, bullets_if, arms_other, arms_if, arms_by, locals_by}
 use Rattle.tla_expr.proofs.SoundTokens.{seen, mark_ok, sign_ok, word_ok, field_ok}
 use Rattle.tla_expr.proofs.SoundPhrases.{Sound}
 use Rattle.tla_expr.proofs.SoundForms.{bullet_sign, operand_sound, prime_fits}

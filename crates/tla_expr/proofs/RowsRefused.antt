@@ -1,5 +1,5 @@
 -- A worked example of a refusal behind `{x \in`, found by reading.
-use Rattle.std.proofs.Common.{◌≡◌, ℕ, List, [], ◌∷◌, map, Some, Err, refl, codes}
+use Rattle.std.proofs.Common.{◌≡◌, List, [], ◌∷◌, map, Some, Err, refl, codes}
 use Rattle.tla_token.specs.declared.rule.Rule.TheVariants.{Syntax}
 use Rattle.tla_expr.specs.declared.op.Op.TheVariants as op
 use Rattle.tla_expr.specs.Lexical.{Token}

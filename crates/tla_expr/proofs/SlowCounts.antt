@@ -1,5 +1,5 @@
 -- Each token opens one form at most, so where few tokens were passed not too many forms are open.
-use Rattle.std.proofs.Common.{◌≡◌, ℕ, zero, suc, ◌+◌, ◌≤◌, Bool, true, false, ◌&&◌, List, [], ◌∷◌, ◌++◌, length, take, map, Option, Some, None, refl, sym, ap, ◌∙◌, subst, arith}
+use Rattle.std.proofs.Common.{◌≡◌, ℕ, zero, suc, ◌+◌, ◌≤◌, true, List, [], ◌∷◌, ◌++◌, length, take, map, Some, refl, ap, ◌∙◌, subst, arith}
 use Rattle.std.specs.List.{list_all}
 use Rattle.std.proofs.lemmas.Bool.{le-leb}
 use Rattle.tla_token.specs.Limits.{deepest_expression}
@@ -8,7 +8,7 @@ use Rattle.tla_expr.specs.Spelling.{Phrase, number, string, constant, name, prim
 use Rattle.tla_expr.specs.Spelling.{Phrases, last, more, Binds, last_bind, bind, share, Fields, last_field, field, Settings, last_setting, setting, Path, path_end, index, at_field, Bullets, last_bullet, bullet, Arms, last_arm, other_arm, arm, Locals, last_local, more_locals}
 use Rattle.tla_expr.specs.Spelling.{Good, spell}
 use Rattle.tla_expr.specs.Nesting.{chain, links, counts, counts_all, counts_binds, counts_fields, counts_settings, counts_path, counts_bullets, counts_arms, counts_locals}
-use Rattle.tla_expr.specs.FirstStop.{Look, looks, is_within, in_expression, Passes, phrases}
+use Rattle.tla_expr.specs.FirstStop.{looks, is_within, in_expression, Passes, phrases}
 use Rattle.tla_expr.proofs.Columns.{looked_ahead}
 
 -- counts after k tokens, each one at most for each token

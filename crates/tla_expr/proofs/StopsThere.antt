@@ -1,6 +1,5 @@
 -- Where reading stops is where the grammar has its first token that can't come, and an earlier stop is one of depth.
-use Rattle.std.proofs.Common.{◌≡◌, ◌⊎◌, ℕ, zero, suc, ◌<◌, ◌≤◌, max, Bool, true, false, ◌&&◌, nat_le, List, [], ◌∷◌, ◌++◌, length, take, drop, map, get_or, Option, Some, None, Result, Ok, Err, inl, inr, refl, sym, ap, ◌∙◌, subst, arith}
-use Rattle.std.specs.Bool.{IsTrue}
+use Rattle.std.proofs.Common.{◌≡◌, ◌⊎◌, ℕ, suc, ◌<◌, ◌≤◌, true, List, [], ◌∷◌, ◌++◌, length, take, drop, map, get_or, Option, Some, None, Ok, Err, inl, inr, refl, sym, ap, ◌∙◌, subst, arith}
 use Rattle.std.specs.List.{list_all}
 use Rattle.std.proofs.lemmas.List.{append_assoc, append-nil, take-append-drop, append_cancel_right}
 use Rattle.std.proofs.Math.Seq.{take-append_seam}
@@ -9,14 +8,13 @@ use Rattle.std.proofs.lemmas.List.Folds.{list_all-append}
 use Rattle.std.proofs.lemmas.Bool.{and_parts, cases_order, le-leb}
 use Rattle.tla_token.specs.declared.place.Place.{Place}
 use Rattle.tla_token.specs.declared.rule.Rule.{Rule}
-use Rattle.tla_token.specs.declared.rule.Refusal.{Refusal}
 use Rattle.tla_token.specs.declared.rule.Rule.TheVariants.{TooDeep, Syntax}
 use Rattle.tla_token.specs.Limits.{deepest_expression}
 use Rattle.tla_expr.specs.Lexical.{Token}
 use Rattle.tla_expr.specs.Spelling.{Phrase, Good, spell, tree_of}
 use Rattle.tla_expr.specs.Nesting.{counts, greatest, text_nesting}
-use Rattle.tla_expr.specs.Reader.{Out, read}
-use Rattle.tla_expr.specs.FirstStop.{Look, look, looks, to_end, Open, is_within, Grammar, Begins, Passes, StopRule, StopsAt, in_expression, phrases, ReadsExpression, RefusesExpression}
+use Rattle.tla_expr.specs.Reader.{read}
+use Rattle.tla_expr.specs.FirstStop.{Look, look, looks, to_end, is_within, Grammar, Begins, Passes, StopRule, StopsAt, in_expression, phrases, ReadsExpression, RefusesExpression}
 use Rattle.tla_expr.proofs.Columns.{begins}
 use Rattle.tla_expr.proofs.StopLaws.{longer, passes_begins}
 use Rattle.tla_expr.proofs.SoundLists.{read_is_spelled}
