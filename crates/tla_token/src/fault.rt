@@ -3,6 +3,7 @@
 ghost use Rattle.std.specs.Prelude.{◌≡◌, ◌+◌, ◌^◌, ◌<◌, ◌≤◌, nat_le, ◌||◌, ◌&&◌, [], ◌∷◌, length, is_some, true};
 ghost use Rattle.tla_token.specs.declared.part.Class.TheVariants as class;
 ghost use Rattle.tla_token.specs.Lexemes.{number_of, unquoted};
+ghost use Rattle.tla_token.specs.Limits.{past_numbers};
 ghost use Rattle.tla_token.specs.Tokens.{holds_mark};
 ghost use Rattle.tla_token.specs.Offences.{byte_offences, has_bad_escape, earlier, least};
 ghost use Rattle.tla_token.specs.Scan.{inner, is_quoted, part_of};
@@ -71,7 +72,7 @@ pub fn byte_fault(bytes: &[u8], at: usize) -> Option<(Rule, usize)>
 }
 
 fn is_too_big(digits: &[u8]) -> bool
-    ensures { result ≡ nat_le (2 ^ 127) (number_of digits.now) }
+    ensures { result ≡ nat_le past_numbers (number_of digits.now) }
 {
     match number_value(digits) {
         Some(n) => n >= 1 << 127,
