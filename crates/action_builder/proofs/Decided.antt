@@ -9,17 +9,14 @@ use Rattle.tla_value.specs.Stops.{Check}
 use Rattle.tla_value.specs.laws.Grafting.{In, Clear, BindsClear, BindsNone, IsUnprimed}
 use Rattle.pcal_tree.specs.Algorithm.{Assignments, no_assignments, assignment, Statement, assign, await, print, assert, skip, branch, either, Statements, done, then, mark, Branches, no_branches, or}
 use Rattle.pcal_tree.specs.laws.Expansion.{CleanAssignments, CleanOne, Clean, CleanSome}
-use Rattle.pcal_tree.specs.Labelled.{is_empty}
-use Rattle.action_builder.specs.Written.{late, write}
 use Rattle.action_builder.specs.Assigned.{assigned, Names, more}
-use Rattle.action_builder.specs.laws.Ready.{SettledOne, Settled, SettledSome, IsWithin, FineTree, FineSides, Ordered, FineOne, Fine, FineSome}
+use Rattle.action_builder.specs.laws.Ready.{SettledOne, Settled, SettledSome, IsWithin, FineTree, FineSides, FineOne, Fine, FineSome}
 use Rattle.action_builder.specs.laws.Sample.{any_name}
 use Rattle.tla_value.proofs.Facts.{each_weaker}
 use Rattle.tla_value.proofs.FreeNames.{any_names}
 use Rattle.action_builder.proofs.Names.{one_in}
 use Rattle.action_builder.proofs.Matching.{outside}
-use Rattle.action_builder.proofs.Truth.{within_more, in_order}
-use Rattle.module_text.specs.Module.{Items}
+use Rattle.action_builder.proofs.Truth.{within_more}
 
 none_in : {P : Type 0} → false ≡ true → P
 none_in e = cc
@@ -27,10 +24,6 @@ none_in e = cc
 not_true : (b : Bool) → not b ≡ true → b ≡ false
 not_true true h = cc
 not_true false h = refl
-
-empty_is : (xs : List Word) → is_empty xs ≡ true → xs ≡ []
-empty_is [] h = refl
-empty_is (x ∷ xs) h = none_in h
 
 -- ---- bare expressions
 
@@ -56,7 +49,7 @@ bare_sides B (assignment l e ms) = bare B l && (bare B e && bare_sides B ms)
 
 abbrev mutual
   bare_one : Avoided → Statement → Bool
-  bare_one B (assign ms) = bare_sides B ms && is_empty (late ms)
+  bare_one B (assign ms) = bare_sides B ms
   bare_one B (await e) = bare B e
   bare_one B (print e) = bare B e
   bare_one B (assert e) = bare B e
@@ -114,7 +107,7 @@ module _ (B : Avoided) (c : Check) (g : Graft) (f : (x : Word) → B x ≡ false
 
   mutual
     clear_one : (st : Statement) → bare_one B st ≡ true → CleanOne c g st
-    clear_one (assign ms) h = clear_sides ms (and_parts (bare_sides B ms) (is_empty (late ms)) h).0
+    clear_one (assign ms) h = clear_sides ms h
     clear_one (await e) h = clear e h
     clear_one (print e) h = clear e h
     clear_one (assert e) h = clear e h
@@ -154,8 +147,7 @@ module _ (B : Avoided) (vs : List Word) (f : IsWithin (is_among vs) B) where
 
   mutual
     fine_one : (A : Names) → IsWithin A (is_among vs) → (st : Statement) → SettledOne (is_among vs) st → bare_one B st ≡ true → FineOne any_name vs A st
-    fine_one A w (assign ms) z h =
-        record { left = z; sides = fine_sides A w ms (and_parts (bare_sides B ms) (is_empty (late ms)) h).0; readable = λ y m. refl }
+    fine_one A w (assign ms) z h = record { left = z; sides = fine_sides A w ms h; readable = λ y m. refl }
     fine_one A w (await e) z h = fine A w e h
     fine_one A w (print e) z h = fine A w e h
     fine_one A w (assert e) z h = fine A w e h
@@ -167,15 +159,11 @@ module _ (B : Avoided) (vs : List Word) (f : IsWithin (is_among vs) B) where
     fine_one A w (either bs) z h = fine_branches A w bs z h
     fine_one A w _ z h = none_in h
 
-    ordered : (A : Names) (st : Statement) → bare_one B st ≡ true → (later : Items) → Ordered A st later
-    ordered A (assign ms) h later = in_order A ms later (empty_is (late ms) (and_parts (bare_sides B ms) (is_empty (late ms)) h).1)
-    ordered A _ h later = tt
-
     pub fine_list : (A : Names) → IsWithin A (is_among vs) → (ss : Statements) → Settled (is_among vs) ss → bare_list B ss ≡ true → Fine any_name vs A ss
     fine_list A w done z h = tt
     fine_list A w (then at st rest) z h =
         let p = and_parts (bare_one B st) (bare_list B rest) h in
-        (fine_one A w st z.0 p.0, fine_list (more A (assigned st)) (within_more A (assigned st) vs w (one_in (is_among vs) st z.0)) rest z.1 p.1, ordered A st p.0 (write vs (more A (assigned st)) rest))
+        (fine_one A w st z.0 p.0, fine_list (more A (assigned st)) (within_more A (assigned st) vs w (one_in (is_among vs) st z.0)) rest z.1 p.1)
     fine_list A w (mark l k rest) z h = none_in h
 
     fine_branches : (A : Names) → IsWithin A (is_among vs) → (bs : Branches) → SettledSome (is_among vs) bs → bare_branches B bs ≡ true → FineSome any_name vs A bs

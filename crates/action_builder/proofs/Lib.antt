@@ -31,7 +31,8 @@ pub mod PairLaw
 pub mod PairWritten
 pub mod SingleProcess
 mod Rows
-mod RowsPairs
+pub mod RowsPairs
 mod RowsSample
 pub mod Decided
 pub mod Witness
+pub mod WitnessPairs

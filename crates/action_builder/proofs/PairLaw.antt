@@ -17,13 +17,13 @@ use Rattle.pcal_tree.specs.Assign.{Setting, set_one, set_all}
 use Rattle.pcal_tree.specs.Program.{Program, Actor, index, local_index, read_at}
 use Rattle.pcal_tree.specs.Variables.{written_all, pc, stack}
 use Rattle.pcal_tree.specs.Processes.{OneOf}
-use Rattle.pcal_tree.specs.Calls.{setting, all_read, frame, on_stack, argument_settings, entered_keeping, part_settings}
+use Rattle.pcal_tree.specs.Calls.{setting, all_read, frame, on_stack, argument_settings, variables_started, label_value, first_label, entered_keeping, part_settings}
 use Rattle.pcal_tree.proofs.SameVariables.{of_each, each_of}
 use Rattle.action_builder.specs.laws.Jumps.{Unlike, PairStands}
 use Rattle.action_builder.proofs.AnyPlace.{stack_same}
 use Rattle.action_builder.proofs.Call.{each_parts}
-use Rattle.action_builder.proofs.SetAgain.{Like, like_refl, like_sym, like_trans, bad_then, like_then, like_ends, read_changed, put_here, put_else, unlike, then_do, Others, one_all, all_all, Absorbs, absorbs_past, absorbs_all, set_put, all_else, all_both}
-use Rattle.action_builder.proofs.Pairs.{loose, then_known, arguments_others, parts_others, parts_all_others, one_part, all_read_else, each_map, Long, tail, entering, pc_in_entering, stack_in_entering, own_in_entering}
+use Rattle.action_builder.proofs.SetAgain.{Like, like_refl, like_sym, like_trans, bad_then, like_then, like_ends, read_changed, put_here, put_else, unlike, then_do, Others, one_all, all_all, Commute, commute_all, Absorbs, absorbs_past, absorbs_all, set_put, all_else, all_both}
+use Rattle.action_builder.proofs.Pairs.{loose, then_known, arguments_others, parts_others, parts_all_others, one_part, all_read_else, each_map, Long, tail, entering, other_and_started, pc_in_entering, stack_in_entering, own_in_entering}
 
 -- ---- results
 
@@ -56,6 +56,9 @@ module _ (P0 : Program) (v : Actor) (u p : Routine) (at end : Place) (h : PairSt
 
   abbrev params : List Word
   params = written_all P p p.params
+
+  abbrev pub to_first : State → Outcome State
+  to_first = set_one plain (setting at pc idx (label_value P p (first_label p)))
 
   abbrev pub to_pc : Value → Setting
   to_pc label = setting end pc idx label
@@ -161,10 +164,10 @@ module _ (P0 : Program) (v : Actor) (u p : Routine) (at end : Place) (h : PairSt
           (own_in_entering P0 v p at h.pc_of_p h.stack_of_p h.once (h.initials at) end q.0 q.1 (seq_from (frame P p back us ∷ fr)) ats vs l (subst (λ w. OneOf q.0 (written_all P w (locals w))) (h.same n) q.2)))
 
   -- of another procedure both are set in any order
-  pub other_procedure : (back : Value) (us olds fr : List Value) (front : Value) (frames : List Value) (ats : List Place) (vs : List Value) (s : State) → nat_eq u.number p.number ≡ false → all_read at (local_index v p) of_p s ≡ Ok olds → on_stack v end s ≡ Ok (front ∷ frames)
+  in_one_list : (back : Value) (us olds fr : List Value) (front : Value) (frames : List Value) (ats : List Place) (vs : List Value) (s : State) → nat_eq u.number p.number ≡ false → all_read at (local_index v p) of_p s ≡ Ok olds → on_stack v end s ≡ Ok (front ∷ frames)
       → Like (set_all plain (to_pc back ∷ (restores us ++ (to_stack fr ∷ []))) s >>= then_enters false back (Ok us) ats vs)
       (set_all plain (first_setting back olds fr ∷ (argument_settings (local_index v p) params ats vs ++ restores us)) s >>= tail P0 v p at p.variables)
-  other_procedure back us olds fr front frames ats vs s n o e =
+  in_one_list back us olds fr front frames ats vs s n o e =
       like_trans _ (set_all plain (restores us) s >>= enters back olds fr ats vs) _
       (enters_after false s back us olds fr front frames ats vs e (λ t w q r. others_left s t w back us fr n q r ∙ o))
       (like_ends _ ((set_all plain (restores us) s >>= set_all plain sets) >>= go) _ _ (sym (then_then (set_all plain (restores us) s) (set_all plain sets) go))
@@ -180,3 +183,28 @@ module _ (P0 : Program) (v : Actor) (u p : Routine) (at end : Place) (h : PairSt
       apart : Rattle.action_builder.proofs.SetAgain.AllOthers (restores us) sets
       apart = parts_all_others end (local_index v u) of_u us sets (each_of (λ x. Others x sets) of_u (λ x k.
           (unlike stack x (of_each (λ y. bytes_eq stack y ≡ false) of_u h.stack_of_u x k), arguments_others x (local_index v p) params ats vs (each_parts (λ y. bytes_eq x y ≡ false) P p p.params p.variables (of_each (λ y. Unlike y of_p) of_u (h.apart n) x k)).0)))
+
+  -- and what the return restores may be set behind the variables
+  pub other_procedure : (back : Value) (us olds fr : List Value) (front : Value) (frames : List Value) (ats : List Place) (vs : List Value) (s : State) → nat_eq u.number p.number ≡ false → all_read at (local_index v p) of_p s ≡ Ok olds → on_stack v end s ≡ Ok (front ∷ frames)
+      → Like (set_all plain (to_pc back ∷ (restores us ++ (to_stack fr ∷ []))) s >>= then_enters false back (Ok us) ats vs)
+      (set_all plain (first_setting back olds fr ∷ argument_settings (local_index v p) params ats vs) s >>= (λ t. variables_started P v p at p.variables t >>= (λ z. set_all plain (restores us) z >>= to_first)))
+  other_procedure back us olds fr front frames ats vs s n o e =
+      like_trans _ (set_all plain (sets ++ restores us) s >>= tail P0 v p at p.variables) _ (in_one_list back us olds fr front frames ats vs s n o e)
+      (like_ends _ (set_all plain sets s >>= (λ t. set_all plain (restores us) t >>= tail P0 v p at p.variables)) _ _
+      ((λ i. all_both sets (restores us) s i >>= tail P0 v p at p.variables) ∙ then_then (set_all plain sets s) (set_all plain (restores us)) (tail P0 v p at p.variables))
+      (like_then _ _ _ _ (like_refl (set_all plain sets s)) (λ t.
+      like_ends _ ((set_all plain (restores us) t >>= started) >>= to_first) _ _ (sym (then_then (set_all plain (restores us) t) started to_first))
+      (like_then _ (started t >>= set_all plain (restores us)) to_first to_first (commute_all (restores us) started one t) (λ z. like_refl (to_first z)))
+      (then_then (started t) (set_all plain (restores us)) to_first))) refl)
+    where
+      sets : List Setting
+      sets = first_setting back olds fr ∷ argument_settings (local_index v p) params ats vs
+
+      started : State → Outcome State
+      started t = variables_started P v p at p.variables t
+
+      one : (m : Setting) → OneOf m (restores us) → Commute (set_one plain m) started
+      one m k =
+          let q = one_part end (local_index v u) of_u us m k in
+          subst (λ c. Commute (set_one plain c) started) (sym q.3)
+          (other_and_started P0 v p at end q.0 (local_index v u) q.1 p.variables (each_parts (λ y. bytes_eq q.0 y ≡ false) P p p.params p.variables (of_each (λ y. Unlike y of_p) of_u (h.apart n) q.0 q.2)).1 of_u q.2 (h.unread n at))

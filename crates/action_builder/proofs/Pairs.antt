@@ -4,7 +4,7 @@ use Rattle.tla_token.specs.declared.place.Place.{Place}
 use Rattle.tla_expr.specs.Tree.{Word, Each}
 use Rattle.tla_value.specs.Value.{Value, Outcome, ◌>>=◌}
 use Rattle.tla_value.specs.Stops.{plain}
-use Rattle.tla_value.proofs.Outcomes.{then_then}
+use Rattle.tla_value.proofs.Outcomes.{then_ok, then_then}
 use Rattle.pcal_tree.specs.Algorithm.{Declaration, Routine, locals}
 use Rattle.pcal_tree.specs.Scope.{State, put}
 use Rattle.pcal_tree.specs.Assign.{Setting, set_one, set_all}
@@ -13,9 +13,9 @@ use Rattle.pcal_tree.specs.Variables.{written_all, pc, stack}
 use Rattle.pcal_tree.specs.Processes.{OneOf}
 use Rattle.pcal_tree.specs.Calls.{setting, initial_value, initial_place, all_read, argument_settings, variables_started, label_value, first_label, part_settings}
 use Rattle.pcal_tree.proofs.SameVariables.{of_each}
-use Rattle.action_builder.specs.laws.Jumps.{Unlike, AllUnlike, RestOnEarlier}
+use Rattle.action_builder.specs.laws.Jumps.{Unlike, AllUnlike, RestOnEarlier, Unread}
 use Rattle.action_builder.proofs.Call.{each_parts}
-use Rattle.action_builder.proofs.SetAgain.{Like, like_ends, unlike, set_twice, set_swap, then_do, Others, one_all, AllOthers, Absorbs, absorbs_again, absorbs_past, absorbs_read, set_put}
+use Rattle.action_builder.proofs.SetAgain.{Like, like_ends, unlike, set_twice, Commute, set_swap, commute_read, commute_then, then_do, Others, one_all, AllOthers, Absorbs, absorbs_again, absorbs_past, absorbs_read, set_put}
 
 -- without limits
 abbrev pub loose : Program → Program
@@ -120,6 +120,15 @@ module _ (P0 : Program) (v : Actor) (p : Routine) (at : Place) where
       by w (inr j) ih =
           absorbs_past (set_one plain (setting b x path z)) (starts d w) (tail ds)
           (set_swap (setting b x path z) (setting (initial_place at d.start) (written P p d.name.word) path w) (unlike (written P p d.name.word) x (of_each (λ y. bytes_eq (written P p d.name.word) y ≡ false) (written_all P p ds) n.0 x j))) (ih j)
+
+  -- a change of another variable, which no initial value rests on, may come before the variables or after them
+  pub other_and_started : (b : Place) (x : Word) (to : List Value) (z : Value) (ds : List Declaration) → Unlike x (written_all P p ds) → (xs : List Word) → OneOf x xs → Unread P v p at xs ds → Commute (set_one plain (setting b x to z)) (variables_started P v p at ds)
+  other_and_started b x to z [] n xs k r s = inl (then_ok (set_one plain (setting b x to z) s))
+  other_and_started b x to z (d ∷ ds) n xs k r s =
+      commute_read (set_one plain (setting b x to z)) (initial_value P v p at d.start) (λ w. then_do (starts d w) (variables_started P v p at ds))
+      (unread b x to z d (of_each (λ y. (w : Value) (s : State) → initial_value P v p at d.start (put y w s) ≡ initial_value P v p at d.start s) xs r.0 x k))
+      (λ w. commute_then (set_one plain (setting b x to z)) (starts d w) (variables_started P v p at ds)
+      (set_swap (setting b x to z) (setting (initial_place at d.start) (written P p d.name.word) path w) n.0) (other_and_started b x to z ds n.1 xs k r.1)) s
 
   -- ---- arguments
 

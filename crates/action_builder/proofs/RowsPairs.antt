@@ -17,25 +17,25 @@ use Rattle.action_builder.specs.Prepared.{prepared, none}
 abbrev named : Word → Name
 named w = record { word = w; place = nowhere }
 
-abbrev var : Word → Tree
+abbrev pub var : Word → Tree
 var w = node (name w) nowhere no_trees
 
-abbrev later : Word → Tree
+abbrev pub later : Word → Tree
 later w = node (next w) nowhere no_trees
 
-abbrev num : ℕ → Tree
+abbrev pub num : ℕ → Tree
 num k = node (number k) nowhere no_trees
 
-abbrev word : Word → Tree
+abbrev pub word : Word → Tree
 word w = node (string w) nowhere no_trees
 
-abbrev over : Op → Tree → Tree → Tree
+abbrev pub over : Op → Tree → Tree → Tree
 over o a b = node (strict (operator o)) nowhere (tree a (tree b no_trees))
 
-abbrev one : Tree → Trees
+abbrev pub one : Tree → Trees
 one t = tree t no_trees
 
-abbrev and_next : Statement → Statements → Statements
+abbrev pub and_next : Statement → Statements → Statements
 and_next st rest = then (record { first = nowhere; last = nowhere }) st rest
 
 abbrev declares : Word → Tree → Declaration
@@ -63,36 +63,36 @@ titles _ = codes "Q"
 abbrev algorithm : Algorithm
 algorithm = record { name = named (codes "One"); fair = false; globals = []; definitions = []; macros = []; procedures = procedures; main = alone done }
 
-abbrev program : Program
+abbrev pub program : Program
 program = record { check = plain; constants = λ w. None; outside = []; algorithm = algorithm; naming = record { local = λ n w. w; label = λ n l. l; title = titles } }
 
 abbrev start_tree : Rattle.pcal_tree.specs.Algorithm.Start → Tree
 start_tree (equals e) = e
 start_tree _ = var (codes "defaultInitValue")
 
-abbrev initials : InitialValues
+abbrev pub initials : InitialValues
 initials = record { place = λ p d. nowhere; initial = λ p d. start_tree d.start }
 
-abbrev places : JumpPlaces
+abbrev pub places : JumpPlaces
 places = record { goto = nowhere; call = λ at. nowhere; return = λ at. nowhere }
 
 -- the items of statements of a routine from a label that ends at Done; the variables of `own` are at the process's identifier
 abbrev items : Routine → (Word → Bool) → Statements → Items
 items u own ss = write [] none (prepared (written_jumps program u initials places) (codes "self") own (codes "A") (codes "Done") ss)
 
-abbrev nothing : Word → Bool
+abbrev pub nothing : Word → Bool
 nothing w = false
 
 abbrev add : Routine
 add = procedure_routine 0 (procedure (codes "Add") (declares (codes "n") (num 0) ∷ []) [] (codes "P"))
 
-abbrev caller : Routine
+abbrev pub caller : Routine
 caller = procedure_routine 3 (procedure (codes "Q") (declares (codes "m") (num 0) ∷ []) (declares (codes "k") (num 0) ∷ []) (codes "D"))
 
-abbrev calls : Word → Trees → Statements → Statements
+abbrev pub calls : Word → Trees → Statements → Statements
 calls p ts rest = and_next (call (named p) ts) rest
 
-abbrev head_of : Tree → Word → Tree
+abbrev pub head_of : Tree → Word → Tree
 head_of st x = node (strict (select x)) nowhere (one (node (operator_call (codes "Head")) nowhere (one st)))
 
 abbrev tail_of : Tree → Tree
@@ -127,7 +127,7 @@ other_pair : items caller nothing (calls (codes "R") (one (var (codes "m"))) (an
 other_pair = refl
 
 -- call Z(); return; in Q of a multiprocess algorithm
-abbrev of_self : Tree → Tree
+abbrev pub of_self : Tree → Tree
 of_self t = node (strict apply) nowhere (tree t (one (var (codes "self"))))
 
 abbrev at_self : Word → Tree → Tree

@@ -201,13 +201,13 @@ set_swap m n e s =
     (in_any_order o p (λ u v. put y v (put x u s)) (λ u v. put x u (put y v s)) (λ u v. put_swap x y u v s e))
     (sym (then_then p (λ v. Ok (put y v s)) (set_one plain m) ∙ (λ i. p >>= (λ v. changed_at m.place m.part.path m.value (put_else y x v s (unlike x y e) i) >>= (λ u. Ok (put x u (put y v s)))))))
 
-commute_sym : (f g : State → Outcome State) → Commute f g → Commute g f
+pub commute_sym : (f g : State → Outcome State) → Commute f g → Commute g f
 commute_sym f g h s = like_sym _ _ (h s)
 
 abbrev pub then_do : (State → Outcome State) → (State → Outcome State) → State → Outcome State
 then_do f g s = f s >>= g
 
-commute_then : (f g h : State → Outcome State) → Commute f g → Commute f h → Commute f (then_do g h)
+pub commute_then : (f g h : State → Outcome State) → Commute f g → Commute f h → Commute f (then_do g h)
 commute_then f g h p q s =
     like_ends _ ((f s >>= g) >>= h) _ _ (sym (then_then (f s) g h))
     (like_trans _ ((g s >>= f) >>= h) _ (like_then _ _ h h (p s) (λ t. inl refl))
@@ -232,6 +232,24 @@ all_all [] ns h s = inl (sym (then_ok (set_all plain ns s)))
 all_all (m ∷ ms) ns h s =
     commute_sym (set_all plain ns) (then_do (set_one plain m) (set_all plain ms))
     (commute_then (set_all plain ns) (set_one plain m) (set_all plain ms) (commute_sym (set_one plain m) (set_all plain ns) (one_all m ns h.0)) (commute_sym (set_all plain ms) (set_all plain ns) (all_all ms ns h.1))) s
+
+-- past what is read, where f changes nothing that is read
+pub commute_read : {X : Type 0} (f : State → Outcome State) (e : State → Outcome X) (g : X → State → Outcome State) → ((s t : State) → f s ≡ Ok t → Like (e t) (e s)) → ((x : X) → Commute f (g x)) → Commute f (λ s. e s >>= (λ x. g x s))
+commute_read {X = X} f e g u c s = by (f s) refl
+  where
+    by_bad : (k : Trouble) → f s ≡ Err k → (o : Outcome X) → Like {X = State} (Err k) ((o >>= (λ x. g x s)) >>= f)
+    by_bad k p (Ok x) = subst (λ z. Like (z >>= g x) (g x s >>= f)) p (c x s)
+    by_bad k p (Err j) = inr (tt, tt)
+
+    by : (o : Outcome State) → f s ≡ o → Like (o >>= (λ t. e t >>= (λ x. g x t))) ((e s >>= (λ x. g x s)) >>= f)
+    by (Ok t) p = like_ends _ _ (e s >>= (λ x. g x s >>= f)) _ refl (like_then (e t) (e s) _ _ (u s t p) (λ x. subst (λ z. Like (z >>= g x) (g x s >>= f)) p (c x s))) (sym (then_then (e s) (λ x. g x s) f))
+    by (Err k) p = by_bad k p (e s)
+
+pub commute_all : (ms : List Setting) (g : State → Outcome State) → ((m : Setting) → OneOf m ms → Commute (set_one plain m) g) → Commute (set_all plain ms) g
+commute_all [] g h s = inl (sym (then_ok (g s)))
+commute_all (m ∷ ms) g h s =
+    commute_sym g (then_do (set_one plain m) (set_all plain ms))
+    (commute_then g (set_one plain m) (set_all plain ms) (commute_sym (set_one plain m) g (h m (inl refl))) (commute_sym (set_all plain ms) g (commute_all ms g (λ n k. h n (inr k))))) s
 
 -- ---- what is set again later
 

@@ -1,14 +1,15 @@
 -- The written items have the truth of what their statements mean.
-use Rattle.std.proofs.Common.{◌≡◌, List, [], ◌∷◌, Bool, true, false, cond, not, ◌&&◌, ◌||◌, bytes_eq, codes, Some, None, refl, sym, ◌∙◌, ap, subst, ⊎_elim, Ok, Err}
+use Rattle.std.proofs.Common.{◌≡◌, List, [], ◌∷◌, Bool, true, false, cond, ◌||◌, bytes_eq, codes, Some, None, refl, sym, ◌∙◌, ap, subst, ⊎_elim, Ok, Err}
 use Rattle.std.proofs.lemmas.Bool.{or_cases, or_left, or_right}
 use Rattle.tla_token.specs.Signs.{is_among}
 use Rattle.tla_token.specs.declared.place.Place.{Place}
-use Rattle.tla_expr.specs.Tree.{Word, Tree, no_trees, root_place}
-use Rattle.tla_value.specs.Value.{Value, Outcome, ◌>>=◌, and_then}
+use Rattle.tla_expr.specs.Tree.{Word, name, Tree, node, no_trees, root_place}
+use Rattle.tla_value.specs.Value.{Value, no_values, and, Outcome, IsBad, ◌>>=◌, and_then}
+use Rattle.tla_value.specs.laws.Places.{AgreeButPlaces}
 use Rattle.tla_value.specs.Order.{same}
 use Rattle.tla_value.specs.Stops.{plain, truth_at, members_at}
 use Rattle.tla_value.specs.Standard.{printed, asserted, standard_value}
-use Rattle.tla_value.specs.Meaning.{Env, called, part_values, eval}
+use Rattle.tla_value.specs.Meaning.{Env, just, called, part_values, eval}
 use Rattle.tla_value.specs.Definitions.{Valuation}
 use Rattle.module_text.specs.Module as Line
 use Rattle.module_text.specs.Module.{Items, no_items, item}
@@ -19,13 +20,15 @@ use Rattle.pcal_tree.specs.Scope.{State, Scope, bound, place_of}
 use Rattle.action_builder.specs.Assigned.{Names, more, heads, assigned, assigned_in, assigned_by}
 use Rattle.action_builder.proofs.Names.{append_none, heads_same, one_names, all_names, some_names, one_in, all_in, some_in}
 use Rattle.action_builder.specs.laws.States.{mid}
-use Rattle.pcal_tree.specs.Variables.{pc}
-use Rattle.action_builder.proofs.Effects.{firsts, effect_names, effects_names, ways_names, Effects, parts_of, effect_of, effects_of, ways_of, nested}
+use Rattle.action_builder.proofs.Effects.{one_member, effect_names, effects_names, ways_names, Effects, parts_of, effect_of, effects_of, ways_of, nested}
 use Rattle.action_builder.proofs.Actions.{minus, all_same, hold, hold_some, holds, hold_sets, build, build_one, build_some, ended, value_for}
-use Rattle.action_builder.specs.laws.Ready.{SettledOne, Settled, SettledSome, Readable, IsWithin, Stands, FineAssignments, FineBinds, Ordered, FineOne, Fine, FineSome, values_of, holds_on}
-use Rattle.action_builder.proofs.Matching.{Matches, match_and, match_or, match_value, match_test, match_some, match_one, match_true, match_told, match_print, match_assert, exp_law, bound_env, paired_bound, scoped_bound, side_fine, unchanged_same}
+use Rattle.action_builder.specs.laws.Ready.{SettledOne, Settled, SettledSome, Readable, IsWithin, Stands, FineTree, FineAssignments, FineBinds, KeptValue, Needs, FineOne, Fine, FineSome, values_of, holds_on}
+use Rattle.action_builder.proofs.Matching.{Matches, match_and, match_or, match_value, match_test, match_some, match_once, match_one, match_true, match_told, match_print, match_assert, exp_law, bound_env, paired_bound, scoped_bound, side_fine, unchanged_same}
 use Rattle.action_builder.proofs.Actions as Action
-use Rattle.action_builder.specs.Written.{own, side_of, primed, left_of, unchanged_of, onto, filled, settings_of, late, before_pc, assignment_items, nested_items, branch_items, write_one, write, write_some}
+use Rattle.action_builder.specs.Written.{own, side_of, primed, left_of, unchanged_of, onto, filled, settings_of, old_stack, put_in, nested_items, branch_items, write_one, write, write_some}
+use Rattle.action_builder.specs.SingleProcess.{in_place_of}
+use Rattle.action_builder.specs.laws.Grafts.{ClearItems}
+use Rattle.action_builder.proofs.SingleProcess.{single_law, means_value}
 use Rattle.action_builder.proofs.Equal.{eq-name}
 use Rattle.action_builder.proofs.Main.{and_then_assoc, Within}
 use Rattle.action_builder.proofs.Main as Main
@@ -89,26 +92,27 @@ match_sets U vs A ms f sc env k w s t (y ∷ ys) i j rest r h =
     here : (bytes_eq y y || is_among ys y) ≡ true
     here = or_left (bytes_eq y y) (is_among ys y) (eq-name y y refl)
 
--- where nothing is written later, the settings are in the order of the assignments
-all_left : (ys all : List Word) → Within ys all → left_of ys all [] ≡ ys
-all_left [] all h = refl
-all_left (y ∷ ys) all h =
-    (λ i. cond (h y (or_left (bytes_eq y y) (is_among ys y) (eq-name y y refl)) i && not (is_among [] y)) (y ∷ left_of ys all []) (left_of ys all []))
-    ∙ ap (λ (zs : List Word). y ∷ zs) (all_left ys all (λ x m. h x (or_right (bytes_eq y x) (is_among ys x) m)))
+-- ---- an old value
 
-none_before : (js : Items) → before_pc no_items js ≡ js
-none_before no_items = refl
-none_before (item (Line.setting x e) js) = by (none_before js) (bytes_eq x pc)
+agree_matches : (p q : Verdict) (v : Outcome Bool) → AgreeButPlaces p q → Matches q v → Matches p v
+agree_matches (Ok a) (Ok b) v h m = subst (λ z. Matches (Ok z) v) (sym h) m
+agree_matches (Ok a) (Err k) v h m = absurd h
+agree_matches (Err j) (Ok b) v h m = absurd h
+agree_matches (Err j) (Err k) (Ok b) h m = m
+agree_matches (Err j) (Err k) (Err l) h m = tt
+
+bad_matches : (p : Verdict) (v : Outcome Bool) → IsBad p → IsBad v → Matches p v
+bad_matches (Ok a) v h k = absurd h
+bad_matches (Err j) (Ok b) h k = absurd k
+bad_matches (Err j) (Err k) h l = tt
+
+-- a variable has its value in the state, and a listed form the one that it makes
+kept_value : (U : Readable) (vs : List Word) (sc : Scope) (env : State → State → Env) → Stands U vs sc env → (e : Tree) → KeptValue vs e → (s : State) (v : Value) → (eval plain e (sc.env s)).value ≡ Ok v → eval plain e (sc.env s) ≡ just v
+kept_value U vs sc env k (node (name x) at ts) h s v q = k.scoped.reads x h at s ∙ ap just (got (s x) v (sym (ap (λ z. z.value) (k.scoped.reads x h at s)) ∙ q))
   where
-    by : before_pc no_items js ≡ js → (b : Bool) → cond b (item (Line.setting x e) js) (item (Line.setting x e) (before_pc no_items js)) ≡ item (Line.setting x e) js
-    by ih true = refl
-    by ih false = ap (item (Line.setting x e)) ih
-none_before (item i js) = ap (item i) (none_before js)
-
-pub in_order : (A : Names) (ms : Assignments) (rest : Items) → late ms ≡ [] → assignment_items A ms rest ≡ settings_of A ms (heads ms) rest
-in_order A ms rest e =
-    (λ i. settings_of A ms (left_of (heads ms) (heads ms) (e i)) (before_pc (settings_of A ms (e i) no_items) rest))
-    ∙ (λ i. settings_of A ms (all_left (heads ms) (heads ms) (λ x m. m) i) (none_before rest i))
+    got : (x y : Value) → ◌≡◌ {A = Outcome Value} (Ok x) (Ok y) → x ≡ y
+    got x y e = cc
+kept_value U vs sc env k (node m at ts) h s v q = means_value plain (node m at ts) h (sc.env s) v q
 
 -- ---- `with`
 
@@ -136,25 +140,40 @@ match_cond : (b : Bool) (p q : Verdict) (v u : Outcome Bool) → Matches p v →
 match_cond true p q v u m n = m
 match_cond false p q v u m n = n
 
+-- the items with the expression in place of the name, where the body's items match in the scope that has the name
+match_kept : (U : Readable) (vs : List Word) (A : Names) → IsWithin A (is_among vs) → (sc : Scope) (env : State → State → Env) → Stands U vs sc env → (s t : State) (x : Word) (e : Tree) → FineTree U A e → (b : Items) (es : Effects)
+    → KeptValue vs e × ClearItems plain (in_place_of x (primed A e)) b × Needs (primed A e) (put_in A x e b) → ((v : Value) → Matches (holds_on vs (bound_env x v env) b s t) (hold (build A es) (bound x v sc) s t))
+    → Matches (holds_on vs env (put_in A x e b) s t) (holds (Action.some x (Action.primed A (one_member plain e)) (build A es)) sc s t)
+match_kept U vs A w sc env k s t x e f b es g h = by (eval plain e (sc.env (mid s t A))).value refl
+  where
+    same : eval plain (primed A e) (env s t) ≡ eval plain e (sc.env (mid s t A))
+    same = exp_law U vs A sc env k.paired w e f s t
+
+    by : (o : Outcome Value) → (eval plain e (sc.env (mid s t A))).value ≡ o → Matches (holds_on vs env (put_in A x e b) s t) ((o >>= (λ v. Ok (and v no_values))) >>= (λ us. Action.some_member us (λ u. hold (build A es) (bound x u sc) s t)))
+    by (Ok v) p =
+        agree_matches (holds_on vs env (put_in A x e b) s t) (holds_on vs (bound_env x v env) b s t) _
+        (single_law plain x (primed A e) v b g.1 (values_of vs s) (values_of vs t) (env s t) (same ∙ kept_value U vs sc env k e g.0 (mid s t A) v p))
+        (match_once (holds_on vs (bound_env x v env) b s t) (hold (build A es) (bound x v sc) s t) (h v))
+    by (Err j) p = bad_matches (holds_on vs env (put_in A x e b) s t) _ (g.2 (values_of vs s) (values_of vs t) (env s t) (subst IsBad (sym (ap (λ z. z.value) same ∙ p)) tt)) tt
+
 mutual
-  match_item : (U : Readable) (vs : List Word) (A : Names) (at : Place) (st : Statement) → SettledOne (is_among vs) st → FineOne U vs A st → IsWithin A (is_among vs) → (sc : Scope) (env : State → State → Env) → Stands U vs sc env → (s t : State) (rest : Items) (r : Outcome Bool) → Ordered A st rest → Matches (holds_on vs env rest s t) r → Matches (holds_on vs env (write_one vs A at st rest) s t) (and_then (holds (build_one A (effect_of plain at st)) sc s t) r)
-  match_item U vs A at (assign ms) z f w sc env k s t rest r o h =
-      subst (λ js. Matches (holds_on vs env js s t) (and_then (hold_sets (Action.settings_of A (parts_of plain ms) (firsts (parts_of plain ms))) sc s t) r)) (sym o)
-      (subst (λ xs. Matches (holds_on vs env (settings_of A ms (heads ms) rest) s t) (and_then (hold_sets (Action.settings_of A (parts_of plain ms) xs) sc s t) r)) (sym (heads_same plain ms))
-      (match_sets U vs A ms f sc env k w s t (heads ms) (λ x m. m) (one_in (is_among vs) (assign ms) z) rest r h))
-  match_item U vs A at (await e) z f w sc env k s t rest r o h = match_and _ (holds_on vs env rest s t) _ r (
+  match_item : (U : Readable) (vs : List Word) (A : Names) (at : Place) (st : Statement) → SettledOne (is_among vs) st → FineOne U vs A st → IsWithin A (is_among vs) → (sc : Scope) (env : State → State → Env) → Stands U vs sc env → (s t : State) (rest : Items) (r : Outcome Bool) → Matches (holds_on vs env rest s t) r → Matches (holds_on vs env (write_one vs A at st rest) s t) (and_then (holds (build_one A (effect_of plain at st)) sc s t) r)
+  match_item U vs A at (assign ms) z f w sc env k s t rest r h =
+      subst (λ xs. Matches (holds_on vs env (settings_of A ms (heads ms) rest) s t) (and_then (hold_sets (Action.settings_of A (parts_of plain ms) xs) sc s t) r)) (sym (heads_same plain ms))
+      (match_sets U vs A ms f sc env k w s t (heads ms) (λ x m. m) (one_in (is_among vs) (assign ms) z) rest r h)
+  match_item U vs A at (await e) z f w sc env k s t rest r h = match_and _ (holds_on vs env rest s t) _ r (
       subst (λ o. Matches (o.value >>= truth_at (root_place (primed A e))) (holds (build_one A (effect_of plain at (await e))) sc s t)) (sym (exp_law U vs A sc env k.paired w e f s t))
       (match_told (eval plain e (sc.env (mid s t A))).value (root_place (primed A e)) (place_of e sc))) h
-  match_item U vs A at (print e) z f w sc env k s t rest r o h = match_and _ (holds_on vs env rest s t) _ r (
+  match_item U vs A at (print e) z f w sc env k s t rest r h = match_and _ (holds_on vs env rest s t) _ r (
       subst (λ d. Matches ((part_values (eval plain (primed A e) ∷ []) (env s t) >>= (λ us. (called at d us).value)) >>= truth_at at) (holds (build_one A (effect_of plain at (print e))) sc s t)) (sym (k.paired.print s t))
       (subst (λ o. Matches (((o.value >>= (λ v. Ok (v ∷ []))) >>= standard_value plain printed at) >>= truth_at at) (holds (build_one A (effect_of plain at (print e))) sc s t)) (sym (exp_law U vs A sc env k.paired w e f s t))
       (match_print (eval plain e (sc.env (mid s t A))).value at))) h
-  match_item U vs A at (assert e) z f w sc env k s t rest r o h = match_and _ (holds_on vs env rest s t) _ r (
+  match_item U vs A at (assert e) z f w sc env k s t rest r h = match_and _ (holds_on vs env rest s t) _ r (
       subst (λ d. Matches ((part_values (eval plain (primed A e) ∷ eval plain (Rattle.tla_expr.specs.Tree.node (Rattle.tla_expr.specs.Tree.string (codes "Failure of assertion.")) at no_trees) ∷ []) (env s t) >>= (λ us. (called at d us).value)) >>= truth_at at) (holds (build_one A (effect_of plain at (assert e))) sc s t)) (sym (k.paired.assert s t))
       (subst (λ o. Matches (((o.value >>= (λ v. Ok (v ∷ Rattle.tla_value.specs.Value.text (codes "Failure of assertion.") ∷ []))) >>= standard_value plain asserted at) >>= truth_at at) (holds (build_one A (effect_of plain at (assert e))) sc s t)) (sym (exp_law U vs A sc env k.paired w e f s t))
       (match_assert (eval plain e (sc.env (mid s t A))).value (Rattle.tla_value.specs.Value.text (codes "Failure of assertion.")) at (place_of e sc) at))) h
-  match_item U vs A at skip z f w sc env k s t rest r o h = h
-  match_item U vs A at (branch e x y) z f w sc env k s t rest r o h =
+  match_item U vs A at skip z f w sc env k s t rest r h = h
+  match_item U vs A at (branch e x y) z f w sc env k s t rest r h =
       let xs = assigned_in x in
       let ys = assigned_in y in
       match_and _ (holds_on vs env rest s t) _ r (
@@ -162,26 +181,43 @@ mutual
       (match_test (eval plain e (sc.env (mid s t A))).value (root_place (primed A e)) (place_of e sc) _ (λ b. cond b (hold (ended (build A (effects_of plain x)) (Action.unchanged (minus (effects_names (effects_of plain y)) (effects_names (effects_of plain x))))) sc s t) (hold (ended (build A (effects_of plain y)) (Action.unchanged (minus (effects_names (effects_of plain x)) (effects_names (effects_of plain y))))) sc s t)) (λ b. match_cond b _ _ _ _
       (match_lists_same vs ys xs _ _ (all_names plain y) (all_names plain x) s t (env s t) at (write vs A x) (build A (effects_of plain x)) sc (all_in (is_among vs) y z.1) (match_all U vs A x z.0 f.1 w sc env k s t))
       (match_lists_same vs xs ys _ _ (all_names plain x) (all_names plain y) s t (env s t) at (write vs A y) (build A (effects_of plain y)) sc (all_in (is_among vs) x z.0) (match_all U vs A y z.1 f.2 w sc env k s t))))) h
-  match_item U vs A at (either bs) z f w sc env k s t rest r o h =
+  match_item U vs A at (either bs) z f w sc env k s t rest r h =
       match_and _ (holds_on vs env rest s t) _ r (match_lists U vs A at (assigned_by bs) (ways_names (ways_of plain bs)) (some_names plain bs) bs z f (some_in (is_among vs) bs z) w sc env k s t) h
-  match_item U vs A at (with no_binds b) z f w sc env k s t rest r o h =
+  match_item U vs A at (with no_binds b) z f w sc env k s t rest r h =
       match_and _ (holds_on vs env rest s t) _ r (
       match_or _ (Ok false) _ (Ok false)
       (match_lists_same vs (assigned_in b) (assigned_in b) _ _ (append_none (effects_names (effects_of plain b)) ∙ all_names plain b) (all_names plain b) s t (env s t) at (write vs A b) (build A (effects_of plain b)) sc (all_in (is_among vs) b z) (match_all U vs A b z f.1 w sc env k s t)) refl) h
-  match_item U vs A at (with (one_of x e bs) b) z f w sc env k s t rest r o h = match_and _ (holds_on vs env rest s t) _ r (
+  match_item U vs A at (with (one_of x e bs) b) z f w sc env k s t rest r h = match_and _ (holds_on vs env rest s t) _ r (
       subst (λ o. Matches ((o.value >>= members_at (root_place (primed A e))) >>= (λ us. Module.some_member us (λ u. holds_on vs (bound_env x.word u env) (nested_items A bs (filled at (write vs A b))) s t))) (holds (build_one A (effect_of plain at (with (one_of x e bs) b))) sc s t)) (sym (exp_law U vs A sc env k.paired w e f.0.0 s t))
       (match_some (eval plain e (sc.env (mid s t A))).value (root_place (primed A e)) (place_of e sc) (λ u. holds_on vs (bound_env x.word u env) (nested_items A bs (filled at (write vs A b))) s t) (λ u. hold (build A (nested plain bs (effects_of plain b))) (bound x.word u sc) s t)
       (λ u. match_nested U vs A w s t bs f.0.2 (filled at (write vs A b)) (effects_of plain b) (λ sc' env' k'. match_filled _ _ _ at (write vs A b) _ (match_all U vs A b z f.1 w sc' env' k' s t)) (bound x.word u sc) (bound_env x.word u env) (stands_bound U vs sc env x.word u f.0.1 k)))) h
-  match_item U vs A at (with (is x e bs) b) z f w sc env k s t rest r o h = match_and _ (holds_on vs env rest s t) _ r (
-      subst (λ o. Matches (o.value >>= (λ u. holds_on vs (bound_env x.word u env) (nested_items A bs (filled at (write vs A b))) s t)) (holds (build_one A (effect_of plain at (with (is x e bs) b))) sc s t)) (sym (exp_law U vs A sc env k.paired w e f.0.0 s t))
-      (match_one (eval plain e (sc.env (mid s t A))).value (λ u. holds_on vs (bound_env x.word u env) (nested_items A bs (filled at (write vs A b))) s t) (λ u. hold (build A (nested plain bs (effects_of plain b))) (bound x.word u sc) s t)
-      (λ u. match_nested U vs A w s t bs f.0.2 (filled at (write vs A b)) (effects_of plain b) (λ sc' env' k'. match_filled _ _ _ at (write vs A b) _ (match_all U vs A b z f.1 w sc' env' k' s t)) (bound x.word u sc) (bound_env x.word u env) (stands_bound U vs sc env x.word u f.0.1 k)))) h
-  match_item U vs A at _ z f w sc env k s t rest r o h = absurd f
+  match_item U vs A at (with (is x e no_binds) b) z f w sc env k s t rest r h =
+      elim (bytes_eq old_stack x.word) as (λ c. (c ≡ true → KeptValue vs e × ClearItems plain (in_place_of x.word (primed A e)) (write vs A b) × Needs (primed A e) (put_in A x.word e (write vs A b)))
+      → Matches (holds_on vs env (cond c (onto (put_in A x.word e (write vs A b)) rest) (item (Line.local x.word (primed A e) (filled at (write vs A b))) rest)) s t) (and_then (holds (build_one A (effect_of plain at (with (is x e no_binds) b))) sc s t) r)) [
+        | true ↦ λ g.
+            subst (λ p. Matches p (and_then (holds (build_one A (effect_of plain at (with (is x e no_binds) b))) sc s t) r)) (sym (hold_onto (values_of vs s) (values_of vs t) (env s t) (put_in A x.word e (write vs A b)) rest))
+            (match_and (holds_on vs env (put_in A x.word e (write vs A b)) s t) (holds_on vs env rest s t) (holds (build_one A (effect_of plain at (with (is x e no_binds) b))) sc s t) r
+            (match_kept U vs A w sc env k s t x.word e f.0.0 (write vs A b) (effects_of plain b) (g refl)
+            (λ v. match_all U vs A b z f.1 w (bound x.word v sc) (bound_env x.word v env) (stands_bound U vs sc env x.word v f.0.1 k) s t)) h)
+        | false ↦ λ g. match_and _ (holds_on vs env rest s t) _ r (
+            subst (λ o. Matches (o.value >>= (λ u. holds_on vs (bound_env x.word u env) (nested_items A no_binds (filled at (write vs A b))) s t)) (holds (build_one A (effect_of plain at (with (is x e no_binds) b))) sc s t)) (sym (exp_law U vs A sc env k.paired w e f.0.0 s t))
+            (match_one (eval plain e (sc.env (mid s t A))).value (λ u. holds_on vs (bound_env x.word u env) (nested_items A no_binds (filled at (write vs A b))) s t) (λ u. hold (build A (nested plain no_binds (effects_of plain b))) (bound x.word u sc) s t)
+            (λ u. match_nested U vs A w s t no_binds f.0.2 (filled at (write vs A b)) (effects_of plain b) (λ sc' env' k'. match_filled _ _ _ at (write vs A b) _ (match_all U vs A b z f.1 w sc' env' k' s t)) (bound x.word u sc) (bound_env x.word u env) (stands_bound U vs sc env x.word u f.0.1 k)))) h
+      ] f.2
+  match_item U vs A at (with (is x e (one_of y l bs)) b) z f w sc env k s t rest r h = match_and _ (holds_on vs env rest s t) _ r (
+      subst (λ o. Matches (o.value >>= (λ u. holds_on vs (bound_env x.word u env) (nested_items A (one_of y l bs) (filled at (write vs A b))) s t)) (holds (build_one A (effect_of plain at (with (is x e (one_of y l bs)) b))) sc s t)) (sym (exp_law U vs A sc env k.paired w e f.0.0 s t))
+      (match_one (eval plain e (sc.env (mid s t A))).value (λ u. holds_on vs (bound_env x.word u env) (nested_items A (one_of y l bs) (filled at (write vs A b))) s t) (λ u. hold (build A (nested plain (one_of y l bs) (effects_of plain b))) (bound x.word u sc) s t)
+      (λ u. match_nested U vs A w s t (one_of y l bs) f.0.2 (filled at (write vs A b)) (effects_of plain b) (λ sc' env' k'. match_filled _ _ _ at (write vs A b) _ (match_all U vs A b z f.1 w sc' env' k' s t)) (bound x.word u sc) (bound_env x.word u env) (stands_bound U vs sc env x.word u f.0.1 k)))) h
+  match_item U vs A at (with (is x e (is y l bs)) b) z f w sc env k s t rest r h = match_and _ (holds_on vs env rest s t) _ r (
+      subst (λ o. Matches (o.value >>= (λ u. holds_on vs (bound_env x.word u env) (nested_items A (is y l bs) (filled at (write vs A b))) s t)) (holds (build_one A (effect_of plain at (with (is x e (is y l bs)) b))) sc s t)) (sym (exp_law U vs A sc env k.paired w e f.0.0 s t))
+      (match_one (eval plain e (sc.env (mid s t A))).value (λ u. holds_on vs (bound_env x.word u env) (nested_items A (is y l bs) (filled at (write vs A b))) s t) (λ u. hold (build A (nested plain (is y l bs) (effects_of plain b))) (bound x.word u sc) s t)
+      (λ u. match_nested U vs A w s t (is y l bs) f.0.2 (filled at (write vs A b)) (effects_of plain b) (λ sc' env' k'. match_filled _ _ _ at (write vs A b) _ (match_all U vs A b z f.1 w sc' env' k' s t)) (bound x.word u sc) (bound_env x.word u env) (stands_bound U vs sc env x.word u f.0.1 k)))) h
+  match_item U vs A at _ z f w sc env k s t rest r h = absurd f
 
   pub match_all : (U : Readable) (vs : List Word) (A : Names) (ss : Statements) → Settled (is_among vs) ss → Fine U vs A ss → IsWithin A (is_among vs) → (sc : Scope) (env : State → State → Env) → Stands U vs sc env → (s t : State) → Matches (holds_on vs env (write vs A ss) s t) (hold (build A (effects_of plain ss)) sc s t)
   match_all U vs A done z f w sc env k s t = refl
   match_all U vs A (then at st rest) z f w sc env k s t =
-      match_item U vs A at.first st z.0 f.0 w sc env k s t (write vs (more A (assigned st)) rest) (hold (build (more A (effect_names (effect_of plain at.first st))) (effects_of plain rest)) sc s t) f.2
+      match_item U vs A at.first st z.0 f.0 w sc env k s t (write vs (more A (assigned st)) rest) (hold (build (more A (effect_names (effect_of plain at.first st))) (effects_of plain rest)) sc s t)
       (subst (λ xs. Matches (holds_on vs env (write vs (more A (assigned st)) rest) s t) (hold (build (more A xs) (effects_of plain rest)) sc s t)) (sym (one_names plain at.first st))
       (match_all U vs (more A (assigned st)) rest z.1 f.1 (within_more A (assigned st) vs w (one_in (is_among vs) st z.0)) sc env k s t))
   match_all U vs A (mark l j rest) z f w sc env k s t = absurd f

@@ -202,6 +202,7 @@ pairs_stand x p e = subst (PairStands program actor called) (some_is (bytes_eq (
       stack_of_u = (refl, (refl, tt));
       stack_of_p = (refl, (refl, tt));
       apart = λ n. cc;
+      unread = λ n at. cc;
       once = ((refl, tt), (tt, tt));
       initials = λ at. (((λ w s. refl), ((λ w s. refl), tt)), tt);
     }

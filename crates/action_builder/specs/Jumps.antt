@@ -3,11 +3,12 @@ use Rattle.std.specs.Prelude.{List, [], ◌∷◌, codes, nat_eq, cond, Some, Op
 use Rattle.tla_token.specs.declared.place.Place.{Place}
 use Rattle.tla_expr.specs.declared.op.Op.TheVariants.{Concat}
 use Rattle.tla_expr.specs.Tree.{Word, string, name, operator_call, strict, operator, tuple, fields, select, Tree, node, Trees, no_trees, tree, root_place}
-use Rattle.pcal_tree.specs.Algorithm.{Span, Declaration, Routine, locals, Assignments, no_assignments, assignment, Statements, done, then, assign, procedure_routines, either, no_branches}
+use Rattle.pcal_tree.specs.Algorithm.{Span, Declaration, Routine, locals, Assignments, no_assignments, assignment, no_binds, is, with, Statements, done, then, assign, procedure_routines, either, no_branches}
 use Rattle.pcal_tree.specs.Run.{Partner, no_partner, goto_partner, return_partner}
 use Rattle.pcal_tree.specs.Program.{Program, written}
 use Rattle.pcal_tree.specs.Calls.{label_name, first_label, frame_fields, named}
 use Rattle.action_builder.specs.Settled.{WrittenJumps}
+use Rattle.action_builder.specs.Written.{old_stack}
 use Rattle.pcal_tree.specs.Variables.{written_all, pc, stack}
 
 abbrev pub name_at : Place → Word → Tree
@@ -30,9 +31,12 @@ jump_written at l = then (spot at) (assign (one_assignment (name_at at pc) (text
 
 -- ---- a return
 
--- Head(stack).x
+-- Head(st).x, where the stack has the name st
+abbrev pub field_of : Place → Word → Word → Tree
+field_of at st x = node (strict (select x)) at (tree (node (operator_call (codes "Head")) at (tree (name_at at st) no_trees)) no_trees)
+
 abbrev pub kept_field : Place → Word → Tree
-kept_field at x = node (strict (select x)) at (tree (node (operator_call (codes "Head")) at (tree (name_at at stack) no_trees)) no_trees)
+kept_field at x = field_of at stack x
 
 -- Tail(stack)
 abbrev pub stack_rest : Place → Tree
@@ -99,20 +103,25 @@ values_kept P u p at end = cond (nat_eq u.number p.number) (kept_fields end (wri
 abbrev pub stack_replaced : Program → Routine → Routine → Place → Place → Tree
 stack_replaced P u p at end = pushed_on P p at (kept_field end pc) (values_kept P u p at end) (stack_rest end)
 
--- assignments with others after them
-abbrev pub and_also : Assignments → Assignments → Assignments
-and_also no_assignments ns = ns
-and_also (assignment l e ms) ns = assignment l e (and_also ms ns)
+-- x := Head(st).x for each name
+abbrev pub fields_of : Place → Word → List Word → Assignments
+fields_of at st [] = no_assignments
+fields_of at st (x ∷ xs) = assignment (name_at at x) (field_of at st x) (fields_of at st xs)
 
--- what the return restores, where p is another procedure
+-- what the return restores from the old stack, where p is another procedure
 abbrev pub others_restored : Program → Routine → Routine → Place → Assignments
-others_restored P u p end = cond (nat_eq u.number p.number) no_assignments (fields_restored end (written_all P u (locals u)) no_assignments)
+others_restored P u p end = cond (nat_eq u.number p.number) no_assignments (fields_of end old_stack (written_all P u (locals u)))
 
--- the stack, the parameters of p and what the return restores in one assignment, then the variables of p, then pc
+-- the stack and the parameters of p in one assignment, then the variables of p, then what the return restores, then pc
+abbrev pub pair_body : Program → Routine → Routine → Place → Place → Trees → (Declaration → Place) → (Declaration → Tree) → Statements
+pair_body P u p at end ts place initial =
+    then (spot at) (assign (assignment (name_at at stack) (stack_replaced P u p at end) (arguments_assigned (written_all P p p.params) ts)))
+    (variables_written P p place initial p.variables (then (spot end) (assign (others_restored P u p end)) (jump_written at (label_name P p (first_label p)))))
+
+-- all in a step that still knows the old stack
 abbrev pub pair_written : Program → Routine → Routine → Place → Place → Trees → (Declaration → Place) → (Declaration → Tree) → Statements
 pair_written P u p at end ts place initial =
-    then (spot at) (assign (assignment (name_at at stack) (stack_replaced P u p at end) (and_also (arguments_assigned (written_all P p p.params) ts) (others_restored P u p end))))
-    (variables_written P p place initial p.variables (jump_written at (label_name P p (first_label p))))
+    then (spot end) (with (is (record { word = old_stack; place = end }) (name_at end stack) no_binds) (pair_body P u p at end ts place initial)) done
 
 -- ---- of a routine
 

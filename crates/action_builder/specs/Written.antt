@@ -7,8 +7,8 @@ use Rattle.tla_expr.specs.Tree.{Word, PathStep, index, field, Slot, select, exce
 use Rattle.tla_value.specs.Grafts.{primes}
 use Rattle.module_text.specs.Module.{test, setting, unchanged, exists, local, if_then_else, either as any, Items, no_items, item, Branches as Lists, no_branches as no_lists, branch as list}
 use Rattle.pcal_tree.specs.Algorithm.{nowhere, Assignments, no_assignments, assignment, Binds, no_binds, one_of, is, Statement, assign, await, print, assert, skip, branch, either, with, Statements, done, then, mark, Branches, no_branches, or}
-use Rattle.pcal_tree.specs.Variables.{pc, stack}
-use Rattle.action_builder.specs.Assigned.{Names, more, head_of, head_first, heads, assigned, assigned_in, assigned_by}
+use Rattle.action_builder.specs.SingleProcess.{in_place_of, graft_items}
+use Rattle.action_builder.specs.Assigned.{Names, more, head_of, heads, assigned, assigned_in, assigned_by}
 
 -- ---- the right side for a variable
 
@@ -112,39 +112,20 @@ abbrev pub settings_of : Names → Assignments → List Word → Items → Items
 settings_of A ms [] rest = rest
 settings_of A ms (y ∷ ys) rest = item (setting y (primed A (side_of y (own y ms)))) (settings_of A ms ys rest)
 
--- ---- what a step takes from the stack's first record
+-- ---- an old value
 
-abbrev pub is_head : Form → Bool
-is_head (operator_call f) = bytes_eq (codes "Head") f
-is_head _ = false
+-- the name that the stack has in a step which still reads what it was: no name of an algorithm has a blank in it
+abbrev pub old_stack : Word
+old_stack = codes "old stack"
 
-abbrev pub of_stack : Trees → Bool
-of_stack (tree (node m at us) ts) = is_head m && bytes_eq (head_first us) stack
-of_stack no_trees = false
+-- a `with` of that name alone
+abbrev pub is_old : Binds → Bool
+is_old (is x e no_binds) = bytes_eq old_stack x.word
+is_old _ = false
 
--- Head(stack).x
-abbrev pub is_kept : Tree → Bool
-is_kept (node (strict (select x)) at ts) = of_stack ts
-is_kept _ = false
-
-abbrev pub restored : Assignments → List Word
-restored no_assignments = []
-restored (assignment l e ms) = cond (is_kept e) (head_of l ∷ restored ms) (restored ms)
-
--- where the stack gets another first record, and that is the first of the assignments, what they restore is written later: before pc
-abbrev pub late : Assignments → List Word
-late no_assignments = []
-late (assignment l e ms) = cond (bytes_eq (head_of l) stack) (restored ms) []
-
-abbrev pub before_pc : Items → Items → Items
-before_pc later no_items = later
-before_pc later (item (setting x e) js) = cond (bytes_eq x pc) (onto later (item (setting x e) js)) (item (setting x e) (before_pc later js))
-before_pc later (item i js) = item i (before_pc later js)
-
--- rest: the items after
-abbrev pub assignment_items : Names → Assignments → Items → Items
-assignment_items A ms rest =
-    settings_of A ms (left_of (heads ms) (heads ms) (late ms)) (before_pc (settings_of A ms (late ms) no_items) rest)
+-- it is written as the items of the body, with the expression in place of the name
+abbrev pub put_in : Names → Word → Tree → Items → Items
+put_in A x e b = graft_items (in_place_of x (primed A e)) b
 
 -- ---- statements
 
@@ -161,7 +142,7 @@ branch_items vs at body all own = filled at (onto body (unchanged_of (left_of vs
 -- vs: all variables, in the order of `vars`; A: those that are assigned already; rest: the items after
 abbrev mutual
   pub write_one : List Word → Names → Place → Statement → Items → Items
-  write_one vs A at (assign ms) rest = assignment_items A ms rest
+  write_one vs A at (assign ms) rest = settings_of A ms (heads ms) rest
   write_one vs A at (await e) rest = item (test (primed A e)) rest
   write_one vs A at (print e) rest = item (test (print_of at (primed A e))) rest
   write_one vs A at (assert e) rest = item (test (assert_of at (primed A e))) rest
@@ -174,7 +155,8 @@ abbrev mutual
   write_one vs A at (with no_binds b) rest =
       item (any (list (branch_items vs at (write vs A b) (assigned_in b) (assigned_in b)) no_lists)) rest
   write_one vs A at (with (one_of x e bs) b) rest = item (exists x.word (primed A e) (nested_items A bs (filled at (write vs A b)))) rest
-  write_one vs A at (with (is x e bs) b) rest = item (local x.word (primed A e) (nested_items A bs (filled at (write vs A b)))) rest
+  write_one vs A at (with (is x e bs) b) rest =
+      cond (is_old (is x e bs)) (onto (put_in A x.word e (write vs A b)) rest) (item (local x.word (primed A e) (nested_items A bs (filled at (write vs A b)))) rest)
   write_one vs A at _ rest = item (any no_lists) rest
 
   pub write : List Word → Names → Statements → Items

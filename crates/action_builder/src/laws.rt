@@ -34,7 +34,7 @@ ghost use Rattle.action_builder.specs.laws.Jumps.{callable, callable_in_pairs, R
 ghost use Rattle.action_builder.specs.Settled.{WrittenJumps, settled};
 ghost use Rattle.action_builder.specs.laws.LabelSteps.{LabelStep, prepared_of, items_of, action_of, IsPrepared, IsReady, EndsIn, IsTroubled, StepsTo, MeetsTrouble};
 ghost use Rattle.action_builder.specs.Prepared.{none};
-ghost use Rattle.action_builder.specs.Written.{except_of};
+ghost use Rattle.action_builder.specs.Written.{except_of, old_stack};
 ghost use Rattle.action_builder.specs.SingleProcess.{in_place_of, graft_items};
 ghost use Rattle.action_builder.specs.laws.Grafts.{ClearItems, IsListed};
 ghost use Rattle.tla_value.specs.laws.Places.{AgreeButPlaces, ChecksButPlaces, EnvsButPlaces};
@@ -83,12 +83,13 @@ pub fn settled_statements_have_the_same_ends()
 
 /// The assignments written for the jumps, calls and returns of a routine, at any places, which are the same for all
 /// processes, do what the rules of a step say; so do those for a call that is one statement with a `return`, where
-/// written names are apart and the initial values of a procedure's variables rest on nothing that is set later.
+/// written names are apart, the initial values of a procedure's variables rest on nothing that is set later, and a
+/// `with` may bind the name of the old stack.
 pub fn written_jumps_do_what_the_rules_say()
     ensures calls { (P : Program) (v : Actor) (u : Routine) (I : InitialValues) (places : JumpPlaces) (f : Word → Bool) (sc : Scope) → P.check ≡ plain → RoutinesStandWithin P v u I f sc
         → DoesAsRules (rules_without_macros P v u) (written_jumps P u I places) (Inner f sc) (In f) (callable P) }
     ensures pairs { (P : Program) (v : Actor) (u : Routine) (I : InitialValues) (places : JumpPlaces) (f : Word → Bool) (sc : Scope) → P.check ≡ plain → RoutinesStandWithin P v u I f sc
-        → PairsStand P v u → DoesAsRules (rules_without_macros P v u) (written_jumps P u I places) (Inner f sc) (In f) (callable_in_pairs P) }
+        → f old_stack ≡ true → PairsStand P v u → DoesAsRules (rules_without_macros P v u) (written_jumps P u I places) (Inner f sc) (In f) (callable_in_pairs P) }
 {}
 
 /// With the variables of a process written as functions of its identifier, statements take the courses that they

@@ -1,12 +1,13 @@
 -- In a text of the form is one algorithm alone.
-use Rattle.std.proofs.Common.{◌≡◌, ℕ, ◌+◌, ◌-◌, Bool, List, Option, Some, length, sym, ap, subst, ◌∙◌}
+use Rattle.std.proofs.Common.{◌≡◌, ℕ, ◌+◌, Bool, List, sym, ap, subst, ◌∙◌}
+use Rattle.std.proofs.lemmas.Option.{same_Some}
 use Rattle.tla_token.specs.Tokens.{TokAlgorithm}
 use Rattle.tla_token.proofs.Unique as token
 use Rattle.tla_expr.specs.Spelling as spelled
 use Rattle.pcal_tree.specs.Algorithm.{Algorithm}
 use Rattle.pcal_tree.specs.AlgorithmTokens.{views}
 use Rattle.pcal_tree.specs.Grammar.{algorithm_of}
-use Rattle.module_text.specs.TextFront.{Split}
+use Rattle.module_text.specs.AlgorithmText.{AlgorithmText}
 use Rattle.first_path.specs.Form.{Parts, IsForm}
 use Rattle.first_path.specs.Placed.{Places}
 use Rattle.promise.specs.Headline.{Stands}
@@ -48,10 +49,9 @@ whole p b f h = record {
 -- the place of the algorithm is a function of the text, and its tokens are those of the form
 same_tokens : (x : List ℕ) (f : Parts) (l : Laid x f) (a : Algorithm) (s : Stands x a) → s.tokens ≡ l.tokens
 same_tokens x f l a s =
-    let found : ◌≡◌ {A = Option Split} (Some s.split) (Some l.split) = sym s.is_split ∙ l.is_split in
-    let same : s.split ≡ l.split = cc in
-    let tok = subst (λ (p : Split). TokAlgorithm x (length p.front) (length x - length p.back) s.tokens) same s.tok in
-    token.one_algorithm x (length l.split.front) (length x - length l.split.back) s.tokens l.tokens tok l.tok
+    let same : s.text ≡ l.text = same_Some s.text l.text (sym s.is_text ∙ l.is_text) in
+    let tok = subst (λ (p : AlgorithmText). TokAlgorithm x p.from p.rest.to s.tokens) same s.tok in
+    token.one_algorithm x l.text.from l.text.rest.to s.tokens l.tokens tok l.tok
 
 -- what is there is the form's algorithm
 form_stands : (x : List ℕ) (f : Parts) (l : Laid x f) (a : Algorithm) → Stands x a

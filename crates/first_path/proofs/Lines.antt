@@ -1,15 +1,16 @@
 -- The lines of a text of the form, its first line, and the words in it.
-use Rattle.std.proofs.Common.{◌≡◌, ℕ, ◌≤◌, Bool, true, false, not, nat_eq, List, [], ◌∷◌, ◌++◌, length, Some, None, if◌then◌else◌, refl, ap, sym, ◌∙◌, codes, arith, append_assoc, length-append}
+use Rattle.std.proofs.Common.{◌≡◌, ℕ, ◌≤◌, Bool, true, false, not, nat_eq, List, [], ◌∷◌, ◌++◌, length, Some, None, if◌then◌else◌, refl, ap, sym, ◌∙◌, codes, arith, append_assoc, append-nil, length-append}
 use Rattle.std.specs.List.{list_all, list_any}
 use Rattle.std.proofs.lemmas.Bool.{and_parts, and_from, false_from_ne_true, not-true}
 use Rattle.tla_token.specs.Lexemes.{name, is_word, is_letter, is_blank, IsLexeme, IsLongest}
 use Rattle.tla_token.specs.Tokens.{Piece, text_of}
-use Rattle.tla_token.proofs.Words.{any_append, all_append}
+use Rattle.tla_token.specs.Cut.{run}
+use Rattle.tla_token.proofs.Words.{run_over, any_append, all_append}
 use Rattle.tla_token.proofs.Signed.{tells_apart, printed_blank}
 use Rattle.tla_token.proofs.Parted.{word_printed}
 use Rattle.tla_expr.specs.Tree.{Word}
-use Rattle.module_text.specs.TextFront.{Text, first_is, past_all, is_space, word_at, past_name, at_line, line_of}
-use Rattle.module_text.specs.HeaderAndRegion.{header_title, is_header}
+use Rattle.module_text.specs.TextFront.{Text, first_is, past_all, is_space, past_name, whole_line}
+use Rattle.module_text.specs.HeaderAndRegion.{header_title}
 use Rattle.first_path.specs.Form.{Parts, is_name, last_line, IsForm}
 use Rattle.first_path.proofs.Names.{name_words, name_letter, every}
 
@@ -21,10 +22,12 @@ word_no_blank b h = printed_blank b (word_printed b h)
 word_no_space : (b : ℕ) → is_word b ≡ true → is_space b ≡ false
 word_no_space b h = rw (word_no_blank b h) refl
 
-pub word_over : (m r : Text) → list_all is_word m ≡ true → first_is is_word r ≡ false → word_at (m ++ r) ≡ m
-word_over [] [] h k = refl
-word_over [] (b ∷ r) h k = rw k refl
-word_over (b ∷ m) r h k = (let w = and_parts (is_word b) (list_all is_word m) h in rw w.0 (ap (λ (u : Text). b ∷ u) (word_over m r w.1 k)))
+pub word_over : (m r : Text) → list_all is_word m ≡ true → first_is is_word r ≡ false → run is_word (m ++ r) ≡ m
+word_over m r h k = run_over is_word m r h ∙ ap (λ (u : Text). m ++ u) (none r k) ∙ append-nil m
+  where
+    none : (r : Text) → first_is is_word r ≡ false → run is_word r ≡ []
+    none [] k = refl
+    none (b ∷ r) k = rw k refl
 
 pub after_over : (p : ℕ → Bool) (m r : Text) → list_all p m ≡ true → first_is p r ≡ false → past_all p (m ++ r) ≡ r
 after_over p [] [] h k = refl
@@ -37,7 +40,7 @@ first_of_name p c [] r h = absurd cc
 first_of_name p c (b ∷ w) r h = c b (and_parts (is_word b) (list_all is_word w) (name_words (b ∷ w) h)).0
 
 pub past_named : (m r : Text) → is_name m ≡ true → first_is is_word r ≡ false → past_name (m ++ r) ≡ Some r
-past_named m r h k = by (word_at (m ++ r)) (past_all is_word (m ++ r)) (word_over m r (name_words m h) k) (after_over is_word m r (name_words m h) k)
+past_named m r h k = by (run is_word (m ++ r)) (past_all is_word (m ++ r)) (word_over m r (name_words m h) k) (after_over is_word m r (name_words m h) k)
   where
     by : (w s : Text) → w ≡ m → s ≡ r → (if list_any is_letter w then Some s else None) ≡ Some r
     by w s e f = rw (e, f, name_letter m h) refl
@@ -46,12 +49,12 @@ past_named m r h k = by (word_at (m ++ r)) (past_all is_word (m ++ r)) (word_ove
 pub lexeme_name : (w bytes : List ℕ) → IsLexeme (name w) bytes → is_name bytes ≡ true
 lexeme_name w bytes h = ap is_name h.0 ∙ and_from (list_all is_word w) (list_any is_letter w) h.1.0 h.1.1
 
--- where no word goes on, none does with more past_all
+-- where no word goes on, none does with more after it
 pub first_more : (s t : Text) → first_is is_word s ≡ false → first_is is_word t ≡ false → first_is is_word (s ++ t) ≡ false
 first_more [] t h k = k
 first_more (b ∷ s) t h k = h
 
--- past_all a longest name no word goes on
+-- after a longest name no word goes on
 pub name_stops : (w bytes rest : List ℕ) → IsLexeme (name w) bytes → IsLongest bytes rest → first_is is_word rest ≡ false
 name_stops w bytes [] h l = refl
 name_stops w bytes (b ∷ rest) h l =
@@ -68,7 +71,7 @@ name_stops w bytes (b ∷ rest) h l =
 abbrev pub header_line : Word → List ℕ
 header_line t = codes "---- MODULE " ++ t ++ codes " ----\n"
 
--- past_all `(*`, with its end
+-- after `(*`, with its end
 abbrev pub comment_of : List ℕ → List Piece → List ℕ
 comment_of gap ps = codes "\n" ++ gap ++ codes "--algorithm" ++ text_of ps ++ codes "*)"
 
@@ -76,7 +79,7 @@ comment_of gap ps = codes "\n" ++ gap ++ codes "--algorithm" ++ text_of ps ++ co
 abbrev pub units_before : List ℕ → List Piece → List ℕ
 units_before gap ps = codes "EXTENDS Integers\n(*" ++ comment_of gap ps ++ codes "\n"
 
--- ---- the first line, and what is past_all it
+-- ---- the first line, and what is after it
 
 abbrev pub header_of : Word → Text → Text
 header_of t r = codes "---- MODULE " ++ (t ++ (codes " ----\n" ++ r))
@@ -88,23 +91,25 @@ title_is t r h =
     let blank_first = after_over is_space [] (t ++ s) refl (first_of_name is_space word_no_space t s h) in
     rw (blank_first, word_over t s w refl, after_over is_word t s w refl, name_letter t h) refl
 
-pub header_first : (t r : Text) → is_name t ≡ true → at_line is_header true (header_of t r) ≡ Some ([], header_of t r)
-header_first t r h = rw (title_is t r h) refl
-
 abbrev is_within_line : ℕ → Bool
 is_within_line b = not (nat_eq b 10)
 
 word_within_line : (b : ℕ) → is_word b ≡ true → is_within_line b ≡ true
 word_within_line b h = rw (tells_apart is_word b 10 h refl) refl
 
-line_past : (w r : Text) → list_all is_within_line w ≡ true → line_of (w ++ r) ≡ (w ++ (line_of r).0, (line_of r).1)
+line_past : (w r : Text) → list_all is_within_line w ≡ true → whole_line (w ++ r) ≡ w ++ whole_line r
 line_past [] r h = refl
 line_past (b ∷ w) r h =
     let k = and_parts (is_within_line b) (list_all is_within_line w) h in
-    rw (not-true (nat_eq b 10) k.0, line_past w r k.1) refl
+    rw (not-true (nat_eq b 10) k.0) (ap (λ (u : Text). b ∷ u) (line_past w r k.1))
 
-pub line_header : (t r : Text) → is_name t ≡ true → line_of (header_of t r) ≡ (header_line t, r)
-line_header t r h = rw (line_past t (codes " ----\n" ++ r) (every is_word is_within_line word_within_line t (name_words t h))) refl
+pub line_header : (t r : Text) → is_name t ≡ true → whole_line (header_of t r) ≡ header_line t
+line_header t r h =
+    ap (λ (u : Text). codes "---- MODULE " ++ u) (line_past t (codes " ----\n" ++ r) (every is_word is_within_line word_within_line t (name_words t h)))
+    ∙ in_line (codes "---- MODULE ") t (codes " ----\n")
+  where
+    in_line : (a t b : Text) → a ++ (t ++ b) ≡ a ++ t ++ b
+    in_line a t b = simp append_assoc refl
 
 pub header_is : (t r : Text) → header_line t ++ r ≡ header_of t r
 header_is t r = simp append_assoc refl

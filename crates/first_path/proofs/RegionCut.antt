@@ -1,5 +1,5 @@
 -- The tokens of pieces, line by line and by columns, as the grammar of modules sees them; and the units that they are cut into.
-use Rattle.std.proofs.Common.{◌≡◌, ℕ, ◌+◌, ◌^◌, Bool, true, false, not, ◌&&◌, ◌||◌, nat_eq, List, [], ◌∷◌, length, refl, ap, ◌∙◌, arith, Option, Some, MatchBool}
+use Rattle.std.proofs.Common.{◌≡◌, ℕ, ◌+◌, ◌^◌, Bool, true, false, not, ◌&&◌, ◌||◌, nat_eq, List, [], ◌∷◌, length, refl, ap, ◌∙◌, arith, MatchBool}
 use Rattle.std.specs.List.{list_all}
 use Rattle.std.proofs.lemmas.Bool.{and_parts, ltb-true, not-true}
 use Rattle.tla_token.specs.declared.place.Place.{Place}
@@ -13,7 +13,7 @@ use Rattle.tla_expr.specs.Lexical as tk
 use Rattle.tla_expr.specs.Lexical.{TokenView, Token}
 use Rattle.tla_expr.specs.TokenViews.{kind_of, views}
 use Rattle.module_text.specs.Reading.{is_small, AllSmall}
-use Rattle.module_text.specs.UnitCut.{is_starter, is_dash, begins_run, is_within, begins_unit, Cut, cut_at, cut_after}
+use Rattle.module_text.specs.FileUnits.{is_starter, is_bar, begins_unit, Cut, cut_at, cut}
 use Rattle.first_path.proofs.StandsTokens.{word_is}
 use Rattle.first_path.proofs.RegionBytes.{is_inline, all_inline, small_kind, all_small}
 
@@ -86,7 +86,7 @@ small_tokens p at (lexeme k bytes ∷ ps) h =
     let q = and_parts (small_kind k) (all_small ps) h in
     (small_is k q.0, small_tokens (after p bytes) (at + length bytes) ps q.1)
 
--- ---- cutting tokens without dashes
+-- ---- cutting tokens without bars
 
 abbrev pub begins : Token → Bool
 begins t = is_starter t.kind && nat_eq t.place.col 1
@@ -96,26 +96,18 @@ parted [] = record { front = []; units = [] }
 parted (t ∷ ts) = cut_at (begins t) t (parted ts)
 
 abbrev pub dashless : List Token → Bool
-dashless ts = list_all (λ t. not (is_dash t)) ts
+dashless ts = list_all (λ t. not (is_bar t.kind)) ts
 
-no_run : (t : Token) (ts : List Token) → is_dash t ≡ false → begins_run (t ∷ ts) ≡ false
-no_run t [] h = refl
-no_run t (a ∷ []) h = refl
-no_run t (a ∷ b ∷ []) h = refl
-no_run t (a ∷ b ∷ c ∷ ts) h = rw h refl
+turned : (a b c : Bool) → c ≡ false → ((a && b) || c) ≡ (b && a)
+turned true true c h = refl
+turned true false c h = h
+turned false true c h = h
+turned false false c h = h
 
-turned : (a b c d : Bool) → c ≡ false → ((a && b) || (c && d)) ≡ (b && a)
-turned true true c d h = refl
-turned true false c d h = rw h refl
-turned false true c d h = rw h refl
-turned false false c d h = rw h refl
-
--- without dashes a unit begins just where a starter is in column 1
-pub cut_is : (before : Option Token) (ts : List Token) → dashless ts ≡ true → cut_after before ts ≡ parted ts
-cut_is before [] h = refl
-cut_is before (t ∷ ts) h =
-    let p = and_parts (not (is_dash t)) (dashless ts) h in
-    let r : begins_run (t ∷ ts) ≡ false = no_run t ts (not-true (is_dash t) p.0) in
-    let b : begins_unit before t ts ≡ begins t =
-    turned (nat_eq t.place.col 1) (is_starter t.kind) (begins_run (t ∷ ts)) (not (is_within before t)) r in
-    λ i. cut_at (b i) t (cut_is (Some t) ts p.1 i)
+-- without bars a unit begins just where a starter is in column 1
+pub cut_is : (ts : List Token) → dashless ts ≡ true → cut ts ≡ parted ts
+cut_is [] h = refl
+cut_is (t ∷ ts) h =
+    let p = and_parts (not (is_bar t.kind)) (dashless ts) h in
+    let b : begins_unit t ≡ begins t = turned (nat_eq t.place.col 1) (is_starter t.kind) (is_bar t.kind) (not-true (is_bar t.kind) p.0) in
+    λ i. cut_at (b i) t (cut_is ts p.1 i)

@@ -12,7 +12,7 @@ use Rattle.module_text.specs.Module.{RegionUnit, call, one_way, variables_unit, 
 use Rattle.tla_expr.specs.Lexical.{Token}
 use Rattle.module_text.specs.Grammar.{last_name, more_names, call_form, one_form}
 use Rattle.module_text.specs.Units.{UnitForm, spell_unit, unit_of, GoodUnit, IsUnit, variables_form, vars_form, init_form, terminating_form, next_form, spec_form, steps_line, termination_form}
-use Rattle.module_text.specs.UnitCut.{Cut}
+use Rattle.module_text.specs.FileUnits.{Cut}
 use Rattle.module_text.specs.Reading.{AllAre}
 use Rattle.first_path.specs.Form.{Parts}
 use Rattle.first_path.specs.Placed.{leaf, infix_of, is_at}

@@ -13,7 +13,7 @@ use Rattle.module_text.specs.Module.{RegionUnit, test, setting, no_items, item, 
 use Rattle.tla_expr.specs.Lexical.{Token}
 use Rattle.module_text.specs.Grammar.{ItemForm, spell_list, GoodOperand, test_form, setting_form, last_item, more_items}
 use Rattle.module_text.specs.Units.{UnitForm, all_form, action_form}
-use Rattle.module_text.specs.UnitCut.{Cut}
+use Rattle.module_text.specs.FileUnits.{Cut}
 use Rattle.first_path.specs.Form.{Operand, number_operand, variable_operand, single, sum, Parts}
 use Rattle.first_path.specs.Form as form
 use Rattle.first_path.specs.Placed.{leaf, right_tree, is_at}

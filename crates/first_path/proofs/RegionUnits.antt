@@ -1,11 +1,11 @@
 -- The tokens of the written translation, begun at the start of a line, are the units of the region's tree.
-use Rattle.std.proofs.Common.{◌≡◌, ℕ, ◌+◌, IsTrue, [], ◌∷◌, refl, sym, ap, ◌∙◌, subst, None}
+use Rattle.std.proofs.Common.{◌≡◌, ℕ, ◌+◌, IsTrue, [], ◌∷◌, refl, sym, ap, ◌∙◌, subst}
 use Rattle.tla_token.specs.declared.place.Place.{Place}
 use Rattle.tla_token.specs.Tokens.{tokens_of}
 use Rattle.module_text.specs.Module.{units_of}
 use Rattle.module_text.specs.Units.{IsUnit}
 use Rattle.tla_expr.specs.TokenViews.{views}
-use Rattle.module_text.specs.UnitCut.{Cut, cut}
+use Rattle.module_text.specs.FileUnits.{Cut, cut}
 use Rattle.module_text.specs.Reading.{AllAre, AllSmall}
 use Rattle.first_path.specs.Form.{Parts, is_fit}
 use Rattle.first_path.specs.Placed.{Places, region_at}
@@ -74,7 +74,7 @@ at_line : (n at : ℕ) (f : Parts) → Fit f → AreUnits f (put n 1) at (places
 at_line n at f h =
     let b = all_reached n f h in
     let e : cut (views (tokens_of (put n 1) at (region_pieces f))) ≡ parted b.tokens =
-    ap cut (stand_is n 1 at (region_pieces f) b.tokens (region_inline f h) b.stand) ∙ cut_is None b.tokens b.plain in
+    ap cut (stand_is n 1 at (region_pieces f) b.tokens (region_inline f h) b.stand) ∙ cut_is b.tokens b.plain in
     record {
       small = small_tokens (put n 1) at (region_pieces f) (region_small f h);
       no_front = ap (λ (c : Cut). c.front) e ∙ b.front;

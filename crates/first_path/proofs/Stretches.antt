@@ -1,56 +1,16 @@
--- Pieces of a text before others, and stretches of a text with their places.
-use Rattle.std.proofs.Common.{◌≡◌, ℕ, zero, suc, ◌+◌, ◌-◌, Bool, true, false, ◌||◌, List, [], ◌∷◌, ◌++◌, length, map, take, drop, Option, Some, None, refl, sym, ap, subst, ◌∙◌, codes, arith, append_assoc, length-append}
+-- Pieces of a text by their kinds, and stretches of a text with their places.
+use Rattle.std.proofs.Common.{◌≡◌, ℕ, zero, suc, ◌+◌, ◌-◌, Bool, true, List, [], ◌∷◌, ◌++◌, length, map, take, drop, Option, Some, None, refl, ap, ◌∙◌, arith, append_assoc}
 use Rattle.std.specs.List.{list_all}
 use Rattle.std.proofs.Math.Seq.{take-append_seam, drop-append_seam}
-use Rattle.std.proofs.lemmas.Bool.{and_from, or_parts, both_ways, false_from_ne_true}
+use Rattle.std.proofs.lemmas.Bool.{and_from}
 use Rattle.tla_token.specs.declared.place.Place.{Place}
 use Rattle.tla_token.specs.Places.{start, step, after, place_at}
-use Rattle.tla_token.specs.Lexemes.{Kind, IsLongest, is_blank}
-use Rattle.tla_token.specs.Tokens.{Piece, blank, block, line, lexeme, text_of, bytes_of, Fits, EndsLine, AllFit, opens_comment, stretch}
-use Rattle.tla_token.proofs.Spelled.{begins, begins_from, begins_is}
+use Rattle.tla_token.specs.Lexemes.{Kind, is_blank}
+use Rattle.tla_token.specs.Tokens.{Piece, blank, block, line, lexeme, text_of, Fits, AllFit, stretch}
+pub use Rattle.tla_token.proofs.Less.{text_append, all_fit_less}
 use Rattle.first_path.specs.Form as form
 use Rattle.first_path.specs.Form.{kinds_of}
 use Rattle.first_path.specs.Placed.{Places}
-
--- ---- pieces before others
-
-pub text_append : (ps qs : List Piece) → text_of (ps ++ qs) ≡ text_of ps ++ text_of qs
-text_append [] qs = refl
-text_append (p ∷ ps) qs = ap (λ (u : List ℕ). bytes_of p ++ u) (text_append ps qs) ∙ sym (append_assoc (bytes_of p) (text_of ps) (text_of qs))
-
-starts_less : (w a t : List ℕ) → begins (a ++ t) w ≡ false → begins a w ≡ false
-starts_less w a t h =
-    false_from_ne_true (begins a w) (λ e.
-    let whole = ap (λ (u : List ℕ). u ++ t) (begins_is a w e) ∙ append_assoc w (drop (length w) a) t in
-    both_ways (begins (a ++ t) w) h (begins_from (a ++ t) w (drop (length w) a ++ t) whole))
-
-comment_less : (a t : List ℕ) → opens_comment (a ++ t) ≡ false → opens_comment a ≡ false
-comment_less a t h =
-    let both = or_parts (begins (a ++ t) (codes "(*")) (begins (a ++ t) (codes "\\*")) h in
-    by (begins a (codes "(*")) (begins a (codes "\\*")) (starts_less (codes "(*") a t both.0) (starts_less (codes "\\*") a t both.1)
-  where
-    by : (x y : Bool) → x ≡ false → y ≡ false → (x || y) ≡ false
-    by x y e f = rw (e, f) refl
-
-longest_less : (bytes s t : List ℕ) → IsLongest bytes (s ++ t) → IsLongest bytes s
-longest_less bytes s t h k m more is e =
-    h k m (more ++ t) is (sym (append_assoc bytes s t) ∙ ap (λ (u : List ℕ). u ++ t) e ∙ append_assoc m more t)
-
-ends_less : (s t : List ℕ) → EndsLine (s ++ t) → EndsLine s
-ends_less [] t h = tt
-ends_less (b ∷ s) t h = h
-
-fits_less : (p : Piece) (s t : List ℕ) → Fits p (s ++ t) → Fits p s
-fits_less (blank b) s t h = h
-fits_less (block body) s t h = h
-fits_less (line body) s t h = (h.0, ends_less s t h.1)
-fits_less (lexeme k bytes) s t h =
-    (comment_less (bytes ++ s) t (ap opens_comment (append_assoc bytes s t) ∙ h.0), h.1, longest_less bytes s t h.2)
-
--- the first of pieces that fit fit without the others
-pub all_fit_less : (ps qs : List Piece) → AllFit (ps ++ qs) → AllFit ps
-all_fit_less [] qs h = tt
-all_fit_less (p ∷ ps) qs h = (fits_less p (text_of ps) (text_of qs) (subst (Fits p) (text_append ps qs) h.0), all_fit_less ps qs h.1)
 
 -- ---- kinds of pieces
 
@@ -121,22 +81,9 @@ stretch_is w a b c from to e f g =
     let n : to - from ≡ length b = omega arith in
     rw (n, f, e, drop-append_seam a (b ++ c)) (take-append_seam b c)
 
--- without so many bytes at the end
-pub stretch_between : (w a b c : List ℕ) → w ≡ a ++ (b ++ c) → stretch w (length a) (length w - length c) ≡ b
-stretch_between w a b c e =
-    let n : length w ≡ length a + (length b + length c) = ap length e ∙ length-append a (b ++ c) ∙ ap (λ (k : ℕ). length a + k) (length-append b c) in
-    stretch_is w a b c (length a) (length w - length c) e refl (omega arith)
-
-after_append : (p : Place) (v w : List ℕ) → after p (v ++ w) ≡ after (after p v) w
+pub after_append : (p : Place) (v w : List ℕ) → after p (v ++ w) ≡ after (after p v) w
 after_append p [] w = refl
 after_append p (b ∷ v) w = after_append (step p b) v w
-
--- after the end of a line
-pub begins_line : (w m r : List ℕ) (n : ℕ) → w ≡ (m ++ codes "\n") ++ r → n ≡ length (m ++ codes "\n") → (place_at w n).col ≡ 1
-begins_line w m r n e f =
-    ap (λ (k : ℕ). (place_at w k).col) f
-    ∙ ap (λ (u : List ℕ). (after start u).col) (ap (take (length (m ++ codes "\n"))) e ∙ take-append_seam (m ++ codes "\n") r)
-    ∙ ap (λ (p : Place). p.col) (after_append start m (codes "\n"))
 
 -- the place with this number
 abbrev pub nth : List Place → Places

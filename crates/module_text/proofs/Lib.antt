@@ -9,10 +9,25 @@ pub mod Tells
 pub mod First
 mod RowsLayout
 mod RowsItems
-mod RowsAround
 mod RowsTruth
-mod RowsParts
 mod RowsProcesses
 mod RowsOutside
 mod RowsReading
-mod RowsOffences
+mod RowsFiles
+pub mod WalkLines
+pub mod WalkWhole
+pub mod WalkResumed
+pub mod WalkWritten
+pub mod WalkMoved
+pub mod WalkParted
+pub mod WalkAround
+pub mod WalkAgain
+pub mod WalkPieces
+pub mod InsidePieces
+pub mod WalkPlace
+pub mod WalkKept
+pub mod WalkSame
+pub mod AlgorithmTokens
+pub mod AlgorithmFound
+pub mod AlgorithmIsCut
+pub mod AlgorithmSame

@@ -1,26 +1,28 @@
 -- A file has one place for a translation and one for an algorithm, and is refused in one way.
-use Rattle.std.proofs.Common.{◌≡◌, ℕ, List, ◌++◌, Option, Some, sym, ap, ◌∙◌}
+use Rattle.std.proofs.Common.{◌≡◌, ℕ, List, ◌++◌, Some, sym, ap, ◌∙◌, take, drop}
 use Rattle.std.proofs.lemmas.Option.{same_Some}
 use Rattle.tla_token.specs.declared.rule.Rule.{Rule}
 use Rattle.tla_token.specs.declared.rule.Refusal.{Refusal}
 use Rattle.tla_token.specs.Places.{place_at}
 use Rattle.module_text.specs.Module.{Module}
 use Rattle.module_text.specs.Layout.{layout}
-use Rattle.module_text.specs.TextFront.{Split}
+use Rattle.module_text.specs.FileParts.{Span}
+use Rattle.module_text.specs.AlgorithmText.{AlgorithmText}
+use Rattle.module_text.specs.WithTranslation.{line_end_if_new}
 use Rattle.module_text.specs.Around.{begin_line, end_line, Around, Swapped}
-use Rattle.module_text.specs.Offences.{RefusesModule}
+use Rattle.module_text.specs.FileOffences.{RefusesFile}
 
 pub one_around : (x : List ℕ) (m : Module) (w v : List ℕ) → Around x m w → Around x m v → w ≡ v
 one_around x m w v a b =
-    let same = same_Some a.split b.split (sym a.is_split ∙ b.is_split) in
-    a.is ∙ ap (λ (s : Split). s.front ++ begin_line ++ layout m.region ++ end_line ++ s.back) same ∙ sym b.is
+    let same = same_Some a.at b.at (sym a.is_spot ∙ b.is_spot) in
+    a.is ∙ ap (λ (s : Span). take s.from x ++ (begin_line ++ (layout m.region ++ (end_line ++ (line_end_if_new x ++ drop s.to x))))) same ∙ sym b.is
 
 pub one_swapped : (x u w v : List ℕ) → Swapped x u w → Swapped x u v → w ≡ v
 one_swapped x u w v a b =
-    let same = same_Some a.split b.split (sym a.is_split ∙ b.is_split) in
-    a.is ∙ ap (λ (s : Split). s.front ++ u ++ s.back) same ∙ sym b.is
+    let same = same_Some a.old b.old (sym a.is_old ∙ b.is_old) in
+    a.is ∙ ap (λ (s : AlgorithmText). take s.from x ++ (u ++ drop s.rest.to x)) same ∙ sym b.is
 
-pub one_refusal : (x : List ℕ) (r s : Refusal) → RefusesModule x r → RefusesModule x s → r ≡ s
+pub one_refusal : (x : List ℕ) (r s : Refusal) → RefusesFile x r → RefusesFile x s → r ≡ s
 one_refusal x r s a b =
     let same = same_Some (r.rule, a.at) (s.rule, b.at) (sym a.first ∙ b.first) in
     let place : r.place ≡ s.place = a.place ∙ ap (λ (p : Rule × ℕ). place_at x p.1) same ∙ sym b.place in

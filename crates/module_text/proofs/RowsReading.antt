@@ -1,6 +1,6 @@
 -- Texts of units that are read as these units, by computation.
 use Rattle.std.proofs.Common.{◌≡◌, inr, refl, true}
-use Rattle.std.specs.Prelude.{ℕ, List, [], ◌∷◌, map, None, codes}
+use Rattle.std.specs.Prelude.{ℕ, List, [], ◌∷◌, ◌++◌, map, None, codes}
 use Rattle.tla_token.specs.declared.place.Place.{Place}
 use Rattle.tla_token.specs.Cut.{tokens}
 use Rattle.tla_expr.specs.declared.op.Op.TheVariants.{Plus}
@@ -13,7 +13,8 @@ use Rattle.module_text.specs.Grammar.{last_name, more_names, test_form, setting_
 use Rattle.module_text.specs.Units.{IsUnit, all_form, action_form, next_form, spec_form, steps_line, termination_form}
 use Rattle.tla_expr.specs.Lexical.{Token}
 use Rattle.tla_expr.specs.TokenViews.{views}
-use Rattle.module_text.specs.UnitCut.{cut}
+use Rattle.module_text.specs.Walk.{walk}
+use Rattle.module_text.specs.FileUnits.{units_in}
 use Rattle.module_text.specs.Outside.{Sight, IsRead, opaque_of}
 
 abbrev at : ℕ → ℕ → Place
@@ -99,15 +100,19 @@ kinds : outside_of (constants both_constants ∷ defines one ∷ extends [] ∷ 
     ≡ record { extended = []; constants = both_constants; definitions = one ∷ []; opaque = [] }
 kinds = refl
 
--- units begin in column 1, or at a run of dashes; what is indented goes on
-units : map (λ ts. (opaque_of ts).names) (cut (seen (codes "a == b\n  c\n------\nTHEOREM x\nTHEOREM T == x\nRECURSIVE f(_), g\nLOCAL d == e\n"))).units
+-- the units of a module with this text
+abbrev units_of_text : List ℕ → List (List Token)
+units_of_text text = (units_in (walk (codes "---- MODULE M ----\n" ++ text ++ codes "====\n"))).units
+
+-- units begin in column 1, or at a bar of dashes; what is indented goes on
+units : map (λ ts. (opaque_of ts).names) (units_of_text (codes "a == b\n  c\n ------\nTHEOREM x\nTHEOREM T == x\nRECURSIVE f(_), g\nLOCAL d == e\n"))
     ≡ (codes "a" ∷ []) ∷ [] ∷ [] ∷ (codes "T" ∷ []) ∷ (codes "f" ∷ codes "g" ∷ []) ∷ (codes "d" ∷ []) ∷ []
 units = refl
 
 -- a sign that is in no expression begins no unit, nor does a reserved word that begins none
-not_cut : map (λ ts. (opaque_of ts).names) (cut (seen (codes "a == b\n@ c\nUNCHANGED d\nASSUME e == f\n"))).units
+not_cut : map (λ ts. (opaque_of ts).names) (units_of_text (codes "a == b\n@ c\nUNCHANGED d\nASSUME e == f\n"))
     ≡ (codes "a" ∷ []) ∷ (codes "e" ∷ []) ∷ []
 not_cut = refl
 
-keywords : map (λ ts. (opaque_of ts).keyword) (cut (seen (codes "a == b\nASSUME e == f\n"))).units ≡ [] ∷ codes "ASSUME" ∷ []
+keywords : map (λ ts. (opaque_of ts).keyword) (units_of_text (codes "a == b\nASSUME e == f\n")) ≡ [] ∷ codes "ASSUME" ∷ []
 keywords = refl

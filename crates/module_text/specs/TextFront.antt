@@ -2,6 +2,7 @@
 use Rattle.std.specs.Prelude.{ℕ, nat_eq, Bool, true, false, ◌&&◌, not, List, [], ◌∷◌, length, drop, Option, Some, None, option_and_then, if◌then◌else◌}
 use Rattle.std.specs.List.{starts_with, list_any}
 use Rattle.tla_token.specs.Lexemes.{is_word, is_letter, is_blank}
+use Rattle.tla_token.specs.Cut.{run}
 
 abbrev pub Text : Type 0
 Text = List ℕ
@@ -38,13 +39,9 @@ past_blanks p s = if first_is p s then Some (past_all p s) else None
 abbrev pub past_run : ℕ → Text → Option Text
 past_run b s = on_some (past_word (b ∷ b ∷ b ∷ b ∷ []) s) (λ r. Some (past_all (nat_eq b) r))
 
--- the run of letters, digits and underscores at the front
-abbrev pub word_at : Text → Text
-word_at [] = []
-word_at (b ∷ s) = if is_word b then b ∷ word_at s else []
-
+-- after letters, digits and underscores with a letter among them
 abbrev pub past_name : Text → Option Text
-past_name s = if list_any is_letter (word_at s) then Some (past_all is_word s) else None
+past_name s = if list_any is_letter (run is_word s) then Some (past_all is_word s) else None
 
 abbrev pub ends_line : Text → Bool
 ends_line [] = true
@@ -52,25 +49,10 @@ ends_line (b ∷ s) = nat_eq b 10
 
 -- ---- lines
 
-abbrev pub with_front : ℕ → Option (Text × Text) → Option (Text × Text)
-with_front b (Some (a, r)) = Some (b ∷ a, r)
-with_front b None = None
+-- the rest of the line, without its end, and with it
+abbrev pub line_here : Text → Text
+line_here s = run (λ b. not (nat_eq b 10)) s
 
--- before and from the first line that is so; the first argument says whether a line begins here
-abbrev pub at_line : (Text → Bool) → Bool → Text → Option (Text × Text)
-at_line p first [] = None
-at_line p first (b ∷ s) = if first && p (b ∷ s) then Some ([], b ∷ s) else with_front b (at_line p (nat_eq b 10) s)
-
--- a line, with its end, and what is after it; the end of a line alone
-abbrev pub line_of : Text → Text × Text
-line_of [] = ([], [])
-line_of (b ∷ s) = if nat_eq b 10 then (b ∷ [], s) else (let r = line_of s in (b ∷ r.0, r.1))
-
--- from the end of the line on
-abbrev pub line_end : Text → Text
-line_end s = past_all (λ b. not (nat_eq b 10)) s
-
--- a text in two, with what is between left out; the end of what is left out begins the second part
-pub record Split : Type 0 where
-  pub front : Text
-  pub back : Text
+abbrev pub whole_line : Text → Text
+whole_line [] = []
+whole_line (b ∷ s) = if nat_eq b 10 then b ∷ [] else b ∷ whole_line s

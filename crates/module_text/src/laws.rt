@@ -1,13 +1,21 @@
 //! Laws of modules, stated as what functions without a body ensure.
 
-ghost use Rattle.std.specs.Prelude.{◌≡◌, ℕ, List};
+ghost use Rattle.std.specs.Prelude.{◌≡◌, ◌++◌, ◌∷◌, [], ℕ, List, Some, true, false};
+ghost use Rattle.tla_token.specs.Tokens.{EndsLine, TokAlgorithm};
 ghost use Rattle.tla_token.specs.declared.rule.Refusal.{Refusal};
 ghost use Rattle.module_text.specs.Module.{Region, RegionUnit, units_of, Module};
 ghost use Rattle.tla_expr.specs.Lexical.{Token};
 ghost use Rattle.module_text.specs.Units.{IsUnit};
 ghost use Rattle.module_text.specs.Reading.{Reads};
 ghost use Rattle.module_text.specs.Around.{Around, Swapped};
-ghost use Rattle.module_text.specs.Offences.{RefusesModule};
+ghost use Rattle.module_text.specs.FileOffences.{RefusesFile};
+ghost use Rattle.module_text.specs.TextFront.{Text};
+ghost use Rattle.module_text.specs.Walk.{State, Located, region, walk, walk_from, at_start, after_segment};
+ghost use Rattle.module_text.specs.WithTranslation.{begin_line, end_line, WithTranslation};
+ghost use Rattle.module_text.specs.laws.Kept.{IsFine, only_large, KeepsFile, SameAlgorithm, IsPut};
+ghost use Rattle.module_text.specs.AlgorithmText.{AlgorithmText, algorithm_in, algorithm_tokens};
+ghost use Rattle.module_text.specs.FileOffences.{offences_of, algorithm_offences};
+ghost use Rattle.module_text.specs.laws.Walks.{text_of, is_lined, are_calm, after_all, after_text, IsOpen, IsInside, made, located, Near, Fit, Moved, are_common, Put};
 
 /// A list of units is that of one translation at most.
 pub fn units_are_of_one_region()
@@ -30,7 +38,63 @@ pub fn files_have_one_place()
     ensures swapped { (x u w v : List ℕ) → Swapped x u w → Swapped x u v → w ≡ v }
 {}
 
-/// A file without a module, an algorithm or a place for the translation is refused in one way.
+/// A file that is refused before its algorithm is read is refused in one way.
 pub fn a_file_is_refused_in_one_way()
-    ensures { (x : List ℕ) (r s : Refusal) → RefusesModule x r → RefusesModule x s → r ≡ s }
+    ensures { (x : List ℕ) (r s : Refusal) → RefusesFile x r → RefusesFile x s → r ≡ s }
+{}
+
+/// The segments of a file make it up.
+pub fn walks_are_whole()
+    ensures { (x : Text) → text_of (walk x) ≡ x }
+{}
+
+/// A text of whole lines that is calm is walked alike whatever follows, and what follows is walked from where it ends.
+pub fn walks_are_resumed()
+    ensures { (st : State) (t r : Text) → is_lined t ≡ true → are_calm (walk_from st 0 t) ≡ true → walk_from st 0 (t ++ r) ≡ walk_from st 0 t ++ walk_from (after_all st (walk_from st 0 t)) 0 r }
+{}
+
+/// A file with a translation is walked as the text before it, one region, and the text after it.
+pub fn translations_are_regions()
+    ensures { (a t c : Text) → is_lined a ≡ true → are_calm (walk a) ≡ true → IsOpen (after_text a) → IsInside t → EndsLine c → walk (a ++ (begin_line ++ (t ++ (end_line ++ c)))) ≡ walk a ++ located (after_text a) (made t) ∷ walk_from (after_segment (after_text a) (made t)) 0 c }
+{}
+
+/// The text after a translation is walked alike wherever it is: its segments are moved by bytes and lines.
+pub fn walks_are_moved()
+    ensures { (i j m n : ℕ) (st nd : State) (t : Text) → st.headed ≡ true → nd.headed ≡ true → Near i j m n st.at st.place nd.at nd.place → Fit st.marked nd.marked (walk_from st 0 t) → Moved i j m n (walk_from st 0 t) (walk_from nd 0 t) }
+{}
+
+/// Where a walk is cut after a newline, its beginning is the walk of the bytes so far.
+pub fn walks_are_parted()
+    ensures { (ds es : List Located) (st : State) (a r : Text) → is_lined a ≡ true → are_calm ds ≡ true → walk_from st 0 (a ++ r) ≡ ds ++ es → text_of ds ≡ a → walk_from st 0 a ≡ ds }
+{}
+
+/// A file in which a translation is put after whole lines is walked as before, but for the region and its newline.
+pub fn insertions_are_regions()
+    ensures { (x t : Text) (ds es : List Located) → walk x ≡ ds ++ es → is_lined (text_of ds) ≡ true → are_calm ds ≡ true → IsOpen (after_all at_start ds) → IsInside t → are_common es ≡ true → (c : Text) × (x ≡ text_of ds ++ c) × Put ds es t (10 ∷ c) }
+{}
+
+/// A file in which a translation is put in the place of another is walked as before, but for the region.
+pub fn replacements_are_regions()
+    ensures { (x t v w : Text) (ds es : List Located) (old here : Located) → walk x ≡ ds ++ old ∷ here ∷ es → old.is ≡ region v w → is_lined (text_of ds) ≡ true → are_calm ds ≡ true → IsOpen (after_all at_start ds) → IsInside t → (c : Text) × (x ≡ text_of ds ++ ((v ++ w) ++ 10 ∷ c)) × Put ds es t (10 ∷ c) }
+{}
+
+/// In a written file the translation is found again: another one takes exactly its place, and the same one changes nothing.
+pub fn translations_are_found_again()
+    ensures { (a t c v u : Text) (ds more : List Located) → walk (a ++ (begin_line ++ (t ++ (end_line ++ c)))) ≡ ds ++ located (after_all at_start ds) (made t) ∷ more → text_of ds ≡ a → (after_all at_start ds).marked ≡ false → WithTranslation (a ++ (begin_line ++ (t ++ (end_line ++ c)))) v u → u ≡ a ++ (begin_line ++ (v ++ (end_line ++ c))) }
+{}
+
+/// A translation that is put into a file which is not refused is one segment after the file's own, and what is after it is
+/// moved. The file keeps its title, its units and its algorithm, no segment of it breaks a rule, and another translation of
+/// it is one of the file that was read.
+pub fn translations_keep_files()
+    ensures place { (x t w : Text) → IsFine x → IsInside t → WithTranslation x t w → IsPut x t w }
+    ensures kept { (x t w : Text) → IsFine x → IsInside t → WithTranslation x t w → KeepsFile x t w }
+    ensures algorithm { (x t w : Text) (a : AlgorithmText) → IsFine x → IsInside t → WithTranslation x t w → algorithm_in x ≡ Some a → (b : AlgorithmText) × (algorithm_in w ≡ Some b) × SameAlgorithm a b }
+    ensures again { (x t w v u : Text) → IsFine x → IsInside t → IsInside v → WithTranslation x t w → WithTranslation w v u → WithTranslation x v u }
+{}
+
+/// Where no segment of a file and no part of its algorithm breaks a rule, but for numbers that are too big, the algorithm's
+/// stretch has just the tokens that the walk gives.
+pub fn algorithms_have_tokens()
+    ensures { (x : Text) (a : AlgorithmText) → offences_of (walk x) ≡ [] → algorithm_in x ≡ Some a → only_large (algorithm_offences (Some a)) ≡ true → TokAlgorithm x a.from a.rest.to (algorithm_tokens x a) }
 {}

@@ -10,7 +10,7 @@ use Rattle.tla_token.specs.declared.sign.Sign.TheVariants as sign
 use Rattle.tla_token.specs.Signs.{spellings, is_among, all_signs}
 use Rattle.tla_token.specs.Lexemes.{Kind, name, number, one, number_of, unquoted, is_word, is_letter, is_digit, is_blank, is_printed}
 use Rattle.tla_token.specs.Tokens.{blank, block, line, lexeme}
-use Rattle.tla_token.specs.Offences.{Part, sound, stray, bad_string, cut_string, open_string, open_block, part_bytes, string_len, begins_with}
+use Rattle.tla_token.specs.Offences.{Part, sound, stray, bad_string, open_string, open_block, part_bytes, string_len, begins_with}
 use Rattle.tla_token.specs.Cut.{run, comment_len, block_part, string_part, or_other, part_at, lexeme_part, sign_part, sign_at, sign_of, parts, parts_at}
 use Rattle.tla_token.proofs.Words.{run_splits, word_front, digit_word, one_plus}
 use Rattle.tla_token.proofs.Longest.{find_passes, sign_stands}
@@ -183,13 +183,12 @@ odd_worded b v back = (let P : ℕ → Type 0 = λ d. Odd (or_other (sign_of (d 
     by (Some s) e = rw e (backslashed v s e)
 
 odd_string : (raw rest : List ℕ) → Odd (string_part raw rest)
-odd_string raw rest = by (begins_with 34 rest) refl (begins_with 92 rest) refl (unquoted raw) refl
+odd_string raw rest = by (begins_with 34 rest) refl (unquoted raw) refl
   where
-    by : (k : Bool) → begins_with 34 rest ≡ k → (j : Bool) → begins_with 92 rest ≡ j → (o : Option (List ℕ)) → unquoted raw ≡ o → Odd (string_part raw rest)
-    by true k j f None e = rw (k, e) tt
-    by true k j f (Some w) e = rw (k, e) refl
-    by false k true f o e = rw (k, f) tt
-    by false k false f o e = rw (k, f) tt
+    by : (k : Bool) → begins_with 34 rest ≡ k → (o : Option (List ℕ)) → unquoted raw ≡ o → Odd (string_part raw rest)
+    by true k None e = rw (k, e) tt
+    by true k (Some w) e = rw (k, e) refl
+    by false k o e = rw k tt
 
 odd_block : (o : Option ℕ) (bs : List ℕ) → Odd (block_part o bs)
 odd_block None bs = tt
@@ -257,7 +256,6 @@ odd_kinds F (sound (block body)) ps strict h = refl
 odd_kinds F (sound (line body)) ps strict h = refl
 odd_kinds F (stray b) ps strict h = refl
 odd_kinds F (bad_string raw) ps strict h = refl
-odd_kinds F (cut_string raw) ps strict h = refl
 odd_kinds F (open_string raw) ps strict h = refl
 odd_kinds F (open_block body) ps strict h = refl
 

@@ -5,7 +5,7 @@ use Rattle.tla_token.specs.declared.sign.Sign.{Sign}
 use Rattle.tla_token.specs.declared.sign.Sign.TheVariants as sign
 use Rattle.tla_token.specs.Lexemes.{Kind, name, number, one, is_blank}
 use Rattle.tla_token.specs.Tokens.{blank, block, line, lexeme}
-use Rattle.tla_token.specs.Offences.{Part, sound, stray, bad_string, cut_string, open_string, open_block, part_bytes}
+use Rattle.tla_token.specs.Offences.{Part, sound, stray, bad_string, open_string, open_block, part_bytes}
 use Rattle.tla_token.specs.Cut.{part_at, parts, parts_at}
 use Rattle.tla_expr.specs.Tree.{Word}
 use Rattle.first_path.specs.Form.{Operand, number_operand, variable_operand, Right, single, sum}
@@ -176,7 +176,6 @@ odd_plus (sound (block body)) ps h = tt
 odd_plus (sound (line body)) ps h = tt
 odd_plus (stray b) ps h = tt
 odd_plus (bad_string raw) ps h = tt
-odd_plus (cut_string raw) ps h = tt
 odd_plus (open_string raw) ps h = tt
 odd_plus (open_block body) ps h = tt
 
@@ -286,7 +285,6 @@ odd_end (sound (block body)) ps o h = refl
 odd_end (sound (line body)) ps o h = refl
 odd_end (stray b) ps o h = refl
 odd_end (bad_string raw) ps o h = refl
-odd_end (cut_string raw) ps o h = refl
 odd_end (open_string raw) ps o h = refl
 odd_end (open_block body) ps o h = refl
 

@@ -12,7 +12,7 @@ use Rattle.pcal_tree.specs.Algorithm.{Name, Statement, assign, await, print, ass
 use Rattle.pcal_tree.specs.Variables.{declared}
 use Rattle.pcal_tree.specs.Offences.{offence_if}
 use Rattle.pcal_tree.specs.Run.{Partner, return_partner, partner_of}
-use Rattle.pcal_tree.specs.Paths.{Effect, Effects, Path, joined, after_one, after, after_some, has_assigned}
+use Rattle.pcal_tree.specs.Paths.{Effect, Effects, Path, joined, again, rounds, after_one, after, after_some, has_assigned}
 use Rattle.pcal_tree.specs.OffencesSteps.{Before, due_after, inside, Visit, visits_inside, visits, visits_of_some, missing_label, effect_with, offences_at, call_effect, effects_in, missing_in_body}
 use Rattle.pcal_tree.specs.OffencesLabels.{misplaced, of_macro, of_procedure, of_body, of_main, label_offences, label_offences_by}
 use Rattle.pcal_tree.specs.laws.MacroSummaries.{summaries, summary_effect}
@@ -35,6 +35,18 @@ alike_joined (Some xs) (Some ys) (Some us) None h k = absurd k
 alike_joined None (Some ys) o r h k = absurd h
 alike_joined (Some xs) None o r h k = absurd h
 
+alike_again : (f g : Path → Path) → ((p q : Path) → Alike p q → Alike (f p) (g q)) → (p q : Path) → Alike p q → Alike (again f p) (again g q)
+alike_again f g h None None k = k
+alike_again f g h (Some xs) (Some ys) k = h (Some xs) (Some ys) k
+alike_again f g h None (Some ys) k = absurd k
+alike_again f g h (Some xs) None k = absurd k
+
+alike_rounds : (f g : Path → Path) → ((p q : Path) → Alike p q → Alike (f p) (g q)) → (p q : Path) → Alike p q → Alike (rounds joined f p) (rounds joined g q)
+alike_rounds f g h None None k = alike_again f g h (f None) (g None) (h None None k)
+alike_rounds f g h (Some xs) (Some ys) k = alike_joined (f (Some xs)) (g (Some ys)) (Some xs) (Some ys) (h (Some xs) (Some ys) k) k
+alike_rounds f g h None (Some ys) k = absurd k
+alike_rounds f g h (Some xs) None k = absurd k
+
 alike_chosen : (l : Bool) (p q o r : Path) → Alike p q → Alike o r → Alike (cond l p o) (cond l q r)
 alike_chosen true p q o r h k = h
 alike_chosen false p q o r h k = k
@@ -55,8 +67,8 @@ mutual
   alike_after_one E F a (either bs) l p q k = alike_after_some E F a bs p q k
   alike_after_one E F a (with bs b) l p q k = alike_after E F a b false p q k
   alike_after_one E F a (while e b) l p q k =
-      alike_chosen l p q (joined (after E b false p) p) (joined (after F b false q) q) k
-      (alike_joined (after E b false p) (after F b false q) p q (alike_after E F a b false p q k) k)
+      alike_chosen l p q (rounds joined (λ r. after E b false r) p) (rounds joined (λ r. after F b false r) q) k
+      (alike_rounds (λ r. after E b false r) (λ r. after F b false r) (λ r s c. alike_after E F a b false r s c) p q k)
   alike_after_one E F a (goto n) l p q k = tt
   alike_after_one E F a (call n ts) l p q k = tt
   alike_after_one E F a return l p q k = tt

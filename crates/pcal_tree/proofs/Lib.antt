@@ -62,3 +62,6 @@ pub mod RefusedOnce
 pub mod OpensLaws
 pub mod ReplyLaws
 pub mod ReplyConverse
+pub mod AfterSigns
+pub mod AfterSignsAll
+pub mod RowsRefused

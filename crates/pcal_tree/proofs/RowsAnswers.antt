@@ -3,8 +3,9 @@ use Rattle.std.proofs.Common.{◌≡◌, ℕ, List, [], ◌∷◌, true, false, 
 use Rattle.tla_token.specs.declared.place.Place.{Place}
 use Rattle.tla_expr.specs.declared.op.Op.TheVariants.{Less, Divide}
 use Rattle.tla_expr.specs.Tree.{Tree, Trees, set_of, strict, node, no_trees, tree}
-use Rattle.tla_value.specs.declared.fault.FaultKind.TheVariants.{BadDivisor, NotFunction}
+use Rattle.tla_value.specs.declared.fault.FaultKind.TheVariants.{BadDivisor, NotFunction, NotInDomain}
 use Rattle.tla_value.specs.Value.{text, fault}
+use Rattle.tla_value.specs.Order.{seq_from}
 use Rattle.pcal_tree.specs.declared.mark.Mark.TheVariants.{Plain}
 use Rattle.pcal_tree.specs.declared.mark.Fairness.TheVariants.{Unfair}
 use Rattle.pcal_tree.specs.Algorithm.{Statement, skip, await, with, one_of, no_binds, Statements, done, then, mark, among, Declaration, processes, Main, alone}
@@ -88,6 +89,10 @@ no_identifier = refl
 
 no_pc : stepped two start (Some (an_int 2)) [] ≡ stopped_by (fault NotFunction (at 5 9))
 no_pc = refl
+
+-- nor for one that is no argument of pc
+no_argument : stepped two (put pc (seq_from []) start) (Some (an_int 2)) [] ≡ stopped_by (fault NotInDomain (at 5 9))
+no_argument = refl
 
 -- ---- the start
 

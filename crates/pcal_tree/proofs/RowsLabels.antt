@@ -151,6 +151,11 @@ calling d ts rest = label_offences (alg (d ∷ []) (label 2 (codes "A") (stands 
 no_path_after_a_jump : label_offences (alg [] (label 1 (codes "A") (stands 2 (goto (codes "A")) (stands 3 (sets (var x) (num 2)) (stands 4 (sets (var x) (num 3)) done))))) ≡ record { rule = AfterJump; place = at 3 } ∷ []
 no_path_after_a_jump = refl
 
+-- x := 1; x := 2; goto Lbl_2: an added label may be named
+goto_an_added_label : label_offences (labelled false (alg [] (stands 1 (sets (var x) (num 1)) (stands 2 (sets (var x) (num 2)) (stands 3 (goto (codes "Lbl_2")) done))))) ≡ []
+unfolding digits
+goto_an_added_label = refl
+
 -- macro M() begin while y = 0 do skip; end while; end macro: that it lacks a label is its own offence, not the call's
 abbrev looping : Macro
 looping = macro_of [] (stands 1 (while (over Equal (var y) (num 0)) (stands 7 skip done)) done)

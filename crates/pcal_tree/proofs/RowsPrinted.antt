@@ -26,10 +26,10 @@ use Rattle.pcal_tree.specs.OpenForms.{opens}
 use Rattle.pcal_tree.specs.OffencesSyntax.{algorithms}
 use Rattle.pcal_tree.specs.Printed.{PText, CText}
 
-abbrev at : ℕ → ℕ → Place
+abbrev pub at : ℕ → ℕ → Place
 at l k = record { line = l; col = k }
 
-abbrev token : ℕ → ℕ → Kind → Token
+abbrev pub token : ℕ → ℕ → Kind → Token
 token l k w = record { kind = w; at = 0; place = at l k }
 
 abbrev n : ℕ → ℕ → Word → Name
@@ -67,7 +67,7 @@ increment_tokens =
     token 4 3 (name (codes "A")) ∷ token 4 4 (one sign.Colon)
     ∷ token 4 6 (name (codes "x")) ∷ token 4 8 (one sign.Assign) ∷ token 4 11 (name (codes "x")) ∷ token 4 13 (one sign.Plus) ∷ token 4 15 (number 1) ∷ token 4 16 (one sign.Semicolon) ∷ []
 
-abbrev variable_tokens : List Token
+abbrev pub variable_tokens : List Token
 variable_tokens = token 2 1 (name (codes "variables")) ∷ token 2 11 (name (codes "x")) ∷ token 2 13 (one sign.Equal) ∷ token 2 15 (number 0) ∷ token 2 16 (one sign.Semicolon) ∷ []
 
 abbrev p_tokens : List Token
@@ -111,10 +111,10 @@ begins_so = (drop 3 (to_end (views p_tokens)), opens in_p_text, (in_p_text, sear
 
 -- ---- tokens that pass before one that doesn't
 
-abbrev p_front : List Token
+abbrev pub p_front : List Token
 p_front = (token 1 1 (name (codes "--algorithm")) ∷ token 1 13 (name (codes "Inc")) ∷ variable_tokens) ++ (token 3 1 (name (codes "begin")) ∷ token 4 3 (name (codes "A")) ∷ token 4 4 (one sign.Colon) ∷ [])
 
-abbrev c_front : List Token
+abbrev pub c_front : List Token
 c_front = (token 1 1 (name (codes "--algorithm")) ∷ token 1 13 (name (codes "Inc")) ∷ token 1 17 (one sign.OpenCurly) ∷ variable_tokens) ++ (token 3 1 (one sign.OpenCurly) ∷ token 4 3 (name (codes "A")) ∷ token 4 4 (one sign.Colon) ∷ [])
 
 abbrev x_at : ℕ → Phrase
@@ -127,21 +127,21 @@ p_with s = text_of (text.to_end (at 5 1) (at 5 5)) (text.begin (at 3 1) (p.last_
 abbrev open_sum : Text
 open_sum = p_with (p.simple (part.assign (part.last_assignment (x_at 6) (at 4 8) (spelled.brackets (at 4 11) (spelled.infix_of (x_at 12) (at 4 14) op.Plus (x_at 16)) (at 4 17)))))
 
-open_sum_passes : Passes (algorithms p_syntax) (map Some (looks (views (p_front ++ (token 4 6 (name (codes "x")) ∷ token 4 8 (one sign.Assign) ∷ token 4 11 (one sign.OpenRound) ∷ token 4 12 (name (codes "x")) ∷ token 4 14 (one sign.Plus) ∷ [])))))
+pub open_sum_passes : Passes (algorithms p_syntax) (map Some (looks (views (p_front ++ (token 4 6 (name (codes "x")) ∷ token 4 8 (one sign.Assign) ∷ token 4 11 (one sign.OpenRound) ∷ token 4 12 (name (codes "x")) ∷ token 4 14 (one sign.Plus) ∷ [])))))
 open_sum_passes = (drop 15 (to_end (text.spell open_sum [])), opens open_sum, (open_sum, search, refl, refl), refl)
 
 -- `A: if x > 0 y := 1;` up to `y` at 4:15
 abbrev open_if : Text
 open_if = p_with (p.branch (at 4 6) (spelled.infix_of (x_at 9) (at 4 11) op.Greater (spelled.number (at 4 13) 0)) (at 4 15) (p.last_statement part.no_labels (p.simple (part.skip (at 4 20))) None) p.no_else (at 4 25) (at 4 29))
 
-open_if_passes : Passes (algorithms p_syntax) (map Some (looks (views (p_front ++ (token 4 6 (name (codes "if")) ∷ token 4 9 (name (codes "x")) ∷ token 4 11 (one sign.Greater) ∷ token 4 13 (number 0) ∷ [])))))
+pub open_if_passes : Passes (algorithms p_syntax) (map Some (looks (views (p_front ++ (token 4 6 (name (codes "if")) ∷ token 4 9 (name (codes "x")) ∷ token 4 11 (one sign.Greater) ∷ token 4 13 (number 0) ∷ [])))))
 open_if_passes = (drop 14 (to_end (text.spell open_if [])), opens open_if, (open_if, search, refl, refl), refl)
 
 -- `A: x := ;` in C up to the semicolon at 4:11
 abbrev open_assignment : Text
 open_assignment = text_of (text.in_braces (at 1 17) (at 6 1)) (text.block (at 3 1) (c.last_statement (c.labelled labels (c.simple (part.assign (part.last_assignment (x_at 6) (at 4 8) (x_at 11))))) None) (at 5 1) None)
 
-open_assignment_passes : Passes (algorithms c_syntax) (map Some (looks (views (c_front ++ (token 4 6 (name (codes "x")) ∷ token 4 8 (one sign.Assign) ∷ [])))))
+pub open_assignment_passes : Passes (algorithms c_syntax) (map Some (looks (views (c_front ++ (token 4 6 (name (codes "x")) ∷ token 4 8 (one sign.Assign) ∷ [])))))
 open_assignment_passes = (drop 13 (to_end (text.spell open_assignment [])), opens open_assignment, (open_assignment, search, refl, refl), refl)
 
 -- ---- what the grammar sees: a prime is no sign of an algorithm, a reserved word no name

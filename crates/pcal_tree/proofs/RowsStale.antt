@@ -58,6 +58,11 @@ another_variable = refl
 after_a_label : body (x_set (labelled (codes "B") (awaits (read 4 D)))) ≡ []
 after_a_label = refl
 
+-- A: goto A; while 1 do await D; x := 1; either skip; or B: skip; end either; end while: no path leads to the loop, but one begins in it and goes round twice
+in_dead_code : body (stands 2 (goto (codes "A")) (stands 3 (while (num 1) (stands 5 (await (read 4 D)) (x_set (
+    stands 6 (either (or (stands 7 skip done) (or (labelled (codes "B") (stands 8 skip done)) no_branches))) done)))) done)) ≡ stale 4
+in_dead_code = refl
+
 -- x := D || x[D] := D: a statement evaluates before it assigns
 in_the_same_statement : body (stands 2 (assign (assignment (read 2 x) (read 3 D) (assignment (item (read 4 x) (read 5 D)) (read 6 D) no_assignments))) done) ≡ []
 in_the_same_statement = refl

@@ -7,8 +7,8 @@ use Rattle.tla_expr.specs.Tree.{Word, Trees}
 use Rattle.pcal_tree.specs.Algorithm.{Span, Assignments, Statement, assign, await, print, assert, skip, branch, either, with, while, goto, macro, call, return, Statements, done, then, mark, Branches, no_branches, or, Procedure}
 use Rattle.pcal_tree.specs.Expand as expand
 use Rattle.pcal_tree.specs.OffencesStale.{jumps_use}
-use Rattle.pcal_tree.specs.laws.MacroSpots.{Use, other, uses, uses_of_all, uses_of_assignments, uses_of_binds, Origin, assigned, Trail, At, at_label, inside, Seen, on_trail, CallSeen, joined, assigning, one_end, end_of, end_of_some, one_seen, seen_in, seen_in_some}
-use Rattle.pcal_tree.specs.Paths.{roots}
+use Rattle.pcal_tree.specs.laws.MacroSpots.{Use, other, uses, uses_of_all, uses_of_assignments, uses_of_binds, Origin, assigned, Trail, At, at_label, inside, Seen, on_trail, CallSeen, joined, assigning, one_end, end_of, end_of_some, one_seen, seen_in, seen_in_some, unlabelled}
+use Rattle.pcal_tree.specs.Paths.{roots, again, rounds}
 use Rattle.pcal_tree.proofs.SetLaws.{Same, same_both}
 use Rattle.pcal_tree.proofs.SpotGrafts.{no_calls}
 
@@ -49,6 +49,18 @@ like_joined (Some xs) (Some ys) None (Some vs) l k = absurd k
 like_joined (Some xs) (Some ys) (Some us) None l k = absurd k
 like_joined None (Some ys) o p l k = absurd l
 like_joined (Some xs) None o p l k = absurd l
+
+like_again : (f g : Trail → Trail) → ((q r : Trail) → LikeTrail q r → LikeTrail (f q) (g r)) → (q r : Trail) → LikeTrail q r → LikeTrail (again f q) (again g r)
+like_again f g h None None l = l
+like_again f g h (Some xs) (Some ys) l = h (Some xs) (Some ys) l
+like_again f g h None (Some ys) l = absurd l
+like_again f g h (Some xs) None l = absurd l
+
+like_rounds : (f g : Trail → Trail) → ((q r : Trail) → LikeTrail q r → LikeTrail (f q) (g r)) → (q r : Trail) → LikeTrail q r → LikeTrail (rounds joined f q) (rounds joined g r)
+like_rounds f g h None None l = like_again f g h (f None) (g None) (h None None l)
+like_rounds f g h (Some xs) (Some ys) l = like_joined (f (Some xs)) (g (Some ys)) (Some xs) (Some ys) (h (Some xs) (Some ys) l) l
+like_rounds f g h None (Some ys) l = absurd l
+like_rounds f g h (Some xs) None l = absurd l
 
 like_cond : (b c : Bool) → b ≡ c → (q r o p : Trail) → LikeTrail q r → LikeTrail o p → LikeTrail (cond b q o) (cond c r p)
 like_cond true true e q r o p l k = l
@@ -124,9 +136,9 @@ mutual
   one_end_like W S ps c at (while e b) s t l = (
     refl,
     like_cond s.labelled t.labelled l.0 s.trail t.trail
-        (joined (end_of no_calls (expand.expand W b) (inside s)).trail s.trail) (joined (end_of S b (inside t)).trail t.trail) l.1
-        (like_joined (end_of no_calls (expand.expand W b) (inside s)).trail (end_of S b (inside t)).trail s.trail t.trail
-        (end_like W S ps c b (inside s) (inside t) (refl, l.1)).1 l.1),
+        (rounds joined (λ q. (end_of no_calls (expand.expand W b) (unlabelled q)).trail) s.trail) (rounds joined (λ q. (end_of S b (unlabelled q)).trail) t.trail) l.1
+        (like_rounds (λ q. (end_of no_calls (expand.expand W b) (unlabelled q)).trail) (λ q. (end_of S b (unlabelled q)).trail)
+        (λ q r k. (end_like W S ps c b (unlabelled q) (unlabelled r) (refl, k)).1) s.trail t.trail l.1),
   )
   one_end_like W S ps c at (goto n) s t l = (refl, tt)
   one_end_like W S ps c at (macro m ts) s t l = subst (λ z. Like z (S m ts t).end) (sym (end_joined (W at m ts) done s)) (c.end at m ts s t l)

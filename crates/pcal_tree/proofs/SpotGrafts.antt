@@ -9,7 +9,7 @@ use Rattle.pcal_tree.specs.Algorithm.{nowhere, Name, Assignments, no_assignments
 use Rattle.pcal_tree.specs.Run.{arguments}
 use Rattle.pcal_tree.specs.Expand.{placed_at, graft_left, graft_assignments, graft_binds, graft_one, graft_all, graft_some}
 use Rattle.pcal_tree.specs.OffencesStale.{jumps_use}
-use Rattle.pcal_tree.specs.Paths.{root, roots, some_word}
+use Rattle.pcal_tree.specs.Paths.{root, roots, some_word, again, rounds}
 use Rattle.pcal_tree.specs.Reads.{named}
 use Rattle.pcal_tree.specs.laws.MacroSummaries.{argument, variable_of}
 use Rattle.pcal_tree.specs.laws.MacroSpots.{Use, value, left, other, uses, uses_of_all, left_uses, uses_of_assignments, uses_of_binds, Origin, assigned, Trail, At, unlabelled, at_label, inside, Seen, on_trail, CallSeen, joined, assigning, one_end, end_of, end_of_some, one_seen, seen_in, seen_in_some, Put, put_origin, put_trail, put_use, put_seen, put_at}
@@ -94,6 +94,15 @@ joined_put P None r = refl
 joined_put P (Some xs) None = refl
 joined_put P (Some xs) (Some ys) = ap (λ (os : List Origin). Some os) (sym (flat_map-append (put_origin P) xs ys))
 
+again_put : (P : Put) (f g : Trail → Trail) → ((q : Trail) → f (put_trail P q) ≡ put_trail P (g q)) → (q : Trail) → again f (put_trail P q) ≡ put_trail P (again g q)
+again_put P f g h None = refl
+again_put P f g h (Some os) = h (Some os)
+
+rounds_put : (P : Put) (f g : Trail → Trail) → ((q : Trail) → f (put_trail P q) ≡ put_trail P (g q)) → (q : Trail)
+    → rounds joined f (put_trail P q) ≡ put_trail P (rounds joined g q)
+rounds_put P f g h None = ap (again f) (h None) ∙ again_put P f g h (g None)
+rounds_put P f g h (Some os) = ap (λ (r : Trail). joined r (put_trail P (Some os))) (h (Some os)) ∙ joined_put P (g (Some os)) (Some os)
+
 cond_put : (P : Put) (l : Bool) (q r : Trail) → cond l (put_trail P q) (put_trail P r) ≡ put_trail P (cond l q r)
 cond_put P true q r = refl
 cond_put P false q r = refl
@@ -121,10 +130,10 @@ mutual
   one_end_graft ps ts os (with bs b) s = ap inside (end_graft ps ts os b (inside s))
   one_end_graft ps ts os (while e b) s =
       let P = putting ps ts os in
-      let q = (end_of no_calls b (inside s)).trail in
-      (λ i. unlabelled (cond s.labelled (put_trail P s.trail) (joined (end_graft ps ts os b (inside s) i).trail (put_trail P s.trail))))
-      ∙ (λ i. unlabelled (cond s.labelled (put_trail P s.trail) (joined_put P q s.trail i)))
-      ∙ ap unlabelled (cond_put P s.labelled s.trail (joined q s.trail))
+      let F = λ (q : Trail). (end_of no_calls (graft_all (arguments ps ts) b) (unlabelled q)).trail in
+      let G = λ (q : Trail). (end_of no_calls b (unlabelled q)).trail in
+      ap (λ (r : Trail). unlabelled (cond s.labelled (put_trail P s.trail) r)) (rounds_put P F G (λ q i. (end_graft ps ts os b (unlabelled q) i).trail) s.trail)
+      ∙ ap unlabelled (cond_put P s.labelled s.trail (rounds joined G s.trail))
   one_end_graft ps ts os (goto l) s = refl
   one_end_graft ps ts os (macro m us) s = refl
   one_end_graft ps ts os (call q us) s = refl

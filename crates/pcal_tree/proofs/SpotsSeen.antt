@@ -201,6 +201,15 @@ joined_traced None q = refl
 joined_traced (Some xs) None = refl
 joined_traced (Some xs) (Some ys) = ap (λ (os : List Origin). Some os) (sym (map-append assigned xs ys))
 
+again_traced : (f : Trail → Trail) (g : Path → Path) → ((q : Path) → f (traced q) ≡ traced (g q)) → (q : Path) → path.again f (traced q) ≡ traced (path.again g q)
+again_traced f g h None = refl
+again_traced f g h (Some xs) = h (Some xs)
+
+rounds_traced : (f : Trail → Trail) (g : Path → Path) → ((q : Path) → f (traced q) ≡ traced (g q)) → (q : Path)
+    → path.rounds joined f (traced q) ≡ traced (path.rounds path.joined g q)
+rounds_traced f g h None = ap (path.again f) (h None) ∙ again_traced f g h (g None)
+rounds_traced f g h (Some xs) = ap (λ (r : Trail). joined r (traced (Some xs))) (h (Some xs)) ∙ joined_traced (g (Some xs)) (Some xs)
+
 cond_traced : (l : Bool) (p q : Path) → cond l (traced p) (traced q) ≡ traced (cond l p q)
 cond_traced true p q = refl
 cond_traced false p q = refl
@@ -226,9 +235,9 @@ mutual
   one_traced (with bs b) l p = ap unlabelled (list_traced b false p)
   one_traced (while e b) l p =
       ap unlabelled
-      ((λ i. cond l (traced p) (joined (list_traced b false p i) (traced p)))
-      ∙ (λ i. cond l (traced p) (joined_traced (after path.assigned b false p) p i))
-      ∙ cond_traced l p (path.joined (after path.assigned b false p) p))
+      (ap (λ (r : Trail). cond l (traced p) r)
+      (rounds_traced (λ q. (end_of no_calls b (unlabelled q)).trail) (λ q. after path.assigned b false q) (λ q. list_traced b false q) p)
+      ∙ cond_traced l p (path.rounds path.joined (λ q. after path.assigned b false q) p))
   one_traced (goto n) l p = refl
   one_traced (macro m ts) l p = ap unlabelled (idle p)
   one_traced (call q ts) l p = refl

@@ -74,6 +74,20 @@ on_joined g (Some xs) (Some ts) (Some ys) None h k = absurd k
 on_joined g None (Some ts) o r h k = absurd h
 on_joined g (Some xs) None o r h k = absurd h
 
+on_again : (g : Word → Option Tree) (f : Path → Path) (h : Trail → Trail) → ((p : Path) (q : Trail) → On g p q → On g (f p) (h q))
+    → (p : Path) (q : Trail) → On g p q → On g (path.again f p) (path.again h q)
+on_again g f h c None None k = k
+on_again g f h c (Some xs) (Some ts) k = c (Some xs) (Some ts) k
+on_again g f h c None (Some ts) k = absurd k
+on_again g f h c (Some xs) None k = absurd k
+
+on_rounds : (g : Word → Option Tree) (f : Path → Path) (h : Trail → Trail) → ((p : Path) (q : Trail) → On g p q → On g (f p) (h q))
+    → (p : Path) (q : Trail) → On g p q → On g (path.rounds path.joined f p) (path.rounds joined h q)
+on_rounds g f h c None None k = on_again g f h c (f None) (h None) (c None None k)
+on_rounds g f h c (Some xs) (Some ts) k = on_joined g (f (Some xs)) (h (Some ts)) (Some xs) (Some ts) (c (Some xs) (Some ts) k) k
+on_rounds g f h c None (Some ts) k = absurd k
+on_rounds g f h c (Some xs) None k = absurd k
+
 on_chosen : (g : Word → Option Tree) (l : Bool) (p : Path) (q : Trail) (o : Path) (r : Trail) → On g p q → On g o r → On g (cond l p o) (cond l q r)
 on_chosen g true p q o r h k = h
 on_chosen g false p q o r h k = k
@@ -98,8 +112,8 @@ mutual
   on_after_one h g E S a (either bs) l p q k = on_after_some h g E S a bs p q k
   on_after_one h g E S a (with bs b) l p q k = on_after h g E S a b false p q k
   on_after_one h g E S a (while e b) l p q k =
-      on_chosen g l p q (path.joined (after E (graft_all h b) false p) p) (joined (trail_after S b false q) q) k
-      (on_joined g (after E (graft_all h b) false p) (trail_after S b false q) p q (on_after h g E S a b false p q k) k)
+      on_chosen g l p q (path.rounds path.joined (λ r. after E (graft_all h b) false r) p) (path.rounds joined (λ r. trail_after S b false r) q) k
+      (on_rounds g (λ r. after E (graft_all h b) false r) (λ r. trail_after S b false r) (λ r s c. on_after h g E S a b false r s c) p q k)
   on_after_one h g E S a (goto n) l p q k = tt
   on_after_one h g E S a (call n ts) l p q k = tt
   on_after_one h g E S a return l p q k = tt

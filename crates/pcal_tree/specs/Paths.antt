@@ -80,13 +80,24 @@ joined None q = q
 joined (Some xs) None = Some xs
 joined (Some xs) (Some ys) = Some (xs ++ ys)
 
+-- once more round, where a path leads round at all
+abbrev pub again : {X : Type 0} → (Option X → Option X) → Option X → Option X
+again f None = None
+again f (Some xs) = f (Some xs)
+
+-- after any number of rounds, where f says what one round makes of a path. A path that leads there needs one; where none does, one may begin at a label in
+-- the first round, and go through the whole of a second.
+abbrev pub rounds : {X : Type 0} → (Option X → Option X → Option X) → (Option X → Option X) → Option X → Option X
+rounds J f None = again f (f None)
+rounds J f (Some xs) = J (f (Some xs)) (Some xs)
+
 -- the path after statements; true where a label is right before them
 abbrev mutual
   pub after_one : Effects → Statement → Bool → Path → Path
   after_one E (branch e a b) l p = joined (after E a false p) (after E b false p)
   after_one E (either bs) l p = after_some E bs p
   after_one E (with bs b) l p = after E b false p
-  after_one E (while e b) l p = cond l p (joined (after E b false p) p)  -- without a label a path may go round again
+  after_one E (while e b) l p = cond l p (rounds joined (λ q. after E b false q) p)  -- without a label a path may go round again
   after_one E (goto n) l p = None
   after_one E (call n ts) l p = None
   after_one E return l p = None

@@ -5,7 +5,7 @@ use Rattle.std.proofs.lemmas.List.{append_assoc, length-drop}
 use Rattle.std.proofs.lemmas.Bool.{cases_lt, and_from}
 use Rattle.tla_token.specs.Lexemes.{Kind, name, number, string, one, other}
 use Rattle.tla_token.specs.Tokens.{blank, block, line, lexeme}
-use Rattle.tla_token.specs.Offences.{Part, sound, stray, bad_string, cut_string, open_string, open_block, part_bytes, parts_text}
+use Rattle.tla_token.specs.Offences.{Part, sound, stray, bad_string, open_string, open_block, part_bytes, parts_text}
 use Rattle.tla_token.specs.Cut.{parts}
 use Rattle.tla_token.proofs.Cutting.{cut_fits}
 use Rattle.tla_expr.specs.Tree.{Word}
@@ -49,7 +49,6 @@ gap_within (sound (block body) ∷ ps) = omega arith
 gap_within (sound (lexeme k bytes) ∷ ps) = omega arith
 gap_within (stray b ∷ ps) = omega arith
 gap_within (bad_string raw ∷ ps) = omega arith
-gap_within (cut_string raw ∷ ps) = omega arith
 gap_within (open_string raw ∷ ps) = omega arith
 gap_within (open_block body ∷ ps) = omega arith
 

@@ -21,8 +21,10 @@ use Rattle.pcal_tree.specs.Script.{Turn}
 use Rattle.pcal_tree.specs.StepAnswers.{held_at, no_label, needs_choice, too_many_choices}
 use Rattle.module_text.specs.Module.{Module}
 use Rattle.module_text.specs.ActionTruth.{Verdict}
+use Rattle.step_runner.specs.Script.{Script}
+use Rattle.step_runner.specs.Followed.{followed}
 use Rattle.step_runner.specs.StopLines.{script_line, state_line, trouble_line}
-use Rattle.step_runner.specs.Shown.{run_text, trace_text, known, first_holding, step_by, before_text, why_text}
+use Rattle.step_runner.specs.Shown.{run_text, trace_text, known, first_holding, step_before, before_text, why_text}
 
 abbrev at : ℕ → ℕ → Place
 at l c = record { line = l; col = c }
@@ -100,11 +102,11 @@ abbrev is_past : Option Value → Verdict
 is_past None = Ok false
 is_past (Some v) = cond (same v (an_int 1)) (Ok false) (Ok true)
 
-the_second : before_text (step_by three at_a (first_holding is_past (known (actors three)))) ≡ codes "A_1 of 2 at 7:3"
+the_second : before_text (step_before three at_a (first_holding is_past (known (actors three)))) ≡ codes "A_1 of 2 at 7:3"
 unfolding digits
 the_second = refl
 
-none_holds : before_text (step_by three at_a (first_holding (λ v. Ok false) (known (actors three)))) ≡ codes "Terminating"
+none_holds : before_text (step_before three at_a (first_holding (λ v. Ok false) (known (actors three)))) ≡ codes "Terminating"
 none_holds = refl
 
 -- ---- why a step can't be taken
@@ -144,3 +146,27 @@ faults = refl
 limited : trouble_line (codes "M.tla") (over (at 7 11)) ≡ codes "pcal: M.tla:7:11: limit\n"
 unfolding digits
 limited = refl
+
+-- ---- scripts that are followed
+
+abbrev script : List Turn → Script
+script ns = record { choices = []; turns = ns }
+
+abbrev two_turns : List Turn
+two_turns = turn None ∷ turn None ∷ []
+
+to_the_end : run_text looping two_turns (followed looping (script two_turns)).states
+    ≡ codes "State 0: initial\n/\\ i = 0\n/\\ d = FALSE\n/\\ pc = \"A_1\"\nState 1: A_1 at 7:3\n/\\ i = 1\n/\\ d = FALSE\n/\\ pc = \"A_1\"\nState 2: A_1 at 7:3\n/\\ i = 1\n/\\ d = TRUE\n/\\ pc = \"Done\"\n"
+unfolding digits
+to_the_end = refl
+
+no_stop : (followed looping (script two_turns)).stop ≡ None
+no_stop = refl
+
+-- the third step has no label
+too_far : (followed looping (script (turn None ∷ turn None ∷ turn None ∷ []))).stop ≡ Some (record { step = 3; reply = no_label })
+too_far = refl
+
+-- no variable has a choice at the start
+left_at_start : followed looping (record { choices = 1 ∷ []; turns = [] }) ≡ record { states = []; stop = Some (record { step = 0; reply = too_many_choices (at 4 13) }) }
+left_at_start = refl

@@ -6,3 +6,4 @@ pub mod Script
 pub mod Trace
 pub mod Shown
 pub mod StopLines
+pub mod Followed

@@ -40,17 +40,17 @@ from_pc P v (Err k) = terminating
 from_pc P v (Ok w) = from_stand P v (stand_named P w (routines_of P v))
 
 -- a step from a state by a process, or by none
-abbrev pub step_by : Program → State → Option Actor → Before
-step_by P s None = terminating
-step_by P s (Some v) = from_pc P v (pc_of v s)
+abbrev pub step_before : Program → State → Option Actor → Before
+step_before P s None = terminating
+step_before P s (Some v) = from_pc P v (pc_of v s)
 
 abbrev pub known : Outcome (List Actor) → List Actor
 known (Ok vs) = vs
 known (Err k) = []
 
 -- by the process with the identifier
-abbrev pub step_of : Program → State → Option Value → Before
-step_of P s who = step_by P s (with_self who (known (actors P)))
+abbrev pub turn_before : Program → State → Option Value → Before
+turn_before P s who = step_before P s (with_self who (known (actors P)))
 
 -- ---- the text of a state
 
@@ -74,7 +74,7 @@ state_text P n b s = codes "State " ++ (decimal n ++ (codes ": " ++ (before_text
 
 -- states after s, each by the step of one turn
 abbrev pub turns_text : Program → ℕ → List Turn → State → List State → Text
-turns_text P k (n ∷ ns) s (t ∷ ts) = state_text P k (step_of P s n.who) t ++ turns_text P (suc k) ns t ts
+turns_text P k (n ∷ ns) s (t ∷ ts) = state_text P k (turn_before P s n.who) t ++ turns_text P (suc k) ns t ts
 turns_text P k _ s _ = []
 
 abbrev pub run_text : Program → List Turn → List State → Text
@@ -91,13 +91,13 @@ is_so (Err k) = false
 abbrev pub first_holding : (Option Value → Verdict) → List Actor → Option Actor
 first_holding holds vs = find (λ v. is_so (holds v.self)) vs
 
-abbrev pub pair_step : Program → Module → Valuation → State → State → Before
-pair_step P m constants s t =
-    step_by P s (first_holding (mine_holds P.check m constants (on_variables P s) (on_variables P t)) (known (actors P)))
+abbrev pub pair_before : Program → Module → Valuation → State → State → Before
+pair_before P m constants s t =
+    step_before P s (first_holding (mine_holds P.check m constants (on_variables P s) (on_variables P t)) (known (actors P)))
 
 abbrev pub pairs_text : Program → Module → Valuation → ℕ → State → List State → Text
 pairs_text P m constants k s [] = []
-pairs_text P m constants k s (t ∷ ts) = state_text P k (pair_step P m constants s t) t ++ pairs_text P m constants (suc k) t ts
+pairs_text P m constants k s (t ∷ ts) = state_text P k (pair_before P m constants s t) t ++ pairs_text P m constants (suc k) t ts
 
 abbrev pub trace_text : Program → Module → Valuation → List State → Text
 trace_text P m constants [] = []

@@ -3,8 +3,6 @@ use Rattle.std.specs.Prelude.{◌≡◌, ◌⊎◌, ◌+◌, ◌<◌, ℕ, true,
 use Rattle.tla_token.specs.declared.rule.Refusal.{Refusal}
 use Rattle.tla_expr.specs.Tree.{Word}
 use Rattle.tla_value.specs.States.{Entries}
-use Rattle.pcal_tree.specs.Scope.{State, put}
-use Rattle.pcal_tree.specs.InitialChoice.{nothing}
 use Rattle.step_runner.specs.Fronts.{Text, bad_line, next_at}
 use Rattle.step_runner.specs.Stretches.{Stretch, states_of}
 use Rattle.step_runner.specs.Items.{SpellsValues, OffendsAt}
@@ -45,10 +43,3 @@ TraceOffends vars x r =
     (at : ℕ) × (FrontOffends (states_of x).front.text at
     ⊎ ((next_at (states_of x).front.text 0 ≡ length (states_of x).front.text) × EachOffend vars x (states_of x).each at))
     × (r ≡ bad_line x at)
-
--- ---- states
-
--- the state that gives the names these values
-abbrev pub state_of : Entries → State
-state_of [] = nothing
-state_of (e ∷ es) = put e.0 e.1 (state_of es)

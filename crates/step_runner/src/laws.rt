@@ -1,6 +1,6 @@
 //! Laws of files of constants, scripts and traces, stated as what functions without a body ensure.
 
-ghost use Rattle.std.specs.Prelude.{◌≡◌, ◌⊎◌, Bool, List};
+ghost use Rattle.std.specs.Prelude.{◌≡◌, ◌⊎◌, Bool, List, None};
 ghost use Rattle.tla_token.specs.declared.rule.Refusal as code;
 ghost use Rattle.tla_expr.specs.Tree.{Word};
 ghost use Rattle.tla_value.specs.States.{Entries};
@@ -8,6 +8,9 @@ ghost use Rattle.tla_value.specs.Outside.{Outside};
 ghost use Rattle.step_runner.specs.Fronts.{Text};
 ghost use Rattle.step_runner.specs.Config.{SpellsConfig, ConfigOffends};
 ghost use Rattle.step_runner.specs.Script.{Script, SpellsScript, ScriptOffends};
+ghost use Rattle.pcal_tree.specs.Program.{Program};
+ghost use Rattle.pcal_tree.specs.Script.{RunOf};
+ghost use Rattle.step_runner.specs.Followed.{followed};
 ghost use Rattle.step_runner.specs.Trace.{SpellsTrace, TraceOffends};
 
 /// A file spells something, or has a refusal.
@@ -36,4 +39,9 @@ pub fn a_file_is_refused_once()
     ensures config { (o : Outside) (x : Text) (r q : code.Refusal) → ConfigOffends o x r → ConfigOffends o x q → r ≡ q }
     ensures script { (multi : Bool) (x : Text) (r q : code.Refusal) → ScriptOffends multi x r → ScriptOffends multi x q → r ≡ q }
     ensures trace { (vars : List Word) (x : Text) (r q : code.Refusal) → TraceOffends vars x r → TraceOffends vars x q → r ≡ q }
+{}
+
+/// A script that is followed to its end is run, through the states that it leads to.
+pub fn a_followed_script_is_run()
+    ensures { (P : Program) (c : Script) → (followed P c).stop ≡ None → RunOf P c.choices c.turns (followed P c).states }
 {}

@@ -48,3 +48,4 @@ pub mod StopsThere
 pub mod AlikeEnds
 pub mod AlikeEndsSteps
 mod RowsRefused
+pub mod BracketCounts

@@ -1,20 +1,22 @@
 -- Worked examples of where reading an expression stops.
-use Rattle.std.proofs.Common.{◌≡◌, ℕ, List, [], ◌∷◌, length, take, map, Some, refl, arith, inl, inr, codes}
+use Rattle.std.proofs.Common.{◌≡◌, ◌≤◌, ℕ, zero, suc, List, [], ◌∷◌, length, take, map, Option, Some, refl, arith, inl, inr, codes}
 use Rattle.tla_token.specs.declared.place.Place.{Place}
-use Rattle.tla_token.specs.declared.rule.Rule.TheVariants.{Syntax}
+use Rattle.tla_token.specs.declared.rule.Rule.TheVariants.{Syntax, TooDeep}
 use Rattle.tla_token.specs.declared.rule.Refusal.{Refusal}
 use Rattle.tla_expr.specs.declared.op.Op.{Op}
 use Rattle.tla_expr.specs.declared.op.Op.TheVariants as op
 use Rattle.tla_expr.specs.Tree.{Tree}
 use Rattle.tla_expr.specs.Lexical.{Mark, Token, token}
 use Rattle.tla_expr.specs.Lexical as tk
-use Rattle.tla_expr.specs.Spelling.{Phrase, Spells, tree_of}
+use Rattle.tla_expr.specs.Spelling.{Phrase, Good, Spells, tree_of}
 use Rattle.tla_expr.specs.Spelling as spelled
 use Rattle.tla_expr.specs.Reader.{readers, read}
 use Rattle.tla_expr.specs.Nesting.{counts}
-use Rattle.tla_expr.specs.FirstStop.{looks, to_end, Begins, Passes, StopsAt, phrases, in_expression, ReadsExpression, RefusesExpression}
+use Rattle.tla_expr.specs.FirstStop.{Look, looks, to_end, Begins, Passes, StopsAt, phrases, in_expression, ReadsExpression, RefusesExpression}
 use Rattle.tla_expr.proofs.ReadAll.{spelled_is_read}
-use Rattle.tla_expr.proofs.StopLaws.{begins_none, all_read, passes_begins}
+use Rattle.tla_expr.proofs.StopLaws.{begins_none, all_read, passes_begins, stops_by_one_rule}
+use Rattle.tla_expr.proofs.BracketCounts.{too_many_brackets}
+use Rattle.std.proofs.lemmas.Bool.{lt-ltb}
 
 abbrev pub at : ℕ → Place
 at c = record { line = 7; col = c }
@@ -78,3 +80,40 @@ read_before = record {
   stops = record { there = omega arith; passed = reads_both; stopped = λ p. none_with_or (passes_begins (phrases 0) (take 4 (to_end mixed)) p); rule = inr (refl, none_with_or) };
   spelled = (both, search, refl, refl);
 }
+
+-- ---- of 201 brackets the last one is too many: 7:211 where the first is at 7:11
+
+abbrev brackets_from : ℕ → ℕ → List Token
+brackets_from zero c = []
+brackets_from (suc k) c = m c tk.open_bracket ∷ brackets_from k (suc c)
+
+-- k brackets round a name
+abbrev nested : ℕ → ℕ → Phrase
+nested zero c = name 5
+nested (suc k) c = spelled.brackets (at c) (nested k (suc c)) (at 5)
+
+good_nested : (k c : ℕ) → 1 ≤ c → Good 0 (nested k c)
+good_nested zero c h = refl
+good_nested (suc k) c h = (lt-ltb 0 c h, good_nested k (suc c) (omega arith), refl)
+
+abbrev after_brackets : ℕ → List (Option Look)
+after_brackets zero = []
+after_brackets (suc k) = Some (tk.mark tk.close_bracket, 5) ∷ after_brackets k
+
+enough_brackets : Passes (phrases 0) (take 200 (to_end (brackets_from 201 11)))
+enough_brackets = (Some (tk.word (codes "a"), 5) ∷ after_brackets 200, map in_expression (counts 0 (nested 200 11) []), (nested 200 11, good_nested 200 11 (omega arith), refl, refl), refl)
+
+one_more_begins : Begins (phrases 0) (take 201 (to_end (brackets_from 201 11)))
+one_more_begins = (Some (tk.word (codes "a"), 5) ∷ after_brackets 201, map in_expression (counts 0 (nested 201 11) []), (nested 201 11, good_nested 201 11 (omega arith), refl, refl))
+
+one_too_many : Passes (phrases 0) (take 201 (to_end (brackets_from 201 11))) → ⊥
+one_too_many p = too_many_brackets 0 11 201 (omega arith) p
+
+brackets_stop : StopsAt (phrases 0) (to_end (brackets_from 201 11)) 200 TooDeep
+brackets_stop = record { there = (let l : length (to_end (brackets_from 201 11)) ≡ 202 = refl in omega arith); passed = enough_brackets; stopped = one_too_many; rule = inl (refl, one_more_begins) }
+
+brackets_unread : (t : Tree) → ReadsExpression (brackets_from 201 11) 200 t → ⊥
+brackets_unread t r = (let e : Syntax ≡ TooDeep = stops_by_one_rule (phrases 0) (to_end (brackets_from 201 11)) 200 200 Syntax TooDeep r.stops brackets_stop in cc)
+
+brackets_refused : RefusesExpression (brackets_from 201 11) (at 212) (record { rule = TooDeep; place = at 211 })
+brackets_refused = record { passed = 200; stops = brackets_stop; place = refl; unread = brackets_unread }

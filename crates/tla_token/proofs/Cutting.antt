@@ -7,7 +7,7 @@ use Rattle.tla_token.specs.declared.sign.Sign.{Sign}
 use Rattle.tla_token.specs.Signs.{spellings, is_among, all_signs, spelled_by, is_sign}
 use Rattle.tla_token.specs.Lexemes.{Kind, name, number, string, one, other, number_of, unquoted, is_word, is_letter, is_digit, is_blank, is_printed, is_other, IsLexeme}
 use Rattle.tla_token.specs.Tokens.{blank, block, line, lexeme, EndsLine, opens_comment}
-use Rattle.tla_token.specs.Offences.{Part, sound, stray, bad_string, cut_string, open_string, open_block, part_bytes, parts_text, PartFits, PartsFit, ends_string, string_len, escape_len, begins_with}
+use Rattle.tla_token.specs.Offences.{Part, sound, stray, bad_string, open_string, open_block, part_bytes, parts_text, PartFits, PartsFit, ends_string, string_len, escape_len, begins_with}
 use Rattle.tla_token.specs.Cut.{run, comment_len, block_part, closed_part, string_part, part_at, lexeme_part, sign_part, sign_at, sign_of, spelling_at, or_other, parts}
 use Rattle.tla_token.proofs.Front.{blank_front, closes_len, string_closes}
 use Rattle.tla_token.proofs.Words.{run_splits, run_passes, digit_word, one_plus}
@@ -26,7 +26,7 @@ pub record Cut (t : List ℕ) : Type 0 where
 
 -- ---- strings
 
-within_step : (b : ℕ) (bs : List ℕ) → escape_len bs ≤ suc (length bs) → string_len bs ≤ length bs → string_len (b ∷ bs) ≤ length (b ∷ bs)
+within_step : (b : ℕ) (bs : List ℕ) → escape_len bs ≤ length bs → string_len bs ≤ length bs → string_len (b ∷ bs) ≤ length (b ∷ bs)
 within_step b bs x y = by (nat_eq b 92) refl (ends_string b) refl
   where
     by : (k : Bool) → nat_eq b 92 ≡ k → (j : Bool) → ends_string b ≡ j → string_len (b ∷ bs) ≤ length (b ∷ bs)
@@ -34,10 +34,10 @@ within_step b bs x y = by (nat_eq b 92) refl (ends_string b) refl
     by false k true f = rw (k, f) (omega arith)
     by false k false f = rw (k, f) (omega arith)
 
-escape_step : (b : ℕ) (bs : List ℕ) → string_len bs ≤ length bs → escape_len (b ∷ bs) ≤ suc (length (b ∷ bs))
+escape_step : (b : ℕ) (bs : List ℕ) → string_len bs ≤ length bs → escape_len (b ∷ bs) ≤ length (b ∷ bs)
 escape_step b bs x = by (nat_eq b 10) refl
   where
-    by : (k : Bool) → nat_eq b 10 ≡ k → escape_len (b ∷ bs) ≤ suc (length (b ∷ bs))
+    by : (k : Bool) → nat_eq b 10 ≡ k → escape_len (b ∷ bs) ≤ length (b ∷ bs)
     by true k = rw k (omega arith)
     by false k = rw k (omega arith)
 
@@ -46,7 +46,7 @@ mutual
   string_within [] = omega arith
   string_within (b ∷ bs) = within_step b bs (escape_within bs) (string_within bs)
 
-  escape_within : (bs : List ℕ) → escape_len bs ≤ suc (length bs)
+  escape_within : (bs : List ℕ) → escape_len bs ≤ length bs
   escape_within [] = omega arith
   escape_within (b ∷ bs) = escape_step b bs (string_within bs)
 
@@ -88,22 +88,19 @@ string_closed raw rest bs split n is = by (unquoted raw) refl
         }
 
 string_cuts : (raw rest bs : List ℕ) → bs ≡ raw ++ rest → string_len bs ≡ length raw → part_at 34 bs ≡ string_part raw rest → Cut (34 ∷ bs)
-string_cuts raw rest bs split n is = by (begins_with 34 rest) refl (begins_with 92 rest) refl
+string_cuts raw rest bs split n is = by (begins_with 34 rest) refl
   where
     size : string_len (raw ++ rest) ≡ length raw
     size = ap string_len (sym split) ∙ n
 
-    by : (k : Bool) → begins_with 34 rest ≡ k → (j : Bool) → begins_with 92 rest ≡ j → Cut (34 ∷ bs)
-    by true k j f =
+    by : (k : Bool) → begins_with 34 rest ≡ k → Cut (34 ∷ bs)
+    by true k =
         let e : rest ≡ 34 ∷ drop 1 rest = begins_is rest (34 ∷ []) k in
         let given : string_part raw rest ≡ closed_part (unquoted raw) raw = rw k refl in
         string_closed raw (drop 1 rest) bs (split ∙ ap (λ (u : List ℕ). raw ++ u) e) n (is ∙ given)
-    by false k true f =
-        let given : string_part raw rest ≡ cut_string raw = rw (k, f) refl in
-        record { part = cut_string raw; rest = rest; first = ap Some (is ∙ given); bytes = ap (λ (u : List ℕ). 34 ∷ u) split; fits = (size, f) }
-    by false k false f =
-        let given : string_part raw rest ≡ open_string raw = rw (k, f) refl in
-        record { part = open_string raw; rest = rest; first = ap Some (is ∙ given); bytes = ap (λ (u : List ℕ). 34 ∷ u) split; fits = (size, f, k) }
+    by false k =
+        let given : string_part raw rest ≡ open_string raw = rw k refl in
+        record { part = open_string raw; rest = rest; first = ap Some (is ∙ given); bytes = ap (λ (u : List ℕ). 34 ∷ u) split; fits = (size, k) }
 
 quote_cut : (bs : List ℕ) → Cut (34 ∷ bs)
 quote_cut bs =

@@ -57,13 +57,7 @@ plain_at b k e f t = (let d : b ≡ k = eqb-true b k e in let g : is_plain k ≡
 plain_goes : (b : ℕ) → is_plain b ≡ true → ends_string b ≡ false
 plain_goes b t =
     false_from_ne_true (ends_string b) (λ h.
-    elim (or_cases (nat_eq b 34 || nat_eq b 9 || nat_eq b 10) (nat_eq b 13) h) [
-      | inr e ↦ plain_at b 13 e refl t
-      | inl h2 ↦ elim (or_cases (nat_eq b 34 || nat_eq b 9) (nat_eq b 10) h2) [
-        | inr e ↦ plain_at b 10 e refl t
-        | inl h3 ↦ elim (or_cases (nat_eq b 34) (nat_eq b 9) h3) [ inl e ↦ plain_at b 34 e refl t | inr e ↦ plain_at b 9 e refl t ]
-      ]
-    ])
+    elim (or_cases (nat_eq b 34) (nat_eq b 10) h) [ inl e ↦ plain_at b 34 e refl t | inr e ↦ plain_at b 10 e refl t ])
 
 escape_goes : (b c : ℕ) → escaped b ≡ Some c → nat_eq b 10 ≡ false
 escape_goes b c e =
@@ -71,9 +65,9 @@ escape_goes b c e =
     (let d : b ≡ 10 = eqb-true b 10 h in let g : escaped 10 ≡ Some c = rw d at e in cc))
 
 string_step : (b : ℕ) (bs rest w : List ℕ) (k : Bool) → nat_eq b 92 ≡ k → (j : Bool) → is_plain b ≡ j → unquoted (b ∷ bs) ≡ Some w
-    → ((v : List ℕ) → behind_backslash bs ≡ Some v → escape_len (bs ++ 34 ∷ rest) ≡ suc (length bs))
+    → ((v : List ℕ) → behind_backslash bs ≡ Some v → escape_len (bs ++ 34 ∷ rest) ≡ length bs)
     → ((v : List ℕ) → unquoted bs ≡ Some v → string_len (bs ++ 34 ∷ rest) ≡ length bs) → string_len (b ∷ (bs ++ 34 ∷ rest)) ≡ length (b ∷ bs)
-string_step b bs rest w true k j f e x y = (let g : behind_backslash bs ≡ Some w = rw k at e in rw k (x w g))
+string_step b bs rest w true k j f e x y = (let g : behind_backslash bs ≡ Some w = rw k at e in rw (k, x w g) (omega arith))
 string_step b bs rest w false k true f e x y =
     let g : in_front (Some b) (unquoted bs) ≡ Some w = rw (f, k) at e in
     let i = in_front_some (Some b) (unquoted bs) w g in
@@ -86,7 +80,7 @@ mutual
   string_closes [] rest w e = refl
   string_closes (b ∷ bs) rest w e = string_step b bs rest w (nat_eq b 92) refl (is_plain b) refl e (λ v d. escape_closes bs rest v d) (λ v d. string_closes bs rest v d)
 
-  pub escape_closes : (bs rest w : List ℕ) → behind_backslash bs ≡ Some w → escape_len (bs ++ 34 ∷ rest) ≡ suc (length bs)
+  pub escape_closes : (bs rest w : List ℕ) → behind_backslash bs ≡ Some w → escape_len (bs ++ 34 ∷ rest) ≡ length bs
   escape_closes [] rest w e = absurd cc
   escape_closes (b ∷ bs) rest w e =
       let i = in_front_some (escaped b) (unquoted bs) w e in

@@ -7,7 +7,7 @@ use Rattle.std.proofs.lemmas.Bool.{and_parts, and_from, or_cases, eqb-true, leb-
 use Rattle.tla_token.specs.declared.sign.Sign.{Sign}
 use Rattle.tla_token.specs.Lexemes.{Kind, name, number, string, one, other, unquoted, is_word, is_letter, is_digit, is_blank, is_printed, is_other}
 use Rattle.tla_token.specs.Tokens.{Piece, blank, block, line, lexeme, bytes_of, is_pair, Closes, Fits}
-use Rattle.tla_token.specs.Offences.{Part, sound, stray, bad_string, cut_string, open_string, open_block, part_bytes, parts_text, PartFits, PartsFit, is_stray, string_len, begins_with}
+use Rattle.tla_token.specs.Offences.{Part, sound, stray, bad_string, open_string, open_block, part_bytes, parts_text, PartFits, PartsFit, is_stray, string_len, begins_with}
 use Rattle.tla_token.specs.Cut.{plus, comment_len, closed_part, string_part, part_at, sign_part, parts_at, parts}
 use Rattle.tla_token.proofs.Front.{blank_front, block_front, line_front, quote_front}
 use Rattle.tla_token.proofs.Words.{name_front, number_front}
@@ -150,17 +150,10 @@ fits_first (bad_string raw) rest (n, u) =
     ap (λ (m : List ℕ). first_part (34 ∷ m)) (append_assoc raw (34 ∷ []) rest)
     ∙ ap Some (string_cut raw (34 ∷ rest) n)
     ∙ ap (λ (o : Option (List ℕ)). Some (closed_part o raw)) u
-fits_first (cut_string raw) rest (n, b) = ap Some (string_cut raw rest n ∙ by rest b)
+fits_first (open_string raw) rest (n, q) = ap Some (string_cut raw rest n ∙ by q)
   where
-    by : (rest : List ℕ) → begins_with 92 rest ≡ true → string_part raw rest ≡ cut_string raw
-    by [] b = absurd cc
-    by (c ∷ rest) b =
-        let e : c ≡ 92 = sym (eqb-true 92 c (and_parts (nat_eq 92 c) true b).0) in
-        ap (λ (d : ℕ). string_part raw (d ∷ rest)) e
-fits_first (open_string raw) rest (n, b, q) = ap Some (string_cut raw rest n ∙ by b q)
-  where
-    by : begins_with 92 rest ≡ false → begins_with 34 rest ≡ false → string_part raw rest ≡ open_string raw
-    by b q = rw (b, q) refl
+    by : begins_with 34 rest ≡ false → string_part raw rest ≡ open_string raw
+    by q = rw q refl
 fits_first (open_block body) rest (e, never) = ap Some (open_front body rest e (open_len body never))
 
 -- ---- all parts
@@ -193,7 +186,6 @@ pub some_part : (x : Part) (rest : List ℕ) → PartFits x rest → part_bytes 
 some_part (sound p) rest h e = some_piece p rest h e
 some_part (stray b) rest h e = cc
 some_part (bad_string raw) rest h e = cc
-some_part (cut_string raw) rest h e = cc
 some_part (open_string raw) rest h e = cc
 some_part (open_block body) rest h e = cc
 

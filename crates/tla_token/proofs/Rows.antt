@@ -117,7 +117,8 @@ open_quote = refl
 wrong_escape : wrong (codes "x \"a\\q\"") ≡ Some (rule.BadToken, 2)
 wrong_escape = refl
 
-backslash_at_the_end : wrong (codes "x \"a\\\n") ≡ Some (rule.BadToken, 2)
+-- a string with a backslash at the line's end isn't closed
+backslash_at_the_end : wrong (codes "x \"a\\\n") ≡ Some (rule.OpenString, 2)
 backslash_at_the_end = refl
 
 marked_string : wrong (codes "x \"a(*\"") ≡ Some (rule.BadToken, 2)
@@ -135,9 +136,16 @@ largest_number = refl
 number_too_big : wrong (codes "1 170141183460469231731687303715884105728") ≡ Some (rule.NumberTooBig, 2)
 number_too_big = refl
 
--- a tab ends a string that isn't closed, and in it a bad escape does not count
-tab_in_string : wrong (codes "x \"a\\q\tb\"") ≡ Some (rule.OpenString, 2)
+-- a tab ends no string, and none holds one
+tab_in_string : wrong (codes "x \"a\tb\"") ≡ Some (rule.OpenString, 2)
 tab_in_string = refl
+
+-- in a string that isn't closed a bad escape doesn't count
+escape_in_open_string : wrong (codes "x \"a\\q(*\n") ≡ Some (rule.OpenString, 2)
+escape_in_open_string = refl
+
+escape_before_tab : wrong (codes "x \"a\\q\tb\"") ≡ Some (rule.BadToken, 2)
+escape_before_tab = refl
 
 -- a backslash takes a CR with it, so the string ends at the LF and is open
 return_behind_backslash : wrong (codes "x \"a\\\r\n") ≡ Some (rule.OpenString, 2)

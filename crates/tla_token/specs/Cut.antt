@@ -6,7 +6,7 @@ use Rattle.tla_token.specs.Places.{start}
 use Rattle.tla_token.specs.Signs.{spellings, all_signs, is_among}
 use Rattle.tla_token.specs.Lexemes.{name, number, string, one, other, is_word, is_letter, is_digit, is_blank, is_printed, number_of, unquoted}
 use Rattle.tla_token.specs.Tokens.{Token, Piece, blank, block, line, lexeme, is_pair, tokens_of}
-use Rattle.tla_token.specs.Offences.{Part, sound, stray, bad_string, cut_string, open_string, open_block, part_bytes, string_len, begins_with}
+use Rattle.tla_token.specs.Offences.{Part, sound, stray, bad_string, open_string, open_block, part_bytes, string_len, begins_with}
 
 -- the bytes at the front that pass a test
 abbrev pub run : (ℕ → Bool) → List ℕ → List ℕ
@@ -35,9 +35,7 @@ closed_part (Some w) raw = sound (lexeme (string w) (34 ∷ (raw ++ 34 ∷ [])))
 
 -- after a quote: what belongs to the string, and what is after that
 abbrev pub string_part : List ℕ → List ℕ → Part
-string_part raw rest =
-    if begins_with 34 rest then closed_part (unquoted raw) raw
-    else (if begins_with 92 rest then cut_string raw else open_string raw)
+string_part raw rest = if begins_with 34 rest then closed_part (unquoted raw) raw else open_string raw
 
 abbrev pub spelling_at : List (List ℕ) → List ℕ → Option (List ℕ)
 spelling_at ws bytes = find (λ w. starts_with nat_eq bytes w) ws
@@ -69,14 +67,17 @@ lexeme_part b bs =
     else (if nat_eq b 92 && list_any is_letter (run is_word bs) then or_other (sign_of (b ∷ run is_word bs)) (b ∷ run is_word bs)
     else sign_part (sign_at (b ∷ bs)) b (b ∷ bs)))
 
--- the first part of a text that isn't empty
-abbrev pub part_at : ℕ → List ℕ → Part
-part_at b bs =
+-- the first part of a text that isn't empty, where this gives its lexemes
+abbrev pub part_by : (ℕ → List ℕ → Part) → ℕ → List ℕ → Part
+part_by lexemes b bs =
     if is_blank b then sound (blank b)
     else (if nat_eq b 34 then string_part (take (string_len bs) bs) (drop (string_len bs) bs)
     else (if starts_with nat_eq (b ∷ bs) (codes "(*") then block_part (comment_len 1 (drop 1 bs)) (drop 1 bs)
     else (if starts_with nat_eq (b ∷ bs) (codes "\\*") then sound (line (run (λ c. not (nat_eq c 10)) (drop 1 bs)))
-    else lexeme_part b bs)))
+    else lexemes b bs)))
+
+abbrev pub part_at : ℕ → List ℕ → Part
+part_at b bs = part_by lexeme_part b bs
 
 -- k bytes at the front belong to the part before
 abbrev pub parts_at : ℕ → List ℕ → List Part

@@ -1,7 +1,7 @@
 -- What is wrong with a stretch of text below its grammar: bytes and strings that make no token, open comments and strings, and in an
 -- algorithm numbers that are too big. The least rule counts, at its first place.
 use Rattle.std.specs.Prelude.{◌≡◌, ℕ, ◌+◌, Bool, true, false, ◌&&◌, ◌||◌, not, nat_eq, nat_le, nat_lt, IsTrue, List, [], ◌∷◌, ◌++◌, length, Option, Some, None, codes, if◌then◌else◌}
-use Rattle.std.specs.List.{starts_with}
+use Rattle.std.specs.List.{starts_with, list_any}
 use Rattle.std.specs.Option.{is_none}
 use Rattle.tla_token.specs.declared.rule.Rule.{Rule}
 use Rattle.tla_token.specs.declared.rule.Rule.TheVariants.{NotAscii, BadToken, OpenComment, OpenString, NumberTooBig}
@@ -18,19 +18,23 @@ is_stray b = not (is_blank b) && not (is_printed b)
 
 -- ---- strings that are none
 
--- a byte that ends a string: its quote, a tab, LF or CR
+-- a byte that ends a string: its quote, or the line's end
 abbrev pub ends_string : ℕ → Bool
-ends_string b = nat_eq b 34 || nat_eq b 9 || nat_eq b 10 || nat_eq b 13
+ends_string b = nat_eq b 34 || nat_eq b 10
+
+-- a tab or CR, which no string holds
+abbrev pub breaks_string : ℕ → Bool
+breaks_string b = nat_eq b 9 || nat_eq b 13
 
 -- how many bytes after a quote belong to the string, a backslash with the byte after it
 abbrev mutual
   pub string_len : List ℕ → ℕ
   string_len [] = 0
-  string_len (b ∷ bs) = if nat_eq b 92 then escape_len bs else (if ends_string b then 0 else 1 + string_len bs)
+  string_len (b ∷ bs) = if nat_eq b 92 then 1 + escape_len bs else (if ends_string b then 0 else 1 + string_len bs)
 
   pub escape_len : List ℕ → ℕ
   escape_len [] = 0
-  escape_len (b ∷ bs) = if nat_eq b 10 then 0 else 2 + string_len bs
+  escape_len (b ∷ bs) = if nat_eq b 10 then 0 else 1 + string_len bs
 
 -- a backslash before a byte that it does not go with
 abbrev mutual
@@ -47,16 +51,14 @@ abbrev mutual
 pub data Part : Type 0 where
   sound : Piece → Part
   stray : ℕ → Part  -- a byte that is no blank and not printable
-  bad_string : List ℕ → Part  -- between its quotes, as the next two after their quote
-  cut_string : List ℕ → Part  -- a backslash at the line's end cuts it off
-  open_string : List ℕ → Part
+  bad_string : List ℕ → Part  -- between its quotes
+  open_string : List ℕ → Part  -- after its quote, up to the line's end
   open_block : List ℕ → Part  -- after its opener
 
 abbrev pub part_bytes : Part → List ℕ
 part_bytes (sound p) = bytes_of p
 part_bytes (stray b) = b ∷ []
 part_bytes (bad_string raw) = 34 ∷ (raw ++ 34 ∷ [])
-part_bytes (cut_string raw) = 34 ∷ raw
 part_bytes (open_string raw) = 34 ∷ raw
 part_bytes (open_block body) = codes "(*" ++ body
 
@@ -72,8 +74,7 @@ abbrev pub PartFits : Part → List ℕ → Type 0
 PartFits (sound p) rest = Fits p rest
 PartFits (stray b) rest = IsTrue (is_stray b)
 PartFits (bad_string raw) rest = (string_len (raw ++ 34 ∷ rest) ≡ length raw) × (unquoted raw ≡ None)
-PartFits (cut_string raw) rest = (string_len (raw ++ rest) ≡ length raw) × (begins_with 92 rest ≡ true)
-PartFits (open_string raw) rest = (string_len (raw ++ rest) ≡ length raw) × (begins_with 92 rest ≡ false) × (begins_with 34 rest ≡ false)
+PartFits (open_string raw) rest = (string_len (raw ++ rest) ≡ length raw) × (begins_with 34 rest ≡ false)
 PartFits (open_block body) rest = (rest ≡ []) × ((m more : List ℕ) → body ≡ m ++ more → Closes 1 m → ⊥)
 
 abbrev pub PartsFit : List Part → Type 0
@@ -104,8 +105,9 @@ abbrev pub part_offences : Bool → ℕ → Part → List Offence
 part_offences in_algorithm at (sound (lexeme k bytes)) = kind_offences in_algorithm at k
 part_offences in_algorithm at (sound p) = []
 part_offences in_algorithm at (stray b) = byte_offences at (b ∷ [])
-part_offences in_algorithm at (bad_string raw) = offence_if (has_bad_escape raw || (in_algorithm && holds_mark raw)) BadToken at ++ byte_offences (at + 1) raw
-part_offences in_algorithm at (cut_string raw) = (BadToken, at) ∷ byte_offences (at + 1) raw
+part_offences in_algorithm at (bad_string raw) =
+    offence_if (has_bad_escape raw || (in_algorithm && holds_mark raw)) BadToken at
+    ++ (offence_if (list_any breaks_string raw) OpenString at ++ byte_offences (at + 1) raw)
 part_offences in_algorithm at (open_string raw) = (OpenString, at) ∷ byte_offences (at + 1) raw
 part_offences in_algorithm at (open_block body) = (OpenComment, at) ∷ []
 

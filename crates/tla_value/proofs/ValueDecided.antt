@@ -6,12 +6,13 @@ use Rattle.std.proofs.lemmas.Bool.{eqb-true, eq-eqb}
 use Rattle.std.proofs.lemmas.Slice.Eq.{bytes_eq-Decides}
 use Rattle.std.proofs.lemmas.List.{length-drop, drop-drop}
 use Rattle.tla_token.specs.Tokens.{Piece, blank, block, line, lexeme, text_of, Fits}
-use Rattle.tla_token.specs.Offences.{Part, sound, stray, bad_string, cut_string, open_string, open_block, parts_text, PartsFit}
+use Rattle.tla_token.specs.Offences.{Part, sound, stray, bad_string, open_string, open_block, parts_text, PartsFit}
 use Rattle.tla_token.specs.Cut.{parts}
 use Rattle.tla_token.proofs.Cutting.{cut_fits}
 use Rattle.tla_token.proofs.Spelled.{same_bytes}
 use Rattle.tla_value.specs.Value.{Value}
-use Rattle.tla_value.specs.Limits.{fits, fits_int, deepest}
+use Rattle.tla_token.specs.Limits.{deepest_value}
+use Rattle.tla_value.specs.Limits.{fits, fits_int}
 use Rattle.tla_value.specs.ValueText.{Mark, word, number, quote, sign, Spelling, Spellings, Fields, Pairs, truth_word, digits, minus, quoted, named, braces, angles, fields, pairs, no_spellings, spelling, no_fields, field, no_pairs, pair, marks, marks_in, more_marks, field_marks, pair_marks, IsGood, AreGood, AreGoodFields, AreGoodPairs, IsWithin, AreWithin, AreWithinFields, AreWithinPairs, Spells, spelled, is_model_name, is_identifier}
 use Rattle.tla_value.specs.ValueSeen.{mark_of, marks_of, FitBefore, SpellsFrom, is_no_block, ends_in_token}
 use Rattle.tla_value.proofs.ValueReader.{read, steps, member_steps, field_steps, pair_steps, read_marks}
@@ -258,7 +259,6 @@ front (sound (line body) ∷ ps) m ms r e = skipped (line body) ps m ms (λ qs. 
 front (sound (block body) ∷ ps) m ms r e = absurd cc
 front (stray b ∷ ps) m ms r e = absurd cc
 front (bad_string raw ∷ ps) m ms r e = absurd cc
-front (cut_string raw ∷ ps) m ms r e = absurd cc
 front (open_string raw ∷ ps) m ms r e = absurd cc
 front (open_block body ∷ ps) m ms r e = absurd cc
 
@@ -351,7 +351,7 @@ value_told bytes at = by (read (2 * length ms) ms) refl
     pair_of : (x : ValueAt bytes at) (p : Spelling × List Mark) → read (2 * length ms) ms ≡ Some p → (x.2.spells.0, seen (parts (drop x.0 bytes))) ≡ p
     pair_of x p e = taken (x.2.spells.0, seen (parts (drop x.0 bytes))) p (sym (is_read bytes at x.0 x.1 x.2) ∙ e)
 
-    found : (s : Spelling) (r : List Mark) → read (2 * length ms) ms ≡ Some (s, r) → Told (ms ≡ marks s r) → Told (IsGood s) → Told (IsWithin s deepest) → Told (ValueAt bytes at)
+    found : (s : Spelling) (r : List Mark) → read (2 * length ms) ms ≡ Some (s, r) → Told (ms ≡ marks s r) → Told (IsGood s) → Told (IsWithin s deepest_value) → Told (ValueAt bytes at)
     found s r e (inl m) (inl g) (inl w) =
         let first = first_mark s r in
         let begin : ms ≡ first.0 ∷ (first.1 ++ r) = m ∙ sym (joined s [] r) ∙ ap (λ (l : List Mark). l ++ r) first.2 in
@@ -360,8 +360,8 @@ value_told bytes at = by (read (2 * length ms) ms) refl
         inl (there.0, spelled s, there.1)
     found s r e (inr n) g w = inr (λ x. let p = pair_of x (s, r) e in n (seen_at bytes at x.0 x.1 x.2 ∙ ap (λ (o : Spelling × List Mark). marks o.0 o.1) p))
     found s r e (inl m) (inr n) w = inr (λ x. let G : Spelling → Type 0 = λ o. IsGood o in n (subst G (ap (λ (o : Spelling × List Mark). o.0) (pair_of x (s, r) e)) x.2.spells.1))
-    found s r e (inl m) (inl g) (inr n) = inr (λ x. let W : Spelling → Type 0 = λ o. IsWithin o deepest in n (subst W (ap (λ (o : Spelling × List Mark). o.0) (pair_of x (s, r) e)) x.2.spells.2))
+    found s r e (inl m) (inl g) (inr n) = inr (λ x. let W : Spelling → Type 0 = λ o. IsWithin o deepest_value in n (subst W (ap (λ (o : Spelling × List Mark). o.0) (pair_of x (s, r) e)) x.2.spells.2))
 
     by : (o : Option (Spelling × List Mark)) → read (2 * length ms) ms ≡ o → Told (ValueAt bytes at)
     by None e = inr (λ x. none_is_some (x.2.spells.0, seen (parts (drop x.0 bytes))) (sym e ∙ is_read bytes at x.0 x.1 x.2))
-    by (Some (s, r)) e = found s r e (marks_told ms (marks s r)) (good s) (within s deepest)
+    by (Some (s, r)) e = found s r e (marks_told ms (marks s r)) (good s) (within s deepest_value)

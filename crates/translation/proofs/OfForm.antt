@@ -1,5 +1,5 @@
 -- The translation of a text of the form is the one that is written for its algorithm, as for any other.
-use Rattle.std.proofs.Common.{◌≡◌, List, ℕ, [], Bool, true, false, ◌||◌, cond, bytes_eq, codes, refl, ap, ◌∙◌, IsTrue}
+use Rattle.std.proofs.Common.{◌≡◌, ℕ, [], Bool, true, false, ◌||◌, cond, bytes_eq, codes, refl, ap, ◌∙◌, IsTrue}
 use Rattle.tla_token.specs.declared.place.Place.{Place}
 use Rattle.tla_expr.specs.Tree.{Word}
 use Rattle.tla_expr.specs.laws.Placeless.{tree_placeless}
@@ -56,11 +56,6 @@ last_is : (b : Bool) → (b || true) ≡ true
 last_is true = refl
 last_is false = refl
 
--- nothing is written later, whatever the variable's name is
-none_later : (b : Bool) → ◌≡◌ {A = List Word} (cond b [] []) []
-none_later true = refl
-none_later false = refl
-
 module _ (names : Naming) (t a v : Word) (n : ℕ) (l : Word) where
   abbrev form : Right → Parts
   form r = record { title = t; algorithm = a; variable = v; initial = n; label = l; right = r }
@@ -75,12 +70,12 @@ module _ (names : Naming) (t a v : Word) (n : ℕ) (l : Word) where
   next_is r kept = rw (label_is names (form r) kept) refl
 
   actions_are : (r : Right) → Kept (form r) names → actions (program r) ≡ (region_at nowhere_at_all (form r)).actions
-  actions_are (single (number_operand m)) kept = simp (word_same l, label_is names (form (single (number_operand m))) kept, word_same v, last_is (bytes_eq v (codes "pc")), none_later (bytes_eq v (codes "stack"))) refl
-  actions_are (single variable_operand) kept = simp (word_same l, label_is names (form (single variable_operand)) kept, word_same v, last_is (bytes_eq v (codes "pc")), none_later (bytes_eq v (codes "stack"))) refl
-  actions_are (sum (number_operand m) (number_operand k)) kept = simp (word_same l, label_is names (form (sum (number_operand m) (number_operand k))) kept, word_same v, last_is (bytes_eq v (codes "pc")), none_later (bytes_eq v (codes "stack"))) refl
-  actions_are (sum (number_operand m) variable_operand) kept = simp (word_same l, label_is names (form (sum (number_operand m) variable_operand)) kept, word_same v, last_is (bytes_eq v (codes "pc")), none_later (bytes_eq v (codes "stack"))) refl
-  actions_are (sum variable_operand (number_operand k)) kept = simp (word_same l, label_is names (form (sum variable_operand (number_operand k))) kept, word_same v, last_is (bytes_eq v (codes "pc")), none_later (bytes_eq v (codes "stack"))) refl
-  actions_are (sum variable_operand variable_operand) kept = simp (word_same l, label_is names (form (sum variable_operand variable_operand)) kept, word_same v, last_is (bytes_eq v (codes "pc")), none_later (bytes_eq v (codes "stack"))) refl
+  actions_are (single (number_operand m)) kept = rw (word_same l, label_is names (form (single (number_operand m))) kept, word_same v, last_is (bytes_eq v (codes "pc"))) refl
+  actions_are (single variable_operand) kept = rw (word_same l, label_is names (form (single variable_operand)) kept, word_same v, last_is (bytes_eq v (codes "pc"))) refl
+  actions_are (sum (number_operand m) (number_operand k)) kept = rw (word_same l, label_is names (form (sum (number_operand m) (number_operand k))) kept, word_same v, last_is (bytes_eq v (codes "pc"))) refl
+  actions_are (sum (number_operand m) variable_operand) kept = rw (word_same l, label_is names (form (sum (number_operand m) variable_operand)) kept, word_same v, last_is (bytes_eq v (codes "pc"))) refl
+  actions_are (sum variable_operand (number_operand k)) kept = rw (word_same l, label_is names (form (sum variable_operand (number_operand k))) kept, word_same v, last_is (bytes_eq v (codes "pc"))) refl
+  actions_are (sum variable_operand variable_operand) kept = rw (word_same l, label_is names (form (sum variable_operand variable_operand)) kept, word_same v, last_is (bytes_eq v (codes "pc"))) refl
 
   region_is : (r : Right) → Kept (form r) names → region_of false (program r) ≡ region_at nowhere_at_all (form r)
   region_is r kept = λ i. record (region_at nowhere_at_all (form r)) { init = init_is r kept i; actions = actions_are r kept i; next = next_is r kept i }

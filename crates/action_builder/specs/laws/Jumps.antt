@@ -1,7 +1,7 @@
 -- What is asked of a scope so that the assignments written for jumps, calls and returns do what these do.
 use Rattle.std.specs.Prelude.{◌≡◌, List, [], ◌∷◌, codes, Bool, true, false, not, ◌&&◌, nat_eq, bytes_eq, Option, Some, None}
 use Rattle.tla_token.specs.declared.place.Place.{Place}
-use Rattle.tla_expr.specs.Tree.{Word, Each, Tree, Trees, no_trees, tree}
+use Rattle.tla_expr.specs.Tree.{Word, Form, name, Each, Tree, node, Trees, no_trees, tree}
 use Rattle.tla_value.specs.Standard.{first_of, rest_of, standard_sense}
 use Rattle.pcal_tree.specs.Algorithm.{Declaration, Routine, locals, procedure_routines}
 use Rattle.tla_value.specs.Value.{Value}
@@ -10,6 +10,7 @@ use Rattle.pcal_tree.specs.Run.{is_return}
 use Rattle.pcal_tree.specs.Program.{Program, Actor, index, local_index}
 use Rattle.pcal_tree.specs.Variables.{written_all, pc, stack}
 use Rattle.pcal_tree.specs.Calls.{initial_value, named}
+use Rattle.action_builder.specs.Written.{old_stack}
 use Rattle.action_builder.specs.Jumps.{InitialValues}
 use Rattle.action_builder.specs.laws.Settling.{Callable}
 use Rattle.tla_value.specs.laws.Places.{AgreeButPlaces}
@@ -45,9 +46,22 @@ fitting P (Some p) ts = as_many (written_all P p p.params) ts
 abbrev pub callable : Program → Callable
 callable P p ts j = not (is_return j) && fitting P (named p.word (procedure_routines P.algorithm)) ts
 
--- also those that are one statement with a `return`
+-- x stands nowhere in the tree as a name
+abbrev pub is_name : Word → Form → Bool
+is_name x (name y) = bytes_eq x y
+is_name x _ = false
+
+abbrev mutual
+  pub lacks : Word → Tree → Bool
+  lacks x (node m at ts) = not (is_name x m) && all_lack x ts
+
+  pub all_lack : Word → Trees → Bool
+  all_lack x no_trees = true
+  all_lack x (tree t ts) = lacks x t && all_lack x ts
+
+-- also those that are one statement with a `return`; no argument has the name of the old stack
 abbrev pub callable_in_pairs : Program → Callable
-callable_in_pairs P p ts j = fitting P (named p.word (procedure_routines P.algorithm)) ts
+callable_in_pairs P p ts j = fitting P (named p.word (procedure_routines P.algorithm)) ts && all_lack old_stack ts
 
 -- the variables of the routine and of each procedure are at the process's identifier, and initial values are written as they are
 pub record RoutinesStand (P : Program) (v : Actor) (u : Routine) (I : InitialValues) (sc : Scope) : Type 0 where
@@ -76,6 +90,11 @@ RestOnEarlier P v p at [] = Unit {0}
 RestOnEarlier P v p at (d ∷ ds) =
     Each (λ x. (w : Value) (s : State) → initial_value P v p at d.start (put x w s) ≡ initial_value P v p at d.start s) (pc ∷ written_all P p (d ∷ ds)) × RestOnEarlier P v p at ds
 
+-- nor does it rest on one of these variables
+abbrev pub Unread : Program → Actor → Routine → Place → List Word → List Declaration → Type 0
+Unread P v p at xs [] = Unit {0}
+Unread P v p at xs (d ∷ ds) = Each (λ x. (w : Value) (s : State) → initial_value P v p at d.start (put x w s) ≡ initial_value P v p at d.start s) xs × Unread P v p at xs ds
+
 -- of a call of p and a return in u: written names are apart, and routines of one number are one
 pub record PairStands (P : Program) (v : Actor) (u p : Routine) : Type 0 where
   pub same : nat_eq u.number p.number ≡ true → u ≡ p
@@ -86,6 +105,7 @@ pub record PairStands (P : Program) (v : Actor) (u p : Routine) : Type 0 where
   pub apart : nat_eq u.number p.number ≡ false → Each (λ x. Unlike x (written_all P p (locals p))) (written_all P u (locals u))
   pub once : AllUnlike (written_all P p (locals p))
   pub initials : (at : Place) → RestOnEarlier P v p at p.variables
+  pub unread : nat_eq u.number p.number ≡ false → (at : Place) → Unread P v p at (written_all P u (locals u)) p.variables
 
 abbrev pub PairsStand : Program → Actor → Routine → Type 0
 PairsStand P v u = (x : Word) (p : Routine) → named x (procedure_routines P.algorithm) ≡ Some p → PairStands P v u p

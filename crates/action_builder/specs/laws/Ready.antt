@@ -5,7 +5,8 @@ use Rattle.tla_token.specs.declared.place.Place.{Place}
 use Rattle.tla_expr.specs.Tree.{Word, apply, select, Form, name, strict, Tree, node, Trees, no_trees, tree, Every}
 use Rattle.tla_value.specs.Stops.{plain}
 use Rattle.tla_value.specs.Standard.{printed, asserted, standard_sense}
-use Rattle.tla_value.specs.Meaning.{Env, just}
+use Rattle.tla_value.specs.Value.{IsBad}
+use Rattle.tla_value.specs.Meaning.{Env, just, eval}
 use Rattle.tla_value.specs.laws.Grafting.{In, BindsNone, IsUnprimed}
 use Rattle.tla_value.specs.laws.FreeNames.{FreeNames}
 use Rattle.tla_value.specs.Definitions.{Valuation}
@@ -15,7 +16,9 @@ use Rattle.pcal_tree.specs.Algorithm.{Assignments, no_assignments, assignment, B
 use Rattle.pcal_tree.specs.Run.{Rules}
 use Rattle.pcal_tree.specs.Scope.{State, Scope}
 use Rattle.action_builder.specs.Assigned.{Names, more, heads, assigned}
-use Rattle.action_builder.specs.Written.{settings_of, assignment_items, write}
+use Rattle.action_builder.specs.Written.{primed, is_old, put_in, write}
+use Rattle.action_builder.specs.SingleProcess.{in_place_of}
+use Rattle.action_builder.specs.laws.Grafts.{IsListed, ClearItems}
 use Rattle.action_builder.specs.laws.States.{mid}
 use Rattle.action_builder.specs.laws.Scopes.{part_at}
 
@@ -114,12 +117,21 @@ FineBinds U vs A no_binds = Unit {0}
 FineBinds U vs A (one_of x e bs) = FineTree U A e × (is_among vs x.word ≡ false) × FineBinds U vs A bs
 FineBinds U vs A (is x e bs) = FineTree U A e × (is_among vs x.word ≡ false) × FineBinds U vs A bs
 
--- the items of an assignment are in the order of its variables, with the items after them: nothing is written later
-abbrev pub Ordered : Names → Statement → Items → Type 0
-Ordered A (assign ms) later = assignment_items A ms later ≡ settings_of A ms (heads ms) later
-Ordered A _ later = Unit {0}
+-- a name that stands for an old value has a value like others: it is a variable's, or that of a form that makes one
+abbrev pub KeptValue : List Word → Tree → Type 0
+KeptValue vs (node (name x) at ts) = is_among vs x ≡ true
+KeptValue vs e = IsListed e
 
--- each expression reads what may be read there, the names of a `with` are no variables, and items are in order
+-- the items fault where the expression does
+abbrev pub Needs : Tree → Items → Type 0
+Needs e b = (s t : Valuation) (env : Env) → IsBad (eval plain e env).value → IsBad (items_hold plain s t env b)
+
+-- it is written by its expression, which captures nothing and is needed
+abbrev pub Kept : List Word → Names → Binds → Items → Type 0
+Kept vs A (is x e bs) b = is_old (is x e bs) ≡ true → KeptValue vs e × ClearItems plain (in_place_of x.word (primed A e)) b × Needs (primed A e) (put_in A x.word e b)
+Kept vs A _ b = Unit {0}
+
+-- each expression reads what may be read there, and the names of a `with` are no variables
 abbrev mutual
   pub FineOne : Readable → List Word → Names → Statement → Type 0
   FineOne U vs A (assign ms) = FineAssignments U vs A ms
@@ -129,12 +141,12 @@ abbrev mutual
   FineOne U vs A skip = Unit {0}
   FineOne U vs A (branch e a b) = FineTree U A e × Fine U vs A a × Fine U vs A b
   FineOne U vs A (either bs) = FineSome U vs A bs
-  FineOne U vs A (with bs b) = FineBinds U vs A bs × Fine U vs A b
+  FineOne U vs A (with bs b) = FineBinds U vs A bs × Fine U vs A b × Kept vs A bs (write vs A b)
   FineOne U vs A _ = ⊥
 
   pub Fine : Readable → List Word → Names → Statements → Type 0
   Fine U vs A done = Unit {0}
-  Fine U vs A (then at st rest) = FineOne U vs A st × Fine U vs (more A (assigned st)) rest × Ordered A st (write vs (more A (assigned st)) rest)
+  Fine U vs A (then at st rest) = FineOne U vs A st × Fine U vs (more A (assigned st)) rest
   Fine U vs A (mark l k rest) = ⊥
 
   pub FineSome : Readable → List Word → Names → Branches → Type 0

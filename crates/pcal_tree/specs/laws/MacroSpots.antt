@@ -7,7 +7,7 @@ use Rattle.tla_expr.specs.Tree.{Word, Form, name, operator_call, Tree, node, Tre
 use Rattle.pcal_tree.specs.Algorithm.{Name, Assignments, no_assignments, assignment, Binds, no_binds, one_of, is, Statement, assign, await, print, assert, skip, branch, either, with, while, goto, macro, call, return, Statements, done, then, mark, Branches, no_branches, or, Macro, Procedure, Algorithm}
 use Rattle.pcal_tree.specs.Expand.{placed_at}
 use Rattle.pcal_tree.specs.OffencesStale.{Looking, jumps_use}
-use Rattle.pcal_tree.specs.Paths.{roots, some_word}
+use Rattle.pcal_tree.specs.Paths.{roots, some_word, rounds}
 use Rattle.pcal_tree.specs.Reads.{named}
 use Rattle.pcal_tree.specs.Spots.{Spot}
 use Rattle.pcal_tree.specs.laws.MacroSummaries.{union, argument, variable_of}
@@ -110,7 +110,7 @@ abbrev mutual
   one_end S (branch e a b) s = unlabelled (joined (end_of S a (inside s)).trail (end_of S b (inside s)).trail)
   one_end S (either bs) s = unlabelled (end_of_some S bs s)
   one_end S (with bs b) s = unlabelled (end_of S b (inside s)).trail
-  one_end S (while e b) s = unlabelled (cond s.labelled s.trail (joined (end_of S b (inside s)).trail s.trail))
+  one_end S (while e b) s = unlabelled (cond s.labelled s.trail (rounds joined (λ q. (end_of S b (unlabelled q)).trail) s.trail))
   one_end S (macro m ts) s = (S m ts s).end
   one_end S (goto l) s = unlabelled None
   one_end S (call q ts) s = unlabelled None

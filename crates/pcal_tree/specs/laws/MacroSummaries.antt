@@ -6,7 +6,7 @@ use Rattle.tla_token.specs.Signs.{is_among}
 use Rattle.tla_expr.specs.Tree.{Word, Tree, Trees, words}
 use Rattle.pcal_tree.specs.Algorithm.{nowhere, Name, Assignments, no_assignments, assignment, Statement, assign, branch, either, with, while, goto, macro, call, return, Statements, done, then, mark, Branches, no_branches, or, Macro}
 use Rattle.pcal_tree.specs.Run.{arguments}
-use Rattle.pcal_tree.specs.Paths.{root, is_whole, some_word, same_word, Effect, nothing}
+use Rattle.pcal_tree.specs.Paths.{root, is_whole, some_word, same_word, Effect, nothing, rounds}
 
 -- ---- what a macro's body assigns
 
@@ -149,7 +149,7 @@ abbrev mutual
   trail_after_one S (branch e a b) l p = joined (trail_after S a false p) (trail_after S b false p)
   trail_after_one S (either bs) l p = trail_after_some S bs p
   trail_after_one S (with bs b) l p = trail_after S b false p
-  trail_after_one S (while e b) l p = cond l p (joined (trail_after S b false p) p)
+  trail_after_one S (while e b) l p = cond l p (rounds joined (λ q. trail_after S b false q) p)
   trail_after_one S (goto n) l p = None
   trail_after_one S (call n ts) l p = None
   trail_after_one S return l p = None

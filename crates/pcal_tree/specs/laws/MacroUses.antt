@@ -71,10 +71,6 @@ both a b = record { offences = union same_refusal a.offences b.offences; free = 
 abbrev pub use_inside : List Word → NameUse → Uses
 use_inside xs u = cond (is_among xs (used_word u)) (offending (offences_as (Some (takes 0)) u)) (record { offences = []; free = u ∷ [] })
 
-abbrev pub uses_inside : List Word → List NameUse → Uses
-uses_inside xs [] = no_uses
-uses_inside xs (u ∷ us) = both (use_inside xs u) (uses_inside xs us)
-
 -- ---- expressions, where the names xs are bound
 
 abbrev pub form_uses : List Word → Bool → Form → ℕ → Place → Uses

@@ -1,0 +1,16 @@
+-- Proves the law `translations_keep_files`.
+use Rattle.module_text.proofs.WalkSame.{is_put, keeps_file, put_again}
+use Rattle.module_text.proofs.AlgorithmSame.{algorithm_kept}
+use Rattle.module_text.proofs.laws.translations_keep_files.Goals as goal
+
+pub returns-clause-place : goal.returns-clause-place
+returns-clause-place c = is_put
+
+pub returns-clause-kept : goal.returns-clause-kept
+returns-clause-kept c = keeps_file
+
+pub returns-clause-again : goal.returns-clause-again
+returns-clause-again c = put_again
+
+pub returns-clause-algorithm : goal.returns-clause-algorithm
+returns-clause-algorithm c = algorithm_kept
