@@ -157,13 +157,18 @@ mod tests {
         assert!(rt; a < pool.len() && b < pool.len());
         let both = pool.put(Form::Both, place, Vec::from_array(alloc, [a, b])?)?;
         assert!(rt; a < pool.len() && b < pool.len() && both < pool.len());
-        let choice = pool.put(Form::Choice, place, Vec::from_array(alloc, [both, b, both])?)?;
+        let choice = pool.put(
+            Form::Choice,
+            place,
+            Vec::from_array(alloc, [both, b, both])?,
+        )?;
         assert!(rt; both < pool.len() && choice < pool.len());
         let mut text = Text::new(Vec::new(alloc));
         write_expr(alloc, &pool, choice, &mut text)?;
         text.push(b'|')?;
         write_operand(alloc, &pool, both, &mut text)?;
-        let wanted = b"IF \"a\\\"\\\\\\t\" /\\ 907 THEN 907 ELSE \"a\\\"\\\\\\t\" /\\ 907|(\"a\\\"\\\\\\t\" /\\ 907)";
+        let wanted =
+            b"IF \"a\\\"\\\\\\t\" /\\ 907 THEN 907 ELSE \"a\\\"\\\\\\t\" /\\ 907|(\"a\\\"\\\\\\t\" /\\ 907)";
         assert!(rt; text.bytes() == wanted.as_slice());
         Ok(())
     }

@@ -116,7 +116,7 @@ marks_before b c w rest mark none back k m more l e = by (sort_of k m more b (w 
         elim (cases_lt (length (b ∷ w)) (length m)) [
           | inr le ↦ le
           | inl less ↦ (let i = (spelling_found (spellings s) m m spelled).0 in
-          absurd (both_ways (begins_sign u) none (found_any (stands_at m) (λ s. list_any (λ v. begins v u) (spellings s)) all_signs s at (among_any (λ v. begins v u) (spellings s) m i (longer less)))))
+              absurd (both_ways (begins_sign u) none (found_any (stands_at m) (λ s. list_any (λ v. begins v u) (spellings s)) all_signs s at (among_any (λ v. begins v u) (spellings s) m i (longer less)))))
         ]
 
 -- marks that begin no longer sign, before anything
