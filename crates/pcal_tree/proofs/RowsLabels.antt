@@ -1,7 +1,7 @@
 -- Added labels and offences against the rules on labels, tried by computation.
 use Rattle.std.proofs.Common.{◌≡◌, ℕ, List, [], ◌∷◌, true, false, codes, Some, refl, map}
 use Rattle.std.specs.Fmt.{digits}
-use Rattle.tla_token.specs.declared.rule.Rule.TheVariants.{AssignTwice, FirstLabel, UnknownLabel, ReturnOutside, DoubleLabel, LabelInside, WhileLabel, AfterJump}
+use Rattle.tla_token.specs.declared.rule.Rule.TheVariants.{AssignTwice, FirstLabel, UnknownLabel, ReturnOutside, DoubleLabel, LabelInside, WhileLabel, AfterJump, AfterBranch}
 use Rattle.tla_expr.specs.declared.op.Op.TheVariants.{Plus, Less, Equal}
 use Rattle.tla_expr.specs.Tree.{Word, Trees, no_trees, tree}
 use Rattle.pcal_tree.specs.declared.mark.Fairness.TheVariants.{Unfair}
@@ -84,6 +84,10 @@ assigned_in_a_branch = refl
 
 assigned_in_none : label_offences (alg [] (after_branches skip)) ≡ []
 assigned_in_none = refl
+
+-- A: if y = 0 then goto A; end if; skip
+after_a_branch_with_a_jump : label_offences (alg [] (label 3 (codes "A") (stands 6 (branch (over Equal (var y) (num 0)) (stands 20 (goto (codes "A")) done) done) (stands 36 skip done)))) ≡ record { rule = AfterBranch; place = at 36 } ∷ []
+after_a_branch_with_a_jump = refl
 
 -- A: x[1] := 1 || x[2] := 2
 two_parts : label_offences (alg [] (label 1 (codes "A") (stands 2 (assign (assignment (item (var x) (num 1)) (num 1) (assignment (item (var x) (num 2)) (num 2) no_assignments))) done))) ≡ []

@@ -2,7 +2,7 @@
 use Rattle.std.proofs.Common.{◌≡◌, ℕ, List, [], ◌∷◌, map, true, false, codes, refl}
 use Rattle.std.specs.Fmt.{digits}
 use Rattle.tla_expr.specs.declared.op.Op.TheVariants.{Plus, Minus, Greater, Less, Equal}
-use Rattle.tla_expr.specs.Tree.{Word, Tree, no_trees, tree}
+use Rattle.tla_expr.specs.Tree.{Word, conjunction, disjunction, Tree, node, no_trees, tree}
 use Rattle.tla_value.specs.Outside.{Outside}
 use Rattle.module_text.specs.Module.{init_unit, next_unit}
 use Rattle.module_text.specs.Layout.{unit_text}
@@ -42,6 +42,14 @@ at_once = refl
 branches : actions_of (one_body (zero_of x ∷ zero_of y ∷ zero_of z ∷ []) (labelled (codes "A") (and_next (branch (over Greater (named x) (num 0)) (just (sets y (num 1))) done) (just (sets z (named y)))))) ≡ codes "A ==\n  /\\ (pc = \"A\")\n  /\\ IF x > 0\n     THEN\n       /\\ y' = 1\n     ELSE\n       /\\ UNCHANGED <<y>>\n  /\\ z' = y'\n  /\\ pc' = \"Done\"\n  /\\ UNCHANGED <<x>>\n"
 unfolding digits
 branches = refl
+
+-- x = 1, y = 0;  A: await a list of x > 0 \/ y > 0 and x < 5
+abbrev list_of_two : Tree
+list_of_two = node conjunction nowhere (tree (node disjunction nowhere (tree (over Greater (named x) (num 0)) (tree (over Greater (named y) (num 0)) no_trees))) (tree (over Less (named x) (num 5)) no_trees))
+
+operands : actions_of (one_body (variable x (num 1) ∷ zero_of y ∷ []) (labelled (codes "A") (just (await list_of_two)))) ≡ codes "A ==\n  /\\ (pc = \"A\")\n  /\\ (((x > 0) \\/ (y > 0)) /\\ (x < 5))\n  /\\ pc' = \"Done\"\n  /\\ UNCHANGED <<x, y>>\n"
+unfolding digits
+operands = refl
 
 -- slots = <<1, 1>>, i = 2;  macro P(s) begin await s > 0; s := s - 1; end macro;  A: P(slots[i]);
 abbrev s : Tree
