@@ -13,7 +13,7 @@ use Rattle.pcal_tree.specs.Variables.{declared}
 use Rattle.pcal_tree.specs.laws.BoundDefinitions.{has_one, lists_have_one, bound_in_assignments, bound_in_binds, bound_in_one, bound_in_body, bound_in_branches, may_be_stale, rebinds_in, rebinds_in_main, rebinds_definitions, bound_in_text, bound_in_main, binds_definitions}
 use Rattle.pcal_tree.proofs.SpotsSeen.{or_clear}
 
-neither : {a b : Bool} → a ≡ false → b ≡ false → (a || b) ≡ false
+pub neither : {a b : Bool} → a ≡ false → b ≡ false → (a || b) ≡ false
 neither e f = λ i. e i || f i
 
 -- ---- trees put in
@@ -183,7 +183,7 @@ calls_bare D (d ∷ older) e at m ts f =
 
 -- ---- algorithms
 
-any_reversed : {X : Type 0} (f : X → Bool) (xs : List X) → list_any f (reverse xs) ≡ list_any f xs
+pub any_reversed : {X : Type 0} (f : X → Bool) (xs : List X) → list_any f (reverse xs) ≡ list_any f xs
 any_reversed f [] = refl
 any_reversed f (x ∷ xs) =
     ap (list_any f) (reverse-append (x ∷ []) xs) ∙ list_any-append f (reverse xs) (x ∷ [])

@@ -1,6 +1,7 @@
 -- Lists of offences that no test tells apart have the same offences, and the same first one.
-use Rattle.std.proofs.Common.{◌≡◌, ℕ, ◌≤◌, List, [], ◌∷◌, Bool, true, false, ◌&&◌, ◌||◌, nat_eq, nat_lt, cond, Some, Contains, ◌↔◌, refl, sym, ◌∙◌, ap, arith, le-ltb, ltb-true, ltb-false, eqb-true, eq-eqb, true≢false}
+use Rattle.std.proofs.Common.{◌≡◌, ℕ, ◌≤◌, List, [], ◌∷◌, ◌++◌, Bool, true, false, ◌&&◌, ◌||◌, nat_eq, nat_lt, cond, Some, Contains, ◌↔◌, refl, sym, ◌∙◌, ap, arith, le-ltb, lt-ltb, ltb-true, ltb-false, eqb-true, eq-eqb, true≢false}
 use Rattle.std.specs.List.{list_any}
+use Rattle.std.proofs.lemmas.List.Folds.{list_any-append}
 use Rattle.std.proofs.lemmas.Bool.{and_parts, and_from, or_parts, or_left, or_right}
 use Rattle.std.proofs.lemmas.Map.Views.{Contains-from_any, list_any-from_Contains}
 use Rattle.tla_token.specs.declared.rule.Rule.{Rule}
@@ -219,15 +220,55 @@ not_found r q (x ∷ xs) e h = by (same_refusal r x) refl e (not_found r q xs) (
     by true s e k h = ap (λ (z : Refusal). is_sooner z q) (refusal_sound r x s) ∙ h.0
     by false s e k h = k e h.1
 
+-- what is least in a list is the first one
+least_is_first : (r x : Refusal) (xs : List Refusal) → Least r (x ∷ xs) → first (x ∷ xs) ≡ Some r
+least_is_first r x xs h =
+    let q = sooner x (first xs) in
+    let k = first_least x xs in
+    ap Some (one_place q r (not_found q r (x ∷ xs) k.0 h.1) (not_found r q (x ∷ xs) h.0 k.1))
+
 pub same_first : (xs ys : List Refusal) → Same xs ys → first xs ≡ first ys
 same_first [] [] s = refl
 same_first [] (y ∷ ys) s = absurd (true≢false (sym (s (λ r. true))))
 same_first (x ∷ xs) [] s = absurd (true≢false (s (λ r. true)))
 same_first (x ∷ xs) (y ∷ ys) s =
-    let r = sooner x (first xs) in
     let q = sooner y (first ys) in
-    let h = first_least x xs in
     let k = first_least y ys in
-    ap Some (one_place r q
-    (not_found r q (y ∷ ys) (sym (s (same_refusal r)) ∙ h.0) k.1)
-    (not_found q r (x ∷ xs) (s (same_refusal q) ∙ k.0) h.1))
+    least_is_first q x xs (s (same_refusal q) ∙ k.0, s (λ p. is_sooner p q) ∙ k.1)
+
+-- ---- lesser rules come first
+
+abbrev pub Below : ℕ → Refusal → Bool
+Below n r = nat_lt (rule_number r.rule) n
+
+-- none is sooner than r, and one of them has a lesser rule than n
+below_too : (n : ℕ) (r : Refusal) (xs : List Refusal) → list_any (Below n) xs ≡ true → list_any (λ q. is_sooner q r) xs ≡ false → Below n r ≡ true
+below_too n r [] e h = cc
+below_too n r (x ∷ xs) e h = by (Below n x) refl e (below_too n r xs) (or_parts (is_sooner x r) (list_any (λ q. is_sooner q r) xs) h)
+  where
+    by : (b : Bool) → Below n x ≡ b → (b || list_any (Below n) xs) ≡ true → (list_any (Below n) xs ≡ true → list_any (λ q. is_sooner q r) xs ≡ false → Below n r ≡ true)
+        → (is_sooner x r ≡ false) × (list_any (λ q. is_sooner q r) xs ≡ false) → Below n r ≡ true
+    by true s e rest k =
+        let u = ltb-true (rule_number x.rule) n s in
+        let v = (after_parts (rule_number x.rule) (rule_number r.rule) (is_before x.place r.place) k.0).0 in
+        lt-ltb (rule_number r.rule) n (omega arith)
+    by false s e rest k = rest e k.1
+
+-- none of a rule that isn't lesser is sooner
+none_above : (n : ℕ) (r : Refusal) (ys : List Refusal) → Below n r ≡ true → list_any (Below n) ys ≡ false → list_any (λ q. is_sooner q r) ys ≡ false
+none_above n r [] e h = refl
+none_above n r (y ∷ ys) e h =
+    let k = or_parts (Below n y) (list_any (Below n) ys) h in
+    let u = ltb-true (rule_number r.rule) n e in
+    let v = ltb-false (rule_number y.rule) n k.0 in
+    λ i. after_from (rule_number y.rule) (rule_number r.rule) (is_before y.place r.place) (omega arith) (λ s. absurd (omega arith)) i || none_above n r ys e k.1 i
+
+pub lesser_first : (n : ℕ) (xs ys : List Refusal) → list_any (Below n) xs ≡ true → list_any (Below n) ys ≡ false → first (xs ++ ys) ≡ first xs
+lesser_first n [] ys e h = cc
+lesser_first n (x ∷ xs) ys e h =
+    let r = sooner x (first xs) in
+    let k = first_least x xs in
+    least_is_first r x (xs ++ ys) (
+      list_any-append (same_refusal r) (x ∷ xs) ys ∙ or_left (list_any (same_refusal r) (x ∷ xs)) (list_any (same_refusal r) ys) k.0,
+      list_any-append (λ q. is_sooner q r) (x ∷ xs) ys ∙ (λ i. k.1 i || none_above n r ys (below_too n r (x ∷ xs) e k.1) h i),
+    )

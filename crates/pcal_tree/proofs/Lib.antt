@@ -48,10 +48,13 @@ pub mod SpotMacros
 pub mod SpotsSeen
 pub mod StaleByMacro
 pub mod BoundWrittenOut
+pub mod UnboundDefinitions
+pub mod RefusedAlike
 pub mod RowsOffences
 pub mod RowsReads
 pub mod RowsStale
-mod RowsSelf
+pub mod RowsSelf
+mod RowsOnce
 pub mod SameVariables
 pub mod StepVariables
 pub mod SameSteps

@@ -101,6 +101,10 @@ pub scope_of_names : (xs : List Word) (w : Word) → in_scope (naming xs []) w �
 scope_of_names [] w = refl
 scope_of_names (x ∷ xs) w = ap (λ (b : Bool). bytes_eq x w || b) (scope_of_names xs w)
 
+pub scope_of_both : (xs : List Word) (s : Standings) (w : Word) → in_scope (naming xs s) w ≡ (is_among xs w || in_scope s w)
+scope_of_both [] s w = refl
+scope_of_both (x ∷ xs) s w = ap (λ (b : Bool). bytes_eq x w || b) (scope_of_both xs s w) ∙ sym (or_both (bytes_eq x w) (is_among xs w) (in_scope s w))
+
 -- an offence where one of two scopes has the name
 pub either_scope : (a b m : Bool) (p : Place) (f : Refusal → Bool)
     → list_any f (offence_if ((a || b) && m) Rebind p) ≡ (list_any f (offence_if (a && m) Rebind p) || list_any f (offence_if (b && m) Rebind p))
@@ -168,11 +172,7 @@ all_more ms (x ∷ xs) s w f =
     (list_any (λ v. list_any f (offences_where ms s v)) (map (beneath w) xs))
 
 pub named_around : (xs : List Word) (s r : Standings) → Around xs s r → (w : Word) → in_scope r w ≡ in_scope (naming xs s) w
-named_around xs s r a w = a.0 w ∙ sym (by xs)
-  where
-    by : (ys : List Word) → in_scope (naming ys s) w ≡ (is_among ys w || in_scope s w)
-    by [] = refl
-    by (y ∷ ys) = ap (λ (b : Bool). bytes_eq y w || b) (by ys) ∙ sym (or_both (bytes_eq y w) (is_among ys w) (in_scope s w))
+named_around xs s r a w = a.0 w ∙ sym (scope_of_both xs s w)
 
 pub says_standing : (ms xs : List Word) (s r : Standings) → Around xs s r → (w : Word) → Says ms s (rebound_all ms r (brought r w)) (standing_inside xs w)
 says_standing ms xs s r a w =

@@ -81,7 +81,7 @@ in_globals_and_definitions = refl
 
 -- ---- all together
 
-abbrev nothing_outside : Outside
+abbrev pub nothing_outside : Outside
 nothing_outside = record { extended = codes "Naturals" ∷ []; constants = []; definitions = []; opaque = [] }
 
 -- process P = D begin A: x := 1; await E + self; end process

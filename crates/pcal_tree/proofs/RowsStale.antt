@@ -105,7 +105,7 @@ abbrev pub M : Macro
 M = record { name = title (codes "M"); params = title (codes "p") ∷ []; body = x_set (stands 10 (await (read 11 (codes "p"))) (stands 12 (await (read 13 D)) done)) }
 
 -- macro N(r) begin M(r); end macro
-abbrev N : Macro
+abbrev pub N : Macro
 N = record { name = title (codes "N"); params = title (codes "r") ∷ []; body = stands 20 (macro (codes "M") (tree (read 21 (codes "r")) no_trees)) done }
 
 abbrev pub calls : Word → Tree → Statements → Statements
@@ -166,7 +166,7 @@ twelve : stale_offences_by (spots_by_macros chained) chained ≡ stale 31 ++ sta
 twelve = refl
 
 -- what is bound in the macro's body is not left out, so such an algorithm must have none: macro B() begin x := 1; with D = 0 do await D end with; end macro
-abbrev binds_it : Algorithm
+abbrev pub binds_it : Algorithm
 binds_it =
     whole (record { name = title (codes "B"); params = []; body = x_set (stands 10 (with (is (named 11 D) (num 0) no_binds) (stands 12 (await (read 13 D)) done)) done) } ∷ []) []
     (alone (labelled (codes "A") (stands 30 (macro (codes "B") no_trees) done)))

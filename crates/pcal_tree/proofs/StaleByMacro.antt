@@ -137,7 +137,7 @@ main_same a (processes ps) e =
     each_same (λ p. rebinds_in a (declared p.variables) p.body) (stale_in_process (written_out_spots a) (readings_of a)) (stale_in_process (spots_by_macros a) (readings_of a))
     (λ p. body_same a (cond p.several [] (used p.identity [])) (declared p.variables) p.body) ps e
 
-stale_same : (a : Algorithm) → rebinds_definitions a ≡ false → Same (stale_offences a) (stale_offences_by (spots_by_macros a) a)
+pub stale_same : (a : Algorithm) → rebinds_definitions a ≡ false → Same (stale_offences a) (stale_offences_by (spots_by_macros a) a)
 stale_same a e =
     let bad : Procedure → Bool = λ p. rebinds_in a (declared (p.params ++ p.variables)) p.body in
     let k = or_clear (list_any bad a.procedures) (rebinds_in_main a a.main) e in

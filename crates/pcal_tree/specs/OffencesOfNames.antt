@@ -11,17 +11,30 @@ use Rattle.pcal_tree.specs.OffencesSelf.{self_offences}
 use Rattle.pcal_tree.specs.OffencesStale.{stale_offences}
 use Rattle.tla_value.specs.Outside.{Outside}
 
+-- what is found through macro calls: names used as they may not be, names bound again, definitions used after assignments
+pub record ThroughCalls : Type 0 where
+  pub uses : List Refusal
+  pub rebound : List Refusal
+  pub stale : List Refusal
+
 -- names used as they may not be
-abbrev pub offences_of_uses : Algorithm → Outside → List Refusal
-offences_of_uses a o = use_offences_of a o ++ (module_needs a o ++ outside_variables o)
+abbrev pub offences_of_uses : ThroughCalls → Algorithm → Outside → List Refusal
+offences_of_uses F a o = F.uses ++ (module_needs a o ++ outside_variables o)
 
 -- names declared twice, bound where they are in scope, and those of the translation
-abbrev pub offences_of_declarations : Algorithm → Outside → List Refusal
-offences_of_declarations a o = repeated_names a o ++ (rebind_offences_of a o ++ reserved_declared a o)
+abbrev pub offences_of_declarations : ThroughCalls → Algorithm → Outside → List Refusal
+offences_of_declarations F a o = repeated_names a o ++ (F.rebound ++ reserved_declared a o)
 
 -- what is read before it has a value or after it has another, and `self` where no process is
-abbrev pub offences_of_reads : Algorithm → List Refusal
-offences_of_reads a = process_offences a ++ (own_offences a ++ (order_offences a ++ (stale_offences a ++ self_offences a)))
+abbrev pub offences_of_reads : ThroughCalls → Algorithm → List Refusal
+offences_of_reads F a = process_offences a ++ (own_offences a ++ (order_offences a ++ (F.stale ++ self_offences a)))
+
+abbrev pub name_offences_by : ThroughCalls → Algorithm → Outside → List Refusal
+name_offences_by F a o = offences_of_uses F a o ++ (offences_of_declarations F a o ++ offences_of_reads F a)
+
+-- at each call
+abbrev pub through_each_call : Algorithm → Outside → ThroughCalls
+through_each_call a o = record { uses = use_offences_of a o; rebound = rebind_offences_of a o; stale = stale_offences a }
 
 abbrev pub name_offences : Algorithm → Outside → List Refusal
-name_offences a o = offences_of_uses a o ++ (offences_of_declarations a o ++ offences_of_reads a)
+name_offences a o = name_offences_by (through_each_call a o) a o

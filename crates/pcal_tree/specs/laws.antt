@@ -7,6 +7,7 @@ pub mod MacroUses
 pub mod MacroSelves
 pub mod MacroSpots
 pub mod BoundDefinitions
+pub mod OffencesOnce
 pub mod Choosing
 pub mod Expansion
 pub mod Steps

@@ -24,6 +24,8 @@ ghost use Rattle.pcal_tree.specs.OffencesSelf.{self_offences};
 ghost use Rattle.pcal_tree.specs.OffencesStale.{stale_offences, stale_offences_by};
 ghost use Rattle.pcal_tree.specs.laws.MacroSpots.{spots_by_macros};
 ghost use Rattle.pcal_tree.specs.laws.BoundDefinitions.{rebinds_definitions, binds_definitions};
+ghost use Rattle.pcal_tree.specs.OffencesOfNames.{name_offences_by, name_offences};
+ghost use Rattle.pcal_tree.specs.laws.OffencesOnce.{once_for_each_macro};
 ghost use Rattle.pcal_tree.specs.laws.MacroSelves.{self_offences_by_calls};
 ghost use Rattle.tla_expr.specs.Lexical.{Token};
 ghost use Rattle.tla_expr.specs.FirstStop.{looks, Begins};
@@ -158,13 +160,35 @@ pub fn self_in_macros_is_looked_for_once()
 /// What is computed once for each macro, from its text and from what was computed for older ones, says of each call which names its body uses, and after
 /// which assignments. So it gives the same offences of definitions that are used after an assignment to what they read, if not as often nor in the same
 /// order, and the same one comes first, also among others. No body may bind or declare the name of a definition, or `self`, its macro calls written out, and
-/// none does where no text does: the rules on names that are bound again and on reserved names ask for that, and of offences against these the first comes before.
+/// none does where no text does.
 pub fn definitions_in_macros_are_looked_at_once()
     ensures offences { (a : Algorithm) → rebinds_definitions a ≡ false
         → (r : Refusal) → Contains (stale_offences a) r ↔ Contains (stale_offences_by (spots_by_macros a) a) r }
     ensures first { (a : Algorithm) → rebinds_definitions a ≡ false
         → (others : List Refusal) → first (stale_offences a ++ others) ≡ first (stale_offences_by (spots_by_macros a) a ++ others) }
     ensures text { (a : Algorithm) → binds_definitions a ≡ false → rebinds_definitions a ≡ false }
+{}
+
+/// Where no name is bound again and none that is declared or bound is reserved, no text binds the name of a definition, or `self`, whatever is outside of the
+/// algorithm; and what is computed once for each macro gives the same offences of definitions that are used after an assignment. Where there is an offence against
+/// one of these two rules, it comes before any of those. So beside their offences the first one is the same in every algorithm, also among others.
+pub fn names_of_definitions_are_not_bound_again()
+    ensures unbound { (a : Algorithm) (o : Outside) → rebind_offences_of a o ≡ [] → reserved_declared a o ≡ [] → binds_definitions a ≡ false }
+    ensures offences { (a : Algorithm) (o : Outside) → rebind_offences_of a o ≡ [] → reserved_declared a o ≡ []
+        → (r : Refusal) → Contains (stale_offences a) r ↔ Contains (stale_offences_by (spots_by_macros a) a) r }
+    ensures first { (a : Algorithm) (o : Outside) (others : List Refusal)
+        → first (rebind_offences_of a o ++ (reserved_declared a o ++ (stale_offences a ++ others)))
+        ≡ first (rebind_offences_of a o ++ (reserved_declared a o ++ (stale_offences_by (spots_by_macros a) a ++ others))) }
+{}
+
+/// What is computed once for each macro refuses every algorithm, whatever is outside of it, as looking through macros at each call does: of all offences against the
+/// rules on names, and of these with those against the rules on labels, the same one comes first, also among others.
+pub fn macros_looked_at_once_refuse_alike()
+    ensures names { (a : Algorithm) (o : Outside) (others : List Refusal)
+        → first (name_offences a o ++ others) ≡ first (name_offences_by (once_for_each_macro a o) a o ++ others) }
+    ensures labels { (a : Algorithm) (o : Outside) (others : List Refusal)
+        → first (name_offences a o ++ (label_offences a ++ others))
+        ≡ first (name_offences_by (once_for_each_macro a o) a o ++ (label_offences_by (summary_effect (summaries (reverse a.macros))) a ++ others)) }
 {}
 
 /// Whether tokens spell an algorithm rests on their kinds and columns alone: tokens of other lines spell the same text in other lines.
