@@ -33,9 +33,9 @@ use Rattle.pcal_tree.proofs.BoundWrittenOut.{unbound_written_out}
 use Rattle.pcal_tree.proofs.EffectLaws.{offences_by_summaries}
 use Rattle.pcal_tree.proofs.FirstLaws.{Below, lesser_first, same_first, same_offences}
 use Rattle.pcal_tree.proofs.RebindsByMacro.{rebinds_alike}
-use Rattle.pcal_tree.proofs.SetLaws.{Same, same_both, any_flat, any_none}
+use Rattle.pcal_tree.proofs.SetLaws.{Same, same_both, any_flat, any_none, none_of_both}
 use Rattle.pcal_tree.proofs.StaleByMacro.{stale_same}
-use Rattle.pcal_tree.proofs.UnboundDefinitions.{none_of_both, unbound_by_rules}
+use Rattle.pcal_tree.proofs.UnboundDefinitions.{unbound_by_rules}
 use Rattle.pcal_tree.proofs.UsesByMacro.{same_after, same_before, uses_alike}
 
 -- an offence against a rule before that on definitions used after assignments

@@ -1,8 +1,8 @@
 -- Lists that no test tells apart, and lists without repetitions.
 use Rattle.std.proofs.Common.{◌≡◌, List, [], ◌∷◌, ◌++◌, Bool, true, false, ◌||◌, cond, bytes_eq, refl, sym, ◌∙◌, ap, map}
 use Rattle.std.specs.List.{list_any, flat_map}
+use Rattle.std.proofs.lemmas.Bool.{or_parts}
 use Rattle.std.proofs.lemmas.List.Folds.{list_any-append}
-use Rattle.std.proofs.Math.Bool.{or-false}
 use Rattle.tla_token.specs.Signs.{is_among}
 use Rattle.tla_expr.specs.Tree.{Word}
 use Rattle.pcal_tree.specs.Paths.{Effect, meets}
@@ -50,6 +50,17 @@ any_or f g (x ∷ xs) = ap (λ (b : Bool). (f x || g x) || b) (any_or f g xs) �
 pub any_none : {X : Type 0} (f : X → Bool) → ((x : X) → f x ≡ false) → (xs : List X) → list_any f xs ≡ false
 any_none f e [] = refl
 any_none f e (x ∷ xs) = λ i. e x i || any_none f e xs i
+
+-- ---- no element passes a test
+
+pub neither : {a b : Bool} → a ≡ false → b ≡ false → (a || b) ≡ false
+neither e f = λ i. e i || f i
+
+pub none_of_both : {X : Type 0} (f : X → Bool) (xs ys : List X) → list_any f (xs ++ ys) ≡ false → (list_any f xs ≡ false) × (list_any f ys ≡ false)
+none_of_both f xs ys e = or_parts (list_any f xs) (list_any f ys) (sym (list_any-append f xs ys) ∙ e)
+
+pub none_together : {X : Type 0} (f : X → Bool) (xs ys : List X) → list_any f xs ≡ false → list_any f ys ≡ false → list_any f (xs ++ ys) ≡ false
+none_together f xs ys e h = list_any-append f xs ys ∙ neither e h
 
 -- ---- lists that no test tells apart
 

@@ -2,6 +2,7 @@
 use Rattle.std.proofs.Common.{◌≡◌, List, [], ◌∷◌, ◌++◌, Bool, true, false, ◌||◌, cond, bytes_eq, Some, None, refl, sym, ◌∙◌, ap, map}
 use Rattle.std.specs.Option.{option_map}
 use Rattle.std.specs.List.{list_any, flat_map}
+use Rattle.std.proofs.lemmas.Bool.{or_parts}
 use Rattle.std.proofs.lemmas.List.{map-append}
 use Rattle.std.proofs.lemmas.List.Folds.{list_any-append}
 use Rattle.std.proofs.Math.Bool.{or-false}
@@ -10,15 +11,15 @@ use Rattle.tla_token.specs.declared.place.Place.{Place}
 use Rattle.tla_token.specs.Signs.{is_among}
 use Rattle.tla_expr.specs.Tree.{Word, Name, Form, number, string, truth, booleans, strings, name, next, strict, operator_call, conjunction, disjunction, implication, member, if_then_else, cases, binding, local, Tree, node, Trees, no_trees, tree, words, beginnings, seen_names}
 use Rattle.pcal_tree.specs.Algorithm.{Assignments, no_assignments, assignment, Binds, no_binds, one_of, is, Statement, assign, await, print, assert, skip, branch, either, with, while, goto, macro, call, return, Statements, done, then, mark, Branches, no_branches, or, Procedure}
-use Rattle.pcal_tree.specs.BoundNames.{Lists, all_of, lists_of, lists_in, lists_in_all, names_of_binds}
+use Rattle.pcal_tree.specs.BoundNames.{Lists, all_of, lists_of, lists_in, lists_in_all, lists_in_assignments, names_of_binds, lists_in_binds, lists_in_one, lists_in_body, lists_in_branches}
 use Rattle.pcal_tree.specs.OffencesStale.{jumps_use}
 use Rattle.pcal_tree.specs.Paths as path
 use Rattle.pcal_tree.specs.Paths.{Path, roots, after_one, after, after_some}
 use Rattle.pcal_tree.specs.Reads.{named, if_free, used, used_by_parts, used_by_all, used_by_assignments, used_by_binds}
 use Rattle.pcal_tree.specs.Spots.{Spot, after_path, spots_of_one, spots, spots_of_some}
 use Rattle.pcal_tree.specs.laws.MacroSpots.{Use, other, uses, uses_of_all, left_uses, uses_of_assignments, uses_of_binds, name_used, Origin, earlier, assigned, Trail, unlabelled, inside, Seen, on_trail, joined, assigning, one_end, end_of, end_of_some, one_seen, seen_in, seen_in_some, starting}
-use Rattle.pcal_tree.specs.laws.BoundDefinitions.{has_one, lists_have_one, bound_in_assignments, bound_in_binds, bound_in_one, bound_in_body, bound_in_branches}
-use Rattle.pcal_tree.proofs.SetLaws.{any_flat, any_map, any_same, any_none}
+use Rattle.pcal_tree.specs.laws.BoundDefinitions.{has_one, lists_have_one}
+use Rattle.pcal_tree.proofs.SetLaws.{any_flat, any_map, any_same, any_none, none_of_both, none_together}
 use Rattle.pcal_tree.proofs.SpotGrafts.{no_calls}
 use Rattle.pcal_tree.proofs.SpotCalls.{met, passes}
 
@@ -45,10 +46,6 @@ hit_blind : (T : Test) (p : Path) (n : Name) → T.matters n.word ≡ false → 
 hit_blind T None n e = refl
 hit_blind T (Some ys) n e = any_none (λ y. T.test y n) (λ y. T.blind y n e) ys
 
-pub or_clear : (a b : Bool) → (a || b) ≡ false → (a ≡ false) × (b ≡ false)
-or_clear true b e = cc
-or_clear false b e = (refl, e)
-
 -- ---- names that don't matter
 
 abbrev Clear : Test → List Word → Type 0
@@ -57,15 +54,8 @@ Clear T ws = list_any T.matters ws ≡ false
 abbrev Free : Test → Lists → Type 0
 Free T xss = lists_have_one T.matters xss ≡ false
 
-free_both : (T : Test) (xss yss : Lists) → Free T (xss ++ yss) → Free T xss × Free T yss
-free_both T xss yss e =
-    or_clear (lists_have_one T.matters xss) (lists_have_one T.matters yss) (sym (list_any-append (has_one T.matters) xss yss) ∙ e)
-
 free_first : (T : Test) (ns : List Name) (xss : Lists) → Free T (ns ∷ xss) → (list_any (λ n. T.matters n.word) ns ≡ false) × Free T xss
-free_first T ns xss e = or_clear (has_one T.matters ns) (lists_have_one T.matters xss) e
-
-clear_both : (T : Test) (ws vs : List Word) → Clear T ws → Clear T vs → Clear T (ws ++ vs)
-clear_both T ws vs e f = list_any-append T.matters ws vs ∙ (λ i. e i || f i)
+free_first T ns xss e = or_parts (has_one T.matters ns) (lists_have_one T.matters xss) e
 
 clear_words : (T : Test) (ns : List Name) → list_any (λ n. T.matters n.word) ns ≡ false → Clear T (words ns)
 clear_words T ns e = any_map T.matters (λ n. n.word) ns ∙ e
@@ -78,7 +68,7 @@ clear_groups T gs e =
 
 among_clear : (T : Test) (ws : List Word) (x : Word) → Clear T ws → is_among ws x ≡ true → T.matters x ≡ false
 among_clear T [] x c e = cc
-among_clear T (w ∷ ws) x c e = by (bytes_eq w x) refl e (or_clear (T.matters w) (list_any T.matters ws) c) (among_clear T ws x)
+among_clear T (w ∷ ws) x c e = by (bytes_eq w x) refl e (or_parts (T.matters w) (list_any T.matters ws) c) (among_clear T ws x)
   where
     by : (b : Bool) → bytes_eq w x ≡ b → (b || is_among ws x) ≡ true → (T.matters w ≡ false) × Clear T ws → (Clear T ws → is_among ws x ≡ true → T.matters x ≡ false) → T.matters x ≡ false
     by true h e c rest = ap T.matters (sym ((bytes_eq-Decides w x).0 h)) ∙ c.0
@@ -91,7 +81,7 @@ AllClear T wss = list_any (list_any T.matters) wss ≡ false
 beginnings_clear : (T : Test) (ws : List Word) → Clear T ws → AllClear T (beginnings ws)
 beginnings_clear T [] c = refl
 beginnings_clear T (w ∷ ws) c =
-    let h = or_clear (T.matters w) (list_any T.matters ws) c in
+    let h = or_parts (T.matters w) (list_any T.matters ws) c in
     any_map (list_any T.matters) (λ vs. w ∷ vs) (beginnings ws)
     ∙ any_same (λ vs. T.matters w || list_any T.matters vs) (list_any T.matters) (λ vs. ap (λ (b : Bool). b || list_any T.matters vs) h.0) (beginnings ws)
     ∙ beginnings_clear T ws h.1
@@ -144,50 +134,49 @@ mutual
       finds_both T p (if_free xs (named g at)) (used_by_parts [] ts xs) (other (named g at) ∷ []) (uses_of_all ts)
       (if_free_finds T p xs (named g at) c ∙ sym (or-false (hit T p (named g at)))) (parts_find T p [] ts xs c refl f)
   used_finds T p (node (binding b gs) at ts) xs c f =
-      let h = free_both T (lists_of (binding b gs)) (lists_in_all ts) f in parts_find T p (seen_names (binding b gs)) ts xs c (seen_clear T (binding b gs) h.0) h.1
+      let h = none_of_both (has_one T.matters) (lists_of (binding b gs)) (lists_in_all ts) f in parts_find T p (seen_names (binding b gs)) ts xs c (seen_clear T (binding b gs) h.0) h.1
   used_finds T p (node (local ns) at ts) xs c f =
-      let h = free_both T (lists_of (local ns)) (lists_in_all ts) f in parts_find T p (seen_names (local ns)) ts xs c (seen_clear T (local ns) h.0) h.1
+      let h = none_of_both (has_one T.matters) (lists_of (local ns)) (lists_in_all ts) f in parts_find T p (seen_names (local ns)) ts xs c (seen_clear T (local ns) h.0) h.1
   used_finds T p (node m at ts) xs c f = parts_find T p [] ts xs c refl f
 
   parts_find : (T : Test) (p : Path) (wss : List (List Word)) (ts : Trees) (xs : List Word) → Clear T xs → AllClear T wss → Free T (lists_in_all ts)
       → Finds T p (used_by_parts wss ts xs) (uses_of_all ts)
   parts_find T p wss no_trees xs c a f = refl
   parts_find T p [] (tree t ts) xs c a f =
-      let h = free_both T (lists_in t) (lists_in_all ts) f in
+      let h = none_of_both (has_one T.matters) (lists_in t) (lists_in_all ts) f in
       finds_both T p (used t xs) (used_by_parts [] ts xs) (uses t) (uses_of_all ts) (used_finds T p t xs c h.0) (parts_find T p [] ts xs c refl h.1)
   parts_find T p (ws ∷ wss) (tree t ts) xs c a f =
-      let h = free_both T (lists_in t) (lists_in_all ts) f in
-      let k = or_clear (list_any T.matters ws) (list_any (list_any T.matters) wss) a in
+      let h = none_of_both (has_one T.matters) (lists_in t) (lists_in_all ts) f in
+      let k = or_parts (list_any T.matters ws) (list_any (list_any T.matters) wss) a in
       finds_both T p (used t (ws ++ xs)) (used_by_parts wss ts xs) (uses t) (uses_of_all ts)
-      (used_finds T p t (ws ++ xs) (clear_both T ws xs k.0 c) h.0) (parts_find T p wss ts xs c k.1 h.1)
+      (used_finds T p t (ws ++ xs) (none_together T.matters ws xs k.0 c) h.0) (parts_find T p wss ts xs c k.1 h.1)
 
 -- a left side is an expression here
 left_finds : (T : Test) (p : Path) (t : Tree) → list_any (λ u. hit T p (name_used u)) (uses t) ≡ list_any (λ u. hit T p (name_used u)) (left_uses t)
 left_finds T p (node (name x) at ts) = refl
 left_finds T p (node m at ts) = refl
 
-assignments_find : (T : Test) (p : Path) (ms : Assignments) (xs : List Word) → Clear T xs → bound_in_assignments T.matters ms ≡ false
+assignments_find : (T : Test) (p : Path) (ms : Assignments) (xs : List Word) → Clear T xs → Free T (lists_in_assignments ms)
     → Finds T p (used_by_assignments ms xs) (uses_of_assignments ms)
 assignments_find T p no_assignments xs c f = refl
 assignments_find T p (assignment l e ms) xs c f =
-    let D = T.matters in
-    let h = or_clear (lists_have_one D (lists_in l)) (lists_have_one D (lists_in e) || bound_in_assignments D ms) f in
-    let k = or_clear (lists_have_one D (lists_in e)) (bound_in_assignments D ms) h.1 in
+    let h = none_of_both (has_one T.matters) (lists_in l) (lists_in e ++ lists_in_assignments ms) f in
+    let k = none_of_both (has_one T.matters) (lists_in e) (lists_in_assignments ms) h.1 in
     finds_both T p (used l xs) (used e xs ++ used_by_assignments ms xs) (left_uses l) (uses e ++ uses_of_assignments ms)
     (used_finds T p l xs c h.0 ∙ left_finds T p l)
     (finds_both T p (used e xs) (used_by_assignments ms xs) (uses e) (uses_of_assignments ms) (used_finds T p e xs c k.0) (assignments_find T p ms xs c k.1))
 
-binds_find : (T : Test) (p : Path) (bs : Binds) (xs : List Word) → Clear T xs → has_one T.matters (names_of_binds bs) ≡ false → bound_in_binds T.matters bs ≡ false
+binds_find : (T : Test) (p : Path) (bs : Binds) (xs : List Word) → Clear T xs → has_one T.matters (names_of_binds bs) ≡ false → Free T (lists_in_binds bs)
     → Finds T p (used_by_binds bs xs) (uses_of_binds bs)
 binds_find T p no_binds xs c a f = refl
 binds_find T p (one_of x e bs) xs c a f =
-    let h = or_clear (lists_have_one T.matters (lists_in e)) (bound_in_binds T.matters bs) f in
-    let k = or_clear (T.matters x.word) (has_one T.matters (names_of_binds bs)) a in
+    let h = none_of_both (has_one T.matters) (lists_in e) (lists_in_binds bs) f in
+    let k = or_parts (T.matters x.word) (has_one T.matters (names_of_binds bs)) a in
     finds_both T p (used e xs) (used_by_binds bs (x.word ∷ xs)) (uses e) (uses_of_binds bs)
     (used_finds T p e xs c h.0) (binds_find T p bs (x.word ∷ xs) (λ i. k.0 i || c i) k.1 h.1)
 binds_find T p (is x e bs) xs c a f =
-    let h = or_clear (lists_have_one T.matters (lists_in e)) (bound_in_binds T.matters bs) f in
-    let k = or_clear (T.matters x.word) (has_one T.matters (names_of_binds bs)) a in
+    let h = none_of_both (has_one T.matters) (lists_in e) (lists_in_binds bs) f in
+    let k = or_parts (T.matters x.word) (has_one T.matters (names_of_binds bs)) a in
     finds_both T p (used e xs) (used_by_binds bs (x.word ∷ xs)) (uses e) (uses_of_binds bs)
     (used_finds T p e xs c h.0) (binds_find T p bs (x.word ∷ xs) (λ i. k.0 i || c i) k.1 h.1)
 
@@ -276,7 +265,7 @@ others_find : (T : Test) (p : Path) (ns : List Name) → Finds T p ns (map other
 others_find T p ns = sym (any_map (λ u. hit T p (name_used u)) other ns)
 
 mutual
-  one_sees : (T : Test) (ps : List Procedure) (l : Bool) (p : Path) (at : Place) (st : Statement) (xs : List Word) → Clear T xs → bound_in_one T.matters st ≡ false
+  one_sees : (T : Test) (ps : List Procedure) (l : Bool) (p : Path) (at : Place) (st : Statement) (xs : List Word) → Clear T xs → Free T (lists_in_one st)
       → Sees T (spots_of_one (jumps_use ps) l p at st xs) (one_seen no_calls ps at st (starting l (traced p)))
   one_sees T ps l p at (assign ms) xs c f = sees_on T p (used_by_assignments ms xs) (uses_of_assignments ms) (assignments_find T p ms xs c f)
   one_sees T ps l p at (await e) xs c f = sees_on T p (used e xs) (uses e) (used_finds T p e xs c f)
@@ -284,9 +273,8 @@ mutual
   one_sees T ps l p at (assert e) xs c f = sees_on T p (used e xs) (uses e) (used_finds T p e xs c f)
   one_sees T ps l p at skip xs c f = refl
   one_sees T ps l p at (branch e a b) xs c f =
-      let D = T.matters in
-      let h = or_clear (lists_have_one D (lists_in e)) (bound_in_body D a || bound_in_body D b) f in
-      let k = or_clear (bound_in_body D a) (bound_in_body D b) h.1 in
+      let h = none_of_both (has_one T.matters) (lists_in e) (lists_in_body a ++ lists_in_body b) f in
+      let k = none_of_both (has_one T.matters) (lists_in_body a) (lists_in_body b) h.1 in
       let F = jumps_use ps in
       let A = seen_in no_calls ps a (starting false (traced p)) in
       let B = seen_in no_calls ps b (starting false (traced p)) in
@@ -295,14 +283,14 @@ mutual
       (sees_both T (spots F false p a xs) (spots F false p b xs) A B (list_sees T ps false p a xs c k.0) (list_sees T ps false p b xs c k.1))
   one_sees T ps l p at (either bs) xs c f = some_sees T ps l p bs xs c f
   one_sees T ps l p at (with bs b) xs c f =
-      let d = or_clear (has_one T.matters (names_of_binds bs)) (bound_in_binds T.matters bs || bound_in_body T.matters b) f in
-      let h = or_clear (bound_in_binds T.matters bs) (bound_in_body T.matters b) d.1 in
+      let d = or_parts (has_one T.matters (names_of_binds bs)) (lists_have_one T.matters (lists_in_binds bs ++ lists_in_body b)) f in
+      let h = none_of_both (has_one T.matters) (lists_in_binds bs) (lists_in_body b) d.1 in
       let ys = words (names_of_binds bs) ++ xs in
       sees_both T (after_path p (used_by_binds bs xs)) (spots (jumps_use ps) false p b ys) (on_trail (traced p) (uses_of_binds bs)) (seen_in no_calls ps b (starting false (traced p)))
       (sees_on T p (used_by_binds bs xs) (uses_of_binds bs) (binds_find T p bs xs c d.0 h.0))
-      (list_sees T ps false p b ys (clear_both T (words (names_of_binds bs)) xs (clear_words T (names_of_binds bs) d.0) c) h.1)
+      (list_sees T ps false p b ys (none_together T.matters (words (names_of_binds bs)) xs (clear_words T (names_of_binds bs) d.0) c) h.1)
   one_sees T ps l p at (while e b) xs c f =
-      let h = or_clear (lists_have_one T.matters (lists_in e)) (bound_in_body T.matters b) f in
+      let h = none_of_both (has_one T.matters) (lists_in e) (lists_in_body b) f in
       let F = jumps_use ps in
       let r = after_one path.assigned (while e b) l p in
       sees_both T (after_path r (used e xs)) (spots F false r b xs) (on_trail (traced r) (uses e)) (seen_in no_calls ps b (starting false (traced r)))
@@ -317,21 +305,21 @@ mutual
       (finds_both T p (used_by_all ts xs) ns (uses_of_all ts) (map other ns) (parts_find T p [] ts xs c refl f) (others_find T p ns))
   one_sees T ps l p at return xs c f = refl
 
-  pub list_sees : (T : Test) (ps : List Procedure) (l : Bool) (p : Path) (b : Statements) (xs : List Word) → Clear T xs → bound_in_body T.matters b ≡ false
+  pub list_sees : (T : Test) (ps : List Procedure) (l : Bool) (p : Path) (b : Statements) (xs : List Word) → Clear T xs → Free T (lists_in_body b)
       → Sees T (spots (jumps_use ps) l p b xs) (seen_in no_calls ps b (starting l (traced p)))
   list_sees T ps l p done xs c f = refl
   list_sees T ps l p (then at st rest) xs c f =
-      let h = or_clear (bound_in_one T.matters st) (bound_in_body T.matters rest) f in
+      let h = none_of_both (has_one T.matters) (lists_in_one st) (lists_in_body rest) f in
       let r = after_one path.assigned st l p in
       sees_both T (spots_of_one (jumps_use ps) l p at.first st xs) (spots (jumps_use ps) false r rest xs) (one_seen no_calls ps at.first st (starting l (traced p))) (seen_in no_calls ps rest (starting false (traced r)))
       (one_sees T ps l p at.first st xs c h.0) (list_sees T ps false r rest xs c h.1)
       ∙ sym (λ i. list_any (passes (origin_test T)) (one_seen no_calls ps at.first st (starting l (traced p)) ++ seen_in no_calls ps rest (one_traced st l p i)))
   list_sees T ps l p (mark n k rest) xs c f = list_sees T ps true (Some []) rest xs c f
 
-  some_sees : (T : Test) (ps : List Procedure) (l : Bool) (p : Path) (bs : Branches) (xs : List Word) → Clear T xs → bound_in_branches T.matters bs ≡ false
+  some_sees : (T : Test) (ps : List Procedure) (l : Bool) (p : Path) (bs : Branches) (xs : List Word) → Clear T xs → Free T (lists_in_branches bs)
       → Sees T (spots_of_some (jumps_use ps) p bs xs) (seen_in_some no_calls ps bs (starting l (traced p)))
   some_sees T ps l p no_branches xs c f = refl
   some_sees T ps l p (or b bs) xs c f =
-      let h = or_clear (bound_in_body T.matters b) (bound_in_branches T.matters bs) f in
+      let h = none_of_both (has_one T.matters) (lists_in_body b) (lists_in_branches bs) f in
       sees_both T (spots (jumps_use ps) false p b xs) (spots_of_some (jumps_use ps) p bs xs) (seen_in no_calls ps b (starting false (traced p))) (seen_in_some no_calls ps bs (starting l (traced p)))
       (list_sees T ps false p b xs c h.0) (some_sees T ps l p bs xs c h.1)

@@ -3,11 +3,13 @@ use Rattle.std.proofs.Common.{◌≡◌, List, [], ◌∷◌, ◌++◌, Bool, tr
 use Rattle.std.specs.Option.{option_map}
 use Rattle.std.specs.List.{list_any, flat_map}
 use Rattle.std.proofs.Math.Bool.{or-false}
+use Rattle.std.proofs.lemmas.Bool.{or_parts}
 use Rattle.tla_token.specs.declared.rule.Rule.TheVariants.{DefinedStale}
 use Rattle.tla_token.specs.declared.rule.Refusal.{Refusal}
 use Rattle.tla_token.specs.Signs.{is_among}
 use Rattle.tla_expr.specs.Tree.{Word}
 use Rattle.pcal_tree.specs.Algorithm.{Name, Statements, Procedure, Main, alone, processes, Algorithm}
+use Rattle.pcal_tree.specs.BoundNames.{lists_in_body}
 use Rattle.pcal_tree.specs.Expand.{written_out, expanded}
 use Rattle.pcal_tree.specs.Offences.{offence_if, first}
 use Rattle.pcal_tree.specs.OffencesStale.{stands_for, stale_at, stale_in, stale_in_procedure, stale_in_process, stale_in_main, stale_offences_by, written_out_spots, stale_offences}
@@ -15,13 +17,13 @@ use Rattle.pcal_tree.specs.Paths.{Path, meets}
 use Rattle.pcal_tree.specs.Reads.{used, Reading, through, readings_of}
 use Rattle.pcal_tree.specs.Variables.{declared}
 use Rattle.pcal_tree.specs.laws.MacroSpots.{Use, Origin, earlier, assigned, Trail, seen_in, seen_in_call, macros_seen, starting, name_used, word_of, spot_of, spots_by_macros}
-use Rattle.pcal_tree.specs.laws.BoundDefinitions.{bound_in_body, may_be_stale, rebinds_in, rebinds_in_main, rebinds_definitions}
+use Rattle.pcal_tree.specs.laws.BoundDefinitions.{lists_have_one, may_be_stale, rebinds_in, rebinds_in_main, rebinds_definitions}
 use Rattle.pcal_tree.proofs.FirstLaws.{same_offences, same_first}
 use Rattle.pcal_tree.proofs.SelfByMacro.{turned}
 use Rattle.pcal_tree.proofs.SetLaws.{Same, same_both, any_flat, any_map, any_same, any_none, meets_any}
 use Rattle.pcal_tree.proofs.SpotCalls.{passes, met, seen_like}
 use Rattle.pcal_tree.proofs.SpotMacros.{any_turned, macros_like}
-use Rattle.pcal_tree.proofs.SpotsSeen.{Test, hit, hits, origin_test, or_clear, list_sees}
+use Rattle.pcal_tree.proofs.SpotsSeen.{Test, hit, hits, origin_test, list_sees}
 use Rattle.pcal_tree.proofs.UsesByMacro.{same_before}
 
 -- ---- one use
@@ -60,7 +62,7 @@ not_through (d ∷ ds) x e = by (bytes_eq d.title x) e (not_through ds x)
 stale_blind : (ds : List Reading) (ns : List Name) (f : Refusal → Bool) (y : Word) (n : Name) → is_among (codes "self" ∷ map (λ d. d.title) ds) n.word ≡ false
     → stale_test ds ns f y n ≡ false
 stale_blind ds ns f y n e =
-    let h = or_clear (bytes_eq (codes "self") n.word) (is_among (map (λ d. d.title) ds) n.word) e in
+    let h = or_parts (bytes_eq (codes "self") n.word) (is_among (map (λ d. d.title) ds) n.word) e in
     (λ i. list_any (λ k. is_among (through ds k.word) y && f (record { rule = DefinedStale; place = k.place })) (n ∷ cond (h.0 i) ns []))
     ∙ (λ i. (is_among (not_through ds n.word h.1 i) y && f (record { rule = DefinedStale; place = n.place })) || false)
 
@@ -111,7 +113,7 @@ body_same a ns xs b e f =
     let S = seen_in_call (macros_seen ps ms) in
     let start = starting false (Some []) in
     let seen = seen_in S ps b start in
-    let h = or_clear (list_any (may_be_stale a) xs) (bound_in_body (may_be_stale a) (expanded ms b)) e in
+    let h = or_parts (list_any (may_be_stale a) xs) (lists_have_one (may_be_stale a) (lists_in_body (expanded ms b))) e in
     any_flat f (stale_at ds ns) (written_out_spots a xs b)
     ∙ any_same (λ s. list_any f (stale_at ds ns s)) (hits T) (λ s. stale_hit a ns f s.path s.name) (written_out_spots a xs b)
     ∙ list_sees T ps false (Some []) (expanded ms b) xs h.0 h.1
@@ -127,7 +129,7 @@ each_same : {X : Type 0} (bad : X → Bool) (g h : X → List Refusal) → ((x :
     → Same (flat_map g xs) (flat_map h xs)
 each_same bad g h s [] e = λ f. refl
 each_same bad g h s (x ∷ xs) e =
-    let k = or_clear (bad x) (list_any bad xs) e in
+    let k = or_parts (bad x) (list_any bad xs) e in
     same_both (g x) (h x) (flat_map g xs) (flat_map h xs) (s x k.0) (each_same bad g h s xs k.1)
 
 main_same : (a : Algorithm) (m : Main) → rebinds_in_main a m ≡ false
@@ -140,7 +142,7 @@ main_same a (processes ps) e =
 pub stale_same : (a : Algorithm) → rebinds_definitions a ≡ false → Same (stale_offences a) (stale_offences_by (spots_by_macros a) a)
 stale_same a e =
     let bad : Procedure → Bool = λ p. rebinds_in a (declared (p.params ++ p.variables)) p.body in
-    let k = or_clear (list_any bad a.procedures) (rebinds_in_main a a.main) e in
+    let k = or_parts (list_any bad a.procedures) (rebinds_in_main a a.main) e in
     let ds = readings_of a in
     same_both (flat_map (stale_in_procedure (written_out_spots a) ds) a.procedures) (flat_map (stale_in_procedure (spots_by_macros a) ds) a.procedures)
     (stale_in_main (written_out_spots a) ds a.main) (stale_in_main (spots_by_macros a) ds a.main)

@@ -1,8 +1,7 @@
 -- Where no name is bound again and none that is declared or bound is reserved, no text binds the name of a definition, or `self`.
 use Rattle.std.proofs.Common.{◌≡◌, List, [], ◌∷◌, ◌++◌, Bool, true, false, ◌&&◌, ◌||◌, not, cond, bytes_eq, codes, reverse, map, refl, sym, ◌∙◌, ap, true≢false}
 use Rattle.std.specs.List.{list_any, flat_map}
-use Rattle.std.proofs.lemmas.Bool.{or_left, or_right}
-use Rattle.std.proofs.lemmas.List.Folds.{list_any-append}
+use Rattle.std.proofs.lemmas.Bool.{or_left, or_right, or_parts}
 use Rattle.std.proofs.lemmas.Slice.Eq.{bytes_eq-Decides}
 use Rattle.tla_token.specs.declared.place.Place.{Place}
 use Rattle.tla_token.specs.declared.rule.Rule.TheVariants.{Rebind, Reserved}
@@ -19,26 +18,19 @@ use Rattle.pcal_tree.specs.OffencesRebind.{stands_for, Standings, naming, in_sco
 use Rattle.pcal_tree.specs.OffencesReserved.{names_of_definition, names_of_macro, names_of_procedure, names_of_process, names_of_main, declared_names, all_labels, reserved_name, reserved_label, reserved_outside, reserved_declared}
 use Rattle.pcal_tree.specs.Reads.{readings, readings_of}
 use Rattle.pcal_tree.specs.Variables.{declared}
-use Rattle.pcal_tree.specs.laws.BoundDefinitions.{has_one, lists_have_one, bound_in_assignments, bound_in_binds, bound_in_one, bound_in_body, bound_in_branches, may_be_stale, bound_in_text, bound_in_main, binds_definitions}
-use Rattle.pcal_tree.proofs.BoundWrittenOut.{neither, any_reversed}
+use Rattle.pcal_tree.specs.laws.BoundDefinitions.{has_one, lists_have_one, may_be_stale, bound_in_text, bound_in_main, binds_definitions}
+use Rattle.pcal_tree.proofs.BoundWrittenOut.{bound_in_macro, any_reversed}
 use Rattle.pcal_tree.proofs.RebindNames.{scope_of_both}
-use Rattle.pcal_tree.proofs.SetLaws.{any_flat, any_map}
-use Rattle.pcal_tree.proofs.SpotsSeen.{or_clear}
+use Rattle.pcal_tree.proofs.SetLaws.{any_flat, any_map, neither, none_of_both, none_together}
 
 -- ---- no element passes a test
-
-pub none_of_both : {X : Type 0} (f : X → Bool) (xs ys : List X) → list_any f (xs ++ ys) ≡ false → (list_any f xs ≡ false) × (list_any f ys ≡ false)
-none_of_both f xs ys e = or_clear (list_any f xs) (list_any f ys) (sym (list_any-append f xs ys) ∙ e)
-
-none_of_all : {X : Type 0} (f : X → Bool) (xs ys : List X) → list_any f xs ≡ false → list_any f ys ≡ false → list_any f (xs ++ ys) ≡ false
-none_of_all f xs ys e h = list_any-append f xs ys ∙ neither e h
 
 none_in_each : {X Y : Type 0} (f : Y → Bool) (g : X → List Y) (t u bad : X → Bool) → ((x : X) → t x ≡ false → u x ≡ false → list_any f (g x) ≡ false → bad x ≡ false) → (xs : List X)
     → list_any t xs ≡ false → list_any u xs ≡ false → list_any f (flat_map g xs) ≡ false → list_any bad xs ≡ false
 none_in_each f g t u bad h [] e d q = refl
 none_in_each f g t u bad h (x ∷ xs) e d q =
-    let j = or_clear (t x) (list_any t xs) e in
-    let k = or_clear (u x) (list_any u xs) d in
+    let j = or_parts (t x) (list_any t xs) e in
+    let k = or_parts (u x) (list_any u xs) d in
     let p = none_of_both f (g x) (flat_map g xs) q in
     neither (h x j.0 k.0 p.0) (none_in_each f g t u bad h xs j.1 k.1 p.1)
 
@@ -81,7 +73,7 @@ module _ (extended : List Word) (D : Word → Bool) (f : Refusal → Bool) (told
   names_unbound : (ns : List Name) (s : Standings) → Holds s → has_one T ns ≡ false → Quiet (rebound_all extended s ns) → has_one D ns ≡ false
   names_unbound [] s h r q = refl
   names_unbound (n ∷ ns) s h r q =
-      let k = or_clear (T n.word) (has_one T ns) r in
+      let k = or_parts (T n.word) (has_one T ns) r in
       let p = none_of_both f (rebound extended s n) (rebound_all extended s ns) q in
       neither (name_unbound n s h k.0 p.0) (names_unbound ns s h k.1 p.1)
 
@@ -97,7 +89,7 @@ module _ (extended : List Word) (D : Word → Bool) (f : Refusal → Bool) (told
         let k = none_of_both (has_one T) (lists_of m) (lists_in_all ts) r in
         let p = none_of_both f (form_rebinds extended K s m) (parts_rebind extended K (seen_names m) ts s) q in
         let o = none_of_both f (rebound_all extended s (all_of (lists_of m))) (rebound_all extended s (put_in K s m)) p.0 in
-        none_of_all (has_one D) (lists_of m) (lists_in_all ts) (lists_unbound (lists_of m) s h k.0 o.0) (parts_unbound K (seen_names m) ts s h k.1 p.1)
+        none_together (has_one D) (lists_of m) (lists_in_all ts) (lists_unbound (lists_of m) s h k.0 o.0) (parts_unbound K (seen_names m) ts s h k.1 p.1)
 
     parts_unbound : (K : Word → Bool) (names : List (List Word)) (ts : Trees) (s : Standings) → Holds s → lists_have_one T (lists_in_all ts) ≡ false
         → Quiet (parts_rebind extended K names ts s) → lists_have_one D (lists_in_all ts) ≡ false
@@ -105,11 +97,11 @@ module _ (extended : List Word) (D : Word → Bool) (f : Refusal → Bool) (told
     parts_unbound K [] (tree t ts) s h r q =
         let k = none_of_both (has_one T) (lists_in t) (lists_in_all ts) r in
         let p = none_of_both f (tree_rebinds extended K t s) (parts_rebind extended K [] ts s) q in
-        none_of_all (has_one D) (lists_in t) (lists_in_all ts) (tree_unbound K t s h k.0 p.0) (parts_unbound K [] ts s h k.1 p.1)
+        none_together (has_one D) (lists_in t) (lists_in_all ts) (tree_unbound K t s h k.0 p.0) (parts_unbound K [] ts s h k.1 p.1)
     parts_unbound K (xs ∷ names) (tree t ts) s h r q =
         let k = none_of_both (has_one T) (lists_in t) (lists_in_all ts) r in
         let p = none_of_both f (tree_rebinds extended K t (naming xs s)) (parts_rebind extended K names ts s) q in
-        none_of_all (has_one D) (lists_in t) (lists_in_all ts) (tree_unbound K t (naming xs s) (naming_holds xs s h) k.0 p.0) (parts_unbound K names ts s h k.1 p.1)
+        none_together (has_one D) (lists_in t) (lists_in_all ts) (tree_unbound K t (naming xs s) (naming_holds xs s h) k.0 p.0) (parts_unbound K names ts s h k.1 p.1)
 
   whole_unbound : (t : Tree) (s : Standings) → Holds s → lists_have_one T (lists_in t) ≡ false → Quiet (whole_rebinds extended t s) → lists_have_one D (lists_in t) ≡ false
   whole_unbound t s h r q = tree_unbound any_name t s h r q
@@ -117,30 +109,31 @@ module _ (extended : List Word) (D : Word → Bool) (f : Refusal → Bool) (told
   -- ---- statements
 
   assignments_unbound : (ms : Assignments) (s : Standings) → Holds s → lists_have_one T (lists_in_assignments ms) ≡ false → Quiet (assignments_rebind extended ms s)
-      → bound_in_assignments D ms ≡ false
+      → lists_have_one D (lists_in_assignments ms) ≡ false
   assignments_unbound no_assignments s h r q = refl
   assignments_unbound (assignment l e ms) s h r q =
       let j = none_of_both (has_one T) (lists_in l) (lists_in e ++ lists_in_assignments ms) r in
       let k = none_of_both (has_one T) (lists_in e) (lists_in_assignments ms) j.1 in
       let o = none_of_both f (whole_rebinds extended l s) (whole_rebinds extended e s ++ assignments_rebind extended ms s) q in
       let p = none_of_both f (whole_rebinds extended e s) (assignments_rebind extended ms s) o.1 in
-      neither (whole_unbound l s h j.0 o.0) (neither (whole_unbound e s h k.0 p.0) (assignments_unbound ms s h k.1 p.1))
+      none_together (has_one D) (lists_in l) (lists_in e ++ lists_in_assignments ms) (whole_unbound l s h j.0 o.0)
+      (none_together (has_one D) (lists_in e) (lists_in_assignments ms) (whole_unbound e s h k.0 p.0) (assignments_unbound ms s h k.1 p.1))
 
-  binds_unbound : (bs : Binds) (s : Standings) → Holds s → lists_have_one T (lists_in_binds bs) ≡ false → Quiet (binds_rebind extended bs s) → bound_in_binds D bs ≡ false
+  binds_unbound : (bs : Binds) (s : Standings) → Holds s → lists_have_one T (lists_in_binds bs) ≡ false → Quiet (binds_rebind extended bs s) → lists_have_one D (lists_in_binds bs) ≡ false
   binds_unbound no_binds s h r q = refl
   binds_unbound (one_of x e bs) s h r q =
       let k = none_of_both (has_one T) (lists_in e) (lists_in_binds bs) r in
       let p = none_of_both f (whole_rebinds extended e s) (binds_rebind extended bs (naming (x.word ∷ []) s)) q in
-      neither (whole_unbound e s h k.0 p.0) (binds_unbound bs (naming (x.word ∷ []) s) (naming_holds (x.word ∷ []) s h) k.1 p.1)
+      none_together (has_one D) (lists_in e) (lists_in_binds bs) (whole_unbound e s h k.0 p.0) (binds_unbound bs (naming (x.word ∷ []) s) (naming_holds (x.word ∷ []) s h) k.1 p.1)
   binds_unbound (is x e bs) s h r q =
       let k = none_of_both (has_one T) (lists_in e) (lists_in_binds bs) r in
       let p = none_of_both f (whole_rebinds extended e s) (binds_rebind extended bs (naming (x.word ∷ []) s)) q in
-      neither (whole_unbound e s h k.0 p.0) (binds_unbound bs (naming (x.word ∷ []) s) (naming_holds (x.word ∷ []) s h) k.1 p.1)
+      none_together (has_one D) (lists_in e) (lists_in_binds bs) (whole_unbound e s h k.0 p.0) (binds_unbound bs (naming (x.word ∷ []) s) (naming_holds (x.word ∷ []) s h) k.1 p.1)
 
   module _ (ps : List Procedure) where
     mutual
       one_unbound : (C : Calls) (st : Statement) (s : Standings) → Holds s → lists_have_one T (lists_in_one st) ≡ false → Quiet (one_rebinds extended ps C st s)
-          → bound_in_one D st ≡ false
+          → lists_have_one D (lists_in_one st) ≡ false
       one_unbound C (assign ms) s h r q = assignments_unbound ms s h r q
       one_unbound C (await e) s h r q = whole_unbound e s h r q
       one_unbound C (print e) s h r q = whole_unbound e s h r q
@@ -153,21 +146,22 @@ module _ (extended : List Word) (D : Word → Bool) (f : Refusal → Bool) (told
           let B = body_rebinds extended ps C b s in
           let o = none_of_both f (whole_rebinds extended e s) (A ++ B) q in
           let p = none_of_both f A B o.1 in
-          neither (whole_unbound e s h j.0 o.0) (neither (body_unbound C a s h k.0 p.0) (body_unbound C b s h k.1 p.1))
+          none_together (has_one D) (lists_in e) (lists_in_body a ++ lists_in_body b) (whole_unbound e s h j.0 o.0)
+          (none_together (has_one D) (lists_in_body a) (lists_in_body b) (body_unbound C a s h k.0 p.0) (body_unbound C b s h k.1 p.1))
       one_unbound C (either bs) s h r q = branches_unbound C bs s h r q
       one_unbound C (with bs b) s h r q =
           let ns = names_of_binds bs in
-          let j = or_clear (has_one T ns) (lists_have_one T (lists_in_binds bs ++ lists_in_body b)) r in
+          let j = or_parts (has_one T ns) (lists_have_one T (lists_in_binds bs ++ lists_in_body b)) r in
           let k = none_of_both (has_one T) (lists_in_binds bs) (lists_in_body b) j.1 in
           let B = body_rebinds extended ps C b (naming (words ns) s) in
           let o = none_of_both f (rebound_all extended s ns) (binds_rebind extended bs s ++ B) q in
           let p = none_of_both f (binds_rebind extended bs s) B o.1 in
           neither (names_unbound ns s h j.0 o.0)
-          (neither (binds_unbound bs s h k.0 p.0) (body_unbound C b (naming (words ns) s) (naming_holds (words ns) s h) k.1 p.1))
+          (none_together (has_one D) (lists_in_binds bs) (lists_in_body b) (binds_unbound bs s h k.0 p.0) (body_unbound C b (naming (words ns) s) (naming_holds (words ns) s h) k.1 p.1))
       one_unbound C (while e b) s h r q =
           let k = none_of_both (has_one T) (lists_in e) (lists_in_body b) r in
           let p = none_of_both f (whole_rebinds extended e s) (body_rebinds extended ps C b s) q in
-          neither (whole_unbound e s h k.0 p.0) (body_unbound C b s h k.1 p.1)
+          none_together (has_one D) (lists_in e) (lists_in_body b) (whole_unbound e s h k.0 p.0) (body_unbound C b s h k.1 p.1)
       one_unbound C (goto l) s h r q = refl
       one_unbound C (macro m ts) s h r q =
           parts_unbound any_name [] ts s h r (none_of_both f (C s m ts) (each_rebinds extended ts s) q).1
@@ -177,32 +171,32 @@ module _ (extended : List Word) (D : Word → Bool) (f : Refusal → Bool) (told
       one_unbound C return s h r q = refl
 
       body_unbound : (C : Calls) (b : Statements) (s : Standings) → Holds s → lists_have_one T (lists_in_body b) ≡ false → Quiet (body_rebinds extended ps C b s)
-          → bound_in_body D b ≡ false
+          → lists_have_one D (lists_in_body b) ≡ false
       body_unbound C done s h r q = refl
       body_unbound C (then at st rest) s h r q =
           let k = none_of_both (has_one T) (lists_in_one st) (lists_in_body rest) r in
           let p = none_of_both f (one_rebinds extended ps C st s) (body_rebinds extended ps C rest s) q in
-          neither (one_unbound C st s h k.0 p.0) (body_unbound C rest s h k.1 p.1)
+          none_together (has_one D) (lists_in_one st) (lists_in_body rest) (one_unbound C st s h k.0 p.0) (body_unbound C rest s h k.1 p.1)
       body_unbound C (mark l k rest) s h r q = body_unbound C rest s h r q
 
       branches_unbound : (C : Calls) (bs : Branches) (s : Standings) → Holds s → lists_have_one T (lists_in_branches bs) ≡ false → Quiet (branches_rebind extended ps C bs s)
-          → bound_in_branches D bs ≡ false
+          → lists_have_one D (lists_in_branches bs) ≡ false
       branches_unbound C no_branches s h r q = refl
       branches_unbound C (or b bs) s h r q =
           let k = none_of_both (has_one T) (lists_in_body b) (lists_in_branches bs) r in
           let p = none_of_both f (body_rebinds extended ps C b s) (branches_rebind extended ps C bs s) q in
-          neither (body_unbound C b s h k.0 p.0) (branches_unbound C bs s h k.1 p.1)
+          none_together (has_one D) (lists_in_body b) (lists_in_branches bs) (body_unbound C b s h k.0 p.0) (branches_unbound C bs s h k.1 p.1)
 
     -- ---- macros, procedures, processes, where s is around them
 
     module _ (s : Standings) (h : Holds s) where
-      texts_unbound : (C : CallsAmong) (ms : List Macro) → list_any (λ d. lists_have_one T (lists_in_body d.body)) ms ≡ false → Quiet (texts_rebind extended ps C s ms)
-          → list_any (λ d. bound_in_body D d.body) ms ≡ false
+      texts_unbound : (C : CallsAmong) (ms : List Macro) → list_any (bound_in_macro T) ms ≡ false → Quiet (texts_rebind extended ps C s ms)
+          → list_any (bound_in_macro D) ms ≡ false
       texts_unbound C [] r q = refl
       texts_unbound C (d ∷ older) r q =
           let inner = naming (words d.params) s in
           let B = body_rebinds extended ps (C older) d.body inner in
-          let k = or_clear (lists_have_one T (lists_in_body d.body)) (list_any (λ d. lists_have_one T (lists_in_body d.body)) older) r in
+          let k = or_parts (bound_in_macro T d) (list_any (bound_in_macro T) older) r in
           let o = none_of_both f (rebound_all extended s d.params ++ B) (texts_rebind extended ps C s older) q in
           let p = none_of_both f (rebound_all extended s d.params) B o.0 in
           neither (body_unbound (C older) d.body inner (naming_holds (words d.params) s h) k.0 p.1) (texts_unbound C older k.1 o.1)
@@ -219,7 +213,7 @@ module _ (extended : List Word) (D : Word → Bool) (f : Refusal → Bool) (told
           → Quiet (procedure_rebinds extended ps C s p) → bound_in_text D (declared (p.params ++ p.variables)) p.body ≡ false
       procedure_unbound C p n r q =
           let ds = p.params ++ p.variables in
-          let j = or_clear (T p.name.word) (has_one T (names_of ds)) n in
+          let j = or_parts (T p.name.word) (has_one T (names_of ds)) n in
           let k = none_of_both (has_one T) (lists_in_declared ds) (lists_in_body p.body) r in
           text_unbound C ds p.body (naming (declared ds) s) (naming_holds (declared ds) s h) j.1 k.1 q
 
@@ -238,7 +232,7 @@ module _ (extended : List Word) (D : Word → Bool) (f : Refusal → Bool) (told
       process_unbound C p n r q =
           let inner = in_process_body p s in
           let B = body_rebinds extended ps C p.body inner in
-          let j = or_clear (T p.name.word) (has_one T (names_of p.variables)) n in
+          let j = or_parts (T p.name.word) (has_one T (names_of p.variables)) n in
           let k = none_of_both (has_one T) (lists_in p.identity) (lists_in_declared p.variables ++ lists_in_body p.body) r in
           let l = none_of_both (has_one T) (lists_in_declared p.variables) (lists_in_body p.body) k.1 in
           let o = none_of_both f (whole_rebinds extended p.identity s) (locals_rebind extended p.variables s ++ B) q in
@@ -338,8 +332,6 @@ unbound_by_rules f rebinds reserves a o q e =
     let q2 = none_of_both f before (texts ++ (in_procedures ++ here)) q1.1 in
     let q3 = none_of_both f texts (in_procedures ++ here) q2.1 in
     let q4 = none_of_both f in_procedures here q3.1 in
-    let free_in : Macro → Bool = λ d. lists_have_one T (lists_in_body d.body) in
-    let bound_in : Macro → Bool = λ d. bound_in_body D d.body in
-    let macros_free = any_reversed free_in a.macros ∙ sym (any_flat (has_one T) (λ (d : Macro). lists_in_body d.body) a.macros) ∙ l3.0 in
-    neither (sym (any_reversed bound_in a.macros) ∙ texts_unbound o.extended D f rebinds ps s h C ms macros_free q3.0)
+    let macros_free = any_reversed (bound_in_macro T) a.macros ∙ sym (any_flat (has_one T) (λ (d : Macro). lists_in_body d.body) a.macros) ∙ l3.0 in
+    neither (sym (any_reversed (bound_in_macro D) a.macros) ∙ texts_unbound o.extended D f rebinds ps s h C ms macros_free q3.0)
     (neither (procedures_unbound o.extended D f rebinds ps s h (C ms) ps n4.0 l4.0 q4.0) (main_unbound o.extended D f rebinds ps s h (C ms) a.main n5.0 l4.1 q4.1))
