@@ -257,13 +257,13 @@ abbrev pub brace_rest : Readers → ℕ → Place → Phrase → Place → Token
 brace_rest r e p a q (tk.mark tk.colon) = skip (image_rest r e p a q)
 brace_rest r e p a q k = set_rest r e p a q k
 
--- a phrase that fits, or else it is too deep
+-- if a phrase fits, and else it is too deep
 abbrev pub if_fits : {A : Type 0} → Bool → Reader A → Reader A
 if_fits true f = f
 if_fits false f = too_deep
 
 abbrev pub set_from : Room → Readers → ℕ → Place → Option Phrase → Reader Phrase
-set_from m r e p (Some a) = if_fits (m.fits 0 a) (peek e (set_rest r e p a))
+set_from m r e p (Some a) = peek e (λ q k. if_fits (m.fits 0 a || not (is_mark tk.comma k || is_mark tk.close_brace k)) (set_rest r e p a q k))
 set_from m r e p None = refuses
 
 -- after `{x \in S`
@@ -300,7 +300,7 @@ square_rest r e p a q (tk.key tk.except_key) = skip (r.settings e >>= λ ss. end
 square_rest r e p a q k = refuses
 
 abbrev pub square_from : Room → Readers → ℕ → Place → Option Phrase → Reader Phrase
-square_from m r e p (Some a) = if_fits (m.fits 0 a) (peek e (square_rest r e p a))
+square_from m r e p (Some a) = peek e (λ q k. if_fits (m.fits 0 a || not (is_mark tk.arrow k || is_key tk.except_key k)) (square_rest r e p a q k))
 square_from m r e p None = refuses
 
 -- after `x \in S`
