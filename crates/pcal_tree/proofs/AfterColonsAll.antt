@@ -183,14 +183,14 @@ at_least zero m = omega arith
 at_least (suc k) m = (let h = at_least k m in omega arith)
 
 -- where reading leaves what can't come after an expression there is none
-no_expression : (k : ℕ) (ts : List Token) → ((m : ℕ) → stops_after ((readers (steps_and k m)).expr 0 free ts) ≡ false) → Expression ts → ⊥
+no_expression : (k : ℕ) (ts : List Token) → ((m : ℕ) → stops_after ((readers (steps_and k m) None).expr 0 free ts) ≡ false) → Expression ts → ⊥
 no_expression k ts h (a, rest, good, s, same) =
     let n = steps_and k (steps a + 3) in
     let read = closed a (reads a) 0 good rest (calm rest s) n (at_least k (steps a + 3)) in
-    let so : true ≡ false = sym s ∙ sym (ap stops_after read) ∙ ap (λ (us : List Token). stops_after ((readers n).expr 0 free us)) same ∙ h (steps a + 3) in
+    let so : true ≡ false = sym s ∙ sym (ap stops_after read) ∙ ap (λ (us : List Token). stops_after ((readers n None).expr 0 free us)) same ∙ h (steps a + 3) in
     absurd cc
 
-pub no_expression_begins : (k : ℕ) (ts us : List Token) → ((more : List Token) → Sound (ts ++ more) → Expression (us ++ more)) → ((m : ℕ) (more : List Token) → stops_after ((readers (steps_and k m)).expr 0 free (us ++ more)) ≡ false) → Begins (algorithms p_syntax) (map Some (looks ts)) → ⊥
+pub no_expression_begins : (k : ℕ) (ts us : List Token) → ((more : List Token) → Sound (ts ++ more) → Expression (us ++ more)) → ((m : ℕ) (more : List Token) → stops_after ((readers (steps_and k m) None).expr 0 free (us ++ more)) ≡ false) → Begins (algorithms p_syntax) (map Some (looks ts)) → ⊥
 no_expression_begins k ts us f h b =
     let x = begun p_syntax ts b in
     no_expression k (us ++ x.1) (λ m. h m x.1) (f x.1 (subst (λ (vs : List Token). Sound vs) x.3 (all_sound x.0 x.2)))

@@ -7,7 +7,7 @@ use Rattle.tla_expr.specs.Reader.{Out, Reader, then_read, ◌>>=◌, gives, refu
 
 abbrev pub rest_of : {A : Type 0} → Out A → List Token
 rest_of (Ok x) = x.1
-rest_of (Err u) = u
+rest_of (Err u) = u.1
 
 -- what was left lies within r
 abbrev pub Within : {A : Type 0} → List Token → Out A → Type 0
@@ -16,7 +16,7 @@ Within r o = (x : List Token) × (r ≡ x ++ rest_of o)
 -- two runs that stopped at the same token t or before it, with no more before it than k
 abbrev pub Stopped : {A : Type 0} → List Token → Token → List Token → List Token → Out A → Out A → Type 0
 Stopped k t r s (Ok x) o = (j : List Token) × (length j ≤ length k) × (x.1 ≡ j ++ t ∷ r) × (o ≡ Ok (x.0, j ++ t ∷ s))
-Stopped k t r s (Err u) o = (j : List Token) × (length j ≤ length k) × (u ≡ j ++ t ∷ r) × (o ≡ Err (j ++ t ∷ s))
+Stopped k t r s (Err u) o = (j : List Token) × (length j ≤ length k) × (u.1 ≡ j ++ t ∷ r) × (o ≡ Err (u.0, j ++ t ∷ s))
 
 -- or both are past it
 abbrev pub Alike : {A : Type 0} → List Token → Token → List Token → List Token → Out A → Out A → Type 0

@@ -7,10 +7,11 @@ use Rattle.tla_expr.specs.declared.op.Op.{Op}
 use Rattle.tla_expr.specs.declared.op.Op.TheVariants as op
 use Rattle.tla_expr.specs.Tree.{Word}
 use Rattle.tla_expr.specs.Rank.{is_bullet}
+use Rattle.tla_token.specs.declared.rule.Rule.{Rule}
 use Rattle.tla_expr.specs.Lexical.{Mark, Key, TokenView, Token, token}
 use Rattle.tla_expr.specs.Lexical as tk
 use Rattle.tla_expr.specs.Spelling.{Field, Phrase, call, apply, select, infix_of, last, more, Binds, bind, last_field, field, setting, Path, path_end, index, at_field, Bullets, last_bullet, bullet, last_arm, Locals, more_locals, can_be_head, is_some_path, takes_box, Good, spell}
-use Rattle.tla_expr.specs.Reader.{Out, Reader, then_read, ◌>>=◌, gives, next, peek, took, is_mark, is_key, is_sign, place_if, a_mark, a_key, a_sign, word_of, field_of, a_word, a_field, bullet_of, Context, free, right_of, under, bound, is_free, prefix_by, goes_on, element, Readers, ended, named, from_name, set_rest, image_rest, brace_rest, set_from, member_rest, brace_name, braces, tuples, field_rest, function_rest, square_rest, square_from, bind_rest, square_member, plain_field, square_name, squares, list_if, primary, quantifier, choice_from, keyed, under_by, signed, operand, short_signed, short_by, apply_if, select_if, postfix_by, climb_if, climb_by, phrases_by, binds_by, fields_by, settings_by, setting_if, path_by, bullets_if, arms_other, arms_if, arms_by, locals_by, one_step, readers, read}
+use Rattle.tla_expr.specs.Reader.{Stop, any, Out, Reader, then_read, ◌>>=◌, gives, next, peek, took, is_mark, is_key, is_sign, place_if, a_mark, a_key, a_sign, word_of, field_of, a_word, a_field, bullet_of, Context, free, right_of, under, bound, is_free, prefix_by, goes_on, element, Readers, ended, named, from_name, set_rest, image_rest, brace_rest, set_from, member_rest, brace_name, braces, tuples, field_rest, function_rest, square_rest, square_from, bind_rest, square_member, plain_field, square_name, squares, list_if, primary, quantifier, choice_from, keyed, under_by, signed, operand, short_signed, short_by, apply_if, select_if, postfix_by, climb_if, climb_by, phrases_by, binds_by, fields_by, settings_by, setting_if, path_by, bullets_if, arms_other, arms_if, arms_by, locals_by, one_step, readers, read}
 use Rattle.tla_expr.proofs.Alike.{Within, IsFair, fair_gives, right_then}
 use Rattle.tla_expr.proofs.AlikeSteps.{AreFair, fair_readers}
 use Rattle.tla_expr.proofs.AlikeEnds.{GoesOn, Ends, less, ends_gives, ends_refuses, ends_skip, Settles, ends_peek, ends_bind, ends_take, Shut, shut_on, shut_then, shut_first}
@@ -42,13 +43,13 @@ pub record Shuts (r : Readers) : Type 0 where
   pub phrases : (e : ℕ) → Shut (r.phrases e)
   pub arms : (e : ℕ) → Shut (r.arms e)
 
-shuts : (n : ℕ) → Shuts (readers n)
+shuts : (n : ℕ) → Shuts (readers n None)
 unfolding readers
 shuts zero = record { expr = λ e c x o. absurd cc; phrases = λ e x o. absurd cc; arms = λ e x o. absurd cc }
 shuts (suc n) = record {
   expr = λ e c x o. absurd cc;
-  phrases = λ e. shut_first ((readers n).expr e free) _ ((shuts n).expr e free);
-  arms = λ e. shut_first ((readers n).expr e free) _ ((shuts n).expr e free);
+  phrases = λ e. shut_first ((readers n None).expr e free) _ ((shuts n).expr e free);
+  arms = λ e. shut_first ((readers n None).expr e free) _ ((shuts n).expr e free);
 }
 
 took_past : {A B : Type 0} (o : Option A) (x : A) (f : A → Reader B) → o ≡ Some x → ((ts : List Token) → Within ts (f x ts)) → (t : Token) (ts : List Token) → Within ts (then_read (took o (t ∷ ts)) f)
@@ -99,19 +100,19 @@ module _ (n : ℕ) (r q : Readers) (shut : Shuts r) (h : AreEnding n r q) where
   ends e m f = on_mark l0 e m (λ p. ends_gives)
 
   -- ---- names
-  on_named : (e : ℕ) (p : Place) (x : Word) (s : Place) (k : TokenView) → Ends n (named r e p x s k) (named q e p x s k)
+  on_named : (e : ℕ) (p : Place) (x : Word) (s : Place) (k : TokenView) → Ends n (named (any r) e p x s k) (named (any q) e p x s k)
   on_named e p x s (tk.mark tk.open_bracket) = ends_skip l0 (ends_bind (h.phrases e) (λ xs. ends e tk.close_bracket _))
   on_named e p x s (tk.mark tk.prime) = ends_skip l0 ends_gives
   on_named e p x s k = ends_gives
 
-  settles_named : (e : ℕ) (p : Place) (x : Word) → Settles n e (named r e p x) (named q e p x)
+  settles_named : (e : ℕ) (p : Place) (x : Word) → Settles n e (named (any r) e p x) (named (any q) e p x)
   settles_named e p x l t ts s (tk.mark tk.open_bracket) i =
       let g : Ends n (r.phrases e >>= λ xs. ended e tk.close_bracket (λ j. call p x s xs j)) (q.phrases e >>= λ xs. ended e tk.close_bracket (λ j. call p x s xs j)) = ends_bind (h.phrases e) (λ xs. ends e tk.close_bracket (λ j. call p x s xs j)) in
       inr (refl, g.fair.right ts)
   settles_named e p x l t ts s (tk.mark tk.prime) i = inr (refl, ([], refl))
   settles_named e p x l t ts s k i = inl refl
 
-  on_from : (e : ℕ) (p : Place) (x : Word) → Ends n (from_name r e p x) (from_name q e p x)
+  on_from : (e : ℕ) (p : Place) (x : Word) → Ends n (from_name (any r) r e p x) (from_name (any q) q e p x)
   on_from e p x = ends_bind (ends_peek e (on_named e p x) (settles_named e p x)) (λ a. postfix e a)
 
   -- ---- braces
@@ -126,31 +127,31 @@ module _ (n : ℕ) (r q : Readers) (shut : Shuts r) (h : AreEnding n r q) where
   on_brace e p a s (tk.mark tk.colon) = ends_skip l0 (on_image e p a s)
   on_brace e p a s k = on_set e p a s k
 
-  on_set_from : (e : ℕ) (p : Place) (a : Option Phrase) → Ends n (set_from r e p a) (set_from q e p a)
+  on_set_from : (e : ℕ) (p : Place) (a : Option Phrase) → Ends n (set_from (any r) r e p a) (set_from (any q) q e p a)
   on_set_from e p (Some a) = ends_peek e (on_set e p a) (λ l t ts j k i. tt)
   on_set_from e p None = ends_refuses
 
-  settles_member : (e : ℕ) (p s : Place) (x : Word) (t : Place) (a : Phrase) → Settles n e (member_rest r e p s x t a) (member_rest q e p s x t a)
-  settles_member e p s x t a l u ts j k i = shut_on (set_from r e p (element s x t a)) (none_set e p (element s x t a)) u ts (member_rest q e p s x t a j k (u ∷ ts))
+  settles_member : (e : ℕ) (p s : Place) (x : Word) (t : Place) (a : Phrase) → Settles n e (member_rest (any r) r e p s x t a) (member_rest (any q) q e p s x t a)
+  settles_member e p s x t a l u ts j k i = shut_on (set_from (any r) r e p (element s x t a)) (none_set e p (element s x t a)) u ts (member_rest (any q) q e p s x t a j k (u ∷ ts))
     where
-      none_set : (e : ℕ) (p : Place) (b : Option Phrase) → Shut (set_from r e p b)
+      none_set : (e : ℕ) (p : Place) (b : Option Phrase) → Shut (set_from (any r) r e p b)
       none_set e p (Some b) x o = absurd cc
       none_set e p None x o = absurd cc
 
-  on_member : (e : ℕ) (p s : Place) (x : Word) (t : Place) (a : Phrase) (u : Place) (k : TokenView) → Ends n (member_rest r e p s x t a u k) (member_rest q e p s x t a u k)
+  on_member : (e : ℕ) (p s : Place) (x : Word) (t : Place) (a : Phrase) (u : Place) (k : TokenView) → Ends n (member_rest (any r) r e p s x t a u k) (member_rest (any q) q e p s x t a u k)
   on_member e p s x t a u (tk.mark tk.colon) = ends_skip l0 (ends_bind (expr e free) (λ b. ends e tk.close_brace _))
   on_member e p s x t a u k = on_set_from e p (element s x t a)
 
-  shut_brace_name : (e : ℕ) (p s : Place) (x : Word) → Shut (brace_name r e p s x nowhere (tk.other []))
-  shut_brace_name e p s x = shut_then (from_name r e s x) _ (on_from e s x).fair.left (λ a. shut_then (r.climb e 0 a) _ (h.climb e 0 a).fair.left (λ b y o. absurd cc))
+  shut_brace_name : (e : ℕ) (p s : Place) (x : Word) → Shut (brace_name (any r) r e p s x nowhere (tk.other []))
+  shut_brace_name e p s x = shut_then (from_name (any r) r e s x) _ (on_from e s x).fair.left (λ a. shut_then (r.climb e 0 a) _ (h.climb e 0 a).fair.left (λ b y o. absurd cc))
 
-  on_brace_name : (e : ℕ) (p s : Place) (x : Word) (t : Place) (k : TokenView) → Ends n (brace_name r e p s x t k) (brace_name q e p s x t k)
+  on_brace_name : (e : ℕ) (p s : Place) (x : Word) (t : Place) (k : TokenView) → Ends n (brace_name (any r) r e p s x t k) (brace_name (any q) q e p s x t k)
   on_brace_name e p s x t (tk.sign op.In) = ends_skip l0 (ends_bind (expr e free) (λ a. ends_peek e (on_member e p s x t a) (settles_member e p s x t a)))
   on_brace_name e p s x t k = ends_bind (on_from e s x) (λ a. ends_bind (climb e 0 a) (λ b. ends_peek e (on_brace e p b) (λ l t ts j k i. tt)))
 
-  on_braces : (e : ℕ) (p s : Place) (k : TokenView) → Ends n (braces r e p s k) (braces q e p s k)
+  on_braces : (e : ℕ) (p s : Place) (k : TokenView) → Ends n (braces (any r) r e p s k) (braces (any q) q e p s k)
   on_braces e p s (tk.mark tk.close_brace) = ends_skip l0 ends_gives
-  on_braces e p s (tk.word x) = ends_skip l0 (ends_peek e (on_brace_name e p s x) (λ l t ts j k i. shut_on (brace_name r e p s x nowhere (tk.other [])) (shut_brace_name e p s x) t ts (brace_name q e p s x j k (t ∷ ts))))
+  on_braces e p s (tk.word x) = ends_skip l0 (ends_peek e (on_brace_name e p s x) (λ l t ts j k i. shut_on (brace_name (any r) r e p s x nowhere (tk.other [])) (shut_brace_name e p s x) t ts (brace_name (any q) q e p s x j k (t ∷ ts))))
   on_braces e p s k = ends_bind (expr e free) (λ a. ends_peek e (on_brace e p a) (λ l t ts j k i. tt))
 
   -- ---- tuples
@@ -172,7 +173,7 @@ module _ (n : ℕ) (r q : Readers) (shut : Shuts r) (h : AreEnding n r q) where
   on_square e p a s (tk.key tk.except_key) = ends_skip l0 (ends_bind (h.settings e) (λ ss. ends e tk.close_square _))
   on_square e p a s k = ends_refuses
 
-  on_square_from : (e : ℕ) (p : Place) (a : Option Phrase) → Ends n (square_from r e p a) (square_from q e p a)
+  on_square_from : (e : ℕ) (p : Place) (a : Option Phrase) → Ends n (square_from (any r) r e p a) (square_from (any q) q e p a)
   on_square_from e p (Some a) = ends_peek e (on_square e p a) (λ l t ts j k i. tt)
   on_square_from e p None = ends_refuses
 
@@ -186,31 +187,31 @@ module _ (n : ℕ) (r q : Readers) (shut : Shuts r) (h : AreEnding n r q) where
   on_bind_rest e p x s a t (tk.mark tk.comma) = ends_skip l0 (on_word l0 e (λ y. ends_bind (h.binds e y.0 y.1) (λ bs. ends_gives)))
   on_bind_rest e p x s a t k = ends_gives
 
-  settles_square_member : (e : ℕ) (p s : Place) (x : Word) (t : Place) (a : Phrase) → Settles n e (square_member r e p s x t a) (square_member q e p s x t a)
-  settles_square_member e p s x t a l u ts j k i = shut_on (square_from r e p (element s x t a)) (none_square e p (element s x t a)) u ts (square_member q e p s x t a j k (u ∷ ts))
+  settles_square_member : (e : ℕ) (p s : Place) (x : Word) (t : Place) (a : Phrase) → Settles n e (square_member (any r) r e p s x t a) (square_member (any q) q e p s x t a)
+  settles_square_member e p s x t a l u ts j k i = shut_on (square_from (any r) r e p (element s x t a)) (none_square e p (element s x t a)) u ts (square_member (any q) q e p s x t a j k (u ∷ ts))
     where
-      none_square : (e : ℕ) (p : Place) (b : Option Phrase) → Shut (square_from r e p b)
+      none_square : (e : ℕ) (p : Place) (b : Option Phrase) → Shut (square_from (any r) r e p b)
       none_square e p (Some b) x o = absurd cc
       none_square e p None x o = absurd cc
 
-  on_square_member : (e : ℕ) (p s : Place) (x : Word) (t : Place) (a : Phrase) (u : Place) (k : TokenView) → Ends n (square_member r e p s x t a u k) (square_member q e p s x t a u k)
+  on_square_member : (e : ℕ) (p s : Place) (x : Word) (t : Place) (a : Phrase) (u : Place) (k : TokenView) → Ends n (square_member (any r) r e p s x t a u k) (square_member (any q) q e p s x t a u k)
   on_square_member e p s x t a u (tk.mark tk.maps) = on_function e p _
   on_square_member e p s x t a u (tk.mark tk.comma) = ends_bind (ends_peek e (on_bind_rest e s x t a) (settles_bind e s x t a)) (λ bs. on_function e p bs)
   on_square_member e p s x t a u k = on_square_from e p (element s x t a)
 
-  shut_square_name : (e : ℕ) (p s : Place) (x : Word) → Shut (square_name r e p s x nowhere (tk.other []))
-  shut_square_name e p s x = shut_then (from_name r e s x) _ (on_from e s x).fair.left (λ a. shut_then (r.climb e 0 a) _ (h.climb e 0 a).fair.left (λ b y o. absurd cc))
+  shut_square_name : (e : ℕ) (p s : Place) (x : Word) → Shut (square_name (any r) r e p s x nowhere (tk.other []))
+  shut_square_name e p s x = shut_then (from_name (any r) r e s x) _ (on_from e s x).fair.left (λ a. shut_then (r.climb e 0 a) _ (h.climb e 0 a).fair.left (λ b y o. absurd cc))
 
-  on_square_name : (e : ℕ) (p s : Place) (x : Word) (t : Place) (k : TokenView) → Ends n (square_name r e p s x t k) (square_name q e p s x t k)
+  on_square_name : (e : ℕ) (p s : Place) (x : Word) (t : Place) (k : TokenView) → Ends n (square_name (any r) r e p s x t k) (square_name (any q) q e p s x t k)
   on_square_name e p s x t (tk.mark tk.maps) = on_in_fields e p (plain_field s x) t (tk.mark tk.maps)
   on_square_name e p s x t (tk.mark tk.colon) = on_in_fields e p (plain_field s x) t (tk.mark tk.colon)
   on_square_name e p s x t (tk.mark tk.comma) = ends_bind (h.binds e s x) (λ bs. on_function e p bs)
   on_square_name e p s x t (tk.sign op.In) = ends_skip l0 (ends_bind (expr e free) (λ a. ends_peek e (on_square_member e p s x t a) (settles_square_member e p s x t a)))
   on_square_name e p s x t k = ends_bind (on_from e s x) (λ a. ends_bind (climb e 0 a) (λ b. ends_peek e (on_square e p b) (λ l t ts j k i. tt)))
 
-  on_squares : (e : ℕ) (p s : Place) (k : TokenView) → Ends n (squares r e p s k) (squares q e p s k)
+  on_squares : (e : ℕ) (p s : Place) (k : TokenView) → Ends n (squares (any r) r e p s k) (squares (any q) q e p s k)
   on_squares e p s (tk.reserved x) = ends_skip l0 (ends_peek e (on_in_fields e p (record { place = s; is_reserved = true; text = x })) (λ l t ts j k i. tt))
-  on_squares e p s (tk.word x) = ends_skip l0 (ends_peek e (on_square_name e p s x) (λ l t ts j k i. shut_on (square_name r e p s x nowhere (tk.other [])) (shut_square_name e p s x) t ts (square_name q e p s x j k (t ∷ ts))))
+  on_squares e p s (tk.word x) = ends_skip l0 (ends_peek e (on_square_name e p s x) (λ l t ts j k i. shut_on (square_name (any r) r e p s x nowhere (tk.other [])) (shut_square_name e p s x) t ts (square_name (any q) q e p s x j k (t ∷ ts))))
   on_squares e p s k = ends_bind (expr e free) (λ a. ends_peek e (on_square e p a) (λ l t ts j k i. tt))
 
   -- ---- primaries
@@ -218,15 +219,15 @@ module _ (n : ℕ) (r q : Readers) (shut : Shuts r) (h : AreEnding n r q) where
   on_list true e p o = ends_bind (h.bullets e o p.col) (λ bs. h.postfix e _)
   on_list false e p o = ends_refuses
 
-  on_primary : (e : ℕ) (p : Place) (k : TokenView) → Ends (n + 2) (primary r e p k) (primary q e p k)
+  on_primary : (e : ℕ) (p : Place) (k : TokenView) → Ends (n + 2) (primary (any r) r e p k) (primary (any q) q e p k)
   on_primary e p (tk.number x) = ends_skip l2 (postfix e _)
   on_primary e p (tk.string x) = ends_skip l2 (postfix e _)
   on_primary e p (tk.constant c) = ends_skip l2 (postfix e _)
   on_primary e p (tk.word x) = ends_skip l2 (on_from e p x)
   on_primary e p (tk.mark tk.open_bracket) = ends_skip l2 (ends_bind (expr e free) (λ a. on_mark l0 e tk.close_bracket (λ s. postfix e _)))
-  on_primary e p (tk.mark tk.open_brace) = ends_skip l2 (ends_bind (ends_peek e (on_braces e p) (λ l t ts j k i. shut_on (braces r e p nowhere (tk.other [])) (shut_first (r.expr e free) _ (shut.expr e free)) t ts (braces q e p j k (t ∷ ts)))) (λ a. postfix e a))
+  on_primary e p (tk.mark tk.open_brace) = ends_skip l2 (ends_bind (ends_peek e (on_braces e p) (λ l t ts j k i. shut_on (braces (any r) r e p nowhere (tk.other [])) (shut_first (r.expr e free) _ (shut.expr e free)) t ts (braces (any q) q e p j k (t ∷ ts)))) (λ a. postfix e a))
   on_primary e p (tk.mark tk.open_tuple) = ends_skip l2 (ends_bind (ends_peek e (on_tuples e p) (λ l t ts j k i. shut_on (tuples r e p nowhere (tk.other [])) (shut_first (r.phrases e) _ (shut.phrases e)) t ts (tuples q e p j k (t ∷ ts)))) (λ a. postfix e a))
-  on_primary e p (tk.mark tk.open_square) = ends_skip l2 (ends_bind (ends_peek e (on_squares e p) (λ l t ts j k i. shut_on (squares r e p nowhere (tk.other [])) (shut_first (r.expr e free) _ (shut.expr e free)) t ts (squares q e p j k (t ∷ ts)))) (λ a. postfix e a))
+  on_primary e p (tk.mark tk.open_square) = ends_skip l2 (ends_bind (ends_peek e (on_squares e p) (λ l t ts j k i. shut_on (squares (any r) r e p nowhere (tk.other [])) (shut_first (r.expr e free) _ (shut.expr e free)) t ts (squares (any q) q e p j k (t ∷ ts)))) (λ a. postfix e a))
   on_primary e p (tk.sign o) = on_list (is_bullet o) e p o
   on_primary e p k = ends_refuses
 
@@ -237,7 +238,7 @@ module _ (n : ℕ) (r q : Readers) (shut : Shuts r) (h : AreEnding n r q) where
   on_choice : (e : ℕ) (p : Place) → Ends n (choice_from r e p) (choice_from q e p)
   on_choice e p = ends_bind (expr e free) (λ a. on_key l0 e tk.then_key (λ s. ends_bind (expr e free) (λ b. on_key l0 e tk.else_key (λ t. ends_bind (expr e free) (λ c. ends_gives)))))
 
-  on_keyed : (e : ℕ) (p : Place) (k : Key) → Ends (n + 2) (keyed r e p k) (keyed q e p k)
+  on_keyed : (e : ℕ) (p : Place) (k : Key) → Ends (n + 2) (keyed (any r) e p k) (keyed (any q) e p k)
   on_keyed e p tk.if_key = ends_skip l2 (on_choice e p)
   on_keyed e p tk.case_key = ends_skip l2 (ends_bind (h.arms e) (λ xs. ends_gives))
   on_keyed e p tk.let_key = ends_skip l2 (ends_bind (h.locals e) (λ ls. on_key l0 e tk.in_key (λ s. ends_bind (expr e free) (λ a. ends_gives))))
@@ -250,66 +251,66 @@ module _ (n : ℕ) (r q : Readers) (shut : Shuts r) (h : AreEnding n r q) where
   on_under true e o = expr e (under o)
   on_under false e o = h.short e
 
-  on_signed : (e : ℕ) (c : Context) (p : Place) (o : Op) (m : Option Op) → Ends (n + 2) (signed r e c p o m) (signed q e c p o m)
+  on_signed : (e : ℕ) (c : Context) (p : Place) (o : Op) (m : Option Op) → Ends (n + 2) (signed (any r) r e c p o m) (signed (any q) q e c p o m)
   on_signed e c p o (Some m) = ends_skip l2 (ends_bind (on_under (is_free c m) e m) (λ a. ends_gives))
   on_signed e c p o None = on_primary e p (tk.sign o)
 
-  on_operand : (e : ℕ) (c : Context) (p : Place) (k : TokenView) → Ends (n + 2) (operand r e c p k) (operand q e c p k)
+  on_operand : (e : ℕ) (c : Context) (p : Place) (k : TokenView) → Ends (n + 2) (operand (any r) r e c p k) (operand (any q) q e c p k)
   on_operand e c p (tk.key k) = on_keyed e p k
   on_operand e c p (tk.sign o) = on_signed e c p o (prefix_by o)
   on_operand e c p k = on_primary e p k
 
-  on_short_signed : (e : ℕ) (p : Place) (o : Op) (m : Option Op) → Ends (n + 2) (short_signed r e p o m) (short_signed q e p o m)
+  on_short_signed : (e : ℕ) (p : Place) (o : Op) (m : Option Op) → Ends (n + 2) (short_signed (any r) r e p o m) (short_signed (any q) q e p o m)
   on_short_signed e p o (Some m) = ends_skip l2 (ends_bind (h.short e) (λ a. ends_gives))
   on_short_signed e p o None = on_primary e p (tk.sign o)
 
-  on_short : (e : ℕ) (p : Place) (k : TokenView) → Ends (n + 2) (short_by r e p k) (short_by q e p k)
+  on_short : (e : ℕ) (p : Place) (k : TokenView) → Ends (n + 2) (short_by (any r) r e p k) (short_by (any q) q e p k)
   on_short e p (tk.sign o) = on_short_signed e p o (prefix_by o)
   on_short e p k = on_primary e p k
 
   -- ---- loops
-  on_apply : (b : Bool) (e : ℕ) (a : Phrase) (p : Place) → Ends (n + 3) (apply_if b r e a p) (apply_if b q e a p)
+  on_apply : (b : Bool) (e : ℕ) (a : Phrase) (p : Place) → Ends (n + 3) (apply_if b (any r) r e a p) (apply_if b (any q) q e a p)
   on_apply true e a p = ends_skip l3 (ends_bind (h.phrases e) (λ xs. on_mark l0 e tk.close_square (λ s. postfix e _)))
   on_apply false e a p = ends_gives
 
-  on_select : (b : Bool) (e : ℕ) (a : Phrase) (p : Place) → Ends (n + 3) (select_if b r e a p) (select_if b q e a p)
+  on_select : (b : Bool) (e : ℕ) (a : Phrase) (p : Place) → Ends (n + 3) (select_if b (any r) r e a p) (select_if b (any q) q e a p)
   on_select true e a p = ends_skip l3 (on_field l0 e (λ f. postfix e _))
   on_select false e a p = ends_gives
 
-  on_postfix : (e : ℕ) (a : Phrase) (p : Place) (k : TokenView) → Ends (n + 3) (postfix_by r e a p k) (postfix_by q e a p k)
+  on_postfix : (e : ℕ) (a : Phrase) (p : Place) (k : TokenView) → Ends (n + 3) (postfix_by (any r) r e a p k) (postfix_by (any q) q e a p k)
   on_postfix e a p (tk.mark tk.open_square) = on_apply (can_be_head a p) e a p
   on_postfix e a p (tk.mark tk.dot) = on_select (can_be_head a p) e a p
   on_postfix e a p k = ends_gives
 
-  settles_postfix : (e : ℕ) (a : Phrase) (t : Token) (ts : List Token) (p : Place) (k : TokenView) → next e (t ∷ ts) ≡ token p k → GoesOn t ts (Ok (a, [])) (postfix_by q e a p k (t ∷ ts))
+  settles_postfix : (e : ℕ) (a : Phrase) (t : Token) (ts : List Token) (p : Place) (k : TokenView) → next e (t ∷ ts) ≡ token p k → GoesOn t ts (Ok (a, [])) (postfix_by (any q) q e a p k (t ∷ ts))
   settles_postfix e a t ts p (tk.mark tk.open_square) i = by (can_be_head a p)
     where
-      by : (m : Bool) → GoesOn t ts (Ok (a, [])) (apply_if m q e a p (t ∷ ts))
+      by : (m : Bool) → GoesOn t ts (Ok (a, [])) (apply_if m (any q) q e a p (t ∷ ts))
       by true =
           let g : Ends n (r.phrases e >>= λ xs. a_mark e tk.close_square >>= λ s. r.postfix e (apply a p xs s)) (q.phrases e >>= λ xs. a_mark e tk.close_square >>= λ s. q.postfix e (apply a p xs s)) = ends_bind (h.phrases e) (λ xs. on_mark l0 e tk.close_square (λ s. postfix e (apply a p xs s))) in
           inr (refl, g.fair.right ts)
       by false = inl refl
   settles_postfix e a t ts p (tk.mark tk.dot) i = by (can_be_head a p)
     where
-      by : (m : Bool) → GoesOn t ts (Ok (a, [])) (select_if m q e a p (t ∷ ts))
+      by : (m : Bool) → GoesOn t ts (Ok (a, [])) (select_if m (any q) q e a p (t ∷ ts))
       by true =
           let g : Ends n (a_field e >>= λ f. r.postfix e (select a p f)) (a_field e >>= λ f. q.postfix e (select a p f)) = on_field l0 e (λ f. postfix e (select a p f)) in
           inr (refl, g.fair.right ts)
       by false = inl refl
   settles_postfix e a t ts p k i = inl refl
 
-  on_climb_if : (m : Bool) (e b : ℕ) (a : Phrase) (p : Place) (o : Op) → Ends (n + 3) (climb_if m r e b a p o) (climb_if m q e b a p o)
+  on_climb_if : (m : Bool) (e b : ℕ) (a : Phrase) (p : Place) (o : Op) → Ends (n + 3) (climb_if m (any r) r e b a p o) (climb_if m (any q) q e b a p o)
   on_climb_if true e b a p o = ends_skip l3 (ends_bind (expr e (right_of o)) (λ d. climb e b _))
   on_climb_if false e b a p o = ends_gives
 
-  on_climb : (e b : ℕ) (a : Phrase) (p : Place) (k : TokenView) → Ends (n + 3) (climb_by r e b a p k) (climb_by q e b a p k)
+  on_climb : (e b : ℕ) (a : Phrase) (p : Place) (k : TokenView) → Ends (n + 3) (climb_by (any r) r e b a p k) (climb_by (any q) q e b a p k)
   on_climb e b a p (tk.sign o) = on_climb_if (goes_on b a p o) e b a p o
   on_climb e b a p k = ends_gives
 
-  settles_climb : (e b : ℕ) (a : Phrase) (t : Token) (ts : List Token) (p : Place) (k : TokenView) → next e (t ∷ ts) ≡ token p k → GoesOn t ts (Ok (a, [])) (climb_by q e b a p k (t ∷ ts))
+  settles_climb : (e b : ℕ) (a : Phrase) (t : Token) (ts : List Token) (p : Place) (k : TokenView) → next e (t ∷ ts) ≡ token p k → GoesOn t ts (Ok (a, [])) (climb_by (any q) q e b a p k (t ∷ ts))
   settles_climb e b a t ts p (tk.sign o) i = by (goes_on b a p o)
     where
-      by : (m : Bool) → GoesOn t ts (Ok (a, [])) (climb_if m q e b a p o (t ∷ ts))
+      by : (m : Bool) → GoesOn t ts (Ok (a, [])) (climb_if m (any q) q e b a p o (t ∷ ts))
       by true =
           let g : Ends n (r.expr e (right_of o) >>= λ d. r.climb e b (infix_of a p o d)) (q.expr e (right_of o) >>= λ d. q.climb e b (infix_of a p o d)) = ends_bind (expr e (right_of o)) (λ d. climb e b (infix_of a p o d)) in
           inr (refl, g.fair.right ts)
@@ -356,12 +357,12 @@ module _ (n : ℕ) (r q : Readers) (shut : Shuts r) (h : AreEnding n r q) where
   on_setting true e p path = on_sign l0 e op.Equal (λ s. ends_bind (expr e free) (λ a. ends_peek e (on_settings e p path s a) (settles_settings e p path s a)))
   on_setting false e p path = ends_refuses
 
-  on_path : (e : ℕ) (p : Place) (k : TokenView) → Ends (n + 3) (path_by r e p k) (path_by q e p k)
+  on_path : (e : ℕ) (p : Place) (k : TokenView) → Ends (n + 3) (path_by (any r) r e p k) (path_by (any q) q e p k)
   on_path e p (tk.mark tk.open_square) = ends_skip l3 (ends_bind (h.phrases e) (λ xs. on_mark l0 e tk.close_square (λ s. ends_bind (h.path e) (λ path. ends_gives))))
   on_path e p (tk.mark tk.dot) = ends_skip l3 (on_field l0 e (λ f. ends_bind (h.path e) (λ path. ends_gives)))
   on_path e p k = ends_gives
 
-  settles_path : (e : ℕ) (t : Token) (ts : List Token) (p : Place) (k : TokenView) → next e (t ∷ ts) ≡ token p k → GoesOn t ts (Ok (path_end, [])) (path_by q e p k (t ∷ ts))
+  settles_path : (e : ℕ) (t : Token) (ts : List Token) (p : Place) (k : TokenView) → next e (t ∷ ts) ≡ token p k → GoesOn t ts (Ok (path_end, [])) (path_by (any q) q e p k (t ∷ ts))
   settles_path e t ts p (tk.mark tk.open_square) i =
       let g : Ends n (r.phrases e >>= λ xs. a_mark e tk.close_square >>= λ s. r.path e >>= λ path. gives (index p xs s path)) (q.phrases e >>= λ xs. a_mark e tk.close_square >>= λ s. q.path e >>= λ path. gives (index p xs s path)) = ends_bind (h.phrases e) (λ xs. on_mark l0 e tk.close_square (λ s. ends_bind (h.path e) (λ path. ends_gives))) in
       inr (refl, g.fair.right ts)
@@ -425,7 +426,7 @@ module _ (n : ℕ) (r q : Readers) (shut : Shuts r) (h : AreEnding n r q) where
   on_defined : (e : ℕ) (x : Place × Word) → Ends n (a_mark e tk.defines >>= λ s. r.expr e free >>= λ a. peek e (locals_by r e x.0 x.1 s a)) (a_mark e tk.defines >>= λ s. q.expr e free >>= λ a. peek e (locals_by q e x.0 x.1 s a))
   on_defined e x = on_mark l0 e tk.defines (λ s. ends_bind (expr e free) (λ a. ends_peek e (on_locals e x.0 x.1 s a) (settles_locals e x.0 x.1 s a)))
 
-  bullets_are_past : (e : ℕ) (o : Op) (c : ℕ) (t : Token) (ts : List Token) (p : Place) (k : TokenView) → next e (t ∷ ts) ≡ token p k → (is_sign o k && nat_eq c p.col) ≡ true → Within ts ((one_step q).bullets e o c (t ∷ ts))
+  bullets_are_past : (e : ℕ) (o : Op) (c : ℕ) (t : Token) (ts : List Token) (p : Place) (k : TokenView) → next e (t ∷ ts) ≡ token p k → (is_sign o k && nat_eq c p.col) ≡ true → Within ts ((one_step (any q) q).bullets e o c (t ∷ ts))
   bullets_are_past e o c t ts p k i m =
       took_past (bullet_of o c (next e (t ∷ ts)).place (next e (t ∷ ts)).kind) p (λ s. q.expr c free >>= λ a. peek e (λ j u. bullets_if (is_sign o u && nat_eq c j.col) q e o c s a))
       (ap (λ (z : Token). bullet_of o c z.place z.kind) i ∙ chosen (is_sign o k && nat_eq c p.col) m) (on_items e o c p).fair.right t ts
@@ -434,12 +435,12 @@ module _ (n : ℕ) (r q : Readers) (shut : Shuts r) (h : AreEnding n r q) where
       chosen true e = refl
       chosen false e = absurd cc
 
-  locals_are_past : (e : ℕ) (t : Token) (ts : List Token) (p : Place) (y : Word) → next e (t ∷ ts) ≡ token p (tk.word y) → Within ts ((one_step q).locals e (t ∷ ts))
+  locals_are_past : (e : ℕ) (t : Token) (ts : List Token) (p : Place) (y : Word) → next e (t ∷ ts) ≡ token p (tk.word y) → Within ts ((one_step (any q) q).locals e (t ∷ ts))
   locals_are_past e t ts p y i =
       took_past (word_of (next e (t ∷ ts)).place (next e (t ∷ ts)).kind) (p, y) (λ x. a_mark e tk.defines >>= λ s. q.expr e free >>= λ a. peek e (locals_by q e x.0 x.1 s a))
       (ap (λ (z : Token). word_of z.place z.kind) i) (on_defined e (p, y)).fair.right t ts
 
-  on_step : AreEnding (suc n) (one_step r) (one_step q)
+  on_step : AreEnding (suc n) (one_step (any r) r) (one_step (any q) q)
   on_step = record {
     expr = λ e c. less (omega arith) (ends_bind (ends_peek e (on_operand e c) (λ l t ts j k i. tt)) (λ a. h.climb e (bound c) a));
     short = λ e. less (omega arith) (ends_peek e (on_short e) (λ l t ts j k i. tt));
@@ -479,32 +480,33 @@ no_endings r q f = record {
   locals_past = λ e t ts p y l i. absurd (omega (arith, l));
 }
 
-endings : (b n m : ℕ) → b ≤ n → b ≤ m → AreEnding b (readers n) (readers m)
+endings : (b n m : ℕ) → b ≤ n → b ≤ m → AreEnding b (readers n None) (readers m None)
 unfolding readers
-endings zero n m i j = no_endings (readers n) (readers m) (fair_readers 0 n m i j)
+endings zero n m i j = no_endings (readers n None) (readers m None) (fair_readers 0 n m i j)
 endings (suc b) zero m i j = absurd (omega (arith, i))
 endings (suc b) (suc n) zero i j = absurd (omega (arith, j))
-endings (suc b) (suc n) (suc m) i j = on_step b (readers n) (readers m) (shuts n) (endings b n m (omega (arith, i)) (omega (arith, j)))
+endings (suc b) (suc n) (suc m) i j = on_step b (readers n None) (readers m None) (shuts n) (endings b n m (omega (arith, i)) (omega (arith, j)))
 
 -- ---- where the tokens before the refused one are no expression
-pub refused_after_none : (e : ℕ) (passed rest : List Token) → read e (passed ++ rest) ≡ Err rest → (a : Phrase) → Good e a → passed ≡ spell a [] → ⊥
-refused_after_none e passed [] o a g s = both_ends (closed a (reads a) e g [] refl (4 * length (passed ++ [])) (omega (arith, few a [], ap length s, length-append passed [])))
+pub refused_after_none : (e : ℕ) (passed rest : List Token) (q : Rule) → read e (passed ++ rest) ≡ Err (q, rest) → (a : Phrase) → Good e a → passed ≡ spell a [] → ⊥
+refused_after_none e passed [] q o a g s = both_ends (closed a (reads a) e g [] refl (4 * length (passed ++ [])) (omega (arith, few a [], ap length s, length-append passed [])))
   where
-    both_ends : (readers (4 * length (passed ++ []))).expr e free (spell a []) ≡ Ok (a, []) → ⊥
-    both_ends d = (let both : ◌≡◌ {A = Out Phrase} (Err []) (Ok (a, [])) = sym o ∙ ap (λ (ts : List Token). (readers (4 * length (passed ++ []))).expr e free ts) (append-nil passed ∙ s) ∙ d in cc)
-refused_after_none e passed (t ∷ r) o a g s =
+    both_ends : (readers (4 * length (passed ++ [])) None).expr e free (spell a []) ≡ Ok (a, []) → ⊥
+    both_ends d = (let both : ◌≡◌ {A = Out Phrase} (Err (q, [])) (Ok (a, [])) = sym o ∙ ap (λ (ts : List Token). (readers (4 * length (passed ++ [])) None).expr e free ts) (append-nil passed ∙ s) ∙ d in cc)
+refused_after_none e passed (t ∷ r) q o a g s =
     let n = 4 + 4 * length passed in
     let m = 4 * length (passed ++ t ∷ r) in
     let j : n ≤ m = omega (arith, length-append passed (t ∷ r)) in
-    let ends : (readers n).expr e free passed ≡ Ok (a, []) = ap (λ (ts : List Token). (readers n).expr e free ts) s ∙ closed a (reads a) e g [] refl n (omega (arith, few a [], ap length s)) in
+    let ends : (readers n None).expr e free passed ≡ Ok (a, []) = ap (λ (ts : List Token). (readers n None).expr e free ts) s ∙ closed a (reads a) e g [] refl n (omega (arith, few a [], ap length s)) in
     let on = ((endings n n m (omega arith) j).expr e free).ends passed t r (omega arith) in
-    apart ((readers n).expr e free passed) (read e (passed ++ t ∷ r)) ends o on
+    apart ((readers n None).expr e free passed) (read e (passed ++ t ∷ r)) ends o on
   where
-    apart : (x y : Out Phrase) → x ≡ Ok (a, []) → y ≡ Err (t ∷ r) → GoesOn t r x y → ⊥
-    apart (Ok z) y d o (inl h) = (let both : ◌≡◌ {A = Out Phrase} (Err (t ∷ r)) (Ok (z.0, z.1 ++ t ∷ r)) = sym o ∙ h in cc)
+    apart : (x y : Out Phrase) → x ≡ Ok (a, []) → y ≡ Err (q, t ∷ r) → GoesOn t r x y → ⊥
+    apart (Ok z) y d o (inl h) = (let both : ◌≡◌ {A = Out Phrase} (Err (q, t ∷ r)) (Ok (z.0, z.1 ++ t ∷ r)) = sym o ∙ h in cc)
     apart (Ok z) (Ok y) d o (inr h) = absurd cc
     apart (Ok z) (Err y) d o (inr h) =
-        let same : y ≡ t ∷ r = cc in
+        let pair : ◌≡◌ {A = Stop} y (q, t ∷ r) = cc in
+        let same : y.1 ≡ t ∷ r = ap (λ (z : Stop). z.1) pair in
         let lengths : length r ≡ length h.1.0 + suc (length r) = ap length (h.1.1 ∙ ap (λ (u : List Token). h.1.0 ++ u) same) ∙ length-append h.1.0 (t ∷ r) in
         absurd (omega (arith, lengths))
     apart (Err z) y d o h = absurd cc

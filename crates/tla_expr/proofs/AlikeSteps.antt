@@ -8,7 +8,7 @@ use Rattle.tla_expr.specs.Rank.{is_bullet}
 use Rattle.tla_expr.specs.Lexical.{Mark, Key, TokenView, Token}
 use Rattle.tla_expr.specs.Lexical as tk
 use Rattle.tla_expr.specs.Spelling.{Field, Phrase, Binds, Path, can_be_head, is_some_path, takes_box}
-use Rattle.tla_expr.specs.Reader.{Reader, ◌>>=◌, is_mark, is_key, is_sign, place_if, a_mark, a_key, a_sign, word_of, field_of, a_word, a_field, bullet_of, Context, free, right_of, under, bound, is_free, prefix_by, goes_on, element, Readers, ended, named, from_name, set_rest, image_rest, brace_rest, set_from, member_rest, brace_name, braces, tuples, field_rest, function_rest, square_rest, square_from, bind_rest, square_member, plain_field, square_name, squares, list_if, primary, quantifier, choice_from, keyed, under_by, signed, operand, short_signed, short_by, apply_if, select_if, postfix_by, climb_if, climb_by, phrases_by, binds_by, fields_by, settings_by, setting_if, path_by, bullets_if, arms_other, arms_if, arms_by, locals_by, one_step, no_steps, readers}
+use Rattle.tla_expr.specs.Reader.{any, Reader, ◌>>=◌, is_mark, is_key, is_sign, place_if, a_mark, a_key, a_sign, word_of, field_of, a_word, a_field, bullet_of, Context, free, right_of, under, bound, is_free, prefix_by, goes_on, element, Readers, ended, named, from_name, set_rest, image_rest, brace_rest, set_from, member_rest, brace_name, braces, tuples, field_rest, function_rest, square_rest, square_from, bind_rest, square_member, plain_field, square_name, squares, list_if, primary, quantifier, choice_from, keyed, under_by, signed, operand, short_signed, short_by, apply_if, select_if, postfix_by, climb_if, climb_by, phrases_by, binds_by, fields_by, settings_by, setting_if, path_by, bullets_if, arms_other, arms_if, arms_by, locals_by, one_step, no_steps, readers}
 use Rattle.tla_expr.proofs.Alike.{Within, IsFair, weaker, fair_gives, fair_refuses, fair_skip, fair_peek, fair_bind, fair_take}
 
 -- with n steps and more
@@ -70,12 +70,12 @@ module _ (n : ℕ) (r q : Readers) (h : AreFair n r q) where
   ends e m f = fair_mark l0 e m (λ p. fair_gives)
 
   -- ---- names
-  fair_named : (e : ℕ) (p : Place) (x : Word) (s : Place) (k : TokenView) → IsFair n (named r e p x s k) (named q e p x s k)
+  fair_named : (e : ℕ) (p : Place) (x : Word) (s : Place) (k : TokenView) → IsFair n (named (any r) e p x s k) (named (any q) e p x s k)
   fair_named e p x s (tk.mark tk.open_bracket) = fair_skip l0 (fair_bind (h.phrases e) (λ xs. ends e tk.close_bracket _))
   fair_named e p x s (tk.mark tk.prime) = fair_skip l0 fair_gives
   fair_named e p x s k = fair_gives
 
-  fair_from : (e : ℕ) (p : Place) (x : Word) → IsFair n (from_name r e p x) (from_name q e p x)
+  fair_from : (e : ℕ) (p : Place) (x : Word) → IsFair n (from_name (any r) r e p x) (from_name (any q) q e p x)
   fair_from e p x = fair_bind (fair_peek e (fair_named e p x)) (λ a. postfix e a)
 
   -- ---- braces
@@ -90,19 +90,19 @@ module _ (n : ℕ) (r q : Readers) (h : AreFair n r q) where
   fair_brace e p a s (tk.mark tk.colon) = fair_skip l0 (fair_image e p a s)
   fair_brace e p a s k = fair_set e p a s k
 
-  fair_set_from : (e : ℕ) (p : Place) (a : Option Phrase) → IsFair n (set_from r e p a) (set_from q e p a)
+  fair_set_from : (e : ℕ) (p : Place) (a : Option Phrase) → IsFair n (set_from (any r) r e p a) (set_from (any q) q e p a)
   fair_set_from e p (Some a) = fair_peek e (fair_set e p a)
   fair_set_from e p None = fair_refuses
 
-  fair_member : (e : ℕ) (p s : Place) (x : Word) (t : Place) (a : Phrase) (u : Place) (k : TokenView) → IsFair n (member_rest r e p s x t a u k) (member_rest q e p s x t a u k)
+  fair_member : (e : ℕ) (p s : Place) (x : Word) (t : Place) (a : Phrase) (u : Place) (k : TokenView) → IsFair n (member_rest (any r) r e p s x t a u k) (member_rest (any q) q e p s x t a u k)
   fair_member e p s x t a u (tk.mark tk.colon) = fair_skip l0 (fair_bind (expr e free) (λ b. ends e tk.close_brace _))
   fair_member e p s x t a u k = fair_set_from e p (element s x t a)
 
-  fair_brace_name : (e : ℕ) (p s : Place) (x : Word) (t : Place) (k : TokenView) → IsFair n (brace_name r e p s x t k) (brace_name q e p s x t k)
+  fair_brace_name : (e : ℕ) (p s : Place) (x : Word) (t : Place) (k : TokenView) → IsFair n (brace_name (any r) r e p s x t k) (brace_name (any q) q e p s x t k)
   fair_brace_name e p s x t (tk.sign op.In) = fair_skip l0 (fair_bind (expr e free) (λ a. fair_peek e (fair_member e p s x t a)))
   fair_brace_name e p s x t k = fair_bind (fair_from e s x) (λ a. fair_bind (climb e 0 a) (λ b. fair_peek e (fair_brace e p b)))
 
-  fair_braces : (e : ℕ) (p s : Place) (k : TokenView) → IsFair n (braces r e p s k) (braces q e p s k)
+  fair_braces : (e : ℕ) (p s : Place) (k : TokenView) → IsFair n (braces (any r) r e p s k) (braces (any q) q e p s k)
   fair_braces e p s (tk.mark tk.close_brace) = fair_skip l0 fair_gives
   fair_braces e p s (tk.word x) = fair_skip l0 (fair_peek e (fair_brace_name e p s x))
   fair_braces e p s k = fair_bind (expr e free) (λ a. fair_peek e (fair_brace e p a))
@@ -126,7 +126,7 @@ module _ (n : ℕ) (r q : Readers) (h : AreFair n r q) where
   fair_square e p a s (tk.key tk.except_key) = fair_skip l0 (fair_bind (h.settings e) (λ ss. ends e tk.close_square _))
   fair_square e p a s k = fair_refuses
 
-  fair_square_from : (e : ℕ) (p : Place) (a : Option Phrase) → IsFair n (square_from r e p a) (square_from q e p a)
+  fair_square_from : (e : ℕ) (p : Place) (a : Option Phrase) → IsFair n (square_from (any r) r e p a) (square_from (any q) q e p a)
   fair_square_from e p (Some a) = fair_peek e (fair_square e p a)
   fair_square_from e p None = fair_refuses
 
@@ -134,19 +134,19 @@ module _ (n : ℕ) (r q : Readers) (h : AreFair n r q) where
   fair_bind_rest e p x s a t (tk.mark tk.comma) = fair_skip l0 (fair_word l0 e (λ y. fair_bind (h.binds e y.0 y.1) (λ bs. fair_gives)))
   fair_bind_rest e p x s a t k = fair_gives
 
-  fair_square_member : (e : ℕ) (p s : Place) (x : Word) (t : Place) (a : Phrase) (u : Place) (k : TokenView) → IsFair n (square_member r e p s x t a u k) (square_member q e p s x t a u k)
+  fair_square_member : (e : ℕ) (p s : Place) (x : Word) (t : Place) (a : Phrase) (u : Place) (k : TokenView) → IsFair n (square_member (any r) r e p s x t a u k) (square_member (any q) q e p s x t a u k)
   fair_square_member e p s x t a u (tk.mark tk.maps) = fair_function e p _
   fair_square_member e p s x t a u (tk.mark tk.comma) = fair_bind (fair_peek e (fair_bind_rest e s x t a)) (λ bs. fair_function e p bs)
   fair_square_member e p s x t a u k = fair_square_from e p (element s x t a)
 
-  fair_square_name : (e : ℕ) (p s : Place) (x : Word) (t : Place) (k : TokenView) → IsFair n (square_name r e p s x t k) (square_name q e p s x t k)
+  fair_square_name : (e : ℕ) (p s : Place) (x : Word) (t : Place) (k : TokenView) → IsFair n (square_name (any r) r e p s x t k) (square_name (any q) q e p s x t k)
   fair_square_name e p s x t (tk.mark tk.maps) = fair_in_fields e p (plain_field s x) t (tk.mark tk.maps)
   fair_square_name e p s x t (tk.mark tk.colon) = fair_in_fields e p (plain_field s x) t (tk.mark tk.colon)
   fair_square_name e p s x t (tk.mark tk.comma) = fair_bind (h.binds e s x) (λ bs. fair_function e p bs)
   fair_square_name e p s x t (tk.sign op.In) = fair_skip l0 (fair_bind (expr e free) (λ a. fair_peek e (fair_square_member e p s x t a)))
   fair_square_name e p s x t k = fair_bind (fair_from e s x) (λ a. fair_bind (climb e 0 a) (λ b. fair_peek e (fair_square e p b)))
 
-  fair_squares : (e : ℕ) (p s : Place) (k : TokenView) → IsFair n (squares r e p s k) (squares q e p s k)
+  fair_squares : (e : ℕ) (p s : Place) (k : TokenView) → IsFair n (squares (any r) r e p s k) (squares (any q) q e p s k)
   fair_squares e p s (tk.reserved x) = fair_skip l0 (fair_peek e (fair_in_fields e p _))
   fair_squares e p s (tk.word x) = fair_skip l0 (fair_peek e (fair_square_name e p s x))
   fair_squares e p s k = fair_bind (expr e free) (λ a. fair_peek e (fair_square e p a))
@@ -156,7 +156,7 @@ module _ (n : ℕ) (r q : Readers) (h : AreFair n r q) where
   fair_list true e p o = fair_bind (h.bullets e o p.col) (λ bs. h.postfix e _)
   fair_list false e p o = fair_refuses
 
-  fair_primary : (e : ℕ) (p : Place) (k : TokenView) → IsFair (n + 2) (primary r e p k) (primary q e p k)
+  fair_primary : (e : ℕ) (p : Place) (k : TokenView) → IsFair (n + 2) (primary (any r) r e p k) (primary (any q) q e p k)
   fair_primary e p (tk.number x) = fair_skip l2 (postfix e _)
   fair_primary e p (tk.string x) = fair_skip l2 (postfix e _)
   fair_primary e p (tk.constant c) = fair_skip l2 (postfix e _)
@@ -175,7 +175,7 @@ module _ (n : ℕ) (r q : Readers) (h : AreFair n r q) where
   fair_choice : (e : ℕ) (p : Place) → IsFair n (choice_from r e p) (choice_from q e p)
   fair_choice e p = fair_bind (expr e free) (λ a. fair_key l0 e tk.then_key (λ s. fair_bind (expr e free) (λ b. fair_key l0 e tk.else_key (λ t. fair_bind (expr e free) (λ c. fair_gives)))))
 
-  fair_keyed : (e : ℕ) (p : Place) (k : Key) → IsFair (n + 2) (keyed r e p k) (keyed q e p k)
+  fair_keyed : (e : ℕ) (p : Place) (k : Key) → IsFair (n + 2) (keyed (any r) e p k) (keyed (any q) e p k)
   fair_keyed e p tk.if_key = fair_skip l2 (fair_choice e p)
   fair_keyed e p tk.case_key = fair_skip l2 (fair_bind (h.arms e) (λ xs. fair_gives))
   fair_keyed e p tk.let_key = fair_skip l2 (fair_bind (h.locals e) (λ ls. fair_key l0 e tk.in_key (λ s. fair_bind (expr e free) (λ a. fair_gives))))
@@ -188,42 +188,42 @@ module _ (n : ℕ) (r q : Readers) (h : AreFair n r q) where
   fair_under true e o = expr e (under o)
   fair_under false e o = h.short e
 
-  fair_signed : (e : ℕ) (c : Context) (p : Place) (o : Op) (m : Option Op) → IsFair (n + 2) (signed r e c p o m) (signed q e c p o m)
+  fair_signed : (e : ℕ) (c : Context) (p : Place) (o : Op) (m : Option Op) → IsFair (n + 2) (signed (any r) r e c p o m) (signed (any q) q e c p o m)
   fair_signed e c p o (Some m) = fair_skip l2 (fair_bind (fair_under (is_free c m) e m) (λ a. fair_gives))
   fair_signed e c p o None = fair_primary e p (tk.sign o)
 
-  fair_operand : (e : ℕ) (c : Context) (p : Place) (k : TokenView) → IsFair (n + 2) (operand r e c p k) (operand q e c p k)
+  fair_operand : (e : ℕ) (c : Context) (p : Place) (k : TokenView) → IsFair (n + 2) (operand (any r) r e c p k) (operand (any q) q e c p k)
   fair_operand e c p (tk.key k) = fair_keyed e p k
   fair_operand e c p (tk.sign o) = fair_signed e c p o (prefix_by o)
   fair_operand e c p k = fair_primary e p k
 
-  fair_short_signed : (e : ℕ) (p : Place) (o : Op) (m : Option Op) → IsFair (n + 2) (short_signed r e p o m) (short_signed q e p o m)
+  fair_short_signed : (e : ℕ) (p : Place) (o : Op) (m : Option Op) → IsFair (n + 2) (short_signed (any r) r e p o m) (short_signed (any q) q e p o m)
   fair_short_signed e p o (Some m) = fair_skip l2 (fair_bind (h.short e) (λ a. fair_gives))
   fair_short_signed e p o None = fair_primary e p (tk.sign o)
 
-  fair_short : (e : ℕ) (p : Place) (k : TokenView) → IsFair (n + 2) (short_by r e p k) (short_by q e p k)
+  fair_short : (e : ℕ) (p : Place) (k : TokenView) → IsFair (n + 2) (short_by (any r) r e p k) (short_by (any q) q e p k)
   fair_short e p (tk.sign o) = fair_short_signed e p o (prefix_by o)
   fair_short e p k = fair_primary e p k
 
   -- ---- loops
-  fair_apply : (b : Bool) (e : ℕ) (a : Phrase) (p : Place) → IsFair (n + 3) (apply_if b r e a p) (apply_if b q e a p)
+  fair_apply : (b : Bool) (e : ℕ) (a : Phrase) (p : Place) → IsFair (n + 3) (apply_if b (any r) r e a p) (apply_if b (any q) q e a p)
   fair_apply true e a p = fair_skip l3 (fair_bind (h.phrases e) (λ xs. fair_mark l0 e tk.close_square (λ s. postfix e _)))
   fair_apply false e a p = fair_gives
 
-  fair_select : (b : Bool) (e : ℕ) (a : Phrase) (p : Place) → IsFair (n + 3) (select_if b r e a p) (select_if b q e a p)
+  fair_select : (b : Bool) (e : ℕ) (a : Phrase) (p : Place) → IsFair (n + 3) (select_if b (any r) r e a p) (select_if b (any q) q e a p)
   fair_select true e a p = fair_skip l3 (fair_field l0 e (λ f. postfix e _))
   fair_select false e a p = fair_gives
 
-  fair_postfix : (e : ℕ) (a : Phrase) (p : Place) (k : TokenView) → IsFair (n + 3) (postfix_by r e a p k) (postfix_by q e a p k)
+  fair_postfix : (e : ℕ) (a : Phrase) (p : Place) (k : TokenView) → IsFair (n + 3) (postfix_by (any r) r e a p k) (postfix_by (any q) q e a p k)
   fair_postfix e a p (tk.mark tk.open_square) = fair_apply (can_be_head a p) e a p
   fair_postfix e a p (tk.mark tk.dot) = fair_select (can_be_head a p) e a p
   fair_postfix e a p k = fair_gives
 
-  fair_climb_if : (m : Bool) (e b : ℕ) (a : Phrase) (p : Place) (o : Op) → IsFair (n + 3) (climb_if m r e b a p o) (climb_if m q e b a p o)
+  fair_climb_if : (m : Bool) (e b : ℕ) (a : Phrase) (p : Place) (o : Op) → IsFair (n + 3) (climb_if m (any r) r e b a p o) (climb_if m (any q) q e b a p o)
   fair_climb_if true e b a p o = fair_skip l3 (fair_bind (expr e (right_of o)) (λ d. climb e b _))
   fair_climb_if false e b a p o = fair_gives
 
-  fair_climb : (e b : ℕ) (a : Phrase) (p : Place) (k : TokenView) → IsFair (n + 3) (climb_by r e b a p k) (climb_by q e b a p k)
+  fair_climb : (e b : ℕ) (a : Phrase) (p : Place) (k : TokenView) → IsFair (n + 3) (climb_by (any r) r e b a p k) (climb_by (any q) q e b a p k)
   fair_climb e b a p (tk.sign o) = fair_climb_if (goes_on b a p o) e b a p o
   fair_climb e b a p k = fair_gives
 
@@ -249,7 +249,7 @@ module _ (n : ℕ) (r q : Readers) (h : AreFair n r q) where
   fair_setting true e p path = fair_sign l0 e op.Equal (λ s. fair_bind (expr e free) (λ a. fair_peek e (fair_settings e p path s a)))
   fair_setting false e p path = fair_refuses
 
-  fair_path : (e : ℕ) (p : Place) (k : TokenView) → IsFair (n + 3) (path_by r e p k) (path_by q e p k)
+  fair_path : (e : ℕ) (p : Place) (k : TokenView) → IsFair (n + 3) (path_by (any r) r e p k) (path_by (any q) q e p k)
   fair_path e p (tk.mark tk.open_square) = fair_skip l3 (fair_bind (h.phrases e) (λ xs. fair_mark l0 e tk.close_square (λ s. fair_bind (h.path e) (λ path. fair_gives))))
   fair_path e p (tk.mark tk.dot) = fair_skip l3 (fair_field l0 e (λ f. fair_bind (h.path e) (λ path. fair_gives)))
   fair_path e p k = fair_gives
@@ -275,7 +275,7 @@ module _ (n : ℕ) (r q : Readers) (h : AreFair n r q) where
   fair_locals e p x s a t k = fair_gives
 
   -- ---- one step more
-  fair_step : AreFair (suc n) (one_step r) (one_step q)
+  fair_step : AreFair (suc n) (one_step (any r) r) (one_step (any q) q)
   fair_step = record {
     expr = λ e c. weaker (omega arith) (fair_bind (fair_peek e (fair_operand e c)) (λ a. h.climb e (bound c) a));
     short = λ e. weaker (omega arith) (fair_peek e (fair_short e));
@@ -345,14 +345,14 @@ fair_none = record {
 }
 
 -- within the tokens
-fair_same : (n : ℕ) → AreFair n (readers n) (readers n)
+fair_same : (n : ℕ) → AreFair n (readers n None) (readers n None)
 unfolding readers
 fair_same zero = fair_none
-fair_same (suc n) = fair_step n (readers n) (readers n) (fair_same n)
+fair_same (suc n) = fair_step n (readers n None) (readers n None) (fair_same n)
 
-pub fair_readers : (b n m : ℕ) → b ≤ n → b ≤ m → AreFair b (readers n) (readers m)
+pub fair_readers : (b n m : ℕ) → b ≤ n → b ≤ m → AreFair b (readers n None) (readers m None)
 unfolding readers
-fair_readers zero n m i j = fair_nothing (readers n) (readers m) (fewer n (readers n) (readers n) (fair_same n)) (fewer m (readers m) (readers m) (fair_same m))
+fair_readers zero n m i j = fair_nothing (readers n None) (readers m None) (fewer n (readers n None) (readers n None) (fair_same n)) (fewer m (readers m None) (readers m None) (fair_same m))
 fair_readers (suc b) zero m i j = absurd (omega (arith, i))
 fair_readers (suc b) (suc n) zero i j = absurd (omega (arith, j))
-fair_readers (suc b) (suc n) (suc m) i j = fair_step b (readers n) (readers m) (fair_readers b n m (omega (arith, i)) (omega (arith, j)))
+fair_readers (suc b) (suc n) (suc m) i j = fair_step b (readers n None) (readers m None) (fair_readers b n m (omega (arith, i)) (omega (arith, j)))

@@ -1,8 +1,9 @@
 -- What is read is the farthest: no spelled expression begins with the tokens through the one at which reading stops.
 use Rattle.std.proofs.Common.{◌≡◌, ℕ, suc, ◌+◌, ◌*◌, ◌≤◌, List, [], ◌∷◌, ◌++◌, length, map, Some, Ok, Err, inl, inr, sym, ap, ◌∙◌, append_assoc, length-append, arith}
+use Rattle.tla_token.specs.declared.rule.Rule.{Rule}
 use Rattle.tla_expr.specs.Lexical.{Token}
 use Rattle.tla_expr.specs.Spelling.{Phrase, Good, spell}
-use Rattle.tla_expr.specs.Reader.{Out, free, read}
+use Rattle.tla_expr.specs.Reader.{Stop, Out, free, read}
 use Rattle.tla_expr.specs.FirstStop.{looks, Begins, phrases}
 use Rattle.tla_expr.proofs.Columns.{begun}
 use Rattle.tla_expr.proofs.ReadAll.{spelled_is_read}
@@ -41,9 +42,9 @@ begun_none e k t r stop h =
 pub read_is_farthest : (e : ℕ) (ts : List Token) (a : Phrase) (t : Token) (r : List Token) → read e ts ≡ Ok (a, t ∷ r) → (k : List Token) → ts ≡ k ++ t ∷ r → Begins (phrases e) (map Some (looks (k ++ t ∷ []))) → ⊥
 read_is_farthest e ts a t r o k s h = begun_none e k t r (ap (λ (us : List Token). rest_of (read e us)) (sym s) ∙ ap rest_of o) h
 
-pub refused_is_farthest : (e : ℕ) (ts : List Token) (t : Token) (r : List Token) → read e ts ≡ Err (t ∷ r) → (k : List Token) → ts ≡ k ++ t ∷ r → Begins (phrases e) (map Some (looks (k ++ t ∷ []))) → ⊥
-refused_is_farthest e ts t r o k s h = begun_none e k t r (ap (λ (us : List Token). rest_of (read e us)) (sym s) ∙ ap rest_of o) h
+pub refused_is_farthest : (e : ℕ) (ts : List Token) (t : Token) (r : List Token) → (q : Rule) → read e ts ≡ Err (q, t ∷ r) → (k : List Token) → ts ≡ k ++ t ∷ r → Begins (phrases e) (map Some (looks (k ++ t ∷ []))) → ⊥
+refused_is_farthest e ts t r q o k s h = begun_none e k t r (ap (λ (us : List Token). rest_of (read e us)) (sym s) ∙ ap rest_of o) h
 
 -- where the end of the tokens is refused they are no expression
-pub refused_is_unspelled : (e : ℕ) (ts us : List Token) → read e ts ≡ Err us → (a : Phrase) → Good e a → ts ≡ spell a [] → ⊥
-refused_is_unspelled e ts us o a g s = (let both : ◌≡◌ {A = Out Phrase} (Err us) (Ok (a, [])) = sym o ∙ ap (λ (vs : List Token). read e vs) s ∙ spelled_is_read e a g in cc)
+pub refused_is_unspelled : (e : ℕ) (ts : List Token) (u : Stop) → read e ts ≡ Err u → (a : Phrase) → Good e a → ts ≡ spell a [] → ⊥
+refused_is_unspelled e ts u o a g s = (let both : ◌≡◌ {A = Out Phrase} (Err u) (Ok (a, [])) = sym o ∙ ap (λ (vs : List Token). read e vs) s ∙ spelled_is_read e a g in cc)

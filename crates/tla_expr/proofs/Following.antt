@@ -27,7 +27,7 @@ inner e (list o bs) ts n h = absurd cc
 inner e a ts n h = h
 
 -- a primary is read to its end
-primary_ends : (e : ℕ) (a : Phrase) → Good e a → head a ≡ primary → end_list a ≡ None → (ts : List Token) → NoTail e ts → Soon (1 + steps a) (λ r. peek e (reader.primary r e) (spell a ts)) (Ok (a, ts))
+primary_ends : (e : ℕ) (a : Phrase) → Good e a → head a ≡ primary → end_list a ≡ None → (ts : List Token) → NoTail e ts → Soon (1 + steps a) (λ r. peek e (reader.primary (reader.any r) r e) (spell a ts)) (Ok (a, ts))
 primary_ends e a g h n ts t = (reads a).prime (ap is_primary h) e g ts (inner e a ts n (no_call (next e ts).kind t)) 1 (Ok (a, ts)) (postfix_ends e a ts t)
 
 one_primary : (e : ℕ) (a b : Phrase) → Good e a → Good e b → head a ≡ primary → head b ≡ primary → end_list a ≡ None → end_list b ≡ None → (r s : List Token) → NoTail e r → NoTail e s → spell a r ≡ spell b s → (a ≡ b) × (r ≡ s)
@@ -35,7 +35,7 @@ one_primary e a b ga gb ha hb na nb r s tr ts same_tokens =
     let u = primary_ends e a ga ha na r tr in
     let v = primary_ends e b gb hb nb s ts in
     let n = (1 + steps a) + (1 + steps b) in
-    let pair : ◌≡◌ {A = Out Phrase} (Ok (a, r)) (Ok (b, s)) = sym (u n (omega arith)) ∙ ap (λ (us : List Token). peek e (reader.primary (readers n) e) us) same_tokens ∙ v n (omega arith) in
+    let pair : ◌≡◌ {A = Out Phrase} (Ok (a, r)) (Ok (b, s)) = sym (u n (omega arith)) ∙ ap (λ (us : List Token). peek e (reader.primary (reader.any (readers n None)) (readers n None) e) us) same_tokens ∙ v n (omega arith) in
     (ap (λ (x : Out Phrase). phrase_of a x) pair, ap (λ (x : Out Phrase). rest_of r x) pair)
   where
     phrase_of : Phrase → Out Phrase → Phrase

@@ -3,13 +3,14 @@ use Rattle.std.proofs.Common.{◌≡◌, ℕ, suc, nat_lt, true, false, List, []
 use Rattle.std.proofs.lemmas.Bool.{lt-ltb}
 use Rattle.tla_token.specs.declared.place.Place.{Place}
 use Rattle.tla_expr.specs.declared.op.Op.{Op}
+use Rattle.tla_token.specs.declared.rule.Rule.TheVariants.{Syntax}
 use Rattle.tla_expr.specs.Tree.{Word}
 use Rattle.tla_expr.specs.Rank.{is_bullet}
 use Rattle.tla_expr.specs.Lexical.{Mark, Key, TokenView, Token, token}
 use Rattle.tla_expr.specs.Lexical as tk
 use Rattle.tla_expr.specs.Spelling.{Field, Phrase, number, Binds, last_bind, Path, path_end, at_field, Bullets}
 use Rattle.tla_expr.specs.Spelling.{word, field_token, spell, spell_all, spell_binds, spell_fields, spell_settings, spell_path, spell_bullets, spell_arms, spell_locals, Right, Good, GoodAll, GoodBinds, GoodFields, GoodSettings, GoodPath, GoodBullets, GoodArms, GoodLocals, head, is_primary, is_short, first_bullet, is_some_path}
-use Rattle.tla_expr.specs.Reader.{Out, Reader, then_read, next, took, take, place_if, is_mark, is_key, is_sign, word_of, field_of, a_mark, a_key, a_sign, a_word, a_field, gives, ended, Context, bound, fits, Readers}
+use Rattle.tla_expr.specs.Reader.{Stop, refuses, Out, Reader, then_read, next, took, take, place_if, is_mark, is_key, is_sign, word_of, field_of, a_mark, a_key, a_sign, a_word, a_field, gives, ended, Context, bound, fits, Readers}
 use Rattle.tla_expr.proofs.SpellAhead.{Ahead}
 
 -- ---- tokens and phrases that can be put anywhere to the right of the edge
@@ -89,46 +90,46 @@ pub onto : {A : Type 0} {Q : A → Type 0} {put : A → List Token → List Toke
 onto s m = record { whole = m.whole; good = m.good; read = m.read; fix = m.fix; parts = sym s ∙ m.parts; tokens = m.tokens }
 
 -- ---- refusals
-abbrev pub left : {A : Type 0} → List Token → Out A
-left u = Err u
+pub left_is : {A : Type 0} {ts : List Token} {u : Stop} → refuses {A = A} ts ≡ Err u → ts ≡ u.1
+left_is {A} {ts} {u} e = (let i : ◌≡◌ {A = Stop} (Syntax, ts) u = cc in ap (λ (s : Stop). s.1) i)
 
-pub left_is : {A : Type 0} {u v : List Token} → left {A = A} u ≡ left v → u ≡ v
-left_is {A} {u} {v} e = cc
+abbrev stopped : {A : Type 0} → Stop → Out A
+stopped u = Err u
 
 -- the first is refused, or it is read and what follows is refused
-pub broken : {A B : Type 0} {R : Type 0} {o : Out A} {f : A → Reader B} {u : List Token} → then_read o f ≡ Err u → (o ≡ Err u → R) → ((a : A) (ts : List Token) → o ≡ Ok (a, ts) → f a ts ≡ Err u → R) → R
+pub broken : {A B : Type 0} {R : Type 0} {o : Out A} {f : A → Reader B} {u : Stop} → then_read o f ≡ Err u → (o ≡ Err u → R) → ((a : A) (ts : List Token) → o ≡ Ok (a, ts) → f a ts ≡ Err u → R) → R
 broken {A} {B} {R} {o} {f} {u} e h k = at o e h k
   where
     at : (o : Out A) → then_read o f ≡ Err u → (o ≡ Err u → R) → ((a : A) (ts : List Token) → o ≡ Ok (a, ts) → f a ts ≡ Err u → R) → R
     at (Ok x) e h k = k x.0 x.1 refl e
-    at (Err w) e h k = h (let i : w ≡ u = cc in ap (λ (z : List Token). left {A = A} z) i)
+    at (Err w) e h k = h (let i : w ≡ u = cc in ap (λ (z : Stop). stopped {A = A} z) i)
 
-took_err : {A : Type 0} (o : Option A) (ts u : List Token) → took o ts ≡ Err u → ts ≡ u
+took_err : {A : Type 0} (o : Option A) (ts : List Token) (u : Stop) → took o ts ≡ Err u → ts ≡ u.1
 took_err (Some a) ts u e = absurd cc
 took_err {A} None ts u e = left_is {A = A} e
 
-pub take_err : {A : Type 0} (e : ℕ) (f : Place → TokenView → Option A) (ts u : List Token) → take e f ts ≡ Err u → ts ≡ u
+pub take_err : {A : Type 0} (e : ℕ) (f : Place → TokenView → Option A) (ts : List Token) (u : Stop) → take e f ts ≡ Err u → ts ≡ u.1
 take_err e f ts u i = took_err (f (next e ts).place (next e ts).kind) ts u i
 
-pub mark_err : (e : ℕ) (m : Mark) (ts u : List Token) → a_mark e m ts ≡ Err u → ts ≡ u
+pub mark_err : (e : ℕ) (m : Mark) (ts : List Token) (u : Stop) → a_mark e m ts ≡ Err u → ts ≡ u.1
 mark_err e m ts u i = take_err e (place_if (is_mark m)) ts u i
 
-pub key_err : (e : ℕ) (k : Key) (ts u : List Token) → a_key e k ts ≡ Err u → ts ≡ u
+pub key_err : (e : ℕ) (k : Key) (ts : List Token) (u : Stop) → a_key e k ts ≡ Err u → ts ≡ u.1
 key_err e k ts u i = take_err e (place_if (is_key k)) ts u i
 
-pub sign_err : (e : ℕ) (o : Op) (ts u : List Token) → a_sign e o ts ≡ Err u → ts ≡ u
+pub sign_err : (e : ℕ) (o : Op) (ts : List Token) (u : Stop) → a_sign e o ts ≡ Err u → ts ≡ u.1
 sign_err e o ts u i = take_err e (place_if (is_sign o)) ts u i
 
-pub word_err : (e : ℕ) (ts u : List Token) → a_word e ts ≡ Err u → ts ≡ u
+pub word_err : (e : ℕ) (ts : List Token) (u : Stop) → a_word e ts ≡ Err u → ts ≡ u.1
 word_err e ts u i = take_err e word_of ts u i
 
-pub field_err : (e : ℕ) (ts u : List Token) → a_field e ts ≡ Err u → ts ≡ u
+pub field_err : (e : ℕ) (ts : List Token) (u : Stop) → a_field e ts ≡ Err u → ts ≡ u.1
 field_err e ts u i = take_err e field_of ts u i
 
-pub gives_err : {A : Type 0} {R : Type 0} (a : A) (ts u : List Token) → gives a ts ≡ Err u → R
+pub gives_err : {A : Type 0} {R : Type 0} (a : A) (ts : List Token) (u : Stop) → gives a ts ≡ Err u → R
 gives_err {A} {R} a ts u i = absurd cc
 
-pub ended_err : {A : Type 0} (e : ℕ) (m : Mark) (f : Place → A) (ts u : List Token) → ended e m f ts ≡ Err u → ts ≡ u
+pub ended_err : {A : Type 0} (e : ℕ) (m : Mark) (f : Place → A) (ts : List Token) (u : Stop) → ended e m f ts ≡ Err u → ts ≡ u.1
 ended_err e m f ts u o = broken o (λ i. mark_err e m ts u i) (λ p us i j. gives_err (f p) us u j)
 
 -- ---- the claim
@@ -148,15 +149,15 @@ abbrev pub Listed : ℕ → ℕ → Bullets → Type 0
 Listed e c bs = GoodBullets c bs × Right e (first_bullet bs)
 
 pub record Mends (r : Readers) : Type 0 where
-  pub expr : (e : ℕ) (c : Context) (ts u : List Token) → r.expr e c ts ≡ Err u → Mend (Fits c e) spell ts u
-  pub short : (e : ℕ) (ts u : List Token) → r.short e ts ≡ Err u → Mend (Brief e) spell ts u
-  pub postfix : (e : ℕ) (b : Phrase) → Good e b → is_primary (head b) ≡ true → (ts u : List Token) → r.postfix e b ts ≡ Err u → Mend (Prime e) spell (spell b ts) u
-  pub climb : (e : ℕ) (c : Context) (b : Phrase) → Good e b → fits c b ≡ true → (ts u : List Token) → r.climb e (bound c) b ts ≡ Err u → Mend (Fits c e) spell (spell b ts) u
-  pub phrases : (e : ℕ) (ts u : List Token) → r.phrases e ts ≡ Err u → Mend (GoodAll e) spell_all ts u
-  pub binds : (e : ℕ) (p : Place) (x : Word) → Right e p → (ts u : List Token) → r.binds e p x ts ≡ Err u → Mend (GoodBinds e) spell_binds (word p x ts) u
-  pub fields : (e : ℕ) (m : Mark) (f : Field) → Right e f.place → (ts u : List Token) → r.fields e m f ts ≡ Err u → Mend (GoodFields e) (spell_fields m) (field_token f ts) u
-  pub settings : (e : ℕ) (ts u : List Token) → r.settings e ts ≡ Err u → Mend (GoodSettings e) spell_settings ts u
-  pub path : (e : ℕ) (ts u : List Token) → r.path e ts ≡ Err u → Mend (SomePath e) spell_path ts u
-  pub bullets : (e : ℕ) (o : Op) (c : ℕ) → is_bullet o ≡ true → nat_lt e c ≡ true → (ts u : List Token) → r.bullets e o c ts ≡ Err u → Mend (Listed e c) (spell_bullets o) ts u
-  pub arms : (e : ℕ) (ts u : List Token) → r.arms e ts ≡ Err u → Mend (GoodArms e) spell_arms ts u
-  pub locals : (e : ℕ) (ts u : List Token) → r.locals e ts ≡ Err u → Mend (GoodLocals e) spell_locals ts u
+  pub expr : (e : ℕ) (c : Context) (ts : List Token) (u : Stop) → r.expr e c ts ≡ Err u → Mend (Fits c e) spell ts u.1
+  pub short : (e : ℕ) (ts : List Token) (u : Stop) → r.short e ts ≡ Err u → Mend (Brief e) spell ts u.1
+  pub postfix : (e : ℕ) (b : Phrase) → Good e b → is_primary (head b) ≡ true → (ts : List Token) (u : Stop) → r.postfix e b ts ≡ Err u → Mend (Prime e) spell (spell b ts) u.1
+  pub climb : (e : ℕ) (c : Context) (b : Phrase) → Good e b → fits c b ≡ true → (ts : List Token) (u : Stop) → r.climb e (bound c) b ts ≡ Err u → Mend (Fits c e) spell (spell b ts) u.1
+  pub phrases : (e : ℕ) (ts : List Token) (u : Stop) → r.phrases e ts ≡ Err u → Mend (GoodAll e) spell_all ts u.1
+  pub binds : (e : ℕ) (p : Place) (x : Word) → Right e p → (ts : List Token) (u : Stop) → r.binds e p x ts ≡ Err u → Mend (GoodBinds e) spell_binds (word p x ts) u.1
+  pub fields : (e : ℕ) (m : Mark) (f : Field) → Right e f.place → (ts : List Token) (u : Stop) → r.fields e m f ts ≡ Err u → Mend (GoodFields e) (spell_fields m) (field_token f ts) u.1
+  pub settings : (e : ℕ) (ts : List Token) (u : Stop) → r.settings e ts ≡ Err u → Mend (GoodSettings e) spell_settings ts u.1
+  pub path : (e : ℕ) (ts : List Token) (u : Stop) → r.path e ts ≡ Err u → Mend (SomePath e) spell_path ts u.1
+  pub bullets : (e : ℕ) (o : Op) (c : ℕ) → is_bullet o ≡ true → nat_lt e c ≡ true → (ts : List Token) (u : Stop) → r.bullets e o c ts ≡ Err u → Mend (Listed e c) (spell_bullets o) ts u.1
+  pub arms : (e : ℕ) (ts : List Token) (u : Stop) → r.arms e ts ≡ Err u → Mend (GoodArms e) spell_arms ts u.1
+  pub locals : (e : ℕ) (ts : List Token) (u : Stop) → r.locals e ts ≡ Err u → Mend (GoodLocals e) spell_locals ts u.1

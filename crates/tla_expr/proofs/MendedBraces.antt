@@ -10,7 +10,7 @@ use Rattle.tla_expr.specs.Spelling.{last, more, Binds, last_bind, bind, last_fie
 use Rattle.tla_expr.specs.Spelling.{mark, key, sign, word, field_token, spell, spell_all, spell_binds, spell_fields, spell_settings, Right, Good, GoodBinds, is_word, is_in}
 use Rattle.tla_expr.proofs.SpellAhead.{held, put_ahead, then_ahead, ahead, ahead_all, ahead_binds, ahead_fields, ahead_settings}
 use Rattle.tla_expr.proofs.Mended.{right_after, after, mark_at, sign_at, number_at, word_at, some, some_bind, Mend, inside, missing, onto, left_is, broken, mark_err, word_err, gives_err, ended_err, Fits, Prime, Mends}
-use Rattle.tla_expr.specs.Reader.{next, tail, free, Readers, element, named, from_name, set_rest, brace_rest, set_from, member_rest, brace_name, braces, tuples, field_rest, function_rest, square_rest, square_from, bind_rest, square_member, plain_field, square_name, squares}
+use Rattle.tla_expr.specs.Reader.{Stop, any, next, tail, free, Readers, element, named, from_name, set_rest, brace_rest, set_from, member_rest, brace_name, braces, tuples, field_rest, function_rest, square_rest, square_from, bind_rest, square_member, plain_field, square_name, squares}
 use Rattle.tla_expr.proofs.ReadMembers.{is_member, bind_member}
 use Rattle.tla_expr.proofs.SoundTokens.{seen, mark_ok, word_ok}
 use Rattle.tla_expr.proofs.SoundPhrases.{Sound, no_word, no_in, element_is, named_sound, from_name_sound}
@@ -32,7 +32,7 @@ module _ (e : ℕ) (p : Place) (g : Right e p) {ts us u : List Token} where
 
 module _ (r : Readers) (s : Sound r) (h : Mends r) where
   -- ---- names
-  named_mended : (e : ℕ) (p : Place) (x : Word) → Right e p → (q : Place) (k : TokenView) (ts u : List Token) → next e ts ≡ token q k → named r e p x q k ts ≡ Err u → Mend (Prime e) spell (word p x ts) u
+  named_mended : (e : ℕ) (p : Place) (x : Word) → Right e p → (q : Place) (k : TokenView) (ts : List Token) (u : Stop) → next e ts ≡ token q k → named (any r) e p x q k ts ≡ Err u → Mend (Prime e) spell (word p x ts) u.1
   named_mended e p x g q (tk.mark tk.open_bracket) ts u i o =
       let n = seen e ts q (tk.mark tk.open_bracket) i refl in
       broken o
@@ -42,14 +42,14 @@ module _ (r : Readers) (s : Sound r) (h : Mends r) where
   named_mended e p x g q (tk.mark tk.prime) ts u i o = absurd cc
   named_mended e p x g q k ts u i o = absurd cc
 
-  pub from_mended : (e : ℕ) (p : Place) (x : Word) → Right e p → (ts u : List Token) → from_name r e p x ts ≡ Err u → Mend (Prime e) spell (word p x ts) u
+  pub from_mended : (e : ℕ) (p : Place) (x : Word) → Right e p → (ts : List Token) (u : Stop) → from_name (any r) r e p x ts ≡ Err u → Mend (Prime e) spell (word p x ts) u.1
   from_mended e p x g ts u o =
       broken o
       (λ j. named_mended e p x g (next e ts).place (next e ts).kind ts u refl j)
       (λ a us j l. (let w = named_sound r s e p x g (next e ts).place (next e ts).kind ts a us refl j in onto w.2 (h.postfix e a w.0 w.1 us u l)))
 
   -- ---- braces
-  set_mended : (e : ℕ) (p : Place) → Right e p → (b : Phrase) → Good e b → (q : Place) (k : TokenView) (ts u : List Token) → next e ts ≡ token q k → set_rest r e p b q k ts ≡ Err u → Mend (Prime e) spell (mark p tk.open_brace (spell b ts)) u
+  set_mended : (e : ℕ) (p : Place) → Right e p → (b : Phrase) → Good e b → (q : Place) (k : TokenView) (ts : List Token) (u : Stop) → next e ts ≡ token q k → set_rest r e p b q k ts ≡ Err u → Mend (Prime e) spell (mark p tk.open_brace (spell b ts)) u.1
   set_mended e p g b gb q (tk.mark tk.comma) ts u i o =
       let n = seen e ts q (tk.mark tk.comma) i refl in
       broken o
@@ -60,7 +60,7 @@ module _ (r : Readers) (s : Sound r) (h : Mends r) where
       let d = ended_err e tk.close_brace (λ t. set_of p (last b) t) ts u o in
       missing (λ v. mark p tk.open_brace (spell b v)) (put_ahead (ahead b)) (mark_at e tk.close_brace ∷ []) (set_of p (last b) (after e)) ((g, gb, right_after e), refl) (λ v. refl) (rw d refl)
 
-  brace_mended : (e : ℕ) (p : Place) → Right e p → (b : Phrase) → Good e b → is_member b ≡ false → (q : Place) (k : TokenView) (ts u : List Token) → next e ts ≡ token q k → brace_rest r e p b q k ts ≡ Err u → Mend (Prime e) spell (mark p tk.open_brace (spell b ts)) u
+  brace_mended : (e : ℕ) (p : Place) → Right e p → (b : Phrase) → Good e b → is_member b ≡ false → (q : Place) (k : TokenView) (ts : List Token) (u : Stop) → next e ts ≡ token q k → brace_rest r e p b q k ts ≡ Err u → Mend (Prime e) spell (mark p tk.open_brace (spell b ts)) u.1
   brace_mended e p g b gb m q (tk.mark tk.colon) ts u i o =
       let n = seen e ts q (tk.mark tk.colon) i refl in
       let f = ap not (bind_member e b gb ∙ m) in
@@ -75,16 +75,16 @@ module _ (r : Readers) (s : Sound r) (h : Mends r) where
   brace_mended e p g b gb m q k ts u i o = set_mended e p g b gb q k ts u i o
 
   -- after `{x \in S`, whether or not that can be an element
-  set_from_mended : (e : ℕ) (p : Place) → Right e p → (q : Place) (x : Word) (t : Place) → Right e q → Right e t → (b : Phrase) → Good e b → (ts u : List Token) → set_from r e p (element q x t b) ts ≡ Err u → Mend (Prime e) spell (mark p tk.open_brace (word q x (sign t op.In (spell b ts)))) u
+  set_from_mended : (e : ℕ) (p : Place) → Right e p → (q : Place) (x : Word) (t : Place) → Right e q → Right e t → (b : Phrase) → Good e b → (ts : List Token) (u : Stop) → set_from (any r) r e p (element q x t b) ts ≡ Err u → Mend (Prime e) spell (mark p tk.open_brace (word q x (sign t op.In (spell b ts)))) u.1
   set_from_mended e p g q x t gq gt b gb ts u o = by (element q x t b) refl o
     where
-      by : (m : Option Phrase) → element q x t b ≡ m → set_from r e p m ts ≡ Err u → Mend (Prime e) spell (mark p tk.open_brace (word q x (sign t op.In (spell b ts)))) u
+      by : (m : Option Phrase) → element q x t b ≡ m → set_from (any r) r e p m ts ≡ Err u → Mend (Prime e) spell (mark p tk.open_brace (word q x (sign t op.In (spell b ts)))) u.1
       by (Some c) i o = (let w = element_is e q x t gq gt b c gb i in onto (ap (λ (vs : List Token). mark p tk.open_brace vs) (w.1 ts)) (set_mended e p g c w.0 (next e ts).place (next e ts).kind ts u refl o))
       by None i o =
           let d = left_is {A = Phrase} o in
           missing (λ v. mark p tk.open_brace (word q x (sign t op.In (spell b v)))) (put_ahead (put_ahead (put_ahead (ahead b)))) (mark_at e tk.colon ∷ number_at e ∷ mark_at e tk.close_brace ∷ []) (filter p q x t b (after e) (some e) (after e)) ((g, gq, gt, gb, right_after e, right_after e, right_after e), refl) (λ v. refl) (rw d refl)
 
-  member_mended : (e : ℕ) (p : Place) → Right e p → (q : Place) (x : Word) (t : Place) → Right e q → Right e t → (b : Phrase) → Good e b → (j : Place) (k : TokenView) (ts u : List Token) → next e ts ≡ token j k → member_rest r e p q x t b j k ts ≡ Err u → Mend (Prime e) spell (mark p tk.open_brace (word q x (sign t op.In (spell b ts)))) u
+  member_mended : (e : ℕ) (p : Place) → Right e p → (q : Place) (x : Word) (t : Place) → Right e q → Right e t → (b : Phrase) → Good e b → (j : Place) (k : TokenView) (ts : List Token) (u : Stop) → next e ts ≡ token j k → member_rest (any r) r e p q x t b j k ts ≡ Err u → Mend (Prime e) spell (mark p tk.open_brace (word q x (sign t op.In (spell b ts)))) u.1
   member_mended e p g q x t gq gt b gb j (tk.mark tk.colon) ts u i o =
       let n = seen e ts j (tk.mark tk.colon) i refl in
       broken o
@@ -93,7 +93,7 @@ module _ (r : Readers) (s : Sound r) (h : Mends r) where
       missing (λ v. mark p tk.open_brace (word q x (sign t op.In (spell b (mark j tk.colon (spell a v)))))) (put_ahead (put_ahead (put_ahead (then_ahead (ahead b) (put_ahead (ahead a)))))) (mark_at e tk.close_brace ∷ []) (filter p q x t b j a (after e)) ((g, gq, gt, gb, n.0, w.0, right_after e), refl) (λ v. refl) (rw (sym d, w.2, n.1) refl)))
   member_mended e p g q x t gq gt b gb j k ts u i o = set_from_mended e p g q x t gq gt b gb ts u o
 
-  brace_name_other : (e : ℕ) (p : Place) → Right e p → (q : Place) (x : Word) → Right e q → (ts u : List Token) → is_in (next e ts).kind ≡ false → brace_name r e p q x (next e ts).place (tk.other []) ts ≡ Err u → Mend (Prime e) spell (mark p tk.open_brace (word q x ts)) u
+  brace_name_other : (e : ℕ) (p : Place) → Right e p → (q : Place) (x : Word) → Right e q → (ts : List Token) (u : Stop) → is_in (next e ts).kind ≡ false → brace_name (any r) r e p q x (next e ts).place (tk.other []) ts ≡ Err u → Mend (Prime e) spell (mark p tk.open_brace (word q x ts)) u.1
   brace_name_other e p g q x gq ts u i o =
       broken o
       (λ j. in_braces e p g (from_mended e q x gq ts u j) refl)
@@ -103,7 +103,7 @@ module _ (r : Readers) (s : Sound r) (h : Mends r) where
       (λ b vs j l. (let c = s.climb e free a f.0 refl us b vs j in let m = no_in e b c.0 q x ts vs (c.2 ∙ f.2) i in
       onto (ap (λ (ws : List Token). mark p tk.open_brace ws) (c.2 ∙ f.2)) (brace_mended e p g b c.0 m (next e vs).place (next e vs).kind vs u refl l)))))
 
-  brace_name_mended : (e : ℕ) (p : Place) → Right e p → (q : Place) (x : Word) → Right e q → (t : Place) (k : TokenView) (ts u : List Token) → next e ts ≡ token t k → brace_name r e p q x t k ts ≡ Err u → Mend (Prime e) spell (mark p tk.open_brace (word q x ts)) u
+  brace_name_mended : (e : ℕ) (p : Place) → Right e p → (q : Place) (x : Word) → Right e q → (t : Place) (k : TokenView) (ts : List Token) (u : Stop) → next e ts ≡ token t k → brace_name (any r) r e p q x t k ts ≡ Err u → Mend (Prime e) spell (mark p tk.open_brace (word q x ts)) u.1
   brace_name_mended e p g q x gq t (tk.sign op.In) ts u i o =
       let n = seen e ts t (tk.sign op.In) i refl in
       broken o
@@ -111,14 +111,14 @@ module _ (r : Readers) (s : Sound r) (h : Mends r) where
       (λ a us j l. (let w = s.expr e free (tail ts) a us j in onto (rw (w.2, n.1) refl) (member_mended e p g q x t gq n.0 a w.0 (next e us).place (next e us).kind us u refl l)))
   brace_name_mended e p g q x gq t k ts u i o = brace_name_other e p g q x gq ts u (ap (λ (z : Token). is_in z.kind) i) o
 
-  braces_other : (e : ℕ) (p : Place) → Right e p → (ts u : List Token) → is_word (next e ts).kind ≡ false → braces r e p (next e ts).place (tk.other []) ts ≡ Err u → Mend (Prime e) spell (mark p tk.open_brace ts) u
+  braces_other : (e : ℕ) (p : Place) → Right e p → (ts : List Token) (u : Stop) → is_word (next e ts).kind ≡ false → braces (any r) r e p (next e ts).place (tk.other []) ts ≡ Err u → Mend (Prime e) spell (mark p tk.open_brace ts) u.1
   braces_other e p g ts u i o =
       broken o
       (λ j. fits_in_braces e p g (h.expr e free ts u j) refl)
       (λ a us j l. (let w = s.expr e free ts a us j in let m = no_word e a w.0 ts us w.2 i in
       onto (ap (λ (ws : List Token). mark p tk.open_brace ws) w.2) (brace_mended e p g a w.0 m (next e us).place (next e us).kind us u refl l)))
 
-  pub braces_mended : (e : ℕ) (p : Place) → Right e p → (q : Place) (k : TokenView) (ts u : List Token) → next e ts ≡ token q k → braces r e p q k ts ≡ Err u → Mend (Prime e) spell (mark p tk.open_brace ts) u
+  pub braces_mended : (e : ℕ) (p : Place) → Right e p → (q : Place) (k : TokenView) (ts : List Token) (u : Stop) → next e ts ≡ token q k → braces (any r) r e p q k ts ≡ Err u → Mend (Prime e) spell (mark p tk.open_brace ts) u.1
   braces_mended e p g q (tk.mark tk.close_brace) ts u i o = absurd cc
   braces_mended e p g q (tk.word x) ts u i o =
       let n = seen e ts q (tk.word x) i refl in
@@ -126,19 +126,19 @@ module _ (r : Readers) (s : Sound r) (h : Mends r) where
   braces_mended e p g q k ts u i o = braces_other e p g ts u (ap (λ (z : Token). is_word z.kind) i) o
 
   -- ---- tuples
-  tuples_other : (e : ℕ) (p : Place) → Right e p → (q : Place) (ts u : List Token) → tuples r e p q (tk.other []) ts ≡ Err u → Mend (Prime e) spell (mark p tk.open_tuple ts) u
+  tuples_other : (e : ℕ) (p : Place) → Right e p → (q : Place) (ts : List Token) (u : Stop) → tuples r e p q (tk.other []) ts ≡ Err u → Mend (Prime e) spell (mark p tk.open_tuple ts) u.1
   tuples_other e p g q ts u o =
       broken o
       (λ j. (let m = h.phrases e ts u j in inside (λ v. mark p tk.open_tuple v) (put_ahead held) (mark_at e tk.close_tuple ∷ []) m (tuple p m.whole (after e)) ((g, m.good, right_after e), refl) (λ v. refl) refl))
       (λ xs us j l. (let w = s.phrases e ts xs us j in let d = ended_err e tk.close_tuple (λ i. tuple p xs i) us u l in
       missing (λ v. mark p tk.open_tuple (spell_all xs v)) (put_ahead (ahead_all xs)) (mark_at e tk.close_tuple ∷ []) (tuple p xs (after e)) ((g, w.0, right_after e), refl) (λ v. refl) (rw (sym d, w.1) refl)))
 
-  pub tuples_mended : (e : ℕ) (p : Place) → Right e p → (q : Place) (k : TokenView) (ts u : List Token) → next e ts ≡ token q k → tuples r e p q k ts ≡ Err u → Mend (Prime e) spell (mark p tk.open_tuple ts) u
+  pub tuples_mended : (e : ℕ) (p : Place) → Right e p → (q : Place) (k : TokenView) (ts : List Token) (u : Stop) → next e ts ≡ token q k → tuples r e p q k ts ≡ Err u → Mend (Prime e) spell (mark p tk.open_tuple ts) u.1
   tuples_mended e p g q (tk.mark tk.close_tuple) ts u i o = absurd cc
   tuples_mended e p g q k ts u i o = tuples_other e p g q ts u o
 
   -- ---- square brackets
-  field_mended : (e : ℕ) (p : Place) → Right e p → (f : Field) → Right e f.place → (q : Place) (k : TokenView) (ts u : List Token) → field_rest r e p f q k ts ≡ Err u → Mend (Prime e) spell (mark p tk.open_square (field_token f ts)) u
+  field_mended : (e : ℕ) (p : Place) → Right e p → (f : Field) → Right e f.place → (q : Place) (k : TokenView) (ts : List Token) (u : Stop) → field_rest r e p f q k ts ≡ Err u → Mend (Prime e) spell (mark p tk.open_square (field_token f ts)) u.1
   field_mended e p g f gf q (tk.mark tk.maps) ts u o =
       broken o
       (λ j. (let m = h.fields e tk.maps f gf ts u j in inside (λ v. mark p tk.open_square v) (put_ahead held) (mark_at e tk.close_square ∷ []) m (fields p m.whole (after e)) ((g, m.good, right_after e), refl) (λ v. refl) refl))
@@ -150,10 +150,10 @@ module _ (r : Readers) (s : Sound r) (h : Mends r) where
       (λ fs us j l. (let w = s.fields e tk.colon f gf ts fs us j in let d = ended_err e tk.close_square (λ i. records p fs i) us u l in
       missing (λ v. mark p tk.open_square (spell_fields tk.colon fs v)) (put_ahead (ahead_fields tk.colon fs)) (mark_at e tk.close_square ∷ []) (records p fs (after e)) ((g, w.0, right_after e), refl) (λ v. refl) (rw (sym d, w.1) refl)))
   field_mended e p g f gf q k ts u o =
-      let d = left_is {A = Phrase} {u = ts} {v = u} o in
+      let d = left_is {A = Phrase} {ts = ts} {u = u} o in
       missing (λ v. mark p tk.open_square (field_token f v)) (put_ahead (put_ahead held)) (mark_at e tk.maps ∷ number_at e ∷ mark_at e tk.close_square ∷ []) (fields p (last_field f (after e) (some e)) (after e)) ((g, (gf, right_after e, right_after e), right_after e), refl) (λ v. refl) (rw d refl)
 
-  function_mended : (e : ℕ) (p : Place) → Right e p → (bs : Binds) → GoodBinds e bs → (ts u : List Token) → function_rest r e p bs ts ≡ Err u → Mend (Prime e) spell (mark p tk.open_square (spell_binds bs ts)) u
+  function_mended : (e : ℕ) (p : Place) → Right e p → (bs : Binds) → GoodBinds e bs → (ts : List Token) (u : Stop) → function_rest r e p bs ts ≡ Err u → Mend (Prime e) spell (mark p tk.open_square (spell_binds bs ts)) u.1
   function_mended e p g bs gb ts u o =
       let z = right_after e in
       broken o
@@ -164,7 +164,7 @@ module _ (r : Readers) (s : Sound r) (h : Mends r) where
       (λ a vs j l. (let w = s.expr e free us a vs j in let d = ended_err e tk.close_square (λ i. function p bs q a i) vs u l in
       missing (λ v. mark p tk.open_square (spell_binds bs (mark q tk.maps (spell a v)))) (put_ahead (then_ahead (ahead_binds bs) (put_ahead (ahead a)))) (mark_at e tk.close_square ∷ []) (function p bs q a (after e)) ((g, gb, n.0, w.0, z), refl) (λ v. refl) (rw (sym d, w.2, n.1) refl)))))
 
-  square_mended : (e : ℕ) (p : Place) → Right e p → (b : Phrase) → Good e b → (q : Place) (k : TokenView) (ts u : List Token) → next e ts ≡ token q k → square_rest r e p b q k ts ≡ Err u → Mend (Prime e) spell (mark p tk.open_square (spell b ts)) u
+  square_mended : (e : ℕ) (p : Place) → Right e p → (b : Phrase) → Good e b → (q : Place) (k : TokenView) (ts : List Token) (u : Stop) → next e ts ≡ token q k → square_rest r e p b q k ts ≡ Err u → Mend (Prime e) spell (mark p tk.open_square (spell b ts)) u.1
   square_mended e p g b gb q (tk.mark tk.arrow) ts u i o =
       let n = seen e ts q (tk.mark tk.arrow) i refl in
       broken o
@@ -178,19 +178,19 @@ module _ (r : Readers) (s : Sound r) (h : Mends r) where
       (λ ss us j l. (let w = s.settings e (tail ts) ss us j in let d = ended_err e tk.close_square (λ i. except p b q ss i) us u l in
       missing (λ v. mark p tk.open_square (spell b (key q tk.except_key (spell_settings ss v)))) (put_ahead (then_ahead (ahead b) (put_ahead (ahead_settings ss)))) (mark_at e tk.close_square ∷ []) (except p b q ss (after e)) ((g, gb, n.0, w.0, right_after e), refl) (λ v. refl) (rw (sym d, w.1, n.1) refl)))
   square_mended e p g b gb q k ts u i o =
-      let d = left_is {A = Phrase} {u = ts} {v = u} o in
+      let d = left_is {A = Phrase} {ts = ts} {u = u} o in
       missing (λ v. mark p tk.open_square (spell b v)) (put_ahead (ahead b)) (mark_at e tk.arrow ∷ number_at e ∷ mark_at e tk.close_square ∷ []) (functions p b (after e) (some e) (after e)) ((g, gb, right_after e, right_after e, right_after e), refl) (λ v. refl) (rw d refl)
 
-  square_from_mended : (e : ℕ) (p : Place) → Right e p → (q : Place) (x : Word) (t : Place) → Right e q → Right e t → (b : Phrase) → Good e b → (ts u : List Token) → square_from r e p (element q x t b) ts ≡ Err u → Mend (Prime e) spell (mark p tk.open_square (word q x (sign t op.In (spell b ts)))) u
+  square_from_mended : (e : ℕ) (p : Place) → Right e p → (q : Place) (x : Word) (t : Place) → Right e q → Right e t → (b : Phrase) → Good e b → (ts : List Token) (u : Stop) → square_from (any r) r e p (element q x t b) ts ≡ Err u → Mend (Prime e) spell (mark p tk.open_square (word q x (sign t op.In (spell b ts)))) u.1
   square_from_mended e p g q x t gq gt b gb ts u o = by (element q x t b) refl o
     where
-      by : (m : Option Phrase) → element q x t b ≡ m → square_from r e p m ts ≡ Err u → Mend (Prime e) spell (mark p tk.open_square (word q x (sign t op.In (spell b ts)))) u
+      by : (m : Option Phrase) → element q x t b ≡ m → square_from (any r) r e p m ts ≡ Err u → Mend (Prime e) spell (mark p tk.open_square (word q x (sign t op.In (spell b ts)))) u.1
       by (Some c) i o = (let w = element_is e q x t gq gt b c gb i in onto (ap (λ (vs : List Token). mark p tk.open_square vs) (w.1 ts)) (square_mended e p g c w.0 (next e ts).place (next e ts).kind ts u refl o))
       by None i o =
           let d = left_is {A = Phrase} o in
           missing (λ v. mark p tk.open_square (word q x (sign t op.In (spell b v)))) (put_ahead (put_ahead (put_ahead (ahead b)))) (mark_at e tk.maps ∷ number_at e ∷ mark_at e tk.close_square ∷ []) (function p (last_bind q x t b) (after e) (some e) (after e)) ((g, (gq, gt, gb), right_after e, right_after e, right_after e), refl) (λ v. refl) (rw d refl)
 
-  pub bind_mended : (e : ℕ) (q : Place) (x : Word) (t : Place) → Right e q → Right e t → (b : Phrase) → Good e b → (j : Place) (k : TokenView) (ts u : List Token) → next e ts ≡ token j k → bind_rest r e q x t b j k ts ≡ Err u → Mend (GoodBinds e) spell_binds (word q x (sign t op.In (spell b ts))) u
+  pub bind_mended : (e : ℕ) (q : Place) (x : Word) (t : Place) → Right e q → Right e t → (b : Phrase) → Good e b → (j : Place) (k : TokenView) (ts : List Token) (u : Stop) → next e ts ≡ token j k → bind_rest r e q x t b j k ts ≡ Err u → Mend (GoodBinds e) spell_binds (word q x (sign t op.In (spell b ts))) u.1
   bind_mended e q x t gq gt b gb j (tk.mark tk.comma) ts u i o =
       let n = seen e ts j (tk.mark tk.comma) i refl in
       let z = right_after e in
@@ -202,7 +202,7 @@ module _ (r : Readers) (s : Sound r) (h : Mends r) where
       (λ bs vs l o. gives_err (bind q x t b j bs) vs u o)))
   bind_mended e q x t gq gt b gb j k ts u i o = absurd cc
 
-  square_member_mended : (e : ℕ) (p : Place) → Right e p → (q : Place) (x : Word) (t : Place) → Right e q → Right e t → (b : Phrase) → Good e b → (j : Place) (k : TokenView) (ts u : List Token) → next e ts ≡ token j k → square_member r e p q x t b j k ts ≡ Err u → Mend (Prime e) spell (mark p tk.open_square (word q x (sign t op.In (spell b ts)))) u
+  square_member_mended : (e : ℕ) (p : Place) → Right e p → (q : Place) (x : Word) (t : Place) → Right e q → Right e t → (b : Phrase) → Good e b → (j : Place) (k : TokenView) (ts : List Token) (u : Stop) → next e ts ≡ token j k → square_member (any r) r e p q x t b j k ts ≡ Err u → Mend (Prime e) spell (mark p tk.open_square (word q x (sign t op.In (spell b ts)))) u.1
   square_member_mended e p g q x t gq gt b gb j (tk.mark tk.maps) ts u i o = function_mended e p g (last_bind q x t b) (gq, gt, gb) ts u o
   square_member_mended e p g q x t gq gt b gb j (tk.mark tk.comma) ts u i o =
       broken o
@@ -212,7 +212,7 @@ module _ (r : Readers) (s : Sound r) (h : Mends r) where
       onto (ap (λ (vs : List Token). mark p tk.open_square vs) w.1) (function_mended e p g bs w.0 us u o)))
   square_member_mended e p g q x t gq gt b gb j k ts u i o = square_from_mended e p g q x t gq gt b gb ts u o
 
-  square_name_other : (e : ℕ) (p : Place) → Right e p → (q : Place) (x : Word) → Right e q → (t : Place) (ts u : List Token) → square_name r e p q x t (tk.other []) ts ≡ Err u → Mend (Prime e) spell (mark p tk.open_square (word q x ts)) u
+  square_name_other : (e : ℕ) (p : Place) → Right e p → (q : Place) (x : Word) → Right e q → (t : Place) (ts : List Token) (u : Stop) → square_name (any r) r e p q x t (tk.other []) ts ≡ Err u → Mend (Prime e) spell (mark p tk.open_square (word q x ts)) u.1
   square_name_other e p g q x gq t ts u o =
       broken o
       (λ j. in_squares e p g (from_mended e q x gq ts u j) refl)
@@ -222,7 +222,7 @@ module _ (r : Readers) (s : Sound r) (h : Mends r) where
       (λ b vs j l. (let c = s.climb e free a f.0 refl us b vs j in
       onto (ap (λ (ws : List Token). mark p tk.open_square ws) (c.2 ∙ f.2)) (square_mended e p g b c.0 (next e vs).place (next e vs).kind vs u refl l)))))
 
-  square_name_mended : (e : ℕ) (p : Place) → Right e p → (q : Place) (x : Word) → Right e q → (t : Place) (k : TokenView) (ts u : List Token) → next e ts ≡ token t k → square_name r e p q x t k ts ≡ Err u → Mend (Prime e) spell (mark p tk.open_square (word q x ts)) u
+  square_name_mended : (e : ℕ) (p : Place) → Right e p → (q : Place) (x : Word) → Right e q → (t : Place) (k : TokenView) (ts : List Token) (u : Stop) → next e ts ≡ token t k → square_name (any r) r e p q x t k ts ≡ Err u → Mend (Prime e) spell (mark p tk.open_square (word q x ts)) u.1
   square_name_mended e p g q x gq t (tk.mark tk.maps) ts u i o = field_mended e p g (plain_field q x) gq t (tk.mark tk.maps) ts u o
   square_name_mended e p g q x gq t (tk.mark tk.colon) ts u i o = field_mended e p g (plain_field q x) gq t (tk.mark tk.colon) ts u o
   square_name_mended e p g q x gq t (tk.mark tk.comma) ts u i o =
@@ -239,14 +239,14 @@ module _ (r : Readers) (s : Sound r) (h : Mends r) where
       (λ a us j l. (let w = s.expr e free (tail ts) a us j in onto (rw (w.2, n.1) refl) (square_member_mended e p g q x t gq n.0 a w.0 (next e us).place (next e us).kind us u refl l)))
   square_name_mended e p g q x gq t k ts u i o = square_name_other e p g q x gq t ts u o
 
-  squares_other : (e : ℕ) (p : Place) → Right e p → (q : Place) (ts u : List Token) → squares r e p q (tk.other []) ts ≡ Err u → Mend (Prime e) spell (mark p tk.open_square ts) u
+  squares_other : (e : ℕ) (p : Place) → Right e p → (q : Place) (ts : List Token) (u : Stop) → squares (any r) r e p q (tk.other []) ts ≡ Err u → Mend (Prime e) spell (mark p tk.open_square ts) u.1
   squares_other e p g q ts u o =
       broken o
       (λ j. fits_in_squares e p g (h.expr e free ts u j) refl)
       (λ a us j l. (let w = s.expr e free ts a us j in
       onto (ap (λ (ws : List Token). mark p tk.open_square ws) w.2) (square_mended e p g a w.0 (next e us).place (next e us).kind us u refl l)))
 
-  pub squares_mended : (e : ℕ) (p : Place) → Right e p → (q : Place) (k : TokenView) (ts u : List Token) → next e ts ≡ token q k → squares r e p q k ts ≡ Err u → Mend (Prime e) spell (mark p tk.open_square ts) u
+  pub squares_mended : (e : ℕ) (p : Place) → Right e p → (q : Place) (k : TokenView) (ts : List Token) (u : Stop) → next e ts ≡ token q k → squares (any r) r e p q k ts ≡ Err u → Mend (Prime e) spell (mark p tk.open_square ts) u.1
   squares_mended e p g q (tk.reserved x) ts u i o =
       let n = seen e ts q (tk.reserved x) i refl in
       onto (rw n.1 refl) (field_mended e p g (record { place = q; is_reserved = true; text = x }) n.0 (next e (tail ts)).place (next e (tail ts)).kind (tail ts) u o)

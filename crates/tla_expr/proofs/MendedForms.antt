@@ -13,7 +13,7 @@ use Rattle.tla_expr.specs.Spelling.{mark, key, sign, word, field_token, spell, s
 use Rattle.tla_expr.specs.Spelling as sp
 use Rattle.tla_expr.proofs.SpellAhead.{held, put_ahead, then_ahead, ahead, ahead_all, ahead_binds, ahead_locals}
 use Rattle.tla_expr.proofs.Mended.{right_after, after, mark_at, key_at, sign_at, number_at, word_at, some, some_bind, some_field, Mend, inside, missing, better, onto, left_is, broken, mark_err, key_err, word_err, field_err, gives_err, Fits, Prime, Brief, Mends}
-use Rattle.tla_expr.specs.Reader.{◌>>=◌, gives, next, tail, peek, Context, free, right_of, under, bound, fits, is_free, prefix_by, goes_on, Readers, list_if, keyed, under_by, signed, operand, short_signed, short_by, apply_if, select_if, postfix_by, climb_if, climb_by}
+use Rattle.tla_expr.specs.Reader.{Stop, any, ◌>>=◌, gives, next, tail, peek, Context, free, right_of, under, bound, fits, is_free, prefix_by, goes_on, Readers, list_if, keyed, under_by, signed, operand, short_signed, short_by, apply_if, select_if, postfix_by, climb_if, climb_by}
 use Rattle.tla_expr.specs.Reader as rd
 use Rattle.tla_expr.proofs.ReadStops.{sign_infix}
 use Rattle.tla_expr.proofs.ReadLists.{first_column}
@@ -24,15 +24,15 @@ use Rattle.tla_expr.proofs.SoundForms.{prime_fits, prime_short, open_fits, short
 use Rattle.tla_expr.proofs.MendedBraces.{from_mended, braces_mended, tuples_mended, squares_mended}
 
 -- nothing of a phrase was read
-pub nothing : {R : Phrase → Type 0} (e : ℕ) (ts u : List Token) → R (some e) → ts ≡ u → Mend R spell ts u
+pub nothing : {R : Phrase → Type 0} (e : ℕ) (ts : List Token) (u : Stop) → R (some e) → ts ≡ u.1 → Mend R spell ts u.1
 nothing e ts u g d = missing (λ v. v) held (number_at e ∷ []) (some e) g (λ v. refl) d
 
 module _ (r : Readers) (s : Sound r) (h : Mends r) where
   -- ---- primaries
-  list_mended : (e : ℕ) (p : Place) (o : Op) (ts u : List Token) → next e ts ≡ token p (tk.sign o) → list_if (is_bullet o) r e p o ts ≡ Err u → Mend (Prime e) spell ts u
+  list_mended : (e : ℕ) (p : Place) (o : Op) (ts : List Token) (u : Stop) → next e ts ≡ token p (tk.sign o) → list_if (is_bullet o) r e p o ts ≡ Err u → Mend (Prime e) spell ts u.1
   list_mended e p o ts u n i = by (is_bullet o) refl i
     where
-      by : (b : Bool) → is_bullet o ≡ b → list_if b r e p o ts ≡ Err u → Mend (Prime e) spell ts u
+      by : (b : Bool) → is_bullet o ≡ b → list_if b r e p o ts ≡ Err u → Mend (Prime e) spell ts u.1
       by true b i =
           let right = (seen e ts p (tk.sign o) n refl).0 in
           broken i
@@ -44,7 +44,7 @@ module _ (r : Readers) (s : Sound r) (h : Mends r) where
           onto w.2 (h.postfix e (list o bs) (b, w.1, same_items) refl us u l)))
       by false b i = nothing e ts u (right_after e, refl) (left_is {A = Phrase} i)
 
-  primary_mended : (e : ℕ) (p : Place) (k : TokenView) (ts u : List Token) → next e ts ≡ token p k → rd.primary r e p k ts ≡ Err u → Mend (Prime e) spell ts u
+  primary_mended : (e : ℕ) (p : Place) (k : TokenView) (ts : List Token) (u : Stop) → next e ts ≡ token p k → rd.primary (any r) r e p k ts ≡ Err u → Mend (Prime e) spell ts u.1
   primary_mended e p (tk.number n) ts u i o = (let m = seen e ts p (tk.number n) i refl in onto m.1 (h.postfix e (number p n) m.0 refl (tail ts) u o))
   primary_mended e p (tk.string x) ts u i o = (let m = seen e ts p (tk.string x) i refl in onto m.1 (h.postfix e (string p x) m.0 refl (tail ts) u o))
   primary_mended e p (tk.constant c) ts u i o = (let m = seen e ts p (tk.constant c) i refl in onto m.1 (h.postfix e (constant p c) m.0 refl (tail ts) u o))
@@ -73,10 +73,10 @@ module _ (r : Readers) (s : Sound r) (h : Mends r) where
       (λ j. onto n.1 (squares_mended r s h e p n.0 (next e (tail ts)).place (next e (tail ts)).kind (tail ts) u refl j))
       (λ a us j l. (let w = squares_sound r s e p n.0 (next e (tail ts)).place (next e (tail ts)).kind (tail ts) a us refl j in onto (w.2 ∙ n.1) (h.postfix e a w.0 w.1 us u l)))
   primary_mended e p (tk.sign o) ts u i l = list_mended e p o ts u i l
-  primary_mended e p k ts u i o = nothing e ts u (right_after e, refl) (left_is {A = Phrase} {u = ts} {v = u} o)
+  primary_mended e p k ts u i o = nothing e ts u (right_after e, refl) (left_is {A = Phrase} {ts = ts} {u = u} o)
 
   -- ---- open forms
-  quantifier_mended : (e : ℕ) (c : Context) (b : Bool) (p : Place) → Right e p → (ts u : List Token) → rd.quantifier r e b p ts ≡ Err u → Mend (Fits c e) spell (key p (sp.quantifier b) ts) u
+  quantifier_mended : (e : ℕ) (c : Context) (b : Bool) (p : Place) → Right e p → (ts : List Token) (u : Stop) → rd.quantifier r e b p ts ≡ Err u → Mend (Fits c e) spell (key p (sp.quantifier b) ts) u.1
   quantifier_mended e c b p g ts u o =
       let z = right_after e in
       broken o
@@ -92,7 +92,7 @@ module _ (r : Readers) (s : Sound r) (h : Mends r) where
       (λ j. (let m = h.expr e free ws u j in inside (λ v. key p (sp.quantifier b) (spell_binds bs (mark q tk.colon v))) (put_ahead (then_ahead (ahead_binds bs) (put_ahead held))) [] m (quantified b p bs q m.whole) ((g, y.0, n.0, m.good.0), open_fits c (quantified b p bs q m.whole) refl) (λ v. refl) (rw (n.1, y.1, w.1) refl)))
       (λ a xs j l. gives_err (quantified b p bs q a) xs u l)))))))
 
-  choice_mended : (e : ℕ) (c : Context) (p : Place) → Right e p → (ts u : List Token) → rd.choice_from r e p ts ≡ Err u → Mend (Fits c e) spell (key p tk.if_key ts) u
+  choice_mended : (e : ℕ) (c : Context) (p : Place) → Right e p → (ts : List Token) (u : Stop) → rd.choice_from r e p ts ≡ Err u → Mend (Fits c e) spell (key p tk.if_key ts) u.1
   choice_mended e c p g ts u o =
       let z = right_after e in
       let f = after e in
@@ -113,7 +113,7 @@ module _ (r : Readers) (s : Sound r) (h : Mends r) where
       (λ j. (let m = h.expr e free xs u j in inside (λ v. key p tk.if_key (spell a (key q tk.then_key (spell b (key t tk.else_key v))))) (put_ahead (then_ahead (ahead a) (put_ahead (then_ahead (ahead b) (put_ahead held))))) [] m (if_then_else p a q b t m.whole) ((g, w.0, n.0, y.0, k.0, m.good.0), open_fits c (if_then_else p a q b t m.whole) refl) (λ v. refl) (rw (k.1, y.2, n.1, w.2) refl)))
       (λ d ys j l. gives_err (if_then_else p a q b t d) ys u l)))))))))
 
-  keyed_mended : (e : ℕ) (c : Context) (p : Place) (k : Key) (ts u : List Token) → next e ts ≡ token p (tk.key k) → keyed r e p k ts ≡ Err u → Mend (Fits c e) spell ts u
+  keyed_mended : (e : ℕ) (c : Context) (p : Place) (k : Key) (ts : List Token) (u : Stop) → next e ts ≡ token p (tk.key k) → keyed (any r) e p k ts ≡ Err u → Mend (Fits c e) spell ts u.1
   keyed_mended e c p tk.if_key ts u i o = (let n = seen e ts p (tk.key tk.if_key) i refl in onto n.1 (choice_mended e c p n.0 (tail ts) u o))
   keyed_mended e c p tk.case_key ts u i o =
       let n = seen e ts p (tk.key tk.case_key) i refl in
@@ -134,11 +134,11 @@ module _ (r : Readers) (s : Sound r) (h : Mends r) where
       (λ a xs j l. gives_err (local p ls q a) xs u l)))))
   keyed_mended e c p tk.for_all_key ts u i o = (let n = seen e ts p (tk.key tk.for_all_key) i refl in onto n.1 (quantifier_mended e c true p n.0 (tail ts) u o))
   keyed_mended e c p tk.exists_key ts u i o = (let n = seen e ts p (tk.key tk.exists_key) i refl in onto n.1 (quantifier_mended e c false p n.0 (tail ts) u o))
-  keyed_mended e c p k ts u i o = nothing e ts u (right_after e, prime_fits c (some e) refl) (left_is {A = Phrase} {u = ts} {v = u} o)
+  keyed_mended e c p k ts u i o = nothing e ts u (right_after e, prime_fits c (some e) refl) (left_is {A = Phrase} {ts = ts} {u = u} o)
 
   -- ---- operands
-  prefix_mended : (e : ℕ) (c : Context) (p : Place) (o q : Op) → prefix_by o ≡ Some q → (ts u : List Token) → next e ts ≡ token p (tk.sign o)
-      → (under_by (is_free c q) r e q >>= λ a. gives (prefix_of p q a)) (tail ts) ≡ Err u → Mend (Fits c e) spell ts u
+  prefix_mended : (e : ℕ) (c : Context) (p : Place) (o q : Op) → prefix_by o ≡ Some q → (ts : List Token) (u : Stop) → next e ts ≡ token p (tk.sign o)
+      → (under_by (is_free c q) r e q >>= λ a. gives (prefix_of p q a)) (tail ts) ≡ Err u → Mend (Fits c e) spell ts u.1
   prefix_mended e c p o q m ts u i l =
       let n = seen e ts p (tk.sign o) i refl in
       let w = prefix_is o q m in
@@ -147,26 +147,26 @@ module _ (r : Readers) (s : Sound r) (h : Mends r) where
       inside (λ v. token p (tk.sign o) ∷ v) (put_ahead held) [] y (prefix_of p q y.whole) ((w.0, y.good.1, n.0, y.good.0), y.good.2) (λ v. rw w.1 refl) (sym n.1)))
       (λ a us j l. gives_err (prefix_of p q a) us u l)
     where
-      by : (b : Bool) → is_free c q ≡ b → under_by b r e q (tail ts) ≡ Err u → Mend (λ a. Good e a × (can_be_under q a ≡ true) × (fits c (prefix_of p q a) ≡ true)) spell (tail ts) u
+      by : (b : Bool) → is_free c q ≡ b → under_by b r e q (tail ts) ≡ Err u → Mend (λ a. Good e a × (can_be_under q a ≡ true) × (fits c (prefix_of p q a) ≡ true)) spell (tail ts) u.1
       by true f j = better (λ a g. (g.0, g.1, free_fits c p q a f)) (h.expr e (under q) (tail ts) u j)
       by false f j = better (λ a g. (g.0, short_under q a g.1, short_fits c p q a g.1)) (h.short e (tail ts) u j)
 
-  signed_mended : (e : ℕ) (c : Context) (p : Place) (o : Op) (ts u : List Token) → next e ts ≡ token p (tk.sign o) → signed r e c p o (prefix_by o) ts ≡ Err u → Mend (Fits c e) spell ts u
+  signed_mended : (e : ℕ) (c : Context) (p : Place) (o : Op) (ts : List Token) (u : Stop) → next e ts ≡ token p (tk.sign o) → signed (any r) r e c p o (prefix_by o) ts ≡ Err u → Mend (Fits c e) spell ts u.1
   signed_mended e c p o ts u i l = by (prefix_by o) refl l
     where
-      by : (m : Option Op) → prefix_by o ≡ m → signed r e c p o m ts ≡ Err u → Mend (Fits c e) spell ts u
+      by : (m : Option Op) → prefix_by o ≡ m → signed (any r) r e c p o m ts ≡ Err u → Mend (Fits c e) spell ts u.1
       by (Some q) m l = prefix_mended e c p o q m ts u i l
       by None m l = better (λ a g. (g.0, prime_fits c a g.1)) (list_mended e p o ts u i l)
 
-  pub operand_mended : (e : ℕ) (c : Context) (p : Place) (k : TokenView) (ts u : List Token) → next e ts ≡ token p k → operand r e c p k ts ≡ Err u → Mend (Fits c e) spell ts u
+  pub operand_mended : (e : ℕ) (c : Context) (p : Place) (k : TokenView) (ts : List Token) (u : Stop) → next e ts ≡ token p k → operand (any r) r e c p k ts ≡ Err u → Mend (Fits c e) spell ts u.1
   operand_mended e c p (tk.key k) ts u i o = keyed_mended e c p k ts u i o
   operand_mended e c p (tk.sign o) ts u i l = signed_mended e c p o ts u i l
   operand_mended e c p k ts u i o = better (λ a g. (g.0, prime_fits c a g.1)) (primary_mended e p k ts u i o)
 
-  pub short_mended : (e : ℕ) (p : Place) (k : TokenView) (ts u : List Token) → next e ts ≡ token p k → short_by r e p k ts ≡ Err u → Mend (Brief e) spell ts u
+  pub short_mended : (e : ℕ) (p : Place) (k : TokenView) (ts : List Token) (u : Stop) → next e ts ≡ token p k → short_by (any r) r e p k ts ≡ Err u → Mend (Brief e) spell ts u.1
   short_mended e p (tk.sign o) ts u i l = by (prefix_by o) refl l
     where
-      by : (m : Option Op) → prefix_by o ≡ m → short_signed r e p o m ts ≡ Err u → Mend (Brief e) spell ts u
+      by : (m : Option Op) → prefix_by o ≡ m → short_signed (any r) r e p o m ts ≡ Err u → Mend (Brief e) spell ts u.1
       by (Some q) m l =
           let n = seen e ts p (tk.sign o) i refl in
           let w = prefix_is o q m in
@@ -178,10 +178,10 @@ module _ (r : Readers) (s : Sound r) (h : Mends r) where
   short_mended e p k ts u i o = better (λ a g. (g.0, prime_short a g.1)) (primary_mended e p k ts u i o)
 
   -- ---- loops
-  pub postfix_mended : (e : ℕ) (b : Phrase) → Good e b → is_primary (head b) ≡ true → (p : Place) (k : TokenView) (ts u : List Token) → next e ts ≡ token p k → postfix_by r e b p k ts ≡ Err u → Mend (Prime e) spell (spell b ts) u
+  pub postfix_mended : (e : ℕ) (b : Phrase) → Good e b → is_primary (head b) ≡ true → (p : Place) (k : TokenView) (ts : List Token) (u : Stop) → next e ts ≡ token p k → postfix_by (any r) r e b p k ts ≡ Err u → Mend (Prime e) spell (spell b ts) u.1
   postfix_mended e b g f p (tk.mark tk.open_square) ts u i o = by (can_be_head b p) refl o
     where
-      by : (m : Bool) → can_be_head b p ≡ m → apply_if m r e b p ts ≡ Err u → Mend (Prime e) spell (spell b ts) u
+      by : (m : Bool) → can_be_head b p ≡ m → apply_if m (any r) r e b p ts ≡ Err u → Mend (Prime e) spell (spell b ts) u.1
       by true m o =
           let n = seen e ts p (tk.mark tk.open_square) i refl in
           broken o
@@ -193,7 +193,7 @@ module _ (r : Readers) (s : Sound r) (h : Mends r) where
       by false m o = gives_err b ts u o
   postfix_mended e b g f p (tk.mark tk.dot) ts u i o = by (can_be_head b p) refl o
     where
-      by : (m : Bool) → can_be_head b p ≡ m → select_if m r e b p ts ≡ Err u → Mend (Prime e) spell (spell b ts) u
+      by : (m : Bool) → can_be_head b p ≡ m → select_if m (any r) r e b p ts ≡ Err u → Mend (Prime e) spell (spell b ts) u.1
       by true m o =
           let n = seen e ts p (tk.mark tk.dot) i refl in
           broken o
@@ -202,10 +202,10 @@ module _ (r : Readers) (s : Sound r) (h : Mends r) where
       by false m o = gives_err b ts u o
   postfix_mended e b g f p k ts u i o = gives_err b ts u o
 
-  pub climb_mended : (e : ℕ) (c : Context) (b : Phrase) → Good e b → fits c b ≡ true → (p : Place) (k : TokenView) (ts u : List Token) → next e ts ≡ token p k → climb_by r e (bound c) b p k ts ≡ Err u → Mend (Fits c e) spell (spell b ts) u
+  pub climb_mended : (e : ℕ) (c : Context) (b : Phrase) → Good e b → fits c b ≡ true → (p : Place) (k : TokenView) (ts : List Token) (u : Stop) → next e ts ≡ token p k → climb_by (any r) r e (bound c) b p k ts ≡ Err u → Mend (Fits c e) spell (spell b ts) u.1
   climb_mended e c b g f p (tk.sign o) ts u i l = by (goes_on (bound c) b p o) refl l
     where
-      by : (m : Bool) → goes_on (bound c) b p o ≡ m → climb_if m r e (bound c) b p o ts ≡ Err u → Mend (Fits c e) spell (spell b ts) u
+      by : (m : Bool) → goes_on (bound c) b p o ≡ m → climb_if m (any r) r e (bound c) b p o ts ≡ Err u → Mend (Fits c e) spell (spell b ts) u.1
       by true m l =
           let n = seen e ts p (tk.sign o) i refl in
           let w = and_parts (not (is_prefix o)) (nat_lt (bound c) (rank o).0 && can_be_left b p o) m in

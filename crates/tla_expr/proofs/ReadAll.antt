@@ -1,5 +1,5 @@
 -- What is spelled is read: all forms together, and so one phrase for a list of tokens.
-use Rattle.std.proofs.Common.{◌≡◌, ℕ, ◌+◌, ◌*◌, length, List, [], Ok, Err, refl, sym, ap, ◌∙◌, arith}
+use Rattle.std.proofs.Common.{◌≡◌, ℕ, ◌+◌, ◌*◌, length, List, [], Ok, Err, refl, sym, ap, ◌∙◌, arith, None}
 use Rattle.tla_expr.specs.Tree.{Tree}
 use Rattle.tla_expr.specs.Lexical.{Token}
 use Rattle.tla_expr.specs.Spelling.{Phrase, number, string, constant, name, primed, call, brackets, no_set, set_of, filter, image, no_tuple, tuple, fields, records, function, functions, except, apply, select, list, quantified, if_then_else, cases, local, infix_of, prefix_of}
@@ -98,7 +98,7 @@ one_before e a b ga gb r s ca cb same_tokens =
     let u = closed a (reads a) e ga r ca in
     let v = closed b (reads b) e gb s cb in
     let n = (steps a + 3) + (steps b + 3) in
-    let pair : ◌≡◌ {A = Out Phrase} (Ok (a, r)) (Ok (b, s)) = sym (u n (omega arith)) ∙ ap (λ (ts : List Token). (readers n).expr e free ts) same_tokens ∙ v n (omega arith) in
+    let pair : ◌≡◌ {A = Out Phrase} (Ok (a, r)) (Ok (b, s)) = sym (u n (omega arith)) ∙ ap (λ (ts : List Token). (readers n None).expr e free ts) same_tokens ∙ v n (omega arith) in
     (ap (λ (x : Out Phrase). phrase_of a x) pair, ap (λ (x : Out Phrase). rest_of r x) pair)
   where
     phrase_of : Phrase → Out Phrase → Phrase

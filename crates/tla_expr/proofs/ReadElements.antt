@@ -1,5 +1,5 @@
 -- Phrases that begin with a name, after a brace or square bracket.
-use Rattle.std.proofs.Common.{◌≡◌, ◌≤◌, ℕ, ◌+◌, suc, Bool, true, false, ◌&&◌, List, [], ◌∷◌, Ok, Err, refl, sym, ap, ◌∙◌, arith}
+use Rattle.std.proofs.Common.{◌≡◌, ◌≤◌, ℕ, ◌+◌, suc, Bool, true, false, ◌&&◌, List, [], ◌∷◌, Ok, Err, refl, sym, ap, ◌∙◌, arith, None}
 use Rattle.std.proofs.lemmas.Bool.{not-true}
 use Rattle.tla_token.specs.declared.place.Place.{Place}
 use Rattle.tla_expr.specs.declared.op.Op.TheVariants as op
@@ -7,7 +7,7 @@ use Rattle.tla_expr.specs.Tree.{Word}
 use Rattle.tla_expr.specs.Lexical.{TokenView, Token, token, sign_of}
 use Rattle.tla_expr.specs.Lexical as tk
 use Rattle.tla_expr.specs.Spelling.{Phrase, name, primed, call, set_of, image, Phrases, last, more, apply, select, list, quantified, infix_of, prefix_of, Binds, last_bullet, bullet, mark, sign, word, field_token, spell, spell_all, spell_binds, is_word, is_in, is_bind, Right, Good}
-use Rattle.tla_expr.specs.Reader.{Out, then_read, ◌>>=◌, next, peek, free, Readers, readers, from_name, element, set_from, set_rest, member_rest, brace_name, brace_rest, braces}
+use Rattle.tla_expr.specs.Reader.{any, Out, then_read, ◌>>=◌, next, peek, free, Readers, readers, from_name, element, set_from, set_rest, member_rest, brace_name, brace_rest, braces}
 use Rattle.tla_expr.proofs.Steps.{steps, steps_all, steps_binds}
 use Rattle.tla_expr.proofs.ReadSoon.{Soon, same}
 use Rattle.tla_expr.proofs.ReadStops.{is_calm, Calm}
@@ -17,12 +17,12 @@ use Rattle.tla_expr.proofs.ReadForms.{is_start, Starts, starts, ReadsBinds}
 
 -- an expression that begins with a name, after that name
 pub from_word : (e : ℕ) (p : Place) (x : Word) (vs : List Token) (o : Out Phrase) {k : ℕ} → Right e p → Soon k (λ r. r.expr e free (word p x vs)) o
-    → Soon k (λ r. then_read (from_name r e p x vs) (λ a us. r.climb e 0 a us)) o
+    → Soon k (λ r. then_read (from_name (any r) r e p x vs) (λ a us. r.climb e 0 a us)) o
 unfolding readers
-from_word e p x vs o g h = (λ n l. (let at : (readers (suc n)).expr e free (word p x vs) ≡ then_read (from_name (readers n) e p x vs) (λ a us. (readers n).climb e 0 a us) = rw g refl in sym at ∙ h (suc n) (omega arith)))
+from_word e p x vs o g h = (λ n l. (let at : (readers (suc n) None).expr e free (word p x vs) ≡ then_read (from_name (any (readers n None)) (readers n None) e p x vs) (λ a us. (readers n None).climb e 0 a us) = rw g refl in sym at ∙ h (suc n) (omega arith)))
 
 brace_name_other : (r : Readers) (e : ℕ) (p q : Place) (x : Word) (s : Place) (k : TokenView) (vs : List Token) → is_in k ≡ false
-    → brace_name r e p q x s k vs ≡ (from_name r e q x >>= λ a. r.climb e 0 a >>= λ b. peek e (brace_rest r e p b)) vs
+    → brace_name (any r) r e p q x s k vs ≡ (from_name (any r) r e q x >>= λ a. r.climb e 0 a >>= λ b. peek e (brace_rest r e p b)) vs
 brace_name_other r e p q x s (tk.sign op.In) vs h = absurd cc
 brace_name_other r e p q x s k vs h = refl
 
@@ -32,7 +32,7 @@ NotBind e [] = Unit {0}
 NotBind e (t ∷ vs) = (is_word t.kind && is_in (next e vs).kind) ≡ false
 
 braces_other : (r : Readers) (e : ℕ) (p q : Place) (k : TokenView) (us : List Token) → is_start k ≡ true → is_word k ≡ false
-    → braces r e p q k us ≡ (r.expr e free >>= λ a. peek e (brace_rest r e p a)) us
+    → braces (any r) r e p q k us ≡ (r.expr e free >>= λ a. peek e (brace_rest r e p a)) us
 braces_other r e p q (tk.mark tk.close_brace) us h w = absurd cc
 braces_other r e p q (tk.word x) us h w = absurd cc
 braces_other r e p q k us h w = refl
@@ -43,17 +43,17 @@ assoc (Ok x) f g = refl
 assoc (Err x) f g = refl
 
 abbrev Braced : ℕ → Place → List Token → Type 0
-Braced e p us = (b : Phrase) (ts : List Token) (o : Out Phrase) (j k : ℕ) → Soon j (λ r. r.expr e free us) (Ok (b, ts)) → Soon k (λ r. peek e (brace_rest r e p b) ts) o → Soon (j + k) (λ r. peek e (braces r e p) us) o
+Braced e p us = (b : Phrase) (ts : List Token) (o : Out Phrase) (j k : ℕ) → Soon j (λ r. r.expr e free us) (Ok (b, ts)) → Soon k (λ r. peek e (brace_rest r e p b) ts) o → Soon (j + k) (λ r. peek e (braces (any r) r e p) us) o
 
 braced_word : (e : ℕ) (p q : Place) (x : Word) (vs : List Token) → Right e q → is_in (next e vs).kind ≡ false → Braced e p (word q x vs)
 braced_word e p q x vs g n b ts o j k h i =
     let v = from_word e q x vs (Ok (b, ts)) g h in
-    (λ n' l. rw g (brace_name_other (readers n') e p q x (next e vs).place (next e vs).kind vs n ∙ sym (assoc (from_name (readers n') e q x vs) (λ a us. (readers n').climb e 0 a us) (λ b us. peek e (brace_rest (readers n') e p b) us)) ∙ ap (λ (y : Out Phrase). then_read y (λ b us. peek e (brace_rest (readers n') e p b) us)) (v n' (omega arith)) ∙ i n' (omega arith)))
+    (λ n' l. rw g (brace_name_other (readers n' None) e p q x (next e vs).place (next e vs).kind vs n ∙ sym (assoc (from_name (any (readers n' None)) (readers n' None) e q x vs) (λ a us. (readers n' None).climb e 0 a us) (λ b us. peek e (brace_rest (readers n' None) e p b) us)) ∙ ap (λ (y : Out Phrase). then_read y (λ b us. peek e (brace_rest (readers n' None) e p b) us)) (v n' (omega arith)) ∙ i n' (omega arith)))
 
 braced_token : (e : ℕ) (p q : Place) (k : TokenView) (vs : List Token) → Right e q → is_start k ≡ true → (is_word k && is_in (next e vs).kind) ≡ false
     → Braced e p (token q k ∷ vs)
 braced_token e p q (tk.word x) vs g t n b ts o j m h i = braced_word e p q x vs g n b ts o j m h i
-braced_token e p q k vs g t n b ts o u w h i = (λ m l. rw g (braces_other (readers m) e p q k (token q k ∷ vs) t refl ∙ ap (λ (y : Out Phrase). then_read y (λ b us. peek e (brace_rest (readers m) e p b) us)) (h m (omega arith)) ∙ i m (omega arith)))
+braced_token e p q k vs g t n b ts o u w h i = (λ m l. rw g (braces_other (readers m None) e p q k (token q k ∷ vs) t refl ∙ ap (λ (y : Out Phrase). then_read y (λ b us. peek e (brace_rest (readers m None) e p b) us)) (h m (omega arith)) ∙ i m (omega arith)))
 
 pub braced : (e : ℕ) (p : Place) (us : List Token) → Starts e us → NotBind e us → Braced e p us
 braced e p us s n = rw s.same_as (braced_token e p s.first.place s.first.kind s.rest s.right s.start (rw s.same_as at n))
@@ -97,7 +97,7 @@ rest_other r e p a q (tk.mark tk.colon) us h = absurd cc
 rest_other r e p a q k us h = refl
 
 member_other : (r : Readers) (e : ℕ) (p q : Place) (x : Word) (s : Place) (b : Phrase) (t : Place) (k : TokenView) (us : List Token) → is_colon k ≡ false
-    → member_rest r e p q x s b t k us ≡ set_from r e p (element q x s b) us
+    → member_rest (any r) r e p q x s b t k us ≡ set_from (any r) r e p (element q x s b) us
 member_other r e p q x s b t (tk.mark tk.colon) us h = absurd cc
 member_other r e p q x s b t k us h = refl
 
@@ -113,10 +113,10 @@ cut_steps a = omega arith
 -- the first element, before a comma or the closing brace
 first_element : (e : ℕ) (p : Place) (a : Phrase) → Reads a → Reads (cut a) → Good e a → (us : List Token) → Calm e us
     → is_colon (next e us).kind ≡ false → (j : ℕ) (o : Out Phrase) → Soon j (λ r. peek e (set_rest r e p a) us) o
-    → Soon (j + steps a + 3) (λ r. peek e (braces r e p) (spell a us)) o
+    → Soon (j + steps a + 3) (λ r. peek e (braces (any r) r e p) (spell a us)) o
 first_element e p a ha hc g us k n j o h = by (is_member a) refl
   where
-    by : (b : Bool) → is_member a ≡ b → Soon (j + steps a + 3) (λ r. peek e (braces r e p) (spell a us)) o
+    by : (b : Bool) → is_member a ≡ b → Soon (j + steps a + 3) (λ r. peek e (braces (any r) r e p) (spell a us)) o
     by false m n' l =
         let i : Soon j (λ r. peek e (brace_rest r e p a) us) o = same (λ r. peek e (brace_rest r e p a) us) (λ r. peek e (set_rest r e p a) us) o (λ r. rest_other r e p a (next e us).place (next e us).kind us n) h in
         braced e p (spell a us) (starts e a g us) (not_bind e a g [] us (sym (calm_in (next e us).kind k)) (bind_member e a g ∙ m)) a us o (steps a + 3) j (closed a ha e g us k) i n' (omega arith)
@@ -124,7 +124,7 @@ first_element e p a ha hc g us k n j o h = by (is_member a) refl
         let v = member e a g m in
         let w = closed (cut a) hc e v.good us k in
         let f = cut_steps a in (rw (v.same_as us, v.right, v.right_in, w n' (omega arith))
-        (member_other (readers n') e p v.place v.word_of v.place_in (cut a) (next e us).place (next e us).kind us n ∙ rw v.joins (h n' (omega arith))))
+        (member_other (readers n' None) e p v.place v.word_of v.place_in (cut a) (next e us).place (next e us).kind us n ∙ rw v.joins (h n' (omega arith))))
 
 pub reads_set_last : (p : Place) (a : Phrase) (q : Place) → Reads a → Reads (cut a) → Reads (set_of p (last a) q)
 reads_set_last p a q ha hc = primary_reads (set_of p (last a) q) (λ e d ts s. s) (λ e d ts s. tail_call (next e ts).kind s) (λ e g ts. record { first = token p (tk.mark tk.open_brace); rest = spell a (mark q tk.close_brace ts); same_as = refl; right = g.0; as_operand = λ r c us. refl; as_short = λ r us. refl }) prime

@@ -1,5 +1,5 @@
 -- What is spelled is read: tuples, subscripts, fields, open forms; and all forms together.
-use Rattle.std.proofs.Common.{◌≡◌, ℕ, nat_eq, ◌+◌, Bool, true, false, not, ◌&&◌, ◌||◌, nat_lt, List, ◌∷◌, Some, Ok, refl, ap, ◌∙◌, arith}
+use Rattle.std.proofs.Common.{◌≡◌, ℕ, nat_eq, ◌+◌, Bool, true, false, not, ◌&&◌, ◌||◌, nat_lt, List, ◌∷◌, Some, Ok, refl, ap, ◌∙◌, arith, None}
 use Rattle.std.proofs.lemmas.Bool.{not-true, or_parts}
 use Rattle.tla_token.specs.declared.place.Place.{Place}
 use Rattle.tla_expr.specs.declared.op.Op.{Op}
@@ -99,7 +99,7 @@ reads_tuple p xs q hx = primary_reads (tuple p xs q) (λ e d ts s. s) (λ e d ts
     prime e (gp, gx, gq) ts i k o h =
         let us = mark q tk.close_tuple ts in
         let v = hx e gx us (rw gq refl) in
-        (λ m l. rw gp (ap (λ (x : Out Phrase). then_read x (λ a ts. (readers m).postfix e a ts)) (tuples_at (readers m) e p (spell_all xs us) (starts_all e xs gx us)) ∙ rw (v m (omega arith), gq) (h m (omega arith))))
+        (λ m l. rw gp (ap (λ (x : Out Phrase). then_read x (λ a ts. (readers m None).postfix e a ts)) (tuples_at (readers m None) e p (spell_all xs us) (starts_all e xs gx us)) ∙ rw (v m (omega arith), gq) (h m (omega arith))))
 
 -- ---- f[a] and r.b
 head_primary : (a : Phrase) (p : Place) → can_be_head a p ≡ true → is_primary (head a) ≡ true
@@ -171,7 +171,7 @@ pub reads_last_bind : (p : Place) (x : Word) (q : Place) (a : Phrase) → Reads 
 reads_last_bind p x q a h e (gp, gq, ga) ts k =
     let us = sign q op.In (spell a ts) in
     let w = closed a h e ga ts (end_calm (next e ts).kind k) in
-    record { place = p; word_of = x; rest = us; same_as = refl; right = gp; reads = step (λ r. r.binds e p x us) (Ok (last_bind p x q a, ts)) (omega arith) (λ n l. rw (gq, w n (omega arith)) (bind_end (readers n) e p x q a (next e ts).place (next e ts).kind ts k)) }
+    record { place = p; word_of = x; rest = us; same_as = refl; right = gp; reads = step (λ r. r.binds e p x us) (Ok (last_bind p x q a, ts)) (omega arith) (λ n l. rw (gq, w n (omega arith)) (bind_end (readers n None) e p x q a (next e ts).place (next e ts).kind ts k)) }
 
 pub reads_bind : (p : Place) (x : Word) (q : Place) (a : Phrase) (s : Place) (bs : Binds) → Reads a → ReadsBinds bs → ReadsBinds (bind p x q a s bs)
 reads_bind p x q a s bs h i e (gp, gq, ga, gs, gb) ts k =
@@ -237,7 +237,7 @@ locals_end r e p x q a s k ts h = refl
 pub reads_last_local : (p : Place) (x : Word) (q : Place) (a : Phrase) → Reads a → ReadsLocals (last_local p x q a)
 reads_last_local p x q a h e (gp, gq, ga) ts k =
     let w = closed a h e ga ts (stop_calm (next e ts).kind k) in
-    record { place = p; word_of = x; rest = mark q tk.defines (spell a ts); same_as = refl; right = gp; reads = step (λ r. r.locals e (spell_locals (last_local p x q a) ts)) (Ok (last_local p x q a, ts)) (omega arith) (λ n l. rw (gp, gq, w n (omega arith)) (locals_end (readers n) e p x q a (next e ts).place (next e ts).kind ts k)) }
+    record { place = p; word_of = x; rest = mark q tk.defines (spell a ts); same_as = refl; right = gp; reads = step (λ r. r.locals e (spell_locals (last_local p x q a) ts)) (Ok (last_local p x q a, ts)) (omega arith) (λ n l. rw (gp, gq, w n (omega arith)) (locals_end (readers n None) e p x q a (next e ts).place (next e ts).kind ts k)) }
 
 pub reads_more_locals : (p : Place) (x : Word) (q : Place) (a : Phrase) (ls : Locals) → Reads a → ReadsLocals ls → ReadsLocals (more_locals p x q a ls)
 reads_more_locals p x q a ls h i e (gp, gq, ga, gl) ts k =

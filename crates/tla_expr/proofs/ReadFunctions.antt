@@ -1,5 +1,5 @@
 -- What is spelled is read: sets of functions, and EXCEPT.
-use Rattle.std.proofs.Common.{◌≡◌, ℕ, ◌+◌, Bool, true, false, ◌&&◌, List, [], ◌∷◌, Ok, refl, sym, ap, ◌∙◌, arith}
+use Rattle.std.proofs.Common.{◌≡◌, ℕ, ◌+◌, Bool, true, false, ◌&&◌, List, [], ◌∷◌, Ok, refl, sym, ap, ◌∙◌, arith, None}
 use Rattle.std.proofs.lemmas.Bool.{or_parts}
 use Rattle.std.proofs.Math.Bool.{and-false}
 use Rattle.tla_token.specs.declared.place.Place.{Place}
@@ -10,7 +10,7 @@ use Rattle.tla_expr.specs.Lexical.{TokenView, Token, token, sign_of}
 use Rattle.tla_expr.specs.Lexical as tk
 use Rattle.tla_expr.specs.Spelling.{Field, Phrase, name, primed, call, functions, except, apply, select, list, quantified, infix_of, prefix_of, last_bullet, bullet, Phrases, Settings, last_setting, setting, Path, path_end, index, at_field}
 use Rattle.tla_expr.specs.Spelling.{mark, key, sign, word, spell, spell_settings, spell_path, is_word, is_in, Right, Good, GoodSettings, GoodPath}
-use Rattle.tla_expr.specs.Reader.{Out, then_read, ◌>>=◌, next, peek, free, Readers, readers, element, from_name, squares, square_name, square_member, square_from, square_rest, settings_by, path_by}
+use Rattle.tla_expr.specs.Reader.{any, Out, then_read, ◌>>=◌, next, peek, free, Readers, readers, element, from_name, squares, square_name, square_member, square_from, square_rest, settings_by, path_by}
 use Rattle.tla_expr.proofs.Steps.{steps, steps_all, steps_path, steps_settings}
 use Rattle.tla_expr.proofs.ReadSoon.{Soon, step, is_tail, NoTail}
 use Rattle.tla_expr.proofs.ReadStops.{is_calm, Calm}
@@ -45,19 +45,19 @@ divider_decides (tk.key tk.except_key) h = refl
 divider_decides k h = absurd cc
 
 member_divided : (r : Readers) (e : ℕ) (p q : Place) (x : Word) (s : Place) (b : Phrase) (t : Place) (k : TokenView) (us : List Token)
-    → is_divider k ≡ true → square_member r e p q x s b t k us ≡ square_from r e p (element q x s b) us
+    → is_divider k ≡ true → square_member (any r) r e p q x s b t k us ≡ square_from (any r) r e p (element q x s b) us
 member_divided r e p q x s b t (tk.mark tk.arrow) us h = refl
 member_divided r e p q x s b t (tk.key tk.except_key) us h = refl
 member_divided r e p q x s b t k us h = absurd cc
 
 squares_other : (r : Readers) (e : ℕ) (p q : Place) (k : TokenView) (us : List Token) → is_start k ≡ true → is_word k ≡ false
-    → squares r e p q k us ≡ (r.expr e free >>= λ a. peek e (square_rest r e p a)) us
+    → squares (any r) r e p q k us ≡ (r.expr e free >>= λ a. peek e (square_rest r e p a)) us
 squares_other r e p q (tk.reserved x) us h w = absurd cc
 squares_other r e p q (tk.word x) us h w = absurd cc
 squares_other r e p q k us h w = refl
 
 name_other : (r : Readers) (e : ℕ) (p q : Place) (x : Word) (s : Place) (k : TokenView) (vs : List Token) → is_decisive k ≡ false
-    → square_name r e p q x s k vs ≡ (from_name r e q x >>= λ a. r.climb e 0 a >>= λ b. peek e (square_rest r e p b)) vs
+    → square_name (any r) r e p q x s k vs ≡ (from_name (any r) r e q x >>= λ a. r.climb e 0 a >>= λ b. peek e (square_rest r e p b)) vs
 name_other r e p q x s (tk.mark tk.maps) vs h = absurd cc
 name_other r e p q x s (tk.mark tk.colon) vs h = absurd cc
 name_other r e p q x s (tk.mark tk.comma) vs h = absurd cc
@@ -69,19 +69,19 @@ Undecided e [] = Unit {0}
 Undecided e (t ∷ vs) = (is_word t.kind && is_decisive (next e vs).kind) ≡ false
 
 abbrev Squared : ℕ → Place → List Token → Type 0
-Squared e p us = (b : Phrase) (ts : List Token) (o : Out Phrase) (j k : ℕ) → Soon j (λ r. r.expr e free us) (Ok (b, ts)) → Soon k (λ r. peek e (square_rest r e p b) ts) o → Soon (j + k) (λ r. peek e (squares r e p) us) o
+Squared e p us = (b : Phrase) (ts : List Token) (o : Out Phrase) (j k : ℕ) → Soon j (λ r. r.expr e free us) (Ok (b, ts)) → Soon k (λ r. peek e (square_rest r e p b) ts) o → Soon (j + k) (λ r. peek e (squares (any r) r e p) us) o
 
 squared_word : (e : ℕ) (p q : Place) (x : Word) (vs : List Token) → Right e q → is_decisive (next e vs).kind ≡ false → Squared e p (word q x vs)
 squared_word e p q x vs g n b ts o j k h i =
-    let v = from_word e q x vs (Ok (b, ts)) g h in (λ n' l. rw g (name_other (readers n') e p q x (next e vs).place (next e vs).kind vs n
-    ∙ sym (assoc (from_name (readers n') e q x vs) (λ a us. (readers n').climb e 0 a us) (λ b us. peek e (square_rest (readers n') e p b) us))
-    ∙ ap (λ (y : Out Phrase). then_read y (λ b us. peek e (square_rest (readers n') e p b) us)) (v n' (omega arith)) ∙ i n' (omega arith)))
+    let v = from_word e q x vs (Ok (b, ts)) g h in (λ n' l. rw g (name_other (readers n' None) e p q x (next e vs).place (next e vs).kind vs n
+    ∙ sym (assoc (from_name (any (readers n' None)) (readers n' None) e q x vs) (λ a us. (readers n' None).climb e 0 a us) (λ b us. peek e (square_rest (readers n' None) e p b) us))
+    ∙ ap (λ (y : Out Phrase). then_read y (λ b us. peek e (square_rest (readers n' None) e p b) us)) (v n' (omega arith)) ∙ i n' (omega arith)))
 
 squared_token : (e : ℕ) (p q : Place) (k : TokenView) (vs : List Token) → Right e q → is_start k ≡ true
     → (is_word k && is_decisive (next e vs).kind) ≡ false → Squared e p (token q k ∷ vs)
 squared_token e p q (tk.word x) vs g t n b ts o j m h i = squared_word e p q x vs g n b ts o j m h i
-squared_token e p q k vs g t n b ts o u w h i = (λ m l. rw g (squares_other (readers m) e p q k (token q k ∷ vs) t refl
-    ∙ ap (λ (y : Out Phrase). then_read y (λ b us. peek e (square_rest (readers m) e p b) us)) (h m (omega arith)) ∙ i m (omega arith)))
+squared_token e p q k vs g t n b ts o u w h i = (λ m l. rw g (squares_other (readers m None) e p q k (token q k ∷ vs) t refl
+    ∙ ap (λ (y : Out Phrase). then_read y (λ b us. peek e (square_rest (readers m None) e p b) us)) (h m (omega arith)) ∙ i m (omega arith)))
 
 squared : (e : ℕ) (p : Place) (us : List Token) → Starts e us → Undecided e us → Squared e p us
 squared e p us s n = rw s.same_as (squared_token e p s.first.place s.first.kind s.rest s.right s.start (rw s.same_as at n))
@@ -111,19 +111,19 @@ undecided e a g us m h = refl
 -- the first expression, before `->` or EXCEPT
 first_part : (e : ℕ) (p : Place) (a : Phrase) → Reads a → Reads (cut a) → Good e a → (us : List Token) → is_divider (next e us).kind ≡ true
     → (j : ℕ) (o : Out Phrase) → Soon j (λ r. peek e (square_rest r e p a) us) o
-    → Soon (j + steps a + 3) (λ r. peek e (squares r e p) (spell a us)) o
+    → Soon (j + steps a + 3) (λ r. peek e (squares (any r) r e p) (spell a us)) o
 first_part e p a ha hc g us n j o h = by (is_member a) refl
   where
     calm : Calm e us
     calm = divider_calm (next e us).kind n
 
-    by : (b : Bool) → is_member a ≡ b → Soon (j + steps a + 3) (λ r. peek e (squares r e p) (spell a us)) o
+    by : (b : Bool) → is_member a ≡ b → Soon (j + steps a + 3) (λ r. peek e (squares (any r) r e p) (spell a us)) o
     by false m n' l = squared e p (spell a us) (starts e a g us) (undecided e a g us m (rw (divider_decides (next e us).kind n) (and-false (is_name a)))) a us o (steps a + 3) j (closed a ha e g us calm) h n' (omega arith)
     by true m n' l =
         let v = member e a g m in
         let w = closed (cut a) hc e v.good us calm in
         let f = cut_steps a in (rw (v.same_as us, v.right, v.right_in, w n' (omega arith))
-        (member_divided (readers n') e p v.place v.word_of v.place_in (cut a) (next e us).place (next e us).kind us n ∙ rw v.joins (h n' (omega arith))))
+        (member_divided (readers n' None) e p v.place v.word_of v.place_in (cut a) (next e us).place (next e us).kind us n ∙ rw v.joins (h n' (omega arith))))
 
 -- ---- [S -> T]
 pub reads_functions : (p : Place) (a : Phrase) (q : Place) (b : Phrase) (s : Place) → Reads a → Reads (cut a) → Reads b → Reads (functions p a q b s)
@@ -141,13 +141,13 @@ reads_functions p a q b s ha hc hb = primary_reads (functions p a q b s) (λ e d
 abbrev pub ReadsPath : Path → Type 0
 ReadsPath path = (e : ℕ) → GoodPath e path → (ts : List Token) → NoTail e ts → Soon (steps_path path) (λ r. r.path e (spell_path path ts)) (Ok (path, ts))
 
-path_stops : (r : Readers) (e : ℕ) (p : Place) (k : TokenView) (ts : List Token) → is_tail k ≡ false → path_by r e p k ts ≡ Ok (path_end, ts)
+path_stops : (r : Readers) (e : ℕ) (p : Place) (k : TokenView) (ts : List Token) → is_tail k ≡ false → path_by (any r) r e p k ts ≡ Ok (path_end, ts)
 path_stops r e p (tk.mark tk.open_square) ts h = absurd cc
 path_stops r e p (tk.mark tk.dot) ts h = absurd cc
 path_stops r e p k ts h = refl
 
 pub reads_path_end : ReadsPath path_end
-reads_path_end e g ts k = step (λ r. r.path e ts) (Ok (path_end, ts)) (omega arith) (λ n l. path_stops (readers n) e (next e ts).place (next e ts).kind ts k)
+reads_path_end e g ts k = step (λ r. r.path e ts) (Ok (path_end, ts)) (omega arith) (λ n l. path_stops (readers n None) e (next e ts).place (next e ts).kind ts k)
 
 pub reads_index : (p : Place) (xs : Phrases) (q : Place) (path : Path) → ReadsAll xs → ReadsPath path → ReadsPath (index p xs q path)
 reads_index p xs q path hx hp e (gp, gx, gq, g) ts k =
@@ -173,7 +173,7 @@ pub reads_last_setting : (p : Place) (path : Path) (q : Place) (a : Phrase) → 
 reads_last_setting p path q a hp ha e (gp, some, gpath, gq, ga) ts k =
     let v = hp e gpath (sign q op.Equal (spell a ts)) (rw gq refl) in
     let w = closed a ha e ga ts (end_calm (next e ts).kind k) in
-    step (λ r. r.settings e (spell_settings (last_setting p path q a) ts)) (Ok (last_setting p path q a, ts)) (omega arith) (λ n l. rw (gp, v n (omega arith), some, gq, w n (omega arith)) (settings_end (readers n) e p path q a (next e ts).place (next e ts).kind ts k))
+    step (λ r. r.settings e (spell_settings (last_setting p path q a) ts)) (Ok (last_setting p path q a, ts)) (omega arith) (λ n l. rw (gp, v n (omega arith), some, gq, w n (omega arith)) (settings_end (readers n None) e p path q a (next e ts).place (next e ts).kind ts k))
 
 pub reads_setting : (p : Place) (path : Path) (q : Place) (a : Phrase) (s : Place) (ss : Settings) → ReadsPath path → Reads a → ReadsSettings ss
     → ReadsSettings (setting p path q a s ss)

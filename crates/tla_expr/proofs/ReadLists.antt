@@ -1,5 +1,5 @@
 -- What is spelled is read: lists by columns, and CASE.
-use Rattle.std.proofs.Common.{eq-eqb, ◌≡◌, ℕ, nat_eq, ◌+◌, true, false, not, ◌&&◌, nat_lt, List, ◌∷◌, Some, Ok, refl, ◌∙◌, arith}
+use Rattle.std.proofs.Common.{eq-eqb, ◌≡◌, ℕ, nat_eq, ◌+◌, true, false, not, ◌&&◌, nat_lt, List, ◌∷◌, Some, Ok, refl, ◌∙◌, arith, None}
 use Rattle.std.proofs.lemmas.Bool.{le-ltb, not-true}
 use Rattle.tla_token.specs.declared.place.Place.{Place}
 use Rattle.tla_expr.specs.declared.op.Op.{Op}
@@ -10,7 +10,7 @@ use Rattle.tla_expr.specs.Lexical as tk
 use Rattle.tla_expr.specs.Spelling.{Phrase, list, cases}
 use Rattle.tla_expr.specs.Spelling.{Bullets, last_bullet, bullet, Arms, last_arm, other_arm, arm}
 use Rattle.tla_expr.specs.Spelling.{mark, key, sign, spell, Good, Right, first_bullet, spell_bullets, spell_arms, GoodBullets, GoodArms, takes_box}
-use Rattle.tla_expr.specs.Reader.{is_sign, take, bullet_of, arms_by, arms_other, end, ◌>>=◌, gives, next, peek, Context, free, Readers, readers, primary, operand, short_by}
+use Rattle.tla_expr.specs.Reader.{any, is_sign, take, bullet_of, arms_by, arms_other, end, ◌>>=◌, gives, next, peek, Context, free, Readers, readers, primary, operand, short_by}
 use Rattle.tla_expr.proofs.Steps.{steps, steps_bullets, steps_arms}
 use Rattle.tla_expr.proofs.ReadSoon.{Soon, step}
 use Rattle.tla_expr.proofs.ReadStops.{ListEnds, BulletsStop, ArmsStop, is_box, box_stops, box_stays, sign_infix}
@@ -23,12 +23,12 @@ bullet_between op.And h = refl
 bullet_between op.Or h = refl
 bullet_between o h = absurd cc
 
-bullet_operand : (r : Readers) (e : ℕ) (c : Context) (p : Place) (o : Op) (us : List Token) → is_bullet o ≡ true → operand r e c p (sign_of o) us ≡ primary r e p (sign_of o) us
+bullet_operand : (r : Readers) (e : ℕ) (c : Context) (p : Place) (o : Op) (us : List Token) → is_bullet o ≡ true → operand (any r) r e c p (sign_of o) us ≡ primary (any r) r e p (sign_of o) us
 bullet_operand r e c p op.And us h = refl
 bullet_operand r e c p op.Or us h = refl
 bullet_operand r e c p o us h = absurd cc
 
-bullet_short : (r : Readers) (e : ℕ) (p : Place) (o : Op) (us : List Token) → is_bullet o ≡ true → short_by r e p (sign_of o) us ≡ primary r e p (sign_of o) us
+bullet_short : (r : Readers) (e : ℕ) (p : Place) (o : Op) (us : List Token) → is_bullet o ≡ true → short_by (any r) r e p (sign_of o) us ≡ primary (any r) r e p (sign_of o) us
 bullet_short r e p op.And us h = refl
 bullet_short r e p op.Or us h = refl
 bullet_short r e p o us h = absurd cc
@@ -101,7 +101,7 @@ pub reads_last_arm : (a : Phrase) (p : Place) (b : Phrase) → Reads a → Reads
 reads_last_arm a p b ha hb e (ga, gp, gb) ts (s, z, k) =
     let w = closed a ha e ga (mark p tk.arrow (spell b ts)) (rw gp refl) in
     let v = ended b hb e free tt gb refl ts s z in
-    step (λ r. r.arms e (spell_arms (last_arm a p b) ts)) (Ok (last_arm a p b, ts)) (omega arith) (λ n l. rw (w n (omega arith), gp, v n (omega arith)) (arms_end (readers n) e a p b (next e ts).place (next e ts).kind ts k))
+    step (λ r. r.arms e (spell_arms (last_arm a p b) ts)) (Ok (last_arm a p b, ts)) (omega arith) (λ n l. rw (w n (omega arith), gp, v n (omega arith)) (arms_end (readers n None) e a p b (next e ts).place (next e ts).kind ts k))
 
 -- before a `[]` that no CASE in it takes
 boxed : (b : Phrase) → Reads b → (e : ℕ) → Good e b → (q : Place) (ts : List Token) → Right e q → not (takes_box q.col b) ≡ true → Soon (steps b + 3) (λ r. r.expr e free (spell b (mark q tk.box ts))) (Ok (b, mark q tk.box ts))
@@ -136,7 +136,7 @@ reads_arm a p b q xs ha hb hx e (ga, gp, gb, z0, gq, gx) ts k =
     let w = closed a ha e ga (mark p tk.arrow (spell b (mark q tk.box us))) (rw gp refl) in
     let v = boxed b hb e gb q us gq z0 in
     let u = hx e gx ts k in
-    step (λ r. r.arms e (spell_arms (arm a p b q xs) ts)) (Ok (arm a p b q xs, ts)) (omega arith) (λ n l. rw (w n (omega arith), gp, v n (omega arith), gq, not-true (takes_box q.col b) z0) (arms_at (readers n) e a p b q us (starts_arms e xs gx ts) ∙ rw (u n (omega arith)) refl))
+    step (λ r. r.arms e (spell_arms (arm a p b q xs) ts)) (Ok (arm a p b q xs, ts)) (omega arith) (λ n l. rw (w n (omega arith), gp, v n (omega arith), gq, not-true (takes_box q.col b) z0) (arms_at (readers n None) e a p b q us (starts_arms e xs gx ts) ∙ rw (u n (omega arith)) refl))
 
 pub reads_cases : (p : Place) (xs : Arms) → ReadsArms xs → Reads (cases p xs)
 reads_cases p xs hx = record { begins = λ h. absurd cc; prime = λ h. absurd cc; brief = λ e g h. absurd cc; full = full }

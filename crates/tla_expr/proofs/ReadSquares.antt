@@ -1,5 +1,5 @@
 -- What is spelled is read: records, functions, and sets with a filter.
-use Rattle.std.proofs.Common.{eq-eqb, ◌≡◌, ℕ, ◌+◌, Bool, true, false, List, ◌∷◌, Ok, refl, arith}
+use Rattle.std.proofs.Common.{eq-eqb, ◌≡◌, ℕ, ◌+◌, Bool, true, false, List, ◌∷◌, Ok, refl, arith, None}
 use Rattle.tla_token.specs.declared.place.Place.{Place}
 use Rattle.tla_expr.specs.declared.op.Op.TheVariants as op
 use Rattle.tla_expr.specs.Tree.{Word}
@@ -8,7 +8,7 @@ use Rattle.tla_expr.specs.Lexical as tk
 use Rattle.tla_expr.specs.Spelling.{Field, Phrase, filter, fields, records, function}
 use Rattle.tla_expr.specs.Spelling.{Binds, last_bind, bind, share, Fields, last_field, field}
 use Rattle.tla_expr.specs.Spelling.{mark, sign, word, field_token, spell, spell_binds, Good, GoodBinds, Right, spell_fields, GoodFields}
-use Rattle.tla_expr.specs.Reader.{mark_number, fields_by, squares, field_rest, next, peek, a_mark, Readers, readers}
+use Rattle.tla_expr.specs.Reader.{any, mark_number, fields_by, squares, field_rest, next, peek, a_mark, Readers, readers}
 use Rattle.tla_expr.proofs.Steps.{steps, steps_binds, steps_fields}
 use Rattle.tla_expr.proofs.ReadSoon.{Soon, step}
 use Rattle.tla_expr.proofs.ReadPhrases.{tail_call, Prime, Reads, closed, is_end, Ends, end_calm, primary_reads}
@@ -38,7 +38,7 @@ pub reads_last_field : (f : Field) (p : Place) (a : Phrase) → Reads a → Read
 reads_last_field f p a h e m (gf, gp, ga) ts k =
     let us = mark p m (spell a ts) in
     let w = closed a h e ga ts (end_calm (next e ts).kind k) in
-    record { first = f; place = p; rest = spell a ts; same_as = refl; right = gf; right_mark = gp; reads = step (λ r. r.fields e m f us) (Ok (last_field f p a, ts)) (omega arith) (λ n l. rw (mark_read e p m (spell a ts) gp, w n (omega arith)) (fields_end (readers n) e m f p a (next e ts).place (next e ts).kind ts k)) }
+    record { first = f; place = p; rest = spell a ts; same_as = refl; right = gf; right_mark = gp; reads = step (λ r. r.fields e m f us) (Ok (last_field f p a, ts)) (omega arith) (λ n l. rw (mark_read e p m (spell a ts) gp, w n (omega arith)) (fields_end (readers n None) e m f p a (next e ts).place (next e ts).kind ts k)) }
 
 pub reads_field : (f : Field) (p : Place) (a : Phrase) (q : Place) (fs : Fields) → Reads a → ReadsFields fs → ReadsFields (field f p a q fs)
 reads_field f p a q fs h i e m (gf, gp, ga, gq, gs) ts k =
@@ -47,11 +47,11 @@ reads_field f p a q fs h i e m (gf, gp, ga, gq, gs) ts k =
     let w = closed a h e ga (mark q tk.comma (spell_fields m fs ts)) (rw gq refl) in
     record { first = f; place = p; rest = us; same_as = refl; right = gf; right_mark = gp; reads = step (λ r. r.fields e m f (mark p m us)) (Ok (field f p a q fs, ts)) (omega arith) (λ n l. rw (mark_read e p m us gp, w n (omega arith), gq, v.same_as, field_read e v.first (mark v.place m v.rest) v.right, v.reads n (omega arith)) refl) }
 
-maps_at : (r : Readers) (e : ℕ) (p q : Place) (b : Bool) (x : Word) (s : Place) (us : List Token) → Right e q → Right e s → peek e (squares r e p) (token q (field_kind b x) ∷ mark s tk.maps us) ≡ field_rest r e p (record { place = q; is_reserved = b; text = x }) s (tk.mark tk.maps) (mark s tk.maps us)
+maps_at : (r : Readers) (e : ℕ) (p q : Place) (b : Bool) (x : Word) (s : Place) (us : List Token) → Right e q → Right e s → peek e (squares (any r) r e p) (token q (field_kind b x) ∷ mark s tk.maps us) ≡ field_rest r e p (record { place = q; is_reserved = b; text = x }) s (tk.mark tk.maps) (mark s tk.maps us)
 maps_at r e p q true x s us g h = rw (g, h) refl
 maps_at r e p q false x s us g h = rw (g, h) refl
 
-colon_at : (r : Readers) (e : ℕ) (p q : Place) (b : Bool) (x : Word) (s : Place) (us : List Token) → Right e q → Right e s → peek e (squares r e p) (token q (field_kind b x) ∷ mark s tk.colon us) ≡ field_rest r e p (record { place = q; is_reserved = b; text = x }) s (tk.mark tk.colon) (mark s tk.colon us)
+colon_at : (r : Readers) (e : ℕ) (p q : Place) (b : Bool) (x : Word) (s : Place) (us : List Token) → Right e q → Right e s → peek e (squares (any r) r e p) (token q (field_kind b x) ∷ mark s tk.colon us) ≡ field_rest r e p (record { place = q; is_reserved = b; text = x }) s (tk.mark tk.colon) (mark s tk.colon us)
 colon_at r e p q true x s us g h = rw (g, h) refl
 colon_at r e p q false x s us g h = rw (g, h) refl
 
@@ -61,7 +61,7 @@ reads_fields p fs q hf = primary_reads (fields p fs q) (λ e d ts s. s) (λ e d 
     prime : Prime (fields p fs q)
     prime e (gp, gf, gq) ts i k o h =
         let v = hf e tk.maps gf (mark q tk.close_square ts) (rw gq refl) in
-        (λ n l. rw (gp, v.same_as, maps_at (readers n) e p v.first.place v.first.is_reserved v.first.text v.place v.rest v.right v.right_mark, v.reads n (omega arith), gq) (h n (omega arith)))
+        (λ n l. rw (gp, v.same_as, maps_at (readers n None) e p v.first.place v.first.is_reserved v.first.text v.place v.rest v.right v.right_mark, v.reads n (omega arith), gq) (h n (omega arith)))
 
 pub reads_records : (p : Place) (fs : Fields) (q : Place) → ReadsFields fs → Reads (records p fs q)
 reads_records p fs q hf = primary_reads (records p fs q) (λ e d ts s. s) (λ e d ts s. tail_call (next e ts).kind s) (λ e g ts. record { first = token p (tk.mark tk.open_square); rest = spell_fields tk.colon fs (mark q tk.close_square ts); same_as = refl; right = g.0; as_operand = λ r c us. refl; as_short = λ r us. refl }) prime
@@ -69,11 +69,11 @@ reads_records p fs q hf = primary_reads (records p fs q) (λ e d ts s. s) (λ e 
     prime : Prime (records p fs q)
     prime e (gp, gf, gq) ts i k o h =
         let v = hf e tk.colon gf (mark q tk.close_square ts) (rw gq refl) in
-        (λ n l. rw (gp, v.same_as, colon_at (readers n) e p v.first.place v.first.is_reserved v.first.text v.place v.rest v.right v.right_mark, v.reads n (omega arith), gq) (h n (omega arith)))
+        (λ n l. rw (gp, v.same_as, colon_at (readers n None) e p v.first.place v.first.is_reserved v.first.text v.place v.rest v.right v.right_mark, v.reads n (omega arith), gq) (h n (omega arith)))
 
 -- ---- functions, by how their names begin
 abbrev IsRead : ℕ → Place → Binds → Place → Phrase → Place → Type 0
-IsRead e p bs q a s = (ts : List Token) → Soon (steps_binds bs + steps a + 3) (λ r. peek e (squares r e p) (spell_binds bs (mark q tk.maps (spell a (mark s tk.close_square ts))))) (Ok (function p bs q a s, ts))
+IsRead e p bs q a s = (ts : List Token) → Soon (steps_binds bs + steps a + 3) (λ r. peek e (squares (any r) r e p) (spell_binds bs (mark q tk.maps (spell a (mark s tk.close_square ts))))) (Ok (function p bs q a s, ts))
 
 square_form : (p : Place) (bs : Binds) (q : Place) (a : Phrase) (s : Place) → ((e : ℕ) → Good e (function p bs q a s) → IsRead e p bs q a s) → Reads (function p bs q a s)
 square_form p bs q a s read = primary_reads (function p bs q a s) (λ e d ts s. s) (λ e d ts s. tail_call (next e ts).kind s) (λ e g ts. record { first = token p (tk.mark tk.open_square); rest = spell_binds bs (mark q tk.maps (spell a (mark s tk.close_square ts))); same_as = refl; right = g.0; as_operand = λ r c us. refl; as_short = λ r us. refl }) prime

@@ -1,6 +1,7 @@
 -- Worked rows of reading, by computation.
 use Rattle.std.proofs.Common.{◌≡◌, refl, ℕ, true, ap, arith, List, [], ◌∷◌, map, Some, Ok, Err, codes}
 use Rattle.tla_token.specs.declared.place.Place.{Place}
+use Rattle.tla_token.specs.declared.rule.Rule.TheVariants.{Syntax}
 use Rattle.tla_expr.specs.declared.op.Op.{Op}
 use Rattle.tla_expr.specs.declared.op.Op.TheVariants as op
 use Rattle.tla_expr.specs.Lexical.{Mark, Key, TokenView, Token, token}
@@ -63,7 +64,7 @@ unfolding readers
 mixed = refl
 
 -- `a +` is refused after its last token
-unfinished : read 0 (w 1 ∷ s 3 op.Plus ∷ []) ≡ Err []
+unfinished : read 0 (w 1 ∷ s 3 op.Plus ∷ []) ≡ Err (Syntax, [])
 unfolding readers
 unfinished = refl
 

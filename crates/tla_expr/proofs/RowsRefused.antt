@@ -20,7 +20,7 @@ before_brace = m 1 tk.open_brace ∷ w 2 ∷ s 4 op.In ∷ w 8 ∷ s 10 op.In �
 abbrev whole : List Token
 whole = m 1 tk.open_brace ∷ w 2 ∷ s 4 op.In ∷ w 8 ∷ s 10 op.In ∷ w 14 ∷ m 15 tk.close_brace ∷ []
 
-stopped : read 0 whole ≡ Err (m 15 tk.close_brace ∷ [])
+stopped : read 0 whole ≡ Err (Syntax, m 15 tk.close_brace ∷ [])
 unfolding readers
 stopped = refl
 
@@ -31,4 +31,4 @@ passed : Passes (phrases 0) (map Some (looks before_brace))
 passed = (map Some (looks (m 15 tk.colon ∷ w 17 ∷ m 18 tk.close_brace ∷ [])), map in_expression (counts 0 completed []), (completed, search, refl, refl), refl)
 
 refused : RefusesExpression whole (at 40) (record { rule = Syntax; place = at 15 })
-refused = refused_at whole before_brace (m 15 tk.close_brace ∷ []) (at 40) stopped refl passed
+refused = refused_at whole before_brace (m 15 tk.close_brace ∷ []) (at 40) Syntax stopped refl passed

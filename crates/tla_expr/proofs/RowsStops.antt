@@ -1,5 +1,5 @@
 -- Worked examples of where reading an expression stops.
-use Rattle.std.proofs.Common.{◌≡◌, ◌≤◌, ℕ, zero, suc, List, [], ◌∷◌, length, take, map, Option, Some, refl, arith, inl, inr, codes}
+use Rattle.std.proofs.Common.{◌≡◌, ◌≤◌, ℕ, zero, suc, List, [], ◌∷◌, length, take, map, Option, Some, refl, arith, inl, inr, codes, drop}
 use Rattle.tla_token.specs.declared.place.Place.{Place}
 use Rattle.tla_token.specs.declared.rule.Rule.TheVariants.{Syntax, TooDeep}
 use Rattle.tla_token.specs.declared.rule.Refusal.{Refusal}
@@ -13,6 +13,7 @@ use Rattle.tla_expr.specs.Spelling as spelled
 use Rattle.tla_expr.specs.Reader.{readers, read}
 use Rattle.tla_expr.specs.Nesting.{counts}
 use Rattle.tla_expr.specs.FirstStop.{Look, looks, to_end, Begins, Passes, StopsAt, phrases, in_expression, ReadsExpression, RefusesExpression}
+use Rattle.tla_expr.proofs.AlikeEndsSteps.{refused_after_none}
 use Rattle.tla_expr.proofs.ReadAll.{spelled_is_read}
 use Rattle.tla_expr.proofs.StopLaws.{begins_none, all_read, passes_begins, stops_by_one_rule}
 use Rattle.tla_expr.proofs.BracketCounts.{too_many_brackets}
@@ -50,7 +51,7 @@ none_with_semicolon b = begins_none 0 12 opened (λ m more. refl) b
 
 no_expression : (t : Tree) → ReadsExpression opened 3 t → ⊥
 unfolding readers
-no_expression t r = (let h = spelled_is_read 0 r.spelled.0 r.spelled.1 in absurd cc)
+no_expression t r = refused_after_none 0 (take 3 opened) (drop 3 opened) Syntax refl r.spelled.0 r.spelled.1 r.spelled.2
 
 refused : RefusesExpression opened (at 40) (record { rule = Syntax; place = at 16 })
 refused = record {

@@ -8,7 +8,7 @@ use Rattle.tla_expr.specs.Lexical as tk
 use Rattle.tla_expr.specs.Spelling.{Field, Phrase, no_set, set_of, filter, image, no_tuple, tuple, fields, records, function, functions, except}
 use Rattle.tla_expr.specs.Spelling.{last, more, Binds, last_bind, bind}
 use Rattle.tla_expr.specs.Spelling.{mark, key, sign, word, field_token, spell, spell_all, spell_binds, spell_fields, spell_settings, Right, Good, GoodBinds, is_word, is_in, is_bind}
-use Rattle.tla_expr.specs.Reader.{next, tail, peek, free, Readers, element, set_rest, image_rest, brace_rest, set_from, member_rest, brace_name, braces, tuples, field_rest, function_rest, square_rest, square_from, bind_rest, square_member, plain_field, square_name, squares}
+use Rattle.tla_expr.specs.Reader.{any, next, tail, peek, free, Readers, element, set_rest, image_rest, brace_rest, set_from, member_rest, brace_name, braces, tuples, field_rest, function_rest, square_rest, square_from, bind_rest, square_member, plain_field, square_name, squares}
 use Rattle.tla_expr.proofs.ReadMembers.{is_member, bind_member}
 use Rattle.tla_expr.proofs.SoundTokens.{then_ok, ok_is, given, seen, mark_ok, word_ok, ended_ok}
 use Rattle.tla_expr.proofs.SoundPhrases.{IsPrime, IsGroup, Sound, no_word, no_in, element_is, from_name_sound}
@@ -40,14 +40,14 @@ module _ (r : Readers) (h : Sound r) where
       rw (sym z.3) ((g, gb, n.0, i.0, z.1, ap not (bind_member e b gb ∙ m)), refl, rw (z.2, i.1, w.1, n.1) refl)
   brace_rest_sound e p g b gb m q k ts a us s o = set_rest_sound e p g b gb q k ts a us s o
 
-  set_from_sound : (e : ℕ) (p : Place) → Right e p → (q : Place) (x : Word) (t : Place) → Right e q → Right e t → (b : Phrase) → Good e b → (ts : List Token) (a : Phrase) (us : List Token) → set_from r e p (element q x t b) ts ≡ Ok (a, us) → IsPrime e (mark p tk.open_brace (word q x (sign t op.In (spell b ts)))) a us
+  set_from_sound : (e : ℕ) (p : Place) → Right e p → (q : Place) (x : Word) (t : Place) → Right e q → Right e t → (b : Phrase) → Good e b → (ts : List Token) (a : Phrase) (us : List Token) → set_from (any r) r e p (element q x t b) ts ≡ Ok (a, us) → IsPrime e (mark p tk.open_brace (word q x (sign t op.In (spell b ts)))) a us
   set_from_sound e p g q x t gq gt b gb ts a us o = by (element q x t b) refl o
     where
-      by : (m : Option Phrase) → element q x t b ≡ m → set_from r e p m ts ≡ Ok (a, us) → IsPrime e (mark p tk.open_brace (word q x (sign t op.In (spell b ts)))) a us
+      by : (m : Option Phrase) → element q x t b ≡ m → set_from (any r) r e p m ts ≡ Ok (a, us) → IsPrime e (mark p tk.open_brace (word q x (sign t op.In (spell b ts)))) a us
       by (Some c) i o = (let w = element_is e q x t gq gt b c gb i in moved e a us (set_rest_sound e p g c w.0 (next e ts).place (next e ts).kind ts a us refl o) (ap (λ (vs : List Token). mark p tk.open_brace vs) (w.1 ts)))
       by None i o = absurd cc
 
-  member_rest_sound : (e : ℕ) (p : Place) → Right e p → (q : Place) (x : Word) (t : Place) → Right e q → Right e t → (b : Phrase) → Good e b → (j : Place) (k : TokenView) (ts : List Token) (a : Phrase) (us : List Token) → next e ts ≡ token j k → member_rest r e p q x t b j k ts ≡ Ok (a, us) → IsPrime e (mark p tk.open_brace (word q x (sign t op.In (spell b ts)))) a us
+  member_rest_sound : (e : ℕ) (p : Place) → Right e p → (q : Place) (x : Word) (t : Place) → Right e q → Right e t → (b : Phrase) → Good e b → (j : Place) (k : TokenView) (ts : List Token) (a : Phrase) (us : List Token) → next e ts ≡ token j k → member_rest (any r) r e p q x t b j k ts ≡ Ok (a, us) → IsPrime e (mark p tk.open_brace (word q x (sign t op.In (spell b ts)))) a us
   member_rest_sound e p g q x t gq gt b gb j (tk.mark tk.colon) ts a us s o =
       let n = seen e ts j (tk.mark tk.colon) s refl in
       let v = then_ok o in
@@ -56,7 +56,7 @@ module _ (r : Readers) (h : Sound r) where
       rw (sym z.3) ((g, gq, gt, gb, n.0, w.0, z.1), refl, rw (z.2, w.2, n.1) refl)
   member_rest_sound e p g q x t gq gt b gb j k ts a us s o = set_from_sound e p g q x t gq gt b gb ts a us o
 
-  brace_name_other : (e : ℕ) (p : Place) → Right e p → (q : Place) (x : Word) → Right e q → (ts : List Token) (a : Phrase) (us : List Token) → is_in (next e ts).kind ≡ false → brace_name r e p q x (next e ts).place (tk.other []) ts ≡ Ok (a, us) → IsPrime e (mark p tk.open_brace (word q x ts)) a us
+  brace_name_other : (e : ℕ) (p : Place) → Right e p → (q : Place) (x : Word) → Right e q → (ts : List Token) (a : Phrase) (us : List Token) → is_in (next e ts).kind ≡ false → brace_name (any r) r e p q x (next e ts).place (tk.other []) ts ≡ Ok (a, us) → IsPrime e (mark p tk.open_brace (word q x ts)) a us
   brace_name_other e p g q x gq ts a us i o =
       let v = then_ok o in
       let f = from_name_sound r h e q x gq ts v.0 v.1 v.2 in
@@ -65,7 +65,7 @@ module _ (r : Readers) (h : Sound r) where
       let m = no_in e u.0 c.0 q x ts u.1 (c.2 ∙ f.2) i in
       moved e a us (brace_rest_sound e p g u.0 c.0 m (next e u.1).place (next e u.1).kind u.1 a us refl u.3) (ap (λ (vs : List Token). mark p tk.open_brace vs) (c.2 ∙ f.2))
 
-  brace_name_sound : (e : ℕ) (p : Place) → Right e p → (q : Place) (x : Word) → Right e q → (t : Place) (k : TokenView) (ts : List Token) (a : Phrase) (us : List Token) → next e ts ≡ token t k → brace_name r e p q x t k ts ≡ Ok (a, us) → IsPrime e (mark p tk.open_brace (word q x ts)) a us
+  brace_name_sound : (e : ℕ) (p : Place) → Right e p → (q : Place) (x : Word) → Right e q → (t : Place) (k : TokenView) (ts : List Token) (a : Phrase) (us : List Token) → next e ts ≡ token t k → brace_name (any r) r e p q x t k ts ≡ Ok (a, us) → IsPrime e (mark p tk.open_brace (word q x ts)) a us
   brace_name_sound e p g q x gq t (tk.sign op.In) ts a us s o =
       let n = seen e ts t (tk.sign op.In) s refl in
       let v = then_ok o in
@@ -73,14 +73,14 @@ module _ (r : Readers) (h : Sound r) where
       moved e a us (member_rest_sound e p g q x t gq n.0 v.0 w.0 (next e v.1).place (next e v.1).kind v.1 a us refl v.3) (rw (w.2, n.1) refl)
   brace_name_sound e p g q x gq t k ts a us s o = brace_name_other e p g q x gq ts a us (ap (λ (i : Token). is_in i.kind) s) o
 
-  braces_other : (e : ℕ) (p : Place) → Right e p → (ts : List Token) (a : Phrase) (us : List Token) → is_word (next e ts).kind ≡ false → braces r e p (next e ts).place (tk.other []) ts ≡ Ok (a, us) → IsPrime e (mark p tk.open_brace ts) a us
+  braces_other : (e : ℕ) (p : Place) → Right e p → (ts : List Token) (a : Phrase) (us : List Token) → is_word (next e ts).kind ≡ false → braces (any r) r e p (next e ts).place (tk.other []) ts ≡ Ok (a, us) → IsPrime e (mark p tk.open_brace ts) a us
   braces_other e p g ts a us i o =
       let v = then_ok o in
       let w = h.expr e free ts v.0 v.1 v.2 in
       let m = no_word e v.0 w.0 ts v.1 w.2 i in
       moved e a us (brace_rest_sound e p g v.0 w.0 m (next e v.1).place (next e v.1).kind v.1 a us refl v.3) (ap (λ (vs : List Token). mark p tk.open_brace vs) w.2)
 
-  pub braces_sound : (e : ℕ) (p : Place) → Right e p → (q : Place) (k : TokenView) (ts : List Token) (a : Phrase) (us : List Token) → next e ts ≡ token q k → braces r e p q k ts ≡ Ok (a, us) → IsPrime e (mark p tk.open_brace ts) a us
+  pub braces_sound : (e : ℕ) (p : Place) → Right e p → (q : Place) (k : TokenView) (ts : List Token) (a : Phrase) (us : List Token) → next e ts ≡ token q k → braces (any r) r e p q k ts ≡ Ok (a, us) → IsPrime e (mark p tk.open_brace ts) a us
   braces_sound e p g q (tk.mark tk.close_brace) ts a us s o =
       let n = seen e ts q (tk.mark tk.close_brace) s refl in
       let w = ok_is o in
@@ -143,10 +143,10 @@ module _ (r : Readers) (h : Sound r) where
       rw (sym z.3) ((g, gb, n.0, w.0, z.1), refl, rw (z.2, w.1, n.1) refl)
   square_rest_sound e p g b gb q k ts a us s o = absurd cc
 
-  square_from_sound : (e : ℕ) (p : Place) → Right e p → (q : Place) (x : Word) (t : Place) → Right e q → Right e t → (b : Phrase) → Good e b → (ts : List Token) (a : Phrase) (us : List Token) → square_from r e p (element q x t b) ts ≡ Ok (a, us) → IsPrime e (mark p tk.open_square (word q x (sign t op.In (spell b ts)))) a us
+  square_from_sound : (e : ℕ) (p : Place) → Right e p → (q : Place) (x : Word) (t : Place) → Right e q → Right e t → (b : Phrase) → Good e b → (ts : List Token) (a : Phrase) (us : List Token) → square_from (any r) r e p (element q x t b) ts ≡ Ok (a, us) → IsPrime e (mark p tk.open_square (word q x (sign t op.In (spell b ts)))) a us
   square_from_sound e p g q x t gq gt b gb ts a us o = by (element q x t b) refl o
     where
-      by : (m : Option Phrase) → element q x t b ≡ m → square_from r e p m ts ≡ Ok (a, us) → IsPrime e (mark p tk.open_square (word q x (sign t op.In (spell b ts)))) a us
+      by : (m : Option Phrase) → element q x t b ≡ m → square_from (any r) r e p m ts ≡ Ok (a, us) → IsPrime e (mark p tk.open_square (word q x (sign t op.In (spell b ts)))) a us
       by (Some c) i o = (let w = element_is e q x t gq gt b c gb i in moved e a us (square_rest_sound e p g c w.0 (next e ts).place (next e ts).kind ts a us refl o) (ap (λ (vs : List Token). mark p tk.open_square vs) (w.1 ts)))
       by None i o = absurd cc
 
@@ -160,7 +160,7 @@ module _ (r : Readers) (h : Sound r) where
       given (λ ds vs. IsGroup e (word q x (sign t op.In (spell b ts))) ds vs) u.3 ((gq, gt, gb, n.0, i.0), rw (i.1, w.1, n.1) refl)
   bind_rest_sound e q x t gq gt b gb j k ts bs us s o = (let z = ok_is o in rw (sym z.0, sym z.1) ((gq, gt, gb), refl))
 
-  square_member_sound : (e : ℕ) (p : Place) → Right e p → (q : Place) (x : Word) (t : Place) → Right e q → Right e t → (b : Phrase) → Good e b → (j : Place) (k : TokenView) (ts : List Token) (a : Phrase) (us : List Token) → next e ts ≡ token j k → square_member r e p q x t b j k ts ≡ Ok (a, us) → IsPrime e (mark p tk.open_square (word q x (sign t op.In (spell b ts)))) a us
+  square_member_sound : (e : ℕ) (p : Place) → Right e p → (q : Place) (x : Word) (t : Place) → Right e q → Right e t → (b : Phrase) → Good e b → (j : Place) (k : TokenView) (ts : List Token) (a : Phrase) (us : List Token) → next e ts ≡ token j k → square_member (any r) r e p q x t b j k ts ≡ Ok (a, us) → IsPrime e (mark p tk.open_square (word q x (sign t op.In (spell b ts)))) a us
   square_member_sound e p g q x t gq gt b gb j (tk.mark tk.maps) ts a us s o = function_rest_sound e p g (last_bind q x t b) (gq, gt, gb) ts a us o
   square_member_sound e p g q x t gq gt b gb j (tk.mark tk.comma) ts a us s o =
       let v = then_ok o in
@@ -168,7 +168,7 @@ module _ (r : Readers) (h : Sound r) where
       moved e a us (function_rest_sound e p g v.0 w.0 v.1 a us v.3) (ap (λ (vs : List Token). mark p tk.open_square vs) w.1)
   square_member_sound e p g q x t gq gt b gb j k ts a us s o = square_from_sound e p g q x t gq gt b gb ts a us o
 
-  square_name_other : (e : ℕ) (p : Place) → Right e p → (q : Place) (x : Word) → Right e q → (t : Place) (ts : List Token) (a : Phrase) (us : List Token) → square_name r e p q x t (tk.other []) ts ≡ Ok (a, us) → IsPrime e (mark p tk.open_square (word q x ts)) a us
+  square_name_other : (e : ℕ) (p : Place) → Right e p → (q : Place) (x : Word) → Right e q → (t : Place) (ts : List Token) (a : Phrase) (us : List Token) → square_name (any r) r e p q x t (tk.other []) ts ≡ Ok (a, us) → IsPrime e (mark p tk.open_square (word q x ts)) a us
   square_name_other e p g q x gq t ts a us o =
       let v = then_ok o in
       let f = from_name_sound r h e q x gq ts v.0 v.1 v.2 in
@@ -176,7 +176,7 @@ module _ (r : Readers) (h : Sound r) where
       let c = h.climb e free v.0 f.0 refl v.1 u.0 u.1 u.2 in
       moved e a us (square_rest_sound e p g u.0 c.0 (next e u.1).place (next e u.1).kind u.1 a us refl u.3) (ap (λ (vs : List Token). mark p tk.open_square vs) (c.2 ∙ f.2))
 
-  square_name_sound : (e : ℕ) (p : Place) → Right e p → (q : Place) (x : Word) → Right e q → (t : Place) (k : TokenView) (ts : List Token) (a : Phrase) (us : List Token) → next e ts ≡ token t k → square_name r e p q x t k ts ≡ Ok (a, us) → IsPrime e (mark p tk.open_square (word q x ts)) a us
+  square_name_sound : (e : ℕ) (p : Place) → Right e p → (q : Place) (x : Word) → Right e q → (t : Place) (k : TokenView) (ts : List Token) (a : Phrase) (us : List Token) → next e ts ≡ token t k → square_name (any r) r e p q x t k ts ≡ Ok (a, us) → IsPrime e (mark p tk.open_square (word q x ts)) a us
   square_name_sound e p g q x gq t (tk.mark tk.maps) ts a us s o = field_rest_sound e p g (plain_field q x) gq t (tk.mark tk.maps) ts a us o
   square_name_sound e p g q x gq t (tk.mark tk.colon) ts a us s o = field_rest_sound e p g (plain_field q x) gq t (tk.mark tk.colon) ts a us o
   square_name_sound e p g q x gq t (tk.mark tk.comma) ts a us s o =
@@ -190,13 +190,13 @@ module _ (r : Readers) (h : Sound r) where
       moved e a us (square_member_sound e p g q x t gq n.0 v.0 w.0 (next e v.1).place (next e v.1).kind v.1 a us refl v.3) (rw (w.2, n.1) refl)
   square_name_sound e p g q x gq t k ts a us s o = square_name_other e p g q x gq t ts a us o
 
-  squares_other : (e : ℕ) (p : Place) → Right e p → (q : Place) (ts : List Token) (a : Phrase) (us : List Token) → squares r e p q (tk.other []) ts ≡ Ok (a, us) → IsPrime e (mark p tk.open_square ts) a us
+  squares_other : (e : ℕ) (p : Place) → Right e p → (q : Place) (ts : List Token) (a : Phrase) (us : List Token) → squares (any r) r e p q (tk.other []) ts ≡ Ok (a, us) → IsPrime e (mark p tk.open_square ts) a us
   squares_other e p g q ts a us o =
       let v = then_ok o in
       let w = h.expr e free ts v.0 v.1 v.2 in
       moved e a us (square_rest_sound e p g v.0 w.0 (next e v.1).place (next e v.1).kind v.1 a us refl v.3) (ap (λ (vs : List Token). mark p tk.open_square vs) w.2)
 
-  pub squares_sound : (e : ℕ) (p : Place) → Right e p → (q : Place) (k : TokenView) (ts : List Token) (a : Phrase) (us : List Token) → next e ts ≡ token q k → squares r e p q k ts ≡ Ok (a, us) → IsPrime e (mark p tk.open_square ts) a us
+  pub squares_sound : (e : ℕ) (p : Place) → Right e p → (q : Place) (k : TokenView) (ts : List Token) (a : Phrase) (us : List Token) → next e ts ≡ token q k → squares (any r) r e p q k ts ≡ Ok (a, us) → IsPrime e (mark p tk.open_square ts) a us
   squares_sound e p g q (tk.reserved x) ts a us s o =
       let n = seen e ts q (tk.reserved x) s refl in
       moved e a us (field_rest_sound e p g (record { place = q; is_reserved = true; text = x }) n.0 (next e (tail ts)).place (next e (tail ts)).kind (tail ts) a us o) (rw n.1 refl)

@@ -12,7 +12,7 @@ use Rattle.tla_expr.specs.Spelling.{Field, Phrase, number, string, constant, bra
 use Rattle.tla_expr.specs.Spelling.{Phrases, last, more, Binds, share, Fields, last_field, field, Settings, last_setting, setting, Path, path_end, index, at_field, Bullets, last_bullet, bullet, Arms, last_arm, other_arm, arm, Locals, last_local, more_locals}
 use Rattle.tla_expr.specs.Spelling.{mark, key, sign, word, field_token, spell, spell_all, spell_binds, spell_fields, spell_settings, spell_path, spell_bullets, spell_arms, spell_locals, Right, Good, GoodAll, GoodBinds, GoodFields, GoodSettings, GoodPath, GoodBullets, GoodArms, GoodLocals, Head, primary, applied, open_form, head, is_primary, is_open, is_above, is_applied, is_short, first_bullet, can_be_left, can_be_under, can_be_head, is_some_path, takes_box}
 use Rattle.tla_expr.specs.Spelling as sp
-use Rattle.tla_expr.specs.Reader.{◌>>=◌, gives, next, tail, peek, take, is_sign, bullet_of, Context, free, right_of, under, bound, fits, is_free, prefix_by, goes_on, Readers, list_if, keyed, under_by, signed, operand, short_signed, short_by, apply_if, select_if, postfix_by, climb_if, climb_by, phrases_by, binds_by, fields_by, settings_by, setting_if, path_by, bullets_if, arms_other, arms_if, arms_by, locals_by}
+use Rattle.tla_expr.specs.Reader.{any, ◌>>=◌, gives, next, tail, peek, take, is_sign, bullet_of, Context, free, right_of, under, bound, fits, is_free, prefix_by, goes_on, Readers, list_if, keyed, under_by, signed, operand, short_signed, short_by, apply_if, select_if, postfix_by, climb_if, climb_by, phrases_by, binds_by, fields_by, settings_by, setting_if, path_by, bullets_if, arms_other, arms_if, arms_by, locals_by}
 use Rattle.tla_expr.specs.Reader as rd
 use Rattle.tla_expr.proofs.ReadStops.{sign_infix}
 use Rattle.tla_expr.proofs.ReadLists.{first_column}
@@ -94,7 +94,7 @@ module _ (r : Readers) (h : Sound r) where
           (z.0, z.1, z.2 ∙ w.2)
       by false b i = absurd cc
 
-  pub primary_sound : (e : ℕ) (p : Place) (k : TokenView) (ts : List Token) (a : Phrase) (us : List Token) → next e ts ≡ token p k → rd.primary r e p k ts ≡ Ok (a, us) → IsPrime e ts a us
+  pub primary_sound : (e : ℕ) (p : Place) (k : TokenView) (ts : List Token) (a : Phrase) (us : List Token) → next e ts ≡ token p k → rd.primary (any r) r e p k ts ≡ Ok (a, us) → IsPrime e ts a us
   primary_sound e p (tk.number n) ts a us s o =
       let m = seen e ts p (tk.number n) s refl in
       let z = h.postfix e (number p n) m.0 refl (tail ts) a us o in
@@ -167,7 +167,7 @@ module _ (r : Readers) (h : Sound r) where
       let k = h.expr e free u.1 z.0 z.1 z.2 in
       given (λ d vs. IsOpen e (key p tk.if_key ts) d vs) z.3 ((g, i.0, m.0, j.0, n.0, k.0), refl, rw (k.2, n.1, j.2, m.1, i.2) refl)
 
-  keyed_sound : (e : ℕ) (p : Place) (k : Key) (ts : List Token) (a : Phrase) (us : List Token) → next e ts ≡ token p (tk.key k) → keyed r e p k ts ≡ Ok (a, us) → IsOpen e ts a us
+  keyed_sound : (e : ℕ) (p : Place) (k : Key) (ts : List Token) (a : Phrase) (us : List Token) → next e ts ≡ token p (tk.key k) → keyed (any r) e p k ts ≡ Ok (a, us) → IsOpen e ts a us
   keyed_sound e p tk.if_key ts a us s o =
       let n = seen e ts p (tk.key tk.if_key) s refl in
       let z = choice_sound e p n.0 (tail ts) a us o in
@@ -210,22 +210,22 @@ module _ (r : Readers) (h : Sound r) where
       by true f d vs i = (let w = h.expr e (under q) (tail ts) d vs i in (w.0, w.1, free_fits c p q d f, w.2))
       by false f d vs i = (let w = h.short e (tail ts) d vs i in (w.0, short_under q d w.1, short_fits c p q d w.1, w.2))
 
-  signed_sound : (e : ℕ) (c : Context) (p : Place) (o : Op) (ts : List Token) (a : Phrase) (us : List Token) → next e ts ≡ token p (tk.sign o) → signed r e c p o (prefix_by o) ts ≡ Ok (a, us) → Fitting c e ts a us
+  signed_sound : (e : ℕ) (c : Context) (p : Place) (o : Op) (ts : List Token) (a : Phrase) (us : List Token) → next e ts ≡ token p (tk.sign o) → signed (any r) r e c p o (prefix_by o) ts ≡ Ok (a, us) → Fitting c e ts a us
   signed_sound e c p o ts a us s i = by (prefix_by o) refl i
     where
-      by : (m : Option Op) → prefix_by o ≡ m → signed r e c p o m ts ≡ Ok (a, us) → Fitting c e ts a us
+      by : (m : Option Op) → prefix_by o ≡ m → signed (any r) r e c p o m ts ≡ Ok (a, us) → Fitting c e ts a us
       by (Some q) m i = prefix_sound e c p o q m ts a us s i
       by None m i = (let z = list_sound e p o ts a us i in (z.0, prime_fits c a z.1, z.2))
 
-  pub operand_sound : (e : ℕ) (c : Context) (p : Place) (k : TokenView) (ts : List Token) (a : Phrase) (us : List Token) → next e ts ≡ token p k → operand r e c p k ts ≡ Ok (a, us) → Fitting c e ts a us
+  pub operand_sound : (e : ℕ) (c : Context) (p : Place) (k : TokenView) (ts : List Token) (a : Phrase) (us : List Token) → next e ts ≡ token p k → operand (any r) r e c p k ts ≡ Ok (a, us) → Fitting c e ts a us
   operand_sound e c p (tk.key k) ts a us s o = (let z = keyed_sound e p k ts a us s o in (z.0, open_fits c a z.1, z.2))
   operand_sound e c p (tk.sign o) ts a us s i = signed_sound e c p o ts a us s i
   operand_sound e c p k ts a us s o = (let z = primary_sound e p k ts a us s o in (z.0, prime_fits c a z.1, z.2))
 
-  pub short_sound : (e : ℕ) (p : Place) (k : TokenView) (ts : List Token) (a : Phrase) (us : List Token) → next e ts ≡ token p k → short_by r e p k ts ≡ Ok (a, us) → Good e a × (is_short a ≡ true) × (spell a us ≡ ts)
+  pub short_sound : (e : ℕ) (p : Place) (k : TokenView) (ts : List Token) (a : Phrase) (us : List Token) → next e ts ≡ token p k → short_by (any r) r e p k ts ≡ Ok (a, us) → Good e a × (is_short a ≡ true) × (spell a us ≡ ts)
   short_sound e p (tk.sign o) ts a us s i = by (prefix_by o) refl i
     where
-      by : (m : Option Op) → prefix_by o ≡ m → short_signed r e p o m ts ≡ Ok (a, us) → Good e a × (is_short a ≡ true) × (spell a us ≡ ts)
+      by : (m : Option Op) → prefix_by o ≡ m → short_signed (any r) r e p o m ts ≡ Ok (a, us) → Good e a × (is_short a ≡ true) × (spell a us ≡ ts)
       by (Some q) m i =
           let n = seen e ts p (tk.sign o) s refl in
           let w = prefix_is o q m in
@@ -236,10 +236,10 @@ module _ (r : Readers) (h : Sound r) where
   short_sound e p k ts a us s o = (let z = primary_sound e p k ts a us s o in (z.0, prime_short a z.1, z.2))
 
   -- ---- loops
-  pub postfix_sound : (e : ℕ) (b : Phrase) → Good e b → is_primary (head b) ≡ true → (p : Place) (k : TokenView) (ts : List Token) (a : Phrase) (us : List Token) → next e ts ≡ token p k → postfix_by r e b p k ts ≡ Ok (a, us) → IsPrime e (spell b ts) a us
+  pub postfix_sound : (e : ℕ) (b : Phrase) → Good e b → is_primary (head b) ≡ true → (p : Place) (k : TokenView) (ts : List Token) (a : Phrase) (us : List Token) → next e ts ≡ token p k → postfix_by (any r) r e b p k ts ≡ Ok (a, us) → IsPrime e (spell b ts) a us
   postfix_sound e b g f p (tk.mark tk.open_square) ts a us s o = by (can_be_head b p) refl o
     where
-      by : (m : Bool) → can_be_head b p ≡ m → apply_if m r e b p ts ≡ Ok (a, us) → IsPrime e (spell b ts) a us
+      by : (m : Bool) → can_be_head b p ≡ m → apply_if m (any r) r e b p ts ≡ Ok (a, us) → IsPrime e (spell b ts) a us
       by true m o =
           let n = seen e ts p (tk.mark tk.open_square) s refl in
           let v = then_ok o in
@@ -251,7 +251,7 @@ module _ (r : Readers) (h : Sound r) where
       by false m o = given (λ d vs. IsPrime e (spell b ts) d vs) o (g, f, refl)
   postfix_sound e b g f p (tk.mark tk.dot) ts a us s o = by (can_be_head b p) refl o
     where
-      by : (m : Bool) → can_be_head b p ≡ m → select_if m r e b p ts ≡ Ok (a, us) → IsPrime e (spell b ts) a us
+      by : (m : Bool) → can_be_head b p ≡ m → select_if m (any r) r e b p ts ≡ Ok (a, us) → IsPrime e (spell b ts) a us
       by true m o =
           let n = seen e ts p (tk.mark tk.dot) s refl in
           let v = then_ok o in
@@ -261,10 +261,10 @@ module _ (r : Readers) (h : Sound r) where
       by false m o = given (λ d vs. IsPrime e (spell b ts) d vs) o (g, f, refl)
   postfix_sound e b g f p k ts a us s o = given (λ d vs. IsPrime e (spell b ts) d vs) o (g, f, refl)
 
-  pub climb_sound : (e : ℕ) (c : Context) (b : Phrase) → Good e b → fits c b ≡ true → (p : Place) (k : TokenView) (ts : List Token) (a : Phrase) (us : List Token) → next e ts ≡ token p k → climb_by r e (bound c) b p k ts ≡ Ok (a, us) → Fitting c e (spell b ts) a us
+  pub climb_sound : (e : ℕ) (c : Context) (b : Phrase) → Good e b → fits c b ≡ true → (p : Place) (k : TokenView) (ts : List Token) (a : Phrase) (us : List Token) → next e ts ≡ token p k → climb_by (any r) r e (bound c) b p k ts ≡ Ok (a, us) → Fitting c e (spell b ts) a us
   climb_sound e c b g f p (tk.sign o) ts a us s i = by (goes_on (bound c) b p o) refl i
     where
-      by : (m : Bool) → goes_on (bound c) b p o ≡ m → climb_if m r e (bound c) b p o ts ≡ Ok (a, us) → Fitting c e (spell b ts) a us
+      by : (m : Bool) → goes_on (bound c) b p o ≡ m → climb_if m (any r) r e (bound c) b p o ts ≡ Ok (a, us) → Fitting c e (spell b ts) a us
       by true m i =
           let n = seen e ts p (tk.sign o) s refl in
           let w = and_parts (not (is_prefix o)) (nat_lt (bound c) (rank o).0 && can_be_left b p o) m in

@@ -1,5 +1,5 @@
 -- What is read is spelled: lists of all kinds, and all readers together.
-use Rattle.std.proofs.Common.{◌≡◌, ℕ, zero, suc, ◌*◌, length, nat_eq, Bool, true, false, not, ◌&&◌, List, [], ◌∷◌, Ok, refl, sym, ap, ◌∙◌}
+use Rattle.std.proofs.Common.{◌≡◌, ℕ, zero, suc, ◌*◌, length, nat_eq, Bool, true, false, not, ◌&&◌, List, [], ◌∷◌, Ok, refl, sym, ap, ◌∙◌, None}
 use Rattle.std.proofs.lemmas.Bool.{and_parts, eqb-true}
 use Rattle.tla_token.specs.declared.place.Place.{Place}
 use Rattle.tla_expr.specs.declared.op.Op.{Op}
@@ -11,7 +11,7 @@ use Rattle.tla_expr.specs.Lexical as tk
 use Rattle.tla_expr.specs.Spelling.{Field, Phrase}
 use Rattle.tla_expr.specs.Spelling.{Phrases, last, more, Binds, share, Fields, last_field, field, Settings, last_setting, setting, Path, path_end, index, at_field, Bullets, last_bullet, bullet, Arms, last_arm, other_arm, arm, Locals, last_local, more_locals}
 use Rattle.tla_expr.specs.Spelling.{mark, key, sign, word, field_token, spell, spell_all, spell_binds, spell_fields, spell_settings, spell_path, spell_bullets, spell_arms, spell_locals, Right, Good, GoodAll, GoodBinds, GoodFields, GoodSettings, GoodPath, GoodBullets, GoodArms, GoodLocals, first_bullet, is_some_path, takes_box}
-use Rattle.tla_expr.specs.Reader.{◌>>=◌, gives, next, tail, peek, take, is_sign, bullet_of, free, Readers, one_step, readers, read, phrases_by, binds_by, fields_by, settings_by, setting_if, path_by, bullets_if, arms_other, arms_if, arms_by, locals_by}
+use Rattle.tla_expr.specs.Reader.{any, ◌>>=◌, gives, next, tail, peek, take, is_sign, bullet_of, free, Readers, one_step, readers, read, phrases_by, binds_by, fields_by, settings_by, setting_if, path_by, bullets_if, arms_other, arms_if, arms_by, locals_by}
 use Rattle.tla_expr.specs.Reader as rd
 use Rattle.tla_expr.proofs.SoundTokens.{then_ok, ok_is, given, seen, taken, take_ok, if_some, sign_is, mark_ok, sign_ok, word_ok, field_ok}
 use Rattle.tla_expr.proofs.SoundPhrases.{IsGroup, Sound}
@@ -95,7 +95,7 @@ module _ (r : Readers) (h : Sound r) where
           (z.0, z.1 ∙ rw (w.2, m.1) refl)
       by false some o = absurd cc
 
-  path_sound : (e : ℕ) (p : Place) (k : TokenView) (ts : List Token) (path : Path) (us : List Token) → next e ts ≡ token p k → path_by r e p k ts ≡ Ok (path, us) → IsPath e ts path us
+  path_sound : (e : ℕ) (p : Place) (k : TokenView) (ts : List Token) (path : Path) (us : List Token) → next e ts ≡ token p k → path_by (any r) r e p k ts ≡ Ok (path, us) → IsPath e ts path us
   path_sound e p (tk.mark tk.open_square) ts path us s o =
       let n = seen e ts p (tk.mark tk.open_square) s refl in
       let v = then_ok o in
@@ -164,7 +164,7 @@ module _ (r : Readers) (h : Sound r) where
   locals_sound e p x gp q gq a g j k ts ls us o = given (λ d vs. AreLocals e (word p x (mark q tk.defines (spell a ts))) d vs) o ((gp, gq, g), refl)
 
   -- ---- one step more
-  step_sound : Sound (one_step r)
+  step_sound : Sound (one_step (any r) r)
   step_sound = record {
     expr = λ e c ts a us o.
         (let v = then_ok o in
@@ -238,10 +238,10 @@ no_steps_sound = record {
   locals = λ e ts ls us o. absurd cc;
 }
 
-pub sound : (n : ℕ) → Sound (readers n)
+pub sound : (n : ℕ) → Sound (readers n None)
 unfolding readers
 sound zero = no_steps_sound
-sound (suc n) = step_sound (readers n) (sound n)
+sound (suc n) = step_sound (readers n None) (sound n)
 
 pub read_is_spelled : (e : ℕ) (ts us : List Token) (a : Phrase) → read e ts ≡ Ok (a, us) → Good e a × (ts ≡ spell a us)
 read_is_spelled e ts us a o = (let w = (sound (4 * length ts)).expr e free ts a us o in (w.0, sym w.2))

@@ -11,7 +11,7 @@ use Rattle.tla_expr.specs.Lexical as tk
 use Rattle.tla_expr.specs.Spelling.{Field, Phrase, name, primed, call, no_set, set_of, filter, image, no_tuple, tuple, fields, records, function, functions, except, infix_of, prefix_of}
 use Rattle.tla_expr.specs.Spelling.{Phrases, last, more, Binds, last_bind, bind, Fields, Settings, Path, Bullets, Arms, Locals}
 use Rattle.tla_expr.specs.Spelling.{mark, key, sign, word, field_token, spell, spell_all, spell_binds, spell_fields, spell_settings, spell_path, spell_bullets, spell_arms, spell_locals, Right, Good, GoodAll, GoodBinds, GoodFields, GoodSettings, GoodPath, GoodBullets, GoodArms, GoodLocals, head, is_primary, is_short, first_bullet, can_be_left, can_be_right, is_word, is_in, is_bind}
-use Rattle.tla_expr.specs.Reader.{next, tail, peek, Context, free, bound, fits, Readers, on_left, element, named, from_name, set_rest, image_rest, brace_rest, set_from, member_rest, brace_name, braces, tuples, field_rest, function_rest, square_rest, square_from, bind_rest, square_member, plain_field, square_name, squares}
+use Rattle.tla_expr.specs.Reader.{any, next, tail, peek, Context, free, bound, fits, Readers, on_left, element, named, from_name, set_rest, image_rest, brace_rest, set_from, member_rest, brace_name, braces, tuples, field_rest, function_rest, square_rest, square_from, bind_rest, square_member, plain_field, square_name, squares}
 use Rattle.tla_expr.proofs.ReadMembers.{is_member, bind_member, member}
 use Rattle.tla_expr.proofs.SoundTokens.{then_ok, ok_is, seen, mark_ok, word_ok, ended_ok}
 
@@ -98,7 +98,7 @@ element_is e p x q gp gq a b g h = whole_element e p x q a b gp gq g h
 
 module _ (r : Readers) (h : Sound r) where
   -- ---- names
-  pub named_sound : (e : ℕ) (p : Place) (x : Word) → Right e p → (q : Place) (k : TokenView) (ts : List Token) (a : Phrase) (us : List Token) → next e ts ≡ token q k → named r e p x q k ts ≡ Ok (a, us) → IsPrime e (word p x ts) a us
+  pub named_sound : (e : ℕ) (p : Place) (x : Word) → Right e p → (q : Place) (k : TokenView) (ts : List Token) (a : Phrase) (us : List Token) → next e ts ≡ token q k → named (any r) e p x q k ts ≡ Ok (a, us) → IsPrime e (word p x ts) a us
   named_sound e p x g q (tk.mark tk.open_bracket) ts a us s o =
       let n = seen e ts q (tk.mark tk.open_bracket) s refl in
       let v = then_ok o in
@@ -111,7 +111,7 @@ module _ (r : Readers) (h : Sound r) where
       rw (sym w.0, sym w.1) ((g, n.0), refl, rw n.1 refl)
   named_sound e p x g q k ts a us s o = (let w = ok_is o in rw (sym w.0, sym w.1) (g, refl, refl))
 
-  pub from_name_sound : (e : ℕ) (p : Place) (x : Word) → Right e p → (ts : List Token) (a : Phrase) (us : List Token) → from_name r e p x ts ≡ Ok (a, us) → IsPrime e (word p x ts) a us
+  pub from_name_sound : (e : ℕ) (p : Place) (x : Word) → Right e p → (ts : List Token) (a : Phrase) (us : List Token) → from_name (any r) r e p x ts ≡ Ok (a, us) → IsPrime e (word p x ts) a us
   from_name_sound e p x g ts a us o =
       let v = then_ok o in
       let w = named_sound e p x g (next e ts).place (next e ts).kind ts v.0 v.1 refl v.2 in

@@ -84,10 +84,10 @@ at_least zero m = omega arith
 at_least (suc k) m = (let h = at_least k m in omega arith)
 
 -- where reading doesn't come to the end, whatever follows
-pub begins_none : (e k : ℕ) (ts : List Token) → ((m : ℕ) (more : List Token) → all_read ((readers (steps_and k m)).expr e free (ts ++ more)) ≡ false) → Begins (phrases e) (map Some (looks ts)) → ⊥
+pub begins_none : (e k : ℕ) (ts : List Token) → ((m : ℕ) (more : List Token) → all_read ((readers (steps_and k m) None).expr e free (ts ++ more)) ≡ false) → Begins (phrases e) (map Some (looks ts)) → ⊥
 begins_none e k ts h b =
     let a = begun e ts b in
     let n = steps_and k (steps a.0 + 3) in
     let read_all = closed a.0 (reads a.0) e a.2 [] refl n (at_least k (steps a.0 + 3)) in
-    let so : true ≡ false = sym (ap all_read read_all) ∙ ap (λ (us : List Token). all_read ((readers n).expr e free us)) a.3 ∙ h (steps a.0 + 3) a.1 in
+    let so : true ≡ false = sym (ap all_read read_all) ∙ ap (λ (us : List Token). all_read ((readers n None).expr e free us)) a.3 ∙ h (steps a.0 + 3) a.1 in
     absurd cc

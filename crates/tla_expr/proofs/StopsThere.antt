@@ -55,14 +55,14 @@ none_through e passed (t ∷ rest) stop b = begun_none e passed t rest stop (sub
 none_through e passed [] stop b = (let (more, ns, (a, g, s, c)) = subst (λ (ks : List (Option Look)). Begins (phrases e) ks) (through_end passed) b in never_ends (looks (spell a [])) (looks passed) more s)
 
 -- ---- what was passed begins a phrase
-pub refused_is_completed : (e : ℕ) (ts passed rest : List Token) → read e ts ≡ Err rest → ts ≡ passed ++ rest → (fix : List Token) × (a : Phrase) × Good e a × (spell a [] ≡ passed ++ fix)
-refused_is_completed e ts passed rest o s =
-    let m = refused_is_mended e ts rest o in
+pub refused_is_completed : (e : ℕ) (ts passed rest : List Token) (q : Rule) → read e ts ≡ Err (q, rest) → ts ≡ passed ++ rest → (fix : List Token) × (a : Phrase) × Good e a × (spell a [] ≡ passed ++ fix)
+refused_is_completed e ts passed rest q o s =
+    let m = refused_is_mended e ts (q, rest) o in
     let same : m.0 ≡ passed = append_cancel_right m.0 passed rest (sym m.3 ∙ s) in
     (m.1, m.2, m.4, m.5 ∙ ap (λ (k : List Token). k ++ m.1) same)
 
-refused_begins : (e : ℕ) (ts passed rest : List Token) → read e ts ≡ Err rest → ts ≡ passed ++ rest → Begins (phrases e) (map Some (looks passed))
-refused_begins e ts passed rest o s = (let m = refused_is_completed e ts passed rest o s in begins e passed m.0 m.1 m.2 m.3)
+refused_begins : (e : ℕ) (ts passed rest : List Token) (q : Rule) → read e ts ≡ Err (q, rest) → ts ≡ passed ++ rest → Begins (phrases e) (map Some (looks passed))
+refused_begins e ts passed rest q o s = (let m = refused_is_completed e ts passed rest q o s in begins e passed m.0 m.1 m.2 m.3)
 
 read_begins : (e : ℕ) (a : Phrase) → Good e a → Begins (phrases e) (map Some (looks (spell a [])))
 read_begins e a g = begins e (spell a []) [] a g (sym (append-nil (spell a [])))
@@ -108,8 +108,8 @@ read_stops ts rest a o h = read_there ts rest a o (λ g. read_passes a g h)
 pub few_are_read : (ts rest : List Token) (a : Phrase) → read 0 ts ≡ Ok (a, rest) → length (spell a []) ≤ deepest_expression → ReadsExpression ts (length (spell a [])) (tree_of a)
 few_are_read ts rest a o h = read_there ts rest a o (λ g. few_pass a g (spell a []) [] (sym (append-nil (spell a []))) h)
 
-refused_stops : (ts passed rest : List Token) → read 0 ts ≡ Err rest → ts ≡ passed ++ rest → Passes (phrases 0) (map Some (looks passed)) → StopsAt (phrases 0) (to_end ts) (length passed) Syntax
-refused_stops ts passed rest o s p = stops_at ts passed rest (ap rest_of o) s p
+refused_stops : (ts passed rest : List Token) (q : Rule) → read 0 ts ≡ Err (q, rest) → ts ≡ passed ++ rest → Passes (phrases 0) (map Some (looks passed)) → StopsAt (phrases 0) (to_end ts) (length passed) Syntax
+refused_stops ts passed rest q o s p = stops_at ts passed rest (ap rest_of o) s p
 
 -- ---- another stop is an earlier one, of depth
 abbrev Stops : List Token → ℕ → Rule → Type 0
@@ -143,21 +143,21 @@ earlier_than_read ts rest a o n r t =
     let w = read_is_spelled 0 ts rest a o in
     other_stop ts (spell a []) rest (ap rest_of o) (w.1 ∙ (ahead a).is [] rest) (read_begins 0 a w.0) n r t
 
-pub earlier_than_refused : (ts passed rest : List Token) → read 0 ts ≡ Err rest → ts ≡ passed ++ rest → (n : ℕ) (r : Rule) → StopsAt (phrases 0) (to_end ts) n r → ((n ≡ length passed) × (r ≡ Syntax)) ⊎ ((n < length passed) × (r ≡ TooDeep))
-earlier_than_refused ts passed rest o s n r t = other_stop ts passed rest (ap rest_of o) s (refused_begins 0 ts passed rest o s) n r t
+pub earlier_than_refused : (ts passed rest : List Token) (q : Rule) → read 0 ts ≡ Err (q, rest) → ts ≡ passed ++ rest → (n : ℕ) (r : Rule) → StopsAt (phrases 0) (to_end ts) n r → ((n ≡ length passed) × (r ≡ Syntax)) ⊎ ((n < length passed) × (r ≡ TooDeep))
+earlier_than_refused ts passed rest q o s n r t = other_stop ts passed rest (ap rest_of o) s (refused_begins 0 ts passed rest q o s) n r t
 
 -- ---- a refusal
-pub refused_at : (ts passed rest : List Token) (end : Place) → read 0 ts ≡ Err rest → ts ≡ passed ++ rest → Passes (phrases 0) (map Some (looks passed)) → RefusesExpression ts end (record { rule = Syntax; place = get_or (map (λ (t : Token). t.place) ts) (length passed) end })
-refused_at ts passed rest end o s p = record {
+pub refused_at : (ts passed rest : List Token) (end : Place) (q : Rule) → read 0 ts ≡ Err (q, rest) → ts ≡ passed ++ rest → Passes (phrases 0) (map Some (looks passed)) → RefusesExpression ts end (record { rule = Syntax; place = get_or (map (λ (t : Token). t.place) ts) (length passed) end })
+refused_at ts passed rest end q o s p = record {
   passed = length passed;
-  stops = refused_stops ts passed rest o s p;
+  stops = refused_stops ts passed rest q o s p;
   place = refl;
   unread = λ t r.
       (let front : take (length passed) ts ≡ passed = ap (λ (us : List Token). take (length passed) us) s ∙ take-append_seam passed rest in
-      refused_after_none 0 passed rest (ap (λ (us : List Token). read 0 us) (sym s) ∙ o) r.spelled.0 r.spelled.1 (sym front ∙ r.spelled.2));
+      refused_after_none 0 passed rest q (ap (λ (us : List Token). read 0 us) (sym s) ∙ o) r.spelled.0 r.spelled.1 (sym front ∙ r.spelled.2));
 }
 
-pub few_are_refused : (ts passed rest : List Token) (end : Place) → read 0 ts ≡ Err rest → ts ≡ passed ++ rest → length passed ≤ deepest_expression → RefusesExpression ts end (record { rule = Syntax; place = get_or (map (λ (t : Token). t.place) ts) (length passed) end })
-few_are_refused ts passed rest end o s l =
-    let m = refused_is_completed 0 ts passed rest o s in
-    refused_at ts passed rest end o s (few_pass m.1 m.2 passed m.0 m.3 l)
+pub few_are_refused : (ts passed rest : List Token) (end : Place) (q : Rule) → read 0 ts ≡ Err (q, rest) → ts ≡ passed ++ rest → length passed ≤ deepest_expression → RefusesExpression ts end (record { rule = Syntax; place = get_or (map (λ (t : Token). t.place) ts) (length passed) end })
+few_are_refused ts passed rest end q o s l =
+    let m = refused_is_completed 0 ts passed rest q o s in
+    refused_at ts passed rest end q o s (few_pass m.1 m.2 passed m.0 m.3 l)

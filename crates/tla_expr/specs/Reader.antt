@@ -1,7 +1,10 @@
 -- Reading an expression from left to right, as a function of its tokens ("Specifying Systems", chapter 15).
-use Rattle.std.specs.Prelude.{◌≡◌, ℕ, zero, suc, ◌*◌, Bool, true, false, ◌||◌, ◌&&◌, not, nat_lt, nat_eq, List, [], ◌∷◌, Option, Some, None, Result, Ok, Err, length, if◌then◌else◌}
+use Rattle.std.specs.Prelude.{◌≡◌, ℕ, zero, suc, ◌+◌, ◌-◌, ◌*◌, Bool, true, false, ◌||◌, ◌&&◌, not, nat_lt, nat_le, nat_eq, List, [], ◌∷◌, Option, Some, None, Result, Ok, Err, length, if◌then◌else◌, option_map}
 use Rattle.tla_token.specs.declared.place.Place.{Place}
 use Rattle.tla_token.specs.Places.{nowhere}
+use Rattle.tla_token.specs.declared.rule.Rule.{Rule}
+use Rattle.tla_token.specs.declared.rule.Rule.TheVariants.{TooDeep, Syntax}
+use Rattle.tla_token.specs.Limits.{deepest_expression}
 use Rattle.tla_expr.specs.declared.op.Op.{Op}
 use Rattle.tla_expr.specs.declared.op.Op.TheVariants as op
 use Rattle.tla_expr.specs.Tree.{Word}
@@ -10,11 +13,16 @@ use Rattle.tla_expr.specs.Lexical.{Mark, Key, TokenView, Token, token}
 use Rattle.tla_expr.specs.Lexical as tk
 use Rattle.tla_expr.specs.Spelling.{Field, Phrase, number, string, constant, name, primed, call, brackets, no_set, set_of, filter, image, no_tuple, tuple, fields, records, function, functions, except, apply, select, list, quantified, if_then_else, cases, local, infix_of, prefix_of}
 use Rattle.tla_expr.specs.Spelling.{Phrases, last, more, Binds, last_bind, bind, share, Fields, last_field, field, Settings, last_setting, setting, Path, path_end, index, at_field, Bullets, last_bullet, bullet, Arms, last_arm, other_arm, arm, Locals, last_local, more_locals}
+use Rattle.tla_expr.specs.Nesting.{chain, links, text_nesting}
 use Rattle.tla_expr.specs.Spelling.{can_be_left, can_be_right, can_be_under, can_be_head, is_some_path, takes_box}
 
--- Ok: what was read, and the tokens after it. Err: the tokens from the refused one on.
+-- the rule, and the tokens from the refused one on
+abbrev pub Stop : Type 0
+Stop = Rule × List Token
+
+-- Ok: what was read, and the tokens after it. Err: where it is refused.
 abbrev pub Out : Type 0 → Type 0
-Out A = Result (A × List Token) (List Token)
+Out A = Result (A × List Token) Stop
 
 abbrev pub Reader : Type 0 → Type 0
 Reader A = List Token → Out A
@@ -22,7 +30,7 @@ Reader A = List Token → Out A
 -- first one, then the other
 abbrev pub then_read : {A B : Type 0} → Out A → (A → Reader B) → Out B
 then_read (Ok x) f = f x.0 x.1
-then_read (Err ts) f = Err ts
+then_read (Err s) f = Err s
 
 infixl 10 ◌>>=◌
 abbrev pub ◌>>=◌ : {A B : Type 0} → Reader A → (A → Reader B) → Reader B
@@ -32,7 +40,7 @@ abbrev pub gives : {A : Type 0} → A → Reader A
 gives a ts = Ok (a, ts)
 
 abbrev pub refuses : {A : Type 0} → Reader A
-refuses ts = Err ts
+refuses ts = Err (Syntax, ts)
 
 -- what is seen at the end, and where the next token is not to the right of the edge
 abbrev pub end : Token
@@ -51,13 +59,17 @@ tail (t ∷ ts) = ts
 abbrev pub peek : {A : Type 0} → ℕ → (Place → TokenView → Reader A) → Reader A
 peek e f ts = f (next e ts).place (next e ts).kind ts
 
+-- too many forms would be open
+abbrev pub too_deep : {A : Type 0} → Reader A
+too_deep ts = Err (TooDeep, ts)
+
 -- past the next token
 abbrev pub skip : {A : Type 0} → Reader A → Reader A
 skip p ts = p (tail ts)
 
 abbrev pub took : {A : Type 0} → Option A → Reader A
 took (Some a) ts = Ok (a, tail ts)
-took None ts = Err ts
+took None ts = Err (Syntax, ts)
 
 -- past a token of which f tells something
 abbrev pub take : {A : Type 0} → ℕ → (Place → TokenView → Option A) → Reader A
@@ -198,18 +210,40 @@ pub record Readers : Type 0 where
   pub arms : ℕ → Reader Arms
   pub locals : ℕ → Reader Locals
 
+-- ---- how many forms may still open
+-- the readers where so many forms more are open, as long as so many may be; and whether a phrase may be read there, of which it is told late what it opens
+pub record Room : Type 0 where
+  pub at : ℕ → Option Readers
+  pub fits : ℕ → Phrase → Bool
+
+-- where one more is open, and so many besides
+abbrev pub within : ℕ → Room → Room
+within k m = record { at = λ n. m.at (suc k + n); fits = λ n. m.fits (suc k + n) }
+
+-- with one more form open, and so many besides, or refused
+abbrev pub opened : {A : Type 0} → Room → ℕ → (Room → Readers → Reader A) → Reader A
+opened {A} m k f = by (m.at (suc k))
+  where
+    by : Option Readers → Reader A
+    by (Some d) = f (within k m) d
+    by None = too_deep
+
+-- wherever any number of forms may be open
+abbrev pub any : Readers → Room
+any r = record { at = λ n. Some r; fits = λ n a. true }
+
 -- a, then a mark, and what both make
 abbrev pub ended : {A : Type 0} → ℕ → Mark → (Place → A) → Reader A
 ended e m f = a_mark e m >>= λ p. gives (f p)
 
 -- ---- names
-abbrev pub named : Readers → ℕ → Place → Word → Place → TokenView → Reader Phrase
-named r e p x q (tk.mark tk.open_bracket) = skip (r.phrases e >>= λ xs. ended e tk.close_bracket (λ s. call p x q xs s))
-named r e p x q (tk.mark tk.prime) = skip (gives (primed p x q))
-named r e p x q k = gives (name p x)
+abbrev pub named : Room → ℕ → Place → Word → Place → TokenView → Reader Phrase
+named m e p x q (tk.mark tk.open_bracket) = opened m 0 (λ i d. skip (d.phrases e >>= λ xs. ended e tk.close_bracket (λ s. call p x q xs s)))
+named m e p x q (tk.mark tk.prime) = skip (gives (primed p x q))
+named m e p x q k = gives (name p x)
 
-abbrev pub from_name : Readers → ℕ → Place → Word → Reader Phrase
-from_name r e p x = peek e (named r e p x) >>= λ a. r.postfix e a
+abbrev pub from_name : Room → Readers → ℕ → Place → Word → Reader Phrase
+from_name m r e p x = peek e (named m e p x) >>= λ a. r.postfix e a
 
 -- ---- braces
 abbrev pub set_rest : Readers → ℕ → Place → Phrase → Place → TokenView → Reader Phrase
@@ -223,23 +257,28 @@ abbrev pub brace_rest : Readers → ℕ → Place → Phrase → Place → Token
 brace_rest r e p a q (tk.mark tk.colon) = skip (image_rest r e p a q)
 brace_rest r e p a q k = set_rest r e p a q k
 
-abbrev pub set_from : Readers → ℕ → Place → Option Phrase → Reader Phrase
-set_from r e p (Some a) = peek e (set_rest r e p a)
-set_from r e p None = refuses
+-- if a phrase fits, and else it is too deep
+abbrev pub if_fits : {A : Type 0} → Bool → Reader A → Reader A
+if_fits true f = f
+if_fits false f = too_deep
+
+abbrev pub set_from : Room → Readers → ℕ → Place → Option Phrase → Reader Phrase
+set_from m r e p (Some a) = peek e (λ q k. if_fits (m.fits 0 a || not (is_mark tk.comma k || is_mark tk.close_brace k)) (set_rest r e p a q k))
+set_from m r e p None = refuses
 
 -- after `{x \in S`
-abbrev pub member_rest : Readers → ℕ → Place → Place → Word → Place → Phrase → Place → TokenView → Reader Phrase
-member_rest r e p q x s a t (tk.mark tk.colon) = skip (r.expr e free >>= λ b. ended e tk.close_brace (λ u. filter p q x s a t b u))
-member_rest r e p q x s a t k = set_from r e p (element q x s a)
+abbrev pub member_rest : Room → Readers → ℕ → Place → Place → Word → Place → Phrase → Place → TokenView → Reader Phrase
+member_rest m r e p q x s a t (tk.mark tk.colon) = skip (r.expr e free >>= λ b. ended e tk.close_brace (λ u. filter p q x s a t b u))
+member_rest m r e p q x s a t k = set_from m r e p (element q x s a)
 
-abbrev pub brace_name : Readers → ℕ → Place → Place → Word → Place → TokenView → Reader Phrase
-brace_name r e p q x s (tk.sign op.In) = skip (r.expr e free >>= λ a. peek e (member_rest r e p q x s a))
-brace_name r e p q x s k = from_name r e q x >>= λ a. r.climb e 0 a >>= λ b. peek e (brace_rest r e p b)
+abbrev pub brace_name : Room → Readers → ℕ → Place → Place → Word → Place → TokenView → Reader Phrase
+brace_name m r e p q x s (tk.sign op.In) = skip (r.expr e free >>= λ a. peek e (member_rest m r e p q x s a))
+brace_name m r e p q x s k = from_name m r e q x >>= λ a. r.climb e 0 a >>= λ b. peek e (brace_rest r e p b)
 
-abbrev pub braces : Readers → ℕ → Place → Place → TokenView → Reader Phrase
-braces r e p q (tk.mark tk.close_brace) = skip (gives (no_set p q))
-braces r e p q (tk.word x) = skip (peek e (brace_name r e p q x))
-braces r e p q k = r.expr e free >>= λ a. peek e (brace_rest r e p a)
+abbrev pub braces : Room → Readers → ℕ → Place → Place → TokenView → Reader Phrase
+braces m r e p q (tk.mark tk.close_brace) = skip (gives (no_set p q))
+braces m r e p q (tk.word x) = skip (peek e (brace_name m r e p q x))
+braces m r e p q k = r.expr e free >>= λ a. peek e (brace_rest r e p a)
 
 -- ---- tuples
 abbrev pub tuples : Readers → ℕ → Place → Place → TokenView → Reader Phrase
@@ -260,9 +299,9 @@ square_rest r e p a q (tk.mark tk.arrow) = skip (r.expr e free >>= λ b. ended e
 square_rest r e p a q (tk.key tk.except_key) = skip (r.settings e >>= λ ss. ended e tk.close_square (λ s. except p a q ss s))
 square_rest r e p a q k = refuses
 
-abbrev pub square_from : Readers → ℕ → Place → Option Phrase → Reader Phrase
-square_from r e p (Some a) = peek e (square_rest r e p a)
-square_from r e p None = refuses
+abbrev pub square_from : Room → Readers → ℕ → Place → Option Phrase → Reader Phrase
+square_from m r e p (Some a) = peek e (λ q k. if_fits (m.fits 0 a || not (is_mark tk.arrow k || is_key tk.except_key k)) (square_rest r e p a q k))
+square_from m r e p None = refuses
 
 -- after `x \in S`
 abbrev pub bind_rest : Readers → ℕ → Place → Word → Place → Phrase → Place → TokenView → Reader Binds
@@ -270,42 +309,42 @@ bind_rest r e p x q a s (tk.mark tk.comma) = skip (a_word e >>= λ y. r.binds e 
 bind_rest r e p x q a s k = gives (last_bind p x q a)
 
 -- after `[x \in S`
-abbrev pub square_member : Readers → ℕ → Place → Place → Word → Place → Phrase → Place → TokenView → Reader Phrase
-square_member r e p q x s a t (tk.mark tk.maps) = function_rest r e p (last_bind q x s a)
-square_member r e p q x s a t (tk.mark tk.comma) = peek e (bind_rest r e q x s a) >>= λ bs. function_rest r e p bs
-square_member r e p q x s a t k = square_from r e p (element q x s a)
+abbrev pub square_member : Room → Readers → ℕ → Place → Place → Word → Place → Phrase → Place → TokenView → Reader Phrase
+square_member m r e p q x s a t (tk.mark tk.maps) = function_rest r e p (last_bind q x s a)
+square_member m r e p q x s a t (tk.mark tk.comma) = peek e (bind_rest r e q x s a) >>= λ bs. function_rest r e p bs
+square_member m r e p q x s a t k = square_from m r e p (element q x s a)
 
 abbrev pub plain_field : Place → Word → Field
 plain_field p x = record { place = p; is_reserved = false; text = x }
 
-abbrev pub square_name : Readers → ℕ → Place → Place → Word → Place → TokenView → Reader Phrase
-square_name r e p q x s (tk.mark tk.maps) = field_rest r e p (plain_field q x) s (tk.mark tk.maps)
-square_name r e p q x s (tk.mark tk.colon) = field_rest r e p (plain_field q x) s (tk.mark tk.colon)
-square_name r e p q x s (tk.mark tk.comma) = r.binds e q x >>= λ bs. function_rest r e p bs
-square_name r e p q x s (tk.sign op.In) = skip (r.expr e free >>= λ a. peek e (square_member r e p q x s a))
-square_name r e p q x s k = from_name r e q x >>= λ a. r.climb e 0 a >>= λ b. peek e (square_rest r e p b)
+abbrev pub square_name : Room → Readers → ℕ → Place → Place → Word → Place → TokenView → Reader Phrase
+square_name m r e p q x s (tk.mark tk.maps) = field_rest r e p (plain_field q x) s (tk.mark tk.maps)
+square_name m r e p q x s (tk.mark tk.colon) = field_rest r e p (plain_field q x) s (tk.mark tk.colon)
+square_name m r e p q x s (tk.mark tk.comma) = r.binds e q x >>= λ bs. function_rest r e p bs
+square_name m r e p q x s (tk.sign op.In) = skip (r.expr e free >>= λ a. peek e (square_member m r e p q x s a))
+square_name m r e p q x s k = from_name m r e q x >>= λ a. r.climb e 0 a >>= λ b. peek e (square_rest r e p b)
 
-abbrev pub squares : Readers → ℕ → Place → Place → TokenView → Reader Phrase
-squares r e p q (tk.reserved x) = skip (peek e (field_rest r e p (record { place = q; is_reserved = true; text = x })))
-squares r e p q (tk.word x) = skip (peek e (square_name r e p q x))
-squares r e p q k = r.expr e free >>= λ a. peek e (square_rest r e p a)
+abbrev pub squares : Room → Readers → ℕ → Place → Place → TokenView → Reader Phrase
+squares m r e p q (tk.reserved x) = skip (peek e (field_rest r e p (record { place = q; is_reserved = true; text = x })))
+squares m r e p q (tk.word x) = skip (peek e (square_name m r e p q x))
+squares m r e p q k = r.expr e free >>= λ a. peek e (square_rest r e p a)
 
 -- ---- primaries, before `[a]` and `.b`
 abbrev pub list_if : Bool → Readers → ℕ → Place → Op → Reader Phrase
 list_if true r e p o = r.bullets e o p.col >>= λ bs. r.postfix e (list o bs)
 list_if false r e p o = refuses
 
-abbrev pub primary : Readers → ℕ → Place → TokenView → Reader Phrase
-primary r e p (tk.number n) = skip (r.postfix e (number p n))
-primary r e p (tk.string x) = skip (r.postfix e (string p x))
-primary r e p (tk.constant c) = skip (r.postfix e (constant p c))
-primary r e p (tk.word x) = skip (from_name r e p x)
-primary r e p (tk.mark tk.open_bracket) = skip (r.expr e free >>= λ a. a_mark e tk.close_bracket >>= λ q. r.postfix e (brackets p a q))
-primary r e p (tk.mark tk.open_brace) = skip (peek e (braces r e p) >>= λ a. r.postfix e a)
-primary r e p (tk.mark tk.open_tuple) = skip (peek e (tuples r e p) >>= λ a. r.postfix e a)
-primary r e p (tk.mark tk.open_square) = skip (peek e (squares r e p) >>= λ a. r.postfix e a)
-primary r e p (tk.sign o) = list_if (is_bullet o) r e p o
-primary r e p k = refuses
+abbrev pub primary : Room → Readers → ℕ → Place → TokenView → Reader Phrase
+primary m r e p (tk.number n) = skip (r.postfix e (number p n))
+primary m r e p (tk.string x) = skip (r.postfix e (string p x))
+primary m r e p (tk.constant c) = skip (r.postfix e (constant p c))
+primary m r e p (tk.word x) = skip (from_name m r e p x)
+primary m r e p (tk.mark tk.open_bracket) = opened m 0 (λ i d. skip (d.expr e free >>= λ a. a_mark e tk.close_bracket >>= λ q. r.postfix e (brackets p a q)))
+primary m r e p (tk.mark tk.open_brace) = opened m 0 (λ i d. skip (peek e (braces i d e p) >>= λ a. r.postfix e a))
+primary m r e p (tk.mark tk.open_tuple) = opened m 0 (λ i d. skip (peek e (tuples d e p) >>= λ a. r.postfix e a))
+primary m r e p (tk.mark tk.open_square) = opened m 0 (λ i d. skip (peek e (squares i d e p) >>= λ a. r.postfix e a))
+primary m r e p (tk.sign o) = list_if (is_bullet o) r e p o
+primary m r e p k = refuses
 
 -- ---- open forms
 abbrev pub quantifier : Readers → ℕ → Bool → Place → Reader Phrase
@@ -314,57 +353,57 @@ quantifier r e b p = a_word e >>= λ x. r.binds e x.0 x.1 >>= λ bs. a_mark e tk
 abbrev pub choice_from : Readers → ℕ → Place → Reader Phrase
 choice_from r e p = r.expr e free >>= λ a. a_key e tk.then_key >>= λ q. r.expr e free >>= λ b. a_key e tk.else_key >>= λ s. r.expr e free >>= λ c. gives (if_then_else p a q b s c)
 
-abbrev pub keyed : Readers → ℕ → Place → Key → Reader Phrase
-keyed r e p tk.if_key = skip (choice_from r e p)
-keyed r e p tk.case_key = skip (r.arms e >>= λ xs. gives (cases p xs))
-keyed r e p tk.let_key = skip (r.locals e >>= λ ls. a_key e tk.in_key >>= λ q. r.expr e free >>= λ a. gives (local p ls q a))
-keyed r e p tk.for_all_key = skip (quantifier r e true p)
-keyed r e p tk.exists_key = skip (quantifier r e false p)
-keyed r e p k = refuses
+abbrev pub keyed : Room → ℕ → Place → Key → Reader Phrase
+keyed m e p tk.if_key = opened m 0 (λ i d. skip (choice_from d e p))
+keyed m e p tk.case_key = opened m 0 (λ i d. skip (d.arms e >>= λ xs. gives (cases p xs)))
+keyed m e p tk.let_key = opened m 0 (λ i d. skip (d.locals e >>= λ ls. a_key e tk.in_key >>= λ q. d.expr e free >>= λ a. gives (local p ls q a)))
+keyed m e p tk.for_all_key = opened m 0 (λ i d. skip (quantifier d e true p))
+keyed m e p tk.exists_key = opened m 0 (λ i d. skip (quantifier d e false p))
+keyed m e p k = refuses
 
 -- ---- operands
 abbrev pub under_by : Bool → Readers → ℕ → Op → Reader Phrase
 under_by true r e o = r.expr e (under o)
 under_by false r e o = r.short e
 
-abbrev pub signed : Readers → ℕ → Context → Place → Op → Option Op → Reader Phrase
-signed r e c p o (Some q) = skip (under_by (is_free c q) r e q >>= λ a. gives (prefix_of p q a))
-signed r e c p o None = primary r e p (tk.sign o)
+abbrev pub signed : Room → Readers → ℕ → Context → Place → Op → Option Op → Reader Phrase
+signed m r e c p o (Some q) = opened m 0 (λ i d. skip (under_by (is_free c q) d e q >>= λ a. gives (prefix_of p q a)))
+signed m r e c p o None = primary m r e p (tk.sign o)
 
-abbrev pub operand : Readers → ℕ → Context → Place → TokenView → Reader Phrase
-operand r e c p (tk.key k) = keyed r e p k
-operand r e c p (tk.sign o) = signed r e c p o (prefix_by o)
-operand r e c p k = primary r e p k
+abbrev pub operand : Room → Readers → ℕ → Context → Place → TokenView → Reader Phrase
+operand m r e c p (tk.key k) = keyed m e p k
+operand m r e c p (tk.sign o) = signed m r e c p o (prefix_by o)
+operand m r e c p k = primary m r e p k
 
-abbrev pub short_signed : Readers → ℕ → Place → Op → Option Op → Reader Phrase
-short_signed r e p o (Some q) = skip (r.short e >>= λ a. gives (prefix_of p q a))
-short_signed r e p o None = primary r e p (tk.sign o)
+abbrev pub short_signed : Room → Readers → ℕ → Place → Op → Option Op → Reader Phrase
+short_signed m r e p o (Some q) = opened m 0 (λ i d. skip (d.short e >>= λ a. gives (prefix_of p q a)))
+short_signed m r e p o None = primary m r e p (tk.sign o)
 
-abbrev pub short_by : Readers → ℕ → Place → TokenView → Reader Phrase
-short_by r e p (tk.sign o) = short_signed r e p o (prefix_by o)
-short_by r e p k = primary r e p k
+abbrev pub short_by : Room → Readers → ℕ → Place → TokenView → Reader Phrase
+short_by m r e p (tk.sign o) = short_signed m r e p o (prefix_by o)
+short_by m r e p k = primary m r e p k
 
 -- ---- loops
-abbrev pub apply_if : Bool → Readers → ℕ → Phrase → Place → Reader Phrase
-apply_if true r e a p = skip (r.phrases e >>= λ xs. a_mark e tk.close_square >>= λ q. r.postfix e (apply a p xs q))
-apply_if false r e a p = gives a
+abbrev pub apply_if : Bool → Room → Readers → ℕ → Phrase → Place → Reader Phrase
+apply_if true m r e a p = opened m (links a) (λ i d. skip (d.phrases e >>= λ xs. a_mark e tk.close_square >>= λ q. r.postfix e (apply a p xs q)))
+apply_if false m r e a p = gives a
 
-abbrev pub select_if : Bool → Readers → ℕ → Phrase → Place → Reader Phrase
-select_if true r e a p = skip (a_field e >>= λ f. r.postfix e (select a p f))
-select_if false r e a p = gives a
+abbrev pub select_if : Bool → Room → Readers → ℕ → Phrase → Place → Reader Phrase
+select_if true m r e a p = opened m (links a) (λ i d. skip (a_field e >>= λ f. r.postfix e (select a p f)))
+select_if false m r e a p = gives a
 
-abbrev pub postfix_by : Readers → ℕ → Phrase → Place → TokenView → Reader Phrase
-postfix_by r e a p (tk.mark tk.open_square) = apply_if (can_be_head a p) r e a p
-postfix_by r e a p (tk.mark tk.dot) = select_if (can_be_head a p) r e a p
-postfix_by r e a p k = gives a
+abbrev pub postfix_by : Room → Readers → ℕ → Phrase → Place → TokenView → Reader Phrase
+postfix_by m r e a p (tk.mark tk.open_square) = apply_if (can_be_head a p) m r e a p
+postfix_by m r e a p (tk.mark tk.dot) = select_if (can_be_head a p) m r e a p
+postfix_by m r e a p k = gives a
 
-abbrev pub climb_if : Bool → Readers → ℕ → ℕ → Phrase → Place → Op → Reader Phrase
-climb_if true r e b a p o = skip (r.expr e (right_of o) >>= λ d. r.climb e b (infix_of a p o d))
-climb_if false r e b a p o = gives a
+abbrev pub climb_if : Bool → Room → Readers → ℕ → ℕ → Phrase → Place → Op → Reader Phrase
+climb_if true m r e b a p o = opened m (chain a) (λ i d. skip (d.expr e (right_of o) >>= λ s. r.climb e b (infix_of a p o s)))
+climb_if false m r e b a p o = gives a
 
-abbrev pub climb_by : Readers → ℕ → ℕ → Phrase → Place → TokenView → Reader Phrase
-climb_by r e b a p (tk.sign o) = climb_if (goes_on b a p o) r e b a p o
-climb_by r e b a p k = gives a
+abbrev pub climb_by : Room → Readers → ℕ → ℕ → Phrase → Place → TokenView → Reader Phrase
+climb_by m r e b a p (tk.sign o) = climb_if (goes_on b a p o) m r e b a p o
+climb_by m r e b a p k = gives a
 
 -- ---- lists
 abbrev pub phrases_by : Readers → ℕ → Phrase → Place → TokenView → Reader Phrases
@@ -388,10 +427,10 @@ abbrev pub setting_if : Bool → Readers → ℕ → Place → Path → Reader S
 setting_if true r e p path = a_sign e op.Equal >>= λ q. r.expr e free >>= λ a. peek e (settings_by r e p path q a)
 setting_if false r e p path = refuses
 
-abbrev pub path_by : Readers → ℕ → Place → TokenView → Reader Path
-path_by r e p (tk.mark tk.open_square) = skip (r.phrases e >>= λ xs. a_mark e tk.close_square >>= λ q. r.path e >>= λ path. gives (index p xs q path))
-path_by r e p (tk.mark tk.dot) = skip (a_field e >>= λ f. r.path e >>= λ path. gives (at_field p f path))
-path_by r e p k = gives path_end
+abbrev pub path_by : Room → Readers → ℕ → Place → TokenView → Reader Path
+path_by m r e p (tk.mark tk.open_square) = opened m 0 (λ i d. skip (d.phrases e >>= λ xs. a_mark e tk.close_square >>= λ q. r.path e >>= λ path. gives (index p xs q path)))
+path_by m r e p (tk.mark tk.dot) = skip (a_field e >>= λ f. r.path e >>= λ path. gives (at_field p f path))
+path_by m r e p k = gives path_end
 
 -- a sign of this operator in this column
 abbrev pub bullet_of : Op → ℕ → Place → TokenView → Option Place
@@ -419,18 +458,18 @@ locals_by r e p x q a s (tk.word y) = r.locals e >>= λ ls. gives (more_locals p
 locals_by r e p x q a s k = gives (last_local p x q a)
 
 -- one step of each, over readers of what is left
-abbrev pub one_step : Readers → Readers
-one_step r = record {
-  expr = λ e c. peek e (operand r e c) >>= λ a. r.climb e (bound c) a;
-  short = λ e. peek e (short_by r e);
-  postfix = λ e a. peek e (postfix_by r e a);
-  climb = λ e b a. peek e (climb_by r e b a);
+abbrev pub one_step : Room → Readers → Readers
+one_step m r = record {
+  expr = λ e c. peek e (operand m r e c) >>= λ a. r.climb e (bound c) a;
+  short = λ e. peek e (short_by m r e);
+  postfix = λ e a. peek e (postfix_by m r e a);
+  climb = λ e b a. peek e (climb_by m r e b a);
   phrases = λ e. r.expr e free >>= λ a. peek e (phrases_by r e a);
   binds = λ e p x. peek e (binds_by r e p x);
   fields = λ e m f. a_mark e m >>= λ p. r.expr e free >>= λ a. peek e (fields_by r e m f p a);
   settings = λ e. a_mark e tk.bang >>= λ p. r.path e >>= λ path. setting_if (is_some_path path) r e p path;
-  path = λ e. peek e (path_by r e);
-  bullets = λ e o c. take e (bullet_of o c) >>= λ p. r.expr c free >>= λ a. peek e (λ q k. bullets_if (is_sign o k && nat_eq c q.col) r e o c p a);
+  path = λ e. peek e (path_by m r e);
+  bullets = λ e o c. opened m 0 (λ i d. take e (bullet_of o c) >>= λ p. d.expr c free >>= λ a. peek e (λ q k. bullets_if (is_sign o k && nat_eq c q.col) d e o c p a));
   arms = λ e. r.expr e free >>= λ a. a_mark e tk.arrow >>= λ p. r.expr e free >>= λ b. peek e (arms_by r e a p b);
   locals = λ e. a_word e >>= λ x. a_mark e tk.defines >>= λ q. r.expr e free >>= λ a. peek e (locals_by r e x.0 x.1 q a);
 }
@@ -451,10 +490,26 @@ no_steps = record {
   locals = λ e. refuses;
 }
 
-unfoldable pub readers : ℕ → Readers
-readers zero = no_steps
-readers (suc n) = one_step (readers n)
+-- so many forms may be open; without a number, any
+abbrev pub Limit : Type 0
+Limit = Option ℕ
 
--- an expression to the right of the edge; reading takes four steps for each token at most
+abbrev pub less : Bool → ℕ → ℕ → Option Limit
+less true b k = Some (Some (b - k))
+less false b k = None
+
+abbrev pub room : (Limit → Readers) → Limit → Room
+room f None = any (f None)
+room f (Some b) = record { at = λ k. option_map f (less (nat_le k b) b k); fits = λ k a. nat_le (text_nesting a + k) b }
+
+unfoldable pub readers : ℕ → Limit → Readers
+readers zero b = no_steps
+readers (suc n) b = one_step (room (readers n) b) (readers n b)
+
+-- an expression to the right of the edge, however deep it is; reading takes four steps for each token at most
 abbrev pub read : ℕ → Reader Phrase
-read e ts = (readers (4 * length ts)).expr e free ts
+read e ts = (readers (4 * length ts) None).expr e free ts
+
+-- an expression, within the limit
+abbrev pub read_limited : Reader Phrase
+read_limited ts = (readers (4 * length ts) (Some deepest_expression)).expr 0 free ts

@@ -40,29 +40,29 @@ pub fn reading_is_exact()
 /// reading stops, whatever comes after them; and what is refused, at a token or at the end, is no expression.
 pub fn nothing_passes_where_reading_stops()
     ensures read { (edge : ℕ) (ts : List Token) (a : Phrase) (t : Token) (rest : List Token) → read edge ts ≡ Ok (a, t ∷ rest) → (passed : List Token) → ts ≡ passed ++ t ∷ rest → Begins (phrases edge) (map Some (looks (passed ++ t ∷ []))) → ⊥ }
-    ensures refused { (edge : ℕ) (ts : List Token) (t : Token) (rest : List Token) → read edge ts ≡ Err (t ∷ rest) → (passed : List Token) → ts ≡ passed ++ t ∷ rest → Begins (phrases edge) (map Some (looks (passed ++ t ∷ []))) → ⊥ }
-    ensures unspelled { (edge : ℕ) (ts rest : List Token) → read edge ts ≡ Err rest → (a : Phrase) → Good edge a → ts ≡ spell a [] → ⊥ }
+    ensures refused { (edge : ℕ) (ts : List Token) (t : Token) (rest : List Token) (r : Rule) → read edge ts ≡ Err (r, t ∷ rest) → (passed : List Token) → ts ≡ passed ++ t ∷ rest → Begins (phrases edge) (map Some (looks (passed ++ t ∷ []))) → ⊥ }
+    ensures unspelled { (edge : ℕ) (ts rest : List Token) (r : Rule) → read edge ts ≡ Err (r, rest) → (a : Phrase) → Good edge a → ts ≡ spell a [] → ⊥ }
 {}
 
 /// And a refusal is not late: what was passed before the refused token, or before the end, can be gone on with to a whole
 /// expression, with those tokens in their columns.
 pub fn refusals_are_at_the_earliest_place()
-    ensures { (edge : ℕ) (ts passed rest : List Token) → read edge ts ≡ Err rest → ts ≡ passed ++ rest → (fix : List Token) × (a : Phrase) × Good edge a × (spell a [] ≡ passed ++ fix) }
+    ensures { (edge : ℕ) (ts passed rest : List Token) (r : Rule) → read edge ts ≡ Err (r, rest) → ts ≡ passed ++ rest → (fix : List Token) × (a : Phrase) × Good edge a × (spell a [] ≡ passed ++ fix) }
 {}
 
 /// So reading stops at the first token that doesn't pass, where nothing before it is too deep; and if there is an earlier one,
 /// it is one of depth.
 pub fn reading_stops_at_the_first_token()
     ensures read { (ts rest : List Token) (a : Phrase) → read 0 ts ≡ Ok (a, rest) → text_nesting a ≤ deepest_expression → ReadsExpression ts (length (spell a [])) (tree_of a) }
-    ensures refused { (ts passed rest : List Token) (end : Place) → read 0 ts ≡ Err rest → ts ≡ passed ++ rest → Passes (phrases 0) (map Some (looks passed)) → RefusesExpression ts end (record { rule = Syntax; place = get_or (map (λ (t : Token). t.place) ts) (length passed) end }) }
+    ensures refused { (ts passed rest : List Token) (end : Place) (q : Rule) → read 0 ts ≡ Err (q, rest) → ts ≡ passed ++ rest → Passes (phrases 0) (map Some (looks passed)) → RefusesExpression ts end (record { rule = Syntax; place = get_or (map (λ (t : Token). t.place) ts) (length passed) end }) }
     ensures earlier_than_read { (ts rest : List Token) (a : Phrase) → read 0 ts ≡ Ok (a, rest) → (n : ℕ) (r : Rule) → StopsAt (phrases 0) (to_end ts) n r → ((n ≡ length (spell a [])) × (r ≡ Syntax)) ⊎ ((n < length (spell a [])) × (r ≡ TooDeep)) }
-    ensures earlier_than_refused { (ts passed rest : List Token) → read 0 ts ≡ Err rest → ts ≡ passed ++ rest → (n : ℕ) (r : Rule) → StopsAt (phrases 0) (to_end ts) n r → ((n ≡ length passed) × (r ≡ Syntax)) ⊎ ((n < length passed) × (r ≡ TooDeep)) }
+    ensures earlier_than_refused { (ts passed rest : List Token) (q : Rule) → read 0 ts ≡ Err (q, rest) → ts ≡ passed ++ rest → (n : ℕ) (r : Rule) → StopsAt (phrases 0) (to_end ts) n r → ((n ≡ length passed) × (r ≡ Syntax)) ⊎ ((n < length passed) × (r ≡ TooDeep)) }
 {}
 
 /// Each token opens one form at most, so where no more tokens are passed than forms may be open, reading stops just where the grammar says.
 pub fn few_tokens_are_read_or_refused()
     ensures read { (ts rest : List Token) (a : Phrase) → read 0 ts ≡ Ok (a, rest) → length (spell a []) ≤ deepest_expression → ReadsExpression ts (length (spell a [])) (tree_of a) }
-    ensures refused { (ts passed rest : List Token) (end : Place) → read 0 ts ≡ Err rest → ts ≡ passed ++ rest → length passed ≤ deepest_expression → RefusesExpression ts end (record { rule = Syntax; place = get_or (map (λ (t : Token). t.place) ts) (length passed) end }) }
+    ensures refused { (ts passed rest : List Token) (end : Place) (q : Rule) → read 0 ts ≡ Err (q, rest) → ts ≡ passed ++ rest → length passed ≤ deepest_expression → RefusesExpression ts end (record { rule = Syntax; place = get_or (map (λ (t : Token). t.place) ts) (length passed) end }) }
 {}
 
 /// Whether tokens spell an expression, and which, rests on their kinds and columns alone: tokens of other lines spell the same

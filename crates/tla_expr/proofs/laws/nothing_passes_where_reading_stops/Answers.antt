@@ -9,4 +9,4 @@ pub returns-clause-refused : goal.returns-clause-refused
 returns-clause-refused c = refused_is_farthest
 
 pub returns-clause-unspelled : goal.returns-clause-unspelled
-returns-clause-unspelled c = refused_is_unspelled
+returns-clause-unspelled c = λ edge ts rest r. refused_is_unspelled edge ts (r, rest)
