@@ -1,226 +1,233 @@
--- What no algorithm within the limits begins with: too many brackets behind `:=`, and too many heads right behind one another.
-use Rattle.std.proofs.Common.{◌≡◌, ℕ, suc, zero, ◌+◌, ◌≤◌, Bool, true, false, nat_le, List, [], ◌∷◌, ◌++◌, length, take, map, Some, None, refl, sym, ap, ◌∙◌, subst, arith, length-append}
-use Rattle.std.specs.List.{list_all}
+-- Forms that are open in one another: brackets right behind one another, the first behind `:=`, and heads of `if` and `while` have as many open.
+use Rattle.std.proofs.Common.{◌≡◌, ℕ, suc, zero, ◌+◌, ◌≤◌, Bool, true, false, not, nat_le, List, [], ◌∷◌, ◌++◌, length, take, map, get_or, Some, None, refl, sym, ap, ◌∙◌, subst, arith, length-append, append_assoc}
+use Rattle.std.specs.List.{list_all, AllByRecursion}
 use Rattle.std.proofs.lemmas.Bool.{and_parts, leb-true}
-use Rattle.std.proofs.lemmas.List.{append_assoc, length-map}
+use Rattle.std.proofs.lemmas.List.{length-map}
 use Rattle.tla_token.specs.Limits.{deepest_expression, deepest_statement}
-use Rattle.tla_expr.specs.Tree.{Word}
 use Rattle.tla_expr.specs.Lexical.{TokenView}
 use Rattle.tla_expr.specs.Lexical as tk
-use Rattle.tla_expr.specs.FirstStop.{Look, look, looks, Open, is_within, in_expression, Passes}
-use Rattle.tla_expr.proofs.BracketCounts.{Climbs, leads, open_looks, few_open, length_open}
+use Rattle.tla_expr.specs.FirstStop.{Look, look, looks, Open, is_within, Passes}
+use Rattle.tla_expr.proofs.BracketCounts.{Climbs, leads}
 use Rattle.tla_expr.proofs.Columns.{begun_looks}
 use Rattle.pcal_tree.specs.Grammar as g
 use Rattle.pcal_tree.specs.OpenForms.{opens}
 use Rattle.pcal_tree.specs.OffencesSyntax.{algorithms}
-use Rattle.pcal_tree.proofs.HeadWalks.{Behind, other, head, closed, is_head, is_end, by_word, next, When, Nests, calm, calm_step}
+use Rattle.pcal_tree.specs.laws.DeepForms.{bracket, assigned, head_word, Head, is_inner, is_last, FineHead, heads, is_before}
+use Rattle.pcal_tree.proofs.HeadWalks.{Behind, other, naming, head, closed, is_head, is_close, is_end, by_word, by_close, next, Deeper, Nests}
 use Rattle.pcal_tree.proofs.OpenWalks.{expressions_of, statements_of}
 use Rattle.pcal_tree.proofs.OpenWalksAll.{walks}
 use Rattle.pcal_tree.proofs.OpensLaws.{as_many_opens}
 
--- ---- an algorithm that passes so far
+zero_more : (n : ℕ) → 0 + n ≡ n
+zero_more n = omega arith
 
--- tokens at which not too many forms are open, and those after them
-pub record Passed (ls zs : List Look) (os : List Open) : Type 0 where
-  pub climbs : Climbs false 0 (ls ++ zs) (expressions_of os)
-  pub nests : Nests other (ls ++ zs) (statements_of os)
-  pub enough : length ls ≤ length os
-  pub few : list_all is_within (take (length ls) os) ≡ true
+-- ---- what passes
 
-pub passed : (s : g.Syntax) (ls : List Look) → Passes (algorithms s) (map Some ls) → (zs : List Look) × (os : List Open) × Passed ls zs os
-passed s ls (more, ns, (x, k, e, q), few) =
-    let zs = begun_looks (looks (g.spell x [])) ls (None ∷ []) more (λ y vs n. cc) e in
-    let w = walks x in
-    let os = opens x in
-    let l = length-append ls zs.0 in
-    let m = length-map (g.spell x []) look in
-    let n = as_many_opens x in
-    let j = length-map ls Some in
-    let v = ap (λ (ks : List Look). length ks) zs.1 in (
-      zs.0,
-      os,
-      record {
-        climbs = subst (λ (ks : List Look). Climbs false 0 ks (expressions_of os)) zs.1 (w.brackets 0);
-        nests = subst (λ (ks : List Look). Nests other ks (statements_of os)) zs.1 (w.heads other tt);
-        enough = omega arith;
-        few = ap (λ (us : List Open). list_all is_within (take (length ls) us)) q ∙ ap (λ (i : ℕ). list_all is_within (take i ns)) (sym j) ∙ few;
-      },
-    )
+within_at : (k : ℕ) (os : List Open) (o : Open) → suc k ≤ length os → list_all is_within (take (suc k) os) ≡ true → is_within (get_or os k o) ≡ true
+within_at k [] o l f = absurd (omega arith)
+within_at zero (p ∷ os) o l f = (and_parts (is_within p) true f).0
+within_at (suc k) (p ∷ os) o l f = within_at k os o (omega arith) (and_parts (is_within p) (list_all is_within (take (suc k) os)) f).1
+
+pub many_opens : (x : g.Text) → length (opens x) ≡ length (looks (g.spell x []))
+many_opens x = as_many_opens x ∙ sym (length-map (g.spell x []) look)
+
+-- at the last token of those that pass not too many forms are open in some algorithm
+passed_at : (s : g.Syntax) (ls : List Look) (l : Look) (o : Open) → Passes (algorithms s) (map Some (ls ++ (l ∷ []))) → (x : g.Text) × (rest : List Look) × (looks (g.spell x []) ≡ ls ++ (l ∷ rest)) × (is_within (get_or (opens x) (length ls) o) ≡ true)
+passed_at s ls l o (more, ns, (x, k, e, q), few) =
+    let ks : List Look = ls ++ (l ∷ []) in
+    let zs = begun_looks (looks (g.spell x [])) ks (None ∷ []) more (λ y vs n. cc) e in
+    let same = zs.1 ∙ append_assoc ls (l ∷ []) zs.0 in
+    let n = many_opens x in
+    let a = length-append ls (l ∷ []) in
+    let b = length-append ls (l ∷ zs.0) in
+    let v = ap (λ (us : List Look). length us) same in
+    let size : length (map Some ks) ≡ suc (length ls) = omega (arith, length-map ks Some) in
+    let f = ap (λ (os : List Open). list_all is_within (take (suc (length ls)) os)) q ∙ ap (λ (i : ℕ). list_all is_within (take i ns)) (sym size) ∙ few in
+    (x, zs.0, same, within_at (length ls) (opens x) o (omega arith) f)
 
 -- ---- brackets
 
--- behind some of them
-behind_some : (fs ls : List Look) (os : List Open) (b : Bool) (j : ℕ) → Climbs b j (fs ++ ls) (expressions_of os) → (k : ℕ) → length fs + k ≤ length os → list_all is_within (take (length fs + k) os) ≡ true
-    → (c : Bool) × (i : ℕ) × (us : List Open) × Climbs c i ls (expressions_of us) × (k ≤ length us) × (list_all is_within (take k us) ≡ true)
-behind_some [] ls os b j h k e few = (b, j, os, h, subst (λ (n : ℕ). n ≤ length os) (zero_more k) e, subst (λ (n : ℕ). list_all is_within (take n os) ≡ true) (zero_more k) few)
+-- counts from one token on are those of a tail
+abbrev Left : ℕ → List Open → List Open → Type 0
+Left k os us = (n : ℕ) (o : Open) → get_or os (k + n) o ≡ get_or us n o
+
+none_left : (os : List Open) → Left 0 os os
+none_left os n o = ap (λ (i : ℕ). get_or os i o) (zero_more n)
+
+one_left : (k : ℕ) (p : Open) (os us : List Open) → Left k os us → Left (suc k) (p ∷ os) us
+one_left k p os us h n o = (let e : suc k + n ≡ suc (k + n) = omega arith in ap (λ (i : ℕ). get_or (p ∷ os) i o) e ∙ h n o)
+
+behind : (fs ls : List Look) (os : List Open) (b : Bool) (j : ℕ) → Climbs b j (fs ++ ls) (expressions_of os) → length fs + length ls ≤ length os → (us : List Open) × (c : Bool) × (i : ℕ) × Climbs c i ls (expressions_of us) × (length ls ≤ length us) × Left (length fs) os us
+behind [] ls os b j h l = (os, b, j, h, omega (arith, l), none_left os)
+behind (f ∷ fs) ls [] b j h l = absurd (omega (arith, l))
+behind (f ∷ fs) ls (o ∷ os) b j h l = (let v = behind fs ls os (leads f.0) o.expressions h.1 (omega (arith, l)) in (v.0, v.1, v.2, v.3, v.4, one_left (length fs) o os v.0 v.5))
+
+counted : (cs : List ℕ) (c : ℕ) (rest : List Look) (j : ℕ) (os : List Open) (d : Open) → Climbs true j (map bracket cs ++ (bracket c ∷ rest)) (expressions_of os) → length (map bracket cs ++ (bracket c ∷ rest)) ≤ length os → j + suc (length cs) ≤ (get_or os (length cs) d).expressions
+counted [] c rest j [] d h l = absurd (omega (arith, l))
+counted [] c rest j (o ∷ os) d h l = (let e = h.0 refl refl in omega (arith, e))
+counted (b ∷ cs) c rest j [] d h l = absurd (omega (arith, l))
+counted (b ∷ cs) c rest j (o ∷ os) d h l = (let e = h.0 refl refl in let r = counted cs c rest o.expressions os d h.1 (omega (arith, l)) in omega (arith, e, r))
+
+pub brackets_open : (x : g.Text) (before after : List Look) (i c : ℕ) (cs : List ℕ) (o : Open) → looks (g.spell x []) ≡ before ++ assigned i cs ++ (bracket c ∷ after) → suc (length cs) ≤ (get_or (opens x) (length (before ++ assigned i cs)) o).expressions
+brackets_open x before after i c cs o e =
+    let ks : List Look = assigned i cs ++ (bracket c ∷ after) in
+    let same : looks (g.spell x []) ≡ before ++ ks = e ∙ append_assoc before (assigned i cs) (bracket c ∷ after) in
+    let size = many_opens x ∙ ap (λ (ls : List Look). length ls) same ∙ length-append before ks in
+    let w = subst (λ (ls : List Look). Climbs false 0 ls (expressions_of (opens x))) same ((walks x).brackets 0) in
+    let v = behind before ks (opens x) false 0 w (omega (arith, size)) in
+    let spot : length (before ++ assigned i cs) ≡ length before + suc (length cs) = omega (arith, length-append before (assigned i cs), length-map cs bracket) in
+    let there : get_or (opens x) (length (before ++ assigned i cs)) o ≡ get_or v.0 (suc (length cs)) o = ap (λ (n : ℕ). get_or (opens x) n o) spot ∙ v.5 (suc (length cs)) o in
+    subst (λ (p : Open). suc (length cs) ≤ p.expressions) (sym there) (at_last v.0 v.1 v.2 v.3 v.4)
   where
-    zero_more : (n : ℕ) → 0 + n ≡ n
-    zero_more n = omega arith
-behind_some (f ∷ fs) ls [] b j h k e few = absurd (omega arith)
-behind_some (f ∷ fs) ls (o ∷ os) b j h k e few =
-    let one : suc (length fs) + k ≡ suc (length fs + k) = omega arith in
-    let w = and_parts (is_within o) (list_all is_within (take (length fs + k) os)) (subst (λ (n : ℕ). list_all is_within (take n (o ∷ os)) ≡ true) one few) in
-    behind_some fs ls os (leads f.0) o.expressions h.1 k (omega arith) w.1
+    at_last : (us : List Open) (b : Bool) (j : ℕ) → Climbs b j (assigned i cs ++ (bracket c ∷ after)) (expressions_of us) → length (assigned i cs ++ (bracket c ∷ after)) ≤ length us → suc (length cs) ≤ (get_or us (suc (length cs)) o).expressions
+    at_last [] b j h l = absurd (omega (arith, l))
+    at_last (u ∷ us) b j h l = (let r = counted cs c after u.expressions us o h.1 (omega (arith, l)) in omega (arith, r))
 
-in_phrase : (o : Open) → is_within o ≡ true → is_within (in_expression o.expressions) ≡ true
-in_phrase o h = rw (and_parts (nat_le o.expressions deepest_expression) (nat_le o.statements deepest_statement) h).0 refl
+no_form : Open
+no_form = record { expressions = 0; statements = 0 }
 
-in_phrases : (k : ℕ) (os : List Open) → list_all is_within (take k os) ≡ true → list_all (λ n. is_within (in_expression n)) (take k (expressions_of os)) ≡ true
-in_phrases zero os h = refl
-in_phrases (suc k) [] h = refl
-in_phrases (suc k) (o ∷ os) h = (let w = and_parts (is_within o) (list_all is_within (take k os)) h in rw (in_phrase o w.0, in_phrases k os w.1) refl)
+within_expressions : (o : Open) → is_within o ≡ true → o.expressions ≤ deepest_expression
+within_expressions o h = leb-true o.expressions deepest_expression (and_parts (nat_le o.expressions deepest_expression) (nat_le o.statements deepest_statement) h).0
 
--- behind `:=` so many brackets have too many forms open
-pub too_many_brackets : (s : g.Syntax) (fs : List Look) (i c k : ℕ) → deepest_expression + 1 ≤ k → Passes (algorithms s) (map Some (fs ++ ((tk.mark tk.assigns, i) ∷ open_looks k c))) → ⊥
-too_many_brackets s fs i c k big p =
-    let ks : List Look = (tk.mark tk.assigns, i) ∷ open_looks k c in
-    let w = passed s (fs ++ ks) p in
-    let n = length-append fs ks in
-    let l = length_open k c in
-    let m = length-map (open_looks k c) Some in
-    let size : length (fs ++ ks) ≡ length fs + suc k = omega arith in
-    let few = subst (λ (a : ℕ). list_all is_within (take a w.1) ≡ true) size w.2.few in
-    let v = behind_some fs (ks ++ w.0) w.1 false 0 (subst (λ (ls : List Look). Climbs false 0 ls (expressions_of w.1)) (append_assoc fs ks w.0) w.2.climbs) (suc k) (omega (arith, w.2.enough)) few in
-    at_last v.2 v.0 v.1 w.0 v.3 v.4 v.5
-  where
-    at_last : (us : List Open) (b : Bool) (j : ℕ) (zs : List Look) → Climbs b j ((tk.mark tk.assigns, i) ∷ (open_looks k c ++ zs)) (expressions_of us) → suc k ≤ length us → list_all is_within (take (suc k) us) ≡ true → ⊥
-    at_last [] b j zs h e f = absurd (omega arith)
-    at_last (u ∷ us) b j zs h e f =
-        let w = and_parts (is_within u) (list_all is_within (take k us)) f in
-        let low = leb-true u.expressions deepest_expression (and_parts (nat_le u.expressions deepest_expression) (nat_le u.statements deepest_statement) w.0).0 in
-        let l = length-map us (λ (o : Open). o.expressions) in
-        let r = few_open k c u.expressions zs (expressions_of us) h.1 (omega arith) (in_phrases k us w.1) low in
-        omega arith
+within_statements : (o : Open) → is_within o ≡ true → o.statements ≤ deepest_statement
+within_statements o h = leb-true o.statements deepest_statement (and_parts (nat_le o.expressions deepest_expression) (nat_le o.statements deepest_statement) h).1
+
+pub too_many_brackets : (s : g.Syntax) (before : List Look) (i c : ℕ) (cs : List ℕ) → deepest_expression ≤ length cs → Passes (algorithms s) (map Some (before ++ assigned i cs ++ (bracket c ∷ []))) → ⊥
+too_many_brackets s before i c cs big p =
+    let v = passed_at s (before ++ assigned i cs) (bracket c) no_form p in
+    let many = brackets_open v.0 before v.1 i c cs no_form v.2 in
+    let few = within_expressions (get_or (opens v.0) (length (before ++ assigned i cs)) no_form) v.3 in
+    omega (arith, big, many, few)
 
 -- ---- heads
 
--- a name, a number, a sign or an opening round bracket
-abbrev pub in_head : TokenView → Bool
-in_head (tk.word x) = true
-in_head (tk.number n) = true
-in_head (tk.sign o) = true
-in_head (tk.mark tk.open_bracket) = true
-in_head k = false
+behind_some : (fs ls : List Look) (os : List Open) (s : Behind) → Nests s (fs ++ ls) (statements_of os) → length fs + length ls ≤ length os → (us : List Open) × (z : Behind) × Nests z ls (statements_of us) × (length ls ≤ length us) × Left (length fs) os us
+behind_some [] ls os s h l = (os, s, h, omega (arith, l), none_left os)
+behind_some (f ∷ fs) ls [] s h l = absurd (omega (arith, l))
+behind_some (f ∷ fs) ls (o ∷ os) s h l = (let v = behind_some fs ls os (next s f.0 o.statements) h.1 (omega (arith, l)) in (v.0, v.1, v.2, v.3, one_left (length fs) o os v.0 v.4))
 
--- a head: its word, what is behind it, and what closes it, with their columns
-pub record Heading : Type 0 where
-  pub word : Word
-  pub column : ℕ
-  pub inner : List Look
-  pub last : Look
-  pub opens : is_head word ≡ true
-  pub plain : list_all (λ (l : Look). in_head l.0) inner ≡ true
-  pub closes : (n m : ℕ) → next (head n) last.0 m ≡ closed n
+-- a word isn't a field's name there
+abbrev Free : Behind → Type 0
+Free naming = ⊥
+Free s = Unit {0}
 
-abbrev pub heading : Heading → List Look → List Look
-heading b ls = (tk.reserved b.word, b.column) ∷ (b.inner ++ (b.last ∷ ls))
+free_word : (a b : Bool) (n : ℕ) → not b ≡ true → Free (by_word a b n)
+free_word true b n h = tt
+free_word false true n h = absurd cc
+free_word false false n h = tt
 
-abbrev pub headings : ℕ → Heading → List Look → List Look
-headings zero b ls = ls
-headings (suc k) b ls = heading b (headings k b ls)
+free_close : (a : Bool) (m : ℕ) (s : Behind) → Free s → Free (by_close a m s)
+free_close true m s h = tt
+free_close false m s h = h
 
-inner_step : (k : TokenView) (n m : ℕ) → in_head k ≡ true → next (head n) k m ≡ head n
+free_step : (s : Behind) (k : TokenView) (n : ℕ) → is_before k ≡ true → Free (next s k n)
+free_step s (tk.mark tk.dot) n h = absurd cc
+free_step s (tk.mark tk.comma) n h = absurd cc
+free_step s (tk.mark tk.open_square) n h = absurd cc
+free_step naming (tk.reserved w) n h = tt
+free_step other (tk.reserved w) n h = free_word (is_head w) (is_end w) n h
+free_step (closed m) (tk.reserved w) n h = free_word (is_head w) (is_end w) n h
+free_step (head m) (tk.reserved w) n h = free_close (is_close w) m (by_word (is_head w) (is_end w) n) (free_word (is_head w) (is_end w) n h)
+free_step other k n h = tt
+free_step naming k n h = tt
+free_step (closed m) k n h = tt
+free_step (head m) k n h = tt
+
+first_word : (s : Behind) (b : Bool) (c n : ℕ) → Free s → Deeper s (head_word b c).0 n → (1 ≤ n) × (next s (head_word b c).0 n ≡ head n)
+first_word naming b c n f h = absurd f
+first_word other true c n f h = (h, refl)
+first_word other false c n f h = (h, refl)
+first_word (head m) true c n f h = (h, refl)
+first_word (head m) false c n f h = (h, refl)
+first_word (closed m) true c n f h = (omega (arith, h), refl)
+first_word (closed m) false c n f h = (omega (arith, h), refl)
+
+next_word : (m : ℕ) (b : Bool) (c n : ℕ) → Deeper (closed m) (head_word b c).0 n → (n ≡ m + 1) × (next (closed m) (head_word b c).0 n ≡ head n)
+next_word m true c n h = (h, refl)
+next_word m false c n h = (h, refl)
+
+inner_step : (k : TokenView) (n m : ℕ) → is_inner k ≡ true → next (head n) k m ≡ head n
 inner_step (tk.word x) n m h = refl
 inner_step (tk.number i) n m h = refl
 inner_step (tk.sign o) n m h = refl
 inner_step (tk.mark tk.open_bracket) n m h = refl
 inner_step k n m h = absurd cc
 
-asked : (a : Bool) (A : Type 0) → a ≡ true → When a A → A
-asked true A h w = w
-asked false A h w = absurd cc
+close_step : (a : Bool) (n : ℕ) (s : Behind) → a ≡ true → by_close a n s ≡ closed n
+close_step true n s h = refl
+close_step false n s h = absurd cc
 
-opened : (a b : Bool) (n : ℕ) → a ≡ true → by_word a b n ≡ head n
-opened true b n h = refl
-opened false b n h = absurd cc
+last_step : (k : TokenView) (n m : ℕ) → is_last k ≡ true → next (head n) k m ≡ closed n
+last_step (tk.reserved w) n m h = close_step (is_close w) n (by_word (is_head w) (is_end w) m) h
+last_step (tk.mark tk.close_bracket) n m h = refl
+last_step k n m h = absurd cc
 
--- so many tokens are left, and not too many forms are open at them
-abbrev Few : ℕ → List Open → Type 0
-Few k os = (k ≤ length os) × (list_all is_within (take k os) ≡ true)
+-- behind the word of a head, up to its end
+through : (ms : List Look) (l : Look) (ls : List Look) (n : ℕ) (os : List Open) → list_all (λ (m : Look). is_inner m.0) ms ≡ true → is_last l.0 ≡ true → Nests (head n) (ms ++ (l ∷ ls)) (statements_of os) → length (ms ++ (l ∷ ls)) ≤ length os
+    → (us : List Open) × Nests (closed n) ls (statements_of us) × (length ls ≤ length us) × Left (suc (length ms)) os us
+through [] l ls n [] p c h i = absurd (omega (arith, i))
+through [] l ls n (o ∷ os) p c h i = (os, subst (λ (s : Behind). Nests s ls (statements_of os)) (last_step l.0 n o.statements c) h.1, omega (arith, i), one_left 0 o os os (none_left os))
+through (m ∷ ms) l ls n [] p c h i = absurd (omega (arith, i))
+through (m ∷ ms) l ls n (o ∷ os) p c h i =
+    let w = and_parts (is_inner m.0) (list_all (λ (j : Look). is_inner j.0) ms) p in
+    let v = through ms l ls n os w.1 c (subst (λ (s : Behind). Nests s (ms ++ (l ∷ ls)) (statements_of os)) (inner_step m.0 n o.statements w.0) h.1) (omega (arith, i)) in
+    (v.0, v.1, v.2, one_left (suc (length ms)) o os v.0 v.3)
 
-few_after : (k : ℕ) (o : Open) (os : List Open) → Few (suc k) (o ∷ os) → (o.statements ≤ deepest_statement) × Few k os
-few_after k o os (e, f) =
-    let w = and_parts (is_within o) (list_all is_within (take k os)) f in
-    (leb-true o.statements deepest_statement (and_parts (nat_le o.expressions deepest_expression) (nat_le o.statements deepest_statement) w.0).1, (omega arith, w.1))
+-- the word of one more head, right behind the head of form m
+more_heads : (hs : List Head) → AllByRecursion FineHead hs → (b : Bool) (c : ℕ) (rest : List Look) (m : ℕ) (os : List Open) (d : Open) → Nests (closed m) (heads hs (head_word b c ∷ rest)) (statements_of os) → length (heads hs (head_word b c ∷ rest)) ≤ length os
+    → m + suc (length hs) ≤ (get_or os (length (heads hs [])) d).statements
+more_heads [] k b c rest m [] d h l = absurd (omega (arith, l))
+more_heads [] k b c rest m (o ∷ os) d h l = (let e = (next_word m b c o.statements h.0).0 in omega (arith, e))
+more_heads (x ∷ hs) k b c rest m [] d h l = absurd (omega (arith, l))
+more_heads (x ∷ hs) k b c rest m (o ∷ os) d h l =
+    let e = next_word m x.is_while x.column o.statements h.0 in
+    let ls : List Look = heads hs (head_word b c ∷ rest) in
+    let v = through x.inner x.last ls o.statements os k.0.0 k.0.1 (subst (λ (s : Behind). Nests s (x.inner ++ (x.last ∷ ls)) (statements_of os)) e.1 h.1) (omega (arith, l)) in
+    let r = more_heads hs k.1 b c rest o.statements v.0 d v.1 v.2 in
+    let spot : length (x.inner ++ (x.last ∷ heads hs [])) ≡ suc (length x.inner) + length (heads hs []) = omega (arith, length-append x.inner (x.last ∷ heads hs [])) in
+    let there : get_or os (length (x.inner ++ (x.last ∷ heads hs []))) d ≡ get_or v.0 (length (heads hs [])) d = ap (λ (n : ℕ). get_or os n d) spot ∙ v.3 (length (heads hs [])) d in
+    subst (λ (p : Open). m + suc (suc (length hs)) ≤ p.statements) (sym there) (omega (arith, e.0, r))
 
-through_inner : (ms : List Look) (l : Look) (ls : List Look) (n : ℕ) (os : List Open) → list_all (λ (m : Look). in_head m.0) ms ≡ true → ((m : ℕ) → next (head n) l.0 m ≡ closed n)
-    → Nests (head n) (ms ++ (l ∷ ls)) (statements_of os) → (k : ℕ) → Few (length ms + suc k) os → (us : List Open) × Nests (closed n) ls (statements_of us) × Few k us
-through_inner [] l ls n [] p c h k f = absurd (omega (arith, f.0))
-through_inner [] l ls n (o ∷ os) p c h k f =
-    let g : Few (suc k) (o ∷ os) = subst (λ (i : ℕ). Few i (o ∷ os)) (zero_more (suc k)) f in
-    (os, subst (λ (s : Behind). Nests s ls (statements_of os)) (c o.statements) h.1, (few_after k o os g).1)
+-- the first of them, where a word is no field's name
+first_heads : (hs : List Head) → AllByRecursion FineHead hs → (b : Bool) (c : ℕ) (rest : List Look) (s : Behind) (os : List Open) (d : Open) → Free s → Nests s (heads hs (head_word b c ∷ rest)) (statements_of os) → length (heads hs (head_word b c ∷ rest)) ≤ length os
+    → suc (length hs) ≤ (get_or os (length (heads hs [])) d).statements
+first_heads [] k b c rest s [] d f h l = absurd (omega (arith, l))
+first_heads [] k b c rest s (o ∷ os) d f h l = (first_word s b c o.statements f h.0).0
+first_heads (x ∷ hs) k b c rest s [] d f h l = absurd (omega (arith, l))
+first_heads (x ∷ hs) k b c rest s (o ∷ os) d f h l =
+    let e = first_word s x.is_while x.column o.statements f h.0 in
+    let ls : List Look = heads hs (head_word b c ∷ rest) in
+    let v = through x.inner x.last ls o.statements os k.0.0 k.0.1 (subst (λ (z : Behind). Nests z (x.inner ++ (x.last ∷ ls)) (statements_of os)) e.1 h.1) (omega (arith, l)) in
+    let r = more_heads hs k.1 b c rest o.statements v.0 d v.1 v.2 in
+    let spot : length (x.inner ++ (x.last ∷ heads hs [])) ≡ suc (length x.inner) + length (heads hs []) = omega (arith, length-append x.inner (x.last ∷ heads hs [])) in
+    let there : get_or os (length (x.inner ++ (x.last ∷ heads hs []))) d ≡ get_or v.0 (length (heads hs [])) d = ap (λ (n : ℕ). get_or os n d) spot ∙ v.3 (length (heads hs [])) d in
+    subst (λ (p : Open). suc (suc (length hs)) ≤ p.statements) (sym there) (omega (arith, e.0, r))
+
+pub heads_open : (x : g.Text) (before after : List Look) (l : Look) (hs : List Head) (b : Bool) (c : ℕ) (o : Open) → is_before l.0 ≡ true → AllByRecursion FineHead hs → looks (g.spell x []) ≡ before ++ (l ∷ heads hs (head_word b c ∷ after)) → suc (length hs) ≤ (get_or (opens x) (length (before ++ (l ∷ heads hs []))) o).statements
+heads_open x before after l hs b c o f k e =
+    let ks : List Look = l ∷ heads hs (head_word b c ∷ after) in
+    let size = many_opens x ∙ ap (λ (ls : List Look). length ls) e ∙ length-append before ks in
+    let w = subst (λ (ls : List Look). Nests other ls (statements_of (opens x))) e ((walks x).heads other tt) in
+    let v = behind_some before ks (opens x) other w (omega (arith, size)) in
+    let n = length (heads hs []) in
+    let spot : length (before ++ (l ∷ heads hs [])) ≡ length before + suc n = length-append before (l ∷ heads hs []) in
+    let there : get_or (opens x) (length (before ++ (l ∷ heads hs []))) o ≡ get_or v.0 (suc n) o = ap (λ (i : ℕ). get_or (opens x) i o) spot ∙ v.4 (suc n) o in
+    subst (λ (p : Open). suc (length hs) ≤ p.statements) (sym there) (at_last v.0 v.1 v.2 v.3)
   where
-    zero_more : (n : ℕ) → 0 + n ≡ n
-    zero_more n = omega arith
-through_inner (m ∷ ms) l ls n [] p c h k f = absurd (omega (arith, f.0))
-through_inner (m ∷ ms) l ls n (o ∷ os) p c h k f =
-    let w = and_parts (in_head m.0) (list_all (λ (i : Look). in_head i.0) ms) p in
-    let one : suc (length ms) + suc k ≡ suc (length ms + suc k) = omega arith in
-    let g : Few (suc (length ms + suc k)) (o ∷ os) = subst (λ (i : ℕ). Few i (o ∷ os)) one f in
-    through_inner ms l ls n os w.1 c (subst (λ (s : Behind). Nests s (ms ++ (l ∷ ls)) (statements_of os)) (inner_step m.0 n o.statements w.0) h.1) k (few_after (length ms + suc k) o os g).1
+    at_last : (us : List Open) (s : Behind) → Nests s (l ∷ heads hs (head_word b c ∷ after)) (statements_of us) → length (l ∷ heads hs (head_word b c ∷ after)) ≤ length us → suc (length hs) ≤ (get_or us (suc (length (heads hs []))) o).statements
+    at_last [] s h i = absurd (omega (arith, i))
+    at_last (u ∷ us) s h i = first_heads hs k b c after (next s l.0 u.statements) us o (free_step s l.0 u.statements f) h.1 (omega (arith, i))
 
--- so many tokens are k heads and the word of one more
-abbrev pub size : ℕ → Heading → ℕ
-size zero b = 1
-size (suc k) b = suc (length b.inner + suc (size k b))
+heads_before : (hs : List Head) (ls zs : List Look) → heads hs ls ++ zs ≡ heads hs (ls ++ zs)
+heads_before [] ls zs = refl
+heads_before (h ∷ hs) ls zs =
+    ap (λ (ks : List Look). head_word h.is_while h.column ∷ ks) (append_assoc h.inner (h.last ∷ heads hs ls) zs ∙ ap (λ (ks : List Look). h.inner ++ (h.last ∷ ks)) (heads_before hs ls zs))
 
-few_heads : (k : ℕ) (b : Heading) (c m : ℕ) (zs : List Look) (os : List Open) → Nests (closed m) (headings k b ((tk.reserved b.word, c) ∷ zs)) (statements_of os) → Few (size k b) os → m + k + 1 ≤ deepest_statement
-few_heads zero b c m zs [] h f = absurd (omega (arith, f.0))
-few_heads zero b c m zs (o ∷ os) h f = (let e = asked (is_head b.word) (o.statements ≡ m + 1) b.opens h.0 in let w = few_after 0 o os f in omega (arith, w.0, e))
-few_heads (suc k) b c m zs [] h f = absurd (omega (arith, f.0))
-few_heads (suc k) b c m zs (o ∷ os) h f =
-    let e = asked (is_head b.word) (o.statements ≡ m + 1) b.opens h.0 in
-    let w = few_after (length b.inner + suc (size k b)) o os f in
-    let ls : List Look = headings k b ((tk.reserved b.word, c) ∷ zs) in
-    let i = subst (λ (s : Behind). Nests s (b.inner ++ (b.last ∷ ls)) (statements_of os)) (opened (is_head b.word) (is_end b.word) o.statements b.opens) h.1 in
-    let v = through_inner b.inner b.last ls o.statements os b.plain (b.closes o.statements) i (size k b) w.1 in
-    let r = few_heads k b c o.statements zs v.0 v.1 v.2 in
-    omega (arith, e, r)
-
--- behind tokens of no head
-behind_calm : (fs ls : List Look) (os : List Open) → list_all (λ (l : Look). calm l.0) fs ≡ true → Nests other (fs ++ ls) (statements_of os) → (k : ℕ) → Few (length fs + k) os → (us : List Open) × Nests other ls (statements_of us) × Few k us
-behind_calm [] ls os p h k f = (os, h, subst (λ (i : ℕ). Few i os) (zero_more k) f)
-  where
-    zero_more : (n : ℕ) → 0 + n ≡ n
-    zero_more n = omega arith
-behind_calm (l ∷ fs) ls [] p h k f = absurd (omega (arith, f.0))
-behind_calm (l ∷ fs) ls (o ∷ os) p h k f =
-    let w = and_parts (calm l.0) (list_all (λ (i : Look). calm i.0) fs) p in
-    let one : suc (length fs) + k ≡ suc (length fs + k) = omega arith in
-    let g : Few (suc (length fs + k)) (o ∷ os) = subst (λ (i : ℕ). Few i (o ∷ os)) one f in
-    let v = calm_step other l.0 o.statements tt w.0 in
-    behind_calm fs ls os w.1 (subst (λ (s : Behind). Nests s (fs ++ ls) (statements_of os)) v.1 h.1) k (few_after (length fs + k) o os g).1
-
-length_headings : (k : ℕ) (b : Heading) (l : Look) → length (headings k b (l ∷ [])) ≡ size k b
-length_headings zero b l = refl
-length_headings (suc k) b l = (let n = length-append b.inner (b.last ∷ headings k b (l ∷ [])) in let r = length_headings k b l in omega arith)
-
-headings_before : (k : ℕ) (b : Heading) (l : Look) (zs : List Look) → headings k b (l ∷ []) ++ zs ≡ headings k b (l ∷ zs)
-headings_before zero b l zs = refl
-headings_before (suc k) b l zs =
-    ap (λ (ls : List Look). (tk.reserved b.word, b.column) ∷ ls) (append_assoc b.inner (b.last ∷ headings k b (l ∷ [])) zs ∙ ap (λ (ls : List Look). b.inner ++ (b.last ∷ ls)) (headings_before k b l zs))
-
--- behind such tokens so many heads and the word of one more have too many forms open
-pub too_many_heads : (s : g.Syntax) (fs : List Look) (b : Heading) (c k : ℕ) → list_all (λ (l : Look). calm l.0) fs ≡ true → deepest_statement ≤ suc k → Passes (algorithms s) (map Some (fs ++ heading b (headings k b ((tk.reserved b.word, c) ∷ [])))) → ⊥
-too_many_heads s fs b c k p big q =
-    let l : Look = (tk.reserved b.word, c) in
-    let ks : List Look = headings (suc k) b (l ∷ []) in
-    let w = passed s (fs ++ ks) q in
-    let n = length-append fs ks in
-    let m = length_headings (suc k) b l in
-    let total : length (fs ++ ks) ≡ length fs + size (suc k) b = omega arith in
-    let f : Few (length fs + size (suc k) b) w.1 = subst (λ (i : ℕ). Few i w.1) total (w.2.enough, w.2.few) in
-    let e = append_assoc fs ks w.0 ∙ ap (λ (ls : List Look). fs ++ ls) (headings_before (suc k) b l w.0) in
-    let v = behind_calm fs (headings (suc k) b (l ∷ w.0)) w.1 p (subst (λ (ls : List Look). Nests other ls (statements_of w.1)) e w.2.nests) (size (suc k) b) f in
-    at_last v.0 w.0 v.1 v.2
-  where
-    at_last : (us : List Open) (zs : List Look) → Nests other (headings (suc k) b ((tk.reserved b.word, c) ∷ zs)) (statements_of us) → Few (size (suc k) b) us → ⊥
-    at_last [] zs h f = absurd (omega (arith, f.0))
-    at_last (o ∷ os) zs h f =
-        let e = asked (is_head b.word) (1 ≤ o.statements) b.opens h.0 in
-        let x = few_after (length b.inner + suc (size k b)) o os f in
-        let ls : List Look = headings k b ((tk.reserved b.word, c) ∷ zs) in
-        let i = subst (λ (z : Behind). Nests z (b.inner ++ (b.last ∷ ls)) (statements_of os)) (opened (is_head b.word) (is_end b.word) o.statements b.opens) h.1 in
-        let y = through_inner b.inner b.last ls o.statements os b.plain (b.closes o.statements) i (size k b) x.1 in
-        let r = few_heads k b c o.statements zs y.0 y.1 y.2 in
-        omega (arith, e, r)
+pub too_many_heads : (s : g.Syntax) (before : List Look) (l : Look) (hs : List Head) (b : Bool) (c : ℕ) → is_before l.0 ≡ true → AllByRecursion FineHead hs → deepest_statement ≤ length hs → Passes (algorithms s) (map Some (before ++ (l ∷ heads hs (head_word b c ∷ [])))) → ⊥
+too_many_heads s before l hs b c f k big p =
+    let ks : List Look = l ∷ heads hs [] in
+    let split : (zs : List Look) → (before ++ ks) ++ (head_word b c ∷ zs) ≡ before ++ (l ∷ heads hs (head_word b c ∷ zs)) = λ zs. append_assoc before ks (head_word b c ∷ zs) ∙ ap (λ (ls : List Look). before ++ (l ∷ ls)) (heads_before hs [] (head_word b c ∷ zs)) in
+    let v = passed_at s (before ++ ks) (head_word b c) no_form (subst (λ (ls : List Look). Passes (algorithms s) (map Some ls)) (sym (split [])) p) in
+    let many = heads_open v.0 before v.1 l hs b c no_form f k (v.2 ∙ split v.1) in
+    let few = within_statements (get_or (opens v.0) (length (before ++ ks)) no_form) v.3 in
+    omega (arith, big, many, few)

@@ -57,6 +57,7 @@ When false A = Unit {0}
 -- a head's word is a form itself, and right behind the head of form m it is one more
 abbrev pub Deeper : Behind → TokenView → ℕ → Type 0
 Deeper other (tk.reserved w) n = When (is_head w) (1 ≤ n)
+Deeper (head m) (tk.reserved w) n = When (is_head w) (1 ≤ n)
 Deeper (closed m) (tk.reserved w) n = When (is_head w) (n ≡ m + 1)
 Deeper s k n = Unit {0}
 

@@ -269,7 +269,7 @@ pub record Closes (v : Word) : Type 0 where
 close_by_word : (d : ℕ) (v : Word) (c : ℕ) (ls : List Look) (ns : List ℕ) → Closes v → ((s : Behind) → Enters (below d) s → Nests s ls ns) → (s : Behind) → Stands (Some d) false s → Nests s ((tk.reserved v, c) ∷ ls) (d ∷ ns)
 close_by_word d v c ls ns k h other p = (none_asked (is_head v) (1 ≤ d) k.no_head, subst (λ (b : Behind). Nests b ls ns) (sym (calm_word_step (is_head v) (is_end v) d k.no_head k.no_end)) (h other tt))
 close_by_word d v c ls ns k h naming p = absurd (closes_none false refl p)
-close_by_word d v c ls ns k h (head m) p = (tt, subst (λ (b : Behind). Nests b ls ns) (sym (close_step (is_close v) m (by_word (is_head v) (is_end v) d) k.closes)) (h (closed m) (some_is d m p.1)))
+close_by_word d v c ls ns k h (head m) p = (none_asked (is_head v) (1 ≤ d) k.no_head, subst (λ (b : Behind). Nests b ls ns) (sym (close_step (is_close v) m (by_word (is_head v) (is_end v) d) k.closes)) (h (closed m) (some_is d m p.1)))
 close_by_word d v c ls ns k h (closed m) p = (none_asked (is_head v) (d ≡ m + 1) k.no_head, subst (λ (b : Behind). Nests b ls ns) (sym (calm_word_step (is_head v) (is_end v) d k.no_head k.no_end)) (h other tt))
 
 close_by_bracket : (d c : ℕ) (ls : List Look) (ns : List ℕ) → ((s : Behind) → Enters (below d) s → Nests s ls ns) → (s : Behind) → Stands (Some d) false s → Nests s ((tk.mark tk.close_bracket, c) ∷ ls) (d ∷ ns)

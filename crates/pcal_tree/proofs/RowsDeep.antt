@@ -1,5 +1,6 @@
 -- Worked examples of algorithms that are refused where too many forms are open: at the 201st bracket, and at the 101st `if`.
-use Rattle.std.proofs.Common.{◌≡◌, ℕ, zero, suc, ◌+◌, ◌≤◌, List, [], ◌∷◌, ◌++◌, length, take, drop, true, Some, None, refl, arith, inl, codes}
+use Rattle.std.proofs.Common.{◌≡◌, ℕ, zero, suc, ◌+◌, ◌≤◌, List, [], ◌∷◌, ◌++◌, length, take, drop, true, false, Some, None, refl, arith, inl, codes}
+use Rattle.std.specs.List.{AllByRecursion}
 use Rattle.std.proofs.lemmas.Bool.{lt-ltb}
 use Rattle.tla_token.specs.declared.place.Place.{Place}
 use Rattle.tla_token.specs.declared.rule.Rule.TheVariants.{TooDeep}
@@ -10,8 +11,8 @@ use Rattle.tla_expr.specs.declared.op.Op.TheVariants as op
 use Rattle.tla_expr.specs.Lexical as tk
 use Rattle.tla_expr.specs.Spelling.{Phrase, Good}
 use Rattle.tla_expr.specs.Spelling as spelled
-use Rattle.tla_expr.specs.FirstStop.{Look, looks, to_end, Begins, Passes}
-use Rattle.pcal_tree.specs.AlgorithmTokens.{views}
+use Rattle.tla_expr.specs.FirstStop.{Look, look, looks, to_end, Begins, Passes}
+use Rattle.pcal_tree.specs.AlgorithmTokens.{view, views}
 use Rattle.pcal_tree.specs.GrammarParts as part
 use Rattle.pcal_tree.specs.GrammarP as psyntax
 use Rattle.pcal_tree.specs.GrammarC as csyntax
@@ -20,7 +21,8 @@ use Rattle.pcal_tree.specs.Grammar as text
 use Rattle.pcal_tree.specs.OpenForms.{opens}
 use Rattle.pcal_tree.specs.OffencesSyntax.{algorithms, RefusesTokens}
 use Rattle.pcal_tree.proofs.RowsPrinted.{at, n, token}
-use Rattle.pcal_tree.proofs.DeepLaws.{Heading, too_many_brackets, too_many_heads}
+use Rattle.pcal_tree.specs.laws.DeepForms.{assigned, head_word, Head, FineHead, heads, is_before}
+use Rattle.pcal_tree.proofs.DeepLaws.{too_many_brackets, too_many_heads}
 
 -- so many tokens begin a list if that many are taken from it
 at_least : {A : Type 0} (k : ℕ) (xs : List A) → length (take k xs) ≡ k → k ≤ length xs
@@ -33,14 +35,14 @@ at_least (suc k) (x ∷ xs) e = (let h = at_least k xs (omega arith) in omega ar
 abbrev variable_tokens : List Token
 variable_tokens = token 5 1 (name (codes "variables")) ∷ token 5 11 (name (codes "x")) ∷ token 5 13 (one sign.Equal) ∷ token 5 15 (number 0) ∷ token 5 16 (one sign.Semicolon) ∷ []
 
-abbrev label_tokens : List Token
-label_tokens = token 7 3 (name (codes "A")) ∷ token 7 4 (one sign.Colon) ∷ []
+abbrev p_start : List Token
+p_start = token 4 1 (name (codes "--algorithm")) ∷ token 4 13 (name (codes "R")) ∷ (variable_tokens ++ (token 6 1 (name (codes "begin")) ∷ token 7 3 (name (codes "A")) ∷ []))
 
-abbrev p_front : List Token
-p_front = token 4 1 (name (codes "--algorithm")) ∷ token 4 13 (name (codes "R")) ∷ (variable_tokens ++ (token 6 1 (name (codes "begin")) ∷ label_tokens))
+abbrev c_start : List Token
+c_start = token 4 1 (name (codes "--algorithm")) ∷ token 4 13 (name (codes "R")) ∷ token 4 15 (one sign.OpenCurly) ∷ (variable_tokens ++ (token 6 1 (one sign.OpenCurly) ∷ token 7 3 (name (codes "A")) ∷ []))
 
-abbrev c_front : List Token
-c_front = token 4 1 (name (codes "--algorithm")) ∷ token 4 13 (name (codes "R")) ∷ token 4 15 (one sign.OpenCurly) ∷ (variable_tokens ++ (token 6 1 (one sign.OpenCurly) ∷ label_tokens))
+abbrev colon : Token
+colon = token 7 4 (one sign.Colon)
 
 abbrev labels : part.Labels
 labels = part.label (n 7 3 (codes "A")) (part.colon (at 7 4)) part.no_labels
@@ -71,7 +73,7 @@ brackets (suc k) c ts = token 7 c (one sign.OpenRound) ∷ brackets k (suc c) ts
 
 -- `A: x := ((..`, with 201 brackets, whatever comes then
 abbrev deep_sum : List Token → List Token
-deep_sum more = p_front ++ (token 7 6 (name (codes "x")) ∷ token 7 8 (one sign.Assign) ∷ brackets 201 11 more)
+deep_sum more = p_start ++ (colon ∷ token 7 6 (name (codes "x")) ∷ token 7 8 (one sign.Assign) ∷ brackets 201 11 more)
 
 -- k brackets round a name
 abbrev bracketed : ℕ → ℕ → Phrase
@@ -95,10 +97,17 @@ one_more_begins : (more : List Token) → Begins (algorithms p_syntax) (take 213
 one_more_begins more = (drop 213 (to_end (text.spell (completed 201) [])), opens (completed 201), (completed 201, good_completed 201, refl, refl))
 
 abbrev before_assign : List Look
-before_assign = looks (views (p_front ++ (token 7 6 (name (codes "x")) ∷ [])))
+before_assign = looks (views (p_start ++ (colon ∷ token 7 6 (name (codes "x")) ∷ [])))
+
+abbrev columns : ℕ → ℕ → List ℕ
+columns zero c = []
+columns (suc k) c = c ∷ columns k (suc c)
+
+some_brackets : assigned 8 (columns 2 11) ≡ looks (views (token 7 8 (one sign.Assign) ∷ brackets 2 11 []))
+some_brackets = refl
 
 one_too_many : (more : List Token) → Passes (algorithms p_syntax) (take 213 (to_end (views (deep_sum more)))) → ⊥
-one_too_many more p = too_many_brackets p_syntax before_assign 8 11 201 (omega arith) p
+one_too_many more p = (let l : length (columns 200 11) ≡ 200 = refl in too_many_brackets p_syntax before_assign 8 211 (columns 200 11) (omega arith) p)
 
 pub deep_sum_refused : (more : List Token) (end : Place) → RefusesTokens p_syntax (deep_sum more) end (record { rule = TooDeep; place = at 7 211 })
 deep_sum_refused more end = record {
@@ -119,7 +128,7 @@ p_ifs zero l ts = ts
 p_ifs (suc k) l ts = token l 6 (name (codes "if")) ∷ token l 9 (name (codes "x")) ∷ token l 11 (one sign.Greater) ∷ token l 13 (number 0) ∷ token l 15 (name (codes "then")) ∷ p_ifs k (suc l) ts
 
 abbrev deep_if : List Token → List Token
-deep_if more = p_front ++ p_ifs 100 7 (token 107 6 (name (codes "if")) ∷ more)
+deep_if more = p_start ++ (colon ∷ p_ifs 100 7 (token 107 6 (name (codes "if")) ∷ more))
 
 abbrev p_nested : ℕ → ℕ → psyntax.Statement
 p_nested zero l = psyntax.simple (part.skip (at l 6))
@@ -135,25 +144,36 @@ good_p_nested (suc k) l = (good_above l, good_p_nested k (suc l), tt)
 good_p_text : (k : ℕ) → text.Good p_syntax (p_text (p_nested k 7))
 good_p_text k = (tt, refl, tt, tt, tt, good_p_nested k 7)
 
+abbrev p_head : Head
+p_head = record { is_while = false; column = 6; inner = (tk.word (codes "x"), 9) ∷ (tk.sign op.Greater, 11) ∷ (tk.number 0, 13) ∷ []; last = (tk.reserved (codes "then"), 15) }
+
+abbrev same_heads : Head → ℕ → List Head
+same_heads h zero = []
+same_heads h (suc k) = h ∷ same_heads h k
+
+fine_heads : (h : Head) (k : ℕ) → FineHead h → AllByRecursion FineHead (same_heads h k)
+fine_heads h zero f = tt
+fine_heads h (suc k) f = (f, fine_heads h k f)
+
+-- the same words as the law has
+some_heads : heads (p_head ∷ record p_head { is_while = true; last = (tk.reserved (codes "do"), 18) } ∷ []) (head_word true 6 ∷ []) ≡ looks (views (p_ifs 1 7 (
+    token 8 6 (name (codes "while")) ∷ token 8 9 (name (codes "x")) ∷ token 8 11 (one sign.Greater) ∷ token 8 13 (number 0) ∷ token 8 18 (name (codes "do")) ∷ token 9 6 (name (codes "while")) ∷ [])))
+some_heads = refl
+
+behind_colon : is_before (view colon).kind ≡ true
+behind_colon = refl
+
+behind_end : is_before (tk.reserved (codes "end")) ≡ false
+behind_end = refl
+
 enough_ifs : (more : List Token) → Passes (algorithms p_syntax) (take 510 (to_end (views (deep_if more))))
 enough_ifs more = (drop 510 (to_end (text.spell (p_text (p_nested 100 7)) [])), opens (p_text (p_nested 100 7)), (p_text (p_nested 100 7), good_p_text 100, refl, refl), refl)
 
 one_more_if : (more : List Token) → Begins (algorithms p_syntax) (take 511 (to_end (views (deep_if more))))
 one_more_if more = (drop 511 (to_end (text.spell (p_text (p_nested 101 7)) [])), opens (p_text (p_nested 101 7)), (p_text (p_nested 101 7), good_p_text 101, refl, refl))
 
-abbrev p_heading : Heading
-p_heading = record {
-  word = codes "if";
-  column = 6;
-  inner = (tk.word (codes "x"), 9) ∷ (tk.sign op.Greater, 11) ∷ (tk.number 0, 13) ∷ [];
-  last = (tk.reserved (codes "then"), 15);
-  opens = refl;
-  plain = refl;
-  closes = λ i j. refl;
-}
-
 one_if_too_many : (more : List Token) → Passes (algorithms p_syntax) (take 511 (to_end (views (deep_if more)))) → ⊥
-one_if_too_many more p = too_many_heads p_syntax (looks (views p_front)) p_heading 6 99 refl (omega arith) p
+one_if_too_many more p = (let l : length (same_heads p_head 100) ≡ 100 = refl in too_many_heads p_syntax (looks (views p_start)) (look (view colon)) (same_heads p_head 100) false 6 refl (fine_heads p_head 100 (refl, refl)) (omega arith) p)
 
 pub deep_if_refused : (more : List Token) (end : Place) → RefusesTokens p_syntax (deep_if more) end (record { rule = TooDeep; place = at 107 6 })
 deep_if_refused more end = record {
@@ -171,7 +191,7 @@ c_ifs (suc k) l ts =
     token l 6 (name (codes "if")) ∷ token l 9 (one sign.OpenRound) ∷ token l 10 (name (codes "x")) ∷ token l 12 (one sign.Greater) ∷ token l 14 (number 0) ∷ token l 15 (one sign.CloseRound) ∷ c_ifs k (suc l) ts
 
 abbrev deep_c_if : List Token → List Token
-deep_c_if more = c_front ++ c_ifs 100 7 (token 107 6 (name (codes "if")) ∷ more)
+deep_c_if more = c_start ++ (colon ∷ c_ifs 100 7 (token 107 6 (name (codes "if")) ∷ more))
 
 abbrev c_nested : ℕ → ℕ → csyntax.Statement
 c_nested zero l = csyntax.simple (part.skip (at l 6))
@@ -193,19 +213,11 @@ enough_c_ifs more = (drop 611 (to_end (text.spell (c_text (c_nested 100 7)) []))
 one_more_c_if : (more : List Token) → Begins (algorithms c_syntax) (take 612 (to_end (views (deep_c_if more))))
 one_more_c_if more = (drop 612 (to_end (text.spell (c_text (c_nested 101 7)) [])), opens (c_text (c_nested 101 7)), (c_text (c_nested 101 7), good_c_text 101, refl, refl))
 
-abbrev c_heading : Heading
-c_heading = record {
-  word = codes "if";
-  column = 6;
-  inner = (tk.mark tk.open_bracket, 9) ∷ (tk.word (codes "x"), 10) ∷ (tk.sign op.Greater, 12) ∷ (tk.number 0, 14) ∷ [];
-  last = (tk.mark tk.close_bracket, 15);
-  opens = refl;
-  plain = refl;
-  closes = λ i j. refl;
-}
+abbrev c_head : Head
+c_head = record { is_while = false; column = 6; inner = (tk.mark tk.open_bracket, 9) ∷ (tk.word (codes "x"), 10) ∷ (tk.sign op.Greater, 12) ∷ (tk.number 0, 14) ∷ []; last = (tk.mark tk.close_bracket, 15) }
 
 one_c_if_too_many : (more : List Token) → Passes (algorithms c_syntax) (take 612 (to_end (views (deep_c_if more)))) → ⊥
-one_c_if_too_many more p = too_many_heads c_syntax (looks (views c_front)) c_heading 6 99 refl (omega arith) p
+one_c_if_too_many more p = (let l : length (same_heads c_head 100) ≡ 100 = refl in too_many_heads c_syntax (looks (views c_start)) (look (view colon)) (same_heads c_head 100) false 6 refl (fine_heads c_head 100 (refl, refl)) (omega arith) p)
 
 pub deep_c_if_refused : (more : List Token) (end : Place) → RefusesTokens c_syntax (deep_c_if more) end (record { rule = TooDeep; place = at 107 6 })
 deep_c_if_refused more end = record {

@@ -10,3 +10,4 @@ pub mod BoundDefinitions
 pub mod Choosing
 pub mod Expansion
 pub mod Steps
+pub mod DeepForms

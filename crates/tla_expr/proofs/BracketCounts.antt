@@ -45,7 +45,7 @@ pass t b j n ts ns e h = (λ x o. absurd (off (sym (leads_none t.kind e) ∙ o))
 climbs_open : (b : Bool) (j n : ℕ) → (b ≡ true → j ≡ n) → b ≡ true → true ≡ true → n + 1 ≡ suc j
 climbs_open b j n pre e o = (let q = pre e in omega arith)
 
-pub off_sign : (o : Op) → leads (sign_of o) ≡ false
+off_sign : (o : Op) → leads (sign_of o) ≡ false
 off_sign op.Negate = refl
 off_sign o = refl
 
@@ -128,7 +128,7 @@ abbrev pub open_looks : ℕ → ℕ → List Look
 open_looks zero c = []
 open_looks (suc k) c = (tk.mark tk.open_bracket, c) ∷ open_looks k (suc c)
 
-pub few_open : (k c j : ℕ) (rest : List Look) (ns : List ℕ) → Climbs true j (open_looks k c ++ rest) ns → k ≤ length ns → list_all (λ n. is_within (in_expression n)) (take k ns) ≡ true → j ≤ deepest_expression → j + k ≤ deepest_expression
+few_open : (k c j : ℕ) (rest : List Look) (ns : List ℕ) → Climbs true j (open_looks k c ++ rest) ns → k ≤ length ns → list_all (λ n. is_within (in_expression n)) (take k ns) ≡ true → j ≤ deepest_expression → j + k ≤ deepest_expression
 few_open zero c j rest ns h l few d = omega arith
 few_open (suc k) c j rest [] h l few d = absurd (omega arith)
 few_open (suc k) c j rest (n ∷ ns) h l few d =
@@ -138,7 +138,7 @@ few_open (suc k) c j rest (n ∷ ns) h l few d =
     let r = few_open k (suc c) n rest ns h.1 (omega arith) p.1 w in
     omega arith
 
-pub length_open : (k c : ℕ) → length (map Some (open_looks k c)) ≡ k
+length_open : (k c : ℕ) → length (map Some (open_looks k c)) ≡ k
 length_open zero c = refl
 length_open (suc k) c = ap suc (length_open k (suc c))
 
