@@ -72,3 +72,11 @@ pub mod AfterSignsAll
 pub mod AfterColons
 pub mod AfterColonsAll
 pub mod RowsRefused
+pub mod CountsAhead
+pub mod FieldWords
+pub mod HeadWalks
+pub mod OpenWalks
+pub mod OpenWalksParts
+pub mod OpenWalksAll
+pub mod DeepLaws
+pub mod RowsDeep

@@ -11,3 +11,4 @@ pub mod OffencesOnce
 pub mod Choosing
 pub mod Expansion
 pub mod Steps
+pub mod DeepForms

@@ -1,6 +1,7 @@
 //! Laws of what algorithms mean, stated as what functions without a body ensure.
 
-ghost use Rattle.std.specs.Prelude.{◌≡◌, ℕ, List, [], Bool, false, map, Some, None, ◌++◌, ◌+◌, ◌≤◌, length, reverse, Contains, ◌↔◌};
+ghost use Rattle.std.specs.Prelude.{◌≡◌, ℕ, suc, List, [], ◌∷◌, Bool, false, IsTrue, map, Some, None, ◌++◌, ◌+◌, ◌≤◌, length, get_or, reverse, Contains, ◌↔◌};
+ghost use Rattle.std.specs.List.{AllByRecursion};
 ghost use Rattle.tla_token.specs.Signs.{is_among};
 ghost use Rattle.tla_expr.specs.Tree.{Word, Trees};
 ghost use Rattle.pcal_tree.specs.Algorithm.{Statements, Macro, Algorithm};
@@ -28,12 +29,13 @@ ghost use Rattle.pcal_tree.specs.OffencesOfNames.{name_offences_by, name_offence
 ghost use Rattle.pcal_tree.specs.laws.OffencesOnce.{once_for_each_macro};
 ghost use Rattle.pcal_tree.specs.laws.MacroSelves.{self_offences_by_calls};
 ghost use Rattle.tla_expr.specs.Lexical.{Token};
-ghost use Rattle.tla_expr.specs.FirstStop.{looks, Begins};
+ghost use Rattle.tla_expr.specs.FirstStop.{Look, looks, Open, Begins, Passes};
+ghost use Rattle.pcal_tree.specs.laws.DeepForms.{bracket, assigned, head_word, Head, FineHead, heads, is_before};
 ghost use Rattle.pcal_tree.specs.Grammar.{Syntax, Text, Good, spell};
 ghost use Rattle.pcal_tree.specs.OpenForms.{opens};
 ghost use Rattle.pcal_tree.specs.OffencesSyntax.{algorithms, PassesTokens, RefusesTokens};
 ghost use Rattle.tla_token.specs.Tokens as text;
-ghost use Rattle.tla_token.specs.Limits.{most_variables, most_processes, most_procedures, most_labels};
+ghost use Rattle.tla_token.specs.Limits.{most_variables, most_processes, most_procedures, most_labels, deepest_expression, deepest_statement};
 ghost use Rattle.pcal_tree.specs.OffencesCounts.{variable_names, procedure_names, all_label_names, count_offences};
 ghost use Rattle.pcal_tree.specs.laws.Lines.{text_lineless};
 ghost use Rattle.pcal_tree.specs.Labelled.{labelled, labelled_by};
@@ -213,6 +215,16 @@ pub fn counts_are_within_the_limits()
 /// Each token of an algorithm has one count of the forms that are open at it.
 pub fn each_token_has_its_count()
     ensures { (x : Text) → length (opens x) ≡ length (spell x []) }
+{}
+
+/// In each algorithm, of round brackets that are right behind one another, the first right behind `:=`, the one behind k others has k + 1 forms of expressions
+/// open at least; and of words `if` and `while` with nothing but heads of names, numbers, signs and brackets between them, the one behind k others has
+/// k + 1 forms of statements open at least. So where there are too many of them no algorithm within the limits begins so.
+pub fn forms_open_in_one_another()
+    ensures brackets { (x : Text) (before after : List Look) (i c : ℕ) (cs : List ℕ) (o : Open) → looks (spell x []) ≡ before ++ assigned i cs ++ (bracket c ∷ after) → suc (length cs) ≤ (get_or (opens x) (length (before ++ assigned i cs)) o).expressions }
+    ensures heads { (x : Text) (before after : List Look) (l : Look) (hs : List Head) (b : Bool) (c : ℕ) (o : Open) → IsTrue (is_before l.0) → AllByRecursion FineHead hs → looks (spell x []) ≡ before ++ (l ∷ heads hs (head_word b c ∷ after)) → suc (length hs) ≤ (get_or (opens x) (length (before ++ (l ∷ heads hs []))) o).statements }
+    ensures few_brackets { (s : Syntax) (before : List Look) (i c : ℕ) (cs : List ℕ) → deepest_expression ≤ length cs → Passes (algorithms s) (map Some (before ++ assigned i cs ++ (bracket c ∷ []))) → ⊥ }
+    ensures few_heads { (s : Syntax) (before : List Look) (l : Look) (hs : List Head) (b : Bool) (c : ℕ) → IsTrue (is_before l.0) → AllByRecursion FineHead hs → deepest_statement ≤ length hs → Passes (algorithms s) (map Some (before ++ (l ∷ heads hs (head_word b c ∷ [])))) → ⊥ }
 {}
 
 /// The tokens of an algorithm are refused at one place at most, by one rule, and then they don't pass.

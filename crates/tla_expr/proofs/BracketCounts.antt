@@ -1,4 +1,4 @@
--- Of round brackets that follow one another each has one form more open than the one before it.
+-- Of round brackets that follow one another each has one form more open than the one before it; the first one after `:=` has one.
 use Rattle.std.proofs.Common.{◌≡◌, ℕ, zero, suc, ◌+◌, ◌≤◌, Bool, true, false, ◌&&◌, nat_le, List, [], ◌∷◌, ◌++◌, length, take, map, Option, Some, refl, sym, ap, ◌∙◌, subst, arith, length-append}
 use Rattle.std.specs.List.{list_all}
 use Rattle.std.proofs.lemmas.Bool.{and_parts, leb-true}
@@ -20,29 +20,39 @@ abbrev pub is_open : TokenView → Bool
 is_open (tk.mark tk.open_bracket) = true
 is_open k = false
 
--- after such a bracket with j forms open
+-- a bracket right after it is one of an expression
+abbrev pub leads : TokenView → Bool
+leads (tk.mark tk.open_bracket) = true
+leads (tk.mark tk.assigns) = true
+leads k = false
+
+-- after such a token with j forms open
 abbrev pub Climbs : Bool → ℕ → List Look → List ℕ → Type 0
 Climbs b j [] ns = Unit {0}
 Climbs b j (l ∷ ls) [] = Unit {0}
-Climbs b j (l ∷ ls) (n ∷ ns) = (b ≡ true → is_open l.0 ≡ true → n ≡ suc j) × Climbs (is_open l.0) n ls ns
+Climbs b j (l ∷ ls) (n ∷ ns) = (b ≡ true → is_open l.0 ≡ true → n ≡ suc j) × Climbs (leads l.0) n ls ns
 
 off : false ≡ true → ⊥
 off e = cc
 
-pass : (t : Token) (b : Bool) (j n : ℕ) (ts : List Token) (ns : List ℕ) → is_open t.kind ≡ false → Climbs false n (looks ts) ns → Climbs b j (looks (t ∷ ts)) (n ∷ ns)
-pass t b j n ts ns e h = (λ x o. absurd (off (sym e ∙ o)), subst (λ (d : Bool). Climbs d n (looks ts) ns) (sym e) h)
+leads_none : (k : TokenView) → leads k ≡ false → is_open k ≡ false
+leads_none (tk.mark tk.open_bracket) e = absurd (off (sym e))
+leads_none k e = refl
+
+pub pass : (t : Token) (b : Bool) (j n : ℕ) (ts : List Token) (ns : List ℕ) → leads t.kind ≡ false → Climbs false n (looks ts) ns → Climbs b j (looks (t ∷ ts)) (n ∷ ns)
+pass t b j n ts ns e h = (λ x o. absurd (off (sym (leads_none t.kind e) ∙ o)), subst (λ (d : Bool). Climbs d n (looks ts) ns) (sym e) h)
 
 climbs_open : (b : Bool) (j n : ℕ) → (b ≡ true → j ≡ n) → b ≡ true → true ≡ true → n + 1 ≡ suc j
 climbs_open b j n pre e o = (let q = pre e in omega arith)
 
-off_sign : (o : Op) → is_open (sign_of o) ≡ false
+off_sign : (o : Op) → leads (sign_of o) ≡ false
 off_sign op.Negate = refl
 off_sign o = refl
 
-off_field : (f : Field) → is_open (field_kind f.is_reserved f.text) ≡ false
+pub off_field : (f : Field) → leads (field_kind f.is_reserved f.text) ≡ false
 off_field f = by f.is_reserved
   where
-    by : (b : Bool) → is_open (field_kind b f.text) ≡ false
+    by : (b : Bool) → leads (field_kind b f.text) ≡ false
     by true = refl
     by false = refl
 
@@ -76,7 +86,7 @@ mutual
   climb_one n (infix_of a p o b) r ts hc hb hj pre = climb_one n a ((n + chain a + 1) ∷ counts (n + chain a + 1) b r) (sign p o (spell b ts)) (λ k. (pass (token p (sign_of o)) false k (n + chain a + 1) (spell b ts) (counts (n + chain a + 1) b r) (off_sign o) (climb_one (n + chain a + 1) b r ts (λ k. (hc k)) false (n + chain a + 1) (λ e. absurd (off e))))) hb hj pre
   climb_one n (prefix_of p o a) r ts hc hb hj pre = pass (token p (sign_of o)) hb hj (n + 1) (spell a ts) (counts (n + 1) a r) (off_sign o) (climb_one (n + 1) a r ts (λ k. (hc k)) false (n + 1) (λ e. absurd (off e)))
 
-  climb_all : (n : ℕ) (x : Phrases) → (r : List ℕ) (ts : List Token) → ((k : ℕ) → Climbs false k (looks ts) r) → (b : Bool) (k : ℕ) → (b ≡ true → k ≡ n) → Climbs b k (looks (spell_all x ts)) (counts_all n x r)
+  pub climb_all : (n : ℕ) (x : Phrases) → (r : List ℕ) (ts : List Token) → ((k : ℕ) → Climbs false k (looks ts) r) → (b : Bool) (k : ℕ) → (b ≡ true → k ≡ n) → Climbs b k (looks (spell_all x ts)) (counts_all n x r)
   climb_all n (last a) r ts hc hb hj pre = climb_one n a r ts (λ k. (hc k)) hb hj pre
   climb_all n (more a p xs) r ts hc hb hj pre = climb_one n a (n ∷ counts_all n xs r) (mark p tk.comma (spell_all xs ts)) (λ k. (pass (token p (tk.mark tk.comma)) false k n (spell_all xs ts) (counts_all n xs r) refl (climb_all n xs r ts (λ k. (hc k)) false n (λ e. absurd (off e))))) hb hj pre
 
@@ -85,7 +95,7 @@ mutual
   climb_binds n (bind p x q a t bs) r ts hc hb hj pre = pass (token p (tk.word x)) hb hj n (sign q op.In (spell a (mark t tk.comma (spell_binds bs ts)))) (n ∷ counts n a (n ∷ counts_binds n bs r)) refl (pass (token q (sign_of op.In)) false n n (spell a (mark t tk.comma (spell_binds bs ts))) (counts n a (n ∷ counts_binds n bs r)) (off_sign op.In) (climb_one n a (n ∷ counts_binds n bs r) (mark t tk.comma (spell_binds bs ts)) (λ k. (pass (token t (tk.mark tk.comma)) false k n (spell_binds bs ts) (counts_binds n bs r) refl (climb_binds n bs r ts (λ k. (hc k)) false n (λ e. absurd (off e))))) false n (λ e. absurd (off e))))
   climb_binds n (share p x q bs) r ts hc hb hj pre = pass (token p (tk.word x)) hb hj n (mark q tk.comma (spell_binds bs ts)) (n ∷ counts_binds n bs r) refl (pass (token q (tk.mark tk.comma)) false n n (spell_binds bs ts) (counts_binds n bs r) refl (climb_binds n bs r ts (λ k. (hc k)) false n (λ e. absurd (off e))))
 
-  climb_fields : (n : ℕ) (m : Mark) (x : Fields) → is_open (tk.mark m) ≡ false → (r : List ℕ) (ts : List Token) → ((k : ℕ) → Climbs false k (looks ts) r) → (b : Bool) (k : ℕ) → (b ≡ true → k ≡ n) → Climbs b k (looks (spell_fields m x ts)) (counts_fields n x r)
+  climb_fields : (n : ℕ) (m : Mark) (x : Fields) → leads (tk.mark m) ≡ false → (r : List ℕ) (ts : List Token) → ((k : ℕ) → Climbs false k (looks ts) r) → (b : Bool) (k : ℕ) → (b ≡ true → k ≡ n) → Climbs b k (looks (spell_fields m x ts)) (counts_fields n x r)
   climb_fields n m (last_field f p a) hq r ts hc hb hj pre = pass (token f.place (field_kind f.is_reserved f.text)) hb hj n (mark p m (spell a ts)) (n ∷ counts n a r) (off_field f) (pass (token p (tk.mark m)) false n n (spell a ts) (counts n a r) hq (climb_one n a r ts (λ k. (hc k)) false n (λ e. absurd (off e))))
   climb_fields n m (field f p a q fs) hq r ts hc hb hj pre = pass (token f.place (field_kind f.is_reserved f.text)) hb hj n (mark p m (spell a (mark q tk.comma (spell_fields m fs ts)))) (n ∷ counts n a (n ∷ counts_fields n fs r)) (off_field f) (pass (token p (tk.mark m)) false n n (spell a (mark q tk.comma (spell_fields m fs ts))) (counts n a (n ∷ counts_fields n fs r)) hq (climb_one n a (n ∷ counts_fields n fs r) (mark q tk.comma (spell_fields m fs ts)) (λ k. (pass (token q (tk.mark tk.comma)) false k n (spell_fields m fs ts) (counts_fields n fs r) refl (climb_fields n m fs hq r ts (λ k. (hc k)) false n (λ e. absurd (off e))))) false n (λ e. absurd (off e))))
 
