@@ -7,6 +7,10 @@ use Rattle.tla_token.specs.Tokens as text
 use Rattle.tla_token.specs.Tokens.{block, blank, line, lexeme}
 use Rattle.tla_expr.specs.TokenViews.{view, views}
 use Rattle.tla_expr.specs.FirstStop.{looks}
+use Rattle.tla_token.specs.declared.rule.Refusal.{Refusal}
+use Rattle.tla_token.specs.Offences.{least}
+use Rattle.std.proofs.lemmas.Option.{none-some}
+use Rattle.module_text.specs.FileOffences.{RefusesFile}
 use Rattle.module_text.specs.TextFront.{Text}
 use Rattle.module_text.specs.Walk.{is_header_line, is_tail, Located, walk, at_start}
 use Rattle.module_text.specs.FileParts.{first_that, module_end, beginnings, after_comment, region_of, after_spot}
@@ -138,3 +142,6 @@ module _ (x t w : Text) (fine : IsFine x) (inside : IsInside t) (put_there : Wit
 
 pub fine_kept : (x t w : Text) → IsFine x → IsInside t → WithTranslation x t w → IsFine w
 fine_kept x t w fine inside put = all_fine x t w fine inside put
+
+pub not_refused : (x t w : Text) (r : Refusal) → IsFine x → IsInside t → WithTranslation x t w → RefusesFile w r → ⊥
+not_refused x t w r fine inside put refused = none-some (r.rule, refused.at) (ap least (sym (fine_kept x t w fine inside put)) ∙ refused.first)

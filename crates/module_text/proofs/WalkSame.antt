@@ -70,7 +70,7 @@ moved_looks i j m n (d ∷ ds) (e ∷ es) h = by (kind_of_segment d.is) (moved_l
     by None more = more
     by (Some k) more = λ l. (k, h.1.2 l) ∷ more l
 
-if_anywhere : (k : Bool) (r : Rule) (at to : ℕ) → offence_if k r at ≡ [] → offence_if k r to ≡ []
+pub if_anywhere : (k : Bool) (r : Rule) (at to : ℕ) → offence_if k r at ≡ [] → offence_if k r to ≡ []
 if_anywhere true r at to e = absurd cc
 if_anywhere false r at to e = refl
 
@@ -81,7 +81,7 @@ bytes_anywhere at to (b ∷ bs) e =
     let o = both_empty (offence_if (is_stray b) r at) (byte_offences (at + 1) bs) e in
     rw (if_anywhere (is_stray b) r at to o.0) (bytes_anywhere (at + 1) (to + 1) bs o.1)
 
-kind_anywhere : (in_algorithm : Bool) (at to : ℕ) (k : Kind) → kind_offences in_algorithm at k ≡ [] → kind_offences in_algorithm to k ≡ []
+pub kind_anywhere : (in_algorithm : Bool) (at to : ℕ) (k : Kind) → kind_offences in_algorithm at k ≡ [] → kind_offences in_algorithm to k ≡ []
 kind_anywhere a at to (number n) e = if_anywhere (a && nat_le past_numbers n) NumberTooBig at to e
 kind_anywhere a at to (string w) e = if_anywhere (a && holds_mark w) BadToken at to e
 kind_anywhere a at to k e = refl

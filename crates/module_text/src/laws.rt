@@ -20,6 +20,7 @@ ghost use Rattle.module_text.specs.laws.Kept.{IsFine, only_large, KeepsFile, Sam
 ghost use Rattle.module_text.specs.laws.Outsides.{HasOutside, AllAlike, IsModuleOf};
 ghost use Rattle.module_text.specs.AlgorithmText.{AlgorithmText, algorithm_in, algorithm_tokens};
 ghost use Rattle.module_text.specs.FileOffences.{offences_of, algorithm_offences};
+ghost use Rattle.tla_token.specs.AlgorithmOffences.{algorithm_offences as token_offences};
 ghost use Rattle.module_text.specs.laws.Walks.{text_of, is_lined, are_calm, after_all, after_text, IsOpen, IsInside, made, located, Near, Fit, Moved, are_common, Put};
 
 /// A list of units is that of one translation at most.
@@ -90,13 +91,16 @@ pub fn translations_are_found_again()
 
 /// A translation that is put into a file which is not refused is one segment after the file's own, and what is after it is
 /// moved. The file keeps its title, its units and its algorithm, no segment of it breaks a rule, and another translation of
-/// it is one of the file that was read. The algorithm's tokens are moved by bytes and lines, and the file is not refused either.
+/// it is one of the file that was read. The algorithm's tokens are moved by bytes and lines, and the file is not refused
+/// either, nor are these tokens where they weren't.
 pub fn translations_keep_files()
     ensures place { (x t w : Text) → IsFine x → IsInside t → WithTranslation x t w → IsPut x t w }
     ensures kept { (x t w : Text) → IsFine x → IsInside t → WithTranslation x t w → KeepsFile x t w }
     ensures algorithm { (x t w : Text) (a : AlgorithmText) → IsFine x → IsInside t → WithTranslation x t w → algorithm_in x ≡ Some a → (b : AlgorithmText) × (algorithm_in w ≡ Some b) × SameAlgorithm a b }
     ensures tokens { (x t w : Text) (a b : AlgorithmText) → IsFine x → IsInside t → WithTranslation x t w → algorithm_in x ≡ Some a → algorithm_in w ≡ Some b → AlgorithmMoved x w a b }
     ensures fine { (x t w : Text) → IsFine x → IsInside t → WithTranslation x t w → IsFine w }
+    ensures refused { (x t w : Text) (r : Refusal) → IsFine x → IsInside t → WithTranslation x t w → RefusesFile w r → ⊥ }
+    ensures tokens_fine { (x t w : Text) (a b : AlgorithmText) → IsFine x → IsInside t → WithTranslation x t w → algorithm_in x ≡ Some a → algorithm_in w ≡ Some b → token_offences (algorithm_tokens x a) ≡ [] → token_offences (algorithm_tokens w b) ≡ [] }
     ensures again { (x t w v u : Text) → IsFine x → IsInside t → IsInside v → WithTranslation x t w → WithTranslation w v u → WithTranslation x v u }
 {}
 
