@@ -1,6 +1,8 @@
 -- Proves the law `translations_keep_files`.
 use Rattle.module_text.proofs.WalkSame.{is_put, keeps_file, put_again}
 use Rattle.module_text.proofs.AlgorithmSame.{algorithm_kept}
+use Rattle.module_text.proofs.AlgorithmMoved.{tokens_kept, token_offences_kept}
+use Rattle.module_text.proofs.FineKept.{fine_kept, not_refused}
 use Rattle.module_text.proofs.laws.translations_keep_files.Goals as goal
 
 pub returns-clause-place : goal.returns-clause-place
@@ -14,3 +16,15 @@ returns-clause-again c = put_again
 
 pub returns-clause-algorithm : goal.returns-clause-algorithm
 returns-clause-algorithm c = algorithm_kept
+
+pub returns-clause-fine : goal.returns-clause-fine
+returns-clause-fine c = fine_kept
+
+pub returns-clause-tokens : goal.returns-clause-tokens
+returns-clause-tokens c = tokens_kept
+
+pub returns-clause-refused : goal.returns-clause-refused
+returns-clause-refused c = not_refused
+
+pub returns-clause-tokens_fine : goal.returns-clause-tokens_fine
+returns-clause-tokens_fine c = token_offences_kept
