@@ -1,14 +1,22 @@
--- The form of text that is translated so far: one variable, and one label with an assignment ("A PlusCal User's Manual", section 2.2 and chapter 3).
-use Rattle.std.specs.Prelude.{◌≡◌, ℕ, Bool, true, ◌&&◌, ◌||◌, not, nat_lt, IsTrue, List, [], ◌∷◌, ◌++◌, Option, Some, None, codes}
+-- The form of algorithm that is translated so far, in any file: one variable, and one label with an assignment ("A PlusCal User's Manual", section 2.2 and
+-- chapter 3).
+use Rattle.std.specs.Prelude.{◌≡◌, ℕ, Bool, true, false, ◌&&◌, ◌||◌, not, nat_lt, IsTrue, List, [], ◌∷◌, Some, codes, map}
 use Rattle.std.specs.List.{list_all, list_any}
 use Rattle.std.specs.Str.{bytes_eq}
 use Rattle.tla_token.specs.declared.sign.Sign.TheVariants as sign
-use Rattle.tla_token.specs.Lexemes.{Kind, one, is_word, is_letter, is_blank}
+use Rattle.tla_token.specs.Signs.{is_among}
+use Rattle.tla_token.specs.Lexemes.{Kind, one, is_word, is_letter}
 use Rattle.tla_token.specs.Lexemes as kind
-use Rattle.tla_token.specs.Tokens.{Piece, blank, lexeme, text_of, AllFit}
 use Rattle.tla_token.specs.Words.{is_reserved, is_own, is_standard}
 use Rattle.tla_token.specs.Limits.{past_numbers}
+use Rattle.tla_expr.specs.declared.op.Op.TheVariants.{Plus}
 use Rattle.tla_expr.specs.Tree.{Word}
+use Rattle.tla_value.specs.StandardModules.{has_operator}
+use Rattle.module_text.specs.Walk.{walk}
+use Rattle.module_text.specs.FileParts.{title}
+use Rattle.module_text.specs.AlgorithmText.{AlgorithmText, algorithm_in, algorithm_tokens}
+use Rattle.module_text.specs.FileOffences.{file_offences}
+use Rattle.first_path.specs.Beside.{Beside, beside}
 
 -- a number, or the algorithm's variable
 pub data Operand : Type 0 where
