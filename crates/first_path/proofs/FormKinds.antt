@@ -53,7 +53,7 @@ end_stands : {A : Type 0} (ks : List Kind) (o : Option A) (r : A) → on_end ks 
 end_stands [] o r e = (refl, e)
 end_stands (k ∷ ks) o r e = absurd cc
 
-word_stands : {A C : Type 0} (w : Word) (ks : List Kind) (go : List Kind → Option A) (r : A) → on_word w ks go ≡ Some r
+pub word_stands : {A C : Type 0} (w : Word) (ks : List Kind) (go : List Kind → Option A) (r : A) → on_word w ks go ≡ Some r
     → ((more : List Kind) → ks ≡ name w ∷ more → go more ≡ Some r → C) → C
 word_stands w (name v ∷ more) go r e then =
     let s = so (bytes_eq v w) (go more) r e in

@@ -1,5 +1,6 @@
 -- Worked examples of the form that is translated so far, by computation.
-use Rattle.std.specs.Prelude.{◌≡◌, ◌++◌, false, List, [], ◌∷◌, Some, None, codes, ℕ}
+use Rattle.std.specs.Prelude.{◌≡◌, ◌++◌, false, List, [], ◌∷◌, Some, codes, ℕ}
+use Rattle.std.specs.Fmt.{digits}
 use Rattle.std.proofs.Common.{refl}
 use Rattle.tla_token.specs.declared.rule.Rule.TheVariants.{NotAscii, OpenComment, NoModule, NoAlgorithm, TwoAlgorithms, BadRegion, Placement, Options, LeftOutWord}
 use Rattle.tla_token.specs.Offences.{least}
@@ -7,9 +8,9 @@ use Rattle.module_text.specs.Walk.{walk}
 use Rattle.first_path.specs.Beside.{beside}
 use Rattle.first_path.specs.Form.{number_operand, variable_operand, Right, single, sum, Parts}
 use Rattle.promise.specs.Translates.{Translates}
-use Rattle.first_path.specs.FormRead.{form_of, splitting_offences, form_offences}
+use Rattle.first_path.specs.FormRead.{form_of, form_offences}
 use Rattle.first_path.specs.Placed.{Places, algorithm_at, translation_of}
-use Rattle.first_path.specs.Worked.{worked_text, worked_parts, full_text, full_parts, full_translation}
+use Rattle.first_path.specs.Worked.{worked_parts, full_text, full_parts, full_translation}
 
 -- ---- the algorithm
 
@@ -32,7 +33,7 @@ constant : form_of (module_with (codes "x := 7;")) ≡ Some (parts_with (single 
 constant = refl
 
 -- comments and line ends between its tokens
-commented : form_of (module_with (codes "x \\* it (* counts *) *)\n := (* by *)\r\n\tx + 1;")) ≡ Some increment
+commented : form_of (module_with (codes "x \\* it counts\n := (* by (* one *) *)\r\n\tx + 1;")) ≡ Some increment
 commented = refl
 
 no_offence : form_offences (module_with (codes "x := x;")) ≡ []
@@ -89,6 +90,7 @@ full_form : form_of full_text ≡ Some full_parts
 full_form = refl
 
 full_written : translation_of full_text full_parts ≡ full_translation
+unfolding digits
 full_written = refl
 
 -- with its translation it has the form too, and is translated to itself
@@ -96,6 +98,7 @@ again : form_of full_translation ≡ Some full_parts
 again = refl
 
 written_again : translation_of full_translation full_parts ≡ full_translation
+unfolding digits
 written_again = refl
 
 no_header : least (form_offences (codes "EXTENDS Integers\n")) ≡ Some (NoModule, 17)
@@ -104,19 +107,19 @@ no_header = refl
 no_algorithm : least (form_offences (codes "---- MODULE M ----\n====\n")) ≡ Some (NoAlgorithm, 19)
 no_algorithm = refl
 
-two_algorithms : least (form_offences (module_beside (codes "EXTENDS Integers\n") (algorithm_with (codes "skip;")))) ≡ Some (TwoAlgorithms, 130)
+two_algorithms : least (form_offences (module_beside (codes "EXTENDS Integers\n") (algorithm_with (codes "skip;")))) ≡ Some (TwoAlgorithms, 115)
 two_algorithms = refl
 
 no_ascii : least (form_offences (module_beside (233 ∷ []) [])) ≡ Some (NotAscii, 19)
 no_ascii = refl
 
-open_comment : least (form_offences (module_beside [] (codes "(*\n"))) ≡ Some (OpenComment, 105)
+open_comment : least (form_offences (module_beside [] (codes "(*\n"))) ≡ Some (OpenComment, 95)
 open_comment = refl
 
 bad_region : least (form_offences (module_beside (codes "\\* END TRANSLATION\n") [])) ≡ Some (BadRegion, 19)
 bad_region = refl
 
-placement : least (form_offences (module_beside [] (codes "+ 1\n"))) ≡ Some (Placement, 105)
+placement : least (form_offences (module_beside [] (codes "+ 1\n"))) ≡ Some (Placement, 95)
 placement = refl
 
 options : least (form_offences (module_beside (codes "\\* PlusCal options (wf)\n") [])) ≡ Some (Options, 22)

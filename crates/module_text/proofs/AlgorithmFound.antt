@@ -1,23 +1,23 @@
 -- The stretch of a file's algorithm has the tokens that the walk gives.
-use Rattle.std.proofs.Common.{◌≡◌, ℕ, suc, ◌+◌, ◌-◌, Bool, true, false, ◌||◌, nat_eq, List, [], ◌∷◌, ◌++◌, length, map, take, drop, Option, Some, None, refl, sym, ap, subst, ◌∙◌, codes, arith, append_assoc, length-append, find}
+use Rattle.std.proofs.Common.{◌≡◌, ℕ, suc, ◌+◌, ◌-◌, Bool, true, false, List, [], ◌∷◌, ◌++◌, length, map, drop, Some, refl, sym, ap, subst, ◌∙◌, codes, arith, append_assoc, length-append}
 use Rattle.std.specs.Prelude.{if◌then◌else◌, is_some}
-use Rattle.std.specs.List.{list_all, starts_with}
-use Rattle.std.proofs.lemmas.Bool.{and_parts, and_from, eqb-true, both_ways}
+use Rattle.std.specs.List.{list_all}
+use Rattle.std.proofs.lemmas.Bool.{and_parts, and_from}
 use Rattle.std.proofs.lemmas.Option.{none-some, same_Some}
 use Rattle.std.proofs.Math.Seq.{take-append_seam, drop-append_seam}
 use Rattle.tla_token.specs.declared.place.Place.{Place}
 use Rattle.tla_token.specs.Places.{place_at, after}
 use Rattle.tla_token.specs.Signs.{is_among}
-use Rattle.tla_token.specs.Lexemes.{Kind, name, is_blank}
-use Rattle.tla_token.specs.Tokens.{Token, Piece, blank, block, line, lexeme, bytes_of, text_of, is_pair, Closes, stretch, Tok, tokens_of, openings, is_unmarked, TokAlgorithm}
-use Rattle.tla_token.specs.Offences.{Part, sound, stray, bad_string, open_string, open_block}
+use Rattle.tla_token.specs.Lexemes.{name, is_blank}
+use Rattle.tla_token.specs.Tokens.{Piece, blank, block, line, lexeme, bytes_of, text_of, stretch, tokens_of, openings, is_unmarked, TokAlgorithm}
+use Rattle.tla_token.specs.Offences.{sound}
 use Rattle.tla_token.specs.Cut.{pieces}
 use Rattle.tla_token.proofs.Spelled.{begins_is, begins_from}
-use Rattle.module_text.specs.TextFront.{Text, begins, on_some, past_all, first_is, past_word, past_blanks, past_name}
-use Rattle.module_text.specs.Beginnings.{is_fair, opening, past_opening, begins_algorithm, index_if, all_at}
+use Rattle.module_text.specs.TextFront.{Text, begins, past_all, past_word}
+use Rattle.module_text.specs.Beginnings.{is_fair, opening, begins_algorithm, all_at}
 use Rattle.module_text.specs.FileParts.{first_of}
 use Rattle.module_text.specs.AlgorithmText.{head, Inside, inside, AlgorithmText, algorithm_at, algorithm_tokens}
-use Rattle.module_text.proofs.AlgorithmTokens.{Ends, are_plain, plain_piece, Cut, cut_inside}
+use Rattle.module_text.proofs.AlgorithmTokens.{Ends, are_plain, plain_piece, cut_inside}
 
 -- ---- where it begins
 
@@ -50,7 +50,7 @@ first_at p k n (b ∷ u) e = by (p (b ∷ u)) refl (first_at p (suc k) n u)
 
 -- ---- its first word
 
-past_all_more : (f : ℕ → Bool) (v r : Text) (c : ℕ) (m : Text) → past_all f v ≡ c ∷ m → past_all f (v ++ r) ≡ c ∷ (m ++ r)
+pub past_all_more : (f : ℕ → Bool) (v r : Text) (c : ℕ) (m : Text) → past_all f v ≡ c ∷ m → past_all f (v ++ r) ≡ c ∷ (m ++ r)
 past_all_more f [] r c m e = absurd cc
 past_all_more f (b ∷ v) r c m e = by (f b) refl (past_all_more f v r c m)
   where
@@ -143,7 +143,7 @@ plain_tokens p at (lexeme k bytes ∷ ps) h =
     let c = and_parts (plain_piece (lexeme k bytes)) (list_all plain_piece ps) h in
     and_from (plain_piece (lexeme k bytes)) (list_all is_unmarked (tokens_of (after p bytes) (at + length bytes) ps)) c.0 (plain_tokens (after p bytes) (at + length bytes) ps c.1)
 
-stretch_is : (w a b c : List ℕ) (from to : ℕ) → w ≡ a ++ (b ++ c) → from ≡ length a → to ≡ length a + length b → stretch w from to ≡ b
+pub stretch_is : (w a b c : List ℕ) (from to : ℕ) → w ≡ a ++ (b ++ c) → from ≡ length a → to ≡ length a + length b → stretch w from to ≡ b
 stretch_is w a b c from to e f g =
     let n : to - from ≡ length b = omega arith in
     rw (n, f, e, drop-append_seam a (b ++ c)) (take-append_seam b c)

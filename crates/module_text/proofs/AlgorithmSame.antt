@@ -12,7 +12,7 @@ use Rattle.module_text.specs.Beginnings.{is_fair, opening, begins_algorithm, all
 use Rattle.module_text.specs.ModuleParts.{kind_in}
 use Rattle.module_text.specs.Walk.{Segment, Located, walk, at_start}
 use Rattle.module_text.specs.FileParts.{within, beginnings_in, first_of, holds_algorithm, before_first, after_first}
-use Rattle.module_text.specs.AlgorithmText.{Stage, head, is_past, after_part, IndexedPart, Inside, with_part, inner_part, inside, AlgorithmText, algorithm_at, algorithm_in}
+use Rattle.module_text.specs.AlgorithmText.{Stage, head, is_past, after_part, Inside, with_part, inner_part, inside, AlgorithmText, algorithm_at, algorithm_in}
 use Rattle.module_text.specs.FileOffences.{offences_of, algorithm_offences}
 use Rattle.module_text.specs.WithTranslation.{WithTranslation}
 use Rattle.module_text.specs.laws.Walks.{IsInside, made, located, after_all, Moved}
@@ -59,7 +59,7 @@ over_part n b v r p f next =
     sum n k l e = omega arith
 
 -- at the first part
-opened_at : (st : Stage) (n b : ℕ) (v r : Text) (p : Piece) (f : Found p b v) → is_past st ≡ false → part_at b v ≡ sound p
+pub opened_at : (st : Stage) (n b : ℕ) (v r : Text) (p : Piece) (f : Found p b v) → is_past st ≡ false → part_at b v ≡ sound p
     → inside st n 0 (suc (length v)) (b ∷ (v ++ r)) ≡ with_part (n, sound p) (inside (after_part st (kind_in (sound p))) (n + length (bytes_of p)) 0 (length f.rest) (f.rest ++ r))
 opened_at st n b v r p f past e =
     ap (λ (k : Bool). if k then record { parts = []; stage = st; to = n } else cut_by (inner_part (length v) b (v ++ r))) past
@@ -113,7 +113,7 @@ same_within (suc fuel) st n m (b ∷ v) r s l h e = by (is_past st) refl (λ st 
 -- ---- the comment in the other file
 
 -- where it begins in another place
-begins_there : (p : Text → Bool) (k l n : ℕ) (u : Text) → first_of (all_at p k u) ≡ Some n → (i : ℕ) × (n ≡ k + i) × (first_of (all_at p l u) ≡ Some (l + i))
+pub begins_there : (p : Text → Bool) (k l n : ℕ) (u : Text) → first_of (all_at p k u) ≡ Some n → (i : ℕ) × (n ≡ k + i) × (first_of (all_at p l u) ≡ Some (l + i))
 begins_there p k l n [] e = absurd (none-some n e)
 begins_there p k l n (b ∷ u) e = by (p (b ∷ u)) refl (begins_there p (suc k) (suc l) n u)
   where
@@ -136,14 +136,14 @@ begins_there p k l n (b ∷ u) e = by (p (b ∷ u)) refl (begins_there p (suc k)
         later : p (b ∷ u) ≡ false → (i : ℕ) → first_of (all_at p (suc l) u) ≡ Some (suc l + i) → first_of (all_at p l (b ∷ u)) ≡ Some (l + suc i)
         later t i g = rw t (g ∙ ap Some (further (suc l + i) l i refl))
 
-rest_same : (u v s t : Text) → u ++ v ≡ s ++ t → length u ≡ length s → v ≡ t
+pub rest_same : (u v s t : Text) → u ++ v ≡ s ++ t → length u ≡ length s → v ≡ t
 rest_same u v s t e n = sym (drop-append_seam u v) ∙ ap (drop (length u)) e ∙ ap (λ (k : ℕ). drop k (s ++ t)) n ∙ drop-append_seam s t
 
-abbrev at_comment : Text → Located → ℕ → AlgorithmText
+abbrev pub at_comment : Text → Located → ℕ → AlgorithmText
 at_comment x d n = algorithm_at n (d.at + 2 + length (within d.is) - n) (drop n x)
 
 -- the algorithm of one comment in two files
-same_comment : (x w : Text) (c d : Located) (n m : ℕ) → Placed x c n → Placed w d m → c.is ≡ d.is → (i : ℕ) → n ≡ c.at + 2 + i → m ≡ d.at + 2 + i
+pub same_comment : (x w : Text) (c d : Located) (n m : ℕ) → Placed x c n → Placed w d m → c.is ≡ d.is → (i : ℕ) → n ≡ c.at + 2 + i → m ≡ d.at + 2 + i
     → are_plain (at_comment x c n).rest.parts ≡ true → SameAlgorithm (at_comment x c n) (at_comment w d m)
 same_comment x w c d n m q s is i e f plain =
     let size : length q.u ≡ length s.u = equal c.at d.at n m i (length q.u) (length s.u) q.at s.at e f in
@@ -165,12 +165,12 @@ same_comment x w c d n m q s is i e f plain =
 
 -- ---- the comment is found
 
-record There (ds : List Located) (d : Located) : Type 0 where
-  there : Located
-  found : find holds_algorithm ds ≡ Some there
-  is : d.is ≡ there.is
+pub record There (ds : List Located) (d : Located) : Type 0 where
+  pub there : Located
+  pub found : find holds_algorithm ds ≡ Some there
+  pub is : d.is ≡ there.is
 
-moved_there : (i j m n : ℕ) (ds es : List Located) (d : Located) → Moved i j m n ds es → find holds_algorithm ds ≡ Some d → There es d
+pub moved_there : (i j m n : ℕ) (ds es : List Located) (d : Located) → Moved i j m n ds es → find holds_algorithm ds ≡ Some d → There es d
 moved_there i j m n [] es d h e = absurd (none-some d e)
 moved_there i j m n (c ∷ ds) [] d h e = absurd h
 moved_there i j m n (c ∷ ds) (b ∷ es) d h e = by (holds_algorithm c) refl (moved_there i j m n ds es d h.2)
@@ -205,7 +205,7 @@ moved_there i j m n (c ∷ ds) (b ∷ es) d h e = by (holds_algorithm c) refl (m
         next_held b es t = rw t refl
 
 -- among the first, or among what is after them
-found_there : (front rest es : List Located) (d : Located) → find holds_algorithm (front ++ rest) ≡ Some d → (find holds_algorithm rest ≡ Some d → There es d) → There (front ++ es) d
+pub found_there : (front rest es : List Located) (d : Located) → find holds_algorithm (front ++ rest) ≡ Some d → (find holds_algorithm rest ≡ Some d → There es d) → There (front ++ es) d
 found_there [] rest es d e h = h e
 found_there (c ∷ front) rest es d e h = by (holds_algorithm c) refl (found_there front rest es d)
   where

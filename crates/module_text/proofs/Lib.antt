@@ -14,6 +14,7 @@ mod RowsProcesses
 mod RowsOutside
 mod RowsReading
 mod RowsFiles
+mod RowsUnits
 pub mod WalkLines
 pub mod WalkWhole
 pub mod WalkResumed
@@ -31,3 +32,10 @@ pub mod AlgorithmTokens
 pub mod AlgorithmFound
 pub mod AlgorithmIsCut
 pub mod AlgorithmSame
+pub mod ReadOutside
+pub mod SomeOutside
+pub mod OutsideAlike
+pub mod ModuleKept
+pub mod AlgorithmRow
+pub mod OptionsKept
+pub mod FineKept

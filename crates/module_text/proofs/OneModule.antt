@@ -1,5 +1,5 @@
 -- A text reads as one module at most.
-use Rattle.std.proofs.Common.{◌≡◌, ℕ, true, false, List, ◌++◌, [], ◌∷◌, flat_map, Option, Some, None, subst, refl, sym, ap, ◌∙◌}
+use Rattle.std.proofs.Common.{◌≡◌, ℕ, true, false, List, ◌++◌, [], ◌∷◌, flat_map, subst, refl, sym, ap, ◌∙◌}
 use Rattle.std.proofs.lemmas.List.{append-nil}
 use Rattle.std.proofs.lemmas.Option.{same_Some}
 use Rattle.tla_expr.specs.Tree.{Name, words}
@@ -27,18 +27,18 @@ one_units (ts ∷ tss) (u ∷ us) (v ∷ vs) h k =
     λ i. d i ∷ more i
 
 -- what units see of all units
-abbrev sight_of : List OutsideUnit → Sight
+abbrev pub sight_of : List OutsideUnit → Sight
 sight_of us = record { modules = words (flat_map modules_of us); constants = words (flat_map constants_of us); earlier = [] }
 
-alone : (f : OutsideUnit → List Name) (us xs : List OutsideUnit) → flat_map f (us ++ []) ≡ flat_map f (xs ++ []) → flat_map f us ≡ flat_map f xs
+pub alone : (f : OutsideUnit → List Name) (us xs : List OutsideUnit) → flat_map f (us ++ []) ≡ flat_map f (xs ++ []) → flat_map f us ≡ flat_map f xs
 alone f us xs h = sym (ap (flat_map f) (append-nil us)) ∙ h ∙ ap (flat_map f) (append-nil xs)
 
 -- units before and after the translation, each list in the sight of both
-record Both (front back : List (List Token)) (us xs : List OutsideUnit) : Type 0 where
-  before : AllOutside true (sight_of (us ++ xs)) front us
-  after : AllOutside false (sight_of (us ++ xs)) back xs
+pub record Both (front back : List (List Token)) (us xs : List OutsideUnit) : Type 0 where
+  pub before : AllOutside true (sight_of (us ++ xs)) front us
+  pub after : AllOutside false (sight_of (us ++ xs)) back xs
 
-same_outside : (front back : List (List Token)) (us xs vs ys : List OutsideUnit) → Both front back us xs → Both front back vs ys
+pub same_outside : (front back : List (List Token)) (us xs vs ys : List OutsideUnit) → Both front back us xs → Both front back vs ys
     → us ++ xs ≡ vs ++ ys
 same_outside front back us xs vs ys h k =
     let after = all_declared false (sight_of (us ++ xs)) (sight_of (vs ++ ys)) back xs ys h.after k.after [] [] refl refl in

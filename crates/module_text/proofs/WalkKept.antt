@@ -1,27 +1,26 @@
 -- A file that is not refused has a place for a translation, and with one it keeps its title, its units before and after, and breaks no rule by a segment.
-use Rattle.std.proofs.Common.{◌≡◌, ℕ, ◌+◌, ◌-◌, Bool, true, false, not, ◌&&◌, ◌||◌, nat_eq, List, [], ◌∷◌, ◌++◌, length, take, drop, Option, Some, None, refl, sym, ap, subst, ◌∙◌, arith, codes, append_assoc, append-nil, length-append, find}
+use Rattle.std.proofs.Common.{◌≡◌, ◌⊎◌, inl, inr, ℕ, ◌+◌, Bool, true, false, not, nat_eq, List, [], ◌∷◌, ◌++◌, length, take, drop, Option, Some, None, refl, sym, ap, subst, ◌∙◌, arith, codes, append_assoc, length-append, find}
 use Rattle.std.specs.Prelude.{if◌then◌else◌, is_some}
-use Rattle.std.specs.List.{list_all, list_any}
+use Rattle.std.specs.List.{list_any, flat_map}
 use Rattle.std.proofs.lemmas.Bool.{and_parts, and_from, not-true, eqb-true, both_ways, or_right}
 use Rattle.std.proofs.lemmas.Option.{none-some, same_Some}
 use Rattle.std.proofs.Math.Seq.{take-append_seam, drop-append_seam}
-use Rattle.tla_token.specs.declared.rule.Rule.TheVariants.{Placement, NoModule, NoAlgorithm}
+use Rattle.tla_token.specs.declared.rule.Rule.TheVariants.{Placement}
 use Rattle.tla_token.specs.Tokens.{blank}
-use Rattle.tla_token.specs.Offences.{Part, sound, stray, bad_string, open_string, open_block, Offence}
+use Rattle.tla_token.specs.Offences.{sound}
 use Rattle.module_text.specs.TextFront.{Text, on_some}
 use Rattle.module_text.specs.Beginnings.{begins_algorithm, all_at}
-use Rattle.module_text.specs.Walk.{Segment, free, header, part, region, mark, inner, tail, bytes, is_header_line, is_region, is_tail, State, after_segment, Located, walk_from, walk, at_start}
-use Rattle.module_text.specs.FileParts.{up_to_first, after_first, before_first, first_that, module_end, within, beginnings_in, beginnings, first_of, holds_algorithm, after_comment, Span, span_of, region_of, is_newline, insertion, spot, before_spot, after_spot}
+use Rattle.module_text.specs.Walk.{Segment, free, header, part, region, mark, inner, tail, bytes, is_region, is_tail, State, after_segment, Located, walk, at_start}
+use Rattle.module_text.specs.FileParts.{up_to_first, after_first, before_first, first_that, module_end, within, beginnings_in, beginnings, first_of, holds_algorithm, after_comment, Span, span_of, region_of, is_newline, spot, before_spot, after_spot}
 use Rattle.module_text.specs.FileUnits.{tokens_in}
 use Rattle.module_text.specs.AlgorithmText.{algorithm_of}
-use Rattle.module_text.specs.FileOffences.{segment_offences, offences_of, algorithm_offences, no_module, no_algorithm, second_algorithms, rest_of_line, no_unit, placements, outside_region, options_in, file_offences}
+use Rattle.module_text.specs.FileOffences.{segment_offences, offences_of, algorithm_offences, no_module, no_algorithm, second_algorithms, rest_of_line, no_unit, placements, outside_region, options_in}
 use Rattle.module_text.specs.WithTranslation.{begin_line, end_line, WithTranslation}
-use Rattle.module_text.specs.laws.Walks.{text_of, is_lined, is_calm, are_calm, after_all, IsOpen, IsInside, made, located, newline_segment, are_common, Put}
-use Rattle.module_text.specs.laws.Kept.{IsFine, IsPut}
-use Rattle.module_text.proofs.WalkResumed.{lined_end}
+use Rattle.module_text.specs.laws.Walks.{text_of, is_lined, are_calm, after_all, IsOpen, IsInside, newline_segment, are_common, Put}
+use Rattle.module_text.specs.laws.Kept.{IsFine}
 use Rattle.module_text.proofs.WalkAround.{suffixed, after_region, inserted, replaced}
 use Rattle.module_text.proofs.WalkAgain.{at_after}
-use Rattle.module_text.proofs.WalkPlace.{both_empty, up_to_whole, before_whole, none_such, before_none, none_found, none_parts, text_append, after_append, offences_append, fine_calm, fine_common, tails_last, walk_tails, has_tail, before_tail, tail_after, is_part, part_headed, none_marked, Met, met, region_met, open_lined}
+use Rattle.module_text.proofs.WalkPlace.{both_empty, up_to_whole, before_whole, none_such, before_none, none_found, none_parts, text_append, after_append, offences_append, fine_calm, fine_common, tails_last, walk_tails, has_tail, before_tail, tail_after, is_part, part_headed, none_marked, met, region_met, open_lined}
 
 -- ---- what a file that is not refused has
 
@@ -30,8 +29,11 @@ pub record Sound (x : Text) : Type 0 where
   pub ends : has_tail (walk x) ≡ true
   pub begun : beginnings (walk x) ≡ [] → ⊥
   pub placed : placements (walk x) ≡ []
+  pub algorithm : algorithm_offences (algorithm_of x (walk x)) ≡ []
+  pub second : second_algorithms (algorithm_of x (walk x)) (beginnings (walk x)) ≡ []
+  pub options : flat_map (options_in x) (outside_region x (walk x)) ≡ []
 
-sound_file : (x : Text) → IsFine x → Sound x
+pub sound_file : (x : Text) → IsFine x → Sound x
 sound_file x f =
     let ds = walk x in
     let a = algorithm_of x ds in
@@ -42,7 +44,7 @@ sound_file x f =
     let s = both_empty (second_algorithms a (beginnings ds)) _ r.1 in
     let t = both_empty (placements ds) _ s.1 in
     let ends = some_end (first_that is_tail ds) q.0 in
-    record { fine = o.0; ends = ends; begun = some_begin (first_that is_tail ds) (beginnings ds) ends r.0; placed = t.0 }
+    record { fine = o.0; ends = ends; begun = some_begin (first_that is_tail ds) (beginnings ds) ends r.0; placed = t.0; algorithm = p.0; second = s.0; options = t.1 }
   where
     some_end : (e : Option Located) → no_module x (on_some e (λ d. Some d.at)) ≡ [] → is_some e ≡ true
     some_end (Some d) h = refl
@@ -173,6 +175,12 @@ line_ends (d ∷ ds) h e = by (is_newline d) refl (line_ends ds)
 abbrev pub IsWritten : List Located → List Located → Text → Text → Text → Type 0
 IsWritten front back c t w = (w ≡ text_of front ++ (begin_line ++ (t ++ (end_line ++ 10 ∷ c)))) × Put front back t (10 ∷ c)
 
+-- what is between the segments before it and after it: nothing, or the old region and its newline
+abbrev pub Shape : Text → List Located → List Located → Type 0
+Shape x front back =
+    ((region_of (walk x) ≡ None) × (walk x ≡ front ++ back))
+    ⊎ ((old : Located) × (here : Located) × (region_of (walk x) ≡ Some old) × (is_tail old.is ≡ false) × (here.is ≡ newline_segment) × (walk x ≡ front ++ old ∷ here ∷ back))
+
 -- the segments before it and after it, and the text with a translation there
 pub record HasPlace (x : Text) : Type 0 where
   pub front : List Located
@@ -187,6 +195,7 @@ pub record HasPlace (x : Text) : Type 0 where
   pub rest : List Located
   pub whole : walk x ≡ front ++ rest
   pub found : find holds_algorithm rest ≡ find holds_algorithm back
+  pub shape : Shape x front back
   pub rest_text : Text
   pub written : (t w : Text) → IsInside t → WithTranslation x t w → IsWritten front back rest_text t w
 
@@ -218,6 +227,7 @@ new_place x f none =
       rest = back;
       whole = sym whole;
       found = refl;
+      shape = inl (none, sym whole);
       rest_text = drop (line.end.at + 1) x;
       written = λ t w i a.
           (let p = inserted x t front back (sym whole) lined calm opened i common in
@@ -415,6 +425,7 @@ old_place x f old some = by (after_first (λ d. is_region d.is) (walk x)) refl (
           rest = old ∷ here ∷ es;
           whole = walked;
           found = none_held old here es (ap (within) is) (ap (within) new);
+          shape = inr (old, here, some, old_tail, new, walked);
           rest_text = drop 1 (drop (old.at + length (bytes old.is)) x);
           written = λ t u i a.
               (let p = replaced x t v w front es old here walked is lined calm opened i in
@@ -446,3 +457,17 @@ has_place x f = by (region_of (walk x)) refl
     by : (o : Option Located) → region_of (walk x) ≡ o → HasPlace x
     by None e = new_place x (sound_file x f) e
     by (Some old) e = old_place x (sound_file x f) old e
+
+-- where a translation goes
+pub has_spot : (x : Text) → IsFine x → (at : Span) × (spot (walk x) ≡ Some at)
+has_spot x f = by (region_of (walk x)) refl
+  where
+    by : (o : Option Located) → region_of (walk x) ≡ o → (at : Span) × (spot (walk x) ≡ Some at)
+    by None e =
+        let s = sound_file x f in
+        let comment = commented (walk x) (walk_tails x) s.ends s.begun in
+        let rest = rest_of_line (after_comment (walk x)) in
+        let placed : rest ++ no_unit (after_first is_newline (after_comment (walk x))) ≡ [] = (let p = s.placed in rw e at p) in
+        let line = line_ends (after_comment (walk x)) (both_empty rest (no_unit (after_first is_newline (after_comment (walk x)))) placed).0 comment.ends in
+        (record { from = line.end.at + 1; to = line.end.at + 1 }, rw (e, line.found) refl)
+    by (Some old) e = (span_of old, rw e refl)

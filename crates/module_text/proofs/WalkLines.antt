@@ -1,5 +1,5 @@
 -- What a line is does not depend on the lines after it.
-use Rattle.std.proofs.Common.{◌≡◌, ℕ, suc, ◌+◌, Bool, true, false, not, ◌||◌, nat_eq, List, [], ◌∷◌, ◌++◌, length, take, drop, Option, Some, None, refl, sym, ap, ◌∙◌, arith, codes, find}
+use Rattle.std.proofs.Common.{◌≡◌, ℕ, suc, ◌+◌, Bool, true, false, not, nat_eq, List, [], ◌∷◌, ◌++◌, length, take, drop, Option, Some, None, refl, sym, ap, ◌∙◌, arith, codes, find}
 use Rattle.std.specs.Prelude.{if◌then◌else◌}
 use Rattle.std.specs.List.{starts_with, list_all, list_any}
 use Rattle.std.proofs.lemmas.Bool.{and_parts}
@@ -212,7 +212,7 @@ worded_alike p q l =
     (λ r. on_some (past_blanks is_space r) named_by) (λ r. on_some (past_blanks is_space r) named_by)
     (λ m. on_alike p q (past_blanks is_space (m ++ 10 ∷ p)) (past_blanks is_space (m ++ 10 ∷ q)) (past_blanks_alike is_space refl p q m) named_by named_by (named_alike p q))
 
-header_title_alike : (p q l : Text) → header_title (l ++ 10 ∷ p) ≡ header_title (l ++ 10 ∷ q)
+pub header_title_alike : (p q l : Text) → header_title (l ++ 10 ∷ p) ≡ header_title (l ++ 10 ∷ q)
 header_title_alike p q l =
     on_alike p q (past_run 45 (past_all is_space (l ++ 10 ∷ p))) (past_run 45 (past_all is_space (l ++ 10 ∷ q))) (dashed_alike p q l) worded_by worded_by (worded_alike p q)
 

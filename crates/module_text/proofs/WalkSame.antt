@@ -2,21 +2,20 @@
 use Rattle.std.proofs.Common.{◌≡◌, ℕ, ◌+◌, Bool, true, false, not, ◌&&◌, ◌||◌, List, [], ◌∷◌, ◌++◌, Option, Some, None, refl, sym, ap, subst, ◌∙◌}
 use Rattle.std.specs.Prelude.{if◌then◌else◌, is_some, option_map, nat_le}
 use Rattle.std.proofs.lemmas.Bool.{and_parts, not-true}
-use Rattle.std.proofs.lemmas.Option.{none-some}
 use Rattle.tla_token.specs.declared.rule.Rule.{Rule}
-use Rattle.tla_token.specs.declared.rule.Rule.TheVariants.{NotAscii, BadToken, OpenString}
-use Rattle.tla_token.specs.Lexemes.{Kind}
-use Rattle.tla_token.specs.Tokens.{Token, holds_mark}
-use Rattle.tla_token.specs.Offences.{Part, sound, stray, bad_string, open_string, open_block, is_stray, has_bad_escape, breaks_string, offence_if, byte_offences, part_offences}
+use Rattle.tla_token.specs.declared.rule.Rule.TheVariants.{NotAscii, BadToken, OpenString, NumberTooBig}
+use Rattle.tla_token.specs.Limits.{past_numbers}
+use Rattle.tla_token.specs.Lexemes.{Kind, number, string}
+use Rattle.tla_token.specs.Tokens.{lexeme, holds_mark}
+use Rattle.tla_token.specs.Offences.{Part, sound, stray, bad_string, open_string, open_block, is_stray, has_bad_escape, breaks_string, offence_if, byte_offences, kind_offences, part_offences}
 use Rattle.std.specs.List.{list_any}
-use Rattle.tla_token.proofs.Faulty.{sound_fine}
 use Rattle.module_text.specs.TextFront.{Text, on_some}
 use Rattle.module_text.specs.HeaderAndRegion.{header_title}
-use Rattle.module_text.specs.Walk.{Segment, free, header, part, region, mark, inner, tail, bytes, is_header_line, is_region, is_tail, State, Located, walk, at_start}
+use Rattle.module_text.specs.Walk.{Segment, free, header, part, region, mark, inner, tail, bytes, is_header_line, is_region, is_tail, Located, walk, at_start}
 use Rattle.module_text.specs.FileParts.{before_first, after_first, first_that, title, module_end, region_of, before_spot, after_spot}
-use Rattle.module_text.specs.FileUnits.{kind_of_segment, token_in, with_token, tokens_in}
+use Rattle.module_text.specs.FileUnits.{kind_of_segment, with_token, tokens_in}
 use Rattle.module_text.specs.FileOffences.{segment_offences, offences_of}
-use Rattle.module_text.specs.WithTranslation.{begin_line, end_line, WithTranslation}
+use Rattle.module_text.specs.WithTranslation.{WithTranslation}
 use Rattle.module_text.specs.laws.Walks.{text_of, after_all, IsInside, made, located, newline_segment, Moved, Put}
 use Rattle.module_text.specs.laws.Kept.{IsFine, looks, KeepsFile, IsPut}
 use Rattle.module_text.proofs.WalkAgain.{found_after, again}
@@ -26,7 +25,7 @@ use Rattle.module_text.proofs.WalkKept.{HasPlace, has_place}
 -- ---- lists
 
 -- what is found among the first is found
-first_kept : (q : Segment → Bool) (ds es : List Located) → is_some (first_that q ds) ≡ true → first_that q (ds ++ es) ≡ first_that q ds
+pub first_kept : (q : Segment → Bool) (ds es : List Located) → is_some (first_that q ds) ≡ true → first_that q (ds ++ es) ≡ first_that q ds
 first_kept q [] es h = absurd cc
 first_kept q (d ∷ ds) es h = by (q d.is) refl (first_kept q ds es)
   where
@@ -82,21 +81,27 @@ bytes_anywhere at to (b ∷ bs) e =
     let o = both_empty (offence_if (is_stray b) r at) (byte_offences (at + 1) bs) e in
     rw (if_anywhere (is_stray b) r at to o.0) (bytes_anywhere (at + 1) (to + 1) bs o.1)
 
-part_anywhere : (at to : ℕ) (p : Part) → part_offences false at p ≡ [] → part_offences false to p ≡ []
-part_anywhere at to (sound p) e = sound_fine to p
-part_anywhere at to (stray b) e = bytes_anywhere at to (b ∷ []) e
-part_anywhere at to (bad_string raw) e =
-    let k = has_bad_escape raw || (false && holds_mark raw) in
+kind_anywhere : (in_algorithm : Bool) (at to : ℕ) (k : Kind) → kind_offences in_algorithm at k ≡ [] → kind_offences in_algorithm to k ≡ []
+kind_anywhere a at to (number n) e = if_anywhere (a && nat_le past_numbers n) NumberTooBig at to e
+kind_anywhere a at to (string w) e = if_anywhere (a && holds_mark w) BadToken at to e
+kind_anywhere a at to k e = refl
+
+pub part_anywhere : (in_algorithm : Bool) (at to : ℕ) (p : Part) → part_offences in_algorithm at p ≡ [] → part_offences in_algorithm to p ≡ []
+part_anywhere a at to (sound (lexeme k bytes)) e = kind_anywhere a at to k e
+part_anywhere a at to (sound p) e = refl
+part_anywhere a at to (stray b) e = bytes_anywhere at to (b ∷ []) e
+part_anywhere a at to (bad_string raw) e =
+    let k = has_bad_escape raw || (a && holds_mark raw) in
     let o = both_empty (offence_if k BadToken at) (offence_if (list_any breaks_string raw) OpenString at ++ byte_offences (at + 1) raw) e in
     let p = both_empty (offence_if (list_any breaks_string raw) OpenString at) (byte_offences (at + 1) raw) o.1 in
     rw (if_anywhere k BadToken at to o.0, if_anywhere (list_any breaks_string raw) OpenString at to p.0) (bytes_anywhere (at + 1) (to + 1) raw p.1)
-part_anywhere at to (open_string raw) e = absurd cc
-part_anywhere at to (open_block body) e = absurd cc
+part_anywhere a at to (open_string raw) e = absurd cc
+part_anywhere a at to (open_block body) e = absurd cc
 
 segment_anywhere : (at to : ℕ) (g : Segment) → segment_offences at g ≡ [] → segment_offences to g ≡ []
 segment_anywhere at to (free w) e = refl
 segment_anywhere at to (header w) e = refl
-segment_anywhere at to (part p) e = part_anywhere at to p e
+segment_anywhere at to (part p) e = part_anywhere false at to p e
 segment_anywhere at to (region v w) e = refl
 segment_anywhere at to (mark w) e = absurd cc
 segment_anywhere at to (inner w) e = absurd cc
@@ -111,7 +116,7 @@ moved_fine i j m n (d ∷ ds) (c ∷ es) h e =
     let here : segment_offences c.at c.is ≡ [] = ap (segment_offences c.at) (sym h.0) ∙ segment_anywhere d.at c.at d.is o.0 in
     rw here (moved_fine i j m n ds es h.2 o.1)
 
-moved_tail : (i j m n : ℕ) (ds es : List Located) → Moved i j m n ds es → has_tail ds ≡ true → has_tail es ≡ true
+pub moved_tail : (i j m n : ℕ) (ds es : List Located) → Moved i j m n ds es → has_tail ds ≡ true → has_tail es ≡ true
 moved_tail i j m n [] [] h e = e
 moved_tail i j m n [] (d ∷ es) h e = absurd h
 moved_tail i j m n (d ∷ ds) [] h e = absurd h

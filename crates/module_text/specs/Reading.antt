@@ -1,11 +1,12 @@
 -- Which module a text is: its header, the units before the translation, the translation, and the units after it ("Specifying Systems", chapter 17).
-use Rattle.std.specs.Prelude.{◌≡◌, ℕ, ◌<◌, Bool, true, false, List, [], ◌∷◌, ◌++◌, Some, None, is_some}
+use Rattle.std.specs.Prelude.{◌≡◌, ◌<◌, true, false, List, [], ◌∷◌, ◌++◌, Some, None, is_some}
 use Rattle.std.specs.List.{list_any}
 use Rattle.tla_token.specs.Tokens as text
 use Rattle.tla_token.specs.Lexemes as lexeme
 use Rattle.tla_token.specs.Limits.{past_numbers}
 use Rattle.tla_expr.specs.Tree.{words}
 use Rattle.tla_expr.specs.Lexical.{Token}
+use Rattle.tla_value.specs.Outside.{Outside}
 use Rattle.module_text.specs.Module.{units_of, OutsideUnit, Module, outside_of}
 use Rattle.module_text.specs.TextFront.{Text}
 use Rattle.module_text.specs.Walk.{Located, walk}
@@ -32,8 +33,11 @@ AllSmall [] = Unit {0}
 AllSmall (t ∷ ts) = is_small t.kind × AllSmall ts
 
 -- modules and constants count wherever they are
+abbrev pub sight_in : Outside → Sight
+sight_in o = record { modules = o.extended; constants = words o.constants; earlier = [] }
+
 abbrev pub sight : Module → Sight
-sight m = record { modules = m.outside.extended; constants = words m.outside.constants; earlier = [] }
+sight m = sight_in m.outside
 
 -- these are the units of the region
 pub record ReadsRegion (region : Located) (m : Module) : Type 0 where

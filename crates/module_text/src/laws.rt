@@ -1,18 +1,23 @@
 //! Laws of modules, stated as what functions without a body ensure.
 
-ghost use Rattle.std.specs.Prelude.{◌≡◌, ◌++◌, ◌∷◌, [], ℕ, List, Some, true, false};
+ghost use Rattle.std.specs.Prelude.{◌≡◌, ◌++◌, ◌∷◌, [], ℕ, List, Some, is_some, true, false};
+ghost use Rattle.std.specs.List.{list_any};
 ghost use Rattle.tla_token.specs.Tokens.{EndsLine, TokAlgorithm};
 ghost use Rattle.tla_token.specs.declared.rule.Refusal.{Refusal};
 ghost use Rattle.module_text.specs.Module.{Region, RegionUnit, units_of, Module};
 ghost use Rattle.tla_expr.specs.Lexical.{Token};
 ghost use Rattle.module_text.specs.Units.{IsUnit};
-ghost use Rattle.module_text.specs.Reading.{Reads};
+ghost use Rattle.tla_value.specs.Outside.{Outside};
+ghost use Rattle.module_text.specs.Reading.{Reads, ReadsRegion};
+ghost use Rattle.module_text.specs.Ways.{is_terminating};
 ghost use Rattle.module_text.specs.Around.{Around, Swapped};
 ghost use Rattle.module_text.specs.FileOffences.{RefusesFile};
 ghost use Rattle.module_text.specs.TextFront.{Text};
 ghost use Rattle.module_text.specs.Walk.{State, Located, region, walk, walk_from, at_start, after_segment};
+ghost use Rattle.module_text.specs.FileParts.{before_spot};
 ghost use Rattle.module_text.specs.WithTranslation.{begin_line, end_line, WithTranslation};
 ghost use Rattle.module_text.specs.laws.Kept.{IsFine, only_large, KeepsFile, SameAlgorithm, IsPut};
+ghost use Rattle.module_text.specs.laws.Outsides.{HasOutside, AllAlike, IsModuleOf};
 ghost use Rattle.module_text.specs.AlgorithmText.{AlgorithmText, algorithm_in, algorithm_tokens};
 ghost use Rattle.module_text.specs.FileOffences.{offences_of, algorithm_offences};
 ghost use Rattle.module_text.specs.laws.Walks.{text_of, is_lined, are_calm, after_all, after_text, IsOpen, IsInside, made, located, Near, Fit, Moved, are_common, Put};
@@ -85,11 +90,12 @@ pub fn translations_are_found_again()
 
 /// A translation that is put into a file which is not refused is one segment after the file's own, and what is after it is
 /// moved. The file keeps its title, its units and its algorithm, no segment of it breaks a rule, and another translation of
-/// it is one of the file that was read.
+/// it is one of the file that was read. So it is not refused either.
 pub fn translations_keep_files()
     ensures place { (x t w : Text) → IsFine x → IsInside t → WithTranslation x t w → IsPut x t w }
     ensures kept { (x t w : Text) → IsFine x → IsInside t → WithTranslation x t w → KeepsFile x t w }
     ensures algorithm { (x t w : Text) (a : AlgorithmText) → IsFine x → IsInside t → WithTranslation x t w → algorithm_in x ≡ Some a → (b : AlgorithmText) × (algorithm_in w ≡ Some b) × SameAlgorithm a b }
+    ensures fine { (x t w : Text) → IsFine x → IsInside t → WithTranslation x t w → IsFine w }
     ensures again { (x t w v u : Text) → IsFine x → IsInside t → IsInside v → WithTranslation x t w → WithTranslation w v u → WithTranslation x v u }
 {}
 
@@ -97,4 +103,18 @@ pub fn translations_keep_files()
 /// stretch has just the tokens that the walk gives.
 pub fn algorithms_have_tokens()
     ensures { (x : Text) (a : AlgorithmText) → offences_of (walk x) ≡ [] → algorithm_in x ≡ Some a → only_large (algorithm_offences (Some a)) ≡ true → TokAlgorithm x a.from a.rest.to (algorithm_tokens x a) }
+{}
+
+/// Each file has one outside: its units before the place of the translation and after it, each read or passed on, where the
+/// modules and constants of all of them are seen.
+pub fn outsides_are_read()
+    ensures some { (ds : List Located) → (o : Outside) × HasOutside ds o }
+    ensures one { (ds : List Located) (o q : Outside) → HasOutside ds o → HasOutside ds q → o ≡ q }
+{}
+
+/// A file that is not refused is a module with each translation whose own units are read: it has the file's title, and outside
+/// the translation what the file has. The units before it are the same, and those after it are alike in other lines.
+pub fn files_with_translations_are_modules()
+    ensures outside { (x t w : Text) (o : Outside) → KeepsFile x t w → (h : HasOutside (walk x) o) → (q : Outside) × (there : HasOutside (walk w) q) × (there.before ≡ h.before) × AllAlike h.after there.after }
+    ensures reads { (x t w : Text) (o : Outside) (n : Module) → IsFine x → KeepsFile x t w → HasOutside (walk x) o → ReadsRegion (located (after_all at_start (before_spot (walk x))) (made t)) n → is_some n.region.ended ≡ list_any is_terminating n.region.next → IsModuleOf x w o n.region }
 {}

@@ -1,6 +1,7 @@
 -- Proves the law `translations_keep_files`.
 use Rattle.module_text.proofs.WalkSame.{is_put, keeps_file, put_again}
 use Rattle.module_text.proofs.AlgorithmSame.{algorithm_kept}
+use Rattle.module_text.proofs.FineKept.{fine_kept}
 use Rattle.module_text.proofs.laws.translations_keep_files.Goals as goal
 
 pub returns-clause-place : goal.returns-clause-place
@@ -14,3 +15,6 @@ returns-clause-again c = put_again
 
 pub returns-clause-algorithm : goal.returns-clause-algorithm
 returns-clause-algorithm c = algorithm_kept
+
+pub returns-clause-fine : goal.returns-clause-fine
+returns-clause-fine c = fine_kept
