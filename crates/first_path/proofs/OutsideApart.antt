@@ -11,6 +11,8 @@ use Rattle.tla_expr.specs.Tree.{Word, Name, words}
 use Rattle.tla_expr.specs.Lexical.{TokenView, Token}
 use Rattle.tla_expr.specs.Lexical as tk
 use Rattle.tla_expr.specs.Spelling.{spell, tree_of}
+use Rattle.tla_expr.specs.declared.op.Op.TheVariants.{Plus}
+use Rattle.tla_value.specs.StandardModules.{has_operator}
 use Rattle.tla_value.specs.Outside.{Opaque, ReadDefinition, Outside}
 use Rattle.pcal_tree.specs.BoundNames.{all_of, lists_in}
 use Rattle.pcal_tree.specs.Names.{taken_outside}
@@ -20,7 +22,7 @@ use Rattle.module_text.specs.Grammar.{Names, last_name, more_names, spell_names,
 use Rattle.module_text.specs.Units.{ParameterForm, spell_parameters, parameters}
 use Rattle.module_text.specs.Outside.{Sight, identifiers, opaque_of, Named, Defined, IsOutside, AllOutside}
 use Rattle.first_path.specs.Beside.{Beside, declared_by, extended_by}
-use Rattle.first_path.specs.Form.{Parts, is_apart, is_taken, suits}
+use Rattle.first_path.specs.Form.{is_sum, Parts, is_new, is_taken, suits}
 use Rattle.first_path.proofs.BoundWords.{words_append, phrase_bound}
 use Rattle.first_path.proofs.Names.{all_more}
 
@@ -251,28 +253,37 @@ pub record Apart (o : Outside) (f : Parts) : Type 0 where
   pub variable : list_all (other f.variable) (map (λ d. d.definition.title) o.definitions) ≡ true
   pub pc_free : list_all (other pc) (map (λ d. d.definition.title) o.definitions) ≡ true
 
-pub record Suited (o : Beside) (w : Word) : Type 0 where
-  pub words : is_among o.words w ≡ false
+pub record New (o : Beside) (w : Word) : Type 0 where
   pub declared : is_among o.declared w ≡ false
   pub standard : is_standard o.extended w ≡ false
 
-suited : (o : Beside) (w : Word) → is_apart o w ≡ true → Suited o w
-suited o w h =
-    let p = and_parts (not (is_among o.words w) && not (is_among o.declared w)) (not (is_standard o.extended w)) h in
-    let q = and_parts (not (is_among o.words w)) (not (is_among o.declared w)) p.0 in
-    record { words = not-true (is_among o.words w) q.0; declared = not-true (is_among o.declared w) q.1; standard = not-true (is_standard o.extended w) p.1 }
+new_name : (o : Beside) (w : Word) → is_new o w ≡ true → New o w
+new_name o w h =
+    let p = and_parts (not (is_among o.declared w)) (not (is_standard o.extended w)) h in
+    record { declared = not-true (is_among o.declared w) p.0; standard = not-true (is_standard o.extended w) p.1 }
 
-pub record SuitedParts (o : Beside) (f : Parts) : Type 0 where
-  pub variable : Suited o f.variable
-  pub label : Suited o f.label
+pub record Suited (o : Beside) (f : Parts) : Type 0 where
+  pub variable : New o f.variable
+  pub label : New o f.label
+  pub unbound : is_among o.words f.label ≡ false
   pub untaken : list_any is_taken o.declared ≡ false
 
-pub suited_parts : (o : Beside) (f : Parts) → IsTrue (suits o f) → SuitedParts o f
+pub suited_parts : (o : Beside) (f : Parts) → IsTrue (suits o f) → Suited o f
 suited_parts o f h =
-    let p = and_parts (is_apart o f.variable && is_apart o f.label && not (list_any is_taken o.declared)) _ h in
-    let q = and_parts (is_apart o f.variable && is_apart o f.label) (not (list_any is_taken o.declared)) p.0 in
-    let r = and_parts (is_apart o f.variable) (is_apart o f.label) q.0 in
-    record { variable = suited o f.variable r.0; label = suited o f.label r.1; untaken = not-true (list_any is_taken o.declared) q.1 }
+    let variable = is_new o f.variable in
+    let label = is_new o f.label in
+    let unbound = not (is_among o.words f.label) in
+    let untaken = not (list_any is_taken o.declared) in
+    let p = and_parts (variable && label && unbound && untaken) (not (is_sum f.right) || has_operator o.extended Plus) h in
+    let q = and_parts (variable && label && unbound) untaken p.0 in
+    let r = and_parts (variable && label) unbound q.0 in
+    let s = and_parts variable label r.0 in
+    record {
+      variable = new_name o f.variable s.0;
+      label = new_name o f.label s.1;
+      unbound = not-true (is_among o.words f.label) r.1;
+      untaken = not-true (list_any is_taken o.declared) q.1;
+    }
 
 -- pc is among the names of the translation
 pub no_pc : (ws : List Word) → list_any is_taken ws ≡ false → list_all (other pc) ws ≡ true
@@ -284,15 +295,14 @@ no_pc (w ∷ ws) h =
 
 -- the units before the translation, and those after it
 pub apart_outside : (f : Parts) (v : Sight) (before after : List (List Token)) (us vs : List OutsideUnit) (o : Beside) → AllOutside true v before us → AllOutside false v after vs
-    → SuitedParts o f → (flat_map declared_by before ++ flat_map declared_by after ≡ o.declared) → (flat_map extended_by before ++ flat_map extended_by after ≡ o.extended)
+    → Suited o f → (flat_map declared_by before ++ flat_map declared_by after ≡ o.declared) → (flat_map extended_by before ++ flat_map extended_by after ≡ o.extended)
     → ((P : Word → Bool) → list_all P o.words ≡ true → AllSo identifiers P before) → Apart (outside_of (us ++ vs)) f
 apart_outside f v before after us vs o a b s declared extended words =
     record {
-      label = none_other f.label (taken_outside (outside_of (us ++ vs))) (taken_so (other f.label) (outside_of (us ++ vs)) (named f.label s.label));
+      label = none_other f.label (taken_outside (outside_of (us ++ vs))) (taken_so (other f.label) (outside_of (us ++ vs)) named);
       standard = standard_less o.extended (outside_of (us ++ vs)).extended f.label fewer s.label.standard;
-      variable = (named f.variable s.variable).titles;
-      pc_free = titles_append (other pc) us vs (titles_so (other pc) true v before us a (parts pc (no_pc o.declared s.untaken)).0)
-          (titles_so (other pc) false v after vs b (parts pc (no_pc o.declared s.untaken)).1);
+      variable = untitled f.variable (others f.variable o.declared s.variable.declared);
+      pc_free = untitled pc (no_pc o.declared s.untaken);
     }
   where
     parts : (w : Word) → list_all (other w) o.declared ≡ true → AllSo declared_by (other w) before × AllSo declared_by (other w) after
@@ -300,11 +310,17 @@ apart_outside f v before after us vs o a b s declared extended words =
         and_parts (list_all (other w) (flat_map declared_by before)) (list_all (other w) (flat_map declared_by after))
         (sym (list_all-append (other w) (flat_map declared_by before) (flat_map declared_by after)) ∙ ap (λ (ws : List Word). list_all (other w) ws) declared ∙ h)
 
-    named : (w : Word) → Suited o w → NamesSo (other w) (outside_of (us ++ vs))
-    named w h =
-        let d = parts w (others w o.declared h.declared) in
+    untitled : (w : Word) → list_all (other w) o.declared ≡ true → TitlesSo (other w) (us ++ vs)
+    untitled w h =
+        let d = parts w h in
+        titles_append (other w) us vs (titles_so (other w) true v before us a d.0) (titles_so (other w) false v after vs b d.1)
+
+    named : NamesSo (other f.label) (outside_of (us ++ vs))
+    named =
+        let w = f.label in
+        let d = parts w (others w o.declared s.label.declared) in
         outside_so (other w) (us ++ vs) (each_append (other w) us vs
-        (units_so (other w) true v before us a d.0 (λ t. words (other w) (others w o.words h.words)))
+        (units_so (other w) true v before us a d.0 (λ t. words (other w) (others w o.words s.unbound)))
         (units_so (other w) false v after vs b d.1 (λ t. absurd cc)))
 
     fewer : (m : Word) → is_among o.extended m ≡ false → is_among (outside_of (us ++ vs)).extended m ≡ false

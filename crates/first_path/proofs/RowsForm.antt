@@ -70,12 +70,19 @@ naturals = refl
 no_plus : form_offences (module_beside [] []) ≡ (LeftOutWord, 0) ∷ []
 no_plus = refl
 
--- the variable stands before the translation, and the label is declared after it
-variable_before : form_offences (module_beside (codes "EXTENDS Integers\nTwice(x) == x + x\n") []) ≡ (LeftOutWord, 0) ∷ []
+-- the variable is declared before the translation, and the label after it
+variable_before : form_offences (module_beside (codes "EXTENDS Integers\nx == 1\n") []) ≡ (LeftOutWord, 0) ∷ []
 variable_before = refl
 
 label_after : form_offences (module_beside (codes "EXTENDS Integers\n") (codes "A == TRUE\n")) ≡ (LeftOutWord, 0) ∷ []
 label_after = refl
+
+-- a bound name may be the variable's, and not the label's, which would get a number
+variable_bound : form_of (module_beside (codes "EXTENDS Integers\nTwice(x) == x + x\n") []) ≡ Some increment
+variable_bound = refl
+
+label_bound : form_offences (module_beside (codes "EXTENDS Integers\nTwice(A) == A + A\n") []) ≡ (LeftOutWord, 0) ∷ []
+label_bound = refl
 
 -- a second variable, and a name of the translation
 variable_outside : form_offences (module_beside (codes "EXTENDS Integers\nVARIABLE y\n") []) ≡ (LeftOutWord, 0) ∷ []

@@ -90,18 +90,20 @@ abbrev pub is_sum : Right → Bool
 is_sum (single a) = false
 is_sum (sum a b) = true
 
--- a name that is nothing outside
-abbrev pub is_apart : Beside → Word → Bool
-is_apart o w = not (is_among o.words w) && not (is_among o.declared w) && not (is_standard o.extended w)
+-- a name that no unit declares, nor a module that is extended
+abbrev pub is_new : Beside → Word → Bool
+is_new o w = not (is_among o.declared w) && not (is_standard o.extended w)
 
 -- what a unit may not be or declare: variables, and what the translation declares itself
 abbrev pub is_taken : Word → Bool
 is_taken w = is_own w || is_among (codes "VARIABLE" ∷ codes "VARIABLES" ∷ []) w
 
--- the variable and the label are no names outside, no unit is in the way of the translation, and `+` is known where there is a sum
+-- the variable and the label are new, and the label is no bound name either, so that it keeps its name; no unit is in the way of the translation; and
+-- `+` is known where there is a sum
 abbrev pub suits : Beside → Parts → Bool
 suits o f =
-    is_apart o f.variable && is_apart o f.label && not (list_any is_taken o.declared) && (not (is_sum f.right) || has_operator o.extended Plus)
+    is_new o f.variable && is_new o f.label && not (is_among o.words f.label) && not (list_any is_taken o.declared)
+    && (not (is_sum f.right) || has_operator o.extended Plus)
 
 -- ---- the file
 
