@@ -2,7 +2,7 @@
 use Rattle.std.specs.Prelude.{◌≡◌, ◌++◌, false, List, [], ◌∷◌, Some, codes, ℕ}
 use Rattle.std.specs.Fmt.{digits}
 use Rattle.std.proofs.Common.{refl}
-use Rattle.tla_token.specs.declared.rule.Rule.TheVariants.{NotAscii, OpenComment, NoModule, NoAlgorithm, TwoAlgorithms, BadRegion, Placement, Options, LeftOutWord}
+use Rattle.tla_token.specs.declared.rule.Rule.TheVariants.{NotAscii, BadToken, OpenComment, OpenString, NoModule, NoAlgorithm, TwoAlgorithms, BadRegion, Placement, Options, LeftOutWord}
 use Rattle.tla_token.specs.Offences.{least}
 use Rattle.module_text.specs.Walk.{walk}
 use Rattle.first_path.specs.Beside.{beside}
@@ -119,6 +119,12 @@ two_algorithms = refl
 
 no_ascii : least (form_offences (module_beside (233 ∷ []) [])) ≡ Some (NotAscii, 19)
 no_ascii = refl
+
+bad_token : least (form_offences (module_beside (1 ∷ []) [])) ≡ Some (BadToken, 19)
+bad_token = refl
+
+open_string : least (form_offences (module_beside (codes "\"abc\n") [])) ≡ Some (OpenString, 19)
+open_string = refl
 
 open_comment : least (form_offences (module_beside [] (codes "(*\n"))) ≡ Some (OpenComment, 95)
 open_comment = refl
