@@ -23,7 +23,7 @@ abbrev pub InRow : ℕ → ℕ → List IndexedPart → Type 0
 InRow n e [] = n ≤ e
 InRow n e (p ∷ ps) = (p.0 ≡ n) × InRow (n + length (part_bytes p.1)) e ps
 
-row_bound : (n e : ℕ) (ps : List IndexedPart) → InRow n e ps → n ≤ e
+pub row_bound : (n e : ℕ) (ps : List IndexedPart) → InRow n e ps → n ≤ e
 row_bound n e [] h = h
 row_bound n e (p ∷ ps) h = (let m = row_bound (n + length (part_bytes p.1)) e ps h.1 in omega (arith, m))
 

@@ -32,10 +32,14 @@ pub mod AlgorithmTokens
 pub mod AlgorithmFound
 pub mod AlgorithmIsCut
 pub mod AlgorithmSame
+pub mod OutsideUnits
 pub mod ReadOutside
 pub mod SomeOutside
 pub mod OutsideAlike
 pub mod ModuleKept
 pub mod AlgorithmRow
 pub mod OptionsKept
+pub mod BeginningsKept
+pub mod AlgorithmKept
+pub mod AlgorithmMoved
 pub mod FineKept

@@ -14,7 +14,8 @@ use Rattle.module_text.specs.FileUnits.{is_starter, is_bar, begins_unit, cut_at,
 use Rattle.module_text.specs.Outside.{Sight, is_define, identifiers, first_one, title_at, keyword_of, names_by, Named, opaque_of, IsRead, IsOutside, AllOutside}
 use Rattle.module_text.specs.laws.Kept.{looks as text_looks}
 use Rattle.module_text.specs.laws.Outsides.{unplaced, Alike, AllAlike, SameOutside}
-use Rattle.module_text.proofs.ReadOutside.{seen_after, is_outside}
+use Rattle.module_text.proofs.OutsideUnits.{seen_after}
+use Rattle.module_text.proofs.ReadOutside.{is_outside}
 
 -- ---- kinds and columns of tokens
 

@@ -4,6 +4,7 @@ use Rattle.std.proofs.Common.{refl}
 use Rattle.tla_token.specs.declared.rule.Rule.{Rule}
 use Rattle.tla_token.specs.declared.rule.Rule.TheVariants.{NotAscii, BadToken, OpenComment, OpenString, NoModule, NoAlgorithm, TwoAlgorithms, BadRegion, Placement, Options, NumberTooBig}
 use Rattle.tla_token.specs.Places.{place_at}
+use Rattle.tla_token.specs.Tokens as text
 use Rattle.tla_token.specs.Tokens.{stretch}
 use Rattle.tla_token.specs.Offences.{least}
 use Rattle.tla_expr.specs.Lexical.{Token}
@@ -11,9 +12,10 @@ use Rattle.module_text.specs.TextFront.{Text, on_some}
 use Rattle.module_text.specs.Walk.{walk}
 use Rattle.module_text.specs.FileParts.{title, region_of, spot, before_spot, after_spot, inside_region}
 use Rattle.module_text.specs.WithTranslation.{WithTranslation, Swapped}
-use Rattle.module_text.specs.AlgorithmText.{Stage, open_p, past_p, past_c, is_c, algorithm_in, algorithm_tokens}
+use Rattle.module_text.specs.AlgorithmText.{AlgorithmText, Stage, open_p, past_p, past_c, is_c, algorithm_in, algorithm_tokens}
 use Rattle.module_text.specs.FileUnits.{units_in}
 use Rattle.module_text.specs.FileOffences.{file_offences}
+use Rattle.module_text.specs.laws.Kept.{IsFine, TokensMoved}
 
 abbrev head : Text
 head = codes "---- MODULE M ----\n"
@@ -238,3 +240,28 @@ in_p_syntax = refl
 -- also where its end is missing
 in_c_syntax : in_c (head ++ codes "(*\n--algorithm A { { L: skip; }\n*)\n" ++ foot) ≡ Some true
 in_c_syntax = refl
+
+-- ---- an algorithm after a region that has grown by a line of four bytes
+
+abbrev tokens_in_text : Text → List text.Token
+tokens_in_text x = by (algorithm_in x)
+  where
+    by : Option AlgorithmText → List text.Token
+    by (Some a) = algorithm_tokens x a
+    by None = []
+
+abbrev one_line : Text
+one_line = head ++ region_text ++ codes "(* --algorithm A { } *)\n" ++ foot
+
+abbrev two_lines : Text
+two_lines = head ++ codes "\\* BEGIN TRANSLATION\nold\nold\n\\* END TRANSLATION\n(* --algorithm A { } *)\n" ++ foot
+
+grown : TokensMoved 0 4 0 1 (tokens_in_text one_line) (tokens_in_text two_lines)
+grown = (refl, (refl, refl, refl), (refl, (refl, refl, refl), (refl, (refl, refl, refl), (refl, (refl, refl, refl), tt))))
+
+-- neither is refused
+fine_before : IsFine one_line
+fine_before = refl
+
+fine_after : IsFine two_lines
+fine_after = refl

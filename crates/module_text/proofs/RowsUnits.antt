@@ -14,7 +14,7 @@ use Rattle.module_text.specs.TextFront.{Text}
 use Rattle.module_text.specs.Walk.{walk}
 use Rattle.module_text.specs.Outside.{Sight}
 use Rattle.module_text.specs.laws.Outsides.{HasOutside, Alike, SameOutside}
-use Rattle.module_text.proofs.ReadOutside.{unit_read}
+use Rattle.module_text.proofs.OutsideUnits.{unit_read}
 use Rattle.module_text.proofs.SomeOutside.{outside_read, has_outside}
 
 abbrev at : ℕ → ℕ → Place

@@ -12,7 +12,8 @@ use Rattle.module_text.specs.Reading.{sight_in}
 use Rattle.module_text.specs.laws.Outsides.{HasOutside}
 use Rattle.module_text.proofs.OneOutside.{all_declared}
 use Rattle.module_text.proofs.OneModule.{sight_of, alone, Both, same_outside}
-use Rattle.module_text.proofs.ReadOutside.{units_read, units_are}
+use Rattle.module_text.proofs.OutsideUnits.{units_read}
+use Rattle.module_text.proofs.ReadOutside.{units_are}
 
 -- where nothing is seen, modules and constants are told already
 abbrev no_sight : Sight

@@ -13,7 +13,7 @@ use Rattle.module_text.proofs.WalkResumed.{step}
 
 -- ---- places
 
-abbrev Below : ℕ → ℕ → Place → Place → Type 0
+abbrev pub Below : ℕ → ℕ → Place → Place → Type 0
 Below m n p q = (p.line + n ≡ q.line + m) × (p.col ≡ q.col)
 
 step_below : (m n : ℕ) (p q : Place) (b : ℕ) → Below m n p q → Below m n (places.step p b) (places.step q b)
@@ -24,7 +24,7 @@ step_below m n p q b (l, c) = by (nat_eq b 10) refl (nat_eq b 9) refl
     by false i true j = rw (i, j) (l, rw c refl)
     by false i false j = rw (i, j) (l, rw c refl)
 
-after_below : (m n : ℕ) (p q : Place) (w : Text) → Below m n p q → Below m n (after p w) (after q w)
+pub after_below : (m n : ℕ) (p q : Place) (w : Text) → Below m n p q → Below m n (after p w) (after q w)
 after_below m n p q [] h = h
 after_below m n p q (b ∷ w) h = after_below m n (places.step p b) (places.step q b) w (step_below m n p q b h)
 

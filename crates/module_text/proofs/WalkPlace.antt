@@ -1,23 +1,21 @@
 -- Where a translation goes in a file that is not refused: after whole lines that are calm, outside any region.
-use Rattle.std.proofs.Common.{◌≡◌, ℕ, zero, suc, ◌+◌, ◌*◌, ◌/◌, ◌-◌, ◌<◌, ◌≤◌, Bool, true, false, not, ◌&&◌, ◌||◌, nat_eq, List, [], ◌∷◌, ◌++◌, length, take, drop, Option, Some, None, refl, sym, ap, subst, ◌∙◌, arith, append_assoc, append-nil, length-append, find}
+use Rattle.std.proofs.Common.{◌≡◌, ℕ, zero, suc, ◌+◌, ◌*◌, ◌/◌, ◌-◌, ◌<◌, ◌≤◌, Bool, true, false, not, ◌&&◌, nat_eq, List, [], ◌∷◌, ◌++◌, length, Option, Some, None, refl, sym, ap, ◌∙◌, arith, append_assoc, length-append, find}
 use Rattle.std.specs.Prelude.{if◌then◌else◌, is_some}
 use Rattle.std.specs.List.{list_all, list_any}
 use Rattle.std.proofs.lemmas.Bool.{and_parts, and_from, not-true, eqb-true, both_ways}
 use Rattle.std.proofs.lemmas.Option.{none-some, same_Some}
-use Rattle.std.proofs.Math.Seq.{take-append_seam, drop-append_seam}
 use Rattle.tla_token.specs.declared.place.Place.{Place}
 use Rattle.tla_token.specs.Places.{start, step as place_step, after}
-use Rattle.tla_token.specs.Tokens.{blank}
-use Rattle.tla_token.specs.Offences.{Part, sound, stray, bad_string, open_string, open_block, Offence}
+use Rattle.tla_token.specs.Offences.{sound, stray, bad_string, open_string, open_block, Offence}
 use Rattle.module_text.specs.TextFront.{Text, line_here, whole_line}
 use Rattle.module_text.specs.HeaderAndRegion.{is_header, is_begin, is_end}
-use Rattle.module_text.specs.Beginnings.{ends_module, begins_algorithm, all_at}
+use Rattle.module_text.specs.Beginnings.{ends_module}
 use Rattle.module_text.specs.ModuleParts.{module_part}
 use Rattle.module_text.specs.Walk.{Segment, free, header, part, region, mark, inner, tail, bytes, is_header_line, is_region, is_tail, State, opened, at_end_line, in_module, segment_at, after_segment, Located, walk_from, walk, at_start}
-use Rattle.module_text.specs.FileParts.{up_to_first, after_first, before_first, first_that, within, beginnings_in, beginnings, first_of, holds_algorithm, is_newline}
-use Rattle.module_text.specs.FileOffences.{segment_offences, offences_of, rest_of_line}
-use Rattle.module_text.specs.laws.Walks.{text_of, is_lined, is_calm, are_calm, after_all, IsOpen, located, is_common, are_common, newline_segment}
-use Rattle.module_text.proofs.WalkResumed.{Step, step, lined_end}
+use Rattle.module_text.specs.FileParts.{up_to_first, after_first, before_first, first_that}
+use Rattle.module_text.specs.FileOffences.{segment_offences, offences_of}
+use Rattle.module_text.specs.laws.Walks.{text_of, is_lined, is_calm, are_calm, after_all, IsOpen, located, is_common, are_common}
+use Rattle.module_text.proofs.WalkResumed.{Step, step}
 use Rattle.module_text.proofs.WalkAround.{suffixed}
 use Rattle.module_text.proofs.WalkParted.{first_is, rest_is, no_stand}
 
@@ -356,13 +354,13 @@ line_text p [] l e = refl
 line_text p (b ∷ []) l e = line_step p b l e
 line_text p (b ∷ c ∷ u) l e = line_text (place_step p b) (c ∷ u) (some_col p b) e
 
-places_after : (st : State) (ds : List Located) → (after_all st ds).place ≡ after st.place (text_of ds)
+pub after_both : (p : Place) (v w : Text) → after p (v ++ w) ≡ after (after p v) w
+after_both p [] w = refl
+after_both p (b ∷ v) w = after_both (place_step p b) v w
+
+pub places_after : (st : State) (ds : List Located) → (after_all st ds).place ≡ after st.place (text_of ds)
 places_after st [] = refl
 places_after st (d ∷ ds) = places_after (after_segment st d.is) ds ∙ sym (after_both st.place (bytes d.is) (text_of ds))
-  where
-    after_both : (p : Place) (v w : Text) → after p (v ++ w) ≡ after (after p v) w
-    after_both p [] w = refl
-    after_both p (b ∷ v) w = after_both (place_step p b) v w
 
 pub open_lined : (ds : List Located) → IsOpen (after_all at_start ds) → is_lined (text_of ds) ≡ true
 open_lined ds (h, m, c) =

@@ -8,11 +8,11 @@ use Rattle.tla_token.specs.Tokens.{Token}
 use Rattle.module_text.specs.TextFront.{Text}
 use Rattle.module_text.specs.Walk.{Located, walk, at_start}
 use Rattle.module_text.specs.FileParts.{title, module_end, region_of, before_spot, after_spot}
-use Rattle.module_text.specs.AlgorithmText.{AlgorithmText}
+use Rattle.module_text.specs.AlgorithmText.{AlgorithmText, algorithm_tokens}
 use Rattle.module_text.specs.FileUnits.{tokens_in}
 use Rattle.module_text.specs.FileOffences.{file_offences, offences_of}
 use Rattle.module_text.specs.WithTranslation.{begin_line, end_line}
-use Rattle.module_text.specs.laws.Walks.{text_of, after_all, made, located, Put}
+use Rattle.module_text.specs.laws.Walks.{text_of, after_all, made, located, Near, Put}
 
 -- no rule is broken by what stands in the file
 abbrev pub IsFine : Text → Type 0
@@ -53,3 +53,17 @@ pub record SameAlgorithm (a b : AlgorithmText) : Type 0 where
   pub opening : a.opening ≡ b.opening
   pub parts : map (λ p. p.1) a.rest.parts ≡ map (λ p. p.1) b.rest.parts
   pub stage : a.rest.stage ≡ b.rest.stage
+
+-- tokens of the same kinds: i bytes and m lines here are j bytes and n lines there
+abbrev pub TokensMoved : ℕ → ℕ → ℕ → ℕ → List Token → List Token → Type 0
+TokensMoved i j m n [] [] = Unit {0}
+TokensMoved i j m n (t ∷ ts) (u ∷ us) = (t.kind ≡ u.kind) × Near i j m n t.at t.place u.at u.place × TokensMoved i j m n ts us
+TokensMoved i j m n _ _ = ⊥
+
+-- the algorithm b of w is a of x, its tokens moved
+pub record AlgorithmMoved (x w : Text) (a b : AlgorithmText) : Type 0 where
+  pub bytes_here : ℕ
+  pub bytes_there : ℕ
+  pub lines_here : ℕ
+  pub lines_there : ℕ
+  pub tokens : TokensMoved bytes_here bytes_there lines_here lines_there (algorithm_tokens x a) (algorithm_tokens w b)

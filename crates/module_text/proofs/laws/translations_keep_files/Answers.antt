@@ -1,6 +1,7 @@
 -- Proves the law `translations_keep_files`.
 use Rattle.module_text.proofs.WalkSame.{is_put, keeps_file, put_again}
 use Rattle.module_text.proofs.AlgorithmSame.{algorithm_kept}
+use Rattle.module_text.proofs.AlgorithmMoved.{tokens_kept}
 use Rattle.module_text.proofs.FineKept.{fine_kept}
 use Rattle.module_text.proofs.laws.translations_keep_files.Goals as goal
 
@@ -18,3 +19,6 @@ returns-clause-algorithm c = algorithm_kept
 
 pub returns-clause-fine : goal.returns-clause-fine
 returns-clause-fine c = fine_kept
+
+pub returns-clause-tokens : goal.returns-clause-tokens
+returns-clause-tokens c = tokens_kept
