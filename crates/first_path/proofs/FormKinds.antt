@@ -1,7 +1,6 @@
 -- Reading the kinds of an algorithm's tokens is exact: the parts that are found have these kinds, and parts that fit are read of theirs.
 use Rattle.std.proofs.Common.{◌≡◌, ℕ, Bool, true, false, List, [], ◌∷◌, Option, Some, refl, ap, subst, ◌∙◌, codes}
 use Rattle.std.specs.Str.{bytes_eq}
-use Rattle.std.specs.List.{list_all}
 use Rattle.tla_token.specs.declared.sign.Sign.TheVariants as sign
 use Rattle.tla_token.specs.Lexemes.{Kind, name, number, one}
 use Rattle.tla_token.proofs.Spelled.{same_bytes}
@@ -53,7 +52,7 @@ end_stands : {A : Type 0} (ks : List Kind) (o : Option A) (r : A) → on_end ks 
 end_stands [] o r e = (refl, e)
 end_stands (k ∷ ks) o r e = absurd cc
 
-word_stands : {A C : Type 0} (w : Word) (ks : List Kind) (go : List Kind → Option A) (r : A) → on_word w ks go ≡ Some r
+pub word_stands : {A C : Type 0} (w : Word) (ks : List Kind) (go : List Kind → Option A) (r : A) → on_word w ks go ≡ Some r
     → ((more : List Kind) → ks ≡ name w ∷ more → go more ≡ Some r → C) → C
 word_stands w (name v ∷ more) go r e then =
     let s = so (bytes_eq v w) (go more) r e in
@@ -182,14 +181,3 @@ parts_read w f d h = declared ∙ setting_read f.variable f.right found ∙ ap (
 
     declared : parts_in f.title (kinds w f) ≡ setting f.variable (setting_kinds f.variable f.right) found
     declared = ap (λ (b : Bool). if_so b (setting f.variable (setting_kinds f.variable f.right) found)) d
-
--- ---- what holds of all kinds on the right side
-
-operand_holds : (p : Kind → Bool) → ((n : ℕ) → p (number n) ≡ true) → (v : Word) → p (name v) ≡ true → (a : Operand) → p (operand_kind v a) ≡ true
-operand_holds p n v h (number_operand i) = n i
-operand_holds p n v h variable_operand = h
-
-pub right_all : (p : Kind → Bool) → ((n : ℕ) → p (number n) ≡ true) → p (one sign.Plus) ≡ true → (v : Word) → p (name v) ≡ true
-    → (r : Right) (ks : List Kind) → list_all p ks ≡ true → list_all p (right_kinds v r ks) ≡ true
-right_all p n s v h (single a) ks k = rw (operand_holds p n v h a, k) refl
-right_all p n s v h (sum a b) ks k = rw (operand_holds p n v h a, s, operand_holds p n v h b, k) refl

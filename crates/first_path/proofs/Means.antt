@@ -1,9 +1,8 @@
 -- The right side of the form's assignment, and its tests, wherever the variable stands for a value.
-use Rattle.std.proofs.Common.{◌≡◌, ℕ, pos, ◌+ℤ◌, [], ◌∷◌, Bool, true, false, ◌||◌, Option, Some, None, codes, bytes_eq, refl, ap, ◌∙◌, subst, cond, Ok, Err}
-use Rattle.std.proofs.lemmas.Bool.{or_from, both_ways, false_from_ne_true}
+use Rattle.std.proofs.Common.{◌≡◌, ℕ, pos, ◌+ℤ◌, List, [], ◌∷◌, length, Bool, true, false, ◌||◌, Option, Some, None, codes, refl, ap, ◌∙◌, subst, cond, Ok, Err}
 use Rattle.tla_token.specs.declared.place.Place.{Place}
+use Rattle.tla_token.specs.Signs.{is_among}
 use Rattle.tla_token.specs.Words.{is_reserved, is_own, is_standard}
-use Rattle.tla_token.proofs.Spelled.{same_bytes}
 use Rattle.tla_expr.specs.declared.op.Op.TheVariants.{Equal, Plus}
 use Rattle.tla_expr.specs.Tree.{Word, number, name, operator}
 use Rattle.tla_value.specs.declared.fault.FaultKind.TheVariants.{NotInteger}
@@ -14,13 +13,12 @@ use Rattle.tla_value.specs.Stops.{plain, truth_at}
 use Rattle.tla_value.specs.Strict.{strict_value}
 use Rattle.tla_value.proofs.Outcomes.{then_two}
 use Rattle.tla_value.specs.Meaning.{Env, just, eval}
-use Rattle.pcal_tree.specs.Names.{first_free, free_from, is_taken}
+use Rattle.pcal_tree.specs.Names.{first_free, free_from}
 use Rattle.tla_value.specs.Value.{and_then, TrueExactly}
 use Rattle.module_text.specs.ActionTruth.{Verdict, value_in, truth_in, is_value}
 use Rattle.module_text.proofs.Tells.{tells_of, tells_and, tells_as}
 use Rattle.first_path.specs.Form.{Operand, number_operand, variable_operand, Right, single, sum}
 use Rattle.first_path.specs.Placed.{leaf, infix_of, operand_tree, right_tree, is_at}
-use Rattle.first_path.proofs.Names.{word_same}
 use Rattle.first_path.proofs.Fit.{Free}
 
 -- ---- values
@@ -125,18 +123,11 @@ last_tells v X h =
 
 -- ---- names
 
--- words that differ, the other way round
-differ_back : (v w : Word) → bytes_eq v w ≡ false → bytes_eq w v ≡ false
-differ_back v w e = false_from_ne_true (bytes_eq w v) (λ d. both_ways (bytes_eq v w) e (let s : w ≡ v = same_bytes w v d in rw s (word_same v)))
-
 none_taken : (a b d e : Bool) → a ≡ false → b ≡ false → d ≡ false → e ≡ false → (a || b || d || e) ≡ false
 none_taken a b d e p q r s = rw (p, q, r, s) refl
 
--- the label keeps its name, next to the variable
-pub label_free : (v l : Word) → Free l → bytes_eq l v ≡ false → first_free (codes "Integers" ∷ []) (v ∷ []) l ≡ l
-label_free v l h e = ap (λ b. cond b (free_from 1 (v ∷ []) l 1) l) taken
-  where
-    taken : is_taken (codes "Integers" ∷ []) (v ∷ []) l ≡ false
-    taken =
-        none_taken (is_reserved l) (is_own l) (is_standard (codes "Integers" ∷ []) l) (bytes_eq v l || false) h.reserved h.own h.standard
-        (or_from (bytes_eq v l) false (differ_back l v e) refl)
+-- a label that nothing takes keeps its name
+pub label_free : (modules taken : List Word) (l : Word) → Free l → is_standard modules l ≡ false → is_among taken l ≡ false → first_free modules taken l ≡ l
+label_free modules taken l h s a =
+    ap (λ b. cond b (free_from (length taken) taken l 1) l)
+    (none_taken (is_reserved l) (is_own l) (is_standard modules l) (is_among taken l) h.reserved h.own s a)

@@ -1,19 +1,21 @@
 -- Next of the form's translation is true exactly of the algorithm's steps, and of its stuttering end.
-use Rattle.std.proofs.Common.{◌≡◌, [], ◌∷◌, ◌++◌, Bool, true, false, ◌&&◌, cond, bytes_eq, Option, Some, None, codes, refl, sym, ap, ◌∙◌, subst, ◌⊎◌, inl, inr, Ok, Err}
+use Rattle.std.proofs.Common.{◌≡◌, List, [], ◌∷◌, ◌++◌, Bool, true, false, ◌&&◌, cond, bytes_eq, Option, Some, None, codes, refl, sym, ap, ◌∙◌, subst, ◌⊎◌, inl, inr, Ok, Err}
 use Rattle.std.specs.Bool.{IsTrue}
-use Rattle.std.proofs.lemmas.Bool.{and_parts, and_from, or_left, or_right, both_ways}
+use Rattle.std.specs.List.{list_all}
+use Rattle.std.proofs.lemmas.Bool.{and_parts, and_from, or_from, or_right, both_ways, false_from_ne_true}
 use Rattle.std.proofs.lemmas.Option.{same_Some}
 use Rattle.tla_token.specs.declared.place.Place.{Place}
 use Rattle.tla_token.specs.Signs.{is_among}
-use Rattle.tla_token.proofs.Spelled.{among_head}
+use Rattle.tla_token.proofs.Spelled.{among_head, same_bytes}
 use Rattle.tla_expr.specs.Tree.{Word}
 use Rattle.tla_value.specs.declared.fault.FaultKind.TheVariants.{NotInteger}
-use Rattle.tla_value.specs.Value.{Value, text, Outcome, fault}
+use Rattle.tla_value.specs.Value.{Value, text, fault}
 use Rattle.tla_value.specs.Order.{same}
 use Rattle.tla_value.proofs.Outcomes.{ok_is}
 use Rattle.tla_value.specs.Stops.{plain}
 use Rattle.tla_value.specs.Meaning.{Env}
-use Rattle.tla_value.specs.Definitions.{Valuation, or_sense}
+use Rattle.tla_value.specs.Definitions.{Valuation, Definition, or_sense, base, in_states}
+use Rattle.tla_value.specs.Outside.{Outside}
 use Rattle.tla_value.specs.Standard.{standard_name}
 use Rattle.pcal_tree.specs.Algorithm.{Naming}
 use Rattle.pcal_tree.specs.Names.{first_free, kept, taken_outside, naming}
@@ -24,14 +26,17 @@ use Rattle.pcal_tree.specs.Program.{Program, Actor}
 use Rattle.pcal_tree.specs.Step.{StepFrom, course_of, pc_of, Step, Stutters}
 use Rattle.tla_value.specs.Value.{and_then, or_all, TrueExactly, ◌>>=◌}
 use Rattle.module_text.specs.ActionTruth.{Verdict, value_in, truth_in, acted, is_value, is_unchanged, are_unchanged}
-use Rattle.module_text.specs.ModuleTruth.{acts_in, scope, next_holds}
+use Rattle.module_text.specs.Module.{found}
+use Rattle.module_text.specs.ModuleTruth.{definitions_in, acts_in, scope, next_holds}
 use Rattle.module_text.proofs.Tells.{tells_and, tells_or, tells_as, tells_of}
 use Rattle.first_path.specs.Form.{number_operand, variable_operand, Right, single, sum, Parts, is_fit}
-use Rattle.first_path.specs.Placed.{Places, right_tree, is_at, algorithm_at, module_at, integers_alone}
+use Rattle.first_path.specs.Placed.{Places, right_tree, is_at, algorithm_at, module_at}
 use Rattle.promise.specs.ConstantsAndStates.{on_variables}
 use Rattle.promise.specs.NextAndInit.{NextIs}
-use Rattle.first_path.proofs.Names.{word_same}
+use Rattle.first_path.proofs.Names.{all_more, word_same}
 use Rattle.first_path.proofs.Fit.{Fit, fit_of, not_own}
+use Rattle.first_path.proofs.OutsideApart.{other, others, none_other, Apart}
+use Rattle.first_path.proofs.Untitled.{Untitled, looked_through, untitled_append, found_untitled}
 use Rattle.first_path.proofs.Means.{true_tells, last_tells, label_free, StandsFor, result, tells_same, label_tells, value_tells, right_tells}
 use Rattle.first_path.proofs.MeansStep.{program_of, actor, stand, Kept, is_actor, actor_is, stand_is, stands_there, there_stands, course_for, course_is, ended}
 use Rattle.pcal_tree.specs.Variables.{pc, vars, Agree}
@@ -48,15 +53,18 @@ among_second x y = or_right (bytes_eq x y) (is_among (y ∷ []) y) (among_head y
 abbrev pub Two : Word → Word → State → Valuation → Type 0
 Two x y s S = (S x ≡ Some (s x)) × (S y ≡ Some (s y))
 
-pub two_variables : (p : Places) (f : Parts) (names : Naming) (values : Valuation) (s : State)
-    → Two f.variable pc s (on_variables (program_of p f names values) s)
-two_variables p f names values s =
+pub two_variables : (ds : List Definition) (p : Places) (f : Parts) (names : Naming) (values : Valuation) (s : State)
+    → Two f.variable pc s (on_variables (program_of ds p f names values) s)
+two_variables ds p f names values s =
     (ap (λ b. cond b (Some (s f.variable)) None) (among_head f.variable (pc ∷ [])), ap (λ b. cond b (Some (s pc)) None) (among_second f.variable pc))
 
--- a variable that the state has is read of the state
-pub reads_first : (q : Places) (f : Parts) (values : Valuation) (s : State) (S T : Valuation) (x : Word) → S x ≡ Some (s x)
-    → StandsFor x (s x) (scope plain (module_at q f) values S T)
-reads_first q f values s S T x e at = ap (λ o. or_sense o (or_sense (values x) (standard_name x at))) e
+-- a variable that the state has, and no definition outside, is read of the state
+pub reads_first : (o : Outside) (q : Places) (f : Parts) (values : Valuation) (s : State) (S T : Valuation) (x : Word) → Untitled x (found o.definitions)
+    → S x ≡ Some (s x) → StandsFor x (s x) (scope plain (module_at o q f) values S T)
+reads_first o q f values s S T x u e at =
+    looked_through plain (definitions_in (module_at o q f)) (in_states S T (base plain values)) x at
+    (untitled_append x (found o.definitions ++ []) [] (untitled_append x (found o.definitions) [] u refl) refl)
+    ∙ ap (λ o. or_sense o (or_sense (values x) (standard_name x at))) e
 
 -- ---- the step
 
@@ -119,16 +127,16 @@ taken_tells q f s t T env h k e g =
 
 -- ---- the step's action by its name
 
-step_found : (q : Places) (f : Parts) (values : Valuation) (S T : Valuation) → Fit f
-    → acted (acts_in plain (module_at q f) values S T f.label) None
-    ≡ step_items q f T (scope plain (module_at q f) values S T)
+step_found : (o : Outside) (q : Places) (f : Parts) (values : Valuation) (S T : Valuation) → Fit f
+    → acted (acts_in plain (module_at o q f) values S T f.label) None
+    ≡ step_items q f T (scope plain (module_at o q f) values S T)
 unfolding first_item second_item third_item
-step_found q f values S T h = rw (not_own f.label h.label (codes "Terminating") refl, word_same f.label) refl
+step_found o q f values S T h = rw (not_own f.label h.label (codes "Terminating") refl, word_same f.label) refl
 
-end_found : (q : Places) (f : Parts) (values : Valuation) (S T : Valuation)
-    → acted (acts_in plain (module_at q f) values S T (codes "Terminating")) None
-    ≡ end_items q f S T (scope plain (module_at q f) values S T)
-end_found q f values S T = refl
+end_found : (o : Outside) (q : Places) (f : Parts) (values : Valuation) (S T : Valuation)
+    → acted (acts_in plain (module_at o q f) values S T (codes "Terminating")) None
+    ≡ end_items q f S T (scope plain (module_at o q f) values S T)
+end_found o q f values S T = refl
 
 -- ---- the stuttering end
 
@@ -176,16 +184,16 @@ ended_variable f s x h = rw (not_own f.variable h.variable (codes "pc") refl, wo
 ended_pc : (f : Parts) (s : State) (x : Value) → ended f s x pc ≡ text (codes "Done")
 ended_pc f s x = refl
 
-module _ (p : Places) (f : Parts) (names : Naming) (values : Valuation) (h : Fit f) (k : Kept f names) where
+module _ (ds : List Definition) (p : Places) (f : Parts) (names : Naming) (values : Valuation) (h : Fit f) (k : Kept f names) (u : Untitled f.variable ds) where
   abbrev program : Program
-  program = program_of p f names values
+  program = program_of ds p f names values
 
   from_step : (s t : State) → StepFrom program (actor p f) (stand p f) s t → Taken f s t
-  from_step s t (there, (u, has, agree)) =
-      let course = subst (λ c. Has c (Ok u)) (course_is p f names values s h) has in
-      (there_stands p f names values s k there, by (result f.right (s f.variable)) refl course)
+  from_step s t (there, (v, has, agree)) =
+      let course = subst (λ c. Has c (Ok v)) (course_is ds p f names values s h u) has in
+      (there_stands ds p f names values s k there, by (result f.right (s f.variable)) refl course)
     where
-      by : (o : Option Value) → result f.right (s f.variable) ≡ o → Has (course_for (p 12) f s o) (Ok u) → Moved f s t × (t pc ≡ text (codes "Done"))
+      by : (o : Option Value) → result f.right (s f.variable) ≡ o → Has (course_for (p 12) f s o) (Ok v) → Moved f s t × (t pc ≡ text (codes "Done"))
       by None e d = absurd cc
       by (Some x) e d =
           let is = ok_is d in
@@ -194,15 +202,15 @@ module _ (p : Places) (f : Parts) (names : Naming) (values : Valuation) (h : Fit
 
   step_taken : (s t : State) → Step program s t → Taken f s t
   step_taken s t (a, d, is, from) =
-      let here = subst (λ a. StepFrom program a d s t) (actor_is p f names values a is) from in
-      from_step s t (subst (λ d. StepFrom program (actor p f) d s t) (stand_is p f names values s d here.0) here)
+      let here = subst (λ a. StepFrom program a d s t) (actor_is ds p f names values a is) from in
+      from_step s t (subst (λ d. StepFrom program (actor p f) d s t) (stand_is ds p f names values s d here.0) here)
 
   taken_step : (s t : State) → Taken f s t → Step program s t
   taken_step s t (at, ((x, e, d), g)) =
-      (actor p f, stand p f, is_actor p f names values, (stands_there p f names values s k at, (ended f s x, has, agree)))
+      (actor p f, stand p f, is_actor ds p f names values, (stands_there ds p f names values s k at, (ended f s x, has, agree)))
     where
       has : Has (course_of program (actor p f) (stand p f) s) (Ok (ended f s x))
-      has = subst (λ c. Has c (Ok (ended f s x))) (sym (course_is p f names values s h ∙ ap (course_for (p 12) f s) e)) refl
+      has = subst (λ c. Has c (Ok (ended f s x))) (sym (course_is ds p f names values s h u ∙ ap (course_for (p 12) f s) e)) refl
 
       agree : Agree (vars program) (ended f s x) t
       agree = (ended_variable f s x h ∙ sym d, (ended_pc f s x ∙ sym g, tt))
@@ -214,52 +222,58 @@ module _ (p : Places) (f : Parts) (names : Naming) (values : Valuation) (h : Fit
       by : (o : Option Value) → result f.right (s f.variable) ≡ o → Good f s
       by (Some x) e = (x, e)
       by None e =
-          let course = course_is p f names values s h ∙ ap (course_for (p 12) f s) e in
+          let course = course_is ds p f names values s h u ∙ ap (course_for (p 12) f s) e in
           let stops = subst (λ c. Has c (Err (fault NotInteger (p 12)))) (sym course) refl in
-          absurd (sound.1 (actor p f) (fault NotInteger (p 12)) (is_actor p f names values)
-          (inr (stand p f, stands_there p f names values s k at, stops)))
+          absurd (sound.1 (actor p f) (fault NotInteger (p 12)) (is_actor ds p f names values)
+          (inr (stand p f, stands_there ds p f names values s k at, stops)))
 
   still_over : (s t : State) → Stutters program s t → Over f s t
-  still_over s t (done, agree) = (ok_is (done (actor p f) (is_actor p f names values)), agree)
+  still_over s t (done, agree) = (ok_is (done (actor p f) (is_actor ds p f names values)), agree)
 
   over_still : (s t : State) → Over f s t → Stutters program s t
   over_still s t (over, agree) = (done, agree)
     where
       done : (a : Actor) → IsActor program a → pc_of a s ≡ Ok (text (codes "Done"))
-      done a is = subst (λ a. pc_of a s ≡ Ok (text (codes "Done"))) (sym (actor_is p f names values a is)) (ap (λ (v : Value). Ok v) over)
+      done a is = subst (λ a. pc_of a s ≡ Ok (text (codes "Done"))) (sym (actor_is ds p f names values a is)) (ap (λ (v : Value). Ok v) over)
 
-  -- ---- Next
+-- ---- Next
 
-  next_of : (q : Places) (s t : State) → Sound program s
-      → TrueExactly (next_holds plain (module_at q f) values (on_variables program s) (on_variables program t)) (Step program s t ⊎ Stutters program s t)
-  next_of q s t sound =
-      let S = on_variables program s in
-      let T = on_variables program t in
-      let d = two_variables p f names values s in
-      let e = two_variables p f names values t in
-      let env = scope plain (module_at q f) values S T in
-      let v = reads_first q f values s S T f.variable d.0 in
-      let c = reads_first q f values s S T pc d.1 in
-      let step = acted (acts_in plain (module_at q f) values S T f.label) None in
-      let still = acted (acts_in plain (module_at q f) values S T (codes "Terminating")) None in
-      let steps = Step program s t in
-      let stays = Stutters program s t in
-      let a : TrueExactly step steps = tells_of step (step_items q f T env) steps (step_found q f values S T h)
-      (tells_as (step_items q f T env) (Taken f s t) steps (taken_tells q f s t T env v c e (good_there s sound))
-      (taken_step s t) (step_taken s t)) in
-      let b : TrueExactly still stays = tells_of still (end_items q f S T env) stays (end_found q f values S T)
-      (tells_as (end_items q f S T env) (Over f s t) stays (over_tells q f s t S T env c d e) (over_still s t) (still_over s t)) in
-      tells_as (or_all step (or_all still (Ok false))) (steps ⊎ (stays ⊎ ⊥)) (steps ⊎ stays)
-      (tells_or step (or_all still (Ok false)) steps (stays ⊎ ⊥) a (tells_or still (Ok false) stays ⊥ b none_tells)) to from
-    where
-      to : {A B : Type 0} → A ⊎ (B ⊎ ⊥) → A ⊎ B
-      to (inl x) = inl x
-      to (inr (inl y)) = inr y
-      to (inr (inr z)) = absurd z
+next_of : (o : Outside) (p q : Places) (f : Parts) (names : Naming) (values : Valuation) → Fit f → Kept f names → Apart o f → (s t : State)
+    → (let P : Program = program_of (found o.definitions) p f names values in
+    Sound P s → TrueExactly (next_holds plain (module_at o q f) values (on_variables P s) (on_variables P t)) (Step P s t ⊎ Stutters P s t))
+next_of o p q f names values h k a s t sound =
+    let ds = found o.definitions in
+    let u = found_untitled f.variable o.definitions a.variable in
+    let w = found_untitled pc o.definitions a.pc_free in
+    let P : Program = program_of ds p f names values in
+    let S = on_variables P s in
+    let T = on_variables P t in
+    let d = two_variables ds p f names values s in
+    let e = two_variables ds p f names values t in
+    let env = scope plain (module_at o q f) values S T in
+    let v = reads_first o q f values s S T f.variable u d.0 in
+    let c = reads_first o q f values s S T pc w d.1 in
+    let step = acted (acts_in plain (module_at o q f) values S T f.label) None in
+    let still = acted (acts_in plain (module_at o q f) values S T (codes "Terminating")) None in
+    let steps = Step P s t in
+    let stays = Stutters P s t in
+    let a : TrueExactly step steps = tells_of step (step_items q f T env) steps (step_found o q f values S T h)
+    (tells_as (step_items q f T env) (Taken f s t) steps (taken_tells q f s t T env v c e (good_there ds p f names values h k u s sound))
+    (taken_step ds p f names values h k u s t) (step_taken ds p f names values h k u s t)) in
+    let b : TrueExactly still stays = tells_of still (end_items q f S T env) stays (end_found o q f values S T)
+    (tells_as (end_items q f S T env) (Over f s t) stays (over_tells q f s t S T env c d e) (over_still ds p f names values h k u s t)
+    (still_over ds p f names values h k u s t)) in
+    tells_as (or_all step (or_all still (Ok false))) (steps ⊎ (stays ⊎ ⊥)) (steps ⊎ stays)
+    (tells_or step (or_all still (Ok false)) steps (stays ⊎ ⊥) a (tells_or still (Ok false) stays ⊥ b none_tells)) to from
+  where
+    to : {A B : Type 0} → A ⊎ (B ⊎ ⊥) → A ⊎ B
+    to (inl x) = inl x
+    to (inr (inl y)) = inr y
+    to (inr (inr z)) = absurd z
 
-      from : {A B : Type 0} → A ⊎ B → A ⊎ (B ⊎ ⊥)
-      from (inl x) = inl x
-      from (inr y) = inr (inl y)
+    from : {A B : Type 0} → A ⊎ B → A ⊎ (B ⊎ ⊥)
+    from (inl x) = inl x
+    from (inr y) = inr (inl y)
 
 -- ---- with the written names
 
@@ -271,17 +285,24 @@ right_bound v (sum (number_operand n) variable_operand) p q = refl
 right_bound v (sum variable_operand (number_operand m)) p q = refl
 right_bound v (sum variable_operand variable_operand) p q = refl
 
--- the label is chosen apart from the variable alone
-taken_are : (p q : Places) (f : Parts) → taken_outside integers_alone ++ kept (algorithm_at p f) ≡ f.variable ∷ []
-taken_are p q f = rw (right_bound f.variable f.right (p 12) (p 14)) refl
+-- beside what is outside the label is chosen apart from the variable alone
+kept_are : (p : Places) (f : Parts) → kept (algorithm_at p f) ≡ f.variable ∷ []
+kept_are p f = rw (right_bound f.variable f.right (p 12) (p 14)) refl
 
-pub label_kept : (p q : Places) (f : Parts) → Fit f → Kept f (naming (algorithm_at p f) integers_alone)
-label_kept p q f h =
-    let taken = taken_outside integers_alone ++ kept (algorithm_at p f) in
-    ap (λ b. cond b (first_free (codes "Integers" ∷ []) taken f.label) f.label) (word_same f.label)
-    ∙ ap (λ ws. first_free (codes "Integers" ∷ []) ws f.label) (taken_are p q f) ∙ label_free f.variable f.label h.label h.not_variable
+-- words that differ, the other way round
+differ_back : (v w : Word) → bytes_eq v w ≡ false → bytes_eq w v ≡ false
+differ_back v w e = false_from_ne_true (bytes_eq w v) (λ d. both_ways (bytes_eq v w) e (let s : w ≡ v = same_bytes w v d in rw s (word_same v)))
 
-pub next_is : (p q : Places) (f : Parts) → IsTrue (is_fit f) → NextIs false (algorithm_at p f) (module_at q f)
-next_is p q f fit values s t constants from to sound =
+pub label_kept : (o : Outside) (p : Places) (f : Parts) → Fit f → Apart o f → Kept f (naming (algorithm_at p f) o)
+label_kept o p f h a =
+    let taken = taken_outside o ++ kept (algorithm_at p f) in
+    let apart : list_all (other f.label) (f.variable ∷ []) ≡ true = others f.label (f.variable ∷ []) (or_from (bytes_eq f.variable f.label) false (differ_back f.label f.variable h.not_variable) refl) in
+    let all = all_more (other f.label) (taken_outside o) (f.variable ∷ []) (others f.label (taken_outside o) a.label) apart in
+    ap (λ b. cond b (first_free o.extended taken f.label) f.label) (word_same f.label)
+    ∙ ap (λ ws. first_free o.extended (taken_outside o ++ ws) f.label) (kept_are p f)
+    ∙ label_free o.extended (taken_outside o ++ f.variable ∷ []) f.label h.label a.standard (none_other f.label (taken_outside o ++ f.variable ∷ []) all)
+
+pub next_is : (o : Outside) (p q : Places) (f : Parts) → IsTrue (is_fit f) → Apart o f → NextIs false (algorithm_at p f) (module_at o q f)
+next_is o p q f fit a values s t constants from to sound =
     let h = fit_of f fit in
-    next_of p f (naming (algorithm_at p f) integers_alone) values h (label_kept p q f h) q s t sound
+    next_of o p q f (naming (algorithm_at p f) o) values h (label_kept o p f h a) a s t sound

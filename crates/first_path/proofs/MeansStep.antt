@@ -1,5 +1,5 @@
 -- The algorithm of the form: its one process, the one label where it is, and the course of a step from there.
-use Rattle.std.proofs.Common.{◌≡◌, List, [], ◌∷◌, Bool, true, false, ◌||◌, cond, Option, Some, None, codes, bytes_eq, refl, sym, ap, ◌∙◌, subst, inl, inr, Ok}
+use Rattle.std.proofs.Common.{◌≡◌, List, [], ◌∷◌, ◌++◌, Bool, true, false, ◌||◌, cond, Option, Some, None, codes, bytes_eq, refl, sym, ap, ◌∙◌, subst, inl, inr, Ok}
 use Rattle.tla_token.specs.declared.place.Place.{Place}
 use Rattle.tla_token.proofs.Spelled.{same_bytes}
 use Rattle.tla_expr.specs.Tree.{Word, name}
@@ -8,27 +8,28 @@ use Rattle.tla_value.specs.Value.{Value, text, Outcome, fault, ◌>>=◌}
 use Rattle.tla_value.proofs.Outcomes.{ok_is}
 use Rattle.tla_value.specs.Stops.{plain}
 use Rattle.tla_value.specs.Meaning.{eval}
-use Rattle.tla_value.specs.Definitions.{Valuation}
+use Rattle.tla_value.specs.Definitions.{Valuation, Definition, no_state, or_sense, base, in_states}
 use Rattle.pcal_tree.specs.Algorithm.{Naming, Routine, Statements, assign, done, then, no_assignments, assignment, alone_routine, mark}
 use Rattle.pcal_tree.specs.declared.mark.Mark.TheVariants.{Plain}
 use Rattle.pcal_tree.specs.Scope.{State, put, Part}
 use Rattle.pcal_tree.specs.Run.{Course, ends, stops, after}
 use Rattle.pcal_tree.specs.StepStart.{Begin, at_label}
 use Rattle.pcal_tree.specs.Assign.{set_all}
-use Rattle.pcal_tree.specs.Program.{Program, Actor, routine_scope, part_of}
+use Rattle.pcal_tree.specs.Program.{Program, Actor, globals_on, global_env, routine_scope, part_of}
 use Rattle.pcal_tree.specs.Calls.{label_value, jumped, finished}
 use Rattle.pcal_tree.specs.Step.{Stand, StandsAt, course_of}
 use Rattle.first_path.specs.Form.{Parts}
 use Rattle.first_path.specs.Placed.{Places, word_at, leaf, right_tree, statement_span, algorithm_at}
 use Rattle.first_path.proofs.Names.{word_same}
 use Rattle.first_path.proofs.Fit.{Fit, not_own}
+use Rattle.first_path.proofs.Untitled.{Untitled, looked_through, untitled_append}
 use Rattle.first_path.proofs.Means.{StandsFor, result, outcome, right_evaluates}
 use Rattle.pcal_tree.specs.Variables.{pc}
 use Rattle.pcal_tree.specs.Processes.{OneOf, IsActor}
 
--- with any written names
-abbrev pub program_of : Places → Parts → Naming → Valuation → Program
-program_of p f names values = record { check = plain; constants = values; outside = []; algorithm = algorithm_at p f; naming = names }
+-- with any definitions outside, and any written names
+abbrev pub program_of : List Definition → Places → Parts → Naming → Valuation → Program
+program_of ds p f names values = record { check = plain; constants = values; outside = ds; algorithm = algorithm_at p f; naming = names }
 
 abbrev pub after_label : Places → Parts → Statements
 after_label p f =
@@ -81,14 +82,14 @@ course_for at f s (Some x) = ends (ended f s x)
 course_for at f s None = stops (fault NotInteger at)
 
 -- the statement, and then the jump
-steps : Places → Parts → Naming → Valuation → State → Outcome Part → Outcome Value → Course
-steps p f names values s g o =
+steps : List Definition → Places → Parts → Naming → Valuation → State → Outcome Part → Outcome Value → Course
+steps ds p f names values s g o =
     after ((g >>= (λ t. o >>= (λ v. Ok (record { place = p 10; part = t; value = v } ∷ [])))) >>= (λ all. set_all plain all s))
-    (λ u. finished (jumped (program_of p f names values) (actor p f) (routine p f) (codes "Done") u))
+    (λ u. finished (jumped (program_of ds p f names values) (actor p f) (routine p f) (codes "Done") u))
 
-module _ (p : Places) (f : Parts) (names : Naming) (values : Valuation) where
+module _ (ds : List Definition) (p : Places) (f : Parts) (names : Naming) (values : Valuation) where
   abbrev program : Program
-  program = program_of p f names values
+  program = program_of ds p f names values
 
   -- ---- the process
 
@@ -124,11 +125,16 @@ module _ (p : Places) (f : Parts) (names : Naming) (values : Valuation) where
   -- ---- the course
 
   -- the variable has the state's value
-  reads_state : (s : State) → Fit f → StandsFor f.variable (s f.variable) ((routine_scope program (actor p f) (routine p f)).env s)
-  reads_state s h at = rw (not_own f.variable h.variable (codes "self") refl, word_same f.variable) refl
+  reads_state : (s : State) → Fit f → Untitled f.variable ds → StandsFor f.variable (s f.variable) ((routine_scope program (actor p f) (routine p f)).env s)
+  reads_state s h u at =
+      ap (λ b. cond b (or_sense None ((global_env program s).now f.variable at)) ((global_env program s).now f.variable at))
+      (not_own f.variable h.variable (codes "self") refl)
+      ∙ looked_through plain (ds ++ []) (in_states (globals_on s (algorithm_at p f).globals) no_state (base plain values)) f.variable at
+      (untitled_append f.variable ds [] u refl)
+      ∙ rw (word_same f.variable) refl
 
   steps_are : (s : State) (o : Option Value)
-      → steps p f names values s (Ok (record { variable = f.variable; path = [] })) (outcome (p 12) o) ≡ course_for (p 12) f s o
+      → steps ds p f names values s (Ok (record { variable = f.variable; path = [] })) (outcome (p 12) o) ≡ course_for (p 12) f s o
   unfolding steps
   steps_are s (Some x) = refl
   steps_are s None = refl
@@ -137,14 +143,14 @@ module _ (p : Places) (f : Parts) (names : Naming) (values : Valuation) where
   part_is = rw (word_same f.variable) refl
 
   course_steps : (s : State) → course_of program (actor p f) (stand p f) s
-      ≡ steps p f names values s (part_of program (actor p f) (routine p f) f.variable)
+      ≡ steps ds p f names values s (part_of program (actor p f) (routine p f) f.variable)
       (eval plain (right_tree f.variable f.right (p 12) (p 14)) ((routine_scope program (actor p f) (routine p f)).env s)).value
   unfolding steps
   course_steps s = refl
 
-  pub course_is : (s : State) → Fit f → course_of program (actor p f) (stand p f) s ≡ course_for (p 12) f s (result f.right (s f.variable))
-  course_is s h =
+  pub course_is : (s : State) → Fit f → Untitled f.variable ds → course_of program (actor p f) (stand p f) s ≡ course_for (p 12) f s (result f.right (s f.variable))
+  course_is s h u =
       let env = (routine_scope program (actor p f) (routine p f)).env s in
       course_steps s
-      ∙ (λ i. steps p f names values s (part_is i) (right_evaluates f.variable (s f.variable) env (reads_state s h) f.right (p 12) (p 14) i))
+      ∙ (λ i. steps ds p f names values s (part_is i) (right_evaluates f.variable (s f.variable) env (reads_state s h u) f.right (p 12) (p 14) i))
       ∙ steps_are s (result f.right (s f.variable))

@@ -1,14 +1,15 @@
 -- Names and numbers as bytes, and lists of names.
-use Rattle.std.proofs.Common.{◌≡◌, ℕ, ◌+◌, ◌*◌, ◌-◌, ◌/◌, ◌%◌, ◌^◌, ◌<◌, ◌≤◌, Bool, true, false, nat_le, List, [], ◌∷◌, ◌++◌, length, refl, arith, length-append, inl, inr}
+use Rattle.std.proofs.Common.{◌≡◌, ℕ, ◌^◌, Bool, true, false, List, [], ◌∷◌, ◌++◌, refl, ◌∙◌, arith, inl, inr}
 use Rattle.std.specs.List.{list_all, list_any}
 use Rattle.std.specs.Str.{bytes_eq}
 use Rattle.std.specs.Fmt.{decimal}
 use Rattle.std.proofs.lemmas.Slice.Eq.{bytes_eq-Decides}
-use Rattle.std.proofs.lemmas.Bool.{and_parts, and_from, or_cases, le-leb, ltb-true, false_from_ne_true, both_ways}
-use Rattle.tla_token.specs.Lexemes.{number_of, is_word, is_letter, is_digit}
+use Rattle.std.proofs.lemmas.List.Folds.{list_all-append}
+use Rattle.std.proofs.lemmas.Bool.{and_parts, and_from, or_cases, ltb-true, false_from_ne_true, both_ways}
+use Rattle.tla_token.specs.Lexemes.{is_word, is_letter}
 use Rattle.tla_token.specs.Signs.{is_among}
 use Rattle.tla_token.proofs.Spelled.{same_bytes}
-use Rattle.tla_token.proofs.Words.{all_append, digits_words}
+use Rattle.tla_token.proofs.Words.{digits_words}
 use Rattle.tla_expr.specs.Tree.{Word}
 use Rattle.tla_expr.proofs.SpelledTokens.{Spelled, decimal_spelled as digits_stand}
 use Rattle.tla_expr.specs.Lexical.{escaped, escapes}
@@ -41,6 +42,9 @@ escapes_name (b ∷ bs) h =
     rw (escaped_word b k.0, escapes_name bs k.1) refl
 
 -- ---- lists of names
+
+pub all_more : {A : Type 0} (p : A → Bool) (xs ys : List A) → list_all p xs ≡ true → list_all p ys ≡ true → list_all p (xs ++ ys) ≡ true
+all_more p xs ys h k = list_all-append p xs ys ∙ and_from (list_all p xs) (list_all p ys) h k
 
 -- what is true of each in a list is true of one that is among them
 pub among_holds : (p : Word → Bool) (vs : List Word) (w : Word) → is_among vs w ≡ true → list_all p vs ≡ true → p w ≡ true

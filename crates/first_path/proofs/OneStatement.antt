@@ -1,5 +1,5 @@
 -- The statement of a text of the form is the only one with its tokens.
-use Rattle.std.proofs.Common.{◌≡◌, ℕ, Bool, true, false, nat_eq, eq-eqb, nat_lt, IsTrue, List, [], ◌∷◌, ◌++◌, Some, None, refl, sym, ap, ◌∙◌, codes}
+use Rattle.std.proofs.Common.{◌≡◌, ℕ, Bool, true, false, nat_eq, eq-eqb, nat_lt, IsTrue, List, [], ◌∷◌, Some, None, refl, sym, ap, ◌∙◌, codes}
 use Rattle.std.specs.Str.{bytes_eq}
 use Rattle.std.proofs.lemmas.Bool.{both_ways}
 use Rattle.tla_token.specs.declared.place.Place.{Place}

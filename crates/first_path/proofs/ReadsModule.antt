@@ -1,109 +1,67 @@
--- The text with a translation reads as the module with it.
-use Rattle.std.proofs.Common.{◌≡◌, ℕ, ◌+◌, Bool, true, false, ◌||◌, bytes_eq, List, [], ◌∷◌, ◌++◌, length, Option, Some, None, refl, sym, ap, ◌∙◌, subst, append_assoc, append-nil}
+-- The file with a translation reads as one module with it.
+use Rattle.std.proofs.Common.{◌≡◌, ℕ, ◌+◌, Bool, true, false, ◌||◌, bytes_eq, List, [], length, Option, Some, refl, sym, ap, ◌∙◌, subst}
 use Rattle.std.specs.Prelude.{codes, IsTrue}
-use Rattle.tla_token.specs.declared.place.Place.{Place}
-use Rattle.tla_token.specs.Places.{start, after}
+use Rattle.std.proofs.lemmas.Option.{same_Some}
+use Rattle.tla_token.specs.Places.{after}
 use Rattle.tla_token.specs.Tokens.{Token, tokens_of}
-use Rattle.tla_expr.specs.Tree.{Word}
 use Rattle.tla_expr.specs.TokenViews.{views}
-use Rattle.module_text.specs.TextFront.{on_some}
-use Rattle.module_text.specs.HeaderAndRegion.{header_title}
-use Rattle.module_text.specs.Walk.{is_tail, State, Located, walk_from}
-use Rattle.module_text.specs.FileParts.{module_end, inside_region}
+use Rattle.tla_value.specs.Outside.{Outside}
+use Rattle.module_text.specs.TextFront.{Text, on_some}
+use Rattle.module_text.specs.Walk.{is_tail, State, Located, walk_from, walk, at_start}
+use Rattle.module_text.specs.FileParts.{module_end, before_spot, inside_region}
 use Rattle.module_text.specs.FileUnits.{tokens_in, cut}
 use Rattle.module_text.specs.FileOffences.{offences_of}
-use Rattle.module_text.specs.Around.{begin_line}
-use Rattle.module_text.specs.Module.{units_of, OutsideUnit, extends}
+use Rattle.module_text.specs.WithTranslation.{begin_line}
+use Rattle.module_text.specs.Layout.{layout}
+use Rattle.module_text.specs.Module.{units_of, Module}
 use Rattle.module_text.specs.Units.{IsUnit}
-use Rattle.module_text.specs.Grammar.{last_name}
-use Rattle.module_text.specs.Outside.{Sight, AllOutside}
-use Rattle.module_text.specs.Reading.{AllAre, AllSmall, sight, ReadsRegion, AreModule, Reads}
+use Rattle.module_text.specs.Reading.{AllAre, AllSmall, ReadsRegion, Reads}
+use Rattle.module_text.specs.laws.Walks.{after_all, made, located}
 use Rattle.module_text.proofs.WalkPieces.{located_pieces, pieces_walked, tokens_are, no_offences, none_in}
-use Rattle.first_path.specs.Form.{Parts, is_fit, IsForm}
-use Rattle.first_path.specs.Placed.{Places, module_at, translation_of}
+use Rattle.module_text.proofs.SomeOutside.{some_outside}
+use Rattle.module_text.proofs.ModuleKept.{is_module}
+use Rattle.first_path.specs.Form.{Parts, is_fit, suits, IsForm}
+use Rattle.first_path.specs.Placed.{Places, region_at, region_of, module_at, translation_of}
+use Rattle.first_path.specs.Beside.{Beside}
 use Rattle.first_path.proofs.Fit.{Fit, fit_of}
-use Rattle.first_path.proofs.Lines.{header_line, title_is, header_is, comment_of}
 use Rattle.first_path.proofs.Pieces.{region_pieces}
 use Rattle.first_path.proofs.RegionText.{region_is}
 use Rattle.first_path.proofs.RegionFits.{region_fits}
 use Rattle.first_path.proofs.RegionBars.{region_barless}
 use Rattle.first_path.proofs.RegionUnits.{region_units}
-use Rattle.first_path.proofs.Stretches.{after_append}
-use Rattle.first_path.proofs.Walked.{after_header, front_pieces, front_located, after_front}
-use Rattle.first_path.proofs.WrittenWalk.{region_located, written_walked}
+use Rattle.first_path.proofs.BesideKept.{beside_kept}
+use Rattle.first_path.proofs.OutsideApart.{Apart}
+use Rattle.first_path.proofs.ModuleApart.{module_apart}
+use Rattle.first_path.proofs.Placing.{kept}
 
--- ---- the front
+-- ---- the region, wherever it begins
 
--- EXTENDS Integers, on a line
-abbrev extends_integers : ℕ → OutsideUnit
-extends_integers l = extends (record { word = codes "Integers"; place = record { line = l; col = 9 } } ∷ [])
-
--- the tokens of the front are one unit
-abbrev IsFront : Place → ℕ → List ℕ → Sight → Type 0
-IsFront p at body v = AllOutside true v (cut (views (tokens_of p at (front_pieces body)))).units (extends_integers p.line ∷ [])
-
-front_at : (l at : ℕ) (body : List ℕ) (v : Sight) → IsFront (record { line = l; col = 1 }) at body v
-front_at l at body v = (
-  record {
-    at = record { line = l; col = 1 };
-    names = last_name (record { line = l; col = 9 }) (codes "Integers");
-    good = refl;
-    spelled = refl;
-    are = refl;
-  },
-  tt,
-)
-
-front_outside : (p : Place) (at : ℕ) (body : List ℕ) (v : Sight) → p.col ≡ 1 → IsFront p at body v
-front_outside p at body v e =
-    let P : ℕ → Type 0 = λ c. IsFront (record { line = p.line; col = c }) at body v in
-    subst P (sym e) (front_at p.line at body v)
-
--- after a text that ends with a line's end
-line_after : (p : Place) (w : List ℕ) → (after p (w ++ codes "\n")).col ≡ 1
-line_after p w = ap (λ (p : Place). p.col) (after_append p w (codes "\n"))
-
-header_line_ends : (t : Word) → (after_header t).place.col ≡ 1
-header_line_ends t =
-    ap (λ (w : List ℕ). (after start w).col) (in_line (codes "---- MODULE ") t) ∙ line_after start (codes "---- MODULE " ++ t ++ codes " ----")
-  where
-    in_line : (a t : List ℕ) → a ++ t ++ codes " ----\n" ≡ (a ++ t ++ codes " ----") ++ codes "\n"
-    in_line a t = simp append_assoc refl
-
-front_units : (t : Word) (body : List ℕ) (v : Sight) → AllOutside true v (cut (views (tokens_in (front_located t body)))).units (extends_integers (after_header t).place.line ∷ [])
-front_units t body v =
-    let st = after_header t in
-    subst (λ (ts : List Token). AllOutside true v (cut (views ts)).units (extends_integers st.place.line ∷ [])) (sym (tokens_are st (front_pieces body)))
-    (front_outside st.place st.at body v (header_line_ends t))
-
--- ---- the region
+abbrev laid_out : Parts → Text
+laid_out f = layout (region_of f)
 
 -- where the text between the two lines begins
-abbrev in_region : Parts → List ℕ → State
-in_region f body =
-    let st = after_front f.title body in
-    record { at = st.at + length begin_line; place = after st.place begin_line; headed = true; marked = true }
+abbrev in_region : State → State
+in_region st = record { at = st.at + length begin_line; place = after st.place begin_line; headed = true; marked = true }
 
-region_walked : (f : Parts) (body : List ℕ) → Fit f → IsTrue (is_fit f) → inside_region (region_located f body) ≡ located_pieces (in_region f body) (region_pieces f)
-region_walked f body n h =
-    ap (walk_from (in_region f body) 0) (sym (region_is f h)) ∙ pieces_walked (in_region f body) (region_pieces f) refl (region_fits f h) (region_barless f n)
+region_walked : (st : State) (f : Parts) → Fit f → IsTrue (is_fit f) → inside_region (located st (made (laid_out f))) ≡ located_pieces (in_region st) (region_pieces f)
+region_walked st f n h =
+    ap (walk_from (in_region st) 0) (sym (region_is f h)) ∙ pieces_walked (in_region st) (region_pieces f) refl (region_fits f h) (region_barless f n)
 
 -- these tokens are the units of the region
 abbrev UnitsOf : Parts → Places → List Token → Type 0
-UnitsOf f q ts = AllSmall ts × ((cut (views ts)).front ≡ []) × AllAre IsUnit (cut (views ts)).units (units_of (module_at q f).region)
+UnitsOf f q ts = AllSmall ts × ((cut (views ts)).front ≡ []) × AllAre IsUnit (cut (views ts)).units (units_of (region_at q f))
 
-region_reads : (f : Parts) (body : List ℕ) (h : IsTrue (is_fit f)) → (q : Places) × ReadsRegion (region_located f body) (module_at q f)
-region_reads f body h =
-    let st = in_region f body in
-    let n = fit_of f h in
-    let w = region_walked f body n h in
-    let r = region_units st.place st.at f h refl in
-    let tokens : tokens_in (inside_region (region_located f body)) ≡ tokens_of st.place st.at (region_pieces f) = ap tokens_in w ∙ tokens_are st (region_pieces f) in
+region_reads : (o : Outside) (st : State) (f : Parts) (h : IsTrue (is_fit f)) → (q : Places) × ReadsRegion (located st (made (laid_out f))) (module_at o q f)
+region_reads o st f h =
+    let here = in_region st in
+    let w = region_walked st f (fit_of f h) h in
+    let r = region_units here.place here.at f h refl in
+    let tokens : tokens_in (inside_region (located st (made (laid_out f)))) ≡ tokens_of here.place here.at (region_pieces f) = ap tokens_in w ∙ tokens_are here (region_pieces f) in
     let units = subst (λ (ts : List Token). UnitsOf f r.0 ts) (sym tokens) (r.1.small, r.1.no_front, r.1.units) in (
       r.0,
       record {
-        sound = ap offences_of w ∙ no_offences st (region_pieces f);
-        open_ended = ap module_end w ∙ ap (λ (o : Option Located). on_some o (λ d. Some d.at)) (none_in is_tail (λ x. refl) st (region_pieces f));
+        sound = ap offences_of w ∙ no_offences here (region_pieces f);
+        open_ended = ap module_end w ∙ ap (λ (o : Option Located). on_some o (λ d. Some d.at)) (none_in is_tail (λ x. refl) here (region_pieces f));
         small = units.0;
         no_front = units.1;
         units = units.2;
@@ -117,24 +75,38 @@ any_last : (b : Bool) → true ≡ (b || (true || false))
 any_last true = refl
 any_last false = refl
 
-pub reads : (x : List ℕ) (f : Parts) → IsForm x f → (q : Places) × Reads (translation_of x f) (module_at q f)
-reads x f h =
-    let body = comment_of h.gap h.pieces in
-    let r = region_reads f body h.fit in (
-      r.0,
-      subst (λ (ds : List Located). AreModule ds (module_at r.0 f)) (sym (written_walked x f h)) (record {
-        title = ap header_title (sym (append-nil (header_line f.title)) ∙ header_is f.title []) ∙ title_is f.title [] (fit_of f h.fit).title;
-        ended = refl;
-        sound = refl;
-        before = extends_integers (after_header f.title).place.line ∷ [];
-        are_before = front_units f.title body (sight (module_at r.0 f));
-        region = region_located f body;
-        is_region = refl;
-        reads_region = r.1;
-        none_before_after = refl;
-        after = [];
-        are_after = tt;
-        outside = refl;
-        terminating = any_last (bytes_eq f.label (codes "Terminating"));
-      }),
-    )
+-- the module that the file is, with what is outside
+pub record IsRead (x : Text) (f : Parts) : Type 0 where
+  pub outside : Outside
+  pub places : Places
+  pub reads : Reads (translation_of x f) (module_at outside places f)
+  pub apart : Apart outside f
+
+-- of what the file reads as
+pub apart_read : (x : List ℕ) (f : Parts) → IsForm x f → (m : Module) → Reads (translation_of x f) m → Apart m.outside f
+apart_read x f h m r =
+    let w = translation_of x f in
+    module_apart w m f r (subst (λ (o : Beside). IsTrue (suits o f)) (sym (beside_kept x (laid_out f) w (kept x f h))) h.suited)
+
+-- of this title and region
+the_module : (w : Text) (m : Module) (f : Parts) (q : Places) → m.title ≡ f.title → m.region ≡ region_at q f → Reads w m → Reads w (module_at m.outside q f)
+the_module w m f q e r h = (let same : m ≡ module_at m.outside q f = λ i. record { title = e i; outside = m.outside; region = r i } in subst (λ (m : Module). Reads w m) same h)
+
+pub is_read : (x : List ℕ) (f : Parts) → IsForm x f → IsRead x f
+is_read x f h =
+    let w = translation_of x f in
+    let k = kept x f h in
+    let o = some_outside (walk x) in
+    let st = after_all at_start (before_spot (walk x)) in
+    let r = region_reads o.0 st f h.fit in
+    let m = is_module x (laid_out f) w o.0 (module_at o.0 r.0 f) h.fine k o.1 r.1 (any_last (bytes_eq f.label (codes "Terminating"))) in
+    let title : m.written.title ≡ f.title = same_Some m.written.title f.title (sym m.title ∙ h.titled) in
+    record {
+      outside = m.written.outside;
+      places = r.0;
+      reads = the_module w m.written f r.0 title m.region m.reads;
+      apart = apart_read x f h m.written m.reads;
+    }
+
+pub reads : (x : List ℕ) (f : Parts) → IsForm x f → (o : Outside) × (q : Places) × Reads (translation_of x f) (module_at o q f)
+reads x f h = (let r = is_read x f h in (r.outside, r.places, r.reads))

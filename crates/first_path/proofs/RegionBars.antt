@@ -1,12 +1,11 @@
 -- No bar is in a translation's lexemes.
-use Rattle.std.proofs.Common.{◌≡◌, ℕ, Bool, true, false, not, List, [], ◌∷◌, ◌++◌, ◌<◌, length, refl, decimal, arith}
+use Rattle.std.proofs.Common.{◌≡◌, ℕ, true, false, List, [], ◌∷◌, ◌++◌, ◌<◌, length, refl, decimal, arith}
 use Rattle.std.specs.List.{list_all, list_any}
 use Rattle.tla_token.specs.declared.sign.Sign.TheVariants as s
 use Rattle.std.proofs.lemmas.Bool.{and_parts}
 use Rattle.tla_token.specs.Lexemes.{is_word, is_letter}
 use Rattle.tla_token.specs.Tokens.{Piece, text_of}
 use Rattle.tla_expr.specs.Tree.{Word}
-use Rattle.tla_expr.proofs.SpelledTokens.{Spelled}
 use Rattle.module_text.specs.Beginnings.{begins_bar}
 use Rattle.module_text.proofs.WalkPieces.{word_bar, are_barless}
 use Rattle.first_path.specs.Form.{Operand, number_operand, variable_operand, Right, single, sum, Parts, is_name, is_small, is_small_operand, is_small_right}

@@ -10,7 +10,7 @@ use Rattle.module_text.specs.Reading.{AllAre, AllSmall}
 use Rattle.first_path.specs.Form.{Parts, is_fit}
 use Rattle.first_path.specs.Placed.{Places, region_at}
 use Rattle.first_path.proofs.Fit.{Fit, fit_of}
-use Rattle.first_path.proofs.Stretches.{nth}
+use Rattle.first_path.proofs.StandsTokens.{nth}
 use Rattle.first_path.proofs.Pieces.{region_pieces}
 use Rattle.first_path.proofs.RegionBytes.{region_inline, region_small}
 use Rattle.first_path.proofs.RegionCut.{put, small_tokens, stand_is, parted, cut_is}

@@ -22,24 +22,19 @@ use Rattle.pcal_tree.specs.AlgorithmTokens as view
 use Rattle.pcal_tree.specs.GrammarParts as part
 use Rattle.pcal_tree.specs.GrammarP.{simple, last_statement}
 use Rattle.pcal_tree.specs.Grammar.{Text, algorithm, to_end, no_define, begin, spell, algorithm_of, Good, p_syntax, SpellsP}
-use Rattle.first_path.specs.Form.{Operand, number_operand, variable_operand, Right, single, sum, Parts, word, operand_kind, right_kinds, kinds, kinds_of}
+use Rattle.first_path.specs.Form.{Operand, number_operand, variable_operand, Right, single, sum, Parts, word, operand_kind, right_kinds, kinds}
 use Rattle.first_path.specs.Placed.{Places, algorithm_at}
 use Rattle.first_path.proofs.Names.{among_holds}
 use Rattle.first_path.proofs.Fit.{unreserved}
-use Rattle.first_path.proofs.Stretches.{kinds_after, nth}
 use Rattle.first_path.proofs.FormKinds.{closing_kinds}
 
 -- ---- the kinds of tokens
 
--- the tokens of pieces have the kinds of the pieces
-pub kinds_are : (p : Place) (at : ℕ) (ps : List Piece) (ks : List Kind) → kinds_of ps ≡ Some ks → map (λ t. t.kind) (tokens_of p at ps) ≡ ks
-kinds_are p at [] ks e = cc
-kinds_are p at (blank b ∷ ps) ks e = kinds_are (after p (b ∷ [])) (at + length (b ∷ [])) ps ks e
-kinds_are p at (block body ∷ ps) ks e = absurd cc
-kinds_are p at (line body ∷ ps) ks e = absurd cc
-kinds_are p at (lexeme k bytes ∷ ps) ks e =
-    let (js, d, s) = kinds_after k (kinds_of ps) ks e in
-    ap (λ (us : List Kind). k ∷ us) (kinds_are (after p bytes) (at + length bytes) ps js d) ∙ s
+-- the place with this number
+abbrev pub nth : List Place → Places
+nth [] n = start
+nth (p ∷ ps) zero = p
+nth (p ∷ ps) (suc n) = nth ps n
 
 -- the place of each token by its number
 abbrev pub places : List text.Token → Places

@@ -17,9 +17,9 @@ use Rattle.pcal_tree.specs.Calls.{defaultInitValue}
 use Rattle.pcal_tree.specs.Step.{StepFrom, Step, Stutters, Stand, StandsAt, course_of, pc_of}
 use Rattle.pcal_tree.specs.InitialStates.{Initial, InitFault}
 use Rattle.first_path.specs.Form.{IsForm}
-use Rattle.first_path.specs.Placed.{Places, algorithm_at, module_at, integers_alone}
+use Rattle.first_path.specs.Placed.{Places, algorithm_at, module_at}
 use Rattle.promise.specs.ConstantsAndStates.{AreConstants, IsState}
-use Rattle.first_path.specs.Worked.{worked_text, worked_parts, no_more_constants, worked_program, at_first, at_last}
+use Rattle.first_path.specs.Worked.{worked_text, worked_parts, full_text, full_parts, integers_alone, no_more_constants, worked_program, at_first, at_last}
 use Rattle.first_path.proofs.FormExact.{form_found}
 use Rattle.first_path.proofs.MeansStep.{actor, stand, Kept, is_actor, actor_is, stand_is, there_stands, ended}
 use Rattle.pcal_tree.specs.Variables.{pc}
@@ -28,6 +28,9 @@ use Rattle.pcal_tree.specs.Processes.{IsActor}
 
 pub form_worked : IsForm worked_text worked_parts
 form_worked = form_found worked_text worked_parts refl
+
+pub form_full : IsForm full_text full_parts
+form_full = form_found full_text full_parts refl
 
 -- ---- constants
 
@@ -47,7 +50,7 @@ model_canonical x v e = by (bytes_eq (codes "defaultInitValue") x) e
     by true e = subst IsCanonical (same_Some defaultInitValue v e) tt
     by false e = absurd cc
 
-pub constants_worked : (q : Places) → AreConstants (module_at q worked_parts) no_more_constants
+pub constants_worked : (q : Places) → AreConstants (module_at integers_alone q worked_parts) no_more_constants
 constants_worked q = record { unset = refl; given = tt; no_other = other_name; canonical = model_canonical }
 
 -- ---- initial states
@@ -86,10 +89,10 @@ module _ (p q : Places) where
   at_label = stand p worked_parts
 
   only_is : (v : Actor) → IsActor P v → v ≡ only
-  only_is = actor_is p worked_parts names no_more_constants
+  only_is = actor_is [] p worked_parts names no_more_constants
 
   label_is : (s : State) (d : Stand) → StandsAt P s only d → d ≡ at_label
-  label_is = stand_is p worked_parts names no_more_constants
+  label_is = stand_is [] p worked_parts names no_more_constants
 
   -- after the step, as the algorithm's rules make it
   after : State
@@ -100,7 +103,7 @@ module _ (p q : Places) where
   steps_worked = (
     only,
     at_label,
-    is_actor p worked_parts names no_more_constants,
+    is_actor [] p worked_parts names no_more_constants,
     ((inl refl, refl, refl), (after, refl, (refl, (refl, tt)))),
   )
 
@@ -128,7 +131,7 @@ module _ (p q : Places) where
 
   -- at the end it is at no label
   pub last_sound : Sound P at_last
-  last_sound = never_bad at_last (λ k there has. elsewhere (there_stands p worked_parts names no_more_constants at_last kept there))
+  last_sound = never_bad at_last (λ k there has. elsewhere (there_stands [] p worked_parts names no_more_constants at_last kept there))
     where
       kept : Kept worked_parts names
       kept = refl
@@ -158,4 +161,4 @@ module _ (p q : Places) where
       let at = label_is at_first d here.0 in
       labels_differ (step_ends at_first (subst (λ d. StepFrom P only d at_first at_first) at here))
   not_idle (inr (done, agree)) =
-      labels_differ (ok_is (done only (is_actor p worked_parts names no_more_constants)))
+      labels_differ (ok_is (done only (is_actor [] p worked_parts names no_more_constants)))

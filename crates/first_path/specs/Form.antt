@@ -1,14 +1,22 @@
--- The form of text that is translated so far: one variable, and one label with an assignment ("A PlusCal User's Manual", section 2.2 and chapter 3).
-use Rattle.std.specs.Prelude.{◌≡◌, ℕ, Bool, true, ◌&&◌, ◌||◌, not, nat_lt, IsTrue, List, [], ◌∷◌, ◌++◌, Option, Some, None, codes}
+-- The form of algorithm that is translated so far, in any file: one variable, and one label with an assignment ("A PlusCal User's Manual", section 2.2 and
+-- chapter 3).
+use Rattle.std.specs.Prelude.{◌≡◌, ℕ, Bool, true, false, ◌&&◌, ◌||◌, not, nat_lt, IsTrue, List, [], ◌∷◌, Some, codes, map}
 use Rattle.std.specs.List.{list_all, list_any}
 use Rattle.std.specs.Str.{bytes_eq}
 use Rattle.tla_token.specs.declared.sign.Sign.TheVariants as sign
-use Rattle.tla_token.specs.Lexemes.{Kind, one, is_word, is_letter, is_blank}
+use Rattle.tla_token.specs.Signs.{is_among}
+use Rattle.tla_token.specs.Lexemes.{Kind, one, is_word, is_letter}
 use Rattle.tla_token.specs.Lexemes as kind
-use Rattle.tla_token.specs.Tokens.{Piece, blank, lexeme, text_of, AllFit}
 use Rattle.tla_token.specs.Words.{is_reserved, is_own, is_standard}
 use Rattle.tla_token.specs.Limits.{past_numbers}
+use Rattle.tla_expr.specs.declared.op.Op.TheVariants.{Plus}
 use Rattle.tla_expr.specs.Tree.{Word}
+use Rattle.tla_value.specs.StandardModules.{has_operator}
+use Rattle.module_text.specs.Walk.{walk}
+use Rattle.module_text.specs.FileParts.{title}
+use Rattle.module_text.specs.AlgorithmText.{AlgorithmText, algorithm_in, algorithm_tokens}
+use Rattle.module_text.specs.FileOffences.{file_offences}
+use Rattle.first_path.specs.Beside.{Beside, beside}
 
 -- a number, or the algorithm's variable
 pub data Operand : Type 0 where
@@ -72,33 +80,41 @@ kinds w f =
     word f.label ∷ one sign.Colon ∷ word f.variable ∷ one sign.Assign ∷
     right_kinds f.variable f.right (one sign.Semicolon ∷ word (codes "end") ∷ word (codes "algorithm") ∷ [])
 
-abbrev pub after : Kind → Option (List Kind) → Option (List Kind)
-after k (Some ks) = Some (k ∷ ks)
-after k None = None
+-- the kinds of the algorithm's tokens
+abbrev pub algorithm_kinds : List ℕ → AlgorithmText → List Kind
+algorithm_kinds x a = map (λ t. t.kind) (algorithm_tokens x a)
 
--- the kinds of lexemes with nothing but blanks between them
-abbrev pub kinds_of : List Piece → Option (List Kind)
-kinds_of [] = Some []
-kinds_of (blank b ∷ ps) = kinds_of ps
-kinds_of (lexeme k bytes ∷ ps) = after k (kinds_of ps)
-kinds_of (p ∷ ps) = None
+-- ---- beside the algorithm
 
-abbrev pub first_lines : Word → List ℕ
-first_lines m = codes "---- MODULE " ++ m ++ codes " ----\nEXTENDS Integers\n(*\n"
+abbrev pub is_sum : Right → Bool
+is_sum (single a) = false
+is_sum (sum a b) = true
 
-abbrev pub last_line : List ℕ
-last_line = codes "====\n"
+-- a name that no unit declares, nor a module that is extended
+abbrev pub is_new : Beside → Word → Bool
+is_new o w = not (is_among o.declared w) && not (is_standard o.extended w)
 
--- the text x has the form, with these parts
+-- what a unit may not be or declare: variables, and what the translation declares itself
+abbrev pub is_taken : Word → Bool
+is_taken w = is_own w || is_among (codes "VARIABLE" ∷ codes "VARIABLES" ∷ []) w
+
+-- the variable and the label are new, and the label is no bound name either, so that it keeps its name; no unit is in the way of the translation; and
+-- `+` is known where there is a sum
+abbrev pub suits : Beside → Parts → Bool
+suits o f =
+    is_new o f.variable && is_new o f.label && not (is_among o.words f.label) && not (list_any is_taken o.declared)
+    && (not (is_sum f.right) || has_operator o.extended Plus)
+
+-- ---- the file
+
+-- the file x has an algorithm of the form, with these parts
 pub record IsForm (x : List ℕ) (f : Parts) : Type 0 where
-  pub fit : IsTrue (is_fit f)
-  pub gap : List ℕ
-  pub is_gap : IsTrue (list_all is_blank gap)
-  pub pieces : List Piece  -- after `--algorithm`
-  pub lines : x ≡ first_lines f.title ++ gap ++ codes "--algorithm" ++ text_of pieces ++ codes "*)\n" ++ last_line
-  pub parted : (b : ℕ) × (more : List Piece) × (pieces ≡ blank b ∷ more)
-  pub ended : (less : List Piece) × (pieces ≡ less ++ blank 10 ∷ [])
-  pub all_fit : AllFit pieces
+  pub fine : file_offences x ≡ []
+  pub algorithm : AlgorithmText
+  pub is_algorithm : algorithm_in x ≡ Some algorithm
+  pub titled : title (walk x) ≡ Some f.title
   pub declared_by : Word
   pub is_declared : IsTrue (bytes_eq declared_by (codes "variables") || bytes_eq declared_by (codes "variable"))
-  pub kinds_are : kinds_of pieces ≡ Some (kinds declared_by f)
+  pub kinds_are : algorithm_kinds x algorithm ≡ word (codes "--algorithm") ∷ kinds declared_by f
+  pub fit : IsTrue (is_fit f)
+  pub suited : IsTrue (suits (beside (walk x)) f)

@@ -1,18 +1,21 @@
--- Reading the form of text that is translated so far, as a function, and the one offence of a text that hasn't it.
-use Rattle.std.specs.Prelude.{◌≡◌, ℕ, Bool, true, false, ◌||◌, nat_eq, List, [], ◌∷◌, ◌++◌, length, drop, Option, Some, None, codes, if◌then◌else◌, reverse}
-use Rattle.std.specs.List.{starts_with}
+-- Reading the form of an algorithm, as a function, and the offences of a file that hasn't it.
+use Rattle.std.specs.Prelude.{◌≡◌, ℕ, Bool, true, false, ◌||◌, not, nat_eq, List, [], ◌∷◌, Option, Some, None, codes, filter}
 use Rattle.std.specs.Str.{bytes_eq}
 use Rattle.tla_token.specs.declared.rule.Rule.TheVariants.{LeftOutWord}
+use Rattle.tla_token.specs.Rules.{rule_number}
 use Rattle.tla_token.specs.declared.sign.Sign.TheVariants as sign
-use Rattle.tla_token.specs.Lexemes.{Kind, name, number, one, is_word, is_blank}
-use Rattle.tla_token.specs.Tokens.{blank, lexeme}
+use Rattle.tla_token.specs.Lexemes.{Kind, name, number, one}
 use Rattle.tla_token.specs.declared.rule.Refusal.{Refusal}
 use Rattle.tla_token.specs.Places.{start, place_at}
-use Rattle.tla_token.specs.Offences.{Part, sound, Offence, least}
-use Rattle.tla_token.specs.Cut.{run, parts}
+use Rattle.tla_token.specs.Offences.{Offence, least}
 use Rattle.tla_expr.specs.Tree.{Word}
-pub use Rattle.module_text.specs.TextFront.{on_some, past_word as past}
-use Rattle.first_path.specs.Form.{Operand, number_operand, variable_operand, Right, single, sum, Parts, is_fit, first_lines, last_line}
+pub use Rattle.module_text.specs.TextFront.{on_some}
+use Rattle.module_text.specs.Walk.{walk}
+use Rattle.module_text.specs.FileParts.{title}
+use Rattle.module_text.specs.AlgorithmText.{algorithm_in}
+use Rattle.module_text.specs.FileOffences.{file_offences}
+use Rattle.first_path.specs.Beside.{Beside, beside}
+use Rattle.first_path.specs.Form.{Operand, number_operand, variable_operand, Right, single, sum, Parts, is_fit, suits, algorithm_kinds}
 
 abbrev pub if_so : {A : Type 0} → Bool → Option A → Option A
 if_so true o = o
@@ -77,52 +80,48 @@ parts_in m ks =
     on_semicolon ks (λ ks. on_word (codes "end") ks (λ ks. on_word (codes "algorithm") ks (λ ks.
     on_end ks (fit (record { title = m; algorithm = a; variable = v; initial = n; label = l; right = r })))))))))))))))))))
 
--- ---- the text
+-- those of the algorithm whose tokens are of these kinds, the first of them too
+abbrev pub parts_of : Word → List Kind → Option Parts
+parts_of m ks = on_word (codes "--algorithm") ks (parts_in m)
 
--- the kinds of the lexemes, with nothing but blanks between them
-abbrev pub kinds_in : List Part → Option (List Kind)
-kinds_in [] = Some []
-kinds_in (sound (blank b) ∷ ps) = kinds_in ps
-kinds_in (sound (lexeme k bytes) ∷ ps) = on_some (kinds_in ps) (λ ks. Some (k ∷ ks))
-kinds_in (p ∷ ps) = None
+-- ---- the file
 
-abbrev pub begins_blank : List ℕ → Bool
-begins_blank [] = false
-begins_blank (b ∷ bs) = is_blank b
+-- a number that is too big is none so far: it doesn't fit the form
+abbrev pub is_split : Offence → Bool
+is_split o = not (nat_eq (rule_number o.0) 12)
 
--- without w at the end, if it ends so
-abbrev pub before : List ℕ → List ℕ → Option (List ℕ)
-before w x = on_some (past (reverse w) (reverse x)) (λ r. Some (reverse r))
+-- those by which a file is refused before its algorithm is read
+abbrev pub splitting_offences : List ℕ → List Offence
+splitting_offences x = filter is_split (file_offences x)
 
-abbrev pub gap_skipped : List ℕ → List ℕ
-gap_skipped x = drop (length (run is_blank x)) x
+abbrev pub if_none : {A : Type 0} → List Offence → Option A → Option A
+if_none [] o = o
+if_none (e ∷ es) o = None
 
--- between the first lines and the last two
-abbrev pub middle_parts : Word → List ℕ → Option Parts
-middle_parts m x =
-    on_some (past (codes "--algorithm") (gap_skipped x)) (λ r. if_so (begins_blank r) (on_some (kinds_in (parts r)) (parts_in m)))
+abbrev pub suiting : Beside → Parts → Option Parts
+suiting o f = if_so (suits o f) (Some f)
 
-abbrev pub ends_with_line : List ℕ → Bool
-ends_with_line x = starts_with nat_eq (reverse x) (10 ∷ [])
-
--- the parts of a text that has the form
+-- the parts of the algorithm in a file that has the form
 abbrev pub form_of : List ℕ → Option Parts
 form_of x =
-    on_some (past (codes "---- MODULE ") x) (λ r. let m : Word = run is_word r in
-    on_some (past (first_lines m) x) (λ r. on_some (before (codes "*)\n" ++ last_line) r) (λ y. if_so (ends_with_line y) (middle_parts m y))))
+    if_none (splitting_offences x) (on_some (algorithm_in x) (λ a. on_some (title (walk x)) (λ m.
+    on_some (parts_of m (algorithm_kinds x a)) (suiting (beside (walk x))))))
 
-abbrev pub offence_unless : Option Parts → List Offence
-offence_unless (Some f) = []
-offence_unless None = (LeftOutWord, 0) ∷ []
+-- ---- its offences
 
--- the one offence so far, at the text's start
+-- rule 11 at the file's start, where nothing else is wrong and no form is found
+abbrev pub offences_with : List Offence → Option Parts → List Offence
+offences_with [] (Some f) = []
+offences_with [] None = (LeftOutWord, 0) ∷ []
+offences_with (o ∷ os) f = o ∷ os
+
 abbrev pub form_offences : List ℕ → List Offence
-form_offences x = offence_unless (form_of x)
+form_offences x = offences_with (splitting_offences x) (form_of x)
 
--- the text is refused so: by its first offence
+-- the file is refused so: by its first offence
 abbrev pub FirstOffence : List ℕ → Refusal → Type 0
 FirstOffence x r = (at : ℕ) × (least (form_offences x) ≡ Some (r.rule, at)) × (r.place ≡ place_at x at)
 
--- rule 11 at the text's start
+-- rule 11 at the file's start
 abbrev pub left_out : Refusal
 left_out = record { rule = LeftOutWord; place = start }

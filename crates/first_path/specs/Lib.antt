@@ -1,3 +1,4 @@
+pub mod Beside
 pub mod Form
 pub mod FormRead
 pub mod Placed

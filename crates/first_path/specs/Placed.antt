@@ -1,5 +1,5 @@
--- The algorithm of a text of the form, and its translation, as trees; and the file with the translation ("A PlusCal User's Manual", chapter 3).
-use Rattle.std.specs.Prelude.{ℕ, ◌-◌, List, [], ◌∷◌, ◌++◌, length, take, false, Some, None, codes}
+-- The algorithm of the form, and its translation, as trees; and the file with the translation ("A PlusCal User's Manual", section 2.2 and chapter 3).
+use Rattle.std.specs.Prelude.{ℕ, List, [], ◌∷◌, ◌++◌, take, drop, false, Option, Some, None, codes}
 use Rattle.tla_token.specs.declared.place.Place.{Place}
 use Rattle.tla_token.specs.Places.{start}
 use Rattle.tla_expr.specs.declared.op.Op.{Op}
@@ -11,8 +11,10 @@ use Rattle.pcal_tree.specs.declared.mark.Mark.TheVariants.{Plain}
 use Rattle.pcal_tree.specs.Algorithm.{Name, Algorithm, Span, assign, done, then, mark, no_assignments, assignment, equals, alone}
 use Rattle.module_text.specs.Module.{test, setting, no_items, item, call, one_way, all_of, Action, Region, Module}
 use Rattle.module_text.specs.Layout.{layout}
-use Rattle.module_text.specs.Around.{begin_line, end_line}
-use Rattle.first_path.specs.Form.{Operand, number_operand, variable_operand, Right, single, sum, Parts, last_line}
+use Rattle.module_text.specs.Walk.{walk}
+use Rattle.module_text.specs.FileParts.{Span as Stretch, spot}
+use Rattle.module_text.specs.WithTranslation.{begin_line, end_line, line_end_if_new}
+use Rattle.first_path.specs.Form.{Operand, number_operand, variable_operand, Right, single, sum, Parts}
 
 -- a place for each token, by its number
 abbrev pub Places : Type 0
@@ -90,13 +92,9 @@ region_at q f = record {
   termination = is_at (codes "Done") (q 11) (q 12);
 }
 
--- the module extends Integers, and has nothing else outside
-abbrev pub integers_alone : Outside
-integers_alone = record { extended = codes "Integers" ∷ []; constants = []; definitions = []; opaque = [] }
-
--- the module with it
-abbrev pub module_at : Places → Parts → Module
-module_at q f = record { title = f.title; outside = integers_alone; region = region_at q f }
+-- the module with it, and with this outside
+abbrev pub module_at : Outside → Places → Parts → Module
+module_at o q f = record { title = f.title; outside = o; region = region_at q f }
 
 -- ---- the file
 
@@ -104,6 +102,10 @@ module_at q f = record { title = f.title; outside = integers_alone; region = reg
 abbrev pub region_of : Parts → Region
 region_of f = region_at (λ i. start) f
 
--- the text with the translation before its last line
+-- the file x with a text between the two lines of its translation, which go where they are to go
+abbrev pub put_in : List ℕ → List ℕ → Option Stretch → List ℕ
+put_in x t None = x
+put_in x t (Some at) = take at.from x ++ (begin_line ++ (t ++ (end_line ++ (line_end_if_new x ++ drop at.to x))))
+
 abbrev pub translation_of : List ℕ → Parts → List ℕ
-translation_of x f = take (length x - length last_line) x ++ begin_line ++ layout (region_of f) ++ end_line ++ codes "\n" ++ last_line
+translation_of x f = put_in x (layout (region_of f)) (spot (walk x))

@@ -1,8 +1,9 @@
--- A worked example that meets the premises of the promise: a text of the form, and its algorithm's first state, and the one where it is done.
-use Rattle.std.specs.Prelude.{ℕ, pos, bytes_eq, cond, List, Some, None, codes}
+-- Two worked files of the form. Of the first the premises of the promise are met: its algorithm's first state, and the one where it is done.
+use Rattle.std.specs.Prelude.{ℕ, pos, bytes_eq, cond, List, [], ◌∷◌, ◌++◌, Some, None, codes}
 use Rattle.tla_expr.specs.Tree.{Word}
 use Rattle.tla_value.specs.Value.{int, text}
 use Rattle.tla_value.specs.Definitions.{Valuation}
+use Rattle.tla_value.specs.Outside.{Outside}
 use Rattle.pcal_tree.specs.Scope.{State, put}
 use Rattle.pcal_tree.specs.Program.{Program}
 use Rattle.pcal_tree.specs.Calls.{defaultInitValue}
@@ -29,9 +30,13 @@ worked_parts = record {
 abbrev pub no_more_constants : Valuation
 no_more_constants x = cond (bytes_eq (codes "defaultInitValue") x) (Some defaultInitValue) None
 
+-- the module extends Integers, and has nothing else outside
+abbrev pub integers_alone : Outside
+integers_alone = record { extended = codes "Integers" ∷ []; constants = []; definitions = []; opaque = [] }
+
 -- p and q: the places of the tokens of the algorithm, and of the leaves of its translation
 abbrev pub worked_program : Places → Places → Program
-worked_program p q = program (algorithm_at p worked_parts) (module_at q worked_parts) no_more_constants
+worked_program p q = program (algorithm_at p worked_parts) (module_at integers_alone q worked_parts) no_more_constants
 
 -- x = n and pc = "label"
 abbrev pub counted : ℕ → Word → State
@@ -42,3 +47,21 @@ at_first = counted 0 (codes "A")
 
 abbrev pub at_last : State
 at_last = counted 1 (codes "Done")
+
+-- ---- a file with all that may be beside the algorithm
+
+abbrev pub full_front : List ℕ
+full_front = codes "About this module.\n---- MODULE M ----\nEXTENDS Naturals\nCONSTANT N\nSmall(k) == k <= N\n(* Counts once.\n--algorithm Inc \\* a counter\nvariable x = 0;\nbegin\n  A: (* the one step *) x := x + 1;\nend algorithm\nNothing else. *)\n"
+
+abbrev pub full_back : List ℕ
+full_back = codes "\nInv == x >= 0\n====\nAll that is here is free.\n"
+
+-- with a translation of another algorithm
+abbrev pub full_text : List ℕ
+full_text = full_front ++ (codes "\\* BEGIN TRANSLATION\nVARIABLES y, pc\n\\* END TRANSLATION" ++ full_back)
+
+abbrev pub full_parts : Parts
+full_parts = worked_parts
+
+abbrev pub full_translation : List ℕ
+full_translation = full_front ++ (codes "\\* BEGIN TRANSLATION\nVARIABLES x, pc\n\nvars == <<x, pc>>\n\nInit ==\n  /\\ x = 0\n  /\\ pc = \"A\"\n\nA ==\n  /\\ (pc = \"A\")\n  /\\ x' = (x + 1)\n  /\\ pc' = \"Done\"\n\nTerminating ==\n  /\\ (pc = \"Done\")\n  /\\ UNCHANGED vars\n\nNext ==\n  \\/ A\n  \\/ Terminating\n\nSpec ==\n  /\\ Init\n  /\\ [][Next]_vars\n\nTermination == <>(pc = \"Done\")\n\\* END TRANSLATION" ++ full_back)

@@ -1,4 +1,4 @@
--- What is written for a text of the form.
+-- What is written for a file of the form.
 use Rattle.std.specs.Prelude.{◌≡◌, ℕ, List}
 use Rattle.pcal_tree.specs.Algorithm.{Algorithm}
 use Rattle.first_path.specs.Form.{Parts, IsForm}
@@ -6,7 +6,7 @@ use Rattle.first_path.specs.Placed.{translation_of}
 use Rattle.promise.specs.Options.{no_options}
 use Rattle.promise.specs.Headline.{Stands, Headline}
 
--- w is the text x with its translation, to the byte, and keeps the promise for the one algorithm that is in x
+-- w is the file x with its translation, to the byte, and keeps the promise for the one algorithm that is in x
 pub record Written (x w : List ℕ) : Type 0 where
   pub parts : Parts
   pub form : IsForm x parts

@@ -1,31 +1,37 @@
 //! Laws of the form, stated as what functions without a body ensure.
 
 ghost use Rattle.std.specs.Prelude.{◌≡◌, ◌⊎◌, ℕ, List, [], Some};
+ghost use Rattle.tla_token.specs.declared.rule.Refusal.{Refusal};
+ghost use Rattle.tla_token.specs.Offences.{Offence, least};
 ghost use Rattle.tla_token.specs.declared.place.Place.{Place};
+ghost use Rattle.tla_value.specs.Outside.{Outside};
 ghost use Rattle.tla_value.specs.declared.fault.FaultKind.{FaultKind};
 ghost use Rattle.pcal_tree.specs.Algorithm.{Algorithm};
 ghost use Rattle.pcal_tree.specs.Step.{Step, Stutters};
 ghost use Rattle.pcal_tree.specs.InitialStates.{Initial, InitFault};
 ghost use Rattle.module_text.specs.Reading.{Reads};
 ghost use Rattle.first_path.specs.Form.{Parts, IsForm};
-ghost use Rattle.first_path.specs.FormRead.{form_of, form_offences, FirstOffence, left_out};
+ghost use Rattle.first_path.specs.FormRead.{form_of, splitting_offences, form_offences, FirstOffence, left_out};
 ghost use Rattle.first_path.specs.Placed.{Places, algorithm_at, module_at, translation_of};
 ghost use Rattle.promise.specs.ConstantsAndStates.{AreConstants, IsState};
 ghost use Rattle.promise.specs.Options.{no_options};
 ghost use Rattle.promise.specs.Headline.{Headline, Stands};
-ghost use Rattle.first_path.specs.Worked.{worked_text, worked_parts, no_more_constants, worked_program, at_first, at_last};
+ghost use Rattle.first_path.specs.Worked.{worked_text, worked_parts, integers_alone, no_more_constants, worked_program, at_first, at_last, full_text, full_parts};
 ghost use Rattle.pcal_tree.specs.Faults.{Sound};
 
-/// The parts of a text of the form are those that are read of it, and no text that isn't of the form gives any.
+/// The parts of a file of the form are those that are read of it, and no file that isn't of the form gives any.
 pub fn forms_are_read()
     ensures found { (x : List ℕ) (f : Parts) → form_of x ≡ Some f → IsForm x f }
     ensures read { (x : List ℕ) (f : Parts) → IsForm x f → form_of x ≡ Some f }
 {}
 
-/// A text has an offence exactly if it isn't of the form, and then it is rule 11 at its start.
+/// A file has an offence exactly if it isn't of the form. It is one for which the file is refused before its algorithm is
+/// read, and else rule 11 at the file's start.
 pub fn offences_are_of_other_texts()
     ensures none { (x : List ℕ) (f : Parts) → IsForm x f → form_offences x ≡ [] }
-    ensures first { (x : List ℕ) → ((f : Parts) → IsForm x f → ⊥) → FirstOffence x left_out }
+    ensures some { (x : List ℕ) → ((f : Parts) → IsForm x f → ⊥) → (r : Refusal) × FirstOffence x r }
+    ensures splitting { (x : List ℕ) (o : Offence) → least (splitting_offences x) ≡ Some o → least (form_offences x) ≡ Some o }
+    ensures first { (x : List ℕ) → ((f : Parts) → IsForm x f → ⊥) → splitting_offences x ≡ [] → FirstOffence x left_out }
 {}
 
 /// What is written for a text of the form reads as one module alone, lies around the text, and where no
@@ -35,7 +41,13 @@ pub fn offences_are_of_other_texts()
 pub fn translations_keep_the_promise()
     ensures promise { (x : List ℕ) (f : Parts) → IsForm x f → Headline no_options x (translation_of x f) }
     ensures algorithm { (x : List ℕ) (f : Parts) → IsForm x f → (p : Places) × Stands x (algorithm_at p f) }
-    ensures module { (x : List ℕ) (f : Parts) → IsForm x f → (q : Places) × Reads (translation_of x f) (module_at q f) }
+    ensures module { (x : List ℕ) (f : Parts) → IsForm x f → (o : Outside) × (q : Places) × Reads (translation_of x f) (module_at o q f) }
+{}
+
+/// The file with its translation has the form too, with the same parts, and translating it again changes nothing.
+pub fn translating_again_changes_nothing()
+    ensures form { (x : List ℕ) (f : Parts) → IsForm x f → IsForm (translation_of x f) f }
+    ensures same { (x : List ℕ) (f : Parts) → IsForm x f → translation_of (translation_of x f) f ≡ translation_of x f }
 {}
 
 /// The premises of the promise can be met, and neither of its sides is empty: the worked module is of the form, and
@@ -43,7 +55,8 @@ pub fn translations_keep_the_promise()
 /// another, sound too. It doesn't begin in that one, and doesn't stay where it begins.
 pub fn some_module_steps()
     ensures form { IsForm worked_text worked_parts }
-    ensures constants { (q : Places) → AreConstants (module_at q worked_parts) no_more_constants }
+    ensures full_form { IsForm full_text full_parts }
+    ensures constants { (q : Places) → AreConstants (module_at integers_alone q worked_parts) no_more_constants }
     ensures states { (p q : Places) → IsState (worked_program p q) at_first × IsState (worked_program p q) at_last }
     ensures starts { (p q : Places) → Sound (worked_program p q) at_first × Initial (worked_program p q) at_first }
     ensures no_fault { (p q : Places) (kind : FaultKind) (at : Place) → InitFault (worked_program p q) at_first kind at → ⊥ }

@@ -147,7 +147,7 @@ read_there v w ts us e (constants xs) (inr h) = (let n = named_there (codes "CON
 read_there v w ts us e (defines d) h = (let f : false ≡ true = h.0 in absurd cc)
 read_there v w ts us e (opaque o) h = absurd h
 
-same_identifiers : (ts us : List Token) → looks ts ≡ looks us → identifiers ts ≡ identifiers us
+pub same_identifiers : (ts us : List Token) → looks ts ≡ looks us → identifiers ts ≡ identifiers us
 same_identifiers [] [] e = refl
 same_identifiers [] (u ∷ us) e = absurd cc
 same_identifiers (t ∷ ts) [] e = absurd cc
@@ -173,7 +173,7 @@ same_title (t ∷ d ∷ ts) (u ∷ c ∷ us) e =
     let ids = same_identifiers (t ∷ []) (u ∷ []) (ap (λ (l : Look). l ∷ []) f) in
     λ i. cond (is_define (k i)) (ids i) []
 
-same_opaque : (ts us : List Token) → looks ts ≡ looks us → unplaced (opaque_of ts) ≡ unplaced (opaque_of us)
+pub same_opaque : (ts us : List Token) → looks ts ≡ looks us → unplaced (opaque_of ts) ≡ unplaced (opaque_of us)
 same_opaque [] [] e = refl
 same_opaque [] (u ∷ us) e = absurd cc
 same_opaque (t ∷ ts) [] e = absurd cc

@@ -1,19 +1,21 @@
--- The translation of a text of the form is the one that is written for its algorithm, as for any other.
+-- The translation of a file of the form is the one that is written for its algorithm, as for any other.
 use Rattle.std.proofs.Common.{◌≡◌, ℕ, [], Bool, true, false, ◌||◌, cond, bytes_eq, codes, refl, ap, ◌∙◌, IsTrue}
 use Rattle.tla_token.specs.declared.place.Place.{Place}
 use Rattle.tla_expr.specs.Tree.{Word}
 use Rattle.tla_expr.specs.laws.Placeless.{tree_placeless}
 use Rattle.tla_value.specs.Stops.{plain}
 use Rattle.tla_value.specs.Definitions.{no_state}
+use Rattle.tla_value.specs.Outside.{Outside}
 use Rattle.pcal_tree.specs.Algorithm.{nowhere, Naming, Algorithm}
 use Rattle.pcal_tree.specs.Placeless.{no_span, placeless}
 use Rattle.pcal_tree.specs.Names.{naming}
 use Rattle.pcal_tree.specs.Program.{Program}
 use Rattle.pcal_tree.specs.Calls.{label_name}
 use Rattle.first_path.specs.Form.{number_operand, variable_operand, Right, single, sum, Parts, is_fit}
-use Rattle.first_path.specs.Placed.{Places, right_tree, statement_span, algorithm_at, region_at, integers_alone}
+use Rattle.first_path.specs.Placed.{Places, right_tree, statement_span, algorithm_at, region_at}
 use Rattle.first_path.proofs.Names.{word_same}
 use Rattle.first_path.proofs.Fit.{fit_of}
+use Rattle.first_path.proofs.OutsideApart.{Apart}
 use Rattle.first_path.proofs.MeansStep.{Kept, program_of, routine}
 use Rattle.first_path.proofs.MeansNext.{label_kept}
 use Rattle.action_builder.specs.InitialFormulas.{init}
@@ -44,7 +46,7 @@ algorithm_is p f = rw (tree_is f.variable f.right (p 12) (p 14), span_is f.right
 -- ---- its translation
 
 -- the one label keeps its name
-label_is : (names : Naming) (f : Parts) → Kept f names → label_name (program_of nowhere_at_all f names no_state) (routine nowhere_at_all f) f.label ≡ f.label
+label_is : (names : Naming) (f : Parts) → Kept f names → label_name (program_of [] nowhere_at_all f names no_state) (routine nowhere_at_all f) f.label ≡ f.label
 label_is names f kept = by (bytes_eq (codes "Done") f.label || bytes_eq (codes "Error") f.label)
   where
     by : (b : Bool) → cond b f.label (names.label 0 f.label) ≡ f.label
@@ -61,7 +63,7 @@ module _ (names : Naming) (t a v : Word) (n : ℕ) (l : Word) where
   form r = record { title = t; algorithm = a; variable = v; initial = n; label = l; right = r }
 
   abbrev program : Right → Program
-  program r = program_of nowhere_at_all (form r) names no_state
+  program r = program_of [] nowhere_at_all (form r) names no_state
 
   init_is : (r : Right) → Kept (form r) names → init (program r) ≡ (region_at nowhere_at_all (form r)).init
   init_is r kept = rw (label_is names (form r) kept) refl
@@ -80,8 +82,8 @@ module _ (names : Naming) (t a v : Word) (n : ℕ) (l : Word) where
   region_is : (r : Right) → Kept (form r) names → region_of false (program r) ≡ region_at nowhere_at_all (form r)
   region_is r kept = λ i. record (region_at nowhere_at_all (form r)) { init = init_is r kept i; actions = actions_are r kept i; next = next_is r kept i }
 
-pub written_of_form : (p : Places) (f : Parts) → IsTrue (is_fit f) → written_region false integers_alone (algorithm_at p f) ≡ region_at nowhere_at_all f
-written_of_form p f h =
+pub written_of_form : (o : Outside) (p : Places) (f : Parts) → IsTrue (is_fit f) → Apart o f → written_region false o (algorithm_at p f) ≡ region_at nowhere_at_all f
+written_of_form o p f h a =
     let g = algorithm_at nowhere_at_all f in
-    ap (λ (a : Algorithm). region_of false (record { check = plain; constants = no_state; outside = []; algorithm = a; naming = naming a integers_alone })) (algorithm_is p f)
-    ∙ region_is (naming g integers_alone) f.title f.algorithm f.variable f.initial f.label f.right (label_kept nowhere_at_all nowhere_at_all f (fit_of f h))
+    ap (λ (a : Algorithm). region_of false (record { check = plain; constants = no_state; outside = []; algorithm = a; naming = naming a o })) (algorithm_is p f)
+    ∙ region_is (naming g o) f.title f.algorithm f.variable f.initial f.label f.right (label_kept o nowhere_at_all f (fit_of f h) a)

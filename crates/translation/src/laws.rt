@@ -3,7 +3,8 @@
 ghost use Rattle.std.specs.Prelude.{◌≡◌, ℕ, List, Bool, false, Some, map};
 ghost use Rattle.tla_expr.specs.Tree.{Word};
 ghost use Rattle.tla_value.specs.Outside.{Outside};
-ghost use Rattle.module_text.specs.Module.{test, item};
+ghost use Rattle.module_text.specs.Module.{test, item, Module};
+ghost use Rattle.module_text.specs.Reading.{Reads};
 ghost use Rattle.pcal_tree.specs.Algorithm.{Routine, Algorithm};
 ghost use Rattle.pcal_tree.specs.Scope.{Scope};
 ghost use Rattle.pcal_tree.specs.Run.{Rules};
@@ -16,7 +17,7 @@ ghost use Rattle.pcal_tree.specs.Labelled.{labelled};
 ghost use Rattle.module_text.specs.Around.{Around};
 ghost use Rattle.promise.specs.Headline.{Stands};
 ghost use Rattle.first_path.specs.Form.{Parts, IsForm};
-ghost use Rattle.first_path.specs.Placed.{integers_alone, translation_of};
+ghost use Rattle.first_path.specs.Placed.{translation_of};
 ghost use Rattle.action_builder.specs.WrittenNames.{with_names};
 ghost use Rattle.action_builder.specs.LabelActions.{at_test, items_from};
 ghost use Rattle.action_builder.specs.laws.Settling.{Callable};
@@ -51,9 +52,9 @@ pub fn the_actions_of_labels_are_those_of_steps()
         → items_from P u l (Some b) ≡ item (test (at_test P u l)) (action_of (vars P) (written_step P u l b rules names callable scope)) }
 {}
 
-/// What is written for a text of the form is the text with the written module of the algorithm that is in it, labels added
-/// where there are none: the form's own translation is an instance of the whole one.
+/// What is written for a file of the form is the file with the written module of the algorithm that is in it, labels added
+/// where there are none, in the module that it reads as: the form's own translation is an instance of the whole one.
 pub fn the_form_is_translated_as_any_algorithm()
-    ensures { (x : List ℕ) (f : Parts) → IsForm x f → (a : Algorithm) → Stands x a
-        → Around x (written_module false f.title integers_alone (labelled false a)) (translation_of x f) }
+    ensures { (x : List ℕ) (f : Parts) → IsForm x f → (m : Module) → Reads (translation_of x f) m → (a : Algorithm) → Stands x a
+        → Around x (written_module false f.title m.outside (labelled false a)) (translation_of x f) }
 {}

@@ -1,9 +1,12 @@
 -- Proves the law `some_module_steps`.
-use Rattle.first_path.proofs.Witness.{form_worked, constants_worked, first_state, last_state, begins_worked, never_fault_worked, never_fault_at_last, not_at_last, steps_worked, first_sound, last_sound, still_worked, not_idle}
+use Rattle.first_path.proofs.Witness.{form_worked, form_full, constants_worked, first_state, last_state, begins_worked, never_fault_worked, never_fault_at_last, not_at_last, steps_worked, first_sound, last_sound, still_worked, not_idle}
 use Rattle.first_path.proofs.laws.some_module_steps.Goals as goal
 
 pub returns-clause-form : goal.returns-clause-form
 returns-clause-form c = form_worked
+
+pub returns-clause-full_form : goal.returns-clause-full_form
+returns-clause-full_form c = form_full
 
 pub returns-clause-constants : goal.returns-clause-constants
 returns-clause-constants c = constants_worked

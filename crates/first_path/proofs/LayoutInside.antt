@@ -1,5 +1,5 @@
--- The walk of the written text: the text before its last line as it was, the translation as one region, a newline, and the module's end.
-use Rattle.std.proofs.Common.{◌≡◌, ℕ, Bool, true, false, not, ◌&&◌, nat_eq, List, [], ◌∷◌, ◌++◌, length, Option, Some, None, refl, ap, ◌∙◌, sym, codes, append_assoc}
+-- The text of a translation is whole lines, and none of them is an END line.
+use Rattle.std.proofs.Common.{◌≡◌, ℕ, Bool, true, false, not, nat_eq, List, [], ◌∷◌, ◌++◌, None, refl, ap, ◌∙◌, sym, codes, append_assoc}
 use Rattle.std.specs.List.{list_all}
 use Rattle.std.proofs.lemmas.Bool.{and_parts, and_from}
 use Rattle.std.proofs.Math.Bool.{and-false}
@@ -11,25 +11,20 @@ use Rattle.tla_token.specs.Places.{start}
 use Rattle.module_text.specs.TextFront.{Text, is_space, past_all as past}
 use Rattle.module_text.specs.TextFront as front
 use Rattle.module_text.specs.HeaderAndRegion.{is_end}
-use Rattle.module_text.specs.Walk.{tail, State, at_end_line, after_segment, Located, walk}
-use Rattle.module_text.specs.Around.{begin_line, end_line}
+use Rattle.module_text.specs.Walk.{at_end_line}
 use Rattle.module_text.specs.Layout.{layout, unit_text, units_text}
 use Rattle.module_text.specs.Ways.{processes_in}
 use Rattle.module_text.specs.Module.{RegionUnit, variables_unit, vars_unit, init_unit, action_unit, terminating_unit, next_unit, spec_unit, termination_unit}
-use Rattle.module_text.specs.laws.Walks.{is_lined, IsInside, made, located, newline_segment}
+use Rattle.module_text.specs.laws.Walks.{is_lined, IsInside}
 use Rattle.module_text.proofs.WalkResumed.{lined_end}
-use Rattle.module_text.proofs.WalkWritten.{region_walk}
-use Rattle.module_text.proofs.WalkAround.{newline_walk}
-use Rattle.first_path.specs.Form.{Parts, is_fit, last_line, IsForm}
-use Rattle.first_path.specs.Placed.{step_at, ended_at, region_of, translation_of}
+use Rattle.first_path.specs.Form.{Parts, is_fit}
+use Rattle.first_path.specs.Placed.{step_at, ended_at, region_of}
 use Rattle.first_path.proofs.Names.{every}
 use Rattle.first_path.proofs.Fit.{fit_of}
-use Rattle.first_path.proofs.Lines.{header_line, comment_of, units_before}
 use Rattle.first_path.proofs.Pieces.{region_pieces}
 use Rattle.first_path.proofs.RegionText.{region_is}
 use Rattle.first_path.proofs.RegionFits.{region_fits}
 use Rattle.first_path.proofs.RegionBytes.{is_inline, all_inline, region_inline}
-use Rattle.first_path.proofs.Walked.{header_located, front_located, after_front, front_walked, end_walked, comment_ends, front_is}
 
 -- ---- no star is in the translation
 
@@ -102,43 +97,7 @@ no_end_line [] h first = refl
 no_end_line (b ∷ w) h first =
     rw (no_end (b ∷ w) h, and-false first, no_end_line w (and_parts (no_star b) (list_all no_star w) h).1 (nat_eq b 10)) refl
 
-layout_inside : (f : Parts) → is_fit f ≡ true → IsInside (layout (region_of f))
+pub layout_inside : (f : Parts) → is_fit f ≡ true → IsInside (layout (region_of f))
 layout_inside f h =
     let (less, e) = layout_ends f in
     (ap is_lined e ∙ lined_end less, no_end_line (layout (region_of f)) (layout_starless f h) true)
-
--- ---- the walk
-
-pub written_is : (x : List ℕ) (f : Parts) (h : IsForm x f) → translation_of x f
-    ≡ header_line f.title ++ (units_before h.gap h.pieces ++ (begin_line ++ (layout (region_of f) ++ (end_line ++ (codes "\n" ++ last_line)))))
-written_is x f h =
-    ap (λ w. w ++ begin_line ++ layout (region_of f) ++ end_line ++ codes "\n" ++ last_line) (front_is x f h)
-    ∙ in_order (header_line f.title) (units_before h.gap h.pieces) begin_line (layout (region_of f)) end_line (codes "\n") last_line
-  where
-    in_order : (h u b l e n z : Text) → h ++ u ++ b ++ l ++ e ++ n ++ z ≡ h ++ (u ++ (b ++ (l ++ (e ++ (n ++ z)))))
-    in_order h u b l e n z = simp append_assoc refl
-
--- after the region, and after its line
-abbrev pub after_region : Parts → List ℕ → State
-after_region f body = after_segment (after_front f.title body) (made (layout (region_of f)))
-
-abbrev pub region_located : Parts → List ℕ → Located
-region_located f body = located (after_front f.title body) (made (layout (region_of f)))
-
-abbrev pub written_located : Parts → List ℕ → List Located
-written_located f body =
-    let st = after_region f body in
-    header_located f.title ∷ (front_located f.title body ++ (region_located f body ∷ located st newline_segment ∷ located (after_segment st newline_segment) (tail last_line) ∷ []))
-
-pub written_walked : (x : List ℕ) (f : Parts) (h : IsForm x f) → walk (translation_of x f) ≡ written_located f (comment_of h.gap h.pieces)
-written_walked x f h =
-    let t = f.title in
-    let body = comment_of h.gap h.pieces in
-    let l = layout (region_of f) in
-    let st = after_region f body in
-    let on : List Located → List Located = λ ds. header_located t ∷ (front_located t body ++ ds) in
-    ap (λ (u : Text). walk u) (written_is x f h)
-    ∙ front_walked t h.gap h.pieces (begin_line ++ (l ++ (end_line ++ 10 ∷ last_line))) (fit_of f h.fit).title (comment_ends x f h)
-    ∙ ap on (region_walk (after_front t body) l (10 ∷ last_line) (refl, refl, refl) (layout_inside f h.fit) refl)
-    ∙ ap (λ (ds : List Located). on (region_located f body ∷ ds)) (newline_walk st last_line refl)
-    ∙ ap (λ (ds : List Located). on (region_located f body ∷ located st newline_segment ∷ ds)) (end_walked (after_segment st newline_segment) refl)

@@ -1,0 +1,61 @@
+-- What is beside an algorithm is the same in the file with its translation: it doesn't depend on lines.
+use Rattle.std.proofs.Common.{◌≡◌, List, [], ◌∷◌, ◌++◌, cond, bytes_eq, codes, map, refl, sym, ap, ◌∙◌}
+use Rattle.std.specs.List.{flat_map}
+use Rattle.std.proofs.lemmas.Grind.{flat_map-append}
+use Rattle.tla_expr.specs.Tree.{Word}
+use Rattle.tla_expr.specs.Lexical.{Token}
+use Rattle.tla_expr.specs.TokenViews.{views}
+use Rattle.tla_expr.specs.FirstStop.{looks}
+use Rattle.module_text.specs.TextFront.{Text}
+use Rattle.module_text.specs.Walk.{Located, walk}
+use Rattle.module_text.specs.FileParts.{before_spot, after_spot}
+use Rattle.module_text.specs.FileUnits.{tokens_in, units_in}
+use Rattle.module_text.specs.Outside.{identifiers}
+use Rattle.module_text.specs.laws.Kept.{KeepsFile}
+use Rattle.module_text.proofs.OutsideAlike.{same_views, same_units, same_identifiers, same_opaque}
+use Rattle.first_path.specs.Beside.{declared_by, extended_by, beside}
+
+-- what a unit gives is the same in other lines
+abbrev SameIn : (List Token → List Word) → Type 0
+SameIn g = (ts us : List Token) → looks ts ≡ looks us → g ts ≡ g us
+
+same_declared : SameIn declared_by
+same_declared ts us e = (let o = same_opaque ts us e in λ i. (o i).0 ∷ (o i).1)
+
+same_extended : SameIn extended_by
+same_extended ts us e =
+    let o = same_opaque ts us e in
+    let words = same_identifiers ts us e in
+    λ i. cond (bytes_eq (o i).0 (codes "EXTENDS")) (words i) []
+
+all_same : (g : List Token → List Word) → SameIn g → (tss uss : List (List Token)) → map looks tss ≡ map looks uss → flat_map g tss ≡ flat_map g uss
+all_same g s [] [] e = refl
+all_same g s [] (us ∷ uss) e = absurd cc
+all_same g s (ts ∷ tss) [] e = absurd cc
+all_same g s (ts ∷ tss) (us ∷ uss) e =
+    let here : looks ts ≡ looks us = cc in
+    let more : map looks tss ≡ map looks uss = cc in
+    let first = s ts us here in
+    let others = all_same g s tss uss more in
+    λ i. first i ++ others i
+
+after_same : (g : List Token → List Word) → SameIn g → (before tss uss : List (List Token)) → map looks tss ≡ map looks uss → flat_map g (before ++ tss) ≡ flat_map g (before ++ uss)
+after_same g s before tss uss e =
+    flat_map-append g before tss ∙ ap (λ (ws : List Word). flat_map g before ++ ws) (all_same g s tss uss e) ∙ sym (flat_map-append g before uss)
+
+pub beside_kept : (x t w : Text) → KeepsFile x t w → beside (walk w) ≡ beside (walk x)
+beside_kept x t w k =
+    let before : List (List Token) = (units_in (before_spot (walk x))).units in
+    let old : List (List Token) = (units_in (after_spot (walk x))).units in
+    let new : List (List Token) = (units_in (after_spot (walk w))).units in
+    let there = tokens_in (after_spot (walk w)) in
+    let here = tokens_in (after_spot (walk x)) in
+    let after : map looks new ≡ map looks old = same_units (views there) (views here) (same_views there here k.after) in
+    let declared = after_same declared_by same_declared before new old after in
+    let extended = after_same extended_by same_extended before new old after in
+    ap (λ (ds : List Located). record {
+      words = identifiers (views (tokens_in ds));
+      declared = flat_map declared_by ((units_in ds).units ++ new);
+      extended = flat_map extended_by ((units_in ds).units ++ new);
+    }) k.before
+    ∙ (λ i. record { words = identifiers (views (tokens_in (before_spot (walk x)))); declared = declared i; extended = extended i })

@@ -1,0 +1,32 @@
+-- A file of the form has a place for its translation, and the file with the translation is what is written.
+use Rattle.std.proofs.Common.{◌≡◌, ℕ, List, Option, Some, sym, ap, ◌∙◌}
+use Rattle.tla_value.specs.Outside.{Outside}
+use Rattle.module_text.specs.TextFront.{Text}
+use Rattle.module_text.specs.Walk.{walk}
+use Rattle.module_text.specs.FileParts.{Span, spot}
+use Rattle.module_text.specs.Around.{Around}
+use Rattle.module_text.specs.Layout.{layout}
+use Rattle.module_text.specs.WithTranslation.{WithTranslation}
+use Rattle.module_text.specs.laws.Kept.{KeepsFile}
+use Rattle.module_text.proofs.WalkKept.{has_spot}
+use Rattle.module_text.proofs.WalkSame.{keeps_file}
+use Rattle.first_path.specs.Form.{Parts, IsForm}
+use Rattle.first_path.specs.Placed.{Places, module_at, region_of, put_in, translation_of}
+use Rattle.first_path.proofs.RegionText.{placeless}
+use Rattle.first_path.proofs.LayoutInside.{layout_inside}
+
+-- where there is a place, the text goes there
+pub put_there : (x t : Text) (at : Span) → spot (walk x) ≡ Some at → WithTranslation x t (put_in x t (spot (walk x)))
+put_there x t at e = record { at = at; is_spot = e; is = ap (λ (o : Option Span). put_in x t o) e }
+
+pub placed : (x : List ℕ) (f : Parts) → IsForm x f → WithTranslation x (layout (region_of f)) (translation_of x f)
+placed x f h = (let s = has_spot x h.fine in put_there x (layout (region_of f)) s.0 s.1)
+
+-- it is around the text wherever its trees say that they are
+pub around : (x : List ℕ) (o : Outside) (q : Places) (f : Parts) → IsForm x f → Around x (module_at o q f) (translation_of x f)
+around x o q f h =
+    let a = placed x f h in
+    record { at = a.at; is_spot = a.is_spot; is = a.is ∙ ap (λ (t : Text). put_in x t (Some a.at)) (sym (placeless q f)) }
+
+pub kept : (x : List ℕ) (f : Parts) → IsForm x f → KeepsFile x (layout (region_of f)) (translation_of x f)
+kept x f h = keeps_file x (layout (region_of f)) (translation_of x f) h.fine (layout_inside f h.fit) (placed x f h)
