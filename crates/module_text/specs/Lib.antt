@@ -12,6 +12,7 @@ pub mod FileParts
 pub mod AlgorithmText
 pub mod FileUnits
 pub mod FileOffences
+pub mod Splitting
 pub mod WithTranslation
 pub mod Around
 pub mod ActionTruth

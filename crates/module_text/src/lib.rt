@@ -3,3 +3,6 @@
 
 pub mod laws;
 pub mod lines;
+pub mod parts;
+
+pub use parts::Parts;
