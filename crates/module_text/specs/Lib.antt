@@ -13,6 +13,7 @@ pub mod AlgorithmText
 pub mod FileUnits
 pub mod FileOffences
 pub mod Splitting
+pub mod InMemory
 pub mod WithTranslation
 pub mod Around
 pub mod ActionTruth

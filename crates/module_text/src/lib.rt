@@ -3,6 +3,8 @@
 
 pub mod laws;
 pub mod lines;
+pub mod module;
 pub mod parts;
 
+pub use module::{Action, Body, Call, Fairness, Item, Module, Opaque, Outside, Region, Way};
 pub use parts::Parts;
