@@ -14,6 +14,7 @@ pub mod FileUnits
 pub mod FileOffences
 pub mod Splitting
 pub mod InMemory
+pub mod Apart
 pub mod WithTranslation
 pub mod Around
 pub mod ActionTruth
