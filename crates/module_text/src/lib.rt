@@ -15,3 +15,6 @@ pub use module::{Action, Body, Call, Fairness, Item, Module, Opaque, Outside, Re
 pub use parts::Parts;
 pub use write_file::{with_translation, write_module};
 pub use write_units::write_region;
+
+#[cfg(test)]
+mod writing_tests;

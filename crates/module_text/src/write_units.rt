@@ -20,12 +20,12 @@ use tla_value::names::Definition;
 
 // ---- names
 
-fn write_constants(names: &NameList, into: &mut Text) -> Result<(), AllocError>
-    ensures { OnOk result (into.new ≡ into.old ++ ahead 0 (model_value_units names.now)) }
+fn write_constants(constants: &NameList, into: &mut Text) -> Result<(), AllocError>
+    ensures { OnOk result (into.new ≡ into.old ++ ahead 0 (model_value_units constants.now)) }
 {
-    if names.len() > 0 {
+    if constants.len() > 0 {
         into.extend(b"CONSTANT ")?;
-        write_joined(names.as_slice(), into)?;
+        write_joined(constants.as_slice(), into)?;
         into.extend(b"\n\n")?;
     }
     Ok(())
