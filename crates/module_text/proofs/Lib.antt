@@ -15,6 +15,7 @@ mod RowsOutside
 mod RowsReading
 mod RowsFiles
 mod RowsUnits
+mod RowsInMemory
 pub mod WalkLines
 pub mod WalkWhole
 pub mod WalkResumed
@@ -43,3 +44,11 @@ pub mod BeginningsKept
 pub mod AlgorithmKept
 pub mod AlgorithmMoved
 pub mod FineKept
+pub mod ItemEquations
+pub mod Below
+pub mod Heights
+pub mod Regrouped
+pub mod OneMore
+pub mod LayoutParts
+pub mod SpotWithin
+pub mod InMemoryGrown
