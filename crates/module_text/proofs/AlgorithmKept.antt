@@ -204,7 +204,7 @@ record FirstFine (x : Text) (d : Located) (n : ℕ) (others : List ℕ) : Type 0
   within_tokens : list_all (in_token (at_comment x d n)) others ≡ true
   placed : Placed x d n
 
-placed_at : (x : Text) (d : Located) (n : ℕ) → offences_of (walk x) ≡ [] → find holds_algorithm (walk x) ≡ Some d → first_of (beginnings_in d) ≡ Some n → Placed x d n
+pub placed_at : (x : Text) (d : Located) (n : ℕ) → offences_of (walk x) ≡ [] → find holds_algorithm (walk x) ≡ Some d → first_of (beginnings_in d) ≡ Some n → Placed x d n
 placed_at x d n fine f o =
     let split = before_whole holds_algorithm (walk x) d f in
     placed x (before_first holds_algorithm (walk x)) (after_first holds_algorithm (walk x)) d n (fine_here x _ _ d fine split) split o

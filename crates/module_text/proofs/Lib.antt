@@ -43,3 +43,6 @@ pub mod BeginningsKept
 pub mod AlgorithmKept
 pub mod AlgorithmMoved
 pub mod FineKept
+pub mod PairedMarks
+pub mod WalkAlike
+pub mod SwappedBack

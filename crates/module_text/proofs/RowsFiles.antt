@@ -5,17 +5,18 @@ use Rattle.tla_token.specs.declared.rule.Rule.{Rule}
 use Rattle.tla_token.specs.declared.rule.Rule.TheVariants.{NotAscii, BadToken, OpenComment, OpenString, NoModule, NoAlgorithm, TwoAlgorithms, BadRegion, Placement, Options, NumberTooBig}
 use Rattle.tla_token.specs.Places.{place_at}
 use Rattle.tla_token.specs.Tokens as text
-use Rattle.tla_token.specs.Tokens.{stretch}
-use Rattle.tla_token.specs.Offences.{least}
+use Rattle.tla_token.specs.Tokens.{blank, stretch}
+use Rattle.tla_token.specs.Offences.{sound, least}
 use Rattle.tla_expr.specs.Lexical.{Token}
 use Rattle.module_text.specs.TextFront.{Text, on_some}
-use Rattle.module_text.specs.Walk.{walk}
+use Rattle.module_text.specs.Walk.{header, part, walk}
 use Rattle.module_text.specs.FileParts.{title, region_of, spot, before_spot, after_spot, inside_region}
 use Rattle.module_text.specs.WithTranslation.{WithTranslation, Swapped}
 use Rattle.module_text.specs.AlgorithmText.{AlgorithmText, Stage, open_p, past_p, past_c, is_c, algorithm_in, algorithm_tokens}
 use Rattle.module_text.specs.FileUnits.{units_in}
 use Rattle.module_text.specs.FileOffences.{file_offences}
 use Rattle.module_text.specs.laws.Kept.{IsFine, TokensMoved}
+use Rattle.module_text.specs.laws.Swaps.{is_paired, segments}
 
 abbrev head : Text
 head = codes "---- MODULE M ----\n"
@@ -265,3 +266,18 @@ fine_before = refl
 
 fine_after : IsFine two_lines
 fine_after = refl
+
+-- ---- texts that open and close comments only within themselves
+
+paired : is_paired 0 (codes "--algorithm A (* (* *) *) { }") ≡ true
+paired = refl
+
+-- a line comment with a lone mark, and a mark that something else would make whole
+unpaired : is_paired 0 (codes "--algorithm A \\* (*\n{ }") ≡ false
+unpaired = refl
+
+unended : is_paired 0 (codes "--algorithm A *") ≡ false
+unended = refl
+
+without_places : segments (walk (codes "---- MODULE M ----\n\n")) ≡ header (codes "---- MODULE M ----\n") ∷ part (sound (blank 10)) ∷ []
+without_places = refl

@@ -1,8 +1,8 @@
 //! Laws of modules, stated as what functions without a body ensure.
 
-ghost use Rattle.std.specs.Prelude.{◌≡◌, ◌++◌, ◌∷◌, [], ℕ, List, Some, is_some, true, false};
+ghost use Rattle.std.specs.Prelude.{◌≡◌, ◌+◌, ◌≤◌, nat_eq, ◌++◌, ◌∷◌, [], length, ℕ, List, Some, is_some, true, false};
 ghost use Rattle.std.specs.List.{list_any};
-ghost use Rattle.tla_token.specs.Tokens.{EndsLine, TokAlgorithm};
+ghost use Rattle.tla_token.specs.Tokens.{EndsLine, Closes, stretch, TokAlgorithm};
 ghost use Rattle.tla_token.specs.declared.rule.Refusal.{Refusal};
 ghost use Rattle.module_text.specs.Module.{Region, RegionUnit, units_of, Module};
 ghost use Rattle.tla_expr.specs.Lexical.{Token};
@@ -17,6 +17,7 @@ ghost use Rattle.module_text.specs.Walk.{State, Located, region, walk, walk_from
 ghost use Rattle.module_text.specs.FileParts.{before_spot};
 ghost use Rattle.module_text.specs.WithTranslation.{begin_line, end_line, WithTranslation};
 ghost use Rattle.module_text.specs.laws.Kept.{IsFine, only_large, KeepsFile, SameAlgorithm, AlgorithmMoved, IsPut};
+ghost use Rattle.module_text.specs.laws.Swaps.{is_paired, segments};
 ghost use Rattle.module_text.specs.laws.Outsides.{HasOutside, AllAlike, IsModuleOf};
 ghost use Rattle.module_text.specs.AlgorithmText.{AlgorithmText, algorithm_in, algorithm_tokens};
 ghost use Rattle.module_text.specs.FileOffences.{offences_of, algorithm_offences};
@@ -122,4 +123,20 @@ pub fn outsides_are_read()
 pub fn files_with_translations_are_modules()
     ensures outside { (x t w : Text) (o : Outside) → KeepsFile x t w → (h : HasOutside (walk x) o) → (q : Outside) × (there : HasOutside (walk w) q) × (there.before ≡ h.before) × AllAlike h.after there.after }
     ensures reads { (x t w : Text) (o : Outside) (n : Module) → IsFine x → KeepsFile x t w → HasOutside (walk x) o → ReadsRegion (located (after_all at_start (before_spot (walk x))) (made t)) n → is_some n.region.ended ≡ list_any is_terminating n.region.next → IsModuleOf x w o n.region }
+{}
+
+/// A comment in which a text that opens and closes comments only within itself takes the place of another such text ends where
+/// it did. Both begin with a dash, as algorithms do.
+pub fn comments_stay_closed()
+    ensures { (p a u q : Text) → is_paired 0 (45 ∷ a) ≡ true → is_paired 0 (45 ∷ u) ≡ true → Closes 1 (p ++ 45 ∷ (a ++ q)) → Closes 1 (p ++ 45 ∷ (u ++ q)) }
+{}
+
+/// A text is walked alike from two states in a module of which both begin a line or neither.
+pub fn walks_are_alike()
+    ensures { (st nd : State) (t : Text) → st.headed ≡ true → nd.headed ≡ true → 1 ≤ st.place.col → 1 ≤ nd.place.col → nat_eq st.place.col 1 ≡ nat_eq nd.place.col 1 → Fit st.marked nd.marked (walk_from st 0 t) → segments (walk_from st 0 t) ≡ segments (walk_from nd 0 t) }
+{}
+
+/// The algorithm that was replaced, put in the place of the one that replaced it, gives the file that was read.
+pub fn swaps_go_back()
+    ensures { (x u w : Text) (a b : AlgorithmText) → IsFine x → Swapped x u w → algorithm_in x ≡ Some a → algorithm_in w ≡ Some b → b.from ≡ a.from → b.rest.to ≡ a.from + length u → Swapped w (stretch x a.from a.rest.to) x }
 {}
