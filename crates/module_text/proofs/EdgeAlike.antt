@@ -1,5 +1,5 @@
 -- What is at the front of a text, as a line, a word or a lexeme, does not depend on what is after a byte at which these end: a newline, or an opening bracket.
-use Rattle.std.proofs.Common.{◌≡◌, ℕ, suc, ◌+◌, ◌&&◌, Bool, true, false, not, nat_eq, List, [], ◌∷◌, ◌++◌, length, take, drop, Option, Some, None, refl, sym, ap, ◌∙◌, arith, codes, find}
+use Rattle.std.proofs.Common.{◌≡◌, ℕ, ◌&&◌, Bool, true, false, not, nat_eq, List, [], ◌∷◌, ◌++◌, length, drop, Option, Some, None, refl, sym, ap, ◌∙◌, codes, find}
 use Rattle.std.specs.Prelude.{if◌then◌else◌}
 use Rattle.std.specs.List.{starts_with, list_all, list_any}
 use Rattle.std.proofs.lemmas.Bool.{and_parts}
@@ -7,14 +7,11 @@ use Rattle.tla_token.specs.declared.sign.Sign.{Sign}
 use Rattle.tla_token.specs.declared.sign.Sign.TheVariants as sign
 use Rattle.tla_token.specs.Signs.{spellings, all_signs}
 use Rattle.tla_token.specs.Lexemes.{is_word, is_letter, is_digit}
-use Rattle.tla_token.specs.Offences.{Part}
 use Rattle.tla_token.proofs.Words.{run_over}
 use Rattle.tla_token.specs.Cut.{run, lexeme_part, sign_part, sign_at, spelling_at}
-use Rattle.module_text.specs.TextFront.{Text, begins, is_space, past_all, first_is, on_some, past_word, past_blanks, past_run, past_name, ends_line, line_here, whole_line}
+use Rattle.module_text.specs.TextFront.{Text, begins, is_space, past_all, first_is, on_some, past_word, past_blanks, past_run, past_name, ends_line}
 use Rattle.module_text.specs.HeaderAndRegion.{header_title, is_header, is_translation_line, is_begin, is_end}
 use Rattle.module_text.specs.Beginnings.{ends_module, is_rule, begins_bar}
-use Rattle.tla_token.specs.Cut.{string_part}
-use Rattle.tla_token.specs.Offences.{ends_string, string_len, escape_len}
 use Rattle.module_text.specs.ModuleParts.{barred}
 use Rattle.std.specs.Prelude.{is_some}
 

@@ -47,3 +47,5 @@ pub mod FineKept
 pub mod PairedMarks
 pub mod WalkAlike
 pub mod SwappedBack
+pub mod WalkBefore
+pub mod SwappedComment

@@ -35,10 +35,10 @@ use Rattle.module_text.proofs.OutsideAlike.{same_views, same_front, same_units, 
 -- ---- the title
 
 -- a line without its end, or one with it
-abbrev Lined : Text → Type 0
+abbrev pub Lined : Text → Type 0
 Lined s = ((l : Text) × (p : Text) × (s ≡ l ++ 10 ∷ p) × (whole_line s ≡ l ++ 10 ∷ [])) ⊎ (whole_line s ≡ s)
 
-lined : (s : Text) → Lined s
+pub lined : (s : Text) → Lined s
 lined [] = inr refl
 lined (b ∷ s) = by (nat_eq b 10) refl (lined s)
   where

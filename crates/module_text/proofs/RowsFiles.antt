@@ -5,18 +5,18 @@ use Rattle.tla_token.specs.declared.rule.Rule.{Rule}
 use Rattle.tla_token.specs.declared.rule.Rule.TheVariants.{NotAscii, BadToken, OpenComment, OpenString, NoModule, NoAlgorithm, TwoAlgorithms, BadRegion, Placement, Options, NumberTooBig}
 use Rattle.tla_token.specs.Places.{place_at}
 use Rattle.tla_token.specs.Tokens as text
-use Rattle.tla_token.specs.Tokens.{blank, stretch}
+use Rattle.tla_token.specs.Tokens.{blank, block, stretch}
 use Rattle.tla_token.specs.Offences.{sound, least}
 use Rattle.tla_expr.specs.Lexical.{Token}
 use Rattle.module_text.specs.TextFront.{Text, on_some}
 use Rattle.module_text.specs.Walk.{header, part, walk}
-use Rattle.module_text.specs.FileParts.{title, region_of, spot, before_spot, after_spot, inside_region}
+use Rattle.module_text.specs.FileParts.{holds_algorithm, before_first, after_first, title, region_of, spot, before_spot, after_spot, inside_region}
 use Rattle.module_text.specs.WithTranslation.{WithTranslation, Swapped}
 use Rattle.module_text.specs.AlgorithmText.{AlgorithmText, Stage, open_p, past_p, past_c, is_c, algorithm_in, algorithm_tokens}
 use Rattle.module_text.specs.FileUnits.{units_in}
 use Rattle.module_text.specs.FileOffences.{file_offences}
 use Rattle.module_text.specs.laws.Kept.{IsFine, TokensMoved}
-use Rattle.module_text.specs.laws.Swaps.{is_paired, segments}
+use Rattle.module_text.specs.laws.Swaps.{is_paired, segments, SwapsComment}
 
 abbrev head : Text
 head = codes "---- MODULE M ----\n"
@@ -281,3 +281,36 @@ unended = refl
 
 without_places : segments (walk (codes "---- MODULE M ----\n\n")) ≡ header (codes "---- MODULE M ----\n") ∷ part (sound (blank 10)) ∷ []
 without_places = refl
+
+-- ---- another algorithm in a comment
+
+abbrev before_swap : Text
+before_swap = head ++ codes "(* --algorithm A { } *) \n" ++ foot
+
+abbrev after_swap : Text
+after_swap = head ++ codes "(* --algorithm B {\n} *) \n" ++ foot
+
+abbrev replaced : AlgorithmText
+replaced = by (algorithm_in before_swap)
+  where
+    by : Option AlgorithmText → AlgorithmText
+    by (Some a) = a
+    by None = record { from = 0; opening = []; rest = record { parts = []; stage = past_c; to = 0 } }
+
+swapped_comment : SwapsComment before_swap (codes "--algorithm B {\n}") after_swap replaced
+swapped_comment = record {
+  before = before_first holds_algorithm (walk before_swap);
+  comment = record { at = 19; place = record { line = 2; col = 1 }; is = part (sound (block (codes " --algorithm A { } *)"))) };
+  after = after_first holds_algorithm (walk before_swap);
+  walked = refl;
+  there = part (sound (block (codes " --algorithm B {\n} *)")));
+  after_there = after_first holds_algorithm (walk after_swap);
+  walked_there = refl;
+  same_after = refl;
+  front = codes " ";
+  back = codes " ";
+  at = refl;
+  held = refl;
+  holds = refl;
+  sound = refl;
+}

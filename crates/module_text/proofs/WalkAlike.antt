@@ -15,7 +15,7 @@ use Rattle.module_text.proofs.WalkPlace.{some_col, line_step}
 -- ---- where lines begin
 
 -- after a byte a line begins where it was a newline
-begins_after : (p : Place) (b : ℕ) → 1 ≤ p.col → nat_eq (places.step p b).col 1 ≡ nat_eq b 10
+pub begins_after : (p : Place) (b : ℕ) → 1 ≤ p.col → nat_eq (places.step p b).col 1 ≡ nat_eq b 10
 begins_after p b l = by (nat_eq b 10) refl (nat_eq (places.step p b).col 1) refl
   where
     by : (k : Bool) → nat_eq b 10 ≡ k → (j : Bool) → nat_eq (places.step p b).col 1 ≡ j → j ≡ k
@@ -27,7 +27,7 @@ same_lines : (p q : Place) (w : Text) → 1 ≤ p.col → 1 ≤ q.col → nat_eq
 same_lines p q [] l m e = e
 same_lines p q (b ∷ w) l m e = same_lines (places.step p b) (places.step q b) w (some_col p b) (some_col q b) (begins_after p b l ∙ sym (begins_after q b m))
 
-some_after : (p : Place) (w : Text) → 1 ≤ p.col → 1 ≤ (after p w).col
+pub some_after : (p : Place) (w : Text) → 1 ≤ p.col → 1 ≤ (after p w).col
 some_after p [] l = l
 some_after p (b ∷ w) l = some_after (places.step p b) w (some_col p b)
 

@@ -1,22 +1,12 @@
 -- What a line is does not depend on the lines after it.
-use Rattle.std.proofs.Common.{◌≡◌, ℕ, suc, ◌+◌, Bool, true, false, not, nat_eq, List, [], ◌∷◌, ◌++◌, length, take, drop, Option, Some, None, refl, sym, ap, ◌∙◌, arith, codes, find}
-use Rattle.std.specs.Prelude.{if◌then◌else◌}
-use Rattle.std.specs.List.{starts_with, list_all, list_any}
-use Rattle.std.proofs.lemmas.Bool.{and_parts}
-use Rattle.tla_token.specs.declared.sign.Sign.{Sign}
-use Rattle.tla_token.specs.declared.sign.Sign.TheVariants as sign
-use Rattle.tla_token.specs.Signs.{spellings, all_signs}
-use Rattle.tla_token.specs.Lexemes.{is_word, is_letter, is_digit}
+use Rattle.std.proofs.Common.{◌≡◌, ℕ, suc, ◌+◌, Bool, true, false, not, nat_eq, [], ◌∷◌, ◌++◌, take, drop, refl, sym, ap, ◌∙◌, arith}
 use Rattle.tla_token.specs.Offences.{Part}
-use Rattle.tla_token.proofs.Words.{run_over}
-use Rattle.tla_token.specs.Cut.{run, lexeme_part, sign_part, sign_at, spelling_at}
-use Rattle.module_text.specs.TextFront.{Text, begins, is_space, past_all, first_is, on_some, past_word, past_blanks, past_run, past_name, ends_line, line_here, whole_line}
-use Rattle.module_text.specs.HeaderAndRegion.{header_title, is_header, is_translation_line, is_begin, is_end}
-use Rattle.module_text.specs.Beginnings.{ends_module, is_rule, begins_bar}
+use Rattle.module_text.specs.TextFront.{Text, begins, line_here, whole_line}
+use Rattle.module_text.specs.HeaderAndRegion.{header_title, is_header, is_begin, is_end}
+use Rattle.module_text.specs.Beginnings.{ends_module}
 use Rattle.tla_token.specs.Cut.{string_part}
 use Rattle.tla_token.specs.Offences.{ends_string, string_len, escape_len}
 use Rattle.module_text.specs.ModuleParts.{barred}
-use Rattle.std.specs.Prelude.{is_some}
 use Rattle.module_text.proofs.EdgeAlike.{lacks, at_newline}
 use Rattle.module_text.proofs.EdgeAlike as edge
 pub use Rattle.module_text.proofs.EdgeAlike.{never_some, not_true}

@@ -17,7 +17,7 @@ ghost use Rattle.module_text.specs.Walk.{State, Located, region, walk, walk_from
 ghost use Rattle.module_text.specs.FileParts.{before_spot};
 ghost use Rattle.module_text.specs.WithTranslation.{begin_line, end_line, WithTranslation};
 ghost use Rattle.module_text.specs.laws.Kept.{IsFine, only_large, KeepsFile, SameAlgorithm, AlgorithmMoved, IsPut};
-ghost use Rattle.module_text.specs.laws.Swaps.{is_paired, segments};
+ghost use Rattle.module_text.specs.laws.Swaps.{is_paired, segments, SwapsComment};
 ghost use Rattle.module_text.specs.laws.Outsides.{HasOutside, AllAlike, IsModuleOf};
 ghost use Rattle.module_text.specs.AlgorithmText.{AlgorithmText, algorithm_in, algorithm_tokens};
 ghost use Rattle.module_text.specs.FileOffences.{offences_of, algorithm_offences};
@@ -134,6 +134,17 @@ pub fn comments_stay_closed()
 /// A text is walked alike from two states in a module of which both begin a line or neither.
 pub fn walks_are_alike()
     ensures { (st nd : State) (t : Text) → st.headed ≡ true → nd.headed ≡ true → 1 ≤ st.place.col → 1 ≤ nd.place.col → nat_eq st.place.col 1 ≡ nat_eq nd.place.col 1 → Fit st.marked nd.marked (walk_from st 0 t) → segments (walk_from st 0 t) ≡ segments (walk_from nd 0 t) }
+{}
+
+/// What is before a comment is walked alike, whatever is in the comment and after it.
+pub fn walks_stop_at_comments()
+    ensures { (ds es : List Located) (st : State) (r z : Text) → walk_from st 0 (text_of ds ++ 40 ∷ 42 ∷ r) ≡ ds ++ es → are_calm ds ≡ true → offences_of ds ≡ [] → walk_from st 0 (text_of ds ++ 40 ∷ 42 ∷ z) ≡ ds ++ walk_from (after_all st ds) 0 (40 ∷ 42 ∷ z) }
+{}
+
+/// A file that is not refused, with another algorithm, is walked as before but for the algorithm's comment, and no segment of it
+/// breaks a rule, where both algorithms open and close comments only within themselves.
+pub fn swaps_keep_the_rest()
+    ensures { (x u w : Text) (a : AlgorithmText) → IsFine x → Swapped x (45 ∷ u) w → algorithm_in x ≡ Some a → is_paired 0 (stretch x a.from a.rest.to) ≡ true → is_paired 0 (45 ∷ u) ≡ true → SwapsComment x (45 ∷ u) w a }
 {}
 
 /// The algorithm that was replaced, put in the place of the one that replaced it, gives the file that was read.
