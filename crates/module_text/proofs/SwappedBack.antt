@@ -14,7 +14,7 @@ use Rattle.module_text.specs.FileParts.{within, beginnings_in, first_of, holds_a
 use Rattle.module_text.specs.AlgorithmText.{Stage, head, is_past, after_part, inner_part, Inside, with_part, inside, AlgorithmText, algorithm_in}
 use Rattle.module_text.specs.WithTranslation.{Swapped}
 use Rattle.module_text.specs.laws.Kept.{IsFine}
-use Rattle.module_text.proofs.WalkKept.{sound_file}
+use Rattle.module_text.proofs.WalkKept.{all_fine_in}
 use Rattle.module_text.proofs.AlgorithmSame.{at_comment}
 use Rattle.module_text.proofs.AlgorithmKept.{placed_at}
 
@@ -53,7 +53,7 @@ bounds x a fine is = by (find holds_algorithm (walk x)) refl
     begun d f None o = (let g : None ≡ Some a = rw (f, o) at is in absurd (none-some a g))
     begun d f (Some n) o =
         let g : Some (at_comment x d n) ≡ Some a = rw (f, o) at is in
-        let q = placed_at x d n (sound_file x fine).fine f o in
+        let q = placed_at x d n (all_fine_in x fine).parts.fine f o in
         let s = drop n x in
         let left = d.at + 2 + length (within d.is) - n in
         let later = ends_later (head (if is_fair s then 1 else 0)) (n + length (opening s)) 0 (left - length (opening s)) (drop (length (opening s)) s) in

@@ -23,7 +23,7 @@ use Rattle.module_text.specs.laws.Kept.{IsFine, only_large}
 use Rattle.module_text.specs.laws.Swaps.{is_paired, segments, SwapsComment}
 use Rattle.module_text.proofs.WalkAround.{suffixed}
 use Rattle.module_text.proofs.WalkPlace.{both_empty, before_whole, text_append, after_append, offences_append, fine_calm, before_tail, walk_tails, tails_last, met, after_both, places_after}
-use Rattle.module_text.proofs.WalkKept.{sound_file, at_is}
+use Rattle.module_text.proofs.WalkKept.{all_fine_in, at_is}
 use Rattle.module_text.proofs.WalkSame.{segment_anywhere}
 use Rattle.module_text.proofs.WalkBefore.{walk_before, walk_step}
 use Rattle.module_text.proofs.WalkAlike.{begins_after, some_after, alike}
@@ -137,7 +137,7 @@ module _ (x u w : Text) (a : AlgorithmText) (fine : IsFine x) (s : Swapped x (45
   split = before_whole holds_algorithm (walk x) d found
 
   offences : (offences_of ds ≡ []) × (offences_of (d ∷ es) ≡ [])
-  offences = both_empty (offences_of ds) (offences_of (d ∷ es)) (sym (offences_append ds (d ∷ es)) ∙ ap offences_of (sym split) ∙ (sound_file x fine).fine)
+  offences = both_empty (offences_of ds) (offences_of (d ∷ es)) (sym (offences_append ds (d ∷ es)) ∙ ap offences_of (sym split) ∙ (all_fine_in x fine).parts.fine)
 
   here : (segment_offences d.at d.is ≡ []) × (offences_of es ≡ [])
   here = both_empty (segment_offences d.at d.is) (offences_of es) offences.1
@@ -158,10 +158,10 @@ module _ (x u w : Text) (a : AlgorithmText) (fine : IsFine x) (s : Swapped x (45
   closes = block_closed met_here.0 met_here.1 block_is.0 (part_there st met_here.0 met_here.1 (sound (block block_is.0)) met_here.2)
 
   holding : Held x d a
-  holding = subst (Held x d) same (held x d n (placed_at x d n (sound_file x fine).fine found first) (ap only_large plain))
+  holding = subst (Held x d) same (held x d n (placed_at x d n (all_fine_in x fine).parts.fine found first) (ap only_large plain))
     where
       plain : algorithm_offences (Some (at_comment x d n)) ≡ []
-      plain = ap (λ (a : AlgorithmText). algorithm_offences (Some a)) same ∙ ap algorithm_offences (sym is_algorithm) ∙ (sound_file x fine).algorithm
+      plain = ap (λ (a : AlgorithmText). algorithm_offences (Some a)) same ∙ ap algorithm_offences (sym is_algorithm) ∙ (all_fine_in x fine).algorithm
 
   abbrev ending : Text
   ending = holding.back ++ 42 ∷ 41 ∷ []
