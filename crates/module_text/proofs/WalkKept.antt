@@ -116,6 +116,26 @@ commented (d ∷ ds) t e b = by (holds_algorithm d) refl (commented ds)
             let r = deeper rest_tails more others in
             record { no_tail = rw (k, l) r.no_tail; ends = rw k r.ends; parts = rw k (or_right (is_part d.is) _ r.parts) }
 
+-- ---- each part of what a file that is not refused has
+
+pub record AllFine (x : Text) : Type 0 where
+  pub parts : Sound x
+  pub algorithm : algorithm_offences (algorithm_of x (walk x)) ≡ []
+  pub second : second_algorithms (algorithm_of x (walk x)) (beginnings (walk x)) ≡ []
+  pub options : flat_map (options_in x) (outside_region x (walk x)) ≡ []
+
+pub all_fine_in : (x : Text) → IsFine x → AllFine x
+all_fine_in x f =
+    let ds = walk x in
+    let a = algorithm_of x ds in
+    let o = both_empty (offences_of ds) _ f in
+    let p = both_empty (algorithm_offences a) _ o.1 in
+    let q = both_empty (no_module x (module_end ds)) _ p.1 in
+    let r = both_empty (no_algorithm (module_end ds) (beginnings ds)) _ q.1 in
+    let s = both_empty (second_algorithms a (beginnings ds)) _ r.1 in
+    let t = both_empty (placements ds) _ s.1 in
+    record { parts = sound_file x f; algorithm = p.0; second = s.0; options = t.1 }
+
 -- ---- the newline after it
 
 newline_is : (d : Located) → is_newline d ≡ true → d.is ≡ newline_segment
@@ -460,23 +480,3 @@ has_place x f = by (region_of (walk x)) refl
     by : (o : Option Located) → region_of (walk x) ≡ o → HasPlace x
     by None e = new_place x (sound_file x f) e
     by (Some old) e = old_place x (sound_file x f) old e
-
--- ---- each part of what a file that is not refused has
-
-pub record AllFine (x : Text) : Type 0 where
-  pub parts : Sound x
-  pub algorithm : algorithm_offences (algorithm_of x (walk x)) ≡ []
-  pub second : second_algorithms (algorithm_of x (walk x)) (beginnings (walk x)) ≡ []
-  pub options : flat_map (options_in x) (outside_region x (walk x)) ≡ []
-
-pub all_fine_in : (x : Text) → IsFine x → AllFine x
-all_fine_in x f =
-    let ds = walk x in
-    let a = algorithm_of x ds in
-    let o = both_empty (offences_of ds) _ f in
-    let p = both_empty (algorithm_offences a) _ o.1 in
-    let q = both_empty (no_module x (module_end ds)) _ p.1 in
-    let r = both_empty (no_algorithm (module_end ds) (beginnings ds)) _ q.1 in
-    let s = both_empty (second_algorithms a (beginnings ds)) _ r.1 in
-    let t = both_empty (placements ds) _ s.1 in
-    record { parts = sound_file x f; algorithm = p.0; second = s.0; options = t.1 }
