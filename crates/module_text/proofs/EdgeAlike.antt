@@ -67,7 +67,7 @@ named_by n = on_some (past_name n) (λ r. on_some (past_run 45 (past_all is_spac
 abbrev worded_by : Text → Option Text
 worded_by r = on_some (past_word (codes "MODULE") (past_all is_space r)) (λ r. on_some (past_blanks is_space r) named_by)
 
-module _ (c : ℕ) (edge : Edge c) where
+module _ (c : ℕ) where
   -- ---- words
 
   pub begins_alike : (p q l w : Text) → lacks c w ≡ true → begins (l ++ c ∷ p) w ≡ begins (l ++ c ∷ q) w
@@ -123,12 +123,12 @@ module _ (c : ℕ) (edge : Edge c) where
       by true k = rw (k, sym (first_alike f p q l) ∙ k) (past_all_alike f h p q l)
       by false k = rw (k, sym (first_alike f p q l) ∙ k) tt
 
-  pub past_name_alike : (p q l : Text) → Both c p q (past_name (l ++ c ∷ p)) (past_name (l ++ c ∷ q))
-  past_name_alike p q l = by (list_any is_letter (run is_word (l ++ c ∷ p))) refl
+  pub past_name_alike : is_word c ≡ false → (p q l : Text) → Both c p q (past_name (l ++ c ∷ p)) (past_name (l ++ c ∷ q))
+  past_name_alike word p q l = by (list_any is_letter (run is_word (l ++ c ∷ p))) refl
     where
       by : (k : Bool) → list_any is_letter (run is_word (l ++ c ∷ p)) ≡ k → Both c p q (past_name (l ++ c ∷ p)) (past_name (l ++ c ∷ q))
-      by true k = rw (k, ap (λ (u : Text). list_any is_letter u) (sym (run_alike is_word edge.word p q l)) ∙ k) (past_all_alike is_word edge.word p q l)
-      by false k = rw (k, ap (λ (u : Text). list_any is_letter u) (sym (run_alike is_word edge.word p q l)) ∙ k) tt
+      by true k = rw (k, ap (λ (u : Text). list_any is_letter u) (sym (run_alike is_word word p q l)) ∙ k) (past_all_alike is_word word p q l)
+      by false k = rw (k, ap (λ (u : Text). list_any is_letter u) (sym (run_alike is_word word p q l)) ∙ k) tt
 
   -- ---- one after the other
 
@@ -150,59 +150,60 @@ module _ (c : ℕ) (edge : Edge c) where
   pub both_at : (p q x y : Text) → Alike c p q x y → (f g : Text → Option Text) → ((l : Text) → Both c p q (f (l ++ c ∷ p)) (g (l ++ c ∷ q))) → Both c p q (f x) (g y)
   both_at p q x y (l, d, e) f g h = rw (d, e) (h l)
 
-  -- ---- lines
-
-  pub past_run_alike : (p q l : Text) → Both c p q (past_run 45 (l ++ c ∷ p)) (past_run 45 (l ++ c ∷ q))
-  past_run_alike p q l =
-      on_both p q (past_word (45 ∷ 45 ∷ 45 ∷ 45 ∷ []) (l ++ c ∷ p)) (past_word (45 ∷ 45 ∷ 45 ∷ 45 ∷ []) (l ++ c ∷ q)) (past_word_alike p q l (45 ∷ 45 ∷ 45 ∷ 45 ∷ []) edge.rule)
-      (λ r. Some (past_all (nat_eq 45) r)) (λ r. Some (past_all (nat_eq 45) r)) (λ m. past_all_alike (nat_eq 45) edge.dashes p q m)
-
-  pub spaced : (p q l : Text) → Alike c p q (past_all is_space (l ++ c ∷ p)) (past_all is_space (l ++ c ∷ q))
-  spaced p q l = past_all_alike is_space edge.space p q l
-
-  pub title_alike : (p q k l : Text) → title_by (k ++ c ∷ p) (l ++ c ∷ p) ≡ title_by (k ++ c ∷ q) (l ++ c ∷ q)
-  title_alike p q k l =
-      rw (at_alike p q (past_all is_space (l ++ c ∷ p)) (past_all is_space (l ++ c ∷ q)) (spaced p q l) ends_line ends_line (ends_alike p q), run_alike is_word edge.word p q k) refl
-
-  pub dashed_alike : (p q l : Text) → Both c p q (past_run 45 (past_all is_space (l ++ c ∷ p))) (past_run 45 (past_all is_space (l ++ c ∷ q)))
-  dashed_alike p q l = both_at p q (past_all is_space (l ++ c ∷ p)) (past_all is_space (l ++ c ∷ q)) (spaced p q l) (past_run 45) (past_run 45) (past_run_alike p q)
-
-  pub named_alike : (p q l : Text) → named_by (l ++ c ∷ p) ≡ named_by (l ++ c ∷ q)
-  named_alike p q l =
-      on_alike p q (past_name (l ++ c ∷ p)) (past_name (l ++ c ∷ q)) (past_name_alike p q l)
-      (λ r. on_some (past_run 45 (past_all is_space r)) (title_by (l ++ c ∷ p))) (λ r. on_some (past_run 45 (past_all is_space r)) (title_by (l ++ c ∷ q)))
-      (λ m. on_alike p q (past_run 45 (past_all is_space (m ++ c ∷ p))) (past_run 45 (past_all is_space (m ++ c ∷ q))) (dashed_alike p q m) (title_by (l ++ c ∷ p)) (title_by (l ++ c ∷ q)) (title_alike p q l))
-
-  pub worded_alike : (p q l : Text) → worded_by (l ++ c ∷ p) ≡ worded_by (l ++ c ∷ q)
-  worded_alike p q l =
-      let word = past_word (codes "MODULE") in
-      on_alike p q (word (past_all is_space (l ++ c ∷ p))) (word (past_all is_space (l ++ c ∷ q)))
-      (both_at p q (past_all is_space (l ++ c ∷ p)) (past_all is_space (l ++ c ∷ q)) (spaced p q l) word word (λ m. past_word_alike p q m (codes "MODULE") edge.module_word))
-      (λ r. on_some (past_blanks is_space r) named_by) (λ r. on_some (past_blanks is_space r) named_by)
-      (λ m. on_alike p q (past_blanks is_space (m ++ c ∷ p)) (past_blanks is_space (m ++ c ∷ q)) (past_blanks_alike is_space edge.space p q m) named_by named_by (named_alike p q))
-
-  pub header_title_alike : (p q l : Text) → header_title (l ++ c ∷ p) ≡ header_title (l ++ c ∷ q)
-  header_title_alike p q l =
-      on_alike p q (past_run 45 (past_all is_space (l ++ c ∷ p))) (past_run 45 (past_all is_space (l ++ c ∷ q))) (dashed_alike p q l) worded_by worded_by (worded_alike p q)
-
-  pub header_alike : (p q l : Text) → is_header (l ++ c ∷ p) ≡ is_header (l ++ c ∷ q)
-  header_alike p q l = ap (λ (o : Option Text). is_some o) (header_title_alike p q l)
-
   pub some_alike : (p q : Text) (o n : Option Text) → Both c p q o n → is_some o ≡ is_some n
   some_alike p q None None b = refl
   some_alike p q (Some x) (Some y) b = refl
   some_alike p q None (Some y) b = absurd b
   some_alike p q (Some x) None b = absurd b
 
+module _ (c : ℕ) (edge : Edge c) where
+  -- ---- lines
+
+  pub past_run_alike : (p q l : Text) → Both c p q (past_run 45 (l ++ c ∷ p)) (past_run 45 (l ++ c ∷ q))
+  past_run_alike p q l =
+      on_both c p q (past_word (45 ∷ 45 ∷ 45 ∷ 45 ∷ []) (l ++ c ∷ p)) (past_word (45 ∷ 45 ∷ 45 ∷ 45 ∷ []) (l ++ c ∷ q)) (past_word_alike c p q l (45 ∷ 45 ∷ 45 ∷ 45 ∷ []) edge.rule)
+      (λ r. Some (past_all (nat_eq 45) r)) (λ r. Some (past_all (nat_eq 45) r)) (λ m. past_all_alike c (nat_eq 45) edge.dashes p q m)
+
+  pub spaced : (p q l : Text) → Alike c p q (past_all is_space (l ++ c ∷ p)) (past_all is_space (l ++ c ∷ q))
+  spaced p q l = past_all_alike c is_space edge.space p q l
+
+  pub title_alike : (p q k l : Text) → title_by (k ++ c ∷ p) (l ++ c ∷ p) ≡ title_by (k ++ c ∷ q) (l ++ c ∷ q)
+  title_alike p q k l =
+      rw (at_alike c p q (past_all is_space (l ++ c ∷ p)) (past_all is_space (l ++ c ∷ q)) (spaced p q l) ends_line ends_line (ends_alike c p q), run_alike c is_word edge.word p q k) refl
+
+  pub dashed_alike : (p q l : Text) → Both c p q (past_run 45 (past_all is_space (l ++ c ∷ p))) (past_run 45 (past_all is_space (l ++ c ∷ q)))
+  dashed_alike p q l = both_at c p q (past_all is_space (l ++ c ∷ p)) (past_all is_space (l ++ c ∷ q)) (spaced p q l) (past_run 45) (past_run 45) (past_run_alike p q)
+
+  pub named_alike : (p q l : Text) → named_by (l ++ c ∷ p) ≡ named_by (l ++ c ∷ q)
+  named_alike p q l =
+      on_alike c p q (past_name (l ++ c ∷ p)) (past_name (l ++ c ∷ q)) (past_name_alike c edge.word p q l)
+      (λ r. on_some (past_run 45 (past_all is_space r)) (title_by (l ++ c ∷ p))) (λ r. on_some (past_run 45 (past_all is_space r)) (title_by (l ++ c ∷ q)))
+      (λ m. on_alike c p q (past_run 45 (past_all is_space (m ++ c ∷ p))) (past_run 45 (past_all is_space (m ++ c ∷ q))) (dashed_alike p q m) (title_by (l ++ c ∷ p)) (title_by (l ++ c ∷ q)) (title_alike p q l))
+
+  pub worded_alike : (p q l : Text) → worded_by (l ++ c ∷ p) ≡ worded_by (l ++ c ∷ q)
+  worded_alike p q l =
+      let word = past_word (codes "MODULE") in
+      on_alike c p q (word (past_all is_space (l ++ c ∷ p))) (word (past_all is_space (l ++ c ∷ q)))
+      (both_at c p q (past_all is_space (l ++ c ∷ p)) (past_all is_space (l ++ c ∷ q)) (spaced p q l) word word (λ m. past_word_alike c p q m (codes "MODULE") edge.module_word))
+      (λ r. on_some (past_blanks is_space r) named_by) (λ r. on_some (past_blanks is_space r) named_by)
+      (λ m. on_alike c p q (past_blanks is_space (m ++ c ∷ p)) (past_blanks is_space (m ++ c ∷ q)) (past_blanks_alike c is_space edge.space p q m) named_by named_by (named_alike p q))
+
+  pub header_title_alike : (p q l : Text) → header_title (l ++ c ∷ p) ≡ header_title (l ++ c ∷ q)
+  header_title_alike p q l =
+      on_alike c p q (past_run 45 (past_all is_space (l ++ c ∷ p))) (past_run 45 (past_all is_space (l ++ c ∷ q))) (dashed_alike p q l) worded_by worded_by (worded_alike p q)
+
+  pub header_alike : (p q l : Text) → is_header (l ++ c ∷ p) ≡ is_header (l ++ c ∷ q)
+  header_alike p q l = ap (λ (o : Option Text). is_some o) (header_title_alike p q l)
+
   pub mark_alike : (w : Text) → lacks c (w ++ codes " TRANSLATION") ≡ true → (p q l : Text) → is_translation_line w (l ++ c ∷ p) ≡ is_translation_line w (l ++ c ∷ q)
   mark_alike w h p q l =
       let star = past_word (codes "\\*") in
       let more : Text → Option Text = λ r. past_word (w ++ codes " TRANSLATION") (past_all is_space r) in
-      let both = both_at p q (past_all is_space (l ++ c ∷ p)) (past_all is_space (l ++ c ∷ q)) (spaced p q l) star star (λ m. past_word_alike p q m (codes "\\*") edge.star) in
-      some_alike p q (on_some (star (past_all is_space (l ++ c ∷ p))) more) (on_some (star (past_all is_space (l ++ c ∷ q))) more)
-      (on_both p q (star (past_all is_space (l ++ c ∷ p))) (star (past_all is_space (l ++ c ∷ q))) both more more
-      (λ m. both_at p q (past_all is_space (m ++ c ∷ p)) (past_all is_space (m ++ c ∷ q)) (spaced p q m) (past_word (w ++ codes " TRANSLATION")) (past_word (w ++ codes " TRANSLATION"))
-      (λ k. past_word_alike p q k (w ++ codes " TRANSLATION") h)))
+      let both = both_at c p q (past_all is_space (l ++ c ∷ p)) (past_all is_space (l ++ c ∷ q)) (spaced p q l) star star (λ m. past_word_alike c p q m (codes "\\*") edge.star) in
+      some_alike c p q (on_some (star (past_all is_space (l ++ c ∷ p))) more) (on_some (star (past_all is_space (l ++ c ∷ q))) more)
+      (on_both c p q (star (past_all is_space (l ++ c ∷ p))) (star (past_all is_space (l ++ c ∷ q))) both more more
+      (λ m. both_at c p q (past_all is_space (m ++ c ∷ p)) (past_all is_space (m ++ c ∷ q)) (spaced p q m) (past_word (w ++ codes " TRANSLATION")) (past_word (w ++ codes " TRANSLATION"))
+      (λ k. past_word_alike c p q k (w ++ codes " TRANSLATION") h)))
 
   pub begin_alike : (p q l : Text) → is_begin (l ++ c ∷ p) ≡ is_begin (l ++ c ∷ q)
   begin_alike p q l = mark_alike (codes "BEGIN") edge.begin_word p q l
@@ -211,10 +212,10 @@ module _ (c : ℕ) (edge : Edge c) where
   end_alike p q l = mark_alike (codes "END") edge.end_word p q l
 
   pub tail_alike : (p q l : Text) → ends_module (l ++ c ∷ p) ≡ ends_module (l ++ c ∷ q)
-  tail_alike p q l = begins_alike p q l (codes "====") edge.tail
+  tail_alike p q l = begins_alike c p q l (codes "====") edge.tail
 
   pub rule_alike : (p q l : Text) → is_rule (l ++ c ∷ p) ≡ is_rule (l ++ c ∷ q)
-  rule_alike p q l = begins_alike p q l (codes "----") edge.rule
+  rule_alike p q l = begins_alike c p q l (codes "----") edge.rule
 
   pub bar_alike : (p q l : Text) → begins_bar (l ++ c ∷ p) ≡ begins_bar (l ++ c ∷ q)
   bar_alike p q l = rw (rule_alike p q l, tail_alike p q l) refl
@@ -249,14 +250,14 @@ module _ (c : ℕ) (edge : Edge c) where
       by (Some s) = rw (spelling_alike p q l (spellings s) (edge.signs s)) refl
 
   pub lexeme_alike : (p q l : Text) (b : ℕ) → lexeme_part b (l ++ c ∷ p) ≡ lexeme_part b (l ++ c ∷ q)
-  lexeme_alike p q l b = rw (run_alike is_word edge.word p q (b ∷ l), run_alike is_digit edge.digit p q (b ∷ l), run_alike is_word edge.word p q l, sign_alike p q (b ∷ l) b) refl
+  lexeme_alike p q l b = rw (run_alike c is_word edge.word p q (b ∷ l), run_alike c is_digit edge.digit p q (b ∷ l), run_alike c is_word edge.word p q l, sign_alike p q (b ∷ l) b) refl
 
   pub barred_alike : (p q l : Text) (b : ℕ) → barred b (l ++ c ∷ p) ≡ barred b (l ++ c ∷ q)
   barred_alike p q l b = by (begins_bar (l ++ c ∷ p)) refl
     where
       by : (k : Bool) → begins_bar (l ++ c ∷ p) ≡ k → barred b (l ++ c ∷ p) ≡ barred b (l ++ c ∷ q)
-      by true k = rw (rule_alike p q (b ∷ l), run_alike (λ b. nat_eq b 45) edge.dash p q (b ∷ l), k, sym (bar_alike p q l) ∙ k) refl
-      by false k = rw (rule_alike p q (b ∷ l), run_alike (λ b. nat_eq b 45) edge.dash p q (b ∷ l), k, sym (bar_alike p q l) ∙ k, lexeme_alike p q l b) refl
+      by true k = rw (rule_alike p q (b ∷ l), run_alike c (λ b. nat_eq b 45) edge.dash p q (b ∷ l), k, sym (bar_alike p q l) ∙ k) refl
+      by false k = rw (rule_alike p q (b ∷ l), run_alike c (λ b. nat_eq b 45) edge.dash p q (b ∷ l), k, sym (bar_alike p q l) ∙ k, lexeme_alike p q l b) refl
 
 -- ---- two of these bytes
 

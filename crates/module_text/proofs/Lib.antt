@@ -21,6 +21,7 @@ pub mod WalkAlike
 pub mod SwappedBack
 pub mod WalkBefore
 pub mod SwappedComment
+pub mod FirstSwapped
 pub mod OnePlace
 pub mod Tells
 pub mod First

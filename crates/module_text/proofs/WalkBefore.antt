@@ -101,7 +101,7 @@ part_before m r z k s b e is ends calm fine = by (is_blank b) refl (nat_eq b 34)
 
     star : begins t (codes "*") ≡ begins s (codes "*")
     star =
-        ap (λ (u : Text). begins u (codes "*")) (edge_of k m z) ∙ edge.begins_alike 40 at_bracket (42 ∷ z) (42 ∷ r) (k ++ m) (codes "*") refl
+        ap (λ (u : Text). begins u (codes "*")) (edge_of k m z) ∙ edge.begins_alike 40 (42 ∷ z) (42 ∷ r) (k ++ m) (codes "*") refl
         ∙ ap (λ (u : Text). begins u (codes "*")) (sym (e ∙ edge_of k m r))
 
     open_same : begins (b ∷ t) (codes "(*") ≡ begins (b ∷ s) (codes "(*")

@@ -22,7 +22,7 @@ one_plus : (n : ℕ) → 1 + n ≡ suc n
 one_plus n = omega arith
 
 pub begins_alike : (p q l w : Text) → unlined w ≡ true → begins (l ++ 10 ∷ p) w ≡ begins (l ++ 10 ∷ q) w
-begins_alike p q l w h = edge.begins_alike 10 at_newline p q l w h
+begins_alike p q l w h = edge.begins_alike 10 p q l w h
 
 pub header_title_alike : (p q l : Text) → header_title (l ++ 10 ∷ p) ≡ header_title (l ++ 10 ∷ q)
 header_title_alike p q l = edge.header_title_alike 10 at_newline p q l
@@ -43,7 +43,7 @@ pub barred_alike : (p q l : Text) (b : ℕ) → barred b (l ++ 10 ∷ p) ≡ bar
 barred_alike p q l b = edge.barred_alike 10 at_newline p q l b
 
 pub here_alike : (p q l : Text) → line_here (l ++ 10 ∷ p) ≡ line_here (l ++ 10 ∷ q)
-here_alike p q l = edge.run_alike 10 at_newline (λ b. not (nat_eq b 10)) refl p q l
+here_alike p q l = edge.run_alike 10 (λ b. not (nat_eq b 10)) refl p q l
 
 pub whole_alike : (p q l : Text) → whole_line (l ++ 10 ∷ p) ≡ whole_line (l ++ 10 ∷ q)
 whole_alike p q [] = refl
@@ -92,4 +92,4 @@ string_alike p q l =
     let x = l ++ 10 ∷ p in
     let y = l ++ 10 ∷ q in
     ap (λ (u : Text). string_part u (drop (string_len x) x)) s.0
-    ∙ edge.at_alike 10 at_newline p q (drop (string_len x) x) (drop (string_len y) y) s.1 (string_part (take (string_len y) y)) (string_part (take (string_len y) y)) (λ m. rw (begins_alike p q m (34 ∷ []) refl) refl)
+    ∙ edge.at_alike 10 p q (drop (string_len x) x) (drop (string_len y) y) s.1 (string_part (take (string_len y) y)) (string_part (take (string_len y) y)) (λ m. rw (begins_alike p q m (34 ∷ []) refl) refl)
