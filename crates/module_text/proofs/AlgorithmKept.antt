@@ -195,7 +195,7 @@ near_begun x w d c n m k i j l o size f g is near e h marks room z below =
     subst (λ (v : Place). Near i j l o (n + z) v (m + z) (place_at w (m + z))) (sym p)
     (subst (λ (v : Place). Near i j l o (n + z) (after d.place (take (2 + (k + z)) (bytes d.is))) (m + z) v) same (bytes_near, below_it.0, below_it.1))
 
-algorithm_at_first : (x : Text) (d : Located) (n : ℕ) → find holds_algorithm (walk x) ≡ Some d → first_of (beginnings_in d) ≡ Some n → algorithm_in x ≡ Some (at_comment x d n)
+pub algorithm_at_first : (x : Text) (d : Located) (n : ℕ) → find holds_algorithm (walk x) ≡ Some d → first_of (beginnings_in d) ≡ Some n → algorithm_in x ≡ Some (at_comment x d n)
 algorithm_at_first x d n f o = rw (f, o) refl
 
 -- what is known of the algorithm in a file that is not refused

@@ -1,14 +1,17 @@
 -- Where another algorithm is in a comment, the first beginning is where it was.
-use Rattle.std.proofs.Common.{◌≡◌, ℕ, zero, suc, ◌+◌, Bool, true, false, ◌||◌, nat_eq, List, [], ◌∷◌, ◌++◌, length, drop, Option, Some, None, refl, sym, ap, subst, ◌∙◌, codes, arith, append_assoc}
-use Rattle.std.specs.Prelude.{if◌then◌else◌, is_some, option_and_then}
+use Rattle.std.proofs.Common.{◌≡◌, ℕ, suc, ◌+◌, Bool, true, false, nat_eq, [], ◌∷◌, ◌++◌, length, drop, Option, Some, None, refl, sym, ap, ◌∙◌, codes, arith}
+use Rattle.std.specs.Prelude.{if◌then◌else◌, is_some}
 use Rattle.std.specs.List.{list_any}
-use Rattle.std.proofs.lemmas.Bool.{both_ways, or_right, or_left}
 use Rattle.std.proofs.lemmas.Option.{none-some, same_Some}
 use Rattle.tla_token.specs.Lexemes.{is_blank, is_word, is_letter}
 use Rattle.tla_token.specs.Cut.{run}
 use Rattle.module_text.specs.TextFront.{Text, begins, on_some, past_all, past_word, past_blanks, past_name}
-use Rattle.module_text.specs.Beginnings.{is_fair, past_opening, begins_algorithm, index_if, all_at}
+use Rattle.module_text.specs.Beginnings.{is_fair, past_opening, begins_algorithm, all_at}
 use Rattle.module_text.specs.FileParts.{first_of}
+use Rattle.tla_token.proofs.Words.{run_over}
+use Rattle.tla_token.proofs.Spelled.{begins_is}
+use Rattle.module_text.proofs.AlgorithmFound.{past_all_more, opened}
+use Rattle.module_text.proofs.OptionsKept.{IsMore, some_step, word_more, blanks_more}
 use Rattle.module_text.proofs.EdgeAlike.{lacks, Alike, Both, past_word_alike, past_all_alike, past_blanks_alike, past_name_alike, on_both, both_at, some_alike}
 
 abbrev dashed : Text → Text
@@ -22,9 +25,6 @@ past_word_cons d b w z = by (nat_eq d b) refl
     by : (k : Bool) → nat_eq d b ≡ k → past_word (d ∷ w) (b ∷ z) ≡ (if k then past_word w z else None)
     by true k = rw k refl
     by false k = rw k refl
-
-
-
 
 word_dashed : (b : ℕ) (f p q : Text) (c : ℕ) (v : Text) → nat_eq c 45 ≡ false → lacks 45 (c ∷ v) ≡ true
     → Both 45 (45 ∷ p) (45 ∷ q) (past_word (45 ∷ 45 ∷ c ∷ v) (b ∷ (f ++ dashed p))) (past_word (45 ∷ 45 ∷ c ∷ v) (b ∷ (f ++ dashed q)))
@@ -129,3 +129,71 @@ first_swapped (b ∷ f) p q k e h = by (begins_algorithm (b ∷ (f ++ dashed p))
         let there : begins_algorithm (b ∷ (f ++ dashed q)) ≡ false = sym (begins_same b f p q) ∙ t in
         let found = deeper (g ∙ ap Some (sym (further k (length f)))) h in
         rw there (found ∙ ap Some (further k (length f)))
+
+-- ---- what begins an algorithm does so before more
+
+run_letters : (m r : Text) → list_any is_letter (run is_word m) ≡ true → list_any is_letter (run is_word (m ++ r)) ≡ true
+run_letters [] r h = absurd cc
+run_letters (b ∷ m) r h = by (is_word b) refl (run_letters m r)
+  where
+    over : (m : Text) → is_word b ≡ true → run is_word (b ∷ m) ≡ b ∷ run is_word m
+    over m k = run_over is_word (b ∷ []) m (rw k refl)
+
+    by : (k : Bool) → is_word b ≡ k → (list_any is_letter (run is_word m) ≡ true → list_any is_letter (run is_word (m ++ r)) ≡ true) → list_any is_letter (run is_word (b ∷ (m ++ r))) ≡ true
+    by false k deeper = (let g : false ≡ true = rw k at h in absurd cc)
+    by true k deeper = ap (list_any is_letter) (over (m ++ r) k) ∙ on (is_letter b) refl
+      where
+        here : list_any is_letter (b ∷ run is_word m) ≡ true
+        here = ap (list_any is_letter) (sym (over m k)) ∙ h
+
+        on : (l : Bool) → is_letter b ≡ l → list_any is_letter (b ∷ run is_word (m ++ r)) ≡ true
+        on true l = rw l refl
+        on false l = (let g : list_any is_letter (run is_word m) ≡ true = rw l at here in rw l (deeper g))
+
+name_more : (m r : Text) → is_some (past_name m) ≡ true → is_some (past_name (m ++ r)) ≡ true
+name_more m r h = by (list_any is_letter (run is_word m)) refl
+  where
+    by : (k : Bool) → list_any is_letter (run is_word m) ≡ k → is_some (past_name (m ++ r)) ≡ true
+    by true k = (let there = run_letters m r k in rw there refl)
+    by false k = (let g : false ≡ true = rw k at h in absurd cc)
+
+some_name : (m : Text) → is_some (past_name m) ≡ true → IsMore m
+some_name [] h = absurd cc
+some_name (b ∷ m) h = (b, m, refl)
+
+opening_more : (s r m : Text) → is_fair (s ++ r) ≡ is_fair s → past_opening s ≡ Some m → past_opening (s ++ r) ≡ Some (m ++ r)
+opening_more s r m same e = by (is_fair s) refl
+  where
+    begun : is_fair s ≡ true → s ≡ codes "--fair" ++ drop 6 s
+    begun k = on (begins s (codes "--fair")) refl
+      where
+        on : (t : Bool) → begins s (codes "--fair") ≡ t → s ≡ codes "--fair" ++ drop 6 s
+        on true t = begins_is s (codes "--fair") t
+        on false t = (let f : false ≡ true = rw t at k in absurd cc)
+
+    blank_more : (v : Text) → past_word (codes "algorithm") (past_all is_blank v) ≡ Some m → past_word (codes "algorithm") (past_all is_blank (v ++ r)) ≡ Some (m ++ r)
+    blank_more v f = on (past_all is_blank v) refl f
+      where
+        on : (z : Text) → past_all is_blank v ≡ z → past_word (codes "algorithm") z ≡ Some m → past_word (codes "algorithm") (past_all is_blank (v ++ r)) ≡ Some (m ++ r)
+        on [] d f = absurd (none-some m f)
+        on (c ∷ z) d f = ap (past_word (codes "algorithm")) (past_all_more is_blank v r c z d) ∙ word_more (codes "algorithm") (c ∷ z) r m f
+
+    by : (k : Bool) → is_fair s ≡ k → past_opening (s ++ r) ≡ Some (m ++ r)
+    by true k =
+        let f : past_word (codes "algorithm") (past_all is_blank (drop 6 s)) ≡ Some m = rw k at e in
+        let there : is_fair (s ++ r) ≡ true = same ∙ k in
+        let dropped_more : drop 6 (s ++ r) ≡ drop 6 s ++ r = ap (λ (v : Text). drop 6 (v ++ r)) (begun k) in
+        rw there (ap (λ (v : Text). past_word (codes "algorithm") (past_all is_blank v)) dropped_more ∙ blank_more (drop 6 s) f)
+    by false k =
+        let f : past_word (codes "--algorithm") s ≡ Some m = rw k at e in
+        let there : is_fair (s ++ r) ≡ false = same ∙ k in
+        rw there (word_more (codes "--algorithm") s r m f)
+
+pub begins_more : (s r : Text) → begins_algorithm s ≡ true → begins_algorithm (s ++ r) ≡ true
+begins_more s r h =
+    let o = opened s h in
+    let a = some_step (past_opening s) (λ r. on_some (past_blanks is_blank r) past_name) h in
+    let b = some_step (past_blanks is_blank a.0) past_name a.2 in
+    ap (λ (o : Option Text). is_some (on_some o (λ r. on_some (past_blanks is_blank r) past_name))) (opening_more s r a.0 (o.more r) a.1)
+    ∙ ap (λ (o : Option Text). is_some (on_some o past_name)) (blanks_more a.0 r b.0 (some_name b.0 b.2) b.1)
+    ∙ name_more b.0 r b.2

@@ -1,6 +1,6 @@
 -- A file with another algorithm is walked as before, but for the algorithm's comment, where both algorithms open and close comments only within themselves.
 use Rattle.std.proofs.Common.{◌≡◌, inl, append-nil, codes, ℕ, zero, ◌+◌, ◌-◌, ◌≤◌, Bool, true, false, nat_eq, List, [], ◌∷◌, ◌++◌, length, take, drop, Option, Some, None, refl, sym, ap, subst, ◌∙◌, arith, append_assoc, length-append, find}
-use Rattle.std.specs.Prelude.{if◌then◌else◌}
+use Rattle.std.specs.Prelude.{if◌then◌else◌, is_some}
 use Rattle.std.proofs.lemmas.Bool.{both_ways}
 use Rattle.std.proofs.lemmas.Option.{none-some, same_Some}
 use Rattle.std.proofs.Math.Seq.{take-append_seam, drop-append_seam}
@@ -11,7 +11,7 @@ use Rattle.tla_token.specs.Offences.{Part, sound}
 use Rattle.tla_token.proofs.Front.{block_front}
 use Rattle.module_text.specs.TextFront.{Text, whole_line}
 use Rattle.module_text.specs.HeaderAndRegion.{is_header}
-use Rattle.module_text.specs.Beginnings.{is_fair, opening}
+use Rattle.module_text.specs.Beginnings.{is_fair, opening, begins_algorithm, all_at}
 use Rattle.module_text.specs.ModuleParts.{module_part}
 use Rattle.module_text.specs.Walk.{Segment, free, header, part, bytes, State, in_module, segment_at, after_segment, Located, walk_from, walk, at_start}
 use Rattle.module_text.specs.FileParts.{before_first, after_first, within, beginnings_in, first_of, holds_algorithm}
@@ -32,7 +32,9 @@ use Rattle.module_text.proofs.AlgorithmTokens.{are_plain, cut_inside}
 use Rattle.module_text.proofs.AlgorithmFound.{stretch_is, opened, made_there}
 use Rattle.module_text.proofs.AlgorithmIsCut.{block_segment, block_closed, closes_end, part_there, within_mark, Placed}
 use Rattle.module_text.proofs.AlgorithmSame.{at_comment}
-use Rattle.module_text.proofs.AlgorithmKept.{placed_at}
+use Rattle.module_text.proofs.AlgorithmKept.{placed_at, algorithm_at_first}
+use Rattle.module_text.proofs.BeginningsKept.{found_back}
+use Rattle.module_text.proofs.FirstSwapped.{first_swapped, begins_more}
 
 -- ---- a comment in a module
 
@@ -79,7 +81,7 @@ record Held (x : Text) (d : Located) (a : AlgorithmText) : Type 0 where
   inner : within d.is ≡ front ++ (stretch x a.from a.rest.to ++ back)
   to : a.rest.to ≡ a.from + length (stretch x a.from a.rest.to)
   rest : Text
-  dash : stretch x a.from a.rest.to ≡ 45 ∷ rest
+  dash : stretch x a.from a.rest.to ≡ 45 ∷ 45 ∷ rest
 
 held : (x : Text) (d : Located) (n : ℕ) → Placed x d n → are_plain (at_comment x d n).rest.parts ≡ true → Held x d (at_comment x d n)
 held x d n q plain =
@@ -109,9 +111,9 @@ held x d n q plain =
     sum : (n w p t : ℕ) → t ≡ w + p → n + w + p ≡ n + t
     sum n w p t e = omega arith
 
-    dashed : (k : Bool) → (v : Text) × ((if k then codes "--fair" else codes "--algorithm") ≡ 45 ∷ v)
-    dashed true = (codes "-fair", refl)
-    dashed false = (codes "-algorithm", refl)
+    dashed : (k : Bool) → (v : Text) × ((if k then codes "--fair" else codes "--algorithm") ≡ 45 ∷ 45 ∷ v)
+    dashed true = (codes "fair", refl)
+    dashed false = (codes "algorithm", refl)
 
 -- ---- the file
 
@@ -123,6 +125,18 @@ no_line p v l =
   where
     in_front : (v : Text) → v ++ 42 ∷ 41 ∷ [] ≡ (v ++ 42 ∷ []) ++ 41 ∷ []
     in_front v = sym (append_assoc v (42 ∷ []) (41 ∷ []))
+
+-- no comment before the first one with a beginning has one
+none_before : (ds : List Located) → find holds_algorithm (before_first holds_algorithm ds) ≡ None
+none_before [] = refl
+none_before (d ∷ ds) = by (holds_algorithm d) refl (none_before ds)
+  where
+    by : (k : Bool) → holds_algorithm d ≡ k → find holds_algorithm (before_first holds_algorithm ds) ≡ None → find holds_algorithm (before_first holds_algorithm (d ∷ ds)) ≡ None
+    by true k e = rw k refl
+    by false k e = rw k (next (before_first holds_algorithm ds) k e)
+      where
+        next : (es : List Located) → holds_algorithm d ≡ false → find holds_algorithm es ≡ None → find holds_algorithm (d ∷ es) ≡ None
+        next es k e = rw k e
 
 module _ (x u w : Text) (a : AlgorithmText) (fine : IsFine x) (s : Swapped x (45 ∷ u) w) (is_algorithm : algorithm_in x ≡ Some a)
     (old_paired : is_paired 0 (stretch x a.from a.rest.to) ≡ true) (new_paired : is_paired 0 (45 ∷ u) ≡ true)
@@ -181,7 +195,7 @@ module _ (x u w : Text) (a : AlgorithmText) (fine : IsFine x) (s : Swapped x (45
 
   new_closes : Closes 1 new_body
   new_closes =
-      stays_closed holding.front holding.rest u ending (ap (is_paired 0) (sym holding.dash) ∙ old_paired) new_paired
+      stays_closed holding.front (45 ∷ holding.rest) u ending (ap (is_paired 0) (sym holding.dash) ∙ old_paired) new_paired
       (subst (Closes 1) (body_is ∙ ap (λ (v : Text). holding.front ++ (v ++ ending)) holding.dash) closes)
 
   abbrev new : Segment
@@ -283,6 +297,48 @@ module _ (x u w : Text) (a : AlgorithmText) (fine : IsFine x) (s : Swapped x (45
       in_order : (p v q m : Text) → p ++ (v ++ (q ++ m)) ≡ (p ++ (v ++ q)) ++ m
       in_order p v q m = simp append_assoc refl
 
+  -- the algorithm that is there now begins where the old one did
+  begins_there : (v : Text) → u ≡ 45 ∷ v → begins_algorithm (45 ∷ u) ≡ true → (b : AlgorithmText) × (algorithm_in w ≡ Some b) × (b.from ≡ a.from) × (b.opening ≡ opening (45 ∷ u))
+  begins_there v e begun =
+      let front = holding.front in
+      let back = holding.back in
+      let there = located st new in
+      let m = st.at + 2 + length front in
+      let from_is : a.from ≡ n = ap (λ (a : AlgorithmText). a.from) (sym same) in
+      let at_is_there : st.at ≡ d.at = ap (λ (d : Located). d.at) (met ds d es at_start x split).is in
+      let old_text : within d.is ≡ front ++ 45 ∷ 45 ∷ (holding.rest ++ back) = holding.inner ∙ ap (λ (t : Text). front ++ (t ++ back)) holding.dash in
+      let new_text : within new ≡ front ++ 45 ∷ 45 ∷ (v ++ back) =
+      ap (λ (b : Text). take (length b - 2) b) (in_order front (45 ∷ u) back (42 ∷ 41 ∷ [])) ∙ within_mark (front ++ ((45 ∷ u) ++ back)) ∙ ap (λ (t : Text). front ++ 45 ∷ (t ++ back)) e in
+      let old_first : first_of (all_at begins_algorithm (d.at + 2) (front ++ 45 ∷ 45 ∷ (holding.rest ++ back))) ≡ Some (d.at + 2 + length front) =
+      ap (λ (t : Text). first_of (all_at begins_algorithm (d.at + 2) t)) (sym old_text) ∙ first ∙ ap Some (sym from_is ∙ holding.at) in
+      let begun_word : begins_algorithm (45 ∷ 45 ∷ v) ≡ true = ap (λ (t : Text). begins_algorithm (45 ∷ t)) (sym e) ∙ begun in
+      let new_first : first_of (beginnings_in there) ≡ Some m =
+      ap (λ (t : Text). first_of (all_at begins_algorithm (st.at + 2) t)) new_text
+      ∙ ap (λ (k : ℕ). first_of (all_at begins_algorithm (k + 2) (front ++ 45 ∷ 45 ∷ (v ++ back)))) at_is_there
+      ∙ first_swapped front (holding.rest ++ back) (v ++ back) (d.at + 2) old_first (begins_more (45 ∷ 45 ∷ v) back begun_word)
+      ∙ ap (λ (k : ℕ). Some (k + 2 + length front)) (sym at_is_there) in
+      let holds_it : holds_algorithm there ≡ true = ap (λ (o : Option ℕ). is_some o) new_first in
+      let found_it : find holds_algorithm (walk w) ≡ Some there = ap (find holds_algorithm) walked_there ∙ found_back ds (there ∷ after_there) (none_before (walk x)) ∙ held_first there after_there holds_it in
+      let count : m ≡ a.from = (let at = holding.at in omega (arith, at, at_is_there)) in
+      let pre = text_of ds ++ 40 ∷ 42 ∷ front in
+      let text : w ≡ pre ++ ((45 ∷ u) ++ (ending ++ c)) = text_there ∙ in_pieces (text_of ds) (40 ∷ 42 ∷ []) front (45 ∷ u) ending c in
+      let after_it : drop m w ≡ (45 ∷ u) ++ (ending ++ c) = ap (λ (k : ℕ). drop k w) (count ∙ front_size) ∙ ap (drop (length pre)) text ∙ drop-append_seam pre ((45 ∷ u) ++ (ending ++ c)) in
+      let word : opening ((45 ∷ u) ++ (ending ++ c)) ≡ opening (45 ∷ u) = ap (λ (k : Bool). if k then codes "--fair" else codes "--algorithm") ((opened (45 ∷ u) begun).more (ending ++ c)) in (
+        at_comment w there m,
+        algorithm_at_first w there m found_it new_first,
+        count,
+        ap opening after_it ∙ word,
+      )
+    where
+      in_order : (p v q m : Text) → p ++ (v ++ (q ++ m)) ≡ (p ++ (v ++ q)) ++ m
+      in_order p v q m = simp append_assoc refl
+
+      in_pieces : (t m p v e c : Text) → t ++ (m ++ ((p ++ (v ++ e)) ++ c)) ≡ (t ++ (m ++ p)) ++ (v ++ (e ++ c))
+      in_pieces t m p v e c = simp append_assoc refl
+
+      held_first : (b : Located) (es : List Located) → holds_algorithm b ≡ true → find holds_algorithm (b ∷ es) ≡ Some b
+      held_first b es t = rw t refl
+
 pub swapped_comment : (x u w : Text) (a : AlgorithmText) → IsFine x → Swapped x (45 ∷ u) w → algorithm_in x ≡ Some a → is_paired 0 (stretch x a.from a.rest.to) ≡ true → is_paired 0 (45 ∷ u) ≡ true
     → SwapsComment x (45 ∷ u) w a
 swapped_comment x u w a fine s is old_paired new_paired = by (find holds_algorithm (walk x)) refl
@@ -294,5 +350,22 @@ swapped_comment x u w a fine s is old_paired new_paired = by (find holds_algorit
         swaps_comment x u w a fine s is old_paired new_paired d f n o (same_Some (at_comment x d n) a g)
 
     by : (o : Option Located) → find holds_algorithm (walk x) ≡ o → SwapsComment x (45 ∷ u) w a
+    by None f = (let g : None ≡ Some a = rw f at is in absurd (none-some a g))
+    by (Some d) f = begun d f (first_of (beginnings_in d)) refl
+
+pub swapped_begins : (x u w : Text) (a : AlgorithmText) → IsFine x → Swapped x (45 ∷ 45 ∷ u) w → algorithm_in x ≡ Some a → is_paired 0 (stretch x a.from a.rest.to) ≡ true → is_paired 0 (45 ∷ 45 ∷ u) ≡ true
+    → begins_algorithm (45 ∷ 45 ∷ u) ≡ true → (b : AlgorithmText) × (algorithm_in w ≡ Some b) × (b.from ≡ a.from) × (b.opening ≡ opening (45 ∷ 45 ∷ u))
+swapped_begins x u w a fine s is old_paired new_paired start_there = by (find holds_algorithm (walk x)) refl
+  where
+    Goal : Type 0
+    Goal = (b : AlgorithmText) × (algorithm_in w ≡ Some b) × (b.from ≡ a.from) × (b.opening ≡ opening (45 ∷ 45 ∷ u))
+
+    begun : (d : Located) → find holds_algorithm (walk x) ≡ Some d → (o : Option ℕ) → first_of (beginnings_in d) ≡ o → Goal
+    begun d f None o = (let g : None ≡ Some a = rw (f, o) at is in absurd (none-some a g))
+    begun d f (Some n) o =
+        let g : Some (at_comment x d n) ≡ Some a = rw (f, o) at is in
+        begins_there x (45 ∷ u) w a fine s is old_paired new_paired d f n o (same_Some (at_comment x d n) a g) u refl start_there
+
+    by : (o : Option Located) → find holds_algorithm (walk x) ≡ o → Goal
     by None f = (let g : None ≡ Some a = rw f at is in absurd (none-some a g))
     by (Some d) f = begun d f (first_of (beginnings_in d)) refl

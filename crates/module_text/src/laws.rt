@@ -14,6 +14,7 @@ ghost use Rattle.module_text.specs.Around.{Around, Swapped};
 ghost use Rattle.module_text.specs.FileOffences.{RefusesFile};
 ghost use Rattle.module_text.specs.TextFront.{Text};
 ghost use Rattle.module_text.specs.Walk.{State, Located, region, walk, walk_from, at_start, after_segment};
+ghost use Rattle.module_text.specs.Beginnings.{opening, begins_algorithm};
 ghost use Rattle.module_text.specs.FileParts.{before_spot};
 ghost use Rattle.module_text.specs.WithTranslation.{begin_line, end_line, WithTranslation};
 ghost use Rattle.module_text.specs.laws.Kept.{IsFine, only_large, KeepsFile, SameAlgorithm, AlgorithmMoved, IsPut};
@@ -142,9 +143,11 @@ pub fn walks_stop_at_comments()
 {}
 
 /// A file that is not refused, with another algorithm, is walked as before but for the algorithm's comment, and no segment of it
-/// breaks a rule, where both algorithms open and close comments only within themselves.
+/// breaks a rule, where both algorithms open and close comments only within themselves. Its algorithm begins where the old one
+/// did, with the first word that was put there.
 pub fn swaps_keep_the_rest()
-    ensures { (x u w : Text) (a : AlgorithmText) → IsFine x → Swapped x (45 ∷ u) w → algorithm_in x ≡ Some a → is_paired 0 (stretch x a.from a.rest.to) ≡ true → is_paired 0 (45 ∷ u) ≡ true → SwapsComment x (45 ∷ u) w a }
+    ensures begins { (x u w : Text) (a : AlgorithmText) → IsFine x → Swapped x (45 ∷ 45 ∷ u) w → algorithm_in x ≡ Some a → is_paired 0 (stretch x a.from a.rest.to) ≡ true → is_paired 0 (45 ∷ 45 ∷ u) ≡ true → begins_algorithm (45 ∷ 45 ∷ u) ≡ true → (b : AlgorithmText) × (algorithm_in w ≡ Some b) × (b.from ≡ a.from) × (b.opening ≡ opening (45 ∷ 45 ∷ u)) }
+    ensures walked { (x u w : Text) (a : AlgorithmText) → IsFine x → Swapped x (45 ∷ u) w → algorithm_in x ≡ Some a → is_paired 0 (stretch x a.from a.rest.to) ≡ true → is_paired 0 (45 ∷ u) ≡ true → SwapsComment x (45 ∷ u) w a }
 {}
 
 /// The algorithm that was replaced, put in the place of the one that replaced it, gives the file that was read.
