@@ -4,6 +4,24 @@ pub mod OneWay
 pub mod OneUnit
 pub mod OneOutside
 pub mod OneModule
+pub mod EdgeAlike
+pub mod OutsideUnits
+pub mod ReadOutside
+pub mod SomeOutside
+pub mod OutsideAlike
+pub mod ModuleKept
+pub mod AlgorithmRow
+pub mod OptionsKept
+pub mod BeginningsKept
+pub mod AlgorithmKept
+pub mod AlgorithmMoved
+pub mod FineKept
+pub mod PairedMarks
+pub mod WalkAlike
+pub mod SwappedBack
+pub mod WalkBefore
+pub mod SwappedComment
+pub mod FirstSwapped
 pub mod OnePlace
 pub mod Tells
 pub mod First
@@ -12,6 +30,7 @@ mod RowsItems
 mod RowsTruth
 mod RowsProcesses
 mod RowsOutside
+mod RowsUnits
 mod RowsReading
 mod RowsFiles
 mod RowsUnits

@@ -28,17 +28,17 @@ use Rattle.module_text.specs.laws.Kept.{IsFine, KeepsFile}
 use Rattle.module_text.specs.laws.Outsides.{HasOutside, AllAlike, SameOutside, IsModuleOf}
 use Rattle.module_text.proofs.WalkLines.{header_title_alike}
 use Rattle.module_text.proofs.WalkPlace.{both_empty, before_whole, headed_title, met}
-use Rattle.module_text.proofs.WalkKept.{sound_file, HasPlace, has_place}
+use Rattle.module_text.proofs.WalkKept.{all_fine_in, HasPlace, has_place}
 use Rattle.module_text.proofs.WalkSame.{first_kept}
 use Rattle.module_text.proofs.OutsideAlike.{same_views, same_front, same_units, units_there, alike_after, same_outside}
 
 -- ---- the title
 
 -- a line without its end, or one with it
-abbrev Lined : Text → Type 0
+abbrev pub Lined : Text → Type 0
 Lined s = ((l : Text) × (p : Text) × (s ≡ l ++ 10 ∷ p) × (whole_line s ≡ l ++ 10 ∷ [])) ⊎ (whole_line s ≡ s)
 
-lined : (s : Text) → Lined s
+pub lined : (s : Text) → Lined s
 lined [] = inr refl
 lined (b ∷ s) = by (nat_eq b 10) refl (lined s)
   where
@@ -131,7 +131,7 @@ begun (d ∷ ds) e = by (token_in d) refl (begun ds)
         on false k = (let f : ◌≡◌ {A = List Offence} ((Placement, d.at) ∷ []) [] = rw (o, k) at e in absurd cc)
 
 pub no_front_in : (x : Text) → IsFine x → (units_in (after_spot (walk x))).front ≡ []
-no_front_in x f = begun (after_spot (walk x)) (both_empty _ (no_unit (after_spot (walk x))) (sound_file x f).placed).1
+no_front_in x f = begun (after_spot (walk x)) (both_empty _ (no_unit (after_spot (walk x))) (all_fine_in x f).parts.placed).1
 
 pub no_looks : (ts : List Token) → looks ts ≡ [] → ts ≡ []
 no_looks [] e = refl

@@ -29,22 +29,13 @@ pub record Sound (x : Text) : Type 0 where
   pub ends : has_tail (walk x) ≡ true
   pub begun : beginnings (walk x) ≡ [] → ⊥
   pub placed : placements (walk x) ≡ []
-  pub algorithm : algorithm_offences (algorithm_of x (walk x)) ≡ []
-  pub second : second_algorithms (algorithm_of x (walk x)) (beginnings (walk x)) ≡ []
-  pub options : flat_map (options_in x) (outside_region x (walk x)) ≡ []
 
-pub sound_file : (x : Text) → IsFine x → Sound x
-sound_file x f =
+-- where these have no offences
+pub sound_parts : (x : Text) → offences_of (walk x) ≡ [] → no_module x (module_end (walk x)) ≡ [] → no_algorithm (module_end (walk x)) (beginnings (walk x)) ≡ [] → placements (walk x) ≡ [] → Sound x
+sound_parts x fine ended missing placed =
     let ds = walk x in
-    let a = algorithm_of x ds in
-    let o = both_empty (offences_of ds) _ f in
-    let p = both_empty (algorithm_offences a) _ o.1 in
-    let q = both_empty (no_module x (module_end ds)) _ p.1 in
-    let r = both_empty (no_algorithm (module_end ds) (beginnings ds)) _ q.1 in
-    let s = both_empty (second_algorithms a (beginnings ds)) _ r.1 in
-    let t = both_empty (placements ds) _ s.1 in
-    let ends = some_end (first_that is_tail ds) q.0 in
-    record { fine = o.0; ends = ends; begun = some_begin (first_that is_tail ds) (beginnings ds) ends r.0; placed = t.0; algorithm = p.0; second = s.0; options = t.1 }
+    let ends = some_end (first_that is_tail ds) ended in
+    record { fine = fine; ends = ends; begun = some_begin (first_that is_tail ds) (beginnings ds) ends missing; placed = placed }
   where
     some_end : (e : Option Located) → no_module x (on_some e (λ d. Some d.at)) ≡ [] → is_some e ≡ true
     some_end (Some d) h = refl
@@ -54,6 +45,18 @@ sound_file x f =
     some_begin (Some d) [] t h e = cc
     some_begin (Some d) (n ∷ ns) t h e = cc
     some_begin None ns t h e = (let f : false ≡ true = t in cc)
+
+sound_file : (x : Text) → IsFine x → Sound x
+sound_file x f =
+    let ds = walk x in
+    let a = algorithm_of x ds in
+    let o = both_empty (offences_of ds) _ f in
+    let p = both_empty (algorithm_offences a) _ o.1 in
+    let q = both_empty (no_module x (module_end ds)) _ p.1 in
+    let r = both_empty (no_algorithm (module_end ds) (beginnings ds)) _ q.1 in
+    let s = both_empty (second_algorithms a (beginnings ds)) _ r.1 in
+    let t = both_empty (placements ds) _ s.1 in
+    sound_parts x o.0 q.0 r.0 t.0
 
 -- ---- the comment of the algorithm
 
@@ -112,6 +115,26 @@ commented (d ∷ ds) t e b = by (holds_algorithm d) refl (commented ds)
             let more : has_tail ds ≡ true = rw l at e in
             let r = deeper rest_tails more others in
             record { no_tail = rw (k, l) r.no_tail; ends = rw k r.ends; parts = rw k (or_right (is_part d.is) _ r.parts) }
+
+-- ---- each part of what a file that is not refused has
+
+pub record AllFine (x : Text) : Type 0 where
+  pub parts : Sound x
+  pub algorithm : algorithm_offences (algorithm_of x (walk x)) ≡ []
+  pub second : second_algorithms (algorithm_of x (walk x)) (beginnings (walk x)) ≡ []
+  pub options : flat_map (options_in x) (outside_region x (walk x)) ≡ []
+
+pub all_fine_in : (x : Text) → IsFine x → AllFine x
+all_fine_in x f =
+    let ds = walk x in
+    let a = algorithm_of x ds in
+    let o = both_empty (offences_of ds) _ f in
+    let p = both_empty (algorithm_offences a) _ o.1 in
+    let q = both_empty (no_module x (module_end ds)) _ p.1 in
+    let r = both_empty (no_algorithm (module_end ds) (beginnings ds)) _ q.1 in
+    let s = both_empty (second_algorithms a (beginnings ds)) _ r.1 in
+    let t = both_empty (placements ds) _ s.1 in
+    record { parts = sound_file x f; algorithm = p.0; second = s.0; options = t.1 }
 
 -- ---- the newline after it
 

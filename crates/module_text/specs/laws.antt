@@ -1,3 +1,4 @@
 pub mod Walks
 pub mod Kept
 pub mod Outsides
+pub mod Swaps
