@@ -33,7 +33,6 @@ mod RowsOutside
 mod RowsUnits
 mod RowsReading
 mod RowsFiles
-mod RowsUnits
 mod RowsInMemory
 pub mod WalkLines
 pub mod WalkWhole
@@ -52,17 +51,6 @@ pub mod AlgorithmTokens
 pub mod AlgorithmFound
 pub mod AlgorithmIsCut
 pub mod AlgorithmSame
-pub mod OutsideUnits
-pub mod ReadOutside
-pub mod SomeOutside
-pub mod OutsideAlike
-pub mod ModuleKept
-pub mod AlgorithmRow
-pub mod OptionsKept
-pub mod BeginningsKept
-pub mod AlgorithmKept
-pub mod AlgorithmMoved
-pub mod FineKept
 pub mod ItemEquations
 pub mod Below
 pub mod Heights
