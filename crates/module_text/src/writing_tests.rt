@@ -4,6 +4,7 @@ ghost use Rattle.std.specs.Prelude.{◌≡◌, ◌≤◌, ◌<◌, ◌∷◌, []
 ghost use Rattle.module_text.specs.InMemory.{past_items, ActionsIn, AllFairnessIn, WaysIn, RegionIn};
 ghost use Rattle.tla_value.specs.Defs.{DefinitionsIn};
 
+use crate::formulas::{at, binds_self, equal, functions_from, is_in, named, quoted, set};
 use crate::module::{Action, Body, Call, Fairness, Item, Module, Outside, Region, Way};
 use crate::parts::Parts;
 use crate::ways::sets;
@@ -11,7 +12,7 @@ use crate::write_file::{with_translation, write_module};
 use crate::write_units::write_region;
 use std::alloc::{AllocError, Global};
 use tla_expr::form::{Form, Strict};
-use tla_expr::{Name, NameList, NodeId, Op, Pool, Text};
+use tla_expr::{Binder, Name, NameList, NodeId, Op, Pool, Text, write_expr};
 use tla_token::{Place, Span, Tokens};
 use tla_value::names::{Definition, Defs};
 
@@ -318,5 +319,35 @@ fn a_translation_is_put_in_its_place(rt: HostRuntime) -> Result<(), AllocError> 
     };
     let written = write_module(alloc, &pool, &parts, &module)?;
     assert_eq!(rt; written.len(), FILE.len() + 40 + WANTED.len());
+    Ok(())
+}
+
+#[test]
+fn formulas_are_put(rt: HostRuntime) -> Result<(), AllocError> {
+    let alloc = rt.alloc();
+    let mut pool = Pool::new(alloc);
+    let pc = named(alloc, &mut pool, name(alloc, b"pc")?)?;
+    let here = named(alloc, &mut pool, name(alloc, b"self")?)?;
+    let done = quoted(
+        alloc,
+        &mut pool,
+        Text::new(Vec::from_slice(alloc, b"Done")?),
+    )?;
+    let all = named(alloc, &mut pool, name(alloc, b"ProcSet")?)?;
+    let place = at(alloc, &mut pool, pc, here)?;
+    let ended = equal(alloc, &mut pool, place, done)?;
+    let each = binds_self(alloc, &mut pool, Binder::ForAll, all, ended)?;
+    let labels = set(&mut pool, Vec::from_array(alloc, [done, here])?)?;
+    let other = is_in(alloc, &mut pool, false, pc, labels)?;
+    let whole = functions_from(alloc, &mut pool, all, labels)?;
+    let mut text = Text::new(Vec::new(alloc));
+    write_expr(alloc, &pool, each, &mut text)?;
+    text.push(b'|')?;
+    write_expr(alloc, &pool, other, &mut text)?;
+    text.push(b'|')?;
+    write_expr(alloc, &pool, whole, &mut text)?;
+    let wanted =
+        b"\\A self \\in ProcSet : pc[self] = \"Done\"|pc \\notin {\"Done\", self}|[ProcSet -> {\"Done\", self}]";
+    assert!(rt; text.bytes() == wanted.as_slice());
     Ok(())
 }
