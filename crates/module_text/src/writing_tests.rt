@@ -323,31 +323,43 @@ fn a_translation_is_put_in_its_place(rt: HostRuntime) -> Result<(), AllocError> 
 }
 
 #[test]
-fn formulas_are_put(rt: HostRuntime) -> Result<(), AllocError> {
+fn formulas_over_self_are_put(rt: HostRuntime) -> Result<(), AllocError> {
     let alloc = rt.alloc();
     let mut pool = Pool::new(alloc);
     let pc = named(alloc, &mut pool, name(alloc, b"pc")?)?;
     let here = named(alloc, &mut pool, name(alloc, b"self")?)?;
+    assert!(rt; pc < pool.len() && here < pool.len());
+    let place = at(alloc, &mut pool, pc, here)?;
+    assert!(rt; place < pool.len() && pc < pool.len());
+    let ended = equal(alloc, &mut pool, place, pc)?;
+    assert!(rt; ended < pool.len() && pc < pool.len());
+    let each = binds_self(alloc, &mut pool, Binder::ForAll, pc, ended)?;
+    assert!(rt; each < pool.len());
+    let mut text = Text::new(Vec::new(alloc));
+    write_expr(alloc, &pool, each, &mut text)?;
+    assert!(rt; text.bytes() == b"\\A self \\in pc : pc[self] = pc".as_slice());
+    Ok(())
+}
+
+#[test]
+fn sets_of_texts_are_put(rt: HostRuntime) -> Result<(), AllocError> {
+    let alloc = rt.alloc();
+    let mut pool = Pool::new(alloc);
     let done = quoted(
         alloc,
         &mut pool,
         Text::new(Vec::from_slice(alloc, b"Done")?),
     )?;
-    let all = named(alloc, &mut pool, name(alloc, b"ProcSet")?)?;
-    let place = at(alloc, &mut pool, pc, here)?;
-    let ended = equal(alloc, &mut pool, place, done)?;
-    let each = binds_self(alloc, &mut pool, Binder::ForAll, all, ended)?;
-    let labels = set(&mut pool, Vec::from_array(alloc, [done, here])?)?;
-    let other = is_in(alloc, &mut pool, false, pc, labels)?;
-    let whole = functions_from(alloc, &mut pool, all, labels)?;
+    assert!(rt; done < pool.len());
+    let labels = set(&mut pool, Vec::from_array(alloc, [done, done])?)?;
+    assert!(rt; labels < pool.len() && done < pool.len());
+    let other = is_in(alloc, &mut pool, false, done, labels)?;
+    assert!(rt; other < pool.len() && labels < pool.len());
+    let whole = functions_from(alloc, &mut pool, other, labels)?;
+    assert!(rt; whole < pool.len());
     let mut text = Text::new(Vec::new(alloc));
-    write_expr(alloc, &pool, each, &mut text)?;
-    text.push(b'|')?;
-    write_expr(alloc, &pool, other, &mut text)?;
-    text.push(b'|')?;
     write_expr(alloc, &pool, whole, &mut text)?;
-    let wanted =
-        b"\\A self \\in ProcSet : pc[self] = \"Done\"|pc \\notin {\"Done\", self}|[ProcSet -> {\"Done\", self}]";
+    let wanted = b"[\"Done\" \\notin {\"Done\", \"Done\"} -> {\"Done\", \"Done\"}]";
     assert!(rt; text.bytes() == wanted.as_slice());
     Ok(())
 }
