@@ -1,5 +1,9 @@
 //! Modules in memory: expressions are numbers of a pool.
 
+ghost use Rattle.std.specs.Prelude.{◌≡◌, List, []};
+ghost use Rattle.tla_expr.specs.Tree.{Tree};
+ghost use Rattle.module_text.specs.InMemory.{outside_at};
+
 use std::alloc::Global;
 use tla_expr::{Name, NameList, NodeId, PlacedName};
 use tla_token::Place;
@@ -124,7 +128,10 @@ pub struct Outside {
 
 impl Outside {
     /// Nothing.
-    pub fn new(alloc: Global) -> Outside {
+    pub fn new(alloc: Global) -> Outside
+        ensures stands { (ts : List Tree) → outside_at ts result ≡ record { extended = []; constants = []; definitions = []; opaque = [] } }
+        ensures definitions { result.definitions ≡ [] }
+    {
         Outside {
             extended: NameList::new(alloc),
             constants: Vec::new(alloc),

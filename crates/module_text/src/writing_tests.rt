@@ -4,13 +4,16 @@ ghost use Rattle.std.specs.Prelude.{◌≡◌, ◌≤◌, ◌<◌, ◌∷◌, []
 ghost use Rattle.module_text.specs.InMemory.{past_items, ActionsIn, AllFairnessIn, WaysIn, RegionIn};
 ghost use Rattle.tla_value.specs.Defs.{DefinitionsIn};
 
+use crate::formulas::{at, binds_self, equal, functions_from, is_in, named, quoted, set};
 use crate::module::{Action, Body, Call, Fairness, Item, Module, Outside, Region, Way};
-use crate::write_file::write_module;
+use crate::parts::Parts;
+use crate::ways::sets;
+use crate::write_file::{with_translation, write_module};
 use crate::write_units::write_region;
 use std::alloc::{AllocError, Global};
 use tla_expr::form::{Form, Strict};
-use tla_expr::{Name, NameList, NodeId, Op, Pool, Text};
-use tla_token::Place;
+use tla_expr::{Binder, Name, NameList, NodeId, Op, Pool, Text, write_expr};
+use tla_token::{Place, Span, Tokens};
 use tla_value::names::{Definition, Defs};
 
 const PLACE: Place = Place { line: 1, col: 1 };
@@ -264,5 +267,99 @@ fn every_kind_of_item_is_written(rt: HostRuntime) -> Result<(), AllocError> {
     write_region(alloc, &pool, &region, &mut text)?;
     assert_eq!(rt; text.bytes()[0], b'|');
     assert!(rt; &text.bytes()[1..] == WANTED);
+    Ok(())
+}
+
+// No token.
+fn none(alloc: Global) -> Tokens {
+    Tokens {
+        bytes: Vec::new(alloc),
+        items: Vec::new(alloc),
+        end: PLACE,
+    }
+}
+
+#[test]
+fn each_process_has_its_set(rt: HostRuntime) -> Result<(), AllocError> {
+    let alloc = rt.alloc();
+    let mut pool = Pool::new(alloc);
+    let e = put_all(alloc, &mut pool)?;
+    assert_eq!(rt; sets(alloc, &pool, 2, e.both)?.len(), 2);
+    assert_eq!(rt; sets(alloc, &pool, 1, e.both)?.len(), 1);
+    assert_eq!(rt; sets(alloc, &pool, 3, e.equal)?.len(), 1);
+    Ok(())
+}
+
+// A file without a translation; the place of one is at byte 38.
+const FILE: &[u8] = b"---- MODULE M ----\n(*--algorithm A\n*)\n====\n";
+
+#[test]
+fn a_translation_is_put_in_its_place(rt: HostRuntime) -> Result<(), AllocError> {
+    let alloc = rt.alloc();
+    let parts = Parts {
+        text: FILE,
+        title: Span { from: 12, to: 13 },
+        spot: Span { from: 38, to: 38 },
+        is_new: true,
+        algorithm: Span { from: 21, to: 34 },
+        is_c: false,
+        before: none(alloc),
+        after: none(alloc),
+    };
+    let written = with_translation(alloc, &parts, b"VARIABLES x\n")?;
+    let wanted =
+        b"---- MODULE M ----\n(*--algorithm A\n*)\n\\* BEGIN TRANSLATION\nVARIABLES x\n\\* END TRANSLATION\n====\n";
+    assert!(rt; written.as_slice() == wanted.as_slice());
+    let mut pool = Pool::new(alloc);
+    let e = put_all(alloc, &mut pool)?;
+    let module = Module {
+        title: name(alloc, b"M")?,
+        outside: Outside::new(alloc),
+        region: sample(alloc, pool.len(), e)?,
+    };
+    let written = write_module(alloc, &pool, &parts, &module)?;
+    assert_eq!(rt; written.len(), FILE.len() + 40 + WANTED.len());
+    Ok(())
+}
+
+#[test]
+fn formulas_over_self_are_put(rt: HostRuntime) -> Result<(), AllocError> {
+    let alloc = rt.alloc();
+    let mut pool = Pool::new(alloc);
+    let pc = named(alloc, &mut pool, name(alloc, b"pc")?)?;
+    let here = named(alloc, &mut pool, name(alloc, b"self")?)?;
+    assert!(rt; pc < pool.len() && here < pool.len());
+    let place = at(alloc, &mut pool, pc, here)?;
+    assert!(rt; place < pool.len() && pc < pool.len());
+    let ended = equal(alloc, &mut pool, place, pc)?;
+    assert!(rt; ended < pool.len() && pc < pool.len());
+    let each = binds_self(alloc, &mut pool, Binder::ForAll, pc, ended)?;
+    assert!(rt; each < pool.len());
+    let mut text = Text::new(Vec::new(alloc));
+    write_expr(alloc, &pool, each, &mut text)?;
+    assert!(rt; text.bytes() == b"\\A self \\in pc : pc[self] = pc".as_slice());
+    Ok(())
+}
+
+#[test]
+fn sets_of_texts_are_put(rt: HostRuntime) -> Result<(), AllocError> {
+    let alloc = rt.alloc();
+    let mut pool = Pool::new(alloc);
+    let done = quoted(
+        alloc,
+        &mut pool,
+        Text::new(Vec::from_slice(alloc, b"Done")?),
+    )?;
+    assert!(rt; done < pool.len());
+    let labels = set(&mut pool, Vec::from_array(alloc, [done, done])?)?;
+    assert!(rt; labels < pool.len() && done < pool.len());
+    let other = is_in(alloc, &mut pool, false, done, labels)?;
+    assert!(rt; other < pool.len() && labels < pool.len());
+    let whole = functions_from(alloc, &mut pool, other, labels)?;
+    assert!(rt; whole < pool.len());
+    let mut text = Text::new(Vec::new(alloc));
+    write_expr(alloc, &pool, whole, &mut text)?;
+    let wanted = b"[\"Done\" \\notin {\"Done\", \"Done\"} -> {\"Done\", \"Done\"}]";
+    assert!(rt; text.bytes() == wanted.as_slice());
     Ok(())
 }
