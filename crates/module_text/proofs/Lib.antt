@@ -14,6 +14,7 @@ mod RowsProcesses
 mod RowsOutside
 mod RowsReading
 mod RowsFiles
+mod RowsStands
 pub mod WalkLines
 pub mod WalkWhole
 pub mod WalkResumed

@@ -8,6 +8,7 @@ pub mod HeaderAndRegion
 pub mod Beginnings
 pub mod ModuleParts
 pub mod Walk
+pub mod StandsSeen
 pub mod FileParts
 pub mod AlgorithmText
 pub mod FileUnits
