@@ -18,6 +18,11 @@ mod RowsStands
 pub mod WalkLines
 pub mod WalkWhole
 pub mod WalkResumed
+pub mod LineLengths
+pub mod EndLine
+pub mod BarFronts
+pub mod SegmentFronts
+pub mod WalkSteps
 pub mod WalkWritten
 pub mod WalkMoved
 pub mod WalkParted

@@ -9,6 +9,7 @@ pub mod Beginnings
 pub mod ModuleParts
 pub mod Walk
 pub mod StandsSeen
+pub mod Walking
 pub mod FileParts
 pub mod AlgorithmText
 pub mod FileUnits
