@@ -37,3 +37,14 @@ pub mod AlgorithmTokens
 pub mod AlgorithmFound
 pub mod AlgorithmIsCut
 pub mod AlgorithmSame
+pub mod BeginningSteps
+pub mod AlgorithmSteps
+pub mod Braces
+pub mod UnitStarts
+pub mod SplitFaults
+pub mod SplitLeast
+pub mod SplitFine
+pub mod StandSteps
+pub mod Comments
+pub mod Gaps
+pub mod SplitParts

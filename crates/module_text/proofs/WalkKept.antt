@@ -31,6 +31,22 @@ pub record Sound (x : Text) : Type 0 where
   pub begun : beginnings (walk x) ≡ [] → ⊥
   pub placed : placements (walk x) ≡ []
 
+-- where these have no offences
+pub sound_parts : (x : Text) → offences_of (walk x) ≡ [] → no_module x (module_end (walk x)) ≡ [] → no_algorithm (module_end (walk x)) (beginnings (walk x)) ≡ [] → placements (walk x) ≡ [] → Sound x
+sound_parts x fine ended missing placed =
+    let ds = walk x in
+    let ends = some_end (first_that is_tail ds) ended in
+    record { fine = fine; ends = ends; begun = some_begin (first_that is_tail ds) (beginnings ds) ends missing; placed = placed }
+  where
+    some_end : (e : Option Located) → no_module x (on_some e (λ d. Some d.at)) ≡ [] → is_some e ≡ true
+    some_end (Some d) h = refl
+    some_end None h = absurd cc
+
+    some_begin : (e : Option Located) (ns : List ℕ) → is_some e ≡ true → no_algorithm (on_some e (λ d. Some d.at)) ns ≡ [] → ns ≡ [] → ⊥
+    some_begin (Some d) [] t h e = cc
+    some_begin (Some d) (n ∷ ns) t h e = cc
+    some_begin None ns t h e = (let f : false ≡ true = t in cc)
+
 sound_file : (x : Text) → IsFine x → Sound x
 sound_file x f =
     let ds = walk x in
@@ -41,17 +57,7 @@ sound_file x f =
     let r = both_empty (no_algorithm (module_end ds) (beginnings ds)) _ q.1 in
     let s = both_empty (second_algorithms a (beginnings ds)) _ r.1 in
     let t = both_empty (placements ds) _ s.1 in
-    let ends = some_end (first_that is_tail ds) q.0 in
-    record { fine = o.0; ends = ends; begun = some_begin (first_that is_tail ds) (beginnings ds) ends r.0; placed = t.0 }
-  where
-    some_end : (e : Option Located) → no_module x (on_some e (λ d. Some d.at)) ≡ [] → is_some e ≡ true
-    some_end (Some d) h = refl
-    some_end None h = absurd cc
-
-    some_begin : (e : Option Located) (ns : List ℕ) → is_some e ≡ true → no_algorithm (on_some e (λ d. Some d.at)) ns ≡ [] → ns ≡ [] → ⊥
-    some_begin (Some d) [] t h e = cc
-    some_begin (Some d) (n ∷ ns) t h e = cc
-    some_begin None ns t h e = (let f : false ≡ true = t in cc)
+    sound_parts x o.0 q.0 r.0 t.0
 
 -- ---- the comment of the algorithm
 

@@ -14,6 +14,10 @@ pub mod FileParts
 pub mod AlgorithmText
 pub mod FileUnits
 pub mod FileOffences
+pub mod Splitting
+pub mod BeginningsSeen
+pub mod AlgorithmSeen
+pub mod SplitSeen
 pub mod WithTranslation
 pub mod Around
 pub mod ActionTruth
