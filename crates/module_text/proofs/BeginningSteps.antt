@@ -46,7 +46,7 @@ no_blank p (b ∷ s) l = by (p b) refl
     by true k = (let some : suc (length (run p s)) ≤ 0 = rw (k, one_plus) at l in absurd (omega arith))
     by false k = k
 
-within : (w s : Text) → begins s w ≡ true → length w ≤ length s
+pub within : (w s : Text) → begins s w ≡ true → length w ≤ length s
 within w s h = (let e = ap length (begins_is s w h) in omega (arith, length-append w (drop (length w) s)))
 
 -- where blanks are passed

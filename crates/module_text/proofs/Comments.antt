@@ -21,8 +21,8 @@ use Rattle.module_text.specs.AlgorithmText.{AlgorithmText, algorithm_at, algorit
 use Rattle.module_text.specs.Beginnings.{begins_algorithm, all_at}
 use Rattle.module_text.specs.FileParts.{within, first_of, holds_algorithm, beginnings_in, beginnings}
 use Rattle.module_text.specs.FileUnits.{with_token}
-use Rattle.module_text.specs.StandsSeen.{segment_of, segment_seen, located_seen, stands_seen}
-use Rattle.module_text.specs.SplitSeen.{IsSolid, IsInnerSpan, IsInner, plain_token, plain_tokens}
+use Rattle.module_text.specs.StandsSeen.{segment_of, segment_seen, located_seen, stands_seen, IsSolid}
+use Rattle.module_text.specs.SplitSeen.{IsInnerSpan, IsInner, plain_token, plain_tokens}
 use Rattle.module_text.proofs.StandSteps.{cons_at}
 
 block_within : (x : Text) (d : Stand) → d.shape ≡ shape.Part class.Block → within (segment_seen x d) ≡ take (length (drop 2 (stretch x d.at (d.at + d.len))) - 2) (drop 2 (stretch x d.at (d.at + d.len)))

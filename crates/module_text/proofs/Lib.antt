@@ -22,6 +22,7 @@ pub mod LineLengths
 pub mod EndLine
 pub mod BarFronts
 pub mod SegmentFronts
+pub mod QuotedSegments
 pub mod WalkSteps
 pub mod WalkWritten
 pub mod WalkMoved
@@ -37,6 +38,7 @@ pub mod AlgorithmTokens
 pub mod AlgorithmFound
 pub mod AlgorithmIsCut
 pub mod AlgorithmSame
+mod RowsSplit
 pub mod BeginningSteps
 pub mod AlgorithmSteps
 pub mod Braces

@@ -80,4 +80,4 @@ end_at_text : IsAt text after_tail
 end_at_text = record { within = omega arith; line = omega arith; col = omega arith; known = ((λ e. refl), (omega arith, λ l. absurd (omega arith))) }
 
 past_tail : GoesOn text before_tail rest after_tail
-past_tail = record { further = omega arith; at = end_at_text; within = rest_within; same = refl }
+past_tail = record { further = omega arith; at = end_at_text; within = rest_within; solid = record { within = omega arith; some = omega arith; quoted = λ e. absurd cc }; same = refl }

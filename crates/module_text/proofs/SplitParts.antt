@@ -17,11 +17,11 @@ use Rattle.module_text.specs.declared.split.Gap.{Gap}
 use Rattle.module_text.specs.TextFront.{Text, on_some}
 use Rattle.module_text.specs.Beginnings.{is_options, all_at}
 use Rattle.module_text.specs.Walk.{Segment, Located, bytes, is_region, is_tail, is_header_line}
-use Rattle.module_text.specs.StandsSeen.{segment_of, segment_seen, located_seen, stands_seen}
+use Rattle.module_text.specs.StandsSeen.{segment_of, segment_seen, located_seen, stands_seen, IsSolid}
 use Rattle.module_text.specs.FileParts.{first_that, module_end, after_comment, after_spot, region_of, span_of, holds_algorithm}
 use Rattle.module_text.specs.AlgorithmText.{AlgorithmText, algorithm_of, in_token}
 use Rattle.module_text.specs.FileOffences.{offences_at, second_algorithms, rest_of_line, no_unit, placements, options_in, outside_region}
-use Rattle.module_text.specs.SplitSeen.{IsSolid, is_header_stand, is_region_stand, is_tail_stand, IsFound, IsAlgorithm, IsGap}
+use Rattle.module_text.specs.SplitSeen.{is_header_stand, is_region_stand, is_tail_stand, IsFound, IsAlgorithm, IsGap}
 use Rattle.module_text.proofs.StandSteps.{after_is}
 use Rattle.module_text.proofs.Gaps.{region_seen, region_bytes}
 

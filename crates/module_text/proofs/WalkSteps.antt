@@ -15,7 +15,8 @@ use Rattle.module_text.specs.TextFront.{Text}
 use Rattle.module_text.specs.HeaderAndRegion.{is_header, is_begin, is_end}
 use Rattle.module_text.specs.Beginnings.{ends_module}
 use Rattle.module_text.specs.Walk.{Segment, free, header, part, region, mark, inner, tail, bytes, State, at_end_line, opened, in_module, segment_at, is_header_line, is_region, after_segment, Located, walk_from}
-use Rattle.module_text.specs.StandsSeen.{segment_of, before_end}
+use Rattle.module_text.specs.StandsSeen.{segment_of, before_end, is_string, IsSolid}
+use Rattle.module_text.proofs.QuotedSegments.{segment_quoted}
 use Rattle.module_text.specs.Walking.{shape_of, outline, front_of, end_at, IsKnown, state_of, IsAt, GoesOn}
 use Rattle.module_text.proofs.BarFronts.{module_made}
 use Rattle.module_text.proofs.EndLine.{none_later}
@@ -103,6 +104,7 @@ record Ahead (st : State) (t : Text) (f : Front) : Type 0 where
   some : 0 < f.len
   within : f.len ≤ length t
   ended : before_end f.shape ≤ f.len
+  quoted : is_string f.shape ≡ true → 2 ≤ f.len
   walked : walk_from st 0 t ≡ record { at = st.at; place = st.place; is = segment } ∷ walk_from (after_segment st segment) 0 (drop f.len t)
 
 bytes_some : (xs : Text) → (xs ≡ [] → ⊥) → 0 < length xs
@@ -122,6 +124,7 @@ ahead_outline st b s =
       some = bytes_some (bytes g) front.2;
       within = omega (arith, length-append (bytes g) front.0);
       ended = end_within g;
+      quoted = segment_quoted st b s;
       walked = walk_further st b s;
     }
 
@@ -179,5 +182,6 @@ goes_past x w f k piece place h m n at e known is moved line col heads ends fewe
       further = omega arith;
       at = record { within = omega arith; line = omega arith; col = omega arith; known = (endless, wordless) };
       within = (omega arith, a.ended);
+      solid = record { within = omega arith; some = some; quoted = a.quoted };
       same = a.walked ∙ same;
     }

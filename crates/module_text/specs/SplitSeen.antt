@@ -7,7 +7,6 @@ use Rattle.tla_token.specs.Lexemes.{Kind}
 use Rattle.tla_token.specs.Tokens as text
 use Rattle.tla_token.specs.Tokens.{stretch}
 use Rattle.tla_token.specs.Offences.{least}
-use Rattle.tla_token.specs.Scan.{is_quoted}
 use Rattle.tla_token.specs.TokensSeen.{part_kind}
 use Rattle.module_text.specs.declared.stand.Shape.{Shape}
 use Rattle.module_text.specs.declared.stand.Shape.TheVariants as shape
@@ -16,7 +15,7 @@ use Rattle.module_text.specs.declared.split.Algorithm.{Algorithm}
 use Rattle.module_text.specs.declared.split.Gap.{Gap}
 use Rattle.module_text.specs.TextFront.{Text}
 use Rattle.module_text.specs.Walk.{Segment, part, Located}
-use Rattle.module_text.specs.StandsSeen.{segment_seen, stands_seen}
+use Rattle.module_text.specs.StandsSeen.{segment_seen, stands_seen, IsSolid}
 use Rattle.module_text.specs.FileParts as FileParts
 use Rattle.module_text.specs.FileParts.{within, region_of, before_spot, after_spot, spot}
 use Rattle.module_text.specs.FileUnits.{with_token}
@@ -24,16 +23,6 @@ use Rattle.module_text.specs.AlgorithmText.{AlgorithmText, algorithm_of, in_toke
 use Rattle.module_text.specs.FileOffences.{algorithm_offences}
 use Rattle.module_text.specs.Splitting.{is_splitting}
 use Rattle.module_text.specs.AlgorithmSeen.{stage_seen}
-
-abbrev pub is_string : Shape → Bool
-is_string (shape.Part c) = is_quoted c
-is_string s = false
-
--- it is within the text and not empty; a string has its quotes
-pub record IsSolid (x : Text) (d : Stand) : Type 0 where
-  pub within : d.at + d.len ≤ length x
-  pub some : 0 < d.len
-  pub quoted : is_string d.shape ≡ true → 2 ≤ d.len
 
 abbrev pub is_blank_stand : Stand → Bool
 is_blank_stand d = by d.shape

@@ -1,7 +1,7 @@
 -- The segments of a file in memory, seen as those of its walk.
-use Rattle.std.specs.Prelude.{ℕ, ◌+◌, ◌≤◌, List, length, take, drop, map}
+use Rattle.std.specs.Prelude.{◌≡◌, ℕ, ◌+◌, ◌<◌, ◌≤◌, Bool, true, false, List, length, take, drop, map}
 use Rattle.tla_token.specs.Tokens.{stretch}
-use Rattle.tla_token.specs.Scan.{part_of}
+use Rattle.tla_token.specs.Scan.{is_quoted, part_of}
 use Rattle.module_text.specs.declared.stand.Shape.{Shape}
 use Rattle.module_text.specs.declared.stand.Shape.TheVariants as shape
 use Rattle.module_text.specs.declared.stand.Stand.{Stand}
@@ -35,3 +35,13 @@ before_end s = 0
 -- it lies within the text
 abbrev pub IsWithin : Text → Stand → Type 0
 IsWithin x d = (d.at + d.len ≤ length x) × (before_end d.shape ≤ d.len)
+
+abbrev pub is_string : Shape → Bool
+is_string (shape.Part c) = is_quoted c
+is_string s = false
+
+-- it is within the text and not empty; a string has its quotes
+pub record IsSolid (x : Text) (d : Stand) : Type 0 where
+  pub within : d.at + d.len ≤ length x
+  pub some : 0 < d.len
+  pub quoted : is_string d.shape ≡ true → 2 ≤ d.len

@@ -1,30 +1,31 @@
 //! A module's text in its parts, or the rule that counts of those that it breaks.
 
-ghost use Rattle.std.specs.Prelude.{◌≡◌, ℕ, Bool, List, ◌+◌, ◌≤◌, ◌<◌, ◌^◌, ◌++◌, [], length, take, drop, not, map, Some, Err, IfOk, All, filter, option_map, slice_index_or, slice_get, find, unwrap_or, false};
+ghost use Rattle.std.specs.Prelude.{◌≡◌, ℕ, Bool, List, ◌+◌, ◌≤◌, ◌<◌, ◌^◌, ◌++◌, [], length, take, drop, not, map, Some, Err, IfOk, IfSome, All, filter, option_map, slice_index_or, slice_get, find, unwrap_or, false};
 ghost use Rattle.std.specs.List.{position_or_len, flat_map};
 ghost use Rattle.tla_token.specs.declared.rule.Refusal as refusals;
+ghost use Rattle.tla_token.specs.Places.{place_at};
+ghost use Rattle.tla_token.specs.Tokens.{stretch};
 ghost use Rattle.tla_token.specs.Offences.{least};
 ghost use Rattle.tla_token.specs.TokensSeen.{token_seen, tokens_seen};
 ghost use Rattle.module_text.specs.Walk.{Located, walk};
-ghost use Rattle.module_text.specs.StandsSeen.{segment_seen, located_seen, stands_seen};
+ghost use Rattle.module_text.specs.StandsSeen.{segment_seen, located_seen, stands_seen, IsSolid};
 ghost use Rattle.module_text.specs.FileParts as pure;
 ghost use Rattle.module_text.specs.FileParts.{beginnings_in, first_of, holds_algorithm};
 ghost use Rattle.module_text.specs.AlgorithmText.{algorithm_of};
 ghost use Rattle.module_text.specs.FileOffences.{algorithm_offences, placements, outside_region, options_in, second_algorithms};
 ghost use Rattle.module_text.specs.Splitting.{is_splitting, splitting_offences};
-ghost use Rattle.module_text.specs.SplitSeen.{IsSolid, is_header_stand, is_region_stand, is_tail_stand, plain_token, plain_tokens, after_newline, IsInner, IsAlgorithm, IsGap};
+ghost use Rattle.module_text.specs.SplitSeen.{is_header_stand, is_region_stand, is_tail_stand, plain_token, plain_tokens, after_newline, IsInner, IsAlgorithm, IsGap};
 
-use crate::algorithm::{Inside, algorithm_at, is_c};
+use crate::algorithm::{Inside, algorithm_at};
 use crate::beginning::{add_beginnings, first_beginning, options_fault};
 use crate::offence::{
     is_newline, line_fault, missing_fault, module_fault, second_fault, stands_fault, unit_fault,
 };
-use crate::parts::Parts;
 use crate::stand::{Shape, Stand};
 use std::alloc::{AllocError, Global};
 use tla_token::fault::sooner;
 use tla_token::token::kind_at;
-use tla_token::{Class, Part, Place, Refusal, Rule, Span, Stop, Token, Tokens, place_of};
+use tla_token::{Class, Part, Place, Rule, Span, Token, Tokens};
 
 // ---- comments
 

@@ -5,7 +5,7 @@ ghost use Rattle.tla_token.specs.Scan.{IsWordless};
 ghost use Rattle.module_text.specs.TextFront.{Text};
 ghost use Rattle.module_text.specs.HeaderAndRegion.{is_begin};
 ghost use Rattle.module_text.specs.Walk.{walk, State, in_module, segment_at, is_header_line, is_region};
-ghost use Rattle.module_text.specs.StandsSeen.{segment_of, stands_seen, IsWithin};
+ghost use Rattle.module_text.specs.StandsSeen.{segment_of, stands_seen, IsWithin, IsSolid};
 ghost use Rattle.module_text.specs.Walking.{end_at, front_of, IsKnown, state_of, IsAt, GoesOn};
 
 use crate::bars::{ends_module, module_part};
@@ -52,6 +52,7 @@ pub fn walk(alloc: Global, text: &[u8]) -> Result<Vec<Stand>, AllocError>
     requires small { length text.now < 2 ^ 29 }
     ensures walked { IfOk result (λ v. stands_seen text.now v.items ≡ walk text.now) }
     ensures within { IfOk result (λ v. All (IsWithin text.now) v.items) }
+    ensures solid { IfOk result (λ v. All (IsSolid text.now) v.items) }
 {
     let mut stands = Vec::new(alloc);
     let mut walker = Walker {
