@@ -34,9 +34,16 @@ mod RowsUnits
 mod RowsReading
 mod RowsFiles
 mod RowsInMemory
+mod RowsStands
 pub mod WalkLines
 pub mod WalkWhole
 pub mod WalkResumed
+pub mod LineLengths
+pub mod EndLine
+pub mod BarFronts
+pub mod SegmentFronts
+pub mod QuotedSegments
+pub mod WalkSteps
 pub mod WalkWritten
 pub mod WalkMoved
 pub mod WalkParted
@@ -59,3 +66,15 @@ pub mod OneMore
 pub mod LayoutParts
 pub mod SpotWithin
 pub mod InMemoryGrown
+mod RowsSplit
+pub mod BeginningSteps
+pub mod AlgorithmSteps
+pub mod Braces
+pub mod UnitStarts
+pub mod SplitFaults
+pub mod SplitLeast
+pub mod SplitFine
+pub mod StandSteps
+pub mod Comments
+pub mod Gaps
+pub mod SplitParts

@@ -8,6 +8,8 @@ pub mod HeaderAndRegion
 pub mod Beginnings
 pub mod ModuleParts
 pub mod Walk
+pub mod StandsSeen
+pub mod Walking
 pub mod FileParts
 pub mod AlgorithmText
 pub mod FileUnits
@@ -15,6 +17,9 @@ pub mod FileOffences
 pub mod Splitting
 pub mod InMemory
 pub mod Apart
+pub mod BeginningsSeen
+pub mod AlgorithmSeen
+pub mod SplitSeen
 pub mod WithTranslation
 pub mod Around
 pub mod ActionTruth

@@ -2,7 +2,11 @@
 #![tactic(auto)]
 
 pub mod formulas;
+pub mod algorithm;
+pub mod bars;
+pub mod beginning;
 pub mod laws;
+pub mod line;
 pub mod lines;
 pub mod module;
 pub mod parts;
@@ -11,6 +15,11 @@ pub mod write_action;
 pub mod write_file;
 pub mod write_line;
 pub mod write_units;
+pub mod offence;
+pub mod split;
+pub mod stand;
+pub mod unit_start;
+pub mod walk;
 
 pub use module::{Action, Body, Call, Fairness, Item, Module, Opaque, Outside, Region, Way};
 pub use parts::Parts;
