@@ -43,3 +43,7 @@ pub mod BeginningsKept
 pub mod AlgorithmKept
 pub mod AlgorithmMoved
 pub mod FineKept
+pub mod Chunks
+pub mod ExprChunks
+pub mod LineChunks
+pub mod ItemChunks
