@@ -257,6 +257,10 @@ newline p = record { pieces = λ r. blank 10 ∷ r; bytes = λ r. refl; fine = �
 pub nothing : (p : Place) → Chunk any p [] (λ r. r) p
 nothing p = record { pieces = λ r. r; bytes = λ r. refl; fine = λ r h e. h; seen = λ r. refl; passes = λ r. refl }
 
+-- before less
+pub narrowed : {p q : Place} {w : List ℕ} {s : Tokens} (need : List ℕ → Bool) → Chunk any p w s q → Chunk need p w s q
+narrowed need c = record { pieces = c.pieces; bytes = c.bytes; fine = λ r h e. c.fine r h refl; seen = c.seen; passes = c.passes }
+
 -- ---- to the right
 
 pub over : (e : ℕ) (p : Place) (w : List ℕ) → Right e p → list_all stays w ≡ true → Right e (after p w)

@@ -7,8 +7,9 @@ use Rattle.tla_expr.specs.declared.op.Op.TheVariants as op
 use Rattle.tla_expr.specs.Tree.{Word, Tree}
 use Rattle.tla_expr.specs.Lexical.{Token}
 use Rattle.tla_expr.specs.Lexical as tk
-use Rattle.tla_expr.specs.Spelling.{Right}
+use Rattle.tla_expr.specs.Spelling.{Phrase, Right, Good, spell, tree_of}
 use Rattle.tla_expr.specs.laws.Writable.{IsIdentifier, IsWritable}
+use Rattle.tla_expr.specs.laws.Placeless.{tree_placeless}
 use Rattle.tla_expr.proofs.FitTrees.{written_starts}
 use Rattle.tla_expr.proofs.SpelledTokens.{sign_spelled}
 use Rattle.module_text.specs.Module.{Item, test, setting, unchanged, exists, local, if_then_else, either, Items, no_items, item, Branches, no_branches, branch}
@@ -54,19 +55,39 @@ deeper e k n is x h = subst (λ (c : ℕ). Deeper e c x.form) (sym x.column) (h,
 
 -- ---- the items of one line
 
-test_item : (k n : ℕ) (e : Tree) → IsWritable e → ItemAt k n (test e)
-test_item k n e v =
+-- a test, with what its form is made of
+pub record TestAt (k n : ℕ) (e : Tree) : Type 0 where
+  pub left : Place
+  pub phrase : Phrase
+  pub right : Place
+  pub good_left : Right (1 + k) left
+  pub good : Good (1 + k) phrase
+  pub good_right : Right (1 + k) right
+  pub tree : tree_placeless (tree_of phrase) ≡ tree_placeless e
+  pub next : ℕ
+  pub chunk : Chunk any (put n 1) (item_text k (test e)) (λ r. see (put n (1 + k)) (tk.sign op.And) (see left (tk.mark tk.open_bracket) (spell phrase (see right (tk.mark tk.close_bracket) r)))) (put next 1)
+
+pub test_at : (k n : ℕ) (e : Tree) → IsWritable e → TestAt k n e
+test_at k n e v =
     let p = after (put n (1 + k)) (codes "/\\ ") in
     let r = after_and n k in
     let q = after p (codes "(") in
     let x = expr_at k false e v q (over (1 + k) p (codes "(") r refl) in
     record {
-      form = test_form p x.phrase x.end;
-      good = (r, x.good, x.right);
-      same = ap test x.tree;
+      left = p;
+      phrase = x.phrase;
+      right = x.end;
+      good_left = r;
+      good = x.good;
+      good_right = x.right;
+      tree = x.tree;
       next = (after x.end (codes ")")).line + 1;
       chunk = line_of n k (join (join (join (and_bullet n k) (open_round p) (λ y h. refl)) x.chunk (λ y h. written_starts y e v false h)) (close x.end) (λ y h. refl)) (λ y. refl);
     }
+
+test_item : (k n : ℕ) (e : Tree) → IsWritable e → ItemAt k n (test e)
+test_item k n e v =
+    (let x = test_at k n e v in record { form = test_form x.left x.phrase x.right; good = (x.good_left, x.good, x.good_right); same = ap test x.tree; next = x.next; chunk = x.chunk })
 
 setting_item : (k n : ℕ) (x : Word) (e : Tree) → IsIdentifier x → IsWritable e → ItemAt k n (setting x e)
 setting_item k n x e h v =

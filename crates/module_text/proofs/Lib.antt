@@ -47,3 +47,7 @@ pub mod Chunks
 pub mod ExprChunks
 pub mod LineChunks
 pub mod ItemChunks
+pub mod CallChunks
+pub mod UnitChunks
+pub mod UnitForms
+pub mod UnitsOfActions

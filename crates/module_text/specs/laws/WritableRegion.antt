@@ -1,14 +1,23 @@
 -- Translations that can be written and read back: their names are names and no reserved words, their expressions can be written, and no list is empty.
-use Rattle.std.specs.Prelude.{List, [], ◌∷◌, Option, Some, None}
-use Rattle.tla_expr.specs.Tree.{Word}
+use Rattle.std.specs.Prelude.{◌≡◌, false, not, List, [], ◌∷◌, Option, Some, None, is_some}
+use Rattle.std.specs.Bool.{IsTrue}
+use Rattle.std.specs.List.{list_any}
+use Rattle.tla_token.specs.Words.{is_own}
+use Rattle.tla_expr.specs.Tree.{Word, Tree}
 use Rattle.tla_expr.specs.laws.Writable.{IsIdentifier, IsWritable}
-use Rattle.module_text.specs.Module.{Item, test, setting, unchanged, exists, local, if_then_else, either, Items, no_items, item, Branches, no_branches, branch, Call, call, call_with, Way, one_way, some_way, Body, all_of, some_of}
+use Rattle.tla_value.specs.Definitions.{Definition}
+use Rattle.module_text.specs.Module.{Item, test, setting, unchanged, exists, local, if_then_else, either, Items, no_items, item, Branches, no_branches, branch, Call, call, call_with, Way, one_way, some_way, Body, all_of, some_of, Action, Fairness, Region}
+use Rattle.module_text.specs.Ways.{is_terminating, sets_of, processes_in}
 
 -- each of these, and there is one
 abbrev pub AllOf : {A : Type 0} → (A → Type 0) → List A → Type 0
 AllOf P [] = ⊥
 AllOf P (x ∷ []) = P x
 AllOf P (x ∷ y ∷ xs) = P x × AllOf P (y ∷ xs)
+
+abbrev pub Every : {A : Type 0} → (A → Type 0) → List A → Type 0
+Every P [] = Unit {0}
+Every P (x ∷ xs) = P x × Every P xs
 
 abbrev pub AreNames : List Word → Type 0
 AreNames xs = AllOf IsIdentifier xs
@@ -49,3 +58,37 @@ IsBody (some_of ys) = AllOf IsWay ys
 abbrev pub IsParameter : Option Word → Type 0
 IsParameter None = Unit {0}
 IsParameter (Some x) = IsIdentifier x
+
+-- ---- fairness
+abbrev pub IsOver : Option (Word × Tree) → Type 0
+IsOver None = Unit {0}
+IsOver (Some (x, s)) = IsIdentifier x × IsWritable s
+
+abbrev pub IsGuard : Option Tree → Type 0
+IsGuard None = Unit {0}
+IsGuard (Some e) = IsWritable e
+
+abbrev pub IsFairness : Fairness → Type 0
+IsFairness f = IsOver f.over × IsGuard f.guard × IsCall f.action
+
+-- ---- units
+abbrev pub IsDefinition : Definition → Type 0
+IsDefinition d = IsIdentifier d.title × IsTrue (not (is_own d.title)) × Every IsIdentifier d.params × IsWritable d.body × (d.outside ≡ false)
+
+abbrev pub IsAction : Action → Type 0
+IsAction a = IsIdentifier a.title × IsTrue (not (is_own a.title)) × IsParameter a.parameter × IsBody a.body
+
+-- ProcSet is the sets of the processes with \cup between them; Terminating stands where Next has it, and only there
+pub record IsRegion (r : Region) : Type 0 where
+  pub model_values : Every IsIdentifier r.model_values
+  pub variables : AreNames r.variables
+  pub definitions : Every IsDefinition r.definitions
+  pub vars : AreNames r.vars
+  pub process_set : Every IsWritable (sets_of (processes_in r.next) r.process_set)
+  pub init : AllOf IsWritable r.init
+  pub actions : Every IsAction r.actions
+  pub ended : IsGuard r.ended
+  pub next : AllOf IsWay r.next
+  pub fairness : Every IsFairness r.fairness
+  pub termination : IsWritable r.termination
+  pub terminating : is_some r.ended ≡ list_any is_terminating r.next
