@@ -1,5 +1,5 @@
 -- Expressions and names with commas as chunks of a text.
-use Rattle.std.proofs.Common.{◌≡◌, ℕ, ◌+◌, Bool, true, false, not, List, [], ◌∷◌, ◌++◌, refl, sym, ap, subst, ◌∙◌, arith, append_assoc, codes}
+use Rattle.std.proofs.Common.{◌≡◌, ℕ, ◌+◌, Bool, true, false, not, List, [], ◌∷◌, ◌++◌, None, refl, sym, ap, subst, ◌∙◌, arith, append_assoc, codes}
 use Rattle.std.proofs.lemmas.Bool.{ltb-true, lt-ltb}
 use Rattle.tla_token.specs.declared.place.Place.{Place}
 use Rattle.tla_token.specs.Places.{after}
@@ -12,7 +12,7 @@ use Rattle.tla_expr.specs.Tree.{Word, Tree}
 use Rattle.tla_expr.specs.Lexical.{TokenView, Token, token, sign_of, token_text}
 use Rattle.tla_expr.specs.Lexical as tk
 use Rattle.tla_expr.specs.TokenViews.{kind_of}
-use Rattle.tla_expr.specs.Spelling.{Phrase, list, apply, select, quantified, infix_of, prefix_of, Right, Good, spell, tree_of, head, is_primary}
+use Rattle.tla_expr.specs.Spelling.{Phrase, list, apply, select, quantified, infix_of, prefix_of, Right, Good, spell, tree_of, head, primary, end_list}
 use Rattle.tla_expr.specs.Written.{part}
 use Rattle.tla_expr.specs.Written as w
 use Rattle.tla_expr.specs.laws.Writable.{IsIdentifier, IsWritable, AreSpelled}
@@ -98,7 +98,8 @@ pub record ExprAt (e : ℕ) (o : Bool) (t : Tree) (p : Place) : Type 0 where
   pub good : Good e phrase
   pub tree : tree_placeless (tree_of phrase) ≡ tree_placeless t
   pub unlisted : not (begins_list (spell phrase [])) ≡ true
-  pub primary : o ≡ true → is_primary (head phrase) ≡ true
+  pub unended : end_list phrase ≡ None
+  pub operand : o ≡ true → head phrase ≡ primary
   pub end : Place
   pub right : Right e end
   pub chunk : Chunk ends_word p (w.text_of (part t o [])) (spell phrase) end
@@ -110,7 +111,8 @@ expr_at k o t v p h = record {
   good = x.spelling.good;
   tree = x.spelling.tree;
   unlisted = ap not (unlisted 0 a [] x.in_column);
-  primary = λ e. ap is_primary (x.spelling.operand e);
+  unended = x.spelling.unlisted;
+  operand = x.spelling.operand;
   end = q;
   right = lexed_over (1 + k) p ps s h;
   chunk = record {

@@ -7,7 +7,7 @@ use Rattle.tla_expr.specs.declared.op.Op.TheVariants as op
 use Rattle.tla_expr.specs.Tree.{Word, Tree}
 use Rattle.tla_expr.specs.Lexical.{Token}
 use Rattle.tla_expr.specs.Lexical as tk
-use Rattle.tla_expr.specs.Spelling.{Phrase, Right, Good, spell, tree_of}
+use Rattle.tla_expr.specs.Spelling.{Phrase, is_primary, Right, Good, spell, tree_of}
 use Rattle.tla_expr.specs.laws.Writable.{IsIdentifier, IsWritable}
 use Rattle.tla_expr.specs.laws.Placeless.{tree_placeless}
 use Rattle.tla_expr.proofs.FitTrees.{written_starts}
@@ -103,7 +103,7 @@ setting_item k n x e h v =
     let a = expr_at k true e v u (over (1 + k) (after t (codes "=")) (codes " ") (over (1 + k) t (codes "=") rt refl) refl) in
     record {
       form = setting_form p x q t a.phrase;
-      good = (rp, rq, rt, (a.primary refl, a.good));
+      good = (rp, rq, rt, (ap is_primary (a.operand refl), a.good));
       same = ap (setting x) a.tree;
       next = a.end.line + 1;
       chunk = line_of n k (join (join (join (and_bullet n k) (name_at p x h (first k p rp)) (λ y e. refl)) (join (prime q) (spaced_sign s op.Equal (sign_spelled op.Equal)) (λ y e. refl)) (λ y e. refl)) a.chunk (λ y e. refl)) (λ y. refl);

@@ -51,3 +51,4 @@ pub mod CallChunks
 pub mod UnitChunks
 pub mod UnitForms
 pub mod UnitsOfActions
+pub mod ProcessSets
