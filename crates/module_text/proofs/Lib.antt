@@ -52,3 +52,5 @@ pub mod UnitChunks
 pub mod UnitForms
 pub mod UnitsOfActions
 pub mod ProcessSets
+pub mod UnitLists
+pub mod WrittenRegion

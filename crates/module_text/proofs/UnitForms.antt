@@ -109,7 +109,7 @@ record ParametersAt (xs : List Word) (p : Place) : Type 0 where
   chunk : Chunk ends_word p (parameters_text xs) (spell_parameters form) end
   begins : (y : List ℕ) → ends_word y ≡ true → ends_word (parameters_text xs ++ y) ≡ true
 
-some_names : (x : Word) (xs : List Word) → Every IsIdentifier (x ∷ xs) → AreNames (x ∷ xs)
+pub some_names : (x : Word) (xs : List Word) → Every IsIdentifier (x ∷ xs) → AreNames (x ∷ xs)
 some_names x [] h = h.0
 some_names x (y ∷ xs) h = (h.0, some_names y xs h.1)
 

@@ -17,6 +17,8 @@ ghost use Rattle.module_text.specs.Walk.{State, Located, region, walk, walk_from
 ghost use Rattle.module_text.specs.FileParts.{before_spot};
 ghost use Rattle.module_text.specs.WithTranslation.{begin_line, end_line, WithTranslation};
 ghost use Rattle.module_text.specs.laws.Kept.{IsFine, only_large, KeepsFile, SameAlgorithm, AlgorithmMoved, IsPut};
+ghost use Rattle.module_text.specs.laws.WritableRegion.{IsRegion, IsReadBack, IsWritten};
+ghost use Rattle.module_text.specs.Layout.{layout};
 ghost use Rattle.module_text.specs.laws.Outsides.{HasOutside, AllAlike, IsModuleOf};
 ghost use Rattle.module_text.specs.AlgorithmText.{AlgorithmText, algorithm_in, algorithm_tokens};
 ghost use Rattle.module_text.specs.FileOffences.{offences_of, algorithm_offences};
@@ -122,4 +124,17 @@ pub fn outsides_are_read()
 pub fn files_with_translations_are_modules()
     ensures outside { (x t w : Text) (o : Outside) → KeepsFile x t w → (h : HasOutside (walk x) o) → (q : Outside) × (there : HasOutside (walk w) q) × (there.before ≡ h.before) × AllAlike h.after there.after }
     ensures reads { (x t w : Text) (o : Outside) (n : Module) → IsFine x → KeepsFile x t w → HasOutside (walk x) o → ReadsRegion (located (after_all at_start (before_spot (walk x))) (made t)) n → is_some n.region.ended ≡ list_any is_terminating n.region.next → IsModuleOf x w o n.region }
+{}
+
+/// What is laid out of a translation that can be written is whole lines, none of them an END line; and where it is put in a
+/// file it is read back: cut into just its units, each is spelled as the translation has it, but for the places of its trees.
+pub fn layouts_are_regions()
+    ensures inside { (r : Region) → IsRegion r → IsInside (layout r) }
+    ensures reads { (st : State) (r : Region) → IsRegion r → IsReadBack st r }
+{}
+
+/// A file that is not refused is a module with what is laid out of each translation that can be written: it has that
+/// translation, but for the places of its trees, the file's title, and outside the translation what the file has.
+pub fn written_files_are_modules()
+    ensures { (x w : Text) (o : Outside) (r : Region) → IsRegion r → IsFine x → HasOutside (walk x) o → WithTranslation x (layout r) w → IsWritten x w o r }
 {}

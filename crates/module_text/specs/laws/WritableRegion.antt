@@ -6,8 +6,16 @@ use Rattle.tla_token.specs.Words.{is_own}
 use Rattle.tla_expr.specs.Tree.{Word, Tree}
 use Rattle.tla_expr.specs.laws.Writable.{IsIdentifier, IsWritable}
 use Rattle.tla_value.specs.Definitions.{Definition}
-use Rattle.module_text.specs.Module.{Item, test, setting, unchanged, exists, local, if_then_else, either, Items, no_items, item, Branches, no_branches, branch, Call, call, call_with, Way, one_way, some_way, Body, all_of, some_of, Action, Fairness, Region}
+use Rattle.tla_value.specs.Outside.{Outside}
+use Rattle.module_text.specs.Module.{Item, test, setting, unchanged, exists, local, if_then_else, either, Items, no_items, item, Branches, no_branches, branch, Call, call, call_with, Way, one_way, some_way, Body, all_of, some_of, Action, Fairness, Region, Module}
 use Rattle.module_text.specs.Ways.{is_terminating, sets_of, processes_in}
+use Rattle.module_text.specs.TextFront.{Text}
+use Rattle.module_text.specs.Walk.{State}
+use Rattle.module_text.specs.Layout.{layout}
+use Rattle.module_text.specs.Reading.{ReadsRegion}
+use Rattle.module_text.specs.laws.Walks.{made, located}
+use Rattle.module_text.specs.laws.Outsides.{IsModuleOf}
+use Rattle.module_text.specs.laws.PlacelessRegion.{region_placeless}
 
 -- each of these, and there is one
 abbrev pub AllOf : {A : Type 0} → (A → Type 0) → List A → Type 0
@@ -92,3 +100,17 @@ pub record IsRegion (r : Region) : Type 0 where
   pub fairness : Every IsFairness r.fairness
   pub termination : IsWritable r.termination
   pub terminating : is_some r.ended ≡ list_any is_terminating r.next
+
+-- ---- what is written of one
+
+-- where a region is put in the walk of a file, what is laid out of r is read as this translation, which is r, places aside
+pub record IsReadBack (st : State) (r : Region) : Type 0 where
+  pub region : Region
+  pub same : region_placeless region ≡ region_placeless r
+  pub reads : (m : Module) → m.region ≡ region → ReadsRegion (located st (made (layout r))) m
+
+-- w is the file x with a translation that is r, places aside, and with o outside it
+pub record IsWritten (x w : Text) (o : Outside) (r : Region) : Type 0 where
+  pub region : Region
+  pub same : region_placeless region ≡ region_placeless r
+  pub is : IsModuleOf x w o region
