@@ -1,26 +1,24 @@
 -- Calls of actions, the disjuncts of Next and the formulas of fairness, as chunks of a line.
-use Rattle.std.proofs.Common.{◌≡◌, ℕ, ◌+◌, Bool, true, false, List, [], ◌∷◌, ◌++◌, Option, Some, None, refl, sym, ap, ◌∙◌, append_assoc, codes, cond}
+use Rattle.std.proofs.Common.{◌≡◌, ℕ, ◌+◌, Bool, true, false, List, ◌++◌, Option, Some, None, refl, ap, ◌∙◌, append_assoc, codes, cond}
 use Rattle.tla_token.specs.declared.place.Place.{Place}
 use Rattle.tla_token.specs.Places.{after}
 use Rattle.tla_token.specs.Lexemes.{name}
 use Rattle.tla_expr.specs.declared.op.Op.TheVariants as op
 use Rattle.tla_expr.specs.Tree.{Word, Tree}
 use Rattle.tla_expr.specs.Lexical as tk
-use Rattle.tla_expr.specs.Spelling.{Right, spell}
+use Rattle.tla_expr.specs.Spelling.{Right}
 use Rattle.tla_expr.specs.Written.{written}
-use Rattle.tla_expr.specs.laws.Writable.{IsIdentifier, IsWritable}
 use Rattle.tla_expr.specs.laws.InText.{ends_word}
-use Rattle.tla_expr.specs.laws.Placeless.{tree_placeless}
 use Rattle.tla_expr.proofs.FitTokens.{starts, word_fits}
 use Rattle.tla_expr.proofs.FitTrees.{written_starts}
 use Rattle.tla_expr.proofs.SpelledTokens.{sign_spelled}
 use Rattle.module_text.specs.Module.{Call, call, call_with, Way, one_way, some_way, Fairness}
-use Rattle.module_text.specs.Grammar.{Tokens, see, CallForm, call_form, call_with_form, spell_call, call_of, GoodCall, WayForm, one_form, some_form, spell_way, way_of, GoodWay}
+use Rattle.module_text.specs.Grammar.{see, CallForm, call_form, call_with_form, spell_call, call_of, GoodCall, WayForm, one_form, some_form, spell_way, way_of, GoodWay}
 use Rattle.module_text.specs.Layout.{call_text, way_text, over_text, guard_text, fairness_text}
 use Rattle.module_text.specs.Units.{OverForm, GuardForm, FairForm, spell_over, spell_guard, spell_fair, over_of, guard_of, fairness_of, GoodOver, GoodGuard, GoodFair}
 use Rattle.module_text.specs.laws.WritableRegion.{IsCall, IsWay, IsOver, IsGuard, IsFairness}
 use Rattle.module_text.specs.laws.PlacelessRegion.{call_placeless, way_placeless, over_placeless, perhaps_placeless, fairness_placeless}
-use Rattle.module_text.proofs.Chunks.{Chunk, any, at_byte, passes_sign, join, one, space, nothing, narrowed, over}
+use Rattle.module_text.proofs.Chunks.{Chunk, any, passes_sign, join, one, space, nothing, narrowed, over}
 use Rattle.module_text.proofs.ExprChunks.{first, expr_at, name_at, name_over, name_starts}
 use Rattle.module_text.proofs.LineChunks.{spaced_sign, sign_blank, key_blank, colon_blank, close, open_round}
 

@@ -1,13 +1,12 @@
 -- ProcSet as it is written: the sets of the processes, each an operand, with \cup between them and no brackets round two of them.
-use Rattle.std.proofs.Common.{◌≡◌, ℕ, zero, suc, ◌+◌, Bool, true, false, not, ◌&&◌, ◌||◌, List, [], ◌∷◌, ◌++◌, None, refl, sym, ap, ◌∙◌, append_assoc, append-nil, codes}
+use Rattle.std.proofs.Common.{◌≡◌, ℕ, zero, suc, ◌+◌, Bool, true, false, List, [], ◌∷◌, ◌++◌, None, refl, sym, ap, ◌∙◌, append_assoc, append-nil, codes}
 use Rattle.tla_token.specs.declared.place.Place.{Place}
 use Rattle.tla_token.specs.Places.{nowhere, after}
 use Rattle.tla_expr.specs.declared.op.Op.TheVariants as op
-use Rattle.tla_expr.specs.Tree.{Word, Form, strict, operator, Tree, node, Trees, no_trees, tree}
+use Rattle.tla_expr.specs.Tree.{strict, operator, Tree, node, no_trees, tree}
 use Rattle.tla_expr.specs.Lexical.{Token}
 use Rattle.tla_expr.specs.Lexical as tk
-use Rattle.tla_expr.specs.Spelling.{Phrase, infix_of, prefix_of, list, Right, Good, spell, tree_of, head, primary, is_above, is_open, end_list, ends_open, can_be_left, can_be_right}
-use Rattle.tla_expr.specs.Written.{written}
+use Rattle.tla_expr.specs.Spelling.{Phrase, infix_of, prefix_of, Right, Good, spell, tree_of, head, primary, is_open, end_list, ends_open, can_be_left, can_be_right}
 use Rattle.tla_expr.specs.laws.Writable.{IsWritable}
 use Rattle.tla_expr.specs.laws.InText.{ends_word}
 use Rattle.tla_expr.specs.laws.Placeless.{tree_placeless}
@@ -22,8 +21,8 @@ use Rattle.module_text.specs.Layout.{union_text, sets_text}
 use Rattle.module_text.specs.Units.{process_set_form}
 use Rattle.module_text.specs.Ways.{split_cup, sets_in}
 use Rattle.module_text.specs.laws.WritableRegion.{Every}
-use Rattle.module_text.proofs.Chunks.{put, Chunk, any, join, nothing, narrowed, over}
-use Rattle.module_text.proofs.ExprChunks.{ExprAt, expr_at}
+use Rattle.module_text.proofs.Chunks.{put, Chunk, join, nothing, narrowed, over}
+use Rattle.module_text.proofs.ExprChunks.{expr_at}
 use Rattle.module_text.proofs.LineChunks.{spaced_sign}
 use Rattle.module_text.proofs.UnitChunks.{onward, first_line, title_at}
 use Rattle.module_text.proofs.UnitForms.{UnitAt, defined}

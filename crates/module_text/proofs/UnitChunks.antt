@@ -1,26 +1,25 @@
 -- The units of a translation as they are written: from the start of a line on each is cut into just the tokens of a form of the unit, and begins a unit there.
-use Rattle.std.proofs.Common.{◌≡◌, ℕ, ◌+◌, nat_lt, Bool, true, false, not, List, [], ◌∷◌, ◌++◌, Option, Some, None, map, refl, sym, ap, subst, ◌∙◌, append_assoc, codes, IsTrue}
+use Rattle.std.proofs.Common.{◌≡◌, ℕ, ◌+◌, Bool, true, false, List, [], ◌∷◌, ◌++◌, refl, sym, ap, ◌∙◌, append_assoc, codes}
 use Rattle.std.specs.List.{list_all}
 use Rattle.std.proofs.lemmas.Bool.{and_parts}
 use Rattle.tla_token.specs.declared.place.Place.{Place}
 use Rattle.tla_token.specs.Places.{step, after}
-use Rattle.tla_token.specs.Lexemes.{name, is_word, IsName}
+use Rattle.tla_token.specs.Lexemes.{name, is_word}
 use Rattle.tla_token.specs.Tokens.{Piece, lexeme, text_of}
-use Rattle.tla_token.specs.Words.{is_own}
 use Rattle.tla_token.proofs.Words.{word_at}
 use Rattle.tla_token.proofs.OneLine.{all_stay}
-use Rattle.tla_expr.specs.Tree.{Word, Tree, Each}
+use Rattle.tla_expr.specs.Tree.{Word}
 use Rattle.tla_expr.specs.Lexical.{TokenView, Token, token}
 use Rattle.tla_expr.specs.Lexical as tk
 use Rattle.tla_expr.specs.Spelling.{Right}
 use Rattle.tla_expr.specs.laws.Writable.{IsIdentifier}
 use Rattle.tla_expr.specs.laws.InText.{ends_word}
-use Rattle.tla_expr.proofs.FitTokens.{starts, word_fits, name_wordy}
+use Rattle.tla_expr.proofs.FitTokens.{word_fits, name_wordy}
 use Rattle.tla_expr.proofs.SpelledTokens.{word_spelled}
 use Rattle.module_text.specs.FileUnits.{Cut, cut}
 use Rattle.module_text.specs.Grammar.{Tokens, see}
 use Rattle.module_text.specs.Layout.{line}
-use Rattle.module_text.proofs.Chunks.{put, Fine, token_fine, seen, onto, Chunk, any, join, newline, over}
+use Rattle.module_text.proofs.Chunks.{put, Fine, token_fine, seen, Chunk, any, newline, over}
 
 -- ---- where a unit begins
 

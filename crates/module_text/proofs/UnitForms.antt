@@ -1,10 +1,7 @@
 -- Each unit of a translation, as it is written.
-use Rattle.std.proofs.Common.{◌≡◌, ℕ, ◌+◌, nat_lt, Bool, true, false, not, List, [], ◌∷◌, ◌++◌, Option, Some, None, map, refl, sym, ap, subst, ◌∙◌, codes, IsTrue}
-use Rattle.std.proofs.lemmas.Bool.{ltb-true, lt-ltb}
+use Rattle.std.proofs.Common.{◌≡◌, ℕ, ◌+◌, true, false, List, [], ◌∷◌, ◌++◌, Option, Some, None, map, refl, sym, ap, codes}
 use Rattle.tla_token.specs.declared.place.Place.{Place}
 use Rattle.tla_token.specs.Places.{after}
-use Rattle.tla_token.specs.Words.{is_own}
-use Rattle.tla_token.proofs.Before.{marks_before}
 use Rattle.tla_expr.specs.declared.op.Op.TheVariants as op
 use Rattle.tla_expr.specs.Tree.{Word, Tree}
 use Rattle.tla_expr.specs.Lexical.{Token}
@@ -14,20 +11,17 @@ use Rattle.tla_expr.specs.Written.{written}
 use Rattle.tla_expr.specs.laws.Writable.{IsIdentifier, IsWritable}
 use Rattle.tla_expr.specs.laws.InText.{ends_word}
 use Rattle.tla_expr.specs.laws.Placeless.{tree_placeless}
-use Rattle.tla_expr.proofs.FitTokens.{Before, starts}
-use Rattle.tla_expr.proofs.FitTrees.{written_starts}
-use Rattle.tla_expr.proofs.SpelledTokens.{sign_spelled, mark_spelled}
 use Rattle.tla_value.specs.Definitions.{Definition}
-use Rattle.module_text.specs.Module.{RegionUnit, Action, Body, all_of, some_of, Way, Fairness, constant_unit, variables_unit, definition_unit, vars_unit, process_set_unit, init_unit, action_unit, terminating_unit, next_unit, spec_unit, termination_unit}
-use Rattle.module_text.specs.Grammar.{Tokens, see, spell_names, spell_list, WayForm, spell_way, way_of, GoodWay, spell_bullets, GoodBullets, each}
-use Rattle.module_text.specs.Layout.{unit_text, parameters_text, parameter_text, body_text, way_text, ways_text, conjuncts_text, line, fairness_text}
-use Rattle.module_text.specs.Units.{UnitForm, constant_form, variables_form, definition_form, vars_form, init_form, action_form, terminating_form, next_form, spec_form, termination_form, FairForm, SpecForm, start_line, steps_line, fair_line, spell_spec, GoodSpec, fair_specs, fairness_of, ParameterForm, spell_parameters, parameters, GoodParameters, BodyForm, all_form, some_form, spell_body, body_of, GoodBody, spell_parameter, parameter_of, GoodParameter, spell_unit, unit_of, GoodUnit}
-use Rattle.module_text.specs.laws.WritableRegion.{AllOf, Every, AreNames, IsWay, IsBody, IsParameter, IsGuard, IsFairness, IsDefinition, IsAction}
-use Rattle.module_text.specs.laws.PlacelessRegion.{way_placeless, body_placeless, action_placeless, fairness_placeless, definition_placeless}
-use Rattle.module_text.proofs.Chunks.{put, Chunk, any, join, one, passes_sign, at_byte, before_byte, space, nothing, narrowed, over}
-use Rattle.module_text.proofs.ExprChunks.{first, expr_at, name_at, name_over, name_starts, names_at, names_start}
-use Rattle.module_text.proofs.LineChunks.{line_of, defines_blank, defines_line, close, open_round, and_bullet, or_bullet, after_and, after_or, unchanged_word}
-use Rattle.module_text.proofs.ItemChunks.{tuple_at, test_at, items_at}
+use Rattle.module_text.specs.Module.{RegionUnit, Way, Fairness, constant_unit, variables_unit, definition_unit, vars_unit, init_unit, next_unit}
+use Rattle.module_text.specs.Grammar.{see, WayForm, spell_way, way_of, GoodWay, spell_bullets, GoodBullets, each}
+use Rattle.module_text.specs.Layout.{unit_text, parameters_text, way_text, ways_text, conjuncts_text, line, fairness_text}
+use Rattle.module_text.specs.Units.{UnitForm, constant_form, variables_form, definition_form, vars_form, init_form, next_form, FairForm, fair_line, spell_spec, GoodSpec, fair_specs, fairness_of, ParameterForm, spell_parameters, parameters, GoodParameters, spell_unit, unit_of, GoodUnit}
+use Rattle.module_text.specs.laws.WritableRegion.{AllOf, Every, AreNames, IsWay, IsFairness, IsDefinition}
+use Rattle.module_text.specs.laws.PlacelessRegion.{way_placeless, fairness_placeless, definition_placeless}
+use Rattle.module_text.proofs.Chunks.{put, Chunk, any, join, at_byte, space, nothing, narrowed, over}
+use Rattle.module_text.proofs.ExprChunks.{expr_at, names_at, names_start}
+use Rattle.module_text.proofs.LineChunks.{line_of, defines_blank, defines_line, close, open_round, and_bullet, or_bullet, after_and, after_or}
+use Rattle.module_text.proofs.ItemChunks.{tuple_at}
 use Rattle.module_text.proofs.CallChunks.{way_at, fair_at}
 use Rattle.module_text.proofs.UnitChunks.{Start, onward, first_line, title_at, constant_word, variables_word, past_title}
 

@@ -1,17 +1,16 @@
 -- The units of a translation one after the other, with an empty line between two: each is read as itself, places aside.
-use Rattle.std.proofs.Common.{◌≡◌, ℕ, ◌+◌, Bool, true, false, List, [], ◌∷◌, ◌++◌, Option, Some, None, map, refl, sym, ap, subst, ◌∙◌, append_assoc, append-nil, codes}
+use Rattle.std.proofs.Common.{◌≡◌, ℕ, ◌+◌, true, List, [], ◌∷◌, ◌++◌, Option, Some, None, map, refl, sym, ap, subst, ◌∙◌, append_assoc, append-nil, codes}
 use Rattle.tla_token.specs.Tokens.{Piece, blank, text_of}
 use Rattle.tla_expr.specs.Tree.{Word, Tree}
 use Rattle.tla_expr.specs.Lexical.{Token}
 use Rattle.tla_expr.specs.Written.{written}
 use Rattle.tla_expr.specs.laws.Writable.{IsIdentifier, IsWritable}
-use Rattle.tla_expr.specs.laws.Placeless.{tree_placeless}
 use Rattle.tla_value.specs.Definitions.{Definition}
 use Rattle.module_text.specs.FileUnits.{Cut, cut}
 use Rattle.module_text.specs.Module.{RegionUnit, Action, Region, units_of, model_value_units, process_set_of, terminating_of, constant_unit, definition_unit, action_unit}
 use Rattle.module_text.specs.Layout.{unit_text, units_text}
 use Rattle.module_text.specs.Reading.{AllAre}
-use Rattle.module_text.specs.Units.{UnitForm, IsUnit, spell_unit}
+use Rattle.module_text.specs.Units.{IsUnit, spell_unit}
 use Rattle.module_text.specs.Ways.{processes_in, sets_of}
 use Rattle.module_text.specs.laws.Walks.{is_lined}
 use Rattle.module_text.specs.laws.WritableRegion.{Every, IsGuard, IsDefinition, IsAction, IsRegion}

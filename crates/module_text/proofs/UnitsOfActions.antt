@@ -1,5 +1,5 @@
 -- The units of actions, of Terminating, of Spec and of Termination, as they are written.
-use Rattle.std.proofs.Common.{◌≡◌, ℕ, ◌+◌, nat_lt, Bool, true, false, not, List, [], ◌∷◌, ◌++◌, Option, Some, None, map, refl, sym, ap, subst, ◌∙◌, codes, IsTrue}
+use Rattle.std.proofs.Common.{◌≡◌, ℕ, ◌+◌, true, false, List, [], ◌∷◌, ◌++◌, Option, Some, None, map, refl, sym, ap, subst, codes}
 use Rattle.tla_token.specs.declared.place.Place.{Place}
 use Rattle.tla_token.specs.Places.{after}
 use Rattle.tla_token.proofs.Before.{marks_before}
@@ -7,14 +7,14 @@ use Rattle.tla_expr.specs.declared.op.Op.TheVariants as op
 use Rattle.tla_expr.specs.Tree.{Word, Tree}
 use Rattle.tla_expr.specs.Lexical as tk
 use Rattle.tla_expr.specs.Spelling.{Right, tree_of}
-use Rattle.tla_expr.specs.laws.Writable.{IsIdentifier, IsWritable}
+use Rattle.tla_expr.specs.laws.Writable.{IsWritable}
 use Rattle.tla_expr.specs.laws.InText.{ends_word}
 use Rattle.tla_expr.specs.laws.Placeless.{tree_placeless}
 use Rattle.tla_expr.proofs.FitTokens.{Before, starts, open_square_fits, close_square_fits}
 use Rattle.tla_expr.proofs.FitTrees.{written_starts}
 use Rattle.tla_expr.proofs.SpelledTokens.{sign_spelled, mark_spelled}
 use Rattle.module_text.specs.Module.{Action, Body, all_of, some_of, Fairness, action_unit, terminating_unit, spec_unit, termination_unit}
-use Rattle.module_text.specs.Grammar.{see, list_column, GoodList, way_of, each}
+use Rattle.module_text.specs.Grammar.{see, GoodList, each}
 use Rattle.module_text.specs.Layout.{parameter_text, body_text, line}
 use Rattle.module_text.specs.Units.{action_form, terminating_form, spec_form, termination_form, steps_line, fairness_of, BodyForm, all_form, some_form, spell_body, body_of, GoodBody, spell_parameter, parameter_of, GoodParameter}
 use Rattle.module_text.specs.laws.WritableRegion.{Every, IsWay, IsBody, IsParameter, IsFairness, IsAction}

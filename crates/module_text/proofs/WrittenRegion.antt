@@ -1,5 +1,5 @@
 -- What is laid out of a translation that can be written is read back as it, wherever it is put.
-use Rattle.std.proofs.Common.{◌≡◌, ℕ, ◌+◌, Bool, true, false, not, ◌&&◌, ◌||◌, nat_eq, bytes_eq, List, [], ◌∷◌, ◌++◌, length, map, Option, Some, None, is_some, refl, sym, ap, subst, ◌∙◌, codes}
+use Rattle.std.proofs.Common.{◌≡◌, ℕ, ◌+◌, Bool, true, false, ◌||◌, nat_eq, bytes_eq, List, [], ◌∷◌, ◌++◌, length, map, Option, Some, None, is_some, refl, sym, ap, subst, ◌∙◌, codes}
 use Rattle.std.specs.List.{list_all, list_any}
 use Rattle.std.proofs.lemmas.Bool.{and_parts, not-true}
 use Rattle.std.proofs.Math.Bool.{and-false}
@@ -9,7 +9,6 @@ use Rattle.tla_token.specs.Tokens.{Token, Piece, blank, block, line, lexeme, tex
 use Rattle.tla_token.proofs.OneLine.{stays, lexeme_stays}
 use Rattle.tla_expr.specs.TokenViews.{views}
 use Rattle.tla_expr.specs.Tree.{Tree}
-use Rattle.tla_expr.specs.laws.Placeless.{tree_placeless}
 use Rattle.tla_value.specs.Outside.{Outside}
 use Rattle.module_text.specs.TextFront.{Text, on_some}
 use Rattle.module_text.specs.HeaderAndRegion.{is_end}
@@ -21,18 +20,18 @@ use Rattle.module_text.specs.WithTranslation.{begin_line, WithTranslation}
 use Rattle.module_text.specs.Layout.{layout}
 use Rattle.module_text.specs.Module.{Way, one_way, some_way, Call, call, call_with, Region, units_of, Module}
 use Rattle.module_text.specs.Units.{IsUnit}
-use Rattle.module_text.specs.Reading.{AllAre, AllSmall, ReadsRegion}
+use Rattle.module_text.specs.Reading.{AllAre, AllSmall}
 use Rattle.module_text.specs.Ways.{title_of, is_terminating}
 use Rattle.module_text.specs.laws.Walks.{IsInside, after_all, made, located}
 use Rattle.module_text.specs.laws.Kept.{IsFine}
-use Rattle.module_text.specs.laws.Outsides.{HasOutside, IsModuleOf}
+use Rattle.module_text.specs.laws.Outsides.{HasOutside}
 use Rattle.module_text.specs.laws.WritableRegion.{IsRegion, IsReadBack, IsWritten}
 use Rattle.module_text.specs.laws.PlacelessRegion.{call_placeless, way_placeless, perhaps_placeless, region_placeless}
 use Rattle.module_text.proofs.WalkPieces.{are_barless, barless_rest, lineless, no_mark, located_pieces, pieces_walked, tokens_are, no_offences, none_in}
 use Rattle.module_text.proofs.WalkSame.{keeps_file}
 use Rattle.module_text.proofs.ModuleKept.{is_module}
-use Rattle.module_text.proofs.Chunks.{put, Plain, Fine, seen, seen_is}
-use Rattle.module_text.proofs.UnitLists.{Reached, RegionAt, region_at}
+use Rattle.module_text.proofs.Chunks.{Plain, seen, seen_is}
+use Rattle.module_text.proofs.UnitLists.{region_at}
 
 -- ---- no END line is in it
 
@@ -90,7 +89,7 @@ read_back st r v =
     let ps = x.reached.pieces in
     let f = x.reached.fine in
     let inside : inside_region (located st (made (layout r))) ≡ located_pieces here ps =
-        ap (walk_from here 0) (sym x.reached.bytes) ∙ pieces_walked here ps refl f.fit f.barless in
+    ap (walk_from here 0) (sym x.reached.bytes) ∙ pieces_walked here ps refl f.fit f.barless in
     let tokens : tokens_in (inside_region (located st (made (layout r)))) ≡ tokens_of here.place here.at ps = ap tokens_in inside ∙ tokens_are here ps in
     let cuts : cut (views (tokens_of here.place here.at ps)) ≡ cut (seen here.place ps) = ap cut (seen_is here.place here.at ps) in
     let units = subst (λ (ts : List Token). UnitsOf x.region ts) (sym tokens) (
