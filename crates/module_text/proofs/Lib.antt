@@ -15,6 +15,7 @@ mod RowsOutside
 mod RowsReading
 mod RowsFiles
 mod RowsUnits
+mod RowsWritten
 pub mod WalkLines
 pub mod WalkWhole
 pub mod WalkResumed
