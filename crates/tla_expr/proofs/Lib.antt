@@ -43,6 +43,7 @@ pub mod PlacedGood
 pub mod PlacedTree
 pub mod WrittenGood
 pub mod InText
+pub mod WrittenBare
 pub mod SpellAppend
 pub mod Following
 pub mod Alike
