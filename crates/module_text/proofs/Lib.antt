@@ -54,4 +54,5 @@ pub mod UnitForms
 pub mod UnitsOfActions
 pub mod ProcessSets
 pub mod UnitLists
+pub mod LayoutBare
 pub mod WrittenRegion

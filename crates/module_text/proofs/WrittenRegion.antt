@@ -17,19 +17,22 @@ use Rattle.module_text.specs.FileParts.{module_end, before_spot, inside_region}
 use Rattle.module_text.specs.FileUnits.{tokens_in, Cut, cut}
 use Rattle.module_text.specs.FileOffences.{offences_of}
 use Rattle.module_text.specs.WithTranslation.{begin_line, WithTranslation}
+use Rattle.module_text.specs.Around.{Around}
 use Rattle.module_text.specs.Layout.{layout}
-use Rattle.module_text.specs.Module.{Way, one_way, some_way, Call, call, call_with, Region, units_of, Module}
+use Rattle.module_text.specs.Module.{Way, Region, units_of, Module}
 use Rattle.module_text.specs.Units.{IsUnit}
 use Rattle.module_text.specs.Reading.{AllAre, AllSmall}
-use Rattle.module_text.specs.Ways.{title_of, is_terminating}
+use Rattle.module_text.specs.Ways.{is_terminating}
 use Rattle.module_text.specs.laws.Walks.{IsInside, after_all, made, located}
 use Rattle.module_text.specs.laws.Kept.{IsFine}
 use Rattle.module_text.specs.laws.Outsides.{HasOutside}
 use Rattle.module_text.specs.laws.WritableRegion.{IsRegion, IsReadBack, IsWritten}
-use Rattle.module_text.specs.laws.PlacelessRegion.{call_placeless, way_placeless, perhaps_placeless, region_placeless}
+use Rattle.module_text.specs.laws.PlacelessRegion.{way_placeless, perhaps_placeless, region_placeless}
 use Rattle.module_text.proofs.WalkPieces.{are_barless, barless_rest, lineless, no_mark, located_pieces, pieces_walked, tokens_are, no_offences, none_in}
 use Rattle.module_text.proofs.WalkSame.{keeps_file}
 use Rattle.module_text.proofs.ModuleKept.{is_module}
+use Rattle.module_text.proofs.OneModule.{one_module}
+use Rattle.module_text.proofs.LayoutBare.{terminating_is, same_layout}
 use Rattle.module_text.proofs.Chunks.{Plain, seen, seen_is}
 use Rattle.module_text.proofs.UnitLists.{region_at}
 
@@ -111,17 +114,9 @@ read_back st r v =
 
 -- ---- the file
 
-same_call : (c : Call) → bytes_eq (title_of (call_placeless c)) (codes "Terminating") ≡ bytes_eq (title_of c) (codes "Terminating")
-same_call (call a) = refl
-same_call (call_with a e) = refl
-
-same_way : (y : Way) → is_terminating (way_placeless y) ≡ is_terminating y
-same_way (one_way c) = same_call c
-same_way (some_way x s c) = same_call c
-
 any_terminating : (ys : List Way) → list_any is_terminating (map way_placeless ys) ≡ list_any is_terminating ys
 any_terminating [] = refl
-any_terminating (y ∷ ys) = (λ i. same_way y i || any_terminating ys i)
+any_terminating (y ∷ ys) = (λ i. terminating_is y i || any_terminating ys i)
 
 is_ended : (o : Option Tree) → is_some (perhaps_placeless o) ≡ is_some o
 is_ended None = refl
@@ -133,9 +128,20 @@ terminates r q e t =
     sym (is_ended q.ended) ∙ ap (λ (x : Region). is_some x.ended) e ∙ is_ended r.ended ∙ t ∙ sym (any_terminating r.next)
     ∙ ap (λ (x : Region). list_any is_terminating x.next) (sym e) ∙ any_terminating q.next
 
+-- the layout of what is read is that of what was written
+around_it : (x w : Text) (r q : Region) (m : Module) → region_placeless q ≡ region_placeless r → m.region ≡ q → WithTranslation x (layout r) w → Around x m w
+around_it x w r q m e f t = subst (λ (v : Text). WithTranslation x v w) (sym (ap layout f ∙ same_layout q r e)) t
+
 pub written_file : (x w : Text) (o : Outside) (r : Region) → IsRegion r → IsFine x → HasOutside (walk x) o → WithTranslation x (layout r) w → IsWritten x w o r
 written_file x w o r v f h t =
     let k = keeps_file x (layout r) w f (layout_inside r v) t in
     let b = read_back (after_all at_start (before_spot (walk x))) r v in
     let m : Module = record { title = []; outside = o; region = b.region } in
-    record { region = b.region; same = b.same; is = is_module x (layout r) w o m f k h (b.reads m refl) (terminates r b.region b.same v.terminating) }
+    let is = is_module x (layout r) w o m f k h (b.reads m refl) (terminates r b.region b.same v.terminating) in
+    record {
+      region = b.region;
+      same = b.same;
+      is = is;
+      around = around_it x w r b.region is.written b.same is.region t;
+      only = λ n g. one_module w n is.written g is.reads;
+    }

@@ -19,6 +19,7 @@ ghost use Rattle.module_text.specs.WithTranslation.{begin_line, end_line, WithTr
 ghost use Rattle.module_text.specs.laws.Kept.{IsFine, only_large, KeepsFile, SameAlgorithm, AlgorithmMoved, IsPut};
 ghost use Rattle.module_text.specs.laws.WritableRegion.{IsRegion, IsReadBack, IsWritten};
 ghost use Rattle.module_text.specs.Layout.{layout};
+ghost use Rattle.module_text.specs.laws.PlacelessRegion.{region_placeless};
 ghost use Rattle.module_text.specs.laws.Outsides.{HasOutside, AllAlike, IsModuleOf};
 ghost use Rattle.module_text.specs.AlgorithmText.{AlgorithmText, algorithm_in, algorithm_tokens};
 ghost use Rattle.module_text.specs.FileOffences.{offences_of, algorithm_offences};
@@ -133,8 +134,13 @@ pub fn layouts_are_regions()
     ensures reads { (st : State) (r : Region) → IsRegion r → IsReadBack st r }
 {}
 
-/// A file that is not refused is a module with what is laid out of each translation that can be written: it has that
-/// translation, but for the places of its trees, the file's title, and outside the translation what the file has.
+/// What is laid out of a translation rests on no place of its trees.
+pub fn layouts_rest_on_no_place()
+    ensures { (q r : Region) → region_placeless q ≡ region_placeless r → layout q ≡ layout r }
+{}
+
+/// A file that is not refused is one module with what is laid out of each translation that can be written: it is around that
+/// file, and has that translation, but for the places of its trees, the file's title, and outside what the file has.
 pub fn written_files_are_modules()
     ensures { (x w : Text) (o : Outside) (r : Region) → IsRegion r → IsFine x → HasOutside (walk x) o → WithTranslation x (layout r) w → IsWritten x w o r }
 {}

@@ -1,5 +1,5 @@
 -- What is written of a tree rests on no place.
-use Rattle.std.proofs.Common.{◌≡◌, Bool, true, false, List, [], ◌∷◌, map, refl, ap, ◌∙◌}
+use Rattle.std.proofs.Common.{◌≡◌, Bool, true, false, List, [], ◌∷◌, map, refl, sym, ap, ◌∙◌}
 use Rattle.tla_expr.specs.declared.op.Op.TheVariants as op
 use Rattle.tla_expr.specs.declared.op.Binder.{Binder}
 use Rattle.tla_expr.specs.declared.op.Binder.TheVariants as binder
@@ -80,3 +80,6 @@ mutual
 
 pub written_bare : (t : Tree) → written (tree_placeless t) ≡ written t
 written_bare t = ap (λ (a : Part). text_of (plain a [])) (part_bare t)
+
+pub same_written : (t u : Tree) → tree_placeless t ≡ tree_placeless u → written t ≡ written u
+same_written t u e = sym (written_bare t) ∙ ap written e ∙ written_bare u

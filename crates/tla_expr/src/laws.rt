@@ -114,3 +114,8 @@ pub fn written_trees_end_where_they_do()
     ensures whole { (edge : ℕ) (is_operand : Bool) (t : Tree) (ts : List text.Token) → IsSpelling edge is_operand t ts → (b : Phrase) (r s : List Token) → Good edge b → Calm edge r → Calm edge s → views ts ++ r ≡ spell b s → (tree_placeless (tree_of b) ≡ tree_placeless t) × (r ≡ s) }
     ensures operand { (edge : ℕ) (t : Tree) (ts : List text.Token) → IsSpelling edge true t ts → (b : Phrase) (r s : List Token) → Good edge b → head b ≡ primary → end_list b ≡ None → NoTail edge r → NoTail edge s → views ts ++ r ≡ spell b s → (tree_placeless (tree_of b) ≡ tree_placeless t) × (r ≡ s) }
 {}
+
+/// What is written of a tree rests on no place.
+pub fn writing_rests_on_no_place()
+    ensures { (t u : Tree) → tree_placeless t ≡ tree_placeless u → written t ≡ written u }
+{}

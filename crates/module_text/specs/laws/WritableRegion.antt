@@ -12,7 +12,8 @@ use Rattle.module_text.specs.Ways.{is_terminating, sets_of, processes_in}
 use Rattle.module_text.specs.TextFront.{Text}
 use Rattle.module_text.specs.Walk.{State}
 use Rattle.module_text.specs.Layout.{layout}
-use Rattle.module_text.specs.Reading.{ReadsRegion}
+use Rattle.module_text.specs.Around.{Around}
+use Rattle.module_text.specs.Reading.{ReadsRegion, Reads}
 use Rattle.module_text.specs.laws.Walks.{made, located}
 use Rattle.module_text.specs.laws.Outsides.{IsModuleOf}
 use Rattle.module_text.specs.laws.PlacelessRegion.{region_placeless}
@@ -109,8 +110,10 @@ pub record IsReadBack (st : State) (r : Region) : Type 0 where
   pub same : region_placeless region ≡ region_placeless r
   pub reads : (m : Module) → m.region ≡ region → ReadsRegion (located st (made (layout r))) m
 
--- w is the file x with a translation that is r, places aside, and with o outside it
+-- w reads as one module: it is around the file x, with a translation that is r, places aside, and with o outside it
 pub record IsWritten (x w : Text) (o : Outside) (r : Region) : Type 0 where
   pub region : Region
   pub same : region_placeless region ≡ region_placeless r
   pub is : IsModuleOf x w o region
+  pub around : Around x is.written w
+  pub only : (n : Module) → Reads w n → n ≡ is.written
