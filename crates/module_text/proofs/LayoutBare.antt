@@ -1,15 +1,14 @@
 -- What is laid out of a translation rests on no place of its trees.
 use Rattle.std.proofs.Common.{◌≡◌, ℕ, zero, suc, ◌+◌, Bool, true, false, not, List, [], ◌∷◌, ◌++◌, map, filter, length, bytes_eq, Option, Some, None, refl, sym, ap, ◌∙◌, codes, cond}
 use Rattle.tla_expr.specs.declared.op.Op.TheVariants as op
-use Rattle.tla_expr.specs.Tree.{Word, Tree, node, Trees, no_trees, tree, strict, operator, name}
-use Rattle.tla_expr.specs.Written.{written, part, Part, as_operand, text_of}
+use Rattle.tla_expr.specs.Tree.{Word, Tree, node, no_trees, tree, strict, operator, name}
+use Rattle.tla_expr.specs.Written.{written, Part, as_operand, text_of}
 use Rattle.tla_expr.specs.laws.Placeless.{tree_placeless}
 use Rattle.tla_expr.proofs.WrittenBare.{part_bare, written_bare}
-use Rattle.tla_value.specs.Definitions.{Definition}
 use Rattle.module_text.specs.ExprText.{operand}
-use Rattle.module_text.specs.Module.{Item, test, setting, unchanged, exists, local, if_then_else, either, Items, no_items, item, Branches, no_branches, branch, Call, call, call_with, Way, one_way, some_way, Body, all_of, some_of, Action, Fairness, Region, RegionUnit, constant_unit, variables_unit, definition_unit, vars_unit, process_set_unit, init_unit, action_unit, terminating_unit, next_unit, spec_unit, termination_unit, units_of, model_value_units, process_set_of, terminating_of}
-use Rattle.module_text.specs.Layout.{line, blanks, item_text, items_text, branches_text, call_text, way_text, ways_text, body_text, parameter_text, over_text, guard_text, fairness_text, parameters_text, conjuncts_text, union_text, sets_text, unit_text, units_text, layout}
-use Rattle.module_text.specs.Ways.{title_of, is_process_set, is_procedure, is_terminating, steps_of, own_steps, split_cup, sets_in, processes_in}
+use Rattle.module_text.specs.Module.{Item, test, setting, unchanged, exists, local, if_then_else, either, Items, no_items, item, Branches, no_branches, branch, Call, call, call_with, Way, one_way, some_way, Body, all_of, some_of, Fairness, Region, RegionUnit, constant_unit, variables_unit, definition_unit, vars_unit, process_set_unit, init_unit, action_unit, terminating_unit, next_unit, spec_unit, termination_unit, units_of, model_value_units, process_set_of, terminating_of}
+use Rattle.module_text.specs.Layout.{line, item_text, items_text, branches_text, call_text, way_text, ways_text, body_text, parameter_text, over_text, guard_text, fairness_text, parameters_text, conjuncts_text, union_text, sets_text, unit_text, units_text, layout}
+use Rattle.module_text.specs.Ways.{title_of, is_process_set, is_procedure, is_terminating, split_cup, sets_in, processes_in}
 use Rattle.module_text.specs.laws.PlacelessRegion.{item_placeless, items_placeless, branches_placeless, call_placeless, way_placeless, body_placeless, action_placeless, over_placeless, perhaps_placeless, fairness_placeless, definition_placeless, region_placeless}
 
 operand_bare : (t : Tree) → operand (tree_placeless t) ≡ operand t

@@ -1,5 +1,5 @@
 -- A translation with each kind of unit and of item that can be written, its text, and some that can't.
-use Rattle.std.proofs.Common.{◌≡◌, true, false, not, [], ◌∷◌, ◌++◌, Some, None, refl, codes}
+use Rattle.std.proofs.Common.{◌≡◌, true, false, [], ◌∷◌, Some, None, refl, codes}
 use Rattle.tla_token.specs.Places.{nowhere}
 use Rattle.tla_expr.specs.declared.op.Op.TheVariants.{Cup}
 use Rattle.tla_expr.specs.Tree.{Word, Tree, node, tree, no_trees, name, strict, operator}
