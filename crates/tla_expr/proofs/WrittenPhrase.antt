@@ -7,7 +7,7 @@ use Rattle.tla_expr.specs.declared.op.Binder.TheVariants as binder
 use Rattle.tla_expr.specs.Rank.{is_prefix}
 use Rattle.tla_expr.specs.Tree.{Word, Name, PathStep, Slot, Strict, Form, Tree, Trees, node, no_trees, tree}
 use Rattle.tla_expr.specs.Tree as tree
-use Rattle.tla_expr.specs.Shapes.{Shaped, StrictShaped, BinderShaped, CaseShaped, HaveNames, HavePaths, operands, subscripts, settings}
+use Rattle.tla_expr.specs.Shapes.{Shaped, StrictShaped, BinderShaped, CaseShaped, IsPaired, HaveNames, HavePaths, operands, subscripts, settings}
 use Rattle.tla_expr.specs.Lexical.{Mark, TokenView, Token, sign_of}
 use Rattle.tla_expr.specs.Lexical as tk
 use Rattle.tla_expr.specs.Spelling.{Phrase, Phrases, Binds, Fields, Settings, Path, Arms, Locals, spell, spell_all, spell_binds, spell_fields, spell_settings, spell_path, spell_arms, spell_locals}
