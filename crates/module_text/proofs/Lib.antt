@@ -35,6 +35,7 @@ mod RowsReading
 mod RowsFiles
 mod RowsInMemory
 mod RowsStands
+mod RowsWritten
 pub mod WalkLines
 pub mod WalkWhole
 pub mod WalkResumed
@@ -83,3 +84,15 @@ pub mod SplitTitle
 pub mod SplitWhole
 pub mod SplitTokens
 pub mod SplitMade
+pub mod Chunks
+pub mod ExprChunks
+pub mod LineChunks
+pub mod ItemChunks
+pub mod CallChunks
+pub mod UnitChunks
+pub mod UnitForms
+pub mod UnitsOfActions
+pub mod ProcessSets
+pub mod UnitLists
+pub mod LayoutBare
+pub mod WrittenRegion

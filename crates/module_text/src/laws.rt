@@ -19,6 +19,9 @@ ghost use Rattle.module_text.specs.FileParts.{before_spot};
 ghost use Rattle.module_text.specs.WithTranslation.{begin_line, end_line, WithTranslation};
 ghost use Rattle.module_text.specs.laws.Kept.{IsFine, only_large, KeepsFile, SameAlgorithm, AlgorithmMoved, IsPut};
 ghost use Rattle.module_text.specs.laws.Swaps.{is_paired, segments, SwapsComment};
+ghost use Rattle.module_text.specs.laws.WritableRegion.{IsRegion, IsReadBack, IsWritten};
+ghost use Rattle.module_text.specs.Layout.{layout};
+ghost use Rattle.module_text.specs.laws.PlacelessRegion.{region_placeless};
 ghost use Rattle.module_text.specs.laws.Outsides.{HasOutside, AllAlike, IsModuleOf};
 ghost use Rattle.module_text.specs.AlgorithmText.{AlgorithmText, algorithm_in, algorithm_tokens};
 ghost use Rattle.module_text.specs.FileOffences.{offences_of, algorithm_offences};
@@ -153,4 +156,22 @@ pub fn swaps_keep_the_rest()
 /// The algorithm that was replaced, put in the place of the one that replaced it, gives the file that was read.
 pub fn swaps_go_back()
     ensures { (x u w : Text) (a b : AlgorithmText) → IsFine x → Swapped x u w → algorithm_in x ≡ Some a → algorithm_in w ≡ Some b → b.from ≡ a.from → b.rest.to ≡ a.from + length u → Swapped w (stretch x a.from a.rest.to) x }
+{}
+
+/// What is laid out of a translation that can be written is whole lines, none of them an END line; and where it is put in a
+/// file it is read back: cut into just its units, each is spelled as the translation has it, but for the places of its trees.
+pub fn layouts_are_regions()
+    ensures inside { (r : Region) → IsRegion r → IsInside (layout r) }
+    ensures reads { (st : State) (r : Region) → IsRegion r → IsReadBack st r }
+{}
+
+/// What is laid out of a translation rests on no place of its trees.
+pub fn layouts_rest_on_no_place()
+    ensures { (q r : Region) → region_placeless q ≡ region_placeless r → layout q ≡ layout r }
+{}
+
+/// A file that is not refused is one module with what is laid out of each translation that can be written: it is around that
+/// file, and has that translation, but for the places of its trees, the file's title, and outside what the file has.
+pub fn written_files_are_modules()
+    ensures { (x w : Text) (o : Outside) (r : Region) → IsRegion r → IsFine x → HasOutside (walk x) o → WithTranslation x (layout r) w → IsWritten x w o r }
 {}

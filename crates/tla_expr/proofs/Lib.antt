@@ -43,6 +43,9 @@ pub mod PlacedGood
 pub mod PlacedTree
 pub mod WrittenGood
 pub mod InText
+pub mod WrittenBare
+pub mod WritableTrees
+pub mod TextTokens
 pub mod SpellAppend
 pub mod Following
 pub mod Alike

@@ -1,7 +1,7 @@
 //! Laws of expressions, stated as what functions without a body ensure.
 
 ghost use Rattle.std.specs.Prelude.{◌≡◌, ◌⊎◌, ◌++◌, ℕ, ◌<◌, ◌≤◌, Bool, true, false, List, [], ◌∷◌, length, map, get_or, Some, None, Ok, Err};
-ghost use Rattle.tla_expr.specs.Tree.{Tree};
+ghost use Rattle.tla_expr.specs.Tree.{Word, Tree, Graft, graft};
 ghost use Rattle.tla_expr.specs.Lexical.{Token};
 ghost use Rattle.tla_expr.specs.Spelling.{Phrase, spell, tree_of, Good, IsGood, Spells, head, primary, end_list};
 ghost use Rattle.tla_expr.specs.Reader.{read};
@@ -19,7 +19,7 @@ ghost use Rattle.tla_token.specs.Tokens.{Tok};
 ghost use Rattle.tla_expr.specs.TokenViews.{views};
 ghost use Rattle.tla_expr.specs.laws.InText.{IsSpelling, IsCut};
 ghost use Rattle.tla_expr.specs.laws.Following.{Calm, NoTail};
-ghost use Rattle.tla_expr.specs.laws.Writable.{IsWritable, AreSpelled};
+ghost use Rattle.tla_expr.specs.laws.Writable.{IsWritable, AreSpelled, AreOfText, AreSmall};
 ghost use Rattle.tla_expr.specs.laws.Placeless.{tree_placeless};
 ghost use Rattle.tla_expr.specs.laws.Bracketed.{as_operand, part, phrase_of, kinds, tokens_of};
 
@@ -113,4 +113,18 @@ pub fn written_trees_are_read_back()
 pub fn written_trees_end_where_they_do()
     ensures whole { (edge : ℕ) (is_operand : Bool) (t : Tree) (ts : List text.Token) → IsSpelling edge is_operand t ts → (b : Phrase) (r s : List Token) → Good edge b → Calm edge r → Calm edge s → views ts ++ r ≡ spell b s → (tree_placeless (tree_of b) ≡ tree_placeless t) × (r ≡ s) }
     ensures operand { (edge : ℕ) (t : Tree) (ts : List text.Token) → IsSpelling edge true t ts → (b : Phrase) (r s : List Token) → Good edge b → head b ≡ primary → end_list b ≡ None → NoTail edge r → NoTail edge s → views ts ++ r ≡ spell b s → (tree_placeless (tree_of b) ≡ tree_placeless t) × (r ≡ s) }
+{}
+
+/// What is written of a tree rests on no place.
+pub fn writing_rests_on_no_place()
+    ensures { (t u : Tree) → tree_placeless t ≡ tree_placeless u → written t ≡ written u }
+{}
+
+/// What is spelled in a text can be written: the tokens of a text, but for numbers that are too large, have no other words,
+/// strings and numbers than a writer may be given, and what such tokens spell has the right shape. With trees that can be
+/// written in place of names it can be written too.
+pub fn spelled_trees_can_be_written()
+    ensures tokens { (w : List ℕ) (from to : ℕ) (ts : List text.Token) → Tok w from to ts → AreSmall ts → AreOfText (views ts) }
+    ensures trees { (edge : ℕ) (a : Phrase) → Good edge a → AreOfText (spell a []) → IsWritable (tree_of a) }
+    ensures grafts { (g : Graft) → ((x : Word) (at : Place) (u : Tree) → g x at ≡ Some u → IsWritable u) → (t : Tree) → IsWritable t → IsWritable (graft g t) }
 {}
