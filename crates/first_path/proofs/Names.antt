@@ -46,16 +46,6 @@ escapes_name (b ∷ bs) h =
 pub all_more : {A : Type 0} (p : A → Bool) (xs ys : List A) → list_all p xs ≡ true → list_all p ys ≡ true → list_all p (xs ++ ys) ≡ true
 all_more p xs ys h k = list_all-append p xs ys ∙ and_from (list_all p xs) (list_all p ys) h k
 
--- what is true of each in a list is true of one that is among them
-pub among_holds : (p : Word → Bool) (vs : List Word) (w : Word) → is_among vs w ≡ true → list_all p vs ≡ true → p w ≡ true
-among_holds p [] w h k = absurd cc
-among_holds p (v ∷ vs) w h k =
-    let both = and_parts (p v) (list_all p vs) k in
-    elim (or_cases (bytes_eq v w) (is_among vs w) h) [
-      | inl e ↦ (let d : v ≡ w = same_bytes v w e in rw d at both.0)
-      | inr e ↦ among_holds p vs w e both.1
-    ]
-
 -- one that is among them isn't one that isn't
 pub not_among : (vs : List Word) (w u : Word) → is_among vs w ≡ false → is_among vs u ≡ true → bytes_eq u w ≡ false
 not_among vs w u e h =
