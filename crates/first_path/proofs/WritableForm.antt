@@ -1,15 +1,14 @@
 -- The translation of the form can be written.
-use Rattle.std.proofs.Common.{◌≡◌, ℕ, ◌^◌, Bool, true, false, not, ◌||◌, ◌&&◌, nat_le, List, [], ◌∷◌, bytes_eq, refl, ap, arith, codes, IsTrue}
+use Rattle.std.proofs.Common.{◌≡◌, ℕ, ◌^◌, Bool, true, false, not, ◌||◌, nat_le, bytes_eq, refl, ap, arith, codes}
 use Rattle.std.specs.List.{list_all, list_any}
 use Rattle.std.proofs.lemmas.Bool.{and_parts, leb-true, le-leb, ltb-true}
 use Rattle.tla_token.specs.declared.place.Place.{Place}
 use Rattle.tla_token.specs.Lexemes.{is_word, is_letter}
 use Rattle.tla_token.proofs.Parted.{word_printed}
-use Rattle.tla_expr.specs.declared.op.Op.TheVariants as op
-use Rattle.tla_expr.specs.Tree.{Word, Tree}
+use Rattle.tla_expr.specs.Tree.{Word}
 use Rattle.tla_expr.specs.laws.Writable.{IsIdentifier, is_spellable, IsString, IsWritable}
 use Rattle.module_text.specs.laws.WritableRegion.{IsRegion}
-use Rattle.first_path.specs.Form.{Operand, number_operand, variable_operand, Right, single, sum, Parts, is_name, is_small, is_small_operand, is_small_right}
+use Rattle.first_path.specs.Form.{Operand, number_operand, variable_operand, Right, single, sum, Parts, is_name, is_small_operand, is_small_right}
 use Rattle.first_path.specs.Placed.{Places, operand_tree, right_tree, is_at, region_at}
 use Rattle.first_path.proofs.Names.{every, name_words}
 use Rattle.first_path.proofs.Fit.{Free, Fit}
