@@ -1,5 +1,5 @@
 -- A translation with each kind of unit and of item that can be written, its text, and some that can't.
-use Rattle.std.proofs.Common.{◌≡◌, true, false, [], ◌∷◌, Some, None, refl, codes}
+use Rattle.std.proofs.Common.{◌≡◌, true, false, [], ◌∷◌, Some, None, length, refl, codes}
 use Rattle.tla_token.specs.Places.{nowhere}
 use Rattle.tla_expr.specs.declared.op.Op.TheVariants.{Cup}
 use Rattle.tla_expr.specs.Tree.{Word, Tree, node, tree, no_trees, name, strict, operator}
@@ -7,7 +7,12 @@ use Rattle.tla_expr.specs.laws.Writable.{IsIdentifier, IsWritable}
 use Rattle.module_text.specs.Module.{Item, test, setting, unchanged, exists, local, if_then_else, either, Items, no_items, item, no_branches, branch, call, call_with, one_way, some_way, all_of, some_of, Region}
 use Rattle.module_text.specs.Formulas.{named, quoted, equal}
 use Rattle.module_text.specs.Layout.{layout}
-use Rattle.module_text.specs.laws.WritableRegion.{IsItem, AreItems, IsAction, IsRegion}
+use Rattle.module_text.specs.laws.WritableRegion.{IsItem, AreItems, IsAction, IsRegion, IsReadBack}
+use Rattle.module_text.specs.Walk.{State}
+use Rattle.module_text.specs.FileUnits.{cut}
+use Rattle.module_text.proofs.WrittenRegion.{read_back}
+use Rattle.tla_token.specs.Cut.{tokens}
+use Rattle.tla_expr.specs.TokenViews.{views}
 use Rattle.module_text.specs.laws.PlacelessRegion.{items_placeless, region_placeless}
 
 -- ---- names and texts
@@ -132,3 +137,12 @@ placeless_items = refl
 
 placeless_region : region_placeless every_unit ≡ every_unit
 placeless_region = refl
+
+-- ---- read back
+
+every_unit_read : (st : State) → IsReadBack st every_unit
+every_unit_read st = read_back st every_unit every_unit_is
+
+-- cut as it is written: thirteen units, and nothing before them
+thirteen_units : (let c = cut (views (tokens (layout every_unit))) in (c.front ≡ []) × (length c.units ≡ 13))
+thirteen_units = (refl, refl)

@@ -24,9 +24,9 @@ AllOf P [] = ⊥
 AllOf P (x ∷ []) = P x
 AllOf P (x ∷ y ∷ xs) = P x × AllOf P (y ∷ xs)
 
-abbrev pub Every : {A : Type 0} → (A → Type 0) → List A → Type 0
-Every P [] = Unit {0}
-Every P (x ∷ xs) = P x × Every P xs
+abbrev pub EachOf : {A : Type 0} → (A → Type 0) → List A → Type 0
+EachOf P [] = Unit {0}
+EachOf P (x ∷ xs) = P x × EachOf P xs
 
 abbrev pub AreNames : List Word → Type 0
 AreNames xs = AllOf IsIdentifier xs
@@ -82,23 +82,23 @@ IsFairness f = IsOver f.over × IsGuard f.guard × IsCall f.action
 
 -- ---- units
 abbrev pub IsDefinition : Definition → Type 0
-IsDefinition d = IsIdentifier d.title × IsTrue (not (is_own d.title)) × Every IsIdentifier d.params × IsWritable d.body × (d.outside ≡ false)
+IsDefinition d = IsIdentifier d.title × IsTrue (not (is_own d.title)) × EachOf IsIdentifier d.params × IsWritable d.body × (d.outside ≡ false)
 
 abbrev pub IsAction : Action → Type 0
 IsAction a = IsIdentifier a.title × IsTrue (not (is_own a.title)) × IsParameter a.parameter × IsBody a.body
 
 -- ProcSet is the sets of the processes with \cup between them; Terminating stands where Next has it, and only there
 pub record IsRegion (r : Region) : Type 0 where
-  pub model_values : Every IsIdentifier r.model_values
+  pub model_values : EachOf IsIdentifier r.model_values
   pub variables : AreNames r.variables
-  pub definitions : Every IsDefinition r.definitions
+  pub definitions : EachOf IsDefinition r.definitions
   pub vars : AreNames r.vars
-  pub process_set : Every IsWritable (sets_of (processes_in r.next) r.process_set)
+  pub process_set : EachOf IsWritable (sets_of (processes_in r.next) r.process_set)
   pub init : AllOf IsWritable r.init
-  pub actions : Every IsAction r.actions
+  pub actions : EachOf IsAction r.actions
   pub ended : IsGuard r.ended
   pub next : AllOf IsWay r.next
-  pub fairness : Every IsFairness r.fairness
+  pub fairness : EachOf IsFairness r.fairness
   pub termination : IsWritable r.termination
   pub terminating : is_some r.ended ≡ list_any is_terminating r.next
 
