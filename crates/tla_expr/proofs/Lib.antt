@@ -60,3 +60,4 @@ pub mod StopsThere
 pub mod AlikeEnds
 pub mod AlikeEndsSteps
 mod RowsRefused
+mod RowsLimit
