@@ -61,3 +61,12 @@ pub mod AlikeEnds
 pub mod AlikeEndsSteps
 mod RowsRefused
 mod RowsLimit
+pub mod DeepCounts
+pub mod Limited
+pub mod LimitedRooms
+pub mod LimitedBraces
+pub mod LimitedMembers
+pub mod LimitedForms
+pub mod LimitedSets
+pub mod LimitedAll
+pub mod LimitedStops
