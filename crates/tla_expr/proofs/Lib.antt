@@ -70,3 +70,4 @@ pub mod LimitedForms
 pub mod LimitedSets
 pub mod LimitedAll
 pub mod LimitedStops
+pub mod CountsMoved
