@@ -71,3 +71,4 @@ pub mod LimitedSets
 pub mod LimitedAll
 pub mod LimitedStops
 pub mod CountsMoved
+pub mod ReadWithin

@@ -20,7 +20,7 @@ Xs = List ℕ → List ℕ
 
 -- ---- names
 module _ (l : Bool) (b k : ℕ) (m : Room) (r q : Readers) (h : AreLimited l b k r q) (v : IsRoom l b k m q) where
-  limited_named : (e : ℕ) (p : Place) (y : Word) (x : Xs) → Ahead x → (s : Place) (t : TokenView) (ts : List Token) → next e ts ≡ token s t → On l b (λ u. x (k ∷ u)) (λ a u. x (counts k a u)) ts (named m e p y s t ts) (named (any q) e p y s t ts)
+  pub limited_named : (e : ℕ) (p : Place) (y : Word) (x : Xs) → Ahead x → (s : Place) (t : TokenView) (ts : List Token) → next e ts ≡ token s t → On l b (λ u. x (k ∷ u)) (λ a u. x (counts k a u)) ts (named m e p y s t ts) (named (any q) e p y s t ts)
   limited_named e p y x ax s (tk.mark tk.open_bracket) ts i =
       let n = seen e ts s (tk.mark tk.open_bracket) i refl in
       limited_opened l b k m r q h v 0 (k + 1) refl (λ u. x (k ∷ u)) (then_ahead ax (put_ahead held)) (λ l' a. Fitting l' b (λ u. x (counts k a u))) (λ a. Late b (λ u. x (counts k a u)))
