@@ -98,7 +98,7 @@ phrase_fits b k d j c e w low a = by (nat_le (text_nesting a + j) d) refl
         let alone = deep_raised (text_nesting a - 1) b c c (omega (arith, more, e, w, low)) (counts 0 a []) (counts c a []) 0 raised (deep_greatest (counts 0 a []) (text_nesting a - 1) (omega (arith, more, e, w, low))) in
         subst (λ (s : List ℕ). Deep b s (length r)) (sym ((ahead_counts c a).is [] r)) (deep_before b (counts c a []) r alone))
 
-limited_room : (b n k d : ℕ) → k + d ≡ b → ((c d : ℕ) → c + d ≡ b → AreLimited true b c (readers n (Some d)) (readers n None)) → IsRoom true b k (room (readers n) (Some d)) (readers n None)
+pub limited_room : (b n k d : ℕ) → k + d ≡ b → ((c d : ℕ) → c + d ≡ b → AreLimited true b c (readers n (Some d)) (readers n None)) → IsRoom true b k (room (readers n) (Some d)) (readers n None)
 limited_room b n k d e h = record {
   at = λ j c w. by j c w (nat_le j d) refl;
   fits = λ j c w low a. phrase_fits b k d j c e w (low refl) a;

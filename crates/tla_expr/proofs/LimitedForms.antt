@@ -161,7 +161,7 @@ module _ (l : Bool) (b k : ℕ) (m : Room) (r q : Readers) (h : AreLimited l b k
   alone_at a true = refl
   alone_at a false = refl
 
-  alone : (c : Context) → is_behind_in c ≡ false → (a : Phrase) (p : Place) (o : Op) → so_far m c a p o ≡ Some (chain a)
+  pub alone : (c : Context) → is_behind_in c ≡ false → (a : Phrase) (p : Place) (o : Op) → so_far m c a p o ≡ Some (chain a)
   alone free i a p o = alone_at a (m.fits 0 a)
   alone (right_of s) i a p o = alone_at a (m.fits 0 a)
   alone (under s) i a p o = alone_at a (m.fits 0 a)

@@ -271,6 +271,36 @@ module _ (l : Bool) (b k : ℕ) (m : Room) (r q : Readers) (h : AreLimited l b k
       by true fit n f = fits_by fit n f
       by false dead n f = dead_by dead n f
 
+  -- where so many are open at the sign, the whole fits if what is after the sign does
+  pub alive_after : (a : Phrase) (o : Op) (t : Place) (j : ℕ) → so_far m (behind p y s) a t o ≡ Some j → (n : ℕ) → n ≡ k + suc j → (w : Phrase) → (l ≡ true → n ≤ b) → Fitting l b (counts n w) → Alive l b k p y s (infix_of a t o w)
+  alive_after a o t j eq n count w low f = by (m.fits 0 a) (v.fits 0 k (omega arith) h.low a) (chain_of m (element p y s a) t o) (element_is a o t) eq
+    where
+      as_set : Fitting l b (counts k a) → chain a ≡ j → Alive l b k p y s (infix_of a t o w)
+      as_set fit i =
+          let same : n ≡ k + chain a + 1 = omega (arith, count, i) in
+          inl (λ e u c. fit e ((k + chain a + 1) ∷ counts (k + chain a + 1) w u) (subst (λ (c : ℕ). c ≤ b) same (low e), subst (λ (c : ℕ). Fit b (counts c w u)) same (f e u c)))
+
+      as_element : (i : ℕ) → ElementIs a o t (Some i) → i ≡ j → Alive l b k p y s (infix_of a t o w)
+      as_element i g z =
+          let chain_is = g.5 in
+          let same : n ≡ k + chain g.0 + 1 = omega (arith, count, chain_is, z) in
+          inr (infix_of g.0 t o w, made_element p y s a t o w g.0 g.2 g.1 g.3, λ e u c. g.4 e ((k + chain g.0 + 1) ∷ counts (k + chain g.0 + 1) w u) (subst (λ (c : ℕ). c ≤ b) same (low e), subst (λ (c : ℕ). Fit b (counts c w u)) same (f e u c)))
+
+      fits_by : Fitting l b (counts k a) → (i : Option ℕ) → ElementIs a o t i → Some (at_most (chain a) i) ≡ Some j → Alive l b k p y s (infix_of a t o w)
+      fits_by fit None g eq = as_set fit cc
+      fits_by fit (Some i) g eq = elim (same_min (chain a) i) [
+        | inl d ↦ as_set fit (let now : min (chain a) i ≡ j = cc in sym d.1 ∙ now)
+        | inr d ↦ as_element i g (let now : min (chain a) i ≡ j = cc in sym d.1 ∙ now)
+      ]
+
+      dead_by : (i : Option ℕ) → ElementIs a o t i → i ≡ Some j → Alive l b k p y s (infix_of a t o w)
+      dead_by None g eq = absurd cc
+      dead_by (Some i) g eq = as_element i g cc
+
+      by : (z : Bool) → PhraseFits l b k a z → (i : Option ℕ) → ElementIs a o t i → fewest (if z || false then Some (chain a) else None) i ≡ Some j → Alive l b k p y s (infix_of a t o w)
+      by true fit i g eq = fits_by fit i g eq
+      by false dead i g eq = dead_by i g eq
+
   set_climb_if : (g : Bool) (a : Phrase) (o : Op) (t : Place) (ts : List Token) → next e ts ≡ token t (tk.sign o) → SetRead a ts (climb_if g m r e (behind p y s) a t o ts) (climb_if g (any q) q e (behind p y s) a t o ts)
   set_climb_if true a o t ts i = chain_read a o t ts (seen e ts t (tk.sign o) i refl).1
   set_climb_if false a o t ts i = limited_gives a ts

@@ -12,7 +12,7 @@ use Rattle.tla_expr.specs.Spelling.{Phrase, Good, spell, tree_of}
 use Rattle.tla_expr.specs.Nesting.{counts, text_nesting}
 use Rattle.tla_expr.specs.Reader.{Out, free, readers, read, read_limited}
 use Rattle.tla_expr.specs.FirstStop.{Look, look, looks, to_end, Open, is_within, Begins, Passes, StopsAt, in_expression, phrases, ReadsExpression, RefusesExpression}
-use Rattle.tla_expr.proofs.Columns.{spelled_again, bare, looks_of_bare, begun_looks, begins}
+use Rattle.tla_expr.proofs.Columns.{spelled_again, bare, looks_of_bare, begun_looks, looked_ahead, begins}
 use Rattle.tla_expr.proofs.CountsMoved.{same_counts}
 use Rattle.tla_expr.proofs.CountsLaws.{as_many_counts}
 use Rattle.tla_expr.proofs.ReadAll.{spelled_is_read}
@@ -20,8 +20,9 @@ use Rattle.tla_expr.proofs.SoundLists.{read_is_spelled}
 use Rattle.tla_expr.proofs.SpellAhead.{held, ahead}
 use Rattle.tla_expr.proofs.Alike.{Within, Alike}
 use Rattle.tla_expr.proofs.AlikeSteps.{fair_readers}
-use Rattle.tla_expr.proofs.StopLaws.{stops_by_one_rule}
-use Rattle.tla_expr.proofs.StopsThere.{before, through, is_there, read_stops, refused_is_completed, refused_at}
+use Rattle.tla_expr.proofs.StopLaws.{stops_by_one_rule, passes_before}
+use Rattle.tla_expr.proofs.StopsThere.{before, through, is_there, read_passes, read_stops, refused_is_completed, refused_at}
+use Rattle.tla_expr.proofs.MendedLists.{refused_fits}
 use Rattle.tla_expr.proofs.DeepCounts.{Deep, greatest_fits}
 use Rattle.tla_expr.proofs.Limited.{Late, Plain, Past, On, told_ok, told_err}
 use Rattle.tla_expr.proofs.LimitedAll.{limited}
@@ -141,3 +142,15 @@ refused_where_passed ts passed rest end r o s p = by (told_err (beside ts) o)
         stops : StopsAt (phrases 0) (to_end ts) (length passed) TooDeep
         stops = subst (λ (us : List Token). StopsAt (phrases 0) (to_end us) (length passed) TooDeep) (sym at)
             (deep_stops passed t u (ap (λ (us : List Token). read_limited us) (sym at) ∙ o ∙ (λ i. Err (d i, e i))) (subst (λ (us : List Token). Within u (read 0 us)) at w) p)
+
+-- ---- what was passed passes
+refused_passes : (ts passed rest : List Token) (r : Rule) → read_limited ts ≡ Err (r, rest) → ts ≡ passed ++ rest → Passes (phrases 0) (map Some (looks passed))
+refused_passes ts passed rest r o s =
+    let m = refused_fits ts (r, rest) o in
+    let same : m.0 ≡ passed = append_cancel_right m.0 passed rest (sym m.3 ∙ s) in
+    let tokens : spell m.2 [] ≡ passed ++ m.1 = m.5 ∙ ap (λ (k : List Token). k ++ m.1) same in
+    let all = read_passes m.2 m.4 (greatest_fits (counts 0 m.2 []) deepest_expression m.6) in
+    passes_before (phrases 0) (map Some (looks passed)) (map Some (looks m.1)) (subst (λ (ks : List (Option Look)). Passes (phrases 0) ks) (ap (λ (us : List Token). map Some (looks us)) tokens ∙ looked_ahead passed m.1) all)
+
+pub is_refused : (ts passed rest : List Token) (end : Place) (r : Rule) → read_limited ts ≡ Err (r, rest) → ts ≡ passed ++ rest → RefusesExpression ts end (record { rule = r; place = get_or (map (λ (t : Token). t.place) ts) (length passed) end })
+is_refused ts passed rest end r o s = refused_where_passed ts passed rest end r o s (refused_passes ts passed rest r o s)

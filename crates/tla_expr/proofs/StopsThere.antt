@@ -72,7 +72,7 @@ all_within : (ns : List ℕ) → greatest ns ≤ deepest_expression → list_all
 all_within [] h = refl
 all_within (n ∷ ns) h = rw (le-leb n deepest_expression (omega (arith, h, le-max_left n (greatest ns))), all_within ns (omega (arith, h, le-max_right n (greatest ns)))) refl
 
-read_passes : (a : Phrase) → Good 0 a → text_nesting a ≤ deepest_expression → Passes (phrases 0) (map Some (looks (spell a [])))
+pub read_passes : (a : Phrase) → Good 0 a → text_nesting a ≤ deepest_expression → Passes (phrases 0) (map Some (looks (spell a [])))
 read_passes a g h =
     let ks = map Some (looks (spell a [])) in
     let ns = map in_expression (counts 0 a []) in

@@ -65,9 +65,11 @@ pub fn few_tokens_are_read_or_refused()
     ensures refused { (ts passed rest : List Token) (end : Place) (q : Rule) → read 0 ts ≡ Err (q, rest) → ts ≡ passed ++ rest → length passed ≤ deepest_expression → RefusesExpression ts end (record { rule = Syntax; place = get_or (map (λ (t : Token). t.place) ts) (length passed) end }) }
 {}
 
-/// What is read within the limit of open forms is what the grammar has there, up to the first token that doesn't pass.
-pub fn tokens_are_read_within_the_limit()
-    ensures { (ts rest : List Token) (a : Phrase) → read_limited ts ≡ Ok (a, rest) → ReadsExpression ts (length (spell a [])) (tree_of a) }
+/// So with the limit of open forms every list of tokens is read or refused just where the grammar says: what is read is the expression there, and goes up
+/// to the first token that doesn't pass; and what is refused is refused at that token, or at the end, by the rule of that token.
+pub fn tokens_are_read_or_refused()
+    ensures read { (ts rest : List Token) (a : Phrase) → read_limited ts ≡ Ok (a, rest) → ReadsExpression ts (length (spell a [])) (tree_of a) }
+    ensures refused { (ts passed rest : List Token) (end : Place) (r : Rule) → read_limited ts ≡ Err (r, rest) → ts ≡ passed ++ rest → RefusesExpression ts end (record { rule = r; place = get_or (map (λ (t : Token). t.place) ts) (length passed) end }) }
 {}
 
 /// Whether tokens spell an expression, and which, rests on their kinds and columns alone: tokens of other lines spell the same
