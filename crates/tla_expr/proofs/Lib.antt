@@ -63,3 +63,15 @@ pub mod StopsThere
 pub mod AlikeEnds
 pub mod AlikeEndsSteps
 mod RowsRefused
+mod RowsLimit
+pub mod DeepCounts
+pub mod Limited
+pub mod LimitedRooms
+pub mod LimitedBraces
+pub mod LimitedMembers
+pub mod LimitedForms
+pub mod LimitedSets
+pub mod LimitedAll
+pub mod LimitedStops
+pub mod CountsMoved
+pub mod ReadWithin

@@ -1,17 +1,20 @@
 -- What stands before a refused token can be gone on with: the claim for all readers, and how a part that is mended mends the whole.
-use Rattle.std.proofs.Common.{◌≡◌, ℕ, suc, nat_lt, true, false, List, [], ◌∷◌, ◌++◌, Option, Some, None, Ok, Err, refl, sym, ap, ◌∙◌, append_assoc, arith}
+use Rattle.std.proofs.Common.{◌≡◌, ◌⊎◌, ℕ, suc, ◌+◌, nat_lt, Bool, true, false, List, [], ◌∷◌, ◌++◌, Option, Some, None, Ok, Err, refl, sym, ap, ◌∙◌, append_assoc, arith}
 use Rattle.std.proofs.lemmas.Bool.{lt-ltb}
 use Rattle.tla_token.specs.declared.place.Place.{Place}
 use Rattle.tla_expr.specs.declared.op.Op.{Op}
-use Rattle.tla_token.specs.declared.rule.Rule.TheVariants.{Syntax}
+use Rattle.tla_token.specs.declared.rule.Rule.TheVariants.{TooDeep, Syntax}
 use Rattle.tla_expr.specs.Tree.{Word}
 use Rattle.tla_expr.specs.Rank.{is_bullet}
 use Rattle.tla_expr.specs.Lexical.{Mark, Key, TokenView, Token, token}
 use Rattle.tla_expr.specs.Lexical as tk
 use Rattle.tla_expr.specs.Spelling.{Field, Phrase, number, Binds, last_bind, Path, path_end, at_field, Bullets}
 use Rattle.tla_expr.specs.Spelling.{word, field_token, spell, spell_all, spell_binds, spell_fields, spell_settings, spell_path, spell_bullets, spell_arms, spell_locals, Right, Good, GoodAll, GoodBinds, GoodFields, GoodSettings, GoodPath, GoodBullets, GoodArms, GoodLocals, head, is_primary, is_short, first_bullet, is_some_path}
-use Rattle.tla_expr.specs.Reader.{Stop, refuses, Out, Reader, then_read, next, took, take, place_if, is_mark, is_key, is_sign, word_of, field_of, a_mark, a_key, a_sign, a_word, a_field, gives, ended, Context, bound, fits, Readers}
+use Rattle.tla_expr.specs.Nesting.{counts, counts_all, counts_binds, counts_fields, counts_settings, counts_path, counts_bullets, counts_arms, counts_locals}
+use Rattle.tla_expr.specs.Reader.{Stop, refuses, too_deep, if_fits, read_by, opened, within, Room, bullet_of, behind, is_behind_in, Out, Reader, then_read, next, took, take, place_if, is_mark, is_key, is_sign, word_of, field_of, a_mark, a_key, a_sign, a_word, a_field, gives, ended, Context, bound, fits, Readers}
 use Rattle.tla_expr.proofs.SpellAhead.{Ahead}
+use Rattle.tla_expr.proofs.LimitedRooms.{Alive, AreLimited, ReadersFit, IsRoom, inner_room}
+use Rattle.tla_expr.proofs.ReadWithin.{Small}
 
 -- ---- tokens and phrases that can be put anywhere to the right of the edge
 abbrev pub after : ℕ → Place
@@ -50,21 +53,23 @@ some_field e = record { place = after e; is_reserved = false; text = an_x }
 abbrev pub some_path : ℕ → Path
 some_path e = at_field (after e) (some_field e) path_end
 
--- ---- tokens that were read from ts on up to u, and tokens that complete them
-pub record Mend {A : Type 0} (Q : A → Type 0) (put : A → List Token → List Token) (ts u : List Token) : Type 0 where
+-- ---- tokens that were read from ts on up to u, and tokens that complete them to a whole that fits
+pub record Mend {A : Type 0} (F : A → Type 0) (Q : A → Type 0) (put : A → List Token → List Token) (ts u : List Token) : Type 0 where
   pub whole : A
   pub good : Q whole
+  pub fits : F whole
   pub read : List Token
   pub fix : List Token
   pub parts : ts ≡ read ++ u
   pub tokens : (v : List Token) → put whole v ≡ read ++ (fix ++ v)
 
 -- x was read before a part that is mended, and the whole is completed after it
-pub inside : {A B : Type 0} {Q : A → Type 0} {R : B → Type 0} {put : A → List Token → List Token} {puts : B → List Token → List Token} (x : List Token → List Token) → Ahead x → (close : List Token) → {ts us u : List Token}
-    → (m : Mend Q put us u) → (b : B) → R b → ((v : List Token) → puts b v ≡ x (put m.whole (close ++ v))) → ts ≡ x us → Mend R puts ts u
-inside x h close m b g e s = record {
+pub inside : {A B : Type 0} {F Q : A → Type 0} {H R : B → Type 0} {put : A → List Token → List Token} {puts : B → List Token → List Token} (x : List Token → List Token) → Ahead x → (close : List Token) → {ts us u : List Token}
+    → (m : Mend F Q put us u) → (b : B) → R b → H b → ((v : List Token) → puts b v ≡ x (put m.whole (close ++ v))) → ts ≡ x us → Mend H R puts ts u
+inside x h close m b g f e s = record {
   whole = b;
   good = g;
+  fits = f;
   read = x m.read;
   fix = m.fix ++ close;
   parts = s ∙ ap x m.parts ∙ h.is m.read _;
@@ -72,22 +77,23 @@ inside x h close m b g e s = record {
 }
 
 -- x was read, and the rest of the whole is missing
-pub missing : {B : Type 0} {R : B → Type 0} {puts : B → List Token → List Token} (x : List Token → List Token) → Ahead x → (fix : List Token) → {ts u : List Token}
-    → (b : B) → R b → ((v : List Token) → puts b v ≡ x (fix ++ v)) → ts ≡ x u → Mend R puts ts u
-missing x h fix {ts} {u} b g e s = record {
+pub missing : {B : Type 0} {H R : B → Type 0} {puts : B → List Token → List Token} (x : List Token → List Token) → Ahead x → (fix : List Token) → {ts u : List Token}
+    → (b : B) → R b → H b → ((v : List Token) → puts b v ≡ x (fix ++ v)) → ts ≡ x u → Mend H R puts ts u
+missing x h fix {ts} {u} b g f e s = record {
   whole = b;
   good = g;
+  fits = f;
   read = x [];
   fix = fix;
   parts = s ∙ h.is [] u;
   tokens = λ v. e v ∙ h.is [] (fix ++ v);
 }
 
-pub better : {A : Type 0} {Q R : A → Type 0} {put : A → List Token → List Token} {ts u : List Token} → ((a : A) → Q a → R a) → Mend Q put ts u → Mend R put ts u
-better h m = record { whole = m.whole; good = h m.whole m.good; read = m.read; fix = m.fix; parts = m.parts; tokens = m.tokens }
+pub better : {A : Type 0} {F H Q R : A → Type 0} {put : A → List Token → List Token} {ts u : List Token} → ((a : A) → Q a → R a) → ((a : A) → F a → H a) → Mend F Q put ts u → Mend H R put ts u
+better h i m = record { whole = m.whole; good = h m.whole m.good; fits = i m.whole m.fits; read = m.read; fix = m.fix; parts = m.parts; tokens = m.tokens }
 
-pub onto : {A : Type 0} {Q : A → Type 0} {put : A → List Token → List Token} {ts us u : List Token} → ts ≡ us → Mend Q put ts u → Mend Q put us u
-onto s m = record { whole = m.whole; good = m.good; read = m.read; fix = m.fix; parts = sym s ∙ m.parts; tokens = m.tokens }
+pub onto : {A : Type 0} {F Q : A → Type 0} {put : A → List Token → List Token} {ts us u : List Token} → ts ≡ us → Mend F Q put ts u → Mend F Q put us u
+onto s m = record { whole = m.whole; good = m.good; fits = m.fits; read = m.read; fix = m.fix; parts = sym s ∙ m.parts; tokens = m.tokens }
 
 -- ---- refusals
 pub left_is : {A : Type 0} {ts : List Token} {u : Stop} → refuses {A = A} ts ≡ Err u → ts ≡ u.1
@@ -95,6 +101,14 @@ left_is {A} {ts} {u} e = (let i : ◌≡◌ {A = Stop} (Syntax, ts) u = cc in ap
 
 abbrev stopped : {A : Type 0} → Stop → Out A
 stopped u = Err u
+
+pub deep_is : {A : Type 0} {ts : List Token} {u : Stop} → too_deep {A = A} ts ≡ Err u → ts ≡ u.1
+deep_is {A} {ts} {u} e = (let i : ◌≡◌ {A = Stop} (TooDeep, ts) u = cc in ap (λ (s : Stop). s.1) i)
+
+-- if it fits, and else refused there
+pub fits_err : {A R : Type 0} (b : Bool) (f : Reader A) (ts : List Token) (u : Stop) → if_fits b f ts ≡ Err u → (ts ≡ u.1 → R) → (f ts ≡ Err u → R) → R
+fits_err true f ts u o here inner = inner o
+fits_err {A} false f ts u o here inner = here (deep_is {A = A} o)
 
 -- the first is refused, or it is read and what follows is refused
 pub broken : {A B : Type 0} {R : Type 0} {o : Out A} {f : A → Reader B} {u : Stop} → then_read o f ≡ Err u → (o ≡ Err u → R) → ((a : A) (ts : List Token) → o ≡ Ok (a, ts) → f a ts ≡ Err u → R) → R
@@ -148,16 +162,36 @@ SomePath e path = GoodPath e path × (is_some_path path ≡ true)
 abbrev pub Listed : ℕ → ℕ → Bullets → Type 0
 Listed e c bs = GoodBullets c bs × Right e (first_bullet bs)
 
-pub record Mends (r : Readers) : Type 0 where
-  pub expr : (e : ℕ) (c : Context) (ts : List Token) (u : Stop) → r.expr e c ts ≡ Err u → Mend (Fits c e) spell ts u.1
-  pub short : (e : ℕ) (ts : List Token) (u : Stop) → r.short e ts ≡ Err u → Mend (Brief e) spell ts u.1
-  pub postfix : (e : ℕ) (b : Phrase) → Good e b → is_primary (head b) ≡ true → (ts : List Token) (u : Stop) → r.postfix e b ts ≡ Err u → Mend (Prime e) spell (spell b ts) u.1
-  pub climb : (e : ℕ) (c : Context) (b : Phrase) → Good e b → fits c b ≡ true → (ts : List Token) (u : Stop) → r.climb e (bound c) b ts ≡ Err u → Mend (Fits c e) spell (spell b ts) u.1
-  pub phrases : (e : ℕ) (ts : List Token) (u : Stop) → r.phrases e ts ≡ Err u → Mend (GoodAll e) spell_all ts u.1
-  pub binds : (e : ℕ) (p : Place) (x : Word) → Right e p → (ts : List Token) (u : Stop) → r.binds e p x ts ≡ Err u → Mend (GoodBinds e) spell_binds (word p x ts) u.1
-  pub fields : (e : ℕ) (m : Mark) (f : Field) → Right e f.place → (ts : List Token) (u : Stop) → r.fields e m f ts ≡ Err u → Mend (GoodFields e) (spell_fields m) (field_token f ts) u.1
-  pub settings : (e : ℕ) (ts : List Token) (u : Stop) → r.settings e ts ≡ Err u → Mend (GoodSettings e) spell_settings ts u.1
-  pub path : (e : ℕ) (ts : List Token) (u : Stop) → r.path e ts ≡ Err u → Mend (SomePath e) spell_path ts u.1
-  pub bullets : (e : ℕ) (o : Op) (c : ℕ) → is_bullet o ≡ true → nat_lt e c ≡ true → (ts : List Token) (u : Stop) → r.bullets e o c ts ≡ Err u → Mend (Listed e c) (spell_bullets o) ts u.1
-  pub arms : (e : ℕ) (ts : List Token) (u : Stop) → r.arms e ts ≡ Err u → Mend (GoodArms e) spell_arms ts u.1
-  pub locals : (e : ℕ) (ts : List Token) (u : Stop) → r.locals e ts ≡ Err u → Mend (GoodLocals e) spell_locals ts u.1
+pub record Mends (lim : Bool) (most base : ℕ) (r : Readers) : Type 0 where
+  pub expr : (e : ℕ) (c : Context) → is_behind_in c ≡ false → (ts : List Token) (u : Stop) → r.expr e c ts ≡ Err u → Mend (Small lim most (counts base)) (Fits c e) spell ts u.1
+  pub set : (e : ℕ) (p : Place) (x : Word) (q : Place) (ts : List Token) (u : Stop) → r.expr e (behind p x q) ts ≡ Err u → Mend (Alive lim most base p x q) (Good e) spell ts u.1
+  pub short : (e : ℕ) (ts : List Token) (u : Stop) → r.short e ts ≡ Err u → Mend (Small lim most (counts base)) (Brief e) spell ts u.1
+  pub postfix : (e : ℕ) (b : Phrase) → Good e b → is_primary (head b) ≡ true → Small lim most (counts base) b → (ts : List Token) (u : Stop) → r.postfix e b ts ≡ Err u → Mend (Small lim most (counts base)) (Prime e) spell (spell b ts) u.1
+  pub climb : (e : ℕ) (c : Context) → is_behind_in c ≡ false → (b : Phrase) → Good e b → fits c b ≡ true → Small lim most (counts base) b → (ts : List Token) (u : Stop) → r.climb e c b ts ≡ Err u → Mend (Small lim most (counts base)) (Fits c e) spell (spell b ts) u.1
+  pub climb_set : (e : ℕ) (p : Place) (x : Word) (q : Place) (b : Phrase) → Good e b → Alive lim most base p x q b → (ts : List Token) (u : Stop) → r.climb e (behind p x q) b ts ≡ Err u → Mend (Alive lim most base p x q) (Good e) spell (spell b ts) u.1
+  pub phrases : (e : ℕ) (ts : List Token) (u : Stop) → r.phrases e ts ≡ Err u → Mend (Small lim most (counts_all base)) (GoodAll e) spell_all ts u.1
+  pub binds : (e : ℕ) (p : Place) (x : Word) → Right e p → (ts : List Token) (u : Stop) → r.binds e p x ts ≡ Err u → Mend (Small lim most (counts_binds base)) (GoodBinds e) spell_binds (word p x ts) u.1
+  pub fields : (e : ℕ) (m : Mark) (f : Field) → Right e f.place → (ts : List Token) (u : Stop) → r.fields e m f ts ≡ Err u → Mend (Small lim most (counts_fields base)) (GoodFields e) (spell_fields m) (field_token f ts) u.1
+  pub settings : (e : ℕ) (ts : List Token) (u : Stop) → r.settings e ts ≡ Err u → Mend (Small lim most (counts_settings base)) (GoodSettings e) spell_settings ts u.1
+  pub path : (e : ℕ) (ts : List Token) (u : Stop) → r.path e ts ≡ Err u → Mend (Small lim most (counts_path base)) (SomePath e) spell_path ts u.1
+  -- at the first bullet, or after it
+  pub bullets : (e : ℕ) (o : Op) (c : ℕ) → is_bullet o ≡ true → nat_lt e c ≡ true → (ts : List Token) (p : Place) → bullet_of o c (next e ts).place (next e ts).kind ≡ Some p → (u : Stop) → r.bullets e o c ts ≡ Err u → (ts ≡ u.1) ⊎ Mend (Small lim most (counts_bullets base)) (Listed e c) (spell_bullets o) ts u.1
+  pub arms : (e : ℕ) (ts : List Token) (u : Stop) → r.arms e ts ≡ Err u → Mend (Small lim most (counts_arms base)) (GoodArms e) spell_arms ts u.1
+  pub locals : (e : ℕ) (ts : List Token) (u : Stop) → r.locals e ts ≡ Err u → Mend (Small lim most (counts_locals base)) (GoodLocals e) spell_locals ts u.1
+
+-- ---- in a room
+abbrev pub ReadersMend : Bool → ℕ → ℕ → Option Readers → Type 0
+ReadersMend lim most base (Some d) = Mends lim most base d
+ReadersMend lim most base None = Unit {0}
+
+pub record MendsRoom (lim : Bool) (most base : ℕ) (m : Room) : Type 0 where
+  pub at : (j c : ℕ) → c ≡ base + j → ReadersMend lim most c (m.at j)
+
+-- refused at the token of a form, or inside it
+pub opened_err : {A R : Type 0} (lim : Bool) (most base : ℕ) (m : Room) (q : Readers) → IsRoom lim most base m q → MendsRoom lim most base m → (j c : ℕ) → c ≡ base + suc j → (f : Room → Readers → Reader A) (ts : List Token) (u : Stop) → opened m j f ts ≡ Err u
+    → (ts ≡ u.1 → R) → ((i : Room) (d : Readers) → AreLimited lim most c d q → IsRoom lim most c i q → Mends lim most c d → MendsRoom lim most c i → f i d ts ≡ Err u → R) → R
+opened_err {A} {R} lim most base m q v w j c e f ts u o here inner = by (m.at (suc j)) (v.at (suc j) c e) (w.at (suc j) c e) o
+  where
+    by : (z : Option Readers) → ReadersFit lim most c q z → ReadersMend lim most c z → read_by z (f (within j m)) ts ≡ Err u → R
+    by (Some d) g k o = inner (within j m) d g (inner_room lim most base m q v j c e) k (record { at = λ i d' e'. w.at (suc j + i) d' (omega (arith, e, e')) }) o
+    by None g k o = here (deep_is {A = A} o)

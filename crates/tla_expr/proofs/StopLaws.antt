@@ -29,7 +29,7 @@ fewer p n m xs h e =
     let w = longer n m xs h in
     (and_parts (list_all p (take n xs)) (list_all p w.0) (sym (list_all-append p (take n xs) w.0) ∙ ap (list_all p) (sym w.1) ∙ e)).0
 
-passes_before : (G : Grammar) (xs ys : List (Option Look)) → Passes G (xs ++ ys) → Passes G xs
+pub passes_before : (G : Grammar) (xs ys : List (Option Look)) → Passes G (xs ++ ys) → Passes G xs
 passes_before G xs ys (more, ns, g, few) =
     let l = length-append xs ys in
     (ys ++ more, ns, subst (λ (ks : List (Option Look)). G ks ns) (append_assoc xs ys more) g, fewer is_within (length xs) (length (xs ++ ys)) ns (omega arith) few)

@@ -26,11 +26,11 @@ use Rattle.tla_expr.proofs.Farthest.{begun_none}
 use Rattle.tla_expr.proofs.MendedLists.{refused_is_mended}
 
 -- ---- tokens with the end after them
-before : (passed rest : List Token) → take (length passed) (to_end (passed ++ rest)) ≡ map Some (looks passed)
+pub before : (passed rest : List Token) → take (length passed) (to_end (passed ++ rest)) ≡ map Some (looks passed)
 before [] rest = refl
 before (t ∷ passed) rest = ap (λ (ks : List (Option Look)). Some (look t) ∷ ks) (before passed rest)
 
-through : (passed : List Token) (t : Token) (rest : List Token) → take (suc (length passed)) (to_end (passed ++ t ∷ rest)) ≡ map Some (looks (passed ++ t ∷ []))
+pub through : (passed : List Token) (t : Token) (rest : List Token) → take (suc (length passed)) (to_end (passed ++ t ∷ rest)) ≡ map Some (looks (passed ++ t ∷ []))
 through [] t rest = refl
 through (s ∷ passed) t rest = ap (λ (ks : List (Option Look)). Some (look s) ∷ ks) (through passed t rest)
 
@@ -38,7 +38,7 @@ through_end : (passed : List Token) → take (suc (length passed)) (to_end (pass
 through_end [] = refl
 through_end (t ∷ passed) = ap (λ (ks : List (Option Look)). Some (look t) ∷ ks) (through_end passed)
 
-is_there : (passed rest : List Token) → length passed < length (to_end (passed ++ rest))
+pub is_there : (passed rest : List Token) → length passed < length (to_end (passed ++ rest))
 is_there [] [] = omega arith
 is_there [] (t ∷ rest) = omega arith
 is_there (t ∷ passed) rest = (let h = is_there passed rest in omega (arith, h))
@@ -72,7 +72,7 @@ all_within : (ns : List ℕ) → greatest ns ≤ deepest_expression → list_all
 all_within [] h = refl
 all_within (n ∷ ns) h = rw (le-leb n deepest_expression (omega (arith, h, le-max_left n (greatest ns))), all_within ns (omega (arith, h, le-max_right n (greatest ns)))) refl
 
-read_passes : (a : Phrase) → Good 0 a → text_nesting a ≤ deepest_expression → Passes (phrases 0) (map Some (looks (spell a [])))
+pub read_passes : (a : Phrase) → Good 0 a → text_nesting a ≤ deepest_expression → Passes (phrases 0) (map Some (looks (spell a [])))
 read_passes a g h =
     let ks = map Some (looks (spell a [])) in
     let ns = map in_expression (counts 0 a []) in
