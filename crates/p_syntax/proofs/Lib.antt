@@ -1,0 +1,3 @@
+mod Rows
+pub mod SoundStatements
+pub mod SoundAlgorithm
