@@ -109,7 +109,7 @@ key_back tk.except_key = refl
 key_back tk.for_all_key = refl
 key_back tk.exists_key = refl
 
-mark_is : (m : Mark) (k : TokenView) → is_mark m k ≡ true → k ≡ tk.mark m
+pub mark_is : (m : Mark) (k : TokenView) → is_mark m k ≡ true → k ≡ tk.mark m
 mark_is m (tk.mark n) h = ap (λ (x : Mark). tk.mark x) (sym (mark_back n) ∙ ap (λ (i : ℕ). nth tk.comma marks i) (sym (eqb-true (mark_number m) (mark_number n) h)) ∙ mark_back m)
 mark_is m k h = absurd cc
 

@@ -96,7 +96,7 @@ mutual
   few (prefix_of p o a) ts = omega (arith, few a ts)
   few a ts = omega arith
 
-  few_all : (xs : Phrases) (ts : List Token) → Below (steps_all xs) (spell_all xs ts) ts
+  pub few_all : (xs : Phrases) (ts : List Token) → Below (steps_all xs) (spell_all xs ts) ts
   few_all (last a) ts = omega (arith, few a ts)
   few_all (more a p xs) ts = omega (arith, few a (mark p tk.comma (spell_all xs ts)), few_all xs ts)
 

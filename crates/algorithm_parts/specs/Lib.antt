@@ -1,0 +1,3 @@
+pub mod TokenReaders
+pub mod ReadParts
+pub mod ReadSimple

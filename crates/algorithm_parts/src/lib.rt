@@ -1,0 +1,2 @@
+//! The parts that algorithms of both syntaxes are made of, read from tokens.
+#![tactic(auto)]

@@ -1,0 +1,5 @@
+mod Rows
+pub mod SoundStatements
+pub mod SoundAlgorithm
+pub mod WholeStatements
+pub mod WholeAlgorithm

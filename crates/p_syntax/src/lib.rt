@@ -1,0 +1,4 @@
+//! Algorithms in P-syntax, read from tokens.
+#![tactic(auto)]
+
+pub mod laws;
