@@ -27,4 +27,6 @@ pub use write_file::{with_translation, write_module};
 pub use write_units::write_region;
 
 #[cfg(test)]
+mod splitting_tests;
+#[cfg(test)]
 mod writing_tests;
