@@ -11,7 +11,7 @@ use Rattle.tla_expr.specs.Lexical as tk
 use Rattle.tla_expr.specs.Spelling.{Field, Phrase, number, Binds, last_bind, Path, path_end, at_field, Bullets}
 use Rattle.tla_expr.specs.Spelling.{word, field_token, spell, spell_all, spell_binds, spell_fields, spell_settings, spell_path, spell_bullets, spell_arms, spell_locals, Right, Good, GoodAll, GoodBinds, GoodFields, GoodSettings, GoodPath, GoodBullets, GoodArms, GoodLocals, head, is_primary, is_short, first_bullet, is_some_path}
 use Rattle.tla_expr.specs.Nesting.{counts, counts_all, counts_binds, counts_fields, counts_settings, counts_path, counts_bullets, counts_arms, counts_locals}
-use Rattle.tla_expr.specs.Reader.{Stop, refuses, too_deep, if_fits, read_by, opened, within, Room, bullet_of, behind, is_behind_in, Out, Reader, then_read, next, took, take, place_if, is_mark, is_key, is_sign, word_of, field_of, a_mark, a_key, a_sign, a_word, a_field, gives, ended, Context, bound, fits, Readers}
+use Rattle.tla_expr.specs.Reader.{Stop, refuses, too_deep, if_fits, read_by, opened, within, Room, bullet_of, behind, is_behind_in, Out, Reader, then_read, next, took, take, place_if, is_mark, is_key, is_sign, word_of, field_of, a_mark, a_key, a_sign, a_word, a_field, gives, ended, Context, fits, Readers}
 use Rattle.tla_expr.proofs.SpellAhead.{Ahead}
 use Rattle.tla_expr.proofs.LimitedRooms.{Alive, AreLimited, ReadersFit, IsRoom, inner_room}
 use Rattle.tla_expr.proofs.ReadWithin.{Small}

@@ -1,5 +1,5 @@
 -- What stands before a refused token can be gone on with: lists of all kinds, and all readers together.
-use Rattle.std.proofs.Common.{◌≡◌, ◌⊎◌, ℕ, zero, suc, ◌+◌, ◌-◌, ◌*◌, ◌≤◌, ◌++◌, length, nat_eq, nat_lt, nat_le, Bool, true, false, not, ◌&&◌, List, [], ◌∷◌, Option, Some, None, Err, option_map, inl, inr, refl, sym, ap, ◌∙◌, arith}
+use Rattle.std.proofs.Common.{◌≡◌, ◌⊎◌, ℕ, zero, suc, ◌+◌, ◌-◌, ◌*◌, ◌≤◌, ◌++◌, length, nat_eq, nat_lt, nat_le, Bool, true, false, not, ◌&&◌, List, [], ◌∷◌, Some, None, Err, option_map, inl, inr, refl, sym, ap, ◌∙◌, arith}
 use Rattle.std.proofs.lemmas.List.{append-nil}
 use Rattle.std.proofs.lemmas.Bool.{leb-true}
 use Rattle.tla_token.specs.declared.place.Place.{Place}
@@ -14,7 +14,7 @@ use Rattle.tla_expr.specs.Spelling.{Field, Phrase}
 use Rattle.tla_expr.specs.Spelling.{Phrases, last, more, Binds, last_bind, share, Fields, last_field, field, Settings, last_setting, setting, Path, path_end, index, at_field, Bullets, last_bullet, bullet, Arms, last_arm, other_arm, arm, Locals, last_local, more_locals}
 use Rattle.tla_expr.specs.Spelling.{mark, key, sign, word, field_token, spell, spell_all, spell_binds, spell_fields, spell_settings, spell_path, spell_bullets, spell_arms, spell_locals, Right, Good, GoodAll, GoodBinds, GoodFields, GoodSettings, GoodPath, GoodArms, GoodLocals, is_some_path, takes_box}
 use Rattle.tla_expr.proofs.SpellAhead.{held, put_ahead, then_ahead, ahead, ahead_all, ahead_path}
-use Rattle.tla_expr.proofs.Mended.{better, right_after, after, mark_at, sign_at, number_at, an_x, word_at, some, some_bind, some_field, some_path, Mend, inside, missing, onto, left_is, broken, mark_err, sign_err, word_err, field_err, take_err, gives_err, Fits, SomePath, Listed, Mends, ReadersMend, MendsRoom, opened_err, deep_is}
+use Rattle.tla_expr.proofs.Mended.{better, right_after, after, mark_at, sign_at, number_at, an_x, word_at, some, some_bind, some_field, some_path, Mend, inside, missing, onto, left_is, broken, mark_err, sign_err, word_err, field_err, take_err, gives_err, Fits, SomePath, Listed, Mends, ReadersMend, MendsRoom, opened_err}
 use Rattle.tla_expr.specs.Nesting.{counts, counts_all, counts_binds, counts_fields, counts_settings, counts_path, counts_bullets, counts_arms, counts_locals}
 use Rattle.tla_expr.specs.Reader.{Stop, Room, room, less, any, skip, peek, take, a_mark, behind, is_behind_in, read_limited, ◌>>=◌, gives, next, tail, is_sign, bullet_of, Context, free, Readers, one_step, no_steps, readers, read, phrases_by, binds_by, fields_by, settings_by, setting_if, path_by, bullets_if, arms_other, arms_if, arms_by, locals_by}
 use Rattle.tla_expr.proofs.SoundTokens.{seen, mark_ok, sign_ok, word_ok, field_ok}
