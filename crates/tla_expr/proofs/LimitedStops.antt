@@ -182,13 +182,16 @@ refused_where_passed ts passed rest end r o s p = by (told_err (beside ts) o)
             (deep_stops passed t u (ap (λ (us : List Token). read_limited us) (sym at) ∙ o ∙ (λ i. Err (d i, e i))) (subst (λ (us : List Token). Within u (read 0 us)) at w) p)
 
 -- ---- what was passed passes
-refused_passes : (ts passed rest : List Token) (r : Rule) → read_limited ts ≡ Err (r, rest) → ts ≡ passed ++ rest → Passes (phrases 0) (map Some (looks passed))
-refused_passes ts passed rest r o s =
+pub completed_within : (ts passed rest : List Token) (r : Rule) → read_limited ts ≡ Err (r, rest) → ts ≡ passed ++ rest → (fix : List Token) × (a : Phrase) × Good 0 a × (spell a [] ≡ passed ++ fix) × (text_nesting a ≤ deepest_expression)
+completed_within ts passed rest r o s =
     let m = refused_fits ts (r, rest) o in
     let same : m.0 ≡ passed = append_cancel_right m.0 passed rest (sym m.3 ∙ s) in
-    let tokens : spell m.2 [] ≡ passed ++ m.1 = m.5 ∙ ap (λ (k : List Token). k ++ m.1) same in
-    let all = read_passes m.2 m.4 (greatest_fits (counts 0 m.2 []) deepest_expression m.6) in
-    passes_before (phrases 0) (map Some (looks passed)) (map Some (looks m.1)) (subst (λ (ks : List (Option Look)). Passes (phrases 0) ks) (ap (λ (us : List Token). map Some (looks us)) tokens ∙ looked_ahead passed m.1) all)
+    (m.1, m.2, m.4, m.5 ∙ ap (λ (k : List Token). k ++ m.1) same, greatest_fits (counts 0 m.2 []) deepest_expression m.6)
+
+refused_passes : (ts passed rest : List Token) (r : Rule) → read_limited ts ≡ Err (r, rest) → ts ≡ passed ++ rest → Passes (phrases 0) (map Some (looks passed))
+refused_passes ts passed rest r o s =
+    let m = completed_within ts passed rest r o s in
+    passes_before (phrases 0) (map Some (looks passed)) (map Some (looks m.0)) (subst (λ (ks : List (Option Look)). Passes (phrases 0) ks) (ap (λ (us : List Token). map Some (looks us)) m.3 ∙ looked_ahead passed m.0) (read_passes m.1 m.2 m.4))
 
 pub is_refused : (ts passed rest : List Token) (end : Place) (r : Rule) → read_limited ts ≡ Err (r, rest) → ts ≡ passed ++ rest → RefusesExpression ts end (record { rule = r; place = get_or (map (λ (t : Token). t.place) ts) (length passed) end })
 is_refused ts passed rest end r o s = refused_where_passed ts passed rest end r o s (refused_passes ts passed rest r o s)
