@@ -1,6 +1,6 @@
 //! Laws of expressions, stated as what functions without a body ensure.
 
-ghost use Rattle.std.specs.Prelude.{◌≡◌, ◌⊎◌, ◌++◌, ℕ, ◌<◌, ◌≤◌, Bool, true, false, List, [], ◌∷◌, length, map, get_or, Some, None, Ok, Err};
+ghost use Rattle.std.specs.Prelude.{◌≡◌, ◌⊎◌, ◌++◌, ℕ, ◌+◌, ◌*◌, ◌<◌, ◌≤◌, Bool, true, false, List, [], ◌∷◌, length, map, get_or, Some, None, Ok, Err};
 ghost use Rattle.tla_expr.specs.Tree.{Tree};
 ghost use Rattle.tla_expr.specs.Lexical.{Token};
 ghost use Rattle.tla_expr.specs.Spelling.{Phrase, spell, tree_of, Good, IsGood, Spells, head, primary, end_list};
@@ -45,10 +45,10 @@ pub fn nothing_passes_where_reading_stops()
 {}
 
 /// And a refusal is not late: what was passed before the refused token, or before the end, can be gone on with to a whole
-/// expression, with those tokens in their columns; and with the limit, to one that is no deeper.
+/// expression, with those tokens in their columns; and with the limit, to one that is no deeper, by at most 16 tokens for each form that may be open, and one.
 pub fn refusals_are_at_the_earliest_place()
     ensures whole { (edge : ℕ) (ts passed rest : List Token) (r : Rule) → read edge ts ≡ Err (r, rest) → ts ≡ passed ++ rest → (fix : List Token) × (a : Phrase) × Good edge a × (spell a [] ≡ passed ++ fix) }
-    ensures within { (ts passed rest : List Token) (r : Rule) → read_limited ts ≡ Err (r, rest) → ts ≡ passed ++ rest → (fix : List Token) × (a : Phrase) × IsGood a × (spell a [] ≡ passed ++ fix) × (text_nesting a ≤ deepest_expression) }
+    ensures within { (ts passed rest : List Token) (r : Rule) → read_limited ts ≡ Err (r, rest) → ts ≡ passed ++ rest → (fix : List Token) × (a : Phrase) × IsGood a × (spell a [] ≡ passed ++ fix) × (text_nesting a ≤ deepest_expression) × (length fix ≤ 16 * deepest_expression + 1) }
 {}
 
 /// The limit of open forms only refuses: what is read within it is read without, and is no deeper; and what is read without it and is no deeper is read within it.
