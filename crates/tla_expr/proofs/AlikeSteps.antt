@@ -7,7 +7,7 @@ use Rattle.tla_expr.specs.Tree.{Word}
 use Rattle.tla_expr.specs.Rank.{is_bullet}
 use Rattle.tla_expr.specs.Lexical.{Mark, Key, TokenView, Token}
 use Rattle.tla_expr.specs.Lexical as tk
-use Rattle.tla_expr.specs.Spelling.{Field, Phrase, Binds, Path, call, brackets, apply, select, cases, local, infix_of, prefix_of, index, can_be_left, can_be_head, is_some_path, takes_box}
+use Rattle.tla_expr.specs.Spelling.{Field, Phrase, Binds, Path, call, brackets, apply, select, cases, local, infix_of, prefix_of, index, can_be_head, is_some_path, takes_box}
 use Rattle.tla_expr.specs.Reader.{any, room, Room, within, read_by, opened, opened_after, if_fits, chain_of, chain_behind, so_far, less, Limit, gives, skip, peek, take, Reader, ◌>>=◌, is_mark, is_key, is_sign, place_if, a_mark, a_key, a_sign, word_of, field_of, a_word, a_field, bullet_of, Context, free, right_of, under, behind, bound, is_free, prefix_by, goes_on, element, Readers, ended, named, from_name, set_rest, image_rest, brace_rest, set_from, member_rest, brace_name, braces, tuples, field_rest, function_rest, square_rest, square_from, bind_rest, square_member, plain_field, square_name, squares, list_if, primary, quantifier, choice_from, keyed, under_by, signed, operand, short_signed, short_by, apply_if, select_if, postfix_by, climb_if, climb_by, phrases_by, binds_by, fields_by, settings_by, setting_if, path_by, bullets_if, arms_other, arms_if, arms_by, locals_by, one_step, no_steps, readers}
 use Rattle.tla_expr.specs.Nesting.{links}
 use Rattle.tla_expr.proofs.Alike.{Within, IsFair, weaker, fair_gives, fair_refuses, fair_too_deep, fair_skip, fair_peek, fair_bind, fair_take}

@@ -58,7 +58,6 @@ pub mod MendedForms
 pub mod MendedLists
 pub mod WritingLemmas
 pub mod RowsWriting
-pub mod SlowCounts
 pub mod StopsThere
 pub mod AlikeEnds
 pub mod AlikeEndsSteps
@@ -75,3 +74,4 @@ pub mod LimitedAll
 pub mod LimitedStops
 pub mod CountsMoved
 pub mod ReadWithin
+mod RowsDeepest

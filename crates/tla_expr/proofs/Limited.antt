@@ -1,19 +1,15 @@
 -- Reading within a limit beside reading without: where it goes on, both read the same, and what was read is within the limit; a token that can't come is refused by
 -- both; and a token at which too many forms would be open is passed without the limit, and then what is read is too deep there or before.
-use Rattle.std.proofs.Common.{◌≡◌, ◌⊎◌, ℕ, suc, ◌+◌, ◌<◌, ◌≤◌, Bool, true, false, List, [], ◌∷◌, ◌++◌, length, Option, Some, None, Ok, Err, inl, inr, refl, sym, ap, ◌∙◌, subst, append_assoc, arith}
+use Rattle.std.proofs.Common.{◌≡◌, ◌⊎◌, ℕ, suc, ◌+◌, ◌≤◌, Bool, true, List, [], ◌∷◌, ◌++◌, length, Option, Some, None, Ok, Err, inl, inr, refl, sym, ap, ◌∙◌, subst, append_assoc, arith}
 use Rattle.tla_token.specs.declared.place.Place.{Place}
 use Rattle.tla_token.specs.declared.rule.Rule.{Rule}
 use Rattle.tla_token.specs.declared.rule.Rule.TheVariants.{TooDeep, Syntax}
 use Rattle.tla_expr.specs.declared.op.Op.{Op}
-use Rattle.tla_expr.specs.Tree.{Word}
-use Rattle.tla_expr.specs.Lexical.{Mark, Key, TokenView, Token, token}
-use Rattle.tla_expr.specs.Spelling.{Field, Phrase}
-use Rattle.tla_expr.specs.Nesting.{counts}
-use Rattle.tla_expr.specs.Reader.{Stop, Out, Reader, then_read, gives, refuses, too_deep, next, tail, took, take, place_if, is_mark, is_key, is_sign, a_mark, a_key, a_sign, word_of, field_of, a_word, a_field}
+use Rattle.tla_expr.specs.Lexical.{Mark, Key, TokenView, Token}
+use Rattle.tla_expr.specs.Reader.{Stop, Out, Reader, then_read, gives, refuses, too_deep, next, took, take, place_if, is_mark, is_key, is_sign, a_mark, a_key, a_sign, word_of, field_of, a_word, a_field}
 use Rattle.tla_expr.proofs.Alike.{rest_of, Within}
-use Rattle.tla_expr.proofs.SpellAhead.{Ahead}
 use Rattle.tla_expr.proofs.SoundTokens.{ok_is, mark_ok, key_ok, sign_ok, word_ok, field_ok}
-use Rattle.tla_expr.proofs.DeepCounts.{Fit, Deep, deep_fewer, lift}
+use Rattle.tla_expr.proofs.DeepCounts.{Fit, Deep}
 
 -- where there is a limit, what is put before counts that fit fits
 abbrev pub Fitting : Bool → ℕ → (List ℕ → List ℕ) → Type 0

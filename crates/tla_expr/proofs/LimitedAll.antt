@@ -1,21 +1,19 @@
 -- Reading within a limit: one step more, all steps, and what it says of an expression.
-use Rattle.std.proofs.Common.{◌≡◌, ◌⊎◌, ℕ, zero, suc, ◌+◌, ◌-◌, ◌*◌, ◌<◌, ◌≤◌, nat_le, nat_eq, Bool, true, false, ◌||◌, ◌&&◌, List, [], ◌∷◌, ◌++◌, length, Option, Some, None, Ok, Err, option_map, inl, inr, refl, sym, ap, ◌∙◌, subst, append_assoc, append-nil, arith}
+use Rattle.std.proofs.Common.{◌≡◌, ℕ, zero, suc, ◌+◌, ◌-◌, ◌≤◌, nat_le, nat_eq, Bool, true, false, ◌&&◌, List, [], ◌∷◌, length, Some, None, option_map, refl, sym, subst, arith}
 use Rattle.std.proofs.lemmas.Bool.{and_parts, leb-true, leb-false}
 use Rattle.tla_token.specs.declared.place.Place.{Place}
 use Rattle.tla_expr.specs.declared.op.Op.{Op}
-use Rattle.tla_expr.specs.declared.op.Op.TheVariants as op
-use Rattle.tla_expr.specs.Tree.{Word}
 use Rattle.tla_expr.specs.Lexical.{Mark, TokenView, Token, token}
 use Rattle.tla_expr.specs.Lexical as tk
-use Rattle.tla_expr.specs.Spelling.{Field, Phrase, is_some_path}
-use Rattle.tla_expr.specs.Nesting.{greatest, text_nesting, counts, counts_path, counts_bullets}
-use Rattle.tla_expr.specs.Reader.{Out, next, tail, peek, is_sign, bullet_of, Context, free, behind, is_behind_in, Readers, Room, Limit, less, room, any, one_step, no_steps, readers}
-use Rattle.tla_expr.proofs.SpellAhead.{Ahead, held, put_ahead, then_ahead}
+use Rattle.tla_expr.specs.Spelling.{Phrase, is_some_path}
+use Rattle.tla_expr.specs.Nesting.{text_nesting, counts}
+use Rattle.tla_expr.specs.Reader.{next, tail, is_sign, bullet_of, free, Readers, Room, less, room, any, one_step, no_steps, readers}
+use Rattle.tla_expr.proofs.SpellAhead.{held, put_ahead, then_ahead}
 use Rattle.tla_expr.proofs.DeepCounts.{Fit, Deep, Raised, fit_both, fit_raised, deep_raised, fit_greatest, deep_greatest, deep_before, raised_counts, ahead_counts}
 use Rattle.tla_expr.proofs.SoundTokens.{seen, if_some, sign_is}
 use Rattle.tla_expr.proofs.SoundPhrases.{Sound}
 use Rattle.tla_expr.proofs.SoundLists.{sound}
-use Rattle.tla_expr.proofs.Limited.{Limited, limited_bind, limited_gives, limited_refuses, limited_mark, limited_word}
+use Rattle.tla_expr.proofs.Limited.{limited_bind, limited_refuses, limited_mark, limited_word}
 use Rattle.tla_expr.proofs.LimitedRooms.{AreLimited, ReadersFit, PhraseFits, IsRoom, any_room}
 use Rattle.tla_expr.proofs.LimitedForms.{limited_operand, limited_short, limited_postfix, limited_climb, limited_phrases, limited_binds, limited_fields, limited_setting, limited_path, limited_bullets, limited_arms, limited_locals}
 use Rattle.tla_expr.proofs.LimitedSets.{set_operand, limited_set_climb}

@@ -1,19 +1,18 @@
 -- Reading within a limit: names, and what is in braces, tuples and square brackets.
-use Rattle.std.proofs.Common.{◌≡◌, ◌⊎◌, ℕ, zero, suc, ◌+◌, ◌<◌, ◌≤◌, Bool, true, false, ◌||◌, not, List, [], ◌∷◌, length, Option, Some, None, Ok, inl, inr, refl, sym, ap, ◌∙◌, arith}
+use Rattle.std.proofs.Common.{◌≡◌, ℕ, ◌+◌, Bool, List, ◌∷◌, refl}
 use Rattle.tla_token.specs.declared.place.Place.{Place}
-use Rattle.tla_expr.specs.declared.op.Op.TheVariants as op
 use Rattle.tla_expr.specs.Tree.{Word}
 use Rattle.tla_expr.specs.Lexical.{Mark, TokenView, Token, token}
 use Rattle.tla_expr.specs.Lexical as tk
-use Rattle.tla_expr.specs.Spelling.{Field, Phrase, name, primed, call, no_set, set_of, filter, image, no_tuple, tuple, fields, records, function, functions, except}
-use Rattle.tla_expr.specs.Spelling.{Phrases, last, more, Binds, last_bind, bind, Fields, Settings}
+use Rattle.tla_expr.specs.Spelling.{Field, Phrase, name, primed, call, set_of, filter, image, no_tuple, tuple, fields, records, function, functions, except}
+use Rattle.tla_expr.specs.Spelling.{last, more, Binds, last_bind, bind}
 use Rattle.tla_expr.specs.Nesting.{counts, counts_all, counts_binds, counts_fields, counts_settings}
-use Rattle.tla_expr.specs.Reader.{◌>>=◌, gives, ended, a_word, any, Room, next, tail, peek, skip, is_mark, is_key, if_fits, free, behind, Readers, element, named, from_name, set_rest, image_rest, brace_rest, set_from, member_rest, brace_name, braces, tuples, field_rest, function_rest, square_rest, square_from, bind_rest, square_member, plain_field, square_name, squares}
+use Rattle.tla_expr.specs.Reader.{◌>>=◌, gives, ended, a_word, any, Room, next, tail, free, Readers, named, from_name, set_rest, image_rest, brace_rest, tuples, field_rest, function_rest, square_rest, bind_rest}
 use Rattle.tla_expr.proofs.SpellAhead.{Ahead, held, put_ahead, then_ahead}
-use Rattle.tla_expr.proofs.DeepCounts.{Deep, ahead_counts, ahead_all, ahead_binds, ahead_fields, ahead_settings}
+use Rattle.tla_expr.proofs.DeepCounts.{ahead_counts, ahead_binds}
 use Rattle.tla_expr.proofs.SoundTokens.{seen}
-use Rattle.tla_expr.proofs.Limited.{Fitting, Late, Limited, On, late_more, limited_bind, limited_gives, limited_refuses, limited_as, limited_skip, limited_past, limited_mark, limited_word}
-use Rattle.tla_expr.proofs.LimitedRooms.{BothFit, BothLate, InLate, AreLimited, PhraseFits, IsRoom, any_room, limited_opened, dead_late, fitting_less}
+use Rattle.tla_expr.proofs.Limited.{Fitting, Late, On, limited_bind, limited_gives, limited_refuses, limited_skip, limited_mark, limited_word}
+use Rattle.tla_expr.proofs.LimitedRooms.{AreLimited, IsRoom, limited_opened}
 
 abbrev Xs : Type 0
 Xs = List ℕ → List ℕ

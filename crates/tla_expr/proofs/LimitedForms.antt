@@ -1,5 +1,5 @@
 -- Reading within a limit: primaries, open forms, operators, and lists of all kinds.
-use Rattle.std.proofs.Common.{◌≡◌, ◌⊎◌, ℕ, zero, suc, ◌+◌, ◌<◌, ◌≤◌, Bool, true, false, ◌||◌, ◌&&◌, not, nat_eq, if◌then◌else◌, List, [], ◌∷◌, length, Option, Some, None, Ok, inl, inr, refl, sym, ap, ◌∙◌, eq-eqb, arith}
+use Rattle.std.proofs.Common.{◌≡◌, ℕ, ◌+◌, Bool, true, false, ◌||◌, ◌&&◌, nat_eq, if◌then◌else◌, List, ◌∷◌, Option, Some, None, refl, eq-eqb, arith}
 use Rattle.tla_token.specs.declared.place.Place.{Place}
 use Rattle.tla_expr.specs.declared.op.Op.{Op}
 use Rattle.tla_expr.specs.declared.op.Op.TheVariants as op
@@ -8,13 +8,13 @@ use Rattle.tla_expr.specs.Rank.{is_bullet, number_of}
 use Rattle.tla_expr.specs.Lexical.{Mark, Key, TokenView, Token, token}
 use Rattle.tla_expr.specs.Lexical as tk
 use Rattle.tla_expr.specs.Spelling.{Field, Phrase, number, string, constant, brackets, apply, select, list, quantified, if_then_else, cases, local, infix_of, prefix_of}
-use Rattle.tla_expr.specs.Spelling.{Phrases, last, more, Binds, last_bind, share, Fields, last_field, field, Settings, last_setting, setting, Path, path_end, index, at_field, Bullets, last_bullet, bullet, Arms, last_arm, other_arm, arm, Locals, last_local, more_locals, can_be_head, is_some_path, takes_box}
+use Rattle.tla_expr.specs.Spelling.{last, more, share, last_field, field, last_setting, setting, Path, path_end, index, at_field, last_bullet, bullet, last_arm, other_arm, arm, last_local, more_locals, can_be_head, takes_box}
 use Rattle.tla_expr.specs.Nesting.{chain, links, counts, counts_all, counts_binds, counts_fields, counts_settings, counts_path, counts_bullets, counts_arms, counts_locals}
-use Rattle.tla_expr.specs.Reader.{Out, Reader, ◌>>=◌, gives, ended, a_mark, a_key, a_sign, a_word, a_field, any, Room, next, tail, peek, skip, take, is_mark, is_sign, bullet_of, Context, free, right_of, under, behind, bound, is_free, is_behind_in, prefix_by, goes_on, fewest, so_far, Readers, braces, tuples, squares, bind_rest, list_if, primary, quantifier, choice_from, keyed, under_by, signed, operand, short_signed, short_by, apply_if, select_if, postfix_by, climb_if, climb_by, phrases_by, binds_by, fields_by, settings_by, setting_if, path_by, bullets_if, arms_other, arms_if, arms_by, locals_by, opened, opened_after}
+use Rattle.tla_expr.specs.Reader.{◌>>=◌, gives, a_mark, a_key, a_field, any, Room, next, tail, peek, take, is_sign, bullet_of, Context, free, right_of, under, behind, bound, is_free, is_behind_in, prefix_by, goes_on, fewest, so_far, Readers, braces, tuples, squares, list_if, primary, quantifier, choice_from, keyed, under_by, signed, operand, short_signed, short_by, apply_if, select_if, postfix_by, climb_if, climb_by, phrases_by, binds_by, fields_by, settings_by, setting_if, path_by, bullets_if, arms_other, arms_if, arms_by, locals_by, opened}
 use Rattle.tla_expr.proofs.SpellAhead.{Ahead, held, put_ahead, then_ahead}
-use Rattle.tla_expr.proofs.DeepCounts.{ahead_counts, ahead_all, ahead_binds, ahead_fields, ahead_settings, ahead_path, ahead_bullets, ahead_arms, ahead_locals}
+use Rattle.tla_expr.proofs.DeepCounts.{ahead_counts, ahead_all, ahead_binds, ahead_path, ahead_locals}
 use Rattle.tla_expr.proofs.SoundTokens.{seen}
-use Rattle.tla_expr.proofs.Limited.{Fitting, Late, Limited, On, limited_bind, limited_gives, limited_refuses, limited_skip, limited_mark, limited_key, limited_sign, limited_word, limited_field}
+use Rattle.tla_expr.proofs.Limited.{Fitting, Late, On, limited_bind, limited_gives, limited_refuses, limited_skip, limited_mark, limited_key, limited_sign, limited_word, limited_field}
 use Rattle.tla_expr.proofs.LimitedRooms.{AreLimited, IsRoom, limited_opened, limited_opened_by}
 use Rattle.tla_expr.proofs.LimitedBraces.{limited_from, limited_bind_rest}
 use Rattle.tla_expr.proofs.LimitedBraces as in_braces

@@ -1,18 +1,18 @@
 -- Reading within a limit: behind `{x \\in` and `[x \\in`, and all that is in braces and square brackets.
-use Rattle.std.proofs.Common.{◌≡◌, ◌⊎◌, ℕ, zero, suc, ◌+◌, ◌<◌, ◌≤◌, Bool, true, false, ◌||◌, not, List, [], ◌∷◌, length, Option, Some, None, Ok, inl, inr, refl, sym, ap, ◌∙◌, arith}
+use Rattle.std.proofs.Common.{◌≡◌, ℕ, suc, ◌+◌, ◌≤◌, Bool, true, false, ◌||◌, not, List, ◌∷◌, length, Option, Some, None, refl, arith}
 use Rattle.tla_token.specs.declared.place.Place.{Place}
 use Rattle.tla_expr.specs.declared.op.Op.TheVariants as op
 use Rattle.tla_expr.specs.Tree.{Word}
 use Rattle.tla_expr.specs.Lexical.{Mark, TokenView, Token, token}
 use Rattle.tla_expr.specs.Lexical as tk
 use Rattle.tla_expr.specs.Spelling.{Phrase, no_set, set_of, filter, last, last_bind}
-use Rattle.tla_expr.specs.Nesting.{counts, counts_binds}
-use Rattle.tla_expr.specs.Reader.{Out, ◌>>=◌, ended, any, Room, next, tail, peek, skip, is_mark, is_key, if_fits, free, behind, Readers, element, from_name, set_rest, set_from, member_rest, brace_name, braces, function_rest, square_rest, square_from, bind_rest, square_member, plain_field, square_name, squares}
+use Rattle.tla_expr.specs.Nesting.{counts}
+use Rattle.tla_expr.specs.Reader.{Out, ◌>>=◌, ended, any, Room, next, tail, peek, skip, is_mark, is_key, if_fits, free, Readers, element, set_rest, set_from, member_rest, brace_name, braces, function_rest, square_rest, square_from, bind_rest, square_member, plain_field, square_name, squares}
 use Rattle.tla_expr.proofs.SpellAhead.{Ahead, held, put_ahead, then_ahead}
-use Rattle.tla_expr.proofs.DeepCounts.{Deep, deep_fewer, ahead_counts}
+use Rattle.tla_expr.proofs.DeepCounts.{deep_fewer}
 use Rattle.tla_expr.proofs.SoundTokens.{seen}
-use Rattle.tla_expr.proofs.Limited.{Fitting, Late, Limited, On, late_more, limited_bind, limited_gives, limited_refuses, limited_as, limited_next, limited_skip, limited_past, limited_mark, limited_word}
-use Rattle.tla_expr.proofs.LimitedRooms.{BothFit, BothLate, InLate, AreLimited, PhraseFits, IsRoom, dead_late, fitting_less}
+use Rattle.tla_expr.proofs.Limited.{Fitting, Late, Limited, On, late_more, limited_bind, limited_gives, limited_refuses, limited_as, limited_next, limited_skip, limited_past}
+use Rattle.tla_expr.proofs.LimitedRooms.{BothFit, BothLate, AreLimited, PhraseFits, IsRoom, dead_late, fitting_less}
 use Rattle.tla_expr.proofs.LimitedBraces.{limited_from, limited_set_more, limited_set, limited_brace, limited_filter, limited_value, limited_function, limited_arrow, limited_except, limited_square, limited_field_rest, limited_bind_more, limited_bind_rest}
 
 module _ (l : Bool) (b k : ℕ) (m : Room) (r q : Readers) (h : AreLimited l b (k + 1) r q) (v : IsRoom l b (k + 1) m q) (x : List ℕ → List ℕ) (ax : Ahead x) where

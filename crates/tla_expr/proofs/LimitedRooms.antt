@@ -1,9 +1,9 @@
 -- The claims of reading within a limit, for all readers; and a form that opens, in a room.
-use Rattle.std.proofs.Common.{◌≡◌, ◌⊎◌, ℕ, zero, suc, ◌+◌, ◌<◌, ◌≤◌, Bool, true, false, List, [], ◌∷◌, ◌++◌, length, Option, Some, None, inl, inr, refl, sym, ap, ◌∙◌, subst, append-nil, arith}
+use Rattle.std.proofs.Common.{◌≡◌, ◌⊎◌, ℕ, suc, ◌+◌, ◌<◌, ◌≤◌, Bool, true, false, List, [], ◌∷◌, length, Option, Some, None, inl, refl, sym, subst, arith}
 use Rattle.tla_token.specs.declared.place.Place.{Place}
 use Rattle.tla_expr.specs.declared.op.Op.{Op}
 use Rattle.tla_expr.specs.Tree.{Word}
-use Rattle.tla_expr.specs.Lexical.{Mark, TokenView, Token}
+use Rattle.tla_expr.specs.Lexical.{Mark, Token}
 use Rattle.tla_expr.specs.Spelling.{Field, Phrase}
 use Rattle.tla_expr.specs.Nesting.{counts, counts_all, counts_binds, counts_fields, counts_settings, counts_path, counts_bullets, counts_arms, counts_locals}
 use Rattle.tla_expr.specs.Reader.{Out, Reader, next, tail, skip, bullet_of, Context, behind, is_behind_in, element, Readers, Room, within, any, read_by, opened}

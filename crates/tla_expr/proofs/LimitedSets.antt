@@ -1,5 +1,5 @@
 -- Reading within a limit behind `x \\in`: a set for x and an element side by side.
-use Rattle.std.proofs.Common.{◌≡◌, ◌⊎◌, ℕ, zero, suc, ◌+◌, ◌<◌, ◌≤◌, min, Bool, true, false, ◌||◌, ◌&&◌, not, if◌then◌else◌, List, [], ◌∷◌, length, Option, Some, None, Ok, Err, inl, inr, refl, sym, ap, ◌∙◌, subst, arith}
+use Rattle.std.proofs.Common.{◌≡◌, ◌⊎◌, ℕ, suc, ◌+◌, ◌<◌, ◌≤◌, min, Bool, true, false, ◌||◌, ◌&&◌, not, if◌then◌else◌, List, ◌∷◌, length, Option, Some, None, Ok, Err, inl, inr, refl, sym, ap, ◌∙◌, subst, arith}
 use Rattle.std.proofs.lemmas.Bool.{cases_order}
 use Rattle.std.proofs.Math.Nat.{min-eq_left, min-eq_right}
 use Rattle.tla_token.specs.declared.place.Place.{Place}
@@ -12,15 +12,15 @@ use Rattle.tla_expr.specs.Lexical.{TokenView, Token, token}
 use Rattle.tla_expr.specs.Lexical as tk
 use Rattle.tla_expr.specs.Spelling.{Phrase, name, infix_of, applied, is_above, can_be_left, can_be_right}
 use Rattle.tla_expr.specs.Nesting.{chain, counts}
-use Rattle.tla_expr.specs.Reader.{Stop, Out, Reader, ◌>>=◌, then_read, too_deep, any, Room, next, tail, peek, skip, Context, right_of, behind, bound, goes_on, on_left, element, chain_of, at_most, fewest, so_far, Readers, read_by, within, opened, opened_after, operand, climb_if, climb_by}
+use Rattle.tla_expr.specs.Reader.{Stop, Out, Reader, ◌>>=◌, too_deep, any, Room, next, tail, skip, right_of, behind, goes_on, on_left, element, chain_of, at_most, fewest, so_far, Readers, read_by, opened, opened_after, operand, climb_if, climb_by}
 use Rattle.tla_expr.proofs.Alike.{rest_of}
 use Rattle.tla_expr.proofs.SpellAhead.{Ahead, held, put_ahead, then_ahead}
-use Rattle.tla_expr.proofs.DeepCounts.{Fit, Deep, Raised, deep_fewer, lift, deep_behind, raised_same, raised_counts, ahead_counts}
+use Rattle.tla_expr.proofs.DeepCounts.{Fit, Deep, deep_fewer, lift, deep_behind, raised_same, raised_counts, ahead_counts}
 use Rattle.tla_expr.proofs.SoundTokens.{seen, if_some}
 use Rattle.tla_expr.proofs.SoundPhrases.{Sound}
 use Rattle.tla_expr.proofs.SoundForms.{is_infix, operand_plain}
-use Rattle.tla_expr.proofs.Limited.{Fitting, Late, Past, Told, Limited, On, told_err, late_more, limited_bind, limited_gives, limited_as, limited_next, limited_past}
-use Rattle.tla_expr.proofs.LimitedRooms.{Alive, BothFit, BothLate, InLate, AreLimited, ReadersFit, PhraseFits, IsRoom, inner_room, any_room, dead_late}
+use Rattle.tla_expr.proofs.Limited.{Fitting, Late, Past, Told, Limited, On, told_err, late_more, limited_bind, limited_gives, limited_next, limited_past}
+use Rattle.tla_expr.proofs.LimitedRooms.{Alive, BothFit, BothLate, InLate, AreLimited, ReadersFit, PhraseFits, IsRoom, any_room, dead_late}
 use Rattle.tla_expr.proofs.LimitedForms.{limited_operand}
 
 abbrev Xs : Type 0

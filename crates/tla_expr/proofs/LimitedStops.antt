@@ -1,5 +1,5 @@
 -- What is read within the limit, and where reading within it stops.
-use Rattle.std.proofs.Common.{◌≡◌, ◌⊎◌, ℕ, zero, suc, ◌+◌, ◌*◌, ◌≤◌, nat_le, Bool, true, List, [], ◌∷◌, ◌++◌, length, take, map, get_or, Option, Some, None, Ok, Err, inl, inr, refl, sym, ap, ◌∙◌, subst, append_assoc, length-append, arith}
+use Rattle.std.proofs.Common.{◌≡◌, ◌⊎◌, ℕ, zero, suc, ◌+◌, ◌*◌, ◌≤◌, nat_le, true, List, [], ◌∷◌, ◌++◌, length, take, map, get_or, Option, Some, Ok, Err, inl, inr, refl, sym, ap, ◌∙◌, subst, append_assoc, length-append, arith}
 use Rattle.std.specs.List.{list_all}
 use Rattle.std.proofs.lemmas.List.{append-nil, append_cancel_right, length-map}
 use Rattle.std.proofs.lemmas.Bool.{and_parts, leb-true}
@@ -7,10 +7,12 @@ use Rattle.tla_token.specs.declared.place.Place.{Place}
 use Rattle.tla_token.specs.declared.rule.Rule.{Rule}
 use Rattle.tla_token.specs.declared.rule.Rule.TheVariants.{TooDeep, Syntax}
 use Rattle.tla_token.specs.Limits.{deepest_expression}
+use Rattle.tla_token.specs.declared.rule.Refusal.{Refusal}
+use Rattle.tla_expr.specs.Tree.{Tree}
 use Rattle.tla_expr.specs.Lexical.{Token}
 use Rattle.tla_expr.specs.Spelling.{Phrase, Good, spell, tree_of}
 use Rattle.tla_expr.specs.Nesting.{counts, text_nesting}
-use Rattle.tla_expr.specs.Reader.{Out, free, readers, read, read_limited}
+use Rattle.tla_expr.specs.Reader.{Out, free, read, read_limited}
 use Rattle.tla_expr.specs.FirstStop.{Look, look, looks, to_end, Open, is_within, Begins, Passes, StopsAt, in_expression, phrases, ReadsExpression, RefusesExpression}
 use Rattle.tla_expr.proofs.Columns.{spelled_again, bare, looks_of_bare, begun_looks, looked_ahead, begins}
 use Rattle.tla_expr.proofs.CountsMoved.{same_counts}
@@ -23,7 +25,7 @@ use Rattle.tla_expr.proofs.AlikeSteps.{fair_readers}
 use Rattle.tla_expr.proofs.StopLaws.{stops_by_one_rule, passes_before}
 use Rattle.tla_expr.proofs.StopsThere.{before, through, is_there, read_passes, read_stops, refused_is_completed, refused_at}
 use Rattle.tla_expr.proofs.MendedLists.{refused_fits}
-use Rattle.tla_expr.proofs.DeepCounts.{Deep, greatest_fits}
+use Rattle.tla_expr.proofs.DeepCounts.{Fit, Deep, fit_both, fit_greatest, greatest_fits, ahead_counts}
 use Rattle.tla_expr.proofs.Limited.{Late, Plain, Past, On, told_ok, told_err}
 use Rattle.tla_expr.proofs.LimitedAll.{limited}
 
@@ -33,6 +35,42 @@ beside ts = (limited deepest_expression (4 * length ts) 0 deepest_expression (om
 -- it is read without the limit too, and is no deeper
 pub read_within : (ts rest : List Token) (a : Phrase) → read_limited ts ≡ Ok (a, rest) → (read 0 ts ≡ Ok (a, rest)) × (text_nesting a ≤ deepest_expression)
 read_within ts rest a o = (let w = told_ok (beside ts) o in (w.0, greatest_fits (counts 0 a []) deepest_expression (w.1 (λ e u i. i) refl [] tt)))
+
+-- and what is no deeper is read within the limit
+fit_or_deep : (b : ℕ) (ns : List ℕ) (m : ℕ) → Fit b ns → Deep b ns m → ⊥
+fit_or_deep b [] m f d = d
+fit_or_deep b (n ∷ ns) m f (inl (l, k)) = (let h = f.0 in absurd (omega (arith, h, l)))
+fit_or_deep b (n ∷ ns) m f (inr d) = fit_or_deep b ns m f.1 d
+
+noughts : List Token → List ℕ
+noughts [] = []
+noughts (t ∷ ts) = 0 ∷ noughts ts
+
+as_long : (ts : List Token) → length (noughts ts) ≡ length ts
+unfolding noughts
+as_long [] = refl
+as_long (t ∷ ts) = (let h = as_long ts in omega (arith, h))
+
+noughts_fit : (b : ℕ) (ts : List Token) → Fit b (noughts ts)
+unfolding noughts
+noughts_fit b [] = tt
+noughts_fit b (t ∷ ts) = (omega arith, noughts_fit b ts)
+
+pub fits_within : (ts rest : List Token) (a : Phrase) → read 0 ts ≡ Ok (a, rest) → text_nesting a ≤ deepest_expression → read_limited ts ≡ Ok (a, rest)
+fits_within ts rest a o h = by (read_limited ts) refl
+  where
+    deep : (u : List Token) → Late deepest_expression (λ s. counts 0 a s) (length u) (length rest) → ⊥
+    deep u late =
+        let n = as_long rest in
+        let all = fit_both deepest_expression (counts 0 a []) (noughts rest) (fit_greatest (counts 0 a []) deepest_expression h) (noughts_fit deepest_expression rest) in
+        fit_or_deep deepest_expression (counts 0 a (noughts rest)) (length u) (subst (λ (s : List ℕ). Fit deepest_expression s) (sym ((ahead_counts 0 a).is [] (noughts rest))) all) (late (noughts rest) (length u) (omega (arith, n)))
+
+    by : (z : Out Phrase) → read_limited ts ≡ z → read_limited ts ≡ Ok (a, rest)
+    by (Ok y) e = e ∙ sym (read_within ts y.1 y.0 e).0 ∙ o
+    by (Err s) e = elim (told_err (beside ts) e) [
+      | inl p ↦ (let no : ◌≡◌ {A = Out Phrase} (Ok (a, rest)) (Err (p.1.0, s.1)) = sym o ∙ p.1.1 in absurd cc)
+      | inr p ↦ absurd (deep p.1 (p.5 a rest o))
+    ]
 
 pub is_read : (ts rest : List Token) (a : Phrase) → read_limited ts ≡ Ok (a, rest) → ReadsExpression ts (length (spell a [])) (tree_of a)
 is_read ts rest a o = (let w = read_within ts rest a o in read_stops ts rest a w.0 w.1)
@@ -144,13 +182,24 @@ refused_where_passed ts passed rest end r o s p = by (told_err (beside ts) o)
             (deep_stops passed t u (ap (λ (us : List Token). read_limited us) (sym at) ∙ o ∙ (λ i. Err (d i, e i))) (subst (λ (us : List Token). Within u (read 0 us)) at w) p)
 
 -- ---- what was passed passes
-refused_passes : (ts passed rest : List Token) (r : Rule) → read_limited ts ≡ Err (r, rest) → ts ≡ passed ++ rest → Passes (phrases 0) (map Some (looks passed))
-refused_passes ts passed rest r o s =
+pub completed_within : (ts passed rest : List Token) (r : Rule) → read_limited ts ≡ Err (r, rest) → ts ≡ passed ++ rest → (fix : List Token) × (a : Phrase) × Good 0 a × (spell a [] ≡ passed ++ fix) × (text_nesting a ≤ deepest_expression) × (length fix ≤ 16 * deepest_expression + 1)
+completed_within ts passed rest r o s =
     let m = refused_fits ts (r, rest) o in
     let same : m.0 ≡ passed = append_cancel_right m.0 passed rest (sym m.3 ∙ s) in
-    let tokens : spell m.2 [] ≡ passed ++ m.1 = m.5 ∙ ap (λ (k : List Token). k ++ m.1) same in
-    let all = read_passes m.2 m.4 (greatest_fits (counts 0 m.2 []) deepest_expression m.6) in
-    passes_before (phrases 0) (map Some (looks passed)) (map Some (looks m.1)) (subst (λ (ks : List (Option Look)). Passes (phrases 0) ks) (ap (λ (us : List Token). map Some (looks us)) tokens ∙ looked_ahead passed m.1) all)
+    (m.1, m.2, m.4, m.5 ∙ ap (λ (k : List Token). k ++ m.1) same, greatest_fits (counts 0 m.2 []) deepest_expression m.6, m.7)
+
+refused_passes : (ts passed rest : List Token) (r : Rule) → read_limited ts ≡ Err (r, rest) → ts ≡ passed ++ rest → Passes (phrases 0) (map Some (looks passed))
+refused_passes ts passed rest r o s =
+    let m = completed_within ts passed rest r o s in
+    passes_before (phrases 0) (map Some (looks passed)) (map Some (looks m.0)) (subst (λ (ks : List (Option Look)). Passes (phrases 0) ks) (ap (λ (us : List Token). map Some (looks us)) m.3 ∙ looked_ahead passed m.0) (read_passes m.1 m.2 m.4))
 
 pub is_refused : (ts passed rest : List Token) (end : Place) (r : Rule) → read_limited ts ≡ Err (r, rest) → ts ≡ passed ++ rest → RefusesExpression ts end (record { rule = r; place = get_or (map (λ (t : Token). t.place) ts) (length passed) end })
 is_refused ts passed rest end r o s = refused_where_passed ts passed rest end r o s (refused_passes ts passed rest r o s)
+
+-- ---- one of both, whatever the tokens
+pub one_of_both : (ts : List Token) (end : Place) → ((n : ℕ) × (t : Tree) × ReadsExpression ts n t) ⊎ ((r : Refusal) × RefusesExpression ts end r)
+one_of_both ts end = by (read_limited ts) refl
+  where
+    by : (z : Out Phrase) → read_limited ts ≡ z → ((n : ℕ) × (t : Tree) × ReadsExpression ts n t) ⊎ ((r : Refusal) × RefusesExpression ts end r)
+    by (Ok (a, rest)) e = inl (length (spell a []), tree_of a, is_read ts rest a e)
+    by (Err (r, rest)) e = (let m = refused_fits ts (r, rest) e in inr (record { rule = r; place = get_or (map (λ (t : Token). t.place) ts) (length m.0) end }, is_refused ts m.0 rest end r e m.3))

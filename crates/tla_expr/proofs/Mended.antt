@@ -1,5 +1,5 @@
 -- What stands before a refused token can be gone on with: the claim for all readers, and how a part that is mended mends the whole.
-use Rattle.std.proofs.Common.{◌≡◌, ◌⊎◌, ℕ, suc, ◌+◌, nat_lt, Bool, true, false, List, [], ◌∷◌, ◌++◌, Option, Some, None, Ok, Err, refl, sym, ap, ◌∙◌, append_assoc, arith}
+use Rattle.std.proofs.Common.{◌≡◌, ◌⊎◌, ℕ, suc, ◌+◌, ◌*◌, ◌≤◌, length, nat_lt, Bool, true, false, List, [], ◌∷◌, ◌++◌, Option, Some, None, Ok, Err, refl, sym, ap, ◌∙◌, append_assoc, arith}
 use Rattle.std.proofs.lemmas.Bool.{lt-ltb}
 use Rattle.tla_token.specs.declared.place.Place.{Place}
 use Rattle.tla_expr.specs.declared.op.Op.{Op}
@@ -11,7 +11,7 @@ use Rattle.tla_expr.specs.Lexical as tk
 use Rattle.tla_expr.specs.Spelling.{Field, Phrase, number, Binds, last_bind, Path, path_end, at_field, Bullets}
 use Rattle.tla_expr.specs.Spelling.{word, field_token, spell, spell_all, spell_binds, spell_fields, spell_settings, spell_path, spell_bullets, spell_arms, spell_locals, Right, Good, GoodAll, GoodBinds, GoodFields, GoodSettings, GoodPath, GoodBullets, GoodArms, GoodLocals, head, is_primary, is_short, first_bullet, is_some_path}
 use Rattle.tla_expr.specs.Nesting.{counts, counts_all, counts_binds, counts_fields, counts_settings, counts_path, counts_bullets, counts_arms, counts_locals}
-use Rattle.tla_expr.specs.Reader.{Stop, refuses, too_deep, if_fits, read_by, opened, within, Room, bullet_of, behind, is_behind_in, Out, Reader, then_read, next, took, take, place_if, is_mark, is_key, is_sign, word_of, field_of, a_mark, a_key, a_sign, a_word, a_field, gives, ended, Context, bound, fits, Readers}
+use Rattle.tla_expr.specs.Reader.{Stop, refuses, too_deep, if_fits, read_by, opened, within, Room, bullet_of, behind, is_behind_in, Out, Reader, then_read, next, took, take, place_if, is_mark, is_key, is_sign, word_of, field_of, a_mark, a_key, a_sign, a_word, a_field, gives, ended, Context, fits, Readers}
 use Rattle.tla_expr.proofs.SpellAhead.{Ahead}
 use Rattle.tla_expr.proofs.LimitedRooms.{Alive, AreLimited, ReadersFit, IsRoom, inner_room}
 use Rattle.tla_expr.proofs.ReadWithin.{Small}
@@ -53,47 +53,54 @@ some_field e = record { place = after e; is_reserved = false; text = an_x }
 abbrev pub some_path : ℕ → Path
 some_path e = at_field (after e) (some_field e) path_end
 
+-- ---- no more tokens than 16 for each form that may still open, and so many
+abbrev pub Few : Bool → ℕ → ℕ → ℕ → List Token → Type 0
+Few lim most base c fix = lim ≡ true → length fix + 16 * base ≤ 16 * most + c
+
 -- ---- tokens that were read from ts on up to u, and tokens that complete them to a whole that fits
-pub record Mend {A : Type 0} (F : A → Type 0) (Q : A → Type 0) (put : A → List Token → List Token) (ts u : List Token) : Type 0 where
+pub record Mend {A : Type 0} (F : A → Type 0) (K : List Token → Type 0) (Q : A → Type 0) (put : A → List Token → List Token) (ts u : List Token) : Type 0 where
   pub whole : A
   pub good : Q whole
   pub fits : F whole
   pub read : List Token
   pub fix : List Token
+  pub few : K fix
   pub parts : ts ≡ read ++ u
   pub tokens : (v : List Token) → put whole v ≡ read ++ (fix ++ v)
 
 -- x was read before a part that is mended, and the whole is completed after it
-pub inside : {A B : Type 0} {F Q : A → Type 0} {H R : B → Type 0} {put : A → List Token → List Token} {puts : B → List Token → List Token} (x : List Token → List Token) → Ahead x → (close : List Token) → {ts us u : List Token}
-    → (m : Mend F Q put us u) → (b : B) → R b → H b → ((v : List Token) → puts b v ≡ x (put m.whole (close ++ v))) → ts ≡ x us → Mend H R puts ts u
-inside x h close m b g f e s = record {
+pub inside : {A B : Type 0} {F Q : A → Type 0} {K L : List Token → Type 0} {H R : B → Type 0} {put : A → List Token → List Token} {puts : B → List Token → List Token} (x : List Token → List Token) → Ahead x → (close : List Token) → {ts us u : List Token}
+    → (m : Mend F K Q put us u) → (b : B) → R b → H b → ((fix : List Token) → K fix → L (fix ++ close)) → ((v : List Token) → puts b v ≡ x (put m.whole (close ++ v))) → ts ≡ x us → Mend H L R puts ts u
+inside x h close m b g f k e s = record {
   whole = b;
   good = g;
   fits = f;
   read = x m.read;
   fix = m.fix ++ close;
+  few = k m.fix m.few;
   parts = s ∙ ap x m.parts ∙ h.is m.read _;
   tokens = λ v. e v ∙ ap x (m.tokens (close ++ v)) ∙ ap (λ (w : List Token). x (m.read ++ w)) (sym (append_assoc m.fix close v)) ∙ h.is m.read ((m.fix ++ close) ++ v);
 }
 
 -- x was read, and the rest of the whole is missing
-pub missing : {B : Type 0} {H R : B → Type 0} {puts : B → List Token → List Token} (x : List Token → List Token) → Ahead x → (fix : List Token) → {ts u : List Token}
-    → (b : B) → R b → H b → ((v : List Token) → puts b v ≡ x (fix ++ v)) → ts ≡ x u → Mend H R puts ts u
-missing x h fix {ts} {u} b g f e s = record {
+pub missing : {B : Type 0} {L : List Token → Type 0} {H R : B → Type 0} {puts : B → List Token → List Token} (x : List Token → List Token) → Ahead x → (fix : List Token) → {ts u : List Token}
+    → (b : B) → R b → H b → L fix → ((v : List Token) → puts b v ≡ x (fix ++ v)) → ts ≡ x u → Mend H L R puts ts u
+missing x h fix {ts} {u} b g f k e s = record {
   whole = b;
   good = g;
   fits = f;
   read = x [];
   fix = fix;
+  few = k;
   parts = s ∙ h.is [] u;
   tokens = λ v. e v ∙ h.is [] (fix ++ v);
 }
 
-pub better : {A : Type 0} {F H Q R : A → Type 0} {put : A → List Token → List Token} {ts u : List Token} → ((a : A) → Q a → R a) → ((a : A) → F a → H a) → Mend F Q put ts u → Mend H R put ts u
-better h i m = record { whole = m.whole; good = h m.whole m.good; fits = i m.whole m.fits; read = m.read; fix = m.fix; parts = m.parts; tokens = m.tokens }
+pub better : {A : Type 0} {K : List Token → Type 0} {F H Q R : A → Type 0} {put : A → List Token → List Token} {ts u : List Token} → ((a : A) → Q a → R a) → ((a : A) → F a → H a) → Mend F K Q put ts u → Mend H K R put ts u
+better h i m = record { whole = m.whole; good = h m.whole m.good; fits = i m.whole m.fits; read = m.read; fix = m.fix; few = m.few; parts = m.parts; tokens = m.tokens }
 
-pub onto : {A : Type 0} {F Q : A → Type 0} {put : A → List Token → List Token} {ts us u : List Token} → ts ≡ us → Mend F Q put ts u → Mend F Q put us u
-onto s m = record { whole = m.whole; good = m.good; fits = m.fits; read = m.read; fix = m.fix; parts = sym s ∙ m.parts; tokens = m.tokens }
+pub onto : {A : Type 0} {K : List Token → Type 0} {F Q : A → Type 0} {put : A → List Token → List Token} {ts us u : List Token} → ts ≡ us → Mend F K Q put ts u → Mend F K Q put us u
+onto s m = record { whole = m.whole; good = m.good; fits = m.fits; read = m.read; fix = m.fix; few = m.few; parts = sym s ∙ m.parts; tokens = m.tokens }
 
 -- ---- refusals
 pub left_is : {A : Type 0} {ts : List Token} {u : Stop} → refuses {A = A} ts ≡ Err u → ts ≡ u.1
@@ -163,21 +170,21 @@ abbrev pub Listed : ℕ → ℕ → Bullets → Type 0
 Listed e c bs = GoodBullets c bs × Right e (first_bullet bs)
 
 pub record Mends (lim : Bool) (most base : ℕ) (r : Readers) : Type 0 where
-  pub expr : (e : ℕ) (c : Context) → is_behind_in c ≡ false → (ts : List Token) (u : Stop) → r.expr e c ts ≡ Err u → Mend (Small lim most (counts base)) (Fits c e) spell ts u.1
-  pub set : (e : ℕ) (p : Place) (x : Word) (q : Place) (ts : List Token) (u : Stop) → r.expr e (behind p x q) ts ≡ Err u → Mend (Alive lim most base p x q) (Good e) spell ts u.1
-  pub short : (e : ℕ) (ts : List Token) (u : Stop) → r.short e ts ≡ Err u → Mend (Small lim most (counts base)) (Brief e) spell ts u.1
-  pub postfix : (e : ℕ) (b : Phrase) → Good e b → is_primary (head b) ≡ true → Small lim most (counts base) b → (ts : List Token) (u : Stop) → r.postfix e b ts ≡ Err u → Mend (Small lim most (counts base)) (Prime e) spell (spell b ts) u.1
-  pub climb : (e : ℕ) (c : Context) → is_behind_in c ≡ false → (b : Phrase) → Good e b → fits c b ≡ true → Small lim most (counts base) b → (ts : List Token) (u : Stop) → r.climb e c b ts ≡ Err u → Mend (Small lim most (counts base)) (Fits c e) spell (spell b ts) u.1
-  pub climb_set : (e : ℕ) (p : Place) (x : Word) (q : Place) (b : Phrase) → Good e b → Alive lim most base p x q b → (ts : List Token) (u : Stop) → r.climb e (behind p x q) b ts ≡ Err u → Mend (Alive lim most base p x q) (Good e) spell (spell b ts) u.1
-  pub phrases : (e : ℕ) (ts : List Token) (u : Stop) → r.phrases e ts ≡ Err u → Mend (Small lim most (counts_all base)) (GoodAll e) spell_all ts u.1
-  pub binds : (e : ℕ) (p : Place) (x : Word) → Right e p → (ts : List Token) (u : Stop) → r.binds e p x ts ≡ Err u → Mend (Small lim most (counts_binds base)) (GoodBinds e) spell_binds (word p x ts) u.1
-  pub fields : (e : ℕ) (m : Mark) (f : Field) → Right e f.place → (ts : List Token) (u : Stop) → r.fields e m f ts ≡ Err u → Mend (Small lim most (counts_fields base)) (GoodFields e) (spell_fields m) (field_token f ts) u.1
-  pub settings : (e : ℕ) (ts : List Token) (u : Stop) → r.settings e ts ≡ Err u → Mend (Small lim most (counts_settings base)) (GoodSettings e) spell_settings ts u.1
-  pub path : (e : ℕ) (ts : List Token) (u : Stop) → r.path e ts ≡ Err u → Mend (Small lim most (counts_path base)) (SomePath e) spell_path ts u.1
+  pub expr : (e : ℕ) (c : Context) → is_behind_in c ≡ false → (ts : List Token) (u : Stop) → r.expr e c ts ≡ Err u → Mend (Small lim most (counts base)) (Few lim most base 1) (Fits c e) spell ts u.1
+  pub set : (e : ℕ) (p : Place) (x : Word) (q : Place) (ts : List Token) (u : Stop) → r.expr e (behind p x q) ts ≡ Err u → Mend (Alive lim most base p x q) (Few lim most base 1) (Good e) spell ts u.1
+  pub short : (e : ℕ) (ts : List Token) (u : Stop) → r.short e ts ≡ Err u → Mend (Small lim most (counts base)) (Few lim most base 1) (Brief e) spell ts u.1
+  pub postfix : (e : ℕ) (b : Phrase) → Good e b → is_primary (head b) ≡ true → Small lim most (counts base) b → (ts : List Token) (u : Stop) → r.postfix e b ts ≡ Err u → Mend (Small lim most (counts base)) (Few lim most base 1) (Prime e) spell (spell b ts) u.1
+  pub climb : (e : ℕ) (c : Context) → is_behind_in c ≡ false → (b : Phrase) → Good e b → fits c b ≡ true → Small lim most (counts base) b → (ts : List Token) (u : Stop) → r.climb e c b ts ≡ Err u → Mend (Small lim most (counts base)) (Few lim most base 1) (Fits c e) spell (spell b ts) u.1
+  pub climb_set : (e : ℕ) (p : Place) (x : Word) (q : Place) (b : Phrase) → Good e b → Alive lim most base p x q b → (ts : List Token) (u : Stop) → r.climb e (behind p x q) b ts ≡ Err u → Mend (Alive lim most base p x q) (Few lim most base 1) (Good e) spell (spell b ts) u.1
+  pub phrases : (e : ℕ) (ts : List Token) (u : Stop) → r.phrases e ts ≡ Err u → Mend (Small lim most (counts_all base)) (Few lim most base 1) (GoodAll e) spell_all ts u.1
+  pub binds : (e : ℕ) (p : Place) (x : Word) → Right e p → (ts : List Token) (u : Stop) → r.binds e p x ts ≡ Err u → Mend (Small lim most (counts_binds base)) (Few lim most base 3) (GoodBinds e) spell_binds (word p x ts) u.1
+  pub fields : (e : ℕ) (m : Mark) (f : Field) → Right e f.place → (ts : List Token) (u : Stop) → r.fields e m f ts ≡ Err u → Mend (Small lim most (counts_fields base)) (Few lim most base 3) (GoodFields e) (spell_fields m) (field_token f ts) u.1
+  pub settings : (e : ℕ) (ts : List Token) (u : Stop) → r.settings e ts ≡ Err u → Mend (Small lim most (counts_settings base)) (Few lim most base 5) (GoodSettings e) spell_settings ts u.1
+  pub path : (e : ℕ) (ts : List Token) (u : Stop) → r.path e ts ≡ Err u → Mend (Small lim most (counts_path base)) (Few lim most base 2) (SomePath e) spell_path ts u.1
   -- at the first bullet, or after it
-  pub bullets : (e : ℕ) (o : Op) (c : ℕ) → is_bullet o ≡ true → nat_lt e c ≡ true → (ts : List Token) (p : Place) → bullet_of o c (next e ts).place (next e ts).kind ≡ Some p → (u : Stop) → r.bullets e o c ts ≡ Err u → (ts ≡ u.1) ⊎ Mend (Small lim most (counts_bullets base)) (Listed e c) (spell_bullets o) ts u.1
-  pub arms : (e : ℕ) (ts : List Token) (u : Stop) → r.arms e ts ≡ Err u → Mend (Small lim most (counts_arms base)) (GoodArms e) spell_arms ts u.1
-  pub locals : (e : ℕ) (ts : List Token) (u : Stop) → r.locals e ts ≡ Err u → Mend (Small lim most (counts_locals base)) (GoodLocals e) spell_locals ts u.1
+  pub bullets : (e : ℕ) (o : Op) (c : ℕ) → is_bullet o ≡ true → nat_lt e c ≡ true → (ts : List Token) (p : Place) → bullet_of o c (next e ts).place (next e ts).kind ≡ Some p → (u : Stop) → r.bullets e o c ts ≡ Err u → (ts ≡ u.1) ⊎ Mend (Small lim most (counts_bullets base)) (Few lim most base 1) (Listed e c) (spell_bullets o) ts u.1
+  pub arms : (e : ℕ) (ts : List Token) (u : Stop) → r.arms e ts ≡ Err u → Mend (Small lim most (counts_arms base)) (Few lim most base 3) (GoodArms e) spell_arms ts u.1
+  pub locals : (e : ℕ) (ts : List Token) (u : Stop) → r.locals e ts ≡ Err u → Mend (Small lim most (counts_locals base)) (Few lim most base 3) (GoodLocals e) spell_locals ts u.1
 
 -- ---- in a room
 abbrev pub ReadersMend : Bool → ℕ → ℕ → Option Readers → Type 0

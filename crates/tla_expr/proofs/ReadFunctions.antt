@@ -11,7 +11,7 @@ use Rattle.tla_expr.specs.Lexical as tk
 use Rattle.tla_expr.specs.Spelling.{Field, Phrase, name, primed, call, functions, except, apply, select, list, quantified, infix_of, prefix_of, last_bullet, bullet, Phrases, Settings, last_setting, setting, Path, path_end, index, at_field}
 use Rattle.tla_expr.specs.Spelling.{mark, key, sign, word, spell, spell_settings, spell_path, is_word, is_in, Right, Good, GoodSettings, GoodPath}
 use Rattle.tla_expr.specs.Reader.{any, Out, then_read, ◌>>=◌, next, peek, free, Readers, readers, element, from_name, squares, square_name, square_member, square_from, square_rest, settings_by, path_by}
-use Rattle.tla_expr.proofs.Steps.{steps, steps_all, steps_path, steps_settings}
+use Rattle.tla_expr.proofs.Steps.{steps, steps_path, steps_settings}
 use Rattle.tla_expr.proofs.ReadSoon.{Soon, step, is_tail, NoTail}
 use Rattle.tla_expr.proofs.ReadStops.{is_calm, Calm}
 use Rattle.tla_expr.proofs.ReadPhrases.{Prime, Reads, closed, closed_behind, is_end, Ends, end_calm, ReadsAll, primary_reads, tail_call}

@@ -13,7 +13,7 @@ use Rattle.tla_expr.specs.Spelling.{Phrases, last, more}
 use Rattle.tla_expr.specs.Spelling.{mark, sign, spell, spell_all, Good, GoodAll, Right, head, is_primary, is_short, first_bullet}
 use Rattle.tla_expr.specs.Reader.{any, Out, then_read, ◌>>=◌, gives, skip, next, peek, Context, free, right_of, under, behind, bound, fits, is_free, goes_on, Readers, readers, named, primary, under_by, operand, short_by, phrases_by}
 use Rattle.tla_expr.proofs.Steps.{steps, steps_all}
-use Rattle.tla_expr.proofs.ReadSoon.{Soon, step, same, is_tail, NoTail, Stays, postfix_ends, climb_ends}
+use Rattle.tla_expr.proofs.ReadSoon.{Soon, step, is_tail, NoTail, Stays, postfix_ends, climb_ends}
 use Rattle.tla_expr.proofs.ReadStops.{Stops, ListEnds, BulletsStop, is_calm, Calm, calm_stays, calm_stops, Fine, seen_sign, sign_infix, above_bound, left_parts, fits_left, left_stops, fits_short}
 
 -- ---- the claim

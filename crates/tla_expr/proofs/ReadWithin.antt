@@ -1,16 +1,16 @@
 -- What is read within the limit is spelled, and fits.
-use Rattle.std.proofs.Common.{◌≡◌, ℕ, suc, ◌+◌, Bool, true, false, List, ◌∷◌, Some, Ok, refl}
+use Rattle.std.proofs.Common.{◌≡◌, ℕ, ◌+◌, Bool, true, false, List, ◌∷◌, Some, Ok}
 use Rattle.tla_token.specs.declared.place.Place.{Place}
 use Rattle.tla_expr.specs.declared.op.Op.{Op}
 use Rattle.tla_expr.specs.Tree.{Word}
 use Rattle.tla_expr.specs.Rank.{is_bullet}
 use Rattle.tla_expr.specs.Lexical.{Mark, TokenView, Token, token}
 use Rattle.tla_expr.specs.Spelling.{Field, Phrase, Phrases, Binds, Fields, Settings, Path, Bullets, Arms, Locals}
-use Rattle.tla_expr.specs.Spelling.{mark, sign, word, field_token, spell, spell_all, spell_binds, spell_fields, spell_settings, spell_path, spell_bullets, spell_arms, spell_locals, Right, Good, GoodAll, GoodBinds, GoodFields, GoodSettings, GoodPath, GoodBullets, GoodArms, GoodLocals, head, is_primary, is_short, first_bullet}
+use Rattle.tla_expr.specs.Spelling.{mark, sign, word, field_token, spell, spell_all, spell_binds, spell_fields, spell_settings, spell_path, spell_bullets, spell_arms, spell_locals, Right, Good, GoodAll, GoodBinds, GoodFields, GoodSettings, GoodPath, GoodBullets, GoodArms, GoodLocals, head, is_primary, first_bullet}
 use Rattle.tla_expr.specs.Lexical as tk
 use Rattle.tla_expr.specs.declared.op.Op.TheVariants as op
 use Rattle.tla_expr.specs.Nesting.{counts, counts_all, counts_binds, counts_fields, counts_settings, counts_path, counts_bullets, counts_arms, counts_locals}
-use Rattle.tla_expr.specs.Reader.{any, Room, next, bullet_of, Context, behind, bound, fits, is_behind_in, Readers, named, from_name, braces, tuples, squares, bind_rest, operand}
+use Rattle.tla_expr.specs.Reader.{Room, next, bullet_of, Context, behind, fits, is_behind_in, Readers, named, from_name, braces, tuples, squares, bind_rest, operand}
 use Rattle.tla_expr.proofs.SpellAhead.{held}
 use Rattle.tla_expr.proofs.DeepCounts.{Fit}
 use Rattle.tla_expr.proofs.SoundPhrases.{Sound, named_sound, from_name_sound}
@@ -22,7 +22,6 @@ use Rattle.tla_expr.proofs.LimitedRooms.{Alive, AreLimited, IsRoom}
 use Rattle.tla_expr.proofs.LimitedBraces.{limited_named, limited_from, limited_tuples, limited_bind_rest}
 use Rattle.tla_expr.proofs.LimitedMembers.{limited_braces, limited_squares}
 use Rattle.tla_expr.proofs.LimitedForms.{limited_operand}
-use Rattle.tla_expr.proofs.LimitedSets.{set_operand}
 
 -- where there is a limit, its counts fit where those do that come after it
 abbrev pub Small : {A : Type 0} → Bool → ℕ → (A → List ℕ → List ℕ) → A → Type 0

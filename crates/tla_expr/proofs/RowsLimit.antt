@@ -1,6 +1,6 @@
 -- Worked rows of reading within a limit of open forms, by computation.
-use Rattle.std.proofs.Common.{◌≡◌, ℕ, ◌+◌, List, [], ◌∷◌, ◌++◌, Some, Ok, Err, refl, codes}
-use Rattle.tla_token.specs.declared.rule.Rule.TheVariants.{Syntax, TooDeep}
+use Rattle.std.proofs.Common.{◌≡◌, ℕ, ◌+◌, List, [], ◌∷◌, Some, Ok, Err, refl, codes}
+use Rattle.tla_token.specs.declared.rule.Rule.TheVariants.{TooDeep}
 use Rattle.tla_expr.specs.declared.op.Op.TheVariants as op
 use Rattle.tla_expr.specs.Lexical.{Token}
 use Rattle.tla_expr.specs.Lexical as tk

@@ -1,14 +1,14 @@
 -- What is read is spelled: after braces and square brackets.
-use Rattle.std.proofs.Common.{◌≡◌, ℕ, Bool, true, false, not, List, [], ◌∷◌, Option, Some, None, Ok, refl, sym, ap, ◌∙◌}
+use Rattle.std.proofs.Common.{◌≡◌, ℕ, true, false, not, List, [], Option, Some, None, Ok, refl, sym, ap, ◌∙◌}
 use Rattle.tla_token.specs.declared.place.Place.{Place}
 use Rattle.tla_expr.specs.declared.op.Op.TheVariants as op
 use Rattle.tla_expr.specs.Tree.{Word}
 use Rattle.tla_expr.specs.Lexical.{TokenView, Token, token}
 use Rattle.tla_expr.specs.Lexical as tk
-use Rattle.tla_expr.specs.Spelling.{Field, Phrase, no_set, set_of, filter, image, no_tuple, tuple, fields, records, function, functions, except}
-use Rattle.tla_expr.specs.Spelling.{last, more, Binds, last_bind, bind}
-use Rattle.tla_expr.specs.Spelling.{mark, key, sign, word, field_token, spell, spell_all, spell_binds, spell_fields, spell_settings, Right, Good, GoodBinds, is_word, is_in, is_bind}
-use Rattle.tla_expr.specs.Reader.{any, next, tail, peek, free, behind, Readers, element, set_rest, image_rest, brace_rest, set_from, member_rest, brace_name, braces, tuples, field_rest, function_rest, square_rest, square_from, bind_rest, square_member, plain_field, square_name, squares}
+use Rattle.tla_expr.specs.Spelling.{Field, Phrase, set_of, filter, image, tuple, fields, records, function, functions, except}
+use Rattle.tla_expr.specs.Spelling.{last, more, Binds, last_bind}
+use Rattle.tla_expr.specs.Spelling.{mark, sign, word, field_token, spell, spell_binds, Right, Good, GoodBinds, is_word, is_in}
+use Rattle.tla_expr.specs.Reader.{any, next, tail, free, behind, Readers, element, set_rest, brace_rest, set_from, member_rest, brace_name, braces, tuples, field_rest, function_rest, square_rest, square_from, bind_rest, square_member, plain_field, square_name, squares}
 use Rattle.tla_expr.proofs.ReadMembers.{is_member, bind_member}
 use Rattle.tla_expr.proofs.SoundTokens.{then_ok, ok_is, given, seen, mark_ok, word_ok, ended_ok}
 use Rattle.tla_expr.proofs.SoundPhrases.{IsPrime, IsGroup, Sound, no_word, no_in, element_is, from_name_sound}

@@ -1,10 +1,9 @@
 -- What is read is spelled: primaries, open forms, operators, and lists of all kinds.
-use Rattle.std.proofs.Common.{◌≡◌, ℕ, nat_eq, nat_lt, Bool, true, false, not, ◌&&◌, ◌||◌, List, ◌∷◌, Option, Some, None, Ok, Err, refl, sym, ap, ◌∙◌, inl, inr}
+use Rattle.std.proofs.Common.{◌≡◌, ℕ, nat_lt, Bool, true, false, not, ◌&&◌, ◌||◌, List, Option, Some, None, Ok, Err, refl, sym, ◌∙◌, inl, inr}
 use Rattle.std.proofs.lemmas.Bool.{and_parts, or_cases, not-true}
 use Rattle.tla_token.specs.declared.place.Place.{Place}
 use Rattle.tla_expr.specs.declared.op.Op.{Op}
 use Rattle.tla_expr.specs.declared.op.Op.TheVariants as op
-use Rattle.tla_expr.specs.Tree.{Word}
 use Rattle.tla_expr.specs.Rank.{rank, is_prefix, is_bullet, same_op}
 use Rattle.tla_expr.specs.Lexical.{Mark, Key, TokenView, Token, token, sign_of}
 use Rattle.tla_expr.specs.Lexical as tk
@@ -16,9 +15,9 @@ use Rattle.tla_expr.specs.Reader.{any, ◌>>=◌, gives, next, tail, peek, take,
 use Rattle.tla_expr.specs.Reader as rd
 use Rattle.tla_expr.proofs.ReadStops.{sign_infix}
 use Rattle.tla_expr.proofs.ReadLists.{first_column}
-use Rattle.tla_expr.proofs.SoundTokens.{then_ok, ok_is, given, seen, take_ok, if_some, sign_is, mark_ok, key_ok, sign_ok, word_ok, field_ok}
-use Rattle.tla_expr.proofs.SoundPhrases.{Fitting, IsPrime, IsGroup, Sound, from_name_sound}
-use Rattle.tla_expr.proofs.SoundBraces.{braces_sound, tuples_sound, squares_sound, bind_rest_sound}
+use Rattle.tla_expr.proofs.SoundTokens.{then_ok, given, seen, mark_ok, key_ok, word_ok, field_ok}
+use Rattle.tla_expr.proofs.SoundPhrases.{Fitting, IsPrime, Sound, from_name_sound}
+use Rattle.tla_expr.proofs.SoundBraces.{braces_sound, tuples_sound, squares_sound}
 
 -- ---- where a phrase may be
 pub or_true : (x : Bool) → (x || true) ≡ true

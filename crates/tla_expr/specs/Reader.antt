@@ -1,5 +1,5 @@
 -- Reading an expression from left to right, as a function of its tokens ("Specifying Systems", chapter 15).
-use Rattle.std.specs.Prelude.{◌≡◌, ℕ, zero, suc, ◌+◌, ◌-◌, ◌*◌, Bool, true, false, ◌||◌, ◌&&◌, not, nat_lt, nat_le, nat_eq, List, [], ◌∷◌, Option, Some, None, Result, Ok, Err, length, if◌then◌else◌, min, option_map}
+use Rattle.std.specs.Prelude.{ℕ, zero, suc, ◌+◌, ◌-◌, ◌*◌, Bool, true, false, ◌||◌, ◌&&◌, not, nat_lt, nat_le, nat_eq, List, [], ◌∷◌, Option, Some, None, Result, Ok, Err, length, if◌then◌else◌, min, option_map}
 use Rattle.tla_token.specs.declared.place.Place.{Place}
 use Rattle.tla_token.specs.Places.{nowhere}
 use Rattle.tla_token.specs.declared.rule.Rule.{Rule}

@@ -1,6 +1,6 @@
 //! Laws of expressions, stated as what functions without a body ensure.
 
-ghost use Rattle.std.specs.Prelude.{◌≡◌, ◌⊎◌, ◌++◌, ℕ, ◌<◌, ◌≤◌, Bool, true, false, List, [], ◌∷◌, length, map, get_or, Some, None, Ok, Err};
+ghost use Rattle.std.specs.Prelude.{◌≡◌, ◌⊎◌, ◌++◌, ℕ, ◌+◌, ◌*◌, ◌<◌, ◌≤◌, Bool, true, false, List, [], ◌∷◌, length, map, get_or, Some, None, Ok, Err};
 ghost use Rattle.tla_expr.specs.Tree.{Word, Tree, Graft, graft};
 ghost use Rattle.tla_expr.specs.Lexical.{Token};
 ghost use Rattle.tla_expr.specs.Spelling.{Phrase, spell, tree_of, Good, IsGood, Spells, head, primary, end_list};
@@ -45,29 +45,22 @@ pub fn nothing_passes_where_reading_stops()
 {}
 
 /// And a refusal is not late: what was passed before the refused token, or before the end, can be gone on with to a whole
-/// expression, with those tokens in their columns.
+/// expression, with those tokens in their columns; and with the limit, to one that is no deeper, by at most 16 tokens for each form that may be open, and one.
 pub fn refusals_are_at_the_earliest_place()
-    ensures { (edge : ℕ) (ts passed rest : List Token) (r : Rule) → read edge ts ≡ Err (r, rest) → ts ≡ passed ++ rest → (fix : List Token) × (a : Phrase) × Good edge a × (spell a [] ≡ passed ++ fix) }
+    ensures whole { (edge : ℕ) (ts passed rest : List Token) (r : Rule) → read edge ts ≡ Err (r, rest) → ts ≡ passed ++ rest → (fix : List Token) × (a : Phrase) × Good edge a × (spell a [] ≡ passed ++ fix) }
+    ensures within { (ts passed rest : List Token) (r : Rule) → read_limited ts ≡ Err (r, rest) → ts ≡ passed ++ rest → (fix : List Token) × (a : Phrase) × IsGood a × (spell a [] ≡ passed ++ fix) × (text_nesting a ≤ deepest_expression) × (length fix ≤ 16 * deepest_expression + 1) }
 {}
 
-/// So reading stops at the first token that doesn't pass, where nothing before it is too deep; and if there is an earlier one,
-/// it is one of depth.
-pub fn reading_stops_at_the_first_token()
-    ensures read { (ts rest : List Token) (a : Phrase) → read 0 ts ≡ Ok (a, rest) → text_nesting a ≤ deepest_expression → ReadsExpression ts (length (spell a [])) (tree_of a) }
-    ensures refused { (ts passed rest : List Token) (end : Place) (q : Rule) → read 0 ts ≡ Err (q, rest) → ts ≡ passed ++ rest → Passes (phrases 0) (map Some (looks passed)) → RefusesExpression ts end (record { rule = Syntax; place = get_or (map (λ (t : Token). t.place) ts) (length passed) end }) }
-    ensures earlier_than_read { (ts rest : List Token) (a : Phrase) → read 0 ts ≡ Ok (a, rest) → (n : ℕ) (r : Rule) → StopsAt (phrases 0) (to_end ts) n r → ((n ≡ length (spell a [])) × (r ≡ Syntax)) ⊎ ((n < length (spell a [])) × (r ≡ TooDeep)) }
-    ensures earlier_than_refused { (ts passed rest : List Token) (q : Rule) → read 0 ts ≡ Err (q, rest) → ts ≡ passed ++ rest → (n : ℕ) (r : Rule) → StopsAt (phrases 0) (to_end ts) n r → ((n ≡ length passed) × (r ≡ Syntax)) ⊎ ((n < length passed) × (r ≡ TooDeep)) }
-{}
-
-/// Each token opens one form at most, so where no more tokens are passed than forms may be open, reading stops just where the grammar says.
-pub fn few_tokens_are_read_or_refused()
-    ensures read { (ts rest : List Token) (a : Phrase) → read 0 ts ≡ Ok (a, rest) → length (spell a []) ≤ deepest_expression → ReadsExpression ts (length (spell a [])) (tree_of a) }
-    ensures refused { (ts passed rest : List Token) (end : Place) (q : Rule) → read 0 ts ≡ Err (q, rest) → ts ≡ passed ++ rest → length passed ≤ deepest_expression → RefusesExpression ts end (record { rule = Syntax; place = get_or (map (λ (t : Token). t.place) ts) (length passed) end }) }
+/// The limit of open forms only refuses: what is read within it is read without, and is no deeper; and what is read without it and is no deeper is read within it.
+pub fn the_limit_only_refuses()
+    ensures within { (ts rest : List Token) (a : Phrase) → read_limited ts ≡ Ok (a, rest) → (read 0 ts ≡ Ok (a, rest)) × (text_nesting a ≤ deepest_expression) }
+    ensures fits { (ts rest : List Token) (a : Phrase) → read 0 ts ≡ Ok (a, rest) → text_nesting a ≤ deepest_expression → read_limited ts ≡ Ok (a, rest) }
 {}
 
 /// So with the limit of open forms every list of tokens is read or refused just where the grammar says: what is read is the expression there, and goes up
 /// to the first token that doesn't pass; and what is refused is refused at that token, or at the end, by the rule of that token.
 pub fn tokens_are_read_or_refused()
+    ensures one { (ts : List Token) (end : Place) → ((n : ℕ) × (t : Tree) × ReadsExpression ts n t) ⊎ ((r : Refusal) × RefusesExpression ts end r) }
     ensures read { (ts rest : List Token) (a : Phrase) → read_limited ts ≡ Ok (a, rest) → ReadsExpression ts (length (spell a [])) (tree_of a) }
     ensures refused { (ts passed rest : List Token) (end : Place) (r : Rule) → read_limited ts ≡ Err (r, rest) → ts ≡ passed ++ rest → RefusesExpression ts end (record { rule = r; place = get_or (map (λ (t : Token). t.place) ts) (length passed) end }) }
 {}
