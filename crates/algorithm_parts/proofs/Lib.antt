@@ -5,3 +5,6 @@ pub mod Whole
 pub mod Lengths
 pub mod WholeParts
 pub mod WholeSimple
+pub mod Fair
+pub mod FairParts
+pub mod FairSimple

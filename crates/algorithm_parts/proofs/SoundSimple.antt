@@ -61,7 +61,7 @@ module _ (m : Parts) (h : SoundParts m) where
   pub assignments_sound : (n : ℕ) (x : Name) → Sound (name x) GoodAssignments assignments (read_assignments m n x)
   assignments_sound zero x = sound_refuses
   assignments_sound (suc n) x =
-      sound_after (λ ts. ts) (left_if_sound n x) (λ l i. sound_bind (sound_mark tk.assigns) (λ p u. sound_bind h.expr (λ e j. sound_next (by_assignments_sound (read_assignments m n) (assignments_sound n) l i p e j))))
+      sound_after (λ ts. ts) (left_if_sound (suc n) x) (λ l i. sound_bind (sound_mark tk.assigns) (λ p u. sound_bind h.expr (λ e j. sound_next (by_assignments_sound (read_assignments m n) (assignments_sound n) l i p e j))))
 
   -- ---- a statement after its first name, and those that begin with a word
   pub named_sound : (n : ℕ) (x : Name) (p : Place) (k : TokenView) → Sound (name x) GoodSimple simple_tokens (named_by m n x p k)

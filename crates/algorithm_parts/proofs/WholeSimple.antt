@@ -14,7 +14,7 @@ use Rattle.pcal_tree.specs.GrammarParts as g
 use Rattle.algorithm_parts.specs.TokenReaders.{first, a_name, Parts}
 use Rattle.algorithm_parts.specs.ReadSimple.{arguments_by, read_arguments, left_by, read_left, assignments_by, read_assignments, named_by}
 use Rattle.algorithm_parts.proofs.SoundSimple.{IsLeft}
-use Rattle.algorithm_parts.proofs.Whole.{Fits, less, then_is, is_after, after_calm, WholeParts}
+use Rattle.algorithm_parts.proofs.Whole.{Fits, smaller, less, then_is, is_after, after_calm, WholeParts}
 use Rattle.algorithm_parts.proofs.Lengths.{grow_phrase, grow_assignments}
 use Rattle.tla_expr.proofs.Steps.{few_all}
 
@@ -115,7 +115,7 @@ module _ (m : ℕ) (r : Parts) (h : WholeParts m r) where
       (let us = mark p tk.assigns (spell e ts) in
       let same = ap length (root_tokens l i.0 us) in
       rw (root_right l i.0 i.1)
-      (then_is _ (left_whole l (i.0, i.1) us (Ok (l, us)) (left_stops l p (spell e ts)) n (less (omega (arith, same)) f))
+      (then_is _ (left_whole l (i.0, i.1) us (Ok (l, us)) (left_stops l p (spell e ts)) (suc n) (smaller (omega (arith, same)) f))
       (then_is _ (h.expr e i.2 ts (after_calm (first ts).kind d) (omega (arith, f.all, grow_phrase l us))) (by (first ts).place (first ts).kind d))))
     where
       by : (q : Place) (k : TokenView) → is_after k ≡ true → assignments_by (read_assignments r n) l p e q k ts ≡ Ok (last_assignment l p e, ts)
@@ -127,7 +127,7 @@ module _ (m : ℕ) (r : Parts) (h : WholeParts m r) where
       let us = mark p tk.assigns (spell e (mark q tk.beside all)) in
       let same = ap length (root_tokens l i.0 us) in
       rw (root_right l i.0 i.1)
-      (then_is _ (left_whole l (i.0, i.1) us (Ok (l, us)) (left_stops l p (spell e (mark q tk.beside all))) n (less (omega (arith, same)) f))
+      (then_is _ (left_whole l (i.0, i.1) us (Ok (l, us)) (left_stops l p (spell e (mark q tk.beside all))) (suc n) (smaller (omega (arith, same)) f))
       (then_is _ (h.expr e i.2 (mark q tk.beside all) refl (omega (arith, f.all, grow_phrase l us)))
       (another (assignments_whole n ms i.3 ts d (less (omega (arith, grow_phrase l us, grow_phrase e (mark q tk.beside all))) f))))))
     where

@@ -42,7 +42,7 @@ assignments_by r l p e q k = gives (last_assignment l p e)
 
 abbrev pub read_assignments : Parts → ℕ → Name → Reader Assignments
 read_assignments m zero x = refuses
-read_assignments m (suc n) x = left_if (nat_lt 0 x.place.col) m n x >>= λ l. a_mark tk.assigns >>= λ p. m.expr >>= λ e. by_next (assignments_by (read_assignments m n) l p e)
+read_assignments m (suc n) x = left_if (nat_lt 0 x.place.col) m (suc n) x >>= λ l. a_mark tk.assigns >>= λ p. m.expr >>= λ e. by_next (assignments_by (read_assignments m n) l p e)
 
 -- ---- a statement after its first name, and those that begin with a word
 abbrev pub named_by : Parts → ℕ → Name → Place → TokenView → Reader Simple

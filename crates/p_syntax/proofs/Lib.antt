@@ -3,3 +3,5 @@ pub mod SoundStatements
 pub mod SoundAlgorithm
 pub mod WholeStatements
 pub mod WholeAlgorithm
+pub mod FairStatements
+pub mod FairAlgorithm

@@ -330,6 +330,9 @@ spelled_is_read x i =
     let m = length ts in
     then_is _ (text_whole m (parts_of (readers (4 * m) None)) (parts_whole m) (suc m) x i x.around refl (record { list = omega arith; all = omega arith })) refl)
 
+pub text_read : (x : Text) → Good p_syntax x → (ts : List Token) → gr.spell x [] ≡ ts → read_algorithm ts ≡ Ok (x, [])
+text_read x i ts e = ap read_algorithm (sym e) ∙ spelled_is_read x i
+
 text_of : Text → Out Text → Text
 text_of d (Ok x) = x.0
 text_of d (Err u) = d

@@ -1,8 +1,9 @@
 //! Laws of reading algorithms in P-syntax, stated as what functions without a body ensure.
 
-ghost use Rattle.std.specs.Prelude.{◌≡◌, List, [], Ok};
+ghost use Rattle.std.specs.Prelude.{◌≡◌, ◌++◌, List, [], ◌∷◌, Ok, Err};
 ghost use Rattle.tla_expr.specs.Lexical.{Token};
 ghost use Rattle.tla_token.specs.Tokens as text;
+ghost use Rattle.tla_token.specs.declared.rule.Rule.{Rule};
 ghost use Rattle.pcal_tree.specs.Algorithm.{Algorithm};
 ghost use Rattle.pcal_tree.specs.Grammar.{p_syntax, Text, Good, spell, SpellsP};
 ghost use Rattle.p_syntax.specs.ReadAlgorithm.{read_algorithm};
@@ -21,4 +22,11 @@ pub fn what_is_spelled_is_read()
 pub fn tokens_spell_one_algorithm()
     ensures phrase { (x y : Text) → Good p_syntax x → Good p_syntax y → spell x [] ≡ spell y [] → x ≡ y }
     ensures tree { (ts : List text.Token) (a b : Algorithm) → SpellsP ts a → SpellsP ts b → a ≡ b }
+{}
+
+/// A refusal is not early: no algorithm begins with the tokens through the refused one, whatever comes after them; and what is
+/// refused, at a token or at the end, is no algorithm.
+pub fn nothing_passes_where_reading_stops()
+    ensures refused { (ts : List Token) (t : Token) (rest : List Token) (r : Rule) → read_algorithm ts ≡ Err (r, t ∷ rest) → (passed : List Token) → ts ≡ passed ++ t ∷ rest → (x : Text) → Good p_syntax x → (more : List Token) → spell x [] ≡ passed ++ t ∷ more → ⊥ }
+    ensures unspelled { (ts rest : List Token) (r : Rule) → read_algorithm ts ≡ Err (r, rest) → (x : Text) → Good p_syntax x → ts ≡ spell x [] → ⊥ }
 {}
