@@ -1,12 +1,14 @@
 //! The commands of `pcal`: their words, their answers, and what each answer means.
 #![tactic(auto)]
 
+mod error_line;
 mod form;
 mod names;
 mod program;
 mod region;
 mod status;
 mod top;
+mod translated;
 
 pub use program::run;
 pub use status::{Status, number};
