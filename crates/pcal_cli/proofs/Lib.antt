@@ -1,6 +1,7 @@
 pub mod Scanning
 pub mod Steps
 pub mod Stretches
+pub mod FormTokens
 pub mod FormScanned
 pub mod Runs
 pub mod Ends

@@ -5,3 +5,4 @@ pub mod FirstPathBytes
 pub mod FirstPathScan
 pub mod Refusals
 pub mod Checked
+pub mod FormTokens

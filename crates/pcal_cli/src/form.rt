@@ -16,7 +16,7 @@ use crate::names::{is_own, is_reserved, is_standard};
 use tla_token::Sign;
 
 /// The least number past those of the form.
-const PAST_NUMBERS: u128 = 1 << 127;
+pub const PAST_NUMBERS: u128 = 1 << 127;
 
 /// A number, or the algorithm's variable.
 #[derive(Clone, Copy, PartialEq, Eq, Debug)]
@@ -332,7 +332,7 @@ fn is_small_right(right: Right) -> bool
 }
 
 /// Whether the names may be where they are, and no number is past those of the form.
-fn is_fit(form: &Form<'_>) -> bool
+pub fn is_fit(form: &Form<'_>) -> bool
     ensures { result ≡ is_fit_of (parts_of form.now) }
 {
     is_name(form.title)

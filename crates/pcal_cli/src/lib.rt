@@ -3,6 +3,7 @@
 
 mod error_line;
 mod form;
+mod form_read;
 mod names;
 mod program;
 mod region;
