@@ -14,6 +14,7 @@ mod RowsProcesses
 mod RowsOutside
 mod RowsReading
 mod RowsFiles
+mod RowsInMemory
 pub mod WalkLines
 pub mod WalkWhole
 pub mod WalkResumed
@@ -31,3 +32,11 @@ pub mod AlgorithmTokens
 pub mod AlgorithmFound
 pub mod AlgorithmIsCut
 pub mod AlgorithmSame
+pub mod ItemEquations
+pub mod Below
+pub mod Heights
+pub mod Regrouped
+pub mod OneMore
+pub mod LayoutParts
+pub mod SpotWithin
+pub mod InMemoryGrown

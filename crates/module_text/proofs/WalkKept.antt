@@ -113,7 +113,7 @@ commented (d ∷ ds) t e b = by (holds_algorithm d) refl (commented ds)
 
 -- ---- the newline after it
 
-newline_is : (d : Located) → is_newline d ≡ true → d.is ≡ newline_segment
+pub newline_is : (d : Located) → is_newline d ≡ true → d.is ≡ newline_segment
 newline_is d h = by d.is refl
   where
     by : (g : Segment) → d.is ≡ g → d.is ≡ newline_segment

@@ -12,6 +12,9 @@ pub mod FileParts
 pub mod AlgorithmText
 pub mod FileUnits
 pub mod FileOffences
+pub mod Splitting
+pub mod InMemory
+pub mod Apart
 pub mod WithTranslation
 pub mod Around
 pub mod ActionTruth
