@@ -5,8 +5,8 @@ pub mod FormTokens
 pub mod FormScanned
 pub mod Runs
 pub mod Ends
-pub mod WrittenBytes
 pub mod ErrorLine
 pub mod Numbers
 pub mod Told
 pub mod RowsRefusals
+pub mod RegionMade

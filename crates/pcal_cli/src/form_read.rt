@@ -3,7 +3,7 @@
 ghost use Rattle.std.specs.Prelude.{◌≡◌, ◌∷◌, [], Some, None, MatchOption, true};
 ghost use Rattle.tla_token.specs.Lexemes.{number_of};
 ghost use Rattle.tla_token.specs.TokensSeen.{kind_seen};
-ghost use Rattle.pcal_cli.specs.FirstPathBytes.{operand_of, right_of, parts_of};
+ghost use Rattle.pcal_cli.specs.FormSeen.{operand_of, right_of, parts_of};
 ghost use Rattle.pcal_cli.specs.FormTokens.{capped, capped_kind, kinds_ahead, kinds_seen, is_mark, name_in, number_in, after_word as after_word_of, after_sign as after_sign_of, operand_in, right_in};
 ghost use Rattle.pcal_cli.specs.FormTokens.{after_declares as after_declares_of, declaration_in, statement_in, algorithm_in};
 
