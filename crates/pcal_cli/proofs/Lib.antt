@@ -1,11 +1,12 @@
 pub mod Scanning
 pub mod Steps
 pub mod Stretches
+pub mod FormTokens
 pub mod FormScanned
 pub mod Runs
 pub mod Ends
-pub mod WrittenBytes
 pub mod ErrorLine
 pub mod Numbers
 pub mod Told
 pub mod RowsRefusals
+pub mod RegionMade

@@ -1,7 +1,9 @@
 pub mod Words
 pub mod Answers
 pub mod Causes
-pub mod FirstPathBytes
+pub mod FormSeen
 pub mod FirstPathScan
 pub mod Refusals
 pub mod Checked
+pub mod FormTokens
+pub mod Built

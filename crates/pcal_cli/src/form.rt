@@ -6,7 +6,7 @@ ghost use Rattle.tla_token.specs.Lexemes.{is_letter as is_letter_of, is_digit as
 ghost use Rattle.tla_token.specs.Cut.{run};
 ghost use Rattle.first_path.specs.Form.{is_name as is_name_of, is_free as is_free_of, is_small_operand, is_small_right as is_small_right_of, is_fit as is_fit_of};
 ghost use Rattle.first_path.specs.FormRead.{gap_skipped, begins_blank as begins_blank_of, past as past_of, before as before_of, ends_with_line as ends_with_line_of, form_of};
-ghost use Rattle.pcal_cli.specs.FirstPathBytes.{operand_of, right_of, parts_of};
+ghost use Rattle.pcal_cli.specs.FormSeen.{operand_of, right_of, parts_of};
 ghost use Rattle.pcal_cli.specs.FirstPathScan.{kind_of, capped, is_mark, as_sign, mark_at, token_at as token_at_of, next_of, past_sign as past_sign_of};
 ghost use Rattle.pcal_cli.specs.FirstPathScan.{name_at as name_at_of, number_at as number_at_of, past_word as past_word_of, operand_at as operand_at_of};
 ghost use Rattle.pcal_cli.specs.FirstPathScan.{right_at as right_at_of, declaration_at as declaration_at_of, statement_at as statement_at_of};
@@ -16,7 +16,7 @@ use crate::names::{is_own, is_reserved, is_standard};
 use tla_token::Sign;
 
 /// The least number past those of the form.
-const PAST_NUMBERS: u128 = 1 << 127;
+pub const PAST_NUMBERS: u128 = 1 << 127;
 
 /// A number, or the algorithm's variable.
 #[derive(Clone, Copy, PartialEq, Eq, Debug)]
@@ -332,7 +332,7 @@ fn is_small_right(right: Right) -> bool
 }
 
 /// Whether the names may be where they are, and no number is past those of the form.
-fn is_fit(form: &Form<'_>) -> bool
+pub fn is_fit(form: &Form<'_>) -> bool
     ensures { result ≡ is_fit_of (parts_of form.now) }
 {
     is_name(form.title)

@@ -2,7 +2,7 @@
 use Rattle.std.proofs.Common.{rules, ◌≡◌, Option, Some, None, MatchOption, subst, sym, ◌∙◌}
 use Rattle.first_path.specs.Form.{Parts}
 use Rattle.pcal_cli.specs.declared.form.Form.{Form}
-use Rattle.pcal_cli.specs.FirstPathBytes.{parts_of}
+use Rattle.pcal_cli.specs.FormSeen.{parts_of}
 use Rattle.pcal_cli.proofs.FormScanned.{form_scanned}
 use Rattle.pcal_cli.proofs.form.read_form.Goals as goal
 

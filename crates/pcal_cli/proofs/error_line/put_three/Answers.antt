@@ -2,7 +2,7 @@
 use Rattle.std.proofs.Common.{append_assoc}
 use Rattle.std.proofs.lemmas.Result.{err_from_is_err_and}
 use Rattle.pcal_cli.proofs.ErrorLine.{part_two, part_three}
-use Rattle.pcal_cli.proofs.top.put_three.Goals as goal
+use Rattle.pcal_cli.proofs.error_line.put_three.Goals as goal
 
 pub returns-in_err-put_all-2-clause-err : goal.returns-in_err-put_all-2-clause-err
 returns-in_err-put_all-2-clause-err g c =
