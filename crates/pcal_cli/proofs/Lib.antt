@@ -1,12 +1,8 @@
-pub mod Scanning
-pub mod Steps
-pub mod Stretches
 pub mod FormTokens
-pub mod FormScanned
-pub mod Runs
-pub mod Ends
 pub mod ErrorLine
 pub mod Numbers
 pub mod Told
 pub mod RowsRefusals
 pub mod RegionMade
+pub mod OutsideTokens
+pub mod Capped

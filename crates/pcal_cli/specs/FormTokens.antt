@@ -9,7 +9,7 @@ use Rattle.tla_token.specs.TokensSeen.{kind_seen}
 use Rattle.tla_expr.specs.Tree.{Word}
 use Rattle.first_path.specs.Form.{Operand, Right, single, sum, Parts}
 use Rattle.first_path.specs.FormRead.{on_some, if_so, on_name, on_number, on_word, on_equal, on_semicolon, on_colon, on_assign, on_operand, on_end, declares, fit}
-use Rattle.pcal_cli.specs.declared.form_read.Rest.{Rest}
+use Rattle.pcal_cli.specs.declared.rest.Rest.{Rest}
 
 -- all numbers that are too big are read as the least of them
 abbrev pub capped : ℕ → ℕ

@@ -2,8 +2,8 @@ pub mod Words
 pub mod Answers
 pub mod Causes
 pub mod FormSeen
-pub mod FirstPathScan
 pub mod Refusals
 pub mod Checked
 pub mod FormTokens
+pub mod OutsideTokens
 pub mod Built

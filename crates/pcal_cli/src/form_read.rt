@@ -8,15 +8,9 @@ ghost use Rattle.pcal_cli.specs.FormTokens.{capped, capped_kind, kinds_ahead, ki
 ghost use Rattle.pcal_cli.specs.FormTokens.{after_declares as after_declares_of, declaration_in, statement_in, algorithm_in};
 
 use crate::form::{Form, Operand, PAST_NUMBERS, Right, is_fit};
+use crate::rest::Rest;
 use tla_token::bytes::number_value;
-use tla_token::{Kind, Sign, Token, Tokens};
-
-/// Tokens that are still to be read, with all those that they are among.
-#[derive(Clone, Copy)]
-struct Rest<'a> {
-    tokens: &'a Tokens,
-    items: &'a [Token],
-}
+use tla_token::{Kind, Sign, Tokens};
 
 /// The next token, and what comes after it.
 fn next(rest: Rest<'_>) -> Option<(Kind, Rest<'_>)>
