@@ -78,3 +78,8 @@ pub mod StandSteps
 pub mod Comments
 pub mod Gaps
 pub mod SplitParts
+pub mod Titles
+pub mod SplitTitle
+pub mod SplitWhole
+pub mod SplitTokens
+pub mod SplitMade

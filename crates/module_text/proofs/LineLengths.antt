@@ -20,12 +20,12 @@ run_within p t =
     let e : length t ≡ length (run p t) + length s.0 = ap length s.1 ∙ length-append (run p t) s.0 in
     omega arith
 
-run_taken : (p : ℕ → Bool) (t : Text) (n : ℕ) → n ≡ length (run p t) → take n t ≡ run p t
+pub run_taken : (p : ℕ → Bool) (t : Text) (n : ℕ) → n ≡ length (run p t) → take n t ≡ run p t
 run_taken p t n e =
     let s = run_splits p t in
     ap (λ (m : ℕ). take m t) e ∙ ap (take (length (run p t))) s.1 ∙ take-append_seam (run p t) s.0
 
-past_len : (p : ℕ → Bool) (t : Text) → drop (length (run p t)) t ≡ past_all p t
+pub past_len : (p : ℕ → Bool) (t : Text) → drop (length (run p t)) t ≡ past_all p t
 past_len p [] = refl
 past_len p (b ∷ s) = by (p b) refl (past_len p s)
   where

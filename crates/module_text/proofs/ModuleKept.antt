@@ -91,6 +91,16 @@ found_so q (c ∷ ds) d e = by (q c.is) refl (found_so q ds d)
     by true k deeper = (let f : c ≡ d = same_Some c d (rw k at e) in ap (λ (d : Located). q d.is) (sym f) ∙ k)
     by false k deeper = (let f : first_that q ds ≡ Some d = rw k at e in deeper f)
 
+-- the header has a name
+pub named : (x : Text) (d : Located) → first_that is_header_line (walk x) ≡ Some d → is_some (header_title (bytes d.is)) ≡ true
+named x d f =
+    let is_line : Located → Bool = λ d. is_header_line d.is in
+    let m = met (before_first is_line (walk x)) d (after_first is_line (walk x)) at_start x (before_whole is_line (walk x) d f) in
+    let g = segment_at (after_all at_start (before_first is_line (walk x))) m.b m.s in
+    let same : g ≡ d.is = ap (λ (d : Located). d.is) m.is in
+    let yes : is_header_line g ≡ true = ap is_header_line same ∙ found_so is_header_line (walk x) d f in
+    ap (λ (g : Segment). is_some (header_title (bytes g))) (sym same) ∙ header_found (after_all at_start (before_first is_line (walk x))) m.b m.s yes
+
 some_title : (x : Text) → HasPlace x → (n : Word) × (title (walk x) ≡ Some n)
 some_title x h = on (first_that is_header_line (walk x)) refl
   where
@@ -99,18 +109,9 @@ some_title x h = on (first_that is_header_line (walk x)) refl
         let has = headed_title at_start h.front refl h.opened.0 in
         ap (λ (ds : List Located). is_some (first_that is_header_line ds)) h.whole ∙ ap (λ (o : Option Located). is_some o) (first_kept is_header_line h.front h.rest has) ∙ has
 
-    named : (d : Located) → first_that is_header_line (walk x) ≡ Some d → is_some (header_title (bytes d.is)) ≡ true
-    named d f =
-        let is_line : Located → Bool = λ d. is_header_line d.is in
-        let m = met (before_first is_line (walk x)) d (after_first is_line (walk x)) at_start x (before_whole is_line (walk x) d f) in
-        let g = segment_at (after_all at_start (before_first is_line (walk x))) m.b m.s in
-        let same : g ≡ d.is = ap (λ (d : Located). d.is) m.is in
-        let yes : is_header_line g ≡ true = ap is_header_line same ∙ found_so is_header_line (walk x) d f in
-        ap (λ (g : Segment). is_some (header_title (bytes g))) (sym same) ∙ header_found (after_all at_start (before_first is_line (walk x))) m.b m.s yes
-
     told : (d : Located) → first_that is_header_line (walk x) ≡ Some d → (o : Option Word) → header_title (bytes d.is) ≡ o → (n : Word) × (title (walk x) ≡ Some n)
     told d f (Some n) o = (n, rw f o)
-    told d f None o = (let g = named d f in let e : false ≡ true = rw o at g in absurd cc)
+    told d f None o = (let g = named x d f in let e : false ≡ true = rw o at g in absurd cc)
 
     on : (o : Option Located) → first_that is_header_line (walk x) ≡ o → (n : Word) × (title (walk x) ≡ Some n)
     on None f = (let e : false ≡ true = rw f at there in absurd cc)

@@ -79,7 +79,7 @@ pub record Commented (ds : List Located) : Type 0 where
   pub ends : has_tail (after_comment ds) ≡ true
   pub parts : list_any (λ d. is_part d.is) (up_to_first holds_algorithm ds) ≡ true
 
-commented : (ds : List Located) → tails_last ds ≡ true → has_tail ds ≡ true → (beginnings ds ≡ [] → ⊥) → Commented ds
+pub commented : (ds : List Located) → tails_last ds ≡ true → has_tail ds ≡ true → (beginnings ds ≡ [] → ⊥) → Commented ds
 commented [] t e b = absurd (b refl)
 commented (d ∷ ds) t e b = by (holds_algorithm d) refl (commented ds)
   where
@@ -482,15 +482,17 @@ has_place x f = by (region_of (walk x)) refl
     by (Some old) e = old_place x (sound_file x f) old e
 
 -- where a translation goes
-pub has_spot : (x : Text) → IsFine x → (at : Span) × (spot (walk x) ≡ Some at)
-has_spot x f = by (region_of (walk x)) refl
+pub spot_of : (x : Text) → Sound x → (at : Span) × (spot (walk x) ≡ Some at)
+spot_of x s = by (region_of (walk x)) refl
   where
     by : (o : Option Located) → region_of (walk x) ≡ o → (at : Span) × (spot (walk x) ≡ Some at)
     by None e =
-        let s = sound_file x f in
         let comment = commented (walk x) (walk_tails x) s.ends s.begun in
         let rest = rest_of_line (after_comment (walk x)) in
         let placed : rest ++ no_unit (after_first is_newline (after_comment (walk x))) ≡ [] = (let p = s.placed in rw e at p) in
         let line = line_ends (after_comment (walk x)) (both_empty rest (no_unit (after_first is_newline (after_comment (walk x)))) placed).0 comment.ends in
         (record { from = line.end.at + 1; to = line.end.at + 1 }, rw (e, line.found) refl)
     by (Some old) e = (span_of old, rw e refl)
+
+pub has_spot : (x : Text) → IsFine x → (at : Span) × (spot (walk x) ≡ Some at)
+has_spot x f = spot_of x (sound_file x f)

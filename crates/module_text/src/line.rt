@@ -1,11 +1,14 @@
 //! The lines of a file that say where its module and its translation begin and end, and how long a line is.
 
-ghost use Rattle.std.specs.Prelude.{◌≡◌, ◌<◌, ◌≤◌, length, not, nat_eq, Some, None, MatchOption, codes, is_some, false};
+ghost use Rattle.std.specs.Prelude.{◌≡◌, ◌<◌, ◌≤◌, length, not, nat_eq, Some, None, MatchOption, ◌++◌, codes, is_some, false, IfSome};
+ghost use Rattle.tla_token.specs.Lexemes.{is_word};
+ghost use Rattle.tla_token.specs.Tokens.{stretch};
 ghost use Rattle.tla_token.specs.Cut.{run};
-ghost use Rattle.module_text.specs.TextFront.{is_space, past_all, past_word, on_some, past_blanks, past_run, past_name, ends_line, whole_line};
+ghost use Rattle.module_text.specs.TextFront.{Text, is_space, past_all, past_word, on_some, past_blanks, past_run, past_name, ends_line, whole_line};
 ghost use Rattle.module_text.specs.HeaderAndRegion.{header_title, is_header, is_begin, is_end};
 ghost use Rattle.module_text.specs.Walking.{end_at};
 
+use tla_token::Span;
 use tla_token::bytes::{has_letter, is_blank, line_len, word_len};
 
 // ---- the front of a line
@@ -91,8 +94,22 @@ fn ends_line(text: &[u8]) -> bool
 // ---- lines
 
 /// The name in a line `---- MODULE Name ----`, where one is in front.
-pub fn header_title(text: &[u8]) -> Option<&[u8]>
-    ensures { MatchOption result (header_title text.now ≡ None) (λ w. header_title text.now ≡ Some w.now) }
+pub fn title_span(text: &[u8]) -> Option<Span>
+    ensures title { MatchOption result (header_title text.now ≡ None) (λ s. header_title text.now ≡ Some (stretch text.now s.from s.to)) }
+    ensures within { IfSome result (λ s. s.to ≤ length text.now) }
+{
+    let named = named_at(text)?;
+    let from = text.len() - named.len();
+    Some(Span {
+        from,
+        to: from + word_len(named),
+    })
+}
+
+// What begins with the name in such a line.
+fn named_at(text: &[u8]) -> Option<&[u8]>
+    ensures title { MatchOption result (header_title text.now ≡ None) (λ n. header_title text.now ≡ Some (run is_word n.now)) }
+    ensures end { IfSome result (λ n. (front : Text) × (text.now ≡ front ++ n.now)) }
 {
     let rest = past_dashes(past_spaces(text))?;
     let rest = past_word(past_spaces(rest), b"MODULE")?;
@@ -100,7 +117,7 @@ pub fn header_title(text: &[u8]) -> Option<&[u8]>
     let rest = past_name(named)?;
     let rest = past_dashes(past_spaces(rest))?;
     if ends_line(past_spaces(rest)) {
-        Some(&named[..word_len(named)])
+        Some(named)
     } else {
         None
     }
@@ -110,7 +127,7 @@ pub fn header_title(text: &[u8]) -> Option<&[u8]>
 pub fn is_header(text: &[u8]) -> bool
     ensures { result ≡ is_header text.now }
 {
-    header_title(text).is_some()
+    named_at(text).is_some()
 }
 
 // Whether `\*` and these words are in front, and anything after them.

@@ -1,6 +1,6 @@
 //! A module's text in its parts, or the rule that counts of those that it breaks.
 
-ghost use Rattle.std.specs.Prelude.{◌≡◌, ℕ, Bool, List, ◌+◌, ◌≤◌, ◌<◌, ◌^◌, ◌++◌, [], length, take, drop, not, map, Some, Err, IfOk, IfSome, All, filter, option_map, slice_index_or, slice_get, find, unwrap_or, false};
+ghost use Rattle.std.specs.Prelude.{◌≡◌, ℕ, Bool, List, ◌+◌, ◌≤◌, ◌<◌, ◌^◌, ◌++◌, [], length, take, drop, not, map, Some, Err, IfOk, IfSome, All, filter, option_map, is_some, true, slice_index_or, slice_get, find, unwrap_or, false};
 ghost use Rattle.std.specs.List.{position_or_len, flat_map};
 ghost use Rattle.tla_token.specs.declared.rule.Refusal as refusals;
 ghost use Rattle.tla_token.specs.Places.{place_at};
@@ -9,23 +9,28 @@ ghost use Rattle.tla_token.specs.Offences.{least};
 ghost use Rattle.tla_token.specs.TokensSeen.{token_seen, tokens_seen};
 ghost use Rattle.module_text.specs.Walk.{Located, walk};
 ghost use Rattle.module_text.specs.StandsSeen.{segment_seen, located_seen, stands_seen, IsSolid};
+ghost use Rattle.module_text.specs.HeaderAndRegion.{header_title};
 ghost use Rattle.module_text.specs.FileParts as pure;
 ghost use Rattle.module_text.specs.FileParts.{beginnings_in, first_of, holds_algorithm};
 ghost use Rattle.module_text.specs.AlgorithmText.{algorithm_of};
 ghost use Rattle.module_text.specs.FileOffences.{algorithm_offences, placements, outside_region, options_in, second_algorithms};
-ghost use Rattle.module_text.specs.Splitting.{is_splitting, splitting_offences};
+ghost use Rattle.module_text.specs.Splitting.{is_splitting, splitting_offences, RefusesSplit, Splits};
 ghost use Rattle.module_text.specs.SplitSeen.{is_header_stand, is_region_stand, is_tail_stand, plain_token, plain_tokens, after_newline, IsInner, IsAlgorithm, IsGap};
 
-use crate::algorithm::{Inside, algorithm_at};
+use crate::algorithm::{Inside, algorithm_at, is_c};
 use crate::beginning::{add_beginnings, first_beginning, options_fault};
+use crate::line::title_span;
 use crate::offence::{
-    is_newline, line_fault, missing_fault, module_fault, second_fault, stands_fault, unit_fault,
+    bytes_of, is_newline, line_fault, missing_fault, module_fault, second_fault, stands_fault,
+    unit_fault,
 };
+use crate::parts::Parts;
 use crate::stand::{Shape, Stand};
+use crate::walk::walk;
 use std::alloc::{AllocError, Global};
 use tla_token::fault::sooner;
 use tla_token::token::kind_at;
-use tla_token::{Class, Part, Place, Rule, Span, Token, Tokens};
+use tla_token::{Class, Part, Place, Refusal, Rule, Span, Stop, Token, Tokens, place_of};
 
 // ---- comments
 
@@ -466,5 +471,110 @@ fn inside_fault(found: Option<Algorithm>) -> Option<(Rule, usize)>
     match found {
         Some(algorithm) => algorithm.inside.fault,
         None => None,
+    }
+}
+
+// ---- the parts
+
+// The module's name, which its header has.
+fn title_of(text: &[u8], stands: &[Stand]) -> Span
+    requires solid { All (IsSolid text.now) stands.now }
+    requires titled { is_some (pure.title (stands_seen text.now stands.now)) ≡ true }
+    ensures { pure.title (stands_seen text.now stands.now) ≡ Some (stretch text.now result.from result.to) }
+{
+    match header(stands) {
+        Some(line) => name_in(text, line),
+        None => unreachable!(),
+    }
+}
+
+// The name in a header.
+fn name_in(text: &[u8], line: Stand) -> Span
+    requires solid { IsSolid text.now line }
+    requires named { is_some (header_title (stretch text.now line.at (line.at + line.len))) ≡ true }
+    ensures { header_title (stretch text.now line.at (line.at + line.len)) ≡ Some (stretch text.now result.from result.to) }
+{
+    match title_span(bytes_of(text, line)) {
+        Some(name) => Span {
+            from: line.at + name.from,
+            to: line.at + name.to,
+        },
+        None => unreachable!(),
+    }
+}
+
+// The parts of a file that breaks none of the rules.
+fn parts_of<'a>(
+    alloc: Global,
+    text: &'a [u8],
+    stands: &[Stand],
+    gap: Gap,
+    found: Option<Algorithm>,
+) -> Result<Parts<'a>, AllocError>
+    requires solid { All (IsSolid text.now) stands.now }
+    requires small { length text.now < 2 ^ 29 }
+    requires walk { stands_seen text.now stands.now ≡ walk text.now }
+    requires fine { splitting_offences text.now ≡ [] }
+    requires gap { IsGap text.now stands.now gap }
+    requires found { (marks : List Bool) × IsAlgorithm text.now (stands_seen text.now stands.now) marks found }
+    ensures { IfOk result (λ p. Splits text.now p) }
+{
+    let Some(spot) = gap.spot else { unreachable!() };
+    let Some(algorithm) = found else {
+        unreachable!()
+    };
+    let spot_place = place_near(text, spot.from);
+    let end_place = place_near(text, end_index(text, stands));
+    Ok(Parts {
+        text,
+        title: title_of(text, stands),
+        spot,
+        is_new: gap.is_new,
+        algorithm: Span {
+            from: algorithm.from,
+            to: algorithm.inside.at,
+        },
+        is_c: is_c(algorithm.inside.stage),
+        before: tokens_among(alloc, text, gap.before, gap.line, spot_place)?,
+        after: tokens_among(alloc, text, gap.after, &[], end_place)?,
+    })
+}
+
+// The place of a byte, or of the text's end for all behind it.
+#[tactic(auto, using(tla_token::proofs::Scans::place_beyond))]
+fn place_near(text: &[u8], at: usize) -> Place
+    requires { length text.now < 2 ^ 29 }
+    ensures { result ≡ place_at text.now at }
+{
+    if at < text.len() {
+        place_of(text, at)
+    } else {
+        place_of(text, text.len())
+    }
+}
+
+/// A module's text in its parts.
+///
+/// # Errors
+///
+/// The least of the rules 1 to 10 that the file breaks, at its first place; or want of memory.
+pub fn split(alloc: Global, text: &[u8]) -> Result<Parts<'_>, Stop>
+    requires small { length text.now < 2 ^ 29 }
+    ensures parts { IfOk result (λ p. Splits text.now p) }
+    ensures fine { IfOk result (λ p. splitting_offences text.now ≡ []) }
+    ensures refused { (r : refusals.Refusal) → result ≡ Err (Stop.Refused r) → RefusesSplit text.now r }
+{
+    let stands = walk(alloc, text)?;
+    let comment = holder(text, &stands);
+    let gap = gap_of(text, &stands, comment);
+    let starts = beginnings(alloc, text, &stands)?;
+    let mut marks = vec![in alloc; false; text.len()]?;
+    let found = find_algorithm(text, &stands, comment, &mut marks);
+    match file_fault(text, &stands, comment, gap, found, &starts, &marks) {
+        Some((rule, at)) => Err(Stop::Refused(Refusal {
+            rule,
+            place: place_near(text, at),
+        })),
+        None => Ok(parts_of(alloc, text, &stands, gap, found)?),
     }
 }
