@@ -33,14 +33,14 @@ Free os = list_all is_splitting os ≡ true
 abbrev Spared : List Offence → Type 0
 Spared os = filter is_splitting os ≡ []
 
-none_left : (os : List Offence) → Free os → Spared os → os ≡ []
+pub none_left : (os : List Offence) → Free os → Spared os → os ≡ []
 none_left [] h e = refl
 none_left (o ∷ os) h e =
     let k = and_parts (is_splitting o) (list_all is_splitting os) h in
     let f : o ∷ filter is_splitting os ≡ [] = ap (λ (b : Bool). cond b (o ∷ filter is_splitting os) (filter is_splitting os)) (sym k.0) ∙ e in
     absurd cc
 
-spared_both : (os ps : List Offence) → Spared (os ++ ps) → Spared os × Spared ps
+pub spared_both : (os ps : List Offence) → Spared (os ++ ps) → Spared os × Spared ps
 spared_both [] ps e = (refl, e)
 spared_both (o ∷ os) ps e = by (is_splitting o) refl (spared_both os ps)
   where
@@ -93,7 +93,7 @@ segment_free : (at : ℕ) (g : Segment) → Free (segment_offences at g)
 segment_free at (part p) = part_free at p
 segment_free at g = refl
 
-segments_free : (ds : List Located) → Free (offences_of ds)
+pub segments_free : (ds : List Located) → Free (offences_of ds)
 segments_free [] = refl
 segments_free (d ∷ ds) = all_more is_splitting (segment_offences d.at d.is) (offences_of ds) (segment_free d.at d.is) (segments_free ds)
 

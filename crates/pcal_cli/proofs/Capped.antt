@@ -89,10 +89,10 @@ fit_capped m a v n l e = by (is_small n) refl (is_small_right e) refl
 
 -- ---- tokens, one after the other
 
-name_capped : {A : Type 0} (f : Word → List Kind → Option A) (ks : List Kind) → ((w : Word) (r : List Kind) → f w (caps r) ≡ f w r) → on_name (caps ks) f ≡ on_name ks f
-name_capped f [] h = refl
-name_capped f (name w ∷ ks) h = h w ks
-name_capped f (k ∷ ks) h = refl
+name_capped : {A : Type 0} (f g : Word → List Kind → Option A) (ks : List Kind) → ((w : Word) (r : List Kind) → f w (caps r) ≡ g w r) → on_name (caps ks) f ≡ on_name ks g
+name_capped f g [] h = refl
+name_capped f g (name w ∷ ks) h = h w ks
+name_capped f g (k ∷ ks) h = refl
 
 number_capped : {A : Type 0} (f g : ℕ → List Kind → Option A) (ks : List Kind) → ((n : ℕ) (r : List Kind) → f (capped n) (caps r) ≡ g n r) → on_number (caps ks) f ≡ on_number ks g
 number_capped f g [] h = refl
@@ -148,9 +148,9 @@ end_capped (k ∷ ks) o p e = refl
 
 pub parts_capped : (m : Word) (ks : List Kind) → parts_in m (caps ks) ≡ parts_in m ks
 parts_capped m ks =
-    name_capped _ ks (λ a ks. name_capped _ ks (λ w ks. if_alike (declares w) _ _ (
-    name_capped _ ks (λ v ks. equal_capped _ _ ks (λ ks. number_capped _ _ ks (λ n ks. semicolon_capped _ _ ks (λ ks.
-    word_capped (codes "begin") _ _ ks (λ ks. name_capped _ ks (λ l ks. colon_capped _ _ ks (λ ks.
+    name_capped _ _ ks (λ a ks. name_capped _ _ ks (λ w ks. if_alike (declares w) _ _ (
+    name_capped _ _ ks (λ v ks. equal_capped _ _ ks (λ ks. number_capped _ _ ks (λ n ks. semicolon_capped _ _ ks (λ ks.
+    word_capped (codes "begin") _ _ ks (λ ks. name_capped _ _ ks (λ l ks. colon_capped _ _ ks (λ ks.
     word_capped v _ _ ks (λ ks. assign_capped _ _ ks (λ ks. operand_capped v _ _ ks (λ a' ks. right_capped v a' _ _ ks (λ r ks.
     semicolon_capped _ _ ks (λ ks. word_capped (codes "end") _ _ ks (λ ks. word_capped (codes "algorithm") _ _ ks (λ ks.
     end_capped ks _ _ (sym (fit_capped m a v n l r)))))))))))))))))))

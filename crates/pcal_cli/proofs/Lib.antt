@@ -6,3 +6,5 @@ pub mod RowsRefusals
 pub mod RegionMade
 pub mod OutsideTokens
 pub mod Capped
+pub mod AlgorithmRead
+pub mod FormFound

@@ -5,5 +5,6 @@ pub mod FormSeen
 pub mod Refusals
 pub mod Checked
 pub mod FormTokens
+pub mod AlgorithmTokens
 pub mod OutsideTokens
 pub mod Built

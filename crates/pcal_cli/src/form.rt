@@ -1,6 +1,8 @@
 //! The form of text that is translated so far: one variable, and one label with an assignment. Its parts.
 
 ghost use Rattle.std.specs.Prelude.{◌≡◌};
+ghost use Rattle.std.specs.List.{list_all};
+ghost use Rattle.tla_token.specs.Lexemes.{is_word as is_word_of};
 ghost use Rattle.first_path.specs.Form.{is_name as is_name_of, is_free as is_free_of, is_small_operand, is_small_right as is_small_right_of, is_fit as is_fit_of};
 ghost use Rattle.pcal_cli.specs.FormSeen.{operand_of, right_of, parts_of};
 
@@ -35,11 +37,18 @@ pub struct Form<'a> {
     pub right: Right,
 }
 
+/// Letters, digits and underscores alone.
+fn is_plain(word: &[u8]) -> bool
+    ensures { result ≡ list_all is_word_of word.now }
+{
+    word.iter().all(|b| is_word(*b))
+}
+
 /// Letters, digits and underscores, with a letter among them.
 fn is_name(word: &[u8]) -> bool
     ensures { result ≡ is_name_of word.now }
 {
-    word.iter().all(|b| is_word(*b)) && has_letter(word)
+    is_plain(word) && has_letter(word)
 }
 
 /// Whether the user may give a name.

@@ -157,7 +157,7 @@ fn statement_at<'a>(rest: Rest<'a>, variable: &[u8]) -> Option<(&'a [u8], Right,
 }
 
 /// The parts of an algorithm that has the form, in the module of this title; `rest` is what comes after `--algorithm`.
-fn algorithm_at<'a>(title: &'a [u8], rest: Rest<'a>) -> Option<Form<'a>>
+pub fn algorithm_at<'a>(title: &'a [u8], rest: Rest<'a>) -> Option<Form<'a>>
     ensures { MatchOption result (algorithm_in title.now (kinds_ahead rest.entry) ≡ None) (λ f. algorithm_in title.now (kinds_ahead rest.entry) ≡ Some (parts_of f)) }
 {
     let (algorithm, rest) = name_at(rest)?;
