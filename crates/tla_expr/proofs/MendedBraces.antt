@@ -1,5 +1,5 @@
 -- What stands before a refused token can be gone on with: names, braces, tuples and square brackets.
-use Rattle.std.proofs.Common.{◌*◌, length, ◌≡◌, ℕ, ◌+◌, ◌≤◌, Bool, true, false, ◌||◌, not, List, [], ◌∷◌, Option, Some, None, Err, inl, inr, refl, sym, ap, ◌∙◌, arith}
+use Rattle.std.proofs.Common.{◌≡◌, ℕ, ◌+◌, ◌≤◌, Bool, true, false, ◌||◌, not, List, [], ◌∷◌, Option, Some, None, Err, inl, inr, refl, sym, ap, ◌∙◌, arith}
 use Rattle.tla_token.specs.declared.place.Place.{Place}
 use Rattle.tla_expr.specs.declared.op.Op.TheVariants as op
 use Rattle.tla_expr.specs.Tree.{Word}
@@ -11,7 +11,7 @@ use Rattle.tla_expr.specs.Spelling.{mark, key, sign, word, field_token, spell, s
 use Rattle.tla_expr.proofs.DeepCounts as cnt
 use Rattle.tla_expr.proofs.SpellAhead.{held, put_ahead, then_ahead, ahead, ahead_all, ahead_binds, ahead_fields, ahead_settings}
 use Rattle.tla_expr.proofs.Mended.{Few, FewBoth, cut_inside, cut_missing, right_after, after, mark_at, sign_at, number_at, word_at, some, some_bind, Mend, inside, missing, onto, left_is, broken, mark_err, word_err, gives_err, ended_err, Fits, Prime, Mends, MendsRoom, opened_err, deep_is}
-use Rattle.tla_expr.specs.Nesting.{chain, links, counts, counts_all, counts_binds, counts_fields, counts_settings, counts_path, counts_bullets, counts_arms, counts_locals}
+use Rattle.tla_expr.specs.Nesting.{counts, counts_all, counts_binds, counts_fields, counts_settings}
 use Rattle.tla_expr.specs.Reader.{Stop, Room, ◌>>=◌, ended, skip, peek, if_fits, is_mark, is_key, next, tail, free, Readers, element, named, from_name, set_rest, brace_rest, set_from, member_rest, brace_name, braces, tuples, field_rest, function_rest, square_rest, square_from, bind_rest, square_member, plain_field, square_name, squares}
 use Rattle.tla_expr.proofs.ReadMembers.{is_member, bind_member}
 use Rattle.tla_expr.proofs.SoundTokens.{seen, mark_ok, word_ok}

@@ -1,5 +1,5 @@
 -- What stands before a refused token can be gone on with: primaries, open forms and operators.
-use Rattle.std.proofs.Common.{◌*◌, length, ◌≡◌, ℕ, suc, ◌+◌, ◌≤◌, nat_lt, Bool, true, false, ◌&&◌, not, List, [], ◌∷◌, Option, Some, None, Err, inl, inr, refl, sym, ap, ◌∙◌, arith}
+use Rattle.std.proofs.Common.{◌≡◌, ℕ, suc, ◌+◌, ◌≤◌, nat_lt, Bool, true, false, ◌&&◌, not, List, [], ◌∷◌, Option, Some, None, Err, inl, inr, refl, sym, ap, ◌∙◌, arith}
 use Rattle.std.proofs.lemmas.Bool.{and_parts, not-true}
 use Rattle.tla_token.specs.declared.place.Place.{Place}
 use Rattle.tla_expr.specs.declared.op.Op.{Op}
@@ -15,7 +15,7 @@ use Rattle.tla_expr.specs.Spelling as sp
 use Rattle.tla_expr.proofs.DeepCounts as cnt
 use Rattle.tla_expr.proofs.SpellAhead.{held, put_ahead, then_ahead, ahead, ahead_all, ahead_binds, ahead_locals}
 use Rattle.tla_expr.proofs.Mended.{Few, FewBoth, uncut, infix_few, cut_inside, cut_missing, right_after, after, mark_at, key_at, sign_at, number_at, word_at, some, some_bind, some_field, Mend, inside, missing, better, onto, left_is, broken, mark_err, key_err, word_err, field_err, gives_err, Fits, Prime, Brief, Mends, MendsRoom, opened_err, deep_is}
-use Rattle.tla_expr.specs.Nesting.{chain, links, counts, counts_all, counts_binds, counts_fields, counts_settings, counts_path, counts_bullets, counts_arms, counts_locals}
+use Rattle.tla_expr.specs.Nesting.{chain, links, counts, counts_all, counts_binds, counts_locals}
 use Rattle.tla_expr.specs.Reader.{Stop, Room, Reader, skip, peek, a_mark, a_key, a_field, opened, opened_after, so_far, behind, is_behind_in, ◌>>=◌, gives, next, tail, peek, Context, free, right_of, under, bound, fits, is_free, prefix_by, goes_on, Readers, list_if, keyed, under_by, signed, operand, short_signed, short_by, apply_if, select_if, postfix_by, climb_if, climb_by}
 use Rattle.tla_expr.specs.Reader as rd
 use Rattle.tla_expr.proofs.ReadStops.{sign_infix}

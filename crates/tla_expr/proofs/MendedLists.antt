@@ -16,7 +16,7 @@ use Rattle.tla_expr.specs.Spelling.{mark, key, sign, word, field_token, spell, s
 use Rattle.tla_expr.proofs.DeepCounts as cnt
 use Rattle.tla_expr.proofs.SpellAhead.{held, put_ahead, then_ahead, ahead, ahead_all, ahead_path}
 use Rattle.tla_expr.proofs.Mended.{Heads, Cut, Few, FewBoth, uncut, plain_few, cut_inside, cut_missing, better, right_after, after, mark_at, sign_at, number_at, an_x, word_at, some, some_bind, some_field, some_path, Mend, inside, missing, onto, left_is, broken, mark_err, sign_err, word_err, field_err, take_err, gives_err, Fits, SomePath, Listed, Mends, ReadersMend, MendsRoom, opened_err}
-use Rattle.tla_expr.specs.Nesting.{chain, links, counts, counts_all, counts_binds, counts_fields, counts_settings, counts_path, counts_bullets, counts_arms, counts_locals}
+use Rattle.tla_expr.specs.Nesting.{counts, counts_all, counts_binds, counts_fields, counts_settings, counts_path, counts_bullets, counts_arms, counts_locals}
 use Rattle.tla_expr.specs.Reader.{Stop, Room, room, less, any, skip, peek, take, a_mark, behind, is_behind_in, read_limited, ◌>>=◌, gives, next, tail, is_sign, bullet_of, Context, free, Readers, one_step, no_steps, readers, read, phrases_by, binds_by, fields_by, settings_by, setting_if, path_by, bullets_if, arms_other, arms_if, arms_by, locals_by}
 use Rattle.tla_expr.proofs.SoundTokens.{seen, mark_ok, sign_ok, word_ok, field_ok}
 use Rattle.tla_expr.proofs.SoundPhrases.{Sound}
@@ -142,13 +142,13 @@ module _ (lim : Bool) (most base : ℕ) (rm : Room) (r full : Readers) (sq : Sou
       opened_err lim most base rm full iv mv 0 (base + 1) refl (λ i d. skip (d.phrases e >>= λ xs. a_mark e tk.close_square >>= λ q. r.path e >>= λ path. gives (index p xs q path))) ts u o
       (λ d'. no_path lim most base al.low e ts u d')
       (λ i d ad id hd md o. broken o
-      (λ j. (let m = hd.phrases e (tail ts) u j in inside (λ v. mark p tk.open_square v) (put_ahead held) (mark_at e tk.close_square ∷ []) m (index p m.whole (after e) path_end) ((n.0, m.good, right_after e, tt), refl) (λ z c i. search (al.low, ad.low, m.fits)) (λ k n. cut_inside (λ u. ((n + 1) ∷ u)) (put_ahead held) (λ u. ((n + 1) ∷ u)) (mark_at e tk.close_square ∷ []) (λ u. refl) (λ u. omega arith) (inr ((n + 1), λ u. refl, omega arith)) (omega arith) m.fix (k (n + 1))) (λ v. refl) (sym n.1)))
+      (λ j. (let m = hd.phrases e (tail ts) u j in inside (λ v. mark p tk.open_square v) (put_ahead held) (mark_at e tk.close_square ∷ []) m (index p m.whole (after e) path_end) ((n.0, m.good, right_after e, tt), refl) (λ z c i. search (ad.low, m.fits)) (λ k n. cut_inside (λ u. ((n + 1) ∷ u)) (put_ahead held) (λ u. ((n + 1) ∷ u)) (mark_at e tk.close_square ∷ []) (λ u. refl) (λ u. omega arith) (inr ((n + 1), λ u. refl, omega arith)) (omega arith) m.fix (k (n + 1))) (λ v. refl) (sym n.1)))
       (λ xs us j l. (let w = (are_read lim most (base + 1) d full sq ad).phrases e (tail ts) xs us j in
       broken l
-      (λ j. (let d'' = mark_err e tk.close_square us u j in missing (λ v. mark p tk.open_square (spell_all xs v)) (put_ahead (ahead_all xs)) (mark_at e tk.close_square ∷ []) (index p xs (after e) path_end) ((n.0, w.0, right_after e, tt), refl) (λ z c i. search (al.low, ad.low, w.2)) (λ n. cut_missing (λ u. ((n + 1) ∷ (counts_all (n + 1) xs u))) (put_ahead (then_ahead (cnt.ahead_all (n + 1) xs) (held))) (λ u. ((n + 1) ∷ u)) (mark_at e tk.close_square ∷ []) (λ u. refl) (λ u. omega arith) (inr ((n + 1), λ u. refl, omega arith))) (λ v. refl) (rw (sym d'', w.1, n.1) refl)))
+      (λ j. (let d'' = mark_err e tk.close_square us u j in missing (λ v. mark p tk.open_square (spell_all xs v)) (put_ahead (ahead_all xs)) (mark_at e tk.close_square ∷ []) (index p xs (after e) path_end) ((n.0, w.0, right_after e, tt), refl) (λ z c i. search (ad.low, w.2)) (λ n. cut_missing (λ u. ((n + 1) ∷ (counts_all (n + 1) xs u))) (put_ahead (then_ahead (cnt.ahead_all (n + 1) xs) (held))) (λ u. ((n + 1) ∷ u)) (mark_at e tk.close_square ∷ []) (λ u. refl) (λ u. omega arith) (inr ((n + 1), λ u. refl, omega arith))) (λ v. refl) (rw (sym d'', w.1, n.1) refl)))
       (λ q vs j l. (let y = mark_ok e tk.close_square us q vs j in
       broken l
-      (λ j. (let m = h.path e vs u j in inside (λ v. mark p tk.open_square (spell_all xs (mark q tk.close_square v))) (put_ahead (then_ahead (ahead_all xs) (put_ahead held))) [] m (index p xs q m.whole) ((n.0, w.0, y.0, m.good.0), refl) (λ z c i. search (al.low, ad.low, w.2, m.fits)) (λ k n. cut_inside (λ u. (n + 1) ∷ counts_all (n + 1) xs ((n + 1) ∷ u)) (put_ahead (then_ahead (cnt.ahead_all (n + 1) xs) (put_ahead held))) (λ u. u) [] (λ u. refl) (λ u. omega arith) (inl (refl, λ u. refl)) (omega arith) m.fix (k n)) (λ v. refl) (rw (y.1, w.1, n.1) refl)))
+      (λ j. (let m = h.path e vs u j in inside (λ v. mark p tk.open_square (spell_all xs (mark q tk.close_square v))) (put_ahead (then_ahead (ahead_all xs) (put_ahead held))) [] m (index p xs q m.whole) ((n.0, w.0, y.0, m.good.0), refl) (λ z c i. search (ad.low, w.2, m.fits)) (λ k n. cut_inside (λ u. (n + 1) ∷ counts_all (n + 1) xs ((n + 1) ∷ u)) (put_ahead (then_ahead (cnt.ahead_all (n + 1) xs) (put_ahead held))) (λ u. u) [] (λ u. refl) (λ u. omega arith) (inl (refl, λ u. refl)) (omega arith) m.fix (k n)) (λ v. refl) (rw (y.1, w.1, n.1) refl)))
       (λ path ws j l. gives_err (index p xs q path) ws u l))))))
   path_mended e p (tk.mark tk.dot) ts u i o =
       let n = seen e ts p (tk.mark tk.dot) i refl in
@@ -211,7 +211,7 @@ module _ (lim : Bool) (most base : ℕ) (rm : Room) (r full : Readers) (sq : Sou
   phrases_step : (e : ℕ) (ts : List Token) (u : Stop) → (one_step rm r).phrases e ts ≡ Err u → Mend (Small lim most (counts_all base)) (Few counts_all 1) (GoodAll e) spell_all ts u.1
   phrases_step e ts u o =
       broken o
-      (λ j. (let m = h.expr e free refl ts u j in inside (λ v. v) held [] m (last m.whole) m.good.0 (λ z c i. search (al.low, m.fits)) (λ k n. cut_inside (λ u. u) (held) (λ u. u) [] (λ u. refl) (λ u. omega arith) (inl (refl, λ u. refl)) (omega arith) m.fix (k n)) (λ v. refl) refl))
+      (λ j. (let m = h.expr e free refl ts u j in inside (λ v. v) held [] m (last m.whole) m.good.0 (λ z c i. search (m.fits)) (λ k n. cut_inside (λ u. u) (held) (λ u. u) [] (λ u. refl) (λ u. omega arith) (inl (refl, λ u. refl)) (omega arith) m.fix (k n)) (λ v. refl) refl))
       (λ a us j l. (let w = s.expr e free refl ts a us j in onto w.2 (phrases_mended e a w.0 w.3 (next e us).place (next e us).kind us u refl l)))
 
   fields_step : (e : ℕ) (m : Mark) (f : Field) → Right e f.place → (ts : List Token) (u : Stop) → (one_step rm r).fields e m f ts ≡ Err u → Mend (Small lim most (counts_fields base)) (Few counts_fields 3) (GoodFields e) (spell_fields m) (field_token f ts) u.1
