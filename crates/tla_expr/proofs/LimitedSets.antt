@@ -30,15 +30,15 @@ abbrev Dead : ℕ → ℕ → Phrase → Type 0
 Dead b k a = (s : List ℕ) → Deep b (counts k a s) (length s)
 
 -- ---- what the element is
-plain_element : (p : Place) (y : Word) (s : Place) (a c : Phrase) → is_infix a ≡ false → element p y s a ≡ Some c → infix_of (name p y) s op.In a ≡ c
+pub plain_element : (p : Place) (y : Word) (s : Place) (a c : Phrase) → is_infix a ≡ false → element p y s a ≡ Some c → infix_of (name p y) s op.In a ≡ c
 plain_element p y s (infix_of a r o d) c n i = absurd cc
 plain_element p y s a c n i = (if_some (can_be_right op.In a) (infix_of (name p y) s op.In a) c i).1
 
 -- with an operator: all of it is to the right of `\\in`, or the operator is after the element
-above_element : (p : Place) (y : Word) (s : Place) (a : Phrase) (r : Place) (o : Op) (d c : Phrase) → is_above op.In (applied o) ≡ true → element p y s (infix_of a r o d) ≡ Some c → infix_of (name p y) s op.In (infix_of a r o d) ≡ c
+pub above_element : (p : Place) (y : Word) (s : Place) (a : Phrase) (r : Place) (o : Op) (d c : Phrase) → is_above op.In (applied o) ≡ true → element p y s (infix_of a r o d) ≡ Some c → infix_of (name p y) s op.In (infix_of a r o d) ≡ c
 above_element p y s a r o d c h i = (let j : Some (infix_of (name p y) s op.In (infix_of a r o d)) ≡ Some c = rw h at i in cc)
 
-left_element : (p : Place) (y : Word) (s : Place) (a : Phrase) (r : Place) (o : Op) (d c : Phrase) → is_above op.In (applied o) ≡ false → element p y s (infix_of a r o d) ≡ Some c
+pub left_element : (p : Place) (y : Word) (s : Place) (a : Phrase) (r : Place) (o : Op) (d c : Phrase) → is_above op.In (applied o) ≡ false → element p y s (infix_of a r o d) ≡ Some c
     → (z : Phrase) × (element p y s a ≡ Some z) × (can_be_left z r o ≡ true) × (infix_of z r o d ≡ c)
 left_element p y s a r o d c h i = by (element p y s a) refl (rw h at i)
   where

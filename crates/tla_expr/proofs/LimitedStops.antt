@@ -182,11 +182,11 @@ refused_where_passed ts passed rest end r o s p = by (told_err (beside ts) o)
             (deep_stops passed t u (ap (λ (us : List Token). read_limited us) (sym at) ∙ o ∙ (λ i. Err (d i, e i))) (subst (λ (us : List Token). Within u (read 0 us)) at w) p)
 
 -- ---- what was passed passes
-pub completed_within : (ts passed rest : List Token) (r : Rule) → read_limited ts ≡ Err (r, rest) → ts ≡ passed ++ rest → (fix : List Token) × (a : Phrase) × Good 0 a × (spell a [] ≡ passed ++ fix) × (text_nesting a ≤ deepest_expression) × (length fix ≤ 16 * deepest_expression + 1)
+pub completed_within : (ts passed rest : List Token) (r : Rule) → read_limited ts ≡ Err (r, rest) → ts ≡ passed ++ rest → (fix : List Token) × (a : Phrase) × Good 0 a × (spell a [] ≡ passed ++ fix) × (text_nesting a ≤ deepest_expression) × (length fix ≤ 16 * get_or (counts 0 a []) (length passed) 0 + 1)
 completed_within ts passed rest r o s =
     let m = refused_fits ts (r, rest) o in
     let same : m.0 ≡ passed = append_cancel_right m.0 passed rest (sym m.3 ∙ s) in
-    (m.1, m.2, m.4, m.5 ∙ ap (λ (k : List Token). k ++ m.1) same, greatest_fits (counts 0 m.2 []) deepest_expression m.6, m.7)
+    (m.1, m.2, m.4, m.5 ∙ ap (λ (k : List Token). k ++ m.1) same, greatest_fits (counts 0 m.2 []) deepest_expression m.6, subst (λ (k : List Token). length m.1 ≤ 16 * get_or (counts 0 m.2 []) (length k) 0 + 1) same m.7)
 
 refused_passes : (ts passed rest : List Token) (r : Rule) → read_limited ts ≡ Err (r, rest) → ts ≡ passed ++ rest → Passes (phrases 0) (map Some (looks passed))
 refused_passes ts passed rest r o s =

@@ -85,7 +85,7 @@ abbrev pub is_infix : Phrase → Bool
 is_infix (infix_of a p o b) = true
 is_infix a = false
 
-prime_plain : (a : Phrase) → is_primary (head a) ≡ true → is_infix a ≡ false
+pub prime_plain : (a : Phrase) → is_primary (head a) ≡ true → is_infix a ≡ false
 prime_plain (infix_of a p o b) h = absurd cc
 prime_plain a h = refl
 

@@ -1,5 +1,5 @@
 -- Where reading stops is where the grammar has its first token that can't come, as long as what was passed passes.
-use Rattle.std.proofs.Common.{◌≡◌, ℕ, suc, ◌<◌, ◌≤◌, true, List, [], ◌∷◌, ◌++◌, length, take, drop, map, get_or, Option, Some, None, Ok, Err, inr, refl, sym, ap, ◌∙◌, subst, arith}
+use Rattle.std.proofs.Common.{◌+◌, ◌*◌, ◌≡◌, ℕ, suc, ◌<◌, ◌≤◌, true, List, [], ◌∷◌, ◌++◌, length, take, drop, map, get_or, Option, Some, None, Ok, Err, inr, refl, sym, ap, ◌∙◌, subst, arith}
 use Rattle.std.specs.List.{list_all}
 use Rattle.std.proofs.lemmas.List.{append-nil, take-append-drop, append_cancel_right}
 use Rattle.std.proofs.Math.Seq.{take-append_seam}
@@ -53,11 +53,11 @@ none_through e passed (t ∷ rest) stop b = begun_none e passed t rest stop (sub
 none_through e passed [] stop b = (let (more, ns, (a, g, s, c)) = subst (λ (ks : List (Option Look)). Begins (phrases e) ks) (through_end passed) b in never_ends (looks (spell a [])) (looks passed) more s)
 
 -- ---- what was passed begins a phrase
-pub refused_is_completed : (e : ℕ) (ts passed rest : List Token) (q : Rule) → read e ts ≡ Err (q, rest) → ts ≡ passed ++ rest → (fix : List Token) × (a : Phrase) × Good e a × (spell a [] ≡ passed ++ fix)
+pub refused_is_completed : (e : ℕ) (ts passed rest : List Token) (q : Rule) → read e ts ≡ Err (q, rest) → ts ≡ passed ++ rest → (fix : List Token) × (a : Phrase) × Good e a × (spell a [] ≡ passed ++ fix) × (length fix ≤ 16 * get_or (counts 0 a []) (length passed) 0 + 1)
 refused_is_completed e ts passed rest q o s =
     let m = refused_is_mended e ts (q, rest) o in
     let same : m.0 ≡ passed = append_cancel_right m.0 passed rest (sym m.3 ∙ s) in
-    (m.1, m.2, m.4, m.5 ∙ ap (λ (k : List Token). k ++ m.1) same)
+    (m.1, m.2, m.4, m.5 ∙ ap (λ (k : List Token). k ++ m.1) same, subst (λ (k : List Token). length m.1 ≤ 16 * get_or (counts 0 m.2 []) (length k) 0 + 1) same m.6)
 
 -- the tokens of a phrase that is no deeper than it may be
 all_within : (ns : List ℕ) → greatest ns ≤ deepest_expression → list_all is_within (map in_expression ns) ≡ true

@@ -45,10 +45,10 @@ pub fn nothing_passes_where_reading_stops()
 {}
 
 /// And a refusal is not late: what was passed before the refused token, or before the end, can be gone on with to a whole
-/// expression, with those tokens in their columns; and with the limit, to one that is no deeper, by at most 16 tokens for each form that may be open, and one.
+/// expression, with those tokens in their columns, by at most 16 tokens for each form that is open at the first of them, and one; and with the limit, to one that is no deeper.
 pub fn refusals_are_at_the_earliest_place()
-    ensures whole { (edge : ℕ) (ts passed rest : List Token) (r : Rule) → read edge ts ≡ Err (r, rest) → ts ≡ passed ++ rest → (fix : List Token) × (a : Phrase) × Good edge a × (spell a [] ≡ passed ++ fix) }
-    ensures within { (ts passed rest : List Token) (r : Rule) → read_limited ts ≡ Err (r, rest) → ts ≡ passed ++ rest → (fix : List Token) × (a : Phrase) × IsGood a × (spell a [] ≡ passed ++ fix) × (text_nesting a ≤ deepest_expression) × (length fix ≤ 16 * deepest_expression + 1) }
+    ensures whole { (edge : ℕ) (ts passed rest : List Token) (r : Rule) → read edge ts ≡ Err (r, rest) → ts ≡ passed ++ rest → (fix : List Token) × (a : Phrase) × Good edge a × (spell a [] ≡ passed ++ fix) × (length fix ≤ 16 * get_or (counts 0 a []) (length passed) 0 + 1) }
+    ensures within { (ts passed rest : List Token) (r : Rule) → read_limited ts ≡ Err (r, rest) → ts ≡ passed ++ rest → (fix : List Token) × (a : Phrase) × IsGood a × (spell a [] ≡ passed ++ fix) × (text_nesting a ≤ deepest_expression) × (length fix ≤ 16 * get_or (counts 0 a []) (length passed) 0 + 1) }
 {}
 
 /// The limit of open forms only refuses: what is read within it is read without, and is no deeper; and what is read without it and is no deeper is read within it.
