@@ -232,12 +232,7 @@ fn other_texts_are_refused(rt: HostRuntime) -> Result<(), Fail> {
 }
 
 /// A file is translated; and so is what was written, which stays as it is.
-fn translates(
-    alloc: Global,
-    before: &str,
-    old: &str,
-    after: &str,
-) -> Result<bool, AllocError> {
+fn translates(alloc: Global, before: &str, old: &str, after: &str) -> Result<bool, AllocError> {
     let text = format!(in alloc; "{before}{old}{after}")?;
     let written = format!(in alloc; "{before}{}{after}", filled(alloc, REGION, WORKED)?)?;
     let first = answers(alloc, WORDS, &text, (0, &written, ""))?;

@@ -16,7 +16,9 @@ ghost use Rattle.pcal_cli.specs.FormSeen.{parts_of, right_of};
 ghost use Rattle.pcal_cli.specs.OutsideTokens.{begins_shown, keyword, view_seen, views_ahead, views_of, shown, shown_as, keyword_shown, holds_of, beside_of, clashes as clashes_of};
 
 use crate::form::{Form, Right};
-use crate::names::{is_among, is_own, is_pluscal_word, is_sequence_name, is_standard, is_tla_word, is_tlc_name};
+use crate::names::{
+    is_among, is_own, is_pluscal_word, is_sequence_name, is_standard, is_tla_word, is_tlc_name,
+};
 use crate::rest::Rest;
 use tla_token::{Kind, Sign, Token, Tokens};
 
@@ -82,8 +84,9 @@ fn look<'a>(tokens: &'a Tokens, token: &Token) -> Seen<'a>
 {
     match token.kind {
         Kind::Name(span) => seen_word(tokens.word(span)),
-        Kind::Other(span) if tokens.word(span) != b"'".as_slice() =>
-            Seen::Keyword(tokens.word(span)),
+        Kind::Other(span) if tokens.word(span) != b"'".as_slice() => Seen::Keyword(tokens.word(
+            span,
+        )),
         _ => Seen::Neither,
     }
 }

@@ -65,13 +65,7 @@ fn algorithm_tokens(alloc: Global, parts: &Parts<'_>) -> Result<Option<Tokens>, 
         return Ok(None);
     }
     let from = parts.algorithm.from + 11;
-    match tokens_as(
-        alloc,
-        parts.text,
-        from,
-        parts.algorithm.to,
-        Reading::Unread,
-    ) {
+    match tokens_as(alloc, parts.text, from, parts.algorithm.to, Reading::Unread) {
         Ok(tokens) => Ok(Some(tokens)),
         Err(stop) => Err(stop),
     }
