@@ -1,11 +1,11 @@
 -- The offences of rules 1 to 10, piece by piece.
-use Rattle.std.proofs.Common.{◌≡◌, ℕ, zero, suc, ◌+◌, ◌<◌, ◌≤◌, Bool, true, false, not, ◌&&◌, ◌||◌, nat_eq, nat_le, List, [], ◌∷◌, ◌++◌, length, get_or, map, take, drop, Option, Some, None, refl, sym, ap, ◌∙◌, arith}
-use Rattle.std.specs.Prelude.{is_some, if◌then◌else◌, filter}
+use Rattle.std.proofs.Common.{◌≡◌, ℕ, ◌+◌, Bool, true, false, ◌&&◌, ◌||◌, nat_le, List, [], ◌∷◌, ◌++◌, get_or, drop, Option, None, refl, sym, ap, ◌∙◌}
+use Rattle.std.specs.Prelude.{if◌then◌else◌, filter}
 use Rattle.std.specs.Option.{unwrap_or}
-use Rattle.std.specs.List.{flat_map, list_any}
+use Rattle.std.specs.List.{list_any}
 use Rattle.std.proofs.lemmas.List.Elements.{filter-append}
 use Rattle.tla_token.specs.declared.rule.Rule.{Rule}
-use Rattle.tla_token.specs.declared.rule.Rule.TheVariants.{NotAscii, BadToken, OpenComment, OpenString, TwoAlgorithms, Placement, Options, NumberTooBig}
+use Rattle.tla_token.specs.declared.rule.Rule.TheVariants.{NotAscii, BadToken, OpenString, NumberTooBig}
 use Rattle.tla_token.specs.declared.part.Class.{Class}
 use Rattle.tla_token.specs.declared.part.Class.TheVariants as class
 use Rattle.tla_token.specs.declared.fault.Reading.TheVariants as reading
@@ -16,7 +16,7 @@ use Rattle.tla_token.specs.Tokens.{holds_mark}
 use Rattle.tla_token.specs.Offences.{Offence, is_stray, has_bad_escape, breaks_string, offence_if, byte_offences, part_offences, least}
 use Rattle.tla_token.specs.Scan.{inner, part_of}
 use Rattle.tla_token.specs.Readings.{part_offences_in, joined}
-use Rattle.tla_token.proofs.Faults.{joined_assoc, joined_none, least_append}
+use Rattle.tla_token.proofs.Faults.{joined_assoc, least_append}
 use Rattle.module_text.specs.TextFront.{Text}
 use Rattle.module_text.specs.FileOffences.{offences_at}
 use Rattle.module_text.specs.Splitting.{is_splitting}

@@ -1,21 +1,19 @@
 -- What a file has that breaks none of the rules 1 to 10.
-use Rattle.std.proofs.Common.{◌≡◌, ℕ, Bool, true, false, not, List, [], ◌∷◌, ◌++◌, map, Option, Some, None, find, refl, sym, ap, ◌∙◌}
-use Rattle.std.specs.Prelude.{is_some, if◌then◌else◌, filter}
-use Rattle.std.specs.List.{flat_map}
+use Rattle.std.proofs.Common.{◌≡◌, ℕ, List, [], ◌∷◌, ◌++◌, Option, Some, None, refl, sym, ap, ◌∙◌}
+use Rattle.std.specs.Prelude.{filter}
 use Rattle.std.proofs.lemmas.List.Elements.{filter-append}
-use Rattle.std.proofs.lemmas.Option.{none-some, same_Some}
 use Rattle.tla_token.specs.Offences.{Offence, or_earlier, least}
 use Rattle.module_text.specs.declared.stand.Shape.TheVariants as shape
 use Rattle.module_text.specs.declared.stand.Shape.{Shape}
 use Rattle.module_text.specs.declared.stand.Stand.{Stand}
 use Rattle.module_text.specs.TextFront.{Text}
-use Rattle.module_text.specs.Walk.{Located, walk, is_tail, at_start}
+use Rattle.module_text.specs.Walk.{Located, walk}
 use Rattle.module_text.specs.StandsSeen.{segment_of, segment_seen, stands_seen}
-use Rattle.module_text.specs.FileParts.{module_end, beginnings, first_that}
+use Rattle.module_text.specs.FileParts.{module_end, beginnings}
 use Rattle.module_text.specs.AlgorithmText.{algorithm_of}
-use Rattle.module_text.specs.FileOffences.{segment_offences, offences_of, algorithm_offences, no_module, no_algorithm, second_algorithms, placements, options_in, outside_region}
+use Rattle.module_text.specs.FileOffences.{segment_offences, offences_of, algorithm_offences, no_module, no_algorithm, second_algorithms, placements}
 use Rattle.module_text.specs.Splitting.{is_splitting, splitting_offences}
-use Rattle.module_text.proofs.SplitFaults.{Kept, kept_append, plain_kept, one_kept}
+use Rattle.module_text.proofs.SplitFaults.{Kept, kept_append, plain_kept}
 use Rattle.module_text.proofs.SplitLeast.{module_kept, missing_kept, placements_kept}
 use Rattle.module_text.proofs.WalkPlace.{both_empty}
 use Rattle.module_text.proofs.WalkKept.{Sound, sound_parts}

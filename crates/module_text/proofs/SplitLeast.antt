@@ -3,22 +3,22 @@ use Rattle.std.proofs.Common.{◌≡◌, ℕ, Bool, true, false, not, nat_eq, Li
 use Rattle.std.specs.Prelude.{is_some, if◌then◌else◌, filter}
 use Rattle.std.specs.List.{flat_map}
 use Rattle.std.proofs.lemmas.List.Elements.{filter-append}
-use Rattle.tla_token.specs.declared.rule.Rule.TheVariants.{NoModule, NoAlgorithm, TwoAlgorithms, Placement, Options}
+use Rattle.tla_token.specs.declared.rule.Rule.TheVariants.{TwoAlgorithms, Placement, Options}
 use Rattle.tla_token.specs.Tokens as text
 use Rattle.tla_token.specs.Tokens.{blank, stretch}
 use Rattle.tla_token.specs.Offences.{Offence, sound, least}
 use Rattle.tla_token.specs.Readings.{joined}
-use Rattle.tla_token.proofs.Faults.{joined_assoc, joined_none, least_append}
+use Rattle.tla_token.proofs.Faults.{least_append}
 use Rattle.tla_expr.specs.TokenViews.{view}
 use Rattle.module_text.specs.TextFront.{Text}
 use Rattle.module_text.specs.Beginnings.{is_options, all_at}
 use Rattle.module_text.specs.Walk.{Segment, part, Located, walk}
-use Rattle.module_text.specs.FileParts.{module_end, beginnings, after_comment, after_spot, Span, region_of, is_newline}
+use Rattle.module_text.specs.FileParts.{module_end, beginnings, after_comment, after_spot, Span, region_of}
 use Rattle.module_text.specs.AlgorithmText.{AlgorithmText, algorithm_of, in_token}
 use Rattle.module_text.specs.FileUnits.{token_in, begins_unit}
-use Rattle.module_text.specs.FileOffences.{offences_at, offences_of, algorithm_offences, no_module, no_algorithm, second_algorithms, rest_of_line, no_unit, placements, options_in, outside_region}
+use Rattle.module_text.specs.FileOffences.{offences_of, algorithm_offences, no_module, no_algorithm, second_algorithms, rest_of_line, no_unit, placements, options_in, outside_region}
 use Rattle.module_text.specs.Splitting.{is_splitting, splitting_offences}
-use Rattle.module_text.proofs.SplitFaults.{Kept, none_kept, kept_append, one_kept, if_kept, places_kept}
+use Rattle.module_text.proofs.SplitFaults.{Kept, none_kept, kept_append, if_kept, places_kept}
 
 pub module_kept : (x : Text) (e : Option ℕ) → Kept (no_module x e)
 module_kept x (Some n) = refl

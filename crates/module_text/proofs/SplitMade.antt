@@ -1,8 +1,7 @@
 -- The parts of a file that breaks none of the rules 1 to 10.
-use Rattle.std.proofs.Common.{◌≡◌, ℕ, Bool, true, false, not, List, [], ◌∷◌, ◌++◌, Option, Some, None, refl, sym, ap, ◌∙◌, append-nil}
+use Rattle.std.proofs.Common.{◌≡◌, Bool, true, false, not, List, [], ◌∷◌, ◌++◌, Option, Some, None, refl, sym, ap, ◌∙◌, append-nil}
 use Rattle.std.specs.Prelude.{is_some}
 use Rattle.std.specs.Option.{option_map}
-use Rattle.std.proofs.lemmas.Option.{same_Some}
 use Rattle.tla_token.specs.declared.token.Span.{Span}
 use Rattle.tla_token.specs.Tokens as text
 use Rattle.tla_token.specs.Tokens.{stretch}
@@ -17,7 +16,6 @@ use Rattle.module_text.specs.StandsSeen.{stands_seen}
 use Rattle.module_text.specs.FileParts.{title, region_of, spot, before_spot, after_spot}
 use Rattle.module_text.specs.AlgorithmText.{algorithm_of, is_c}
 use Rattle.module_text.specs.FileUnits.{tokens_in}
-use Rattle.module_text.specs.FileOffences.{offences_of}
 use Rattle.module_text.specs.Splitting.{splitting_offences, Splits}
 use Rattle.module_text.specs.AlgorithmSeen.{stage_seen}
 use Rattle.module_text.specs.SplitSeen.{span_seen, plain_token, plain_tokens, IsFound, IsAlgorithm, IsGap}

@@ -1,5 +1,5 @@
 -- What counts of each kind of offence of a file in memory.
-use Rattle.std.proofs.Common.{◌≡◌, ℕ, zero, suc, ◌+◌, ◌-◌, ◌<◌, ◌≤◌, Bool, true, false, not, cond, List, [], ◌∷◌, ◌++◌, length, get_or, map, take, drop, Option, Some, None, refl, sym, ap, subst, ◌∙◌, arith, append-nil}
+use Rattle.std.proofs.Common.{◌≡◌, ℕ, suc, ◌+◌, ◌<◌, ◌≤◌, Bool, true, false, not, cond, List, [], ◌∷◌, ◌++◌, length, get_or, drop, Option, Some, None, refl, sym, ap, subst, ◌∙◌, arith, append-nil}
 use Rattle.std.specs.Prelude.{is_some, if◌then◌else◌, filter, find, All}
 use Rattle.std.specs.Option.{option_map, unwrap_or}
 use Rattle.std.specs.List.{flat_map, position_or_len}
@@ -8,7 +8,7 @@ use Rattle.tla_token.specs.declared.rule.Rule.TheVariants.{TwoAlgorithms, Option
 use Rattle.tla_token.specs.Tokens.{stretch}
 use Rattle.tla_token.specs.Offences.{Offence, least}
 use Rattle.tla_token.specs.Readings.{joined}
-use Rattle.tla_token.proofs.Faults.{joined_none, least_append}
+use Rattle.tla_token.proofs.Faults.{least_append}
 use Rattle.module_text.specs.declared.stand.Shape.{Shape}
 use Rattle.module_text.specs.declared.stand.Shape.TheVariants as shape
 use Rattle.module_text.specs.declared.stand.Stand.{Stand}
@@ -18,10 +18,10 @@ use Rattle.module_text.specs.TextFront.{Text, on_some}
 use Rattle.module_text.specs.Beginnings.{is_options, all_at}
 use Rattle.module_text.specs.Walk.{Segment, Located, bytes, is_region, is_tail, is_header_line}
 use Rattle.module_text.specs.StandsSeen.{segment_of, segment_seen, located_seen, stands_seen, IsSolid}
-use Rattle.module_text.specs.FileParts.{first_that, module_end, after_comment, after_spot, region_of, span_of, holds_algorithm}
+use Rattle.module_text.specs.FileParts.{first_that, module_end, after_comment, region_of, holds_algorithm}
 use Rattle.module_text.specs.AlgorithmText.{AlgorithmText, algorithm_of, in_token}
 use Rattle.module_text.specs.FileOffences.{offences_at, second_algorithms, rest_of_line, no_unit, placements, options_in, outside_region}
-use Rattle.module_text.specs.SplitSeen.{is_header_stand, is_region_stand, is_tail_stand, IsFound, IsAlgorithm, IsGap}
+use Rattle.module_text.specs.SplitSeen.{is_header_stand, is_region_stand, is_tail_stand, IsFound, IsGap}
 use Rattle.module_text.proofs.StandSteps.{after_is}
 use Rattle.module_text.proofs.Gaps.{region_seen, region_bytes}
 

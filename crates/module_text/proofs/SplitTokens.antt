@@ -1,9 +1,7 @@
 -- Where no segment of a file is faulty, its tokens are its sound parts.
 use Rattle.std.proofs.Common.{◌≡◌, ℕ, Bool, true, false, ◌&&◌, nat_eq, List, [], ◌∷◌, ◌++◌, Option, Some, None, codes, refl, sym, ap, subst, ◌∙◌, append_assoc, append-nil}
-use Rattle.std.specs.Prelude.{is_some, if◌then◌else◌, option_map}
-use Rattle.std.proofs.lemmas.Option.{same_Some}
+use Rattle.std.specs.Prelude.{if◌then◌else◌, option_map}
 use Rattle.tla_token.specs.Lexemes.{Kind, is_blank}
-use Rattle.tla_token.specs.Tokens as text
 use Rattle.tla_token.specs.Tokens.{blank, block, line, lexeme}
 use Rattle.tla_token.specs.Offences.{Part, sound, stray, bad_string, open_string, open_block, part_offences, PartFits}
 use Rattle.tla_token.specs.Cut.{part_at, lexeme_part}
@@ -11,13 +9,13 @@ use Rattle.tla_token.specs.TokensSeen.{part_kind}
 use Rattle.tla_token.proofs.Faulty.{sound_part}
 use Rattle.tla_token.proofs.Signed.{to_lexeme}
 use Rattle.tla_token.proofs.Parted.{same_some}
-use Rattle.tla_token.proofs.Cutting.{Cut, front_cut}
+use Rattle.tla_token.proofs.Cutting.{front_cut}
 use Rattle.module_text.specs.TextFront.{Text, begins}
 use Rattle.module_text.specs.HeaderAndRegion.{is_header, is_begin, is_end}
 use Rattle.module_text.specs.Beginnings.{is_rule, begins_bar, ends_module}
-use Rattle.module_text.specs.ModuleParts.{kind_in, barred, module_part}
-use Rattle.module_text.specs.Walk.{Segment, free, header, part, region, mark, inner, tail, State, in_module, opened, at_end_line, segment_at, Located, walk, at_start}
-use Rattle.module_text.specs.FileParts.{is_newline, holds_algorithm, region_of, before_spot, after_spot, up_to_first, after_first, before_first, after_comment}
+use Rattle.module_text.specs.ModuleParts.{kind_in, module_part}
+use Rattle.module_text.specs.Walk.{Segment, State, in_module, opened, at_end_line, segment_at, Located, walk, at_start}
+use Rattle.module_text.specs.FileParts.{is_newline, holds_algorithm, region_of, before_spot, after_spot, up_to_first, after_first, after_comment}
 use Rattle.module_text.specs.FileUnits.{kind_of_segment, token_in, with_token, tokens_in}
 use Rattle.module_text.specs.FileOffences.{segment_offences, offences_of}
 use Rattle.module_text.specs.SplitSeen.{plain_kind, plain_token, plain_tokens}

@@ -1,7 +1,6 @@
 -- What is read off a file before its algorithm is read: its parts, or the rule of 1 to 10 that counts ("A PlusCal User's Manual", sections 2.1 and 2.2).
 use Rattle.std.specs.Prelude.{◌≡◌, ℕ, nat_le, Bool, not, List, Some, is_some, filter}
 use Rattle.tla_token.specs.declared.rule.Refusal.{Refusal}
-use Rattle.tla_token.specs.declared.token.Span as code
 use Rattle.tla_token.specs.Places.{place_at}
 use Rattle.tla_token.specs.Rules.{rule_number}
 use Rattle.tla_token.specs.Tokens.{stretch}

@@ -11,6 +11,7 @@ pub mod lines;
 pub mod module;
 pub mod offence;
 pub mod parts;
+pub mod seek;
 pub mod split;
 pub mod stand;
 pub mod unit_start;

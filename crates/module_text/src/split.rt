@@ -1,6 +1,6 @@
 //! A module's text in its parts, or the rule that counts of those that it breaks.
 
-ghost use Rattle.std.specs.Prelude.{◌≡◌, ℕ, Bool, List, ◌+◌, ◌≤◌, ◌<◌, ◌^◌, ◌++◌, [], length, take, drop, not, map, Some, Err, IfOk, IfSome, All, filter, option_map, is_some, true, slice_index_or, slice_get, find, unwrap_or, false};
+ghost use Rattle.std.specs.Prelude.{◌≡◌, ℕ, Bool, List, ◌+◌, ◌≤◌, ◌<◌, ◌^◌, ◌++◌, [], length, map, Some, Err, IfOk, All, filter, option_map, is_some, true, slice_index_or, slice_get, unwrap_or, false};
 ghost use Rattle.std.specs.List.{position_or_len, flat_map};
 ghost use Rattle.tla_token.specs.declared.rule.Refusal as refusals;
 ghost use Rattle.tla_token.specs.Places.{place_at};
@@ -8,196 +8,31 @@ ghost use Rattle.tla_token.specs.Tokens.{stretch};
 ghost use Rattle.tla_token.specs.Offences.{least};
 ghost use Rattle.tla_token.specs.TokensSeen.{token_seen, tokens_seen};
 ghost use Rattle.module_text.specs.Walk.{Located, walk};
-ghost use Rattle.module_text.specs.StandsSeen.{segment_seen, located_seen, stands_seen, IsSolid};
+ghost use Rattle.module_text.specs.StandsSeen.{located_seen, stands_seen, IsSolid};
 ghost use Rattle.module_text.specs.HeaderAndRegion.{header_title};
 ghost use Rattle.module_text.specs.FileParts as pure;
-ghost use Rattle.module_text.specs.FileParts.{beginnings_in, first_of, holds_algorithm};
+ghost use Rattle.module_text.specs.FileParts.{holds_algorithm};
 ghost use Rattle.module_text.specs.AlgorithmText.{algorithm_of};
 ghost use Rattle.module_text.specs.FileOffences.{algorithm_offences, placements, outside_region, options_in, second_algorithms};
 ghost use Rattle.module_text.specs.Splitting.{is_splitting, splitting_offences, RefusesSplit, Splits};
-ghost use Rattle.module_text.specs.SplitSeen.{is_header_stand, is_region_stand, is_tail_stand, plain_token, plain_tokens, after_newline, IsInner, IsAlgorithm, IsGap};
+ghost use Rattle.module_text.specs.SplitSeen.{plain_token, plain_tokens, after_newline, IsAlgorithm, IsGap};
 
 use crate::algorithm::{Inside, algorithm_at, is_c};
-use crate::beginning::{add_beginnings, first_beginning, options_fault};
+use crate::beginning::{first_beginning, options_fault};
 use crate::line::title_span;
 use crate::offence::{
-    bytes_of, is_newline, line_fault, missing_fault, module_fault, second_fault, stands_fault,
-    unit_fault,
+    bytes_of, line_fault, missing_fault, module_fault, second_fault, stands_fault, unit_fault,
 };
 use crate::parts::Parts;
+use crate::seek::{
+    beginnings, behind, header, holder, newline_index, region, region_index, tail, up_to, within,
+};
 use crate::stand::{Shape, Stand};
 use crate::walk::walk;
 use std::alloc::{AllocError, Global};
 use tla_token::fault::sooner;
 use tla_token::token::kind_at;
-use tla_token::{Class, Part, Place, Refusal, Rule, Span, Stop, Token, Tokens, place_of};
-
-// ---- comments
-
-// What is within a comment.
-fn within(text: &[u8], stand: Stand) -> Option<Span>
-    requires { IsSolid text.now stand }
-    ensures { IsInner text.now stand result }
-{
-    match stand.shape {
-        Shape::Part(class) => match class {
-            Class::Block => {
-                if stand.len < 4 {
-                    None
-                } else {
-                    Some(Span {
-                        from: stand.at + 2,
-                        to: stand.at + stand.len - 2,
-                    })
-                }
-            }
-            Class::OpenBlock => {
-                if stand.len < 2 {
-                    None
-                } else {
-                    Some(Span {
-                        from: stand.at + 2,
-                        to: stand.at + stand.len,
-                    })
-                }
-            }
-            _ => None,
-        },
-        _ => None,
-    }
-}
-
-// Where algorithms begin in the comments of a file.
-fn beginnings(alloc: Global, text: &[u8], stands: &[Stand]) -> Result<Vec<usize>, AllocError>
-    requires { All (IsSolid text.now) stands.now }
-    ensures { IfOk result (λ v. v.items ≡ pure.beginnings (stands_seen text.now stands.now)) }
-{
-    let mut starts = Vec::new(alloc);
-    'stands: for stand in stands {
-        if let Some(span) = within(text, *stand) {
-            add_beginnings(text, span.from, span.to, &mut starts)?;
-        }
-    }
-    Ok(starts)
-}
-
-// Where the first algorithm begins in a comment.
-fn beginning_in(text: &[u8], stand: Stand) -> Option<usize>
-    requires { IsSolid text.now stand }
-    ensures { result ≡ first_of (beginnings_in (located_seen text.now stand)) }
-{
-    match within(text, stand) {
-        Some(span) => first_beginning(text, span.from, span.to),
-        None => None,
-    }
-}
-
-// The first comment in which an algorithm begins, or the number of segments.
-fn holder(text: &[u8], stands: &[Stand]) -> usize
-    requires { All (IsSolid text.now) stands.now }
-    ensures { result ≡ position_or_len holds_algorithm (stands_seen text.now stands.now) }
-{
-    for (i, stand) in stands.iter().enumerate() {
-        if beginning_in(text, *stand).is_some() {
-            return i;
-        }
-    }
-    stands.len()
-}
-
-// ---- header, region and the module's end
-
-fn is_header(stand: Stand) -> bool
-    ensures { result ≡ is_header_stand stand }
-{
-    match stand.shape {
-        Shape::Header => true,
-        _ => false,
-    }
-}
-
-fn is_region(stand: Stand) -> bool
-    ensures { result ≡ is_region_stand stand }
-{
-    match stand.shape {
-        Shape::Region(_) => true,
-        _ => false,
-    }
-}
-
-fn is_tail(stand: Stand) -> bool
-    ensures { result ≡ is_tail_stand stand }
-{
-    match stand.shape {
-        Shape::Tail => true,
-        _ => false,
-    }
-}
-
-fn header(stands: &[Stand]) -> Option<Stand>
-    ensures { result ≡ find is_header_stand stands.now }
-{
-    stands.iter().copied().find(|stand| is_header(*stand))
-}
-
-fn region(stands: &[Stand]) -> Option<Stand>
-    ensures { result ≡ find is_region_stand stands.now }
-{
-    stands.iter().copied().find(|stand| is_region(*stand))
-}
-
-fn tail(stands: &[Stand]) -> Option<Stand>
-    ensures { result ≡ find is_tail_stand stands.now }
-{
-    stands.iter().copied().find(|stand| is_tail(*stand))
-}
-
-// How many segments are before the region, or in all.
-fn region_index(stands: &[Stand]) -> usize
-    ensures { result ≡ position_or_len is_region_stand stands.now }
-{
-    for (i, stand) in stands.iter().enumerate() {
-        if is_region(*stand) {
-            return i;
-        }
-    }
-    stands.len()
-}
-
-// How many segments are before the first newline, or in all.
-fn newline_index(text: &[u8], stands: &[Stand]) -> usize
-    requires { All (IsSolid text.now) stands.now }
-    ensures { result ≡ position_or_len pure.is_newline (stands_seen text.now stands.now) }
-{
-    for (i, stand) in stands.iter().enumerate() {
-        if is_newline(text, *stand) {
-            return i;
-        }
-    }
-    stands.len()
-}
-
-// The segments up to one of them, or all.
-fn up_to(stands: &[Stand], index: usize) -> &[Stand]
-    ensures { result.now ≡ take (1 + index) stands.now }
-{
-    if index < stands.len() {
-        &stands[..index + 1]
-    } else {
-        stands
-    }
-}
-
-// The segments behind one of them.
-fn behind(stands: &[Stand], index: usize) -> &[Stand]
-    ensures { result.now ≡ drop (1 + index) stands.now }
-{
-    if index < stands.len() {
-        &stands[index + 1..]
-    } else {
-        &[]
-    }
-}
+use tla_token::{Part, Place, Refusal, Rule, Span, Stop, Token, Tokens, place_of};
 
 // ---- the place of a translation
 

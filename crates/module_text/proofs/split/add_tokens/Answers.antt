@@ -1,9 +1,8 @@
-use Rattle.std.proofs.Common.{List, ◌+◌, ◌++◌, drop, map, Some, None, Option, ap, sym, ◌∙◌, append_assoc, append-nil}
+use Rattle.std.proofs.Common.{List, ◌+◌, ◌++◌, drop, map, ap, sym, ◌∙◌, append-nil}
 use Rattle.tla_token.specs.Tokens.{Token}
 use Rattle.tla_token.specs.TokensSeen.{token_seen}
-use Rattle.module_text.specs.StandsSeen.{stands_seen, located_seen}
-use Rattle.module_text.specs.FileUnits.{with_token}
-use Rattle.module_text.specs.SplitSeen.{plain_token, plain_tokens}
+use Rattle.module_text.specs.StandsSeen.{stands_seen}
+use Rattle.module_text.specs.SplitSeen.{plain_tokens}
 use Rattle.module_text.proofs.Comments.{plain_more, plain_done, plain_pushed, plain_left}
 use Rattle.module_text.proofs.split.add_tokens.Goals as goal
 use Rattle.module_text.proofs.split.add_tokens.Goals.{in-Some+in_ok-push, in_default}

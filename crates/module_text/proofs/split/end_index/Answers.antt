@@ -1,4 +1,4 @@
-use Rattle.std.proofs.Common.{Some, None, ap, sym, ◌∙◌, length, unwrap_or, arith}
+use Rattle.std.proofs.Common.{Some, None, ap, sym, length, unwrap_or, arith}
 use Rattle.module_text.proofs.SplitParts.{end_found, sound_end}
 use Rattle.module_text.specs.SplitSeen.{is_tail_stand}
 use Rattle.module_text.proofs.split.end_index.Goals as goal

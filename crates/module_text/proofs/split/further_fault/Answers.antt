@@ -1,4 +1,4 @@
-use Rattle.std.proofs.Common.{Option, length, get_or}
+use Rattle.std.proofs.Common.{Option, length}
 use Rattle.std.proofs.Common.{subst}
 use Rattle.std.proofs.lemmas.List.{take_rest}
 use Rattle.tla_token.proofs.Fronts.{some_there}

@@ -1,4 +1,4 @@
-use Rattle.std.proofs.Common.{Option, Some, None, filter, ap, subst, sym, ◌∙◌}
+use Rattle.std.proofs.Common.{Option, filter, ap, subst, sym, ◌∙◌}
 use Rattle.tla_token.specs.Offences.{least}
 use Rattle.module_text.specs.declared.split.Algorithm.{Algorithm}
 use Rattle.module_text.specs.AlgorithmText.{AlgorithmText}

@@ -1,4 +1,4 @@
-use Rattle.std.proofs.Common.{Some, None, ap, sym, ◌∙◌}
+use Rattle.std.proofs.Common.{Some, None, sym}
 use Rattle.module_text.proofs.SplitParts.{end_found}
 use Rattle.module_text.proofs.split.module_end.Goals as goal
 

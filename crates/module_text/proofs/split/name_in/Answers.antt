@@ -1,5 +1,4 @@
-use Rattle.std.proofs.Common.{◌≡◌, ◌≤◌, ap, sym, ◌∙◌, Some, length, arith}
-use Rattle.module_text.specs.HeaderAndRegion.{header_title}
+use Rattle.std.proofs.Common.{◌≤◌, ap, ◌∙◌, Some, arith}
 use Rattle.module_text.proofs.SplitTitle.{stretch_in}
 use Rattle.module_text.proofs.split.name_in.Goals as goal
 

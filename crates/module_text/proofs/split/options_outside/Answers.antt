@@ -1,6 +1,6 @@
 use Rattle.std.proofs.Common.{sym, ◌∙◌, arith}
 use Rattle.tla_token.specs.Readings.{joined}
-use Rattle.module_text.specs.SplitSeen.{is_header_stand, is_region_stand}
+use Rattle.module_text.specs.SplitSeen.{is_region_stand}
 use Rattle.module_text.proofs.SplitParts.{no_options, options_new, options_old, sound_end}
 use Rattle.module_text.proofs.split.options_outside.Goals as goal
 

@@ -1,4 +1,4 @@
-use Rattle.std.proofs.Common.{◌≡◌, ap, sym, ◌∙◌}
+use Rattle.std.proofs.Common.{ap, sym, ◌∙◌}
 use Rattle.std.specs.Prelude.{is_some}
 use Rattle.module_text.specs.StandsSeen.{IsSolid}
 use Rattle.module_text.specs.SplitSeen.{is_header_stand}

@@ -1,7 +1,7 @@
 use Rattle.std.proofs.Common.{ap, sym, ◌∙◌, arith, is_some}
 use Rattle.module_text.specs.FileParts.{holds_algorithm}
 use Rattle.module_text.proofs.StandSteps.{seen_found, seen_not, seen_none}
-use Rattle.module_text.proofs.split.holder.Goals as goal
+use Rattle.module_text.proofs.seek.holder.Goals as goal
 
 pub returns-then-is_some : goal.returns-then-is_some
 returns-then-is_some c =

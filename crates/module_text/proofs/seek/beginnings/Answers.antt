@@ -1,10 +1,9 @@
 use Rattle.std.proofs.Common.{ℕ, List, ◌+◌, ◌++◌, get_or, drop, ap, sym, ◌∙◌, append_assoc, append-nil}
-use Rattle.module_text.specs.Beginnings.{begins_algorithm, all_at}
-use Rattle.module_text.specs.StandsSeen.{stands_seen, located_seen}
-use Rattle.module_text.specs.FileParts.{beginnings, beginnings_in}
+use Rattle.module_text.specs.StandsSeen.{stands_seen}
+use Rattle.module_text.specs.FileParts.{beginnings}
 use Rattle.module_text.proofs.Comments.{begun_some, begun_none, begun_more, begun_done, no_stand}
-use Rattle.module_text.proofs.split.beginnings.Goals as goal
-use Rattle.module_text.proofs.split.beginnings.Goals.{in-Some+in_ok-add_beginnings, in_default}
+use Rattle.module_text.proofs.seek.beginnings.Goals as goal
+use Rattle.module_text.proofs.seek.beginnings.Goals.{in-Some+in_ok-add_beginnings, in_default}
 
 pub stands-preserved : goal.stands-preserved
 stands-preserved c =

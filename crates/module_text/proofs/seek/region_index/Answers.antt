@@ -1,7 +1,7 @@
 use Rattle.std.proofs.Common.{sym, ◌∙◌, arith}
 use Rattle.module_text.specs.SplitSeen.{is_region_stand}
 use Rattle.module_text.proofs.StandSteps.{found_here, not_here, none_there}
-use Rattle.module_text.proofs.split.region_index.Goals as goal
+use Rattle.module_text.proofs.seek.region_index.Goals as goal
 
 pub returns-then-is_region : goal.returns-then-is_region
 returns-then-is_region c = sym (found_here is_region_stand c.args.stands.now c.loop-i.i _ (omega arith) (sym c.is_region.ensures ∙ c.if-is_region.true)) ∙ c.loop-i.invariant

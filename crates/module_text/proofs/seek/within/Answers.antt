@@ -1,7 +1,7 @@
 use Rattle.std.proofs.Common.{ap, ◌∙◌}
 use Rattle.module_text.specs.declared.stand.Shape.TheVariants as shape
 use Rattle.module_text.proofs.Comments.{short_block, whole_block, short_open, whole_open}
-use Rattle.module_text.proofs.split.within.Goals as goal
+use Rattle.module_text.proofs.seek.within.Goals as goal
 
 pub returns-then-stand-lt4 : goal.returns-then-stand-lt4
 returns-then-stand-lt4 c = short_block c.args.text.now c.args.stand c.requires (c.in-Part.is ∙ ap shape.Part c.in-Block.is) c.if-stand-lt4.true
