@@ -2,6 +2,7 @@
 
 ghost use Rattle.std.specs.Prelude.{◌≡◌, ◌+◌, ◌^◌, ◌<◌, ◌≤◌, nat_le, ◌||◌, ◌&&◌, [], ◌∷◌, length, is_some, true};
 ghost use Rattle.tla_token.specs.declared.part.Class.TheVariants as class;
+ghost use Rattle.tla_token.specs.declared.fault.Reading as code;
 ghost use Rattle.tla_token.specs.Lexemes.{number_of, unquoted};
 ghost use Rattle.tla_token.specs.Limits.{past_numbers};
 ghost use Rattle.tla_token.specs.Tokens.{holds_mark};
@@ -151,10 +152,11 @@ fn bad_text_fault(bytes: &[u8], at: usize, reading: Reading) -> Option<(Rule, us
     sooner(bad, sooner(open, byte_fault(raw, at + 1)))
 }
 
-fn open_text_fault(bytes: &[u8], at: usize, reading: Reading) -> Option<(Rule, usize)>
+// It is the same in all readings.
+fn open_text_fault(bytes: &[u8], at: usize) -> Option<(Rule, usize)>
     requires some { 0 < length bytes.now }
     requires small { at + length bytes.now < 2 ^ 32 }
-    ensures { result ≡ least (part_offences_in reading at (part_of class.OpenText bytes.now)) }
+    ensures { (reading : code.Reading) → result ≡ least (part_offences_in reading at (part_of class.OpenText bytes.now)) }
 {
     sooner(
         Some((Rule::OpenString, at)),
@@ -175,7 +177,7 @@ pub fn part_fault(class: Class, bytes: &[u8], at: usize, reading: Reading) -> Op
         Class::Text => text_fault(bytes, at, reading),
         Class::Stray => stray_fault(bytes[0], at),
         Class::BadText => bad_text_fault(bytes, at, reading),
-        Class::OpenText => open_text_fault(bytes, at, reading),
+        Class::OpenText => open_text_fault(bytes, at),
         Class::OpenBlock => Some((Rule::OpenComment, at)),
         _ => None,
     }
