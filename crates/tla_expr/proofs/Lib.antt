@@ -60,3 +60,5 @@ pub mod StopsThere
 pub mod AlikeEnds
 pub mod AlikeEndsSteps
 mod RowsRefused
+mod RowsShape
+pub mod ShapeLemmas

@@ -10,6 +10,9 @@ pub mod node;
 pub mod op;
 pub mod pool;
 pub mod seen;
+pub mod shape;
+pub mod view;
+pub mod word;
 pub mod write;
 
 pub use name::{Name, NameList, PlacedName, Text};
