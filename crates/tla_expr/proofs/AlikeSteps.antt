@@ -8,7 +8,7 @@ use Rattle.tla_expr.specs.Rank.{is_bullet}
 use Rattle.tla_expr.specs.Lexical.{Mark, Key, TokenView, Token}
 use Rattle.tla_expr.specs.Lexical as tk
 use Rattle.tla_expr.specs.Spelling.{Field, Phrase, Binds, Path, can_be_head, is_some_path, takes_box}
-use Rattle.tla_expr.specs.Reader.{any, Reader, ◌>>=◌, is_mark, is_key, is_sign, place_if, a_mark, a_key, a_sign, word_of, field_of, a_word, a_field, bullet_of, Context, free, right_of, under, bound, is_free, prefix_by, goes_on, element, Readers, ended, named, from_name, set_rest, image_rest, brace_rest, set_from, member_rest, brace_name, braces, tuples, field_rest, function_rest, square_rest, square_from, bind_rest, square_member, plain_field, square_name, squares, list_if, primary, quantifier, choice_from, keyed, under_by, signed, operand, short_signed, short_by, apply_if, select_if, postfix_by, climb_if, climb_by, phrases_by, binds_by, fields_by, settings_by, setting_if, path_by, bullets_if, arms_other, arms_if, arms_by, locals_by, one_step, no_steps, readers}
+use Rattle.tla_expr.specs.Reader.{any, Reader, ◌>>=◌, is_mark, is_key, is_sign, place_if, a_mark, a_key, a_sign, word_of, field_of, a_word, a_field, bullet_of, Context, free, right_of, under, behind, bound, is_free, prefix_by, goes_on, element, Readers, ended, named, from_name, set_rest, image_rest, brace_rest, set_from, member_rest, brace_name, braces, tuples, field_rest, function_rest, square_rest, square_from, bind_rest, square_member, plain_field, square_name, squares, list_if, primary, quantifier, choice_from, keyed, under_by, signed, operand, short_signed, short_by, apply_if, select_if, postfix_by, climb_if, climb_by, phrases_by, binds_by, fields_by, settings_by, setting_if, path_by, bullets_if, arms_other, arms_if, arms_by, locals_by, one_step, no_steps, readers}
 use Rattle.tla_expr.proofs.Alike.{Within, IsFair, weaker, fair_gives, fair_refuses, fair_skip, fair_peek, fair_bind, fair_take}
 
 -- with n steps and more
@@ -16,7 +16,7 @@ pub record AreFair (n : ℕ) (r q : Readers) : Type 0 where
   pub expr : (e : ℕ) (c : Context) → IsFair (n + 1) (r.expr e c) (q.expr e c)
   pub short : (e : ℕ) → IsFair n (r.short e) (q.short e)
   pub postfix : (e : ℕ) (a : Phrase) → IsFair (n + 2) (r.postfix e a) (q.postfix e a)
-  pub climb : (e b : ℕ) (a : Phrase) → IsFair (n + 2) (r.climb e b a) (q.climb e b a)
+  pub climb : (e : ℕ) (c : Context) (a : Phrase) → IsFair (n + 2) (r.climb e c a) (q.climb e c a)
   pub phrases : (e : ℕ) → IsFair n (r.phrases e) (q.phrases e)
   pub binds : (e : ℕ) (p : Place) (x : Word) → IsFair n (r.binds e p x) (q.binds e p x)
   pub fields : (e : ℕ) (m : Mark) (f : Field) → IsFair n (r.fields e m f) (q.fields e m f)
@@ -63,8 +63,8 @@ module _ (n : ℕ) (r q : Readers) (h : AreFair n r q) where
   postfix : (e : ℕ) (a : Phrase) → IsFair n (r.postfix e a) (q.postfix e a)
   postfix e a = weaker (omega arith) (h.postfix e a)
 
-  climb : (e b : ℕ) (a : Phrase) → IsFair n (r.climb e b a) (q.climb e b a)
-  climb e b a = weaker (omega arith) (h.climb e b a)
+  climb : (e : ℕ) (c : Context) (a : Phrase) → IsFair n (r.climb e c a) (q.climb e c a)
+  climb e c a = weaker (omega arith) (h.climb e c a)
 
   ends : {A : Type 0} (e : ℕ) (m : Mark) (f : Place → A) → IsFair n (ended e m f) (ended e m f)
   ends e m f = fair_mark l0 e m (λ p. fair_gives)
@@ -99,8 +99,8 @@ module _ (n : ℕ) (r q : Readers) (h : AreFair n r q) where
   fair_member e p s x t a u k = fair_set_from e p (element s x t a)
 
   fair_brace_name : (e : ℕ) (p s : Place) (x : Word) (t : Place) (k : TokenView) → IsFair n (brace_name (any r) r e p s x t k) (brace_name (any q) q e p s x t k)
-  fair_brace_name e p s x t (tk.sign op.In) = fair_skip l0 (fair_bind (expr e free) (λ a. fair_peek e (fair_member e p s x t a)))
-  fair_brace_name e p s x t k = fair_bind (fair_from e s x) (λ a. fair_bind (climb e 0 a) (λ b. fair_peek e (fair_brace e p b)))
+  fair_brace_name e p s x t (tk.sign op.In) = fair_skip l0 (fair_bind (expr e (behind s x t)) (λ a. fair_peek e (fair_member e p s x t a)))
+  fair_brace_name e p s x t k = fair_bind (fair_from e s x) (λ a. fair_bind (climb e free a) (λ b. fair_peek e (fair_brace e p b)))
 
   fair_braces : (e : ℕ) (p s : Place) (k : TokenView) → IsFair n (braces (any r) r e p s k) (braces (any q) q e p s k)
   fair_braces e p s (tk.mark tk.close_brace) = fair_skip l0 fair_gives
@@ -143,8 +143,8 @@ module _ (n : ℕ) (r q : Readers) (h : AreFair n r q) where
   fair_square_name e p s x t (tk.mark tk.maps) = fair_in_fields e p (plain_field s x) t (tk.mark tk.maps)
   fair_square_name e p s x t (tk.mark tk.colon) = fair_in_fields e p (plain_field s x) t (tk.mark tk.colon)
   fair_square_name e p s x t (tk.mark tk.comma) = fair_bind (h.binds e s x) (λ bs. fair_function e p bs)
-  fair_square_name e p s x t (tk.sign op.In) = fair_skip l0 (fair_bind (expr e free) (λ a. fair_peek e (fair_square_member e p s x t a)))
-  fair_square_name e p s x t k = fair_bind (fair_from e s x) (λ a. fair_bind (climb e 0 a) (λ b. fair_peek e (fair_square e p b)))
+  fair_square_name e p s x t (tk.sign op.In) = fair_skip l0 (fair_bind (expr e (behind s x t)) (λ a. fair_peek e (fair_square_member e p s x t a)))
+  fair_square_name e p s x t k = fair_bind (fair_from e s x) (λ a. fair_bind (climb e free a) (λ b. fair_peek e (fair_square e p b)))
 
   fair_squares : (e : ℕ) (p s : Place) (k : TokenView) → IsFair n (squares (any r) r e p s k) (squares (any q) q e p s k)
   fair_squares e p s (tk.reserved x) = fair_skip l0 (fair_peek e (fair_in_fields e p _))
@@ -219,13 +219,13 @@ module _ (n : ℕ) (r q : Readers) (h : AreFair n r q) where
   fair_postfix e a p (tk.mark tk.dot) = fair_select (can_be_head a p) e a p
   fair_postfix e a p k = fair_gives
 
-  fair_climb_if : (m : Bool) (e b : ℕ) (a : Phrase) (p : Place) (o : Op) → IsFair (n + 3) (climb_if m (any r) r e b a p o) (climb_if m (any q) q e b a p o)
-  fair_climb_if true e b a p o = fair_skip l3 (fair_bind (expr e (right_of o)) (λ d. climb e b _))
-  fair_climb_if false e b a p o = fair_gives
+  fair_climb_if : (m : Bool) (e : ℕ) (c : Context) (a : Phrase) (p : Place) (o : Op) → IsFair (n + 3) (climb_if m (any r) r e c a p o) (climb_if m (any q) q e c a p o)
+  fair_climb_if true e c a p o = fair_skip l3 (fair_bind (expr e (right_of o)) (λ d. climb e c _))
+  fair_climb_if false e c a p o = fair_gives
 
-  fair_climb : (e b : ℕ) (a : Phrase) (p : Place) (k : TokenView) → IsFair (n + 3) (climb_by (any r) r e b a p k) (climb_by (any q) q e b a p k)
-  fair_climb e b a p (tk.sign o) = fair_climb_if (goes_on b a p o) e b a p o
-  fair_climb e b a p k = fair_gives
+  fair_climb : (e : ℕ) (c : Context) (a : Phrase) (p : Place) (k : TokenView) → IsFair (n + 3) (climb_by (any r) r e c a p k) (climb_by (any q) q e c a p k)
+  fair_climb e c a p (tk.sign o) = fair_climb_if (goes_on (bound c) a p o) e c a p o
+  fair_climb e c a p k = fair_gives
 
   -- ---- lists
   fair_phrases : (e : ℕ) (a : Phrase) (p : Place) (k : TokenView) → IsFair (n + 3) (phrases_by r e a p k) (phrases_by q e a p k)
@@ -277,10 +277,10 @@ module _ (n : ℕ) (r q : Readers) (h : AreFair n r q) where
   -- ---- one step more
   fair_step : AreFair (suc n) (one_step (any r) r) (one_step (any q) q)
   fair_step = record {
-    expr = λ e c. weaker (omega arith) (fair_bind (fair_peek e (fair_operand e c)) (λ a. h.climb e (bound c) a));
+    expr = λ e c. weaker (omega arith) (fair_bind (fair_peek e (fair_operand e c)) (λ a. h.climb e c a));
     short = λ e. weaker (omega arith) (fair_peek e (fair_short e));
     postfix = λ e a. weaker (omega arith) (fair_peek e (fair_postfix e a));
-    climb = λ e b a. weaker (omega arith) (fair_peek e (fair_climb e b a));
+    climb = λ e c a. weaker (omega arith) (fair_peek e (fair_climb e c a));
     phrases = λ e. weaker (omega arith) (fair_bind (h.expr e free) (λ a. fair_peek e (λ p k. weaker (omega arith) (fair_phrases e a p k))));
     binds = λ e p x. weaker (omega arith) (fair_peek e (fair_binds e p x));
     fields = λ e m f. weaker (omega arith) (fair_mark l3 e m (λ p. fair_bind (expr e free) (λ a. fair_peek e (fair_fields e m f p a))));
@@ -301,7 +301,7 @@ module _ (r q : Readers) (f : AreFair 0 r r) (g : AreFair 0 q q) where
     expr = λ e c. empty (omega arith) (f.expr e c).left (g.expr e c).left;
     short = λ e. empty (omega arith) (f.short e).left (g.short e).left;
     postfix = λ e a. empty (omega arith) (f.postfix e a).left (g.postfix e a).left;
-    climb = λ e b a. empty (omega arith) (f.climb e b a).left (g.climb e b a).left;
+    climb = λ e c a. empty (omega arith) (f.climb e c a).left (g.climb e c a).left;
     phrases = λ e. empty (omega arith) (f.phrases e).left (g.phrases e).left;
     binds = λ e p x. empty (omega arith) (f.binds e p x).left (g.binds e p x).left;
     fields = λ e m x. empty (omega arith) (f.fields e m x).left (g.fields e m x).left;
@@ -317,7 +317,7 @@ fewer n r q h = record {
   expr = λ e c. weaker (omega arith) (h.expr e c);
   short = λ e. weaker (omega arith) (h.short e);
   postfix = λ e a. weaker (omega arith) (h.postfix e a);
-  climb = λ e b a. weaker (omega arith) (h.climb e b a);
+  climb = λ e c a. weaker (omega arith) (h.climb e c a);
   phrases = λ e. weaker (omega arith) (h.phrases e);
   binds = λ e p x. weaker (omega arith) (h.binds e p x);
   fields = λ e m x. weaker (omega arith) (h.fields e m x);
@@ -333,7 +333,7 @@ fair_none = record {
   expr = λ e c. fair_refuses;
   short = λ e. fair_refuses;
   postfix = λ e a. fair_refuses;
-  climb = λ e b a. fair_refuses;
+  climb = λ e c a. fair_refuses;
   phrases = λ e. fair_refuses;
   binds = λ e p x. fair_refuses;
   fields = λ e m f. fair_refuses;

@@ -62,3 +62,4 @@ pub mod AlikeEndsSteps
 mod RowsRefused
 mod RowsShape
 pub mod ShapeLemmas
+mod RowsLimit

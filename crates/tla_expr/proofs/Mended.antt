@@ -152,7 +152,7 @@ pub record Mends (r : Readers) : Type 0 where
   pub expr : (e : ℕ) (c : Context) (ts : List Token) (u : Stop) → r.expr e c ts ≡ Err u → Mend (Fits c e) spell ts u.1
   pub short : (e : ℕ) (ts : List Token) (u : Stop) → r.short e ts ≡ Err u → Mend (Brief e) spell ts u.1
   pub postfix : (e : ℕ) (b : Phrase) → Good e b → is_primary (head b) ≡ true → (ts : List Token) (u : Stop) → r.postfix e b ts ≡ Err u → Mend (Prime e) spell (spell b ts) u.1
-  pub climb : (e : ℕ) (c : Context) (b : Phrase) → Good e b → fits c b ≡ true → (ts : List Token) (u : Stop) → r.climb e (bound c) b ts ≡ Err u → Mend (Fits c e) spell (spell b ts) u.1
+  pub climb : (e : ℕ) (c : Context) (b : Phrase) → Good e b → fits c b ≡ true → (ts : List Token) (u : Stop) → r.climb e c b ts ≡ Err u → Mend (Fits c e) spell (spell b ts) u.1
   pub phrases : (e : ℕ) (ts : List Token) (u : Stop) → r.phrases e ts ≡ Err u → Mend (GoodAll e) spell_all ts u.1
   pub binds : (e : ℕ) (p : Place) (x : Word) → Right e p → (ts : List Token) (u : Stop) → r.binds e p x ts ≡ Err u → Mend (GoodBinds e) spell_binds (word p x ts) u.1
   pub fields : (e : ℕ) (m : Mark) (f : Field) → Right e f.place → (ts : List Token) (u : Stop) → r.fields e m f ts ≡ Err u → Mend (GoodFields e) (spell_fields m) (field_token f ts) u.1

@@ -10,7 +10,7 @@ use Rattle.tla_expr.specs.Spelling.{last, more, Binds, last_bind, bind, last_fie
 use Rattle.tla_expr.specs.Spelling.{mark, key, sign, word, field_token, spell, spell_all, spell_binds, spell_fields, spell_settings, Right, Good, GoodBinds, is_word, is_in}
 use Rattle.tla_expr.proofs.SpellAhead.{held, put_ahead, then_ahead, ahead, ahead_all, ahead_binds, ahead_fields, ahead_settings}
 use Rattle.tla_expr.proofs.Mended.{right_after, after, mark_at, sign_at, number_at, word_at, some, some_bind, Mend, inside, missing, onto, left_is, broken, mark_err, word_err, gives_err, ended_err, Fits, Prime, Mends}
-use Rattle.tla_expr.specs.Reader.{Stop, any, next, tail, free, Readers, element, named, from_name, set_rest, brace_rest, set_from, member_rest, brace_name, braces, tuples, field_rest, function_rest, square_rest, square_from, bind_rest, square_member, plain_field, square_name, squares}
+use Rattle.tla_expr.specs.Reader.{Stop, any, next, tail, free, behind, Readers, element, named, from_name, set_rest, brace_rest, set_from, member_rest, brace_name, braces, tuples, field_rest, function_rest, square_rest, square_from, bind_rest, square_member, plain_field, square_name, squares}
 use Rattle.tla_expr.proofs.ReadMembers.{is_member, bind_member}
 use Rattle.tla_expr.proofs.SoundTokens.{seen, mark_ok, word_ok}
 use Rattle.tla_expr.proofs.SoundPhrases.{Sound, no_word, no_in, element_is, named_sound, from_name_sound}
@@ -107,8 +107,8 @@ module _ (r : Readers) (s : Sound r) (h : Mends r) where
   brace_name_mended e p g q x gq t (tk.sign op.In) ts u i o =
       let n = seen e ts t (tk.sign op.In) i refl in
       broken o
-      (λ j. (let m = h.expr e free (tail ts) u j in inside (λ v. mark p tk.open_brace (word q x (sign t op.In v))) (put_ahead (put_ahead (put_ahead held))) (mark_at e tk.colon ∷ number_at e ∷ mark_at e tk.close_brace ∷ []) m (filter p q x t m.whole (after e) (some e) (after e)) ((g, gq, n.0, m.good.0, right_after e, right_after e, right_after e), refl) (λ v. refl) (rw n.1 refl)))
-      (λ a us j l. (let w = s.expr e free (tail ts) a us j in onto (rw (w.2, n.1) refl) (member_mended e p g q x t gq n.0 a w.0 (next e us).place (next e us).kind us u refl l)))
+      (λ j. (let m = h.expr e (behind q x t) (tail ts) u j in inside (λ v. mark p tk.open_brace (word q x (sign t op.In v))) (put_ahead (put_ahead (put_ahead held))) (mark_at e tk.colon ∷ number_at e ∷ mark_at e tk.close_brace ∷ []) m (filter p q x t m.whole (after e) (some e) (after e)) ((g, gq, n.0, m.good.0, right_after e, right_after e, right_after e), refl) (λ v. refl) (rw n.1 refl)))
+      (λ a us j l. (let w = s.expr e (behind q x t) (tail ts) a us j in onto (rw (w.2, n.1) refl) (member_mended e p g q x t gq n.0 a w.0 (next e us).place (next e us).kind us u refl l)))
   brace_name_mended e p g q x gq t k ts u i o = brace_name_other e p g q x gq ts u (ap (λ (z : Token). is_in z.kind) i) o
 
   braces_other : (e : ℕ) (p : Place) → Right e p → (ts : List Token) (u : Stop) → is_word (next e ts).kind ≡ false → braces (any r) r e p (next e ts).place (tk.other []) ts ≡ Err u → Mend (Prime e) spell (mark p tk.open_brace ts) u.1
@@ -235,8 +235,8 @@ module _ (r : Readers) (s : Sound r) (h : Mends r) where
       let n = seen e ts t (tk.sign op.In) i refl in
       let z = right_after e in
       broken o
-      (λ j. (let m = h.expr e free (tail ts) u j in inside (λ v. mark p tk.open_square (word q x (sign t op.In v))) (put_ahead (put_ahead (put_ahead held))) (mark_at e tk.maps ∷ number_at e ∷ mark_at e tk.close_square ∷ []) m (function p (last_bind q x t m.whole) (after e) (some e) (after e)) ((g, (gq, n.0, m.good.0), z, z, z), refl) (λ v. refl) (rw n.1 refl)))
-      (λ a us j l. (let w = s.expr e free (tail ts) a us j in onto (rw (w.2, n.1) refl) (square_member_mended e p g q x t gq n.0 a w.0 (next e us).place (next e us).kind us u refl l)))
+      (λ j. (let m = h.expr e (behind q x t) (tail ts) u j in inside (λ v. mark p tk.open_square (word q x (sign t op.In v))) (put_ahead (put_ahead (put_ahead held))) (mark_at e tk.maps ∷ number_at e ∷ mark_at e tk.close_square ∷ []) m (function p (last_bind q x t m.whole) (after e) (some e) (after e)) ((g, (gq, n.0, m.good.0), z, z, z), refl) (λ v. refl) (rw n.1 refl)))
+      (λ a us j l. (let w = s.expr e (behind q x t) (tail ts) a us j in onto (rw (w.2, n.1) refl) (square_member_mended e p g q x t gq n.0 a w.0 (next e us).place (next e us).kind us u refl l)))
   square_name_mended e p g q x gq t k ts u i o = square_name_other e p g q x gq t ts u o
 
   squares_other : (e : ℕ) (p : Place) → Right e p → (q : Place) (ts : List Token) (u : Stop) → squares (any r) r e p q (tk.other []) ts ≡ Err u → Mend (Prime e) spell (mark p tk.open_square ts) u.1

@@ -202,10 +202,10 @@ module _ (r : Readers) (s : Sound r) (h : Mends r) where
       by false m o = gives_err b ts u o
   postfix_mended e b g f p k ts u i o = gives_err b ts u o
 
-  pub climb_mended : (e : ℕ) (c : Context) (b : Phrase) → Good e b → fits c b ≡ true → (p : Place) (k : TokenView) (ts : List Token) (u : Stop) → next e ts ≡ token p k → climb_by (any r) r e (bound c) b p k ts ≡ Err u → Mend (Fits c e) spell (spell b ts) u.1
+  pub climb_mended : (e : ℕ) (c : Context) (b : Phrase) → Good e b → fits c b ≡ true → (p : Place) (k : TokenView) (ts : List Token) (u : Stop) → next e ts ≡ token p k → climb_by (any r) r e c b p k ts ≡ Err u → Mend (Fits c e) spell (spell b ts) u.1
   climb_mended e c b g f p (tk.sign o) ts u i l = by (goes_on (bound c) b p o) refl l
     where
-      by : (m : Bool) → goes_on (bound c) b p o ≡ m → climb_if m (any r) r e (bound c) b p o ts ≡ Err u → Mend (Fits c e) spell (spell b ts) u.1
+      by : (m : Bool) → goes_on (bound c) b p o ≡ m → climb_if m (any r) r e c b p o ts ≡ Err u → Mend (Fits c e) spell (spell b ts) u.1
       by true m l =
           let n = seen e ts p (tk.sign o) i refl in
           let w = and_parts (not (is_prefix o)) (nat_lt (bound c) (rank o).0 && can_be_left b p o) m in

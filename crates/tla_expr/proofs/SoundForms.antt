@@ -12,7 +12,7 @@ use Rattle.tla_expr.specs.Spelling.{Field, Phrase, number, string, constant, bra
 use Rattle.tla_expr.specs.Spelling.{Phrases, last, more, Binds, share, Fields, last_field, field, Settings, last_setting, setting, Path, path_end, index, at_field, Bullets, last_bullet, bullet, Arms, last_arm, other_arm, arm, Locals, last_local, more_locals}
 use Rattle.tla_expr.specs.Spelling.{mark, key, sign, word, field_token, spell, spell_all, spell_binds, spell_fields, spell_settings, spell_path, spell_bullets, spell_arms, spell_locals, Right, Good, GoodAll, GoodBinds, GoodFields, GoodSettings, GoodPath, GoodBullets, GoodArms, GoodLocals, Head, primary, applied, open_form, head, is_primary, is_open, is_above, is_applied, is_short, first_bullet, can_be_left, can_be_under, can_be_head, is_some_path, takes_box}
 use Rattle.tla_expr.specs.Spelling as sp
-use Rattle.tla_expr.specs.Reader.{any, ◌>>=◌, gives, next, tail, peek, take, is_sign, bullet_of, Context, free, right_of, under, bound, fits, is_free, prefix_by, goes_on, Readers, list_if, keyed, under_by, signed, operand, short_signed, short_by, apply_if, select_if, postfix_by, climb_if, climb_by, phrases_by, binds_by, fields_by, settings_by, setting_if, path_by, bullets_if, arms_other, arms_if, arms_by, locals_by}
+use Rattle.tla_expr.specs.Reader.{any, ◌>>=◌, gives, next, tail, peek, take, is_sign, bullet_of, Context, free, right_of, under, behind, bound, fits, is_free, prefix_by, goes_on, Readers, list_if, keyed, under_by, signed, operand, short_signed, short_by, apply_if, select_if, postfix_by, climb_if, climb_by, phrases_by, binds_by, fields_by, settings_by, setting_if, path_by, bullets_if, arms_other, arms_if, arms_by, locals_by}
 use Rattle.tla_expr.specs.Reader as rd
 use Rattle.tla_expr.proofs.ReadStops.{sign_infix}
 use Rattle.tla_expr.proofs.ReadLists.{first_column}
@@ -32,6 +32,7 @@ above_all o open_form k = absurd cc
 
 pub prime_fits : (c : Context) (a : Phrase) → is_primary (head a) ≡ true → fits c a ≡ true
 prime_fits free a k = refl
+prime_fits (behind s x t) a k = refl
 prime_fits (right_of o) a k = rw (above_all o (head a) k) refl
 prime_fits (under o) a k = rw (above_all o (head a) k) refl
 
@@ -41,6 +42,7 @@ prime_short a k = k
 
 pub open_fits : (c : Context) (a : Phrase) → is_open (head a) ≡ true → fits c a ≡ true
 open_fits free a k = refl
+open_fits (behind s x t) a k = refl
 open_fits (right_of o) a k = rw k (or_true (is_above o (head a)))
 open_fits (under o) a k = rw (k, or_true (is_applied o (head a))) (or_true (is_above o (head a)))
 
@@ -50,16 +52,19 @@ short_under o a k = rw (k, or_true (is_open (head a)), or_true (is_applied o (he
 -- a prefix operator, with a short form or in a place where it is free
 pub short_fits : (c : Context) (p : Place) (q : Op) (a : Phrase) → is_short a ≡ true → fits c (prefix_of p q a) ≡ true
 short_fits free p q a k = refl
+short_fits (behind s x t) p q a k = refl
 short_fits (right_of o) p q a k = rw k (or_true (is_above o (applied q)))
 short_fits (under o) p q a k = rw (k, or_true (same_op o q)) (or_true (is_above o (applied q)))
 
 pub free_fits : (c : Context) (p : Place) (q : Op) (a : Phrase) → is_free c q ≡ true → fits c (prefix_of p q a) ≡ true
 free_fits free p q a k = refl
+free_fits (behind s x t) p q a k = refl
 free_fits (right_of o) p q a k = rw k refl
 free_fits (under o) p q a k = elim (or_cases (nat_lt (rank o).1 (rank q).0) (same_op o q) k) [ inl i ↦ rw i refl | inr i ↦ rw i (or_true (nat_lt (rank o).1 (rank q).0)) ]
 
 pub infix_fits : (c : Context) (a : Phrase) (p : Place) (o : Op) (d : Phrase) → nat_lt (bound c) (rank o).0 ≡ true → fits c (infix_of a p o d) ≡ true
 infix_fits free a p o d k = refl
+infix_fits (behind s x t) a p o d k = refl
 infix_fits (right_of q) a p o d k = rw k refl
 infix_fits (under q) a p o d k = rw k refl
 
@@ -261,10 +266,10 @@ module _ (r : Readers) (h : Sound r) where
       by false m o = given (λ d vs. IsPrime e (spell b ts) d vs) o (g, f, refl)
   postfix_sound e b g f p k ts a us s o = given (λ d vs. IsPrime e (spell b ts) d vs) o (g, f, refl)
 
-  pub climb_sound : (e : ℕ) (c : Context) (b : Phrase) → Good e b → fits c b ≡ true → (p : Place) (k : TokenView) (ts : List Token) (a : Phrase) (us : List Token) → next e ts ≡ token p k → climb_by (any r) r e (bound c) b p k ts ≡ Ok (a, us) → Fitting c e (spell b ts) a us
+  pub climb_sound : (e : ℕ) (c : Context) (b : Phrase) → Good e b → fits c b ≡ true → (p : Place) (k : TokenView) (ts : List Token) (a : Phrase) (us : List Token) → next e ts ≡ token p k → climb_by (any r) r e c b p k ts ≡ Ok (a, us) → Fitting c e (spell b ts) a us
   climb_sound e c b g f p (tk.sign o) ts a us s i = by (goes_on (bound c) b p o) refl i
     where
-      by : (m : Bool) → goes_on (bound c) b p o ≡ m → climb_if m (any r) r e (bound c) b p o ts ≡ Ok (a, us) → Fitting c e (spell b ts) a us
+      by : (m : Bool) → goes_on (bound c) b p o ≡ m → climb_if m (any r) r e c b p o ts ≡ Ok (a, us) → Fitting c e (spell b ts) a us
       by true m i =
           let n = seen e ts p (tk.sign o) s refl in
           let w = and_parts (not (is_prefix o)) (nat_lt (bound c) (rank o).0 && can_be_left b p o) m in

@@ -30,7 +30,7 @@ pub record Sound (r : Readers) : Type 0 where
   pub expr : (e : ℕ) (c : Context) (ts : List Token) (a : Phrase) (us : List Token) → r.expr e c ts ≡ Ok (a, us) → Fitting c e ts a us
   pub short : (e : ℕ) (ts : List Token) (a : Phrase) (us : List Token) → r.short e ts ≡ Ok (a, us) → Good e a × (is_short a ≡ true) × (spell a us ≡ ts)
   pub postfix : (e : ℕ) (b : Phrase) → Good e b → is_primary (head b) ≡ true → (ts : List Token) (a : Phrase) (us : List Token) → r.postfix e b ts ≡ Ok (a, us) → IsPrime e (spell b ts) a us
-  pub climb : (e : ℕ) (c : Context) (b : Phrase) → Good e b → fits c b ≡ true → (ts : List Token) (a : Phrase) (us : List Token) → r.climb e (bound c) b ts ≡ Ok (a, us) → Fitting c e (spell b ts) a us
+  pub climb : (e : ℕ) (c : Context) (b : Phrase) → Good e b → fits c b ≡ true → (ts : List Token) (a : Phrase) (us : List Token) → r.climb e c b ts ≡ Ok (a, us) → Fitting c e (spell b ts) a us
   pub phrases : (e : ℕ) (ts : List Token) (xs : Phrases) (us : List Token) → r.phrases e ts ≡ Ok (xs, us) → GoodAll e xs × (spell_all xs us ≡ ts)
   pub binds : (e : ℕ) (p : Place) (x : Word) → Right e p → (ts : List Token) (bs : Binds) (us : List Token) → r.binds e p x ts ≡ Ok (bs, us) → GoodBinds e bs × (spell_binds bs us ≡ word p x ts)
   pub fields : (e : ℕ) (m : Mark) (f : Field) → Right e f.place → (ts : List Token) (fs : Fields) (us : List Token) → r.fields e m f ts ≡ Ok (fs, us) → GoodFields e fs × (spell_fields m fs us ≡ field_token f ts)
