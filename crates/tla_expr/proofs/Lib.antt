@@ -63,3 +63,7 @@ mod RowsRefused
 mod RowsShape
 pub mod ShapeLemmas
 mod RowsLimit
+pub mod Opened
+pub mod Enough
+pub mod EnoughSteps
+pub mod Whole

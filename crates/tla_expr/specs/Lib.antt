@@ -18,4 +18,5 @@ pub mod Nesting
 pub mod FirstStop
 pub mod Reader
 pub mod ShapeOf
+pub mod Whole
 pub mod laws

@@ -222,13 +222,14 @@ pub record Room : Type 0 where
 abbrev pub within : ℕ → Room → Room
 within k m = record { at = λ n. m.at (suc k + n); fits = λ n. m.fits (suc k + n) }
 
+-- with these readers, or refused
+abbrev pub read_by : {A : Type 0} → Option Readers → (Readers → Reader A) → Reader A
+read_by (Some d) f = f d
+read_by None f = too_deep
+
 -- with one more form open, and so many besides, or refused
 abbrev pub opened : {A : Type 0} → Room → ℕ → (Room → Readers → Reader A) → Reader A
-opened {A} m k f = by (m.at (suc k))
-  where
-    by : Option Readers → Reader A
-    by (Some d) = f (within k m) d
-    by None = too_deep
+opened m k f = read_by (m.at (suc k)) (f (within k m))
 
 -- wherever any number of forms may be open
 abbrev pub any : Readers → Room
