@@ -19,4 +19,5 @@ pub mod FirstStop
 pub mod Reader
 pub mod ShapeOf
 pub mod Whole
+pub mod ReadIn
 pub mod laws

@@ -1,6 +1,7 @@
 //! Expressions of TLA+: their trees, how they are spelled, and their written text.
 #![tactic(auto)]
 
+pub mod cursor;
 mod done;
 pub mod form;
 pub mod graft;
