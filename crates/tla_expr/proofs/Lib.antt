@@ -62,6 +62,8 @@ pub mod AlikeEndsSteps
 mod RowsRefused
 mod RowsShape
 pub mod ShapeLemmas
+pub mod MakeLemmas
+pub mod ReadLemmas
 mod RowsLimit
 pub mod Opened
 pub mod Enough

@@ -10,7 +10,11 @@ use Rattle.tla_expr.specs.declared.cursor.FieldName.{FieldName}
 use Rattle.tla_expr.specs.Tree as tree
 use Rattle.tla_expr.specs.Lexical.{Token}
 use Rattle.tla_expr.specs.TokenViews.{view}
-use Rattle.tla_expr.specs.Spelling.{Field}
+use Rattle.tla_expr.specs.Spelling.{Field, Phrase, Phrases, last, more, tree_of, trees_of, start}
+use Rattle.tla_expr.specs.Pool.{at, trees_at, AllBelow}
+use Rattle.tla_expr.specs.ShapeOf.{shape_of, in_all}
+use Rattle.tla_expr.specs.declared.make.Read.{Read}
+use Rattle.tla_expr.specs.declared.make.Row.{Row}
 use Rattle.tla_expr.specs.Reader.{Out}
 
 -- words are among these bytes
@@ -32,3 +36,31 @@ Fails (halt.Refused r n) (Err s) = (s.0 ≡ r) × (length s.1 ≡ n)
 abbrev pub Gives : {X A : Type 0} → (X → A × List Token) → Result X Halt → Out A → Type 0
 Gives f (Ok x) o = o ≡ Ok (f x)
 Gives f (Err e) o = Fails e o
+
+-- ---- phrases in a pool
+abbrev pub first_of : Phrases → Phrase
+first_of (last a) = a
+first_of (more a p xs) = a
+
+-- the number has the tree of the phrase, and its shape is told
+pub record IsIn (ts : List tree.Tree) (x : Read) (a : Phrase) : Type 0 where
+  pub below : x.id < length ts
+  pub tree : at ts x.id ≡ tree_of a
+  pub shape : shape_of a ≡ x.shape
+
+-- so many numbers have the trees of phrases in a row
+pub record AreIn (ts : List tree.Tree) (is : List ℕ) (r : Row) (xs : Phrases) : Type 0 where
+  pub below : AllBelow (length ts) is
+  pub trees : trees_at ts is ≡ trees_of xs
+  pub nesting : in_all xs ≡ r.nesting
+  pub first : start (first_of xs) ≡ r.first
+
+-- something is read that is told of, and these tokens are left
+pub record Reads {A : Type 0} (P : A → Type 0) (u : List Token) (o : Out A) : Type 0 where
+  pub what : A
+  pub is : o ≡ Ok (what, u)
+  pub told : P what
+
+abbrev pub Told : {X A : Type 0} → (X → A → Type 0) → (X → List Token) → Result X Halt → Out A → Type 0
+Told P f (Ok x) o = Reads (P x) (f x) o
+Told P f (Err e) o = Fails e o

@@ -6,6 +6,7 @@ mod done;
 pub mod form;
 pub mod graft;
 pub mod laws;
+pub mod make;
 pub mod name;
 pub mod node;
 pub mod op;
