@@ -482,7 +482,7 @@ no_endings r q f = record {
 
 endings : (b n m : ℕ) → b ≤ n → b ≤ m → AreEnding b (readers n None) (readers m None)
 unfolding readers
-endings zero n m i j = no_endings (readers n None) (readers m None) (fair_readers 0 n m i j)
+endings zero n m i j = no_endings (readers n None) (readers m None) (fair_readers 0 n m i j None)
 endings (suc b) zero m i j = absurd (omega (arith, i))
 endings (suc b) (suc n) zero i j = absurd (omega (arith, j))
 endings (suc b) (suc n) (suc m) i j = on_step b (readers n None) (readers m None) (shuts n) (endings b n m (omega (arith, i)) (omega (arith, j)))

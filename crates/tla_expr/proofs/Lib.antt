@@ -69,3 +69,12 @@ pub mod Opened
 pub mod Enough
 pub mod EnoughSteps
 pub mod Whole
+pub mod DeepCounts
+pub mod Limited
+pub mod LimitedRooms
+pub mod LimitedBraces
+pub mod LimitedMembers
+pub mod LimitedForms
+pub mod LimitedSets
+pub mod LimitedAll
+pub mod LimitedStops

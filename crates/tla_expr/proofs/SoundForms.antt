@@ -1,5 +1,5 @@
 -- What is read is spelled: primaries, open forms, operators, and lists of all kinds.
-use Rattle.std.proofs.Common.{◌≡◌, ℕ, nat_eq, nat_lt, Bool, true, false, not, ◌&&◌, ◌||◌, List, ◌∷◌, Option, Some, None, Ok, refl, sym, ap, ◌∙◌, inl, inr}
+use Rattle.std.proofs.Common.{◌≡◌, ℕ, nat_eq, nat_lt, Bool, true, false, not, ◌&&◌, ◌||◌, List, ◌∷◌, Option, Some, None, Ok, Err, refl, sym, ap, ◌∙◌, inl, inr}
 use Rattle.std.proofs.lemmas.Bool.{and_parts, or_cases, not-true}
 use Rattle.tla_token.specs.declared.place.Place.{Place}
 use Rattle.tla_expr.specs.declared.op.Op.{Op}
@@ -81,6 +81,18 @@ pub bullet_sign : (o : Op) → is_bullet o ≡ true → sign_of o ≡ tk.sign o
 bullet_sign op.And h = refl
 bullet_sign op.Or h = refl
 bullet_sign o h = absurd cc
+
+abbrev pub is_infix : Phrase → Bool
+is_infix (infix_of a p o b) = true
+is_infix a = false
+
+prime_plain : (a : Phrase) → is_primary (head a) ≡ true → is_infix a ≡ false
+prime_plain (infix_of a p o b) h = absurd cc
+prime_plain a h = refl
+
+open_plain : (a : Phrase) → is_open (head a) ≡ true → is_infix a ≡ false
+open_plain (infix_of a p o b) h = absurd cc
+open_plain a h = refl
 
 abbrev IsOpen : ℕ → List Token → Phrase → List Token → Type 0
 IsOpen e ts a us = Good e a × (is_open (head a) ≡ true) × (spell a us ≡ ts)
@@ -226,6 +238,20 @@ module _ (r : Readers) (h : Sound r) where
   operand_sound e c p (tk.key k) ts a us s o = (let z = keyed_sound e p k ts a us s o in (z.0, open_fits c a z.1, z.2))
   operand_sound e c p (tk.sign o) ts a us s i = signed_sound e c p o ts a us s i
   operand_sound e c p k ts a us s o = (let z = primary_sound e p k ts a us s o in (z.0, prime_fits c a z.1, z.2))
+
+  -- an operand is no infix form
+  prefix_plain : (p : Place) (q : Op) (o : rd.Out Phrase) (a : Phrase) (us : List Token) → rd.then_read o (λ d. gives (prefix_of p q d)) ≡ Ok (a, us) → is_infix a ≡ false
+  prefix_plain p q (Ok x) a us i = given (λ d vs. is_infix d ≡ false) {x = prefix_of p q x.0} {u = x.1} i refl
+  prefix_plain p q (Err x) a us i = absurd cc
+
+  signed_plain : (e : ℕ) (c : Context) (p : Place) (o : Op) (s : Option Op) (ts : List Token) (a : Phrase) (us : List Token) → next e ts ≡ token p (tk.sign o) → signed (any r) r e c p o s ts ≡ Ok (a, us) → is_infix a ≡ false
+  signed_plain e c p o (Some q) ts a us s i = prefix_plain p q (under_by (is_free c q) r e q (tail ts)) a us i
+  signed_plain e c p o None ts a us s i = prime_plain a (list_sound e p o ts a us i).1
+
+  pub operand_plain : (e : ℕ) (c : Context) (p : Place) (k : TokenView) (ts : List Token) (a : Phrase) (us : List Token) → next e ts ≡ token p k → operand (any r) r e c p k ts ≡ Ok (a, us) → is_infix a ≡ false
+  operand_plain e c p (tk.key k) ts a us s o = open_plain a (keyed_sound e p k ts a us s o).1
+  operand_plain e c p (tk.sign o) ts a us s i = signed_plain e c p o (prefix_by o) ts a us s i
+  operand_plain e c p k ts a us s o = prime_plain a (primary_sound e p k ts a us s o).1
 
   pub short_sound : (e : ℕ) (p : Place) (k : TokenView) (ts : List Token) (a : Phrase) (us : List Token) → next e ts ≡ token p k → short_by (any r) r e p k ts ≡ Ok (a, us) → Good e a × (is_short a ≡ true) × (spell a us ≡ ts)
   short_sound e p (tk.sign o) ts a us s i = by (prefix_by o) refl i

@@ -4,7 +4,7 @@ ghost use Rattle.std.specs.Prelude.{◌≡◌, ◌⊎◌, ◌++◌, ℕ, ◌<◌
 ghost use Rattle.tla_expr.specs.Tree.{Tree};
 ghost use Rattle.tla_expr.specs.Lexical.{Token};
 ghost use Rattle.tla_expr.specs.Spelling.{Phrase, spell, tree_of, Good, IsGood, Spells, head, primary, end_list};
-ghost use Rattle.tla_expr.specs.Reader.{read};
+ghost use Rattle.tla_expr.specs.Reader.{read, read_limited};
 ghost use Rattle.tla_token.specs.declared.place.Place.{Place};
 ghost use Rattle.tla_token.specs.declared.rule.Refusal.{Refusal};
 ghost use Rattle.tla_token.specs.declared.rule.Rule.{Rule};
@@ -63,6 +63,11 @@ pub fn reading_stops_at_the_first_token()
 pub fn few_tokens_are_read_or_refused()
     ensures read { (ts rest : List Token) (a : Phrase) → read 0 ts ≡ Ok (a, rest) → length (spell a []) ≤ deepest_expression → ReadsExpression ts (length (spell a [])) (tree_of a) }
     ensures refused { (ts passed rest : List Token) (end : Place) (q : Rule) → read 0 ts ≡ Err (q, rest) → ts ≡ passed ++ rest → length passed ≤ deepest_expression → RefusesExpression ts end (record { rule = Syntax; place = get_or (map (λ (t : Token). t.place) ts) (length passed) end }) }
+{}
+
+/// What is read within the limit of open forms is what the grammar has there, up to the first token that doesn't pass.
+pub fn tokens_are_read_within_the_limit()
+    ensures { (ts rest : List Token) (a : Phrase) → read_limited ts ≡ Ok (a, rest) → ReadsExpression ts (length (spell a [])) (tree_of a) }
 {}
 
 /// Whether tokens spell an expression, and which, rests on their kinds and columns alone: tokens of other lines spell the same
