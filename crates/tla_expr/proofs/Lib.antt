@@ -64,6 +64,7 @@ mod RowsShape
 pub mod ShapeLemmas
 pub mod MakeLemmas
 pub mod ReadLemmas
+pub mod Rooms
 mod RowsLimit
 pub mod Opened
 pub mod Enough

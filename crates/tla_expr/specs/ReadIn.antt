@@ -1,5 +1,5 @@
 -- What the code reads, beside what is to be read: of the tokens that are left, and of phrases in a pool.
-use Rattle.std.specs.Prelude.{◌≡◌, ℕ, ◌<◌, List, length, map, Result, Ok, Err}
+use Rattle.std.specs.Prelude.{◌≡◌, ℕ, ◌<◌, ◌++◌, Bool, List, length, map, Result, Ok, Err}
 use Rattle.tla_token.specs.declared.place.Place.{Place}
 use Rattle.tla_token.specs.declared.token.Token as code_token
 use Rattle.tla_token.specs.TokensSeen.{token_seen, span_bytes}
@@ -10,9 +10,10 @@ use Rattle.tla_expr.specs.declared.cursor.FieldName.{FieldName}
 use Rattle.tla_expr.specs.Tree as tree
 use Rattle.tla_expr.specs.Lexical.{Token}
 use Rattle.tla_expr.specs.TokenViews.{view}
-use Rattle.tla_expr.specs.Spelling.{Field, Phrase, Phrases, last, more, tree_of, trees_of, start}
+use Rattle.tla_expr.specs.Spelling.{Field, Phrase, Phrases, last, more, Binds, Fields, Settings, Arms, Locals, groups, sets_before, local_names, right_sides_before, labels, field_trees, slots, setting_trees, has_other, arm_trees, tree_of, trees_of, start}
+use Rattle.tla_expr.specs.TreeOf.{trees_from}
 use Rattle.tla_expr.specs.Pool.{at, trees_at, AllBelow}
-use Rattle.tla_expr.specs.ShapeOf.{shape_of, in_all}
+use Rattle.tla_expr.specs.ShapeOf.{shape_of, in_all, in_binds, in_fields, in_settings, in_arms, in_locals}
 use Rattle.tla_expr.specs.declared.make.Read.{Read}
 use Rattle.tla_expr.specs.declared.make.Row.{Row}
 use Rattle.tla_expr.specs.Reader.{Out}
@@ -54,6 +55,37 @@ pub record AreIn (ts : List tree.Tree) (is : List ℕ) (r : Row) (xs : Phrases) 
   pub trees : trees_at ts is ≡ trees_of xs
   pub nesting : in_all xs ≡ r.nesting
   pub first : start (first_of xs) ≡ r.first
+
+-- these groups of names, and the numbers of their sets
+pub record AreBound (ts : List tree.Tree) (gs : List (List tree.Name)) (is : List ℕ) (n : ℕ) (bs : Binds) : Type 0 where
+  pub below : AllBelow (length ts) is
+  pub names : groups bs ≡ gs
+  pub sets : (us : List tree.Tree) → sets_before bs (trees_from us) ≡ trees_from (map (at ts) is ++ us)
+  pub nesting : in_binds bs ≡ n
+
+pub record AreLocals (ts : List tree.Tree) (xs : List tree.Name) (is : List ℕ) (n : ℕ) (ls : Locals) : Type 0 where
+  pub below : AllBelow (length ts) is
+  pub names : local_names ls ≡ xs
+  pub sides : (us : List tree.Tree) → right_sides_before ls (trees_from us) ≡ trees_from (map (at ts) is ++ us)
+  pub nesting : in_locals ls ≡ n
+
+pub record AreFields (ts : List tree.Tree) (xs : List tree.Word) (is : List ℕ) (n : ℕ) (fs : Fields) : Type 0 where
+  pub below : AllBelow (length ts) is
+  pub names : labels fs ≡ xs
+  pub trees : trees_at ts is ≡ field_trees fs
+  pub nesting : in_fields fs ≡ n
+
+pub record AreSettings (ts : List tree.Tree) (p : Place) (ps : List tree.Slot) (is : List ℕ) (n : ℕ) (ss : Settings) : Type 0 where
+  pub below : AllBelow (length ts) is
+  pub paths : slots p ss ≡ ps
+  pub trees : trees_at ts is ≡ setting_trees ss
+  pub nesting : in_settings ss ≡ n
+
+pub record AreArms (ts : List tree.Tree) (b : Bool) (is : List ℕ) (n : ℕ) (xs : Arms) : Type 0 where
+  pub below : AllBelow (length ts) is
+  pub other : has_other xs ≡ b
+  pub trees : trees_at ts is ≡ arm_trees xs
+  pub nesting : in_arms xs ≡ n
 
 -- something is read that is told of, and these tokens are left
 pub record Reads {A : Type 0} (P : A → Type 0) (u : List Token) (o : Out A) : Type 0 where

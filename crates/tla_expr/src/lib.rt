@@ -4,6 +4,7 @@
 pub mod cursor;
 mod done;
 pub mod form;
+pub mod gather;
 pub mod graft;
 pub mod laws;
 pub mod make;
@@ -11,6 +12,7 @@ pub mod name;
 pub mod node;
 pub mod op;
 pub mod pool;
+pub mod quote;
 pub mod seen;
 pub mod shape;
 pub mod view;

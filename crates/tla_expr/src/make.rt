@@ -41,8 +41,8 @@ pub struct Row {
     pub nesting: u32,
 }
 
-// The node of this form, with this shape.
-fn put(
+/// The node of this form, with this shape.
+pub fn put(
     pool: &mut Pool,
     form: Form,
     place: Place,
@@ -60,8 +60,8 @@ fn put(
     Ok(Read { id, shape })
 }
 
-// The bytes of a word, as a name.
-fn name_of(alloc: Global, tokens: &Tokens, span: Span) -> Result<Name, AllocError>
+/// The bytes of a word, as a name.
+pub fn name_of(alloc: Global, tokens: &Tokens, span: Span) -> Result<Name, AllocError>
     ensures { IfOk result (λ n. n ≡ span_bytes tokens.now.bytes.items span) }
 {
     let mut bytes = Vec::new(alloc);
@@ -69,8 +69,8 @@ fn name_of(alloc: Global, tokens: &Tokens, span: Span) -> Result<Name, AllocErro
     Ok(Name::new(bytes))
 }
 
-// The form of an operator with its operands.
-fn operation(op: Op) -> Form
+/// The form of an operator with its operands.
+pub fn operation(op: Op) -> Form
     ensures { form_of result ≡ operation_of op }
 {
     match op {
