@@ -65,6 +65,8 @@ pub mod ShapeLemmas
 pub mod MakeLemmas
 pub mod ReadLemmas
 pub mod Rooms
+pub mod ElementLemmas
+pub mod QuoteLemmas
 mod RowsLimit
 pub mod Opened
 pub mod Enough

@@ -41,6 +41,9 @@ starts {ts} {x} {a} h = sym (ap (λ (s : Shape). s.start) h.shape) ∙ start_is 
 pub number_in : {ts : List Tree} {x : Read} (p : Place) (n : ℕ) → x.id < length ts → at ts x.id ≡ node (pure.number n) p no_trees → x.shape ≡ primary_shape p 0 → IsIn ts x (spelled.number p n)
 number_in p n l t s = record { below = l; tree = t; shape = sym s }
 
+pub string_in : {ts : List Tree} {x : Read} (p : Place) (w v : Word) → x.id < length ts → at ts x.id ≡ node (pure.string w) p no_trees → w ≡ v → x.shape ≡ primary_shape p 0 → IsIn ts x (spelled.string p v)
+string_in p w v l t e s = record { below = l; tree = t ∙ ap (λ (u : Word). node (pure.string u) p no_trees) e; shape = sym s }
+
 pub constant_in : {ts : List Tree} {x : Read} (p : Place) (c : Constant) (f : Form) → x.id < length ts → at ts x.id ≡ node f p no_trees → f ≡ spelled.constant_form (constant_seen c) → x.shape ≡ primary_shape p 0 → IsIn ts x (spelled.constant p (constant_seen c))
 constant_in p c f l t e s = record { below = l; tree = t ∙ ap (λ (f : Form). node f p no_trees) e; shape = sym s }
 

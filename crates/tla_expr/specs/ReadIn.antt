@@ -1,5 +1,5 @@
 -- What the code reads, beside what is to be read: of the tokens that are left, and of phrases in a pool.
-use Rattle.std.specs.Prelude.{◌≡◌, ℕ, ◌<◌, ◌++◌, Bool, List, length, map, Result, Ok, Err}
+use Rattle.std.specs.Prelude.{◌≡◌, ℕ, ◌<◌, ◌++◌, Bool, List, length, map, Option, Some, None, Result, Ok, Err}
 use Rattle.tla_token.specs.declared.place.Place.{Place}
 use Rattle.tla_token.specs.declared.token.Token as code_token
 use Rattle.tla_token.specs.TokensSeen.{token_seen, span_bytes}
@@ -48,6 +48,13 @@ pub record IsIn (ts : List tree.Tree) (x : Read) (a : Phrase) : Type 0 where
   pub below : x.id < length ts
   pub tree : at ts x.id ≡ tree_of a
   pub shape : shape_of a ≡ x.shape
+
+-- an expression or none
+abbrev pub MayBeIn : List tree.Tree → Option Read → Option Phrase → Type 0
+MayBeIn ts (Some x) (Some a) = IsIn ts x a
+MayBeIn ts (Some x) None = ⊥
+MayBeIn ts None (Some a) = ⊥
+MayBeIn ts None None = Unit {0}
 
 -- so many numbers have the trees of phrases in a row
 pub record AreIn (ts : List tree.Tree) (is : List ℕ) (r : Row) (xs : Phrases) : Type 0 where

@@ -224,7 +224,13 @@ pub fn fields(
     ensures kept { Keeps pool.old pool.new }
 {
     let shape = primary_shape(place, 1 + nesting);
-    put(pool, Form::Strict(Strict::Fields(labels)), place, ids, shape)
+    put(
+        pool,
+        Form::Strict(Strict::Fields(labels)),
+        place,
+        ids,
+        shape,
+    )
 }
 
 /// `[a : S, b : T]`, with so many forms open in the fields.
@@ -244,7 +250,13 @@ pub fn records(
     ensures kept { Keeps pool.old pool.new }
 {
     let shape = primary_shape(place, 1 + nesting);
-    put(pool, Form::Strict(Strict::Records(labels)), place, ids, shape)
+    put(
+        pool,
+        Form::Strict(Strict::Records(labels)),
+        place,
+        ids,
+        shape,
+    )
 }
 
 /// `[f EXCEPT ![a].b = e, ..]`, with so many forms open in the settings; f is the first of the parts, and the subscripts and right
@@ -267,7 +279,13 @@ pub fn except(
     ensures kept { Keeps pool.old pool.new }
 {
     let shape = primary_shape(place, 1 + larger(f.shape.nesting, nesting));
-    put(pool, Form::Strict(Strict::Except(slots)), place, parts, shape)
+    put(
+        pool,
+        Form::Strict(Strict::Except(slots)),
+        place,
+        parts,
+        shape,
+    )
 }
 
 // ---- arms and items

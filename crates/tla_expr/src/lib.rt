@@ -3,6 +3,7 @@
 
 pub mod cursor;
 mod done;
+pub mod element;
 pub mod form;
 pub mod gather;
 pub mod graft;

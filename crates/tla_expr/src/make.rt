@@ -1,8 +1,9 @@
 //! Expressions that are put into a pool as they are read: a node for each form, and its shape.
 
-ghost use Rattle.std.specs.Prelude.{◌≡◌, ◌<◌, ◌≤◌, ◌+◌, ◌^◌, IfOk, true, false, [], length, max, List};
+ghost use Rattle.std.specs.Prelude.{◌≡◌, ◌<◌, ◌≤◌, ◌+◌, ◌^◌, IfOk, unwrap_or, true, false, [], length, max, List};
 ghost use Rattle.tla_token.specs.Limits.{past_numbers};
 ghost use Rattle.tla_token.specs.TokensSeen.{span_bytes};
+ghost use Rattle.tla_token.specs.Lexemes.{unquoted as unquoted_of};
 ghost use Rattle.tla_expr.specs.Pool.{at, trees_at, AllBelow, Keeps};
 ghost use Rattle.tla_expr.specs.Tree.{Tree, node};
 ghost use Rattle.tla_expr.specs.FormOf.{form_of};
@@ -20,6 +21,7 @@ use crate::name::Name;
 use crate::node::NodeId;
 use crate::op::Op;
 use crate::pool::Pool;
+use crate::quote::unquoted;
 use crate::shape::{
     Shape, infix_shape, larger, linked_shape, open_shape, prefix_shape, primary_shape,
 };
@@ -100,6 +102,23 @@ pub fn number(alloc: Global, pool: &mut Pool, place: Place, n: u128) -> Result<R
         Vec::new(alloc),
         primary_shape(place, 0),
     )
+}
+
+/// A string, by what is between its quotes.
+#[tactic(auto, using(crate::proofs::MakeLemmas::string_in))]
+pub fn string(
+    alloc: Global,
+    pool: &mut Pool,
+    tokens: &Tokens,
+    place: Place,
+    span: Span,
+) -> Result<Read, AllocError>
+    ensures read { IfOk result (λ x. IsIn pool.new x (spelled.string place (unwrap_or (unquoted_of (span_bytes tokens.now.bytes.items span)) []))) }
+    ensures shape { IfOk result (λ x. x.shape ≡ primary_shape_of place 0) }
+    ensures kept { Keeps pool.old pool.new }
+{
+    let form = Form::Quote(unquoted(alloc, tokens.word(span))?);
+    put(pool, form, place, Vec::new(alloc), primary_shape(place, 0))
 }
 
 /// `TRUE`, `FALSE`, `BOOLEAN` or `STRING`.
