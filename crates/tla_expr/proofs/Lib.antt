@@ -66,6 +66,7 @@ pub mod MakeLemmas
 pub mod ReadLemmas
 pub mod Rooms
 pub mod ElementLemmas
+pub mod DepthLemmas
 pub mod QuoteLemmas
 mod RowsLimit
 pub mod Opened

@@ -1,7 +1,8 @@
 -- What reading goes by of a phrase: its shape in memory.
-use Rattle.std.specs.Prelude.{ℕ, ◌+◌, max, Bool, true, false, ◌||◌, ◌&&◌, not, nat_lt, nat_eq, Option, Some, None}
+use Rattle.std.specs.Prelude.{◌≡◌, ℕ, ◌+◌, max, Bool, true, false, ◌||◌, ◌&&◌, not, nat_lt, nat_le, nat_eq, Option, Some, None, if◌then◌else◌}
 use Rattle.tla_token.specs.declared.place.Place.{Place}
 use Rattle.tla_expr.specs.declared.op.Op.{Op}
+use Rattle.tla_expr.specs.declared.op.Op.TheVariants as op
 use Rattle.tla_expr.specs.declared.shape.Head.{Head}
 use Rattle.tla_expr.specs.declared.shape.Head.TheVariants as at
 use Rattle.tla_expr.specs.declared.shape.Boxes.{Boxes}
@@ -161,3 +162,18 @@ abbrev mutual
   pub in_locals : Locals → ℕ
   in_locals (last_local p x q a) = (shape_of a).nesting
   in_locals (more_locals p x q a ls) = max (shape_of a).nesting (in_locals ls)
+
+-- ---- what is open at an operator behind `x \in`
+-- the shape of a phrase, or none
+abbrev pub may_have : Option Shape → Option Phrase → Type 0
+may_have (Some s) (Some a) = shape_of a ≡ s
+may_have (Some s) None = ⊥
+may_have None (Some a) = ⊥
+may_have None None = Unit {0}
+
+abbrev pub element_chain : ℕ → Option Shape → Place → Op → Option ℕ
+element_chain b (Some s) p o = if not (nat_lt (rank op.In).1 (rank o).0) && (stands_left s p o && nat_le s.nesting b) then Some s.chain else None
+element_chain b None p o = None
+
+abbrev pub least_chain : ℕ → Shape → Option Shape → Place → Op → Option ℕ
+least_chain b s e p o = reader.fewest (if nat_le s.nesting b then Some s.chain else None) (element_chain b e p o)

@@ -2,6 +2,7 @@
 #![tactic(auto)]
 
 pub mod cursor;
+pub mod depth;
 mod done;
 pub mod element;
 pub mod form;

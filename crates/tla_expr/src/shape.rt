@@ -260,7 +260,7 @@ pub fn can_be_left(shape: Shape, place: Place, op: Op) -> bool
     stands_left(shape, place, op)
 }
 
-fn stands_left(shape: Shape, place: Place, op: Op) -> bool
+pub(crate) fn stands_left(shape: Shape, place: Place, op: Op) -> bool
     ensures { result ≡ stands_left_of shape place op }
 {
     (is_above(op, shape.head) || (is_associative(op) && is_applied(op, shape.head)))
