@@ -67,6 +67,7 @@ pub mod ReadLemmas
 pub mod Rooms
 pub mod ElementLemmas
 pub mod DepthLemmas
+pub mod ReadSteps
 pub mod QuoteLemmas
 mod RowsLimit
 pub mod Opened
