@@ -76,6 +76,7 @@ pub fn filter(
     requires test_small { 1 + test.shape.nesting < 2 ^ 32 }
     ensures read { IfOk result (λ x. (i j : Phrase) (r t u : Place) → IsIn pool.old set i → IsIn pool.old test j → IsIn pool.new x (spelled.filter place word.place (span_bytes tokens.now.bytes.items word.span) r i t j u)) }
     ensures shape { IfOk result (λ x. x.shape ≡ primary_shape_of place (1 + max set.shape.nesting test.shape.nesting)) }
+    ensures within { IfOk result (λ x. x.id < length pool.new) }
     ensures kept { Keeps pool.old pool.new }
 {
     let mut group = Vec::new(alloc);
@@ -105,6 +106,7 @@ pub fn image(
     requires small { 1 + nesting < 2 ^ 32 }
     ensures read { IfOk result (λ x. (i : Phrase) (bs : Binds) (q r : Place) → IsIn pool.old body i → AreBound pool.old (groups_of groups.items) sets.items nesting bs → IsIn pool.new x (spelled.image place i q bs r)) }
     ensures shape { IfOk result (λ x. x.shape ≡ primary_shape_of place (1 + max body.shape.nesting nesting)) }
+    ensures within { IfOk result (λ x. x.id < length pool.new) }
     ensures kept { Keeps pool.old pool.new }
 {
     let shape = primary_shape(place, 1 + larger(body.shape.nesting, nesting));
@@ -127,6 +129,7 @@ pub fn function(
     requires small { 1 + nesting < 2 ^ 32 }
     ensures read { IfOk result (λ x. (i : Phrase) (bs : Binds) (q r : Place) → IsIn pool.old body i → AreBound pool.old (groups_of groups.items) sets.items nesting bs → IsIn pool.new x (spelled.function place bs q i r)) }
     ensures shape { IfOk result (λ x. x.shape ≡ primary_shape_of place (1 + max nesting body.shape.nesting)) }
+    ensures within { IfOk result (λ x. x.id < length pool.new) }
     ensures kept { Keeps pool.old pool.new }
 {
     let shape = primary_shape(place, 1 + larger(nesting, body.shape.nesting));
@@ -149,6 +152,7 @@ pub fn for_all(
     requires small { 1 + nesting < 2 ^ 32 }
     ensures read { IfOk result (λ x. (i : Phrase) (bs : Binds) (q : Place) → IsIn pool.old body i → AreBound pool.old (groups_of groups.items) sets.items nesting bs → IsIn pool.new x (spelled.quantified true place bs q i)) }
     ensures shape { IfOk result (λ x. x.shape ≡ open_shape_of place body.shape.boxes (1 + max nesting body.shape.nesting)) }
+    ensures within { IfOk result (λ x. x.id < length pool.new) }
     ensures kept { Keeps pool.old pool.new }
 {
     let nesting = 1 + larger(nesting, body.shape.nesting);
@@ -172,6 +176,7 @@ pub fn exists(
     requires small { 1 + nesting < 2 ^ 32 }
     ensures read { IfOk result (λ x. (i : Phrase) (bs : Binds) (q : Place) → IsIn pool.old body i → AreBound pool.old (groups_of groups.items) sets.items nesting bs → IsIn pool.new x (spelled.quantified false place bs q i)) }
     ensures shape { IfOk result (λ x. x.shape ≡ open_shape_of place body.shape.boxes (1 + max nesting body.shape.nesting)) }
+    ensures within { IfOk result (λ x. x.id < length pool.new) }
     ensures kept { Keeps pool.old pool.new }
 {
     let nesting = 1 + larger(nesting, body.shape.nesting);
@@ -196,6 +201,7 @@ pub fn local(
     requires small { 1 + nesting < 2 ^ 32 }
     ensures read { IfOk result (λ x. (i : Phrase) (ls : Locals) (q : Place) → IsIn pool.old body i → AreLocals pool.old names.items right_sides.items nesting ls → IsIn pool.new x (spelled.local place ls q i)) }
     ensures shape { IfOk result (λ x. x.shape ≡ open_shape_of place body.shape.boxes (1 + max nesting body.shape.nesting)) }
+    ensures within { IfOk result (λ x. x.id < length pool.new) }
     ensures kept { Keeps pool.old pool.new }
 {
     let mut parts = right_sides;
@@ -221,6 +227,7 @@ pub fn fields(
     requires small { 1 + nesting < 2 ^ 32 }
     ensures read { IfOk result (λ x. (fs : Fields) (q : Place) → AreFields pool.old labels ids.items nesting fs → IsIn pool.new x (spelled.fields place fs q)) }
     ensures shape { IfOk result (λ x. x.shape ≡ primary_shape_of place (1 + nesting)) }
+    ensures within { IfOk result (λ x. x.id < length pool.new) }
     ensures kept { Keeps pool.old pool.new }
 {
     let shape = primary_shape(place, 1 + nesting);
@@ -247,6 +254,7 @@ pub fn records(
     requires small { 1 + nesting < 2 ^ 32 }
     ensures read { IfOk result (λ x. (fs : Fields) (q : Place) → AreFields pool.old labels ids.items nesting fs → IsIn pool.new x (spelled.records place fs q)) }
     ensures shape { IfOk result (λ x. x.shape ≡ primary_shape_of place (1 + nesting)) }
+    ensures within { IfOk result (λ x. x.id < length pool.new) }
     ensures kept { Keeps pool.old pool.new }
 {
     let shape = primary_shape(place, 1 + nesting);
@@ -276,6 +284,7 @@ pub fn except(
     requires small { 1 + nesting < 2 ^ 32 }
     ensures read { IfOk result (λ x. (i : Phrase) (ss : Settings) (is : List ℕ) (q r : Place) → parts.items ≡ f.id ∷ is → IsIn pool.old f i → AreSettings pool.old place (slots_of slots.items) is nesting ss → IsIn pool.new x (spelled.except place i q ss r)) }
     ensures shape { IfOk result (λ x. x.shape ≡ primary_shape_of place (1 + max f.shape.nesting nesting)) }
+    ensures within { IfOk result (λ x. x.id < length pool.new) }
     ensures kept { Keeps pool.old pool.new }
 {
     let shape = primary_shape(place, 1 + larger(f.shape.nesting, nesting));
@@ -303,6 +312,7 @@ pub fn cases(
     requires small { 1 + nesting < 2 ^ 32 }
     ensures read { IfOk result (λ x. (xs : Arms) → AreArms pool.old other ids.items nesting xs → IsIn pool.new x (spelled.cases place xs)) }
     ensures shape { IfOk result (λ x. x.shape ≡ open_shape_of place boxes.Always (1 + nesting)) }
+    ensures within { IfOk result (λ x. x.id < length pool.new) }
     ensures kept { Keeps pool.old pool.new }
 {
     let shape = open_shape(place, Boxes::Always, 1 + nesting);

@@ -93,6 +93,7 @@ pub fn number(alloc: Global, pool: &mut Pool, place: Place, n: u128) -> Result<R
     requires { n < past_numbers }
     ensures read { IfOk result (λ x. IsIn pool.new x (spelled.number place n)) }
     ensures shape { IfOk result (λ x. x.shape ≡ primary_shape_of place 0) }
+    ensures within { IfOk result (λ x. x.id < length pool.new) }
     ensures kept { Keeps pool.old pool.new }
 {
     put(
@@ -115,6 +116,7 @@ pub fn string(
 ) -> Result<Read, AllocError>
     ensures read { IfOk result (λ x. IsIn pool.new x (spelled.string place (unwrap_or (unquoted_of (span_bytes tokens.now.bytes.items span)) []))) }
     ensures shape { IfOk result (λ x. x.shape ≡ primary_shape_of place 0) }
+    ensures within { IfOk result (λ x. x.id < length pool.new) }
     ensures kept { Keeps pool.old pool.new }
 {
     let form = Form::Quote(unquoted(alloc, tokens.word(span))?);
@@ -131,6 +133,7 @@ pub fn constant(
 ) -> Result<Read, AllocError>
     ensures read { IfOk result (λ x. IsIn pool.new x (spelled.constant place (constant_seen c))) }
     ensures shape { IfOk result (λ x. x.shape ≡ primary_shape_of place 0) }
+    ensures within { IfOk result (λ x. x.id < length pool.new) }
     ensures kept { Keeps pool.old pool.new }
 {
     let form = match c {
@@ -146,6 +149,7 @@ pub fn constant(
 pub fn name(alloc: Global, pool: &mut Pool, tokens: &Tokens, word: Word) -> Result<Read, AllocError>
     ensures read { IfOk result (λ x. IsIn pool.new x (spelled.name word.place (span_bytes tokens.now.bytes.items word.span))) }
     ensures shape { IfOk result (λ x. x.shape ≡ primary_shape_of word.place 0) }
+    ensures within { IfOk result (λ x. x.id < length pool.new) }
     ensures kept { Keeps pool.old pool.new }
 {
     let form = Form::Name(name_of(alloc, tokens, word.span)?);
@@ -163,6 +167,7 @@ pub fn primed(
 ) -> Result<Read, AllocError>
     ensures read { IfOk result (λ x. (q : Place) → IsIn pool.new x (spelled.primed word.place (span_bytes tokens.now.bytes.items word.span) q)) }
     ensures shape { IfOk result (λ x. x.shape ≡ primary_shape_of word.place 0) }
+    ensures within { IfOk result (λ x. x.id < length pool.new) }
     ensures kept { Keeps pool.old pool.new }
 {
     let form = Form::Next(name_of(alloc, tokens, word.span)?);
@@ -188,6 +193,7 @@ pub fn brackets(place: Place, a: Read) -> Read
 pub fn empty_set(alloc: Global, pool: &mut Pool, place: Place) -> Result<Read, AllocError>
     ensures read { IfOk result (λ x. (q : Place) → IsIn pool.new x (spelled.no_set place q)) }
     ensures shape { IfOk result (λ x. x.shape ≡ primary_shape_of place 1) }
+    ensures within { IfOk result (λ x. x.id < length pool.new) }
     ensures kept { Keeps pool.old pool.new }
 {
     let form = Form::Strict(Strict::SetOf);
@@ -199,6 +205,7 @@ pub fn empty_set(alloc: Global, pool: &mut Pool, place: Place) -> Result<Read, A
 pub fn empty_tuple(alloc: Global, pool: &mut Pool, place: Place) -> Result<Read, AllocError>
     ensures read { IfOk result (λ x. (q : Place) → IsIn pool.new x (spelled.no_tuple place q)) }
     ensures shape { IfOk result (λ x. x.shape ≡ primary_shape_of place 1) }
+    ensures within { IfOk result (λ x. x.id < length pool.new) }
     ensures kept { Keeps pool.old pool.new }
 {
     let form = Form::Strict(Strict::Tuple);
@@ -220,6 +227,7 @@ pub fn functions(
     requires b_small { 1 + b.shape.nesting < 2 ^ 32 }
     ensures read { IfOk result (λ x. (i j : Phrase) (q s : Place) → IsIn pool.old a i → IsIn pool.old b j → IsIn pool.new x (spelled.functions place i q j s)) }
     ensures shape { IfOk result (λ x. x.shape ≡ primary_shape_of place (1 + max a.shape.nesting b.shape.nesting)) }
+    ensures within { IfOk result (λ x. x.id < length pool.new) }
     ensures kept { Keeps pool.old pool.new }
 {
     let nesting = larger(a.shape.nesting, b.shape.nesting);
@@ -237,6 +245,7 @@ pub fn set_of(pool: &mut Pool, place: Place, ids: Vec<NodeId>, row: Row) -> Resu
     requires small { 1 + row.nesting < 2 ^ 32 }
     ensures read { IfOk result (λ x. (xs : Phrases) (q : Place) → AreIn pool.old ids.items row xs → IsIn pool.new x (spelled.set_of place xs q)) }
     ensures shape { IfOk result (λ x. x.shape ≡ primary_shape_of place (1 + row.nesting)) }
+    ensures within { IfOk result (λ x. x.id < length pool.new) }
     ensures kept { Keeps pool.old pool.new }
 {
     let form = Form::Strict(Strict::SetOf);
@@ -251,6 +260,7 @@ pub fn tuple(pool: &mut Pool, place: Place, ids: Vec<NodeId>, row: Row) -> Resul
     requires small { 1 + row.nesting < 2 ^ 32 }
     ensures read { IfOk result (λ x. (xs : Phrases) (q : Place) → AreIn pool.old ids.items row xs → IsIn pool.new x (spelled.tuple place xs q)) }
     ensures shape { IfOk result (λ x. x.shape ≡ primary_shape_of place (1 + row.nesting)) }
+    ensures within { IfOk result (λ x. x.id < length pool.new) }
     ensures kept { Keeps pool.old pool.new }
 {
     let form = Form::Strict(Strict::Tuple);
@@ -273,6 +283,7 @@ pub fn call(
     requires small { 1 + row.nesting < 2 ^ 32 }
     ensures read { IfOk result (λ x. (xs : Phrases) (q s : Place) → AreIn pool.old ids.items row xs → IsIn pool.new x (spelled.call word.place (span_bytes tokens.now.bytes.items word.span) q xs s)) }
     ensures shape { IfOk result (λ x. x.shape ≡ primary_shape_of word.place (1 + row.nesting)) }
+    ensures within { IfOk result (λ x. x.id < length pool.new) }
     ensures kept { Keeps pool.old pool.new }
 {
     let form = Form::Call(name_of(alloc, tokens, word.span)?);
@@ -310,6 +321,7 @@ pub fn apply(
     requires small { f.shape.links + 1 + row.nesting < 2 ^ 32 }
     ensures read { IfOk result (λ x. (a : Phrase) (xs : Phrases) (p q : Place) → IsIn pool.old f a → AreIn pool.old ids.items row xs → IsIn pool.new x (spelled.apply a p xs q)) }
     ensures shape { IfOk result (λ x. x.shape ≡ linked_shape_of f.shape row.nesting) }
+    ensures within { IfOk result (λ x. x.id < length pool.new) }
     ensures kept { Keeps pool.old pool.new }
 {
     let index = subscript(pool, ids, row)?;
@@ -332,6 +344,7 @@ pub fn select(
     requires small { r.shape.links + 1 < 2 ^ 32 }
     ensures read { IfOk result (λ x. (a : Phrase) (p : Place) → IsIn pool.old r a → IsIn pool.new x (spelled.select a p (field_seen tokens.now.bytes.items field))) }
     ensures shape { IfOk result (λ x. x.shape ≡ linked_shape_of r.shape 0) }
+    ensures within { IfOk result (λ x. x.id < length pool.new) }
     ensures kept { Keeps pool.old pool.new }
 {
     let form = Form::Strict(Strict::Select(name_of(alloc, tokens, field.span)?));
@@ -350,6 +363,7 @@ pub fn infix(alloc: Global, pool: &mut Pool, a: Read, op: Op, b: Read) -> Result
     requires small { a.shape.chain + 1 + b.shape.nesting < 2 ^ 32 }
     ensures read { IfOk result (λ x. (i j : Phrase) (p : Place) → IsIn pool.old a i → IsIn pool.old b j → IsIn pool.new x (spelled.infix_of i p op j)) }
     ensures shape { IfOk result (λ x. x.shape ≡ infix_shape_of a.shape op b.shape) }
+    ensures within { IfOk result (λ x. x.id < length pool.new) }
     ensures kept { Keeps pool.old pool.new }
 {
     let parts = Vec::from_array(alloc, [a.id, b.id])?;
@@ -371,6 +385,7 @@ pub fn prefix(
     requires small { 1 + a.shape.nesting < 2 ^ 32 }
     ensures read { IfOk result (λ x. (i : Phrase) → IsIn pool.old a i → IsIn pool.new x (spelled.prefix_of place op i)) }
     ensures shape { IfOk result (λ x. x.shape ≡ prefix_shape_of place op a.shape) }
+    ensures within { IfOk result (λ x. x.id < length pool.new) }
     ensures kept { Keeps pool.old pool.new }
 {
     let parts = Vec::from_array(alloc, [a.id])?;
@@ -396,6 +411,7 @@ pub fn choice(
     requires c_small { 1 + c.shape.nesting < 2 ^ 32 }
     ensures read { IfOk result (λ x. (i j k : Phrase) (q r : Place) → IsIn pool.old a i → IsIn pool.old b j → IsIn pool.old c k → IsIn pool.new x (spelled.if_then_else place i q j r k)) }
     ensures shape { IfOk result (λ x. x.shape ≡ open_shape_of place c.shape.boxes (1 + max (max a.shape.nesting b.shape.nesting) c.shape.nesting)) }
+    ensures within { IfOk result (λ x. x.id < length pool.new) }
     ensures kept { Keeps pool.old pool.new }
 {
     let nesting = larger(larger(a.shape.nesting, b.shape.nesting), c.shape.nesting);

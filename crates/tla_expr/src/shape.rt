@@ -1,6 +1,6 @@
 //! What reading goes by of an expression that was read: how it is spelled outermost and at its end, and what it opens.
 
-ghost use Rattle.std.specs.Prelude.{◌≡◌, ◌<◌, ◌+◌, ◌^◌, max};
+ghost use Rattle.std.specs.Prelude.{◌≡◌, ◌<◌, ◌+◌, ◌^◌, max, IsTrue, false};
 ghost use Rattle.tla_expr.specs.Rank as pure;
 ghost use Rattle.tla_expr.specs.Rank.{same_op as same_op_of};
 ghost use Rattle.tla_expr.specs.Spelling.{Phrase};
@@ -312,7 +312,8 @@ pub fn takes_box(col: u32, shape: Shape) -> bool
 
 /// Whether an operator at a place goes on from it, above a rank.
 pub fn goes_on(above: u8, shape: Shape, place: Place, op: Op) -> bool
-    ensures { (a : Phrase) → shape_of a ≡ shape → result ≡ reader.goes_on above a place op }
+    ensures phrase { (a : Phrase) → shape_of a ≡ shape → result ≡ reader.goes_on above a place op }
+    ensures between { IsTrue result → pure.is_prefix op ≡ false }
 {
     continues(above, shape, place, op)
 }
