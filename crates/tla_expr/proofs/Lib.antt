@@ -68,6 +68,7 @@ pub mod Rooms
 pub mod ElementLemmas
 pub mod DepthLemmas
 pub mod ReadSteps
+pub mod ReadCode
 pub mod QuoteLemmas
 mod RowsLimit
 pub mod Opened

@@ -28,7 +28,7 @@ chain_only m (context.Under q) a p o = rw (or_true (m.fits 0 a)) refl
 
 module _ (b e : ℕ) (c : code.Context) (a : Phrase) (ts : List Token) where
   -- what is to be read, by the next token
-  climb_at : (p : Place) (k : TokenView) → token p k ≡ next e ts → (whole (Some b)).climb e (context_seen c) a ts ≡ climb_by (room whole (Some b)) (whole (Some b)) e (context_seen c) a p k ts
+  pub climb_at : (p : Place) (k : TokenView) → token p k ≡ next e ts → (whole (Some b)).climb e (context_seen c) a ts ≡ climb_by (room whole (Some b)) (whole (Some b)) e (context_seen c) a p k ts
   climb_at p k n = climb_is (Some b) e (context_seen c) a ts ∙ ap (λ (t : Token). climb_by (room whole (Some b)) (whole (Some b)) e (context_seen c) a t.place t.kind ts) (sym n)
 
   pub climb_stops : (p : Place) (o : Op) → token p (tk.sign o) ≡ next e ts → goes_on (bound (context_seen c)) a p o ≡ false → (whole (Some b)).climb e (context_seen c) a ts ≡ Ok (a, ts)
