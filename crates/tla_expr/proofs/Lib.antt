@@ -62,7 +62,21 @@ pub mod StopsThere
 pub mod AlikeEnds
 pub mod AlikeEndsSteps
 mod RowsRefused
+mod RowsShape
+pub mod ShapeLemmas
+pub mod MakeLemmas
+pub mod ReadLemmas
+pub mod Rooms
+pub mod ElementLemmas
+pub mod DepthLemmas
+pub mod ReadSteps
+pub mod ReadCode
+pub mod QuoteLemmas
 mod RowsLimit
+pub mod Opened
+pub mod Enough
+pub mod EnoughSteps
+pub mod Whole
 pub mod DeepCounts
 pub mod Limited
 pub mod LimitedRooms

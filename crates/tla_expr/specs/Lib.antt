@@ -10,10 +10,14 @@ pub mod Done
 pub mod Rank
 pub mod Lexical
 pub mod TokenViews
+pub mod ViewSeen
 pub mod Spelling
 pub mod Written
 pub mod Writing
 pub mod Nesting
 pub mod FirstStop
 pub mod Reader
+pub mod ShapeOf
+pub mod Whole
+pub mod ReadIn
 pub mod laws

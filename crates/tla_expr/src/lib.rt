@@ -1,15 +1,24 @@
 //! Expressions of TLA+: their trees, how they are spelled, and their written text.
 #![tactic(auto)]
 
+pub mod cursor;
+pub mod depth;
 mod done;
+pub mod element;
 pub mod form;
+pub mod gather;
 pub mod graft;
 pub mod laws;
+pub mod make;
 pub mod name;
 pub mod node;
 pub mod op;
 pub mod pool;
+pub mod quote;
 pub mod seen;
+pub mod shape;
+pub mod view;
+pub mod word;
 pub mod write;
 
 pub use name::{Name, NameList, PlacedName, Text};
@@ -21,16 +30,19 @@ pub use write::{write_expr, write_operand};
 
 #[cfg(test)]
 mod tests {
+    use super::cursor::look;
     use super::form::Form;
     use super::graft::{Grafting, grafted};
     use super::name::{Name, NameList, PlacedName, Text};
     use super::node::NodeId;
     use super::op::{Binder, Op, rank};
     use super::pool::Pool;
+    use super::quote::unquoted;
     use super::seen::Seen;
+    use super::view::View;
     use super::write::{write_expr, write_operand};
     use std::alloc::{AllocError, Global};
-    use tla_token::Place;
+    use tla_token::{Place, tokens};
 
     #[test]
     fn ranks_of_the_book(rt: HostRuntime) {
@@ -142,6 +154,69 @@ mod tests {
         assert_eq!(rt; pool.len(), 6002);
         assert_eq!(rt; grafted(alloc, &mut pool, ones, &by)?, ones);
         assert_eq!(rt; pool.len(), 6002);
+        Ok(())
+    }
+
+    #[test]
+    fn strings_are_unquoted(rt: HostRuntime) -> Result<(), AllocError> {
+        let cases = [
+            ("", ""),
+            ("a b", "a b"),
+            ("\\\"\\\\x\\n", "\"\\x\n"),
+            ("\\q", ""),
+            ("a\\", ""),
+        ];
+        for (raw, wanted) in cases {
+            let text = unquoted(rt.alloc(), raw.as_bytes())?;
+            assert!(rt; text.bytes() == wanted.as_bytes());
+        }
+        Ok(())
+    }
+
+    fn letter(view: View) -> u8 {
+        match view {
+            View::Sign(_) => b's',
+            View::Word(_) => b'w',
+            View::Reserved(_) => b'r',
+            View::Number(_) => b'n',
+            View::BigNumber(_) => b'b',
+            View::Quote(_) => b'q',
+            View::Constant(_) => b'c',
+            View::Mark(_) => b'm',
+            View::Key(_) => b'k',
+            View::Other(_) => b'o',
+        }
+    }
+
+    // A letter for what each token is.
+    fn kinds(alloc: Global, text: &[u8], edge: u32) -> Result<Vec<u8>, AllocError> {
+        let mut out = Vec::new(alloc);
+        if text.len() > 100 {
+            return Ok(out);
+        }
+        if let Ok(found) = tokens(alloc, text, 0, text.len()) {
+            for i in 0..found.items.len() {
+                out.push(letter(look(&found, &found.items[i..], edge).view))?;
+            }
+        }
+        Ok(out)
+    }
+
+    #[test]
+    fn tokens_are_seen(rt: HostRuntime) -> Result<(), AllocError> {
+        let cases = [
+            ("IF x' \\notin do THEN -1", 0, "kwmsrksn"),
+            ("TRUE \"a\" CHOOSE WF_x := UNION", 0, "cqooms"),
+            ("a b\n c", 2, "owo"),
+            ("ab cd", 4, "oo"),
+        ];
+        for (text, edge, wanted) in cases {
+            assert_eq!(rt;
+                kinds(rt.alloc(), text.as_bytes(), edge)?.as_slice(),
+                wanted.as_bytes(),
+                "{text}"
+            );
+        }
         Ok(())
     }
 

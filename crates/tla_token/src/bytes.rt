@@ -43,8 +43,8 @@ pub fn is_printed(b: u8) -> bool
     b'!' <= b && b <= b'~'
 }
 
-// A character of a string that stands for itself.
-fn is_plain(b: u8) -> bool
+/// A character of a string that stands for itself.
+pub fn is_plain(b: u8) -> bool
     ensures { result ≡ is_plain b }
 {
     b != b'"' && b != b'\\' && b' ' <= b && b <= b'~'
@@ -57,8 +57,8 @@ fn is_stray(b: u8) -> bool
     !is_blank(b) && !is_printed(b)
 }
 
-// What stands for the character after a backslash.
-fn escaped(b: u8) -> Option<u8>
+/// What stands for the character after a backslash.
+pub fn escaped(b: u8) -> Option<u8>
     ensures { result ≡ escaped b }
 {
     match b {
