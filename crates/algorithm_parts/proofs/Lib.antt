@@ -8,3 +8,6 @@ pub mod WholeSimple
 pub mod Fair
 pub mod FairParts
 pub mod FairSimple
+pub mod Aheads
+pub mod Mends
+pub mod MendParts
