@@ -11,3 +11,4 @@ pub mod FairSimple
 pub mod Aheads
 pub mod Mends
 pub mod MendParts
+pub mod MendSimple

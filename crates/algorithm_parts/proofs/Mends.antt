@@ -1,17 +1,20 @@
 -- What stands before a refused token can be gone on with: how that goes from readers to those that are made of them.
-use Rattle.std.proofs.Common.{◌≡◌, ℕ, Bool, true, false, List, [], ◌∷◌, ◌++◌, Option, Some, None, Ok, Err, refl, sym, ap, ◌∙◌, append_assoc}
+use Rattle.std.proofs.Common.{◌≡◌, false, List, [], ◌∷◌, ◌++◌, Option, Some, None, Err, refl, sym, ap, ◌∙◌, append_assoc}
 use Rattle.tla_token.specs.declared.place.Place.{Place}
 use Rattle.tla_token.specs.Places.{nowhere}
-use Rattle.tla_expr.specs.Tree.{Word, Name}
+use Rattle.tla_expr.specs.Tree.{Word}
 use Rattle.tla_expr.specs.Lexical.{Mark, TokenView, Token, token}
 use Rattle.tla_expr.specs.Lexical as tk
-use Rattle.tla_expr.specs.Spelling.{Right}
+use Rattle.tla_expr.specs.Spelling.{Right, field_token}
 use Rattle.tla_expr.specs.Reader.{Stop, Reader, ◌>>=◌, gives, refuses, skip, took, tail, next, peek, is_mark, place_if}
 use Rattle.tla_expr.proofs.SpellAhead.{Ahead, held, put_ahead, then_ahead}
-use Rattle.tla_expr.proofs.Mended.{Mend, inside, missing, onto, left_is, broken, gives_err}
-use Rattle.pcal_tree.specs.GrammarParts.{name, key, mark}
+use Rattle.tla_expr.proofs.Mended.{Mend, inside, missing, onto, left_is, broken, gives_err, right_after, mark_err, field_err, word_err, some_field, an_x}
+use Rattle.tla_expr.proofs.Mended as mended
+use Rattle.tla_expr.proofs.SoundTokens as edge
+use Rattle.tla_expr.specs.Reader as expression
+use Rattle.pcal_tree.specs.GrammarParts.{name, key, mark, word}
 use Rattle.algorithm_parts.specs.TokenReaders.{first, by_next, past, is_reserved, name_of, a_key, a_mark, a_name, pick}
-use Rattle.algorithm_parts.proofs.Sound.{Sound, SoundAt, here, Any, is_other, seen, All, pick_is, sound_key, sound_mark, sound_name}
+use Rattle.algorithm_parts.proofs.Sound.{Sound, SoundAt, here, Any, is_other, seen, All, pick_is, sound_key, sound_mark, sound_name, sound_mark_right, sound_field_right, sound_word_right}
 
 -- tokens that complete what was read before
 pub record Fill {A : Type 0} (x : List Token → List Token) (Q : A → Type 0) (put : A → List Token → List Token) : Type 0 where
@@ -31,7 +34,7 @@ pub record MendsAt {A : Type 0} (p : Place) (k : TokenView) (x : List Token → 
 -- a part that others begin with
 pub record IsPart {A : Type 0} (P : A → Type 0) (front : A → List Token → List Token) (r : Reader A) : Type 0 where
   pub sound : Sound here P front r
-  pub ahead : (a : A) → Ahead (front a)
+  pub ahead : (a : A) → P a → Ahead (front a)
   pub mends : Mends here P front r
 
 -- it is so already
@@ -45,21 +48,21 @@ pub mends_refuses : {A : Type 0} {x : List Token → List Token} {Q : A → Type
 mends_refuses {A} {x} h f = record { fill = f; is = λ ts u e. missing x h f.fix f.whole f.good f.tokens (ap x (left_is {A = A} e)) }
 
 pub mends_after : {A B : Type 0} (x : List Token → List Token) {y : List Token → List Token} {P : A → Type 0} {front : A → List Token → List Token} {Q : B → Type 0} {put : B → List Token → List Token} {r : Reader A} {f : A → Reader B}
-    → Ahead x → Sound y P front r → ((a : A) → Ahead (front a)) → Mends y P front r → ((a : A) → P a → Ahead (λ ts. x (front a ts)) → Mends (λ ts. x (front a ts)) Q put (f a)) → Mends (λ ts. x (y ts)) Q put (r >>= f)
+    → Ahead x → Sound y P front r → ((a : A) → P a → Ahead (front a)) → Mends y P front r → ((a : A) → P a → Ahead (λ ts. x (front a ts)) → Mends (λ ts. x (front a ts)) Q put (f a)) → Mends (λ ts. x (y ts)) Q put (r >>= f)
 mends_after {A} {B} x {y} {P} {front} {Q} {put} {r} {f} hx s hf m k = record {
   fill =
       (let a = m.fill in
-      let b = (k a.whole a.good (then_ahead hx (hf a.whole))).fill in
+      let b = (k a.whole a.good (then_ahead hx (hf a.whole a.good))).fill in
       record { whole = b.whole; good = b.good; fix = a.fix ++ b.fix; tokens = λ v. b.tokens v ∙ ap x (a.tokens (b.fix ++ v)) ∙ ap (λ (w : List Token). x (y w)) (sym (append_assoc a.fix b.fix v)) });
   is = λ ts u e.
       broken {A = A} {B = B} {R = Mend Q put (x (y ts)) u.1} {o = r ts} {f = f} {u = u} e
       (λ i.
       (let a = m.is ts u i in
-      let b = (k a.whole a.good (then_ahead hx (hf a.whole))).fill in
+      let b = (k a.whole a.good (then_ahead hx (hf a.whole a.good))).fill in
       inside x hx b.fix a b.whole b.good b.tokens refl))
       (λ a us i j.
       (let w = s.is ts a us i in
-      onto (ap x w.1) ((k a w.0 (then_ahead hx (hf a))).is us u j)));
+      onto (ap x w.1) ((k a w.0 (then_ahead hx (hf a w.0))).is us u j)));
 }
 
 pub mends_bind : {A B : Type 0} {x : List Token → List Token} {P : A → Type 0} {front : A → List Token → List Token} {Q : B → Type 0} {put : B → List Token → List Token} {r : Reader A} {f : A → Reader B}
@@ -99,10 +102,73 @@ token_mends f put a = record {
 }
 
 pub part_key : (w : Word) → IsPart Any (λ p. key p w) (a_key w)
-part_key w = record { sound = sound_key w; ahead = λ p. put_ahead held; mends = token_mends (place_if (is_reserved w)) (λ p. token p (tk.reserved w)) nowhere }
+part_key w = record { sound = sound_key w; ahead = λ p u. put_ahead held; mends = token_mends (place_if (is_reserved w)) (λ p. token p (tk.reserved w)) nowhere }
 
 pub part_mark : (m : Mark) → IsPart Any (λ p. mark p m) (a_mark m)
-part_mark m = record { sound = sound_mark m; ahead = λ p. put_ahead held; mends = token_mends (place_if (is_mark m)) (λ p. token p (tk.mark m)) nowhere }
+part_mark m = record { sound = sound_mark m; ahead = λ p u. put_ahead held; mends = token_mends (place_if (is_mark m)) (λ p. token p (tk.mark m)) nowhere }
 
 pub part_name : IsPart Any name a_name
-part_name = record { sound = sound_name; ahead = λ x. put_ahead held; mends = token_mends name_of (λ x. token x.place (tk.word x.word)) (record { place = nowhere; word = 120 ∷ [] }) }
+part_name = record { sound = sound_name; ahead = λ x u. put_ahead held; mends = token_mends name_of (λ x. token x.place (tk.word x.word)) (record { place = nowhere; word = 120 ∷ [] }) }
+
+-- where a token comes
+pub mends_then : {A B : Type 0} {p : Place} {k : TokenView} (x : List Token → List Token) {y : List Token → List Token} {P : A → Type 0} {front : A → List Token → List Token} {Q : B → Type 0} {put : B → List Token → List Token} {r : Reader A} {f : A → Reader B}
+    → Ahead x → SoundAt p k y P front r → ((a : A) → P a → Ahead (front a)) → MendsAt p k y P front r → ((a : A) → P a → Ahead (λ ts. x (front a ts)) → Mends (λ ts. x (front a ts)) Q put (f a)) → MendsAt p k (λ ts. x (y ts)) Q put (r >>= f)
+mends_then {A} {B} x {y} {P} {front} {Q} {put} {r} {f} hx s hf m k = record {
+  is = λ ts t u e.
+      broken {A = A} {B = B} {R = Mend Q put (x (y ts)) u.1} {o = r ts} {f = f} {u = u} e
+      (λ i.
+      (let a = m.is ts t u i in
+      let b = (k a.whole a.good (then_ahead hx (hf a.whole a.good))).fill in
+      inside x hx b.fix a b.whole b.good b.tokens refl))
+      (λ a us i j.
+      (let w = s.is ts t a us i in
+      onto (ap x w.1) ((k a w.0 (then_ahead hx (hf a w.0))).is us u j)));
+}
+
+pub mends_same : {A : Type 0} {p : Place} {k : TokenView} {x y : List Token → List Token} {Q : A → Type 0} {put : A → List Token → List Token} {r : Reader A} → ((ts : List Token) → y ts ≡ x ts) → MendsAt p k y Q put r → MendsAt p k x Q put r
+mends_same e h = record { is = λ ts s u o. onto (e ts) (h.is ts s u o) }
+
+-- ---- tokens of expressions, right of the edge
+pub record MendsRight {A : Type 0} (p : Place) (k : TokenView) (x : List Token → List Token) (Q : A → Type 0) (put : A → List Token → List Token) (r : Reader A) : Type 0 where
+  pub is : (ts : List Token) → next 0 ts ≡ token p k → (u : Stop) → r ts ≡ Err u → Mend Q put (x ts) u.1
+
+pub mends_peek : {A : Type 0} {x : List Token → List Token} {Q : A → Type 0} {put : A → List Token → List Token} {f : Place → TokenView → Reader A}
+    → Fill x Q put → ((p : Place) (k : TokenView) → MendsRight p k x Q put (f p k)) → Mends x Q put (peek 0 f)
+mends_peek c h = record { fill = c; is = λ ts u e. (h (next 0 ts).place (next 0 ts).kind).is ts refl u e }
+
+pub mends_in_place : {A : Type 0} {p : Place} {k : TokenView} {x : List Token → List Token} {Q : A → Type 0} {put : A → List Token → List Token} {r : Reader A} → Mends x Q put r → MendsRight p k x Q put r
+mends_in_place h = record { is = λ ts s u e. h.is ts u e }
+
+pub mends_right : {A : Type 0} {p : Place} {k : TokenView} {x : List Token → List Token} {Q : A → Type 0} {put : A → List Token → List Token} {r : Reader A}
+    → is_other k ≡ false → (Right 0 p → Mends (λ ts. x (token p k ∷ ts)) Q put r) → MendsRight p k x Q put (skip r)
+mends_right {A} {p} {k} {x} o h = record { is = λ ts s u e. (let v = edge.seen 0 ts p k s o in onto (ap x v.1) ((h v.0).is (tail ts) u e)) }
+
+pub part_mark_right : (m : Mark) → IsPart (Right 0) (λ p. mark p m) (expression.a_mark 0 m)
+part_mark_right m = record {
+  sound = sound_mark_right m;
+  ahead = λ p u. put_ahead held;
+  mends = record {
+    fill = record { whole = mended.after 0; good = right_after 0; fix = mark (mended.after 0) m []; tokens = λ v. refl };
+    is = λ ts u e. record { whole = mended.after 0; good = right_after 0; read = []; fix = mark (mended.after 0) m []; parts = mark_err 0 m ts u e; tokens = λ v. refl };
+  };
+}
+
+pub part_field_right : IsPart (λ f. Right 0 f.place) field_token (expression.a_field 0)
+part_field_right = record {
+  sound = sound_field_right;
+  ahead = λ f u. put_ahead held;
+  mends = record {
+    fill = record { whole = some_field 0; good = right_after 0; fix = field_token (some_field 0) []; tokens = λ v. refl };
+    is = λ ts u e. record { whole = some_field 0; good = right_after 0; read = []; fix = field_token (some_field 0) []; parts = field_err 0 ts u e; tokens = λ v. refl };
+  };
+}
+
+pub part_word_right : IsPart (λ (x : Place × Word). Right 0 x.0) (λ x. word x.0 x.1) (expression.a_word 0)
+part_word_right = record {
+  sound = sound_word_right;
+  ahead = λ x u. put_ahead held;
+  mends = record {
+    fill = record { whole = (mended.after 0, an_x); good = right_after 0; fix = word (mended.after 0) an_x []; tokens = λ v. refl };
+    is = λ ts u e. record { whole = (mended.after 0, an_x); good = right_after 0; read = []; fix = word (mended.after 0) an_x []; parts = word_err 0 ts u e; tokens = λ v. refl };
+  };
+}
