@@ -1,3 +1,4 @@
+mod Rows
 pub mod Sound
 pub mod SoundParts
 pub mod SoundSimple
