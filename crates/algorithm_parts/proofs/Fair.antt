@@ -83,4 +83,4 @@ pub right_parts : {b : ℕ} {m q : Parts} → FairParts b m q → FairParts 0 q 
 right_parts h = record { expr = fair_right h.expr; arguments = fair_right h.arguments; subscripts = fair_right h.subscripts }
 
 pub parts_fair : (b n m : ℕ) → b ≤ n → b ≤ m → FairParts b (parts_of (readers n None)) (parts_of (readers m None))
-parts_fair b n m i j = (let h = fair_readers b n m i j in record { expr = weaker (omega arith) (h.expr 0 free); arguments = weaker (omega arith) (h.phrases 0); subscripts = weaker (omega arith) (h.phrases 0) })
+parts_fair b n m i j = (let h = fair_readers b n m i j None in record { expr = weaker (omega arith) (h.expr 0 free); arguments = weaker (omega arith) (h.phrases 0); subscripts = weaker (omega arith) (h.phrases 0) })

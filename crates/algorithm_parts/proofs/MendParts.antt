@@ -9,7 +9,7 @@ use Rattle.tla_expr.specs.Lexical as tk
 use Rattle.tla_expr.specs.Spelling.{Phrase, spell, spell_all, IsGood, GoodAll}
 use Rattle.tla_expr.specs.Reader.{Reader, gives, free, readers}
 use Rattle.tla_expr.specs.Spelling.{last}
-use Rattle.tla_expr.proofs.Mended.{better, some, right_after}
+use Rattle.tla_expr.proofs.Mended.{some, right_after}
 use Rattle.tla_expr.proofs.MendedLists.{mended}
 use Rattle.tla_expr.proofs.SpellAhead.{Ahead, held, put_ahead, then_ahead, ahead, ahead_all}
 use Rattle.pcal_tree.specs.GrammarParts.{Separator, by_semicolon, by_comma, Initial, unset, equals, among, Variables, last_variable, variable, no_section, section, Names, last_name, more_names, no_names, some_names, Parameters, last_parameter, parameter, no_parameters, some_parameters, Heading, plain, applied, Definitions, last_definition, more_definitions, colon, colon_plus, colon_minus, Binds, last_bind, bind}
@@ -48,9 +48,9 @@ parts_mend n =
     (let s = parts_sound n in
     record {
       sound = s;
-      expr = record { sound = s.expr; ahead = λ a u. ahead a; mends = record { fill = record { whole = some_phrase; good = some_good; fix = spell some_phrase []; tokens = λ v. refl }; is = λ ts u e. better (λ a g. g.0) ((mended n).expr 0 free ts u e) } };
-      arguments = record { sound = s.arguments; ahead = λ a u. ahead_all a; mends = record { fill = fill_all; is = λ ts u e. (mended n).phrases 0 ts u e } };
-      subscripts = record { sound = s.subscripts; ahead = λ a u. ahead_all a; mends = record { fill = fill_all; is = λ ts u e. (mended n).phrases 0 ts u e } };
+      expr = record { sound = s.expr; ahead = λ a u. ahead a; mends = record { fill = record { whole = some_phrase; good = some_good; fix = spell some_phrase []; tokens = λ v. refl }; is = λ ts u e. (let m = (mended 0 n 0).expr 0 free refl ts u e in record { whole = m.whole; good = m.good.0; read = m.read; fix = m.fix; parts = m.parts; tokens = m.tokens }) } };
+      arguments = record { sound = s.arguments; ahead = λ a u. ahead_all a; mends = record { fill = fill_all; is = λ ts u e. (let m = (mended 0 n 0).phrases 0 ts u e in record { whole = m.whole; good = m.good; read = m.read; fix = m.fix; parts = m.parts; tokens = m.tokens }) } };
+      subscripts = record { sound = s.subscripts; ahead = λ a u. ahead_all a; mends = record { fill = fill_all; is = λ ts u e. (let m = (mended 0 n 0).phrases 0 ts u e in record { whole = m.whole; good = m.good; read = m.read; fix = m.fix; parts = m.parts; tokens = m.tokens }) } };
     })
 
 -- ---- `;` and `,`

@@ -8,13 +8,41 @@ use Rattle.tla_expr.specs.Lexical as tk
 use Rattle.tla_expr.specs.Spelling.{Right, field_token}
 use Rattle.tla_expr.specs.Reader.{Stop, Reader, ◌>>=◌, gives, refuses, skip, took, tail, next, peek, is_mark, place_if}
 use Rattle.tla_expr.proofs.SpellAhead.{Ahead, held, put_ahead, then_ahead}
-use Rattle.tla_expr.proofs.Mended.{Mend, inside, missing, onto, left_is, broken, gives_err, right_after, mark_err, field_err, word_err, some_field, an_x}
+use Rattle.tla_expr.proofs.Mended.{left_is, broken, gives_err, right_after, mark_err, field_err, word_err, some_field, an_x}
 use Rattle.tla_expr.proofs.Mended as mended
 use Rattle.tla_expr.proofs.SoundTokens as edge
 use Rattle.tla_expr.specs.Reader as expression
 use Rattle.pcal_tree.specs.GrammarParts.{name, key, mark, word}
 use Rattle.algorithm_parts.specs.TokenReaders.{first, by_next, past, is_reserved, name_of, a_key, a_mark, a_name, pick}
 use Rattle.algorithm_parts.proofs.Sound.{Sound, SoundAt, here, Any, is_other, seen, All, pick_is, sound_key, sound_mark, sound_name, sound_mark_right, sound_field_right, sound_word_right}
+
+-- tokens that were read from ts on up to u, and tokens that complete them
+pub record Mend {A : Type 0} (Q : A → Type 0) (put : A → List Token → List Token) (ts u : List Token) : Type 0 where
+  pub whole : A
+  pub good : Q whole
+  pub read : List Token
+  pub fix : List Token
+  pub parts : ts ≡ read ++ u
+  pub tokens : (v : List Token) → put whole v ≡ read ++ (fix ++ v)
+
+-- x was read before a part that is mended, and the whole is completed after it
+inside : {A B : Type 0} {Q : A → Type 0} {R : B → Type 0} {put : A → List Token → List Token} {puts : B → List Token → List Token} (x : List Token → List Token) → Ahead x → (close : List Token) → {ts us u : List Token} → (m : Mend Q put us u) → (b : B) → R b
+    → ((v : List Token) → puts b v ≡ x (put m.whole (close ++ v))) → ts ≡ x us → Mend R puts ts u
+inside x h close m b g e s = record {
+  whole = b;
+  good = g;
+  read = x m.read;
+  fix = m.fix ++ close;
+  parts = s ∙ ap x m.parts ∙ h.is m.read _;
+  tokens = λ v. e v ∙ ap x (m.tokens (close ++ v)) ∙ ap (λ (w : List Token). x (m.read ++ w)) (sym (append_assoc m.fix close v)) ∙ h.is m.read ((m.fix ++ close) ++ v);
+}
+
+-- x was read, and the rest of the whole is missing
+pub missing : {B : Type 0} {R : B → Type 0} {puts : B → List Token → List Token} (x : List Token → List Token) → Ahead x → (fix : List Token) → {ts u : List Token} → (b : B) → R b → ((v : List Token) → puts b v ≡ x (fix ++ v)) → ts ≡ x u → Mend R puts ts u
+missing x h fix {ts} {u} b g e s = record { whole = b; good = g; read = x []; fix = fix; parts = s ∙ h.is [] u; tokens = λ v. e v ∙ h.is [] (fix ++ v) }
+
+onto : {A : Type 0} {Q : A → Type 0} {put : A → List Token → List Token} {ts us u : List Token} → ts ≡ us → Mend Q put ts u → Mend Q put us u
+onto s m = record { whole = m.whole; good = m.good; read = m.read; fix = m.fix; parts = sym s ∙ m.parts; tokens = m.tokens }
 
 -- tokens that complete what was read before
 pub record Fill {A : Type 0} (x : List Token → List Token) (Q : A → Type 0) (put : A → List Token → List Token) : Type 0 where

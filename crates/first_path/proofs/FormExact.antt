@@ -10,7 +10,8 @@ use Rattle.module_text.specs.FileParts.{title}
 use Rattle.module_text.specs.AlgorithmText.{AlgorithmText, algorithm_in}
 use Rattle.first_path.specs.Beside.{beside}
 use Rattle.first_path.specs.Form.{number_operand, variable_operand, Right, single, sum, Parts, is_small, is_small_right, suits, word, right_kinds, kinds, algorithm_kinds, IsForm}
-use Rattle.first_path.specs.FormRead.{on_some, if_so, parts_of, parts_in, if_none, suiting, splitting_offences, form_of}
+use Rattle.module_text.specs.Splitting.{splitting_offences}
+use Rattle.first_path.specs.FormRead.{on_some, if_so, parts_of, parts_in, if_none, suiting, form_of}
 use Rattle.first_path.proofs.Fit.{Fit, fit_of}
 use Rattle.first_path.proofs.FormKinds.{so, word_stands, Standing, parts_stand, parts_read, closing_kinds}
 use Rattle.first_path.proofs.FormFine.{fine, spared}

@@ -20,50 +20,50 @@ use Rattle.module_text.specs.FileParts.{module_end, beginnings, after_comment, S
 use Rattle.module_text.specs.AlgorithmText.{IndexedPart, AlgorithmText, algorithm_in, in_token}
 use Rattle.module_text.specs.FileUnits.{token_in, begins_unit}
 use Rattle.module_text.specs.FileOffences.{offences_at, segment_offences, offences_of, algorithm_offences, no_module, no_algorithm, second_algorithms, rest_of_line, no_unit, placements, outside_region, options_in, file_offences}
+use Rattle.module_text.specs.Splitting.{is_splitting, splitting_offences}
 use Rattle.first_path.specs.Form.{algorithm_kinds}
-use Rattle.first_path.specs.FormRead.{is_split, splitting_offences}
 use Rattle.first_path.proofs.RegionBytes.{small_kind, all_small}
 use Rattle.first_path.proofs.Names.{all_more}
 
 -- ---- offences that are all of other rules
 
 abbrev Free : List Offence → Type 0
-Free os = list_all is_split os ≡ true
+Free os = list_all is_splitting os ≡ true
 
 abbrev Spared : List Offence → Type 0
-Spared os = filter is_split os ≡ []
+Spared os = filter is_splitting os ≡ []
 
-none_left : (os : List Offence) → Free os → Spared os → os ≡ []
+pub none_left : (os : List Offence) → Free os → Spared os → os ≡ []
 none_left [] h e = refl
 none_left (o ∷ os) h e =
-    let k = and_parts (is_split o) (list_all is_split os) h in
-    let f : o ∷ filter is_split os ≡ [] = ap (λ (b : Bool). cond b (o ∷ filter is_split os) (filter is_split os)) (sym k.0) ∙ e in
+    let k = and_parts (is_splitting o) (list_all is_splitting os) h in
+    let f : o ∷ filter is_splitting os ≡ [] = ap (λ (b : Bool). cond b (o ∷ filter is_splitting os) (filter is_splitting os)) (sym k.0) ∙ e in
     absurd cc
 
-spared_both : (os ps : List Offence) → Spared (os ++ ps) → Spared os × Spared ps
+pub spared_both : (os ps : List Offence) → Spared (os ++ ps) → Spared os × Spared ps
 spared_both [] ps e = (refl, e)
-spared_both (o ∷ os) ps e = by (is_split o) refl (spared_both os ps)
+spared_both (o ∷ os) ps e = by (is_splitting o) refl (spared_both os ps)
   where
-    by : (b : Bool) → is_split o ≡ b → (Spared (os ++ ps) → Spared os × Spared ps) → Spared (o ∷ os) × Spared ps
+    by : (b : Bool) → is_splitting o ≡ b → (Spared (os ++ ps) → Spared os × Spared ps) → Spared (o ∷ os) × Spared ps
     by true k deeper =
-        let f : o ∷ filter is_split (os ++ ps) ≡ [] = ap (λ (b : Bool). cond b (o ∷ filter is_split (os ++ ps)) (filter is_split (os ++ ps))) (sym k) ∙ e in
+        let f : o ∷ filter is_splitting (os ++ ps) ≡ [] = ap (λ (b : Bool). cond b (o ∷ filter is_splitting (os ++ ps)) (filter is_splitting (os ++ ps))) (sym k) ∙ e in
         absurd cc
     by false k deeper =
-        let f : Spared (os ++ ps) = ap (λ (b : Bool). cond b (o ∷ filter is_split (os ++ ps)) (filter is_split (os ++ ps))) (sym k) ∙ e in
+        let f : Spared (os ++ ps) = ap (λ (b : Bool). cond b (o ∷ filter is_splitting (os ++ ps)) (filter is_splitting (os ++ ps))) (sym k) ∙ e in
         let d = deeper f in
-        (ap (λ (b : Bool). cond b (o ∷ filter is_split os) (filter is_split os)) k ∙ d.0, d.1)
+        (ap (λ (b : Bool). cond b (o ∷ filter is_splitting os) (filter is_splitting os)) k ∙ d.0, d.1)
 
-if_free : (b : Bool) (r : Rule) (at : ℕ) → is_split (r, at) ≡ true → Free (offence_if b r at)
-if_free true r at h = and_from (is_split (r, at)) true h refl
+if_free : (b : Bool) (r : Rule) (at : ℕ) → is_splitting (r, at) ≡ true → Free (offence_if b r at)
+if_free true r at h = and_from (is_splitting (r, at)) true h refl
 if_free false r at h = refl
 
 bytes_free : (at : ℕ) (bs : List ℕ) → Free (byte_offences at bs)
 bytes_free at [] = refl
 bytes_free at (b ∷ bs) =
-    all_more is_split (offence_if (is_stray b) (if nat_le 128 b then NotAscii else BadToken) at) (byte_offences (at + 1) bs)
+    all_more is_splitting (offence_if (is_stray b) (if nat_le 128 b then NotAscii else BadToken) at) (byte_offences (at + 1) bs)
     (if_free (is_stray b) (if nat_le 128 b then NotAscii else BadToken) at (rule (nat_le 128 b))) (bytes_free (at + 1) bs)
   where
-    rule : (k : Bool) → is_split ((if k then NotAscii else BadToken), at) ≡ true
+    rule : (k : Bool) → is_splitting ((if k then NotAscii else BadToken), at) ≡ true
     rule true = refl
     rule false = refl
 
@@ -72,8 +72,8 @@ bad_free in_algorithm at raw =
     let bytes = byte_offences (at + 1) raw in
     let breaks = offence_if (list_any breaks_string raw) OpenString at in
     let token = offence_if (has_bad_escape raw || (in_algorithm && holds_mark raw)) BadToken at in
-    all_more is_split token (breaks ++ bytes) (if_free (has_bad_escape raw || (in_algorithm && holds_mark raw)) BadToken at refl)
-    (all_more is_split breaks bytes (if_free (list_any breaks_string raw) OpenString at refl) (bytes_free (at + 1) raw))
+    all_more is_splitting token (breaks ++ bytes) (if_free (has_bad_escape raw || (in_algorithm && holds_mark raw)) BadToken at refl)
+    (all_more is_splitting breaks bytes (if_free (list_any breaks_string raw) OpenString at refl) (bytes_free (at + 1) raw))
 
 -- ---- segments
 
@@ -93,9 +93,9 @@ segment_free : (at : ℕ) (g : Segment) → Free (segment_offences at g)
 segment_free at (part p) = part_free at p
 segment_free at g = refl
 
-segments_free : (ds : List Located) → Free (offences_of ds)
+pub segments_free : (ds : List Located) → Free (offences_of ds)
 segments_free [] = refl
-segments_free (d ∷ ds) = all_more is_split (segment_offences d.at d.is) (offences_of ds) (segment_free d.at d.is) (segments_free ds)
+segments_free (d ∷ ds) = all_more is_splitting (segment_offences d.at d.is) (offences_of ds) (segment_free d.at d.is) (segments_free ds)
 
 -- ---- the algorithm's parts
 
@@ -149,9 +149,9 @@ algorithm_empty x a e h =
 
 -- ---- all other offences
 
-at_free : (r : Rule) → ((n : ℕ) → is_split (r, n) ≡ true) → (ns : List ℕ) → Free (offences_at r ns)
+at_free : (r : Rule) → ((n : ℕ) → is_splitting (r, n) ≡ true) → (ns : List ℕ) → Free (offences_at r ns)
 at_free r h [] = refl
-at_free r h (n ∷ ns) = and_from (is_split (r, n)) (list_all is_split (offences_at r ns)) (h n) (at_free r h ns)
+at_free r h (n ∷ ns) = and_from (is_splitting (r, n)) (list_all is_splitting (offences_at r ns)) (h n) (at_free r h ns)
 
 no_module_free : (x : Text) (e : Option ℕ) → Free (no_module x e)
 no_module_free x (Some n) = refl
@@ -186,7 +186,7 @@ unit_free (d ∷ ds) = on (token_in d) refl (unit_free ds)
 
 placements_free : (ds : List Located) → Free (placements ds)
 placements_free ds =
-    all_more is_split (if is_some (region_of ds) then [] else rest_of_line (after_comment ds)) (no_unit (after_spot ds)) (on (is_some (region_of ds))) (unit_free (after_spot ds))
+    all_more is_splitting (if is_some (region_of ds) then [] else rest_of_line (after_comment ds)) (no_unit (after_spot ds)) (on (is_some (region_of ds))) (unit_free (after_spot ds))
   where
     on : (k : Bool) → Free (if k then [] else rest_of_line (after_comment ds))
     on true = refl
@@ -194,7 +194,7 @@ placements_free ds =
 
 options_free : (x : Text) (rs : List Span) → Free (flat_map (options_in x) rs)
 options_free x [] = refl
-options_free x (r ∷ rs) = all_more is_split (options_in x r) (flat_map (options_in x) rs) (at_free Options (λ n. refl) (all_at is_options r.from (stretch x r.from r.to))) (options_free x rs)
+options_free x (r ∷ rs) = all_more is_splitting (options_in x r) (flat_map (options_in x) rs) (at_free Options (λ n. refl) (all_at is_options r.from (stretch x r.from r.to))) (options_free x rs)
 
 -- ---- the file
 
@@ -220,4 +220,4 @@ fine x a e is small =
 
 -- none of those by which it is refused is left where there are none at all
 pub spared : (x : Text) → file_offences x ≡ [] → splitting_offences x ≡ []
-spared x e = ap (λ (os : List Offence). filter is_split os) e
+spared x e = ap (λ (os : List Offence). filter is_splitting os) e

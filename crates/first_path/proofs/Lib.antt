@@ -13,6 +13,7 @@ pub mod AlgorithmAlone
 pub mod RegionText
 pub mod RegionFits
 pub mod RegionBars
+pub mod WritableForm
 pub mod RegionCut
 pub mod RegionForms
 pub mod RegionStep

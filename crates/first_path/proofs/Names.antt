@@ -1,11 +1,11 @@
 -- Names and numbers as bytes, and lists of names.
-use Rattle.std.proofs.Common.{◌≡◌, ℕ, ◌^◌, Bool, true, false, List, [], ◌∷◌, ◌++◌, refl, ◌∙◌, arith, inl, inr}
+use Rattle.std.proofs.Common.{◌≡◌, ℕ, ◌^◌, Bool, true, false, List, [], ◌∷◌, ◌++◌, refl, ◌∙◌, arith}
 use Rattle.std.specs.List.{list_all, list_any}
 use Rattle.std.specs.Str.{bytes_eq}
 use Rattle.std.specs.Fmt.{decimal}
 use Rattle.std.proofs.lemmas.Slice.Eq.{bytes_eq-Decides}
 use Rattle.std.proofs.lemmas.List.Folds.{list_all-append}
-use Rattle.std.proofs.lemmas.Bool.{and_parts, and_from, or_cases, ltb-true, false_from_ne_true, both_ways}
+use Rattle.std.proofs.lemmas.Bool.{and_parts, and_from, ltb-true, false_from_ne_true, both_ways}
 use Rattle.tla_token.specs.Lexemes.{is_word, is_letter}
 use Rattle.tla_token.specs.Signs.{is_among}
 use Rattle.tla_token.proofs.Spelled.{same_bytes}
@@ -45,16 +45,6 @@ escapes_name (b ∷ bs) h =
 
 pub all_more : {A : Type 0} (p : A → Bool) (xs ys : List A) → list_all p xs ≡ true → list_all p ys ≡ true → list_all p (xs ++ ys) ≡ true
 all_more p xs ys h k = list_all-append p xs ys ∙ and_from (list_all p xs) (list_all p ys) h k
-
--- what is true of each in a list is true of one that is among them
-pub among_holds : (p : Word → Bool) (vs : List Word) (w : Word) → is_among vs w ≡ true → list_all p vs ≡ true → p w ≡ true
-among_holds p [] w h k = absurd cc
-among_holds p (v ∷ vs) w h k =
-    let both = and_parts (p v) (list_all p vs) k in
-    elim (or_cases (bytes_eq v w) (is_among vs w) h) [
-      | inl e ↦ (let d : v ≡ w = same_bytes v w e in rw d at both.0)
-      | inr e ↦ among_holds p vs w e both.1
-    ]
 
 -- one that is among them isn't one that isn't
 pub not_among : (vs : List Word) (w u : Word) → is_among vs w ≡ false → is_among vs u ≡ true → bytes_eq u w ≡ false

@@ -6,7 +6,8 @@ use Rattle.tla_token.specs.declared.rule.Refusal.{Refusal}
 use Rattle.tla_token.specs.Places.{place_at}
 use Rattle.tla_token.specs.Offences.{Offence, earlier, least}
 use Rattle.first_path.specs.Form.{Parts, IsForm}
-use Rattle.first_path.specs.FormRead.{form_of, splitting_offences, offences_with, form_offences, FirstOffence, left_out}
+use Rattle.module_text.specs.Splitting.{splitting_offences}
+use Rattle.first_path.specs.FormRead.{form_of, offences_with, form_offences, FirstOffence, left_out}
 use Rattle.first_path.specs.Placed.{module_at, translation_of}
 use Rattle.promise.specs.Options.{no_options}
 use Rattle.promise.specs.Headline.{Headline}

@@ -24,7 +24,7 @@ use Rattle.pcal_tree.specs.GrammarP.{simple, last_statement}
 use Rattle.pcal_tree.specs.Grammar.{Text, algorithm, to_end, no_define, begin, spell, algorithm_of, Good, p_syntax, SpellsP}
 use Rattle.first_path.specs.Form.{Operand, number_operand, variable_operand, Right, single, sum, Parts, word, operand_kind, right_kinds, kinds}
 use Rattle.first_path.specs.Placed.{Places, algorithm_at}
-use Rattle.first_path.proofs.Names.{among_holds}
+use Rattle.tla_expr.proofs.TextTokens.{among_holds}
 use Rattle.first_path.proofs.Fit.{unreserved}
 use Rattle.first_path.proofs.FormKinds.{closing_kinds}
 

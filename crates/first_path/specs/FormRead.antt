@@ -1,8 +1,7 @@
 -- Reading the form of an algorithm, as a function, and the offences of a file that hasn't it.
-use Rattle.std.specs.Prelude.{◌≡◌, ℕ, Bool, true, false, ◌||◌, not, nat_eq, List, [], ◌∷◌, Option, Some, None, codes, filter}
+use Rattle.std.specs.Prelude.{◌≡◌, ℕ, Bool, true, false, ◌||◌, List, [], ◌∷◌, Option, Some, None, codes}
 use Rattle.std.specs.Str.{bytes_eq}
 use Rattle.tla_token.specs.declared.rule.Rule.TheVariants.{LeftOutWord}
-use Rattle.tla_token.specs.Rules.{rule_number}
 use Rattle.tla_token.specs.declared.sign.Sign.TheVariants as sign
 use Rattle.tla_token.specs.Lexemes.{Kind, name, number, one}
 use Rattle.tla_token.specs.declared.rule.Refusal.{Refusal}
@@ -13,7 +12,7 @@ pub use Rattle.module_text.specs.TextFront.{on_some}
 use Rattle.module_text.specs.Walk.{walk}
 use Rattle.module_text.specs.FileParts.{title}
 use Rattle.module_text.specs.AlgorithmText.{algorithm_in}
-use Rattle.module_text.specs.FileOffences.{file_offences}
+use Rattle.module_text.specs.Splitting.{splitting_offences}
 use Rattle.first_path.specs.Beside.{Beside, beside}
 use Rattle.first_path.specs.Form.{Operand, number_operand, variable_operand, Right, single, sum, Parts, is_fit, suits, algorithm_kinds}
 
@@ -86,14 +85,6 @@ parts_of m ks = on_word (codes "--algorithm") ks (parts_in m)
 
 -- ---- the file
 
--- a number that is too big is none so far: it doesn't fit the form
-abbrev pub is_split : Offence → Bool
-is_split o = not (nat_eq (rule_number o.0) 12)
-
--- those by which a file is refused before its algorithm is read
-abbrev pub splitting_offences : List ℕ → List Offence
-splitting_offences x = filter is_split (file_offences x)
-
 abbrev pub if_none : {A : Type 0} → List Offence → Option A → Option A
 if_none [] o = o
 if_none (e ∷ es) o = None
@@ -101,7 +92,7 @@ if_none (e ∷ es) o = None
 abbrev pub suiting : Beside → Parts → Option Parts
 suiting o f = if_so (suits o f) (Some f)
 
--- the parts of the algorithm in a file that has the form
+-- the parts of the algorithm in a file that has the form; a number that is too big doesn't fit it
 abbrev pub form_of : List ℕ → Option Parts
 form_of x =
     if_none (splitting_offences x) (on_some (algorithm_in x) (λ a. on_some (title (walk x)) (λ m.

@@ -7,23 +7,23 @@ use Rattle.std.proofs.lemmas.Option.{none-some, same_Some}
 use Rattle.std.proofs.Math.Seq.{take-append_seam}
 use Rattle.tla_token.specs.declared.sign.Sign.{Sign}
 use Rattle.tla_token.specs.Lexemes.{unquoted, is_word, is_letter, is_digit, is_blank, is_printed}
-use Rattle.tla_token.specs.Tokens.{blank, block, line, lexeme, is_pair, Closes, TokAlgorithm}
-use Rattle.tla_token.specs.Offences.{Part, sound, stray, bad_string, open_string, open_block, string_len, begins_with, Offence}
+use Rattle.tla_token.specs.Tokens.{blank, block, line, is_pair, Closes, TokAlgorithm}
+use Rattle.tla_token.specs.Offences.{Part, sound, open_block, string_len, begins_with}
 use Rattle.tla_token.specs.Cut.{run, comment_len, block_part, string_part, lexeme_part, or_other, sign_of, sign_part, sign_at}
 use Rattle.tla_token.proofs.Spelled.{begins_is}
 use Rattle.tla_token.proofs.Parted.{len_closes}
-use Rattle.module_text.specs.TextFront.{Text, begins, on_some, line_here, whole_line}
+use Rattle.module_text.specs.TextFront.{Text, begins, line_here, whole_line}
 use Rattle.module_text.specs.HeaderAndRegion.{is_header, is_begin, is_end}
 use Rattle.module_text.specs.Beginnings.{ends_module, is_rule, begins_bar, begins_algorithm, all_at}
 use Rattle.module_text.specs.ModuleParts.{barred, module_part}
-use Rattle.module_text.specs.Walk.{Segment, free, header, part, region, mark, inner, tail, bytes, State, opened, at_end_line, in_module, segment_at, Located, walk, at_start}
+use Rattle.module_text.specs.Walk.{Segment, free, header, part, mark, inner, tail, bytes, State, opened, at_end_line, in_module, segment_at, Located, walk, at_start}
 use Rattle.module_text.specs.FileParts.{within, beginnings_in, first_of, holds_algorithm, before_first, after_first}
-use Rattle.module_text.specs.AlgorithmText.{AlgorithmText, algorithm_at, algorithm_of, algorithm_in, algorithm_tokens}
+use Rattle.module_text.specs.AlgorithmText.{AlgorithmText, algorithm_at, algorithm_in, algorithm_tokens}
 use Rattle.module_text.specs.FileOffences.{segment_offences, offences_of, algorithm_offences}
 use Rattle.module_text.specs.laws.Walks.{text_of, after_all}
 use Rattle.module_text.specs.laws.Kept.{only_large}
 use Rattle.module_text.proofs.WalkWhole.{whole}
-use Rattle.module_text.proofs.WalkPlace.{both_empty, before_whole, text_append, offences_append, Met, met}
+use Rattle.module_text.proofs.WalkPlace.{both_empty, before_whole, text_append, offences_append, met}
 use Rattle.module_text.proofs.WalkKept.{at_is}
 use Rattle.module_text.proofs.AlgorithmFound.{First, first_at, tokens_there}
 use Rattle.module_text.proofs.AlgorithmTokens.{Ends}
@@ -34,14 +34,14 @@ abbrev is_block : Part → Bool
 is_block (sound (block body)) = true
 is_block p = false
 
-block_segment : (at n : ℕ) (g : Segment) → segment_offences at g ≡ [] → first_of (all_at begins_algorithm (at + 2) (within g)) ≡ Some n → (body : Text) × (g ≡ part (sound (block body)))
+pub block_segment : (at n : ℕ) (g : Segment) → segment_offences at g ≡ [] → first_of (all_at begins_algorithm (at + 2) (within g)) ≡ Some n → (body : Text) × (g ≡ part (sound (block body)))
 block_segment at n (part (sound (block body))) e f = (body, refl)
 block_segment at n (part (open_block body)) e f = absurd cc
 block_segment at n g e f = absurd (none-some n f)
 
 -- ---- a part in the walk is the first part there
 
-part_there : (st : State) (b : ℕ) (s : Text) (q : Part) → segment_at st b s ≡ part q → module_part b s ≡ q
+pub part_there : (st : State) (b : ℕ) (s : Text) (q : Part) → segment_at st b s ≡ part q → module_part b s ≡ q
 part_there st b s q e = by st.headed refl (is_header (b ∷ s)) refl
   where
     is_part : Segment → Bool
@@ -113,7 +113,7 @@ no_quoted raw rest = by (begins_with 34 rest) refl (unquoted raw) refl
     by true k (Some w) o = rw (k, o) refl
     by false k o oo = rw k refl
 
-abbrev Closed : Text → Text → Type 0
+abbrev pub Closed : Text → Text → Type 0
 Closed body [] = ⊥
 Closed body (b ∷ s) = module_part b s ≡ sound (block body) → Closes 1 body
 
@@ -129,7 +129,7 @@ comment_closed body s e = by (comment_len 1 s) refl
         let x : block_part (comment_len 1 s) s ≡ sound (block (take n s)) = rw o refl in
         subst (Closes 1) (blocks (sym x ∙ e)) (len_closes 1 s n o).1
 
-block_closed : (b : ℕ) (s body : Text) → Closed body (b ∷ s)
+pub block_closed : (b : ℕ) (s body : Text) → Closed body (b ∷ s)
 block_closed b s body e = by (is_blank b) refl (nat_eq b 34) refl (begins (b ∷ s) (codes "(*")) refl (begins (b ∷ s) (codes "\\*")) refl
   where
     wrong : (q : Part) → module_part b s ≡ q → is_block q ≡ false → Closes 1 body
@@ -143,7 +143,7 @@ block_closed b s body e = by (is_blank b) refl (nat_eq b 34) refl (begins (b ∷
     by false i false j false k false l = wrong (barred b s) (rw (i, j, k, l) refl) (no_barred b s)
 
 -- a comment's text, and its end
-abbrev Marked : Text → Type 0
+abbrev pub Marked : Text → Type 0
 Marked v = (u : Text) × (v ≡ u ++ 42 ∷ 41 ∷ [])
 
 before : (x : ℕ) (v : Text) → Marked v → Marked (x ∷ v)
@@ -155,7 +155,7 @@ last_mark a b [] p c =
     ([], ap (λ (a : ℕ). a ∷ b ∷ []) (eqb-true a 42 k.0) ∙ ap (λ (b : ℕ). 42 ∷ b ∷ []) (eqb-true b 41 k.1))
 last_mark a b (d ∷ bs) p c = absurd c
 
-closes_end : (d : ℕ) (body : Text) → Closes (suc d) body → Marked body
+pub closes_end : (d : ℕ) (body : Text) → Closes (suc d) body → Marked body
 closes_end d [] c = absurd c
 closes_end d (a ∷ []) c = absurd c
 closes_end zero (a ∷ b ∷ bs) c = by (is_pair 40 42 a b) refl (is_pair 42 41 a b) refl (closes_end (suc zero) bs) (closes_end zero (b ∷ bs))
@@ -174,7 +174,7 @@ closes_end (suc d) (a ∷ b ∷ bs) c = by (is_pair 40 42 a b) refl (is_pair 42 
 
 -- ---- the file
 
-within_mark : (u : Text) → take (length (u ++ 42 ∷ 41 ∷ []) - 2) (u ++ 42 ∷ 41 ∷ []) ≡ u
+pub within_mark : (u : Text) → take (length (u ++ 42 ∷ 41 ∷ []) - 2) (u ++ 42 ∷ 41 ∷ []) ≡ u
 within_mark u = ap (λ (n : ℕ). take n (u ++ 42 ∷ 41 ∷ [])) (less (length u) (length (u ++ 42 ∷ 41 ∷ [])) (length-append u (42 ∷ 41 ∷ []))) ∙ take-append_seam u (42 ∷ 41 ∷ [])
   where
     less : (n m : ℕ) → m ≡ n + 2 → m - 2 ≡ n

@@ -14,7 +14,7 @@ use Rattle.module_text.specs.WithTranslation.{WithTranslation}
 use Rattle.module_text.specs.laws.Walks.{text_of, after_all, IsInside, made, located, Put}
 use Rattle.module_text.specs.laws.Kept.{IsFine, only_large, KeepsFile}
 use Rattle.module_text.proofs.WalkPlace.{before_whole, text_append}
-use Rattle.module_text.proofs.WalkKept.{sound_file, Shape, HasPlace, has_place, at_is}
+use Rattle.module_text.proofs.WalkKept.{all_fine_in, Shape, HasPlace, has_place, at_is}
 use Rattle.module_text.proofs.WalkSame.{keeps_file}
 use Rattle.module_text.proofs.AlgorithmTokens.{are_plain}
 use Rattle.module_text.proofs.AlgorithmIsCut.{Placed, placed, fine_here}
@@ -195,7 +195,7 @@ near_begun x w d c n m k i j l o size f g is near e h marks room z below =
     subst (λ (v : Place). Near i j l o (n + z) v (m + z) (place_at w (m + z))) (sym p)
     (subst (λ (v : Place). Near i j l o (n + z) (after d.place (take (2 + (k + z)) (bytes d.is))) (m + z) v) same (bytes_near, below_it.0, below_it.1))
 
-algorithm_at_first : (x : Text) (d : Located) (n : ℕ) → find holds_algorithm (walk x) ≡ Some d → first_of (beginnings_in d) ≡ Some n → algorithm_in x ≡ Some (at_comment x d n)
+pub algorithm_at_first : (x : Text) (d : Located) (n : ℕ) → find holds_algorithm (walk x) ≡ Some d → first_of (beginnings_in d) ≡ Some n → algorithm_in x ≡ Some (at_comment x d n)
 algorithm_at_first x d n f o = rw (f, o) refl
 
 -- what is known of the algorithm in a file that is not refused
@@ -204,7 +204,7 @@ record FirstFine (x : Text) (d : Located) (n : ℕ) (others : List ℕ) : Type 0
   within_tokens : list_all (in_token (at_comment x d n)) others ≡ true
   placed : Placed x d n
 
-placed_at : (x : Text) (d : Located) (n : ℕ) → offences_of (walk x) ≡ [] → find holds_algorithm (walk x) ≡ Some d → first_of (beginnings_in d) ≡ Some n → Placed x d n
+pub placed_at : (x : Text) (d : Located) (n : ℕ) → offences_of (walk x) ≡ [] → find holds_algorithm (walk x) ≡ Some d → first_of (beginnings_in d) ≡ Some n → Placed x d n
 placed_at x d n fine f o =
     let split = before_whole holds_algorithm (walk x) d f in
     placed x (before_first holds_algorithm (walk x)) (after_first holds_algorithm (walk x)) d n (fine_here x _ _ d fine split) split o
@@ -212,14 +212,14 @@ placed_at x d n fine f o =
 first_fine : (x : Text) (d : Located) (n : ℕ) (others : List ℕ) → IsFine x → find holds_algorithm (walk x) ≡ Some d → first_of (beginnings_in d) ≡ Some n → beginnings (walk x) ≡ n ∷ others
     → FirstFine x d n others
 first_fine x d n others fine f o all =
-    let s = sound_file x fine in
+    let s = all_fine_in x fine in
     let is = algorithm_at_first x d n f o in
     let second : offences_at TwoAlgorithms (filter (λ k. not (in_token (at_comment x d n) k)) others) ≡ [] =
     (λ i. second_algorithms (sym is i) (sym all i)) ∙ s.second in
     record {
       offences = ap algorithm_offences (sym is) ∙ s.algorithm;
       within_tokens = not_filtered (in_token (at_comment x d n)) others (no_seconds _ second);
-      placed = placed_at x d n s.fine f o;
+      placed = placed_at x d n s.parts.fine f o;
     }
 
 module _ (x t w : Text) (fine : IsFine x) (inside : IsInside t) (put_there : WithTranslation x t w) where
@@ -359,4 +359,4 @@ module _ (x t w : Text) (fine : IsFine x) (inside : IsInside t) (put_there : Wit
       by : (o : Option Located) → find holds_algorithm h.front ≡ o → (q : Option Located) → find holds_algorithm h.back ≡ q → AlgorithmsFine x w
       by (Some d) o q qq = in_front d o
       by None o (Some d) q = behind o d q
-      by None o None q = absurd ((sound_file x fine).begun (begun_here ∙ (λ i. none_held h.front o i ++ none_held h.back q i)))
+      by None o None q = absurd ((all_fine_in x fine).parts.begun (begun_here ∙ (λ i. none_held h.front o i ++ none_held h.back q i)))

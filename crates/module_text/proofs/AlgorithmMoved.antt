@@ -1,5 +1,5 @@
 -- The tokens of the algorithm of a file with a translation are those of the file that was read, moved.
-use Rattle.std.proofs.Common.{◌≡◌, ℕ, zero, suc, ◌+◌, Bool, true, false, not, List, [], ◌∷◌, ◌++◌, length, map, drop, Some, refl, sym, ap, subst, ◌∙◌, arith}
+use Rattle.std.proofs.Common.{◌≡◌, ℕ, zero, suc, ◌+◌, Bool, true, not, List, [], ◌∷◌, ◌++◌, length, map, drop, Some, refl, sym, ap, subst, ◌∙◌, arith}
 use Rattle.std.proofs.lemmas.Option.{same_Some}
 use Rattle.tla_token.specs.Tokens.{block, blank, line, lexeme}
 use Rattle.module_text.specs.TextFront.{Text}
@@ -17,7 +17,6 @@ use Rattle.module_text.specs.laws.Walks.{Near}
 use Rattle.module_text.specs.laws.Kept.{TokensMoved, AlgorithmMoved}
 use Rattle.module_text.proofs.AlgorithmKept.{near_after, algorithms_fine}
 use Rattle.tla_token.specs.declared.sign.Sign.TheVariants as sign
-use Rattle.tla_token.specs.declared.rule.Rule.{Rule}
 use Rattle.tla_token.specs.declared.rule.Rule.TheVariants.{LeftOutWord, TooMany}
 use Rattle.tla_token.specs.Limits.{most_tokens}
 use Rattle.tla_token.specs.Lexemes.{Kind, one}

@@ -21,7 +21,7 @@ use Rattle.module_text.specs.WithTranslation.{WithTranslation}
 use Rattle.module_text.specs.laws.Walks.{after_all, IsInside, made, located, Put}
 use Rattle.module_text.specs.laws.Kept.{IsFine, KeepsFile}
 use Rattle.module_text.proofs.WalkPlace.{none_such, before_tail, walk_tails, tails_last, headed_title}
-use Rattle.module_text.proofs.WalkKept.{sound_file, Shape, HasPlace, has_place}
+use Rattle.module_text.proofs.WalkKept.{all_fine_in, Shape, HasPlace, has_place}
 use Rattle.module_text.proofs.WalkSame.{keeps_file, moved_tail}
 use Rattle.module_text.proofs.OptionsKept.{HasEnds, NoOptions, from_header, to_end, moved_to_end, both_free, free_without, free_with}
 use Rattle.module_text.proofs.OutsideAlike.{same_views, same_front}
@@ -106,7 +106,7 @@ module _ (x t w : Text) (fine : IsFine x) (inside : IsInside t) (put_there : Wit
   no_options = by h.shape
     where
       options : flat_map (options_in x) (outside_region x (walk x)) ≡ []
-      options = (sound_file x fine).options
+      options = (all_fine_in x fine).options
 
       by : Shape x h.front h.back → NoOptions (from_header ends_here.hd h.front) × NoOptions (to_end h.back)
       by (inl (none, e)) = free_without x h.front h.back ends_here e none options

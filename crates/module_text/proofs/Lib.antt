@@ -4,6 +4,24 @@ pub mod OneWay
 pub mod OneUnit
 pub mod OneOutside
 pub mod OneModule
+pub mod EdgeAlike
+pub mod OutsideUnits
+pub mod ReadOutside
+pub mod SomeOutside
+pub mod OutsideAlike
+pub mod ModuleKept
+pub mod AlgorithmRow
+pub mod OptionsKept
+pub mod BeginningsKept
+pub mod AlgorithmKept
+pub mod AlgorithmMoved
+pub mod FineKept
+pub mod PairedMarks
+pub mod WalkAlike
+pub mod SwappedBack
+pub mod WalkBefore
+pub mod SwappedComment
+pub mod FirstSwapped
 pub mod OnePlace
 pub mod Tells
 pub mod First
@@ -12,12 +30,21 @@ mod RowsItems
 mod RowsTruth
 mod RowsProcesses
 mod RowsOutside
+mod RowsUnits
 mod RowsReading
 mod RowsFiles
-mod RowsUnits
+mod RowsInMemory
+mod RowsStands
+mod RowsWritten
 pub mod WalkLines
 pub mod WalkWhole
 pub mod WalkResumed
+pub mod LineLengths
+pub mod EndLine
+pub mod BarFronts
+pub mod SegmentFronts
+pub mod QuotedSegments
+pub mod WalkSteps
 pub mod WalkWritten
 pub mod WalkMoved
 pub mod WalkParted
@@ -32,14 +59,40 @@ pub mod AlgorithmTokens
 pub mod AlgorithmFound
 pub mod AlgorithmIsCut
 pub mod AlgorithmSame
-pub mod OutsideUnits
-pub mod ReadOutside
-pub mod SomeOutside
-pub mod OutsideAlike
-pub mod ModuleKept
-pub mod AlgorithmRow
-pub mod OptionsKept
-pub mod BeginningsKept
-pub mod AlgorithmKept
-pub mod AlgorithmMoved
-pub mod FineKept
+pub mod ItemEquations
+pub mod Below
+pub mod Heights
+pub mod Regrouped
+pub mod OneMore
+pub mod LayoutParts
+pub mod SpotWithin
+pub mod InMemoryGrown
+mod RowsSplit
+pub mod BeginningSteps
+pub mod AlgorithmSteps
+pub mod Braces
+pub mod UnitStarts
+pub mod SplitFaults
+pub mod SplitLeast
+pub mod SplitFine
+pub mod StandSteps
+pub mod Comments
+pub mod Gaps
+pub mod SplitParts
+pub mod Titles
+pub mod SplitTitle
+pub mod SplitWhole
+pub mod SplitTokens
+pub mod SplitMade
+pub mod Chunks
+pub mod ExprChunks
+pub mod LineChunks
+pub mod ItemChunks
+pub mod CallChunks
+pub mod UnitChunks
+pub mod UnitForms
+pub mod UnitsOfActions
+pub mod ProcessSets
+pub mod UnitLists
+pub mod LayoutBare
+pub mod WrittenRegion

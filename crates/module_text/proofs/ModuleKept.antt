@@ -28,17 +28,17 @@ use Rattle.module_text.specs.laws.Kept.{IsFine, KeepsFile}
 use Rattle.module_text.specs.laws.Outsides.{HasOutside, AllAlike, SameOutside, IsModuleOf}
 use Rattle.module_text.proofs.WalkLines.{header_title_alike}
 use Rattle.module_text.proofs.WalkPlace.{both_empty, before_whole, headed_title, met}
-use Rattle.module_text.proofs.WalkKept.{sound_file, HasPlace, has_place}
+use Rattle.module_text.proofs.WalkKept.{all_fine_in, HasPlace, has_place}
 use Rattle.module_text.proofs.WalkSame.{first_kept}
 use Rattle.module_text.proofs.OutsideAlike.{same_views, same_front, same_units, units_there, alike_after, same_outside}
 
 -- ---- the title
 
 -- a line without its end, or one with it
-abbrev Lined : Text → Type 0
+abbrev pub Lined : Text → Type 0
 Lined s = ((l : Text) × (p : Text) × (s ≡ l ++ 10 ∷ p) × (whole_line s ≡ l ++ 10 ∷ [])) ⊎ (whole_line s ≡ s)
 
-lined : (s : Text) → Lined s
+pub lined : (s : Text) → Lined s
 lined [] = inr refl
 lined (b ∷ s) = by (nat_eq b 10) refl (lined s)
   where
@@ -91,6 +91,16 @@ found_so q (c ∷ ds) d e = by (q c.is) refl (found_so q ds d)
     by true k deeper = (let f : c ≡ d = same_Some c d (rw k at e) in ap (λ (d : Located). q d.is) (sym f) ∙ k)
     by false k deeper = (let f : first_that q ds ≡ Some d = rw k at e in deeper f)
 
+-- the header has a name
+pub named : (x : Text) (d : Located) → first_that is_header_line (walk x) ≡ Some d → is_some (header_title (bytes d.is)) ≡ true
+named x d f =
+    let is_line : Located → Bool = λ d. is_header_line d.is in
+    let m = met (before_first is_line (walk x)) d (after_first is_line (walk x)) at_start x (before_whole is_line (walk x) d f) in
+    let g = segment_at (after_all at_start (before_first is_line (walk x))) m.b m.s in
+    let same : g ≡ d.is = ap (λ (d : Located). d.is) m.is in
+    let yes : is_header_line g ≡ true = ap is_header_line same ∙ found_so is_header_line (walk x) d f in
+    ap (λ (g : Segment). is_some (header_title (bytes g))) (sym same) ∙ header_found (after_all at_start (before_first is_line (walk x))) m.b m.s yes
+
 some_title : (x : Text) → HasPlace x → (n : Word) × (title (walk x) ≡ Some n)
 some_title x h = on (first_that is_header_line (walk x)) refl
   where
@@ -99,18 +109,9 @@ some_title x h = on (first_that is_header_line (walk x)) refl
         let has = headed_title at_start h.front refl h.opened.0 in
         ap (λ (ds : List Located). is_some (first_that is_header_line ds)) h.whole ∙ ap (λ (o : Option Located). is_some o) (first_kept is_header_line h.front h.rest has) ∙ has
 
-    named : (d : Located) → first_that is_header_line (walk x) ≡ Some d → is_some (header_title (bytes d.is)) ≡ true
-    named d f =
-        let is_line : Located → Bool = λ d. is_header_line d.is in
-        let m = met (before_first is_line (walk x)) d (after_first is_line (walk x)) at_start x (before_whole is_line (walk x) d f) in
-        let g = segment_at (after_all at_start (before_first is_line (walk x))) m.b m.s in
-        let same : g ≡ d.is = ap (λ (d : Located). d.is) m.is in
-        let yes : is_header_line g ≡ true = ap is_header_line same ∙ found_so is_header_line (walk x) d f in
-        ap (λ (g : Segment). is_some (header_title (bytes g))) (sym same) ∙ header_found (after_all at_start (before_first is_line (walk x))) m.b m.s yes
-
     told : (d : Located) → first_that is_header_line (walk x) ≡ Some d → (o : Option Word) → header_title (bytes d.is) ≡ o → (n : Word) × (title (walk x) ≡ Some n)
     told d f (Some n) o = (n, rw f o)
-    told d f None o = (let g = named d f in let e : false ≡ true = rw o at g in absurd cc)
+    told d f None o = (let g = named x d f in let e : false ≡ true = rw o at g in absurd cc)
 
     on : (o : Option Located) → first_that is_header_line (walk x) ≡ o → (n : Word) × (title (walk x) ≡ Some n)
     on None f = (let e : false ≡ true = rw f at there in absurd cc)
@@ -131,7 +132,7 @@ begun (d ∷ ds) e = by (token_in d) refl (begun ds)
         on false k = (let f : ◌≡◌ {A = List Offence} ((Placement, d.at) ∷ []) [] = rw (o, k) at e in absurd cc)
 
 pub no_front_in : (x : Text) → IsFine x → (units_in (after_spot (walk x))).front ≡ []
-no_front_in x f = begun (after_spot (walk x)) (both_empty _ (no_unit (after_spot (walk x))) (sound_file x f).placed).1
+no_front_in x f = begun (after_spot (walk x)) (both_empty _ (no_unit (after_spot (walk x))) (all_fine_in x f).parts.placed).1
 
 pub no_looks : (ts : List Token) → looks ts ≡ [] → ts ≡ []
 no_looks [] e = refl

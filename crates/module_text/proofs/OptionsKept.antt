@@ -23,11 +23,11 @@ use Rattle.module_text.proofs.AlgorithmFound.{past_all_more, stretch_is}
 
 -- ---- what begins with options does so before more
 
-some_step : {A B : Type 0} (o : Option A) (f : A → Option B) → is_some (option_and_then f o) ≡ true → (m : A) × (o ≡ Some m) × (is_some (f m) ≡ true)
+pub some_step : {A B : Type 0} (o : Option A) (f : A → Option B) → is_some (option_and_then f o) ≡ true → (m : A) × (o ≡ Some m) × (is_some (f m) ≡ true)
 some_step (Some m) f h = (m, refl, h)
 some_step None f h = absurd cc
 
-word_more : (w s r m : Text) → past_word w s ≡ Some m → past_word w (s ++ r) ≡ Some (m ++ r)
+pub word_more : (w s r m : Text) → past_word w s ≡ Some m → past_word w (s ++ r) ≡ Some (m ++ r)
 word_more w s r m e = by (begins s w) refl
   where
     by : (k : Bool) → begins s w ≡ k → past_word w (s ++ r) ≡ Some (m ++ r)
@@ -41,10 +41,10 @@ word_more w s r m e = by (begins s w) refl
         past ∙ ap (λ (u : Text). Some (drop (length w) u)) longer ∙ ap (λ (u : Text). Some u) (drop-append_seam w (m ++ r))
 
 -- a text that begins with a word isn't empty
-abbrev IsMore : Text → Type 0
+abbrev pub IsMore : Text → Type 0
 IsMore m = (b : ℕ) × (u : Text) × (m ≡ b ∷ u)
 
-blanks_more : (s r m : Text) → IsMore m → past_blanks is_blank s ≡ Some m → past_blanks is_blank (s ++ r) ≡ Some (m ++ r)
+pub blanks_more : (s r m : Text) → IsMore m → past_blanks is_blank s ≡ Some m → past_blanks is_blank (s ++ r) ≡ Some (m ++ r)
 blanks_more [] r m i e = absurd cc
 blanks_more (c ∷ s) r m (b, u, i) e = by (is_blank c) refl
   where

@@ -4,18 +4,18 @@ use Rattle.std.proofs.Common.{refl}
 use Rattle.tla_token.specs.declared.rule.Rule.{Rule}
 use Rattle.tla_token.specs.declared.rule.Rule.TheVariants.{NotAscii, BadToken, OpenComment, OpenString, NoModule, NoAlgorithm, TwoAlgorithms, BadRegion, Placement, Options, NumberTooBig}
 use Rattle.tla_token.specs.Places.{place_at}
-use Rattle.tla_token.specs.Tokens as text
-use Rattle.tla_token.specs.Tokens.{stretch}
-use Rattle.tla_token.specs.Offences.{least}
+use Rattle.tla_token.specs.Tokens.{blank, block, stretch}
+use Rattle.tla_token.specs.Offences.{sound, least}
 use Rattle.tla_expr.specs.Lexical.{Token}
 use Rattle.module_text.specs.TextFront.{Text, on_some}
-use Rattle.module_text.specs.Walk.{walk}
-use Rattle.module_text.specs.FileParts.{title, region_of, spot, before_spot, after_spot, inside_region}
+use Rattle.module_text.specs.Walk.{header, part, walk}
+use Rattle.module_text.specs.FileParts.{holds_algorithm, before_first, after_first, title, region_of, spot, before_spot, after_spot, inside_region}
 use Rattle.module_text.specs.WithTranslation.{WithTranslation, Swapped}
 use Rattle.module_text.specs.AlgorithmText.{AlgorithmText, Stage, open_p, past_p, past_c, is_c, algorithm_in, algorithm_tokens}
 use Rattle.module_text.specs.FileUnits.{units_in}
 use Rattle.module_text.specs.FileOffences.{file_offences}
-use Rattle.module_text.specs.laws.Kept.{IsFine, TokensMoved}
+use Rattle.module_text.specs.laws.Kept.{IsFine, TokensMoved, AlgorithmMoved}
+use Rattle.module_text.specs.laws.Swaps.{is_paired, segments, SwapsComment}
 
 abbrev head : Text
 head = codes "---- MODULE M ----\n"
@@ -243,12 +243,12 @@ in_c_syntax = refl
 
 -- ---- an algorithm after a region that has grown by a line of four bytes
 
-abbrev tokens_in_text : Text → List text.Token
-tokens_in_text x = by (algorithm_in x)
+abbrev algorithm_there : Text → AlgorithmText
+algorithm_there x = by (algorithm_in x)
   where
-    by : Option AlgorithmText → List text.Token
-    by (Some a) = algorithm_tokens x a
-    by None = []
+    by : Option AlgorithmText → AlgorithmText
+    by (Some a) = a
+    by None = record { from = 0; opening = []; rest = record { parts = []; stage = past_c; to = 0 } }
 
 abbrev one_line : Text
 one_line = head ++ region_text ++ codes "(* --algorithm A { } *)\n" ++ foot
@@ -256,8 +256,11 @@ one_line = head ++ region_text ++ codes "(* --algorithm A { } *)\n" ++ foot
 abbrev two_lines : Text
 two_lines = head ++ codes "\\* BEGIN TRANSLATION\nold\nold\n\\* END TRANSLATION\n(* --algorithm A { } *)\n" ++ foot
 
-grown : TokensMoved 0 4 0 1 (tokens_in_text one_line) (tokens_in_text two_lines)
+grown : TokensMoved 0 4 0 1 (algorithm_tokens one_line (algorithm_there one_line)) (algorithm_tokens two_lines (algorithm_there two_lines))
 grown = (refl, (refl, refl, refl), (refl, (refl, refl, refl), (refl, (refl, refl, refl), (refl, (refl, refl, refl), tt))))
+
+moved : AlgorithmMoved one_line two_lines (algorithm_there one_line) (algorithm_there two_lines)
+moved = record { bytes_here = 0; bytes_there = 4; lines_here = 0; lines_there = 1; tokens = grown }
 
 -- neither is refused
 fine_before : IsFine one_line
@@ -265,3 +268,44 @@ fine_before = refl
 
 fine_after : IsFine two_lines
 fine_after = refl
+
+-- ---- texts that open and close comments only within themselves
+
+paired : is_paired 0 (codes "--algorithm A (* (* *) *) { }") ≡ true
+paired = refl
+
+-- a line comment with a lone mark, and a mark that something else would make whole
+unpaired : is_paired 0 (codes "--algorithm A \\* (*\n{ }") ≡ false
+unpaired = refl
+
+unended : is_paired 0 (codes "--algorithm A *") ≡ false
+unended = refl
+
+without_places : segments (walk (codes "---- MODULE M ----\n\n")) ≡ header (codes "---- MODULE M ----\n") ∷ part (sound (blank 10)) ∷ []
+without_places = refl
+
+-- ---- another algorithm in a comment
+
+abbrev before_swap : Text
+before_swap = head ++ codes "(* --algorithm A { } *) \n" ++ foot
+
+abbrev after_swap : Text
+after_swap = head ++ codes "(* --algorithm B {\n} *) \n" ++ foot
+
+swapped_comment : SwapsComment before_swap (codes "--algorithm B {\n}") after_swap (algorithm_there before_swap)
+swapped_comment = record {
+  before = before_first holds_algorithm (walk before_swap);
+  comment = record { at = 19; place = record { line = 2; col = 1 }; is = part (sound (block (codes " --algorithm A { } *)"))) };
+  after = after_first holds_algorithm (walk before_swap);
+  walked = refl;
+  there = part (sound (block (codes " --algorithm B {\n} *)")));
+  after_there = after_first holds_algorithm (walk after_swap);
+  walked_there = refl;
+  same_after = refl;
+  front = codes " ";
+  back = codes " ";
+  at = refl;
+  held = refl;
+  holds = refl;
+  sound = refl;
+}

@@ -13,7 +13,7 @@ use Rattle.module_text.specs.Module.{constants, defines, opaque, outside_of}
 use Rattle.module_text.specs.TextFront.{Text}
 use Rattle.module_text.specs.Walk.{walk}
 use Rattle.module_text.specs.Outside.{Sight}
-use Rattle.module_text.specs.laws.Outsides.{HasOutside, Alike, SameOutside}
+use Rattle.module_text.specs.laws.Outsides.{HasOutside, Alike, AllAlike, SameOutside}
 use Rattle.module_text.proofs.OutsideUnits.{unit_read}
 use Rattle.module_text.proofs.SomeOutside.{outside_read, has_outside}
 
@@ -91,3 +91,6 @@ moved = refl
 
 same : SameOutside (outside_of (constants (constant_in 10) ∷ opaque (passed (codes "Inv") 11) ∷ [])) (outside_of (constants (constant_in 40) ∷ opaque (passed (codes "Inv") 41) ∷ []))
 same = record { extended = refl; constants = refl; definitions = refl; opaque = refl }
+
+both_moved : AllAlike (constants (constant_in 10) ∷ opaque (passed (codes "Inv") 11) ∷ []) (constants (constant_in 40) ∷ opaque (passed (codes "Inv") 41) ∷ [])
+both_moved = (refl, (refl, tt))

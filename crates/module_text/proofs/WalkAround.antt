@@ -121,7 +121,7 @@ end_closes (b ∷ s) first v w e = by (first && is_end (b ∷ s)) refl (at_end_l
         over (b ∷ p, q) (pairs (b ∷ p, q) (v, w) (sym got ∙ e)) c.0 (ap (λ (u : Text). b ∷ u) c.1) c.2
 
 -- after a region a line ends
-region_closes : (first : Bool) (b : ℕ) (s v w : Text) → in_module false first b s ≡ region v w → (rest : Text) × (b ∷ s ≡ (v ++ w) ++ rest) × EndsLine rest
+pub region_closes : (first : Bool) (b : ℕ) (s v w : Text) → in_module false first b s ≡ region v w → (rest : Text) × (b ∷ s ≡ (v ++ w) ++ rest) × EndsLine rest
 region_closes first b s v w e = by (first && is_begin (b ∷ s)) refl (at_end_line false (b ∷ s)) refl (first && is_end (b ∷ s)) refl (first && is_header (b ∷ s)) refl (ends_module (b ∷ s)) refl
   where
     Closed : Type 0

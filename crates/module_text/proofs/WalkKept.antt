@@ -29,22 +29,13 @@ pub record Sound (x : Text) : Type 0 where
   pub ends : has_tail (walk x) ≡ true
   pub begun : beginnings (walk x) ≡ [] → ⊥
   pub placed : placements (walk x) ≡ []
-  pub algorithm : algorithm_offences (algorithm_of x (walk x)) ≡ []
-  pub second : second_algorithms (algorithm_of x (walk x)) (beginnings (walk x)) ≡ []
-  pub options : flat_map (options_in x) (outside_region x (walk x)) ≡ []
 
-pub sound_file : (x : Text) → IsFine x → Sound x
-sound_file x f =
+-- where these have no offences
+pub sound_parts : (x : Text) → offences_of (walk x) ≡ [] → no_module x (module_end (walk x)) ≡ [] → no_algorithm (module_end (walk x)) (beginnings (walk x)) ≡ [] → placements (walk x) ≡ [] → Sound x
+sound_parts x fine ended missing placed =
     let ds = walk x in
-    let a = algorithm_of x ds in
-    let o = both_empty (offences_of ds) _ f in
-    let p = both_empty (algorithm_offences a) _ o.1 in
-    let q = both_empty (no_module x (module_end ds)) _ p.1 in
-    let r = both_empty (no_algorithm (module_end ds) (beginnings ds)) _ q.1 in
-    let s = both_empty (second_algorithms a (beginnings ds)) _ r.1 in
-    let t = both_empty (placements ds) _ s.1 in
-    let ends = some_end (first_that is_tail ds) q.0 in
-    record { fine = o.0; ends = ends; begun = some_begin (first_that is_tail ds) (beginnings ds) ends r.0; placed = t.0; algorithm = p.0; second = s.0; options = t.1 }
+    let ends = some_end (first_that is_tail ds) ended in
+    record { fine = fine; ends = ends; begun = some_begin (first_that is_tail ds) (beginnings ds) ends missing; placed = placed }
   where
     some_end : (e : Option Located) → no_module x (on_some e (λ d. Some d.at)) ≡ [] → is_some e ≡ true
     some_end (Some d) h = refl
@@ -54,6 +45,18 @@ sound_file x f =
     some_begin (Some d) [] t h e = cc
     some_begin (Some d) (n ∷ ns) t h e = cc
     some_begin None ns t h e = (let f : false ≡ true = t in cc)
+
+sound_file : (x : Text) → IsFine x → Sound x
+sound_file x f =
+    let ds = walk x in
+    let a = algorithm_of x ds in
+    let o = both_empty (offences_of ds) _ f in
+    let p = both_empty (algorithm_offences a) _ o.1 in
+    let q = both_empty (no_module x (module_end ds)) _ p.1 in
+    let r = both_empty (no_algorithm (module_end ds) (beginnings ds)) _ q.1 in
+    let s = both_empty (second_algorithms a (beginnings ds)) _ r.1 in
+    let t = both_empty (placements ds) _ s.1 in
+    sound_parts x o.0 q.0 r.0 t.0
 
 -- ---- the comment of the algorithm
 
@@ -76,7 +79,7 @@ pub record Commented (ds : List Located) : Type 0 where
   pub ends : has_tail (after_comment ds) ≡ true
   pub parts : list_any (λ d. is_part d.is) (up_to_first holds_algorithm ds) ≡ true
 
-commented : (ds : List Located) → tails_last ds ≡ true → has_tail ds ≡ true → (beginnings ds ≡ [] → ⊥) → Commented ds
+pub commented : (ds : List Located) → tails_last ds ≡ true → has_tail ds ≡ true → (beginnings ds ≡ [] → ⊥) → Commented ds
 commented [] t e b = absurd (b refl)
 commented (d ∷ ds) t e b = by (holds_algorithm d) refl (commented ds)
   where
@@ -113,9 +116,29 @@ commented (d ∷ ds) t e b = by (holds_algorithm d) refl (commented ds)
             let r = deeper rest_tails more others in
             record { no_tail = rw (k, l) r.no_tail; ends = rw k r.ends; parts = rw k (or_right (is_part d.is) _ r.parts) }
 
+-- ---- each part of what a file that is not refused has
+
+pub record AllFine (x : Text) : Type 0 where
+  pub parts : Sound x
+  pub algorithm : algorithm_offences (algorithm_of x (walk x)) ≡ []
+  pub second : second_algorithms (algorithm_of x (walk x)) (beginnings (walk x)) ≡ []
+  pub options : flat_map (options_in x) (outside_region x (walk x)) ≡ []
+
+pub all_fine_in : (x : Text) → IsFine x → AllFine x
+all_fine_in x f =
+    let ds = walk x in
+    let a = algorithm_of x ds in
+    let o = both_empty (offences_of ds) _ f in
+    let p = both_empty (algorithm_offences a) _ o.1 in
+    let q = both_empty (no_module x (module_end ds)) _ p.1 in
+    let r = both_empty (no_algorithm (module_end ds) (beginnings ds)) _ q.1 in
+    let s = both_empty (second_algorithms a (beginnings ds)) _ r.1 in
+    let t = both_empty (placements ds) _ s.1 in
+    record { parts = sound_file x f; algorithm = p.0; second = s.0; options = t.1 }
+
 -- ---- the newline after it
 
-newline_is : (d : Located) → is_newline d ≡ true → d.is ≡ newline_segment
+pub newline_is : (d : Located) → is_newline d ≡ true → d.is ≡ newline_segment
 newline_is d h = by d.is refl
   where
     by : (g : Segment) → d.is ≡ g → d.is ≡ newline_segment
@@ -459,15 +482,17 @@ has_place x f = by (region_of (walk x)) refl
     by (Some old) e = old_place x (sound_file x f) old e
 
 -- where a translation goes
-pub has_spot : (x : Text) → IsFine x → (at : Span) × (spot (walk x) ≡ Some at)
-has_spot x f = by (region_of (walk x)) refl
+pub spot_of : (x : Text) → Sound x → (at : Span) × (spot (walk x) ≡ Some at)
+spot_of x s = by (region_of (walk x)) refl
   where
     by : (o : Option Located) → region_of (walk x) ≡ o → (at : Span) × (spot (walk x) ≡ Some at)
     by None e =
-        let s = sound_file x f in
         let comment = commented (walk x) (walk_tails x) s.ends s.begun in
         let rest = rest_of_line (after_comment (walk x)) in
         let placed : rest ++ no_unit (after_first is_newline (after_comment (walk x))) ≡ [] = (let p = s.placed in rw e at p) in
         let line = line_ends (after_comment (walk x)) (both_empty rest (no_unit (after_first is_newline (after_comment (walk x)))) placed).0 comment.ends in
         (record { from = line.end.at + 1; to = line.end.at + 1 }, rw (e, line.found) refl)
     by (Some old) e = (span_of old, rw e refl)
+
+pub has_spot : (x : Text) → IsFine x → (at : Span) × (spot (walk x) ≡ Some at)
+has_spot x f = spot_of x (sound_file x f)

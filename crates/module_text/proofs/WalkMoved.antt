@@ -44,7 +44,7 @@ module_same k l first b s (inr c) = by (first && is_begin (b ∷ s)) refl
         let x : true ≡ false = sym c ∙ ap is_common is ∙ wild (if k then None else at_end_line false (b ∷ s)) in absurd cc
     by false i = rw i refl
 
-same_segment : (st nd : State) (b : ℕ) (s : Text) → st.headed ≡ true → nd.headed ≡ true → st.place.col ≡ nd.place.col → (st.marked ≡ nd.marked) ⊎ (is_common (segment_at st b s) ≡ true)
+pub same_segment : (st nd : State) (b : ℕ) (s : Text) → st.headed ≡ true → nd.headed ≡ true → nat_eq st.place.col 1 ≡ nat_eq nd.place.col 1 → (st.marked ≡ nd.marked) ⊎ (is_common (segment_at st b s) ≡ true)
     → segment_at nd b s ≡ segment_at st b s
 same_segment st nd b s h k c fit = sym there ∙ module_same st.marked nd.marked (nat_eq nd.place.col 1) b s (over fit) ∙ sym here
   where
@@ -58,11 +58,11 @@ same_segment st nd b s h k c fit = sym there ∙ module_same st.marked nd.marked
     over (inl e) = inl e
     over (inr d) = inr (sym (ap is_common here) ∙ d)
 
-fit_first : (k l : Bool) (d : Located) (ds : List Located) → Fit k l (d ∷ ds) → (k ≡ l) ⊎ (is_common d.is ≡ true)
+pub fit_first : (k l : Bool) (d : Located) (ds : List Located) → Fit k l (d ∷ ds) → (k ≡ l) ⊎ (is_common d.is ≡ true)
 fit_first k l d ds (inl e) = inl e
 fit_first k l d ds (inr c) = inr (and_parts (is_common d.is) (are_common ds) c).0
 
-fit_rest : (k l m : Bool) (d : Located) (ds es : List Located) → ds ≡ es → Fit k l (d ∷ ds) → Fit (k || m) (l || m) es
+pub fit_rest : (k l m : Bool) (d : Located) (ds es : List Located) → ds ≡ es → Fit k l (d ∷ ds) → Fit (k || m) (l || m) es
 fit_rest k l m d ds es e (inl f) = inl (ap (λ (k : Bool). k || m) f)
 fit_rest k l m d ds es e (inr c) = inr (ap are_common (sym e) ∙ (and_parts (is_common d.is) (are_common ds) c).1)
 
@@ -87,7 +87,7 @@ moved_within (suc fuel) i j m n st nd (b ∷ s) l h k near fit =
     let fit_more = fit_rest st.marked nd.marked (is_region g) first more (walk_from next 0 f.rest) (f.over next) fit in
     let deeper : Moved i j m n (walk_from next 0 f.rest) (walk_from other 0 f.rest) =
     moved_within fuel i j m n next other f.rest shorter (rw h refl) (rw k refl) (count, below.0, below.1) fit_more in
-    subst Goal (sym (ap here (same_segment st nd b s h k near.2 (fit_first st.marked nd.marked first more fit))))
+    subst Goal (sym (ap here (same_segment st nd b s h k (ap (λ (c : ℕ). nat_eq c 1) near.2) (fit_first st.marked nd.marked first more fit))))
     (refl, near, subst Rest (sym (f.over next)) (subst More (sym (f.over other)) deeper))
 
 -- from two states in a module at one column

@@ -14,7 +14,7 @@ use Rattle.module_text.specs.HeaderAndRegion.{is_header, is_begin, is_end}
 use Rattle.module_text.specs.Beginnings.{ends_module}
 use Rattle.module_text.specs.ModuleParts.{barred, module_part}
 use Rattle.module_text.specs.Walk.{Segment, free, header, part, mark, inner, tail, bytes, State, at_end_line, opened, in_module, segment_at, after_segment, Located, walk_from}
-use Rattle.module_text.specs.laws.Walks.{text_of, is_lined, is_calm, are_calm, located}
+use Rattle.module_text.specs.laws.Walks.{text_of, is_lined, is_calm, are_calm}
 use Rattle.module_text.proofs.WalkLines.{unlined, never_some, begins_alike, header_alike, begin_alike, end_alike, here_alike, whole_alike, tail_alike, string_at, string_alike, barred_alike}
 use Rattle.module_text.proofs.WalkWhole.{segment_front, region_front}
 use Rattle.module_text.proofs.WalkResumed.{Newline, newline, newline_rest, keep, no_newline, lined_rest, lined_over, take_more, step}
@@ -180,7 +180,7 @@ module_short marked first b s r e c m = by (first && is_begin (b ∷ s)) refl (f
         rw (begin_same ∙ i, i, end_same ∙ j, j, header_same ∙ k, k, tail_same ∙ l, l)
         (ap part (part_short b s r e (sym (ap is_calm is) ∙ c) (let n = ap (λ (g : Segment). length (bytes g)) is in omega (arith, n, m))))
 
-segment_short : (st : State) (b : ℕ) (s r : Text) → is_lined (b ∷ s) ≡ true → is_calm (segment_at st b (s ++ r)) ≡ true → length (bytes (segment_at st b (s ++ r))) ≤ length (b ∷ s)
+pub segment_short : (st : State) (b : ℕ) (s r : Text) → is_lined (b ∷ s) ≡ true → is_calm (segment_at st b (s ++ r)) ≡ true → length (bytes (segment_at st b (s ++ r))) ≤ length (b ∷ s)
     → segment_at st b s ≡ segment_at st b (s ++ r)
 segment_short st b s r e c m = by st.headed refl (is_header (b ∷ s)) refl
   where
@@ -212,7 +212,7 @@ rest_is d ds e es h = cc
 pub no_stand : (d : Located) (ds : List Located) → [] ≡ d ∷ ds → ⊥
 no_stand d ds e = cc
 
-some_bytes : (st : State) (r : Text) (d : Located) (ds : List Located) → walk_from st 0 r ≡ d ∷ ds → bytes d.is ≡ [] → ⊥
+pub some_bytes : (st : State) (r : Text) (d : Located) (ds : List Located) → walk_from st 0 r ≡ d ∷ ds → bytes d.is ≡ [] → ⊥
 some_bytes st [] d ds e n = no_stand d ds e
 some_bytes st (b ∷ r) d ds e n =
     let g = segment_at st b r in

@@ -130,7 +130,7 @@ here (lexeme (one s) bytes) ps h k =
 here (lexeme (other w) bytes) ps h k =
     lexeme_here (other w) bytes (text_of ps) (λ v e. cc) h.0 (and_parts (unbarred (other w) bytes (text_of ps)) (are_barless ps) k).0
 
-barless_rest : (p : Piece) (ps : List Piece) → are_barless (p ∷ ps) ≡ true → are_barless ps ≡ true
+pub barless_rest : (p : Piece) (ps : List Piece) → are_barless (p ∷ ps) ≡ true → are_barless ps ≡ true
 barless_rest (blank b) ps k = k
 barless_rest (block body) ps k = k
 barless_rest (line body) ps k = absurd cc
@@ -146,13 +146,13 @@ unblank b s k bytes e = false_from_ne_true (is_blank b) (λ t. (let x : sound (b
     blank_first b s t = rw t refl
 
 -- neither `\*` nor dashes are after the blanks at the front
-abbrev Lineless : Text → Type 0
+abbrev pub Lineless : Text → Type 0
 Lineless s = (past_word (codes "\\*") (past_all is_space s) ≡ None) × (past_word (codes "----") (past_all is_space s) ≡ None)
 
 other_front : (b : ℕ) (s : Text) → is_blank b ≡ false → begins (b ∷ s) (codes "\\*") ≡ false → begins_bar (b ∷ s) ≡ false → Lineless (b ∷ s)
 other_front b s h k n = (let r = (or_parts (is_rule (b ∷ s)) (ends_module (b ∷ s)) n).0 in (rw (h, k) refl, rw (h, r) refl))
 
-lineless : (ps : List Piece) → AllFit ps → are_barless ps ≡ true → Lineless (text_of ps)
+pub lineless : (ps : List Piece) → AllFit ps → are_barless ps ≡ true → Lineless (text_of ps)
 lineless [] h k = (refl, refl)
 lineless (blank b ∷ ps) h k = by (is_space b) refl (lineless ps h.1 k)
   where
@@ -169,7 +169,7 @@ lineless (lexeme j bytes ∷ ps) h k =
     ap (λ (u : Text). begins u (codes "\\*")) (sym is) ∙ (or_parts (begins (bytes ++ text_of ps) (codes "(*")) (begins (bytes ++ text_of ps) (codes "\\*")) h.0.0).1 in
     subst Lineless (sym is) (other_front x.b (x.m ++ text_of ps) filled none x.bar)
 
-no_mark : (s : Text) → Lineless s → (is_begin s ≡ false) × (is_end s ≡ false) × (is_header s ≡ false)
+pub no_mark : (s : Text) → Lineless s → (is_begin s ≡ false) × (is_end s ≡ false) × (is_header s ≡ false)
 no_mark s (star, dash) = (rw star refl, rw star refl, rw dash refl)
 
 -- ---- the walk

@@ -330,7 +330,7 @@ region_met st d v w e m = region_open st m.b m.s v w (ap (λ (d : Located). d.is
 
 -- ---- a line begins where the column is 1
 
-some_col : (p : Place) (b : ℕ) → 1 ≤ (place_step p b).col
+pub some_col : (p : Place) (b : ℕ) → 1 ≤ (place_step p b).col
 some_col p b = by (nat_eq b 10) refl (nat_eq b 9) refl
   where
     by : (k : Bool) → nat_eq b 10 ≡ k → (j : Bool) → nat_eq b 9 ≡ j → 1 ≤ (place_step p b).col
@@ -338,7 +338,7 @@ some_col p b = by (nat_eq b 10) refl (nat_eq b 9) refl
     by false k true j = rw (k, j) (omega arith)
     by false k false j = rw (k, j) (omega arith)
 
-line_step : (p : Place) (b : ℕ) → 1 ≤ p.col → (place_step p b).col ≡ 1 → nat_eq b 10 ≡ true
+pub line_step : (p : Place) (b : ℕ) → 1 ≤ p.col → (place_step p b).col ≡ 1 → nat_eq b 10 ≡ true
 line_step p b l e = by (nat_eq b 10) refl (nat_eq b 9) refl
   where
     tabbed : (c : ℕ) → 1 ≤ c → 8 * ((c + 7) / 8) + 1 ≡ 1 → ⊥

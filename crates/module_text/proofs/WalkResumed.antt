@@ -177,7 +177,7 @@ module_kept marked first b s r e c = by (first && is_begin (b ∷ s)) refl (firs
         let is : in_module marked first b s ≡ part (module_part b s) = rw (i, j, k, l) refl in
         rw (begin_same ∙ i, i, end_same ∙ j, j, header_same ∙ k, k, tail_same ∙ l, l) (ap part (part_kept b s r e (sym (ap is_calm is) ∙ c)))
 
-segment_kept : (st : State) (b : ℕ) (s r : Text) → is_lined (b ∷ s) ≡ true → is_calm (segment_at st b s) ≡ true → segment_at st b (s ++ r) ≡ segment_at st b s
+pub segment_kept : (st : State) (b : ℕ) (s r : Text) → is_lined (b ∷ s) ≡ true → is_calm (segment_at st b s) ≡ true → segment_at st b (s ++ r) ≡ segment_at st b s
 segment_kept st b s r e c = by st.headed refl (is_header (b ∷ s)) refl
   where
     header_same : is_header (b ∷ (s ++ r)) ≡ is_header (b ∷ s)

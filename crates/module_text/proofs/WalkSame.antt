@@ -98,7 +98,7 @@ part_anywhere a at to (bad_string raw) e =
 part_anywhere a at to (open_string raw) e = absurd cc
 part_anywhere a at to (open_block body) e = absurd cc
 
-segment_anywhere : (at to : ℕ) (g : Segment) → segment_offences at g ≡ [] → segment_offences to g ≡ []
+pub segment_anywhere : (at to : ℕ) (g : Segment) → segment_offences at g ≡ [] → segment_offences to g ≡ []
 segment_anywhere at to (free w) e = refl
 segment_anywhere at to (header w) e = refl
 segment_anywhere at to (part p) e = part_anywhere false at to p e

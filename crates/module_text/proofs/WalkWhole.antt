@@ -38,7 +38,7 @@ lexeme_front b s i j k =
     let more : Text = parts_text (parts_at (length (part_bytes (part_at b s)) - 1) s) in
     subst P (to_lexeme b s i j k) (more, sym c.0, some_part (part_at b s) more c.1.0)
 
-alone : (b : ℕ) → opens_comment (b ∷ []) ≡ false
+pub alone : (b : ℕ) → opens_comment (b ∷ []) ≡ false
 alone b = by (nat_eq 40 b) refl (nat_eq 92 b) refl
   where
     by : (i : Bool) → nat_eq 40 b ≡ i → (j : Bool) → nat_eq 92 b ≡ j → opens_comment (b ∷ []) ≡ false

@@ -1,3 +1,6 @@
 pub mod Walks
 pub mod Kept
 pub mod Outsides
+pub mod Swaps
+pub mod WritableRegion
+pub mod PlacelessRegion

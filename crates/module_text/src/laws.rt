@@ -1,8 +1,8 @@
 //! Laws of modules, stated as what functions without a body ensure.
 
-ghost use Rattle.std.specs.Prelude.{◌≡◌, ◌++◌, ◌∷◌, [], ℕ, List, Some, is_some, true, false};
+ghost use Rattle.std.specs.Prelude.{◌≡◌, ◌+◌, ◌≤◌, nat_eq, ◌++◌, ◌∷◌, [], length, ℕ, List, Some, is_some, true, false};
 ghost use Rattle.std.specs.List.{list_any};
-ghost use Rattle.tla_token.specs.Tokens.{EndsLine, TokAlgorithm};
+ghost use Rattle.tla_token.specs.Tokens.{EndsLine, Closes, stretch, TokAlgorithm};
 ghost use Rattle.tla_token.specs.declared.rule.Refusal.{Refusal};
 ghost use Rattle.module_text.specs.Module.{Region, RegionUnit, units_of, Module};
 ghost use Rattle.tla_expr.specs.Lexical.{Token};
@@ -14,9 +14,14 @@ ghost use Rattle.module_text.specs.Around.{Around, Swapped};
 ghost use Rattle.module_text.specs.FileOffences.{RefusesFile};
 ghost use Rattle.module_text.specs.TextFront.{Text};
 ghost use Rattle.module_text.specs.Walk.{State, Located, region, walk, walk_from, at_start, after_segment};
+ghost use Rattle.module_text.specs.Beginnings.{opening, begins_algorithm};
 ghost use Rattle.module_text.specs.FileParts.{before_spot};
 ghost use Rattle.module_text.specs.WithTranslation.{begin_line, end_line, WithTranslation};
 ghost use Rattle.module_text.specs.laws.Kept.{IsFine, only_large, KeepsFile, SameAlgorithm, AlgorithmMoved, IsPut};
+ghost use Rattle.module_text.specs.laws.Swaps.{is_paired, segments, SwapsComment};
+ghost use Rattle.module_text.specs.laws.WritableRegion.{IsRegion, IsReadBack, IsWritten};
+ghost use Rattle.module_text.specs.Layout.{layout};
+ghost use Rattle.module_text.specs.laws.PlacelessRegion.{region_placeless};
 ghost use Rattle.module_text.specs.laws.Outsides.{HasOutside, AllAlike, IsModuleOf};
 ghost use Rattle.module_text.specs.AlgorithmText.{AlgorithmText, algorithm_in, algorithm_tokens};
 ghost use Rattle.module_text.specs.FileOffences.{offences_of, algorithm_offences};
@@ -122,4 +127,51 @@ pub fn outsides_are_read()
 pub fn files_with_translations_are_modules()
     ensures outside { (x t w : Text) (o : Outside) → KeepsFile x t w → (h : HasOutside (walk x) o) → (q : Outside) × (there : HasOutside (walk w) q) × (there.before ≡ h.before) × AllAlike h.after there.after }
     ensures reads { (x t w : Text) (o : Outside) (n : Module) → IsFine x → KeepsFile x t w → HasOutside (walk x) o → ReadsRegion (located (after_all at_start (before_spot (walk x))) (made t)) n → is_some n.region.ended ≡ list_any is_terminating n.region.next → IsModuleOf x w o n.region }
+{}
+
+/// A comment in which a text that opens and closes comments only within itself takes the place of another such text ends where
+/// it did. Both begin with a dash, as algorithms do.
+pub fn comments_stay_closed()
+    ensures { (p a u q : Text) → is_paired 0 (45 ∷ a) ≡ true → is_paired 0 (45 ∷ u) ≡ true → Closes 1 (p ++ 45 ∷ (a ++ q)) → Closes 1 (p ++ 45 ∷ (u ++ q)) }
+{}
+
+/// A text is walked alike from two states in a module of which both begin a line or neither.
+pub fn walks_are_alike()
+    ensures { (st nd : State) (t : Text) → st.headed ≡ true → nd.headed ≡ true → 1 ≤ st.place.col → 1 ≤ nd.place.col → nat_eq st.place.col 1 ≡ nat_eq nd.place.col 1 → Fit st.marked nd.marked (walk_from st 0 t) → segments (walk_from st 0 t) ≡ segments (walk_from nd 0 t) }
+{}
+
+/// What is before a comment is walked alike, whatever is in the comment and after it.
+pub fn walks_stop_at_comments()
+    ensures { (ds es : List Located) (st : State) (r z : Text) → walk_from st 0 (text_of ds ++ 40 ∷ 42 ∷ r) ≡ ds ++ es → are_calm ds ≡ true → offences_of ds ≡ [] → walk_from st 0 (text_of ds ++ 40 ∷ 42 ∷ z) ≡ ds ++ walk_from (after_all st ds) 0 (40 ∷ 42 ∷ z) }
+{}
+
+/// A file that is not refused, with another algorithm, is walked as before but for the algorithm's comment, and no segment of it
+/// breaks a rule, where both algorithms open and close comments only within themselves. Its algorithm begins where the old one
+/// did, with the first word that was put there.
+pub fn swaps_keep_the_rest()
+    ensures begins { (x u w : Text) (a : AlgorithmText) → IsFine x → Swapped x (45 ∷ 45 ∷ u) w → algorithm_in x ≡ Some a → is_paired 0 (stretch x a.from a.rest.to) ≡ true → is_paired 0 (45 ∷ 45 ∷ u) ≡ true → begins_algorithm (45 ∷ 45 ∷ u) ≡ true → (b : AlgorithmText) × (algorithm_in w ≡ Some b) × (b.from ≡ a.from) × (b.opening ≡ opening (45 ∷ 45 ∷ u)) }
+    ensures walked { (x u w : Text) (a : AlgorithmText) → IsFine x → Swapped x (45 ∷ u) w → algorithm_in x ≡ Some a → is_paired 0 (stretch x a.from a.rest.to) ≡ true → is_paired 0 (45 ∷ u) ≡ true → SwapsComment x (45 ∷ u) w a }
+{}
+
+/// The algorithm that was replaced, put in the place of the one that replaced it, gives the file that was read.
+pub fn swaps_go_back()
+    ensures { (x u w : Text) (a b : AlgorithmText) → IsFine x → Swapped x u w → algorithm_in x ≡ Some a → algorithm_in w ≡ Some b → b.from ≡ a.from → b.rest.to ≡ a.from + length u → Swapped w (stretch x a.from a.rest.to) x }
+{}
+
+/// What is laid out of a translation that can be written is whole lines, none of them an END line; and where it is put in a
+/// file it is read back: cut into just its units, each is spelled as the translation has it, but for the places of its trees.
+pub fn layouts_are_regions()
+    ensures inside { (r : Region) → IsRegion r → IsInside (layout r) }
+    ensures reads { (st : State) (r : Region) → IsRegion r → IsReadBack st r }
+{}
+
+/// What is laid out of a translation rests on no place of its trees.
+pub fn layouts_rest_on_no_place()
+    ensures { (q r : Region) → region_placeless q ≡ region_placeless r → layout q ≡ layout r }
+{}
+
+/// A file that is not refused is one module with what is laid out of each translation that can be written: it is around that
+/// file, and has that translation, but for the places of its trees, the file's title, and outside what the file has.
+pub fn written_files_are_modules()
+    ensures { (x w : Text) (o : Outside) (r : Region) → IsRegion r → IsFine x → HasOutside (walk x) o → WithTranslation x (layout r) w → IsWritten x w o r }
 {}

@@ -11,7 +11,7 @@ use Rattle.tla_expr.specs.Lexical.{TokenView, Token}
 use Rattle.tla_expr.specs.Lexical as tk
 use Rattle.tla_expr.specs.Reader.{Stop, Reader, ◌>>=◌, gives, refuses, readers}
 use Rattle.tla_expr.proofs.SpellAhead.{Ahead, held, put_ahead, then_ahead, ahead}
-use Rattle.tla_expr.proofs.Mended.{Mend, missing, gives_err, left_is}
+use Rattle.tla_expr.proofs.Mended.{gives_err, left_is}
 use Rattle.pcal_tree.specs.GrammarParts.{word, key, name, no_section, no_labels, skip, section_tokens}
 use Rattle.pcal_tree.specs.GrammarP.{simple, Sequence, last_statement}
 use Rattle.pcal_tree.specs.Grammar.{p_syntax, Body, begin_end, braces, body, GoodBody, Macro, macro, GoodMacro, Procedure, procedure, GoodProcedure, Fair, unfair, weak, strong, fair, Identity, bare, bracketed, identity, GoodIdentity, Process, process, GoodProcess, Head, algorithm, fair_algorithm, head, Define, no_define, define_end, define_braces, define, GoodDefine, Main, begin, block, processes, each, main, GoodMain, to_end, in_braces, around, Text, Good}
@@ -19,7 +19,7 @@ use Rattle.pcal_tree.specs.Grammar as gr
 use Rattle.algorithm_parts.specs.TokenReaders.{Parts, parts_of, by_next, a_key, pick}
 use Rattle.algorithm_parts.proofs.Sound.{Sound, here, Any, pick_is, sound_next, sound_stays, sound_pick, sound_refuses}
 use Rattle.algorithm_parts.proofs.Aheads.{ahead_semicolon, ahead_section, ahead_macro, ahead_procedure, ahead_definitions}
-use Rattle.algorithm_parts.proofs.Mends.{Fill, Mends, MendsAt, IsPart, AllMend, filled, mends_gives, mends_refuses, mends_after, mends_bind, mends_then, mends_next, mends_stays, mends_past, mends_pick, part_key, part_name}
+use Rattle.algorithm_parts.proofs.Mends.{Mend, missing, Fill, Mends, MendsAt, IsPart, AllMend, filled, mends_gives, mends_refuses, mends_after, mends_bind, mends_then, mends_next, mends_stays, mends_past, mends_pick, part_key, part_name}
 use Rattle.algorithm_parts.proofs.MendParts.{MendsParts, parts_mend, some_name, some_phrase, some_good, part_semicolon, part_section, part_macro_parameters, part_procedure_parameters, part_definitions, part_bind}
 use Rattle.p_syntax.specs.ReadAlgorithm.{read_body, read_macro, read_procedure, read_identity, read_process, fair_by, process_words, more_of, macro_words, macros_by, read_macros, procedure_words, procedures_by, read_procedures, all_more, processes_by, read_processes, head_words, head_by, read_head, define_words, define_by, read_define, main_processes, main_words, main_by, read_main, read_text, to_last, read_algorithm}
 use Rattle.p_syntax.proofs.SoundAlgorithm.{by_fair_sound, head_sound, body_sound, macro_sound, procedure_sound, identity_sound, processes_words, macros_sound, procedures_sound, processes_sound, by_define_sound, by_main_sound, text_sound}

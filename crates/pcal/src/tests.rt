@@ -41,7 +41,7 @@ const OF_THE_FORM: [&str; 8] = [
 ];
 
 /// Module, algorithm, declaration and statement.
-const OF_NO_FORM: [&str; 28] = [
+const OF_NO_FORM: [&str; 25] = [
     "M|Inc|variables x = 0;|A: skip;",
     "M|Inc|variables x = 0;|A: x := 170141183460469231731687303715884105728;",
     "M|Inc|variables x = 170141183460469231731687303715884105728;|A: x := 0;",
@@ -49,7 +49,6 @@ const OF_NO_FORM: [&str; 28] = [
     "M|Inc|variables x = 0;|A: x := x + 1 + x;",
     "M|Inc|variables x = 0;|A: x := x + 1",
     "M|Inc|variables x = 0;|A: y := 1;",
-    "M|Inc|variables x = 0;|A: x := 1; (* a comment *)",
     "M|Inc|variables x == 0;|A: x := 1;",
     "M|Inc|variables x => 0;|A: x := 1;",
     "M|Inc|variables x = 0;|Done: x := 1;",
@@ -67,19 +66,80 @@ const OF_NO_FORM: [&str; 28] = [
     "M|CASE|variables x = 0;|A: x := 1;",
     "M|Next|variables x = 0;|A: x := 1;",
     "M|Append|variables x = 0;|A: x := 1;",
-    "MODULE|Inc|variables x = 0;|A: x := 1;",
     "SF_M|Inc|variables x = 0;|A: x := 1;",
-    "12|Inc|variables x = 0;|A: x := 1;",
 ];
 
-/// What is before and after the front, in place of the last two lines.
-const OTHER_LINES: [(&str, &str); 6] = [
-    ("Free text.\n", BACK),
-    ("", "*)\n====\nFree text.\n"),
-    ("", "*)\n===="),
-    ("", "*)\n\n====\n"),
-    ("", "*)\n"),
-    ("\n", BACK),
+/// What is before the front, an old translation, and what is after it.
+const AROUND: [(&str, &str, &str); 8] = [
+    ("Free text.\n", "", "====\n"),
+    ("", "", "====\nFree text (* \x01\n"),
+    ("", "", "===="),
+    ("\n", "", "\n====\n"),
+    ("", "", "Inv == x >= 0\nTHEOREM Inv\n====\n"),
+    ("", "\\* BEGIN TRANSLATION\n\\* END TRANSLATION\n", "====\n"),
+    (
+        "",
+        "\\* BEGIN TRANSLATION (chksum(pcal) = \"1a2b\" /\\ chksum(tla) = \"3c4d\")\nVARIABLE old\n\\* END TRANSLATION\n",
+        "Inv == x >= 0\n====\n",
+    ),
+    (
+        "(* \"\n",
+        "\\* BEGIN TRANSLATION\nVARIABLES x, pc\n\\* END TRANSLATION\n",
+        "ASSUME N == TRUE\nLEMMA == 1\n====\n",
+    ),
+];
+
+/// Files up to the end of the algorithm's comment, with comments between its tokens, other line ends, and units before it.
+const FRONTS: [&str; 3] = [
+    "---- MODULE M ----\nEXTENDS Integers\n(*\n--algorithm Inc (* a *) variables x (* b (* c *) *) = 0; \\* d\nbegin A: x := x + 1; end algorithm (* e *)\n*)\n",
+    "---- MODULE M ----\r\nEXTENDS Integers\r\n(*\r\n--algorithm Inc\r\nvariables x = 0;\r\nbegin\r\n  A: x := x + 1;\r\nend algorithm\r\n*)\r\n",
+    "---- MODULE M ----\nEXTENDS Integers, Sequences\nCONSTANT N\nASSUME Small == N < 10\nTwice(n) ==\n  IF n = 0 THEN 0\n  ELSE 2 * n\n(* --algorithm Inc variable x = 0; begin A: x := x + 1; end algorithm *)\n",
+];
+
+/// What is after the front and how it is refused: each rule on texts, the module's own names, and a rule on texts before the algorithm's form.
+const REFUSALS: [(&str, &str); 13] = [
+    ("*)\nx \u{e9}\n====\n", "10:3: 1 NotAscii"),
+    ("*)\nB == \"a\\q\"\n====\n", "10:6: 2 BadToken"),
+    ("*)\nB == 1 (* (* x *)\n====\n", "10:8: 3 OpenComment"),
+    ("*)\nB == \"x\n====\n", "10:6: 4 OpenString"),
+    ("*)\n", "10:1: 5 NoModule"),
+    ("*)\n(* --algorithm B *)\n====\n", "10:4: 7 TwoAlgorithms"),
+    ("*)\n\\* BEGIN TRANSLATION\n====\n", "10:1: 8 BadRegion"),
+    ("*)\n x\n====\n", "10:2: 9 Placement"),
+    (
+        "*)\n(* PlusCal\n options (wf) *)\n====\n",
+        "10:4: 10 Options",
+    ),
+    ("*)\nx == 1\n====\n", "1:1: 11 LeftOutWord"),
+    ("*)\nCONSTANTS B, A\n====\n", "1:1: 11 LeftOutWord"),
+    ("*)\nLOCAL Init == 1\n====\n", "1:1: 11 LeftOutWord"),
+    ("*)\nVARIABLE y\n====\n", "1:1: 11 LeftOutWord"),
+];
+
+/// Whole texts, and how they are refused.
+const REFUSED_TEXTS: [(&str, &str); 7] = [
+    ("", "1:1: 5 NoModule"),
+    ("---- MODULE M ----\n(* a (* b *)", "2:1: 3 OpenComment"),
+    (
+        "---- MODULE M ----\n(* --algorithm 12 *)\n====\n",
+        "3:1: 6 NoAlgorithm",
+    ),
+    (
+        "---- MODULE M ----\n(* --algorithm A { print 1; } *)\n====\n",
+        "1:1: 11 LeftOutWord",
+    ),
+    (
+        "---- MODULE M ----\n(* --algorithm A { print 1; } *)\n x\n====\n",
+        "3:2: 9 Placement",
+    ),
+    (
+        "---- MODULE M ----\n(* --algorithm I variables x = 0; begin A: x := x + 1; end algorithm *)\n====\n",
+        "1:1: 11 LeftOutWord",
+    ),
+    (
+        "---- MODULE M ----\n(* --fair algorithm I variables x = 0; begin A: x := 1; end algorithm *)\n====\n",
+        "1:1: 11 LeftOutWord",
+    ),
 ];
 
 /// The cell of a row with this number, from 0; none is empty.
@@ -168,14 +228,47 @@ fn other_texts_are_refused(rt: HostRuntime) -> Result<(), Fail> {
         let text = format!(in alloc; "{}====\n", filled(alloc, FILE, row)?)?;
         assert!(rt; answers(alloc, WORDS, &text, (5, "", REFUSED))?, "{row}");
     }
-    for (front, back) in OTHER_LINES {
-        let text = format!(in alloc; "{front}{FRONT}{back}")?;
-        assert!(rt; answers(alloc, WORDS, &text, (5, "", REFUSED))?, "{text}");
+    Ok(())
+}
+
+/// A file is translated; and so is what was written, which stays as it is.
+fn translates(
+    alloc: Global,
+    before: &str,
+    old: &str,
+    after: &str,
+) -> Result<bool, AllocError> {
+    let text = format!(in alloc; "{before}{old}{after}")?;
+    let written = format!(in alloc; "{before}{}{after}", filled(alloc, REGION, WORKED)?)?;
+    let first = answers(alloc, WORDS, &text, (0, &written, ""))?;
+    Ok(first && answers(alloc, WORDS, &written, (0, &written, ""))?)
+}
+
+#[test]
+fn all_else_in_a_file_stays(rt: HostRuntime) -> Result<(), Fail> {
+    let alloc = rt.alloc();
+    for (before, old, after) in AROUND {
+        let front = format!(in alloc; "{before}{FRONT}*)\n")?;
+        assert!(rt; translates(alloc, &front, old, after)?, "{before}{after}");
     }
-    assert!(rt;
-        answers(alloc, WORDS, "", (5, "", REFUSED))?,
-        "an empty file"
-    );
+    for front in FRONTS {
+        assert!(rt; translates(alloc, front, "", "====\n")?, "{front}");
+    }
+    Ok(())
+}
+
+#[test]
+fn the_first_rule_is_told(rt: HostRuntime) -> Result<(), Fail> {
+    let alloc = rt.alloc();
+    for (back, told) in REFUSALS {
+        let text = format!(in alloc; "{FRONT}{back}")?;
+        let line = format!(in alloc; "pcal: M.tla:{told}\n")?;
+        assert!(rt; answers(alloc, WORDS, &text, (5, "", &line))?, "{back}");
+    }
+    for (text, told) in REFUSED_TEXTS {
+        let line = format!(in alloc; "pcal: M.tla:{told}\n")?;
+        assert!(rt; answers(alloc, WORDS, text, (5, "", &line))?, "{text}");
+    }
     Ok(())
 }
 

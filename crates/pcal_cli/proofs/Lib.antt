@@ -1,11 +1,10 @@
-pub mod Scanning
-pub mod Steps
-pub mod Stretches
-pub mod FormScanned
-pub mod Runs
-pub mod Ends
-pub mod WrittenBytes
+pub mod FormTokens
 pub mod ErrorLine
 pub mod Numbers
 pub mod Told
 pub mod RowsRefusals
+pub mod RegionMade
+pub mod OutsideTokens
+pub mod Capped
+pub mod AlgorithmRead
+pub mod FormFound

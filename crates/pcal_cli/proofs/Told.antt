@@ -1,19 +1,21 @@
 -- What was read is what is told, and what is written for it went out.
-use Rattle.std.specs.Prelude.{IfSome, MatchOption}
-use Rattle.std.proofs.Common.{◌≡◌, ◌⊎◌, ℕ, ◌<◌, ◌≤◌, List, [], length, Option, Some, None, ◌∙◌, ap, sym, inl, inr, arith}
+use Rattle.std.specs.Prelude.{IfSome, OnOk, OnErr}
+use Rattle.std.proofs.Common.{◌≡◌, ◌⊎◌, ℕ, ◌<◌, ◌≤◌, List, [], length, Option, Some, None, Result, Ok, Err, ◌∙◌, ap, sym, subst, inl, inr, arith}
 use Rattle.std.proofs.lemmas.Option.{none-some}
-use Rattle.outer_io.specs.Outer.{Texts, text_at, told_at, HasText, Tells, HasNoText, Grows, GrowsInPart}
+use Rattle.outer_io.specs.declared.Failed.{Failed}
+use Rattle.outer_io.specs.Outer.{Texts, text_at, told_at, HasText, Tells, HasNoText, Grows, GrowsInPart, RoseBy}
+use Rattle.tla_token.specs.declared.rule.Refusal.{Refusal}
 use Rattle.tla_token.specs.Offences.{least}
 use Rattle.tla_token.specs.Limits.{most_bytes}
-use Rattle.first_path.specs.Form.{Parts}
-use Rattle.first_path.specs.FormRead.{form_of, form_offences, FirstOffence, left_out}
+use Rattle.tla_expr.specs.Tree.{Word}
+use Rattle.first_path.specs.FormRead.{form_offences, FirstOffence}
+use Rattle.first_path.specs.Written.{Written}
 use Rattle.promise.specs.Options.{no_options}
 use Rattle.promise.specs.Headline.{Headline}
-use Rattle.first_path.proofs.Promise.{first_offence, not_both}
 use Rattle.pcal_cli.specs.Words.{Command, translate}
-use Rattle.pcal_cli.specs.Causes.{OfFile, Writes, WritesInPart, KeepsPromise}
-use Rattle.pcal_cli.specs.FirstPathBytes.{written_text}
-use Rattle.pcal_cli.proofs.WrittenBytes.{is_written}
+use Rattle.pcal_cli.specs.declared.status.Answer.{Answer}
+use Rattle.pcal_cli.specs.Answers.{status_of, refusal_in, line_of}
+use Rattle.pcal_cli.specs.Causes.{OfFile, HasOffence, IsCause, Writes, WritesInPart, KeepsPromise, Told, Explains}
 
 -- a fact of the text that was read is one of the text that is told
 pub told : (ts : Option Texts) (file v : List ℕ) (P : List ℕ → Type 0) → HasText ts file v → P v → Tells ts file P
@@ -33,37 +35,36 @@ pub not_lacking : (ts : Option Texts) (file v : List ℕ) → HasText ts file v 
 not_lacking None file v h k = k
 not_lacking (Some ts) file v h k = (let e : Some v ≡ None = sym h ∙ k in absurd cc)
 
--- what was found, and what was not
-pub found : {A : Type 0} (r : Option A) (a : A) (N : Type 0) (S : A → Type 0) → r ≡ Some a → MatchOption r N S → S a
-found r a N S e h = rw e at h
+-- what was read was read without a fault
+pub read : {T E P : Type 0} (t : T) (e : E) → (Ok t ≡ Err e) ⊎ P → P
+read t e (inl h) = absurd cc
+read t e (inr p) = p
 
-pub missing : {A : Type 0} (r : Option A) (N : Type 0) (S : A → Type 0) → r ≡ None → MatchOption r N S → N
-missing r N S e h = rw e at h
+-- a text that was refused, t as it was looked at
+pub refused : (ts : Option Texts) (file t v : List ℕ) (r : Refusal) → HasText ts file v → t ≡ v → FirstOffence t r → Tells ts file (λ x. FirstOffence x r)
+refused ts file t v r h e k = told ts file v (λ x. FirstOffence x r) h (subst (λ x. FirstOffence x r) e k)
 
-pub refused : (ts : Option Texts) (file t v : List ℕ) → HasText ts file v → t ≡ v → form_of t ≡ None → Tells ts file (λ x. FirstOffence x left_out)
-refused ts file t v h e k = told ts file v (λ x. FirstOffence x left_out) h (first_offence v (rw e at k))
+-- b: what is written for it, w as it was handed out
+pub writes : (ts : Option Texts) (file t v b w : List ℕ) (old new : Option (List ℕ)) → HasText ts file v → t ≡ v → Written t b → w ≡ b → Grows old new w → Tells ts file (Writes old new)
+writes ts file t v b w old new h e k j grows = told ts file v (Writes old new) h (b, subst (Grows old new) j grows, subst (λ x. Written x b) e k)
 
--- t, u: the text that was read, as it was looked at twice
-pub writes : (ts : Option Texts) (file t u v b w : List ℕ) (f : Parts) (old new : Option (List ℕ)) → HasText ts file v → t ≡ v → u ≡ v → form_of t ≡ Some f → b ≡ written_text u f → w ≡ b → Grows old new w → Tells ts file (Writes old new)
-writes ts file t u v b w f old new h e i k g j grows = told ts file v (Writes old new) h (w, grows, is_written v w f (rw e at k) (j ∙ g ∙ ap (λ x. written_text x f) i))
-
-pub writes_in_part : (ts : Option Texts) (file t u v b w : List ℕ) (f : Parts) (old new : Option (List ℕ)) → HasText ts file v → t ≡ v → u ≡ v → form_of t ≡ Some f → b ≡ written_text u f → w ≡ b → GrowsInPart old new w → Tells ts file (WritesInPart old new)
-writes_in_part ts file t u v b w f old new h e i k g j grows = told ts file v (WritesInPart old new) h (w, grows, is_written v w f (rw e at k) (j ∙ g ∙ ap (λ x. written_text x f) i))
+pub writes_in_part : (ts : Option Texts) (file t v b w : List ℕ) (old new : Option (List ℕ)) → HasText ts file v → t ≡ v → Written t b → w ≡ b → GrowsInPart old new w → Tells ts file (WritesInPart old new)
+writes_in_part ts file t v b w old new h e k j grows = told ts file v (WritesInPart old new) h (b, subst (GrowsInPart old new) j grows, subst (λ x. Written x b) e k)
 
 -- the promise is a part of what is written
-keeps : (ts : Option Texts) (file : List ℕ) (old new : Option (List ℕ)) → Tells ts file (Writes old new) → KeepsPromise no_options ts file old new
-keeps ts file old new h = of_some _ h
+pub keeps : (ts : Option Texts) (file t v b w : List ℕ) (old new : Option (List ℕ)) → HasText ts file v → t ≡ v → Written t b → w ≡ b → Grows old new w → KeepsPromise no_options ts file old new
+keeps ts file t v b w old new h e k j grows = of_some _ (writes ts file t v b w old new h e k j grows)
   where
     of_some : (o : Option (List ℕ)) → IfSome o (Writes old new) → IfSome o (λ x. (w : List ℕ) × Grows old new w × Headline no_options x w)
     of_some None h = tt
     of_some (Some x) h = (h.0, h.1, h.2.promise)
 
-pub keeps_written : (ts : Option Texts) (file t u v b w : List ℕ) (f : Parts) (old new : Option (List ℕ)) → HasText ts file v → t ≡ v → u ≡ v → form_of t ≡ Some f → b ≡ written_text u f → w ≡ b → Grows old new w → KeepsPromise no_options ts file old new
-keeps_written ts file t u v b w f old new h e i k g j grows = keeps ts file old new (writes ts file t u v b w f old new h e i k g j grows)
+-- a text without offences is refused by none
+pub no_offence : (x : List ℕ) (r : Refusal) → form_offences x ≡ [] → FirstOffence x r → ⊥
+no_offence x r e (at, k, p) = none-some (r.rule, at) (sym (ap least e) ∙ k)
 
--- a text of the form has no offence
-pub unoffending : (ts : Option Texts) (file t v : List ℕ) (f : Parts) (P : Type 0) → HasText ts file v → t ≡ v → form_of t ≡ Some f → Tells ts file (λ x. FirstOffence x left_out → P)
-unoffending ts file t v f P h e k = told ts file v (λ x. FirstOffence x left_out → P) h (λ o. absurd (not_both v f (rw e at k) o))
+pub unoffending : (ts : Option Texts) (file t v : List ℕ) (P : Type 0) → HasText ts file v → t ≡ v → form_offences t ≡ [] → Tells ts file (λ x. HasOffence x → P)
+unoffending ts file t v P h e k = told ts file v (λ x. HasOffence x → P) h (λ (r, o). absurd (no_offence v r (rw e at k) o))
 
 -- a text that is short isn't long
 pub unlong : (ts : Option Texts) (file v : List ℕ) (n : ℕ) (P : Type 0) → HasText ts file v → length v ≤ n → Tells ts file (λ x. n < length x → P)
@@ -72,9 +73,16 @@ unlong ts file v n P h k = told ts file v (λ x. n < length x → P) h (λ l. ab
     not_long : (a n : ℕ) → a ≤ n → n < a → ⊥
     not_long a n h k = omega arith
 
--- a text that is told and without offence is no text that was refused
-pub not_refused : (x : List ℕ) → FirstOffence x left_out → form_offences x ≡ [] → ⊥
-not_refused x (at, e, p) h = none-some (left_out.rule, at) (sym (ap least h) ∙ e)
+-- a text that was refused is no text without offences
+pub offending : (ts : Option Texts) (file t v : List ℕ) (r : Refusal) (R W P : Type 0) → HasText ts file v → t ≡ v → FirstOffence t r → Tells ts file (λ x. length x ≤ most_bytes → form_offences x ≡ [] → (R → ⊥) → (W → ⊥) → P)
+offending ts file t v r R W P h e k = told ts file v (λ x. length x ≤ most_bytes → form_offences x ≡ [] → (R → ⊥) → (W → ⊥) → P) h (λ l o f g. absurd (no_offence v r o (subst (λ x. FirstOffence x r) e k)))
+
+-- where nothing was in the way, and where a call of the output failed
+pub done : (ts : Option Texts) (file : List ℕ) (R W P : Type 0) → P → Tells ts file (λ x. length x ≤ most_bytes → form_offences x ≡ [] → (R → ⊥) → (W → ⊥) → P)
+done ts file R W P p = of_all ts file (λ x. length x ≤ most_bytes → form_offences x ≡ [] → (R → ⊥) → (W → ⊥) → P) (λ x l o r w. p)
+
+pub unwritten : (ts : Option Texts) (file : List ℕ) (R W P : Type 0) → W → Tells ts file (λ x. length x ≤ most_bytes → form_offences x ≡ [] → (R → ⊥) → (W → ⊥) → P)
+unwritten ts file R W P w = of_all ts file (λ x. length x ≤ most_bytes → form_offences x ≡ [] → (R → ⊥) → (W → ⊥) → P) (λ x l o r v. absurd (v w))
 
 -- where a text is told, and read without a fault, it isn't lacking
 pub failed : (ts : Option Texts) (file : List ℕ) (R W P : Type 0) → R ⊎ HasNoText ts file → Tells ts file (λ x. length x ≤ most_bytes → form_offences x ≡ [] → (R → ⊥) → (W → ⊥) → P)
@@ -101,3 +109,13 @@ completes (Some (translate file)) ts R W P Q f h = by (told_at ts file) h
 pub completes_always : (o : Option Command) (ts : Option Texts) (R W Q : Type 0) → Q → Completes o ts R W Q
 completes_always None ts R W Q q = tt
 completes_always (Some (translate file)) ts R W Q q = of_all ts file _ (λ x l o r w. q)
+
+-- the line of an answer was written, f being the file as it was looked at
+pub explains : (ts : Option Texts) (file f : Word) (a : Answer) (r : Result (Unit {0}) Failed) (old new : Option (List ℕ)) (before after : ℕ) → f ≡ file → IsCause ts file (status_of a) (refusal_in a)
+    → OnOk r (Grows old new (line_of a f)) → OnErr r (GrowsInPart old new (line_of a f)) → OnErr r (RoseBy 1 before after) → OnOk r (after ≡ before)
+    → Explains ts file (status_of a) old new before after
+explains ts file f a r old new before after e cause ok part rose same = record { refusal = refusal_in a; cause = cause; told = subst (λ x. Told old new before after (line_of a x)) e (by r ok part rose same) }
+  where
+    by : (r : Result (Unit {0}) Failed) → OnOk r (Grows old new (line_of a f)) → OnErr r (GrowsInPart old new (line_of a f)) → OnErr r (RoseBy 1 before after) → OnOk r (after ≡ before) → Told old new before after (line_of a f)
+    by (Ok u) ok part rose same = inl (ok, same)
+    by (Err e) ok part rose same = inr (part, rose)

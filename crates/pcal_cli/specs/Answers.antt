@@ -3,7 +3,8 @@ use Rattle.std.specs.Prelude.{ℕ, List, [], ◌++◌, codes, Option, Some, None
 use Rattle.tla_token.specs.declared.rule.Refusal.{Refusal}
 use Rattle.tla_token.specs.Rules.{refusal_text}
 use Rattle.tla_expr.specs.Tree.{Word}
-use Rattle.first_path.specs.FormRead.{left_out}
+use Rattle.pcal_cli.specs.declared.status.Answer.{Answer}
+use Rattle.pcal_cli.specs.declared.status.Answer.TheVariants as answer
 use Rattle.pcal_cli.specs.declared.status.Status.{Status}
 use Rattle.pcal_cli.specs.declared.status.Status.TheVariants.{Fine, Memory, Usage, ReadFault, WriteFault, Refused, ScriptStep, NotAStep, Faulted, Limit, TooLong}
 
@@ -35,6 +36,20 @@ error_line Refused file r = refused_line file r
 error_line TooLong file r = codes "pcal: " ++ (file ++ codes " is too long\n")
 error_line s file r = []
 
--- with the one refusal so far
-abbrev pub line_of : Status → Word → List ℕ
-line_of s file = error_line s file (Some left_out)
+-- ---- how a command ended that writes a module
+
+abbrev pub status_of : Answer → Status
+status_of answer.Fine = Fine
+status_of answer.Memory = Memory
+status_of answer.Usage = Usage
+status_of answer.ReadFault = ReadFault
+status_of answer.WriteFault = WriteFault
+status_of (answer.Refused r) = Refused
+status_of answer.TooLong = TooLong
+
+abbrev pub refusal_in : Answer → Option Refusal
+refusal_in (answer.Refused r) = Some r
+refusal_in a = None
+
+abbrev pub line_of : Answer → Word → List ℕ
+line_of a file = error_line (status_of a) file (refusal_in a)

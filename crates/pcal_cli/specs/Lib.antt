@@ -1,7 +1,10 @@
 pub mod Words
 pub mod Answers
 pub mod Causes
-pub mod FirstPathBytes
-pub mod FirstPathScan
+pub mod FormSeen
 pub mod Refusals
 pub mod Checked
+pub mod FormTokens
+pub mod AlgorithmTokens
+pub mod OutsideTokens
+pub mod Built

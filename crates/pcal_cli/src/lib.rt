@@ -1,12 +1,18 @@
 //! The commands of `pcal`: their words, their answers, and what each answer means.
 #![tactic(auto)]
 
+mod built;
+mod error_line;
 mod form;
+mod form_read;
 mod names;
+mod nodes;
+mod outside;
 mod program;
-mod region;
+mod rest;
 mod status;
 mod top;
+mod translated;
 
 pub use program::run;
 pub use status::{Status, number};

@@ -2,7 +2,8 @@
 
 ghost use Rattle.std.specs.Prelude.{◌≡◌, map, []};
 ghost use Rattle.tla_token.specs.Signs.{is_among as is_among_of};
-ghost use Rattle.tla_token.specs.Words.{is_reserved as is_reserved_of, is_own as is_own_of, is_standard as is_standard_of};
+ghost use Rattle.tla_token.specs.Words.{is_pluscal_word as is_pluscal_word_of, is_tla_word as is_tla_word_of, is_reserved as is_reserved_of, is_own as is_own_of, is_standard as is_standard_of};
+ghost use Rattle.tla_token.specs.Words.{sequence_names, tlc_names};
 
 /// The reserved words of PlusCal.
 static PLUSCAL_WORDS: [&str; 27] = [
@@ -103,8 +104,13 @@ static STANDARD_NAMES: [&str; 12] = [
     "Assert",
 ];
 
+/// Further names of Sequences, and of TLC.
+static SEQUENCE_NAMES: [&str; 1] = ["SelectSeq"];
+
+static TLC_NAMES: [&str; 4] = ["Print", "JavaTime", "Permutations", "SortSeq"];
+
 /// Whether a word is one of some.
-fn is_among(words: &[&str], word: &[u8]) -> bool
+pub fn is_among(words: &[&str], word: &[u8]) -> bool
     ensures { result ≡ is_among_of (map (λ w. w.now) words.now) word.now }
 {
     for other in words {
@@ -115,14 +121,25 @@ fn is_among(words: &[&str], word: &[u8]) -> bool
     false
 }
 
+/// Whether a word is reserved in PlusCal.
+pub fn is_pluscal_word(word: &[u8]) -> bool
+    ensures { result ≡ is_pluscal_word_of word.now }
+{
+    is_among(&PLUSCAL_WORDS, word)
+}
+
+/// Whether a word is reserved in TLA+.
+pub fn is_tla_word(word: &[u8]) -> bool
+    ensures { result ≡ is_tla_word_of word.now }
+{
+    is_among(&TLA_WORDS, word) || word.starts_with(b"WF_") || word.starts_with(b"SF_")
+}
+
 /// Whether a word is reserved, in PlusCal or in TLA+.
 pub fn is_reserved(word: &[u8]) -> bool
     ensures { result ≡ is_reserved_of word.now }
 {
-    is_among(&PLUSCAL_WORDS, word)
-        || is_among(&TLA_WORDS, word)
-        || word.starts_with(b"WF_")
-        || word.starts_with(b"SF_")
+    is_pluscal_word(word) || is_tla_word(word)
 }
 
 /// Whether the translation defines a name itself.
@@ -137,4 +154,18 @@ pub fn is_standard(word: &[u8]) -> bool
     ensures { result ≡ is_standard_of [] word.now }
 {
     is_among(&STANDARD_NAMES, word)
+}
+
+/// Whether it is a further name of Sequences.
+pub fn is_sequence_name(word: &[u8]) -> bool
+    ensures { result ≡ is_among_of sequence_names word.now }
+{
+    is_among(&SEQUENCE_NAMES, word)
+}
+
+/// Whether it is a further name of TLC.
+pub fn is_tlc_name(word: &[u8]) -> bool
+    ensures { result ≡ is_among_of tlc_names word.now }
+{
+    is_among(&TLC_NAMES, word)
 }

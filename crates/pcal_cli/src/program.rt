@@ -3,14 +3,14 @@
 ghost use Rattle.std.specs.Prelude.{◌≡◌, ◌⊎◌, ◌<◌, ◌≤◌, [], length, IfOk, None};
 ghost use Rattle.tla_token.specs.Limits.{most_bytes};
 ghost use Rattle.outer_io.specs.Outer.{RoseBy, HasNoText, Tells};
-ghost use Rattle.first_path.specs.FormRead.{form_offences, FirstOffence, left_out};
+ghost use Rattle.first_path.specs.FormRead.{form_offences};
 ghost use Rattle.pcal_cli.specs.Words.{words_given, command_in, file_in};
-ghost use Rattle.pcal_cli.specs.Answers.{line_of};
 ghost use Rattle.promise.specs.Options.{no_options};
-ghost use Rattle.pcal_cli.specs.Causes.{OfFile, IsNoCommand, IsDone, IsRead, LeavesOut, Writes, WritesInPart, KeepsPromise, Told, Ended, EndedIn};
+ghost use Rattle.pcal_cli.specs.Causes.{OfFile, IsNoCommand, IsDone, IsRead, HasOffence, LeavesOut, Writes, WritesInPart, KeepsPromise, Explains, Ended, EndedIn};
 
-use crate::status::{Status, number};
-use crate::top::{pcal, tell};
+use crate::error_line::tell;
+use crate::status::{Answer, Status, number};
+use crate::top::pcal;
 use outer_io::{Shelf, Sink};
 use std::alloc::{AllocError, Global};
 use std::env::Args;
@@ -42,13 +42,13 @@ pub fn run<H: Shelf, K: Sink, E: Sink>(
     out: &mut K,
     err: &mut E,
 ) -> ExitCode
-    ensures told { EndedIn result (λ s. Told (E.wrote err.old) (E.wrote err.new) (E.faults err.old) (E.faults err.new) (line_of s (file_in (words_given given)))) }
+    ensures told { EndedIn result (λ s. Explains (H.texts shelf.old) (file_in (words_given given)) s (E.wrote err.old) (E.wrote err.new) (E.faults err.old) (E.faults err.new)) }
     ensures usage { Ended result Status.Usage → command_in (words_given given) ≡ None }
     ensures no_command { command_in (words_given given) ≡ None → EndedIn result IsNoCommand }
     ensures read_fault { Ended result Status.ReadFault → RoseBy 1 (H.faults shelf.old) (H.faults shelf.new) ⊎ HasNoText (H.texts shelf.old) (file_in (words_given given)) }
     ensures write_fault { Ended result Status.WriteFault → RoseBy 1 (K.faults out.old) (K.faults out.new) }
     ensures longer { Ended result Status.TooLong → Tells (H.texts shelf.old) (file_in (words_given given)) (λ x. most_bytes < length x) }
-    ensures refused { Ended result Status.Refused → Tells (H.texts shelf.old) (file_in (words_given given)) (λ x. FirstOffence x left_out) }
+    ensures refused { Ended result Status.Refused → Tells (H.texts shelf.old) (file_in (words_given given)) HasOffence }
     ensures complete { OfFile (command_in (words_given given)) (λ file. Tells (H.texts shelf.old) file (λ x. length x ≤ most_bytes → form_offences x ≡ []
         → (RoseBy 1 (H.faults shelf.old) (H.faults shelf.new) → ⊥) → (RoseBy 1 (K.faults out.old) (K.faults out.new) → ⊥) → EndedIn result IsDone)) }
     ensures unused { EndedIn result LeavesOut → out.new ≡ out.old }
@@ -63,7 +63,7 @@ pub fn run<H: Shelf, K: Sink, E: Sink>(
     let status = match words_of(alloc, given) {
         Ok(words) => pcal(alloc, &words, shelf, out, err),
         Err(_) => {
-            let _ = tell(err, Status::Memory, b"");
+            let _ = tell(err, Answer::Memory, b"");
             Status::Memory
         }
     };

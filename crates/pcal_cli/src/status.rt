@@ -1,7 +1,9 @@
 //! The answers of the program.
 
 ghost use Rattle.std.specs.Prelude.{◌≡◌};
-ghost use Rattle.pcal_cli.specs.Answers.{status_number};
+ghost use Rattle.pcal_cli.specs.Answers.{status_number, status_of};
+
+use tla_token::Refusal;
 
 /// How a run of the program ended. `number` gives the process's exit status.
 #[derive(Clone, Copy, PartialEq, Eq, Debug)]
@@ -46,5 +48,32 @@ pub fn number(status: Status) -> u8
         Status::Faulted => 8,
         Status::Limit => 9,
         Status::TooLong => 10,
+    }
+}
+
+/// How a command ended that writes a module; where its file was refused, by which rule and where.
+#[derive(Clone, Copy, PartialEq, Eq, Debug)]
+pub enum Answer {
+    Fine,
+    Memory,
+    Usage,
+    ReadFault,
+    WriteFault,
+    Refused(Refusal),
+    TooLong,
+}
+
+/// What the process's exit status says of an answer.
+pub fn as_status(answer: Answer) -> Status
+    ensures { result ≡ status_of answer }
+{
+    match answer {
+        Answer::Fine => Status::Fine,
+        Answer::Memory => Status::Memory,
+        Answer::Usage => Status::Usage,
+        Answer::ReadFault => Status::ReadFault,
+        Answer::WriteFault => Status::WriteFault,
+        Answer::Refused(_) => Status::Refused,
+        Answer::TooLong => Status::TooLong,
     }
 }

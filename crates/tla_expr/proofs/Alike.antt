@@ -3,7 +3,7 @@
 use Rattle.std.proofs.Common.{◌≡◌, ℕ, ◌+◌, ◌*◌, ◌≤◌, List, [], ◌∷◌, ◌++◌, length, Option, Some, None, Ok, Err, ◌⊎◌, inl, inr, refl, sym, ap, ◌∙◌, append_assoc, arith}
 use Rattle.tla_token.specs.declared.place.Place.{Place}
 use Rattle.tla_expr.specs.Lexical.{TokenView, Token}
-use Rattle.tla_expr.specs.Reader.{Out, Reader, then_read, ◌>>=◌, gives, refuses, next, tail, peek, skip, took, take}
+use Rattle.tla_expr.specs.Reader.{Out, Reader, then_read, ◌>>=◌, gives, refuses, too_deep, next, tail, peek, skip, took, take}
 
 abbrev pub rest_of : {A : Type 0} → Out A → List Token
 rest_of (Ok x) = x.1
@@ -43,6 +43,13 @@ fair_gives = record {
 
 pub fair_refuses : {A : Type 0} {b : ℕ} → IsFair b (refuses {A = A}) (refuses {A = A})
 fair_refuses = record {
+  left = λ ts. ([], refl);
+  right = λ ts. ([], refl);
+  alike = λ k t r s n. inl (k, omega arith, refl, refl);
+}
+
+pub fair_too_deep : {A : Type 0} {b : ℕ} → IsFair b (too_deep {A = A}) (too_deep {A = A})
+fair_too_deep = record {
   left = λ ts. ([], refl);
   right = λ ts. ([], refl);
   alike = λ k t r s n. inl (k, omega arith, refl, refl);

@@ -11,7 +11,7 @@ use Rattle.tla_token.specs.declared.rule.Rule.{Rule}
 use Rattle.tla_expr.specs.Lexical.{Mark, Key, TokenView, Token, token}
 use Rattle.tla_expr.specs.Lexical as tk
 use Rattle.tla_expr.specs.Spelling.{Field, Phrase, call, apply, select, infix_of, last, more, Binds, bind, last_field, field, setting, Path, path_end, index, at_field, Bullets, last_bullet, bullet, last_arm, Locals, more_locals, can_be_head, is_some_path, takes_box, Good, spell}
-use Rattle.tla_expr.specs.Reader.{Stop, any, Out, Reader, then_read, ◌>>=◌, gives, next, peek, took, is_mark, is_key, is_sign, place_if, a_mark, a_key, a_sign, word_of, field_of, a_word, a_field, bullet_of, Context, free, right_of, under, bound, is_free, prefix_by, goes_on, element, Readers, ended, named, from_name, set_rest, image_rest, brace_rest, set_from, member_rest, brace_name, braces, tuples, field_rest, function_rest, square_rest, square_from, bind_rest, square_member, plain_field, square_name, squares, list_if, primary, quantifier, choice_from, keyed, under_by, signed, operand, short_signed, short_by, apply_if, select_if, postfix_by, climb_if, climb_by, phrases_by, binds_by, fields_by, settings_by, setting_if, path_by, bullets_if, arms_other, arms_if, arms_by, locals_by, one_step, readers, read}
+use Rattle.tla_expr.specs.Reader.{Stop, any, Out, Reader, then_read, ◌>>=◌, gives, next, peek, took, is_mark, is_key, is_sign, place_if, a_mark, a_key, a_sign, word_of, field_of, a_word, a_field, bullet_of, Context, free, right_of, under, behind, bound, is_free, prefix_by, goes_on, element, Readers, ended, named, from_name, set_rest, image_rest, brace_rest, set_from, member_rest, brace_name, braces, tuples, field_rest, function_rest, square_rest, square_from, bind_rest, square_member, plain_field, square_name, squares, list_if, primary, quantifier, choice_from, keyed, under_by, signed, operand, short_signed, short_by, apply_if, select_if, postfix_by, climb_if, climb_by, phrases_by, binds_by, fields_by, settings_by, setting_if, path_by, bullets_if, arms_other, arms_if, arms_by, locals_by, one_step, readers, read}
 use Rattle.tla_expr.proofs.Alike.{Within, IsFair, fair_gives, right_then}
 use Rattle.tla_expr.proofs.AlikeSteps.{AreFair, fair_readers}
 use Rattle.tla_expr.proofs.AlikeEnds.{GoesOn, Ends, less, ends_gives, ends_refuses, ends_skip, Settles, ends_peek, ends_bind, ends_take, Shut, shut_on, shut_then, shut_first}
@@ -24,7 +24,7 @@ pub record AreEnding (n : ℕ) (r q : Readers) : Type 0 where
   pub expr : (e : ℕ) (c : Context) → Ends (n + 1) (r.expr e c) (q.expr e c)
   pub short : (e : ℕ) → Ends n (r.short e) (q.short e)
   pub postfix : (e : ℕ) (a : Phrase) → Ends (n + 2) (r.postfix e a) (q.postfix e a)
-  pub climb : (e b : ℕ) (a : Phrase) → Ends (n + 2) (r.climb e b a) (q.climb e b a)
+  pub climb : (e : ℕ) (c : Context) (a : Phrase) → Ends (n + 2) (r.climb e c a) (q.climb e c a)
   pub phrases : (e : ℕ) → Ends n (r.phrases e) (q.phrases e)
   pub binds : (e : ℕ) (p : Place) (x : Word) → Ends n (r.binds e p x) (q.binds e p x)
   pub fields : (e : ℕ) (m : Mark) (f : Field) → Ends n (r.fields e m f) (q.fields e m f)
@@ -93,8 +93,8 @@ module _ (n : ℕ) (r q : Readers) (shut : Shuts r) (h : AreEnding n r q) where
   postfix : (e : ℕ) (a : Phrase) → Ends n (r.postfix e a) (q.postfix e a)
   postfix e a = less (omega arith) (h.postfix e a)
 
-  climb : (e b : ℕ) (a : Phrase) → Ends n (r.climb e b a) (q.climb e b a)
-  climb e b a = less (omega arith) (h.climb e b a)
+  climb : (e : ℕ) (c : Context) (a : Phrase) → Ends n (r.climb e c a) (q.climb e c a)
+  climb e c a = less (omega arith) (h.climb e c a)
 
   ends : {A : Type 0} (e : ℕ) (m : Mark) (f : Place → A) → Ends n (ended e m f) (ended e m f)
   ends e m f = on_mark l0 e m (λ p. ends_gives)
@@ -143,11 +143,11 @@ module _ (n : ℕ) (r q : Readers) (shut : Shuts r) (h : AreEnding n r q) where
   on_member e p s x t a u k = on_set_from e p (element s x t a)
 
   shut_brace_name : (e : ℕ) (p s : Place) (x : Word) → Shut (brace_name (any r) r e p s x nowhere (tk.other []))
-  shut_brace_name e p s x = shut_then (from_name (any r) r e s x) _ (on_from e s x).fair.left (λ a. shut_then (r.climb e 0 a) _ (h.climb e 0 a).fair.left (λ b y o. absurd cc))
+  shut_brace_name e p s x = shut_then (from_name (any r) r e s x) _ (on_from e s x).fair.left (λ a. shut_then (r.climb e free a) _ (h.climb e free a).fair.left (λ b y o. absurd cc))
 
   on_brace_name : (e : ℕ) (p s : Place) (x : Word) (t : Place) (k : TokenView) → Ends n (brace_name (any r) r e p s x t k) (brace_name (any q) q e p s x t k)
-  on_brace_name e p s x t (tk.sign op.In) = ends_skip l0 (ends_bind (expr e free) (λ a. ends_peek e (on_member e p s x t a) (settles_member e p s x t a)))
-  on_brace_name e p s x t k = ends_bind (on_from e s x) (λ a. ends_bind (climb e 0 a) (λ b. ends_peek e (on_brace e p b) (λ l t ts j k i. tt)))
+  on_brace_name e p s x t (tk.sign op.In) = ends_skip l0 (ends_bind (expr e (behind s x t)) (λ a. ends_peek e (on_member e p s x t a) (settles_member e p s x t a)))
+  on_brace_name e p s x t k = ends_bind (on_from e s x) (λ a. ends_bind (climb e free a) (λ b. ends_peek e (on_brace e p b) (λ l t ts j k i. tt)))
 
   on_braces : (e : ℕ) (p s : Place) (k : TokenView) → Ends n (braces (any r) r e p s k) (braces (any q) q e p s k)
   on_braces e p s (tk.mark tk.close_brace) = ends_skip l0 ends_gives
@@ -200,14 +200,14 @@ module _ (n : ℕ) (r q : Readers) (shut : Shuts r) (h : AreEnding n r q) where
   on_square_member e p s x t a u k = on_square_from e p (element s x t a)
 
   shut_square_name : (e : ℕ) (p s : Place) (x : Word) → Shut (square_name (any r) r e p s x nowhere (tk.other []))
-  shut_square_name e p s x = shut_then (from_name (any r) r e s x) _ (on_from e s x).fair.left (λ a. shut_then (r.climb e 0 a) _ (h.climb e 0 a).fair.left (λ b y o. absurd cc))
+  shut_square_name e p s x = shut_then (from_name (any r) r e s x) _ (on_from e s x).fair.left (λ a. shut_then (r.climb e free a) _ (h.climb e free a).fair.left (λ b y o. absurd cc))
 
   on_square_name : (e : ℕ) (p s : Place) (x : Word) (t : Place) (k : TokenView) → Ends n (square_name (any r) r e p s x t k) (square_name (any q) q e p s x t k)
   on_square_name e p s x t (tk.mark tk.maps) = on_in_fields e p (plain_field s x) t (tk.mark tk.maps)
   on_square_name e p s x t (tk.mark tk.colon) = on_in_fields e p (plain_field s x) t (tk.mark tk.colon)
   on_square_name e p s x t (tk.mark tk.comma) = ends_bind (h.binds e s x) (λ bs. on_function e p bs)
-  on_square_name e p s x t (tk.sign op.In) = ends_skip l0 (ends_bind (expr e free) (λ a. ends_peek e (on_square_member e p s x t a) (settles_square_member e p s x t a)))
-  on_square_name e p s x t k = ends_bind (on_from e s x) (λ a. ends_bind (climb e 0 a) (λ b. ends_peek e (on_square e p b) (λ l t ts j k i. tt)))
+  on_square_name e p s x t (tk.sign op.In) = ends_skip l0 (ends_bind (expr e (behind s x t)) (λ a. ends_peek e (on_square_member e p s x t a) (settles_square_member e p s x t a)))
+  on_square_name e p s x t k = ends_bind (on_from e s x) (λ a. ends_bind (climb e free a) (λ b. ends_peek e (on_square e p b) (λ l t ts j k i. tt)))
 
   on_squares : (e : ℕ) (p s : Place) (k : TokenView) → Ends n (squares (any r) r e p s k) (squares (any q) q e p s k)
   on_squares e p s (tk.reserved x) = ends_skip l0 (ends_peek e (on_in_fields e p (record { place = s; is_reserved = true; text = x })) (λ l t ts j k i. tt))
@@ -299,23 +299,23 @@ module _ (n : ℕ) (r q : Readers) (shut : Shuts r) (h : AreEnding n r q) where
       by false = inl refl
   settles_postfix e a t ts p k i = inl refl
 
-  on_climb_if : (m : Bool) (e b : ℕ) (a : Phrase) (p : Place) (o : Op) → Ends (n + 3) (climb_if m (any r) r e b a p o) (climb_if m (any q) q e b a p o)
-  on_climb_if true e b a p o = ends_skip l3 (ends_bind (expr e (right_of o)) (λ d. climb e b _))
-  on_climb_if false e b a p o = ends_gives
+  on_climb_if : (m : Bool) (e : ℕ) (c : Context) (a : Phrase) (p : Place) (o : Op) → Ends (n + 3) (climb_if m (any r) r e c a p o) (climb_if m (any q) q e c a p o)
+  on_climb_if true e c a p o = ends_skip l3 (ends_bind (expr e (right_of o)) (λ d. climb e c _))
+  on_climb_if false e c a p o = ends_gives
 
-  on_climb : (e b : ℕ) (a : Phrase) (p : Place) (k : TokenView) → Ends (n + 3) (climb_by (any r) r e b a p k) (climb_by (any q) q e b a p k)
-  on_climb e b a p (tk.sign o) = on_climb_if (goes_on b a p o) e b a p o
-  on_climb e b a p k = ends_gives
+  on_climb : (e : ℕ) (c : Context) (a : Phrase) (p : Place) (k : TokenView) → Ends (n + 3) (climb_by (any r) r e c a p k) (climb_by (any q) q e c a p k)
+  on_climb e c a p (tk.sign o) = on_climb_if (goes_on (bound c) a p o) e c a p o
+  on_climb e c a p k = ends_gives
 
-  settles_climb : (e b : ℕ) (a : Phrase) (t : Token) (ts : List Token) (p : Place) (k : TokenView) → next e (t ∷ ts) ≡ token p k → GoesOn t ts (Ok (a, [])) (climb_by (any q) q e b a p k (t ∷ ts))
-  settles_climb e b a t ts p (tk.sign o) i = by (goes_on b a p o)
+  settles_climb : (e : ℕ) (c : Context) (a : Phrase) (t : Token) (ts : List Token) (p : Place) (k : TokenView) → next e (t ∷ ts) ≡ token p k → GoesOn t ts (Ok (a, [])) (climb_by (any q) q e c a p k (t ∷ ts))
+  settles_climb e c a t ts p (tk.sign o) i = by (goes_on (bound c) a p o)
     where
-      by : (m : Bool) → GoesOn t ts (Ok (a, [])) (climb_if m (any q) q e b a p o (t ∷ ts))
+      by : (m : Bool) → GoesOn t ts (Ok (a, [])) (climb_if m (any q) q e c a p o (t ∷ ts))
       by true =
-          let g : Ends n (r.expr e (right_of o) >>= λ d. r.climb e b (infix_of a p o d)) (q.expr e (right_of o) >>= λ d. q.climb e b (infix_of a p o d)) = ends_bind (expr e (right_of o)) (λ d. climb e b (infix_of a p o d)) in
+          let g : Ends n (r.expr e (right_of o) >>= λ d. r.climb e c (infix_of a p o d)) (q.expr e (right_of o) >>= λ d. q.climb e c (infix_of a p o d)) = ends_bind (expr e (right_of o)) (λ d. climb e c (infix_of a p o d)) in
           inr (refl, g.fair.right ts)
       by false = inl refl
-  settles_climb e b a t ts p k i = inl refl
+  settles_climb e c a t ts p k i = inl refl
 
   -- ---- lists
   on_phrases : (e : ℕ) (a : Phrase) (p : Place) (k : TokenView) → Ends (n + 3) (phrases_by r e a p k) (phrases_by q e a p k)
@@ -442,10 +442,10 @@ module _ (n : ℕ) (r q : Readers) (shut : Shuts r) (h : AreEnding n r q) where
 
   on_step : AreEnding (suc n) (one_step (any r) r) (one_step (any q) q)
   on_step = record {
-    expr = λ e c. less (omega arith) (ends_bind (ends_peek e (on_operand e c) (λ l t ts j k i. tt)) (λ a. h.climb e (bound c) a));
+    expr = λ e c. less (omega arith) (ends_bind (ends_peek e (on_operand e c) (λ l t ts j k i. tt)) (λ a. h.climb e c a));
     short = λ e. less (omega arith) (ends_peek e (on_short e) (λ l t ts j k i. tt));
     postfix = λ e a. less (omega arith) (ends_peek e (on_postfix e a) (λ l. settles_postfix e a));
-    climb = λ e b a. less (omega arith) (ends_peek e (on_climb e b a) (λ l. settles_climb e b a));
+    climb = λ e c a. less (omega arith) (ends_peek e (on_climb e c a) (λ l. settles_climb e c a));
     phrases = λ e. less (omega arith) (ends_bind (h.expr e free) (λ a. ends_peek e (λ p k. less (omega arith) (on_phrases e a p k)) (λ l. settles_phrases e a)));
     binds = λ e p x. less (omega arith) (ends_peek e (on_binds e p x) (λ l t ts j k i. tt));
     fields = λ e m f. less (omega arith) (on_mark l3 e m (λ p. ends_bind (expr e free) (λ a. ends_peek e (on_fields e m f p a) (λ l. settles_fields e m f p a))));
@@ -467,7 +467,7 @@ no_endings r q f = record {
   expr = λ e c. none_yet (omega arith) (f.expr e c);
   short = λ e. none_yet (omega arith) (f.short e);
   postfix = λ e a. none_yet (omega arith) (f.postfix e a);
-  climb = λ e b a. none_yet (omega arith) (f.climb e b a);
+  climb = λ e c a. none_yet (omega arith) (f.climb e c a);
   phrases = λ e. none_yet (omega arith) (f.phrases e);
   binds = λ e p x. none_yet (omega arith) (f.binds e p x);
   fields = λ e m x. none_yet (omega arith) (f.fields e m x);
@@ -482,7 +482,7 @@ no_endings r q f = record {
 
 endings : (b n m : ℕ) → b ≤ n → b ≤ m → AreEnding b (readers n None) (readers m None)
 unfolding readers
-endings zero n m i j = no_endings (readers n None) (readers m None) (fair_readers 0 n m i j)
+endings zero n m i j = no_endings (readers n None) (readers m None) (fair_readers 0 n m i j None)
 endings (suc b) zero m i j = absurd (omega (arith, i))
 endings (suc b) (suc n) zero i j = absurd (omega (arith, j))
 endings (suc b) (suc n) (suc m) i j = on_step b (readers n None) (readers m None) (shuts n) (endings b n m (omega (arith, i)) (omega (arith, j)))

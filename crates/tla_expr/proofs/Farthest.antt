@@ -1,5 +1,5 @@
 -- What is read is the farthest: no spelled expression begins with the tokens through the one at which reading stops.
-use Rattle.std.proofs.Common.{◌≡◌, ℕ, suc, ◌+◌, ◌*◌, ◌≤◌, List, [], ◌∷◌, ◌++◌, length, map, Some, Ok, Err, inl, inr, sym, ap, ◌∙◌, append_assoc, length-append, arith}
+use Rattle.std.proofs.Common.{◌≡◌, ℕ, suc, ◌+◌, ◌*◌, ◌≤◌, List, [], ◌∷◌, ◌++◌, length, map, Some, None, Ok, Err, inl, inr, sym, ap, ◌∙◌, append_assoc, length-append, arith}
 use Rattle.tla_token.specs.declared.rule.Rule.{Rule}
 use Rattle.tla_expr.specs.Lexical.{Token}
 use Rattle.tla_expr.specs.Spelling.{Phrase, Good, spell}
@@ -29,7 +29,7 @@ nothing_through e k t r stop a more g s =
     let b = 4 + 4 * length k in
     let i : b ≤ n = omega (arith, length-append k (t ∷ r)) in
     let j : b ≤ m = omega (arith, length-append k (t ∷ more)) in
-    let both = ((fair_readers b n m i j).expr e free).alike k t r more (omega arith) in
+    let both = ((fair_readers b n m i j None).expr e free).alike k t r more (omega arith) in
     let ends : read e (k ++ t ∷ more) ≡ Ok (a, []) = ap (λ (ts : List Token). read e ts) (sym s) ∙ spelled_is_read e a g in
     apart k t r more (read e (k ++ t ∷ r)) (read e (k ++ t ∷ more)) both stop (ap rest_of ends)
 

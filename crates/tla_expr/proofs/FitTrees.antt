@@ -1,5 +1,5 @@
 -- What is written of a tree is cut into just its tokens: each is the longest where it is.
-use Rattle.std.proofs.Common.{◌≡◌, ℕ, ◌≤◌, Bool, true, false, List, [], ◌∷◌, ◌++◌, length, refl, ap, subst, ◌∙◌, arith}
+use Rattle.std.proofs.Common.{◌≡◌, ℕ, ◌≤◌, Bool, true, false, List, [], ◌∷◌, ◌++◌, length, refl, ap, subst, ◌∙◌, arith, append_assoc}
 use Rattle.std.specs.List.{flat_map}
 use Rattle.tla_token.specs.Words.{is_pluscal_word}
 use Rattle.tla_expr.specs.declared.op.Op.{Op}
@@ -15,7 +15,7 @@ use Rattle.tla_expr.specs.Lexical as tk
 use Rattle.tla_expr.specs.Written.{Piece, blank, token, text_of, Part, mark, field, spaced, comma, infix_sign, prefix_sign, infix_pieces, listed, field_pieces, name_pieces, bind_pieces, definition_pieces, body, colon, binding_pieces, path_pieces, right_side, slot_pieces, strict_pieces, arm_pieces, choice_pieces, form_pieces, is_bracketed, bracketed, form_part, part, parts}
 use Rattle.tla_expr.specs.laws.Writable.{IsIdentifier, IsField, IsString, fields_in_path, names_in, fields_in, strings_in, IsWritable, AreWritable}
 use Rattle.tla_expr.specs.laws.InText.{ends_word}
-use Rattle.tla_expr.proofs.FitTokens.{Before, starts, is_first, Wordy, word_fits, word_starts, word_first, name_wordy, number_wordy, field_text, sign_fits, key_fits, constant_wordy, comma_fits, colon_fits, arrow_fits, maps_fits, defines_fits, box_fits, close_bracket_fits, close_square_fits, open_brace_fits, close_brace_fits, open_tuple_fits, close_tuple_fits, bang_fits, prime_fits, range_fits, not_fits, string_fits, open_bracket_fits, open_square_fits, minus_fits, dot_fits}
+use Rattle.tla_expr.proofs.FitTokens.{Before, Small, starts, dashed, is_first, Wordy, word_fits, word_starts, word_undashed, word_first, name_wordy, number_wordy, field_text, sign_fits, key_fits, constant_wordy, comma_fits, colon_fits, arrow_fits, maps_fits, defines_fits, box_fits, close_bracket_fits, close_square_fits, open_brace_fits, close_brace_fits, open_tuple_fits, close_tuple_fits, bang_fits, prime_fits, range_fits, not_fits, string_fits, open_bracket_fits, open_square_fits, minus_fits, dot_fits}
 use Rattle.tla_expr.proofs.SpelledTrees.{each_left, each_right, counted}
 
 -- each token is the longest, these bytes being behind all
@@ -30,27 +30,31 @@ Ends r ps = ends_word (text_of ps ++ r) ≡ true
 abbrev Starts : List ℕ → List Piece → Type 0
 Starts r ps = starts (text_of ps ++ r) ≡ true
 
--- a part fits before what fits and begins with no byte of a word; and begins with none of * > ]
+-- a part fits before what fits and begins with no byte of a word; and begins with none of * > ]; as an operand with no dash
 abbrev Fine : List ℕ → Part → Type 0
-Fine r a = (o : Bool) (ps : List Piece) → Fit r ps → Ends r ps → Fit r (a o ps) × Starts r (a o ps)
+Fine r a = (o : Bool) (ps : List Piece) → Fit r ps → Ends r ps → Fit r (a o ps) × Starts r (a o ps) × (o ≡ true → dashed (text_of (a o ps) ++ r) ≡ false)
 
 abbrev Fines : List ℕ → List Part → Type 0
 Fines r [] = Unit {0}
 Fines r (a ∷ xs) = Fine r a × Fines r xs
 
 -- ---- words
-word_well : (r : List ℕ) (k : TokenView) (w : Word) → token_text k ≡ w → Wordy w → (ps : List Piece) → Fit r ps → Ends r ps → Fit r (token k ∷ ps) × Starts r (token k ∷ ps)
-word_well r k w e h ps f n = ((word_fits k w (text_of ps ++ r) e h n, f), ap starts (assoc (token_text k) (text_of ps) r) ∙ word_starts k w (text_of ps ++ r) e h)
+word_well : (r : List ℕ) (k : TokenView) (w : Word) → token_text k ≡ w → Wordy w → Small k → (ps : List Piece) → Fit r ps → Ends r ps → Fit r (token k ∷ ps) × Starts r (token k ∷ ps)
+word_well r k w e h s ps f n = ((word_fits k w (text_of ps ++ r) e h s n, f), ap starts (assoc (token_text k) (text_of ps) r) ∙ word_starts k w (text_of ps ++ r) e h)
   where
     assoc : (a b c : List ℕ) → (a ++ b) ++ c ≡ a ++ (b ++ c)
     assoc [] b c = refl
     assoc (x ∷ a) b c = ap (λ (l : List ℕ). x ∷ l) (assoc a b c)
 
 name_well : (r : List ℕ) (x : Word) → IsIdentifier x → (ps : List Piece) → Fit r ps → Ends r ps → Fit r (token (tk.word x) ∷ ps) × Starts r (token (tk.word x) ∷ ps)
-name_well r x h ps f n = word_well r (tk.word x) x refl (name_wordy x h.0) ps f n
+name_well r x h ps f n = word_well r (tk.word x) x refl (name_wordy x h.0) tt ps f n
+
+field_small : (b : Bool) (x : Word) → Small (field_kind b x)
+field_small true x = tt
+field_small false x = tt
 
 field_well : (r : List ℕ) (x : Word) → IsField x → (ps : List Piece) → Fit r ps → Ends r ps → Fit r (field x ps) × Starts r (field x ps)
-field_well r x h ps f n = word_well r (field_kind (is_pluscal_word x) x) x (field_text (is_pluscal_word x) x) (name_wordy x h.0) ps f n
+field_well r x h ps f n = word_well r (field_kind (is_pluscal_word x) x) x (field_text (is_pluscal_word x) x) (name_wordy x h.0) (field_small (is_pluscal_word x) x) ps f n
 
 -- `.a`
 dotted : (r : List ℕ) (x : Word) → IsField x → (ps : List Piece) → Fit r ps → Ends r ps → Fit r (mark tk.dot (field x ps))
@@ -63,6 +67,10 @@ dotted r x h ps f n = (dot_fits _ (ap is_first (assoc (token_text k) (text_of ps
     assoc [] b c = refl
     assoc (y ∷ a) b c = ap (λ (l : List ℕ). y ∷ l) (assoc a b c)
 
+-- what begins with an operand
+first : (r : List ℕ) (a : Part) → Fine r a → (ps : List Piece) → Fit r ps → Ends r ps → Fit r (a true ps) × Starts r (a true ps)
+first r a h ps f e = (let u = h true ps f e in (u.0, u.1))
+
 -- ---- operators
 infix_sign_fit : (r : List ℕ) (o : Op) (ps : List Piece) → Fit r ps → Fit r (infix_sign o ps)
 infix_sign_fit r op.Range ps f = (range_fits _, f)
@@ -72,21 +80,21 @@ infix_ends : (r : List ℕ) (o : Op) (ps : List Piece) → Ends r (infix_sign o 
 infix_ends r op.Range ps = refl
 infix_ends r o ps = refl
 
-prefix_well : (r : List ℕ) (o : Op) → is_prefix o ≡ true → (ps : List Piece) → Fit r ps → Starts r ps → Fit r (prefix_sign o ps) × Starts r (prefix_sign o ps)
-prefix_well r op.Negate h ps f s = ((minus_fits _ s, f), refl)
-prefix_well r op.Not h ps f s = ((not_fits _, f), refl)
-prefix_well r op.Subset h ps f s = ((sign_fits op.Subset _, f), refl)
-prefix_well r op.Union h ps f s = ((sign_fits op.Union _, f), refl)
-prefix_well r op.Domain h ps f s = ((sign_fits op.Domain _, f), refl)
-prefix_well r o h ps f s = absurd cc
+prefix_well : (r : List ℕ) (o : Op) → is_prefix o ≡ true → (ps : List Piece) → Fit r ps → Starts r ps → dashed (text_of ps ++ r) ≡ false → Fit r (prefix_sign o ps) × Starts r (prefix_sign o ps)
+prefix_well r op.Negate h ps f s d = ((minus_fits _ s d, f), refl)
+prefix_well r op.Not h ps f s d = ((not_fits _, f), refl)
+prefix_well r op.Subset h ps f s d = ((sign_fits op.Subset _, f), refl)
+prefix_well r op.Union h ps f s d = ((sign_fits op.Union _, f), refl)
+prefix_well r op.Domain h ps f s d = ((sign_fits op.Domain _, f), refl)
+prefix_well r o h ps f s d = absurd cc
 
 infix_well : (r : List ℕ) (o : Op) (xs : List Part) → length xs ≡ operands (is_prefix o) → Fines r xs → (ps : List Piece) → Fit r ps → Ends r ps → Fit r (infix_pieces o xs ps) × Starts r (infix_pieces o xs ps)
-infix_well r o (a ∷ []) n w ps f e = (let u = w.0 true ps f e in prefix_well r o (single (is_prefix o) n) (a true ps) u.0 u.1)
+infix_well r o (a ∷ []) n w ps f e = (let u = w.0 true ps f e in prefix_well r o (single (is_prefix o) n) (a true ps) u.0 u.1 (u.2 refl))
   where
     single : (p : Bool) → ◌≡◌ {A = ℕ} 1 (operands p) → p ≡ true
     single true h = refl
     single false h = absurd (omega (arith, h))
-infix_well r o (a ∷ b ∷ []) n w ps f e = w.0 true (infix_sign o (b true ps)) (infix_sign_fit r o (b true ps) (w.1.0 true ps f e).0) (infix_ends r o (b true ps))
+infix_well r o (a ∷ b ∷ []) n w ps f e = (let u = w.0 true (infix_sign o (b true ps)) (infix_sign_fit r o (b true ps) (w.1.0 true ps f e).0) (infix_ends r o (b true ps)) in (u.0, u.1))
 infix_well r o [] n w ps f e = absurd (none (is_prefix o) n)
   where
     none : (p : Bool) → ◌≡◌ {A = ℕ} 0 (operands p) → ⊥
@@ -189,10 +197,10 @@ strict_well r (tree.records ys) xs h i w ps f e = (let u = fields_well r colon (
 strict_well r tree.functions (a ∷ b ∷ xs) h i w ps f e = (let u = w.0 false _ (arrow_fits _, (w.1.0 false _ (close_square_fits _, f) refl).0) refl in ((open_square_fits _ u.1, u.0), refl))
 strict_well r tree.functions [] h i w ps f e = absurd (omega (arith, h))
 strict_well r tree.functions (a ∷ []) h i w ps f e = absurd (omega (arith, h))
-strict_well r tree.apply (a ∷ b ∷ xs) h i w ps f e = (let u = w.1.0 false _ (close_square_fits _, f) refl in w.0 true _ (open_square_fits _ u.1, u.0) refl)
+strict_well r tree.apply (a ∷ b ∷ xs) h i w ps f e = (let u = w.1.0 false _ (close_square_fits _, f) refl in first r a w.0 _ (open_square_fits _ u.1, u.0) refl)
 strict_well r tree.apply [] h i w ps f e = absurd (omega (arith, h))
 strict_well r tree.apply (a ∷ []) h i w ps f e = absurd (omega (arith, h))
-strict_well r (tree.select x) (a ∷ xs) h i w ps f e = w.0 true _ (dotted r x i.0 ps f e) refl
+strict_well r (tree.select x) (a ∷ xs) h i w ps f e = first r a w.0 _ (dotted r x i.0 ps f e) refl
 strict_well r (tree.select x) [] h i w ps f e = absurd (omega (arith, h))
 strict_well r (tree.except ss) (a ∷ xs) h i w ps f e = (let u = w.0 true _ (key_fits tk.except_key _, slots_fit r ss i xs w.1 _ (close_square_fits _, f) refl) refl in ((open_square_fits _ u.1, u.0), refl))
 strict_well r (tree.except ss) [] h i w ps f e = absurd (omega (arith, h.1))
@@ -215,11 +223,11 @@ choice_well r (a ∷ b ∷ []) n w ps f e = absurd (omega (arith, n))
 choice_well r (a ∷ b ∷ c ∷ d ∷ xs) n w ps f e = absurd (omega (arith, n))
 
 form_well : (r : List ℕ) (m : Form) (xs : List Part) → Shaped m (length xs) → Each IsIdentifier (names_in m) → Each IsField (fields_in m) → Each IsString (strings_in m) → Fines r xs → (ps : List Piece) → Fit r ps → Ends r ps → Fit r (form_pieces m xs ps) × Starts r (form_pieces m xs ps)
-form_well r (tree.number n) xs h i j t w ps f e = word_well r (tk.number n) (token_text (tk.number n)) refl (number_wordy n h.0) ps f e
+form_well r (tree.number n) xs h i j t w ps f e = word_well r (tk.number n) (token_text (tk.number n)) refl (number_wordy n h.0) h.0 ps f e
 form_well r (tree.string x) xs h i j t w ps f e = ((string_fits x _ t.0, f), refl)
-form_well r (tree.truth b) xs h i j t w ps f e = word_well r (tk.constant (tk.truth b)) _ refl (constant_wordy (tk.truth b)) ps f e
-form_well r tree.booleans xs h i j t w ps f e = word_well r (tk.constant tk.booleans) _ refl (constant_wordy tk.booleans) ps f e
-form_well r tree.strings xs h i j t w ps f e = word_well r (tk.constant tk.strings) _ refl (constant_wordy tk.strings) ps f e
+form_well r (tree.truth b) xs h i j t w ps f e = word_well r (tk.constant (tk.truth b)) _ refl (constant_wordy (tk.truth b)) tt ps f e
+form_well r tree.booleans xs h i j t w ps f e = word_well r (tk.constant tk.booleans) _ refl (constant_wordy tk.booleans) tt ps f e
+form_well r tree.strings xs h i j t w ps f e = word_well r (tk.constant tk.strings) _ refl (constant_wordy tk.strings) tt ps f e
 form_well r (tree.name x) xs h i j t w ps f e = name_well r x i.0 ps f e
 form_well r (tree.next x) xs h i j t w ps f e = name_well r x i.0 (mark tk.prime ps) (prime_fits _, f) refl
 form_well r (tree.strict m) xs h i j t w ps f e = strict_well r m xs h j w ps f e
@@ -234,17 +242,61 @@ form_well r (tree.cases b) xs h i j t w ps f e = ((key_fits tk.case_key _, arms_
 form_well r (tree.binding b gs) xs h i j t w ps f e = binding_well r b gs i xs w ps f e
 form_well r (tree.local ys) xs h i j t w ps f e = ((key_fits tk.let_key _, definitions_fit r ys i xs w _ (key_fits tk.in_key _, body_fit r ys xs w false ps f e) refl), refl)
 
-part_fine : (r : List ℕ) (m : Form) (xs : List Part) → ((ps : List Piece) → Fit r ps → Ends r ps → Fit r (form_pieces m xs ps) × Starts r (form_pieces m xs ps)) → Fine r (form_part m xs)
-part_fine r m xs h false ps f e = h ps f e
-part_fine r m xs h true ps f e = by (is_bracketed m)
+-- ---- what is in no brackets begins with no dash
+abbrev Undashed : List ℕ → List Piece → Type 0
+Undashed r ps = dashed (text_of ps ++ r) ≡ false
+
+name_undashed : (r : List ℕ) (x : Word) → IsIdentifier x → (ps : List Piece) → Undashed r (token (tk.word x) ∷ ps)
+name_undashed r x h ps = ap dashed (append_assoc x (text_of ps) r) ∙ word_undashed x (text_of ps ++ r) (name_wordy x h.0)
+
+strict_undashed : (r : List ℕ) (m : Strict) (xs : List Part) → StrictShaped m (length xs) → Each IsField (fields_in (tree.strict m)) → Fines r xs → (ps : List Piece) → Fit r ps → Ends r ps → is_bracketed (tree.strict m) ≡ false → Undashed r (strict_pieces m xs ps)
+strict_undashed r (tree.operator o) xs h i w ps f e n = absurd cc
+strict_undashed r tree.functions (a ∷ b ∷ xs) h i w ps f e n = refl
+strict_undashed r tree.functions [] h i w ps f e n = absurd (omega (arith, h))
+strict_undashed r tree.functions (a ∷ []) h i w ps f e n = absurd (omega (arith, h))
+strict_undashed r tree.apply (a ∷ b ∷ xs) h i w ps f e n = (let u = w.1.0 false _ (close_square_fits _, f) refl in (w.0 true _ (open_square_fits _ u.1, u.0) refl).2 refl)
+strict_undashed r tree.apply [] h i w ps f e n = absurd (omega (arith, h))
+strict_undashed r tree.apply (a ∷ []) h i w ps f e n = absurd (omega (arith, h))
+strict_undashed r (tree.select x) (a ∷ xs) h i w ps f e n = (w.0 true _ (dotted r x i.0 ps f e) refl).2 refl
+strict_undashed r (tree.select x) [] h i w ps f e n = absurd (omega (arith, h))
+strict_undashed r (tree.except ss) (a ∷ xs) h i w ps f e n = refl
+strict_undashed r (tree.except ss) [] h i w ps f e n = absurd (omega (arith, h.1))
+strict_undashed r m xs h i w ps f e n = refl
+
+form_undashed : (r : List ℕ) (m : Form) (xs : List Part) → Shaped m (length xs) → Each IsIdentifier (names_in m) → Each IsField (fields_in m) → Fines r xs → (ps : List Piece) → Fit r ps → Ends r ps → is_bracketed m ≡ false → Undashed r (form_pieces m xs ps)
+form_undashed r (tree.number n) xs h i j w ps f e k = ap dashed (append_assoc (token_text (tk.number n)) (text_of ps) r) ∙ word_undashed (token_text (tk.number n)) (text_of ps ++ r) (number_wordy n h.0)
+form_undashed r (tree.name x) xs h i j w ps f e k = name_undashed r x i.0 ps
+form_undashed r (tree.next x) xs h i j w ps f e k = name_undashed r x i.0 (mark tk.prime ps)
+form_undashed r (tree.operator_call x) xs h i j w ps f e k = name_undashed r x i.0 (mark tk.open_bracket (listed xs (mark tk.close_bracket ps)))
+form_undashed r (tree.strict m) xs h i j w ps f e k = strict_undashed r m xs h j w ps f e k
+form_undashed r (tree.string x) xs h i j w ps f e k = refl
+form_undashed r (tree.truth true) xs h i j w ps f e k = refl
+form_undashed r (tree.truth false) xs h i j w ps f e k = refl
+form_undashed r tree.booleans xs h i j w ps f e k = refl
+form_undashed r tree.strings xs h i j w ps f e k = refl
+form_undashed r (tree.binding binder.Filter gs) xs h i j w ps f e k = refl
+form_undashed r (tree.binding binder.Image gs) xs h i j w ps f e k = refl
+form_undashed r (tree.binding binder.Function gs) xs h i j w ps f e k = refl
+form_undashed r m xs h i j w ps f e k = absurd cc
+
+-- ---- a form as a part
+abbrev Well : List ℕ → Form → List Part → Type 0
+Well r m xs = (ps : List Piece) → Fit r ps → Ends r ps → Fit r (form_pieces m xs ps) × Starts r (form_pieces m xs ps)
+
+part_fine : (r : List ℕ) (m : Form) (xs : List Part) → Well r m xs → ((ps : List Piece) → Fit r ps → Ends r ps → is_bracketed m ≡ false → Undashed r (form_pieces m xs ps)) → Fine r (form_part m xs)
+part_fine r m xs h d false ps f e = (let u = h ps f e in (u.0, u.1, λ o. absurd cc))
+part_fine r m xs h d true ps f e = by (is_bracketed m) refl
   where
-    by : (b : Bool) → Fit r (bracketed b (form_pieces m xs) ps) × Starts r (bracketed b (form_pieces m xs) ps)
-    by true = (let u = h _ (close_bracket_fits _, f) refl in ((open_bracket_fits _ u.1, u.0), refl))
-    by false = h ps f e
+    by : (b : Bool) → is_bracketed m ≡ b → Fit r (bracketed b (form_pieces m xs) ps) × Starts r (bracketed b (form_pieces m xs) ps) × (true ≡ true → Undashed r (bracketed b (form_pieces m xs) ps))
+    by true n = (let u = h _ (close_bracket_fits _, f) refl in ((open_bracket_fits _ u.1, u.0), refl, λ o. refl))
+    by false n = (let u = h ps f e in (u.0, u.1, λ o. d ps f e n))
 
 mutual
   tree_fine : (r : List ℕ) (t : Tree) → IsWritable t → Fine r (part t)
-  tree_fine r (node m at ts) (h, i, j, t, w) = part_fine r m (parts ts) (form_well r m (parts ts) (subst (λ (n : ℕ). Shaped m n) (counted ts) h) i j t (trees_fine r ts w))
+  tree_fine r (node m at ts) (h, i, j, t, w) =
+      let s = subst (λ (n : ℕ). Shaped m n) (counted ts) h in
+      let fs = trees_fine r ts w in
+      part_fine r m (parts ts) (form_well r m (parts ts) s i j t fs) (form_undashed r m (parts ts) s i j fs)
 
   trees_fine : (r : List ℕ) (ts : Trees) → AreWritable ts → Fines r (parts ts)
   trees_fine r no_trees w = tt
@@ -252,3 +304,7 @@ mutual
 
 pub written_fits : (r : List ℕ) (t : Tree) → IsWritable t → (o : Bool) → ends_word r ≡ true → Fit r (part t o [])
 written_fits r t w o e = (tree_fine r t w o [] tt e).0
+
+-- and it begins with none of * > ], and with no bar
+pub written_starts : (r : List ℕ) (t : Tree) → IsWritable t → (o : Bool) → ends_word r ≡ true → starts (text_of (part t o []) ++ r) ≡ true
+written_starts r t w o e = (tree_fine r t w o [] tt e).1

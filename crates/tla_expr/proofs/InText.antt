@@ -31,22 +31,22 @@ use Rattle.tla_expr.proofs.PlacedTree.{tree_moved}
 use Rattle.tla_expr.proofs.Operands.{operand_primary}
 
 -- ---- the pieces of a text
-abbrev lexed : (ps : List Piece) → AreSpelled ps → List text.Piece
+abbrev pub lexed : (ps : List Piece) → AreSpelled ps → List text.Piece
 lexed [] h = []
 lexed (blank ∷ ps) h = text.blank 32 ∷ lexed ps h
 lexed (token k ∷ ps) h = text.lexeme h.0.0 (token_text k) ∷ lexed ps h.1
 
-lexed_bytes : (ps : List Piece) (h : AreSpelled ps) → text.text_of (lexed ps h) ≡ text_of ps
+pub lexed_bytes : (ps : List Piece) (h : AreSpelled ps) → text.text_of (lexed ps h) ≡ text_of ps
 lexed_bytes [] h = refl
 lexed_bytes (blank ∷ ps) h = ap (λ (l : List ℕ). 32 ∷ l) (lexed_bytes ps h)
 lexed_bytes (token k ∷ ps) h = ap (λ (l : List ℕ). token_text k ++ l) (lexed_bytes ps h.1)
 
-lexed_before : (ps : List Piece) (h : AreSpelled ps) (rs : List text.Piece) → text.text_of (lexed ps h ++ rs) ≡ text_of ps ++ text.text_of rs
+pub lexed_before : (ps : List Piece) (h : AreSpelled ps) (rs : List text.Piece) → text.text_of (lexed ps h ++ rs) ≡ text_of ps ++ text.text_of rs
 lexed_before [] h rs = refl
 lexed_before (blank ∷ ps) h rs = ap (λ (l : List ℕ). 32 ∷ l) (lexed_before ps h rs)
 lexed_before (token k ∷ ps) h rs = ap (λ (l : List ℕ). token_text k ++ l) (lexed_before ps h.1 rs) ∙ sym (append_assoc (token_text k) (text_of ps) (text.text_of rs))
 
-lexed_fit : (ps : List Piece) (h : AreSpelled ps) (rs : List text.Piece) → AllFit rs → Fit (text.text_of rs) ps → AllFit (lexed ps h ++ rs)
+pub lexed_fit : (ps : List Piece) (h : AreSpelled ps) (rs : List text.Piece) → AllFit rs → Fit (text.text_of rs) ps → AllFit (lexed ps h ++ rs)
 lexed_fit [] h rs a f = a
 lexed_fit (blank ∷ ps) h rs a f = (refl, lexed_fit ps h rs a f)
 lexed_fit (token k ∷ ps) h rs a f =
@@ -62,10 +62,10 @@ lexed_kinds [] h p at = refl
 lexed_kinds (blank ∷ ps) h p at = lexed_kinds ps h _ _
 lexed_kinds (token k ∷ ps) h p at = cons (kind_of h.0.0) k _ _ h.0.2 (lexed_kinds ps h.1 _ _)
 
-further : (e c d : ℕ) → nat_lt e c ≡ true → c ≤ d → nat_lt e d ≡ true
+pub further : (e c d : ℕ) → nat_lt e c ≡ true → c ≤ d → nat_lt e d ≡ true
 further e c d l h = (let x = ltb-true e c l in lt-ltb e d (omega (arith, x, h)))
 
-lexed_right : (e : ℕ) (ps : List Piece) (h : AreSpelled ps) (p : Place) (at : ℕ) → Right e p → AllRight e (views (text.tokens_of p at (lexed ps h)))
+pub lexed_right : (e : ℕ) (ps : List Piece) (h : AreSpelled ps) (p : Place) (at : ℕ) → Right e p → AllRight e (views (text.tokens_of p at (lexed ps h)))
 lexed_right e [] h p at r = tt
 lexed_right e (blank ∷ ps) h p at r = lexed_right e ps h (after p (32 ∷ [])) _ (further e p.col _ r (after_right p (32 ∷ []) refl))
 lexed_right e (token k ∷ ps) h p at r = (r, lexed_right e ps h.1 (after p (token_text k)) _ (further e p.col _ r (after_right p (token_text k) (lexeme_stays h.0.0 (token_text k) h.0.1))))
@@ -79,7 +79,12 @@ no_tokens : (ts : List Token) → looks_by first_column ts ≡ [] → ts ≡ []
 no_tokens [] h = refl
 no_tokens (t ∷ ts) h = absurd cc
 
-spelled : (edge : ℕ) (o : Bool) (t : Tree) → IsWritable t → (ts : List text.Token) → kinds (views ts) ≡ tokens_of (part t o []) → AllRight edge (views ts) → IsSpelling edge o t ts
+-- it could have all tokens in one column
+pub record Flat (edge : ℕ) (o : Bool) (t : Tree) (ts : List text.Token) : Type 0 where
+  pub spelling : IsSpelling edge o t ts
+  pub in_column : Good 0 (flat spelling.phrase)
+
+spelled : (edge : ℕ) (o : Bool) (t : Tree) → IsWritable t → (ts : List text.Token) → kinds (views ts) ≡ tokens_of (part t o []) → AllRight edge (views ts) → Flat edge o t ts
 spelled edge o t v ts k r =
     let a = b.part t o in
     let same : kinds (views ts) ≡ kinds (spell a []) = k ∙ sym (written_part t v o) in
@@ -88,13 +93,23 @@ spelled edge o t v ts k r =
     let found : views ts ≡ spell w.again [] = sym w.tokens ∙ ap (λ (us : List Token). spell w.again us) (no_tokens w.rest w.looks_same) in
     let flat_good : Good 0 (flat w.again) = subst (λ (c : Phrase). Good 0 c) (sym w.same) (written_good t v o) in
     record {
-      phrase = w.again;
-      good = placed_good edge w.again flat_good (subst (λ (us : List Token). AllRight edge us) found r);
-      tokens = found;
-      tree = sym (tree_moved first_column w.again) ∙ ap (λ (c : Phrase). tree_placeless (tree_of c)) w.same ∙ tree_moved first_column a ∙ written_part_tree t v o;
-      unlisted = no_end_list w.again flat_good;
-      operand = λ e. sym (head_flat w.again) ∙ ap head w.same ∙ head_flat a ∙ ap (λ (x : Bool). head (b.part t x)) e ∙ operand_primary t;
+      spelling = record {
+        phrase = w.again;
+        good = placed_good edge w.again flat_good (subst (λ (us : List Token). AllRight edge us) found r);
+        tokens = found;
+        tree = sym (tree_moved first_column w.again) ∙ ap (λ (c : Phrase). tree_placeless (tree_of c)) w.same ∙ tree_moved first_column a ∙ written_part_tree t v o;
+        unlisted = no_end_list w.again flat_good;
+        operand = λ e. sym (head_flat w.again) ∙ ap head w.same ∙ head_flat a ∙ ap (λ (x : Bool). head (b.part t x)) e ∙ operand_primary t;
+      };
+      in_column = flat_good;
     }
+
+-- of the pieces of a tree, wherever they begin
+pub spelled_there : (edge : ℕ) (o : Bool) (t : Tree) (v : IsWritable t) (p : Place) (at : ℕ) → Right edge p → Flat edge o t (text.tokens_of p at (lexed (part t o []) (part_is_spelled t v o)))
+spelled_there edge o t v p at r =
+    let ps = part t o [] in
+    let h = part_is_spelled t v o in
+    spelled edge o t v (text.tokens_of p at (lexed ps h)) (lexed_kinds ps h p at) (lexed_right edge ps h p at r)
 
 pub cut : (t : Tree) (o : Bool) → IsWritable t → IsCut o t
 cut t o v =
@@ -104,7 +119,7 @@ cut t o v =
       pieces = lexed ps h;
       bytes = lexed_bytes ps h;
       fit = λ rest a e. lexed_fit ps h rest a (written_fits (text.text_of rest) t v o e);
-      spelling = λ edge p at r. spelled edge o t v (text.tokens_of p at (lexed ps h)) (lexed_kinds ps h p at) (lexed_right edge ps h p at r);
+      spelling = λ edge p at r. (spelled_there edge o t v p at r).spelling;
     }
 
 -- ---- the text of a tree alone

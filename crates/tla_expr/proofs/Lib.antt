@@ -43,6 +43,9 @@ pub mod PlacedGood
 pub mod PlacedTree
 pub mod WrittenGood
 pub mod InText
+pub mod WrittenBare
+pub mod WritableTrees
+pub mod TextTokens
 pub mod SpellAppend
 pub mod Following
 pub mod Alike
@@ -55,8 +58,20 @@ pub mod MendedForms
 pub mod MendedLists
 pub mod WritingLemmas
 pub mod RowsWriting
-pub mod SlowCounts
 pub mod StopsThere
 pub mod AlikeEnds
 pub mod AlikeEndsSteps
 mod RowsRefused
+mod RowsLimit
+pub mod DeepCounts
+pub mod Limited
+pub mod LimitedRooms
+pub mod LimitedBraces
+pub mod LimitedMembers
+pub mod LimitedForms
+pub mod LimitedSets
+pub mod LimitedAll
+pub mod LimitedStops
+pub mod CountsMoved
+pub mod ReadWithin
+mod RowsDeepest

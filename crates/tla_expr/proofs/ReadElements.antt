@@ -12,17 +12,17 @@ use Rattle.tla_expr.proofs.Steps.{steps, steps_all, steps_binds}
 use Rattle.tla_expr.proofs.ReadSoon.{Soon, same}
 use Rattle.tla_expr.proofs.ReadStops.{is_calm, Calm}
 use Rattle.tla_expr.proofs.ReadMembers.{first_in, name_bind, sign_no_word, is_member, cut, bind_member, member}
-use Rattle.tla_expr.proofs.ReadPhrases.{Prime, Reads, ReadsAll, closed, primary_reads, tail_call}
+use Rattle.tla_expr.proofs.ReadPhrases.{Prime, Reads, ReadsAll, closed, closed_behind, primary_reads, tail_call}
 use Rattle.tla_expr.proofs.ReadForms.{is_start, Starts, starts, ReadsBinds}
 
 -- an expression that begins with a name, after that name
 pub from_word : (e : ℕ) (p : Place) (x : Word) (vs : List Token) (o : Out Phrase) {k : ℕ} → Right e p → Soon k (λ r. r.expr e free (word p x vs)) o
-    → Soon k (λ r. then_read (from_name (any r) r e p x vs) (λ a us. r.climb e 0 a us)) o
+    → Soon k (λ r. then_read (from_name (any r) r e p x vs) (λ a us. r.climb e free a us)) o
 unfolding readers
-from_word e p x vs o g h = (λ n l. (let at : (readers (suc n) None).expr e free (word p x vs) ≡ then_read (from_name (any (readers n None)) (readers n None) e p x vs) (λ a us. (readers n None).climb e 0 a us) = rw g refl in sym at ∙ h (suc n) (omega arith)))
+from_word e p x vs o g h = (λ n l. (let at : (readers (suc n) None).expr e free (word p x vs) ≡ then_read (from_name (any (readers n None)) (readers n None) e p x vs) (λ a us. (readers n None).climb e free a us) = rw g refl in sym at ∙ h (suc n) (omega arith)))
 
 brace_name_other : (r : Readers) (e : ℕ) (p q : Place) (x : Word) (s : Place) (k : TokenView) (vs : List Token) → is_in k ≡ false
-    → brace_name (any r) r e p q x s k vs ≡ (from_name (any r) r e q x >>= λ a. r.climb e 0 a >>= λ b. peek e (brace_rest r e p b)) vs
+    → brace_name (any r) r e p q x s k vs ≡ (from_name (any r) r e q x >>= λ a. r.climb e free a >>= λ b. peek e (brace_rest r e p b)) vs
 brace_name_other r e p q x s (tk.sign op.In) vs h = absurd cc
 brace_name_other r e p q x s k vs h = refl
 
@@ -48,7 +48,7 @@ Braced e p us = (b : Phrase) (ts : List Token) (o : Out Phrase) (j k : ℕ) → 
 braced_word : (e : ℕ) (p q : Place) (x : Word) (vs : List Token) → Right e q → is_in (next e vs).kind ≡ false → Braced e p (word q x vs)
 braced_word e p q x vs g n b ts o j k h i =
     let v = from_word e q x vs (Ok (b, ts)) g h in
-    (λ n' l. rw g (brace_name_other (readers n' None) e p q x (next e vs).place (next e vs).kind vs n ∙ sym (assoc (from_name (any (readers n' None)) (readers n' None) e q x vs) (λ a us. (readers n' None).climb e 0 a us) (λ b us. peek e (brace_rest (readers n' None) e p b) us)) ∙ ap (λ (y : Out Phrase). then_read y (λ b us. peek e (brace_rest (readers n' None) e p b) us)) (v n' (omega arith)) ∙ i n' (omega arith)))
+    (λ n' l. rw g (brace_name_other (readers n' None) e p q x (next e vs).place (next e vs).kind vs n ∙ sym (assoc (from_name (any (readers n' None)) (readers n' None) e q x vs) (λ a us. (readers n' None).climb e free a us) (λ b us. peek e (brace_rest (readers n' None) e p b) us)) ∙ ap (λ (y : Out Phrase). then_read y (λ b us. peek e (brace_rest (readers n' None) e p b) us)) (v n' (omega arith)) ∙ i n' (omega arith)))
 
 braced_token : (e : ℕ) (p q : Place) (k : TokenView) (vs : List Token) → Right e q → is_start k ≡ true → (is_word k && is_in (next e vs).kind) ≡ false
     → Braced e p (token q k ∷ vs)
@@ -122,7 +122,7 @@ first_element e p a ha hc g us k n j o h = by (is_member a) refl
         braced e p (spell a us) (starts e a g us) (not_bind e a g [] us (sym (calm_in (next e us).kind k)) (bind_member e a g ∙ m)) a us o (steps a + 3) j (closed a ha e g us k) i n' (omega arith)
     by true m n' l =
         let v = member e a g m in
-        let w = closed (cut a) hc e v.good us k in
+        let w = closed_behind (cut a) hc e v.place v.word_of v.place_in v.good us k in
         let f = cut_steps a in (rw (v.same_as us, v.right, v.right_in, w n' (omega arith))
         (member_other (readers n' None) e p v.place v.word_of v.place_in (cut a) (next e us).place (next e us).kind us n ∙ rw v.joins (h n' (omega arith))))
 

@@ -11,10 +11,10 @@ use Rattle.tla_expr.specs.Lexical as tk
 use Rattle.tla_expr.specs.Spelling.{Field, Phrase, name, primed, call, functions, except, apply, select, list, quantified, infix_of, prefix_of, last_bullet, bullet, Phrases, Settings, last_setting, setting, Path, path_end, index, at_field}
 use Rattle.tla_expr.specs.Spelling.{mark, key, sign, word, spell, spell_settings, spell_path, is_word, is_in, Right, Good, GoodSettings, GoodPath}
 use Rattle.tla_expr.specs.Reader.{any, Out, then_read, ◌>>=◌, next, peek, free, Readers, readers, element, from_name, squares, square_name, square_member, square_from, square_rest, settings_by, path_by}
-use Rattle.tla_expr.proofs.Steps.{steps, steps_all, steps_path, steps_settings}
+use Rattle.tla_expr.proofs.Steps.{steps, steps_path, steps_settings}
 use Rattle.tla_expr.proofs.ReadSoon.{Soon, step, is_tail, NoTail}
 use Rattle.tla_expr.proofs.ReadStops.{is_calm, Calm}
-use Rattle.tla_expr.proofs.ReadPhrases.{Prime, Reads, closed, is_end, Ends, end_calm, ReadsAll, primary_reads, tail_call}
+use Rattle.tla_expr.proofs.ReadPhrases.{Prime, Reads, closed, closed_behind, is_end, Ends, end_calm, ReadsAll, primary_reads, tail_call}
 use Rattle.tla_expr.proofs.ReadForms.{is_start, Starts, starts, field_read}
 use Rattle.tla_expr.proofs.ReadElements.{from_word, assoc, cut_steps}
 use Rattle.tla_expr.proofs.ReadMembers.{is_name, is_member, cut, member, primary_member, sign_no_word}
@@ -57,7 +57,7 @@ squares_other r e p q (tk.word x) us h w = absurd cc
 squares_other r e p q k us h w = refl
 
 name_other : (r : Readers) (e : ℕ) (p q : Place) (x : Word) (s : Place) (k : TokenView) (vs : List Token) → is_decisive k ≡ false
-    → square_name (any r) r e p q x s k vs ≡ (from_name (any r) r e q x >>= λ a. r.climb e 0 a >>= λ b. peek e (square_rest r e p b)) vs
+    → square_name (any r) r e p q x s k vs ≡ (from_name (any r) r e q x >>= λ a. r.climb e free a >>= λ b. peek e (square_rest r e p b)) vs
 name_other r e p q x s (tk.mark tk.maps) vs h = absurd cc
 name_other r e p q x s (tk.mark tk.colon) vs h = absurd cc
 name_other r e p q x s (tk.mark tk.comma) vs h = absurd cc
@@ -74,7 +74,7 @@ Squared e p us = (b : Phrase) (ts : List Token) (o : Out Phrase) (j k : ℕ) →
 squared_word : (e : ℕ) (p q : Place) (x : Word) (vs : List Token) → Right e q → is_decisive (next e vs).kind ≡ false → Squared e p (word q x vs)
 squared_word e p q x vs g n b ts o j k h i =
     let v = from_word e q x vs (Ok (b, ts)) g h in (λ n' l. rw g (name_other (readers n' None) e p q x (next e vs).place (next e vs).kind vs n
-    ∙ sym (assoc (from_name (any (readers n' None)) (readers n' None) e q x vs) (λ a us. (readers n' None).climb e 0 a us) (λ b us. peek e (square_rest (readers n' None) e p b) us))
+    ∙ sym (assoc (from_name (any (readers n' None)) (readers n' None) e q x vs) (λ a us. (readers n' None).climb e free a us) (λ b us. peek e (square_rest (readers n' None) e p b) us))
     ∙ ap (λ (y : Out Phrase). then_read y (λ b us. peek e (square_rest (readers n' None) e p b) us)) (v n' (omega arith)) ∙ i n' (omega arith)))
 
 squared_token : (e : ℕ) (p q : Place) (k : TokenView) (vs : List Token) → Right e q → is_start k ≡ true
@@ -121,7 +121,7 @@ first_part e p a ha hc g us n j o h = by (is_member a) refl
     by false m n' l = squared e p (spell a us) (starts e a g us) (undecided e a g us m (rw (divider_decides (next e us).kind n) (and-false (is_name a)))) a us o (steps a + 3) j (closed a ha e g us calm) h n' (omega arith)
     by true m n' l =
         let v = member e a g m in
-        let w = closed (cut a) hc e v.good us calm in
+        let w = closed_behind (cut a) hc e v.place v.word_of v.place_in v.good us calm in
         let f = cut_steps a in (rw (v.same_as us, v.right, v.right_in, w n' (omega arith))
         (member_divided (readers n' None) e p v.place v.word_of v.place_in (cut a) (next e us).place (next e us).kind us n ∙ rw v.joins (h n' (omega arith))))
 

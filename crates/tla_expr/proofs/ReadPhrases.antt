@@ -11,9 +11,9 @@ use Rattle.tla_expr.specs.Lexical as tk
 use Rattle.tla_expr.specs.Spelling.{Phrase, number, string, constant, name, primed, call, brackets, no_set, no_tuple, list, infix_of, prefix_of}
 use Rattle.tla_expr.specs.Spelling.{Phrases, last, more}
 use Rattle.tla_expr.specs.Spelling.{mark, sign, spell, spell_all, Good, GoodAll, Right, head, is_primary, is_short, first_bullet}
-use Rattle.tla_expr.specs.Reader.{any, Out, then_read, ◌>>=◌, gives, skip, next, peek, Context, free, right_of, under, bound, fits, is_free, goes_on, Readers, readers, named, primary, under_by, operand, short_by, phrases_by}
+use Rattle.tla_expr.specs.Reader.{any, Out, then_read, ◌>>=◌, gives, skip, next, peek, Context, free, right_of, under, behind, bound, fits, is_free, goes_on, Readers, readers, named, primary, under_by, operand, short_by, phrases_by}
 use Rattle.tla_expr.proofs.Steps.{steps, steps_all}
-use Rattle.tla_expr.proofs.ReadSoon.{Soon, step, same, is_tail, NoTail, Stays, postfix_ends, climb_ends}
+use Rattle.tla_expr.proofs.ReadSoon.{Soon, step, is_tail, NoTail, Stays, postfix_ends, climb_ends}
 use Rattle.tla_expr.proofs.ReadStops.{Stops, ListEnds, BulletsStop, is_calm, Calm, calm_stays, calm_stops, Fine, seen_sign, sign_infix, above_bound, left_parts, fits_left, left_stops, fits_short}
 
 -- ---- the claim
@@ -39,7 +39,7 @@ abbrev pub Brief : Phrase → Type 0
 Brief a = (e : ℕ) → Good e a → is_short a ≡ true → (ts : List Token) → Stops e None a ts → Soon (steps a + 2) (λ r. r.short e (spell a ts)) (Ok (a, ts))
 
 abbrev pub Full : Phrase → Type 0
-Full a = (e : ℕ) (c : Context) → Fine c → Good e a → fits c a ≡ true → (ts : List Token) → Stops e (Some c) a ts → (k : ℕ) (o : Out Phrase) → Soon k (λ r. r.climb e (bound c) a ts) o → Soon (k + steps a + 2) (λ r. r.expr e c (spell a ts)) o
+Full a = (e : ℕ) (c : Context) → Fine c → Good e a → fits c a ≡ true → (ts : List Token) → Stops e (Some c) a ts → (k : ℕ) (o : Out Phrase) → Soon k (λ r. r.climb e c a ts) o → Soon (k + steps a + 2) (λ r. r.expr e c (spell a ts)) o
 
 pub record Begins (e : ℕ) (a : Phrase) (ts : List Token) : Type 0 where
   pub first : Token
@@ -57,11 +57,15 @@ pub record Reads (a : Phrase) : Type 0 where
 
 -- to its end
 pub ended : (a : Phrase) → Reads a → (e : ℕ) (c : Context) → Fine c → Good e a → fits c a ≡ true → (ts : List Token) → Stops e (Some c) a ts → Stays e (bound c) a ts → Soon (steps a + 3) (λ r. r.expr e c (spell a ts)) (Ok (a, ts))
-ended a h e c f g t ts s k n l = h.full e c f g t ts s 1 (Ok (a, ts)) (climb_ends e (bound c) a ts k) n (omega arith)
+ended a h e c f g t ts s k n l = h.full e c f g t ts s 1 (Ok (a, ts)) (climb_ends e c a ts k) n (omega arith)
 
 -- free, before a token that goes on nothing
 pub closed : (a : Phrase) → Reads a → (e : ℕ) → Good e a → (ts : List Token) → Calm e ts → Soon (steps a + 3) (λ r. r.expr e free (spell a ts)) (Ok (a, ts))
 closed a h e g ts k = ended a h e free tt g refl ts (calm_stops e (Some free) a ts g k) (calm_stays e 0 a ts k)
+
+-- and so behind `x \in`
+pub closed_behind : (a : Phrase) → Reads a → (e : ℕ) (q : Place) (x : Word) (r : Place) → Good e a → (ts : List Token) → Calm e ts → Soon (steps a + 3) (λ d. d.expr e (behind q x r) (spell a ts)) (Ok (a, ts))
+closed_behind a h e q x r g ts k = ended a h e (behind q x r) tt g refl ts (calm_stops e (Some (behind q x r)) a ts g k) (calm_stays e 0 a ts k)
 
 -- ---- lists
 abbrev pub is_end : TokenView → Bool
@@ -117,7 +121,7 @@ primary_reads a stop inner begins prime = record { begins = λ h. begins; prime 
 
     full : Full a
     full e c f g t ts s k o h =
-        step (λ r. r.expr e c (spell a ts)) o (omega arith) (λ n l. ap (λ (x : Out Phrase). then_read x (λ a us. (readers n None).climb e (bound c) a us)) (operand_is e a ts (begins e g ts) (readers n None) c ∙ read e (Some c) g ts s n (omega arith)) ∙ h n (omega arith))
+        step (λ r. r.expr e c (spell a ts)) o (omega arith) (λ n l. ap (λ (x : Out Phrase). then_read x (λ a us. (readers n None).climb e c a us)) (operand_is e a ts (begins e g ts) (readers n None) c ∙ read e (Some c) g ts s n (omega arith)) ∙ h n (omega arith))
 
 pub reads_number : (p : Place) (n : ℕ) → Reads (number p n)
 reads_number p n = primary_reads (number p n) (λ e d ts s. s) (λ e d ts s. tail_call (next e ts).kind s) (λ e g ts. record { first = token p (tk.number n); rest = ts; same_as = refl; right = g; as_operand = λ r c us. refl; as_short = λ r us. refl })
@@ -177,7 +181,7 @@ reads_infix a p o b ha hb = record { begins = λ h. absurd cc; prime = λ h. abs
         let v = ended b hb e (right_of o) tt gb m ts s k in
         let goes : goes_on (bound c) a p o ≡ true = rw (between, lt-ltb (bound c) (rank o).0 above, l) refl in
         ha.full e c f ga (fits_left c a o parts.0 above) more_ts (left_stops e c a p o more_ts ga parts.1 parts.0 above (seen_sign e p o (spell b ts) gp between)) (w + steps b + 4) out
-        (step (λ r. r.climb e (bound c) a more_ts) out (omega arith) (λ n l. rw (gp, sign_infix o between, goes, v n (omega arith)) (h n (omega arith)))) j (omega arith)
+        (step (λ r. r.climb e c a more_ts) out (omega arith) (λ n l. rw (gp, sign_infix o between, goes, v n (omega arith)) (h n (omega arith)))) j (omega arith)
 
 prefix_operand : (r : Readers) (e : ℕ) (c : Context) (p : Place) (o : Op) (us : List Token) → is_prefix o ≡ true → operand (any r) r e c p (sign_of o) us ≡ skip (under_by (is_free c o) r e o >>= λ a. gives (prefix_of p o a)) us
 prefix_operand r e c p op.Not us h = refl
@@ -212,4 +216,4 @@ reads_prefix p o a ha = record { begins = λ h. absurd cc; prime = λ h. absurd 
     full e c f g t ts s k out h =
         let v = under_read e c (is_free c o) refl g t ts s in
         step (λ r. r.expr e c (spell (prefix_of p o a) ts)) out
-        (omega arith) (λ n l. rw (g.2, ap (λ (x : Out Phrase). then_read x (λ a us. (readers n None).climb e (bound c) a us)) (prefix_operand (readers n None) e c p o (sign p o (spell a ts)) g.0), v n (omega arith)) (h n (omega arith)))
+        (omega arith) (λ n l. rw (g.2, ap (λ (x : Out Phrase). then_read x (λ a us. (readers n None).climb e c a us)) (prefix_operand (readers n None) e c p o (sign p o (spell a ts)) g.0), v n (omega arith)) (h n (omega arith)))

@@ -5,7 +5,7 @@ use Rattle.tla_expr.specs.Lexical.{TokenView, Token, token}
 use Rattle.tla_expr.specs.Lexical as tk
 use Rattle.tla_expr.specs.Spelling.{Phrase}
 pub use Rattle.tla_expr.specs.laws.Following.{is_tail, NoTail}
-use Rattle.tla_expr.specs.Reader.{any, Out, next, Readers, one_step, readers, goes_on, postfix_by, climb_by}
+use Rattle.tla_expr.specs.Reader.{any, Out, next, Context, bound, Readers, one_step, readers, goes_on, postfix_by, climb_by}
 
 -- with k steps, and with more, it gives o
 abbrev pub Soon : {A : Type 0} → ℕ → (Readers → Out A) → Out A → Type 0
@@ -34,12 +34,12 @@ postfix_stops r e a p (tk.mark tk.open_square) ts h = absurd cc
 postfix_stops r e a p (tk.mark tk.dot) ts h = absurd cc
 postfix_stops r e a p k ts h = refl
 
-climb_stops : (r : Readers) (e b : ℕ) (a : Phrase) (p : Place) (k : TokenView) (ts : List Token) → goes_by b a p k ≡ false → climb_by (any r) r e b a p k ts ≡ Ok (a, ts)
-climb_stops r e b a p (tk.sign o) ts h = rw h refl
-climb_stops r e b a p k ts h = refl
+climb_stops : (r : Readers) (e : ℕ) (c : Context) (a : Phrase) (p : Place) (k : TokenView) (ts : List Token) → goes_by (bound c) a p k ≡ false → climb_by (any r) r e c a p k ts ≡ Ok (a, ts)
+climb_stops r e c a p (tk.sign o) ts h = rw h refl
+climb_stops r e c a p k ts h = refl
 
 pub postfix_ends : (e : ℕ) (a : Phrase) (ts : List Token) → NoTail e ts → Soon 1 (λ r. r.postfix e a ts) (Ok (a, ts))
 postfix_ends e a ts h = step (λ r. r.postfix e a ts) (Ok (a, ts)) (omega arith) (λ n l. postfix_stops (readers n None) e a (next e ts).place (next e ts).kind ts h)
 
-pub climb_ends : (e b : ℕ) (a : Phrase) (ts : List Token) → Stays e b a ts → Soon 1 (λ r. r.climb e b a ts) (Ok (a, ts))
-climb_ends e b a ts h = step (λ r. r.climb e b a ts) (Ok (a, ts)) (omega arith) (λ n l. climb_stops (readers n None) e b a (next e ts).place (next e ts).kind ts h)
+pub climb_ends : (e : ℕ) (c : Context) (a : Phrase) (ts : List Token) → Stays e (bound c) a ts → Soon 1 (λ r. r.climb e c a ts) (Ok (a, ts))
+climb_ends e c a ts h = step (λ r. r.climb e c a ts) (Ok (a, ts)) (omega arith) (λ n l. climb_stops (readers n None) e c a (next e ts).place (next e ts).kind ts h)

@@ -11,7 +11,7 @@ use Rattle.tla_expr.specs.Spelling.{mark, sign, word, field_token, spell, spell_
 use Rattle.tla_expr.specs.Reader.{any, mark_number, fields_by, squares, field_rest, next, peek, a_mark, Readers, readers}
 use Rattle.tla_expr.proofs.Steps.{steps, steps_binds, steps_fields}
 use Rattle.tla_expr.proofs.ReadSoon.{Soon, step}
-use Rattle.tla_expr.proofs.ReadPhrases.{tail_call, Prime, Reads, closed, is_end, Ends, end_calm, primary_reads}
+use Rattle.tla_expr.proofs.ReadPhrases.{tail_call, Prime, Reads, closed, closed_behind, is_end, Ends, end_calm, primary_reads}
 use Rattle.tla_expr.proofs.ReadForms.{field_read, ReadsBinds, BindsRead}
 
 mark_read : (e : ℕ) (p : Place) (m : Mark) (ts : List Token) → Right e p → a_mark e m (mark p m ts) ≡ Ok (p, ts)
@@ -83,14 +83,14 @@ square_form p bs q a s read = primary_reads (function p bs q a s) (λ e d ts s. 
 
 pub reads_function_last : (p y : Place) (x : Word) (z : Place) (b : Phrase) (q : Place) (a : Phrase) (s : Place) → Reads b → Reads a → Reads (function p (last_bind y x z b) q a s)
 reads_function_last p y x z b q a s hb ha = square_form p (last_bind y x z b) q a s (λ e (gp, (gy, gz, gb), gq, ga, gs) ts. (
-    let v = closed b hb e gb (mark q tk.maps (spell a (mark s tk.close_square ts))) (rw gq refl) in
+    let v = closed_behind b hb e y x z gb (mark q tk.maps (spell a (mark s tk.close_square ts))) (rw gq refl) in
     let u = closed a ha e ga (mark s tk.close_square ts) (rw gs refl) in
     (λ n l. rw (gy, gz, v n (omega arith), gq, gq, u n (omega arith), gs) refl)))
 
 pub reads_function_bind : (p y : Place) (x : Word) (z : Place) (b : Phrase) (t : Place) (bs : Binds) (q : Place) (a : Phrase) (s : Place) → Reads b → ReadsBinds bs → Reads a → Reads (function p (bind y x z b t bs) q a s)
 reads_function_bind p y x z b t bs q a s hb hs ha = square_form p (bind y x z b t bs) q a s (λ e (gp, (gy, gz, gb, gt, gbs), gq, ga, gs) ts. (
     let us = mark q tk.maps (spell a (mark s tk.close_square ts)) in
-    let v = closed b hb e gb (mark t tk.comma (spell_binds bs us)) (rw gt refl) in
+    let v = closed_behind b hb e y x z gb (mark t tk.comma (spell_binds bs us)) (rw gt refl) in
     let w = hs e gbs us (rw gq refl) in
     let u = closed a ha e ga (mark s tk.close_square ts) (rw gs refl) in
     (λ n l. rw (gy, gz, v n (omega arith), gt, gt, w.same_as, w.right, w.reads n (omega arith), gq, u n (omega arith), gs) refl)))
@@ -112,6 +112,6 @@ reads_filter p q x r d t a u hd ha = primary_reads (filter p q x r d t a u) (λ 
   where
     prime : Prime (filter p q x r d t a u)
     prime e (gp, gq, gr, gd, gt, ga, gu) ts i k o h =
-        let v = closed d hd e gd (mark t tk.colon (spell a (mark u tk.close_brace ts))) (rw gt refl) in
+        let v = closed_behind d hd e q x r gd (mark t tk.colon (spell a (mark u tk.close_brace ts))) (rw gt refl) in
         let w = closed a ha e ga (mark u tk.close_brace ts) (rw gu refl) in
         (λ n l. rw (gp, gq, gr, v n (omega arith), gt, w n (omega arith), gu) (h n (omega arith)))

@@ -10,7 +10,7 @@ use Rattle.tla_expr.specs.Lexical as tk
 use Rattle.tla_expr.specs.Spelling.{Phrase, list, quantified, if_then_else, cases, local, infix_of, prefix_of}
 use Rattle.tla_expr.specs.Spelling.{Bullets, last_bullet, bullet, Arms, last_arm, other_arm, arm}
 use Rattle.tla_expr.specs.Spelling.{Good, GoodBullets, GoodArms, first_bullet, takes_box, last_takes_box, Right, head, is_above, is_applied, is_short, ends_open, end_list, is_behind, can_be_left, applied, primary, open_form, Head}
-use Rattle.tla_expr.specs.Reader.{next, end, is_sign, Context, free, right_of, under, bound, fits, is_free}
+use Rattle.tla_expr.specs.Reader.{next, end, is_sign, Context, free, right_of, under, behind, bound, fits, is_free}
 pub use Rattle.tla_expr.specs.laws.Following.{is_calm, Calm}
 use Rattle.tla_expr.proofs.ReadSoon.{is_tail, NoTail, Stays, goes_by}
 
@@ -292,6 +292,7 @@ Fine c = Unit {0}
 -- above the rank of its place
 pub above_bound : (c : Context) → Fine c → (a : Phrase) (p : Place) (q : Op) (b : Phrase) → is_prefix q ≡ false → fits c (infix_of a p q b) ≡ true → bound c < (rank q).0
 above_bound free f a p q b n h = some_low q
+above_bound (behind s x t) f a p q b n h = some_low q
 above_bound (right_of r) f a p q b n h = elim (or_cases (nat_lt (rank r).1 (rank q).0) false h) [ inl k ↦ ltb-true (rank r).1 (rank q).0 k | inr k ↦ absurd cc ]
 above_bound (under r) f a p q b n h = elim (or_cases (nat_lt (rank r).1 (rank q).0) (same_op r q || false) h) [
   | inl k ↦ ltb-true (rank r).1 (rank q).0 k
@@ -300,6 +301,7 @@ above_bound (under r) f a p q b n h = elim (or_cases (nat_lt (rank r).1 (rank q)
 
 free_above : (c : Context) (q : Op) → is_free c q ≡ true → bound c ≤ (rank q).1
 free_above free q e = omega arith
+free_above (behind s x t) q e = omega arith
 free_above (right_of r) q e = (let k = ltb-true (rank r).1 (rank q).0 e in let l = low_high q in omega arith)
 free_above (under r) q e = elim (or_cases (nat_lt (rank r).1 (rank q).0) (same_op r q) e) [
   | inl k ↦ (let m = ltb-true (rank r).1 (rank q).0 k in let l = low_high q in omega arith)
@@ -308,11 +310,13 @@ free_above (under r) q e = elim (or_cases (nat_lt (rank r).1 (rank q).0) (same_o
 
 free_from : (c : Context) (q : Op) → bound c < (rank q).0 → is_free c q ≡ true
 free_from free q l = refl
+free_from (behind s x t) q l = refl
 free_from (right_of r) q l = lt-ltb (rank r).1 (rank q).0 l
 free_from (under r) q l = rw (lt-ltb (rank r).1 (rank q).0 l) refl
 
 pub fits_short : (c : Context) (p : Place) (q : Op) (a : Phrase) → is_free c q ≡ false → fits c (prefix_of p q a) ≡ true → is_short a ≡ true
 fits_short free p q a e h = absurd cc
+fits_short (behind s x t) p q a e h = absurd cc
 fits_short (right_of r) p q a e h = rw e at h
 fits_short (under r) p q a e h = elim (or_cases (nat_lt (rank r).1 (rank q).0) (same_op r q || is_short a) h) [
   | inl k ↦ absurd (both_ways (nat_lt (rank r).1 (rank q).0 || same_op r q) e (rw k refl))
@@ -399,6 +403,7 @@ left_parts a p o h =
 -- it may be where the operator may
 pub fits_left : (c : Context) (a : Phrase) (o : Op) → Left o (head a) → bound c < (rank o).0 → fits c a ≡ true
 fits_left free a o l k = refl
+fits_left (behind s x t) a o l k = refl
 fits_left (right_of r) a o l k = rw (l.above r k) refl
 fits_left (under r) a o l k = rw (l.above r k) refl
 

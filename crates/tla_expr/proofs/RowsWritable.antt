@@ -9,7 +9,7 @@ use Rattle.tla_expr.specs.Lexical as tk
 use Rattle.tla_token.specs.declared.sign.Sign.TheVariants as sign
 use Rattle.tla_token.specs.Lexemes as lexeme
 use Rattle.tla_expr.specs.Spelling.{one, two}
-use Rattle.tla_expr.specs.laws.Writable.{IsWritable, IsSpelled}
+use Rattle.tla_expr.specs.laws.Writable.{IsOfText, AreSmall, IsWritable, IsSpelled}
 
 abbrev at : Place
 at = record { line = 1; col = 1 }
@@ -67,3 +67,13 @@ no_bound h = (let e : false ≡ true = h.1.0.1 in cc)
 -- the sign of a negation is that of a subtraction
 spelled_negation : IsSpelled (tk.sign op.Minus)
 spelled_negation = (lexeme.one sign.Minus, refl, refl)
+
+-- a reserved word of PlusCal is the name of a field at most, and a number of a text may be too large
+reserved_of_text : IsOfText (tk.reserved (codes "if"))
+reserved_of_text = ((refl, refl), refl)
+
+no_word_of_text : IsOfText (tk.word (codes "if")) → ⊥
+no_word_of_text h = (let e : false ≡ true = h.1 in cc)
+
+no_small : AreSmall (record { kind = lexeme.number (2 ^ 127); at = 0; place = at } ∷ []) → ⊥
+no_small h = omega (arith, h.0)

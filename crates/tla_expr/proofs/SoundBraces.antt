@@ -1,14 +1,14 @@
 -- What is read is spelled: after braces and square brackets.
-use Rattle.std.proofs.Common.{◌≡◌, ℕ, Bool, true, false, not, List, [], ◌∷◌, Option, Some, None, Ok, refl, sym, ap, ◌∙◌}
+use Rattle.std.proofs.Common.{◌≡◌, ℕ, true, false, not, List, [], Option, Some, None, Ok, refl, sym, ap, ◌∙◌}
 use Rattle.tla_token.specs.declared.place.Place.{Place}
 use Rattle.tla_expr.specs.declared.op.Op.TheVariants as op
 use Rattle.tla_expr.specs.Tree.{Word}
 use Rattle.tla_expr.specs.Lexical.{TokenView, Token, token}
 use Rattle.tla_expr.specs.Lexical as tk
-use Rattle.tla_expr.specs.Spelling.{Field, Phrase, no_set, set_of, filter, image, no_tuple, tuple, fields, records, function, functions, except}
-use Rattle.tla_expr.specs.Spelling.{last, more, Binds, last_bind, bind}
-use Rattle.tla_expr.specs.Spelling.{mark, key, sign, word, field_token, spell, spell_all, spell_binds, spell_fields, spell_settings, Right, Good, GoodBinds, is_word, is_in, is_bind}
-use Rattle.tla_expr.specs.Reader.{any, next, tail, peek, free, Readers, element, set_rest, image_rest, brace_rest, set_from, member_rest, brace_name, braces, tuples, field_rest, function_rest, square_rest, square_from, bind_rest, square_member, plain_field, square_name, squares}
+use Rattle.tla_expr.specs.Spelling.{Field, Phrase, set_of, filter, image, tuple, fields, records, function, functions, except}
+use Rattle.tla_expr.specs.Spelling.{last, more, Binds, last_bind}
+use Rattle.tla_expr.specs.Spelling.{mark, sign, word, field_token, spell, spell_binds, Right, Good, GoodBinds, is_word, is_in}
+use Rattle.tla_expr.specs.Reader.{any, next, tail, free, behind, Readers, element, set_rest, brace_rest, set_from, member_rest, brace_name, braces, tuples, field_rest, function_rest, square_rest, square_from, bind_rest, square_member, plain_field, square_name, squares}
 use Rattle.tla_expr.proofs.ReadMembers.{is_member, bind_member}
 use Rattle.tla_expr.proofs.SoundTokens.{then_ok, ok_is, given, seen, mark_ok, word_ok, ended_ok}
 use Rattle.tla_expr.proofs.SoundPhrases.{IsPrime, IsGroup, Sound, no_word, no_in, element_is, from_name_sound}
@@ -69,7 +69,7 @@ module _ (r : Readers) (h : Sound r) where
   brace_name_sound e p g q x gq t (tk.sign op.In) ts a us s o =
       let n = seen e ts t (tk.sign op.In) s refl in
       let v = then_ok o in
-      let w = h.expr e free (tail ts) v.0 v.1 v.2 in
+      let w = h.expr e (behind q x t) (tail ts) v.0 v.1 v.2 in
       moved e a us (member_rest_sound e p g q x t gq n.0 v.0 w.0 (next e v.1).place (next e v.1).kind v.1 a us refl v.3) (rw (w.2, n.1) refl)
   brace_name_sound e p g q x gq t k ts a us s o = brace_name_other e p g q x gq ts a us (ap (λ (i : Token). is_in i.kind) s) o
 
@@ -186,7 +186,7 @@ module _ (r : Readers) (h : Sound r) where
   square_name_sound e p g q x gq t (tk.sign op.In) ts a us s o =
       let n = seen e ts t (tk.sign op.In) s refl in
       let v = then_ok o in
-      let w = h.expr e free (tail ts) v.0 v.1 v.2 in
+      let w = h.expr e (behind q x t) (tail ts) v.0 v.1 v.2 in
       moved e a us (square_member_sound e p g q x t gq n.0 v.0 w.0 (next e v.1).place (next e v.1).kind v.1 a us refl v.3) (rw (w.2, n.1) refl)
   square_name_sound e p g q x gq t k ts a us s o = square_name_other e p g q x gq t ts a us o
 

@@ -1,10 +1,9 @@
 -- What is read is spelled: primaries, open forms, operators, and lists of all kinds.
-use Rattle.std.proofs.Common.{◌≡◌, ℕ, nat_eq, nat_lt, Bool, true, false, not, ◌&&◌, ◌||◌, List, ◌∷◌, Option, Some, None, Ok, refl, sym, ap, ◌∙◌, inl, inr}
+use Rattle.std.proofs.Common.{◌≡◌, ℕ, nat_lt, Bool, true, false, not, ◌&&◌, ◌||◌, List, Option, Some, None, Ok, Err, refl, sym, ◌∙◌, inl, inr}
 use Rattle.std.proofs.lemmas.Bool.{and_parts, or_cases, not-true}
 use Rattle.tla_token.specs.declared.place.Place.{Place}
 use Rattle.tla_expr.specs.declared.op.Op.{Op}
 use Rattle.tla_expr.specs.declared.op.Op.TheVariants as op
-use Rattle.tla_expr.specs.Tree.{Word}
 use Rattle.tla_expr.specs.Rank.{rank, is_prefix, is_bullet, same_op}
 use Rattle.tla_expr.specs.Lexical.{Mark, Key, TokenView, Token, token, sign_of}
 use Rattle.tla_expr.specs.Lexical as tk
@@ -12,13 +11,13 @@ use Rattle.tla_expr.specs.Spelling.{Field, Phrase, number, string, constant, bra
 use Rattle.tla_expr.specs.Spelling.{Phrases, last, more, Binds, share, Fields, last_field, field, Settings, last_setting, setting, Path, path_end, index, at_field, Bullets, last_bullet, bullet, Arms, last_arm, other_arm, arm, Locals, last_local, more_locals}
 use Rattle.tla_expr.specs.Spelling.{mark, key, sign, word, field_token, spell, spell_all, spell_binds, spell_fields, spell_settings, spell_path, spell_bullets, spell_arms, spell_locals, Right, Good, GoodAll, GoodBinds, GoodFields, GoodSettings, GoodPath, GoodBullets, GoodArms, GoodLocals, Head, primary, applied, open_form, head, is_primary, is_open, is_above, is_applied, is_short, first_bullet, can_be_left, can_be_under, can_be_head, is_some_path, takes_box}
 use Rattle.tla_expr.specs.Spelling as sp
-use Rattle.tla_expr.specs.Reader.{any, ◌>>=◌, gives, next, tail, peek, take, is_sign, bullet_of, Context, free, right_of, under, bound, fits, is_free, prefix_by, goes_on, Readers, list_if, keyed, under_by, signed, operand, short_signed, short_by, apply_if, select_if, postfix_by, climb_if, climb_by, phrases_by, binds_by, fields_by, settings_by, setting_if, path_by, bullets_if, arms_other, arms_if, arms_by, locals_by}
+use Rattle.tla_expr.specs.Reader.{any, ◌>>=◌, gives, next, tail, peek, take, is_sign, bullet_of, Context, free, right_of, under, behind, bound, fits, is_free, prefix_by, goes_on, Readers, list_if, keyed, under_by, signed, operand, short_signed, short_by, apply_if, select_if, postfix_by, climb_if, climb_by, phrases_by, binds_by, fields_by, settings_by, setting_if, path_by, bullets_if, arms_other, arms_if, arms_by, locals_by}
 use Rattle.tla_expr.specs.Reader as rd
 use Rattle.tla_expr.proofs.ReadStops.{sign_infix}
 use Rattle.tla_expr.proofs.ReadLists.{first_column}
-use Rattle.tla_expr.proofs.SoundTokens.{then_ok, ok_is, given, seen, take_ok, if_some, sign_is, mark_ok, key_ok, sign_ok, word_ok, field_ok}
-use Rattle.tla_expr.proofs.SoundPhrases.{Fitting, IsPrime, IsGroup, Sound, from_name_sound}
-use Rattle.tla_expr.proofs.SoundBraces.{braces_sound, tuples_sound, squares_sound, bind_rest_sound}
+use Rattle.tla_expr.proofs.SoundTokens.{then_ok, given, seen, mark_ok, key_ok, word_ok, field_ok}
+use Rattle.tla_expr.proofs.SoundPhrases.{Fitting, IsPrime, Sound, from_name_sound}
+use Rattle.tla_expr.proofs.SoundBraces.{braces_sound, tuples_sound, squares_sound}
 
 -- ---- where a phrase may be
 pub or_true : (x : Bool) → (x || true) ≡ true
@@ -32,6 +31,7 @@ above_all o open_form k = absurd cc
 
 pub prime_fits : (c : Context) (a : Phrase) → is_primary (head a) ≡ true → fits c a ≡ true
 prime_fits free a k = refl
+prime_fits (behind s x t) a k = refl
 prime_fits (right_of o) a k = rw (above_all o (head a) k) refl
 prime_fits (under o) a k = rw (above_all o (head a) k) refl
 
@@ -41,6 +41,7 @@ prime_short a k = k
 
 pub open_fits : (c : Context) (a : Phrase) → is_open (head a) ≡ true → fits c a ≡ true
 open_fits free a k = refl
+open_fits (behind s x t) a k = refl
 open_fits (right_of o) a k = rw k (or_true (is_above o (head a)))
 open_fits (under o) a k = rw (k, or_true (is_applied o (head a))) (or_true (is_above o (head a)))
 
@@ -50,16 +51,19 @@ short_under o a k = rw (k, or_true (is_open (head a)), or_true (is_applied o (he
 -- a prefix operator, with a short form or in a place where it is free
 pub short_fits : (c : Context) (p : Place) (q : Op) (a : Phrase) → is_short a ≡ true → fits c (prefix_of p q a) ≡ true
 short_fits free p q a k = refl
+short_fits (behind s x t) p q a k = refl
 short_fits (right_of o) p q a k = rw k (or_true (is_above o (applied q)))
 short_fits (under o) p q a k = rw (k, or_true (same_op o q)) (or_true (is_above o (applied q)))
 
 pub free_fits : (c : Context) (p : Place) (q : Op) (a : Phrase) → is_free c q ≡ true → fits c (prefix_of p q a) ≡ true
 free_fits free p q a k = refl
+free_fits (behind s x t) p q a k = refl
 free_fits (right_of o) p q a k = rw k refl
 free_fits (under o) p q a k = elim (or_cases (nat_lt (rank o).1 (rank q).0) (same_op o q) k) [ inl i ↦ rw i refl | inr i ↦ rw i (or_true (nat_lt (rank o).1 (rank q).0)) ]
 
 pub infix_fits : (c : Context) (a : Phrase) (p : Place) (o : Op) (d : Phrase) → nat_lt (bound c) (rank o).0 ≡ true → fits c (infix_of a p o d) ≡ true
 infix_fits free a p o d k = refl
+infix_fits (behind s x t) a p o d k = refl
 infix_fits (right_of q) a p o d k = rw k refl
 infix_fits (under q) a p o d k = rw k refl
 
@@ -76,6 +80,18 @@ pub bullet_sign : (o : Op) → is_bullet o ≡ true → sign_of o ≡ tk.sign o
 bullet_sign op.And h = refl
 bullet_sign op.Or h = refl
 bullet_sign o h = absurd cc
+
+abbrev pub is_infix : Phrase → Bool
+is_infix (infix_of a p o b) = true
+is_infix a = false
+
+pub prime_plain : (a : Phrase) → is_primary (head a) ≡ true → is_infix a ≡ false
+prime_plain (infix_of a p o b) h = absurd cc
+prime_plain a h = refl
+
+open_plain : (a : Phrase) → is_open (head a) ≡ true → is_infix a ≡ false
+open_plain (infix_of a p o b) h = absurd cc
+open_plain a h = refl
 
 abbrev IsOpen : ℕ → List Token → Phrase → List Token → Type 0
 IsOpen e ts a us = Good e a × (is_open (head a) ≡ true) × (spell a us ≡ ts)
@@ -222,6 +238,20 @@ module _ (r : Readers) (h : Sound r) where
   operand_sound e c p (tk.sign o) ts a us s i = signed_sound e c p o ts a us s i
   operand_sound e c p k ts a us s o = (let z = primary_sound e p k ts a us s o in (z.0, prime_fits c a z.1, z.2))
 
+  -- an operand is no infix form
+  prefix_plain : (p : Place) (q : Op) (o : rd.Out Phrase) (a : Phrase) (us : List Token) → rd.then_read o (λ d. gives (prefix_of p q d)) ≡ Ok (a, us) → is_infix a ≡ false
+  prefix_plain p q (Ok x) a us i = given (λ d vs. is_infix d ≡ false) {x = prefix_of p q x.0} {u = x.1} i refl
+  prefix_plain p q (Err x) a us i = absurd cc
+
+  signed_plain : (e : ℕ) (c : Context) (p : Place) (o : Op) (s : Option Op) (ts : List Token) (a : Phrase) (us : List Token) → next e ts ≡ token p (tk.sign o) → signed (any r) r e c p o s ts ≡ Ok (a, us) → is_infix a ≡ false
+  signed_plain e c p o (Some q) ts a us s i = prefix_plain p q (under_by (is_free c q) r e q (tail ts)) a us i
+  signed_plain e c p o None ts a us s i = prime_plain a (list_sound e p o ts a us i).1
+
+  pub operand_plain : (e : ℕ) (c : Context) (p : Place) (k : TokenView) (ts : List Token) (a : Phrase) (us : List Token) → next e ts ≡ token p k → operand (any r) r e c p k ts ≡ Ok (a, us) → is_infix a ≡ false
+  operand_plain e c p (tk.key k) ts a us s o = open_plain a (keyed_sound e p k ts a us s o).1
+  operand_plain e c p (tk.sign o) ts a us s i = signed_plain e c p o (prefix_by o) ts a us s i
+  operand_plain e c p k ts a us s o = prime_plain a (primary_sound e p k ts a us s o).1
+
   pub short_sound : (e : ℕ) (p : Place) (k : TokenView) (ts : List Token) (a : Phrase) (us : List Token) → next e ts ≡ token p k → short_by (any r) r e p k ts ≡ Ok (a, us) → Good e a × (is_short a ≡ true) × (spell a us ≡ ts)
   short_sound e p (tk.sign o) ts a us s i = by (prefix_by o) refl i
     where
@@ -261,10 +291,10 @@ module _ (r : Readers) (h : Sound r) where
       by false m o = given (λ d vs. IsPrime e (spell b ts) d vs) o (g, f, refl)
   postfix_sound e b g f p k ts a us s o = given (λ d vs. IsPrime e (spell b ts) d vs) o (g, f, refl)
 
-  pub climb_sound : (e : ℕ) (c : Context) (b : Phrase) → Good e b → fits c b ≡ true → (p : Place) (k : TokenView) (ts : List Token) (a : Phrase) (us : List Token) → next e ts ≡ token p k → climb_by (any r) r e (bound c) b p k ts ≡ Ok (a, us) → Fitting c e (spell b ts) a us
+  pub climb_sound : (e : ℕ) (c : Context) (b : Phrase) → Good e b → fits c b ≡ true → (p : Place) (k : TokenView) (ts : List Token) (a : Phrase) (us : List Token) → next e ts ≡ token p k → climb_by (any r) r e c b p k ts ≡ Ok (a, us) → Fitting c e (spell b ts) a us
   climb_sound e c b g f p (tk.sign o) ts a us s i = by (goes_on (bound c) b p o) refl i
     where
-      by : (m : Bool) → goes_on (bound c) b p o ≡ m → climb_if m (any r) r e (bound c) b p o ts ≡ Ok (a, us) → Fitting c e (spell b ts) a us
+      by : (m : Bool) → goes_on (bound c) b p o ≡ m → climb_if m (any r) r e c b p o ts ≡ Ok (a, us) → Fitting c e (spell b ts) a us
       by true m i =
           let n = seen e ts p (tk.sign o) s refl in
           let w = and_parts (not (is_prefix o)) (nat_lt (bound c) (rank o).0 && can_be_left b p o) m in

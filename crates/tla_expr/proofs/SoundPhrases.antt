@@ -1,6 +1,6 @@
 -- What is read is spelled: the claim for all readers, names, braces and square brackets.
-use Rattle.std.proofs.Common.{◌≡◌, ℕ, Bool, true, false, not, ◌&&◌, ◌||◌, List, [], ◌∷◌, Option, Some, None, Ok, if◌then◌else◌, refl, sym, ap, ◌∙◌}
-use Rattle.std.proofs.lemmas.Bool.{both_ways, not-true, or_cases}
+use Rattle.std.proofs.Common.{◌≡◌, ℕ, Bool, true, false, List, Option, Some, None, Ok, if◌then◌else◌, refl, sym, ap, ◌∙◌}
+use Rattle.std.proofs.lemmas.Bool.{both_ways}
 use Rattle.tla_token.specs.declared.place.Place.{Place}
 use Rattle.tla_expr.specs.declared.op.Op.{Op}
 use Rattle.tla_expr.specs.declared.op.Op.TheVariants as op
@@ -8,12 +8,12 @@ use Rattle.tla_expr.specs.Tree.{Word}
 use Rattle.tla_expr.specs.Rank.{is_bullet}
 use Rattle.tla_expr.specs.Lexical.{Mark, TokenView, Token, token}
 use Rattle.tla_expr.specs.Lexical as tk
-use Rattle.tla_expr.specs.Spelling.{Field, Phrase, name, primed, call, no_set, set_of, filter, image, no_tuple, tuple, fields, records, function, functions, except, infix_of, prefix_of}
-use Rattle.tla_expr.specs.Spelling.{Phrases, last, more, Binds, last_bind, bind, Fields, Settings, Path, Bullets, Arms, Locals}
-use Rattle.tla_expr.specs.Spelling.{mark, key, sign, word, field_token, spell, spell_all, spell_binds, spell_fields, spell_settings, spell_path, spell_bullets, spell_arms, spell_locals, Right, Good, GoodAll, GoodBinds, GoodFields, GoodSettings, GoodPath, GoodBullets, GoodArms, GoodLocals, head, is_primary, is_short, first_bullet, can_be_left, can_be_right, is_word, is_in, is_bind}
-use Rattle.tla_expr.specs.Reader.{any, next, tail, peek, Context, free, bound, fits, Readers, on_left, element, named, from_name, set_rest, image_rest, brace_rest, set_from, member_rest, brace_name, braces, tuples, field_rest, function_rest, square_rest, square_from, bind_rest, square_member, plain_field, square_name, squares}
-use Rattle.tla_expr.proofs.ReadMembers.{is_member, bind_member, member}
-use Rattle.tla_expr.proofs.SoundTokens.{then_ok, ok_is, seen, mark_ok, word_ok, ended_ok}
+use Rattle.tla_expr.specs.Spelling.{Field, Phrase, name, call, infix_of}
+use Rattle.tla_expr.specs.Spelling.{Phrases, Binds, Fields, Settings, Path, Bullets, Arms, Locals}
+use Rattle.tla_expr.specs.Spelling.{sign, word, field_token, spell, spell_all, spell_binds, spell_fields, spell_settings, spell_path, spell_bullets, spell_arms, spell_locals, Right, Good, GoodAll, GoodBinds, GoodFields, GoodSettings, GoodPath, GoodBullets, GoodArms, GoodLocals, head, is_primary, is_short, first_bullet, can_be_left, can_be_right, is_word, is_in}
+use Rattle.tla_expr.specs.Reader.{any, next, tail, Context, fits, Readers, on_left, element, named, from_name}
+use Rattle.tla_expr.proofs.ReadMembers.{is_member, member}
+use Rattle.tla_expr.proofs.SoundTokens.{then_ok, ok_is, seen, ended_ok}
 
 -- ---- the claim
 -- what was read from ts on, to us
@@ -30,7 +30,7 @@ pub record Sound (r : Readers) : Type 0 where
   pub expr : (e : ℕ) (c : Context) (ts : List Token) (a : Phrase) (us : List Token) → r.expr e c ts ≡ Ok (a, us) → Fitting c e ts a us
   pub short : (e : ℕ) (ts : List Token) (a : Phrase) (us : List Token) → r.short e ts ≡ Ok (a, us) → Good e a × (is_short a ≡ true) × (spell a us ≡ ts)
   pub postfix : (e : ℕ) (b : Phrase) → Good e b → is_primary (head b) ≡ true → (ts : List Token) (a : Phrase) (us : List Token) → r.postfix e b ts ≡ Ok (a, us) → IsPrime e (spell b ts) a us
-  pub climb : (e : ℕ) (c : Context) (b : Phrase) → Good e b → fits c b ≡ true → (ts : List Token) (a : Phrase) (us : List Token) → r.climb e (bound c) b ts ≡ Ok (a, us) → Fitting c e (spell b ts) a us
+  pub climb : (e : ℕ) (c : Context) (b : Phrase) → Good e b → fits c b ≡ true → (ts : List Token) (a : Phrase) (us : List Token) → r.climb e c b ts ≡ Ok (a, us) → Fitting c e (spell b ts) a us
   pub phrases : (e : ℕ) (ts : List Token) (xs : Phrases) (us : List Token) → r.phrases e ts ≡ Ok (xs, us) → GoodAll e xs × (spell_all xs us ≡ ts)
   pub binds : (e : ℕ) (p : Place) (x : Word) → Right e p → (ts : List Token) (bs : Binds) (us : List Token) → r.binds e p x ts ≡ Ok (bs, us) → GoodBinds e bs × (spell_binds bs us ≡ word p x ts)
   pub fields : (e : ℕ) (m : Mark) (f : Field) → Right e f.place → (ts : List Token) (fs : Fields) (us : List Token) → r.fields e m f ts ≡ Ok (fs, us) → GoodFields e fs × (spell_fields m fs us ≡ field_token f ts)

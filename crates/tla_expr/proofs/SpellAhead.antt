@@ -8,17 +8,17 @@ use Rattle.tla_expr.specs.Spelling.{Phrases, last, more, Binds, last_bind, bind,
 use Rattle.tla_expr.specs.Spelling.{spell, spell_all, spell_binds, spell_fields, spell_settings, spell_path, spell_bullets, spell_arms, spell_locals}
 
 -- tokens are put before those that come
-pub record Ahead (x : List Token → List Token) : Type 0 where
-  pub is : (v w : List Token) → x (v ++ w) ≡ x v ++ w
+pub record Ahead {A : Type 0} (x : List A → List A) : Type 0 where
+  pub is : (v w : List A) → x (v ++ w) ≡ x v ++ w
 
-pub held : Ahead (λ v. v)
+pub held : {A : Type 0} → Ahead (λ (v : List A). v)
 held = record { is = λ v w. refl }
 
-pub put_ahead : {t : Token} {x : List Token → List Token} → Ahead x → Ahead (λ v. t ∷ x v)
-put_ahead {t} {x} h = record { is = λ v w. ap (λ (u : List Token). t ∷ u) (h.is v w) }
+pub put_ahead : {A : Type 0} {t : A} {x : List A → List A} → Ahead x → Ahead (λ v. t ∷ x v)
+put_ahead {A} {t} {x} h = record { is = λ v w. ap (λ (u : List A). t ∷ u) (h.is v w) }
 
-pub then_ahead : {f x : List Token → List Token} → Ahead f → Ahead x → Ahead (λ v. f (x v))
-then_ahead {f} {x} g h = record { is = λ v w. ap f (h.is v w) ∙ g.is (x v) w }
+pub then_ahead : {A : Type 0} {f x : List A → List A} → Ahead f → Ahead x → Ahead (λ v. f (x v))
+then_ahead {A} {f} {x} g h = record { is = λ v w. ap f (h.is v w) ∙ g.is (x v) w }
 
 mutual
   pub ahead : (a : Phrase) → Ahead (spell a)

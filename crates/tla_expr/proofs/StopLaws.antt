@@ -1,5 +1,5 @@
 -- Reading stops at one token at most, by one rule; and what no phrase begins with.
-use Rattle.std.proofs.Common.{◌≡◌, ◌⊎◌, ℕ, zero, suc, ◌+◌, ◌<◌, ◌≤◌, Bool, true, false, ◌&&◌, List, [], ◌∷◌, ◌++◌, length, take, drop, map, get_or, Option, Some, None, Ok, Err, inl, inr, refl, sym, ap, ◌∙◌, subst, arith, length-append}
+use Rattle.std.proofs.Common.{◌≡◌, ◌⊎◌, ℕ, zero, suc, ◌+◌, ◌<◌, ◌≤◌, Bool, true, false, List, [], ◌∷◌, ◌++◌, length, take, drop, map, get_or, Option, Some, None, Ok, inl, inr, refl, sym, ap, ◌∙◌, subst, arith, length-append}
 use Rattle.std.specs.List.{list_all}
 use Rattle.std.proofs.lemmas.List.{append_assoc, take-append-drop}
 use Rattle.std.proofs.lemmas.List.Folds.{list_all-append}
@@ -8,9 +8,9 @@ use Rattle.tla_token.specs.declared.place.Place.{Place}
 use Rattle.tla_token.specs.declared.rule.Rule.{Rule}
 use Rattle.tla_token.specs.declared.rule.Refusal.{Refusal}
 use Rattle.tla_expr.specs.Lexical.{Token}
-use Rattle.tla_expr.specs.Spelling.{Phrase, Good, spell}
+use Rattle.tla_expr.specs.Spelling.{Phrase}
 use Rattle.tla_expr.specs.Reader.{Out, readers, free}
-use Rattle.tla_expr.specs.FirstStop.{Look, looks, Open, is_within, Grammar, Begins, Passes, StopRule, StopsAt, phrases, RefusesExpression}
+use Rattle.tla_expr.specs.FirstStop.{Look, looks, is_within, Grammar, Begins, Passes, StopRule, StopsAt, phrases, RefusesExpression}
 use Rattle.tla_expr.proofs.Steps.{steps}
 use Rattle.tla_expr.proofs.ReadPhrases.{closed}
 use Rattle.tla_expr.proofs.ReadAll.{reads}
@@ -29,7 +29,7 @@ fewer p n m xs h e =
     let w = longer n m xs h in
     (and_parts (list_all p (take n xs)) (list_all p w.0) (sym (list_all-append p (take n xs) w.0) ∙ ap (list_all p) (sym w.1) ∙ e)).0
 
-passes_before : (G : Grammar) (xs ys : List (Option Look)) → Passes G (xs ++ ys) → Passes G xs
+pub passes_before : (G : Grammar) (xs ys : List (Option Look)) → Passes G (xs ++ ys) → Passes G xs
 passes_before G xs ys (more, ns, g, few) =
     let l = length-append xs ys in
     (ys ++ more, ns, subst (λ (ks : List (Option Look)). G ks ns) (append_assoc xs ys more) g, fewer is_within (length xs) (length (xs ++ ys)) ns (omega arith) few)

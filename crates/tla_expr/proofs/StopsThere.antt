@@ -1,24 +1,22 @@
--- Where reading stops is where the grammar has its first token that can't come, and an earlier stop is one of depth.
-use Rattle.std.proofs.Common.{◌≡◌, ◌⊎◌, ℕ, suc, ◌<◌, ◌≤◌, true, List, [], ◌∷◌, ◌++◌, length, take, drop, map, get_or, Option, Some, None, Ok, Err, inl, inr, refl, sym, ap, ◌∙◌, subst, arith}
+-- Where reading stops is where the grammar has its first token that can't come, as long as what was passed passes.
+use Rattle.std.proofs.Common.{◌+◌, ◌*◌, ◌≡◌, ℕ, suc, ◌<◌, ◌≤◌, true, List, [], ◌∷◌, ◌++◌, length, take, drop, map, get_or, Option, Some, None, Ok, Err, inr, refl, sym, ap, ◌∙◌, subst, arith}
 use Rattle.std.specs.List.{list_all}
-use Rattle.std.proofs.lemmas.List.{append_assoc, append-nil, take-append-drop, append_cancel_right}
+use Rattle.std.proofs.lemmas.List.{append-nil, take-append-drop, append_cancel_right}
 use Rattle.std.proofs.Math.Seq.{take-append_seam}
 use Rattle.std.proofs.Math.Nat.{le-max_left, le-max_right}
 use Rattle.std.proofs.lemmas.List.Folds.{list_all-append}
-use Rattle.std.proofs.lemmas.Bool.{and_parts, cases_order, le-leb}
+use Rattle.std.proofs.lemmas.Bool.{and_parts, le-leb}
 use Rattle.tla_token.specs.declared.place.Place.{Place}
 use Rattle.tla_token.specs.declared.rule.Rule.{Rule}
-use Rattle.tla_token.specs.declared.rule.Rule.TheVariants.{TooDeep, Syntax}
+use Rattle.tla_token.specs.declared.rule.Rule.TheVariants.{Syntax}
 use Rattle.tla_token.specs.Limits.{deepest_expression}
 use Rattle.tla_expr.specs.Lexical.{Token}
 use Rattle.tla_expr.specs.Spelling.{Phrase, Good, spell, tree_of}
 use Rattle.tla_expr.specs.Nesting.{counts, greatest, text_nesting}
 use Rattle.tla_expr.specs.Reader.{read}
-use Rattle.tla_expr.specs.FirstStop.{Look, look, looks, to_end, is_within, Grammar, Begins, Passes, StopRule, StopsAt, in_expression, phrases, ReadsExpression, RefusesExpression}
-use Rattle.tla_expr.proofs.Columns.{begins}
-use Rattle.tla_expr.proofs.StopLaws.{longer, passes_begins}
+use Rattle.tla_expr.specs.FirstStop.{Look, look, looks, to_end, is_within, Begins, Passes, StopsAt, in_expression, phrases, ReadsExpression, RefusesExpression}
+use Rattle.tla_expr.proofs.StopLaws.{passes_begins}
 use Rattle.tla_expr.proofs.SoundLists.{read_is_spelled}
-use Rattle.tla_expr.proofs.SlowCounts.{few_pass}
 use Rattle.tla_expr.proofs.SpellAhead.{ahead}
 use Rattle.tla_expr.proofs.Alike.{rest_of}
 use Rattle.tla_expr.proofs.AlikeEndsSteps.{refused_after_none}
@@ -26,11 +24,11 @@ use Rattle.tla_expr.proofs.Farthest.{begun_none}
 use Rattle.tla_expr.proofs.MendedLists.{refused_is_mended}
 
 -- ---- tokens with the end after them
-before : (passed rest : List Token) → take (length passed) (to_end (passed ++ rest)) ≡ map Some (looks passed)
+pub before : (passed rest : List Token) → take (length passed) (to_end (passed ++ rest)) ≡ map Some (looks passed)
 before [] rest = refl
 before (t ∷ passed) rest = ap (λ (ks : List (Option Look)). Some (look t) ∷ ks) (before passed rest)
 
-through : (passed : List Token) (t : Token) (rest : List Token) → take (suc (length passed)) (to_end (passed ++ t ∷ rest)) ≡ map Some (looks (passed ++ t ∷ []))
+pub through : (passed : List Token) (t : Token) (rest : List Token) → take (suc (length passed)) (to_end (passed ++ t ∷ rest)) ≡ map Some (looks (passed ++ t ∷ []))
 through [] t rest = refl
 through (s ∷ passed) t rest = ap (λ (ks : List (Option Look)). Some (look s) ∷ ks) (through passed t rest)
 
@@ -38,7 +36,7 @@ through_end : (passed : List Token) → take (suc (length passed)) (to_end (pass
 through_end [] = refl
 through_end (t ∷ passed) = ap (λ (ks : List (Option Look)). Some (look t) ∷ ks) (through_end passed)
 
-is_there : (passed rest : List Token) → length passed < length (to_end (passed ++ rest))
+pub is_there : (passed rest : List Token) → length passed < length (to_end (passed ++ rest))
 is_there [] [] = omega arith
 is_there [] (t ∷ rest) = omega arith
 is_there (t ∷ passed) rest = (let h = is_there passed rest in omega (arith, h))
@@ -55,24 +53,18 @@ none_through e passed (t ∷ rest) stop b = begun_none e passed t rest stop (sub
 none_through e passed [] stop b = (let (more, ns, (a, g, s, c)) = subst (λ (ks : List (Option Look)). Begins (phrases e) ks) (through_end passed) b in never_ends (looks (spell a [])) (looks passed) more s)
 
 -- ---- what was passed begins a phrase
-pub refused_is_completed : (e : ℕ) (ts passed rest : List Token) (q : Rule) → read e ts ≡ Err (q, rest) → ts ≡ passed ++ rest → (fix : List Token) × (a : Phrase) × Good e a × (spell a [] ≡ passed ++ fix)
+pub refused_is_completed : (e : ℕ) (ts passed rest : List Token) (q : Rule) → read e ts ≡ Err (q, rest) → ts ≡ passed ++ rest → (fix : List Token) × (a : Phrase) × Good e a × (spell a [] ≡ passed ++ fix) × (length fix ≤ 16 * get_or (counts 0 a []) (length passed) 0 + 1)
 refused_is_completed e ts passed rest q o s =
     let m = refused_is_mended e ts (q, rest) o in
     let same : m.0 ≡ passed = append_cancel_right m.0 passed rest (sym m.3 ∙ s) in
-    (m.1, m.2, m.4, m.5 ∙ ap (λ (k : List Token). k ++ m.1) same)
-
-refused_begins : (e : ℕ) (ts passed rest : List Token) (q : Rule) → read e ts ≡ Err (q, rest) → ts ≡ passed ++ rest → Begins (phrases e) (map Some (looks passed))
-refused_begins e ts passed rest q o s = (let m = refused_is_completed e ts passed rest q o s in begins e passed m.0 m.1 m.2 m.3)
-
-read_begins : (e : ℕ) (a : Phrase) → Good e a → Begins (phrases e) (map Some (looks (spell a [])))
-read_begins e a g = begins e (spell a []) [] a g (sym (append-nil (spell a [])))
+    (m.1, m.2, m.4, m.5 ∙ ap (λ (k : List Token). k ++ m.1) same, subst (λ (k : List Token). length m.1 ≤ 16 * get_or (counts 0 m.2 []) (length k) 0 + 1) same m.6)
 
 -- the tokens of a phrase that is no deeper than it may be
 all_within : (ns : List ℕ) → greatest ns ≤ deepest_expression → list_all is_within (map in_expression ns) ≡ true
 all_within [] h = refl
 all_within (n ∷ ns) h = rw (le-leb n deepest_expression (omega (arith, h, le-max_left n (greatest ns))), all_within ns (omega (arith, h, le-max_right n (greatest ns)))) refl
 
-read_passes : (a : Phrase) → Good 0 a → text_nesting a ≤ deepest_expression → Passes (phrases 0) (map Some (looks (spell a [])))
+pub read_passes : (a : Phrase) → Good 0 a → text_nesting a ≤ deepest_expression → Passes (phrases 0) (map Some (looks (spell a [])))
 read_passes a g h =
     let ks = map Some (looks (spell a [])) in
     let ns = map in_expression (counts 0 a []) in
@@ -105,46 +97,8 @@ read_there ts rest a o p =
 pub read_stops : (ts rest : List Token) (a : Phrase) → read 0 ts ≡ Ok (a, rest) → text_nesting a ≤ deepest_expression → ReadsExpression ts (length (spell a [])) (tree_of a)
 read_stops ts rest a o h = read_there ts rest a o (λ g. read_passes a g h)
 
-pub few_are_read : (ts rest : List Token) (a : Phrase) → read 0 ts ≡ Ok (a, rest) → length (spell a []) ≤ deepest_expression → ReadsExpression ts (length (spell a [])) (tree_of a)
-few_are_read ts rest a o h = read_there ts rest a o (λ g. few_pass a g (spell a []) [] (sym (append-nil (spell a []))) h)
-
 refused_stops : (ts passed rest : List Token) (q : Rule) → read 0 ts ≡ Err (q, rest) → ts ≡ passed ++ rest → Passes (phrases 0) (map Some (looks passed)) → StopsAt (phrases 0) (to_end ts) (length passed) Syntax
 refused_stops ts passed rest q o s p = stops_at ts passed rest (ap rest_of o) s p
-
--- ---- another stop is an earlier one, of depth
-abbrev Stops : List Token → ℕ → Rule → Type 0
-Stops passed n r = ((n ≡ length passed) × (r ≡ Syntax)) ⊎ ((n < length passed) × (r ≡ TooDeep))
-
-begins_shorter : (G : Grammar) (ks : List (Option Look)) (n m : ℕ) → n ≤ m → Begins G (take m ks) → Begins G (take n ks)
-begins_shorter G ks n m h b =
-    let w = longer n m ks h in
-    let (more, ns, g) = subst (λ (ls : List (Option Look)). Begins G ls) w.1 b in
-    (w.0 ++ more, ns, subst (λ (ls : List (Option Look)). G ls ns) (append_assoc (take n ks) w.0 more) g)
-
-one_of_two : (passed rest : List Token) → rest_of (read 0 (passed ++ rest)) ≡ rest → Begins (phrases 0) (map Some (looks passed)) → (n : ℕ) (r : Rule) → StopsAt (phrases 0) (to_end (passed ++ rest)) n r → Stops passed n r
-one_of_two passed rest stop begun n r s = by (cases_order n (length passed)) s.rule
-  where
-    at_end : Begins (phrases 0) (take (length passed) (to_end (passed ++ rest)))
-    at_end = subst (λ (ls : List (Option Look)). Begins (phrases 0) ls) (sym (before passed rest)) begun
-
-    by : (n ≡ length passed) ⊎ ((n < length passed) ⊎ (length passed < n)) → StopRule (phrases 0) (take (suc n) (to_end (passed ++ rest))) r → Stops passed n r
-    by (inl e) (inl b) = absurd (none_through 0 passed rest stop (subst (λ (k : ℕ). Begins (phrases 0) (take (suc k) (to_end (passed ++ rest)))) e b.1))
-    by (inl e) (inr b) = inl (e, b.0)
-    by (inr (inl l)) (inl b) = inr (l, b.0)
-    by (inr (inl l)) (inr b) = absurd (b.1 (begins_shorter (phrases 0) (to_end (passed ++ rest)) (suc n) (length passed) (omega (arith, l)) at_end))
-    by (inr (inr l)) b = absurd (none_through 0 passed rest stop (begins_shorter (phrases 0) (to_end (passed ++ rest)) (suc (length passed)) n (omega (arith, l)) (passes_begins (phrases 0) _ s.passed)))
-
-other_stop : (ts passed rest : List Token) → rest_of (read 0 ts) ≡ rest → ts ≡ passed ++ rest → Begins (phrases 0) (map Some (looks passed)) → (n : ℕ) (r : Rule) → StopsAt (phrases 0) (to_end ts) n r → Stops passed n r
-other_stop ts passed rest stop s begun n r t =
-    one_of_two passed rest (ap (λ (us : List Token). rest_of (read 0 us)) (sym s) ∙ stop) begun n r (subst (λ (us : List Token). StopsAt (phrases 0) (to_end us) n r) s t)
-
-pub earlier_than_read : (ts rest : List Token) (a : Phrase) → read 0 ts ≡ Ok (a, rest) → (n : ℕ) (r : Rule) → StopsAt (phrases 0) (to_end ts) n r → ((n ≡ length (spell a [])) × (r ≡ Syntax)) ⊎ ((n < length (spell a [])) × (r ≡ TooDeep))
-earlier_than_read ts rest a o n r t =
-    let w = read_is_spelled 0 ts rest a o in
-    other_stop ts (spell a []) rest (ap rest_of o) (w.1 ∙ (ahead a).is [] rest) (read_begins 0 a w.0) n r t
-
-pub earlier_than_refused : (ts passed rest : List Token) (q : Rule) → read 0 ts ≡ Err (q, rest) → ts ≡ passed ++ rest → (n : ℕ) (r : Rule) → StopsAt (phrases 0) (to_end ts) n r → ((n ≡ length passed) × (r ≡ Syntax)) ⊎ ((n < length passed) × (r ≡ TooDeep))
-earlier_than_refused ts passed rest q o s n r t = other_stop ts passed rest (ap rest_of o) s (refused_begins 0 ts passed rest q o s) n r t
 
 -- ---- a refusal
 pub refused_at : (ts passed rest : List Token) (end : Place) (q : Rule) → read 0 ts ≡ Err (q, rest) → ts ≡ passed ++ rest → Passes (phrases 0) (map Some (looks passed)) → RefusesExpression ts end (record { rule = Syntax; place = get_or (map (λ (t : Token). t.place) ts) (length passed) end })
@@ -156,8 +110,3 @@ refused_at ts passed rest end q o s p = record {
       (let front : take (length passed) ts ≡ passed = ap (λ (us : List Token). take (length passed) us) s ∙ take-append_seam passed rest in
       refused_after_none 0 passed rest q (ap (λ (us : List Token). read 0 us) (sym s) ∙ o) r.spelled.0 r.spelled.1 (sym front ∙ r.spelled.2));
 }
-
-pub few_are_refused : (ts passed rest : List Token) (end : Place) (q : Rule) → read 0 ts ≡ Err (q, rest) → ts ≡ passed ++ rest → length passed ≤ deepest_expression → RefusesExpression ts end (record { rule = Syntax; place = get_or (map (λ (t : Token). t.place) ts) (length passed) end })
-few_are_refused ts passed rest end q o s l =
-    let m = refused_is_completed 0 ts passed rest q o s in
-    refused_at ts passed rest end q o s (few_pass m.1 m.2 passed m.0 m.3 l)

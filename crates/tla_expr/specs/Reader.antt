@@ -1,5 +1,5 @@
 -- Reading an expression from left to right, as a function of its tokens ("Specifying Systems", chapter 15).
-use Rattle.std.specs.Prelude.{◌≡◌, ℕ, zero, suc, ◌+◌, ◌-◌, ◌*◌, Bool, true, false, ◌||◌, ◌&&◌, not, nat_lt, nat_le, nat_eq, List, [], ◌∷◌, Option, Some, None, Result, Ok, Err, length, if◌then◌else◌, option_map}
+use Rattle.std.specs.Prelude.{ℕ, zero, suc, ◌+◌, ◌-◌, ◌*◌, Bool, true, false, ◌||◌, ◌&&◌, not, nat_lt, nat_le, nat_eq, List, [], ◌∷◌, Option, Some, None, Result, Ok, Err, length, if◌then◌else◌, min, option_map}
 use Rattle.tla_token.specs.declared.place.Place.{Place}
 use Rattle.tla_token.specs.Places.{nowhere}
 use Rattle.tla_token.specs.declared.rule.Rule.{Rule}
@@ -14,7 +14,7 @@ use Rattle.tla_expr.specs.Lexical as tk
 use Rattle.tla_expr.specs.Spelling.{Field, Phrase, number, string, constant, name, primed, call, brackets, no_set, set_of, filter, image, no_tuple, tuple, fields, records, function, functions, except, apply, select, list, quantified, if_then_else, cases, local, infix_of, prefix_of}
 use Rattle.tla_expr.specs.Spelling.{Phrases, last, more, Binds, last_bind, bind, share, Fields, last_field, field, Settings, last_setting, setting, Path, path_end, index, at_field, Bullets, last_bullet, bullet, Arms, last_arm, other_arm, arm, Locals, last_local, more_locals}
 use Rattle.tla_expr.specs.Nesting.{chain, links, text_nesting}
-use Rattle.tla_expr.specs.Spelling.{can_be_left, can_be_right, can_be_under, can_be_head, is_some_path, takes_box}
+use Rattle.tla_expr.specs.Spelling.{applied, is_above, can_be_left, can_be_right, can_be_under, can_be_head, is_some_path, takes_box}
 
 -- the rule, and the tokens from the refused one on
 abbrev pub Stop : Type 0
@@ -150,28 +150,30 @@ a_word e = take e word_of
 abbrev pub a_field : ℕ → Reader Field
 a_field e = take e field_of
 
--- ---- where an expression is: free, to the right of an operator, or under a prefix operator
+-- ---- where an expression is: free, to the right of an operator, under a prefix operator, or behind `x \in` after `{` or `[`: then all of it is a set for x, or
+-- a part of it that goes to the right of that `\in`, and operators after it
 pub data Context : Type 0 where
   free : Context
   right_of : Op → Context
   under : Op → Context
+  behind : Place → Word → Place → Context
 
 -- the rank that its operators are above
 abbrev pub bound : Context → ℕ
-bound free = 0
 bound (right_of o) = (rank o).1
 bound (under o) = (rank o).1
+bound c = 0
 
 abbrev pub fits : Context → Phrase → Bool
-fits free a = true
 fits (right_of o) a = can_be_right o a
 fits (under o) a = can_be_under o a
+fits c a = true
 
 -- a prefix operator that may have more than a short form under it
 abbrev pub is_free : Context → Op → Bool
-is_free free q = true
 is_free (right_of o) q = nat_lt (rank o).1 (rank q).0
 is_free (under o) q = nat_lt (rank o).1 (rank q).0 || same_op o q
+is_free c q = true
 
 -- the prefix operator of a sign
 abbrev pub prefix_by : Op → Option Op
@@ -200,7 +202,7 @@ pub record Readers : Type 0 where
   pub expr : ℕ → Context → Reader Phrase
   pub short : ℕ → Reader Phrase  -- a primary, or a prefix operator with a short form
   pub postfix : ℕ → Phrase → Reader Phrase  -- so far, and then `[a]` and `.b`
-  pub climb : ℕ → ℕ → Phrase → Reader Phrase  -- so far, and then operators above this rank
+  pub climb : ℕ → Context → Phrase → Reader Phrase  -- so far, and then operators
   pub phrases : ℕ → Reader Phrases
   pub binds : ℕ → Place → Word → Reader Binds  -- after a first name
   pub fields : ℕ → Mark → Field → Reader Fields  -- after a first name
@@ -220,17 +222,53 @@ pub record Room : Type 0 where
 abbrev pub within : ℕ → Room → Room
 within k m = record { at = λ n. m.at (suc k + n); fits = λ n. m.fits (suc k + n) }
 
+-- with these readers, or refused
+abbrev pub read_by : {A : Type 0} → Option Readers → (Readers → Reader A) → Reader A
+read_by (Some d) f = f d
+read_by None f = too_deep
+
 -- with one more form open, and so many besides, or refused
 abbrev pub opened : {A : Type 0} → Room → ℕ → (Room → Readers → Reader A) → Reader A
-opened {A} m k f = by (m.at (suc k))
-  where
-    by : Option Readers → Reader A
-    by (Some d) = f (within k m) d
-    by None = too_deep
+opened m k f = read_by (m.at (suc k)) (f (within k m))
 
 -- wherever any number of forms may be open
 abbrev pub any : Readers → Room
 any r = record { at = λ n. Some r; fits = λ n a. true }
+
+-- ---- what is open at an operator after a phrase so far
+abbrev pub is_behind_in : Context → Bool
+is_behind_in (behind p x q) = true
+is_behind_in c = false
+
+-- where the phrase is behind `x \in`, and the operator goes to the right of the part that is in it
+abbrev pub chain_of : Room → Option Phrase → Place → Op → Option ℕ
+chain_of m (Some a) p o = if not (is_above op.In (applied o)) && (can_be_left a p o && m.fits 0 a) then Some (chain a) else None
+chain_of m None p o = None
+
+abbrev pub chain_behind : Room → Context → Phrase → Place → Op → Option ℕ
+chain_behind m (behind p x q) a r o = chain_of m (element p x q a) r o
+chain_behind m c a r o = None
+
+abbrev pub at_most : ℕ → Option ℕ → ℕ
+at_most n (Some k) = min n k
+at_most n None = n
+
+abbrev pub fewest : Option ℕ → Option ℕ → Option ℕ
+fewest (Some n) k = Some (at_most n k)
+fewest None k = k
+
+-- the fewest operators of the chain so far, of those that it can be; none, where all are too deep
+abbrev pub so_far : Room → Context → Phrase → Place → Op → Option ℕ
+so_far m c a p o = fewest (if m.fits 0 a || not (is_behind_in c) then Some (chain a) else None) (chain_behind m c a p o)
+
+abbrev pub opened_after : {A : Type 0} → Room → Option ℕ → (Room → Readers → Reader A) → Reader A
+opened_after m (Some k) f = opened m k f
+opened_after m None f = too_deep
+
+-- if a phrase fits, and else it is too deep
+abbrev pub if_fits : {A : Type 0} → Bool → Reader A → Reader A
+if_fits true f = f
+if_fits false f = too_deep
 
 -- a, then a mark, and what both make
 abbrev pub ended : {A : Type 0} → ℕ → Mark → (Place → A) → Reader A
@@ -257,23 +295,18 @@ abbrev pub brace_rest : Readers → ℕ → Place → Phrase → Place → Token
 brace_rest r e p a q (tk.mark tk.colon) = skip (image_rest r e p a q)
 brace_rest r e p a q k = set_rest r e p a q k
 
--- if a phrase fits, and else it is too deep
-abbrev pub if_fits : {A : Type 0} → Bool → Reader A → Reader A
-if_fits true f = f
-if_fits false f = too_deep
-
 abbrev pub set_from : Room → Readers → ℕ → Place → Option Phrase → Reader Phrase
 set_from m r e p (Some a) = peek e (λ q k. if_fits (m.fits 0 a || not (is_mark tk.comma k || is_mark tk.close_brace k)) (set_rest r e p a q k))
 set_from m r e p None = refuses
 
 -- after `{x \in S`
 abbrev pub member_rest : Room → Readers → ℕ → Place → Place → Word → Place → Phrase → Place → TokenView → Reader Phrase
-member_rest m r e p q x s a t (tk.mark tk.colon) = skip (r.expr e free >>= λ b. ended e tk.close_brace (λ u. filter p q x s a t b u))
+member_rest m r e p q x s a t (tk.mark tk.colon) = if_fits (m.fits 0 a) (skip (r.expr e free >>= λ b. ended e tk.close_brace (λ u. filter p q x s a t b u)))
 member_rest m r e p q x s a t k = set_from m r e p (element q x s a)
 
 abbrev pub brace_name : Room → Readers → ℕ → Place → Place → Word → Place → TokenView → Reader Phrase
-brace_name m r e p q x s (tk.sign op.In) = skip (r.expr e free >>= λ a. peek e (member_rest m r e p q x s a))
-brace_name m r e p q x s k = from_name m r e q x >>= λ a. r.climb e 0 a >>= λ b. peek e (brace_rest r e p b)
+brace_name m r e p q x s (tk.sign op.In) = skip (r.expr e (behind q x s) >>= λ a. peek e (member_rest m r e p q x s a))
+brace_name m r e p q x s k = from_name m r e q x >>= λ a. r.climb e free a >>= λ b. peek e (brace_rest r e p b)
 
 abbrev pub braces : Room → Readers → ℕ → Place → Place → TokenView → Reader Phrase
 braces m r e p q (tk.mark tk.close_brace) = skip (gives (no_set p q))
@@ -310,8 +343,8 @@ bind_rest r e p x q a s k = gives (last_bind p x q a)
 
 -- after `[x \in S`
 abbrev pub square_member : Room → Readers → ℕ → Place → Place → Word → Place → Phrase → Place → TokenView → Reader Phrase
-square_member m r e p q x s a t (tk.mark tk.maps) = function_rest r e p (last_bind q x s a)
-square_member m r e p q x s a t (tk.mark tk.comma) = peek e (bind_rest r e q x s a) >>= λ bs. function_rest r e p bs
+square_member m r e p q x s a t (tk.mark tk.maps) = if_fits (m.fits 0 a) (function_rest r e p (last_bind q x s a))
+square_member m r e p q x s a t (tk.mark tk.comma) = if_fits (m.fits 0 a) (peek e (bind_rest r e q x s a) >>= λ bs. function_rest r e p bs)
 square_member m r e p q x s a t k = square_from m r e p (element q x s a)
 
 abbrev pub plain_field : Place → Word → Field
@@ -321,8 +354,8 @@ abbrev pub square_name : Room → Readers → ℕ → Place → Place → Word �
 square_name m r e p q x s (tk.mark tk.maps) = field_rest r e p (plain_field q x) s (tk.mark tk.maps)
 square_name m r e p q x s (tk.mark tk.colon) = field_rest r e p (plain_field q x) s (tk.mark tk.colon)
 square_name m r e p q x s (tk.mark tk.comma) = r.binds e q x >>= λ bs. function_rest r e p bs
-square_name m r e p q x s (tk.sign op.In) = skip (r.expr e free >>= λ a. peek e (square_member m r e p q x s a))
-square_name m r e p q x s k = from_name m r e q x >>= λ a. r.climb e 0 a >>= λ b. peek e (square_rest r e p b)
+square_name m r e p q x s (tk.sign op.In) = skip (r.expr e (behind q x s) >>= λ a. peek e (square_member m r e p q x s a))
+square_name m r e p q x s k = from_name m r e q x >>= λ a. r.climb e free a >>= λ b. peek e (square_rest r e p b)
 
 abbrev pub squares : Room → Readers → ℕ → Place → Place → TokenView → Reader Phrase
 squares m r e p q (tk.reserved x) = skip (peek e (field_rest r e p (record { place = q; is_reserved = true; text = x })))
@@ -397,13 +430,13 @@ postfix_by m r e a p (tk.mark tk.open_square) = apply_if (can_be_head a p) m r e
 postfix_by m r e a p (tk.mark tk.dot) = select_if (can_be_head a p) m r e a p
 postfix_by m r e a p k = gives a
 
-abbrev pub climb_if : Bool → Room → Readers → ℕ → ℕ → Phrase → Place → Op → Reader Phrase
-climb_if true m r e b a p o = opened m (chain a) (λ i d. skip (d.expr e (right_of o) >>= λ s. r.climb e b (infix_of a p o s)))
-climb_if false m r e b a p o = gives a
+abbrev pub climb_if : Bool → Room → Readers → ℕ → Context → Phrase → Place → Op → Reader Phrase
+climb_if true m r e c a p o = opened_after m (so_far m c a p o) (λ i d. skip (d.expr e (right_of o) >>= λ s. r.climb e c (infix_of a p o s)))
+climb_if false m r e c a p o = gives a
 
-abbrev pub climb_by : Room → Readers → ℕ → ℕ → Phrase → Place → TokenView → Reader Phrase
-climb_by m r e b a p (tk.sign o) = climb_if (goes_on b a p o) m r e b a p o
-climb_by m r e b a p k = gives a
+abbrev pub climb_by : Room → Readers → ℕ → Context → Phrase → Place → TokenView → Reader Phrase
+climb_by m r e c a p (tk.sign o) = climb_if (goes_on (bound c) a p o) m r e c a p o
+climb_by m r e c a p k = gives a
 
 -- ---- lists
 abbrev pub phrases_by : Readers → ℕ → Phrase → Place → TokenView → Reader Phrases
@@ -460,10 +493,10 @@ locals_by r e p x q a s k = gives (last_local p x q a)
 -- one step of each, over readers of what is left
 abbrev pub one_step : Room → Readers → Readers
 one_step m r = record {
-  expr = λ e c. peek e (operand m r e c) >>= λ a. r.climb e (bound c) a;
+  expr = λ e c. peek e (operand m r e c) >>= λ a. r.climb e c a;
   short = λ e. peek e (short_by m r e);
   postfix = λ e a. peek e (postfix_by m r e a);
-  climb = λ e b a. peek e (climb_by m r e b a);
+  climb = λ e c a. peek e (climb_by m r e c a);
   phrases = λ e. r.expr e free >>= λ a. peek e (phrases_by r e a);
   binds = λ e p x. peek e (binds_by r e p x);
   fields = λ e m f. a_mark e m >>= λ p. r.expr e free >>= λ a. peek e (fields_by r e m f p a);
@@ -479,7 +512,7 @@ no_steps = record {
   expr = λ e c. refuses;
   short = λ e. refuses;
   postfix = λ e a. refuses;
-  climb = λ e b a. refuses;
+  climb = λ e c a. refuses;
   phrases = λ e. refuses;
   binds = λ e p x. refuses;
   fields = λ e m f. refuses;

@@ -1,10 +1,10 @@
 //! Laws of expressions, stated as what functions without a body ensure.
 
-ghost use Rattle.std.specs.Prelude.{◌≡◌, ◌⊎◌, ◌++◌, ℕ, ◌<◌, ◌≤◌, Bool, true, false, List, [], ◌∷◌, length, map, get_or, Some, None, Ok, Err};
-ghost use Rattle.tla_expr.specs.Tree.{Tree};
+ghost use Rattle.std.specs.Prelude.{◌≡◌, ◌⊎◌, ◌++◌, ℕ, ◌+◌, ◌*◌, ◌<◌, ◌≤◌, Bool, true, false, List, [], ◌∷◌, length, map, get_or, Some, None, Ok, Err};
+ghost use Rattle.tla_expr.specs.Tree.{Word, Tree, Graft, graft};
 ghost use Rattle.tla_expr.specs.Lexical.{Token};
 ghost use Rattle.tla_expr.specs.Spelling.{Phrase, spell, tree_of, Good, IsGood, Spells, head, primary, end_list};
-ghost use Rattle.tla_expr.specs.Reader.{read};
+ghost use Rattle.tla_expr.specs.Reader.{read, read_limited};
 ghost use Rattle.tla_token.specs.declared.place.Place.{Place};
 ghost use Rattle.tla_token.specs.declared.rule.Refusal.{Refusal};
 ghost use Rattle.tla_token.specs.declared.rule.Rule.{Rule};
@@ -19,7 +19,7 @@ ghost use Rattle.tla_token.specs.Tokens.{Tok};
 ghost use Rattle.tla_expr.specs.TokenViews.{views};
 ghost use Rattle.tla_expr.specs.laws.InText.{IsSpelling, IsCut};
 ghost use Rattle.tla_expr.specs.laws.Following.{Calm, NoTail};
-ghost use Rattle.tla_expr.specs.laws.Writable.{IsWritable, AreSpelled};
+ghost use Rattle.tla_expr.specs.laws.Writable.{IsWritable, AreSpelled, AreOfText, AreSmall};
 ghost use Rattle.tla_expr.specs.laws.Placeless.{tree_placeless};
 ghost use Rattle.tla_expr.specs.laws.Bracketed.{as_operand, part, phrase_of, kinds, tokens_of};
 
@@ -45,24 +45,24 @@ pub fn nothing_passes_where_reading_stops()
 {}
 
 /// And a refusal is not late: what was passed before the refused token, or before the end, can be gone on with to a whole
-/// expression, with those tokens in their columns.
+/// expression, with those tokens in their columns, by at most 16 tokens for each form that is open at the first of them, and one; and with the limit, to one that is no deeper.
 pub fn refusals_are_at_the_earliest_place()
-    ensures { (edge : ℕ) (ts passed rest : List Token) (r : Rule) → read edge ts ≡ Err (r, rest) → ts ≡ passed ++ rest → (fix : List Token) × (a : Phrase) × Good edge a × (spell a [] ≡ passed ++ fix) }
+    ensures whole { (edge : ℕ) (ts passed rest : List Token) (r : Rule) → read edge ts ≡ Err (r, rest) → ts ≡ passed ++ rest → (fix : List Token) × (a : Phrase) × Good edge a × (spell a [] ≡ passed ++ fix) × (length fix ≤ 16 * get_or (counts 0 a []) (length passed) 0 + 1) }
+    ensures within { (ts passed rest : List Token) (r : Rule) → read_limited ts ≡ Err (r, rest) → ts ≡ passed ++ rest → (fix : List Token) × (a : Phrase) × IsGood a × (spell a [] ≡ passed ++ fix) × (text_nesting a ≤ deepest_expression) × (length fix ≤ 16 * get_or (counts 0 a []) (length passed) 0 + 1) }
 {}
 
-/// So reading stops at the first token that doesn't pass, where nothing before it is too deep; and if there is an earlier one,
-/// it is one of depth.
-pub fn reading_stops_at_the_first_token()
-    ensures read { (ts rest : List Token) (a : Phrase) → read 0 ts ≡ Ok (a, rest) → text_nesting a ≤ deepest_expression → ReadsExpression ts (length (spell a [])) (tree_of a) }
-    ensures refused { (ts passed rest : List Token) (end : Place) (q : Rule) → read 0 ts ≡ Err (q, rest) → ts ≡ passed ++ rest → Passes (phrases 0) (map Some (looks passed)) → RefusesExpression ts end (record { rule = Syntax; place = get_or (map (λ (t : Token). t.place) ts) (length passed) end }) }
-    ensures earlier_than_read { (ts rest : List Token) (a : Phrase) → read 0 ts ≡ Ok (a, rest) → (n : ℕ) (r : Rule) → StopsAt (phrases 0) (to_end ts) n r → ((n ≡ length (spell a [])) × (r ≡ Syntax)) ⊎ ((n < length (spell a [])) × (r ≡ TooDeep)) }
-    ensures earlier_than_refused { (ts passed rest : List Token) (q : Rule) → read 0 ts ≡ Err (q, rest) → ts ≡ passed ++ rest → (n : ℕ) (r : Rule) → StopsAt (phrases 0) (to_end ts) n r → ((n ≡ length passed) × (r ≡ Syntax)) ⊎ ((n < length passed) × (r ≡ TooDeep)) }
+/// The limit of open forms only refuses: what is read within it is read without, and is no deeper; and what is read without it and is no deeper is read within it.
+pub fn the_limit_only_refuses()
+    ensures within { (ts rest : List Token) (a : Phrase) → read_limited ts ≡ Ok (a, rest) → (read 0 ts ≡ Ok (a, rest)) × (text_nesting a ≤ deepest_expression) }
+    ensures fits { (ts rest : List Token) (a : Phrase) → read 0 ts ≡ Ok (a, rest) → text_nesting a ≤ deepest_expression → read_limited ts ≡ Ok (a, rest) }
 {}
 
-/// Each token opens one form at most, so where no more tokens are passed than forms may be open, reading stops just where the grammar says.
-pub fn few_tokens_are_read_or_refused()
-    ensures read { (ts rest : List Token) (a : Phrase) → read 0 ts ≡ Ok (a, rest) → length (spell a []) ≤ deepest_expression → ReadsExpression ts (length (spell a [])) (tree_of a) }
-    ensures refused { (ts passed rest : List Token) (end : Place) (q : Rule) → read 0 ts ≡ Err (q, rest) → ts ≡ passed ++ rest → length passed ≤ deepest_expression → RefusesExpression ts end (record { rule = Syntax; place = get_or (map (λ (t : Token). t.place) ts) (length passed) end }) }
+/// So with the limit of open forms every list of tokens is read or refused just where the grammar says: what is read is the expression there, and goes up
+/// to the first token that doesn't pass; and what is refused is refused at that token, or at the end, by the rule of that token.
+pub fn tokens_are_read_or_refused()
+    ensures one { (ts : List Token) (end : Place) → ((n : ℕ) × (t : Tree) × ReadsExpression ts n t) ⊎ ((r : Refusal) × RefusesExpression ts end r) }
+    ensures read { (ts rest : List Token) (a : Phrase) → read_limited ts ≡ Ok (a, rest) → ReadsExpression ts (length (spell a [])) (tree_of a) }
+    ensures refused { (ts passed rest : List Token) (end : Place) (r : Rule) → read_limited ts ≡ Err (r, rest) → ts ≡ passed ++ rest → RefusesExpression ts end (record { rule = r; place = get_or (map (λ (t : Token). t.place) ts) (length passed) end }) }
 {}
 
 /// Whether tokens spell an expression, and which, rests on their kinds and columns alone: tokens of other lines spell the same
@@ -113,4 +113,18 @@ pub fn written_trees_are_read_back()
 pub fn written_trees_end_where_they_do()
     ensures whole { (edge : ℕ) (is_operand : Bool) (t : Tree) (ts : List text.Token) → IsSpelling edge is_operand t ts → (b : Phrase) (r s : List Token) → Good edge b → Calm edge r → Calm edge s → views ts ++ r ≡ spell b s → (tree_placeless (tree_of b) ≡ tree_placeless t) × (r ≡ s) }
     ensures operand { (edge : ℕ) (t : Tree) (ts : List text.Token) → IsSpelling edge true t ts → (b : Phrase) (r s : List Token) → Good edge b → head b ≡ primary → end_list b ≡ None → NoTail edge r → NoTail edge s → views ts ++ r ≡ spell b s → (tree_placeless (tree_of b) ≡ tree_placeless t) × (r ≡ s) }
+{}
+
+/// What is written of a tree rests on no place.
+pub fn writing_rests_on_no_place()
+    ensures { (t u : Tree) → tree_placeless t ≡ tree_placeless u → written t ≡ written u }
+{}
+
+/// What is spelled in a text can be written: the tokens of a text, but for numbers that are too large, have no other words,
+/// strings and numbers than a writer may be given, and what such tokens spell has the right shape. With trees that can be
+/// written in place of names it can be written too.
+pub fn spelled_trees_can_be_written()
+    ensures tokens { (w : List ℕ) (from to : ℕ) (ts : List text.Token) → Tok w from to ts → AreSmall ts → AreOfText (views ts) }
+    ensures trees { (edge : ℕ) (a : Phrase) → Good edge a → AreOfText (spell a []) → IsWritable (tree_of a) }
+    ensures grafts { (g : Graft) → ((x : Word) (at : Place) (u : Tree) → g x at ≡ Some u → IsWritable u) → (t : Tree) → IsWritable t → IsWritable (graft g t) }
 {}

@@ -1,6 +1,7 @@
 -- The kind of token that a part is, in memory.
 use Rattle.std.proofs.Common.{◌≡◌, ℕ, zero, suc, ◌+◌, ◌-◌, ◌^◌, ◌<◌, ◌≤◌, Bool, true, false, nat_lt, List, [], ◌∷◌, length, get_or, take, drop, Some, None, refl, sym, ap, ◌∙◌, arith, length-drop}
 use Rattle.std.proofs.lemmas.List.{length-take-le}
+use Rattle.std.proofs.lemmas.Bool.{ltb-false}
 use Rattle.tla_token.specs.Tokens.{stretch}
 use Rattle.tla_token.specs.Scan.{in_128_bits, inner}
 use Rattle.tla_token.proofs.Steps.{byte_there}
@@ -37,3 +38,10 @@ number_by n false e m h = (let g : Some m ≡ None = rw e at h in absurd cc)
 
 pub number_fits : (n m : ℕ) → Some m ≡ in_128_bits n → m ≡ n
 number_fits n m h = number_by n (nat_lt n (2 ^ 128)) refl m h
+
+past_by : (n : ℕ) (k : Bool) → nat_lt n (2 ^ 128) ≡ k → in_128_bits n ≡ None → 2 ^ 128 ≤ n
+past_by n true e h = (let g : Some n ≡ None = rw e at h in absurd cc)
+past_by n false e h = ltb-false n (2 ^ 128) e
+
+pub number_past : (n : ℕ) → None ≡ in_128_bits n → 2 ^ 128 ≤ n
+number_past n h = past_by n (nat_lt n (2 ^ 128)) refl (sym h)

@@ -1,7 +1,9 @@
 //! Tokens of a text.
 
-ghost use Rattle.std.specs.Prelude.{◌≡◌, true, ◌+◌, ◌≤◌, length, take, drop, option_map};
+ghost use Rattle.std.specs.Prelude.{◌≡◌, true, ◌+◌, ◌^◌, ◌≤◌, Some, length, take, drop, option_map};
 ghost use Rattle.tla_token.specs.declared.part.Class as class;
+ghost use Rattle.tla_token.specs.declared.token.Span as code_span;
+ghost use Rattle.tla_token.specs.Lexemes.{number_of};
 ghost use Rattle.tla_token.specs.Scan.{is_quoted, part_of};
 ghost use Rattle.tla_token.specs.TokensSeen.{kind_seen, part_kind, span_bytes};
 
@@ -74,11 +76,12 @@ fn head(bytes: &[u8], n: usize) -> &[u8]
 }
 
 /// The kind of token that a part is, at an index.
-#[tactic(auto, using(crate::proofs::TokenKinds::span_whole, crate::proofs::TokenKinds::span_inner, crate::proofs::TokenKinds::number_fits))]
+#[tactic(auto, using(crate::proofs::TokenKinds::span_whole, crate::proofs::TokenKinds::span_inner, crate::proofs::TokenKinds::number_fits, crate::proofs::TokenKinds::number_past))]
 pub fn kind_at(bytes: &[u8], at: usize, part: Part) -> Option<Kind>
     requires within { at + part.len ≤ length bytes.now }
     requires quoted { is_quoted part.class ≡ true → 2 ≤ part.len }
-    ensures { option_map (kind_seen bytes.now) result ≡ part_kind (part_of part.class (take part.len (drop at bytes.now))) }
+    ensures kind { option_map (kind_seen bytes.now) result ≡ part_kind (part_of part.class (take part.len (drop at bytes.now))) }
+    ensures big { (s : code_span.Span) → result ≡ Some (Kind.BigNumber s) → 2 ^ 128 ≤ number_of (span_bytes bytes.now s) }
 {
     let span = Span {
         from: at,

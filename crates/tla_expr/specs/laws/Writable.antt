@@ -1,12 +1,15 @@
 -- What the writer may be given: trees of the right shape whose words are each written as one token of a text.
-use Rattle.std.specs.Prelude.{◌≡◌, ℕ, ◌+◌, Bool, true, false, ◌||◌, ◌&&◌, not, nat_le, nat_eq, List, [], ◌∷◌, map}
+use Rattle.std.specs.Prelude.{◌≡◌, ℕ, ◌+◌, ◌<◌, Bool, true, false, ◌||◌, ◌&&◌, not, nat_le, nat_eq, List, [], ◌∷◌, map}
 use Rattle.std.specs.Bool.{IsTrue}
 use Rattle.std.specs.List.{list_all, flat_map}
 use Rattle.tla_token.specs.Words.{is_reserved, is_tla_word}
-use Rattle.tla_token.specs.Lexemes.{Kind, IsName, IsLexeme}
+use Rattle.tla_token.specs.Lexemes.{Kind, number, IsName, IsLexeme}
 use Rattle.tla_expr.specs.Tree.{Word, PathStep, index, field, Slot, Strict, fields, records, select, except, Form, string, name, next, strict, operator_call, binders, Each, Tree, Trees, node, no_trees, tree}
 use Rattle.tla_expr.specs.Shapes.{Shaped}
-use Rattle.tla_expr.specs.Lexical.{TokenView, token_text}
+use Rattle.tla_token.specs.Limits.{past_numbers}
+use Rattle.tla_token.specs.Tokens as text
+use Rattle.tla_expr.specs.Lexical.{TokenView, Token, token_text}
+use Rattle.tla_expr.specs.Lexical as tk
 use Rattle.tla_expr.specs.TokenViews.{kind_of}
 use Rattle.tla_expr.specs.Written.{Piece, blank, token}
 
@@ -69,3 +72,25 @@ abbrev pub AreSpelled : List Piece → Type 0
 AreSpelled [] = Unit {0}
 AreSpelled (blank ∷ ps) = AreSpelled ps
 AreSpelled (token k ∷ ps) = IsSpelled k × AreSpelled ps
+
+-- ---- what is read
+-- the tokens of a text have no other words, strings and numbers, but for numbers that are too large
+abbrev pub IsOfText : TokenView → Type 0
+IsOfText (tk.word x) = IsIdentifier x
+IsOfText (tk.reserved x) = IsField x
+IsOfText (tk.string x) = IsString x
+IsOfText (tk.number n) = n < past_numbers
+IsOfText k = Unit {0}
+
+abbrev pub AreOfText : List Token → Type 0
+AreOfText [] = Unit {0}
+AreOfText (t ∷ ts) = IsOfText t.kind × AreOfText ts
+
+abbrev pub IsSmall : Kind → Type 0
+IsSmall (number n) = n < past_numbers
+IsSmall k = Unit {0}
+
+-- no number is past 2^127 - 1
+abbrev pub AreSmall : List text.Token → Type 0
+AreSmall [] = Unit {0}
+AreSmall (t ∷ ts) = IsSmall t.kind × AreSmall ts

@@ -1,5 +1,5 @@
 -- Where nothing is in the way, the number is that of an answer which says so.
-use Rattle.std.proofs.Common.{◌≡◌, ◌∙◌, ap}
+use Rattle.std.proofs.Common.{◌∙◌, ap}
 use Rattle.outer_io.specs.Outer.{RoseBy}
 use Rattle.pcal_cli.specs.Answers.{status_number}
 use Rattle.pcal_cli.specs.Words.{words_given, command_in}

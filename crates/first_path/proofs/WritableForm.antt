@@ -1,0 +1,64 @@
+-- The translation of the form can be written.
+use Rattle.std.proofs.Common.{◌≡◌, ℕ, ◌^◌, Bool, true, false, not, ◌||◌, nat_le, bytes_eq, refl, ap, arith, codes}
+use Rattle.std.specs.List.{list_all, list_any}
+use Rattle.std.proofs.lemmas.Bool.{and_parts, leb-true, le-leb, ltb-true}
+use Rattle.tla_token.specs.declared.place.Place.{Place}
+use Rattle.tla_token.specs.Lexemes.{is_word, is_letter}
+use Rattle.tla_token.proofs.Parted.{word_printed}
+use Rattle.tla_expr.specs.Tree.{Word}
+use Rattle.tla_expr.specs.laws.Writable.{IsIdentifier, is_spellable, IsString, IsWritable}
+use Rattle.module_text.specs.laws.WritableRegion.{IsRegion}
+use Rattle.first_path.specs.Form.{Operand, number_operand, variable_operand, Right, single, sum, Parts, is_name, is_small_operand, is_small_right}
+use Rattle.first_path.specs.Placed.{Places, operand_tree, right_tree, is_at, region_at}
+use Rattle.first_path.proofs.Names.{every, name_words}
+use Rattle.first_path.proofs.Fit.{Free, Fit}
+
+identifier : (w : Word) → Free w → IsIdentifier w
+identifier w h = (and_parts (list_all is_word w) (list_any is_letter w) h.name, ap not h.reserved)
+
+word_spellable : (b : ℕ) → is_word b ≡ true → is_spellable b ≡ true
+word_spellable b h =
+    let p = and_parts (nat_le 33 b) (nat_le b 126) (word_printed b h) in
+    let low = leb-true 33 b p.0 in
+    rw (le-leb 32 b (omega arith), p.1) refl
+
+label_string : (w : Word) → is_name w ≡ true → IsString w
+label_string w h = every is_word is_spellable word_spellable w (name_words w h)
+
+operand_writable : (v : Word) (a : Operand) (p : Place) → Free v → is_small_operand a ≡ true → IsWritable (operand_tree v a p)
+operand_writable v (number_operand n) p h s = ((ltb-true n (2 ^ 127) s, refl), tt, tt, tt, tt)
+operand_writable v variable_operand p h s = (refl, (identifier v h, tt), tt, tt, tt)
+
+right_writable : (v : Word) (x : Right) (p q : Place) → Free v → is_small_right x ≡ true → IsWritable (right_tree v x p q)
+right_writable v (single a) p q h s = operand_writable v a p h s
+right_writable v (sum a b) p q h s =
+    let k = and_parts (is_small_operand a) (is_small_operand b) s in
+    ((refl, refl), tt, tt, tt, (operand_writable v a p h k.0, (operand_writable v b q h k.1, tt)))
+
+at_writable : (l : Word) (p q : Place) → is_name l ≡ true → IsWritable (is_at l p q)
+at_writable l p q h = ((refl, refl), tt, tt, tt, ((refl, (((refl, refl), refl), tt), tt, tt, tt), ((refl, tt, tt, (label_string l h, tt), tt), tt)))
+
+-- Next's last disjunct is Terminating
+any_last : (b : Bool) → true ≡ (b || (true || false))
+any_last true = refl
+any_last false = refl
+
+pub form_region : (q : Places) (f : Parts) → Fit f → IsRegion (region_at q f)
+form_region q f h =
+    let v = identifier f.variable h.variable in
+    let l = identifier f.label h.label in
+    let name = h.label.name in
+    record {
+      model_values = tt;
+      variables = (v, ((refl, refl), refl));
+      definitions = tt;
+      vars = (v, ((refl, refl), refl));
+      process_set = tt;
+      init = (((refl, refl), tt, tt, tt, ((refl, (v, tt), tt, tt, tt), (((ltb-true f.initial (2 ^ 127) h.initial, refl), tt, tt, tt, tt), tt))), at_writable f.label (q 2) (q 3) name);
+      actions = ((l, ap not h.label.own, tt, (at_writable f.label (q 4) (q 5) name, ((v, right_writable f.variable f.right (q 6) (q 7) h.variable h.right), (((refl, refl), refl), (refl, tt, tt, (refl, tt), tt))))), tt);
+      ended = at_writable (codes "Done") (q 9) (q 10) refl;
+      next = (l, ((refl, refl), refl));
+      fairness = tt;
+      termination = at_writable (codes "Done") (q 11) (q 12) refl;
+      terminating = any_last (bytes_eq f.label (codes "Terminating"));
+    }

@@ -1,0 +1,33 @@
+use Rattle.std.proofs.Common.{None, get_or, refl, sym, ap, ◌∙◌, ◌-◌, drop, arith}
+use Rattle.module_text.specs.FileParts.{first_of}
+use Rattle.module_text.specs.AlgorithmText.{algorithm_at}
+use Rattle.module_text.proofs.Comments.{no_stand, begun_some, begun_none, no_comment, no_beginning, algorithm_here}
+use Rattle.module_text.proofs.split.find_algorithm.Goals as goal
+
+pub returns-then-comment-stands : goal.returns-then-comment-stands
+returns-then-comment-stands c = no_comment c.args.text.now c.args.stands.now c.args.comment c.requires.comment c.if-comment-stands.true
+
+pub returns-in-None : goal.returns-in-None
+returns-in-None c =
+    no_beginning c.args.text.now c.args.stands.now c.args.comment no_stand c.requires.comment c.if-comment-stands.false
+    (ap first_of (begun_none c.args.text.now (get_or c.args.stands.now c.args.comment no_stand) None refl c.in-None.ensures))
+
+pub returns-in-None-first_beginning : goal.returns-in-None-first_beginning
+returns-in-None-first_beginning c =
+    no_beginning c.args.text.now c.args.stands.now c.args.comment no_stand c.requires.comment c.if-comment-stands.false
+    (ap first_of (sym (begun_some c.args.text.now (get_or c.args.stands.now c.args.comment no_stand) c.in-Some.span c.in-Some.ensures)) ∙ sym c.in-None-first_beginning.ensures.first)
+
+pub returns-in-Some-first_beginning : goal.returns-in-Some-first_beginning
+returns-in-Some-first_beginning c =
+    let n = c.in-Some-first_beginning.from in
+    record {
+      found = algorithm_at n (c.in-Some.span.to - n) (drop n c.args.text.now);
+      is =
+          algorithm_here c.args.text.now c.args.stands.now c.args.comment no_stand c.in-Some.span n c.requires.comment c.if-comment-stands.false c.in-Some.ensures
+          (ap first_of (sym (begun_some c.args.text.now (get_or c.args.stands.now c.args.comment no_stand) c.in-Some.span c.in-Some.ensures)) ∙ sym c.in-Some-first_beginning.ensures.first);
+      begins = refl;
+      ends = sym c.algorithm_at-inside.ensures.to;
+      stage = sym c.algorithm_at-inside.ensures.stage;
+      fault = c.algorithm_at-inside.ensures.fault;
+      marked = c.algorithm_at-inside.ensures.marked;
+    }

@@ -1,8 +1,0 @@
--- What was passed belongs to a word.
-use Rattle.std.proofs.Common.{◌≡◌, ◌+◌, length, drop}
-use Rattle.tla_token.specs.Lexemes.{is_word}
-use Rattle.tla_token.specs.Cut.{run}
-use Rattle.pcal_cli.proofs.form.word_len.Given as goal
-
-abbrev pub invariant-loop-i : goal.invariant-loop-i
-invariant-loop-i l = l.i + length (run is_word (drop l.i l.text)) ≡ length (run is_word l.text)

@@ -1,0 +1,151 @@
+//! A text with the translation of its algorithm, or why there is none.
+
+ghost use Rattle.std.specs.Prelude.{◌≡◌, ◌<◌, ◌^◌, [], true, length, take, drop, Some, None, IfOk, IfErr, MatchOption};
+ghost use Rattle.tla_token.specs.Tokens.{stretch};
+ghost use Rattle.module_text.specs.Layout.{layout};
+ghost use Rattle.module_text.specs.Splitting.{Splits, splitting_offences};
+ghost use Rattle.first_path.specs.Form.{is_fit};
+ghost use Rattle.first_path.specs.FormRead.{form_of, form_offences};
+ghost use Rattle.first_path.specs.Placed.{region_of, translation_of};
+ghost use Rattle.first_path.specs.Written.{Written};
+ghost use Rattle.pcal_cli.specs.AlgorithmTokens.{AreAlgorithm};
+ghost use Rattle.pcal_cli.specs.Causes.{IsStop};
+ghost use Rattle.pcal_cli.specs.FormSeen.{parts_of};
+
+use crate::built::region_in;
+use crate::form::Form;
+use crate::form_read::algorithm_at;
+use crate::nodes::put_nodes;
+use crate::outside::{Outside, suits};
+use crate::rest::Rest;
+use module_text::split::split;
+use module_text::{Parts, with_translation, write_region};
+use std::alloc::{AllocError, Global};
+use tla_expr::{Pool, Text};
+use tla_token::{Place, Reading, Refusal, Rule, Span, Stop, Tokens, tokens_as};
+
+/// Why an algorithm of another form is refused; its place is the file's start.
+const LEFT_OUT: Refusal = Refusal {
+    rule: Rule::LeftOutWord,
+    place: Place { line: 1, col: 1 },
+};
+
+// ---- reading
+
+/// The bytes from an index on, if there are any.
+fn tail(text: &[u8], at: usize) -> &[u8]
+    ensures { result.now ≡ drop at text.now }
+{
+    if at <= text.len() { &text[at..] } else { &[] }
+}
+
+/// So many bytes in front, or all.
+fn head(text: &[u8], n: usize) -> &[u8]
+    ensures { result.now ≡ take n text.now }
+{
+    if n <= text.len() { &text[..n] } else { text }
+}
+
+/// The bytes of a stretch.
+fn bytes_of(text: &[u8], span: Span) -> &[u8]
+    ensures { result.now ≡ stretch text.now span.from span.to }
+{
+    head(tail(text, span.from), span.to.saturating_sub(span.from))
+}
+
+/// The tokens of the algorithm after `--algorithm`, if it begins so.
+fn algorithm_tokens(alloc: Global, parts: &Parts<'_>) -> Result<Option<Tokens>, Stop>
+    requires small { length parts.now.text.now < 2 ^ 29 }
+    requires parts { Splits parts.now.text.now parts.now }
+    requires fine { splitting_offences parts.now.text.now ≡ [] }
+    ensures found { IfOk result (λ v. AreAlgorithm parts.now.text.now v) }
+    ensures stopped { IfErr result (λ e. e ≡ Stop.Memory) }
+{
+    if !bytes_of(parts.text, parts.algorithm).starts_with(b"--algorithm") {
+        return Ok(None);
+    }
+    let from = parts.algorithm.from + 11;
+    match tokens_as(
+        alloc,
+        parts.text,
+        from,
+        parts.algorithm.to,
+        Reading::Unread,
+    ) {
+        Ok(tokens) => Ok(Some(tokens)),
+        Err(stop) => Err(stop),
+    }
+}
+
+/// The form of a file with these parts, whose algorithm has these tokens.
+fn form_in<'a>(parts: &'a Parts<'_>, tokens: &'a Tokens) -> Option<Form<'a>>
+    requires parts { Splits parts.now.text.now parts.now }
+    requires fine { splitting_offences parts.now.text.now ≡ [] }
+    requires tokens { AreAlgorithm parts.now.text.now (Some tokens.now) }
+    ensures { MatchOption result (form_of parts.now.text.now ≡ None) (λ f. form_of parts.now.text.now ≡ Some (parts_of f)) }
+{
+    let title = bytes_of(parts.text, parts.title);
+    let form = algorithm_at(title, Rest::new(tokens))?;
+    let outside = Outside {
+        before: &parts.before,
+        after: &parts.after,
+    };
+    if suits(outside, &form) {
+        Some(form)
+    } else {
+        None
+    }
+}
+
+// ---- writing
+
+/// The translation, as it stands between its two lines.
+fn translation(alloc: Global, form: &Form<'_>) -> Result<Text, AllocError>
+    requires { is_fit (parts_of form.now) ≡ true }
+    ensures { IfOk result (λ t. t ≡ layout (region_of (parts_of form.now))) }
+{
+    let mut pool = Pool::new(alloc);
+    let nodes = put_nodes(alloc, &mut pool, form)?;
+    let region = region_in(alloc, form, nodes)?;
+    let mut text = Text::new(Vec::new(alloc));
+    write_region(alloc, &pool, &region, &mut text)?;
+    Ok(text)
+}
+
+/// The file with the translation of its form.
+fn with_form(alloc: Global, parts: &Parts<'_>, form: &Form<'_>) -> Result<Vec<u8>, AllocError>
+    requires parts { Splits parts.now.text.now parts.now }
+    requires fit { is_fit (parts_of form.now) ≡ true }
+    ensures { IfOk result (λ w. w.items ≡ translation_of parts.now.text.now (parts_of form.now)) }
+{
+    let made = translation(alloc, form)?;
+    let file = with_translation(alloc, parts, made.bytes())?;
+    Ok(file)
+}
+
+/// The text with the translation of its algorithm.
+///
+/// # Errors
+///
+/// The least of the rules 1 to 10 that the file breaks, at its first place; else rule 11 at its start, where the algorithm
+/// is of another form; or want of memory.
+pub fn translate_text(alloc: Global, text: &[u8]) -> Result<Vec<u8>, Stop>
+    requires { length text.now < 2 ^ 29 }
+    ensures ok { IfOk result (λ w. Written text.now w.items) }
+    ensures clean { IfOk result (λ w. form_offences text.now ≡ []) }
+    ensures stopped { IfErr result (λ e. IsStop text.now e) }
+{
+    let parts = match split(alloc, text) {
+        Ok(parts) => parts,
+        Err(stop) => return Err(stop),
+    };
+    let tokens = match algorithm_tokens(alloc, &parts)? {
+        Some(tokens) => tokens,
+        None => return Err(Stop::Refused(LEFT_OUT)),
+    };
+    let form = match form_in(&parts, &tokens) {
+        Some(form) => form,
+        None => return Err(Stop::Refused(LEFT_OUT)),
+    };
+    Ok(with_form(alloc, &parts, &form)?)
+}
