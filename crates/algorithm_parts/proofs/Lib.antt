@@ -1,3 +1,4 @@
+mod Rows
 pub mod Sound
 pub mod SoundParts
 pub mod SoundSimple
@@ -8,3 +9,7 @@ pub mod WholeSimple
 pub mod Fair
 pub mod FairParts
 pub mod FairSimple
+pub mod Aheads
+pub mod Mends
+pub mod MendParts
+pub mod MendSimple

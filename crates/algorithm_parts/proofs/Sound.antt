@@ -11,7 +11,7 @@ use Rattle.tla_expr.specs.Reader.{Reader, ◌>>=◌, gives, refuses, skip, took,
 use Rattle.tla_expr.specs.Reader as expression
 use Rattle.tla_expr.proofs.SoundTokens.{then_ok, ok_is, if_some, sign_is}
 use Rattle.tla_expr.proofs.SoundTokens as edge
-use Rattle.pcal_tree.specs.GrammarParts.{name, key, mark}
+use Rattle.pcal_tree.specs.GrammarParts.{name, key, mark, word}
 use Rattle.algorithm_parts.specs.TokenReaders.{first, by_next, past, is_reserved, name_of, a_key, a_mark, a_name, pick}
 
 -- what is read after the tokens x is good, and with the rest of the tokens it is spelled by all of them
@@ -80,7 +80,7 @@ abbrev pub is_other : TokenView → Bool
 is_other (tk.other w) = true
 is_other k = false
 
-seen : (ts : List Token) (p : Place) (k : TokenView) → first ts ≡ token p k → is_other k ≡ false → token p k ∷ tail ts ≡ ts
+pub seen : (ts : List Token) (p : Place) (k : TokenView) → first ts ≡ token p k → is_other k ≡ false → token p k ∷ tail ts ≡ ts
 seen [] p k s h = (let other : tk.other [] ≡ k = ap (λ (t : Token). t.kind) s in absurd cc)
 seen (t ∷ ts) p k s h = ap (λ (u : Token). u ∷ ts) (sym s)
 
@@ -169,3 +169,6 @@ sound_mark_right m = record { is = λ ts p us e. edge.mark_ok 0 m ts p us e }
 
 pub sound_field_right : Sound here (λ f. Right 0 f.place) field_token (expression.a_field 0)
 sound_field_right = record { is = λ ts f us e. edge.field_ok 0 ts f us e }
+
+pub sound_word_right : Sound here (λ x. Right 0 x.0) (λ x. word x.0 x.1) (expression.a_word 0)
+sound_word_right = record { is = λ ts x us e. edge.word_ok 0 ts x us e }

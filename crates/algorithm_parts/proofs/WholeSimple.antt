@@ -7,11 +7,11 @@ use Rattle.tla_expr.specs.Lexical.{TokenView, Token, token}
 use Rattle.tla_expr.specs.Lexical as tk
 use Rattle.tla_expr.specs.Spelling.{Phrase, field_token, spell, spell_all, IsGood}
 use Rattle.tla_expr.specs.Spelling as spelled
-use Rattle.tla_expr.specs.Reader.{Out, ◌>>=◌, gives, end}
+use Rattle.tla_expr.specs.Reader.{Out, ◌>>=◌, gives, end, a_word}
 use Rattle.tla_expr.proofs.ReadForms.{is_start, starts_all, field_read}
 use Rattle.pcal_tree.specs.GrammarParts.{name, mark, Arguments, no_arguments, some_arguments, arguments, GoodArguments, is_left_side, Assignments, last_assignment, assignment, assignments, GoodAssignments}
 use Rattle.pcal_tree.specs.GrammarParts as g
-use Rattle.algorithm_parts.specs.TokenReaders.{first, a_name, Parts}
+use Rattle.algorithm_parts.specs.TokenReaders.{first, Parts}
 use Rattle.algorithm_parts.specs.ReadSimple.{arguments_by, read_arguments, left_by, read_left, assignments_by, read_assignments, named_by}
 use Rattle.algorithm_parts.proofs.SoundSimple.{IsLeft}
 use Rattle.algorithm_parts.proofs.Whole.{Fits, smaller, less, then_is, is_after, after_calm, WholeParts}
@@ -72,6 +72,10 @@ pub assignment_next : (ms : Assignments) → GoodAssignments ms → (ts : List T
 assignment_next (last_assignment l p e) i ts = left_next l i.0 (mark p tk.assigns (spell e ts)) refl
 assignment_next (assignment l p e q ms) i ts = left_next l i.0 (mark p tk.assigns (spell e (mark q tk.beside (assignments ms ts)))) refl
 
+assignment_right : (ms : Assignments) → GoodAssignments ms → nat_lt 0 (root (first_left ms)).place.col ≡ true
+assignment_right (last_assignment l p e) i = root_right l i.0 i.1
+assignment_right (assignment l p e q ms) i = root_right l i.0 i.1
+
 module _ (m : ℕ) (r : Parts) (h : WholeParts m r) where
   -- ---- (a, b) of a call
   pub arguments_whole : (xs : Arguments) → GoodArguments xs → (ts : List Token) → length (arguments xs ts) ≤ m → read_arguments r (arguments xs ts) ≡ Ok (xs, ts)
@@ -114,7 +118,6 @@ module _ (m : ℕ) (r : Parts) (h : WholeParts m r) where
   assignments_whole (suc n) (last_assignment l p e) i ts d f =
       (let us = mark p tk.assigns (spell e ts) in
       let same = ap length (root_tokens l i.0 us) in
-      rw (root_right l i.0 i.1)
       (then_is _ (left_whole l (i.0, i.1) us (Ok (l, us)) (left_stops l p (spell e ts)) (suc n) (smaller (omega (arith, same)) f))
       (then_is _ (h.expr e i.2 ts (after_calm (first ts).kind d) (omega (arith, f.all, grow_phrase l us))) (by (first ts).place (first ts).kind d))))
     where
@@ -126,16 +129,15 @@ module _ (m : ℕ) (r : Parts) (h : WholeParts m r) where
       (let all = assignments ms ts in
       let us = mark p tk.assigns (spell e (mark q tk.beside all)) in
       let same = ap length (root_tokens l i.0 us) in
-      rw (root_right l i.0 i.1)
       (then_is _ (left_whole l (i.0, i.1) us (Ok (l, us)) (left_stops l p (spell e (mark q tk.beside all))) (suc n) (smaller (omega (arith, same)) f))
       (then_is _ (h.expr e i.2 (mark q tk.beside all) refl (omega (arith, f.all, grow_phrase l us)))
       (another (assignments_whole n ms i.3 ts d (less (omega (arith, grow_phrase l us, grow_phrase e (mark q tk.beside all))) f))))))
     where
-      another : read_assignments r n (root (first_left ms)) (after_first ms ts) ≡ Ok (ms, ts) → (a_name >>= λ x. read_assignments r n x >>= λ ns. gives (assignment l p e q ns)) (assignments ms ts) ≡ Ok (assignment l p e q ms, ts)
-      another w = ap (λ (us : List Token). (a_name >>= λ x. read_assignments r n x >>= λ ns. gives (assignment l p e q ns)) us) (assignment_tokens ms i.3 ts) ∙ then_is _ w refl
+      another : read_assignments r n (root (first_left ms)) (after_first ms ts) ≡ Ok (ms, ts) → (a_word 0 >>= λ x. read_assignments r n (spelled.named x.0 x.1) >>= λ ns. gives (assignment l p e q ns)) (assignments ms ts) ≡ Ok (assignment l p e q ms, ts)
+      another w = ap (λ (us : List Token). (a_word 0 >>= λ x. read_assignments r n (spelled.named x.0 x.1) >>= λ ns. gives (assignment l p e q ns)) us) (assignment_tokens ms i.3 ts) ∙ rw (assignment_right ms i.3) (then_is _ w refl)
 
   -- ---- a statement after its first name
   pub assign_whole : (n : ℕ) (ms : Assignments) → GoodAssignments ms → (ts : List Token) → is_after (first ts).kind ≡ true → Fits n m (assignments ms ts) → (p : Place) (k : TokenView) → is_left_next k ≡ true
       → named_by r n (root (first_left ms)) p k (after_first ms ts) ≡ Ok (g.assign ms, ts)
   assign_whole n ms i ts d f p (tk.mark tk.open_bracket) e = absurd cc
-  assign_whole n ms i ts d f p k e = then_is _ (assignments_whole n ms i ts d f) refl
+  assign_whole n ms i ts d f p k e = rw (assignment_right ms i) (then_is _ (assignments_whole n ms i ts d f) refl)

@@ -6,7 +6,7 @@ use Rattle.tla_expr.specs.Lexical.{TokenView}
 use Rattle.tla_expr.specs.Lexical as tk
 use Rattle.tla_expr.specs.Spelling.{Phrase}
 use Rattle.tla_expr.specs.Spelling as spelled
-use Rattle.tla_expr.specs.Reader.{Reader, ◌>>=◌, gives, refuses, skip, peek, a_field}
+use Rattle.tla_expr.specs.Reader.{Reader, ◌>>=◌, gives, refuses, skip, peek, a_word, a_field}
 use Rattle.tla_expr.specs.Reader as expression
 use Rattle.pcal_tree.specs.GrammarParts.{Arguments, no_arguments, some_arguments, Assignments, last_assignment, assignment, Simple}
 use Rattle.pcal_tree.specs.GrammarParts as g
@@ -30,24 +30,24 @@ abbrev pub read_left : Parts → ℕ → Phrase → Reader Phrase
 read_left m zero a = refuses
 read_left m (suc n) a = peek 0 (left_by m (read_left m n) a)
 
--- after its name, which is right of the edge
-abbrev pub left_if : Bool → Parts → ℕ → Name → Reader Phrase
-left_if true m n x = read_left m n (spelled.name x.place x.word)
-left_if false m n x = refuses
-
--- ---- l := e || m := f, after its first name
+-- ---- l := e || m := f, after its first name, which is right of the edge
 abbrev pub assignments_by : (Name → Reader Assignments) → Phrase → Place → Phrase → Place → TokenView → Reader Assignments
-assignments_by r l p e q (tk.mark tk.beside) = skip (a_name >>= λ x. r x >>= λ ms. gives (assignment l p e q ms))
+assignments_by r l p e q (tk.mark tk.beside) = skip (a_word 0 >>= λ x. r (spelled.named x.0 x.1) >>= λ ms. gives (assignment l p e q ms))
 assignments_by r l p e q k = gives (last_assignment l p e)
 
 abbrev pub read_assignments : Parts → ℕ → Name → Reader Assignments
 read_assignments m zero x = refuses
-read_assignments m (suc n) x = left_if (nat_lt 0 x.place.col) m (suc n) x >>= λ l. a_mark tk.assigns >>= λ p. m.expr >>= λ e. by_next (assignments_by (read_assignments m n) l p e)
+read_assignments m (suc n) x = read_left m (suc n) (spelled.name x.place x.word) >>= λ l. a_mark tk.assigns >>= λ p. m.expr >>= λ e. by_next (assignments_by (read_assignments m n) l p e)
 
 -- ---- a statement after its first name, and those that begin with a word
+-- an assignment has a name that is right of the edge
+abbrev pub assign_if : Bool → Parts → ℕ → Name → Reader Simple
+assign_if true m n x = read_assignments m n x >>= λ ms. gives (g.assign ms)
+assign_if false m n x = refuses
+
 abbrev pub named_by : Parts → ℕ → Name → Place → TokenView → Reader Simple
 named_by m n x p (tk.mark tk.open_bracket) = read_arguments m >>= λ xs. gives (g.macro x xs)
-named_by m n x p k = read_assignments m n x >>= λ ms. gives (g.assign ms)
+named_by m n x p k = assign_if (nat_lt 0 x.place.col) m n x
 
 abbrev pub of_expression : Parts → (Phrase → Simple) → Reader Simple
 of_expression m f = skip (m.expr >>= λ e. gives (f e))

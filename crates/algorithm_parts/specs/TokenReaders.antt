@@ -1,13 +1,12 @@
--- Reading the tokens of an algorithm one by one: words, marks and signs, wherever in their lines they are.
+-- Reading the tokens of an algorithm one by one: words and marks, wherever in their lines they are.
 use Rattle.std.specs.Prelude.{Bool, false, List, [], ◌∷◌, Option, Some, None, if◌then◌else◌}
 use Rattle.std.specs.Str.{bytes_eq}
 use Rattle.tla_token.specs.declared.place.Place.{Place}
-use Rattle.tla_expr.specs.declared.op.Op.{Op}
 use Rattle.tla_expr.specs.Tree.{Word, Name}
 use Rattle.tla_expr.specs.Lexical.{Mark, TokenView, Token}
 use Rattle.tla_expr.specs.Lexical as tk
 use Rattle.tla_expr.specs.Spelling.{Phrase, Phrases}
-use Rattle.tla_expr.specs.Reader.{Reader, took, end, is_mark, is_sign, place_if, free, Readers}
+use Rattle.tla_expr.specs.Reader.{Reader, took, end, is_mark, place_if, free, Readers}
 
 -- the next token; at the end, one that is no token of an algorithm
 abbrev pub first : List Token → Token
@@ -30,15 +29,12 @@ abbrev pub name_of : Place → TokenView → Option Name
 name_of p (tk.word x) = Some (record { place = p; word = x })
 name_of p k = None
 
--- past this reserved word, mark or sign: its place
+-- past this reserved word or mark: its place
 abbrev pub a_key : Word → Reader Place
 a_key w = past (place_if (is_reserved w))
 
 abbrev pub a_mark : Mark → Reader Place
 a_mark m = past (place_if (is_mark m))
-
-abbrev pub a_sign : Op → Reader Place
-a_sign o = past (place_if (is_sign o))
 
 abbrev pub a_name : Reader Name
 a_name = past name_of

@@ -5,3 +5,5 @@ pub mod WholeStatements
 pub mod WholeAlgorithm
 pub mod FairStatements
 pub mod FairAlgorithm
+pub mod MendStatements
+pub mod MendAlgorithm

@@ -17,53 +17,53 @@ use Rattle.p_syntax.specs.ReadAlgorithm.{read_body, read_macro, read_procedure, 
 use Rattle.p_syntax.proofs.SoundStatements.{sequence_sound}
 
 -- ---- lists
-more_sound : {A : Type 0} {Q : A → Type 0} {put : A → List Token → List Token} {y : List Token → List Token} {r : Reader A} {rs : Reader (List A)} → Sound y Q put r → Sound here (AllByRecursion Q) (each put) rs
+pub more_sound : {A : Type 0} {Q : A → Type 0} {put : A → List Token → List Token} {y : List Token → List Token} {r : Reader A} {rs : Reader (List A)} → Sound y Q put r → Sound here (AllByRecursion Q) (each put) rs
     → Sound y (AllByRecursion Q) (each put) (more_of r rs)
 more_sound h i = sound_after (λ ts. ts) h (λ x g. sound_bind i (λ xs k. sound_gives (x ∷ xs) (g, k) (λ ts. refl)))
 
-more_at : {A : Type 0} {p : Place} {k : TokenView} {Q : A → Type 0} {put : A → List Token → List Token} {y : List Token → List Token} {r : Reader A} {rs : Reader (List A)} → SoundAt p k y Q put r → Sound here (AllByRecursion Q) (each put) rs
+pub more_at : {A : Type 0} {p : Place} {k : TokenView} {Q : A → Type 0} {put : A → List Token → List Token} {y : List Token → List Token} {r : Reader A} {rs : Reader (List A)} → SoundAt p k y Q put r → Sound here (AllByRecursion Q) (each put) rs
     → SoundAt p k y (AllByRecursion Q) (each put) (more_of r rs)
 more_at h i = sound_then (λ ts. ts) h (λ x g. sound_bind i (λ xs k. sound_gives (x ∷ xs) (g, k) (λ ts. refl)))
 
-by_fair_sound : (p q : Place) (k : TokenView) → SoundAt q k (λ ts. key p (codes "fair") ts) Any fair (fair_by p q k)
+pub by_fair_sound : (p q : Place) (k : TokenView) → SoundAt q k (λ ts. key p (codes "fair") ts) Any fair (fair_by p q k)
 by_fair_sound p q (tk.sign op.Plus) = sound_past refl (sound_gives (strong p q) tt (λ ts. refl))
 by_fair_sound p q k = sound_stays (sound_gives (weak p) tt (λ ts. refl))
 
-by_head_sound : (p : Place) (k : TokenView) → SoundAt p k here Any head (head_by p k)
+pub by_head_sound : (p : Place) (k : TokenView) → SoundAt p k here Any head (head_by p k)
 by_head_sound p (tk.word w) =
     pick_is (λ v r. SoundAt p (tk.word v) here Any head r) w (head_words p) refuses
     (sound_past refl (sound_gives (algorithm p) tt (λ ts. refl)), (sound_past refl (sound_bind (sound_key (codes "algorithm")) (λ q u. sound_gives (fair_algorithm p q) tt (λ ts. refl))), tt))
     (sound_stays sound_refuses)
 by_head_sound p k = sound_stays sound_refuses
 
-head_sound : Sound here Any head read_head
+pub head_sound : Sound here Any head read_head
 head_sound = sound_next by_head_sound
 
 module _ (m : Parts) (h : SoundParts m) where
   -- ---- macros, procedures, processes
-  body_sound : (n : ℕ) (w : Word) → Sound here (GoodBody p_syntax) (body w) (read_body m n w)
+  pub body_sound : (n : ℕ) (w : Word) → Sound here (GoodBody p_syntax) (body w) (read_body m n w)
   body_sound n w =
       sound_bind (sound_key (codes "begin")) (λ a u. sound_bind (sequence_sound m h n) (λ ss g. sound_bind (sound_key (codes "end")) (λ b v. sound_bind (sound_key w) (λ d x. sound_bind semicolon_sound (λ s y.
       sound_gives (begin_end a ss b d s) g (λ ts. refl))))))
 
-  macro_sound : (n : ℕ) (p : Place) → Sound (λ ts. key p (codes "macro") ts) (GoodMacro p_syntax) macro (read_macro m n p)
+  pub macro_sound : (n : ℕ) (p : Place) → Sound (λ ts. key p (codes "macro") ts) (GoodMacro p_syntax) macro (read_macro m n p)
   macro_sound n p =
       sound_bind sound_name (λ x u. sound_bind (macro_parameters_sound n) (λ ps v. sound_bind (body_sound n (codes "macro")) (λ b g. sound_gives (record { place = p; name = x; parameters = ps; body = b }) g (λ ts. refl))))
 
-  procedure_sound : (n : ℕ) (p : Place) → Sound (λ ts. key p (codes "procedure") ts) (GoodProcedure p_syntax) procedure (read_procedure m n p)
+  pub procedure_sound : (n : ℕ) (p : Place) → Sound (λ ts. key p (codes "procedure") ts) (GoodProcedure p_syntax) procedure (read_procedure m n p)
   procedure_sound n p =
       sound_bind sound_name (λ x u. sound_bind (procedure_parameters_sound m h n) (λ ps i. sound_bind (section_sound m h false n) (λ vs j. sound_bind (body_sound n (codes "procedure")) (λ b g.
       sound_gives (record { place = p; name = x; parameters = ps; variables = vs; body = b }) (i, j, g) (λ ts. refl)))))
 
-  identity_sound : Sound here (GoodIdentity p_syntax) identity (read_identity m)
+  pub identity_sound : Sound here (GoodIdentity p_syntax) identity (read_identity m)
   identity_sound = sound_bind sound_name (λ x u. sound_bind bind_sound (λ b v. sound_bind h.expr (λ e g. sound_gives (bare x b.0 b.1 e) g (λ ts. refl))))
 
-  process_sound : (n : ℕ) (f : Fair) (p : Place) → Sound (λ ts. fair f (key p (codes "process") ts)) (GoodProcess p_syntax) process (read_process m n f p)
+  pub process_sound : (n : ℕ) (f : Fair) (p : Place) → Sound (λ ts. fair f (key p (codes "process") ts)) (GoodProcess p_syntax) process (read_process m n f p)
   process_sound n f p =
       sound_bind identity_sound (λ x i. sound_bind (section_sound m h true n) (λ vs j. sound_bind (body_sound n (codes "process")) (λ b g.
       sound_gives (record { fair = f; place = p; identity = x; variables = vs; body = b }) (i, j, g) (λ ts. refl))))
 
-  processes_words : (n : ℕ) (p : Place) → AllSound p here (GoodProcess p_syntax) process (process_words m n p)
+  pub processes_words : (n : ℕ) (p : Place) → AllSound p here (GoodProcess p_syntax) process (process_words m n p)
   processes_words n p = (
     sound_past refl (process_sound n unfair p),
     (
@@ -72,36 +72,36 @@ module _ (m : Parts) (h : SoundParts m) where
     ),
   )
 
-  by_macros_sound : (n : ℕ) (r : Reader (List Macro)) → Sound here (AllByRecursion (GoodMacro p_syntax)) (each macro) r → (p : Place) (k : TokenView) → SoundAt p k here (AllByRecursion (GoodMacro p_syntax)) (each macro) (macros_by m n r p k)
+  pub by_macros_sound : (n : ℕ) (r : Reader (List Macro)) → Sound here (AllByRecursion (GoodMacro p_syntax)) (each macro) r → (p : Place) (k : TokenView) → SoundAt p k here (AllByRecursion (GoodMacro p_syntax)) (each macro) (macros_by m n r p k)
   by_macros_sound n r i p (tk.reserved w) = sound_pick w (macro_words m n r p) (gives []) (sound_past refl (more_sound (macro_sound n p) i), tt) (sound_stays (sound_gives [] tt (λ ts. refl)))
   by_macros_sound n r i p k = sound_stays (sound_gives [] tt (λ ts. refl))
 
-  macros_sound : (n : ℕ) → Sound here (AllByRecursion (GoodMacro p_syntax)) (each macro) (read_macros m n)
+  pub macros_sound : (n : ℕ) → Sound here (AllByRecursion (GoodMacro p_syntax)) (each macro) (read_macros m n)
   macros_sound zero = sound_refuses
   macros_sound (suc n) = sound_next (by_macros_sound n (read_macros m n) (macros_sound n))
 
-  by_procedures_sound : (n : ℕ) (r : Reader (List Procedure)) → Sound here (AllByRecursion (GoodProcedure p_syntax)) (each procedure) r → (p : Place) (k : TokenView)
+  pub by_procedures_sound : (n : ℕ) (r : Reader (List Procedure)) → Sound here (AllByRecursion (GoodProcedure p_syntax)) (each procedure) r → (p : Place) (k : TokenView)
       → SoundAt p k here (AllByRecursion (GoodProcedure p_syntax)) (each procedure) (procedures_by m n r p k)
   by_procedures_sound n r i p (tk.reserved w) = sound_pick w (procedure_words m n r p) (gives []) (sound_past refl (more_sound (procedure_sound n p) i), tt) (sound_stays (sound_gives [] tt (λ ts. refl)))
   by_procedures_sound n r i p k = sound_stays (sound_gives [] tt (λ ts. refl))
 
-  procedures_sound : (n : ℕ) → Sound here (AllByRecursion (GoodProcedure p_syntax)) (each procedure) (read_procedures m n)
+  pub procedures_sound : (n : ℕ) → Sound here (AllByRecursion (GoodProcedure p_syntax)) (each procedure) (read_procedures m n)
   procedures_sound zero = sound_refuses
   procedures_sound (suc n) = sound_next (by_procedures_sound n (read_procedures m n) (procedures_sound n))
 
-  by_processes_sound : (n : ℕ) (r : Reader (List Process)) → Sound here (AllByRecursion (GoodProcess p_syntax)) (each process) r → (p : Place) (k : TokenView)
+  pub by_processes_sound : (n : ℕ) (r : Reader (List Process)) → Sound here (AllByRecursion (GoodProcess p_syntax)) (each process) r → (p : Place) (k : TokenView)
       → SoundAt p k here (AllByRecursion (GoodProcess p_syntax)) (each process) (processes_by m n r p k)
   by_processes_sound n r i p (tk.reserved w) =
       (let ws = processes_words n p in
       sound_pick w (all_more r (process_words m n p)) (gives []) (more_at ws.0 i, (more_at ws.1.0 i, tt)) (sound_stays (sound_gives [] tt (λ ts. refl))))
   by_processes_sound n r i p k = sound_stays (sound_gives [] tt (λ ts. refl))
 
-  processes_sound : (n : ℕ) → Sound here (AllByRecursion (GoodProcess p_syntax)) (each process) (read_processes m n)
+  pub processes_sound : (n : ℕ) → Sound here (AllByRecursion (GoodProcess p_syntax)) (each process) (read_processes m n)
   processes_sound zero = sound_refuses
   processes_sound (suc n) = sound_next (by_processes_sound n (read_processes m n) (processes_sound n))
 
   -- ---- the whole
-  by_define_sound : (n : ℕ) (p : Place) (k : TokenView) → SoundAt p k here (GoodDefine p_syntax) define (define_by m n p k)
+  pub by_define_sound : (n : ℕ) (p : Place) (k : TokenView) → SoundAt p k here (GoodDefine p_syntax) define (define_by m n p k)
   by_define_sound n p (tk.reserved w) =
       sound_pick w (define_words m n p) (gives no_define) (
         sound_past refl (sound_bind (definitions_sound m h n) (λ ds g. sound_bind (sound_key (codes "end")) (λ b u. sound_bind (sound_key (codes "define")) (λ d v. sound_bind semicolon_sound (λ s x.
@@ -111,7 +111,7 @@ module _ (m : Parts) (h : SoundParts m) where
       (sound_stays (sound_gives no_define tt (λ ts. refl)))
   by_define_sound n p k = sound_stays (sound_gives no_define tt (λ ts. refl))
 
-  by_main_sound : (n : ℕ) (p : Place) (k : TokenView) → SoundAt p k here (GoodMain p_syntax) main (main_by m n p k)
+  pub by_main_sound : (n : ℕ) (p : Place) (k : TokenView) → SoundAt p k here (GoodMain p_syntax) main (main_by m n p k)
   by_main_sound n p (tk.reserved w) =
       sound_pick w (main_words m n p) (main_processes m n (pick w (process_words m n p) refuses))
       (sound_past refl (sound_bind (sequence_sound m h n) (λ ss g. sound_gives (begin p ss) g (λ ts. refl))), tt)

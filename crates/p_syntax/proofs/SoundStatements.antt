@@ -86,7 +86,7 @@ pub with_before_tokens : (b : Before) (ss : Sequence) (ts : List Token) → sequ
 with_before_tokens none ss ts = refl
 with_before_tokens (after b ls a p) ss ts = with_before_tokens b (more_statements ls a p ss) ts
 
-with_before_good : (b : Before) (ss : Sequence) → GoodBefore b → GoodSequence ss → GoodSequence (with_before b ss)
+pub with_before_good : (b : Before) (ss : Sequence) → GoodBefore b → GoodSequence ss → GoodSequence (with_before b ss)
 with_before_good none ss g h = h
 with_before_good (after b ls a p) ss g h = with_before_good b (more_statements ls a p ss) g.0 (g.1, h)
 
@@ -98,7 +98,7 @@ pub closed_if_tokens : (t : Tests) (a : Sequence) (b : Else) (r s : Place) (ts :
 closed_if_tokens (if_test p e q) a b r s ts = refl
 closed_if_tokens (elsif_test t c p e q) a b r s ts = closed_if_tokens t c (else_if p e q a b) r s ts
 
-closed_if_good : (t : Tests) (a : Sequence) (b : Else) (r s : Place) → GoodTests t → GoodSequence a → GoodElse b → GoodStatement (closed_if t a b r s)
+pub closed_if_good : (t : Tests) (a : Sequence) (b : Else) (r s : Place) → GoodTests t → GoodSequence a → GoodElse b → GoodStatement (closed_if t a b r s)
 closed_if_good (if_test p e q) a b r s g h i = (g, h, i)
 closed_if_good (elsif_test t c p e q) a b r s g h i = closed_if_good t c (else_if p e q a b) r s g.0 g.1 (g.2, h, i)
 
@@ -106,7 +106,7 @@ pub closed_either_tokens : (t : Arms) (a : Sequence) (bs : Branches) (r s : Plac
 closed_either_tokens (first_arm p) a bs r s ts = refl
 closed_either_tokens (later_arm t c p) a bs r s ts = closed_either_tokens t c (more_branches p a bs) r s ts
 
-closed_either_good : (t : Arms) (a : Sequence) (bs : Branches) (r s : Place) → GoodArms t → GoodSequence a → GoodBranches bs → GoodStatement (closed_either t a bs r s)
+pub closed_either_good : (t : Arms) (a : Sequence) (bs : Branches) (r s : Place) → GoodArms t → GoodSequence a → GoodBranches bs → GoodStatement (closed_either t a bs r s)
 closed_either_good (first_arm p) a bs r s g h i = (h, i)
 closed_either_good (later_arm t c p) a bs r s g h i = closed_either_good t c (more_branches p a bs) r s g.0 g.1 (h, i)
 

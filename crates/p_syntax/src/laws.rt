@@ -30,3 +30,8 @@ pub fn nothing_passes_where_reading_stops()
     ensures refused { (ts : List Token) (t : Token) (rest : List Token) (r : Rule) → read_algorithm ts ≡ Err (r, t ∷ rest) → (passed : List Token) → ts ≡ passed ++ t ∷ rest → (x : Text) → Good p_syntax x → (more : List Token) → spell x [] ≡ passed ++ t ∷ more → ⊥ }
     ensures unspelled { (ts rest : List Token) (r : Rule) → read_algorithm ts ≡ Err (r, rest) → (x : Text) → Good p_syntax x → ts ≡ spell x [] → ⊥ }
 {}
+
+/// And a refusal is not late: what was passed before the refused token, or before the end, can be gone on with to a whole algorithm.
+pub fn refusals_are_at_the_earliest_place()
+    ensures { (ts passed rest : List Token) (r : Rule) → read_algorithm ts ≡ Err (r, rest) → ts ≡ passed ++ rest → (fix : List Token) × (x : Text) × Good p_syntax x × (spell x [] ≡ passed ++ fix) }
+{}
