@@ -1,5 +1,5 @@
 -- The tokens of a file's algorithm, where the file breaks none of the rules 1 to 10.
-use Rattle.std.proofs.Common.{◌≡◌, ℕ, zero, suc, ◌+◌, ◌-◌, ◌≤◌, Bool, true, false, ◌&&◌, ◌||◌, not, nat_eq, nat_le, List, [], ◌∷◌, ◌++◌, length, map, drop, Option, Some, None, refl, sym, ap, subst, ◌∙◌, arith, length-append, find, codes}
+use Rattle.std.proofs.Common.{◌≡◌, ℕ, zero, suc, ◌+◌, ◌-◌, ◌≤◌, Bool, true, false, ◌&&◌, ◌||◌, nat_eq, nat_le, List, [], ◌∷◌, ◌++◌, length, map, drop, Option, Some, None, refl, sym, ap, subst, ◌∙◌, arith, length-append, find, codes}
 use Rattle.std.specs.Prelude.{if◌then◌else◌, filter}
 use Rattle.std.specs.Str.{bytes_eq}
 use Rattle.std.specs.List.{list_all, list_any, starts_with, flat_map}
@@ -14,14 +14,12 @@ use Rattle.tla_token.specs.declared.rule.Stop.TheVariants as stop
 use Rattle.tla_token.specs.declared.token.Tokens.{Tokens}
 use Rattle.tla_token.specs.TokensSeen.{tokens_seen}
 use Rattle.tla_token.specs.declared.fault.Reading.TheVariants as reading
-use Rattle.tla_token.specs.Places.{place_at}
 use Rattle.tla_token.specs.Limits.{past_numbers}
 use Rattle.tla_token.specs.Lexemes.{Kind, name, number, string, one, other}
-use Rattle.tla_token.specs.Tokens.{Token, Piece, blank, block, line, lexeme, Tok, TokAlgorithm, stretch, openings, holds_mark}
+use Rattle.tla_token.specs.Tokens.{Token, blank, block, line, lexeme, Tok, TokAlgorithm, stretch, openings, holds_mark}
 use Rattle.tla_token.specs.Offences.{Part, part_bytes, sound, stray, bad_string, open_string, open_block, is_stray, has_bad_escape, breaks_string, Offence, offence_if, byte_offences, part_offences}
 use Rattle.tla_token.specs.Signs.{is_among}
 use Rattle.tla_token.specs.Readings.{IsRefused}
-use Rattle.tla_token.specs.Cut.{pieces}
 use Rattle.tla_token.proofs.Exact.{parts_offend}
 use Rattle.tla_token.proofs.Faulty.{never_both}
 use Rattle.tla_token.proofs.Spelled.{begins_is, same_bytes}

@@ -1,6 +1,5 @@
 -- The form that is read of a file's parts is that of the file.
-use Rattle.std.proofs.Common.{◌≡◌, ℕ, Bool, true, false, List, [], ◌∷◌, ◌++◌, map, drop, Option, Some, None, refl, sym, ap, subst, ◌∙◌, codes}
-use Rattle.std.specs.Str.{bytes_eq}
+use Rattle.std.proofs.Common.{◌≡◌, ℕ, Bool, true, false, List, [], ◌∷◌, ◌++◌, map, drop, Option, Some, None, refl, sym, ap, subst, ◌∙◌}
 use Rattle.std.specs.List.{flat_map}
 use Rattle.tla_token.specs.declared.token.Token as code_token
 use Rattle.tla_token.specs.declared.token.Tokens.{Tokens}
@@ -15,7 +14,7 @@ use Rattle.tla_expr.specs.TokenViews.{view, views}
 use Rattle.module_text.specs.declared.parts.Parts as code_parts
 use Rattle.module_text.specs.TextFront.{Text}
 use Rattle.module_text.specs.Walk.{walk}
-use Rattle.module_text.specs.FileParts.{title, before_spot, after_spot, Span, spot}
+use Rattle.module_text.specs.FileParts.{title, before_spot, after_spot, spot}
 use Rattle.module_text.specs.FileUnits.{cut, tokens_in}
 use Rattle.module_text.specs.AlgorithmText.{AlgorithmText}
 use Rattle.module_text.specs.AlgorithmText as file
@@ -33,9 +32,8 @@ use Rattle.tla_token.specs.declared.rule.Stop.{Stop}
 use Rattle.tla_token.specs.declared.rule.Stop.TheVariants as stop
 use Rattle.pcal_cli.specs.Causes.{IsStop}
 use Rattle.pcal_cli.specs.declared.rest.Rest.{Rest}
-use Rattle.pcal_cli.specs.declared.outside.Outside.{Outside}
 use Rattle.pcal_cli.specs.FormTokens.{capped_kind, kinds_seen, kinds_ahead, algorithm_in}
-use Rattle.pcal_cli.specs.OutsideTokens.{view_seen, views_of, beside_of}
+use Rattle.pcal_cli.specs.OutsideTokens.{view_seen, views_of}
 use Rattle.pcal_cli.specs.AlgorithmTokens.{AreAlgorithm}
 use Rattle.pcal_cli.proofs.FormTokens.{algorithm_read}
 use Rattle.pcal_cli.proofs.Capped.{parts_capped}

@@ -8,3 +8,4 @@ pub mod OutsideTokens
 pub mod Capped
 pub mod AlgorithmRead
 pub mod FormFound
+pub mod RowsBeside

@@ -1,19 +1,17 @@
 -- What tokens are to units, and how units are found one after the other.
 use Rattle.std.specs.Prelude.{bytes_eq}
-use Rattle.std.proofs.Common.{◌≡◌, ℕ, zero, suc, ◌+◌, ◌-◌, ◌<◌, ◌≤◌, Bool, true, false, ◌&&◌, ◌||◌, not, nat_eq, cond, List, [], ◌∷◌, ◌++◌, length, take, drop, drop-cons, get_or, map, codes, refl, sym, ap, ◌∙◌, arith, if◌then◌else◌, Bor}
+use Rattle.std.proofs.Common.{◌≡◌, ℕ, suc, ◌+◌, ◌-◌, ◌<◌, ◌≤◌, Bool, true, false, ◌&&◌, ◌||◌, not, nat_eq, cond, List, [], ◌∷◌, ◌++◌, length, take, drop, drop-cons, get_or, map, codes, refl, sym, ap, ◌∙◌, arith, if◌then◌else◌, Bor}
 use Rattle.std.specs.List.{list_any, list_all, flat_map}
 use Rattle.std.proofs.lemmas.Bool.{and_parts, and_right}
 use Rattle.std.proofs.lemmas.List.{drop-map, take-map, take_all, length-drop}
 use Rattle.tla_token.specs.Signs.{is_among}
-use Rattle.tla_token.specs.Words.{is_pluscal_word, is_tla_word, tla_words, begins_fairness}
-use Rattle.tla_token.proofs.Words.{one_plus}
+use Rattle.tla_token.specs.Words.{is_pluscal_word, is_tla_word, tla_words}
 use Rattle.tla_token.proofs.Spelled.{same_bytes}
 use Rattle.tla_expr.specs.Tree.{Word}
 use Rattle.tla_expr.specs.Lexical as tk
 use Rattle.tla_expr.specs.Lexical.{TokenView, Token}
 use Rattle.tla_expr.specs.TokenViews.{kind_among, word_kinds, word_kind, sign_kind, kind_of}
-use Rattle.module_text.specs.Beginnings.{is_rule}
-use Rattle.module_text.specs.FileUnits.{unit_words, is_starter, is_bar, begins_unit, Cut, cut, cut_at}
+use Rattle.module_text.specs.FileUnits.{is_starter, is_bar, begins_unit, cut, cut_at}
 use Rattle.module_text.specs.Outside.{identifiers, first_one, is_define, title_at, keyword_of, opaque_of}
 use Rattle.tla_token.specs.declared.sign.Sign.{Sign}
 use Rattle.tla_token.specs.declared.sign.Sign.TheVariants as sign

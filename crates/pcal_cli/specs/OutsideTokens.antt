@@ -1,5 +1,5 @@
 -- Tokens in memory that are beside an algorithm, seen as the tokens of units.
-use Rattle.std.specs.Prelude.{ℕ, List, [], ◌∷◌, ◌++◌, ◌||◌, ◌&&◌, Bool, false, nat_eq, map, bytes_eq}
+use Rattle.std.specs.Prelude.{ℕ, List, [], ◌++◌, ◌||◌, ◌&&◌, Bool, false, nat_eq, map, bytes_eq}
 use Rattle.std.specs.List.{flat_map}
 use Rattle.tla_token.specs.declared.token.Token.{Token}
 use Rattle.tla_token.specs.declared.token.Tokens.{Tokens}

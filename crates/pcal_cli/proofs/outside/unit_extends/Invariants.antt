@@ -1,5 +1,5 @@
 -- What holds of the units is what holds of those to come.
-use Rattle.std.proofs.Common.{◌≡◌, ℕ, length}
+use Rattle.std.proofs.Common.{◌≡◌, length}
 use Rattle.std.specs.List.{flat_map}
 use Rattle.tla_token.specs.Signs.{is_among}
 use Rattle.module_text.specs.FileUnits.{cut}

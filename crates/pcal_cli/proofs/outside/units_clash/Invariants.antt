@@ -1,5 +1,5 @@
 -- What holds of the units is what holds of those to come.
-use Rattle.std.proofs.Common.{◌≡◌, ℕ, length}
+use Rattle.std.proofs.Common.{◌≡◌, length}
 use Rattle.std.specs.List.{list_any, flat_map}
 use Rattle.module_text.specs.FileUnits.{cut}
 use Rattle.first_path.specs.Beside.{declared_by}

@@ -1,7 +1,7 @@
 -- What is found is the form of the file.
 use Rattle.std.proofs.Common.{◌∙◌, sym}
 use Rattle.pcal_cli.specs.FormSeen.{parts_of}
-use Rattle.pcal_cli.proofs.FormFound.{Asked, no_form, some_form, unsuited_form}
+use Rattle.pcal_cli.proofs.FormFound.{no_form, some_form, unsuited_form}
 use Rattle.pcal_cli.proofs.translated.form_in.Goals as goal
 
 pub returns-in_err-form : goal.returns-in_err-form
