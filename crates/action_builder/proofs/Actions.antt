@@ -1,7 +1,7 @@
 -- The action that is written for effects, over what expressions give on a pair of states.
 use Rattle.std.specs.Prelude.{List, [], ◌∷◌, Bool, true, false, cond, ◌&&◌, bytes_eq, Ok, Err}
 use Rattle.tla_token.specs.Signs.{is_among}
-use Rattle.tla_expr.specs.Tree.{Word}
+use Rattle.tla_tree.specs.Tree.{Word}
 use Rattle.tla_value.specs.Value.{Value, Values, no_values, and, Trouble, Outcome, ◌>>=◌, and_then, or_all}
 use Rattle.tla_value.specs.Order.{same}
 use Rattle.pcal_tree.specs.Algorithm.{Statements}

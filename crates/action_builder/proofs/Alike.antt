@@ -3,7 +3,7 @@ use Rattle.std.proofs.Common.{Bool, true, false, cond, refl, subst, Ok, Err}
 use Rattle.tla_token.specs.declared.place.Place.{Place}
 use Rattle.tla_value.specs.Value.{Value, truth, int, text, model, set, fun, Values, no_values, and, Outcome, Trouble, fault, over, ◌>>=◌, and_then, or_all}
 use Rattle.tla_value.specs.Stops.{truth_at, members_at}
-use Rattle.module_text.specs.ActionTruth.{Verdict, some_member}
+use Rattle.module_tree.specs.ActionTruth.{Verdict, some_member}
 use Rattle.tla_value.specs.laws.Places.{SameKind, AgreeButPlaces}
 
 one_kind : (k : Trouble) → SameKind k k

@@ -1,7 +1,7 @@
 -- Where a jump, a call or a return is doesn't matter to its end, and not to the kind of its trouble.
 use Rattle.std.proofs.Common.{◌≡◌, List, [], ◌∷◌, ◌++◌, Bool, true, false, cond, nat_eq, refl, sym, subst, Ok, Err}
 use Rattle.tla_token.specs.declared.place.Place.{Place}
-use Rattle.tla_expr.specs.Tree.{Word}
+use Rattle.tla_tree.specs.Tree.{Word}
 use Rattle.tla_value.specs.Value.{Value, Trouble, fault, over, Outcome, text}
 use Rattle.tla_value.specs.Stops.{Check, plain}
 use Rattle.tla_value.specs.Definitions.{trouble_at}

@@ -1,6 +1,6 @@
 -- What is written for a macro call has a statement and no label, where the bodies of macros have no label.
 use Rattle.std.proofs.Common.{◌≡◌, List, [], ◌∷◌, Bool, true, false, cond, bytes_eq}
-use Rattle.tla_expr.specs.Tree.{Word, Trees, Graft}
+use Rattle.tla_tree.specs.Tree.{Word, Trees, Graft}
 use Rattle.pcal_tree.specs.Algorithm.{Span, Statement, branch, either, with, while, macro, Statements, done, then, mark, Branches, no_branches, or, Macro}
 use Rattle.pcal_tree.specs.Run.{arguments}
 use Rattle.pcal_tree.specs.StepStart.{begin}

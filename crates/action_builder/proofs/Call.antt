@@ -1,9 +1,9 @@
 -- The assignments written for a call have the ends of the call, and trouble where it has trouble.
 use Rattle.std.proofs.Common.{◌≡◌, true, List, [], ◌∷◌, ◌++◌, ◌⊎◌, refl, sym, ◌∙◌, ap, subst, inl, inr, ⊎_elim, Ok, Err}
 use Rattle.std.specs.Option.{ok_or}
-use Rattle.tla_expr.specs.declared.op.Op.TheVariants.{Concat}
+use Rattle.tla_tree.specs.declared.op.Op.TheVariants.{Concat}
 use Rattle.tla_token.specs.declared.place.Place.{Place}
-use Rattle.tla_expr.specs.Tree.{Word, Each, name, Tree, node, Trees, no_trees, tree, operator, tuple, fields, root_place}
+use Rattle.tla_tree.specs.Tree.{Word, Each, name, Tree, node, Trees, no_trees, tree, operator, tuple, fields, root_place}
 use Rattle.tla_value.specs.Value.{Value, text, Trouble, Outcome, ◌>>=◌, IsBad, fault}
 use Rattle.tla_value.specs.Order.{seq_from}
 use Rattle.tla_value.specs.Stops.{Check, plain, sequence_at}

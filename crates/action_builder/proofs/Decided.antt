@@ -4,7 +4,7 @@ use Rattle.std.specs.List.{list_all}
 use Rattle.std.proofs.lemmas.Bool.{and_parts}
 use Rattle.tla_token.specs.Signs.{is_among}
 use Rattle.tla_token.specs.declared.place.Place.{Place}
-use Rattle.tla_expr.specs.Tree.{Word, Form, next, Tree, node, Trees, no_trees, tree, Each, Every, EveryOf, binders, Graft}
+use Rattle.tla_tree.specs.Tree.{Word, Form, next, Tree, node, Trees, no_trees, tree, Each, Every, EveryOf, binders, Graft}
 use Rattle.tla_value.specs.Stops.{Check}
 use Rattle.tla_value.specs.laws.Grafting.{In, Clear, BindsClear, BindsNone, IsUnprimed}
 use Rattle.pcal_tree.specs.Algorithm.{Assignments, no_assignments, assignment, Statement, assign, await, print, assert, skip, branch, either, Statements, done, then, mark, Branches, no_branches, or}

@@ -1,7 +1,7 @@
 -- A run of the statements is a run of their effects, and then what follows.
 use Rattle.std.proofs.Common.{◌≡◌, List, [], ◌∷◌, ◌++◌, Bool, true, false, cond, ◌⊎◌, ◌↔◌, refl, sym, ◌∙◌, ap, subst, inl, inr, ⊎_elim, Ok, Err}
 use Rattle.tla_token.specs.declared.place.Place.{Place}
-use Rattle.tla_expr.specs.Tree.{Word, apply, select, name, strict, Tree, node, Trees, no_trees, tree, root_place}
+use Rattle.tla_tree.specs.Tree.{Word, apply, select, name, strict, Tree, node, Trees, no_trees, tree, root_place}
 use Rattle.tla_value.specs.declared.fault.FaultKind.TheVariants.{AssertFailed}
 use Rattle.tla_value.specs.Value.{Value, text, Values, no_values, and, Outcome, fault, Trouble, ◌>>=◌}
 use Rattle.tla_value.specs.Stops.{Check}

@@ -1,7 +1,7 @@
 -- Effects of statements that have no jump, label, loop or call, over what expressions give in a scope and a state, and their runs.
 use Rattle.std.specs.Prelude.{◌≡◌, List, [], ◌∷◌, ◌++◌, Bool, true, false, cond, ◌⊎◌, Ok, Err}
 use Rattle.tla_token.specs.declared.place.Place.{Place}
-use Rattle.tla_expr.specs.Tree.{Word, Tree, root_place}
+use Rattle.tla_tree.specs.Tree.{Word, Tree, root_place}
 use Rattle.tla_value.specs.declared.fault.FaultKind.TheVariants.{AssertFailed}
 use Rattle.tla_value.specs.Value.{Value, Values, no_values, and, fault, Outcome, ◌>>=◌}
 use Rattle.tla_value.specs.Stops.{Check}

@@ -2,7 +2,7 @@
 use Rattle.std.proofs.Common.{◌≡◌, true, bytes_eq, subst}
 use Rattle.std.proofs.lemmas.Slice.Eq.{bytes_eq-Decides}
 use Rattle.tla_token.proofs.Spelled.{same_bytes}
-use Rattle.tla_expr.specs.Tree.{Word}
+use Rattle.tla_tree.specs.Tree.{Word}
 use Rattle.tla_value.specs.Value.{Value}
 use Rattle.tla_value.specs.Order.{same}
 use Rattle.tla_value.specs.OrderLaws.{same_self}

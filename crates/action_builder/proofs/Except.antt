@@ -1,7 +1,7 @@
 -- The written right side of a variable has the value that its assignments give it.
 use Rattle.std.proofs.Common.{◌≡◌, List, [], ◌∷◌, ◌++◌, Bool, true, false, cond, bytes_eq, refl, sym, ◌∙◌, ap, Ok, Err}
 use Rattle.tla_token.specs.declared.place.Place.{Place}
-use Rattle.tla_expr.specs.Tree.{Word, index, apply, select, except, name, strict, Tree, node, Trees, no_trees, tree, root_place}
+use Rattle.tla_tree.specs.Tree.{Word, index, apply, select, except, name, strict, Tree, node, Trees, no_trees, tree, root_place}
 use Rattle.tla_value.specs.Value.{Value, text, Outcome, fault, over, ◌>>=◌}
 use Rattle.tla_value.specs.Stops.{Check, plain}
 use Rattle.tla_value.specs.Strict.{changed_at, next_slot, updated, strict_value}

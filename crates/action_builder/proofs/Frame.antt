@@ -1,7 +1,7 @@
 -- A run changes no variable that its items don't assign.
 use Rattle.std.proofs.Common.{◌≡◌, List, ◌++◌, Bool, true, false, refl, sym, ◌∙◌, ap, subst, ⊎_elim, Ok, Err}
 use Rattle.std.proofs.lemmas.Bool.{or_parts}
-use Rattle.tla_expr.specs.Tree.{Word}
+use Rattle.tla_tree.specs.Tree.{Word}
 use Rattle.tla_value.specs.Value.{Value, Values, no_values, and, Outcome}
 use Rattle.tla_value.proofs.Outcomes.{ok_is}
 use Rattle.pcal_tree.specs.Scope.{Scope, bound, State}

@@ -1,14 +1,14 @@
 -- Places in items don't matter to their truth but for where a fault is.
 use Rattle.std.proofs.Common.{◌≡◌, refl, ap, subst}
-use Rattle.tla_expr.specs.Tree.{Word, Tree, root_place}
+use Rattle.tla_tree.specs.Tree.{Word, Tree, root_place}
 use Rattle.tla_value.specs.Value.{Value, Outcome, ◌>>=◌}
 use Rattle.tla_value.specs.Stops.{Check, truth_at, members_at}
 use Rattle.tla_value.specs.Meaning.{Env, bind, eval}
 use Rattle.tla_value.specs.Definitions.{Valuation}
 use Rattle.tla_value.specs.laws.Places.{AgreeButPlaces, EnvsButPlaces, ChecksButPlaces, TreesButPlaces}
 use Rattle.tla_value.proofs.Places.{eval_places, bind_places}
-use Rattle.module_text.specs.ActionTruth.{is_value, are_unchanged, truth_in, members_in, item_holds, items_hold, some_branch}
-use Rattle.module_text.specs.Module.{Item, test, setting, unchanged, exists, local, if_then_else, either, Items, no_items, item, Branches, no_branches, branch}
+use Rattle.module_tree.specs.ActionTruth.{is_value, are_unchanged, truth_in, members_in, item_holds, items_hold, some_branch}
+use Rattle.module_tree.specs.Module.{Item, test, setting, unchanged, exists, local, if_then_else, either, Items, no_items, item, Branches, no_branches, branch}
 use Rattle.action_builder.specs.laws.Places.{ItemButPlaces, ItemsButPlaces, BranchesButPlaces}
 use Rattle.action_builder.proofs.Alike.{then_same, and_same, or_same, cond_same, truth_same, members_same, each_same}
 

@@ -1,11 +1,11 @@
 -- The laws of the written items, for statements and their runs.
 use Rattle.std.proofs.Common.{◌≡◌, List, [], Bool, true, false, ◌↔◌, sym, ◌∙◌, ap, subst, Ok, Err}
 use Rattle.tla_token.specs.Signs.{is_among}
-use Rattle.tla_expr.specs.Tree.{Word}
+use Rattle.tla_tree.specs.Tree.{Word}
 use Rattle.tla_value.specs.Stops.{plain}
 use Rattle.tla_value.specs.Meaning.{Env}
 use Rattle.tla_value.specs.Value.{TrueExactly}
-use Rattle.module_text.specs.ActionTruth.{Verdict}
+use Rattle.module_tree.specs.ActionTruth.{Verdict}
 use Rattle.pcal_tree.specs.Algorithm.{Statements}
 use Rattle.pcal_tree.specs.Scope.{State, Scope}
 use Rattle.pcal_tree.specs.Run.{Rules}

@@ -2,7 +2,7 @@
 use Rattle.std.proofs.Common.{◌≡◌, List, [], ◌∷◌, ◌++◌, refl, sym, ◌∙◌, ap, Ok, Err}
 use Rattle.std.specs.Prelude.{codes}
 use Rattle.tla_token.specs.declared.place.Place.{Place}
-use Rattle.tla_expr.specs.Tree.{Word, Tree, Each, select}
+use Rattle.tla_tree.specs.Tree.{Word, Tree, Each, select}
 use Rattle.tla_value.specs.Value.{Value, text, Outcome, ◌>>=◌}
 use Rattle.tla_value.specs.Order.{seq_from}
 use Rattle.tla_value.specs.Stops.{Check, plain, sequence_at}

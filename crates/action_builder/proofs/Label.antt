@@ -2,10 +2,10 @@
 use Rattle.std.proofs.Common.{◌≡◌, List, [], Bool, true, false, ◌↔◌, refl, sym, ◌∙◌, ap, subst, ⊎_elim, Ok, Err}
 use Rattle.std.proofs.lemmas.Bool.{cases_Bool, both_ways}
 use Rattle.tla_token.specs.Signs.{is_among}
-use Rattle.tla_expr.specs.Tree.{Word}
+use Rattle.tla_tree.specs.Tree.{Word}
 use Rattle.tla_value.specs.Stops.{plain}
 use Rattle.tla_value.specs.Meaning.{Env}
-use Rattle.module_text.specs.ActionTruth.{Verdict, items_hold}
+use Rattle.module_tree.specs.ActionTruth.{Verdict, items_hold}
 use Rattle.pcal_tree.specs.Scope.{State}
 use Rattle.action_builder.specs.Assigned.{assigned_in}
 use Rattle.action_builder.proofs.Effects.{effects_of}

@@ -4,7 +4,7 @@ use Rattle.std.proofs.lemmas.Bool.{cases_Bool, or_cases, both_ways, and_parts, o
 use Rattle.tla_token.specs.Signs.{is_among}
 use Rattle.tla_token.specs.declared.place.Place.{Place}
 use Rattle.tla_token.proofs.Spelled.{same_bytes}
-use Rattle.tla_expr.specs.Tree.{Word, apply, name, strict, select, Tree, node, Trees, no_trees, tree, EveryOf, root_place}
+use Rattle.tla_tree.specs.Tree.{Word, apply, name, strict, select, Tree, node, Trees, no_trees, tree, EveryOf, root_place}
 use Rattle.tla_value.specs.declared.fault.FaultKind.TheVariants.{AssertFailed}
 use Rattle.tla_value.specs.Value.{Value, truth, int, text, model, set, fun, Values, no_values, and, Outcome, ◌>>=◌, fault, and_then, or_all}
 use Rattle.tla_value.specs.Value as Values
@@ -17,8 +17,8 @@ use Rattle.tla_value.specs.laws.FreeNames.{FreeInParts}
 use Rattle.tla_value.proofs.Primes.{unprimed_law}
 use Rattle.tla_value.proofs.Outcomes.{then_then}
 use Rattle.tla_value.specs.OrderLaws.{same_is}
-use Rattle.module_text.specs.ActionTruth.{Verdict, is_unchanged}
-use Rattle.module_text.specs.ActionTruth as Module
+use Rattle.module_tree.specs.ActionTruth.{Verdict, is_unchanged}
+use Rattle.module_tree.specs.ActionTruth as Module
 use Rattle.pcal_tree.specs.Algorithm.{Assignments, no_assignments, assignment}
 use Rattle.pcal_tree.specs.Scope.{State, Scope, bound}
 use Rattle.action_builder.specs.Assigned.{Names, head_of}

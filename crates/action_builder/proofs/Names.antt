@@ -4,7 +4,7 @@ use Rattle.std.proofs.lemmas.Bool.{or_cases}
 use Rattle.tla_token.specs.Signs.{is_among}
 use Rattle.tla_token.specs.declared.place.Place.{Place}
 use Rattle.tla_token.proofs.Spelled.{same_bytes}
-use Rattle.tla_expr.specs.Tree.{Word, apply, select, name, strict, Tree, node, Trees, no_trees, tree, Each}
+use Rattle.tla_tree.specs.Tree.{Word, apply, select, name, strict, Tree, node, Trees, no_trees, tree, Each}
 use Rattle.tla_value.specs.Stops.{Check}
 use Rattle.pcal_tree.specs.Algorithm.{Assignments, no_assignments, assignment, Binds, no_binds, one_of, is, Statement, assign, await, print, assert, skip, branch, either, with, while, goto, macro, call, return, Statements, done, then, mark, Branches, no_branches, or}
 use Rattle.action_builder.specs.Assigned.{Names, more, without, head_of, head_first, heads, assigned, assigned_in, assigned_by}

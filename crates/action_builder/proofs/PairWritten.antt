@@ -3,8 +3,8 @@ use Rattle.std.proofs.Common.{◌≡◌, List, [], ◌∷◌, ◌++◌, Bool, tr
 use Rattle.std.proofs.lemmas.Bool.{and_parts}
 use Rattle.std.specs.Option.{ok_or}
 use Rattle.tla_token.specs.declared.place.Place.{Place}
-use Rattle.tla_expr.specs.declared.op.Op.TheVariants.{Concat}
-use Rattle.tla_expr.specs.Tree.{Word, Form, name, operator_call, Each, Tree, node, Trees, no_trees, tree, operator, tuple, fields, select, seen_names}
+use Rattle.tla_tree.specs.declared.op.Op.TheVariants.{Concat}
+use Rattle.tla_tree.specs.Tree.{Word, Form, name, operator_call, Each, Tree, node, Trees, no_trees, tree, operator, tuple, fields, select, seen_names}
 use Rattle.tla_value.specs.declared.fault.FaultKind.TheVariants.{NotSequence, EmptySequence}
 use Rattle.tla_value.specs.Value.{Value, text, Trouble, fault, Outcome, ◌>>=◌, IsBad}
 use Rattle.tla_value.specs.Order.{seq_from}

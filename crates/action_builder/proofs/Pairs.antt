@@ -1,7 +1,7 @@
 -- The assignments written for a call that is one statement with a return have the ends of it, and trouble where it has trouble.
 use Rattle.std.proofs.Common.{◌≡◌, List, [], ◌∷◌, ◌++◌, false, bytes_eq, ◌⊎◌, refl, sym, ◌∙◌, ap, subst, inl, inr, Ok, Err}
 use Rattle.tla_token.specs.declared.place.Place.{Place}
-use Rattle.tla_expr.specs.Tree.{Word, Each}
+use Rattle.tla_tree.specs.Tree.{Word, Each}
 use Rattle.tla_value.specs.Value.{Value, Outcome, ◌>>=◌}
 use Rattle.tla_value.specs.Stops.{plain}
 use Rattle.tla_value.proofs.Outcomes.{then_ok, then_then}

@@ -1,7 +1,7 @@
 -- The prepared statements have the ends of the statements as they are, and trouble where these have trouble.
 use Rattle.std.proofs.Common.{◌≡◌, List, [], ◌∷◌, Bool, true, false, cond, Some, None, refl, sym, ◌∙◌, subst, Ok, Err}
 use Rattle.tla_token.specs.declared.place.Place.{Place}
-use Rattle.tla_expr.specs.Tree.{Word, apply, name, node, no_trees}
+use Rattle.tla_tree.specs.Tree.{Word, apply, name, node, no_trees}
 use Rattle.tla_value.specs.Value.{Value, Outcome, Sense, fault, over, ◌>>=◌}
 use Rattle.tla_value.specs.Stops.{Check, sense_of}
 use Rattle.tla_value.specs.Strict.{applied, strict_value, strict_test}

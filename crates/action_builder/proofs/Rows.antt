@@ -1,9 +1,9 @@
 -- What is written for some statements, by computation.
 use Rattle.std.proofs.Common.{◌≡◌, ℕ, [], ◌∷◌, codes, refl}
 use Rattle.tla_token.specs.declared.place.Place.{Place}
-use Rattle.tla_expr.specs.declared.op.Op.TheVariants.{Equal}
-use Rattle.tla_expr.specs.Tree.{Word, index, number, name, next, strict, operator, apply, except, Tree, node, no_trees, tree}
-use Rattle.module_text.specs.Module.{test, setting, unchanged, exists, if_then_else, either as any, no_items, item, no_branches as no_lists, branch as list}
+use Rattle.tla_tree.specs.declared.op.Op.TheVariants.{Equal}
+use Rattle.tla_tree.specs.Tree.{Word, index, number, name, next, strict, operator, apply, except, Tree, node, no_trees, tree}
+use Rattle.module_tree.specs.Module.{test, setting, unchanged, exists, if_then_else, either as any, no_items, item, no_branches as no_lists, branch as list}
 use Rattle.pcal_tree.specs.Algorithm.{no_assignments, assignment, no_binds, one_of, Statement, assign, skip, branch, either, with, Statements, done, then, no_branches, or}
 use Rattle.action_builder.specs.Written.{true_at, write}
 use Rattle.action_builder.specs.Prepared.{none}

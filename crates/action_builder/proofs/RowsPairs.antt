@@ -1,11 +1,11 @@
 -- What is written for calls that are one statement with the `return` or `goto` after them, by computation.
 use Rattle.std.proofs.Common.{◌≡◌, ℕ, zero, suc, false, List, [], ◌∷◌, Bool, codes, None, refl}
 use Rattle.tla_token.specs.Signs.{is_among}
-use Rattle.tla_expr.specs.declared.op.Op.{Op}
-use Rattle.tla_expr.specs.declared.op.Op.TheVariants.{Plus, Minus, Concat}
-use Rattle.tla_expr.specs.Tree.{Word, index, number, string, name, next, strict, operator, operator_call, apply, select, tuple, fields, except, Tree, node, Trees, no_trees, tree}
+use Rattle.tla_tree.specs.declared.op.Op.{Op}
+use Rattle.tla_tree.specs.declared.op.Op.TheVariants.{Plus, Minus, Concat}
+use Rattle.tla_tree.specs.Tree.{Word, index, number, string, name, next, strict, operator, operator_call, apply, select, tuple, fields, except, Tree, node, Trees, no_trees, tree}
 use Rattle.tla_value.specs.Stops.{plain}
-use Rattle.module_text.specs.Module.{setting, Items, no_items, item}
+use Rattle.module_tree.specs.Module.{setting, Items, no_items, item}
 use Rattle.pcal_tree.specs.declared.mark.Mark.TheVariants.{Plain}
 use Rattle.pcal_tree.specs.Algorithm.{nowhere, Name, Span, Declaration, equals, Procedure, alone, Algorithm, Routine, procedure_routine, alone_routine, Statement, call, goto, return, Statements, done, then, mark}
 use Rattle.pcal_tree.specs.Program.{Program}

@@ -2,7 +2,7 @@
 use Rattle.std.proofs.Common.{◌≡◌, pos, List, [], ◌∷◌, true, false, codes, refl, inl, inr, Ok}
 use Rattle.tla_token.specs.Signs.{is_among}
 use Rattle.std.specs.Prelude.{ℕ}
-use Rattle.tla_expr.specs.Tree.{Word}
+use Rattle.tla_tree.specs.Tree.{Word}
 use Rattle.tla_value.specs.Value.{Value, int, text, fun, no_values, and}
 use Rattle.tla_value.specs.Order.{seq_from, record_from}
 use Rattle.pcal_tree.specs.Scope.{State, put}

@@ -2,7 +2,7 @@
 use Rattle.std.proofs.Common.{◌≡◌, List, [], ◌∷◌, ◌++◌, Bool, true, false, cond, bytes_eq, ◌⊎◌, Option, Some, None, refl, sym, ◌∙◌, ap, subst, inl, inr, if◌then◌else◌, Ok, Err}
 use Rattle.std.specs.Option.{ok_or}
 use Rattle.tla_token.specs.declared.place.Place.{Place}
-use Rattle.tla_expr.specs.Tree.{Word}
+use Rattle.tla_tree.specs.Tree.{Word}
 use Rattle.tla_value.specs.declared.fault.FaultKind.TheVariants.{NotInDomain}
 use Rattle.tla_value.specs.Value.{Value, truth, int, text, model, set, fun, Values, no_values, and, fault, Trouble, Outcome, ◌>>=◌, IsBad}
 use Rattle.tla_value.specs.Order.{same, found_at}

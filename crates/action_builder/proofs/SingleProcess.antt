@@ -1,21 +1,21 @@
 -- Items with trees put in for names have the truth that they have where the names stand for the trees, and troubles of the same kinds.
 use Rattle.std.proofs.Common.{◌≡◌, List, ◌∙◌, ap, Bool, true, false, cond, bytes_eq, Some, None, refl, sym, subst, Ok}
 use Rattle.tla_token.specs.declared.place.Place.{Place}
-use Rattle.tla_expr.specs.Tree.{Word, Strict, operator, functions, records, name, next, operator_call, strings, strict, Tree, node, Every, Graft, graft, root_place}
+use Rattle.tla_tree.specs.Tree.{Word, Strict, operator, functions, records, name, next, operator_call, strings, strict, Tree, node, Every, Graft, graft, root_place}
 use Rattle.tla_value.specs.Value.{Value, Outcome, ◌>>=◌}
 use Rattle.tla_value.specs.Order.{holds}
 use Rattle.tla_value.specs.Strict.{strict_value, strict_test}
 use Rattle.tla_value.proofs.Outcomes.{then_then}
-use Rattle.tla_expr.specs.declared.op.Op.{Op}
-use Rattle.tla_expr.specs.declared.op.Op.TheVariants.{Subset}
+use Rattle.tla_tree.specs.declared.op.Op.{Op}
+use Rattle.tla_tree.specs.declared.op.Op.TheVariants.{Subset}
 use Rattle.tla_value.specs.Stops.{Check, truth_at, members_at, tested, sense_of}
 use Rattle.tla_value.specs.Meaning.{Env, just, bind, part_values, eval, evals}
 use Rattle.tla_value.specs.Grafts.{read_tree}
 use Rattle.tla_value.specs.laws.Grafting.{BindsClear}
 use Rattle.tla_value.specs.Definitions.{Valuation}
 use Rattle.tla_value.proofs.Graft.{Grafted, bound_grafted, grafted_law}
-use Rattle.module_text.specs.Module.{Item, test, setting, unchanged, exists, local, if_then_else, either, Items, no_items, item, Branches, no_branches, branch}
-use Rattle.module_text.specs.ActionTruth.{truth_in, members_in, item_holds, items_hold, some_branch}
+use Rattle.module_tree.specs.Module.{Item, test, setting, unchanged, exists, local, if_then_else, either, Items, no_items, item, Branches, no_branches, branch}
+use Rattle.module_tree.specs.ActionTruth.{truth_in, members_in, item_holds, items_hold, some_branch}
 use Rattle.action_builder.specs.SingleProcess.{in_place_of, graft_item, graft_items, graft_branches}
 use Rattle.tla_value.specs.laws.Places.{AgreeButPlaces}
 use Rattle.action_builder.specs.laws.Grafts.{ClearItem, ClearItems, ClearBranches, StrictListed, IsListed}

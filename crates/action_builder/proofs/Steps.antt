@@ -1,6 +1,6 @@
 -- The items written for a step are true of the step's ends, and fault as the step does.
 use Rattle.std.proofs.Common.{◌≡◌, List, true, ◌↔◌, Ok, Err}
-use Rattle.tla_expr.specs.Tree.{Word}
+use Rattle.tla_tree.specs.Tree.{Word}
 use Rattle.tla_value.specs.Meaning.{Env}
 use Rattle.tla_value.specs.Value.{TrueExactly}
 use Rattle.pcal_tree.specs.Scope.{State}

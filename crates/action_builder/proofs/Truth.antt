@@ -3,7 +3,7 @@ use Rattle.std.proofs.Common.{◌≡◌, List, [], ◌∷◌, Bool, true, false,
 use Rattle.std.proofs.lemmas.Bool.{or_cases, or_left, or_right}
 use Rattle.tla_token.specs.Signs.{is_among}
 use Rattle.tla_token.specs.declared.place.Place.{Place}
-use Rattle.tla_expr.specs.Tree.{Word, name, Tree, node, no_trees, root_place}
+use Rattle.tla_tree.specs.Tree.{Word, name, Tree, node, no_trees, root_place}
 use Rattle.tla_value.specs.Value.{Value, no_values, and, Outcome, IsBad, ◌>>=◌, and_then}
 use Rattle.tla_value.specs.laws.Places.{AgreeButPlaces}
 use Rattle.tla_value.specs.Order.{same}
@@ -11,10 +11,10 @@ use Rattle.tla_value.specs.Stops.{plain, truth_at, members_at}
 use Rattle.tla_value.specs.Standard.{printed, asserted, standard_value}
 use Rattle.tla_value.specs.Meaning.{Env, just, called, part_values, eval}
 use Rattle.tla_value.specs.Definitions.{Valuation}
-use Rattle.module_text.specs.Module as Line
-use Rattle.module_text.specs.Module.{Items, no_items, item}
-use Rattle.module_text.specs.ActionTruth.{Verdict, is_value, items_hold, some_branch}
-use Rattle.module_text.specs.ActionTruth as Module
+use Rattle.module_tree.specs.Module as Line
+use Rattle.module_tree.specs.Module.{Items, no_items, item}
+use Rattle.module_tree.specs.ActionTruth.{Verdict, is_value, items_hold, some_branch}
+use Rattle.module_tree.specs.ActionTruth as Module
 use Rattle.pcal_tree.specs.Algorithm.{Assignments, Binds, no_binds, one_of, is, Statement, assign, await, print, assert, skip, branch, either, with, Statements, done, then, mark, Branches, no_branches, or}
 use Rattle.pcal_tree.specs.Scope.{State, Scope, bound, place_of}
 use Rattle.action_builder.specs.Assigned.{Names, more, heads, assigned, assigned_in, assigned_by}
@@ -169,7 +169,7 @@ mutual
       (subst (λ o. Matches (((o.value >>= (λ v. Ok (v ∷ []))) >>= standard_value plain printed at) >>= truth_at at) (holds (build_one A (effect_of plain at (print e))) sc s t)) (sym (exp_law U vs A sc env k.paired w e f s t))
       (match_print (eval plain e (sc.env (mid s t A))).value at))) h
   match_item U vs A at (assert e) z f w sc env k s t rest r h = match_and _ (holds_on vs env rest s t) _ r (
-      subst (λ d. Matches ((part_values (eval plain (primed A e) ∷ eval plain (Rattle.tla_expr.specs.Tree.node (Rattle.tla_expr.specs.Tree.string (codes "Failure of assertion.")) at no_trees) ∷ []) (env s t) >>= (λ us. (called at d us).value)) >>= truth_at at) (holds (build_one A (effect_of plain at (assert e))) sc s t)) (sym (k.paired.assert s t))
+      subst (λ d. Matches ((part_values (eval plain (primed A e) ∷ eval plain (Rattle.tla_tree.specs.Tree.node (Rattle.tla_tree.specs.Tree.string (codes "Failure of assertion.")) at no_trees) ∷ []) (env s t) >>= (λ us. (called at d us).value)) >>= truth_at at) (holds (build_one A (effect_of plain at (assert e))) sc s t)) (sym (k.paired.assert s t))
       (subst (λ o. Matches (((o.value >>= (λ v. Ok (v ∷ Rattle.tla_value.specs.Value.text (codes "Failure of assertion.") ∷ []))) >>= standard_value plain asserted at) >>= truth_at at) (holds (build_one A (effect_of plain at (assert e))) sc s t)) (sym (exp_law U vs A sc env k.paired w e f s t))
       (match_assert (eval plain e (sc.env (mid s t A))).value (Rattle.tla_value.specs.Value.text (codes "Failure of assertion.")) at (place_of e sc) at))) h
   match_item U vs A at skip z f w sc env k s t rest r h = h

@@ -2,20 +2,20 @@
 use Rattle.std.proofs.Common.{◌≡◌, List, [], ◌∷◌, Bool, true, false, ◌&&◌, codes, refl, Ok, Err}
 use Rattle.std.proofs.lemmas.Bool.{and_parts}
 use Rattle.tla_token.specs.declared.place.Place.{Place}
-use Rattle.tla_expr.specs.Tree.{Word, Graft, Strict, strict, operator, tuple, fields, operator_call, Tree, node, Trees, tree, no_trees, Each, Every, EveryOf, binders}
+use Rattle.tla_tree.specs.Tree.{Word, Graft, Strict, strict, operator, tuple, fields, operator_call, Tree, node, Trees, tree, no_trees, Each, Every, EveryOf, binders}
 use Rattle.tla_value.specs.Value.{Outcome, ◌>>=◌, IsBad, and_then}
 use Rattle.tla_value.specs.Stops.{plain}
 use Rattle.tla_value.specs.Meaning.{Env, eval, evals, part_values}
 use Rattle.tla_value.specs.Definitions.{Valuation}
-use Rattle.module_text.specs.Module.{setting, Items, no_items, item}
-use Rattle.module_text.specs.ActionTruth.{item_holds, items_hold}
+use Rattle.module_tree.specs.Module.{setting, Items, no_items, item}
+use Rattle.module_tree.specs.ActionTruth.{item_holds, items_hold}
 use Rattle.pcal_tree.specs.Algorithm.{nowhere, Statements, then, done, with, return}
 use Rattle.pcal_tree.specs.Variables.{pc, stack}
 use Rattle.action_builder.specs.Prepared.{prepared, none}
 use Rattle.action_builder.specs.Jumps.{written_jumps}
 use Rattle.action_builder.specs.Written.{old_stack, write}
 use Rattle.action_builder.specs.SingleProcess.{in_place_of}
-use Rattle.tla_expr.specs.declared.op.Op.TheVariants.{Plus, Concat}
+use Rattle.tla_tree.specs.declared.op.Op.TheVariants.{Plus, Concat}
 use Rattle.action_builder.specs.laws.Ready.{Kept}
 use Rattle.action_builder.specs.laws.Grafts.{ClearItems}
 use Rattle.pcal_tree.specs.Labelled.{is_empty}

@@ -1,7 +1,7 @@
 -- The variables that statements assign ("A PlusCal User's Manual", section 3.2.1).
 use Rattle.std.specs.Prelude.{List, [], ◌∷◌, ◌++◌, Bool, cond, ◌||◌, bytes_eq}
 use Rattle.tla_token.specs.Signs.{is_among}
-use Rattle.tla_expr.specs.Tree.{Word, Form, name, Tree, node, Trees, no_trees, tree}
+use Rattle.tla_tree.specs.Tree.{Word, Form, name, Tree, node, Trees, no_trees, tree}
 use Rattle.pcal_tree.specs.Algorithm.{Assignments, no_assignments, assignment, Statement, assign, branch, either, with, Statements, done, then, mark, Branches, no_branches, or}
 
 abbrev pub Names : Type 0

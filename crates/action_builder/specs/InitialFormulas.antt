@@ -1,8 +1,8 @@
 -- The conjuncts of Init: globals, the variables of procedures and of processes, the stack and pc ("A PlusCal User's Manual", sections 3.3, 3.4 and 4).
 use Rattle.std.specs.Prelude.{List, [], ◌∷◌, ◌++◌, map, flat_map, true, false}
 use Rattle.tla_token.specs.Places.{nowhere}
-use Rattle.tla_expr.specs.Tree.{Word, Tree, node, cases, graft}
-use Rattle.module_text.specs.Formulas.{self, named, quoted, process_set, unset_value, empty_tuple, equal, is_in, trees_of, function_of_self, functions_from}
+use Rattle.tla_tree.specs.Tree.{Word, Tree, node, cases, graft}
+use Rattle.module_tree.specs.Formulas.{self, named, quoted, process_set, unset_value, empty_tuple, equal, is_in, trees_of, function_of_self, functions_from}
 use Rattle.pcal_tree.specs.Algorithm.{Start, unset, equals, among, Declaration, Main, alone, processes, Routine, locals, procedure_routines}
 use Rattle.pcal_tree.specs.Takers.{Takers, each_of, single, lone, Taken, taken_main}
 use Rattle.pcal_tree.specs.Program.{Program, written}

@@ -1,8 +1,8 @@
 -- The assignments that are written for jumps and returns, and for calls ("A PlusCal User's Manual", sections 3.2.9 and 3.4).
 use Rattle.std.specs.Prelude.{List, [], ◌∷◌, codes, nat_eq, cond, Some, Option, None}
 use Rattle.tla_token.specs.declared.place.Place.{Place}
-use Rattle.tla_expr.specs.declared.op.Op.TheVariants.{Concat}
-use Rattle.tla_expr.specs.Tree.{Word, string, name, operator_call, strict, operator, tuple, fields, select, Tree, node, Trees, no_trees, tree, root_place}
+use Rattle.tla_tree.specs.declared.op.Op.TheVariants.{Concat}
+use Rattle.tla_tree.specs.Tree.{Word, string, name, operator_call, strict, operator, tuple, fields, select, Tree, node, Trees, no_trees, tree, root_place}
 use Rattle.pcal_tree.specs.Algorithm.{Span, Declaration, Routine, locals, Assignments, no_assignments, assignment, no_binds, is, with, Statements, done, then, assign, procedure_routines, either, no_branches}
 use Rattle.pcal_tree.specs.Run.{Partner, no_partner, goto_partner, return_partner}
 use Rattle.pcal_tree.specs.Program.{Program, written}

@@ -1,8 +1,8 @@
 -- The actions of labels and those of processes and procedures ("A PlusCal User's Manual", sections 3.3, 3.4 and 3.7; "Specifying Systems", section 2.3).
 use Rattle.std.specs.Prelude.{List, [], ◌∷◌, ◌++◌, map, flat_map, Option, Some, None}
-use Rattle.tla_expr.specs.Tree.{Word, Tree}
-use Rattle.module_text.specs.Module.{test, Items, no_items, item, Call, call, call_with, one_way, all_of, some_of, Action}
-use Rattle.module_text.specs.Formulas.{self, named, quoted, process_set, unset_value, equal}
+use Rattle.tla_tree.specs.Tree.{Word, Tree}
+use Rattle.module_tree.specs.Module.{test, Items, no_items, item, Call, call, call_with, one_way, all_of, some_of, Action}
+use Rattle.module_tree.specs.Formulas.{self, named, quoted, process_set, unset_value, equal}
 use Rattle.pcal_tree.specs.Algorithm.{nowhere, Start, equals, Main, alone, processes, Routine, procedure_routines, Algorithm}
 use Rattle.pcal_tree.specs.OffencesLabels.{label_words}
 use Rattle.pcal_tree.specs.StepStart.{Begin, at_label}

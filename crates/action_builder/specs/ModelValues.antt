@@ -1,7 +1,7 @@
 -- The model value of variables that are declared without an initial value ("A PlusCal User's Manual", section 4, on defaultInitValue).
 use Rattle.std.specs.Prelude.{List, [], ◌∷◌, ◌++◌, flat_map, Bool, true, false, cond, codes}
 use Rattle.std.specs.List.{list_any}
-use Rattle.tla_expr.specs.Tree.{Word}
+use Rattle.tla_tree.specs.Tree.{Word}
 use Rattle.pcal_tree.specs.Algorithm.{Start, unset, Declaration, locals, routines, Algorithm}
 
 abbrev pub is_unset : Start → Bool

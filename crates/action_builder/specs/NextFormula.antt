@@ -1,8 +1,8 @@
 -- Terminating and the disjuncts of Next ("A PlusCal User's Manual", sections 3.3 and 4; "Specifying Systems", section 2.3).
 use Rattle.std.specs.Prelude.{List, [], ◌∷◌, ◌++◌, map, flat_map, Bool, cond, codes, Option, Some, None}
-use Rattle.tla_expr.specs.Tree.{Tree}
-use Rattle.module_text.specs.Module.{call, Way, one_way, some_way}
-use Rattle.module_text.specs.Formulas.{self, named, quoted, process_set, equal, at, for_all_self}
+use Rattle.tla_tree.specs.Tree.{Tree}
+use Rattle.module_tree.specs.Module.{call, Way, one_way, some_way}
+use Rattle.module_tree.specs.Formulas.{self, named, quoted, process_set, equal, at, for_all_self}
 use Rattle.pcal_tree.specs.Algorithm.{Main, alone, processes}
 use Rattle.pcal_tree.specs.OffencesLabels.{label_words}
 use Rattle.pcal_tree.specs.Takers.{Takers, each_of, Taken, taken_main}

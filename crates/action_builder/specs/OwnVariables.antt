@@ -1,9 +1,9 @@
 -- The variables of the translation that are functions of the identifiers of processes ("A PlusCal User's Manual", section 3.3, processes).
 use Rattle.std.specs.Prelude.{List, [], ◌∷◌, ◌++◌, filter, Bool}
 use Rattle.tla_token.specs.Signs.{is_among}
-use Rattle.tla_expr.specs.Tree.{Word, Tree, graft}
+use Rattle.tla_tree.specs.Tree.{Word, Tree, graft}
 use Rattle.tla_value.specs.Grafts.{owned}
-use Rattle.module_text.specs.Formulas.{self}
+use Rattle.module_tree.specs.Formulas.{self}
 use Rattle.pcal_tree.specs.Algorithm.{Routine, Main, alone, processes, procedure_routines, main_routines}
 use Rattle.pcal_tree.specs.Program.{Program}
 use Rattle.pcal_tree.specs.Variables.{pc, stack_for, written_by_all}

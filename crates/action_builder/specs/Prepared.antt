@@ -2,9 +2,9 @@
 -- the process as functions of its identifier ("A PlusCal User's Manual", sections 3.3 and 3.7). Macro calls are written out before, and all names are
 -- the written ones: a macro's text has no scope of its own, so names are given after that.
 use Rattle.std.specs.Prelude.{List, Bool, false}
-use Rattle.tla_expr.specs.Tree.{Word}
+use Rattle.tla_tree.specs.Tree.{Word}
 use Rattle.tla_value.specs.Grafts.{owned}
-use Rattle.module_text.specs.Module.{Items}
+use Rattle.module_tree.specs.Module.{Items}
 use Rattle.pcal_tree.specs.Algorithm.{Statements}
 use Rattle.pcal_tree.specs.Expand.{graft_all}
 use Rattle.action_builder.specs.Assigned.{Names, assigned_in}

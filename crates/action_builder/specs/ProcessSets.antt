@@ -1,9 +1,9 @@
 -- ProcSet, the set of the identifiers of all processes ("A PlusCal User's Manual", section 3.3, processes).
 use Rattle.std.specs.Prelude.{List, [], ◌∷◌, map, Option, Some, None}
 use Rattle.tla_token.specs.Places.{nowhere}
-use Rattle.tla_expr.specs.declared.op.Op.TheVariants.{Cup}
-use Rattle.tla_expr.specs.Tree.{Tree, node, no_trees, tree, strict, operator}
-use Rattle.module_text.specs.Formulas.{set}
+use Rattle.tla_tree.specs.declared.op.Op.TheVariants.{Cup}
+use Rattle.tla_tree.specs.Tree.{Tree, node, no_trees, tree, strict, operator}
+use Rattle.module_tree.specs.Formulas.{set}
 use Rattle.pcal_tree.specs.Algorithm.{Process, Main, alone, processes}
 use Rattle.pcal_tree.specs.Takers.{Takers, each_of, single, lone, takers_of}
 

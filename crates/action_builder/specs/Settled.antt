@@ -1,6 +1,6 @@
 -- Statements of one step with jumps, loops, calls and returns written as assignments that end it ("A PlusCal User's Manual", sections 3.2 and 3.4).
 use Rattle.std.specs.Prelude.{Bool, true, false, cond, ◌||◌}
-use Rattle.tla_expr.specs.Tree.{Word, Trees}
+use Rattle.tla_tree.specs.Tree.{Word, Trees}
 use Rattle.pcal_tree.specs.Algorithm.{Name, Span, Statement, assign, await, print, assert, skip, branch, either, with, while, goto, call, return, Statements, done, then, mark, Branches, no_branches, or}
 use Rattle.pcal_tree.specs.Run.{unlabelled, label_of, Partner, partner_of}
 

@@ -1,8 +1,8 @@
 -- A single process `P = e`: its items have the expression e in place of `self` ("A PlusCal User's Manual", section 3.3, processes).
 use Rattle.std.specs.Prelude.{cond, bytes_eq, Some, None}
-use Rattle.tla_expr.specs.Tree.{Word, Tree, Graft, graft}
+use Rattle.tla_tree.specs.Tree.{Word, Tree, Graft, graft}
 use Rattle.tla_value.specs.Grafts.{arguments}
-use Rattle.module_text.specs.Module.{Item, test, setting, unchanged, exists, local, if_then_else, either, Items, no_items, item, Branches, no_branches, branch}
+use Rattle.module_tree.specs.Module.{Item, test, setting, unchanged, exists, local, if_then_else, either, Items, no_items, item, Branches, no_branches, branch}
 
 -- e for self, with its own places
 abbrev pub in_place_of : Word → Tree → Graft

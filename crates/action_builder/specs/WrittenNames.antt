@@ -1,11 +1,11 @@
 -- Written names, given to expressions and statements ("A PlusCal User's Manual", section 4, on names in the translation; macros, section 3.5). Macro
 -- calls are written out before: a macro's text has no scope of its own.
 use Rattle.std.specs.Prelude.{cond, Some, None, reverse}
-use Rattle.tla_expr.specs.Tree.{name, Tree, node, no_trees, Graft, graft}
+use Rattle.tla_tree.specs.Tree.{name, Tree, node, no_trees, Graft, graft}
 use Rattle.tla_value.specs.Stops.{plain}
 use Rattle.tla_value.specs.Definitions.{no_state}
 use Rattle.tla_value.specs.Outside.{Outside}
-use Rattle.module_text.specs.Module.{found}
+use Rattle.module_tree.specs.Module.{found}
 use Rattle.pcal_tree.specs.Algorithm.{Statements, Routine, declares, locals, Algorithm}
 use Rattle.pcal_tree.specs.Names.{naming}
 use Rattle.pcal_tree.specs.Program.{Program, written}

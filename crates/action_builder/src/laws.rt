@@ -7,15 +7,15 @@
 
 ghost use Rattle.std.specs.Prelude.{◌≡◌, ◌↔◌, List, Bool, true};
 ghost use Rattle.tla_token.specs.declared.place.Place.{Place};
-ghost use Rattle.tla_expr.specs.Tree.{Word, Tree};
+ghost use Rattle.tla_tree.specs.Tree.{Word, Tree};
 ghost use Rattle.tla_value.specs.Value.{Value, NotFalse, IsBad, TrueExactly};
 ghost use Rattle.tla_value.specs.Stops.{Check, plain};
 ghost use Rattle.tla_value.specs.Meaning.{Env, just, bind, eval};
 ghost use Rattle.tla_value.specs.laws.Grafting.{In};
 ghost use Rattle.tla_value.specs.Grafts.{owned};
 ghost use Rattle.tla_value.specs.Definitions.{Valuation};
-ghost use Rattle.module_text.specs.Module.{Items};
-ghost use Rattle.module_text.specs.ActionTruth.{items_hold};
+ghost use Rattle.module_tree.specs.Module.{Items};
+ghost use Rattle.module_tree.specs.ActionTruth.{items_hold};
 ghost use Rattle.pcal_tree.specs.Algorithm.{Statements, Macro, Assignments, Routine};
 ghost use Rattle.pcal_tree.specs.Scope.{State, Scope};
 ghost use Rattle.pcal_tree.specs.Run.{Rules, Follow, run, exit_to, unlabelled};

@@ -1,7 +1,7 @@
 -- The tokens of a part stand before those that come.
 use Rattle.std.proofs.Common.{Option, Some, None}
 use Rattle.tla_token.specs.declared.place.Place.{Place}
-use Rattle.tla_expr.proofs.SpellAhead.{Ahead, held, put_ahead, then_ahead, ahead, ahead_all}
+use Rattle.tla_tree.proofs.SpellAhead.{Ahead, held, put_ahead, then_ahead, ahead, ahead_all}
 use Rattle.pcal_tree.specs.GrammarParts.{Separator, by_semicolon, by_comma, Initial, unset, equals, among, Variables, last_variable, variable, Section, no_section, section, Names, last_name, more_names, MacroParameters, no_names, some_names, Parameters, last_parameter, parameter, ProcedureParameters, no_parameters, some_parameters, Heading, plain, applied, Definitions, last_definition, more_definitions, Colon, colon, colon_plus, colon_minus, Labels, no_labels, label, Binds, last_bind, bind, Arguments, no_arguments, some_arguments, Assignments, last_assignment, assignment, Simple}
 use Rattle.pcal_tree.specs.GrammarParts as g
 

@@ -2,11 +2,11 @@
 use Rattle.std.proofs.Common.{◌≡◌, ℕ, zero, suc, ◌+◌, ◌-◌, ◌*◌, ◌≤◌, Bool, true, false, List, [], ◌∷◌, ◌++◌, Option, Some, None, if◌then◌else◌, arith}
 use Rattle.std.specs.Str.{bytes_eq}
 use Rattle.tla_token.specs.declared.place.Place.{Place}
-use Rattle.tla_expr.specs.Tree.{Word}
-use Rattle.tla_expr.specs.Lexical.{TokenView, Token}
-use Rattle.tla_expr.specs.Reader.{Reader, ◌>>=◌, took, free, readers}
-use Rattle.tla_expr.proofs.Alike.{Alike, Enough, IsFair, weaker, fair_refuses, fair_skip}
-use Rattle.tla_expr.proofs.AlikeSteps.{fair_readers}
+use Rattle.tla_tree.specs.Tree.{Word}
+use Rattle.tla_tree.specs.Lexical.{TokenView, Token}
+use Rattle.tla_tree.specs.Reader.{Reader, ◌>>=◌, took, free, readers}
+use Rattle.tla_tree.proofs.Alike.{Alike, Enough, IsFair, weaker, fair_refuses, fair_skip}
+use Rattle.tla_tree.proofs.AlikeSteps.{fair_readers}
 use Rattle.algorithm_parts.specs.TokenReaders.{first, by_next, past, pick, Parts, parts_of}
 
 pub fair_next : {A : Type 0} {b : ℕ} {f g : Place → TokenView → Reader A} → ((p : Place) (k : TokenView) → IsFair b (f p k) (g p k)) → IsFair b (by_next f) (by_next g)

@@ -1,13 +1,13 @@
 -- A reader looks no further than the token at which it stops: declarations, definitions, labels and what a `with` names.
 use Rattle.std.proofs.Common.{ℕ, ◌+◌, ◌*◌, ◌≤◌, Bool, true, false, Option, Some, refl, arith}
 use Rattle.tla_token.specs.declared.place.Place.{Place}
-use Rattle.tla_expr.specs.declared.op.Op.TheVariants as op
-use Rattle.tla_expr.specs.Tree.{Name}
-use Rattle.tla_expr.specs.Lexical.{Mark, TokenView}
-use Rattle.tla_expr.specs.Lexical as tk
-use Rattle.tla_expr.specs.Spelling.{Phrase}
-use Rattle.tla_expr.specs.Reader.{Reader, ◌>>=◌, gives, is_mark, place_if}
-use Rattle.tla_expr.proofs.Alike.{IsFair, fair_gives, fair_refuses, fair_skip, fair_bind}
+use Rattle.tla_tree.specs.declared.op.Op.TheVariants as op
+use Rattle.tla_tree.specs.Tree.{Name}
+use Rattle.tla_tree.specs.Lexical.{Mark, TokenView}
+use Rattle.tla_tree.specs.Lexical as tk
+use Rattle.tla_tree.specs.Spelling.{Phrase}
+use Rattle.tla_tree.specs.Reader.{Reader, ◌>>=◌, gives, is_mark, place_if}
+use Rattle.tla_tree.proofs.Alike.{IsFair, fair_gives, fair_refuses, fair_skip, fair_bind}
 use Rattle.pcal_tree.specs.GrammarParts.{Separator, Initial, Variables, no_section, Names, Parameters, Heading, Definitions, Binds}
 use Rattle.algorithm_parts.specs.TokenReaders.{name_of, a_mark, a_name, Parts}
 use Rattle.algorithm_parts.specs.ReadParts.{semicolon_by, read_semicolon, separator_by, read_separator, among_if, initial_by, read_initial, variables_by, read_variables, section_of, section_words, section_by, read_section, names_by, read_names, macro_parameters_by, read_macro_parameters, parameters_by, read_parameters, procedure_parameters_by, read_procedure_parameters, heading_by, read_heading, definitions_by, read_definitions, colon_by, read_colon, binds_by, bind_by, read_binds}

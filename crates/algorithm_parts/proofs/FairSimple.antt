@@ -1,13 +1,13 @@
 -- A reader looks no further than the token at which it stops: simple statements.
 use Rattle.std.proofs.Common.{ℕ, suc, ◌+◌, ◌*◌, ◌≤◌, Bool, true, false, nat_lt, arith}
 use Rattle.tla_token.specs.declared.place.Place.{Place}
-use Rattle.tla_expr.specs.Tree.{Name}
-use Rattle.tla_expr.specs.Lexical.{TokenView}
-use Rattle.tla_expr.specs.Lexical as tk
-use Rattle.tla_expr.specs.Spelling.{Phrase}
-use Rattle.tla_expr.specs.Spelling as spelled
-use Rattle.tla_expr.specs.Reader.{Reader, is_mark, place_if, word_of, field_of}
-use Rattle.tla_expr.proofs.Alike.{IsFair, fair_gives, fair_refuses, fair_skip, fair_peek, fair_bind, fair_take}
+use Rattle.tla_tree.specs.Tree.{Name}
+use Rattle.tla_tree.specs.Lexical.{TokenView}
+use Rattle.tla_tree.specs.Lexical as tk
+use Rattle.tla_tree.specs.Spelling.{Phrase}
+use Rattle.tla_tree.specs.Spelling as spelled
+use Rattle.tla_tree.specs.Reader.{Reader, is_mark, place_if, word_of, field_of}
+use Rattle.tla_tree.proofs.Alike.{IsFair, fair_gives, fair_refuses, fair_skip, fair_peek, fair_bind, fair_take}
 use Rattle.pcal_tree.specs.GrammarParts.{Assignments}
 use Rattle.algorithm_parts.specs.TokenReaders.{Parts}
 use Rattle.algorithm_parts.specs.ReadSimple.{arguments_by, read_arguments, left_by, read_left, assignments_by, read_assignments, assign_if, named_by}

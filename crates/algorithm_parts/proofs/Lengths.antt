@@ -1,10 +1,10 @@
 -- Tokens before others are no fewer than those.
 use Rattle.std.proofs.Common.{◌≤◌, suc, List, length, Option, Some, None, arith}
 use Rattle.tla_token.specs.declared.place.Place.{Place}
-use Rattle.tla_expr.specs.Lexical.{Token}
-use Rattle.tla_expr.specs.Lexical as tk
-use Rattle.tla_expr.specs.Spelling.{Phrase, spell}
-use Rattle.tla_expr.proofs.Steps.{few, few_all}
+use Rattle.tla_tree.specs.Lexical.{Token}
+use Rattle.tla_tree.specs.Lexical as tk
+use Rattle.tla_tree.specs.Spelling.{Phrase, spell}
+use Rattle.tla_tree.proofs.Steps.{few, few_all}
 use Rattle.pcal_tree.specs.GrammarParts.{Separator, by_semicolon, by_comma, Initial, unset, equals, among, Variables, last_variable, variable, Section, no_section, section, Names, last_name, more_names, MacroParameters, no_names, some_names, Parameters, last_parameter, parameter, ProcedureParameters, no_parameters, some_parameters, Heading, plain, applied, Definitions, last_definition, more_definitions, Colon, colon, colon_plus, colon_minus, Labels, no_labels, label, Binds, last_bind, bind, Arguments, no_arguments, some_arguments, Assignments, last_assignment, assignment, Simple}
 use Rattle.pcal_tree.specs.GrammarParts as g
 

@@ -2,16 +2,16 @@
 use Rattle.std.proofs.Common.{◌≡◌, false, List, [], ◌∷◌, ◌++◌, Option, Some, None, Err, refl, sym, ap, ◌∙◌, append_assoc}
 use Rattle.tla_token.specs.declared.place.Place.{Place}
 use Rattle.tla_token.specs.Places.{nowhere}
-use Rattle.tla_expr.specs.Tree.{Word}
-use Rattle.tla_expr.specs.Lexical.{Mark, TokenView, Token, token}
-use Rattle.tla_expr.specs.Lexical as tk
-use Rattle.tla_expr.specs.Spelling.{Right, field_token}
-use Rattle.tla_expr.specs.Reader.{Stop, Reader, ◌>>=◌, gives, refuses, skip, took, tail, next, peek, is_mark, place_if}
-use Rattle.tla_expr.proofs.SpellAhead.{Ahead, held, put_ahead, then_ahead}
-use Rattle.tla_expr.proofs.Mended.{left_is, broken, gives_err, right_after, mark_err, field_err, word_err, some_field, an_x}
-use Rattle.tla_expr.proofs.Mended as mended
-use Rattle.tla_expr.proofs.SoundTokens as edge
-use Rattle.tla_expr.specs.Reader as expression
+use Rattle.tla_tree.specs.Tree.{Word}
+use Rattle.tla_tree.specs.Lexical.{Mark, TokenView, Token, token}
+use Rattle.tla_tree.specs.Lexical as tk
+use Rattle.tla_tree.specs.Spelling.{Right, field_token}
+use Rattle.tla_tree.specs.Reader.{Stop, Reader, ◌>>=◌, gives, refuses, skip, took, tail, next, peek, is_mark, place_if}
+use Rattle.tla_tree.proofs.SpellAhead.{Ahead, held, put_ahead, then_ahead}
+use Rattle.tla_tree.proofs.Mended.{left_is, broken, gives_err, right_after, mark_err, field_err, word_err, some_field, an_x}
+use Rattle.tla_tree.proofs.Mended as mended
+use Rattle.tla_tree.proofs.SoundTokens as edge
+use Rattle.tla_tree.specs.Reader as expression
 use Rattle.pcal_tree.specs.GrammarParts.{name, key, mark, word}
 use Rattle.algorithm_parts.specs.TokenReaders.{first, by_next, past, is_reserved, name_of, a_key, a_mark, a_name, pick}
 use Rattle.algorithm_parts.proofs.Sound.{Sound, SoundAt, here, Any, is_other, seen, All, pick_is, sound_key, sound_mark, sound_name, sound_mark_right, sound_field_right, sound_word_right}

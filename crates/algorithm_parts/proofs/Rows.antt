@@ -2,13 +2,13 @@
 use Rattle.std.proofs.Common.{◌≡◌, refl, ℕ, true, false, List, [], ◌∷◌, None, Ok, Err, codes}
 use Rattle.tla_token.specs.declared.place.Place.{Place}
 use Rattle.tla_token.specs.declared.rule.Rule.TheVariants.{Syntax}
-use Rattle.tla_expr.specs.declared.op.Op.{Op}
-use Rattle.tla_expr.specs.declared.op.Op.TheVariants as op
-use Rattle.tla_expr.specs.Tree.{Word}
-use Rattle.tla_expr.specs.Lexical.{Mark, Token, token}
-use Rattle.tla_expr.specs.Lexical as tk
-use Rattle.tla_expr.specs.Spelling as spelled
-use Rattle.tla_expr.specs.Reader.{readers}
+use Rattle.tla_tree.specs.declared.op.Op.{Op}
+use Rattle.tla_tree.specs.declared.op.Op.TheVariants as op
+use Rattle.tla_tree.specs.Tree.{Word}
+use Rattle.tla_tree.specs.Lexical.{Mark, Token, token}
+use Rattle.tla_tree.specs.Lexical as tk
+use Rattle.tla_tree.specs.Spelling as spelled
+use Rattle.tla_tree.specs.Reader.{readers}
 use Rattle.pcal_tree.specs.GrammarParts.{last_variable, variable, unset, among, by_comma, last_assignment}
 use Rattle.algorithm_parts.specs.TokenReaders.{Parts, parts_of}
 use Rattle.algorithm_parts.specs.ReadParts.{read_variables, read_parameters}

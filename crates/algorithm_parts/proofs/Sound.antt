@@ -3,14 +3,14 @@ use Rattle.std.proofs.Common.{◌≡◌, Bool, true, false, List, [], ◌∷◌,
 use Rattle.std.specs.Str.{bytes_eq}
 use Rattle.tla_token.specs.declared.place.Place.{Place}
 use Rattle.tla_token.proofs.Spelled.{same_bytes}
-use Rattle.tla_expr.specs.Tree.{Word, Name}
-use Rattle.tla_expr.specs.Lexical.{Mark, TokenView, Token, token}
-use Rattle.tla_expr.specs.Lexical as tk
-use Rattle.tla_expr.specs.Spelling.{Right, field_token}
-use Rattle.tla_expr.specs.Reader.{Reader, ◌>>=◌, gives, refuses, skip, took, tail, end, next, peek, is_mark, is_sign, place_if}
-use Rattle.tla_expr.specs.Reader as expression
-use Rattle.tla_expr.proofs.SoundTokens.{then_ok, ok_is, if_some, sign_is}
-use Rattle.tla_expr.proofs.SoundTokens as edge
+use Rattle.tla_tree.specs.Tree.{Word, Name}
+use Rattle.tla_tree.specs.Lexical.{Mark, TokenView, Token, token}
+use Rattle.tla_tree.specs.Lexical as tk
+use Rattle.tla_tree.specs.Spelling.{Right, field_token}
+use Rattle.tla_tree.specs.Reader.{Reader, ◌>>=◌, gives, refuses, skip, took, tail, end, next, peek, is_mark, is_sign, place_if}
+use Rattle.tla_tree.specs.Reader as expression
+use Rattle.tla_tree.proofs.SoundTokens.{then_ok, ok_is, if_some, sign_is}
+use Rattle.tla_tree.proofs.SoundTokens as edge
 use Rattle.pcal_tree.specs.GrammarParts.{name, key, mark, word}
 use Rattle.algorithm_parts.specs.TokenReaders.{first, by_next, past, is_reserved, name_of, a_key, a_mark, a_name, pick}
 

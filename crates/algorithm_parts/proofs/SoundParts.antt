@@ -1,13 +1,13 @@
 -- What is read is spelled: declarations, definitions, labels and what a `with` names.
 use Rattle.std.proofs.Common.{◌≡◌, ℕ, zero, suc, Bool, true, false, Option, Some, None, refl, ap}
 use Rattle.tla_token.specs.declared.place.Place.{Place}
-use Rattle.tla_expr.specs.declared.op.Op.TheVariants as op
-use Rattle.tla_expr.specs.Tree.{Name}
-use Rattle.tla_expr.specs.Lexical.{TokenView, Token}
-use Rattle.tla_expr.specs.Lexical as tk
-use Rattle.tla_expr.specs.Spelling.{Phrase, spell, spell_all, IsGood, GoodAll}
-use Rattle.tla_expr.specs.Reader.{Reader, gives, free, readers}
-use Rattle.tla_expr.proofs.SoundLists.{sound}
+use Rattle.tla_tree.specs.declared.op.Op.TheVariants as op
+use Rattle.tla_tree.specs.Tree.{Name}
+use Rattle.tla_tree.specs.Lexical.{TokenView, Token}
+use Rattle.tla_tree.specs.Lexical as tk
+use Rattle.tla_tree.specs.Spelling.{Phrase, spell, spell_all, IsGood, GoodAll}
+use Rattle.tla_tree.specs.Reader.{Reader, gives, free, readers}
+use Rattle.tla_tree.proofs.SoundLists.{sound}
 use Rattle.pcal_tree.specs.GrammarParts.{Separator, by_semicolon, by_comma, Initial, unset, equals, among, Variables, last_variable, variable, no_section, section, Names, last_name, more_names, no_names, some_names, Parameters, last_parameter, parameter, no_parameters, some_parameters, Heading, plain, applied, Definitions, last_definition, more_definitions, colon, colon_plus, colon_minus, Binds, last_bind, bind}
 use Rattle.pcal_tree.specs.GrammarParts.{name, sign, mark, maybe_semicolon, maybe_separator, initial, GoodInitial, variables, GoodVariables, section_tokens, GoodSection, names, macro_parameters, parameters, GoodParameters, procedure_parameters, GoodProcedureParameters, heading, definitions, GoodDefinitions, colon_tokens, bind_sign, binds, GoodBinds}
 use Rattle.algorithm_parts.specs.TokenReaders.{past, Parts, parts_of}

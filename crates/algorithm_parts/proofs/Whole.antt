@@ -1,13 +1,13 @@
 -- What is spelled is read: what it takes of steps, and how readers that are made of others do it.
 use Rattle.std.proofs.Common.{◌≡◌, ℕ, suc, ◌≤◌, ◌*◌, Bool, true, false, nat_lt, List, [], ◌∷◌, length, None, Ok, if◌then◌else◌, refl, ap, ◌∙◌, arith}
-use Rattle.tla_expr.specs.Lexical.{TokenView, Token}
-use Rattle.tla_expr.specs.Lexical as tk
-use Rattle.tla_expr.specs.Spelling.{Phrase, Phrases, spell, spell_all, IsGood, GoodAll}
-use Rattle.tla_expr.specs.Reader.{Out, Reader, then_read, next, readers}
-use Rattle.tla_expr.specs.laws.Following.{is_calm}
-use Rattle.tla_expr.proofs.Steps.{few, few_all}
-use Rattle.tla_expr.proofs.ReadPhrases.{closed, is_end}
-use Rattle.tla_expr.proofs.ReadAll as whole
+use Rattle.tla_tree.specs.Lexical.{TokenView, Token}
+use Rattle.tla_tree.specs.Lexical as tk
+use Rattle.tla_tree.specs.Spelling.{Phrase, Phrases, spell, spell_all, IsGood, GoodAll}
+use Rattle.tla_tree.specs.Reader.{Out, Reader, then_read, next, readers}
+use Rattle.tla_tree.specs.laws.Following.{is_calm}
+use Rattle.tla_tree.proofs.Steps.{few, few_all}
+use Rattle.tla_tree.proofs.ReadPhrases.{closed, is_end}
+use Rattle.tla_tree.proofs.ReadAll as whole
 use Rattle.algorithm_parts.specs.TokenReaders.{first, Parts, parts_of}
 
 -- ---- steps enough: n for the members of lists, and m for the tokens of expressions

@@ -2,13 +2,13 @@
 use Rattle.std.proofs.Common.{◌≡◌, ℕ, zero, suc, ◌≤◌, Bool, true, false, nat_lt, List, [], length, Ok, if◌then◌else◌, refl, ap, ◌∙◌, arith}
 use Rattle.tla_token.specs.declared.place.Place.{Place}
 use Rattle.tla_token.specs.Places.{nowhere}
-use Rattle.tla_expr.specs.Tree.{Name}
-use Rattle.tla_expr.specs.Lexical.{TokenView, Token, token}
-use Rattle.tla_expr.specs.Lexical as tk
-use Rattle.tla_expr.specs.Spelling.{Phrase, field_token, spell, spell_all, IsGood}
-use Rattle.tla_expr.specs.Spelling as spelled
-use Rattle.tla_expr.specs.Reader.{Out, ◌>>=◌, gives, end, a_word}
-use Rattle.tla_expr.proofs.ReadForms.{is_start, starts_all, field_read}
+use Rattle.tla_tree.specs.Tree.{Name}
+use Rattle.tla_tree.specs.Lexical.{TokenView, Token, token}
+use Rattle.tla_tree.specs.Lexical as tk
+use Rattle.tla_tree.specs.Spelling.{Phrase, field_token, spell, spell_all, IsGood}
+use Rattle.tla_tree.specs.Spelling as spelled
+use Rattle.tla_tree.specs.Reader.{Out, ◌>>=◌, gives, end, a_word}
+use Rattle.tla_tree.proofs.ReadForms.{is_start, starts_all, field_read}
 use Rattle.pcal_tree.specs.GrammarParts.{name, mark, Arguments, no_arguments, some_arguments, arguments, GoodArguments, is_left_side, Assignments, last_assignment, assignment, assignments, GoodAssignments}
 use Rattle.pcal_tree.specs.GrammarParts as g
 use Rattle.algorithm_parts.specs.TokenReaders.{first, Parts}
@@ -16,7 +16,7 @@ use Rattle.algorithm_parts.specs.ReadSimple.{arguments_by, read_arguments, left_
 use Rattle.algorithm_parts.proofs.SoundSimple.{IsLeft}
 use Rattle.algorithm_parts.proofs.Whole.{Fits, smaller, less, then_is, is_after, after_calm, WholeParts}
 use Rattle.algorithm_parts.proofs.Lengths.{grow_phrase, grow_assignments}
-use Rattle.tla_expr.proofs.Steps.{few_all}
+use Rattle.tla_tree.proofs.Steps.{few_all}
 
 -- ---- a left side: its name, and its tokens after that
 abbrev pub root : Phrase → Name

@@ -1,12 +1,12 @@
 -- Reading the parts that both syntaxes spell alike: declarations, definitions, labels and what a `with` names ("A PlusCal User's Manual", section 3).
 use Rattle.std.specs.Prelude.{ℕ, zero, suc, Bool, true, false, List, [], ◌∷◌, Option, Some, None, codes}
 use Rattle.tla_token.specs.declared.place.Place.{Place}
-use Rattle.tla_expr.specs.declared.op.Op.TheVariants as op
-use Rattle.tla_expr.specs.Tree.{Word, Name}
-use Rattle.tla_expr.specs.Lexical.{TokenView}
-use Rattle.tla_expr.specs.Lexical as tk
-use Rattle.tla_expr.specs.Spelling.{Phrase}
-use Rattle.tla_expr.specs.Reader.{Reader, ◌>>=◌, gives, refuses, skip}
+use Rattle.tla_tree.specs.declared.op.Op.TheVariants as op
+use Rattle.tla_tree.specs.Tree.{Word, Name}
+use Rattle.tla_tree.specs.Lexical.{TokenView}
+use Rattle.tla_tree.specs.Lexical as tk
+use Rattle.tla_tree.specs.Spelling.{Phrase}
+use Rattle.tla_tree.specs.Reader.{Reader, ◌>>=◌, gives, refuses, skip}
 use Rattle.pcal_tree.specs.GrammarParts.{Separator, by_semicolon, by_comma, Initial, unset, equals, among, Variables, last_variable, variable, Section, no_section, section, Names, last_name, more_names, MacroParameters, no_names, some_names, Parameters, last_parameter, parameter, ProcedureParameters, no_parameters, some_parameters, Heading, plain, applied, Definitions, last_definition, more_definitions, Colon, colon, colon_plus, colon_minus, Binds, last_bind, bind}
 use Rattle.algorithm_parts.specs.TokenReaders.{by_next, past, a_mark, a_name, pick, Parts}
 

@@ -1,13 +1,13 @@
 -- Reading simple statements ("A PlusCal User's Manual", section 3).
 use Rattle.std.specs.Prelude.{ℕ, zero, suc, Bool, true, false, nat_lt, List, [], ◌∷◌, codes}
 use Rattle.tla_token.specs.declared.place.Place.{Place}
-use Rattle.tla_expr.specs.Tree.{Word, Name}
-use Rattle.tla_expr.specs.Lexical.{TokenView}
-use Rattle.tla_expr.specs.Lexical as tk
-use Rattle.tla_expr.specs.Spelling.{Phrase}
-use Rattle.tla_expr.specs.Spelling as spelled
-use Rattle.tla_expr.specs.Reader.{Reader, ◌>>=◌, gives, refuses, skip, peek, a_word, a_field}
-use Rattle.tla_expr.specs.Reader as expression
+use Rattle.tla_tree.specs.Tree.{Word, Name}
+use Rattle.tla_tree.specs.Lexical.{TokenView}
+use Rattle.tla_tree.specs.Lexical as tk
+use Rattle.tla_tree.specs.Spelling.{Phrase}
+use Rattle.tla_tree.specs.Spelling as spelled
+use Rattle.tla_tree.specs.Reader.{Reader, ◌>>=◌, gives, refuses, skip, peek, a_word, a_field}
+use Rattle.tla_tree.specs.Reader as expression
 use Rattle.pcal_tree.specs.GrammarParts.{Arguments, no_arguments, some_arguments, Assignments, last_assignment, assignment, Simple}
 use Rattle.pcal_tree.specs.GrammarParts as g
 use Rattle.algorithm_parts.specs.TokenReaders.{by_next, a_mark, a_name, Parts}

@@ -2,11 +2,11 @@
 use Rattle.std.specs.Prelude.{Bool, false, List, [], ◌∷◌, Option, Some, None, if◌then◌else◌}
 use Rattle.std.specs.Str.{bytes_eq}
 use Rattle.tla_token.specs.declared.place.Place.{Place}
-use Rattle.tla_expr.specs.Tree.{Word, Name}
-use Rattle.tla_expr.specs.Lexical.{Mark, TokenView, Token}
-use Rattle.tla_expr.specs.Lexical as tk
-use Rattle.tla_expr.specs.Spelling.{Phrase, Phrases}
-use Rattle.tla_expr.specs.Reader.{Reader, took, end, is_mark, place_if, free, Readers}
+use Rattle.tla_tree.specs.Tree.{Word, Name}
+use Rattle.tla_tree.specs.Lexical.{Mark, TokenView, Token}
+use Rattle.tla_tree.specs.Lexical as tk
+use Rattle.tla_tree.specs.Spelling.{Phrase, Phrases}
+use Rattle.tla_tree.specs.Reader.{Reader, took, end, is_mark, place_if, free, Readers}
 
 -- the next token; at the end, one that is no token of an algorithm
 abbrev pub first : List Token → Token

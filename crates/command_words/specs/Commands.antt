@@ -5,7 +5,7 @@ use Rattle.clap.specs.Walk.{Row, first_of, is_empty}
 use Rattle.clap.specs.Simple.{Shape, subcommand_of}
 use Rattle.clap.specs.Faults.{fault_of}
 use Rattle.tla_token.specs.Lexemes.{is_digit, number_of}
-use Rattle.tla_expr.specs.Tree.{Word}
+use Rattle.tla_tree.specs.Tree.{Word}
 use Rattle.pcal_tree.specs.Grammar.{Syntax, p_syntax, c_syntax}
 use Rattle.command_words.specs.Table.{table}
 

@@ -1,10 +1,10 @@
 -- What Spec demands of small algorithms, by computation.
 use Rattle.std.proofs.Common.{◌≡◌, Bool, List, [], ◌∷◌, true, false, codes, refl, map, Some, None}
-use Rattle.tla_expr.specs.Tree.{Word, Name, no_trees}
+use Rattle.tla_tree.specs.Tree.{Word, Name, no_trees}
 use Rattle.tla_value.specs.Stops.{plain}
 use Rattle.tla_value.specs.Definitions.{no_state}
-use Rattle.module_text.specs.Module.{call_with}
-use Rattle.module_text.specs.Formulas.{self, named, quoted, at, is_in, set}
+use Rattle.module_tree.specs.Module.{call_with}
+use Rattle.module_tree.specs.Formulas.{self, named, quoted, at, is_in, set}
 use Rattle.pcal_tree.specs.declared.mark.Mark.TheVariants as marked
 use Rattle.pcal_tree.specs.declared.mark.Fairness.{Fairness}
 use Rattle.pcal_tree.specs.declared.mark.Fairness.TheVariants.{Weak, Strong}

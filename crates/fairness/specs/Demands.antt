@@ -1,7 +1,7 @@
 -- What Spec demands of fair steps, in its order ("A PlusCal User's Manual", sections 2.6 and 3.7, fairness): of all processes together, of a process's
 -- steps from its own labels or from those of a procedure that it reaches, or of its steps from one label.
 use Rattle.std.specs.Prelude.{List, [], ◌∷◌, ◌++◌, map, flat_map, Bool, true, false, cond}
-use Rattle.tla_expr.specs.Tree.{Word}
+use Rattle.tla_tree.specs.Tree.{Word}
 use Rattle.pcal_tree.specs.declared.mark.Fairness.{Fairness}
 use Rattle.pcal_tree.specs.declared.mark.Fairness.TheVariants.{Unfair, Weak, Strong}
 use Rattle.pcal_tree.specs.Algorithm.{Process, Main, alone, processes, Routine, numbered, first_process, Algorithm}

@@ -1,6 +1,6 @@
 -- The labels of a body with their marks, in the order of the text ("A PlusCal User's Manual", section 3.7, fairness).
 use Rattle.std.specs.Prelude.{List, [], ◌∷◌, ◌++◌, flat_map}
-use Rattle.tla_expr.specs.Tree.{Word}
+use Rattle.tla_tree.specs.Tree.{Word}
 use Rattle.pcal_tree.specs.declared.mark.Mark.{Mark}
 use Rattle.pcal_tree.specs.declared.mark.Mark.TheVariants.{Strong, LeftOut}
 use Rattle.pcal_tree.specs.Algorithm.{Statement, branch, either, with, while, Statements, done, then, mark, Branches, no_branches, or}

@@ -1,7 +1,7 @@
 -- The obligations of Spec, in its order: which steps have weak or strong fairness ("A PlusCal User's Manual", sections 2.6 and 3.7; "Specifying Systems",
 -- section 8.6).
 use Rattle.std.specs.Prelude.{ℕ, List, [], ◌∷◌, map, flat_map, Bool, true, false, Option, Some, None}
-use Rattle.tla_expr.specs.Tree.{Word}
+use Rattle.tla_tree.specs.Tree.{Word}
 use Rattle.pcal_tree.specs.Algorithm.{Routine, routines}
 use Rattle.pcal_tree.specs.OffencesLabels.{label_words}
 use Rattle.pcal_tree.specs.Program.{Program}

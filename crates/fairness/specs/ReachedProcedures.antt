@@ -1,7 +1,7 @@
 -- The procedures that a process can reach by calls ("A PlusCal User's Manual", section 3.4, procedures).
 use Rattle.std.specs.Prelude.{ℕ, zero, suc, length, List, [], ◌∷◌, ◌++◌, filter, flat_map}
 use Rattle.tla_token.specs.Signs.{is_among}
-use Rattle.tla_expr.specs.Tree.{Word}
+use Rattle.tla_tree.specs.Tree.{Word}
 use Rattle.pcal_tree.specs.Algorithm.{Statement, branch, either, with, while, call, Statements, done, then, mark, Branches, no_branches, or, Routine, procedure_routines, Algorithm}
 
 -- the names of the procedures that statements call

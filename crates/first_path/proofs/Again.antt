@@ -7,15 +7,15 @@ use Rattle.tla_token.specs.Lexemes.{Kind, name}
 use Rattle.tla_token.specs.Tokens.{Piece, blank, block, line, lexeme, bytes_of, tokens_of}
 use Rattle.tla_token.specs.Offences.{Part}
 use Rattle.tla_token.specs.Cut.{pieces}
-use Rattle.module_text.specs.TextFront.{Text}
-use Rattle.module_text.specs.FileParts.{Span}
-use Rattle.module_text.specs.AlgorithmText.{AlgorithmText}
-use Rattle.module_text.specs.Layout.{layout}
-use Rattle.module_text.specs.WithTranslation.{begin_line, end_line, line_end_if_new, WithTranslation}
-use Rattle.module_text.specs.laws.Kept.{SameAlgorithm}
-use Rattle.module_text.proofs.AlgorithmSame.{algorithm_kept}
-use Rattle.module_text.proofs.WalkSame.{put_again}
-use Rattle.module_text.proofs.FineKept.{fine_kept}
+use Rattle.module_tree.specs.TextFront.{Text}
+use Rattle.module_tree.specs.FileParts.{Span}
+use Rattle.module_tree.specs.AlgorithmText.{AlgorithmText}
+use Rattle.module_tree.specs.Layout.{layout}
+use Rattle.module_tree.specs.WithTranslation.{begin_line, end_line, line_end_if_new, WithTranslation}
+use Rattle.module_tree.specs.laws.Kept.{SameAlgorithm}
+use Rattle.module_tree.proofs.AlgorithmSame.{algorithm_kept}
+use Rattle.module_tree.proofs.WalkSame.{put_again}
+use Rattle.module_tree.proofs.FineKept.{fine_kept}
 use Rattle.first_path.specs.Beside.{Beside}
 use Rattle.first_path.specs.Form.{Parts, suits, algorithm_kinds, IsForm}
 use Rattle.first_path.specs.Placed.{region_of, translation_of}

@@ -3,11 +3,11 @@ use Rattle.std.proofs.Common.{◌≡◌, ℕ, ◌+◌, Bool, List, sym, ap, subs
 use Rattle.std.proofs.lemmas.Option.{same_Some}
 use Rattle.tla_token.specs.Tokens.{TokAlgorithm}
 use Rattle.tla_token.proofs.Unique as token
-use Rattle.tla_expr.specs.Spelling as spelled
+use Rattle.tla_tree.specs.Spelling as spelled
 use Rattle.pcal_tree.specs.Algorithm.{Algorithm}
 use Rattle.pcal_tree.specs.AlgorithmTokens.{views}
 use Rattle.pcal_tree.specs.Grammar.{algorithm_of}
-use Rattle.module_text.specs.AlgorithmText.{AlgorithmText}
+use Rattle.module_tree.specs.AlgorithmText.{AlgorithmText}
 use Rattle.first_path.specs.Form.{Parts, IsForm}
 use Rattle.first_path.specs.Placed.{Places}
 use Rattle.promise.specs.Headline.{Stands}

@@ -2,17 +2,17 @@
 use Rattle.std.proofs.Common.{◌≡◌, List, [], ◌∷◌, ◌++◌, cond, bytes_eq, codes, map, refl, sym, ap, ◌∙◌}
 use Rattle.std.specs.List.{flat_map}
 use Rattle.std.proofs.lemmas.Grind.{flat_map-append}
-use Rattle.tla_expr.specs.Tree.{Word}
-use Rattle.tla_expr.specs.Lexical.{Token}
-use Rattle.tla_expr.specs.TokenViews.{views}
-use Rattle.tla_expr.specs.FirstStop.{looks}
-use Rattle.module_text.specs.TextFront.{Text}
-use Rattle.module_text.specs.Walk.{Located, walk}
-use Rattle.module_text.specs.FileParts.{before_spot, after_spot}
-use Rattle.module_text.specs.FileUnits.{tokens_in, units_in}
-use Rattle.module_text.specs.Outside.{identifiers}
-use Rattle.module_text.specs.laws.Kept.{KeepsFile}
-use Rattle.module_text.proofs.OutsideAlike.{same_views, same_units, same_identifiers, same_opaque}
+use Rattle.tla_tree.specs.Tree.{Word}
+use Rattle.tla_tree.specs.Lexical.{Token}
+use Rattle.tla_tree.specs.TokenViews.{views}
+use Rattle.tla_tree.specs.FirstStop.{looks}
+use Rattle.module_tree.specs.TextFront.{Text}
+use Rattle.module_tree.specs.Walk.{Located, walk}
+use Rattle.module_tree.specs.FileParts.{before_spot, after_spot}
+use Rattle.module_tree.specs.FileUnits.{tokens_in, units_in}
+use Rattle.module_tree.specs.Outside.{identifiers}
+use Rattle.module_tree.specs.laws.Kept.{KeepsFile}
+use Rattle.module_tree.proofs.OutsideAlike.{same_views, same_units, same_identifiers, same_opaque}
 use Rattle.first_path.specs.Beside.{declared_by, extended_by, beside}
 
 -- what a unit gives is the same in other lines

@@ -4,7 +4,7 @@ use Rattle.std.specs.Str.{bytes_eq}
 use Rattle.std.proofs.lemmas.Bool.{and_parts, or_parts, not-true}
 use Rattle.tla_token.specs.Signs.{is_among}
 use Rattle.tla_token.specs.Words.{own_names, tla_words, begins_fairness, is_pluscal_word, is_tla_word, is_reserved, is_own, is_standard}
-use Rattle.tla_expr.specs.Tree.{Word}
+use Rattle.tla_tree.specs.Tree.{Word}
 use Rattle.first_path.specs.Form.{Parts, is_name, is_free, is_small, is_small_right, is_fit}
 use Rattle.first_path.proofs.Names.{not_among}
 

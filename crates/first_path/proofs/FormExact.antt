@@ -4,13 +4,13 @@ use Rattle.std.specs.List.{list_all}
 use Rattle.std.proofs.lemmas.Bool.{and_parts}
 use Rattle.tla_token.specs.Lexemes.{Kind, name}
 use Rattle.tla_token.specs.Offences.{Offence}
-use Rattle.tla_expr.specs.Tree.{Word}
-use Rattle.module_text.specs.Walk.{walk}
-use Rattle.module_text.specs.FileParts.{title}
-use Rattle.module_text.specs.AlgorithmText.{AlgorithmText, algorithm_in}
+use Rattle.tla_tree.specs.Tree.{Word}
+use Rattle.module_tree.specs.Walk.{walk}
+use Rattle.module_tree.specs.FileParts.{title}
+use Rattle.module_tree.specs.AlgorithmText.{AlgorithmText, algorithm_in}
 use Rattle.first_path.specs.Beside.{beside}
 use Rattle.first_path.specs.Form.{number_operand, variable_operand, Right, single, sum, Parts, is_small, is_small_right, suits, word, right_kinds, kinds, algorithm_kinds, IsForm}
-use Rattle.module_text.specs.Splitting.{splitting_offences}
+use Rattle.module_tree.specs.FileOffences.{splitting_offences}
 use Rattle.first_path.specs.FormRead.{on_some, if_so, parts_of, parts_in, if_none, suiting, form_of}
 use Rattle.first_path.proofs.Fit.{Fit, fit_of}
 use Rattle.first_path.proofs.FormKinds.{so, word_stands, Standing, parts_stand, parts_read, closing_kinds}

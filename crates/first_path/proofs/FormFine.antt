@@ -12,15 +12,14 @@ use Rattle.tla_token.specs.Lexemes.{name, number, string, one, other}
 use Rattle.tla_token.specs.Tokens.{Token, Piece, blank, block, line, lexeme, bytes_of, tokens_of, holds_mark, stretch}
 use Rattle.tla_token.specs.Offences.{Part, sound, stray, bad_string, open_string, open_block, is_stray, has_bad_escape, breaks_string, Offence, offence_if, byte_offences, part_offences}
 use Rattle.tla_token.specs.Cut.{pieces}
-use Rattle.tla_expr.specs.TokenViews.{view}
-use Rattle.module_text.specs.TextFront.{Text}
-use Rattle.module_text.specs.Beginnings.{is_options, all_at}
-use Rattle.module_text.specs.Walk.{Segment, part, Located, walk}
-use Rattle.module_text.specs.FileParts.{module_end, beginnings, after_comment, Span, region_of, is_newline, after_spot}
-use Rattle.module_text.specs.AlgorithmText.{IndexedPart, AlgorithmText, algorithm_in, in_token}
-use Rattle.module_text.specs.FileUnits.{token_in, begins_unit}
-use Rattle.module_text.specs.FileOffences.{offences_at, segment_offences, offences_of, algorithm_offences, no_module, no_algorithm, second_algorithms, rest_of_line, no_unit, placements, outside_region, options_in, file_offences}
-use Rattle.module_text.specs.Splitting.{is_splitting, splitting_offences}
+use Rattle.tla_tree.specs.TokenViews.{view}
+use Rattle.module_tree.specs.TextFront.{Text}
+use Rattle.module_tree.specs.Beginnings.{is_options, all_at}
+use Rattle.module_tree.specs.Walk.{Segment, part, Located, walk}
+use Rattle.module_tree.specs.FileParts.{module_end, beginnings, after_comment, Span, region_of, is_newline, after_spot}
+use Rattle.module_tree.specs.AlgorithmText.{IndexedPart, AlgorithmText, algorithm_in, in_token}
+use Rattle.module_tree.specs.FileUnits.{token_in, begins_unit}
+use Rattle.module_tree.specs.FileOffences.{offences_at, segment_offences, offences_of, algorithm_offences, no_module, no_algorithm, second_algorithms, rest_of_line, no_unit, placements, outside_region, options_in, file_offences, is_splitting, splitting_offences}
 use Rattle.first_path.specs.Form.{algorithm_kinds}
 use Rattle.first_path.proofs.RegionBytes.{small_kind, all_small}
 use Rattle.first_path.proofs.Names.{all_more}

@@ -1,9 +1,9 @@
 -- The text of a translation is whole lines, and none of them is an END line.
 use Rattle.std.proofs.Common.{◌≡◌, true}
 use Rattle.tla_token.specs.Places.{start}
-use Rattle.module_text.specs.Layout.{layout}
-use Rattle.module_text.specs.laws.Walks.{IsInside}
-use Rattle.module_text.proofs.WrittenRegion as region
+use Rattle.module_tree.specs.Layout.{layout}
+use Rattle.module_tree.specs.laws.Walks.{IsInside}
+use Rattle.module_tree.proofs.WrittenRegion as region
 use Rattle.first_path.specs.Form.{Parts, is_fit}
 use Rattle.first_path.specs.Placed.{region_of}
 use Rattle.first_path.proofs.Fit.{fit_of}

@@ -3,10 +3,10 @@ use Rattle.std.proofs.Common.{◌≡◌, ℕ, pos, ◌+ℤ◌, List, [], ◌∷�
 use Rattle.tla_token.specs.declared.place.Place.{Place}
 use Rattle.tla_token.specs.Signs.{is_among}
 use Rattle.tla_token.specs.Words.{is_reserved, is_own, is_standard}
-use Rattle.tla_expr.specs.declared.op.Op.TheVariants.{Equal, Plus}
-use Rattle.tla_expr.specs.Tree.{Word, number, name, operator}
+use Rattle.tla_tree.specs.declared.op.Op.TheVariants.{Equal, Plus}
+use Rattle.tla_tree.specs.Tree.{Word, number, name, operator}
 use Rattle.tla_value.specs.declared.fault.FaultKind.TheVariants.{NotInteger}
-use Rattle.tla_value.specs.Value.{Value, truth, int, text, model, set, fun, Outcome, fault, Sense, ◌>>=◌}
+use Rattle.tla_value.specs.Value.{Value, truth, int, text, model, set, fun, Outcome, fault, Sense, ◌>>=◌, and_then, TrueExactly}
 use Rattle.tla_value.specs.Order.{same}
 use Rattle.tla_value.specs.OrderLaws.{same_is, same_self}
 use Rattle.tla_value.specs.Stops.{plain, truth_at}
@@ -14,9 +14,8 @@ use Rattle.tla_value.specs.Strict.{strict_value}
 use Rattle.tla_value.proofs.Outcomes.{then_two}
 use Rattle.tla_value.specs.Meaning.{Env, just, eval}
 use Rattle.pcal_tree.specs.Names.{first_free, free_from}
-use Rattle.tla_value.specs.Value.{and_then, TrueExactly}
-use Rattle.module_text.specs.ActionTruth.{Verdict, value_in, truth_in, is_value}
-use Rattle.module_text.proofs.Tells.{tells_of, tells_and, tells_as}
+use Rattle.module_tree.specs.ActionTruth.{Verdict, value_in, truth_in, is_value}
+use Rattle.module_tree.proofs.Tells.{tells_of, tells_and, tells_as}
 use Rattle.first_path.specs.Form.{Operand, number_operand, variable_operand, Right, single, sum}
 use Rattle.first_path.specs.Placed.{leaf, infix_of, operand_tree, right_tree, is_at}
 use Rattle.first_path.proofs.Fit.{Free}

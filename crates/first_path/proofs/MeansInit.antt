@@ -1,9 +1,9 @@
 -- Init of the form's translation is true exactly of the algorithm's initial states.
 use Rattle.std.proofs.Common.{◌≡◌, pos, List, Bool, true, false, refl, sym, ◌∙◌, Ok}
 use Rattle.std.specs.Bool.{IsTrue}
-use Rattle.tla_expr.specs.declared.op.Op.TheVariants.{Equal}
-use Rattle.tla_expr.specs.Tree.{number, name}
-use Rattle.tla_value.specs.Value.{Value, int, text, Outcome}
+use Rattle.tla_tree.specs.declared.op.Op.TheVariants.{Equal}
+use Rattle.tla_tree.specs.Tree.{number, name}
+use Rattle.tla_value.specs.Value.{Value, int, text, Outcome, and_then, TrueExactly}
 use Rattle.tla_value.specs.Order.{same}
 use Rattle.tla_value.specs.OrderLaws.{same_is}
 use Rattle.tla_value.specs.Stops.{plain}
@@ -15,11 +15,10 @@ use Rattle.pcal_tree.specs.Scope.{State}
 use Rattle.pcal_tree.specs.Program.{Program}
 use Rattle.pcal_tree.specs.Calls.{label_value}
 use Rattle.pcal_tree.specs.InitialStates.{allowed, Initial}
-use Rattle.tla_value.specs.Value.{and_then, TrueExactly}
-use Rattle.module_text.specs.ActionTruth.{truth_in}
-use Rattle.module_text.specs.Module.{found}
-use Rattle.module_text.specs.ModuleTruth.{scope, init_holds}
-use Rattle.module_text.proofs.Tells.{tells_and, tells_as}
+use Rattle.module_tree.specs.ActionTruth.{truth_in}
+use Rattle.module_tree.specs.Module.{found}
+use Rattle.module_tree.specs.ModuleTruth.{scope, init_holds}
+use Rattle.module_tree.proofs.Tells.{tells_and, tells_as}
 use Rattle.first_path.specs.Form.{Parts, is_fit}
 use Rattle.first_path.specs.Placed.{Places, leaf, infix_of, is_at, algorithm_at, module_at}
 use Rattle.promise.specs.ConstantsAndStates.{on_variables}

@@ -7,9 +7,9 @@ use Rattle.std.proofs.lemmas.Option.{same_Some}
 use Rattle.tla_token.specs.declared.place.Place.{Place}
 use Rattle.tla_token.specs.Signs.{is_among}
 use Rattle.tla_token.proofs.Spelled.{among_head, same_bytes}
-use Rattle.tla_expr.specs.Tree.{Word}
+use Rattle.tla_tree.specs.Tree.{Word}
 use Rattle.tla_value.specs.declared.fault.FaultKind.TheVariants.{NotInteger}
-use Rattle.tla_value.specs.Value.{Value, text, fault}
+use Rattle.tla_value.specs.Value.{Value, text, fault, and_then, or_all, TrueExactly, ◌>>=◌}
 use Rattle.tla_value.specs.Order.{same}
 use Rattle.tla_value.proofs.Outcomes.{ok_is}
 use Rattle.tla_value.specs.Stops.{plain}
@@ -24,11 +24,10 @@ use Rattle.pcal_tree.specs.Scope.{State}
 use Rattle.pcal_tree.specs.Run.{Has}
 use Rattle.pcal_tree.specs.Program.{Program, Actor}
 use Rattle.pcal_tree.specs.Step.{StepFrom, course_of, pc_of, Step, Stutters}
-use Rattle.tla_value.specs.Value.{and_then, or_all, TrueExactly, ◌>>=◌}
-use Rattle.module_text.specs.ActionTruth.{Verdict, value_in, truth_in, acted, is_value, is_unchanged, are_unchanged}
-use Rattle.module_text.specs.Module.{found}
-use Rattle.module_text.specs.ModuleTruth.{definitions_in, acts_in, scope, next_holds}
-use Rattle.module_text.proofs.Tells.{tells_and, tells_or, tells_as, tells_of}
+use Rattle.module_tree.specs.ActionTruth.{Verdict, value_in, truth_in, acted, is_value, is_unchanged, are_unchanged}
+use Rattle.module_tree.specs.Module.{found}
+use Rattle.module_tree.specs.ModuleTruth.{definitions_in, acts_in, scope, next_holds}
+use Rattle.module_tree.proofs.Tells.{tells_and, tells_or, tells_as, tells_of}
 use Rattle.first_path.specs.Form.{number_operand, variable_operand, Right, single, sum, Parts, is_fit}
 use Rattle.first_path.specs.Placed.{Places, right_tree, is_at, algorithm_at, module_at}
 use Rattle.promise.specs.ConstantsAndStates.{on_variables}

@@ -2,7 +2,7 @@
 use Rattle.std.proofs.Common.{◌≡◌, List, [], ◌∷◌, ◌++◌, Bool, true, false, ◌||◌, cond, Option, Some, None, codes, bytes_eq, refl, sym, ap, ◌∙◌, subst, inl, inr, Ok}
 use Rattle.tla_token.specs.declared.place.Place.{Place}
 use Rattle.tla_token.proofs.Spelled.{same_bytes}
-use Rattle.tla_expr.specs.Tree.{Word, name}
+use Rattle.tla_tree.specs.Tree.{Word, name}
 use Rattle.tla_value.specs.declared.fault.FaultKind.TheVariants.{NotInteger}
 use Rattle.tla_value.specs.Value.{Value, text, Outcome, fault, ◌>>=◌}
 use Rattle.tla_value.proofs.Outcomes.{ok_is}

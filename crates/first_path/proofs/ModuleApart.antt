@@ -5,18 +5,18 @@ use Rattle.std.proofs.lemmas.Bool.{and_parts}
 use Rattle.std.proofs.lemmas.List.Folds.{list_all-append}
 use Rattle.std.proofs.lemmas.Grind.{flat_map-append}
 use Rattle.tla_token.specs.declared.place.Place.{Place}
-use Rattle.tla_expr.specs.Tree.{Word}
-use Rattle.tla_expr.specs.Lexical.{TokenView, Token}
-use Rattle.tla_expr.specs.Lexical as tk
-use Rattle.tla_expr.specs.TokenViews.{views}
+use Rattle.tla_tree.specs.Tree.{Word}
+use Rattle.tla_tree.specs.Lexical.{TokenView, Token}
+use Rattle.tla_tree.specs.Lexical as tk
+use Rattle.tla_tree.specs.TokenViews.{views}
 use Rattle.tla_value.specs.Outside.{Outside}
-use Rattle.module_text.specs.TextFront.{Text}
-use Rattle.module_text.specs.Walk.{walk}
-use Rattle.module_text.specs.FileParts.{before_spot, after_spot}
-use Rattle.module_text.specs.FileUnits.{tokens_in, begins_unit, cut, units_in}
-use Rattle.module_text.specs.Outside.{identifiers}
-use Rattle.module_text.specs.Module.{Module}
-use Rattle.module_text.specs.Reading.{sight, Reads}
+use Rattle.module_tree.specs.TextFront.{Text}
+use Rattle.module_tree.specs.Walk.{walk}
+use Rattle.module_tree.specs.FileParts.{before_spot, after_spot}
+use Rattle.module_tree.specs.FileUnits.{tokens_in, begins_unit, cut, units_in}
+use Rattle.module_tree.specs.Outside.{identifiers}
+use Rattle.module_tree.specs.Module.{Module}
+use Rattle.module_tree.specs.Reading.{sight, Reads}
 use Rattle.first_path.specs.Beside.{Beside, declared_by, extended_by, beside}
 use Rattle.first_path.specs.Form.{Parts, suits}
 use Rattle.first_path.proofs.OutsideApart.{Apart, suited_parts, apart_outside}

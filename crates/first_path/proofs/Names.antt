@@ -10,9 +10,9 @@ use Rattle.tla_token.specs.Lexemes.{is_word, is_letter}
 use Rattle.tla_token.specs.Signs.{is_among}
 use Rattle.tla_token.proofs.Spelled.{same_bytes}
 use Rattle.tla_token.proofs.Words.{digits_words}
-use Rattle.tla_expr.specs.Tree.{Word}
-use Rattle.tla_expr.proofs.SpelledTokens.{Spelled, decimal_spelled as digits_stand}
-use Rattle.tla_expr.specs.Lexical.{escaped, escapes}
+use Rattle.tla_tree.specs.Tree.{Word}
+use Rattle.tla_tree.proofs.SpelledTokens.{Spelled, decimal_spelled as digits_stand}
+use Rattle.tla_tree.specs.Lexical.{escaped, escapes}
 use Rattle.first_path.specs.Form.{is_name, is_small}
 
 -- ---- names

@@ -7,20 +7,20 @@ use Rattle.std.proofs.Math.Bool.{and-false}
 use Rattle.tla_token.specs.Signs.{is_among}
 use Rattle.tla_token.specs.Words.{standard_names, sequence_names, tlc_names, is_standard}
 use Rattle.tla_token.proofs.Spelled.{same_bytes}
-use Rattle.tla_expr.specs.Tree.{Word, Name, words}
-use Rattle.tla_expr.specs.Lexical.{TokenView, Token}
-use Rattle.tla_expr.specs.Lexical as tk
-use Rattle.tla_expr.specs.Spelling.{spell, tree_of}
-use Rattle.tla_expr.specs.declared.op.Op.TheVariants.{Plus}
+use Rattle.tla_tree.specs.Tree.{Word, Name, words}
+use Rattle.tla_tree.specs.Lexical.{TokenView, Token}
+use Rattle.tla_tree.specs.Lexical as tk
+use Rattle.tla_tree.specs.Spelling.{spell, tree_of}
+use Rattle.tla_tree.specs.declared.op.Op.TheVariants.{Plus}
 use Rattle.tla_value.specs.StandardModules.{has_operator}
 use Rattle.tla_value.specs.Outside.{Opaque, ReadDefinition, Outside}
 use Rattle.pcal_tree.specs.BoundNames.{all_of, lists_in}
 use Rattle.pcal_tree.specs.Names.{taken_outside}
 use Rattle.pcal_tree.specs.Outside.{unit_names, bound_outside}
-use Rattle.module_text.specs.Module.{OutsideUnit, extends, constants, defines, opaque, modules_of, outside_of}
-use Rattle.module_text.specs.Grammar.{Names, last_name, more_names, spell_names, names_of, words_of}
-use Rattle.module_text.specs.Units.{ParameterForm, spell_parameters, parameters}
-use Rattle.module_text.specs.Outside.{Sight, identifiers, opaque_of, Named, Defined, IsOutside, AllOutside}
+use Rattle.module_tree.specs.Module.{OutsideUnit, extends, constants, defines, opaque, modules_of, outside_of}
+use Rattle.module_tree.specs.Grammar.{Names, last_name, more_names, spell_names, names_of, words_of}
+use Rattle.module_tree.specs.Units.{ParameterForm, spell_parameters, parameters}
+use Rattle.module_tree.specs.Outside.{Sight, identifiers, opaque_of, Named, Defined, IsOutside, AllOutside}
 use Rattle.first_path.specs.Beside.{Beside, declared_by, extended_by}
 use Rattle.first_path.specs.Form.{is_sum, Parts, is_new, is_taken, suits}
 use Rattle.first_path.proofs.BoundWords.{words_append, phrase_bound}

@@ -6,7 +6,7 @@ use Rattle.tla_token.specs.declared.sign.Sign.TheVariants as s
 use Rattle.tla_token.specs.Signs.{spellings}
 use Rattle.tla_token.specs.Lexemes as kind
 use Rattle.tla_token.specs.Tokens.{Piece, blank, lexeme}
-use Rattle.tla_expr.specs.Tree.{Word}
+use Rattle.tla_tree.specs.Tree.{Word}
 use Rattle.first_path.specs.Form.{Operand, number_operand, variable_operand, Right, single, sum, Parts}
 
 -- pieces before others

@@ -1,15 +1,15 @@
 -- A file of the form has a place for its translation, and the file with the translation is what is written.
 use Rattle.std.proofs.Common.{◌≡◌, ℕ, List, Option, Some, sym, ap, ◌∙◌}
 use Rattle.tla_value.specs.Outside.{Outside}
-use Rattle.module_text.specs.TextFront.{Text}
-use Rattle.module_text.specs.Walk.{walk}
-use Rattle.module_text.specs.FileParts.{Span, spot}
-use Rattle.module_text.specs.Around.{Around}
-use Rattle.module_text.specs.Layout.{layout}
-use Rattle.module_text.specs.WithTranslation.{WithTranslation}
-use Rattle.module_text.specs.laws.Kept.{KeepsFile}
-use Rattle.module_text.proofs.WalkKept.{has_spot}
-use Rattle.module_text.proofs.WalkSame.{keeps_file}
+use Rattle.module_tree.specs.TextFront.{Text}
+use Rattle.module_tree.specs.Walk.{walk}
+use Rattle.module_tree.specs.FileParts.{Span, spot}
+use Rattle.module_tree.specs.Around.{Around}
+use Rattle.module_tree.specs.Layout.{layout}
+use Rattle.module_tree.specs.WithTranslation.{WithTranslation}
+use Rattle.module_tree.specs.laws.Kept.{KeepsFile}
+use Rattle.module_tree.proofs.WalkKept.{has_spot}
+use Rattle.module_tree.proofs.WalkSame.{keeps_file}
 use Rattle.first_path.specs.Form.{Parts, IsForm}
 use Rattle.first_path.specs.Placed.{Places, module_at, region_of, put_in, translation_of}
 use Rattle.first_path.proofs.RegionText.{placeless}

@@ -6,7 +6,7 @@ use Rattle.tla_token.specs.declared.rule.Refusal.{Refusal}
 use Rattle.tla_token.specs.Places.{place_at}
 use Rattle.tla_token.specs.Offences.{Offence, earlier, least}
 use Rattle.first_path.specs.Form.{Parts, IsForm}
-use Rattle.module_text.specs.Splitting.{splitting_offences}
+use Rattle.module_tree.specs.FileOffences.{splitting_offences}
 use Rattle.first_path.specs.FormRead.{form_of, offences_with, form_offences, FirstOffence, left_out}
 use Rattle.first_path.specs.Placed.{module_at, translation_of}
 use Rattle.promise.specs.Options.{no_options}
@@ -18,7 +18,7 @@ use Rattle.first_path.proofs.Stands.{stands}
 use Rattle.first_path.proofs.AlgorithmAlone.{algorithm_alone}
 use Rattle.first_path.proofs.Placing.{around}
 use Rattle.first_path.proofs.ReadsModule.{is_read}
-use Rattle.module_text.proofs.OneModule.{one_module}
+use Rattle.module_tree.proofs.OneModule.{one_module}
 use Rattle.first_path.proofs.MeansNext.{next_is}
 use Rattle.first_path.proofs.MeansInit.{init_is}
 

@@ -4,22 +4,22 @@ use Rattle.std.specs.Prelude.{codes, IsTrue}
 use Rattle.std.proofs.lemmas.Option.{same_Some}
 use Rattle.tla_token.specs.Places.{after}
 use Rattle.tla_token.specs.Tokens.{Token, tokens_of}
-use Rattle.tla_expr.specs.TokenViews.{views}
+use Rattle.tla_tree.specs.TokenViews.{views}
 use Rattle.tla_value.specs.Outside.{Outside}
-use Rattle.module_text.specs.TextFront.{Text, on_some}
-use Rattle.module_text.specs.Walk.{is_tail, State, Located, walk_from, walk, at_start}
-use Rattle.module_text.specs.FileParts.{module_end, before_spot, inside_region}
-use Rattle.module_text.specs.FileUnits.{tokens_in, cut}
-use Rattle.module_text.specs.FileOffences.{offences_of}
-use Rattle.module_text.specs.WithTranslation.{begin_line}
-use Rattle.module_text.specs.Layout.{layout}
-use Rattle.module_text.specs.Module.{units_of, Module}
-use Rattle.module_text.specs.Units.{IsUnit}
-use Rattle.module_text.specs.Reading.{AllAre, AllSmall, ReadsRegion, Reads}
-use Rattle.module_text.specs.laws.Walks.{after_all, made, located}
-use Rattle.module_text.proofs.WalkPieces.{located_pieces, pieces_walked, tokens_are, no_offences, none_in}
-use Rattle.module_text.proofs.SomeOutside.{some_outside}
-use Rattle.module_text.proofs.ModuleKept.{is_module}
+use Rattle.module_tree.specs.TextFront.{Text, on_some}
+use Rattle.module_tree.specs.Walk.{is_tail, State, Located, walk_from, walk, at_start}
+use Rattle.module_tree.specs.FileParts.{module_end, before_spot, inside_region}
+use Rattle.module_tree.specs.FileUnits.{tokens_in, cut}
+use Rattle.module_tree.specs.FileOffences.{offences_of}
+use Rattle.module_tree.specs.WithTranslation.{begin_line}
+use Rattle.module_tree.specs.Layout.{layout}
+use Rattle.module_tree.specs.Module.{units_of, Module}
+use Rattle.module_tree.specs.Units.{IsUnit}
+use Rattle.module_tree.specs.Reading.{AllAre, AllSmall, ReadsRegion, Reads}
+use Rattle.module_tree.specs.laws.Walks.{after_all, made, located}
+use Rattle.module_tree.proofs.WalkPieces.{located_pieces, pieces_walked, tokens_are, no_offences, none_in}
+use Rattle.module_tree.proofs.SomeOutside.{some_outside}
+use Rattle.module_tree.proofs.ModuleKept.{is_module}
 use Rattle.first_path.specs.Form.{Parts, is_fit, suits, IsForm}
 use Rattle.first_path.specs.Placed.{Places, region_at, region_of, module_at, translation_of}
 use Rattle.first_path.specs.Beside.{Beside}

@@ -5,9 +5,9 @@ use Rattle.tla_token.specs.declared.sign.Sign.TheVariants as s
 use Rattle.std.proofs.lemmas.Bool.{and_parts}
 use Rattle.tla_token.specs.Lexemes.{is_word, is_letter}
 use Rattle.tla_token.specs.Tokens.{Piece, text_of}
-use Rattle.tla_expr.specs.Tree.{Word}
-use Rattle.module_text.specs.Beginnings.{begins_bar}
-use Rattle.module_text.proofs.WalkPieces.{word_bar, are_barless}
+use Rattle.tla_tree.specs.Tree.{Word}
+use Rattle.module_tree.specs.Beginnings.{begins_bar}
+use Rattle.module_tree.proofs.WalkPieces.{word_bar, are_barless}
 use Rattle.first_path.specs.Form.{Operand, number_operand, variable_operand, Right, single, sum, Parts, is_name, is_small, is_small_operand, is_small_right}
 use Rattle.first_path.proofs.Names.{name_words, name_letter, decimal_spelled, decimal_words}
 use Rattle.first_path.proofs.Fit.{Fit}

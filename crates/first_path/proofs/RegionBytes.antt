@@ -7,7 +7,7 @@ use Rattle.tla_token.specs.Lexemes.{is_word}
 use Rattle.tla_token.specs.Lexemes as lexeme
 use Rattle.tla_token.specs.Tokens.{Piece, blank, lexeme}
 use Rattle.tla_token.proofs.Signed.{tells_apart}
-use Rattle.tla_expr.specs.Tree.{Word}
+use Rattle.tla_tree.specs.Tree.{Word}
 use Rattle.first_path.specs.Form.{number_operand, variable_operand, Right, single, sum, Parts, is_name, is_small, is_small_right}
 use Rattle.first_path.proofs.Names.{every, name_words, decimal_words}
 use Rattle.first_path.proofs.Fit.{Fit}

@@ -8,12 +8,12 @@ use Rattle.tla_token.specs.Lexemes as lexeme
 use Rattle.tla_token.specs.Tokens.{Piece, blank, block, line, lexeme, bytes_of, tokens_of}
 use Rattle.tla_token.specs.Words.{is_reserved}
 use Rattle.tla_token.proofs.Signed.{tells_apart}
-use Rattle.tla_expr.specs.Tree.{Word}
-use Rattle.tla_expr.specs.Lexical as tk
-use Rattle.tla_expr.specs.Lexical.{TokenView, Token}
-use Rattle.tla_expr.specs.TokenViews.{kind_of, views}
-use Rattle.module_text.specs.Reading.{is_small, AllSmall}
-use Rattle.module_text.specs.FileUnits.{is_starter, is_bar, begins_unit, Cut, cut_at, cut}
+use Rattle.tla_tree.specs.Tree.{Word}
+use Rattle.tla_tree.specs.Lexical as tk
+use Rattle.tla_tree.specs.Lexical.{TokenView, Token}
+use Rattle.tla_tree.specs.TokenViews.{kind_of, views}
+use Rattle.module_tree.specs.Reading.{is_small, AllSmall}
+use Rattle.module_tree.specs.FileUnits.{is_starter, is_bar, begins_unit, Cut, cut_at, cut}
 use Rattle.first_path.proofs.StandsTokens.{word_is}
 use Rattle.first_path.proofs.RegionBytes.{is_inline, all_inline, small_kind, all_small}
 

@@ -17,9 +17,9 @@ use Rattle.tla_token.proofs.Cutting.{cut_fits, some_letters}
 use Rattle.tla_token.specs.declared.sign.Sign.{Sign}
 use Rattle.tla_token.specs.declared.sign.Sign.TheVariants as s
 use Rattle.tla_token.specs.Signs.{spellings}
-use Rattle.tla_expr.specs.Tree.{Word}
+use Rattle.tla_tree.specs.Tree.{Word}
 use Rattle.first_path.specs.Form.{Operand, number_operand, variable_operand, Right, single, sum, Parts, is_fit, is_name, is_small, is_small_operand, is_small_right}
-use Rattle.tla_expr.proofs.SpelledTokens.{Spelled}
+use Rattle.tla_tree.proofs.SpelledTokens.{Spelled}
 use Rattle.first_path.proofs.Names.{name_words, name_letter, decimal_spelled, decimal_words}
 use Rattle.first_path.proofs.Fit.{fit_of}
 use Rattle.first_path.proofs.Pieces.{first_spelling, sp, nl, word, number, quote, sign, prime, bullet, defined, at, operand, right, variables_pieces, vars_pieces, init_pieces, step_pieces, terminating_pieces, next_pieces, spec_pieces, termination_pieces, region_pieces}

@@ -3,17 +3,17 @@ use Rattle.std.proofs.Common.{◌≡◌, ℕ, ◌+◌, ◌<◌, true, false, nat
 use Rattle.std.proofs.lemmas.Bool.{ne_eqb, lt-ltb}
 use Rattle.tla_token.specs.Words.{is_reserved}
 use Rattle.tla_token.specs.Tokens.{Piece}
-use Rattle.tla_expr.specs.declared.op.Op.TheVariants as op
-use Rattle.tla_expr.specs.Tree.{Word, Tree}
-use Rattle.tla_expr.specs.Tree as tree
-use Rattle.tla_expr.specs.Spelling.{Phrase}
-use Rattle.tla_expr.specs.Spelling as spelled
-use Rattle.module_text.specs.Module.{RegionUnit, call, one_way, variables_unit, vars_unit, init_unit, terminating_unit, next_unit, spec_unit, termination_unit}
-use Rattle.tla_expr.specs.Lexical.{Token}
-use Rattle.module_text.specs.Grammar.{last_name, more_names, call_form, one_form}
-use Rattle.module_text.specs.Units.{UnitForm, spell_unit, unit_of, GoodUnit, IsUnit, variables_form, vars_form, init_form, terminating_form, next_form, spec_form, steps_line, termination_form}
-use Rattle.module_text.specs.FileUnits.{Cut}
-use Rattle.module_text.specs.Reading.{AllAre}
+use Rattle.tla_tree.specs.declared.op.Op.TheVariants as op
+use Rattle.tla_tree.specs.Tree.{Word, Tree}
+use Rattle.tla_tree.specs.Tree as tree
+use Rattle.tla_tree.specs.Spelling.{Phrase}
+use Rattle.tla_tree.specs.Spelling as spelled
+use Rattle.module_tree.specs.Module.{RegionUnit, call, one_way, variables_unit, vars_unit, init_unit, terminating_unit, next_unit, spec_unit, termination_unit}
+use Rattle.tla_tree.specs.Lexical.{Token}
+use Rattle.module_tree.specs.Grammar.{last_name, more_names, call_form, one_form}
+use Rattle.module_tree.specs.Units.{UnitForm, spell_unit, unit_of, GoodUnit, IsUnit, variables_form, vars_form, init_form, terminating_form, next_form, spec_form, steps_line, termination_form}
+use Rattle.module_tree.specs.FileUnits.{Cut}
+use Rattle.module_tree.specs.Reading.{AllAre}
 use Rattle.first_path.specs.Form.{Parts}
 use Rattle.first_path.specs.Placed.{leaf, infix_of, is_at}
 use Rattle.first_path.proofs.Pieces.{nl, variables_pieces, vars_pieces, init_pieces, terminating_pieces, next_pieces, spec_pieces, termination_pieces}

@@ -4,16 +4,16 @@ use Rattle.std.proofs.lemmas.Bool.{lt-ltb}
 use Rattle.tla_token.specs.declared.sign.Sign.TheVariants as sign
 use Rattle.tla_token.specs.Words.{is_reserved, is_own}
 use Rattle.tla_token.specs.Tokens.{Piece}
-use Rattle.tla_expr.specs.declared.op.Op.TheVariants as op
-use Rattle.tla_expr.specs.Tree.{Word, Tree}
-use Rattle.tla_expr.specs.Tree as tree
-use Rattle.tla_expr.specs.Spelling.{Phrase, Right, spell, tree_of}
-use Rattle.tla_expr.specs.Spelling as spelled
-use Rattle.module_text.specs.Module.{RegionUnit, test, setting, no_items, item, all_of, action_unit}
-use Rattle.tla_expr.specs.Lexical.{Token}
-use Rattle.module_text.specs.Grammar.{ItemForm, spell_list, GoodOperand, test_form, setting_form, last_item, more_items}
-use Rattle.module_text.specs.Units.{UnitForm, all_form, action_form}
-use Rattle.module_text.specs.FileUnits.{Cut}
+use Rattle.tla_tree.specs.declared.op.Op.TheVariants as op
+use Rattle.tla_tree.specs.Tree.{Word, Tree}
+use Rattle.tla_tree.specs.Tree as tree
+use Rattle.tla_tree.specs.Spelling.{Phrase, Right, spell, tree_of}
+use Rattle.tla_tree.specs.Spelling as spelled
+use Rattle.module_tree.specs.Module.{RegionUnit, test, setting, no_items, item, all_of, action_unit}
+use Rattle.tla_tree.specs.Lexical.{Token}
+use Rattle.module_tree.specs.Grammar.{ItemForm, spell_list, GoodOperand, test_form, setting_form, last_item, more_items}
+use Rattle.module_tree.specs.Units.{UnitForm, all_form, action_form}
+use Rattle.module_tree.specs.FileUnits.{Cut}
 use Rattle.first_path.specs.Form.{Operand, number_operand, variable_operand, single, sum, Parts}
 use Rattle.first_path.specs.Form as form
 use Rattle.first_path.specs.Placed.{leaf, right_tree, is_at}

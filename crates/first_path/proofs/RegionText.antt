@@ -7,11 +7,11 @@ use Rattle.tla_token.specs.declared.place.Place.{Place}
 use Rattle.tla_token.specs.Places.{start}
 use Rattle.tla_token.specs.Lexemes.{is_word}
 use Rattle.tla_token.specs.Tokens.{Piece, text_of}
-use Rattle.tla_expr.specs.Tree.{Word}
-use Rattle.module_text.specs.ExprText as layout
-use Rattle.module_text.specs.Ways.{processes_in}
-use Rattle.module_text.specs.Layout.{layout, unit_text}
-use Rattle.module_text.specs.Module.{RegionUnit, variables_unit, vars_unit, init_unit, action_unit, terminating_unit, next_unit, spec_unit, termination_unit}
+use Rattle.tla_tree.specs.Tree.{Word}
+use Rattle.module_tree.specs.ExprText as layout
+use Rattle.module_tree.specs.Ways.{processes_in}
+use Rattle.module_tree.specs.Layout.{layout, unit_text}
+use Rattle.module_tree.specs.Module.{RegionUnit, variables_unit, vars_unit, init_unit, action_unit, terminating_unit, next_unit, spec_unit, termination_unit}
 use Rattle.first_path.specs.Form.{Operand, number_operand, variable_operand, Right, single, sum, Parts, is_fit}
 use Rattle.first_path.specs.Placed.{Places, operand_tree, right_tree, step_at, ended_at, region_at, region_of}
 use Rattle.first_path.proofs.Names.{name_words, escapes_name}

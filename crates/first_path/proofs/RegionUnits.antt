@@ -2,11 +2,11 @@
 use Rattle.std.proofs.Common.{◌≡◌, ℕ, ◌+◌, IsTrue, [], ◌∷◌, refl, sym, ap, ◌∙◌, subst}
 use Rattle.tla_token.specs.declared.place.Place.{Place}
 use Rattle.tla_token.specs.Tokens.{tokens_of}
-use Rattle.module_text.specs.Module.{units_of}
-use Rattle.module_text.specs.Units.{IsUnit}
-use Rattle.tla_expr.specs.TokenViews.{views}
-use Rattle.module_text.specs.FileUnits.{Cut, cut}
-use Rattle.module_text.specs.Reading.{AllAre, AllSmall}
+use Rattle.module_tree.specs.Module.{units_of}
+use Rattle.module_tree.specs.Units.{IsUnit}
+use Rattle.tla_tree.specs.TokenViews.{views}
+use Rattle.module_tree.specs.FileUnits.{Cut, cut}
+use Rattle.module_tree.specs.Reading.{AllAre, AllSmall}
 use Rattle.first_path.specs.Form.{Parts, is_fit}
 use Rattle.first_path.specs.Placed.{Places, region_at}
 use Rattle.first_path.proofs.Fit.{Fit, fit_of}

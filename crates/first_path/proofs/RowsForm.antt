@@ -4,7 +4,7 @@ use Rattle.std.specs.Fmt.{digits}
 use Rattle.std.proofs.Common.{refl}
 use Rattle.tla_token.specs.declared.rule.Rule.TheVariants.{NotAscii, BadToken, OpenComment, OpenString, NoModule, NoAlgorithm, TwoAlgorithms, BadRegion, Placement, Options, LeftOutWord}
 use Rattle.tla_token.specs.Offences.{least}
-use Rattle.module_text.specs.Walk.{walk}
+use Rattle.module_tree.specs.Walk.{walk}
 use Rattle.first_path.specs.Beside.{beside}
 use Rattle.first_path.specs.Form.{number_operand, variable_operand, Right, single, sum, Parts}
 use Rattle.promise.specs.Translates.{Translates}

@@ -7,17 +7,17 @@ use Rattle.tla_token.specs.Lexemes.{Kind}
 use Rattle.tla_token.specs.Cut.{pieces}
 use Rattle.tla_token.specs.Tokens.{Token, TokAlgorithm}
 use Rattle.tla_token.proofs.Spelled.{same_bytes}
-use Rattle.tla_expr.specs.Tree.{Word}
+use Rattle.tla_tree.specs.Tree.{Word}
 use Rattle.pcal_tree.specs.AlgorithmTokens as view
 use Rattle.pcal_tree.specs.GrammarParts.{variable_word}
 use Rattle.pcal_tree.specs.Grammar.{spell}
-use Rattle.module_text.specs.TextFront.{Text}
-use Rattle.module_text.specs.Walk.{walk}
-use Rattle.module_text.specs.AlgorithmText.{AlgorithmText, algorithm_in, algorithm_tokens}
-use Rattle.module_text.specs.FileOffences.{offences_of, algorithm_offences}
-use Rattle.module_text.specs.laws.Kept.{only_large}
-use Rattle.module_text.proofs.AlgorithmIsCut.{algorithm_is_cut}
-use Rattle.module_text.proofs.WalkPlace.{both_empty}
+use Rattle.module_tree.specs.TextFront.{Text}
+use Rattle.module_tree.specs.Walk.{walk}
+use Rattle.module_tree.specs.AlgorithmText.{AlgorithmText, algorithm_in, algorithm_tokens}
+use Rattle.module_tree.specs.FileOffences.{offences_of, algorithm_offences}
+use Rattle.module_tree.specs.laws.Kept.{only_large}
+use Rattle.module_tree.proofs.AlgorithmIsCut.{algorithm_is_cut}
+use Rattle.module_tree.proofs.WalkPlace.{both_empty}
 use Rattle.first_path.specs.Form.{Parts, word, kinds, IsForm}
 use Rattle.first_path.specs.Placed.{Places, algorithm_at}
 use Rattle.promise.specs.Headline.{Stands}

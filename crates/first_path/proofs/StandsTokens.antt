@@ -10,13 +10,13 @@ use Rattle.tla_token.specs.Words.{is_reserved, is_pluscal_word, is_tla_word, tla
 use Rattle.tla_token.specs.Lexemes.{Kind}
 use Rattle.tla_token.specs.Tokens.{Piece, blank, block, line, lexeme, tokens_of}
 use Rattle.tla_token.specs.Tokens as text
-use Rattle.tla_expr.specs.declared.op.Op.TheVariants as op
-use Rattle.tla_expr.specs.Tree.{Word}
-use Rattle.tla_expr.specs.Lexical.{TokenView}
-use Rattle.tla_expr.specs.Lexical as tk
-use Rattle.tla_expr.specs.TokenViews.{word_kind, word_kinds, kind_among}
-use Rattle.tla_expr.specs.Spelling.{Phrase}
-use Rattle.tla_expr.specs.Spelling as spelled
+use Rattle.tla_tree.specs.declared.op.Op.TheVariants as op
+use Rattle.tla_tree.specs.Tree.{Word}
+use Rattle.tla_tree.specs.Lexical.{TokenView}
+use Rattle.tla_tree.specs.Lexical as tk
+use Rattle.tla_tree.specs.TokenViews.{word_kind, word_kinds, kind_among}
+use Rattle.tla_tree.specs.Spelling.{Phrase}
+use Rattle.tla_tree.specs.Spelling as spelled
 use Rattle.pcal_tree.specs.AlgorithmTokens.{views}
 use Rattle.pcal_tree.specs.AlgorithmTokens as view
 use Rattle.pcal_tree.specs.GrammarParts as part
@@ -24,7 +24,7 @@ use Rattle.pcal_tree.specs.GrammarP.{simple, last_statement}
 use Rattle.pcal_tree.specs.Grammar.{Text, algorithm, to_end, no_define, begin, spell, algorithm_of, Good, p_syntax, SpellsP}
 use Rattle.first_path.specs.Form.{Operand, number_operand, variable_operand, Right, single, sum, Parts, word, operand_kind, right_kinds, kinds}
 use Rattle.first_path.specs.Placed.{Places, algorithm_at}
-use Rattle.tla_expr.proofs.TextTokens.{among_holds}
+use Rattle.tla_tree.proofs.TextTokens.{among_holds}
 use Rattle.first_path.proofs.Fit.{unreserved}
 use Rattle.first_path.proofs.FormKinds.{closing_kinds}
 

@@ -3,12 +3,12 @@ use Rattle.std.proofs.Common.{◌≡◌, Bool, true, false, List, [], ◌∷◌,
 use Rattle.std.specs.List.{list_all}
 use Rattle.std.proofs.lemmas.Bool.{and_parts, and_from, not-true}
 use Rattle.tla_token.specs.declared.place.Place.{Place}
-use Rattle.tla_expr.specs.Tree.{Word}
+use Rattle.tla_tree.specs.Tree.{Word}
 use Rattle.tla_value.specs.Stops.{Check}
 use Rattle.tla_value.specs.Meaning.{Env}
 use Rattle.tla_value.specs.Definitions.{Definition, body_sense, defined, with_definitions}
 use Rattle.tla_value.specs.Outside.{ReadDefinition}
-use Rattle.module_text.specs.Module.{found}
+use Rattle.module_tree.specs.Module.{found}
 use Rattle.first_path.proofs.OutsideApart.{other}
 
 -- none of the definitions has the name x

@@ -3,7 +3,7 @@ use Rattle.std.proofs.Common.{◌≡◌, pos, Bool, true, false, cond, None, Som
 use Rattle.std.proofs.lemmas.Option.{same_Some}
 use Rattle.tla_token.specs.declared.place.Place.{Place}
 use Rattle.tla_token.specs.Signs.{is_among}
-use Rattle.tla_expr.specs.Tree.{Word}
+use Rattle.tla_tree.specs.Tree.{Word}
 use Rattle.tla_value.specs.declared.fault.FaultKind.{FaultKind}
 use Rattle.tla_value.specs.Value.{Value, int, text, Trouble}
 use Rattle.tla_value.specs.Order.{IsCanonical}

@@ -5,9 +5,9 @@ use Rattle.std.proofs.lemmas.Bool.{and_parts, leb-true, le-leb, ltb-true}
 use Rattle.tla_token.specs.declared.place.Place.{Place}
 use Rattle.tla_token.specs.Lexemes.{is_word, is_letter}
 use Rattle.tla_token.proofs.Parted.{word_printed}
-use Rattle.tla_expr.specs.Tree.{Word}
-use Rattle.tla_expr.specs.laws.Writable.{IsIdentifier, is_spellable, IsString, IsWritable}
-use Rattle.module_text.specs.laws.WritableRegion.{IsRegion}
+use Rattle.tla_tree.specs.Tree.{Word}
+use Rattle.tla_tree.specs.laws.Writable.{IsIdentifier, is_spellable, IsString, IsWritable}
+use Rattle.module_tree.specs.laws.WritableRegion.{IsRegion}
 use Rattle.first_path.specs.Form.{Operand, number_operand, variable_operand, Right, single, sum, Parts, is_name, is_small_operand, is_small_right}
 use Rattle.first_path.specs.Placed.{Places, operand_tree, right_tree, is_at, region_at}
 use Rattle.first_path.proofs.Names.{every, name_words}

@@ -2,13 +2,13 @@
 -- the modules that they extend ("Specifying Systems", sections 17.1 to 17.5).
 use Rattle.std.specs.Prelude.{List, [], ◌∷◌, ◌++◌, cond, bytes_eq, codes}
 use Rattle.std.specs.List.{flat_map}
-use Rattle.tla_expr.specs.Tree.{Word}
-use Rattle.tla_expr.specs.Lexical.{Token}
-use Rattle.tla_expr.specs.TokenViews.{views}
-use Rattle.module_text.specs.Walk.{Located}
-use Rattle.module_text.specs.FileParts.{before_spot, after_spot}
-use Rattle.module_text.specs.FileUnits.{tokens_in, units_in}
-use Rattle.module_text.specs.Outside.{identifiers, opaque_of}
+use Rattle.tla_tree.specs.Tree.{Word}
+use Rattle.tla_tree.specs.Lexical.{Token}
+use Rattle.tla_tree.specs.TokenViews.{views}
+use Rattle.module_tree.specs.Walk.{Located}
+use Rattle.module_tree.specs.FileParts.{before_spot, after_spot}
+use Rattle.module_tree.specs.FileUnits.{tokens_in, units_in}
+use Rattle.module_tree.specs.Outside.{identifiers, opaque_of}
 
 pub record Beside : Type 0 where
   pub words : List Word  -- the identifiers before the translation, also those that are bound there

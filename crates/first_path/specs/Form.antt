@@ -9,13 +9,13 @@ use Rattle.tla_token.specs.Lexemes.{Kind, one, is_word, is_letter}
 use Rattle.tla_token.specs.Lexemes as kind
 use Rattle.tla_token.specs.Words.{is_reserved, is_own, is_standard}
 use Rattle.tla_token.specs.Limits.{past_numbers}
-use Rattle.tla_expr.specs.declared.op.Op.TheVariants.{Plus}
-use Rattle.tla_expr.specs.Tree.{Word}
+use Rattle.tla_tree.specs.declared.op.Op.TheVariants.{Plus}
+use Rattle.tla_tree.specs.Tree.{Word}
 use Rattle.tla_value.specs.StandardModules.{has_operator}
-use Rattle.module_text.specs.Walk.{walk}
-use Rattle.module_text.specs.FileParts.{title}
-use Rattle.module_text.specs.AlgorithmText.{AlgorithmText, algorithm_in, algorithm_tokens}
-use Rattle.module_text.specs.FileOffences.{file_offences}
+use Rattle.module_tree.specs.Walk.{walk}
+use Rattle.module_tree.specs.FileParts.{title}
+use Rattle.module_tree.specs.AlgorithmText.{AlgorithmText, algorithm_in, algorithm_tokens}
+use Rattle.module_tree.specs.FileOffences.{file_offences}
 use Rattle.first_path.specs.Beside.{Beside, beside}
 
 -- a number, or the algorithm's variable

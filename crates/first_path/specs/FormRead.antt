@@ -7,12 +7,12 @@ use Rattle.tla_token.specs.Lexemes.{Kind, name, number, one}
 use Rattle.tla_token.specs.declared.rule.Refusal.{Refusal}
 use Rattle.tla_token.specs.Places.{start, place_at}
 use Rattle.tla_token.specs.Offences.{Offence, least}
-use Rattle.tla_expr.specs.Tree.{Word}
-pub use Rattle.module_text.specs.TextFront.{on_some}
-use Rattle.module_text.specs.Walk.{walk}
-use Rattle.module_text.specs.FileParts.{title}
-use Rattle.module_text.specs.AlgorithmText.{algorithm_in}
-use Rattle.module_text.specs.Splitting.{splitting_offences}
+use Rattle.tla_tree.specs.Tree.{Word}
+pub use Rattle.module_tree.specs.TextFront.{on_some}
+use Rattle.module_tree.specs.Walk.{walk}
+use Rattle.module_tree.specs.FileParts.{title}
+use Rattle.module_tree.specs.AlgorithmText.{algorithm_in}
+use Rattle.module_tree.specs.FileOffences.{splitting_offences}
 use Rattle.first_path.specs.Beside.{Beside, beside}
 use Rattle.first_path.specs.Form.{Operand, number_operand, variable_operand, Right, single, sum, Parts, is_fit, suits, algorithm_kinds}
 

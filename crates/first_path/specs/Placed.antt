@@ -2,18 +2,18 @@
 use Rattle.std.specs.Prelude.{ℕ, List, [], ◌∷◌, ◌++◌, take, drop, false, Option, Some, None, codes}
 use Rattle.tla_token.specs.declared.place.Place.{Place}
 use Rattle.tla_token.specs.Places.{start}
-use Rattle.tla_expr.specs.declared.op.Op.{Op}
-use Rattle.tla_expr.specs.declared.op.Op.TheVariants.{Equal, Plus}
-use Rattle.tla_expr.specs.Tree.{Word, Tree, node, no_trees, number, string, name, strict}
-use Rattle.tla_expr.specs.Tree as tree
+use Rattle.tla_tree.specs.declared.op.Op.{Op}
+use Rattle.tla_tree.specs.declared.op.Op.TheVariants.{Equal, Plus}
+use Rattle.tla_tree.specs.Tree.{Word, Tree, node, no_trees, number, string, name, strict}
+use Rattle.tla_tree.specs.Tree as tree
 use Rattle.tla_value.specs.Outside.{Outside}
 use Rattle.pcal_tree.specs.declared.mark.Mark.TheVariants.{Plain}
 use Rattle.pcal_tree.specs.Algorithm.{Name, Algorithm, Span, assign, done, then, mark, no_assignments, assignment, equals, alone}
-use Rattle.module_text.specs.Module.{test, setting, no_items, item, call, one_way, all_of, Action, Region, Module}
-use Rattle.module_text.specs.Layout.{layout}
-use Rattle.module_text.specs.Walk.{walk}
-use Rattle.module_text.specs.FileParts.{Span as Stretch, spot}
-use Rattle.module_text.specs.WithTranslation.{begin_line, end_line, line_end_if_new}
+use Rattle.module_tree.specs.Module.{test, setting, no_items, item, call, one_way, all_of, Action, Region, Module}
+use Rattle.module_tree.specs.Layout.{layout}
+use Rattle.module_tree.specs.Walk.{walk}
+use Rattle.module_tree.specs.FileParts.{Span as Stretch, spot}
+use Rattle.module_tree.specs.WithTranslation.{begin_line, end_line, line_end_if_new}
 use Rattle.first_path.specs.Form.{Operand, number_operand, variable_operand, Right, single, sum, Parts}
 
 -- a place for each token, by its number

@@ -1,6 +1,6 @@
 -- Two worked files of the form. Of the first the premises of the promise are met: its algorithm's first state, and the one where it is done.
 use Rattle.std.specs.Prelude.{ℕ, pos, bytes_eq, cond, List, [], ◌∷◌, ◌++◌, Some, None, codes}
-use Rattle.tla_expr.specs.Tree.{Word}
+use Rattle.tla_tree.specs.Tree.{Word}
 use Rattle.tla_value.specs.Value.{int, text}
 use Rattle.tla_value.specs.Definitions.{Valuation}
 use Rattle.tla_value.specs.Outside.{Outside}

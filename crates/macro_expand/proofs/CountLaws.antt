@@ -1,7 +1,7 @@
 -- What is counted once for each macro gives the size of the expansion.
 use Rattle.std.proofs.Common.{◌≡◌, ℕ, ◌+◌, suc, List, [], ◌∷◌, map, reverse, Bool, true, false, cond, max, bytes_eq, refl, sym, ap, ◌∙◌, arith}
 use Rattle.std.proofs.Math.Nat.{zero-max}
-use Rattle.tla_expr.specs.Tree.{Word, Name, Tree, Trees, Graft, grafts}
+use Rattle.tla_tree.specs.Tree.{Word, Name, Tree, Trees, Graft, grafts}
 use Rattle.pcal_tree.specs.Algorithm.{Span, Statements, Definition, Macro, Procedure, Process, Main, alone, processes, Algorithm}
 use Rattle.pcal_tree.specs.Run.{arguments}
 use Rattle.pcal_tree.specs.Expand.{expand, expanded, written_out, graft_all, graft_left}

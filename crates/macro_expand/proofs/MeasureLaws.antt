@@ -1,6 +1,6 @@
 -- Measures of statements part by part: what carries one measure over to another, macro calls written out, arguments put in.
 use Rattle.std.proofs.Common.{◌≡◌, ℕ, ◌+◌, suc, List, [], ◌∷◌, map, Bool, true, false, cond, max, refl, sym, ap, ◌∙◌, arith}
-use Rattle.tla_expr.specs.Tree.{Word, Name, Tree, Trees, no_trees, tree, Graft, graft, grafts}
+use Rattle.tla_tree.specs.Tree.{Word, Name, Tree, Trees, no_trees, tree, Graft, graft, grafts}
 use Rattle.pcal_tree.specs.Algorithm.{Span, Assignments, no_assignments, assignment, Binds, no_binds, one_of, is, Statement, assign, await, print, assert, skip, branch, either, with, while, goto, macro, call, return, Statements, done, then, mark, Branches, no_branches, or, Start, unset, equals, among, Declaration, Definition, Procedure, Process, Main, alone, processes, Algorithm}
 use Rattle.pcal_tree.specs.Expand.{Writing, expand, expand_one, expand_some, joined, graft_left, graft_assignments, graft_binds, graft_one, graft_all, graft_some}
 use Rattle.macro_expand.specs.Measured.{Measure, Calls, of_trees, of_assignments, of_binds, how_many, of_one, of_all, of_some, of_each, of_start, of_declared, of_procedure, of_process, of_main, of_algorithm}

@@ -4,12 +4,12 @@ use Rattle.std.proofs.Common.{◌≡◌, refl, sym, ap, ◌∙◌}
 use Rattle.tla_token.specs.declared.place.Place.{Place}
 use Rattle.tla_token.specs.declared.rule.Rule.TheVariants.{TooLarge}
 use Rattle.tla_token.specs.declared.rule.Refusal.{Refusal}
-use Rattle.tla_expr.specs.declared.op.Op.{Op}
-use Rattle.tla_expr.specs.declared.op.Op.TheVariants as op
-use Rattle.tla_expr.specs.declared.op.Binder.TheVariants as binder
-use Rattle.tla_expr.specs.Tree.{Word, Name, Form, Tree, node, Trees, no_trees, tree, strict, operator, apply, select, name, truth}
-use Rattle.tla_expr.specs.Tree as expr
-use Rattle.tla_expr.specs.Nesting.{tree_nesting}
+use Rattle.tla_tree.specs.declared.op.Op.{Op}
+use Rattle.tla_tree.specs.declared.op.Op.TheVariants as op
+use Rattle.tla_tree.specs.declared.op.Binder.TheVariants as binder
+use Rattle.tla_tree.specs.Tree.{Word, Name, Form, Tree, node, Trees, no_trees, tree, strict, operator, apply, select, name, truth}
+use Rattle.tla_tree.specs.Tree as expr
+use Rattle.tla_tree.specs.Nesting.{tree_nesting}
 use Rattle.pcal_tree.specs.declared.mark.Mark.TheVariants.{Plain}
 use Rattle.pcal_tree.specs.Algorithm.{nowhere, Span, no_assignments, assignment, no_binds, one_of, Statement, assign, await, skip, with, macro, Statements, done, then, mark, alone, Macro, Declaration, unset, Algorithm}
 use Rattle.pcal_tree.specs.Offences.{offence, offence_if}

@@ -2,8 +2,8 @@
 use Rattle.std.proofs.Common.{◌≡◌, ℕ, ◌+◌, ◌*◌, List, [], ◌∷◌, Bool, true, false, cond, max, bytes_eq, Option, Some, None, refl, sym, ap, ◌∙◌, arith}
 use Rattle.std.proofs.Math.Nat.{zero-max}
 use Rattle.tla_token.specs.declared.place.Place.{Place}
-use Rattle.tla_expr.specs.Tree.{Word, Name, Form, name, strict, apply, select, Tree, node, Trees, no_trees, tree, graft, grafts, grafted_node, grafted_name}
-use Rattle.tla_expr.specs.Nesting.{tree_nesting, trees_nesting, form_nesting}
+use Rattle.tla_tree.specs.Tree.{Word, Name, Form, name, strict, apply, select, Tree, node, Trees, no_trees, tree, graft, grafts, grafted_node, grafted_name}
+use Rattle.tla_tree.specs.Nesting.{tree_nesting, trees_nesting, form_nesting}
 use Rattle.pcal_tree.specs.Algorithm.{nowhere}
 use Rattle.pcal_tree.specs.Run.{arguments}
 use Rattle.pcal_tree.specs.Expand.{placed_at, graft_left}

@@ -1,6 +1,6 @@
 -- Statements and algorithms measured part by part, in any measure ("A PlusCal User's Manual", section 3).
 use Rattle.std.specs.Prelude.{ℕ, zero, suc, List, [], ◌∷◌}
-use Rattle.tla_expr.specs.Tree.{Word, Tree, Trees, no_trees, tree}
+use Rattle.tla_tree.specs.Tree.{Word, Tree, Trees, no_trees, tree}
 use Rattle.pcal_tree.specs.Algorithm.{Assignments, no_assignments, assignment, Binds, no_binds, one_of, is, Statement, assign, await, print, assert, skip, branch, either, with, while, goto, macro, call, return, Statements, done, then, mark, Branches, no_branches, or, Start, unset, equals, among, Declaration, Procedure, Process, Main, alone, processes, Algorithm}
 
 pub record Measure (X : Type 0) : Type 0 where

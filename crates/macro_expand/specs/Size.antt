@@ -1,7 +1,7 @@
 -- How large an algorithm is with its macro calls written out: its nodes, how deep it nests, and its labels ("A PlusCal User's Manual", section 3.5, macros).
 use Rattle.std.specs.Prelude.{ℕ, ◌+◌, ◌*◌, max, suc, List, [], ◌∷◌, length, map, reverse}
-use Rattle.tla_expr.specs.Tree.{Word, Name, Form, name, binding, strict, apply, select, Tree, node, Trees, no_trees, tree}
-use Rattle.tla_expr.specs.Nesting.{tree_nesting, trees_nesting}
+use Rattle.tla_tree.specs.Tree.{Word, Name, Form, name, binding, strict, apply, select, Tree, node, Trees, no_trees, tree}
+use Rattle.tla_tree.specs.Nesting.{tree_nesting, trees_nesting}
 use Rattle.pcal_tree.specs.Algorithm.{Statements, Procedure, Process, Main, alone, processes, Macro, Algorithm}
 use Rattle.pcal_tree.specs.Expand.{expanded}
 use Rattle.macro_expand.specs.Measured.{Measure, Calls, of_trees, of_algorithm}

@@ -20,13 +20,13 @@ use Rattle.tla_token.proofs.Faults.{joined_assoc, joined_none, least_append}
 use Rattle.module_text.specs.declared.algorithm.Inside as code_inside
 use Rattle.module_text.specs.declared.algorithm.Stage as code_stage
 use Rattle.module_text.specs.declared.algorithm.Stage.TheVariants as code
-use Rattle.module_text.specs.TextFront.{Text}
-use Rattle.module_text.specs.Beginnings.{is_fair, opening, begins_algorithm}
-use Rattle.module_text.specs.ModuleParts.{kind_in}
-use Rattle.module_text.specs.AlgorithmText.{Stage, head, is_past, after_part, IndexedPart, Inside, with_part, inner_part, inside, algorithm_at}
+use Rattle.module_tree.specs.TextFront.{Text}
+use Rattle.module_tree.specs.Beginnings.{is_fair, opening, begins_algorithm}
+use Rattle.module_tree.specs.ModuleParts.{kind_in}
+use Rattle.module_tree.specs.AlgorithmText.{Stage, head, is_past, after_part, IndexedPart, Inside, with_part, inner_part, inside, algorithm_at}
 use Rattle.module_text.specs.AlgorithmSeen.{stage_seen, depth, part_rest, from_here, IsInside, splitting_parts, is_token_byte, in_tokens, Passes, Reaches}
-use Rattle.module_text.specs.Splitting.{is_splitting}
-use Rattle.module_text.proofs.AlgorithmFound.{opened}
+use Rattle.module_tree.specs.FileOffences.{is_splitting}
+use Rattle.module_tree.proofs.AlgorithmFound.{opened}
 use Rattle.module_text.proofs.BeginningSteps.{stretch_is}
 
 -- ---- bytes are passed

@@ -6,10 +6,10 @@ use Rattle.tla_token.specs.Cut.{part_at, lexeme_part}
 use Rattle.tla_token.specs.Scan.{part_class, part_of, outline, front_by, front, lexeme_front, IsWordless}
 use Rattle.tla_token.proofs.Signed.{to_lexeme}
 use Rattle.tla_token.proofs.Found.{found}
-use Rattle.module_text.specs.TextFront.{Text, begins}
-use Rattle.module_text.specs.Beginnings.{is_rule, begins_bar}
-use Rattle.module_text.specs.ModuleParts.{barred, module_part}
-use Rattle.module_text.proofs.WalkWhole.{alone}
+use Rattle.module_tree.specs.TextFront.{Text, begins}
+use Rattle.module_tree.specs.Beginnings.{is_rule, begins_bar}
+use Rattle.module_tree.specs.ModuleParts.{barred, module_part}
+use Rattle.module_tree.proofs.WalkWhole.{alone}
 
 -- ---- bars
 

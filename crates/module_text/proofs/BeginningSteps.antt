@@ -14,10 +14,10 @@ use Rattle.tla_token.proofs.Words.{one_plus}
 use Rattle.tla_token.proofs.Spelled.{begins_is}
 use Rattle.tla_token.proofs.Scans.{drop_more}
 use Rattle.tla_token.proofs.Faults.{joined_assoc, joined_none}
-use Rattle.module_text.specs.TextFront.{Text, begins, past_all, first_is, past_word, past_blanks, past_name, on_some}
-use Rattle.module_text.specs.Beginnings.{is_fair, past_opening, begins_algorithm, is_options, index_if, all_at}
-use Rattle.module_text.specs.FileParts.{first_of}
-use Rattle.module_text.specs.FileOffences.{offences_at}
+use Rattle.module_tree.specs.TextFront.{Text, begins, past_all, first_is, past_word, past_blanks, past_name, on_some}
+use Rattle.module_tree.specs.Beginnings.{is_fair, past_opening, begins_algorithm, is_options, index_if, all_at}
+use Rattle.module_tree.specs.FileParts.{first_of}
+use Rattle.module_tree.specs.FileOffences.{offences_at}
 use Rattle.module_text.specs.BeginningsSeen.{IsPast}
 
 -- ---- blanks, words and names

@@ -1,8 +1,8 @@
 -- Numbers of elements that are below a bound, read at one of them.
 use Rattle.std.proofs.Common.{◌≡◌, ℕ, zero, suc, ◌<◌, ◌≤◌, List, [], ◌∷◌, length, map, get_or, reverse, refl, sym, ap, subst, arith}
 use Rattle.std.proofs.lemmas.List.{reverse-append}
-use Rattle.tla_expr.specs.Pool.{AllBelow}
-use Rattle.tla_expr.proofs.PoolNumbers.{AllBelow-push}
+use Rattle.tla_tree.specs.Pool.{AllBelow}
+use Rattle.tla_tree.proofs.PoolNumbers.{AllBelow-push}
 use Rattle.tla_value.specs.declared.names.Definition.{Definition as Kept}
 use Rattle.tla_value.specs.Defs.{DefinitionsIn}
 use Rattle.module_text.specs.InMemory.{past_each}

@@ -15,12 +15,12 @@ use Rattle.tla_token.proofs.Scans.{drop_more}
 use Rattle.module_text.specs.declared.stand.Shape.{Shape}
 use Rattle.module_text.specs.declared.stand.Shape.TheVariants as shape
 use Rattle.module_text.specs.declared.stand.Stand.{Stand}
-use Rattle.module_text.specs.TextFront.{Text, on_some}
-use Rattle.module_text.specs.Walk.{Located}
-use Rattle.module_text.specs.AlgorithmText.{AlgorithmText, algorithm_at, algorithm_of}
-use Rattle.module_text.specs.Beginnings.{begins_algorithm, all_at}
-use Rattle.module_text.specs.FileParts.{within, first_of, holds_algorithm, beginnings_in, beginnings}
-use Rattle.module_text.specs.FileUnits.{with_token}
+use Rattle.module_tree.specs.TextFront.{Text, on_some}
+use Rattle.module_tree.specs.Walk.{Located}
+use Rattle.module_tree.specs.AlgorithmText.{AlgorithmText, algorithm_at, algorithm_of}
+use Rattle.module_tree.specs.Beginnings.{begins_algorithm, all_at}
+use Rattle.module_tree.specs.FileParts.{within, first_of, holds_algorithm, beginnings_in, beginnings}
+use Rattle.module_tree.specs.FileUnits.{with_token}
 use Rattle.module_text.specs.StandsSeen.{segment_of, segment_seen, located_seen, stands_seen, IsSolid}
 use Rattle.module_text.specs.SplitSeen.{IsInnerSpan, IsInner, plain_token, plain_tokens}
 use Rattle.module_text.proofs.StandSteps.{cons_at}

@@ -4,11 +4,11 @@ use Rattle.std.proofs.lemmas.List.{drop_all}
 use Rattle.tla_token.specs.Cut.{plus}
 use Rattle.tla_token.proofs.Scans.{drop_more}
 use Rattle.tla_token.proofs.Steps.{byte_there}
-use Rattle.module_text.specs.TextFront.{Text, line_here, whole_line}
-use Rattle.module_text.specs.HeaderAndRegion.{is_end}
-use Rattle.module_text.specs.Walk.{at_end_line}
+use Rattle.module_tree.specs.TextFront.{Text, line_here, whole_line}
+use Rattle.module_tree.specs.HeaderAndRegion.{is_end}
+use Rattle.module_tree.specs.Walk.{at_end_line}
 use Rattle.module_text.specs.Walking.{end_at}
-use Rattle.module_text.proofs.WalkLines.{never_some}
+use Rattle.module_tree.proofs.WalkLines.{never_some}
 
 plus_plus : (a b : ℕ) (o : Option ℕ) → plus a (plus b o) ≡ plus (a + b) o
 plus_plus a b None = refl

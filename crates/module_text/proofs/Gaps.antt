@@ -12,11 +12,11 @@ use Rattle.module_text.specs.declared.stand.Shape.{Shape}
 use Rattle.module_text.specs.declared.stand.Shape.TheVariants as shape
 use Rattle.module_text.specs.declared.stand.Stand.{Stand}
 use Rattle.module_text.specs.declared.split.Gap.{Gap}
-use Rattle.module_text.specs.TextFront.{Text, on_some}
-use Rattle.module_text.specs.Walk.{Located, is_region, bytes}
+use Rattle.module_tree.specs.TextFront.{Text, on_some}
+use Rattle.module_tree.specs.Walk.{Located, is_region, bytes}
 use Rattle.module_text.specs.StandsSeen.{segment_of, segment_seen, located_seen, stands_seen, IsSolid}
-use Rattle.module_text.specs.FileParts as parts
-use Rattle.module_text.specs.FileParts.{before_first, after_first, up_to_first, region_of, span_of, holds_algorithm, is_newline, after_comment, insertion, before_spot, after_spot, spot}
+use Rattle.module_tree.specs.FileParts as parts
+use Rattle.module_tree.specs.FileParts.{before_first, after_first, up_to_first, region_of, span_of, holds_algorithm, is_newline, after_comment, insertion, before_spot, after_spot, spot}
 use Rattle.module_text.specs.SplitSeen.{is_region_stand, span_seen, after_newline, IsGap}
 use Rattle.module_text.proofs.StandSteps.{before_is, up_to_is, after_is}
 use Rattle.module_text.proofs.Comments.{found_seen, none_seen, stretch_len}

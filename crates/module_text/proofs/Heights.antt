@@ -1,7 +1,7 @@
 -- How deep items are in an item: why the writer's calls end.
 use Rattle.std.proofs.lemmas.Simd.{map-map}
 use Rattle.std.proofs.Common.{◌≡◌, ℕ, ◌+◌, max, List, map, Vec, Global, sym, ap, ◌∙◌}
-use Rattle.tla_expr.specs.Tree.{Word}
+use Rattle.tla_tree.specs.Tree.{Word}
 use Rattle.module_text.specs.declared.«module».Item.{Item}
 use Rattle.module_text.specs.declared.«module».Item.TheOpen.{Item-F}
 use Rattle.module_text.specs.declared.«module».Item.TheFolds.{fold-Item, fold-roll-Item}

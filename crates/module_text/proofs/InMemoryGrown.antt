@@ -2,12 +2,12 @@
 use Rattle.std.proofs.Common.{◌≡◌, ℕ, ◌≤◌, List, [], ◌∷◌, length, map, Vec, Global, Option, Some, None, refl, sym, ap, subst, ◌∙◌, arith}
 use Rattle.std.specs.Option.{option_map}
 use Rattle.std.specs.formers.vec.Vec.{mapped}
-use Rattle.tla_expr.specs.Tree.{Word, Tree}
-use Rattle.tla_expr.specs.Pool.{at, Keeps, AllBelow}
+use Rattle.tla_tree.specs.Tree.{Word, Tree}
+use Rattle.tla_tree.specs.Pool.{at, Keeps, AllBelow}
 use Rattle.tla_value.specs.Defs.{read_at, DefinitionsIn}
 use Rattle.tla_value.specs.declared.names.Definition.{Definition as Kept}
 use Rattle.tla_value.proofs.DefsGrown.{definition_at-kept, definitions_at-kept}
-use Rattle.module_text.specs.Module as tree
+use Rattle.module_tree.specs.Module as tree
 use Rattle.module_text.specs.declared.«module».Item.{Item}
 use Rattle.module_text.specs.declared.«module».Item.TheOpen.{Item-F}
 use Rattle.module_text.specs.declared.«module».Item.TheFolds.{fold-roll-Item, ind-Item, map-Item}

@@ -1,9 +1,9 @@
 -- What each kind of item in memory stands for, and past which numbers its own are.
 use Rattle.std.proofs.lemmas.Simd.{map-map}
 use Rattle.std.proofs.Common.{◌≡◌, ℕ, ◌+◌, max, List, Vec, Global, sym, ap, ◌∙◌}
-use Rattle.tla_expr.specs.Tree.{Word, Tree}
-use Rattle.tla_expr.specs.Pool.{at}
-use Rattle.module_text.specs.Module as tree
+use Rattle.tla_tree.specs.Tree.{Word, Tree}
+use Rattle.tla_tree.specs.Pool.{at}
+use Rattle.module_tree.specs.Module as tree
 use Rattle.module_text.specs.declared.«module».Item.{Item}
 use Rattle.module_text.specs.declared.«module».Item.TheOpen.{Item-F}
 use Rattle.module_text.specs.declared.«module».Item.TheFolds.{fold-roll-Item}

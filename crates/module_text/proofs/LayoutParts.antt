@@ -1,10 +1,10 @@
 -- The text of a translation, in the parts that are written one after another.
 use Rattle.std.proofs.Common.{◌≡◌, ℕ, List, [], ◌∷◌, ◌++◌, map, refl, sym, ap, ◌∙◌, append_assoc, append-nil}
 use Rattle.std.specs.Prelude.{codes, Option, Some, None}
-use Rattle.tla_expr.specs.Tree.{Word, Tree}
-use Rattle.module_text.specs.Module.{Region, RegionUnit, variables_unit, vars_unit, definition_unit, init_unit, action_unit, next_unit, spec_unit, termination_unit, process_set_of, terminating_of, model_value_units, units_of}
-use Rattle.module_text.specs.Ways.{processes_in}
-use Rattle.module_text.specs.Layout.{unit_text, units_text, layout}
+use Rattle.tla_tree.specs.Tree.{Word, Tree}
+use Rattle.module_tree.specs.Module.{Region, RegionUnit, variables_unit, vars_unit, definition_unit, init_unit, action_unit, next_unit, spec_unit, termination_unit, process_set_of, terminating_of, model_value_units, units_of}
+use Rattle.module_tree.specs.Ways.{processes_in}
+use Rattle.module_tree.specs.Layout.{unit_text, units_text, layout}
 use Rattle.module_text.specs.Apart.{ahead, behind}
 
 units_behind : (n : ℕ) (u : RegionUnit) (us : List RegionUnit) → units_text n (u ∷ us) ≡ unit_text n u ++ behind n us

@@ -7,7 +7,7 @@ use Rattle.std.proofs.lemmas.List.{take_rest}
 use Rattle.tla_token.specs.Lexemes.{is_word, is_letter}
 use Rattle.tla_token.specs.Cut.{run}
 use Rattle.tla_token.proofs.Words.{run_splits, run_over}
-use Rattle.module_text.specs.TextFront.{Text, past_all, on_some, past_word, past_blanks, past_run, past_name, line_here, whole_line}
+use Rattle.module_tree.specs.TextFront.{Text, past_all, on_some, past_word, past_blanks, past_run, past_name, line_here, whole_line}
 
 -- ---- runs
 

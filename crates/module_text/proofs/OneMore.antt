@@ -2,7 +2,7 @@
 use Rattle.std.proofs.Common.{◌≡◌, ℕ, zero, suc, ◌+◌, ◌<◌, ◌≤◌, Bool, cond, List, [], ◌∷◌, ◌++◌, length, take, get_or, refl, sym, ap, subst, ◌∙◌, arith, append_assoc, append-nil}
 use Rattle.std.specs.Prelude.{nat_lt, Result, OnOk}
 use Rattle.std.proofs.lemmas.Bool.{lt-ltb}
-use Rattle.module_text.specs.Layout.{blanks}
+use Rattle.module_tree.specs.Layout.{blanks}
 use Rattle.std.proofs.lemmas.List.{take_more, take_all, length-take-le}
 
 pub same_text : {E : Type 0} (r : Result (Unit {0}) E) (new a b : List ℕ) → OnOk r (new ≡ a) → a ≡ b → OnOk r (new ≡ b)

@@ -2,8 +2,8 @@
 use Rattle.std.specs.Prelude.{◌≡◌, List, [], ◌∷◌, Some, codes}
 use Rattle.std.proofs.Common.{refl, arith}
 use Rattle.tla_token.specs.Places.{nowhere}
-use Rattle.tla_expr.specs.Tree.{Tree, node, no_trees, number, name}
-use Rattle.module_text.specs.Module as tree
+use Rattle.tla_tree.specs.Tree.{Tree, node, no_trees, number, name}
+use Rattle.module_tree.specs.Module as tree
 use Rattle.module_text.specs.declared.«module».Item.TheVariants.{Test}
 use Rattle.module_text.specs.declared.«module».Call.TheVariants as call
 use Rattle.module_text.specs.declared.«module».Way.TheVariants as way

@@ -10,11 +10,10 @@ use Rattle.tla_token.specs.Offences.{sound, least}
 use Rattle.tla_token.specs.Tokens.{lexeme}
 use Rattle.module_text.specs.declared.stand.Shape.TheVariants as shape
 use Rattle.module_text.specs.declared.algorithm.Stage.TheVariants as code
-use Rattle.module_text.specs.TextFront.{Text}
-use Rattle.module_text.specs.AlgorithmText.{head, open_c}
+use Rattle.module_tree.specs.TextFront.{Text}
+use Rattle.module_tree.specs.AlgorithmText.{head, open_c}
 use Rattle.module_text.specs.StandsSeen.{is_string}
-use Rattle.module_text.specs.FileOffences.{file_offences}
-use Rattle.module_text.specs.Splitting.{is_splitting, splitting_offences}
+use Rattle.module_tree.specs.FileOffences.{file_offences, is_splitting, splitting_offences}
 use Rattle.module_text.specs.AlgorithmSeen.{stage_seen, depth, is_open_brace, is_close_brace, part_rest, is_token_byte, in_tokens, splitting_parts}
 
 abbrev big : Text

@@ -7,9 +7,9 @@ use Rattle.tla_token.specs.Lexemes.{name}
 use Rattle.tla_token.specs.Offences.{sound}
 use Rattle.module_text.specs.declared.stand.Shape.TheVariants as shape
 use Rattle.module_text.specs.declared.stand.Stand.{Stand}
-use Rattle.module_text.specs.TextFront.{Text}
+use Rattle.module_tree.specs.TextFront.{Text}
 use Rattle.module_text.specs.declared.walk.Walker.{Walker}
-use Rattle.module_text.specs.Walk.{free, part, region, tail, segment_at, at_start}
+use Rattle.module_tree.specs.Walk.{free, part, region, tail, segment_at, at_start}
 use Rattle.module_text.specs.StandsSeen.{segment_of, segment_seen, stands_seen, before_end, IsWithin}
 use Rattle.module_text.specs.Walking.{shape_of, outline, first_by, front_of, end_at, IsKnown, state_of, IsAt, GoesOn}
 

@@ -5,15 +5,15 @@ use Rattle.tla_token.specs.declared.part.Part as code
 use Rattle.tla_token.specs.Scan as parts
 use Rattle.module_text.specs.declared.stand.Shape.TheVariants as shape
 use Rattle.module_text.specs.declared.walk.Front.{Front}
-use Rattle.module_text.specs.TextFront.{Text, line_here, whole_line}
-use Rattle.module_text.specs.HeaderAndRegion.{is_header, is_begin, is_end}
-use Rattle.module_text.specs.Beginnings.{ends_module}
-use Rattle.module_text.specs.ModuleParts.{module_part}
-use Rattle.module_text.specs.Walk.{Segment, region, State, in_module, segment_at}
+use Rattle.module_tree.specs.TextFront.{Text, line_here, whole_line}
+use Rattle.module_tree.specs.HeaderAndRegion.{is_header, is_begin, is_end}
+use Rattle.module_tree.specs.Beginnings.{ends_module}
+use Rattle.module_tree.specs.ModuleParts.{module_part}
+use Rattle.module_tree.specs.Walk.{Segment, region, State, in_module, segment_at}
 use Rattle.module_text.specs.Walking.{outline, front_of, end_at}
 use Rattle.module_text.proofs.EndLine.{end_parts, end_is, end_none}
 use Rattle.module_text.proofs.LineLengths.{run_within}
-use Rattle.module_text.proofs.WalkWhole.{region_front as region_at}
+use Rattle.module_tree.proofs.WalkWhole.{region_front as region_at}
 
 abbrev marks : ℕ → Option Front
 marks n = Some (record { shape = shape.Mark; len = n })

@@ -17,9 +17,8 @@ use Rattle.tla_token.specs.Offences.{Offence, is_stray, has_bad_escape, breaks_s
 use Rattle.tla_token.specs.Scan.{inner, part_of}
 use Rattle.tla_token.specs.Readings.{part_offences_in, joined}
 use Rattle.tla_token.proofs.Faults.{joined_assoc, least_append}
-use Rattle.module_text.specs.TextFront.{Text}
-use Rattle.module_text.specs.FileOffences.{offences_at}
-use Rattle.module_text.specs.Splitting.{is_splitting}
+use Rattle.module_tree.specs.TextFront.{Text}
+use Rattle.module_tree.specs.FileOffences.{offences_at, is_splitting}
 
 -- all of these are of rules 1 to 10
 abbrev pub Kept : List Offence → Type 0

@@ -6,17 +6,16 @@ use Rattle.tla_token.specs.Offences.{Offence, or_earlier, least}
 use Rattle.module_text.specs.declared.stand.Shape.TheVariants as shape
 use Rattle.module_text.specs.declared.stand.Shape.{Shape}
 use Rattle.module_text.specs.declared.stand.Stand.{Stand}
-use Rattle.module_text.specs.TextFront.{Text}
-use Rattle.module_text.specs.Walk.{Located, walk}
+use Rattle.module_tree.specs.TextFront.{Text}
+use Rattle.module_tree.specs.Walk.{Located, walk}
 use Rattle.module_text.specs.StandsSeen.{segment_of, segment_seen, stands_seen}
-use Rattle.module_text.specs.FileParts.{module_end, beginnings}
-use Rattle.module_text.specs.AlgorithmText.{algorithm_of}
-use Rattle.module_text.specs.FileOffences.{segment_offences, offences_of, algorithm_offences, no_module, no_algorithm, second_algorithms, placements}
-use Rattle.module_text.specs.Splitting.{is_splitting, splitting_offences}
+use Rattle.module_tree.specs.FileParts.{module_end, beginnings}
+use Rattle.module_tree.specs.AlgorithmText.{algorithm_of}
+use Rattle.module_tree.specs.FileOffences.{segment_offences, offences_of, algorithm_offences, no_module, no_algorithm, second_algorithms, placements, is_splitting, splitting_offences}
 use Rattle.module_text.proofs.SplitFaults.{Kept, kept_append, plain_kept}
 use Rattle.module_text.proofs.SplitLeast.{module_kept, missing_kept, placements_kept}
-use Rattle.module_text.proofs.WalkPlace.{both_empty}
-use Rattle.module_text.proofs.WalkKept.{Sound, sound_parts}
+use Rattle.module_tree.proofs.WalkPlace.{both_empty}
+use Rattle.module_tree.proofs.WalkKept.{Sound, sound_parts}
 
 segment_kept : (at : ℕ) (s : Shape) (w : Text) → Kept (segment_offences at (segment_of s w))
 segment_kept at shape.Free w = refl

@@ -9,15 +9,14 @@ use Rattle.tla_token.specs.Tokens.{blank, stretch}
 use Rattle.tla_token.specs.Offences.{Offence, sound, least}
 use Rattle.tla_token.specs.Readings.{joined}
 use Rattle.tla_token.proofs.Faults.{least_append}
-use Rattle.tla_expr.specs.TokenViews.{view}
-use Rattle.module_text.specs.TextFront.{Text}
-use Rattle.module_text.specs.Beginnings.{is_options, all_at}
-use Rattle.module_text.specs.Walk.{Segment, part, Located, walk}
-use Rattle.module_text.specs.FileParts.{module_end, beginnings, after_comment, after_spot, Span, region_of}
-use Rattle.module_text.specs.AlgorithmText.{AlgorithmText, algorithm_of, in_token}
-use Rattle.module_text.specs.FileUnits.{token_in, begins_unit}
-use Rattle.module_text.specs.FileOffences.{offences_of, algorithm_offences, no_module, no_algorithm, second_algorithms, rest_of_line, no_unit, placements, options_in, outside_region}
-use Rattle.module_text.specs.Splitting.{is_splitting, splitting_offences}
+use Rattle.tla_tree.specs.TokenViews.{view}
+use Rattle.module_tree.specs.TextFront.{Text}
+use Rattle.module_tree.specs.Beginnings.{is_options, all_at}
+use Rattle.module_tree.specs.Walk.{Segment, part, Located, walk}
+use Rattle.module_tree.specs.FileParts.{module_end, beginnings, after_comment, after_spot, Span, region_of}
+use Rattle.module_tree.specs.AlgorithmText.{AlgorithmText, algorithm_of, in_token}
+use Rattle.module_tree.specs.FileUnits.{token_in, begins_unit}
+use Rattle.module_tree.specs.FileOffences.{offences_of, algorithm_offences, no_module, no_algorithm, second_algorithms, rest_of_line, no_unit, placements, options_in, outside_region, is_splitting, splitting_offences}
 use Rattle.module_text.proofs.SplitFaults.{Kept, none_kept, kept_append, if_kept, places_kept}
 
 pub module_kept : (x : Text) (e : Option ℕ) → Kept (no_module x e)

@@ -10,19 +10,20 @@ use Rattle.module_text.specs.declared.parts.Parts.{Parts}
 use Rattle.module_text.specs.declared.stand.Stand.{Stand}
 use Rattle.module_text.specs.declared.split.Algorithm.{Algorithm}
 use Rattle.module_text.specs.declared.split.Gap.{Gap}
-use Rattle.module_text.specs.TextFront.{Text}
-use Rattle.module_text.specs.Walk.{Located, walk}
+use Rattle.module_tree.specs.TextFront.{Text}
+use Rattle.module_tree.specs.Walk.{Located, walk}
 use Rattle.module_text.specs.StandsSeen.{stands_seen}
-use Rattle.module_text.specs.FileParts.{title, region_of, spot, before_spot, after_spot}
-use Rattle.module_text.specs.AlgorithmText.{algorithm_of, is_c}
-use Rattle.module_text.specs.FileUnits.{tokens_in}
-use Rattle.module_text.specs.Splitting.{splitting_offences, Splits}
+use Rattle.module_tree.specs.FileParts.{title, region_of, spot, before_spot, after_spot}
+use Rattle.module_tree.specs.AlgorithmText.{algorithm_of, is_c}
+use Rattle.module_tree.specs.FileUnits.{tokens_in}
+use Rattle.module_tree.specs.FileOffences.{splitting_offences}
+use Rattle.module_text.specs.Splitting.{Splits}
 use Rattle.module_text.specs.AlgorithmSeen.{stage_seen}
 use Rattle.module_text.specs.SplitSeen.{span_seen, plain_token, plain_tokens, IsFound, IsAlgorithm, IsGap}
 use Rattle.module_text.proofs.SplitFine.{fine_file}
 use Rattle.module_text.proofs.SplitTokens.{tokens_before, tokens_after}
 use Rattle.module_text.proofs.SplitWhole.{some_algorithm, some_spot, some_title}
-use Rattle.module_text.proofs.WalkKept.{Sound}
+use Rattle.module_tree.proofs.WalkKept.{Sound}
 
 pub titled : (x : Text) (ds : List Stand) → stands_seen x ds ≡ walk x → splitting_offences x ≡ [] → is_some (title (stands_seen x ds)) ≡ true
 titled x ds seen fine = ap (λ (es : List Located). is_some (title es)) seen ∙ some_title x (fine_file x ds seen fine)

@@ -14,13 +14,13 @@ use Rattle.module_text.specs.declared.stand.Shape.TheVariants as shape
 use Rattle.module_text.specs.declared.stand.Stand.{Stand}
 use Rattle.module_text.specs.declared.split.Algorithm.{Algorithm}
 use Rattle.module_text.specs.declared.split.Gap.{Gap}
-use Rattle.module_text.specs.TextFront.{Text, on_some}
-use Rattle.module_text.specs.Beginnings.{is_options, all_at}
-use Rattle.module_text.specs.Walk.{Segment, Located, bytes, is_region, is_tail, is_header_line}
+use Rattle.module_tree.specs.TextFront.{Text, on_some}
+use Rattle.module_tree.specs.Beginnings.{is_options, all_at}
+use Rattle.module_tree.specs.Walk.{Segment, Located, bytes, is_region, is_tail, is_header_line}
 use Rattle.module_text.specs.StandsSeen.{segment_of, segment_seen, located_seen, stands_seen, IsSolid}
-use Rattle.module_text.specs.FileParts.{first_that, module_end, after_comment, region_of, holds_algorithm}
-use Rattle.module_text.specs.AlgorithmText.{AlgorithmText, algorithm_of, in_token}
-use Rattle.module_text.specs.FileOffences.{offences_at, second_algorithms, rest_of_line, no_unit, placements, options_in, outside_region}
+use Rattle.module_tree.specs.FileParts.{first_that, module_end, after_comment, region_of, holds_algorithm}
+use Rattle.module_tree.specs.AlgorithmText.{AlgorithmText, algorithm_of, in_token}
+use Rattle.module_tree.specs.FileOffences.{offences_at, second_algorithms, rest_of_line, no_unit, placements, options_in, outside_region}
 use Rattle.module_text.specs.SplitSeen.{is_header_stand, is_region_stand, is_tail_stand, IsFound, IsGap}
 use Rattle.module_text.proofs.StandSteps.{after_is}
 use Rattle.module_text.proofs.Gaps.{region_seen, region_bytes}

@@ -9,11 +9,11 @@ use Rattle.tla_token.proofs.Scans.{drop_more}
 use Rattle.module_text.specs.declared.stand.Shape.{Shape}
 use Rattle.module_text.specs.declared.stand.Shape.TheVariants as shape
 use Rattle.module_text.specs.declared.stand.Stand.{Stand}
-use Rattle.module_text.specs.TextFront.{Text, on_some}
-use Rattle.module_text.specs.HeaderAndRegion.{header_title}
-use Rattle.module_text.specs.Walk.{bytes, Located}
+use Rattle.module_tree.specs.TextFront.{Text, on_some}
+use Rattle.module_tree.specs.HeaderAndRegion.{header_title}
+use Rattle.module_tree.specs.Walk.{bytes, Located}
 use Rattle.module_text.specs.StandsSeen.{segment_seen, located_seen, stands_seen, IsSolid}
-use Rattle.module_text.specs.FileParts.{title}
+use Rattle.module_tree.specs.FileParts.{title}
 use Rattle.module_text.specs.SplitSeen.{is_header_stand}
 use Rattle.module_text.proofs.SplitParts.{header_found, found_one}
 

@@ -10,18 +10,18 @@ use Rattle.tla_token.proofs.Faulty.{sound_part}
 use Rattle.tla_token.proofs.Signed.{to_lexeme}
 use Rattle.tla_token.proofs.Parted.{same_some}
 use Rattle.tla_token.proofs.Cutting.{front_cut}
-use Rattle.module_text.specs.TextFront.{Text, begins}
-use Rattle.module_text.specs.HeaderAndRegion.{is_header, is_begin, is_end}
-use Rattle.module_text.specs.Beginnings.{is_rule, begins_bar, ends_module}
-use Rattle.module_text.specs.ModuleParts.{kind_in, module_part}
-use Rattle.module_text.specs.Walk.{Segment, State, in_module, opened, at_end_line, segment_at, Located, walk, at_start}
-use Rattle.module_text.specs.FileParts.{is_newline, holds_algorithm, region_of, before_spot, after_spot, up_to_first, after_first, after_comment}
-use Rattle.module_text.specs.FileUnits.{kind_of_segment, token_in, with_token, tokens_in}
-use Rattle.module_text.specs.FileOffences.{segment_offences, offences_of}
+use Rattle.module_tree.specs.TextFront.{Text, begins}
+use Rattle.module_tree.specs.HeaderAndRegion.{is_header, is_begin, is_end}
+use Rattle.module_tree.specs.Beginnings.{is_rule, begins_bar, ends_module}
+use Rattle.module_tree.specs.ModuleParts.{kind_in, module_part}
+use Rattle.module_tree.specs.Walk.{Segment, State, in_module, opened, at_end_line, segment_at, Located, walk, at_start}
+use Rattle.module_tree.specs.FileParts.{is_newline, holds_algorithm, region_of, before_spot, after_spot, up_to_first, after_first, after_comment}
+use Rattle.module_tree.specs.FileUnits.{kind_of_segment, token_in, with_token, tokens_in}
+use Rattle.module_tree.specs.FileOffences.{segment_offences, offences_of}
 use Rattle.module_text.specs.SplitSeen.{plain_kind, plain_token, plain_tokens}
-use Rattle.module_text.proofs.WalkPlace.{both_empty, up_to_whole, before_whole, offences_append, Met, met}
-use Rattle.module_text.proofs.WalkWhole.{alone}
-use Rattle.module_text.proofs.InsidePieces.{no_bad}
+use Rattle.module_tree.proofs.WalkPlace.{both_empty, up_to_whole, before_whole, offences_append, Met, met}
+use Rattle.module_tree.proofs.WalkWhole.{alone}
+use Rattle.module_tree.proofs.InsidePieces.{no_bad}
 
 -- ---- parts
 

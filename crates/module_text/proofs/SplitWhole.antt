@@ -1,15 +1,15 @@
 -- A file that breaks none of the rules 1 to 10 has a title, an algorithm and a place for a translation.
 use Rattle.std.proofs.Common.{◌≡◌, ℕ, ◌+◌, ◌-◌, true, false, List, [], ◌∷◌, ◌++◌, length, drop, Option, Some, None, find, refl, sym, ap, ◌∙◌}
 use Rattle.std.specs.Prelude.{is_some}
-use Rattle.module_text.specs.TextFront.{Text, on_some}
-use Rattle.module_text.specs.HeaderAndRegion.{header_title}
-use Rattle.module_text.specs.Walk.{bytes, is_header_line, Located, walk, at_start}
-use Rattle.module_text.specs.FileParts.{first_that, within, title, beginnings_in, beginnings, first_of, holds_algorithm, Span, spot, up_to_first, after_first}
-use Rattle.module_text.specs.AlgorithmText.{AlgorithmText, algorithm_at, algorithm_of}
-use Rattle.module_text.proofs.WalkPlace.{up_to_whole, walk_tails, part_headed, headed_title}
-use Rattle.module_text.proofs.WalkKept.{Sound, Commented, commented, spot_of}
-use Rattle.module_text.proofs.WalkSame.{first_kept}
-use Rattle.module_text.proofs.ModuleKept.{named}
+use Rattle.module_tree.specs.TextFront.{Text, on_some}
+use Rattle.module_tree.specs.HeaderAndRegion.{header_title}
+use Rattle.module_tree.specs.Walk.{bytes, is_header_line, Located, walk, at_start}
+use Rattle.module_tree.specs.FileParts.{first_that, within, title, beginnings_in, beginnings, first_of, holds_algorithm, Span, spot, up_to_first, after_first}
+use Rattle.module_tree.specs.AlgorithmText.{AlgorithmText, algorithm_at, algorithm_of}
+use Rattle.module_tree.proofs.WalkPlace.{up_to_whole, walk_tails, part_headed, headed_title}
+use Rattle.module_tree.proofs.WalkKept.{Sound, Commented, commented, spot_of}
+use Rattle.module_tree.proofs.WalkSame.{first_kept}
+use Rattle.module_tree.proofs.ModuleKept.{named}
 
 -- ---- the algorithm
 

@@ -2,13 +2,13 @@
 use Rattle.std.proofs.Common.{◌≡◌, ◌+◌, ◌≤◌, List, ◌∷◌, ◌++◌, length, Option, Some, None, refl, sym, ap, ◌∙◌, arith, length-append, append_assoc, find}
 use Rattle.std.proofs.lemmas.Option.{same_Some, none-some}
 use Rattle.tla_token.proofs.Longest.{find_passes}
-use Rattle.module_text.specs.TextFront.{Text}
-use Rattle.module_text.specs.Walk.{is_region, bytes, Located, walk}
-use Rattle.module_text.specs.FileParts.{Span, span_of, region_of, after_comment, holds_algorithm, is_newline, insertion, spot, before_first, after_first, up_to_first}
-use Rattle.module_text.specs.laws.Walks.{text_of}
-use Rattle.module_text.proofs.WalkPlace.{up_to_whole, before_whole, text_append}
-use Rattle.module_text.proofs.WalkKept.{at_is, newline_is}
-use Rattle.module_text.proofs.WalkWhole.{whole}
+use Rattle.module_tree.specs.TextFront.{Text}
+use Rattle.module_tree.specs.Walk.{is_region, bytes, Located, walk}
+use Rattle.module_tree.specs.FileParts.{Span, span_of, region_of, after_comment, holds_algorithm, is_newline, insertion, spot, before_first, after_first, up_to_first}
+use Rattle.module_tree.specs.laws.Walks.{text_of}
+use Rattle.module_tree.proofs.WalkPlace.{up_to_whole, before_whole, text_append}
+use Rattle.module_tree.proofs.WalkKept.{at_is, newline_is}
+use Rattle.module_tree.proofs.WalkWhole.{whole}
 
 segment_within : (x : Text) (ds es : List Located) (d : Located) → walk x ≡ ds ++ d ∷ es → d.at + length (bytes d.is) ≤ length x
 segment_within x ds es d w =

@@ -16,18 +16,17 @@ use Rattle.tla_token.specs.Offences.{Offence, least}
 use Rattle.tla_token.specs.Readings.{joined}
 use Rattle.tla_token.proofs.Words.{one_plus}
 use Rattle.tla_token.proofs.Faults.{joined_assoc, joined_none, least_append}
-use Rattle.tla_expr.specs.TokenViews.{view}
+use Rattle.tla_tree.specs.TokenViews.{view}
 use Rattle.module_text.specs.declared.stand.Shape.{Shape}
 use Rattle.module_text.specs.declared.stand.Shape.TheVariants as shape
 use Rattle.module_text.specs.declared.stand.Stand.{Stand}
-use Rattle.module_text.specs.TextFront.{Text}
-use Rattle.module_text.specs.Walk.{Located}
+use Rattle.module_tree.specs.TextFront.{Text}
+use Rattle.module_tree.specs.Walk.{Located}
 use Rattle.module_text.specs.StandsSeen.{segment_of, segment_seen, located_seen, stands_seen}
-use Rattle.module_text.specs.ModuleParts.{kind_in}
-use Rattle.module_text.specs.FileUnits.{kind_of_segment, token_in, begins_unit}
-use Rattle.module_text.specs.FileParts.{before_first, up_to_first, after_first, is_newline}
-use Rattle.module_text.specs.FileOffences.{offences_at, segment_offences, offences_of, rest_of_line, no_unit}
-use Rattle.module_text.specs.Splitting.{is_splitting}
+use Rattle.module_tree.specs.ModuleParts.{kind_in}
+use Rattle.module_tree.specs.FileUnits.{kind_of_segment, token_in, begins_unit}
+use Rattle.module_tree.specs.FileParts.{before_first, up_to_first, after_first, is_newline}
+use Rattle.module_tree.specs.FileOffences.{offences_at, segment_offences, offences_of, rest_of_line, no_unit, is_splitting}
 
 -- ---- the first that is so
 

@@ -17,13 +17,13 @@ use Rattle.tla_token.specs.Lexemes.{Kind, name, number, string, one, other, numb
 use Rattle.tla_token.specs.Scan.{part_of, inner}
 use Rattle.tla_token.proofs.Spelled.{same_bytes}
 use Rattle.tla_token.proofs.Fronts.{other_byte}
-use Rattle.tla_expr.specs.Tree.{Word}
-use Rattle.tla_expr.specs.Lexical.{TokenView}
-use Rattle.tla_expr.specs.Lexical as tk
-use Rattle.tla_expr.specs.TokenViews.{view, kind_of, sign_kind, word_kind, word_kinds, kind_among}
-use Rattle.module_text.specs.Beginnings.{is_rule}
-use Rattle.module_text.specs.ModuleParts.{kind_in}
-use Rattle.module_text.specs.FileUnits.{unit_words, is_starter, is_bar, begins_unit}
+use Rattle.tla_tree.specs.Tree.{Word}
+use Rattle.tla_tree.specs.Lexical.{TokenView}
+use Rattle.tla_tree.specs.Lexical as tk
+use Rattle.tla_tree.specs.TokenViews.{view, kind_of, sign_kind, word_kind, word_kinds, kind_among}
+use Rattle.module_tree.specs.Beginnings.{is_rule}
+use Rattle.module_tree.specs.ModuleParts.{kind_in}
+use Rattle.module_tree.specs.FileUnits.{unit_words, is_starter, is_bar, begins_unit}
 
 among_starts : (ps : List (Word × TokenView)) (w : Word) (k : TokenView) → list_all (λ p. not (is_starter p.1)) ps ≡ true → is_starter (kind_among ps w k) ≡ (not (is_among (map (λ p. p.0) ps) w) && is_starter k)
 among_starts [] w k h = refl

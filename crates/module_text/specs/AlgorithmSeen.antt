@@ -10,10 +10,10 @@ use Rattle.tla_token.specs.Readings.{joined}
 use Rattle.module_text.specs.declared.algorithm.Stage as code_stage
 use Rattle.module_text.specs.declared.algorithm.Stage.TheVariants as code
 use Rattle.module_text.specs.declared.algorithm.Inside as code_inside
-use Rattle.module_text.specs.TextFront.{Text}
-use Rattle.module_text.specs.ModuleParts.{kind_in}
-use Rattle.module_text.specs.AlgorithmText.{Stage, head, titled, open_p, open_c, past_p, past_c, IndexedPart, Inside, with_part, inside}
-use Rattle.module_text.specs.Splitting.{is_splitting}
+use Rattle.module_tree.specs.TextFront.{Text}
+use Rattle.module_tree.specs.ModuleParts.{kind_in}
+use Rattle.module_tree.specs.AlgorithmText.{Stage, head, titled, open_p, open_c, past_p, past_c, IndexedPart, Inside, with_part, inside}
+use Rattle.module_tree.specs.FileOffences.{is_splitting}
 
 -- ---- stages
 

@@ -1,7 +1,7 @@
 -- Units of a translation beside others, with the empty line between.
 use Rattle.std.specs.Prelude.{ℕ, List, [], ◌∷◌, ◌++◌, codes}
-use Rattle.module_text.specs.Module.{RegionUnit}
-use Rattle.module_text.specs.Layout.{unit_text}
+use Rattle.module_tree.specs.Module.{RegionUnit}
+use Rattle.module_tree.specs.Layout.{unit_text}
 
 -- before others
 abbrev pub ahead : ℕ → List RegionUnit → List ℕ

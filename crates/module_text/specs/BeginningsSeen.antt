@@ -1,6 +1,6 @@
 -- How far code has come in a text.
 use Rattle.std.specs.Prelude.{◌≡◌, ℕ, ◌≤◌, length, drop, Option, Some, None}
-use Rattle.module_text.specs.TextFront.{Text}
+use Rattle.module_tree.specs.TextFront.{Text}
 
 -- after so many bytes of a text is this
 abbrev pub IsPast : Option ℕ → Text → Option Text → Type 0

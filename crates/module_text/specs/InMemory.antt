@@ -3,8 +3,8 @@ use Rattle.std.specs.Prelude.{ℕ, ◌+◌, ◌<◌, ◌≤◌, max, List, [], �
 use Rattle.std.specs.List.{AllByRecursion}
 use Rattle.std.specs.Option.{option_map}
 use Rattle.std.specs.declared.alloc.Global.{Global}
-use Rattle.tla_expr.specs.Tree.{Word, Tree}
-use Rattle.tla_expr.specs.Pool.{at, AllBelow}
+use Rattle.tla_tree.specs.Tree.{Word, Tree}
+use Rattle.tla_tree.specs.Pool.{at, AllBelow}
 use Rattle.tla_value.specs.Outside as pure
 use Rattle.tla_value.specs.Defs.{definitions_at, read_at, DefinitionsIn}
 use Rattle.module_text.specs.declared.«module».Item.{Item}
@@ -22,7 +22,7 @@ use Rattle.module_text.specs.declared.«module».Region.{Region}
 use Rattle.module_text.specs.declared.«module».Opaque.{Opaque}
 use Rattle.module_text.specs.declared.«module».Outside.{Outside}
 use Rattle.module_text.specs.declared.«module».Module.{Module}
-use Rattle.module_text.specs.Module as tree
+use Rattle.module_tree.specs.Module as tree
 
 -- ---- actions
 

@@ -13,15 +13,14 @@ use Rattle.module_text.specs.declared.stand.Shape.TheVariants as shape
 use Rattle.module_text.specs.declared.stand.Stand.{Stand}
 use Rattle.module_text.specs.declared.split.Algorithm.{Algorithm}
 use Rattle.module_text.specs.declared.split.Gap.{Gap}
-use Rattle.module_text.specs.TextFront.{Text}
-use Rattle.module_text.specs.Walk.{Segment, part, Located}
+use Rattle.module_tree.specs.TextFront.{Text}
+use Rattle.module_tree.specs.Walk.{Segment, part, Located}
 use Rattle.module_text.specs.StandsSeen.{segment_seen, stands_seen, IsSolid}
-use Rattle.module_text.specs.FileParts as FileParts
-use Rattle.module_text.specs.FileParts.{within, region_of, before_spot, after_spot, spot}
-use Rattle.module_text.specs.FileUnits.{with_token}
-use Rattle.module_text.specs.AlgorithmText.{AlgorithmText, algorithm_of, in_token}
-use Rattle.module_text.specs.FileOffences.{algorithm_offences}
-use Rattle.module_text.specs.Splitting.{is_splitting}
+use Rattle.module_tree.specs.FileParts as FileParts
+use Rattle.module_tree.specs.FileParts.{within, region_of, before_spot, after_spot, spot}
+use Rattle.module_tree.specs.FileUnits.{with_token}
+use Rattle.module_tree.specs.AlgorithmText.{AlgorithmText, algorithm_of, in_token}
+use Rattle.module_tree.specs.FileOffences.{algorithm_offences, is_splitting}
 use Rattle.module_text.specs.AlgorithmSeen.{stage_seen}
 
 abbrev pub is_blank_stand : Stand → Bool

@@ -1,25 +1,17 @@
 -- What is read off a file before its algorithm is read: its parts, or the rule of 1 to 10 that counts ("A PlusCal User's Manual", sections 2.1 and 2.2).
-use Rattle.std.specs.Prelude.{◌≡◌, ℕ, nat_le, Bool, not, List, Some, is_some, filter}
+use Rattle.std.specs.Prelude.{◌≡◌, ℕ, not, Some, is_some}
 use Rattle.tla_token.specs.declared.rule.Refusal.{Refusal}
 use Rattle.tla_token.specs.Places.{place_at}
-use Rattle.tla_token.specs.Rules.{rule_number}
 use Rattle.tla_token.specs.Tokens.{stretch}
-use Rattle.tla_token.specs.Offences.{Offence, least}
+use Rattle.tla_token.specs.Offences.{least}
 use Rattle.tla_token.specs.TokensSeen.{tokens_seen}
 use Rattle.module_text.specs.declared.parts.Parts.{Parts}
-use Rattle.module_text.specs.TextFront.{Text}
-use Rattle.module_text.specs.Walk.{walk}
-use Rattle.module_text.specs.FileParts.{title, region_of, spot, before_spot, after_spot}
-use Rattle.module_text.specs.AlgorithmText.{AlgorithmText, algorithm_in, is_c}
-use Rattle.module_text.specs.FileUnits.{tokens_in}
-use Rattle.module_text.specs.FileOffences.{file_offences}
-
--- rule 12, on numbers of the algorithm, is asked after rule 11
-abbrev pub is_splitting : Offence → Bool
-is_splitting o = nat_le (rule_number o.0) 10
-
-abbrev pub splitting_offences : Text → List Offence
-splitting_offences x = filter is_splitting (file_offences x)
+use Rattle.module_tree.specs.TextFront.{Text}
+use Rattle.module_tree.specs.Walk.{walk}
+use Rattle.module_tree.specs.FileParts.{title, region_of, spot, before_spot, after_spot}
+use Rattle.module_tree.specs.AlgorithmText.{AlgorithmText, algorithm_in, is_c}
+use Rattle.module_tree.specs.FileUnits.{tokens_in}
+use Rattle.module_tree.specs.FileOffences.{splitting_offences}
 
 -- the file is refused so
 pub record RefusesSplit (x : Text) (refusal : Refusal) : Type 0 where

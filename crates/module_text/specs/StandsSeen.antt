@@ -5,8 +5,8 @@ use Rattle.tla_token.specs.Scan.{is_quoted, part_of}
 use Rattle.module_text.specs.declared.stand.Shape.{Shape}
 use Rattle.module_text.specs.declared.stand.Shape.TheVariants as shape
 use Rattle.module_text.specs.declared.stand.Stand.{Stand}
-use Rattle.module_text.specs.TextFront.{Text}
-use Rattle.module_text.specs.Walk.{Segment, free, header, part, region, mark, inner, tail, Located}
+use Rattle.module_tree.specs.TextFront.{Text}
+use Rattle.module_tree.specs.Walk.{Segment, free, header, part, region, mark, inner, tail, Located}
 
 -- the segment that these bytes make up
 abbrev pub segment_of : Shape → Text → Segment

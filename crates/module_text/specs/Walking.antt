@@ -7,8 +7,8 @@ use Rattle.module_text.specs.declared.stand.Stand.{Stand}
 use Rattle.module_text.specs.declared.walk.Front.{Front}
 use Rattle.module_text.specs.declared.walk.Known.{Known}
 use Rattle.module_text.specs.declared.walk.Walker.{Walker}
-use Rattle.module_text.specs.TextFront.{Text}
-use Rattle.module_text.specs.Walk.{Segment, free, header, part, region, mark, inner, tail, bytes, State, at_end_line, walk_from}
+use Rattle.module_tree.specs.TextFront.{Text}
+use Rattle.module_tree.specs.Walk.{Segment, free, header, part, region, mark, inner, tail, bytes, State, at_end_line, walk_from}
 use Rattle.module_text.specs.StandsSeen.{located_seen, IsWithin, IsSolid}
 
 -- ---- the segment in front

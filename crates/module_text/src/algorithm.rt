@@ -6,13 +6,12 @@ ghost use Rattle.tla_token.specs.Offences.{part_offences, least};
 ghost use Rattle.tla_token.specs.Scan.{is_quoted, part_of, front, IsWordless};
 ghost use Rattle.tla_token.specs.Scan as scan;
 ghost use Rattle.tla_token.specs.Lexemes.{Kind, unquoted};
-ghost use Rattle.module_text.specs.ModuleParts.{kind_in};
-ghost use Rattle.module_text.specs.AlgorithmText as pure;
-ghost use Rattle.module_text.specs.AlgorithmText.{next, next_p, next_c, after_part, algorithm_at, in_token};
-ghost use Rattle.module_text.specs.Beginnings.{begins_algorithm};
-ghost use Rattle.module_text.specs.FileOffences.{algorithm_offences};
+ghost use Rattle.module_tree.specs.ModuleParts.{kind_in};
+ghost use Rattle.module_tree.specs.AlgorithmText as pure;
+ghost use Rattle.module_tree.specs.AlgorithmText.{next, next_p, next_c, after_part, algorithm_at, in_token};
+ghost use Rattle.module_tree.specs.Beginnings.{begins_algorithm};
+ghost use Rattle.module_tree.specs.FileOffences.{algorithm_offences, is_splitting};
 ghost use Rattle.module_text.specs.AlgorithmSeen.{stage_seen, depth, is_open_brace, is_close_brace, part_rest, IsInside, Passes, Reaches};
-ghost use Rattle.module_text.specs.Splitting.{is_splitting};
 
 use crate::beginning::is_fair;
 use tla_token::fault::{part_fault, sooner};

@@ -2,8 +2,8 @@
 
 ghost use Rattle.std.specs.Prelude.{◌≡◌, ◌^◌, ◌<◌, length, drop};
 ghost use Rattle.tla_token.specs.Scan.{front_by, IsWordless};
-ghost use Rattle.module_text.specs.Beginnings.{is_rule, ends_module, begins_bar};
-ghost use Rattle.module_text.specs.ModuleParts.{barred, module_part};
+ghost use Rattle.module_tree.specs.Beginnings.{is_rule, ends_module, begins_bar};
+ghost use Rattle.module_tree.specs.ModuleParts.{barred, module_part};
 
 use crate::line::dash_len;
 use tla_token::{Class, Part, lexeme_at, outer_at};

@@ -4,11 +4,11 @@ ghost use Rattle.std.specs.Prelude.{◌≡◌, true, ◌+◌, ◌≤◌, ◌^◌
 ghost use Rattle.tla_token.specs.Lexemes.{is_blank};
 ghost use Rattle.tla_token.specs.Tokens.{stretch};
 ghost use Rattle.tla_token.specs.Offences.{least};
-ghost use Rattle.module_text.specs.TextFront.{on_some, past_all, past_word, past_blanks, past_name};
-ghost use Rattle.module_text.specs.Beginnings as pure;
-ghost use Rattle.module_text.specs.Beginnings.{past_opening, all_at};
-ghost use Rattle.module_text.specs.FileParts.{first_of};
-ghost use Rattle.module_text.specs.FileOffences.{offences_at};
+ghost use Rattle.module_tree.specs.TextFront.{on_some, past_all, past_word, past_blanks, past_name};
+ghost use Rattle.module_tree.specs.Beginnings as pure;
+ghost use Rattle.module_tree.specs.Beginnings.{past_opening, all_at};
+ghost use Rattle.module_tree.specs.FileParts.{first_of};
+ghost use Rattle.module_tree.specs.FileOffences.{offences_at};
 ghost use Rattle.module_text.specs.BeginningsSeen.{IsPast};
 
 use std::alloc::AllocError;

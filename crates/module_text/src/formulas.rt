@@ -1,13 +1,14 @@
 //! Formulas that translations are made of, put in a pool. None has a place.
 
 ghost use Rattle.std.specs.Prelude.{◌≡◌, ◌<◌, codes, map, length, IfOk, OnErr};
-ghost use Rattle.tla_expr.specs.Pool.{at as tree_at, AllBelow, Keeps};
-ghost use Rattle.module_text.specs.Formulas as pure;
+ghost use Rattle.tla_tree.specs.Pool.{at as tree_at, AllBelow, Keeps};
+ghost use Rattle.module_tree.specs.Formulas as pure;
 
 use std::alloc::{AllocError, Global};
-use tla_expr::form::{Form, Strict};
-use tla_expr::{Binder, Name, NodeId, Op, PlacedName, Pool, Text};
+use tla_pool::Pool;
+use tla_pool::form::{Form, Strict};
 use tla_token::Place;
+use tla_tree::{Binder, Name, NodeId, Op, PlacedName, Text};
 
 const NOWHERE: Place = Place { line: 0, col: 0 };
 

@@ -1,11 +1,10 @@
-//! Modules of TLA+: their trees, the text of a translation, where it is in a file, and what it says of states.
+//! Modules of TLA+ in memory, the text of a translation and where it is in a file, and the parts of a file.
 #![tactic(auto)]
 
 pub mod algorithm;
 pub mod bars;
 pub mod beginning;
 pub mod formulas;
-pub mod laws;
 pub mod line;
 pub mod lines;
 pub mod module;
@@ -26,8 +25,3 @@ pub use module::{Action, Body, Call, Fairness, Item, Module, Opaque, Outside, Re
 pub use parts::Parts;
 pub use write_file::{with_translation, write_module};
 pub use write_units::write_region;
-
-#[cfg(test)]
-mod splitting_tests;
-#[cfg(test)]
-mod writing_tests;

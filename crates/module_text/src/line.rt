@@ -4,8 +4,8 @@ ghost use Rattle.std.specs.Prelude.{◌≡◌, ◌<◌, ◌≤◌, length, not, 
 ghost use Rattle.tla_token.specs.Lexemes.{is_word};
 ghost use Rattle.tla_token.specs.Tokens.{stretch};
 ghost use Rattle.tla_token.specs.Cut.{run};
-ghost use Rattle.module_text.specs.TextFront.{Text, is_space, past_all, past_word, on_some, past_blanks, past_run, past_name, ends_line, whole_line};
-ghost use Rattle.module_text.specs.HeaderAndRegion.{header_title, is_header, is_begin, is_end};
+ghost use Rattle.module_tree.specs.TextFront.{Text, is_space, past_all, past_word, on_some, past_blanks, past_run, past_name, ends_line, whole_line};
+ghost use Rattle.module_tree.specs.HeaderAndRegion.{header_title, is_header, is_begin, is_end};
 ghost use Rattle.module_text.specs.Walking.{end_at};
 
 use tla_token::Span;

@@ -1,7 +1,7 @@
 //! The two lines round a translation.
 
 ghost use Rattle.std.specs.Prelude.{◌≡◌};
-ghost use Rattle.module_text.specs.Around.{begin_line, end_line};
+ghost use Rattle.module_tree.specs.Around.{begin_line, end_line};
 
 /// The line before a translation, with its line end.
 pub fn begin_text() -> &'static str

@@ -1,12 +1,12 @@
 //! Modules in memory: expressions are numbers of a pool.
 
 ghost use Rattle.std.specs.Prelude.{◌≡◌, List, []};
-ghost use Rattle.tla_expr.specs.Tree.{Tree};
+ghost use Rattle.tla_tree.specs.Tree.{Tree};
 ghost use Rattle.module_text.specs.InMemory.{outside_at};
 
 use std::alloc::Global;
-use tla_expr::{Name, NameList, NodeId, PlacedName};
 use tla_token::Place;
+use tla_tree::{Name, NameList, NodeId, PlacedName};
 use tla_value::names::Defs;
 
 // ---- actions

@@ -5,13 +5,12 @@ ghost use Rattle.std.specs.List.{position_or_len};
 ghost use Rattle.tla_token.specs.Tokens.{stretch};
 ghost use Rattle.tla_token.specs.Offences.{part_offences, least};
 ghost use Rattle.tla_token.specs.Scan.{is_quoted, part_of};
-ghost use Rattle.tla_expr.specs.TokenViews.{view};
-ghost use Rattle.module_text.specs.Walk.{is_region, is_header_line, is_tail};
+ghost use Rattle.tla_tree.specs.TokenViews.{view};
+ghost use Rattle.module_tree.specs.Walk.{is_region, is_header_line, is_tail};
 ghost use Rattle.module_text.specs.StandsSeen.{segment_seen, located_seen, stands_seen, IsSolid};
-ghost use Rattle.module_text.specs.FileParts as pure;
-ghost use Rattle.module_text.specs.FileUnits.{token_in, begins_unit as begins_unit_of};
-ghost use Rattle.module_text.specs.FileOffences.{offences_at, segment_offences, offences_of, no_module, no_algorithm, rest_of_line, no_unit};
-ghost use Rattle.module_text.specs.Splitting.{is_splitting};
+ghost use Rattle.module_tree.specs.FileParts as pure;
+ghost use Rattle.module_tree.specs.FileUnits.{token_in, begins_unit as begins_unit_of};
+ghost use Rattle.module_tree.specs.FileOffences.{offences_at, segment_offences, offences_of, no_module, no_algorithm, rest_of_line, no_unit, is_splitting};
 ghost use Rattle.module_text.specs.SplitSeen.{is_blank_stand};
 
 use crate::algorithm::is_token;

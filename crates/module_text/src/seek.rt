@@ -3,8 +3,8 @@
 ghost use Rattle.std.specs.Prelude.{◌≡◌, ◌+◌, take, drop, IfOk, All, find};
 ghost use Rattle.std.specs.List.{position_or_len};
 ghost use Rattle.module_text.specs.StandsSeen.{located_seen, stands_seen, IsSolid};
-ghost use Rattle.module_text.specs.FileParts as pure;
-ghost use Rattle.module_text.specs.FileParts.{beginnings_in, first_of, holds_algorithm};
+ghost use Rattle.module_tree.specs.FileParts as pure;
+ghost use Rattle.module_tree.specs.FileParts.{beginnings_in, first_of, holds_algorithm};
 ghost use Rattle.module_text.specs.SplitSeen.{is_header_stand, is_region_stand, is_tail_stand, IsInner};
 
 use crate::beginning::{add_beginnings, first_beginning};

@@ -5,10 +5,10 @@ ghost use Rattle.tla_token.specs.Lexemes.{Kind};
 ghost use Rattle.tla_token.specs.Scan.{part_of};
 ghost use Rattle.tla_token.specs.Signs.{is_among as is_among_of};
 ghost use Rattle.tla_token.specs.Words.{is_pluscal_word, is_tla_word};
-ghost use Rattle.tla_expr.specs.TokenViews.{view, word_kind, word_kinds};
-ghost use Rattle.module_text.specs.Beginnings.{is_rule};
-ghost use Rattle.module_text.specs.ModuleParts.{kind_in};
-ghost use Rattle.module_text.specs.FileUnits as pure;
+ghost use Rattle.tla_tree.specs.TokenViews.{view, word_kind, word_kinds};
+ghost use Rattle.module_tree.specs.Beginnings.{is_rule};
+ghost use Rattle.module_tree.specs.ModuleParts.{kind_in};
+ghost use Rattle.module_tree.specs.FileUnits as pure;
 
 use tla_token::{Class, Place};
 

@@ -2,9 +2,9 @@
 
 ghost use Rattle.std.specs.Prelude.{◌≡◌, ℕ, ◌+◌, ◌^◌, ◌<◌, ◌≤◌, length, take, drop, Bool, true, false, None, Some, IfOk, IfSome, MatchOption, All, if◌then◌else◌, ◌||◌};
 ghost use Rattle.tla_token.specs.Scan.{IsWordless};
-ghost use Rattle.module_text.specs.TextFront.{Text};
-ghost use Rattle.module_text.specs.HeaderAndRegion.{is_begin};
-ghost use Rattle.module_text.specs.Walk.{walk, State, in_module, segment_at, is_header_line, is_region};
+ghost use Rattle.module_tree.specs.TextFront.{Text};
+ghost use Rattle.module_tree.specs.HeaderAndRegion.{is_begin};
+ghost use Rattle.module_tree.specs.Walk.{walk, State, in_module, segment_at, is_header_line, is_region};
 ghost use Rattle.module_text.specs.StandsSeen.{segment_of, stands_seen, IsWithin, IsSolid};
 ghost use Rattle.module_text.specs.Walking.{end_at, front_of, IsKnown, state_of, IsAt, GoesOn};
 

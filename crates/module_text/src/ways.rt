@@ -1,15 +1,16 @@
 //! What Next's disjuncts call, and the sets of ProcSet, one for each process.
 
 ghost use Rattle.std.specs.Prelude.{◌≡◌, ◌<◌, ◌∷◌, ℕ, suc, List, length, map, IfOk, MatchOption};
-ghost use Rattle.tla_expr.specs.Tree.{Tree};
-ghost use Rattle.tla_expr.specs.Pool.{at, AllBelow};
-ghost use Rattle.module_text.specs.Ways as pure;
+ghost use Rattle.tla_tree.specs.Tree.{Tree};
+ghost use Rattle.tla_tree.specs.Pool.{at, AllBelow};
+ghost use Rattle.module_tree.specs.Ways as pure;
 ghost use Rattle.module_text.specs.InMemory.{call_at, way_at, ways_at, WayIn, WaysIn};
 
 use crate::module::{Call, Way};
 use std::alloc::{AllocError, Global};
-use tla_expr::form::{Form, Strict};
-use tla_expr::{Name, NodeId, Op, Pool};
+use tla_pool::Pool;
+use tla_pool::form::{Form, Strict};
+use tla_tree::{Name, NodeId, Op};
 
 impl Call {
     /// The name of the called action.

@@ -1,16 +1,18 @@
 //! The written text of an action.
 
 ghost use Rattle.std.specs.Prelude.{◌≡◌, ◌≤◌, ◌<◌, ◌++◌, codes, length, OnOk};
-ghost use Rattle.tla_expr.specs.Pool.{at};
-ghost use Rattle.tla_expr.specs.Written.{written};
-ghost use Rattle.module_text.specs.Module.{test, setting, unchanged, exists, local, no_items, action_unit};
-ghost use Rattle.module_text.specs.Layout.{line, item_text, items_text, branches_text, call_text, way_text, ways_text, body_text, parameter_text, unit_text};
+ghost use Rattle.tla_tree.specs.Pool.{at};
+ghost use Rattle.tla_tree.specs.Written.{written};
+ghost use Rattle.module_tree.specs.Module.{test, setting, unchanged, exists, local, no_items, action_unit};
+ghost use Rattle.module_tree.specs.Layout.{line, item_text, items_text, branches_text, call_text, way_text, ways_text, body_text, parameter_text, unit_text};
 ghost use Rattle.module_text.specs.InMemory.{item_at, items_at, branches_at, call_at, way_at, ways_at, body_at, action_at, past_item, past_items, past_branches, CallIn, WayIn, WaysIn, BodyIn};
 
 use crate::module::{Action, Body, Call, Item, Way};
 use crate::write_line::{begin_line, deeper, write_line, write_tuple};
 use std::alloc::{AllocError, Global};
-use tla_expr::{Name, NameList, NodeId, Pool, Text, write_expr, write_operand};
+use tla_expr::{write_expr, write_operand};
+use tla_pool::Pool;
+use tla_tree::{Name, NameList, NodeId, Text};
 
 // ---- lines of items. Those before a list are of the item with nothing in it.
 

@@ -1,10 +1,10 @@
 //! A file with another translation.
 
 ghost use Rattle.std.specs.Prelude.{◌≡◌, ◌++◌, [], cond, codes, length, not, is_some, Some, IfOk, OnOk};
-ghost use Rattle.module_text.specs.Walk.{walk};
-ghost use Rattle.module_text.specs.FileParts.{region_of, spot};
-ghost use Rattle.module_text.specs.WithTranslation.{WithTranslation};
-ghost use Rattle.module_text.specs.Around.{Around};
+ghost use Rattle.module_tree.specs.Walk.{walk};
+ghost use Rattle.module_tree.specs.FileParts.{region_of, spot};
+ghost use Rattle.module_tree.specs.WithTranslation.{WithTranslation};
+ghost use Rattle.module_tree.specs.Around.{Around};
 ghost use Rattle.module_text.specs.InMemory.{module_at, RegionIn};
 
 use crate::lines::{begin_text, end_text};
@@ -12,7 +12,8 @@ use crate::module::Module;
 use crate::parts::Parts;
 use crate::write_units::write_region;
 use std::alloc::{AllocError, Global};
-use tla_expr::{Pool, Text};
+use tla_pool::Pool;
+use tla_tree::Text;
 
 fn end_line_if(is_new: bool, out: &mut Vec<u8>) -> Result<(), AllocError>
     ensures { OnOk result (out.new.items ≡ out.old.items ++ cond is_new (codes "\n") []) }

@@ -1,11 +1,11 @@
 //! Lines of a translation: blanks, names with commas.
 
 ghost use Rattle.std.specs.Prelude.{◌≡◌, ◌++◌, ◌+◌, [], cond, OnOk, IfOk};
-ghost use Rattle.module_text.specs.ExprText.{joined};
-ghost use Rattle.module_text.specs.Layout.{blanks, line, tuple_of};
+ghost use Rattle.module_tree.specs.ExprText.{joined};
+ghost use Rattle.module_tree.specs.Layout.{blanks, line, tuple_of};
 
 use std::alloc::AllocError;
-use tla_expr::{Name, Text};
+use tla_tree::{Name, Text};
 
 /// The indentation that is further right by so much. An indentation past the largest number is more blanks than memory has.
 ///

@@ -2,11 +2,11 @@
 
 ghost use Rattle.std.specs.Prelude.{◌≡◌, ◌<◌, ◌++◌, [], ◌∷◌, codes, map, length, OnOk, OnErr};
 ghost use Rattle.std.specs.Option.{option_map};
-ghost use Rattle.tla_expr.specs.Pool.{at, AllBelow};
-ghost use Rattle.tla_expr.specs.Written.{written};
+ghost use Rattle.tla_tree.specs.Pool.{at, AllBelow};
+ghost use Rattle.tla_tree.specs.Written.{written};
 ghost use Rattle.tla_value.specs.Defs.{definition_at, definitions_at, DefinitionsIn};
-ghost use Rattle.module_text.specs.Module.{variables_unit, definition_unit, vars_unit, init_unit, action_unit, next_unit, spec_unit, termination_unit, process_set_of, terminating_of, model_value_units};
-ghost use Rattle.module_text.specs.Layout.{conjuncts_text, over_text, guard_text, fairness_text, parameters_text, union_text, sets_text, unit_text, layout};
+ghost use Rattle.module_tree.specs.Module.{variables_unit, definition_unit, vars_unit, init_unit, action_unit, next_unit, spec_unit, termination_unit, process_set_of, terminating_of, model_value_units};
+ghost use Rattle.module_tree.specs.Layout.{conjuncts_text, over_text, guard_text, fairness_text, parameters_text, union_text, sets_text, unit_text, layout};
 ghost use Rattle.module_text.specs.InMemory.{over_at, fairness_at, region_at, ways_at, actions_at, OverIn, MaybeIn, FairnessIn, AllFairnessIn, ActionsIn, WaysIn, RegionIn};
 ghost use Rattle.module_text.specs.Apart.{ahead, behind};
 
@@ -15,7 +15,9 @@ use crate::ways::{processes, sets};
 use crate::write_action::{write_action, write_call, write_ways};
 use crate::write_line::{begin_line, write_joined, write_tuple, write_where};
 use std::alloc::{AllocError, Global};
-use tla_expr::{Name, NameList, NodeId, Pool, Text, write_expr, write_operand};
+use tla_expr::{write_expr, write_operand};
+use tla_pool::Pool;
+use tla_tree::{Name, NameList, NodeId, Text};
 use tla_value::names::Definition;
 
 // ---- names

@@ -2,12 +2,12 @@
 use Rattle.std.proofs.Common.{◌≡◌, ℕ, suc, ◌+◌, ◌*◌, ◌≤◌, true, false, List, [], ◌∷◌, ◌++◌, length, None, Ok, Err, inl, inr, refl, sym, ap, subst, ◌∙◌, arith, length-append, codes}
 use Rattle.tla_token.specs.declared.place.Place.{Place}
 use Rattle.tla_token.specs.declared.rule.Rule.{Rule}
-use Rattle.tla_expr.specs.declared.op.Op.TheVariants as op
-use Rattle.tla_expr.specs.Tree.{Word}
-use Rattle.tla_expr.specs.Lexical.{TokenView, Token}
-use Rattle.tla_expr.specs.Lexical as tk
-use Rattle.tla_expr.specs.Reader.{Out, Stop, Reader, ◌>>=◌, gives, refuses, readers}
-use Rattle.tla_expr.proofs.Alike.{Within, Alike, Enough, IsFair, fair_gives, fair_refuses, fair_skip, fair_bind}
+use Rattle.tla_tree.specs.declared.op.Op.TheVariants as op
+use Rattle.tla_tree.specs.Tree.{Word}
+use Rattle.tla_tree.specs.Lexical.{TokenView, Token}
+use Rattle.tla_tree.specs.Lexical as tk
+use Rattle.tla_tree.specs.Reader.{Out, Stop, Reader, ◌>>=◌, gives, refuses, readers}
+use Rattle.tla_tree.proofs.Alike.{Within, Alike, Enough, IsFair, fair_gives, fair_refuses, fair_skip, fair_bind}
 use Rattle.pcal_tree.specs.Grammar.{p_syntax, Fair, unfair, no_define, Text, Good, spell}
 use Rattle.algorithm_parts.specs.TokenReaders.{pick, Parts, parts_of}
 use Rattle.algorithm_parts.specs.ReadParts.{bind_by}

@@ -5,13 +5,13 @@ use Rattle.std.specs.List.{AllByRecursion}
 use Rattle.tla_token.specs.declared.place.Place.{Place}
 use Rattle.tla_token.specs.declared.rule.Rule.{Rule}
 use Rattle.tla_token.specs.Places.{nowhere}
-use Rattle.tla_expr.specs.declared.op.Op.TheVariants as op
-use Rattle.tla_expr.specs.Tree.{Word}
-use Rattle.tla_expr.specs.Lexical.{TokenView, Token}
-use Rattle.tla_expr.specs.Lexical as tk
-use Rattle.tla_expr.specs.Reader.{Stop, Reader, ◌>>=◌, gives, refuses, readers}
-use Rattle.tla_expr.proofs.SpellAhead.{Ahead, held, put_ahead, then_ahead, ahead}
-use Rattle.tla_expr.proofs.Mended.{gives_err, left_is}
+use Rattle.tla_tree.specs.declared.op.Op.TheVariants as op
+use Rattle.tla_tree.specs.Tree.{Word}
+use Rattle.tla_tree.specs.Lexical.{TokenView, Token}
+use Rattle.tla_tree.specs.Lexical as tk
+use Rattle.tla_tree.specs.Reader.{Stop, Reader, ◌>>=◌, gives, refuses, readers}
+use Rattle.tla_tree.proofs.SpellAhead.{Ahead, held, put_ahead, then_ahead, ahead}
+use Rattle.tla_tree.proofs.Mended.{gives_err, left_is}
 use Rattle.pcal_tree.specs.GrammarParts.{word, key, name, no_section, no_labels, skip, section_tokens}
 use Rattle.pcal_tree.specs.GrammarP.{simple, Sequence, last_statement}
 use Rattle.pcal_tree.specs.Grammar.{p_syntax, Body, begin_end, braces, body, GoodBody, Macro, macro, GoodMacro, Procedure, procedure, GoodProcedure, Fair, unfair, weak, strong, fair, Identity, bare, bracketed, identity, GoodIdentity, Process, process, GoodProcess, Head, algorithm, fair_algorithm, head, Define, no_define, define_end, define_braces, define, GoodDefine, Main, begin, block, processes, each, main, GoodMain, to_end, in_braces, around, Text, Good}

@@ -2,12 +2,12 @@
 use Rattle.std.proofs.Common.{◌≡◌, ℕ, zero, suc, ◌*◌, true, false, List, [], ◌∷◌, length, None, Ok, refl, sym, ap, subst, ◌∙◌, codes}
 use Rattle.std.specs.List.{AllByRecursion}
 use Rattle.tla_token.specs.declared.place.Place.{Place}
-use Rattle.tla_expr.specs.declared.op.Op.TheVariants as op
-use Rattle.tla_expr.specs.Tree.{Word}
-use Rattle.tla_expr.specs.Lexical.{TokenView, Token}
-use Rattle.tla_expr.specs.Lexical as tk
-use Rattle.tla_expr.specs.Reader.{Reader, gives, refuses, readers}
-use Rattle.tla_expr.proofs.SoundTokens.{then_ok, ok_is}
+use Rattle.tla_tree.specs.declared.op.Op.TheVariants as op
+use Rattle.tla_tree.specs.Tree.{Word}
+use Rattle.tla_tree.specs.Lexical.{TokenView, Token}
+use Rattle.tla_tree.specs.Lexical as tk
+use Rattle.tla_tree.specs.Reader.{Reader, gives, refuses, readers}
+use Rattle.tla_tree.proofs.SoundTokens.{then_ok, ok_is}
 use Rattle.pcal_tree.specs.GrammarParts.{key}
 use Rattle.pcal_tree.specs.Grammar.{p_syntax, begin_end, body, GoodBody, Macro, macro, GoodMacro, Procedure, procedure, GoodProcedure, Fair, unfair, weak, strong, fair, bare, identity, GoodIdentity, Process, process, GoodProcess, algorithm, fair_algorithm, head, no_define, define_end, define, GoodDefine, begin, processes, each, main, GoodMain, to_end, Text, spell, Good}
 use Rattle.algorithm_parts.specs.TokenReaders.{Parts, parts_of, pick}

@@ -1,11 +1,11 @@
 -- What is read is spelled: each state says which tokens were passed, and a step goes to one that says no others.
 use Rattle.std.proofs.Common.{◌≡◌, ℕ, zero, suc, List, Option, Some, None, refl, sym, ap, codes}
 use Rattle.tla_token.specs.declared.place.Place.{Place}
-use Rattle.tla_expr.specs.Tree.{Word, Name}
-use Rattle.tla_expr.specs.Lexical.{TokenView, Token}
-use Rattle.tla_expr.specs.Lexical as tk
-use Rattle.tla_expr.specs.Spelling.{spell, IsGood}
-use Rattle.tla_expr.specs.Reader.{Reader, refuses}
+use Rattle.tla_tree.specs.Tree.{Word, Name}
+use Rattle.tla_tree.specs.Lexical.{TokenView, Token}
+use Rattle.tla_tree.specs.Lexical as tk
+use Rattle.tla_tree.specs.Spelling.{spell, IsGood}
+use Rattle.tla_tree.specs.Reader.{Reader, refuses}
 use Rattle.pcal_tree.specs.GrammarParts.{name, key, semicolon, maybe_semicolon, Colon, colon_tokens, Labels, no_labels, label, labels, binds, GoodBinds, Simple, simple_tokens, GoodSimple}
 use Rattle.pcal_tree.specs.GrammarP.{Statement, simple, with, while, Else, no_else, else_then, else_if, Branches, last_branch, more_branches, Sequence, last_statement, more_statements}
 use Rattle.pcal_tree.specs.GrammarP.{statement, else_tokens, branches, sequence, GoodStatement, GoodElse, GoodBranches, GoodSequence}

@@ -1,11 +1,11 @@
 -- Reading an algorithm in P-syntax ("A PlusCal User's Manual, P-Syntax Version", appendix A).
 use Rattle.std.specs.Prelude.{ℕ, zero, suc, ◌*◌, true, false, List, [], ◌∷◌, length, map, None, codes}
 use Rattle.tla_token.specs.declared.place.Place.{Place}
-use Rattle.tla_expr.specs.declared.op.Op.TheVariants as op
-use Rattle.tla_expr.specs.Tree.{Word}
-use Rattle.tla_expr.specs.Lexical.{TokenView, Token}
-use Rattle.tla_expr.specs.Lexical as tk
-use Rattle.tla_expr.specs.Reader.{Reader, ◌>>=◌, gives, refuses, skip, readers}
+use Rattle.tla_tree.specs.declared.op.Op.TheVariants as op
+use Rattle.tla_tree.specs.Tree.{Word}
+use Rattle.tla_tree.specs.Lexical.{TokenView, Token}
+use Rattle.tla_tree.specs.Lexical as tk
+use Rattle.tla_tree.specs.Reader.{Reader, ◌>>=◌, gives, refuses, skip, readers}
 use Rattle.pcal_tree.specs.Grammar.{Body, begin_end, Macro, Procedure, Fair, unfair, weak, strong, Identity, bare, Process, Head, algorithm, fair_algorithm, Define, no_define, define_end, Main, begin, processes, to_end, Text}
 use Rattle.algorithm_parts.specs.TokenReaders.{by_next, past, a_key, a_name, pick, Parts, parts_of}
 use Rattle.algorithm_parts.specs.ReadParts.{read_semicolon, read_section, read_macro_parameters, read_procedure_parameters, read_definitions, bind_by}

@@ -1,7 +1,7 @@
 //! Laws of reading algorithms in P-syntax, stated as what functions without a body ensure.
 
 ghost use Rattle.std.specs.Prelude.{◌≡◌, ◌++◌, List, [], ◌∷◌, Ok, Err};
-ghost use Rattle.tla_expr.specs.Lexical.{Token};
+ghost use Rattle.tla_tree.specs.Lexical.{Token};
 ghost use Rattle.tla_token.specs.Tokens as text;
 ghost use Rattle.tla_token.specs.declared.rule.Rule.{Rule};
 ghost use Rattle.pcal_tree.specs.Algorithm.{Algorithm};

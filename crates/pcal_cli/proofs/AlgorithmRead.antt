@@ -24,17 +24,17 @@ use Rattle.tla_token.proofs.Exact.{parts_offend}
 use Rattle.tla_token.proofs.Faulty.{never_both}
 use Rattle.tla_token.proofs.Spelled.{begins_is, same_bytes}
 use Rattle.tla_token.proofs.Unique.{one_list}
-use Rattle.module_text.specs.TextFront.{Text}
-use Rattle.module_text.specs.Beginnings.{is_fair, opening}
-use Rattle.module_text.specs.ModuleParts.{kind_in}
-use Rattle.module_text.specs.Walk.{Located, walk}
-use Rattle.module_text.specs.FileParts.{within, beginnings_in, first_of, holds_algorithm}
-use Rattle.module_text.specs.AlgorithmText.{Stage, head, is_past, after_part, IndexedPart, inner_part, Inside, with_part, inside, AlgorithmText, algorithm_at, algorithm_in, algorithm_tokens}
-use Rattle.module_text.specs.FileOffences.{offences_of, algorithm_offences}
-use Rattle.module_text.specs.Splitting.{is_splitting, splitting_offences, Splits}
+use Rattle.module_tree.specs.TextFront.{Text}
+use Rattle.module_tree.specs.Beginnings.{is_fair, opening}
+use Rattle.module_tree.specs.ModuleParts.{kind_in}
+use Rattle.module_tree.specs.Walk.{Located, walk}
+use Rattle.module_tree.specs.FileParts.{within, beginnings_in, first_of, holds_algorithm}
+use Rattle.module_tree.specs.AlgorithmText.{Stage, head, is_past, after_part, IndexedPart, inner_part, Inside, with_part, inside, AlgorithmText, algorithm_at, algorithm_in, algorithm_tokens}
+use Rattle.module_tree.specs.FileOffences.{offences_of, algorithm_offences, is_splitting, splitting_offences}
+use Rattle.module_text.specs.Splitting.{Splits}
 use Rattle.module_text.specs.declared.parts.Parts.{Parts}
-use Rattle.module_text.specs.laws.Kept.{is_large, only_large}
-use Rattle.module_text.proofs.AlgorithmIsCut.{algorithm_is_cut}
+use Rattle.module_tree.specs.laws.Kept.{is_large, only_large}
+use Rattle.module_tree.proofs.AlgorithmIsCut.{algorithm_is_cut}
 use Rattle.first_path.specs.Form.{word, algorithm_kinds}
 use Rattle.pcal_cli.specs.AlgorithmTokens.{AreAlgorithm}
 use Rattle.first_path.proofs.FormFine.{segments_free, none_left, spared_both}

@@ -8,19 +8,20 @@ use Rattle.tla_token.specs.Lexemes.{Kind}
 use Rattle.tla_token.specs.Tokens as text
 use Rattle.tla_token.specs.Tokens.{stretch}
 use Rattle.tla_token.specs.Offences.{Offence}
-use Rattle.tla_expr.specs.Tree.{Word}
-use Rattle.tla_expr.specs.Lexical.{Token}
-use Rattle.tla_expr.specs.TokenViews.{view, views}
+use Rattle.tla_tree.specs.Tree.{Word}
+use Rattle.tla_tree.specs.Lexical.{Token}
+use Rattle.tla_tree.specs.TokenViews.{view, views}
 use Rattle.module_text.specs.declared.parts.Parts as code_parts
-use Rattle.module_text.specs.TextFront.{Text}
-use Rattle.module_text.specs.Walk.{walk}
-use Rattle.module_text.specs.FileParts.{title, before_spot, after_spot, spot}
-use Rattle.module_text.specs.FileUnits.{cut, tokens_in}
-use Rattle.module_text.specs.AlgorithmText.{AlgorithmText}
-use Rattle.module_text.specs.AlgorithmText as file
-use Rattle.module_text.specs.Outside.{identifiers}
-use Rattle.module_text.specs.Splitting.{splitting_offences, Splits, RefusesSplit}
-use Rattle.module_text.specs.WithTranslation.{WithTranslation}
+use Rattle.module_tree.specs.TextFront.{Text}
+use Rattle.module_tree.specs.Walk.{walk}
+use Rattle.module_tree.specs.FileParts.{title, before_spot, after_spot, spot}
+use Rattle.module_tree.specs.FileUnits.{cut, tokens_in}
+use Rattle.module_tree.specs.AlgorithmText.{AlgorithmText}
+use Rattle.module_tree.specs.AlgorithmText as file
+use Rattle.module_tree.specs.Outside.{identifiers}
+use Rattle.module_tree.specs.FileOffences.{splitting_offences}
+use Rattle.module_text.specs.Splitting.{Splits, RefusesSplit}
+use Rattle.module_tree.specs.WithTranslation.{WithTranslation}
 use Rattle.first_path.specs.Beside.{Beside, beside, declared_by, extended_by}
 use Rattle.first_path.specs.Form.{Parts, suits, algorithm_kinds}
 use Rattle.first_path.specs.FormRead.{on_some, if_so, if_none, parts_in, parts_of, suiting, form_of, form_offences, FirstOffence, left_out}

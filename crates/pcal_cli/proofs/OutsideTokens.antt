@@ -5,14 +5,14 @@ use Rattle.std.specs.List.{list_any, list_all, flat_map}
 use Rattle.std.proofs.lemmas.Bool.{and_parts, and_right}
 use Rattle.std.proofs.lemmas.List.{drop-map, take-map, take_all, length-drop}
 use Rattle.tla_token.specs.Signs.{is_among}
-use Rattle.tla_token.specs.Words.{is_pluscal_word, is_tla_word, tla_words}
+use Rattle.tla_token.specs.Words.{is_pluscal_word, is_tla_word, tla_words, is_standard}
 use Rattle.tla_token.proofs.Spelled.{same_bytes}
-use Rattle.tla_expr.specs.Tree.{Word}
-use Rattle.tla_expr.specs.Lexical as tk
-use Rattle.tla_expr.specs.Lexical.{TokenView, Token}
-use Rattle.tla_expr.specs.TokenViews.{kind_among, word_kinds, word_kind, sign_kind, kind_of}
-use Rattle.module_text.specs.FileUnits.{is_starter, is_bar, begins_unit, cut, cut_at}
-use Rattle.module_text.specs.Outside.{identifiers, first_one, is_define, title_at, keyword_of, opaque_of}
+use Rattle.tla_tree.specs.Tree.{Word}
+use Rattle.tla_tree.specs.Lexical as tk
+use Rattle.tla_tree.specs.Lexical.{TokenView, Token}
+use Rattle.tla_tree.specs.TokenViews.{kind_among, word_kinds, word_kind, sign_kind, kind_of}
+use Rattle.module_tree.specs.FileUnits.{is_starter, is_bar, begins_unit, cut, cut_at}
+use Rattle.module_tree.specs.Outside.{identifiers, first_one, is_define, title_at, keyword_of, opaque_of}
 use Rattle.tla_token.specs.declared.sign.Sign.{Sign}
 use Rattle.tla_token.specs.declared.sign.Sign.TheVariants as sign
 use Rattle.tla_token.specs.declared.token.Token as code
@@ -22,8 +22,7 @@ use Rattle.tla_token.specs.Lexemes as lexeme
 use Rattle.tla_token.specs.TokensSeen.{span_bytes, kind_seen}
 use Rattle.pcal_cli.specs.declared.outside.Seen.{Seen}
 use Rattle.pcal_cli.specs.declared.outside.Seen.TheVariants as seen
-use Rattle.tla_expr.specs.declared.op.Op.TheVariants as op
-use Rattle.tla_token.specs.Words.{is_standard}
+use Rattle.tla_tree.specs.declared.op.Op.TheVariants as op
 use Rattle.tla_value.specs.StandardModules.{has_operator}
 use Rattle.first_path.specs.Beside.{Beside, declared_by}
 use Rattle.first_path.specs.Form.{Parts, is_taken, is_sum, suits}

@@ -2,9 +2,9 @@
 use Rattle.std.proofs.Common.{◌≡◌, ℕ, ◌<◌, ◌≤◌, List, [], ◌∷◌, map, Some, None, sym, ap, subst, ◌∙◌, arith, codes}
 use Rattle.std.specs.Option.{option_map}
 use Rattle.tla_token.specs.Places.{start}
-use Rattle.tla_expr.specs.Tree.{Tree, string}
-use Rattle.tla_expr.specs.Pool.{at, AllBelow}
-use Rattle.module_text.specs.Module as tree
+use Rattle.tla_tree.specs.Tree.{Tree, string}
+use Rattle.tla_tree.specs.Pool.{at, AllBelow}
+use Rattle.module_tree.specs.Module as tree
 use Rattle.module_text.specs.declared.«module».Item.{Item}
 use Rattle.module_text.specs.declared.«module».Body.{Body}
 use Rattle.module_text.specs.declared.«module».Body.TheVariants as body

@@ -1,8 +1,8 @@
 -- Worked examples of what is beside an algorithm, as tokens show it, by computation.
 use Rattle.std.specs.Prelude.{true, false, [], ◌∷◌, codes}
 use Rattle.std.proofs.Common.{◌≡◌, refl}
-use Rattle.tla_expr.specs.Lexical as tk
-use Rattle.tla_expr.specs.TokenViews.{word_kind}
+use Rattle.tla_tree.specs.Lexical as tk
+use Rattle.tla_tree.specs.TokenViews.{word_kind}
 use Rattle.tla_token.specs.Signs.{is_among}
 use Rattle.first_path.specs.Form.{Parts, single, number_operand}
 use Rattle.pcal_cli.specs.OutsideTokens.{identifier, keyword, neither, shown, begins_shown, holds_of, keyword_shown, clashes}

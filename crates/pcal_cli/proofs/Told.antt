@@ -7,7 +7,7 @@ use Rattle.outer_io.specs.Outer.{Texts, text_at, told_at, HasText, Tells, HasNoT
 use Rattle.tla_token.specs.declared.rule.Refusal.{Refusal}
 use Rattle.tla_token.specs.Offences.{least}
 use Rattle.tla_token.specs.Limits.{most_bytes}
-use Rattle.tla_expr.specs.Tree.{Word}
+use Rattle.tla_tree.specs.Tree.{Word}
 use Rattle.first_path.specs.FormRead.{form_offences, FirstOffence}
 use Rattle.first_path.specs.Written.{Written}
 use Rattle.promise.specs.Options.{no_options}

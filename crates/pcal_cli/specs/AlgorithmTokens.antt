@@ -2,7 +2,7 @@
 use Rattle.std.specs.Prelude.{◌≡◌, ℕ, false, List, ◌∷◌, map, Option, Some, None, bytes_eq, codes}
 use Rattle.tla_token.specs.declared.token.Tokens.{Tokens}
 use Rattle.tla_token.specs.TokensSeen.{tokens_seen}
-use Rattle.module_text.specs.AlgorithmText.{AlgorithmText, algorithm_in}
+use Rattle.module_tree.specs.AlgorithmText.{AlgorithmText, algorithm_in}
 use Rattle.first_path.specs.Form.{word, algorithm_kinds}
 
 -- these are the tokens of the file's algorithm after that word; none: it begins otherwise

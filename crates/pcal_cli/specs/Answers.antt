@@ -2,7 +2,7 @@
 use Rattle.std.specs.Prelude.{ℕ, List, [], ◌++◌, codes, Option, Some, None}
 use Rattle.tla_token.specs.declared.rule.Refusal.{Refusal}
 use Rattle.tla_token.specs.Rules.{refusal_text}
-use Rattle.tla_expr.specs.Tree.{Word}
+use Rattle.tla_tree.specs.Tree.{Word}
 use Rattle.pcal_cli.specs.declared.status.Answer.{Answer}
 use Rattle.pcal_cli.specs.declared.status.Answer.TheVariants as answer
 use Rattle.pcal_cli.specs.declared.status.Status.{Status}

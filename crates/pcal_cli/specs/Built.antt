@@ -1,9 +1,9 @@
 -- The expressions of a translation in memory, by their numbers.
 use Rattle.std.specs.Prelude.{◌≡◌, ℕ, ◌<◌, List, [], ◌∷◌, None, codes}
 use Rattle.tla_token.specs.Places.{start}
-use Rattle.tla_expr.specs.declared.op.Op.TheVariants.{Equal}
-use Rattle.tla_expr.specs.Tree.{Tree, name, number, string}
-use Rattle.tla_expr.specs.Pool.{at}
+use Rattle.tla_tree.specs.declared.op.Op.TheVariants.{Equal}
+use Rattle.tla_tree.specs.Tree.{Tree, name, number, string}
+use Rattle.tla_tree.specs.Pool.{at}
 use Rattle.module_text.specs.declared.«module».Item.{Item}
 use Rattle.module_text.specs.declared.«module».Item.TheVariants.{Test, Setting}
 use Rattle.module_text.specs.declared.«module».Body.{Body}

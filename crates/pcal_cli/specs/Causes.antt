@@ -3,7 +3,7 @@ use Rattle.std.specs.Prelude.{◌≡◌, ◌⊎◌, ℕ, List, Option, Some, Non
 use Rattle.std.specs.Process.{exit_status}
 use Rattle.std.specs.declared.process.ExitCode.{ExitCode}
 use Rattle.outer_io.specs.Outer.{Texts, Tells, RoseBy, Grows, GrowsInPart}
-use Rattle.tla_expr.specs.Tree.{Word}
+use Rattle.tla_tree.specs.Tree.{Word}
 use Rattle.promise.specs.Options.{Options}
 use Rattle.promise.specs.Headline.{Headline}
 use Rattle.tla_token.specs.declared.rule.Refusal.{Refusal}

@@ -6,7 +6,7 @@ use Rattle.tla_token.specs.declared.token.Token.{Token}
 use Rattle.tla_token.specs.Lexemes.{Kind, number, one}
 use Rattle.tla_token.specs.Limits.{past_numbers}
 use Rattle.tla_token.specs.TokensSeen.{kind_seen}
-use Rattle.tla_expr.specs.Tree.{Word}
+use Rattle.tla_tree.specs.Tree.{Word}
 use Rattle.first_path.specs.Form.{Operand, Right, single, sum, Parts}
 use Rattle.first_path.specs.FormRead.{on_some, if_so, on_name, on_number, on_word, on_equal, on_semicolon, on_colon, on_assign, on_operand, on_end, declares, fit}
 use Rattle.pcal_cli.specs.declared.rest.Rest.{Rest}

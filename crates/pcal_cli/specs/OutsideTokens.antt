@@ -4,14 +4,14 @@ use Rattle.std.specs.List.{flat_map}
 use Rattle.tla_token.specs.declared.token.Token.{Token}
 use Rattle.tla_token.specs.declared.token.Tokens.{Tokens}
 use Rattle.tla_token.specs.TokensSeen.{token_seen}
-use Rattle.tla_expr.specs.Tree.{Word}
-use Rattle.tla_expr.specs.Lexical as tk
-use Rattle.tla_expr.specs.Lexical.{TokenView}
-use Rattle.tla_expr.specs.TokenViews.{view}
+use Rattle.tla_tree.specs.Tree.{Word}
+use Rattle.tla_tree.specs.Lexical as tk
+use Rattle.tla_tree.specs.Lexical.{TokenView}
+use Rattle.tla_tree.specs.TokenViews.{view}
 use Rattle.tla_token.specs.Signs.{is_among}
-use Rattle.module_text.specs.Beginnings.{is_rule}
-use Rattle.module_text.specs.FileUnits.{unit_words, cut}
-use Rattle.module_text.specs.Outside.{identifiers}
+use Rattle.module_tree.specs.Beginnings.{is_rule}
+use Rattle.module_tree.specs.FileUnits.{unit_words, cut}
+use Rattle.module_tree.specs.Outside.{identifiers}
 use Rattle.first_path.specs.Beside.{Beside, declared_by, extended_by}
 use Rattle.first_path.specs.Form.{Parts, is_taken}
 use Rattle.pcal_cli.specs.declared.rest.Rest.{Rest}

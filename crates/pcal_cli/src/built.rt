@@ -1,7 +1,7 @@
 //! The form's translation, as a module in memory.
 
 ghost use Rattle.std.specs.Prelude.{◌≡◌, ◌∷◌, [], ℕ, List, IfOk, codes};
-ghost use Rattle.tla_expr.specs.Tree.{Tree};
+ghost use Rattle.tla_tree.specs.Tree.{Tree};
 ghost use Rattle.module_text.specs.InMemory.{region_at, RegionIn};
 ghost use Rattle.first_path.specs.Placed.{region_of};
 ghost use Rattle.pcal_cli.specs.FormSeen.{parts_of};
@@ -11,7 +11,7 @@ use crate::form::Form;
 use crate::nodes::{Nodes, name_of};
 use module_text::{Action, Body, Call, Item, Region, Way};
 use std::alloc::{AllocError, Global};
-use tla_expr::NameList;
+use tla_tree::NameList;
 use tla_value::names::Defs;
 
 /// The conjuncts of the action.

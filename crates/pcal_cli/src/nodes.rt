@@ -3,11 +3,11 @@
 ghost use Rattle.std.specs.Prelude.{◌≡◌, ◌<◌, true, length, IfOk, codes};
 ghost use Rattle.tla_token.specs.Limits.{past_numbers};
 ghost use Rattle.tla_token.specs.Places.{start};
-ghost use Rattle.tla_expr.specs.declared.op.Op.TheVariants as op_is;
-ghost use Rattle.tla_expr.specs.Tree as tree;
-ghost use Rattle.tla_expr.specs.FormOf.{form_of};
-ghost use Rattle.tla_expr.specs.Shapes.{Shaped};
-ghost use Rattle.tla_expr.specs.Pool.{at, Keeps};
+ghost use Rattle.tla_tree.specs.declared.op.Op.TheVariants as op_is;
+ghost use Rattle.tla_tree.specs.Tree as tree;
+ghost use Rattle.tla_pool.specs.FormOf.{form_of};
+ghost use Rattle.tla_tree.specs.Shapes.{Shaped};
+ghost use Rattle.tla_tree.specs.Pool.{at, Keeps};
 ghost use Rattle.first_path.specs.Form.{is_small, is_small_operand, is_small_right};
 ghost use Rattle.first_path.specs.Placed.{leaf, infix_of, operand_tree, right_tree, is_at};
 ghost use Rattle.pcal_cli.specs.FormSeen.{operand_of, right_of, parts_of};
@@ -15,8 +15,9 @@ ghost use Rattle.pcal_cli.specs.Built.{AreNodes, NodesIn, initial_tree};
 
 use crate::form::{Form, Operand, Right};
 use std::alloc::{AllocError, Global};
-use tla_expr::form::{Form as Shape, Strict};
-use tla_expr::{Name, NodeId, Op, Pool, Text};
+use tla_pool::form::{Form as Shape, Strict};
+use tla_pool::Pool;
+use tla_tree::{Name, NodeId, Op, Text};
 use tla_token::Place;
 
 /// What is written doesn't depend on places.

@@ -2,8 +2,9 @@
 
 ghost use Rattle.std.specs.Prelude.{◌≡◌, ◌<◌, ◌^◌, [], true, length, take, drop, Some, None, IfOk, IfErr, MatchOption};
 ghost use Rattle.tla_token.specs.Tokens.{stretch};
-ghost use Rattle.module_text.specs.Layout.{layout};
-ghost use Rattle.module_text.specs.Splitting.{Splits, splitting_offences};
+ghost use Rattle.module_tree.specs.Layout.{layout};
+ghost use Rattle.module_tree.specs.FileOffences.{splitting_offences};
+ghost use Rattle.module_text.specs.Splitting.{Splits};
 ghost use Rattle.first_path.specs.Form.{is_fit};
 ghost use Rattle.first_path.specs.FormRead.{form_of, form_offences};
 ghost use Rattle.first_path.specs.Placed.{region_of, translation_of};
@@ -21,7 +22,8 @@ use crate::rest::Rest;
 use module_text::split::split;
 use module_text::{Parts, with_translation, write_region};
 use std::alloc::{AllocError, Global};
-use tla_expr::{Pool, Text};
+use tla_pool::Pool;
+use tla_tree::Text;
 use tla_token::{Place, Reading, Refusal, Rule, Span, Stop, Tokens, tokens_as};
 
 /// Why an algorithm of another form is refused; its place is the file's start.

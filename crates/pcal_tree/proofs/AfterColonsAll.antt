@@ -2,17 +2,17 @@
 use Rattle.std.proofs.Common.{◌≡◌, ℕ, zero, suc, ◌+◌, ◌≤◌, Bool, true, false, List, [], ◌∷◌, ◌++◌, Option, Some, None, Ok, Err, map, codes, nat_lt, refl, sym, ap, ◌∙◌, subst, arith}
 use Rattle.std.specs.List.{AllByRecursion}
 use Rattle.tla_token.specs.declared.place.Place.{Place}
-use Rattle.tla_expr.specs.Tree.{Word}
-use Rattle.tla_expr.specs.Lexical.{TokenView, Token}
-use Rattle.tla_expr.specs.Lexical as tk
-use Rattle.tla_expr.specs.Spelling.{Phrase}
-use Rattle.tla_expr.specs.Reader.{Out, readers, free}
-use Rattle.tla_expr.specs.FirstStop.{looks, Begins}
-use Rattle.tla_expr.specs.laws.Following.{is_calm, Calm}
-use Rattle.tla_expr.proofs.Steps.{steps}
-use Rattle.tla_expr.proofs.ReadPhrases.{closed}
-use Rattle.tla_expr.proofs.ReadAll.{reads}
-use Rattle.tla_expr.proofs.StopLaws.{steps_and}
+use Rattle.tla_tree.specs.Tree.{Word}
+use Rattle.tla_tree.specs.Lexical.{TokenView, Token}
+use Rattle.tla_tree.specs.Lexical as tk
+use Rattle.tla_tree.specs.Spelling.{Phrase}
+use Rattle.tla_tree.specs.Reader.{Out, readers, free}
+use Rattle.tla_tree.specs.FirstStop.{looks, Begins}
+use Rattle.tla_tree.specs.laws.Following.{is_calm, Calm}
+use Rattle.tla_tree.proofs.Steps.{steps}
+use Rattle.tla_tree.proofs.ReadPhrases.{closed}
+use Rattle.tla_tree.proofs.ReadAll.{reads}
+use Rattle.tla_tree.proofs.StopLaws.{steps_and}
 use Rattle.pcal_tree.specs.GrammarParts as part
 use Rattle.pcal_tree.specs.GrammarP as psyntax
 use Rattle.pcal_tree.specs.Grammar.{p_syntax}

@@ -1,9 +1,9 @@
 -- After the sign of an operator no expression has a semicolon.
 use Rattle.std.proofs.Common.{◌≡◌, Bool, true, false, not, ◌&&◌, List, [], ◌∷◌, refl}
 use Rattle.tla_token.specs.declared.place.Place.{Place}
-use Rattle.tla_expr.specs.Lexical.{TokenView, Token, token}
-use Rattle.tla_expr.specs.Lexical as tk
-use Rattle.tla_expr.specs.Spelling.{Phrase, spell}
+use Rattle.tla_tree.specs.Lexical.{TokenView, Token, token}
+use Rattle.tla_tree.specs.Lexical as tk
+use Rattle.tla_tree.specs.Spelling.{Phrase, spell}
 use Rattle.pcal_tree.proofs.ExpressionTokens.{begins_phrase, Kept, phrase_begins, keep}
 use Rattle.pcal_tree.proofs.ExpressionTokens as expression
 

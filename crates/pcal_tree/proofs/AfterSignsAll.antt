@@ -1,10 +1,10 @@
 -- After the sign of an operator, and after `:=`, no algorithm has a semicolon.
 use Rattle.std.proofs.Common.{◌≡◌, true, false, List, [], ◌∷◌, ◌++◌, Some, map, codes, refl, sym, ap, ◌∙◌}
-use Rattle.tla_expr.specs.declared.op.Op.TheVariants as op
-use Rattle.tla_expr.specs.Tree.{Word}
-use Rattle.tla_expr.specs.Lexical.{Token, sign_of}
-use Rattle.tla_expr.specs.Lexical as tk
-use Rattle.tla_expr.specs.FirstStop.{looks, Begins}
+use Rattle.tla_tree.specs.declared.op.Op.TheVariants as op
+use Rattle.tla_tree.specs.Tree.{Word}
+use Rattle.tla_tree.specs.Lexical.{Token, sign_of}
+use Rattle.tla_tree.specs.Lexical as tk
+use Rattle.tla_tree.specs.FirstStop.{looks, Begins}
 use Rattle.pcal_tree.specs.GrammarParts as part
 use Rattle.pcal_tree.specs.GrammarP as psyntax
 use Rattle.pcal_tree.specs.GrammarC as csyntax

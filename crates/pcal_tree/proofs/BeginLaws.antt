@@ -1,6 +1,6 @@
 -- A step of the expanded statements begins with the expansion of what the step begins with.
 use Rattle.std.proofs.Common.{◌≡◌, Bool, true, false, cond, bytes_eq, Option, Some, None, refl, sym, ◌∙◌, ap}
-use Rattle.tla_expr.specs.Tree.{Word, Trees}
+use Rattle.tla_tree.specs.Tree.{Word, Trees}
 use Rattle.pcal_tree.specs.Algorithm.{Span, Statement, assign, await, print, assert, skip, branch, either, with, while, goto, macro, call, return, Statements, done, then, mark, Branches, no_branches, or}
 use Rattle.pcal_tree.specs.Run.{unlabelled, label_of}
 use Rattle.pcal_tree.specs.StepStart.{Begin, begin_in, begin, begin_some}

@@ -1,7 +1,7 @@
 -- The labels of a body as a plain list of words.
 use Rattle.std.proofs.Common.{◌≡◌, List, [], ◌∷◌, ◌++◌, Bool, true, false, map, refl, ◌∙◌, ap}
 use Rattle.std.proofs.lemmas.List.{map-append}
-use Rattle.tla_expr.specs.Tree.{Word}
+use Rattle.tla_tree.specs.Tree.{Word}
 use Rattle.pcal_tree.specs.Algorithm.{Statement, branch, either, with, while, Statements, done, then, mark, Branches, no_branches, or}
 use Rattle.pcal_tree.specs.OffencesLabels as Offences
 use Rattle.pcal_tree.specs.OffencesLabels.{label_words}

@@ -5,7 +5,7 @@ use Rattle.std.proofs.lemmas.Bool.{or_parts}
 use Rattle.std.proofs.lemmas.List.{reverse-append}
 use Rattle.std.proofs.lemmas.List.Folds.{list_any-append}
 use Rattle.tla_token.specs.declared.place.Place.{Place}
-use Rattle.tla_expr.specs.Tree.{Word, Name, name, binding, local, Tree, node, Trees, no_trees, tree, Graft, grafted_name, graft, grafts}
+use Rattle.tla_tree.specs.Tree.{Word, Name, name, binding, local, Tree, node, Trees, no_trees, tree, Graft, grafted_name, graft, grafts}
 use Rattle.pcal_tree.specs.Algorithm.{Span, Assignments, no_assignments, assignment, Binds, no_binds, one_of, is, Statement, assign, await, print, assert, skip, branch, either, with, while, goto, macro, call, return, Statements, done, then, mark, Branches, no_branches, or, Macro, Procedure, Main, alone, processes, Algorithm}
 use Rattle.pcal_tree.specs.BoundNames.{Lists, all_of, lists_in, lists_in_all, lists_in_assignments, names_of_binds, lists_in_binds, lists_in_one, lists_in_body, lists_in_branches}
 use Rattle.pcal_tree.specs.Expand.{placed_at, graft_left, graft_assignments, graft_binds, graft_one, graft_all, graft_some, joined, Writing, expand_one, expand, expand_some, written_out}

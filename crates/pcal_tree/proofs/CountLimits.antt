@@ -3,7 +3,7 @@ use Rattle.std.proofs.Common.{◌≡◌, false, ℕ, suc, ◌+◌, ◌-◌, ◌�
 use Rattle.std.specs.List.{flat_map}
 use Rattle.std.proofs.lemmas.List.{length-drop, length-map}
 use Rattle.std.proofs.lemmas.Grind.{flat_map-append}
-use Rattle.tla_expr.specs.Tree.{Word}
+use Rattle.tla_tree.specs.Tree.{Word}
 use Rattle.tla_token.specs.Limits.{most_variables, most_processes, most_procedures, most_labels}
 use Rattle.pcal_tree.specs.Algorithm.{Name, Routine, locals, Macro, Main, alone, processes, Algorithm, routines, procedure_routines, main_routines, numbered, first_procedure, first_process, procedure_routine, process_routine, Procedure, Process}
 use Rattle.pcal_tree.specs.Variables.{declared}

@@ -4,11 +4,11 @@ use Rattle.std.specs.List.{list_all, AllByRecursion}
 use Rattle.std.proofs.lemmas.Bool.{and_parts, leb-true}
 use Rattle.std.proofs.lemmas.List.{length-map}
 use Rattle.tla_token.specs.Limits.{deepest_expression, deepest_statement}
-use Rattle.tla_expr.specs.Lexical.{TokenView}
-use Rattle.tla_expr.specs.Lexical as tk
-use Rattle.tla_expr.specs.FirstStop.{Look, look, looks, Open, is_within, Passes}
-use Rattle.tla_expr.proofs.BracketCounts.{Climbs, leads}
-use Rattle.tla_expr.proofs.Columns.{begun_looks}
+use Rattle.tla_tree.specs.Lexical.{TokenView}
+use Rattle.tla_tree.specs.Lexical as tk
+use Rattle.tla_tree.specs.FirstStop.{Look, look, looks, Open, is_within, Passes}
+use Rattle.tla_tree.proofs.BracketCounts.{Climbs, leads}
+use Rattle.tla_tree.proofs.Columns.{begun_looks}
 use Rattle.pcal_tree.specs.Grammar as g
 use Rattle.pcal_tree.specs.OpenForms.{opens}
 use Rattle.pcal_tree.specs.OffencesSyntax.{algorithms}

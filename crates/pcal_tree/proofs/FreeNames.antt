@@ -6,7 +6,7 @@ use Rattle.std.proofs.lemmas.Fmt.{decimal_injective}
 use Rattle.std.proofs.lemmas.List.{append_cancel_left}
 use Rattle.tla_token.specs.Signs.{is_among}
 use Rattle.tla_token.specs.Words.{is_reserved, is_own, is_standard}
-use Rattle.tla_expr.specs.Tree.{Word}
+use Rattle.tla_tree.specs.Tree.{Word}
 use Rattle.std.specs.List.{AllByRecursion}
 use Rattle.pcal_tree.specs.Names.{is_taken, joint, numbered, free_from, first_free, Want, give}
 use Rattle.pcal_tree.specs.laws.Apart.{Apart}

@@ -10,7 +10,7 @@ use Rattle.tla_token.specs.Lexemes.{is_digit}
 use Rattle.tla_token.specs.Signs.{is_among}
 use Rattle.tla_token.specs.Words.{pluscal_words, tla_words, begins_fairness, is_reserved, own_names, is_own, standard_names, sequence_names, tlc_names, is_standard}
 use Rattle.tla_token.proofs.Spelled.{begins, begins_is, begins_from}
-use Rattle.tla_expr.specs.Tree.{Word}
+use Rattle.tla_tree.specs.Tree.{Word}
 use Rattle.pcal_tree.specs.Names.{is_taken, joint, numbered, free_from, first_free, Want, give}
 use Rattle.pcal_tree.proofs.FreeNames.{free_is, free_untaken, every_map}
 

@@ -1,7 +1,7 @@
 -- Statements with trees put in for names take the courses that the statements take where the names stand for these trees.
 use Rattle.std.proofs.Common.{◌≡◌, List, [], ◌∷◌, cond, Option, Some, None, refl, sym, ◌∙◌, ap, Ok}
 use Rattle.tla_token.specs.declared.place.Place.{Place}
-use Rattle.tla_expr.specs.Tree.{Word, apply, select, Form, name, strict, Tree, node, Trees, no_trees, tree, Every, EveryOf, Graft, grafted_name, grafted_node, graft, grafts, root_place}
+use Rattle.tla_tree.specs.Tree.{Word, apply, select, Form, name, strict, Tree, node, Trees, no_trees, tree, Every, EveryOf, Graft, grafted_name, grafted_node, graft, grafts, root_place}
 use Rattle.tla_value.specs.Value.{Value, text, Outcome, ◌>>=◌}
 use Rattle.tla_value.specs.Stops.{Check, truth_at, members_at}
 use Rattle.tla_value.specs.Meaning.{Env, Denotation, part_values}

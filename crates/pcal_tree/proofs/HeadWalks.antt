@@ -1,10 +1,10 @@
 -- The forms of statements that are open at tokens of algorithms: right behind the head of an `if` or `while` the next one has one more open.
 use Rattle.std.proofs.Common.{◌≡◌, ℕ, ◌+◌, ◌≤◌, Bool, true, false, ◌||◌, List, [], ◌∷◌, ◌++◌, length, Option, Some, codes, refl, subst, arith}
 use Rattle.std.specs.Str.{bytes_eq}
-use Rattle.tla_expr.specs.Tree.{Word}
-use Rattle.tla_expr.specs.Lexical.{TokenView, Token}
-use Rattle.tla_expr.specs.Lexical as tk
-use Rattle.tla_expr.specs.FirstStop.{Look, looks}
+use Rattle.tla_tree.specs.Tree.{Word}
+use Rattle.tla_tree.specs.Lexical.{TokenView, Token}
+use Rattle.tla_tree.specs.Lexical as tk
+use Rattle.tla_tree.specs.FirstStop.{Look, looks}
 use Rattle.pcal_tree.proofs.ExpressionTokens.{is_first, begins_phrase}
 use Rattle.pcal_tree.proofs.FieldWords.{introduces, fits, Named}
 

@@ -3,7 +3,7 @@ use Rattle.std.proofs.Common.{◌≡◌, ℕ, suc, List, [], ◌∷◌, ◌++◌
 use Rattle.std.specs.List.{AllByRecursion}
 use Rattle.tla_token.specs.declared.place.Place.{Place}
 use Rattle.tla_token.specs.declared.rule.Rule.TheVariants.{FirstLabel}
-use Rattle.tla_expr.specs.Tree.{Word, Trees}
+use Rattle.tla_tree.specs.Tree.{Word, Trees}
 use Rattle.pcal_tree.specs.Algorithm.{Statement, assign, await, print, assert, skip, branch, either, with, while, goto, macro, call, return, Statements, done, then, mark, Branches, no_branches, or, Macro, Process, Procedure, Main, alone, processes, Algorithm, numbered, first_procedure, first_process, procedure_routine, process_routine, procedure_routines, main_routines}
 use Rattle.pcal_tree.specs.Run.{partner_of}
 use Rattle.pcal_tree.specs.Paths.{Effect, Effects, nothing, after_one}

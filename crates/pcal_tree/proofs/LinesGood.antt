@@ -3,13 +3,13 @@ use Rattle.std.proofs.Common.{◌≡◌, Bool, true, false, not, IsTrue, List, [
 use Rattle.std.specs.Option.{option_map}
 use Rattle.std.proofs.lemmas.List.{append_assoc}
 use Rattle.tla_token.specs.declared.place.Place.{Place}
-use Rattle.tla_expr.specs.Lexical.{Token}
-use Rattle.tla_expr.specs.Spelling.{Phrase}
-use Rattle.tla_expr.specs.Spelling as spelled
-use Rattle.tla_expr.specs.FirstStop.{looks, Begins, Look}
-use Rattle.tla_expr.specs.laws.Columns.{lineless_place, lineless}
-use Rattle.tla_expr.proofs.ColumnsGood.{Same, good, good_all}
-use Rattle.tla_expr.proofs.Columns.{no_looks, bare, looks_of_bare, looked_ahead, begun_looks}
+use Rattle.tla_tree.specs.Lexical.{Token}
+use Rattle.tla_tree.specs.Spelling.{Phrase}
+use Rattle.tla_tree.specs.Spelling as spelled
+use Rattle.tla_tree.specs.FirstStop.{looks, Begins, Look}
+use Rattle.tla_tree.specs.laws.Columns.{lineless_place, lineless}
+use Rattle.tla_tree.proofs.ColumnsGood.{Same, good, good_all}
+use Rattle.tla_tree.proofs.Columns.{no_looks, bare, looks_of_bare, looked_ahead, begun_looks}
 use Rattle.std.specs.List.{AllByRecursion}
 use Rattle.pcal_tree.specs.GrammarParts as part
 use Rattle.pcal_tree.specs.GrammarP as psyntax

@@ -2,14 +2,14 @@
 use Rattle.std.proofs.Common.{◌≡◌, List, [], ◌∷◌, Option, Some, None, codes, map, refl, ◌∙◌, ap}
 use Rattle.std.specs.Option.{option_map}
 use Rattle.tla_token.specs.declared.place.Place.{Place}
-use Rattle.tla_expr.specs.declared.op.Op.TheVariants as op
-use Rattle.tla_expr.specs.Tree.{Word, Name}
-use Rattle.tla_expr.specs.Lexical.{Token, sign_of}
-use Rattle.tla_expr.specs.Lexical as tk
-use Rattle.tla_expr.specs.Spelling.{spell, spell_all}
-use Rattle.tla_expr.specs.FirstStop.{looks}
-use Rattle.tla_expr.specs.laws.Columns.{lineless_place, lineless, lineless_all}
-use Rattle.tla_expr.proofs.ColumnsPut.{Put, one_token, put, put_all}
+use Rattle.tla_tree.specs.declared.op.Op.TheVariants as op
+use Rattle.tla_tree.specs.Tree.{Word, Name}
+use Rattle.tla_tree.specs.Lexical.{Token, sign_of}
+use Rattle.tla_tree.specs.Lexical as tk
+use Rattle.tla_tree.specs.Spelling.{spell, spell_all}
+use Rattle.tla_tree.specs.FirstStop.{looks}
+use Rattle.tla_tree.specs.laws.Columns.{lineless_place, lineless, lineless_all}
+use Rattle.tla_tree.proofs.ColumnsPut.{Put, one_token, put, put_all}
 use Rattle.pcal_tree.specs.GrammarParts as part
 use Rattle.pcal_tree.specs.GrammarP as psyntax
 use Rattle.pcal_tree.specs.GrammarC as csyntax

@@ -4,7 +4,7 @@ use Rattle.std.specs.Ordering.{is_lt}
 use Rattle.std.specs.List.{AllByRecursion}
 use Rattle.tla_token.specs.declared.place.Place.{Place}
 use Rattle.tla_token.specs.Signs.{is_among}
-use Rattle.tla_expr.specs.Tree.{Word}
+use Rattle.tla_tree.specs.Tree.{Word}
 use Rattle.tla_value.specs.declared.fault.FaultKind.TheVariants.{SameIdentifier}
 use Rattle.tla_value.specs.Value.{Value, Values, no_values, and, Outcome, fault, over, set, text, ◌>>=◌}
 use Rattle.tla_value.specs.Order.{order, set_from}

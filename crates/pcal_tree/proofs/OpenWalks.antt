@@ -1,17 +1,17 @@
 -- Walks over the tokens of parts of algorithms with the forms that are open at each: brackets that follow one another, and heads right behind one another.
 use Rattle.std.proofs.Common.{◌≡◌, ℕ, suc, ◌+◌, ◌≤◌, Bool, true, false, List, [], ◌∷◌, ◌++◌, length, map, Option, Some, None, codes, refl, sym, ap, ◌∙◌, subst, arith}
 use Rattle.tla_token.specs.declared.place.Place.{Place}
-use Rattle.tla_expr.specs.Tree.{Word}
-use Rattle.tla_expr.specs.Lexical.{TokenView, Token, token}
-use Rattle.tla_expr.specs.Lexical as tk
-use Rattle.tla_expr.specs.Spelling.{Phrase, Phrases}
-use Rattle.tla_expr.specs.Spelling as spelled
-use Rattle.tla_expr.specs.Nesting.{counts, counts_all}
-use Rattle.tla_expr.specs.FirstStop.{Look, looks, Open}
-use Rattle.tla_expr.proofs.BracketCounts.{is_open, leads, Climbs, pass, off_field, climb_one, climb_all}
-use Rattle.tla_expr.proofs.Columns.{looks_ahead}
-use Rattle.tla_expr.proofs.CountsLaws.{count_one, count_all}
-use Rattle.tla_expr.proofs.SpellAppend.{spell_then, all_more}
+use Rattle.tla_tree.specs.Tree.{Word}
+use Rattle.tla_tree.specs.Lexical.{TokenView, Token, token}
+use Rattle.tla_tree.specs.Lexical as tk
+use Rattle.tla_tree.specs.Spelling.{Phrase, Phrases}
+use Rattle.tla_tree.specs.Spelling as spelled
+use Rattle.tla_tree.specs.Nesting.{counts, counts_all}
+use Rattle.tla_tree.specs.FirstStop.{Look, looks, Open}
+use Rattle.tla_tree.proofs.BracketCounts.{is_open, leads, Climbs, pass, off_field, climb_one, climb_all}
+use Rattle.tla_tree.proofs.Columns.{looks_ahead}
+use Rattle.tla_tree.proofs.CountsLaws.{count_one, count_all}
+use Rattle.tla_tree.proofs.SpellAppend.{spell_then, all_more}
 use Rattle.pcal_tree.specs.GrammarParts as part
 use Rattle.pcal_tree.specs.OpenForms.{here, within, expression_opens}
 use Rattle.pcal_tree.proofs.CountsAhead.{ahead, ahead_all}

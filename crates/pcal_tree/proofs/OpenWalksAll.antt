@@ -1,10 +1,10 @@
 -- The forms that are open at the tokens of statements, and so of all algorithms in both syntaxes.
 use Rattle.std.proofs.Common.{◌≡◌, ℕ, ◌+◌, List, [], ◌∷◌, ◌++◌, codes, refl, sym, subst, append_assoc}
 use Rattle.std.specs.List.{flat_map}
-use Rattle.tla_expr.specs.Tree.{Word}
-use Rattle.tla_expr.specs.Lexical.{Token}
-use Rattle.tla_expr.specs.Lexical as tk
-use Rattle.tla_expr.specs.FirstStop.{Open}
+use Rattle.tla_tree.specs.Tree.{Word}
+use Rattle.tla_tree.specs.Lexical.{Token}
+use Rattle.tla_tree.specs.Lexical as tk
+use Rattle.tla_tree.specs.FirstStop.{Open}
 use Rattle.pcal_tree.specs.GrammarParts as part
 use Rattle.pcal_tree.specs.GrammarP as psyntax
 use Rattle.pcal_tree.specs.GrammarC as csyntax

@@ -2,14 +2,14 @@
 use Rattle.std.proofs.Common.{◌≡◌, ℕ, ◌+◌, List, [], ◌∷◌, ◌++◌, length, Option, Some, None, map, codes, refl, sym, ap, ◌∙◌, arith, length-append}
 use Rattle.std.specs.List.{flat_map}
 use Rattle.tla_token.specs.declared.place.Place.{Place}
-use Rattle.tla_expr.specs.Tree.{Word}
-use Rattle.tla_expr.specs.Lexical.{Token}
-use Rattle.tla_expr.specs.Lexical as tk
-use Rattle.tla_expr.specs.Spelling.{Phrase, Phrases}
-use Rattle.tla_expr.specs.Spelling as spelled
-use Rattle.tla_expr.specs.Nesting.{counts, counts_all}
-use Rattle.tla_expr.specs.FirstStop.{Open}
-use Rattle.tla_expr.proofs.CountsLaws.{count_one, count_all}
+use Rattle.tla_tree.specs.Tree.{Word}
+use Rattle.tla_tree.specs.Lexical.{Token}
+use Rattle.tla_tree.specs.Lexical as tk
+use Rattle.tla_tree.specs.Spelling.{Phrase, Phrases}
+use Rattle.tla_tree.specs.Spelling as spelled
+use Rattle.tla_tree.specs.Nesting.{counts, counts_all}
+use Rattle.tla_tree.specs.FirstStop.{Open}
+use Rattle.tla_tree.proofs.CountsLaws.{count_one, count_all}
 use Rattle.pcal_tree.specs.GrammarParts as part
 use Rattle.pcal_tree.specs.GrammarP as psyntax
 use Rattle.pcal_tree.specs.GrammarC as csyntax

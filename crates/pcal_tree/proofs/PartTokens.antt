@@ -1,8 +1,8 @@
 -- What the parts that both syntaxes spell alike keep of the tokens after them, as expressions do.
 use Rattle.std.proofs.Common.{◌≡◌, true, List, Option, Some, None, refl}
 use Rattle.tla_token.specs.declared.place.Place.{Place}
-use Rattle.tla_expr.specs.Lexical.{Token}
-use Rattle.tla_expr.specs.Lexical as tk
+use Rattle.tla_tree.specs.Lexical.{Token}
+use Rattle.tla_tree.specs.Lexical as tk
 use Rattle.pcal_tree.specs.GrammarParts as part
 use Rattle.pcal_tree.specs.Grammar as g
 use Rattle.pcal_tree.proofs.ExpressionTokens.{begins_phrase, Kept, Keeps, held, put, both, operand, phrase_begins, keep, keep_all}

@@ -3,7 +3,7 @@ use Rattle.std.proofs.Common.{◌≡◌, List, [], ◌∷◌, ◌++◌, Bool, tr
 use Rattle.std.specs.List.{list_any, flat_map}
 use Rattle.std.proofs.lemmas.List.Folds.{list_any-append}
 use Rattle.tla_token.specs.declared.rule.Rule.TheVariants.{Rebind}
-use Rattle.tla_expr.specs.Tree.{Word, Name, Form, number, string, truth, booleans, strings, name, next, strict, operator_call, conjunction, disjunction, implication, member, if_then_else, cases, binding, local, Tree, node, Trees, no_trees, tree, words, seen_names}
+use Rattle.tla_tree.specs.Tree.{Word, Name, Form, number, string, truth, booleans, strings, name, next, strict, operator_call, conjunction, disjunction, implication, member, if_then_else, cases, binding, local, Tree, node, Trees, no_trees, tree, words, seen_names}
 use Rattle.pcal_tree.specs.Algorithm.{Assignments, no_assignments, assignment, Binds, no_binds, one_of, is, Statement, assign, await, print, assert, skip, branch, either, with, while, goto, macro, call, return, Statements, done, then, mark, Branches, no_branches, or, Start, unset, equals, among, Declaration, Procedure}
 use Rattle.pcal_tree.specs.BoundNames.{all_of, lists_of, names_of_binds}
 use Rattle.pcal_tree.specs.Offences.{offence_if}

@@ -8,7 +8,7 @@ use Rattle.tla_token.specs.declared.place.Place.{Place}
 use Rattle.tla_token.specs.declared.rule.Rule.TheVariants.{Rebind, Reserved, DefinedStale}
 use Rattle.tla_token.specs.declared.rule.Refusal.{Refusal}
 use Rattle.tla_token.specs.Rules.{rule_number}
-use Rattle.tla_expr.specs.Tree.{Word}
+use Rattle.tla_tree.specs.Tree.{Word}
 use Rattle.tla_value.specs.Outside.{Outside}
 use Rattle.pcal_tree.specs.Algorithm.{Name, Statements, Main, alone, processes, Algorithm}
 use Rattle.pcal_tree.specs.Offences.{offence_if, first}

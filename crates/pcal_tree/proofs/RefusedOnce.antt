@@ -3,8 +3,8 @@ use Rattle.std.proofs.Common.{◌≡◌, ℕ, List, map, get_or, sym, ap, ◌∙
 use Rattle.tla_token.specs.declared.place.Place.{Place}
 use Rattle.tla_token.specs.declared.rule.Refusal.{Refusal}
 use Rattle.tla_token.specs.Tokens as text
-use Rattle.tla_expr.specs.FirstStop.{to_end}
-use Rattle.tla_expr.proofs.StopLaws.{stops_once, stops_by_one_rule, passes_or_stops}
+use Rattle.tla_tree.specs.FirstStop.{to_end}
+use Rattle.tla_tree.proofs.StopLaws.{stops_once, stops_by_one_rule, passes_or_stops}
 use Rattle.pcal_tree.specs.AlgorithmTokens.{views}
 use Rattle.pcal_tree.specs.Grammar.{Syntax}
 use Rattle.pcal_tree.specs.OffencesSyntax.{algorithms, PassesTokens, RefusesTokens}

@@ -1,7 +1,7 @@
 -- Where a script's step leads, the step by its choices is replied to with the state that it leads to: no two processes share an identifier.
 use Rattle.std.proofs.Common.{◌≡◌, ◌⊎◌, ℕ, List, [], ◌∷◌, ◌++◌, Bool, true, false, cond, Option, Some, None, Ok, Err, refl, sym, ap, subst, ◌∙◌, inl, inr, true≢false}
 use Rattle.std.specs.Ordering.{is_lt}
-use Rattle.tla_expr.specs.Tree.{Word}
+use Rattle.tla_tree.specs.Tree.{Word}
 use Rattle.tla_value.specs.Value.{Value, fault, Outcome, set, ◌>>=◌}
 use Rattle.tla_value.specs.Order.{same, order, set_from}
 use Rattle.tla_value.specs.OrderLaws.{same_self}

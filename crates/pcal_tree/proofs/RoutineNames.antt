@@ -3,7 +3,7 @@ use Rattle.std.proofs.Common.{◌≡◌, ℕ, List, [], ◌∷◌, ◌++◌, Boo
 use Rattle.std.specs.List.{flat_map, AllByRecursion}
 use Rattle.std.proofs.lemmas.Slice.Eq.{bytes_eq-Decides}
 use Rattle.std.proofs.lemmas.Bool.{and_parts, and_from, eqb-true, eq-eqb}
-use Rattle.tla_expr.specs.Tree.{Word}
+use Rattle.tla_tree.specs.Tree.{Word}
 use Rattle.pcal_tree.specs.Algorithm.{Statement, branch, either, with, while, Statements, done, then, mark, Branches, no_branches, or, Main, alone, processes, Algorithm, Routine, locals, procedure_routines, main_routines, routines}
 use Rattle.pcal_tree.specs.OffencesLabels.{labels, labels_of_one, labels_of_some, label_words}
 use Rattle.pcal_tree.specs.Names.{Role, label, variable, title, Want, wants, wanted_within, wanted_by, wanted_by_main, wanted, Given, give, first_free, same_role, is_for, written_for}

@@ -1,8 +1,8 @@
 -- What comes of one step, and of a start, tried by computation.
 use Rattle.std.proofs.Common.{◌≡◌, ℕ, List, [], ◌∷◌, true, false, codes, Some, None, refl}
 use Rattle.tla_token.specs.declared.place.Place.{Place}
-use Rattle.tla_expr.specs.declared.op.Op.TheVariants.{Less, Divide}
-use Rattle.tla_expr.specs.Tree.{Tree, Trees, set_of, strict, node, no_trees, tree}
+use Rattle.tla_tree.specs.declared.op.Op.TheVariants.{Less, Divide}
+use Rattle.tla_tree.specs.Tree.{Tree, Trees, set_of, strict, node, no_trees, tree}
 use Rattle.tla_value.specs.declared.fault.FaultKind.TheVariants.{BadDivisor, NotFunction, NotInDomain}
 use Rattle.tla_value.specs.Value.{text, fault}
 use Rattle.tla_value.specs.Order.{seq_from}

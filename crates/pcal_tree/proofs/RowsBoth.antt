@@ -4,9 +4,9 @@ use Rattle.tla_token.specs.declared.place.Place.{Place}
 use Rattle.tla_token.specs.declared.sign.Sign.TheVariants as sign
 use Rattle.tla_token.specs.Lexemes.{Kind, name, one}
 use Rattle.tla_token.specs.Tokens.{Token}
-use Rattle.tla_expr.specs.Tree.{Word}
-use Rattle.tla_expr.specs.Spelling.{Phrase, Field}
-use Rattle.tla_expr.specs.Spelling as spelled
+use Rattle.tla_tree.specs.Tree.{Word}
+use Rattle.tla_tree.specs.Spelling.{Phrase, Field}
+use Rattle.tla_tree.specs.Spelling as spelled
 use Rattle.pcal_tree.specs.Algorithm.{Name}
 use Rattle.pcal_tree.specs.Placeless.{placeless}
 use Rattle.pcal_tree.specs.GrammarParts as part

@@ -4,11 +4,11 @@ use Rattle.std.proofs.Common.{◌≡◌, refl}
 use Rattle.tla_token.specs.declared.place.Place.{Place}
 use Rattle.tla_token.specs.declared.rule.Rule.TheVariants.{TooMany}
 use Rattle.tla_token.specs.Limits.{most_variables}
-use Rattle.tla_expr.specs.declared.op.Op.TheVariants as op
-use Rattle.tla_expr.specs.Tree.{Word, Tree, node, strict, operator, name, no_trees, tree}
-use Rattle.tla_expr.specs.Spelling.{Phrase}
-use Rattle.tla_expr.specs.Spelling as spelled
-use Rattle.tla_expr.specs.FirstStop.{Open, is_within}
+use Rattle.tla_tree.specs.declared.op.Op.TheVariants as op
+use Rattle.tla_tree.specs.Tree.{Word, Tree, node, strict, operator, name, no_trees, tree}
+use Rattle.tla_tree.specs.Spelling.{Phrase}
+use Rattle.tla_tree.specs.Spelling as spelled
+use Rattle.tla_tree.specs.FirstStop.{Open, is_within}
 use Rattle.pcal_tree.specs.Algorithm.{nowhere, Name, Declaration, unset, Definition, Macro, Statements, macro, skip, done, then, alone, Algorithm}
 use Rattle.pcal_tree.specs.GrammarParts as part
 use Rattle.pcal_tree.specs.GrammarP as p

@@ -3,7 +3,7 @@ use Rattle.std.proofs.Common.{◌≡◌, ℕ, List, [], ◌∷◌, true, false, 
 use Rattle.tla_token.specs.declared.rule.Rule.{Rule}
 use Rattle.tla_token.specs.declared.rule.Rule.TheVariants.{Unknown, Duplicate, Reserved, Arity, OpaqueUnit}
 use Rattle.tla_token.specs.declared.rule.Refusal.{Refusal}
-use Rattle.tla_expr.specs.Tree.{Word, Tree, node, operator_call, no_trees, tree}
+use Rattle.tla_tree.specs.Tree.{Word, Tree, node, operator_call, no_trees, tree}
 use Rattle.tla_value.specs.Outside.{Outside}
 use Rattle.pcal_tree.specs.declared.mark.Fairness.TheVariants.{Unfair}
 use Rattle.pcal_tree.specs.Algorithm.{no_binds, is, Statement, await, with, call, macro, skip, done, unset, Macro, Procedure, alone, processes, Algorithm}

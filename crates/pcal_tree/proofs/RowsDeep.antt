@@ -7,11 +7,11 @@ use Rattle.tla_token.specs.declared.rule.Rule.TheVariants.{TooDeep}
 use Rattle.tla_token.specs.declared.sign.Sign.TheVariants as sign
 use Rattle.tla_token.specs.Lexemes.{name, number, one}
 use Rattle.tla_token.specs.Tokens.{Token}
-use Rattle.tla_expr.specs.declared.op.Op.TheVariants as op
-use Rattle.tla_expr.specs.Lexical as tk
-use Rattle.tla_expr.specs.Spelling.{Phrase, Good}
-use Rattle.tla_expr.specs.Spelling as spelled
-use Rattle.tla_expr.specs.FirstStop.{Look, look, looks, to_end, Begins, Passes}
+use Rattle.tla_tree.specs.declared.op.Op.TheVariants as op
+use Rattle.tla_tree.specs.Lexical as tk
+use Rattle.tla_tree.specs.Spelling.{Phrase, Good}
+use Rattle.tla_tree.specs.Spelling as spelled
+use Rattle.tla_tree.specs.FirstStop.{Look, look, looks, to_end, Begins, Passes}
 use Rattle.pcal_tree.specs.AlgorithmTokens.{view, views}
 use Rattle.pcal_tree.specs.GrammarParts as part
 use Rattle.pcal_tree.specs.GrammarP as psyntax

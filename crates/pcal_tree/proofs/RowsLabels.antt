@@ -2,8 +2,8 @@
 use Rattle.std.proofs.Common.{◌≡◌, ℕ, List, [], ◌∷◌, true, false, codes, Some, refl, map}
 use Rattle.std.specs.Fmt.{digits}
 use Rattle.tla_token.specs.declared.rule.Rule.TheVariants.{AssignTwice, FirstLabel, UnknownLabel, ReturnOutside, DoubleLabel, LabelInside, WhileLabel, AfterJump, AfterBranch}
-use Rattle.tla_expr.specs.declared.op.Op.TheVariants.{Plus, Less, Equal}
-use Rattle.tla_expr.specs.Tree.{Word, Trees, no_trees, tree}
+use Rattle.tla_tree.specs.declared.op.Op.TheVariants.{Plus, Less, Equal}
+use Rattle.tla_tree.specs.Tree.{Word, Trees, no_trees, tree}
 use Rattle.pcal_tree.specs.declared.mark.Fairness.TheVariants.{Unfair}
 use Rattle.pcal_tree.specs.declared.mark.Mark.TheVariants.{Plain}
 use Rattle.pcal_tree.specs.Algorithm.{no_assignments, assignment, no_binds, is, Statement, assign, skip, branch, with, while, goto, macro, return, Statements, done, then, mark, Macro, Procedure, Process, processes, Algorithm}

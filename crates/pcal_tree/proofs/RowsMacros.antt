@@ -1,8 +1,8 @@
 -- Macro calls that can be written out, and one that can't, tried by computation.
 use Rattle.std.proofs.Common.{◌≡◌, [], ◌∷◌, Bool, true, false, cond, bytes_eq, codes, Some, None, refl, inl}
-use Rattle.tla_expr.specs.declared.op.Op.TheVariants.{Equal}
-use Rattle.tla_expr.specs.declared.op.Binder.TheVariants.{Exists}
-use Rattle.tla_expr.specs.Tree.{Word, set_of, conjunction, binding, strict, Tree, node, no_trees, tree}
+use Rattle.tla_tree.specs.declared.op.Op.TheVariants.{Equal}
+use Rattle.tla_tree.specs.declared.op.Binder.TheVariants.{Exists}
+use Rattle.tla_tree.specs.Tree.{Word, set_of, conjunction, binding, strict, Tree, node, no_trees, tree}
 use Rattle.tla_value.specs.laws.Grafting.{Apart, NotFreeIn}
 use Rattle.pcal_tree.specs.Algorithm.{Statement, await, macro, Statements, done, Macro, alone_routine}
 use Rattle.pcal_tree.specs.Run.{arguments}

@@ -2,8 +2,8 @@
 use Rattle.std.proofs.Common.{◌≡◌, ℕ, List, [], ◌∷◌, false, true, codes, Some, refl}
 use Rattle.tla_token.specs.declared.rule.Rule.TheVariants.{Unknown, Arity, NotVariable, Duplicate, Reserved, OpaqueUnit}
 use Rattle.tla_token.specs.declared.rule.Refusal.{Refusal}
-use Rattle.tla_expr.specs.declared.op.Binder.TheVariants.{ForAll}
-use Rattle.tla_expr.specs.Tree.{Word, Tree, node, name, operator_call, binding, local, no_trees, tree}
+use Rattle.tla_tree.specs.declared.op.Binder.TheVariants.{ForAll}
+use Rattle.tla_tree.specs.Tree.{Word, Tree, node, name, operator_call, binding, local, no_trees, tree}
 use Rattle.pcal_tree.specs.Algorithm.{no_binds, is, Name, Statement, await, with, macro, call, skip, Statements, done, then, Macro, processes, Algorithm}
 use Rattle.pcal_tree.specs.Offences.{first}
 use Rattle.tla_value.specs.Outside.{Outside, ReadDefinition}

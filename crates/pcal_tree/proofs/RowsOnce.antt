@@ -2,7 +2,7 @@
 use Rattle.std.proofs.Common.{◌≡◌, List, [], ◌∷◌, Option, Some, codes, refl}
 use Rattle.tla_token.specs.declared.rule.Rule.TheVariants.{Rebind, Reserved, DefinedStale}
 use Rattle.tla_token.specs.declared.rule.Refusal.{Refusal}
-use Rattle.tla_expr.specs.Tree.{no_trees}
+use Rattle.tla_tree.specs.Tree.{no_trees}
 use Rattle.pcal_tree.specs.Algorithm.{no_binds, is, await, with, macro, done, Macro, alone, processes, Algorithm}
 use Rattle.pcal_tree.specs.Offences.{first}
 use Rattle.pcal_tree.specs.OffencesOfNames.{name_offences_by, name_offences}

@@ -6,12 +6,12 @@ use Rattle.tla_token.specs.declared.place.Place.{Place}
 use Rattle.tla_token.specs.declared.sign.Sign.TheVariants as sign
 use Rattle.tla_token.specs.Lexemes.{Kind, name, one}
 use Rattle.tla_token.specs.Tokens.{Token}
-use Rattle.tla_expr.specs.declared.op.Op.{Op}
-use Rattle.tla_expr.specs.declared.op.Op.TheVariants as op
-use Rattle.tla_expr.specs.Tree.{Word, Tree, node, strict, operator, no_trees, tree}
-use Rattle.tla_expr.specs.Tree as expr
-use Rattle.tla_expr.specs.Spelling.{Phrase, Phrases}
-use Rattle.tla_expr.specs.Spelling as spelled
+use Rattle.tla_tree.specs.declared.op.Op.{Op}
+use Rattle.tla_tree.specs.declared.op.Op.TheVariants as op
+use Rattle.tla_tree.specs.Tree.{Word, Tree, node, strict, operator, no_trees, tree}
+use Rattle.tla_tree.specs.Tree as expr
+use Rattle.tla_tree.specs.Spelling.{Phrase, Phrases}
+use Rattle.tla_tree.specs.Spelling as spelled
 use Rattle.pcal_tree.specs.declared.mark.Mark.TheVariants as marked
 use Rattle.pcal_tree.specs.declared.mark.Fairness.TheVariants as fairness
 use Rattle.pcal_tree.specs.Algorithm.{Name, Algorithm, Statements, Declaration}

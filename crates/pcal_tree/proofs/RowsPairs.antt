@@ -2,8 +2,8 @@
 use Rattle.std.proofs.Common.{◌≡◌, ℕ, zero, suc, List, [], ◌∷◌, true, false, codes, Option, Some, None, map, refl, Ok, Err}
 use Rattle.std.specs.Fmt.{digits}
 use Rattle.tla_token.specs.declared.rule.Rule.TheVariants.{AfterJump, AssignTwice}
-use Rattle.tla_expr.specs.declared.op.Op.TheVariants.{Plus, Minus, Greater}
-use Rattle.tla_expr.specs.Tree.{Word, Tree, Trees, no_trees, tree}
+use Rattle.tla_tree.specs.declared.op.Op.TheVariants.{Plus, Minus, Greater}
+use Rattle.tla_tree.specs.Tree.{Word, Tree, Trees, no_trees, tree}
 use Rattle.tla_value.specs.declared.fault.FaultKind.TheVariants.{EmptySequence}
 use Rattle.tla_value.specs.Value.{Value, text, truth, Trouble, Outcome, fault}
 use Rattle.tla_value.specs.Stops.{plain}

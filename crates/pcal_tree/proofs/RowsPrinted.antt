@@ -7,16 +7,16 @@ use Rattle.tla_token.specs.declared.sign.Sign.TheVariants as sign
 use Rattle.tla_token.specs.Lexemes.{Kind, name, number, one}
 use Rattle.tla_token.specs.Lexemes as lexeme
 use Rattle.tla_token.specs.Tokens.{Token}
-use Rattle.tla_expr.specs.Lexical as tk
-use Rattle.tla_expr.specs.declared.op.Op.TheVariants as op
-use Rattle.tla_expr.specs.Tree.{Word, Tree, node, strict, operator, no_trees, tree}
-use Rattle.tla_expr.specs.Tree as expr
-use Rattle.tla_expr.specs.Spelling.{Phrase}
-use Rattle.tla_expr.specs.Spelling as spelled
+use Rattle.tla_tree.specs.Lexical as tk
+use Rattle.tla_tree.specs.declared.op.Op.TheVariants as op
+use Rattle.tla_tree.specs.Tree.{Word, Tree, node, strict, operator, no_trees, tree}
+use Rattle.tla_tree.specs.Tree as expr
+use Rattle.tla_tree.specs.Spelling.{Phrase}
+use Rattle.tla_tree.specs.Spelling as spelled
 use Rattle.pcal_tree.specs.declared.mark.Mark.TheVariants as marked
 use Rattle.pcal_tree.specs.Algorithm.{Name, Algorithm, Statement, assign, assignment, no_assignments, done, then, mark, alone, equals}
 use Rattle.pcal_tree.specs.AlgorithmTokens.{kind_of, views}
-use Rattle.tla_expr.specs.FirstStop.{looks, to_end, Begins, Passes}
+use Rattle.tla_tree.specs.FirstStop.{looks, to_end, Begins, Passes}
 use Rattle.pcal_tree.specs.GrammarParts as part
 use Rattle.pcal_tree.specs.GrammarP as p
 use Rattle.pcal_tree.specs.GrammarC as c

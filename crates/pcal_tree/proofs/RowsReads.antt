@@ -2,8 +2,8 @@
 use Rattle.std.proofs.Common.{◌≡◌, List, [], ◌∷◌, Bool, false, true, codes, refl}
 use Rattle.tla_token.specs.declared.rule.Rule.TheVariants.{ProcessNotConstant, InitSelf, InitLater}
 use Rattle.tla_token.specs.declared.rule.Refusal.{Refusal}
-use Rattle.tla_expr.specs.declared.op.Binder.TheVariants.{ForAll}
-use Rattle.tla_expr.specs.Tree.{Word, Tree, node, strict, set_of, binding, operator_call, no_trees, tree}
+use Rattle.tla_tree.specs.declared.op.Binder.TheVariants.{ForAll}
+use Rattle.tla_tree.specs.Tree.{Word, Tree, node, strict, set_of, binding, operator_call, no_trees, tree}
 use Rattle.pcal_tree.specs.declared.mark.Fairness.TheVariants.{Unfair}
 use Rattle.pcal_tree.specs.Algorithm.{skip, done, Start, unset, equals, among, Declaration, Definition, Procedure, Process, Main, alone, processes, Algorithm}
 use Rattle.pcal_tree.specs.OffencesReads.{process_offences, own_offences, order_offences}

@@ -2,9 +2,9 @@
 use Rattle.std.proofs.Common.{◌≡◌, ℕ, List, [], ◌∷◌, Bool, true, false, codes, refl}
 use Rattle.tla_token.specs.declared.rule.Rule.TheVariants.{Rebind}
 use Rattle.tla_token.specs.declared.rule.Refusal.{Refusal}
-use Rattle.tla_expr.specs.declared.op.Binder.{Binder}
-use Rattle.tla_expr.specs.declared.op.Binder.TheVariants.{ForAll, Exists, Filter}
-use Rattle.tla_expr.specs.Tree.{Word, Tree, node, set_of, strict, binding, local, Trees, no_trees, tree}
+use Rattle.tla_tree.specs.declared.op.Binder.{Binder}
+use Rattle.tla_tree.specs.declared.op.Binder.TheVariants.{ForAll, Exists, Filter}
+use Rattle.tla_tree.specs.Tree.{Word, Tree, node, set_of, strict, binding, local, Trees, no_trees, tree}
 use Rattle.pcal_tree.specs.declared.mark.Fairness.TheVariants.{Unfair}
 use Rattle.pcal_tree.specs.Algorithm.{no_binds, one_of, is, Name, await, with, goto, macro, call, skip, Statements, done, equals, Declaration, Definition, Macro, Procedure, Process, alone, processes, Algorithm}
 use Rattle.pcal_tree.specs.OffencesRebind.{stands_for, bound_by, rebind_offences_of}

@@ -4,12 +4,12 @@ use Rattle.tla_token.specs.declared.rule.Rule.TheVariants.{Syntax}
 use Rattle.tla_token.specs.declared.sign.Sign.TheVariants as sign
 use Rattle.tla_token.specs.Lexemes.{name, number, one}
 use Rattle.tla_token.specs.Tokens.{Token}
-use Rattle.tla_expr.specs.declared.op.Op.TheVariants as op
-use Rattle.tla_expr.specs.Spelling.{Phrase}
-use Rattle.tla_expr.specs.Spelling as spelled
-use Rattle.tla_expr.specs.Reader.{readers}
-use Rattle.tla_expr.specs.FirstStop.{to_end, Begins, Passes}
-use Rattle.tla_expr.proofs.StopLaws.{passes_begins}
+use Rattle.tla_tree.specs.declared.op.Op.TheVariants as op
+use Rattle.tla_tree.specs.Spelling.{Phrase}
+use Rattle.tla_tree.specs.Spelling as spelled
+use Rattle.tla_tree.specs.Reader.{readers}
+use Rattle.tla_tree.specs.FirstStop.{to_end, Begins, Passes}
+use Rattle.tla_tree.proofs.StopLaws.{passes_begins}
 use Rattle.pcal_tree.specs.AlgorithmTokens.{views}
 use Rattle.pcal_tree.specs.GrammarParts as part
 use Rattle.pcal_tree.specs.GrammarP as psyntax

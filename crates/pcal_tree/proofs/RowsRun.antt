@@ -1,7 +1,7 @@
 -- Runs of a uniprocess algorithm, tried by computation.
 use Rattle.std.proofs.Common.{◌≡◌, ℕ, List, [], ◌∷◌, codes, Some, None, refl, ◌⊎◌, Ok, Err}
-use Rattle.tla_expr.specs.declared.op.Op.TheVariants.{Less, Plus}
-use Rattle.tla_expr.specs.Tree.{Word, set_of, strict, node, no_trees, tree, Tree, truth as literal}
+use Rattle.tla_tree.specs.declared.op.Op.TheVariants.{Less, Plus}
+use Rattle.tla_tree.specs.Tree.{Word, set_of, strict, node, no_trees, tree, Tree, truth as literal}
 use Rattle.tla_value.specs.declared.fault.FaultKind.TheVariants.{NotBoolean, NotInDomain, AssertFailed}
 use Rattle.tla_value.specs.Value.{text, Outcome, fault}
 use Rattle.tla_value.specs.Order.{seq_from}
@@ -78,7 +78,7 @@ held_back r = refl
 empty_choice : (r : Outcome State) → outcome (one (with (one_of (title (codes "z")) (node (strict set_of) (at 1) no_trees) no_binds) (one (sets (var x) (num 1))))) start r ≡ ⊥
 empty_choice r = refl
 
-not_boolean : (r : Outcome State) → outcome (one (await (node (Rattle.tla_expr.specs.Tree.name x) (at 5) no_trees))) start r ≡ (r ≡ Err (fault NotBoolean (at 5)))
+not_boolean : (r : Outcome State) → outcome (one (await (node (Rattle.tla_tree.specs.Tree.name x) (at 5) no_trees))) start r ≡ (r ≡ Err (fault NotBoolean (at 5)))
 not_boolean r = refl
 
 failed : (r : Outcome State) → outcome (one (assert (over Less (var x) (num 0)))) start r ≡ (r ≡ Err (fault AssertFailed (at 1)))
@@ -147,7 +147,7 @@ read_anew r = refl
 abbrev waits : Macro
 waits = record { name = title (codes "N"); params = title (codes "p") ∷ []; body = one (await (var (codes "p"))) }
 
-at_argument : (r : Outcome State) → Has (course_from (waits ∷ []) (one (macro (codes "N") (tree (node (Rattle.tla_expr.specs.Tree.name x) (at 8) no_trees) no_trees))) start) r ≡ (r ≡ Err (fault NotBoolean (at 8)))
+at_argument : (r : Outcome State) → Has (course_from (waits ∷ []) (one (macro (codes "N") (tree (node (Rattle.tla_tree.specs.Tree.name x) (at 8) no_trees) no_trees))) start) r ≡ (r ≡ Err (fault NotBoolean (at 8)))
 at_argument r = refl
 
 -- the expansion of M(x[y]) takes the same course

@@ -2,8 +2,8 @@
 use Rattle.std.proofs.Common.{◌≡◌, ℕ, List, [], ◌∷◌, ◌++◌, codes, refl}
 use Rattle.tla_token.specs.declared.rule.Rule.TheVariants.{SelfOutside, ProcessNotConstant}
 use Rattle.tla_token.specs.declared.rule.Refusal.{Refusal}
-use Rattle.tla_expr.specs.declared.op.Op.TheVariants.{Plus}
-use Rattle.tla_expr.specs.Tree.{Tree, no_trees}
+use Rattle.tla_tree.specs.declared.op.Op.TheVariants.{Plus}
+use Rattle.tla_tree.specs.Tree.{Tree, no_trees}
 use Rattle.pcal_tree.specs.Algorithm.{await, skip, macro, Statements, done, Macro, alone, processes, Algorithm}
 use Rattle.pcal_tree.specs.OffencesOfNames.{name_offences}
 use Rattle.pcal_tree.specs.OffencesSelf.{self_offences}

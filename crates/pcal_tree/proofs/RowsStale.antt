@@ -2,8 +2,8 @@
 use Rattle.std.proofs.Common.{◌≡◌, ℕ, zero, suc, List, [], ◌∷◌, ◌++◌, false, true, codes, refl}
 use Rattle.tla_token.specs.declared.rule.Rule.TheVariants.{DefinedStale}
 use Rattle.tla_token.specs.declared.rule.Refusal.{Refusal}
-use Rattle.tla_expr.specs.declared.op.Op.TheVariants.{Plus}
-use Rattle.tla_expr.specs.Tree.{Word, Tree, no_trees, tree}
+use Rattle.tla_tree.specs.declared.op.Op.TheVariants.{Plus}
+use Rattle.tla_tree.specs.Tree.{Word, Tree, no_trees, tree}
 use Rattle.pcal_tree.specs.declared.mark.Fairness.TheVariants.{Unfair}
 use Rattle.pcal_tree.specs.Algorithm.{no_assignments, assignment, no_binds, is, assign, await, skip, branch, either, with, while, goto, macro, call, Statements, done, no_branches, or, equals, Macro, Procedure, Process, Main, alone, processes, Algorithm}
 use Rattle.pcal_tree.specs.Labelled as labels

@@ -1,7 +1,7 @@
 -- Processes, calls and initial states, tried by computation.
 use Rattle.std.proofs.Common.{◌≡◌, ℕ, zero, suc, List, [], ◌∷◌, true, false, bytes_eq, cond, codes, Option, Some, None, refl, inl, inr, subst, sym, ap, Ok, Err}
-use Rattle.tla_expr.specs.declared.op.Op.TheVariants.{Plus}
-use Rattle.tla_expr.specs.Tree.{set_of, name, strict, node, no_trees, tree, Tree}
+use Rattle.tla_tree.specs.declared.op.Op.TheVariants.{Plus}
+use Rattle.tla_tree.specs.Tree.{set_of, name, strict, node, no_trees, tree, Tree}
 use Rattle.tla_value.specs.declared.fault.FaultKind.TheVariants.{SameIdentifier, NotInDomain, EmptySequence}
 use Rattle.tla_value.specs.Value.{Value, text, model, set, fun, no_values, and, Outcome, fault, over}
 use Rattle.tla_value.specs.Order.{seq_from, record_from}

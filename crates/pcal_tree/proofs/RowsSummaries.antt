@@ -1,6 +1,6 @@
 -- What is computed once for each macro, tried by computation.
 use Rattle.std.proofs.Common.{◌≡◌, ℕ, zero, suc, List, [], ◌∷◌, true, false, codes, refl}
-use Rattle.tla_expr.specs.Tree.{no_trees, tree}
+use Rattle.tla_tree.specs.Tree.{no_trees, tree}
 use Rattle.pcal_tree.specs.Algorithm.{Statement, macro, done, Macro}
 use Rattle.pcal_tree.specs.laws.MacroSummaries.{parameter, variable, in_turn, summaries, summary_effect}
 use Rattle.pcal_tree.proofs.Sample.{title, x, y, num, var, item, and_next, sets}

@@ -1,8 +1,8 @@
 -- The uses of names that are found once for each macro, tried by computation.
 use Rattle.std.proofs.Common.{◌≡◌, ℕ, zero, suc, List, [], ◌∷◌, false, codes, refl}
 use Rattle.tla_token.specs.declared.rule.Rule.TheVariants.{Unknown, Arity, NotVariable}
-use Rattle.tla_expr.specs.declared.op.Binder.TheVariants.{ForAll}
-use Rattle.tla_expr.specs.Tree.{Tree, node, operator_call, binding, no_trees, tree}
+use Rattle.tla_tree.specs.declared.op.Binder.TheVariants.{ForAll}
+use Rattle.tla_tree.specs.Tree.{Tree, node, operator_call, binding, no_trees, tree}
 use Rattle.pcal_tree.specs.Algorithm.{no_binds, is, Statement, await, with, macro, Statements, done, Macro}
 use Rattle.pcal_tree.specs.NameUses.{variable, knowing}
 use Rattle.pcal_tree.specs.laws.MacroUses.{applied, assigned, handed, Uses, MacroUses, macro_uses, offences_by_uses}

@@ -3,10 +3,10 @@ use Rattle.std.proofs.Common.{◌≡◌, ℕ, List, [], ◌∷◌, Bool, true, f
 use Rattle.tla_token.specs.declared.rule.Rule.{Rule}
 use Rattle.tla_token.specs.declared.rule.Rule.TheVariants.{NotVariable, NeedsModule, OutsideVariable, OpaqueUnit, Infinite}
 use Rattle.tla_token.specs.declared.rule.Refusal.{Refusal}
-use Rattle.tla_expr.specs.declared.op.Op.{Op}
-use Rattle.tla_expr.specs.declared.op.Op.TheVariants.{Plus, Negate, Concat, MapsTo, Equal, Cup}
-use Rattle.tla_expr.specs.declared.op.Binder.TheVariants.{ForAll}
-use Rattle.tla_expr.specs.Tree.{Word, Tree, node, strings, strict, set_of, operator, operator_call, member, binding, no_trees, tree}
+use Rattle.tla_tree.specs.declared.op.Op.{Op}
+use Rattle.tla_tree.specs.declared.op.Op.TheVariants.{Plus, Negate, Concat, MapsTo, Equal, Cup}
+use Rattle.tla_tree.specs.declared.op.Binder.TheVariants.{ForAll}
+use Rattle.tla_tree.specs.Tree.{Word, Tree, node, strings, strict, set_of, operator, operator_call, member, binding, no_trees, tree}
 use Rattle.tla_value.specs.Outside.{Outside, Opaque}
 use Rattle.pcal_tree.specs.Algorithm.{no_binds, one_of, is, await, print, assert, with, macro, skip, Statements, done, among, Macro, alone, Algorithm}
 use Rattle.pcal_tree.specs.OffencesNames.{use_offences_of}

@@ -3,7 +3,7 @@ use Rattle.std.proofs.Common.{◌≡◌, ℕ, suc, List, [], ◌∷◌, ◌++◌
 use Rattle.std.specs.List.{flat_map}
 use Rattle.std.proofs.lemmas.Bool.{or_from}
 use Rattle.tla_token.specs.declared.place.Place.{Place}
-use Rattle.tla_expr.specs.Tree.{Word, Tree, Trees}
+use Rattle.tla_tree.specs.Tree.{Word, Tree, Trees}
 use Rattle.pcal_tree.specs.Paths.{Effect}
 use Rattle.tla_value.specs.Value.{Value, values_in, and_then, ◌>>=◌}
 use Rattle.tla_value.specs.Order.{same}

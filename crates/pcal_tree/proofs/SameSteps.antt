@@ -2,7 +2,7 @@
 use Rattle.std.proofs.Common.{◌≡◌, ℕ, zero, suc, List, [], ◌∷◌, Option, Some, None, refl, sym, ◌∙◌, ap, subst, inl, inr, Ok, Err}
 use Rattle.std.specs.Option.{option_or}
 use Rattle.tla_token.specs.declared.place.Place.{Place}
-use Rattle.tla_expr.specs.Tree.{Word}
+use Rattle.tla_tree.specs.Tree.{Word}
 use Rattle.tla_value.specs.Value.{Value, Trouble, Outcome}
 use Rattle.tla_value.proofs.Outcomes.{ok_is}
 use Rattle.pcal_tree.specs.Scope.{State}

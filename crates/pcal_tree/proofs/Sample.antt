@@ -1,8 +1,8 @@
 -- Small algorithms on which the definitions are tried.
 use Rattle.std.specs.Prelude.{ℕ, pos, List, [], ◌∷◌, false, codes, None}
 use Rattle.tla_token.specs.declared.place.Place.{Place}
-use Rattle.tla_expr.specs.declared.op.Op.{Op}
-use Rattle.tla_expr.specs.Tree.{Word, operator, apply, number, name, strict, Tree, node, no_trees, tree}
+use Rattle.tla_tree.specs.declared.op.Op.{Op}
+use Rattle.tla_tree.specs.Tree.{Word, operator, apply, number, name, strict, Tree, node, no_trees, tree}
 use Rattle.tla_value.specs.Value.{Value, truth, int, text}
 use Rattle.tla_value.specs.Stops.{plain}
 use Rattle.pcal_tree.specs.declared.mark.Mark.TheVariants.{Plain}

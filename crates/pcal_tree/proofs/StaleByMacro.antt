@@ -7,7 +7,7 @@ use Rattle.std.proofs.lemmas.Bool.{or_parts}
 use Rattle.tla_token.specs.declared.rule.Rule.TheVariants.{DefinedStale}
 use Rattle.tla_token.specs.declared.rule.Refusal.{Refusal}
 use Rattle.tla_token.specs.Signs.{is_among}
-use Rattle.tla_expr.specs.Tree.{Word}
+use Rattle.tla_tree.specs.Tree.{Word}
 use Rattle.pcal_tree.specs.Algorithm.{Name, Statements, Procedure, Main, alone, processes, Algorithm}
 use Rattle.pcal_tree.specs.BoundNames.{lists_in_body}
 use Rattle.pcal_tree.specs.Expand.{written_out, expanded}

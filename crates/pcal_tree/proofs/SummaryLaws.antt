@@ -9,7 +9,7 @@ use Rattle.std.proofs.Math.Bool.{or-false}
 use Rattle.tla_token.specs.declared.place.Place.{Place}
 use Rattle.tla_token.specs.Signs.{is_among}
 use Rattle.tla_token.proofs.Spelled.{same_bytes}
-use Rattle.tla_expr.specs.Tree.{Word, Tree, Trees, Graft, grafts}
+use Rattle.tla_tree.specs.Tree.{Word, Tree, Trees, Graft, grafts}
 use Rattle.pcal_tree.specs.Algorithm.{Name, Statement, assign, await, print, assert, skip, branch, either, with, while, goto, macro, call, return, Statements, done, then, mark, Branches, no_branches, or, Macro}
 use Rattle.pcal_tree.specs.Run.{Partner, no_partner, goto_partner, return_partner, partner_of, arguments}
 use Rattle.pcal_tree.specs.Expand.{graft_one, graft_all, graft_some}

@@ -1,6 +1,6 @@
 -- A state that has proper identifiers is sound exactly if there is no first trouble, where written labels are apart.
 use Rattle.std.proofs.Common.{◌≡◌, List, [], ◌∷◌, ◌++◌, Bool, true, false, cond, bytes_eq, Option, Some, None, refl, sym, ◌∙◌, ap, subst, inl, inr, ◌⊎◌, Ok, Err}
-use Rattle.tla_expr.specs.Tree.{Word}
+use Rattle.tla_tree.specs.Tree.{Word}
 use Rattle.tla_value.specs.Value.{Value, Trouble, Outcome}
 use Rattle.tla_value.specs.Order.{same}
 use Rattle.std.proofs.lemmas.Slice.Eq.{bytes_eq-Decides}

@@ -8,7 +8,7 @@ use Rattle.tla_token.specs.declared.rule.Rule.TheVariants.{Rebind, Reserved}
 use Rattle.tla_token.specs.declared.rule.Refusal.{Refusal}
 use Rattle.tla_token.specs.Signs.{is_among}
 use Rattle.tla_token.specs.Words.{is_own, is_standard}
-use Rattle.tla_expr.specs.Tree.{Word, Name, Tree, node, Trees, no_trees, tree, words, seen_names}
+use Rattle.tla_tree.specs.Tree.{Word, Name, Tree, node, Trees, no_trees, tree, words, seen_names}
 use Rattle.tla_value.specs.Outside.{Outside}
 use Rattle.pcal_tree.specs.Algorithm.{Assignments, no_assignments, assignment, Binds, no_binds, one_of, is, Statement, assign, await, print, assert, skip, branch, either, with, while, goto, macro, call, return, Statements, done, then, mark, Branches, no_branches, or, Declaration, Definition, Macro, Procedure, Process, Main, alone, processes, Algorithm}
 use Rattle.pcal_tree.specs.BoundNames.{Lists, all_of, lists_of, lists_in, lists_in_all, lists_in_assignments, names_of_binds, lists_in_binds, lists_in_one, lists_in_body, lists_in_branches, lists_in_declared, lists_in_procedure, lists_in_process, lists_in_main, bound_lists}

@@ -1,7 +1,7 @@
 -- Where no bound name is put in for or free in a tree that is put in, nothing is captured.
 use Rattle.std.proofs.Common.{◌≡◌, [], ◌∷◌, Option, Some, None, refl, Ok}
 use Rattle.tla_token.specs.declared.place.Place.{Place}
-use Rattle.tla_expr.specs.Tree.{Word, apply, select, Form, name, strict, binders, Tree, node, Trees, no_trees, tree, Graft}
+use Rattle.tla_tree.specs.Tree.{Word, apply, select, Form, name, strict, binders, Tree, node, Trees, no_trees, tree, Graft}
 use Rattle.tla_value.specs.Value.{Value, text, ◌>>=◌}
 use Rattle.tla_value.specs.Stops.{Check}
 use Rattle.tla_value.specs.Meaning.{part_values, evals}

@@ -2,8 +2,8 @@
 use Rattle.std.specs.Prelude.{ℕ, suc, ◌+◌, List, [], ◌∷◌, ◌++◌, Bool, true, false, length, map, codes}
 use Rattle.tla_token.specs.declared.place.Place.{Place}
 use Rattle.tla_token.specs.Signs.{is_among}
-use Rattle.tla_expr.specs.Tree.{Word, Tree, Trees}
-pub use Rattle.tla_expr.specs.Tree.{Name}
+use Rattle.tla_tree.specs.Tree.{Word, Tree, Trees}
+pub use Rattle.tla_tree.specs.Tree.{Name}
 pub use Rattle.tla_token.specs.Places.{nowhere}
 use Rattle.pcal_tree.specs.declared.mark.Mark.{Mark}
 use Rattle.pcal_tree.specs.declared.mark.Fairness.{Fairness}

@@ -2,9 +2,9 @@
 use Rattle.std.specs.Prelude.{List, map}
 use Rattle.tla_token.specs.Lexemes as lexeme
 use Rattle.tla_token.specs.Tokens as text
-use Rattle.tla_expr.specs.Lexical.{TokenView, Token}
-use Rattle.tla_expr.specs.Lexical as tk
-use Rattle.tla_expr.specs.TokenViews as expression
+use Rattle.tla_tree.specs.Lexical.{TokenView, Token}
+use Rattle.tla_tree.specs.Lexical as tk
+use Rattle.tla_tree.specs.TokenViews as expression
 
 -- no variable of an algorithm is primed
 abbrev pub kind_of : lexeme.Kind → TokenView

@@ -6,7 +6,7 @@ use Rattle.tla_value.specs.Stops.{Check}
 use Rattle.tla_value.specs.Strict.{changed_at}
 use Rattle.pcal_tree.specs.Algorithm.{Assignments, no_assignments, assignment}
 use Rattle.pcal_tree.specs.Scope.{State, put, Part, Scope, reach, value_of}
-use Rattle.tla_expr.specs.Tree.{root_place}
+use Rattle.tla_tree.specs.Tree.{root_place}
 
 -- a part of a variable, its new value, and the place at which setting it faults
 pub record Setting : Type 0 where

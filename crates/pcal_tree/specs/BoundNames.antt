@@ -2,7 +2,7 @@
 -- sections 16.1.1 and 16.1.11, bound names and LET).
 use Rattle.std.specs.Prelude.{List, [], ◌∷◌, ◌++◌}
 use Rattle.std.specs.List.{flat_map}
-use Rattle.tla_expr.specs.Tree.{Name, Form, binding, local, Tree, node, Trees, no_trees, tree}
+use Rattle.tla_tree.specs.Tree.{Name, Form, binding, local, Tree, node, Trees, no_trees, tree}
 use Rattle.pcal_tree.specs.Algorithm.{Assignments, no_assignments, assignment, Binds, no_binds, one_of, is, Statement, assign, await, print, assert, skip, branch, either, with, while, goto, macro, call, return, Statements, done, then, mark, Branches, no_branches, or, Start, unset, equals, among, Declaration, Procedure, Process, Main, alone, processes, Algorithm}
 
 abbrev pub Lists : Type 0

@@ -1,7 +1,7 @@
 -- Jumps, calls and returns, and with them the rules of a step ("A PlusCal User's Manual", section 3.4, procedures).
 use Rattle.std.specs.Prelude.{List, [], ◌∷◌, ◌++◌, cond, bytes_eq, codes, Option, Some, None, ◌||◌, reverse, nat_eq, Ok, Err}
 use Rattle.tla_token.specs.declared.place.Place.{Place}
-use Rattle.tla_expr.specs.Tree.{Word, root_place}
+use Rattle.tla_tree.specs.Tree.{Word, root_place}
 use Rattle.tla_value.specs.declared.fault.FaultKind.TheVariants.{NotFunction, EmptySequence}
 use Rattle.tla_value.specs.Value.{Value, text, model, fault, Outcome, ◌>>=◌, in_order}
 use Rattle.tla_value.specs.Order.{seq_from, record_from}

@@ -1,7 +1,7 @@
 -- Statements with trees put in for names, and macro calls written out ("A PlusCal User's Manual", section 3.5, macros).
 use Rattle.std.specs.Prelude.{List, [], ◌∷◌, cond, bytes_eq, Option, Some, None}
 use Rattle.tla_token.specs.declared.place.Place.{Place}
-use Rattle.tla_expr.specs.Tree.{Word, Tree, node, Trees, Graft, graft, grafts}
+use Rattle.tla_tree.specs.Tree.{Word, Tree, node, Trees, Graft, graft, grafts}
 use Rattle.pcal_tree.specs.Algorithm.{Span, Assignments, no_assignments, assignment, Binds, no_binds, one_of, is, Statement, assign, await, print, assert, skip, branch, either, with, while, goto, macro, call, return, Statements, done, then, mark, Branches, no_branches, or, Macro}
 use Rattle.pcal_tree.specs.Run.{arguments}
 use Rattle.pcal_tree.specs.StepStart.{Begin}

@@ -2,7 +2,7 @@
 use Rattle.std.specs.Prelude.{List, [], ◌∷◌, ◌++◌, map}
 use Rattle.std.specs.List.{flat_map}
 use Rattle.tla_token.specs.declared.place.Place.{Place}
-use Rattle.tla_expr.specs.Tree.{Tree, Trees, no_trees, tree}
+use Rattle.tla_tree.specs.Tree.{Tree, Trees, no_trees, tree}
 use Rattle.pcal_tree.specs.Algorithm.{Assignments, no_assignments, assignment, Binds, no_binds, one_of, is, Statement, assign, await, print, assert, branch, either, with, while, macro, call, Statements, done, then, mark, Branches, no_branches, or, Start, unset, equals, among, Declaration, Main, alone, processes, Algorithm, locals, routines}
 
 -- ---- statements

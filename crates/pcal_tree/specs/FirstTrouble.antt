@@ -1,7 +1,7 @@
 -- The trouble that is met first, processes in canonical order, and of each its lists of choices item by item.
 use Rattle.std.specs.Prelude.{◌≡◌, List, [], ◌∷◌, cond, Option, Some, None, Ok, Err}
 use Rattle.std.specs.Option.{option_or}
-use Rattle.tla_expr.specs.Tree.{Word}
+use Rattle.tla_tree.specs.Tree.{Word}
 use Rattle.tla_value.specs.Value.{Value, Trouble, Outcome}
 use Rattle.tla_value.specs.Order.{same}
 use Rattle.pcal_tree.specs.Algorithm.{Routine}

@@ -1,8 +1,8 @@
 -- Statements as the C-syntax spells them ("A PlusCal User's Manual, C-Syntax Version", appendix A).
 use Rattle.std.specs.Prelude.{[], Bool, true, false, not, IsTrue, Option, Some, None, codes}
 use Rattle.tla_token.specs.declared.place.Place.{Place}
-use Rattle.tla_expr.specs.Lexical as tk
-use Rattle.tla_expr.specs.Spelling.{Phrase, IsGood, tree_of}
+use Rattle.tla_tree.specs.Lexical as tk
+use Rattle.tla_tree.specs.Spelling.{Phrase, IsGood, tree_of}
 use Rattle.pcal_tree.specs.Algorithm as tree
 use Rattle.pcal_tree.specs.GrammarParts.{Tokens, key, mark, expression, maybe_semicolon, span, Labels, labels, with_labels, Binds, binds, binds_of, GoodBinds, Simple, simple_tokens, simple_tree, GoodSimple}
 

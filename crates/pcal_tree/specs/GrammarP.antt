@@ -1,7 +1,7 @@
 -- Statements as the P-syntax spells them ("A PlusCal User's Manual, P-Syntax Version", appendix A).
 use Rattle.std.specs.Prelude.{[], Option, codes}
 use Rattle.tla_token.specs.declared.place.Place.{Place}
-use Rattle.tla_expr.specs.Spelling.{Phrase, IsGood, tree_of}
+use Rattle.tla_tree.specs.Spelling.{Phrase, IsGood, tree_of}
 use Rattle.pcal_tree.specs.Algorithm as tree
 use Rattle.pcal_tree.specs.GrammarParts.{Tokens, key, expression, semicolon, maybe_semicolon, span, Labels, labels, with_labels, Binds, binds, binds_of, GoodBinds, Simple, simple_tokens, simple_tree, GoodSimple}
 

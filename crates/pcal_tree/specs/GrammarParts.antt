@@ -1,13 +1,13 @@
 -- The parts that both syntaxes spell alike: declarations, definitions, labels, simple statements ("A PlusCal User's Manual", section 3 and appendix A).
 use Rattle.std.specs.Prelude.{List, [], ◌∷◌, Bool, true, false, IsTrue, Option, Some, None, codes}
 use Rattle.tla_token.specs.declared.place.Place.{Place}
-use Rattle.tla_expr.specs.declared.op.Op.{Op}
-use Rattle.tla_expr.specs.declared.op.Op.TheVariants as op
-use Rattle.tla_expr.specs.Tree.{Word, Trees, no_trees}
-use Rattle.tla_expr.specs.Lexical.{TokenView, Token, Mark, sign_of}
-use Rattle.tla_expr.specs.Lexical as tk
-use Rattle.tla_expr.specs.Spelling.{Phrase, Phrases, IsGood, GoodAll, tree_of, trees_of}
-use Rattle.tla_expr.specs.Spelling as spelled
+use Rattle.tla_tree.specs.declared.op.Op.{Op}
+use Rattle.tla_tree.specs.declared.op.Op.TheVariants as op
+use Rattle.tla_tree.specs.Tree.{Word, Trees, no_trees}
+use Rattle.tla_tree.specs.Lexical.{TokenView, Token, Mark, sign_of}
+use Rattle.tla_tree.specs.Lexical as tk
+use Rattle.tla_tree.specs.Spelling.{Phrase, Phrases, IsGood, GoodAll, tree_of, trees_of}
+use Rattle.tla_tree.specs.Spelling as spelled
 use Rattle.pcal_tree.specs.declared.mark.Mark.TheVariants as fair
 use Rattle.pcal_tree.specs.Algorithm.{Name, Span, Start, Declaration, Definition, Statement, Statements, nowhere}
 use Rattle.pcal_tree.specs.Algorithm as tree

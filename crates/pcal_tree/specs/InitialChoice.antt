@@ -1,7 +1,7 @@
 -- The making of an initial state, where a member is chosen for each variable that is declared by a set ("A PlusCal User's Manual", section 3.3, processes).
 use Rattle.std.specs.Prelude.{List, [], ◌∷◌, Bool, true, false, map}
 use Rattle.tla_token.specs.declared.place.Place.{Place}
-use Rattle.tla_expr.specs.Tree.{Word}
+use Rattle.tla_tree.specs.Tree.{Word}
 use Rattle.tla_value.specs.Value.{Value, truth, Values, ◌>>=◌}
 use Rattle.pcal_tree.specs.Algorithm.{Start, unset, equals, among, Declaration, Main, alone, processes, Routine, locals, procedure_routines, main_routines}
 use Rattle.tla_value.specs.Stops.{members_at}

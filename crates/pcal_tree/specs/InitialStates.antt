@@ -2,7 +2,7 @@
 use Rattle.std.specs.Prelude.{◌≡◌, ◌==◌, List, [], ◌∷◌, Bool, true, false, cond, map, Ok, Err}
 use Rattle.std.specs.Ordering.{is_eq}
 use Rattle.tla_token.specs.declared.place.Place.{Place}
-use Rattle.tla_expr.specs.Tree.{Tree}
+use Rattle.tla_tree.specs.Tree.{Tree}
 use Rattle.tla_value.specs.declared.fault.FaultKind.{FaultKind}
 use Rattle.tla_value.specs.Value.{Value, fun, Values, no_values, and, values_in, Trouble, fault, Outcome, ◌>>=◌, in_order, and_then}
 use Rattle.tla_value.specs.Order.{same, orders, holds, seq_from}

@@ -4,9 +4,9 @@ use Rattle.std.specs.List.{flat_map}
 use Rattle.std.specs.Fmt.{decimal}
 use Rattle.tla_token.specs.Signs.{is_among}
 use Rattle.tla_token.specs.Words.{is_reserved, is_own, is_standard}
-use Rattle.tla_expr.specs.Tree.{Word}
+use Rattle.tla_tree.specs.Tree.{Word}
 use Rattle.pcal_tree.specs.Algorithm.{Main, alone, processes, Algorithm, Routine, locals, procedure_routines, main_routines, Naming}
-use Rattle.tla_expr.specs.Tree.{words}
+use Rattle.tla_tree.specs.Tree.{words}
 use Rattle.pcal_tree.specs.OffencesLabels.{label_words}
 use Rattle.tla_value.specs.Outside.{Outside}
 use Rattle.pcal_tree.specs.BoundNames.{all_of, bound_lists}

@@ -5,7 +5,7 @@ use Rattle.std.specs.List.{flat_map}
 use Rattle.tla_token.specs.declared.rule.Rule.TheVariants.{TooMany}
 use Rattle.tla_token.specs.declared.rule.Refusal.{Refusal}
 use Rattle.tla_token.specs.Limits.{most_variables, most_processes, most_procedures, most_labels, longest_chain, deepest_definition}
-use Rattle.tla_expr.specs.Tree.{Word}
+use Rattle.tla_tree.specs.Tree.{Word}
 use Rattle.tla_value.specs.DefinitionNesting.{Depths, definition_nests, depths}
 use Rattle.pcal_tree.specs.Algorithm.{Name, Statement, branch, either, with, while, macro, Statements, done, then, mark, Branches, no_branches, or, Definition, Macro, Algorithm, routines, locals, Main, alone, processes}
 use Rattle.pcal_tree.specs.Program.{inner}

@@ -6,7 +6,7 @@ use Rattle.tla_token.specs.declared.place.Place.{Place}
 use Rattle.tla_token.specs.declared.rule.Rule.TheVariants.{NeedsModule, OutsideVariable, Infinite}
 use Rattle.tla_token.specs.declared.rule.Refusal.{Refusal}
 use Rattle.tla_token.specs.Signs.{is_among}
-use Rattle.tla_expr.specs.Tree.{Word, Form, strings, strict, operator, Tree, node, Trees, no_trees, tree}
+use Rattle.tla_tree.specs.Tree.{Word, Form, strings, strict, operator, Tree, node, Trees, no_trees, tree}
 use Rattle.tla_value.specs.Outside.{Outside}
 use Rattle.tla_value.specs.StandardModules.{sequence_modules, tlc_modules, extends_one, has_operator, is_member, is_last}
 use Rattle.pcal_tree.specs.Algorithm.{Statement, print, assert, Procedure, Algorithm}

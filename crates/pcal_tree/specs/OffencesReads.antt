@@ -5,7 +5,7 @@ use Rattle.std.specs.List.{list_any, flat_map}
 use Rattle.tla_token.specs.declared.rule.Rule.TheVariants.{ProcessNotConstant, InitSelf, InitLater}
 use Rattle.tla_token.specs.declared.rule.Refusal.{Refusal}
 use Rattle.tla_token.specs.Signs.{is_among}
-use Rattle.tla_expr.specs.Tree.{Word, Tree, root_place}
+use Rattle.tla_tree.specs.Tree.{Word, Tree, root_place}
 use Rattle.pcal_tree.specs.Algorithm.{Name, Start, among, Declaration, declares, Process, Main, alone, processes, Algorithm, locals, routines}
 use Rattle.pcal_tree.specs.Offences.{offence_if}
 use Rattle.pcal_tree.specs.Reads.{used, initial, looked_at, readings_of}

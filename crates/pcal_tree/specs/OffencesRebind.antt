@@ -6,7 +6,7 @@ use Rattle.tla_token.specs.declared.rule.Rule.TheVariants.{Rebind}
 use Rattle.tla_token.specs.declared.rule.Refusal.{Refusal}
 use Rattle.tla_token.specs.Signs.{is_among}
 use Rattle.tla_token.specs.Words.{is_own, is_standard}
-use Rattle.tla_expr.specs.Tree.{Word, Name, Form, name, Tree, node, Trees, no_trees, tree, words, seen_names}
+use Rattle.tla_tree.specs.Tree.{Word, Name, Form, name, Tree, node, Trees, no_trees, tree, words, seen_names}
 use Rattle.tla_value.specs.Outside.{Outside}
 use Rattle.pcal_tree.specs.Algorithm.{Assignments, no_assignments, assignment, Binds, no_binds, one_of, is, Statement, assign, await, print, assert, skip, branch, either, with, while, goto, macro, call, return, Statements, done, then, mark, Branches, no_branches, or, Start, unset, equals, among, Declaration, Definition, Macro, Procedure, Process, Main, alone, processes, Algorithm}
 use Rattle.pcal_tree.specs.BoundNames.{all_of, lists_of, names_of_binds}

@@ -4,7 +4,7 @@ use Rattle.std.specs.List.{flat_map}
 use Rattle.tla_token.specs.declared.rule.Rule.TheVariants.{SelfOutside}
 use Rattle.tla_token.specs.declared.rule.Refusal.{Refusal}
 use Rattle.tla_token.specs.Signs.{is_among}
-use Rattle.tla_expr.specs.Tree.{Word, words}
+use Rattle.tla_tree.specs.Tree.{Word, words}
 use Rattle.pcal_tree.specs.Algorithm.{Name, Statement, macro, Statements, Declaration, Macro, Procedure, Main, alone, processes, Algorithm}
 use Rattle.pcal_tree.specs.Offences.{offence_if}
 use Rattle.pcal_tree.specs.OffencesSteps.{at_first, visits}

@@ -5,7 +5,7 @@ use Rattle.tla_token.specs.declared.place.Place.{Place}
 use Rattle.tla_token.specs.declared.rule.Rule.{Rule}
 use Rattle.tla_token.specs.declared.rule.Rule.TheVariants.{FirstLabel, WhileLabel, AfterJump, AfterBranch, AssignTwice}
 use Rattle.tla_token.specs.declared.rule.Refusal.{Refusal}
-use Rattle.tla_expr.specs.Tree.{Word, Trees}
+use Rattle.tla_tree.specs.Tree.{Word, Trees}
 use Rattle.pcal_tree.specs.Algorithm.{Name, Statement, branch, either, with, while, goto, macro, call, return, Statements, done, then, mark, Branches, no_branches, or, Macro, Procedure}
 use Rattle.pcal_tree.specs.Run.{Partner, return_partner, partner_of, is_pair, arguments}
 use Rattle.pcal_tree.specs.Expand.{graft_all}

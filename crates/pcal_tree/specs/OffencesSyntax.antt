@@ -3,7 +3,7 @@ use Rattle.std.specs.Prelude.{◌≡◌, ℕ, List, [], map, get_or}
 use Rattle.tla_token.specs.declared.place.Place.{Place}
 use Rattle.tla_token.specs.declared.rule.Refusal.{Refusal}
 use Rattle.tla_token.specs.Tokens as text
-use Rattle.tla_expr.specs.FirstStop.{Grammar, Passes, StopsAt, to_end}
+use Rattle.tla_tree.specs.FirstStop.{Grammar, Passes, StopsAt, to_end}
 use Rattle.pcal_tree.specs.AlgorithmTokens.{views}
 use Rattle.pcal_tree.specs.Grammar.{Syntax, Text, Good, spell}
 use Rattle.pcal_tree.specs.OpenForms.{opens}

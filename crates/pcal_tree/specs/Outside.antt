@@ -1,7 +1,7 @@
 -- The names that a module has outside its algorithm and the translation ("Specifying Systems", chapter 17).
 use Rattle.std.specs.Prelude.{List, ◌++◌, map}
 use Rattle.std.specs.List.{flat_map}
-use Rattle.tla_expr.specs.Tree.{Word, words}
+use Rattle.tla_tree.specs.Tree.{Word, words}
 use Rattle.tla_value.specs.Outside.{Outside}
 use Rattle.pcal_tree.specs.BoundNames.{all_of, lists_in}
 

@@ -1,7 +1,7 @@
 -- What statements assign, and what paths through statements have assigned since their last label ("A PlusCal User's Manual", section 3.7, labels).
 use Rattle.std.specs.Prelude.{List, [], ◌∷◌, ◌++◌, Bool, true, false, ◌&&◌, ◌||◌, cond, bytes_eq, Option, Some, None, option_map}
 use Rattle.tla_token.specs.Signs.{is_among}
-use Rattle.tla_expr.specs.Tree.{Word, apply, select, Form, name, strict, Tree, node, Trees, no_trees, tree}
+use Rattle.tla_tree.specs.Tree.{Word, apply, select, Form, name, strict, Tree, node, Trees, no_trees, tree}
 use Rattle.pcal_tree.specs.Algorithm.{Assignments, no_assignments, assignment, Statement, assign, branch, either, with, while, goto, call, return, Statements, done, then, mark, Branches, no_branches, or}
 
 -- ---- left sides

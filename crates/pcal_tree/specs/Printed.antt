@@ -1,7 +1,7 @@
 -- The text of an algorithm in each syntax: lines with LF between them, bodies two deeper than their heads ("A PlusCal User's Manual", section 3 and appendix A).
 use Rattle.std.specs.Prelude.{ℕ, zero, suc, ◌+◌, List, [], ◌∷◌, ◌++◌, Bool, true, false, map, codes}
-use Rattle.tla_expr.specs.Tree.{Trees, no_trees, tree}
-use Rattle.tla_expr.specs.Written.{written}
+use Rattle.tla_tree.specs.Tree.{Trees, no_trees, tree}
+use Rattle.tla_tree.specs.Written.{written}
 use Rattle.pcal_tree.specs.Algorithm.{Name, Assignments, no_assignments, assignment, Binds, no_binds, one_of, is, Statement, assign, await, print, assert, skip, branch, either, with, while, goto, macro, call, return, Statements, done, then, mark, Branches, no_branches, or, Start, unset, equals, among, Declaration, Definition, Macro, Procedure, Process, Main, alone, processes, Algorithm}
 use Rattle.pcal_tree.specs.Marks.{text_of_mark, text_of_fairness}
 use Rattle.pcal_tree.specs.Grammar.{Syntax, p_syntax, c_syntax}

@@ -10,7 +10,7 @@ use Rattle.tla_value.specs.Meaning.{eval}
 use Rattle.pcal_tree.specs.Algorithm.{Process, Main, alone, processes, Routine, process_routine, alone_routine, first_process}
 use Rattle.tla_value.specs.Stops.{members_at}
 use Rattle.pcal_tree.specs.Program.{Program, Actor, common_env}
-use Rattle.tla_expr.specs.Tree.{root_place}
+use Rattle.tla_tree.specs.Tree.{root_place}
 
 abbrev pub one_value : Bool → Place → Value → Outcome Values
 one_value true at v = members_at at v

@@ -1,7 +1,7 @@
 -- What names mean in a routine that a process runs ("A PlusCal User's Manual", sections 3.3 to 3.6, processes, procedures, macros, definitions).
 use Rattle.std.specs.Prelude.{List, [], ◌∷◌, ◌++◌, false, cond, bytes_eq, codes, Option, Some, None, map, Ok, Err}
 use Rattle.tla_token.specs.declared.place.Place.{Place}
-use Rattle.tla_expr.specs.Tree.{Word, words}
+use Rattle.tla_tree.specs.Tree.{Word, words}
 use Rattle.tla_value.specs.declared.fault.FaultKind.TheVariants.{NotFunction}
 use Rattle.tla_value.specs.Value.{Value, Outcome, Sense, ◌>>=◌, fault}
 use Rattle.tla_value.specs.Stops.{Check, sense_of}

@@ -4,7 +4,7 @@ use Rattle.std.specs.Prelude.{List, [], ◌∷◌, ◌++◌, reverse, filter, Bo
 use Rattle.std.specs.List.{list_any}
 use Rattle.tla_token.specs.declared.place.Place.{Place}
 use Rattle.tla_token.specs.Signs.{is_among}
-use Rattle.tla_expr.specs.Tree.{Word, Form, name, operator_call, Tree, node, Trees, no_trees, tree, words, seen_names}
+use Rattle.tla_tree.specs.Tree.{Word, Form, name, operator_call, Tree, node, Trees, no_trees, tree, words, seen_names}
 use Rattle.pcal_tree.specs.Algorithm.{Name, Assignments, no_assignments, assignment, Binds, no_binds, one_of, is, Start, unset, equals, among, Definition, Algorithm}
 use Rattle.pcal_tree.specs.Variables.{declared}
 

@@ -1,7 +1,7 @@
 -- What statements do within one step: all courses that they can take ("A PlusCal User's Manual", section 3.2, the statements).
 use Rattle.std.specs.Prelude.{◌≡◌, List, [], ◌∷◌, Bool, true, false, cond, bytes_eq, Some, None, ◌⊎◌, Ok, Err}
 use Rattle.tla_token.specs.declared.place.Place.{Place}
-use Rattle.tla_expr.specs.Tree.{Word, Trees, tree, Graft}
+use Rattle.tla_tree.specs.Tree.{Word, Trees, tree, Graft}
 use Rattle.tla_value.specs.declared.fault.FaultKind.TheVariants.{AssertFailed}
 use Rattle.tla_value.specs.Value.{Value, Values, no_values, and, Trouble, fault, Outcome}
 use Rattle.tla_value.specs.Stops.{Check}

@@ -1,7 +1,7 @@
 -- States, and what names stand for where a statement is ("A PlusCal User's Manual", section 3.1, expressions).
 use Rattle.std.specs.Prelude.{List, [], ◌∷◌, ◌++◌, Bool, cond, bytes_eq, Option, Some, None, Ok, Err}
 use Rattle.tla_token.specs.declared.place.Place.{Place}
-use Rattle.tla_expr.specs.Tree.{Word, apply, select, Form, name, strict, Tree, node, Trees, no_trees, tree, Graft}
+use Rattle.tla_tree.specs.Tree.{Word, apply, select, Form, name, strict, Tree, node, Trees, no_trees, tree, Graft}
 use Rattle.tla_value.specs.declared.fault.FaultKind.TheVariants.{NotFunction}
 use Rattle.tla_value.specs.Value.{Value, text, Values, fault, Outcome, ◌>>=◌}
 use Rattle.tla_value.specs.Stops.{Check, truth_at, members_at}

@@ -1,7 +1,7 @@
 -- Where names are used on the paths through statements ("A PlusCal User's Manual", sections 3.2, statements, and 3.7, labels).
 use Rattle.std.specs.Prelude.{List, [], ◌++◌, Bool, true, false, map, Some}
 use Rattle.tla_token.specs.declared.place.Place.{Place}
-use Rattle.tla_expr.specs.Tree.{Word, words}
+use Rattle.tla_tree.specs.Tree.{Word, words}
 use Rattle.pcal_tree.specs.Algorithm.{Name, Statement, assign, await, print, assert, skip, branch, either, with, while, goto, macro, call, return, Statements, done, then, mark, Branches, no_branches, or}
 use Rattle.pcal_tree.specs.BoundNames.{names_of_binds}
 use Rattle.pcal_tree.specs.Paths.{assigned, Path, after_one}

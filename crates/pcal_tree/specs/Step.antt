@@ -1,6 +1,6 @@
 -- Steps: a process goes from the label that its pc names to a next one ("A PlusCal User's Manual", section 3.7, labels).
 use Rattle.std.specs.Prelude.{◌≡◌, List, ◌∷◌, codes, Some, Ok}
-use Rattle.tla_expr.specs.Tree.{Word}
+use Rattle.tla_tree.specs.Tree.{Word}
 use Rattle.tla_value.specs.Value.{Value, text, Outcome}
 use Rattle.pcal_tree.specs.Algorithm.{Routine, procedure_routines}
 use Rattle.pcal_tree.specs.Scope.{State}

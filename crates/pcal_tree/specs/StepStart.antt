@@ -1,6 +1,6 @@
 -- Where a step begins: the statements after a label, and the exit of their sequence ("A PlusCal User's Manual", section 3.7, labels).
 use Rattle.std.specs.Prelude.{cond, bytes_eq, Option, Some, None}
-use Rattle.tla_expr.specs.Tree.{Word}
+use Rattle.tla_tree.specs.Tree.{Word}
 use Rattle.pcal_tree.specs.Algorithm.{Statement, branch, either, with, while, Statements, done, then, mark, Branches, no_branches, or, Routine}
 use Rattle.pcal_tree.specs.Run.{unlabelled, label_of}
 use Rattle.std.specs.Option.{option_or}

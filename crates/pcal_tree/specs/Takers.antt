@@ -1,6 +1,6 @@
 -- Who takes the steps of a routine: the members of a process set, a single process, or the one body ("A PlusCal User's Manual", section 3.3, processes).
 use Rattle.std.specs.Prelude.{ℕ, List, [], ◌∷◌, cond}
-use Rattle.tla_expr.specs.Tree.{Tree}
+use Rattle.tla_tree.specs.Tree.{Tree}
 use Rattle.pcal_tree.specs.Algorithm.{Process, Main, alone, processes, Routine, process_routine, alone_routine, first_process, numbered, Algorithm}
 
 pub data Takers : Type 0 where

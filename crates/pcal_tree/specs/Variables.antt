@@ -1,6 +1,6 @@
 -- The variables of the translation, and states that agree on them ("A PlusCal User's Manual", section 4, on the translation).
 use Rattle.std.specs.Prelude.{◌≡◌, List, [], ◌∷◌, ◌++◌, codes, map}
-use Rattle.tla_expr.specs.Tree.{Word, Each}
+use Rattle.tla_tree.specs.Tree.{Word, Each}
 use Rattle.pcal_tree.specs.Algorithm.{Declaration, Routine, locals, procedure_routines, main_routines}
 use Rattle.pcal_tree.specs.Scope.{State}
 use Rattle.pcal_tree.specs.Program.{Program, written}

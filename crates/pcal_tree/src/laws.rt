@@ -3,7 +3,7 @@
 ghost use Rattle.std.specs.Prelude.{◌≡◌, ℕ, suc, List, [], ◌∷◌, Bool, false, IsTrue, map, Some, None, ◌++◌, ◌+◌, ◌≤◌, length, get_or, reverse, Contains, ◌↔◌};
 ghost use Rattle.std.specs.List.{AllByRecursion};
 ghost use Rattle.tla_token.specs.Signs.{is_among};
-ghost use Rattle.tla_expr.specs.Tree.{Word, Trees};
+ghost use Rattle.tla_tree.specs.Tree.{Word, Trees};
 ghost use Rattle.pcal_tree.specs.Algorithm.{Statements, Macro, Algorithm};
 ghost use Rattle.pcal_tree.specs.Expand.{expanded};
 ghost use Rattle.pcal_tree.specs.Scope.{State, Scope};
@@ -28,8 +28,8 @@ ghost use Rattle.pcal_tree.specs.laws.BoundDefinitions.{rebinds_definitions, bin
 ghost use Rattle.pcal_tree.specs.OffencesOfNames.{name_offences_by, name_offences};
 ghost use Rattle.pcal_tree.specs.laws.OffencesOnce.{once_for_each_macro};
 ghost use Rattle.pcal_tree.specs.laws.MacroSelves.{self_offences_by_calls};
-ghost use Rattle.tla_expr.specs.Lexical.{Token};
-ghost use Rattle.tla_expr.specs.FirstStop.{Look, looks, Open, Begins, Passes};
+ghost use Rattle.tla_tree.specs.Lexical.{Token};
+ghost use Rattle.tla_tree.specs.FirstStop.{Look, looks, Open, Begins, Passes};
 ghost use Rattle.pcal_tree.specs.laws.DeepForms.{bracket, assigned, head_word, Head, FineHead, heads, is_before};
 ghost use Rattle.pcal_tree.specs.Grammar.{Syntax, Text, Good, spell};
 ghost use Rattle.pcal_tree.specs.OpenForms.{opens};

@@ -1,10 +1,10 @@
 -- Constants and states that the promise speaks of, and raw ones that it doesn't, by computation.
 use Rattle.std.proofs.Common.{◌≡◌, pos, Some, refl}
-use Rattle.tla_expr.specs.Tree.{Word}
+use Rattle.tla_tree.specs.Tree.{Word}
 use Rattle.tla_value.specs.Value.{Value, int, set, no_values, and}
 use Rattle.tla_value.specs.Order.{IsCanonical}
 use Rattle.tla_value.specs.Definitions.{Valuation}
-use Rattle.module_text.specs.Module.{Module}
+use Rattle.module_tree.specs.Module.{Module}
 use Rattle.promise.specs.ConstantsAndStates.{AreConstants}
 
 -- the members 1 and 2, in their order and in the other one; and 1 twice

@@ -3,7 +3,7 @@
 use Rattle.std.specs.Prelude.{◌≡◌, List, ◌∷◌, Some, None, cond, codes, is_some, false}
 use Rattle.std.specs.Bool.{IsTrue}
 use Rattle.tla_token.specs.Signs.{is_among}
-use Rattle.tla_expr.specs.Tree.{Word, Each, words}
+use Rattle.tla_tree.specs.Tree.{Word, Each, words}
 use Rattle.tla_value.specs.Value.{Value}
 use Rattle.tla_value.specs.Order.{IsCanonical}
 use Rattle.tla_value.specs.Stops.{plain}
@@ -14,7 +14,7 @@ use Rattle.pcal_tree.specs.Scope.{State}
 use Rattle.pcal_tree.specs.Program.{Program}
 use Rattle.pcal_tree.specs.Variables.{vars}
 use Rattle.pcal_tree.specs.Calls.{defaultInitValue}
-use Rattle.module_text.specs.Module.{Module, found}
+use Rattle.module_tree.specs.Module.{Module, found}
 
 -- the labelled algorithm g with its written names in the module m, without limits, for these constants
 abbrev pub program : Algorithm → Module → Valuation → Program

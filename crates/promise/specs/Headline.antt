@@ -5,7 +5,7 @@ use Rattle.tla_token.specs.Tokens.{Token, TokAlgorithm}
 use Rattle.pcal_tree.specs.Algorithm.{Algorithm}
 use Rattle.pcal_tree.specs.Grammar.{SpellsP, SpellsC}
 use Rattle.pcal_tree.specs.Labelled.{labelled}
-use Rattle.module_text.specs.AlgorithmText.{AlgorithmText, algorithm_in}
+use Rattle.module_tree.specs.AlgorithmText.{AlgorithmText, algorithm_in}
 use Rattle.promise.specs.Options.{Options}
 use Rattle.promise.specs.Translates.{Translates}
 

@@ -2,9 +2,9 @@
 -- names, and whose Next and Init say what the algorithm does.
 use Rattle.std.specs.Prelude.{◌≡◌, ℕ, Bool, List}
 use Rattle.pcal_tree.specs.Algorithm.{Algorithm}
-use Rattle.module_text.specs.Module.{Module}
-use Rattle.module_text.specs.Around.{Around}
-use Rattle.module_text.specs.Reading.{Reads}
+use Rattle.module_tree.specs.Module.{Module}
+use Rattle.module_tree.specs.Around.{Around}
+use Rattle.module_tree.specs.Reading.{Reads}
 use Rattle.promise.specs.ConstantsAndStates.{variables_of}
 use Rattle.promise.specs.NextAndInit.{NextIs, InitIs}
 

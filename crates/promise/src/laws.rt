@@ -1,12 +1,12 @@
 //! Laws of the promise, stated as what functions without a body ensure.
 
 ghost use Rattle.std.specs.Prelude.{◌≡◌, ℕ, Bool, List};
-ghost use Rattle.tla_expr.specs.Tree.{Word, Each};
+ghost use Rattle.tla_tree.specs.Tree.{Word, Each};
 ghost use Rattle.tla_value.specs.Order.{IsCanonical};
 ghost use Rattle.tla_value.specs.Definitions.{Valuation};
 ghost use Rattle.pcal_tree.specs.Algorithm.{Algorithm};
 ghost use Rattle.pcal_tree.specs.Variables.{vars};
-ghost use Rattle.module_text.specs.Module.{Module};
+ghost use Rattle.module_tree.specs.Module.{Module};
 ghost use Rattle.promise.specs.ConstantsAndStates.{program, variables_of};
 ghost use Rattle.promise.specs.Translates.{Translates};
 

@@ -2,7 +2,7 @@
 use Rattle.std.proofs.Common.{◌≡◌, ℕ, List, [], ◌∷◌, false, refl, codes}
 use Rattle.std.specs.Fmt.{digits}
 use Rattle.tla_token.specs.declared.place.Place.{Place}
-use Rattle.tla_expr.specs.Tree.{Word, Tree, number, name, node, no_trees}
+use Rattle.tla_tree.specs.Tree.{Word, Tree, number, name, node, no_trees}
 use Rattle.tla_value.specs.Outside.{Outside}
 use Rattle.pcal_tree.specs.declared.mark.Mark.TheVariants.{Plain}
 use Rattle.pcal_tree.specs.declared.mark.Fairness.TheVariants.{Unfair}

@@ -2,7 +2,7 @@
 use Rattle.std.proofs.Common.{◌≡◌, ◌⊎◌, inl, inr, ◌<◌, ◌≤◌, ◌+◌, ℕ, Bool, true, false, List, [], ◌∷◌, length, Option, Some, None, refl, sym, ap, subst, ◌∙◌, arith, codes}
 use Rattle.std.proofs.lemmas.Bool.{cases_lt}
 use Rattle.tla_token.specs.declared.rule.Refusal.{Refusal}
-use Rattle.tla_expr.specs.Tree.{Word, words}
+use Rattle.tla_tree.specs.Tree.{Word, words}
 use Rattle.tla_value.specs.Value.{Value}
 use Rattle.tla_value.specs.States.{Entries}
 use Rattle.tla_value.specs.Outside.{Outside}

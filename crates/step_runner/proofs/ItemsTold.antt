@@ -8,7 +8,7 @@ use Rattle.tla_token.specs.Tokens.{blank, block, line, lexeme}
 use Rattle.tla_token.specs.Offences.{Part, sound, stray, bad_string, open_string, open_block, part_bytes, parts_text}
 use Rattle.tla_token.specs.Cut.{parts}
 use Rattle.tla_token.proofs.Cutting.{cut_fits}
-use Rattle.tla_expr.specs.Tree.{Word}
+use Rattle.tla_tree.specs.Tree.{Word}
 use Rattle.tla_value.specs.Value.{Value}
 use Rattle.tla_value.specs.States.{Entries}
 use Rattle.tla_value.specs.ValueSeen.{SpellsFrom}

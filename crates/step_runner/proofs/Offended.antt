@@ -1,6 +1,6 @@
 -- Where no item with a new name begins.
 use Rattle.std.proofs.Common.{◌≡◌, ◌<◌, ℕ, Bool, false, List, length, Some, None, sym, ap, ◌∙◌}
-use Rattle.tla_expr.specs.Tree.{Word}
+use Rattle.tla_tree.specs.Tree.{Word}
 use Rattle.step_runner.specs.Fronts.{Text}
 use Rattle.step_runner.specs.Items.{item_begins, is_new, NoNewItem}
 

@@ -2,8 +2,8 @@
 use Rattle.std.proofs.Common.{◌≡◌, ℕ, pos, true, false, List, [], ◌∷◌, ◌++◌, Option, Some, None, Ok, refl, codes, cond}
 use Rattle.std.specs.Fmt.{digits}
 use Rattle.tla_token.specs.declared.place.Place.{Place}
-use Rattle.tla_expr.specs.declared.op.Op.TheVariants.{Less, Plus}
-use Rattle.tla_expr.specs.Tree.{Word, Tree, Trees, name, number, truth as literal, strict, operator, set_of, node, no_trees, tree}
+use Rattle.tla_tree.specs.declared.op.Op.TheVariants.{Less, Plus}
+use Rattle.tla_tree.specs.Tree.{Word, Tree, Trees, name, number, truth as literal, strict, operator, set_of, node, no_trees, tree}
 use Rattle.tla_value.specs.declared.fault.FaultKind.TheVariants.{BadDivisor}
 use Rattle.tla_value.specs.Value.{Value, int, text, truth, fault, over}
 use Rattle.tla_value.specs.Order.{seq_from, same}
@@ -19,8 +19,8 @@ use Rattle.pcal_tree.specs.InitialChoice.{nothing}
 use Rattle.pcal_tree.specs.Processes.{actors}
 use Rattle.pcal_tree.specs.Script.{Turn}
 use Rattle.pcal_tree.specs.StepAnswers.{held_at, no_label, needs_choice, too_many_choices}
-use Rattle.module_text.specs.Module.{Module}
-use Rattle.module_text.specs.ActionTruth.{Verdict}
+use Rattle.module_tree.specs.Module.{Module}
+use Rattle.module_tree.specs.ActionTruth.{Verdict}
 use Rattle.step_runner.specs.Script.{Script}
 use Rattle.step_runner.specs.Followed.{followed}
 use Rattle.step_runner.specs.StopLines.{script_line, state_line, trouble_line}

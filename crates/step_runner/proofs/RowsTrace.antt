@@ -2,7 +2,7 @@
 use Rattle.std.proofs.Common.{◌≡◌, ℕ, pos, true, List, [], ◌∷◌, None, refl, codes, arith, inl, inr}
 use Rattle.tla_token.specs.declared.place.Place.{Place}
 use Rattle.tla_token.specs.declared.rule.Rule.TheVariants.{BadLine}
-use Rattle.tla_expr.specs.Tree.{Word}
+use Rattle.tla_tree.specs.Tree.{Word}
 use Rattle.tla_value.specs.Value.{Value, int, text}
 use Rattle.tla_value.specs.ValueText.{digits, quoted}
 use Rattle.tla_value.specs.ValueSeen.{SpellsFrom}

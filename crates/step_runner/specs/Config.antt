@@ -1,7 +1,7 @@
 -- Files of constants: an item `Name = value` for each constant of the module that is read.
 use Rattle.std.specs.Prelude.{◌≡◌, ℕ, false, cond, bytes_eq, codes, Some}
 use Rattle.tla_token.specs.declared.rule.Refusal.{Refusal}
-use Rattle.tla_expr.specs.Tree.{words}
+use Rattle.tla_tree.specs.Tree.{words}
 use Rattle.tla_value.specs.States.{Entries, value_of}
 use Rattle.tla_value.specs.Definitions.{Valuation}
 use Rattle.tla_value.specs.Outside.{Outside}

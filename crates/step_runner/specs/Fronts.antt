@@ -7,7 +7,7 @@ use Rattle.tla_token.specs.Tokens.{blank, line, lexeme}
 use Rattle.tla_token.specs.Offences.{Part, sound, part_bytes}
 use Rattle.tla_token.specs.Cut.{parts}
 use Rattle.tla_token.specs.Places.{place_at}
-use Rattle.tla_expr.specs.Tree.{Word}
+use Rattle.tla_tree.specs.Tree.{Word}
 
 abbrev pub Text : Type 0
 Text = List ℕ

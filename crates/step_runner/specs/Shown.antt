@@ -3,7 +3,7 @@ use Rattle.std.specs.Prelude.{ℕ, suc, List, [], ◌∷◌, ◌++◌, Bool, fal
 use Rattle.std.specs.List.{flat_map}
 use Rattle.std.specs.Fmt.{decimal}
 use Rattle.tla_token.specs.declared.place.Place.{Place}
-use Rattle.tla_expr.specs.Tree.{Word}
+use Rattle.tla_tree.specs.Tree.{Word}
 use Rattle.tla_value.specs.Value.{Value, Outcome}
 use Rattle.tla_value.specs.ValueText.{value_text}
 use Rattle.tla_value.specs.Definitions.{Valuation}
@@ -17,9 +17,9 @@ use Rattle.pcal_tree.specs.FirstTrouble.{stand_named}
 use Rattle.pcal_tree.specs.StepAnswers.{Reply, held_at, no_label, needs_choice, too_many_choices, label_place, with_self}
 use Rattle.pcal_tree.specs.Script.{Turn}
 use Rattle.source_map.specs.Lines.{place_text}
-use Rattle.module_text.specs.Module.{Module}
-use Rattle.module_text.specs.ActionTruth.{Verdict}
-use Rattle.module_text.specs.ProcessPart.{mine_holds}
+use Rattle.module_tree.specs.Module.{Module}
+use Rattle.module_tree.specs.ActionTruth.{Verdict}
+use Rattle.module_tree.specs.ProcessPart.{mine_holds}
 use Rattle.promise.specs.ConstantsAndStates.{on_variables}
 use Rattle.step_runner.specs.Fronts.{Text}
 

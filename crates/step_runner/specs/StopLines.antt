@@ -1,7 +1,7 @@
 -- The lines that are written on the error output where a run or a trace stops.
 use Rattle.std.specs.Prelude.{ℕ, zero, suc, ◌++◌, codes, Option, option_map}
 use Rattle.std.specs.Fmt.{decimal}
-use Rattle.tla_expr.specs.Tree.{Word}
+use Rattle.tla_tree.specs.Tree.{Word}
 use Rattle.tla_value.specs.declared.fault.FaultKind.{FaultKind}
 use Rattle.tla_value.specs.declared.fault.FaultKind.TheVariants.{NotBoolean, NotInteger, NotSet, NotFunction, NotSequence, EmptySequence, NotInDomain, BadDivisor, NoCase, AssertFailed, SameIdentifier}
 use Rattle.tla_value.specs.Value.{Trouble, fault, over}

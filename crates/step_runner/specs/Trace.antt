@@ -1,7 +1,7 @@
 -- Traces: a line that begins `State ` begins a state, and then an item `/\ name = value` for each variable.
 use Rattle.std.specs.Prelude.{◌≡◌, ◌⊎◌, ◌+◌, ◌<◌, ℕ, true, List, [], ◌∷◌, length}
 use Rattle.tla_token.specs.declared.rule.Refusal.{Refusal}
-use Rattle.tla_expr.specs.Tree.{Word}
+use Rattle.tla_tree.specs.Tree.{Word}
 use Rattle.tla_value.specs.States.{Entries}
 use Rattle.step_runner.specs.Fronts.{Text, bad_line, next_at}
 use Rattle.step_runner.specs.Stretches.{Stretch, states_of}

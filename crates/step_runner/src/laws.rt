@@ -2,7 +2,7 @@
 
 ghost use Rattle.std.specs.Prelude.{◌≡◌, ◌⊎◌, Bool, List, None};
 ghost use Rattle.tla_token.specs.declared.rule.Refusal as code;
-ghost use Rattle.tla_expr.specs.Tree.{Word};
+ghost use Rattle.tla_tree.specs.Tree.{Word};
 ghost use Rattle.tla_value.specs.States.{Entries};
 ghost use Rattle.tla_value.specs.Outside.{Outside};
 ghost use Rattle.step_runner.specs.Fronts.{Text};

@@ -3,28 +3,28 @@ use Rattle.std.proofs.Common.{◌≡◌, ℕ, suc, ◌+◌, ◌<◌, ◌≤◌, 
 use Rattle.std.specs.Prelude.{IfOk}
 use Rattle.tla_token.specs.declared.place.Place.{Place}
 use Rattle.tla_token.specs.Limits.{past_numbers}
-use Rattle.tla_expr.specs.declared.op.Op.{Op}
-use Rattle.tla_expr.specs.declared.op.Op.TheVariants as op
+use Rattle.tla_tree.specs.declared.op.Op.{Op}
+use Rattle.tla_tree.specs.declared.op.Op.TheVariants as op
 use Rattle.tla_expr.specs.declared.shape.Shape.{Shape}
 use Rattle.tla_expr.specs.declared.make.Read.{Read}
 use Rattle.tla_expr.specs.declared.make.Row.{Row}
 use Rattle.tla_expr.specs.declared.view.Constant.{Constant}
 use Rattle.tla_expr.specs.declared.view.Constant.TheVariants as constant
-use Rattle.tla_expr.specs.declared.form.Form as code
-use Rattle.tla_expr.specs.declared.form.Form.TheVariants as form
-use Rattle.tla_expr.specs.FormOf.{form_of}
-use Rattle.tla_expr.specs.Tree.{Word, Tree, Trees, Form, node, no_trees, tree}
-use Rattle.tla_expr.specs.Tree as pure
-use Rattle.tla_expr.specs.Shapes.{Shaped}
-use Rattle.tla_expr.specs.Rank.{is_prefix}
-use Rattle.tla_expr.specs.Spelling as spelled
-use Rattle.tla_expr.specs.Spelling.{Field, Phrase, Phrases, last, more, tree_of, trees_of, start, operation}
+use Rattle.tla_pool.specs.declared.form.Form as code
+use Rattle.tla_pool.specs.declared.form.Form.TheVariants as form
+use Rattle.tla_pool.specs.FormOf.{form_of}
+use Rattle.tla_tree.specs.Tree.{Word, Tree, Trees, Form, node, no_trees, tree}
+use Rattle.tla_tree.specs.Tree as pure
+use Rattle.tla_tree.specs.Shapes.{Shaped}
+use Rattle.tla_tree.specs.Rank.{is_prefix}
+use Rattle.tla_tree.specs.Spelling as spelled
+use Rattle.tla_tree.specs.Spelling.{Field, Phrase, Phrases, last, more, tree_of, trees_of, start, operation}
 use Rattle.tla_expr.specs.ShapeOf.{shape_of, primary_shape, linked_shape, open_shape, infix_shape, prefix_shape, in_all}
 use Rattle.tla_expr.specs.ViewSeen.{constant_seen}
-use Rattle.tla_expr.specs.Pool.{at, trees_at, AllBelow, Keeps}
+use Rattle.tla_tree.specs.Pool.{at, trees_at, AllBelow, Keeps}
 use Rattle.tla_expr.specs.ReadIn.{IsIn, AreIn}
 use Rattle.tla_expr.proofs.ShapeLemmas.{start_is}
-use Rattle.tla_expr.proofs.PoolGrown.{trees_at-kept}
+use Rattle.tla_pool.proofs.PoolGrown.{trees_at-kept}
 
 pub ok_three : {X E : Type 0} {P Q R S : X → Type 0} (r : Result X E) → IfOk r P → IfOk r Q → IfOk r R → ((x : X) → P x → Q x → R x → S x) → IfOk r S
 ok_three (Ok x) p q r f = f x p q r

@@ -2,8 +2,8 @@
 use Rattle.std.proofs.Common.{◌≡◌, ℕ, List, length, Result, Ok, Err, refl, sym, ap, ◌∙◌, subst}
 use Rattle.tla_expr.specs.declared.cursor.Halt.{Halt}
 use Rattle.tla_expr.specs.declared.cursor.Halt.TheVariants as halt
-use Rattle.tla_expr.specs.Lexical.{Token}
-use Rattle.tla_expr.specs.Reader.{Out, Reader, then_read}
+use Rattle.tla_tree.specs.Lexical.{Token}
+use Rattle.tla_tree.specs.Reader.{Out, Reader, then_read}
 use Rattle.tla_expr.specs.ReadIn.{Reads, Fails}
 
 -- after what is told of

@@ -2,19 +2,19 @@
 use Rattle.std.proofs.Common.{◌≡◌, ℕ, suc, ◌+◌, ◌-◌, ◌≤◌, ◌<◌, Bool, true, false, ◌||◌, ◌&&◌, not, nat_le, List, [], ◌∷◌, Option, Some, None, Ok, Err, refl, sym, ap, ◌∙◌, subst, arith}
 use Rattle.tla_token.specs.declared.place.Place.{Place}
 use Rattle.tla_token.specs.declared.rule.Rule.TheVariants.{TooDeep}
-use Rattle.tla_expr.specs.declared.op.Op.{Op}
+use Rattle.tla_tree.specs.declared.op.Op.{Op}
 use Rattle.tla_expr.specs.declared.shape.Context as code
 use Rattle.tla_expr.specs.declared.shape.Context.TheVariants as context
-use Rattle.tla_expr.specs.Lexical.{TokenView, Token, token}
-use Rattle.tla_expr.specs.Lexical as tk
-use Rattle.tla_expr.specs.Nesting.{chain}
-use Rattle.tla_expr.specs.Spelling.{Phrase, infix_of}
+use Rattle.tla_tree.specs.Lexical.{TokenView, Token, token}
+use Rattle.tla_tree.specs.Lexical as tk
+use Rattle.tla_tree.specs.Nesting.{chain}
+use Rattle.tla_tree.specs.Spelling.{Phrase, infix_of}
 use Rattle.tla_expr.specs.ShapeOf.{context_seen}
-use Rattle.tla_expr.specs.Reader.{Out, Reader, Room, room, then_read, next, tail, Context, free, right_of, under, bound, goes_on, so_far, climb_by, climb_if, opened_after, is_behind_in}
-use Rattle.tla_expr.specs.Whole.{whole}
-use Rattle.tla_expr.proofs.Whole.{climb_is}
-use Rattle.tla_expr.proofs.Opened.{in_climb}
-use Rattle.tla_expr.proofs.Rooms.{opened_is, opened_not}
+use Rattle.tla_tree.specs.Reader.{Out, Reader, Room, room, then_read, next, tail, Context, free, right_of, under, bound, goes_on, so_far, climb_by, climb_if, opened_after, is_behind_in}
+use Rattle.tla_tree.specs.Whole.{whole}
+use Rattle.tla_tree.proofs.Whole.{climb_is}
+use Rattle.tla_tree.proofs.Opened.{in_climb}
+use Rattle.tla_tree.proofs.Rooms.{opened_is, opened_not}
 
 -- ---- operators
 or_true : (t : Bool) → t || true ≡ true

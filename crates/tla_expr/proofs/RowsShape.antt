@@ -3,13 +3,13 @@ use Rattle.std.specs.Prelude.{ℕ, true, false, Some, None, codes}
 use Rattle.std.proofs.Common.{◌≡◌, refl}
 use Rattle.tla_token.specs.declared.place.Place.{Place}
 use Rattle.tla_token.specs.declared.token.Span.{Span}
-use Rattle.tla_expr.specs.declared.op.Op.TheVariants as op
+use Rattle.tla_tree.specs.declared.op.Op.TheVariants as op
 use Rattle.tla_expr.specs.declared.view.Mark.TheVariants as mark
 use Rattle.tla_expr.specs.declared.view.View.TheVariants as view
 use Rattle.tla_expr.specs.declared.shape.Head.TheVariants as at
 use Rattle.tla_expr.specs.declared.shape.Boxes.TheVariants as boxes
-use Rattle.tla_expr.specs.Lexical as tk
-use Rattle.tla_expr.specs.Spelling.{Phrase, name, number, brackets, infix_of, list, last_bullet, bullet, cases, last_arm}
+use Rattle.tla_tree.specs.Lexical as tk
+use Rattle.tla_tree.specs.Spelling.{Phrase, name, number, brackets, infix_of, list, last_bullet, bullet, cases, last_arm}
 use Rattle.tla_expr.specs.ViewSeen.{view_seen}
 use Rattle.tla_expr.specs.ShapeOf.{shape_of, stands_left, takes}
 

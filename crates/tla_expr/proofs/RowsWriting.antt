@@ -1,15 +1,15 @@
 -- Worked rows: what items show, and what may be behind a written text.
 use Rattle.std.proofs.Common.{◌≡◌, true, false, [], ◌∷◌, refl, codes}
-use Rattle.tla_expr.specs.declared.op.Op.TheVariants as op
+use Rattle.tla_tree.specs.declared.op.Op.TheVariants as op
 use Rattle.tla_expr.specs.declared.write.Fixed.TheVariants as fixed
 use Rattle.tla_expr.specs.declared.write.Item.TheVariants as item
-use Rattle.tla_expr.specs.Lexical as tk
-use Rattle.tla_expr.specs.Spelling as spelled
-use Rattle.tla_expr.specs.Written.{token}
+use Rattle.tla_tree.specs.Lexical as tk
+use Rattle.tla_tree.specs.Spelling as spelled
+use Rattle.tla_tree.specs.Written.{token}
 use Rattle.tla_expr.specs.Writing.{shown}
-use Rattle.tla_expr.specs.laws.Columns.{moved}
-use Rattle.tla_expr.specs.laws.InText.{ends_word}
-use Rattle.tla_expr.specs.laws.Following.{is_tail, is_calm}
+use Rattle.tla_tree.specs.laws.Columns.{moved}
+use Rattle.tla_tree.specs.laws.InText.{ends_word}
+use Rattle.tla_tree.specs.laws.Following.{is_tail, is_calm}
 
 -- the last item is the next one
 items_are_shown : shown [] (item.Fixed fixed.CloseBrace ∷ item.Fixed fixed.OpenBrace ∷ []) [] ≡ token (tk.mark tk.open_brace) ∷ token (tk.mark tk.close_brace) ∷ []

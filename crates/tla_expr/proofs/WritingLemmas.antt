@@ -5,20 +5,20 @@ use Rattle.std.proofs.lemmas.List.{length-map}
 use Rattle.std.specs.Prelude.{slice_get}
 use Rattle.std.proofs.lemmas.Bool.{ltb-true, lt-ltb, both_ways}
 use Rattle.tla_token.specs.Words.{is_pluscal_word}
-use Rattle.tla_expr.proofs.FitTokens.{field_text}
+use Rattle.tla_tree.proofs.FitTokens.{field_text}
 use Rattle.tla_expr.specs.declared.write.Item.{Item}
-use Rattle.tla_expr.specs.declared.op.Op.{Op}
-use Rattle.tla_expr.specs.declared.op.Op.TheVariants as op
-use Rattle.tla_expr.specs.Rank.{is_prefix}
-use Rattle.tla_expr.specs.declared.op.Binder.{Binder}
-use Rattle.tla_expr.specs.declared.op.Binder.TheVariants as binder
-use Rattle.tla_expr.specs.FormOf.{groups_of}
-use Rattle.tla_expr.specs.Shapes.{operands, subscripts, settings, IsPaired, CaseShaped, BinderShaped}
-use Rattle.tla_expr.specs.Tree.{Word, Name, PathStep, Slot, Form, Tree, Trees, node, no_trees, size, sizes}
-use Rattle.tla_expr.specs.TreeOf.{list_of, root_form, root_parts}
-use Rattle.tla_expr.specs.Tree as tree
-use Rattle.tla_expr.specs.Lexical as tk
-use Rattle.tla_expr.specs.Written.{Piece, blank, token, Part, mark, word, field, spaced, comma, prefix_sign, infix_sign, infix_pieces, choice_pieces, listed, field_pieces, name_pieces, bind_pieces, definition_pieces, body, path_pieces, right_side, slot_pieces, strict_pieces, arm_pieces, form_pieces, is_bracketed, bracketed, form_part, part, parts, text_of}
+use Rattle.tla_tree.specs.declared.op.Op.{Op}
+use Rattle.tla_tree.specs.declared.op.Op.TheVariants as op
+use Rattle.tla_tree.specs.Rank.{is_prefix}
+use Rattle.tla_tree.specs.declared.op.Binder.{Binder}
+use Rattle.tla_tree.specs.declared.op.Binder.TheVariants as binder
+use Rattle.tla_pool.specs.FormOf.{groups_of}
+use Rattle.tla_tree.specs.Shapes.{operands, subscripts, settings, IsPaired, CaseShaped, BinderShaped}
+use Rattle.tla_tree.specs.Tree.{Word, Name, PathStep, Slot, Form, Tree, Trees, node, no_trees, size, sizes}
+use Rattle.tla_tree.specs.TreeOf.{list_of, root_form, root_parts}
+use Rattle.tla_tree.specs.Tree as tree
+use Rattle.tla_tree.specs.Lexical as tk
+use Rattle.tla_tree.specs.Written.{Piece, blank, token, Part, mark, word, field, spaced, comma, prefix_sign, infix_sign, infix_pieces, choice_pieces, listed, field_pieces, name_pieces, bind_pieces, definition_pieces, body, path_pieces, right_side, slot_pieces, strict_pieces, arm_pieces, form_pieces, is_bracketed, bracketed, form_part, part, parts, text_of}
 use Rattle.tla_expr.specs.Writing.{part_at, item_pieces, shown, comma_items, blank_items, box_items, slots_behind, IsTwice}
 
 pub shown_append : (xs : List Part) (is js : List Item) (ps : List Piece) → shown xs (is ++ js) ps ≡ shown xs js (shown xs is ps)

@@ -7,16 +7,16 @@ use Rattle.tla_expr.specs.declared.cursor.Halt.{Halt}
 use Rattle.tla_expr.specs.declared.cursor.Halt.TheVariants as halt
 use Rattle.tla_expr.specs.declared.cursor.Word as code_word
 use Rattle.tla_expr.specs.declared.cursor.FieldName.{FieldName}
-use Rattle.tla_expr.specs.Tree as tree
-use Rattle.tla_expr.specs.Lexical.{Token}
-use Rattle.tla_expr.specs.TokenViews.{view}
-use Rattle.tla_expr.specs.Spelling.{Field, Phrase, Phrases, last, more, Binds, Fields, Settings, Arms, Locals, groups, sets_before, local_names, right_sides_before, labels, field_trees, slots, setting_trees, has_other, arm_trees, tree_of, trees_of, start}
-use Rattle.tla_expr.specs.TreeOf.{trees_from}
-use Rattle.tla_expr.specs.Pool.{at, trees_at, AllBelow}
+use Rattle.tla_tree.specs.Tree as tree
+use Rattle.tla_tree.specs.Lexical.{Token}
+use Rattle.tla_tree.specs.TokenViews.{view}
+use Rattle.tla_tree.specs.Spelling.{Field, Phrase, Phrases, last, more, Binds, Fields, Settings, Arms, Locals, groups, sets_before, local_names, right_sides_before, labels, field_trees, slots, setting_trees, has_other, arm_trees, tree_of, trees_of, start}
+use Rattle.tla_tree.specs.TreeOf.{trees_from}
+use Rattle.tla_tree.specs.Pool.{at, trees_at, AllBelow}
 use Rattle.tla_expr.specs.ShapeOf.{shape_of, in_all, in_binds, in_fields, in_settings, in_arms, in_locals}
 use Rattle.tla_expr.specs.declared.make.Read.{Read}
 use Rattle.tla_expr.specs.declared.make.Row.{Row}
-use Rattle.tla_expr.specs.Reader.{Out}
+use Rattle.tla_tree.specs.Reader.{Out}
 
 -- words are among these bytes
 abbrev pub seen : List ℕ → List code_token.Token → List Token

@@ -1,8 +1,8 @@
 -- What reading goes by of a phrase: its shape in memory.
 use Rattle.std.specs.Prelude.{◌≡◌, ℕ, ◌+◌, max, Bool, true, false, ◌||◌, ◌&&◌, not, nat_lt, nat_le, nat_eq, Option, Some, None, if◌then◌else◌}
 use Rattle.tla_token.specs.declared.place.Place.{Place}
-use Rattle.tla_expr.specs.declared.op.Op.{Op}
-use Rattle.tla_expr.specs.declared.op.Op.TheVariants as op
+use Rattle.tla_tree.specs.declared.op.Op.{Op}
+use Rattle.tla_tree.specs.declared.op.Op.TheVariants as op
 use Rattle.tla_expr.specs.declared.shape.Head.{Head}
 use Rattle.tla_expr.specs.declared.shape.Head.TheVariants as at
 use Rattle.tla_expr.specs.declared.shape.Boxes.{Boxes}
@@ -11,10 +11,9 @@ use Rattle.tla_expr.specs.declared.shape.Bullet.{Bullet}
 use Rattle.tla_expr.specs.declared.shape.Shape.{Shape}
 use Rattle.tla_expr.specs.declared.shape.Context.{Context}
 use Rattle.tla_expr.specs.declared.shape.Context.TheVariants as context
-use Rattle.tla_expr.specs.Rank.{rank, is_prefix, is_associative, same_op}
-use Rattle.tla_expr.specs.Reader as reader
-use Rattle.tla_expr.specs.Spelling.{first_bullet, Phrase, number, string, constant, name, primed, call, brackets, no_set, set_of, filter, image, no_tuple, tuple, fields, records, function, functions, except, apply, select, list, quantified, if_then_else, cases, local, infix_of, prefix_of}
-use Rattle.tla_expr.specs.Spelling.{Phrases, last, more, Binds, last_bind, bind, share, Fields, last_field, field, Settings, last_setting, setting, Path, path_end, index, at_field, Bullets, last_bullet, bullet, Arms, last_arm, other_arm, arm, Locals, last_local, more_locals}
+use Rattle.tla_tree.specs.Rank.{rank, is_prefix, is_associative, same_op}
+use Rattle.tla_tree.specs.Reader as reader
+use Rattle.tla_tree.specs.Spelling.{first_bullet, Phrase, number, string, constant, name, primed, call, brackets, no_set, set_of, filter, image, no_tuple, tuple, fields, records, function, functions, except, apply, select, list, quantified, if_then_else, cases, local, infix_of, prefix_of, Phrases, last, more, Binds, last_bind, bind, share, Fields, last_field, field, Settings, last_setting, setting, Path, path_end, index, at_field, Bullets, last_bullet, bullet, Arms, last_arm, other_arm, arm, Locals, last_local, more_locals}
 
 abbrev pub context_seen : Context → reader.Context
 context_seen context.Free = reader.free

@@ -11,9 +11,9 @@ use Rattle.tla_expr.specs.declared.view.Constant.{Constant}
 use Rattle.tla_expr.specs.declared.view.Constant.TheVariants as constant
 use Rattle.tla_expr.specs.declared.view.View.{View}
 use Rattle.tla_expr.specs.declared.view.View.TheVariants as view
-use Rattle.tla_expr.specs.Tree.{Word}
-use Rattle.tla_expr.specs.Lexical as tk
-use Rattle.tla_expr.specs.TokenViews.{word_kinds}
+use Rattle.tla_tree.specs.Tree.{Word}
+use Rattle.tla_tree.specs.Lexical as tk
+use Rattle.tla_tree.specs.TokenViews.{word_kinds}
 
 abbrev pub mark_seen : Mark → tk.Mark
 mark_seen mark.OpenBracket = tk.open_bracket

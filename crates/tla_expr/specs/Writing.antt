@@ -4,12 +4,12 @@ use Rattle.tla_expr.specs.declared.write.Fixed.{Fixed}
 use Rattle.tla_expr.specs.declared.write.Fixed.TheVariants as fixed
 use Rattle.tla_expr.specs.declared.write.Item.{Item}
 use Rattle.tla_expr.specs.declared.write.Item.TheVariants as item
-use Rattle.tla_expr.specs.Tree.{PathStep, Slot, Tree}
-use Rattle.tla_expr.specs.Shapes.{subscripts}
-use Rattle.tla_expr.specs.TreeOf.{root_parts}
-use Rattle.tla_expr.specs.Lexical.{TokenView}
-use Rattle.tla_expr.specs.Lexical as tk
-use Rattle.tla_expr.specs.Written.{Piece, blank, token, text_of, word, field, Part, path_pieces, slot_pieces, arm_pieces, part}
+use Rattle.tla_tree.specs.Tree.{PathStep, Slot, Tree}
+use Rattle.tla_tree.specs.Shapes.{subscripts}
+use Rattle.tla_tree.specs.TreeOf.{root_parts}
+use Rattle.tla_tree.specs.Lexical.{TokenView}
+use Rattle.tla_tree.specs.Lexical as tk
+use Rattle.tla_tree.specs.Written.{Piece, blank, token, text_of, word, field, Part, path_pieces, slot_pieces, arm_pieces, part}
 
 abbrev pub fixed_token : Fixed → TokenView
 fixed_token fixed.OpenBracket = tk.mark tk.open_bracket

@@ -1,18 +1,18 @@
 //! Tokens that are still to be read: the next one, to the right of an edge, and what comes after it.
 
 ghost use Rattle.std.specs.Prelude.{◌≡◌, ◌<◌, ◌≤◌, ℕ, List, [], IfOk, length};
-ghost use Rattle.tla_expr.specs.Lexical as tk;
-ghost use Rattle.tla_expr.specs.Lexical.{token};
-ghost use Rattle.tla_expr.specs.Reader as reader;
+ghost use Rattle.tla_tree.specs.Lexical as tk;
+ghost use Rattle.tla_tree.specs.Lexical.{token};
+ghost use Rattle.tla_tree.specs.Reader as reader;
 ghost use Rattle.tla_expr.specs.ViewSeen.{mark_seen, key_seen, view_seen};
 ghost use Rattle.tla_expr.specs.ReadIn.{seen, Gives, word_seen, field_seen};
 ghost use Rattle.tla_expr.specs.declared.cursor.Halt.TheVariants as halt;
 
-use crate::op::Op;
 use crate::shape::same_op;
 use crate::view::{Key, Mark, View, view_of};
 use std::alloc::{AllocError, AllocFailed};
 use tla_token::{Place, Rule, Span, Token, Tokens};
+use tla_tree::Op;
 
 /// Why reading stopped.
 #[derive(Debug, Drop)]

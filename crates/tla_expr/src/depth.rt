@@ -1,15 +1,15 @@
 //! How many forms may still open where an operator goes on.
 
 ghost use Rattle.std.specs.Prelude.{◌≡◌, nat_le, Option, Some};
-ghost use Rattle.tla_expr.specs.Tree.{Word};
-ghost use Rattle.tla_expr.specs.Spelling.{Phrase};
-ghost use Rattle.tla_expr.specs.Reader as reader;
-ghost use Rattle.tla_expr.specs.Reader.{Limit, Readers, room, behind, element as element_of};
+ghost use Rattle.tla_tree.specs.Tree.{Word};
+ghost use Rattle.tla_tree.specs.Spelling.{Phrase};
+ghost use Rattle.tla_tree.specs.Reader as reader;
+ghost use Rattle.tla_tree.specs.Reader.{Limit, Readers, room, behind, element as element_of};
 ghost use Rattle.tla_expr.specs.ShapeOf.{shape_of, may_have, least_chain, element_chain as element_chain_of};
 
-use crate::op::{Op, rank};
 use crate::shape::{Shape, stands_left};
 use tla_token::Place;
+use tla_tree::{Op, rank};
 
 /// Whether an expression may be read where so many forms may open.
 pub fn fits(shape: Shape, left: u32) -> bool

@@ -1,21 +1,21 @@
 //! `x \in` put in front of the largest left part of an expression that may stand to the right of `\in`.
 
 ghost use Rattle.std.specs.Prelude.{◌≡◌, ◌<◌, ◌+◌, ◌^◌, IfOk, MatchOption, Option, false, length};
-ghost use Rattle.tla_expr.specs.Tree as tree;
-ghost use Rattle.tla_expr.specs.Pool.{Keeps};
-ghost use Rattle.tla_expr.specs.Rank.{is_prefix as is_prefix_of};
-ghost use Rattle.tla_expr.specs.Nesting.{chain as chain_of};
-ghost use Rattle.tla_expr.specs.Spelling as spelled;
-ghost use Rattle.tla_expr.specs.Spelling.{Phrase};
-ghost use Rattle.tla_expr.specs.Reader.{element, on_left};
+ghost use Rattle.tla_tree.specs.Tree as tree;
+ghost use Rattle.tla_tree.specs.Pool.{Keeps};
+ghost use Rattle.tla_tree.specs.Rank.{is_prefix as is_prefix_of};
+ghost use Rattle.tla_tree.specs.Nesting.{chain as chain_of};
+ghost use Rattle.tla_tree.specs.Spelling as spelled;
+ghost use Rattle.tla_tree.specs.Spelling.{Phrase};
+ghost use Rattle.tla_tree.specs.Reader.{element, on_left};
 ghost use Rattle.tla_expr.specs.ReadIn.{IsIn, MayBeIn};
 
 use crate::make::{Read, infix};
-use crate::op::Op;
-use crate::pool::Pool;
 use crate::shape::{can_be_left, can_be_right};
 use std::alloc::{AllocError, Global};
+use tla_pool::Pool;
 use tla_token::Place;
+use tla_tree::Op;
 
 /// The element of an expression that groups nothing from the left.
 pub fn element_of_operand(

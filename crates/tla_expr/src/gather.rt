@@ -2,28 +2,26 @@
 
 ghost use Rattle.std.specs.Prelude.{◌≡◌, ◌<◌, ◌≤◌, ◌+◌, ◌^◌, ◌++◌, ◌∷◌, IfOk, true, false, [], suc, max, length, List, ℕ};
 ghost use Rattle.tla_token.specs.TokensSeen.{span_bytes};
-ghost use Rattle.tla_expr.specs.Pool.{at, trees_at, AllBelow, Keeps};
-ghost use Rattle.tla_expr.specs.Tree.{node, binding as binding_of};
-ghost use Rattle.tla_expr.specs.FormOf.{groups_of, slots_of};
-ghost use Rattle.tla_expr.specs.Shapes.{BinderShaped, CaseShaped, HavePaths, settings as settings_of};
-ghost use Rattle.tla_expr.specs.Rank.{is_prefix as is_prefix_of};
-ghost use Rattle.tla_expr.specs.Spelling as spelled;
-ghost use Rattle.tla_expr.specs.Spelling.{Phrase, Binds, Fields, Settings, Arms, Locals, operation as operation_of, two};
+ghost use Rattle.tla_tree.specs.Pool.{at, trees_at, AllBelow, Keeps};
+ghost use Rattle.tla_tree.specs.Tree.{node, binding as binding_of};
+ghost use Rattle.tla_pool.specs.FormOf.{groups_of, slots_of};
+ghost use Rattle.tla_tree.specs.Shapes.{BinderShaped, CaseShaped, HavePaths, settings as settings_of};
+ghost use Rattle.tla_tree.specs.Rank.{is_prefix as is_prefix_of};
+ghost use Rattle.tla_tree.specs.Spelling as spelled;
+ghost use Rattle.tla_tree.specs.Spelling.{Phrase, Binds, Fields, Settings, Arms, Locals, operation as operation_of, two};
 ghost use Rattle.tla_expr.specs.ShapeOf.{primary_shape as primary_shape_of, open_shape as open_shape_of};
 ghost use Rattle.tla_expr.specs.ReadIn.{IsIn, AreBound, AreFields, AreSettings, AreArms, AreLocals};
-ghost use Rattle.tla_expr.specs.declared.op.Binder.TheVariants as binder;
+ghost use Rattle.tla_tree.specs.declared.op.Binder.TheVariants as binder;
 ghost use Rattle.tla_expr.specs.declared.shape.Boxes.TheVariants as boxes;
 
 use crate::cursor::Word;
-use crate::form::{Form, Slot, Strict};
 use crate::make::{Read, name_of, operation, put};
-use crate::name::{NameList, PlacedName};
-use crate::node::NodeId;
-use crate::op::{Binder, Op};
-use crate::pool::Pool;
 use crate::shape::{Boxes, Shape, larger, open_shape, primary_shape};
 use std::alloc::{AllocError, Global};
+use tla_pool::Pool;
+use tla_pool::form::{Form, Slot, Strict};
 use tla_token::{Place, Tokens};
+use tla_tree::{Binder, NameList, NodeId, Op, PlacedName};
 
 /// A name at its place.
 pub fn placed(alloc: Global, tokens: &Tokens, word: Word) -> Result<PlacedName, AllocError>

@@ -4,30 +4,28 @@ ghost use Rattle.std.specs.Prelude.{◌≡◌, ◌<◌, ◌≤◌, ◌+◌, ◌^
 ghost use Rattle.tla_token.specs.Limits.{past_numbers};
 ghost use Rattle.tla_token.specs.TokensSeen.{span_bytes};
 ghost use Rattle.tla_token.specs.Lexemes.{unquoted as unquoted_of};
-ghost use Rattle.tla_expr.specs.Pool.{at, trees_at, AllBelow, Keeps};
-ghost use Rattle.tla_expr.specs.Tree.{Tree, node};
-ghost use Rattle.tla_expr.specs.FormOf.{form_of};
-ghost use Rattle.tla_expr.specs.Shapes.{Shaped};
-ghost use Rattle.tla_expr.specs.Rank.{is_prefix as is_prefix_of};
-ghost use Rattle.tla_expr.specs.Spelling as spelled;
-ghost use Rattle.tla_expr.specs.Spelling.{Phrase, Phrases, operation as operation_of};
+ghost use Rattle.tla_tree.specs.Pool.{at, trees_at, AllBelow, Keeps};
+ghost use Rattle.tla_tree.specs.Tree.{Tree, node};
+ghost use Rattle.tla_pool.specs.FormOf.{form_of};
+ghost use Rattle.tla_tree.specs.Shapes.{Shaped};
+ghost use Rattle.tla_tree.specs.Rank.{is_prefix as is_prefix_of};
+ghost use Rattle.tla_tree.specs.Spelling as spelled;
+ghost use Rattle.tla_tree.specs.Spelling.{Phrase, Phrases, operation as operation_of};
 ghost use Rattle.tla_expr.specs.ShapeOf.{primary_shape as primary_shape_of, linked_shape as linked_shape_of, open_shape as open_shape_of, infix_shape as infix_shape_of, prefix_shape as prefix_shape_of};
 ghost use Rattle.tla_expr.specs.ViewSeen.{constant_seen};
 ghost use Rattle.tla_expr.specs.ReadIn.{IsIn, AreIn, field_seen};
 
 use crate::cursor::{FieldName, Word};
-use crate::form::{Form, Strict};
-use crate::name::Name;
-use crate::node::NodeId;
-use crate::op::Op;
-use crate::pool::Pool;
 use crate::quote::unquoted;
 use crate::shape::{
     Shape, infix_shape, larger, linked_shape, open_shape, prefix_shape, primary_shape,
 };
 use crate::view::Constant;
 use std::alloc::{AllocError, Global};
+use tla_pool::Pool;
+use tla_pool::form::{Form, Strict};
 use tla_token::{Place, Span, Tokens};
+use tla_tree::{Name, NodeId, Op};
 
 /// An expression that was read: its number in the pool, and its shape.
 #[derive(Clone, Copy)]

@@ -3,9 +3,9 @@
 ghost use Rattle.std.specs.Prelude.{◌≡◌, IfOk, [], unwrap_or};
 ghost use Rattle.tla_token.specs.Lexemes.{unquoted as unquoted_of};
 
-use crate::name::Text;
 use std::alloc::{AllocError, Global};
 use tla_token::bytes::{escaped, is_plain};
+use tla_tree::Text;
 
 /// The text that these bytes between quotes stand for; none where they stand for no string.
 pub fn unquoted(alloc: Global, raw: &[u8]) -> Result<Text, AllocError>

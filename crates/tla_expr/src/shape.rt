@@ -1,16 +1,16 @@
 //! What reading goes by of an expression that was read: how it is spelled outermost and at its end, and what it opens.
 
 ghost use Rattle.std.specs.Prelude.{◌≡◌, ◌<◌, ◌+◌, ◌^◌, max, IsTrue, false};
-ghost use Rattle.tla_expr.specs.Rank as pure;
-ghost use Rattle.tla_expr.specs.Rank.{same_op as same_op_of};
-ghost use Rattle.tla_expr.specs.Spelling.{Phrase};
-ghost use Rattle.tla_expr.specs.Spelling as spelling;
-ghost use Rattle.tla_expr.specs.Nesting as nesting;
-ghost use Rattle.tla_expr.specs.Reader as reader;
+ghost use Rattle.tla_tree.specs.Rank as pure;
+ghost use Rattle.tla_tree.specs.Rank.{same_op as same_op_of};
+ghost use Rattle.tla_tree.specs.Spelling.{Phrase};
+ghost use Rattle.tla_tree.specs.Spelling as spelling;
+ghost use Rattle.tla_tree.specs.Nesting as nesting;
+ghost use Rattle.tla_tree.specs.Reader as reader;
 ghost use Rattle.tla_expr.specs.ShapeOf.{is_above as is_above_of, is_applied as is_applied_of, is_primary as is_primary_of, is_open as is_open_of, is_behind as is_behind_of, is_left as is_left_of, takes as takes_of, right_of as right_of_of, shape_of, infix_shape as infix_shape_of, prefix_shape as prefix_shape_of, open_shape as open_shape_of, list_shape as list_shape_of, linked_shape as linked_shape_of, primary_shape as primary_shape_of, context_seen, stands_left as stands_left_of, stands_right as stands_right_of, stands_at_head as stands_at_head_of, continues as continues_of, stands_under as stands_under_of};
 
-use crate::op::{Op, rank};
 use tla_token::Place;
+use tla_tree::{Op, rank};
 
 /// What an expression is to the operators beside it.
 #[derive(Clone, Copy, PartialEq, Eq, Debug)]

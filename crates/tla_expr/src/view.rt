@@ -3,12 +3,12 @@
 ghost use Rattle.std.specs.Prelude.{◌≡◌, List, ℕ};
 ghost use Rattle.tla_token.specs.TokensSeen.{kind_seen, span_bytes};
 ghost use Rattle.std.specs.Str.{bytes_eq};
-ghost use Rattle.tla_expr.specs.TokenViews.{sign_kind, kind_of, kind_among, word_kind};
+ghost use Rattle.tla_tree.specs.TokenViews.{sign_kind, kind_of, kind_among, word_kind};
 ghost use Rattle.tla_expr.specs.ViewSeen.{view_seen, key_words, value_words};
 
-use crate::op::Op;
 use crate::word::{is_pluscal_word, is_tla_word};
 use tla_token::{Kind, Sign, Span, Token, Tokens};
+use tla_tree::Op;
 
 /// A mark of the grammars.
 #[derive(Clone, Copy, PartialEq, Eq, Debug)]

@@ -1,7 +1,7 @@
 -- A tree means the same in related environments, for any relation that its binders keep.
 use Rattle.std.proofs.Common.{◌≡◌, List, refl, subst, ap, ◌∙◌, Ok, Err}
 use Rattle.tla_token.specs.declared.place.Place.{Place}
-use Rattle.tla_expr.specs.Tree.{Form, name, next, operator_call, Tree, Every}
+use Rattle.tla_tree.specs.Tree.{Form, name, next, operator_call, Tree, Every}
 use Rattle.tla_value.specs.Value.{Outcome, Sense, fault}
 use Rattle.tla_value.specs.Stops.{Check}
 use Rattle.tla_value.specs.Meaning.{Denotation, called, eval}

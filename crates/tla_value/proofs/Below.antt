@@ -1,7 +1,7 @@
 -- What limits change: the outcome is that without limits, or says that a limit was passed.
 use Rattle.std.proofs.Common.{◌≡◌, Bool, true, false, cond, if◌then◌else◌, List, Option, Some, None, refl, sym, ap, subst, Ok, Err}
 use Rattle.tla_token.specs.declared.place.Place.{Place}
-use Rattle.tla_expr.specs.Tree.{Word, Tree, Graft}
+use Rattle.tla_tree.specs.Tree.{Word, Tree, Graft}
 use Rattle.tla_value.specs.Value.{Value, Outcome, Trouble, fault, over, Sense}
 use Rattle.tla_value.specs.Limits.{fits, bounded}
 use Rattle.tla_value.specs.Stops.{Check, plain}

@@ -1,7 +1,7 @@
 -- Facts of each node of a tree, and of each word, by weaker ones.
 use Rattle.std.proofs.Common.{List, [], ◌∷◌}
 use Rattle.tla_token.specs.declared.place.Place.{Place}
-use Rattle.tla_expr.specs.Tree.{Word, Form, Tree, node, Trees, no_trees, tree, Every, EveryOf, Each}
+use Rattle.tla_tree.specs.Tree.{Word, Form, Tree, node, Trees, no_trees, tree, Every, EveryOf, Each}
 
 pub each_weaker : (P Q : Word → Type 0) → ((x : Word) → P x → Q x) → (xs : List Word) → Each P xs → Each Q xs
 each_weaker P Q h [] p = tt

@@ -1,8 +1,8 @@
 -- A group's set, taken once for each name of the group, gives the same outcome.
 use Rattle.std.proofs.Common.{◌≡◌, List, [], ◌∷◌, ◌++◌, map, refl, sym, ◌∙◌, ap, Ok, Err}
 use Rattle.tla_token.specs.declared.place.Place.{Place}
-use Rattle.tla_expr.specs.declared.op.Binder.{Binder}
-use Rattle.tla_expr.specs.Tree.{Name, binding, Tree, node, Trees, no_trees, tree}
+use Rattle.tla_tree.specs.declared.op.Binder.{Binder}
+use Rattle.tla_tree.specs.Tree.{Name, binding, Tree, node, Trees, no_trees, tree}
 use Rattle.tla_value.specs.Value.{Value, Values, Outcome, Trouble, ◌>>=◌, in_order}
 use Rattle.tla_value.specs.Stops.{Check, members_at, sense_of}
 use Rattle.tla_value.specs.Meaning.{Env, Denotation, Row, at_members, at_group, at_choices, at_body, gathered, sources, bound_value, eval, evals}

@@ -3,9 +3,9 @@ use Rattle.std.proofs.Common.{◌≡◌, ℤ, pos, ◌+ℤ◌, ◌-ℤ◌, Bool,
 use Rattle.std.specs.Prelude.{int_lt}
 use Rattle.std.specs.Option.{ok_or}
 use Rattle.tla_token.specs.declared.place.Place.{Place}
-use Rattle.tla_expr.specs.declared.op.Op.{Op}
-use Rattle.tla_expr.specs.declared.op.Op.TheVariants.{Equivalent, Not, Equal, NotEqual, Less, Greater, AtMost, AtLeast, SubsetEq, Override, MapsTo, Cup, Cap, Without, Subset, Union, Range, Domain, Plus, Modulo, Minus, Negate, Times, Concat, Divide}
-use Rattle.tla_expr.specs.Tree.{PathStep, index, field, Slot, Strict, operator, set_of, tuple, fields, records, functions, apply, select, except}
+use Rattle.tla_tree.specs.declared.op.Op.{Op}
+use Rattle.tla_tree.specs.declared.op.Op.TheVariants.{Equivalent, Not, Equal, NotEqual, Less, Greater, AtMost, AtLeast, SubsetEq, Override, MapsTo, Cup, Cap, Without, Subset, Union, Range, Domain, Plus, Modulo, Minus, Negate, Times, Concat, Divide}
+use Rattle.tla_tree.specs.Tree.{PathStep, index, field, Slot, Strict, operator, set_of, tuple, fields, records, functions, apply, select, except}
 use Rattle.tla_value.specs.declared.fault.FaultKind.{FaultKind}
 use Rattle.tla_value.specs.declared.fault.FaultKind.TheVariants.{BadDivisor}
 use Rattle.tla_value.specs.Value.{Value, Values, truth, int, text, set, fun, no_values, and, Outcome, Trouble, fault, over, Sense, ◌>>=◌, in_order}

@@ -2,9 +2,9 @@
 use Rattle.std.proofs.Common.{◌≡◌, Bool, true, false, cond, List, [], ◌∷◌, ◌++◌, map, refl, subst, Ok, Err}
 use Rattle.std.specs.List.{flat_map}
 use Rattle.tla_token.specs.declared.place.Place.{Place}
-use Rattle.tla_expr.specs.declared.op.Binder.{Binder}
-use Rattle.tla_expr.specs.declared.op.Binder.TheVariants.{Image, Function}
-use Rattle.tla_expr.specs.Tree.{Word, Name, words, Strict, Form, number, string, truth as literal, booleans, strings, name, next, strict, operator_call, conjunction, disjunction, implication, member, if_then_else, cases, binding, local, Tree, node, Trees, no_trees, tree, Every, EveryOf, Each, binders, beginnings, seen_names}
+use Rattle.tla_tree.specs.declared.op.Binder.{Binder}
+use Rattle.tla_tree.specs.declared.op.Binder.TheVariants.{Image, Function}
+use Rattle.tla_tree.specs.Tree.{Word, Name, words, Strict, Form, number, string, truth as literal, booleans, strings, name, next, strict, operator_call, conjunction, disjunction, implication, member, if_then_else, cases, binding, local, Tree, node, Trees, no_trees, tree, Every, EveryOf, Each, binders, beginnings, seen_names}
 use Rattle.tla_value.specs.declared.fault.FaultKind.TheVariants.{NotSet, NotFunction, NoCase}
 use Rattle.tla_value.specs.Value.{Value, Values, truth, set, no_values, and, Outcome, Sense, ◌>>=◌, in_order}
 use Rattle.tla_value.specs.Stops.{Check, truth_at, members_at, one_of, tested, sense_of}

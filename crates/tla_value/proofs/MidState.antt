@@ -2,7 +2,7 @@
 use Rattle.std.proofs.Common.{◌≡◌, List, [], ◌∷◌, Bool, true, false, cond, bytes_eq, Option, Some, None, refl, sym, ◌∙◌, ap, subst}
 use Rattle.std.proofs.lemmas.Slice.Eq.{bytes_eq-Decides}
 use Rattle.tla_token.specs.declared.place.Place.{Place}
-use Rattle.tla_expr.specs.Tree.{Word, Tree, Every, graft}
+use Rattle.tla_tree.specs.Tree.{Word, Tree, Every, graft}
 use Rattle.tla_value.specs.Value.{Value, Sense}
 use Rattle.tla_value.specs.Stops.{Check, sense_of}
 use Rattle.tla_value.specs.Meaning.{Env, bind, eval}

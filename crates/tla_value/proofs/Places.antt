@@ -2,8 +2,8 @@
 use Rattle.std.proofs.Common.{◌≡◌, Bool, true, false, if◌then◌else◌, List, [], ◌∷◌, map, Option, Some, None, refl, sym, ◌∙◌, ap, subst, Ok, Err}
 use Rattle.tla_token.specs.declared.place.Place.{Place}
 use Rattle.tla_token.specs.Places.{nowhere}
-use Rattle.tla_expr.specs.Tree.{Word, Name, words, Slot, Strict, except, Form, strict, binding, local, Tree, node, Trees, no_trees, tree, seen_names, Graft}
-use Rattle.tla_expr.specs.laws.Placeless.{names_placeless, slot_placeless, strict_placeless, form_placeless, tree_placeless, trees_placeless}
+use Rattle.tla_tree.specs.Tree.{Word, Name, words, Slot, Strict, except, Form, strict, binding, local, Tree, node, Trees, no_trees, tree, seen_names, Graft}
+use Rattle.tla_tree.specs.laws.Placeless.{names_placeless, slot_placeless, strict_placeless, form_placeless, tree_placeless, trees_placeless}
 use Rattle.tla_value.specs.Value.{Value, Outcome, Trouble, fault, over, Sense}
 use Rattle.tla_value.specs.Limits.{fits, bounded}
 use Rattle.tla_value.specs.Stops.{Check, plain}

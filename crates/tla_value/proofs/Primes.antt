@@ -1,7 +1,7 @@
 -- An expression with the assigned names primed means over a pair of states what it means in the state half done.
 use Rattle.std.proofs.Common.{◌≡◌, List, [], ◌∷◌, Bool, true, false, cond, bytes_eq, Some, None, refl, ◌∙◌, ap}
 use Rattle.tla_token.specs.declared.place.Place.{Place}
-use Rattle.tla_expr.specs.Tree.{Word, Form, name, next, operator_call, Tree, node, no_trees, Every, Each, binders, graft}
+use Rattle.tla_tree.specs.Tree.{Word, Form, name, next, operator_call, Tree, node, no_trees, Every, Each, binders, graft}
 use Rattle.tla_value.specs.Stops.{Check}
 use Rattle.tla_value.specs.Meaning.{Env, just, eval}
 use Rattle.tla_value.specs.Grafts.{primes, read_tree}
@@ -9,9 +9,8 @@ use Rattle.tla_value.proofs.Facts.{each_weaker, every_weaker}
 use Rattle.tla_value.proofs.Alike.{eval_alike}
 use Rattle.tla_value.proofs.Graft.{free_law}
 use Rattle.tla_value.proofs.Relations.{Bound, KeptBy}
-use Rattle.tla_value.specs.laws.Grafting.{BindsNone, IsUnprimed}
+use Rattle.tla_value.specs.laws.Grafting.{BindsNone, IsUnprimed, Clear, Unread}
 use Rattle.tla_value.specs.laws.FreeNames.{FreeNames}
-use Rattle.tla_value.specs.laws.Grafting.{Clear, Unread}
 
 read_primed : (c : Check) (b : Bool) (x : Word) (at : Place) (e : Env) → cond b (e.primed x at) (e.now x at) ≡ read_tree c (cond b (Some (node (next x) at no_trees)) None) x at e
 read_primed c true x at e = refl

@@ -1,9 +1,9 @@
 -- What the forms over one name mean where the body gives a value at each member of the set.
 use Rattle.std.proofs.Common.{◌≡◌, Bool, true, false, cond, ◌&&◌, ◌||◌, List, [], ◌∷◌, ◌++◌, map, refl, sym, ◌∙◌, ap, Ok}
 use Rattle.tla_token.specs.declared.place.Place.{Place}
-use Rattle.tla_expr.specs.declared.op.Binder.{Binder}
-use Rattle.tla_expr.specs.declared.op.Binder.TheVariants.{ForAll, Exists, Filter, Image, Function}
-use Rattle.tla_expr.specs.Tree.{Word, Name, binding}
+use Rattle.tla_tree.specs.declared.op.Binder.{Binder}
+use Rattle.tla_tree.specs.declared.op.Binder.TheVariants.{ForAll, Exists, Filter, Image, Function}
+use Rattle.tla_tree.specs.Tree.{Word, Name, binding}
 use Rattle.tla_value.specs.Value.{Value, Values, truth, set, no_values, and, Outcome, ◌>>=◌, in_order}
 use Rattle.tla_value.specs.Order.{set_from, fun_from, listed}
 use Rattle.tla_value.specs.Sets.{kept}

@@ -1,7 +1,7 @@
 -- Relations between environments, and forms that keep them.
 use Rattle.std.proofs.Common.{◌≡◌}
 use Rattle.tla_token.specs.declared.place.Place.{Place}
-use Rattle.tla_expr.specs.Tree.{Word, Form, name, next, operator_call, Each, binders}
+use Rattle.tla_tree.specs.Tree.{Word, Form, name, next, operator_call, Each, binders}
 use Rattle.tla_value.specs.Value.{Value}
 use Rattle.tla_value.specs.Meaning.{Env, Denotation, bind}
 

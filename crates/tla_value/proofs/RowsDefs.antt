@@ -2,7 +2,7 @@
 use Rattle.std.specs.Prelude.{◌≡◌, List, [], ◌∷◌, true, false, Some, None}
 use Rattle.std.proofs.Common.{refl, arith, pos, Ok}
 use Rattle.tla_token.specs.declared.place.Place.{Place}
-use Rattle.tla_expr.specs.Tree.{Tree, node, no_trees, number, name}
+use Rattle.tla_tree.specs.Tree.{Tree, node, no_trees, number, name}
 use Rattle.tla_value.specs.declared.names.Definition.{Definition as Kept}
 use Rattle.tla_value.specs.declared.names.Instance.{Instance}
 use Rattle.tla_value.specs.Value.{int}

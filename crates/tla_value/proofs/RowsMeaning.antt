@@ -2,10 +2,10 @@
 use Rattle.std.proofs.Common.{◌≡◌, ℕ, pos, negsuc, ◌-◌, ◌^◌, List, [], ◌∷◌, true, false, refl, Ok, Err}
 use Rattle.std.specs.Prelude.{codes}
 use Rattle.tla_token.specs.declared.place.Place.{Place}
-use Rattle.tla_expr.specs.declared.op.Op.{Op}
-use Rattle.tla_expr.specs.declared.op.Op.TheVariants.{Equal, Plus, Minus, Divide, Modulo, Negate, Range, Subset, Override, MapsTo}
-use Rattle.tla_expr.specs.declared.op.Binder.TheVariants.{Exists, Function}
-use Rattle.tla_expr.specs.Tree.{Word, Name, index, operator, set_of, tuple, fields, functions, apply, select, except, Form, number, string, truth as literal, name, strict, operator_call, conjunction, member, cases, binding, local, Tree, node, Trees, no_trees, tree}
+use Rattle.tla_tree.specs.declared.op.Op.{Op}
+use Rattle.tla_tree.specs.declared.op.Op.TheVariants.{Equal, Plus, Minus, Divide, Modulo, Negate, Range, Subset, Override, MapsTo}
+use Rattle.tla_tree.specs.declared.op.Binder.TheVariants.{Exists, Function}
+use Rattle.tla_tree.specs.Tree.{Word, Name, index, operator, set_of, tuple, fields, functions, apply, select, except, Form, number, string, truth as literal, name, strict, operator_call, conjunction, member, cases, binding, local, Tree, node, Trees, no_trees, tree}
 use Rattle.tla_value.specs.declared.fault.FaultKind.TheVariants.{NotInteger, NotFunction, NotSet, NotInDomain, BadDivisor, NoCase, EmptySequence}
 use Rattle.tla_value.specs.Value.{Value, truth, int, Outcome, fault, over}
 use Rattle.tla_value.specs.Order.{seq_from}

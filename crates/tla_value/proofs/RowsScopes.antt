@@ -2,9 +2,9 @@
 use Rattle.std.proofs.Common.{◌≡◌, ℕ, pos, List, [], ◌∷◌, Bool, true, false, cond, bytes_eq, Some, None, inl, inr, refl, Ok, Err}
 use Rattle.std.specs.Prelude.{codes, ◌||◌}
 use Rattle.tla_token.specs.declared.place.Place.{Place}
-use Rattle.tla_expr.specs.declared.op.Op.TheVariants.{Equal, Greater, Plus, Divide}
-use Rattle.tla_expr.specs.declared.op.Binder.TheVariants.{Exists}
-use Rattle.tla_expr.specs.Tree.{Word, Name, operator, set_of, Form, number, name, if_then_else, binding, Every, next, strict, operator_call, local, Tree, node, Trees, no_trees, tree, graft}
+use Rattle.tla_tree.specs.declared.op.Op.TheVariants.{Equal, Greater, Plus, Divide}
+use Rattle.tla_tree.specs.declared.op.Binder.TheVariants.{Exists}
+use Rattle.tla_tree.specs.Tree.{Word, Name, operator, set_of, Form, number, name, if_then_else, binding, Every, next, strict, operator_call, local, Tree, node, Trees, no_trees, tree, graft}
 use Rattle.tla_value.specs.declared.fault.FaultKind.TheVariants.{BadDivisor, NotFunction}
 use Rattle.tla_value.specs.Value.{Value, truth, int, Outcome, fault}
 use Rattle.tla_value.specs.Order.{seq_from}

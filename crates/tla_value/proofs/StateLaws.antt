@@ -2,7 +2,7 @@
 use Rattle.std.proofs.Common.{◌≡◌, Bool, true, false, [], ◌∷◌, refl, sym, ◌∙◌, ap, Some, true≢false}
 use Rattle.std.specs.Prelude.{◌==◌, if◌then◌else◌, cond}
 use Rattle.std.specs.Cmp.Lexicographic.{pointwise, bytes_decides}
-use Rattle.tla_expr.specs.Tree.{Word}
+use Rattle.tla_tree.specs.Tree.{Word}
 use Rattle.tla_value.specs.Value.{Value}
 use Rattle.tla_value.specs.States.{Entries, value_of, updated}
 

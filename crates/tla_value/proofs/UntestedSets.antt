@@ -5,9 +5,9 @@ use Rattle.std.specs.declared.cmp.Ordering.{Ordering}
 use Rattle.std.specs.declared.cmp.Ordering.TheVariants.{Less, Equal, Greater}
 use Rattle.std.proofs.Math.Bool.{or-false}
 use Rattle.tla_token.specs.declared.place.Place.{Place}
-use Rattle.tla_expr.specs.declared.op.Op.{Op}
-use Rattle.tla_expr.specs.declared.op.Op.TheVariants.{Subset}
-use Rattle.tla_expr.specs.Tree.{Word, Strict, operator, functions, records}
+use Rattle.tla_tree.specs.declared.op.Op.{Op}
+use Rattle.tla_tree.specs.declared.op.Op.TheVariants.{Subset}
+use Rattle.tla_tree.specs.Tree.{Word, Strict, operator, functions, records}
 use Rattle.tla_value.specs.Value.{Value, Values, truth, int, text, model, fun, set, no_values, and, Outcome, values_in, ◌>>=◌, in_order}
 use Rattle.tla_value.specs.Order.{record_from, count, order, orders, same, holds, set_from, field_pairs, arguments, values_at, IsBefore, IsAscending, IsCanonical, AreCanonical}
 use Rattle.tla_value.specs.Stops.{plain, members_at, function_at, tested}

@@ -2,7 +2,7 @@
 use Rattle.std.proofs.Common.{◌≡◌, pos, negsuc, Bool, true, false, List, [], ◌∷◌, refl, sym, ◌∙◌, ap, arith, Option, Some, None, true≢false, subst}
 use Rattle.std.specs.Prelude.{if◌then◌else◌}
 use Rattle.std.specs.Ordering.{is_eq}
-use Rattle.tla_expr.specs.Tree.{Word}
+use Rattle.tla_tree.specs.Tree.{Word}
 use Rattle.tla_value.specs.Value.{Value, Values, truth, int, text, model, set, fun, no_values, and}
 use Rattle.tla_value.specs.Order.{orders, count, listed, set_from, seq_from, fun_from, pairs_of, numbered, IsAscending, IsCanonical, AreCanonical}
 use Rattle.tla_value.specs.OrderLaws.{orders_equal, is_equal}

@@ -4,7 +4,7 @@ use Rattle.std.specs.Prelude.{max, neg_ℤ, ◌&&◌, if◌then◌else◌}
 use Rattle.std.specs.Ordering.{is_eq}
 use Rattle.std.proofs.lemmas.Bool.{and_parts}
 use Rattle.tla_token.specs.Limits.{deepest_value}
-use Rattle.tla_expr.specs.Tree.{Word}
+use Rattle.tla_tree.specs.Tree.{Word}
 use Rattle.tla_value.specs.Value.{Value, Values, truth, int, text, model, set, fun, no_values, and, values_in}
 use Rattle.tla_value.specs.Order.{orders, listed, numbered, set_from, fun_from, seq_from, IsCanonical, AreCanonical, ArePairsCanonical}
 use Rattle.tla_value.specs.Limits.{depth, depths, fits, fits_parts, all_fit, fits_count}

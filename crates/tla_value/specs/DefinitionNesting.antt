@@ -1,6 +1,6 @@
 -- How deep definitions nest with the bodies of earlier ones in place of their names, each use being one form more ("Specifying Systems", section 17.3).
 use Rattle.std.specs.Prelude.{ℕ, ◌+◌, max, List, [], ◌∷◌, ◌++◌, map, cond, bytes_eq}
-use Rattle.tla_expr.specs.Tree.{Word, Form, name, operator_call, Tree, node, Trees, no_trees, tree, seen_names}
+use Rattle.tla_tree.specs.Tree.{Word, Form, name, operator_call, Tree, node, Trees, no_trees, tree, seen_names}
 use Rattle.tla_value.specs.Definitions.{Definition}
 
 -- names of definitions, each with how deep a use of it nests, the latest first

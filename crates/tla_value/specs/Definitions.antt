@@ -1,7 +1,7 @@
 -- The names that an expression finds outside its binders: constants, variables, standard operators, and definitions ("Specifying Systems", section 17.3).
 use Rattle.std.specs.Prelude.{Bool, cond, bytes_eq, List, [], ◌∷◌, Option, Some, None, Ok, Err}
 use Rattle.tla_token.specs.declared.place.Place.{Place}
-use Rattle.tla_expr.specs.Tree.{Word, Tree}
+use Rattle.tla_tree.specs.Tree.{Word, Tree}
 use Rattle.tla_value.specs.Value.{Value, Outcome, Trouble, fault, over, Sense}
 use Rattle.tla_value.specs.Stops.{Check, misshapen, sense_of}
 use Rattle.tla_value.specs.Meaning.{Env, just, bind, eval}

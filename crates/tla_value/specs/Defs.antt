@@ -2,8 +2,8 @@
 use Rattle.std.specs.Prelude.{◌≡◌, ℕ, ◌<◌, List, [], ◌∷◌, map, Option, Some, None, slice_get}
 use Rattle.std.specs.Coded.{Coded, codes}
 use Rattle.std.specs.Option.{option_map}
-use Rattle.tla_expr.specs.Tree.{Word, Tree}
-use Rattle.tla_expr.specs.Pool.{at}
+use Rattle.tla_tree.specs.Tree.{Word, Tree}
+use Rattle.tla_tree.specs.Pool.{at}
 use Rattle.tla_value.specs.declared.names.Definition.{Definition as Kept}
 use Rattle.tla_value.specs.Definitions.{Definition}
 use Rattle.tla_value.specs.Outside.{ReadDefinition}

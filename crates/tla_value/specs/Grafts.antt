@@ -1,7 +1,7 @@
 -- Trees put in for names: priming, macro arguments, the variables of a process; and the names as what stands for them.
 use Rattle.std.specs.Prelude.{Bool, cond, Option, Some, None}
 use Rattle.tla_token.specs.declared.place.Place.{Place}
-use Rattle.tla_expr.specs.Tree.{Word, strict, apply, name, next, Tree, node, no_trees, tree, Graft}
+use Rattle.tla_tree.specs.Tree.{Word, strict, apply, name, next, Tree, node, no_trees, tree, Graft}
 use Rattle.tla_value.specs.Stops.{Check}
 use Rattle.tla_value.specs.Meaning.{Env, Denotation, eval}
 

@@ -1,6 +1,6 @@
 -- The scope of expressions that are evaluated with an instance: constants, and definitions whose bodies are numbers of a pool.
 use Rattle.std.specs.Prelude.{List}
-use Rattle.tla_expr.specs.Tree.{Tree}
+use Rattle.tla_tree.specs.Tree.{Tree}
 use Rattle.tla_value.specs.declared.names.Instance.{Instance}
 use Rattle.tla_value.specs.Stops.{Check}
 use Rattle.tla_value.specs.Meaning.{Env}

@@ -1,9 +1,9 @@
 -- What an expression means: its value where it stands, or the first fault in the order of evaluation ("Specifying Systems", chapter 16).
 use Rattle.std.specs.Prelude.{pos, List, [], ◌∷◌, ◌++◌, map, Bool, true, false, ◌&&◌, ◌||◌, cond, bytes_eq, Option, Some, None, Ok, Err}
 use Rattle.tla_token.specs.declared.place.Place.{Place}
-use Rattle.tla_expr.specs.declared.op.Binder.{Binder}
-use Rattle.tla_expr.specs.declared.op.Binder.TheVariants.{ForAll, Exists, Filter, Image, Function}
-use Rattle.tla_expr.specs.Tree.{Word, Name, Form, number, string, truth as literal, booleans, strings, name, next, strict, operator_call, conjunction, disjunction, implication, member, if_then_else, cases, binding, local, Tree, node, Trees, no_trees, tree}
+use Rattle.tla_tree.specs.declared.op.Binder.{Binder}
+use Rattle.tla_tree.specs.declared.op.Binder.TheVariants.{ForAll, Exists, Filter, Image, Function}
+use Rattle.tla_tree.specs.Tree.{Word, Name, Form, number, string, truth as literal, booleans, strings, name, next, strict, operator_call, conjunction, disjunction, implication, member, if_then_else, cases, binding, local, Tree, node, Trees, no_trees, tree}
 use Rattle.tla_value.specs.declared.fault.FaultKind.TheVariants.{NotSet, NoCase}
 use Rattle.tla_value.specs.Value.{Value, Values, truth, int, text, set, no_values, and, Outcome, fault, Sense, ◌>>=◌, in_order}
 use Rattle.tla_value.specs.Order.{set_from, fun_from, seq_from}

@@ -2,7 +2,7 @@
 -- ("Specifying Systems", chapter 17).
 use Rattle.std.specs.Prelude.{List}
 use Rattle.tla_token.specs.declared.place.Place.{Place}
-use Rattle.tla_expr.specs.Tree.{Word, Name}
+use Rattle.tla_tree.specs.Tree.{Word, Name}
 use Rattle.tla_value.specs.Definitions.{Definition}
 
 -- a unit that was passed on unread

@@ -1,7 +1,7 @@
 -- The operators and sets of the standard modules Naturals, Integers, Sequences, FiniteSets and TLC ("Specifying Systems", chapter 18 and section 14.5.3).
 use Rattle.std.specs.Prelude.{ℤ, pos, ◌+ℤ◌, ◌-ℤ◌, Bool, true, false, cond, ◌&&◌, bytes_eq, codes, length, List, [], ◌∷◌, ◌++◌, Option, Some, None, Ok, Err}
 use Rattle.tla_token.specs.declared.place.Place.{Place}
-use Rattle.tla_expr.specs.Tree.{Word}
+use Rattle.tla_tree.specs.Tree.{Word}
 use Rattle.tla_value.specs.declared.fault.FaultKind.TheVariants.{NotSet, EmptySequence, AssertFailed}
 use Rattle.tla_value.specs.Value.{Value, Values, truth, int, set, fun, Outcome, fault, Sense, values_in, ◌>>=◌, in_order}
 use Rattle.tla_value.specs.Order.{holds, count, listed, seq_from, sequence_of}

@@ -2,9 +2,9 @@
 -- and section 14.5.3).
 use Rattle.std.specs.Prelude.{ℕ, List, [], ◌∷◌, Bool, true, false, ◌||◌, bytes_eq, codes, cond, Option, Some, None}
 use Rattle.tla_token.specs.Signs.{is_among}
-use Rattle.tla_expr.specs.declared.op.Op.{Op}
-use Rattle.tla_expr.specs.declared.op.Op.TheVariants as op
-use Rattle.tla_expr.specs.Tree.{Word, Form, member, Trees, no_trees, tree}
+use Rattle.tla_tree.specs.declared.op.Op.{Op}
+use Rattle.tla_tree.specs.declared.op.Op.TheVariants as op
+use Rattle.tla_tree.specs.Tree.{Word, Form, member, Trees, no_trees, tree}
 
 -- ---- modules
 

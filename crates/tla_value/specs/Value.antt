@@ -1,7 +1,7 @@
 -- Values, and what an expression gives: a value, a fault, or a value past the limits ("Specifying Systems", section 16.1).
 use Rattle.std.specs.Prelude.{◌≡◌, ◌↔◌, ℤ, Bool, true, false, ◌||◌, List, [], ◌∷◌, Result, Ok, Err}
 use Rattle.tla_token.specs.declared.place.Place.{Place}
-use Rattle.tla_expr.specs.Tree.{Word}
+use Rattle.tla_tree.specs.Tree.{Word}
 use Rattle.tla_value.specs.declared.fault.FaultKind.{FaultKind}
 
 mutual

@@ -7,7 +7,7 @@ use Rattle.tla_token.specs.Lexemes.{Kind, one}
 use Rattle.tla_token.specs.Lexemes as lexeme
 use Rattle.tla_token.specs.Tokens.{Piece, block, text_of, Fits, stretch}
 use Rattle.tla_token.specs.Tokens as text
-use Rattle.tla_expr.specs.Tree.{Word}
+use Rattle.tla_tree.specs.Tree.{Word}
 use Rattle.tla_value.specs.Value.{Value}
 use Rattle.tla_value.specs.ValueText.{Mark, word, number, quote, sign, Spells}
 

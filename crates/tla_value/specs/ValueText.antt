@@ -5,8 +5,8 @@ use Rattle.std.specs.Ordering.{is_eq}
 use Rattle.std.specs.List.{list_all, list_any}
 use Rattle.tla_token.specs.Lexemes.{is_word, is_letter}
 use Rattle.tla_token.specs.Limits.{deepest_value}
-use Rattle.tla_expr.specs.Lexical.{escapes}
-use Rattle.tla_expr.specs.Tree.{Word}
+use Rattle.tla_tree.specs.Lexical.{escapes}
+use Rattle.tla_tree.specs.Tree.{Word}
 use Rattle.tla_value.specs.Value.{Value, Values, truth, int, text, model, set, fun, no_values, and}
 use Rattle.tla_value.specs.Order.{orders, same, set_from, listed, fun_from, seq_from, numbered}
 use Rattle.tla_value.specs.Limits.{fits, fits_int}

@@ -2,8 +2,8 @@
 
 ghost use Rattle.std.specs.Prelude.{◌≡◌, ◌+◌, ◌<◌, ℕ, ℤ, pos, Bool, true, List};
 ghost use Rattle.tla_token.specs.declared.place.Place.{Place};
-ghost use Rattle.tla_expr.specs.declared.op.Binder.{Binder};
-ghost use Rattle.tla_expr.specs.Tree.{Word, Name, binding, Tree, node, Trees, Graft, graft, Every};
+ghost use Rattle.tla_tree.specs.declared.op.Binder.{Binder};
+ghost use Rattle.tla_tree.specs.Tree.{Word, Name, binding, Tree, node, Trees, Graft, graft, Every};
 ghost use Rattle.tla_value.specs.Value.{Value};
 ghost use Rattle.tla_value.specs.Stops.{Check, plain};
 ghost use Rattle.tla_value.specs.Limits.{bounded};

@@ -10,8 +10,8 @@ use crate::state::State;
 use crate::value::Value;
 use std::alloc::{AllocError, Global};
 use std::marker::Model;
-use tla_expr::{Name, NameList, NodeId};
 use tla_token::Place;
+use tla_tree::{Name, NameList, NodeId};
 
 /// A look-up of names. Its meaning is the value of each name that has one.
 pub trait Names {

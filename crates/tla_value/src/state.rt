@@ -8,7 +8,7 @@ use crate::value::Value;
 use indexmap::IndexMap;
 use std::alloc::{AllocError, Global};
 use std::marker::Model;
-use tla_expr::Name;
+use tla_tree::Name;
 
 /// A value for each name, in the order in which the names came. Contracts see it as the list of
 /// these pairs.

@@ -4,7 +4,7 @@ ghost use Rattle.std.specs.Prelude.{◌≡◌, IfOk};
 
 use std::alloc::{AllocError, Global};
 use std::marker::Model;
-use tla_expr::Name;
+use tla_tree::Name;
 
 /// A value of TLA+ ("Specifying Systems", section 16.1), canonical and within the limits of a run.
 #[derive(Drop)]

@@ -2,9 +2,9 @@
 use Rattle.std.proofs.Common.{◌≡◌, ℕ, suc, List, [], ◌∷◌, ◌++◌, map, false, ◌||◌, cond, bytes_eq, codes, refl, ap, ◌∙◌}
 use Rattle.std.specs.List.{flat_map}
 use Rattle.std.proofs.lemmas.List.{map-append}
-use Rattle.tla_expr.specs.Tree.{Word}
+use Rattle.tla_tree.specs.Tree.{Word}
 use Rattle.tla_value.specs.Outside.{Outside}
-use Rattle.module_text.specs.Module.{Action}
+use Rattle.module_tree.specs.Module.{Action}
 use Rattle.pcal_tree.specs.Algorithm.{Statements, Procedure, Process, Main, alone, processes, Algorithm, Routine, Naming, procedure_routine, process_routine, alone_routine, numbered, first_process, first_procedure}
 use Rattle.pcal_tree.specs.Placeless.{name_placeless, tree_placeless, statements_placeless, declarations_placeless, procedures_placeless, processes_placeless, main_placeless, placeless}
 use Rattle.pcal_tree.specs.OffencesLabels.{label_words}

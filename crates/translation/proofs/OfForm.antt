@@ -1,8 +1,8 @@
 -- The translation of a file of the form is the one that is written for its algorithm, as for any other.
 use Rattle.std.proofs.Common.{◌≡◌, ℕ, [], Bool, true, false, ◌||◌, cond, bytes_eq, codes, refl, ap, ◌∙◌, IsTrue}
 use Rattle.tla_token.specs.declared.place.Place.{Place}
-use Rattle.tla_expr.specs.Tree.{Word}
-use Rattle.tla_expr.specs.laws.Placeless.{tree_placeless}
+use Rattle.tla_tree.specs.Tree.{Word}
+use Rattle.tla_tree.specs.laws.Placeless.{tree_placeless}
 use Rattle.tla_value.specs.Stops.{plain}
 use Rattle.tla_value.specs.Definitions.{no_state}
 use Rattle.tla_value.specs.Outside.{Outside}

@@ -1,11 +1,11 @@
 -- The written translation of an algorithm with all kinds of parts, to the byte, by computation.
 use Rattle.std.proofs.Common.{◌≡◌, [], ◌∷◌, true, false, codes, refl}
 use Rattle.std.specs.Fmt.{digits}
-use Rattle.tla_expr.specs.declared.op.Op.TheVariants.{Plus, Times, Range}
-use Rattle.tla_expr.specs.Tree.{Tree, no_trees, tree}
+use Rattle.tla_tree.specs.declared.op.Op.TheVariants.{Plus, Times, Range}
+use Rattle.tla_tree.specs.Tree.{Tree, no_trees, tree}
 use Rattle.tla_value.specs.Outside.{Outside}
-use Rattle.module_text.specs.Layout.{layout}
-use Rattle.module_text.specs.Formulas.{named, set}
+use Rattle.module_tree.specs.Layout.{layout}
+use Rattle.module_tree.specs.Formulas.{named, set}
 use Rattle.pcal_tree.specs.declared.mark.Mark.TheVariants as marked
 use Rattle.pcal_tree.specs.declared.mark.Fairness.TheVariants.{Weak, Strong}
 use Rattle.pcal_tree.specs.Algorithm.{Statement, skip, goto, call, return, mark, unset, among, Definition, Procedure, Process, processes, Algorithm}

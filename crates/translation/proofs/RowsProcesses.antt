@@ -1,12 +1,12 @@
 -- Written translations of algorithms with processes, to the byte, by computation.
 use Rattle.std.proofs.Common.{◌≡◌, ℕ, List, [], ◌∷◌, true, false, codes, refl}
 use Rattle.std.specs.Fmt.{digits}
-use Rattle.tla_expr.specs.declared.op.Op.TheVariants.{Plus, Minus, Greater, Range, Cup}
-use Rattle.tla_expr.specs.Tree.{Word, Tree}
-use Rattle.module_text.specs.Module.{Region, spec_unit}
-use Rattle.module_text.specs.Ways.{processes_in, sets_of}
-use Rattle.module_text.specs.Layout.{layout, unit_text, sets_text}
-use Rattle.module_text.specs.Formulas.{named, set}
+use Rattle.tla_tree.specs.declared.op.Op.TheVariants.{Plus, Minus, Greater, Range, Cup}
+use Rattle.tla_tree.specs.Tree.{Word, Tree}
+use Rattle.module_tree.specs.Module.{Region, spec_unit}
+use Rattle.module_tree.specs.Ways.{processes_in, sets_of}
+use Rattle.module_tree.specs.Layout.{layout, unit_text, sets_text}
+use Rattle.module_tree.specs.Formulas.{named, set}
 use Rattle.pcal_tree.specs.declared.mark.Mark.TheVariants as marked
 use Rattle.pcal_tree.specs.declared.mark.Fairness.{Fairness}
 use Rattle.pcal_tree.specs.declared.mark.Fairness.TheVariants.{Unfair, Weak, Strong}

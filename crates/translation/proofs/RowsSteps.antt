@@ -1,12 +1,12 @@
 -- The written actions of labels in a uniprocess algorithm, to the byte, by computation.
 use Rattle.std.proofs.Common.{◌≡◌, ℕ, List, [], ◌∷◌, map, true, false, codes, refl}
 use Rattle.std.specs.Fmt.{digits}
-use Rattle.tla_expr.specs.declared.op.Op.TheVariants.{Plus, Minus, Greater, Less, Equal}
-use Rattle.tla_expr.specs.Tree.{Word, conjunction, disjunction, Tree, node, no_trees, tree}
+use Rattle.tla_tree.specs.declared.op.Op.TheVariants.{Plus, Minus, Greater, Less, Equal}
+use Rattle.tla_tree.specs.Tree.{Word, conjunction, disjunction, Tree, node, no_trees, tree}
 use Rattle.tla_value.specs.Outside.{Outside}
-use Rattle.module_text.specs.Module.{init_unit, next_unit}
-use Rattle.module_text.specs.Layout.{unit_text}
-use Rattle.module_text.specs.Formulas.{named, at, set}
+use Rattle.module_tree.specs.Module.{init_unit, next_unit}
+use Rattle.module_tree.specs.Layout.{unit_text}
+use Rattle.module_tree.specs.Formulas.{named, at, set}
 use Rattle.pcal_tree.specs.Algorithm.{nowhere, no_binds, one_of, is, await, print, assert, skip, branch, either, with, while, goto, macro, call, return, Statement, Statements, done, no_branches, or, Macro, Procedure, alone, Algorithm}
 use Rattle.pcal_tree.specs.Labelled as labels
 use Rattle.translation.specs.Region.{written_region}

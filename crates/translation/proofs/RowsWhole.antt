@@ -1,10 +1,10 @@
 -- A whole translation, to the byte, by computation.
 use Rattle.std.proofs.Common.{◌≡◌, [], ◌∷◌, ◌++◌, length, true, false, codes, refl}
 use Rattle.std.specs.Fmt.{digits}
-use Rattle.tla_expr.specs.declared.op.Op.TheVariants.{Plus, Greater}
-use Rattle.module_text.specs.Formulas.{named}
-use Rattle.module_text.specs.Layout.{layout}
-use Rattle.module_text.specs.Around.{begin_line, end_line}
+use Rattle.tla_tree.specs.declared.op.Op.TheVariants.{Plus, Greater}
+use Rattle.module_tree.specs.Formulas.{named}
+use Rattle.module_tree.specs.Layout.{layout}
+use Rattle.module_tree.specs.Around.{begin_line, end_line}
 use Rattle.pcal_tree.specs.Algorithm.{branch, Algorithm}
 use Rattle.translation.specs.Region.{written_region}
 use Rattle.translation.proofs.Trees.{x, y, z, num, over, just, sets, labelled, zero_of, one_body, integers}

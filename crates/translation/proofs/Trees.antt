@@ -1,11 +1,11 @@
 -- Small algorithms on which the written module is tried, in few words.
 use Rattle.std.specs.Prelude.{ℕ, List, [], ◌∷◌, ◌++◌, false, codes}
-use Rattle.tla_expr.specs.declared.op.Op.{Op}
-use Rattle.tla_expr.specs.Tree.{Word, Name, number, strict, operator, tuple, Tree, node, no_trees, tree}
+use Rattle.tla_tree.specs.declared.op.Op.{Op}
+use Rattle.tla_tree.specs.Tree.{Word, Name, number, strict, operator, tuple, Tree, node, no_trees, tree}
 use Rattle.tla_value.specs.Outside.{Outside}
-use Rattle.module_text.specs.Formulas.{named}
-use Rattle.module_text.specs.Module.{Action, action_unit}
-use Rattle.module_text.specs.Layout.{unit_text}
+use Rattle.module_tree.specs.Formulas.{named}
+use Rattle.module_tree.specs.Module.{Action, action_unit}
+use Rattle.module_tree.specs.Layout.{unit_text}
 use Rattle.pcal_tree.specs.declared.mark.Mark.TheVariants.{Plain}
 use Rattle.pcal_tree.specs.Algorithm.{nowhere, no_assignments, assignment, Statement, assign, Statements, done, then, mark, equals, Declaration, Procedure, Process, Main, alone, processes, Algorithm}
 use Rattle.pcal_tree.specs.Placeless.{no_span}

@@ -1,9 +1,9 @@
 -- The written module: the one that is written for a labelled algorithm, with what the module has outside and the option `--no-terminating`
 -- ("A PlusCal User's Manual", sections 3 and 4).
 use Rattle.std.specs.Prelude.{Bool, map}
-use Rattle.tla_expr.specs.Tree.{Word}
+use Rattle.tla_tree.specs.Tree.{Word}
 use Rattle.tla_value.specs.Outside.{Outside}
-use Rattle.module_text.specs.Module.{Region, Module}
+use Rattle.module_tree.specs.Module.{Region, Module}
 use Rattle.pcal_tree.specs.Algorithm.{Algorithm}
 use Rattle.pcal_tree.specs.Placeless.{placeless}
 use Rattle.pcal_tree.specs.Program.{Program, inner}

@@ -1,10 +1,10 @@
 //! Laws of the written module, stated as what functions without a body ensure.
 
 ghost use Rattle.std.specs.Prelude.{◌≡◌, ℕ, List, Bool, false, Some, map};
-ghost use Rattle.tla_expr.specs.Tree.{Word};
+ghost use Rattle.tla_tree.specs.Tree.{Word};
 ghost use Rattle.tla_value.specs.Outside.{Outside};
-ghost use Rattle.module_text.specs.Module.{test, item, Module};
-ghost use Rattle.module_text.specs.Reading.{Reads};
+ghost use Rattle.module_tree.specs.Module.{test, item, Module};
+ghost use Rattle.module_tree.specs.Reading.{Reads};
 ghost use Rattle.pcal_tree.specs.Algorithm.{Routine, Algorithm};
 ghost use Rattle.pcal_tree.specs.Scope.{Scope};
 ghost use Rattle.pcal_tree.specs.Run.{Rules};
@@ -14,7 +14,7 @@ ghost use Rattle.pcal_tree.specs.Placeless.{placeless};
 ghost use Rattle.pcal_tree.specs.Names.{naming};
 ghost use Rattle.pcal_tree.specs.Variables.{vars};
 ghost use Rattle.pcal_tree.specs.Labelled.{labelled};
-ghost use Rattle.module_text.specs.Around.{Around};
+ghost use Rattle.module_tree.specs.Around.{Around};
 ghost use Rattle.promise.specs.Headline.{Stands};
 ghost use Rattle.first_path.specs.Form.{Parts, IsForm};
 ghost use Rattle.first_path.specs.Placed.{translation_of};

@@ -1,9 +1,9 @@
 -- Items with trees put in for names: what captures nothing.
-use Rattle.tla_expr.specs.declared.op.Op.TheVariants.{Subset}
-use Rattle.tla_expr.specs.Tree.{Strict, operator, functions, records, name, next, operator_call, strings, strict, Tree, node, Every, Graft}
+use Rattle.tla_tree.specs.declared.op.Op.TheVariants.{Subset}
+use Rattle.tla_tree.specs.Tree.{Strict, operator, functions, records, name, next, operator_call, strings, strict, Tree, node, Every, Graft}
 use Rattle.tla_value.specs.Stops.{Check}
 use Rattle.tla_value.specs.laws.Grafting.{Clear, BindsClear}
-use Rattle.module_text.specs.Module.{Item, test, setting, unchanged, exists, local, if_then_else, either, Items, no_items, item, Branches, no_branches, branch}
+use Rattle.module_tree.specs.Module.{Item, test, setting, unchanged, exists, local, if_then_else, either, Items, no_items, item, Branches, no_branches, branch}
 
 -- no name that is bound is put in for, or read in a tree that is put in
 abbrev mutual

@@ -1,7 +1,7 @@
 -- What is asked of a scope so that the assignments written for jumps, calls and returns do what these do.
 use Rattle.std.specs.Prelude.{◌≡◌, List, [], ◌∷◌, codes, Bool, true, false, not, ◌&&◌, nat_eq, bytes_eq, Option, Some, None}
 use Rattle.tla_token.specs.declared.place.Place.{Place}
-use Rattle.tla_expr.specs.Tree.{Word, Form, name, Each, Tree, node, Trees, no_trees, tree}
+use Rattle.tla_tree.specs.Tree.{Word, Form, name, Each, Tree, node, Trees, no_trees, tree}
 use Rattle.tla_value.specs.Standard.{first_of, rest_of, standard_sense}
 use Rattle.pcal_tree.specs.Algorithm.{Declaration, Routine, locals, procedure_routines}
 use Rattle.tla_value.specs.Value.{Value}

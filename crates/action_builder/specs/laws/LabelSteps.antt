@@ -1,12 +1,12 @@
 -- A step from a label, with all that its items are written from; what is asked of it, and what it ends in.
 use Rattle.std.specs.Prelude.{List, Bool, Ok, Err}
 use Rattle.tla_token.specs.Signs.{is_among}
-use Rattle.tla_expr.specs.Tree.{Word}
+use Rattle.tla_tree.specs.Tree.{Word}
 use Rattle.tla_value.specs.Value.{Trouble, Outcome}
 use Rattle.tla_value.specs.Grafts.{owned}
 use Rattle.tla_value.specs.Meaning.{Env}
 use Rattle.tla_value.specs.laws.Grafting.{In}
-use Rattle.module_text.specs.Module.{Items}
+use Rattle.module_tree.specs.Module.{Items}
 use Rattle.pcal_tree.specs.Algorithm.{Statements}
 use Rattle.pcal_tree.specs.Scope.{State, Scope}
 use Rattle.pcal_tree.specs.Run.{Has, Rules, run, exit_to}

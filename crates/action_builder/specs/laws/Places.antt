@@ -1,7 +1,7 @@
 -- Items that are equal but for places.
 use Rattle.std.specs.Prelude.{◌≡◌}
 use Rattle.tla_value.specs.laws.Places.{TreesButPlaces}
-use Rattle.module_text.specs.Module.{Item, test, setting, unchanged, exists, local, if_then_else, either, Items, no_items, item, Branches, no_branches, branch}
+use Rattle.module_tree.specs.Module.{Item, test, setting, unchanged, exists, local, if_then_else, either, Items, no_items, item, Branches, no_branches, branch}
 
 abbrev mutual
   pub ItemButPlaces : Item → Item → Type 0

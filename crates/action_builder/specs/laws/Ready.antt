@@ -2,7 +2,7 @@
 use Rattle.std.specs.Prelude.{◌≡◌, List, [], Bool, true, false, cond, codes, Some, None, Ok}
 use Rattle.tla_token.specs.Signs.{is_among}
 use Rattle.tla_token.specs.declared.place.Place.{Place}
-use Rattle.tla_expr.specs.Tree.{Word, apply, select, Form, name, strict, Tree, node, Trees, no_trees, tree, Every}
+use Rattle.tla_tree.specs.Tree.{Word, apply, select, Form, name, strict, Tree, node, Trees, no_trees, tree, Every}
 use Rattle.tla_value.specs.Stops.{plain}
 use Rattle.tla_value.specs.Standard.{printed, asserted, standard_sense}
 use Rattle.tla_value.specs.Value.{IsBad}
@@ -10,8 +10,8 @@ use Rattle.tla_value.specs.Meaning.{Env, just, eval}
 use Rattle.tla_value.specs.laws.Grafting.{In, BindsNone, IsUnprimed}
 use Rattle.tla_value.specs.laws.FreeNames.{FreeNames}
 use Rattle.tla_value.specs.Definitions.{Valuation}
-use Rattle.module_text.specs.Module.{Items}
-use Rattle.module_text.specs.ActionTruth.{Verdict, items_hold}
+use Rattle.module_tree.specs.Module.{Items}
+use Rattle.module_tree.specs.ActionTruth.{Verdict, items_hold}
 use Rattle.pcal_tree.specs.Algorithm.{Assignments, no_assignments, assignment, Binds, no_binds, one_of, is, Statement, assign, await, print, assert, skip, branch, either, with, Statements, done, then, mark, Branches, no_branches, or}
 use Rattle.pcal_tree.specs.Run.{Rules}
 use Rattle.pcal_tree.specs.Scope.{State, Scope}

@@ -6,10 +6,10 @@
 --   process Q \in {"me"} variable y = 0; begin A: inc(x); y := Max(x, y); await \E i \in {2, 3}: i > x;
 --     if x > 1 then goto A; else call P(y); end if; B: skip; end process;
 use Rattle.std.specs.Prelude.{ℕ, List, [], ◌∷◌, Bool, true, false, codes, Some, None, Ok}
-use Rattle.tla_expr.specs.declared.op.Binder.TheVariants.{Exists}
-use Rattle.tla_expr.specs.declared.op.Op.{Op}
-use Rattle.tla_expr.specs.declared.op.Op.TheVariants.{Plus, Greater}
-use Rattle.tla_expr.specs.Tree.{Word, number, string, set_of, name, strict, operator, operator_call, if_then_else, binding, Tree, node, no_trees, tree}
+use Rattle.tla_tree.specs.declared.op.Binder.TheVariants.{Exists}
+use Rattle.tla_tree.specs.declared.op.Op.{Op}
+use Rattle.tla_tree.specs.declared.op.Op.TheVariants.{Plus, Greater}
+use Rattle.tla_tree.specs.Tree.{Word, number, string, set_of, name, strict, operator, operator_call, if_then_else, binding, Tree, node, no_trees, tree}
 use Rattle.tla_value.specs.Value.{Value, text}
 use Rattle.tla_value.specs.Stops.{plain}
 use Rattle.tla_value.specs.Standard.{standard_of, standard_called}

@@ -1,7 +1,7 @@
 -- What names stand for in the scopes of which the laws speak.
 use Rattle.std.specs.Prelude.{◌≡◌, List, [], ◌∷◌, Bool, true, cond, Ok}
 use Rattle.tla_token.specs.declared.place.Place.{Place}
-use Rattle.tla_expr.specs.Tree.{Word}
+use Rattle.tla_tree.specs.Tree.{Word}
 use Rattle.tla_value.specs.Value.{Value}
 use Rattle.tla_value.specs.Stops.{Check, sense_of}
 use Rattle.tla_value.specs.Grafts.{owned}

@@ -1,6 +1,6 @@
 -- Jumps, loops, calls and returns that can be written as assignments, and courses that have the same ends.
 use Rattle.std.specs.Prelude.{◌≡◌, ◌↔◌, Bool, true, ◌||◌, Ok}
-use Rattle.tla_expr.specs.Tree.{Word, Trees}
+use Rattle.tla_tree.specs.Tree.{Word, Trees}
 use Rattle.tla_value.specs.Value.{Value, Outcome, IsBad}
 use Rattle.tla_value.specs.Meaning.{evals, part_values}
 use Rattle.pcal_tree.specs.Algorithm.{Name, Span, Binds, no_binds, one_of, is, Statement, branch, either, with, while, macro, call, Statements, done, then, mark, Branches, no_branches, or}

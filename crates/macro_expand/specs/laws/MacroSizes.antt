@@ -1,7 +1,7 @@
 -- The size of an algorithm with its macro calls written out, computed without writing them out: what is counted once for each macro is a sum over the
 -- names of its body, in which each call puts its arguments.
 use Rattle.std.specs.Prelude.{ℕ, ◌+◌, max, suc, List, [], ◌∷◌, reverse, cond, bytes_eq}
-use Rattle.tla_expr.specs.Tree.{Word, Name, Trees}
+use Rattle.tla_tree.specs.Tree.{Word, Name, Trees}
 use Rattle.pcal_tree.specs.Algorithm.{Macro, Algorithm}
 use Rattle.macro_expand.specs.Measured.{Measure, Calls, of_all, of_algorithm}
 use Rattle.macro_expand.specs.Size.{Size}

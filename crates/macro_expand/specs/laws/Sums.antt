@@ -1,6 +1,6 @@
 -- Counts of trees in which others are put in for names, as sums: what counts whatever is put in, and how often each of these counts.
 use Rattle.std.specs.Prelude.{ℕ, ◌+◌, ◌*◌, max, List, [], ◌∷◌, map, Bool, false, cond, bytes_eq, Option, Some, None}
-use Rattle.tla_expr.specs.Tree.{Word, Name, Form, name, strict, apply, select, Tree, node, Trees, no_trees, tree}
+use Rattle.tla_tree.specs.Tree.{Word, Name, Form, name, strict, apply, select, Tree, node, Trees, no_trees, tree}
 use Rattle.pcal_tree.specs.Algorithm.{nowhere}
 use Rattle.pcal_tree.specs.Run.{arguments}
 use Rattle.macro_expand.specs.Size.{weights, after_first}

@@ -3,7 +3,7 @@
 use Rattle.std.specs.Prelude.{List, [], ◌∷◌, ◌++◌, Bool, ◌||◌, reverse, codes, map}
 use Rattle.std.specs.List.{list_any}
 use Rattle.tla_token.specs.Signs.{is_among}
-use Rattle.tla_expr.specs.Tree.{Word}
+use Rattle.tla_tree.specs.Tree.{Word}
 use Rattle.pcal_tree.specs.Algorithm.{Name, Statements, Main, alone, processes, Algorithm}
 use Rattle.pcal_tree.specs.BoundNames.{Lists, lists_in_body}
 use Rattle.pcal_tree.specs.Expand.{expanded}

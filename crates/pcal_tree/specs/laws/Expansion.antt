@@ -2,7 +2,7 @@
 -- its own ("A PlusCal User's Manual", section 3.5, macros).
 use Rattle.std.specs.Prelude.{◌≡◌, List, [], ◌∷◌, Bool, true, false, bytes_eq, Option, Some, None}
 use Rattle.tla_token.specs.declared.place.Place.{Place}
-use Rattle.tla_expr.specs.Tree.{Word, Form, Tree, Trees, Every, EveryOf, Graft}
+use Rattle.tla_tree.specs.Tree.{Word, Form, Tree, Trees, Every, EveryOf, Graft}
 use Rattle.tla_value.specs.Value.{Value}
 use Rattle.tla_value.specs.Stops.{Check}
 use Rattle.tla_value.specs.laws.Grafting.{Clear, BindsClear, Apart, ApartForm}

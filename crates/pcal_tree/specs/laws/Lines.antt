@@ -1,8 +1,8 @@
 -- Algorithms as they are spelled, without their lines, which no grammar looks at.
 use Rattle.std.specs.Prelude.{map}
 use Rattle.std.specs.Option.{option_map}
-use Rattle.tla_expr.specs.Tree.{Name}
-use Rattle.tla_expr.specs.laws.Columns.{lineless_place, lineless, lineless_all}
+use Rattle.tla_tree.specs.Tree.{Name}
+use Rattle.tla_tree.specs.laws.Columns.{lineless_place, lineless, lineless_all}
 use Rattle.pcal_tree.specs.GrammarParts as part
 use Rattle.pcal_tree.specs.GrammarP as psyntax
 use Rattle.pcal_tree.specs.GrammarC as csyntax

@@ -4,7 +4,7 @@ use Rattle.std.specs.Prelude.{List, [], ◌∷◌, ◌++◌, Bool, false, ◌&&�
 use Rattle.std.specs.List.{flat_map}
 use Rattle.tla_token.specs.declared.rule.Refusal.{Refusal}
 use Rattle.tla_token.specs.Signs.{is_among}
-use Rattle.tla_expr.specs.Tree.{Word, Name, Form, name, Tree, node, Trees, no_trees, tree, words, seen_names}
+use Rattle.tla_tree.specs.Tree.{Word, Name, Form, name, Tree, node, Trees, no_trees, tree, words, seen_names}
 use Rattle.pcal_tree.specs.Algorithm.{Assignments, no_assignments, assignment, Binds, no_binds, one_of, is, Statement, assign, await, print, assert, skip, branch, either, with, while, goto, macro, call, return, Statements, done, then, mark, Branches, no_branches, or, Start, unset, equals, among, Declaration, Macro, Procedure}
 use Rattle.pcal_tree.specs.BoundNames.{all_of, lists_of, names_of_binds}
 use Rattle.pcal_tree.specs.OffencesRebind.{Standings, naming, brought, rebound, rebound_all, any_name, self_alone, Piece, binds, frees, pieces, Calls, putting_in}

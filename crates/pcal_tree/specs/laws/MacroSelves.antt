@@ -2,7 +2,7 @@
 use Rattle.std.specs.Prelude.{List, [], ◌∷◌, ◌++◌, reverse, cond, bytes_eq}
 use Rattle.std.specs.List.{flat_map}
 use Rattle.tla_token.specs.declared.rule.Refusal.{Refusal}
-use Rattle.tla_expr.specs.Tree.{Word}
+use Rattle.tla_tree.specs.Tree.{Word}
 use Rattle.pcal_tree.specs.Algorithm.{Name, Statements, Macro, Procedure, Main, alone, processes, Algorithm}
 use Rattle.pcal_tree.specs.OffencesSelf.{selves, used_by_starts, called_in, used_outside, used_at_the_top}
 use Rattle.pcal_tree.specs.Spots.{used_in_body}

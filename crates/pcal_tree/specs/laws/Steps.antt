@@ -1,6 +1,6 @@
 -- Words of the laws on steps.
 use Rattle.std.specs.Prelude.{◌≡◌, List, [], ◌∷◌, Bool, true, false, ◌||◌}
-use Rattle.tla_expr.specs.Tree.{Word}
+use Rattle.tla_tree.specs.Tree.{Word}
 use Rattle.pcal_tree.specs.Variables.{Agree}
 use Rattle.pcal_tree.specs.Algorithm.{Statement, branch, either, with, while, return, Statements, done, then, mark, Branches, no_branches, or, Macro, Algorithm, Routine, main_routines}
 use Rattle.pcal_tree.specs.Scope.{State}

@@ -1,7 +1,7 @@
 -- When trees may be put in for names: which names a tree binds, and which are free in what is put in.
 use Rattle.std.specs.Prelude.{◌≡◌, List, [], ◌∷◌, Bool, true, false, bytes_eq, Option, Some, None}
 use Rattle.tla_token.specs.declared.place.Place.{Place}
-use Rattle.tla_expr.specs.Tree.{Word, Form, next, Tree, Each, binders, Graft}
+use Rattle.tla_tree.specs.Tree.{Word, Form, next, Tree, Each, binders, Graft}
 use Rattle.tla_value.specs.Value.{Value}
 use Rattle.tla_value.specs.Stops.{Check}
 use Rattle.tla_value.specs.Meaning.{Env, bind, eval}

@@ -1,7 +1,7 @@
 -- Groups of bound names taken apart: each name in a group of its own, with the group's set once for each name.
 use Rattle.std.specs.Prelude.{List, [], ◌∷◌, map}
 use Rattle.std.specs.List.{flat_map}
-use Rattle.tla_expr.specs.Tree.{Name, Tree, Trees, no_trees, tree}
+use Rattle.tla_tree.specs.Tree.{Name, Tree, Trees, no_trees, tree}
 
 abbrev pub each_alone : List Name → List (List Name)
 each_alone xs = map (λ (x : Name). x ∷ []) xs

@@ -1,8 +1,8 @@
 -- Outcomes that differ in the places of troubles alone.
 use Rattle.std.specs.Prelude.{◌≡◌, List, [], ◌∷◌, Option, Some, None, Ok, Err}
 use Rattle.tla_token.specs.declared.place.Place.{Place}
-use Rattle.tla_expr.specs.Tree.{Word, Tree, Graft}
-use Rattle.tla_expr.specs.laws.Placeless.{tree_placeless}
+use Rattle.tla_tree.specs.Tree.{Word, Tree, Graft}
+use Rattle.tla_tree.specs.laws.Placeless.{tree_placeless}
 use Rattle.tla_value.specs.Value.{Value, Outcome, Trouble, fault, over, Sense}
 use Rattle.tla_value.specs.Stops.{Check}
 use Rattle.tla_value.specs.Meaning.{Env, called}

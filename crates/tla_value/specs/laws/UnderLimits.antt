@@ -1,7 +1,7 @@
 -- What limits change: an outcome is that without them, or past one.
 use Rattle.std.specs.Prelude.{◌≡◌, List, Ok, Err}
 use Rattle.tla_token.specs.declared.place.Place.{Place}
-use Rattle.tla_expr.specs.Tree.{Word}
+use Rattle.tla_tree.specs.Tree.{Word}
 use Rattle.tla_value.specs.Value.{Value, Outcome, fault, over, Sense}
 use Rattle.tla_value.specs.Meaning.{Env, called}
 

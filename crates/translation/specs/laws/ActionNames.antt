@@ -1,6 +1,6 @@
 -- The written names of what has an action: each label, and after a procedure's or process's labels itself.
 use Rattle.std.specs.Prelude.{List, [], ◌∷◌, ◌++◌, map, flat_map}
-use Rattle.tla_expr.specs.Tree.{Word}
+use Rattle.tla_tree.specs.Tree.{Word}
 use Rattle.pcal_tree.specs.Algorithm.{Main, alone, processes, Routine, procedure_routines, main_routines}
 use Rattle.pcal_tree.specs.OffencesLabels.{label_words}
 use Rattle.pcal_tree.specs.Program.{Program}

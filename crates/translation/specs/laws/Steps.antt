@@ -1,7 +1,7 @@
 -- The step from a label of which the laws of written actions speak, as the written module has it.
 use Rattle.std.specs.Prelude.{Bool}
-use Rattle.tla_expr.specs.Tree.{Word}
-use Rattle.module_text.specs.Formulas.{self}
+use Rattle.tla_tree.specs.Tree.{Word}
+use Rattle.module_tree.specs.Formulas.{self}
 use Rattle.pcal_tree.specs.Algorithm.{Routine}
 use Rattle.pcal_tree.specs.Scope.{Scope}
 use Rattle.pcal_tree.specs.Run.{Rules}

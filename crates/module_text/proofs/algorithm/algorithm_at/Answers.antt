@@ -1,7 +1,7 @@
 use Rattle.std.proofs.Common.{ℕ, List, ap, sym, ◌∙◌, None}
 use Rattle.std.proofs.lemmas.List.{take_rest}
 use Rattle.tla_token.specs.Offences.{least}
-use Rattle.module_text.specs.AlgorithmText.{Inside}
+use Rattle.module_tree.specs.AlgorithmText.{Inside}
 use Rattle.module_text.specs.AlgorithmSeen.{splitting_parts, in_tokens}
 use Rattle.module_text.proofs.AlgorithmSteps.{Started, fair_started, plain_started, nothing_known, none_marked}
 use Rattle.module_text.proofs.algorithm.algorithm_at.Goals as goal

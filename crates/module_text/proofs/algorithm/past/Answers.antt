@@ -1,7 +1,7 @@
 use Rattle.std.proofs.Common.{◌≡◌, ℕ, ◌+◌, ◌&&◌, ◌||◌, nat_le, nat_lt, get_or, false, is_some, sym, ap, ◌∙◌}
 use Rattle.tla_token.specs.Readings.{joined}
 use Rattle.tla_token.specs.Scan.{part_of}
-use Rattle.module_text.specs.ModuleParts.{kind_in}
+use Rattle.module_tree.specs.ModuleParts.{kind_in}
 use Rattle.module_text.proofs.AlgorithmSteps.{passes, marked_token, marked_other}
 use Rattle.module_text.proofs.algorithm.past.Goals as goal
 use Rattle.module_text.proofs.algorithm.past.Goals.{then-is_token, else-is_token}

@@ -1,5 +1,5 @@
 use Rattle.std.proofs.Common.{sym}
-use Rattle.module_text.specs.ModuleParts.{barred}
+use Rattle.module_tree.specs.ModuleParts.{barred}
 use Rattle.module_text.proofs.bars.module_part.Goals as goal
 
 pub returns-in-Some-clause-part : goal.returns-in-Some-clause-part

@@ -1,7 +1,6 @@
-use Rattle.std.proofs.Common.{◌≡◌, true, false, take, drop, sym, ap, ◌∙◌}
+use Rattle.std.proofs.Common.{◌≡◌, true, false, take, drop, sym, ap, ◌∙◌, ◌+◌, ◌++◌, ◌∷◌, [], ℕ, List, append-nil}
 use Rattle.std.proofs.lemmas.List.{take_rest}
-use Rattle.std.proofs.Common.{◌+◌, ◌++◌, ◌∷◌, [], ℕ, List, append-nil}
-use Rattle.module_text.specs.Beginnings.{begins_algorithm, all_at}
+use Rattle.module_tree.specs.Beginnings.{begins_algorithm, all_at}
 use Rattle.module_text.proofs.BeginningSteps.{on_yes, on_no, on_end, all_stretch, added}
 use Rattle.module_text.proofs.beginning.add_beginnings.Goals as goal
 use Rattle.module_text.proofs.beginning.add_beginnings.Goals.{then-begins_algorithm+in_ok-push, else-begins_algorithm}

@@ -1,5 +1,5 @@
 use Rattle.std.proofs.Common.{◌≡◌, ◌++◌, drop}
-use Rattle.module_text.specs.Beginnings.{begins_algorithm, all_at}
+use Rattle.module_tree.specs.Beginnings.{begins_algorithm, all_at}
 use Rattle.module_text.proofs.beginning.add_beginnings.Given as goal
 
 abbrev pub invariant-places : goal.invariant-places

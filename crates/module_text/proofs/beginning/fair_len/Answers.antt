@@ -2,7 +2,7 @@ use Rattle.std.proofs.Common.{◌≡◌, ◌+◌, ◌≤◌, true, false, length
 use Rattle.std.proofs.lemmas.List.{take_rest}
 use Rattle.tla_token.specs.Lexemes.{is_blank}
 use Rattle.tla_token.specs.Cut.{run}
-use Rattle.module_text.specs.TextFront.{begins}
+use Rattle.module_tree.specs.TextFront.{begins}
 use Rattle.module_text.proofs.BeginningSteps.{fair_yes, fair_past, fair_blankless, fair_wordless}
 use Rattle.module_text.proofs.beginning.fair_len.Goals as goal
 use Rattle.module_text.proofs.beginning.fair_len.Goals.{else-blanks-gt0-via-then-blanks-gt0+else-starts_with, else-blanks-gt0-via-else-blanks-gt0}

@@ -1,7 +1,7 @@
 use Rattle.std.proofs.Common.{◌≡◌, true, false, take, drop, sym, ap, ◌∙◌}
 use Rattle.std.proofs.lemmas.List.{take_rest}
-use Rattle.module_text.specs.Beginnings.{begins_algorithm}
-use Rattle.module_text.specs.FileParts.{first_of}
+use Rattle.module_tree.specs.Beginnings.{begins_algorithm}
+use Rattle.module_tree.specs.FileParts.{first_of}
 use Rattle.module_text.proofs.BeginningSteps.{on_yes, on_no, on_end, all_stretch, stretch_is}
 use Rattle.module_text.proofs.beginning.first_beginning.Goals as goal
 

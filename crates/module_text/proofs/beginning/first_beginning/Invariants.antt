@@ -1,6 +1,6 @@
 use Rattle.std.proofs.Common.{◌≡◌, drop}
-use Rattle.module_text.specs.Beginnings.{begins_algorithm, all_at}
-use Rattle.module_text.specs.FileParts.{first_of}
+use Rattle.module_tree.specs.Beginnings.{begins_algorithm, all_at}
+use Rattle.module_tree.specs.FileParts.{first_of}
 use Rattle.module_text.proofs.beginning.first_beginning.Given as goal
 
 abbrev pub invariant-places : goal.invariant-places

@@ -1,6 +1,6 @@
 use Rattle.std.proofs.Common.{◌≡◌, drop, is_some, ◌∙◌}
 use Rattle.std.proofs.lemmas.List.{take_rest}
-use Rattle.module_text.specs.TextFront.{past_name}
+use Rattle.module_tree.specs.TextFront.{past_name}
 use Rattle.module_text.proofs.BeginningSteps.{named_yes}
 use Rattle.module_text.proofs.beginning.is_named.Goals as goal
 

@@ -2,7 +2,7 @@ use Rattle.std.proofs.Common.{◌≡◌, length, drop, codes, sym, ◌∙◌, is
 use Rattle.std.proofs.lemmas.List.{take_rest}
 use Rattle.tla_token.specs.Lexemes.{is_blank}
 use Rattle.tla_token.specs.Cut.{run}
-use Rattle.module_text.specs.TextFront.{on_some, past_word, past_all}
+use Rattle.module_tree.specs.TextFront.{on_some, past_word, past_all}
 use Rattle.module_text.proofs.BeginningSteps.{options_yes}
 use Rattle.module_text.proofs.beginning.is_options.Goals as goal
 

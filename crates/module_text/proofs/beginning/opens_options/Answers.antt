@@ -2,7 +2,7 @@ use Rattle.std.proofs.Common.{◌≡◌, length, drop, codes, sym, ◌∙◌}
 use Rattle.std.proofs.lemmas.List.{take_rest}
 use Rattle.tla_token.specs.Lexemes.{is_blank}
 use Rattle.tla_token.specs.Cut.{run}
-use Rattle.module_text.specs.TextFront.{begins}
+use Rattle.module_tree.specs.TextFront.{begins}
 use Rattle.module_text.proofs.BeginningSteps.{opens_yes}
 use Rattle.module_text.proofs.beginning.opens_options.Goals as goal
 

@@ -1,15 +1,14 @@
-use Rattle.std.proofs.Common.{◌≡◌, true, false, take, drop, sym, ap, ◌∙◌}
+use Rattle.std.proofs.Common.{◌≡◌, true, false, take, drop, sym, ap, ◌∙◌, ◌+◌, ℕ, List}
 use Rattle.std.proofs.lemmas.List.{take_rest}
 use Rattle.tla_token.specs.declared.rule.Rule.TheVariants.{Options}
 use Rattle.tla_token.specs.Offences.{least}
 use Rattle.tla_token.specs.Readings.{joined}
 use Rattle.tla_token.proofs.Faults.{joined_none}
-use Rattle.module_text.specs.Beginnings.{is_options, all_at}
-use Rattle.module_text.specs.FileOffences.{offences_at}
+use Rattle.module_tree.specs.Beginnings.{is_options, all_at}
+use Rattle.module_tree.specs.FileOffences.{offences_at}
 use Rattle.module_text.proofs.BeginningSteps.{on_yes, on_no, on_end, all_stretch, fault_on}
 use Rattle.module_text.proofs.beginning.options_fault.Goals as goal
 use Rattle.module_text.proofs.beginning.options_fault.Goals.{then-is_options, else-is_options}
-use Rattle.std.proofs.Common.{◌+◌, ℕ, List}
 
 pub places-preserved : goal.places-preserved
 places-preserved c =

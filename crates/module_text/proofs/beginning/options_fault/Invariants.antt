@@ -2,8 +2,8 @@ use Rattle.std.proofs.Common.{◌≡◌, drop}
 use Rattle.tla_token.specs.declared.rule.Rule.TheVariants.{Options}
 use Rattle.tla_token.specs.Offences.{least}
 use Rattle.tla_token.specs.Readings.{joined}
-use Rattle.module_text.specs.Beginnings.{is_options, all_at}
-use Rattle.module_text.specs.FileOffences.{offences_at}
+use Rattle.module_tree.specs.Beginnings.{is_options, all_at}
+use Rattle.module_tree.specs.FileOffences.{offences_at}
 use Rattle.module_text.proofs.beginning.options_fault.Given as goal
 
 abbrev pub invariant-places : goal.invariant-places

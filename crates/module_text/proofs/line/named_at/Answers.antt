@@ -1,6 +1,6 @@
 use Rattle.std.proofs.Common.{ap, sym, ◌∙◌}
 use Rattle.std.specs.Prelude.{codes}
-use Rattle.module_text.specs.TextFront.{past_run, past_word}
+use Rattle.module_tree.specs.TextFront.{past_run, past_word}
 use Rattle.module_text.proofs.Titles.{name_left}
 use Rattle.module_text.proofs.line.named_at.Goals as goal
 

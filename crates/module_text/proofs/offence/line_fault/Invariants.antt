@@ -1,6 +1,6 @@
 use Rattle.std.proofs.Common.{◌≡◌, drop}
 use Rattle.module_text.specs.StandsSeen.{stands_seen}
-use Rattle.module_text.specs.FileOffences.{rest_of_line}
+use Rattle.module_tree.specs.FileOffences.{rest_of_line}
 use Rattle.module_text.proofs.offence.line_fault.Given as goal
 
 abbrev pub invariant-stands : goal.invariant-stands

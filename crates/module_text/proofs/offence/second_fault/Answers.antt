@@ -3,7 +3,7 @@ use Rattle.std.specs.Prelude.{◌+◌, filter, not, false, drop, slice_index_or 
 use Rattle.tla_token.specs.declared.rule.Rule.TheVariants.{TwoAlgorithms}
 use Rattle.tla_token.specs.Offences.{least}
 use Rattle.tla_token.specs.Readings.{joined}
-use Rattle.module_text.specs.FileOffences.{offences_at}
+use Rattle.module_tree.specs.FileOffences.{offences_at}
 use Rattle.module_text.proofs.StandSteps.{start_more}
 use Rattle.module_text.proofs.offence.second_fault.Goals as goal
 

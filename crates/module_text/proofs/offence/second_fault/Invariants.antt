@@ -2,7 +2,7 @@ use Rattle.std.proofs.Common.{◌≡◌, drop, filter, not, get_or, false}
 use Rattle.tla_token.specs.declared.rule.Rule.TheVariants.{TwoAlgorithms}
 use Rattle.tla_token.specs.Offences.{least}
 use Rattle.tla_token.specs.Readings.{joined}
-use Rattle.module_text.specs.FileOffences.{offences_at}
+use Rattle.module_tree.specs.FileOffences.{offences_at}
 use Rattle.module_text.proofs.offence.second_fault.Given as goal
 
 abbrev pub invariant-starts : goal.invariant-starts

@@ -2,8 +2,7 @@ use Rattle.std.proofs.Common.{◌≡◌, drop, filter}
 use Rattle.tla_token.specs.Offences.{least}
 use Rattle.tla_token.specs.Readings.{joined}
 use Rattle.module_text.specs.StandsSeen.{stands_seen}
-use Rattle.module_text.specs.FileOffences.{offences_of}
-use Rattle.module_text.specs.Splitting.{is_splitting}
+use Rattle.module_tree.specs.FileOffences.{offences_of, is_splitting}
 use Rattle.module_text.proofs.offence.stands_fault.Given as goal
 
 abbrev pub invariant-stands : goal.invariant-stands

@@ -1,6 +1,6 @@
 use Rattle.std.proofs.Common.{◌≡◌, drop}
 use Rattle.module_text.specs.StandsSeen.{stands_seen}
-use Rattle.module_text.specs.FileOffences.{no_unit}
+use Rattle.module_tree.specs.FileOffences.{no_unit}
 use Rattle.module_text.proofs.offence.unit_fault.Given as goal
 
 abbrev pub invariant-stands : goal.invariant-stands

@@ -1,6 +1,6 @@
 use Rattle.std.proofs.Common.{ℕ, List, ◌+◌, ◌++◌, get_or, drop, ap, sym, ◌∙◌, append_assoc, append-nil}
 use Rattle.module_text.specs.StandsSeen.{stands_seen}
-use Rattle.module_text.specs.FileParts.{beginnings}
+use Rattle.module_tree.specs.FileParts.{beginnings}
 use Rattle.module_text.proofs.Comments.{begun_some, begun_none, begun_more, begun_done, no_stand}
 use Rattle.module_text.proofs.seek.beginnings.Goals as goal
 use Rattle.module_text.proofs.seek.beginnings.Goals.{in-Some+in_ok-add_beginnings, in_default}

@@ -1,6 +1,6 @@
 use Rattle.std.proofs.Common.{◌≡◌, ◌++◌, drop}
 use Rattle.module_text.specs.StandsSeen.{stands_seen}
-use Rattle.module_text.specs.FileParts.{beginnings}
+use Rattle.module_tree.specs.FileParts.{beginnings}
 use Rattle.module_text.proofs.seek.beginnings.Given as goal
 
 abbrev pub invariant-stands : goal.invariant-stands

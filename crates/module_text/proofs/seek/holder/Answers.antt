@@ -1,5 +1,5 @@
 use Rattle.std.proofs.Common.{ap, sym, ◌∙◌, arith, is_some}
-use Rattle.module_text.specs.FileParts.{holds_algorithm}
+use Rattle.module_tree.specs.FileParts.{holds_algorithm}
 use Rattle.module_text.proofs.StandSteps.{seen_found, seen_not, seen_none}
 use Rattle.module_text.proofs.seek.holder.Goals as goal
 

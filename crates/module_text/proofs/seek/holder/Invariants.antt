@@ -1,7 +1,7 @@
 use Rattle.std.proofs.Common.{◌≡◌, ◌+◌, drop}
 use Rattle.std.specs.List.{position_or_len}
 use Rattle.module_text.specs.StandsSeen.{stands_seen}
-use Rattle.module_text.specs.FileParts.{holds_algorithm}
+use Rattle.module_tree.specs.FileParts.{holds_algorithm}
 use Rattle.module_text.proofs.seek.holder.Given as goal
 
 abbrev pub invariant-loop-i : goal.invariant-loop-i

@@ -1,5 +1,5 @@
 use Rattle.std.proofs.Common.{sym, ◌∙◌, arith}
-use Rattle.module_text.specs.FileParts.{is_newline}
+use Rattle.module_tree.specs.FileParts.{is_newline}
 use Rattle.module_text.proofs.StandSteps.{seen_found, seen_not, seen_none}
 use Rattle.module_text.proofs.seek.newline_index.Goals as goal
 

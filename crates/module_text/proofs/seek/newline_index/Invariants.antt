@@ -1,7 +1,7 @@
 use Rattle.std.proofs.Common.{◌≡◌, ◌+◌, drop}
 use Rattle.std.specs.List.{position_or_len}
 use Rattle.module_text.specs.StandsSeen.{stands_seen}
-use Rattle.module_text.specs.FileParts.{is_newline}
+use Rattle.module_tree.specs.FileParts.{is_newline}
 use Rattle.module_text.proofs.seek.newline_index.Given as goal
 
 abbrev pub invariant-loop-i : goal.invariant-loop-i

@@ -3,9 +3,9 @@ use Rattle.std.specs.List.{flat_map}
 use Rattle.tla_token.specs.Offences.{least}
 use Rattle.tla_token.specs.Readings.{joined}
 use Rattle.module_text.specs.StandsSeen.{stands_seen}
-use Rattle.module_text.specs.FileParts.{module_end, beginnings}
-use Rattle.module_text.specs.AlgorithmText.{algorithm_of}
-use Rattle.module_text.specs.FileOffences.{no_module, no_algorithm, second_algorithms, placements, options_in, outside_region}
+use Rattle.module_tree.specs.FileParts.{module_end, beginnings}
+use Rattle.module_tree.specs.AlgorithmText.{algorithm_of}
+use Rattle.module_tree.specs.FileOffences.{no_module, no_algorithm, second_algorithms, placements, options_in, outside_region}
 use Rattle.module_text.proofs.SplitLeast.{split_least}
 use Rattle.module_text.proofs.split.file_fault.Goals as goal
 

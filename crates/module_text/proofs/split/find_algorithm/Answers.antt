@@ -1,6 +1,6 @@
 use Rattle.std.proofs.Common.{None, get_or, refl, sym, ap, ◌∙◌, ◌-◌, drop}
-use Rattle.module_text.specs.FileParts.{first_of}
-use Rattle.module_text.specs.AlgorithmText.{algorithm_at}
+use Rattle.module_tree.specs.FileParts.{first_of}
+use Rattle.module_tree.specs.AlgorithmText.{algorithm_at}
 use Rattle.module_text.proofs.Comments.{no_stand, begun_some, begun_none, no_comment, no_beginning, algorithm_here}
 use Rattle.module_text.proofs.split.find_algorithm.Goals as goal
 

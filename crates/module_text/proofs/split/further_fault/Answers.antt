@@ -1,5 +1,4 @@
-use Rattle.std.proofs.Common.{Option, length}
-use Rattle.std.proofs.Common.{subst}
+use Rattle.std.proofs.Common.{Option, length, subst}
 use Rattle.std.proofs.lemmas.List.{take_rest}
 use Rattle.tla_token.proofs.Fronts.{some_there}
 use Rattle.module_text.specs.declared.split.Algorithm.{Algorithm}

@@ -1,9 +1,8 @@
 use Rattle.std.proofs.Common.{Option, filter, ap, subst, sym, ◌∙◌}
 use Rattle.tla_token.specs.Offences.{least}
 use Rattle.module_text.specs.declared.split.Algorithm.{Algorithm}
-use Rattle.module_text.specs.AlgorithmText.{AlgorithmText}
-use Rattle.module_text.specs.FileOffences.{algorithm_offences}
-use Rattle.module_text.specs.Splitting.{is_splitting}
+use Rattle.module_tree.specs.AlgorithmText.{AlgorithmText}
+use Rattle.module_tree.specs.FileOffences.{algorithm_offences, is_splitting}
 use Rattle.module_text.specs.SplitSeen.{IsAlgorithm}
 use Rattle.module_text.proofs.split.inside_fault.Goals as goal
 

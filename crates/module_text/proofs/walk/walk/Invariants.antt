@@ -1,7 +1,7 @@
 -- The segments so far, and those of the bytes that are left, are the walk.
 use Rattle.std.proofs.Common.{◌≡◌, ◌++◌, ◌-◌, length, drop}
 use Rattle.std.specs.Prelude.{All}
-use Rattle.module_text.specs.Walk.{walk_from, walk}
+use Rattle.module_tree.specs.Walk.{walk_from, walk}
 use Rattle.module_text.specs.StandsSeen.{stands_seen, IsWithin, IsSolid}
 use Rattle.module_text.specs.Walking.{state_of, IsAt}
 use Rattle.module_text.proofs.walk.walk.Given as goal

@@ -1,6 +1,6 @@
 -- What the loop of `processes` keeps.
 use Rattle.std.proofs.Common.{◌≡◌, ◌≤◌, take}
-use Rattle.module_text.specs.Ways.{processes_in}
+use Rattle.module_tree.specs.Ways.{processes_in}
 use Rattle.module_text.specs.InMemory.{ways_at}
 use Rattle.module_text.proofs.ways.processes.Given as goal
 

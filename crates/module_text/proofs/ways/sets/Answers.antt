@@ -1,10 +1,10 @@
 -- Proves what is asked of `sets`.
 use Rattle.std.proofs.Common.{◌≡◌, ℕ, suc, ◌-◌, ◌<◌, List, [], ◌∷◌, ◌++◌, length, map, reverse, sym, ap, subst, ◌∙◌, arith}
 use Rattle.std.proofs.lemmas.List.{reverse-append}
-use Rattle.tla_expr.specs.Tree.{Tree}
-use Rattle.tla_expr.specs.Pool.{at, AllBelow}
-use Rattle.tla_expr.proofs.PoolNumbers.{AllBelow-push}
-use Rattle.module_text.specs.Ways.{split_cup}
+use Rattle.tla_tree.specs.Tree.{Tree}
+use Rattle.tla_tree.specs.Pool.{at, AllBelow}
+use Rattle.tla_tree.proofs.PoolNumbers.{AllBelow-push}
+use Rattle.module_tree.specs.Ways.{split_cup}
 use Rattle.module_text.proofs.Below.{reverse_below}
 use Rattle.module_text.proofs.ways.sets.Goals as goal
 

@@ -1,7 +1,7 @@
 -- Why the loop of `sets` ends, and what it keeps: what is split off already is behind the rest.
 use Rattle.std.proofs.Common.{◌≡◌, ◌-◌, ◌<◌, length, map, reverse}
-use Rattle.tla_expr.specs.Pool.{at, AllBelow}
-use Rattle.module_text.specs.Ways.{sets_in, split_cup}
+use Rattle.tla_tree.specs.Pool.{at, AllBelow}
+use Rattle.module_tree.specs.Ways.{sets_in, split_cup}
 use Rattle.module_text.proofs.ways.sets.Given as goal
 
 abbrev pub decreases-loop-left : goal.decreases-loop-left

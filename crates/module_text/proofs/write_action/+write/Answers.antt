@@ -2,7 +2,7 @@
 use Rattle.std.proofs.Common.{◌+◌, List, ◌++◌, Vec, Global, refl, ap, arith, append_assoc, append-nil}
 use Rattle.std.specs.Prelude.{codes}
 use Rattle.module_text.specs.declared.«module».Item.{Item}
-use Rattle.module_text.specs.Layout.{line, item_text, items_text, branches_text}
+use Rattle.module_tree.specs.Layout.{line, item_text, items_text, branches_text}
 use Rattle.module_text.specs.InMemory.{item_at, items_at, branches_at, past_item, past_items, past_branches}
 use Rattle.module_text.proofs.ItemEquations.{exists_at, local_at, choice_at, either_at, past_either}
 use Rattle.module_text.proofs.Heights.{height, heights, branch_heights, either_height}

@@ -1,7 +1,7 @@
 -- Why the calls of `write_item`, `write_items` and `write_branches` end, and what their loops keep.
 use Rattle.std.proofs.Common.{◌≡◌, ◌+◌, ◌*◌, ◌++◌, take}
 use Rattle.module_text.specs.InMemory.{items_at, branches_at}
-use Rattle.module_text.specs.Layout.{items_text, branches_text}
+use Rattle.module_tree.specs.Layout.{items_text, branches_text}
 use Rattle.module_text.proofs.Heights.{height, heights, branch_heights}
 use Rattle.module_text.proofs.write_action.+write.Given as goal
 

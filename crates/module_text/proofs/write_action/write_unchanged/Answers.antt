@@ -1,6 +1,6 @@
 -- Proves what is asked of `write_unchanged`.
 use Rattle.std.specs.Prelude.{codes}
-use Rattle.module_text.specs.Layout.{blanks, tuple_of}
+use Rattle.module_tree.specs.Layout.{blanks, tuple_of}
 use Rattle.module_text.proofs.OneMore.{same_text}
 use Rattle.module_text.proofs.Regrouped.{line_joined}
 use Rattle.module_text.proofs.write_action.write_unchanged.Goals as goal

@@ -2,7 +2,7 @@
 use Rattle.std.proofs.Common.{List, ◌++◌, refl}
 use Rattle.std.specs.Prelude.{codes}
 use Rattle.module_text.specs.declared.«module».Way.{Way}
-use Rattle.module_text.specs.Layout.{blanks, line, way_text, ways_text}
+use Rattle.module_tree.specs.Layout.{blanks, line, way_text, ways_text}
 use Rattle.module_text.specs.InMemory.{way_at, ways_at}
 use Rattle.module_text.proofs.OneMore.{listed_more}
 use Rattle.module_text.proofs.Regrouped.{line_joined}

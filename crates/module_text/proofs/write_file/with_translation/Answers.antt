@@ -2,10 +2,10 @@
 use Rattle.std.proofs.Common.{◌≡◌, ℕ, ◌-◌, Bool, true, false, not, cond, [], ◌++◌, length, refl, sym, ap, ◌∙◌, arith, take, drop, append_assoc}
 use Rattle.std.specs.Prelude.{is_some, codes, if◌then◌else◌}
 use Rattle.std.proofs.lemmas.List.{length-take-le, take_rest}
-use Rattle.module_text.specs.TextFront.{Text}
-use Rattle.module_text.specs.Walk.{walk}
-use Rattle.module_text.specs.FileParts.{region_of}
-use Rattle.module_text.specs.WithTranslation.{begin_line, end_line, line_end_if_new}
+use Rattle.module_tree.specs.TextFront.{Text}
+use Rattle.module_tree.specs.Walk.{walk}
+use Rattle.module_tree.specs.FileParts.{region_of}
+use Rattle.module_tree.specs.WithTranslation.{begin_line, end_line, line_end_if_new}
 use Rattle.module_text.proofs.SpotWithin.{spot_within}
 use Rattle.module_text.proofs.write_file.with_translation.Goals as goal
 

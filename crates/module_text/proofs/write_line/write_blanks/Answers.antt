@@ -1,6 +1,6 @@
 -- Proves what is asked of `write_blanks`.
 use Rattle.std.proofs.Common.{ℕ, List, [], ◌∷◌, ◌++◌, ap, ◌∙◌, append_assoc}
-use Rattle.module_text.specs.Layout.{blanks}
+use Rattle.module_tree.specs.Layout.{blanks}
 use Rattle.module_text.proofs.OneMore.{blanks_more}
 use Rattle.module_text.proofs.write_line.write_blanks.Goals as goal
 

@@ -1,7 +1,7 @@
 -- Proves what is asked of `write_joined`.
 use Rattle.std.proofs.Common.{ℕ, List, ◌++◌, refl, ap, ◌∙◌}
 use Rattle.std.specs.Prelude.{codes}
-use Rattle.module_text.specs.ExprText.{joined}
+use Rattle.module_tree.specs.ExprText.{joined}
 use Rattle.module_text.proofs.OneMore.{parted_more}
 use Rattle.module_text.proofs.write_line.write_joined.Goals as goal
 

@@ -2,8 +2,8 @@
 use Rattle.std.proofs.Common.{List, ◌++◌, map, refl, append_assoc}
 use Rattle.std.specs.Prelude.{codes}
 use Rattle.module_text.specs.declared.«module».Action.{Action}
-use Rattle.module_text.specs.Module.{action_unit}
-use Rattle.module_text.specs.Layout.{unit_text}
+use Rattle.module_tree.specs.Module.{action_unit}
+use Rattle.module_tree.specs.Layout.{unit_text}
 use Rattle.module_text.specs.InMemory.{action_at, actions_at}
 use Rattle.module_text.specs.Apart.{behind}
 use Rattle.module_text.proofs.OneMore.{listed_more}

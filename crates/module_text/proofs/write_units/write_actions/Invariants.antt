@@ -1,6 +1,6 @@
 -- What the loop of `write_actions` keeps.
 use Rattle.std.proofs.Common.{◌≡◌, ◌++◌, take, map}
-use Rattle.module_text.specs.Module.{action_unit}
+use Rattle.module_tree.specs.Module.{action_unit}
 use Rattle.module_text.specs.InMemory.{actions_at}
 use Rattle.module_text.specs.Apart.{behind}
 use Rattle.module_text.proofs.write_units.write_actions.Given as goal

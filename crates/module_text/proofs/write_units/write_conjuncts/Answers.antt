@@ -1,10 +1,10 @@
 -- Proves what is asked of `write_conjuncts`.
 use Rattle.std.proofs.Common.{ℕ, List, ◌++◌, length, map, get_or, refl}
 use Rattle.std.specs.Prelude.{codes}
-use Rattle.tla_expr.specs.Pool.{at}
-use Rattle.tla_expr.specs.Written.{written}
-use Rattle.tla_expr.proofs.PoolNumbers.{AllBelow-at}
-use Rattle.module_text.specs.Layout.{blanks, line, conjuncts_text}
+use Rattle.tla_tree.specs.Pool.{at}
+use Rattle.tla_tree.specs.Written.{written}
+use Rattle.tla_tree.proofs.PoolNumbers.{AllBelow-at}
+use Rattle.module_tree.specs.Layout.{blanks, line, conjuncts_text}
 use Rattle.module_text.proofs.Below.{same_default}
 use Rattle.module_text.proofs.OneMore.{listed_more}
 use Rattle.module_text.proofs.Regrouped.{line_joined}

@@ -1,8 +1,8 @@
 -- What the loop of `write_conjuncts` keeps.
 use Rattle.std.proofs.Common.{◌≡◌, ◌++◌, take, map}
-use Rattle.tla_expr.specs.Pool.{at}
-use Rattle.tla_expr.specs.Written.{written}
-use Rattle.module_text.specs.Layout.{conjuncts_text}
+use Rattle.tla_tree.specs.Pool.{at}
+use Rattle.tla_tree.specs.Written.{written}
+use Rattle.module_tree.specs.Layout.{conjuncts_text}
 use Rattle.module_text.proofs.write_units.write_conjuncts.Given as goal
 
 abbrev pub invariant-loop-e : goal.invariant-loop-e

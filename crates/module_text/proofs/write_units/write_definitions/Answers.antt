@@ -3,8 +3,8 @@ use Rattle.std.proofs.Common.{List, ◌++◌, length, map, refl, append_assoc}
 use Rattle.std.specs.Prelude.{codes}
 use Rattle.tla_value.specs.declared.names.Definition.{Definition}
 use Rattle.tla_value.specs.Defs.{definition_at, definitions_at}
-use Rattle.module_text.specs.Module.{definition_unit}
-use Rattle.module_text.specs.Layout.{unit_text}
+use Rattle.module_tree.specs.Module.{definition_unit}
+use Rattle.module_tree.specs.Layout.{unit_text}
 use Rattle.module_text.specs.Apart.{behind}
 use Rattle.module_text.proofs.Below.{definition_below}
 use Rattle.module_text.proofs.OneMore.{listed_more}

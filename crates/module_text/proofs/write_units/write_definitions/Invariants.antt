@@ -1,7 +1,7 @@
 -- What the loop of `write_definitions` keeps.
 use Rattle.std.proofs.Common.{◌≡◌, ◌++◌, take, map}
 use Rattle.tla_value.specs.Defs.{definitions_at}
-use Rattle.module_text.specs.Module.{definition_unit}
+use Rattle.module_tree.specs.Module.{definition_unit}
 use Rattle.module_text.specs.Apart.{behind}
 use Rattle.module_text.proofs.write_units.write_definitions.Given as goal
 

@@ -2,7 +2,7 @@
 use Rattle.std.proofs.Common.{List, ◌++◌, map, refl}
 use Rattle.std.specs.Prelude.{codes}
 use Rattle.module_text.specs.declared.«module».Fairness.{Fairness}
-use Rattle.module_text.specs.Layout.{blanks, line, fairness_text, conjuncts_text}
+use Rattle.module_tree.specs.Layout.{blanks, line, fairness_text, conjuncts_text}
 use Rattle.module_text.specs.InMemory.{fairness_at}
 use Rattle.module_text.proofs.OneMore.{listed_more}
 use Rattle.module_text.proofs.Regrouped.{line_joined}

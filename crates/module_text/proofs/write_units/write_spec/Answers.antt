@@ -1,7 +1,7 @@
 -- Proves what is asked of `write_spec`.
 use Rattle.std.proofs.Common.{map}
 use Rattle.std.specs.Prelude.{codes}
-use Rattle.module_text.specs.Layout.{conjuncts_text, fairness_text}
+use Rattle.module_tree.specs.Layout.{conjuncts_text, fairness_text}
 use Rattle.module_text.specs.InMemory.{fairness_at}
 use Rattle.module_text.proofs.OneMore.{same_text}
 use Rattle.module_text.proofs.Regrouped.{list_joined}

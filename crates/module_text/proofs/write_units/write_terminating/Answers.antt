@@ -1,7 +1,7 @@
 -- Proves what is asked of `write_terminating`.
 use Rattle.std.specs.Prelude.{codes}
-use Rattle.tla_expr.specs.Pool.{at}
-use Rattle.tla_expr.specs.Written.{written}
+use Rattle.tla_tree.specs.Pool.{at}
+use Rattle.tla_tree.specs.Written.{written}
 use Rattle.module_text.proofs.Regrouped.{lines_joined}
 use Rattle.module_text.proofs.write_units.write_terminating.Goals as goal
 

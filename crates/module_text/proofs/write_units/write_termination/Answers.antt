@@ -1,7 +1,7 @@
 -- Proves what is asked of `write_termination`.
 use Rattle.std.specs.Prelude.{codes}
-use Rattle.tla_expr.specs.Pool.{at}
-use Rattle.tla_expr.specs.Written.{written}
+use Rattle.tla_tree.specs.Pool.{at}
+use Rattle.tla_tree.specs.Written.{written}
 use Rattle.module_text.proofs.OneMore.{same_text}
 use Rattle.module_text.proofs.Regrouped.{closed_joined}
 use Rattle.module_text.proofs.write_units.write_termination.Goals as goal

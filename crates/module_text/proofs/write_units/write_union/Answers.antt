@@ -1,10 +1,10 @@
 -- Proves what is asked of `write_union`.
 use Rattle.std.proofs.Common.{ℕ, List, length, map, get_or, refl}
 use Rattle.std.specs.Prelude.{codes}
-use Rattle.tla_expr.specs.Pool.{at}
-use Rattle.tla_expr.proofs.PoolNumbers.{AllBelow-at}
-use Rattle.module_text.specs.ExprText.{operand}
-use Rattle.module_text.specs.Layout.{union_text}
+use Rattle.tla_tree.specs.Pool.{at}
+use Rattle.tla_tree.proofs.PoolNumbers.{AllBelow-at}
+use Rattle.module_tree.specs.ExprText.{operand}
+use Rattle.module_tree.specs.Layout.{union_text}
 use Rattle.module_text.proofs.Below.{same_default}
 use Rattle.module_text.proofs.OneMore.{parted_more}
 use Rattle.module_text.proofs.write_units.write_union.Goals as goal

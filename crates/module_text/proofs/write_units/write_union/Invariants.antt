@@ -1,7 +1,7 @@
 -- What the loop of `write_union` keeps.
 use Rattle.std.proofs.Common.{◌≡◌, ◌++◌, take, map}
-use Rattle.tla_expr.specs.Pool.{at}
-use Rattle.module_text.specs.Layout.{union_text}
+use Rattle.tla_tree.specs.Pool.{at}
+use Rattle.module_tree.specs.Layout.{union_text}
 use Rattle.module_text.proofs.write_units.write_union.Given as goal
 
 abbrev pub invariant-loop-i : goal.invariant-loop-i

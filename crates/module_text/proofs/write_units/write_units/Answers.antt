@@ -1,9 +1,9 @@
 -- Proves what is asked of `write_units`.
 use Rattle.std.proofs.Common.{◌≡◌, ℕ, List, [], ◌∷◌, ◌++◌, map, sym, ap, ◌∙◌, append_assoc}
 use Rattle.tla_value.specs.Defs.{definitions_at}
-use Rattle.module_text.specs.Module.{definition_unit, action_unit, init_unit, next_unit, spec_unit}
-use Rattle.tla_expr.specs.Pool.{at}
-use Rattle.module_text.specs.Ways.{processes_in}
+use Rattle.module_tree.specs.Module.{definition_unit, action_unit, init_unit, next_unit, spec_unit}
+use Rattle.tla_tree.specs.Pool.{at}
+use Rattle.module_tree.specs.Ways.{processes_in}
 use Rattle.module_text.specs.InMemory.{actions_at, ways_at, fairness_at, region_at}
 use Rattle.module_text.specs.Apart.{behind}
 use Rattle.module_text.proofs.LayoutParts.{layout_parts}

@@ -1,6 +1,6 @@
 -- Proves what is asked of `write_vars`.
 use Rattle.std.specs.Prelude.{codes}
-use Rattle.module_text.specs.Layout.{tuple_of}
+use Rattle.module_tree.specs.Layout.{tuple_of}
 use Rattle.module_text.proofs.OneMore.{same_text}
 use Rattle.module_text.proofs.Regrouped.{unit_joined}
 use Rattle.module_text.proofs.write_units.write_vars.Goals as goal

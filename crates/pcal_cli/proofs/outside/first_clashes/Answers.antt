@@ -2,7 +2,7 @@
 use Rattle.std.proofs.Common.{◌∙◌, sym, ap, List}
 use Rattle.std.specs.List.{list_any}
 use Rattle.tla_expr.specs.Tree.{Word}
-use Rattle.module_text.specs.Outside.{first_one}
+use Rattle.module_tree.specs.Outside.{first_one}
 use Rattle.pcal_cli.specs.FormSeen.{parts_of}
 use Rattle.pcal_cli.specs.OutsideTokens.{clashes}
 use Rattle.pcal_cli.proofs.OutsideTokens.{named_at, unnamed_at, alone}

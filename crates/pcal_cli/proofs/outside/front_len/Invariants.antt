@@ -1,6 +1,6 @@
 -- None of the tokens so far begins a unit.
 use Rattle.std.proofs.Common.{◌≡◌, ◌+◌, length, drop, map}
-use Rattle.module_text.specs.FileUnits.{cut}
+use Rattle.module_tree.specs.FileUnits.{cut}
 use Rattle.pcal_cli.specs.OutsideTokens.{view_seen, views_ahead}
 use Rattle.pcal_cli.proofs.outside.front_len.Given as goal
 

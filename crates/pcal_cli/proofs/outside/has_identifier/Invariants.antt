@@ -1,7 +1,7 @@
 -- What holds of the tokens is what holds of those to come.
 use Rattle.std.proofs.Common.{◌≡◌, drop, map}
 use Rattle.tla_token.specs.Signs.{is_among}
-use Rattle.module_text.specs.Outside.{identifiers}
+use Rattle.module_tree.specs.Outside.{identifiers}
 use Rattle.pcal_cli.specs.OutsideTokens.{view_seen, views_ahead}
 use Rattle.pcal_cli.proofs.outside.has_identifier.Given as goal
 

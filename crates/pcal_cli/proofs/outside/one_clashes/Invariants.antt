@@ -1,7 +1,7 @@
 -- What holds of the tokens is what holds of those to come.
 use Rattle.std.proofs.Common.{◌≡◌, drop, map}
 use Rattle.std.specs.List.{list_any}
-use Rattle.module_text.specs.Outside.{identifiers}
+use Rattle.module_tree.specs.Outside.{identifiers}
 use Rattle.pcal_cli.specs.FormSeen.{parts_of}
 use Rattle.pcal_cli.specs.OutsideTokens.{view_seen, views_ahead, clashes}
 use Rattle.pcal_cli.proofs.outside.one_clashes.Given as goal

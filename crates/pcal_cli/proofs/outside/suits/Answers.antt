@@ -2,7 +2,7 @@
 use Rattle.std.proofs.Common.{◌≡◌, ◌∙◌, sym, ap, refl, map, false, List}
 use Rattle.tla_token.specs.Signs.{is_among}
 use Rattle.tla_expr.specs.Tree.{Word}
-use Rattle.module_text.specs.Outside.{identifiers}
+use Rattle.module_tree.specs.Outside.{identifiers}
 use Rattle.pcal_cli.specs.FormSeen.{parts_of}
 use Rattle.pcal_cli.specs.OutsideTokens.{beside_of, view_seen, views_ahead, views_of}
 use Rattle.pcal_cli.proofs.OutsideTokens.{suits_is}

@@ -2,7 +2,7 @@
 use Rattle.std.proofs.Common.{◌≡◌, length}
 use Rattle.std.specs.List.{flat_map}
 use Rattle.tla_token.specs.Signs.{is_among}
-use Rattle.module_text.specs.FileUnits.{cut}
+use Rattle.module_tree.specs.FileUnits.{cut}
 use Rattle.first_path.specs.Beside.{extended_by}
 use Rattle.pcal_cli.specs.OutsideTokens.{views_ahead, views_of}
 use Rattle.pcal_cli.proofs.outside.unit_extends.Given as goal

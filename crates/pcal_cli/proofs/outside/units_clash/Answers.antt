@@ -1,6 +1,6 @@
 -- The next unit declares such a name, or one of those to come does.
 use Rattle.std.proofs.Common.{◌∙◌, sym}
-use Rattle.module_text.specs.FileUnits.{cut}
+use Rattle.module_tree.specs.FileUnits.{cut}
 use Rattle.first_path.specs.Beside.{declared_by}
 use Rattle.pcal_cli.specs.FormSeen.{parts_of}
 use Rattle.pcal_cli.specs.OutsideTokens.{clashes, views_ahead}

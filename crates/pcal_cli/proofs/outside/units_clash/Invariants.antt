@@ -1,7 +1,7 @@
 -- What holds of the units is what holds of those to come.
 use Rattle.std.proofs.Common.{◌≡◌, length}
 use Rattle.std.specs.List.{list_any, flat_map}
-use Rattle.module_text.specs.FileUnits.{cut}
+use Rattle.module_tree.specs.FileUnits.{cut}
 use Rattle.first_path.specs.Beside.{declared_by}
 use Rattle.pcal_cli.specs.FormSeen.{parts_of}
 use Rattle.pcal_cli.specs.OutsideTokens.{views_ahead, views_of, clashes}

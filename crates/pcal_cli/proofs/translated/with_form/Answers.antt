@@ -1,8 +1,8 @@
 -- The text goes where the translation is to go.
 use Rattle.std.proofs.Common.{◌∙◌, ap}
-use Rattle.module_text.specs.TextFront.{Text}
-use Rattle.module_text.specs.Walk.{walk}
-use Rattle.module_text.specs.FileParts.{spot}
+use Rattle.module_tree.specs.TextFront.{Text}
+use Rattle.module_tree.specs.Walk.{walk}
+use Rattle.module_tree.specs.FileParts.{spot}
 use Rattle.first_path.specs.Placed.{put_in}
 use Rattle.pcal_cli.proofs.FormFound.{put_is}
 use Rattle.pcal_cli.proofs.translated.with_form.Goals as goal

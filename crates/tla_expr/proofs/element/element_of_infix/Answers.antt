@@ -1,8 +1,8 @@
 -- Proves what is asked of `element_of_infix`.
 use Rattle.std.proofs.Common.{Option, Some, sym, subst, ◌∙◌}
-use Rattle.tla_expr.specs.Spelling.{Phrase, infix_of}
+use Rattle.tla_tree.specs.Spelling.{Phrase, infix_of}
 use Rattle.std.proofs.lemmas.Result.{IfOk-weaker}
-use Rattle.tla_expr.specs.Reader.{element}
+use Rattle.tla_tree.specs.Reader.{element}
 use Rattle.tla_expr.specs.ReadIn.{MayBeIn}
 use Rattle.tla_expr.proofs.ElementLemmas.{element_yes, element_left}
 use Rattle.tla_expr.proofs.element.element_of_infix.Goals as goal

@@ -1,6 +1,6 @@
 -- Proves what is asked of `element_on_left`.
 use Rattle.std.proofs.Common.{Option, Some, sym, subst, ◌∙◌}
-use Rattle.tla_expr.specs.Spelling.{Phrase}
+use Rattle.tla_tree.specs.Spelling.{Phrase}
 use Rattle.tla_expr.specs.declared.make.Read.{Read}
 use Rattle.tla_expr.specs.ReadIn.{MayBeIn}
 use Rattle.tla_expr.proofs.ElementLemmas.{left_yes}

@@ -1,7 +1,7 @@
 -- Proves what is asked of `binding`.
 use Rattle.std.proofs.Common.{List, ℕ, sym, subst, length}
-use Rattle.tla_expr.specs.Pool.{AllBelow}
-use Rattle.tla_expr.proofs.PoolNumbers.{AllBelow-push}
+use Rattle.tla_tree.specs.Pool.{AllBelow}
+use Rattle.tla_tree.proofs.PoolNumbers.{AllBelow-push}
 use Rattle.tla_expr.proofs.gather.binding.Goals as goal
 
 pub put-requires-clause-below : goal.put-requires-clause-below

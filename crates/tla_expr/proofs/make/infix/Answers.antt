@@ -1,8 +1,8 @@
 -- Proves what is asked of `infix`.
 use Rattle.std.proofs.Common.{ℕ, List, length, ap, ◌∙◌}
-use Rattle.tla_expr.specs.Tree.{node}
-use Rattle.tla_expr.specs.FormOf.{form_of}
-use Rattle.tla_expr.specs.Pool.{trees_at}
+use Rattle.tla_tree.specs.Tree.{node}
+use Rattle.tla_pool.specs.FormOf.{form_of}
+use Rattle.tla_tree.specs.Pool.{trees_at}
 use Rattle.tla_expr.proofs.MakeLemmas.{ok_three, infix_in}
 use Rattle.tla_expr.proofs.make.infix.Goals as goal
 

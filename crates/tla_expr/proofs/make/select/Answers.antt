@@ -1,9 +1,9 @@
 -- Proves what is asked of `select`.
 use Rattle.std.proofs.Common.{ℕ, List, length, ap, ◌∙◌}
-use Rattle.tla_expr.specs.Tree.{node}
-use Rattle.tla_expr.specs.FormOf.{form_of}
-use Rattle.tla_expr.specs.Pool.{trees_at}
-use Rattle.tla_expr.specs.Tree as pure
+use Rattle.tla_tree.specs.Tree.{node}
+use Rattle.tla_pool.specs.FormOf.{form_of}
+use Rattle.tla_tree.specs.Pool.{trees_at}
+use Rattle.tla_tree.specs.Tree as pure
 use Rattle.tla_expr.specs.ReadIn.{field_seen}
 use Rattle.tla_expr.proofs.MakeLemmas.{ok_three, select_in}
 use Rattle.tla_expr.proofs.make.select.Goals as goal

@@ -1,7 +1,7 @@
 -- Proves what is asked of `subscript`.
 use Rattle.std.proofs.Common.{ℕ, List, length, subst, arith}
 use Rattle.std.proofs.lemmas.Result.{IfOk-weaker}
-use Rattle.tla_expr.specs.Pool.{AllBelow}
+use Rattle.tla_tree.specs.Pool.{AllBelow}
 use Rattle.tla_expr.proofs.MakeLemmas.{only_one, one_subscript, more_subscripts}
 use Rattle.tla_expr.proofs.make.subscript.Goals as goal
 

@@ -2,11 +2,11 @@
 use Rattle.std.proofs.Common.{◌≡◌, ℕ, List, [], ◌∷◌, ◌++◌, arith, sym, ap, subst, ◌∙◌, length}
 use Rattle.std.proofs.lemmas.List.{length-map}
 use Rattle.tla_expr.specs.declared.write.Item.{Item}
-use Rattle.tla_expr.specs.Tree.{Form}
-use Rattle.tla_expr.specs.TreeOf.{root_parts}
-use Rattle.tla_expr.specs.FormOf.{form_of}
-use Rattle.tla_expr.specs.Shapes.{Shaped}
-use Rattle.tla_expr.specs.Written.{Piece, Part, text_of, form_part, part}
+use Rattle.tla_tree.specs.Tree.{Form}
+use Rattle.tla_tree.specs.TreeOf.{root_parts}
+use Rattle.tla_pool.specs.FormOf.{form_of}
+use Rattle.tla_tree.specs.Shapes.{Shaped}
+use Rattle.tla_tree.specs.Written.{Piece, Part, text_of, form_part, part}
 use Rattle.tla_expr.specs.Writing.{item_pieces, shown, parts_of}
 use Rattle.tla_expr.proofs.WritingLemmas.{shown_append, part_found, part_past, part_is, part_less, field_written}
 use Rattle.tla_expr.proofs.write.+write.Goals as goal

@@ -1,7 +1,7 @@
 -- Why the calls of `write_part` and `write_item` end, and what the loop over the items keeps: what is written, and what is still shown.
 use Rattle.std.proofs.Common.{◌≡◌, ◌+◌, ◌++◌, List, length}
-use Rattle.tla_expr.specs.Tree.{size}
-use Rattle.tla_expr.specs.Written.{Piece, text_of, part}
+use Rattle.tla_tree.specs.Tree.{size}
+use Rattle.tla_tree.specs.Written.{Piece, text_of, part}
 use Rattle.tla_expr.specs.Writing.{shown, parts_of}
 use Rattle.tla_expr.proofs.write.+write.Given as goal
 

@@ -1,6 +1,6 @@
 -- Proves what is asked of `put_arms`.
 use Rattle.std.proofs.Common.{Bool, subst}
-use Rattle.tla_expr.specs.Shapes.{CaseShaped}
+use Rattle.tla_tree.specs.Shapes.{CaseShaped}
 use Rattle.tla_expr.proofs.WritingLemmas.{paired_twice, others_twice}
 use Rattle.tla_expr.proofs.write.put_arms.Goals as goal
 

@@ -1,11 +1,10 @@
 -- Proves what is asked of `put_binding`.
-use Rattle.std.proofs.Common.{◌∷◌, sym, ap, ◌∙◌}
+use Rattle.std.proofs.Common.{◌∷◌, sym, ap, ◌∙◌, true, false}
 use Rattle.tla_expr.specs.Writing.{shown}
-use Rattle.std.proofs.Common.{true, false}
-use Rattle.tla_expr.specs.Lexical as tk
-use Rattle.tla_expr.specs.declared.op.Binder.{Binder}
-use Rattle.tla_expr.specs.FormOf.{groups_of}
-use Rattle.tla_expr.specs.Written.{Part, blank, token, mark, spaced, colon, bind_pieces, binding_pieces}
+use Rattle.tla_tree.specs.Lexical as tk
+use Rattle.tla_tree.specs.declared.op.Binder.{Binder}
+use Rattle.tla_pool.specs.FormOf.{groups_of}
+use Rattle.tla_tree.specs.Written.{Part, blank, token, mark, spaced, colon, bind_pieces, binding_pieces}
 use Rattle.tla_expr.proofs.WritingLemmas.{shown_append, body_groups}
 use Rattle.tla_expr.proofs.write.put_binding.Goals as goal
 

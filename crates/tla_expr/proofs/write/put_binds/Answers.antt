@@ -1,11 +1,10 @@
 -- Proves what is asked of `put_binds`.
-use Rattle.std.proofs.Common.{arith, ap, ◌∙◌, length}
+use Rattle.std.proofs.Common.{arith, ap, ◌∙◌, length, Vec, ◌-◌}
 use Rattle.tla_expr.specs.Writing.{shown}
-use Rattle.std.proofs.Common.{Vec, ◌-◌}
 use Rattle.std.proofs.lemmas.List.{length-map}
 use Rattle.std.specs.declared.alloc.Global.{Global}
-use Rattle.tla_expr.specs.Tree.{Name}
-use Rattle.tla_expr.specs.FormOf.{groups_of}
+use Rattle.tla_tree.specs.Tree.{Name}
+use Rattle.tla_pool.specs.FormOf.{groups_of}
 use Rattle.tla_expr.proofs.WritingLemmas.{shown_append, binds_next, map_get}
 use Rattle.tla_expr.proofs.write.put_binds.Goals as goal
 

@@ -1,7 +1,7 @@
 -- Why the loop of `put_binds` ends, and what it keeps: what is shown are the groups from the next one on.
 use Rattle.std.proofs.Common.{◌≡◌, ◌≤◌, suc, List, length, drop}
-use Rattle.tla_expr.specs.FormOf.{groups_of}
-use Rattle.tla_expr.specs.Written.{Piece, Part, bind_pieces}
+use Rattle.tla_pool.specs.FormOf.{groups_of}
+use Rattle.tla_tree.specs.Written.{Piece, Part, bind_pieces}
 use Rattle.tla_expr.specs.Writing.{shown}
 use Rattle.tla_expr.proofs.write.put_binds.Given as goal
 

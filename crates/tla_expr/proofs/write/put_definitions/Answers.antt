@@ -1,7 +1,7 @@
 -- Proves what is asked of `put_definitions`.
 use Rattle.std.proofs.Common.{arith, ap, ◌∙◌}
 use Rattle.tla_expr.specs.Writing.{shown}
-use Rattle.tla_expr.specs.Tree.{Name}
+use Rattle.tla_tree.specs.Tree.{Name}
 use Rattle.tla_expr.proofs.WritingLemmas.{shown_append, definitions_next}
 use Rattle.tla_expr.proofs.write.put_definitions.Goals as goal
 

@@ -1,6 +1,6 @@
 -- Why the loop of `put_definitions` ends, and what it keeps: what is shown are the definitions from the next one on.
 use Rattle.std.proofs.Common.{◌≡◌, ◌≤◌, suc, List, length, drop}
-use Rattle.tla_expr.specs.Written.{Piece, Part, definition_pieces}
+use Rattle.tla_tree.specs.Written.{Piece, Part, definition_pieces}
 use Rattle.tla_expr.specs.Writing.{shown}
 use Rattle.tla_expr.proofs.write.put_definitions.Given as goal
 

@@ -1,8 +1,7 @@
 -- Proves what is asked of `put_fields`.
 use Rattle.std.proofs.Common.{arith}
-use Rattle.tla_expr.specs.Writing.{shown}
-use Rattle.tla_expr.specs.Written.{spaced}
-use Rattle.tla_expr.specs.Writing.{fixed_token}
+use Rattle.tla_expr.specs.Writing.{shown, fixed_token}
+use Rattle.tla_tree.specs.Written.{spaced}
 use Rattle.tla_expr.proofs.WritingLemmas.{shown_append, fields_next}
 use Rattle.tla_expr.proofs.write.put_fields.Goals as goal
 

@@ -1,6 +1,6 @@
 -- Why the loop of `put_fields` ends, and what it keeps: what is shown are the fields from the next one on.
 use Rattle.std.proofs.Common.{◌≡◌, ◌≤◌, List, length, drop}
-use Rattle.tla_expr.specs.Written.{Piece, Part, spaced, field_pieces}
+use Rattle.tla_tree.specs.Written.{Piece, Part, spaced, field_pieces}
 use Rattle.tla_expr.specs.Writing.{fixed_token, shown}
 use Rattle.tla_expr.proofs.write.put_fields.Given as goal
 

@@ -1,15 +1,14 @@
 -- Proves what is asked of `put_form`.
-use Rattle.std.proofs.Common.{◌≡◌, ◌∷◌, arith, sym, ap, subst, ◌∙◌, length}
+use Rattle.std.proofs.Common.{◌≡◌, ◌∷◌, arith, sym, ap, subst, ◌∙◌, length, List, Vec}
 use Rattle.tla_expr.specs.Writing.{shown}
-use Rattle.tla_expr.specs.declared.form.Form.{Form}
-use Rattle.std.proofs.Common.{List, Vec}
+use Rattle.tla_pool.specs.declared.form.Form.{Form}
 use Rattle.std.proofs.lemmas.List.{length-map}
 use Rattle.std.specs.declared.alloc.Global.{Global}
-use Rattle.tla_expr.specs.Tree.{Name}
-use Rattle.tla_expr.specs.Lexical.{TokenView}
-use Rattle.tla_expr.specs.FormOf.{form_of, groups_of}
-use Rattle.tla_expr.specs.Shapes.{Shaped}
-use Rattle.tla_expr.specs.Written.{token, form_pieces, binding_pieces}
+use Rattle.tla_tree.specs.Tree.{Name}
+use Rattle.tla_tree.specs.Lexical.{TokenView}
+use Rattle.tla_pool.specs.FormOf.{form_of, groups_of}
+use Rattle.tla_tree.specs.Shapes.{Shaped}
+use Rattle.tla_tree.specs.Written.{token, form_pieces, binding_pieces}
 use Rattle.tla_expr.proofs.WritingLemmas.{shown_append, binder_count}
 use Rattle.tla_expr.proofs.write.put_form.Goals as goal
 

@@ -1,7 +1,7 @@
 -- Proves what is asked of `put_infix_sign`.
 use Rattle.std.proofs.Common.{sym, ap}
-use Rattle.tla_expr.specs.declared.op.Op.{Op}
-use Rattle.tla_expr.specs.Written.{infix_sign}
+use Rattle.tla_tree.specs.declared.op.Op.{Op}
+use Rattle.tla_tree.specs.Written.{infix_sign}
 use Rattle.tla_expr.specs.Writing.{shown}
 use Rattle.tla_expr.proofs.WritingLemmas.{shown_append, infix_other}
 use Rattle.tla_expr.proofs.write.put_infix_sign.Goals as goal

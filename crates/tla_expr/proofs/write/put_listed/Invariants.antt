@@ -1,6 +1,6 @@
 -- Why the loop of `put_listed` ends, and what it keeps: what is shown is the list from the next part on.
 use Rattle.std.proofs.Common.{◌≡◌, ◌≤◌, List, length, drop}
-use Rattle.tla_expr.specs.Written.{Piece, Part, listed}
+use Rattle.tla_tree.specs.Written.{Piece, Part, listed}
 use Rattle.tla_expr.specs.Writing.{shown}
 use Rattle.tla_expr.proofs.write.put_listed.Given as goal
 

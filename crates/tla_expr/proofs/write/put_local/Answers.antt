@@ -1,8 +1,8 @@
 -- Proves what is asked of `put_local`.
 use Rattle.std.proofs.Common.{◌∷◌, false, ap}
 use Rattle.tla_expr.specs.Writing.{shown}
-use Rattle.tla_expr.specs.Lexical as tk
-use Rattle.tla_expr.specs.Written.{Part, blank, token, spaced, definition_pieces}
+use Rattle.tla_tree.specs.Lexical as tk
+use Rattle.tla_tree.specs.Written.{Part, blank, token, spaced, definition_pieces}
 use Rattle.tla_expr.proofs.WritingLemmas.{shown_append, body_at}
 use Rattle.tla_expr.proofs.write.put_local.Goals as goal
 

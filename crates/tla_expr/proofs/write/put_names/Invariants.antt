@@ -1,6 +1,6 @@
 -- Why the loop of `put_names` ends, and what it keeps: what is shown are the names from the next one on.
 use Rattle.std.proofs.Common.{◌≡◌, ◌≤◌, List, length, drop}
-use Rattle.tla_expr.specs.Written.{Piece, Part, name_pieces}
+use Rattle.tla_tree.specs.Written.{Piece, Part, name_pieces}
 use Rattle.tla_expr.specs.Writing.{shown}
 use Rattle.tla_expr.proofs.write.put_names.Given as goal
 

@@ -1,6 +1,6 @@
 -- Proves what is asked of `put_pairs`.
 use Rattle.std.proofs.Common.{◌≡◌, ℕ, ◌-◌, drop, arith, ap, ◌∙◌}
-use Rattle.tla_expr.specs.Written.{arm_pieces}
+use Rattle.tla_tree.specs.Written.{arm_pieces}
 use Rattle.tla_expr.proofs.WritingLemmas.{shown_append, arms_next, drop_none}
 use Rattle.tla_expr.proofs.write.put_pairs.Goals as goal
 

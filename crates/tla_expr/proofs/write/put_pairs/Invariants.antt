@@ -1,6 +1,6 @@
 -- Why the loop of `put_pairs` ends, and what it keeps: what is shown are the arms from the next one on.
 use Rattle.std.proofs.Common.{◌≡◌, ◌≤◌, List, length, drop}
-use Rattle.tla_expr.specs.Written.{Piece, Part, arm_pieces}
+use Rattle.tla_tree.specs.Written.{Piece, Part, arm_pieces}
 use Rattle.tla_expr.specs.Writing.{shown, IsTwice}
 use Rattle.tla_expr.proofs.write.put_pairs.Given as goal
 

@@ -1,6 +1,6 @@
 -- Proves what is asked of `put_part`.
 use Rattle.std.proofs.Common.{sym}
-use Rattle.tla_expr.specs.FormOf.{form_of}
+use Rattle.tla_pool.specs.FormOf.{form_of}
 use Rattle.tla_expr.specs.Writing.{shown}
 use Rattle.tla_expr.proofs.WritingLemmas.{shown_append, bracketed_part}
 use Rattle.tla_expr.proofs.write.put_part.Goals as goal

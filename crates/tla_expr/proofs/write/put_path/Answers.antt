@@ -1,10 +1,9 @@
 -- Proves what is asked of `put_path`.
-use Rattle.std.proofs.Common.{◌∷◌, arith, sym, ap, ◌∙◌}
-use Rattle.std.proofs.Common.{◌-◌, ◌≤◌, drop}
-use Rattle.tla_expr.specs.Shapes.{subscripts}
-use Rattle.tla_expr.specs.declared.form.Step.{Step}
-use Rattle.tla_expr.specs.FormOf.{step_of, steps_of}
-use Rattle.tla_expr.specs.Written.{path_pieces}
+use Rattle.std.proofs.Common.{◌∷◌, arith, sym, ap, ◌∙◌, ◌-◌, ◌≤◌, drop}
+use Rattle.tla_tree.specs.Shapes.{subscripts}
+use Rattle.tla_pool.specs.declared.form.Step.{Step}
+use Rattle.tla_pool.specs.FormOf.{step_of, steps_of}
+use Rattle.tla_tree.specs.Written.{path_pieces}
 use Rattle.tla_expr.proofs.WritingLemmas.{shown_append, map_next, part_next, subscripts_less}
 use Rattle.tla_expr.proofs.write.put_path.Goals as goal
 

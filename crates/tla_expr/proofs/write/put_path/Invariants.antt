@@ -1,6 +1,6 @@
 -- Why the loop of `put_path` ends, and what it keeps: what is shown are the steps from the next one on.
 use Rattle.std.proofs.Common.{◌≤◌, length, drop}
-use Rattle.tla_expr.specs.FormOf.{steps_of}
+use Rattle.tla_pool.specs.FormOf.{steps_of}
 use Rattle.tla_expr.specs.Writing.{PutsPath}
 use Rattle.tla_expr.proofs.write.put_path.Given as goal
 

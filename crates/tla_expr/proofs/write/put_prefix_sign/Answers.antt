@@ -1,7 +1,7 @@
 -- Proves what is asked of `put_prefix_sign`.
 use Rattle.std.proofs.Common.{sym, ap}
-use Rattle.tla_expr.specs.declared.op.Op.{Op}
-use Rattle.tla_expr.specs.Written.{prefix_sign}
+use Rattle.tla_tree.specs.declared.op.Op.{Op}
+use Rattle.tla_tree.specs.Written.{prefix_sign}
 use Rattle.tla_expr.specs.Writing.{shown}
 use Rattle.tla_expr.proofs.WritingLemmas.{shown_append, prefix_other}
 use Rattle.tla_expr.proofs.write.put_prefix_sign.Goals as goal

@@ -1,15 +1,13 @@
 -- Proves what is asked of `put_slots`.
-use Rattle.std.proofs.Common.{◌≡◌, arith, ap, ◌∙◌, length}
+use Rattle.std.proofs.Common.{◌≡◌, arith, ap, ◌∙◌, length, ◌-◌, ◌≤◌, drop, List}
 use Rattle.tla_expr.specs.Writing.{shown}
-use Rattle.std.proofs.Common.{◌-◌, ◌≤◌, drop}
 use Rattle.std.proofs.lemmas.List.{length-map}
-use Rattle.tla_expr.specs.Shapes.{subscripts}
-use Rattle.tla_expr.specs.declared.form.Step.{Step}
-use Rattle.std.proofs.Common.{List}
-use Rattle.tla_expr.specs.FormOf.{steps_of, slot_of, slots_of}
-use Rattle.tla_expr.specs.Tree as pure
-use Rattle.tla_expr.specs.Written.{mark, path_pieces, right_side, slot_pieces}
-use Rattle.tla_expr.specs.Lexical as tk
+use Rattle.tla_tree.specs.Shapes.{subscripts}
+use Rattle.tla_pool.specs.declared.form.Step.{Step}
+use Rattle.tla_pool.specs.FormOf.{steps_of, slot_of, slots_of}
+use Rattle.tla_tree.specs.Tree as pure
+use Rattle.tla_tree.specs.Written.{mark, path_pieces, right_side, slot_pieces}
+use Rattle.tla_tree.specs.Lexical as tk
 use Rattle.tla_expr.proofs.WritingLemmas.{shown_append, map_next, map_get, settings_next, settings_less, side_shown, slots_next, comma_by, is_more}
 use Rattle.tla_expr.proofs.write.put_slots.Goals as goal
 

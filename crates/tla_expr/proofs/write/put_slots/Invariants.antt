@@ -1,8 +1,8 @@
 -- Why the loop of `put_slots` ends, and what it keeps: what is shown are the settings from the next one on.
 use Rattle.std.proofs.Common.{◌≡◌, ◌≤◌, suc, List, length, drop, take}
-use Rattle.tla_expr.specs.FormOf.{slots_of}
-use Rattle.tla_expr.specs.Shapes.{settings}
-use Rattle.tla_expr.specs.Written.{Piece, Part, slot_pieces}
+use Rattle.tla_pool.specs.FormOf.{slots_of}
+use Rattle.tla_tree.specs.Shapes.{settings}
+use Rattle.tla_tree.specs.Written.{Piece, Part, slot_pieces}
 use Rattle.tla_expr.specs.Writing.{shown}
 use Rattle.tla_expr.proofs.write.put_slots.Given as goal
 

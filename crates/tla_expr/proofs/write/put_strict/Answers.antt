@@ -1,15 +1,14 @@
 -- Proves what is asked of `put_strict`.
-use Rattle.std.proofs.Common.{arith, sym, ap, subst, ◌∙◌, length}
+use Rattle.std.proofs.Common.{arith, sym, ap, subst, ◌∙◌, length, List}
 use Rattle.tla_expr.specs.Writing.{shown}
-use Rattle.tla_expr.specs.declared.form.Strict.{Strict}
-use Rattle.tla_expr.specs.FormOf.{strict_of, slots_of}
-use Rattle.std.proofs.Common.{List}
-use Rattle.tla_expr.specs.declared.form.Slot.{Slot}
-use Rattle.tla_expr.specs.Shapes.{StrictShaped}
-use Rattle.tla_expr.specs.Tree.{Word}
-use Rattle.tla_expr.specs.Lexical as tk
-use Rattle.tla_expr.specs.Written.{mark, spaced, field_pieces, strict_pieces}
-use Rattle.tla_expr.specs.Tree as tree
+use Rattle.tla_pool.specs.declared.form.Strict.{Strict}
+use Rattle.tla_pool.specs.FormOf.{strict_of, slots_of}
+use Rattle.tla_pool.specs.declared.form.Slot.{Slot}
+use Rattle.tla_tree.specs.Shapes.{StrictShaped}
+use Rattle.tla_tree.specs.Tree.{Word}
+use Rattle.tla_tree.specs.Lexical as tk
+use Rattle.tla_tree.specs.Written.{mark, spaced, field_pieces, strict_pieces}
+use Rattle.tla_tree.specs.Tree as tree
 use Rattle.tla_expr.proofs.WritingLemmas.{shown_append, functions_shown, apply_shown, select_shown, except_shown}
 use Rattle.tla_expr.proofs.write.put_strict.Goals as goal
 

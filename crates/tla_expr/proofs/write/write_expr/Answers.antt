@@ -1,7 +1,7 @@
 -- Proves what is asked of `write_expr`.
 use Rattle.std.proofs.Common.{◌≡◌, ℕ, List, ◌++◌, false, subst, ◌∙◌}
 use Rattle.std.specs.Prelude.{OnOk}
-use Rattle.tla_expr.specs.Pool.{at}
+use Rattle.tla_tree.specs.Pool.{at}
 use Rattle.tla_expr.proofs.WritingLemmas.{all_written}
 use Rattle.tla_expr.proofs.write.write_expr.Goals as goal
 

@@ -1,6 +1,6 @@
 -- What the loop of `write_quote` keeps: what is written, and the bytes that are left.
 use Rattle.std.proofs.Common.{◌≡◌, ◌++◌, ◌∷◌, [], drop}
-use Rattle.tla_expr.specs.Lexical.{escapes}
+use Rattle.tla_tree.specs.Lexical.{escapes}
 use Rattle.tla_expr.proofs.write.write_quote.Given as goal
 
 abbrev pub invariant-loop-b : goal.invariant-loop-b

@@ -1,8 +1,8 @@
 -- Proves the law `the_form_is_translated_as_any_algorithm`: the one algorithm in the file is that of the form's parts, and its translation is the form's.
 use Rattle.std.proofs.Common.{◌≡◌, ℕ, List, false, sym, subst}
 use Rattle.tla_value.specs.Outside.{Outside}
-use Rattle.module_text.specs.Module.{Module}
-use Rattle.module_text.specs.Around.{Around}
+use Rattle.module_tree.specs.Module.{Module}
+use Rattle.module_tree.specs.Around.{Around}
 use Rattle.pcal_tree.specs.Algorithm.{Algorithm}
 use Rattle.pcal_tree.specs.Labelled.{labelled}
 use Rattle.first_path.specs.Form.{Parts, IsForm}

@@ -1,6 +1,0 @@
--- Proves the law `a_text_is_one_module`.
-use Rattle.module_text.proofs.OneModule.{one_module}
-use Rattle.module_text.proofs.laws.a_text_is_one_module.Goals as goal
-
-pub returns : goal.returns
-returns c = one_module

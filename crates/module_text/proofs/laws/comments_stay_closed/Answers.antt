@@ -1,6 +1,0 @@
--- Proves the law `comments_stay_closed`.
-use Rattle.module_text.proofs.PairedMarks.{stays_closed}
-use Rattle.module_text.proofs.laws.comments_stay_closed.Goals as goal
-
-pub returns : goal.returns
-returns c = stays_closed

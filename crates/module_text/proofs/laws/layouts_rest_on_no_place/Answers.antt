@@ -1,6 +1,0 @@
--- Proves the law `layouts_rest_on_no_place`.
-use Rattle.module_text.proofs.LayoutBare.{same_layout}
-use Rattle.module_text.proofs.laws.layouts_rest_on_no_place.Goals as goal
-
-pub returns : goal.returns
-returns c = same_layout

@@ -1,6 +1,0 @@
--- Proves the law `swaps_go_back`.
-use Rattle.module_text.proofs.SwappedBack.{swapped_back}
-use Rattle.module_text.proofs.laws.swaps_go_back.Goals as goal
-
-pub returns : goal.returns
-returns c = swapped_back

@@ -1,6 +1,0 @@
--- Proves the law `translations_are_regions`.
-use Rattle.module_text.proofs.WalkWritten.{written}
-use Rattle.module_text.proofs.laws.translations_are_regions.Goals as goal
-
-pub returns : goal.returns
-returns c = written

@@ -1,6 +1,0 @@
--- Proves the law `walks_are_alike`.
-use Rattle.module_text.proofs.WalkAlike.{alike}
-use Rattle.module_text.proofs.laws.walks_are_alike.Goals as goal
-
-pub returns : goal.returns
-returns c = alike

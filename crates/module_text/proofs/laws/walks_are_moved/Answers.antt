@@ -1,6 +1,0 @@
--- Proves the law `walks_are_moved`.
-use Rattle.module_text.proofs.WalkMoved.{moved}
-use Rattle.module_text.proofs.laws.walks_are_moved.Goals as goal
-
-pub returns : goal.returns
-returns c = moved

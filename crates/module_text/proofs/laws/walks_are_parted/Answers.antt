@@ -1,6 +1,0 @@
--- Proves the law `walks_are_parted`.
-use Rattle.module_text.proofs.WalkParted.{parted}
-use Rattle.module_text.proofs.laws.walks_are_parted.Goals as goal
-
-pub returns : goal.returns
-returns c = parted

@@ -1,6 +1,0 @@
--- Proves the law `walks_are_resumed`.
-use Rattle.module_text.proofs.WalkResumed.{resumed}
-use Rattle.module_text.proofs.laws.walks_are_resumed.Goals as goal
-
-pub returns : goal.returns
-returns c = resumed

@@ -1,6 +1,0 @@
--- Proves the law `walks_are_whole`.
-use Rattle.module_text.proofs.WalkWhole.{whole}
-use Rattle.module_text.proofs.laws.walks_are_whole.Goals as goal
-
-pub returns : goal.returns
-returns c = whole

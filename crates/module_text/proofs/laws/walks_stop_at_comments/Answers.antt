@@ -1,6 +1,0 @@
--- Proves the law `walks_stop_at_comments`.
-use Rattle.module_text.proofs.WalkBefore.{walk_before}
-use Rattle.module_text.proofs.laws.walks_stop_at_comments.Goals as goal
-
-pub returns : goal.returns
-returns c = walk_before

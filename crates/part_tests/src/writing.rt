@@ -1,0 +1,367 @@
+//! A module with every kind of item, written to the byte.
+
+ghost use Rattle.std.specs.Prelude.{◌≡◌, ◌≤◌, ◌<◌, ◌∷◌, [], length, IfOk};
+ghost use Rattle.module_text.specs.InMemory.{past_items, ActionsIn, AllFairnessIn, WaysIn, RegionIn};
+ghost use Rattle.tla_value.specs.Defs.{DefinitionsIn};
+
+use module_text::formulas::{at, binds_self, equal, functions_from, is_in, named, quoted, set};
+use module_text::module::{Action, Body, Call, Fairness, Item, Module, Outside, Region, Way};
+use module_text::parts::Parts;
+use module_text::ways::sets;
+use module_text::write_file::{with_translation, write_module};
+use module_text::write_units::write_region;
+use std::alloc::{AllocError, Global};
+use tla_expr::write_expr;
+use tla_pool::Pool;
+use tla_pool::form::{Form, Strict};
+use tla_token::{Place, Span, Tokens};
+use tla_tree::{Binder, Name, NameList, NodeId, Op, Text};
+use tla_value::names::{Definition, Defs};
+
+const PLACE: Place = Place { line: 1, col: 1 };
+
+fn name(alloc: Global, bytes: &[u8]) -> Result<Name, AllocError> {
+    Ok(Name::new(Vec::from_slice(alloc, bytes)?))
+}
+
+fn one_name(alloc: Global, bytes: &[u8]) -> Result<NameList, AllocError> {
+    let mut list = NameList::new(alloc);
+    list.push(name(alloc, bytes)?)?;
+    Ok(list)
+}
+
+fn two_names(alloc: Global, first: &[u8], second: &[u8]) -> Result<NameList, AllocError> {
+    let mut list = one_name(alloc, first)?;
+    list.push(name(alloc, second)?)?;
+    Ok(list)
+}
+
+fn one<T: Drop>(alloc: Global, item: T) -> Result<Vec<T>, AllocError>
+    ensures { IfOk result (λ v. v.items ≡ item ∷ []) }
+{
+    let mut items = Vec::new(alloc);
+    items.push(item)?;
+    Ok(items)
+}
+
+// One of each kind.
+fn every_item(alloc: Global, n: usize, e: NodeId, s: NodeId) -> Result<Vec<Item>, AllocError>
+    requires within { (e < n) × (s < n) }
+    ensures { IfOk result (λ v. past_items v.items ≤ n) }
+{
+    let mut items = one(alloc, Item::Test(e))?;
+    items.push(Item::Setting(name(alloc, b"x")?, e))?;
+    let within = one(alloc, Item::Test(s))?;
+    items.push(Item::Exists(name(alloc, b"y")?, s, within))?;
+    let within = one(alloc, Item::Test(s))?;
+    items.push(Item::Local(name(alloc, b"y")?, e, within))?;
+    let mut yes = one(alloc, Item::Test(s))?;
+    yes.push(Item::Unchanged(two_names(alloc, b"x", b"pc")?))?;
+    let no = one(alloc, Item::Test(s))?;
+    items.push(Item::Choice(e, yes, no))?;
+    let mut branches = one(alloc, one(alloc, Item::Test(s))?)?;
+    branches.push(one(alloc, Item::Unchanged(one_name(alloc, b"x")?))?)?;
+    items.push(Item::Either(branches))?;
+    Ok(items)
+}
+
+/// The numbers of what the sample's expressions are.
+#[derive(Clone, Copy)]
+struct Numbers {
+    /// `x = 1`
+    equal: NodeId,
+    /// `S`
+    set: NodeId,
+    /// `S \cup T`
+    both: NodeId,
+    /// `ProcSet`
+    all: NodeId,
+}
+
+fn actions(alloc: Global, n: usize, e: Numbers) -> Result<Vec<Action>, AllocError>
+    requires { (e.equal < n) × (e.set < n) }
+    ensures { IfOk result (λ v. ActionsIn n v.items) }
+{
+    let mut actions = one(
+        alloc,
+        Action {
+            title: name(alloc, b"A")?,
+            parameter: Some(name(alloc, b"self")?),
+            body: Body::All(every_item(alloc, n, e.equal, e.set)?),
+        },
+    )?;
+    let call = Call::With(name(alloc, b"A")?, e.set);
+    actions.push(Action {
+        title: name(alloc, b"P")?,
+        parameter: None,
+        body: Body::Any(one(alloc, Way::One(call))?),
+    })?;
+    Ok(actions)
+}
+
+fn ways(alloc: Global, n: usize, e: Numbers) -> Result<Vec<Way>, AllocError>
+    requires { (e.set < n) × (e.all < n) }
+    ensures { IfOk result (λ v. WaysIn n v.items) }
+{
+    let call = Call::With(name(alloc, b"F")?, e.set);
+    let mut ways = one(alloc, Way::Among(name(alloc, b"self")?, e.all, call))?;
+    let call = Call::With(name(alloc, b"P")?, e.set);
+    ways.push(Way::Among(name(alloc, b"self")?, e.set, call))?;
+    ways.push(Way::One(Call::Bare(name(alloc, b"Q")?)))?;
+    ways.push(Way::One(Call::Bare(name(alloc, b"Terminating")?)))?;
+    Ok(ways)
+}
+
+fn fairness(alloc: Global, n: usize, e: Numbers) -> Result<Vec<Fairness>, AllocError>
+    requires { (e.equal < n) × (e.set < n) }
+    ensures { IfOk result (λ v. AllFairnessIn n v.items) }
+{
+    let mut lines = one(
+        alloc,
+        Fairness {
+            over: Some((name(alloc, b"self")?, e.set)),
+            strong: false,
+            guard: Some(e.equal),
+            action: Call::With(name(alloc, b"P")?, e.set),
+        },
+    )?;
+    lines.push(Fairness {
+        over: None,
+        strong: true,
+        guard: None,
+        action: Call::Bare(name(alloc, b"Q")?),
+    })?;
+    Ok(lines)
+}
+
+fn definitions(alloc: Global, n: usize, e: Numbers) -> Result<Defs, AllocError>
+    requires { e.equal < n }
+    ensures { IfOk result (λ ds. DefinitionsIn n ds) }
+{
+    let mut definitions = Defs::new(alloc);
+    definitions.push(Definition {
+        name: name(alloc, b"N")?,
+        params: NameList::new(alloc),
+        body: e.equal,
+        outside: false,
+        place: PLACE,
+    })?;
+    definitions.push(Definition {
+        name: name(alloc, b"Op")?,
+        params: two_names(alloc, b"a", b"b")?,
+        body: e.equal,
+        outside: false,
+        place: PLACE,
+    })?;
+    Ok(definitions)
+}
+
+fn sample(alloc: Global, n: usize, e: Numbers) -> Result<Region, AllocError>
+    requires { (e.equal < n) × (e.set < n) × (e.both < n) × (e.all < n) }
+    ensures { IfOk result (λ r. RegionIn n r) }
+{
+    Ok(Region {
+        model_values: one_name(alloc, b"defaultInitValue")?,
+        variables: two_names(alloc, b"x", b"pc")?,
+        definitions: definitions(alloc, n, e)?,
+        vars: two_names(alloc, b"x", b"pc")?,
+        process_set: Some(e.both),
+        init: Vec::from_array(alloc, [e.equal, e.set])?,
+        actions: actions(alloc, n, e)?,
+        ended: Some(e.equal),
+        next: ways(alloc, n, e)?,
+        fairness: fairness(alloc, n, e)?,
+        termination: e.equal,
+    })
+}
+
+fn put_all(alloc: Global, pool: &mut Pool) -> Result<Numbers, AllocError>
+    ensures { IfOk result (λ e. (e.equal < length pool.new) × (e.set < length pool.new) × (e.both < length pool.new) × (e.all < length pool.new)) }
+{
+    let x = pool.put(Form::Name(name(alloc, b"x")?), PLACE, Vec::new(alloc))?;
+    let one = pool.put(Form::Number(1), PLACE, Vec::new(alloc))?;
+    let equal = pool.put(
+        Form::Strict(Strict::Operator(Op::Equal)),
+        PLACE,
+        Vec::from_array(alloc, [x, one])?,
+    )?;
+    let set = pool.put(Form::Name(name(alloc, b"S")?), PLACE, Vec::new(alloc))?;
+    let other = pool.put(Form::Name(name(alloc, b"T")?), PLACE, Vec::new(alloc))?;
+    let both = pool.put(
+        Form::Strict(Strict::Operator(Op::Cup)),
+        PLACE,
+        Vec::from_array(alloc, [set, other])?,
+    )?;
+    let all = pool.put(Form::Name(name(alloc, b"ProcSet")?), PLACE, Vec::new(alloc))?;
+    Ok(Numbers {
+        equal,
+        set,
+        both,
+        all,
+    })
+}
+
+const WANTED: &[u8] = b"CONSTANT defaultInitValue
+
+VARIABLES x, pc
+
+N == x = 1
+
+Op(a, b) == x = 1
+
+vars == <<x, pc>>
+
+ProcSet == S \\cup T
+
+Init ==
+  /\\ x = 1
+  /\\ S
+
+A(self) ==
+  /\\ (x = 1)
+  /\\ x' = (x = 1)
+  /\\ \\E y \\in S :
+       /\\ (S)
+  /\\ LET y == x = 1 IN
+       /\\ (S)
+  /\\ IF x = 1
+     THEN
+       /\\ (S)
+       /\\ UNCHANGED <<x, pc>>
+     ELSE
+       /\\ (S)
+  /\\
+       \\/
+            /\\ (S)
+       \\/
+            /\\ UNCHANGED <<x>>
+
+P ==
+  \\/ A(S)
+
+Terminating ==
+  /\\ (x = 1)
+  /\\ UNCHANGED vars
+
+Next ==
+  \\/ \\E self \\in ProcSet : F(S)
+  \\/ \\E self \\in S : P(S)
+  \\/ Q
+  \\/ Terminating
+
+Spec ==
+  /\\ Init
+  /\\ [][Next]_vars
+  /\\ \\A self \\in S : WF_vars((x = 1) /\\ P(S))
+  /\\ SF_vars(Q)
+
+Termination == <>(x = 1)
+";
+
+#[test]
+fn every_kind_of_item_is_written(rt: HostRuntime) -> Result<(), AllocError> {
+    let alloc = rt.alloc();
+    let mut pool = Pool::new(alloc);
+    let e = put_all(alloc, &mut pool)?;
+    let region = sample(alloc, pool.len(), e)?;
+    let mut text = Text::new(Vec::new(alloc));
+    text.push(b'|')?;
+    write_region(alloc, &pool, &region, &mut text)?;
+    assert_eq!(rt; text.bytes()[0], b'|');
+    assert!(rt; &text.bytes()[1..] == WANTED);
+    Ok(())
+}
+
+// No token.
+fn none(alloc: Global) -> Tokens {
+    Tokens {
+        bytes: Vec::new(alloc),
+        items: Vec::new(alloc),
+        end: PLACE,
+    }
+}
+
+#[test]
+fn each_process_has_its_set(rt: HostRuntime) -> Result<(), AllocError> {
+    let alloc = rt.alloc();
+    let mut pool = Pool::new(alloc);
+    let e = put_all(alloc, &mut pool)?;
+    assert_eq!(rt; sets(alloc, &pool, 2, e.both)?.len(), 2);
+    assert_eq!(rt; sets(alloc, &pool, 1, e.both)?.len(), 1);
+    assert_eq!(rt; sets(alloc, &pool, 3, e.equal)?.len(), 1);
+    Ok(())
+}
+
+// A file without a translation; the place of one is at byte 38.
+const FILE: &[u8] = b"---- MODULE M ----\n(*--algorithm A\n*)\n====\n";
+
+#[test]
+fn a_translation_is_put_in_its_place(rt: HostRuntime) -> Result<(), AllocError> {
+    let alloc = rt.alloc();
+    let parts = Parts {
+        text: FILE,
+        title: Span { from: 12, to: 13 },
+        spot: Span { from: 38, to: 38 },
+        is_new: true,
+        algorithm: Span { from: 21, to: 34 },
+        is_c: false,
+        before: none(alloc),
+        after: none(alloc),
+    };
+    let written = with_translation(alloc, &parts, b"VARIABLES x\n")?;
+    let wanted =
+        b"---- MODULE M ----\n(*--algorithm A\n*)\n\\* BEGIN TRANSLATION\nVARIABLES x\n\\* END TRANSLATION\n====\n";
+    assert!(rt; written.as_slice() == wanted.as_slice());
+    let mut pool = Pool::new(alloc);
+    let e = put_all(alloc, &mut pool)?;
+    let module = Module {
+        title: name(alloc, b"M")?,
+        outside: Outside::new(alloc),
+        region: sample(alloc, pool.len(), e)?,
+    };
+    let written = write_module(alloc, &pool, &parts, &module)?;
+    assert_eq!(rt; written.len(), FILE.len() + 40 + WANTED.len());
+    Ok(())
+}
+
+#[test]
+fn formulas_over_self_are_put(rt: HostRuntime) -> Result<(), AllocError> {
+    let alloc = rt.alloc();
+    let mut pool = Pool::new(alloc);
+    let pc = named(alloc, &mut pool, name(alloc, b"pc")?)?;
+    let here = named(alloc, &mut pool, name(alloc, b"self")?)?;
+    assert!(rt; pc < pool.len() && here < pool.len());
+    let place = at(alloc, &mut pool, pc, here)?;
+    assert!(rt; place < pool.len() && pc < pool.len());
+    let ended = equal(alloc, &mut pool, place, pc)?;
+    assert!(rt; ended < pool.len() && pc < pool.len());
+    let each = binds_self(alloc, &mut pool, Binder::ForAll, pc, ended)?;
+    assert!(rt; each < pool.len());
+    let mut text = Text::new(Vec::new(alloc));
+    write_expr(alloc, &pool, each, &mut text)?;
+    assert!(rt; text.bytes() == b"\\A self \\in pc : pc[self] = pc".as_slice());
+    Ok(())
+}
+
+#[test]
+fn sets_of_texts_are_put(rt: HostRuntime) -> Result<(), AllocError> {
+    let alloc = rt.alloc();
+    let mut pool = Pool::new(alloc);
+    let done = quoted(
+        alloc,
+        &mut pool,
+        Text::new(Vec::from_slice(alloc, b"Done")?),
+    )?;
+    assert!(rt; done < pool.len());
+    let labels = set(&mut pool, Vec::from_array(alloc, [done, done])?)?;
+    assert!(rt; labels < pool.len() && done < pool.len());
+    let other = is_in(alloc, &mut pool, false, done, labels)?;
+    assert!(rt; other < pool.len() && labels < pool.len());
+    let whole = functions_from(alloc, &mut pool, other, labels)?;
+    assert!(rt; whole < pool.len());
+    let mut text = Text::new(Vec::new(alloc));
+    write_expr(alloc, &pool, whole, &mut text)?;
+    let wanted = b"[\"Done\" \\notin {\"Done\", \"Done\"} -> {\"Done\", \"Done\"}]";
+    assert!(rt; text.bytes() == wanted.as_slice());
+    Ok(())
+}

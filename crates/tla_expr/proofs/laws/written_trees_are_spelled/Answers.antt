@@ -1,6 +1,0 @@
--- Proves the law `written_trees_are_spelled`.
-use Rattle.tla_expr.proofs.InText.{cut}
-use Rattle.tla_expr.proofs.laws.written_trees_are_spelled.Goals as goal
-
-pub returns : goal.returns
-returns c = cut

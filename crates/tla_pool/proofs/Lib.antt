@@ -1,0 +1,3 @@
+pub mod PoolGrown
+pub mod DoneLemmas
+mod RowsPool

@@ -1,0 +1,12 @@
+-- What a graft has made already: pairs of numbers, the second with the grafted tree of the first.
+use Rattle.std.specs.Prelude.{◌≡◌, ℕ, ◌<◌, List, [], ◌∷◌, length}
+use Rattle.tla_tree.specs.Tree.{Tree, Graft, graft}
+use Rattle.tla_tree.specs.Pool.{at}
+
+-- one number has the grafted tree of another
+abbrev pub IsMade : Graft → List Tree → ℕ → ℕ → Type 0
+IsMade g ts e made = (e < length ts) × (made < length ts) × (at ts made ≡ graft g (at ts e))
+
+abbrev pub AreMade : Graft → List Tree → List (ℕ × ℕ) → Type 0
+AreMade g ts [] = Unit {0}
+AreMade g ts (p ∷ ps) = IsMade g ts p.0 p.1 × AreMade g ts ps

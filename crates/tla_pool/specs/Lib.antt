@@ -1,0 +1,2 @@
+pub mod FormOf
+pub mod Done

@@ -1,0 +1,13 @@
+//! Expressions in memory: a pool of nodes, each node once, whose numbers stand for trees; and trees that are put in for names there.
+#![tactic(auto)]
+
+mod done;
+pub mod form;
+pub mod graft;
+pub mod node;
+pub mod pool;
+pub mod seen;
+
+pub use node::Node;
+pub use pool::Pool;
+pub use seen::Seen;

@@ -1,0 +1,282 @@
+-- What stands before a refused token can be gone on with: the claim for all readers, and how a part that is mended mends the whole.
+use Rattle.std.proofs.Common.{◌≡◌, ◌⊎◌, ℕ, suc, ◌+◌, ◌*◌, ◌≤◌, length, length-append, subst, inl, inr, nat_lt, Bool, true, false, List, [], ◌∷◌, ◌++◌, Option, Some, None, Ok, Err, refl, sym, ap, ◌∙◌, append_assoc, arith}
+use Rattle.std.proofs.lemmas.Bool.{lt-ltb}
+use Rattle.tla_token.specs.declared.place.Place.{Place}
+use Rattle.tla_tree.specs.declared.op.Op.{Op}
+use Rattle.tla_token.specs.declared.rule.Rule.TheVariants.{TooDeep, Syntax}
+use Rattle.tla_tree.specs.Tree.{Word}
+use Rattle.tla_tree.specs.Rank.{is_bullet}
+use Rattle.tla_tree.specs.Lexical.{Mark, Key, TokenView, Token, token}
+use Rattle.tla_tree.specs.Lexical as tk
+use Rattle.tla_tree.specs.Spelling.{applied, is_above, infix_of}
+use Rattle.tla_tree.specs.Spelling.{Field, Phrase, number, Binds, last_bind, Path, path_end, at_field, Bullets}
+use Rattle.tla_tree.specs.Spelling.{word, field_token, spell, spell_all, spell_binds, spell_fields, spell_settings, spell_path, spell_bullets, spell_arms, spell_locals, Right, Good, GoodAll, GoodBinds, GoodFields, GoodSettings, GoodPath, GoodBullets, GoodArms, GoodLocals, head, is_primary, is_short, first_bullet, is_some_path}
+use Rattle.tla_tree.specs.declared.op.Op.TheVariants as op
+use Rattle.tla_tree.specs.Nesting.{chain, counts, counts_all, counts_binds, counts_fields, counts_settings, counts_path, counts_bullets, counts_arms, counts_locals}
+use Rattle.tla_tree.specs.Reader.{Stop, refuses, too_deep, if_fits, read_by, opened, within, Room, bullet_of, behind, is_behind_in, element, Out, Reader, then_read, next, took, take, place_if, is_mark, is_key, is_sign, word_of, field_of, a_mark, a_key, a_sign, a_word, a_field, gives, ended, Context, fits, Readers}
+use Rattle.tla_tree.proofs.DeepCounts as cnt
+use Rattle.tla_tree.proofs.SpellAhead.{Ahead, held, put_ahead, then_ahead}
+use Rattle.tla_tree.proofs.SoundForms.{is_infix}
+use Rattle.tla_tree.proofs.LimitedSets.{plain_element, above_element, left_element}
+use Rattle.tla_tree.proofs.LimitedRooms.{Alive, AreLimited, ReadersFit, IsRoom, inner_room}
+use Rattle.tla_tree.proofs.ReadWithin.{Small}
+
+-- ---- tokens and phrases that can be put anywhere to the right of the edge
+abbrev pub after : ℕ → Place
+after e = record { line = 0; col = suc e }
+
+pub right_after : (e : ℕ) → Right e (after e)
+right_after e = lt-ltb e (suc e) (omega arith)
+
+abbrev pub mark_at : ℕ → Mark → Token
+mark_at e m = token (after e) (tk.mark m)
+
+abbrev pub key_at : ℕ → Key → Token
+key_at e k = token (after e) (tk.key k)
+
+abbrev pub sign_at : ℕ → Op → Token
+sign_at e o = token (after e) (tk.sign o)
+
+abbrev pub number_at : ℕ → Token
+number_at e = token (after e) (tk.number 0)
+
+abbrev pub an_x : Word
+an_x = 120 ∷ []
+
+abbrev pub word_at : ℕ → Token
+word_at e = token (after e) (tk.word an_x)
+
+abbrev pub some : ℕ → Phrase
+some e = number (after e) 0
+
+abbrev pub some_bind : ℕ → Binds
+some_bind e = last_bind (after e) an_x (after e) (some e)
+
+abbrev pub some_field : ℕ → Field
+some_field e = record { place = after e; is_reserved = false; text = an_x }
+
+abbrev pub some_path : ℕ → Path
+some_path e = at_field (after e) (some_field e) path_end
+
+-- ---- where tokens were cut off, and those that complete them: as they are counted
+abbrev pub Heads : ℕ → List ℕ → Type 0
+Heads n [] = ⊥
+Heads n (x ∷ xs) = n ≡ x
+
+-- none, or as many forms are open at the first of them that 16 for each form, and c, are enough, those round the whole counted off
+pub record Cut (y : List ℕ → List ℕ) (n c : ℕ) (fix : List Token) : Type 0 where
+  pub front : List ℕ → List ℕ
+  pub back : List ℕ → List ℕ
+  pub is_front : Ahead front
+  pub splits : (u : List ℕ) → y u ≡ front (back u)
+  pub long : (u : List ℕ) → length (back u) ≡ length fix + length u
+  pub enough : ((fix ≡ []) × ((u : List ℕ) → back u ≡ u)) ⊎ ((m : ℕ) × ((u : List ℕ) → Heads m (back u)) × (length fix + 16 * n ≤ 16 * m + c))
+
+abbrev pub Few : {A : Type 0} → (ℕ → A → List ℕ → List ℕ) → ℕ → A → List Token → Type 0
+Few y c a fix = (n : ℕ) → Cut (y n a) n c fix
+
+-- the part is cut, and the whole after it is completed
+pub cut_inside : {y z : List ℕ → List ℕ} {i j c d : ℕ} (front : List ℕ → List ℕ) → Ahead front → (post : List ℕ → List ℕ) (close : List Token) → ((u : List ℕ) → z u ≡ front (y (post u))) → ((u : List ℕ) → length (post u) ≡ length close + length u)
+    → ((close ≡ []) × ((u : List ℕ) → post u ≡ u)) ⊎ ((m : ℕ) × ((u : List ℕ) → Heads m (post u)) × (length close + 16 * j ≤ 16 * m + d)) → length close + c + 16 * j ≤ d + 16 * i → (fix : List Token) → Cut y i c fix → Cut z j d (fix ++ close)
+cut_inside {y} {z} {i} {j} {c} {d} front fa post close same long ends less fix k = record {
+  front = λ u. front (k.front u);
+  back = λ u. k.back (post u);
+  is_front = then_ahead fa k.is_front;
+  splits = λ u. same u ∙ ap front (k.splits (post u));
+  long = λ u. (let a = k.long (post u) in let b = long u in let e = length-append fix close in omega (arith, a, b, e));
+  enough = by fix close k.enough ends (length-append fix close) less;
+}
+  where
+    by : (fix close : List Token) → ((fix ≡ []) × ((u : List ℕ) → k.back u ≡ u)) ⊎ ((m : ℕ) × ((u : List ℕ) → Heads m (k.back u)) × (length fix + 16 * i ≤ 16 * m + c))
+        → ((close ≡ []) × ((u : List ℕ) → post u ≡ u)) ⊎ ((m : ℕ) × ((u : List ℕ) → Heads m (post u)) × (length close + 16 * j ≤ 16 * m + d)) → length (fix ++ close) ≡ length fix + length close → length close + c + 16 * j ≤ d + 16 * i
+        → ((fix ++ close ≡ []) × ((u : List ℕ) → k.back (post u) ≡ u)) ⊎ ((m : ℕ) × ((u : List ℕ) → Heads m (k.back (post u))) × (length (fix ++ close) + 16 * j ≤ 16 * m + d))
+    by fix close (inl e) (inl f) n l = inl (rw (e.0, f.0) refl, λ u. e.1 (post u) ∙ f.1 u)
+    by fix close (inl e) (inr (m, h, f)) n l = inr (m, λ u. subst (λ (xs : List ℕ). Heads m xs) (sym (e.1 (post u))) (h u), (let z = ap length e.0 in omega (arith, n, z, f)))
+    by fix close (inr (m, h, f)) g n l = inr (m, λ u. h (post u), omega (arith, n, f, l))
+
+pub cut_missing : {z : List ℕ → List ℕ} {j d : ℕ} (front : List ℕ → List ℕ) → Ahead front → (back : List ℕ → List ℕ) (fix : List Token) → ((u : List ℕ) → z u ≡ front (back u)) → ((u : List ℕ) → length (back u) ≡ length fix + length u)
+    → ((fix ≡ []) × ((u : List ℕ) → back u ≡ u)) ⊎ ((m : ℕ) × ((u : List ℕ) → Heads m (back u)) × (length fix + 16 * j ≤ 16 * m + d)) → Cut z j d fix
+cut_missing front fa back fix same long ends = record { front = front; back = back; is_front = fa; splits = same; long = long; enough = ends }
+
+pub uncut : (a : Phrase) → Few counts 1 a []
+uncut a n = cut_missing (counts n a) (cnt.ahead_counts n a) (λ u. u) [] (λ u. refl) (λ u. omega arith) (inl (refl, λ u. refl))
+
+-- something is before it
+pub cut_front : {y z : List ℕ → List ℕ} {i j c d : ℕ} (front : List ℕ → List ℕ) → Ahead front → ((u : List ℕ) → z u ≡ front (y u)) → c + 16 * j ≤ d + 16 * i → (fix : List Token) → Cut y i c fix → Cut z j d fix
+cut_front {y} {z} {i} {j} {c} {d} front fa same less fix k = record {
+  front = λ u. front (k.front u);
+  back = k.back;
+  is_front = then_ahead fa k.is_front;
+  splits = λ u. same u ∙ ap front (k.splits u);
+  long = k.long;
+  enough = by k.enough;
+}
+  where
+    by : ((fix ≡ []) × ((u : List ℕ) → k.back u ≡ u)) ⊎ ((m : ℕ) × ((u : List ℕ) → Heads m (k.back u)) × (length fix + 16 * i ≤ 16 * m + c)) → ((fix ≡ []) × ((u : List ℕ) → k.back u ≡ u)) ⊎ ((m : ℕ) × ((u : List ℕ) → Heads m (k.back u)) × (length fix + 16 * j ≤ 16 * m + d))
+    by (inl e) = inl e
+    by (inr (m, h, f)) = inr (m, h, omega (arith, f, less))
+
+-- ---- tokens that were read from ts on up to u, and tokens that complete them to a whole that fits
+pub record Mend {A : Type 0} (F : A → Type 0) (K : A → List Token → Type 0) (Q : A → Type 0) (put : A → List Token → List Token) (ts u : List Token) : Type 0 where
+  pub whole : A
+  pub good : Q whole
+  pub fits : F whole
+  pub read : List Token
+  pub fix : List Token
+  pub few : K whole fix
+  pub parts : ts ≡ read ++ u
+  pub tokens : (v : List Token) → put whole v ≡ read ++ (fix ++ v)
+
+-- x was read before a part that is mended, and the whole is completed after it
+pub inside : {A B : Type 0} {F Q : A → Type 0} {K : A → List Token → Type 0} {L : B → List Token → Type 0} {H R : B → Type 0} {put : A → List Token → List Token} {puts : B → List Token → List Token} (x : List Token → List Token) → Ahead x → (close : List Token) → {ts us u : List Token}
+    → (m : Mend F K Q put us u) → (b : B) → R b → H b → (K m.whole m.fix → L b (m.fix ++ close)) → ((v : List Token) → puts b v ≡ x (put m.whole (close ++ v))) → ts ≡ x us → Mend H L R puts ts u
+inside x h close m b g f k e s = record {
+  whole = b;
+  good = g;
+  fits = f;
+  read = x m.read;
+  fix = m.fix ++ close;
+  few = k m.few;
+  parts = s ∙ ap x m.parts ∙ h.is m.read _;
+  tokens = λ v. e v ∙ ap x (m.tokens (close ++ v)) ∙ ap (λ (w : List Token). x (m.read ++ w)) (sym (append_assoc m.fix close v)) ∙ h.is m.read ((m.fix ++ close) ++ v);
+}
+
+-- x was read, and the rest of the whole is missing
+pub missing : {B : Type 0} {L : B → List Token → Type 0} {H R : B → Type 0} {puts : B → List Token → List Token} (x : List Token → List Token) → Ahead x → (fix : List Token) → {ts u : List Token}
+    → (b : B) → R b → H b → L b fix → ((v : List Token) → puts b v ≡ x (fix ++ v)) → ts ≡ x u → Mend H L R puts ts u
+missing x h fix {ts} {u} b g f k e s = record {
+  whole = b;
+  good = g;
+  fits = f;
+  read = x [];
+  fix = fix;
+  few = k;
+  parts = s ∙ h.is [] u;
+  tokens = λ v. e v ∙ h.is [] (fix ++ v);
+}
+
+pub better : {A : Type 0} {K L : A → List Token → Type 0} {F H Q R : A → Type 0} {put : A → List Token → List Token} {ts u : List Token} → ((a : A) → Q a → R a) → ((a : A) → F a → H a) → ((a : A) (fix : List Token) → Q a → K a fix → L a fix) → Mend F K Q put ts u → Mend H L R put ts u
+better h i j m = record { whole = m.whole; good = h m.whole m.good; fits = i m.whole m.fits; read = m.read; fix = m.fix; few = j m.whole m.fix m.good m.few; parts = m.parts; tokens = m.tokens }
+
+pub onto : {A : Type 0} {K : A → List Token → Type 0} {F Q : A → Type 0} {put : A → List Token → List Token} {ts us u : List Token} → ts ≡ us → Mend F K Q put ts u → Mend F K Q put us u
+onto s m = record { whole = m.whole; good = m.good; fits = m.fits; read = m.read; fix = m.fix; few = m.few; parts = sym s ∙ m.parts; tokens = m.tokens }
+
+-- ---- refusals
+pub left_is : {A : Type 0} {ts : List Token} {u : Stop} → refuses {A = A} ts ≡ Err u → ts ≡ u.1
+left_is {A} {ts} {u} e = (let i : ◌≡◌ {A = Stop} (Syntax, ts) u = cc in ap (λ (s : Stop). s.1) i)
+
+abbrev stopped : {A : Type 0} → Stop → Out A
+stopped u = Err u
+
+pub deep_is : {A : Type 0} {ts : List Token} {u : Stop} → too_deep {A = A} ts ≡ Err u → ts ≡ u.1
+deep_is {A} {ts} {u} e = (let i : ◌≡◌ {A = Stop} (TooDeep, ts) u = cc in ap (λ (s : Stop). s.1) i)
+
+-- if it fits, and else refused there
+pub fits_err : {A R : Type 0} (b : Bool) (f : Reader A) (ts : List Token) (u : Stop) → if_fits b f ts ≡ Err u → (ts ≡ u.1 → R) → (f ts ≡ Err u → R) → R
+fits_err true f ts u o here inner = inner o
+fits_err {A} false f ts u o here inner = here (deep_is {A = A} o)
+
+-- the first is refused, or it is read and what follows is refused
+pub broken : {A B : Type 0} {R : Type 0} {o : Out A} {f : A → Reader B} {u : Stop} → then_read o f ≡ Err u → (o ≡ Err u → R) → ((a : A) (ts : List Token) → o ≡ Ok (a, ts) → f a ts ≡ Err u → R) → R
+broken {A} {B} {R} {o} {f} {u} e h k = at o e h k
+  where
+    at : (o : Out A) → then_read o f ≡ Err u → (o ≡ Err u → R) → ((a : A) (ts : List Token) → o ≡ Ok (a, ts) → f a ts ≡ Err u → R) → R
+    at (Ok x) e h k = k x.0 x.1 refl e
+    at (Err w) e h k = h (let i : w ≡ u = cc in ap (λ (z : Stop). stopped {A = A} z) i)
+
+took_err : {A : Type 0} (o : Option A) (ts : List Token) (u : Stop) → took o ts ≡ Err u → ts ≡ u.1
+took_err (Some a) ts u e = absurd cc
+took_err {A} None ts u e = left_is {A = A} e
+
+pub take_err : {A : Type 0} (e : ℕ) (f : Place → TokenView → Option A) (ts : List Token) (u : Stop) → take e f ts ≡ Err u → ts ≡ u.1
+take_err e f ts u i = took_err (f (next e ts).place (next e ts).kind) ts u i
+
+pub mark_err : (e : ℕ) (m : Mark) (ts : List Token) (u : Stop) → a_mark e m ts ≡ Err u → ts ≡ u.1
+mark_err e m ts u i = take_err e (place_if (is_mark m)) ts u i
+
+pub key_err : (e : ℕ) (k : Key) (ts : List Token) (u : Stop) → a_key e k ts ≡ Err u → ts ≡ u.1
+key_err e k ts u i = take_err e (place_if (is_key k)) ts u i
+
+pub sign_err : (e : ℕ) (o : Op) (ts : List Token) (u : Stop) → a_sign e o ts ≡ Err u → ts ≡ u.1
+sign_err e o ts u i = take_err e (place_if (is_sign o)) ts u i
+
+pub word_err : (e : ℕ) (ts : List Token) (u : Stop) → a_word e ts ≡ Err u → ts ≡ u.1
+word_err e ts u i = take_err e word_of ts u i
+
+pub field_err : (e : ℕ) (ts : List Token) (u : Stop) → a_field e ts ≡ Err u → ts ≡ u.1
+field_err e ts u i = take_err e field_of ts u i
+
+pub gives_err : {A : Type 0} {R : Type 0} (a : A) (ts : List Token) (u : Stop) → gives a ts ≡ Err u → R
+gives_err {A} {R} a ts u i = absurd cc
+
+pub ended_err : {A : Type 0} (e : ℕ) (m : Mark) (f : Place → A) (ts : List Token) (u : Stop) → ended e m f ts ≡ Err u → ts ≡ u.1
+ended_err e m f ts u o = broken o (λ i. mark_err e m ts u i) (λ p us i j. gives_err (f p) us u j)
+
+-- ---- the claim
+abbrev pub Fits : Context → ℕ → Phrase → Type 0
+Fits c e a = Good e a × (fits c a ≡ true)
+
+abbrev pub Prime : ℕ → Phrase → Type 0
+Prime e a = Good e a × (is_primary (head a) ≡ true)
+
+abbrev pub Brief : ℕ → Phrase → Type 0
+Brief e a = Good e a × (is_short a ≡ true)
+
+abbrev pub SomePath : ℕ → Path → Type 0
+SomePath e path = GoodPath e path × (is_some_path path ≡ true)
+
+abbrev pub Listed : ℕ → ℕ → Bullets → Type 0
+Listed e c bs = GoodBullets c bs × Right e (first_bullet bs)
+
+-- as a set for x, and as an element
+abbrev pub FewBoth : Place → Word → Place → Phrase → List Token → Type 0
+FewBoth p x q a fix = Few counts 1 a fix × ((c : Phrase) → element p x q a ≡ Some c → Few counts 1 c fix)
+
+-- what is no infix form is all to the right of `\in`
+pub plain_few : (p : Place) (x : Word) (q : Place) (a : Phrase) → is_infix a ≡ false → (fix : List Token) → Few counts 1 a fix → FewBoth p x q a fix
+plain_few p x q a n fix k = (k, λ c i m. subst (λ (d : Phrase). Cut (counts m d) m 1 fix) (plain_element p x q a c n i) (cut_front (λ u. m ∷ (m + 0 + 1) ∷ u) (put_ahead (put_ahead held)) (λ u. refl) (omega arith) fix (k (m + 0 + 1))))
+
+-- an operator, and what is after it
+pub infix_few : (p : Place) (x : Word) (q : Place) (b : Phrase) (t : Place) (o : Op) (w : Phrase) (fix : List Token) → Few counts 1 w fix → FewBoth p x q (infix_of b t o w) (fix ++ [])
+infix_few p x q b t o w fix k = (at b, λ c i. by (is_above op.In (applied o)) refl c i)
+  where
+    at : (b : Phrase) → Few counts 1 (infix_of b t o w) (fix ++ [])
+    at b n = cut_inside (λ u. counts n b ((n + chain b + 1) ∷ u)) (then_ahead (cnt.ahead_counts n b) (put_ahead held)) (λ u. u) [] (λ u. refl) (λ u. omega arith) (inl (refl, λ u. refl)) (omega arith) fix (k (n + chain b + 1))
+
+    by : (z : Bool) → is_above op.In (applied o) ≡ z → (c : Phrase) → element p x q (infix_of b t o w) ≡ Some c → Few counts 1 c (fix ++ [])
+    by true z c i m = subst (λ (d : Phrase). Cut (counts m d) m 1 (fix ++ [])) (above_element p x q b t o w c z i) (cut_front (λ u. m ∷ (m + 0 + 1) ∷ u) (put_ahead (put_ahead held)) (λ u. refl) (omega arith) (fix ++ []) (at b (m + 0 + 1)))
+    by false z c i m = (let e = left_element p x q b t o w c z i in subst (λ (d : Phrase). Cut (counts m d) m 1 (fix ++ [])) e.3 (at e.0 m))
+
+pub record Mends (lim : Bool) (most base : ℕ) (r : Readers) : Type 0 where
+  pub expr : (e : ℕ) (c : Context) → is_behind_in c ≡ false → (ts : List Token) (u : Stop) → r.expr e c ts ≡ Err u → Mend (Small lim most (counts base)) (Few counts 1) (Fits c e) spell ts u.1
+  pub set : (e : ℕ) (p : Place) (x : Word) (q : Place) (ts : List Token) (u : Stop) → r.expr e (behind p x q) ts ≡ Err u → Mend (Alive lim most base p x q) (FewBoth p x q) (Good e) spell ts u.1
+  pub short : (e : ℕ) (ts : List Token) (u : Stop) → r.short e ts ≡ Err u → Mend (Small lim most (counts base)) (Few counts 1) (Brief e) spell ts u.1
+  pub postfix : (e : ℕ) (b : Phrase) → Good e b → is_primary (head b) ≡ true → Small lim most (counts base) b → (ts : List Token) (u : Stop) → r.postfix e b ts ≡ Err u → Mend (Small lim most (counts base)) (Few counts 1) (Prime e) spell (spell b ts) u.1
+  pub climb : (e : ℕ) (c : Context) → is_behind_in c ≡ false → (b : Phrase) → Good e b → fits c b ≡ true → Small lim most (counts base) b → (ts : List Token) (u : Stop) → r.climb e c b ts ≡ Err u → Mend (Small lim most (counts base)) (Few counts 1) (Fits c e) spell (spell b ts) u.1
+  pub climb_set : (e : ℕ) (p : Place) (x : Word) (q : Place) (b : Phrase) → Good e b → Alive lim most base p x q b → (ts : List Token) (u : Stop) → r.climb e (behind p x q) b ts ≡ Err u → Mend (Alive lim most base p x q) (FewBoth p x q) (Good e) spell (spell b ts) u.1
+  pub phrases : (e : ℕ) (ts : List Token) (u : Stop) → r.phrases e ts ≡ Err u → Mend (Small lim most (counts_all base)) (Few counts_all 1) (GoodAll e) spell_all ts u.1
+  pub binds : (e : ℕ) (p : Place) (x : Word) → Right e p → (ts : List Token) (u : Stop) → r.binds e p x ts ≡ Err u → Mend (Small lim most (counts_binds base)) (Few counts_binds 3) (GoodBinds e) spell_binds (word p x ts) u.1
+  pub fields : (e : ℕ) (m : Mark) (f : Field) → Right e f.place → (ts : List Token) (u : Stop) → r.fields e m f ts ≡ Err u → Mend (Small lim most (counts_fields base)) (Few counts_fields 3) (GoodFields e) (spell_fields m) (field_token f ts) u.1
+  pub settings : (e : ℕ) (ts : List Token) (u : Stop) → r.settings e ts ≡ Err u → Mend (Small lim most (counts_settings base)) (Few counts_settings 5) (GoodSettings e) spell_settings ts u.1
+  pub path : (e : ℕ) (ts : List Token) (u : Stop) → r.path e ts ≡ Err u → Mend (Small lim most (counts_path base)) (Few counts_path 2) (SomePath e) spell_path ts u.1
+  -- at the first bullet, or after it
+  pub bullets : (e : ℕ) (o : Op) (c : ℕ) → is_bullet o ≡ true → nat_lt e c ≡ true → (ts : List Token) (p : Place) → bullet_of o c (next e ts).place (next e ts).kind ≡ Some p → (u : Stop) → r.bullets e o c ts ≡ Err u → (ts ≡ u.1) ⊎ Mend (Small lim most (counts_bullets base)) (Few counts_bullets 1) (Listed e c) (spell_bullets o) ts u.1
+  pub arms : (e : ℕ) (ts : List Token) (u : Stop) → r.arms e ts ≡ Err u → Mend (Small lim most (counts_arms base)) (Few counts_arms 3) (GoodArms e) spell_arms ts u.1
+  pub locals : (e : ℕ) (ts : List Token) (u : Stop) → r.locals e ts ≡ Err u → Mend (Small lim most (counts_locals base)) (Few counts_locals 3) (GoodLocals e) spell_locals ts u.1
+
+-- ---- in a room
+abbrev pub ReadersMend : Bool → ℕ → ℕ → Option Readers → Type 0
+ReadersMend lim most base (Some d) = Mends lim most base d
+ReadersMend lim most base None = Unit {0}
+
+pub record MendsRoom (lim : Bool) (most base : ℕ) (m : Room) : Type 0 where
+  pub at : (j c : ℕ) → c ≡ base + j → ReadersMend lim most c (m.at j)
+
+-- refused at the token of a form, or inside it
+pub opened_err : {A R : Type 0} (lim : Bool) (most base : ℕ) (m : Room) (q : Readers) → IsRoom lim most base m q → MendsRoom lim most base m → (j c : ℕ) → c ≡ base + suc j → (f : Room → Readers → Reader A) (ts : List Token) (u : Stop) → opened m j f ts ≡ Err u
+    → (ts ≡ u.1 → R) → ((i : Room) (d : Readers) → AreLimited lim most c d q → IsRoom lim most c i q → Mends lim most c d → MendsRoom lim most c i → f i d ts ≡ Err u → R) → R
+opened_err {A} {R} lim most base m q v w j c e f ts u o here inner = by (m.at (suc j)) (v.at (suc j) c e) (w.at (suc j) c e) o
+  where
+    by : (z : Option Readers) → ReadersFit lim most c q z → ReadersMend lim most c z → read_by z (f (within j m)) ts ≡ Err u → R
+    by (Some d) g k o = inner (within j m) d g (inner_room lim most base m q v j c e) k (record { at = λ i d' e'. w.at (suc j + i) d' (omega (arith, e, e')) }) o
+    by None g k o = here (deep_is {A = A} o)

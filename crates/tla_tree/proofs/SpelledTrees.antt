@@ -1,0 +1,217 @@
+-- What is written of a tree that may be written are the texts of tokens.
+use Rattle.std.proofs.Common.{◌≡◌, ℕ, zero, suc, Bool, true, false, ◌<◌, List, [], ◌∷◌, ◌++◌, length, map, refl, sym, ap, subst, arith}
+use Rattle.std.specs.List.{flat_map}
+use Rattle.tla_tree.specs.declared.op.Op.{Op}
+use Rattle.tla_tree.specs.declared.op.Op.TheVariants as op
+use Rattle.tla_tree.specs.declared.op.Binder.{Binder}
+use Rattle.tla_tree.specs.declared.op.Binder.TheVariants as binder
+use Rattle.tla_tree.specs.Rank.{is_prefix}
+use Rattle.tla_tree.specs.Tree.{Word, Name, words, Each, PathStep, Slot, Strict, Form, Tree, Trees, node, no_trees, tree}
+use Rattle.tla_tree.specs.Tree as tree
+use Rattle.tla_tree.specs.Shapes.{Shaped, operands}
+use Rattle.tla_tree.specs.Lexical.{Mark, Key, TokenView, sign_of}
+use Rattle.tla_tree.specs.Lexical as tk
+use Rattle.tla_tree.specs.Written.{Piece, blank, token, Part, mark, spaced, infix_sign, prefix_sign, infix_pieces, listed, field_pieces, name_pieces, bind_pieces, definition_pieces, body, colon, binding_pieces, path_pieces, right_side, slot_pieces, except_pieces, strict_pieces, arm_pieces, choice_pieces, local_pieces, form_pieces, is_bracketed, bracketed, form_part, part, parts, pieces}
+use Rattle.tla_tree.specs.laws.Writable.{IsIdentifier, IsField, IsString, fields_in_path, names_in, fields_in, strings_in, count, IsWritable, AreWritable, IsSpelled, AreSpelled}
+use Rattle.tla_tree.proofs.SpelledTokens.{mark_spelled, key_spelled, constant_spelled, sign_spelled, word_spelled, field_spelled, string_spelled, number_spelled}
+
+-- a part is written well before what is written well
+abbrev Writes : Part → Type 0
+Writes a = (b : Bool) (ps : List Piece) → AreSpelled ps → AreSpelled (a b ps)
+
+abbrev Write : List Part → Type 0
+Write [] = Unit {0}
+Write (a ∷ xs) = Writes a × Write xs
+
+-- ---- lists of words
+pub each_left : (P : Word → Type 0) (xs ys : List Word) → Each P (xs ++ ys) → Each P xs
+each_left P [] ys h = tt
+each_left P (x ∷ xs) ys h = (h.0, each_left P xs ys h.1)
+
+pub each_right : (P : Word → Type 0) (xs ys : List Word) → Each P (xs ++ ys) → Each P ys
+each_right P [] ys h = h
+each_right P (x ∷ xs) ys h = each_right P xs ys h.1
+
+-- ---- operators
+between : (o : Op) → is_prefix o ≡ false → IsSpelled (tk.sign o)
+between op.Negate h = absurd cc
+between o h = sign_spelled o
+
+infix_written : (o : Op) → is_prefix o ≡ false → (ps : List Piece) → AreSpelled ps → AreSpelled (infix_sign o ps)
+infix_written op.Range h ps s = (sign_spelled op.Range, s)
+infix_written o h ps s = (between o h, s)
+
+prefix_written : (o : Op) → (ps : List Piece) → AreSpelled ps → AreSpelled (prefix_sign o ps)
+prefix_written op.Negate ps s = (sign_spelled op.Negate, s)
+prefix_written o ps s = (sign_spelled o, s)
+
+infix_ok : (o : Op) (xs : List Part) → length xs ≡ operands (is_prefix o) → Write xs → (ps : List Piece) → AreSpelled ps → AreSpelled (infix_pieces o xs ps)
+infix_ok o [] n w ps s = s
+infix_ok o (a ∷ []) n w ps s = prefix_written o (a true ps) (w.0 true ps s)
+infix_ok o (a ∷ b ∷ c ∷ xs) n w ps s = s
+infix_ok o (a ∷ b ∷ []) n w ps s = infix_of (w.0 true (infix_sign o (b true ps)) (infix_written o (two (is_prefix o) n) (b true ps) (w.1.0 true ps s)))
+  where
+    infix_of : AreSpelled (a true (infix_sign o (b true ps))) → AreSpelled (infix_pieces o (a ∷ b ∷ []) ps)
+    infix_of h = h
+
+    two : (p : Bool) → ◌≡◌ {A = ℕ} 2 (operands p) → p ≡ false
+    two true h = absurd (omega (arith, h))
+    two false h = refl
+
+-- ---- lists
+listed_ok : (xs : List Part) → Write xs → (ps : List Piece) → AreSpelled ps → AreSpelled (listed xs ps)
+listed_ok [] w ps s = s
+listed_ok (a ∷ []) w ps s = w.0 false ps s
+listed_ok (a ∷ b ∷ xs) w ps s = w.0 false _ (mark_spelled tk.comma, listed_ok (b ∷ xs) w.1 ps s)
+
+abbrev Signs : (List Piece → List Piece) → Type 0
+Signs f = (ps : List Piece) → AreSpelled ps → AreSpelled (f ps)
+
+fields_ok : (f : List Piece → List Piece) → Signs f → (ys : List Word) → Each IsField ys → (xs : List Part) → Write xs → (ps : List Piece) → AreSpelled ps → AreSpelled (field_pieces f ys xs ps)
+fields_ok f g (y ∷ []) h (a ∷ []) w ps s = (field_spelled y h.0, g (a false ps) (w.0 false ps s))
+fields_ok f g (y ∷ z ∷ ys) h (a ∷ xs) w ps s = (field_spelled y h.0, g _ (w.0 false _ (mark_spelled tk.comma, fields_ok f g (z ∷ ys) h.1 xs w.1 ps s)))
+fields_ok f g [] h xs w ps s = s
+fields_ok f g (y ∷ []) h [] w ps s = s
+fields_ok f g (y ∷ []) h (a ∷ b ∷ xs) w ps s = s
+fields_ok f g (y ∷ z ∷ ys) h [] w ps s = s
+
+names_ok : (g : List Name) → Each IsIdentifier (words g) → (ps : List Piece) → AreSpelled ps → AreSpelled (name_pieces g ps)
+names_ok [] h ps s = s
+names_ok (x ∷ []) h ps s = (word_spelled x.word h.0, s)
+names_ok (x ∷ y ∷ g) h ps s = (word_spelled x.word h.0, (mark_spelled tk.comma, names_ok (y ∷ g) h.1 ps s))
+
+binds_ok : (gs : List (List Name)) → Each IsIdentifier (flat_map words gs) → (xs : List Part) → Write xs → (ps : List Piece) → AreSpelled ps → AreSpelled (bind_pieces gs xs ps)
+binds_ok (g ∷ []) h (a ∷ xs) w ps s = names_ok g (each_left IsIdentifier (words g) [] h) _ (sign_spelled op.In, w.0 true ps s)
+binds_ok (g ∷ k ∷ gs) h (a ∷ xs) w ps s = names_ok g (each_left IsIdentifier (words g) (flat_map words (k ∷ gs)) h) _ (sign_spelled op.In, w.0 true _ (mark_spelled tk.comma, binds_ok (k ∷ gs) (each_right IsIdentifier (words g) (flat_map words (k ∷ gs)) h) xs w.1 ps s))
+binds_ok [] h xs w ps s = s
+binds_ok (g ∷ []) h [] w ps s = s
+binds_ok (g ∷ k ∷ gs) h [] w ps s = s
+
+definitions_ok : (ys : List Name) → Each IsIdentifier (words ys) → (xs : List Part) → Write xs → (ps : List Piece) → AreSpelled ps → AreSpelled (definition_pieces ys xs ps)
+definitions_ok (x ∷ []) h (a ∷ xs) w ps s = (word_spelled x.word h.0, (mark_spelled tk.defines, w.0 false ps s))
+definitions_ok (x ∷ y ∷ ys) h (a ∷ xs) w ps s = (word_spelled x.word h.0, (mark_spelled tk.defines, w.0 false _ (definitions_ok (y ∷ ys) h.1 xs w.1 ps s)))
+definitions_ok [] h xs w ps s = s
+definitions_ok (x ∷ []) h [] w ps s = s
+definitions_ok (x ∷ y ∷ ys) h [] w ps s = s
+
+body_ok : {A : Type 0} (ys : List A) (xs : List Part) → Write xs → Writes (body ys xs)
+body_ok [] (a ∷ xs) w = w.0
+body_ok (y ∷ ys) (a ∷ xs) w = body_ok ys xs w.1
+body_ok [] [] w = λ b ps s. s
+body_ok (y ∷ ys) [] w = λ b ps s. s
+
+colon_ok : Signs colon
+colon_ok ps s = (mark_spelled tk.colon, s)
+
+binding_ok : (b : Binder) (gs : List (List Name)) → Each IsIdentifier (flat_map words gs) → (xs : List Part) → Write xs → (ps : List Piece) → AreSpelled ps → AreSpelled (binding_pieces b gs xs ps)
+binding_ok binder.ForAll gs h xs w ps s = (key_spelled tk.for_all_key, binds_ok gs h xs w _ ((mark_spelled tk.colon, body_ok gs xs w false ps s)))
+binding_ok binder.Exists gs h xs w ps s = (key_spelled tk.exists_key, binds_ok gs h xs w _ ((mark_spelled tk.colon, body_ok gs xs w false ps s)))
+binding_ok binder.Filter gs h xs w ps s = (mark_spelled tk.open_brace, binds_ok gs h xs w _ ((mark_spelled tk.colon, body_ok gs xs w false _ (mark_spelled tk.close_brace, s))))
+binding_ok binder.Image gs h xs w ps s = (mark_spelled tk.open_brace, body_ok gs xs w true _ ((mark_spelled tk.colon, binds_ok gs h xs w _ (mark_spelled tk.close_brace, s))))
+binding_ok binder.Function gs h xs w ps s = (mark_spelled tk.open_square, binds_ok gs h xs w _ (mark_spelled tk.maps, body_ok gs xs w false _ (mark_spelled tk.close_square, s)))
+
+-- ---- EXCEPT
+abbrev Goes : (List Part → List Piece) → Type 0
+Goes rest = (ys : List Part) → Write ys → AreSpelled (rest ys)
+
+path_ok : (ss : List PathStep) → Each IsField (fields_in_path ss) → (xs : List Part) → Write xs → (rest : List Part → List Piece) → Goes rest → AreSpelled (path_pieces ss xs rest)
+path_ok [] h xs w rest g = g xs w
+path_ok (tree.index ∷ ss) h (a ∷ xs) w rest g = (mark_spelled tk.open_square, w.0 false _ (mark_spelled tk.close_square, path_ok ss h xs w.1 rest g))
+path_ok (tree.index ∷ ss) h [] w rest g = path_ok ss h [] w rest g
+path_ok (tree.field x ∷ ss) h xs w rest g = (mark_spelled tk.dot, (field_spelled x h.0, path_ok ss h.1 xs w rest g))
+
+right_ok : (xs : List Part) → Write xs → (rest : List Part → List Piece) → Goes rest → AreSpelled (right_side xs rest)
+right_ok [] w rest g = g [] tt
+right_ok (a ∷ xs) w rest g = (sign_spelled op.Equal, w.0 false _ (g xs w.1))
+
+abbrev fields_in_slots : List Slot → List Word
+fields_in_slots ss = flat_map (λ (s : Slot). fields_in_path s.path) ss
+
+slots_ok : (ss : List Slot) → Each IsField (fields_in_slots ss) → (xs : List Part) → Write xs → (ps : List Piece) → AreSpelled ps → AreSpelled (slot_pieces ss xs ps)
+slots_ok [] h xs w ps s = s
+slots_ok (t ∷ []) h xs w ps s = (mark_spelled tk.bang, path_ok t.path (each_left IsField (fields_in_path t.path) [] h) xs w _ (λ ys v. right_ok ys v _ (λ zs u. s)))
+slots_ok (t ∷ r ∷ ss) h xs w ps s = (mark_spelled tk.bang, path_ok t.path (each_left IsField (fields_in_path t.path) (fields_in_slots (r ∷ ss)) h) xs w _ (λ ys v. right_ok ys v _ (λ zs u. (mark_spelled tk.comma, slots_ok (r ∷ ss) (each_right IsField (fields_in_path t.path) (fields_in_slots (r ∷ ss)) h) zs u ps s))))
+
+except_ok : (ss : List Slot) → Each IsField (fields_in_slots ss) → (xs : List Part) → Write xs → (ps : List Piece) → AreSpelled ps → AreSpelled (except_pieces ss xs ps)
+except_ok ss h [] w ps s = s
+except_ok ss h (a ∷ xs) w ps s = (mark_spelled tk.open_square, w.0 true _ (key_spelled tk.except_key, slots_ok ss h xs w.1 _ (mark_spelled tk.close_square, s)))
+
+-- ---- all forms
+strict_ok : (m : Strict) (xs : List Part) → Shaped (tree.strict m) (length xs) → Each IsField (fields_in (tree.strict m)) → Write xs → (ps : List Piece) → AreSpelled ps → AreSpelled (strict_pieces m xs ps)
+strict_ok (tree.operator o) xs h f w ps s = infix_ok o xs h.1 w ps s
+strict_ok tree.set_of xs h f w ps s = (mark_spelled tk.open_brace, listed_ok xs w _ (mark_spelled tk.close_brace, s))
+strict_ok tree.tuple xs h f w ps s = (mark_spelled tk.open_tuple, listed_ok xs w _ (mark_spelled tk.close_tuple, s))
+strict_ok (tree.fields ys) xs h f w ps s = (mark_spelled tk.open_square, fields_ok (spaced (tk.mark tk.maps)) (λ qs t. (mark_spelled tk.maps, t)) ys f xs w _ (mark_spelled tk.close_square, s))
+strict_ok (tree.records ys) xs h f w ps s = (mark_spelled tk.open_square, fields_ok colon colon_ok ys f xs w _ (mark_spelled tk.close_square, s))
+strict_ok tree.functions (a ∷ b ∷ xs) h f w ps s = (mark_spelled tk.open_square, w.0 false _ (mark_spelled tk.arrow, w.1.0 false _ (mark_spelled tk.close_square, s)))
+strict_ok tree.functions [] h f w ps s = s
+strict_ok tree.functions (a ∷ []) h f w ps s = s
+strict_ok tree.apply (a ∷ b ∷ xs) h f w ps s = w.0 true _ (mark_spelled tk.open_square, w.1.0 false _ (mark_spelled tk.close_square, s))
+strict_ok tree.apply [] h f w ps s = s
+strict_ok tree.apply (a ∷ []) h f w ps s = s
+strict_ok (tree.select x) (a ∷ xs) h f w ps s = w.0 true _ (mark_spelled tk.dot, (field_spelled x f.0, s))
+strict_ok (tree.select x) [] h f w ps s = s
+strict_ok (tree.except ss) xs h f w ps s = except_ok ss f xs w ps s
+
+arms_ok : (b : Bool) (xs : List Part) → Write xs → (ps : List Piece) → AreSpelled ps → AreSpelled (arm_pieces b xs ps)
+arms_ok true [] w ps s = s
+arms_ok false [] w ps s = s
+arms_ok true (a ∷ []) w ps s = (key_spelled tk.other_key, (mark_spelled tk.arrow, w.0 true ps s))
+arms_ok false (a ∷ []) w ps s = s
+arms_ok true (c ∷ a ∷ []) w ps s = w.0 true _ (mark_spelled tk.arrow, w.1.0 true ps s)
+arms_ok false (c ∷ a ∷ []) w ps s = w.0 true _ (mark_spelled tk.arrow, w.1.0 true ps s)
+arms_ok true (c ∷ a ∷ b ∷ xs) w ps s = w.0 true _ (mark_spelled tk.arrow, w.1.0 true _ (mark_spelled tk.box, arms_ok true (b ∷ xs) w.1.1 ps s))
+arms_ok false (c ∷ a ∷ b ∷ xs) w ps s = w.0 true _ (mark_spelled tk.arrow, w.1.0 true _ (mark_spelled tk.box, arms_ok false (b ∷ xs) w.1.1 ps s))
+
+choice_ok : (xs : List Part) → Write xs → (ps : List Piece) → AreSpelled ps → AreSpelled (choice_pieces xs ps)
+choice_ok (a ∷ b ∷ c ∷ []) w ps s = (key_spelled tk.if_key, w.0 false _ (key_spelled tk.then_key, w.1.0 false _ (key_spelled tk.else_key, w.1.1.0 false ps s)))
+choice_ok [] w ps s = s
+choice_ok (a ∷ []) w ps s = s
+choice_ok (a ∷ b ∷ []) w ps s = s
+choice_ok (a ∷ b ∷ c ∷ d ∷ xs) w ps s = s
+
+form_ok : (m : Form) (xs : List Part) → Shaped m (length xs) → Each IsIdentifier (names_in m) → Each IsField (fields_in m) → Each IsString (strings_in m) → Write xs → (ps : List Piece) → AreSpelled ps → AreSpelled (form_pieces m xs ps)
+form_ok (tree.number n) xs h i f t w ps s = (number_spelled n h.0, s)
+form_ok (tree.string x) xs h i f t w ps s = (string_spelled x t.0, s)
+form_ok (tree.truth b) xs h i f t w ps s = (constant_spelled (tk.truth b), s)
+form_ok tree.booleans xs h i f t w ps s = (constant_spelled tk.booleans, s)
+form_ok tree.strings xs h i f t w ps s = (constant_spelled tk.strings, s)
+form_ok (tree.name x) xs h i f t w ps s = (word_spelled x i.0, s)
+form_ok (tree.next x) xs h i f t w ps s = (word_spelled x i.0, (mark_spelled tk.prime, s))
+form_ok (tree.strict m) xs h i f t w ps s = strict_ok m xs h f w ps s
+form_ok (tree.operator_call x) xs h i f t w ps s = (word_spelled x i.0, (mark_spelled tk.open_bracket, listed_ok xs w _ (mark_spelled tk.close_bracket, s)))
+form_ok tree.conjunction xs h i f t w ps s = infix_ok op.And xs h w ps s
+form_ok tree.disjunction xs h i f t w ps s = infix_ok op.Or xs h w ps s
+form_ok tree.implication xs h i f t w ps s = infix_ok op.Implies xs h w ps s
+form_ok (tree.member true) xs h i f t w ps s = infix_ok op.In xs h w ps s
+form_ok (tree.member false) xs h i f t w ps s = infix_ok op.NotIn xs h w ps s
+form_ok tree.if_then_else xs h i f t w ps s = choice_ok xs w ps s
+form_ok (tree.cases b) xs h i f t w ps s = (key_spelled tk.case_key, arms_ok b xs w ps s)
+form_ok (tree.binding b gs) xs h i f t w ps s = binding_ok b gs i xs w ps s
+form_ok (tree.local ys) xs h i f t w ps s = (key_spelled tk.let_key, definitions_ok ys i xs w _ (key_spelled tk.in_key, body_ok ys xs w false ps s))
+
+part_ok : (m : Form) (xs : List Part) → ((ps : List Piece) → AreSpelled ps → AreSpelled (form_pieces m xs ps)) → Writes (form_part m xs)
+part_ok m xs h false ps s = h ps s
+part_ok m xs h true ps s = by (is_bracketed m)
+  where
+    by : (b : Bool) → AreSpelled (bracketed b (form_pieces m xs) ps)
+    by true = (mark_spelled tk.open_bracket, h _ (mark_spelled tk.close_bracket, s))
+    by false = h ps s
+
+pub counted : (ts : Trees) → count ts ≡ length (parts ts)
+counted no_trees = refl
+counted (tree t ts) = omega (arith, counted ts)
+
+mutual
+  tree_ok : (t : Tree) → IsWritable t → Writes (part t)
+  tree_ok (node m at ts) (h, i, f, t, w) = part_ok m (parts ts) (form_ok m (parts ts) (subst (λ (n : ℕ). Shaped m n) (counted ts) h) i f t (trees_ok ts w))
+
+  trees_ok : (ts : Trees) → AreWritable ts → Write (parts ts)
+  trees_ok no_trees w = tt
+  trees_ok (tree t ts) w = (tree_ok t w.0, trees_ok ts w.1)
+
+pub written_is_spelled : (t : Tree) → IsWritable t → AreSpelled (pieces t)
+written_is_spelled t w = tree_ok t w false [] tt
+
+pub part_is_spelled : (t : Tree) → IsWritable t → (o : Bool) → AreSpelled (part t o [])
+part_is_spelled t w o = tree_ok t w o [] tt

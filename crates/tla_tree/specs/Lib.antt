@@ -1,0 +1,17 @@
+pub mod Tree
+pub mod Shapes
+pub mod TreeOf
+pub mod Code
+pub mod Same
+pub mod Pool
+pub mod PoolEquality
+pub mod Rank
+pub mod Lexical
+pub mod TokenViews
+pub mod Spelling
+pub mod Written
+pub mod Nesting
+pub mod FirstStop
+pub mod Reader
+pub mod Whole
+pub mod laws
