@@ -1,5 +1,5 @@
 -- Pieces that fit before a text fit before less of it.
-use Rattle.std.proofs.Common.{◌≡◌, ℕ, Bool, true, false, ◌||◌, List, [], ◌∷◌, ◌++◌, length, drop, refl, sym, ap, subst, ◌∙◌, codes, append_assoc}
+use Rattle.std.proofs.Common.{◌≡◌, ℕ, Bool, false, ◌||◌, List, [], ◌∷◌, ◌++◌, length, drop, refl, sym, ap, subst, ◌∙◌, codes, append_assoc}
 use Rattle.std.proofs.lemmas.Bool.{or_parts, both_ways, false_from_ne_true}
 use Rattle.tla_token.specs.Lexemes.{IsLongest}
 use Rattle.tla_token.specs.Tokens.{Piece, blank, block, line, lexeme, text_of, bytes_of, Fits, EndsLine, AllFit, opens_comment}

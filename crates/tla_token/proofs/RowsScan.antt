@@ -1,6 +1,6 @@
 -- Worked examples of readings and of what code finds in front of a text, by computation.
 use Rattle.std.specs.Prelude.{◌≡◌, ℕ, ◌^◌, List, Some, None, codes}
-use Rattle.std.proofs.Common.{refl}
+use Rattle.std.proofs.Common.{refl, arith}
 use Rattle.tla_token.specs.declared.fault.Reading.TheVariants as reading
 use Rattle.tla_token.specs.declared.part.Class.TheVariants as class
 use Rattle.tla_token.specs.declared.rule.Rule.TheVariants as rule
@@ -8,7 +8,9 @@ use Rattle.tla_token.specs.Lexemes.{string}
 use Rattle.tla_token.specs.Tokens.{lexeme}
 use Rattle.tla_token.specs.Offences.{sound}
 use Rattle.tla_token.specs.Scan.{in_128_bits, part_of, front}
+use Rattle.tla_token.specs.declared.token.Kind.TheVariants as kind
 use Rattle.tla_token.specs.Readings.{first_offence, opening_of}
+use Rattle.tla_token.specs.TokensSeen.{IsCanonical}
 
 an_algorithm : opening_of (codes "--algorithm A") ≡ Some (codes "--algorithm")
 an_algorithm = refl
@@ -46,3 +48,17 @@ a_name_in_front = refl
 
 a_part_again : part_of class.Text (codes "\"a\\n\"") ≡ sound (lexeme (string (codes "a\n")) (codes "\"a\\n\""))
 a_part_again = refl
+
+-- ---- one form for each token
+
+small_by_its_digits : IsCanonical (codes "1") (kind.BigNumber (record { from = 0; to = 1 })) → ⊥
+small_by_its_digits h = omega arith
+
+by_its_digits : IsCanonical (codes "x 340282366920938463463374607431768211456") (kind.BigNumber (record { from = 2; to = 41 }))
+by_its_digits = omega arith
+
+no_string_between : IsCanonical (codes "\"a\\q\"") (kind.Text (record { from = 1; to = 4 })) → ⊥
+no_string_between h = absurd cc
+
+a_string_between : IsCanonical (codes "\"a\\n\"") (kind.Text (record { from = 1; to = 4 }))
+a_string_between = refl

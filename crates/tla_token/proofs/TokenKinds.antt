@@ -1,9 +1,16 @@
 -- The kind of token that a part is, in memory.
 use Rattle.std.proofs.Common.{◌≡◌, ℕ, zero, suc, ◌+◌, ◌-◌, ◌^◌, ◌<◌, ◌≤◌, Bool, true, false, nat_lt, List, [], ◌∷◌, length, get_or, take, drop, Some, None, refl, sym, ap, ◌∙◌, arith, length-drop}
 use Rattle.std.proofs.lemmas.List.{length-take-le}
-use Rattle.std.proofs.lemmas.Bool.{ltb-false}
+use Rattle.std.proofs.lemmas.Bool.{ltb-false, le-leb}
+use Rattle.tla_token.specs.declared.rule.Rule.TheVariants.{NumberTooBig}
+use Rattle.tla_token.specs.declared.token.Kind.TheVariants as code
+use Rattle.tla_token.specs.declared.token.Span.{Span}
+use Rattle.tla_token.specs.Limits.{past_numbers}
+use Rattle.tla_token.specs.Lexemes.{number_of}
 use Rattle.tla_token.specs.Tokens.{stretch}
 use Rattle.tla_token.specs.Scan.{in_128_bits, inner}
+use Rattle.tla_token.specs.Offences.{Offence, kind_offences}
+use Rattle.tla_token.specs.TokensSeen.{span_bytes, kind_seen, IsCanonical}
 use Rattle.tla_token.proofs.Steps.{byte_there}
 
 pub span_whole : (bytes : List ℕ) (at n : ℕ) → stretch bytes at (at + n) ≡ take n (drop at bytes)
@@ -45,3 +52,9 @@ past_by n false e h = ltb-false n (2 ^ 128) e
 
 pub number_past : (n : ℕ) → None ≡ in_128_bits n → 2 ^ 128 ≤ n
 number_past n h = past_by n (nat_lt n (2 ^ 128)) refl (sym h)
+
+-- a number that is kept by its digits is too big for an algorithm
+pub too_big_by_digits : (bytes : List ℕ) (at : ℕ) (s : Span) → IsCanonical bytes (code.BigNumber s) → ◌≡◌ {A = List Offence} (kind_offences true at (kind_seen bytes (code.BigNumber s))) ((NumberTooBig, at) ∷ [])
+too_big_by_digits bytes at s big =
+    let k = le-leb past_numbers (number_of (span_bytes bytes s)) (omega arith) in
+    rw k refl

@@ -1,5 +1,5 @@
 -- Tokens in memory, seen as the tokens of a text.
-use Rattle.std.specs.Prelude.{ℕ, List, [], map, Option, Some, None, unwrap_or}
+use Rattle.std.specs.Prelude.{◌≡◌, ℕ, ◌^◌, ◌<◌, ◌≤◌, true, List, [], map, All, Option, Some, None, is_some, unwrap_or}
 use Rattle.tla_token.specs.declared.token.Kind.{Kind}
 use Rattle.tla_token.specs.declared.token.Kind.TheVariants as code
 use Rattle.tla_token.specs.declared.token.Span.{Span}
@@ -27,6 +27,20 @@ token_seen bytes t = record { kind = kind_seen bytes t.kind; at = t.at; place = 
 
 abbrev pub tokens_seen : Tokens → List Token
 tokens_seen v = map (token_seen v.bytes.items) v.items.items
+
+-- ---- one form for each token
+
+-- a number is kept by its digits only where it doesn't fit in 128 bits, and what is between a string's quotes stands for a string
+abbrev pub IsCanonical : List ℕ → Kind → Type 0
+IsCanonical bytes (code.Number n) = n < 2 ^ 128
+IsCanonical bytes (code.BigNumber s) = 2 ^ 128 ≤ number_of (span_bytes bytes s)
+IsCanonical bytes (code.Text s) = is_some (unquoted (span_bytes bytes s)) ≡ true
+IsCanonical bytes k = Unit {0}
+
+abbrev pub AllCanonical : List ℕ → List code_token.Token → Type 0
+AllCanonical bytes items = All (λ t. IsCanonical bytes t.kind) items
+
+-- ---- parts
 
 -- the kind of token that a part is
 abbrev pub part_kind : Part → Option lexemes.Kind

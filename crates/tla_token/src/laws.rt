@@ -1,13 +1,17 @@
 //! Laws of tokens, stated as what functions without a body ensure.
 
-ghost use Rattle.std.specs.Prelude.{◌≡◌, ℕ, Bool, List, map, Some, ◌⊎◌, false};
+ghost use Rattle.std.specs.Prelude.{◌≡◌, ℕ, Bool, List, [], ◌∷◌, map, Some, ◌⊎◌, false, true};
 ghost use Rattle.std.specs.List.{flat_map};
 ghost use Rattle.tla_token.specs.declared.rule.Refusal as code;
+ghost use Rattle.tla_token.specs.declared.rule.Rule.TheVariants.{NumberTooBig};
+ghost use Rattle.tla_token.specs.declared.token.Kind.TheVariants.{BigNumber};
+ghost use Rattle.tla_token.specs.declared.token.Span as span;
 ghost use Rattle.tla_token.specs.Places.{place_at};
 ghost use Rattle.tla_token.specs.Tokens as pure;
 ghost use Rattle.tla_token.specs.Tokens.{Tok, TokAlgorithm, stretch, tokens_of};
 ghost use Rattle.tla_token.specs.Offences.{Part, sound, parts_text, PartsFit, Offends, kind_offences, offences, least};
 ghost use Rattle.tla_token.specs.Cut.{parts};
+ghost use Rattle.tla_token.specs.TokensSeen.{kind_seen, IsCanonical};
 
 /// A stretch of a text has at most one list of tokens, and so has the stretch of an algorithm.
 pub fn tokens_are_unique()
@@ -45,4 +49,9 @@ pub fn refusals_are_cut()
 pub fn tokens_or_refusal()
     ensures either { (in_algorithm : Bool) (text : List ℕ) (from to : ℕ) → ((ts : List pure.Token) × Tok text from to ts) ⊎ ((r : code.Refusal) × Offends in_algorithm text from to r) }
     ensures not_both { (text : List ℕ) (from to : ℕ) (ts : List pure.Token) (r : code.Refusal) → Tok text from to ts → Offends false text from to r → ⊥ }
+{}
+
+/// A number that is kept by its digits is too big for an algorithm: so among tokens whose numbers are within the limit there is none.
+pub fn digits_are_too_big()
+    ensures { (bytes : List ℕ) (at : ℕ) (s : span.Span) → IsCanonical bytes (BigNumber s) → kind_offences true at (kind_seen bytes (BigNumber s)) ≡ (NumberTooBig, at) ∷ [] }
 {}

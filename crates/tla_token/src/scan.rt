@@ -1,6 +1,6 @@
 //! Scanning: the tokens of a stretch of a text, or the offence that counts in it.
 
-ghost use Rattle.std.specs.Prelude.{◌≡◌, ℕ, List, ◌+◌, ◌-◌, ◌^◌, ◌<◌, ◌≤◌, ◌++◌, [], None, Some, length, take, drop, map, option_map, is_some, true, IfOk, Err};
+ghost use Rattle.std.specs.Prelude.{◌≡◌, ℕ, List, ◌+◌, ◌-◌, ◌^◌, ◌<◌, ◌≤◌, ◌++◌, [], None, Some, length, take, drop, map, option_map, is_some, true, IfOk, IfSome, Err};
 ghost use Rattle.tla_token.specs.declared.rule.Refusal as code;
 ghost use Rattle.tla_token.specs.Places.{place_at};
 ghost use Rattle.tla_token.specs.Tokens.{stretch, Tok};
@@ -8,7 +8,7 @@ ghost use Rattle.tla_token.specs.Cut.{parts};
 ghost use Rattle.tla_token.specs.Scan.{is_quoted, inner, front};
 ghost use Rattle.tla_token.specs.Lexemes.{unquoted};
 ghost use Rattle.tla_token.specs.Readings.{first_offence, IsRefused, names_algorithm, opening_of, AreTokens, given_offence, IsGivenRefused};
-ghost use Rattle.tla_token.specs.TokensSeen.{kind_seen, token_seen, tokens_seen};
+ghost use Rattle.tla_token.specs.TokensSeen.{kind_seen, token_seen, tokens_seen, IsCanonical, AllCanonical};
 ghost use Rattle.tla_token.specs.Scanning.{token_at, lexemes_of, Stands, GoesOn};
 
 use crate::bytes::blank_len;
@@ -41,6 +41,7 @@ pub fn tokens(alloc: Global, text: &[u8], from: usize, to: usize) -> Result<Toke
     requires ends { to ≤ length text.now }
     requires small { length text.now < 2 ^ 29 }
     ensures tokens { IfOk result (λ v. AreTokens text.now from to (tokens_seen v)) }
+    ensures canonical { IfOk result (λ v. AllCanonical v.bytes.items v.items.items) }
     ensures fine { IfOk result (λ v. given_offence text.now from to ≡ None) }
     ensures end { IfOk result (λ v. v.end ≡ place_at text.now to) }
     ensures refused { (r : code.Refusal) → result ≡ Err (Stop.Refused r) → IsGivenRefused text.now from to r }
@@ -67,6 +68,7 @@ pub fn tokens_as(
     requires ends { to ≤ length text.now }
     requires small { length text.now < 2 ^ 29 }
     ensures tokens { IfOk result (λ v. Tok text.now from to (tokens_seen v)) }
+    ensures canonical { IfOk result (λ v. AllCanonical v.bytes.items v.items.items) }
     ensures fine { IfOk result (λ v. first_offence reading text.now from to ≡ None) }
     ensures end { IfOk result (λ v. v.end ≡ place_at text.now to) }
     ensures refused { (r : code.Refusal) → result ≡ Err (Stop.Refused r) → IsRefused reading text.now from to r }
@@ -87,6 +89,7 @@ fn algorithm_tokens(
     requires small { length text.now < 2 ^ 29 }
     requires opening { Some opening ≡ option_map length (opening_of (stretch text.now from to)) }
     ensures tokens { IfOk result (λ v. AreTokens text.now from to (tokens_seen v)) }
+    ensures canonical { IfOk result (λ v. AllCanonical v.bytes.items v.items.items) }
     ensures fine { IfOk result (λ v. given_offence text.now from to ≡ None) }
     ensures end { IfOk result (λ v. v.end ≡ place_at text.now to) }
     ensures refused { (r : code.Refusal) → result ≡ Err (Stop.Refused r) → IsGivenRefused text.now from to r }
@@ -147,8 +150,10 @@ fn rest_of(
     requires starts { start ≤ to }
     requires ends { to ≤ length text.now }
     requires small { length text.now < 2 ^ 29 }
+    requires canonical { AllCanonical (stretch text.now from to) items.items }
     ensures bytes { IfOk result (λ v. v.bytes.items ≡ stretch text.now from to) }
     ensures tokens { IfOk result (λ v. map (token_seen v.bytes.items) v.items.items ≡ map (token_seen v.bytes.items) items.items ++ lexemes_of (place_at text.now start) start (parts (stretch text.now start to))) }
+    ensures canonical { IfOk result (λ v. AllCanonical v.bytes.items v.items.items) }
     ensures fine { IfOk result (λ v. first_offence reading text.now start to ≡ None) }
     ensures end { IfOk result (λ v. v.end ≡ place_at text.now to) }
     ensures refused { (r : code.Refusal) → result ≡ Err (Stop.Refused r) → IsRefused reading text.now start to r }
@@ -201,7 +206,9 @@ fn next(
 ) -> Result<Option<Scan>, AllocError>
     requires stands { Stands from bytes.now scan }
     requires small { from + length bytes.now < 2 ^ 29 }
-    ensures { IfOk result (λ o. GoesOn reading from bytes.now (map (token_seen bytes.now) items.old.items) (map (token_seen bytes.now) items.new.items) scan o) }
+    requires canonical { AllCanonical bytes.now items.old.items }
+    ensures goes { IfOk result (λ o. GoesOn reading from bytes.now (map (token_seen bytes.now) items.old.items) (map (token_seen bytes.now) items.new.items) scan o) }
+    ensures canonical { IfOk result (λ o. AllCanonical bytes.now items.new.items) }
 {
     let mut wordless = scan.wordless;
     match part_at(&bytes[scan.at..], &mut wordless) {
@@ -232,7 +239,9 @@ fn past(
     requires stands { Stands from bytes.now scan }
     requires small { from + length bytes.now < 2 ^ 29 }
     requires part { Some part ≡ front (drop scan.at bytes.now) }
-    ensures { IfOk result (λ s. GoesOn reading from bytes.now (map (token_seen bytes.now) items.old.items) (map (token_seen bytes.now) items.new.items) scan (Some s)) }
+    requires canonical { AllCanonical bytes.now items.old.items }
+    ensures goes { IfOk result (λ s. GoesOn reading from bytes.now (map (token_seen bytes.now) items.old.items) (map (token_seen bytes.now) items.new.items) scan (Some s)) }
+    ensures canonical { IfOk result (λ s. AllCanonical bytes.now items.new.items) }
 {
     let piece = piece_of(&bytes[scan.at..], part);
     let at = from + scan.at;
@@ -269,7 +278,8 @@ fn keep(
     at: usize,
     place: Place,
 ) -> Result<(), AllocError>
-    ensures { (bytes : List ℕ) → IfOk result (λ u. map (token_seen bytes) items.new.items ≡ map (token_seen bytes) items.old.items ++ token_at place at (option_map (kind_seen bytes) kind)) }
+    ensures added { (bytes : List ℕ) → IfOk result (λ u. map (token_seen bytes) items.new.items ≡ map (token_seen bytes) items.old.items ++ token_at place at (option_map (kind_seen bytes) kind)) }
+    ensures canonical { (bytes : List ℕ) → AllCanonical bytes items.old.items → IfSome kind (λ k. IsCanonical bytes k) → IfOk result (λ u. AllCanonical bytes items.new.items) }
 {
     if let Some(kind) = kind {
         items.push(Token { kind, at, place })?;

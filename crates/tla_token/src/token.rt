@@ -1,11 +1,11 @@
 //! Tokens of a text.
 
-ghost use Rattle.std.specs.Prelude.{◌≡◌, true, ◌+◌, ◌^◌, ◌≤◌, Some, length, take, drop, option_map};
+ghost use Rattle.std.specs.Prelude.{◌≡◌, true, ◌+◌, ◌^◌, ◌≤◌, Some, length, take, drop, option_map, is_some, IfSome};
 ghost use Rattle.tla_token.specs.declared.part.Class as class;
 ghost use Rattle.tla_token.specs.declared.token.Span as code_span;
-ghost use Rattle.tla_token.specs.Lexemes.{number_of};
-ghost use Rattle.tla_token.specs.Scan.{is_quoted, part_of};
-ghost use Rattle.tla_token.specs.TokensSeen.{kind_seen, part_kind, span_bytes};
+ghost use Rattle.tla_token.specs.Lexemes.{number_of, unquoted};
+ghost use Rattle.tla_token.specs.Scan.{is_quoted, inner, part_of};
+ghost use Rattle.tla_token.specs.TokensSeen.{kind_seen, part_kind, span_bytes, IsCanonical};
 
 use crate::bytes::number_value;
 use crate::part::{Class, Part};
@@ -81,6 +81,7 @@ pub fn kind_at(bytes: &[u8], at: usize, part: Part) -> Option<Kind>
     requires within { at + part.len ≤ length bytes.now }
     requires quoted { is_quoted part.class ≡ true → 2 ≤ part.len }
     ensures kind { option_map (kind_seen bytes.now) result ≡ part_kind (part_of part.class (take part.len (drop at bytes.now))) }
+    ensures canonical { (part.class ≡ Class.Text → is_some (unquoted (inner (take part.len (drop at bytes.now)))) ≡ true) → IfSome result (λ k. IsCanonical bytes.now k) }
     ensures big { (s : code_span.Span) → result ≡ Some (Kind.BigNumber s) → 2 ^ 128 ≤ number_of (span_bytes bytes.now s) }
 {
     let span = Span {

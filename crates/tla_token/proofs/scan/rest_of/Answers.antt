@@ -13,12 +13,13 @@ pub parts-init : goal.parts-init
 parts-init c = record {
   stands = begins_there c.args.text.now c.args.from c.args.start c.args.to _ c.requires.begins c.requires.starts c.requires.ends refl c.place_of.ensures.line c.place_of.ensures.col refl;
   so_far = refl;
+  canonical = c.requires.canonical;
 }
 
 pub returns-in-Some-fault-clause-refused : goal.returns-in-Some-fault-clause-refused
 returns-in-Some-fault-clause-refused c r e =
     let bytes = stretch c.args.text.now c.args.from c.args.to in
-    let g = goes_end c.args.reading c.args.from bytes (map (token_seen bytes) c.parts.items.items) (map (token_seen bytes) c.next.new.items.items) c.parts.scan c.in_ok-after.field-0 c.in_default.not-Some c.in_ok-after.ensures in
+    let g = goes_end c.args.reading c.args.from bytes (map (token_seen bytes) c.parts.items.items) (map (token_seen bytes) c.next.new.items.items) c.parts.scan c.in_ok-after.field-0 c.in_default.not-Some c.in_ok-after.ensures.goes in
     let x =
     rest_found c.args.reading c.args.text.now c.args.from c.args.start c.args.to c.parts.scan (record { at = c.args.start - c.args.from; place = c.place_of.result; wordless = 0; fault = None })
     (map (token_seen bytes) c.parts.items.items) (map (token_seen bytes) c.args.items.items) c.requires.begins c.requires.starts refl refl c.place_of.ensures.value c.parts.invariant.so_far g.0 in
@@ -29,7 +30,7 @@ returns-in-Some-fault-clause-refused c r e =
 pub returns-clause-tokens : goal.returns-clause-tokens
 returns-clause-tokens c =
     let bytes = stretch c.args.text.now c.args.from c.args.to in
-    let g = goes_end c.args.reading c.args.from bytes (map (token_seen bytes) c.parts.items.items) (map (token_seen bytes) c.next.new.items.items) c.parts.scan c.in_ok-after.field-0 c.in_default.not-Some c.in_ok-after.ensures in
+    let g = goes_end c.args.reading c.args.from bytes (map (token_seen bytes) c.parts.items.items) (map (token_seen bytes) c.next.new.items.items) c.parts.scan c.in_ok-after.field-0 c.in_default.not-Some c.in_ok-after.ensures.goes in
     let x =
     rest_found c.args.reading c.args.text.now c.args.from c.args.start c.args.to c.parts.scan (record { at = c.args.start - c.args.from; place = c.place_of.result; wordless = 0; fault = None })
     (map (token_seen bytes) c.parts.items.items) (map (token_seen bytes) c.args.items.items) c.requires.begins c.requires.starts refl refl c.place_of.ensures.value c.parts.invariant.so_far g.0 in
@@ -40,7 +41,7 @@ returns-clause-tokens c =
 pub returns-clause-fine : goal.returns-clause-fine
 returns-clause-fine c =
     let bytes = stretch c.args.text.now c.args.from c.args.to in
-    let g = goes_end c.args.reading c.args.from bytes (map (token_seen bytes) c.parts.items.items) (map (token_seen bytes) c.next.new.items.items) c.parts.scan c.in_ok-after.field-0 c.in_default.not-Some c.in_ok-after.ensures in
+    let g = goes_end c.args.reading c.args.from bytes (map (token_seen bytes) c.parts.items.items) (map (token_seen bytes) c.next.new.items.items) c.parts.scan c.in_ok-after.field-0 c.in_default.not-Some c.in_ok-after.ensures.goes in
     let x =
     rest_found c.args.reading c.args.text.now c.args.from c.args.start c.args.to c.parts.scan (record { at = c.args.start - c.args.from; place = c.place_of.result; wordless = 0; fault = None })
     (map (token_seen bytes) c.parts.items.items) (map (token_seen bytes) c.args.items.items) c.requires.begins c.requires.starts refl refl c.place_of.ensures.value c.parts.invariant.so_far g.0 in
@@ -49,7 +50,7 @@ returns-clause-fine c =
 pub returns-clause-end : goal.returns-clause-end
 returns-clause-end c =
     let bytes = stretch c.args.text.now c.args.from c.args.to in
-    let g = goes_end c.args.reading c.args.from bytes (map (token_seen bytes) c.parts.items.items) (map (token_seen bytes) c.next.new.items.items) c.parts.scan c.in_ok-after.field-0 c.in_default.not-Some c.in_ok-after.ensures in
+    let g = goes_end c.args.reading c.args.from bytes (map (token_seen bytes) c.parts.items.items) (map (token_seen bytes) c.next.new.items.items) c.parts.scan c.in_ok-after.field-0 c.in_default.not-Some c.in_ok-after.ensures.goes in
     let x =
     rest_found c.args.reading c.args.text.now c.args.from c.args.start c.args.to c.parts.scan (record { at = c.args.start - c.args.from; place = c.place_of.result; wordless = 0; fault = None })
     (map (token_seen bytes) c.parts.items.items) (map (token_seen bytes) c.args.items.items) c.requires.begins c.requires.starts refl refl c.place_of.ensures.value c.parts.invariant.so_far g.0 in
