@@ -1,3 +1,4 @@
+-- The definitions of texts: places, tokens, rules and limits, and what code finds of them.
 pub mod Rules
 pub mod Places
 pub mod Limits

@@ -10,12 +10,14 @@ ghost use Rattle.tla_token.specs.Scan.{in_128_bits};
 
 // ---- characters
 
+/// A letter of ASCII.
 pub fn is_letter(b: u8) -> bool
     ensures { result ≡ is_letter b }
 {
     (b'a' <= b && b <= b'z') || (b'A' <= b && b <= b'Z')
 }
 
+/// A decimal digit.
 pub fn is_digit(b: u8) -> bool
     ensures { result ≡ is_digit b }
 {
@@ -80,12 +82,14 @@ pub fn word_len(text: &[u8]) -> usize
     text.iter().take_while(|b| is_word(**b)).count()
 }
 
+/// How many digits there are at the front.
 pub fn number_len(text: &[u8]) -> usize
     ensures { result ≡ length (run is_digit text.now) }
 {
     text.iter().take_while(|b| is_digit(**b)).count()
 }
 
+/// How many blanks there are at the front.
 pub fn blank_len(text: &[u8]) -> usize
     ensures value { result ≡ length (run is_blank text.now) }
     ensures bound { result ≤ length text.now }
@@ -100,6 +104,7 @@ pub fn line_len(text: &[u8]) -> usize
     text.iter().take_while(|b| **b != b'\n').count()
 }
 
+/// Whether there is a letter.
 pub fn has_letter(text: &[u8]) -> bool
     ensures { result ≡ list_any is_letter text.now }
 {

@@ -45,7 +45,7 @@ pub fn refusals_are_cut()
     ensures of_tokens { (in_algorithm : Bool) (text : List ℕ) (from to : ℕ) (ts : List pure.Token) → Tok text from to ts → offences in_algorithm from (parts (stretch text from to)) ≡ flat_map (λ t. kind_offences in_algorithm t.at t.kind) ts }
 {}
 
-/// A stretch has a list of tokens or a refusal. Outside algorithms it never has both.
+/// A stretch has a list of tokens or a refusal. Outside algorithms, where numbers aren't looked at, it never has both.
 pub fn tokens_or_refusal()
     ensures either { (in_algorithm : Bool) (text : List ℕ) (from to : ℕ) → ((ts : List pure.Token) × Tok text from to ts) ⊎ ((r : code.Refusal) × Offends in_algorithm text from to r) }
     ensures not_both { (text : List ℕ) (from to : ℕ) (ts : List pure.Token) (r : code.Refusal) → Tok text from to ts → Offends false text from to r → ⊥ }

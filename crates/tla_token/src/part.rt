@@ -17,6 +17,7 @@ use crate::sign::{Sign, sign_at, sign_of, spelling_len};
 /// What a part of a text is.
 #[derive(Clone, Copy, PartialEq, Eq, Debug)]
 pub enum Class {
+    /// A space, a tab, LF or CR.
     Blank,
     /// A `(*` comment.
     Block,
@@ -24,9 +25,11 @@ pub enum Class {
     Line,
     /// A name, or a reserved word.
     Name,
+    /// A number.
     Number,
     /// A string.
     Text,
+    /// A sign, however it is spelled.
     Sign(Sign),
     /// A sign that this profile leaves out.
     Other,

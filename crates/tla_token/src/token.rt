@@ -30,6 +30,7 @@ pub enum Kind {
     BigNumber(Span),
     /// A string, by what is between its quotes.
     Text(Span),
+    /// A sign, however it is spelled.
     Sign(Sign),
     /// A sign that this profile leaves out.
     Other(Span),
