@@ -11,6 +11,10 @@ past_numbers = 2 ^ 127
 abbrev pub most_bytes : ℕ
 most_bytes = 1048576
 
+-- the least length of a text that is too long to be scanned; a tab being eight columns, places in a shorter one fit in 32 bits
+abbrev pub past_text : ℕ
+past_text = 2 ^ 29
+
 -- ---- algorithms
 
 abbrev pub most_tokens : ℕ

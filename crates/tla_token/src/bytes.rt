@@ -1,7 +1,8 @@
 //! Bytes at the front of a text that belong together: words, numbers, strings, comments.
 
-ghost use Rattle.std.specs.Prelude.{◌≡◌, ◌+◌, ◌-◌, ◌^◌, ◌<◌, ◌≤◌, not, nat_eq, length, take, drop, slice_index, IfSome, is_some};
+ghost use Rattle.std.specs.Prelude.{◌≡◌, ◌+◌, ◌-◌, ◌<◌, ◌≤◌, not, nat_eq, length, take, drop, slice_index, IfSome, is_some};
 ghost use Rattle.std.specs.List.{list_any};
+ghost use Rattle.tla_token.specs.Limits.{past_text};
 ghost use Rattle.tla_token.specs.Lexemes.{is_letter, is_digit, is_word, is_blank, is_printed, is_plain, escaped, unquoted, number_of};
 ghost use Rattle.tla_token.specs.Tokens.{is_pair, holds_mark};
 ghost use Rattle.tla_token.specs.Offences.{is_stray, string_len, has_bad_escape, breaks_string};
@@ -214,7 +215,7 @@ fn is_pair(text: &[u8], at: usize, x: u8, y: u8) -> bool
 /// How many bytes after its opener belong to a `(*` comment, if it is closed.
 #[tactic(auto, using(crate::proofs::Steps::opened, crate::proofs::Steps::closed, crate::proofs::Steps::passed, crate::proofs::Steps::too_short))]
 pub fn comment_len(text: &[u8]) -> Option<usize>
-    requires { length text.now < 2 ^ 29 }
+    requires { length text.now < past_text }
     ensures value { result ≡ comment_len 1 text.now }
     ensures bound { IfSome result (λ n. n ≤ length text.now) }
 {

@@ -1,7 +1,8 @@
 //! The part of a text that is in front: a blank, a comment, a lexeme, or a part that is wrong.
 
-ghost use Rattle.std.specs.Prelude.{◌≡◌, ℕ, ◌+◌, ◌-◌, ◌^◌, ◌<◌, ◌≤◌, length, take, drop, slice_index, List, false, None, Some, IfSome, if◌then◌else◌, nat_eq, ◌&&◌};
+ghost use Rattle.std.specs.Prelude.{◌≡◌, ℕ, ◌+◌, ◌-◌, ◌<◌, ◌≤◌, length, take, drop, slice_index, List, false, None, Some, IfSome, if◌then◌else◌, nat_eq, ◌&&◌};
 ghost use Rattle.std.specs.List.{list_any};
+ghost use Rattle.tla_token.specs.Limits.{past_text};
 ghost use Rattle.tla_token.specs.Lexemes.{is_word, is_letter};
 ghost use Rattle.tla_token.specs.Offences as pure;
 ghost use Rattle.tla_token.specs.Offences.{string_len};
@@ -55,7 +56,7 @@ pub struct Part {
 /// letter, and so many are so when it is found: no byte is looked at again for that.
 #[tactic(auto, using(crate::proofs::Fronts::front_outer, crate::proofs::Fronts::front_lexeme))]
 pub fn part_at(text: &[u8], wordless: &mut usize) -> Option<Part>
-    requires small { length text.now < 2 ^ 29 }
+    requires small { length text.now < past_text }
     requires known { IsWordless wordless.old text.now }
     ensures part { result ≡ front text.now }
     ensures known { IsWordless wordless.new text.now }
@@ -69,7 +70,7 @@ pub fn part_at(text: &[u8], wordless: &mut usize) -> Option<Part>
 /// The blank, string or comment in front, whatever the lexemes are.
 #[tactic(auto, using(crate::proofs::Fronts::front_blank, crate::proofs::Fronts::front_string, crate::proofs::Fronts::front_block, crate::proofs::Fronts::front_line, crate::proofs::Fronts::front_inner, crate::proofs::Fronts::front_end))]
 pub fn outer_at(text: &[u8]) -> Option<Part>
-    requires { length text.now < 2 ^ 29 }
+    requires { length text.now < past_text }
     ensures found { IfSome result (λ p. (f : ℕ → List ℕ → pure.Part) → front_by (part_by f) text.now ≡ Some p) }
     ensures none { result ≡ None → (f : ℕ → List ℕ → pure.Part) → front_by (part_by f) text.now ≡ front_by f text.now }
 {
@@ -96,7 +97,7 @@ pub fn outer_at(text: &[u8]) -> Option<Part>
 
 // The string that is open before this text.
 fn string_at(text: &[u8]) -> Part
-    requires { length text.now < 2 ^ 29 }
+    requires { length text.now < past_text }
     ensures { result ≡ outline (string_part (take (string_len text.now) text.now) (drop (string_len text.now) text.now)) }
 {
     let n = string_len(text);
@@ -121,7 +122,7 @@ fn string_at(text: &[u8]) -> Part
 
 // The comment that is open before this text.
 fn block_at(text: &[u8]) -> Part
-    requires { length text.now < 2 ^ 29 }
+    requires { length text.now < past_text }
     ensures { result ≡ outline (block_part (comment_len 1 text.now) text.now) }
 {
     match comment_len(text) {
@@ -140,7 +141,7 @@ fn block_at(text: &[u8]) -> Part
 /// comment; what is known of words as for `part_at`.
 #[tactic(auto, using(crate::proofs::Fronts::front_name))]
 pub fn lexeme_at(text: &[u8], wordless: &mut usize) -> Option<Part>
-    requires small { length text.now < 2 ^ 29 }
+    requires small { length text.now < past_text }
     requires known { IsWordless wordless.old text.now }
     ensures part { result ≡ lexeme_front text.now }
     ensures known { IsWordless wordless.new text.now }
@@ -177,7 +178,7 @@ fn name_len(text: &[u8], wordless: &mut usize) -> usize
 // The lexeme in front of a text that begins with no name.
 #[tactic(auto, using(crate::proofs::Fronts::front_number, crate::proofs::Fronts::front_word, crate::proofs::Fronts::front_mark, crate::proofs::Fronts::lexeme_end))]
 fn nameless_at(text: &[u8]) -> Option<Part>
-    requires small { length text.now < 2 ^ 29 }
+    requires small { length text.now < past_text }
     requires nameless { list_any is_letter (run is_word text.now) ≡ false }
     ensures { result ≡ lexeme_front text.now }
 {

@@ -1,6 +1,7 @@
 //! Places in a text.
 
 ghost use Rattle.std.specs.Prelude.{◌≡◌, ◌+◌, ◌*◌, ◌^◌, ◌<◌, ◌≤◌, length};
+ghost use Rattle.tla_token.specs.Limits.{past_text};
 ghost use Rattle.tla_token.specs.Places.{step, after, place_at};
 
 /// A place in a text: line and column, both from 1. A column counts bytes; a tab goes to the next
@@ -14,7 +15,7 @@ pub struct Place {
 /// The place of a byte of a text, or of the text's end.
 pub fn place_of(text: &[u8], at: usize) -> Place
     requires within { at ≤ length text.now }
-    requires small { length text.now < 2 ^ 29 }
+    requires small { length text.now < past_text }
     ensures value { result ≡ place_at text.now at }
     ensures line { result.line ≤ 1 + at }
     ensures col { result.col ≤ 1 + 8 * at }

@@ -1,7 +1,8 @@
 //! Scanning: the tokens of a stretch of a text, or the offence that counts in it.
 
-ghost use Rattle.std.specs.Prelude.{◌≡◌, ℕ, List, ◌+◌, ◌-◌, ◌^◌, ◌<◌, ◌≤◌, ◌++◌, [], None, Some, length, take, drop, map, option_map, is_some, true, IfOk, IfSome, Err};
+ghost use Rattle.std.specs.Prelude.{◌≡◌, ℕ, List, ◌+◌, ◌-◌, ◌<◌, ◌≤◌, ◌++◌, [], None, Some, length, take, drop, map, option_map, is_some, true, IfOk, IfSome, Err};
 ghost use Rattle.tla_token.specs.declared.rule.Refusal as code;
+ghost use Rattle.tla_token.specs.Limits.{past_text};
 ghost use Rattle.tla_token.specs.Places.{place_at};
 ghost use Rattle.tla_token.specs.Tokens.{stretch, Tok};
 ghost use Rattle.tla_token.specs.Cut.{parts};
@@ -39,7 +40,7 @@ pub struct Scan {
 pub fn tokens(alloc: Global, text: &[u8], from: usize, to: usize) -> Result<Tokens, Stop>
     requires begins { from ≤ to }
     requires ends { to ≤ length text.now }
-    requires small { length text.now < 2 ^ 29 }
+    requires small { length text.now < past_text }
     ensures tokens { IfOk result (λ v. AreTokens text.now from to (tokens_seen v)) }
     ensures canonical { IfOk result (λ v. AllCanonical v.bytes.items v.items.items) }
     ensures fine { IfOk result (λ v. given_offence text.now from to ≡ None) }
@@ -66,7 +67,7 @@ pub fn tokens_as(
 ) -> Result<Tokens, Stop>
     requires begins { from ≤ to }
     requires ends { to ≤ length text.now }
-    requires small { length text.now < 2 ^ 29 }
+    requires small { length text.now < past_text }
     ensures tokens { IfOk result (λ v. Tok text.now from to (tokens_seen v)) }
     ensures canonical { IfOk result (λ v. AllCanonical v.bytes.items v.items.items) }
     ensures fine { IfOk result (λ v. first_offence reading text.now from to ≡ None) }
@@ -86,7 +87,7 @@ fn algorithm_tokens(
 ) -> Result<Tokens, Stop>
     requires begins { from ≤ to }
     requires ends { to ≤ length text.now }
-    requires small { length text.now < 2 ^ 29 }
+    requires small { length text.now < past_text }
     requires opening { Some opening ≡ option_map length (opening_of (stretch text.now from to)) }
     ensures tokens { IfOk result (λ v. AreTokens text.now from to (tokens_seen v)) }
     ensures canonical { IfOk result (λ v. AllCanonical v.bytes.items v.items.items) }
@@ -149,7 +150,7 @@ fn rest_of(
     requires begins { from ≤ start }
     requires starts { start ≤ to }
     requires ends { to ≤ length text.now }
-    requires small { length text.now < 2 ^ 29 }
+    requires small { length text.now < past_text }
     requires canonical { AllCanonical (stretch text.now from to) items.items }
     ensures bytes { IfOk result (λ v. v.bytes.items ≡ stretch text.now from to) }
     ensures tokens { IfOk result (λ v. map (token_seen v.bytes.items) v.items.items ≡ map (token_seen v.bytes.items) items.items ++ lexemes_of (place_at text.now start) start (parts (stretch text.now start to))) }
@@ -185,7 +186,7 @@ fn rest_of(
 // The place of a byte, or of the text's end for all behind it.
 #[tactic(auto, using(crate::proofs::Scans::place_beyond))]
 fn place_near(text: &[u8], at: usize) -> Place
-    requires { length text.now < 2 ^ 29 }
+    requires { length text.now < past_text }
     ensures { result ≡ place_at text.now at }
 {
     if at < text.len() {
@@ -205,7 +206,7 @@ fn next(
     items: &mut Vec<Token>,
 ) -> Result<Option<Scan>, AllocError>
     requires stands { Stands from bytes.now scan }
-    requires small { from + length bytes.now < 2 ^ 29 }
+    requires small { from + length bytes.now < past_text }
     requires canonical { AllCanonical bytes.now items.old.items }
     ensures goes { IfOk result (λ o. GoesOn reading from bytes.now (map (token_seen bytes.now) items.old.items) (map (token_seen bytes.now) items.new.items) scan o) }
     ensures canonical { IfOk result (λ o. AllCanonical bytes.now items.new.items) }
@@ -237,7 +238,7 @@ fn past(
     items: &mut Vec<Token>,
 ) -> Result<Scan, AllocError>
     requires stands { Stands from bytes.now scan }
-    requires small { from + length bytes.now < 2 ^ 29 }
+    requires small { from + length bytes.now < past_text }
     requires part { Some part ≡ front (drop scan.at bytes.now) }
     requires canonical { AllCanonical bytes.now items.old.items }
     ensures goes { IfOk result (λ s. GoesOn reading from bytes.now (map (token_seen bytes.now) items.old.items) (map (token_seen bytes.now) items.new.items) scan (Some s)) }
