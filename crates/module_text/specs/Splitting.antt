@@ -8,7 +8,7 @@ use Rattle.tla_token.specs.TokensSeen.{tokens_seen}
 use Rattle.module_text.specs.declared.parts.Parts.{Parts}
 use Rattle.module_tree.specs.TextFront.{Text}
 use Rattle.module_tree.specs.Walk.{walk}
-use Rattle.module_tree.specs.FileParts.{title, region_of, spot, before_spot, after_spot}
+use Rattle.module_tree.specs.FileParts.{title, module_end, region_of, spot, before_spot, after_spot}
 use Rattle.module_tree.specs.AlgorithmText.{AlgorithmText, algorithm_in, is_c}
 use Rattle.module_tree.specs.FileUnits.{tokens_in}
 use Rattle.module_tree.specs.FileOffences.{splitting_offences}
@@ -31,4 +31,8 @@ pub record Splits (x : Text) (p : Parts) : Type 0 where
   pub ends : found.rest.to ≡ p.algorithm.to
   pub is_c : is_c found.rest.stage ≡ p.is_c
   pub before : tokens_seen p.before ≡ tokens_in (before_spot (walk x))
+  pub before_end : p.before.end ≡ place_at x p.spot.from
   pub after : tokens_seen p.after ≡ tokens_in (after_spot (walk x))
+  pub at_end : ℕ
+  pub ended : module_end (walk x) ≡ Some at_end
+  pub after_end : p.after.end ≡ place_at x at_end

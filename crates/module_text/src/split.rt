@@ -132,7 +132,7 @@ fn token_of(text: &[u8], stand: Stand) -> Option<Token>
     }
 }
 
-// The tokens among some segments, and then others.
+// The tokens among some segments, and then others, with the place of their end.
 fn tokens_among(
     alloc: Global,
     text: &[u8],
@@ -142,7 +142,8 @@ fn tokens_among(
 ) -> Result<Tokens, AllocError>
     requires stands { All (IsSolid text.now) stands.now }
     requires more { All (IsSolid text.now) more.now }
-    ensures { IfOk result (λ v. tokens_seen v ≡ plain_tokens (stands_seen text.now stands.now) ++ plain_tokens (stands_seen text.now more.now)) }
+    ensures tokens { IfOk result (λ v. tokens_seen v ≡ plain_tokens (stands_seen text.now stands.now) ++ plain_tokens (stands_seen text.now more.now)) }
+    ensures ends { IfOk result (λ v. v.end ≡ end) }
 {
     let mut items = Vec::new(alloc);
     add_tokens(text, stands, &mut items)?;
