@@ -1,9 +1,7 @@
--- What is read off a file before its algorithm is read: its parts, or the rule of 1 to 10 that counts ("A PlusCal User's Manual", sections 2.1 and 2.2).
+-- The parts that are read off a file before its algorithm is read ("A PlusCal User's Manual", sections 2.1 and 2.2).
 use Rattle.std.specs.Prelude.{◌≡◌, ℕ, not, Some, is_some}
-use Rattle.tla_token.specs.declared.rule.Refusal.{Refusal}
 use Rattle.tla_token.specs.Places.{place_at}
 use Rattle.tla_token.specs.Tokens.{stretch}
-use Rattle.tla_token.specs.Offences.{least}
 use Rattle.tla_token.specs.TokensSeen.{tokens_seen}
 use Rattle.module_text.specs.declared.parts.Parts.{Parts}
 use Rattle.module_tree.specs.TextFront.{Text}
@@ -11,13 +9,6 @@ use Rattle.module_tree.specs.Walk.{walk}
 use Rattle.module_tree.specs.FileParts.{title, module_end, region_of, spot, before_spot, after_spot}
 use Rattle.module_tree.specs.AlgorithmText.{AlgorithmText, algorithm_in, is_c}
 use Rattle.module_tree.specs.FileUnits.{tokens_in}
-use Rattle.module_tree.specs.FileOffences.{splitting_offences}
-
--- the file is refused so
-pub record RefusesSplit (x : Text) (refusal : Refusal) : Type 0 where
-  pub at : ℕ
-  pub first : least (splitting_offences x) ≡ Some (refusal.rule, at)
-  pub place : refusal.place ≡ place_at x at
 
 -- these are the file's parts
 pub record Splits (x : Text) (p : Parts) : Type 0 where

@@ -13,8 +13,8 @@ ghost use Rattle.module_tree.specs.HeaderAndRegion.{header_title};
 ghost use Rattle.module_tree.specs.FileParts as pure;
 ghost use Rattle.module_tree.specs.FileParts.{holds_algorithm};
 ghost use Rattle.module_tree.specs.AlgorithmText.{algorithm_of};
-ghost use Rattle.module_tree.specs.FileOffences.{algorithm_offences, placements, outside_region, options_in, second_algorithms, is_splitting, splitting_offences};
-ghost use Rattle.module_text.specs.Splitting.{RefusesSplit, Splits};
+ghost use Rattle.module_tree.specs.FileOffences.{algorithm_offences, placements, outside_region, options_in, second_algorithms, is_splitting, splitting_offences, RefusesSplit};
+ghost use Rattle.module_text.specs.Splitting.{Splits};
 ghost use Rattle.module_text.specs.SplitSeen.{plain_token, plain_tokens, after_newline, IsAlgorithm, IsGap};
 
 use crate::algorithm::{Inside, algorithm_at, is_c};

@@ -11,7 +11,7 @@ ghost use Rattle.tla_value.specs.Outside.{Outside};
 ghost use Rattle.module_tree.specs.Reading.{Reads, ReadsRegion};
 ghost use Rattle.module_tree.specs.Ways.{is_terminating};
 ghost use Rattle.module_tree.specs.Around.{Around, Swapped};
-ghost use Rattle.module_tree.specs.FileOffences.{RefusesFile, offences_of, algorithm_offences};
+ghost use Rattle.module_tree.specs.FileOffences.{RefusesSplit, offences_of, algorithm_offences};
 ghost use Rattle.module_tree.specs.TextFront.{Text};
 ghost use Rattle.module_tree.specs.Walk.{State, Located, region, walk, walk_from, at_start, after_segment};
 ghost use Rattle.module_tree.specs.Beginnings.{opening, begins_algorithm};
@@ -48,9 +48,9 @@ pub fn files_have_one_place()
     ensures swapped { (x u w v : List ℕ) → Swapped x u w → Swapped x u v → w ≡ v }
 {}
 
-/// A file that is refused before its algorithm is read is refused in one way.
+/// A file that is refused before its algorithm is read, by the rules 1 to 10, is refused in one way.
 pub fn a_file_is_refused_in_one_way()
-    ensures { (x : List ℕ) (r s : Refusal) → RefusesFile x r → RefusesFile x s → r ≡ s }
+    ensures { (x : List ℕ) (r s : Refusal) → RefusesSplit x r → RefusesSplit x s → r ≡ s }
 {}
 
 /// The segments of a file make it up.
@@ -95,15 +95,14 @@ pub fn translations_are_found_again()
 
 /// A translation that is put into a file which is not refused is one segment after the file's own, and what is after it is
 /// moved. The file keeps its title, its units and its algorithm, no segment of it breaks a rule, and another translation of
-/// it is one of the file that was read. The algorithm's tokens are moved by bytes and lines, and the file is not refused
-/// either, nor are these tokens where they weren't.
+/// it is one of the file that was read. The algorithm's tokens are moved by bytes and lines; the file breaks no rule
+/// then either, and these tokens none that they didn't break.
 pub fn translations_keep_files()
     ensures place { (x t w : Text) → IsFine x → IsInside t → WithTranslation x t w → IsPut x t w }
     ensures kept { (x t w : Text) → IsFine x → IsInside t → WithTranslation x t w → KeepsFile x t w }
     ensures algorithm { (x t w : Text) (a : AlgorithmText) → IsFine x → IsInside t → WithTranslation x t w → algorithm_in x ≡ Some a → (b : AlgorithmText) × (algorithm_in w ≡ Some b) × SameAlgorithm a b }
     ensures tokens { (x t w : Text) (a b : AlgorithmText) → IsFine x → IsInside t → WithTranslation x t w → algorithm_in x ≡ Some a → algorithm_in w ≡ Some b → AlgorithmMoved x w a b }
     ensures fine { (x t w : Text) → IsFine x → IsInside t → WithTranslation x t w → IsFine w }
-    ensures refused { (x t w : Text) (r : Refusal) → IsFine x → IsInside t → WithTranslation x t w → RefusesFile w r → ⊥ }
     ensures tokens_fine { (x t w : Text) (a b : AlgorithmText) → IsFine x → IsInside t → WithTranslation x t w → algorithm_in x ≡ Some a → algorithm_in w ≡ Some b → token_offences (algorithm_tokens x a) ≡ [] → token_offences (algorithm_tokens w b) ≡ [] }
     ensures again { (x t w v u : Text) → IsFine x → IsInside t → IsInside v → WithTranslation x t w → WithTranslation w v u → WithTranslation x v u }
 {}
