@@ -23,7 +23,8 @@ ghost use Rattle.module_tree.specs.laws.WritableRegion.{IsRegion, IsReadBack, Is
 ghost use Rattle.module_tree.specs.Layout.{layout};
 ghost use Rattle.module_tree.specs.laws.PlacelessRegion.{region_placeless};
 ghost use Rattle.module_tree.specs.laws.Outsides.{HasOutside, AllAlike, IsModuleOf};
-ghost use Rattle.module_tree.specs.AlgorithmText.{AlgorithmText, algorithm_in, algorithm_tokens};
+ghost use Rattle.module_tree.specs.AlgorithmText.{past_p, past_c, AlgorithmText, algorithm_in, algorithm_tokens};
+ghost use Rattle.module_tree.specs.laws.AlgorithmEnd.{from_name, EndsWithWords, behind_name, EndsWithBrace};
 ghost use Rattle.tla_token.specs.AlgorithmOffences.{algorithm_offences as token_offences};
 ghost use Rattle.module_tree.specs.laws.Walks.{text_of, is_lined, are_calm, after_all, after_text, IsOpen, IsInside, made, located, Near, Fit, Moved, are_common, Put};
 
@@ -105,6 +106,13 @@ pub fn translations_keep_files()
     ensures fine { (x t w : Text) → IsFine x → IsInside t → WithTranslation x t w → IsFine w }
     ensures tokens_fine { (x t w : Text) (a b : AlgorithmText) → IsFine x → IsInside t → WithTranslation x t w → algorithm_in x ≡ Some a → algorithm_in w ≡ Some b → token_offences (algorithm_tokens x a) ≡ [] → token_offences (algorithm_tokens w b) ≡ [] }
     ensures again { (x t w v u : Text) → IsFine x → IsInside t → IsInside v → WithTranslation x t w → WithTranslation w v u → WithTranslation x v u }
+{}
+
+/// An algorithm that has an end ends where it first can: in P-syntax with the first `end algorithm` from its name on, in
+/// C-syntax with the brace that closes the first one, which follows its name.
+pub fn algorithms_end_where_they_can()
+    ensures words { (x : Text) (a : AlgorithmText) → algorithm_in x ≡ Some a → a.rest.stage ≡ past_p → EndsWithWords (from_name a) }
+    ensures braces { (x : Text) (a : AlgorithmText) → algorithm_in x ≡ Some a → a.rest.stage ≡ past_c → EndsWithBrace (behind_name a) }
 {}
 
 /// Where no segment of a file and no part of its algorithm breaks a rule, but for numbers that are too big, the algorithm's
