@@ -1,20 +1,17 @@
 -- One part further in an algorithm, and what is found at its end.
 use Rattle.std.proofs.Common.{◌≡◌, ℕ, zero, suc, ◌+◌, ◌-◌, ◌<◌, ◌≤◌, Bool, true, false, ◌&&◌, ◌||◌, nat_eq, nat_le, nat_lt, List, [], ◌∷◌, ◌++◌, length, get_or, take, drop, min, Option, Some, None, refl, sym, ap, subst, ◌∙◌, arith, codes, length-append, length-drop}
 use Rattle.std.specs.Prelude.{is_some, if◌then◌else◌, filter}
-use Rattle.std.specs.Option.{option_map}
-use Rattle.std.specs.List.{list_any, flat_map}
-use Rattle.std.proofs.lemmas.Option.{none-some, same_Some}
+use Rattle.std.specs.List.{flat_map}
 use Rattle.std.proofs.lemmas.Bool.{leb-true, leb-false}
-use Rattle.std.proofs.lemmas.List.{drop_all, drop-take, take-append-drop, length-take-le}
+use Rattle.std.proofs.lemmas.List.{drop_all, take-append-drop, length-take-le}
 use Rattle.std.proofs.lemmas.List.Elements.{filter-append}
 use Rattle.tla_token.specs.declared.part.Part as code_part
-use Rattle.tla_token.specs.Lexemes.{is_blank}
 use Rattle.tla_token.specs.Tokens.{stretch}
 use Rattle.tla_token.specs.Offences.{Part, part_bytes, Offence, part_offences, least}
 use Rattle.tla_token.specs.Cut.{parts, part_at, parts_at}
 use Rattle.tla_token.specs.Scan.{part_of, front, IsWordless}
 use Rattle.tla_token.specs.Readings.{joined}
-use Rattle.tla_token.proofs.Found.{Found, found, nothing_found}
+use Rattle.tla_token.proofs.Found.{found, nothing_found}
 use Rattle.tla_token.proofs.Scans.{wordless_on, drop_more}
 use Rattle.tla_token.proofs.Faults.{joined_assoc, joined_none, least_append}
 use Rattle.module_text.specs.declared.algorithm.Inside as code_inside

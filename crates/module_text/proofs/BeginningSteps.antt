@@ -1,7 +1,7 @@
 -- How far code comes in a text, and what begins at each place of it.
-use Rattle.std.proofs.Common.{◌≡◌, ℕ, zero, suc, ◌+◌, ◌-◌, ◌<◌, ◌≤◌, Bool, true, false, nat_eq, nat_le, List, [], ◌∷◌, ◌++◌, length, map, take, drop, Option, Some, None, codes, refl, sym, ap, ◌∙◌, arith, append_assoc, append-nil, length-append, length-drop}
+use Rattle.std.proofs.Common.{◌≡◌, ℕ, zero, suc, ◌+◌, ◌-◌, ◌<◌, ◌≤◌, Bool, true, false, nat_le, List, [], ◌∷◌, ◌++◌, length, take, drop, Option, Some, None, codes, refl, sym, ap, ◌∙◌, arith, append_assoc, length-append, length-drop}
 use Rattle.std.specs.Prelude.{is_some}
-use Rattle.std.specs.List.{starts_with, list_any}
+use Rattle.std.specs.List.{list_any}
 use Rattle.std.proofs.lemmas.List.{drop_all, drop-take, length-take-le}
 use Rattle.std.proofs.lemmas.Bool.{leb-true, leb-false}
 use Rattle.tla_token.specs.declared.rule.Rule.{Rule}
@@ -13,10 +13,9 @@ use Rattle.tla_token.specs.Readings.{joined}
 use Rattle.tla_token.proofs.Words.{one_plus}
 use Rattle.tla_token.proofs.Spelled.{begins_is}
 use Rattle.tla_token.proofs.Scans.{drop_more}
-use Rattle.tla_token.proofs.Faults.{joined_assoc, joined_none}
+use Rattle.tla_token.proofs.Faults.{joined_assoc}
 use Rattle.module_tree.specs.TextFront.{Text, begins, past_all, first_is, past_word, past_blanks, past_name, on_some}
 use Rattle.module_tree.specs.Beginnings.{is_fair, past_opening, begins_algorithm, is_options, index_if, all_at}
-use Rattle.module_tree.specs.FileParts.{first_of}
 use Rattle.module_tree.specs.FileOffences.{offences_at}
 use Rattle.module_text.specs.BeginningsSeen.{IsPast}
 

@@ -1,12 +1,11 @@
 -- The segments round the place of a translation.
-use Rattle.std.proofs.Common.{◌≡◌, ℕ, zero, suc, ◌+◌, ◌-◌, ◌<◌, ◌≤◌, Bool, true, false, not, cond, List, [], ◌∷◌, ◌++◌, length, get_or, map, take, drop, Option, Some, None, refl, sym, ap, subst, ◌∙◌, arith, append-nil, length-append, length-drop}
-use Rattle.std.specs.Prelude.{is_some, if◌then◌else◌, slice_get, find, All}
-use Rattle.std.specs.Option.{option_map, option_or}
+use Rattle.std.proofs.Common.{◌≡◌, ℕ, zero, suc, ◌+◌, ◌<◌, ◌≤◌, Bool, true, false, not, cond, List, [], ◌∷◌, ◌++◌, length, get_or, take, drop, Option, Some, None, refl, sym, ap, subst, ◌∙◌, arith, append-nil}
+use Rattle.std.specs.Prelude.{is_some, slice_get, find, All}
+use Rattle.std.specs.Option.{option_map}
 use Rattle.std.specs.List.{position_or_len}
 use Rattle.std.proofs.lemmas.List.{drop-map, take-map, take-append-drop}
 use Rattle.std.proofs.lemmas.List.Elements.{All-take, All-drop}
 use Rattle.std.proofs.lemmas.List.Folds.{find_at}
-use Rattle.tla_token.specs.declared.token.Span.{Span}
 use Rattle.tla_token.specs.Tokens.{stretch}
 use Rattle.module_text.specs.declared.stand.Shape.{Shape}
 use Rattle.module_text.specs.declared.stand.Shape.TheVariants as shape

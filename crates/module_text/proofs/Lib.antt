@@ -17,7 +17,6 @@ pub mod InMemoryGrown
 mod RowsSplit
 pub mod BeginningSteps
 pub mod AlgorithmSteps
-pub mod Braces
 pub mod UnitStarts
 pub mod SplitFaults
 pub mod SplitLeast

@@ -1,20 +1,19 @@
 -- A string has its two quotes.
-use Rattle.std.proofs.Common.{◌≡◌, ℕ, ◌+◌, ◌≤◌, Bool, true, false, ◌&&◌, nat_eq, List, [], ◌∷◌, ◌++◌, length, take, drop, Option, Some, None, arith, length-append}
+use Rattle.std.proofs.Common.{◌≡◌, ℕ, ◌≤◌, Bool, true, false, ◌&&◌, nat_eq, [], ◌∷◌, ◌++◌, length, take, drop, Option, Some, None, arith, length-append}
 use Rattle.std.specs.Prelude.{if◌then◌else◌, codes, not}
 use Rattle.std.specs.List.{list_any, starts_with}
 use Rattle.tla_token.specs.declared.sign.Sign.{Sign}
-use Rattle.tla_token.specs.Signs.{spellings}
-use Rattle.tla_token.specs.Lexemes.{name, number, string, one, other, is_word, is_letter, is_digit, is_blank, is_printed, number_of, unquoted}
-use Rattle.tla_token.specs.Tokens.{blank, block, line, lexeme}
-use Rattle.tla_token.specs.Offences.{Part, sound, stray, bad_string, open_string, open_block, part_bytes, string_len, begins_with}
-use Rattle.tla_token.specs.Cut.{run, comment_len, block_part, closed_part, string_part, or_other, sign_of, sign_at, sign_part, sign_bytes, spelling_at, lexeme_part, part_by}
+use Rattle.tla_token.specs.Lexemes.{name, number, other, is_word, is_letter, is_digit, is_blank, is_printed, number_of, unquoted}
+use Rattle.tla_token.specs.Tokens.{blank, line, lexeme}
+use Rattle.tla_token.specs.Offences.{Part, sound, stray, open_string, part_bytes, string_len, begins_with}
+use Rattle.tla_token.specs.Cut.{run, comment_len, block_part, closed_part, string_part, or_other, sign_of, sign_at, sign_part, lexeme_part}
 use Rattle.tla_token.specs.Scan.{is_quoted, part_class}
 use Rattle.module_tree.specs.TextFront.{Text, line_here, whole_line}
 use Rattle.module_tree.specs.HeaderAndRegion.{is_header, is_begin, is_end}
 use Rattle.module_tree.specs.Beginnings.{is_rule, begins_bar, ends_module}
 use Rattle.module_tree.specs.ModuleParts.{dashes, barred, module_part}
 use Rattle.module_text.specs.StandsSeen.{is_string}
-use Rattle.module_tree.specs.Walk.{Segment, free, header, part, region, mark, inner, tail, bytes, State, at_end_line, opened, in_module, segment_at}
+use Rattle.module_tree.specs.Walk.{Segment, free, header, part, mark, inner, tail, bytes, State, at_end_line, opened, in_module, segment_at}
 use Rattle.module_text.specs.Walking.{shape_of}
 
 abbrev Quoted : Part → Type 0

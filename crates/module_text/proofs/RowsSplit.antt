@@ -1,20 +1,18 @@
 -- Worked examples of what is read off a file before its algorithm is read, by computation.
-use Rattle.std.specs.Prelude.{◌≡◌, ℕ, List, [], ◌∷◌, ◌++◌, Bool, true, false, Option, Some, None, codes}
+use Rattle.std.specs.Prelude.{◌≡◌, [], ◌∷◌, true, false, codes}
 use Rattle.std.proofs.Common.{refl}
-use Rattle.tla_token.specs.declared.rule.Rule.{Rule}
-use Rattle.tla_token.specs.declared.rule.Rule.TheVariants.{NumberTooBig, BadToken, Options}
+use Rattle.tla_token.specs.declared.rule.Rule.TheVariants.{NumberTooBig, Options}
 use Rattle.tla_token.specs.declared.part.Class.TheVariants as class
-use Rattle.tla_token.specs.declared.sign.Sign.TheVariants.{OpenCurly, CloseCurly}
-use Rattle.tla_token.specs.Lexemes.{name, one}
-use Rattle.tla_token.specs.Offences.{sound, least}
+use Rattle.tla_token.specs.Lexemes.{name}
+use Rattle.tla_token.specs.Offences.{sound}
 use Rattle.tla_token.specs.Tokens.{lexeme}
 use Rattle.module_text.specs.declared.stand.Shape.TheVariants as shape
 use Rattle.module_text.specs.declared.algorithm.Stage.TheVariants as code
 use Rattle.module_tree.specs.TextFront.{Text}
-use Rattle.module_tree.specs.AlgorithmText.{head, open_c}
+use Rattle.module_tree.specs.AlgorithmText.{open_c}
 use Rattle.module_text.specs.StandsSeen.{is_string}
 use Rattle.module_tree.specs.FileOffences.{file_offences, is_splitting, splitting_offences}
-use Rattle.module_text.specs.AlgorithmSeen.{stage_seen, depth, is_open_brace, is_close_brace, part_rest, is_token_byte, in_tokens, splitting_parts}
+use Rattle.module_text.specs.AlgorithmSeen.{stage_seen, depth, part_rest, is_token_byte, in_tokens}
 
 abbrev big : Text
 big = codes "---- MODULE M ----\n(* --algorithm A { 170141183460469231731687303715884105728 } *)\n====\n"
@@ -36,12 +34,6 @@ in_braces = refl
 
 no_braces : depth (code.Head 1) ≡ 0
 no_braces = refl
-
-brace : is_open_brace (one OpenCurly) ≡ true
-brace = refl
-
-no_brace : is_close_brace (one OpenCurly) ≡ false
-no_brace = refl
 
 -- a string reaches past its comment's end
 whole_line : part_rest 2 4 (codes "x \"a*)\"") ≡ codes "\"a*)\""

@@ -1,8 +1,9 @@
 -- The parts of a file that breaks none of the rules 1 to 10.
-use Rattle.std.proofs.Common.{◌≡◌, Bool, true, false, not, List, [], ◌∷◌, ◌++◌, Option, Some, None, refl, sym, ap, ◌∙◌, append-nil}
+use Rattle.std.proofs.Common.{◌≡◌, ℕ, Bool, true, false, not, List, [], ◌∷◌, ◌++◌, length, Option, Some, None, refl, sym, ap, ◌∙◌, append-nil}
 use Rattle.std.specs.Prelude.{is_some}
-use Rattle.std.specs.Option.{option_map}
+use Rattle.std.specs.Option.{option_map, unwrap_or}
 use Rattle.tla_token.specs.declared.token.Span.{Span}
+use Rattle.tla_token.specs.Places.{place_at}
 use Rattle.tla_token.specs.Tokens as text
 use Rattle.tla_token.specs.Tokens.{stretch}
 use Rattle.tla_token.specs.TokensSeen.{tokens_seen}
@@ -10,10 +11,10 @@ use Rattle.module_text.specs.declared.parts.Parts.{Parts}
 use Rattle.module_text.specs.declared.stand.Stand.{Stand}
 use Rattle.module_text.specs.declared.split.Algorithm.{Algorithm}
 use Rattle.module_text.specs.declared.split.Gap.{Gap}
-use Rattle.module_tree.specs.TextFront.{Text}
-use Rattle.module_tree.specs.Walk.{Located, walk}
+use Rattle.module_tree.specs.TextFront.{Text, on_some}
+use Rattle.module_tree.specs.Walk.{Located, is_tail, walk}
 use Rattle.module_text.specs.StandsSeen.{stands_seen}
-use Rattle.module_tree.specs.FileParts.{title, region_of, spot, before_spot, after_spot}
+use Rattle.module_tree.specs.FileParts.{title, first_that, module_end, region_of, spot, before_spot, after_spot}
 use Rattle.module_tree.specs.AlgorithmText.{algorithm_of, is_c}
 use Rattle.module_tree.specs.FileUnits.{tokens_in}
 use Rattle.module_tree.specs.FileOffences.{splitting_offences}
@@ -67,8 +68,19 @@ after_is x ds g seen fine gap =
     let s : Sound x = fine_file x ds seen fine in
     append-nil (plain_tokens (stands_seen x g.after.now)) ∙ ap plain_tokens (sym gap.after ∙ ap after_spot seen) ∙ sym (tokens_after x s.fine)
 
+-- the module has an end
+ended_at : (x : Text) (ds : List Stand) → stands_seen x ds ≡ walk x → splitting_offences x ≡ [] → (m : ℕ) × (module_end (walk x) ≡ Some m)
+ended_at x ds seen fine = by (first_that is_tail (walk x)) refl
+  where
+    by : (o : Option Located) → first_that is_tail (walk x) ≡ o → (m : ℕ) × (module_end (walk x) ≡ Some m)
+    by (Some d) k = (d.at, ap (λ (o : Option Located). on_some o (λ d. Some d.at)) k)
+    by None k =
+        let s : Sound x = fine_file x ds seen fine in
+        let f : false ≡ true = ap (λ (o : Option Located). is_some o) (sym k) ∙ s.ends in
+        absurd cc
+
 -- these are the file's parts
-pub parts_made : (x : Text) (ds : List Stand) (g : Gap) (o : Option Algorithm) (a : Algorithm) (p : Parts) (s : Span)
+pub parts_made : (x : Text) (ds : List Stand) (g : Gap) (o : Option Algorithm) (a : Algorithm) (p : Parts) (s : Span) (n : ℕ)
     → stands_seen x ds ≡ walk x
     → splitting_offences x ≡ []
     → IsGap x ds g
@@ -83,9 +95,13 @@ pub parts_made : (x : Text) (ds : List Stand) (g : Gap) (o : Option Algorithm) (
     → p.is_c ≡ is_c (stage_seen a.inside.stage)
     → tokens_seen p.before ≡ plain_tokens (stands_seen x g.before.now) ++ plain_tokens (stands_seen x g.line.now)
     → tokens_seen p.after ≡ plain_tokens (stands_seen x g.after.now) ++ plain_tokens (stands_seen x [])
+    → p.before.end ≡ place_at x s.from
+    → n ≡ unwrap_or (module_end (stands_seen x ds)) (length x)
+    → p.after.end ≡ place_at x n
     → Splits x p
-parts_made x ds g o a p s seen fine gap found some placed text_is named spot_is new algorithm syntax before after =
+parts_made x ds g o a p s n seen fine gap found some placed text_is named spot_is new algorithm syntax before after before_end end_is after_end =
     let f = found_is x (stands_seen x ds) o a found some in
+    let m = ended_at x ds seen fine in
     let is : IsFound x (stands_seen x ds) f.0 a = f.1 in
     record {
       text = text_is;
@@ -98,5 +114,9 @@ parts_made x ds g o a p s seen fine gap found some placed text_is named spot_is 
       ends = is.ends ∙ ap (λ (s : Span). s.to) (sym algorithm);
       is_c = ap is_c is.stage ∙ sym syntax;
       before = before ∙ before_is x ds g seen fine gap;
+      before_end = before_end ∙ ap (λ (s : Span). place_at x s.from) (sym spot_is);
       after = after ∙ after_is x ds g seen fine gap;
+      at_end = m.0;
+      ended = m.1;
+      after_end = after_end ∙ ap (place_at x) (end_is ∙ ap (λ (o : Option ℕ). unwrap_or o (length x)) (ap module_end seen ∙ m.1));
     }

@@ -1,11 +1,10 @@
 -- The segments of a file, one by one.
-use Rattle.std.proofs.Common.{◌≡◌, ℕ, zero, suc, ◌+◌, ◌-◌, ◌<◌, ◌≤◌, Bool, true, false, not, nat_eq, List, [], ◌∷◌, ◌++◌, length, get_or, map, take, drop, Option, Some, None, find, refl, sym, ap, subst, ◌∙◌, arith, append_assoc, append-nil, length-drop}
-use Rattle.std.specs.Prelude.{is_some, if◌then◌else◌, filter, slice_get}
+use Rattle.std.proofs.Common.{◌≡◌, ℕ, zero, suc, ◌+◌, ◌<◌, ◌≤◌, Bool, true, false, not, List, [], ◌∷◌, ◌++◌, length, get_or, take, drop, Option, Some, None, refl, sym, ap, ◌∙◌, arith}
+use Rattle.std.specs.Prelude.{is_some, filter}
 use Rattle.std.specs.Option.{option_map}
-use Rattle.std.specs.List.{flat_map, position_or_len}
-use Rattle.std.proofs.lemmas.List.{drop_all, length-take-le, drop-take}
+use Rattle.std.specs.List.{position_or_len}
+use Rattle.std.proofs.lemmas.List.{drop_all}
 use Rattle.std.proofs.lemmas.List.Elements.{filter-append}
-use Rattle.tla_token.specs.declared.part.Class.TheVariants as class
 use Rattle.tla_token.specs.declared.part.Class.{Class}
 use Rattle.tla_token.specs.declared.rule.Rule.TheVariants.{TwoAlgorithms}
 use Rattle.tla_token.specs.Lexemes.{Kind}
@@ -25,8 +24,8 @@ use Rattle.module_tree.specs.Walk.{Located}
 use Rattle.module_text.specs.StandsSeen.{segment_of, segment_seen, located_seen, stands_seen}
 use Rattle.module_tree.specs.ModuleParts.{kind_in}
 use Rattle.module_tree.specs.FileUnits.{kind_of_segment, token_in, begins_unit}
-use Rattle.module_tree.specs.FileParts.{before_first, up_to_first, after_first, is_newline}
-use Rattle.module_tree.specs.FileOffences.{offences_at, segment_offences, offences_of, rest_of_line, no_unit, is_splitting}
+use Rattle.module_tree.specs.FileParts.{before_first, up_to_first, after_first}
+use Rattle.module_tree.specs.FileOffences.{offences_at, segment_offences, offences_of, is_splitting}
 
 -- ---- the first that is so
 

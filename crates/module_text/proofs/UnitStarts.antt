@@ -1,6 +1,5 @@
 -- Which tokens begin a unit, by their words.
-use Rattle.std.proofs.Common.{◌≡◌, ℕ, Bool, true, false, not, ◌&&◌, ◌||◌, nat_eq, List, [], ◌∷◌, map, drop, Some, refl, sym, ap, subst, ◌∙◌, codes}
-use Rattle.std.specs.Prelude.{if◌then◌else◌}
+use Rattle.std.proofs.Common.{◌≡◌, ℕ, Bool, true, false, not, ◌&&◌, ◌||◌, nat_eq, List, [], ◌∷◌, map, drop, Some, refl, sym, ap, ◌∙◌, codes}
 use Rattle.std.specs.Option.{unwrap_or}
 use Rattle.std.specs.Str.{bytes_eq}
 use Rattle.std.specs.List.{list_all}
@@ -20,10 +19,10 @@ use Rattle.tla_token.proofs.Fronts.{other_byte}
 use Rattle.tla_tree.specs.Tree.{Word}
 use Rattle.tla_tree.specs.Lexical.{TokenView}
 use Rattle.tla_tree.specs.Lexical as tk
-use Rattle.tla_tree.specs.TokenViews.{view, kind_of, sign_kind, word_kind, word_kinds, kind_among}
+use Rattle.tla_tree.specs.TokenViews.{kind_of, sign_kind, word_kind, word_kinds, kind_among}
 use Rattle.module_tree.specs.Beginnings.{is_rule}
 use Rattle.module_tree.specs.ModuleParts.{kind_in}
-use Rattle.module_tree.specs.FileUnits.{unit_words, is_starter, is_bar, begins_unit}
+use Rattle.module_tree.specs.FileUnits.{unit_words, is_starter, is_bar}
 
 among_starts : (ps : List (Word × TokenView)) (w : Word) (k : TokenView) → list_all (λ p. not (is_starter p.1)) ps ≡ true → is_starter (kind_among ps w k) ≡ (not (is_among (map (λ p. p.0) ps) w) && is_starter k)
 among_starts [] w k h = refl

@@ -15,7 +15,7 @@ use Rattle.module_tree.specs.TextFront.{Text}
 use Rattle.module_tree.specs.HeaderAndRegion.{is_header, is_begin, is_end}
 use Rattle.module_tree.specs.Beginnings.{ends_module}
 use Rattle.module_tree.specs.Walk.{Segment, free, header, part, region, mark, inner, tail, bytes, State, at_end_line, opened, in_module, segment_at, is_header_line, is_region, after_segment, Located, walk_from}
-use Rattle.module_text.specs.StandsSeen.{segment_of, before_end, is_string, IsSolid}
+use Rattle.module_text.specs.StandsSeen.{segment_of, before_end, is_string}
 use Rattle.module_text.proofs.QuotedSegments.{segment_quoted}
 use Rattle.module_text.specs.Walking.{shape_of, outline, front_of, end_at, IsKnown, state_of, IsAt, GoesOn}
 use Rattle.module_text.proofs.BarFronts.{module_made}

@@ -1,8 +1,6 @@
 -- The walk of code over an algorithm, seen as that of the definitions.
 use Rattle.std.specs.Prelude.{◌≡◌, ℕ, ◌+◌, ◌-◌, ◌<◌, ◌≤◌, nat_eq, nat_le, nat_lt, Bool, true, false, ◌&&◌, ◌||◌, List, length, drop, slice_index, slice_index_or, is_some, if◌then◌else◌, filter}
 use Rattle.std.specs.List.{list_any, flat_map}
-use Rattle.tla_token.specs.declared.sign.Sign.TheVariants.{OpenCurly, CloseCurly}
-use Rattle.tla_token.specs.Lexemes.{Kind, one}
 use Rattle.tla_token.specs.Tokens.{stretch}
 use Rattle.tla_token.specs.Offences.{Part, part_bytes, Offence, part_offences, least}
 use Rattle.tla_token.specs.Scan.{IsWordless}
@@ -29,14 +27,6 @@ stage_seen code.PastC = past_c
 abbrev pub depth : code_stage.Stage → ℕ
 depth (code.OpenC d) = d
 depth st = 0
-
-abbrev pub is_open_brace : Kind → Bool
-is_open_brace (one OpenCurly) = true
-is_open_brace k = false
-
-abbrev pub is_close_brace : Kind → Bool
-is_close_brace (one CloseCurly) = true
-is_close_brace k = false
 
 -- ---- where the walk is
 

@@ -1,23 +1,14 @@
--- What is read off a file before its algorithm is read: its parts, or the rule of 1 to 10 that counts ("A PlusCal User's Manual", sections 2.1 and 2.2).
+-- The parts that are read off a file before its algorithm is read ("A PlusCal User's Manual", sections 2.1 and 2.2).
 use Rattle.std.specs.Prelude.{◌≡◌, ℕ, not, Some, is_some}
-use Rattle.tla_token.specs.declared.rule.Refusal.{Refusal}
 use Rattle.tla_token.specs.Places.{place_at}
 use Rattle.tla_token.specs.Tokens.{stretch}
-use Rattle.tla_token.specs.Offences.{least}
 use Rattle.tla_token.specs.TokensSeen.{tokens_seen}
 use Rattle.module_text.specs.declared.parts.Parts.{Parts}
 use Rattle.module_tree.specs.TextFront.{Text}
 use Rattle.module_tree.specs.Walk.{walk}
-use Rattle.module_tree.specs.FileParts.{title, region_of, spot, before_spot, after_spot}
+use Rattle.module_tree.specs.FileParts.{title, module_end, region_of, spot, before_spot, after_spot}
 use Rattle.module_tree.specs.AlgorithmText.{AlgorithmText, algorithm_in, is_c}
 use Rattle.module_tree.specs.FileUnits.{tokens_in}
-use Rattle.module_tree.specs.FileOffences.{splitting_offences}
-
--- the file is refused so
-pub record RefusesSplit (x : Text) (refusal : Refusal) : Type 0 where
-  pub at : ℕ
-  pub first : least (splitting_offences x) ≡ Some (refusal.rule, at)
-  pub place : refusal.place ≡ place_at x at
 
 -- these are the file's parts
 pub record Splits (x : Text) (p : Parts) : Type 0 where
@@ -31,4 +22,8 @@ pub record Splits (x : Text) (p : Parts) : Type 0 where
   pub ends : found.rest.to ≡ p.algorithm.to
   pub is_c : is_c found.rest.stage ≡ p.is_c
   pub before : tokens_seen p.before ≡ tokens_in (before_spot (walk x))
+  pub before_end : p.before.end ≡ place_at x p.spot.from
   pub after : tokens_seen p.after ≡ tokens_in (after_spot (walk x))
+  pub at_end : ℕ
+  pub ended : module_end (walk x) ≡ Some at_end
+  pub after_end : p.after.end ≡ place_at x at_end

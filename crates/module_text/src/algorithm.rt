@@ -11,7 +11,8 @@ ghost use Rattle.module_tree.specs.AlgorithmText as pure;
 ghost use Rattle.module_tree.specs.AlgorithmText.{next, next_p, next_c, after_part, algorithm_at, in_token};
 ghost use Rattle.module_tree.specs.Beginnings.{begins_algorithm};
 ghost use Rattle.module_tree.specs.FileOffences.{algorithm_offences, is_splitting};
-ghost use Rattle.module_text.specs.AlgorithmSeen.{stage_seen, depth, is_open_brace, is_close_brace, part_rest, IsInside, Passes, Reaches};
+ghost use Rattle.module_tree.specs.laws.AlgorithmEnd.{is_open_brace, is_close_brace};
+ghost use Rattle.module_text.specs.AlgorithmSeen.{stage_seen, depth, part_rest, IsInside, Passes, Reaches};
 
 use crate::beginning::is_fair;
 use tla_token::fault::{part_fault, sooner};

@@ -13,8 +13,8 @@ ghost use Rattle.module_tree.specs.HeaderAndRegion.{header_title};
 ghost use Rattle.module_tree.specs.FileParts as pure;
 ghost use Rattle.module_tree.specs.FileParts.{holds_algorithm};
 ghost use Rattle.module_tree.specs.AlgorithmText.{algorithm_of};
-ghost use Rattle.module_tree.specs.FileOffences.{algorithm_offences, placements, outside_region, options_in, second_algorithms, is_splitting, splitting_offences};
-ghost use Rattle.module_text.specs.Splitting.{RefusesSplit, Splits};
+ghost use Rattle.module_tree.specs.FileOffences.{algorithm_offences, placements, outside_region, options_in, second_algorithms, is_splitting, splitting_offences, RefusesSplit};
+ghost use Rattle.module_text.specs.Splitting.{Splits};
 ghost use Rattle.module_text.specs.SplitSeen.{plain_token, plain_tokens, after_newline, IsAlgorithm, IsGap};
 
 use crate::algorithm::{Inside, algorithm_at, is_c};
@@ -132,7 +132,7 @@ fn token_of(text: &[u8], stand: Stand) -> Option<Token>
     }
 }
 
-// The tokens among some segments, and then others.
+// The tokens among some segments, and then others, with the place of their end.
 fn tokens_among(
     alloc: Global,
     text: &[u8],
@@ -142,7 +142,8 @@ fn tokens_among(
 ) -> Result<Tokens, AllocError>
     requires stands { All (IsSolid text.now) stands.now }
     requires more { All (IsSolid text.now) more.now }
-    ensures { IfOk result (λ v. tokens_seen v ≡ plain_tokens (stands_seen text.now stands.now) ++ plain_tokens (stands_seen text.now more.now)) }
+    ensures tokens { IfOk result (λ v. tokens_seen v ≡ plain_tokens (stands_seen text.now stands.now) ++ plain_tokens (stands_seen text.now more.now)) }
+    ensures ends { IfOk result (λ v. v.end ≡ end) }
 {
     let mut items = Vec::new(alloc);
     add_tokens(text, stands, &mut items)?;

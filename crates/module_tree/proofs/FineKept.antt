@@ -1,4 +1,4 @@
--- A translation brings no new offence of the whole file: one that is not refused is not refused with it.
+-- A translation brings no new offence of the whole file: one that breaks no rule breaks none with it.
 use Rattle.std.proofs.Common.{◌≡◌, inl, inr, ℕ, Bool, true, false, List, [], ◌∷◌, ◌++◌, Option, Some, None, refl, sym, ap, subst, ◌∙◌}
 use Rattle.std.specs.Prelude.{if◌then◌else◌, is_some}
 use Rattle.std.specs.List.{flat_map}
@@ -7,10 +7,7 @@ use Rattle.tla_token.specs.Tokens as text
 use Rattle.tla_token.specs.Tokens.{block, blank, line, lexeme}
 use Rattle.tla_tree.specs.TokenViews.{view, views}
 use Rattle.tla_tree.specs.FirstStop.{looks}
-use Rattle.tla_token.specs.declared.rule.Refusal.{Refusal}
-use Rattle.tla_token.specs.Offences.{least}
-use Rattle.std.proofs.lemmas.Option.{none-some}
-use Rattle.module_tree.specs.FileOffences.{RefusesFile, algorithm_offences, no_module, no_algorithm, second_algorithms, offences_at, rest_of_line, no_unit, placements, outside_region, options_in}
+use Rattle.module_tree.specs.FileOffences.{algorithm_offences, no_module, no_algorithm, second_algorithms, offences_at, rest_of_line, no_unit, placements, outside_region, options_in}
 use Rattle.module_tree.specs.TextFront.{Text}
 use Rattle.module_tree.specs.Walk.{is_header_line, is_tail, Located, walk, at_start}
 use Rattle.module_tree.specs.FileParts.{first_that, module_end, beginnings, after_comment, region_of, after_spot}
@@ -141,6 +138,3 @@ module _ (x t w : Text) (fine : IsFine x) (inside : IsInside t) (put_there : Wit
 
 pub fine_kept : (x t w : Text) → IsFine x → IsInside t → WithTranslation x t w → IsFine w
 fine_kept x t w fine inside put = all_fine x t w fine inside put
-
-pub not_refused : (x t w : Text) (r : Refusal) → IsFine x → IsInside t → WithTranslation x t w → RefusesFile w r → ⊥
-not_refused x t w r fine inside put refused = none-some (r.rule, refused.at) (ap least (sym (fine_kept x t w fine inside put)) ∙ refused.first)

@@ -32,6 +32,7 @@ mod RowsOutside
 mod RowsUnits
 mod RowsReading
 mod RowsFiles
+mod RowsEnds
 mod RowsWritten
 pub mod WalkLines
 pub mod WalkWhole
@@ -63,3 +64,5 @@ pub mod UnitLists
 pub mod LayoutBare
 pub mod WrittenRegion
 pub mod First
+pub mod Braces
+pub mod AlgorithmEnds

@@ -1,5 +1,5 @@
 -- A file has one place for a translation and one for an algorithm, and is refused in one way.
-use Rattle.std.proofs.Common.{◌≡◌, ℕ, List, ◌++◌, Some, sym, ap, ◌∙◌, take, drop}
+use Rattle.std.proofs.Common.{◌≡◌, ℕ, List, ◌++◌, sym, ap, ◌∙◌, take, drop}
 use Rattle.std.proofs.lemmas.Option.{same_Some}
 use Rattle.tla_token.specs.declared.rule.Rule.{Rule}
 use Rattle.tla_token.specs.declared.rule.Refusal.{Refusal}
@@ -10,7 +10,7 @@ use Rattle.module_tree.specs.FileParts.{Span}
 use Rattle.module_tree.specs.AlgorithmText.{AlgorithmText}
 use Rattle.module_tree.specs.WithTranslation.{line_end_if_new}
 use Rattle.module_tree.specs.Around.{begin_line, end_line, Around, Swapped}
-use Rattle.module_tree.specs.FileOffences.{RefusesFile}
+use Rattle.module_tree.specs.FileOffences.{RefusesSplit}
 
 pub one_around : (x : List ℕ) (m : Module) (w v : List ℕ) → Around x m w → Around x m v → w ≡ v
 one_around x m w v a b =
@@ -22,7 +22,7 @@ one_swapped x u w v a b =
     let same = same_Some a.old b.old (sym a.is_old ∙ b.is_old) in
     a.is ∙ ap (λ (s : AlgorithmText). take s.from x ++ (u ++ drop s.rest.to x)) same ∙ sym b.is
 
-pub one_refusal : (x : List ℕ) (r s : Refusal) → RefusesFile x r → RefusesFile x s → r ≡ s
+pub one_refusal : (x : List ℕ) (r s : Refusal) → RefusesSplit x r → RefusesSplit x s → r ≡ s
 one_refusal x r s a b =
     let same = same_Some (r.rule, a.at) (s.rule, b.at) (sym a.first ∙ b.first) in
     let place : r.place ≡ s.place = a.place ∙ ap (λ (p : Rule × ℕ). place_at x p.1) same ∙ sym b.place in

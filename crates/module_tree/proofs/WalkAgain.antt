@@ -4,7 +4,7 @@ use Rattle.std.specs.Prelude.{if◌then◌else◌, is_some}
 use Rattle.std.specs.List.{list_all}
 use Rattle.std.proofs.lemmas.Bool.{and_parts, and_from}
 use Rattle.std.proofs.Math.Seq.{take-append_seam, drop-append_seam}
-use Rattle.module_tree.specs.TextFront.{Text, on_some}
+use Rattle.module_tree.specs.TextFront.{Text}
 use Rattle.module_tree.specs.Walk.{bytes, is_region, State, after_segment, Located, walk, at_start}
 use Rattle.module_tree.specs.FileParts.{Span, span_of, region_of, spot}
 use Rattle.module_tree.specs.WithTranslation.{begin_line, end_line, WithTranslation}

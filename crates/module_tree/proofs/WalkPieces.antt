@@ -1,10 +1,8 @@
 -- A text of the module that is cut into pieces is walked piece by piece, where no bar is in it and no comment goes to a line's end.
-use Rattle.std.proofs.Common.{◌≡◌, ℕ, ◌+◌, Bool, true, false, not, ◌&&◌, ◌||◌, nat_eq, List, [], ◌∷◌, ◌++◌, length, Option, Some, None, refl, sym, ap, subst, ◌∙◌, codes, append_assoc, find}
+use Rattle.std.proofs.Common.{◌≡◌, ℕ, Bool, true, false, not, ◌&&◌, nat_eq, List, [], ◌∷◌, ◌++◌, Some, None, refl, sym, ap, subst, ◌∙◌, codes, append_assoc}
 use Rattle.std.specs.List.{list_all}
 use Rattle.std.proofs.Math.Seq.{take-append_seam}
 use Rattle.std.proofs.lemmas.Bool.{and_parts, or_parts, not-true, false_from_ne_true}
-use Rattle.tla_token.specs.declared.place.Place.{Place}
-use Rattle.tla_token.specs.Places.{after}
 use Rattle.tla_token.specs.Lexemes.{Kind, name, number, string, one, other, is_word, is_blank, unquoted, IsLexeme}
 use Rattle.tla_token.specs.Tokens.{Token, Piece, blank, block, line, lexeme, bytes_of, text_of, Fits, AllFit, tokens_of}
 use Rattle.tla_token.specs.Offences.{Part, sound}

@@ -115,8 +115,8 @@ is_splitting o = nat_le (rule_number o.0) 10
 abbrev pub splitting_offences : Text → List Offence
 splitting_offences x = filter is_splitting (file_offences x)
 
--- the file is refused so
-pub record RefusesFile (x : Text) (refusal : Refusal) : Type 0 where
+-- the file is refused so, by one of the rules 1 to 10
+pub record RefusesSplit (x : Text) (refusal : Refusal) : Type 0 where
   pub at : ℕ
-  pub first : least (file_offences x) ≡ Some (refusal.rule, at)
+  pub first : least (splitting_offences x) ≡ Some (refusal.rule, at)
   pub place : refusal.place ≡ place_at x at

@@ -7,7 +7,7 @@ use Rattle.tla_token.specs.Signs.{is_among}
 use Rattle.tla_tree.specs.Tree.{Word}
 use Rattle.tla_tree.specs.Lexical.{TokenView, Token}
 use Rattle.tla_tree.specs.Lexical as tk
-use Rattle.tla_tree.specs.TokenViews.{view, views}
+use Rattle.tla_tree.specs.TokenViews.{views}
 use Rattle.module_tree.specs.Beginnings.{is_rule}
 use Rattle.module_tree.specs.ModuleParts.{kind_in}
 use Rattle.module_tree.specs.Walk.{Segment, part, inner, Located}

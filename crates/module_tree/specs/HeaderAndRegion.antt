@@ -1,5 +1,5 @@
 -- The lines of a file that say where its module and its translation begin and end ("A PlusCal User's Manual", sections 2.1 and 2.2).
-use Rattle.std.specs.Prelude.{Bool, ◌&&◌, ◌++◌, Option, Some, None, is_some, codes, if◌then◌else◌}
+use Rattle.std.specs.Prelude.{Bool, ◌++◌, Option, Some, None, is_some, codes, if◌then◌else◌}
 use Rattle.tla_token.specs.Lexemes.{is_word}
 use Rattle.tla_token.specs.Cut.{run}
 use Rattle.module_tree.specs.TextFront.{Text, is_space, past_all, past_word, on_some, past_blanks, past_run, past_name, ends_line}

@@ -1,5 +1,6 @@
 pub mod Walks
 pub mod Kept
+pub mod AlgorithmEnd
 pub mod Outsides
 pub mod Swaps
 pub mod WritableRegion

@@ -11,7 +11,7 @@ ghost use Rattle.tla_value.specs.Outside.{Outside};
 ghost use Rattle.module_tree.specs.Reading.{Reads, ReadsRegion};
 ghost use Rattle.module_tree.specs.Ways.{is_terminating};
 ghost use Rattle.module_tree.specs.Around.{Around, Swapped};
-ghost use Rattle.module_tree.specs.FileOffences.{RefusesFile, offences_of, algorithm_offences};
+ghost use Rattle.module_tree.specs.FileOffences.{RefusesSplit, offences_of, algorithm_offences};
 ghost use Rattle.module_tree.specs.TextFront.{Text};
 ghost use Rattle.module_tree.specs.Walk.{State, Located, region, walk, walk_from, at_start, after_segment};
 ghost use Rattle.module_tree.specs.Beginnings.{opening, begins_algorithm};
@@ -23,7 +23,8 @@ ghost use Rattle.module_tree.specs.laws.WritableRegion.{IsRegion, IsReadBack, Is
 ghost use Rattle.module_tree.specs.Layout.{layout};
 ghost use Rattle.module_tree.specs.laws.PlacelessRegion.{region_placeless};
 ghost use Rattle.module_tree.specs.laws.Outsides.{HasOutside, AllAlike, IsModuleOf};
-ghost use Rattle.module_tree.specs.AlgorithmText.{AlgorithmText, algorithm_in, algorithm_tokens};
+ghost use Rattle.module_tree.specs.AlgorithmText.{past_p, past_c, AlgorithmText, algorithm_in, algorithm_tokens};
+ghost use Rattle.module_tree.specs.laws.AlgorithmEnd.{from_name, EndsWithWords, behind_name, EndsWithBrace};
 ghost use Rattle.tla_token.specs.AlgorithmOffences.{algorithm_offences as token_offences};
 ghost use Rattle.module_tree.specs.laws.Walks.{text_of, is_lined, are_calm, after_all, after_text, IsOpen, IsInside, made, located, Near, Fit, Moved, are_common, Put};
 
@@ -48,9 +49,9 @@ pub fn files_have_one_place()
     ensures swapped { (x u w v : List ℕ) → Swapped x u w → Swapped x u v → w ≡ v }
 {}
 
-/// A file that is refused before its algorithm is read is refused in one way.
+/// A file that is refused before its algorithm is read, by the rules 1 to 10, is refused in one way.
 pub fn a_file_is_refused_in_one_way()
-    ensures { (x : List ℕ) (r s : Refusal) → RefusesFile x r → RefusesFile x s → r ≡ s }
+    ensures { (x : List ℕ) (r s : Refusal) → RefusesSplit x r → RefusesSplit x s → r ≡ s }
 {}
 
 /// The segments of a file make it up.
@@ -95,17 +96,23 @@ pub fn translations_are_found_again()
 
 /// A translation that is put into a file which is not refused is one segment after the file's own, and what is after it is
 /// moved. The file keeps its title, its units and its algorithm, no segment of it breaks a rule, and another translation of
-/// it is one of the file that was read. The algorithm's tokens are moved by bytes and lines, and the file is not refused
-/// either, nor are these tokens where they weren't.
+/// it is one of the file that was read. The algorithm's tokens are moved by bytes and lines; the file breaks no rule
+/// then either, and these tokens none that they didn't break.
 pub fn translations_keep_files()
     ensures place { (x t w : Text) → IsFine x → IsInside t → WithTranslation x t w → IsPut x t w }
     ensures kept { (x t w : Text) → IsFine x → IsInside t → WithTranslation x t w → KeepsFile x t w }
     ensures algorithm { (x t w : Text) (a : AlgorithmText) → IsFine x → IsInside t → WithTranslation x t w → algorithm_in x ≡ Some a → (b : AlgorithmText) × (algorithm_in w ≡ Some b) × SameAlgorithm a b }
     ensures tokens { (x t w : Text) (a b : AlgorithmText) → IsFine x → IsInside t → WithTranslation x t w → algorithm_in x ≡ Some a → algorithm_in w ≡ Some b → AlgorithmMoved x w a b }
     ensures fine { (x t w : Text) → IsFine x → IsInside t → WithTranslation x t w → IsFine w }
-    ensures refused { (x t w : Text) (r : Refusal) → IsFine x → IsInside t → WithTranslation x t w → RefusesFile w r → ⊥ }
     ensures tokens_fine { (x t w : Text) (a b : AlgorithmText) → IsFine x → IsInside t → WithTranslation x t w → algorithm_in x ≡ Some a → algorithm_in w ≡ Some b → token_offences (algorithm_tokens x a) ≡ [] → token_offences (algorithm_tokens w b) ≡ [] }
     ensures again { (x t w v u : Text) → IsFine x → IsInside t → IsInside v → WithTranslation x t w → WithTranslation w v u → WithTranslation x v u }
+{}
+
+/// An algorithm that has an end ends where it first can: in P-syntax with the first `end algorithm` from its name on, in
+/// C-syntax with the brace that closes the first one, which follows its name.
+pub fn algorithms_end_where_they_can()
+    ensures words { (x : Text) (a : AlgorithmText) → algorithm_in x ≡ Some a → a.rest.stage ≡ past_p → EndsWithWords (from_name a) }
+    ensures braces { (x : Text) (a : AlgorithmText) → algorithm_in x ≡ Some a → a.rest.stage ≡ past_c → EndsWithBrace (behind_name a) }
 {}
 
 /// Where no segment of a file and no part of its algorithm breaks a rule, but for numbers that are too big, the algorithm's

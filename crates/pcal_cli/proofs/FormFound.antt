@@ -19,8 +19,8 @@ use Rattle.module_tree.specs.FileUnits.{cut, tokens_in}
 use Rattle.module_tree.specs.AlgorithmText.{AlgorithmText}
 use Rattle.module_tree.specs.AlgorithmText as file
 use Rattle.module_tree.specs.Outside.{identifiers}
-use Rattle.module_tree.specs.FileOffences.{splitting_offences}
-use Rattle.module_text.specs.Splitting.{Splits, RefusesSplit}
+use Rattle.module_tree.specs.FileOffences.{splitting_offences, RefusesSplit}
+use Rattle.module_text.specs.Splitting.{Splits}
 use Rattle.module_tree.specs.WithTranslation.{WithTranslation}
 use Rattle.first_path.specs.Beside.{Beside, beside, declared_by, extended_by}
 use Rattle.first_path.specs.Form.{Parts, suits, algorithm_kinds}

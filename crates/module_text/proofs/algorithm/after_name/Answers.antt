@@ -1,5 +1,5 @@
 use Rattle.std.proofs.Common.{sym, ◌∙◌}
-use Rattle.module_text.proofs.Braces.{titled_open, titled_other}
+use Rattle.module_tree.proofs.Braces.{titled_open, titled_other}
 use Rattle.module_text.proofs.algorithm.after_name.Goals as goal
 
 pub returns-then-opens-clause-is : goal.returns-then-opens-clause-is

@@ -1,4 +1,4 @@
-use Rattle.std.proofs.Common.{ℕ, List, ap, sym, ◌∙◌, None}
+use Rattle.std.proofs.Common.{ap, sym, ◌∙◌, None}
 use Rattle.std.proofs.lemmas.List.{take_rest}
 use Rattle.tla_token.specs.Offences.{least}
 use Rattle.module_tree.specs.AlgorithmText.{Inside}

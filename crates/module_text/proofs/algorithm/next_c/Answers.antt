@@ -1,5 +1,5 @@
 use Rattle.std.proofs.Common.{sym, ◌∙◌}
-use Rattle.module_text.proofs.Braces.{opened_c, other_c, closed_last, closed_more}
+use Rattle.module_tree.proofs.Braces.{opened_c, other_c, closed_last, closed_more}
 use Rattle.module_text.proofs.algorithm.next_c.Goals as goal
 
 pub returns-then-opens-clause-is : goal.returns-then-opens-clause-is

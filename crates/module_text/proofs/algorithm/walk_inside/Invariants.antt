@@ -1,4 +1,4 @@
-use Rattle.std.proofs.Common.{◌≡◌, ◌-◌, length}
+use Rattle.std.proofs.Common.{◌-◌}
 use Rattle.module_text.specs.AlgorithmSeen.{IsInside}
 use Rattle.module_text.proofs.AlgorithmSteps.{Follows}
 use Rattle.module_text.proofs.algorithm.walk_inside.Given as goal

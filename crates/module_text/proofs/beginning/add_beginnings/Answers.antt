@@ -1,4 +1,4 @@
-use Rattle.std.proofs.Common.{◌≡◌, true, false, take, drop, sym, ap, ◌∙◌, ◌+◌, ◌++◌, ◌∷◌, [], ℕ, List, append-nil}
+use Rattle.std.proofs.Common.{◌≡◌, true, false, take, drop, sym, ap, ◌∙◌, ◌+◌, ◌++◌, ℕ, List, append-nil}
 use Rattle.std.proofs.lemmas.List.{take_rest}
 use Rattle.module_tree.specs.Beginnings.{begins_algorithm, all_at}
 use Rattle.module_text.proofs.BeginningSteps.{on_yes, on_no, on_end, all_stretch, added}

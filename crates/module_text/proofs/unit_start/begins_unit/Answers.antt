@@ -1,6 +1,6 @@
 use Rattle.std.proofs.Common.{sym, ◌∙◌}
 use Rattle.tla_token.proofs.Fronts.{other_byte}
-use Rattle.module_text.proofs.UnitStarts.{name_first, name_away, sign_bar, sign_first, sign_away}
+use Rattle.module_text.proofs.UnitStarts.{name_first, name_away, sign_bar, sign_first}
 use Rattle.module_text.proofs.unit_start.begins_unit.Goals as goal
 
 pub returns-then-place-eq1 : goal.returns-then-place-eq1

@@ -2,7 +2,7 @@
 use Rattle.module_tree.proofs.WalkSame.{is_put, keeps_file, put_again}
 use Rattle.module_tree.proofs.AlgorithmSame.{algorithm_kept}
 use Rattle.module_tree.proofs.AlgorithmMoved.{tokens_kept, token_offences_kept}
-use Rattle.module_tree.proofs.FineKept.{fine_kept, not_refused}
+use Rattle.module_tree.proofs.FineKept.{fine_kept}
 use Rattle.module_tree.proofs.laws.translations_keep_files.Goals as goal
 
 pub returns-clause-place : goal.returns-clause-place
@@ -22,9 +22,6 @@ returns-clause-fine c = fine_kept
 
 pub returns-clause-tokens : goal.returns-clause-tokens
 returns-clause-tokens c = tokens_kept
-
-pub returns-clause-refused : goal.returns-clause-refused
-returns-clause-refused c = not_refused
 
 pub returns-clause-tokens_fine : goal.returns-clause-tokens_fine
 returns-clause-tokens_fine c = token_offences_kept

@@ -1,11 +1,11 @@
 -- After a brace, or another token, of an algorithm in C-syntax.
-use Rattle.std.proofs.Common.{◌≡◌, ℕ, ◌+◌, ◌-◌, ◌<◌, ◌≤◌, Bool, true, false, nat_le, Some, refl, sym, ap, ◌∙◌}
+use Rattle.std.proofs.Common.{◌≡◌, ℕ, ◌+◌, ◌-◌, ◌<◌, ◌≤◌, Bool, true, false, nat_le, refl, sym, ap, ◌∙◌}
 use Rattle.std.specs.Prelude.{if◌then◌else◌}
 use Rattle.std.proofs.lemmas.Bool.{le-leb, lt-leb}
 use Rattle.tla_token.specs.declared.sign.Sign.TheVariants.{OpenCurly, CloseCurly}
 use Rattle.tla_token.specs.Lexemes.{Kind, one}
-use Rattle.module_tree.specs.AlgorithmText.{Stage, titled, open_c, past_c, next, next_p, next_c}
-use Rattle.module_text.specs.AlgorithmSeen.{is_open_brace, is_close_brace}
+use Rattle.module_tree.specs.AlgorithmText.{titled, open_c, past_c, next, next_p, next_c}
+use Rattle.module_tree.specs.laws.AlgorithmEnd.{is_open_brace, is_close_brace}
 
 pub opened_c : (d : ℕ) (k : Kind) → true ≡ is_open_brace k → open_c (d + 1) ≡ next_c d k
 opened_c d (one OpenCurly) e = refl
