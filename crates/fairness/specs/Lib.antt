@@ -3,3 +3,4 @@ pub mod ReachedProcedures
 pub mod Demands
 pub mod Obligations
 pub mod FairnessLines
+pub mod laws
