@@ -15,6 +15,7 @@ pub mod ValueDecided
 mod ValueRows
 mod RowsSeen
 mod RowsDefs
+mod RowsStandard
 pub mod StateLaws
 pub mod DefsGrown
 pub mod Facts
