@@ -1,3 +1,4 @@
+-- What Spec demands of fair steps: obligations, and a formula for each.
 pub mod MarkedLabels
 pub mod ReachedProcedures
 pub mod Demands

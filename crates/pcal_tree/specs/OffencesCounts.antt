@@ -1,5 +1,5 @@
 -- More variables, processes, procedures or labels than the limits allow, chains of macros that are too long, and definitions that nest too deep with
--- the bodies of others in place of their names.
+-- the bodies of others in place of their names ("A PlusCal User's Manual", sections 3.3 to 3.7, processes, procedures, macros, definitions and labels).
 use Rattle.std.specs.Prelude.{ℕ, ◌+◌, max, nat_lt, List, [], ◌∷◌, ◌++◌, drop, map, cond, bytes_eq}
 use Rattle.std.specs.List.{flat_map}
 use Rattle.tla_token.specs.declared.rule.Rule.TheVariants.{TooMany}

@@ -1,3 +1,4 @@
+-- That the laws of values and of meaning hold, and worked rows.
 pub mod Outcomes
 pub mod OrderSets
 pub mod OrderFuns
