@@ -1,7 +1,6 @@
 -- The tests on names and values.
 use Rattle.std.proofs.Common.{◌≡◌, true, bytes_eq, subst}
 use Rattle.std.proofs.lemmas.Slice.Eq.{bytes_eq-Decides}
-use Rattle.tla_token.proofs.Spelled.{same_bytes}
 use Rattle.tla_tree.specs.Tree.{Word}
 use Rattle.tla_value.specs.Value.{Value}
 use Rattle.tla_value.specs.Order.{same}

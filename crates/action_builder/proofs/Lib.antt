@@ -1,3 +1,4 @@
+-- That an action is true exactly of its step, and worked rows.
 pub mod Effects
 pub mod Actions
 pub mod Names

@@ -1,8 +1,10 @@
 -- The variables that statements assign ("A PlusCal User's Manual", section 3.2.1).
 use Rattle.std.specs.Prelude.{List, [], ◌∷◌, ◌++◌, Bool, cond, ◌||◌, bytes_eq}
+use Rattle.std.specs.Option.{unwrap_or}
 use Rattle.tla_token.specs.Signs.{is_among}
-use Rattle.tla_tree.specs.Tree.{Word, Form, name, Tree, node, Trees, no_trees, tree}
+use Rattle.tla_tree.specs.Tree.{Word, Tree, Trees}
 use Rattle.pcal_tree.specs.Algorithm.{Assignments, no_assignments, assignment, Statement, assign, branch, either, with, Statements, done, then, mark, Branches, no_branches, or}
+use Rattle.pcal_tree.specs.Paths.{root, root_of_first}
 
 abbrev pub Names : Type 0
 Names = Word → Bool
@@ -10,18 +12,12 @@ Names = Word → Bool
 abbrev pub more : Names → List Word → Names
 more A xs x = A x || is_among xs x
 
-abbrev head_in : Form → Word → Word
-head_in (name x) w = x
-head_in _ w = w
-
 -- the variable of a left side
-abbrev mutual
-  pub head_of : Tree → Word
-  head_of (node m at ts) = head_in m (head_first ts)
+abbrev pub head_of : Tree → Word
+head_of l = unwrap_or (root l) []
 
-  pub head_first : Trees → Word
-  head_first no_trees = []
-  head_first (tree f us) = head_of f
+abbrev pub head_first : Trees → Word
+head_first ts = unwrap_or (root_of_first ts) []
 
 abbrev pub without : Word → List Word → List Word
 without x [] = []

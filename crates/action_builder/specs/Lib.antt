@@ -1,3 +1,4 @@
+-- The action that is written for the step of a label, and Init and Next.
 pub mod Assigned
 pub mod Settled
 pub mod Jumps

@@ -1,1 +1,2 @@
+-- Worked rows of words.
 mod Rows

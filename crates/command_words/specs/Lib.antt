@@ -1,2 +1,3 @@
+-- The words of the commands, and what they mean.
 pub mod Table
 pub mod Commands

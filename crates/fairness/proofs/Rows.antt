@@ -1,26 +1,29 @@
 -- What Spec demands of small algorithms, by computation.
-use Rattle.std.proofs.Common.{◌≡◌, Bool, List, [], ◌∷◌, true, false, codes, refl, map, Some, None}
-use Rattle.tla_tree.specs.Tree.{Word, Name, no_trees}
+use Rattle.std.proofs.Common.{◌≡◌, inl, inr, Bool, List, [], ◌∷◌, true, false, codes, refl, ap, map, Option, Some, None}
+use Rattle.tla_token.specs.Signs.{is_among}
+use Rattle.tla_tree.specs.Tree.{Word, Name, number, Tree, node, no_trees}
 use Rattle.tla_value.specs.Stops.{plain}
 use Rattle.tla_value.specs.Definitions.{no_state}
-use Rattle.module_tree.specs.Module.{call_with}
+use Rattle.module_tree.specs.Module.{Fairness as Line, call, call_with}
 use Rattle.module_tree.specs.Formulas.{self, named, quoted, at, is_in, set}
+use Rattle.pcal_tree.specs.declared.mark.Mark.{Mark}
 use Rattle.pcal_tree.specs.declared.mark.Mark.TheVariants as marked
 use Rattle.pcal_tree.specs.declared.mark.Fairness.{Fairness}
 use Rattle.pcal_tree.specs.declared.mark.Fairness.TheVariants.{Weak, Strong}
-use Rattle.pcal_tree.specs.Algorithm.{nowhere, skip, call, return, Statement, Statements, done, then, mark, Procedure, Process, Main, alone, processes, Algorithm, Naming}
+use Rattle.pcal_tree.specs.Algorithm.{nowhere, skip, call as calls_procedure, return, Statement, Statements, done, then, mark, Procedure, Process, Main, alone, processes, Algorithm, Naming}
 use Rattle.pcal_tree.specs.Placeless.{no_span}
 use Rattle.pcal_tree.specs.Program.{Program}
 use Rattle.pcal_tree.specs.Takers.{taken_process}
 use Rattle.fairness.specs.ReachedProcedures.{reached}
 use Rattle.fairness.specs.Obligations.{obligations}
 use Rattle.fairness.specs.FairnessLines.{fairness_lines}
+use Rattle.fairness.specs.laws.LinesOfObligations.{SharedOut}
 
 abbrev word : Word → Name
 word w = record { word = w; place = nowhere }
 
 abbrev calls : Word → Statement
-calls p = call (word p) no_trees
+calls p = calls_procedure (word p) no_trees
 
 abbrev just : Statement → Statements
 just st = then no_span st done
@@ -87,6 +90,70 @@ strong_lines : fairness_lines (program strong)
     ∷ record { over = Some (self, named (codes "S")); strong = true; guard = Some (is_in false (at (named (codes "pc")) (named self)) (set (quoted (codes "R") ∷ []))); action = call_with (codes "T") (named self) }
     ∷ record { over = Some (self, named (codes "S")); strong = true; guard = Some (is_in false (at (named (codes "pc")) (named self)) (set (quoted (codes "R") ∷ []))); action = call_with (codes "T") (named self) } ∷ []
 strong_lines = refl
+
+-- ---- one process with the labels N and E: process P = 7 begin N: skip; E: skip; end process
+
+abbrev seven : Tree
+seven = node (number 7) nowhere no_trees
+
+abbrev of_two : Fairness → Mark → Algorithm
+of_two f k = record {
+  name = word (codes "G");
+  fair = false;
+  globals = [];
+  definitions = [];
+  macros = [];
+  procedures = [];
+  main = processes (record {
+    name = word (codes "P");
+    fairness = f;
+    several = false;
+    identity = seven;
+    variables = [];
+    body = mark (word (codes "N")) k (then no_span skip (mark (word (codes "E")) marked.Plain (just skip)));
+  } ∷ []);
+}
+
+abbrev lines_of : Fairness → Mark → List Line
+lines_of f k = fairness_lines (program (of_two f k))
+
+abbrev not_at_n : Option Tree
+not_at_n = Some (is_in false (at (named (codes "pc")) seven) (set (quoted (codes "N") ∷ [])))
+
+-- fair process, N: WF_vars(T)
+plain_label : lines_of Weak marked.Plain ≡ record { over = None; strong = false; guard = None; action = call (codes "T") } ∷ []
+plain_label = refl
+
+-- fair process, N:- WF_vars((pc[7] \notin {"N"}) /\ T)
+left_out_label : lines_of Weak marked.LeftOut ≡ record { over = None; strong = false; guard = not_at_n; action = call (codes "T") } ∷ []
+left_out_label = refl
+
+-- fair+ process, N: and N:- SF_vars of the same
+strong_plain : lines_of Strong marked.Plain ≡ record { over = None; strong = true; guard = None; action = call (codes "T") } ∷ []
+strong_plain = refl
+
+strong_left_out : lines_of Strong marked.LeftOut ≡ record { over = None; strong = true; guard = not_at_n; action = call (codes "T") } ∷ []
+strong_left_out = refl
+
+-- fair process, N:+ a formula for N besides; in a fair+ process it asks for nothing more
+weak_strong_label : lines_of Weak marked.Strong
+    ≡ record { over = None; strong = false; guard = None; action = call (codes "T") }
+    ∷ record { over = None; strong = true; guard = None; action = call (codes "N") } ∷ []
+weak_strong_label = refl
+
+strong_strong_label : lines_of Strong marked.Strong ≡ lines_of Strong marked.Plain
+strong_strong_label = refl
+
+-- of the labels N and E the obligation has E alone, so the test leaves N out; a formula without a test is not of that obligation
+left_out_shared : SharedOut (codes "N" ∷ codes "E" ∷ []) (codes "E" ∷ []) (codes "N" ∷ [])
+left_out_shared = inr ([], refl, inl ([], refl, (refl, refl)))
+
+test_needed : SharedOut (codes "N" ∷ codes "E" ∷ []) (codes "E" ∷ []) [] → ⊥
+test_needed (inl (more, e, h)) = never (ap (λ ls. is_among ls (codes "N")) e)
+  where
+    never : false ≡ true → ⊥
+    never q = cc
+test_needed (inr (more, e, h)) = cc
 
 -- marks have no effect in a uniprocess algorithm
 no_effect : obligations (program (with_main false (alone (mark (word (codes "A")) marked.Strong (just skip))))) ≡ []

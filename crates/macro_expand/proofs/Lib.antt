@@ -1,3 +1,4 @@
+-- That counting once for each macro gives these sizes, and worked rows.
 pub mod SumLaws
 pub mod TreeSums
 pub mod MeasureLaws

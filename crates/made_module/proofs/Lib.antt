@@ -1,1 +1,2 @@
+-- Worked rows of made modules.
 mod Rows

@@ -1,1 +1,2 @@
+-- The module that `make` writes.
 pub mod Big

@@ -6,8 +6,8 @@ use Rattle.tla_token.specs.Signs.{is_among}
 use Rattle.tla_tree.specs.Tree.{Word}
 use Rattle.pcal_tree.specs.Algorithm.{Process, Procedure, Main, alone, processes, Algorithm, Routine, numbered, first_procedure, first_process, procedure_routine, process_routine, procedure_routines, main_routines}
 use Rattle.pcal_tree.specs.Offences.{offence_if}
-use Rattle.pcal_tree.specs.OffencesLabels.{Label, labels, label_words}
-use Rattle.pcal_tree.specs.OffencesReserved.{labels_of_main, all_labels, reserved_name, reserved_label, reserved_outside, declared_names, reserved_declared}
+use Rattle.pcal_tree.specs.OffencesLabels.{Label, labels, label_words, labels_of_main, all_labels}
+use Rattle.pcal_tree.specs.OffencesReserved.{reserved_name, reserved_label, reserved_outside, declared_names, reserved_declared}
 use Rattle.tla_value.specs.Outside.{Outside}
 use Rattle.pcal_tree.specs.laws.Apart.{NoEndLabels}
 use Rattle.pcal_tree.proofs.OneStand.{every_both}

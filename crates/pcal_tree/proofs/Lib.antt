@@ -1,3 +1,4 @@
+-- That the laws of algorithms hold, and worked rows.
 mod Sample
 mod RowsRun
 mod RowsStep

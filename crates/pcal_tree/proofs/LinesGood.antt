@@ -17,7 +17,7 @@ use Rattle.pcal_tree.specs.GrammarC as csyntax
 use Rattle.pcal_tree.specs.Grammar as g
 use Rattle.pcal_tree.specs.OpenForms.{opens}
 use Rattle.pcal_tree.specs.OffencesSyntax.{algorithms}
-use Rattle.pcal_tree.specs.laws.Lines.{separator_lineless, initial_lineless, variables_lineless, section_lineless, names_lineless, macro_parameters_lineless, parameters_lineless, procedure_parameters_lineless, heading_lineless, definitions_lineless, colon_lineless, labels_lineless, binds_lineless, arguments_lineless, assignments_lineless, simple_lineless, p_statement_lineless, p_else_lineless, p_branches_lineless, p_sequence_lineless, c_statement_lineless, c_labelled_lineless, c_else_lineless, c_branches_lineless, c_sequence_lineless, body_lineless, macro_lineless, procedure_lineless, fair_lineless, identity_lineless, process_lineless, head_lineless, define_lineless, main_lineless, around_lineless, text_lineless}
+use Rattle.pcal_tree.specs.laws.Lines.{initial_lineless, variables_lineless, section_lineless, parameters_lineless, procedure_parameters_lineless, definitions_lineless, binds_lineless, arguments_lineless, assignments_lineless, simple_lineless, p_statement_lineless, p_else_lineless, p_branches_lineless, p_sequence_lineless, c_statement_lineless, c_labelled_lineless, c_else_lineless, c_branches_lineless, c_sequence_lineless, body_lineless, macro_lineless, procedure_lineless, identity_lineless, process_lineless, define_lineless, main_lineless, around_lineless, text_lineless}
 use Rattle.pcal_tree.proofs.LinesPut.{put_text}
 
 left_side_same : (l : Phrase) → part.is_left_side (lineless l) ≡ part.is_left_side l

@@ -8,7 +8,7 @@ use Rattle.tla_tree.specs.Lexical.{Token, sign_of}
 use Rattle.tla_tree.specs.Lexical as tk
 use Rattle.tla_tree.specs.Spelling.{spell, spell_all}
 use Rattle.tla_tree.specs.FirstStop.{looks}
-use Rattle.tla_tree.specs.laws.Columns.{lineless_place, lineless, lineless_all}
+use Rattle.tla_tree.specs.laws.Columns.{lineless_place}
 use Rattle.tla_tree.proofs.ColumnsPut.{Put, one_token, put, put_all}
 use Rattle.pcal_tree.specs.GrammarParts as part
 use Rattle.pcal_tree.specs.GrammarP as psyntax

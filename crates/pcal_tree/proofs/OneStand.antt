@@ -9,7 +9,6 @@ use Rattle.tla_value.specs.declared.fault.FaultKind.TheVariants.{SameIdentifier}
 use Rattle.tla_value.specs.Value.{Value, Values, no_values, and, Outcome, fault, over, set, text, ◌>>=◌}
 use Rattle.tla_value.specs.Order.{order, set_from}
 use Rattle.pcal_tree.specs.Algorithm.{Process, Main, alone, processes, Algorithm, Routine, numbered, first_procedure, first_process, procedure_routine, process_routine, alone_routine, procedure_routines, main_routines, routines}
-use Rattle.pcal_tree.specs.Run.{unlabelled}
 use Rattle.pcal_tree.specs.Scope.{State}
 use Rattle.pcal_tree.specs.StepStart.{at_label}
 use Rattle.pcal_tree.specs.Program.{Program, Actor}

@@ -1,5 +1,5 @@
 -- Where a script's step leads, the step by its choices is replied to with the state that it leads to: no two processes share an identifier.
-use Rattle.std.proofs.Common.{◌≡◌, ◌⊎◌, ℕ, List, [], ◌∷◌, ◌++◌, Bool, true, false, cond, Option, Some, None, Ok, Err, refl, sym, ap, subst, ◌∙◌, inl, inr, true≢false}
+use Rattle.std.proofs.Common.{◌≡◌, ◌⊎◌, List, [], ◌∷◌, ◌++◌, Bool, true, false, cond, Option, Some, None, Ok, Err, refl, sym, ap, subst, ◌∙◌, inl, inr, true≢false}
 use Rattle.std.specs.Ordering.{is_lt}
 use Rattle.tla_tree.specs.Tree.{Word}
 use Rattle.tla_value.specs.Value.{Value, fault, Outcome, set, ◌>>=◌}
@@ -8,15 +8,13 @@ use Rattle.tla_value.specs.OrderLaws.{same_self}
 use Rattle.tla_value.proofs.Outcomes.{ok_is}
 use Rattle.tla_token.specs.declared.place.Place.{Place}
 use Rattle.tla_value.specs.declared.fault.FaultKind.TheVariants.{SameIdentifier}
-use Rattle.pcal_tree.specs.Algorithm.{Process, Main, alone, processes, first_process, alone_routine}
+use Rattle.pcal_tree.specs.Algorithm.{Main, alone, processes, first_process, alone_routine}
 use Rattle.pcal_tree.specs.Scope.{State}
-use Rattle.pcal_tree.specs.Choices.{Walk, went, walk}
 use Rattle.pcal_tree.specs.Calls.{label_name, label_value}
 use Rattle.pcal_tree.specs.Program.{Program, Actor}
 use Rattle.pcal_tree.specs.Variables.{vars, Agree}
-use Rattle.pcal_tree.specs.Processes.{actors, actors_in, all_actors, apart, united, last_place, sorted, placed, identifier, identifiers, has_identifier, OneOf, IsActor}
-use Rattle.pcal_tree.specs.Step.{pc_of, Stand, StandsAt, routines_of, course_of}
-use Rattle.pcal_tree.specs.FirstTrouble.{stand_named}
+use Rattle.pcal_tree.specs.Processes.{actors_in, all_actors, apart, united, last_place, sorted, placed, identifier, identifiers, has_identifier, OneOf, IsActor}
+use Rattle.pcal_tree.specs.Step.{Stand, routines_of}
 use Rattle.pcal_tree.specs.Script.{Turn, StepBy}
 use Rattle.pcal_tree.specs.StepAnswers.{reached, replied, label_place, step_from, step_at, is_self, with_self, step_of, step_in, stepped}
 use Rattle.pcal_tree.specs.laws.Steps.{StandsOnce}

@@ -3,19 +3,18 @@ use Rattle.std.proofs.Common.{◌≡◌, ℕ, List, [], ◌∷◌, Bool, true, f
 use Rattle.tla_token.specs.declared.place.Place.{Place}
 use Rattle.tla_tree.specs.Tree.{Word}
 use Rattle.tla_value.specs.Value.{Value, Outcome}
-use Rattle.tla_value.specs.Order.{same}
 use Rattle.tla_value.specs.OrderLaws.{same_is}
 use Rattle.pcal_tree.specs.Scope.{State}
 use Rattle.pcal_tree.specs.Choices.{Walk, went, failed, blocked, wanting, walk}
 use Rattle.pcal_tree.specs.Calls.{label_name}
 use Rattle.pcal_tree.specs.Program.{Program, Actor}
 use Rattle.pcal_tree.specs.Variables.{vars, Agree}
-use Rattle.pcal_tree.specs.Processes.{actors, OneOf, IsActor}
-use Rattle.pcal_tree.specs.Step.{pc_of, Stand, StandsAt, routines_of, course_of}
+use Rattle.pcal_tree.specs.Processes.{actors, OneOf}
+use Rattle.pcal_tree.specs.Step.{pc_of, Stand, routines_of, course_of}
 use Rattle.pcal_tree.specs.FirstTrouble.{stand_named}
 use Rattle.pcal_tree.specs.InitialChoice.{started}
 use Rattle.pcal_tree.specs.Script.{Turn, Reaches, StepBy}
-use Rattle.pcal_tree.specs.StepAnswers.{Reply, reached, replied, label_place, step_from, step_at, is_self, with_self, step_of, step_in, stepped, start_by}
+use Rattle.pcal_tree.specs.StepAnswers.{reached, replied, label_place, step_from, step_at, is_self, with_self, step_of, step_in, stepped, start_by}
 use Rattle.pcal_tree.proofs.TroubleLaws.{found_stands}
 
 given : {X : Type 0} (x y : X) → reached x ≡ reached y → x ≡ y

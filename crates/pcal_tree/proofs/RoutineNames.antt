@@ -1,11 +1,11 @@
 -- Written labels of different labels differ: each label of a routine is wanted, and routines have different numbers.
-use Rattle.std.proofs.Common.{◌≡◌, ℕ, List, [], ◌∷◌, ◌++◌, Bool, true, false, ◌&&◌, nat_eq, cond, bytes_eq, map, refl, sym, ◌∙◌, ap, subst, inl, inr, ◌⊎◌}
+use Rattle.std.proofs.Common.{◌≡◌, ℕ, List, [], ◌∷◌, ◌++◌, Bool, true, false, ◌&&◌, nat_eq, cond, bytes_eq, refl, sym, ◌∙◌, ap, subst, inl, inr, ◌⊎◌}
 use Rattle.std.specs.List.{flat_map, AllByRecursion}
 use Rattle.std.proofs.lemmas.Slice.Eq.{bytes_eq-Decides}
 use Rattle.std.proofs.lemmas.Bool.{and_parts, and_from, eqb-true, eq-eqb}
 use Rattle.tla_tree.specs.Tree.{Word}
-use Rattle.pcal_tree.specs.Algorithm.{Statement, branch, either, with, while, Statements, done, then, mark, Branches, no_branches, or, Main, alone, processes, Algorithm, Routine, locals, procedure_routines, main_routines, routines}
-use Rattle.pcal_tree.specs.OffencesLabels.{labels, labels_of_one, labels_of_some, label_words}
+use Rattle.pcal_tree.specs.Algorithm.{Main, alone, processes, Algorithm, Routine, locals, procedure_routines, main_routines, routines}
+use Rattle.pcal_tree.specs.OffencesLabels.{label_words}
 use Rattle.pcal_tree.specs.Names.{Role, label, variable, title, Want, wants, wanted_within, wanted_by, wanted_by_main, wanted, Given, give, first_free, same_role, is_for, written_for}
 use Rattle.pcal_tree.specs.laws.Apart.{Apart}
 use Rattle.pcal_tree.proofs.TroubleLaws.{one_left, one_right}

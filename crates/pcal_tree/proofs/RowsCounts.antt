@@ -1,9 +1,8 @@
 -- Worked examples of counts and of forms that are open, by computation.
-use Rattle.std.specs.Prelude.{ℕ, zero, suc, ◌+◌, List, [], ◌∷◌, ◌++◌, length, map, get_or, true, false, Option, Some, None, codes}
+use Rattle.std.specs.Prelude.{ℕ, zero, suc, List, [], ◌∷◌, length, get_or, true, false, None, codes}
 use Rattle.std.proofs.Common.{◌≡◌, refl}
 use Rattle.tla_token.specs.declared.place.Place.{Place}
 use Rattle.tla_token.specs.declared.rule.Rule.TheVariants.{TooMany}
-use Rattle.tla_token.specs.Limits.{most_variables}
 use Rattle.tla_tree.specs.declared.op.Op.TheVariants as op
 use Rattle.tla_tree.specs.Tree.{Word, Tree, node, strict, operator, name, no_trees, tree}
 use Rattle.tla_tree.specs.Spelling.{Phrase}
@@ -16,7 +15,7 @@ use Rattle.pcal_tree.specs.GrammarC as c
 use Rattle.pcal_tree.specs.Offences.{offence}
 use Rattle.pcal_tree.specs.OffencesNames.{names_of}
 use Rattle.pcal_tree.specs.OpenForms.{opens, simple_opens, p_statement, c_statement}
-use Rattle.pcal_tree.specs.OffencesCounts.{variable_names, first_past, long_chains, deep_definitions, count_offences}
+use Rattle.pcal_tree.specs.OffencesCounts.{first_past, deep_definitions, count_offences}
 use Rattle.pcal_tree.proofs.RowsPrinted.{in_p_text, in_c_text}
 use Rattle.pcal_tree.specs.Grammar.{spell}
 

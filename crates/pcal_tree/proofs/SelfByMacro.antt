@@ -8,7 +8,8 @@ use Rattle.tla_token.specs.Signs.{is_among}
 use Rattle.tla_tree.specs.Tree.{Word}
 use Rattle.pcal_tree.specs.Algorithm.{Name, Statements, Macro, Procedure, Main, alone, processes, Algorithm}
 use Rattle.pcal_tree.specs.Offences.{first}
-use Rattle.pcal_tree.specs.OffencesSelf.{self_offence, selves, used_by_starts, called_in, without, reached, used_in_macros, used_by_procedure, used_outside, used_at_the_top, self_offences}
+use Rattle.pcal_tree.specs.OffencesCounts.{calls_of}
+use Rattle.pcal_tree.specs.OffencesSelf.{self_offence, selves, used_by_starts, without, reached, used_in_macros, used_by_procedure, used_outside, used_at_the_top, self_offences}
 use Rattle.pcal_tree.specs.Spots.{used_in_body}
 use Rattle.pcal_tree.specs.laws.MacroSelves.{used_through, used_by_macro, used_through_procedure, used_outside_by_calls, self_offences_by_calls}
 use Rattle.pcal_tree.proofs.FirstLaws.{same_offences, same_first}
@@ -83,41 +84,41 @@ reached_same (d ∷ older) ms f = by (is_among ms d.name.word) refl (λ ns. reac
     C = used_by_macro older
 
     by : (b : Bool) → is_among ms d.name.word ≡ b → ((ns : List Word) → list_any f (used_in_macros (reached ns older)) ≡ Leads f C ns)
-        → list_any f (used_in_macros (cond b (d ∷ reached (called_in d.body ++ others) older) (reached ms older))) ≡ ((b && list_any f inner) || Leads f C others)
+        → list_any f (used_in_macros (cond b (d ∷ reached (calls_of d.body ++ others) older) (reached ms older))) ≡ ((b && list_any f inner) || Leads f C others)
     by true e rest =
-        list_any-append f own (used_in_macros (reached (called_in d.body ++ others) older))
-        ∙ ap (λ (b : Bool). list_any f own || b) (rest (called_in d.body ++ others) ∙ list_any-append (λ m. list_any f (C m)) (called_in d.body) others)
-        ∙ sym (or_both (list_any f own) (Leads f C (called_in d.body)) (Leads f C others))
-        ∙ ap (λ (b : Bool). (list_any f own || b) || Leads f C others) (sym (any_flat f C (called_in d.body)))
-        ∙ ap (λ (b : Bool). b || Leads f C others) (sym (list_any-append f own (flat_map C (called_in d.body))))
+        list_any-append f own (used_in_macros (reached (calls_of d.body ++ others) older))
+        ∙ ap (λ (b : Bool). list_any f own || b) (rest (calls_of d.body ++ others) ∙ list_any-append (λ m. list_any f (C m)) (calls_of d.body) others)
+        ∙ sym (or_both (list_any f own) (Leads f C (calls_of d.body)) (Leads f C others))
+        ∙ ap (λ (b : Bool). (list_any f own || b) || Leads f C others) (sym (any_flat f C (calls_of d.body)))
+        ∙ ap (λ (b : Bool). b || Leads f C others) (sym (list_any-append f own (flat_map C (calls_of d.body))))
     by false e rest = rest ms ∙ ap (Leads f C) (sym (absent d.name.word ms e))
 
 -- ---- algorithms
 
-through_body : (C : Word → List Name) (b : Statements) (f : Name → Bool) → list_any f (used_through C b) ≡ (list_any f (used_in_body b) || Leads f C (called_in b))
-through_body C b f = list_any-append f (used_in_body b) (flat_map C (called_in b)) ∙ ap (λ (c : Bool). list_any f (used_in_body b) || c) (any_flat f C (called_in b))
+through_body : (C : Word → List Name) (b : Statements) (f : Name → Bool) → list_any f (used_through C b) ≡ (list_any f (used_in_body b) || Leads f C (calls_of b))
+through_body C b f = list_any-append f (used_in_body b) (flat_map C (calls_of b)) ∙ ap (λ (c : Bool). list_any f (used_in_body b) || c) (any_flat f C (calls_of b))
 
-abbrev calls_of : List Procedure → List Word
-calls_of ps = flat_map (λ p. called_in p.body) ps
+abbrev procedure_calls : List Procedure → List Word
+procedure_calls ps = flat_map (λ p. calls_of p.body) ps
 
 through_procedures : (C : Word → List Name) (ps : List Procedure) (f : Name → Bool)
-    → list_any f (flat_map (used_through_procedure C) ps) ≡ (list_any f (flat_map used_by_procedure ps) || Leads f C (calls_of ps))
+    → list_any f (flat_map (used_through_procedure C) ps) ≡ (list_any f (flat_map used_by_procedure ps) || Leads f C (procedure_calls ps))
 through_procedures C [] f = refl
 through_procedures C (p ∷ ps) f =
     list_any-append f (used_through_procedure C p) (flat_map (used_through_procedure C) ps)
     ∙ (λ i. one i || through_procedures C ps f i)
-    ∙ or_mixed (list_any f (used_by_procedure p)) (Leads f C (called_in p.body)) (list_any f (flat_map used_by_procedure ps)) (Leads f C (calls_of ps))
-    ∙ sym (λ i. list_any-append f (used_by_procedure p) (flat_map used_by_procedure ps) i || list_any-append (λ m. list_any f (C m)) (called_in p.body) (calls_of ps) i)
+    ∙ or_mixed (list_any f (used_by_procedure p)) (Leads f C (calls_of p.body)) (list_any f (flat_map used_by_procedure ps)) (Leads f C (procedure_calls ps))
+    ∙ sym (λ i. list_any-append f (used_by_procedure p) (flat_map used_by_procedure ps) i || list_any-append (λ m. list_any f (C m)) (calls_of p.body) (procedure_calls ps) i)
   where
     starts : List Name
     starts = used_by_starts (p.params ++ p.variables)
 
-    one : list_any f (used_through_procedure C p) ≡ (list_any f (used_by_procedure p) || Leads f C (called_in p.body))
+    one : list_any f (used_through_procedure C p) ≡ (list_any f (used_by_procedure p) || Leads f C (calls_of p.body))
     one =
         list_any-append f starts (used_through C p.body)
         ∙ ap (λ (b : Bool). list_any f starts || b) (through_body C p.body f)
-        ∙ sym (or_both (list_any f starts) (list_any f (used_in_body p.body)) (Leads f C (called_in p.body)))
-        ∙ ap (λ (b : Bool). b || Leads f C (called_in p.body)) (sym (list_any-append f starts (used_in_body p.body)))
+        ∙ sym (or_both (list_any f starts) (list_any f (used_in_body p.body)) (Leads f C (calls_of p.body)))
+        ∙ ap (λ (b : Bool). b || Leads f C (calls_of p.body)) (sym (list_any-append f starts (used_in_body p.body)))
 
 outside_same : (a : Algorithm) (m : Main) → Same (used_outside a m) (used_outside_by_calls (used_by_macro (reverse a.macros)) a m)
 outside_same a (processes ps) f = refl
@@ -125,8 +126,8 @@ outside_same a (alone b) f =
     list_any-append f procedures (used_in_body b ++ used_in_macros (reached calls ds))
     ∙ ap (λ (c : Bool). list_any f procedures || c)
     (list_any-append f (used_in_body b) (used_in_macros (reached calls ds))
-    ∙ ap (λ (c : Bool). list_any f (used_in_body b) || c) (reached_same ds calls f ∙ list_any-append (λ m. list_any f (C m)) (calls_of a.procedures) (called_in b)))
-    ∙ mixed (list_any f procedures) (list_any f (used_in_body b)) (Leads f C (calls_of a.procedures)) (Leads f C (called_in b))
+    ∙ ap (λ (c : Bool). list_any f (used_in_body b) || c) (reached_same ds calls f ∙ list_any-append (λ m. list_any f (C m)) (procedure_calls a.procedures) (calls_of b)))
+    ∙ mixed (list_any f procedures) (list_any f (used_in_body b)) (Leads f C (procedure_calls a.procedures)) (Leads f C (calls_of b))
     ∙ sym (λ i. through_procedures C a.procedures f i || through_body C b f i)
     ∙ sym (list_any-append f (flat_map (used_through_procedure C) a.procedures) (used_through C b))
   where
@@ -140,7 +141,7 @@ outside_same a (alone b) f =
     procedures = flat_map used_by_procedure a.procedures
 
     calls : List Word
-    calls = calls_of a.procedures ++ called_in b
+    calls = procedure_calls a.procedures ++ calls_of b
 
     mixed : (p q r s : Bool) → (p || (q || (r || s))) ≡ ((p || r) || (q || s))
     mixed true q r s = refl

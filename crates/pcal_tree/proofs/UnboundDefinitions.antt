@@ -15,7 +15,8 @@ use Rattle.pcal_tree.specs.BoundNames.{Lists, all_of, lists_of, lists_in, lists_
 use Rattle.pcal_tree.specs.Offences.{offence_if}
 use Rattle.pcal_tree.specs.OffencesNames.{names_of}
 use Rattle.pcal_tree.specs.OffencesRebind.{stands_for, Standings, naming, in_scope, rebound, rebound_all, put_in, any_name, form_rebinds, tree_rebinds, parts_rebind, bound_by, Calls, starts_rebind, jump_rebinds, call_rebinds, whole_rebinds, each_rebinds, assignments_rebind, binds_rebind, one_rebinds, body_rebinds, branches_rebind, macro_rebinds, CallsAmong, texts_rebind, standing_outside, standing_inside, definitions_rebind, locals_rebind, procedure_rebinds, in_process_body, process_rebinds, main_rebinds, rebind_offences_of}
-use Rattle.pcal_tree.specs.OffencesReserved.{names_of_definition, names_of_macro, names_of_procedure, names_of_process, names_of_main, declared_names, all_labels, reserved_name, reserved_label, reserved_outside, reserved_declared}
+use Rattle.pcal_tree.specs.OffencesLabels.{all_labels}
+use Rattle.pcal_tree.specs.OffencesReserved.{names_of_definition, names_of_macro, names_of_procedure, names_of_process, names_of_main, declared_names, reserved_name, reserved_label, reserved_outside, reserved_declared}
 use Rattle.pcal_tree.specs.Reads.{readings, readings_of}
 use Rattle.pcal_tree.specs.Variables.{declared}
 use Rattle.pcal_tree.specs.laws.BoundDefinitions.{has_one, lists_have_one, may_be_stale, bound_in_text, bound_in_main, binds_definitions}

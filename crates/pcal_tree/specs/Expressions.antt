@@ -3,7 +3,8 @@ use Rattle.std.specs.Prelude.{List, [], ◌∷◌, ◌++◌, map}
 use Rattle.std.specs.List.{flat_map}
 use Rattle.tla_token.specs.declared.place.Place.{Place}
 use Rattle.tla_tree.specs.Tree.{Tree, Trees, no_trees, tree}
-use Rattle.pcal_tree.specs.Algorithm.{Assignments, no_assignments, assignment, Binds, no_binds, one_of, is, Statement, assign, await, print, assert, branch, either, with, while, macro, call, Statements, done, then, mark, Branches, no_branches, or, Start, unset, equals, among, Declaration, Main, alone, processes, Algorithm, locals, routines}
+use Rattle.pcal_tree.specs.Algorithm.{Assignments, no_assignments, assignment, Binds, no_binds, one_of, is, Statement, assign, await, print, assert, branch, either, with, while, macro, call, Statements, done, then, mark, Branches, no_branches, or, Declaration, Main, alone, processes, Algorithm, locals, routines}
+use Rattle.pcal_tree.specs.Reads.{initial}
 
 -- ---- statements
 
@@ -64,11 +65,6 @@ expressions_of (macro m ts) = tree_list ts
 expressions_of (call p ts) = tree_list ts
 expressions_of _ = []
 
-abbrev pub expressions_of_start : Start → List Tree
-expressions_of_start unset = []
-expressions_of_start (equals e) = e ∷ []
-expressions_of_start (among e) = e ∷ []
-
 abbrev pub identities : Main → List Tree
 identities (alone b) = []
 identities (processes ps) = map (λ p. p.identity) ps
@@ -78,5 +74,5 @@ all_declarations a = a.globals ++ flat_map locals (routines a)
 
 abbrev pub all_expressions : Algorithm → List Tree
 all_expressions a =
-    flat_map (λ d. expressions_of_start d.start) (all_declarations a)
+    flat_map (λ d. initial d.start) (all_declarations a)
     ++ (map (λ d. d.body) a.definitions ++ (identities a.main ++ flat_map (λ st. expressions_of st.statement) (all_statements a)))

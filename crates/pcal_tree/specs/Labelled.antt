@@ -1,5 +1,5 @@
 -- Labels that the translator adds ("A PlusCal User's Manual", section 3.7, labels, and the option `-label`).
-use Rattle.std.specs.Prelude.{ℕ, zero, suc, length, List, [], ◌∷◌, ◌++◌, reverse, Bool, true, false, ◌&&◌, ◌||◌, not, cond, codes, Some, None}
+use Rattle.std.specs.Prelude.{ℕ, zero, suc, length, List, [], ◌∷◌, ◌++◌, map, reverse, Bool, true, false, ◌&&◌, ◌||◌, not, cond, codes, Some, None}
 use Rattle.std.specs.List.{flat_map}
 use Rattle.std.specs.Fmt.{decimal}
 use Rattle.tla_token.specs.declared.place.Place.{Place}
@@ -12,7 +12,7 @@ use Rattle.pcal_tree.specs.Algorithm.{Span, Statement, branch, either, with, whi
 use Rattle.pcal_tree.specs.Run.{Partner, partner_of}
 use Rattle.pcal_tree.specs.Paths.{Effect, Effects, nothing, after_one}
 use Rattle.pcal_tree.specs.OffencesSteps.{Before, at_label, at_first, inside, next, visits_inside, offences_at, call_effect, procedure_effects, outer_effects}
-use Rattle.pcal_tree.specs.OffencesLabels.{label_words}
+use Rattle.pcal_tree.specs.OffencesLabels.{all_labels}
 
 -- ---- names of added labels
 
@@ -108,13 +108,9 @@ abbrev pub add_to_main : {R : Type 0} → (Word → Trees → Effect) → Supply
 add_to_main C s (alone b) go = add (outer_effects C) (at_first (Some FirstLabel)) s b (λ c t. go (alone c))
 add_to_main C s (processes ps) go = add_to_processes C s ps (λ qs. go (processes qs))
 
-abbrev pub labels_of_main : Main → List Word
-labels_of_main (alone b) = label_words b
-labels_of_main (processes ps) = flat_map (λ p. label_words p.body) ps
-
 -- the labels that the user typed
 abbrev pub typed_labels : Algorithm → List Word
-typed_labels a = flat_map (λ d. label_words d.body) a.macros ++ (flat_map (λ p. label_words p.body) a.procedures ++ labels_of_main a.main)
+typed_labels a = map (λ l. l.name.word) (all_labels a)
 
 -- F says what calls of macros assign, the newest of these being the first
 abbrev pub with_labels : (List Macro → Word → Trees → Effect) → Word → Algorithm → Algorithm

@@ -1,3 +1,4 @@
+-- Algorithms as trees: how they are spelled and printed, what they do, and what is wrong with them.
 pub mod Algorithm
 pub mod Placeless
 pub mod Scope

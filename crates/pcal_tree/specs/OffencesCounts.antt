@@ -1,17 +1,17 @@
 -- More variables, processes, procedures or labels than the limits allow, chains of macros that are too long, and definitions that nest too deep with
--- the bodies of others in place of their names.
-use Rattle.std.specs.Prelude.{ℕ, ◌+◌, max, false, nat_lt, List, [], ◌∷◌, ◌++◌, drop, map, cond, bytes_eq}
+-- the bodies of others in place of their names ("A PlusCal User's Manual", sections 3.3 to 3.7, processes, procedures, macros, definitions and labels).
+use Rattle.std.specs.Prelude.{ℕ, ◌+◌, max, nat_lt, List, [], ◌∷◌, ◌++◌, drop, map, cond, bytes_eq}
 use Rattle.std.specs.List.{flat_map}
 use Rattle.tla_token.specs.declared.rule.Rule.TheVariants.{TooMany}
 use Rattle.tla_token.specs.declared.rule.Refusal.{Refusal}
 use Rattle.tla_token.specs.Limits.{most_variables, most_processes, most_procedures, most_labels, longest_chain, deepest_definition}
 use Rattle.tla_tree.specs.Tree.{Word}
 use Rattle.tla_value.specs.DefinitionNesting.{Depths, definition_nests, depths}
-use Rattle.pcal_tree.specs.Algorithm.{Name, Statement, branch, either, with, while, macro, Statements, done, then, mark, Branches, no_branches, or, Definition, Macro, Algorithm, routines, locals, Main, alone, processes}
+use Rattle.pcal_tree.specs.Algorithm.{Name, Statement, branch, either, with, while, macro, Statements, done, then, mark, Branches, no_branches, or, Definition, Macro, Algorithm, routines, locals}
 use Rattle.pcal_tree.specs.Program.{inner}
 use Rattle.pcal_tree.specs.Offences.{offence, offence_if}
 use Rattle.pcal_tree.specs.OffencesNames.{names_of, process_names}
-use Rattle.pcal_tree.specs.OffencesLabels.{labels}
+use Rattle.pcal_tree.specs.OffencesLabels.{all_labels}
 
 -- ---- names that are counted, each list in the order of the text
 
@@ -22,12 +22,9 @@ variable_names a = names_of a.globals ++ flat_map (λ u. names_of (locals u)) (r
 abbrev pub procedure_names : Algorithm → List Name
 procedure_names a = map (λ p. p.name) a.procedures
 
-abbrev pub label_names : Statements → List Name
-label_names b = map (λ l. l.name) (labels false b)
-
 -- the labels of macros too, which other rules refuse
 abbrev pub all_label_names : Algorithm → List Name
-all_label_names a = flat_map (λ d. label_names d.body) a.macros ++ flat_map (λ u. label_names u.body) (routines a)
+all_label_names a = map (λ l. l.name) (all_labels a)
 
 abbrev pub at_first_name : List Name → List Refusal
 at_first_name [] = []

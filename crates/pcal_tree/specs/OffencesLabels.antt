@@ -39,6 +39,14 @@ abbrev mutual
 abbrev pub label_words : Statements → List Word
 label_words b = map (λ l. l.name.word) (labels false b)
 
+abbrev pub labels_of_main : Main → List Label
+labels_of_main (alone b) = labels false b
+labels_of_main (processes ps) = flat_map (λ p. labels false p.body) ps
+
+-- all labels of an algorithm, also those in macros, which may have none
+abbrev pub all_labels : Algorithm → List Label
+all_labels a = flat_map (λ d. labels false d.body) a.macros ++ (flat_map (λ p. labels false p.body) a.procedures ++ labels_of_main a.main)
+
 -- where statements are: in a macro, in a `with` of another body, in a procedure
 pub record Within : Type 0 where
   pub macro : Bool

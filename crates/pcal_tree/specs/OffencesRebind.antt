@@ -1,5 +1,5 @@
 -- Names that are bound or declared where they are in scope already, also where macro calls, processes' identifiers and procedures' initial values are
--- put in ("A PlusCal User's Manual", sections 3.4 and 3.5, with and macros; "Specifying Systems", section 17.3).
+-- put in ("A PlusCal User's Manual", sections 3.2, 3.4 and 3.5, with, procedures and macros; "Specifying Systems", section 17.3).
 use Rattle.std.specs.Prelude.{List, [], ◌∷◌, ◌++◌, Bool, true, false, ◌&&◌, ◌||◌, reverse, map, not, cond, bytes_eq, codes}
 use Rattle.std.specs.List.{flat_map}
 use Rattle.tla_token.specs.declared.rule.Rule.TheVariants.{Rebind}

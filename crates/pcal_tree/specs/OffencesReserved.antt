@@ -1,5 +1,5 @@
 -- Names that the translation or a standard module has, where they are declared or bound ("A PlusCal User's Manual", appendix A and section 4).
-use Rattle.std.specs.Prelude.{List, [], ◌∷◌, ◌++◌, false, ◌||◌, codes}
+use Rattle.std.specs.Prelude.{List, [], ◌∷◌, ◌++◌, ◌||◌, codes}
 use Rattle.std.specs.List.{flat_map}
 use Rattle.tla_token.specs.declared.rule.Rule.TheVariants.{Reserved}
 use Rattle.tla_token.specs.declared.rule.Refusal.{Refusal}
@@ -9,7 +9,7 @@ use Rattle.tla_tree.specs.Tree.{Name}
 use Rattle.pcal_tree.specs.Algorithm.{Definition, Macro, Procedure, Process, Main, alone, processes, Algorithm}
 use Rattle.pcal_tree.specs.BoundNames.{all_of, bound_lists}
 use Rattle.pcal_tree.specs.Offences.{offence_if}
-use Rattle.pcal_tree.specs.OffencesLabels.{Label, labels}
+use Rattle.pcal_tree.specs.OffencesLabels.{Label, all_labels}
 use Rattle.pcal_tree.specs.OffencesNames.{names_of}
 use Rattle.tla_value.specs.Outside.{Outside, Opaque, ReadDefinition}
 
@@ -38,15 +38,6 @@ declared_names a =
     ++ (flat_map names_of_definition a.definitions
     ++ (flat_map names_of_macro a.macros
     ++ (flat_map names_of_procedure a.procedures ++ (names_of_main a.main ++ all_of (bound_lists a)))))
-
--- ---- labels
-
-abbrev pub labels_of_main : Main → List Label
-labels_of_main (alone b) = labels false b
-labels_of_main (processes ps) = flat_map (λ p. labels false p.body) ps
-
-abbrev pub all_labels : Algorithm → List Label
-all_labels a = flat_map (λ d. labels false d.body) a.macros ++ (flat_map (λ p. labels false p.body) a.procedures ++ labels_of_main a.main)
 
 -- ---- offences
 

@@ -1,14 +1,13 @@
 -- `self` where no process is ("A PlusCal User's Manual", section 3.3, on processes and their identifiers).
-use Rattle.std.specs.Prelude.{List, [], ◌∷◌, ◌++◌, reverse, filter, not, cond, bytes_eq, codes, None}
+use Rattle.std.specs.Prelude.{List, [], ◌∷◌, ◌++◌, reverse, filter, not, cond, bytes_eq, codes}
 use Rattle.std.specs.List.{flat_map}
 use Rattle.tla_token.specs.declared.rule.Rule.TheVariants.{SelfOutside}
 use Rattle.tla_token.specs.declared.rule.Refusal.{Refusal}
 use Rattle.tla_token.specs.Signs.{is_among}
 use Rattle.tla_tree.specs.Tree.{Word, words}
-use Rattle.pcal_tree.specs.Algorithm.{Name, Statement, macro, Statements, Declaration, Macro, Procedure, Main, alone, processes, Algorithm}
+use Rattle.pcal_tree.specs.Algorithm.{Name, Declaration, Macro, Procedure, Main, alone, processes, Algorithm}
 use Rattle.pcal_tree.specs.Offences.{offence_if}
-use Rattle.pcal_tree.specs.OffencesSteps.{at_first, visits}
-use Rattle.pcal_tree.specs.Paths.{nothing}
+use Rattle.pcal_tree.specs.OffencesCounts.{calls_of}
 use Rattle.pcal_tree.specs.Reads.{used, initial}
 use Rattle.pcal_tree.specs.Spots.{used_in_body}
 
@@ -23,14 +22,6 @@ used_by_starts ds = flat_map (λ d. flat_map (λ e. used e []) (initial d.start)
 
 -- ---- macros
 
-abbrev pub called_by : Statement → List Word
-called_by (macro m ts) = m ∷ []
-called_by _ = []
-
--- the macros that are called in the text
-abbrev pub called_in : Statements → List Word
-called_in b = flat_map (λ v. called_by v.statement) (visits (λ st. nothing) (at_first None) b)
-
 abbrev pub without : Word → List Word → List Word
 without x ms = filter (λ m. not (bytes_eq x m)) ms
 
@@ -38,7 +29,7 @@ without x ms = filter (λ m. not (bytes_eq x m)) ms
 abbrev pub reached : List Word → List Macro → List Macro
 reached calls [] = []
 reached calls (d ∷ older) =
-    cond (is_among calls d.name.word) (d ∷ reached (called_in d.body ++ without d.name.word calls) older) (reached calls older)
+    cond (is_among calls d.name.word) (d ∷ reached (calls_of d.body ++ without d.name.word calls) older) (reached calls older)
 
 abbrev pub used_in_macros : List Macro → List Name
 used_in_macros ds = flat_map (λ d. used_in_body d.body) ds
@@ -52,7 +43,7 @@ used_by_procedure p = used_by_starts (p.params ++ p.variables) ++ used_in_body p
 abbrev pub used_outside : Algorithm → Main → List Name
 used_outside a (alone b) =
     flat_map used_by_procedure a.procedures
-    ++ (used_in_body b ++ used_in_macros (reached (flat_map (λ p. called_in p.body) a.procedures ++ called_in b) (reverse a.macros)))
+    ++ (used_in_body b ++ used_in_macros (reached (flat_map (λ p. calls_of p.body) a.procedures ++ calls_of b) (reverse a.macros)))
 used_outside a (processes ps) = flat_map (λ p. used p.identity []) ps
 
 -- in initial values of globals, and in definitions

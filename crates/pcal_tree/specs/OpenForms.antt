@@ -1,11 +1,11 @@
 -- The forms that are open at each token of an algorithm, as it is spelled: those of expressions, and those of statements ("A PlusCal User's Manual", section 3).
-use Rattle.std.specs.Prelude.{ℕ, ◌+◌, List, [], ◌∷◌, ◌++◌, map, codes}
+use Rattle.std.specs.Prelude.{ℕ, ◌+◌, List, [], ◌∷◌, ◌++◌, map}
 use Rattle.std.specs.List.{flat_map}
 use Rattle.tla_tree.specs.Spelling.{Phrase}
 use Rattle.tla_tree.specs.Spelling as spelled
 use Rattle.tla_tree.specs.Nesting.{counts, counts_all}
 use Rattle.tla_tree.specs.FirstStop.{Open}
-use Rattle.pcal_tree.specs.GrammarParts.{Tokens, Initial, unset, equals, among, Variables, last_variable, variable, Section, no_section, section, MacroParameters, macro_parameters, Parameters, last_parameter, parameter, ProcedureParameters, no_parameters, some_parameters, Heading, heading, Definitions, last_definition, more_definitions, Labels, labels, Binds, last_bind, bind, Arguments, no_arguments, some_arguments, Assignments, last_assignment, assignment, Simple, assign, await, when, print, assert, skip, goto, call, return, macro, maybe_separator, maybe_semicolon}
+use Rattle.pcal_tree.specs.GrammarParts.{Tokens, Initial, unset, equals, among, Variables, last_variable, variable, Section, no_section, section, macro_parameters, Parameters, last_parameter, parameter, ProcedureParameters, no_parameters, some_parameters, heading, Definitions, last_definition, more_definitions, labels, Binds, last_bind, bind, Arguments, no_arguments, some_arguments, Assignments, last_assignment, assignment, Simple, assign, await, when, print, assert, skip, goto, call, return, macro, maybe_separator, maybe_semicolon}
 use Rattle.pcal_tree.specs.GrammarP as p
 use Rattle.pcal_tree.specs.GrammarC as c
 use Rattle.pcal_tree.specs.Grammar as g

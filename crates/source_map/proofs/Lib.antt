@@ -1,1 +1,2 @@
+-- Worked rows of lines of labels.
 mod Rows

@@ -1,1 +1,2 @@
+-- The lines that `map` prints for labels.
 pub mod Lines

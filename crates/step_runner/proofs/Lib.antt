@@ -1,3 +1,4 @@
+-- That a file spells one thing or is refused at one place, that a followed script is a run, and worked rows.
 pub mod Spelled
 pub mod Offended
 pub mod ItemsOnce

@@ -1,3 +1,4 @@
+-- Constants, scripts and traces as files spell them, and what runs and traces print.
 pub mod Fronts
 pub mod Stretches
 pub mod Items

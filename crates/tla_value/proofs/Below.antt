@@ -1,10 +1,10 @@
 -- What limits change: the outcome is that without limits, or says that a limit was passed.
-use Rattle.std.proofs.Common.{◌≡◌, Bool, true, false, cond, if◌then◌else◌, List, Option, Some, None, refl, sym, ap, subst, Ok, Err}
+use Rattle.std.proofs.Common.{◌≡◌, Bool, true, false, if◌then◌else◌, List, Option, Some, None, refl, sym, ap, subst, Ok, Err}
 use Rattle.tla_token.specs.declared.place.Place.{Place}
 use Rattle.tla_tree.specs.Tree.{Word, Tree, Graft}
 use Rattle.tla_value.specs.Value.{Value, Outcome, Trouble, fault, over, Sense}
 use Rattle.tla_value.specs.Limits.{fits, bounded}
-use Rattle.tla_value.specs.Stops.{Check, plain}
+use Rattle.tla_value.specs.Stops.{plain}
 use Rattle.tla_value.specs.Meaning.{Env, bind, called, eval}
 use Rattle.tla_value.specs.Definitions.{Valuation, Definition, trouble_at, scope_of}
 use Rattle.tla_value.specs.Grafts.{read_tree, through}

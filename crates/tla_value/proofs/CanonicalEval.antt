@@ -1,10 +1,10 @@
 -- The value of a tree is canonical where its names stand for canonical values.
-use Rattle.std.proofs.Common.{Bool, true, false, cond, bytes_eq, List, [], ◌∷◌, ◌++◌, map, refl, Ok, Err}
+use Rattle.std.proofs.Common.{Bool, true, false, cond, bytes_eq, List, [], ◌∷◌, ◌++◌, map, refl, Ok}
 use Rattle.tla_token.specs.declared.place.Place.{Place}
 use Rattle.tla_tree.specs.declared.op.Binder.{Binder}
 use Rattle.tla_tree.specs.declared.op.Binder.TheVariants.{ForAll, Exists, Filter, Image, Function}
 use Rattle.tla_tree.specs.Tree.{Word, Name, Form, number, string, truth as literal, booleans, strings, name, next, strict, operator_call, conjunction, disjunction, implication, member, if_then_else, cases, binding, local, Tree, node, Trees, no_trees, tree}
-use Rattle.tla_value.specs.Value.{Value, Values, truth, no_values, and, Outcome, Sense, values_in, ◌>>=◌, in_order}
+use Rattle.tla_value.specs.Value.{Value, Values, no_values, and, Outcome, Sense, values_in, in_order}
 use Rattle.tla_value.specs.Order.{IsCanonical, AreCanonical, ArePairsCanonical}
 use Rattle.tla_value.specs.Stops.{Check, truth_at, members_at, one_of, two_of, three_of}
 use Rattle.tla_value.specs.Meaning.{Env, Denotation, bind, just, part_values, test, Row, with_first, at_members, at_group, at_choices, suited, at_body, key, is_true, where_true, results, table, gathered, sources, local_value, first_arm, called, meaning_of, eval, evals}

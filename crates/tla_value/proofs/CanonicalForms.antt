@@ -1,5 +1,5 @@
 -- The value of an expression is canonical where its names stand for canonical values.
-use Rattle.std.proofs.Common.{◌≡◌, suc, ℤ, pos, ◌+ℤ◌, ◌-ℤ◌, Bool, true, false, cond, if◌then◌else◌, List, [], ◌∷◌, ◌++◌, map, Option, Some, None, refl, ◌∙◌, ap, Ok, Err}
+use Rattle.std.proofs.Common.{◌≡◌, suc, ℤ, pos, ◌+ℤ◌, ◌-ℤ◌, Bool, true, false, if◌then◌else◌, List, [], ◌∷◌, ◌++◌, map, Option, Some, None, refl, ◌∙◌, ap, Ok, Err}
 use Rattle.std.specs.Option.{ok_or}
 use Rattle.std.specs.List.{flat_map}
 use Rattle.std.specs.Ordering.{is_eq}
@@ -11,9 +11,9 @@ use Rattle.tla_tree.specs.Tree.{Word, PathStep, index, field, Slot, Strict, oper
 use Rattle.std.specs.Prelude.{int_lt}
 use Rattle.tla_value.specs.declared.fault.FaultKind.TheVariants.{BadDivisor, NotInDomain, NotSequence}
 use Rattle.tla_value.specs.Value.{Value, Values, truth, int, text, model, set, fun, no_values, and, Outcome, fault, values_in, in_order}
-use Rattle.tla_value.specs.Order.{same, count, orders, listed, numbered, found_at, sequence_of, pairs_of, field_pairs, record_from, IsAscending, IsCanonical, AreCanonical, ArePairsCanonical}
+use Rattle.tla_value.specs.Order.{same, count, orders, listed, numbered, found_at, pairs_of, field_pairs, record_from, IsAscending, IsCanonical, AreCanonical, ArePairsCanonical}
 use Rattle.tla_value.specs.Stops.{Check, truth_at, int_at, members_at, function_at, sequence_at, one_of, two_of}
-use Rattle.tla_value.specs.Sets.{joined, repeated, functions_over, natural}
+use Rattle.tla_value.specs.Sets.{joined, natural}
 use Rattle.tla_value.specs.Strict.{of_ints, of_sets, of_quotient, operated, space_of, made, applied, changed, changed_at, next_slot, updated, strict_value}
 use Rattle.tla_value.proofs.OrderFuns.{fun_from_canonical, seq_from_canonical}
 use Rattle.tla_value.proofs.Canonical.{Has, Proper, then_has, any_has, has_cond, EachList, IsSet, append_canonical, listed_canonical, set_canonical, kept_canonical, sets_canonical, subsets_canonical, functions_canonical, count_repeated, repeated_canonical, integers_canonical, pairs_canonical}

@@ -1,7 +1,7 @@
 -- Definitions, as the pool grows that their bodies are numbers of.
 use Rattle.std.proofs.Common.{◌≡◌, ℕ, ◌<◌, ◌≤◌, List, [], ◌∷◌, length, refl, arith}
 use Rattle.tla_tree.specs.Tree.{Tree}
-use Rattle.tla_tree.specs.Pool.{at, Keeps}
+use Rattle.tla_tree.specs.Pool.{Keeps}
 use Rattle.tla_value.specs.declared.names.Definition.{Definition as Kept}
 use Rattle.tla_value.specs.Defs.{definition_at, definitions_at, DefinitionsIn}
 

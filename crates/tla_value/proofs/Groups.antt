@@ -3,9 +3,9 @@ use Rattle.std.proofs.Common.{◌≡◌, List, [], ◌∷◌, ◌++◌, map, ref
 use Rattle.tla_token.specs.declared.place.Place.{Place}
 use Rattle.tla_tree.specs.declared.op.Binder.{Binder}
 use Rattle.tla_tree.specs.Tree.{Name, binding, Tree, node, Trees, no_trees, tree}
-use Rattle.tla_value.specs.Value.{Value, Values, Outcome, Trouble, ◌>>=◌, in_order}
+use Rattle.tla_value.specs.Value.{Value, Values, Outcome, ◌>>=◌, in_order}
 use Rattle.tla_value.specs.Stops.{Check, members_at, sense_of}
-use Rattle.tla_value.specs.Meaning.{Env, Denotation, Row, at_members, at_group, at_choices, at_body, gathered, sources, bound_value, eval, evals}
+use Rattle.tla_value.specs.Meaning.{Env, Denotation, Row, at_members, at_group, at_choices, at_body, gathered, sources, eval, evals}
 use Rattle.tla_value.specs.laws.Groups.{each_alone, ungrouped, for_each_name, sets_for_names, HaveSets}
 use Rattle.tla_value.proofs.Outcomes.{then_ok, then_then}
 

@@ -1,11 +1,11 @@
 -- Look-ups in ascending lists by comparison find what those in any order find.
-use Rattle.std.proofs.Common.{◌≡◌, Bool, true, false, refl, sym, ◌∙◌, ap, Option, Some, None}
+use Rattle.std.proofs.Common.{◌≡◌, Bool, true, false, refl, sym, Some, None}
 use Rattle.std.specs.Prelude.{◌||◌, if◌then◌else◌}
 use Rattle.std.specs.Ordering.{is_eq}
 use Rattle.std.specs.declared.cmp.Ordering.{Ordering}
 use Rattle.std.specs.declared.cmp.Ordering.TheVariants.{Less, Equal, Greater}
 use Rattle.tla_value.specs.Value.{Value, Values, no_values, and}
-use Rattle.tla_value.specs.Order.{order, same, holds, found_at, IsBefore, IsAscending}
+use Rattle.tla_value.specs.Order.{order, same, holds, found_at, IsAscending}
 use Rattle.tla_value.specs.laws.InOrder.{by_order, holds_in_order, found_in_order}
 use Rattle.tla_value.proofs.OrderSets.{before_next, not_held}
 

@@ -1,5 +1,5 @@
 -- Two evaluations side by side: outcomes that are joined are one result, or troubles that may stand for one another.
-use Rattle.std.proofs.Common.{◌≡◌, ℤ, pos, ◌+ℤ◌, ◌-ℤ◌, Bool, true, false, cond, List, [], ◌∷◌, ◌++◌, map, Option, Some, None, refl, subst, Ok, Err}
+use Rattle.std.proofs.Common.{◌≡◌, ℤ, pos, Bool, true, false, cond, List, [], ◌∷◌, map, Option, Some, None, refl, subst, Ok, Err}
 use Rattle.std.specs.Prelude.{int_lt}
 use Rattle.std.specs.Option.{ok_or}
 use Rattle.tla_token.specs.declared.place.Place.{Place}
@@ -8,9 +8,9 @@ use Rattle.tla_tree.specs.declared.op.Op.TheVariants.{Equivalent, Not, Equal, No
 use Rattle.tla_tree.specs.Tree.{PathStep, index, field, Slot, Strict, operator, set_of, tuple, fields, records, functions, apply, select, except}
 use Rattle.tla_value.specs.declared.fault.FaultKind.{FaultKind}
 use Rattle.tla_value.specs.declared.fault.FaultKind.TheVariants.{BadDivisor}
-use Rattle.tla_value.specs.Value.{Value, Values, truth, int, text, set, fun, no_values, and, Outcome, Trouble, fault, over, Sense, ◌>>=◌, in_order}
+use Rattle.tla_value.specs.Value.{Value, Values, truth, int, text, set, fun, no_values, and, Outcome, Trouble, fault, ◌>>=◌, in_order}
 use Rattle.tla_value.specs.Order.{same, listed, sequence_of, record_from}
-use Rattle.tla_value.specs.Stops.{Check, truth_at, int_at, members_at, function_at, sequence_at, misshapen, one_of, two_of, three_of, tested, sense_of}
+use Rattle.tla_value.specs.Stops.{Check, truth_at, int_at, members_at, function_at, sequence_at, one_of, two_of, three_of, tested}
 use Rattle.tla_value.specs.Sets.{joined}
 use Rattle.tla_value.specs.Definitions.{trouble_at}
 use Rattle.tla_value.specs.Strict.{of_truths, of_ints, of_sets, of_quotient, operated, space_of, made, applied, changed, changed_at, next_slot, updated, excepted, strict_value, operator_test, strict_test}

@@ -1,16 +1,16 @@
 -- Two evaluations side by side: what a form means where its parts, its names and its place stand for those of another.
-use Rattle.std.proofs.Common.{◌≡◌, Bool, true, false, cond, List, [], ◌∷◌, ◌++◌, map, refl, subst, Ok, Err}
+use Rattle.std.proofs.Common.{◌≡◌, Bool, true, false, List, [], ◌∷◌, ◌++◌, map, refl, subst}
 use Rattle.std.specs.List.{flat_map}
 use Rattle.tla_token.specs.declared.place.Place.{Place}
 use Rattle.tla_tree.specs.declared.op.Binder.{Binder}
 use Rattle.tla_tree.specs.declared.op.Binder.TheVariants.{Image, Function}
 use Rattle.tla_tree.specs.Tree.{Word, Name, words, Strict, Form, number, string, truth as literal, booleans, strings, name, next, strict, operator_call, conjunction, disjunction, implication, member, if_then_else, cases, binding, local, Tree, node, Trees, no_trees, tree, Every, EveryOf, Each, binders, beginnings, seen_names}
 use Rattle.tla_value.specs.declared.fault.FaultKind.TheVariants.{NotSet, NotFunction, NoCase}
-use Rattle.tla_value.specs.Value.{Value, Values, truth, set, no_values, and, Outcome, Sense, ◌>>=◌, in_order}
-use Rattle.tla_value.specs.Stops.{Check, truth_at, members_at, one_of, tested, sense_of}
-use Rattle.tla_value.specs.Meaning.{Env, Denotation, bind, part_values, test, Row, with_first, at_members, at_group, at_choices, suited, at_body, gathered, sources, local_value, first_arm, called, only_tested, is_text, meaning_of, eval, evals}
+use Rattle.tla_value.specs.Value.{Value, Values, no_values, and, Outcome, Sense, in_order}
+use Rattle.tla_value.specs.Stops.{Check, members_at, sense_of}
+use Rattle.tla_value.specs.Meaning.{Env, Denotation, bind, part_values, test, Row, at_members, at_group, at_choices, suited, at_body, gathered, sources, local_value, first_arm, called, only_tested, is_text, meaning_of, eval, evals}
 use Rattle.tla_value.proofs.Relations.{Bound, Rel}
-use Rattle.tla_value.proofs.Joined.{Kin, Joined, Same, then_joined, then_same, same_cond, Both, Pairs, Triples, none, one, order_both, order_same, joined_one, joined_two, joined_three, ones, truths, sets, tests, FormsJoin, form, Checks, strict_values, strict_tests}
+use Rattle.tla_value.proofs.Joined.{Kin, Joined, Same, then_joined, then_same, same_cond, Both, Pairs, Triples, none, one, order_both, joined_two, joined_three, truths, sets, tests, FormsJoin, form, Checks, strict_values, strict_tests}
 
 pub record Senses (K : Kin) (s t : Sense) : Type 0 where
   pub value : Same K s.value t.value

@@ -4,14 +4,14 @@ use Rattle.std.specs.Prelude.{codes}
 use Rattle.tla_token.specs.declared.place.Place.{Place}
 use Rattle.tla_tree.specs.Tree.{Word, Form, name, next, operator_call, Tree, node, Trees, no_trees, tree, Every, EveryOf, Each, binders}
 use Rattle.tla_value.specs.declared.fault.FaultKind.TheVariants.{NotSet, NotFunction, EmptySequence, AssertFailed}
-use Rattle.tla_value.specs.Value.{Value, Values, int, Outcome, Trouble, Sense, ◌>>=◌}
+use Rattle.tla_value.specs.Value.{Value, int, Outcome, Trouble, Sense}
 use Rattle.tla_value.specs.Order.{listed}
 use Rattle.tla_value.specs.Stops.{Check, misshapen}
-use Rattle.tla_value.specs.Meaning.{Env, just, bind, called, only_tested, eval}
+use Rattle.tla_value.specs.Meaning.{Env, just, called, eval}
 use Rattle.tla_value.specs.Standard.{Standard, length_of, appended, first_of, rest_of, part_of, sequences, size_of, is_finite, printed, asserted, standard_of, headed, tailed, element, part_between, standard_value, standard_sense, standard_called, is_natural, is_int, standard_name}
 use Rattle.tla_value.specs.Definitions.{Valuation, Definition, or_sense, base, in_states, at_use, trouble_at, with_arguments, body_sense, defined, with_definitions, scope_of}
 use Rattle.tla_value.proofs.Relations.{Bound}
-use Rattle.tla_value.proofs.Joined.{Kin, Joined, Same, Both, none, one, then_same, same_cond, order_same, ones, twos, threes, truths, ints, sets, sequences as as_sequences, tests, or_faults, applications, Checks}
+use Rattle.tla_value.proofs.Joined.{Kin, Same, Both, none, one, then_same, same_cond, order_same, ones, twos, threes, truths, ints, sets, sequences as as_sequences, applications, Checks}
 use Rattle.tla_value.proofs.JoinedEval.{Senses, senses_of, unlisted, Dens, Read, Kept, eval_both}
 
 -- the environments stand for one another, at places that do

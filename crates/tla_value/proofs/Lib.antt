@@ -1,3 +1,4 @@
+-- That the laws of values and of meaning hold, and worked rows.
 pub mod Outcomes
 pub mod OrderSets
 pub mod OrderFuns
@@ -15,6 +16,7 @@ pub mod ValueDecided
 mod ValueRows
 mod RowsSeen
 mod RowsDefs
+mod RowsStandard
 pub mod StateLaws
 pub mod DefsGrown
 pub mod Facts

@@ -5,11 +5,11 @@ use Rattle.tla_token.specs.declared.place.Place.{Place}
 use Rattle.tla_tree.specs.Tree.{Word, Tree, Every, graft}
 use Rattle.tla_value.specs.Value.{Value, Sense}
 use Rattle.tla_value.specs.Stops.{Check, sense_of}
-use Rattle.tla_value.specs.Meaning.{Env, bind, eval}
+use Rattle.tla_value.specs.Meaning.{Env, eval}
 use Rattle.tla_value.specs.Grafts.{primes}
 use Rattle.tla_value.specs.Definitions.{Valuation, Definition, or_sense, base, in_states, at_use, with_arguments, body_sense, defined, with_definitions, scope_of, mid}
 use Rattle.tla_value.proofs.Primes.{Mixed, primed_law}
-use Rattle.tla_value.specs.laws.Grafting.{AllSettled, BindsNone, Given, OutOf, Settled}
+use Rattle.tla_value.specs.laws.Grafting.{AllSettled, BindsNone, Given, OutOf}
 use Rattle.tla_value.specs.laws.FreeNames.{Or, Also, FreeNames, AgreeOn}
 use Rattle.tla_value.proofs.FreeNames.{free_names, bind_agree}
 

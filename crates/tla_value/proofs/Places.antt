@@ -7,10 +7,10 @@ use Rattle.tla_tree.specs.laws.Placeless.{names_placeless, slot_placeless, stric
 use Rattle.tla_value.specs.Value.{Value, Outcome, Trouble, fault, over, Sense}
 use Rattle.tla_value.specs.Limits.{fits, bounded}
 use Rattle.tla_value.specs.Stops.{Check, plain}
-use Rattle.tla_value.specs.Meaning.{Env, bind, called, eval, evals}
+use Rattle.tla_value.specs.Meaning.{Env, bind, eval, evals}
 use Rattle.tla_value.specs.Definitions.{Valuation, Definition, trouble_at, scope_of}
 use Rattle.tla_value.specs.Grafts.{read_tree, through}
-use Rattle.tla_value.specs.laws.Places.{SameKind, AgreeButPlaces, SensesButPlaces, EnvsButPlaces, ChecksButPlaces, TreesButPlaces, DefinitionButPlaces, DefinitionsButPlaces, OptionsButPlaces, GraftsButPlaces}
+use Rattle.tla_value.specs.laws.Places.{SameKind, AgreeButPlaces, SensesButPlaces, EnvsButPlaces, ChecksButPlaces, TreesButPlaces, DefinitionsButPlaces, OptionsButPlaces, GraftsButPlaces}
 use Rattle.tla_value.proofs.Joined.{Kin, Same, Both, none, one, SlotsJoin, FormsJoin, form, slots, Checks}
 use Rattle.tla_value.proofs.JoinedEval.{Senses, Dens, Forms, same, stricts, bindings, locals, kept_parts, each_seen, forms_both}
 use Rattle.tla_value.proofs.JoinedScopes.{Envs, bound_both, form_in, UsesJoin, DefinitionsJoin, scopes_both}

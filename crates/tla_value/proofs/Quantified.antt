@@ -4,7 +4,7 @@ use Rattle.tla_token.specs.declared.place.Place.{Place}
 use Rattle.tla_tree.specs.declared.op.Binder.{Binder}
 use Rattle.tla_tree.specs.declared.op.Binder.TheVariants.{ForAll, Exists, Filter, Image, Function}
 use Rattle.tla_tree.specs.Tree.{Word, Name, binding}
-use Rattle.tla_value.specs.Value.{Value, Values, truth, set, no_values, and, Outcome, ◌>>=◌, in_order}
+use Rattle.tla_value.specs.Value.{Value, Values, truth, set, no_values, and, ◌>>=◌, in_order}
 use Rattle.tla_value.specs.Order.{set_from, fun_from, listed}
 use Rattle.tla_value.specs.Sets.{kept}
 use Rattle.tla_value.specs.Stops.{Check, members_at}

@@ -1,5 +1,5 @@
 -- Worked examples of definitions whose bodies are numbers.
-use Rattle.std.specs.Prelude.{◌≡◌, List, [], ◌∷◌, true, false, Some, None}
+use Rattle.std.specs.Prelude.{◌≡◌, List, [], ◌∷◌, true, Some, None}
 use Rattle.std.proofs.Common.{refl, arith, pos, Ok}
 use Rattle.tla_token.specs.declared.place.Place.{Place}
 use Rattle.tla_tree.specs.Tree.{Tree, node, no_trees, number, name}

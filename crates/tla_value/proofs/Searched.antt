@@ -1,8 +1,8 @@
 -- What a binary search finds in an ascending list of values: the value, if it is there.
-use Rattle.std.proofs.Common.{◌≡◌, ◌≢◌, ℕ, zero, suc, ◌+◌, ◌<◌, ◌≤◌, List, [], ◌∷◌, length, get_or, add-one, Bool, true, false, true≢false, refl, sym, ap, ◌∙◌, arith, subst, ⊎_elim, Option, Some, None, Result, Ok, Err}
+use Rattle.std.proofs.Common.{◌≡◌, ℕ, zero, suc, ◌+◌, ◌<◌, ◌≤◌, List, [], ◌∷◌, length, get_or, add-one, Bool, true, false, true≢false, refl, sym, ap, ◌∙◌, arith, subst, ⊎_elim, Some, None, Result, Ok, Err}
 use Rattle.std.specs.Result.{is_ok}
 use Rattle.std.specs.Prelude.{◌||◌, if◌then◌else◌}
-use Rattle.std.specs.Ordering.{is_eq, ordering_index}
+use Rattle.std.specs.Ordering.{ordering_index}
 use Rattle.std.specs.declared.cmp.Ordering.{Ordering}
 use Rattle.std.specs.declared.cmp.Ordering.TheVariants.{Less, Equal, Greater}
 use Rattle.std.specs.List.{AllAdjacentBelow}
@@ -10,7 +10,7 @@ use Rattle.std.specs.List.Sorted.{IsNonDecreasingBy, IsBinarySearchResult, IsPar
 use Rattle.std.proofs.lemmas.Bool.{cases_lt}
 use Rattle.std.proofs.lemmas.List.Sorted.{IsNonDecreasingBy-from_all_adjacent}
 use Rattle.tla_value.specs.Value.{Value, values_in}
-use Rattle.tla_value.specs.Order.{order, same, holds, found_at, IsBefore, IsAscending}
+use Rattle.tla_value.specs.Order.{order, same, holds, found_at, IsAscending}
 use Rattle.tla_value.specs.OrderLaws.{order_total, order_equal, order_self, same_is, same_self}
 use Rattle.tla_value.proofs.OrderSets.{not_held}
 

@@ -1,14 +1,14 @@
 -- What is written for a canonical value within the limits is within them, part by part; what is spelled is a canonical value within the limits.
 use Rattle.std.proofs.Common.{◌≡◌, ℕ, zero, suc, ◌≤◌, pos, negsuc, Bool, true, false, List, [], ◌∷◌, refl, sym, ◌∙◌, ap, subst, arith, Option, Some, None}
-use Rattle.std.specs.Prelude.{max, neg_ℤ, ◌&&◌, if◌then◌else◌}
+use Rattle.std.specs.Prelude.{neg_ℤ, ◌&&◌, if◌then◌else◌}
 use Rattle.std.specs.Ordering.{is_eq}
 use Rattle.std.proofs.lemmas.Bool.{and_parts}
 use Rattle.tla_token.specs.Limits.{deepest_value}
 use Rattle.tla_tree.specs.Tree.{Word}
 use Rattle.tla_value.specs.Value.{Value, Values, truth, int, text, model, set, fun, no_values, and, values_in}
-use Rattle.tla_value.specs.Order.{orders, listed, numbered, set_from, fun_from, seq_from, IsCanonical, AreCanonical, ArePairsCanonical}
+use Rattle.tla_value.specs.Order.{orders, listed, numbered, IsCanonical, AreCanonical, ArePairsCanonical}
 use Rattle.tla_value.specs.Limits.{depth, depths, fits, fits_parts, all_fit, fits_count}
-use Rattle.tla_value.specs.ValueText.{Mark, Spelling, Spellings, Fields, Pairs, truth_word, digits, minus, quoted, named, braces, angles, fields, pairs, no_spellings, spelling, no_fields, field, no_pairs, pair, spelled, all_spelled, spelled_fields, spelled_pairs, IsWithin, AreWithin, AreWithinFields, AreWithinPairs, Spells, HasModelNames, field_names, fields_from, pairs_from, shown_other, shown_fun, shown, all_shown, marks}
+use Rattle.tla_value.specs.ValueText.{Mark, Spelling, Spellings, Fields, Pairs, truth_word, digits, minus, quoted, named, braces, angles, fields, pairs, no_spellings, spelling, no_fields, field, no_pairs, pair, spelled, all_spelled, spelled_fields, spelled_pairs, IsWithin, AreWithin, AreWithinFields, AreWithinPairs, Spells, HasModelNames, field_names, fields_from, pairs_from, shown_other, shown, all_shown, marks}
 use Rattle.tla_value.proofs.Canonical.{set_canonical}
 use Rattle.tla_value.proofs.OrderFuns.{seq_from_canonical, fun_from_canonical}
 use Rattle.tla_value.proofs.Fits.{fits_parts_of, depth_of, fits_by}

@@ -1,3 +1,4 @@
+-- Values, their order, limits and texts; what expressions mean; definitions and the modules that a module extends.
 pub mod Value
 pub mod Order
 pub mod OrderLaws

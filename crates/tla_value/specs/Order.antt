@@ -85,12 +85,6 @@ found_at no_values vs v = None
 found_at (and d ds) no_values v = None
 found_at (and d ds) (and w ws) v = if same v d then Some w else found_at ds ws v
 
--- the values of [f EXCEPT ![v] = e]; a v outside the domain changes nothing
-abbrev pub changed_at : Values → Values → Value → Value → Values
-changed_at no_values vs v e = vs
-changed_at (and d ds) no_values v e = no_values
-changed_at (and d ds) (and w ws) v e = if same v d then and e ws else and w (changed_at ds ws v e)
-
 -- each argument with its value, in the order of the domain
 abbrev pub pairs_of : Values → Values → List (Value × Value)
 pairs_of no_values vs = []

@@ -1,8 +1,8 @@
 //! The canonical order of values, and the place of a value in it.
 
-ghost use Rattle.std.specs.Prelude.{◌≡◌, OnOk, OnErr};
+ghost use Rattle.std.specs.Prelude.{◌≡◌, ◌≢◌, OnOk, OnErr};
 ghost use Rattle.tla_value.specs.Value.{values_in};
-ghost use Rattle.tla_value.specs.Order.{order, orders, sized, inserted};
+ghost use Rattle.tla_value.specs.Order.{kind_of, order, orders, sized, inserted};
 
 use crate::value::{Kind, Value, Values};
 use std::alloc::AllocError;
@@ -68,50 +68,25 @@ pub fn compare(a: &Value, b: &Value) -> Ordering
     match &a.kind {
         Kind::Bool(x) => match &b.kind {
             Kind::Bool(y) => x.cmp(y),
-            Kind::Int(_) => Ordering::Less,
-            Kind::Text(_) => Ordering::Less,
-            Kind::Model(_) => Ordering::Less,
-            Kind::Set(_) => Ordering::Less,
-            Kind::Fun(_, _) => Ordering::Less,
+            _ => compare_kinds(a, b),
         },
         Kind::Int(x) => match &b.kind {
-            Kind::Bool(_) => Ordering::Greater,
             Kind::Int(y) => x.cmp(y),
-            Kind::Text(_) => Ordering::Less,
-            Kind::Model(_) => Ordering::Less,
-            Kind::Set(_) => Ordering::Less,
-            Kind::Fun(_, _) => Ordering::Less,
+            _ => compare_kinds(a, b),
         },
         Kind::Text(x) => match &b.kind {
-            Kind::Bool(_) => Ordering::Greater,
-            Kind::Int(_) => Ordering::Greater,
             Kind::Text(y) => x.bytes().cmp(y.bytes()),
-            Kind::Model(_) => Ordering::Less,
-            Kind::Set(_) => Ordering::Less,
-            Kind::Fun(_, _) => Ordering::Less,
+            _ => compare_kinds(a, b),
         },
         Kind::Model(x) => match &b.kind {
-            Kind::Bool(_) => Ordering::Greater,
-            Kind::Int(_) => Ordering::Greater,
-            Kind::Text(_) => Ordering::Greater,
             Kind::Model(y) => x.bytes().cmp(y.bytes()),
-            Kind::Set(_) => Ordering::Less,
-            Kind::Fun(_, _) => Ordering::Less,
+            _ => compare_kinds(a, b),
         },
         Kind::Set(x) => match &b.kind {
-            Kind::Bool(_) => Ordering::Greater,
-            Kind::Int(_) => Ordering::Greater,
-            Kind::Text(_) => Ordering::Greater,
-            Kind::Model(_) => Ordering::Greater,
             Kind::Set(y) => compare_sized(x, y),
-            Kind::Fun(_, _) => Ordering::Less,
+            _ => compare_kinds(a, b),
         },
         Kind::Fun(d, x) => match &b.kind {
-            Kind::Bool(_) => Ordering::Greater,
-            Kind::Int(_) => Ordering::Greater,
-            Kind::Text(_) => Ordering::Greater,
-            Kind::Model(_) => Ordering::Greater,
-            Kind::Set(_) => Ordering::Greater,
             Kind::Fun(e, y) => {
                 let first = compare_sized(d, e);
                 match first {
@@ -119,8 +94,31 @@ pub fn compare(a: &Value, b: &Value) -> Ordering
                     _ => first,
                 }
             }
+            _ => compare_kinds(a, b),
         },
     }
+}
+
+// Where a value's kind is in the order of kinds.
+fn rank(v: &Value) -> u8
+    ensures { result ≡ kind_of v.now }
+{
+    match &v.kind {
+        Kind::Bool(_) => 0,
+        Kind::Int(_) => 1,
+        Kind::Text(_) => 2,
+        Kind::Model(_) => 3,
+        Kind::Set(_) => 4,
+        Kind::Fun(_, _) => 5,
+    }
+}
+
+// How values of unlike kinds stand.
+fn compare_kinds(a: &Value, b: &Value) -> Ordering
+    requires { kind_of a.now ≢ kind_of b.now }
+    ensures { result ≡ order a.now b.now }
+{
+    rank(a).cmp(&rank(b))
 }
 
 // Fewer members first, then member by member.

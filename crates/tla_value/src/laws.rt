@@ -31,7 +31,7 @@ pub fn functions_are_their_pairs()
     ensures canonical { (ps : List (pure.Value × pure.Value)) → ArePairsCanonical ps → IsCanonical (fun_from ps) }
 {}
 
-/// What is written for a canonical value spells that value.
+/// The tokens that are chosen for a canonical value within the limits, whose model values have names of model values, spell that value.
 pub fn written_values_are_spelled()
     ensures { (v : pure.Value) → IsCanonical v → HasModelNames v → fits v ≡ true → Spells (marks (shown v) []) v }
 {}

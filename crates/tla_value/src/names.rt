@@ -34,12 +34,15 @@ impl Names for State {
 /// A definition that expressions may use: `N == e`, or `N(a, b) == e` with parameters.
 #[derive(Drop)]
 pub struct Definition {
+    /// The name that it gives a meaning to.
     pub name: Name,
+    /// The names of its parameters, in their order; none for `N == e`.
     pub params: NameList,
     /// A number of the pool.
     pub body: NodeId,
     /// Whether it is outside the algorithm; then a fault or limit in its body is at its use.
     pub outside: bool,
+    /// Where its name stands in the text.
     pub place: Place,
 }
 
@@ -110,6 +113,8 @@ impl Defs {
 /// What a module is evaluated with: a value for each constant, and its definitions.
 #[derive(Drop)]
 pub struct Instance {
+    /// The value of each constant that has one.
     pub constants: State,
+    /// The definitions of the module, from the first on.
     pub defs: Defs,
 }

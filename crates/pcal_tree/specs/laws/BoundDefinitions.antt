@@ -1,4 +1,4 @@
--- Whether names that an expression looks up, as those of definitions, are bound in the statements of an algorithm ("A PlusCal User's Manual", section 3.4, with; "Specifying
+-- Whether names that an expression looks up, as those of definitions, are bound in the statements of an algorithm ("A PlusCal User's Manual", section 3.2, with; "Specifying
 -- Systems", sections 16.1.1 and 16.1.11).
 use Rattle.std.specs.Prelude.{List, [], ◌∷◌, ◌++◌, Bool, ◌||◌, reverse, codes, map}
 use Rattle.std.specs.List.{list_any}

@@ -4,12 +4,13 @@ use Rattle.std.specs.List.{flat_map}
 use Rattle.tla_token.specs.declared.rule.Refusal.{Refusal}
 use Rattle.tla_tree.specs.Tree.{Word}
 use Rattle.pcal_tree.specs.Algorithm.{Name, Statements, Macro, Procedure, Main, alone, processes, Algorithm}
-use Rattle.pcal_tree.specs.OffencesSelf.{selves, used_by_starts, called_in, used_outside, used_at_the_top}
+use Rattle.pcal_tree.specs.OffencesCounts.{calls_of}
+use Rattle.pcal_tree.specs.OffencesSelf.{selves, used_by_starts, used_outside, used_at_the_top}
 use Rattle.pcal_tree.specs.Spots.{used_in_body}
 
 -- the names that a body uses, and those that C says of each call
 abbrev pub used_through : (Word → List Name) → Statements → List Name
-used_through C b = used_in_body b ++ flat_map C (called_in b)
+used_through C b = used_in_body b ++ flat_map C (calls_of b)
 
 -- those of the newest macro of the name, which calls older ones
 abbrev pub used_by_macro : List Macro → Word → List Name

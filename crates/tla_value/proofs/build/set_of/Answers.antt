@@ -1,5 +1,5 @@
 -- Proves what is asked of `set_of`.
-use Rattle.std.proofs.Common.{ap, subst, arith, sym, ◌∙◌}
+use Rattle.std.proofs.Common.{ap, subst, arith}
 use Rattle.tla_value.specs.Value.{set, values_in}
 use Rattle.tla_value.specs.Order.{set_from}
 use Rattle.tla_value.specs.Limits.{depths}

@@ -1,0 +1,2 @@
+-- The words in which the law is stated.
+pub mod LinesOfObligations
