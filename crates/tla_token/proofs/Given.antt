@@ -19,7 +19,7 @@ use Rattle.tla_token.specs.Signs.{is_among}
 use Rattle.tla_token.specs.Tokens.{openings, Token, Piece, blank, block, line, lexeme, bytes_of, tokens_of, stretch, holds_mark, is_unmarked, Tok, TokAlgorithm}
 use Rattle.tla_token.specs.Offences.{Part, sound, part_bytes, PartsFit, Offence, kind_offences, part_offences, offences, or_earlier, least}
 use Rattle.tla_token.specs.Cut.{parts}
-use Rattle.tla_token.specs.Readings.{read_offences, number_offences, offences_in, first_offence, IsRefused, names_algorithm, opening_of, IsCutAs, offence_as, AreTokens, given_offence, IsGivenRefused}
+use Rattle.tla_token.specs.Readings.{read_offences, number_offences, offences_in, joined, last_quote, line_offence, first_offence, IsRefused, names_algorithm, opening_of, IsCutAs, offence_as, AreTokens, given_offence, IsGivenRefused}
 use Rattle.tla_token.specs.TokensSeen.{token_seen, tokens_seen}
 use Rattle.tla_token.specs.Scanning.{lexemes_of}
 use Rattle.tla_token.proofs.Spelled.{begins_is}
@@ -59,11 +59,24 @@ lexemes_are p at (block body ∷ ps) = lexemes_are (after p (bytes_of (block bod
 lexemes_are p at (line body ∷ ps) = lexemes_are (after p (bytes_of (line body))) (at + length (bytes_of (line body))) ps
 lexemes_are p at (lexeme k bytes ∷ ps) = ap (λ (ts : List Token). record { kind = k; at = at; place = p } ∷ ts) (lexemes_are (after p bytes) (at + length bytes) ps)
 
+no_left : (o q : Option Offence) → joined o q ≡ None → o ≡ None
+no_left None q e = refl
+no_left (Some o) None e = absurd cc
+no_left (Some o) (Some q) e = absurd cc
+
+-- where no offence counts, nothing is wrong with a part
+nothing_wrong : (r : Reading) (text : List ℕ) (from to : ℕ) → first_offence r text from to ≡ None → offences_in r from (parts (stretch text from to)) ≡ []
+nothing_wrong reading.Unread text from to e = no_least (offences false from (parts (stretch text from to))) e
+nothing_wrong reading.Read text from to e = no_least (read_offences from (parts (stretch text from to))) e
+nothing_wrong reading.Algorithm text from to e =
+    let xs = parts (stretch text from to) in
+    no_least (offences true from xs) (no_left (least (offences true from xs)) (line_offence text (last_quote from None xs)) e)
+
 -- the tokens that are found, where nothing is wrong
 pub found_tok : (r : Reading) (text : List ℕ) (from to : ℕ) → first_offence r text from to ≡ None → Tok text from to (lexemes_of (place_at text from) from (parts (stretch text from to)))
 found_tok r text from to none =
     let xs = parts (stretch text from to) in
-    let s = sounds r from xs (cut_fits (stretch text from to)).1 (no_least (offences_in r from xs) none) in
+    let s = sounds r from xs (cut_fits (stretch text from to)).1 (nothing_wrong r text from to none) in
     let P : List Token → Type 0 = λ ts. Tok text from to ts in
     subst P (sym (ap (lexemes_of (place_at text from) from) s.1 ∙ lexemes_are (place_at text from) from s.0)) (parts_tok text from to s.0 s.1)
 
@@ -139,7 +152,7 @@ algorithm_by text from to n ts e none is =
     let b = begins bytes n e in
     let more = lexemes_of (place_at text (from + n)) (from + n) (parts (stretch text (from + n) to)) in
     let tok : Tok text (from + n) to more = found_tok reading.Algorithm text (from + n) to none in
-    let marks = sym (tok_offences true text (from + n) to more tok) ∙ no_least (offences true (from + n) (parts (stretch text (from + n) to))) none in
+    let marks = sym (tok_offences true text (from + n) to more tok) ∙ nothing_wrong reading.Algorithm text (from + n) to none in
     let w : stretch bytes 0 n ≡ b.word =
     (let s : bytes ≡ b.word ++ drop (length b.word) bytes = begins_is bytes b.word b.stands in
     let z : n - 0 ≡ length b.word = omega (arith, b.len) in

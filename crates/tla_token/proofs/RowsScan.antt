@@ -9,7 +9,7 @@ use Rattle.tla_token.specs.Tokens.{lexeme}
 use Rattle.tla_token.specs.Offences.{sound}
 use Rattle.tla_token.specs.Scan.{in_128_bits, part_of, front}
 use Rattle.tla_token.specs.declared.token.Kind.TheVariants as kind
-use Rattle.tla_token.specs.Readings.{first_offence, opening_of}
+use Rattle.tla_token.specs.Readings.{first_offence, opening_of, given_offence}
 use Rattle.tla_token.specs.TokensSeen.{IsCanonical}
 
 an_algorithm : opening_of (codes "--algorithm A") ≡ Some (codes "--algorithm")
@@ -38,6 +38,23 @@ a_mark_in_an_algorithm = refl
 
 a_mark_elsewhere : first_offence reading.Read marked_string 0 6 ≡ None
 a_mark_elsewhere = refl
+
+-- a string in which an algorithm's stretch ends is looked at on its whole line
+a_mark_past_the_end : given_offence (codes "--algorithm A \"*)\"") 0 15 ≡ Some (rule.BadToken, 14)
+a_mark_past_the_end = refl
+
+a_bad_escape_past_the_end : given_offence (codes "--algorithm A \"a\\q\"") 0 16 ≡ Some (rule.BadToken, 14)
+a_bad_escape_past_the_end = refl
+
+open_on_its_line : given_offence (codes "--algorithm A \"*)\n\"") 0 15 ≡ Some (rule.OpenString, 14)
+open_on_its_line = refl
+
+-- without a mark it isn't closed in its stretch
+no_mark_past_the_end : given_offence (codes "--algorithm A \"a\"") 0 15 ≡ Some (rule.OpenString, 14)
+no_mark_past_the_end = refl
+
+a_mark_past_another_end : given_offence (codes "A \"*)\"") 0 3 ≡ Some (rule.OpenString, 2)
+a_mark_past_another_end = refl
 
 in_bits : in_128_bits (2 ^ 128) ≡ None
 in_bits = refl

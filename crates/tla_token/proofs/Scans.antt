@@ -18,10 +18,10 @@ use Rattle.tla_token.specs.declared.scan.Scan.{Scan}
 use Rattle.tla_token.specs.Places.{step, after, start, place_at}
 use Rattle.tla_token.specs.Lexemes.{Kind, is_word, is_letter, is_blank, unquoted}
 use Rattle.tla_token.specs.Tokens.{Token, stretch}
-use Rattle.tla_token.specs.Offences.{Part, part_bytes, Offence, least}
+use Rattle.tla_token.specs.Offences.{Part, part_bytes, part_offences, Offence, least}
 use Rattle.tla_token.specs.Cut.{run, parts}
 use Rattle.tla_token.specs.Scan.{is_quoted, inner, part_of, front, IsWordless}
-use Rattle.tla_token.specs.Readings.{offences_in, part_offences_in, joined, first_offence, names_algorithm}
+use Rattle.tla_token.specs.Readings.{offences_in, part_offences_in, joined, quote_at, last_quote, first_part_offences, line_offence, with_line, first_offence, names_algorithm}
 use Rattle.tla_token.specs.TokensSeen.{part_kind}
 use Rattle.tla_token.specs.Scanning.{token_at, lexemes_of, Outcome, outcome, Stands, GoesOn}
 use Rattle.tla_token.proofs.Words.{one_plus}
@@ -58,6 +58,12 @@ offence_on r f at n t x bytes l cut =
     ∙ ap (joined f) (least_append (part_offences_in r at x) (offences_in r (at + n) rest))
     ∙ sym (joined_assoc f (least (part_offences_in r at x)) (least (offences_in r (at + n) rest)))
 
+quote_on : (q : Option ℕ) (at n : ℕ) (t : List ℕ) (x : Part) → part_bytes x ≡ take n t → n ≤ length t → parts t ≡ x ∷ parts (drop n t)
+    → last_quote at q (parts t) ≡ last_quote (at + n) (quote_at at x) (parts (drop n t))
+quote_on q at n t x bytes l cut =
+    let size : length (part_bytes x) ≡ n = ap length bytes ∙ length-take-le n t l in
+    ap (last_quote at q) cut ∙ ap (λ (m : ℕ). last_quote (at + m) (quote_at at x) (parts (drop n t))) size
+
 end_on : (p : Place) (n : ℕ) (t : List ℕ) → after p t ≡ after (after p (take n t)) (drop n t)
 end_on p n t = ap (after p) (sym (take-append-drop n t)) ∙ after_append p (take n t) (drop n t)
 
@@ -72,9 +78,10 @@ pub steps_on : (r : Reading) (from : ℕ) (bytes : List ℕ) (s t : Scan) (p : c
     → t.place ≡ after s.place (take p.len (drop s.at bytes))
     → t.fault ≡ joined s.fault (least (part_offences_in r (from + s.at) (part_of p.class (take p.len (drop s.at bytes)))))
     → us ≡ ts ++ token_at s.place (from + s.at) (part_kind (part_of p.class (take p.len (drop s.at bytes))))
+    → t.quote ≡ quote_at (from + s.at) (part_of p.class (take p.len (drop s.at bytes)))
     → outcome r from ts s (drop s.at bytes) ≡ outcome r from us t (drop t.at bytes)
 unfolding outcome
-steps_on r from bytes s t p ts us e at place fault tokens =
+steps_on r from bytes s t p ts us e at place fault tokens quote =
     let rest = drop s.at bytes in
     let f = found rest p e in
     let goes : from + s.at + p.len ≡ from + t.at = omega arith in
@@ -93,7 +100,12 @@ steps_on r from bytes s t p ts us e at place fault tokens =
     ∙ ap (λ (o : Option Offence). joined o (least (offences_in r (from + s.at + p.len) (parts (drop p.len rest))))) (ap (λ (y : Part). joined s.fault (least (part_offences_in r (from + s.at) y))) (sym f.is) ∙ sym fault)
     ∙ offence_moved) in
     let z : after s.place rest ≡ after t.place (drop t.at bytes) = end_on s.place p.len rest ∙ end_moved in
-    λ i. record { tokens = x i; offence = y i; end = z i }
+    let quote_moved : last_quote (from + s.at + p.len) t.quote (parts (drop p.len rest)) ≡ last_quote (from + t.at) t.quote (parts (drop t.at bytes)) = (λ i. last_quote (goes i) t.quote (parts (dropped i))) in
+    let w : last_quote (from + s.at) s.quote (parts rest) ≡ last_quote (from + t.at) t.quote (parts (drop t.at bytes)) =
+    (quote_on s.quote (from + s.at) p.len rest f.part f.bytes f.within f.cut
+    ∙ ap (λ (q : Option ℕ). last_quote (from + s.at + p.len) q (parts (drop p.len rest))) (ap (quote_at (from + s.at)) (sym f.is) ∙ sym quote)
+    ∙ quote_moved) in
+    λ i. record { tokens = x i; offence = y i; end = z i; quote = w i }
 
 run_first : (p : ℕ → Bool) (b : ℕ) (bs : List ℕ) → p b ≡ true → run p (b ∷ bs) ≡ b ∷ run p bs
 run_first p b bs h = rw (h, one_plus) refl
@@ -164,13 +176,14 @@ wordless_on w n at bytes h = (let P : List ℕ → Type 0 = λ u. IsWordless (w 
 -- ---- the end
 
 pub all_found : (r : Reading) (from : ℕ) (bytes : List ℕ) (s b : Scan) (us ts : List Token) → outcome r from us s (drop s.at bytes) ≡ outcome r from ts b (drop b.at bytes) → length bytes ≤ s.at → b.fault ≡ None
-    → (us ≡ ts ++ lexemes_of b.place (from + b.at) (parts (drop b.at bytes))) × (s.fault ≡ least (offences_in r (from + b.at) (parts (drop b.at bytes)))) × (s.place ≡ after b.place (drop b.at bytes))
+    → (us ≡ ts ++ lexemes_of b.place (from + b.at) (parts (drop b.at bytes))) × (s.fault ≡ least (offences_in r (from + b.at) (parts (drop b.at bytes)))) × (s.place ≡ after b.place (drop b.at bytes)) × (s.quote ≡ last_quote (from + b.at) b.quote (parts (drop b.at bytes)))
 unfolding outcome
 all_found r from bytes s b us ts e l none =
     let d : drop s.at bytes ≡ [] = drop_all s.at bytes l in
     let tokens : us ++ lexemes_of s.place (from + s.at) (parts (drop s.at bytes)) ≡ ts ++ lexemes_of b.place (from + b.at) (parts (drop b.at bytes)) = ap (λ (o : Outcome). o.tokens) e in
     let offence : joined s.fault (least (offences_in r (from + s.at) (parts (drop s.at bytes)))) ≡ joined b.fault (least (offences_in r (from + b.at) (parts (drop b.at bytes)))) = ap (λ (o : Outcome). o.offence) e in
-    let end : after s.place (drop s.at bytes) ≡ after b.place (drop b.at bytes) = ap (λ (o : Outcome). o.end) e in (
+    let end : after s.place (drop s.at bytes) ≡ after b.place (drop b.at bytes) = ap (λ (o : Outcome). o.end) e in
+    let quote : last_quote (from + s.at) s.quote (parts (drop s.at bytes)) ≡ last_quote (from + b.at) b.quote (parts (drop b.at bytes)) = ap (λ (o : Outcome). o.quote) e in (
       sym (append-nil us) ∙ ap (λ (u : List ℕ). us ++ lexemes_of s.place (from + s.at) (parts u)) (sym d) ∙ tokens,
       sym (joined_none s.fault)
           ∙ ap (joined s.fault) (sym (nothing r (from + s.at)))
@@ -178,6 +191,7 @@ all_found r from bytes s b us ts e l none =
           ∙ offence
           ∙ ap (λ (o : Option Offence). joined o (least (offences_in r (from + b.at) (parts (drop b.at bytes))))) none,
       ap (after s.place) (sym d) ∙ end,
+      ap (λ (u : List ℕ). last_quote (from + s.at) s.quote (parts u)) (sym d) ∙ quote,
     )
   where
     nothing : (r : Reading) (at : ℕ) → least (offences_in r at (parts [])) ≡ None
@@ -218,21 +232,24 @@ begins_there text from begin to s f t l at line col w =
     record { within = omega arith; line = omega arith; col = omega arith; wordless = subst P (sym w) (none_known (drop s.at (stretch text from to))) }
 
 -- what is found of a stretch from `begin` on
-pub rest_found : (r : Reading) (text : List ℕ) (from begin to : ℕ) (s b : Scan) (us ts : List Token) → from ≤ begin → begin ≤ to → b.at ≡ begin - from → b.fault ≡ None → b.place ≡ place_at text begin
+pub rest_found : (r : Reading) (text : List ℕ) (from begin to : ℕ) (s b : Scan) (us ts : List Token) → from ≤ begin → begin ≤ to → b.at ≡ begin - from → b.fault ≡ None → b.place ≡ place_at text begin → b.quote ≡ None
     → outcome r from us s (drop s.at (stretch text from to)) ≡ outcome r from ts b (drop b.at (stretch text from to)) → length (stretch text from to) ≤ s.at
-    → (us ≡ ts ++ lexemes_of (place_at text begin) begin (parts (stretch text begin to))) × (s.fault ≡ first_offence r text begin to) × (s.place ≡ place_at text to)
-rest_found r text from begin to s b us ts f t at none place e l =
+    → (us ≡ ts ++ lexemes_of (place_at text begin) begin (parts (stretch text begin to))) × (with_line r text s.quote s.fault ≡ first_offence r text begin to) × (s.place ≡ place_at text to)
+rest_found r text from begin to s b us ts f t at none place start e l =
     let x = all_found r from (stretch text from to) s b us ts e l none in
     let d : drop b.at (stretch text from to) ≡ stretch text begin to = ap (λ (n : ℕ). drop n (stretch text from to)) at ∙ stretch_on text from begin to f t in
     let g : from + b.at ≡ begin = omega arith in
     let u : ts ++ lexemes_of b.place (from + b.at) (parts (drop b.at (stretch text from to))) ≡ ts ++ lexemes_of (place_at text begin) begin (parts (stretch text begin to)) = (λ i. ts ++ lexemes_of (place i) (g i) (parts (d i))) in
-    let v : least (offences_in r (from + b.at) (parts (drop b.at (stretch text from to)))) ≡ first_offence r text begin to = (λ i. least (offences_in r (g i) (parts (d i)))) in
+    let v : least (offences_in r (from + b.at) (parts (drop b.at (stretch text from to)))) ≡ least (offences_in r begin (parts (stretch text begin to))) = (λ i. least (offences_in r (g i) (parts (d i)))) in
+    let q : last_quote (from + b.at) b.quote (parts (drop b.at (stretch text from to))) ≡ last_quote begin None (parts (stretch text begin to)) = (λ i. last_quote (g i) (start i) (parts (d i))) in
     let w : after b.place (drop b.at (stretch text from to)) ≡ after (place_at text begin) (stretch text begin to) = (λ i. after (place i) (d i)) in
-    (x.0 ∙ u, x.1 ∙ v, x.2 ∙ w ∙ stretch_end text begin to t)
+    let fault = x.1 ∙ v in
+    let quote = x.3 ∙ q in
+    (x.0 ∙ u, (λ i. with_line r text (quote i) (fault i)), x.2 ∙ w ∙ stretch_end text begin to t)
 
 -- ---- one part further
 
-pub goes_past : (r : Reading) (from : ℕ) (bytes : List ℕ) (s : Scan) (p : code.Part) (piece : List ℕ) (place : Place) (w : ℕ) (f : Option Offence) (ts us : List Token) (kind : Option Kind)
+pub goes_past : (r : Reading) (from : ℕ) (bytes : List ℕ) (s : Scan) (p : code.Part) (piece : List ℕ) (place : Place) (w : ℕ) (f : Option Offence) (ts us : List Token) (kind : Option Kind) (quote : Option ℕ)
     → Stands from bytes s
     → Some p ≡ front (drop s.at bytes)
     → piece ≡ take p.len (drop s.at bytes)
@@ -243,10 +260,11 @@ pub goes_past : (r : Reading) (from : ℕ) (bytes : List ℕ) (s : Scan) (p : co
     → f ≡ joined s.fault (least (part_offences_in r (from + s.at) (part_of p.class piece)))
     → kind ≡ part_kind (part_of p.class (take p.len (drop s.at bytes)))
     → us ≡ ts ++ token_at s.place (from + s.at) kind
-    → GoesOn r from bytes ts us s (Some (record { at = s.at + p.len; place = place; wordless = w; fault = f }))
-goes_past r from bytes s p piece place w f ts us kind stands e is moved line col known fault sort kept =
+    → quote ≡ quote_at (from + s.at) (part_of p.class (take p.len (drop s.at bytes)))
+    → GoesOn r from bytes ts us s (Some (record { at = s.at + p.len; place = place; wordless = w; fault = f; quote = quote }))
+goes_past r from bytes s p piece place w f ts us kind quote stands e is moved line col known fault sort kept ends =
     let rest = drop s.at bytes in
-    let t : Scan = record { at = s.at + p.len; place = place; wordless = w; fault = f } in
+    let t : Scan = record { at = s.at + p.len; place = place; wordless = w; fault = f; quote = quote } in
     let size : length piece ≡ p.len = ap length is ∙ part_size rest p e in
     let left : length rest ≡ length bytes - s.at = length-drop s.at bytes in
     let in_rest : p.len ≤ length rest = part_within rest p e in
@@ -258,7 +276,7 @@ goes_past r from bytes s p piece place w f ts us kind stands e is moved line col
     let there : Stands from bytes t = record { within = omega arith; line = omega arith; col = omega arith; wordless = subst P (sym known) (wordless_on s.wordless p.len s.at bytes stands.wordless) } in
     let goes : outcome r from ts s rest ≡ outcome r from us t (drop t.at bytes) =
     steps_on r from bytes s t p ts us e refl (moved ∙ ap (after s.place) is) (fault ∙ ap (λ (u : List ℕ). joined s.fault (least (part_offences_in r (from + s.at) (part_of p.class u)))) is)
-    (kept ∙ ap (λ (k : Option Kind). ts ++ token_at s.place (from + s.at) k) sort) in
+    (kept ∙ ap (λ (k : Option Kind). ts ++ token_at s.place (from + s.at) k) sort) ends in
     (omega arith, there, goes)
 
 -- ---- at the end
@@ -283,9 +301,25 @@ at_end bytes at e =
     omega (arith, length-drop at bytes)
 
 -- what is known of words changes nothing of what is found
-known_alike : (r : Reading) (from : ℕ) (ts : List Token) (s : Scan) (w : ℕ) (rest : List ℕ) → outcome r from ts s rest ≡ outcome r from ts (record { at = s.at; place = s.place; wordless = w; fault = s.fault }) rest
+known_alike : (r : Reading) (from : ℕ) (ts : List Token) (s : Scan) (w : ℕ) (rest : List ℕ) → outcome r from ts s rest ≡ outcome r from ts (record { at = s.at; place = s.place; wordless = w; fault = s.fault; quote = s.quote }) rest
 unfolding outcome
 known_alike r from ts s w rest = refl
 
-pub goes_known : (r : Reading) (from : ℕ) (bytes : List ℕ) (ts us : List Token) (s : Scan) (w : ℕ) (t : Scan) → GoesOn r from bytes ts us (record { at = s.at; place = s.place; wordless = w; fault = s.fault }) (Some t) → GoesOn r from bytes ts us s (Some t)
+pub goes_known : (r : Reading) (from : ℕ) (bytes : List ℕ) (ts us : List Token) (s : Scan) (w : ℕ) (t : Scan) → GoesOn r from bytes ts us (record { at = s.at; place = s.place; wordless = w; fault = s.fault; quote = s.quote }) (Some t) → GoesOn r from bytes ts us s (Some t)
 goes_known r from bytes ts us s w t h = (h.0, h.1, known_alike r from ts s w (drop s.at bytes) ∙ h.2)
+
+-- ---- a string on its whole line
+
+pub line_found : (text : List ℕ) (at : ℕ) (p : code.Part) (piece : List ℕ) (o : Option Offence) → Some p ≡ front (drop at text) → piece ≡ take p.len (drop at text)
+    → o ≡ least (part_offences_in reading.Algorithm at (part_of p.class piece)) → o ≡ line_offence text (Some at)
+line_found text at p piece o e is fault =
+    let f = found (drop at text) p e in
+    fault ∙ ap (λ (u : List ℕ). least (part_offences true at (part_of p.class u))) is
+    ∙ ap (λ (x : Part). least (part_offences true at x)) f.is ∙ ap (λ (xs : List Part). least (first_part_offences at xs)) (sym f.cut)
+
+pub line_none : (text : List ℕ) (at : ℕ) → None ≡ front (drop at text) → None ≡ line_offence text (Some at)
+line_none text at e = none (drop at text) (nothing_found (drop at text) e)
+  where
+    none : (t : List ℕ) → length t ≡ 0 → None ≡ least (first_part_offences at (parts t))
+    none [] l = refl
+    none (b ∷ bs) l = absurd (omega arith)

@@ -7,7 +7,7 @@ use Rattle.tla_token.specs.declared.rule.Refusal.{Refusal}
 use Rattle.tla_token.specs.Places.{place_at}
 use Rattle.tla_token.specs.Lexemes.{number, is_blank}
 use Rattle.tla_token.specs.Tokens.{Token, lexeme, stretch, Tok, TokAlgorithm}
-use Rattle.tla_token.specs.Offences.{Part, sound, part_bytes, Offence, kind_offences, part_offences, offences, or_earlier, least}
+use Rattle.tla_token.specs.Offences.{Part, sound, open_string, part_bytes, Offence, kind_offences, part_offences, offences, or_earlier, least}
 use Rattle.tla_token.specs.Cut.{run, parts}
 
 abbrev pub is_algorithm : Reading → Bool
@@ -34,18 +34,48 @@ part_offences_in reading.Unread at p = part_offences false at p
 part_offences_in reading.Read at p = part_offences false at p ++ number_offences at p
 part_offences_in reading.Algorithm at p = part_offences true at p
 
--- the offence that counts in a stretch
-abbrev pub first_offence : Reading → List ℕ → ℕ → ℕ → Option Offence
-first_offence r text from to = least (offences_in r from (parts (stretch text from to)))
-
--- the refusal of a stretch
-abbrev pub IsRefused : Reading → List ℕ → ℕ → ℕ → Refusal → Type 0
-IsRefused r text from to refusal = (at : ℕ) × (first_offence r text from to ≡ Some (refusal.rule, at)) × (refusal.place ≡ place_at text at)
-
 -- of two offences that may be the one that counts
 abbrev pub joined : Option Offence → Option Offence → Option Offence
 joined None q = q
 joined (Some o) q = or_earlier o q
+
+-- ---- a string in which a stretch ends
+
+-- where a part begins, if it is a string that isn't closed
+abbrev pub quote_at : ℕ → Part → Option ℕ
+quote_at at (open_string raw) = Some at
+quote_at at p = None
+
+-- the same of the last of these parts, behind one with this quote
+abbrev pub last_quote : ℕ → Option ℕ → List Part → Option ℕ
+last_quote at q [] = q
+last_quote at q (p ∷ ps) = last_quote (at + length (part_bytes p)) (quote_at at p) ps
+
+-- what is wrong in an algorithm with the first of these parts
+abbrev pub first_part_offences : ℕ → List Part → List Offence
+first_part_offences at [] = []
+first_part_offences at (p ∷ ps) = part_offences true at p
+
+-- what is wrong with the string behind this quote of a text, on its whole line
+abbrev pub line_offence : List ℕ → Option ℕ → Option Offence
+line_offence text None = None
+line_offence text (Some at) = least (first_part_offences at (parts (drop at text)))
+
+-- in an algorithm, a string in which the stretch ends is looked at on its whole line too
+abbrev pub with_line : Reading → List ℕ → Option ℕ → Option Offence → Option Offence
+with_line reading.Algorithm text q o = joined o (line_offence text q)
+with_line r text q o = o
+
+-- ---- the offence that counts
+
+abbrev pub first_offence : Reading → List ℕ → ℕ → ℕ → Option Offence
+first_offence r text from to =
+    let ps = parts (stretch text from to) in
+    with_line r text (last_quote from None ps) (least (offences_in r from ps))
+
+-- the refusal of a stretch
+abbrev pub IsRefused : Reading → List ℕ → ℕ → ℕ → Refusal → Type 0
+IsRefused r text from to refusal = (at : ℕ) × (first_offence r text from to ≡ Some (refusal.rule, at)) × (refusal.place ≡ place_at text at)
 
 -- ---- which stretch is an algorithm's
 

@@ -9,7 +9,7 @@ use Rattle.tla_token.specs.Tokens.{Token}
 use Rattle.tla_token.specs.Offences.{Part, part_bytes, Offence, least}
 use Rattle.tla_token.specs.Cut.{parts}
 use Rattle.tla_token.specs.Scan.{IsWordless}
-use Rattle.tla_token.specs.Readings.{offences_in, joined}
+use Rattle.tla_token.specs.Readings.{offences_in, joined, last_quote}
 use Rattle.tla_token.specs.TokensSeen.{part_kind}
 
 abbrev pub token_at : Place → ℕ → Option Kind → List Token
@@ -21,11 +21,12 @@ abbrev pub lexemes_of : Place → ℕ → List Part → List Token
 lexemes_of p at [] = []
 lexemes_of p at (x ∷ xs) = token_at p at (part_kind x) ++ lexemes_of (after p (part_bytes x)) (at + length (part_bytes x)) xs
 
--- what is found in all: tokens, the offence that counts, and the place of the end
+-- what is found in all: tokens, the offence that counts, the place of the end, and the quote of a string that is open there
 pub record Outcome : Type 0 where
   pub tokens : List Token
   pub offence : Option Offence
   pub end : Place
+  pub quote : Option ℕ
 
 -- found so far are these tokens and what the scanner knows, and this is still to come of a stretch that begins at `from`
 unfoldable pub outcome : Reading → ℕ → List Token → Scan → List ℕ → Outcome
@@ -34,6 +35,7 @@ outcome r from ts s rest =
       tokens = ts ++ lexemes_of s.place (from + s.at) (parts rest);
       offence = joined s.fault (least (offences_in r (from + s.at) (parts rest)));
       end = after s.place rest;
+      quote = last_quote (from + s.at) s.quote (parts rest);
     }
 
 -- it stands in these bytes, which begin at `from` in the text

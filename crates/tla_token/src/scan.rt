@@ -6,9 +6,9 @@ ghost use Rattle.tla_token.specs.Limits.{past_text};
 ghost use Rattle.tla_token.specs.Places.{place_at};
 ghost use Rattle.tla_token.specs.Tokens.{stretch, Tok};
 ghost use Rattle.tla_token.specs.Cut.{parts};
-ghost use Rattle.tla_token.specs.Scan.{is_quoted, inner, front};
+ghost use Rattle.tla_token.specs.Scan.{is_quoted, inner, part_of, front};
 ghost use Rattle.tla_token.specs.Lexemes.{unquoted};
-ghost use Rattle.tla_token.specs.Readings.{first_offence, IsRefused, names_algorithm, opening_of, AreTokens, given_offence, IsGivenRefused};
+ghost use Rattle.tla_token.specs.Readings.{quote_at, line_offence, with_line, first_offence, IsRefused, names_algorithm, opening_of, AreTokens, given_offence, IsGivenRefused};
 ghost use Rattle.tla_token.specs.TokensSeen.{kind_seen, token_seen, tokens_seen, IsCanonical, AllCanonical};
 ghost use Rattle.tla_token.specs.Scanning.{token_at, lexemes_of, Stands, GoesOn};
 
@@ -29,6 +29,8 @@ pub struct Scan {
     pub wordless: usize,
     /// The offence that counts so far.
     pub fault: Option<(Rule, usize)>,
+    /// Where the last part began, if it was a string that isn't closed.
+    pub quote: Option<usize>,
 }
 
 /// The tokens of a stretch of a text that is given to be read, as an algorithm's where it begins with `--algorithm`,
@@ -36,7 +38,8 @@ pub struct Scan {
 ///
 /// # Errors
 ///
-/// The least of the rules 1 to 4 and 12 that the stretch offends, at its first place; or want of memory.
+/// The least of the rules 1 to 4 and 12 that the stretch offends, at its first place; or want of memory. A string in which
+/// an algorithm's stretch ends is looked at on its whole line.
 pub fn tokens(alloc: Global, text: &[u8], from: usize, to: usize) -> Result<Tokens, Stop>
     requires begins { from ≤ to }
     requires ends { to ≤ length text.now }
@@ -166,11 +169,12 @@ fn rest_of(
         place: place_of(text, start),
         wordless: 0,
         fault: None,
+        quote: None,
     };
     'parts: while let Some(after) = next(alloc, bytes, from, reading, scan, &mut items)? {
         scan = after;
     }
-    if let Some((rule, at)) = scan.fault {
+    if let Some((rule, at)) = whole_fault(text, scan.quote, scan.fault, reading) {
         return Err(Stop::Refused(Refusal {
             rule,
             place: place_near(text, at),
@@ -181,6 +185,52 @@ fn rest_of(
         items,
         end: scan.place,
     })
+}
+
+// The offence that counts. In an algorithm, a string in which the stretch ends is looked at on its whole line too.
+#[tactic(auto, using(crate::proofs::Faults::joined_none))]
+fn whole_fault(
+    text: &[u8],
+    quote: Option<usize>,
+    fault: Option<(Rule, usize)>,
+    reading: Reading,
+) -> Option<(Rule, usize)>
+    requires { length text.now < past_text }
+    ensures { result ≡ with_line reading text.now quote fault }
+{
+    match reading {
+        Reading::Algorithm => match quote {
+            Some(at) => sooner(fault, line_fault(text, at)),
+            None => fault,
+        },
+        _ => fault,
+    }
+}
+
+// What is wrong in an algorithm with the string behind a quote, on its whole line.
+fn line_fault(text: &[u8], quote: usize) -> Option<(Rule, usize)>
+    requires { length text.now < past_text }
+    ensures { result ≡ line_offence text.now (Some quote) }
+{
+    if quote > text.len() {
+        return None;
+    }
+    let rest = &text[quote..];
+    let mut wordless = 0;
+    match part_at(rest, &mut wordless) {
+        None => None,
+        Some(part) => part_fault(part.class, piece_of(rest, part), quote, Reading::Algorithm),
+    }
+}
+
+// Where a part begins, if it is a string that isn't closed.
+fn quote_at(class: Class, at: usize) -> Option<usize>
+    ensures { (bytes : List ℕ) → result ≡ quote_at at (part_of class bytes) }
+{
+    match class {
+        Class::OpenText => Some(at),
+        _ => None,
+    }
 }
 
 // The place of a byte, or of the text's end for all behind it.
@@ -220,6 +270,7 @@ fn next(
                 place: scan.place,
                 wordless,
                 fault: scan.fault,
+                quote: scan.quote,
             };
             let there = past(alloc, bytes, from, reading, here, part, items)?;
             Ok(Some(there))
@@ -255,6 +306,7 @@ fn past(
         place,
         wordless: scan.wordless.saturating_sub(part.len),
         fault,
+        quote: quote_at(part.class, at),
     })
 }
 
