@@ -294,7 +294,7 @@ fn walk_inside(text: &[u8], end: usize, start: Inside, marks: &mut [bool]) -> In
     'parts: while inside.at < end && !is_past(inside.stage) {
         let mut wordless = inside.wordless;
         match inner_part(text, inside.at, end, &mut wordless) {
-            None => break,
+            None => unreachable!(),
             Some(part) => {
                 let here = Inside { wordless, ..inside };
                 inside = past(text, end, here, part, marks);

@@ -1,4 +1,4 @@
-//! What is where among the segments of a file: comments with algorithms, header, region and the module's end.
+//! What is where among the segments of a file: comments with algorithms, header, region and the module\'s end.
 
 ghost use Rattle.std.specs.Prelude.{◌≡◌, ◌+◌, take, drop, IfOk, All, find};
 ghost use Rattle.std.specs.List.{position_or_len};
@@ -10,6 +10,7 @@ ghost use Rattle.module_text.specs.SplitSeen.{is_header_stand, is_region_stand, 
 use crate::beginning::{add_beginnings, first_beginning};
 use crate::offence::is_newline;
 use crate::stand::{Shape, Stand};
+use crate::walk::{is_header_line, is_region_shape};
 use std::alloc::{AllocError, Global};
 use tla_token::{Class, Span};
 
@@ -86,26 +87,20 @@ pub fn holder(text: &[u8], stands: &[Stand]) -> usize
     stands.len()
 }
 
-// ---- header, region and the module's end
+// ---- header, region and the module\'s end
 
 /// Whether it is the header.
 pub fn is_header(stand: Stand) -> bool
     ensures { result ≡ is_header_stand stand }
 {
-    match stand.shape {
-        Shape::Header => true,
-        _ => false,
-    }
+    is_header_line(stand.shape)
 }
 
 /// Whether it is the old translation.
 pub fn is_region(stand: Stand) -> bool
     ensures { result ≡ is_region_stand stand }
 {
-    match stand.shape {
-        Shape::Region(_) => true,
-        _ => false,
-    }
+    is_region_shape(stand.shape)
 }
 
 /// Whether it is the module\'s end.
