@@ -29,14 +29,18 @@ pub enum Stage {
     OpenP(bool),
     /// In C-syntax, within so many braces.
     OpenC(usize),
+    /// Behind the end of one in P-syntax.
     PastP,
+    /// Behind the end of one in C-syntax.
     PastC,
 }
 
 /// A walk over an algorithm: where it is, and what it has found.
 #[derive(Clone, Copy, PartialEq, Eq, Debug)]
 pub struct Inside {
+    /// The index of the next byte.
     pub at: usize,
+    /// What the tokens up to there are.
     pub stage: Stage,
     /// So many bytes from here on are known to be in a word without a letter.
     pub wordless: usize,

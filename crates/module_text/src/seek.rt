@@ -1,4 +1,4 @@
-//! What is where among the segments of a file: comments with algorithms, header, region and the module\'s end.
+//! What is where among the segments of a file: comments with algorithms, header, region and the module's end.
 
 ghost use Rattle.std.specs.Prelude.{◌≡◌, ◌+◌, take, drop, IfOk, All, find};
 ghost use Rattle.std.specs.List.{position_or_len};
@@ -87,7 +87,7 @@ pub fn holder(text: &[u8], stands: &[Stand]) -> usize
     stands.len()
 }
 
-// ---- header, region and the module\'s end
+// ---- header, region and the module's end
 
 /// Whether it is the header.
 pub fn is_header(stand: Stand) -> bool
@@ -103,7 +103,7 @@ pub fn is_region(stand: Stand) -> bool
     is_region_shape(stand.shape)
 }
 
-/// Whether it is the module\'s end.
+/// Whether it is the module's end.
 pub fn is_tail(stand: Stand) -> bool
     ensures { result ≡ is_tail_stand stand }
 {
@@ -127,7 +127,7 @@ pub fn region(stands: &[Stand]) -> Option<Stand>
     stands.iter().copied().find(|stand| is_region(*stand))
 }
 
-/// The module\'s end.
+/// The module's end.
 pub fn tail(stands: &[Stand]) -> Option<Stand>
     ensures { result ≡ find is_tail_stand stands.now }
 {

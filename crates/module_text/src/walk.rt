@@ -18,7 +18,9 @@ use tla_token::place::{Place, place_after};
 /// What a segment is, and how many bytes it has.
 #[derive(Clone, Copy, PartialEq, Eq, Debug)]
 pub struct Front {
+    /// What it is.
     pub shape: Shape,
+    /// How many bytes it has.
     pub len: usize,
 }
 
@@ -34,12 +36,15 @@ pub struct Known {
 /// Where a walk is in a file, and what it knows.
 #[derive(Clone, Copy, PartialEq, Eq, Debug)]
 pub struct Walker {
+    /// The index of the next byte.
     pub at: usize,
+    /// The place of that byte.
     pub place: Place,
     /// After the header.
     pub headed: bool,
     /// After the region.
     pub marked: bool,
+    /// What it knows of the bytes from there on.
     pub known: Known,
 }
 
