@@ -20,9 +20,9 @@ use Rattle.module_text.specs.declared.algorithm.Stage.TheVariants as code
 use Rattle.module_tree.specs.TextFront.{Text}
 use Rattle.module_tree.specs.Beginnings.{is_fair, opening, begins_algorithm}
 use Rattle.module_tree.specs.ModuleParts.{kind_in}
-use Rattle.module_tree.specs.AlgorithmText.{Stage, head, is_past, after_part, IndexedPart, Inside, with_part, inner_part, inside, algorithm_at}
-use Rattle.module_text.specs.AlgorithmSeen.{stage_seen, depth, part_rest, from_here, IsInside, splitting_parts, is_token_byte, in_tokens, Passes, Reaches}
-use Rattle.module_tree.specs.FileOffences.{is_splitting}
+use Rattle.module_tree.specs.AlgorithmText.{Stage, head, is_past, after_part, IndexedPart, is_token_byte, in_tokens, Inside, with_part, inner_part, inside, algorithm_at}
+use Rattle.module_text.specs.AlgorithmSeen.{stage_seen, depth, part_rest, from_here, IsInside, Passes, Reaches}
+use Rattle.module_tree.specs.FileOffences.{inner_offences, is_splitting}
 use Rattle.module_tree.proofs.AlgorithmFound.{opened}
 use Rattle.module_text.proofs.BeginningSteps.{stretch_is}
 
@@ -220,13 +220,13 @@ passes x end s t before after p bytes here l m goes e is at stage deep known fau
 pub record Follows (x : Text) (end : ℕ) (s t : code_inside.Inside) (before after : List Bool) : Type 0 where
   pub to : (from_here x end t).to ≡ (from_here x end s).to
   pub stage : (from_here x end t).stage ≡ (from_here x end s).stage
-  pub fault : joined t.fault (least (splitting_parts (from_here x end t).parts)) ≡ joined s.fault (least (splitting_parts (from_here x end s).parts))
+  pub fault : joined t.fault (least (filter is_splitting (inner_offences (from_here x end t).parts))) ≡ joined s.fault (least (filter is_splitting (inner_offences (from_here x end s).parts)))
   pub marked : (k : ℕ) → (get_or after k false || in_tokens (from_here x end t).parts k) ≡ (get_or before k false || in_tokens (from_here x end s).parts k)
 
 pub follows_start : (x : Text) (end : ℕ) (s : code_inside.Inside) (before : List Bool) → Follows x end s s before before
 follows_start x end s before = record { to = refl; stage = refl; fault = refl; marked = λ k. refl }
 
-first_fault : (n : ℕ) (p : Part) (ps : List IndexedPart) → least (splitting_parts ((n, p) ∷ ps)) ≡ joined (least (filter is_splitting (part_offences true n p))) (least (splitting_parts ps))
+first_fault : (n : ℕ) (p : Part) (ps : List IndexedPart) → least (filter is_splitting (inner_offences ((n, p) ∷ ps))) ≡ joined (least (filter is_splitting (part_offences true n p))) (least (filter is_splitting (inner_offences ps)))
 first_fault n p ps =
     let rest = flat_map (λ (p : IndexedPart). part_offences true p.0 p.1) ps in
     ap least (filter-append is_splitting (part_offences true n p) rest) ∙ least_append (filter is_splitting (part_offences true n p)) (filter is_splitting rest)
@@ -242,10 +242,10 @@ follows_on x end a s t first before after f p =
       to = ap (λ (i : Inside). i.to) (sym p.found) ∙ f.to;
       stage = ap (λ (i : Inside). i.stage) (sym p.found) ∙ f.stage;
       fault =
-          ap (λ (o : Option Offence). joined o (least (splitting_parts rest))) p.fault
-          ∙ joined_assoc s.fault (least (filter is_splitting (part_offences true s.at p.part))) (least (splitting_parts rest))
+          ap (λ (o : Option Offence). joined o (least (filter is_splitting (inner_offences rest)))) p.fault
+          ∙ joined_assoc s.fault (least (filter is_splitting (part_offences true s.at p.part))) (least (filter is_splitting (inner_offences rest)))
           ∙ ap (joined s.fault) (sym (first_fault s.at p.part rest))
-          ∙ ap (λ (i : Inside). joined s.fault (least (splitting_parts i.parts))) (sym p.found)
+          ∙ ap (λ (i : Inside). joined s.fault (least (filter is_splitting (inner_offences i.parts)))) (sym p.found)
           ∙ f.fault;
       marked = λ k.
           ap (λ (m : Bool). m || in_tokens rest k) (p.marked k)
@@ -261,7 +261,7 @@ follows_known x end a s t first after at stage fault f =
     record {
       to = ap (λ (i : Inside). i.to) same ∙ f.to;
       stage = ap (λ (i : Inside). i.stage) same ∙ f.stage;
-      fault = (λ j. joined (fault j) (least (splitting_parts (same j).parts))) ∙ f.fault;
+      fault = (λ j. joined (fault j) (least (filter is_splitting (inner_offences (same j).parts)))) ∙ f.fault;
       marked = λ k. ap (λ (i : Inside). get_or after k false || in_tokens i.parts k) same ∙ f.marked k;
     }
 
@@ -272,7 +272,7 @@ none_more : (x : Text) (end : ℕ) (s : code_inside.Inside) → from_here x end 
 none_more x end s e first after a f = record {
   to = ap (λ (i : Inside). i.to) (sym e) ∙ f.to;
   stage = ap (λ (i : Inside). i.stage) (sym e) ∙ f.stage;
-  fault = sym (joined_none s.fault) ∙ ap (λ (i : Inside). joined s.fault (least (splitting_parts i.parts))) (sym e) ∙ f.fault;
+  fault = sym (joined_none s.fault) ∙ ap (λ (i : Inside). joined s.fault (least (filter is_splitting (inner_offences i.parts)))) (sym e) ∙ f.fault;
   marked = λ k. sym (or_none (get_or after k false)) ∙ ap (λ (i : Inside). get_or after k false || in_tokens i.parts k) (sym e) ∙ f.marked k;
 }
   where

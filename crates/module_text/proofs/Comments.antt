@@ -1,8 +1,9 @@
 -- What is within the comments of a file in memory.
-use Rattle.std.proofs.Common.{◌≡◌, ℕ, zero, suc, ◌+◌, ◌-◌, ◌<◌, ◌≤◌, List, [], ◌∷◌, ◌++◌, length, get_or, take, drop, Option, Some, None, refl, sym, ap, ◌∙◌, arith, append_assoc, length-drop, map}
+use Rattle.std.proofs.Common.{◌≡◌, ℕ, zero, suc, ◌+◌, ◌-◌, ◌<◌, ◌≤◌, Bool, true, false, List, [], ◌∷◌, ◌++◌, length, get_or, take, drop, Option, Some, None, refl, sym, ap, ◌∙◌, arith, append_assoc, length-drop, map}
 use Rattle.std.specs.Option.{option_map}
-use Rattle.std.specs.Prelude.{Bool, slice_get, find}
+use Rattle.std.specs.Prelude.{is_some, slice_get, find}
 use Rattle.std.specs.List.{position_or_len}
+use Rattle.std.proofs.lemmas.Option.{same_Some}
 use Rattle.std.proofs.lemmas.List.{map-append, length-take-le, drop-take, drop_all}
 use Rattle.std.proofs.lemmas.List.Folds.{find_at}
 use Rattle.tla_token.specs.declared.part.Class.TheVariants as class
@@ -151,9 +152,20 @@ found_by x o = on_some o (begun_in x)
 pub no_comment : (x : Text) (ds : List Stand) (i : ℕ) → i ≡ position_or_len holds_algorithm (stands_seen x ds) → length ds ≤ i → algorithm_of x (stands_seen x ds) ≡ None
 no_comment x ds i h l = ap (found_by x) (none_seen holds_algorithm x ds i h l)
 
-pub no_beginning : (x : Text) (ds : List Stand) (i : ℕ) (e : Stand) → i ≡ position_or_len holds_algorithm (stands_seen x ds) → i < length ds → first_of (beginnings_in (located_seen x (get_or ds i e))) ≡ None → algorithm_of x (stands_seen x ds) ≡ None
+found_holds : (p : Located → Bool) (ds : List Located) (d : Located) → find p ds ≡ Some d → p d ≡ true
+found_holds p [] d e = absurd cc
+found_holds p (c ∷ ds) d e = by (p c) refl (found_holds p ds d)
+  where
+    by : (k : Bool) → p c ≡ k → (find p ds ≡ Some d → p d ≡ true) → p d ≡ true
+    by true k deeper = (let f : Some c ≡ Some d = rw k at e in ap p (sym (same_Some c d f)) ∙ k)
+    by false k deeper = deeper (rw k at e)
+
+-- the algorithm's comment has a beginning
+pub no_beginning : (x : Text) (ds : List Stand) (i : ℕ) (e : Stand) → i ≡ position_or_len holds_algorithm (stands_seen x ds) → i < length ds → first_of (beginnings_in (located_seen x (get_or ds i e))) ≡ None → ⊥
 no_beginning x ds i e h l n =
-    ap (found_by x) (found_seen holds_algorithm x ds i e h l) ∙ ap (λ (o : Option ℕ). on_some o (λ n. Some (algorithm_at n ((located_seen x (get_or ds i e)).at + 2 + length (within (located_seen x (get_or ds i e)).is) - n) (drop n x)))) n
+    let holds : is_some (first_of (beginnings_in (located_seen x (get_or ds i e)))) ≡ true = found_holds holds_algorithm (stands_seen x ds) (located_seen x (get_or ds i e)) (found_seen holds_algorithm x ds i e h l) in
+    let f : false ≡ true = ap (λ (o : Option ℕ). is_some o) (sym n) ∙ holds in
+    absurd cc
 
 pub algorithm_here : (x : Text) (ds : List Stand) (i : ℕ) (e : Stand) (s : Span) (n : ℕ) → i ≡ position_or_len holds_algorithm (stands_seen x ds) → i < length ds → IsInnerSpan x (get_or ds i e) s
     → first_of (beginnings_in (located_seen x (get_or ds i e))) ≡ Some n → algorithm_of x (stands_seen x ds) ≡ Some (algorithm_at n (s.to - n) (drop n x))

@@ -4,9 +4,7 @@ use Rattle.std.specs.Option.{option_map}
 use Rattle.std.specs.formers.vec.Vec.{mapped}
 use Rattle.tla_tree.specs.Tree.{Word, Tree}
 use Rattle.tla_tree.specs.Pool.{at, Keeps, AllBelow}
-use Rattle.tla_value.specs.Defs.{read_at, DefinitionsIn}
-use Rattle.tla_value.specs.declared.names.Definition.{Definition as Kept}
-use Rattle.tla_value.proofs.DefsGrown.{definition_at-kept, definitions_at-kept}
+use Rattle.tla_value.proofs.DefsGrown.{definitions_at-kept}
 use Rattle.module_tree.specs.Module as tree
 use Rattle.module_text.specs.declared.«module».Item.{Item}
 use Rattle.module_text.specs.declared.«module».Item.TheOpen.{Item-F}
@@ -21,8 +19,7 @@ use Rattle.module_text.specs.declared.«module».Body.TheVariants as body
 use Rattle.module_text.specs.declared.«module».Action.{Action}
 use Rattle.module_text.specs.declared.«module».Fairness.{Fairness}
 use Rattle.module_text.specs.declared.«module».Region.{Region}
-use Rattle.module_text.specs.declared.«module».Module.{Module}
-use Rattle.module_text.specs.InMemory.{items_from, branches_from, item_step, item_at, items_at, call_at, way_at, ways_at, body_at, actions_at, over_at, fairness_at, region_at, module_at, past_step, past_item, past_items, past_each, CallIn, WayIn, WaysIn, BodyIn, ActionsIn, OverIn, MaybeIn, AllFairnessIn, RegionIn, ModuleIn}
+use Rattle.module_text.specs.InMemory.{items_from, branches_from, item_step, item_at, items_at, call_at, way_at, ways_at, body_at, actions_at, over_at, fairness_at, region_at, past_step, past_item, past_items, past_each, CallIn, WayIn, WaysIn, BodyIn, ActionsIn, OverIn, MaybeIn, AllFairnessIn, RegionIn}
 
 -- ---- items: by induction, with the fact beside each item in an item
 module _ (ts us : List Tree) (k : Keeps ts us) where
@@ -120,15 +117,4 @@ module _ (ts us : List Tree) (k : Keeps ts us) where
     next = ways_at-kept r.next.items h.next j;
     fairness = fairness-kept r.fairness.items h.fairness j;
     termination = k.same r.termination h.termination j;
-  }
-
-  read-kept : (ds : List Kept) → DefinitionsIn (length ts) ds → map (read_at us) ds ≡ map (read_at ts) ds
-  read-kept [] h = refl
-  read-kept (d ∷ ds) h = λ j. record { definition = definition_at-kept ts us d k h.0 j; place = d.place } ∷ read-kept ds h.1 j
-
-  pub module_at-kept : (m : Module) → ModuleIn (length ts) m → module_at us m ≡ module_at ts m
-  module_at-kept m h = λ j. record {
-    title = m.title;
-    outside = record (module_at ts m).outside { definitions = read-kept m.outside.definitions h.outside j };
-    region = region_at-kept m.region h.region j;
   }

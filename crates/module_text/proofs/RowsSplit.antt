@@ -9,10 +9,10 @@ use Rattle.tla_token.specs.Tokens.{lexeme}
 use Rattle.module_text.specs.declared.stand.Shape.TheVariants as shape
 use Rattle.module_text.specs.declared.algorithm.Stage.TheVariants as code
 use Rattle.module_tree.specs.TextFront.{Text}
-use Rattle.module_tree.specs.AlgorithmText.{open_c}
+use Rattle.module_tree.specs.AlgorithmText.{open_c, is_token_byte, in_tokens}
 use Rattle.module_text.specs.StandsSeen.{is_string}
 use Rattle.module_tree.specs.FileOffences.{file_offences, is_splitting, splitting_offences}
-use Rattle.module_text.specs.AlgorithmSeen.{stage_seen, depth, part_rest, is_token_byte, in_tokens}
+use Rattle.module_text.specs.AlgorithmSeen.{stage_seen, depth, part_rest}
 
 abbrev big : Text
 big = codes "---- MODULE M ----\n(* --algorithm A { 170141183460469231731687303715884105728 } *)\n====\n"

@@ -10,7 +10,7 @@ use Rattle.module_text.specs.declared.stand.Stand.{Stand}
 use Rattle.module_tree.specs.TextFront.{Text}
 use Rattle.module_text.specs.declared.walk.Walker.{Walker}
 use Rattle.module_tree.specs.Walk.{free, part, region, tail, segment_at, at_start}
-use Rattle.module_text.specs.StandsSeen.{segment_of, segment_seen, stands_seen, before_end, IsWithin}
+use Rattle.module_text.specs.StandsSeen.{segment_of, segment_seen, stands_seen, before_end, IsSolid}
 use Rattle.module_text.specs.Walking.{shape_of, outline, first_by, front_of, end_at, IsKnown, state_of, IsAt, GoesOn}
 
 abbrev text : Text
@@ -37,8 +37,8 @@ both_seen = refl
 region_before : before_end (shape.Region 2) ≡ 2
 region_before = refl
 
-rest_within : IsWithin text rest
-rest_within = (omega arith, omega arith)
+rest_solid : IsSolid text rest
+rest_solid = record { within = omega arith; ended = omega arith; some = omega arith; quoted = λ e. absurd cc }
 
 -- ---- one segment further
 
@@ -80,4 +80,4 @@ end_at_text : IsAt text after_tail
 end_at_text = record { within = omega arith; line = omega arith; col = omega arith; known = ((λ e. refl), (omega arith, λ l. absurd (omega arith))) }
 
 past_tail : GoesOn text before_tail rest after_tail
-past_tail = record { further = omega arith; at = end_at_text; within = rest_within; solid = record { within = omega arith; some = omega arith; quoted = λ e. absurd cc }; same = refl }
+past_tail = record { further = omega arith; at = end_at_text; solid = rest_solid; same = refl }

@@ -72,7 +72,7 @@ find_seen q p x h (d ∷ ds) = by (p d) refl (find_seen q p x h ds)
     by true k e = (let m : q (segment_seen x d) ≡ true = h d ∙ k in rw (m, k) refl)
     by false k e = (let m : q (segment_seen x d) ≡ false = h d ∙ k in rw (m, k) e)
 
-header_seen : (x : Text) (d : Stand) → is_header_line (segment_seen x d) ≡ is_header_stand d
+pub header_seen : (x : Text) (d : Stand) → is_header_line (segment_seen x d) ≡ is_header_stand d
 header_seen x d = by d.shape
   where
     by : (s : Shape) → is_header_line (segment_of s (stretch x d.at (d.at + d.len))) ≡ is_header_stand (record { at = d.at; len = d.len; place = d.place; shape = s })

@@ -107,33 +107,27 @@ or_false : (b : Bool) → b ≡ (b || false)
 or_false true = refl
 or_false false = refl
 
-or_swap : (a b : Bool) → (a || b) ≡ (b || a)
-or_swap true true = refl
-or_swap true false = refl
-or_swap false true = refl
-or_swap false false = refl
-
 and_no : (a : Bool) → (a && false) ≡ false
 and_no true = refl
 and_no false = refl
 
-pub name_begins : (p : Place) (w : Word) (k : Kind) (b : Bool) → Some (name w) ≡ Some k → b ≡ (nat_eq p.col 1 && is_starter (word_kind w)) → b ≡ ((nat_eq p.col 1 && is_starter (kind_of k)) || is_bar (kind_of k))
+name_begins : (p : Place) (w : Word) (k : Kind) (b : Bool) → Some (name w) ≡ Some k → b ≡ (nat_eq p.col 1 && is_starter (word_kind w)) → b ≡ ((nat_eq p.col 1 && is_starter (kind_of k)) || is_bar (kind_of k))
 name_begins p w k b e h =
     let same : name w ≡ k = same_Some (name w) k e in
     h ∙ or_false (nat_eq p.col 1 && is_starter (word_kind w))
     ∙ ap (λ (c : Bool). (nat_eq p.col 1 && is_starter (word_kind w)) || c) (sym (no_bar w))
     ∙ ap (λ (k : Kind). (nat_eq p.col 1 && is_starter (kind_of k)) || is_bar (kind_of k)) same
 
-pub sign_begins : (p : Place) (w : Word) (k : Kind) (b : Bool) → Some (other w) ≡ Some k → b ≡ (is_rule w || (nat_eq p.col 1 && is_among unit_words w)) → b ≡ ((nat_eq p.col 1 && is_starter (kind_of k)) || is_bar (kind_of k))
+sign_begins : (p : Place) (w : Word) (k : Kind) (b : Bool) → Some (other w) ≡ Some k → b ≡ ((nat_eq p.col 1 && is_among unit_words w) || is_rule w) → b ≡ ((nat_eq p.col 1 && is_starter (kind_of k)) || is_bar (kind_of k))
 sign_begins p w k b e h =
     let same : other w ≡ k = same_Some (other w) k e in
     h ∙ by (bytes_eq w (codes "'")) refl ∙ ap (λ (k : Kind). (nat_eq p.col 1 && is_starter (kind_of k)) || is_bar (kind_of k)) same
   where
-    by : (c : Bool) → bytes_eq w (codes "'") ≡ c → (is_rule w || (nat_eq p.col 1 && is_among unit_words w)) ≡ ((nat_eq p.col 1 && is_starter (kind_of (other w))) || is_bar (kind_of (other w)))
-    by false c = rw c (or_swap (is_rule w) (nat_eq p.col 1 && is_among unit_words w))
+    by : (c : Bool) → bytes_eq w (codes "'") ≡ c → ((nat_eq p.col 1 && is_among unit_words w) || is_rule w) ≡ ((nat_eq p.col 1 && is_starter (kind_of (other w))) || is_bar (kind_of (other w)))
+    by false c = rw c refl
     by true c =
         let q : w ≡ codes "'" = same_bytes w (codes "'") c in
-        rw c (ap (λ (v : Word). is_rule v || (nat_eq p.col 1 && is_among unit_words v)) q ∙ or_false (nat_eq p.col 1 && false))
+        rw c (ap (λ (v : Word). (nat_eq p.col 1 && is_among unit_words v) || is_rule v) q)
 
 sign_plain : (s : Sign) → (is_starter (sign_kind s) ≡ false) × (is_bar (sign_kind s) ≡ false)
 sign_plain sign.MapsTo = (refl, refl)
@@ -179,11 +173,5 @@ name_first p c w k b e h f g = (let t : nat_eq p.col 1 ≡ true = eq-eqb p.col 1
 pub name_away : (p : Place) (c : Class) (w : Word) (k : Kind) → c ≡ class.Name → kind_in (part_of c w) ≡ Some k → (p.col ≡ 1 → ⊥) → false ≡ ((nat_eq p.col 1 && is_starter (kind_of k)) || is_bar (kind_of k))
 name_away p c w k e h f = (let t : nat_eq p.col 1 ≡ false = other_byte p.col 1 f in name_begins p w k false (of_name c w k e h) (ap (λ (x : Bool). x && is_starter (word_kind w)) (sym t)))
 
-pub sign_bar : (p : Place) (c : Class) (w : Word) (k : Kind) → c ≡ class.Other → kind_in (part_of c w) ≡ Some k → is_rule w ≡ true → true ≡ ((nat_eq p.col 1 && is_starter (kind_of k)) || is_bar (kind_of k))
-sign_bar p c w k e h f = sign_begins p w k true (of_sign c w k e h) (ap (λ (x : Bool). x || (nat_eq p.col 1 && is_among unit_words w)) (sym f))
-
-pub sign_first : (p : Place) (c : Class) (w : Word) (k : Kind) (b : Bool) → c ≡ class.Other → kind_in (part_of c w) ≡ Some k → is_rule w ≡ false → p.col ≡ 1 → b ≡ is_among unit_words w → b ≡ ((nat_eq p.col 1 && is_starter (kind_of k)) || is_bar (kind_of k))
-sign_first p c w k b e h f l g = (let t : nat_eq p.col 1 ≡ true = eq-eqb p.col 1 l in sign_begins p w k b (of_sign c w k e h) (g ∙ (λ i. sym f i || (sym t i && is_among unit_words w))))
-
-pub sign_away : (p : Place) (c : Class) (w : Word) (k : Kind) → c ≡ class.Other → kind_in (part_of c w) ≡ Some k → is_rule w ≡ false → (p.col ≡ 1 → ⊥) → false ≡ ((nat_eq p.col 1 && is_starter (kind_of k)) || is_bar (kind_of k))
-sign_away p c w k e h f l = (let t : nat_eq p.col 1 ≡ false = other_byte p.col 1 l in sign_begins p w k false (of_sign c w k e h) (λ i. sym f i || (sym t i && is_among unit_words w)))
+pub sign_here : (p : Place) (c : Class) (w : Word) (k : Kind) (b : Bool) → c ≡ class.Other → kind_in (part_of c w) ≡ Some k → b ≡ ((nat_eq p.col 1 && is_among unit_words w) || is_rule w) → b ≡ ((nat_eq p.col 1 && is_starter (kind_of k)) || is_bar (kind_of k))
+sign_here p c w k b e h g = sign_begins p w k b (of_sign c w k e h) g

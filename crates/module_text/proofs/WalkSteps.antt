@@ -181,7 +181,6 @@ goes_past x w f k piece place h m n at e known is moved line col heads ends fewe
     record {
       further = omega arith;
       at = record { within = omega arith; line = omega arith; col = omega arith; known = (endless, wordless) };
-      within = (omega arith, a.ended);
-      solid = record { within = omega arith; some = some; quoted = a.quoted };
+      solid = record { within = omega arith; ended = a.ended; some = some; quoted = a.quoted };
       same = a.walked ∙ same;
     }

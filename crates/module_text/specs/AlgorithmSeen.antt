@@ -1,17 +1,15 @@
 -- The walk of code over an algorithm, seen as that of the definitions.
-use Rattle.std.specs.Prelude.{◌≡◌, ℕ, ◌+◌, ◌-◌, ◌<◌, ◌≤◌, nat_eq, nat_le, nat_lt, Bool, true, false, ◌&&◌, ◌||◌, List, length, drop, slice_index, slice_index_or, is_some, if◌then◌else◌, filter}
-use Rattle.std.specs.List.{list_any, flat_map}
+use Rattle.std.specs.Prelude.{◌≡◌, ℕ, ◌-◌, ◌<◌, ◌≤◌, nat_eq, Bool, true, false, ◌||◌, List, length, drop, slice_index, slice_index_or, if◌then◌else◌, filter}
 use Rattle.tla_token.specs.Tokens.{stretch}
-use Rattle.tla_token.specs.Offences.{Part, part_bytes, Offence, part_offences, least}
+use Rattle.tla_token.specs.Offences.{Part, part_offences, least}
 use Rattle.tla_token.specs.Scan.{IsWordless}
 use Rattle.tla_token.specs.Readings.{joined}
 use Rattle.module_text.specs.declared.algorithm.Stage as code_stage
 use Rattle.module_text.specs.declared.algorithm.Stage.TheVariants as code
 use Rattle.module_text.specs.declared.algorithm.Inside as code_inside
 use Rattle.module_tree.specs.TextFront.{Text}
-use Rattle.module_tree.specs.ModuleParts.{kind_in}
-use Rattle.module_tree.specs.AlgorithmText.{Stage, head, titled, open_p, open_c, past_p, past_c, IndexedPart, Inside, with_part, inside}
-use Rattle.module_tree.specs.FileOffences.{is_splitting}
+use Rattle.module_tree.specs.AlgorithmText.{Stage, head, titled, open_p, open_c, past_p, past_c, is_token_byte, in_tokens, Inside, with_part, inside}
+use Rattle.module_tree.specs.FileOffences.{inner_offences, is_splitting}
 
 -- ---- stages
 
@@ -46,17 +44,6 @@ pub record IsInside (x : Text) (end : ℕ) (s : code_inside.Inside) : Type 0 whe
 
 -- ---- what it finds
 
--- what is wrong with these parts, but for numbers that are too big
-abbrev pub splitting_parts : List IndexedPart → List Offence
-splitting_parts ps = filter is_splitting (flat_map (λ p. part_offences true p.0 p.1) ps)
-
--- the byte n is one of this part's, and it is a token
-abbrev pub is_token_byte : ℕ → IndexedPart → Bool
-is_token_byte n p = is_some (kind_in p.1) && (nat_le p.0 n && nat_lt n (p.0 + length (part_bytes p.1)))
-
-abbrev pub in_tokens : List IndexedPart → ℕ → Bool
-in_tokens ps n = list_any (is_token_byte n) ps
-
 -- from s it goes past one part to t; the bytes of tokens are marked
 pub record Passes (x : Text) (end : ℕ) (s t : code_inside.Inside) (before after : List Bool) : Type 0 where
   pub here : IsInside x end t
@@ -71,5 +58,5 @@ pub record Passes (x : Text) (end : ℕ) (s t : code_inside.Inside) (before afte
 pub record Reaches (x : Text) (end : ℕ) (s t : code_inside.Inside) (before after : List Bool) : Type 0 where
   pub to : t.at ≡ (from_here x end s).to
   pub stage : stage_seen t.stage ≡ (from_here x end s).stage
-  pub fault : t.fault ≡ joined s.fault (least (splitting_parts (from_here x end s).parts))
+  pub fault : t.fault ≡ joined s.fault (least (filter is_splitting (inner_offences (from_here x end s).parts)))
   pub marked : (k : ℕ) → slice_index_or after k false ≡ (slice_index_or before k false || in_tokens (from_here x end s).parts k)

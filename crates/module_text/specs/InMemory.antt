@@ -182,7 +182,3 @@ pub record RegionIn (m : ℕ) (r : Region) : Type 0 where
   pub next : WaysIn m r.next.items
   pub fairness : AllFairnessIn m r.fairness.items
   pub termination : r.termination < m
-
-pub record ModuleIn (m : ℕ) (k : Module) : Type 0 where
-  pub outside : DefinitionsIn m k.outside.definitions
-  pub region : RegionIn m k.region

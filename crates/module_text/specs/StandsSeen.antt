@@ -32,16 +32,13 @@ abbrev pub before_end : Shape → ℕ
 before_end (shape.Region n) = n
 before_end s = 0
 
--- it lies within the text
-abbrev pub IsWithin : Text → Stand → Type 0
-IsWithin x d = (d.at + d.len ≤ length x) × (before_end d.shape ≤ d.len)
-
 abbrev pub is_string : Shape → Bool
 is_string (shape.Part c) = is_quoted c
 is_string s = false
 
--- it is within the text and not empty; a string has its quotes
+-- it is within the text and not empty, and a region's END line within it; a string has its quotes
 pub record IsSolid (x : Text) (d : Stand) : Type 0 where
   pub within : d.at + d.len ≤ length x
+  pub ended : before_end d.shape ≤ d.len
   pub some : 0 < d.len
   pub quoted : is_string d.shape ≡ true → 2 ≤ d.len

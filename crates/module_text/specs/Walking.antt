@@ -9,7 +9,7 @@ use Rattle.module_text.specs.declared.walk.Known.{Known}
 use Rattle.module_text.specs.declared.walk.Walker.{Walker}
 use Rattle.module_tree.specs.TextFront.{Text}
 use Rattle.module_tree.specs.Walk.{Segment, free, header, part, region, mark, inner, tail, bytes, State, at_end_line, walk_from}
-use Rattle.module_text.specs.StandsSeen.{located_seen, IsWithin, IsSolid}
+use Rattle.module_text.specs.StandsSeen.{located_seen, IsSolid}
 
 -- ---- the segment in front
 
@@ -58,6 +58,5 @@ pub record IsAt (x : Text) (w : Walker) : Type 0 where
 pub record GoesOn (x : Text) (w : Walker) (d : Stand) (v : Walker) : Type 0 where
   pub further : w.at < v.at
   pub at : IsAt x v
-  pub within : IsWithin x d
   pub solid : IsSolid x d
   pub same : walk_from (state_of w) 0 (drop w.at x) ≡ located_seen x d ∷ walk_from (state_of v) 0 (drop v.at x)

@@ -29,14 +29,18 @@ pub enum Stage {
     OpenP(bool),
     /// In C-syntax, within so many braces.
     OpenC(usize),
+    /// Behind the end of one in P-syntax.
     PastP,
+    /// Behind the end of one in C-syntax.
     PastC,
 }
 
 /// A walk over an algorithm: where it is, and what it has found.
 #[derive(Clone, Copy, PartialEq, Eq, Debug)]
 pub struct Inside {
+    /// The index of the next byte.
     pub at: usize,
+    /// What the tokens up to there are.
     pub stage: Stage,
     /// So many bytes from here on are known to be in a word without a letter.
     pub wordless: usize,
@@ -294,7 +298,7 @@ fn walk_inside(text: &[u8], end: usize, start: Inside, marks: &mut [bool]) -> In
     'parts: while inside.at < end && !is_past(inside.stage) {
         let mut wordless = inside.wordless;
         match inner_part(text, inside.at, end, &mut wordless) {
-            None => break,
+            None => unreachable!(),
             Some(part) => {
                 let here = Inside { wordless, ..inside };
                 inside = past(text, end, here, part, marks);

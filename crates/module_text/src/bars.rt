@@ -8,8 +8,8 @@ ghost use Rattle.module_tree.specs.ModuleParts.{barred, module_part};
 use crate::line::dash_len;
 use tla_token::{Class, Part, lexeme_at, outer_at};
 
-// Whether a bar of dashes is in front.
-fn is_rule(text: &[u8]) -> bool
+/// Whether a bar of dashes is in front.
+pub fn is_rule(text: &[u8]) -> bool
     ensures { result ≡ is_rule text.now }
 {
     text.starts_with(b"----")

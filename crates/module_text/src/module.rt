@@ -60,8 +60,11 @@ pub enum Body {
 /// `A == body`, or `A(self) == body`.
 #[derive(Drop)]
 pub struct Action {
+    /// The action's name.
     pub title: Name,
+    /// The name in brackets after it.
     pub parameter: Option<Name>,
+    /// What stands after `==`.
     pub body: Body,
 }
 
@@ -76,6 +79,7 @@ pub struct Fairness {
     pub strong: bool,
     /// A test before the action.
     pub guard: Option<NodeId>,
+    /// The action that is asked for.
     pub action: Call,
 }
 
@@ -84,6 +88,7 @@ pub struct Fairness {
 pub struct Region {
     /// `CONSTANT`; none is no unit.
     pub model_values: NameList,
+    /// `VARIABLES x, y`
     pub variables: NameList,
     /// Those of the algorithm's `define` block.
     pub definitions: Defs,
@@ -107,11 +112,14 @@ pub struct Region {
 
 // ---- the module
 
-/// A unit that was passed on unread: its keyword, which is empty for a definition, and its names.
+/// A unit that was passed on unread.
 #[derive(Drop)]
 pub struct Opaque {
+    /// The word with which it begins: of a bar its dashes, and of a definition nothing.
     pub keyword: Name,
+    /// The names that it has.
     pub names: NameList,
+    /// Where its first token stands.
     pub place: Place,
 }
 
@@ -120,9 +128,11 @@ pub struct Opaque {
 pub struct Outside {
     /// The modules of `EXTENDS`.
     pub extended: NameList,
+    /// The names of `CONSTANT` and `CONSTANTS`.
     pub constants: Vec<PlacedName>,
     /// Those that were read.
     pub definitions: Defs,
+    /// The units that were passed on unread.
     pub opaque: Vec<Opaque>,
 }
 
@@ -144,7 +154,10 @@ impl Outside {
 /// A module with its translation.
 #[derive(Drop)]
 pub struct Module {
+    /// The module's name.
     pub title: Name,
+    /// What stands outside its algorithm and the translation.
     pub outside: Outside,
+    /// The translation.
     pub region: Region,
 }

@@ -6,6 +6,7 @@ use tla_token::{Span, Tokens};
 /// Spans are of bytes of the text.
 #[derive(Drop)]
 pub struct Parts<'a> {
+    /// The whole text.
     pub text: &'a [u8],
     /// The module's name.
     pub title: Span,
@@ -17,8 +18,8 @@ pub struct Parts<'a> {
     pub algorithm: Span,
     /// The algorithm is in C-syntax.
     pub is_c: bool,
-    /// The module's tokens before the place of the translation.
+    /// The module's tokens before the place of the translation, up to which they go.
     pub before: Tokens,
-    /// The module's tokens after it.
+    /// The module's tokens after it, up to the module's end.
     pub after: Tokens,
 }

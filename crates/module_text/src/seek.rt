@@ -10,6 +10,7 @@ ghost use Rattle.module_text.specs.SplitSeen.{is_header_stand, is_region_stand, 
 use crate::beginning::{add_beginnings, first_beginning};
 use crate::offence::is_newline;
 use crate::stand::{Shape, Stand};
+use crate::walk::{is_header_line, is_region_shape};
 use std::alloc::{AllocError, Global};
 use tla_token::{Class, Span};
 
@@ -92,23 +93,17 @@ pub fn holder(text: &[u8], stands: &[Stand]) -> usize
 pub fn is_header(stand: Stand) -> bool
     ensures { result ≡ is_header_stand stand }
 {
-    match stand.shape {
-        Shape::Header => true,
-        _ => false,
-    }
+    is_header_line(stand.shape)
 }
 
 /// Whether it is the old translation.
 pub fn is_region(stand: Stand) -> bool
     ensures { result ≡ is_region_stand stand }
 {
-    match stand.shape {
-        Shape::Region(_) => true,
-        _ => false,
-    }
+    is_region_shape(stand.shape)
 }
 
-/// Whether it is the module\'s end.
+/// Whether it is the module's end.
 pub fn is_tail(stand: Stand) -> bool
     ensures { result ≡ is_tail_stand stand }
 {
@@ -132,7 +127,7 @@ pub fn region(stands: &[Stand]) -> Option<Stand>
     stands.iter().copied().find(|stand| is_region(*stand))
 }
 
-/// The module\'s end.
+/// The module's end.
 pub fn tail(stands: &[Stand]) -> Option<Stand>
     ensures { result ≡ find is_tail_stand stands.now }
 {

@@ -181,16 +181,14 @@ fn find_algorithm(
     if comment >= stands.len() {
         return None;
     }
-    match within(text, stands[comment]) {
-        None => None,
-        Some(span) => match first_beginning(text, span.from, span.to) {
-            None => None,
-            Some(from) => {
-                let inside = algorithm_at(text, from, span.to, marks);
-                Some(Algorithm { from, inside })
-            }
-        },
-    }
+    let Some(span) = within(text, stands[comment]) else {
+        unreachable!()
+    };
+    let Some(from) = first_beginning(text, span.from, span.to) else {
+        unreachable!()
+    };
+    let inside = algorithm_at(text, from, span.to, marks);
+    Some(Algorithm { from, inside })
 }
 
 // ---- offences

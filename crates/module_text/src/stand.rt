@@ -28,6 +28,8 @@ pub struct Stand {
     pub at: usize,
     /// How many bytes it has.
     pub len: usize,
+    /// The place of its first byte.
     pub place: Place,
+    /// What it is.
     pub shape: Shape,
 }

@@ -1,92 +1,25 @@
 //! Which tokens begin a unit of a module.
 
-ghost use Rattle.std.specs.Prelude.{◌≡◌, ℕ, map, Some};
+ghost use Rattle.std.specs.Prelude.{◌≡◌, ◌&&◌, ◌||◌, ℕ, nat_eq, map, Some};
 ghost use Rattle.tla_token.specs.Lexemes.{Kind};
 ghost use Rattle.tla_token.specs.Scan.{part_of};
 ghost use Rattle.tla_token.specs.Signs.{is_among as is_among_of};
-ghost use Rattle.tla_token.specs.Words.{is_pluscal_word, is_tla_word};
 ghost use Rattle.tla_tree.specs.TokenViews.{view, word_kind, word_kinds};
 ghost use Rattle.module_tree.specs.Beginnings.{is_rule};
 ghost use Rattle.module_tree.specs.ModuleParts.{kind_in};
 ghost use Rattle.module_tree.specs.FileUnits as pure;
 
+use crate::bars::is_rule;
+use tla_token::word::{is_among, is_pluscal_word, is_tla_word};
 use tla_token::{Class, Place};
 
-/// The reserved words of PlusCal.
-static PLUSCAL_WORDS: [&str; 27] = [
-    "algorithm",
-    "assert",
-    "await",
-    "begin",
-    "call",
-    "define",
-    "do",
-    "either",
-    "else",
-    "elsif",
-    "end",
-    "fair",
-    "goto",
-    "if",
-    "macro",
-    "or",
-    "print",
-    "procedure",
-    "process",
-    "return",
-    "skip",
-    "then",
-    "variable",
-    "variables",
-    "when",
-    "while",
-    "with",
-];
-
-/// The reserved words of TLA+ that are in expressions.
+// The reserved words of TLA+ that are in expressions.
 static EXPRESSION_WORDS: [&str; 15] = [
     "IF", "THEN", "ELSE", "CASE", "OTHER", "LET", "IN", "EXCEPT", "TRUE", "FALSE", "BOOLEAN",
     "STRING", "SUBSET", "UNION", "DOMAIN",
 ];
 
-/// The reserved words of TLA+.
-static TLA_WORDS: [&str; 33] = [
-    "ASSUME",
-    "ASSUMPTION",
-    "AXIOM",
-    "BOOLEAN",
-    "CASE",
-    "CHOOSE",
-    "CONSTANT",
-    "CONSTANTS",
-    "DOMAIN",
-    "ELSE",
-    "ENABLED",
-    "EXCEPT",
-    "EXTENDS",
-    "FALSE",
-    "IF",
-    "IN",
-    "INSTANCE",
-    "LAMBDA",
-    "LET",
-    "LOCAL",
-    "MODULE",
-    "OTHER",
-    "RECURSIVE",
-    "STRING",
-    "SUBSET",
-    "THEN",
-    "THEOREM",
-    "TRUE",
-    "UNCHANGED",
-    "UNION",
-    "VARIABLE",
-    "VARIABLES",
-    "WITH",
-];
-
-/// The reserved words of TLA+ with which a unit begins.
+// The reserved words of TLA+ with which a unit begins.
 static UNIT_WORDS: [&str; 12] = [
     "ASSUME",
     "ASSUMPTION",
@@ -102,37 +35,15 @@ static UNIT_WORDS: [&str; 12] = [
     "VARIABLES",
 ];
 
-// Whether a word is one of some.
-fn is_among(words: &[&str], word: &[u8]) -> bool
-    ensures { result ≡ is_among_of (map (λ w. w.now) words.now) word.now }
-{
-    for other in words {
-        if other.as_bytes() == word {
-            return true;
-        }
-    }
-    false
-}
-
-fn is_pluscal_word(word: &[u8]) -> bool
-    ensures { result ≡ is_pluscal_word word.now }
-{
-    is_among(&PLUSCAL_WORDS, word)
-}
-
-fn is_expression_word(word: &[u8]) -> bool
+/// Whether a word is a reserved one of TLA+ that stands in expressions.
+pub fn is_expression_word(word: &[u8]) -> bool
     ensures { result ≡ is_among_of (map (λ p. p.0) word_kinds) word.now }
 {
     is_among(&EXPRESSION_WORDS, word)
 }
 
-fn is_tla_word(word: &[u8]) -> bool
-    ensures { result ≡ is_tla_word word.now }
-{
-    is_among(&TLA_WORDS, word) || word.starts_with(b"WF_") || word.starts_with(b"SF_")
-}
-
-fn is_unit_word(word: &[u8]) -> bool
+/// Whether a unit begins with a reserved word of TLA+ in column 1.
+pub fn is_unit_word(word: &[u8]) -> bool
     ensures { result ≡ is_among_of pure.unit_words word.now }
 {
     is_among(&UNIT_WORDS, word)
@@ -156,6 +67,13 @@ fn is_starter(word: &[u8]) -> bool
     }
 }
 
+/// Whether a unit begins in a column with a word that is no identifier, or a sign.
+pub fn begins_at(col: u32, word: &[u8]) -> bool
+    ensures { result ≡ ((nat_eq col 1 && is_among_of pure.unit_words word.now) || is_rule word.now) }
+{
+    (col == 1 && is_unit_word(word)) || is_rule(word)
+}
+
 /// Whether the token of these bytes begins a unit, at a place.
 #[tactic(auto, using(crate::proofs::UnitStarts::none_begins))]
 pub fn begins_unit(class: Class, bytes: &[u8], place: Place) -> bool
@@ -163,14 +81,7 @@ pub fn begins_unit(class: Class, bytes: &[u8], place: Place) -> bool
 {
     match class {
         Class::Name => place.col == 1 && is_starter(bytes),
-        Class::Other => is_bar(bytes) || (place.col == 1 && is_unit_word(bytes)),
+        Class::Other => begins_at(place.col, bytes),
         _ => false,
     }
-}
-
-// Whether a sign is a bar of dashes.
-fn is_bar(sign: &[u8]) -> bool
-    ensures { result ≡ is_rule sign.now }
-{
-    sign.starts_with(b"----")
 }

@@ -5,7 +5,7 @@ ghost use Rattle.tla_token.specs.Scan.{IsWordless};
 ghost use Rattle.module_tree.specs.TextFront.{Text};
 ghost use Rattle.module_tree.specs.HeaderAndRegion.{is_begin};
 ghost use Rattle.module_tree.specs.Walk.{walk, State, in_module, segment_at, is_header_line, is_region};
-ghost use Rattle.module_text.specs.StandsSeen.{segment_of, stands_seen, IsWithin, IsSolid};
+ghost use Rattle.module_text.specs.StandsSeen.{segment_of, stands_seen, IsSolid};
 ghost use Rattle.module_text.specs.Walking.{end_at, front_of, IsKnown, state_of, IsAt, GoesOn};
 
 use crate::bars::{ends_module, module_part};
@@ -18,7 +18,9 @@ use tla_token::place::{Place, place_after};
 /// What a segment is, and how many bytes it has.
 #[derive(Clone, Copy, PartialEq, Eq, Debug)]
 pub struct Front {
+    /// What it is.
     pub shape: Shape,
+    /// How many bytes it has.
     pub len: usize,
 }
 
@@ -34,12 +36,15 @@ pub struct Known {
 /// Where a walk is in a file, and what it knows.
 #[derive(Clone, Copy, PartialEq, Eq, Debug)]
 pub struct Walker {
+    /// The index of the next byte.
     pub at: usize,
+    /// The place of that byte.
     pub place: Place,
     /// After the header.
     pub headed: bool,
     /// After the region.
     pub marked: bool,
+    /// What it knows of the bytes from there on.
     pub known: Known,
 }
 
@@ -51,7 +56,6 @@ pub struct Walker {
 pub fn walk(alloc: Global, text: &[u8]) -> Result<Vec<Stand>, AllocError>
     requires small { length text.now < 2 ^ 29 }
     ensures walked { IfOk result (λ v. stands_seen text.now v.items ≡ walk text.now) }
-    ensures within { IfOk result (λ v. All (IsWithin text.now) v.items) }
     ensures solid { IfOk result (λ v. All (IsSolid text.now) v.items) }
 {
     let mut stands = Vec::new(alloc);
@@ -130,10 +134,11 @@ fn is_headed_after(walker: Walker, shape: Shape) -> bool
 fn is_marked_after(walker: Walker, shape: Shape) -> bool
     ensures { (w : Text) → result ≡ (walker.marked || is_region (segment_of shape w)) }
 {
-    walker.marked || is_region(shape)
+    walker.marked || is_region_shape(shape)
 }
 
-fn is_header_line(shape: Shape) -> bool
+/// Whether a segment of this shape is the header.
+pub fn is_header_line(shape: Shape) -> bool
     ensures { (w : Text) → result ≡ is_header_line (segment_of shape w) }
 {
     match shape {
@@ -142,7 +147,8 @@ fn is_header_line(shape: Shape) -> bool
     }
 }
 
-fn is_region(shape: Shape) -> bool
+/// Whether a segment of this shape is the old translation.
+pub fn is_region_shape(shape: Shape) -> bool
     ensures { (w : Text) → result ≡ is_region (segment_of shape w) }
 {
     match shape {

@@ -115,6 +115,13 @@ algorithm_tokens x a =
     record { kind = name a.opening; at = a.from; place = place_at x a.from }
     ∷ (let n = a.from + length a.opening in tokens_of (place_at x n) n (pieces (map (λ p. p.1) a.rest.parts)))
 
+-- the byte n is one of this part's, and it is a token
+abbrev pub is_token_byte : ℕ → IndexedPart → Bool
+is_token_byte n p = is_some (kind_in p.1) && (nat_le p.0 n && nat_lt n (p.0 + length (part_bytes p.1)))
+
+abbrev pub in_tokens : List IndexedPart → ℕ → Bool
+in_tokens ps n = list_any (is_token_byte n) ps
+
 -- the byte n is one of its tokens', after the first
 abbrev pub in_token : AlgorithmText → ℕ → Bool
-in_token a n = list_any (λ p. is_some (kind_in p.1) && (nat_le p.0 n && nat_lt n (p.0 + length (part_bytes p.1)))) a.rest.parts
+in_token a n = in_tokens a.rest.parts n

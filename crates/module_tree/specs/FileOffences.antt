@@ -15,7 +15,7 @@ use Rattle.module_tree.specs.TextFront.{Text}
 use Rattle.module_tree.specs.Beginnings.{is_options, all_at}
 use Rattle.module_tree.specs.Walk.{Segment, part, mark, inner, is_header_line, Located, walk}
 use Rattle.module_tree.specs.FileParts.{first_that, module_end, beginnings, after_comment, Span, span_of, region_of, is_newline, after_spot}
-use Rattle.module_tree.specs.AlgorithmText.{AlgorithmText, algorithm_of, in_token}
+use Rattle.module_tree.specs.AlgorithmText.{IndexedPart, AlgorithmText, algorithm_of, in_token}
 use Rattle.module_tree.specs.FileUnits.{token_in, begins_unit}
 
 abbrev pub offences_at : Rule → List ℕ → List Offence
@@ -32,8 +32,11 @@ segment_offences at g = []
 abbrev pub offences_of : List Located → List Offence
 offences_of ds = flat_map (λ d. segment_offences d.at d.is) ds
 
+abbrev pub inner_offences : List IndexedPart → List Offence
+inner_offences ps = flat_map (λ p. part_offences true p.0 p.1) ps
+
 abbrev pub algorithm_offences : Option AlgorithmText → List Offence
-algorithm_offences (Some a) = flat_map (λ p. part_offences true p.0 p.1) a.rest.parts
+algorithm_offences (Some a) = inner_offences a.rest.parts
 algorithm_offences None = []
 
 -- ---- module and algorithm

@@ -46,6 +46,6 @@ abbrev pub sets_of : ℕ → Option Tree → List Tree
 sets_of n None = []
 sets_of n (Some e) = sets_in n e
 
--- how many processes there are
+-- how many disjuncts are a process's own: as many as there are processes, in an algorithm with processes
 abbrev pub processes_in : List Way → ℕ
 processes_in ys = length (own_steps ys)

@@ -59,7 +59,8 @@ pub fn walks_are_whole()
     ensures { (x : Text) → text_of (walk x) ≡ x }
 {}
 
-/// A text of whole lines that is calm is walked alike whatever follows, and what follows is walked from where it ends.
+/// A text of whole lines that is calm (no comment of it is open at its end, no line of a translation is alone in it, and the
+/// module doesn't end in it) is walked alike whatever follows, and what follows is walked from where it ends.
 pub fn walks_are_resumed()
     ensures { (st : State) (t r : Text) → is_lined t ≡ true → are_calm (walk_from st 0 t) ≡ true → walk_from st 0 (t ++ r) ≡ walk_from st 0 t ++ walk_from (after_all st (walk_from st 0 t)) 0 r }
 {}
@@ -94,7 +95,7 @@ pub fn translations_are_found_again()
     ensures { (a t c v u : Text) (ds more : List Located) → walk (a ++ (begin_line ++ (t ++ (end_line ++ c)))) ≡ ds ++ located (after_all at_start ds) (made t) ∷ more → text_of ds ≡ a → (after_all at_start ds).marked ≡ false → WithTranslation (a ++ (begin_line ++ (t ++ (end_line ++ c)))) v u → u ≡ a ++ (begin_line ++ (v ++ (end_line ++ c))) }
 {}
 
-/// A translation that is put into a file which is not refused is one segment after the file's own, and what is after it is
+/// A translation that is put into a fine file, which breaks none of the rules 1 to 10 and 12, is one segment after the file's own, and what is after it is
 /// moved. The file keeps its title, its units and its algorithm, no segment of it breaks a rule, and another translation of
 /// it is one of the file that was read. The algorithm's tokens are moved by bytes and lines; the file breaks no rule
 /// then either, and these tokens none that they didn't break.
@@ -115,8 +116,8 @@ pub fn algorithms_end_where_they_can()
     ensures braces { (x : Text) (a : AlgorithmText) → algorithm_in x ≡ Some a → a.rest.stage ≡ past_c → EndsWithBrace (behind_name a) }
 {}
 
-/// Where no segment of a file and no part of its algorithm breaks a rule, but for numbers that are too big, the algorithm's
-/// stretch has just the tokens that the walk gives.
+/// Where no segment of a file breaks a rule (1 to 4 on its bytes, 8 as a line of a translation, 9 as a second header) and no
+/// part of its algorithm one but that on numbers (12), the algorithm's stretch has just the tokens that the walk gives.
 pub fn algorithms_have_tokens()
     ensures { (x : Text) (a : AlgorithmText) → offences_of (walk x) ≡ [] → algorithm_in x ≡ Some a → only_large (algorithm_offences (Some a)) ≡ true → TokAlgorithm x a.from a.rest.to (algorithm_tokens x a) }
 {}
@@ -128,8 +129,8 @@ pub fn outsides_are_read()
     ensures one { (ds : List Located) (o q : Outside) → HasOutside ds o → HasOutside ds q → o ≡ q }
 {}
 
-/// A file that is not refused is a module with each translation whose own units are read: it has the file's title, and outside
-/// the translation what the file has. The units before it are the same, and those after it are alike in other lines.
+/// A fine file is a module with each translation whose own units are read and in which the unit Terminating and a disjunct of
+/// Next that calls it stand both or neither: it has the file's title, and outside the translation what the file has. The units before it are the same, and those after it are alike in other lines.
 pub fn files_with_translations_are_modules()
     ensures outside { (x t w : Text) (o : Outside) → KeepsFile x t w → (h : HasOutside (walk x) o) → (q : Outside) × (there : HasOutside (walk w) q) × (there.before ≡ h.before) × AllAlike h.after there.after }
     ensures reads { (x t w : Text) (o : Outside) (n : Module) → IsFine x → KeepsFile x t w → HasOutside (walk x) o → ReadsRegion (located (after_all at_start (before_spot (walk x))) (made t)) n → is_some n.region.ended ≡ list_any is_terminating n.region.next → IsModuleOf x w o n.region }
@@ -151,7 +152,7 @@ pub fn walks_stop_at_comments()
     ensures { (ds es : List Located) (st : State) (r z : Text) → walk_from st 0 (text_of ds ++ 40 ∷ 42 ∷ r) ≡ ds ++ es → are_calm ds ≡ true → offences_of ds ≡ [] → walk_from st 0 (text_of ds ++ 40 ∷ 42 ∷ z) ≡ ds ++ walk_from (after_all st ds) 0 (40 ∷ 42 ∷ z) }
 {}
 
-/// A file that is not refused, with another algorithm, is walked as before but for the algorithm's comment, and no segment of it
+/// A fine file, with another algorithm, is walked as before but for the algorithm's comment, and no segment of it
 /// breaks a rule, where both algorithms open and close comments only within themselves. Its algorithm begins where the old one
 /// did, with the first word that was put there.
 pub fn swaps_keep_the_rest()
@@ -176,7 +177,7 @@ pub fn layouts_rest_on_no_place()
     ensures { (q r : Region) → region_placeless q ≡ region_placeless r → layout q ≡ layout r }
 {}
 
-/// A file that is not refused is one module with what is laid out of each translation that can be written: it is around that
+/// A fine file is one module with what is laid out of each translation that can be written: it is around that
 /// file, and has that translation, but for the places of its trees, the file's title, and outside what the file has.
 pub fn written_files_are_modules()
     ensures { (x w : Text) (o : Outside) (r : Region) → IsRegion r → IsFine x → HasOutside (walk x) o → WithTranslation x (layout r) w → IsWritten x w o r }

@@ -14,7 +14,7 @@ use Rattle.module_tree.specs.FileOffences.{file_offences, offences_of}
 use Rattle.module_tree.specs.WithTranslation.{begin_line, end_line}
 use Rattle.module_tree.specs.laws.Walks.{text_of, after_all, made, located, Near, Put}
 
--- no rule is broken by what stands in the file
+-- none of the rules 1 to 10 is broken by the file, nor 12 by its algorithm
 abbrev pub IsFine : Text → Type 0
 IsFine x = file_offences x ≡ []
 

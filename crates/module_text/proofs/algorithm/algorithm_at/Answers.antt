@@ -1,8 +1,8 @@
-use Rattle.std.proofs.Common.{ap, sym, ◌∙◌, None}
+use Rattle.std.proofs.Common.{ap, sym, ◌∙◌, None, filter}
 use Rattle.std.proofs.lemmas.List.{take_rest}
 use Rattle.tla_token.specs.Offences.{least}
-use Rattle.module_tree.specs.AlgorithmText.{Inside}
-use Rattle.module_text.specs.AlgorithmSeen.{splitting_parts, in_tokens}
+use Rattle.module_tree.specs.AlgorithmText.{Inside, in_tokens}
+use Rattle.module_tree.specs.FileOffences.{inner_offences, is_splitting}
 use Rattle.module_text.proofs.AlgorithmSteps.{Started, fair_started, plain_started, nothing_known, none_marked}
 use Rattle.module_text.proofs.algorithm.algorithm_at.Goals as goal
 use Rattle.module_text.proofs.algorithm.algorithm_at.Goals.{then-is_fair, else-is_fair}
@@ -41,7 +41,7 @@ returns-clause-fault c =
       | then-is_fair w ↦ fair_started c.args.text.now c.args.from c.args.end c.if-is_fair.words c.requires.ends c.requires.begins (sym w.if-is_fair.true ∙ rw take_rest at c.is_fair.ensures) w.words-is
       | else-is_fair w ↦ plain_started c.args.text.now c.args.from c.args.end c.if-is_fair.words c.requires.ends c.requires.begins (sym w.if-is_fair.false ∙ rw take_rest at c.is_fair.ensures) w.words-is
     ] in
-    c.walk_inside.ensures.fault ∙ ap (λ (i : Inside). least (splitting_parts i.parts)) s.rest
+    c.walk_inside.ensures.fault ∙ ap (λ (i : Inside). least (filter is_splitting (inner_offences i.parts))) s.rest
 
 pub returns-clause-marked : goal.returns-clause-marked
 returns-clause-marked c k =

@@ -16,5 +16,5 @@ parts-preserved c =
 pub returns-else-not-is_past : goal.returns-else-not-is_past
 returns-else-not-is_past c = at_end c.args.text.now c.args.end c.args.start c.parts.inside c.args.marks.now c.parts.marks (sym c.is_past.ensures ∙ c.if-not-is_past.false) c.parts.invariant.so_far
 
-pub returns-in-None : goal.returns-in-None
-returns-in-None c = absurd (some_there c.parts.inside.at c.args.end c.args.text.now (omega arith) c.requires.ends c.in-None.ensures.part)
+pub unreachable-requires : goal.unreachable-requires
+unreachable-requires c = some_there c.parts.inside.at c.args.end c.args.text.now (omega arith) c.requires.ends c.in-None.ensures.part

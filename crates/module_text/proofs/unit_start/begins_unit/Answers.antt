@@ -1,6 +1,6 @@
-use Rattle.std.proofs.Common.{sym, ◌∙◌}
+use Rattle.std.proofs.Common.{◌∙◌}
 use Rattle.tla_token.proofs.Fronts.{other_byte}
-use Rattle.module_text.proofs.UnitStarts.{name_first, name_away, sign_bar, sign_first}
+use Rattle.module_text.proofs.UnitStarts.{name_first, name_away, sign_here}
 use Rattle.module_text.proofs.unit_start.begins_unit.Goals as goal
 
 pub returns-then-place-eq1 : goal.returns-then-place-eq1
@@ -9,8 +9,5 @@ returns-then-place-eq1 c k at h = name_first c.args.place c.args.class c.args.by
 pub returns-else-place-eq1 : goal.returns-else-place-eq1
 returns-else-place-eq1 c k at h = other_byte c.args.place.col 1 c.if-place-eq1.false ∙ name_away c.args.place c.args.class c.args.bytes.now k c.in-Name.is h c.if-place-eq1.false
 
-pub returns-then-is_bar : goal.returns-then-is_bar
-returns-then-is_bar c k at h = c.if-is_bar.true ∙ sign_bar c.args.place c.args.class c.args.bytes.now k c.in-Other.is h (sym c.is_bar.ensures ∙ c.if-is_bar.true)
-
-pub returns-then-place-eq1-2 : goal.returns-then-place-eq1-2
-returns-then-place-eq1-2 c k at h = sign_first c.args.place c.args.class c.args.bytes.now k c.is_unit_word.result c.in-Other.is h (sym c.is_bar.ensures ∙ c.if-is_bar.false) c.if-place-eq1-2.true c.is_unit_word.ensures
+pub returns-in-Other : goal.returns-in-Other
+returns-in-Other c k at h = sign_here c.args.place c.args.class c.args.bytes.now k c.begins_at.result c.in-Other.is h c.begins_at.ensures

@@ -2,7 +2,7 @@
 use Rattle.std.proofs.Common.{◌≡◌, ◌++◌, ◌-◌, length, drop}
 use Rattle.std.specs.Prelude.{All}
 use Rattle.module_tree.specs.Walk.{walk_from, walk}
-use Rattle.module_text.specs.StandsSeen.{stands_seen, IsWithin, IsSolid}
+use Rattle.module_text.specs.StandsSeen.{stands_seen, IsSolid}
 use Rattle.module_text.specs.Walking.{state_of, IsAt}
 use Rattle.module_text.proofs.walk.walk.Given as goal
 
@@ -10,7 +10,6 @@ abbrev pub invariant-segments : goal.invariant-segments
 invariant-segments l = record {
   at : IsAt l.text l.walker;
   walked : stands_seen l.text l.stands.items ++ walk_from (state_of l.walker) 0 (drop l.walker.at l.text) ≡ walk l.text;
-  within : All (IsWithin l.text) l.stands.items;
   solid : All (IsSolid l.text) l.stands.items;
 }
 
