@@ -4,13 +4,13 @@ use Rattle.tla_tree.specs.Tree.{Word, Trees, Graft}
 use Rattle.pcal_tree.specs.Algorithm.{Span, Statement, branch, either, with, while, macro, Statements, done, then, mark, Branches, no_branches, or, Macro}
 use Rattle.pcal_tree.specs.Run.{arguments}
 use Rattle.pcal_tree.specs.StepStart.{begin}
-use Rattle.pcal_tree.specs.Expand.{graft_one, graft_all, graft_some, joined, Writing, expand_one, expand, expand_some, written_out, expanded, expand_begin}
+use Rattle.pcal_tree.specs.Expand.{graft_one, graft_all, graft_some, followed_by, Writing, expand_one, expand, expand_some, written_out, expanded, expand_begin}
 use Rattle.pcal_tree.proofs.ExpandRuns.{opens_joined}
 use Rattle.pcal_tree.proofs.BeginLaws.{WrittenBare, begin_expanded}
 use Rattle.pcal_tree.specs.laws.Expansion.{Calls, CallsOne, CallsSome, Chosen, Throughout, FineCall, BeginsUnlabelled, Stays, BareOne, Bare, BareSome, BareBodies}
 use Rattle.tla_value.specs.laws.Grafting.{Apart, ApartForm}
 
-bare_joined : (a b : Statements) → Bare a → Bare b → Bare (joined a b)
+bare_joined : (a b : Statements) → Bare a → Bare b → Bare (followed_by a b)
 bare_joined done b h k = k
 bare_joined (then at st a) b h k = (h.0, bare_joined a b h.1 k)
 bare_joined (mark m j a) b h k = absurd h

@@ -13,7 +13,7 @@ use Rattle.action_builder.proofs.Actions.{all_changes, changes_for, folded, valu
 use Rattle.action_builder.proofs.Effects.{Change, Parts, no_parts, part, changing, part_of, parts_of, Changes, no_changes, change, evaluated, Named}
 use Rattle.action_builder.specs.laws.Scopes.{part_at, IsPlain as Plain}
 use Rattle.action_builder.specs.laws.Ready.{IsLeft, LeftFirst, LeftSides}
-use Rattle.action_builder.specs.Written.{Key, sub, fixed, subs, keys_of, keys_first, steps_of, subscripts, own, slots_of, slot_trees, except_of, is_whole, side_of}
+use Rattle.action_builder.specs.Written.{Key, sub, fixed, subs, keys_of, keys_first, steps_of, subscripts, own, slots_of, slot_trees, except_of, sets_whole, side_of}
 use Rattle.tla_value.proofs.Outcomes.{then_ok, then_then}
 use Rattle.pcal_tree.specs.Assign.{Setting}
 use Rattle.action_builder.specs.laws.States.{changed_by, value_after}
@@ -141,10 +141,10 @@ side_law : (V : Names) (y : Word) (ms : Assignments) → LeftSides V ms → (sc 
 side_law V y no_assignments h sc n s here = λ i. (here nowhere i).value
 side_law V y (assignment l e ms) h sc n s here = by (keys_of l) refl ms h
   where
-    by : (ks : List Key) → keys_of l ≡ ks → (us : Assignments) → LeftSides V (assignment l e us) → (eval plain (cond (is_whole (keys_of l) us) e (except_of (root_place l) y (assignment l e us))) (sc.env s)).value ≡ (all_changes (parts_of plain (assignment l e us)) sc s) >>= (λ fs. folded fs (s y))
-    by [] q no_assignments k = (λ i. (eval plain (cond (is_whole (q i) no_assignments) e (except_of (root_place l) y (assignment l e no_assignments))) (sc.env s)).value) ∙ whole_law V l e k.0 sc n s y q
-    by [] q (assignment m f us) k = (λ i. (eval plain (cond (is_whole (q i) (assignment m f us)) e (except_of (root_place l) y (assignment l e (assignment m f us)))) (sc.env s)).value) ∙ except_law V plain (root_place l) y (assignment l e (assignment m f us)) k sc n s (here (root_place l))
-    by (x ∷ ks) q us k = (λ i. (eval plain (cond (is_whole (q i) us) e (except_of (root_place l) y (assignment l e us))) (sc.env s)).value) ∙ except_law V plain (root_place l) y (assignment l e us) k sc n s (here (root_place l))
+    by : (ks : List Key) → keys_of l ≡ ks → (us : Assignments) → LeftSides V (assignment l e us) → (eval plain (cond (sets_whole (keys_of l) us) e (except_of (root_place l) y (assignment l e us))) (sc.env s)).value ≡ (all_changes (parts_of plain (assignment l e us)) sc s) >>= (λ fs. folded fs (s y))
+    by [] q no_assignments k = (λ i. (eval plain (cond (sets_whole (q i) no_assignments) e (except_of (root_place l) y (assignment l e no_assignments))) (sc.env s)).value) ∙ whole_law V l e k.0 sc n s y q
+    by [] q (assignment m f us) k = (λ i. (eval plain (cond (sets_whole (q i) (assignment m f us)) e (except_of (root_place l) y (assignment l e (assignment m f us)))) (sc.env s)).value) ∙ except_law V plain (root_place l) y (assignment l e (assignment m f us)) k sc n s (here (root_place l))
+    by (x ∷ ks) q us k = (λ i. (eval plain (cond (sets_whole (q i) us) e (except_of (root_place l) y (assignment l e us))) (sc.env s)).value) ∙ except_law V plain (root_place l) y (assignment l e us) k sc n s (here (root_place l))
 
 -- the written right side has the value of the variable's assignments
 pub value_law : (V : Names) (y : Word) (ms : Assignments) → LeftSides V ms → (sc : Scope) → Plain V sc → (s : State) → ((at : Place) → (sc.env s).now y at ≡ just (s y)) → (eval plain (side_of y (own y ms)) (sc.env s)).value ≡ value_for y (parts_of plain ms) sc s

@@ -25,7 +25,7 @@ use Rattle.action_builder.specs.Assigned.{Names, head_of}
 use Rattle.action_builder.specs.laws.States.{mid}
 use Rattle.action_builder.proofs.Actions.{minus, all_same, some_member}
 use Rattle.action_builder.specs.laws.Ready.{Readable, Halfway, IsWithin, Paired, Scoped, IsLeft, LeftFirst, LeftSides, FineTree, FineSides, values_of}
-use Rattle.action_builder.specs.Written.{Key, sub, fixed, subs, keys_of, keys_first, subscripts, own, slot_trees, except_of, is_whole, side_of, primed, left_of}
+use Rattle.action_builder.specs.Written.{Key, sub, fixed, subs, keys_of, keys_first, subscripts, own, slot_trees, except_of, sets_whole, side_of, primed, left_of}
 use Rattle.action_builder.proofs.Except.{own_left}
 use Rattle.action_builder.proofs.Equal.{eq-name, eq-value}
 use Rattle.action_builder.proofs.Sets.{minus_same, same_minus}
@@ -237,7 +237,7 @@ module _ (U : Readable) (A : Names) where
 
   fine_side : (V : Names) (y : Word) (ms : Assignments) → U A y ≡ true → LeftSides V ms → FineSides U A ms → FineTree U A (side_of y ms)
   fine_side V y no_assignments u k h = ((tt, tt), (tt, tt), (u, tt))
-  fine_side V y (assignment l e ms) u k h = by (is_whole (keys_of l) ms)
+  fine_side V y (assignment l e ms) u k h = by (sets_whole (keys_of l) ms)
     where
       by : (b : Bool) → FineTree U A (cond b e (except_of (root_place l) y (assignment l e ms)))
       by true = h.1

@@ -6,7 +6,7 @@ use Rattle.tla_tree.specs.Tree.{Word, string, name, operator_call, strict, opera
 use Rattle.pcal_tree.specs.Algorithm.{Span, Declaration, Routine, locals, Assignments, no_assignments, assignment, no_binds, is, with, Statements, done, then, assign, procedure_routines, either, no_branches}
 use Rattle.pcal_tree.specs.Run.{Partner, no_partner, goto_partner, return_partner}
 use Rattle.pcal_tree.specs.Program.{Program, written}
-use Rattle.pcal_tree.specs.Calls.{label_name, first_label, frame_fields, named}
+use Rattle.pcal_tree.specs.Calls.{label_name, first_label, frame_fields, routine_named}
 use Rattle.action_builder.specs.Settled.{WrittenJumps}
 use Rattle.action_builder.specs.Written.{old_stack}
 use Rattle.pcal_tree.specs.Variables.{written_all, pc, stack}
@@ -151,6 +151,6 @@ call_to P u I places at ts l j (Some p) = call_with P u I places at ts l j p
 abbrev pub written_jumps : Program → Routine → InitialValues → JumpPlaces → WrittenJumps
 written_jumps P u I places = record {
   goto = λ l. jump_written places.goto (label_name P u l);
-  call = λ at p ts l j. call_to P u I places at ts l j (named p.word (procedure_routines P.algorithm));
+  call = λ at p ts l j. call_to P u I places at ts l j (routine_named p.word (procedure_routines P.algorithm));
   return = λ at. return_written P u (places.return at);
 }

@@ -64,14 +64,14 @@ abbrev pub except_of : Place → Word → Assignments → Tree
 except_of at y ms = node (strict (except (slots_of ms))) at (tree (node (name y) at no_trees) (slot_trees ms))
 
 -- one assignment to the whole variable
-abbrev pub is_whole : List Key → Assignments → Bool
-is_whole [] no_assignments = true
-is_whole _ _ = false
+abbrev pub sets_whole : List Key → Assignments → Bool
+sets_whole [] no_assignments = true
+sets_whole _ _ = false
 
 -- e where the whole variable is assigned, else an EXCEPT with all its parts
 abbrev pub side_of : Word → Assignments → Tree
 side_of y no_assignments = node (name y) nowhere no_trees
-side_of y (assignment l e ms) = cond (is_whole (keys_of l) ms) e (except_of (root_place l) y (assignment l e ms))
+side_of y (assignment l e ms) = cond (sets_whole (keys_of l) ms) e (except_of (root_place l) y (assignment l e ms))
 
 -- ---- items
 

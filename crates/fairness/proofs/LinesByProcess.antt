@@ -19,7 +19,7 @@ use Rattle.fairness.specs.MarkedLabels.{left_out_labels, strong_labels}
 use Rattle.fairness.specs.ReachedProcedures.{reached_within, reached}
 use Rattle.fairness.specs.Demands.{Demand, all_steps, routine_steps, label_steps, demands_in, demands_of, main_demands, demands}
 use Rattle.fairness.specs.Obligations.{obligation_of, written_labels, obligations}
-use Rattle.fairness.specs.FairnessLines.{identifier_of, over_of, own_call, called_by, guard_of, line_of, fairness_lines}
+use Rattle.fairness.specs.FairnessLines.{identifier_of, over_of, own_call, action_call, guard_of, line_of, fairness_lines}
 use Rattle.fairness.specs.laws.LinesOfObligations.{identifier, quantified, own_action, IsCallBy, LeavesOut, IsOf, AreOf}
 use Rattle.fairness.proofs.LabelsShared.{labels_shared, strong_is_label, one_shared}
 use Rattle.fairness.proofs.TestsOfLabels.{guard_leaves_out}
@@ -81,7 +81,7 @@ module _ (P : Program) (n : ℕ) (p : Process) (behind : first_process P.algorit
   abbrev Its : Routine → Type 0
   Its u = (u ≡ t.routine) ⊎ OneOf u (reached P.algorithm t.routine)
 
-  its_call : (u : Routine) → Its u → (c : Word) → IsCallBy P n p u c (called_by t u c)
+  its_call : (u : Routine) → Its u → (c : Word) → IsCallBy P n p u c (action_call t u c)
   its_call u (inl e) c =
       inl (e, ap (λ b. cond b (own_call t.takers c) (call_with c (identifier_of t.takers))) (eq-eqb n u.number (sym (ap (λ v. v.number) e))) ∙ own_is p c)
   its_call u (inr h) c =

@@ -28,8 +28,8 @@ own_call (each_of s) a = call_with a (named self)
 own_call _ a = call a
 
 -- the call of an action, of the process's own or of a procedure
-abbrev pub called_by : Taken → Routine → Word → Call
-called_by t u a = cond (nat_eq t.routine.number u.number) (own_call t.takers a) (call_with a (identifier_of t.takers))
+abbrev pub action_call : Taken → Routine → Word → Call
+action_call t u a = cond (nat_eq t.routine.number u.number) (own_call t.takers a) (call_with a (identifier_of t.takers))
 
 -- pc[self] \notin {"L"}, where labels are left out
 abbrev pub guard_of : Takers → List Word → Option Tree
@@ -42,9 +42,9 @@ line_of P (routine_steps t strong u) = record {
   over = over_of t.takers;
   strong = strong;
   guard = guard_of t.takers (written_labels P u (left_out_labels u.body));
-  action = called_by t u (P.naming.title u.number);
+  action = action_call t u (P.naming.title u.number);
 }
-line_of P (label_steps t u l) = record { over = over_of t.takers; strong = true; guard = None; action = called_by t u (label_name P u l) }
+line_of P (label_steps t u l) = record { over = over_of t.takers; strong = true; guard = None; action = action_call t u (label_name P u l) }
 
 -- what follows `Init` and `[][Next]_vars`
 abbrev pub fairness_lines : Program → List Fairness

@@ -2,7 +2,7 @@
 use Rattle.std.proofs.Common.{◌≡◌, ℕ, ◌+◌, suc, List, [], ◌∷◌, map, Bool, true, false, cond, max, refl, sym, ap, ◌∙◌, arith}
 use Rattle.tla_tree.specs.Tree.{Word, Name, Tree, Trees, no_trees, tree, Graft, graft, grafts}
 use Rattle.pcal_tree.specs.Algorithm.{Span, Assignments, no_assignments, assignment, Binds, no_binds, one_of, is, Statement, assign, await, print, assert, skip, branch, either, with, while, goto, macro, call, return, Statements, done, then, mark, Branches, no_branches, or, Start, unset, equals, among, Declaration, Definition, Procedure, Process, Main, alone, processes, Algorithm}
-use Rattle.pcal_tree.specs.Expand.{Writing, expand, expand_one, expand_some, joined, graft_left, graft_assignments, graft_binds, graft_one, graft_all, graft_some}
+use Rattle.pcal_tree.specs.Expand.{Writing, expand, expand_one, expand_some, followed_by, graft_left, graft_assignments, graft_binds, graft_one, graft_all, graft_some}
 use Rattle.macro_expand.specs.Measured.{Measure, Calls, of_trees, of_assignments, of_binds, how_many, of_one, of_all, of_some, of_each, of_start, of_declared, of_procedure, of_process, of_main, of_algorithm}
 
 -- ---- from one measure to another
@@ -93,7 +93,7 @@ pub record Joins (Y : Type 0) (N : Measure Y) : Type 0 where
   pub three : (x y z : Y) → N.both (N.both x y) z ≡ N.both x (N.both y z)
   pub label : (x y : Y) → N.both (N.label x) y ≡ N.label (N.both x y)
 
-of_joined : {Y : Type 0} {N : Measure Y} (J : Joins Y N) (D : Calls Y) (a b : Statements) → of_all N D (joined a b) ≡ N.both (of_all N D a) (of_all N D b)
+of_joined : {Y : Type 0} {N : Measure Y} (J : Joins Y N) (D : Calls Y) (a b : Statements) → of_all N D (followed_by a b) ≡ N.both (of_all N D a) (of_all N D b)
 of_joined {N = N} J D done b = sym (J.nothing (of_all N D b))
 of_joined {N = N} J D (then at st a) b = (λ z. N.both (of_one N D st) (of_joined J D a b z)) ∙ sym (J.three (of_one N D st) (of_all N D a) (of_all N D b))
 of_joined {N = N} J D (mark l k a) b = (λ z. N.label (of_joined J D a b z)) ∙ sym (J.label (of_all N D a) (of_all N D b))

@@ -4,7 +4,7 @@ use Rattle.tla_tree.specs.Tree.{Word, Trees}
 use Rattle.pcal_tree.specs.Algorithm.{Span, Statement, assign, await, print, assert, skip, branch, either, with, while, goto, macro, call, return, Statements, done, then, mark, Branches, no_branches, or}
 use Rattle.pcal_tree.specs.Run.{unlabelled, label_of}
 use Rattle.pcal_tree.specs.StepStart.{Begin, begin_in, begin, begin_some}
-use Rattle.pcal_tree.specs.Expand.{joined, Writing, expand_one, expand, expand_some, expand_begin}
+use Rattle.pcal_tree.specs.Expand.{followed_by, Writing, expand_one, expand, expand_some, expand_begin}
 use Rattle.pcal_tree.proofs.ExpandRuns.{opens_joined, no_label}
 use Rattle.std.specs.Option.{option_or}
 use Rattle.pcal_tree.specs.laws.Expansion.{Calls, CallsOne, CallsSome, BeginsUnlabelled, BareOne, Bare, BareSome}
@@ -31,16 +31,16 @@ mutual
   none_some l no_branches x h = refl
   none_some l (or b bs) x h = or_none _ _ (none_in l unlabelled b x h.0) (none_some l bs x h.1)
 
-begin_joined : (l : Word) (a b : Statements) (x : Word) → Bare a → begin l unlabelled (joined a b) x ≡ begin l unlabelled b x
+begin_joined : (l : Word) (a b : Statements) (x : Word) → Bare a → begin l unlabelled (followed_by a b) x ≡ begin l unlabelled b x
 begin_joined l done b x h = refl
 begin_joined l (then at st a) b x h =
-    ap (λ o. option_or o (begin l unlabelled (joined a b) x)) (none_one l unlabelled st (label_of (joined a b) x) h.0) ∙ begin_joined l a b x h.1
+    ap (λ o. option_or o (begin l unlabelled (followed_by a b) x)) (none_one l unlabelled st (label_of (followed_by a b) x) h.0) ∙ begin_joined l a b x h.1
 begin_joined l (mark m k a) b x h = absurd h
 
-begin_opened : (l here : Word) (a b : Statements) (x : Word) → BeginsUnlabelled a → Bare a → begin l here (joined a b) x ≡ begin l unlabelled b x
+begin_opened : (l here : Word) (a b : Statements) (x : Word) → BeginsUnlabelled a → Bare a → begin l here (followed_by a b) x ≡ begin l unlabelled b x
 begin_opened l here done b x o h = absurd o
 begin_opened l here (then at st a) b x o h =
-    ap (λ q. option_or q (begin l unlabelled (joined a b) x)) (none_one l here st (label_of (joined a b) x) h.0) ∙ begin_joined l a b x h.1
+    ap (λ q. option_or q (begin l unlabelled (followed_by a b) x)) (none_one l here st (label_of (followed_by a b) x) h.0) ∙ begin_joined l a b x h.1
 begin_opened l here (mark m k a) b x o h = absurd h
 
 -- ---- expansion

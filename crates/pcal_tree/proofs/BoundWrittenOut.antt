@@ -8,7 +8,7 @@ use Rattle.tla_token.specs.declared.place.Place.{Place}
 use Rattle.tla_tree.specs.Tree.{Word, Name, name, binding, local, Tree, node, Trees, no_trees, tree, Graft, grafted_name, graft, grafts}
 use Rattle.pcal_tree.specs.Algorithm.{Span, Assignments, no_assignments, assignment, Binds, no_binds, one_of, is, Statement, assign, await, print, assert, skip, branch, either, with, while, goto, macro, call, return, Statements, done, then, mark, Branches, no_branches, or, Macro, Procedure, Main, alone, processes, Algorithm}
 use Rattle.pcal_tree.specs.BoundNames.{Lists, all_of, lists_in, lists_in_all, lists_in_assignments, names_of_binds, lists_in_binds, lists_in_one, lists_in_body, lists_in_branches}
-use Rattle.pcal_tree.specs.Expand.{placed_at, graft_left, graft_assignments, graft_binds, graft_one, graft_all, graft_some, joined, Writing, expand_one, expand, expand_some, written_out}
+use Rattle.pcal_tree.specs.Expand.{placed_at, graft_left, graft_assignments, graft_binds, graft_one, graft_all, graft_some, followed_by, Writing, expand_one, expand, expand_some, written_out}
 use Rattle.pcal_tree.specs.Run.{arguments}
 use Rattle.pcal_tree.specs.Variables.{declared}
 use Rattle.pcal_tree.specs.laws.BoundDefinitions.{has_one, lists_have_one, may_be_stale, rebinds_in, rebinds_in_main, rebinds_definitions, bound_in_text, bound_in_main, binds_definitions}
@@ -131,10 +131,10 @@ mutual
 
 -- ---- macro calls written out
 
-joined_bare : (D : Word → Bool) (a b : Statements) → Bare D (lists_in_body a) → Bare D (lists_in_body b) → Bare D (lists_in_body (joined a b))
+joined_bare : (D : Word → Bool) (a b : Statements) → Bare D (lists_in_body a) → Bare D (lists_in_body b) → Bare D (lists_in_body (followed_by a b))
 joined_bare D done b e f = f
 joined_bare D (then at st a) b e f =
-    let k = apart D (lists_in_one st) (lists_in_body a) e in together D (lists_in_one st) (lists_in_body (joined a b)) k.0 (joined_bare D a b k.1 f)
+    let k = apart D (lists_in_one st) (lists_in_body a) e in together D (lists_in_one st) (lists_in_body (followed_by a b)) k.0 (joined_bare D a b k.1 f)
 joined_bare D (mark l k a) b e f = joined_bare D a b e f
 
 -- what is written for calls binds nothing of the kind where their arguments don't

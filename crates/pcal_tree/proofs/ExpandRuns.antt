@@ -9,7 +9,7 @@ use Rattle.pcal_tree.specs.Scope.{State, Scope, bound, places_of, reach_in, thro
 use Rattle.tla_value.specs.declared.fault.FaultKind.TheVariants.{AssertFailed}
 use Rattle.pcal_tree.specs.Assign.{after_assignments}
 use Rattle.pcal_tree.specs.Run.{Course, chooses, course, held, stops, after, at_each, no_partner, partner_of, Follow, Rules, unlabelled, label_of, run_binds, run_one, run, run_branches, arguments, Calling, with_calls, called, with_macros}
-use Rattle.pcal_tree.specs.Expand.{graft_one, graft_all, joined, Writing, expand_one, expand, expand_some, written_out, expanded}
+use Rattle.pcal_tree.specs.Expand.{graft_one, graft_all, followed_by, Writing, expand_one, expand, expand_some, written_out, expanded}
 use Rattle.pcal_tree.proofs.GraftRuns.{Meets, graft_runs}
 use Rattle.tla_value.specs.Value.{fault}
 use Rattle.pcal_tree.specs.laws.Expansion.{Calls, CallsOne, CallsSome, Chosen, Throughout, FineCall, AnyPlace, BeginsUnlabelled, StaysOne, Stays}
@@ -42,7 +42,7 @@ through_free c ps ts sc free x at p s = (λ i. reach_in c (same_argument ps ts x
 abbrev pub following : Rules → Statements → Scope → Follow → Follow
 following M rest sc K = record { label = label_of rest K.label; partner = partner_of rest; goes = run M unlabelled rest sc K }
 
-join_label : (a b : Statements) (l : Word) → label_of (joined a b) l ≡ label_of a (label_of b l)
+join_label : (a b : Statements) (l : Word) → label_of (followed_by a b) l ≡ label_of a (label_of b l)
 join_label done b l = refl
 join_label (then at st a) b l = refl
 join_label (mark m k a) b l = refl
@@ -80,21 +80,21 @@ mutual
   some_unread M (or b bs) sc K L p q = λ i s. course (list_unread M unlabelled b sc K L p q i s) (some_unread M bs sc K L p q i s)
 
 join_one : (M : Rules) (here : Word) (at : Span) (st : Statement) (a b : Statements) → StaysOne st → (sc : Scope) (K : Follow)
-    → run (with_macros M []) unlabelled (joined a b) sc K ≡ run (with_macros M []) unlabelled a sc (following (with_macros M []) b sc K)
-    → run (with_macros M []) here (then at st (joined a b)) sc K ≡ run (with_macros M []) here (then at st a) sc (following (with_macros M []) b sc K)
+    → run (with_macros M []) unlabelled (followed_by a b) sc K ≡ run (with_macros M []) unlabelled a sc (following (with_macros M []) b sc K)
+    → run (with_macros M []) here (then at st (followed_by a b)) sc K ≡ run (with_macros M []) here (then at st a) sc (following (with_macros M []) b sc K)
 join_one M here at st a b h sc K q =
-    part_unread M here at.first st h sc (following (with_macros M []) (joined a b) sc K) (following (with_macros M []) a sc (following (with_macros M []) b sc K))
+    part_unread M here at.first st h sc (following (with_macros M []) (followed_by a b) sc K) (following (with_macros M []) a sc (following (with_macros M []) b sc K))
     (join_label a b K.label) q
 
 join_runs : (M : Rules) (a b : Statements) → Stays a → (sc : Scope) (K : Follow)
-    → run (with_macros M []) unlabelled (joined a b) sc K ≡ run (with_macros M []) unlabelled a sc (following (with_macros M []) b sc K)
+    → run (with_macros M []) unlabelled (followed_by a b) sc K ≡ run (with_macros M []) unlabelled a sc (following (with_macros M []) b sc K)
 join_runs M done b h sc K = refl
 join_runs M (then at st a) b h sc K = join_one M unlabelled at st a b h.0 sc K (join_runs M a b h.1 sc K)
 join_runs M (mark l k a) b h sc K = refl
 
 -- also at a label, where the first list begins with a statement
 join_opens : (M : Rules) (here : Word) (a b : Statements) → BeginsUnlabelled a → Stays a → (sc : Scope) (K : Follow)
-    → run (with_macros M []) here (joined a b) sc K ≡ run (with_macros M []) here a sc (following (with_macros M []) b sc K)
+    → run (with_macros M []) here (followed_by a b) sc K ≡ run (with_macros M []) here a sc (following (with_macros M []) b sc K)
 join_opens M here done b o h sc K = absurd o
 join_opens M here (then at st a) b o h sc K = join_one M here at st a b h.0 sc K (join_runs M a b h.1 sc K)
 join_opens M here (mark l k a) b o h sc K = absurd o
@@ -106,7 +106,7 @@ abbrev pub Written : Rules → Calling → Writing → (Word → Trees → Type 
 Written M f X P =
     (here : Word) (at : Span) (m : Word) (ts : Trees) → P m ts → BeginsUnlabelled (X at m ts) × Stays (X at m ts) × ((sc : Scope) → AnyPlace sc → (K : Follow) → f here at.first m ts sc K ≡ run (with_macros M []) here (X at m ts) sc K)
 
-pub opens_joined : (a b : Statements) → BeginsUnlabelled a → BeginsUnlabelled (joined a b)
+pub opens_joined : (a b : Statements) → BeginsUnlabelled a → BeginsUnlabelled (followed_by a b)
 opens_joined done b h = absurd h
 opens_joined (then at st a) b h = tt
 opens_joined (mark l k a) b h = absurd h
@@ -131,9 +131,9 @@ stays_partner at (call p ts) rest h = absurd h
 stays_partner at return rest h = absurd h
 stays_partner at st rest h = refl
 
-no_partner_joined : (a b : Statements) → BeginsUnlabelled a → Stays a → no_partner ≡ partner_of (joined a b)
+no_partner_joined : (a b : Statements) → BeginsUnlabelled a → Stays a → no_partner ≡ partner_of (followed_by a b)
 no_partner_joined done b o h = absurd o
-no_partner_joined (then at st a) b o h = stays_partner at st (joined a b) h.0
+no_partner_joined (then at st a) b o h = stays_partner at st (followed_by a b) h.0
 no_partner_joined (mark l k a) b o h = absurd o
 
 expand_partner_one : (M : Rules) (f : Calling) (X : Writing) (P : Word → Trees → Type 0) → Written M f X P → (at : Span) (st : Statement) → CallsOne P st → (rest over : Statements) → partner_of (then at st rest) ≡ partner_of (expand_one X at st over)
@@ -207,7 +207,7 @@ stays_graft g done h = tt
 stays_graft g (then at st rest) h = (stays_graft_one g st h.0, stays_graft g rest h.1)
 stays_graft g (mark l k rest) h = tt
 
-stays_joined : (a b : Statements) → Stays a → Stays b → Stays (joined a b)
+stays_joined : (a b : Statements) → Stays a → Stays b → Stays (followed_by a b)
 stays_joined done b h k = k
 stays_joined (then at st a) b h k = (h.0, stays_joined a b h.1 k)
 stays_joined (mark l m a) b h k = tt

@@ -8,10 +8,10 @@ use Rattle.tla_token.specs.Signs.{is_among}
 use Rattle.tla_token.specs.Words.{is_reserved, is_own, is_standard}
 use Rattle.tla_tree.specs.Tree.{Word}
 use Rattle.std.specs.List.{AllByRecursion}
-use Rattle.pcal_tree.specs.Names.{is_taken, joint, numbered, free_from, first_free, Want, give}
+use Rattle.pcal_tree.specs.Names.{is_taken, joint, with_number, free_from, first_free, Want, give}
 use Rattle.pcal_tree.specs.laws.Apart.{Apart}
 
-pub numbered_apart : (x : Word) (m n : ℕ) → m < 2 ^ 64 → n < 2 ^ 64 → numbered x m ≡ numbered x n → m ≡ n
+pub numbered_apart : (x : Word) (m n : ℕ) → m < 2 ^ 64 → n < 2 ^ 64 → with_number x m ≡ with_number x n → m ≡ n
 numbered_apart x m n p q e =
     decimal_injective m n p q
     (append_cancel_left (joint x) (decimal m) (decimal n) (append_cancel_left x (joint x ++ decimal m) (joint x ++ decimal n) e))
@@ -53,47 +53,47 @@ without_other w u (v ∷ vs) differ = by (bytes_eq v w) refl (bytes_eq v u) refl
 -- ---- the first free name
 
 -- it is one of the numbered ones
-pub free_is : (k : ℕ) (taken : List Word) (x : Word) (n : ℕ) → (m : ℕ) × (n ≤ m) × (m ≤ n + k) × (free_from k taken x n ≡ numbered x m)
+pub free_is : (k : ℕ) (taken : List Word) (x : Word) (n : ℕ) → (m : ℕ) × (n ≤ m) × (m ≤ n + k) × (free_from k taken x n ≡ with_number x m)
 free_is zero taken x n = (n, omega arith, omega arith, refl)
-free_is (suc k) taken x n = by (is_among taken (numbered x n)) (free_is k taken x (suc n))
+free_is (suc k) taken x n = by (is_among taken (with_number x n)) (free_is k taken x (suc n))
   where
-    by : (b : Bool) → ((m : ℕ) × (suc n ≤ m) × (m ≤ suc n + k) × (free_from k taken x (suc n) ≡ numbered x m))
-        → (m : ℕ) × (n ≤ m) × (m ≤ n + suc k) × (cond b (free_from k taken x (suc n)) (numbered x n) ≡ numbered x m)
+    by : (b : Bool) → ((m : ℕ) × (suc n ≤ m) × (m ≤ suc n + k) × (free_from k taken x (suc n) ≡ with_number x m))
+        → (m : ℕ) × (n ≤ m) × (m ≤ n + suc k) × (cond b (free_from k taken x (suc n)) (with_number x n) ≡ with_number x m)
     by true q = (q.0, omega (arith, q.1), omega (arith, q.2), q.3)
     by false q = (n, omega arith, omega arith, refl)
 
-free_same : (k : ℕ) (a b : List Word) (x : Word) (n : ℕ) → ((m : ℕ) → n ≤ m → m ≤ n + k → is_among a (numbered x m) ≡ is_among b (numbered x m))
+free_same : (k : ℕ) (a b : List Word) (x : Word) (n : ℕ) → ((m : ℕ) → n ≤ m → m ≤ n + k → is_among a (with_number x m) ≡ is_among b (with_number x m))
     → free_from k a x n ≡ free_from k b x n
 free_same zero a b x n h = refl
 free_same (suc k) a b x n h =
-    ap (λ t. cond t (free_from k a x (suc n)) (numbered x n)) (h n (omega arith) (omega arith))
-    ∙ ap (λ w. cond (is_among b (numbered x n)) w (numbered x n)) (free_same k a b x (suc n) (λ m p q. h m (omega arith) (omega arith)))
+    ap (λ t. cond t (free_from k a x (suc n)) (with_number x n)) (h n (omega arith) (omega arith))
+    ∙ ap (λ w. cond (is_among b (with_number x n)) w (with_number x n)) (free_same k a b x (suc n) (λ m p q. h m (omega arith) (omega arith)))
 
 -- among one more name than are taken one isn't taken
 pub free_untaken : (k : ℕ) (taken : List Word) (x : Word) (n : ℕ) → length taken ≤ k → n + k < 2 ^ 64 → is_among taken (free_from k taken x n) ≡ false
 free_untaken zero [] x n l p = refl
 free_untaken zero (v ∷ vs) x n l p = absurd (omega arith)
-free_untaken (suc k) taken x n l p = by (is_among taken (numbered x n)) refl (free_untaken k rest x (suc n))
+free_untaken (suc k) taken x n l p = by (is_among taken (with_number x n)) refl (free_untaken k rest x (suc n))
   where
     rest : List Word
-    rest = without (numbered x n) taken
+    rest = without (with_number x n) taken
 
-    other : (m : ℕ) → suc n ≤ m → m ≤ suc n + k → is_among rest (numbered x m) ≡ is_among taken (numbered x m)
+    other : (m : ℕ) → suc n ≤ m → m ≤ suc n + k → is_among rest (with_number x m) ≡ is_among taken (with_number x m)
     other m q r =
-        without_other (numbered x n) (numbered x m) taken (λ e. let s : n ≡ m = numbered_apart x n m (omega arith) (omega arith) e in omega arith)
+        without_other (with_number x n) (with_number x m) taken (λ e. let s : n ≡ m = numbered_apart x n m (omega arith) (omega arith) e in omega arith)
 
     moved : is_among rest (free_from k taken x (suc n)) ≡ is_among taken (free_from k taken x (suc n))
     moved = by_number (free_is k taken x (suc n))
       where
-        by_number : ((m : ℕ) × (suc n ≤ m) × (m ≤ suc n + k) × (free_from k taken x (suc n) ≡ numbered x m))
+        by_number : ((m : ℕ) × (suc n ≤ m) × (m ≤ suc n + k) × (free_from k taken x (suc n) ≡ with_number x m))
             → is_among rest (free_from k taken x (suc n)) ≡ is_among taken (free_from k taken x (suc n))
         by_number q = ap (is_among rest) q.3 ∙ other q.0 q.1 q.2 ∙ sym (ap (is_among taken) q.3)
 
-    by : (b : Bool) → is_among taken (numbered x n) ≡ b
+    by : (b : Bool) → is_among taken (with_number x n) ≡ b
         → (length rest ≤ k → suc n + k < 2 ^ 64 → is_among rest (free_from k rest x (suc n)) ≡ false)
-        → is_among taken (cond b (free_from k taken x (suc n)) (numbered x n)) ≡ false
+        → is_among taken (cond b (free_from k taken x (suc n)) (with_number x n)) ≡ false
     by true e ih =
-        let less = without_lt (numbered x n) taken e in
+        let less = without_lt (with_number x n) taken e in
         sym moved ∙ ap (is_among rest) (sym (free_same k rest taken x (suc n) other)) ∙ ih (omega arith) (omega arith)
     by false e ih = e
 

@@ -11,7 +11,7 @@ use Rattle.tla_token.specs.Signs.{is_among}
 use Rattle.tla_token.specs.Words.{pluscal_words, tla_words, begins_fairness, is_reserved, own_names, is_own, standard_names, sequence_names, tlc_names, is_standard}
 use Rattle.tla_token.proofs.Spelled.{begins, begins_is, begins_from}
 use Rattle.tla_tree.specs.Tree.{Word}
-use Rattle.pcal_tree.specs.Names.{is_taken, joint, numbered, free_from, first_free, Want, give}
+use Rattle.pcal_tree.specs.Names.{is_taken, joint, with_number, free_from, first_free, Want, give}
 use Rattle.pcal_tree.proofs.FreeNames.{free_is, free_untaken, every_map}
 
 -- whether the last byte is a digit, where b tells it of the byte before these
@@ -33,7 +33,7 @@ last_of_numeral : (b : Bool) (ds : Word) → IsNumeral 10 ds → digit_last b ds
 last_of_numeral b [] h = absurd (omega (arith, h.0))
 last_of_numeral b (c ∷ ds) h = last_of_digits (c ∷ ds) h.1
 
-last_of_numbered : (x : Word) (n : ℕ) → n < 2 ^ 64 → digit_last false (numbered x n) ≡ true
+last_of_numbered : (x : Word) (n : ℕ) → n < 2 ^ 64 → digit_last false (with_number x n) ≡ true
 last_of_numbered x n p =
     last_of_both false x (joint x ++ decimal n) ∙ last_of_both (digit_last false x) (joint x) (decimal n)
     ∙ last_of_numeral (digit_last (digit_last false x) (joint x)) (decimal n) (decimal_is_IsNumeral n p).0
@@ -123,7 +123,7 @@ opens_no c x ds bare other numeral shut =
         clash : true ≡ false → ⊥
         clash e = cc
 
-no_fairness : (x : Word) (n : ℕ) → n < 2 ^ 64 → begins_fairness x ≡ false → begins_fairness (numbered x n) ≡ false
+no_fairness : (x : Word) (n : ℕ) → n < 2 ^ 64 → begins_fairness x ≡ false → begins_fairness (with_number x n) ≡ false
 no_fairness x n p e =
     let numeral = (decimal_is_IsNumeral n p).0 in
     or_from _ _
@@ -136,30 +136,30 @@ no_fairness x n p e =
 
 -- ---- all of them
 
-none_of_reserved : (x : Word) (n : ℕ) → n < 2 ^ 64 → begins_fairness x ≡ false → is_reserved (numbered x n) ≡ false
+none_of_reserved : (x : Word) (n : ℕ) → n < 2 ^ 64 → begins_fairness x ≡ false → is_reserved (with_number x n) ≡ false
 none_of_reserved x n p e =
     let d = last_of_numbered x n p in
-    or_from (is_among pluscal_words (numbered x n)) (is_among tla_words (numbered x n) || begins_fairness (numbered x n))
-    (not_there (numbered x n) pluscal_words d pluscal_plain)
-    (or_from (is_among tla_words (numbered x n)) (begins_fairness (numbered x n)) (not_there (numbered x n) tla_words d tla_plain)
+    or_from (is_among pluscal_words (with_number x n)) (is_among tla_words (with_number x n) || begins_fairness (with_number x n))
+    (not_there (with_number x n) pluscal_words d pluscal_plain)
+    (or_from (is_among tla_words (with_number x n)) (begins_fairness (with_number x n)) (not_there (with_number x n) tla_words d tla_plain)
     (no_fairness x n p e))
 
-none_of_standard : (extended : List Word) (x : Word) (n : ℕ) → n < 2 ^ 64 → is_standard extended (numbered x n) ≡ false
+none_of_standard : (extended : List Word) (x : Word) (n : ℕ) → n < 2 ^ 64 → is_standard extended (with_number x n) ≡ false
 none_of_standard extended x n p =
     let d = last_of_numbered x n p in
     or_from _ _
-    (or_from _ _ (not_there (numbered x n) standard_names d standard_plain)
-    (and_right (is_among extended (codes "Sequences")) (is_among sequence_names (numbered x n))
-    (not_there (numbered x n) sequence_names d sequence_plain)))
-    (and_right (is_among extended (codes "TLC")) (is_among tlc_names (numbered x n)) (not_there (numbered x n) tlc_names d tlc_plain))
+    (or_from _ _ (not_there (with_number x n) standard_names d standard_plain)
+    (and_right (is_among extended (codes "Sequences")) (is_among sequence_names (with_number x n))
+    (not_there (with_number x n) sequence_names d sequence_plain)))
+    (and_right (is_among extended (codes "TLC")) (is_among tlc_names (with_number x n)) (not_there (with_number x n) tlc_names d tlc_plain))
 
-number_free : (extended taken : List Word) (x : Word) (n : ℕ) → n < 2 ^ 64 → begins_fairness x ≡ false → is_among taken (numbered x n) ≡ false
-    → is_taken extended taken (numbered x n) ≡ false
+number_free : (extended taken : List Word) (x : Word) (n : ℕ) → n < 2 ^ 64 → begins_fairness x ≡ false → is_among taken (with_number x n) ≡ false
+    → is_taken extended taken (with_number x n) ≡ false
 number_free extended taken x n p e q =
-    or_from (is_reserved (numbered x n) || is_own (numbered x n) || is_standard extended (numbered x n)) (is_among taken (numbered x n))
-    (or_from (is_reserved (numbered x n) || is_own (numbered x n)) (is_standard extended (numbered x n))
-    (or_from (is_reserved (numbered x n)) (is_own (numbered x n)) (none_of_reserved x n p e)
-    (not_there (numbered x n) own_names (last_of_numbered x n p) own_plain))
+    or_from (is_reserved (with_number x n) || is_own (with_number x n) || is_standard extended (with_number x n)) (is_among taken (with_number x n))
+    (or_from (is_reserved (with_number x n) || is_own (with_number x n)) (is_standard extended (with_number x n))
+    (or_from (is_reserved (with_number x n)) (is_own (with_number x n)) (none_of_reserved x n p e)
+    (not_there (with_number x n) own_names (last_of_numbered x n p) own_plain))
     (none_of_standard extended x n p)) q
 
 first_free_free : (extended taken : List Word) (x : Word) → length taken + 1 < 2 ^ 64 → begins_fairness x ≡ false
@@ -168,7 +168,7 @@ first_free_free extended taken x few fair =
     by (is_taken extended taken x) refl (free_is (length taken) taken x 1) (free_untaken (length taken) taken x 1 (omega arith) (omega arith))
   where
     by : (b : Bool) → is_taken extended taken x ≡ b
-        → ((m : ℕ) × (1 ≤ m) × (m ≤ 1 + length taken) × (free_from (length taken) taken x 1 ≡ numbered x m))
+        → ((m : ℕ) × (1 ≤ m) × (m ≤ 1 + length taken) × (free_from (length taken) taken x 1 ≡ with_number x m))
         → is_among taken (free_from (length taken) taken x 1) ≡ false
         → is_taken extended taken (cond b (free_from (length taken) taken x 1) x) ≡ false
     by true e q h =

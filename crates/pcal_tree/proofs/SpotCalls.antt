@@ -92,12 +92,12 @@ and_nothing xs ys e K = ap (list_any (passes K)) (append-nil xs) ∙ e K
 
 -- ---- one list after another
 
-end_joined : (a b : Statements) (s : At) → end_of no_calls (expand.joined a b) s ≡ end_of no_calls b (end_of no_calls a s)
+end_joined : (a b : Statements) (s : At) → end_of no_calls (expand.followed_by a b) s ≡ end_of no_calls b (end_of no_calls a s)
 end_joined done b s = refl
 end_joined (then at st a) b s = end_joined a b (one_end no_calls st s)
 end_joined (mark l k a) b s = end_joined a b at_label
 
-seen_joined : (ps : List Procedure) (a b : Statements) (s : At) → seen_in no_calls ps (expand.joined a b) s ≡ seen_in no_calls ps a s ++ seen_in no_calls ps b (end_of no_calls a s)
+seen_joined : (ps : List Procedure) (a b : Statements) (s : At) → seen_in no_calls ps (expand.followed_by a b) s ≡ seen_in no_calls ps a s ++ seen_in no_calls ps b (end_of no_calls a s)
 seen_joined ps done b s = refl
 seen_joined ps (then at st a) b s =
     let here = one_seen no_calls ps at.first st s in

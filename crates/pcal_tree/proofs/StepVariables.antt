@@ -18,7 +18,7 @@ use Rattle.pcal_tree.specs.Run.{unlabelled, label_of, Partner, no_partner, goto_
 use Rattle.pcal_tree.specs.StepStart.{Begin, begin_in, begin, begin_some, at_label}
 use Rattle.pcal_tree.specs.Program.{Program, Actor, index, local_index, written, common_env, global_env, read_at, read_name, global_part, routine_scope, global_scope}
 use Rattle.pcal_tree.specs.Variables.{pc, stack, declared, written_all, written_by_all, stack_for, vars, Agree}
-use Rattle.pcal_tree.specs.Calls.{label_value, setting, jumped, all_read, frame, on_stack, argument_settings, initial_value, initial_place, variables_started, entered_keeping, entered, fields_read, part_settings, restored, returned, values_left, replaced, returned_and_entered, finished, called_with, entered_at, named, rules_without_macros, rules_of, first_label}
+use Rattle.pcal_tree.specs.Calls.{label_value, setting, jumped, all_read, frame, on_stack, argument_settings, initial_value, initial_place, variables_started, entered_keeping, entered, fields_read, part_settings, restored, returned, values_left, replaced, returned_and_entered, finished, called_with, entered_at, routine_named, rules_without_macros, rules_of, first_label}
 use Rattle.pcal_tree.specs.Processes.{OneOf, IsActor}
 use Rattle.pcal_tree.specs.Step.{Stand, routines_of, course_of}
 use Rattle.pcal_tree.specs.laws.Steps.{has_return_in, has_return, has_return_of, ReturnsInProcedures}
@@ -92,14 +92,14 @@ declares_one (d ∷ ds) x e = by (declares_one ds x) (bytes_eq d.name.word x) re
     by ih true p e = (d, inl refl, (bytes_eq-Decides d.name.word x).0 p)
     by ih false p e = more (ih e)
 
-named_one : (x : Word) (us : List Routine) (u : Routine) → named x us ≡ Some u → OneOf u us
+named_one : (x : Word) (us : List Routine) (u : Routine) → routine_named x us ≡ Some u → OneOf u us
 named_one x [] u e = cc
 named_one x (w ∷ us) u e = by (named_one x us u) (bytes_eq w.name.word x) e
   where
     got : {c d : Routine} → Some c ≡ Some d → d ≡ c
     got e = cc
 
-    by : (named x us ≡ Some u → OneOf u us) → (b : Bool) → cond b (Some w) (named x us) ≡ Some u → OneOf u (w ∷ us)
+    by : (routine_named x us ≡ Some u → OneOf u us) → (b : Bool) → cond b (Some w) (routine_named x us) ≡ Some u → OneOf u (w ∷ us)
     by ih true e = inl (got e)
     by ih false e = inr (ih e)
 
@@ -319,7 +319,7 @@ module _ (P : Program) where
   without_even : (v : Actor) (u : Routine) → Even (vars P) (OneOf u procs) (rules_without_macros P v u)
   without_even v u = record {
     goto = λ l. jump_steady v u l;
-    call = λ at p ats vs l j k. call_steady v u at (named p procs) (λ q e. named_one p procs q e) ats vs l j k;
+    call = λ at p ats vs l j k. call_steady v u at (routine_named p procs) (λ q e. named_one p procs q e) ats vs l j k;
     return = λ h at. return_steady v u h at;
     macros = λ here at m ts sc K n k s t a. (refl, tt);
   }

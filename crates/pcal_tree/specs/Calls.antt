@@ -159,16 +159,16 @@ abbrev pub entered_at : Program → Actor → Routine → Place → Option Routi
 entered_at P v u at None places vs l j s = held at  -- no such procedure
 entered_at P v u at (Some p) places vs l j s = finished (called_with P v u at p places vs l j s)
 
-abbrev pub named : Word → List Routine → Option Routine
-named x [] = None
-named x (u ∷ us) = cond (bytes_eq u.name.word x) (Some u) (named x us)
+abbrev pub routine_named : Word → List Routine → Option Routine
+routine_named x [] = None
+routine_named x (u ∷ us) = cond (bytes_eq u.name.word x) (Some u) (routine_named x us)
 
 -- of process v in routine u, where there are no macros
 abbrev pub rules_without_macros : Program → Actor → Routine → Rules
 rules_without_macros P v u = record {
   check = P.check;
   goto = λ l s. finished (jumped P v u l s);
-  call = λ at p places vs l j s. entered_at P v u at (named p (procedure_routines P.algorithm)) places vs l j s;
+  call = λ at p places vs l j s. entered_at P v u at (routine_named p (procedure_routines P.algorithm)) places vs l j s;
   return = λ at s. finished (returned P v at u s);
   macros = λ here at m ts sc K s. held at;
 }

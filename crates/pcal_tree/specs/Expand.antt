@@ -51,10 +51,10 @@ abbrev mutual
 
 -- ---- macro calls
 
-abbrev pub joined : Statements → Statements → Statements
-joined done b = b
-joined (then at st a) b = then at st (joined a b)
-joined (mark l k a) b = mark l k (joined a b)
+abbrev pub followed_by : Statements → Statements → Statements
+followed_by done b = b
+followed_by (then at st a) b = then at st (followed_by a b)
+followed_by (mark l k a) b = mark l k (followed_by a b)
 
 -- what is written for a call
 abbrev pub Writing : Type 0
@@ -62,7 +62,7 @@ Writing = Span → Word → Trees → Statements
 
 abbrev mutual
   pub expand_one : Writing → Span → Statement → Statements → Statements
-  expand_one X at (macro m ts) rest = joined (X at m ts) rest
+  expand_one X at (macro m ts) rest = followed_by (X at m ts) rest
   expand_one X at (branch e a b) rest = then at (branch e (expand X a) (expand X b)) rest
   expand_one X at (either bs) rest = then at (either (expand_some X bs)) rest
   expand_one X at (with bs b) rest = then at (with bs (expand X b)) rest

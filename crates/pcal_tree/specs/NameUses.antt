@@ -35,8 +35,8 @@ taking n x = knowing (takes n) x
 abbrev pub plain : Word → Known
 plain x = taking 0 x
 
-abbrev pub hidden : Word → Known
-hidden x = knowing unread x
+abbrev pub hidden_name : Word → Known
+hidden_name x = knowing unread x
 
 abbrev pub known_standard : List Word → StandardName → Known
 known_standard extended d = knowing (standard d (extends_one extended d.modules)) d.title

@@ -40,13 +40,13 @@ abbrev pub joint : Word → Word
 joint x = cond (bytes_eq (codes "WF") x || bytes_eq (codes "SF") x) [] (codes "_")
 
 -- x_1, x_2, ..
-abbrev pub numbered : Word → ℕ → Word
-numbered x n = x ++ (joint x ++ decimal n)
+abbrev pub with_number : Word → ℕ → Word
+with_number x n = x ++ (joint x ++ decimal n)
 
 -- the first of x_n, x_(n+1), .. that isn't taken, looking at so many and one more
 abbrev pub free_from : ℕ → List Word → Word → ℕ → Word
-free_from zero taken x n = numbered x n
-free_from (suc more) taken x n = cond (is_among taken (numbered x n)) (free_from more taken x (suc n)) (numbered x n)
+free_from zero taken x n = with_number x n
+free_from (suc more) taken x n = cond (is_among taken (with_number x n)) (free_from more taken x (suc n)) (with_number x n)
 
 -- the first of x, x_1, x_2, .. that isn't taken; with a number after it a name is no word of a language or module
 abbrev pub first_free : List Word → List Word → Word → Word

@@ -14,7 +14,7 @@ use Rattle.tla_value.specs.Outside.{Outside, ReadDefinition}
 use Rattle.tla_value.specs.StandardModules.{standard_table, is_member, is_last}
 use Rattle.pcal_tree.specs.Outside.{unit_names}
 use Rattle.pcal_tree.specs.Paths.{root}
-pub use Rattle.pcal_tree.specs.NameUses.{Use, takes, variable, argument, standard, unread, Known, Sight, knowing, taking, plain, hidden, known_standard, seeing_plain, seeing_variables, use_of, applied_offences, left_offences, handed_use}
+pub use Rattle.pcal_tree.specs.NameUses.{Use, takes, variable, argument, standard, unread, Known, Sight, knowing, taking, plain, hidden_name, known_standard, seeing_plain, seeing_variables, use_of, applied_offences, left_offences, handed_use}
 use Rattle.pcal_tree.specs.Variables.{declared}
 
 -- ---- expressions
@@ -146,7 +146,7 @@ defined_outside d = taking (length d.definition.params) d.definition.title
 -- a unit that was not read hides all else of its names; of two definitions of a name the later one is seen
 abbrev pub sight_outside : Outside → Sight
 sight_outside o =
-    map hidden (flat_map (λ u. u.names) o.opaque)
+    map hidden_name (flat_map (λ u. u.names) o.opaque)
     ++ (map plain (words o.constants) ++ (map defined_outside (reverse o.definitions) ++ always_known o.extended))
 
 -- globals, and the definitions of the algorithm

@@ -20,13 +20,13 @@ blanks (suc n) = 32 ∷ blanks n
 abbrev pub line : ℕ → Text → Lines
 line n w ls = (blanks n ++ w) ∷ ls
 
-abbrev pub joined : Text → List Text → Text
-joined s [] = []
-joined s (w ∷ []) = w
-joined s (w ∷ v ∷ vs) = w ++ s ++ joined s (v ∷ vs)
+abbrev pub separated : Text → List Text → Text
+separated s [] = []
+separated s (w ∷ []) = w
+separated s (w ∷ v ∷ vs) = w ++ s ++ separated s (v ∷ vs)
 
 abbrev pub listed : List Text → Text
-listed ws = joined (codes ", ") ws
+listed ws = separated (codes ", ") ws
 
 abbrev pub bracketed : Text → Text
 bracketed w = codes "(" ++ w ++ codes ")"
@@ -92,7 +92,7 @@ closing c_syntax w = codes "};"
 
 abbrev mutual
   pub statement : Syntax → ℕ → Text → Statement → Lines
-  statement s n ls (assign ms) = line n (ls ++ joined (codes " || ") (assignments_texts ms) ++ codes ";")
+  statement s n ls (assign ms) = line n (ls ++ separated (codes " || ") (assignments_texts ms) ++ codes ";")
   statement s n ls (await e) = line n (ls ++ codes "await " ++ written e ++ codes ";")
   statement s n ls (print e) = line n (ls ++ codes "print " ++ written e ++ codes ";")
   statement s n ls (assert e) = line n (ls ++ codes "assert " ++ written e ++ codes ";")
@@ -196,7 +196,7 @@ lines_of s a =
     (variables a.globals (define s a.definitions (macros s a.macros (procedures s a.procedures (main s a.main (line 0 (last_line s) []))))))
 
 abbrev pub printed : Syntax → Algorithm → Text
-printed s a = joined (codes "\n") (lines_of s a)
+printed s a = separated (codes "\n") (lines_of s a)
 
 abbrev pub PText : Algorithm → Text
 PText a = printed p_syntax a

@@ -11,9 +11,9 @@ use Rattle.tla_tree.specs.Tree.{Word, PathStep, index, field, Slot, Strict, oper
 use Rattle.std.specs.Prelude.{int_lt}
 use Rattle.tla_value.specs.declared.fault.FaultKind.TheVariants.{BadDivisor, NotInDomain, NotSequence}
 use Rattle.tla_value.specs.Value.{Value, Values, truth, int, text, model, set, fun, no_values, and, Outcome, fault, values_in, in_order}
-use Rattle.tla_value.specs.Order.{same, count, orders, listed, numbered, found_at, pairs_of, field_pairs, record_from, IsAscending, IsCanonical, AreCanonical, ArePairsCanonical}
+use Rattle.tla_value.specs.Order.{same, count, orders, listed, numbers_from, found_at, pairs_of, field_pairs, record_from, IsAscending, IsCanonical, AreCanonical, ArePairsCanonical}
 use Rattle.tla_value.specs.Stops.{Check, truth_at, int_at, members_at, function_at, sequence_at, one_of, two_of}
-use Rattle.tla_value.specs.Sets.{joined, natural}
+use Rattle.tla_value.specs.Sets.{union_of, natural}
 use Rattle.tla_value.specs.Strict.{of_ints, of_sets, of_quotient, operated, space_of, made, applied, changed, changed_at, next_slot, updated, strict_value}
 use Rattle.tla_value.proofs.OrderFuns.{fun_from_canonical, seq_from_canonical}
 use Rattle.tla_value.proofs.Canonical.{Has, Proper, then_has, any_has, has_cond, EachList, IsSet, append_canonical, listed_canonical, set_canonical, kept_canonical, sets_canonical, subsets_canonical, functions_canonical, count_repeated, repeated_canonical, integers_canonical, pairs_canonical}
@@ -65,7 +65,7 @@ list_if at true vs h = h
 list_if at false vs h = tt
 
 pub sequence_proper : (at : Place) (v : Value) → IsCanonical v → Has AreAll (sequence_at at v)
-sequence_proper at (fun ds rs) h = list_if at (is_eq (orders ds (numbered 1 (listed rs)))) (listed rs) (listed_canonical rs h.2)
+sequence_proper at (fun ds rs) h = list_if at (is_eq (orders ds (numbers_from 1 (listed rs)))) (listed rs) (listed_canonical rs h.2)
 sequence_proper at (truth b) h = tt
 sequence_proper at (int n) h = tt
 sequence_proper at (text w) h = tt
@@ -76,7 +76,7 @@ flat_proper : (ss : List Values) → EachList IsSet ss → AreAll (flat_map list
 flat_proper [] h = tt
 flat_proper (s ∷ ss) h = append_canonical (listed s) (flat_map listed ss) (listed_canonical s h.0.1) (flat_proper ss h.1)
 
-joined_proper : (at : Place) (vs : Values) → AreCanonical vs → Has AreAll (joined at vs)
+joined_proper : (at : Place) (vs : Values) → AreCanonical vs → Has AreAll (union_of at vs)
 joined_proper at vs h = then_has (EachList IsSet) AreAll (in_order (members_at at) (listed vs)) _ (sets_proper at (listed vs) (listed_canonical vs h)) flat_proper
 
 -- ---- operators
@@ -121,7 +121,7 @@ operated_proper Subset at vs h =
     then_has IsCanonical IsCanonical (one_of at vs) _ (one_proper at vs h) (λ a i. then_has IsSet IsCanonical (members_at at a) _ (set_proper at a i) (λ ss p. subsets_canonical ss p.0 p.1))
 operated_proper Union at vs h =
     then_has IsCanonical IsCanonical (one_of at vs) _ (one_proper at vs h) (λ a i. then_has IsSet IsCanonical (members_at at a) _ (set_proper at a i) (λ ss p.
-    then_has AreAll IsCanonical (joined at ss) _ (joined_proper at ss p.1) set_canonical))
+    then_has AreAll IsCanonical (union_of at ss) _ (joined_proper at ss p.1) set_canonical))
 operated_proper Range at vs h = ints_proper at vs _ (λ m n. integers_canonical (natural ((n +ℤ pos 1) -ℤ m)) m)
 operated_proper Domain at vs h =
     then_has IsCanonical IsCanonical (one_of at vs) _ (one_proper at vs h) (λ f i. then_has IsFunction IsCanonical (function_at at f) _ (fun_proper at f i) (λ g p. (p.0, p.1)))

@@ -5,7 +5,7 @@ use Rattle.std.proofs.lemmas.Bool.{leb-true, le-leb, and_parts}
 use Rattle.tla_token.specs.declared.place.Place.{Place}
 use Rattle.tla_token.specs.Limits.{most_members, deepest_value}
 use Rattle.tla_value.specs.Value.{Value, Values, set, fun, values_in, over}
-use Rattle.tla_value.specs.Order.{count, numbered, seq_from}
+use Rattle.tla_value.specs.Order.{count, numbers_from, seq_from}
 use Rattle.tla_value.specs.Limits.{depth, depths, fits, fits_int, fits_count, fits_parts, all_fit, bounded}
 use Rattle.tla_value.proofs.ValueLists.{count-values_in}
 use Rattle.tla_value.proofs.OrderFuns.{count_numbered}
@@ -53,18 +53,18 @@ fun_fits ds vs l d e h k =
 
 -- ---- the domain of a tuple
 
-pub numbered_flat : (n : ℕ) (vs : List Value) → depths (numbered n vs) ≡ 0
+pub numbered_flat : (n : ℕ) (vs : List Value) → depths (numbers_from n vs) ≡ 0
 numbered_flat n [] = refl
 numbered_flat n (v ∷ vs) = omega (arith, numbered_flat (suc n) vs)
 
-pub numbered_fit : (n : ℕ) (vs : List Value) → n + length vs ≤ suc most_members → all_fit (numbered n vs) ≡ true
+pub numbered_fit : (n : ℕ) (vs : List Value) → n + length vs ≤ suc most_members → all_fit (numbers_from n vs) ≡ true
 numbered_fit n [] h = refl
 numbered_fit n (v ∷ vs) h =
-    joined (fits_int (pos n)) (all_fit (numbered (suc n) vs)) (le-leb (suc n) (2 ^ 127) (omega arith)) (numbered_fit (suc n) vs (omega arith))
+    joined (fits_int (pos n)) (all_fit (numbers_from (suc n) vs)) (le-leb (suc n) (2 ^ 127) (omega arith)) (numbered_fit (suc n) vs (omega arith))
 
 pub seq_fits : (vs : List Value) → length vs ≤ most_members → depths (values_in vs) < deepest_value → all_fit (values_in vs) ≡ true → fits (seq_from vs) ≡ true
 seq_fits vs l d h =
-    fun_fits (numbered 1 vs) (values_in vs) (omega (arith, count_numbered 1 vs, count-values_in vs)) (omega (arith, numbered_flat 1 vs)) d (numbered_fit 1 vs (omega arith)) h
+    fun_fits (numbers_from 1 vs) (values_in vs) (omega (arith, count_numbered 1 vs, count-values_in vs)) (omega (arith, numbered_flat 1 vs)) d (numbered_fit 1 vs (omega arith)) h
 
 -- ---- a value that is reached
 

@@ -11,7 +11,7 @@ use Rattle.tla_value.specs.declared.fault.FaultKind.TheVariants.{BadDivisor}
 use Rattle.tla_value.specs.Value.{Value, Values, truth, int, text, set, fun, no_values, and, Outcome, Trouble, fault, ◌>>=◌, in_order}
 use Rattle.tla_value.specs.Order.{same, listed, sequence_of, record_from}
 use Rattle.tla_value.specs.Stops.{Check, truth_at, int_at, members_at, function_at, sequence_at, one_of, two_of, three_of, tested}
-use Rattle.tla_value.specs.Sets.{joined}
+use Rattle.tla_value.specs.Sets.{union_of}
 use Rattle.tla_value.specs.Definitions.{trouble_at}
 use Rattle.tla_value.specs.Strict.{of_truths, of_ints, of_sets, of_quotient, operated, space_of, made, applied, changed, changed_at, next_slot, updated, excepted, strict_value, operator_test, strict_test}
 
@@ -152,7 +152,7 @@ module _ (K : Kin) (p q : Place) (at : K.place p q) where
   quotients : (vs : List Value) (f : ℤ → ℤ → ℤ) → Same K (of_quotient p vs f) (of_quotient q vs f)
   quotients vs f = then_same K ◌≡◌ _ _ _ _ (twos vs) (λ (a, b). then_same K ◌≡◌ _ _ _ _ (ints a) (λ m. then_same K ◌≡◌ _ _ _ _ (ints b) (λ n. same_cond K (int_lt (pos 0) n) (Ok (int (f m n))) (Ok (int (f m n))) (Err (fault BadDivisor p)) (Err (fault BadDivisor q)) refl (K.faults BadDivisor p q at))))
 
-  unions : (vs : Values) → Same K (joined p vs) (joined q vs)
+  unions : (vs : Values) → Same K (union_of p vs) (union_of q vs)
   unions vs = then_same K ◌≡◌ _ _ _ _ (order_same K (listed vs) _ _ sets) (λ ss. refl)
 
   pub operators : (o : Op) (vs : List Value) → Same K (operated o p vs) (operated o q vs)

@@ -5,7 +5,7 @@ use Rattle.std.specs.List.{list_any}
 use Rattle.std.proofs.Math.Seq.{drop-cons}
 use Rattle.std.proofs.Math.ListN.{drop_of_length-le}
 use Rattle.tla_value.specs.Value.{Value, Values, int, no_values, and, values_in}
-use Rattle.tla_value.specs.Order.{same, holds, found_at, numbered}
+use Rattle.tla_value.specs.Order.{same, holds, found_at, numbers_from}
 use Rattle.tla_value.specs.OrderLaws.{same_equivalence}
 use Rattle.tla_value.proofs.ValueLists.{follow, follow_follow, values_in-drop, values_in-append}
 
@@ -41,10 +41,10 @@ follow_nothing : (vs : Values) → follow vs no_values ≡ vs
 follow_nothing no_values = refl
 follow_nothing (and v vs) = ap (and v) (follow_nothing vs)
 
-pub numbered_push : (xs vs : List Value) (i : ℕ) (d : Value) (all : Values) → i < length vs → follow (values_in xs) (numbered (suc i) (drop i vs)) ≡ all → follow (values_in (xs ++ int (pos (i + 1)) ∷ [])) (numbered (suc (i + 1)) (drop (i + 1) vs)) ≡ all
+pub numbered_push : (xs vs : List Value) (i : ℕ) (d : Value) (all : Values) → i < length vs → follow (values_in xs) (numbers_from (suc i) (drop i vs)) ≡ all → follow (values_in (xs ++ int (pos (i + 1)) ∷ [])) (numbers_from (suc (i + 1)) (drop (i + 1) vs)) ≡ all
 numbered_push xs vs i d all lt h =
-    ap (λ l. follow l (numbered (suc (i + 1)) (drop (i + 1) vs))) (values_in-append xs (int (pos (i + 1)) ∷ [])) ∙ follow_follow (values_in xs) (and (int (pos (i + 1))) no_values) (numbered (suc (i + 1)) (drop (i + 1) vs)) ∙ ap (λ n. follow (values_in xs) (and (int (pos n)) (numbered (suc n) (drop n vs)))) (add-one i) ∙ ap (λ l. follow (values_in xs) (numbered (suc i) l)) (sym (drop-cons vs i d lt)) ∙ h
+    ap (λ l. follow l (numbers_from (suc (i + 1)) (drop (i + 1) vs))) (values_in-append xs (int (pos (i + 1)) ∷ [])) ∙ follow_follow (values_in xs) (and (int (pos (i + 1))) no_values) (numbers_from (suc (i + 1)) (drop (i + 1) vs)) ∙ ap (λ n. follow (values_in xs) (and (int (pos n)) (numbers_from (suc n) (drop n vs)))) (add-one i) ∙ ap (λ l. follow (values_in xs) (numbers_from (suc i) l)) (sym (drop-cons vs i d lt)) ∙ h
 
-pub numbered_whole : (xs vs : List Value) (i : ℕ) → length vs ≤ i → follow (values_in xs) (numbered (suc i) (drop i vs)) ≡ numbered 1 vs → values_in xs ≡ numbered 1 vs
+pub numbered_whole : (xs vs : List Value) (i : ℕ) → length vs ≤ i → follow (values_in xs) (numbers_from (suc i) (drop i vs)) ≡ numbers_from 1 vs → values_in xs ≡ numbers_from 1 vs
 numbered_whole xs vs i le h =
-    sym (follow_nothing (values_in xs)) ∙ ap (λ l. follow (values_in xs) (numbered (suc i) l)) (sym (drop_of_length-le vs le)) ∙ h
+    sym (follow_nothing (values_in xs)) ∙ ap (λ l. follow (values_in xs) (numbers_from (suc i) l)) (sym (drop_of_length-le vs le)) ∙ h

@@ -7,7 +7,7 @@ use Rattle.std.specs.declared.cmp.Ordering.TheVariants.{Less}
 use Rattle.std.proofs.lemmas.Int.{ints}
 use Rattle.std.proofs.lemmas.Bool.{or_right}
 use Rattle.tla_value.specs.Value.{Value, Values, fun, int, no_values, and, values_in}
-use Rattle.tla_value.specs.Order.{order, orders, same, holds, count, set_from, listed, found_at, pairs_of, arguments, first_at, in_front, values_at, fun_from, numbered, seq_from, sequence_of, IsBefore, IsAscending, IsCanonical, AreCanonical, ArePairsCanonical}
+use Rattle.tla_value.specs.Order.{order, orders, same, holds, count, set_from, listed, found_at, pairs_of, arguments, first_at, in_front, values_at, fun_from, numbers_from, seq_from, sequence_of, IsBefore, IsAscending, IsCanonical, AreCanonical, ArePairsCanonical}
 use Rattle.tla_value.specs.OrderLaws.{order_total, orders_self, same_is, same_self}
 use Rattle.tla_value.proofs.OrderSets.{before_next, first_held, holds_set_from, set_from_ascending, set_from_canonical, set_from_listed}
 
@@ -105,19 +105,19 @@ fun_from_canonical ps h =
 next_above : (n : ℕ) → order (int (pos n)) (int (pos (suc n))) ≡ Less
 next_above n = sym (int_cmp_is (pos n) (pos (suc n)) Less (omega (arith, ints)))
 
-numbered_before : (n : ℕ) (vs : List Value) → IsBefore (int (pos n)) (numbered (suc n) vs)
+numbered_before : (n : ℕ) (vs : List Value) → IsBefore (int (pos n)) (numbers_from (suc n) vs)
 numbered_before n [] = tt
 numbered_before n (v ∷ vs) = next_above n
 
-pub numbered_ascending : (n : ℕ) (vs : List Value) → IsAscending (numbered n vs)
+pub numbered_ascending : (n : ℕ) (vs : List Value) → IsAscending (numbers_from n vs)
 numbered_ascending n [] = tt
 numbered_ascending n (v ∷ vs) = (numbered_before n vs, numbered_ascending (suc n) vs)
 
-numbered_canonical : (n : ℕ) (vs : List Value) → AreCanonical (numbered n vs)
+numbered_canonical : (n : ℕ) (vs : List Value) → AreCanonical (numbers_from n vs)
 numbered_canonical n [] = tt
 numbered_canonical n (v ∷ vs) = (tt, numbered_canonical (suc n) vs)
 
-pub count_numbered : (n : ℕ) (vs : List Value) → count (numbered n vs) ≡ count (values_in vs)
+pub count_numbered : (n : ℕ) (vs : List Value) → count (numbers_from n vs) ≡ count (values_in vs)
 count_numbered n [] = refl
 count_numbered n (v ∷ vs) = ap suc (count_numbered (suc n) vs)
 
@@ -135,7 +135,7 @@ values_listed (and v vs) = ap (and v) (values_listed vs)
 -- the elements of a tuple are those that it was made of
 pub sequence_of_seq : (vs : List Value) → sequence_of (seq_from vs) ≡ Some vs
 sequence_of_seq vs =
-    ap (λ us. if is_eq (orders (numbered 1 vs) (numbered 1 us)) then Some us else None) (listed_values vs) ∙ ap (λ r. if is_eq r then Some vs else None) (orders_self (numbered 1 vs))
+    ap (λ us. if is_eq (orders (numbers_from 1 vs) (numbers_from 1 us)) then Some us else None) (listed_values vs) ∙ ap (λ r. if is_eq r then Some vs else None) (orders_self (numbers_from 1 vs))
 
 -- ---- a function is that of its pairs
 

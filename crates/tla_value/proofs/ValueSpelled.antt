@@ -4,7 +4,7 @@ use Rattle.std.specs.Prelude.{if◌then◌else◌}
 use Rattle.std.specs.Ordering.{is_eq}
 use Rattle.tla_tree.specs.Tree.{Word}
 use Rattle.tla_value.specs.Value.{Value, Values, truth, int, text, model, set, fun, no_values, and}
-use Rattle.tla_value.specs.Order.{orders, count, listed, set_from, seq_from, fun_from, pairs_of, numbered, IsAscending, IsCanonical, AreCanonical}
+use Rattle.tla_value.specs.Order.{orders, count, listed, set_from, seq_from, fun_from, pairs_of, numbers_from, IsAscending, IsCanonical, AreCanonical}
 use Rattle.tla_value.specs.OrderLaws.{orders_equal, is_equal}
 use Rattle.tla_value.specs.ValueText.{IsGood, AreGood, AreGoodFields, AreGoodPairs, HasModelNames, HaveModelNames, Spellings, no_spellings, spelling, angles, is_identifier, spelled, all_spelled, spelled_fields, spelled_pairs, field_names, with_field, fields_from, pairs_from, shown_other, shown, all_shown}
 use Rattle.tla_value.proofs.OrderSets.{set_from_listed}
@@ -60,9 +60,9 @@ other d w ds ws (spelling k ks) (spelling s ss) (Some []) f ek es a h =
 other d w ds ws (spelling k ks) (spelling s ss) (Some (x ∷ xs)) f ek es a h =
     ap fun_from (fields_paired (x ∷ xs) (spelling s ss) ∙ (λ i. paired (names_listed (and d ds) (x ∷ xs) f i) (es i)) ∙ paired_listed (and d ds) (and w ws)) ∙ fun_from_pairs (and d ds) (and w ws) a h
 
-fun_by : (ds vs : Values) (ks ss : Spellings) (b : Bool) → is_eq (orders ds (numbered 1 (listed vs))) ≡ b → all_spelled ks ≡ listed ds → all_spelled ss ≡ listed vs → IsAscending ds → count ds ≡ count vs → spelled (if b then angles ss else shown_other (field_names ds) ks ss) ≡ fun ds vs
+fun_by : (ds vs : Values) (ks ss : Spellings) (b : Bool) → is_eq (orders ds (numbers_from 1 (listed vs))) ≡ b → all_spelled ks ≡ listed ds → all_spelled ss ≡ listed vs → IsAscending ds → count ds ≡ count vs → spelled (if b then angles ss else shown_other (field_names ds) ks ss) ≡ fun ds vs
 fun_by ds vs ks ss true e ek es a h =
-    ap seq_from es ∙ (λ i. fun (sym (orders_equal ds (numbered 1 (listed vs)) (is_equal _ e)) i) (values_listed vs i))
+    ap seq_from es ∙ (λ i. fun (sym (orders_equal ds (numbers_from 1 (listed vs)) (is_equal _ e)) i) (values_listed vs i))
 fun_by no_values no_values ks ss false e ek es a h = absurd (true≢false e)
 fun_by no_values (and w ws) ks ss false e ek es a h = absurd (omega (arith, h))
 fun_by (and d ds) no_values ks ss false e ek es a h = absurd (omega (arith, h))
@@ -77,7 +77,7 @@ mutual
   spelled_shown (model w) c = refl
   spelled_shown (set vs) c = ap set (ap set_from (all_spelled_shown vs c.1) ∙ set_from_listed vs c.0)
   spelled_shown (fun ds vs) c =
-      fun_by ds vs (all_shown ds) (all_shown vs) (is_eq (orders ds (numbered 1 (listed vs)))) refl (all_spelled_shown ds c.1) (all_spelled_shown vs c.2) c.0 c.3
+      fun_by ds vs (all_shown ds) (all_shown vs) (is_eq (orders ds (numbers_from 1 (listed vs)))) refl (all_spelled_shown ds c.1) (all_spelled_shown vs c.2) c.0 c.3
 
   pub all_spelled_shown : (vs : Values) → AreCanonical vs → all_spelled (all_shown vs) ≡ listed vs
   all_spelled_shown no_values c = refl
@@ -137,7 +137,7 @@ mutual
   good_shown (model w) h = h
   good_shown (set vs) h = all_good_shown vs h
   good_shown (fun ds vs) h =
-      good_fun (is_eq (orders ds (numbered 1 (listed vs)))) ds (all_shown ds) (all_shown vs) (all_good_shown ds h.0) (all_good_shown vs h.1)
+      good_fun (is_eq (orders ds (numbers_from 1 (listed vs)))) ds (all_shown ds) (all_shown vs) (all_good_shown ds h.0) (all_good_shown vs h.1)
 
   pub all_good_shown : (vs : Values) → HaveModelNames vs → AreGood (all_shown vs)
   all_good_shown no_values h = tt

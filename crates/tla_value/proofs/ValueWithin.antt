@@ -6,7 +6,7 @@ use Rattle.std.proofs.lemmas.Bool.{and_parts}
 use Rattle.tla_token.specs.Limits.{deepest_value}
 use Rattle.tla_tree.specs.Tree.{Word}
 use Rattle.tla_value.specs.Value.{Value, Values, truth, int, text, model, set, fun, no_values, and, values_in}
-use Rattle.tla_value.specs.Order.{orders, listed, numbered, IsCanonical, AreCanonical, ArePairsCanonical}
+use Rattle.tla_value.specs.Order.{orders, listed, numbers_from, IsCanonical, AreCanonical, ArePairsCanonical}
 use Rattle.tla_value.specs.Limits.{depth, depths, fits, fits_parts, all_fit, fits_count}
 use Rattle.tla_value.specs.ValueText.{Mark, Spelling, Spellings, Fields, Pairs, truth_word, digits, minus, quoted, named, braces, angles, fields, pairs, no_spellings, spelling, no_fields, field, no_pairs, pair, spelled, all_spelled, spelled_fields, spelled_pairs, IsWithin, AreWithin, AreWithinFields, AreWithinPairs, Spells, HasModelNames, field_names, fields_from, pairs_from, shown_other, shown, all_shown, marks}
 use Rattle.tla_value.proofs.Canonical.{set_canonical}
@@ -53,7 +53,7 @@ mutual
   shown_within zero (fun ds vs) l c f h = absurd (omega arith)
   shown_within (suc d) (fun ds vs) l c f h =
       let parts = and_parts (all_fit ds) (all_fit vs) (and_parts (fits_count ds) (all_fit ds && all_fit vs) f).1 in
-      fun_within d (is_eq (orders ds (numbered 1 (listed vs)))) ds (all_shown ds) (all_shown vs)
+      fun_within d (is_eq (orders ds (numbers_from 1 (listed vs)))) ds (all_shown ds) (all_shown vs)
       (ap fits (spelled_shown (fun ds vs) c) ∙ fits_by (fun ds vs) f (omega arith))
       (all_shown_within d ds (omega arith) c.1 parts.0 (omega arith))
       (all_shown_within d vs (omega arith) c.2 parts.1 (omega arith))

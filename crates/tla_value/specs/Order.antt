@@ -119,17 +119,17 @@ fun_from ps = fun_over ps (set_from (arguments ps))
 
 -- ---- tuples: functions on 1..n
 
-abbrev pub numbered : ℕ → List Value → Values
-numbered n [] = no_values
-numbered n (v ∷ vs) = and (int (pos n)) (numbered (suc n) vs)
+abbrev pub numbers_from : ℕ → List Value → Values
+numbers_from n [] = no_values
+numbers_from n (v ∷ vs) = and (int (pos n)) (numbers_from (suc n) vs)
 
 -- <<v, w>>
 abbrev pub seq_from : List Value → Value
-seq_from vs = fun (numbered 1 vs) (values_in vs)
+seq_from vs = fun (numbers_from 1 vs) (values_in vs)
 
 -- the elements of a function that is a sequence
 abbrev pub sequence_of : Value → Option (List Value)
-sequence_of (fun ds vs) = if is_eq (orders ds (numbered 1 (listed vs))) then Some (listed vs) else None
+sequence_of (fun ds vs) = if is_eq (orders ds (numbers_from 1 (listed vs))) then Some (listed vs) else None
 sequence_of _ = None
 
 -- ---- records: functions on strings

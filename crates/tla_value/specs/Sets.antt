@@ -25,8 +25,8 @@ abbrev pub without : Values → Values → Values
 without a b = kept (λ v. not (holds v b)) a
 
 -- the members of the members; each must be a set
-abbrev pub joined : Place → Values → Outcome (List Value)
-joined at vs = do
+abbrev pub union_of : Place → Values → Outcome (List Value)
+union_of at vs = do
   ss ← in_order (members_at at) (listed vs)
   Ok (flat_map listed ss)
 

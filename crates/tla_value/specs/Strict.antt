@@ -10,7 +10,7 @@ use Rattle.tla_value.specs.declared.fault.FaultKind.TheVariants.{NotInDomain, Ba
 use Rattle.tla_value.specs.Value.{Value, Values, truth, int, text, set, fun, no_values, and, Outcome, fault, ◌>>=◌, in_order}
 use Rattle.tla_value.specs.Order.{same, found_at, pairs_of, fun_from, seq_from, record_from, set_from}
 use Rattle.tla_value.specs.Stops.{Check, truth_at, int_at, members_at, function_at, sequence_at, misshapen, one_of, two_of, tested}
-use Rattle.tla_value.specs.Sets.{all_in, cup, cap, without, joined, subsets, range, repeated, functions_over, is_function_over, is_subset}
+use Rattle.tla_value.specs.Sets.{all_in, cup, cap, without, union_of, subsets, range, repeated, functions_over, is_function_over, is_subset}
 
 -- operands of one kind, looked at from left to right
 
@@ -82,7 +82,7 @@ operated Subset at vs = do
 operated Union at vs = do
   a ← one_of at vs
   ss ← members_at at a
-  ws ← joined at ss
+  ws ← union_of at ss
   Ok (set (set_from ws))
 operated Range at vs = of_ints at vs (λ m n. set (range m n))
 operated Domain at vs = do

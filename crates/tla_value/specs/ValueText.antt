@@ -8,7 +8,7 @@ use Rattle.tla_token.specs.Limits.{deepest_value}
 use Rattle.tla_tree.specs.Lexical.{escapes}
 use Rattle.tla_tree.specs.Tree.{Word}
 use Rattle.tla_value.specs.Value.{Value, Values, truth, int, text, model, set, fun, no_values, and}
-use Rattle.tla_value.specs.Order.{orders, same, set_from, listed, fun_from, seq_from, numbered}
+use Rattle.tla_value.specs.Order.{orders, same, set_from, listed, fun_from, seq_from, numbers_from}
 use Rattle.tla_value.specs.Limits.{fits, fits_int}
 
 -- ---- words
@@ -204,7 +204,7 @@ shown_other _ ks ss = angles no_spellings
 
 -- a function on 1..n is a tuple, another on strings that are identifiers a record
 abbrev pub shown_fun : Values → Values → Spellings → Spellings → Spelling
-shown_fun ds vs ks ss = if is_eq (orders ds (numbered 1 (listed vs))) then angles ss else shown_other (field_names ds) ks ss
+shown_fun ds vs ks ss = if is_eq (orders ds (numbers_from 1 (listed vs))) then angles ss else shown_other (field_names ds) ks ss
 
 -- the spelling that is written, its members in canonical order
 abbrev mutual

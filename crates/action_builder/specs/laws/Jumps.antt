@@ -9,7 +9,7 @@ use Rattle.pcal_tree.specs.Scope.{State, put, Scope, value_of}
 use Rattle.pcal_tree.specs.Run.{is_return}
 use Rattle.pcal_tree.specs.Program.{Program, Actor, index, local_index}
 use Rattle.pcal_tree.specs.Variables.{written_all, pc, stack}
-use Rattle.pcal_tree.specs.Calls.{initial_value, named}
+use Rattle.pcal_tree.specs.Calls.{initial_value, routine_named}
 use Rattle.action_builder.specs.Written.{old_stack}
 use Rattle.action_builder.specs.Jumps.{InitialValues}
 use Rattle.action_builder.specs.laws.Settling.{Callable}
@@ -44,7 +44,7 @@ fitting P (Some p) ts = as_many (written_all P p p.params) ts
 
 -- no call that is one statement with a `return`
 abbrev pub callable : Program → Callable
-callable P p ts j = not (is_return j) && fitting P (named p.word (procedure_routines P.algorithm)) ts
+callable P p ts j = not (is_return j) && fitting P (routine_named p.word (procedure_routines P.algorithm)) ts
 
 -- x stands nowhere in the tree as a name
 abbrev pub is_name : Word → Form → Bool
@@ -61,13 +61,13 @@ abbrev mutual
 
 -- also those that are one statement with a `return`; no argument has the name of the old stack
 abbrev pub callable_in_pairs : Program → Callable
-callable_in_pairs P p ts j = fitting P (named p.word (procedure_routines P.algorithm)) ts && all_lack old_stack ts
+callable_in_pairs P p ts j = fitting P (routine_named p.word (procedure_routines P.algorithm)) ts && all_lack old_stack ts
 
 -- the variables of the routine and of each procedure are at the process's identifier, and initial values are written as they are
 pub record RoutinesStand (P : Program) (v : Actor) (u : Routine) (I : InitialValues) (sc : Scope) : Type 0 where
   pub own : RoutineStands P v u sc
-  pub called : (x : Word) (p : Routine) → named x (procedure_routines P.algorithm) ≡ Some p → RoutineStands P v p sc
-  pub initials : (x : Word) (p : Routine) → named x (procedure_routines P.algorithm) ≡ Some p → (at : Place) → Initials P v p at sc (I.initial p) p.variables
+  pub called : (x : Word) (p : Routine) → routine_named x (procedure_routines P.algorithm) ≡ Some p → RoutineStands P v p sc
+  pub initials : (x : Word) (p : Routine) → routine_named x (procedure_routines P.algorithm) ≡ Some p → (at : Place) → Initials P v p at sc (I.initial p) p.variables
 
 -- also with names of f bound
 abbrev pub RoutinesStandWithin : Program → Actor → Routine → InitialValues → (Word → Bool) → Scope → Type 0
@@ -108,4 +108,4 @@ pub record PairStands (P : Program) (v : Actor) (u p : Routine) : Type 0 where
   pub unread : nat_eq u.number p.number ≡ false → (at : Place) → Unread P v p at (written_all P u (locals u)) p.variables
 
 abbrev pub PairsStand : Program → Actor → Routine → Type 0
-PairsStand P v u = (x : Word) (p : Routine) → named x (procedure_routines P.algorithm) ≡ Some p → PairStands P v u p
+PairsStand P v u = (x : Word) (p : Routine) → routine_named x (procedure_routines P.algorithm) ≡ Some p → PairStands P v u p

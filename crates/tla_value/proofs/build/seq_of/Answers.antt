@@ -1,7 +1,7 @@
 -- Proves what is asked of `seq_of`.
 use Rattle.std.proofs.Common.{refl, Ok, ◌∙◌, sym, arith, ap, subst, pos, length-append, ◌∷◌, ◌++◌, length, [], ◌+◌}
 use Rattle.tla_value.specs.Value.{int, fun, values_in}
-use Rattle.tla_value.specs.Order.{seq_from, numbered}
+use Rattle.tla_value.specs.Order.{seq_from, numbers_from}
 use Rattle.tla_value.specs.Limits.{depths}
 use Rattle.tla_value.specs.ValueOf.{IsStored, AreStored}
 use Rattle.tla_value.proofs.ValueLists.{count-values_in}
@@ -18,12 +18,12 @@ loop-i-preserved c =
 pub returns-then-len-gt-MOST_MEMBERS : goal.returns-then-len-gt-MOST_MEMBERS
 returns-then-len-gt-MOST_MEMBERS c =
     let vs = c.args.values.items in
-    bounded_past c.args.at (seq_from vs) (seq_from vs) refl (fun_many (numbered 1 vs) (values_in vs) (omega (arith, count_numbered 1 vs, count-values_in vs, c.len.ensures, c.if-len-gt-MOST_MEMBERS.true)))
+    bounded_past c.args.at (seq_from vs) (seq_from vs) refl (fun_many (numbers_from 1 vs) (values_in vs) (omega (arith, count_numbered 1 vs, count-values_in vs, c.len.ensures, c.if-len-gt-MOST_MEMBERS.true)))
 
 pub returns-then-depth_in-ge-DEEPEST : goal.returns-then-depth_in-ge-DEEPEST
 returns-then-depth_in-ge-DEEPEST c =
     let vs = c.args.values.items in
-    bounded_past c.args.at (seq_from vs) (seq_from vs) refl (fun_deep (numbered 1 vs) (values_in vs) (omega (arith, c.depth_in.ensures.depth, ap (λ l. depths (values_in l)) c.deref.ensures.value, c.if-depth_in-ge-DEEPEST.true)))
+    bounded_past c.args.at (seq_from vs) (seq_from vs) refl (fun_deep (numbers_from 1 vs) (values_in vs) (omega (arith, c.depth_in.ensures.depth, ap (λ l. depths (values_in l)) c.deref.ensures.value, c.if-depth_in-ge-DEEPEST.true)))
 
 pub invariant_of-result : goal.invariant_of-result
 invariant_of-result c =
