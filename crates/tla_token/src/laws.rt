@@ -1,13 +1,14 @@
 //! Laws of tokens, stated as what functions without a body ensure.
 
-ghost use Rattle.std.specs.Prelude.{◌≡◌, ℕ, Bool, List, map, Some, ◌⊎◌, false};
-ghost use Rattle.std.specs.List.{flat_map};
+ghost use Rattle.std.specs.Prelude.{◌≡◌, ℕ, Bool, List, ◌++◌, map, Some, ◌⊎◌, false};
+ghost use Rattle.std.specs.List.{concat, flat_map};
 ghost use Rattle.tla_token.specs.declared.rule.Refusal as code;
 ghost use Rattle.tla_token.specs.Places.{place_at};
 ghost use Rattle.tla_token.specs.Tokens as pure;
 ghost use Rattle.tla_token.specs.Tokens.{Tok, TokAlgorithm, stretch, tokens_of};
 ghost use Rattle.tla_token.specs.Offences.{Part, sound, parts_text, PartsFit, Offends, kind_offences, offences, least};
 ghost use Rattle.tla_token.specs.Cut.{parts};
+ghost use Rattle.tla_token.specs.Machine.{fed, finish, decided, undecided, IsKept};
 
 /// A stretch of a text has at most one list of tokens, and so has the stretch of an algorithm.
 pub fn tokens_are_unique()
@@ -45,4 +46,13 @@ pub fn refusals_are_cut()
 pub fn tokens_or_refusal()
     ensures either { (in_algorithm : Bool) (text : List ℕ) (from to : ℕ) → ((ts : List pure.Token) × Tok text from to ts) ⊎ ((r : code.Refusal) × Offends in_algorithm text from to r) }
     ensures not_both { (text : List ℕ) (from to : ℕ) (ts : List pure.Token) (r : code.Refusal) → Tok text from to ts → Offends false text from to r → ⊥ }
+{}
+
+/// A text that comes in pieces, of whatever length, has the parts of the whole text. What is decided
+/// stays, whatever comes next; what is kept until more comes is a comment, string or word that is
+/// still open, or fewer than three bytes.
+pub fn pieces_are_cut_as_one_text()
+    ensures whole { (pieces : List (List ℕ)) → finish (fed pieces) ≡ parts (concat pieces) }
+    ensures decided { (text more : List ℕ) → parts (text ++ more) ≡ decided (parts text) ++ parts (undecided (parts text) ++ more) }
+    ensures kept { (pieces : List (List ℕ)) → IsKept (fed pieces).rest }
 {}
