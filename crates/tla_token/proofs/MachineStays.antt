@@ -1,5 +1,5 @@
 -- A part that stays fits before whatever comes behind the bytes that are here.
-use Rattle.std.proofs.Common.{◌≡◌, ℕ, suc, ◌+◌, ◌<◌, ◌≤◌, Bool, true, false, not, ◌&&◌, ◌||◌, nat_eq, nat_le, nat_lt, List, [], ◌∷◌, ◌++◌, length, drop, Some, refl, sym, ap, subst, ◌∙◌, inl, inr, arith, find, append_assoc, if◌then◌else◌}
+use Rattle.std.proofs.Common.{◌≡◌, ℕ, suc, ◌+◌, ◌<◌, ◌≤◌, Bool, true, false, not, ◌&&◌, ◌||◌, nat_eq, nat_le, nat_lt, List, [], ◌∷◌, ◌++◌, length, drop, Some, refl, sym, ap, subst, ◌∙◌, inl, inr, arith, find, append_assoc, le_trans, if◌then◌else◌}
 use Rattle.std.specs.List.{list_all, list_any}
 use Rattle.std.specs.Str.{bytes_eq}
 use Rattle.std.proofs.lemmas.Bool.{and_parts, or_cases, or_left, or_right, eqb-true, leb-true, false_from_ne_true, both_ways}
@@ -7,9 +7,9 @@ use Rattle.tla_token.specs.declared.sign.Sign.{Sign}
 use Rattle.tla_token.specs.Signs.{spellings, is_among, all_signs}
 use Rattle.tla_token.specs.Lexemes.{Kind, name, number, string, one, other, is_word, is_letter, is_digit, is_printed, is_other, unquoted, IsLexeme, IsLongest}
 use Rattle.tla_token.specs.Tokens.{blank, block, line, lexeme, Fits, EndsLine, opens_comment}
-use Rattle.tla_token.specs.Offences.{Part, sound, stray, bad_string, open_string, open_block, PartFits, ends_string, string_len, escape_len}
+use Rattle.tla_token.specs.Offences.{Part, sound, stray, bad_string, open_string, open_block, part_bytes, PartFits, ends_string, string_len, escape_len}
 use Rattle.tla_token.specs.Cut.{run, sign_at, spelling_at}
-use Rattle.tla_token.specs.Machine.{is_settled, stays}
+use Rattle.tla_token.specs.laws.Feeding.{is_settled, stays}
 use Rattle.tla_token.proofs.Spelled.{begins_is, begins_from, begins_same, same_bytes, is_worded, is_mark, stands_at, row_of, no_empty}
 use Rattle.tla_token.proofs.Words.{one_plus}
 use Rattle.tla_token.proofs.Signed.{not_true}
@@ -104,33 +104,62 @@ settled_two b bs h = by (is_word b || nat_eq b 92) refl
     by true k = (let l = some_there (λ c. not (is_word c)) bs (settled_word b bs k h) in omega arith)
     by false k = (let l = settled_mark b bs k h in omega arith)
 
-settled_marks : (b : ℕ) (bs m : List ℕ) → is_settled (b ∷ bs) ≡ true → is_mark b ≡ true → length m ≤ (if nat_eq b 92 then 2 else 3) → length m ≤ length (b ∷ bs)
-settled_marks b bs m h mark l = by (nat_eq b 92) refl
+-- no lexeme in front of b ∷ bs and more goes past b ∷ bs: neither a word, alone or behind a backslash, nor a sign
+pub record Bound (b : ℕ) (bs more : List ℕ) : Type 0 where
+  pub word : length (run is_word (b ∷ (bs ++ more))) ≤ length (b ∷ bs)
+  pub back : nat_eq b 92 ≡ true → length (run is_word (bs ++ more)) ≤ length bs
+  pub sign : is_mark b ≡ true → (if nat_eq b 92 then 2 else 3) ≤ length (b ∷ bs)
+
+-- and no comment begins by what comes
+abbrev pub Unpassed : List ℕ → List ℕ → Type 0
+Unpassed [] more = Unit {0}
+Unpassed (b ∷ bs) more = (opens_comment (b ∷ bs) ≡ false → opens_comment (b ∷ (bs ++ more)) ≡ false) × Bound b bs more
+
+settled_marks : (b : ℕ) (bs : List ℕ) → is_settled (b ∷ bs) ≡ true → is_mark b ≡ true → (if nat_eq b 92 then 2 else 3) ≤ length (b ∷ bs)
+settled_marks b bs h mark = by (nat_eq b 92) refl
   where
     no_word : is_word b ≡ false
     no_word = not_true (is_word b) (and_parts (is_printed b && not (nat_eq b 34)) (not (is_word b)) mark).1
 
-    by : (k : Bool) → nat_eq b 92 ≡ k → length m ≤ length (b ∷ bs)
-    by true k = (let g : length m ≤ 2 = rw k at l in let n = settled_two b bs h in omega arith)
+    by : (k : Bool) → nat_eq b 92 ≡ k → (if nat_eq b 92 then 2 else 3) ≤ length (b ∷ bs)
+    by true k = (let n = settled_two b bs h in rw k (omega arith))
     by false k =
-        let g : length m ≤ 3 = rw k at l in
         let f : (is_word b || nat_eq b 92) ≡ false = rw (no_word, k) refl in
-        let n = settled_mark b bs f h in omega arith
+        let n = settled_mark b bs f h in rw k (omega arith)
 
--- a lexeme in front, whatever comes next, is within settled bytes
-within : (b : ℕ) (bs more m tail : List ℕ) → is_settled (b ∷ bs) ≡ true → nat_eq b 34 ≡ false → Sort b (bs ++ more) m → b ∷ (bs ++ more) ≡ m ++ tail → length m ≤ length (b ∷ bs)
-within b bs more m tail h q (a_name l any) e = (let n = run_ended is_word (b ∷ bs) more (settled_ends b bs h) in omega arith)
-within b bs more m tail h q (a_number l i d) e = (let n = run_ended is_word (b ∷ bs) more (settled_ends b bs h) in omega arith)
+opens_more : (a b : ℕ) (v more : List ℕ) → opens_comment (a ∷ b ∷ v) ≡ false → opens_comment (a ∷ b ∷ (v ++ more)) ≡ false
+opens_more a b v more h = h
+
+settled_opens : (b : ℕ) (bs more : List ℕ) → is_settled (b ∷ bs) ≡ true → opens_comment (b ∷ bs) ≡ false → opens_comment (b ∷ (bs ++ more)) ≡ false
+settled_opens a [] more h o = (let n = settled_two a [] h in absurd (omega arith))
+settled_opens a (b ∷ v) more h o = opens_more a b v more o
+
+pub settled_unpassed : (u more : List ℕ) → is_settled u ≡ true → Unpassed u more
+settled_unpassed [] more h = tt
+settled_unpassed (b ∷ bs) more h = (
+  settled_opens b bs more h,
+  record {
+    word = run_ended is_word (b ∷ bs) more (settled_ends b bs h);
+    back = λ x. run_ended is_word bs more (settled_word b bs (or_right (is_word b) (nat_eq b 92) x) h);
+    sign = settled_marks b bs h;
+  },
+)
+
+-- ---- lexemes that stay
+
+-- a lexeme in front, whatever comes next, is within these bytes
+within : (b : ℕ) (bs more m tail : List ℕ) → Bound b bs more → nat_eq b 34 ≡ false → Sort b (bs ++ more) m → b ∷ (bs ++ more) ≡ m ++ tail → length m ≤ length (b ∷ bs)
+within b bs more m tail h q (a_name l any) e = (let n = h.word in omega arith)
+within b bs more m tail h q (a_number l i d) e = (let n = h.word in omega arith)
 within b bs more m tail h q (a_quote raw w f u x) e = absurd (both_ways (nat_eq b 34) q x)
 within b bs more m tail h q (a_single l) e = omega arith
-within b bs more m tail h q (a_worded x any l) e =
-    (let n = run_ended is_word bs more (settled_word b bs (or_right (is_word b) (nat_eq b 92) x) h) in omega arith)
+within b bs more m tail h q (a_worded x any l) e = (let n = h.back x in omega arith)
 within b bs more [] tail h q (some_marks s marks at spelled r f) e = omega arith
 within b bs more (c ∷ m) tail h q (some_marks s marks at spelled r f) e =
     let same : c ≡ b = sym (same_first b c (bs ++ more) (m ++ tail) e).0 in
     let mark : is_mark b ≡ true = ap is_mark (sym same) ∙ (and_parts (is_mark c) (list_all is_mark m) marks).0 in
     let P : ℕ → Type 0 = λ d. length (c ∷ m) ≤ (if nat_eq d 92 then 2 else 3) in
-    settled_marks b bs (c ∷ m) h mark (subst P same (marks_short s (c ∷ m) marks at spelled))
+    le_trans (subst P same (marks_short s (c ∷ m) marks at spelled)) (h.sign mark)
 
 front_within : (u more m tail : List ℕ) → u ++ more ≡ m ++ tail → length m ≤ length u → u ≡ m ++ drop (length m) u
 front_within u more m tail e l = begins_is u m (sym (begins_same u more m (λ t. l)) ∙ begins_from (u ++ more) m tail e)
@@ -155,14 +184,6 @@ unquoted_first k b bs h n =
     false_from_ne_true (nat_eq b 34) (λ t.
     (let P : ℕ → Type 0 = λ c. IsLexeme k (c ∷ bs) in both_ways (is_string k) n (quoted k bs (subst P (eqb-true b 34 t) h))))
 
-opens_more : (a b : ℕ) (v more : List ℕ) → opens_comment (a ∷ b ∷ v) ≡ false → opens_comment (a ∷ b ∷ (v ++ more)) ≡ false
-opens_more a b v more h = h
-
-comment_more : (u more : List ℕ) → is_settled u ≡ true → opens_comment u ≡ false → opens_comment (u ++ more) ≡ false
-comment_more [] more h o = absurd cc
-comment_more (a ∷ []) more h o = (let n = settled_two a [] h in absurd (omega arith))
-comment_more (a ∷ b ∷ v) more h o = opens_more a b v more o
-
 some_bytes : (k : Kind) → IsLexeme k [] → ⊥
 some_bytes (name w) (same, (all, any)) = (let f : false ≡ true = ap (list_any is_letter) same ∙ any in cc)
 some_bytes (number n) (some, all, is) = omega arith
@@ -170,18 +191,26 @@ some_bytes (string w) (raw, e, u) = cc
 some_bytes (one s) i = no_empty s i
 some_bytes (other w) (same, is) = (let f : false ≡ true = ap is_other same ∙ is in cc)
 
-longest_more : (k : Kind) (bytes rest more : List ℕ) → is_string k ≡ false → IsLexeme k bytes → IsLongest bytes rest → is_settled (bytes ++ rest) ≡ true → IsLongest bytes (rest ++ more)
+longest_more : (k : Kind) (bytes rest more : List ℕ) → is_string k ≡ false → IsLexeme k bytes → IsLongest bytes rest → Unpassed (bytes ++ rest) more → IsLongest bytes (rest ++ more)
 longest_more k [] rest more n i longest h = absurd (some_bytes k i)
-longest_more k (b ∷ bs) rest more n i longest h = λ j m tail l e.
+longest_more k (b ∷ bs) rest more n i longest (o, h) = λ j m tail l e.
     (let whole : (b ∷ (bs ++ rest)) ++ more ≡ m ++ tail = ap (λ (u : List ℕ). b ∷ u) (append_assoc bs rest more) ∙ e in
     let size = within b (bs ++ rest) more m tail h (unquoted_first k b bs i n) (sort_of j m tail b ((bs ++ rest) ++ more) l whole) whole in
     longest j m (drop (length m) (b ∷ (bs ++ rest))) l (front_within (b ∷ (bs ++ rest)) more m tail whole size))
 
-lexeme_stays : (k : Kind) (bytes rest more : List ℕ) → is_string k ≡ false → Fits (lexeme k bytes) rest → is_settled (bytes ++ rest) ≡ true → Fits (lexeme k bytes) (rest ++ more)
-lexeme_stays k bytes rest more n (none, i, longest) h =
-    (ap opens_comment (sym (append_assoc bytes rest more)) ∙ comment_more (bytes ++ rest) more h none, i, longest_more k bytes rest more n i longest h)
+comment_more : (u more : List ℕ) → Unpassed u more → (u ≡ [] → ⊥) → opens_comment u ≡ false → opens_comment (u ++ more) ≡ false
+comment_more [] more h some o = absurd (some refl)
+comment_more (b ∷ bs) more h some o = h.0 o
 
-string_stays : (w raw bytes rest : List ℕ) → bytes ≡ 34 ∷ (raw ++ 34 ∷ []) → unquoted raw ≡ Some w → Fits (lexeme (string w) bytes) rest
+some_lexeme : (k : Kind) (bytes rest : List ℕ) → IsLexeme k bytes → bytes ++ rest ≡ [] → ⊥
+some_lexeme k [] rest i e = some_bytes k i
+some_lexeme k (b ∷ bytes) rest i e = cc
+
+lexeme_stays : (k : Kind) (bytes rest more : List ℕ) → is_string k ≡ false → Fits (lexeme k bytes) rest → Unpassed (bytes ++ rest) more → Fits (lexeme k bytes) (rest ++ more)
+lexeme_stays k bytes rest more n (none, i, longest) h =
+    (ap opens_comment (sym (append_assoc bytes rest more)) ∙ comment_more (bytes ++ rest) more h (some_lexeme k bytes rest i) none, i, longest_more k bytes rest more n i longest h)
+
+pub string_stays : (w raw bytes rest : List ℕ) → bytes ≡ 34 ∷ (raw ++ 34 ∷ []) → unquoted raw ≡ Some w → Fits (lexeme (string w) bytes) rest
 string_stays w raw bytes rest e u =
     let L : List ℕ → Type 0 = λ m. IsLongest m rest in
     (ap (λ (m : List ℕ). opens_comment (m ++ rest)) e, (raw, e, u), subst L (sym e) (string_before raw w rest u))
@@ -242,12 +271,34 @@ pub stays_fits : (x : Part) (rest more : List ℕ) → PartFits x rest → stays
 stays_fits (sound (blank b)) rest more h s = h
 stays_fits (sound (block body)) rest more h s = h
 stays_fits (sound (line body)) rest more (all, e) s = (all, ends_more rest more e s)
-stays_fits (sound (lexeme (name w) bytes)) rest more h s = lexeme_stays (name w) bytes rest more refl h s
-stays_fits (sound (lexeme (number n) bytes)) rest more h s = lexeme_stays (number n) bytes rest more refl h s
+stays_fits (sound (lexeme (name w) bytes)) rest more h s = lexeme_stays (name w) bytes rest more refl h (settled_unpassed (bytes ++ rest) more s)
+stays_fits (sound (lexeme (number n) bytes)) rest more h s = lexeme_stays (number n) bytes rest more refl h (settled_unpassed (bytes ++ rest) more s)
 stays_fits (sound (lexeme (string w) bytes)) rest more (none, (raw, e, u), longest) s = string_stays w raw bytes (rest ++ more) e u
-stays_fits (sound (lexeme (one t) bytes)) rest more h s = lexeme_stays (one t) bytes rest more refl h s
-stays_fits (sound (lexeme (other w) bytes)) rest more h s = lexeme_stays (other w) bytes rest more refl h s
+stays_fits (sound (lexeme (one t) bytes)) rest more h s = lexeme_stays (one t) bytes rest more refl h (settled_unpassed (bytes ++ rest) more s)
+stays_fits (sound (lexeme (other w) bytes)) rest more h s = lexeme_stays (other w) bytes rest more refl h (settled_unpassed (bytes ++ rest) more s)
 stays_fits (stray b) rest more h s = h
 stays_fits (bad_string raw) rest more (n, u) s = (string_kept raw 34 rest (rest ++ more) n, u)
 stays_fits (open_string raw) rest more h s = open_more raw rest more h s
 stays_fits (open_block body) rest more h s = absurd cc
+
+-- ---- parts of bytes in which no comment and no string begins
+
+abbrev pub begins_quoted : List ℕ → Bool
+begins_quoted [] = false
+begins_quoted (b ∷ bs) = nat_eq b 34
+
+-- they fit before what doesn't make their lexemes longer
+pub unpassed_fits : (x : Part) (rest more : List ℕ) → PartFits x rest → opens_comment (part_bytes x ++ rest) ≡ false → begins_quoted (part_bytes x ++ rest) ≡ false → Unpassed (part_bytes x ++ rest) more
+    → PartFits x (rest ++ more)
+unpassed_fits (sound (blank b)) rest more h o q u = h
+unpassed_fits (sound (block body)) rest more h o q u = h
+unpassed_fits (sound (line body)) rest more h o q u = absurd cc
+unpassed_fits (sound (lexeme (name w) bytes)) rest more h o q u = lexeme_stays (name w) bytes rest more refl h u
+unpassed_fits (sound (lexeme (number n) bytes)) rest more h o q u = lexeme_stays (number n) bytes rest more refl h u
+unpassed_fits (sound (lexeme (string w) bytes)) rest more (none, (raw, e, v), longest) o q u = string_stays w raw bytes (rest ++ more) e v
+unpassed_fits (sound (lexeme (one t) bytes)) rest more h o q u = lexeme_stays (one t) bytes rest more refl h u
+unpassed_fits (sound (lexeme (other w) bytes)) rest more h o q u = lexeme_stays (other w) bytes rest more refl h u
+unpassed_fits (stray b) rest more h o q u = h
+unpassed_fits (bad_string raw) rest more h o q u = absurd cc
+unpassed_fits (open_string raw) rest more h o q u = absurd cc
+unpassed_fits (open_block body) rest more h o q u = absurd cc

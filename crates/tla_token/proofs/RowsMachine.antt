@@ -1,59 +1,45 @@
--- Worked examples of texts that come in pieces, by computation.
-use Rattle.std.specs.Prelude.{◌≡◌, ℕ, true, false, List, [], ◌∷◌, codes}
-use Rattle.std.proofs.Common.{inr, refl}
+-- Worked examples of the machine that cuts a text byte by byte, by computation.
+use Rattle.std.specs.Prelude.{◌≡◌, true, [], ◌∷◌, Some, codes}
+use Rattle.std.proofs.Common.{refl}
 use Rattle.tla_token.specs.declared.sign.Sign.TheVariants as sign
-use Rattle.tla_token.specs.Lexemes.{name, number, one}
-use Rattle.tla_token.specs.Tokens.{blank, block, lexeme}
-use Rattle.tla_token.specs.Offences.{sound, open_string, open_block}
-use Rattle.tla_token.specs.Machine.{is_settled, stays, decided, undecided, fed, finish, is_open_word, IsKept}
+use Rattle.tla_token.specs.declared.part.Class.TheVariants as class
+use Rattle.tla_token.specs.laws.Machine.{fresh, wordless, word, text, block, line, only, marks, one_part, stop, run_on, run_all, outlines}
 
-a_word_that_goes_on : is_settled (codes "x1") ≡ false
-a_word_that_goes_on = refl
+of_a_comment : (run_on (only fresh) (codes "(* (* a *")).1 ≡ only (block 9 1 (Some 42))
+of_a_comment = refl
 
-a_word_that_has_ended : is_settled (codes "x1 ") ≡ true
-a_word_that_has_ended = refl
+of_a_comment_that_closes : run_on (only fresh) (codes "(*a*)") ≡ (one_part class.Block 5, only fresh)
+of_a_comment_that_closes = refl
 
-a_sign_that_may_be_longer : is_settled (codes "<=") ≡ false
-a_sign_that_may_be_longer = refl
+of_a_bad_string : run_on (only fresh) (codes "\"\\x\"") ≡ (one_part class.BadText 4, only fresh)
+of_a_bad_string = refl
 
-a_sign_that_can_not : is_settled (codes "<=x") ≡ true
-a_sign_that_can_not = refl
+of_three_marks : run_on (only fresh) (codes "|-1") ≡ (record { class = class.Other; len = 1 } ∷ [], marks 45 49)
+of_three_marks = refl
 
-a_number_that_may_begin_a_name : stays (sound (lexeme (number 1) (codes "1"))) (codes "_") ≡ false
-a_number_that_may_begin_a_name = refl
+of_digits : (run_on (only fresh) (codes "1_2")).1 ≡ only (wordless (codes "1_2"))
+of_digits = refl
 
-a_number_that_does_not : stays (sound (lexeme (number 1) (codes "1"))) (codes "_ ") ≡ true
-a_number_that_does_not = refl
+of_a_name : (run_on (only fresh) (codes "1_x2")).1 ≡ only (word 4)
+of_a_name = refl
 
-an_open_string : stays (open_string (codes "a")) [] ≡ false
-an_open_string = refl
+of_two_pieces : run_all (only fresh) (codes "1_" ∷ codes "2<=x" ∷ []) ≡ outlines (codes "1_2<=x")
+of_two_pieces = refl
 
-a_string_that_its_line_leaves_open : stays (open_string (codes "a")) (codes "\n") ≡ true
-a_string_that_its_line_leaves_open = refl
+of_a_sign_behind_a_backslash : run_on (only fresh) (codes "\\in ") ≡ (record { class = class.Sign sign.In; len = 3 } ∷ record { class = class.Blank; len = 1 } ∷ [], only fresh)
+of_a_sign_behind_a_backslash = refl
 
-abbrev two_pieces : List (List ℕ)
-two_pieces = codes "x |-" ∷ codes "> (* a *" ∷ []
+of_a_line : (run_on (only fresh) (codes "\\* a")).1 ≡ only (line 4)
+of_a_line = refl
 
-of_two_pieces_are_decided : (fed two_pieces).parts ≡ sound (lexeme (name (codes "x")) (codes "x")) ∷ sound (blank 32) ∷ sound (lexeme (one sign.MapsTo) (codes "|->")) ∷ sound (blank 32) ∷ []
-of_two_pieces_are_decided = refl
+of_a_string_in_its_escape : (run_on (only fresh) (codes "\"a\\")).1 ≡ only (text 3 true true)
+of_a_string_in_its_escape = refl
 
-of_two_pieces_is_kept : (fed two_pieces).rest ≡ codes "(* a *"
-of_two_pieces_is_kept = refl
+a_line_ends_a_string : run_on (only fresh) (codes "\"a\n") ≡ (record { class = class.OpenText; len = 2 } ∷ record { class = class.Blank; len = 1 } ∷ [], only fresh)
+a_line_ends_a_string = refl
 
-of_one_piece_is_kept : (fed (codes "x |-" ∷ [])).rest ≡ codes "|-"
-of_one_piece_is_kept = refl
+a_string_that_is_open_at_the_end : stop (only (text 3 true true)) ≡ one_part class.OpenText 3
+a_string_that_is_open_at_the_end = refl
 
-a_third_piece_closes_the_comment : finish (fed (codes "x" ∷ codes "1(*" ∷ codes "*)" ∷ [])) ≡ sound (lexeme (name (codes "x1")) (codes "x1")) ∷ sound (block (codes "*)")) ∷ []
-a_third_piece_closes_the_comment = refl
-
-decided_before_a_word : decided (sound (blank 32) ∷ sound (lexeme (name (codes "x")) (codes "x")) ∷ []) ≡ sound (blank 32) ∷ []
-decided_before_a_word = refl
-
-undecided_is_the_word : undecided (sound (blank 32) ∷ sound (lexeme (name (codes "x")) (codes "x")) ∷ []) ≡ codes "x"
-undecided_is_the_word = refl
-
-a_word_behind_a_backslash : is_open_word (codes "\\lan") ≡ true
-a_word_behind_a_backslash = refl
-
-a_comment_is_kept : IsKept (codes "(* a")
-a_comment_is_kept = inr (inr (open_block (codes " a"), refl, refl))
+digits_at_the_end : stop (only (wordless (codes "1_"))) ≡ record { class = class.Number; len = 1 } ∷ record { class = class.Other; len = 1 } ∷ []
+digits_at_the_end = refl

@@ -12,4 +12,4 @@ pub mod Scan
 pub mod Readings
 pub mod TokensSeen
 pub mod Scanning
-pub mod Machine
+pub mod laws

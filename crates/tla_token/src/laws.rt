@@ -8,7 +8,8 @@ ghost use Rattle.tla_token.specs.Tokens as pure;
 ghost use Rattle.tla_token.specs.Tokens.{Tok, TokAlgorithm, stretch, tokens_of};
 ghost use Rattle.tla_token.specs.Offences.{Part, sound, parts_text, PartsFit, Offends, kind_offences, offences, least};
 ghost use Rattle.tla_token.specs.Cut.{parts};
-ghost use Rattle.tla_token.specs.Machine.{fed, finish, decided, undecided, IsKept};
+ghost use Rattle.tla_token.specs.laws.Machine.{outlines, only, fresh, run_on, run_all};
+ghost use Rattle.tla_token.specs.laws.Feeding.{fed, finish, decided, undecided, IsKept};
 
 /// A stretch of a text has at most one list of tokens, and so has the stretch of an algorithm.
 pub fn tokens_are_unique()
@@ -55,4 +56,12 @@ pub fn pieces_are_cut_as_one_text()
     ensures whole { (pieces : List (List ℕ)) → finish (fed pieces) ≡ parts (concat pieces) }
     ensures decided { (text more : List ℕ) → parts (text ++ more) ≡ decided (parts text) ++ parts (undecided (parts text) ++ more) }
     ensures kept { (pieces : List (List ℕ)) → IsKept (fed pieces).rest }
+{}
+
+/// A machine that takes one byte after another gives the class and the length of each part of the
+/// text, whatever pieces this comes in. What it has given stays; the bytes that are in none of these
+/// parts yet are fewer than three, or a word, comment or string that is still open.
+pub fn a_machine_cuts_texts()
+    ensures whole { (pieces : List (List ℕ)) → run_all (only fresh) pieces ≡ outlines (concat pieces) }
+    ensures kept { (text : List ℕ) → (pending : List ℕ) × IsKept pending × ((more : List ℕ) → outlines (text ++ more) ≡ (run_on (only fresh) text).0 ++ outlines (pending ++ more)) }
 {}

@@ -1,5 +1,5 @@
 -- Proves the law `pieces_are_cut_as_one_text`.
-use Rattle.tla_token.proofs.Machine.{fed_so, decided_so, kept_so}
+use Rattle.tla_token.proofs.MachineFeeding.{fed_so, decided_so, kept_so}
 use Rattle.tla_token.proofs.laws.pieces_are_cut_as_one_text.Goals as goal
 
 pub returns-clause-whole : goal.returns-clause-whole

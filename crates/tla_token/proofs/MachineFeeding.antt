@@ -6,7 +6,7 @@ use Rattle.tla_token.specs.Lexemes.{name, number, string, one, other, is_word}
 use Rattle.tla_token.specs.Tokens.{blank, block, line, lexeme}
 use Rattle.tla_token.specs.Offences.{Part, sound, stray, bad_string, open_string, open_block, part_bytes, parts_text, PartFits, PartsFit}
 use Rattle.tla_token.specs.Cut.{parts}
-use Rattle.tla_token.specs.Machine.{is_settled, stays, decided, undecided, Fed, nothing_fed, feed, finish, fed, is_open, IsKept}
+use Rattle.tla_token.specs.laws.Feeding.{is_settled, stays, decided, undecided, Fed, nothing_fed, feed, finish, fed, is_open, IsKept}
 use Rattle.tla_token.proofs.Parted.{some_part, fits_first, parts_step, cut_back}
 use Rattle.tla_token.proofs.Cutting.{cut_fits}
 use Rattle.tla_token.proofs.MachineStays.{stays_fits}
@@ -14,7 +14,7 @@ use Rattle.tla_token.proofs.MachineStays.{stays_fits}
 -- ---- one piece
 
 -- a part that fits before more is in front of it
-goes_before : (x : Part) (rest more : List ℕ) → PartFits x (rest ++ more) → parts ((part_bytes x ++ rest) ++ more) ≡ x ∷ parts (rest ++ more)
+pub goes_before : (x : Part) (rest more : List ℕ) → PartFits x (rest ++ more) → parts ((part_bytes x ++ rest) ++ more) ≡ x ∷ parts (rest ++ more)
 goes_before x rest more f =
     ap parts (append_assoc (part_bytes x) rest more) ∙ parts_step x (part_bytes x) (rest ++ more) refl (fits_first x (rest ++ more) f) (some_part x (rest ++ more) f)
 
