@@ -13,3 +13,4 @@ pub mod Scan
 pub mod Readings
 pub mod TokensSeen
 pub mod Scanning
+pub mod laws

@@ -1,7 +1,7 @@
 //! Laws of tokens, stated as what functions without a body ensure.
 
-ghost use Rattle.std.specs.Prelude.{◌≡◌, ℕ, Bool, List, [], ◌∷◌, map, Some, ◌⊎◌, false, true};
-ghost use Rattle.std.specs.List.{flat_map};
+ghost use Rattle.std.specs.Prelude.{◌≡◌, ℕ, Bool, List, [], ◌∷◌, ◌++◌, map, Some, ◌⊎◌, false, true};
+ghost use Rattle.std.specs.List.{concat, flat_map};
 ghost use Rattle.tla_token.specs.declared.rule.Refusal as code;
 ghost use Rattle.tla_token.specs.declared.rule.Rule.TheVariants.{NumberTooBig};
 ghost use Rattle.tla_token.specs.declared.token.Kind.TheVariants.{BigNumber};
@@ -12,6 +12,8 @@ ghost use Rattle.tla_token.specs.Tokens.{Tok, TokAlgorithm, stretch, tokens_of};
 ghost use Rattle.tla_token.specs.Offences.{Part, sound, parts_text, PartsFit, Offends, kind_offences, offences, least};
 ghost use Rattle.tla_token.specs.Cut.{parts};
 ghost use Rattle.tla_token.specs.TokensSeen.{kind_seen, IsCanonical};
+ghost use Rattle.tla_token.specs.laws.Machine.{outlines, only, fresh, run_on, run_all};
+ghost use Rattle.tla_token.specs.laws.Feeding.{fed, finish, decided, undecided, IsKept};
 
 /// A stretch of a text has at most one list of tokens, and so has the stretch of an algorithm.
 pub fn tokens_are_unique()
@@ -54,4 +56,21 @@ pub fn tokens_or_refusal()
 /// A number that is kept by its digits is too big for an algorithm: so among tokens whose numbers are within the limit there is none.
 pub fn digits_are_too_big()
     ensures { (bytes : List ℕ) (at : ℕ) (s : span.Span) → IsCanonical bytes (BigNumber s) → kind_offences true at (kind_seen bytes (BigNumber s)) ≡ (NumberTooBig, at) ∷ [] }
+{}
+
+/// A text that comes in pieces, of whatever length, has the parts of the whole text. What is decided
+/// stays, whatever comes next; what is kept until more comes is a comment, string or word that is
+/// still open, or fewer than three bytes.
+pub fn pieces_are_cut_as_one_text()
+    ensures whole { (pieces : List (List ℕ)) → finish (fed pieces) ≡ parts (concat pieces) }
+    ensures decided { (text more : List ℕ) → parts (text ++ more) ≡ decided (parts text) ++ parts (undecided (parts text) ++ more) }
+    ensures kept { (pieces : List (List ℕ)) → IsKept (fed pieces).rest }
+{}
+
+/// A machine that takes one byte after another gives the class and the length of each part of the
+/// text, whatever pieces this comes in. What it has given stays; the bytes that are in none of these
+/// parts yet are fewer than three, or a word, comment or string that is still open.
+pub fn a_machine_cuts_texts()
+    ensures whole { (pieces : List (List ℕ)) → run_all (only fresh) pieces ≡ outlines (concat pieces) }
+    ensures kept { (text : List ℕ) → (pending : List ℕ) × IsKept pending × ((more : List ℕ) → outlines (text ++ more) ≡ (run_on (only fresh) text).0 ++ outlines (pending ++ more)) }
 {}

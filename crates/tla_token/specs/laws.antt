@@ -1,0 +1,3 @@
+-- Words that only laws speak of.
+pub mod Feeding
+pub mod Machine
