@@ -4,6 +4,7 @@ ghost use Rattle.std.specs.Prelude.{◌≡◌, ◌++◌, List, [], ◌∷◌, Ok
 ghost use Rattle.tla_tree.specs.Lexical.{Token};
 ghost use Rattle.tla_token.specs.Tokens as text;
 ghost use Rattle.tla_token.specs.declared.rule.Rule.{Rule};
+ghost use Rattle.tla_token.specs.declared.rule.Rule.TheVariants.{Syntax};
 ghost use Rattle.pcal_tree.specs.Algorithm.{Algorithm};
 ghost use Rattle.pcal_tree.specs.Grammar.{p_syntax, Text, Good, spell, SpellsP};
 ghost use Rattle.p_syntax.specs.ReadAlgorithm.{read_algorithm};
@@ -22,6 +23,11 @@ pub fn what_is_spelled_is_read()
 pub fn tokens_spell_one_algorithm()
     ensures phrase { (x y : Text) → Good p_syntax x → Good p_syntax y → spell x [] ≡ spell y [] → x ≡ y }
     ensures tree { (ts : List text.Token) (a b : Algorithm) → SpellsP ts a → SpellsP ts b → a ≡ b }
+{}
+
+/// Each refusal is by the rule of syntax: forms may be open in one another to any depth.
+pub fn refusals_are_by_the_rule_of_syntax()
+    ensures { (ts rest : List Token) (r : Rule) → read_algorithm ts ≡ Err (r, rest) → r ≡ Syntax }
 {}
 
 /// A refusal is not early: no algorithm begins with the tokens through the refused one, whatever comes after them; and what is
