@@ -7,3 +7,5 @@ pub mod FairStatements
 pub mod FairAlgorithm
 pub mod MendStatements
 pub mod MendAlgorithm
+pub mod SameOpens
+pub mod Stops
