@@ -1,4 +1,6 @@
 mod Rows
+mod RowsForms
+mod RowsBroken
 pub mod SoundStatements
 pub mod SoundAlgorithm
 pub mod WholeStatements
