@@ -1,15 +1,19 @@
 -- What stands before a refused token can be gone on with: declarations, definitions, labels and what a `with` names.
-use Rattle.std.proofs.Common.{ℕ, zero, suc, Bool, true, false, List, [], ◌∷◌, Option, Some, None, refl}
+use Rattle.std.proofs.Common.{◌≡◌, ◌⊎◌, ℕ, zero, suc, Bool, true, false, List, [], ◌∷◌, ◌++◌, length, Option, Some, None, Err, inl, inr, refl, ap, ◌∙◌, arith, length-append}
 use Rattle.tla_token.specs.declared.place.Place.{Place}
 use Rattle.tla_token.specs.Places.{nowhere}
+use Rattle.tla_token.specs.declared.rule.Rule.TheVariants.{Syntax}
 use Rattle.tla_tree.specs.declared.op.Op.TheVariants as op
 use Rattle.tla_tree.specs.Tree.{Name}
 use Rattle.tla_tree.specs.Lexical.{TokenView, Token}
 use Rattle.tla_tree.specs.Lexical as tk
 use Rattle.tla_tree.specs.Spelling.{Phrase, spell, spell_all, IsGood, GoodAll}
-use Rattle.tla_tree.specs.Reader.{Reader, gives, free, readers}
+use Rattle.tla_tree.specs.Reader.{Out, Stop, Reader, gives, free, readers}
 use Rattle.tla_tree.specs.Spelling.{last}
 use Rattle.tla_tree.proofs.Mended.{some, right_after}
+use Rattle.tla_tree.proofs.Alike.{rest_of}
+use Rattle.tla_tree.proofs.Limited.{Limited, Plain, Past, told_err}
+use Rattle.tla_tree.proofs.LimitedAll.{unlimited}
 use Rattle.tla_tree.proofs.MendedLists.{mended}
 use Rattle.tla_tree.proofs.SpellAhead.{Ahead, held, put_ahead, then_ahead, ahead, ahead_all}
 use Rattle.pcal_tree.specs.GrammarParts.{Separator, by_semicolon, by_comma, Initial, unset, equals, among, Variables, last_variable, variable, no_section, section, Names, last_name, more_names, no_names, some_names, Parameters, last_parameter, parameter, no_parameters, some_parameters, Heading, plain, applied, Definitions, last_definition, more_definitions, colon, colon_plus, colon_minus, Binds, last_bind, bind}
@@ -40,6 +44,16 @@ pub record MendsParts (m : Parts) : Type 0 where
   pub arguments : IsPart (GoodAll 0) spell_all m.arguments
   pub subscripts : IsPart (GoodAll 0) spell_all m.subscripts
 
+-- without a limit nothing is too deep
+rule_beside : {A : Type 0} {F : Type 0} {L : ℕ → ℕ → Type 0} {G : A → Type 0} {M : A → ℕ → ℕ → Type 0} {ts : List Token} {o : Out A} {u : Stop} → Limited F L G M ts o o → o ≡ Err u → u.0 ≡ Syntax
+rule_beside {A} {F} {L} {G} {M} {ts} {o} {u} h e = by (told_err h e)
+  where
+    by : Plain u o ⊎ Past M u o → u.0 ≡ Syntax
+    by (inl p) = p.0
+    by (inr (t, us, d, s, w, late)) =
+        (let n = ap length (w.1 ∙ ap (λ (v : List Token). w.0 ++ v) (ap rest_of e ∙ s)) ∙ length-append w.0 (t ∷ us) in
+        absurd (omega (arith, n)))
+
 abbrev fill_all : Here (GoodAll 0) spell_all
 fill_all = record { whole = last some_phrase; good = some_good; fix = spell_all (last some_phrase) []; tokens = λ v. refl }
 
@@ -48,9 +62,9 @@ parts_mend n =
     (let s = parts_sound n in
     record {
       sound = s;
-      expr = record { sound = s.expr; ahead = λ a u. ahead a; mends = record { fill = record { whole = some_phrase; good = some_good; fix = spell some_phrase []; tokens = λ v. refl }; is = λ ts u e. (let m = (mended 0 n 0).expr 0 free refl ts u e in record { whole = m.whole; good = m.good.0; read = m.read; fix = m.fix; parts = m.parts; tokens = m.tokens }) } };
-      arguments = record { sound = s.arguments; ahead = λ a u. ahead_all a; mends = record { fill = fill_all; is = λ ts u e. (let m = (mended 0 n 0).phrases 0 ts u e in record { whole = m.whole; good = m.good; read = m.read; fix = m.fix; parts = m.parts; tokens = m.tokens }) } };
-      subscripts = record { sound = s.subscripts; ahead = λ a u. ahead_all a; mends = record { fill = fill_all; is = λ ts u e. (let m = (mended 0 n 0).phrases 0 ts u e in record { whole = m.whole; good = m.good; read = m.read; fix = m.fix; parts = m.parts; tokens = m.tokens }) } };
+      expr = record { sound = s.expr; ahead = λ a u. ahead a; mends = record { fill = record { whole = some_phrase; good = some_good; fix = spell some_phrase []; tokens = λ v. refl }; is = λ ts u e. (let m = (mended 0 n 0).expr 0 free refl ts u e in record { whole = m.whole; good = m.good.0; rule = rule_beside ((unlimited 0 n 0).expr 0 free refl (λ s. s) held ts) e; read = m.read; fix = m.fix; parts = m.parts; tokens = m.tokens }) } };
+      arguments = record { sound = s.arguments; ahead = λ a u. ahead_all a; mends = record { fill = fill_all; is = λ ts u e. (let m = (mended 0 n 0).phrases 0 ts u e in record { whole = m.whole; good = m.good; rule = rule_beside ((unlimited 0 n 0).phrases 0 (λ s. s) held ts) e; read = m.read; fix = m.fix; parts = m.parts; tokens = m.tokens }) } };
+      subscripts = record { sound = s.subscripts; ahead = λ a u. ahead_all a; mends = record { fill = fill_all; is = λ ts u e. (let m = (mended 0 n 0).phrases 0 ts u e in record { whole = m.whole; good = m.good; rule = rule_beside ((unlimited 0 n 0).phrases 0 (λ s. s) held ts) e; read = m.read; fix = m.fix; parts = m.parts; tokens = m.tokens }) } };
     })
 
 -- ---- `;` and `,`

@@ -2,11 +2,12 @@
 use Rattle.std.proofs.Common.{◌≡◌, false, List, [], ◌∷◌, ◌++◌, Option, Some, None, Err, refl, sym, ap, ◌∙◌, append_assoc}
 use Rattle.tla_token.specs.declared.place.Place.{Place}
 use Rattle.tla_token.specs.Places.{nowhere}
+use Rattle.tla_token.specs.declared.rule.Rule.TheVariants.{Syntax}
 use Rattle.tla_tree.specs.Tree.{Word}
 use Rattle.tla_tree.specs.Lexical.{Mark, TokenView, Token, token}
 use Rattle.tla_tree.specs.Lexical as tk
 use Rattle.tla_tree.specs.Spelling.{Right, field_token}
-use Rattle.tla_tree.specs.Reader.{Stop, Reader, ◌>>=◌, gives, refuses, skip, took, tail, next, peek, is_mark, place_if}
+use Rattle.tla_tree.specs.Reader.{Stop, Reader, ◌>>=◌, gives, refuses, skip, took, tail, next, peek, is_mark, place_if, word_of, field_of}
 use Rattle.tla_tree.proofs.SpellAhead.{Ahead, held, put_ahead, then_ahead}
 use Rattle.tla_tree.proofs.Mended.{left_is, broken, gives_err, right_after, mark_err, field_err, word_err, some_field, an_x}
 use Rattle.tla_tree.proofs.Mended as mended
@@ -16,21 +17,23 @@ use Rattle.pcal_tree.specs.GrammarParts.{name, key, mark, word}
 use Rattle.algorithm_parts.specs.TokenReaders.{first, by_next, past, is_reserved, name_of, a_key, a_mark, a_name, pick}
 use Rattle.algorithm_parts.proofs.Sound.{Sound, SoundAt, here, Any, is_other, seen, All, pick_is, sound_key, sound_mark, sound_name, sound_mark_right, sound_field_right, sound_word_right}
 
--- tokens that were read from ts on up to u, and tokens that complete them
-pub record Mend {A : Type 0} (Q : A → Type 0) (put : A → List Token → List Token) (ts u : List Token) : Type 0 where
+-- tokens that were read from ts on up to a stop, by the rule of syntax, and tokens that complete them
+pub record Mend {A : Type 0} (Q : A → Type 0) (put : A → List Token → List Token) (ts : List Token) (u : Stop) : Type 0 where
   pub whole : A
   pub good : Q whole
+  pub rule : u.0 ≡ Syntax
   pub read : List Token
   pub fix : List Token
-  pub parts : ts ≡ read ++ u
+  pub parts : ts ≡ read ++ u.1
   pub tokens : (v : List Token) → put whole v ≡ read ++ (fix ++ v)
 
 -- x was read before a part that is mended, and the whole is completed after it
-inside : {A B : Type 0} {Q : A → Type 0} {R : B → Type 0} {put : A → List Token → List Token} {puts : B → List Token → List Token} (x : List Token → List Token) → Ahead x → (close : List Token) → {ts us u : List Token} → (m : Mend Q put us u) → (b : B) → R b
+inside : {A B : Type 0} {Q : A → Type 0} {R : B → Type 0} {put : A → List Token → List Token} {puts : B → List Token → List Token} (x : List Token → List Token) → Ahead x → (close : List Token) → {ts us : List Token} {u : Stop} → (m : Mend Q put us u) → (b : B) → R b
     → ((v : List Token) → puts b v ≡ x (put m.whole (close ++ v))) → ts ≡ x us → Mend R puts ts u
 inside x h close m b g e s = record {
   whole = b;
   good = g;
+  rule = m.rule;
   read = x m.read;
   fix = m.fix ++ close;
   parts = s ∙ ap x m.parts ∙ h.is m.read _;
@@ -38,11 +41,19 @@ inside x h close m b g e s = record {
 }
 
 -- x was read, and the rest of the whole is missing
-pub missing : {B : Type 0} {R : B → Type 0} {puts : B → List Token → List Token} (x : List Token → List Token) → Ahead x → (fix : List Token) → {ts u : List Token} → (b : B) → R b → ((v : List Token) → puts b v ≡ x (fix ++ v)) → ts ≡ x u → Mend R puts ts u
-missing x h fix {ts} {u} b g e s = record { whole = b; good = g; read = x []; fix = fix; parts = s ∙ h.is [] u; tokens = λ v. e v ∙ h.is [] (fix ++ v) }
+pub missing : {B : Type 0} {R : B → Type 0} {puts : B → List Token → List Token} (x : List Token → List Token) → Ahead x → (fix : List Token) → {ts : List Token} {u : Stop} → (b : B) → R b → u.0 ≡ Syntax → ((v : List Token) → puts b v ≡ x (fix ++ v)) → ts ≡ x u.1 → Mend R puts ts u
+missing x h fix {ts} {u} b g r e s = record { whole = b; good = g; rule = r; read = x []; fix = fix; parts = s ∙ h.is [] u.1; tokens = λ v. e v ∙ h.is [] (fix ++ v) }
 
-onto : {A : Type 0} {Q : A → Type 0} {put : A → List Token → List Token} {ts us u : List Token} → ts ≡ us → Mend Q put ts u → Mend Q put us u
-onto s m = record { whole = m.whole; good = m.good; read = m.read; fix = m.fix; parts = sym s ∙ m.parts; tokens = m.tokens }
+onto : {A : Type 0} {Q : A → Type 0} {put : A → List Token → List Token} {ts us : List Token} {u : Stop} → ts ≡ us → Mend Q put ts u → Mend Q put us u
+onto s m = record { whole = m.whole; good = m.good; rule = m.rule; read = m.read; fix = m.fix; parts = sym s ∙ m.parts; tokens = m.tokens }
+
+-- the rule by which a reader refuses
+pub rule_is : {A : Type 0} {ts : List Token} {u : Stop} → refuses {A = A} ts ≡ Err u → u.0 ≡ Syntax
+rule_is {A} {ts} {u} e = (let i : ◌≡◌ {A = Stop} (Syntax, ts) u = cc in ap (λ (s : Stop). s.0) (sym i))
+
+took_rule : {A : Type 0} (o : Option A) (ts : List Token) (u : Stop) → took o ts ≡ Err u → u.0 ≡ Syntax
+took_rule (Some a) ts u e = absurd cc
+took_rule {A} None ts u e = rule_is {A = A} e
 
 -- tokens that complete what was read before
 pub record Fill {A : Type 0} (x : List Token → List Token) (Q : A → Type 0) (put : A → List Token → List Token) : Type 0 where
@@ -54,10 +65,10 @@ pub record Fill {A : Type 0} (x : List Token → List Token) (Q : A → Type 0) 
 -- what was read after the tokens x is mended where the reader refuses; and there is some whole
 pub record Mends {A : Type 0} (x : List Token → List Token) (Q : A → Type 0) (put : A → List Token → List Token) (r : Reader A) : Type 0 where
   pub fill : Fill x Q put
-  pub is : (ts : List Token) (u : Stop) → r ts ≡ Err u → Mend Q put (x ts) u.1
+  pub is : (ts : List Token) (u : Stop) → r ts ≡ Err u → Mend Q put (x ts) u
 
 pub record MendsAt {A : Type 0} (p : Place) (k : TokenView) (x : List Token → List Token) (Q : A → Type 0) (put : A → List Token → List Token) (r : Reader A) : Type 0 where
-  pub is : (ts : List Token) → first ts ≡ token p k → (u : Stop) → r ts ≡ Err u → Mend Q put (x ts) u.1
+  pub is : (ts : List Token) → first ts ≡ token p k → (u : Stop) → r ts ≡ Err u → Mend Q put (x ts) u
 
 -- a part that others begin with
 pub record IsPart {A : Type 0} (P : A → Type 0) (front : A → List Token → List Token) (r : Reader A) : Type 0 where
@@ -73,7 +84,7 @@ pub mends_gives : {A : Type 0} {x : List Token → List Token} {Q : A → Type 0
 mends_gives a g s = record { fill = filled a g s; is = λ ts u e. gives_err a ts u e }
 
 pub mends_refuses : {A : Type 0} {x : List Token → List Token} {Q : A → Type 0} {put : A → List Token → List Token} → Ahead x → Fill x Q put → Mends x Q put (refuses {A = A})
-mends_refuses {A} {x} h f = record { fill = f; is = λ ts u e. missing x h f.fix f.whole f.good f.tokens (ap x (left_is {A = A} e)) }
+mends_refuses {A} {x} h f = record { fill = f; is = λ ts u e. missing x h f.fix f.whole f.good (rule_is {A = A} e) f.tokens (ap x (left_is {A = A} e)) }
 
 pub mends_after : {A B : Type 0} (x : List Token → List Token) {y : List Token → List Token} {P : A → Type 0} {front : A → List Token → List Token} {Q : B → Type 0} {put : B → List Token → List Token} {r : Reader A} {f : A → Reader B}
     → Ahead x → Sound y P front r → ((a : A) → P a → Ahead (front a)) → Mends y P front r → ((a : A) → P a → Ahead (λ ts. x (front a ts)) → Mends (λ ts. x (front a ts)) Q put (f a)) → Mends (λ ts. x (y ts)) Q put (r >>= f)
@@ -83,7 +94,7 @@ mends_after {A} {B} x {y} {P} {front} {Q} {put} {r} {f} hx s hf m k = record {
       let b = (k a.whole a.good (then_ahead hx (hf a.whole a.good))).fill in
       record { whole = b.whole; good = b.good; fix = a.fix ++ b.fix; tokens = λ v. b.tokens v ∙ ap x (a.tokens (b.fix ++ v)) ∙ ap (λ (w : List Token). x (y w)) (sym (append_assoc a.fix b.fix v)) });
   is = λ ts u e.
-      broken {A = A} {B = B} {R = Mend Q put (x (y ts)) u.1} {o = r ts} {f = f} {u = u} e
+      broken {A = A} {B = B} {R = Mend Q put (x (y ts)) u} {o = r ts} {f = f} {u = u} e
       (λ i.
       (let a = m.is ts u i in
       let b = (k a.whole a.good (then_ahead hx (hf a.whole a.good))).fill in
@@ -126,7 +137,7 @@ past_err {A} f ts u e = by (f (first ts).place (first ts).kind) e
 pub token_mends : {A : Type 0} (f : Place → TokenView → Option A) (put : A → Token) (a : A) → Mends here Any (λ b ts. put b ∷ ts) (past f)
 token_mends f put a = record {
   fill = record { whole = a; good = tt; fix = put a ∷ []; tokens = λ v. refl };
-  is = λ ts u e. record { whole = a; good = tt; read = []; fix = put a ∷ []; parts = past_err f ts u e; tokens = λ v. refl };
+  is = λ ts u e. record { whole = a; good = tt; rule = took_rule (f (first ts).place (first ts).kind) ts u e; read = []; fix = put a ∷ []; parts = past_err f ts u e; tokens = λ v. refl };
 }
 
 pub part_key : (w : Word) → IsPart Any (λ p. key p w) (a_key w)
@@ -143,7 +154,7 @@ pub mends_then : {A B : Type 0} {p : Place} {k : TokenView} (x : List Token → 
     → Ahead x → SoundAt p k y P front r → ((a : A) → P a → Ahead (front a)) → MendsAt p k y P front r → ((a : A) → P a → Ahead (λ ts. x (front a ts)) → Mends (λ ts. x (front a ts)) Q put (f a)) → MendsAt p k (λ ts. x (y ts)) Q put (r >>= f)
 mends_then {A} {B} x {y} {P} {front} {Q} {put} {r} {f} hx s hf m k = record {
   is = λ ts t u e.
-      broken {A = A} {B = B} {R = Mend Q put (x (y ts)) u.1} {o = r ts} {f = f} {u = u} e
+      broken {A = A} {B = B} {R = Mend Q put (x (y ts)) u} {o = r ts} {f = f} {u = u} e
       (λ i.
       (let a = m.is ts t u i in
       let b = (k a.whole a.good (then_ahead hx (hf a.whole a.good))).fill in
@@ -158,7 +169,7 @@ mends_same e h = record { is = λ ts s u o. onto (e ts) (h.is ts s u o) }
 
 -- ---- tokens of expressions, right of the edge
 pub record MendsRight {A : Type 0} (p : Place) (k : TokenView) (x : List Token → List Token) (Q : A → Type 0) (put : A → List Token → List Token) (r : Reader A) : Type 0 where
-  pub is : (ts : List Token) → next 0 ts ≡ token p k → (u : Stop) → r ts ≡ Err u → Mend Q put (x ts) u.1
+  pub is : (ts : List Token) → next 0 ts ≡ token p k → (u : Stop) → r ts ≡ Err u → Mend Q put (x ts) u
 
 pub mends_peek : {A : Type 0} {x : List Token → List Token} {Q : A → Type 0} {put : A → List Token → List Token} {f : Place → TokenView → Reader A}
     → Fill x Q put → ((p : Place) (k : TokenView) → MendsRight p k x Q put (f p k)) → Mends x Q put (peek 0 f)
@@ -177,7 +188,7 @@ part_mark_right m = record {
   ahead = λ p u. put_ahead held;
   mends = record {
     fill = record { whole = mended.after 0; good = right_after 0; fix = mark (mended.after 0) m []; tokens = λ v. refl };
-    is = λ ts u e. record { whole = mended.after 0; good = right_after 0; read = []; fix = mark (mended.after 0) m []; parts = mark_err 0 m ts u e; tokens = λ v. refl };
+    is = λ ts u e. record { whole = mended.after 0; good = right_after 0; rule = took_rule (place_if (is_mark m) (next 0 ts).place (next 0 ts).kind) ts u e; read = []; fix = mark (mended.after 0) m []; parts = mark_err 0 m ts u e; tokens = λ v. refl };
   };
 }
 
@@ -187,7 +198,7 @@ part_field_right = record {
   ahead = λ f u. put_ahead held;
   mends = record {
     fill = record { whole = some_field 0; good = right_after 0; fix = field_token (some_field 0) []; tokens = λ v. refl };
-    is = λ ts u e. record { whole = some_field 0; good = right_after 0; read = []; fix = field_token (some_field 0) []; parts = field_err 0 ts u e; tokens = λ v. refl };
+    is = λ ts u e. record { whole = some_field 0; good = right_after 0; rule = took_rule (field_of (next 0 ts).place (next 0 ts).kind) ts u e; read = []; fix = field_token (some_field 0) []; parts = field_err 0 ts u e; tokens = λ v. refl };
   };
 }
 
@@ -197,6 +208,6 @@ part_word_right = record {
   ahead = λ x u. put_ahead held;
   mends = record {
     fill = record { whole = (mended.after 0, an_x); good = right_after 0; fix = word (mended.after 0) an_x []; tokens = λ v. refl };
-    is = λ ts u e. record { whole = (mended.after 0, an_x); good = right_after 0; read = []; fix = word (mended.after 0) an_x []; parts = word_err 0 ts u e; tokens = λ v. refl };
+    is = λ ts u e. record { whole = (mended.after 0, an_x); good = right_after 0; rule = took_rule (word_of (next 0 ts).place (next 0 ts).kind) ts u e; read = []; fix = word (mended.after 0) an_x []; parts = word_err 0 ts u e; tokens = λ v. refl };
   };
 }

@@ -1,4 +1,6 @@
 mod Rows
+mod RowsForms
+mod RowsBroken
 pub mod SoundStatements
 pub mod SoundAlgorithm
 pub mod WholeStatements
@@ -7,3 +9,5 @@ pub mod FairStatements
 pub mod FairAlgorithm
 pub mod MendStatements
 pub mod MendAlgorithm
+pub mod SameOpens
+pub mod Stops

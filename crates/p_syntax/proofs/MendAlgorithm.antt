@@ -4,6 +4,7 @@ use Rattle.std.proofs.lemmas.List.{append-nil, append_cancel_right}
 use Rattle.std.specs.List.{AllByRecursion}
 use Rattle.tla_token.specs.declared.place.Place.{Place}
 use Rattle.tla_token.specs.declared.rule.Rule.{Rule}
+use Rattle.tla_token.specs.declared.rule.Rule.TheVariants.{Syntax}
 use Rattle.tla_token.specs.Places.{nowhere}
 use Rattle.tla_tree.specs.declared.op.Op.TheVariants as op
 use Rattle.tla_tree.specs.Tree.{Word}
@@ -19,7 +20,7 @@ use Rattle.pcal_tree.specs.Grammar as gr
 use Rattle.algorithm_parts.specs.TokenReaders.{Parts, parts_of, by_next, a_key, pick}
 use Rattle.algorithm_parts.proofs.Sound.{Sound, here, Any, pick_is, sound_next, sound_stays, sound_pick, sound_refuses}
 use Rattle.algorithm_parts.proofs.Aheads.{ahead_semicolon, ahead_section, ahead_macro, ahead_procedure, ahead_definitions}
-use Rattle.algorithm_parts.proofs.Mends.{Mend, missing, Fill, Mends, MendsAt, IsPart, AllMend, filled, mends_gives, mends_refuses, mends_after, mends_bind, mends_then, mends_next, mends_stays, mends_past, mends_pick, part_key, part_name}
+use Rattle.algorithm_parts.proofs.Mends.{Mend, missing, rule_is, Fill, Mends, MendsAt, IsPart, AllMend, filled, mends_gives, mends_refuses, mends_after, mends_bind, mends_then, mends_next, mends_stays, mends_past, mends_pick, part_key, part_name}
 use Rattle.algorithm_parts.proofs.MendParts.{MendsParts, parts_mend, some_name, some_phrase, some_good, part_semicolon, part_section, part_macro_parameters, part_procedure_parameters, part_definitions, part_bind}
 use Rattle.p_syntax.specs.ReadAlgorithm.{read_body, read_macro, read_procedure, read_identity, read_process, fair_by, process_words, more_of, macro_words, macros_by, read_macros, procedure_words, procedures_by, read_procedures, all_more, processes_by, read_processes, head_words, head_by, read_head, define_words, define_by, read_define, main_processes, main_words, main_by, read_main, read_text, to_last, read_algorithm}
 use Rattle.p_syntax.proofs.SoundAlgorithm.{by_fair_sound, head_sound, body_sound, macro_sound, procedure_sound, identity_sound, processes_words, macros_sound, procedures_sound, processes_sound, by_define_sound, by_main_sound, text_sound}
@@ -219,14 +220,22 @@ module _ (m : Parts) (h : MendsParts m) where
 last_mends : (x : Text) → Good p_syntax x → Ahead (gr.spell x) → Mends (gr.spell x) (Good p_syntax) gr.spell (to_last x)
 last_mends x g hx = record { fill = filled x g (λ ts. refl); is = at_end }
   where
-    at_end : (ts : List Token) (u : Stop) → to_last x ts ≡ Err u → Mend (Good p_syntax) gr.spell (gr.spell x ts) u.1
+    at_end : (ts : List Token) (u : Stop) → to_last x ts ≡ Err u → Mend (Good p_syntax) gr.spell (gr.spell x ts) u
     at_end [] u e = gives_err x [] u e
-    at_end (t ∷ ts) u e = missing (λ v. gr.spell x v) hx [] x g (λ v. refl) (ap (λ (v : List Token). gr.spell x v) (left_is {A = Text} {ts = t ∷ ts} {u = u} e))
+    at_end (t ∷ ts) u e = missing (λ v. gr.spell x v) hx [] x g (rule_is {A = Text} {ts = t ∷ ts} {u = u} e) (λ v. refl) (ap (λ (v : List Token). gr.spell x v) (left_is {A = Text} {ts = t ∷ ts} {u = u} e))
+
+-- what was passed, and what completes it
+pub refused_is_mended : (ts : List Token) (u : Stop) → read_algorithm ts ≡ Err u → Mend (Good p_syntax) gr.spell ts u
+refused_is_mended ts u o =
+    (let n = 4 * length ts in
+    let all = mends_bind held (part_text (parts_of (readers n None)) (parts_mend n) (suc (length ts))) (λ x g hx. last_mends x g hx) in
+    all.is ts u o)
+
+pub refused_by_syntax : (ts rest : List Token) (q : Rule) → read_algorithm ts ≡ Err (q, rest) → q ≡ Syntax
+refused_by_syntax ts rest q o = (refused_is_mended ts (q, rest) o).rule
 
 pub refused_is_completed : (ts passed rest : List Token) (q : Rule) → read_algorithm ts ≡ Err (q, rest) → ts ≡ passed ++ rest → (fix : List Token) × (x : Text) × Good p_syntax x × (gr.spell x [] ≡ passed ++ fix)
 refused_is_completed ts passed rest q o s =
-    let n = 4 * length ts in
-    let all = mends_bind held (part_text (parts_of (readers n None)) (parts_mend n) (suc (length ts))) (λ x g hx. last_mends x g hx) in
-    let c = all.is ts (q, rest) o in
+    let c = refused_is_mended ts (q, rest) o in
     let same : passed ≡ c.read = append_cancel_right passed c.read rest (sym s ∙ c.parts) in
     (c.fix, c.whole, c.good, c.tokens [] ∙ ap (λ (v : List Token). c.read ++ v) (append-nil c.fix) ∙ ap (λ (v : List Token). v ++ c.fix) (sym same))

@@ -1,11 +1,19 @@
 //! Laws of reading algorithms in P-syntax, stated as what functions without a body ensure.
 
-ghost use Rattle.std.specs.Prelude.{◌≡◌, ◌++◌, List, [], ◌∷◌, Ok, Err};
+ghost use Rattle.std.specs.Prelude.{◌≡◌, suc, IsTrue, ◌++◌, List, [], ◌∷◌, length, take, map, get_or, Some, Ok, Err};
+ghost use Rattle.std.specs.List.{list_all};
 ghost use Rattle.tla_tree.specs.Lexical.{Token};
 ghost use Rattle.tla_token.specs.Tokens as text;
 ghost use Rattle.tla_token.specs.declared.rule.Rule.{Rule};
+ghost use Rattle.tla_token.specs.declared.rule.Rule.TheVariants.{Syntax};
 ghost use Rattle.pcal_tree.specs.Algorithm.{Algorithm};
-ghost use Rattle.pcal_tree.specs.Grammar.{p_syntax, Text, Good, spell, SpellsP};
+ghost use Rattle.tla_token.specs.declared.rule.Refusal.{Refusal};
+ghost use Rattle.tla_token.specs.declared.place.Place.{Place};
+ghost use Rattle.tla_tree.specs.FirstStop.{looks, to_end, is_within, Begins, Passes};
+ghost use Rattle.pcal_tree.specs.AlgorithmTokens.{views};
+ghost use Rattle.pcal_tree.specs.Grammar.{p_syntax, Text, Good, spell, algorithm_of, SpellsP};
+ghost use Rattle.pcal_tree.specs.OpenForms.{opens};
+ghost use Rattle.pcal_tree.specs.OffencesSyntax.{algorithms, PassesTokens, RefusesTokens};
 ghost use Rattle.p_syntax.specs.ReadAlgorithm.{read_algorithm};
 
 /// What is read is an algorithm that may be spelled, and all the tokens are its tokens.
@@ -24,6 +32,11 @@ pub fn tokens_spell_one_algorithm()
     ensures tree { (ts : List text.Token) (a b : Algorithm) → SpellsP ts a → SpellsP ts b → a ≡ b }
 {}
 
+/// Each refusal is by the rule of syntax: forms may be open in one another to any depth.
+pub fn refusals_are_by_the_rule_of_syntax()
+    ensures { (ts rest : List Token) (r : Rule) → read_algorithm ts ≡ Err (r, rest) → r ≡ Syntax }
+{}
+
 /// A refusal is not early: no algorithm begins with the tokens through the refused one, whatever comes after them; and what is
 /// refused, at a token or at the end, is no algorithm.
 pub fn nothing_passes_where_reading_stops()
@@ -34,4 +47,21 @@ pub fn nothing_passes_where_reading_stops()
 /// And a refusal is not late: what was passed before the refused token, or before the end, can be gone on with to a whole algorithm.
 pub fn refusals_are_at_the_earliest_place()
     ensures { (ts passed rest : List Token) (r : Rule) → read_algorithm ts ≡ Err (r, rest) → ts ≡ passed ++ rest → (fix : List Token) × (x : Text) × Good p_syntax x × (spell x [] ≡ passed ++ fix) }
+{}
+
+/// The tokens of a text pass just where they are read as an algorithm in which nowhere too many forms are open; and it is theirs.
+pub fn what_passes_is_read()
+    ensures read { (ts : List text.Token) (x : Text) (rest : List Token) → read_algorithm (views ts) ≡ Ok (x, rest) → IsTrue (list_all is_within (opens x)) → PassesTokens p_syntax ts × SpellsP ts (algorithm_of x) }
+    ensures passes { (ts : List text.Token) → PassesTokens p_syntax ts → (x : Text) × (read_algorithm (views ts) ≡ Ok (x, [])) × IsTrue (list_all is_within (opens x)) }
+{}
+
+/// Reading is refused at the first token that no algorithm has there, or at the end where none ends, as far as kinds and columns tell: so the
+/// tokens of a text are refused there, as long as those before it pass. And where they are refused by the rule of syntax, reading is refused there.
+pub fn tokens_are_refused_where_reading_stops()
+    ensures first { (ts passed rest : List Token) (r : Rule) → read_algorithm ts ≡ Err (r, rest) → ts ≡ passed ++ rest
+        → Begins (algorithms p_syntax) (take (length passed) (to_end ts)) × (Begins (algorithms p_syntax) (take (suc (length passed)) (to_end ts)) → ⊥) }
+    ensures refused { (ts : List text.Token) (passed rest : List Token) (end : Place) (r : Rule) → read_algorithm (views ts) ≡ Err (r, rest) → views ts ≡ passed ++ rest → Passes (algorithms p_syntax) (map Some (looks passed))
+        → RefusesTokens p_syntax ts end (record { rule = r; place = get_or (map (λ (t : text.Token). t.place) ts) (length passed) end }) }
+    ensures syntax { (ts : List text.Token) (end at : Place) → RefusesTokens p_syntax ts end (record { rule = Syntax; place = at })
+        → (passed rest : List Token) × (read_algorithm (views ts) ≡ Err (Syntax, rest)) × (views ts ≡ passed ++ rest) × (at ≡ get_or (map (λ (t : text.Token). t.place) ts) (length passed) end) }
 {}

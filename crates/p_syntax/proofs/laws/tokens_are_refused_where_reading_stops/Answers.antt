@@ -1,0 +1,12 @@
+-- Proves the law `tokens_are_refused_where_reading_stops`.
+use Rattle.p_syntax.proofs.Stops.{refused_there, is_refused, refused_is_read_so}
+use Rattle.p_syntax.proofs.laws.tokens_are_refused_where_reading_stops.Goals as goal
+
+pub returns-clause-first : goal.returns-clause-first
+returns-clause-first c = refused_there
+
+pub returns-clause-refused : goal.returns-clause-refused
+returns-clause-refused c = is_refused
+
+pub returns-clause-syntax : goal.returns-clause-syntax
+returns-clause-syntax c = refused_is_read_so
