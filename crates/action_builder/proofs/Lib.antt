@@ -37,3 +37,11 @@ mod RowsSample
 pub mod Decided
 pub mod Witness
 pub mod WitnessPairs
+pub mod FitTrees
+pub mod FitItems
+pub mod FitStatements
+pub mod FitSides
+pub mod FitWritten
+pub mod FitSettled
+pub mod FitJumps
+pub mod FitCalls
