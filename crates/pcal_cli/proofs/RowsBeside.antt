@@ -1,7 +1,6 @@
 -- Worked examples of what is beside an algorithm, as tokens show it, by computation.
 use Rattle.std.specs.Prelude.{true, false, [], ◌∷◌, codes}
 use Rattle.std.proofs.Common.{◌≡◌, refl}
-use Rattle.tla_tree.specs.Lexical as tk
 use Rattle.tla_tree.specs.TokenViews.{word_kind}
 use Rattle.tla_token.specs.Signs.{is_among}
 use Rattle.first_path.specs.Form.{Parts, single, number_operand}

@@ -94,21 +94,25 @@ failed (Some ts) file R W P h = by (text_at ts file) h
     by (Some x) (inl e) = λ l o r w. absurd (r e)
     by (Some x) (inr e) = absurd cc
 
--- what is answered where nothing is in the way, as Q
-abbrev pub Completes : Option Command → Option Texts → Type 0 → Type 0 → Type 0 → Type 0
-Completes o ts R W Q = OfFile o (λ file. Tells ts file (λ x. length x ≤ most_bytes → form_offences x ≡ [] → (R → ⊥) → (W → ⊥) → Q))
+-- ---- what holds of a command's file and of its text, said otherwise
 
-pub completes : (o : Option Command) (ts : Option Texts) (R W P Q : Type 0) → (P → Q) → Completes o ts R W P → Completes o ts R W Q
-completes None ts R W P Q f h = tt
-completes (Some (translate file)) ts R W P Q f h = by (told_at ts file) h
+pub of_file : (o : Option Command) (P Q : Word → Type 0) → ((file : Word) → P file → Q file) → OfFile o P → OfFile o Q
+of_file None P Q f h = tt
+of_file (Some (translate file)) P Q f h = f file h
+
+pub of_text : (o : Option Command) (ts : Option Texts) (D E : List ℕ → Type 0) → ((x : List ℕ) → D x → E x) → OfFile o (λ file. Tells ts file D) → OfFile o (λ file. Tells ts file E)
+of_text o ts D E f h = of_file o (λ file. Tells ts file D) (λ file. Tells ts file E) (λ file k. by (told_at ts file) k) h
   where
-    by : (t : Option (List ℕ)) → IfSome t (λ x. length x ≤ most_bytes → form_offences x ≡ [] → (R → ⊥) → (W → ⊥) → P) → IfSome t (λ x. length x ≤ most_bytes → form_offences x ≡ [] → (R → ⊥) → (W → ⊥) → Q)
-    by None h = tt
-    by (Some x) h = λ l o r w. f (h l o r w)
+    by : (t : Option (List ℕ)) → IfSome t D → IfSome t E
+    by None k = tt
+    by (Some x) k = f x k
 
-pub completes_always : (o : Option Command) (ts : Option Texts) (R W Q : Type 0) → Q → Completes o ts R W Q
-completes_always None ts R W Q q = tt
-completes_always (Some (translate file)) ts R W Q q = of_all ts file _ (λ x l o r w. q)
+pub of_any_file : (o : Option Command) (Q : Word → Type 0) → ((file : Word) → Q file) → OfFile o Q
+of_any_file None Q q = tt
+of_any_file (Some (translate file)) Q q = q file
+
+pub of_any_text : (o : Option Command) (ts : Option Texts) (E : List ℕ → Type 0) → ((x : List ℕ) → E x) → OfFile o (λ file. Tells ts file E)
+of_any_text o ts E q = of_any_file o (λ file. Tells ts file E) (λ file. of_all ts file E q)
 
 -- the line of an answer was written, f being the file as it was looked at
 pub explains : (ts : Option Texts) (file f : Word) (a : Answer) (r : Result (Unit {0}) Failed) (old new : Option (List ℕ)) (before after : ℕ) → f ≡ file → IsCause ts file (status_of a) (refusal_in a)

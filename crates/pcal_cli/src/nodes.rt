@@ -15,10 +15,10 @@ ghost use Rattle.pcal_cli.specs.Built.{AreNodes, NodesIn, initial_tree};
 
 use crate::form::{Form, Operand, Right};
 use std::alloc::{AllocError, Global};
-use tla_pool::form::{Form as Shape, Strict};
 use tla_pool::Pool;
-use tla_tree::{Name, NodeId, Op, Text};
+use tla_pool::form::{Form as Shape, Strict};
 use tla_token::Place;
+use tla_tree::{Name, NodeId, Op, Text};
 
 /// What is written doesn't depend on places.
 const START: Place = Place { line: 1, col: 1 };

@@ -23,8 +23,8 @@ use module_text::split::split;
 use module_text::{Parts, with_translation, write_region};
 use std::alloc::{AllocError, Global};
 use tla_pool::Pool;
-use tla_tree::Text;
 use tla_token::{Place, Reading, Refusal, Rule, Span, Stop, Tokens, tokens_as};
+use tla_tree::Text;
 
 /// Why an algorithm of another form is refused; its place is the file's start.
 const LEFT_OUT: Refusal = Refusal {
