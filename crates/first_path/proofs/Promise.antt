@@ -36,6 +36,7 @@ promise x f h =
         only = λ n s. one_module (translation_of x f) n (module_at r.outside r.places f) s r.reads;
         variables = refl;
         vars = refl;
+        definitions = refl;
         next = next_is r.outside s.0 r.places f h.fit r.apart;
         init = init_is r.outside s.0 r.places f h.fit r.apart;
       };
