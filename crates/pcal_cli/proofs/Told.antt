@@ -1,6 +1,6 @@
 -- What was read is what is told, and what is written for it went out.
 use Rattle.std.specs.Prelude.{IfSome, OnOk, OnErr}
-use Rattle.std.proofs.Common.{◌≡◌, ◌⊎◌, ℕ, ◌<◌, ◌≤◌, List, [], length, Option, Some, None, Result, Ok, Err, ◌∙◌, ap, sym, subst, inl, inr, arith}
+use Rattle.std.proofs.Common.{◌≡◌, ◌⊎◌, ℕ, ◌<◌, ◌≤◌, List, [], length, Option, Some, None, Result, Ok, Err, ◌∙◌, refl, ap, sym, subst, inl, inr, arith}
 use Rattle.std.proofs.lemmas.Option.{none-some}
 use Rattle.outer_io.specs.declared.Failed.{Failed}
 use Rattle.outer_io.specs.Outer.{Texts, text_at, told_at, HasText, Tells, HasNoText, Grows, GrowsInPart, RoseBy}
@@ -14,7 +14,7 @@ use Rattle.promise.specs.Options.{no_options}
 use Rattle.promise.specs.Headline.{Headline}
 use Rattle.pcal_cli.specs.Words.{Command, translate}
 use Rattle.pcal_cli.specs.declared.status.Answer.{Answer}
-use Rattle.pcal_cli.specs.Answers.{status_of, refusal_in, line_of}
+use Rattle.pcal_cli.specs.Answers.{status_of, line_of}
 use Rattle.pcal_cli.specs.Causes.{OfFile, HasOffence, IsCause, Writes, WritesInPart, KeepsPromise, Told, Explains}
 
 -- a fact of the text that was read is one of the text that is told
@@ -115,10 +115,10 @@ pub of_any_text : (o : Option Command) (ts : Option Texts) (E : List ℕ → Typ
 of_any_text o ts E q = of_any_file o (λ file. Tells ts file E) (λ file. of_all ts file E q)
 
 -- the line of an answer was written, f being the file as it was looked at
-pub explains : (ts : Option Texts) (file f : Word) (a : Answer) (r : Result (Unit {0}) Failed) (old new : Option (List ℕ)) (before after : ℕ) → f ≡ file → IsCause ts file (status_of a) (refusal_in a)
+pub explains : (ts : Option Texts) (file f : Word) (a : Answer) (r : Result (Unit {0}) Failed) (old new : Option (List ℕ)) (before after : ℕ) → f ≡ file → IsCause ts file a
     → OnOk r (Grows old new (line_of a f)) → OnErr r (GrowsInPart old new (line_of a f)) → OnErr r (RoseBy 1 before after) → OnOk r (after ≡ before)
     → Explains ts file (status_of a) old new before after
-explains ts file f a r old new before after e cause ok part rose same = record { refusal = refusal_in a; cause = cause; told = subst (λ x. Told old new before after (line_of a x)) e (by r ok part rose same) }
+explains ts file f a r old new before after e cause ok part rose same = record { answer = a; is = refl; cause = cause; told = subst (λ x. Told old new before after (line_of a x)) e (by r ok part rose same) }
   where
     by : (r : Result (Unit {0}) Failed) → OnOk r (Grows old new (line_of a f)) → OnErr r (GrowsInPart old new (line_of a f)) → OnErr r (RoseBy 1 before after) → OnOk r (after ≡ before) → Told old new before after (line_of a f)
     by (Ok u) ok part rose same = inl (ok, same)

@@ -1,14 +1,15 @@
 -- What is said of an answer is said of its number; where the words found no memory nothing was called but the error output.
 use Rattle.std.specs.Prelude.{◌≡◌, ◌<◌, ◌≤◌, [], length}
-use Rattle.std.proofs.Common.{◌∙◌, ap}
+use Rattle.std.proofs.Common.{◌∙◌, ap, refl}
 use Rattle.outer_io.specs.Outer.{RoseBy, HasNoText}
 use Rattle.tla_token.specs.Limits.{most_bytes}
 use Rattle.first_path.specs.FormRead.{form_offences}
 use Rattle.pcal_cli.specs.Answers.{status_number}
-use Rattle.pcal_cli.specs.Words.{words_given, command_in}
+use Rattle.pcal_cli.specs.Words.{words_given, command_in, file_in}
 use Rattle.pcal_cli.specs.Causes.{IsUnread, IsUnwritten, IsDone, HasOffence, EndedIn}
+use Rattle.pcal_cli.specs.declared.status.Answer.TheVariants as answer
 use Rattle.pcal_cli.specs.declared.status.Status.TheVariants.{Memory}
-use Rattle.pcal_cli.proofs.Told.{of_file, of_text, of_any_file, of_any_text}
+use Rattle.pcal_cli.proofs.Told.{explains, of_file, of_text, of_any_file, of_any_text}
 use Rattle.pcal_cli.proofs.program.run.Goals.{in-Ok, in-Err}
 use Rattle.pcal_cli.proofs.program.run.Goals as goal
 
@@ -60,4 +61,16 @@ returns-clause-complete g c =
       | in-Err w ↦
           of_any_text o texts (λ x. length x ≤ most_bytes → form_offences x ≡ [] → (R → ⊥) → (W → ⊥) → EndedIn c.from.result IsDone)
           (λ x l k r v. (Memory, e ∙ ap status_number w.status-is, tt))
+    ]
+
+pub returns-clause-told : goal.returns-clause-told
+returns-clause-told g c =
+    let e = c.from.ensures ∙ c.number.ensures in
+    let file = file_in (words_given c.args.given) in
+    let texts = g.H.Shelf.texts c.args.shelf.now in
+    elim c.match-words_of.branch [
+      | in-Ok w ↦ (w.pcal-status.result, e ∙ ap status_number w.status-is, rw (← w.in-Ok.ensures, ← w.deref.ensures.value, w.err-is) w.pcal-status.ensures.told)
+      | in-Err w ↦
+          let t = w.tell.ensures in
+          (Memory, e ∙ ap status_number w.status-is, rw w.err-is (explains texts file file answer.Memory w.tell.result _ _ _ _ refl tt t.ok t.err t.cause t.ok_faults))
     ]
