@@ -38,6 +38,7 @@ pub struct Nodes {
     pub ended: NodeId,
 }
 
+/// A copy of a word, as a name.
 pub fn name_of(alloc: Global, word: &[u8]) -> Result<Name, AllocError>
     ensures { IfOk result (λ n. n ≡ word.now) }
 {
