@@ -10,6 +10,7 @@ pub mod rule;
 pub mod scan;
 pub mod sign;
 pub mod token;
+pub mod word;
 
 pub use fault::Reading;
 pub use part::{Class, Part, lexeme_at, outer_at, part_at};
