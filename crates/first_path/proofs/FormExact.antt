@@ -11,7 +11,7 @@ use Rattle.module_tree.specs.AlgorithmText.{AlgorithmText, algorithm_in}
 use Rattle.first_path.specs.Beside.{beside}
 use Rattle.first_path.specs.Form.{number_operand, variable_operand, Right, single, sum, Parts, is_small, is_small_right, suits, word, right_kinds, kinds, algorithm_kinds, IsForm}
 use Rattle.module_tree.specs.FileOffences.{splitting_offences}
-use Rattle.first_path.specs.FormRead.{on_some, if_so, parts_of, parts_in, if_none, suiting, form_of}
+use Rattle.first_path.specs.FormRead.{on_some, if_so, opened_parts_in, parts_in, if_none, suiting, file_form}
 use Rattle.first_path.proofs.Fit.{Fit, fit_of}
 use Rattle.first_path.proofs.FormKinds.{so, word_stands, Standing, parts_stand, parts_read, closing_kinds}
 use Rattle.first_path.proofs.FormFine.{fine, spared}
@@ -40,12 +40,12 @@ right_kinds_small v (sum variable_operand variable_operand) h = refl
 kinds_small : (w : Word) (f : Parts) → Fit f → list_all small_kind (word (codes "--algorithm") ∷ kinds w f) ≡ true
 kinds_small w f h = rw (h.initial, right_kinds_small f.variable f.right h.right) refl
 
-pub form_found : (x : List ℕ) (f : Parts) → form_of x ≡ Some f → IsForm x f
+pub form_found : (x : List ℕ) (f : Parts) → file_form x ≡ Some f → IsForm x f
 form_found x f e =
     let (none, e1) = none_wrong (splitting_offences x) _ f e in
     let (a, is_a, e2) = some_on (algorithm_in x) _ f e1 in
     let (m, is_m, e3) = some_on (title (walk x)) _ f e2 in
-    let (g, is_g, e4) = some_on (parts_of m (algorithm_kinds x a)) (suiting (beside (walk x))) f e3 in
+    let (g, is_g, e4) = some_on (opened_parts_in m (algorithm_kinds x a)) (suiting (beside (walk x))) f e3 in
     let s = so (suits (beside (walk x)) g) (Some g) f e4 in
     subst (λ (h : Parts). IsForm x h) (some_is s.1)
     (word_stands (codes "--algorithm") (algorithm_kinds x a) (parts_in m) g is_g (λ more k e5.
@@ -67,12 +67,12 @@ form_found x f e =
           suited = suited;
         }
 
-pub form_read : (x : List ℕ) (f : Parts) → IsForm x f → form_of x ≡ Some f
+pub form_read : (x : List ℕ) (f : Parts) → IsForm x f → file_form x ≡ Some f
 form_read x f h =
     let suit : Parts → Option Parts = suiting (beside (walk x)) in
-    ap (λ (os : List Offence). if_none os (on_some (algorithm_in x) (λ a. on_some (title (walk x)) (λ m. on_some (parts_of m (algorithm_kinds x a)) suit)))) (spared x h.fine)
-    ∙ ap (λ (o : Option AlgorithmText). on_some o (λ a. on_some (title (walk x)) (λ m. on_some (parts_of m (algorithm_kinds x a)) suit))) h.is_algorithm
-    ∙ ap (λ (o : Option Word). on_some o (λ m. on_some (parts_of m (algorithm_kinds x h.algorithm)) suit)) h.titled
-    ∙ ap (λ (ks : List Kind). on_some (parts_of f.title ks) suit) h.kinds_are
+    ap (λ (os : List Offence). if_none os (on_some (algorithm_in x) (λ a. on_some (title (walk x)) (λ m. on_some (opened_parts_in m (algorithm_kinds x a)) suit)))) (spared x h.fine)
+    ∙ ap (λ (o : Option AlgorithmText). on_some o (λ a. on_some (title (walk x)) (λ m. on_some (opened_parts_in m (algorithm_kinds x a)) suit))) h.is_algorithm
+    ∙ ap (λ (o : Option Word). on_some o (λ m. on_some (opened_parts_in m (algorithm_kinds x h.algorithm)) suit)) h.titled
+    ∙ ap (λ (ks : List Kind). on_some (opened_parts_in f.title ks) suit) h.kinds_are
     ∙ ap (λ (o : Option Parts). on_some o suit) (parts_read h.declared_by f h.is_declared h.fit)
     ∙ ap (λ (b : Bool). if_so b (Some f)) h.suited

@@ -5,8 +5,8 @@ use Rattle.tla_token.specs.declared.sign.Sign.TheVariants as sign
 use Rattle.tla_token.specs.Lexemes.{Kind, name, number, one}
 use Rattle.tla_token.proofs.Spelled.{same_bytes}
 use Rattle.tla_tree.specs.Tree.{Word}
-use Rattle.first_path.specs.Form.{Operand, number_operand, variable_operand, Right, single, sum, Parts, is_fit, operand_kind, right_kinds, kinds}
-use Rattle.first_path.specs.FormRead.{if_so, on_name, on_number, on_word, on_equal, on_semicolon, on_colon, on_assign, on_operand, on_right, on_end, declares, fit, parts_in}
+use Rattle.first_path.specs.Form.{Operand, number_operand, variable_operand, Right, single, sum, Parts, is_fit, operand_kind, right_kinds, kinds, declares}
+use Rattle.first_path.specs.FormRead.{if_so, on_name, on_number, on_word, on_equal, on_semicolon, on_colon, on_assign, on_operand, on_right, on_end, fit, parts_in}
 use Rattle.first_path.proofs.Names.{word_same}
 
 pub so : {A : Type 0} (b : Bool) (o : Option A) (r : A) → if_so b o ≡ Some r → (b ≡ true) × (o ≡ Some r)

@@ -7,7 +7,7 @@ use Rattle.tla_token.specs.Places.{place_at}
 use Rattle.tla_token.specs.Offences.{Offence, earlier, least}
 use Rattle.first_path.specs.Form.{Parts, IsForm}
 use Rattle.module_tree.specs.FileOffences.{splitting_offences}
-use Rattle.first_path.specs.FormRead.{form_of, offences_with, form_offences, FirstOffence, left_out}
+use Rattle.first_path.specs.FormRead.{file_form, offences_with, form_offences, FirstOffence, left_out}
 use Rattle.first_path.specs.Placed.{module_at, translation_of}
 use Rattle.promise.specs.Options.{no_options}
 use Rattle.promise.specs.Headline.{Headline}
@@ -36,12 +36,13 @@ promise x f h =
         only = λ n s. one_module (translation_of x f) n (module_at r.outside r.places f) s r.reads;
         variables = refl;
         vars = refl;
+        definitions = refl;
         next = next_is r.outside s.0 r.places f h.fit r.apart;
         init = init_is r.outside s.0 r.places f h.fit r.apart;
       };
     }
 
-pub written : (x : List ℕ) (f : Parts) → form_of x ≡ Some f → Written x (translation_of x f)
+pub written : (x : List ℕ) (f : Parts) → file_form x ≡ Some f → Written x (translation_of x f)
 written x f h =
     let is_form : IsForm x f = form_found x f h in
     record { parts = f; form = is_form; bytes = refl; promise = promise x f is_form; alone = algorithm_alone x f is_form }
@@ -49,21 +50,21 @@ written x f h =
 -- ---- offences
 
 -- the offences of a file by what is read of it
-pub no_offence : (x : List ℕ) (f : Parts) → form_of x ≡ Some f → form_offences x ≡ []
+pub no_offence : (x : List ℕ) (f : Parts) → file_form x ≡ Some f → form_offences x ≡ []
 no_offence x f h = (let g = form_found x f h in λ i. offences_with (spared x g.fine i) (h i))
 
 -- what breaks a rule before the algorithm is read is refused by it
 pub first_splitting : (x : List ℕ) (o : Offence) → least (splitting_offences x) ≡ Some o → least (form_offences x) ≡ Some o
 first_splitting x o e = by (splitting_offences x) e
   where
-    by : (os : List Offence) → least os ≡ Some o → least (offences_with os (form_of x)) ≡ Some o
+    by : (os : List Offence) → least os ≡ Some o → least (offences_with os (file_form x)) ≡ Some o
     by [] e = absurd (none-some o e)
     by (p ∷ os) e = e
 
-pub first_offence : (x : List ℕ) → splitting_offences x ≡ [] → form_of x ≡ None → FirstOffence x left_out
+pub first_offence : (x : List ℕ) → splitting_offences x ≡ [] → file_form x ≡ None → FirstOffence x left_out
 first_offence x e h = (0, ap least (λ i. offences_with (e i) (h i)), refl)
 
-pub not_both : (x : List ℕ) (f : Parts) (r : Refusal) → form_of x ≡ Some f → FirstOffence x r → ⊥
+pub not_both : (x : List ℕ) (f : Parts) (r : Refusal) → file_form x ≡ Some f → FirstOffence x r → ⊥
 not_both x f r h (at, e, p) = none-some (r.rule, at) (sym (ap least (no_offence x f h)) ∙ e)
 
 -- some offence is the first of a list that has one
@@ -76,9 +77,9 @@ some_least o os = by (least os) refl
 
 -- what isn't of the form is refused
 pub other_refused : (x : List ℕ) → ((f : Parts) → IsForm x f → ⊥) → splitting_offences x ≡ [] → FirstOffence x left_out
-other_refused x h s = by (form_of x) refl
+other_refused x h s = by (file_form x) refl
   where
-    by : (o : Option Parts) → form_of x ≡ o → FirstOffence x left_out
+    by : (o : Option Parts) → file_form x ≡ o → FirstOffence x left_out
     by None e = first_offence x s e
     by (Some f) e = absurd (h f (form_found x f e))
 
@@ -90,5 +91,5 @@ some_refusal x h = by (splitting_offences x) refl
     by (o ∷ os) e =
         let l = some_least o os in (
           record { rule = l.0.0; place = place_at x l.0.1 },
-          (l.0.1, ap (λ (os : List Offence). least (offences_with os (form_of x))) e ∙ l.1, refl),
+          (l.0.1, ap (λ (os : List Offence). least (offences_with os (file_form x))) e ∙ l.1, refl),
         )

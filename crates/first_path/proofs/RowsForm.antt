@@ -8,9 +8,9 @@ use Rattle.module_tree.specs.Walk.{walk}
 use Rattle.first_path.specs.Beside.{beside}
 use Rattle.first_path.specs.Form.{number_operand, variable_operand, Right, single, sum, Parts}
 use Rattle.promise.specs.Translates.{Translates}
-use Rattle.first_path.specs.FormRead.{form_of, form_offences}
+use Rattle.first_path.specs.FormRead.{file_form, form_offences}
 use Rattle.first_path.specs.Placed.{Places, algorithm_at, translation_of}
-use Rattle.first_path.specs.Worked.{worked_parts, full_text, full_parts, full_translation}
+use Rattle.first_path.specs.Worked.{worked_parts, full_front, full_back, full_text, full_parts}
 
 -- ---- the algorithm
 
@@ -26,14 +26,14 @@ parts_with r = record { title = codes "M"; algorithm = codes "Inc"; variable = c
 abbrev increment : Parts
 increment = parts_with (sum variable_operand (number_operand 1))
 
-sum_is : form_of (module_with (codes "x := x + 1;")) ≡ Some increment
+sum_is : file_form (module_with (codes "x := x + 1;")) ≡ Some increment
 sum_is = refl
 
-constant : form_of (module_with (codes "x := 7;")) ≡ Some (parts_with (single (number_operand 7)))
+constant : file_form (module_with (codes "x := 7;")) ≡ Some (parts_with (single (number_operand 7)))
 constant = refl
 
 -- comments and line ends between its tokens
-commented : form_of (module_with (codes "x \\* it counts\n := (* by (* one *) *)\r\n\tx + 1;")) ≡ Some increment
+commented : file_form (module_with (codes "x \\* it counts\n := (* by (* one *) *)\r\n\tx + 1;")) ≡ Some increment
 commented = refl
 
 no_offence : form_offences (module_with (codes "x := x;")) ≡ []
@@ -63,7 +63,7 @@ beside_is : beside (walk (module_beside (codes "EXTENDS Naturals, TLC\nCONSTANT 
     }
 beside_is = refl
 
-naturals : form_of (module_beside (codes "EXTENDS Naturals\nCONSTANT N\n") (codes "Inv == x >= 0\n")) ≡ Some increment
+naturals : file_form (module_beside (codes "EXTENDS Naturals\nCONSTANT N\n") (codes "Inv == x >= 0\n")) ≡ Some increment
 naturals = refl
 
 -- `+` is no sign of a module that extends none
@@ -78,7 +78,7 @@ label_after : form_offences (module_beside (codes "EXTENDS Integers\n") (codes "
 label_after = refl
 
 -- a bound name may be the variable's, and not the label's, which would get a number
-variable_bound : form_of (module_beside (codes "EXTENDS Integers\nTwice(x) == x + x\n") []) ≡ Some increment
+variable_bound : file_form (module_beside (codes "EXTENDS Integers\nTwice(x) == x + x\n") []) ≡ Some increment
 variable_bound = refl
 
 label_bound : form_offences (module_beside (codes "EXTENDS Integers\nTwice(A) == A + A\n") []) ≡ (LeftOutWord, 0) ∷ []
@@ -93,15 +93,18 @@ own_outside = refl
 
 -- ---- the file
 
-full_form : form_of full_text ≡ Some full_parts
+full_form : file_form full_text ≡ Some full_parts
 full_form = refl
+
+abbrev full_translation : List ℕ
+full_translation = full_front ++ (codes "\\* BEGIN TRANSLATION\nVARIABLES x, pc\n\nvars == <<x, pc>>\n\nInit ==\n  /\\ x = 0\n  /\\ pc = \"A\"\n\nA ==\n  /\\ (pc = \"A\")\n  /\\ x' = (x + 1)\n  /\\ pc' = \"Done\"\n\nTerminating ==\n  /\\ (pc = \"Done\")\n  /\\ UNCHANGED vars\n\nNext ==\n  \\/ A\n  \\/ Terminating\n\nSpec ==\n  /\\ Init\n  /\\ [][Next]_vars\n\nTermination == <>(pc = \"Done\")\n\\* END TRANSLATION" ++ full_back)
 
 full_written : translation_of full_text full_parts ≡ full_translation
 unfolding digits
 full_written = refl
 
 -- with its translation it has the form too, and is translated to itself
-again : form_of full_translation ≡ Some full_parts
+again : file_form full_translation ≡ Some full_parts
 again = refl
 
 written_again : translation_of full_translation full_parts ≡ full_translation

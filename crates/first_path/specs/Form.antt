@@ -73,7 +73,11 @@ abbrev pub right_kinds : Word → Right → List Kind → List Kind
 right_kinds v (single a) ks = operand_kind v a ∷ ks
 right_kinds v (sum a b) ks = operand_kind v a ∷ one sign.Plus ∷ operand_kind v b ∷ ks
 
--- after `--algorithm`, with `variables` or `variable` as the word
+-- `variables` or `variable`
+abbrev pub declares : Word → Bool
+declares w = bytes_eq w (codes "variables") || bytes_eq w (codes "variable")
+
+-- after `--algorithm`, with one of these as the word
 abbrev pub kinds : Word → Parts → List Kind
 kinds w f =
     word f.algorithm ∷ word w ∷ word f.variable ∷ one sign.Equal ∷ kind.number f.initial ∷ one sign.Semicolon ∷ word (codes "begin") ∷
@@ -114,7 +118,7 @@ pub record IsForm (x : List ℕ) (f : Parts) : Type 0 where
   pub is_algorithm : algorithm_in x ≡ Some algorithm
   pub titled : title (walk x) ≡ Some f.title
   pub declared_by : Word
-  pub is_declared : IsTrue (bytes_eq declared_by (codes "variables") || bytes_eq declared_by (codes "variable"))
+  pub is_declared : IsTrue (declares declared_by)
   pub kinds_are : algorithm_kinds x algorithm ≡ word (codes "--algorithm") ∷ kinds declared_by f
   pub fit : IsTrue (is_fit f)
   pub suited : IsTrue (suits (beside (walk x)) f)

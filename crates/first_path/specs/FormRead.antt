@@ -1,5 +1,5 @@
 -- Reading the form of an algorithm, as a function, and the offences of a file that hasn't it.
-use Rattle.std.specs.Prelude.{◌≡◌, ℕ, Bool, true, false, ◌||◌, List, [], ◌∷◌, Option, Some, None, codes}
+use Rattle.std.specs.Prelude.{◌≡◌, ℕ, Bool, true, false, List, [], ◌∷◌, Option, Some, None, codes}
 use Rattle.std.specs.Str.{bytes_eq}
 use Rattle.tla_token.specs.declared.rule.Rule.TheVariants.{LeftOutWord}
 use Rattle.tla_token.specs.declared.sign.Sign.TheVariants as sign
@@ -14,7 +14,7 @@ use Rattle.module_tree.specs.FileParts.{title}
 use Rattle.module_tree.specs.AlgorithmText.{algorithm_in}
 use Rattle.module_tree.specs.FileOffences.{splitting_offences}
 use Rattle.first_path.specs.Beside.{Beside, beside}
-use Rattle.first_path.specs.Form.{Operand, number_operand, variable_operand, Right, single, sum, Parts, is_fit, suits, algorithm_kinds}
+use Rattle.first_path.specs.Form.{Operand, number_operand, variable_operand, Right, single, sum, Parts, is_fit, suits, algorithm_kinds, declares}
 
 abbrev pub if_so : {A : Type 0} → Bool → Option A → Option A
 if_so true o = o
@@ -63,9 +63,6 @@ abbrev pub on_end : {A : Type 0} → List Kind → Option A → Option A
 on_end [] o = o
 on_end _ o = None
 
-abbrev pub declares : Word → Bool
-declares w = bytes_eq w (codes "variables") || bytes_eq w (codes "variable")
-
 abbrev pub fit : Parts → Option Parts
 fit f = if_so (is_fit f) (Some f)
 
@@ -80,8 +77,8 @@ parts_in m ks =
     on_end ks (fit (record { title = m; algorithm = a; variable = v; initial = n; label = l; right = r })))))))))))))))))))
 
 -- those of the algorithm whose tokens are of these kinds, the first of them too
-abbrev pub parts_of : Word → List Kind → Option Parts
-parts_of m ks = on_word (codes "--algorithm") ks (parts_in m)
+abbrev pub opened_parts_in : Word → List Kind → Option Parts
+opened_parts_in m ks = on_word (codes "--algorithm") ks (parts_in m)
 
 -- ---- the file
 
@@ -93,10 +90,10 @@ abbrev pub suiting : Beside → Parts → Option Parts
 suiting o f = if_so (suits o f) (Some f)
 
 -- the parts of the algorithm in a file that has the form; a number that is too big doesn't fit it
-abbrev pub form_of : List ℕ → Option Parts
-form_of x =
+abbrev pub file_form : List ℕ → Option Parts
+file_form x =
     if_none (splitting_offences x) (on_some (algorithm_in x) (λ a. on_some (title (walk x)) (λ m.
-    on_some (parts_of m (algorithm_kinds x a)) (suiting (beside (walk x))))))
+    on_some (opened_parts_in m (algorithm_kinds x a)) (suiting (beside (walk x))))))
 
 -- ---- its offences
 
@@ -107,7 +104,7 @@ offences_with [] None = (LeftOutWord, 0) ∷ []
 offences_with (o ∷ os) f = o ∷ os
 
 abbrev pub form_offences : List ℕ → List Offence
-form_offences x = offences_with (splitting_offences x) (form_of x)
+form_offences x = offences_with (splitting_offences x) (file_form x)
 
 -- the file is refused so: by its first offence
 abbrev pub FirstOffence : List ℕ → Refusal → Type 0

@@ -62,6 +62,3 @@ full_text = full_front ++ (codes "\\* BEGIN TRANSLATION\nVARIABLES y, pc\n\\* EN
 
 abbrev pub full_parts : Parts
 full_parts = worked_parts
-
-abbrev pub full_translation : List ℕ
-full_translation = full_front ++ (codes "\\* BEGIN TRANSLATION\nVARIABLES x, pc\n\nvars == <<x, pc>>\n\nInit ==\n  /\\ x = 0\n  /\\ pc = \"A\"\n\nA ==\n  /\\ (pc = \"A\")\n  /\\ x' = (x + 1)\n  /\\ pc' = \"Done\"\n\nTerminating ==\n  /\\ (pc = \"Done\")\n  /\\ UNCHANGED vars\n\nNext ==\n  \\/ A\n  \\/ Terminating\n\nSpec ==\n  /\\ Init\n  /\\ [][Next]_vars\n\nTermination == <>(pc = \"Done\")\n\\* END TRANSLATION" ++ full_back)

@@ -12,7 +12,7 @@ ghost use Rattle.pcal_tree.specs.InitialStates.{Initial, InitFault};
 ghost use Rattle.module_tree.specs.Reading.{Reads};
 ghost use Rattle.module_tree.specs.FileOffences.{splitting_offences};
 ghost use Rattle.first_path.specs.Form.{Parts, IsForm};
-ghost use Rattle.first_path.specs.FormRead.{form_of, form_offences, FirstOffence, left_out};
+ghost use Rattle.first_path.specs.FormRead.{file_form, form_offences, FirstOffence, left_out};
 ghost use Rattle.first_path.specs.Placed.{Places, algorithm_at, module_at, translation_of};
 ghost use Rattle.promise.specs.ConstantsAndStates.{AreConstants, IsState};
 ghost use Rattle.promise.specs.Options.{no_options};
@@ -22,8 +22,8 @@ ghost use Rattle.pcal_tree.specs.Faults.{Sound};
 
 /// The parts of a file of the form are those that are read of it, and no file that isn't of the form gives any.
 pub fn forms_are_read()
-    ensures found { (x : List ℕ) (f : Parts) → form_of x ≡ Some f → IsForm x f }
-    ensures read { (x : List ℕ) (f : Parts) → IsForm x f → form_of x ≡ Some f }
+    ensures found { (x : List ℕ) (f : Parts) → file_form x ≡ Some f → IsForm x f }
+    ensures read { (x : List ℕ) (f : Parts) → IsForm x f → file_form x ≡ Some f }
 {}
 
 /// A file has an offence exactly if it isn't of the form. It is one for which the file is refused before its algorithm is

@@ -265,45 +265,46 @@ mod tests {
         Ok(MemShelf::new(texts, vec![in alloc; fails]?, most))
     }
 
-    /// Each row: the most bytes of a call, the length of the text and the most that `load` may read; the call that
-    /// fails, if not 0; how `load` fails, and how many bytes `put_all` writes.
+    const FAILED: Option<LoadFault> = Some(LoadFault::Failed);
+
+    const TOO_LONG: Option<LoadFault> = Some(LoadFault::TooLong);
+
+    /// The most bytes of a call, the length of the text and the most that `load` may read; the call that fails, if not 0;
+    /// how `load` fails, and how many bytes `put_all` writes.
+    const ROWS: [(usize, usize, u64, u64, Option<LoadFault>, usize); 22] = [
+        (1, 0, 0, 0, None, 0),
+        (7, 0, 0, 1, FAILED, 0),
+        (1, 3, 3, 0, None, 3),
+        (1, 3, 2, 0, TOO_LONG, 3),
+        (1, 3, 3, 1, FAILED, 0),
+        (1, 3, 3, 2, FAILED, 1),
+        (1, 3, 3, 3, FAILED, 2),
+        (1, 3, 3, 4, FAILED, 3),
+        (1, 3, 3, 5, None, 3),
+        (7, 20, 20, 0, None, 20),
+        (7, 20, 19, 0, TOO_LONG, 20),
+        (7, 20, 20, 1, FAILED, 0),
+        (7, 20, 20, 2, FAILED, 7),
+        (7, 20, 20, 3, FAILED, 14),
+        (7, 20, 20, 4, FAILED, 20),
+        (7, 20, 20, 5, None, 20),
+        (4096, 5000, 5000, 0, None, 5000),
+        (4096, 5000, 4999, 0, TOO_LONG, 5000),
+        (4096, 5000, 5000, 1, FAILED, 0),
+        (4096, 5000, 5000, 2, FAILED, 4096),
+        (4096, 5000, 5000, 3, FAILED, 5000),
+        (4096, 5000, 5000, 4, None, 5000),
+    ];
+
+    /// A text is read whole, or reading it fails so.
     #[test]
-    fn reads_and_writes_in_pieces(rt: HostRuntime) -> Result<(), Fail> {
+    fn reads_in_pieces(rt: HostRuntime) -> Result<(), Fail> {
         let alloc = rt.alloc();
-        let (failed, too_long) = (Some(LoadFault::Failed), Some(LoadFault::TooLong));
-        let rows = [
-            (1, 0, 0, 0, None, 0),
-            (7, 0, 0, 1, failed, 0),
-            (1, 3, 3, 0, None, 3),
-            (1, 3, 2, 0, too_long, 3),
-            (1, 3, 3, 1, failed, 0),
-            (1, 3, 3, 2, failed, 1),
-            (1, 3, 3, 3, failed, 2),
-            (1, 3, 3, 4, failed, 3),
-            (1, 3, 3, 5, None, 3),
-            (7, 20, 20, 0, None, 20),
-            (7, 20, 19, 0, too_long, 20),
-            (7, 20, 20, 1, failed, 0),
-            (7, 20, 20, 2, failed, 7),
-            (7, 20, 20, 3, failed, 14),
-            (7, 20, 20, 4, failed, 20),
-            (7, 20, 20, 5, None, 20),
-            (4096, 5000, 5000, 0, None, 5000),
-            (4096, 5000, 4999, 0, too_long, 5000),
-            (4096, 5000, 5000, 1, failed, 0),
-            (4096, 5000, 5000, 2, failed, 4096),
-            (4096, 5000, 5000, 3, failed, 5000),
-            (4096, 5000, 5000, 4, None, 5000),
-        ];
-        for (most, len, limit, fails, fault, taken) in rows {
-            assert!(rt; most > 0 && taken <= len);
+        for (most, len, limit, fails, fault, _) in ROWS {
+            assert!(rt; most > 0);
             let text = text_of(alloc, len)?;
-            let read = load(
-                alloc,
-                &mut shelf_of(alloc, &text, fails, most)?,
-                "text",
-                limit,
-            );
+            let mut shelf = shelf_of(alloc, &text, fails, most)?;
+            let read = load(alloc, &mut shelf, "text", limit);
             let whole = read
                 .as_ref()
                 .is_ok_and(|bytes| bytes.as_slice() == text.as_slice());
@@ -313,6 +314,17 @@ mod tests {
                 fault,
                 "call {fails} of {len} bytes, {most} a call"
             );
+        }
+        Ok(())
+    }
+
+    /// Of a text so many of the first bytes are written.
+    #[test]
+    fn writes_in_pieces(rt: HostRuntime) -> Result<(), Fail> {
+        let alloc = rt.alloc();
+        for (most, len, _, fails, _, taken) in ROWS {
+            assert!(rt; most > 0);
+            let text = text_of(alloc, len)?;
             let mut sink = MemSink::new(alloc, len, vec![in alloc; fails]?, most)?;
             let written = put_all(&mut sink, &text);
             assert_eq!(rt;

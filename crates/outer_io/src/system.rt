@@ -57,7 +57,8 @@ impl<R: Files + Drop> Shelf for DiskShelf<R> {
     }
 }
 
-/// A stream of the system, as its output or its errors. Each call flushes it.
+/// A stream of the system, as its output or its errors. Each call flushes it. Where the stream takes bytes and can't be
+/// flushed the call fails, though these bytes may be out: so of a stream a failed call may have taken some.
 #[derive(Drop)]
 pub struct StdSink<W: Write + Drop> {
     stream: W,
@@ -74,7 +75,7 @@ impl<W: Write + Drop> StdSink<W> {
     }
 }
 
-/// Writes the first bytes of a piece, and flushes.
+/// Writes the first bytes of a piece, and flushes; it fails where either fails.
 fn write_through<W: Write>(stream: &mut W, piece: &[u8]) -> io::Result<usize>
     ensures { IfOk result (λ n. n ≤ length piece.now) }
 {

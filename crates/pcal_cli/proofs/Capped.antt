@@ -7,9 +7,9 @@ use Rattle.tla_token.specs.Lexemes.{Kind, name, number, one}
 use Rattle.tla_token.specs.Words.{is_reserved}
 use Rattle.tla_token.specs.Limits.{past_numbers}
 use Rattle.tla_tree.specs.Tree.{Word}
-use Rattle.first_path.specs.Form.{Operand, number_operand, variable_operand, Right, single, sum, Parts, is_name, is_free, is_small, is_small_operand, is_small_right, is_fit}
-use Rattle.first_path.specs.FormRead.{if_so, on_name, on_number, on_word, on_equal, on_semicolon, on_colon, on_assign, on_operand, on_right, on_end, declares, fit, parts_in}
-use Rattle.pcal_cli.specs.FormTokens.{capped, capped_kind}
+use Rattle.first_path.specs.Form.{Operand, number_operand, variable_operand, Right, single, sum, Parts, is_name, is_free, is_small, is_small_operand, is_small_right, is_fit, declares}
+use Rattle.first_path.specs.FormRead.{if_so, on_name, on_number, on_word, on_equal, on_semicolon, on_colon, on_assign, on_operand, on_right, on_end, fit, parts_in}
+use Rattle.pcal_cli.specs.laws.FormTokens.{capped, capped_kind}
 
 abbrev capped_operand : Operand → Operand
 capped_operand (number_operand n) = number_operand (capped n)

@@ -44,7 +44,7 @@ all_three old mid last new a b c g h k = grows_both old last new (a ++ b) c (gro
 pub refusal_parts : (r : Refusal) → refusal_text r ≡ (decimal r.place.line ++ (codes ":" ++ decimal r.place.col)) ++ codes ": " ++ rule_text r.rule
 refusal_parts r = simp append_assoc
 
-pub refused_parts : (file : Word) (r : Refusal) → refused_line file (Some r) ≡ (codes "pcal: " ++ (file ++ codes ":")) ++ refusal_text r ++ codes "\n"
+pub refused_parts : (file : Word) (r : Refusal) → refused_line file r ≡ (codes "pcal: " ++ (file ++ codes ":")) ++ refusal_text r ++ codes "\n"
 refused_parts file r = simp append_assoc
 
 -- ---- digits

@@ -4,9 +4,9 @@ use Rattle.std.specs.Str.{bytes_eq}
 use Rattle.tla_token.specs.declared.sign.Sign.TheVariants as sign
 use Rattle.tla_token.specs.Lexemes.{Kind, name, number, one}
 use Rattle.tla_tree.specs.Tree.{Word}
-use Rattle.first_path.specs.Form.{Operand, number_operand, variable_operand, Right, single, sum, Parts}
-use Rattle.first_path.specs.FormRead.{on_some, if_so, on_name, on_number, on_word, on_equal, on_semicolon, on_colon, on_assign, on_operand, on_right, on_end, declares, fit, parts_in}
-use Rattle.pcal_cli.specs.FormTokens.{name_in, number_in, after_word, after_plus, after_sign, operand_in, sum_from, right_in, after_declares, declaration_in, statement_in, algorithm_in}
+use Rattle.first_path.specs.Form.{Operand, number_operand, variable_operand, Right, single, sum, Parts, declares}
+use Rattle.first_path.specs.FormRead.{on_some, if_so, on_name, on_number, on_word, on_equal, on_semicolon, on_colon, on_assign, on_operand, on_right, on_end, fit, parts_in}
+use Rattle.pcal_cli.specs.laws.FormTokens.{name_in, number_in, after_word, after_plus, after_sign, operand_in, sum_from, right_in, after_declares, declaration_in, statement_in, parts_ahead}
 
 in_turn : {A B C : Type 0} (o : Option A) (f : A → Option B) (g : B → Option C) → on_some (on_some o f) g ≡ on_some o (λ a. on_some (f a) g)
 in_turn None f g = refl
@@ -136,7 +136,7 @@ statement_step {A = A} v f go ks h =
 
 -- ---- the algorithm
 
-pub algorithm_read : (m : Word) (ks : List Kind) → parts_in m ks ≡ algorithm_in m ks
+pub algorithm_read : (m : Word) (ks : List Kind) → parts_in m ks ≡ parts_ahead m ks
 algorithm_read m ks =
     name_step _ named ks (λ a r. declaration_step _ (declared a) r (λ v n r. word_step (codes "begin") _ (begun a v n) r (λ r. statement_step v _ (stated a v n) r (λ l e r.
     word_step (codes "end") _ (ended a v n l e) r (λ r. word_step (codes "algorithm") _ (closed a v n l e) r (λ r. refl))))))

@@ -9,3 +9,4 @@ pub mod Capped
 pub mod AlgorithmRead
 pub mod FormFound
 pub mod RowsBeside
+pub mod RowsAnswers

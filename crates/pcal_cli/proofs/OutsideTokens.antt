@@ -26,7 +26,7 @@ use Rattle.tla_tree.specs.declared.op.Op.TheVariants as op
 use Rattle.tla_value.specs.StandardModules.{has_operator}
 use Rattle.first_path.specs.Beside.{Beside, declared_by}
 use Rattle.first_path.specs.Form.{Parts, is_taken, is_sum, suits}
-use Rattle.pcal_cli.specs.OutsideTokens.{clashes, Shown, identifier, keyword, neither, shown, shown_as, begins_shown, holds_of, keyword_shown, view_seen}
+use Rattle.pcal_cli.specs.OutsideTokens.{clashes, Shown, identifier, keyword, neither, shown, shown_as, holds_of, keyword_shown, view_seen}
 
 -- ---- tokens
 
@@ -65,22 +65,38 @@ keyword_is (tk.word w) = refl
 keyword_is (tk.reserved w) = refl
 keyword_is _ = refl
 
-starts : (b : Bool) → ((b && true) || false) ≡ b
+-- a unit begins with an identifier in column 1, with a word that stands in no expression as with that word, and with nothing else
+starts : (b : Bool) → b ≡ ((b && true) || false)
 starts true = refl
 starts false = refl
 
-starts_not : (b : Bool) → ((b && false) || false) ≡ false
+starts_not : (b : Bool) → false ≡ ((b && false) || false)
 starts_not true = refl
 starts_not false = refl
 
-pub begins_is : (t : Token) → begins_unit t ≡ begins_shown t.place.col (shown t.kind)
-begins_is t = by t.kind
+pub identifier_begins : (t : Token) (w : Word) → shown t.kind ≡ identifier w → nat_eq t.place.col 1 ≡ begins_unit t
+identifier_begins t w e = by t.kind e
   where
-    by : (k : TokenView) → ((nat_eq t.place.col 1 && is_starter k) || is_bar k) ≡ begins_shown t.place.col (shown k)
-    by (tk.word x) = starts (nat_eq t.place.col 1)
-    by (tk.reserved x) = starts (nat_eq t.place.col 1)
-    by (tk.other w) = refl
-    by _ = starts_not (nat_eq t.place.col 1)
+    by : (k : TokenView) → shown k ≡ identifier w → nat_eq t.place.col 1 ≡ ((nat_eq t.place.col 1 && is_starter k) || is_bar k)
+    by (tk.word x) e = starts (nat_eq t.place.col 1)
+    by (tk.reserved x) e = starts (nat_eq t.place.col 1)
+    by _ e = absurd cc
+
+pub keyword_begins : (t : Token) (w : Word) → shown t.kind ≡ keyword w → begins_unit (record { kind = tk.other w; place = t.place }) ≡ begins_unit t
+keyword_begins t w e = by t.kind e
+  where
+    by : (k : TokenView) → shown k ≡ keyword w → begins_unit (record { kind = tk.other w; place = t.place }) ≡ ((nat_eq t.place.col 1 && is_starter k) || is_bar k)
+    by (tk.other v) e = (let s : w ≡ v = cc in ap (λ (u : Word). begins_unit (record { kind = tk.other u; place = t.place })) s)
+    by _ e = absurd cc
+
+pub neither_begins : (t : Token) → shown t.kind ≡ neither → false ≡ begins_unit t
+neither_begins t e = by t.kind e
+  where
+    by : (k : TokenView) → shown k ≡ neither → false ≡ ((nat_eq t.place.col 1 && is_starter k) || is_bar k)
+    by (tk.word x) e = absurd cc
+    by (tk.reserved x) e = absurd cc
+    by (tk.other x) e = absurd cc
+    by _ e = starts_not (nat_eq t.place.col 1)
 
 -- ---- words
 

@@ -1,11 +1,10 @@
 -- Worked examples of what is beside an algorithm, as tokens show it, by computation.
 use Rattle.std.specs.Prelude.{true, false, [], ◌∷◌, codes}
 use Rattle.std.proofs.Common.{◌≡◌, refl}
-use Rattle.tla_tree.specs.Lexical as tk
 use Rattle.tla_tree.specs.TokenViews.{word_kind}
 use Rattle.tla_token.specs.Signs.{is_among}
 use Rattle.first_path.specs.Form.{Parts, single, number_operand}
-use Rattle.pcal_cli.specs.OutsideTokens.{identifier, keyword, neither, shown, begins_shown, holds_of, keyword_shown, clashes}
+use Rattle.pcal_cli.specs.OutsideTokens.{identifier, keyword, neither, shown, holds_of, keyword_shown, clashes}
 
 abbrev parts : Parts
 parts = record { title = codes "M"; algorithm = codes "Inc"; variable = codes "x"; initial = 0; label = codes "A"; right = single (number_operand 7) }
@@ -22,15 +21,6 @@ unit_word = refl
 
 expression_word : shown (word_kind (codes "IF")) ≡ neither
 expression_word = refl
-
-in_column_one : begins_shown 1 (identifier (codes "x")) ≡ true
-in_column_one = refl
-
-in_column_two : begins_shown 2 (keyword (codes "CONSTANT")) ≡ false
-in_column_two = refl
-
-bar_anywhere : begins_shown 7 (keyword (codes "-----")) ≡ true
-bar_anywhere = refl
 
 found : holds_of (λ w. is_among (codes "x" ∷ []) w) (identifier (codes "x")) ≡ true
 found = refl

@@ -1,6 +1,6 @@
 -- What was read is what is told, and what is written for it went out.
 use Rattle.std.specs.Prelude.{IfSome, OnOk, OnErr}
-use Rattle.std.proofs.Common.{◌≡◌, ◌⊎◌, ℕ, ◌<◌, ◌≤◌, List, [], length, Option, Some, None, Result, Ok, Err, ◌∙◌, ap, sym, subst, inl, inr, arith}
+use Rattle.std.proofs.Common.{◌≡◌, ◌⊎◌, ℕ, ◌<◌, ◌≤◌, List, [], length, Option, Some, None, Result, Ok, Err, ◌∙◌, refl, ap, sym, subst, inl, inr, arith}
 use Rattle.std.proofs.lemmas.Option.{none-some}
 use Rattle.outer_io.specs.declared.Failed.{Failed}
 use Rattle.outer_io.specs.Outer.{Texts, text_at, told_at, HasText, Tells, HasNoText, Grows, GrowsInPart, RoseBy}
@@ -14,7 +14,7 @@ use Rattle.promise.specs.Options.{no_options}
 use Rattle.promise.specs.Headline.{Headline}
 use Rattle.pcal_cli.specs.Words.{Command, translate}
 use Rattle.pcal_cli.specs.declared.status.Answer.{Answer}
-use Rattle.pcal_cli.specs.Answers.{status_of, refusal_in, line_of}
+use Rattle.pcal_cli.specs.Answers.{status_of, line_of}
 use Rattle.pcal_cli.specs.Causes.{OfFile, HasOffence, IsCause, Writes, WritesInPart, KeepsPromise, Told, Explains}
 
 -- a fact of the text that was read is one of the text that is told
@@ -94,27 +94,31 @@ failed (Some ts) file R W P h = by (text_at ts file) h
     by (Some x) (inl e) = λ l o r w. absurd (r e)
     by (Some x) (inr e) = absurd cc
 
--- what is answered where nothing is in the way, as Q
-abbrev pub Completes : Option Command → Option Texts → Type 0 → Type 0 → Type 0 → Type 0
-Completes o ts R W Q = OfFile o (λ file. Tells ts file (λ x. length x ≤ most_bytes → form_offences x ≡ [] → (R → ⊥) → (W → ⊥) → Q))
+-- ---- what holds of a command's file and of its text, said otherwise
 
-pub completes : (o : Option Command) (ts : Option Texts) (R W P Q : Type 0) → (P → Q) → Completes o ts R W P → Completes o ts R W Q
-completes None ts R W P Q f h = tt
-completes (Some (translate file)) ts R W P Q f h = by (told_at ts file) h
+pub of_file : (o : Option Command) (P Q : Word → Type 0) → ((file : Word) → P file → Q file) → OfFile o P → OfFile o Q
+of_file None P Q f h = tt
+of_file (Some (translate file)) P Q f h = f file h
+
+pub of_text : (o : Option Command) (ts : Option Texts) (D E : List ℕ → Type 0) → ((x : List ℕ) → D x → E x) → OfFile o (λ file. Tells ts file D) → OfFile o (λ file. Tells ts file E)
+of_text o ts D E f h = of_file o (λ file. Tells ts file D) (λ file. Tells ts file E) (λ file k. by (told_at ts file) k) h
   where
-    by : (t : Option (List ℕ)) → IfSome t (λ x. length x ≤ most_bytes → form_offences x ≡ [] → (R → ⊥) → (W → ⊥) → P) → IfSome t (λ x. length x ≤ most_bytes → form_offences x ≡ [] → (R → ⊥) → (W → ⊥) → Q)
-    by None h = tt
-    by (Some x) h = λ l o r w. f (h l o r w)
+    by : (t : Option (List ℕ)) → IfSome t D → IfSome t E
+    by None k = tt
+    by (Some x) k = f x k
 
-pub completes_always : (o : Option Command) (ts : Option Texts) (R W Q : Type 0) → Q → Completes o ts R W Q
-completes_always None ts R W Q q = tt
-completes_always (Some (translate file)) ts R W Q q = of_all ts file _ (λ x l o r w. q)
+pub of_any_file : (o : Option Command) (Q : Word → Type 0) → ((file : Word) → Q file) → OfFile o Q
+of_any_file None Q q = tt
+of_any_file (Some (translate file)) Q q = q file
+
+pub of_any_text : (o : Option Command) (ts : Option Texts) (E : List ℕ → Type 0) → ((x : List ℕ) → E x) → OfFile o (λ file. Tells ts file E)
+of_any_text o ts E q = of_any_file o (λ file. Tells ts file E) (λ file. of_all ts file E q)
 
 -- the line of an answer was written, f being the file as it was looked at
-pub explains : (ts : Option Texts) (file f : Word) (a : Answer) (r : Result (Unit {0}) Failed) (old new : Option (List ℕ)) (before after : ℕ) → f ≡ file → IsCause ts file (status_of a) (refusal_in a)
+pub explains : (ts : Option Texts) (file f : Word) (a : Answer) (r : Result (Unit {0}) Failed) (old new : Option (List ℕ)) (before after : ℕ) → f ≡ file → IsCause ts file a
     → OnOk r (Grows old new (line_of a f)) → OnErr r (GrowsInPart old new (line_of a f)) → OnErr r (RoseBy 1 before after) → OnOk r (after ≡ before)
     → Explains ts file (status_of a) old new before after
-explains ts file f a r old new before after e cause ok part rose same = record { refusal = refusal_in a; cause = cause; told = subst (λ x. Told old new before after (line_of a x)) e (by r ok part rose same) }
+explains ts file f a r old new before after e cause ok part rose same = record { answer = a; is = refl; cause = cause; told = subst (λ x. Told old new before after (line_of a x)) e (by r ok part rose same) }
   where
     by : (r : Result (Unit {0}) Failed) → OnOk r (Grows old new (line_of a f)) → OnErr r (GrowsInPart old new (line_of a f)) → OnErr r (RoseBy 1 before after) → OnOk r (after ≡ before) → Told old new before after (line_of a f)
     by (Ok u) ok part rose same = inl (ok, same)

@@ -1,5 +1,5 @@
 -- The answers of the program: their numbers, and the line that each writes on the error output.
-use Rattle.std.specs.Prelude.{ℕ, List, [], ◌++◌, codes, Option, Some, None}
+use Rattle.std.specs.Prelude.{ℕ, List, [], ◌++◌, codes}
 use Rattle.tla_token.specs.declared.rule.Refusal.{Refusal}
 use Rattle.tla_token.specs.Rules.{refusal_text}
 use Rattle.tla_tree.specs.Tree.{Word}
@@ -21,21 +21,6 @@ status_number Faulted = 8
 status_number Limit = 9
 status_number TooLong = 10
 
--- the line of a refusal: pcal: FILE:12:3: 45 AssignTwice
-abbrev pub refused_line : Word → Option Refusal → List ℕ
-refused_line file None = []
-refused_line file (Some r) = codes "pcal: " ++ (file ++ (codes ":" ++ (refusal_text r ++ codes "\n")))
-
--- the line that an answer of a command that writes a module has on the error output; file: the file meant, and where it was refused why
-abbrev pub error_line : Status → Word → Option Refusal → List ℕ
-error_line Memory file r = codes "pcal: out of memory\n"
-error_line Usage file r = codes "pcal: usage\n"
-error_line ReadFault file r = codes "pcal: cannot read " ++ (file ++ codes "\n")
-error_line WriteFault file r = codes "pcal: cannot write\n"
-error_line Refused file r = refused_line file r
-error_line TooLong file r = codes "pcal: " ++ (file ++ codes " is too long\n")
-error_line s file r = []
-
 -- ---- how a command ended that writes a module
 
 abbrev pub status_of : Answer → Status
@@ -47,9 +32,16 @@ status_of answer.WriteFault = WriteFault
 status_of (answer.Refused r) = Refused
 status_of answer.TooLong = TooLong
 
-abbrev pub refusal_in : Answer → Option Refusal
-refusal_in (answer.Refused r) = Some r
-refusal_in a = None
+-- the line of a refusal: pcal: FILE:12:3: 45 AssignTwice
+abbrev pub refused_line : Word → Refusal → List ℕ
+refused_line file r = codes "pcal: " ++ (file ++ (codes ":" ++ (refusal_text r ++ codes "\n")))
 
+-- the line that it has on the error output; file: the file meant
 abbrev pub line_of : Answer → Word → List ℕ
-line_of a file = error_line (status_of a) file (refusal_in a)
+line_of answer.Fine file = []
+line_of answer.Memory file = codes "pcal: out of memory\n"
+line_of answer.Usage file = codes "pcal: usage\n"
+line_of answer.ReadFault file = codes "pcal: cannot read " ++ (file ++ codes "\n")
+line_of answer.WriteFault file = codes "pcal: cannot write\n"
+line_of (answer.Refused r) file = refused_line file r
+line_of answer.TooLong file = codes "pcal: " ++ (file ++ codes " is too long\n")

@@ -11,9 +11,11 @@ use Rattle.tla_token.specs.declared.rule.Stop.{Stop}
 use Rattle.tla_token.specs.declared.rule.Stop.TheVariants as stop
 use Rattle.first_path.specs.FormRead.{FirstOffence}
 use Rattle.first_path.specs.Written.{Written}
+use Rattle.pcal_cli.specs.declared.status.Answer.{Answer}
+use Rattle.pcal_cli.specs.declared.status.Answer.TheVariants as answer
 use Rattle.pcal_cli.specs.declared.status.Status.{Status}
 use Rattle.pcal_cli.specs.declared.status.Status.TheVariants.{Fine, Memory, Usage, ReadFault, WriteFault, Refused, TooLong}
-use Rattle.pcal_cli.specs.Answers.{status_number, error_line}
+use Rattle.pcal_cli.specs.Answers.{status_number, status_of, line_of}
 use Rattle.pcal_cli.specs.Words.{Command, translate}
 
 -- what holds of the file of a command; where there is no command nothing is said
@@ -75,10 +77,9 @@ IsStop x stop.Memory = Unit {0}
 IsStop x (stop.Refused r) = FirstOffence x r
 
 -- on this answer: the file is refused by the first offence of its text
-abbrev pub IsCause : Option Texts → Word → Status → Option Refusal → Type 0
-IsCause texts file Refused (Some r) = Tells texts file (λ x. FirstOffence x r)
-IsCause texts file Refused None = ⊥
-IsCause texts file s r = Unit {0}
+abbrev pub IsCause : Option Texts → Word → Answer → Type 0
+IsCause texts file (answer.Refused r) = Tells texts file (λ x. FirstOffence x r)
+IsCause texts file a = Unit {0}
 
 -- ---- exit status
 
@@ -114,8 +115,9 @@ KeepsPromise options texts file old new = Tells texts file (λ x. (w : List ℕ)
 abbrev pub Told : Option (List ℕ) → Option (List ℕ) → ℕ → ℕ → List ℕ → Type 0
 Told old new before after bytes = (Grows old new bytes × (after ≡ before)) ⊎ (GrowsInPart old new bytes × RoseBy 1 before after)
 
--- so it took the line of an answer, where the file was refused that of the first offence of its text
+-- so it took the line of an answer of this status, where the file was refused that of the first offence of its text
 pub record Explains (texts : Option Texts) (file : Word) (s : Status) (old new : Option (List ℕ)) (before after : ℕ) : Type 0 where
-  pub refusal : Option Refusal
-  pub cause : IsCause texts file s refusal
-  pub told : Told old new before after (error_line s file refusal)
+  pub answer : Answer
+  pub is : status_of answer ≡ s
+  pub cause : IsCause texts file answer
+  pub told : Told old new before after (line_of answer file)

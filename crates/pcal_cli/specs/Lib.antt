@@ -4,7 +4,7 @@ pub mod Causes
 pub mod FormSeen
 pub mod Refusals
 pub mod Checked
-pub mod FormTokens
 pub mod AlgorithmTokens
 pub mod OutsideTokens
 pub mod Built
+pub mod laws

@@ -1,5 +1,5 @@
 -- Tokens in memory that are beside an algorithm, seen as the tokens of units.
-use Rattle.std.specs.Prelude.{ℕ, List, [], ◌++◌, ◌||◌, ◌&&◌, Bool, false, nat_eq, map, bytes_eq}
+use Rattle.std.specs.Prelude.{ℕ, List, [], ◌++◌, ◌||◌, Bool, false, map, bytes_eq}
 use Rattle.std.specs.List.{flat_map}
 use Rattle.tla_token.specs.declared.token.Token.{Token}
 use Rattle.tla_token.specs.declared.token.Tokens.{Tokens}
@@ -8,9 +8,7 @@ use Rattle.tla_tree.specs.Tree.{Word}
 use Rattle.tla_tree.specs.Lexical as tk
 use Rattle.tla_tree.specs.Lexical.{TokenView}
 use Rattle.tla_tree.specs.TokenViews.{view}
-use Rattle.tla_token.specs.Signs.{is_among}
-use Rattle.module_tree.specs.Beginnings.{is_rule}
-use Rattle.module_tree.specs.FileUnits.{unit_words, cut}
+use Rattle.module_tree.specs.FileUnits.{cut}
 use Rattle.module_tree.specs.Outside.{identifiers}
 use Rattle.first_path.specs.Beside.{Beside, declared_by, extended_by}
 use Rattle.first_path.specs.Form.{Parts, is_taken}
@@ -39,12 +37,6 @@ shown (tk.word x) = identifier x
 shown (tk.reserved x) = identifier x
 shown (tk.other w) = keyword w
 shown k = neither
-
--- a unit begins with a token in column n
-abbrev pub begins_shown : ℕ → Shown → Bool
-begins_shown n (identifier w) = nat_eq n 1
-begins_shown n (keyword w) = (nat_eq n 1 && is_among unit_words w) || is_rule w
-begins_shown n neither = false
 
 abbrev pub shown_as : Seen → Shown
 shown_as (seen.Identifier w) = identifier w.now

@@ -1,6 +1,6 @@
 //! The line that an answer has on the error output. It takes no memory: its texts go out one after the other.
 
-ghost use Rattle.std.specs.Prelude.{◌≡◌, ◌+◌, ◌≤◌, ◌++◌, drop, OnOk, OnErr, Some, decimal, codes};
+ghost use Rattle.std.specs.Prelude.{◌≡◌, ◌+◌, ◌≤◌, ◌++◌, drop, OnOk, OnErr, decimal, codes};
 ghost use Rattle.outer_io.specs.Outer.{RoseBy, Grows, GrowsInPart};
 ghost use Rattle.tla_token.specs.Rules.{rule_text, refusal_text};
 ghost use Rattle.pcal_cli.specs.Answers.{refused_line, line_of};
@@ -101,8 +101,8 @@ fn put_refusal<E: Sink>(err: &mut E, refusal: Refusal) -> Result<(), Failed>
 
 /// Writes the line of a refusal.
 fn put_refused<E: Sink>(err: &mut E, refusal: Refusal, file: &[u8]) -> Result<(), Failed>
-    ensures ok { OnOk result (Grows (E.wrote err.old) (E.wrote err.new) (refused_line file.now (Some refusal))) }
-    ensures err { OnErr result (GrowsInPart (E.wrote err.old) (E.wrote err.new) (refused_line file.now (Some refusal))) }
+    ensures ok { OnOk result (Grows (E.wrote err.old) (E.wrote err.new) (refused_line file.now refusal)) }
+    ensures err { OnErr result (GrowsInPart (E.wrote err.old) (E.wrote err.new) (refused_line file.now refusal)) }
     ensures cause { OnErr result (RoseBy 1 (E.faults err.old) (E.faults err.new)) }
     ensures ok_faults { OnOk result (E.faults err.new ≡ E.faults err.old) }
     ensures faults_grow { E.faults err.old ≤ E.faults err.new }

@@ -15,25 +15,35 @@ pub const PAST_NUMBERS: u128 = 1 << 127;
 /// A number, or the algorithm's variable.
 #[derive(Clone, Copy, PartialEq, Eq, Debug)]
 pub enum Operand {
+    /// This number.
     Number(u128),
+    /// The variable.
     Variable,
 }
 
 /// What the assignment has on its right side.
 #[derive(Clone, Copy, PartialEq, Eq, Debug)]
 pub enum Right {
+    /// An operand alone.
     One(Operand),
+    /// Left and right of `+`.
     Sum(Operand, Operand),
 }
 
 /// The parts of a text of the form. The names are stretches of the text.
 #[derive(Clone, Copy, PartialEq, Eq, Debug)]
 pub struct Form<'a> {
+    /// The module's name.
     pub title: &'a [u8],
+    /// The algorithm's name.
     pub algorithm: &'a [u8],
+    /// The name of the variable.
     pub variable: &'a [u8],
+    /// The variable's first value.
     pub initial: u128,
+    /// The name of the label.
     pub label: &'a [u8],
+    /// The right side of the assignment.
     pub right: Right,
 }
 

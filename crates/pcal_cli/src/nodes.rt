@@ -15,10 +15,10 @@ ghost use Rattle.pcal_cli.specs.Built.{AreNodes, NodesIn, initial_tree};
 
 use crate::form::{Form, Operand, Right};
 use std::alloc::{AllocError, Global};
-use tla_pool::form::{Form as Shape, Strict};
 use tla_pool::Pool;
-use tla_tree::{Name, NodeId, Op, Text};
+use tla_pool::form::{Form as Shape, Strict};
 use tla_token::Place;
+use tla_tree::{Name, NodeId, Op, Text};
 
 /// What is written doesn't depend on places.
 const START: Place = Place { line: 1, col: 1 };
@@ -38,6 +38,7 @@ pub struct Nodes {
     pub ended: NodeId,
 }
 
+/// A copy of a word, as a name.
 pub fn name_of(alloc: Global, word: &[u8]) -> Result<Name, AllocError>
     ensures { IfOk result (λ n. n ≡ word.now) }
 {

@@ -5,6 +5,7 @@ ghost use Rattle.std.specs.List.{list_any, flat_map};
 ghost use Rattle.tla_token.specs.Signs.{is_among as is_among_of};
 ghost use Rattle.tla_token.specs.Words.{is_standard as is_standard_of};
 ghost use Rattle.tla_token.specs.TokensSeen.{kind_seen};
+ghost use Rattle.tla_tree.specs.Lexical.{other};
 ghost use Rattle.tla_tree.specs.TokenViews.{word_kind, kind_of};
 ghost use Rattle.module_tree.specs.FileUnits.{begins_unit as begins_unit_of, cut};
 ghost use Rattle.module_tree.specs.Outside.{identifiers, first_one, is_define as is_define_of, title_at, opaque_of};
@@ -13,14 +14,14 @@ ghost use Rattle.tla_value.specs.StandardModules.{has_operator};
 ghost use Rattle.first_path.specs.Beside.{declared_by, extended_by};
 ghost use Rattle.first_path.specs.Form.{is_taken as is_taken_of, is_sum as is_sum_of, suits as suits_of};
 ghost use Rattle.pcal_cli.specs.FormSeen.{parts_of, right_of};
-ghost use Rattle.pcal_cli.specs.OutsideTokens.{begins_shown, keyword, view_seen, views_ahead, views_of, shown, shown_as, keyword_shown, holds_of, beside_of, clashes as clashes_of};
+ghost use Rattle.pcal_cli.specs.OutsideTokens.{view_seen, views_ahead, views_of, shown, shown_as, keyword_shown, holds_of, beside_of, clashes as clashes_of};
 
 use crate::form::{Form, Right};
 use crate::names::{
     is_among, is_own, is_pluscal_word, is_sequence_name, is_standard, is_tla_word, is_tlc_name,
 };
 use crate::rest::Rest;
-use tla_token::{Kind, Sign, Token, Tokens};
+use tla_token::{Kind, Place, Sign, Token, Tokens};
 
 /// The reserved words of TLA+ that stand in expressions.
 static EXPRESSION_WORDS: [&str; 15] = [
@@ -60,6 +61,7 @@ pub enum Seen<'a> {
     Identifier(&'a [u8]),
     /// A reserved word of TLA+ or a sign that stands in no expression.
     Keyword(&'a [u8]),
+    /// Any other token: a word or sign of expressions, a number, a string.
     Neither,
 }
 
@@ -91,11 +93,11 @@ fn look<'a>(tokens: &'a Tokens, token: &Token) -> Seen<'a>
     }
 }
 
-/// Whether a unit begins with this word or sign in a column.
-fn begins_at(col: u32, word: &[u8]) -> bool
-    ensures { result ≡ begins_shown col (keyword word.now) }
+/// Whether a unit begins with this word or sign at a place.
+fn begins_at(place: Place, word: &[u8]) -> bool
+    ensures { result ≡ begins_unit_of (record { kind = other word.now; place = place }) }
 {
-    (col == 1 && is_among(&UNIT_WORDS, word)) || word.starts_with(b"----")
+    (place.col == 1 && is_among(&UNIT_WORDS, word)) || word.starts_with(b"----")
 }
 
 /// Whether a unit begins with this token.
@@ -104,7 +106,7 @@ fn begins_unit(tokens: &Tokens, token: &Token) -> bool
 {
     match look(tokens, token) {
         Seen::Identifier(_) => token.place.col == 1,
-        Seen::Keyword(word) => begins_at(token.place.col, word),
+        Seen::Keyword(word) => begins_at(token.place, word),
         Seen::Neither => false,
     }
 }
@@ -310,7 +312,9 @@ fn unit_extends(tokens: &Tokens, name: &[u8]) -> bool
 /// The module's tokens before the translation, and those after it.
 #[derive(Clone, Copy)]
 pub struct Outside<'a> {
+    /// From the header to the translation.
     pub before: &'a Tokens,
+    /// From the translation to the module's end.
     pub after: &'a Tokens,
 }
 

@@ -1,12 +1,12 @@
 //! What `main` does: from the words as the system hands them over to the exit status.
 
-ghost use Rattle.std.specs.Prelude.{◌≡◌, ◌⊎◌, ◌<◌, ◌≤◌, [], length, IfOk, None};
+ghost use Rattle.std.specs.Prelude.{◌≡◌, ◌⊎◌, ◌+◌, ◌<◌, ◌≤◌, [], length, IfOk, None};
 ghost use Rattle.tla_token.specs.Limits.{most_bytes};
-ghost use Rattle.outer_io.specs.Outer.{RoseBy, HasNoText, Tells};
+ghost use Rattle.outer_io.specs.Outer.{RoseBy, RoseAbove, HasNoText, Tells, piece_bytes};
 ghost use Rattle.first_path.specs.FormRead.{form_offences};
 ghost use Rattle.pcal_cli.specs.Words.{words_given, command_in, file_in};
 ghost use Rattle.promise.specs.Options.{no_options};
-ghost use Rattle.pcal_cli.specs.Causes.{OfFile, IsNoCommand, IsDone, IsRead, HasOffence, LeavesOut, Writes, WritesInPart, KeepsPromise, Explains, Ended, EndedIn};
+ghost use Rattle.pcal_cli.specs.Causes.{OfFile, IsAnswer, IsNoCommand, IsUnread, IsUnwritten, IsDone, IsRead, HasOffence, LeavesOut, Writes, WritesInPart, KeepsPromise, Explains, Ended, EndedIn};
 
 use crate::error_line::tell;
 use crate::status::{Answer, Status, number};
@@ -32,7 +32,7 @@ fn words_of(alloc: Global, given: io::Result<Args>) -> Result<Vec<String>, Alloc
     Ok(words)
 }
 
-/// Does what the words of the command line mean, and ends with the number of the answer. Each clause is one of `pcal`,
+/// Does what the words of the command line mean, and ends with the number of the answer. Its clauses are those of `pcal`,
 /// said of the exit status.
 #[tactic(auto, using(crate::proofs::Numbers::number_is))]
 pub fn run<H: Shelf, K: Sink, E: Sink>(
@@ -42,23 +42,44 @@ pub fn run<H: Shelf, K: Sink, E: Sink>(
     out: &mut K,
     err: &mut E,
 ) -> ExitCode
-    ensures told { EndedIn result (λ s. Explains (H.texts shelf.old) (file_in (words_given given)) s (E.wrote err.old) (E.wrote err.new) (E.faults err.old) (E.faults err.new)) }
+    ensures answer { EndedIn result (λ s. IsAnswer s ⊎ (s ≡ Status.Usage)) }
     ensures usage { Ended result Status.Usage → command_in (words_given given) ≡ None }
     ensures no_command { command_in (words_given given) ≡ None → EndedIn result IsNoCommand }
     ensures read_fault { Ended result Status.ReadFault → RoseBy 1 (H.faults shelf.old) (H.faults shelf.new) ⊎ HasNoText (H.texts shelf.old) (file_in (words_given given)) }
     ensures write_fault { Ended result Status.WriteFault → RoseBy 1 (K.faults out.old) (K.faults out.new) }
+    ensures too_long { Ended result Status.TooLong → RoseAbove most_bytes (H.given shelf.old) (H.given shelf.new) }
     ensures longer { Ended result Status.TooLong → Tells (H.texts shelf.old) (file_in (words_given given)) (λ x. most_bytes < length x) }
     ensures refused { Ended result Status.Refused → Tells (H.texts shelf.old) (file_in (words_given given)) HasOffence }
+
+    // With what a command ends whose file isn't there, is too long, or has an offence, and one where nothing is in the way.
+    ensures lacking { OfFile (command_in (words_given given)) (λ file. HasNoText (H.texts shelf.old) file → EndedIn result IsUnread) }
+    ensures long { OfFile (command_in (words_given given)) (λ file. Tells (H.texts shelf.old) file (λ x. most_bytes < length x → EndedIn result IsUnread)) }
+    ensures offends { OfFile (command_in (words_given given)) (λ file. Tells (H.texts shelf.old) file (λ x. HasOffence x → EndedIn result IsUnwritten)) }
     ensures complete { OfFile (command_in (words_given given)) (λ file. Tells (H.texts shelf.old) file (λ x. length x ≤ most_bytes → form_offences x ≡ []
         → (RoseBy 1 (H.faults shelf.old) (H.faults shelf.new) → ⊥) → (RoseBy 1 (K.faults out.old) (K.faults out.new) → ⊥) → EndedIn result IsDone)) }
+
+    // What became of the outputs.
     ensures unused { EndedIn result LeavesOut → out.new ≡ out.old }
     ensures fine { Ended result Status.Fine → Tells (H.texts shelf.old) (file_in (words_given given)) (Writes (K.wrote out.old) (K.wrote out.new)) }
     ensures headline { Ended result Status.Fine → KeepsPromise no_options (H.texts shelf.old) (file_in (words_given given)) (K.wrote out.old) (K.wrote out.new) }
     ensures in_part { Ended result Status.WriteFault → Tells (H.texts shelf.old) (file_in (words_given given)) (WritesInPart (K.wrote out.old) (K.wrote out.new)) }
+    ensures told { EndedIn result (λ s. Explains (H.texts shelf.old) (file_in (words_given given)) s (E.wrote err.old) (E.wrote err.new) (E.faults err.old) (E.faults err.new)) }
+
+    // What a call leaves as it was, and how the counts rise: of the shelf's bytes, and of faults by one at most.
     ensures unread { Ended result Status.Usage → shelf.new ≡ shelf.old }
+    ensures texts_stay { H.texts shelf.new ≡ H.texts shelf.old }
     ensures given { EndedIn result IsRead → Tells (H.texts shelf.old) (file_in (words_given given)) (λ x. RoseBy (length x) (H.given shelf.old) (H.given shelf.new)) }
+    ensures read_once { Tells (H.texts shelf.old) (file_in (words_given given)) (λ x. H.given shelf.new ≤ H.given shelf.old + length x) }
+    ensures read_few { H.given shelf.new ≤ H.given shelf.old + most_bytes + piece_bytes }
+    ensures given_grows { H.given shelf.old ≤ H.given shelf.new }
     ensures read_counted { Ended result Status.ReadFault ⊎ (H.faults shelf.new ≡ H.faults shelf.old) }
+    ensures read_faults_grow { H.faults shelf.old ≤ H.faults shelf.new }
+    ensures one_read_fault { H.faults shelf.new ≤ H.faults shelf.old + 1 }
     ensures write_counted { Ended result Status.WriteFault ⊎ (K.faults out.new ≡ K.faults out.old) }
+    ensures write_faults_grow { K.faults out.old ≤ K.faults out.new }
+    ensures one_write_fault { K.faults out.new ≤ K.faults out.old + 1 }
+    ensures error_faults_grow { E.faults err.old ≤ E.faults err.new }
+    ensures one_error_fault { E.faults err.new ≤ E.faults err.old + 1 }
 {
     let status = match words_of(alloc, given) {
         Ok(words) => pcal(alloc, &words, shelf, out, err),

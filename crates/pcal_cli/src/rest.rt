@@ -7,7 +7,9 @@ use tla_token::{Token, Tokens};
 /// Some tokens, with all those that they are among.
 #[derive(Clone, Copy)]
 pub struct Rest<'a> {
+    /// All of them, with the bytes of their words.
     pub tokens: &'a Tokens,
+    /// Those that are still to be read.
     pub items: &'a [Token],
 }
 

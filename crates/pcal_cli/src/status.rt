@@ -54,12 +54,19 @@ pub fn number(status: Status) -> u8
 /// How a command ended that writes a module; where its file was refused, by which rule and where.
 #[derive(Clone, Copy, PartialEq, Eq, Debug)]
 pub enum Answer {
+    /// The module was written whole.
     Fine,
+    /// Memory could not be had.
     Memory,
+    /// The words mean no command.
     Usage,
+    /// The file could not be read.
     ReadFault,
+    /// The output could not be written; a part of it may have been.
     WriteFault,
+    /// The file offends this rule, at this place.
     Refused(Refusal),
+    /// The file is longer than the program reads.
     TooLong,
 }
 

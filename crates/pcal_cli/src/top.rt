@@ -6,7 +6,7 @@ ghost use Rattle.outer_io.specs.Outer.{RoseBy, RoseAbove, HasNoText, Tells, piec
 ghost use Rattle.promise.specs.Options.{no_options};
 ghost use Rattle.first_path.specs.FormRead.{form_offences};
 ghost use Rattle.pcal_cli.specs.Words.{translate as translate_of, command_in, file_in};
-ghost use Rattle.pcal_cli.specs.Answers.{status_of, refusal_in};
+ghost use Rattle.pcal_cli.specs.Answers.{status_of};
 ghost use Rattle.pcal_cli.specs.Causes.{OfFile, IsAnswer, IsUnread, IsUnwritten, IsDone, IsRead, HasOffence, IsCause, LeavesOut, Writes, WritesInPart, KeepsPromise, Explains};
 
 use crate::error_line::tell;
@@ -26,7 +26,7 @@ fn translate<H: Shelf, K: Sink>(alloc: Global, file: &str, shelf: &mut H, out: &
     ensures write_fault { status_of result ≡ Status.WriteFault → RoseBy 1 (K.faults out.old) (K.faults out.new) }
     ensures too_long { status_of result ≡ Status.TooLong → RoseAbove most_bytes (H.given shelf.old) (H.given shelf.new) }
     ensures longer { status_of result ≡ Status.TooLong → Tells (H.texts shelf.old) file.now (λ x. most_bytes < length x) }
-    ensures refused { IsCause (H.texts shelf.old) file.now (status_of result) (refusal_in result) }
+    ensures refused { IsCause (H.texts shelf.old) file.now result }
 
     // What is answered where the file isn't there, is too long, or has an offence, and where nothing is in the way.
     ensures lacking { HasNoText (H.texts shelf.old) file.now → IsUnread (status_of result) }

@@ -6,7 +6,7 @@ ghost use Rattle.module_tree.specs.Layout.{layout};
 ghost use Rattle.module_tree.specs.FileOffences.{splitting_offences};
 ghost use Rattle.module_text.specs.Splitting.{Splits};
 ghost use Rattle.first_path.specs.Form.{is_fit};
-ghost use Rattle.first_path.specs.FormRead.{form_of, form_offences};
+ghost use Rattle.first_path.specs.FormRead.{file_form, form_offences};
 ghost use Rattle.first_path.specs.Placed.{region_of, translation_of};
 ghost use Rattle.first_path.specs.Written.{Written};
 ghost use Rattle.pcal_cli.specs.AlgorithmTokens.{AreAlgorithm};
@@ -23,8 +23,8 @@ use module_text::split::split;
 use module_text::{Parts, with_translation, write_region};
 use std::alloc::{AllocError, Global};
 use tla_pool::Pool;
-use tla_tree::Text;
 use tla_token::{Place, Reading, Refusal, Rule, Span, Stop, Tokens, tokens_as};
+use tla_tree::Text;
 
 /// Why an algorithm of another form is refused; its place is the file's start.
 const LEFT_OUT: Refusal = Refusal {
@@ -78,7 +78,7 @@ fn form_in<'a>(parts: &'a Parts<'_>, tokens: &'a Tokens) -> Option<Form<'a>>
     requires parts { Splits parts.now.text.now parts.now }
     requires fine { splitting_offences parts.now.text.now ≡ [] }
     requires tokens { AreAlgorithm parts.now.text.now (Some tokens.now) }
-    ensures { MatchOption result (form_of parts.now.text.now ≡ None) (λ f. form_of parts.now.text.now ≡ Some (parts_of f)) }
+    ensures { MatchOption result (file_form parts.now.text.now ≡ None) (λ f. file_form parts.now.text.now ≡ Some (parts_of f)) }
 {
     let title = bytes_of(parts.text, parts.title);
     let form = algorithm_at(title, Rest::new(tokens))?;

@@ -1,7 +1,7 @@
 -- What holds of the first identifier is asked of it alone.
 use Rattle.std.proofs.Common.{◌∙◌, sym, ap, List}
 use Rattle.std.specs.List.{list_any}
-use Rattle.tla_expr.specs.Tree.{Word}
+use Rattle.tla_tree.specs.Tree.{Word}
 use Rattle.module_tree.specs.Outside.{first_one}
 use Rattle.pcal_cli.specs.FormSeen.{parts_of}
 use Rattle.pcal_cli.specs.OutsideTokens.{clashes}

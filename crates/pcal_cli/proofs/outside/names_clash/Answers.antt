@@ -2,7 +2,7 @@
 use Rattle.std.proofs.Common.{◌≡◌, ◌-◌, ◌∙◌, sym, ap, map, take, drop, length, List}
 use Rattle.std.specs.List.{list_any}
 use Rattle.std.proofs.lemmas.List.{drop-map}
-use Rattle.tla_expr.specs.Lexical.{Token}
+use Rattle.tla_tree.specs.Lexical.{Token}
 use Rattle.module_tree.specs.Outside.{identifiers}
 use Rattle.pcal_cli.specs.FormSeen.{parts_of}
 use Rattle.pcal_cli.specs.OutsideTokens.{clashes, view_seen, views_ahead}

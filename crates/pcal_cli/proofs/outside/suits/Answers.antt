@@ -1,7 +1,7 @@
 -- What suits, in the order in which it is asked.
 use Rattle.std.proofs.Common.{◌≡◌, ◌∙◌, sym, ap, refl, map, false, List}
 use Rattle.tla_token.specs.Signs.{is_among}
-use Rattle.tla_expr.specs.Tree.{Word}
+use Rattle.tla_tree.specs.Tree.{Word}
 use Rattle.module_tree.specs.Outside.{identifiers}
 use Rattle.pcal_cli.specs.FormSeen.{parts_of}
 use Rattle.pcal_cli.specs.OutsideTokens.{beside_of, view_seen, views_ahead, views_of}

@@ -1,25 +1,76 @@
--- Where nothing is in the way, the number is that of an answer which says so.
-use Rattle.std.proofs.Common.{◌∙◌, ap}
-use Rattle.outer_io.specs.Outer.{RoseBy}
+-- What is said of an answer is said of its number; where the words found no memory nothing was called but the error output.
+use Rattle.std.specs.Prelude.{◌≡◌, ◌<◌, ◌≤◌, [], length}
+use Rattle.std.proofs.Common.{◌∙◌, ap, refl}
+use Rattle.outer_io.specs.Outer.{RoseBy, HasNoText}
+use Rattle.tla_token.specs.Limits.{most_bytes}
+use Rattle.first_path.specs.FormRead.{form_offences}
 use Rattle.pcal_cli.specs.Answers.{status_number}
-use Rattle.pcal_cli.specs.Words.{words_given, command_in}
-use Rattle.pcal_cli.specs.Causes.{IsDone, EndedIn}
+use Rattle.pcal_cli.specs.Words.{words_given, command_in, file_in}
+use Rattle.pcal_cli.specs.Causes.{IsUnread, IsUnwritten, IsDone, HasOffence, EndedIn}
+use Rattle.pcal_cli.specs.declared.status.Answer.TheVariants as answer
 use Rattle.pcal_cli.specs.declared.status.Status.TheVariants.{Memory}
-use Rattle.pcal_cli.proofs.Told.{completes, completes_always}
+use Rattle.pcal_cli.proofs.Told.{explains, of_file, of_text, of_any_file, of_any_text}
 use Rattle.pcal_cli.proofs.program.run.Goals.{in-Ok, in-Err}
 use Rattle.pcal_cli.proofs.program.run.Goals as goal
+
+pub returns-clause-lacking : goal.returns-clause-lacking
+returns-clause-lacking g c =
+    let e = c.from.ensures ∙ c.number.ensures in
+    let o = command_in (words_given c.args.given) in
+    let texts = g.H.Shelf.texts c.args.shelf.now in
+    elim c.match-words_of.branch [
+      | in-Ok w ↦ of_file o (λ file. HasNoText texts file → IsUnread w.pcal-status.result) (λ file. HasNoText texts file → EndedIn c.from.result IsUnread)
+          (λ file h k. (w.pcal-status.result, e ∙ ap status_number w.status-is, h k)) (rw (← w.in-Ok.ensures, ← w.deref.ensures.value) w.pcal-status.ensures.lacking)
+      | in-Err w ↦ of_any_file o (λ file. HasNoText texts file → EndedIn c.from.result IsUnread) (λ file k. (Memory, e ∙ ap status_number w.status-is, tt))
+    ]
+
+pub returns-clause-long : goal.returns-clause-long
+returns-clause-long g c =
+    let e = c.from.ensures ∙ c.number.ensures in
+    let o = command_in (words_given c.args.given) in
+    let texts = g.H.Shelf.texts c.args.shelf.now in
+    elim c.match-words_of.branch [
+      | in-Ok w ↦ of_text o texts (λ x. most_bytes < length x → IsUnread w.pcal-status.result) (λ x. most_bytes < length x → EndedIn c.from.result IsUnread)
+          (λ x h k. (w.pcal-status.result, e ∙ ap status_number w.status-is, h k)) (rw (← w.in-Ok.ensures, ← w.deref.ensures.value) w.pcal-status.ensures.long)
+      | in-Err w ↦ of_any_text o texts (λ x. most_bytes < length x → EndedIn c.from.result IsUnread) (λ x k. (Memory, e ∙ ap status_number w.status-is, tt))
+    ]
+
+pub returns-clause-offends : goal.returns-clause-offends
+returns-clause-offends g c =
+    let e = c.from.ensures ∙ c.number.ensures in
+    let o = command_in (words_given c.args.given) in
+    let texts = g.H.Shelf.texts c.args.shelf.now in
+    elim c.match-words_of.branch [
+      | in-Ok w ↦ of_text o texts (λ x. HasOffence x → IsUnwritten w.pcal-status.result) (λ x. HasOffence x → EndedIn c.from.result IsUnwritten)
+          (λ x h k. (w.pcal-status.result, e ∙ ap status_number w.status-is, h k)) (rw (← w.in-Ok.ensures, ← w.deref.ensures.value) w.pcal-status.ensures.offends)
+      | in-Err w ↦ of_any_text o texts (λ x. HasOffence x → EndedIn c.from.result IsUnwritten) (λ x k. (Memory, e ∙ ap status_number w.status-is, tt))
+    ]
 
 pub returns-clause-complete : goal.returns-clause-complete
 returns-clause-complete g c =
     let e = c.from.ensures ∙ c.number.ensures in
+    let o = command_in (words_given c.args.given) in
     let texts = g.H.Shelf.texts c.args.shelf.now in
     let R = RoseBy 1 (g.H.Shelf.faults c.args.shelf.now) (g.H.Shelf.faults c.match-words_of.shelf) in
     let W = RoseBy 1 (g.K.Sink.faults c.args.out.now) (g.K.Sink.faults c.match-words_of.out) in
     elim c.match-words_of.branch [
       | in-Ok w ↦
-          let said : IsDone w.pcal-status.result → EndedIn c.from.result IsDone = λ d. (w.pcal-status.result, e ∙ ap status_number w.status-is, d) in
-          completes (command_in (words_given c.args.given)) texts R W _ _ said (rw (← w.in-Ok.ensures, ← w.deref.ensures.value, w.shelf-is, w.out-is) w.pcal-status.ensures.complete)
+          of_text o texts (λ x. length x ≤ most_bytes → form_offences x ≡ [] → (R → ⊥) → (W → ⊥) → IsDone w.pcal-status.result)
+          (λ x. length x ≤ most_bytes → form_offences x ≡ [] → (R → ⊥) → (W → ⊥) → EndedIn c.from.result IsDone)
+          (λ x h l k r v. (w.pcal-status.result, e ∙ ap status_number w.status-is, h l k r v)) (rw (← w.in-Ok.ensures, ← w.deref.ensures.value, w.shelf-is, w.out-is) w.pcal-status.ensures.complete)
       | in-Err w ↦
-          let said : EndedIn c.from.result IsDone = (Memory, e ∙ ap status_number w.status-is, tt) in
-          completes_always (command_in (words_given c.args.given)) texts R W _ said
+          of_any_text o texts (λ x. length x ≤ most_bytes → form_offences x ≡ [] → (R → ⊥) → (W → ⊥) → EndedIn c.from.result IsDone)
+          (λ x l k r v. (Memory, e ∙ ap status_number w.status-is, tt))
+    ]
+
+pub returns-clause-told : goal.returns-clause-told
+returns-clause-told g c =
+    let e = c.from.ensures ∙ c.number.ensures in
+    let file = file_in (words_given c.args.given) in
+    let texts = g.H.Shelf.texts c.args.shelf.now in
+    elim c.match-words_of.branch [
+      | in-Ok w ↦ (w.pcal-status.result, e ∙ ap status_number w.status-is, rw (← w.in-Ok.ensures, ← w.deref.ensures.value, w.err-is) w.pcal-status.ensures.told)
+      | in-Err w ↦
+          let t = w.tell.ensures in
+          (Memory, e ∙ ap status_number w.status-is, rw w.err-is (explains texts file file answer.Memory w.tell.result _ _ _ _ refl tt t.ok t.err t.cause t.ok_faults))
     ]
