@@ -17,10 +17,9 @@ ghost use Rattle.pcal_cli.specs.FormSeen.{parts_of, right_of};
 ghost use Rattle.pcal_cli.specs.OutsideTokens.{view_seen, views_ahead, views_of, shown, shown_as, keyword_shown, holds_of, beside_of, clashes as clashes_of};
 
 use crate::form::{Form, Right};
-use crate::names::{
-    is_among, is_own, is_pluscal_word, is_sequence_name, is_standard, is_tla_word, is_tlc_name,
-};
+use crate::names::{is_own, is_sequence_name, is_standard, is_tlc_name};
 use crate::rest::Rest;
+use tla_token::word::{is_among, is_pluscal_word, is_tla_word};
 use tla_token::{Kind, Place, Sign, Token, Tokens};
 
 /// The reserved words of TLA+ that stand in expressions.
