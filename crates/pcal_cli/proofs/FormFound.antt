@@ -33,10 +33,9 @@ use Rattle.tla_token.specs.declared.rule.Stop.{Stop}
 use Rattle.tla_token.specs.declared.rule.Stop.TheVariants as stop
 use Rattle.pcal_cli.specs.Causes.{IsStop}
 use Rattle.pcal_cli.specs.declared.rest.Rest.{Rest}
-use Rattle.pcal_cli.specs.laws.FormTokens.{capped_kind, kinds_seen, kinds_ahead, parts_ahead}
+use Rattle.pcal_cli.specs.laws.FormTokens.{capped_kind, kinds_seen, kinds_ahead}
 use Rattle.pcal_cli.specs.OutsideTokens.{view_seen, views_of}
 use Rattle.pcal_cli.specs.AlgorithmTokens.{AreAlgorithm}
-use Rattle.pcal_cli.proofs.FormTokens.{algorithm_read}
 use Rattle.pcal_cli.proofs.Capped.{parts_capped}
 
 kinds_are : (bytes : List ℕ) (ts : List code_token.Token) → kinds_seen bytes ts ≡ map capped_kind (map (λ (t : text.Token). t.kind) (map (token_seen bytes) ts))
@@ -57,14 +56,14 @@ form_by x p s e =
     ∙ ap (λ (o : Option Word). on_some o (λ m. on_some (opened_parts_in m (algorithm_kinds x s.found)) suit)) s.title
 
 form_is : (x : Text) (p : code_parts.Parts) (v : Tokens) (m : Word) (r : Rest) → Splits x p → splitting_offences x ≡ [] → AreAlgorithm x (Some v) → m ≡ stretch x p.title.from p.title.to → r.tokens.now ≡ v → r.items.now ≡ v.items.items
-    → file_form x ≡ on_some (parts_ahead m (kinds_ahead r)) (suiting (beside (walk x)))
+    → file_form x ≡ on_some (parts_in m (kinds_ahead r)) (suiting (beside (walk x)))
 form_is x p v m r s e h t k i =
     let suit : Parts → Option Parts = suiting (beside (walk x)) in
     let n = stretch x p.title.from p.title.to in
     let ks = map (λ (t : text.Token). t.kind) (tokens_seen v) in
     let ahead : kinds_ahead r ≡ map capped_kind ks = (λ j. kinds_seen (k j).bytes.items (i j)) ∙ kinds_are v.bytes.items v.items.items in
     form_by x p s e ∙ ap (λ (ks : List Kind). on_some (opened_parts_in n ks) suit) (h s.found s.algorithm)
-    ∙ ap (λ (o : Option Parts). on_some o suit) (sym (parts_capped n ks) ∙ algorithm_read n (map capped_kind ks) ∙ (λ j. parts_ahead (sym t j) (sym ahead j)))
+    ∙ ap (λ (o : Option Parts). on_some o suit) (sym (parts_capped n ks) ∙ (λ j. parts_in (sym t j) (sym ahead j)))
 
 -- what begins otherwise has no form
 other_form : (x : Text) (p : code_parts.Parts) → Splits x p → splitting_offences x ≡ [] → AreAlgorithm x None → file_form x ≡ None
@@ -97,23 +96,23 @@ pub record Asked (x : Text) (p : code_parts.Parts) (v : Tokens) (m : Word) (r : 
   pub tokens : r.tokens.now ≡ v
   pub items : r.items.now ≡ v.items.items
 
-asked_form : (x : Text) (p : code_parts.Parts) (v : Tokens) (m : Word) (r : Rest) → Asked x p v m r → file_form x ≡ on_some (parts_ahead m (kinds_ahead r)) (suiting (beside (walk x)))
+asked_form : (x : Text) (p : code_parts.Parts) (v : Tokens) (m : Word) (r : Rest) → Asked x p v m r → file_form x ≡ on_some (parts_in m (kinds_ahead r)) (suiting (beside (walk x)))
 asked_form x p v m r a = form_is x p v m r a.splits a.fine a.algorithm a.titled a.tokens a.items
 
-pub no_form : (x : Text) (p : code_parts.Parts) (v : Tokens) (m : Word) (r : Rest) → Asked x p v m r → parts_ahead m (kinds_ahead r) ≡ None → file_form x ≡ None
+pub no_form : (x : Text) (p : code_parts.Parts) (v : Tokens) (m : Word) (r : Rest) → Asked x p v m r → parts_in m (kinds_ahead r) ≡ None → file_form x ≡ None
 no_form x p v m r a n = asked_form x p v m r a ∙ ap (λ (o : Option Parts). on_some o (suiting (beside (walk x)))) n
 
-suited_by : (x : Text) (p : code_parts.Parts) (v : Tokens) (m : Word) (r : Rest) (f : Parts) (b : Bool) → Asked x p v m r → parts_ahead m (kinds_ahead r) ≡ Some f
+suited_by : (x : Text) (p : code_parts.Parts) (v : Tokens) (m : Word) (r : Rest) (f : Parts) (b : Bool) → Asked x p v m r → parts_in m (kinds_ahead r) ≡ Some f
     → suits (beside_with (views_of p.before) (views_of p.after)) f ≡ b → file_form x ≡ if_so b (Some f)
 suited_by x p v m r f b a found s =
     asked_form x p v m r a ∙ ap (λ (o : Option Parts). on_some o (suiting (beside (walk x)))) found
     ∙ ap (λ (b : Beside). if_so (suits b f) (Some f)) (sym (beside_is x p a.splits)) ∙ ap (λ (b : Bool). if_so b (Some f)) s
 
-pub some_form : (x : Text) (p : code_parts.Parts) (v : Tokens) (m : Word) (r : Rest) (f : Parts) → Asked x p v m r → parts_ahead m (kinds_ahead r) ≡ Some f
+pub some_form : (x : Text) (p : code_parts.Parts) (v : Tokens) (m : Word) (r : Rest) (f : Parts) → Asked x p v m r → parts_in m (kinds_ahead r) ≡ Some f
     → suits (beside_with (views_of p.before) (views_of p.after)) f ≡ true → file_form x ≡ Some f
 some_form x p v m r f a found s = suited_by x p v m r f true a found s
 
-pub unsuited_form : (x : Text) (p : code_parts.Parts) (v : Tokens) (m : Word) (r : Rest) (f : Parts) → Asked x p v m r → parts_ahead m (kinds_ahead r) ≡ Some f
+pub unsuited_form : (x : Text) (p : code_parts.Parts) (v : Tokens) (m : Word) (r : Rest) (f : Parts) → Asked x p v m r → parts_in m (kinds_ahead r) ≡ Some f
     → suits (beside_with (views_of p.before) (views_of p.after)) f ≡ false → file_form x ≡ None
 unsuited_form x p v m r f a found s = suited_by x p v m r f false a found s
 

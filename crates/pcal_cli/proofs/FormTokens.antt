@@ -6,7 +6,7 @@ use Rattle.tla_token.specs.Lexemes.{Kind, name, number, one}
 use Rattle.tla_tree.specs.Tree.{Word}
 use Rattle.first_path.specs.Form.{Operand, number_operand, variable_operand, Right, single, sum, Parts, declares}
 use Rattle.first_path.specs.FormRead.{on_some, if_so, on_name, on_number, on_word, on_equal, on_semicolon, on_colon, on_assign, on_operand, on_right, on_end, fit, parts_in}
-use Rattle.pcal_cli.specs.laws.FormTokens.{name_in, number_in, after_word, after_plus, after_sign, operand_in, sum_from, right_in, after_declares, declaration_in, statement_in, parts_ahead}
+use Rattle.pcal_cli.specs.laws.FormTokens.{name_in, number_in, after_word, after_plus, after_sign, operand_in, sum_from, right_in, after_declares, declaration_in, statement_in}
 
 in_turn : {A B C : Type 0} (o : Option A) (f : A → Option B) (g : B → Option C) → on_some (on_some o f) g ≡ on_some o (λ a. on_some (f a) g)
 in_turn None f g = refl
@@ -135,6 +135,13 @@ statement_step {A = A} v f go ks h =
         ∙ alike (right_in v r) _ _ (λ e. in_turn (after_sign sign.Semicolon e.1) _ go)))))
 
 -- ---- the algorithm
+
+-- after `--algorithm`, in the module m, a stretch at a time
+abbrev parts_ahead : Word → List Kind → Option Parts
+parts_ahead m ks =
+    on_some (name_in ks) (λ a. on_some (declaration_in a.1) (λ d. on_some (after_word (codes "begin") d.2) (λ ks. on_some (statement_in d.0 ks) (λ s.
+    on_some (after_word (codes "end") s.2) (λ ks. on_some (after_word (codes "algorithm") ks) (λ ks.
+    on_end ks (fit (record { title = m; algorithm = a.0; variable = d.0; initial = d.1; label = s.0; right = s.1 }))))))))
 
 pub algorithm_read : (m : Word) (ks : List Kind) → parts_in m ks ≡ parts_ahead m ks
 algorithm_read m ks =

@@ -3,9 +3,10 @@
 ghost use Rattle.std.specs.Prelude.{◌≡◌, ◌∷◌, [], Some, None, MatchOption, true};
 ghost use Rattle.tla_token.specs.Lexemes.{number_of};
 ghost use Rattle.tla_token.specs.TokensSeen.{kind_seen};
+ghost use Rattle.first_path.specs.FormRead.{parts_in};
 ghost use Rattle.pcal_cli.specs.FormSeen.{operand_of, right_of, parts_of};
 ghost use Rattle.pcal_cli.specs.laws.FormTokens.{capped, capped_kind, kinds_ahead, is_mark, name_in, number_in, after_word as after_word_of, after_sign as after_sign_of, operand_in, right_in};
-ghost use Rattle.pcal_cli.specs.laws.FormTokens.{after_declares as after_declares_of, declaration_in, statement_in, parts_ahead};
+ghost use Rattle.pcal_cli.specs.laws.FormTokens.{after_declares as after_declares_of, declaration_in, statement_in};
 
 use crate::form::{Form, Operand, PAST_NUMBERS, Right, is_fit};
 use crate::rest::Rest;
@@ -157,8 +158,9 @@ fn statement_at<'a>(rest: Rest<'a>, variable: &[u8]) -> Option<(&'a [u8], Right,
 }
 
 /// The parts of an algorithm that has the form, in the module of this title; `rest` is what comes after `--algorithm`.
+#[tactic(auto, using(crate::proofs::FormTokens::algorithm_read))]
 pub fn algorithm_at<'a>(title: &'a [u8], rest: Rest<'a>) -> Option<Form<'a>>
-    ensures { MatchOption result (parts_ahead title.now (kinds_ahead rest.entry) ≡ None) (λ f. parts_ahead title.now (kinds_ahead rest.entry) ≡ Some (parts_of f)) }
+    ensures { MatchOption result (parts_in title.now (kinds_ahead rest.entry) ≡ None) (λ f. parts_in title.now (kinds_ahead rest.entry) ≡ Some (parts_of f)) }
 {
     let (algorithm, rest) = name_at(rest)?;
     let (variable, initial, rest) = declaration_at(rest)?;

@@ -1,77 +1,11 @@
 //! Words that are no names of the user's: reserved, own and standard ones.
 
-ghost use Rattle.std.specs.Prelude.{◌≡◌, map, []};
+ghost use Rattle.std.specs.Prelude.{◌≡◌, []};
 ghost use Rattle.tla_token.specs.Signs.{is_among as is_among_of};
-ghost use Rattle.tla_token.specs.Words.{is_pluscal_word as is_pluscal_word_of, is_tla_word as is_tla_word_of, is_reserved as is_reserved_of, is_own as is_own_of, is_standard as is_standard_of};
+ghost use Rattle.tla_token.specs.Words.{is_reserved as is_reserved_of, is_own as is_own_of, is_standard as is_standard_of};
 ghost use Rattle.tla_token.specs.Words.{sequence_names, tlc_names};
 
-/// The reserved words of PlusCal.
-static PLUSCAL_WORDS: [&str; 27] = [
-    "algorithm",
-    "assert",
-    "await",
-    "begin",
-    "call",
-    "define",
-    "do",
-    "either",
-    "else",
-    "elsif",
-    "end",
-    "fair",
-    "goto",
-    "if",
-    "macro",
-    "or",
-    "print",
-    "procedure",
-    "process",
-    "return",
-    "skip",
-    "then",
-    "variable",
-    "variables",
-    "when",
-    "while",
-    "with",
-];
-
-/// The reserved words of TLA+.
-static TLA_WORDS: [&str; 33] = [
-    "ASSUME",
-    "ASSUMPTION",
-    "AXIOM",
-    "BOOLEAN",
-    "CASE",
-    "CHOOSE",
-    "CONSTANT",
-    "CONSTANTS",
-    "DOMAIN",
-    "ELSE",
-    "ENABLED",
-    "EXCEPT",
-    "EXTENDS",
-    "FALSE",
-    "IF",
-    "IN",
-    "INSTANCE",
-    "LAMBDA",
-    "LET",
-    "LOCAL",
-    "MODULE",
-    "OTHER",
-    "RECURSIVE",
-    "STRING",
-    "SUBSET",
-    "THEN",
-    "THEOREM",
-    "TRUE",
-    "UNCHANGED",
-    "UNION",
-    "VARIABLE",
-    "VARIABLES",
-    "WITH",
-];
+use tla_token::word::{is_among, is_pluscal_word, is_tla_word};
 
 /// Names that the translation defines itself.
 static OWN_NAMES: [&str; 11] = [
@@ -108,32 +42,6 @@ static STANDARD_NAMES: [&str; 12] = [
 static SEQUENCE_NAMES: [&str; 1] = ["SelectSeq"];
 
 static TLC_NAMES: [&str; 4] = ["Print", "JavaTime", "Permutations", "SortSeq"];
-
-/// Whether a word is one of some.
-pub fn is_among(words: &[&str], word: &[u8]) -> bool
-    ensures { result ≡ is_among_of (map (λ w. w.now) words.now) word.now }
-{
-    for other in words {
-        if other.as_bytes() == word {
-            return true;
-        }
-    }
-    false
-}
-
-/// Whether a word is reserved in PlusCal.
-pub fn is_pluscal_word(word: &[u8]) -> bool
-    ensures { result ≡ is_pluscal_word_of word.now }
-{
-    is_among(&PLUSCAL_WORDS, word)
-}
-
-/// Whether a word is reserved in TLA+.
-pub fn is_tla_word(word: &[u8]) -> bool
-    ensures { result ≡ is_tla_word_of word.now }
-{
-    is_among(&TLA_WORDS, word) || word.starts_with(b"WF_") || word.starts_with(b"SF_")
-}
 
 /// Whether a word is reserved, in PlusCal or in TLA+.
 pub fn is_reserved(word: &[u8]) -> bool

@@ -1,9 +1,7 @@
 //! The expressions of the form's translation, in a pool.
 
 ghost use Rattle.std.specs.Prelude.{◌≡◌, ◌<◌, true, length, IfOk, codes};
-ghost use Rattle.tla_token.specs.Limits.{past_numbers};
 ghost use Rattle.tla_token.specs.Places.{start};
-ghost use Rattle.tla_tree.specs.declared.op.Op.TheVariants as op_is;
 ghost use Rattle.tla_tree.specs.Tree as tree;
 ghost use Rattle.tla_pool.specs.FormOf.{form_of};
 ghost use Rattle.tla_tree.specs.Shapes.{Shaped};

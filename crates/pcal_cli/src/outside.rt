@@ -1,6 +1,6 @@
 //! What is beside the algorithm: whether its names, and those of the translation, are free there.
 
-ghost use Rattle.std.specs.Prelude.{◌≡◌, ◌∷◌, ◌<◌, ◌≤◌, ◌++◌, [], length, Some, None, MatchOption, not, ◌&&◌, ◌||◌, ℕ, List, bytes_eq};
+ghost use Rattle.std.specs.Prelude.{◌≡◌, ◌∷◌, ◌<◌, ◌≤◌, [], length, Some, MatchOption, not, ◌&&◌, ◌||◌, ℕ, List, bytes_eq};
 ghost use Rattle.std.specs.List.{list_any, flat_map};
 ghost use Rattle.tla_token.specs.Signs.{is_among as is_among_of};
 ghost use Rattle.tla_token.specs.Words.{is_standard as is_standard_of};
@@ -12,15 +12,14 @@ ghost use Rattle.module_tree.specs.Outside.{identifiers, first_one, is_define as
 ghost use Rattle.tla_tree.specs.declared.op.Op.TheVariants as op;
 ghost use Rattle.tla_value.specs.StandardModules.{has_operator};
 ghost use Rattle.first_path.specs.Beside.{declared_by, extended_by};
-ghost use Rattle.first_path.specs.Form.{is_taken as is_taken_of, is_sum as is_sum_of, suits as suits_of};
+ghost use Rattle.first_path.specs.Form.{is_sum as is_sum_of, suits as suits_of};
 ghost use Rattle.pcal_cli.specs.FormSeen.{parts_of, right_of};
 ghost use Rattle.pcal_cli.specs.OutsideTokens.{view_seen, views_ahead, views_of, shown, shown_as, keyword_shown, holds_of, beside_of, clashes as clashes_of};
 
 use crate::form::{Form, Right};
-use crate::names::{
-    is_among, is_own, is_pluscal_word, is_sequence_name, is_standard, is_tla_word, is_tlc_name,
-};
+use crate::names::{is_own, is_sequence_name, is_standard, is_tlc_name};
 use crate::rest::Rest;
+use tla_token::word::{is_among, is_pluscal_word, is_tla_word};
 use tla_token::{Kind, Place, Sign, Token, Tokens};
 
 /// The reserved words of TLA+ that stand in expressions.

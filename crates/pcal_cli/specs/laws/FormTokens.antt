@@ -1,6 +1,6 @@
--- What the private functions that read the form give, each of one token or stretch, in the order of the code. All together they are `parts_in` of
--- first_path, which the public function's contract says.
-use Rattle.std.specs.Prelude.{ℕ, Bool, true, false, List, ◌∷◌, map, Option, Some, None, codes, min}
+-- What the private functions that read the form give, each of one token or stretch, in the order of the code. All together they read what `parts_in` of
+-- first_path reads, which is what the crate knows of them.
+use Rattle.std.specs.Prelude.{ℕ, Bool, true, false, List, ◌∷◌, map, Option, Some, None, min}
 use Rattle.tla_token.specs.declared.sign.Sign.{Sign}
 use Rattle.tla_token.specs.declared.sign.Sign.TheVariants as sign
 use Rattle.tla_token.specs.declared.token.Token.{Token}
@@ -8,8 +8,8 @@ use Rattle.tla_token.specs.Lexemes.{Kind, number, one}
 use Rattle.tla_token.specs.Limits.{past_numbers}
 use Rattle.tla_token.specs.TokensSeen.{kind_seen}
 use Rattle.tla_tree.specs.Tree.{Word}
-use Rattle.first_path.specs.Form.{Operand, Right, single, sum, Parts, declares}
-use Rattle.first_path.specs.FormRead.{on_some, if_so, on_name, on_number, on_word, on_equal, on_semicolon, on_colon, on_assign, on_operand, on_end, fit}
+use Rattle.first_path.specs.Form.{Operand, Right, single, sum, declares}
+use Rattle.first_path.specs.FormRead.{on_some, if_so, on_name, on_number, on_word, on_equal, on_semicolon, on_colon, on_assign, on_operand}
 use Rattle.pcal_cli.specs.declared.rest.Rest.{Rest}
 
 -- all numbers that are too big are read as the least of them
@@ -88,10 +88,3 @@ abbrev pub statement_in : Word → List Kind → Option (Word × Right × List K
 statement_in v ks =
     on_some (name_in ks) (λ l. on_some (after_sign sign.Colon l.1) (λ ks. on_some (after_word v ks) (λ ks. on_some (after_sign sign.Assign ks) (λ ks.
     on_some (right_in v ks) (λ e. on_some (after_sign sign.Semicolon e.1) (λ ks. Some (l.0, e.0, ks)))))))
-
--- after `--algorithm`, in the module m
-abbrev pub parts_ahead : Word → List Kind → Option Parts
-parts_ahead m ks =
-    on_some (name_in ks) (λ a. on_some (declaration_in a.1) (λ d. on_some (after_word (codes "begin") d.2) (λ ks. on_some (statement_in d.0 ks) (λ s.
-    on_some (after_word (codes "end") s.2) (λ ks. on_some (after_word (codes "algorithm") ks) (λ ks.
-    on_end ks (fit (record { title = m; algorithm = a.0; variable = d.0; initial = d.1; label = s.0; right = s.1 }))))))))
