@@ -5,7 +5,7 @@ use Rattle.tla_token.specs.declared.sign.Sign.TheVariants as sign
 use Rattle.tla_token.specs.Lexemes.{name, number, one}
 use Rattle.tla_token.specs.Tokens.{blank, block, lexeme}
 use Rattle.tla_token.specs.Offences.{sound, open_string, open_block}
-use Rattle.tla_token.specs.laws.Feeding.{is_settled, stays, decided, undecided, fed, finish, is_open_word, IsKept}
+use Rattle.tla_token.specs.Feeding.{is_settled, stays, decided, undecided, fed, finish, is_open_word, IsKept}
 
 a_word_that_goes_on : is_settled (codes "x1") ≡ false
 a_word_that_goes_on = refl

@@ -9,7 +9,7 @@ ghost use Rattle.tla_token.specs.Tokens.{Tok, TokAlgorithm, stretch, tokens_of};
 ghost use Rattle.tla_token.specs.Offences.{Part, sound, parts_text, PartsFit, Offends, kind_offences, offences, least};
 ghost use Rattle.tla_token.specs.Cut.{parts};
 ghost use Rattle.tla_token.specs.laws.Machine.{outlines, only, fresh, run_on, run_all};
-ghost use Rattle.tla_token.specs.laws.Feeding.{fed, finish, decided, undecided, IsKept};
+ghost use Rattle.tla_token.specs.Feeding.{fed, finish, decided, undecided, IsKept};
 
 /// A stretch of a text has at most one list of tokens, and so has the stretch of an algorithm.
 pub fn tokens_are_unique()

@@ -4,6 +4,7 @@
 pub mod bytes;
 pub mod fault;
 pub mod laws;
+pub mod machine;
 pub mod part;
 pub mod place;
 pub mod rule;
@@ -12,6 +13,7 @@ pub mod sign;
 pub mod token;
 
 pub use fault::Reading;
+pub use machine::decided_at;
 pub use part::{Class, Part, lexeme_at, outer_at, part_at};
 pub use place::{Place, place_of};
 pub use rule::{Refusal, Rule, Stop};
