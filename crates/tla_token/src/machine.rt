@@ -11,7 +11,7 @@ use crate::part::{Class, Part, part_at};
 
 /// The part in front, if it stays whatever comes behind this text. Where there is none, these are
 /// fewer than three bytes, or a word, comment or string that goes on to the end: they wait for more.
-/// What is known of words is as for `part_at`.
+/// What is known of words is as for `part_at`, and of this text alone: with more of it, it is 0 again.
 #[tactic(auto, using(crate::proofs::Decided::decided_front, crate::proofs::Decided::waiting_front, crate::proofs::Decided::empty_front))]
 pub fn decided_at(text: &[u8], wordless: &mut usize) -> Option<Part>
     requires small { length text.now < 2 ^ 29 }
