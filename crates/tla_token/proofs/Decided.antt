@@ -1,6 +1,8 @@
 -- The part that code finds in front stays where its class and length say so, and else the text waits.
-use Rattle.std.proofs.Common.{◌≡◌, ℕ, zero, suc, ◌+◌, ◌<◌, Bool, true, false, not, ◌||◌, nat_eq, nat_le, nat_lt, get_or, drop, List, [], ◌∷◌, ◌++◌, length, Some, None, option_map, inl, refl, sym, ap, subst, ◌∙◌, arith, append_assoc, length-append}
+use Rattle.std.proofs.Common.{◌≡◌, ℕ, zero, suc, ◌+◌, ◌<◌, ◌≤◌, Bool, true, false, not, ◌||◌, nat_eq, nat_le, nat_lt, get_or, drop, map, List, [], ◌∷◌, ◌++◌, length, Some, None, option_map, inl, refl, sym, ap, subst, ◌∙◌, arith, append_assoc, append-nil, length-append, length-drop}
 use Rattle.std.specs.List.{list_any}
+use Rattle.std.proofs.Math.Seq.{drop-append_seam}
+use Rattle.std.proofs.lemmas.List.{drop-append-le}
 use Rattle.std.proofs.lemmas.Bool.{lt-ltb, le-ltb, ltb-true, ltb-false, leb-true, leb-false}
 use Rattle.tla_token.specs.declared.part.Part as code
 use Rattle.tla_token.specs.Lexemes.{name, number, string, one, other, is_word}
@@ -8,13 +10,15 @@ use Rattle.tla_token.specs.Tokens.{blank, block, line, lexeme}
 use Rattle.tla_token.specs.Offences.{Part, sound, stray, bad_string, open_string, open_block, part_bytes, PartFits}
 use Rattle.tla_token.specs.Cut.{run, parts}
 use Rattle.tla_token.specs.Scan.{part_class, outline, front}
-use Rattle.tla_token.specs.Feeding.{is_settled, stays, stays_by, IsKept}
+use Rattle.tla_token.specs.Feeding.{is_settled, stays, stays_by, IsKept, AreDecided}
 use Rattle.tla_token.proofs.Words.{one_plus}
 use Rattle.tla_token.proofs.Parted.{first_part, fits_first}
 use Rattle.tla_token.proofs.Cutting.{Cut, front_cut, cut_fits}
 use Rattle.tla_token.proofs.Found.{found, nothing_found}
 use Rattle.tla_token.proofs.MachineStays.{stays_fits}
+use Rattle.tla_token.proofs.Scans.{drop_more}
 use Rattle.tla_token.proofs.MachineFeeding.{changing}
+use Rattle.tla_token.proofs.MachineStands.{first_off}
 use Rattle.tla_token.proofs.MachineTexts.{chosen, left_out}
 
 -- ---- a part by its class and length
@@ -81,6 +85,37 @@ waiting_front t p e s = (let f = found_cut t p e in cut_waits t f.0 (sym f.2 ∙
 
 pub empty_front : (t : List ℕ) → None ≡ front t → IsKept t
 empty_front t e = (let l = nothing_found t e in inl (omega arith))
+
+-- ---- part by part
+
+front_off : (t : List ℕ) (p : code.Part) → Some p ≡ front t → map outline (parts t) ≡ p ∷ map outline (parts (drop p.len t))
+front_off t p e =
+    let f = found_cut t p e in
+    let c = f.0 in
+    let rest : drop p.len t ≡ c.rest = ap (λ (q : code.Part). drop q.len t) f.1 ∙ ap (drop (length (part_bytes c.part))) c.bytes ∙ drop-append_seam (part_bytes c.part) c.rest in
+    ap (λ (u : List ℕ). map outline (parts u)) c.bytes
+    ∙ first_off c.part c.rest c.fits
+    ∙ (λ i. sym f.1 i ∷ map outline (parts (sym rest i)))
+
+pub none_decided : (text : List ℕ) (before : List code.Part) → AreDecided text before before 0
+none_decided text before = (omega arith, λ more. refl)
+
+pub one_decided : (text : List ℕ) (before so_far : List code.Part) (at : ℕ) (p : code.Part) → AreDecided text before so_far at → ((more : List ℕ) → front (drop at text ++ more) ≡ Some p) → p.len ≤ length (drop at text)
+    → AreDecided text before (so_far ++ p ∷ []) (at + p.len)
+one_decided text before so_far at p (within, same) front_is l = (
+  omega (arith, length-drop at text),
+  λ more.
+      same more
+      ∙ ap (λ (ps : List code.Part). so_far ++ ps) (front_off (drop at text ++ more) p (sym (front_is more)))
+      ∙ ap (λ (u : List ℕ). so_far ++ p ∷ map outline (parts u)) (drop-append-le p.len (drop at text) more l ∙ ap (λ (u : List ℕ). u ++ more) (drop_more at p.len text))
+      ∙ sym (append_assoc so_far (p ∷ []) (map outline (parts (drop (at + p.len) text ++ more)))),
+)
+
+pub decided_len : (t : List ℕ) (p : code.Part) → ((more : List ℕ) → front (t ++ more) ≡ Some p) → (0 < p.len) × (p.len ≤ length t)
+decided_len t p h =
+    let e : Some p ≡ front t = sym (h []) ∙ ap front (append-nil t) in
+    let f = found t p e in
+    (f.some, f.within)
 
 -- ---- settled bytes
 

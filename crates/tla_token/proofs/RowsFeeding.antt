@@ -6,7 +6,7 @@ use Rattle.tla_token.specs.declared.part.Class.TheVariants as class
 use Rattle.tla_token.specs.Lexemes.{name, number, one}
 use Rattle.tla_token.specs.Tokens.{blank, block, lexeme}
 use Rattle.tla_token.specs.Offences.{sound, open_string, open_block}
-use Rattle.tla_token.specs.Feeding.{is_settled, stays, stays_by, decided, undecided, fed, finish, is_open_word, IsKept}
+use Rattle.tla_token.specs.Feeding.{is_settled, stays, stays_by, decided, undecided, fed, finish, is_open_word, IsKept, AreDecided}
 
 a_word_that_goes_on : is_settled (codes "x1") ≡ false
 a_word_that_goes_on = refl
@@ -73,3 +73,6 @@ two_marks_are_kept = inl (omega arith)
 
 a_word_is_kept : IsKept (codes "\\lan")
 a_word_is_kept = inr (inl refl)
+
+a_blank_is_decided : AreDecided (codes " x") [] (record { class = class.Blank; len = 1 } ∷ []) 1
+a_blank_is_decided = (omega arith, λ more. refl)

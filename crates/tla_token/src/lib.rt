@@ -13,7 +13,7 @@ pub mod sign;
 pub mod token;
 
 pub use fault::Reading;
-pub use machine::decided_at;
+pub use machine::{decided_at, decided_parts};
 pub use part::{Class, Part, lexeme_at, outer_at, part_at};
 pub use place::{Place, place_of};
 pub use rule::{Refusal, Rule, Stop};

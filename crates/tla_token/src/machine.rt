@@ -1,22 +1,25 @@
 //! The part in front of a text of which more may come.
 
-ghost use Rattle.std.specs.Prelude.{◌≡◌, ℕ, ◌++◌, ◌^◌, ◌<◌, ◌||◌, nat_eq, length, drop, List, Some, None, IfSome};
+ghost use Rattle.std.specs.Prelude.{◌≡◌, ℕ, ◌++◌, ◌^◌, ◌<◌, ◌≤◌, ◌||◌, nat_eq, length, drop, List, Some, None, IfSome, IfOk};
 ghost use Rattle.tla_token.specs.Lexemes.{is_word};
 ghost use Rattle.tla_token.specs.Cut.{run};
 ghost use Rattle.tla_token.specs.Scan.{front, IsWordless};
-ghost use Rattle.tla_token.specs.Feeding.{is_settled, stays_by, IsKept};
+ghost use Rattle.tla_token.specs.Feeding.{is_settled, stays_by, IsKept, AreDecided};
 
 use crate::bytes::{is_word, word_len};
 use crate::part::{Class, Part, part_at};
+use std::alloc::AllocError;
 
 /// The part in front, if it stays whatever comes behind this text. Where there is none, these are
 /// fewer than three bytes, or a word, comment or string that goes on to the end: they wait for more.
 /// What is known of words is as for `part_at`, and of this text alone: with more of it, it is 0 again.
-#[tactic(auto, using(crate::proofs::Decided::decided_front, crate::proofs::Decided::waiting_front, crate::proofs::Decided::empty_front))]
+#[tactic(auto, using(crate::proofs::Decided::decided_front, crate::proofs::Scans::part_within, crate::proofs::Scans::part_some, crate::proofs::Decided::waiting_front, crate::proofs::Decided::empty_front))]
 pub fn decided_at(text: &[u8], wordless: &mut usize) -> Option<Part>
     requires small { length text.now < 2 ^ 29 }
     requires known { IsWordless wordless.old text.now }
     ensures decided { IfSome result (λ p. (more : List ℕ) → front (text.now ++ more) ≡ Some p) }
+    ensures some { IfSome result (λ p. 0 < p.len) }
+    ensures within { IfSome result (λ p. p.len ≤ length text.now) }
     ensures kept { result ≡ None → IsKept text.now }
     ensures known { IsWordless wordless.new text.now }
 {
@@ -24,6 +27,28 @@ pub fn decided_at(text: &[u8], wordless: &mut usize) -> Option<Part>
         Some(part) => { if stays(part, text) { Some(part) } else { None } }
         None => None,
     }
+}
+
+/// Adds the parts that are decided, whatever comes behind this text, and tells how many bytes they
+/// have. The bytes behind these wait, and go before the next piece.
+///
+/// # Errors
+///
+/// Want of memory.
+#[tactic(auto, using(crate::proofs::Decided::none_decided, crate::proofs::Decided::one_decided))]
+pub fn decided_parts(text: &[u8], parts: &mut Vec<Part>) -> Result<usize, AllocError>
+    requires small { length text.now < 2 ^ 29 }
+    ensures decided { IfOk result (λ n. AreDecided text.now parts.old.items parts.new.items n) }
+    ensures kept { IfOk result (λ n. IsKept (drop n text.now)) }
+{
+    let mut at = 0;
+    let mut wordless = 0;
+    'parts: while let Some(part) = decided_at(&text[at..], &mut wordless) {
+        parts.push(part)?;
+        at += part.len;
+        wordless = wordless.saturating_sub(part.len);
+    }
+    Ok(at)
 }
 
 // Whether the part that is in front stays.
