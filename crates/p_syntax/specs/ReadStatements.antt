@@ -1,13 +1,14 @@
 -- Reading lists of statements in P-syntax: what stands open is a stack, and each word or part takes one step ("A PlusCal User's Manual, P-Syntax Version", appendix A).
-use Rattle.std.specs.Prelude.{ℕ, zero, suc, List, [], ◌∷◌, Option, Some, None, codes}
+use Rattle.std.specs.Prelude.{ℕ, zero, suc, ◌+◌, List, [], ◌∷◌, Option, Some, None, codes}
 use Rattle.tla_token.specs.declared.place.Place.{Place}
 use Rattle.tla_tree.specs.Tree.{Word, Name}
 use Rattle.tla_tree.specs.Lexical.{TokenView}
 use Rattle.tla_tree.specs.Lexical as tk
 use Rattle.tla_tree.specs.Spelling.{Phrase}
-use Rattle.tla_tree.specs.Reader.{Reader, ◌>>=◌, gives, refuses, skip}
+use Rattle.tla_tree.specs.Reader.{Reader, ◌>>=◌, gives, refuses, skip, if_fits}
 use Rattle.pcal_tree.specs.GrammarParts.{Colon, Labels, no_labels, label, Binds, Simple}
 use Rattle.pcal_tree.specs.GrammarP.{Statement, simple, branch, either, with, while, Else, no_else, else_then, else_if, Branches, last_branch, more_branches, Sequence, last_statement, more_statements}
+use Rattle.pcal_tree.specs.OpenForms.{after_binds}
 use Rattle.algorithm_parts.specs.TokenReaders.{by_next, a_key, pick, Parts}
 use Rattle.algorithm_parts.specs.ReadParts.{read_colon, read_binds}
 use Rattle.algorithm_parts.specs.ReadSimple.{named_by, simple_words}
@@ -42,6 +43,22 @@ pub data Stack : Type 0 where
   bottom : Stack
   inside : Frame → Before → Labels → Stack → Stack
 
+-- how many forms are open inside it: one for each test, branch, bind and loop
+abbrev pub after_tests : ℕ → Tests → ℕ
+after_tests d (if_test p e q) = d + 1
+after_tests d (elsif_test t a p e q) = after_tests d t + 1
+
+abbrev pub inside_frame : ℕ → Frame → ℕ
+inside_frame d (in_then t) = after_tests d t
+inside_frame d (in_else t a p) = after_tests d t
+inside_frame d (in_either t) = d + 1
+inside_frame d (in_with p bs q) = after_binds d bs
+inside_frame d (in_while p e q) = d + 1
+
+abbrev pub depth : Stack → ℕ
+depth bottom = 0
+depth (inside f b ls st) = inside_frame (depth st) f
+
 pub data State : Type 0 where
   begin : Before → Labels → Stack → State  -- a statement comes, after these labels
   ended : Before → Labels → Statement → Option Place → Stack → State  -- after a statement, and with a place after its `;`
@@ -73,6 +90,10 @@ closed_either (later_arm t c p) a bs r s = closed_either t c (more_branches p a 
 abbrev pub opens : Frame → Before → Labels → Stack → Turn
 opens f b ls st = on (begin none no_labels (inside f b ls st))
 
+-- past a word that opens a form, where so many are open
+abbrev pub opened : Parts → ℕ → Reader Turn → Reader Turn
+opened m d r = if_fits (m.room (d + 1)) (skip r)
+
 abbrev pub ends_simple : Before → Labels → Stack → Reader Simple → Reader Turn
 ends_simple b ls st r = r >>= λ s. gives (on (ended b ls (simple s) None st))
 
@@ -83,10 +104,10 @@ after_name m n b ls st x p k = ends_simple b ls st (named_by m n x p k)
 
 abbrev pub statement_words : Parts → ℕ → Before → Labels → Stack → Place → List (Word × Reader Turn)
 statement_words m n b ls st p =
-    (codes "if", skip (m.expr >>= λ e. a_key (codes "then") >>= λ q. gives (opens (in_then (if_test p e q)) b ls st)))
-    ∷ (codes "either", skip (gives (opens (in_either (first_arm p)) b ls st)))
-    ∷ (codes "with", skip (read_binds m n >>= λ bs. a_key (codes "do") >>= λ q. gives (opens (in_with p bs q) b ls st)))
-    ∷ (codes "while", skip (m.expr >>= λ e. a_key (codes "do") >>= λ q. gives (opens (in_while p e q) b ls st)))
+    (codes "if", opened m (depth st) (m.expr >>= λ e. a_key (codes "then") >>= λ q. gives (opens (in_then (if_test p e q)) b ls st)))
+    ∷ (codes "either", opened m (depth st) (gives (opens (in_either (first_arm p)) b ls st)))
+    ∷ (codes "with", skip (read_binds m n (depth st) >>= λ bs. a_key (codes "do") >>= λ q. gives (opens (in_with p bs q) b ls st)))
+    ∷ (codes "while", opened m (depth st) (m.expr >>= λ e. a_key (codes "do") >>= λ q. gives (opens (in_while p e q) b ls st)))
     ∷ []
 
 abbrev pub statement_by : Parts → ℕ → Before → Labels → Stack → Place → TokenView → Reader Turn
@@ -101,7 +122,7 @@ takes_else a p (inside (in_then t) b ls st) = skip (gives (opens (in_else t a p)
 takes_else a p st = refuses
 
 abbrev pub takes_elsif : Parts → Sequence → Place → Stack → Reader Turn
-takes_elsif m a p (inside (in_then t) b ls st) = skip (m.expr >>= λ e. a_key (codes "then") >>= λ q. gives (opens (in_then (elsif_test t a p e q)) b ls st))
+takes_elsif m a p (inside (in_then t) b ls st) = opened m (after_tests (depth st) t) (m.expr >>= λ e. a_key (codes "then") >>= λ q. gives (opens (in_then (elsif_test t a p e q)) b ls st))
 takes_elsif m a p st = refuses
 
 abbrev pub takes_or : Sequence → Place → Stack → Reader Turn
