@@ -17,6 +17,7 @@ use Rattle.algorithm_parts.specs.ReadSimple.{simple_words}
 use Rattle.algorithm_parts.proofs.Beside.{Sits, sits, sits_on, sits_here, Beside, BesideAt, BothAt, beside_gives, beside_refuses, beside_bind, beside_then, beside_next, beside_stays, beside_same, beside_moved, beside_skip, beside_opened, beside_key, beside_pick}
 use Rattle.algorithm_parts.proofs.BesideParts.{unlimited_parts, beside_expr, beside_colon, beside_binds}
 use Rattle.algorithm_parts.proofs.BesideSimple.{beside_named, beside_words}
+use Rattle.p_syntax.proofs.Closing.{tests_deep}
 use Rattle.p_syntax.specs.ReadStatements.{Before, none, after, Tests, if_test, elsif_test, Arms, first_arm, later_arm, Frame, in_then, in_else, in_either, in_with, in_while, Stack, bottom, inside, after_tests, inside_frame, depth, State, begin, ended, Turn, on, done, with_before, with_label, closed_if, closed_either}
 use Rattle.p_syntax.specs.ReadStatements.{opens, ends_simple, after_name, statement_words, statement_by, takes_else, takes_elsif, takes_or, ends, takes_end, closing_words, another_by, ended_by, step, turned, run, read_sequence}
 
@@ -97,10 +98,6 @@ stack_sits x (inside f b ls st) =
 
 sits_less : {n : ℕ} {x : List Open} (d : ℕ) → d ≤ n → Sits n x → Sits d x
 sits_less {n} {x} d l s = record { is = λ f. (let h = leb-true n deepest_statement (s.is f) in le-leb d deepest_statement (omega (arith, l, h))) }
-
-tests_deeper : (d : ℕ) (t : Tests) → d + 1 ≤ after_tests d t
-tests_deeper d (if_test p e q) = omega arith
-tests_deeper d (elsif_test t a p e q) = (let h = tests_deeper d t in omega (arith, h))
 
 -- after a list of binds
 binds_sit : (d : ℕ) (x : List Open) (bs : Binds) → Sits (after_binds d bs) (x ++ binds_open d bs)
@@ -199,11 +196,11 @@ module _ (e : ℕ) (x : List Open) where
   ends_beside a p w bottom = beside_stays (beside_gives (done a) (simp append-nil refl))
   ends_beside a p w (inside (in_then t) b ls st) =
       (let d = depth st in
-      end_beside (codes "if") (closed_if t a no_else p) b ls st (d + 1) (listed a (inside (in_then t) b ls st)) (tests_open d t ++ p_sequence (after_tests d t) a) (sits_less (d + 1) (tests_deeper d t) (listed_sits a (inside (in_then t) b ls st)))
+      end_beside (codes "if") (closed_if t a no_else p) b ls st (d + 1) (listed a (inside (in_then t) b ls st)) (tests_open d t ++ p_sequence (after_tests d t) a) (sits_less (d + 1) (tests_deep d t) (listed_sits a (inside (in_then t) b ls st)))
       (λ q. closed_if_opens d t a no_else p q ∙ simp (append_assoc, append-nil) refl) (simp append_assoc refl) p w)
   ends_beside a p w (inside (in_else t c r) b ls st) =
       (let d = depth st in
-      end_beside (codes "if") (closed_if t c (else_then r a) p) b ls st (d + 1) (listed a (inside (in_else t c r) b ls st)) (frame_opens d (in_else t c r) ++ p_sequence (after_tests d t) a) (sits_less (d + 1) (tests_deeper d t) (listed_sits a (inside (in_else t c r) b ls st)))
+      end_beside (codes "if") (closed_if t c (else_then r a) p) b ls st (d + 1) (listed a (inside (in_else t c r) b ls st)) (frame_opens d (in_else t c r) ++ p_sequence (after_tests d t) a) (sits_less (d + 1) (tests_deep d t) (listed_sits a (inside (in_else t c r) b ls st)))
       (λ q. closed_if_opens d t c (else_then r a) p q ∙ simp append_assoc refl) (simp append_assoc refl) p w)
   ends_beside a p w (inside (in_either (first_arm r)) b ls st) = beside_stays beside_refuses
   ends_beside a p w (inside (in_either (later_arm t c r)) b ls st) =

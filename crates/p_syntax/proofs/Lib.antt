@@ -13,5 +13,6 @@ pub mod MendAlgorithm
 pub mod BesideStatements
 pub mod BesideAlgorithm
 pub mod SameOpens
+pub mod Closing
 pub mod Stops
 pub mod StopsWithin

@@ -1,6 +1,7 @@
 -- Worked rows of reading P-syntax within the limits, by computation: where a form of statements is one too many.
 use Rattle.std.proofs.Common.{◌≡◌, refl, ℕ, zero, suc, true, false, List, [], ◌∷◌, None, Ok, Err, codes}
 use Rattle.tla_token.specs.declared.place.Place.{Place}
+use Rattle.tla_token.specs.Places.{nowhere}
 use Rattle.tla_token.specs.declared.rule.Rule.TheVariants.{TooDeep, Syntax}
 use Rattle.tla_tree.specs.declared.op.Op.TheVariants as op
 use Rattle.tla_tree.specs.Tree.{Word}
@@ -12,7 +13,7 @@ use Rattle.pcal_tree.specs.GrammarParts as part
 use Rattle.pcal_tree.specs.GrammarP.{simple, branch, no_else, last_statement}
 use Rattle.pcal_tree.specs.Grammar.{Text, spell}
 use Rattle.pcal_tree.specs.Grammar as g
-use Rattle.p_syntax.specs.ReadStatements.{depth, bottom, inside, in_then, in_either, in_with, if_test, elsif_test, first_arm, none}
+use Rattle.p_syntax.specs.ReadStatements.{depth, rest, begin, bottom, inside, in_then, in_either, in_with, if_test, elsif_test, first_arm, none}
 use Rattle.p_syntax.specs.ReadAlgorithm.{read_algorithm, read_limited_algorithm}
 
 abbrev at : Place
@@ -23,6 +24,9 @@ word x = token at (tk.word x)
 
 abbrev key : Word → Token
 key x = token at (tk.reserved x)
+
+abbrev no_place : Word → Token
+no_place w = token nowhere (tk.reserved w)
 
 abbrev x : spelled.Phrase
 x = spelled.name at (codes "x")
@@ -90,3 +94,7 @@ how_deep : depth
     (inside (in_either (first_arm at)) none part.no_labels
     (inside (in_then (elsif_test (if_test at x at) (last_statement part.no_labels (simple (part.skip at)) None) at x at)) none part.no_labels bottom))) ≡ 5
 how_deep = refl
+
+-- after `either`: skip or skip end either
+closes_either : rest (begin none part.no_labels (inside (in_either (first_arm at)) none part.no_labels bottom)) ≡ no_place (codes "skip") ∷ no_place (codes "or") ∷ no_place (codes "skip") ∷ no_place (codes "end") ∷ no_place (codes "either") ∷ []
+closes_either = refl

@@ -1,8 +1,9 @@
 -- Reading lists of statements in P-syntax: what stands open is a stack, and each word or part takes one step ("A PlusCal User's Manual, P-Syntax Version", appendix A).
 use Rattle.std.specs.Prelude.{ℕ, zero, suc, ◌+◌, List, [], ◌∷◌, Option, Some, None, codes}
 use Rattle.tla_token.specs.declared.place.Place.{Place}
+use Rattle.tla_token.specs.Places.{nowhere}
 use Rattle.tla_tree.specs.Tree.{Word, Name}
-use Rattle.tla_tree.specs.Lexical.{TokenView}
+use Rattle.tla_tree.specs.Lexical.{TokenView, Token, token}
 use Rattle.tla_tree.specs.Lexical as tk
 use Rattle.tla_tree.specs.Spelling.{Phrase}
 use Rattle.tla_tree.specs.Reader.{Reader, ◌>>=◌, gives, refuses, skip, if_fits}
@@ -173,3 +174,29 @@ run m (suc n) s = step m n s >>= turned (run m n)
 -- up to the `end` after it
 abbrev pub read_sequence : Parts → ℕ → Reader Sequence
 read_sequence m n = run m n (begin none no_labels bottom)
+
+-- ---- what closes what stands open
+abbrev pub word_after : Word → List Token → List Token
+word_after w ts = token nowhere (tk.reserved w) ∷ ts
+
+abbrev pub ends_with : Word → List Token → List Token
+ends_with w ts = word_after (codes "end") (word_after w ts)
+
+-- after a statement; the first branch of an `either` wants another one
+abbrev pub closing : Stack → List Token
+closing bottom = []
+closing (inside (in_then t) b ls st) = ends_with (codes "if") (closing st)
+closing (inside (in_else t a p) b ls st) = ends_with (codes "if") (closing st)
+closing (inside (in_either (first_arm p)) b ls st) = word_after (codes "or") (word_after (codes "skip") (ends_with (codes "either") (closing st)))
+closing (inside (in_either (later_arm t a p)) b ls st) = ends_with (codes "either") (closing st)
+closing (inside (in_with p bs q) b ls st) = ends_with (codes "with") (closing st)
+closing (inside (in_while p e q) b ls st) = ends_with (codes "while") (closing st)
+
+-- up to the `end` after the list
+abbrev pub rest : State → List Token
+rest (begin b ls st) = word_after (codes "skip") (closing st)
+rest (ended b ls a o st) = closing st
+
+abbrev pub open_in : State → ℕ
+open_in (begin b ls st) = depth st
+open_in (ended b ls a o st) = depth st

@@ -1,6 +1,6 @@
 //! Laws of reading algorithms in P-syntax, stated as what functions without a body ensure.
 
-ghost use Rattle.std.specs.Prelude.{◌≡◌, suc, IsTrue, ◌++◌, List, [], ◌∷◌, length, take, map, get_or, Some, Ok, Err};
+ghost use Rattle.std.specs.Prelude.{◌≡◌, ℕ, suc, ◌+◌, ◌*◌, ◌≤◌, codes, IsTrue, ◌++◌, List, [], ◌∷◌, length, take, map, get_or, Some, Ok, Err};
 ghost use Rattle.std.specs.List.{list_all};
 ghost use Rattle.tla_tree.specs.Lexical.{Token};
 ghost use Rattle.tla_token.specs.Tokens as text;
@@ -14,6 +14,10 @@ ghost use Rattle.pcal_tree.specs.AlgorithmTokens.{views};
 ghost use Rattle.pcal_tree.specs.Grammar.{p_syntax, Text, Good, spell, algorithm_of, SpellsP};
 ghost use Rattle.pcal_tree.specs.OpenForms.{opens};
 ghost use Rattle.pcal_tree.specs.OffencesSyntax.{algorithms, PassesTokens, RefusesTokens};
+ghost use Rattle.pcal_tree.specs.GrammarParts.{key};
+ghost use Rattle.pcal_tree.specs.GrammarP.{Sequence};
+ghost use Rattle.algorithm_parts.specs.TokenReaders.{Parts};
+ghost use Rattle.p_syntax.specs.ReadStatements.{State, run, rest, open_in};
 ghost use Rattle.p_syntax.specs.ReadAlgorithm.{read_algorithm, read_limited_algorithm};
 
 /// What is read is an algorithm that may be spelled, and all the tokens are its tokens.
@@ -87,4 +91,11 @@ pub fn limited_refusals_are_not_early()
         → (Passes (algorithms p_syntax) (take (suc (length passed)) (to_end ts)) → ⊥) × StopRule (algorithms p_syntax) (take (suc (length passed)) (to_end ts)) r }
     ensures refused { (ts : List text.Token) (passed rest : List Token) (end : Place) (r : Rule) → read_limited_algorithm (views ts) ≡ Err (r, rest) → views ts ≡ passed ++ rest → Passes (algorithms p_syntax) (map Some (looks passed))
         → RefusesTokens p_syntax ts end (record { rule = r; place = get_or (map (λ (t : text.Token). t.place) ts) (length passed) end }) }
+{}
+
+/// What stands open in a list of statements is closed by `rest`, whatever it is: with these words after it the list is read up to the
+/// `end` that comes then. They are at most four for each form that is open, and one.
+pub fn what_stands_open_is_closed()
+    ensures closed { (m : Parts) (n : ℕ) (s : State) (p : Place) (ts : List Token) → suc (length (rest s)) ≤ n → (ss : Sequence) × (run m n s (rest s ++ key p (codes "end") ts) ≡ Ok (ss, key p (codes "end") ts)) }
+    ensures few { (s : State) → length (rest s) ≤ 4 * open_in s + 1 }
 {}
