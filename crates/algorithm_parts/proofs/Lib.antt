@@ -13,3 +13,6 @@ pub mod Aheads
 pub mod Mends
 pub mod MendParts
 pub mod MendSimple
+pub mod Beside
+pub mod BesideParts
+pub mod BesideSimple
