@@ -24,7 +24,9 @@ ghost use Rattle.action_builder.specs.laws.Settling.{Callable};
 ghost use Rattle.action_builder.specs.laws.LabelSteps.{action_of};
 ghost use Rattle.translation.specs.laws.ActionNames.{action_names};
 ghost use Rattle.translation.specs.laws.Steps.{written_step};
-ghost use Rattle.translation.specs.Region.{written_region, written_module};
+ghost use Rattle.module_tree.specs.laws.WritableRegion.{IsRegion};
+ghost use Rattle.translation.specs.laws.WritableAlgorithm.{IsWritableAlgorithm};
+ghost use Rattle.translation.specs.Region.{region_of, written_region, written_module};
 
 /// The written module of an algorithm and of the same one with other places are the same.
 pub fn no_place_matters_to_the_written_module()
@@ -57,4 +59,10 @@ pub fn the_actions_of_labels_are_those_of_steps()
 pub fn the_form_is_translated_as_any_algorithm()
     ensures { (x : List ℕ) (f : Parts) → IsForm x f → (m : Module) → Reads (translation_of x f) m → (a : Algorithm) → Stands x a
         → Around x (written_module false f.title m.outside (labelled false a)) (translation_of x f) }
+{}
+
+/// What is written of an algorithm that can be written is a translation that can be written and read back: all its names are
+/// names and no reserved words, its expressions can be written, no list is empty, and Terminating stands where Next has it.
+pub fn written_modules_are_regions()
+    ensures { (no_terminating : Bool) (o : Outside) (a : Algorithm) → IsWritableAlgorithm o a → IsRegion (region_of no_terminating (with_names o a)) }
 {}
