@@ -18,3 +18,5 @@ pub mod RegionNext
 pub mod RegionFairness
 pub mod WritableRegions
 mod RowsWritable
+pub mod WritableBare
+pub mod PlacelessAlgorithm

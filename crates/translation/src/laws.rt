@@ -24,9 +24,15 @@ ghost use Rattle.action_builder.specs.laws.Settling.{Callable};
 ghost use Rattle.action_builder.specs.laws.LabelSteps.{action_of};
 ghost use Rattle.translation.specs.laws.ActionNames.{action_names};
 ghost use Rattle.translation.specs.laws.Steps.{written_step};
-ghost use Rattle.module_tree.specs.laws.WritableRegion.{IsRegion};
+ghost use Rattle.module_tree.specs.laws.Kept.{IsFine};
+ghost use Rattle.module_tree.specs.laws.Outsides.{HasOutside};
+ghost use Rattle.module_tree.specs.laws.WritableRegion.{IsRegion, IsWritten};
+ghost use Rattle.module_tree.specs.Layout.{layout};
+ghost use Rattle.module_tree.specs.TextFront.{Text};
+ghost use Rattle.module_tree.specs.Walk.{walk};
+ghost use Rattle.module_tree.specs.WithTranslation.{WithTranslation};
 ghost use Rattle.translation.specs.laws.WritableAlgorithm.{IsWritableAlgorithm};
-ghost use Rattle.translation.specs.Region.{region_of, written_region, written_module};
+ghost use Rattle.translation.specs.Region.{written_region, written_module};
 
 /// The written module of an algorithm and of the same one with other places are the same.
 pub fn no_place_matters_to_the_written_module()
@@ -63,6 +69,9 @@ pub fn the_form_is_translated_as_any_algorithm()
 
 /// What is written of an algorithm that can be written is a translation that can be written and read back: all its names are
 /// names and no reserved words, its expressions can be written, no list is empty, and Terminating stands where Next has it.
+/// So a file that is not refused is one module with it, around that file, with what the file has outside.
 pub fn written_modules_are_regions()
-    ensures { (no_terminating : Bool) (o : Outside) (a : Algorithm) → IsWritableAlgorithm o a → IsRegion (region_of no_terminating (with_names o a)) }
+    ensures regions { (no_terminating : Bool) (o : Outside) (g : Algorithm) → IsWritableAlgorithm o g → IsRegion (written_region no_terminating o g) }
+    ensures files { (no_terminating : Bool) (x w : Text) (o : Outside) (g : Algorithm) → IsWritableAlgorithm o g → IsFine x → HasOutside (walk x) o
+        → WithTranslation x (layout (written_region no_terminating o g)) w → IsWritten x w o (written_region no_terminating o g) }
 {}
