@@ -20,3 +20,4 @@ pub mod WritableRegions
 mod RowsWritable
 pub mod WritableBare
 pub mod PlacelessAlgorithm
+pub mod AcceptedNames

@@ -81,6 +81,11 @@ is_procedure a x = is_among (map (λ p. p.name.word) a.procedures) x
 abbrev pub is_variable : Algorithm → Routine → Word → Bool
 is_variable a u x = declares a.globals x || declares (locals u) x
 
+-- there is a statement, or a label
+abbrev pub IsStarted : Statements → Type 0
+IsStarted done = ⊥
+IsStarted _ = Unit {0}
+
 -- some statement has a label
 abbrev pub IsLabelled : List Word → Type 0
 IsLabelled [] = ⊥
