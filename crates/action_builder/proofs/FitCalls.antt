@@ -5,6 +5,7 @@ use Rattle.tla_tree.specs.Tree.{Word, Each, Tree, Trees, no_trees, tree, root_pl
 use Rattle.tla_tree.specs.laws.Writable.{IsIdentifier, IsString, count, IsWritable}
 use Rattle.pcal_tree.specs.Algorithm.{Name, Span, Declaration, Routine, locals, procedure_routines, Assignments, no_assignments, assignment, assign, Statements, then}
 use Rattle.pcal_tree.specs.Run.{Partner, no_partner, goto_partner, return_partner}
+use Rattle.pcal_tree.specs.Processes.{OneOf}
 use Rattle.pcal_tree.specs.Program.{Program, written}
 use Rattle.pcal_tree.specs.Calls.{label_name, first_label, named}
 use Rattle.pcal_tree.specs.Variables.{written_all, pc, stack}
@@ -67,7 +68,7 @@ return_fits N j P p at h = (
 pub record CalledFits (P : Program) (I : InitialValues) (p : Routine) : Type 0 where
   pub names : NamesFit P p
   pub label : IsString (label_name P p (first_label p))
-  pub initials : (d : Declaration) → IsWritable (I.initial p d)
+  pub initials : (d : Declaration) → OneOf d p.variables → IsWritable (I.initial p d)
 
 module _ (N : Word → Type 0) (j : HasIdentifiers N) (P : Program) (I : InitialValues) (p : Routine) (h : CalledFits P I p) where
   split : (Q : Word → Type 0) → Each Q (written_all P p (locals p)) → Each Q (written_all P p p.params ++ written_all P p p.variables)
@@ -85,10 +86,11 @@ module _ (N : Word → Type 0) (j : HasIdentifiers N) (P : Program) (I : Initial
   stack_apart : Unlike stack (written_all P p p.params)
   stack_apart = each_first (λ y. bytes_eq stack y ≡ false) (written_all P p p.params) (written_all P p p.variables) (split (λ y. bytes_eq stack y ≡ false) h.names.stack)
 
-  variables_fit : (ds : List Declaration) → Each IsIdentifier (written_all P p ds) → (last : Statements) → StatementsFit N IsPlain last → StatementsFit N IsPlain (variables_written P p (I.place p) (I.initial p) ds last)
-  variables_fit [] i last k = k
-  variables_fit (d ∷ ds) i last k =
-      ((tt, tt), one_fits N j (I.place p d) (written P p d.name.word) (I.initial p d) no_assignments i.0 (writable_fits N j (I.initial p d) (h.initials d)) tt, variables_fit ds i.1 last k)
+  variables_fit : (ds : List Declaration) → ((d : Declaration) → OneOf d ds → IsWritable (I.initial p d)) → Each IsIdentifier (written_all P p ds) → (last : Statements) → StatementsFit N IsPlain last
+      → StatementsFit N IsPlain (variables_written P p (I.place p) (I.initial p) ds last)
+  variables_fit [] f i last k = k
+  variables_fit (d ∷ ds) f i last k =
+      ((tt, tt), one_fits N j (I.place p d) (written P p d.name.word) (I.initial p d) no_assignments i.0 (writable_fits N j (I.initial p d) (f d (inl refl))) tt, variables_fit ds (λ c o. f c (inr o)) i.1 last k)
 
   -- the stack and the parameters, and then more
   entered_fits : (at : Place) (st : Tree) (ts : Trees) (rest : Statements) → Fits N st → AllFit N ts → StatementsFit N IsPlain rest
@@ -112,7 +114,7 @@ module _ (N : Word → Type 0) (j : HasIdentifiers N) (P : Program) (I : Initial
       entered_fits at (stack_pushed P p at back) ts (variables_written P p (I.place p) (I.initial p) p.variables (jump_written at (label_name P p (first_label p))))
       (pushed_fits N j P p at (text_at at back) (names_at at (written_all P p (locals p))) (name_at at stack) h.names (text_fits N j at back b) (names_fit N j at (written_all P p (locals p)) h.names.identifiers)
       (names_count at (written_all P p (locals p))) (named_fits N j at stack stack_name))
-      k (variables_fit p.variables variable_names (jump_written at (label_name P p (first_label p))) (jump_fits N j at (label_name P p (first_label p)) h.label))
+      k (variables_fit p.variables h.initials variable_names (jump_written at (label_name P p (first_label p))) (jump_fits N j at (label_name P p (first_label p)) h.label))
 
   -- ---- a call that is one statement with a return in u
 
@@ -138,7 +140,7 @@ module _ (N : Word → Type 0) (j : HasIdentifiers N) (P : Program) (I : Initial
         let others = others_fit end n in
         entered_fits at (stack_replaced P u p at end) ts _
         (pushed_fits N j P p at (kept_field end pc) (values_kept P u p at end) (stack_rest end) h.names (field_fits N j end stack pc (j stack stack_name) (identifier_field pc pc_name)) values.0 values.1 (rest_fits N j end))
-        k (variables_fit p.variables variable_names _ (others.0, others.1, jump_fits N j at (label_name P p (first_label p)) h.label))
+        k (variables_fit p.variables h.initials variable_names _ (others.0, others.1, jump_fits N j at (label_name P p (first_label p)) h.label))
 
 identifiers_or : (N : Word → Type 0) → HasIdentifiers N → HasIdentifiers (OrOld N)
 identifiers_or N j x h = inl (j x h)

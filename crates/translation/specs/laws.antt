@@ -1,3 +1,4 @@
 -- The words in which the laws are stated.
 pub mod Steps
 pub mod ActionNames
+pub mod WritableAlgorithm
