@@ -2,13 +2,14 @@
 use Rattle.std.specs.Prelude.{◌≡◌, ℕ, ◌<◌, ◌≤◌, List, length, IfOk, Result, Ok, Err, Option, Some, None}
 use Rattle.std.specs.Borrow.{MutBor}
 use Rattle.tla_token.specs.declared.token.Tokens.{Tokens}
-use Rattle.tla_tree.specs.Tree.{Tree}
+use Rattle.tla_tree.specs.Tree.{Tree, Word}
 use Rattle.tla_tree.specs.Pool.{Keeps}
 use Rattle.tla_token.specs.declared.place.Place.{Place}
 use Rattle.tla_tree.specs.Lexical.{Token}
 use Rattle.tla_tree.specs.Lexical as tk
-use Rattle.tla_tree.specs.Spelling.{Phrase, apply, select}
-use Rattle.tla_tree.specs.Reader.{Out, Reader, Readers, ◌>>=◌, gives, a_mark, a_field}
+use Rattle.tla_tree.specs.declared.op.Op.{Op}
+use Rattle.tla_tree.specs.Spelling.{Phrase, apply, select, brackets, call, tuple, prefix_of}
+use Rattle.tla_tree.specs.Reader.{Out, Reader, Readers, ◌>>=◌, gives, ended, a_mark, a_field, free, under}
 use Rattle.tla_tree.specs.Whole.{whole}
 use Rattle.tla_expr.specs.declared.cursor.Halt.{Halt}
 use Rattle.tla_expr.specs.declared.make.Read.{Read}
@@ -62,3 +63,16 @@ applied d e a p = d.phrases e >>= λ xs. a_mark e tk.close_square >>= λ q. give
 
 abbrev pub selected : ℕ → Phrase → Place → Reader Phrase
 selected e a p = a_field e >>= λ f. gives (select a p f)
+
+-- ---- behind the first token of a form
+abbrev pub bracketed : Readers → ℕ → Place → Reader Phrase
+bracketed d e p = d.expr e free >>= λ a. a_mark e tk.close_bracket >>= λ q. gives (brackets p a q)
+
+abbrev pub called : Readers → ℕ → Place → Word → Place → Reader Phrase
+called d e p x q = d.phrases e >>= λ xs. ended e tk.close_bracket (λ s. call p x q xs s)
+
+abbrev pub tupled : Readers → ℕ → Place → Reader Phrase
+tupled d e p = d.phrases e >>= λ xs. ended e tk.close_tuple (λ s. tuple p xs s)
+
+abbrev pub under_prefix : Readers → ℕ → Place → Op → Reader Phrase
+under_prefix d e p q = d.expr e (under q) >>= λ a. gives (prefix_of p q a)

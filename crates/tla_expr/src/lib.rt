@@ -10,6 +10,7 @@ pub mod quote;
 pub mod read_climb;
 pub mod read_link;
 pub mod read_open;
+pub mod read_plain;
 pub mod read_row;
 pub mod shape;
 pub mod spot;
