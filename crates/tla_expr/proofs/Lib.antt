@@ -9,3 +9,7 @@ pub mod DepthLemmas
 pub mod ReadSteps
 pub mod ReadCode
 pub mod QuoteLemmas
+pub mod AheadLemmas
+pub mod ReadRows
+pub mod ReadLinks
+pub mod ReadGrown
