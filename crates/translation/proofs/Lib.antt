@@ -21,3 +21,5 @@ mod RowsWritable
 pub mod WritableBare
 pub mod PlacelessAlgorithm
 pub mod AcceptedNames
+pub mod TypedParts
+pub mod TypedAlgorithms

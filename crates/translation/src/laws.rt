@@ -38,6 +38,9 @@ ghost use Rattle.module_tree.specs.Layout.{layout};
 ghost use Rattle.module_tree.specs.TextFront.{Text};
 ghost use Rattle.module_tree.specs.Walk.{walk};
 ghost use Rattle.module_tree.specs.WithTranslation.{WithTranslation};
+ghost use Rattle.tla_tree.specs.laws.Writable.{AreOfText};
+ghost use Rattle.pcal_tree.specs.Grammar.{Syntax, Text as AlgorithmAsSpelled, Good, algorithm_of};
+ghost use Rattle.translation.specs.laws.TypedAlgorithm.{tokens_after_head, IsTypedAlgorithm};
 ghost use Rattle.translation.specs.laws.WritableAlgorithm.{IsStarted, IsLabelled, IsWritableAlgorithm};
 ghost use Rattle.translation.specs.Region.{written_region, written_module};
 
@@ -90,4 +93,10 @@ pub fn rules_help_to_write()
     ensures once { (a : Algorithm) (o : Outside) → repeated_names a o ≡ [] → (u : Routine) → OneOf u (routines a) → AllUnlike (declared (locals u)) }
     ensures free { (a : Algorithm) (o : Outside) → reserved_declared a o ≡ [] → EachOf (λ (d : Definition). IsTrue (not (is_own d.name.word))) a.definitions }
     ensures labelled { (a : Algorithm) → label_offences a ≡ [] → (u : Routine) → OneOf u (routines a) → IsStarted u.body → IsLabelled (label_words u.body) }
+{}
+
+/// Of an algorithm that is spelled by tokens of a text, in one syntax or the other, all names are identifiers and all expressions can be
+/// written, each left side begins with a name, no body is empty, and there is one body or a process.
+pub fn spelled_algorithms_are_typed()
+    ensures { (s : Syntax) (x : AlgorithmAsSpelled) → Good s x → AreOfText (tokens_after_head x []) → IsTypedAlgorithm (algorithm_of x) }
 {}
