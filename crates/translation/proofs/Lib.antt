@@ -23,3 +23,4 @@ pub mod PlacelessAlgorithm
 pub mod AcceptedNames
 pub mod TypedParts
 pub mod TypedAlgorithms
+pub mod AcceptedAlgorithms

@@ -1,6 +1,6 @@
 //! Laws of the written module, stated as what functions without a body ensure.
 
-ghost use Rattle.std.specs.Prelude.{◌≡◌, ℕ, List, [], Bool, false, not, Some, map};
+ghost use Rattle.std.specs.Prelude.{◌≡◌, ℕ, List, [], Bool, false, not, Some, map, reverse};
 ghost use Rattle.tla_tree.specs.Tree.{Word};
 ghost use Rattle.tla_value.specs.Outside.{Outside};
 ghost use Rattle.module_tree.specs.Module.{test, item, Module};
@@ -9,6 +9,8 @@ ghost use Rattle.pcal_tree.specs.Algorithm.{Routine, locals, routines, Definitio
 ghost use Rattle.pcal_tree.specs.OffencesNames.{repeated_names};
 ghost use Rattle.pcal_tree.specs.OffencesReserved.{reserved_declared};
 ghost use Rattle.pcal_tree.specs.OffencesLabels.{label_words, label_offences};
+ghost use Rattle.pcal_tree.specs.Expand.{expanded};
+ghost use Rattle.pcal_tree.specs.laws.Apart.{FewNames};
 ghost use Rattle.pcal_tree.specs.Processes.{OneOf};
 ghost use Rattle.std.specs.Bool.{IsTrue};
 ghost use Rattle.tla_token.specs.Words.{is_own};
@@ -41,7 +43,7 @@ ghost use Rattle.module_tree.specs.WithTranslation.{WithTranslation};
 ghost use Rattle.tla_tree.specs.laws.Writable.{AreOfText};
 ghost use Rattle.pcal_tree.specs.Grammar.{Syntax, Text as AlgorithmAsSpelled, Good, algorithm_of};
 ghost use Rattle.translation.specs.laws.TypedAlgorithm.{tokens_after_head, IsTypedAlgorithm};
-ghost use Rattle.translation.specs.laws.WritableAlgorithm.{IsStarted, IsLabelled, IsWritableAlgorithm};
+ghost use Rattle.translation.specs.laws.WritableAlgorithm.{AreWritableStatements, is_procedure, is_variable, IsStarted, IsLabelled, IsWritableAlgorithm};
 ghost use Rattle.translation.specs.Region.{written_region, written_module};
 
 /// The written module of an algorithm and of the same one with other places are the same.
@@ -99,4 +101,12 @@ pub fn rules_help_to_write()
 /// written, each left side begins with a name, no body is empty, and there is one body or a process.
 pub fn spelled_algorithms_are_typed()
     ensures { (s : Syntax) (x : AlgorithmAsSpelled) → Good s x → AreOfText (tokens_after_head x []) → IsTypedAlgorithm (algorithm_of x) }
+{}
+
+/// An algorithm that has what its text gives, and breaks no rule on names declared twice, on reserved names and on labels, can be written
+/// where the statements of each body can with macro calls written out.
+pub fn accepted_algorithms_can_be_written()
+    ensures { (o : Outside) (a : Algorithm) → IsTypedAlgorithm a → FewNames a o → repeated_names a o ≡ [] → reserved_declared a o ≡ [] → label_offences a ≡ []
+        → ((u : Routine) → OneOf u (routines a) → AreWritableStatements (is_procedure a) (is_variable a u) (expanded (reverse a.macros) u.body))
+        → IsWritableAlgorithm o a }
 {}
