@@ -24,3 +24,4 @@ pub mod AcceptedNames
 pub mod TypedParts
 pub mod TypedAlgorithms
 pub mod AcceptedAlgorithms
+pub mod TypedLabels

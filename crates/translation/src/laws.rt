@@ -98,9 +98,10 @@ pub fn rules_help_to_write()
 {}
 
 /// Of an algorithm that is spelled by tokens of a text, in one syntax or the other, all names are identifiers and all expressions can be
-/// written, each left side begins with a name, no body is empty, and there is one body or a process.
+/// written, each left side begins with a name, no body is empty, and there is one body or a process. This stays so with labels added.
 pub fn spelled_algorithms_are_typed()
-    ensures { (s : Syntax) (x : AlgorithmAsSpelled) → Good s x → AreOfText (tokens_after_head x []) → IsTypedAlgorithm (algorithm_of x) }
+    ensures typed { (s : Syntax) (x : AlgorithmAsSpelled) → Good s x → AreOfText (tokens_after_head x []) → IsTypedAlgorithm (algorithm_of x) }
+    ensures labelled { (forced : Bool) (a : Algorithm) → IsTypedAlgorithm a → IsTypedAlgorithm (labelled forced a) }
 {}
 
 /// An algorithm that has what its text gives, and breaks no rule on names declared twice, on reserved names and on labels, can be written
