@@ -21,3 +21,7 @@ mod RowsWritable
 pub mod WritableBare
 pub mod PlacelessAlgorithm
 pub mod AcceptedNames
+pub mod TypedParts
+pub mod TypedAlgorithms
+pub mod AcceptedAlgorithms
+pub mod TypedLabels

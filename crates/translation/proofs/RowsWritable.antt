@@ -3,11 +3,12 @@ use Rattle.std.proofs.Common.{[], ◌∷◌, Bool, true, false, codes, refl, inl
 use Rattle.module_tree.specs.Formulas.{named}
 use Rattle.module_tree.specs.laws.WritableRegion.{IsRegion}
 use Rattle.tla_tree.specs.Tree.{Word, no_trees}
-use Rattle.pcal_tree.specs.Algorithm.{either, call, no_branches, Statements, alone_routine, Routine, Algorithm}
+use Rattle.pcal_tree.specs.Algorithm.{done, either, call, no_branches, Statements, alone_routine, Routine, Algorithm}
 use Rattle.pcal_tree.specs.Processes.{OneOf}
 use Rattle.action_builder.specs.WrittenNames.{with_names}
 use Rattle.translation.specs.Region.{region_of}
 use Rattle.translation.specs.laws.WritableAlgorithm.{IsWritableStatement, IsWritableRoutine, IsWritableAlgorithm}
+use Rattle.translation.specs.laws.TypedAlgorithm.{IsTypedStatement, IsTypedBody, IsTypedAlgorithm}
 use Rattle.translation.proofs.Trees.{word, x, y, num, sets, both, just, labelled, zero_of, one_body, integers}
 use Rattle.translation.proofs.WritableRegions.{region_writable}
 
@@ -68,3 +69,21 @@ no_left_side h = (let e = h.0.0.1.1 in cc)
 -- call P() of no procedure
 no_procedure : IsWritableStatement none any (call (word (codes "P")) no_trees) → ⊥
 no_procedure h = (let e = h.0 in cc)
+
+-- the same algorithm has what its text gives
+sample_typed : IsTypedAlgorithm sample
+sample_typed = record {
+  name = ((refl, refl), refl);
+  globals = ((((refl, refl), refl), ((omega arith, refl), tt, tt, tt, tt)), tt);
+  definitions = tt;
+  macros = tt;
+  procedures = tt;
+  main = (tt, (((refl, refl), refl), (((refl, (((refl, refl), refl), tt), tt, tt, tt), refl, ((omega arith, refl), tt, tt, tt, tt), tt), tt)));
+}
+
+-- 1 := 1 begins with no name, and a body that is empty has no text
+not_typed : IsTypedStatement (both (num 1) (num 1) (named y) (num 2)) → ⊥
+not_typed h = (let e = h.1 in cc)
+
+no_body : IsTypedBody done → ⊥
+no_body h = h.0

@@ -2,3 +2,4 @@
 pub mod Steps
 pub mod ActionNames
 pub mod WritableAlgorithm
+pub mod TypedAlgorithm

@@ -1,6 +1,6 @@
 //! Laws of the written module, stated as what functions without a body ensure.
 
-ghost use Rattle.std.specs.Prelude.{◌≡◌, ℕ, List, [], Bool, false, not, Some, map};
+ghost use Rattle.std.specs.Prelude.{◌≡◌, ℕ, List, [], Bool, false, not, Some, map, reverse};
 ghost use Rattle.tla_tree.specs.Tree.{Word};
 ghost use Rattle.tla_value.specs.Outside.{Outside};
 ghost use Rattle.module_tree.specs.Module.{test, item, Module};
@@ -9,6 +9,8 @@ ghost use Rattle.pcal_tree.specs.Algorithm.{Routine, locals, routines, Definitio
 ghost use Rattle.pcal_tree.specs.OffencesNames.{repeated_names};
 ghost use Rattle.pcal_tree.specs.OffencesReserved.{reserved_declared};
 ghost use Rattle.pcal_tree.specs.OffencesLabels.{label_words, label_offences};
+ghost use Rattle.pcal_tree.specs.Expand.{expanded};
+ghost use Rattle.pcal_tree.specs.laws.Apart.{FewNames};
 ghost use Rattle.pcal_tree.specs.Processes.{OneOf};
 ghost use Rattle.std.specs.Bool.{IsTrue};
 ghost use Rattle.tla_token.specs.Words.{is_own};
@@ -38,7 +40,10 @@ ghost use Rattle.module_tree.specs.Layout.{layout};
 ghost use Rattle.module_tree.specs.TextFront.{Text};
 ghost use Rattle.module_tree.specs.Walk.{walk};
 ghost use Rattle.module_tree.specs.WithTranslation.{WithTranslation};
-ghost use Rattle.translation.specs.laws.WritableAlgorithm.{IsStarted, IsLabelled, IsWritableAlgorithm};
+ghost use Rattle.tla_tree.specs.laws.Writable.{AreOfText};
+ghost use Rattle.pcal_tree.specs.Grammar.{Syntax, Text as AlgorithmAsSpelled, Good, algorithm_of};
+ghost use Rattle.translation.specs.laws.TypedAlgorithm.{tokens_after_head, IsTypedAlgorithm};
+ghost use Rattle.translation.specs.laws.WritableAlgorithm.{AreWritableStatements, is_procedure, is_variable, IsStarted, IsLabelled, IsWritableAlgorithm};
 ghost use Rattle.translation.specs.Region.{written_region, written_module};
 
 /// The written module of an algorithm and of the same one with other places are the same.
@@ -90,4 +95,19 @@ pub fn rules_help_to_write()
     ensures once { (a : Algorithm) (o : Outside) → repeated_names a o ≡ [] → (u : Routine) → OneOf u (routines a) → AllUnlike (declared (locals u)) }
     ensures free { (a : Algorithm) (o : Outside) → reserved_declared a o ≡ [] → EachOf (λ (d : Definition). IsTrue (not (is_own d.name.word))) a.definitions }
     ensures labelled { (a : Algorithm) → label_offences a ≡ [] → (u : Routine) → OneOf u (routines a) → IsStarted u.body → IsLabelled (label_words u.body) }
+{}
+
+/// Of an algorithm that is spelled by tokens of a text, in one syntax or the other, all names are identifiers and all expressions can be
+/// written, each left side begins with a name, no body is empty, and there is one body or a process. This stays so with labels added.
+pub fn spelled_algorithms_are_typed()
+    ensures typed { (s : Syntax) (x : AlgorithmAsSpelled) → Good s x → AreOfText (tokens_after_head x []) → IsTypedAlgorithm (algorithm_of x) }
+    ensures labelled { (forced : Bool) (a : Algorithm) → IsTypedAlgorithm a → IsTypedAlgorithm (labelled forced a) }
+{}
+
+/// An algorithm that has what its text gives, and breaks no rule on names declared twice, on reserved names and on labels, can be written
+/// where the statements of each body can with macro calls written out.
+pub fn accepted_algorithms_can_be_written()
+    ensures { (o : Outside) (a : Algorithm) → IsTypedAlgorithm a → FewNames a o → repeated_names a o ≡ [] → reserved_declared a o ≡ [] → label_offences a ≡ []
+        → ((u : Routine) → OneOf u (routines a) → AreWritableStatements (is_procedure a) (is_variable a u) (expanded (reverse a.macros) u.body))
+        → IsWritableAlgorithm o a }
 {}
