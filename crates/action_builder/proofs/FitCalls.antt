@@ -7,7 +7,7 @@ use Rattle.pcal_tree.specs.Algorithm.{Name, Span, Declaration, Routine, locals, 
 use Rattle.pcal_tree.specs.Run.{Partner, no_partner, goto_partner, return_partner}
 use Rattle.pcal_tree.specs.Processes.{OneOf}
 use Rattle.pcal_tree.specs.Program.{Program, written}
-use Rattle.pcal_tree.specs.Calls.{label_name, first_label, named}
+use Rattle.pcal_tree.specs.Calls.{label_name, first_label, routine_named}
 use Rattle.pcal_tree.specs.Variables.{written_all, pc, stack}
 use Rattle.action_builder.specs.Jumps.{name_at, text_at, one_assignment, spot, jump_written, kept_field, stack_rest, fields_restored, return_assignments, return_written, names_at, stack_pushed, arguments_assigned, variables_written, call_written, kept_fields, values_kept, stack_replaced, fields_of, others_restored, pair_body, pair_written, InitialValues, JumpPlaces, call_with, call_to, written_jumps}
 use Rattle.action_builder.specs.Written.{old_stack}
@@ -156,12 +156,12 @@ pair_fits N j P I p h u names same at end ts k =
 -- what is asked of the procedures: each can be called, and is u where it has its number
 pub record ProceduresFit (P : Program) (I : InitialValues) (u : Routine) : Type 0 where
   pub own : NamesFit P u
-  pub called : (x : Word) (p : Routine) → named x (procedure_routines P.algorithm) ≡ Some p → CalledFits P I p
-  pub same : (x : Word) (p : Routine) → named x (procedure_routines P.algorithm) ≡ Some p → nat_eq u.number p.number ≡ true → u ≡ p
+  pub called : (x : Word) (p : Routine) → routine_named x (procedure_routines P.algorithm) ≡ Some p → CalledFits P I p
+  pub same : (x : Word) (p : Routine) → routine_named x (procedure_routines P.algorithm) ≡ Some p → nat_eq u.number p.number ≡ true → u ≡ p
 
 -- there is a procedure of this name
 abbrev pub IsProcedure : Program → Word → Type 0
-IsProcedure P x = (p : Routine) × (named x (procedure_routines P.algorithm) ≡ Some p)
+IsProcedure P x = (p : Routine) × (routine_named x (procedure_routines P.algorithm) ≡ Some p)
 
 module _ (P : Program) (u : Routine) (I : InitialValues) (places : JumpPlaces) (h : ProceduresFit P I u) (labels : (l : Word) → IsString l → IsString (label_name P u l)) where
   pub goes_fit : (N : Word → Type 0) → HasIdentifiers N → (l : Word) → IsString l → StatementsFit N IsPlain ((written_jumps P u I places).goto l)

@@ -1,7 +1,7 @@
 -- Statements whose trees can be written but that their names are of some kind, and of which each meets what is asked besides.
 use Rattle.std.proofs.Common.{◌≡◌, true, List, [], ◌∷◌, ◌++◌, bytes_eq, ◌⊎◌, inl, inr, refl, sym, subst, ◌∙◌, Option, Some, None}
 use Rattle.tla_token.specs.declared.place.Place.{Place}
-use Rattle.tla_tree.specs.Tree.{Word, Form, name, strict, select, Tree, node, Trees, no_trees, tree, Graft, grafted_node, graft, grafts}
+use Rattle.tla_tree.specs.Tree.{Word, Form, name, strict, apply, select, Tree, node, Trees, no_trees, tree, Graft, grafted_node, graft, grafts}
 use Rattle.tla_tree.specs.laws.Writable.{IsIdentifier}
 use Rattle.pcal_tree.specs.Algorithm.{Assignments, no_assignments, assignment, Binds, no_binds, one_of, is, Statement, assign, await, print, assert, skip, branch, either, with, while, goto, macro, call, return, Statements, done, then, mark, Branches, no_branches, or}
 use Rattle.pcal_tree.specs.Expand.{placed_at, graft_left, graft_assignments, graft_binds, graft_one, graft_all, graft_some}
@@ -86,7 +86,9 @@ IsPlain _ = Unit {0}
 head_node : (g : Graft) (h : Word → Word) → ((x : Word) (at : Place) (ts : Trees) → head_of (grafted_node g (name x) at ts) ≡ h x) → h [] ≡ []
     → (m : Form) (at : Place) (ts us : Trees) → head_first us ≡ h (head_first ts) → head_of (grafted_node g m at us) ≡ h (head_of (node m at ts))
 head_node g h k z (name x) at ts us e = k x at us
-head_node g h k z m at ts us e = e
+head_node g h k z (strict apply) at ts us e = e
+head_node g h k z (strict (select a)) at ts us e = e
+head_node g h k z m at ts us e = sym z
 
 mutual
   -- the variable of a left side is that of what is put in for it

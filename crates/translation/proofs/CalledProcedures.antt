@@ -9,7 +9,7 @@ use Rattle.module_tree.specs.laws.WritableRegion.{EachOf}
 use Rattle.module_tree.specs.Formulas.{unset_value}
 use Rattle.pcal_tree.specs.Algorithm.{Start, unset, equals, among, Declaration, declares, locals, Procedure, Process, Main, alone, processes, Routine, procedure_routine, process_routine, numbered, first_procedure, first_process, procedure_routines, main_routines, routines, Algorithm}
 use Rattle.pcal_tree.specs.Expand.{written_out}
-use Rattle.pcal_tree.specs.Calls.{first_label, named}
+use Rattle.pcal_tree.specs.Calls.{first_label, routine_named}
 use Rattle.pcal_tree.specs.Processes.{OneOf}
 use Rattle.pcal_tree.specs.Program.{Program}
 use Rattle.pcal_tree.proofs.RoutineNames.{one_either}
@@ -65,19 +65,19 @@ module _ (a : Algorithm) where
 
   -- ---- procedures of a name
 
-  named_from : (n : ℕ) (ps : List Procedure) (x : Word) → is_among (map (λ (p : Procedure). p.name.word) ps) x ≡ true → (p : Routine) × (named x (numbered procedure_routine n ps) ≡ Some p)
+  named_from : (n : ℕ) (ps : List Procedure) (x : Word) → is_among (map (λ (p : Procedure). p.name.word) ps) x ≡ true → (p : Routine) × (routine_named x (numbered procedure_routine n ps) ≡ Some p)
   named_from n [] x e = absurd (true_false (sym e))
     where
       true_false : true ≡ false → ⊥
       true_false q = cc
   named_from n (p ∷ ps) x e = by (named_from (suc n) ps x) (bytes_eq p.name.word x) e
     where
-      by : (is_among (map (λ (q : Procedure). q.name.word) ps) x ≡ true → (p : Routine) × (named x (numbered procedure_routine (suc n) ps) ≡ Some p)) → (b : Bool) → (b || is_among (map (λ (q : Procedure). q.name.word) ps) x) ≡ true
-          → (r : Routine) × (cond b (Some (procedure_routine n p)) (named x (numbered procedure_routine (suc n) ps)) ≡ Some r)
+      by : (is_among (map (λ (q : Procedure). q.name.word) ps) x ≡ true → (p : Routine) × (routine_named x (numbered procedure_routine (suc n) ps) ≡ Some p)) → (b : Bool) → (b || is_among (map (λ (q : Procedure). q.name.word) ps) x) ≡ true
+          → (r : Routine) × (cond b (Some (procedure_routine n p)) (routine_named x (numbered procedure_routine (suc n) ps)) ≡ Some r)
       by f true d = (procedure_routine n p, refl)
       by f false d = f d
 
-  pub is_called : (x : Word) → is_procedure a x ≡ true → (p : Routine) × (named x (procedure_routines a) ≡ Some p)
+  pub is_called : (x : Word) → is_procedure a x ≡ true → (p : Routine) × (routine_named x (procedure_routines a) ≡ Some p)
   is_called x e = named_from (first_procedure a) a.procedures x e
 
   exit_from : (n : ℕ) (ps : List Procedure) (u : Routine) → OneOf u (numbered procedure_routine n ps) → IsString u.exit
@@ -102,11 +102,11 @@ module _ (a : Algorithm) where
       by (inl q) = exit_from (first_procedure a) a.procedures u q
       by (inr q) = main_exit a.main u q
 
-some_one : (x : Word) (us : List Routine) (p : Routine) → named x us ≡ Some p → OneOf p us
+some_one : (x : Word) (us : List Routine) (p : Routine) → routine_named x us ≡ Some p → OneOf p us
 some_one x [] p e = cc
 some_one x (u ∷ us) p e = by (some_one x us p) (bytes_eq u.name.word x) e
   where
-    by : (named x us ≡ Some p → OneOf p us) → (b : Bool) → cond b (Some u) (named x us) ≡ Some p → OneOf p (u ∷ us)
+    by : (routine_named x us ≡ Some p → OneOf p us) → (b : Bool) → cond b (Some u) (routine_named x us) ≡ Some p → OneOf p (u ∷ us)
     by f true d = inl (sym (ap (λ o. elim o as (λ q. Routine) [ None ↦ u | (Some v) ↦ v ]) d))
     by f false d = inr (f d)
 
