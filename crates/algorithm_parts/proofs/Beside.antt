@@ -96,7 +96,7 @@ beside_same {A} {p} {k} {x} {y} {Q} {r} {q} e h = subst (λ (z : List Open). Bes
 late_one : (x : List Open) (o : Open) (j t : ℕ) → Late x j (suc t) → Late (x ++ o ∷ []) j t
 late_one x o j t = late_on x (o ∷ []) j (suc t) t (omega arith)
 
-fit_one : (x : List Open) (o : Open) → (Fit x → is_within o ≡ true) → Fit x → Fit (x ++ o ∷ [])
+pub fit_one : (x : List Open) (o : Open) → (Fit x → is_within o ≡ true) → Fit x → Fit (x ++ o ∷ [])
 fit_one x o h f = fit_both x (o ∷ []) f (rw (h f) refl)
 
 -- past a token

@@ -61,7 +61,7 @@ counts_deep d (n ∷ ns) r m (inl (l, k)) =
     inl (too_many n d l, omega (arith, a, b, c, e, k)))
 counts_deep d (n ∷ ns) r m (inr h) = inr (counts_deep d ns r m h)
 
-counts_fit : (d : ℕ) (ns : List ℕ) → nat_le d deepest_statement ≡ true → counted.Fit deepest_expression ns → Fit (within d ns)
+pub counts_fit : (d : ℕ) (ns : List ℕ) → nat_le d deepest_statement ≡ true → counted.Fit deepest_expression ns → Fit (within d ns)
 counts_fit d [] e f = refl
 counts_fit d (n ∷ ns) e f = rw (le-leb n deepest_expression f.0, e, counts_fit d ns e f.1) refl
 
@@ -142,7 +142,7 @@ by_variables r q h x y i (Some (by_semicolon t)) p (tk.word z) = beside_stays (b
 by_variables r q h x y i (Some (by_comma t)) p (tk.word z) = beside_stays (beside_bind (h (x ++ here 0 ++ initial_opens i ++ here 0)) (λ vs. beside_gives (variable y i (by_comma t) vs) (simp append_assoc refl)))
 by_variables r q h x y i s p k = beside_stays (beside_gives (last_variable y i s) (simp append_assoc refl))
 
-beside_variables : (e : ℕ) (b : Bool) (n : ℕ) (x : List Open) → Beside x (λ vs. x ++ variables_open vs) (read_variables b (limited_parts e) n) (read_variables b (unlimited_parts e) n)
+pub beside_variables : (e : ℕ) (b : Bool) (n : ℕ) (x : List Open) → Beside x (λ vs. x ++ variables_open vs) (read_variables b (limited_parts e) n) (read_variables b (unlimited_parts e) n)
 beside_variables e b zero x = beside_refuses
 beside_variables e b (suc n) x =
     beside_bind (beside_name 0 sits) (λ y. beside_bind (beside_initial e b (x ++ here 0)) (λ i. beside_bind (beside_separator 0 (x ++ here 0 ++ initial_opens i) sits) (λ s.
@@ -160,7 +160,7 @@ beside_section e b n x = beside_next by
     by p k = beside_stays (beside_gives no_section (append-nil x))
 
 -- ---- parameters and definitions
-names_plain : (d : ℕ) (xs : Names) (ts : List Token) → flat_map (λ (t : Token). here d) (names xs ts) ≡ opens.plain d (names xs) ++ flat_map (λ (t : Token). here d) ts
+pub names_plain : (d : ℕ) (xs : Names) (ts : List Token) → flat_map (λ (t : Token). here d) (names xs ts) ≡ opens.plain d (names xs) ++ flat_map (λ (t : Token). here d) ts
 names_plain d (last_name y) ts = refl
 names_plain d (more_names y p xs) ts = rw (names_plain d xs ts) refl
 
@@ -168,12 +168,12 @@ by_names : (r q : Reader Names) → ((x : List Open) → Beside x (λ xs. x ++ o
 by_names r q h x y p (tk.mark tk.comma) = beside_skip 0 sits refl (beside_bind (h (x ++ here 0 ++ here 0)) (λ xs. beside_gives (more_names y p xs) (simp append_assoc refl)))
 by_names r q h x y p k = beside_stays (beside_gives (last_name y) refl)
 
-beside_names : (n : ℕ) (x : List Open) → Beside x (λ xs. x ++ opens.plain 0 (names xs)) (read_names n) (read_names n)
+pub beside_names : (n : ℕ) (x : List Open) → Beside x (λ xs. x ++ opens.plain 0 (names xs)) (read_names n) (read_names n)
 beside_names zero x = beside_refuses
 beside_names (suc n) x = beside_bind (beside_name 0 sits) (λ y. beside_next (by_names (read_names n) (read_names n) (beside_names n) x y))
 
 -- names and the bracket after them
-named_plain : (x : List Open) (o : Open) (xs : Names) (t : Token) → x ++ (o ∷ flat_map (λ (t : Token). here 0) (names xs (t ∷ []))) ≡ x ++ (o ∷ []) ++ opens.plain 0 (names xs) ++ here 0
+pub named_plain : (x : List Open) (o : Open) (xs : Names) (t : Token) → x ++ (o ∷ flat_map (λ (t : Token). here 0) (names xs (t ∷ []))) ≡ x ++ (o ∷ []) ++ opens.plain 0 (names xs) ++ here 0
 named_plain x o xs t = rw (names_plain 0 xs (t ∷ [])) (simp append_assoc refl)
 
 pub beside_macro_parameters : (n : ℕ) (x : List Open) → Beside x (λ ps. x ++ opens.plain 0 (macro_parameters ps)) (read_macro_parameters n) (read_macro_parameters n)
@@ -188,7 +188,7 @@ by_parameters : (r q : Reader Parameters) → ((x : List Open) → Beside x (λ 
 by_parameters r q h x y i p (tk.mark tk.comma) = beside_skip 0 sits refl (beside_bind (h (x ++ here 0 ++ initial_opens i ++ here 0)) (λ xs. beside_gives (parameter y i p xs) (simp append_assoc refl)))
 by_parameters r q h x y i p k = beside_stays (beside_gives (last_parameter y i) (simp append_assoc refl))
 
-beside_parameters : (e n : ℕ) (x : List Open) → Beside x (λ xs. x ++ parameters_open xs) (read_parameters (limited_parts e) n) (read_parameters (unlimited_parts e) n)
+pub beside_parameters : (e n : ℕ) (x : List Open) → Beside x (λ xs. x ++ parameters_open xs) (read_parameters (limited_parts e) n) (read_parameters (unlimited_parts e) n)
 beside_parameters e zero x = beside_refuses
 beside_parameters e (suc n) x =
     beside_bind (beside_name 0 sits) (λ y. beside_bind (beside_initial e false (x ++ here 0)) (λ i. beside_next (by_parameters (read_parameters (limited_parts e) n) (read_parameters (unlimited_parts e) n) (beside_parameters e n) x y i)))
@@ -200,7 +200,7 @@ beside_procedure_parameters e n x = beside_bind (beside_mark 0 sits tk.open_brac
     by p q (tk.mark tk.close_bracket) = beside_skip 0 sits refl (beside_gives (no_parameters p q) (simp append_assoc refl))
     by p q k = beside_stays (beside_bind (beside_parameters e n (x ++ here 0)) (λ xs. beside_bind (beside_mark 0 sits tk.close_bracket) (λ r. beside_gives (some_parameters p xs r) (simp append_assoc refl))))
 
-beside_heading : (n : ℕ) (x : List Open) → Beside x (λ h. x ++ opens.plain 0 (heading h)) (read_heading n) (read_heading n)
+pub beside_heading : (n : ℕ) (x : List Open) → Beside x (λ h. x ++ opens.plain 0 (heading h)) (read_heading n) (read_heading n)
 beside_heading n x = beside_bind (beside_name 0 sits) (λ y. beside_next (by y))
   where
     by : (y : Name) (p : Place) (k : TokenView) → BesideAt p k (x ++ here 0) (λ h. x ++ opens.plain 0 (heading h)) (heading_by n y p k) (heading_by n y p k)

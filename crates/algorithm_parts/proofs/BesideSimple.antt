@@ -40,14 +40,14 @@ one d = record { expressions = 1; statements = d }
 abbrev nought : ℕ → Open
 nought d = record { expressions = 0; statements = d }
 
-subscripts_opens : (d : ℕ) (xs : Phrases) → within d (counts_all 1 xs (1 ∷ [])) ≡ within d (counts_all 1 xs []) ++ one d ∷ []
+pub subscripts_opens : (d : ℕ) (xs : Phrases) → within d (counts_all 1 xs (1 ∷ [])) ≡ within d (counts_all 1 xs []) ++ one d ∷ []
 subscripts_opens d xs = ap (within d) ((counted.ahead_all 1 xs).is [] (1 ∷ [])) ∙ map-append (λ (n : ℕ). record { expressions = n; statements = d }) (counts_all 1 xs []) (1 ∷ [])
 
-field_other : (p : Place) (k : TokenView) (f : Field) → field_of p k ≡ Some f → is_other k ≡ false
+pub field_other : (p : Place) (k : TokenView) (f : Field) → field_of p k ≡ Some f → is_other k ≡ false
 field_other p (tk.other w) f e = absurd cc
 field_other p k f e = refl
 
-word_other : (p : Place) (k : TokenView) (y : Place × Word) → word_of p k ≡ Some y → is_other k ≡ false
+pub word_other : (p : Place) (k : TokenView) (y : Place × Word) → word_of p k ≡ Some y → is_other k ≡ false
 word_other p (tk.other w) y e = absurd cc
 word_other p k y e = refl
 
@@ -64,7 +64,7 @@ by_left e d x s r q h a p (tk.mark tk.dot) =
     beside_right (nought d) t.is refl (beside_bind (beside_take (nought d) (sits_on (here d) t).is field_of field_other) (λ f. beside_moved (simp append_assoc refl) (h (spelled.select a p f)))))
 by_left e d x s r q h a p k = beside_in_place (beside_gives a refl)
 
-beside_left : (e d : ℕ) (x : List Open) → Sits d x → (n : ℕ) (a : Phrase) → Beside (x ++ left_opens d a) (λ l. x ++ left_opens d l) (read_left (limited_parts e) n a) (read_left (unlimited_parts e) n a)
+pub beside_left : (e d : ℕ) (x : List Open) → Sits d x → (n : ℕ) (a : Phrase) → Beside (x ++ left_opens d a) (λ l. x ++ left_opens d l) (read_left (limited_parts e) n a) (read_left (unlimited_parts e) n a)
 beside_left e d x s zero a = beside_refuses
 beside_left e d x s (suc n) a = beside_peek (by_left e d x s (read_left (limited_parts e) n) (read_left (unlimited_parts e) n) (beside_left e d x s n) a)
 
@@ -78,7 +78,7 @@ by_assignments d x s r q h l p a v (tk.mark tk.beside) =
     beside_gives (assignment l p a v ms) (simp append_assoc refl)))))
 by_assignments d x s r q h l p a v k = beside_stays (beside_gives (last_assignment l p a) (simp append_assoc refl))
 
-beside_assignments : (e d n : ℕ) (x : List Open) → Sits d x → (y : Name) → Beside (x ++ here d) (λ ms. x ++ assignments_open d ms) (read_assignments (limited_parts e) n y) (read_assignments (unlimited_parts e) n y)
+pub beside_assignments : (e d n : ℕ) (x : List Open) → Sits d x → (y : Name) → Beside (x ++ here d) (λ ms. x ++ assignments_open d ms) (read_assignments (limited_parts e) n y) (read_assignments (unlimited_parts e) n y)
 beside_assignments e d zero x s y = beside_refuses
 beside_assignments e d (suc n) x s y =
     beside_bind (beside_left e d x s (suc n) (spelled.name y.place y.word)) (λ l.

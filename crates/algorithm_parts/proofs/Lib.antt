@@ -16,3 +16,6 @@ pub mod MendSimple
 pub mod Beside
 pub mod BesideParts
 pub mod BesideSimple
+pub mod Within
+pub mod WithinParts
+pub mod WithinSimple

@@ -30,36 +30,36 @@ more_beside_at f x h i = beside_then h (λ a. beside_bind (i (x ++ f a)) (λ xs.
 
 module _ (e : ℕ) where
   -- ---- macros, procedures, processes
-  body_beside : (n : ℕ) (w : Word) (x : List Open) → Beside x (λ b. x ++ body_opens b) (read_body (limited_parts e) n w) (read_body (unlimited_parts e) n w)
+  pub body_beside : (n : ℕ) (w : Word) (x : List Open) → Beside x (λ b. x ++ body_opens b) (read_body (limited_parts e) n w) (read_body (unlimited_parts e) n w)
   body_beside n w x =
       beside_bind (beside_key 0 sits (codes "begin")) (λ a. beside_bind (beside_sequence e (x ++ here 0) n) (λ ss. beside_bind (beside_key 0 sits (codes "end")) (λ b. beside_bind (beside_key 0 sits w) (λ d.
       beside_bind (beside_semicolon (x ++ here 0 ++ p_sequence 0 ss ++ here 0 ++ here 0)) (λ s. beside_gives (begin_end a ss b d s) (simp append_assoc refl))))))
 
-  macro_beside : (n : ℕ) (p : Place) (x : List Open) → Beside (x ++ here 0) (λ m. x ++ macro_opens m) (read_macro (limited_parts e) n p) (read_macro (unlimited_parts e) n p)
+  pub macro_beside : (n : ℕ) (p : Place) (x : List Open) → Beside (x ++ here 0) (λ m. x ++ macro_opens m) (read_macro (limited_parts e) n p) (read_macro (unlimited_parts e) n p)
   macro_beside n p x =
       beside_bind (beside_name 0 sits) (λ y. beside_bind (beside_macro_parameters n (x ++ here 0 ++ here 0)) (λ ps. beside_bind (body_beside n (codes "macro") (x ++ here 0 ++ here 0 ++ plain 0 (macro_parameters ps))) (λ b.
       beside_gives (record { place = p; name = y; parameters = ps; body = b }) (simp append_assoc refl))))
 
-  procedure_beside : (n : ℕ) (p : Place) (x : List Open) → Beside (x ++ here 0) (λ m. x ++ procedure_opens m) (read_procedure (limited_parts e) n p) (read_procedure (unlimited_parts e) n p)
+  pub procedure_beside : (n : ℕ) (p : Place) (x : List Open) → Beside (x ++ here 0) (λ m. x ++ procedure_opens m) (read_procedure (limited_parts e) n p) (read_procedure (unlimited_parts e) n p)
   procedure_beside n p x =
       beside_bind (beside_name 0 sits) (λ y. beside_bind (beside_procedure_parameters e n (x ++ here 0 ++ here 0)) (λ ps. beside_bind (beside_section e false n (x ++ here 0 ++ here 0 ++ procedure_parameters_open ps)) (λ vs.
       beside_bind (body_beside n (codes "procedure") (x ++ here 0 ++ here 0 ++ procedure_parameters_open ps ++ section_opens vs)) (λ b. beside_gives (record { place = p; name = y; parameters = ps; variables = vs; body = b }) (simp append_assoc refl)))))
 
-  identity_beside : (x : List Open) → Beside x (λ i. x ++ identity_opens i) (read_identity (limited_parts e)) (read_identity (unlimited_parts e))
+  pub identity_beside : (x : List Open) → Beside x (λ i. x ++ identity_opens i) (read_identity (limited_parts e)) (read_identity (unlimited_parts e))
   identity_beside x =
       beside_bind (beside_name 0 sits) (λ y. beside_bind (beside_bind_sign 0 (x ++ here 0) sits) (λ b. beside_bind (beside_expr e 0 (x ++ here 0 ++ here 0) sits) (λ a. beside_gives (bare y b.0 b.1 a) (simp append_assoc refl))))
 
-  process_beside : (n : ℕ) (f : Fair) (p : Place) (x : List Open) → Beside (x ++ plain 0 (gr.fair f) ++ here 0) (λ y. x ++ process_opens y) (read_process (limited_parts e) n f p) (read_process (unlimited_parts e) n f p)
+  pub process_beside : (n : ℕ) (f : Fair) (p : Place) (x : List Open) → Beside (x ++ plain 0 (gr.fair f) ++ here 0) (λ y. x ++ process_opens y) (read_process (limited_parts e) n f p) (read_process (unlimited_parts e) n f p)
   process_beside n f p x =
       (let y = x ++ plain 0 (gr.fair f) ++ here 0 in
       beside_bind (identity_beside y) (λ i. beside_bind (beside_section e true n (y ++ identity_opens i)) (λ vs. beside_bind (body_beside n (codes "process") (y ++ identity_opens i ++ section_opens vs)) (λ b.
       beside_gives (record { fair = f; place = p; identity = i; variables = vs; body = b }) (simp append_assoc refl)))))
 
-  fair_beside : (p q : Place) (k : TokenView) (x : List Open) → BesideAt q k (x ++ here 0) (λ f. x ++ plain 0 (gr.fair f)) (fair_by p q k) (fair_by p q k)
+  pub fair_beside : (p q : Place) (k : TokenView) (x : List Open) → BesideAt q k (x ++ here 0) (λ f. x ++ plain 0 (gr.fair f)) (fair_by p q k) (fair_by p q k)
   fair_beside p q (tk.sign op.Plus) x = beside_skip 0 sits refl (beside_gives (strong p q) (simp append_assoc refl))
   fair_beside p q k x = beside_stays (beside_gives (weak p) refl)
 
-  process_words_beside : (n : ℕ) (p : Place) (w : Word) (x : List Open) → BothAt p w x (λ y. x ++ process_opens y) (process_words (limited_parts e) n p) (process_words (unlimited_parts e) n p)
+  pub process_words_beside : (n : ℕ) (p : Place) (w : Word) (x : List Open) → BothAt p w x (λ y. x ++ process_opens y) (process_words (limited_parts e) n p) (process_words (unlimited_parts e) n p)
   process_words_beside n p w x = (
     refl,
     beside_skip 0 sits refl (beside_moved (simp append-nil refl) (process_beside n unfair p x)),
@@ -71,7 +71,7 @@ module _ (e : ℕ) where
   )
 
   -- ---- lists of them
-  macros_beside : (n : ℕ) (x : List Open) → Beside x (λ ms. x ++ flat_map macro_opens ms) (read_macros (limited_parts e) n) (read_macros (unlimited_parts e) n)
+  pub macros_beside : (n : ℕ) (x : List Open) → Beside x (λ ms. x ++ flat_map macro_opens ms) (read_macros (limited_parts e) n) (read_macros (unlimited_parts e) n)
   macros_beside zero x = beside_refuses
   macros_beside (suc n) x = beside_next (by (macros_beside n))
     where
@@ -82,7 +82,7 @@ module _ (e : ℕ) where
           (refl, beside_skip 0 sits refl (more_beside macro_opens x (x ++ here 0) (macro_beside n p x) h), tt) (beside_stays (beside_gives [] (append-nil x)))
       by h p k = beside_stays (beside_gives [] (append-nil x))
 
-  procedures_beside : (n : ℕ) (x : List Open) → Beside x (λ ps. x ++ flat_map procedure_opens ps) (read_procedures (limited_parts e) n) (read_procedures (unlimited_parts e) n)
+  pub procedures_beside : (n : ℕ) (x : List Open) → Beside x (λ ps. x ++ flat_map procedure_opens ps) (read_procedures (limited_parts e) n) (read_procedures (unlimited_parts e) n)
   procedures_beside zero x = beside_refuses
   procedures_beside (suc n) x = beside_next (by (procedures_beside n))
     where
@@ -93,7 +93,7 @@ module _ (e : ℕ) where
           (refl, beside_skip 0 sits refl (more_beside procedure_opens x (x ++ here 0) (procedure_beside n p x) h), tt) (beside_stays (beside_gives [] (append-nil x)))
       by h p k = beside_stays (beside_gives [] (append-nil x))
 
-  processes_beside : (n : ℕ) (x : List Open) → Beside x (λ ps. x ++ flat_map process_opens ps) (read_processes (limited_parts e) n) (read_processes (unlimited_parts e) n)
+  pub processes_beside : (n : ℕ) (x : List Open) → Beside x (λ ps. x ++ flat_map process_opens ps) (read_processes (limited_parts e) n) (read_processes (unlimited_parts e) n)
   processes_beside zero x = beside_refuses
   processes_beside (suc n) x = beside_next (by (processes_beside n))
     where
@@ -106,7 +106,7 @@ module _ (e : ℕ) where
       by h p k = beside_stays (beside_gives [] (append-nil x))
 
   -- ---- the whole
-  define_beside : (n : ℕ) (x : List Open) → Beside x (λ d. x ++ define_opens d) (read_define (limited_parts e) n) (read_define (unlimited_parts e) n)
+  pub define_beside : (n : ℕ) (x : List Open) → Beside x (λ d. x ++ define_opens d) (read_define (limited_parts e) n) (read_define (unlimited_parts e) n)
   define_beside n x = beside_next by
     where
       by : (p : Place) (k : TokenView) → BesideAt p k x (λ d. x ++ define_opens d) (define_by (limited_parts e) n p k) (define_by (unlimited_parts e) n p k)
@@ -120,7 +120,7 @@ module _ (e : ℕ) where
           (beside_stays (beside_gives no_define (append-nil x)))
       by p k = beside_stays (beside_gives no_define (append-nil x))
 
-  main_beside : (n : ℕ) (x : List Open) → Beside x (λ b. x ++ main_opens b) (read_main (limited_parts e) n) (read_main (unlimited_parts e) n)
+  pub main_beside : (n : ℕ) (x : List Open) → Beside x (λ b. x ++ main_opens b) (read_main (limited_parts e) n) (read_main (unlimited_parts e) n)
   main_beside n x = beside_next by
     where
       by : (p : Place) (k : TokenView) → BesideAt p k x (λ b. x ++ main_opens b) (main_by (limited_parts e) n p k) (main_by (unlimited_parts e) n p k)
@@ -131,7 +131,7 @@ module _ (e : ℕ) where
           (λ y. beside_bind (processes_beside n (x ++ process_opens y)) (λ ys. beside_gives (processes y ys) (simp append_assoc refl))))
       by p k = beside_stays beside_refuses
 
-  head_beside : Beside [] (λ h. plain 0 (gr.head h)) read_head read_head
+  pub head_beside : Beside [] (λ h. plain 0 (gr.head h)) read_head read_head
   head_beside = beside_next by
     where
       by : (p : Place) (k : TokenView) → BesideAt p k [] (λ h. plain 0 (gr.head h)) (head_by p k) (head_by p k)
@@ -140,7 +140,7 @@ module _ (e : ℕ) where
           (refl, beside_skip 0 sits refl (beside_gives (algorithm p) refl), (refl, beside_skip 0 sits refl (beside_bind (beside_key 0 sits (codes "algorithm")) (λ q. beside_gives (fair_algorithm p q) refl)), tt)) (beside_stays beside_refuses)
       by p k = beside_stays beside_refuses
 
-  text_beside : (n : ℕ) → Beside [] opens (read_text (limited_parts e) n) (read_text (unlimited_parts e) n)
+  pub text_beside : (n : ℕ) → Beside [] opens (read_text (limited_parts e) n) (read_text (unlimited_parts e) n)
   text_beside n =
       beside_bind head_beside (λ a. (let x0 = plain 0 (gr.head a) ++ here 0 in
       beside_bind (beside_name 0 sits) (λ y. beside_bind (beside_section e true n x0) (λ vs. (let x1 = x0 ++ section_opens vs in

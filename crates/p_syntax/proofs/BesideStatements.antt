@@ -22,43 +22,43 @@ use Rattle.p_syntax.specs.ReadStatements.{Before, none, after, Tests, if_test, e
 use Rattle.p_syntax.specs.ReadStatements.{opens, ends_simple, after_name, statement_words, statement_by, takes_else, takes_elsif, takes_or, ends, takes_end, closing_words, another_by, ended_by, step, turned, run, read_sequence}
 
 -- ---- the forms that were open at the tokens that were passed
-abbrev before_opens : ℕ → Before → List Open
+abbrev pub before_opens : ℕ → Before → List Open
 before_opens d none = []
 before_opens d (after b ls a p) = before_opens d b ++ plain d (labels ls) ++ p_statement d a ++ here d
 
-abbrev tests_open : ℕ → Tests → List Open
+abbrev pub tests_open : ℕ → Tests → List Open
 tests_open d (if_test p e q) = here (d + 1) ++ expression_opens (d + 1) e ++ here (d + 1)
 tests_open d (elsif_test t a p e q) = tests_open d t ++ p_sequence (after_tests d t) a ++ here (after_tests d t + 1) ++ expression_opens (after_tests d t + 1) e ++ here (after_tests d t + 1)
 
-abbrev arms_open : ℕ → Arms → List Open
+abbrev pub arms_open : ℕ → Arms → List Open
 arms_open d (first_arm p) = here (d + 1)
 arms_open d (later_arm t a p) = arms_open d t ++ p_sequence (d + 1) a ++ here (d + 1)
 
-abbrev frame_opens : ℕ → Frame → List Open
+abbrev pub frame_opens : ℕ → Frame → List Open
 frame_opens d (in_then t) = tests_open d t
 frame_opens d (in_else t a p) = tests_open d t ++ p_sequence (after_tests d t) a ++ here (after_tests d t)
 frame_opens d (in_either t) = arms_open d t
 frame_opens d (in_with p bs q) = here d ++ binds_open d bs ++ here (after_binds d bs)
 frame_opens d (in_while p e q) = here (d + 1) ++ expression_opens (d + 1) e ++ here (d + 1)
 
-abbrev stack_opens : Stack → List Open
+abbrev pub stack_opens : Stack → List Open
 stack_opens bottom = []
 stack_opens (inside f b ls st) = stack_opens st ++ before_opens (depth st) b ++ plain (depth st) (labels ls) ++ frame_opens (depth st) f
 
-abbrev state_opens : State → List Open
+abbrev pub state_opens : State → List Open
 state_opens (begin b ls st) = stack_opens st ++ before_opens (depth st) b ++ plain (depth st) (labels ls)
 state_opens (ended b ls a o st) = stack_opens st ++ before_opens (depth st) b ++ plain (depth st) (labels ls) ++ p_statement (depth st) a ++ plain (depth st) (maybe_semicolon o)
 
-abbrev turn_opens : Turn → List Open
+abbrev pub turn_opens : Turn → List Open
 turn_opens (on s) = state_opens s
 turn_opens (done ss) = p_sequence 0 ss
 
 -- ---- parts together
-with_before_opens : (d : ℕ) (b : Before) (ss : Sequence) → p_sequence d (with_before b ss) ≡ before_opens d b ++ p_sequence d ss
+pub with_before_opens : (d : ℕ) (b : Before) (ss : Sequence) → p_sequence d (with_before b ss) ≡ before_opens d b ++ p_sequence d ss
 with_before_opens d none ss = refl
 with_before_opens d (after b ls a p) ss = with_before_opens d b (more_statements ls a p ss) ∙ simp append_assoc refl
 
-with_label_opens : (d : ℕ) (ls : Labels) (y : Name) (c : Colon) → plain d (labels (with_label ls y c)) ≡ plain d (labels ls) ++ here d ++ plain d (colon_tokens c)
+pub with_label_opens : (d : ℕ) (ls : Labels) (y : Name) (c : Colon) → plain d (labels (with_label ls y c)) ≡ plain d (labels ls) ++ here d ++ plain d (colon_tokens c)
 with_label_opens d no_labels y (colon p) = refl
 with_label_opens d no_labels y (colon_plus p q) = refl
 with_label_opens d no_labels y (colon_minus p q) = refl
@@ -66,11 +66,11 @@ with_label_opens d (label z (colon p) ls) y c = rw (with_label_opens d ls y c) r
 with_label_opens d (label z (colon_plus p q) ls) y c = rw (with_label_opens d ls y c) refl
 with_label_opens d (label z (colon_minus p q) ls) y c = rw (with_label_opens d ls y c) refl
 
-closed_if_opens : (d : ℕ) (t : Tests) (a : Sequence) (b : Else) (r s : Place) → p_statement d (closed_if t a b r s) ≡ tests_open d t ++ p_sequence (after_tests d t) a ++ p_else (after_tests d t) b ++ here (d + 1) ++ here (d + 1)
+pub closed_if_opens : (d : ℕ) (t : Tests) (a : Sequence) (b : Else) (r s : Place) → p_statement d (closed_if t a b r s) ≡ tests_open d t ++ p_sequence (after_tests d t) a ++ p_else (after_tests d t) b ++ here (d + 1) ++ here (d + 1)
 closed_if_opens d (if_test p e q) a b r s = refl
 closed_if_opens d (elsif_test t c p e q) a b r s = closed_if_opens d t c (else_if p e q a b) r s ∙ simp append_assoc refl
 
-closed_either_opens : (d : ℕ) (t : Arms) (a : Sequence) (bs : Branches) (r s : Place) → p_statement d (closed_either t a bs r s) ≡ arms_open d t ++ p_sequence (d + 1) a ++ p_branches (d + 1) bs ++ here (d + 1) ++ here (d + 1)
+pub closed_either_opens : (d : ℕ) (t : Arms) (a : Sequence) (bs : Branches) (r s : Place) → p_statement d (closed_either t a bs r s) ≡ arms_open d t ++ p_sequence (d + 1) a ++ p_branches (d + 1) bs ++ here (d + 1) ++ here (d + 1)
 closed_either_opens d (first_arm p) a bs r s = refl
 closed_either_opens d (later_arm t c p) a bs r s = closed_either_opens d t c (more_branches p a bs) r s ∙ simp append_assoc refl
 
@@ -90,17 +90,17 @@ frame_sits d x (in_either (later_arm t a p)) = sits_last (d + 1) x (arms_open d 
 frame_sits d x (in_with p bs q) = sits_last (after_binds d bs) x (here d ++ binds_open d bs)
 frame_sits d x (in_while p e q) = sits_last (d + 1) x (here (d + 1) ++ expression_opens (d + 1) e)
 
-stack_sits : (x : List Open) (st : Stack) → Sits (depth st) (x ++ stack_opens st)
+pub stack_sits : (x : List Open) (st : Stack) → Sits (depth st) (x ++ stack_opens st)
 stack_sits x bottom = sits
 stack_sits x (inside f b ls st) =
     (let y = stack_opens st ++ before_opens (depth st) b ++ plain (depth st) (labels ls) in
     subst (λ (z : List Open). Sits (inside_frame (depth st) f) z) (append_assoc x y (frame_opens (depth st) f)) (frame_sits (depth st) (x ++ y) f))
 
-sits_less : {n : ℕ} {x : List Open} (d : ℕ) → d ≤ n → Sits n x → Sits d x
+pub sits_less : {n : ℕ} {x : List Open} (d : ℕ) → d ≤ n → Sits n x → Sits d x
 sits_less {n} {x} d l s = record { is = λ f. (let h = leb-true n deepest_statement (s.is f) in le-leb d deepest_statement (omega (arith, l, h))) }
 
 -- after a list of binds
-binds_sit : (d : ℕ) (x : List Open) (bs : Binds) → Sits (after_binds d bs) (x ++ binds_open d bs)
+pub binds_sit : (d : ℕ) (x : List Open) (bs : Binds) → Sits (after_binds d bs) (x ++ binds_open d bs)
 binds_sit d x (last_bind y b p a s) = moved (sits_on (here (d + 1) ++ expression_opens (d + 1) a ++ plain (d + 1) (maybe_separator s)) (sits_here (d + 1) x))
   where
     moved : Sits (d + 1) (x ++ here (d + 1) ++ (here (d + 1) ++ expression_opens (d + 1) a ++ plain (d + 1) (maybe_separator s))) → Sits (d + 1) (x ++ binds_open d (last_bind y b p a s))
@@ -118,7 +118,7 @@ module _ (e : ℕ) (x : List Open) where
   abbrev at : Before → Labels → Stack → List Open
   at b ls st = x ++ stack_opens st ++ before_opens (depth st) b ++ plain (depth st) (labels ls)
 
-  at_sits : (b : Before) (ls : Labels) (st : Stack) → Sits (depth st) (at b ls st)
+  pub at_sits : (b : Before) (ls : Labels) (st : Stack) → Sits (depth st) (at b ls st)
   at_sits b ls st = sits_on (plain (depth st) (labels ls)) (sits_on (before_opens (depth st) b) (stack_sits x st))
 
   simple_beside : (b : Before) (ls : Labels) (st : Stack) {y : List Open} {r q : Reader Simple} → Beside y (λ z. at b ls st ++ simple_opens (depth st) z) r q → Beside y all (ends_simple b ls st r) (ends_simple b ls st q)
@@ -167,7 +167,7 @@ module _ (e : ℕ) (x : List Open) where
   abbrev listed : Sequence → Stack → List Open
   listed a st = x ++ stack_opens st ++ p_sequence (depth st) a
 
-  listed_sits : (a : Sequence) (st : Stack) → Sits (depth st) (listed a st)
+  pub listed_sits : (a : Sequence) (st : Stack) → Sits (depth st) (listed a st)
   listed_sits a st = sits_on (p_sequence (depth st) a) (stack_sits x st)
 
   else_beside : (a : Sequence) (p : Place) (w : Word) (st : Stack) → BesideAt p (tk.reserved w) (listed a st) all (takes_else a p st) (takes_else a p st)
@@ -217,7 +217,7 @@ module _ (e : ℕ) (x : List Open) where
       (λ q. refl) (simp append_assoc refl) p w)
 
   -- ---- after a statement
-  ended_sits : (b : Before) (ls : Labels) (a : Statement) (o : Option Place) (st : Stack) → Sits (depth st) (x ++ state_opens (ended b ls a o st))
+  pub ended_sits : (b : Before) (ls : Labels) (a : Statement) (o : Option Place) (st : Stack) → Sits (depth st) (x ++ state_opens (ended b ls a o st))
   ended_sits b ls a o st =
       (let y = before_opens (depth st) b ++ plain (depth st) (labels ls) ++ p_statement (depth st) a ++ plain (depth st) (maybe_semicolon o) in
       let m : x ++ stack_opens st ++ y ≡ x ++ state_opens (ended b ls a o st) = simp append_assoc refl in
@@ -239,11 +239,11 @@ module _ (e : ℕ) (x : List Open) where
       (another_beside n b ls a o st p (tk.reserved w)))
   ended_beside n b ls a o st p k = another_beside n b ls a o st p k
 
-  step_beside : (n : ℕ) (s : State) → Beside (x ++ state_opens s) all (step (limited_parts e) n s) (step (unlimited_parts e) n s)
+  pub step_beside : (n : ℕ) (s : State) → Beside (x ++ state_opens s) all (step (limited_parts e) n s) (step (unlimited_parts e) n s)
   step_beside n (begin b ls st) = beside_moved (simp append_assoc refl) (beside_next (statement_beside n b ls st))
   step_beside n (ended b ls a o st) = beside_next (ended_beside n b ls a o st)
 
-  run_beside : (n : ℕ) (s : State) → Beside (x ++ state_opens s) (λ ss. x ++ p_sequence 0 ss) (run (limited_parts e) n s) (run (unlimited_parts e) n s)
+  pub run_beside : (n : ℕ) (s : State) → Beside (x ++ state_opens s) (λ ss. x ++ p_sequence 0 ss) (run (limited_parts e) n s) (run (unlimited_parts e) n s)
   run_beside zero s = beside_refuses
   run_beside (suc n) s = beside_bind (step_beside n s) (by (run_beside n))
     where

@@ -12,7 +12,10 @@ pub mod MendStatements
 pub mod MendAlgorithm
 pub mod BesideStatements
 pub mod BesideAlgorithm
+pub mod WithinStatements
+pub mod WithinAlgorithm
 pub mod SameOpens
 pub mod Closing
 pub mod Stops
 pub mod StopsWithin
+pub mod ReadOrRefused

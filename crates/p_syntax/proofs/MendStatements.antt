@@ -64,21 +64,21 @@ ahead_frame (in_either t) = ahead_arms t
 ahead_frame (in_with p bs q) = put_ahead (then_ahead (ahead_binds bs) (put_ahead held))
 ahead_frame (in_while p e q) = put_ahead (then_ahead (ahead e) (put_ahead held))
 
-ahead_stack : (st : Stack) → Ahead (stack st)
+pub ahead_stack : (st : Stack) → Ahead (stack st)
 ahead_stack bottom = held
 ahead_stack (inside f b ls st) = then_ahead (ahead_stack st) (then_ahead (ahead_before b) (then_ahead (ahead_labels ls) (ahead_frame f)))
 
 abbrev at : Before → Labels → Stack → List Token → List Token
 at b ls st ts = stack st (before b (labels ls ts))
 
-ahead_at : (b : Before) (ls : Labels) (st : Stack) → Ahead (at b ls st)
+pub ahead_at : (b : Before) (ls : Labels) (st : Stack) → Ahead (at b ls st)
 ahead_at b ls st = then_ahead (ahead_stack st) (then_ahead (ahead_before b) (ahead_labels ls))
 
-ahead_passed : (s : State) → Ahead (passed s)
+pub ahead_passed : (s : State) → Ahead (passed s)
 ahead_passed (begin b ls st) = ahead_at b ls st
 ahead_passed (ended b ls a o st) = then_ahead (ahead_at b ls st) (then_ahead (ahead_statement a) (ahead_semicolon o))
 
-ahead_turn : (t : Turn) → Ahead (turn t)
+pub ahead_turn : (t : Turn) → Ahead (turn t)
 ahead_turn (on s) = ahead_passed s
 ahead_turn (done ss) = ahead_sequence ss
 

@@ -1,6 +1,6 @@
 //! Laws of reading algorithms in P-syntax, stated as what functions without a body ensure.
 
-ghost use Rattle.std.specs.Prelude.{◌≡◌, ℕ, suc, ◌+◌, ◌*◌, ◌≤◌, codes, IsTrue, ◌++◌, List, [], ◌∷◌, length, take, map, get_or, Some, Ok, Err};
+ghost use Rattle.std.specs.Prelude.{◌≡◌, ◌⊎◌, ℕ, suc, ◌+◌, ◌*◌, ◌≤◌, codes, IsTrue, ◌++◌, List, [], ◌∷◌, length, take, map, get_or, Some, Ok, Err};
 ghost use Rattle.std.specs.List.{list_all};
 ghost use Rattle.tla_tree.specs.Lexical.{Token};
 ghost use Rattle.tla_token.specs.Tokens as text;
@@ -84,12 +84,18 @@ pub fn tokens_pass_where_they_are_read()
 {}
 
 /// A refusal within the limits is not early, and it is by the rule of the grammar: the tokens through the refused one, or with the end after them,
-/// don't pass, since too many forms are open in each algorithm that begins so, or since none does. So the tokens of a text are
-/// refused there, as long as those before it pass.
-pub fn limited_refusals_are_not_early()
+/// don't pass, since too many forms are open in each algorithm that begins so, or since none does. Nor is it late: what was passed before passes.
+pub fn limited_refusals_are_at_the_earliest_place()
     ensures through { (ts passed rest : List Token) (r : Rule) → read_limited_algorithm ts ≡ Err (r, rest) → ts ≡ passed ++ rest
         → (Passes (algorithms p_syntax) (take (suc (length passed)) (to_end ts)) → ⊥) × StopRule (algorithms p_syntax) (take (suc (length passed)) (to_end ts)) r }
-    ensures refused { (ts : List text.Token) (passed rest : List Token) (end : Place) (r : Rule) → read_limited_algorithm (views ts) ≡ Err (r, rest) → views ts ≡ passed ++ rest → Passes (algorithms p_syntax) (map Some (looks passed))
+    ensures passed { (ts passed rest : List Token) (r : Rule) → read_limited_algorithm ts ≡ Err (r, rest) → ts ≡ passed ++ rest → Passes (algorithms p_syntax) (map Some (looks passed)) }
+{}
+
+/// So the tokens of a text, whatever they are, pass with an algorithm or are refused, just as reading within the limits does it: what is refused is
+/// refused at that token, or at the end, by the rule of the refusal.
+pub fn tokens_are_read_or_refused()
+    ensures one { (ts : List text.Token) (end : Place) → ((a : Algorithm) × PassesTokens p_syntax ts × SpellsP ts a) ⊎ ((r : Refusal) × RefusesTokens p_syntax ts end r) }
+    ensures refused { (ts : List text.Token) (passed rest : List Token) (end : Place) (r : Rule) → read_limited_algorithm (views ts) ≡ Err (r, rest) → views ts ≡ passed ++ rest
         → RefusesTokens p_syntax ts end (record { rule = r; place = get_or (map (λ (t : text.Token). t.place) ts) (length passed) end }) }
 {}
 
