@@ -14,6 +14,7 @@ pub mod read_open;
 pub mod read_plain;
 pub mod read_primary;
 pub mod read_row;
+pub mod read_token;
 pub mod shape;
 pub mod spot;
 pub mod view;

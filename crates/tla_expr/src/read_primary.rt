@@ -61,3 +61,24 @@ pub fn tuple_from<F: Fn(&mut Pool, Context, Spot) -> Result<(Read, usize), Halt>
     }
     tuple_in(alloc, tokens, inner, pool, s, place)
 }
+
+/// `<<a, b>>`, the next token being the `<<`, at a place.
+pub fn tuple<F: Fn(&mut Pool, Context, Spot) -> Result<(Read, usize), Halt>>(
+    alloc: Global,
+    tokens: &Tokens,
+    inner: &F,
+    pool: &mut Pool,
+    s: Spot,
+    place: Place,
+) -> Result<(Read, usize), Halt>
+    requires there { s.at ≤ length tokens.now.items.items }
+    requires limited { s.left ≤ deepest_expression }
+    requires can { CanRead tokens.now s.left (F.pre inner.now) }
+    requires reads { ReadsBelow tokens.now s.left (F.post inner.now) }
+    ensures { HasRead tokens.now pool.old pool.new s.at s.left result (reader.primary (reader.room whole (Some s.left)) (whole (Some s.left)) s.edge place (tk.mark tk.open_tuple) (ahead tokens.now s.at)) }
+{
+    let d = deeper(tokens, s, 0)?;
+    let from = after(tokens, s);
+    let (a, at) = tuple_from(alloc, tokens, inner, pool, Spot { at: from, ..d }, place)?;
+    postfix(alloc, tokens, inner, pool, Spot { at, ..s }, a)
+}
