@@ -13,3 +13,5 @@ pub mod AheadLemmas
 pub mod ReadRows
 pub mod ReadLinks
 pub mod ReadGrown
+pub mod ReadNames
+pub mod ReadPrimaries
