@@ -25,7 +25,7 @@ use Rattle.fairness.specs.MarkedLabels.{Marked, marked_in, marked, marked_some, 
 use Rattle.fairness.specs.ReachedProcedures.{called_by as calls_of, reached_within, reached}
 use Rattle.fairness.specs.Demands.{Demand, all_steps, routine_steps, label_steps, demands_in, demands_of, main_demands, demands}
 use Rattle.fairness.specs.Obligations.{written_labels}
-use Rattle.fairness.specs.FairnessLines.{identifier_of, over_of, own_call, called_by, guard_of, line_of, fairness_lines}
+use Rattle.fairness.specs.FairnessLines.{identifier_of, over_of, own_call, action_call, guard_of, line_of, fairness_lines}
 use Rattle.translation.specs.laws.WritableAlgorithm.{IsWritableMain, IsWritableAlgorithm}
 use Rattle.translation.proofs.RoutinesNamed.{IsTitled, label_identifiers, title_free, label_name_string, label_name_identifier}
 use Rattle.translation.proofs.RegionActions.{every_map, every_both, every_flat, one_filtered, self_name, named_writable, quoted_writable, TakersFit, procedures_in, mains_in}
@@ -89,7 +89,7 @@ own_call_writable (each_of s) x i = (i, named_writable self self_name)
 own_call_writable (single e) x i = i
 own_call_writable lone x i = i
 
-called_writable : (t : Taken) (u : Routine) (x : Word) → TakersFit t.takers → IsIdentifier x → IsCall (called_by t u x)
+called_writable : (t : Taken) (u : Routine) (x : Word) → TakersFit t.takers → IsIdentifier x → IsCall (action_call t u x)
 called_writable t u x f i = by (nat_eq t.routine.number u.number)
   where
     by : (b : Bool) → IsCall (cond b (own_call t.takers x) (call_with x (identifier_of t.takers)))

@@ -9,7 +9,7 @@ use Rattle.tla_tree.specs.Shapes.{subscripts, HavePaths, settings, IsOneName, Ha
 use Rattle.tla_tree.specs.laws.Writable.{IsIdentifier, IsField, IsString, names_in, fields_in_path, fields_in, strings_in, count, IsWritable, AreWritable}
 use Rattle.tla_tree.specs.laws.Placeless.{name_placeless, names_placeless, slot_placeless, form_placeless, tree_placeless, trees_placeless}
 use Rattle.pcal_tree.specs.Algorithm.{nowhere, Span, Assignments, no_assignments, assignment, Binds, no_binds, one_of, is, Statement, assign, await, print, assert, skip, branch, either, with, while, goto, macro, call, return, Statements, done, then, mark, Branches, no_branches, or, Macro}
-use Rattle.pcal_tree.specs.Expand.{placed_at, graft_left, graft_assignments, graft_binds, graft_one, graft_all, graft_some, joined, Writing, expand_one, expand, expand_some, written_out}
+use Rattle.pcal_tree.specs.Expand.{placed_at, graft_left, graft_assignments, graft_binds, graft_one, graft_all, graft_some, followed_by, Writing, expand_one, expand, expand_some, written_out}
 use Rattle.pcal_tree.specs.Paths.{root_form, root, root_of_first, is_whole, same_word, clash, clashes_with, clashes}
 use Rattle.pcal_tree.specs.Placeless.{no_span, assignments_placeless, binds_placeless, statement_placeless, statements_placeless, branches_placeless, macros_placeless}
 use Rattle.pcal_tree.specs.Run.{arguments}
@@ -235,7 +235,7 @@ module _ (g k : Graft) (same : (x : Word) (at : Place) → k x nowhere ≡ optio
 
 -- ---- macro calls written out
 
-joined_bare : (a b : Statements) → statements_placeless (joined a b) ≡ joined (statements_placeless a) (statements_placeless b)
+joined_bare : (a b : Statements) → statements_placeless (followed_by a b) ≡ followed_by (statements_placeless a) (statements_placeless b)
 joined_bare done b = refl
 joined_bare (then at st a) b = ap (then no_span (statement_placeless st)) (joined_bare a b)
 joined_bare (mark l m a) b = ap (mark (name_placeless l) m) (joined_bare a b)
@@ -243,7 +243,7 @@ joined_bare (mark l m a) b = ap (mark (name_placeless l) m) (joined_bare a b)
 module _ (X Y : Writing) (same : (at : Span) (m : Word) (ts : Trees) → statements_placeless (X at m ts) ≡ Y no_span m (trees_placeless ts)) where
   mutual
     expand_one_bare : (at : Span) (st : Statement) (rest us : Statements) → statements_placeless rest ≡ us → statements_placeless (expand_one X at st rest) ≡ expand_one Y no_span (statement_placeless st) us
-    expand_one_bare at (macro m ts) rest us e = joined_bare (X at m ts) rest ∙ (λ i. joined (same at m ts i) (e i))
+    expand_one_bare at (macro m ts) rest us e = joined_bare (X at m ts) rest ∙ (λ i. followed_by (same at m ts i) (e i))
     expand_one_bare at (branch f a b) rest us e = λ i. then no_span (branch (tree_placeless f) (expand_bare a i) (expand_bare b i)) (e i)
     expand_one_bare at (either bs) rest us e = λ i. then no_span (either (expand_some_bare bs i)) (e i)
     expand_one_bare at (with bs b) rest us e = λ i. then no_span (with (binds_placeless bs) (expand_bare b i)) (e i)

@@ -5,7 +5,7 @@ use Rattle.std.proofs.lemmas.Slice.Eq.{bytes_eq-Decides}
 use Rattle.tla_tree.specs.Tree.{Word, Each}
 use Rattle.tla_tree.specs.laws.Writable.{IsIdentifier, IsString}
 use Rattle.pcal_tree.specs.Algorithm.{Span, Statement, assign, await, print, assert, skip, branch, either, with, while, goto, macro, call, return, Statements, done, then, mark, Branches, no_branches, or}
-use Rattle.pcal_tree.specs.Expand.{joined, Writing, expand_one, expand, expand_some}
+use Rattle.pcal_tree.specs.Expand.{followed_by, Writing, expand_one, expand, expand_some}
 use Rattle.pcal_tree.specs.Processes.{OneOf}
 use Rattle.pcal_tree.specs.Run.{unlabelled, label_of}
 use Rattle.pcal_tree.specs.StepStart.{Begin, begin_in, begin, begin_some}
@@ -16,7 +16,7 @@ use Rattle.action_builder.proofs.FitJumps.{identifier_string}
 use Rattle.translation.specs.laws.WritableAlgorithm.{IsWritableStatement, AreWritableStatements, AreWritableBranches}
 
 module _ (C V : Word → Bool) (X : Writing) where
-  after_joined : (a b : Statements) → AreWritableStatements C V (joined a b) → AreWritableStatements C V b
+  after_joined : (a b : Statements) → AreWritableStatements C V (followed_by a b) → AreWritableStatements C V b
   after_joined done b h = h
   after_joined (then at st a) b h = after_joined a b h.1
   after_joined (mark l k a) b h = after_joined a b h.1

@@ -9,7 +9,8 @@ use Rattle.module_tree.specs.laws.WritableRegion.{EachOf, AreNames, IsDefinition
 use Rattle.pcal_tree.specs.Algorithm.{Definition, Algorithm}
 use Rattle.pcal_tree.specs.Program.{inner}
 use Rattle.pcal_tree.specs.Variables.{declared, vars}
-use Rattle.action_builder.specs.ModelValues.{is_unset, declarations, model_values}
+use Rattle.action_builder.specs.ModelValues.{is_unset, model_values}
+use Rattle.pcal_tree.specs.Expressions.{all_declarations}
 use Rattle.action_builder.specs.NextFormula.{next}
 use Rattle.action_builder.specs.WrittenNames.{with_names}
 use Rattle.translation.specs.Region.{region_of}
@@ -21,7 +22,7 @@ use Rattle.translation.proofs.RegionNext.{all_done_writable, ended_writable, nex
 use Rattle.translation.proofs.RegionFairness.{fairness_writable}
 
 model_names : (a : Algorithm) → EachOf IsIdentifier (model_values a)
-model_names a = by (list_any (λ d. is_unset d.start) (declarations a))
+model_names a = by (list_any (λ d. is_unset d.start) (all_declarations a))
   where
     by : (b : Bool) → EachOf IsIdentifier (cond b (codes "defaultInitValue" ∷ []) [])
     by true = (((refl, refl), refl), tt)

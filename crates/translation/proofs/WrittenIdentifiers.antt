@@ -11,7 +11,7 @@ use Rattle.tla_token.specs.Words.{is_reserved, is_own, is_standard, is_tla_word,
 use Rattle.tla_token.specs.Signs.{is_among}
 use Rattle.tla_tree.specs.Tree.{Word}
 use Rattle.tla_tree.specs.laws.Writable.{IsIdentifier}
-use Rattle.pcal_tree.specs.Names.{is_taken, joint, numbered, free_from, first_free, Role, title, variable, label, Want, same_role, is_for, Given, give, written_for, title_for}
+use Rattle.pcal_tree.specs.Names.{is_taken, joint, with_number, free_from, first_free, Role, title, variable, label, Want, same_role, is_for, Given, give, written_for, title_for}
 use Rattle.pcal_tree.specs.Processes.{OneOf}
 use Rattle.pcal_tree.specs.laws.Apart.{Apart}
 use Rattle.pcal_tree.proofs.FreeNames.{free_is, every_map}
@@ -49,7 +49,7 @@ joint_word x = by (bytes_eq (codes "WF") x || bytes_eq (codes "SF") x)
     by true = refl
     by false = refl
 
-numbered_name : (x : Word) (n : ℕ) → n < 2 ^ 64 → IsName x → IsName (numbered x n)
+numbered_name : (x : Word) (n : ℕ) → n < 2 ^ 64 → IsName x → IsName (with_number x n)
 numbered_name x n p h = (
   words_both x (joint x ++ decimal n) h.0 (words_both (joint x) (decimal n) (joint_word x) (digits_word (decimal n) (decimal_is_IsNumeral n p).0.1)),
   letter_before x (joint x ++ decimal n) h.1,
@@ -58,7 +58,7 @@ numbered_name x n p h = (
 first_free_name : (extended taken : List Word) (x : Word) → length taken + 1 < 2 ^ 64 → IsName x → IsName (first_free extended taken x)
 first_free_name extended taken x few h = by (is_taken extended taken x) (free_is (length taken) taken x 1)
   where
-    by : (b : Bool) → ((m : ℕ) × (1 ≤ m) × (m ≤ 1 + length taken) × (free_from (length taken) taken x 1 ≡ numbered x m)) → IsName (cond b (free_from (length taken) taken x 1) x)
+    by : (b : Bool) → ((m : ℕ) × (1 ≤ m) × (m ≤ 1 + length taken) × (free_from (length taken) taken x 1 ≡ with_number x m)) → IsName (cond b (free_from (length taken) taken x 1) x)
     by true q = subst IsName (sym q.3) (numbered_name x q.0 (omega (arith, q.2)) h)
     by false q = h
 
