@@ -15,3 +15,4 @@ pub mod ReadLinks
 pub mod ReadGrown
 pub mod ReadNames
 pub mod ReadPrimaries
+mod RowsHasRead

@@ -1,21 +1,22 @@
 -- Primaries from their first token on: what is read where one form more is open, and then what comes after it.
-use Rattle.std.proofs.Common.{◌≡◌, ℕ, suc, ◌+◌, ◌≤◌, true, List, length, IfOk, Result, Ok, Err, Some, refl, sym, ap, ◌∙◌, subst, arith}
+use Rattle.std.proofs.Common.{◌≡◌, ℕ, suc, ◌+◌, ◌≤◌, Bool, true, List, length, IfOk, Result, Ok, Err, Some, refl, sym, ap, ◌∙◌, subst, arith}
 use Rattle.tla_token.specs.declared.place.Place.{Place}
 use Rattle.tla_token.specs.declared.token.Tokens.{Tokens}
 use Rattle.tla_tree.specs.Tree.{Tree}
+use Rattle.tla_tree.specs.declared.op.Op.{Op}
 use Rattle.tla_tree.specs.Lexical.{TokenView, Token}
 use Rattle.tla_tree.specs.Lexical as tk
 use Rattle.tla_tree.specs.Pool.{Keeps}
-use Rattle.tla_tree.specs.Spelling.{Phrase, brackets, no_tuple}
-use Rattle.tla_tree.specs.Reader.{Out, Reader, then_read, next, tail, free, peek, a_mark, is_mark, room, primary, tuples, keyed, choice_from}
+use Rattle.tla_tree.specs.Spelling.{Phrase, brackets, no_tuple, prefix_of}
+use Rattle.tla_tree.specs.Reader.{Context, is_free, under_by, signed, gives, Out, Reader, then_read, next, tail, free, peek, a_mark, is_mark, room, primary, tuples, keyed, choice_from}
 use Rattle.tla_tree.specs.Whole.{whole}
-use Rattle.tla_tree.proofs.Opened.{in_brackets, in_tuples, in_choice}
+use Rattle.tla_tree.proofs.Opened.{in_brackets, in_tuples, in_choice, in_signed}
 use Rattle.tla_tree.proofs.SoundTokens.{mark_is}
 use Rattle.tla_expr.specs.declared.cursor.Halt.{Halt}
 use Rattle.tla_expr.specs.declared.make.Read.{Read}
 use Rattle.tla_expr.specs.ReadIn.{IsIn, Told}
 use Rattle.tla_expr.specs.Ahead.{ahead}
-use Rattle.tla_expr.specs.HasRead.{HasRead, Stands, bracketed}
+use Rattle.tla_expr.specs.HasRead.{HasRead, Stands, bracketed, under_prefix}
 use Rattle.tla_expr.proofs.ReadLinks.{open_at, then_two}
 use Rattle.tla_expr.proofs.ReadNames.{read_on}
 
@@ -72,3 +73,10 @@ pub token_on : (v : Tokens) (old mid new : List Tree) (b j i : ℕ) (x : Read) (
 token_on v old mid new b j i x r a k p h kept low l m q kept' told stands =
     let one : HasRead v old mid j b (Ok (x, i)) (Ok (a, ahead v i)) = record { read = record { what = a; is = refl; told = h }; kept = kept; within = h.below; small = low; inside = l; further = m } in
     subst (λ (o : Out Phrase). HasRead v old new j b r o) (sym q) (read_on v old mid new j i b x r (Ok (a, ahead v i)) k one kept' told stands)
+
+pub prefix_more : (b e : ℕ) (c : Context) (p : Place) (q : Op) (ts us : List Token) (d : ℕ) → is_free c q ≡ true → d + 1 ≡ b → us ≡ tail ts
+    → signed (room whole (Some b)) (whole (Some b)) e c p q (Some q) ts ≡ under_prefix (whole (Some d)) e p q us
+prefix_more b e c p q ts us d f l t =
+    open_at d 0 b l (in_signed e c p q) ts
+    ∙ ap (λ (free : Bool). then_read (under_by free (whole (Some d)) e q (tail ts)) (λ a. gives (prefix_of p q a))) f
+    ∙ ap (under_prefix (whole (Some d)) e p q) (sym t)

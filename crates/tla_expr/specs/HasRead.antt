@@ -8,7 +8,7 @@ use Rattle.tla_token.specs.declared.place.Place.{Place}
 use Rattle.tla_tree.specs.Lexical.{Token}
 use Rattle.tla_tree.specs.Lexical as tk
 use Rattle.tla_tree.specs.declared.op.Op.{Op}
-use Rattle.tla_tree.specs.Spelling.{Phrase, apply, select, brackets, call, tuple, prefix_of}
+use Rattle.tla_tree.specs.Spelling.{Phrase, apply, select, brackets, call, tuple, prefix_of, functions, filter}
 use Rattle.tla_tree.specs.Reader.{Out, Reader, Readers, ◌>>=◌, gives, ended, a_mark, a_field, free, under}
 use Rattle.tla_tree.specs.Whole.{whole}
 use Rattle.tla_expr.specs.declared.cursor.Halt.{Halt}
@@ -76,3 +76,11 @@ tupled d e p = d.phrases e >>= λ xs. ended e tk.close_tuple (λ s. tuple p xs s
 
 abbrev pub under_prefix : Readers → ℕ → Place → Op → Reader Phrase
 under_prefix d e p q = d.expr e (under q) >>= λ a. gives (prefix_of p q a)
+
+-- behind `->` after a set
+abbrev pub mapped_to : Readers → ℕ → Place → Phrase → Place → Reader Phrase
+mapped_to d e p a q = d.expr e free >>= λ b. ended e tk.close_square (λ s. functions p a q b s)
+
+-- behind `:` after a name, `\in` and a set
+abbrev pub filtered : Readers → ℕ → Place → Place → Word → Place → Phrase → Place → Reader Phrase
+filtered d e p q x s a t = d.expr e free >>= λ b. ended e tk.close_brace (λ u. filter p q x s a t b u)
