@@ -4,7 +4,7 @@ use std::alloc::{AllocError, Global};
 use tla_expr::cursor::look;
 use tla_expr::quote::unquoted;
 use tla_expr::view::View;
-use tla_expr::write::{write_expr, write_operand};
+use tla_expr::{write_expr, write_operand};
 use tla_pool::form::Form;
 use tla_pool::graft::{Grafting, grafted};
 use tla_pool::{Pool, Seen};

@@ -1,7 +1,6 @@
 //! Files, and what `split` says of each.
 
-use module_text::parts::Parts;
-use module_text::split::split;
+use module_text::{Parts, split};
 use std::alloc::{AllocError, Global};
 use tla_token::{Span, Stop};
 

@@ -1,15 +1,12 @@
 //! A module with every kind of item, written to the byte.
 
 ghost use Rattle.std.specs.Prelude.{◌≡◌, ◌≤◌, ◌<◌, ◌∷◌, [], length, IfOk};
-ghost use Rattle.module_text.specs.InMemory.{past_items, ActionsIn, AllFairnessIn, WaysIn, RegionIn};
+ghost use Rattle.module_memory.specs.InMemory.{past_items, ActionsIn, AllFairnessIn, WaysIn, RegionIn};
 ghost use Rattle.tla_value.specs.Defs.{DefinitionsIn};
 
-use module_text::formulas::{at, binds_self, equal, functions_from, is_in, named, quoted, set};
-use module_text::module::{Action, Body, Call, Fairness, Item, Module, Outside, Region, Way};
-use module_text::parts::Parts;
-use module_text::ways::sets;
-use module_text::write_file::{with_translation, write_module};
-use module_text::write_units::write_region;
+use module_memory::formulas::{at, binds_self, equal, functions_from, is_in, named, quoted, set};
+use module_text::{Action, Body, Call, Fairness, Item, Module, Outside, Parts, Region, Way, with_translation, write_module, write_region};
+use module_memory::ways::sets;
 use std::alloc::{AllocError, Global};
 use tla_expr::write_expr;
 use tla_pool::Pool;

@@ -31,8 +31,8 @@ use Rattle.module_tree.specs.Walk.{Located, walk}
 use Rattle.module_tree.specs.FileParts.{within, beginnings_in, first_of, holds_algorithm}
 use Rattle.module_tree.specs.AlgorithmText.{Stage, head, is_past, after_part, IndexedPart, inner_part, Inside, with_part, inside, AlgorithmText, algorithm_at, algorithm_in, algorithm_tokens}
 use Rattle.module_tree.specs.FileOffences.{offences_of, algorithm_offences, is_splitting, splitting_offences}
-use Rattle.module_text.specs.Splitting.{Splits}
-use Rattle.module_text.specs.declared.parts.Parts.{Parts}
+use Rattle.file_parts.specs.Splitting.{Splits}
+use Rattle.module_tree.specs.declared.parts.Parts.{Parts}
 use Rattle.module_tree.specs.laws.Kept.{is_large, only_large}
 use Rattle.module_tree.proofs.AlgorithmIsCut.{algorithm_is_cut}
 use Rattle.first_path.specs.Form.{word, algorithm_kinds}

@@ -11,7 +11,7 @@ use Rattle.tla_token.specs.Offences.{Offence}
 use Rattle.tla_tree.specs.Tree.{Word}
 use Rattle.tla_tree.specs.Lexical.{Token}
 use Rattle.tla_tree.specs.TokenViews.{view, views}
-use Rattle.module_text.specs.declared.parts.Parts as code_parts
+use Rattle.module_tree.specs.declared.parts.Parts as code_parts
 use Rattle.module_tree.specs.TextFront.{Text}
 use Rattle.module_tree.specs.Walk.{walk}
 use Rattle.module_tree.specs.FileParts.{title, before_spot, after_spot, spot}
@@ -20,7 +20,7 @@ use Rattle.module_tree.specs.AlgorithmText.{AlgorithmText}
 use Rattle.module_tree.specs.AlgorithmText as file
 use Rattle.module_tree.specs.Outside.{identifiers}
 use Rattle.module_tree.specs.FileOffences.{splitting_offences, RefusesSplit}
-use Rattle.module_text.specs.Splitting.{Splits}
+use Rattle.file_parts.specs.Splitting.{Splits}
 use Rattle.module_tree.specs.WithTranslation.{WithTranslation}
 use Rattle.first_path.specs.Beside.{Beside, beside, declared_by, extended_by}
 use Rattle.first_path.specs.Form.{Parts, suits, algorithm_kinds}

@@ -4,7 +4,7 @@ ghost use Rattle.std.specs.Prelude.{◌≡◌, ◌<◌, ◌^◌, [], true, lengt
 ghost use Rattle.tla_token.specs.Tokens.{stretch};
 ghost use Rattle.module_tree.specs.Layout.{layout};
 ghost use Rattle.module_tree.specs.FileOffences.{splitting_offences};
-ghost use Rattle.module_text.specs.Splitting.{Splits};
+ghost use Rattle.file_parts.specs.Splitting.{Splits};
 ghost use Rattle.first_path.specs.Form.{is_fit};
 ghost use Rattle.first_path.specs.FormRead.{file_form, form_offences};
 ghost use Rattle.first_path.specs.Placed.{region_of, translation_of};
@@ -19,8 +19,7 @@ use crate::form_read::algorithm_at;
 use crate::nodes::put_nodes;
 use crate::outside::{Outside, suits};
 use crate::rest::Rest;
-use module_text::split::split;
-use module_text::{Parts, with_translation, write_region};
+use module_text::{Parts, split, with_translation, write_region};
 use std::alloc::{AllocError, Global};
 use tla_pool::Pool;
 use tla_token::{Place, Reading, Refusal, Rule, Span, Stop, Tokens, tokens_as};

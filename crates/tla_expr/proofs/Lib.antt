@@ -1,5 +1,3 @@
-pub mod WritingLemmas
-pub mod RowsWriting
 mod RowsShape
 pub mod ShapeLemmas
 pub mod MakeLemmas

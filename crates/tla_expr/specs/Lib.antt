@@ -1,5 +1,4 @@
 pub mod ViewSeen
-pub mod Writing
 pub mod ShapeOf
 pub mod ReadIn
 pub mod Ahead

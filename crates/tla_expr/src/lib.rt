@@ -21,6 +21,5 @@ pub mod shape;
 pub mod spot;
 pub mod view;
 pub mod word;
-pub mod write;
 
-pub use write::{write_expr, write_operand};
+pub use tla_write::{write_expr, write_operand};

@@ -1,0 +1,23 @@
+mod RowsStands
+pub mod LineLengths
+pub mod EndLine
+pub mod BarFronts
+pub mod SegmentFronts
+pub mod QuotedSegments
+pub mod WalkSteps
+mod RowsSplit
+pub mod BeginningSteps
+pub mod AlgorithmSteps
+pub mod UnitStarts
+pub mod SplitFaults
+pub mod SplitLeast
+pub mod SplitFine
+pub mod StandSteps
+pub mod Comments
+pub mod Gaps
+pub mod SplitParts
+pub mod Titles
+pub mod SplitTitle
+pub mod SplitWhole
+pub mod SplitTokens
+pub mod SplitMade

@@ -1,0 +1,9 @@
+mod RowsInMemory
+pub mod ItemEquations
+pub mod Below
+pub mod Heights
+pub mod Regrouped
+pub mod OneMore
+pub mod LayoutParts
+pub mod SpotWithin
+pub mod InMemoryGrown

@@ -1,0 +1,11 @@
+//! Modules of TLA+ in memory: their formulas as numbers of a pool, the text of a translation, and a file with a translation put in.
+#![tactic(auto)]
+
+pub mod formulas;
+pub mod lines;
+pub mod module;
+pub mod ways;
+pub mod write_action;
+pub mod write_file;
+pub mod write_line;
+pub mod write_units;

@@ -1,8 +1,0 @@
-pub mod StandsSeen
-pub mod Walking
-pub mod Splitting
-pub mod InMemory
-pub mod Apart
-pub mod BeginningsSeen
-pub mod AlgorithmSeen
-pub mod SplitSeen
