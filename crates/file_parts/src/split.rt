@@ -23,12 +23,12 @@ use crate::line::title_span;
 use crate::offence::{
     bytes_of, line_fault, missing_fault, module_fault, second_fault, stands_fault, unit_fault,
 };
-use module_tree::Parts;
 use crate::seek::{
     beginnings, behind, header, holder, newline_index, region, region_index, tail, up_to, within,
 };
 use crate::stand::{Shape, Stand};
 use crate::walk::walk;
+use module_tree::Parts;
 use std::alloc::{AllocError, Global};
 use tla_token::fault::sooner;
 use tla_token::token::kind_at;

@@ -10,9 +10,9 @@ ghost use Rattle.module_memory.specs.InMemory.{item_at, items_at, branches_at, c
 use crate::module::{Action, Body, Call, Item, Way};
 use crate::write_line::{begin_line, deeper, write_line, write_tuple};
 use std::alloc::{AllocError, Global};
-use tla_write::{write_expr, write_operand};
 use tla_pool::Pool;
 use tla_tree::{Name, NameList, NodeId, Text};
+use tla_write::{write_expr, write_operand};
 
 // ---- lines of items. Those before a list are of the item with nothing in it.
 

@@ -9,8 +9,8 @@ ghost use Rattle.module_memory.specs.InMemory.{module_at, RegionIn};
 
 use crate::lines::{begin_text, end_text};
 use crate::module::Module;
-use module_tree::Parts;
 use crate::write_units::write_region;
+use module_tree::Parts;
 use std::alloc::{AllocError, Global};
 use tla_pool::Pool;
 use tla_tree::Text;

@@ -15,10 +15,10 @@ use crate::ways::{processes, sets};
 use crate::write_action::{write_action, write_call, write_ways};
 use crate::write_line::{begin_line, write_joined, write_tuple, write_where};
 use std::alloc::{AllocError, Global};
-use tla_write::{write_expr, write_operand};
 use tla_pool::Pool;
 use tla_tree::{Name, NameList, NodeId, Text};
 use tla_value::names::Definition;
+use tla_write::{write_expr, write_operand};
 
 // ---- names
 

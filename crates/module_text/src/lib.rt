@@ -2,7 +2,9 @@
 #![tactic(auto)]
 
 pub use file_parts::split::split;
-pub use module_memory::module::{Action, Body, Call, Fairness, Item, Module, Opaque, Outside, Region, Way};
+pub use module_memory::module::{
+    Action, Body, Call, Fairness, Item, Module, Opaque, Outside, Region, Way,
+};
 pub use module_memory::write_file::{with_translation, write_module};
 pub use module_memory::write_units::write_region;
 pub use module_tree::parts::Parts;

@@ -1,9 +1,9 @@
 //! Expressions in memory: names, nodes of a pool, grafts, tokens as a reader sees them, and written text.
 
+use expression_parts::cursor::look;
+use expression_parts::quote::unquoted;
+use expression_parts::view::View;
 use std::alloc::{AllocError, Global};
-use tla_expr::cursor::look;
-use tla_expr::quote::unquoted;
-use tla_expr::view::View;
 use tla_expr::{write_expr, write_operand};
 use tla_pool::form::Form;
 use tla_pool::graft::{Grafting, grafted};

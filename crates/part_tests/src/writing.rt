@@ -5,8 +5,11 @@ ghost use Rattle.module_memory.specs.InMemory.{past_items, ActionsIn, AllFairnes
 ghost use Rattle.tla_value.specs.Defs.{DefinitionsIn};
 
 use module_memory::formulas::{at, binds_self, equal, functions_from, is_in, named, quoted, set};
-use module_text::{Action, Body, Call, Fairness, Item, Module, Outside, Parts, Region, Way, with_translation, write_module, write_region};
 use module_memory::ways::sets;
+use module_text::{
+    Action, Body, Call, Fairness, Item, Module, Outside, Parts, Region, Way, with_translation,
+    write_module, write_region,
+};
 use std::alloc::{AllocError, Global};
 use tla_expr::write_expr;
 use tla_pool::Pool;

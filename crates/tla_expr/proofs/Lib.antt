@@ -1,13 +1,6 @@
-mod RowsShape
-pub mod ShapeLemmas
-pub mod MakeLemmas
 pub mod ReadLemmas
-pub mod ElementLemmas
-pub mod DepthLemmas
 pub mod ReadSteps
 pub mod ReadCode
-pub mod QuoteLemmas
-pub mod AheadLemmas
 pub mod ReadRows
 pub mod ReadLinks
 pub mod ReadGrown

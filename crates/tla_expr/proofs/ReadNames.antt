@@ -11,10 +11,10 @@ use Rattle.tla_tree.specs.Reader.{Out, Reader, then_read, next, tail, is_mark, r
 use Rattle.tla_tree.specs.Whole.{whole}
 use Rattle.tla_tree.proofs.PoolNumbers.{Keeps-then}
 use Rattle.tla_tree.proofs.SoundTokens.{mark_is}
-use Rattle.tla_expr.specs.declared.cursor.Halt.{Halt}
-use Rattle.tla_expr.specs.declared.make.Read.{Read}
-use Rattle.tla_expr.specs.ReadIn.{IsIn, Told}
-use Rattle.tla_expr.specs.Ahead.{ahead}
+use Rattle.expression_parts.specs.declared.cursor.Halt.{Halt}
+use Rattle.expression_parts.specs.declared.make.Read.{Read}
+use Rattle.expression_parts.specs.ReadIn.{IsIn, Told}
+use Rattle.expression_parts.specs.Ahead.{ahead}
 use Rattle.tla_expr.specs.HasRead.{HasRead, Stands}
 use Rattle.tla_expr.proofs.ReadCode.{told_after}
 

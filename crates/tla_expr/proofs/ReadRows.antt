@@ -12,14 +12,14 @@ use Rattle.tla_tree.specs.Reader.{Out, then_read, gives, peek, next, tail, free,
 use Rattle.tla_tree.specs.Whole.{whole}
 use Rattle.tla_tree.proofs.Whole.{phrases_is}
 use Rattle.tla_tree.proofs.SoundTokens.{mark_is}
-use Rattle.tla_expr.specs.declared.cursor.Halt.{Halt}
-use Rattle.tla_expr.specs.declared.cursor.Halt.TheVariants as halt
-use Rattle.tla_expr.specs.declared.make.Read.{Read}
-use Rattle.tla_expr.specs.declared.make.Row.{Row}
-use Rattle.tla_expr.specs.declared.shape.Shape.{Shape}
-use Rattle.tla_expr.specs.ReadIn.{IsIn, AreIn, Reads, Fails}
-use Rattle.tla_expr.specs.Ahead.{ahead}
-use Rattle.tla_expr.proofs.MakeLemmas.{kept_in, starts}
+use Rattle.expression_parts.specs.declared.cursor.Halt.{Halt}
+use Rattle.expression_parts.specs.declared.cursor.Halt.TheVariants as halt
+use Rattle.expression_parts.specs.declared.make.Read.{Read}
+use Rattle.expression_parts.specs.declared.make.Row.{Row}
+use Rattle.expression_parts.specs.declared.shape.Shape.{Shape}
+use Rattle.expression_parts.specs.ReadIn.{IsIn, AreIn, Reads, Fails}
+use Rattle.expression_parts.specs.Ahead.{ahead}
+use Rattle.expression_parts.proofs.MakeLemmas.{kept_in, starts}
 use Rattle.tla_expr.proofs.ReadLemmas.{fails_then}
 
 -- ---- what is read, put after what was read

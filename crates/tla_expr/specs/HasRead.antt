@@ -11,13 +11,13 @@ use Rattle.tla_tree.specs.declared.op.Op.{Op}
 use Rattle.tla_tree.specs.Spelling.{Phrase, apply, select, brackets, call, tuple, prefix_of, functions, filter}
 use Rattle.tla_tree.specs.Reader.{Out, Reader, Readers, ◌>>=◌, gives, ended, a_mark, a_field, free, under}
 use Rattle.tla_tree.specs.Whole.{whole}
-use Rattle.tla_expr.specs.declared.cursor.Halt.{Halt}
-use Rattle.tla_expr.specs.declared.make.Read.{Read}
-use Rattle.tla_expr.specs.declared.shape.Context.{Context}
-use Rattle.tla_expr.specs.declared.spot.Spot.{Spot}
-use Rattle.tla_expr.specs.ShapeOf.{context_seen}
-use Rattle.tla_expr.specs.ReadIn.{IsIn, Told, Fails}
-use Rattle.tla_expr.specs.Ahead.{ahead}
+use Rattle.expression_parts.specs.declared.cursor.Halt.{Halt}
+use Rattle.expression_parts.specs.declared.make.Read.{Read}
+use Rattle.expression_parts.specs.declared.shape.Context.{Context}
+use Rattle.expression_parts.specs.declared.spot.Spot.{Spot}
+use Rattle.expression_parts.specs.ShapeOf.{context_seen}
+use Rattle.expression_parts.specs.ReadIn.{IsIn, Told, Fails}
+use Rattle.expression_parts.specs.Ahead.{ahead}
 
 -- it is in the pool as the phrase that the reader reads, and opens n forms at most; what is left begins no earlier
 pub record HasRead (v : Tokens) (old new : List Tree) (from n : ℕ) (r : Result (Read × ℕ) Halt) (o : Out Phrase) : Type 0 where

@@ -1,5 +1,1 @@
-pub mod ViewSeen
-pub mod ShapeOf
-pub mod ReadIn
-pub mod Ahead
 pub mod HasRead

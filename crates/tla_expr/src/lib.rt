@@ -1,12 +1,6 @@
 //! Expressions of TLA+: reading them from tokens, and writing their text.
 #![tactic(auto)]
 
-pub mod cursor;
-pub mod depth;
-pub mod element;
-pub mod gather;
-pub mod make;
-pub mod quote;
 pub mod read_brace;
 pub mod read_climb;
 pub mod read_link;
@@ -17,9 +11,5 @@ pub mod read_primary;
 pub mod read_row;
 pub mod read_square;
 pub mod read_token;
-pub mod shape;
-pub mod spot;
-pub mod view;
-pub mod word;
 
 pub use tla_write::{write_expr, write_operand};

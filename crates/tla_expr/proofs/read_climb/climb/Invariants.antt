@@ -3,9 +3,9 @@ use Rattle.std.proofs.Common.{◌<◌, ◌≤◌, ℕ, ◌-◌, length, Some}
 use Rattle.tla_tree.specs.Pool.{Keeps}
 use Rattle.tla_tree.specs.Spelling.{Phrase}
 use Rattle.tla_tree.specs.Whole.{whole}
-use Rattle.tla_expr.specs.ReadIn.{IsIn}
-use Rattle.tla_expr.specs.Ahead.{ahead}
-use Rattle.tla_expr.specs.ShapeOf.{context_seen}
+use Rattle.expression_parts.specs.ReadIn.{IsIn}
+use Rattle.expression_parts.specs.Ahead.{ahead}
+use Rattle.expression_parts.specs.ShapeOf.{context_seen}
 use Rattle.tla_expr.specs.HasRead.{GrowsTo, Stands}
 use Rattle.tla_expr.proofs.read_climb.climb.Given as goal
 

@@ -5,7 +5,7 @@ use Rattle.tla_tree.specs.Spelling.{Phrase}
 use Rattle.tla_tree.specs.Reader.{Reader}
 use Rattle.tla_tree.specs.Whole.{whole}
 use Rattle.tla_tree.proofs.PoolNumbers.{Keeps-then}
-use Rattle.tla_expr.specs.Ahead.{ahead}
+use Rattle.expression_parts.specs.Ahead.{ahead}
 use Rattle.tla_expr.proofs.ReadGrown.{same_pool, grown_on, grown_lost, grown_end}
 use Rattle.tla_expr.proofs.read_link.postfix.Goals as goal
 

@@ -2,7 +2,7 @@
 use Rattle.std.proofs.Common.{◌≡◌, ◌≤◌, ◌+◌, ℕ, suc, true, false, arith, refl, ap, sym, ◌∙◌, subst, Some}
 use Rattle.tla_tree.specs.Spelling.{call}
 use Rattle.tla_tree.proofs.PoolNumbers.{Keeps-then}
-use Rattle.tla_expr.proofs.MakeLemmas.{kept_in}
+use Rattle.expression_parts.proofs.MakeLemmas.{kept_in}
 use Rattle.tla_expr.proofs.ReadLemmas.{told_then, told_on}
 use Rattle.tla_expr.proofs.read_plain.call_in.Goals as goal
 

@@ -1,0 +1,7 @@
+mod RowsShape
+pub mod ShapeLemmas
+pub mod MakeLemmas
+pub mod ElementLemmas
+pub mod DepthLemmas
+pub mod QuoteLemmas
+pub mod AheadLemmas

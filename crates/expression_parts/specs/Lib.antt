@@ -1,0 +1,4 @@
+pub mod ViewSeen
+pub mod ShapeOf
+pub mod ReadIn
+pub mod Ahead

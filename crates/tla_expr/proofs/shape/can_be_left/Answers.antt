@@ -1,6 +1,0 @@
--- Proves what is asked of `can_be_left`.
-use Rattle.tla_expr.proofs.ShapeLemmas.{left_is}
-use Rattle.tla_expr.proofs.shape.can_be_left.Goals as goal
-
-pub returns : goal.returns
-returns c = λ a e. left_is _ _ _ _ a c.stands_left.ensures e

@@ -1,6 +1,0 @@
--- Proves what is asked of `can_be_under`.
-use Rattle.tla_expr.proofs.ShapeLemmas.{under_is}
-use Rattle.tla_expr.proofs.shape.can_be_under.Goals as goal
-
-pub returns : goal.returns
-returns c = λ a e. under_is _ _ _ a c.stands_under.ensures e
