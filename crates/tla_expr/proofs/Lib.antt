@@ -6,4 +6,9 @@ pub mod ReadLinks
 pub mod ReadGrown
 pub mod ReadNames
 pub mod ReadPrimaries
+pub mod ReadArms
+pub mod ReadLocals
+pub mod ReadBullets
+pub mod ReadListed
 mod RowsHasRead
+mod RowsLists

@@ -1,9 +1,15 @@
 //! Expressions of TLA+: reading them from tokens, and writing their text.
 #![tactic(auto)]
 
+pub mod on_next;
+pub mod read_arms;
+pub mod read_behind;
 pub mod read_brace;
+pub mod read_bullets;
 pub mod read_climb;
 pub mod read_link;
+pub mod read_listed;
+pub mod read_locals;
 pub mod read_name;
 pub mod read_open;
 pub mod read_plain;
