@@ -1,0 +1,2 @@
+//! Algorithms in C-syntax, read from tokens.
+#![tactic(auto)]
