@@ -1,2 +1,4 @@
 mod Rows
 mod RowsForms
+pub mod SoundStatements
+pub mod SoundAlgorithm
