@@ -178,7 +178,7 @@ abbrev StepsAt : Place → TokenView → (List Token → List Token) → Reader 
 StepsAt p k x r = SoundAt p k x GoodTurn turn r
 
 -- what stands open here
-abbrev at : Labels → Stack → List Token → List Token
+abbrev pub at : Labels → Stack → List Token → List Token
 at ls st ts = stack st (labels ls ts)
 
 -- ( .. )
@@ -186,7 +186,7 @@ bracketed_sound : {A : Type 0} {P : A → Type 0} {front : A → List Token → 
     → ((q : Place) (a : A) (s : Place) (ts : List Token) → turn (f q a s) ts ≡ x (mark q tk.open_bracket (front a (mark s tk.close_bracket ts)))) → Sound x GoodTurn turn (bracketed r f)
 bracketed_sound f h g e = sound_bind (sound_mark tk.open_bracket) (λ q u. sound_bind h (λ a i. sound_bind (sound_mark tk.close_bracket) (λ s v. sound_gives (f q a s) (g q a s i) (λ ts. e q a s ts))))
 
-divides : (s : Option Place) (a : Labelled) → is_divided s a ≡ true → Divided s a
+pub divides : (s : Option Place) (a : Labelled) → is_divided s a ≡ true → Divided s a
 divides (Some p) a e = tt
 divides None a e = e
 

@@ -1,25 +1,24 @@
 -- What is spelled is read: each statement is passed where what comes after it is.
-use Rattle.std.proofs.Common.{◌≡◌, ℕ, zero, suc, ◌<◌, ◌≤◌, Bool, true, false, not, List, length, Option, Some, None, Ok, if◌then◌else◌, refl, sym, ap, subst, ◌∙◌, arith, codes}
+use Rattle.std.proofs.Common.{◌≡◌, ℕ, zero, suc, ◌<◌, ◌≤◌, Bool, true, false, not, List, length, Option, Some, None, Ok, refl, sym, ap, subst, ◌∙◌, arith, codes}
 use Rattle.std.specs.Prelude.{IsTrue}
-use Rattle.std.specs.Str.{bytes_eq}
 use Rattle.tla_token.specs.declared.place.Place.{Place}
-use Rattle.tla_tree.specs.Tree.{Word, Name}
+use Rattle.tla_tree.specs.Tree.{Name}
 use Rattle.tla_tree.specs.Lexical.{TokenView, Token}
 use Rattle.tla_tree.specs.Lexical as tk
 use Rattle.tla_tree.specs.Spelling.{spell}
-use Rattle.tla_tree.specs.Reader.{Out, Reader, then_read, tail}
+use Rattle.tla_tree.specs.Reader.{Out, Reader, then_read}
 use Rattle.pcal_tree.specs.GrammarParts.{name, key, mark, semicolon, maybe_semicolon, Colon, colon, colon_plus, colon_minus, colon_tokens, Labels, no_labels, label, labels, binds, Assignments, assignments, GoodAssignments, Arguments, no_arguments, some_arguments, arguments, Simple, simple_tokens, GoodSimple}
 use Rattle.pcal_tree.specs.GrammarParts as g
 use Rattle.pcal_tree.specs.GrammarC.{Statement, simple, branch, either, with, while, compound, Labelled, labelled, no_else, else_then, Branches, last_branch, more_branches, Sequence, last_statement, more_statements}
 use Rattle.pcal_tree.specs.GrammarC.{statement, labelled_tokens, branches, sequence, branches_end_in_block, branches_take_else, takes_or, labelled_takes_or, Divided, GoodStatement, GoodLabelled, GoodBranches, GoodSequence}
-use Rattle.algorithm_parts.specs.TokenReaders.{first, pick, Parts}
+use Rattle.algorithm_parts.specs.TokenReaders.{first, Parts}
 use Rattle.algorithm_parts.proofs.Whole.{Fits, smaller, then_is, WholeParts}
 use Rattle.algorithm_parts.proofs.WholeSimple.{root, first_left, after_first, assignment_tokens, assignment_next, is_left_next, arguments_whole}
 use Rattle.algorithm_parts.proofs.Lengths.{grow_phrase, grow_colon, grow_binds, grow_simple}
-use Rattle.c_syntax.specs.ReadStatements.{Before, none, after, Arms, first_arm, later_arm, Test, if_test, Opening, with_opening, while_opening, Stack, bottom, in_block, in_then, in_else, in_body, in_either, State, begin, ended, Turn, on, done, with_before, with_label, joined, before_or, opens, either_if, after_name, statement_by, Ask, ask_else, ask_or, ask_other, closed}
-use Rattle.c_syntax.specs.ReadStatements as machine
-use Rattle.c_syntax.specs.ReadStatements.{closing_words, is_divided, another_if, list_by, ended_by, step, turned, run, read_sequence}
-use Rattle.c_syntax.proofs.Behind.{word_ask, ask_of, ask_past, ask_at, Quiet, QuietStatement, QuietLabelled, quiet_else, quiet_or, quiet_other, else_asks, else_divides, branches_ask, branches_divide, brace_asks, brace_divides, Starts, start_statement, start_labels, start_sequence, start_asks, start_divides, divided}
+use Rattle.c_syntax.specs.ReadStatements.{Before, none, after, Arms, first_arm, later_arm, Test, if_test, with_opening, while_opening, Stack, bottom, in_block, in_then, in_else, in_body, in_either, State, begin, ended, Turn, on, with_before, with_label, joined, before_or, either_if, after_name, statement_by, ask_other, closed}
+use Rattle.c_syntax.specs.ReadStatements.{list_by, ended_by, step, turned, run, read_sequence}
+use Rattle.c_syntax.proofs.Behind.{ask_of, ask_at, Quiet, QuietStatement, QuietLabelled, quiet_else, quiet_or, quiet_other, else_asks, else_divides, branches_ask, branches_divide, brace_asks, brace_divides, Starts, start_statement, start_labels, start_sequence, start_asks, start_divides, divided}
+use Rattle.c_syntax.proofs.Elsewhere.{word_taken, then_ends, either_ends, same_run}
 use Rattle.c_syntax.proofs.WholeEnds.{is_divider_next, next_calm, is_statement_start, colon_ends, binds_end}
 use Rattle.c_syntax.proofs.WholeAssign.{assign_ends}
 
@@ -56,38 +55,7 @@ opened_either ls st p = begin no_labels (in_either (first_arm ls p) st)
 abbrev listed : Sequence → List Token → Out Sequence
 listed ss ts = Ok (ss, ts)
 
--- ---- a step after a statement, by what is asked for
-abbrev taken : Parts → ℕ → Ask → Option Place → Place → TokenView → Option (Labelled × Stack) → Reader Turn
-taken m n ask_else s p k o = machine.takes_else s p o
-taken m n ask_or s p k o = machine.takes_or s p o
-taken m n ask_other s p k o = list_by m n s p k o
-
--- whether it is an `else`, and whether it is an `or`
-abbrev asked : Bool → Bool → Ask
-asked e o = if e then ask_else else if o then ask_or else ask_other
-
-word_taken : (m : Parts) (n : ℕ) (a : Labelled) (s : Option Place) (st : Stack) (p : Place) (w : Word) → pick w (closing_words a s st p) (list_by m n s p (tk.reserved w) (closed ask_other a st)) ≡ taken m n (word_ask w) s p (tk.reserved w) (closed (word_ask w) a st)
-word_taken m n a s st p w = by (bytes_eq (codes "else") w) (bytes_eq (codes "or") w)
-  where
-    by : (e o : Bool) → (if e then machine.takes_else s p (closed ask_else a st) else if o then machine.takes_or s p (closed ask_or a st) else list_by m n s p (tk.reserved w) (closed ask_other a st)) ≡ taken m n (asked e o) s p (tk.reserved w) (closed (asked e o) a st)
-    by true o = refl
-    by false true = refl
-    by false false = refl
-
-after_taken : (m : Parts) (n : ℕ) (a : Labelled) (q : Place) (st : Stack) (p : Place) (k : TokenView) → ended_by m n a (Some q) st p k ≡ taken m n (ask_of k) (Some q) p k (closed (ask_of k) a st)
-after_taken m n a q st p (tk.reserved w) = word_taken m n a (Some q) st p w
-after_taken m n a q st p k = refl
-
-then_ends : (q : Ask) (ls : Labels) (t : Test) (a : Labelled) (st : Stack) → (q ≡ ask_else → ⊥) → closed q a (in_then ls t st) ≡ closed q (machine.tested ls t a no_else) st
-then_ends ask_else ls t a st h = absurd (h refl)
-then_ends ask_or ls t a st h = refl
-then_ends ask_other ls t a st h = refl
-
-either_ends : (q : Ask) (t : Arms) (a : Labelled) (s : Option Place) (p : Place) (b : Labelled) (st : Stack) → (q ≡ ask_or → ⊥) → closed q b (in_either (later_arm t a s p) st) ≡ closed q (joined t a (last_branch s p b)) st
-either_ends ask_else t a s p b st h = refl
-either_ends ask_or t a s p b st h = absurd (h refl)
-either_ends ask_other t a s p b st h = refl
-
+-- ---- in a list
 base_closed : (o : Base) (b : Before) (a : Labelled) → closed ask_other a (base o b) ≡ Some (a, base o b)
 base_closed at_bottom b a = refl
 base_closed (in_braces ls p st) b a = refl
@@ -106,29 +74,9 @@ module _ (m : ℕ) (r : Parts) (h : WholeParts m r) where
   advance s ts t us o e l k zero i j = absurd (omega (arith, i))
   advance s ts t us o e l k (suc n) i j = then_is _ (e n (record { list = omega (arith, i); all = j })) (k n (omega (arith, l, i)) (omega (arith, l, j)))
 
-  -- ---- a statement goes on as another one elsewhere, where both end at the same place
-  same_after : (n : ℕ) (q : Place) (a : Labelled) (x : Stack) (b : Labelled) (y : Stack) (ts : List Token) → closed (ask_of (first ts).kind) a x ≡ closed (ask_of (first ts).kind) b y → run r n (ended a (Some q) x) ts ≡ run r n (ended b (Some q) y) ts
-  same_after zero q a x b y ts e = refl
-  same_after (suc n) q a x b y ts e =
-      (let p = (first ts).place in
-      let k = (first ts).kind in
-      ap (λ (f : Reader Turn). then_read (f ts) (turned (run r n))) (after_taken r n a q x p k ∙ ap (λ (o : Option (Labelled × Stack)). taken r n (ask_of k) (Some q) p k o) e ∙ sym (after_taken r n b q y p k)))
-
-  same_run : (n : ℕ) (a : Labelled) (x : Stack) (b : Labelled) (y : Stack) (ts : List Token) → closed (ask_at ts) a x ≡ closed (ask_at ts) b y → run r n (ended a None x) ts ≡ run r n (ended b None y) ts
-  same_run zero a x b y ts e = refl
-  same_run (suc n) a x b y ts e = by (first ts).place (first ts).kind e (λ q. same_after n q a x b y (tail ts))
-    where
-      by : (p : Place) (k : TokenView) → closed (ask_past k (tail ts)) a x ≡ closed (ask_past k (tail ts)) b y
-          → ((q : Place) → closed (ask_of (first (tail ts)).kind) a x ≡ closed (ask_of (first (tail ts)).kind) b y → run r n (ended a (Some q) x) (tail ts) ≡ run r n (ended b (Some q) y) (tail ts))
-          → then_read (ended_by r n a None x p k ts) (turned (run r n)) ≡ then_read (ended_by r n b None y p k ts) (turned (run r n))
-      by p (tk.mark tk.semicolon) i f = f p i
-      by p (tk.reserved w) i f =
-          ap (λ (d : Reader Turn). then_read (d ts) (turned (run r n)))
-          (word_taken r n a None x p w ∙ ap (λ (o : Option (Labelled × Stack)). taken r n (word_ask w) None p (tk.reserved w) o) i ∙ sym (word_taken r n b None y p w))
-      by p k i f = ap (λ (o : Option (Labelled × Stack)). then_read (list_by r n None p k o ts) (turned (run r n))) i
-
+  -- ---- a statement goes on as another one elsewhere
   goes_on : (a : Labelled) (x : Stack) (b : Labelled) (y : Stack) (ts : List Token) (o : Out Sequence) → closed (ask_at ts) a x ≡ closed (ask_at ts) b y → Gives (ended b None y) ts o → Gives (ended a None x) ts o
-  goes_on a x b y ts o e k n i j = same_run n a x b y ts e ∙ k n i j
+  goes_on a x b y ts o e k n i j = same_run r n a x b y ts e ∙ k n i j
 
   -- ---- simple statements
   assign_step : (n : ℕ) (ms : Assignments) → GoodAssignments ms → (ls : Labels) (st : Stack) (ts : List Token) → is_divider_next (first ts).kind ≡ true → Fits n m (assignments ms ts) → (p : Place) (k : TokenView) → is_left_next k ≡ true

@@ -1,13 +1,15 @@
 -- Reading lists of statements in C-syntax: what stands open is a stack, and each word, bracket or part takes one step ("A PlusCal User's Manual, C-Syntax Version", appendix A).
-use Rattle.std.specs.Prelude.{ℕ, zero, suc, Bool, true, false, List, [], ◌∷◌, Option, Some, None, codes}
+use Rattle.std.specs.Prelude.{◌≡◌, ℕ, zero, suc, ◌+◌, Bool, true, false, List, [], ◌∷◌, Option, Some, None, codes}
 use Rattle.tla_token.specs.declared.place.Place.{Place}
+use Rattle.tla_token.specs.Places.{nowhere}
 use Rattle.tla_tree.specs.Tree.{Word, Name}
-use Rattle.tla_tree.specs.Lexical.{TokenView}
+use Rattle.tla_tree.specs.Lexical.{TokenView, Token}
 use Rattle.tla_tree.specs.Lexical as tk
 use Rattle.tla_tree.specs.Spelling.{Phrase}
 use Rattle.tla_tree.specs.Reader.{Reader, ◌>>=◌, gives, refuses, skip}
-use Rattle.pcal_tree.specs.GrammarParts.{Colon, Labels, no_labels, label, Binds, Simple}
+use Rattle.pcal_tree.specs.GrammarParts.{key, mark, Colon, Labels, no_labels, label, Binds, Simple}
 use Rattle.pcal_tree.specs.GrammarC.{simple, branch, either, with, while, compound, Labelled, labelled, Else, no_else, else_then, Branches, last_branch, more_branches, Sequence, last_statement, more_statements, labelled_ends_in_block}
+use Rattle.pcal_tree.specs.OpenForms.{after_binds}
 use Rattle.algorithm_parts.specs.TokenReaders.{by_next, a_mark, pick, Parts}
 use Rattle.algorithm_parts.specs.ReadParts.{read_colon, read_binds}
 use Rattle.algorithm_parts.specs.ReadSimple.{named_by, simple_words}
@@ -187,3 +189,42 @@ run m (suc n) s = step m n s >>= turned (run m n)
 -- up to the `}` after it
 abbrev pub read_sequence : Parts → ℕ → Reader Sequence
 read_sequence m n = run m n (begin no_labels (bottom none))
+
+-- ---- what closes what stands open
+-- each `either` stands where no `or` must come right after it
+abbrev pub AreApart : Stack → Type 0
+AreApart (bottom b) = Unit {0}
+AreApart (in_block ls p b st) = AreApart st
+AreApart (in_then ls t st) = AreApart st
+AreApart (in_else ls t a s p st) = AreApart st
+AreApart (in_body ls o st) = AreApart st
+AreApart (in_either t st) = (before_or st ≡ false) × AreApart st
+
+-- after a statement: an `if` gets an `else`, and the first branch of an `either` another one
+abbrev pub closing : Stack → List Token
+closing (bottom b) = []
+closing (in_block ls p b st) = mark nowhere tk.close_brace (closing st)
+closing (in_then ls t st) = key nowhere (codes "else") (key nowhere (codes "skip") (closing st))
+closing (in_else ls t a s p st) = closing st
+closing (in_body ls o st) = closing st
+closing (in_either (first_arm ls p) st) = key nowhere (codes "or") (key nowhere (codes "skip") (closing st))
+closing (in_either (later_arm t a s p) st) = closing st
+
+-- up to the `}` after the list
+abbrev pub rest : State → List Token
+rest (begin ls st) = key nowhere (codes "skip") (closing st)
+rest (ended a s st) = closing st
+
+abbrev pub open_stack : State → Stack
+open_stack (begin ls st) = st
+open_stack (ended a s st) = st
+
+-- how many forms are open: one for each brace, test, branch, bind and loop
+abbrev pub depth : Stack → ℕ
+depth (bottom b) = 0
+depth (in_block ls p b st) = depth st + 1
+depth (in_then ls t st) = depth st + 1
+depth (in_else ls t a s p st) = depth st + 1
+depth (in_body ls (with_opening p q bs r) st) = after_binds (depth st) bs
+depth (in_body ls (while_opening p q e r) st) = depth st + 1
+depth (in_either t st) = depth st + 1
