@@ -1,5 +1,6 @@
 mod Rows
 mod RowsForms
+mod RowsClosing
 pub mod SoundStatements
 pub mod SoundAlgorithm
 pub mod WholeEnds
