@@ -1,0 +1,21 @@
+mod Rows
+mod RowsForms
+mod RowsClosing
+pub mod SoundStatements
+pub mod SoundAlgorithm
+pub mod WholeEnds
+pub mod WholeAssign
+pub mod Lengths
+pub mod Behind
+pub mod Elsewhere
+pub mod WholeStatements
+pub mod WholeAlgorithm
+pub mod FairStatements
+pub mod FairAlgorithm
+pub mod MendStatements
+pub mod MendAlgorithm
+pub mod Closing
+pub mod Apart
+pub mod StopsOf
+pub mod Stops
+pub mod OneSyntax

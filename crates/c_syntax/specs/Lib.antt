@@ -1,0 +1,2 @@
+pub mod ReadStatements
+pub mod ReadAlgorithm

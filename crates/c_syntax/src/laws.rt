@@ -1,0 +1,78 @@
+//! Laws of reading algorithms in C-syntax, stated as what functions without a body ensure.
+
+ghost use Rattle.std.specs.Prelude.{◌≡◌, ℕ, suc, ◌+◌, ◌*◌, ◌≤◌, length, take, map, get_or, Some, ◌++◌, List, [], ◌∷◌, Ok, Err};
+ghost use Rattle.tla_tree.specs.Lexical.{Token};
+ghost use Rattle.tla_token.specs.Tokens as text;
+ghost use Rattle.tla_token.specs.declared.rule.Rule.{Rule};
+ghost use Rattle.tla_token.specs.declared.rule.Rule.TheVariants.{Syntax};
+ghost use Rattle.pcal_tree.specs.Algorithm.{Algorithm};
+ghost use Rattle.tla_token.specs.declared.rule.Refusal.{Refusal};
+ghost use Rattle.tla_tree.specs.FirstStop.{looks, to_end, Begins, Passes};
+ghost use Rattle.pcal_tree.specs.AlgorithmTokens.{views};
+ghost use Rattle.pcal_tree.specs.OffencesSyntax.{algorithms, RefusesTokens};
+ghost use Rattle.pcal_tree.specs.Grammar.{p_syntax, c_syntax, Text, Good, spell, SpellsP, SpellsC};
+ghost use Rattle.tla_token.specs.declared.place.Place.{Place};
+ghost use Rattle.tla_tree.specs.Lexical.{close_brace};
+ghost use Rattle.pcal_tree.specs.GrammarParts.{mark};
+ghost use Rattle.pcal_tree.specs.GrammarC.{Sequence};
+ghost use Rattle.algorithm_parts.specs.TokenReaders.{Parts};
+ghost use Rattle.c_syntax.specs.ReadStatements.{State, on, step, run, AreApart, open_stack, rest, depth};
+ghost use Rattle.c_syntax.specs.ReadAlgorithm.{read_algorithm};
+
+/// What is read is an algorithm that may be spelled, and all the tokens are its tokens.
+pub fn what_is_read_is_spelled()
+    ensures { (ts : List Token) (x : Text) (rest : List Token) → read_algorithm ts ≡ Ok (x, rest) → Good c_syntax x × (ts ≡ spell x []) × (rest ≡ []) }
+{}
+
+/// What may be spelled is read from its tokens, all of it.
+pub fn what_is_spelled_is_read()
+    ensures { (x : Text) → Good c_syntax x → read_algorithm (spell x []) ≡ Ok (x, []) }
+{}
+
+/// Tokens spell one algorithm in C-syntax at most, in one way.
+pub fn tokens_spell_one_algorithm()
+    ensures phrase { (x y : Text) → Good c_syntax x → Good c_syntax y → spell x [] ≡ spell y [] → x ≡ y }
+    ensures tree { (ts : List text.Token) (a b : Algorithm) → SpellsC ts a → SpellsC ts b → a ≡ b }
+{}
+
+/// No tokens spell an algorithm in P-syntax and one in C-syntax.
+pub fn tokens_are_of_one_syntax()
+    ensures phrase { (x y : Text) → Good p_syntax x → Good c_syntax y → spell x [] ≡ spell y [] → ⊥ }
+    ensures tree { (ts : List text.Token) (a b : Algorithm) → SpellsP ts a → SpellsC ts b → ⊥ }
+{}
+
+/// Each refusal is by the rule of syntax: forms may be open in one another to any depth.
+pub fn refusals_are_by_the_rule_of_syntax()
+    ensures { (ts rest : List Token) (r : Rule) → read_algorithm ts ≡ Err (r, rest) → r ≡ Syntax }
+{}
+
+/// A refusal is not early: no algorithm begins with the tokens through the refused one, whatever comes after them; and what is
+/// refused, at a token or at the end, is no algorithm.
+pub fn nothing_passes_where_reading_stops()
+    ensures refused { (ts : List Token) (t : Token) (rest : List Token) (r : Rule) → read_algorithm ts ≡ Err (r, t ∷ rest) → (passed : List Token) → ts ≡ passed ++ t ∷ rest → (x : Text) → Good c_syntax x → (more : List Token) → spell x [] ≡ passed ++ t ∷ more → ⊥ }
+    ensures unspelled { (ts rest : List Token) (r : Rule) → read_algorithm ts ≡ Err (r, rest) → (x : Text) → Good c_syntax x → ts ≡ spell x [] → ⊥ }
+{}
+
+/// And a refusal is not late: what was passed before the refused token, or before the end, can be gone on with to a whole algorithm.
+pub fn refusals_are_at_the_earliest_place()
+    ensures { (ts passed rest : List Token) (r : Rule) → read_algorithm ts ≡ Err (r, rest) → ts ≡ passed ++ rest → (fix : List Token) × (x : Text) × Good c_syntax x × (spell x [] ≡ passed ++ fix) }
+{}
+
+/// Reading is refused at the first token that no algorithm has there, or at the end where none ends, as far as kinds and columns tell: so the
+/// tokens of a text are refused there, as long as those before it pass. And where they are refused by the rule of syntax, reading is refused there.
+pub fn tokens_are_refused_where_reading_stops()
+    ensures first { (ts passed rest : List Token) (r : Rule) → read_algorithm ts ≡ Err (r, rest) → ts ≡ passed ++ rest
+        → Begins (algorithms c_syntax) (take (length passed) (to_end ts)) × (Begins (algorithms c_syntax) (take (suc (length passed)) (to_end ts)) → ⊥) }
+    ensures refused { (ts : List text.Token) (passed rest : List Token) (end : Place) (r : Rule) → read_algorithm (views ts) ≡ Err (r, rest) → views ts ≡ passed ++ rest → Passes (algorithms c_syntax) (map Some (looks passed))
+        → RefusesTokens c_syntax ts end (record { rule = r; place = get_or (map (λ (t : text.Token). t.place) ts) (length passed) end }) }
+    ensures syntax { (ts : List text.Token) (end at : Place) → RefusesTokens c_syntax ts end (record { rule = Syntax; place = at })
+        → (passed rest : List Token) × (read_algorithm (views ts) ≡ Err (Syntax, rest)) × (views ts ≡ passed ++ rest) × (at ≡ get_or (map (λ (t : text.Token). t.place) ts) (length passed) end) }
+{}
+
+/// What stands open in a list of statements is closed by `rest`, whatever it is: with these tokens after it the list is read up to the
+/// `}` that comes then. They are at most two for each form that is open, and one. And reading opens an `either` only where no `or` must come right after it.
+pub fn what_stands_open_is_closed()
+    ensures closed { (m : Parts) (n : ℕ) (s : State) → AreApart (open_stack s) → (p : Place) (ts : List Token) → suc (length (rest s)) ≤ n → (ss : Sequence) × (run m n s (rest s ++ mark p close_brace ts) ≡ Ok (ss, mark p close_brace ts)) }
+    ensures few { (s : State) → length (rest s) ≤ 2 * depth (open_stack s) + 1 }
+    ensures apart { (m : Parts) (n : ℕ) (s : State) (ts : List Token) (t : State) (us : List Token) → AreApart (open_stack s) → step m n s ts ≡ Ok (on t, us) → AreApart (open_stack t) }
+{}

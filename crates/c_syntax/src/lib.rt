@@ -1,0 +1,4 @@
+//! Algorithms in C-syntax, read from tokens.
+#![tactic(auto)]
+
+pub mod laws;
