@@ -1,0 +1,2 @@
+mod RowsStatements
+mod RowsAlgorithm

@@ -1,0 +1,2 @@
+//! The printed text of algorithms in both syntaxes.
+#![tactic(auto)]
