@@ -1,0 +1,43 @@
+//! Laws of printed algorithms, stated as what functions without a body ensure.
+
+ghost use Rattle.std.specs.Prelude.{◌≡◌, ℕ, List, [], Bool, true, false, length, Ok};
+ghost use Rattle.tla_token.specs.Tokens as text;
+ghost use Rattle.tla_token.specs.Tokens.{TokAlgorithm, holds_mark};
+ghost use Rattle.pcal_tree.specs.Algorithm.{Algorithm};
+ghost use Rattle.pcal_tree.specs.AlgorithmTokens.{views};
+ghost use Rattle.pcal_tree.specs.Placeless.{placeless};
+ghost use Rattle.pcal_tree.specs.Grammar.{Syntax, Text, algorithm_of, Spells, SpellsP, SpellsC};
+ghost use Rattle.pcal_tree.specs.Printed.{PText, CText, printed};
+ghost use Rattle.p_syntax.specs.ReadAlgorithm.{read_algorithm};
+ghost use Rattle.tla_tree.specs.laws.Writable.{AreSmall};
+ghost use Rattle.module_tree.specs.laws.Swaps.{is_paired};
+ghost use Rattle.syntax_print.specs.laws.Printable.{IsPrintable};
+
+/// The text that is printed of an algorithm is cut into the tokens of an algorithm, and these spell it in the syntax, places aside.
+pub fn printed_algorithms_are_spelled()
+    ensures p { (a : Algorithm) → IsPrintable a → (ts : List text.Token) × (b : Algorithm) × TokAlgorithm (PText a) 0 (length (PText a)) ts × SpellsP ts b × (placeless b ≡ placeless a) }
+    ensures c { (a : Algorithm) → IsPrintable a → (ts : List text.Token) × (b : Algorithm) × TokAlgorithm (CText a) 0 (length (CText a)) ts × SpellsC ts b × (placeless b ≡ placeless a) }
+{}
+
+/// In P-syntax the tokens of the text spell no other algorithm, places aside, and it is read of them; so algorithms with one text differ in places alone.
+pub fn printed_algorithms_are_read_back()
+    ensures only { (a b : Algorithm) (ts : List text.Token) → IsPrintable a → TokAlgorithm (PText a) 0 (length (PText a)) ts → SpellsP ts b → placeless b ≡ placeless a }
+    ensures read { (a : Algorithm) (ts : List text.Token) → IsPrintable a → TokAlgorithm (PText a) 0 (length (PText a)) ts → (x : Text) × (read_algorithm (views ts) ≡ Ok (x, [])) × (placeless (algorithm_of x) ≡ placeless a) }
+    ensures one { (a b : Algorithm) → IsPrintable a → IsPrintable b → PText a ≡ PText b → placeless a ≡ placeless b }
+{}
+
+/// A printed text holds no mark of a comment, so it opens and closes comments only within itself.
+pub fn printed_algorithms_hold_no_comments()
+    ensures unmarked { (s : Syntax) (a : Algorithm) → IsPrintable a → holds_mark (printed s a) ≡ false }
+    ensures paired { (s : Syntax) (a : Algorithm) → IsPrintable a → is_paired 0 (printed s a) ≡ true }
+{}
+
+/// What is spelled in a text, in either syntax, can be printed, but for numbers that are too large.
+pub fn spelled_algorithms_can_be_printed()
+    ensures { (s : Syntax) (w : List ℕ) (from to : ℕ) (ts : List text.Token) (a : Algorithm) → TokAlgorithm w from to ts → AreSmall ts → Spells s ts a → IsPrintable a }
+{}
+
+/// What is printed of an algorithm rests on no place.
+pub fn printing_rests_on_no_place()
+    ensures { (s : Syntax) (a b : Algorithm) → placeless a ≡ placeless b → printed s a ≡ printed s b }
+{}
