@@ -4,16 +4,16 @@ ghost use Rattle.std.specs.Prelude.{◌≡◌, ◌<◌, ◌≤◌, suc, length, 
 ghost use Rattle.tla_tree.specs.Pool.{Keeps};
 ghost use Rattle.tla_tree.specs.Spelling.{Phrase};
 ghost use Rattle.tla_tree.specs.Whole.{whole};
-ghost use Rattle.tla_expr.specs.ViewSeen.{mark_seen};
-ghost use Rattle.tla_expr.specs.Ahead.{ahead};
-ghost use Rattle.tla_expr.specs.ReadIn.{IsIn, Told};
+ghost use Rattle.expression_parts.specs.ViewSeen.{mark_seen};
+ghost use Rattle.expression_parts.specs.Ahead.{ahead};
+ghost use Rattle.expression_parts.specs.ReadIn.{IsIn, Told};
 ghost use Rattle.tla_expr.specs.HasRead.{CanRead, ReadsBelow, Stands, behind_mark};
 
-use crate::cursor::Halt;
-use crate::make::Read;
-use crate::shape::Context;
-use crate::spot::{Spot, past_mark};
-use crate::view::Mark;
+use expression_parts::cursor::Halt;
+use expression_parts::make::Read;
+use expression_parts::shape::Context;
+use expression_parts::spot::{Spot, past_mark};
+use expression_parts::view::Mark;
 use tla_pool::Pool;
 use tla_token::{Place, Tokens};
 

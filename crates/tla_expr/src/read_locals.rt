@@ -3,18 +3,18 @@
 ghost use Rattle.std.specs.Prelude.{◌≡◌, ◌<◌, ◌≤◌, suc, length, IfOk, Some};
 ghost use Rattle.tla_tree.specs.Pool.{AllBelow, Keeps};
 ghost use Rattle.tla_tree.specs.Whole.{whole};
-ghost use Rattle.tla_expr.specs.Ahead.{ahead};
-ghost use Rattle.tla_expr.specs.ReadIn.{AreLocals, Told};
+ghost use Rattle.expression_parts.specs.Ahead.{ahead};
+ghost use Rattle.expression_parts.specs.ReadIn.{AreLocals, Told};
 ghost use Rattle.tla_expr.specs.HasRead.{CanRead, ReadsBelow};
 
-use crate::cursor::Halt;
-use crate::gather::placed;
-use crate::make::Read;
 use crate::on_next::after_word;
 use crate::read_behind::behind;
-use crate::shape::{Context, larger};
-use crate::spot::{Spot, past_word};
-use crate::view::Mark;
+use expression_parts::cursor::Halt;
+use expression_parts::gather::placed;
+use expression_parts::make::Read;
+use expression_parts::shape::{Context, larger};
+use expression_parts::spot::{Spot, past_word};
+use expression_parts::view::Mark;
 use std::alloc::Global;
 use tla_pool::Pool;
 use tla_token::Tokens;
