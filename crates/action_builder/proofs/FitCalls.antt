@@ -5,8 +5,9 @@ use Rattle.tla_tree.specs.Tree.{Word, Each, Tree, Trees, no_trees, tree, root_pl
 use Rattle.tla_tree.specs.laws.Writable.{IsIdentifier, IsString, count, IsWritable}
 use Rattle.pcal_tree.specs.Algorithm.{Name, Span, Declaration, Routine, locals, procedure_routines, Assignments, no_assignments, assignment, assign, Statements, then}
 use Rattle.pcal_tree.specs.Run.{Partner, no_partner, goto_partner, return_partner}
+use Rattle.pcal_tree.specs.Processes.{OneOf}
 use Rattle.pcal_tree.specs.Program.{Program, written}
-use Rattle.pcal_tree.specs.Calls.{label_name, first_label, named}
+use Rattle.pcal_tree.specs.Calls.{label_name, first_label, routine_named}
 use Rattle.pcal_tree.specs.Variables.{written_all, pc, stack}
 use Rattle.action_builder.specs.Jumps.{name_at, text_at, one_assignment, spot, jump_written, kept_field, stack_rest, fields_restored, return_assignments, return_written, names_at, stack_pushed, arguments_assigned, variables_written, call_written, kept_fields, values_kept, stack_replaced, fields_of, others_restored, pair_body, pair_written, InitialValues, JumpPlaces, call_with, call_to, written_jumps}
 use Rattle.action_builder.specs.Written.{old_stack}
@@ -67,7 +68,7 @@ return_fits N j P p at h = (
 pub record CalledFits (P : Program) (I : InitialValues) (p : Routine) : Type 0 where
   pub names : NamesFit P p
   pub label : IsString (label_name P p (first_label p))
-  pub initials : (d : Declaration) → IsWritable (I.initial p d)
+  pub initials : (d : Declaration) → OneOf d p.variables → IsWritable (I.initial p d)
 
 module _ (N : Word → Type 0) (j : HasIdentifiers N) (P : Program) (I : InitialValues) (p : Routine) (h : CalledFits P I p) where
   split : (Q : Word → Type 0) → Each Q (written_all P p (locals p)) → Each Q (written_all P p p.params ++ written_all P p p.variables)
@@ -85,10 +86,11 @@ module _ (N : Word → Type 0) (j : HasIdentifiers N) (P : Program) (I : Initial
   stack_apart : Unlike stack (written_all P p p.params)
   stack_apart = each_first (λ y. bytes_eq stack y ≡ false) (written_all P p p.params) (written_all P p p.variables) (split (λ y. bytes_eq stack y ≡ false) h.names.stack)
 
-  variables_fit : (ds : List Declaration) → Each IsIdentifier (written_all P p ds) → (last : Statements) → StatementsFit N IsPlain last → StatementsFit N IsPlain (variables_written P p (I.place p) (I.initial p) ds last)
-  variables_fit [] i last k = k
-  variables_fit (d ∷ ds) i last k =
-      ((tt, tt), one_fits N j (I.place p d) (written P p d.name.word) (I.initial p d) no_assignments i.0 (writable_fits N j (I.initial p d) (h.initials d)) tt, variables_fit ds i.1 last k)
+  variables_fit : (ds : List Declaration) → ((d : Declaration) → OneOf d ds → IsWritable (I.initial p d)) → Each IsIdentifier (written_all P p ds) → (last : Statements) → StatementsFit N IsPlain last
+      → StatementsFit N IsPlain (variables_written P p (I.place p) (I.initial p) ds last)
+  variables_fit [] f i last k = k
+  variables_fit (d ∷ ds) f i last k =
+      ((tt, tt), one_fits N j (I.place p d) (written P p d.name.word) (I.initial p d) no_assignments i.0 (writable_fits N j (I.initial p d) (f d (inl refl))) tt, variables_fit ds (λ c o. f c (inr o)) i.1 last k)
 
   -- the stack and the parameters, and then more
   entered_fits : (at : Place) (st : Tree) (ts : Trees) (rest : Statements) → Fits N st → AllFit N ts → StatementsFit N IsPlain rest
@@ -112,7 +114,7 @@ module _ (N : Word → Type 0) (j : HasIdentifiers N) (P : Program) (I : Initial
       entered_fits at (stack_pushed P p at back) ts (variables_written P p (I.place p) (I.initial p) p.variables (jump_written at (label_name P p (first_label p))))
       (pushed_fits N j P p at (text_at at back) (names_at at (written_all P p (locals p))) (name_at at stack) h.names (text_fits N j at back b) (names_fit N j at (written_all P p (locals p)) h.names.identifiers)
       (names_count at (written_all P p (locals p))) (named_fits N j at stack stack_name))
-      k (variables_fit p.variables variable_names (jump_written at (label_name P p (first_label p))) (jump_fits N j at (label_name P p (first_label p)) h.label))
+      k (variables_fit p.variables h.initials variable_names (jump_written at (label_name P p (first_label p))) (jump_fits N j at (label_name P p (first_label p)) h.label))
 
   -- ---- a call that is one statement with a return in u
 
@@ -138,7 +140,7 @@ module _ (N : Word → Type 0) (j : HasIdentifiers N) (P : Program) (I : Initial
         let others = others_fit end n in
         entered_fits at (stack_replaced P u p at end) ts _
         (pushed_fits N j P p at (kept_field end pc) (values_kept P u p at end) (stack_rest end) h.names (field_fits N j end stack pc (j stack stack_name) (identifier_field pc pc_name)) values.0 values.1 (rest_fits N j end))
-        k (variables_fit p.variables variable_names _ (others.0, others.1, jump_fits N j at (label_name P p (first_label p)) h.label))
+        k (variables_fit p.variables h.initials variable_names _ (others.0, others.1, jump_fits N j at (label_name P p (first_label p)) h.label))
 
 identifiers_or : (N : Word → Type 0) → HasIdentifiers N → HasIdentifiers (OrOld N)
 identifiers_or N j x h = inl (j x h)
@@ -154,12 +156,12 @@ pair_fits N j P I p h u names same at end ts k =
 -- what is asked of the procedures: each can be called, and is u where it has its number
 pub record ProceduresFit (P : Program) (I : InitialValues) (u : Routine) : Type 0 where
   pub own : NamesFit P u
-  pub called : (x : Word) (p : Routine) → named x (procedure_routines P.algorithm) ≡ Some p → CalledFits P I p
-  pub same : (x : Word) (p : Routine) → named x (procedure_routines P.algorithm) ≡ Some p → nat_eq u.number p.number ≡ true → u ≡ p
+  pub called : (x : Word) (p : Routine) → routine_named x (procedure_routines P.algorithm) ≡ Some p → CalledFits P I p
+  pub same : (x : Word) (p : Routine) → routine_named x (procedure_routines P.algorithm) ≡ Some p → nat_eq u.number p.number ≡ true → u ≡ p
 
 -- there is a procedure of this name
 abbrev pub IsProcedure : Program → Word → Type 0
-IsProcedure P x = (p : Routine) × (named x (procedure_routines P.algorithm) ≡ Some p)
+IsProcedure P x = (p : Routine) × (routine_named x (procedure_routines P.algorithm) ≡ Some p)
 
 module _ (P : Program) (u : Routine) (I : InitialValues) (places : JumpPlaces) (h : ProceduresFit P I u) (labels : (l : Word) → IsString l → IsString (label_name P u l)) where
   pub goes_fit : (N : Word → Type 0) → HasIdentifiers N → (l : Word) → IsString l → StatementsFit N IsPlain ((written_jumps P u I places).goto l)

@@ -9,7 +9,7 @@ use Rattle.tla_tree.specs.Shapes as shape
 use Rattle.tla_tree.specs.laws.Writable.{IsField, fields_in_path, count}
 use Rattle.pcal_tree.specs.Algorithm.{nowhere, Assignments, no_assignments, assignment}
 use Rattle.action_builder.specs.Assigned.{head_of}
-use Rattle.action_builder.specs.Written.{Key, sub, fixed, subs, keys_in, keys_of, keys_first, steps_of, subscripts, own, slots_of, slot_trees, except_of, is_whole, side_of}
+use Rattle.action_builder.specs.Written.{Key, sub, fixed, subs, keys_in, keys_of, keys_first, steps_of, subscripts, own, slots_of, slot_trees, except_of, sets_whole, side_of}
 use Rattle.action_builder.proofs.FitTrees.{Fits, AllFit, name_fits}
 use Rattle.action_builder.proofs.FitStatements.{AssignmentsFit, SomeKeys, Beside, InParts}
 
@@ -131,15 +131,15 @@ own_first l y (assignment m e ms) q b h = by (bytes_eq (head_of m) y) (λ d. (b.
     by true f g h = f refl
     by false f g h = g h
 
-not_whole : (ks : List Key) (ms : Assignments) → (IsSome ms → SomeKeys ks) → is_whole ks ms ≡ false → SomeKeys ks
+not_whole : (ks : List Key) (ms : Assignments) → (IsSome ms → SomeKeys ks) → sets_whole ks ms ≡ false → SomeKeys ks
 not_whole (k ∷ ks) ms f h = tt
 not_whole [] no_assignments f h = cc
 not_whole [] (assignment l e ms) f h = f tt
 
 first_side : (N : Word → Type 0) (y : Word) (l e : Tree) (ms : Assignments) → N y → AssignmentsFit N (assignment l e ms) → (IsSome ms → SomeKeys (keys_of l)) → Keyed ms → Fits N (side_of y (assignment l e ms))
-first_side N y l e ms n h f k = by (is_whole (keys_of l) ms) refl
+first_side N y l e ms n h f k = by (sets_whole (keys_of l) ms) refl
   where
-    by : (b : Bool) → is_whole (keys_of l) ms ≡ b → Fits N (cond b e (except_of (root_place l) y (assignment l e ms)))
+    by : (b : Bool) → sets_whole (keys_of l) ms ≡ b → Fits N (cond b e (except_of (root_place l) y (assignment l e ms)))
     by true q = h.2
     by false q = except_fits N (root_place l) y l e ms n h (not_whole (keys_of l) ms f q, k)
 

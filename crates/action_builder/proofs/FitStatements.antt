@@ -1,7 +1,7 @@
 -- Statements whose trees can be written but that their names are of some kind, and of which each meets what is asked besides.
 use Rattle.std.proofs.Common.{◌≡◌, true, List, [], ◌∷◌, ◌++◌, bytes_eq, ◌⊎◌, inl, inr, refl, sym, subst, ◌∙◌, Option, Some, None}
 use Rattle.tla_token.specs.declared.place.Place.{Place}
-use Rattle.tla_tree.specs.Tree.{Word, Form, name, strict, select, Tree, node, Trees, no_trees, tree, Graft, grafted_node, graft, grafts}
+use Rattle.tla_tree.specs.Tree.{Word, Form, name, strict, apply, select, Tree, node, Trees, no_trees, tree, Graft, grafted_node, graft, grafts}
 use Rattle.tla_tree.specs.laws.Writable.{IsIdentifier}
 use Rattle.pcal_tree.specs.Algorithm.{Assignments, no_assignments, assignment, Binds, no_binds, one_of, is, Statement, assign, await, print, assert, skip, branch, either, with, while, goto, macro, call, return, Statements, done, then, mark, Branches, no_branches, or}
 use Rattle.pcal_tree.specs.Expand.{placed_at, graft_left, graft_assignments, graft_binds, graft_one, graft_all, graft_some}
@@ -86,7 +86,9 @@ IsPlain _ = Unit {0}
 head_node : (g : Graft) (h : Word → Word) → ((x : Word) (at : Place) (ts : Trees) → head_of (grafted_node g (name x) at ts) ≡ h x) → h [] ≡ []
     → (m : Form) (at : Place) (ts us : Trees) → head_first us ≡ h (head_first ts) → head_of (grafted_node g m at us) ≡ h (head_of (node m at ts))
 head_node g h k z (name x) at ts us e = k x at us
-head_node g h k z m at ts us e = e
+head_node g h k z (strict apply) at ts us e = e
+head_node g h k z (strict (select a)) at ts us e = e
+head_node g h k z m at ts us e = sym z
 
 mutual
   -- the variable of a left side is that of what is put in for it
@@ -109,7 +111,7 @@ some_before : (ks js : List Key) → SomeKeys ks → SomeKeys (ks ++ js)
 some_before [] js h = absurd h
 some_before (k ∷ ks) js h = tt
 
-some_after : (ks js : List Key) → SomeKeys js → SomeKeys (ks ++ js)
+pub some_after : (ks js : List Key) → SomeKeys js → SomeKeys (ks ++ js)
 some_after [] js h = h
 some_after (k ∷ ks) js h = tt
 
@@ -140,20 +142,25 @@ keys_placed at (node m p ts) h = h
 keys_left : (g : Graft) (l : Tree) → SomeKeys (keys_of l) → SomeKeys (keys_of (graft_left g l))
 keys_left g (node m at ts) h = keys_placed at (graft g (node m at ts)) (keys_graft g (node m at ts) h)
 
--- where different variables have different ones put in for them
-module _ (g : Graft) (h : Word → Word) (heads : (l : Tree) → head_of (graft_left g l) ≡ h (head_of l)) (apart : (x y : Word) → IsIdentifier x → IsIdentifier y → bytes_eq (h x) (h y) ≡ true → bytes_eq x y ≡ true) where
-  beside_graft : (N : Word → Type 0) (l : Tree) (ms : Assignments) → IsIdentifier (head_of l) → AssignmentsFit N ms → Beside l ms → Beside (graft_left g l) (graft_assignments g ms)
-  beside_graft N l no_assignments i f b = tt
-  beside_graft N l (assignment m e ms) i f b = (
+-- variables of a kind
+abbrev pub HeadsAre : (Word → Type 0) → Assignments → Type 0
+HeadsAre Q no_assignments = Unit {0}
+HeadsAre Q (assignment l e ms) = Q (head_of l) × HeadsAre Q ms
+
+-- where different variables of the kind have different ones put in for them
+module _ (g : Graft) (h : Word → Word) (heads : (l : Tree) → head_of (graft_left g l) ≡ h (head_of l)) (Q : Word → Type 0) (apart : (x y : Word) → Q x → Q y → bytes_eq (h x) (h y) ≡ true → bytes_eq x y ≡ true) where
+  beside_graft : (l : Tree) (ms : Assignments) → Q (head_of l) → HeadsAre Q ms → Beside l ms → Beside (graft_left g l) (graft_assignments g ms)
+  beside_graft l no_assignments i f b = tt
+  beside_graft l (assignment m e ms) i f b = (
     λ q.
         let k = b.0 (apart (head_of l) (head_of m) i f.0 (sym (λ j. bytes_eq (heads l j) (heads m j)) ∙ q)) in
         (keys_left g l k.0, keys_left g m k.1),
-    beside_graft N l ms i f.3 b.1,
+    beside_graft l ms i f.1 b.1,
   )
 
-  pub parts_graft : (N : Word → Type 0) (ms : Assignments) → AssignmentsFit N ms → InParts ms → InParts (graft_assignments g ms)
-  parts_graft N no_assignments f b = tt
-  parts_graft N (assignment l e ms) f b = (beside_graft N l ms f.0 f.3 b.0, parts_graft N ms f.3 b.1)
+  pub parts_graft : (ms : Assignments) → HeadsAre Q ms → InParts ms → InParts (graft_assignments g ms)
+  parts_graft no_assignments f b = tt
+  parts_graft (assignment l e ms) f b = (beside_graft l ms f.0 f.1 b.0, parts_graft ms f.1 b.1)
 
 -- ---- statements with trees put in
 

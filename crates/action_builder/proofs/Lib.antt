@@ -45,3 +45,4 @@ pub mod FitWritten
 pub mod FitSettled
 pub mod FitJumps
 pub mod FitCalls
+pub mod FitOwned

@@ -1,13 +1,14 @@
 -- A reader looks no further than the token at which it stops: how that goes from readers to those that are made of them.
-use Rattle.std.proofs.Common.{◌≡◌, ℕ, zero, suc, ◌+◌, ◌-◌, ◌*◌, ◌≤◌, Bool, true, false, List, [], ◌∷◌, ◌++◌, Option, Some, None, if◌then◌else◌, arith}
+use Rattle.std.proofs.Common.{◌≡◌, ℕ, zero, suc, ◌+◌, ◌-◌, ◌*◌, ◌≤◌, Bool, true, false, List, [], ◌∷◌, ◌++◌, Option, Some, None, if◌then◌else◌, refl, subst, arith}
 use Rattle.std.specs.Str.{bytes_eq}
 use Rattle.tla_token.specs.declared.place.Place.{Place}
-use Rattle.tla_tree.specs.Tree.{Word}
+use Rattle.tla_tree.specs.Tree.{Word, Name}
 use Rattle.tla_tree.specs.Lexical.{TokenView, Token}
-use Rattle.tla_tree.specs.Reader.{Reader, ◌>>=◌, took, free, readers}
-use Rattle.tla_tree.proofs.Alike.{Alike, Enough, IsFair, weaker, fair_refuses, fair_skip}
+use Rattle.tla_tree.specs.Lexical as tk
+use Rattle.tla_tree.specs.Reader.{Reader, ◌>>=◌, took, if_fits, free, readers}
+use Rattle.tla_tree.proofs.Alike.{Alike, Enough, IsFair, weaker, fair_refuses, fair_too_deep, fair_skip}
 use Rattle.tla_tree.proofs.AlikeSteps.{fair_readers}
-use Rattle.algorithm_parts.specs.TokenReaders.{first, by_next, past, pick, Parts, parts_of}
+use Rattle.algorithm_parts.specs.TokenReaders.{first, by_next, past, name_of, name_if, name_within, pick, Parts, parts_of}
 
 pub fair_next : {A : Type 0} {b : ℕ} {f g : Place → TokenView → Reader A} → ((p : Place) (k : TokenView) → IsFair b (f p k) (g p k)) → IsFair b (by_next f) (by_next g)
 fair_next {A} {b} {f} {g} h = record {
@@ -27,6 +28,25 @@ fair_past {A} {B} {b} {n} {g} {i} f l h = fair_next {f = λ p k. took (f p k) >>
     by : (o : Option A) → IsFair b (took o >>= g) (took o >>= i)
     by (Some a) = fair_skip l (h a)
     by None = fair_refuses
+
+-- if one more form may be open, which is the same for both
+pub fair_fits : {A : Type 0} {b : ℕ} (x y : Bool) {r s : Reader A} → x ≡ y → IsFair b r s → IsFair b (if_fits x r) (if_fits y s)
+fair_fits {A} {b} x y {r} {s} e h = subst (λ (z : Bool). IsFair b (if_fits x r) (if_fits z s)) e (by x)
+  where
+    by : (x : Bool) → IsFair b (if_fits x r) (if_fits x s)
+    by true = h
+    by false = fair_too_deep
+
+pub fair_name_within : {B : Type 0} {b n : ℕ} {g i : Name → Reader B} (x y : Bool) → x ≡ y → b ≤ n + 4 → ((z : Name) → IsFair n (g z) (i z)) → IsFair b (name_within x >>= g) (name_within y >>= i)
+fair_name_within {B} {b} {n} {g} {i} x y e l h = subst (λ (z : Bool). IsFair b (name_within x >>= g) (name_within z >>= i)) e (by x)
+  where
+    at : (p : Place) (k : TokenView) → IsFair b (name_if false p k >>= g) (name_if false p k >>= i)
+    at p (tk.word w) = fair_too_deep
+    at p k = fair_refuses
+
+    by : (x : Bool) → IsFair b (name_within x >>= g) (name_within x >>= i)
+    by true = fair_past name_of l h
+    by false = fair_next {f = λ p k. name_if false p k >>= g} {g = λ p k. name_if false p k >>= i} at
 
 -- ---- what a word stands for
 abbrev pub Both : {A : Type 0} → (A → A → Type 0) → List (Word × A) → List (Word × A) → Type 0
@@ -72,15 +92,16 @@ pub record FairParts (b : ℕ) (m q : Parts) : Type 0 where
   pub expr : IsFair b m.expr q.expr
   pub arguments : IsFair b m.arguments q.arguments
   pub subscripts : IsFair b m.subscripts q.subscripts
+  pub room : (d : ℕ) → m.room d ≡ q.room d
 
 pub less_parts : {a b : ℕ} {m q : Parts} → a ≤ b → FairParts b m q → FairParts a m q
-less_parts l h = record { expr = weaker l h.expr; arguments = weaker l h.arguments; subscripts = weaker l h.subscripts }
+less_parts l h = record { expr = weaker l h.expr; arguments = weaker l h.arguments; subscripts = weaker l h.subscripts; room = h.room }
 
 pub left_parts : {b : ℕ} {m q : Parts} → FairParts b m q → FairParts 0 m m
-left_parts h = record { expr = fair_left h.expr; arguments = fair_left h.arguments; subscripts = fair_left h.subscripts }
+left_parts h = record { expr = fair_left h.expr; arguments = fair_left h.arguments; subscripts = fair_left h.subscripts; room = λ d. refl }
 
 pub right_parts : {b : ℕ} {m q : Parts} → FairParts b m q → FairParts 0 q q
-right_parts h = record { expr = fair_right h.expr; arguments = fair_right h.arguments; subscripts = fair_right h.subscripts }
+right_parts h = record { expr = fair_right h.expr; arguments = fair_right h.arguments; subscripts = fair_right h.subscripts; room = λ d. refl }
 
 pub parts_fair : (b n m : ℕ) → b ≤ n → b ≤ m → FairParts b (parts_of (readers n None)) (parts_of (readers m None))
-parts_fair b n m i j = (let h = fair_readers b n m i j None in record { expr = weaker (omega arith) (h.expr 0 free); arguments = weaker (omega arith) (h.phrases 0); subscripts = weaker (omega arith) (h.phrases 0) })
+parts_fair b n m i j = (let h = fair_readers b n m i j None in record { expr = weaker (omega arith) (h.expr 0 free); arguments = weaker (omega arith) (h.phrases 0); subscripts = weaker (omega arith) (h.phrases 0); room = λ d. refl })

@@ -11,7 +11,7 @@ use Rattle.tla_tree.proofs.Alike.{IsFair, fair_gives, fair_refuses, fair_skip, f
 use Rattle.pcal_tree.specs.GrammarParts.{Separator, Initial, Variables, no_section, Names, Parameters, Heading, Definitions, Binds}
 use Rattle.algorithm_parts.specs.TokenReaders.{name_of, a_mark, a_name, Parts}
 use Rattle.algorithm_parts.specs.ReadParts.{semicolon_by, read_semicolon, separator_by, read_separator, among_if, initial_by, read_initial, variables_by, read_variables, section_of, section_words, section_by, read_section, names_by, read_names, macro_parameters_by, read_macro_parameters, parameters_by, read_parameters, procedure_parameters_by, read_procedure_parameters, heading_by, read_heading, definitions_by, read_definitions, colon_by, read_colon, binds_by, bind_by, read_binds}
-use Rattle.algorithm_parts.proofs.Fair.{fair_next, fair_past, pick_both, Step, fair_steps, FairParts, less_parts, left_parts, right_parts}
+use Rattle.algorithm_parts.proofs.Fair.{fair_next, fair_past, fair_name_within, pick_both, Step, fair_steps, FairParts, less_parts, left_parts, right_parts}
 
 -- ---- single tokens
 pub fair_mark : {B : Type 0} {b n : ℕ} (m : Mark) {g i : Place → Reader B} → b ≤ n + 4 → ((p : Place) → IsFair n (g p) (i p)) → IsFair b (a_mark m >>= g) (a_mark m >>= i)
@@ -142,11 +142,11 @@ by_binds : {b : ℕ} (r t : Reader Binds) → IsFair b r t → (x : Name) (i : B
 by_binds r t h x i p e (Some s) y (tk.word w) = fair_bind h (λ bs. fair_gives)
 by_binds r t h x i p e s y k = fair_gives
 
-binds_step : (d : ℕ) {m q : Parts} → FairParts d m q → Step d (λ n (u : Unit {0}). read_binds m n) (λ n (u : Unit {0}). read_binds q n)
+binds_step : (d : ℕ) {m q : Parts} → FairParts d m q → Step d (read_binds m) (read_binds q)
 binds_step d {m} {q} h b c n o l k s t u f i =
-    fair_name k
-    (λ x. fair_past {n = c} bind_by (omega arith) (λ y. fair_bind (less_parts (omega (arith, l, s)) h).expr (λ e. fair_bind separator_fair (λ z. fair_next (by_binds (read_binds m n) (read_binds q o) (f i) x y.0 y.1 e z)))))
+    fair_name_within (m.room (i + 1)) (q.room (i + 1)) (h.room (i + 1)) k
+    (λ x. fair_past {n = c} bind_by (omega arith) (λ y. fair_bind (less_parts (omega (arith, l, s)) h).expr (λ e. fair_bind separator_fair (λ z. fair_next (by_binds (read_binds m n (i + 1)) (read_binds q o (i + 1)) (f (i + 1)) x y.0 y.1 e z)))))
 
-pub binds_fair : (d : ℕ) {m q : Parts} → FairParts d m q → (n o b : ℕ) → b ≤ d → b ≤ 4 * n → b ≤ 4 * o → IsFair b (read_binds m n) (read_binds q o)
-binds_fair d {m} {q} h n o b l k s =
-    fair_steps d (λ n (u : Unit {0}). read_binds m n) (λ n (u : Unit {0}). read_binds q n) (λ u. fair_refuses) (λ u. fair_refuses) (binds_step 0 (left_parts h)) (binds_step 0 (right_parts h)) (binds_step d h) n o b l k s tt
+pub binds_fair : (d : ℕ) {m q : Parts} → FairParts d m q → (n o b i : ℕ) → b ≤ d → b ≤ 4 * n → b ≤ 4 * o → IsFair b (read_binds m n i) (read_binds q o i)
+binds_fair d {m} {q} h n o b i l k s =
+    fair_steps d (read_binds m) (read_binds q) (λ u. fair_refuses) (λ u. fair_refuses) (binds_step 0 (left_parts h)) (binds_step 0 (right_parts h)) (binds_step d h) n o b l k s i

@@ -13,3 +13,9 @@ pub mod Aheads
 pub mod Mends
 pub mod MendParts
 pub mod MendSimple
+pub mod Beside
+pub mod BesideParts
+pub mod BesideSimple
+pub mod Within
+pub mod WithinParts
+pub mod WithinSimple

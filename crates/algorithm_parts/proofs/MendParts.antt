@@ -1,5 +1,5 @@
 -- What stands before a refused token can be gone on with: declarations, definitions, labels and what a `with` names.
-use Rattle.std.proofs.Common.{◌≡◌, ◌⊎◌, ℕ, zero, suc, Bool, true, false, List, [], ◌∷◌, ◌++◌, length, Option, Some, None, Err, inl, inr, refl, ap, ◌∙◌, arith, length-append}
+use Rattle.std.proofs.Common.{◌≡◌, ◌⊎◌, ℕ, zero, suc, ◌+◌, Bool, true, false, List, [], ◌∷◌, ◌++◌, length, Option, Some, None, Err, inl, inr, refl, ap, ◌∙◌, arith, length-append}
 use Rattle.tla_token.specs.declared.place.Place.{Place}
 use Rattle.tla_token.specs.Places.{nowhere}
 use Rattle.tla_token.specs.declared.rule.Rule.TheVariants.{Syntax}
@@ -23,7 +23,7 @@ use Rattle.algorithm_parts.specs.ReadParts.{semicolon_by, read_semicolon, separa
 use Rattle.algorithm_parts.proofs.Sound.{here, Any}
 use Rattle.algorithm_parts.proofs.SoundParts.{SoundParts, parts_sound, semicolon_sound, separator_sound, initial_sound, variables_sound, section_sound, names_sound, macro_parameters_sound, heading_sound, parameters_sound, procedure_parameters_sound, definitions_sound, colon_sound, bind_sound, binds_sound}
 use Rattle.algorithm_parts.proofs.Aheads.{ahead_semicolon, ahead_maybe, ahead_initial, ahead_variables, ahead_section, ahead_names, ahead_macro, ahead_parameters, ahead_procedure, ahead_heading, ahead_definitions, ahead_colon, ahead_binds}
-use Rattle.algorithm_parts.proofs.Mends.{Fill, MendsAt, IsPart, filled, mends_gives, mends_refuses, mends_bind, mends_next, mends_stays, mends_past, mends_pick, token_mends, part_mark, part_name}
+use Rattle.algorithm_parts.proofs.Mends.{Fill, MendsAt, IsPart, filled, mends_gives, mends_refuses, mends_bind, mends_next, mends_stays, mends_past, mends_pick, token_mends, part_mark, part_name, part_name_within}
 
 abbrev pub some_name : Name
 some_name = record { place = nowhere; word = 120 ∷ [] }
@@ -40,6 +40,7 @@ Here Q put = Fill here Q put
 -- the readers of expressions
 pub record MendsParts (m : Parts) : Type 0 where
   pub sound : SoundParts m
+  pub room : (d : ℕ) → m.room d ≡ true
   pub expr : IsPart IsGood spell m.expr
   pub arguments : IsPart (GoodAll 0) spell_all m.arguments
   pub subscripts : IsPart (GoodAll 0) spell_all m.subscripts
@@ -62,6 +63,7 @@ parts_mend n =
     (let s = parts_sound n in
     record {
       sound = s;
+      room = λ d. refl;
       expr = record { sound = s.expr; ahead = λ a u. ahead a; mends = record { fill = record { whole = some_phrase; good = some_good; fix = spell some_phrase []; tokens = λ v. refl }; is = λ ts u e. (let m = (mended 0 n 0).expr 0 free refl ts u e in record { whole = m.whole; good = m.good.0; rule = rule_beside ((unlimited 0 n 0).expr 0 free refl (λ s. s) held ts) e; read = m.read; fix = m.fix; parts = m.parts; tokens = m.tokens }) } };
       arguments = record { sound = s.arguments; ahead = λ a u. ahead_all a; mends = record { fill = fill_all; is = λ ts u e. (let m = (mended 0 n 0).phrases 0 ts u e in record { whole = m.whole; good = m.good; rule = rule_beside ((unlimited 0 n 0).phrases 0 (λ s. s) held ts) e; read = m.read; fix = m.fix; parts = m.parts; tokens = m.tokens }) } };
       subscripts = record { sound = s.subscripts; ahead = λ a u. ahead_all a; mends = record { fill = fill_all; is = λ ts u e. (let m = (mended 0 n 0).phrases 0 ts u e in record { whole = m.whole; good = m.good; rule = rule_beside ((unlimited 0 n 0).phrases 0 (λ s. s) held ts) e; read = m.read; fix = m.fix; parts = m.parts; tokens = m.tokens }) } };
@@ -216,15 +218,15 @@ module _ (m : Parts) (h : MendsParts m) where
   by_binds_mends r n x b q e g (Some s) hx p (tk.word y) = mends_stays (mends_bind hx n (λ bs f j. mends_gives (bind x b q e s bs) (g, f) (λ ts. refl)))
   by_binds_mends r n x b q e g s hx p k = mends_stays (mends_gives (last_bind x b q e s) g (λ ts. refl))
 
-  pub part_binds : (n : ℕ) → IsPart GoodBinds binds (read_binds m n)
-  part_binds zero = record {
-    sound = binds_sound m h.sound zero;
+  pub part_binds : (n d : ℕ) → IsPart GoodBinds binds (read_binds m n d)
+  part_binds zero d = record {
+    sound = binds_sound m h.sound zero d;
     ahead = λ a u. ahead_binds a;
     mends = mends_refuses held (record { whole = last_bind some_name false nowhere some_phrase None; good = some_good; fix = name some_name (sign nowhere op.Equal (spell some_phrase [])); tokens = λ v. refl });
   }
-  part_binds (suc n) = record {
-    sound = binds_sound m h.sound (suc n);
+  part_binds (suc n) d = record {
+    sound = binds_sound m h.sound (suc n) d;
     ahead = λ a u. ahead_binds a;
-    mends = mends_bind held part_name (λ x u hx. mends_bind hx part_bind (λ b v hb. mends_bind hb h.expr (λ e g he. mends_bind he part_separator (λ s w hs.
-        mends_next (filled (last_bind x b.0 b.1 e s) g (λ ts. refl)) (by_binds_mends (read_binds m n) (part_binds n) x b.0 b.1 e g s hs)))));
+    mends = mends_bind held (part_name_within (h.room (d + 1))) (λ x u hx. mends_bind hx part_bind (λ b v hb. mends_bind hb h.expr (λ e g he. mends_bind he part_separator (λ s w hs.
+        mends_next (filled (last_bind x b.0 b.1 e s) g (λ ts. refl)) (by_binds_mends (read_binds m n (d + 1)) (part_binds n (d + 1)) x b.0 b.1 e g s hs)))));
   }

@@ -1,5 +1,5 @@
 -- What stands before a refused token can be gone on with: how that goes from readers to those that are made of them.
-use Rattle.std.proofs.Common.{◌≡◌, false, List, [], ◌∷◌, ◌++◌, Option, Some, None, Err, refl, sym, ap, ◌∙◌, append_assoc}
+use Rattle.std.proofs.Common.{◌≡◌, Bool, true, false, subst, List, [], ◌∷◌, ◌++◌, Option, Some, None, Err, refl, sym, ap, ◌∙◌, append_assoc}
 use Rattle.tla_token.specs.declared.place.Place.{Place}
 use Rattle.tla_token.specs.Places.{nowhere}
 use Rattle.tla_token.specs.declared.rule.Rule.TheVariants.{Syntax}
@@ -7,14 +7,14 @@ use Rattle.tla_tree.specs.Tree.{Word}
 use Rattle.tla_tree.specs.Lexical.{Mark, TokenView, Token, token}
 use Rattle.tla_tree.specs.Lexical as tk
 use Rattle.tla_tree.specs.Spelling.{Right, field_token}
-use Rattle.tla_tree.specs.Reader.{Stop, Reader, ◌>>=◌, gives, refuses, skip, took, tail, next, peek, is_mark, place_if, word_of, field_of}
+use Rattle.tla_tree.specs.Reader.{Stop, Reader, ◌>>=◌, gives, refuses, if_fits, skip, took, tail, next, peek, is_mark, place_if, word_of, field_of}
 use Rattle.tla_tree.proofs.SpellAhead.{Ahead, held, put_ahead, then_ahead}
 use Rattle.tla_tree.proofs.Mended.{left_is, broken, gives_err, right_after, mark_err, field_err, word_err, some_field, an_x}
 use Rattle.tla_tree.proofs.Mended as mended
 use Rattle.tla_tree.proofs.SoundTokens as edge
 use Rattle.tla_tree.specs.Reader as expression
 use Rattle.pcal_tree.specs.GrammarParts.{name, key, mark, word}
-use Rattle.algorithm_parts.specs.TokenReaders.{first, by_next, past, is_reserved, name_of, a_key, a_mark, a_name, pick}
+use Rattle.algorithm_parts.specs.TokenReaders.{first, by_next, past, is_reserved, name_of, a_key, a_mark, a_name, name_within, pick}
 use Rattle.algorithm_parts.proofs.Sound.{Sound, SoundAt, here, Any, is_other, seen, All, pick_is, sound_key, sound_mark, sound_name, sound_mark_right, sound_field_right, sound_word_right}
 
 -- tokens that were read from ts on up to a stop, by the rule of syntax, and tokens that complete them
@@ -119,6 +119,9 @@ pub mends_past : {A : Type 0} {p : Place} {k : TokenView} {x : List Token → Li
     → is_other k ≡ false → Mends (λ ts. x (token p k ∷ ts)) Q put r → MendsAt p k x Q put (skip r)
 mends_past {A} {p} {k} {x} o h = record { is = λ ts s u e. onto (ap x (seen ts p k s o)) (h.is (tail ts) u e) }
 
+pub mends_fits : {A : Type 0} {p : Place} {k : TokenView} {x : List Token → List Token} {Q : A → Type 0} {put : A → List Token → List Token} {r : Reader A} {b : Bool} → b ≡ true → MendsAt p k x Q put r → MendsAt p k x Q put (if_fits b r)
+mends_fits {A} {p} {k} {x} {Q} {put} {r} e h = subst (λ (z : Bool). MendsAt p k x Q put (if_fits z r)) (sym e) h
+
 abbrev pub AllMend : {A : Type 0} → Place → (List Token → List Token) → (A → Type 0) → (A → List Token → List Token) → List (Word × Reader A) → Type 0
 AllMend p x Q put rs = All (λ w r. MendsAt p (tk.reserved w) x Q put r) rs
 
@@ -148,6 +151,9 @@ part_mark m = record { sound = sound_mark m; ahead = λ p u. put_ahead held; men
 
 pub part_name : IsPart Any name a_name
 part_name = record { sound = sound_name; ahead = λ x u. put_ahead held; mends = token_mends name_of (λ x. token x.place (tk.word x.word)) (record { place = nowhere; word = 120 ∷ [] }) }
+
+pub part_name_within : {b : Bool} → b ≡ true → IsPart Any name (name_within b)
+part_name_within e = subst (λ (z : Bool). IsPart Any name (name_within z)) (sym e) part_name
 
 -- where a token comes
 pub mends_then : {A B : Type 0} {p : Place} {k : TokenView} (x : List Token → List Token) {y : List Token → List Token} {P : A → Type 0} {front : A → List Token → List Token} {Q : B → Type 0} {put : B → List Token → List Token} {r : Reader A} {f : A → Reader B}

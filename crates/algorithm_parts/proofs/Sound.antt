@@ -7,12 +7,12 @@ use Rattle.tla_tree.specs.Tree.{Word, Name}
 use Rattle.tla_tree.specs.Lexical.{Mark, TokenView, Token, token}
 use Rattle.tla_tree.specs.Lexical as tk
 use Rattle.tla_tree.specs.Spelling.{Right, field_token}
-use Rattle.tla_tree.specs.Reader.{Reader, ◌>>=◌, gives, refuses, skip, took, tail, end, next, peek, is_mark, is_sign, place_if}
+use Rattle.tla_tree.specs.Reader.{Reader, ◌>>=◌, gives, refuses, too_deep, if_fits, skip, took, tail, end, next, peek, is_mark, is_sign, place_if}
 use Rattle.tla_tree.specs.Reader as expression
 use Rattle.tla_tree.proofs.SoundTokens.{then_ok, ok_is, if_some, sign_is}
 use Rattle.tla_tree.proofs.SoundTokens as edge
 use Rattle.pcal_tree.specs.GrammarParts.{name, key, mark, word}
-use Rattle.algorithm_parts.specs.TokenReaders.{first, by_next, past, is_reserved, name_of, a_key, a_mark, a_name, pick}
+use Rattle.algorithm_parts.specs.TokenReaders.{first, by_next, past, is_reserved, name_of, a_key, a_mark, a_name, name_if, name_within, pick}
 
 -- what is read after the tokens x is good, and with the rest of the tokens it is spelled by all of them
 pub record Sound {A : Type 0} (x : List Token → List Token) (Q : A → Type 0) (put : A → List Token → List Token) (r : Reader A) : Type 0 where
@@ -34,6 +34,9 @@ sound_gives {A} {x} {Q} {put} a g s = record { is = λ ts b us e. edge.given (λ
 
 pub sound_refuses : {A : Type 0} {x : List Token → List Token} {Q : A → Type 0} {put : A → List Token → List Token} → Sound x Q put (refuses {A = A})
 sound_refuses = record { is = λ ts b us e. absurd cc }
+
+pub sound_too_deep : {A : Type 0} {x : List Token → List Token} {Q : A → Type 0} {put : A → List Token → List Token} → Sound x Q put (too_deep {A = A})
+sound_too_deep = record { is = λ ts b us e. absurd cc }
 
 pub sound_bind : {A B : Type 0} {x : List Token → List Token} {P : A → Type 0} {front : A → List Token → List Token} {Q : B → Type 0} {put : B → List Token → List Token} {r : Reader A} {f : A → Reader B}
     → Sound here P front r → ((a : A) → P a → Sound (λ ts. x (front a ts)) Q put (f a)) → Sound x Q put (r >>= f)
@@ -75,6 +78,10 @@ sound_then x h i = record {
       let z = (i v.0 w.0).is v.1 b us v.3 in
       (z.0, z.1 ∙ ap x w.1));
 }
+
+pub sound_fits : {A : Type 0} {p : Place} {k : TokenView} {x : List Token → List Token} {Q : A → Type 0} {put : A → List Token → List Token} {r : Reader A} (b : Bool) → SoundAt p k x Q put r → SoundAt p k x Q put (if_fits b r)
+sound_fits true h = h
+sound_fits false h = sound_stays sound_too_deep
 
 abbrev pub is_other : TokenView → Bool
 is_other (tk.other w) = true
@@ -143,6 +150,14 @@ sound_mark m = sound_token (place_if (is_mark m)) (λ p. p) (λ p. tk.mark m) (�
 
 pub sound_name : Sound here Any name a_name
 sound_name = sound_token name_of (λ x. x.place) (λ x. tk.word x.word) (λ x. refl) name_is
+
+pub sound_name_within : (b : Bool) → Sound here Any name (name_within b)
+sound_name_within b = sound_next (by b)
+  where
+    by : (b : Bool) (p : Place) (k : TokenView) → SoundAt p k here Any name (name_if b p k)
+    by true p k = sound_stays sound_name
+    by false p (tk.word x) = sound_stays sound_too_deep
+    by false p k = sound_stays sound_refuses
 
 -- ---- tokens of expressions, right of the edge
 pub record SoundRight {A : Type 0} (p : Place) (k : TokenView) (x : List Token → List Token) (Q : A → Type 0) (put : A → List Token → List Token) (r : Reader A) : Type 0 where

@@ -1,5 +1,5 @@
 -- What is read is spelled: declarations, definitions, labels and what a `with` names.
-use Rattle.std.proofs.Common.{◌≡◌, ℕ, zero, suc, Bool, true, false, Option, Some, None, refl, ap}
+use Rattle.std.proofs.Common.{◌≡◌, ℕ, zero, suc, ◌+◌, Bool, true, false, Option, Some, None, refl, ap}
 use Rattle.tla_token.specs.declared.place.Place.{Place}
 use Rattle.tla_tree.specs.declared.op.Op.TheVariants as op
 use Rattle.tla_tree.specs.Tree.{Name}
@@ -12,7 +12,7 @@ use Rattle.pcal_tree.specs.GrammarParts.{Separator, by_semicolon, by_comma, Init
 use Rattle.pcal_tree.specs.GrammarParts.{name, sign, mark, maybe_semicolon, maybe_separator, initial, GoodInitial, variables, GoodVariables, section_tokens, GoodSection, names, macro_parameters, parameters, GoodParameters, procedure_parameters, GoodProcedureParameters, heading, definitions, GoodDefinitions, colon_tokens, bind_sign, binds, GoodBinds}
 use Rattle.algorithm_parts.specs.TokenReaders.{past, Parts, parts_of}
 use Rattle.algorithm_parts.specs.ReadParts.{semicolon_by, read_semicolon, separator_by, read_separator, among_if, initial_by, read_initial, variables_by, read_variables, section_words, section_by, read_section, names_by, read_names, macro_parameters_by, read_macro_parameters, parameters_by, read_parameters, procedure_parameters_by, read_procedure_parameters, heading_by, read_heading, definitions_by, read_definitions, colon_by, read_colon, binds_by, bind_by, read_binds}
-use Rattle.algorithm_parts.proofs.Sound.{Sound, SoundAt, here, Any, is_other, sound_gives, sound_refuses, sound_bind, sound_next, sound_stays, sound_past, sound_pick, sound_token, sound_mark, sound_name}
+use Rattle.algorithm_parts.proofs.Sound.{Sound, SoundAt, here, Any, is_other, sound_gives, sound_refuses, sound_bind, sound_next, sound_stays, sound_past, sound_pick, sound_token, sound_mark, sound_name, sound_name_within}
 
 -- the readers of expressions
 pub record SoundParts (m : Parts) : Type 0 where
@@ -150,10 +150,10 @@ module _ (m : Parts) (h : SoundParts m) where
   by_binds_sound r n x b q e g (Some s) p (tk.word y) = sound_stays (sound_bind n (λ bs f. sound_gives (bind x b q e s bs) (g, f) (λ ts. refl)))
   by_binds_sound r n x b q e g s p k = sound_stays (sound_gives (last_bind x b q e s) g (λ ts. refl))
 
-  pub binds_sound : (n : ℕ) → Sound here GoodBinds binds (read_binds m n)
-  binds_sound zero = sound_refuses
-  binds_sound (suc n) =
-      sound_bind sound_name (λ x u. sound_bind bind_sound (λ b v. sound_bind h.expr (λ e g. sound_bind separator_sound (λ s w. sound_next (by_binds_sound (read_binds m n) (binds_sound n) x b.0 b.1 e g s)))))
+  pub binds_sound : (n d : ℕ) → Sound here GoodBinds binds (read_binds m n d)
+  binds_sound zero d = sound_refuses
+  binds_sound (suc n) d =
+      sound_bind (sound_name_within (m.room (d + 1))) (λ x u. sound_bind bind_sound (λ b v. sound_bind h.expr (λ e g. sound_bind separator_sound (λ s w. sound_next (by_binds_sound (read_binds m n (d + 1)) (binds_sound n (d + 1)) x b.0 b.1 e g s)))))
 
 -- the readers of expressions, with any number of steps
 pub parts_sound : (n : ℕ) → SoundParts (parts_of (readers n None))

@@ -76,12 +76,14 @@ at_edge f e (t ∷ ts) h = by (nat_lt 0 t.place.col)
 
 -- the readers of expressions, for so many tokens
 pub record WholeParts (m : ℕ) (r : Parts) : Type 0 where
+  pub room : (d : ℕ) → r.room d ≡ true
   pub expr : (a : Phrase) → IsGood a → (ts : List Token) → is_calm (first ts).kind ≡ true → length (spell a ts) ≤ m → r.expr (spell a ts) ≡ Ok (a, ts)
   pub arguments : (xs : Phrases) → GoodAll 0 xs → (ts : List Token) → is_end (first ts).kind ≡ true → length (spell_all xs ts) ≤ m → r.arguments (spell_all xs ts) ≡ Ok (xs, ts)
   pub subscripts : (xs : Phrases) → GoodAll 0 xs → (ts : List Token) → is_end (first ts).kind ≡ true → length (spell_all xs ts) ≤ m → r.subscripts (spell_all xs ts) ≡ Ok (xs, ts)
 
 pub parts_whole : (m : ℕ) → WholeParts m (parts_of (readers (4 * m) None))
 parts_whole m = record {
+  room = λ d. refl;
   expr = λ a g ts c l. closed a (whole.reads a) 0 g ts (at_edge is_calm refl ts c) (4 * m) (omega (arith, l, few a ts));
   arguments = λ xs g ts c l. whole.reads_all xs 0 g ts (at_edge is_end refl ts c) (4 * m) (omega (arith, l, few_all xs ts));
   subscripts = λ xs g ts c l. whole.reads_all xs 0 g ts (at_edge is_end refl ts c) (4 * m) (omega (arith, l, few_all xs ts));

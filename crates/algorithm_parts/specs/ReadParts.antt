@@ -1,5 +1,5 @@
 -- Reading the parts that both syntaxes spell alike: declarations, definitions, labels and what a `with` names ("A PlusCal User's Manual", section 3).
-use Rattle.std.specs.Prelude.{ℕ, zero, suc, Bool, true, false, List, [], ◌∷◌, Option, Some, None, codes}
+use Rattle.std.specs.Prelude.{ℕ, zero, suc, ◌+◌, Bool, true, false, List, [], ◌∷◌, Option, Some, None, codes}
 use Rattle.tla_token.specs.declared.place.Place.{Place}
 use Rattle.tla_tree.specs.declared.op.Op.TheVariants as op
 use Rattle.tla_tree.specs.Tree.{Word, Name}
@@ -8,7 +8,7 @@ use Rattle.tla_tree.specs.Lexical as tk
 use Rattle.tla_tree.specs.Spelling.{Phrase}
 use Rattle.tla_tree.specs.Reader.{Reader, ◌>>=◌, gives, refuses, skip}
 use Rattle.pcal_tree.specs.GrammarParts.{Separator, by_semicolon, by_comma, Initial, unset, equals, among, Variables, last_variable, variable, Section, no_section, section, Names, last_name, more_names, MacroParameters, no_names, some_names, Parameters, last_parameter, parameter, ProcedureParameters, no_parameters, some_parameters, Heading, plain, applied, Definitions, last_definition, more_definitions, Colon, colon, colon_plus, colon_minus, Binds, last_bind, bind}
-use Rattle.algorithm_parts.specs.TokenReaders.{by_next, past, a_mark, a_name, pick, Parts}
+use Rattle.algorithm_parts.specs.TokenReaders.{by_next, past, a_mark, a_name, name_within, pick, Parts}
 
 -- ---- `;` and `,`
 abbrev pub semicolon_by : Place → TokenView → Reader (Option Place)
@@ -129,6 +129,7 @@ bind_by p (tk.sign op.In) = Some (true, p)
 bind_by p (tk.sign op.Equal) = Some (false, p)
 bind_by p k = None
 
-abbrev pub read_binds : Parts → ℕ → Reader Binds
-read_binds m zero = refuses
-read_binds m (suc n) = a_name >>= λ x. past bind_by >>= λ b. bind_rest m (read_binds m n) x b.0 b.1
+-- each bind is a form, where so many are open
+abbrev pub read_binds : Parts → ℕ → ℕ → Reader Binds
+read_binds m zero d = refuses
+read_binds m (suc n) d = name_within (m.room (d + 1)) >>= λ x. past bind_by >>= λ b. bind_rest m (read_binds m n (d + 1)) x b.0 b.1

@@ -125,12 +125,12 @@ module _ (d : ℕ) (m q : Parts) (h : FairParts d m q) where
           (fair_bind (process_pick d m q h n o b l k s p w) (λ x. fair_bind (processes_fair n o b l k s) (λ y. fair_gives)))
       by p v = fair_refuses
 
-  text_fair : (n o b : ℕ) → b ≤ d → b ≤ 4 * n → b ≤ 4 * o → IsFair b (read_text m n) (read_text q o)
+  pub text_fair : (n o b : ℕ) → b ≤ d → b ≤ 4 * n → b ≤ 4 * o → IsFair b (read_text m n) (read_text q o)
   text_fair n o b l k s =
       fair_bind head_fair (λ x1. fair_name {n = b} (omega arith) (λ x2. fair_bind (section_fair d h true n o b l k s) (λ x3. fair_bind (define_fair d m q h n o b l k s) (λ x4. fair_bind (macros_fair n o b l k s) (λ x5.
       fair_bind (procedures_fair n o b l k s) (λ x6. fair_bind (main_fair n o b l k s) (λ x7. fair_key {n = b} (codes "end") (omega arith) (λ x8. fair_key {n = b} (codes "algorithm") (omega arith) (λ x9. fair_gives)))))))))
 
-last_fair : {b : ℕ} (x : Text) → IsFair b (to_last x) (to_last x)
+pub last_fair : {b : ℕ} (x : Text) → IsFair b (to_last x) (to_last x)
 last_fair {b} x = record { left = within; right = within; alike = both }
   where
     within : (ts : List Token) → Within ts (to_last x ts)

@@ -1,11 +1,11 @@
 -- A reader looks no further than the token at which it stops: lists of statements.
-use Rattle.std.proofs.Common.{ℕ, ◌+◌, ◌*◌, ◌≤◌, Option, Some, None, refl, arith, codes}
+use Rattle.std.proofs.Common.{◌≡◌, ℕ, ◌+◌, ◌*◌, ◌≤◌, Bool, true, false, subst, Option, Some, None, refl, arith, codes}
 use Rattle.tla_token.specs.declared.place.Place.{Place}
 use Rattle.tla_tree.specs.Tree.{Word, Name}
 use Rattle.tla_tree.specs.Lexical.{TokenView}
 use Rattle.tla_tree.specs.Lexical as tk
-use Rattle.tla_tree.specs.Reader.{Reader, ◌>>=◌, gives, refuses, skip, place_if}
-use Rattle.tla_tree.proofs.Alike.{IsFair, fair_gives, fair_refuses, fair_skip, fair_bind}
+use Rattle.tla_tree.specs.Reader.{Reader, ◌>>=◌, gives, refuses, skip, if_fits, place_if}
+use Rattle.tla_tree.proofs.Alike.{IsFair, fair_gives, fair_refuses, fair_too_deep, fair_skip, fair_bind}
 use Rattle.pcal_tree.specs.GrammarParts.{Labels, no_labels, Simple}
 use Rattle.pcal_tree.specs.GrammarParts as g
 use Rattle.pcal_tree.specs.GrammarP.{Statement, simple, with, while, no_else, else_then, last_branch, Sequence, last_statement}
@@ -15,7 +15,7 @@ use Rattle.algorithm_parts.proofs.Fair.{fair_next, fair_past, pick_both, Step, f
 use Rattle.algorithm_parts.proofs.FairParts.{fair_name, colon_fair, binds_fair}
 use Rattle.algorithm_parts.proofs.FairSimple.{arguments_fair, named_fair}
 use Rattle.p_syntax.specs.ReadStatements.{Before, none, after, in_then, in_else, in_either, in_with, in_while, first_arm, later_arm, Stack, bottom, inside, State, begin, ended, Turn, on, done, with_before, closed_if, closed_either}
-use Rattle.p_syntax.specs.ReadStatements.{ends_simple, after_name, statement_words, statement_by, takes_else, takes_elsif, takes_or, ends, takes_end, closing_words, another_by, ended_by, step, turned, run, read_sequence}
+use Rattle.p_syntax.specs.ReadStatements.{opened, depth, after_tests, ends_simple, after_name, statement_words, statement_by, takes_else, takes_elsif, takes_or, ends, takes_end, closing_words, another_by, ended_by, step, turned, run, read_sequence}
 
 -- whatever comes after the step, which takes a token or is the last one
 pub record Takes (b c : ℕ) (p q : Reader Turn) : Type 0 where
@@ -31,6 +31,13 @@ takes_skip l h = record { is = λ r s f. fair_skip l (fair_bind h (turned_fair r
 takes_refuses : {b c : ℕ} → Takes b c refuses refuses
 takes_refuses = record { is = λ r s f. fair_refuses }
 
+takes_fits : {b c : ℕ} {p q : Reader Turn} (x y : Bool) → x ≡ y → Takes b c p q → Takes b c (if_fits x p) (if_fits y q)
+takes_fits {b} {c} {p} {q} x y e h = subst (λ (z : Bool). Takes b c (if_fits x p) (if_fits z q)) e (by x)
+  where
+    by : (x : Bool) → Takes b c (if_fits x p) (if_fits x q)
+    by true = h
+    by false = record { is = λ r s f. fair_too_deep }
+
 takes_done : {b c : ℕ} (ss : Sequence) → Takes b c (gives (done ss)) (gives (done ss))
 takes_done ss = record { is = λ r s f. fair_gives }
 
@@ -44,6 +51,10 @@ module _ (d : ℕ) (m q : Parts) (h : FairParts d m q) (b c n o : ℕ) (e : b �
   parts : FairParts c m q
   parts = less_parts (omega (arith, e, v)) h
 
+  -- past a word that opens a form
+  takes_opened : {r t : Reader Turn} (i : ℕ) → IsFair c r t → Takes b c (opened m i r) (opened q i t)
+  takes_opened {r} {t} i f = takes_fits (m.room (i + 1)) (q.room (i + 1)) (h.room (i + 1)) (takes_skip l f)
+
   -- ---- a statement comes
   after_name_fair : (a : Before) (ls : Labels) (st : Stack) (x : Name) (p : Place) (j : TokenView) → IsFair c (after_name m n a ls st x p j) (after_name q o a ls st x p j)
   after_name_fair a ls st x p (tk.mark tk.colon) = fair_bind colon_fair (λ y. fair_gives)
@@ -54,14 +65,14 @@ module _ (d : ℕ) (m q : Parts) (h : FairParts d m q) (b c n o : ℕ) (e : b �
   statement_takes a ls st p (tk.reserved w) =
       pick_both (Takes b c) w (statement_words m n a ls st p) (statement_words q o a ls st p) (ends_simple a ls st (pick w (simple_words m p) refuses)) (ends_simple a ls st (pick w (simple_words q p) refuses)) (
         refl,
-        takes_skip l (fair_bind (parts).expr (λ x. fair_key {n = c} (codes "then") (omega arith) (λ z. fair_gives))),
+        takes_opened (depth st) (fair_bind (parts).expr (λ x. fair_key {n = c} (codes "then") (omega arith) (λ z. fair_gives))),
         (
           refl,
-          takes_skip l fair_gives,
+          takes_opened (depth st) fair_gives,
           (
             refl,
-            takes_skip l (fair_bind (binds_fair d h n o c (omega (arith, e, v)) k s) (λ x. fair_key {n = c} (codes "do") (omega arith) (λ z. fair_gives))),
-            (refl, takes_skip l (fair_bind (parts).expr (λ x. fair_key {n = c} (codes "do") (omega arith) (λ z. fair_gives))), tt),
+            takes_skip l (fair_bind (binds_fair d h n o c (depth st) (omega (arith, e, v)) k s) (λ x. fair_key {n = c} (codes "do") (omega arith) (λ z. fair_gives))),
+            (refl, takes_opened (depth st) (fair_bind (parts).expr (λ x. fair_key {n = c} (codes "do") (omega arith) (λ z. fair_gives))), tt),
           ),
         ),
       )
@@ -103,7 +114,7 @@ module _ (d : ℕ) (m q : Parts) (h : FairParts d m q) (b c n o : ℕ) (e : b �
   else_takes a p st = takes_refuses
 
   elsif_takes : (a : Sequence) (p : Place) (st : Stack) → Takes b c (takes_elsif m a p st) (takes_elsif q a p st)
-  elsif_takes a p (inside (in_then t) x ls st) = takes_skip l (fair_bind (parts).expr (λ y. fair_key {n = c} (codes "then") (omega arith) (λ z. fair_gives)))
+  elsif_takes a p (inside (in_then t) x ls st) = takes_opened (after_tests (depth st) t) (fair_bind (parts).expr (λ y. fair_key {n = c} (codes "then") (omega arith) (λ z. fair_gives)))
   elsif_takes a p st = takes_refuses
 
   or_takes : (a : Sequence) (p : Place) (st : Stack) → Takes b c (takes_or a p st) (takes_or a p st)

@@ -1,6 +1,7 @@
 mod Rows
 mod RowsForms
 mod RowsBroken
+mod RowsLimit
 pub mod SoundStatements
 pub mod SoundAlgorithm
 pub mod WholeStatements
@@ -9,5 +10,12 @@ pub mod FairStatements
 pub mod FairAlgorithm
 pub mod MendStatements
 pub mod MendAlgorithm
+pub mod BesideStatements
+pub mod BesideAlgorithm
+pub mod WithinStatements
+pub mod WithinAlgorithm
 pub mod SameOpens
+pub mod Closing
 pub mod Stops
+pub mod StopsWithin
+pub mod ReadOrRefused

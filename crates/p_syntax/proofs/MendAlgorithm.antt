@@ -27,47 +27,47 @@ use Rattle.p_syntax.proofs.SoundAlgorithm.{by_fair_sound, head_sound, body_sound
 use Rattle.p_syntax.proofs.MendStatements.{ahead_sequence, part_sequence}
 
 -- ---- tokens before those that come
-ahead_body : (w : Word) (b : Body) → GoodBody p_syntax b → Ahead (body w b)
+pub ahead_body : (w : Word) (b : Body) → GoodBody p_syntax b → Ahead (body w b)
 ahead_body w (begin_end a ss b d s) i = put_ahead (then_ahead (ahead_sequence ss) (put_ahead (put_ahead (ahead_semicolon s))))
 ahead_body w (braces a ss b s) i = absurd i
 
-ahead_identity : (x : Identity) → GoodIdentity p_syntax x → Ahead (identity x)
+pub ahead_identity : (x : Identity) → GoodIdentity p_syntax x → Ahead (identity x)
 ahead_identity (bare x b p e) i = put_ahead (put_ahead (ahead e))
 ahead_identity (bracketed q x b p e r) i = absurd i
 
-ahead_fair : (f : Fair) → Ahead (fair f)
+pub ahead_fair : (f : Fair) → Ahead (fair f)
 ahead_fair unfair = held
 ahead_fair (weak p) = put_ahead held
 ahead_fair (strong p q) = put_ahead (put_ahead held)
 
-ahead_macro_whole : (x : Macro) → GoodMacro p_syntax x → Ahead (macro x)
+pub ahead_macro_whole : (x : Macro) → GoodMacro p_syntax x → Ahead (macro x)
 ahead_macro_whole x i = put_ahead (put_ahead (then_ahead (ahead_macro x.parameters) (ahead_body (codes "macro") x.body i)))
 
-ahead_procedure_whole : (x : Procedure) → GoodProcedure p_syntax x → Ahead (procedure x)
+pub ahead_procedure_whole : (x : Procedure) → GoodProcedure p_syntax x → Ahead (procedure x)
 ahead_procedure_whole x i = put_ahead (put_ahead (then_ahead (ahead_procedure x.parameters) (then_ahead (ahead_section x.variables) (ahead_body (codes "procedure") x.body i.2))))
 
-ahead_process : (x : Process) → GoodProcess p_syntax x → Ahead (process x)
+pub ahead_process : (x : Process) → GoodProcess p_syntax x → Ahead (process x)
 ahead_process x i = then_ahead (ahead_fair x.fair) (put_ahead (then_ahead (ahead_identity x.identity i.0) (then_ahead (ahead_section x.variables) (ahead_body (codes "process") x.body i.2))))
 
-ahead_each : {A : Type 0} (f : A → List Token → List Token) (Q : A → Type 0) → ((x : A) → Q x → Ahead (f x)) → (xs : List A) → AllByRecursion Q xs → Ahead (each f xs)
+pub ahead_each : {A : Type 0} (f : A → List Token → List Token) (Q : A → Type 0) → ((x : A) → Q x → Ahead (f x)) → (xs : List A) → AllByRecursion Q xs → Ahead (each f xs)
 ahead_each f Q h [] i = held
 ahead_each f Q h (x ∷ xs) i = then_ahead (h x i.0) (ahead_each f Q h xs i.1)
 
-ahead_define : (d : Define) → GoodDefine p_syntax d → Ahead (define d)
+pub ahead_define : (d : Define) → GoodDefine p_syntax d → Ahead (define d)
 ahead_define no_define i = held
 ahead_define (define_end a ds b d s) i = put_ahead (then_ahead (ahead_definitions ds) (put_ahead (put_ahead (ahead_semicolon s))))
 ahead_define (define_braces a b ds d s) i = absurd i
 
-ahead_main : (x : Main) → GoodMain p_syntax x → Ahead (main x)
+pub ahead_main : (x : Main) → GoodMain p_syntax x → Ahead (main x)
 ahead_main (begin a ss) i = put_ahead (ahead_sequence ss)
 ahead_main (block a ss b s) i = absurd i
 ahead_main (processes x xs) i = then_ahead (ahead_process x i.0) (ahead_each process (GoodProcess p_syntax) ahead_process xs i.1)
 
-ahead_head : (x : Head) → Ahead (head x)
+pub ahead_head : (x : Head) → Ahead (head x)
 ahead_head (algorithm p) = put_ahead held
 ahead_head (fair_algorithm p q) = put_ahead (put_ahead held)
 
-ahead_text : (x : Text) → Good p_syntax x → Ahead (gr.spell x)
+pub ahead_text : (x : Text) → Good p_syntax x → Ahead (gr.spell x)
 ahead_text x i = by x.around i.0
   where
     by : (c : gr.Around) → gr.GoodAround p_syntax c → Ahead (λ ts. head x.head (name x.name (around c (λ us. section_tokens x.variables (define x.define (each macro x.macros (each procedure x.procedures (main x.main us))))) ts)))
@@ -77,10 +77,10 @@ ahead_text x i = by x.around i.0
     by (in_braces p q) j = absurd j
 
 -- ---- some list, process and body
-abbrev some_list : Sequence
+abbrev pub some_list : Sequence
 some_list = last_statement no_labels (simple (skip nowhere)) None
 
-abbrev a_process : Process
+abbrev pub a_process : Process
 a_process = record { fair = unfair; place = nowhere; identity = bare some_name false nowhere some_phrase; variables = no_section; body = begin_end nowhere some_list nowhere nowhere None }
 
 some_process : Fill here (GoodProcess p_syntax) process

@@ -1,5 +1,5 @@
 -- What stands before a refused token can be gone on with: each state can be completed.
-use Rattle.std.proofs.Common.{◌≡◌, ℕ, zero, suc, List, [], ◌++◌, Option, Some, None, refl, sym, ap, ◌∙◌, append_assoc, codes}
+use Rattle.std.proofs.Common.{◌≡◌, ℕ, zero, suc, ◌+◌, List, [], ◌++◌, Option, Some, None, refl, sym, ap, ◌∙◌, append_assoc, codes}
 use Rattle.tla_token.specs.declared.place.Place.{Place}
 use Rattle.tla_token.specs.Places.{nowhere}
 use Rattle.tla_tree.specs.Tree.{Word, Name}
@@ -16,11 +16,11 @@ use Rattle.algorithm_parts.specs.ReadSimple.{simple_words}
 use Rattle.algorithm_parts.proofs.Sound.{sound_pick, sound_stays, sound_refuses}
 use Rattle.algorithm_parts.proofs.SoundSimple.{named_sound, words_sound}
 use Rattle.algorithm_parts.proofs.Aheads.{ahead_semicolon, ahead_labels, ahead_binds, ahead_simple}
-use Rattle.algorithm_parts.proofs.Mends.{Fill, Mends, MendsAt, IsPart, AllMend, filled, mends_gives, mends_refuses, mends_after, mends_bind, mends_then, mends_same, mends_next, mends_stays, mends_past, mends_pick, part_key}
+use Rattle.algorithm_parts.proofs.Mends.{Fill, Mends, MendsAt, IsPart, AllMend, filled, mends_gives, mends_refuses, mends_after, mends_bind, mends_then, mends_same, mends_next, mends_stays, mends_past, mends_pick, mends_fits, part_key}
 use Rattle.algorithm_parts.proofs.MendParts.{MendsParts, part_colon, part_binds}
 use Rattle.algorithm_parts.proofs.MendSimple.{named_mends, words_mend}
 use Rattle.p_syntax.specs.ReadStatements.{Before, none, after, Tests, if_test, elsif_test, Arms, first_arm, later_arm, Frame, in_then, in_else, in_either, in_with, in_while, Stack, bottom, inside, State, begin, ended, Turn, on, done, with_before, with_label, closed_if, closed_either}
-use Rattle.p_syntax.specs.ReadStatements.{opens, ends_simple, after_name, statement_words, statement_by, takes_else, takes_elsif, takes_or, ends, takes_end, closing_words, another_by, ended_by, step, turned, run, read_sequence}
+use Rattle.p_syntax.specs.ReadStatements.{opens, opened, depth, after_tests, ends_simple, after_name, statement_words, statement_by, takes_else, takes_elsif, takes_or, ends, takes_end, closing_words, another_by, ended_by, step, turned, run, read_sequence}
 use Rattle.p_syntax.proofs.SoundStatements.{before, tests, arms, frame, stack, passed, turn, GoodBefore, GoodStack, GoodState, GoodTurn, with_before_tokens, with_before_good, with_label_tokens, closed_if_tokens, closed_if_good, closed_either_tokens, closed_either_good, step_sound, sequence_sound}
 
 -- ---- tokens before those that come
@@ -64,21 +64,21 @@ ahead_frame (in_either t) = ahead_arms t
 ahead_frame (in_with p bs q) = put_ahead (then_ahead (ahead_binds bs) (put_ahead held))
 ahead_frame (in_while p e q) = put_ahead (then_ahead (ahead e) (put_ahead held))
 
-ahead_stack : (st : Stack) → Ahead (stack st)
+pub ahead_stack : (st : Stack) → Ahead (stack st)
 ahead_stack bottom = held
 ahead_stack (inside f b ls st) = then_ahead (ahead_stack st) (then_ahead (ahead_before b) (then_ahead (ahead_labels ls) (ahead_frame f)))
 
 abbrev at : Before → Labels → Stack → List Token → List Token
 at b ls st ts = stack st (before b (labels ls ts))
 
-ahead_at : (b : Before) (ls : Labels) (st : Stack) → Ahead (at b ls st)
+pub ahead_at : (b : Before) (ls : Labels) (st : Stack) → Ahead (at b ls st)
 ahead_at b ls st = then_ahead (ahead_stack st) (then_ahead (ahead_before b) (ahead_labels ls))
 
-ahead_passed : (s : State) → Ahead (passed s)
+pub ahead_passed : (s : State) → Ahead (passed s)
 ahead_passed (begin b ls st) = ahead_at b ls st
 ahead_passed (ended b ls a o st) = then_ahead (ahead_at b ls st) (then_ahead (ahead_statement a) (ahead_semicolon o))
 
-ahead_turn : (t : Turn) → Ahead (turn t)
+pub ahead_turn : (t : Turn) → Ahead (turn t)
 ahead_turn (on s) = ahead_passed s
 ahead_turn (done ss) = ahead_sequence ss
 
@@ -129,15 +129,19 @@ module _ (m : Parts) (h : MendsParts m) where
   named_steps n b ls st i j x p k =
       mends_stays (mends_after (at b ls st) (ahead_at b ls st) (named_sound m h.sound n x p k) (λ a u. ahead_simple a) (named_mends m h n x p k) (λ s l hs. mends_gives (on (ended b ls (simple s) None st)) (i, l, j) (λ ts. refl)))
 
+  -- past a word that opens a form
+  open_step : {p : Place} {w : Word} {x : List Token → List Token} {r : Reader Turn} (d : ℕ) → Mends (λ ts. x (key p w ts)) GoodTurn turn r → StepsAt p (tk.reserved w) x (opened m d r)
+  open_step d i = mends_fits (h.room (d + 1)) (mends_past refl i)
+
   words_step : (n : ℕ) (b : Before) (ls : Labels) (st : Stack) → GoodBefore b → GoodStack st → (p : Place) → AllMend p (at b ls st) GoodTurn turn (statement_words m n b ls st p)
   words_step n b ls st i j p = (
-    mends_past refl (mends_bind (then_ahead (ahead_at b ls st) (put_ahead held)) h.expr (λ e k he. mends_bind he (part_key (codes "then")) (λ q u hq. mends_gives (opens (in_then (if_test p e q)) b ls st) (tt, (k, i, j)) (λ ts. refl)))),
+    open_step (depth st) (mends_bind (then_ahead (ahead_at b ls st) (put_ahead held)) h.expr (λ e k he. mends_bind he (part_key (codes "then")) (λ q u hq. mends_gives (opens (in_then (if_test p e q)) b ls st) (tt, (k, i, j)) (λ ts. refl)))),
     (
-      mends_past refl (mends_gives (opens (in_either (first_arm p)) b ls st) (tt, (tt, i, j)) (λ ts. refl)),
+      open_step (depth st) (mends_gives (opens (in_either (first_arm p)) b ls st) (tt, (tt, i, j)) (λ ts. refl)),
       (
-        mends_past refl (mends_bind (then_ahead (ahead_at b ls st) (put_ahead held)) (part_binds m h n) (λ bs k hb. mends_bind hb (part_key (codes "do")) (λ q u hq. mends_gives (opens (in_with p bs q) b ls st) (tt, (k, i, j)) (λ ts. refl)))),
+        mends_past refl (mends_bind (then_ahead (ahead_at b ls st) (put_ahead held)) (part_binds m h n (depth st)) (λ bs k hb. mends_bind hb (part_key (codes "do")) (λ q u hq. mends_gives (opens (in_with p bs q) b ls st) (tt, (k, i, j)) (λ ts. refl)))),
         (
-          mends_past refl (mends_bind (then_ahead (ahead_at b ls st) (put_ahead held)) h.expr (λ e k he. mends_bind he (part_key (codes "do")) (λ q u hq. mends_gives (opens (in_while p e q) b ls st) (tt, (k, i, j)) (λ ts. refl)))),
+          open_step (depth st) (mends_bind (then_ahead (ahead_at b ls st) (put_ahead held)) h.expr (λ e k he. mends_bind he (part_key (codes "do")) (λ q u hq. mends_gives (opens (in_while p e q) b ls st) (tt, (k, i, j)) (λ ts. refl)))),
           tt,
         ),
       ),
@@ -170,7 +174,7 @@ module _ (m : Parts) (h : MendsParts m) where
 
   elsif_taken : (a : Sequence) → GoodSequence a → (p : Place) (st : Stack) → GoodStack st → Listed st a → StepsAt p (tk.reserved (codes "elsif")) (λ ts. stack st (sequence a ts)) (takes_elsif m a p st)
   elsif_taken a j p (inside (in_then t) b ls st) i f =
-      mends_past refl (mends_bind (then_ahead (ahead_stack (inside (in_then t) b ls st)) (then_ahead (ahead_sequence a) (put_ahead held))) h.expr
+      open_step (after_tests (depth st) t) (mends_bind (then_ahead (ahead_stack (inside (in_then t) b ls st)) (then_ahead (ahead_sequence a) (put_ahead held))) h.expr
       (λ e k he. mends_bind he (part_key (codes "then")) (λ q u hq. mends_gives (opens (in_then (elsif_test t a p e q)) b ls st) (tt, ((i.0, j, k), i.1, i.2)) (λ ts. refl))))
   elsif_taken a j p st i f = stops a st f p (tk.reserved (codes "elsif"))
 

@@ -1,5 +1,5 @@
 -- What is read is spelled: each state says which tokens were passed, and a step goes to one that says no others.
-use Rattle.std.proofs.Common.{◌≡◌, ℕ, zero, suc, List, Option, Some, None, refl, sym, ap, codes}
+use Rattle.std.proofs.Common.{◌≡◌, ℕ, zero, suc, ◌+◌, List, Option, Some, None, refl, sym, ap, codes}
 use Rattle.tla_token.specs.declared.place.Place.{Place}
 use Rattle.tla_tree.specs.Tree.{Word, Name}
 use Rattle.tla_tree.specs.Lexical.{TokenView, Token}
@@ -11,11 +11,11 @@ use Rattle.pcal_tree.specs.GrammarP.{Statement, simple, with, while, Else, no_el
 use Rattle.pcal_tree.specs.GrammarP.{statement, else_tokens, branches, sequence, GoodStatement, GoodElse, GoodBranches, GoodSequence}
 use Rattle.algorithm_parts.specs.TokenReaders.{Parts, pick}
 use Rattle.algorithm_parts.specs.ReadSimple.{simple_words}
-use Rattle.algorithm_parts.proofs.Sound.{Sound, SoundAt, here, AllSound, sound_gives, sound_refuses, sound_bind, sound_after, sound_next, sound_stays, sound_past, sound_then, sound_same, sound_pick, sound_key}
+use Rattle.algorithm_parts.proofs.Sound.{Sound, SoundAt, here, AllSound, sound_gives, sound_refuses, sound_bind, sound_after, sound_next, sound_stays, sound_past, sound_then, sound_same, sound_pick, sound_key, sound_fits}
 use Rattle.algorithm_parts.proofs.SoundParts.{SoundParts, colon_sound, binds_sound}
 use Rattle.algorithm_parts.proofs.SoundSimple.{named_sound, words_sound}
-use Rattle.p_syntax.specs.ReadStatements.{Before, none, after, Tests, if_test, elsif_test, Arms, first_arm, later_arm, Frame, in_then, in_else, in_either, in_with, in_while, Stack, bottom, inside, State, begin, ended, Turn, on, done, with_before, with_label, closed_if, closed_either}
-use Rattle.p_syntax.specs.ReadStatements.{opens, ends_simple, after_name, statement_words, statement_by, takes_else, takes_elsif, takes_or, ends, takes_end, closing_words, another_by, ended_by, step, turned, run, read_sequence}
+use Rattle.p_syntax.specs.ReadStatements.{Before, none, after, Tests, if_test, elsif_test, Arms, first_arm, later_arm, Frame, in_then, in_else, in_either, in_with, in_while, Stack, bottom, inside, State, begin, ended, Turn, on, done, with_before, with_label, closed_if, closed_either, depth, after_tests}
+use Rattle.p_syntax.specs.ReadStatements.{opens, opened, ends_simple, after_name, statement_words, statement_by, takes_else, takes_elsif, takes_or, ends, takes_end, closing_words, another_by, ended_by, step, turned, run, read_sequence}
 
 -- ---- the tokens that were passed, before others
 abbrev pub before : Before → List Token → List Token
@@ -130,15 +130,19 @@ module _ (m : Parts) (h : SoundParts m) where
       sound_stays (sound_bind colon_sound (λ c u. sound_gives (on (begin b (with_label ls x c) st)) (g, i) (λ ts. ap (λ (us : List Token). stack st (before b us)) (with_label_tokens ls x c ts))))
   named_steps n b ls st g i x p k = sound_stays (simple_ends b ls st g i (named_sound m h n x p k))
 
+  -- past a word that opens a form
+  open_step : {p : Place} {w : Word} {x : List Token → List Token} {r : Reader Turn} (d : ℕ) → Steps (λ ts. x (key p w ts)) r → StepsAt p (tk.reserved w) x (opened m d r)
+  open_step d i = sound_fits (m.room (d + 1)) (sound_past refl i)
+
   words_step : (n : ℕ) (b : Before) (ls : Labels) (st : Stack) → GoodBefore b → GoodStack st → (p : Place) → AllSound p (at b ls st) GoodTurn turn (statement_words m n b ls st p)
   words_step n b ls st g i p = (
-    sound_past refl (sound_bind h.expr (λ e j. sound_bind (sound_key (codes "then")) (λ q u. sound_gives (opens (in_then (if_test p e q)) b ls st) (tt, (j, g, i)) (λ ts. refl)))),
+    open_step (depth st) (sound_bind h.expr (λ e j. sound_bind (sound_key (codes "then")) (λ q u. sound_gives (opens (in_then (if_test p e q)) b ls st) (tt, (j, g, i)) (λ ts. refl)))),
     (
-      sound_past refl (sound_gives (opens (in_either (first_arm p)) b ls st) (tt, (tt, g, i)) (λ ts. refl)),
+      open_step (depth st) (sound_gives (opens (in_either (first_arm p)) b ls st) (tt, (tt, g, i)) (λ ts. refl)),
       (
-        sound_past refl (sound_bind (binds_sound m h n) (λ bs j. sound_bind (sound_key (codes "do")) (λ q u. sound_gives (opens (in_with p bs q) b ls st) (tt, (j, g, i)) (λ ts. refl)))),
+        sound_past refl (sound_bind (binds_sound m h n (depth st)) (λ bs j. sound_bind (sound_key (codes "do")) (λ q u. sound_gives (opens (in_with p bs q) b ls st) (tt, (j, g, i)) (λ ts. refl)))),
         (
-          sound_past refl (sound_bind h.expr (λ e j. sound_bind (sound_key (codes "do")) (λ q u. sound_gives (opens (in_while p e q) b ls st) (tt, (j, g, i)) (λ ts. refl)))),
+          open_step (depth st) (sound_bind h.expr (λ e j. sound_bind (sound_key (codes "do")) (λ q u. sound_gives (opens (in_while p e q) b ls st) (tt, (j, g, i)) (λ ts. refl)))),
           tt,
         ),
       ),
@@ -159,7 +163,7 @@ module _ (m : Parts) (h : SoundParts m) where
 
   elsif_taken : (a : Sequence) → GoodSequence a → (p : Place) (st : Stack) → GoodStack st → StepsAt p (tk.reserved (codes "elsif")) (λ ts. stack st (sequence a ts)) (takes_elsif m a p st)
   elsif_taken a j p (inside (in_then t) b ls st) g =
-      sound_past refl (sound_bind h.expr (λ e k. sound_bind (sound_key (codes "then")) (λ q u. sound_gives (opens (in_then (elsif_test t a p e q)) b ls st) (tt, ((g.0, j, k), g.1, g.2)) (λ ts. refl))))
+      open_step (after_tests (depth st) t) (sound_bind h.expr (λ e k. sound_bind (sound_key (codes "then")) (λ q u. sound_gives (opens (in_then (elsif_test t a p e q)) b ls st) (tt, ((g.0, j, k), g.1, g.2)) (λ ts. refl))))
   elsif_taken a j p st g = sound_stays sound_refuses
 
   or_taken : (a : Sequence) → GoodSequence a → (p : Place) (st : Stack) → GoodStack st → StepsAt p (tk.reserved (codes "or")) (λ ts. stack st (sequence a ts)) (takes_or a p st)

@@ -80,7 +80,7 @@ refused_stops ts passed rest q o s p =
       rule = inr (refl, w.1);
     }
 
-abbrev place_at : List text.Token → ℕ → Place → Place
+abbrev pub place_at : List text.Token → ℕ → Place → Place
 place_at ts n end = get_or (map (λ (t : text.Token). t.place) ts) n end
 
 pub is_refused : (ts : List text.Token) (passed rest : List Token) (end : Place) (q : Rule) → read_algorithm (views ts) ≡ Err (q, rest) → views ts ≡ passed ++ rest → Passes (algorithms p_syntax) (map Some (looks passed))

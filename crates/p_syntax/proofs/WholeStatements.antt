@@ -1,5 +1,5 @@
 -- What is spelled is read: each statement is passed where what comes after it is.
-use Rattle.std.proofs.Common.{◌≡◌, ℕ, zero, suc, ◌<◌, ◌≤◌, true, List, length, Option, Some, None, Ok, refl, sym, ap, subst, ◌∙◌, arith, codes}
+use Rattle.std.proofs.Common.{◌≡◌, ℕ, zero, suc, ◌+◌, ◌<◌, ◌≤◌, true, List, length, Option, Some, None, Ok, refl, sym, ap, subst, ◌∙◌, arith, codes}
 use Rattle.tla_token.specs.declared.place.Place.{Place}
 use Rattle.tla_tree.specs.Tree.{Word, Name}
 use Rattle.tla_tree.specs.Lexical.{TokenView, Token}
@@ -15,7 +15,7 @@ use Rattle.algorithm_parts.proofs.Whole.{Fits, smaller, then_is, is_word_next, i
 use Rattle.algorithm_parts.proofs.WholeParts.{starts_statement, colon_whole, binds_whole}
 use Rattle.algorithm_parts.proofs.WholeSimple.{root, first_left, after_first, assignment_tokens, assignment_next, is_left_next, arguments_whole, assign_whole}
 use Rattle.algorithm_parts.proofs.Lengths.{Grows, GrowsMore, grow_phrase, grow_semicolon, grow_colon, grow_labels, grow_binds, grow_simple}
-use Rattle.p_syntax.specs.ReadStatements.{Before, none, after, Tests, if_test, elsif_test, Arms, first_arm, later_arm, in_then, in_else, in_either, in_with, in_while, Stack, bottom, inside, State, begin, ended, Turn, on, with_before, with_label, closed_if, closed_either, after_name, step, turned, run, read_sequence}
+use Rattle.p_syntax.specs.ReadStatements.{Before, none, after, Tests, if_test, elsif_test, Arms, first_arm, later_arm, in_then, in_else, in_either, in_with, in_while, Stack, bottom, inside, State, begin, ended, Turn, on, with_before, with_label, closed_if, closed_either, depth, after_tests, after_name, step, turned, run, read_sequence}
 
 -- ---- tokens before others
 mutual
@@ -207,14 +207,14 @@ module _ (m : ℕ) (r : Parts) (h : WholeParts m r) where
         let vs = sequence a us in
         let t = if_test p e q in
         advance (begin b ls st) (key p (codes "if") (spell e (key q (codes "then") vs))) (begin none no_labels (inside (in_then t) b ls st)) vs o
-        (λ n f. then_is _ (h.expr e i.0 (key q (codes "then") vs) refl (omega (arith, f.all))) refl)
+        (λ n f. rw (h.room (depth st + 1)) (then_is _ (h.expr e i.0 (key q (codes "then") vs) refl (omega (arith, f.all))) refl))
         (omega (arith, grow_phrase e (key q (codes "then") vs)))
         (sequence_read a i.1 (inside (in_then t) b ls st) none us o (else_next c x y ts) (else_read c i.2 t a b ls st x y ts o k)))
     statement_read (either p a bs x y) i b ls st ts o d k =
         (let us = branches bs (end_word x y (codes "either") ts) in
         let t = first_arm p in
         advance (begin b ls st) (key p (codes "either") (sequence a us)) (begin none no_labels (inside (in_either t) b ls st)) (sequence a us) o
-        (λ n f. refl)
+        (λ n f. rw (h.room (depth st + 1)) refl)
         (omega arith)
         (sequence_read a i.0 (inside (in_either t) b ls st) none us o (branches_next bs (end_word x y (codes "either") ts)) (branches_read bs i.1 t a b ls st x y ts o k)))
     statement_read (with p bs q a x y) i b ls st ts o d k =
@@ -222,7 +222,7 @@ module _ (m : ℕ) (r : Parts) (h : WholeParts m r) where
         let vs = sequence a us in
         let t = inside (in_with p bs q) b ls st in
         advance (begin b ls st) (key p (codes "with") (binds bs (key q (codes "do") vs))) (begin none no_labels t) vs o
-        (λ n f. then_is _ (binds_whole m r h n bs i.0 (key q (codes "do") vs) refl (smaller (omega arith) f)) refl)
+        (λ n f. then_is _ (binds_whole m r h n (depth st) bs i.0 (key q (codes "do") vs) refl (smaller (omega arith) f)) refl)
         (omega (arith, grow_binds bs (key q (codes "do") vs)))
         (sequence_read a i.1 t none us o refl (by_list t a us (λ c. ended b ls (with p bs q c x y) None st) ts o (λ n f u v w z. refl) (omega arith) k)))
     statement_read (while p e q a x y) i b ls st ts o d k =
@@ -230,7 +230,7 @@ module _ (m : ℕ) (r : Parts) (h : WholeParts m r) where
         let vs = sequence a us in
         let t = inside (in_while p e q) b ls st in
         advance (begin b ls st) (key p (codes "while") (spell e (key q (codes "do") vs))) (begin none no_labels t) vs o
-        (λ n f. then_is _ (h.expr e i.0 (key q (codes "do") vs) refl (omega (arith, f.all))) refl)
+        (λ n f. rw (h.room (depth st + 1)) (then_is _ (h.expr e i.0 (key q (codes "do") vs) refl (omega (arith, f.all))) refl))
         (omega (arith, grow_phrase e (key q (codes "do") vs)))
         (sequence_read a i.1 t none us o refl (by_list t a us (λ c. ended b ls (while p e q c x y) None st) ts o (λ n f u v w z. refl) (omega arith) k)))
 
@@ -249,7 +249,7 @@ module _ (m : ℕ) (r : Parts) (h : WholeParts m r) where
         let vs = sequence c us in
         let s = elsif_test t a p e q in
         by_list (inside (in_then t) b ls st) a (key p (codes "elsif") (spell e (key q (codes "then") vs))) (λ u. begin none no_labels (inside (in_then (elsif_test t u p e q)) b ls st)) vs o
-        (λ n f u v w z. then_is _ (h.expr e i.0 (key q (codes "then") vs) refl (omega (arith, f.all))) refl)
+        (λ n f u v w z. rw (h.room (after_tests (depth st) t + 1)) (then_is _ (h.expr e i.0 (key q (codes "then") vs) refl (omega (arith, f.all))) refl))
         (omega (arith, grow_phrase e (key q (codes "then") vs)))
         (sequence_read c i.1 (inside (in_then s) b ls st) none us o (else_next d x y ts) (else_read d i.2 s c b ls st x y ts o k)))
 

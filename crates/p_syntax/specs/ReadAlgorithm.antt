@@ -7,7 +7,7 @@ use Rattle.tla_tree.specs.Lexical.{TokenView, Token}
 use Rattle.tla_tree.specs.Lexical as tk
 use Rattle.tla_tree.specs.Reader.{Reader, ◌>>=◌, gives, refuses, skip, readers}
 use Rattle.pcal_tree.specs.Grammar.{Body, begin_end, Macro, Procedure, Fair, unfair, weak, strong, Identity, bare, Process, Head, algorithm, fair_algorithm, Define, no_define, define_end, Main, begin, processes, to_end, Text}
-use Rattle.algorithm_parts.specs.TokenReaders.{by_next, past, a_key, a_name, pick, Parts, parts_of}
+use Rattle.algorithm_parts.specs.TokenReaders.{by_next, past, a_key, a_name, pick, Parts, parts_of, limited_parts}
 use Rattle.algorithm_parts.specs.ReadParts.{read_semicolon, read_section, read_macro_parameters, read_procedure_parameters, read_definitions, bind_by}
 use Rattle.p_syntax.specs.ReadStatements.{read_sequence}
 
@@ -135,3 +135,7 @@ to_last a ts = refuses ts
 -- an algorithm, wherever any number of forms may be open; a list takes a step for each of its members, and an expression four for each token at most
 abbrev pub read_algorithm : Reader Text
 read_algorithm ts = (read_text (parts_of (readers (4 * length ts) None)) (suc (length ts)) >>= to_last) ts
+
+-- and one in which nowhere too many forms are open
+abbrev pub read_limited_algorithm : Reader Text
+read_limited_algorithm ts = (read_text (limited_parts (4 * length ts)) (suc (length ts)) >>= to_last) ts

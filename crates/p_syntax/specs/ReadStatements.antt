@@ -1,13 +1,15 @@
 -- Reading lists of statements in P-syntax: what stands open is a stack, and each word or part takes one step ("A PlusCal User's Manual, P-Syntax Version", appendix A).
-use Rattle.std.specs.Prelude.{ℕ, zero, suc, List, [], ◌∷◌, Option, Some, None, codes}
+use Rattle.std.specs.Prelude.{ℕ, zero, suc, ◌+◌, List, [], ◌∷◌, Option, Some, None, codes}
 use Rattle.tla_token.specs.declared.place.Place.{Place}
+use Rattle.tla_token.specs.Places.{nowhere}
 use Rattle.tla_tree.specs.Tree.{Word, Name}
-use Rattle.tla_tree.specs.Lexical.{TokenView}
+use Rattle.tla_tree.specs.Lexical.{TokenView, Token, token}
 use Rattle.tla_tree.specs.Lexical as tk
 use Rattle.tla_tree.specs.Spelling.{Phrase}
-use Rattle.tla_tree.specs.Reader.{Reader, ◌>>=◌, gives, refuses, skip}
+use Rattle.tla_tree.specs.Reader.{Reader, ◌>>=◌, gives, refuses, skip, if_fits}
 use Rattle.pcal_tree.specs.GrammarParts.{Colon, Labels, no_labels, label, Binds, Simple}
 use Rattle.pcal_tree.specs.GrammarP.{Statement, simple, branch, either, with, while, Else, no_else, else_then, else_if, Branches, last_branch, more_branches, Sequence, last_statement, more_statements}
+use Rattle.pcal_tree.specs.OpenForms.{after_binds}
 use Rattle.algorithm_parts.specs.TokenReaders.{by_next, a_key, pick, Parts}
 use Rattle.algorithm_parts.specs.ReadParts.{read_colon, read_binds}
 use Rattle.algorithm_parts.specs.ReadSimple.{named_by, simple_words}
@@ -42,6 +44,22 @@ pub data Stack : Type 0 where
   bottom : Stack
   inside : Frame → Before → Labels → Stack → Stack
 
+-- how many forms are open inside it: one for each test, branch, bind and loop
+abbrev pub after_tests : ℕ → Tests → ℕ
+after_tests d (if_test p e q) = d + 1
+after_tests d (elsif_test t a p e q) = after_tests d t + 1
+
+abbrev pub inside_frame : ℕ → Frame → ℕ
+inside_frame d (in_then t) = after_tests d t
+inside_frame d (in_else t a p) = after_tests d t
+inside_frame d (in_either t) = d + 1
+inside_frame d (in_with p bs q) = after_binds d bs
+inside_frame d (in_while p e q) = d + 1
+
+abbrev pub depth : Stack → ℕ
+depth bottom = 0
+depth (inside f b ls st) = inside_frame (depth st) f
+
 pub data State : Type 0 where
   begin : Before → Labels → Stack → State  -- a statement comes, after these labels
   ended : Before → Labels → Statement → Option Place → Stack → State  -- after a statement, and with a place after its `;`
@@ -73,6 +91,10 @@ closed_either (later_arm t c p) a bs r s = closed_either t c (more_branches p a 
 abbrev pub opens : Frame → Before → Labels → Stack → Turn
 opens f b ls st = on (begin none no_labels (inside f b ls st))
 
+-- past a word that opens a form, where so many are open
+abbrev pub opened : Parts → ℕ → Reader Turn → Reader Turn
+opened m d r = if_fits (m.room (d + 1)) (skip r)
+
 abbrev pub ends_simple : Before → Labels → Stack → Reader Simple → Reader Turn
 ends_simple b ls st r = r >>= λ s. gives (on (ended b ls (simple s) None st))
 
@@ -83,10 +105,10 @@ after_name m n b ls st x p k = ends_simple b ls st (named_by m n x p k)
 
 abbrev pub statement_words : Parts → ℕ → Before → Labels → Stack → Place → List (Word × Reader Turn)
 statement_words m n b ls st p =
-    (codes "if", skip (m.expr >>= λ e. a_key (codes "then") >>= λ q. gives (opens (in_then (if_test p e q)) b ls st)))
-    ∷ (codes "either", skip (gives (opens (in_either (first_arm p)) b ls st)))
-    ∷ (codes "with", skip (read_binds m n >>= λ bs. a_key (codes "do") >>= λ q. gives (opens (in_with p bs q) b ls st)))
-    ∷ (codes "while", skip (m.expr >>= λ e. a_key (codes "do") >>= λ q. gives (opens (in_while p e q) b ls st)))
+    (codes "if", opened m (depth st) (m.expr >>= λ e. a_key (codes "then") >>= λ q. gives (opens (in_then (if_test p e q)) b ls st)))
+    ∷ (codes "either", opened m (depth st) (gives (opens (in_either (first_arm p)) b ls st)))
+    ∷ (codes "with", skip (read_binds m n (depth st) >>= λ bs. a_key (codes "do") >>= λ q. gives (opens (in_with p bs q) b ls st)))
+    ∷ (codes "while", opened m (depth st) (m.expr >>= λ e. a_key (codes "do") >>= λ q. gives (opens (in_while p e q) b ls st)))
     ∷ []
 
 abbrev pub statement_by : Parts → ℕ → Before → Labels → Stack → Place → TokenView → Reader Turn
@@ -101,7 +123,7 @@ takes_else a p (inside (in_then t) b ls st) = skip (gives (opens (in_else t a p)
 takes_else a p st = refuses
 
 abbrev pub takes_elsif : Parts → Sequence → Place → Stack → Reader Turn
-takes_elsif m a p (inside (in_then t) b ls st) = skip (m.expr >>= λ e. a_key (codes "then") >>= λ q. gives (opens (in_then (elsif_test t a p e q)) b ls st))
+takes_elsif m a p (inside (in_then t) b ls st) = opened m (after_tests (depth st) t) (m.expr >>= λ e. a_key (codes "then") >>= λ q. gives (opens (in_then (elsif_test t a p e q)) b ls st))
 takes_elsif m a p st = refuses
 
 abbrev pub takes_or : Sequence → Place → Stack → Reader Turn
@@ -152,3 +174,29 @@ run m (suc n) s = step m n s >>= turned (run m n)
 -- up to the `end` after it
 abbrev pub read_sequence : Parts → ℕ → Reader Sequence
 read_sequence m n = run m n (begin none no_labels bottom)
+
+-- ---- what closes what stands open
+abbrev pub word_after : Word → List Token → List Token
+word_after w ts = token nowhere (tk.reserved w) ∷ ts
+
+abbrev pub ends_with : Word → List Token → List Token
+ends_with w ts = word_after (codes "end") (word_after w ts)
+
+-- after a statement; the first branch of an `either` wants another one
+abbrev pub closing : Stack → List Token
+closing bottom = []
+closing (inside (in_then t) b ls st) = ends_with (codes "if") (closing st)
+closing (inside (in_else t a p) b ls st) = ends_with (codes "if") (closing st)
+closing (inside (in_either (first_arm p)) b ls st) = word_after (codes "or") (word_after (codes "skip") (ends_with (codes "either") (closing st)))
+closing (inside (in_either (later_arm t a p)) b ls st) = ends_with (codes "either") (closing st)
+closing (inside (in_with p bs q) b ls st) = ends_with (codes "with") (closing st)
+closing (inside (in_while p e q) b ls st) = ends_with (codes "while") (closing st)
+
+-- up to the `end` after the list
+abbrev pub rest : State → List Token
+rest (begin b ls st) = word_after (codes "skip") (closing st)
+rest (ended b ls a o st) = closing st
+
+abbrev pub open_in : State → ℕ
+open_in (begin b ls st) = depth st
+open_in (ended b ls a o st) = depth st

@@ -1,6 +1,6 @@
 //! Laws of reading algorithms in P-syntax, stated as what functions without a body ensure.
 
-ghost use Rattle.std.specs.Prelude.{◌≡◌, suc, IsTrue, ◌++◌, List, [], ◌∷◌, length, take, map, get_or, Some, Ok, Err};
+ghost use Rattle.std.specs.Prelude.{◌≡◌, ◌⊎◌, ℕ, suc, ◌+◌, ◌*◌, ◌≤◌, codes, IsTrue, ◌++◌, List, [], ◌∷◌, length, take, map, get_or, Some, Ok, Err};
 ghost use Rattle.std.specs.List.{list_all};
 ghost use Rattle.tla_tree.specs.Lexical.{Token};
 ghost use Rattle.tla_token.specs.Tokens as text;
@@ -9,12 +9,16 @@ ghost use Rattle.tla_token.specs.declared.rule.Rule.TheVariants.{Syntax};
 ghost use Rattle.pcal_tree.specs.Algorithm.{Algorithm};
 ghost use Rattle.tla_token.specs.declared.rule.Refusal.{Refusal};
 ghost use Rattle.tla_token.specs.declared.place.Place.{Place};
-ghost use Rattle.tla_tree.specs.FirstStop.{looks, to_end, is_within, Begins, Passes};
+ghost use Rattle.tla_tree.specs.FirstStop.{looks, to_end, is_within, Begins, Passes, StopRule};
 ghost use Rattle.pcal_tree.specs.AlgorithmTokens.{views};
 ghost use Rattle.pcal_tree.specs.Grammar.{p_syntax, Text, Good, spell, algorithm_of, SpellsP};
 ghost use Rattle.pcal_tree.specs.OpenForms.{opens};
 ghost use Rattle.pcal_tree.specs.OffencesSyntax.{algorithms, PassesTokens, RefusesTokens};
-ghost use Rattle.p_syntax.specs.ReadAlgorithm.{read_algorithm};
+ghost use Rattle.pcal_tree.specs.GrammarParts.{key};
+ghost use Rattle.pcal_tree.specs.GrammarP.{Sequence};
+ghost use Rattle.algorithm_parts.specs.TokenReaders.{Parts};
+ghost use Rattle.p_syntax.specs.ReadStatements.{State, run, rest, open_in};
+ghost use Rattle.p_syntax.specs.ReadAlgorithm.{read_algorithm, read_limited_algorithm};
 
 /// What is read is an algorithm that may be spelled, and all the tokens are its tokens.
 pub fn what_is_read_is_spelled()
@@ -64,4 +68,40 @@ pub fn tokens_are_refused_where_reading_stops()
         → RefusesTokens p_syntax ts end (record { rule = r; place = get_or (map (λ (t : text.Token). t.place) ts) (length passed) end }) }
     ensures syntax { (ts : List text.Token) (end at : Place) → RefusesTokens p_syntax ts end (record { rule = Syntax; place = at })
         → (passed rest : List Token) × (read_algorithm (views ts) ≡ Err (Syntax, rest)) × (views ts ≡ passed ++ rest) × (at ≡ get_or (map (λ (t : text.Token). t.place) ts) (length passed) end) }
+{}
+
+/// The limits of open forms only refuse: what is read within them is read without, and nowhere in it too many forms are open; and what is read
+/// without them and has nowhere too many open is read within.
+pub fn the_limits_only_refuse()
+    ensures within { (ts : List Token) (x : Text) (rest : List Token) → read_limited_algorithm ts ≡ Ok (x, rest) → (read_algorithm ts ≡ Ok (x, rest)) × IsTrue (list_all is_within (opens x)) }
+    ensures fits { (ts : List Token) (x : Text) (rest : List Token) → read_algorithm ts ≡ Ok (x, rest) → IsTrue (list_all is_within (opens x)) → read_limited_algorithm ts ≡ Ok (x, rest) }
+{}
+
+/// So the tokens of a text pass just where they are read within the limits, and what is read is their algorithm.
+pub fn tokens_pass_where_they_are_read()
+    ensures read { (ts : List text.Token) (x : Text) (rest : List Token) → read_limited_algorithm (views ts) ≡ Ok (x, rest) → PassesTokens p_syntax ts × SpellsP ts (algorithm_of x) }
+    ensures passes { (ts : List text.Token) → PassesTokens p_syntax ts → (x : Text) × (read_limited_algorithm (views ts) ≡ Ok (x, [])) }
+{}
+
+/// A refusal within the limits is not early, and it is by the rule of the grammar: the tokens through the refused one, or with the end after them,
+/// don't pass, since too many forms are open in each algorithm that begins so, or since none does. Nor is it late: what was passed before passes.
+pub fn limited_refusals_are_at_the_earliest_place()
+    ensures through { (ts passed rest : List Token) (r : Rule) → read_limited_algorithm ts ≡ Err (r, rest) → ts ≡ passed ++ rest
+        → (Passes (algorithms p_syntax) (take (suc (length passed)) (to_end ts)) → ⊥) × StopRule (algorithms p_syntax) (take (suc (length passed)) (to_end ts)) r }
+    ensures passed { (ts passed rest : List Token) (r : Rule) → read_limited_algorithm ts ≡ Err (r, rest) → ts ≡ passed ++ rest → Passes (algorithms p_syntax) (map Some (looks passed)) }
+{}
+
+/// So the tokens of a text, whatever they are, pass with an algorithm or are refused, just as reading within the limits does it: what is refused is
+/// refused at that token, or at the end, by the rule of the refusal.
+pub fn tokens_are_read_or_refused()
+    ensures one { (ts : List text.Token) (end : Place) → ((a : Algorithm) × PassesTokens p_syntax ts × SpellsP ts a) ⊎ ((r : Refusal) × RefusesTokens p_syntax ts end r) }
+    ensures refused { (ts : List text.Token) (passed rest : List Token) (end : Place) (r : Rule) → read_limited_algorithm (views ts) ≡ Err (r, rest) → views ts ≡ passed ++ rest
+        → RefusesTokens p_syntax ts end (record { rule = r; place = get_or (map (λ (t : text.Token). t.place) ts) (length passed) end }) }
+{}
+
+/// What stands open in a list of statements is closed by `rest`, whatever it is: with these words after it the list is read up to the
+/// `end` that comes then. They are at most four for each form that is open, and one.
+pub fn what_stands_open_is_closed()
+    ensures closed { (m : Parts) (n : ℕ) (s : State) (p : Place) (ts : List Token) → suc (length (rest s)) ≤ n → (ss : Sequence) × (run m n s (rest s ++ key p (codes "end") ts) ≡ Ok (ss, key p (codes "end") ts)) }
+    ensures few { (s : State) → length (rest s) ≤ 4 * open_in s + 1 }
 {}

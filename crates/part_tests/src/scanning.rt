@@ -1,6 +1,7 @@
 //! Rules, places and tokens.
 
 use std::alloc::{AllocError, Global};
+use tla_token::machine::decided_parts;
 use tla_token::place::{Place, place_of};
 use tla_token::rule::{Refusal, Rule, Stop, name, number};
 use tla_token::scan::tokens;
@@ -137,5 +138,18 @@ fn texts_are_cut_or_refused(rt: HostRuntime) -> Result<(), AllocError> {
             "{text}"
         );
     }
+    Ok(())
+}
+
+// A sign waits for its third byte, and a comment for its end.
+#[test]
+fn parts_of_two_pieces_are_those_of_one(rt: HostRuntime) -> Result<(), AllocError> {
+    let mut parts = Vec::new(rt.alloc());
+    let first = decided_parts(b"x |-", &mut parts)?;
+    assert_eq!(rt; first, 2);
+    assert_eq!(rt; parts.len(), 2);
+    let second = decided_parts(b"|-> (* a *", &mut parts)?;
+    assert_eq!(rt; second, 4);
+    assert_eq!(rt; parts.len(), 4);
     Ok(())
 }

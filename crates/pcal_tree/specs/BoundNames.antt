@@ -1,5 +1,5 @@
 -- The names that expressions and each `with` bind, list by list, where they are ("A PlusCal User's Manual", section 3.2, with; "Specifying Systems",
--- sections 16.1.1 and 16.1.11, bound names and LET).
+-- sections 16.1.1 and 16.1.5, bound names and LET).
 use Rattle.std.specs.Prelude.{List, [], ◌∷◌, ◌++◌}
 use Rattle.std.specs.List.{flat_map}
 use Rattle.tla_tree.specs.Tree.{Name, Form, binding, local, Tree, node, Trees, no_trees, tree}

@@ -9,3 +9,10 @@ pub mod DepthLemmas
 pub mod ReadSteps
 pub mod ReadCode
 pub mod QuoteLemmas
+pub mod AheadLemmas
+pub mod ReadRows
+pub mod ReadLinks
+pub mod ReadGrown
+pub mod ReadNames
+pub mod ReadPrimaries
+mod RowsHasRead

@@ -34,7 +34,7 @@ ok_three (Err e) p q r f = tt
 pub kept_in : {old new : List Tree} {x : Read} {a : Phrase} → Keeps old new → IsIn old x a → IsIn new x a
 kept_in {old} {new} {x} {a} k h = record { below = omega (arith, k.longer, h.below); tree = k.same x.id h.below ∙ h.tree; shape = h.shape }
 
-starts : {ts : List Tree} {x : Read} {a : Phrase} → IsIn ts x a → x.shape.start ≡ start a
+pub starts : {ts : List Tree} {x : Read} {a : Phrase} → IsIn ts x a → x.shape.start ≡ start a
 starts {ts} {x} {a} h = sym (ap (λ (s : Shape). s.start) h.shape) ∙ start_is a
 
 -- ---- primaries

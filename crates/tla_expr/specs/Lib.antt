@@ -2,3 +2,5 @@ pub mod ViewSeen
 pub mod Writing
 pub mod ShapeOf
 pub mod ReadIn
+pub mod Ahead
+pub mod HasRead

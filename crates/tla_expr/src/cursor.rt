@@ -1,11 +1,11 @@
-//! Tokens that are still to be read: the next one, to the right of an edge, and what comes after it.
+//! The next token to the right of an edge, and why reading stops.
 
-ghost use Rattle.std.specs.Prelude.{◌≡◌, ◌<◌, ◌≤◌, ℕ, List, [], IfOk, length};
+ghost use Rattle.std.specs.Prelude.{◌≡◌, ℕ, List};
 ghost use Rattle.tla_tree.specs.Lexical as tk;
 ghost use Rattle.tla_tree.specs.Lexical.{token};
 ghost use Rattle.tla_tree.specs.Reader as reader;
 ghost use Rattle.tla_expr.specs.ViewSeen.{mark_seen, key_seen, view_seen};
-ghost use Rattle.tla_expr.specs.ReadIn.{seen, Gives, word_seen, field_seen};
+ghost use Rattle.tla_expr.specs.ReadIn.{seen};
 ghost use Rattle.tla_expr.specs.declared.cursor.Halt.TheVariants as halt;
 
 use crate::shape::same_op;
@@ -96,18 +96,6 @@ pub fn look(tokens: &Tokens, ts: &[Token], edge: u32) -> Next
     }
 }
 
-/// The tokens behind the next one.
-pub fn behind(ts: &[Token]) -> &[Token]
-    ensures rest { (bytes : List ℕ) → seen bytes result.now ≡ reader.tail (seen bytes ts.now) }
-    ensures no_more { length result.now ≤ length ts.now }
-    ensures less { 0 < length ts.now → length result.now < length ts.now }
-{
-    match ts.split_first() {
-        None => ts,
-        Some((_, rest)) => rest,
-    }
-}
-
 fn mark_number(mark: Mark) -> u8
     ensures { result ≡ reader.mark_number (mark_seen mark) }
 {
@@ -180,103 +168,4 @@ pub fn is_sign(op: Op, view: View) -> bool
         View::Sign(q) => same_op(op, q),
         _ => false,
     }
-}
-
-/// Past this mark: its place.
-pub fn past_mark<'a>(
-    tokens: &Tokens,
-    ts: &'a [Token],
-    edge: u32,
-    mark: Mark,
-) -> Result<(Place, &'a [Token]), Halt>
-    ensures value { Gives (λ x. (x.0, seen tokens.now.bytes.items x.1.now)) result (reader.a_mark edge (mark_seen mark) (seen tokens.now.bytes.items ts.now)) }
-    ensures less { IfOk result (λ x. length x.1.now < length ts.now) }
-{
-    let t = look(tokens, ts, edge);
-    if is_mark(mark, t.view) {
-        Ok((t.place, behind(ts)))
-    } else {
-        Err(Halt::Refused(Rule::Syntax, ts.len()))
-    }
-}
-
-/// Past this key: its place.
-pub fn past_key<'a>(
-    tokens: &Tokens,
-    ts: &'a [Token],
-    edge: u32,
-    key: Key,
-) -> Result<(Place, &'a [Token]), Halt>
-    ensures value { Gives (λ x. (x.0, seen tokens.now.bytes.items x.1.now)) result (reader.a_key edge (key_seen key) (seen tokens.now.bytes.items ts.now)) }
-    ensures less { IfOk result (λ x. length x.1.now < length ts.now) }
-{
-    let t = look(tokens, ts, edge);
-    if is_key(key, t.view) {
-        Ok((t.place, behind(ts)))
-    } else {
-        Err(Halt::Refused(Rule::Syntax, ts.len()))
-    }
-}
-
-/// Past the sign of this operator: its place.
-pub fn past_sign<'a>(
-    tokens: &Tokens,
-    ts: &'a [Token],
-    edge: u32,
-    op: Op,
-) -> Result<(Place, &'a [Token]), Halt>
-    ensures value { Gives (λ x. (x.0, seen tokens.now.bytes.items x.1.now)) result (reader.a_sign edge op (seen tokens.now.bytes.items ts.now)) }
-    ensures less { IfOk result (λ x. length x.1.now < length ts.now) }
-{
-    let t = look(tokens, ts, edge);
-    if is_sign(op, t.view) {
-        Ok((t.place, behind(ts)))
-    } else {
-        Err(Halt::Refused(Rule::Syntax, ts.len()))
-    }
-}
-
-/// Past a name.
-pub fn past_word<'a>(
-    tokens: &Tokens,
-    ts: &'a [Token],
-    edge: u32,
-) -> Result<(Word, &'a [Token]), Halt>
-    ensures value { Gives (λ x. (word_seen tokens.now.bytes.items x.0, seen tokens.now.bytes.items x.1.now)) result (reader.a_word edge (seen tokens.now.bytes.items ts.now)) }
-    ensures less { IfOk result (λ x. length x.1.now < length ts.now) }
-{
-    let t = look(tokens, ts, edge);
-    match t.view {
-        View::Word(span) => {
-            let word = Word {
-                place: t.place,
-                span,
-            };
-            Ok((word, behind(ts)))
-        }
-        _ => Err(Halt::Refused(Rule::Syntax, ts.len())),
-    }
-}
-
-/// Past the name of a field.
-pub fn past_field<'a>(
-    tokens: &Tokens,
-    ts: &'a [Token],
-    edge: u32,
-) -> Result<(FieldName, &'a [Token]), Halt>
-    ensures value { Gives (λ x. (field_seen tokens.now.bytes.items x.0, seen tokens.now.bytes.items x.1.now)) result (reader.a_field edge (seen tokens.now.bytes.items ts.now)) }
-    ensures less { IfOk result (λ x. length x.1.now < length ts.now) }
-{
-    let t = look(tokens, ts, edge);
-    let (reserved, span) = match t.view {
-        View::Word(span) => (false, span),
-        View::Reserved(span) => (true, span),
-        _ => return Err(Halt::Refused(Rule::Syntax, ts.len())),
-    };
-    let field = FieldName {
-        place: t.place,
-        reserved,
-        span,
-    };
-    Ok((field, behind(ts)))
 }

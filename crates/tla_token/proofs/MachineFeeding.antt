@@ -6,7 +6,7 @@ use Rattle.tla_token.specs.Lexemes.{name, number, string, one, other, is_word}
 use Rattle.tla_token.specs.Tokens.{blank, block, line, lexeme}
 use Rattle.tla_token.specs.Offences.{Part, sound, stray, bad_string, open_string, open_block, part_bytes, parts_text, PartFits, PartsFit}
 use Rattle.tla_token.specs.Cut.{parts}
-use Rattle.tla_token.specs.laws.Feeding.{is_settled, stays, decided, undecided, Fed, nothing_fed, feed, finish, fed, is_open, IsKept}
+use Rattle.tla_token.specs.Feeding.{is_settled, stays, decided, undecided, Fed, nothing_fed, feed, finish, fed, is_open, IsKept}
 use Rattle.tla_token.proofs.Parted.{some_part, fits_first, parts_step, cut_back}
 use Rattle.tla_token.proofs.Cutting.{cut_fits}
 use Rattle.tla_token.proofs.MachineStays.{stays_fits}
@@ -77,7 +77,7 @@ alone x ps h e o = inr (inr (x, cut_back (x ∷ ps) h ∙ ap (λ (qs : List Part
 open_end : (body : List ℕ) (ps : List Part) → PartsFit (open_block body ∷ ps) → ps ≡ []
 open_end body ps ((e, never), h) = none_behind ps h (ap (λ (u : List ℕ). nat_lt 0 (length u)) e)
 
-changing : (x : Part) (ps : List Part) → PartsFit (x ∷ ps) → stays x (parts_text ps) ≡ false → IsKept (parts_text (x ∷ ps))
+pub changing : (x : Part) (ps : List Part) → PartsFit (x ∷ ps) → stays x (parts_text ps) ≡ false → IsKept (parts_text (x ∷ ps))
 changing (sound (blank b)) ps h s = absurd cc
 changing (sound (block body)) ps h s = absurd cc
 changing (sound (line body)) ps (f, h) s = alone (sound (line body)) ps (f, h) (none_behind ps h s) refl

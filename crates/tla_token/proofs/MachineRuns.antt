@@ -10,7 +10,7 @@ use Rattle.tla_token.specs.Tokens.{line, lexeme, opens_comment}
 use Rattle.tla_token.specs.Offences.{Part, sound, open_string, open_block, part_bytes, PartFits}
 use Rattle.tla_token.specs.Cut.{part_at, parts, plus, comment_len}
 use Rattle.tla_token.specs.Scan.{outline, first_by}
-use Rattle.tla_token.specs.laws.Feeding.{is_settled, is_open, is_open_word, IsKept}
+use Rattle.tla_token.specs.Feeding.{is_settled, is_open, is_open_word, IsKept}
 use Rattle.tla_token.specs.laws.Machine.{outlines, Open, fresh, mark, wordless, word, back, text, block, line as rest_of_line, State, only, marks, Step, given, one_part, begin, begun, next, again, settled, step, at_end, stop, run_on, run_all}
 use Rattle.tla_token.proofs.Front.{closes_len}
 use Rattle.tla_token.proofs.Parted.{some_part, cut_back}

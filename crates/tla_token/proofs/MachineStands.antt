@@ -8,7 +8,7 @@ use Rattle.tla_token.specs.Tokens.{blank, opens_comment}
 use Rattle.tla_token.specs.Offences.{Part, sound, part_bytes, PartFits, string_len, escape_len}
 use Rattle.tla_token.specs.Cut.{plus, comment_len}
 use Rattle.tla_token.specs.Scan.{outline}
-use Rattle.tla_token.specs.laws.Feeding.{is_settled}
+use Rattle.tla_token.specs.Feeding.{is_settled}
 use Rattle.tla_token.specs.laws.Machine.{outlines, Open, fresh, mark, wordless, word, back, text, block, line, State, only, marks, Step, given, begun}
 use Rattle.tla_token.proofs.Parted.{some_part, fits_first, parts_step}
 

@@ -9,7 +9,7 @@ use Rattle.tla_token.specs.Lexemes.{Kind, name, number, string, one, other, is_w
 use Rattle.tla_token.specs.Tokens.{blank, block, line, lexeme, Fits, EndsLine, opens_comment}
 use Rattle.tla_token.specs.Offences.{Part, sound, stray, bad_string, open_string, open_block, part_bytes, PartFits, ends_string, string_len, escape_len}
 use Rattle.tla_token.specs.Cut.{run, sign_at, spelling_at}
-use Rattle.tla_token.specs.laws.Feeding.{is_settled, stays}
+use Rattle.tla_token.specs.Feeding.{is_settled, stays}
 use Rattle.tla_token.proofs.Spelled.{begins_is, begins_from, begins_same, same_bytes, is_worded, is_mark, stands_at, row_of, no_empty}
 use Rattle.tla_token.proofs.Words.{one_plus}
 use Rattle.tla_token.proofs.Signed.{not_true}

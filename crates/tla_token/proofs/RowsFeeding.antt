@@ -1,11 +1,12 @@
 -- Worked examples of texts that come in pieces, by computation.
 use Rattle.std.specs.Prelude.{◌≡◌, ℕ, true, false, List, [], ◌∷◌, codes}
-use Rattle.std.proofs.Common.{inr, refl}
+use Rattle.std.proofs.Common.{inl, inr, refl, arith}
 use Rattle.tla_token.specs.declared.sign.Sign.TheVariants as sign
+use Rattle.tla_token.specs.declared.part.Class.TheVariants as class
 use Rattle.tla_token.specs.Lexemes.{name, number, one}
 use Rattle.tla_token.specs.Tokens.{blank, block, lexeme}
 use Rattle.tla_token.specs.Offences.{sound, open_string, open_block}
-use Rattle.tla_token.specs.laws.Feeding.{is_settled, stays, decided, undecided, fed, finish, is_open_word, IsKept}
+use Rattle.tla_token.specs.Feeding.{is_settled, stays, stays_by, decided, undecided, fed, finish, is_open_word, IsKept, AreDecided}
 
 a_word_that_goes_on : is_settled (codes "x1") ≡ false
 a_word_that_goes_on = refl
@@ -30,6 +31,15 @@ an_open_string = refl
 
 a_string_that_its_line_leaves_open : stays (open_string (codes "a")) (codes "\n") ≡ true
 a_string_that_its_line_leaves_open = refl
+
+by_its_class_a_line_that_goes_on : stays_by class.Line 4 (codes "\\* a") ≡ false
+by_its_class_a_line_that_goes_on = refl
+
+by_its_class_a_line_that_has_ended : stays_by class.Line 4 (codes "\\* a\n") ≡ true
+by_its_class_a_line_that_has_ended = refl
+
+by_its_class_a_sign : stays_by (class.Sign sign.AtMost) 2 (codes "<=") ≡ false
+by_its_class_a_sign = refl
 
 abbrev two_pieces : List (List ℕ)
 two_pieces = codes "x |-" ∷ codes "> (* a *" ∷ []
@@ -57,3 +67,12 @@ a_word_behind_a_backslash = refl
 
 a_comment_is_kept : IsKept (codes "(* a")
 a_comment_is_kept = inr (inr (open_block (codes " a"), refl, refl))
+
+two_marks_are_kept : IsKept (codes "<=")
+two_marks_are_kept = inl (omega arith)
+
+a_word_is_kept : IsKept (codes "\\lan")
+a_word_is_kept = inr (inl refl)
+
+a_blank_is_decided : AreDecided (codes " x") [] (record { class = class.Blank; len = 1 } ∷ []) 1
+a_blank_is_decided = (omega arith, λ more. refl)

@@ -43,3 +43,17 @@ a_string_that_is_open_at_the_end = refl
 
 digits_at_the_end : stop (only (wordless (codes "1_"))) ≡ record { class = class.Number; len = 1 } ∷ record { class = class.Other; len = 1 } ∷ []
 digits_at_the_end = refl
+
+-- why a state keeps digits and underscores: they are parts of their own at the end, and before a letter they are not
+
+digits_first : outlines (codes "1_") ≡ record { class = class.Number; len = 1 } ∷ record { class = class.Other; len = 1 } ∷ []
+digits_first = refl
+
+digits_last : outlines (codes "_1") ≡ record { class = class.Other; len = 1 } ∷ record { class = class.Number; len = 1 } ∷ []
+digits_last = refl
+
+digits_first_in_a_name : outlines (codes "1_x") ≡ one_part class.Name 3
+digits_first_in_a_name = refl
+
+digits_last_in_a_name : outlines (codes "_1x") ≡ one_part class.Name 3
+digits_last_in_a_name = refl

@@ -13,4 +13,5 @@ pub mod Scan
 pub mod Readings
 pub mod TokensSeen
 pub mod Scanning
+pub mod Feeding
 pub mod laws

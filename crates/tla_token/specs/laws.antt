@@ -1,3 +1,2 @@
 -- Words that only laws speak of.
-pub mod Feeding
 pub mod Machine

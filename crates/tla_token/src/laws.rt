@@ -13,7 +13,7 @@ ghost use Rattle.tla_token.specs.Offences.{Part, sound, parts_text, PartsFit, Of
 ghost use Rattle.tla_token.specs.Cut.{parts};
 ghost use Rattle.tla_token.specs.TokensSeen.{kind_seen, IsCanonical};
 ghost use Rattle.tla_token.specs.laws.Machine.{outlines, only, fresh, run_on, run_all};
-ghost use Rattle.tla_token.specs.laws.Feeding.{fed, finish, decided, undecided, IsKept};
+ghost use Rattle.tla_token.specs.Feeding.{fed, finish, decided, undecided, IsKept};
 
 /// A stretch of a text has at most one list of tokens, and so has the stretch of an algorithm.
 pub fn tokens_are_unique()

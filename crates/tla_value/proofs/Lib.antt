@@ -13,6 +13,8 @@ pub mod ValueWithin
 pub mod ValueReader
 pub mod ValueOnce
 pub mod ValueDecided
+pub mod ValueStrings
+pub mod ValueCut
 mod ValueRows
 mod RowsSeen
 mod RowsDefs

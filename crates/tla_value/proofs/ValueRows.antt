@@ -8,6 +8,7 @@ use Rattle.tla_value.specs.Value.{Value, Values, truth, int, text, model, set, n
 use Rattle.tla_value.specs.Order.{count, order, same, set_from, seq_from, fun_from, record_from}
 use Rattle.tla_value.specs.Limits.{fits, fits_count}
 use Rattle.tla_value.specs.ValueText.{value_text}
+use Rattle.tla_value.specs.laws.WrittenStrings.{HasStrings}
 
 -- the digits that are written
 one : decimal 1 ≡ codes "1"
@@ -94,3 +95,13 @@ full_set vs e = rw e refl
 
 fuller_set : (vs : Values) → count vs ≡ 65537 → fits_count vs ≡ false
 fuller_set vs e = rw e refl
+
+-- ---- strings that can be written: a tab has an escape, a bell has none
+tab_is_written : HasStrings (set (and (text (97 ∷ 9 ∷ [])) no_values))
+tab_is_written = (refl, tt)
+
+bell_is_not : HasStrings (set (and (text (97 ∷ 7 ∷ [])) no_values)) → ⊥
+bell_is_not h = never h.0
+  where
+    never : false ≡ true → ⊥
+    never e = cc

@@ -65,9 +65,11 @@ mutual
       (shown_within d v l c.0 parts.0 (omega arith), all_shown_within d vs l c.1 parts.1 (omega arith))
 
 -- the tokens that are written for a value spell it
+pub within_shown : (v : Value) → IsCanonical v → fits v ≡ true → IsWithin (shown v) deepest_value
+within_shown v canonical within = shown_within deepest_value v (omega arith) canonical (fits_parts_of v within) (depth_of v within)
+
 pub spells_shown : (v : Value) → IsCanonical v → HasModelNames v → fits v ≡ true → Spells (marks (shown v) []) v
-spells_shown v canonical names within =
-    (shown v, good_shown v names, shown_within deepest_value v (omega arith) canonical (fits_parts_of v within) (depth_of v within), refl, spelled_shown v canonical)
+spells_shown v canonical names within = (shown v, good_shown v names, within_shown v canonical within, refl, spelled_shown v canonical)
 
 -- ---- what is spelled
 

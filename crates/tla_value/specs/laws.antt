@@ -5,3 +5,4 @@ pub mod FreeNames
 pub mod Places
 pub mod Grafting
 pub mod UnderLimits
+pub mod WrittenStrings

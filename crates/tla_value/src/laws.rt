@@ -1,13 +1,15 @@
 //! Laws of the canonical order, stated as what functions without a body ensure.
 
-ghost use Rattle.std.specs.Prelude.{◌≡◌, ◌⊎◌, ℕ, List, [], true};
+ghost use Rattle.std.specs.Prelude.{◌≡◌, ◌⊎◌, ◌++◌, ℕ, ◌+◌, List, [], length, true};
 ghost use Rattle.std.specs.Cmp.{IsTotalOrder};
 ghost use Rattle.std.specs.declared.cmp.Ordering.TheVariants.{Equal};
+ghost use Rattle.tla_tree.specs.laws.InText.{ends_word};
 ghost use Rattle.tla_value.specs.Value as pure;
 ghost use Rattle.tla_value.specs.Value.{values_in};
 ghost use Rattle.tla_value.specs.Limits.{fits};
-ghost use Rattle.tla_value.specs.ValueText.{Mark, HasModelNames, Spells, marks, shown};
+ghost use Rattle.tla_value.specs.ValueText.{Mark, HasModelNames, Spells, marks, shown, value_text};
 ghost use Rattle.tla_value.specs.ValueSeen.{SpellsFrom};
+ghost use Rattle.tla_value.specs.laws.WrittenStrings.{HasStrings};
 ghost use Rattle.tla_value.specs.laws.InOrder.{holds_in_order, found_in_order};
 ghost use Rattle.tla_value.specs.Order.{order, holds, set_from, fun_from, found_at, values_at, arguments, first_at, IsAscending, IsCanonical, ArePairsCanonical};
 
@@ -40,6 +42,14 @@ pub fn written_values_are_spelled()
 pub fn spelled_values_are_canonical()
     ensures canonical { (ts : List Mark) (v : pure.Value) → Spells ts v → IsCanonical v }
     ensures within { (ts : List Mark) (v : pure.Value) → Spells ts v → fits v ≡ true }
+{}
+
+/// What is written for a canonical value within the limits, whose model values have names of model values and whose strings are of characters that a string may hold, spells that
+/// value wherever it is before what begins with no byte of a word. No other value is there, and none that ends elsewhere; so different values have different texts.
+pub fn written_texts_are_values()
+    ensures spelled { (v : pure.Value) (before after : List ℕ) → IsCanonical v → HasModelNames v → HasStrings v → fits v ≡ true → ends_word after ≡ true → SpellsFrom (before ++ (value_text v ++ after)) (length before) (length before + length (value_text v)) v }
+    ensures only { (v w : pure.Value) (before after : List ℕ) (end : ℕ) → IsCanonical v → HasModelNames v → HasStrings v → fits v ≡ true → ends_word after ≡ true → SpellsFrom (before ++ (value_text v ++ after)) (length before) end w → (end ≡ length before + length (value_text v)) × (w ≡ v) }
+    ensures apart { (v w : pure.Value) → IsCanonical v → HasModelNames v → HasStrings v → fits v ≡ true → IsCanonical w → HasModelNames w → HasStrings w → fits w ≡ true → value_text v ≡ value_text w → v ≡ w }
 {}
 
 /// At a place of a text there is one value at most, with one end. So a value has no farther end than the one that is found.

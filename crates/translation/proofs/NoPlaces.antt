@@ -186,7 +186,7 @@ macro_names_bare : (ms : List Macro) → flat_map (λ (d : Macro). words d.param
 macro_names_bare [] = refl
 macro_names_bare (d ∷ ms) = λ i. words_bare d.params i ++ macro_names_bare ms i
 
-kept_bare : (a : Algorithm) → kept (placeless a) ≡ kept a
+pub kept_bare : (a : Algorithm) → kept (placeless a) ≡ kept a
 kept_bare a = λ i. declared_bare a.globals i ++ (definition_names_bare a.definitions i ++ (macro_names_bare a.macros i ++ bound_bare a i))
 
 -- ---- names that are wanted
@@ -253,7 +253,7 @@ main_wants a (alone b) = λ i. wants_of (first_process_bare a i) [] (all_labels 
 main_wants a (processes ps) =
     ap (λ (n : ℕ). flat_map wanted_by (numbered process_routine n (processes_placeless ps))) (first_process_bare a) ∙ process_wants (first_process a) ps
 
-wanted_bare : (a : Algorithm) → wanted (placeless a) ≡ wanted a
+pub wanted_bare : (a : Algorithm) → wanted (placeless a) ≡ wanted a
 wanted_bare a =
     let first = ap (λ (n : ℕ). flat_map wanted_by (numbered procedure_routine n (procedures_placeless a.procedures))) (as_many_macros a.macros) ∙ procedure_wants (first_procedure a) a.procedures in
     λ i. first i ++ main_wants a a.main i

@@ -1,3 +1,5 @@
 -- The words in which the laws are stated.
 pub mod Steps
 pub mod ActionNames
+pub mod WritableAlgorithm
+pub mod TypedAlgorithm

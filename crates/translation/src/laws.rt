@@ -1,18 +1,27 @@
 //! Laws of the written module, stated as what functions without a body ensure.
 
-ghost use Rattle.std.specs.Prelude.{◌≡◌, ℕ, List, Bool, false, Some, map};
+ghost use Rattle.std.specs.Prelude.{◌≡◌, ℕ, List, [], Bool, false, not, Some, map, reverse};
 ghost use Rattle.tla_tree.specs.Tree.{Word};
 ghost use Rattle.tla_value.specs.Outside.{Outside};
 ghost use Rattle.module_tree.specs.Module.{test, item, Module};
 ghost use Rattle.module_tree.specs.Reading.{Reads};
-ghost use Rattle.pcal_tree.specs.Algorithm.{Routine, Algorithm};
+ghost use Rattle.pcal_tree.specs.Algorithm.{Routine, locals, routines, Definition, Algorithm};
+ghost use Rattle.pcal_tree.specs.OffencesNames.{repeated_names};
+ghost use Rattle.pcal_tree.specs.OffencesReserved.{reserved_declared};
+ghost use Rattle.pcal_tree.specs.OffencesLabels.{label_words, label_offences};
+ghost use Rattle.pcal_tree.specs.Expand.{expanded};
+ghost use Rattle.pcal_tree.specs.laws.Apart.{FewNames};
+ghost use Rattle.pcal_tree.specs.Processes.{OneOf};
+ghost use Rattle.std.specs.Bool.{IsTrue};
+ghost use Rattle.tla_token.specs.Words.{is_own};
+ghost use Rattle.action_builder.specs.laws.Jumps.{AllUnlike};
 ghost use Rattle.pcal_tree.specs.Scope.{Scope};
 ghost use Rattle.pcal_tree.specs.Run.{Rules};
 ghost use Rattle.pcal_tree.specs.StepStart.{Begin};
 ghost use Rattle.pcal_tree.specs.Program.{Program};
 ghost use Rattle.pcal_tree.specs.Placeless.{placeless};
 ghost use Rattle.pcal_tree.specs.Names.{naming};
-ghost use Rattle.pcal_tree.specs.Variables.{vars};
+ghost use Rattle.pcal_tree.specs.Variables.{declared, vars};
 ghost use Rattle.pcal_tree.specs.Labelled.{labelled};
 ghost use Rattle.module_tree.specs.Around.{Around};
 ghost use Rattle.promise.specs.Headline.{Stands};
@@ -24,6 +33,17 @@ ghost use Rattle.action_builder.specs.laws.Settling.{Callable};
 ghost use Rattle.action_builder.specs.laws.LabelSteps.{action_of};
 ghost use Rattle.translation.specs.laws.ActionNames.{action_names};
 ghost use Rattle.translation.specs.laws.Steps.{written_step};
+ghost use Rattle.module_tree.specs.laws.Kept.{IsFine};
+ghost use Rattle.module_tree.specs.laws.Outsides.{HasOutside};
+ghost use Rattle.module_tree.specs.laws.WritableRegion.{EachOf, IsRegion, IsWritten};
+ghost use Rattle.module_tree.specs.Layout.{layout};
+ghost use Rattle.module_tree.specs.TextFront.{Text};
+ghost use Rattle.module_tree.specs.Walk.{walk};
+ghost use Rattle.module_tree.specs.WithTranslation.{WithTranslation};
+ghost use Rattle.tla_tree.specs.laws.Writable.{AreOfText};
+ghost use Rattle.pcal_tree.specs.Grammar.{Syntax, Text as AlgorithmAsSpelled, Good, algorithm_of};
+ghost use Rattle.translation.specs.laws.TypedAlgorithm.{tokens_after_head, IsTypedAlgorithm};
+ghost use Rattle.translation.specs.laws.WritableAlgorithm.{AreWritableStatements, is_procedure, is_variable, IsStarted, IsLabelled, IsWritableAlgorithm};
 ghost use Rattle.translation.specs.Region.{written_region, written_module};
 
 /// The written module of an algorithm and of the same one with other places are the same.
@@ -57,4 +77,37 @@ pub fn the_actions_of_labels_are_those_of_steps()
 pub fn the_form_is_translated_as_any_algorithm()
     ensures { (x : List ℕ) (f : Parts) → IsForm x f → (m : Module) → Reads (translation_of x f) m → (a : Algorithm) → Stands x a
         → Around x (written_module false f.title m.outside (labelled false a)) (translation_of x f) }
+{}
+
+/// What is written of an algorithm that can be written is a translation that can be written and read back: all its names are
+/// names and no reserved words, its expressions can be written, no list is empty, and Terminating stands where Next has it.
+/// So a file that is not refused is one module with it, around that file, with what the file has outside.
+pub fn written_modules_are_regions()
+    ensures regions { (no_terminating : Bool) (o : Outside) (g : Algorithm) → IsWritableAlgorithm o g → IsRegion (written_region no_terminating o g) }
+    ensures files { (no_terminating : Bool) (x w : Text) (o : Outside) (g : Algorithm) → IsWritableAlgorithm o g → IsFine x → HasOutside (walk x) o
+        → WithTranslation x (layout (written_region no_terminating o g)) w → IsWritten x w o (written_region no_terminating o g) }
+{}
+
+/// What rules say of an algorithm gives some of what is asked for its translation to be written: where no name is declared twice,
+/// each name of a routine is there once; where none is reserved, no definition has a name of the translation; and where no label is
+/// missing, each body that isn't empty has one.
+pub fn rules_help_to_write()
+    ensures once { (a : Algorithm) (o : Outside) → repeated_names a o ≡ [] → (u : Routine) → OneOf u (routines a) → AllUnlike (declared (locals u)) }
+    ensures free { (a : Algorithm) (o : Outside) → reserved_declared a o ≡ [] → EachOf (λ (d : Definition). IsTrue (not (is_own d.name.word))) a.definitions }
+    ensures labelled { (a : Algorithm) → label_offences a ≡ [] → (u : Routine) → OneOf u (routines a) → IsStarted u.body → IsLabelled (label_words u.body) }
+{}
+
+/// Of an algorithm that is spelled by tokens of a text, in one syntax or the other, all names are identifiers and all expressions can be
+/// written, each left side begins with a name, no body is empty, and there is one body or a process. This stays so with labels added.
+pub fn spelled_algorithms_are_typed()
+    ensures typed { (s : Syntax) (x : AlgorithmAsSpelled) → Good s x → AreOfText (tokens_after_head x []) → IsTypedAlgorithm (algorithm_of x) }
+    ensures labelled { (forced : Bool) (a : Algorithm) → IsTypedAlgorithm a → IsTypedAlgorithm (labelled forced a) }
+{}
+
+/// An algorithm that has what its text gives, and breaks no rule on names declared twice, on reserved names and on labels, can be written
+/// where the statements of each body can with macro calls written out.
+pub fn accepted_algorithms_can_be_written()
+    ensures { (o : Outside) (a : Algorithm) → IsTypedAlgorithm a → FewNames a o → repeated_names a o ≡ [] → reserved_declared a o ≡ [] → label_offences a ≡ []
+        → ((u : Routine) → OneOf u (routines a) → AreWritableStatements (is_procedure a) (is_variable a u) (expanded (reverse a.macros) u.body))
+        → IsWritableAlgorithm o a }
 {}

@@ -1,5 +1,5 @@
 -- Whether names that an expression looks up, as those of definitions, are bound in the statements of an algorithm ("A PlusCal User's Manual", section 3.2, with; "Specifying
--- Systems", sections 16.1.1 and 16.1.11).
+-- Systems", sections 16.1.1 and 16.1.5).
 use Rattle.std.specs.Prelude.{List, [], ◌∷◌, ◌++◌, Bool, ◌||◌, reverse, codes, map}
 use Rattle.std.specs.List.{list_any}
 use Rattle.tla_token.specs.Signs.{is_among}

@@ -1,10 +1,14 @@
 -- A text that comes in pieces: which of its parts are decided by what has come, whatever comes next, and which bytes are kept until more comes.
-use Rattle.std.specs.Prelude.{ℕ, ◌<◌, Bool, true, false, ◌&&◌, ◌||◌, not, nat_eq, nat_lt, nat_le, ◌≡◌, ◌⊎◌, IsTrue, List, [], ◌∷◌, ◌++◌, length, fold, if◌then◌else◌}
+use Rattle.std.specs.Prelude.{ℕ, ◌<◌, Bool, true, false, ◌&&◌, ◌||◌, not, nat_eq, nat_lt, nat_le, ◌≡◌, ◌⊎◌, IsTrue, List, [], ◌∷◌, ◌++◌, length, drop, map, ◌≤◌, fold, if◌then◌else◌}
 use Rattle.std.specs.List.{list_all, list_any}
+use Rattle.tla_token.specs.declared.part.Class.{Class}
+use Rattle.tla_token.specs.declared.part.Class.TheVariants as class
+use Rattle.tla_token.specs.declared.part.Part as code
 use Rattle.tla_token.specs.Lexemes.{string, is_word}
 use Rattle.tla_token.specs.Tokens.{blank, block, line, lexeme}
 use Rattle.tla_token.specs.Offences.{Part, sound, stray, bad_string, open_string, open_block, parts_text}
 use Rattle.tla_token.specs.Cut.{parts}
+use Rattle.tla_token.specs.Scan.{outline}
 
 -- whatever comes next, no lexeme in front goes past these bytes: a word, alone or behind a backslash, has ended; of other signs three bytes are here
 abbrev pub is_settled : List ℕ → Bool
@@ -22,6 +26,21 @@ stays (stray b) rest = true
 stays (bad_string raw) rest = true
 stays (open_string raw) rest = nat_lt 0 (length rest)
 stays (open_block body) rest = false
+
+-- whether the part that is in front of a text stays, by its class and length
+abbrev pub stays_by : Class → ℕ → List ℕ → Bool
+stays_by class.Blank n text = true
+stays_by class.Block n text = true
+stays_by class.Line n text = nat_lt n (length text)
+stays_by class.Name n text = is_settled text
+stays_by class.Number n text = is_settled text
+stays_by class.Text n text = true
+stays_by (class.Sign s) n text = is_settled text
+stays_by class.Other n text = is_settled text
+stays_by class.Stray n text = true
+stays_by class.BadText n text = true
+stays_by class.OpenText n text = nat_lt n (length text)
+stays_by class.OpenBlock n text = false
 
 -- the parts in front that stay
 abbrev pub decided : List Part → List Part
@@ -70,3 +89,7 @@ is_open_word (b ∷ bs) = (is_word b || nat_eq b 92) && list_all is_word bs
 -- fewer than three bytes, or a word, comment or string that goes on to the end
 abbrev pub IsKept : List ℕ → Type 0
 IsKept bytes = (length bytes < 3) ⊎ IsTrue (is_open_word bytes) ⊎ ((x : Part) × (parts bytes ≡ x ∷ []) × IsTrue (is_open x))
+
+-- so many bytes of a text are decided: their parts stand behind those that were there before, whatever comes
+abbrev pub AreDecided : List ℕ → List code.Part → List code.Part → ℕ → Type 0
+AreDecided text before so_far n = (n ≤ length text) × ((more : List ℕ) → before ++ map outline (parts (text ++ more)) ≡ so_far ++ map outline (parts (drop n text ++ more)))

@@ -1,0 +1,48 @@
+//! Reading what comes in braces behind its first expression.
+
+ghost use Rattle.std.specs.Prelude.{◌≡◌, ◌<◌, ◌≤◌, suc, length, IfOk, Some};
+ghost use Rattle.tla_token.specs.Limits.{deepest_expression};
+ghost use Rattle.tla_token.specs.TokensSeen.{span_bytes};
+ghost use Rattle.tla_tree.specs.Pool.{Keeps};
+ghost use Rattle.tla_tree.specs.Spelling.{Phrase};
+ghost use Rattle.tla_tree.specs.Whole.{whole};
+ghost use Rattle.tla_expr.specs.Ahead.{ahead};
+ghost use Rattle.tla_expr.specs.ReadIn.{IsIn, Told};
+ghost use Rattle.tla_expr.specs.HasRead.{CanRead, ReadsBelow, Stands, filtered};
+
+use crate::cursor::{Halt, Word};
+use crate::gather::filter;
+use crate::make::Read;
+use crate::shape::Context;
+use crate::spot::{Spot, past_mark};
+use crate::view::Mark;
+use std::alloc::Global;
+use tla_pool::Pool;
+use tla_token::{Place, Tokens};
+
+/// `p}` behind `{x \in S :`, the `{` being at a place.
+pub fn filter_in<F: Fn(&mut Pool, Context, Spot) -> Result<(Read, usize), Halt>>(
+    alloc: Global,
+    tokens: &Tokens,
+    inner: &F,
+    pool: &mut Pool,
+    s: Spot,
+    place: Place,
+    word: Word,
+    a: Read,
+) -> Result<(Read, usize), Halt>
+    requires there { s.at ≤ length tokens.now.items.items }
+    requires limited { s.left ≤ deepest_expression }
+    requires can { CanRead tokens.now (suc s.left) (F.pre inner.now) }
+    requires reads { ReadsBelow tokens.now (suc s.left) (F.post inner.now) }
+    requires a_in { a.id < length pool.old }
+    requires a_small { a.shape.nesting ≤ s.left }
+    ensures read { (i : Phrase) (q t : Place) → IsIn pool.old a i → Told (λ x j. IsIn pool.new x.0 j) (λ x. ahead tokens.now x.1) result (filtered (whole (Some s.left)) s.edge place word.place (span_bytes tokens.now.bytes.items word.span) q i t (ahead tokens.now s.at)) }
+    ensures kept { Keeps pool.old pool.new }
+    ensures stands { IfOk result (λ x. Stands tokens.now pool.new s.at (suc s.left) x) }
+{
+    let (b, at) = inner(pool, Context::Free, s)?;
+    let (_, at) = past_mark(tokens, Spot { at, ..s }, Mark::CloseBrace)?;
+    let whole = filter(alloc, pool, tokens, place, word, a, b)?;
+    Ok((whole, at))
+}

@@ -1,0 +1,68 @@
+//! Reading what a name begins.
+
+ghost use Rattle.std.specs.Prelude.{◌≡◌, ◌≤◌, length, Some};
+ghost use Rattle.tla_token.specs.Limits.{deepest_expression};
+ghost use Rattle.tla_token.specs.TokensSeen.{span_bytes};
+ghost use Rattle.tla_tree.specs.Reader as reader;
+ghost use Rattle.tla_tree.specs.Whole.{whole};
+ghost use Rattle.tla_expr.specs.Ahead.{ahead};
+ghost use Rattle.tla_expr.specs.HasRead.{HasRead, CanRead, ReadsBelow};
+
+use crate::cursor::{Halt, Word};
+use crate::make::{Read, name, primed};
+use crate::read_link::postfix;
+use crate::read_plain::call_in;
+use crate::shape::Context;
+use crate::spot::{Spot, after_mark, deeper, next_at};
+use crate::view::Mark;
+use std::alloc::Global;
+use tla_pool::Pool;
+use tla_token::Tokens;
+
+/// A call, a primed name or a name, behind the name.
+pub fn named<F: Fn(&mut Pool, Context, Spot) -> Result<(Read, usize), Halt>>(
+    alloc: Global,
+    tokens: &Tokens,
+    inner: &F,
+    pool: &mut Pool,
+    s: Spot,
+    word: Word,
+) -> Result<(Read, usize), Halt>
+    requires there { s.at ≤ length tokens.now.items.items }
+    requires limited { s.left ≤ deepest_expression }
+    requires can { CanRead tokens.now s.left (F.pre inner.now) }
+    requires reads { ReadsBelow tokens.now s.left (F.post inner.now) }
+    ensures { HasRead tokens.now pool.old pool.new s.at s.left result (reader.peek s.edge (reader.named (reader.room whole (Some s.left)) s.edge word.place (span_bytes tokens.now.bytes.items word.span)) (ahead tokens.now s.at)) }
+{
+    let t = next_at(tokens, s);
+    if let Some(from) = after_mark(tokens, s, Mark::OpenBracket) {
+        let d = deeper(tokens, s, 0)?;
+        let d = Spot { at: from, ..d };
+        return call_in(alloc, tokens, inner, pool, d, word, t.place);
+    }
+    if let Some(at) = after_mark(tokens, s, Mark::Prime) {
+        let whole = primed(alloc, pool, tokens, word)?;
+        return Ok((whole, at));
+    }
+    let whole = name(alloc, pool, tokens, word)?;
+    Ok((whole, s.at))
+}
+
+/// A primary that begins with a name, behind the name, with the applications and fields after it.
+pub fn from_name<F: Fn(&mut Pool, Context, Spot) -> Result<(Read, usize), Halt>>(
+    alloc: Global,
+    tokens: &Tokens,
+    inner: &F,
+    pool: &mut Pool,
+    s: Spot,
+    word: Word,
+) -> Result<(Read, usize), Halt>
+    requires there { s.at ≤ length tokens.now.items.items }
+    requires limited { s.left ≤ deepest_expression }
+    requires can { CanRead tokens.now s.left (F.pre inner.now) }
+    requires reads { ReadsBelow tokens.now s.left (F.post inner.now) }
+    ensures { HasRead tokens.now pool.old pool.new s.at s.left result (reader.from_name (reader.room whole (Some s.left)) (whole (Some s.left)) s.edge word.place (span_bytes tokens.now.bytes.items word.span) (ahead tokens.now s.at)) }
+{
+    let (a, at) = named(alloc, tokens, inner, pool, s, word)?;
+    postfix(alloc, tokens, inner, pool, Spot { at, ..s }, a)
+}

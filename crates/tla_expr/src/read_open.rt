@@ -1,0 +1,98 @@
+//! Reading `IF` and prefix operators from their first token on, over a reader of the expressions in them.
+
+ghost use Rattle.std.specs.Prelude.{◌≡◌, ◌≤◌, suc, true, length, Some};
+ghost use Rattle.tla_token.specs.Limits.{deepest_expression};
+ghost use Rattle.tla_tree.specs.Lexical as tk;
+ghost use Rattle.tla_tree.specs.Rank.{is_prefix};
+ghost use Rattle.tla_tree.specs.Reader as reader;
+ghost use Rattle.tla_tree.specs.Whole.{whole};
+ghost use Rattle.tla_expr.specs.ShapeOf.{context_seen};
+ghost use Rattle.tla_expr.specs.Ahead.{ahead};
+ghost use Rattle.tla_expr.specs.HasRead.{HasRead, CanRead, ReadsBelow};
+
+use crate::cursor::Halt;
+use crate::make::{Read, choice};
+use crate::read_plain::operand_in;
+use crate::shape::Context;
+use crate::spot::{Spot, after, deeper, past_key};
+use crate::view::Key;
+use std::alloc::Global;
+use tla_pool::Pool;
+use tla_token::{Place, Tokens};
+use tla_tree::Op;
+
+/// `IF a THEN b ELSE c`, behind the `IF` at a place.
+pub fn choice_from<F: Fn(&mut Pool, Context, Spot) -> Result<(Read, usize), Halt>>(
+    alloc: Global,
+    tokens: &Tokens,
+    inner: &F,
+    pool: &mut Pool,
+    s: Spot,
+    place: Place,
+) -> Result<(Read, usize), Halt>
+    requires there { s.at ≤ length tokens.now.items.items }
+    requires limited { s.left ≤ deepest_expression }
+    requires can { CanRead tokens.now (suc s.left) (F.pre inner.now) }
+    requires reads { ReadsBelow tokens.now (suc s.left) (F.post inner.now) }
+    ensures { HasRead tokens.now pool.old pool.new s.at (suc s.left) result (reader.choice_from (whole (Some s.left)) s.edge place (ahead tokens.now s.at)) }
+{
+    let (a, at) = inner(pool, Context::Free, s)?;
+    let (_, at) = past_key(tokens, Spot { at, ..s }, Key::Then)?;
+    let (b, at) = inner(pool, Context::Free, Spot { at, ..s })?;
+    let (_, at) = past_key(tokens, Spot { at, ..s }, Key::Else)?;
+    let (c, at) = inner(pool, Context::Free, Spot { at, ..s })?;
+    let whole = choice(alloc, pool, place, a, b, c)?;
+    Ok((whole, at))
+}
+
+/// `IF a THEN b ELSE c`, the next token being the `IF`, at a place.
+pub fn if_then_else<F: Fn(&mut Pool, Context, Spot) -> Result<(Read, usize), Halt>>(
+    alloc: Global,
+    tokens: &Tokens,
+    inner: &F,
+    pool: &mut Pool,
+    s: Spot,
+    place: Place,
+) -> Result<(Read, usize), Halt>
+    requires there { s.at ≤ length tokens.now.items.items }
+    requires limited { s.left ≤ deepest_expression }
+    requires can { CanRead tokens.now s.left (F.pre inner.now) }
+    requires reads { ReadsBelow tokens.now s.left (F.post inner.now) }
+    ensures { HasRead tokens.now pool.old pool.new s.at s.left result (reader.keyed (reader.room whole (Some s.left)) s.edge place tk.if_key (ahead tokens.now s.at)) }
+{
+    let d = deeper(tokens, s, 0)?;
+    let from = after(tokens, s);
+    choice_from(alloc, tokens, inner, pool, Spot { at: from, ..d }, place)
+}
+
+/// A prefix operator whose operand may be more than a short form, its sign being the next token, at a place.
+pub fn prefixed<F: Fn(&mut Pool, Context, Spot) -> Result<(Read, usize), Halt>>(
+    alloc: Global,
+    tokens: &Tokens,
+    inner: &F,
+    pool: &mut Pool,
+    s: Spot,
+    context: Context,
+    place: Place,
+    op: Op,
+) -> Result<(Read, usize), Halt>
+    requires there { s.at ≤ length tokens.now.items.items }
+    requires before { is_prefix op ≡ true }
+    requires free { reader.is_free (context_seen context) op ≡ true }
+    requires limited { s.left ≤ deepest_expression }
+    requires can { CanRead tokens.now s.left (F.pre inner.now) }
+    requires reads { ReadsBelow tokens.now s.left (F.post inner.now) }
+    ensures { HasRead tokens.now pool.old pool.new s.at s.left result (reader.signed (reader.room whole (Some s.left)) (whole (Some s.left)) s.edge (context_seen context) place op (Some op) (ahead tokens.now s.at)) }
+{
+    let d = deeper(tokens, s, 0)?;
+    let from = after(tokens, s);
+    operand_in(
+        alloc,
+        tokens,
+        inner,
+        pool,
+        Spot { at: from, ..d },
+        place,
+        op,
+    )
+}

@@ -1,0 +1,104 @@
+//! Reading primaries in brackets, calls, and prefix operators, behind their first tokens.
+
+ghost use Rattle.std.specs.Prelude.{◌≡◌, ◌<◌, ◌≤◌, ◌+◌, ℕ, suc, true, length, IfOk, Some};
+ghost use Rattle.tla_token.specs.Limits.{deepest_expression};
+ghost use Rattle.tla_token.specs.TokensSeen.{span_bytes};
+ghost use Rattle.tla_tree.specs.Rank.{is_prefix as is_prefix_of};
+ghost use Rattle.tla_tree.specs.Whole.{whole};
+ghost use Rattle.tla_expr.specs.Ahead.{ahead};
+ghost use Rattle.tla_expr.specs.HasRead.{HasRead, CanRead, ReadsBelow, bracketed, called, tupled, under_prefix};
+
+use crate::cursor::{Halt, Word};
+use crate::make::{Read, brackets, call, prefix, tuple};
+use crate::read_row::phrases;
+use crate::shape::Context;
+use crate::spot::{Spot, past_mark};
+use crate::view::Mark;
+use std::alloc::Global;
+use tla_pool::Pool;
+use tla_token::{Place, Tokens};
+use tla_tree::Op;
+
+/// `a)` behind a `(` at a place.
+pub fn bracket_in<F: Fn(&mut Pool, Context, Spot) -> Result<(Read, usize), Halt>>(
+    tokens: &Tokens,
+    inner: &F,
+    pool: &mut Pool,
+    s: Spot,
+    place: Place,
+) -> Result<(Read, usize), Halt>
+    requires there { s.at ≤ length tokens.now.items.items }
+    requires limited { s.left ≤ deepest_expression }
+    requires can { CanRead tokens.now (suc s.left) (F.pre inner.now) }
+    requires reads { ReadsBelow tokens.now (suc s.left) (F.post inner.now) }
+    ensures { HasRead tokens.now pool.old pool.new s.at (suc s.left) result (bracketed (whole (Some s.left)) s.edge place (ahead tokens.now s.at)) }
+{
+    let (a, at) = inner(pool, Context::Free, s)?;
+    let (_, at) = past_mark(tokens, Spot { at, ..s }, Mark::CloseBracket)?;
+    Ok((brackets(place, a), at))
+}
+
+/// `a, b)` behind a name and `(`.
+pub fn call_in<F: Fn(&mut Pool, Context, Spot) -> Result<(Read, usize), Halt>>(
+    alloc: Global,
+    tokens: &Tokens,
+    inner: &F,
+    pool: &mut Pool,
+    s: Spot,
+    word: Word,
+    place: Place,
+) -> Result<(Read, usize), Halt>
+    requires there { s.at ≤ length tokens.now.items.items }
+    requires limited { s.left ≤ deepest_expression }
+    requires can { CanRead tokens.now (suc s.left) (F.pre inner.now) }
+    requires reads { ReadsBelow tokens.now (suc s.left) (F.post inner.now) }
+    ensures { HasRead tokens.now pool.old pool.new s.at (suc s.left) result (called (whole (Some s.left)) s.edge word.place (span_bytes tokens.now.bytes.items word.span) place (ahead tokens.now s.at)) }
+{
+    let (many, at) = phrases(alloc, tokens, inner, pool, s)?;
+    let (_, at) = past_mark(tokens, Spot { at, ..s }, Mark::CloseBracket)?;
+    let whole = call(alloc, pool, tokens, word, many.ids, many.row)?;
+    Ok((whole, at))
+}
+
+/// `a, b>>` behind a `<<` at a place.
+pub fn tuple_in<F: Fn(&mut Pool, Context, Spot) -> Result<(Read, usize), Halt>>(
+    alloc: Global,
+    tokens: &Tokens,
+    inner: &F,
+    pool: &mut Pool,
+    s: Spot,
+    place: Place,
+) -> Result<(Read, usize), Halt>
+    requires there { s.at ≤ length tokens.now.items.items }
+    requires limited { s.left ≤ deepest_expression }
+    requires can { CanRead tokens.now (suc s.left) (F.pre inner.now) }
+    requires reads { ReadsBelow tokens.now (suc s.left) (F.post inner.now) }
+    ensures { HasRead tokens.now pool.old pool.new s.at (suc s.left) result (tupled (whole (Some s.left)) s.edge place (ahead tokens.now s.at)) }
+{
+    let (many, at) = phrases(alloc, tokens, inner, pool, s)?;
+    let (_, at) = past_mark(tokens, Spot { at, ..s }, Mark::CloseTuple)?;
+    let whole = tuple(pool, place, many.ids, many.row)?;
+    Ok((whole, at))
+}
+
+/// The operand of a prefix operator at a place, which may be more than a short form.
+pub fn operand_in<F: Fn(&mut Pool, Context, Spot) -> Result<(Read, usize), Halt>>(
+    alloc: Global,
+    tokens: &Tokens,
+    inner: &F,
+    pool: &mut Pool,
+    s: Spot,
+    place: Place,
+    op: Op,
+) -> Result<(Read, usize), Halt>
+    requires there { s.at ≤ length tokens.now.items.items }
+    requires before { is_prefix_of op ≡ true }
+    requires limited { s.left ≤ deepest_expression }
+    requires can { CanRead tokens.now (suc s.left) (F.pre inner.now) }
+    requires reads { ReadsBelow tokens.now (suc s.left) (F.post inner.now) }
+    ensures { HasRead tokens.now pool.old pool.new s.at (suc s.left) result (under_prefix (whole (Some s.left)) s.edge place op (ahead tokens.now s.at)) }
+{
+    let (a, at) = inner(pool, Context::Under(op), s)?;
+    let whole = prefix(alloc, pool, place, op, a)?;
+    Ok((whole, at))
+}

@@ -1,0 +1,45 @@
+//! Reading what comes in square brackets behind its first expression.
+
+ghost use Rattle.std.specs.Prelude.{◌≡◌, ◌<◌, ◌≤◌, suc, length, IfOk, Some};
+ghost use Rattle.tla_token.specs.Limits.{deepest_expression};
+ghost use Rattle.tla_tree.specs.Pool.{Keeps};
+ghost use Rattle.tla_tree.specs.Spelling.{Phrase};
+ghost use Rattle.tla_tree.specs.Whole.{whole};
+ghost use Rattle.tla_expr.specs.Ahead.{ahead};
+ghost use Rattle.tla_expr.specs.ReadIn.{IsIn, Told};
+ghost use Rattle.tla_expr.specs.HasRead.{CanRead, ReadsBelow, Stands, mapped_to};
+
+use crate::cursor::Halt;
+use crate::make::{Read, functions};
+use crate::shape::Context;
+use crate::spot::{Spot, past_mark};
+use crate::view::Mark;
+use std::alloc::Global;
+use tla_pool::Pool;
+use tla_token::{Place, Tokens};
+
+/// `T]` behind `[S ->`, the `[` being at a place.
+pub fn functions_in<F: Fn(&mut Pool, Context, Spot) -> Result<(Read, usize), Halt>>(
+    alloc: Global,
+    tokens: &Tokens,
+    inner: &F,
+    pool: &mut Pool,
+    s: Spot,
+    place: Place,
+    a: Read,
+) -> Result<(Read, usize), Halt>
+    requires there { s.at ≤ length tokens.now.items.items }
+    requires limited { s.left ≤ deepest_expression }
+    requires can { CanRead tokens.now (suc s.left) (F.pre inner.now) }
+    requires reads { ReadsBelow tokens.now (suc s.left) (F.post inner.now) }
+    requires a_in { a.id < length pool.old }
+    requires a_small { a.shape.nesting ≤ s.left }
+    ensures read { (i : Phrase) (q : Place) → IsIn pool.old a i → Told (λ x j. IsIn pool.new x.0 j) (λ x. ahead tokens.now x.1) result (mapped_to (whole (Some s.left)) s.edge place i q (ahead tokens.now s.at)) }
+    ensures kept { Keeps pool.old pool.new }
+    ensures stands { IfOk result (λ x. Stands tokens.now pool.new s.at (suc s.left) x) }
+{
+    let (b, at) = inner(pool, Context::Free, s)?;
+    let (_, at) = past_mark(tokens, Spot { at, ..s }, Mark::CloseSquare)?;
+    let whole = functions(alloc, pool, place, a, b)?;
+    Ok((whole, at))
+}

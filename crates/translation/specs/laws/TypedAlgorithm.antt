@@ -1,0 +1,80 @@
+-- What an algorithm has of the text that spells it: names are identifiers, expressions can be written, left sides begin with a name, and bodies have a
+-- statement ("A PlusCal User's Manual", section 3 and its grammars).
+use Rattle.std.specs.Prelude.{[], ◌∷◌, is_some}
+use Rattle.std.specs.Bool.{IsTrue}
+use Rattle.tla_tree.specs.Tree.{words}
+use Rattle.tla_tree.specs.laws.Writable.{IsIdentifier, IsWritable, AreWritable}
+use Rattle.module_tree.specs.laws.WritableRegion.{EachOf}
+use Rattle.pcal_tree.specs.Algorithm.{Assignments, no_assignments, assignment, Statement, assign, await, print, assert, skip, branch, either, with, while, goto, macro, call, return, Statements, done, then, mark, Branches, no_branches, or, Definition, Macro, Procedure, Process, Main, alone, processes, Algorithm}
+use Rattle.pcal_tree.specs.Grammar.{Text, around, define, each, macro as macro_tokens, procedure, main}
+use Rattle.pcal_tree.specs.GrammarParts.{Tokens, name, section_tokens}
+use Rattle.pcal_tree.specs.Paths.{root}
+use Rattle.translation.specs.laws.WritableAlgorithm.{AreWritableBinds, IsWritableDeclaration, IsStarted}
+
+-- a left side begins with a name
+abbrev pub AreTypedAssignments : Assignments → Type 0
+AreTypedAssignments no_assignments = Unit {0}
+AreTypedAssignments (assignment l e ms) = IsWritable l × IsTrue (is_some (root l)) × IsWritable e × AreTypedAssignments ms
+
+abbrev mutual
+  pub IsTypedStatement : Statement → Type 0
+  IsTypedStatement (assign ms) = AreTypedAssignments ms
+  IsTypedStatement (await e) = IsWritable e
+  IsTypedStatement (print e) = IsWritable e
+  IsTypedStatement (assert e) = IsWritable e
+  IsTypedStatement skip = Unit {0}
+  IsTypedStatement (branch e a b) = IsWritable e × AreTypedStatements a × AreTypedStatements b
+  IsTypedStatement (either no_branches) = ⊥
+  IsTypedStatement (either (or b bs)) = AreTypedStatements b × AreTypedBranches bs
+  IsTypedStatement (with bs b) = AreWritableBinds bs × AreTypedStatements b
+  IsTypedStatement (while e b) = IsWritable e × AreTypedStatements b
+  IsTypedStatement (goto l) = IsIdentifier l
+  IsTypedStatement (macro m ts) = IsIdentifier m × AreWritable ts
+  IsTypedStatement (call p ts) = IsIdentifier p.word × AreWritable ts
+  IsTypedStatement return = Unit {0}
+
+  pub AreTypedStatements : Statements → Type 0
+  AreTypedStatements done = Unit {0}
+  AreTypedStatements (then at st rest) = IsTypedStatement st × AreTypedStatements rest
+  AreTypedStatements (mark l k rest) = IsIdentifier l.word × AreTypedStatements rest
+
+  pub AreTypedBranches : Branches → Type 0
+  AreTypedBranches no_branches = Unit {0}
+  AreTypedBranches (or b bs) = AreTypedStatements b × AreTypedBranches bs
+
+-- ---- algorithms
+
+abbrev pub IsTypedBody : Statements → Type 0
+IsTypedBody b = IsStarted b × AreTypedStatements b
+
+abbrev pub IsTypedDefinition : Definition → Type 0
+IsTypedDefinition d = IsIdentifier d.name.word × EachOf IsIdentifier (words d.params) × IsWritable d.body
+
+abbrev pub IsTypedMacro : Macro → Type 0
+IsTypedMacro m = IsIdentifier m.name.word × EachOf IsIdentifier (words m.params) × IsTypedBody m.body
+
+abbrev pub IsTypedProcedure : Procedure → Type 0
+IsTypedProcedure p = IsIdentifier p.name.word × EachOf IsWritableDeclaration p.params × EachOf IsWritableDeclaration p.variables × IsTypedBody p.body
+
+abbrev pub IsTypedProcess : Process → Type 0
+IsTypedProcess p = IsIdentifier p.name.word × IsWritable p.identity × EachOf IsWritableDeclaration p.variables × IsTypedBody p.body
+
+abbrev pub IsTypedMain : Main → Type 0
+IsTypedMain (alone b) = IsTypedBody b
+IsTypedMain (processes []) = ⊥
+IsTypedMain (processes (p ∷ ps)) = EachOf IsTypedProcess (p ∷ ps)
+
+pub record IsTypedAlgorithm (a : Algorithm) : Type 0 where
+  pub name : IsIdentifier a.name.word
+  pub globals : EachOf IsWritableDeclaration a.globals
+  pub definitions : EachOf IsTypedDefinition a.definitions
+  pub macros : EachOf IsTypedMacro a.macros
+  pub procedures : EachOf IsTypedProcedure a.procedures
+  pub main : IsTypedMain a.main
+
+-- ---- its tokens
+
+-- those after `--algorithm`, or `--fair algorithm`, which are no words of expressions
+abbrev pub tokens_after_head : Text → Tokens
+tokens_after_head x ts =
+    name x.name (around x.around (λ us. section_tokens x.variables (define x.define (each macro_tokens x.macros (each procedure x.procedures (main x.main us))))) ts)
