@@ -26,10 +26,11 @@ pub data Arms : Type 0 where
   first_arm : Labels → Place → Arms  -- either
   later_arm : Arms → Labelled → Option Place → Place → Arms  -- .. or
 
--- what stands before the one statement of an `if`, and of a `with` or a `while`
+-- what stands before the statement of an `if`
 pub data Test : Type 0 where
   if_test : Place → Place → Phrase → Place → Test  -- if (e)
 
+-- and of a `with` or a `while`, which end where it does
 pub data Opening : Type 0 where
   with_opening : Place → Place → Binds → Place → Opening  -- with (x \in e)
   while_opening : Place → Place → Phrase → Place → Opening  -- while (e)
