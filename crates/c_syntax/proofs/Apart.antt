@@ -1,10 +1,10 @@
 -- Reading opens an `either` only where no `or` must come right after it.
-use Rattle.std.proofs.Common.{◌≡◌, ℕ, Bool, true, false, List, Option, Some, None, Ok, refl}
+use Rattle.std.proofs.Common.{◌≡◌, ℕ, ◌+◌, Bool, true, false, List, Option, Some, None, Ok, refl}
 use Rattle.tla_token.specs.declared.place.Place.{Place}
 use Rattle.tla_tree.specs.Tree.{Word, Name}
 use Rattle.tla_tree.specs.Lexical.{TokenView, Token}
 use Rattle.tla_tree.specs.Lexical as tk
-use Rattle.tla_tree.specs.Reader.{Reader, ◌>>=◌, gives, refuses, skip, tail}
+use Rattle.tla_tree.specs.Reader.{Reader, ◌>>=◌, gives, refuses, skip, if_fits, tail}
 use Rattle.tla_tree.proofs.SoundTokens.{then_ok}
 use Rattle.tla_tree.proofs.SoundTokens as edge
 use Rattle.pcal_tree.specs.GrammarParts.{Labels, no_labels, Simple}
@@ -13,7 +13,7 @@ use Rattle.algorithm_parts.specs.TokenReaders.{first, by_next, a_mark, pick, Par
 use Rattle.algorithm_parts.specs.ReadParts.{read_colon, read_binds}
 use Rattle.algorithm_parts.specs.ReadSimple.{named_by, simple_words}
 use Rattle.algorithm_parts.proofs.Sound.{All, pick_is}
-use Rattle.c_syntax.specs.ReadStatements.{after, if_test, with_opening, while_opening, first_arm, later_arm, Stack, bottom, in_block, in_then, in_else, in_body, in_either, State, begin, ended, Turn, on, done, joined, tested, opened, before_or, opens, either_if, ends_simple, after_name, bracketed, statement_words, statement_by}
+use Rattle.c_syntax.specs.ReadStatements.{within, depth, after, if_test, with_opening, while_opening, first_arm, later_arm, Stack, bottom, in_block, in_then, in_else, in_body, in_either, State, begin, ended, Turn, on, done, joined, tested, opened, before_or, opens, either_if, ends_simple, after_name, bracketed, statement_words, statement_by}
 use Rattle.c_syntax.specs.ReadStatements.{Ask, ask_else, ask_or, ask_other, closed, takes_else, takes_or, closing_words, is_divided, another_if, list_by, ended_by, step, AreApart, open_stack}
 
 abbrev Kept : Turn → Type 0
@@ -35,6 +35,10 @@ keeps_bind {A} r {f} h = record { is = λ ts u us e. (let v = then_ok {o = r ts}
 keeps_skip : {r : Reader Turn} → Keeps r → Keeps (skip r)
 keeps_skip h = record { is = λ ts u us e. h.is (tail ts) u us e }
 
+keeps_fits : {r : Reader Turn} (b : Bool) → Keeps r → Keeps (if_fits b r)
+keeps_fits true h = h
+keeps_fits false h = record { is = λ ts u us e. absurd cc }
+
 keeps_next : {f : Place → TokenView → Reader Turn} → ((p : Place) (k : TokenView) → Keeps (f p k)) → Keeps (by_next f)
 keeps_next h = record { is = λ ts u us e. (h (first ts).place (first ts).kind).is ts u us e }
 
@@ -48,31 +52,34 @@ keeps_pick w rs d h i = pick_is (λ v r. Keeps r) w rs d h i
 keeps_simple : (ls : Labels) (st : Stack) → AreApart st → (r : Reader Simple) → Keeps (ends_simple ls st r)
 keeps_simple ls st i r = keeps_bind r (λ s. keeps_gives _ i)
 
-keeps_brackets : {A : Type 0} (r : Reader A) (f : Place → A → Place → Turn) → ((q : Place) (a : A) (s : Place) → Kept (f q a s)) → Keeps (skip (bracketed r f))
-keeps_brackets r f h = keeps_skip (keeps_bind (a_mark tk.open_bracket) (λ q. keeps_bind r (λ a. keeps_bind (a_mark tk.close_bracket) (λ s. keeps_gives (f q a s) (h q a s)))))
-
-keeps_either : (ls : Labels) (p : Place) (st : Stack) → AreApart st → (b : Bool) → before_or st ≡ b → Keeps (either_if b ls p st)
-keeps_either ls p st i true e = keeps_refuses
-keeps_either ls p st i false e = keeps_skip (keeps_gives (opens (in_either (first_arm ls p) st)) (e, i))
+keeps_brackets : {A : Type 0} (r : Reader A) (f : Place → A → Place → Turn) → ((q : Place) (a : A) (s : Place) → Kept (f q a s)) → Keeps (bracketed r f)
+keeps_brackets r f h = keeps_bind (a_mark tk.open_bracket) (λ q. keeps_bind r (λ a. keeps_bind (a_mark tk.close_bracket) (λ s. keeps_gives (f q a s) (h q a s))))
 
 module _ (m : Parts) (n : ℕ) where
+  keeps_within : {r : Reader Turn} (d : ℕ) → Keeps r → Keeps (within m d r)
+  keeps_within d h = keeps_fits (m.room (d + 1)) (keeps_skip h)
+
+  keeps_either : (ls : Labels) (p : Place) (st : Stack) → AreApart st → (b : Bool) → before_or st ≡ b → Keeps (either_if b m ls p st)
+  keeps_either ls p st i true e = keeps_refuses
+  keeps_either ls p st i false e = keeps_within (depth st) (keeps_gives (opens (in_either (first_arm ls p) st)) (e, i))
+
   keeps_named : (ls : Labels) (st : Stack) → AreApart st → (x : Name) (p : Place) (k : TokenView) → Keeps (after_name m n ls st x p k)
   keeps_named ls st i x p (tk.mark tk.colon) = keeps_bind read_colon (λ c. keeps_gives _ i)
   keeps_named ls st i x p k = keeps_bind (named_by m n x p k) (λ s. keeps_gives _ i)
 
   keeps_words : (ls : Labels) (st : Stack) → AreApart st → (p : Place) → AllKeep (statement_words m n ls st p)
   keeps_words ls st i p = (
-    keeps_brackets m.expr (λ q e r. opens (in_then ls (if_test p q e r) st)) (λ q a s. i),
+    keeps_within (depth st) (keeps_brackets m.expr (λ q e r. opens (in_then ls (if_test p q e r) st)) (λ q a s. i)),
     (
       keeps_either ls p st i (before_or st) refl,
-      (keeps_brackets (read_binds m n) (λ q bs r. opens (in_body ls (with_opening p q bs r) st)) (λ q a s. i), (keeps_brackets m.expr (λ q e r. opens (in_body ls (while_opening p q e r) st)) (λ q a s. i), tt)),
+      (keeps_skip (keeps_brackets (read_binds m n (depth st)) (λ q bs r. opens (in_body ls (with_opening p q bs r) st)) (λ q a s. i)), (keeps_within (depth st) (keeps_brackets m.expr (λ q e r. opens (in_body ls (while_opening p q e r) st)) (λ q a s. i)), tt)),
     ),
   )
 
   keeps_statement : (ls : Labels) (st : Stack) → AreApart st → (p : Place) (k : TokenView) → Keeps (statement_by m n ls st p k)
   keeps_statement ls st i p (tk.word x) = keeps_skip (keeps_next (keeps_named ls st i (record { place = p; word = x })))
   keeps_statement ls st i p (tk.reserved w) = keeps_pick w (statement_words m n ls st p) (ends_simple ls st (pick w (simple_words m p) refuses)) (keeps_words ls st i p) (keeps_simple ls st i (pick w (simple_words m p) refuses))
-  keeps_statement ls st i p (tk.mark tk.open_brace) = keeps_skip (keeps_gives _ i)
+  keeps_statement ls st i p (tk.mark tk.open_brace) = keeps_within (depth st) (keeps_gives _ i)
   keeps_statement ls st i p k = keeps_refuses
 
   -- ---- after a statement

@@ -1,11 +1,11 @@
 -- A reader looks no further than the token at which it stops: lists of statements.
-use Rattle.std.proofs.Common.{Bool, true, false, ℕ, ◌+◌, ◌*◌, ◌≤◌, Option, Some, None, refl, arith}
+use Rattle.std.proofs.Common.{◌≡◌, subst, Bool, true, false, ℕ, ◌+◌, ◌*◌, ◌≤◌, Option, Some, None, refl, arith}
 use Rattle.tla_token.specs.declared.place.Place.{Place}
 use Rattle.tla_tree.specs.Tree.{Word, Name}
 use Rattle.tla_tree.specs.Lexical.{TokenView}
 use Rattle.tla_tree.specs.Lexical as tk
-use Rattle.tla_tree.specs.Reader.{Reader, ◌>>=◌, gives, refuses, skip, place_if}
-use Rattle.tla_tree.proofs.Alike.{IsFair, fair_gives, fair_refuses, fair_skip, fair_bind}
+use Rattle.tla_tree.specs.Reader.{Reader, ◌>>=◌, gives, refuses, skip, if_fits, place_if}
+use Rattle.tla_tree.proofs.Alike.{IsFair, fair_gives, fair_refuses, fair_too_deep, fair_skip, fair_bind}
 use Rattle.pcal_tree.specs.GrammarParts.{Labels, no_labels, Simple}
 use Rattle.pcal_tree.specs.GrammarParts as g
 use Rattle.pcal_tree.specs.GrammarC.{simple, Labelled, labelled, Sequence, last_statement}
@@ -15,7 +15,7 @@ use Rattle.algorithm_parts.proofs.Fair.{fair_next, fair_past, pick_both, Step, f
 use Rattle.algorithm_parts.proofs.FairParts.{fair_mark, fair_name, colon_fair, binds_fair}
 use Rattle.algorithm_parts.proofs.FairSimple.{arguments_fair, named_fair}
 use Rattle.c_syntax.specs.ReadStatements.{after, if_test, with_opening, while_opening, none, Stack, bottom, in_block, in_then, in_either, in_body, State, begin, ended, Turn, on, done, with_before, before_or, opens}
-use Rattle.c_syntax.specs.ReadStatements.{either_if, ends_simple, after_name, bracketed, statement_words, statement_by, ask_else, ask_or, ask_other, closed, takes_else, takes_or, closing_words, is_divided, another_if, list_by, ended_by, step, turned, run, read_sequence}
+use Rattle.c_syntax.specs.ReadStatements.{within, depth, either_if, ends_simple, after_name, bracketed, statement_words, statement_by, ask_else, ask_or, ask_other, closed, takes_else, takes_or, closing_words, is_divided, another_if, list_by, ended_by, step, turned, run, read_sequence}
 
 -- whatever comes after the step, which takes a token or is the last one
 pub record Takes (b c : ℕ) (p q : Reader Turn) : Type 0 where
@@ -30,6 +30,13 @@ takes_skip l h = record { is = λ r s f. fair_skip l (fair_bind h (turned_fair r
 
 takes_refuses : {b c : ℕ} → Takes b c refuses refuses
 takes_refuses = record { is = λ r s f. fair_refuses }
+
+takes_fits : {b c : ℕ} {p q : Reader Turn} (x y : Bool) → x ≡ y → Takes b c p q → Takes b c (if_fits x p) (if_fits y q)
+takes_fits {b} {c} {p} {q} x y e h = subst (λ (z : Bool). Takes b c (if_fits x p) (if_fits z q)) e (by x)
+  where
+    by : (x : Bool) → Takes b c (if_fits x p) (if_fits x q)
+    by true = h
+    by false = record { is = λ r s f. fair_too_deep }
 
 takes_done : {b c : ℕ} (ss : Sequence) → Takes b c (gives (done ss)) (gives (done ss))
 takes_done ss = record { is = λ r s f. fair_gives }
@@ -49,28 +56,32 @@ module _ (d : ℕ) (m q : Parts) (h : FairParts d m q) (b c n o : ℕ) (e : b �
   after_name_fair ls st x p (tk.mark tk.colon) = fair_bind colon_fair (λ y. fair_gives)
   after_name_fair ls st x p j = fair_bind (named_fair d h n o c (omega (arith, e, v)) k s x p j) (λ y. fair_gives)
 
-  -- ( .. )
-  brackets_take : {A : Type 0} {r t : Reader A} (f : Place → A → Place → Turn) → IsFair c r t → Takes b c (skip (bracketed r f)) (skip (bracketed t f))
-  brackets_take f i = takes_skip l (fair_mark {n = c} tk.open_bracket (omega arith) (λ x. fair_bind i (λ y. fair_mark {n = c} tk.close_bracket (omega arith) (λ z. fair_gives))))
+  -- past a word or brace that opens a form
+  takes_within : {r t : Reader Turn} (i : ℕ) → IsFair c r t → Takes b c (within m i r) (within q i t)
+  takes_within {r} {t} i f = takes_fits (m.room (i + 1)) (q.room (i + 1)) (h.room (i + 1)) (takes_skip l f)
 
-  either_takes : (i : Bool) (ls : Labels) (p : Place) (st : Stack) → Takes b c (either_if i ls p st) (either_if i ls p st)
+  -- ( .. )
+  brackets_fair : {A : Type 0} {r t : Reader A} (f : Place → A → Place → Turn) → IsFair c r t → IsFair c (bracketed r f) (bracketed t f)
+  brackets_fair f i = fair_mark {n = c} tk.open_bracket (omega arith) (λ x. fair_bind i (λ y. fair_mark {n = c} tk.close_bracket (omega arith) (λ z. fair_gives)))
+
+  either_takes : (i : Bool) (ls : Labels) (p : Place) (st : Stack) → Takes b c (either_if i m ls p st) (either_if i q ls p st)
   either_takes true ls p st = takes_refuses
-  either_takes false ls p st = takes_skip l fair_gives
+  either_takes false ls p st = takes_within (depth st) fair_gives
 
   statement_takes : (ls : Labels) (st : Stack) (p : Place) (j : TokenView) → Takes b c (statement_by m n ls st p j) (statement_by q o ls st p j)
   statement_takes ls st p (tk.word x) = takes_skip l (fair_next (after_name_fair ls st (record { place = p; word = x })))
-  statement_takes ls st p (tk.mark tk.open_brace) = takes_skip l fair_gives
+  statement_takes ls st p (tk.mark tk.open_brace) = takes_within (depth st) fair_gives
   statement_takes ls st p (tk.reserved w) =
       pick_both (Takes b c) w (statement_words m n ls st p) (statement_words q o ls st p) (ends_simple ls st (pick w (simple_words m p) refuses)) (ends_simple ls st (pick w (simple_words q p) refuses)) (
         refl,
-        brackets_take (λ x y z. opens (in_then ls (if_test p x y z) st)) (parts).expr,
+        takes_within (depth st) (brackets_fair (λ x y z. opens (in_then ls (if_test p x y z) st)) (parts).expr),
         (
           refl,
           either_takes (before_or st) ls p st,
           (
             refl,
-            brackets_take (λ x y z. opens (in_body ls (with_opening p x y z) st)) (binds_fair d h n o c (omega (arith, e, v)) k s),
-            (refl, brackets_take (λ x y z. opens (in_body ls (while_opening p x y z) st)) (parts).expr, tt),
+            takes_skip l (brackets_fair (λ x y z. opens (in_body ls (with_opening p x y z) st)) (binds_fair d h n o c (depth st) (omega (arith, e, v)) k s)),
+            (refl, takes_within (depth st) (brackets_fair (λ x y z. opens (in_body ls (while_opening p x y z) st)) (parts).expr), tt),
           ),
         ),
       )

@@ -1,10 +1,10 @@
 -- What stands before a refused token can be gone on with: each state can be completed.
-use Rattle.std.proofs.Common.{◌≡◌, ℕ, zero, suc, Bool, true, false, not, List, [], ◌++◌, Option, Some, None, refl, sym, ap, ◌∙◌, append_assoc, codes}
+use Rattle.std.proofs.Common.{◌≡◌, ℕ, zero, suc, ◌+◌, Bool, true, false, not, List, [], ◌∷◌, ◌++◌, Option, Some, None, refl, sym, ap, ◌∙◌, append_assoc, codes}
 use Rattle.std.specs.Prelude.{IsTrue}
 use Rattle.tla_token.specs.declared.place.Place.{Place}
 use Rattle.tla_token.specs.Places.{nowhere}
 use Rattle.tla_tree.specs.Tree.{Name}
-use Rattle.tla_tree.specs.Lexical.{TokenView, Token}
+use Rattle.tla_tree.specs.Lexical.{TokenView, Token, token}
 use Rattle.tla_tree.specs.Lexical as tk
 use Rattle.tla_tree.specs.Reader.{Reader, refuses}
 use Rattle.tla_tree.proofs.SpellAhead.{Ahead, held, put_ahead, then_ahead, ahead}
@@ -14,14 +14,14 @@ use Rattle.pcal_tree.specs.GrammarC.{Statement, simple, branch, either, with, wh
 use Rattle.pcal_tree.specs.GrammarC.{statement, labelled_tokens, else_tokens, branches, sequence, labelled_takes_else, labelled_takes_or, Divided, GoodLabelled, GoodSequence}
 use Rattle.algorithm_parts.specs.TokenReaders.{Parts, pick}
 use Rattle.algorithm_parts.specs.ReadSimple.{simple_words}
-use Rattle.algorithm_parts.proofs.Sound.{sound_pick, sound_stays, sound_refuses}
+use Rattle.algorithm_parts.proofs.Sound.{is_other, sound_pick, sound_stays, sound_refuses}
 use Rattle.algorithm_parts.proofs.SoundSimple.{named_sound, words_sound}
 use Rattle.algorithm_parts.proofs.Aheads.{ahead_semicolon, ahead_labels, ahead_binds, ahead_simple}
-use Rattle.algorithm_parts.proofs.Mends.{Fill, Mends, MendsAt, IsPart, AllMend, filled, mends_gives, mends_refuses, mends_after, mends_bind, mends_then, mends_same, mends_next, mends_stays, mends_past, mends_pick, part_mark}
+use Rattle.algorithm_parts.proofs.Mends.{Fill, Mends, MendsAt, IsPart, AllMend, filled, mends_gives, mends_refuses, mends_after, mends_bind, mends_then, mends_same, mends_next, mends_stays, mends_past, mends_pick, mends_fits, part_mark}
 use Rattle.algorithm_parts.proofs.MendParts.{MendsParts, part_colon, part_binds}
 use Rattle.algorithm_parts.proofs.MendSimple.{named_mends, words_mend}
 use Rattle.c_syntax.specs.ReadStatements.{Before, none, after, Arms, first_arm, later_arm, Test, if_test, Opening, with_opening, while_opening, Stack, bottom, in_block, in_then, in_else, in_body, in_either, State, begin, ended, Turn, on, done, with_before, with_label, joined}
-use Rattle.c_syntax.specs.ReadStatements.{before_or, opens, either_if, ends_simple, after_name, bracketed, statement_words, statement_by, ask_else, ask_or, ask_other, closed, takes_else, takes_or, closing_words, is_divided, another_if, list_by, ended_by, step, turned, run, read_sequence}
+use Rattle.c_syntax.specs.ReadStatements.{within, depth, before_or, opens, either_if, ends_simple, after_name, bracketed, statement_words, statement_by, ask_else, ask_or, ask_other, closed, takes_else, takes_or, closing_words, is_divided, another_if, list_by, ended_by, step, turned, run, read_sequence}
 use Rattle.c_syntax.proofs.SoundStatements.{before, arms, test, opening, stack, passed, turn, GoodStack, GoodState, GoodTurn, with_before_tokens, with_before_good, with_label_tokens, joined_tokens, joined_good, joined_takes_else, AllFound, closes, at, divides, step_sound, sequence_sound}
 
 -- ---- tokens before those that come
@@ -150,24 +150,28 @@ brackets_mend : {A : Type 0} {P : A → Type 0} {front : A → List Token → Li
 brackets_mend f hx h i e = mends_bind hx (part_mark tk.open_bracket) (λ q u hq. mends_bind hq h (λ a j ha. mends_bind ha (part_mark tk.close_bracket) (λ s v hs. mends_gives (f q a s) (i q a s j) (λ ts. e q a s ts))))
 
 module _ (m : Parts) (h : MendsParts m) where
+  -- past a word or brace that opens a form
+  open_step : {p : Place} {k : TokenView} {x : List Token → List Token} {r : Reader Turn} (d : ℕ) → is_other k ≡ false → Mends (λ ts. x (token p k ∷ ts)) GoodTurn turn r → StepsAt p k x (within m d r)
+  open_step d o i = mends_fits (h.room (d + 1)) (mends_past o i)
+
   named_steps : (n : ℕ) (ls : Labels) (st : Stack) → GoodStack st → (x : Name) (p : Place) (k : TokenView) → StepsAt p k (λ ts. at ls st (name x ts)) (after_name m n ls st x p k)
   named_steps n ls st i x p (tk.mark tk.colon) =
       mends_stays (mends_bind (then_ahead (ahead_at ls st) (put_ahead held)) part_colon (λ c u hc. mends_gives (on (begin (with_label ls x c) st)) i (λ ts. ap (stack st) (with_label_tokens ls x c ts))))
   named_steps n ls st i x p k =
       mends_stays (mends_after (at ls st) (ahead_at ls st) (named_sound m h.sound n x p k) (λ a u. ahead_simple a) (named_mends m h n x p k) (λ s l hs. mends_gives (on (ended (labelled ls (simple s)) None st)) (l, refl, refl, i) (λ ts. refl)))
 
-  either_steps : (ls : Labels) (p : Place) (st : Stack) → GoodStack st → (b : Bool) → before_or st ≡ b → StepsAt p (tk.reserved (codes "either")) (at ls st) (either_if b ls p st)
+  either_steps : (ls : Labels) (p : Place) (st : Stack) → GoodStack st → (b : Bool) → before_or st ≡ b → StepsAt p (tk.reserved (codes "either")) (at ls st) (either_if b m ls p st)
   either_steps ls p st i true e = stops p (tk.reserved (codes "either")) (at ls st) (begin_stands ls st i)
-  either_steps ls p st i false e = mends_past refl (mends_gives (opens (in_either (first_arm ls p) st)) (tt, e, i) (λ ts. refl))
+  either_steps ls p st i false e = open_step (depth st) refl (mends_gives (opens (in_either (first_arm ls p) st)) (tt, e, i) (λ ts. refl))
 
   words_step : (n : ℕ) (ls : Labels) (st : Stack) → GoodStack st → (p : Place) → AllMend p (at ls st) GoodTurn turn (statement_words m n ls st p)
   words_step n ls st i p = (
-    mends_past refl (brackets_mend (λ q e r. opens (in_then ls (if_test p q e r) st)) (then_ahead (ahead_at ls st) (put_ahead held)) h.expr (λ q e r j. (j, i)) (λ q e r ts. refl)),
+    open_step (depth st) refl (brackets_mend (λ q e r. opens (in_then ls (if_test p q e r) st)) (then_ahead (ahead_at ls st) (put_ahead held)) h.expr (λ q e r j. (j, i)) (λ q e r ts. refl)),
     (
       either_steps ls p st i (before_or st) refl,
       (
-        mends_past refl (brackets_mend (λ q bs r. opens (in_body ls (with_opening p q bs r) st)) (then_ahead (ahead_at ls st) (put_ahead held)) (part_binds m h n) (λ q bs r j. (j, i)) (λ q bs r ts. refl)),
-        (mends_past refl (brackets_mend (λ q e r. opens (in_body ls (while_opening p q e r) st)) (then_ahead (ahead_at ls st) (put_ahead held)) h.expr (λ q e r j. (j, i)) (λ q e r ts. refl)), tt),
+        mends_past refl (brackets_mend (λ q bs r. opens (in_body ls (with_opening p q bs r) st)) (then_ahead (ahead_at ls st) (put_ahead held)) (part_binds m h n (depth st)) (λ q bs r j. (j, i)) (λ q bs r ts. refl)),
+        (open_step (depth st) refl (brackets_mend (λ q e r. opens (in_body ls (while_opening p q e r) st)) (then_ahead (ahead_at ls st) (put_ahead held)) h.expr (λ q e r j. (j, i)) (λ q e r ts. refl)), tt),
       ),
     ),
   )
@@ -188,7 +192,7 @@ module _ (m : Parts) (h : MendsParts m) where
       (mends_then (at ls st) (ahead_at ls st) (sound_pick w (simple_words m p) refuses (words_sound m h.sound p) (sound_stays sound_refuses)) (λ a u. ahead_simple a)
       (mends_pick w (simple_words m p) refuses (words_mend m h p) (mends_stays (mends_refuses held (record { whole = g.skip nowhere; good = tt; fix = key nowhere (codes "skip") []; tokens = λ v. refl }))))
       (λ s l hs. mends_gives (on (ended (labelled ls (simple s)) None st)) (l, refl, refl, i) (λ ts. refl)))
-  statement_steps n ls st i p (tk.mark tk.open_brace) = mends_past refl (mends_gives (opens (in_block ls p none st)) (tt, i) (λ ts. refl))
+  statement_steps n ls st i p (tk.mark tk.open_brace) = open_step (depth st) refl (mends_gives (opens (in_block ls p none st)) (tt, i) (λ ts. refl))
   statement_steps n ls st i p k = stops p k (at ls st) (begin_stands ls st i)
 
   -- ---- after a statement

@@ -1,15 +1,16 @@
--- Worked rows of what stands open and of what closes it, by computation.
-use Rattle.std.proofs.Common.{◌≡◌, refl, true, [], ◌++◌, None, Some, Ok, codes}
+-- Worked rows of what stands open, of what closes it, and of where no more may open, by computation.
+use Rattle.std.proofs.Common.{◌≡◌, refl, true, false, List, [], ◌++◌, None, Some, Ok, Err, codes}
 use Rattle.tla_token.specs.declared.place.Place.{Place}
 use Rattle.tla_token.specs.Places.{nowhere}
+use Rattle.tla_token.specs.declared.rule.Rule.TheVariants.{TooDeep, Syntax}
 use Rattle.tla_tree.specs.Lexical.{Token}
 use Rattle.tla_tree.specs.Lexical as tk
 use Rattle.tla_tree.specs.Spelling as spelled
 use Rattle.tla_tree.specs.Reader.{readers}
-use Rattle.pcal_tree.specs.GrammarParts.{no_labels, last_bind, bind, by_comma, skip, key, mark}
+use Rattle.pcal_tree.specs.GrammarParts.{word, no_labels, last_bind, bind, by_comma, skip, key, mark}
 use Rattle.pcal_tree.specs.GrammarC.{Labelled, labelled, Sequence, simple, branch, either, else_then, last_branch, last_statement}
-use Rattle.algorithm_parts.specs.TokenReaders.{parts_of}
-use Rattle.c_syntax.specs.ReadStatements.{none, first_arm, later_arm, Test, if_test, with_opening, Stack, bottom, in_block, in_then, in_else, in_body, in_either, begin, ended, run, AreApart, closing, rest, depth}
+use Rattle.algorithm_parts.specs.TokenReaders.{Parts, parts_of}
+use Rattle.c_syntax.specs.ReadStatements.{on, step, none, first_arm, later_arm, Test, if_test, with_opening, Stack, bottom, in_block, in_then, in_else, in_body, in_either, begin, ended, run, AreApart, closing, rest, depth}
 
 abbrev at : Place
 at = record { line = 1; col = 1 }
@@ -59,3 +60,35 @@ block_deep = refl
 -- either either: reading doesn't come there
 not_apart : AreApart (in_either (first_arm no_labels at) (in_either (first_arm no_labels at) (bottom none))) → ⊥
 not_apart i = (let e = i.0 in cc)
+
+-- ---- where no more forms may be open
+abbrev full : Parts
+full = (let m = parts_of (readers 0 None) in record { expr = m.expr; arguments = m.arguments; subscripts = m.subscripts; room = λ d. false })
+
+-- refused at its first token
+abbrev IsTooDeep : List Token → Type 0
+IsTooDeep ts = step full 1 (begin no_labels (bottom none)) ts ≡ Err (TooDeep, ts)
+
+deep_block : IsTooDeep (mark at tk.open_brace [])
+deep_block = refl
+
+deep_if : IsTooDeep (key at (codes "if") (mark at tk.open_bracket []))
+deep_if = refl
+
+deep_while : IsTooDeep (key at (codes "while") [])
+deep_while = refl
+
+deep_either : IsTooDeep (key at (codes "either") [])
+deep_either = refl
+
+-- with (x: at the name
+deep_bind : step full 1 (begin no_labels (bottom none)) (key at (codes "with") (mark at tk.open_bracket (word at (codes "x") []))) ≡ Err (TooDeep, word at (codes "x") [])
+deep_bind = refl
+
+-- an `either` that may not stand there is refused as syntax first
+deep_in_arm : step full 1 (begin no_labels (in_either (first_arm no_labels at) (bottom none))) (key at (codes "either") []) ≡ Err (Syntax, key at (codes "either") [])
+deep_in_arm = refl
+
+-- simple statements open none
+flat_skip : step full 1 (begin no_labels (bottom none)) (key at (codes "skip") []) ≡ Ok (on (ended (skips at) None (bottom none)), [])
+flat_skip = refl

@@ -1,9 +1,9 @@
 -- What is read is spelled: each state says which tokens were passed, and a step goes to one that says no others.
-use Rattle.std.proofs.Common.{◌≡◌, ℕ, zero, suc, Bool, true, false, not, List, Option, Some, None, refl, ap, ◌∙◌, codes}
+use Rattle.std.proofs.Common.{◌≡◌, ℕ, zero, suc, ◌+◌, Bool, true, false, not, List, ◌∷◌, Option, Some, None, refl, ap, ◌∙◌, codes}
 use Rattle.std.specs.Prelude.{IsTrue}
 use Rattle.tla_token.specs.declared.place.Place.{Place}
 use Rattle.tla_tree.specs.Tree.{Name}
-use Rattle.tla_tree.specs.Lexical.{TokenView, Token}
+use Rattle.tla_tree.specs.Lexical.{TokenView, Token, token}
 use Rattle.tla_tree.specs.Lexical as tk
 use Rattle.tla_tree.specs.Spelling.{spell, IsGood}
 use Rattle.tla_tree.specs.Reader.{Reader, refuses}
@@ -12,10 +12,10 @@ use Rattle.pcal_tree.specs.GrammarC.{simple, branch, with, while, compound, Labe
 use Rattle.pcal_tree.specs.GrammarC.{labelled_tokens, branches, sequence, labelled_takes_else, labelled_takes_or, branches_take_else, Divided, GoodLabelled, GoodBranches, GoodSequence}
 use Rattle.algorithm_parts.specs.TokenReaders.{Parts, pick}
 use Rattle.algorithm_parts.specs.ReadSimple.{simple_words}
-use Rattle.algorithm_parts.proofs.Sound.{Sound, SoundAt, here, AllSound, sound_gives, sound_refuses, sound_bind, sound_after, sound_next, sound_stays, sound_past, sound_then, sound_same, sound_pick, sound_mark}
+use Rattle.algorithm_parts.proofs.Sound.{Sound, SoundAt, here, AllSound, sound_gives, sound_refuses, sound_bind, sound_after, sound_next, sound_stays, sound_past, sound_then, sound_same, sound_pick, sound_mark, sound_fits, is_other}
 use Rattle.algorithm_parts.proofs.SoundParts.{SoundParts, colon_sound, binds_sound}
 use Rattle.algorithm_parts.proofs.SoundSimple.{named_sound, words_sound}
-use Rattle.c_syntax.specs.ReadStatements.{Before, none, after, Arms, first_arm, later_arm, Test, if_test, Opening, with_opening, while_opening, Stack, bottom, in_block, in_then, in_else, in_body, in_either, State, begin, ended, Turn, on, done, with_before, with_label, joined, tested, opened}
+use Rattle.c_syntax.specs.ReadStatements.{Before, none, after, Arms, first_arm, later_arm, Test, if_test, Opening, with_opening, while_opening, Stack, bottom, in_block, in_then, in_else, in_body, in_either, State, begin, ended, Turn, on, done, with_before, with_label, joined, tested, opened, depth, within}
 use Rattle.c_syntax.specs.ReadStatements.{before_or, opens, either_if, ends_simple, after_name, bracketed, statement_words, statement_by, Ask, ask_else, ask_or, ask_other, closed, takes_else, takes_or, closing_words, is_divided, another_if, list_by, ended_by, step, turned, run, read_sequence}
 
 -- ---- the tokens that were passed, before others
@@ -191,22 +191,26 @@ divides (Some p) a e = tt
 divides None a e = e
 
 module _ (m : Parts) (h : SoundParts m) where
+  -- past a word or brace that opens a form
+  open_step : {p : Place} {k : TokenView} {x : List Token → List Token} {r : Reader Turn} (d : ℕ) → is_other k ≡ false → Sound (λ ts. x (token p k ∷ ts)) GoodTurn turn r → StepsAt p k x (within m d r)
+  open_step d o i = sound_fits (m.room (d + 1)) (sound_past o i)
+
   named_steps : (n : ℕ) (ls : Labels) (st : Stack) → GoodStack st → (x : Name) (p : Place) (k : TokenView) → StepsAt p k (λ ts. at ls st (name x ts)) (after_name m n ls st x p k)
   named_steps n ls st i x p (tk.mark tk.colon) = sound_stays (sound_bind colon_sound (λ c u. sound_gives (on (begin (with_label ls x c) st)) i (λ ts. ap (stack st) (with_label_tokens ls x c ts))))
   named_steps n ls st i x p k = sound_stays (sound_after (at ls st) (named_sound m h n x p k) (λ s j. sound_gives (on (ended (labelled ls (simple s)) None st)) (j, refl, refl, i) (λ ts. refl)))
 
-  either_steps : (ls : Labels) (p : Place) (st : Stack) → GoodStack st → (b : Bool) → before_or st ≡ b → StepsAt p (tk.reserved (codes "either")) (at ls st) (either_if b ls p st)
+  either_steps : (ls : Labels) (p : Place) (st : Stack) → GoodStack st → (b : Bool) → before_or st ≡ b → StepsAt p (tk.reserved (codes "either")) (at ls st) (either_if b m ls p st)
   either_steps ls p st i true e = sound_stays sound_refuses
-  either_steps ls p st i false e = sound_past refl (sound_gives (opens (in_either (first_arm ls p) st)) (tt, e, i) (λ ts. refl))
+  either_steps ls p st i false e = open_step (depth st) refl (sound_gives (opens (in_either (first_arm ls p) st)) (tt, e, i) (λ ts. refl))
 
   words_step : (n : ℕ) (ls : Labels) (st : Stack) → GoodStack st → (p : Place) → AllSound p (at ls st) GoodTurn turn (statement_words m n ls st p)
   words_step n ls st i p = (
-    sound_past refl (bracketed_sound (λ q e r. opens (in_then ls (if_test p q e r) st)) h.expr (λ q e r j. (j, i)) (λ q e r ts. refl)),
+    open_step (depth st) refl (bracketed_sound (λ q e r. opens (in_then ls (if_test p q e r) st)) h.expr (λ q e r j. (j, i)) (λ q e r ts. refl)),
     (
       either_steps ls p st i (before_or st) refl,
       (
-        sound_past refl (bracketed_sound (λ q bs r. opens (in_body ls (with_opening p q bs r) st)) (binds_sound m h n) (λ q bs r j. (j, i)) (λ q bs r ts. refl)),
-        (sound_past refl (bracketed_sound (λ q e r. opens (in_body ls (while_opening p q e r) st)) h.expr (λ q e r j. (j, i)) (λ q e r ts. refl)), tt),
+        sound_past refl (bracketed_sound (λ q bs r. opens (in_body ls (with_opening p q bs r) st)) (binds_sound m h n (depth st)) (λ q bs r j. (j, i)) (λ q bs r ts. refl)),
+        (open_step (depth st) refl (bracketed_sound (λ q e r. opens (in_body ls (while_opening p q e r) st)) h.expr (λ q e r j. (j, i)) (λ q e r ts. refl)), tt),
       ),
     ),
   )
@@ -216,7 +220,7 @@ module _ (m : Parts) (h : SoundParts m) where
   statement_steps n ls st i p (tk.reserved w) =
       sound_pick w (statement_words m n ls st p) (ends_simple ls st (pick w (simple_words m p) refuses)) (words_step n ls st i p)
       (sound_then (at ls st) (sound_pick w (simple_words m p) refuses (words_sound m h p) (sound_stays sound_refuses)) (λ s j. sound_gives (on (ended (labelled ls (simple s)) None st)) (j, refl, refl, i) (λ ts. refl)))
-  statement_steps n ls st i p (tk.mark tk.open_brace) = sound_past refl (sound_gives (opens (in_block ls p none st)) (tt, i) (λ ts. refl))
+  statement_steps n ls st i p (tk.mark tk.open_brace) = open_step (depth st) refl (sound_gives (opens (in_block ls p none st)) (tt, i) (λ ts. refl))
   statement_steps n ls st i p k = sound_stays sound_refuses
 
   -- ---- after a statement

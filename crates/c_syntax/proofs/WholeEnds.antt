@@ -1,5 +1,5 @@
 -- What is spelled is read: parts that end before a word, a brace or a bracket.
-use Rattle.std.proofs.Common.{◌≡◌, ℕ, zero, suc, ◌≤◌, Bool, true, false, List, length, Option, Some, None, Ok, refl, arith}
+use Rattle.std.proofs.Common.{◌≡◌, ℕ, zero, suc, ◌+◌, ◌≤◌, Bool, true, false, List, length, Option, Some, None, Ok, refl, arith}
 use Rattle.tla_token.specs.declared.place.Place.{Place}
 use Rattle.tla_tree.specs.Lexical.{TokenView, Token}
 use Rattle.tla_tree.specs.Lexical as tk
@@ -176,26 +176,28 @@ module _ (m : ℕ) (r : Parts) (h : WholeParts m r) where
       next (more_definitions (applied y s xs t) q a cs) i = then_is _ i refl
 
   -- ---- what a `with` names
-  pub binds_end : (n : ℕ) (bs : Binds) → GoodBinds bs → (ts : List Token) → is_end_next (first ts).kind ≡ true → Fits n m (binds bs ts) → read_binds r n (binds bs ts) ≡ Ok (bs, ts)
-  binds_end zero bs g ts d f = absurd (omega (arith, f.list, grow_binds bs ts))
-  binds_end (suc n) (last_bind x b p e s) g ts d f =
-      then_is _ (signed b p (spell e (maybe_separator s ts)))
+  pub binds_end : (n o : ℕ) (bs : Binds) → GoodBinds bs → (ts : List Token) → is_end_next (first ts).kind ≡ true → Fits n m (binds bs ts) → read_binds r n o (binds bs ts) ≡ Ok (bs, ts)
+  binds_end zero o bs g ts d f = absurd (omega (arith, f.list, grow_binds bs ts))
+  binds_end (suc n) o (last_bind x b p e s) g ts d f =
+      rw (h.room (o + 1))
+      (then_is _ (signed b p (spell e (maybe_separator s ts)))
       (then_is _ (h.expr e g (maybe_separator s ts) (next_calm (first (maybe_separator s ts)).kind (maybe_divides s ts d)) (omega (arith, f.all)))
-      (then_is _ (separator_ends s ts d) (by s (first ts).place (first ts).kind d)))
+      (then_is _ (separator_ends s ts d) (by s (first ts).place (first ts).kind d))))
     where
-      by : (s : Option Separator) (q : Place) (k : TokenView) → is_end_next k ≡ true → binds_by (read_binds r n) x b p e s q k ts ≡ Ok (last_bind x b p e s, ts)
+      by : (s : Option Separator) (q : Place) (k : TokenView) → is_end_next k ≡ true → binds_by (read_binds r n (o + 1)) x b p e s q k ts ≡ Ok (last_bind x b p e s, ts)
       by None q k d = refl
       by (Some s) q (tk.reserved w) d = refl
       by (Some s) q (tk.mark tk.open_brace) d = refl
       by (Some s) q (tk.mark tk.close_brace) d = refl
       by (Some s) q (tk.mark tk.close_bracket) d = refl
       by s q k d = absurd cc
-  binds_end (suc n) (bind x b p e s bs) g ts d f =
+  binds_end (suc n) o (bind x b p e s bs) g ts d f =
       (let us = binds bs ts in
-      then_is _ (signed b p (spell e (separator s us)))
+      rw (h.room (o + 1))
+      (then_is _ (signed b p (spell e (separator s us)))
       (then_is _ (h.expr e g.0 (separator s us) (next_calm (first (separator s us)).kind (separator_divides s us)) (omega (arith, f.all)))
-      (then_is _ (separated s us) (next bs (binds_end n bs g.1 ts d (less (omega (arith, grow_phrase e (separator s us), grow_separator s us)) f))))))
+      (then_is _ (separated s us) (next bs (binds_end n (o + 1) bs g.1 ts d (less (omega (arith, grow_phrase e (separator s us), grow_separator s us)) f)))))))
     where
-      next : (bs : Binds) → read_binds r n (binds bs ts) ≡ Ok (bs, ts) → by_next (binds_by (read_binds r n) x b p e (Some s)) (binds bs ts) ≡ Ok (bind x b p e s bs, ts)
+      next : (bs : Binds) → read_binds r n (o + 1) (binds bs ts) ≡ Ok (bs, ts) → by_next (binds_by (read_binds r n (o + 1)) x b p e (Some s)) (binds bs ts) ≡ Ok (bind x b p e s bs, ts)
       next (last_bind y c q a t) i = then_is _ i refl
       next (bind y c q a t cs) i = then_is _ i refl

@@ -1,5 +1,5 @@
 -- What is spelled is read: each statement is passed where what comes after it is.
-use Rattle.std.proofs.Common.{◌≡◌, ℕ, zero, suc, ◌<◌, ◌≤◌, Bool, true, false, not, List, length, Option, Some, None, Ok, refl, sym, ap, subst, ◌∙◌, arith, codes}
+use Rattle.std.proofs.Common.{◌≡◌, ℕ, zero, suc, ◌+◌, ◌<◌, ◌≤◌, Bool, true, false, not, List, length, Option, Some, None, Ok, refl, sym, ap, subst, ◌∙◌, arith, codes}
 use Rattle.std.specs.Prelude.{IsTrue}
 use Rattle.tla_token.specs.declared.place.Place.{Place}
 use Rattle.tla_tree.specs.Tree.{Name}
@@ -15,7 +15,7 @@ use Rattle.algorithm_parts.specs.TokenReaders.{first, Parts}
 use Rattle.algorithm_parts.proofs.Whole.{Fits, smaller, then_is, WholeParts}
 use Rattle.algorithm_parts.proofs.WholeSimple.{root, first_left, after_first, assignment_tokens, assignment_next, is_left_next, arguments_whole}
 use Rattle.algorithm_parts.proofs.Lengths.{grow_phrase, grow_colon, grow_binds, grow_simple}
-use Rattle.c_syntax.specs.ReadStatements.{Before, none, after, Arms, first_arm, later_arm, Test, if_test, with_opening, while_opening, Stack, bottom, in_block, in_then, in_else, in_body, in_either, State, begin, ended, Turn, on, with_before, with_label, joined, before_or, either_if, after_name, statement_by, ask_other, closed}
+use Rattle.c_syntax.specs.ReadStatements.{depth, Before, none, after, Arms, first_arm, later_arm, Test, if_test, with_opening, while_opening, Stack, bottom, in_block, in_then, in_else, in_body, in_either, State, begin, ended, Turn, on, with_before, with_label, joined, before_or, either_if, after_name, statement_by, ask_other, closed}
 use Rattle.c_syntax.specs.ReadStatements.{list_by, ended_by, step, turned, run, read_sequence}
 use Rattle.c_syntax.proofs.Behind.{ask_of, ask_at, Quiet, QuietStatement, QuietLabelled, quiet_else, quiet_or, quiet_other, else_asks, else_divides, branches_ask, branches_divide, brace_asks, brace_divides, Starts, start_statement, start_labels, start_sequence, start_asks, start_divides, divided}
 use Rattle.c_syntax.proofs.Elsewhere.{word_taken, then_ends, either_ends, same_run}
@@ -192,9 +192,9 @@ module _ (m : ℕ) (r : Parts) (h : WholeParts m r) where
   either_begins : (n : ℕ) (ls : Labels) (st : Stack) (p : Place) (ts : List Token) → Suits st true → step r n (begin ls st) (key p (codes "either") ts) ≡ went (opened_either ls st p) ts
   either_begins n ls st p ts c = by (before_or st) c
     where
-      by : (b : Bool) → (b ≡ true → IsTrue (not true)) → either_if b ls p st (key p (codes "either") ts) ≡ went (opened_either ls st p) ts
+      by : (b : Bool) → (b ≡ true → IsTrue (not true)) → either_if b r ls p st (key p (codes "either") ts) ≡ went (opened_either ls st p) ts
       by true i = absurd (let e = i refl in cc)
-      by false i = refl
+      by false i = rw (h.room (depth st + 1)) refl
 
   mutual
     statement_read : (a : Statement) → GoodStatement a → (ls : Labels) (st : Stack) → Suits st (takes_or a) → (ts : List Token) (o : Out Sequence) → QuietStatement a ts → Gives (ended (labelled ls a) None st) ts o → Gives (begin ls st) (statement a ts) o
@@ -203,7 +203,7 @@ module _ (m : ℕ) (r : Parts) (h : WholeParts m r) where
         (let us = labelled_tokens a ts in
         let x = in_then ls (if_test u v e w) st in
         advance (begin ls st) (key u (codes "if") (mark v tk.open_bracket (spell e (mark w tk.close_bracket us)))) (begin no_labels x) us o
-        (λ n f. then_is _ (h.expr e i.0 (mark w tk.close_bracket us) refl (omega (arith, f.all))) refl)
+        (λ n f. rw (h.room (depth st + 1)) (then_is _ (h.expr e i.0 (mark w tk.close_bracket us) refl (omega (arith, f.all))) refl))
         (omega (arith, grow_phrase e (mark w tk.close_bracket us)))
         (labelled_read a i.1 x (λ z. absurd cc) ts o (record { no_else = λ z. q.no_else refl; no_or = q.no_or; plain = q.plain })
         (goes_on a x (labelled ls (branch u v e w a no_else)) st ts o (then_ends (ask_at ts) ls (if_test u v e w) a st (q.no_else refl)) k)))
@@ -213,7 +213,7 @@ module _ (m : ℕ) (r : Parts) (h : WholeParts m r) where
         let us = labelled_tokens a behind in
         let t = if_test u v e w in
         advance (begin ls st) (key u (codes "if") (mark v tk.open_bracket (spell e (mark w tk.close_bracket us)))) (begin no_labels (in_then ls t st)) us o
-        (λ n f. then_is _ (h.expr e i.0 (mark w tk.close_bracket us) refl (omega (arith, f.all))) refl)
+        (λ n f. rw (h.room (depth st + 1)) (then_is _ (h.expr e i.0 (mark w tk.close_bracket us) refl (omega (arith, f.all))) refl))
         (omega (arith, grow_phrase e (mark w tk.close_bracket us)))
         (labelled_read a i.1 (in_then ls t st) (λ z. absurd cc) behind o (quiet_else _ _ _ behind i.2.0 (else_asks s p more) (else_divides s p more))
         (else_read ls t a s p st more o
@@ -222,14 +222,14 @@ module _ (m : ℕ) (r : Parts) (h : WholeParts m r) where
         (let us = labelled_tokens a ts in
         let x = in_body ls (with_opening u v bs w) st in
         advance (begin ls st) (key u (codes "with") (mark v tk.open_bracket (binds bs (mark w tk.close_bracket us)))) (begin no_labels x) us o
-        (λ n f. then_is _ (binds_end m r h n bs i.0 (mark w tk.close_bracket us) refl (smaller (omega arith) f)) refl)
+        (λ n f. then_is _ (binds_end m r h n (depth st) bs i.0 (mark w tk.close_bracket us) refl (smaller (omega arith) f)) refl)
         (omega (arith, grow_binds bs (mark w tk.close_bracket us)))
         (labelled_read a i.1 x c ts o q (goes_on a x (labelled ls (with u v bs w a)) st ts o refl k)))
     statement_read (while u v e w a) i ls st c ts o q k =
         (let us = labelled_tokens a ts in
         let x = in_body ls (while_opening u v e w) st in
         advance (begin ls st) (key u (codes "while") (mark v tk.open_bracket (spell e (mark w tk.close_bracket us)))) (begin no_labels x) us o
-        (λ n f. then_is _ (h.expr e i.0 (mark w tk.close_bracket us) refl (omega (arith, f.all))) refl)
+        (λ n f. rw (h.room (depth st + 1)) (then_is _ (h.expr e i.0 (mark w tk.close_bracket us) refl (omega (arith, f.all))) refl))
         (omega (arith, grow_phrase e (mark w tk.close_bracket us)))
         (labelled_read a i.1 x c ts o q (goes_on a x (labelled ls (while u v e w a)) st ts o refl k)))
     statement_read (either p a bs) i ls st c ts o q k =
@@ -240,7 +240,7 @@ module _ (m : ℕ) (r : Parts) (h : WholeParts m r) where
         (labelled_read a i.0 (in_either (first_arm ls p) st) (λ z. i.1) us o (quiet_or _ _ _ us i.1 (branches_ask bs ts) (branches_divide bs ts)) (branches_read bs i.2 (first_arm ls p) a st ts o q k)))
     statement_read (compound p ss z) i ls st c ts o q k =
         (let us = sequence ss (mark z tk.close_brace ts) in
-        advance (begin ls st) (mark p tk.open_brace us) (begin no_labels (in_block ls p none st)) us o (λ n f. refl) (omega arith) (sequence_read ss i (in_braces ls p st) none z ts o k))
+        advance (begin ls st) (mark p tk.open_brace us) (begin no_labels (in_block ls p none st)) us o (λ n f. rw (h.room (depth st + 1)) refl) (omega arith) (sequence_read ss i (in_braces ls p st) none z ts o k))
 
     labelled_read : (a : Labelled) → GoodLabelled a → (st : Stack) → Suits st (labelled_takes_or a) → (ts : List Token) (o : Out Sequence) → QuietLabelled a ts → Gives (ended a None st) ts o → Gives (begin no_labels st) (labelled_tokens a ts) o
     labelled_read (labelled ls a) i st c ts o q k = all_labels ls st (statement a ts) o (start_statement a i ts) (statement_read a i ls st c ts o q k)

@@ -6,7 +6,7 @@ use Rattle.tla_tree.specs.Tree.{Word, Name}
 use Rattle.tla_tree.specs.Lexical.{TokenView, Token}
 use Rattle.tla_tree.specs.Lexical as tk
 use Rattle.tla_tree.specs.Spelling.{Phrase}
-use Rattle.tla_tree.specs.Reader.{Reader, ◌>>=◌, gives, refuses, skip}
+use Rattle.tla_tree.specs.Reader.{Reader, ◌>>=◌, gives, refuses, skip, if_fits}
 use Rattle.pcal_tree.specs.GrammarParts.{key, mark, Colon, Labels, no_labels, label, Binds, Simple}
 use Rattle.pcal_tree.specs.GrammarC.{simple, branch, either, with, while, compound, Labelled, labelled, Else, no_else, else_then, Branches, last_branch, more_branches, Sequence, last_statement, more_statements, labelled_ends_in_block}
 use Rattle.pcal_tree.specs.OpenForms.{after_binds}
@@ -26,10 +26,11 @@ pub data Arms : Type 0 where
   first_arm : Labels → Place → Arms  -- either
   later_arm : Arms → Labelled → Option Place → Place → Arms  -- .. or
 
--- what stands before the one statement of an `if`, and of a `with` or a `while`
+-- what stands before the statement of an `if`
 pub data Test : Type 0 where
   if_test : Place → Place → Phrase → Place → Test  -- if (e)
 
+-- and of a `with` or a `while`, which end where it does
 pub data Opening : Type 0 where
   with_opening : Place → Place → Binds → Place → Opening  -- with (x \in e)
   while_opening : Place → Place → Phrase → Place → Opening  -- while (e)
@@ -42,6 +43,16 @@ pub data Stack : Type 0 where
   in_else : Labels → Test → Labelled → Option Place → Place → Stack → Stack  -- .. else
   in_body : Labels → Opening → Stack → Stack
   in_either : Arms → Stack → Stack
+
+-- how many forms are open: one for each brace, test, branch, bind and loop
+abbrev pub depth : Stack → ℕ
+depth (bottom b) = 0
+depth (in_block ls p b st) = depth st + 1
+depth (in_then ls t st) = depth st + 1
+depth (in_else ls t a s p st) = depth st + 1
+depth (in_body ls (with_opening p q bs r) st) = after_binds (depth st) bs
+depth (in_body ls (while_opening p q e r) st) = depth st + 1
+depth (in_either t st) = depth st + 1
 
 pub data State : Type 0 where
   begin : Labels → Stack → State  -- a statement comes, after these labels
@@ -86,10 +97,14 @@ before_or (in_either (later_arm t a s p) st) = false
 abbrev pub opens : Stack → Turn
 opens st = on (begin no_labels st)
 
+-- past a word or brace that opens a form, where so many are open
+abbrev pub within : Parts → ℕ → Reader Turn → Reader Turn
+within m d r = if_fits (m.room (d + 1)) (skip r)
+
 -- an `either` would take that `or`
-abbrev pub either_if : Bool → Labels → Place → Stack → Reader Turn
-either_if true ls p st = refuses
-either_if false ls p st = skip (gives (opens (in_either (first_arm ls p) st)))
+abbrev pub either_if : Bool → Parts → Labels → Place → Stack → Reader Turn
+either_if true m ls p st = refuses
+either_if false m ls p st = within m (depth st) (gives (opens (in_either (first_arm ls p) st)))
 
 abbrev pub ends_simple : Labels → Stack → Reader Simple → Reader Turn
 ends_simple ls st r = r >>= λ s. gives (on (ended (labelled ls (simple s)) None st))
@@ -105,16 +120,16 @@ bracketed r f = a_mark tk.open_bracket >>= λ q. r >>= λ x. a_mark tk.close_bra
 
 abbrev pub statement_words : Parts → ℕ → Labels → Stack → Place → List (Word × Reader Turn)
 statement_words m n ls st p =
-    (codes "if", skip (bracketed m.expr (λ q e r. opens (in_then ls (if_test p q e r) st))))
-    ∷ (codes "either", either_if (before_or st) ls p st)
-    ∷ (codes "with", skip (bracketed (read_binds m n) (λ q bs r. opens (in_body ls (with_opening p q bs r) st))))
-    ∷ (codes "while", skip (bracketed m.expr (λ q e r. opens (in_body ls (while_opening p q e r) st))))
+    (codes "if", within m (depth st) (bracketed m.expr (λ q e r. opens (in_then ls (if_test p q e r) st))))
+    ∷ (codes "either", either_if (before_or st) m ls p st)
+    ∷ (codes "with", skip (bracketed (read_binds m n (depth st)) (λ q bs r. opens (in_body ls (with_opening p q bs r) st))))
+    ∷ (codes "while", within m (depth st) (bracketed m.expr (λ q e r. opens (in_body ls (while_opening p q e r) st))))
     ∷ []
 
 abbrev pub statement_by : Parts → ℕ → Labels → Stack → Place → TokenView → Reader Turn
 statement_by m n ls st p (tk.word x) = skip (by_next (after_name m n ls st (record { place = p; word = x })))
 statement_by m n ls st p (tk.reserved w) = pick w (statement_words m n ls st p) (ends_simple ls st (pick w (simple_words m p) refuses))
-statement_by m n ls st p (tk.mark tk.open_brace) = skip (gives (opens (in_block ls p none st)))
+statement_by m n ls st p (tk.mark tk.open_brace) = within m (depth st) (gives (opens (in_block ls p none st)))
 statement_by m n ls st p k = refuses
 
 -- ---- after a statement: what is asked for by the next token
@@ -218,13 +233,3 @@ rest (ended a s st) = closing st
 abbrev pub open_stack : State → Stack
 open_stack (begin ls st) = st
 open_stack (ended a s st) = st
-
--- how many forms are open: one for each brace, test, branch, bind and loop
-abbrev pub depth : Stack → ℕ
-depth (bottom b) = 0
-depth (in_block ls p b st) = depth st + 1
-depth (in_then ls t st) = depth st + 1
-depth (in_else ls t a s p st) = depth st + 1
-depth (in_body ls (with_opening p q bs r) st) = after_binds (depth st) bs
-depth (in_body ls (while_opening p q e r) st) = depth st + 1
-depth (in_either t st) = depth st + 1
