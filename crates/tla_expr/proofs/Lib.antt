@@ -15,4 +15,9 @@ pub mod ReadLinks
 pub mod ReadGrown
 pub mod ReadNames
 pub mod ReadPrimaries
+pub mod ReadShort
+pub mod ReadFirst
+pub mod ReadSets
+pub mod ReadElement
 mod RowsHasRead
+mod RowsForms

@@ -4,3 +4,4 @@ pub mod ShapeOf
 pub mod ReadIn
 pub mod Ahead
 pub mod HasRead
+pub mod ReadForms
