@@ -19,5 +19,7 @@ pub mod ReadShort
 pub mod ReadFirst
 pub mod ReadSets
 pub mod ReadElement
+pub mod ReadMembers
+pub mod ReadBraces
 mod RowsHasRead
 mod RowsForms

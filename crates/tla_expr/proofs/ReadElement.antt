@@ -2,6 +2,7 @@
 use Rattle.std.proofs.Common.{◌≡◌, ℕ, suc, ◌+◌, ◌^◌, ◌≤◌, ◌<◌, max, min, Bool, true, false, ◌||◌, ◌&&◌, not, nat_le, List, length, Result, Option, Some, None, Ok, Err, IfSome, MatchOption, refl, sym, ap, ◌∙◌, subst, arith, if◌then◌else◌}
 use Rattle.std.proofs.lemmas.Bool.{leb-true, leb-false}
 use Rattle.tla_token.specs.declared.place.Place.{Place}
+use Rattle.tla_token.specs.declared.rule.Rule.{Rule}
 use Rattle.tla_token.specs.declared.rule.Rule.TheVariants.{TooDeep}
 use Rattle.tla_token.specs.declared.token.Tokens.{Tokens}
 use Rattle.tla_tree.specs.declared.op.Op.{Op}
@@ -188,12 +189,15 @@ module _ (v : Tokens) (new : List Tree) (p : Place) (x : Word) (q : Place) (n : 
   pub part_fails : (a : Phrase) (ts : List Token) (o : Out Phrase) {r : Result (Option (Parted × ℕ)) Halt} {w u : Halt} → r ≡ Err w → w ≡ u → Fails u o → PartSteps v new p x q n on a ts r o
   part_fails a ts o {r} {w} {u} i j h = subst (λ (r : Result (Option (Parted × ℕ)) Halt). PartSteps v new p x q n on a ts r o) (sym i) (subst (λ (w : Halt). Fails w o) (sym j) h)
 
-pub too_deep_here : (ts : List Token) (o : Out Phrase) (u : Halt) → u ≡ halt.Refused TooDeep (length ts) → o ≡ Err (TooDeep, ts) → Fails u o
-too_deep_here ts o u k h = subst (λ (u : Halt). Fails u o) (sym k) (subst (Fails (halt.Refused TooDeep (length ts))) (sym h) (refl, refl))
+pub refused_at : {A : Type 0} (r : Rule) (ts : List Token) (o : Out A) (u : Halt) → u ≡ halt.Refused r (length ts) → o ≡ Err (r, ts) → Fails u o
+refused_at r ts o u k h = subst (λ (u : Halt). Fails u o) (sym k) (subst (Fails (halt.Refused r (length ts))) (sym h) (refl, refl))
 
 pub parts_on : (v : Tokens) {old new : List Tree} {p : Place} {x : Word} {q : Place} {n : Read} {y z : Parted} {i j : ℕ} (on : Phrase → Reader Phrase) {o : Out Phrase}
     → PartsTo v old p x q n y i on o → ((a : Phrase) → IsParted old p x q n y a → PartsTo v new p x q n z j on (on a (ahead v i))) → PartsTo v new p x q n z j on o
 parts_on v on h k = (let g = k h.what h.told in record { what = g.what; told = g.told; is = h.is ∙ g.is })
+
+pub told_same : {X A : Type 0} (P : X → A → Type 0) (f : X → List Token) (r : Result X Halt) (o p : Out A) → p ≡ o → Told P f r o → Told P f r p
+told_same P f r o p e h = subst (λ (o : Out _). Told P f r o) (sym e) h
 
 pub told_weaker : {X A : Type 0} (P Q : X → A → Type 0) (f : X → List Token) (r : Result X Halt) (o : Out A) → ((x : X) (a : A) → P x a → Q x a) → Told P f r o → Told Q f r o
 told_weaker P Q f (Ok x) o g h = record { what = h.what; is = h.is; told = g x h.what h.told }

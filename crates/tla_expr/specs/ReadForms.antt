@@ -1,15 +1,18 @@
 -- Short forms, sets in braces, and which form a token begins: what the code reads of them.
-use Rattle.std.specs.Prelude.{◌≡◌, ℕ, ◌<◌, ◌≤◌, List, length, Result, Ok, Err, Option, Some, None}
+use Rattle.std.specs.Prelude.{◌≡◌, ℕ, suc, ◌<◌, ◌≤◌, List, length, IfOk, Result, Ok, Err, Option, Some, None, ◌||◌, if◌then◌else◌}
 use Rattle.std.specs.Borrow.{MutBor}
 use Rattle.tla_token.specs.Limits.{past_numbers}
 use Rattle.tla_token.specs.declared.place.Place.{Place}
 use Rattle.tla_token.specs.declared.token.Tokens.{Tokens}
 use Rattle.tla_tree.specs.Tree.{Tree, Word}
-use Rattle.tla_tree.specs.Lexical.{Token}
+use Rattle.tla_tree.specs.Pool.{Keeps}
+use Rattle.tla_tree.specs.Lexical.{TokenView, Token}
+use Rattle.tla_token.specs.declared.rule.Rule.{Rule}
+use Rattle.tla_token.specs.declared.rule.Rule.TheVariants.{TooDeep, Syntax}
 use Rattle.tla_tree.specs.Lexical as tk
 use Rattle.tla_tree.specs.declared.op.Op.{Op}
 use Rattle.tla_tree.specs.Spelling.{Phrase, last, more, prefix_of, set_of, name}
-use Rattle.tla_tree.specs.Reader.{Out, Room, Reader, Readers, behind, member_rest, ◌>>=◌, gives, ended, next, peek, room, keyed, primary, element}
+use Rattle.tla_tree.specs.Reader.{Out, Room, Reader, Readers, free, behind, from_name, brace_rest, image_rest, member_rest, ◌>>=◌, gives, ended, next, is_mark, peek, room, keyed, primary, element}
 use Rattle.tla_tree.specs.Whole.{whole}
 use Rattle.tla_expr.specs.declared.cursor.Halt.{Halt}
 use Rattle.tla_expr.specs.declared.make.Read.{Read}
@@ -19,9 +22,9 @@ use Rattle.tla_expr.specs.declared.read_first.First.TheVariants as first
 use Rattle.tla_expr.specs.declared.shape.Shape.{Shape}
 use Rattle.tla_expr.specs.declared.spot.Spot.{Spot}
 use Rattle.tla_expr.specs.ViewSeen.{key_seen}
-use Rattle.tla_expr.specs.ReadIn.{IsIn, MayBeIn, Fails}
+use Rattle.tla_expr.specs.ReadIn.{IsIn, MayBeIn, Fails, Told}
 use Rattle.tla_expr.specs.Ahead.{ahead}
-use Rattle.tla_expr.specs.HasRead.{HasRead}
+use Rattle.tla_expr.specs.HasRead.{HasRead, Stands}
 
 -- a short form under a prefix operator at a place
 abbrev pub under_short : Readers → ℕ → Place → Op → Reader Phrase
@@ -91,6 +94,32 @@ abbrev pub shape_if : Option Read → Option Shape
 shape_if (Some x) = Some x.shape
 shape_if None = None
 
+-- what refuses an element that is too deep, before this token
+abbrev pub deep_rule : TokenView → Rule
+deep_rule k = if is_mark tk.comma k || is_mark tk.close_brace k then TooDeep else Syntax
+
 -- behind `{x \in`
 abbrev pub membered : Room → Readers → ℕ → Place → Place → Word → Place → Reader Phrase
 membered m d e p q x s = d.expr e (behind q x s) >>= λ a. peek e (member_rest m d e p q x s a)
+
+-- ---- behind `{`
+-- an expression that begins with this name, and what comes after it
+abbrev pub braced : Room → Readers → ℕ → Place → Place → Word → Reader Phrase
+braced m d e p q x = from_name m d e q x >>= λ a. d.climb e free a >>= λ b. peek e (brace_rest d e p b)
+
+-- another expression, and what comes after it
+abbrev pub braced_other : Readers → ℕ → Place → Reader Phrase
+braced_other d e p = d.expr e free >>= λ a. peek e (brace_rest d e p a)
+
+-- what reads `x \in S}` behind `{a :` may be called where fewer than n forms may open
+abbrev pub CanImage : Tokens → ℕ → (MutBor (List Tree) → Spot → Place → Read → Type 0) → Type 0
+CanImage v n pre = (p : MutBor (List Tree)) (s : Spot) (at : Place) (a : Read) → s.left < n → s.at ≤ length v.items.items → a.id < length p.now → a.shape.nesting ≤ s.left → pre p s at a
+
+-- and reads that then
+pub record HasImage (v : Tokens) (old new : List Tree) (s : Spot) (at : Place) (a : Read) (r : Result (Read × ℕ) Halt) : Type 0 where
+  pub read : (i : Phrase) (c : Place) → IsIn old a i → Told (λ (x : Read × ℕ) j. IsIn new x.0 j) (λ x. ahead v x.1) r (image_rest (whole (Some s.left)) s.edge at i c (ahead v s.at))
+  pub kept : Keeps old new
+  pub stands : IfOk r (λ x. Stands v new s.at (suc s.left) x)
+
+abbrev pub ReadsImage : Tokens → ℕ → (MutBor (List Tree) → Spot → Place → Read → Result (Read × ℕ) Halt → MutBor (List Tree) → Type 0) → Type 0
+ReadsImage v n post = (p q : MutBor (List Tree)) (s : Spot) (at : Place) (a : Read) (r : Result (Read × ℕ) Halt) → s.left < n → s.at ≤ length v.items.items → a.id < length p.now → a.shape.nesting ≤ s.left → post p s at a r q → HasImage v p.now q.now s at a r

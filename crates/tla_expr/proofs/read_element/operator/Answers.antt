@@ -1,6 +1,7 @@
 -- Proves what is asked of `operator`.
 use Rattle.std.proofs.Common.{◌≡◌, ◌≤◌, ◌+◌, ℕ, Some, arith, ap, sym, ◌∙◌, subst}
 use Rattle.std.proofs.lemmas.Result.{err_from_is_err_and}
+use Rattle.tla_token.specs.declared.rule.Rule.TheVariants.{TooDeep}
 use Rattle.tla_tree.specs.Spelling.{Phrase, infix_of}
 use Rattle.tla_tree.specs.Reader.{Out, Reader, then_read, right_of, behind, so_far, room}
 use Rattle.tla_tree.specs.Whole.{whole}
@@ -10,7 +11,7 @@ use Rattle.tla_expr.specs.Ahead.{ahead}
 use Rattle.tla_expr.specs.ReadIn.{IsIn, Reads, Fails}
 use Rattle.tla_expr.proofs.ReadCode.{fails_step}
 use Rattle.tla_expr.proofs.ReadGrown.{same_pool}
-use Rattle.tla_expr.proofs.ReadElement.{any_other, any_stops, any_deep, any_more, part_fails, too_deep_here, parted_kept, shape_told, less_by, low_at, grown_small}
+use Rattle.tla_expr.proofs.ReadElement.{any_other, any_stops, any_deep, any_more, part_fails, refused_at, parted_kept, shape_told, less_by, low_at, grown_small}
 use Rattle.tla_expr.proofs.read_element.operator.Goals as goal
 
 pub returns-in_default : goal.returns-in_default
@@ -38,7 +39,7 @@ returns-in_err-d-clause-read g c = λ i p q x h.
     let f = err_from_is_err_and c.from_residual.result c.from_residual.ensures.1 in
     let w : c.least-k.result ≡ so_far (room whole (Some b)) (behind p x q) i c.next_at-t.result.place c.in-Sign.op = c.least-k.ensures whole i p q x h.set.shape (shape_told p x q c.shape_in.result c.shape_in.ensures h) in
     part_fails v _ p x q c.args.name on i ts (on i ts) f.1 f.2
-    (too_deep_here ts (on i ts) _ c.in_err-d.ensures.refused
+    (refused_at TooDeep ts (on i ts) _ c.in_err-d.ensures.refused
     (any_deep v.bytes.items b e (behind p x q) i ts c.next_at-t.result.place c.next_at-t.result.view c.next_at-t.ensures c.in-Sign.op c.in-Sign.is (sym (c.goes_on.ensures.phrase i h.set.shape) ∙ c.if-not-goes_on.false) c.least-k.result w c.in_err-d.ensures.deep))
 
 pub returns-in_err-b-clause-read : goal.returns-in_err-b-clause-read
