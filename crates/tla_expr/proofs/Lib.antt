@@ -21,5 +21,10 @@ pub mod ReadSets
 pub mod ReadElement
 pub mod ReadMembers
 pub mod ReadBraces
+pub mod ReadArms
+pub mod ReadLocals
+pub mod ReadBullets
+pub mod ReadListed
 mod RowsHasRead
+mod RowsLists
 mod RowsForms

@@ -40,10 +40,7 @@ not_closed a p = refl
 more_in_braces : (a : Phrase) (xs : Phrases) (p q : Place) → set_before (rows xs) 0 p a q (token here (tk.mark tk.close_brace) ∷ []) ≡ Ok (set_of p (more a q xs) here, [])
 more_in_braces a xs p q = refl
 
--- `+` begins no list, and THEN no form
-no_list_of_sums : (v : Tokens) (p : Place) (s : Spot) → form_at v (first.Bullet op.Plus) p s ≡ Err (Syntax, ahead v s.at)
-no_list_of_sums v p s = refl
-
+-- THEN begins no form
 no_form_by_then : (v : Tokens) (p : Place) (s : Spot) → form_at v (first.Key key.Then) p s ≡ Err (Syntax, ahead v s.at)
 no_form_by_then v p s = refl
 

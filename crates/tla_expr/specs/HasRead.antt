@@ -1,15 +1,15 @@
 -- What is told of an expression that was read.
-use Rattle.std.specs.Prelude.{◌≡◌, ℕ, ◌<◌, ◌≤◌, List, length, IfOk, Result, Ok, Err, Option, Some, None}
+use Rattle.std.specs.Prelude.{◌≡◌, ℕ, ◌<◌, ◌≤◌, Bool, ◌&&◌, not, List, length, IfOk, Result, Ok, Err, Option, Some, None}
 use Rattle.std.specs.Borrow.{MutBor}
 use Rattle.tla_token.specs.declared.token.Tokens.{Tokens}
 use Rattle.tla_tree.specs.Tree.{Tree, Word}
 use Rattle.tla_tree.specs.Pool.{Keeps}
 use Rattle.tla_token.specs.declared.place.Place.{Place}
-use Rattle.tla_tree.specs.Lexical.{Token}
+use Rattle.tla_tree.specs.Lexical.{Mark, Token}
 use Rattle.tla_tree.specs.Lexical as tk
 use Rattle.tla_tree.specs.declared.op.Op.{Op}
-use Rattle.tla_tree.specs.Spelling.{Phrase, apply, select, brackets, call, tuple, prefix_of, functions, filter}
-use Rattle.tla_tree.specs.Reader.{Out, Reader, Readers, ◌>>=◌, gives, ended, a_mark, a_field, free, under}
+use Rattle.tla_tree.specs.Spelling.{Phrase, takes_box, apply, select, brackets, call, tuple, prefix_of, functions, filter, cases, local}
+use Rattle.tla_tree.specs.Reader.{Out, Reader, Readers, ◌>>=◌, gives, ended, next, take, bullet_of, is_mark, a_mark, a_key, a_field, free, under}
 use Rattle.tla_tree.specs.Whole.{whole}
 use Rattle.tla_expr.specs.declared.cursor.Halt.{Halt}
 use Rattle.tla_expr.specs.declared.make.Read.{Read}
@@ -84,3 +84,27 @@ mapped_to d e p a q = d.expr e free >>= λ b. ended e tk.close_square (λ s. fun
 -- behind `:` after a name, `\in` and a set
 abbrev pub filtered : Readers → ℕ → Place → Place → Word → Place → Phrase → Place → Reader Phrase
 filtered d e p q x s a t = d.expr e free >>= λ b. ended e tk.close_brace (λ u. filter p q x s a t b u)
+
+-- ---- in lists
+-- an expression behind this mark
+abbrev pub behind_mark : Readers → ℕ → Mark → Reader (Place × Phrase)
+behind_mark d e m = a_mark e m >>= λ p. d.expr e free >>= λ a. gives (p, a)
+
+-- a test, and behind `->` what is the value then
+abbrev pub one_arm : Readers → ℕ → Reader (Phrase × Place × Phrase)
+one_arm d e = d.expr e free >>= λ a. behind_mark d e tk.arrow >>= λ x. gives (a, x.0, x.1)
+
+-- a `[]` is next, and no CASE in the phrase takes it
+abbrev pub is_arm_next : ℕ → Phrase → List Token → Bool
+is_arm_next e a ts = is_mark tk.box (next e ts).kind && not (takes_box (next e ts).place.col a)
+
+-- a bullet in this column with its item
+abbrev pub one_item : Readers → ℕ → Op → ℕ → Reader (Place × Phrase)
+one_item d e o c = take e (bullet_of o c) >>= λ p. d.expr c free >>= λ a. gives (p, a)
+
+-- ---- behind the first tokens of forms over lists
+abbrev pub cased : Readers → ℕ → Place → Reader Phrase
+cased d e p = d.arms e >>= λ xs. gives (cases p xs)
+
+abbrev pub defined : Readers → ℕ → Place → Reader Phrase
+defined d e p = d.locals e >>= λ ls. a_key e tk.in_key >>= λ q. d.expr e free >>= λ a. gives (local p ls q a)

@@ -48,7 +48,6 @@ abbrev pub form_at : Tokens → First → Place → Spot → Out Phrase
 form_at v (first.Key k) p s = keyed (room whole (Some s.left)) s.edge p (key_seen k) (ahead v s.at)
 form_at v first.Brace p s = primary (room whole (Some s.left)) (whole (Some s.left)) s.edge p (tk.mark tk.open_brace) (ahead v s.at)
 form_at v first.Square p s = primary (room whole (Some s.left)) (whole (Some s.left)) s.edge p (tk.mark tk.open_square) (ahead v s.at)
-form_at v (first.Bullet o) p s = primary (room whole (Some s.left)) (whole (Some s.left)) s.edge p (tk.sign o) (ahead v s.at)
 
 -- it may be called where no more than n forms may open
 abbrev pub CanForm : Tokens → ℕ → (MutBor (List Tree) → First → Place → Spot → Type 0) → Type 0

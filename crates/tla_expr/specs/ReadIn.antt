@@ -10,10 +10,12 @@ use Rattle.tla_expr.specs.declared.cursor.FieldName.{FieldName}
 use Rattle.tla_tree.specs.Tree as tree
 use Rattle.tla_tree.specs.Lexical.{Token}
 use Rattle.tla_tree.specs.TokenViews.{view}
-use Rattle.tla_tree.specs.Spelling.{Field, Phrase, Phrases, last, more, Binds, Fields, Settings, Arms, Locals, groups, sets_before, local_names, right_sides_before, labels, field_trees, slots, setting_trees, has_other, arm_trees, tree_of, trees_of, start}
+use Rattle.tla_tree.specs.Spelling.{Field, Phrase, Phrases, last, more, Binds, Fields, Settings, Bullets, Arms, Locals, groups, sets_before, local_names, right_sides_before, labels, field_trees, slots, setting_trees, has_other, arm_trees, first_bullet, joined, tree_of, trees_of, start}
 use Rattle.tla_tree.specs.TreeOf.{trees_from}
 use Rattle.tla_tree.specs.Pool.{at, trees_at, AllBelow}
-use Rattle.tla_expr.specs.ShapeOf.{shape_of, in_all, in_binds, in_fields, in_settings, in_arms, in_locals}
+use Rattle.tla_expr.specs.ShapeOf.{shape_of, in_all, in_binds, in_fields, in_settings, in_bullets, last_boxes, in_arms, in_locals}
+use Rattle.tla_expr.specs.declared.shape.Boxes.{Boxes}
+use Rattle.tla_tree.specs.declared.op.Op.{Op}
 use Rattle.tla_expr.specs.declared.make.Read.{Read}
 use Rattle.tla_expr.specs.declared.make.Row.{Row}
 use Rattle.tla_tree.specs.Reader.{Out}
@@ -103,3 +105,11 @@ pub record Reads {A : Type 0} (P : A → Type 0) (u : List Token) (o : Out A) : 
 abbrev pub Told : {X A : Type 0} → (X → A → Type 0) → (X → List Token) → Result X Halt → Out A → Type 0
 Told P f (Ok x) o = Reads (P x) (f x) o
 Told P f (Err e) o = Fails e o
+
+-- items by columns: joined from the left, they are the tree of the number
+pub record AreItems (ts : List tree.Tree) (o : Op) (i : ℕ) (p : Place) (b : Boxes) (n : ℕ) (bs : Bullets) : Type 0 where
+  pub below : i < length ts
+  pub tree : at ts i ≡ joined o bs
+  pub first : first_bullet bs ≡ p
+  pub boxes : last_boxes bs ≡ b
+  pub nesting : in_bullets bs ≡ n

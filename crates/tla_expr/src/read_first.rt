@@ -16,6 +16,7 @@ ghost use Rattle.tla_expr.specs.ReadForms.{NumbersFit, CanForm, ReadsForm};
 use crate::cursor::{Halt, Word};
 use crate::make::Read;
 use crate::read_climb::climb;
+use crate::read_listed::{case, let_from, list};
 use crate::read_name::from_name;
 use crate::read_open::if_then_else;
 use crate::read_primary::{bracket, tuple};
@@ -33,14 +34,12 @@ use tla_tree::Op;
 /// The first token of a form that is read by a function which is passed.
 #[derive(Clone, Copy, PartialEq, Eq, Debug)]
 pub enum First {
-    /// A quantifier, `CASE` or `LET`.
+    /// A quantifier.
     Key(Key),
     /// `{`
     Brace,
     /// `[`
     Square,
-    /// The first bullet of a list by columns.
-    Bullet(Op),
 }
 
 /// A primary that begins with a name, which is the next token, at a place.
@@ -101,22 +100,24 @@ pub fn marked<
     }
 }
 
-/// A list by columns, its first bullet being the next token, at a place.
-pub fn bullets<G: Fn(&mut Pool, First, Place, Spot) -> Result<(Read, usize), Halt>>(
+/// A list by columns, its first bullet being the next token, at a place; no other sign begins a primary.
+pub fn bullets<F: Fn(&mut Pool, Context, Spot) -> Result<(Read, usize), Halt>>(
+    alloc: Global,
     tokens: &Tokens,
-    forms: &G,
+    inner: &F,
     pool: &mut Pool,
     s: Spot,
     place: Place,
     op: Op,
 ) -> Result<(Read, usize), Halt>
     requires there { s.at ≤ length tokens.now.items.items }
-    requires can_form { CanForm tokens.now s.left (G.pre forms.now) }
-    requires reads_form { ReadsForm tokens.now s.left (G.post forms.now) }
+    requires limited { s.left ≤ deepest_expression }
+    requires can { CanRead tokens.now s.left (F.pre inner.now) }
+    requires reads { ReadsBelow tokens.now s.left (F.post inner.now) }
     ensures { HasRead tokens.now pool.old pool.new s.at s.left result (reader.primary (reader.room whole (Some s.left)) (whole (Some s.left)) s.edge place (tk.sign op) (ahead tokens.now s.at)) }
 {
     if is_bullet(op) {
-        forms(pool, First::Bullet(op), place, s)
+        list(alloc, tokens, inner, pool, s, place, op)
     } else {
         Err(refused(tokens, s, Rule::Syntax))
     }
@@ -174,7 +175,7 @@ pub fn primary<
         View::Constant(c) => constant(alloc, tokens, inner, pool, s, t.place, c),
         View::Word(span) => word(alloc, tokens, inner, pool, s, t.place, span),
         View::Mark(mark) => marked(alloc, tokens, inner, forms, pool, s, t.place, mark),
-        View::Sign(op) => bullets(tokens, forms, pool, s, t.place, op),
+        View::Sign(op) => bullets(alloc, tokens, inner, pool, s, t.place, op),
         _ => Err(refused(tokens, s, Rule::Syntax)),
     }
 }
@@ -203,9 +204,9 @@ pub fn keyed<
 {
     match key {
         Key::If => if_then_else(alloc, tokens, inner, pool, s, place),
-        Key::Case | Key::Let | Key::ForAll | Key::Exists => {
-            forms(pool, First::Key(key), place, s)
-        }
+        Key::Case => case(alloc, tokens, inner, pool, s, place),
+        Key::Let => let_from(alloc, tokens, inner, pool, s, place),
+        Key::ForAll | Key::Exists => forms(pool, First::Key(key), place, s),
         _ => Err(refused(tokens, s, Rule::Syntax)),
     }
 }
@@ -237,7 +238,7 @@ pub fn operand<
         View::Key(key) => keyed(alloc, tokens, inner, forms, pool, s, t.place, key),
         View::Sign(op) => match prefix_by(op) {
             Some(q) => signed(alloc, tokens, inner, pool, s, context, t.place, q),
-            None => bullets(tokens, forms, pool, s, t.place, op),
+            None => bullets(alloc, tokens, inner, pool, s, t.place, op),
         },
         _ => primary(alloc, tokens, inner, forms, pool, s),
     }

@@ -1,0 +1,18 @@
+-- Proves what is asked of `let_from`.
+use Rattle.std.proofs.Common.{◌≡◌, suc, ◌+◌, ◌≤◌, Some, arith}
+use Rattle.tla_tree.specs.Whole.{whole}
+use Rattle.tla_expr.specs.Ahead.{ahead}
+use Rattle.tla_expr.specs.HasRead.{defined}
+use Rattle.tla_expr.proofs.ReadPrimaries.{opened_as}
+use Rattle.tla_expr.proofs.ReadListed.{let_more}
+use Rattle.tla_expr.proofs.read_listed.let_from.Goals as goal
+
+pub returns : goal.returns
+returns g c =
+    let v = c.args.tokens.now in
+    let s = c.args.s in
+    let d = c.in_ok-d.d in
+    let l : d.left + 1 ≡ s.left = omega (arith, c.in_ok-d.ensures.left) in
+    let small : suc d.left ≤ s.left = omega (arith, l) in
+    opened_as v _ _ s.edge d.edge d.left s.left s.at c.after-from.result c.let_in.result _ (λ e. defined (whole (Some d.left)) e c.args.place (ahead v c.after-from.result))
+    c.in_ok-d.ensures.edge c.let_in.ensures c.after-from.ensures.no_less small (let_more s.left s.edge c.args.place (ahead v s.at) (ahead v c.after-from.result) d.left l c.after-from.ensures.rest)

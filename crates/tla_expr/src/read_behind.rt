@@ -1,0 +1,38 @@
+//! Reading the expression behind a mark, over a reader of expressions.
+
+ghost use Rattle.std.specs.Prelude.{◌≡◌, ◌<◌, ◌≤◌, suc, length, IfOk, Some};
+ghost use Rattle.tla_tree.specs.Pool.{Keeps};
+ghost use Rattle.tla_tree.specs.Spelling.{Phrase};
+ghost use Rattle.tla_tree.specs.Whole.{whole};
+ghost use Rattle.tla_expr.specs.ViewSeen.{mark_seen};
+ghost use Rattle.tla_expr.specs.Ahead.{ahead};
+ghost use Rattle.tla_expr.specs.ReadIn.{IsIn, Told};
+ghost use Rattle.tla_expr.specs.HasRead.{CanRead, ReadsBelow, Stands, behind_mark};
+
+use crate::cursor::Halt;
+use crate::make::Read;
+use crate::shape::Context;
+use crate::spot::{Spot, past_mark};
+use crate::view::Mark;
+use tla_pool::Pool;
+use tla_token::{Place, Tokens};
+
+/// The expression behind this mark, which is to be next.
+pub fn behind<F: Fn(&mut Pool, Context, Spot) -> Result<(Read, usize), Halt>>(
+    tokens: &Tokens,
+    inner: &F,
+    pool: &mut Pool,
+    s: Spot,
+    mark: Mark,
+) -> Result<(Read, usize), Halt>
+    requires there { s.at ≤ length tokens.now.items.items }
+    requires can { CanRead tokens.now (suc s.left) (F.pre inner.now) }
+    requires reads { ReadsBelow tokens.now (suc s.left) (F.post inner.now) }
+    ensures read { Told (λ x (y : Place × Phrase). IsIn pool.new x.0 y.1) (λ x. ahead tokens.now x.1) result (behind_mark (whole (Some s.left)) s.edge (mark_seen mark) (ahead tokens.now s.at)) }
+    ensures kept { Keeps pool.old pool.new }
+    ensures stands { IfOk result (λ x. Stands tokens.now pool.new s.at s.left x) }
+{
+    let (_, at) = past_mark(tokens, s, mark)?;
+    let (a, at) = inner(pool, Context::Free, Spot { at, ..s })?;
+    Ok((a, at))
+}

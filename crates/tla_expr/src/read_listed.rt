@@ -1,0 +1,137 @@
+//! Reading `CASE`, `LET` and lists by columns, over a reader of the expressions in them.
+
+ghost use Rattle.std.specs.Prelude.{◌≡◌, ◌≤◌, suc, true, length, Some};
+ghost use Rattle.tla_token.specs.Limits.{deepest_expression};
+ghost use Rattle.tla_tree.specs.Lexical as tk;
+ghost use Rattle.tla_tree.specs.Rank.{is_bullet as is_bullet_of};
+ghost use Rattle.tla_tree.specs.Reader as reader;
+ghost use Rattle.tla_tree.specs.Whole.{whole};
+ghost use Rattle.tla_expr.specs.Ahead.{ahead};
+ghost use Rattle.tla_expr.specs.HasRead.{HasRead, CanRead, ReadsBelow, cased, defined};
+
+use crate::cursor::Halt;
+use crate::gather::{cases, local};
+use crate::make::Read;
+use crate::read_arms::arms;
+use crate::read_bullets::bullets;
+use crate::read_link::postfix;
+use crate::read_locals::locals;
+use crate::shape::{Context, list_shape};
+use crate::spot::{Spot, after, deeper, past_key};
+use crate::view::Key;
+use std::alloc::Global;
+use tla_pool::Pool;
+use tla_token::{Place, Tokens};
+use tla_tree::Op;
+
+/// `p -> e [] q -> f` behind a `CASE` at a place.
+pub fn case_in<F: Fn(&mut Pool, Context, Spot) -> Result<(Read, usize), Halt>>(
+    alloc: Global,
+    tokens: &Tokens,
+    inner: &F,
+    pool: &mut Pool,
+    s: Spot,
+    place: Place,
+) -> Result<(Read, usize), Halt>
+    requires there { s.at ≤ length tokens.now.items.items }
+    requires limited { s.left ≤ deepest_expression }
+    requires can { CanRead tokens.now (suc s.left) (F.pre inner.now) }
+    requires reads { ReadsBelow tokens.now (suc s.left) (F.post inner.now) }
+    ensures { HasRead tokens.now pool.old pool.new s.at (suc s.left) result (cased (whole (Some s.left)) s.edge place (ahead tokens.now s.at)) }
+{
+    let (many, at) = arms(alloc, tokens, inner, pool, s)?;
+    let whole = cases(pool, place, many.other, many.ids, many.nesting)?;
+    Ok((whole, at))
+}
+
+/// `CASE p -> e [] q -> f`, the next token being the `CASE`, at a place.
+pub fn case<F: Fn(&mut Pool, Context, Spot) -> Result<(Read, usize), Halt>>(
+    alloc: Global,
+    tokens: &Tokens,
+    inner: &F,
+    pool: &mut Pool,
+    s: Spot,
+    place: Place,
+) -> Result<(Read, usize), Halt>
+    requires there { s.at ≤ length tokens.now.items.items }
+    requires limited { s.left ≤ deepest_expression }
+    requires can { CanRead tokens.now s.left (F.pre inner.now) }
+    requires reads { ReadsBelow tokens.now s.left (F.post inner.now) }
+    ensures { HasRead tokens.now pool.old pool.new s.at s.left result (reader.keyed (reader.room whole (Some s.left)) s.edge place tk.case_key (ahead tokens.now s.at)) }
+{
+    let d = deeper(tokens, s, 0)?;
+    let from = after(tokens, s);
+    case_in(alloc, tokens, inner, pool, Spot { at: from, ..d }, place)
+}
+
+/// `x == e y == f IN a` behind a `LET` at a place.
+pub fn let_in<F: Fn(&mut Pool, Context, Spot) -> Result<(Read, usize), Halt>>(
+    alloc: Global,
+    tokens: &Tokens,
+    inner: &F,
+    pool: &mut Pool,
+    s: Spot,
+    place: Place,
+) -> Result<(Read, usize), Halt>
+    requires there { s.at ≤ length tokens.now.items.items }
+    requires limited { s.left ≤ deepest_expression }
+    requires can { CanRead tokens.now (suc s.left) (F.pre inner.now) }
+    requires reads { ReadsBelow tokens.now (suc s.left) (F.post inner.now) }
+    ensures { HasRead tokens.now pool.old pool.new s.at (suc s.left) result (defined (whole (Some s.left)) s.edge place (ahead tokens.now s.at)) }
+{
+    let (many, at) = locals(alloc, tokens, inner, pool, s)?;
+    let (_, at) = past_key(tokens, Spot { at, ..s }, Key::In)?;
+    let (a, at) = inner(pool, Context::Free, Spot { at, ..s })?;
+    let whole = local(pool, place, many.names, many.ids, many.nesting, a)?;
+    Ok((whole, at))
+}
+
+/// `LET x == e y == f IN a`, the next token being the `LET`, at a place.
+pub fn let_from<F: Fn(&mut Pool, Context, Spot) -> Result<(Read, usize), Halt>>(
+    alloc: Global,
+    tokens: &Tokens,
+    inner: &F,
+    pool: &mut Pool,
+    s: Spot,
+    place: Place,
+) -> Result<(Read, usize), Halt>
+    requires there { s.at ≤ length tokens.now.items.items }
+    requires limited { s.left ≤ deepest_expression }
+    requires can { CanRead tokens.now s.left (F.pre inner.now) }
+    requires reads { ReadsBelow tokens.now s.left (F.post inner.now) }
+    ensures { HasRead tokens.now pool.old pool.new s.at s.left result (reader.keyed (reader.room whole (Some s.left)) s.edge place tk.let_key (ahead tokens.now s.at)) }
+{
+    let d = deeper(tokens, s, 0)?;
+    let from = after(tokens, s);
+    let_in(alloc, tokens, inner, pool, Spot { at: from, ..d }, place)
+}
+
+/// A list by columns with what comes after it, the next token being its first bullet, at a place.
+pub fn list<F: Fn(&mut Pool, Context, Spot) -> Result<(Read, usize), Halt>>(
+    alloc: Global,
+    tokens: &Tokens,
+    inner: &F,
+    pool: &mut Pool,
+    s: Spot,
+    place: Place,
+    op: Op,
+) -> Result<(Read, usize), Halt>
+    requires there { s.at ≤ length tokens.now.items.items }
+    requires limited { s.left ≤ deepest_expression }
+    requires can { CanRead tokens.now s.left (F.pre inner.now) }
+    requires reads { ReadsBelow tokens.now s.left (F.post inner.now) }
+    requires bullet { is_bullet_of op ≡ true }
+    ensures { HasRead tokens.now pool.old pool.new s.at s.left result (reader.primary (reader.room whole (Some s.left)) (whole (Some s.left)) s.edge place (tk.sign op) (ahead tokens.now s.at)) }
+{
+    let (items, at) = bullets(alloc, tokens, inner, pool, s, op, place.col)?;
+    let id = items.id;
+    let shape = list_shape(op, items.first, items.boxes, items.nesting);
+    postfix(
+        alloc,
+        tokens,
+        inner,
+        pool,
+        Spot { at, ..s },
+        Read { id, shape },
+    )
+}
