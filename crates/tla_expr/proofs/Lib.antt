@@ -15,4 +15,11 @@ pub mod ReadLinks
 pub mod ReadGrown
 pub mod ReadNames
 pub mod ReadPrimaries
+pub mod ReadPut
+pub mod ReadBinds
+pub mod ReadFields
+pub mod ReadPaths
+pub mod ListsRead
+pub mod ReadQuantifiers
+mod RowsLists
 mod RowsHasRead

@@ -4,3 +4,6 @@ pub mod ShapeOf
 pub mod ReadIn
 pub mod Ahead
 pub mod HasRead
+pub mod Grouped
+pub mod Routed
+pub mod InSquares
