@@ -19,6 +19,7 @@ pub mod ReadPut
 pub mod ReadBinds
 pub mod ReadFields
 pub mod ReadPaths
+pub mod ReadSettings
 pub mod ListsRead
 pub mod ReadQuantifiers
 mod RowsLists
