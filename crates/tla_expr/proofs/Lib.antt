@@ -1,6 +1,5 @@
 pub mod WritingLemmas
 pub mod RowsWriting
-mod RowsShape
 pub mod ShapeLemmas
 pub mod MakeLemmas
 pub mod ReadLemmas
@@ -21,10 +20,20 @@ pub mod ReadSets
 pub mod ReadElement
 pub mod ReadMembers
 pub mod ReadBraces
+pub mod ReadSquares
 pub mod ReadArms
 pub mod ReadLocals
 pub mod ReadBullets
 pub mod ReadListed
-mod RowsHasRead
+pub mod ReadPut
+pub mod ReadBinds
+pub mod ReadFields
+pub mod ReadPaths
+pub mod ReadSettings
+pub mod ListsRead
+pub mod ReadQuantifiers
+mod RowsShape
 mod RowsLists
+mod RowsHasRead
 mod RowsForms
+mod RowsBinds

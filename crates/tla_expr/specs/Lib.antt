@@ -5,3 +5,6 @@ pub mod ReadIn
 pub mod Ahead
 pub mod HasRead
 pub mod ReadForms
+pub mod Grouped
+pub mod Routed
+pub mod InSquares

@@ -12,13 +12,11 @@ use Rattle.tla_token.specs.declared.rule.Rule.TheVariants.{TooDeep, Syntax}
 use Rattle.tla_tree.specs.Lexical as tk
 use Rattle.tla_tree.specs.declared.op.Op.{Op}
 use Rattle.tla_tree.specs.Spelling.{Phrase, last, more, prefix_of, set_of, name}
-use Rattle.tla_tree.specs.Reader.{Out, Room, Reader, Readers, free, behind, from_name, brace_rest, image_rest, member_rest, ◌>>=◌, gives, ended, next, is_mark, peek, room, keyed, primary, element}
+use Rattle.tla_tree.specs.Reader.{Out, Room, Reader, Readers, free, behind, from_name, brace_rest, member_rest, square_rest, square_member, ◌>>=◌, gives, ended, next, is_mark, is_key, peek, room, keyed, primary, element}
 use Rattle.tla_tree.specs.Whole.{whole}
 use Rattle.tla_expr.specs.declared.cursor.Halt.{Halt}
 use Rattle.tla_expr.specs.declared.make.Read.{Read}
 use Rattle.tla_expr.specs.declared.read_element.Parted.{Parted}
-use Rattle.tla_expr.specs.declared.read_first.First.{First}
-use Rattle.tla_expr.specs.declared.read_first.First.TheVariants as first
 use Rattle.tla_expr.specs.declared.shape.Shape.{Shape}
 use Rattle.tla_expr.specs.declared.spot.Spot.{Spot}
 use Rattle.tla_expr.specs.ViewSeen.{key_seen}
@@ -42,20 +40,6 @@ set_before d e p a q = d.phrases e >>= λ xs. ended e tk.close_brace (λ s. set_
 -- each number that is seen of the tokens is less than 2^127
 abbrev pub NumbersFit : Tokens → Type 0
 NumbersFit v = (i e n : ℕ) → (next e (ahead v i)).kind ≡ tk.number n → n < past_numbers
-
--- what the form is that begins so, where this token is at a place
-abbrev pub form_at : Tokens → First → Place → Spot → Out Phrase
-form_at v (first.Key k) p s = keyed (room whole (Some s.left)) s.edge p (key_seen k) (ahead v s.at)
-form_at v first.Brace p s = primary (room whole (Some s.left)) (whole (Some s.left)) s.edge p (tk.mark tk.open_brace) (ahead v s.at)
-form_at v first.Square p s = primary (room whole (Some s.left)) (whole (Some s.left)) s.edge p (tk.mark tk.open_square) (ahead v s.at)
-
--- it may be called where no more than n forms may open
-abbrev pub CanForm : Tokens → ℕ → (MutBor (List Tree) → First → Place → Spot → Type 0) → Type 0
-CanForm v n pre = (p : MutBor (List Tree)) (x : First) (at : Place) (s : Spot) → s.left ≤ n → s.at ≤ length v.items.items → pre p x at s
-
--- and reads the form then
-abbrev pub ReadsForm : Tokens → ℕ → (MutBor (List Tree) → First → Place → Spot → Result (Read × ℕ) Halt → MutBor (List Tree) → Type 0) → Type 0
-ReadsForm v n post = (p q : MutBor (List Tree)) (x : First) (at : Place) (s : Spot) (r : Result (Read × ℕ) Halt) → s.left ≤ n → s.at ≤ length v.items.items → post p x at s r q → HasRead v p.now q.now s.at s.left r (form_at v x at s)
 
 -- ---- behind `x \in` after `{` or `[`
 -- the name, the set, and the element that it may be instead
@@ -110,15 +94,19 @@ braced m d e p q x = from_name m d e q x >>= λ a. d.climb e free a >>= λ b. pe
 abbrev pub braced_other : Readers → ℕ → Place → Reader Phrase
 braced_other d e p = d.expr e free >>= λ a. peek e (brace_rest d e p a)
 
--- what reads `x \in S}` behind `{a :` may be called where fewer than n forms may open
-abbrev pub CanImage : Tokens → ℕ → (MutBor (List Tree) → Spot → Place → Read → Type 0) → Type 0
-CanImage v n pre = (p : MutBor (List Tree)) (s : Spot) (at : Place) (a : Read) → s.left < n → s.at ≤ length v.items.items → a.id < length p.now → a.shape.nesting ≤ s.left → pre p s at a
+-- ---- behind `[`
+-- what refuses an element that is too deep, before this token
+abbrev pub square_rule : TokenView → Rule
+square_rule k = if is_mark tk.arrow k || is_key tk.except_key k then TooDeep else Syntax
 
--- and reads that then
-pub record HasImage (v : Tokens) (old new : List Tree) (s : Spot) (at : Place) (a : Read) (r : Result (Read × ℕ) Halt) : Type 0 where
-  pub read : (i : Phrase) (c : Place) → IsIn old a i → Told (λ (x : Read × ℕ) j. IsIn new x.0 j) (λ x. ahead v x.1) r (image_rest (whole (Some s.left)) s.edge at i c (ahead v s.at))
-  pub kept : Keeps old new
-  pub stands : IfOk r (λ x. Stands v new s.at (suc s.left) x)
+-- behind `[x \in`
+abbrev pub mapped : Room → Readers → ℕ → Place → Place → Word → Place → Reader Phrase
+mapped m d e p q x s = d.expr e (behind q x s) >>= λ a. peek e (square_member m d e p q x s a)
 
-abbrev pub ReadsImage : Tokens → ℕ → (MutBor (List Tree) → Spot → Place → Read → Result (Read × ℕ) Halt → MutBor (List Tree) → Type 0) → Type 0
-ReadsImage v n post = (p q : MutBor (List Tree)) (s : Spot) (at : Place) (a : Read) (r : Result (Read × ℕ) Halt) → s.left < n → s.at ≤ length v.items.items → a.id < length p.now → a.shape.nesting ≤ s.left → post p s at a r q → HasImage v p.now q.now s at a r
+-- an expression that begins with this name, and what comes after it
+abbrev pub squared : Room → Readers → ℕ → Place → Place → Word → Reader Phrase
+squared m d e p q x = from_name m d e q x >>= λ a. d.climb e free a >>= λ b. peek e (square_rest d e p b)
+
+-- another expression, and what comes after it
+abbrev pub squared_other : Readers → ℕ → Place → Reader Phrase
+squared_other d e p = d.expr e free >>= λ a. peek e (square_rest d e p a)

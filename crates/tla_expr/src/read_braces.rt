@@ -11,11 +11,12 @@ ghost use Rattle.tla_tree.specs.Whole.{whole};
 ghost use Rattle.tla_expr.specs.Ahead.{ahead};
 ghost use Rattle.tla_expr.specs.ReadIn.{IsIn, Told};
 ghost use Rattle.tla_expr.specs.HasRead.{HasRead, CanRead, ReadsBelow, Stands};
-ghost use Rattle.tla_expr.specs.ReadForms.{CanImage, ReadsImage, braced, braced_other};
+ghost use Rattle.tla_expr.specs.ReadForms.{braced, braced_other};
 
 use crate::cursor::{Halt, Word, is_sign};
 use crate::make::{Read, empty_set};
 use crate::read_climb::climb;
+use crate::read_image::image_in;
 use crate::read_link::postfix;
 use crate::read_member::member_in;
 use crate::read_name::from_name;
@@ -29,14 +30,10 @@ use tla_token::{Place, Tokens};
 use tla_tree::Op;
 
 // Behind `{a`: `: x \in S}`, `, b}` or `}`.
-fn rest<
-    F: Fn(&mut Pool, Context, Spot) -> Result<(Read, usize), Halt>,
-    H: Fn(&mut Pool, Spot, Place, Read) -> Result<(Read, usize), Halt>,
->(
+fn rest<F: Fn(&mut Pool, Context, Spot) -> Result<(Read, usize), Halt>>(
     alloc: Global,
     tokens: &Tokens,
     inner: &F,
-    images: &H,
     pool: &mut Pool,
     s: Spot,
     place: Place,
@@ -46,8 +43,6 @@ fn rest<
     requires limited { s.left ≤ deepest_expression }
     requires can { CanRead tokens.now (suc s.left) (F.pre inner.now) }
     requires reads { ReadsBelow tokens.now (suc s.left) (F.post inner.now) }
-    requires can_image { CanImage tokens.now (suc s.left) (H.pre images.now) }
-    requires reads_image { ReadsImage tokens.now (suc s.left) (H.post images.now) }
     requires a_in { a.id < length pool.old }
     requires a_small { a.shape.nesting ≤ s.left }
     ensures read { (i : Phrase) → IsIn pool.old a i → Told (λ x j. IsIn pool.new x.0 j) (λ x. ahead tokens.now x.1) result (reader.peek s.edge (reader.brace_rest (whole (Some s.left)) s.edge place i) (ahead tokens.now s.at)) }
@@ -55,20 +50,16 @@ fn rest<
     ensures stands { IfOk result (λ x. Stands tokens.now pool.new s.at (suc s.left) x) }
 {
     match after_mark(tokens, s, Mark::Colon) {
-        Some(at) => images(pool, Spot { at, ..s }, place, a),
+        Some(at) => image_in(alloc, tokens, inner, pool, Spot { at, ..s }, place, a),
         None => set_in(alloc, tokens, inner, pool, s, place, a),
     }
 }
 
 // Behind `{x`, where no `\in` is next: an expression that begins with the name, and what comes after it.
-fn named<
-    F: Fn(&mut Pool, Context, Spot) -> Result<(Read, usize), Halt>,
-    H: Fn(&mut Pool, Spot, Place, Read) -> Result<(Read, usize), Halt>,
->(
+fn named<F: Fn(&mut Pool, Context, Spot) -> Result<(Read, usize), Halt>>(
     alloc: Global,
     tokens: &Tokens,
     inner: &F,
-    images: &H,
     pool: &mut Pool,
     s: Spot,
     place: Place,
@@ -78,34 +69,19 @@ fn named<
     requires limited { s.left ≤ deepest_expression }
     requires can { CanRead tokens.now (suc s.left) (F.pre inner.now) }
     requires reads { ReadsBelow tokens.now (suc s.left) (F.post inner.now) }
-    requires can_image { CanImage tokens.now (suc s.left) (H.pre images.now) }
-    requires reads_image { ReadsImage tokens.now (suc s.left) (H.post images.now) }
     ensures { HasRead tokens.now pool.old pool.new s.at (suc s.left) result (braced (reader.room whole (Some s.left)) (whole (Some s.left)) s.edge place word.place (span_bytes tokens.now.bytes.items word.span) (ahead tokens.now s.at)) }
 {
     let (a, at) = from_name(alloc, tokens, inner, pool, s, word)?;
     let s = Spot { at, ..s };
     let (b, at) = climb(alloc, tokens, inner, pool, s, Context::Free, a)?;
-    rest(
-        alloc,
-        tokens,
-        inner,
-        images,
-        pool,
-        Spot { at, ..s },
-        place,
-        b,
-    )
+    rest(alloc, tokens, inner, pool, Spot { at, ..s }, place, b)
 }
 
 // Behind `{x`: what a name begins, or a set behind `\in`.
-fn from_word<
-    F: Fn(&mut Pool, Context, Spot) -> Result<(Read, usize), Halt>,
-    H: Fn(&mut Pool, Spot, Place, Read) -> Result<(Read, usize), Halt>,
->(
+fn from_word<F: Fn(&mut Pool, Context, Spot) -> Result<(Read, usize), Halt>>(
     alloc: Global,
     tokens: &Tokens,
     inner: &F,
-    images: &H,
     pool: &mut Pool,
     s: Spot,
     place: Place,
@@ -115,8 +91,6 @@ fn from_word<
     requires limited { s.left ≤ deepest_expression }
     requires can { CanRead tokens.now (suc s.left) (F.pre inner.now) }
     requires reads { ReadsBelow tokens.now (suc s.left) (F.post inner.now) }
-    requires can_image { CanImage tokens.now (suc s.left) (H.pre images.now) }
-    requires reads_image { ReadsImage tokens.now (suc s.left) (H.post images.now) }
     ensures { HasRead tokens.now pool.old pool.new s.at (suc s.left) result (reader.peek s.edge (reader.brace_name (reader.room whole (Some s.left)) (whole (Some s.left)) s.edge place word.place (span_bytes tokens.now.bytes.items word.span)) (ahead tokens.now s.at)) }
 {
     let t = next_at(tokens, s);
@@ -133,18 +107,14 @@ fn from_word<
             t.place,
         );
     }
-    named(alloc, tokens, inner, images, pool, s, place, word)
+    named(alloc, tokens, inner, pool, s, place, word)
 }
 
 // Behind `{`, where no name and no `}` is next.
-fn from_other<
-    F: Fn(&mut Pool, Context, Spot) -> Result<(Read, usize), Halt>,
-    H: Fn(&mut Pool, Spot, Place, Read) -> Result<(Read, usize), Halt>,
->(
+fn from_other<F: Fn(&mut Pool, Context, Spot) -> Result<(Read, usize), Halt>>(
     alloc: Global,
     tokens: &Tokens,
     inner: &F,
-    images: &H,
     pool: &mut Pool,
     s: Spot,
     place: Place,
@@ -153,32 +123,17 @@ fn from_other<
     requires limited { s.left ≤ deepest_expression }
     requires can { CanRead tokens.now (suc s.left) (F.pre inner.now) }
     requires reads { ReadsBelow tokens.now (suc s.left) (F.post inner.now) }
-    requires can_image { CanImage tokens.now (suc s.left) (H.pre images.now) }
-    requires reads_image { ReadsImage tokens.now (suc s.left) (H.post images.now) }
     ensures { HasRead tokens.now pool.old pool.new s.at (suc s.left) result (braced_other (whole (Some s.left)) s.edge place (ahead tokens.now s.at)) }
 {
     let (a, at) = inner(pool, Context::Free, s)?;
-    rest(
-        alloc,
-        tokens,
-        inner,
-        images,
-        pool,
-        Spot { at, ..s },
-        place,
-        a,
-    )
+    rest(alloc, tokens, inner, pool, Spot { at, ..s }, place, a)
 }
 
 /// Behind a `{` at a place.
-pub fn braces_from<
-    F: Fn(&mut Pool, Context, Spot) -> Result<(Read, usize), Halt>,
-    H: Fn(&mut Pool, Spot, Place, Read) -> Result<(Read, usize), Halt>,
->(
+pub fn braces_from<F: Fn(&mut Pool, Context, Spot) -> Result<(Read, usize), Halt>>(
     alloc: Global,
     tokens: &Tokens,
     inner: &F,
-    images: &H,
     pool: &mut Pool,
     s: Spot,
     place: Place,
@@ -187,8 +142,6 @@ pub fn braces_from<
     requires limited { s.left ≤ deepest_expression }
     requires can { CanRead tokens.now (suc s.left) (F.pre inner.now) }
     requires reads { ReadsBelow tokens.now (suc s.left) (F.post inner.now) }
-    requires can_image { CanImage tokens.now (suc s.left) (H.pre images.now) }
-    requires reads_image { ReadsImage tokens.now (suc s.left) (H.post images.now) }
     ensures { HasRead tokens.now pool.old pool.new s.at (suc s.left) result (reader.peek s.edge (reader.braces (reader.room whole (Some s.left)) (whole (Some s.left)) s.edge place) (ahead tokens.now s.at)) }
 {
     if let Some(at) = after_mark(tokens, s, Mark::CloseBrace) {
@@ -204,21 +157,17 @@ pub fn braces_from<
                 span,
             };
             let s = Spot { at, ..s };
-            from_word(alloc, tokens, inner, images, pool, s, place, word)
+            from_word(alloc, tokens, inner, pool, s, place, word)
         }
-        _ => from_other(alloc, tokens, inner, images, pool, s, place),
+        _ => from_other(alloc, tokens, inner, pool, s, place),
     }
 }
 
 /// A set in braces, the next token being the `{`, at a place.
-pub fn braces<
-    F: Fn(&mut Pool, Context, Spot) -> Result<(Read, usize), Halt>,
-    H: Fn(&mut Pool, Spot, Place, Read) -> Result<(Read, usize), Halt>,
->(
+pub fn braces<F: Fn(&mut Pool, Context, Spot) -> Result<(Read, usize), Halt>>(
     alloc: Global,
     tokens: &Tokens,
     inner: &F,
-    images: &H,
     pool: &mut Pool,
     s: Spot,
     place: Place,
@@ -227,13 +176,11 @@ pub fn braces<
     requires limited { s.left ≤ deepest_expression }
     requires can { CanRead tokens.now s.left (F.pre inner.now) }
     requires reads { ReadsBelow tokens.now s.left (F.post inner.now) }
-    requires can_image { CanImage tokens.now s.left (H.pre images.now) }
-    requires reads_image { ReadsImage tokens.now s.left (H.post images.now) }
     ensures { HasRead tokens.now pool.old pool.new s.at s.left result (reader.primary (reader.room whole (Some s.left)) (whole (Some s.left)) s.edge place (tk.mark tk.open_brace) (ahead tokens.now s.at)) }
 {
     let d = deeper(tokens, s, 0)?;
     let from = after(tokens, s);
     let d = Spot { at: from, ..d };
-    let (a, at) = braces_from(alloc, tokens, inner, images, pool, d, place)?;
+    let (a, at) = braces_from(alloc, tokens, inner, pool, d, place)?;
     postfix(alloc, tokens, inner, pool, Spot { at, ..s }, a)
 }

@@ -11,16 +11,19 @@ ghost use Rattle.tla_expr.specs.ShapeOf.{context_seen};
 ghost use Rattle.tla_expr.specs.ViewSeen.{mark_seen, key_seen};
 ghost use Rattle.tla_expr.specs.Ahead.{ahead};
 ghost use Rattle.tla_expr.specs.HasRead.{HasRead, CanRead, ReadsBelow, ReadsThere};
-ghost use Rattle.tla_expr.specs.ReadForms.{NumbersFit, CanForm, ReadsForm};
+ghost use Rattle.tla_expr.specs.ReadForms.{NumbersFit};
 
 use crate::cursor::{Halt, Word};
 use crate::make::Read;
+use crate::read_braces::braces;
 use crate::read_climb::climb;
 use crate::read_listed::{case, let_from, list};
 use crate::read_name::from_name;
 use crate::read_open::if_then_else;
 use crate::read_primary::{bracket, tuple};
+use crate::read_quantifier::quantifier;
 use crate::read_short::signed;
+use crate::read_squares::squares;
 use crate::read_token::{constant, number, string};
 use crate::shape::{Context, is_bullet, prefix_by};
 use crate::spot::{Spot, after, next_at, refused};
@@ -30,17 +33,6 @@ use tla_pool::Pool;
 use tla_token::bytes::number_value;
 use tla_token::{Place, Rule, Span, Tokens};
 use tla_tree::Op;
-
-/// The first token of a form that is read by a function which is passed.
-#[derive(Clone, Copy, PartialEq, Eq, Debug)]
-pub enum First {
-    /// A quantifier.
-    Key(Key),
-    /// `{`
-    Brace,
-    /// `[`
-    Square,
-}
 
 /// A primary that begins with a name, which is the next token, at a place.
 pub fn word<F: Fn(&mut Pool, Context, Spot) -> Result<(Read, usize), Halt>>(
@@ -70,14 +62,10 @@ pub fn word<F: Fn(&mut Pool, Context, Spot) -> Result<(Read, usize), Halt>>(
 }
 
 /// A primary that begins with a mark, which is the next token, at a place.
-pub fn marked<
-    F: Fn(&mut Pool, Context, Spot) -> Result<(Read, usize), Halt>,
-    G: Fn(&mut Pool, First, Place, Spot) -> Result<(Read, usize), Halt>,
->(
+pub fn marked<F: Fn(&mut Pool, Context, Spot) -> Result<(Read, usize), Halt>>(
     alloc: Global,
     tokens: &Tokens,
     inner: &F,
-    forms: &G,
     pool: &mut Pool,
     s: Spot,
     place: Place,
@@ -87,15 +75,13 @@ pub fn marked<
     requires limited { s.left ≤ deepest_expression }
     requires can { CanRead tokens.now s.left (F.pre inner.now) }
     requires reads { ReadsBelow tokens.now s.left (F.post inner.now) }
-    requires can_form { CanForm tokens.now s.left (G.pre forms.now) }
-    requires reads_form { ReadsForm tokens.now s.left (G.post forms.now) }
     ensures { HasRead tokens.now pool.old pool.new s.at s.left result (reader.primary (reader.room whole (Some s.left)) (whole (Some s.left)) s.edge place (tk.mark (mark_seen mark)) (ahead tokens.now s.at)) }
 {
     match mark {
         Mark::OpenBracket => bracket(alloc, tokens, inner, pool, s, place),
         Mark::OpenTuple => tuple(alloc, tokens, inner, pool, s, place),
-        Mark::OpenBrace => forms(pool, First::Brace, place, s),
-        Mark::OpenSquare => forms(pool, First::Square, place, s),
+        Mark::OpenBrace => braces(alloc, tokens, inner, pool, s, place),
+        Mark::OpenSquare => squares(alloc, tokens, inner, pool, s, place),
         _ => Err(refused(tokens, s, Rule::Syntax)),
     }
 }
@@ -147,14 +133,10 @@ fn big_number<F: Fn(&mut Pool, Context, Spot) -> Result<(Read, usize), Halt>>(
 }
 
 /// A primary, with the applications and fields after it.
-pub fn primary<
-    F: Fn(&mut Pool, Context, Spot) -> Result<(Read, usize), Halt>,
-    G: Fn(&mut Pool, First, Place, Spot) -> Result<(Read, usize), Halt>,
->(
+pub fn primary<F: Fn(&mut Pool, Context, Spot) -> Result<(Read, usize), Halt>>(
     alloc: Global,
     tokens: &Tokens,
     inner: &F,
-    forms: &G,
     pool: &mut Pool,
     s: Spot,
 ) -> Result<(Read, usize), Halt>
@@ -163,8 +145,6 @@ pub fn primary<
     requires limited { s.left ≤ deepest_expression }
     requires can { CanRead tokens.now s.left (F.pre inner.now) }
     requires reads { ReadsBelow tokens.now s.left (F.post inner.now) }
-    requires can_form { CanForm tokens.now s.left (G.pre forms.now) }
-    requires reads_form { ReadsForm tokens.now s.left (G.post forms.now) }
     ensures { HasRead tokens.now pool.old pool.new s.at s.left result (reader.peek s.edge (reader.primary (reader.room whole (Some s.left)) (whole (Some s.left)) s.edge) (ahead tokens.now s.at)) }
 {
     let t = next_at(tokens, s);
@@ -174,21 +154,17 @@ pub fn primary<
         View::Quote(span) => string(alloc, tokens, inner, pool, s, t.place, span),
         View::Constant(c) => constant(alloc, tokens, inner, pool, s, t.place, c),
         View::Word(span) => word(alloc, tokens, inner, pool, s, t.place, span),
-        View::Mark(mark) => marked(alloc, tokens, inner, forms, pool, s, t.place, mark),
+        View::Mark(mark) => marked(alloc, tokens, inner, pool, s, t.place, mark),
         View::Sign(op) => bullets(alloc, tokens, inner, pool, s, t.place, op),
         _ => Err(refused(tokens, s, Rule::Syntax)),
     }
 }
 
 /// A form that begins with a key, which is the next token, at a place.
-pub fn keyed<
-    F: Fn(&mut Pool, Context, Spot) -> Result<(Read, usize), Halt>,
-    G: Fn(&mut Pool, First, Place, Spot) -> Result<(Read, usize), Halt>,
->(
+pub fn keyed<F: Fn(&mut Pool, Context, Spot) -> Result<(Read, usize), Halt>>(
     alloc: Global,
     tokens: &Tokens,
     inner: &F,
-    forms: &G,
     pool: &mut Pool,
     s: Spot,
     place: Place,
@@ -198,28 +174,23 @@ pub fn keyed<
     requires limited { s.left ≤ deepest_expression }
     requires can { CanRead tokens.now s.left (F.pre inner.now) }
     requires reads { ReadsBelow tokens.now s.left (F.post inner.now) }
-    requires can_form { CanForm tokens.now s.left (G.pre forms.now) }
-    requires reads_form { ReadsForm tokens.now s.left (G.post forms.now) }
     ensures { HasRead tokens.now pool.old pool.new s.at s.left result (reader.keyed (reader.room whole (Some s.left)) s.edge place (key_seen key) (ahead tokens.now s.at)) }
 {
     match key {
         Key::If => if_then_else(alloc, tokens, inner, pool, s, place),
         Key::Case => case(alloc, tokens, inner, pool, s, place),
         Key::Let => let_from(alloc, tokens, inner, pool, s, place),
-        Key::ForAll | Key::Exists => forms(pool, First::Key(key), place, s),
+        Key::ForAll => quantifier(alloc, tokens, inner, pool, s, place, true),
+        Key::Exists => quantifier(alloc, tokens, inner, pool, s, place, false),
         _ => Err(refused(tokens, s, Rule::Syntax)),
     }
 }
 
 /// What an expression begins with, before its operators: a primary, a prefix operator with its operand, or an open form.
-pub fn operand<
-    F: Fn(&mut Pool, Context, Spot) -> Result<(Read, usize), Halt>,
-    G: Fn(&mut Pool, First, Place, Spot) -> Result<(Read, usize), Halt>,
->(
+pub fn operand<F: Fn(&mut Pool, Context, Spot) -> Result<(Read, usize), Halt>>(
     alloc: Global,
     tokens: &Tokens,
     inner: &F,
-    forms: &G,
     pool: &mut Pool,
     s: Spot,
     context: Context,
@@ -229,30 +200,24 @@ pub fn operand<
     requires limited { s.left ≤ deepest_expression }
     requires can { CanRead tokens.now s.left (F.pre inner.now) }
     requires reads { ReadsBelow tokens.now s.left (F.post inner.now) }
-    requires can_form { CanForm tokens.now s.left (G.pre forms.now) }
-    requires reads_form { ReadsForm tokens.now s.left (G.post forms.now) }
     ensures { HasRead tokens.now pool.old pool.new s.at s.left result (reader.peek s.edge (reader.operand (reader.room whole (Some s.left)) (whole (Some s.left)) s.edge (context_seen context)) (ahead tokens.now s.at)) }
 {
     let t = next_at(tokens, s);
     match t.view {
-        View::Key(key) => keyed(alloc, tokens, inner, forms, pool, s, t.place, key),
+        View::Key(key) => keyed(alloc, tokens, inner, pool, s, t.place, key),
         View::Sign(op) => match prefix_by(op) {
             Some(q) => signed(alloc, tokens, inner, pool, s, context, t.place, q),
             None => bullets(alloc, tokens, inner, pool, s, t.place, op),
         },
-        _ => primary(alloc, tokens, inner, forms, pool, s),
+        _ => primary(alloc, tokens, inner, pool, s),
     }
 }
 
 /// An expression there.
-pub fn expression<
-    F: Fn(&mut Pool, Context, Spot) -> Result<(Read, usize), Halt>,
-    G: Fn(&mut Pool, First, Place, Spot) -> Result<(Read, usize), Halt>,
->(
+pub fn expression<F: Fn(&mut Pool, Context, Spot) -> Result<(Read, usize), Halt>>(
     alloc: Global,
     tokens: &Tokens,
     inner: &F,
-    forms: &G,
     pool: &mut Pool,
     context: Context,
     s: Spot,
@@ -262,10 +227,8 @@ pub fn expression<
     requires limited { s.left ≤ deepest_expression }
     requires can { CanRead tokens.now s.left (F.pre inner.now) }
     requires reads { ReadsBelow tokens.now s.left (F.post inner.now) }
-    requires can_form { CanForm tokens.now s.left (G.pre forms.now) }
-    requires reads_form { ReadsForm tokens.now s.left (G.post forms.now) }
     ensures { ReadsThere tokens.now pool.old pool.new context s result }
 {
-    let (a, at) = operand(alloc, tokens, inner, forms, pool, s, context)?;
+    let (a, at) = operand(alloc, tokens, inner, pool, s, context)?;
     climb(alloc, tokens, inner, pool, Spot { at, ..s }, context, a)
 }
