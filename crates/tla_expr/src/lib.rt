@@ -21,6 +21,7 @@ pub mod read_field;
 pub mod read_first;
 pub mod read_function;
 pub mod read_image;
+pub mod read_knot;
 pub mod read_link;
 pub mod read_listed;
 pub mod read_locals;
