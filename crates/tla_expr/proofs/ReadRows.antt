@@ -41,7 +41,7 @@ fails_after_all (halt.Refused r n) f (Ok x) h = absurd h
 fails_after_all (halt.Refused r n) f (Err s) h = h
 
 -- ---- one of them, and one before others
-one_in : {ts : List Tree} {x : Read} {a : Phrase} → IsIn ts x a → AreIn ts (x.id ∷ []) (record { first = x.shape.start; nesting = x.shape.nesting }) (last a)
+pub one_in : {ts : List Tree} {x : Read} {a : Phrase} → IsIn ts x a → AreIn ts (x.id ∷ []) (record { first = x.shape.start; nesting = x.shape.nesting }) (last a)
 one_in {ts} {x} {a} h = record {
   below = (h.below, tt);
   trees = ap (λ (t : Tree). tree t no_trees) h.tree;
@@ -49,7 +49,7 @@ one_in {ts} {x} {a} h = record {
   first = sym (starts h);
 }
 
-more_in : {ts : List Tree} {x : Read} {a : Phrase} (p : Place) {is : List ℕ} {r : Row} {xs : Phrases} → IsIn ts x a → AreIn ts is r xs
+pub more_in : {ts : List Tree} {x : Read} {a : Phrase} (p : Place) {is : List ℕ} {r : Row} {xs : Phrases} → IsIn ts x a → AreIn ts is r xs
     → AreIn ts (x.id ∷ is) (record { first = x.shape.start; nesting = max x.shape.nesting r.nesting }) (more a p xs)
 more_in {ts} {x} {a} p {is} {r} {xs} h g = record {
   below = (h.below, g.below);

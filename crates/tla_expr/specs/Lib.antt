@@ -1,1 +1,5 @@
 pub mod HasRead
+pub mod ReadForms
+pub mod Grouped
+pub mod Routed
+pub mod InSquares

@@ -1,0 +1,19 @@
+-- Proves what is asked of `element_in`.
+use Rattle.std.proofs.Common.{Some}
+use Rattle.tla_tree.specs.Whole.{whole}
+use Rattle.tla_expr.specs.Ahead.{ahead}
+use Rattle.tla_expr.proofs.ReadElement.{refused_at, told_same}
+use Rattle.tla_expr.proofs.ReadMembers.{from_fits, from_deep}
+use Rattle.tla_expr.proofs.read_member.element_in.Goals as goal
+
+pub returns-then-e-s-clause-read : goal.returns-then-e-s-clause-read
+returns-then-e-s-clause-read g c = λ i h.
+    let s = c.args.s in
+    told_same _ _ c.set_in.result _ _ (from_fits s.left (whole (Some s.left)) s.edge c.args.place (ahead c.args.tokens.now s.at) c.args.e.shape i h.shape c.if-e-s.true) (c.set_in.ensures.read i h)
+
+pub returns-clause-read : goal.returns-clause-read
+returns-clause-read g c = λ i h.
+    let s = c.args.s in
+    let ts = ahead c.args.tokens.now s.at in
+    let deep = from_deep s.left (whole (Some s.left)) s.edge c.args.place ts c.args.e.shape i h.shape c.if-e-s.false in
+    refused_at _ ts _ _ (rw c.rule_of-rule.ensures at c.refused.ensures) deep

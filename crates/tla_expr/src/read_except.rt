@@ -1,0 +1,50 @@
+//! Reading what comes behind `[f EXCEPT`.
+
+ghost use Rattle.std.specs.Prelude.{◌≡◌, ◌<◌, ◌≤◌, suc, length, IfOk, Some};
+ghost use Rattle.tla_token.specs.Limits.{deepest_expression};
+ghost use Rattle.tla_tree.specs.Pool.{Keeps};
+ghost use Rattle.tla_tree.specs.Spelling.{Phrase};
+ghost use Rattle.tla_tree.specs.Whole.{whole};
+ghost use Rattle.tla_expr.specs.Ahead.{ahead};
+ghost use Rattle.tla_expr.specs.ReadIn.{IsIn, Told};
+ghost use Rattle.tla_expr.specs.HasRead.{CanRead, ReadsBelow, Stands};
+ghost use Rattle.tla_expr.specs.InSquares.{changed};
+
+use crate::cursor::Halt;
+use crate::gather::except;
+use crate::make::Read;
+use crate::read_setting::settings;
+use crate::shape::Context;
+use crate::spot::{Spot, past_mark};
+use crate::view::Mark;
+use std::alloc::Global;
+use tla_pool::Pool;
+use tla_token::{Place, Tokens};
+
+/// `![a] = e, !.b = f]` behind `[f EXCEPT`, the `[` being at a place.
+pub fn except_in<F: Fn(&mut Pool, Context, Spot) -> Result<(Read, usize), Halt>>(
+    alloc: Global,
+    tokens: &Tokens,
+    inner: &F,
+    pool: &mut Pool,
+    s: Spot,
+    place: Place,
+    f: Read,
+) -> Result<(Read, usize), Halt>
+    requires there { s.at ≤ length tokens.now.items.items }
+    requires limited { s.left ≤ deepest_expression }
+    requires can { CanRead tokens.now (suc s.left) (F.pre inner.now) }
+    requires reads { ReadsBelow tokens.now (suc s.left) (F.post inner.now) }
+    requires f_in { f.id < length pool.old }
+    requires f_small { f.shape.nesting ≤ s.left }
+    ensures read { (i : Phrase) (q : Place) → IsIn pool.old f i → Told (λ x j. IsIn pool.new x.0 j) (λ x. ahead tokens.now x.1) result (changed (whole (Some s.left)) s.edge place i q (ahead tokens.now s.at)) }
+    ensures kept { Keeps pool.old pool.new }
+    ensures stands { IfOk result (λ x. Stands tokens.now pool.new s.at (suc s.left) x) }
+{
+    let (all, at) = settings(alloc, tokens, inner, pool, s, place)?;
+    let (_, at) = past_mark(tokens, Spot { at, ..s }, Mark::CloseSquare)?;
+    let mut parts = Vec::from_array(alloc, [f.id])?;
+    parts.extend_from_slice(&all.ids)?;
+    let whole = except(pool, place, f, all.slots, parts, all.nesting)?;
+    Ok((whole, at))
+}

@@ -1,0 +1,234 @@
+//! Which form the next token begins.
+
+ghost use Rattle.std.specs.Prelude.{◌≡◌, ◌<◌, ◌≤◌, suc, true, false, length, Some, None};
+ghost use Rattle.tla_token.specs.Limits.{deepest_expression, past_numbers};
+ghost use Rattle.tla_token.specs.Lexemes.{number_of};
+ghost use Rattle.tla_token.specs.TokensSeen.{span_bytes};
+ghost use Rattle.tla_tree.specs.Lexical as tk;
+ghost use Rattle.tla_tree.specs.Reader as reader;
+ghost use Rattle.tla_tree.specs.Whole.{whole};
+ghost use Rattle.tla_expr.specs.ShapeOf.{context_seen};
+ghost use Rattle.tla_expr.specs.ViewSeen.{mark_seen, key_seen};
+ghost use Rattle.tla_expr.specs.Ahead.{ahead};
+ghost use Rattle.tla_expr.specs.HasRead.{HasRead, CanRead, ReadsBelow, ReadsThere};
+ghost use Rattle.tla_expr.specs.ReadForms.{NumbersFit};
+
+use crate::cursor::{Halt, Word};
+use crate::make::Read;
+use crate::read_braces::braces;
+use crate::read_climb::climb;
+use crate::read_listed::{case, let_from, list};
+use crate::read_name::from_name;
+use crate::read_open::if_then_else;
+use crate::read_primary::{bracket, tuple};
+use crate::read_quantifier::quantifier;
+use crate::read_short::signed;
+use crate::read_squares::squares;
+use crate::read_token::{constant, number, string};
+use crate::shape::{Context, is_bullet, prefix_by};
+use crate::spot::{Spot, after, next_at, refused};
+use crate::view::{Key, Mark, View};
+use std::alloc::Global;
+use tla_pool::Pool;
+use tla_token::bytes::number_value;
+use tla_token::{Place, Rule, Span, Tokens};
+use tla_tree::Op;
+
+/// A primary that begins with a name, which is the next token, at a place.
+pub fn word<F: Fn(&mut Pool, Context, Spot) -> Result<(Read, usize), Halt>>(
+    alloc: Global,
+    tokens: &Tokens,
+    inner: &F,
+    pool: &mut Pool,
+    s: Spot,
+    place: Place,
+    span: Span,
+) -> Result<(Read, usize), Halt>
+    requires there { s.at ≤ length tokens.now.items.items }
+    requires limited { s.left ≤ deepest_expression }
+    requires can { CanRead tokens.now s.left (F.pre inner.now) }
+    requires reads { ReadsBelow tokens.now s.left (F.post inner.now) }
+    ensures { HasRead tokens.now pool.old pool.new s.at s.left result (reader.primary (reader.room whole (Some s.left)) (whole (Some s.left)) s.edge place (tk.word (span_bytes tokens.now.bytes.items span)) (ahead tokens.now s.at)) }
+{
+    let at = after(tokens, s);
+    from_name(
+        alloc,
+        tokens,
+        inner,
+        pool,
+        Spot { at, ..s },
+        Word { place, span },
+    )
+}
+
+/// A primary that begins with a mark, which is the next token, at a place.
+pub fn marked<F: Fn(&mut Pool, Context, Spot) -> Result<(Read, usize), Halt>>(
+    alloc: Global,
+    tokens: &Tokens,
+    inner: &F,
+    pool: &mut Pool,
+    s: Spot,
+    place: Place,
+    mark: Mark,
+) -> Result<(Read, usize), Halt>
+    requires there { s.at ≤ length tokens.now.items.items }
+    requires limited { s.left ≤ deepest_expression }
+    requires can { CanRead tokens.now s.left (F.pre inner.now) }
+    requires reads { ReadsBelow tokens.now s.left (F.post inner.now) }
+    ensures { HasRead tokens.now pool.old pool.new s.at s.left result (reader.primary (reader.room whole (Some s.left)) (whole (Some s.left)) s.edge place (tk.mark (mark_seen mark)) (ahead tokens.now s.at)) }
+{
+    match mark {
+        Mark::OpenBracket => bracket(alloc, tokens, inner, pool, s, place),
+        Mark::OpenTuple => tuple(alloc, tokens, inner, pool, s, place),
+        Mark::OpenBrace => braces(alloc, tokens, inner, pool, s, place),
+        Mark::OpenSquare => squares(alloc, tokens, inner, pool, s, place),
+        _ => Err(refused(tokens, s, Rule::Syntax)),
+    }
+}
+
+/// A list by columns, its first bullet being the next token, at a place; no other sign begins a primary.
+pub fn bullets<F: Fn(&mut Pool, Context, Spot) -> Result<(Read, usize), Halt>>(
+    alloc: Global,
+    tokens: &Tokens,
+    inner: &F,
+    pool: &mut Pool,
+    s: Spot,
+    place: Place,
+    op: Op,
+) -> Result<(Read, usize), Halt>
+    requires there { s.at ≤ length tokens.now.items.items }
+    requires limited { s.left ≤ deepest_expression }
+    requires can { CanRead tokens.now s.left (F.pre inner.now) }
+    requires reads { ReadsBelow tokens.now s.left (F.post inner.now) }
+    ensures { HasRead tokens.now pool.old pool.new s.at s.left result (reader.primary (reader.room whole (Some s.left)) (whole (Some s.left)) s.edge place (tk.sign op) (ahead tokens.now s.at)) }
+{
+    if is_bullet(op) {
+        list(alloc, tokens, inner, pool, s, place, op)
+    } else {
+        Err(refused(tokens, s, Rule::Syntax))
+    }
+}
+
+// A number of any size, the next token, at a place; all that are among the tokens fit.
+fn big_number<F: Fn(&mut Pool, Context, Spot) -> Result<(Read, usize), Halt>>(
+    alloc: Global,
+    tokens: &Tokens,
+    inner: &F,
+    pool: &mut Pool,
+    s: Spot,
+    place: Place,
+    span: Span,
+) -> Result<(Read, usize), Halt>
+    requires there { s.at ≤ length tokens.now.items.items }
+    requires small { number_of (span_bytes tokens.now.bytes.items span) < past_numbers }
+    requires limited { s.left ≤ deepest_expression }
+    requires can { CanRead tokens.now s.left (F.pre inner.now) }
+    requires reads { ReadsBelow tokens.now s.left (F.post inner.now) }
+    ensures { HasRead tokens.now pool.old pool.new s.at s.left result (reader.primary (reader.room whole (Some s.left)) (whole (Some s.left)) s.edge place (tk.number (number_of (span_bytes tokens.now.bytes.items span))) (ahead tokens.now s.at)) }
+{
+    match number_value(tokens.word(span)) {
+        Some(n) => number(alloc, tokens, inner, pool, s, place, n),
+        None => Err(refused(tokens, s, Rule::Syntax)),
+    }
+}
+
+/// A primary, with the applications and fields after it.
+pub fn primary<F: Fn(&mut Pool, Context, Spot) -> Result<(Read, usize), Halt>>(
+    alloc: Global,
+    tokens: &Tokens,
+    inner: &F,
+    pool: &mut Pool,
+    s: Spot,
+) -> Result<(Read, usize), Halt>
+    requires there { s.at ≤ length tokens.now.items.items }
+    requires numbers { NumbersFit tokens.now }
+    requires limited { s.left ≤ deepest_expression }
+    requires can { CanRead tokens.now s.left (F.pre inner.now) }
+    requires reads { ReadsBelow tokens.now s.left (F.post inner.now) }
+    ensures { HasRead tokens.now pool.old pool.new s.at s.left result (reader.peek s.edge (reader.primary (reader.room whole (Some s.left)) (whole (Some s.left)) s.edge) (ahead tokens.now s.at)) }
+{
+    let t = next_at(tokens, s);
+    match t.view {
+        View::Number(n) => number(alloc, tokens, inner, pool, s, t.place, n),
+        View::BigNumber(span) => big_number(alloc, tokens, inner, pool, s, t.place, span),
+        View::Quote(span) => string(alloc, tokens, inner, pool, s, t.place, span),
+        View::Constant(c) => constant(alloc, tokens, inner, pool, s, t.place, c),
+        View::Word(span) => word(alloc, tokens, inner, pool, s, t.place, span),
+        View::Mark(mark) => marked(alloc, tokens, inner, pool, s, t.place, mark),
+        View::Sign(op) => bullets(alloc, tokens, inner, pool, s, t.place, op),
+        _ => Err(refused(tokens, s, Rule::Syntax)),
+    }
+}
+
+/// A form that begins with a key, which is the next token, at a place.
+pub fn keyed<F: Fn(&mut Pool, Context, Spot) -> Result<(Read, usize), Halt>>(
+    alloc: Global,
+    tokens: &Tokens,
+    inner: &F,
+    pool: &mut Pool,
+    s: Spot,
+    place: Place,
+    key: Key,
+) -> Result<(Read, usize), Halt>
+    requires there { s.at ≤ length tokens.now.items.items }
+    requires limited { s.left ≤ deepest_expression }
+    requires can { CanRead tokens.now s.left (F.pre inner.now) }
+    requires reads { ReadsBelow tokens.now s.left (F.post inner.now) }
+    ensures { HasRead tokens.now pool.old pool.new s.at s.left result (reader.keyed (reader.room whole (Some s.left)) s.edge place (key_seen key) (ahead tokens.now s.at)) }
+{
+    match key {
+        Key::If => if_then_else(alloc, tokens, inner, pool, s, place),
+        Key::Case => case(alloc, tokens, inner, pool, s, place),
+        Key::Let => let_from(alloc, tokens, inner, pool, s, place),
+        Key::ForAll => quantifier(alloc, tokens, inner, pool, s, place, true),
+        Key::Exists => quantifier(alloc, tokens, inner, pool, s, place, false),
+        _ => Err(refused(tokens, s, Rule::Syntax)),
+    }
+}
+
+/// What an expression begins with, before its operators: a primary, a prefix operator with its operand, or an open form.
+pub fn operand<F: Fn(&mut Pool, Context, Spot) -> Result<(Read, usize), Halt>>(
+    alloc: Global,
+    tokens: &Tokens,
+    inner: &F,
+    pool: &mut Pool,
+    s: Spot,
+    context: Context,
+) -> Result<(Read, usize), Halt>
+    requires there { s.at ≤ length tokens.now.items.items }
+    requires numbers { NumbersFit tokens.now }
+    requires limited { s.left ≤ deepest_expression }
+    requires can { CanRead tokens.now s.left (F.pre inner.now) }
+    requires reads { ReadsBelow tokens.now s.left (F.post inner.now) }
+    ensures { HasRead tokens.now pool.old pool.new s.at s.left result (reader.peek s.edge (reader.operand (reader.room whole (Some s.left)) (whole (Some s.left)) s.edge (context_seen context)) (ahead tokens.now s.at)) }
+{
+    let t = next_at(tokens, s);
+    match t.view {
+        View::Key(key) => keyed(alloc, tokens, inner, pool, s, t.place, key),
+        View::Sign(op) => match prefix_by(op) {
+            Some(q) => signed(alloc, tokens, inner, pool, s, context, t.place, q),
+            None => bullets(alloc, tokens, inner, pool, s, t.place, op),
+        },
+        _ => primary(alloc, tokens, inner, pool, s),
+    }
+}
+
+/// An expression there.
+pub fn expression<F: Fn(&mut Pool, Context, Spot) -> Result<(Read, usize), Halt>>(
+    alloc: Global,
+    tokens: &Tokens,
+    inner: &F,
+    pool: &mut Pool,
+    context: Context,
+    s: Spot,
+) -> Result<(Read, usize), Halt>
+    requires there { s.at ≤ length tokens.now.items.items }
+    requires numbers { NumbersFit tokens.now }
+    requires limited { s.left ≤ deepest_expression }
+    requires can { CanRead tokens.now s.left (F.pre inner.now) }
+    requires reads { ReadsBelow tokens.now s.left (F.post inner.now) }
+    ensures { ReadsThere tokens.now pool.old pool.new context s result }
+{
+    let (a, at) = operand(alloc, tokens, inner, pool, s, context)?;
+    climb(alloc, tokens, inner, pool, Spot { at, ..s }, context, a)
+}

@@ -1,0 +1,54 @@
+//! Reading images of sets, behind their first expression.
+
+ghost use Rattle.std.specs.Prelude.{◌≡◌, ◌<◌, ◌≤◌, suc, length, IfOk, Some};
+ghost use Rattle.tla_token.specs.Limits.{deepest_expression};
+ghost use Rattle.tla_tree.specs.Pool.{Keeps};
+ghost use Rattle.tla_tree.specs.Spelling.{Phrase};
+ghost use Rattle.tla_tree.specs.Reader as reader;
+ghost use Rattle.tla_tree.specs.Whole.{whole};
+ghost use Rattle.tla_expr.specs.Ahead.{ahead};
+ghost use Rattle.tla_expr.specs.ReadIn.{IsIn, Told};
+ghost use Rattle.tla_expr.specs.HasRead.{CanRead, ReadsBelow, Stands};
+
+use crate::cursor::Halt;
+use crate::gather::image;
+use crate::make::Read;
+use crate::read_bind::{Bound, binds};
+use crate::shape::Context;
+use crate::spot::{Spot, past_mark, past_word};
+use crate::view::Mark;
+use std::alloc::Global;
+use tla_pool::Pool;
+use tla_token::{Place, Tokens};
+
+/// `x \in S}` behind `{a :`, the `{` being at a place.
+pub fn image_in<F: Fn(&mut Pool, Context, Spot) -> Result<(Read, usize), Halt>>(
+    alloc: Global,
+    tokens: &Tokens,
+    inner: &F,
+    pool: &mut Pool,
+    s: Spot,
+    place: Place,
+    a: Read,
+) -> Result<(Read, usize), Halt>
+    requires there { s.at ≤ length tokens.now.items.items }
+    requires limited { s.left ≤ deepest_expression }
+    requires can { CanRead tokens.now (suc s.left) (F.pre inner.now) }
+    requires reads { ReadsBelow tokens.now (suc s.left) (F.post inner.now) }
+    requires a_in { a.id < length pool.old }
+    requires a_small { a.shape.nesting ≤ s.left }
+    ensures read { (i : Phrase) (q : Place) → IsIn pool.old a i → Told (λ x j. IsIn pool.new x.0 j) (λ x. ahead tokens.now x.1) result (reader.image_rest (whole (Some s.left)) s.edge place i q (ahead tokens.now s.at)) }
+    ensures kept { Keeps pool.old pool.new }
+    ensures stands { IfOk result (λ x. Stands tokens.now pool.new s.at (suc s.left) x) }
+{
+    let (word, at) = past_word(tokens, s)?;
+    let (bound, at) = binds(alloc, tokens, inner, pool, Spot { at, ..s }, word)?;
+    let (_, at) = past_mark(tokens, Spot { at, ..s }, Mark::CloseBrace)?;
+    let Bound {
+        groups,
+        sets,
+        nesting,
+    } = bound;
+    let whole = image(pool, place, a, groups, sets, nesting)?;
+    Ok((whole, at))
+}

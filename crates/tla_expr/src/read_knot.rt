@@ -1,0 +1,39 @@
+//! Reading expressions from tokens, each part by the same reader where fewer forms may open.
+
+ghost use Rattle.std.specs.Prelude.{◌≡◌, ◌<◌, ◌≤◌, ◌+◌, ℕ, suc, length};
+ghost use Rattle.tla_token.specs.Limits.{deepest_expression};
+ghost use Rattle.tla_expr.specs.HasRead.{ReadsThere};
+ghost use Rattle.tla_expr.specs.ReadForms.{NumbersFit};
+
+use crate::cursor::Halt;
+use crate::make::Read;
+use crate::read_first::expression;
+use crate::shape::Context;
+use crate::spot::Spot;
+use std::alloc::Global;
+use tla_pool::Pool;
+use tla_token::Tokens;
+
+/// An expression there.
+pub fn read_at(
+    alloc: Global,
+    tokens: &Tokens,
+    pool: &mut Pool,
+    context: Context,
+    s: Spot,
+) -> Result<(Read, usize), Halt>
+    requires there { s.at ≤ length tokens.now.items.items }
+    requires numbers { NumbersFit tokens.now }
+    requires limited { s.left ≤ deepest_expression }
+    ensures { ReadsThere tokens.now pool.old pool.new context s result }
+{
+    let left = s.left;
+    let inner = |pool: &mut Pool, c: Context, t: Spot| -> Result<(Read, usize), Halt>
+        requires { (t.left < left) × (left ≤ deepest_expression) × (t.at ≤ length tokens.now.items.items) × NumbersFit tokens.now }
+        ensures { ReadsThere tokens.entry.now pool.old pool.new c t result }
+    {
+        let _ = &left;
+        read_at(alloc, tokens, pool, c, t)
+    };
+    expression(alloc, tokens, &inner, pool, context, s)
+}
