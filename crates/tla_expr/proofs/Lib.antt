@@ -24,7 +24,6 @@ pub mod ReadPaths
 pub mod ReadSettings
 pub mod ListsRead
 pub mod ReadQuantifiers
-mod RowsShape
 mod RowsLists
 mod RowsHasRead
 mod RowsForms

@@ -14,14 +14,14 @@ use Rattle.tla_tree.specs.declared.op.Op.{Op}
 use Rattle.tla_tree.specs.Spelling.{Phrase, last, more, prefix_of, set_of, name}
 use Rattle.tla_tree.specs.Reader.{Out, Room, Reader, Readers, free, behind, from_name, brace_rest, member_rest, square_rest, square_member, ◌>>=◌, gives, ended, next, is_mark, is_key, peek, room, keyed, primary, element}
 use Rattle.tla_tree.specs.Whole.{whole}
-use Rattle.tla_expr.specs.declared.cursor.Halt.{Halt}
-use Rattle.tla_expr.specs.declared.make.Read.{Read}
+use Rattle.expression_parts.specs.declared.cursor.Halt.{Halt}
+use Rattle.expression_parts.specs.declared.make.Read.{Read}
 use Rattle.tla_expr.specs.declared.read_element.Parted.{Parted}
-use Rattle.tla_expr.specs.declared.shape.Shape.{Shape}
-use Rattle.tla_expr.specs.declared.spot.Spot.{Spot}
-use Rattle.tla_expr.specs.ViewSeen.{key_seen}
-use Rattle.tla_expr.specs.ReadIn.{IsIn, MayBeIn, Fails, Told}
-use Rattle.tla_expr.specs.Ahead.{ahead}
+use Rattle.expression_parts.specs.declared.shape.Shape.{Shape}
+use Rattle.expression_parts.specs.declared.spot.Spot.{Spot}
+use Rattle.expression_parts.specs.ViewSeen.{key_seen}
+use Rattle.expression_parts.specs.ReadIn.{IsIn, MayBeIn, Fails, Told}
+use Rattle.expression_parts.specs.Ahead.{ahead}
 use Rattle.tla_expr.specs.HasRead.{HasRead, Stands}
 
 -- a short form under a prefix operator at a place

@@ -3,16 +3,16 @@
 ghost use Rattle.std.specs.Prelude.{◌≡◌, ◌<◌, ◌≤◌, suc, length, IfOk, Some};
 ghost use Rattle.tla_tree.specs.Pool.{AllBelow, Keeps};
 ghost use Rattle.tla_tree.specs.Whole.{whole};
-ghost use Rattle.tla_expr.specs.Ahead.{ahead};
-ghost use Rattle.tla_expr.specs.ReadIn.{AreFields, Told, field_seen};
-ghost use Rattle.tla_expr.specs.ViewSeen.{mark_seen};
+ghost use Rattle.expression_parts.specs.Ahead.{ahead};
+ghost use Rattle.expression_parts.specs.ReadIn.{AreFields, Told, field_seen};
+ghost use Rattle.expression_parts.specs.ViewSeen.{mark_seen};
 ghost use Rattle.tla_expr.specs.HasRead.{CanRead, ReadsBelow};
 
-use crate::cursor::{FieldName, Halt};
-use crate::make::{Read, name_of};
-use crate::shape::{Context, larger};
-use crate::spot::{Spot, after_mark, past_field, past_mark};
-use crate::view::Mark;
+use expression_parts::cursor::{FieldName, Halt};
+use expression_parts::make::{Read, name_of};
+use expression_parts::shape::{Context, larger};
+use expression_parts::spot::{Spot, after_mark, past_field, past_mark};
+use expression_parts::view::Mark;
 use std::alloc::Global;
 use tla_pool::Pool;
 use tla_token::Tokens;

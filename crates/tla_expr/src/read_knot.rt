@@ -5,11 +5,11 @@ ghost use Rattle.tla_token.specs.Limits.{deepest_expression};
 ghost use Rattle.tla_expr.specs.HasRead.{ReadsThere};
 ghost use Rattle.tla_expr.specs.ReadForms.{NumbersFit};
 
-use crate::cursor::Halt;
-use crate::make::Read;
 use crate::read_first::expression;
-use crate::shape::Context;
-use crate::spot::Spot;
+use expression_parts::cursor::Halt;
+use expression_parts::make::Read;
+use expression_parts::shape::Context;
+use expression_parts::spot::Spot;
 use std::alloc::Global;
 use tla_pool::Pool;
 use tla_token::Tokens;

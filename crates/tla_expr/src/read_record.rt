@@ -4,18 +4,18 @@ ghost use Rattle.std.specs.Prelude.{◌≡◌, ◌<◌, ◌≤◌, suc, length, 
 ghost use Rattle.tla_token.specs.Limits.{deepest_expression};
 ghost use Rattle.tla_tree.specs.Reader as reader;
 ghost use Rattle.tla_tree.specs.Whole.{whole};
-ghost use Rattle.tla_expr.specs.Ahead.{ahead};
-ghost use Rattle.tla_expr.specs.ReadIn.{field_seen};
+ghost use Rattle.expression_parts.specs.Ahead.{ahead};
+ghost use Rattle.expression_parts.specs.ReadIn.{field_seen};
 ghost use Rattle.tla_expr.specs.HasRead.{HasRead, CanRead, ReadsBelow};
 ghost use Rattle.tla_expr.specs.InSquares.{fields_of, records_of};
 
-use crate::cursor::{FieldName, Halt, is_mark};
 use crate::gather;
-use crate::make::Read;
 use crate::read_field::fields;
-use crate::shape::Context;
-use crate::spot::{Spot, next_at, past_mark, refused};
-use crate::view::Mark;
+use expression_parts::cursor::{FieldName, Halt, is_mark};
+use expression_parts::make::Read;
+use expression_parts::shape::Context;
+use expression_parts::spot::{Spot, next_at, past_mark, refused};
+use expression_parts::view::Mark;
 use std::alloc::Global;
 use tla_pool::Pool;
 use tla_token::{Place, Rule, Tokens};
