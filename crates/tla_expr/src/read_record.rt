@@ -9,9 +9,9 @@ ghost use Rattle.expression_parts.specs.ReadIn.{field_seen};
 ghost use Rattle.tla_expr.specs.HasRead.{HasRead, CanRead, ReadsBelow};
 ghost use Rattle.tla_expr.specs.InSquares.{fields_of, records_of};
 
-use crate::gather;
 use crate::read_field::fields;
 use expression_parts::cursor::{FieldName, Halt, is_mark};
+use expression_parts::gather;
 use expression_parts::make::Read;
 use expression_parts::shape::Context;
 use expression_parts::spot::{Spot, next_at, past_mark, refused};
