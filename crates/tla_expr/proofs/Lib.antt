@@ -24,6 +24,7 @@ pub mod ReadPaths
 pub mod ReadSettings
 pub mod ListsRead
 pub mod ReadQuantifiers
+pub mod ReadExpression
 mod RowsLists
 mod RowsHasRead
 mod RowsForms

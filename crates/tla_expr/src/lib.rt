@@ -11,6 +11,7 @@ pub mod read_bullets;
 pub mod read_climb;
 pub mod read_element;
 pub mod read_except;
+pub mod read_expression;
 pub mod read_field;
 pub mod read_first;
 pub mod read_function;
@@ -35,4 +36,5 @@ pub mod read_square;
 pub mod read_squares;
 pub mod read_token;
 
+pub use read_expression::read_expr;
 pub use tla_write::{write_expr, write_operand};
