@@ -33,7 +33,7 @@ fn words_of(alloc: Global, given: io::Result<Args>) -> Result<Vec<String>, Alloc
 }
 
 /// Does what the words of the command line mean, and ends with the number of the answer. Its clauses are those of `pcal`,
-/// said of the exit status.
+/// said of the exit status; and where the words mean no command nothing is read, however the program ends.
 #[tactic(auto, using(crate::proofs::Numbers::number_is))]
 pub fn run<H: Shelf, K: Sink, E: Sink>(
     alloc: Global,
@@ -66,7 +66,7 @@ pub fn run<H: Shelf, K: Sink, E: Sink>(
     ensures told { EndedIn result (λ s. Explains (H.texts shelf.old) (file_in (words_given given)) s (E.wrote err.old) (E.wrote err.new) (E.faults err.old) (E.faults err.new)) }
 
     // What a call leaves as it was, and how the counts rise: of the shelf's bytes, and of faults by one at most.
-    ensures unread { Ended result Status.Usage → shelf.new ≡ shelf.old }
+    ensures unread { command_in (words_given given) ≡ None → shelf.new ≡ shelf.old }
     ensures texts_stay { H.texts shelf.new ≡ H.texts shelf.old }
     ensures given { EndedIn result IsRead → Tells (H.texts shelf.old) (file_in (words_given given)) (λ x. RoseBy (length x) (H.given shelf.old) (H.given shelf.new)) }
     ensures read_once { Tells (H.texts shelf.old) (file_in (words_given given)) (λ x. H.given shelf.new ≤ H.given shelf.old + length x) }
