@@ -1,12 +1,15 @@
 -- Signs are looked for among those that are spelled from the first byte on.
-use Rattle.std.proofs.Common.{◌≡◌, ℕ, Bool, true, false, nat_eq, get_or, List, [], ◌∷◌, find, refl, sym, ap, ◌∙◌, inl, inr}
+use Rattle.std.proofs.Common.{◌≡◌, ℕ, Bool, true, false, nat_eq, get_or, take, drop, List, [], ◌∷◌, find, refl, sym, ap, ◌∙◌, inl, inr, arith}
 use Rattle.std.specs.List.{filter, list_any}
 use Rattle.std.specs.Str.{bytes_eq}
-use Rattle.std.proofs.lemmas.Bool.{and_parts, or_cases, or_left, or_right, eqb-true, both_ways}
+use Rattle.std.proofs.lemmas.Bool.{and_parts, or_cases, or_parts, or_left, or_right, eqb-true, both_ways}
 use Rattle.tla_token.specs.declared.sign.Sign.{Sign}
+use Rattle.tla_token.specs.declared.sign.Sign.TheVariants as sign
+use Rattle.tla_token.specs.Lexemes.{is_letter}
 use Rattle.tla_token.specs.Signs.{spellings, is_among, all_signs}
 use Rattle.tla_token.specs.Offences.{begins_with}
 use Rattle.tla_token.specs.Cut.{sign_at, sign_of}
+use Rattle.tla_token.proofs.Signed.{tells_apart}
 use Rattle.tla_token.proofs.Spelled.{begins, begins_from, stands_at, any_some, same_bytes, no_empty}
 
 -- what has a test is found among those that have another, where the first has it too
@@ -50,3 +53,15 @@ sign_from (b ∷ bs) = find_among (stands_at (b ∷ bs)) (may_begin b) all_signs
 pub word_from : (w : List ℕ) → find (λ s. is_among (spellings s) w) (filter (may_begin (get_or w 0 0)) all_signs) ≡ sign_of w
 word_from [] = refl
 word_from (b ∷ v) = find_among (λ s. is_among (spellings s) (b ∷ v)) (may_begin b) all_signs (λ s i. spelled_from b v (spellings s) i)
+
+-- ---- behind a backslash is no word without a letter
+
+differs : (k c : ℕ) → is_letter k ≡ true → is_letter c ≡ false → nat_eq k c ≡ false
+differs k c t f = tells_apart is_letter k c t f
+
+pub no_word_sign : (t : List ℕ) → get_or t 0 0 ≡ 92 → list_any is_letter (take 1 (drop 1 t)) ≡ false → find (stands_at t) (sign.Or ∷ sign.Without ∷ []) ≡ sign_at t
+no_word_sign [] e h = absurd (omega arith)
+no_word_sign (a ∷ []) e h = rw e refl
+no_word_sign (a ∷ c ∷ t) e h =
+    let f : is_letter c ≡ false = (or_parts (is_letter c) false h).0 in
+    rw (e, differs 101 c refl f, differs 103 c refl f, differs 108 c refl f, differs 110 c refl f) refl

@@ -13,7 +13,7 @@ ghost use Rattle.tla_token.specs.TokensSeen.{kind_seen, token_seen, tokens_seen,
 ghost use Rattle.tla_token.specs.Scanning.{token_at, lexemes_of, Stands, GoesOn};
 
 use crate::bytes::blank_len;
-use crate::fault::{Reading, part_fault, sooner};
+use crate::fault::{Reading, part_fault, sooner, with_part};
 use crate::part::{Class, Part, part_at};
 use crate::place::{Place, place_after, place_of};
 use crate::rule::{Refusal, Rule, Stop};
@@ -299,7 +299,7 @@ fn past(
     let at = from + scan.at;
     let kind = kind_at(bytes, scan.at, part);
     let place = place_after(scan.place, piece);
-    let fault = sooner(scan.fault, part_fault(part.class, piece, at, reading));
+    let fault = with_part(scan.fault, part.class, piece, at, reading);
     keep(items, kind, at, scan.place)?;
     Ok(Scan {
         at: scan.at + part.len,

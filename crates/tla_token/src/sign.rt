@@ -1,11 +1,13 @@
 //! Signs: what the grammar sees of operators and punctuation, whichever way they are spelled.
 
-ghost use Rattle.std.specs.Prelude.{◌≡◌, length, find, map, option_map, nat_eq};
+ghost use Rattle.std.specs.Prelude.{◌≡◌, ◌<◌, length, take, drop, find, map, option_map, nat_eq};
 ghost use Rattle.std.specs.List.{filter, list_any, starts_with};
 ghost use Rattle.tla_token.specs.Signs.{spellings, all_signs, is_among as is_among_of};
+ghost use Rattle.tla_token.specs.Lexemes.{is_letter};
 ghost use Rattle.tla_token.specs.Offences.{begins_with};
 ghost use Rattle.tla_token.specs.Cut.{spelling_at, sign_at, sign_of};
 
+use crate::bytes::is_letter;
 use crate::word::is_among;
 
 /// A sign of TLA+ or PlusCal. The first spelling is the one that is written.
@@ -224,6 +226,26 @@ pub fn spelling_len(sign: Sign, text: &[u8]) -> Option<usize>
     None
 }
 
+// The signs that may be in front: words only where a letter is behind a backslash.
+fn signs_before(text: &[u8]) -> &'static [Sign]
+    requires { 0 < length text.now }
+    ensures { find (λ s. list_any (λ w. starts_with nat_eq text.now w) (spellings s)) result.now ≡ sign_at text.now }
+{
+    if text[0] == b'\\' && !has_letter_behind(text) {
+        &[Sign::Or, Sign::Without]
+    } else {
+        signs_from(text[0])
+    }
+}
+
+// Whether the second byte is a letter.
+fn has_letter_behind(text: &[u8]) -> bool
+    requires { 0 < length text.now }
+    ensures { result ≡ list_any is_letter (take 1 (drop 1 text.now)) }
+{
+    text.len() > 1 && is_letter(text[1])
+}
+
 // The first of some signs that is in front.
 fn first_at(signs: &[Sign], text: &[u8]) -> Option<Sign>
     ensures { result ≡ find (λ s. list_any (λ w. starts_with nat_eq text.now w) (spellings s)) signs.now }
@@ -238,7 +260,7 @@ pub fn sign_at(text: &[u8]) -> Option<Sign>
     if text.is_empty() {
         None
     } else {
-        first_at(signs_from(text[0]), text)
+        first_at(signs_before(text), text)
     }
 }
 
