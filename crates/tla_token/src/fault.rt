@@ -46,24 +46,23 @@ fn earlier(a: (Rule, usize), b: (Rule, usize)) -> (Rule, usize)
     if n < m || (n == m && b.1 < a.1) { b } else { a }
 }
 
-/// The offence that counts, with what is wrong with one more part.
+/// Takes what is wrong with one more part to the offence that counts.
 #[tactic(auto, using(crate::proofs::Faults::joined_none))]
-pub fn with_part(
-    fault: Option<(Rule, usize)>,
+pub fn note(
+    fault: &mut Option<(Rule, usize)>,
     class: Class,
     bytes: &[u8],
     at: usize,
     reading: Reading,
-) -> Option<(Rule, usize)>
+)
     requires some { 0 < length bytes.now }
     requires small { at + length bytes.now < 2 ^ 32 }
     requires quoted { is_quoted class ≡ true → 2 ≤ length bytes.now }
     requires text { class ≡ Class.Text → is_some (unquoted (inner bytes.now)) ≡ true }
-    ensures { result ≡ joined fault (least (part_offences_in reading at (part_of class bytes.now))) }
+    ensures { fault.new ≡ joined fault.old (least (part_offences_in reading at (part_of class bytes.now))) }
 {
-    match part_fault(class, bytes, at, reading) {
-        None => fault,
-        Some(second) => sooner(fault, Some(second)),
+    if let Some(more) = part_fault(class, bytes, at, reading) {
+        *fault = sooner(*fault, Some(more));
     }
 }
 
