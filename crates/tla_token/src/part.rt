@@ -47,6 +47,7 @@ pub enum Class {
 /// A part of a text.
 #[derive(Clone, Copy, PartialEq, Eq, Debug)]
 pub struct Part {
+    /// What it is.
     pub class: Class,
     /// How many bytes it has.
     pub len: usize,

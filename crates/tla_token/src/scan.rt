@@ -23,7 +23,9 @@ use std::alloc::{AllocError, Global};
 /// Where a scanner is in a stretch, and what it knows.
 #[derive(Clone, Copy, PartialEq, Eq, Debug)]
 pub struct Scan {
+    /// How many bytes of the stretch are behind it.
     pub at: usize,
+    /// The place of the byte that is next.
     pub place: Place,
     /// So many bytes from here on are known to be in a word without a letter.
     pub wordless: usize,

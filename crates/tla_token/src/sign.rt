@@ -109,6 +109,26 @@ pub enum Sign {
     Exists,
 }
 
+// The signs that are spelled from a backslash on in some way, in the order of all signs.
+static BACKSLASH_SIGNS: [Sign; 16] = [
+    Sign::Equivalent,
+    Sign::And,
+    Sign::Or,
+    Sign::AtMost,
+    Sign::AtLeast,
+    Sign::Not,
+    Sign::Without,
+    Sign::In,
+    Sign::NotIn,
+    Sign::SubsetEq,
+    Sign::Cup,
+    Sign::Cap,
+    Sign::Divide,
+    Sign::Concat,
+    Sign::ForAll,
+    Sign::Exists,
+];
+
 // The signs that are spelled from this byte on in some way. Of those that are no words and begin alike, the longest is first.
 fn signs_from(first: u8) -> &'static [Sign]
     ensures { result.now ≡ filter (λ s. list_any (begins_with first) (spellings s)) all_signs }
@@ -116,24 +136,7 @@ fn signs_from(first: u8) -> &'static [Sign]
     match first {
         b'|' => &[Sign::MapsTo, Sign::Parallel],
         b'<' => &[Sign::Equivalent, Sign::OpenTuple, Sign::AtMost, Sign::Less],
-        b'\\' => &[
-            Sign::Equivalent,
-            Sign::And,
-            Sign::Or,
-            Sign::AtMost,
-            Sign::AtLeast,
-            Sign::Not,
-            Sign::Without,
-            Sign::In,
-            Sign::NotIn,
-            Sign::SubsetEq,
-            Sign::Cup,
-            Sign::Cap,
-            Sign::Divide,
-            Sign::Concat,
-            Sign::ForAll,
-            Sign::Exists,
-        ],
+        b'\\' => &BACKSLASH_SIGNS,
         b':' => &[Sign::Assign, Sign::Pair, Sign::Colon],
         b'@' => &[Sign::Override],
         b'.' => &[Sign::Range, Sign::Dot],
