@@ -1,7 +1,7 @@
 //! Rules, places and tokens.
 
 use std::alloc::{AllocError, Global};
-use tla_token::machine::decided_parts;
+use tla_token::decided_parts;
 use tla_token::place::{Place, place_of};
 use tla_token::rule::{Refusal, Rule, Stop, name, number};
 use tla_token::scan::tokens;

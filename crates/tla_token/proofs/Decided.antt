@@ -1,18 +1,18 @@
 -- The part that code finds in front stays where its class and length say so, and else the text waits.
-use Rattle.std.proofs.Common.{◌≡◌, ℕ, zero, suc, ◌+◌, ◌<◌, ◌≤◌, Bool, true, false, not, ◌||◌, nat_eq, nat_le, nat_lt, get_or, drop, map, List, [], ◌∷◌, ◌++◌, length, Some, None, option_map, inl, refl, sym, ap, subst, ◌∙◌, arith, append_assoc, append-nil, length-append, length-drop}
-use Rattle.std.specs.List.{list_any}
+use Rattle.std.proofs.Common.{◌≡◌, ℕ, zero, suc, ◌+◌, ◌<◌, ◌≤◌, Bool, true, false, not, ◌||◌, nat_eq, nat_le, nat_lt, get_or, drop, map, List, [], ◌∷◌, ◌++◌, length, Some, None, option_map, inl, refl, sym, ap, subst, ◌∙◌, arith, append_assoc, append-nil, length-append, length-drop, if◌then◌else◌}
+use Rattle.std.specs.List.{list_any, slice_get}
 use Rattle.std.proofs.Math.Seq.{drop-append_seam}
 use Rattle.std.proofs.lemmas.List.{drop-append-le}
 use Rattle.std.proofs.lemmas.Bool.{lt-ltb, le-ltb, ltb-true, ltb-false, leb-true, leb-false}
 use Rattle.tla_token.specs.declared.part.Part as code
 use Rattle.tla_token.specs.Lexemes.{name, number, string, one, other, is_word}
 use Rattle.tla_token.specs.Tokens.{blank, block, line, lexeme}
-use Rattle.tla_token.specs.Offences.{Part, sound, stray, bad_string, open_string, open_block, part_bytes, PartFits}
+use Rattle.tla_token.specs.Offences.{Part, sound, stray, bad_string, open_string, open_block, part_bytes, parts_text, PartFits, PartsFit}
 use Rattle.tla_token.specs.Cut.{run, parts}
 use Rattle.tla_token.specs.Scan.{part_class, outline, front}
-use Rattle.tla_token.specs.Feeding.{is_settled, stays, stays_by, IsKept, AreDecided}
+use Rattle.tla_token.specs.Feeding.{is_settled, stays, stays_by, decided, undecided, IsKept, AreDecided}
 use Rattle.tla_token.proofs.Words.{one_plus}
-use Rattle.tla_token.proofs.Parted.{first_part, fits_first}
+use Rattle.tla_token.proofs.Parted.{first_part, fits_first, parts_step, some_part, cut_back}
 use Rattle.tla_token.proofs.Cutting.{Cut, front_cut, cut_fits}
 use Rattle.tla_token.proofs.Found.{found, nothing_found}
 use Rattle.tla_token.proofs.MachineStays.{stays_fits}
@@ -96,6 +96,66 @@ front_off t p e =
     ap (λ (u : List ℕ). map outline (parts u)) c.bytes
     ∙ first_off c.part c.rest c.fits
     ∙ (λ i. sym f.1 i ∷ map outline (parts (sym rest i)))
+
+-- ---- all parts that stay
+
+parts_cut : (t : List ℕ) (c : Cut t) → parts t ≡ c.part ∷ parts c.rest
+parts_cut t c = ap parts c.bytes ∙ parts_step c.part (part_bytes c.part) c.rest refl (fits_first c.part c.rest c.fits) (some_part c.part c.rest c.fits)
+
+cut_decided : (t : List ℕ) (c : Cut t) (k : Bool) → stays c.part c.rest ≡ k → decided (parts t) ≡ (if k then c.part ∷ decided (parts c.rest) else [])
+cut_decided t c k s =
+    ap decided (parts_cut t c)
+    ∙ ap (λ (b : Bool). if b then c.part ∷ decided (parts c.rest) else []) (ap (stays c.part) (cut_fits c.rest).0 ∙ s)
+
+pub first_stays : (t : List ℕ) (p : code.Part) → Some p ≡ front t → stays_by p.class p.len t ≡ true → Some p ≡ slice_get (map outline (decided (parts t))) 0
+first_stays t p e s =
+    let f = found_cut t p e in
+    ap Some f.1 ∙ sym (ap (λ (ps : List Part). slice_get (map outline ps) 0) (cut_decided t f.0 true (sym f.2 ∙ s)))
+
+pub first_waits : (t : List ℕ) (p : code.Part) → Some p ≡ front t → stays_by p.class p.len t ≡ false → None ≡ slice_get (map outline (decided (parts t))) 0
+first_waits t p e s =
+    let f = found_cut t p e in
+    sym (ap (λ (ps : List Part). slice_get (map outline ps) 0) (cut_decided t f.0 false (sym f.2 ∙ s)))
+
+pub first_missing : (t : List ℕ) → None ≡ front t → None ≡ slice_get (map outline (decided (parts t))) 0
+first_missing [] e = refl
+first_missing (b ∷ bs) e = (let l = nothing_found (b ∷ bs) e in absurd (omega arith))
+
+-- where nothing is decided all bytes wait
+pub none_more : (t : List ℕ) → None ≡ slice_get (map outline (decided (parts t))) 0 → (map outline (decided (parts t)) ≡ []) × (undecided (parts t) ≡ t)
+none_more t e = (let r = by (parts t) e in (r.0, r.1 ∙ (cut_fits t).0))
+  where
+    on : (x : Part) (ps : List Part) (k : Bool) → stays x (parts_text ps) ≡ k → None ≡ slice_get (map outline (decided (x ∷ ps))) 0
+        → (map outline (decided (x ∷ ps)) ≡ []) × (undecided (x ∷ ps) ≡ parts_text (x ∷ ps))
+    on x ps true s e = (let f : None ≡ Some (outline x) = rw s at e in absurd cc)
+    on x ps false s e = rw s (refl, refl)
+
+    by : (ps : List Part) → None ≡ slice_get (map outline (decided ps)) 0 → (map outline (decided ps) ≡ []) × (undecided ps ≡ parts_text ps)
+    by [] e = (refl, refl)
+    by (x ∷ ps) e = on x ps (stays x (parts_text ps)) refl e
+
+abbrev Further : code.Part → List Part → List ℕ → Type 0
+Further p ps rest = (map outline (decided ps) ≡ p ∷ map outline (decided (parts rest))) × (undecided ps ≡ undecided (parts rest))
+
+-- behind a part that is decided it goes on in the same way
+pub one_more : (t : List ℕ) (p : code.Part) → Some p ≡ slice_get (map outline (decided (parts t))) 0 → Further p (parts t) (drop p.len t)
+one_more t p e =
+    let c = cut_fits t in
+    let Goes : List ℕ → Type 0 = λ u. Further p (parts t) (drop p.len u) in
+    subst Goes c.0 (by (parts t) c.1 e)
+  where
+    on : (x : Part) (ps : List Part) → PartsFit ps → (k : Bool) → stays x (parts_text ps) ≡ k → Some p ≡ slice_get (map outline (decided (x ∷ ps))) 0 → Further p (x ∷ ps) (drop p.len (parts_text (x ∷ ps)))
+    on x ps h true s e =
+        let same : Some p ≡ Some (outline x) = rw s at e in
+        let is : p ≡ outline x = cc in
+        let rest : parts (drop p.len (part_bytes x ++ parts_text ps)) ≡ ps =
+        ap (λ (q : code.Part). parts (drop q.len (part_bytes x ++ parts_text ps))) is ∙ ap parts (drop-append_seam (part_bytes x) (parts_text ps)) ∙ cut_back ps h in
+        rw (s, rest) (ap (λ (q : code.Part). q ∷ map outline (decided ps)) (sym is), refl)
+    on x ps h false s e = (let f : Some p ≡ None = rw s at e in absurd cc)
+
+    by : (ps : List Part) → PartsFit ps → Some p ≡ slice_get (map outline (decided ps)) 0 → Further p ps (drop p.len (parts_text ps))
+    by [] h e = absurd cc
+    by (x ∷ ps) (f, h) e = on x ps h (stays x (parts_text ps)) refl e
 
 pub none_decided : (text : List ℕ) (before : List code.Part) → AreDecided text before before 0
 none_decided text before = (omega arith, λ more. refl)

@@ -1,5 +1,5 @@
 -- One step of a scanner, and what it has found at the end.
-use Rattle.std.proofs.Common.{◌≡◌, ℕ, zero, suc, ◌+◌, ◌-◌, ◌*◌, ◌<◌, ◌≤◌, ◌&&◌, ◌||◌, Bool, true, false, nat_eq, codes, List, [], ◌∷◌, ◌++◌, length, take, drop, Option, Some, None, Result, Err, is_some, refl, sym, ap, subst, ◌∙◌, arith, append_assoc, append-nil, length-drop}
+use Rattle.std.proofs.Common.{if◌then◌else◌, ◌≡◌, ℕ, zero, suc, ◌+◌, ◌-◌, ◌*◌, ◌<◌, ◌≤◌, ◌&&◌, ◌||◌, Bool, true, false, nat_eq, codes, List, [], ◌∷◌, ◌++◌, length, take, drop, Option, Some, None, Result, Err, is_some, refl, sym, ap, subst, ◌∙◌, arith, append_assoc, append-nil, length-drop}
 use Rattle.std.specs.List.{list_any, starts_with}
 use Rattle.std.proofs.Math.Seq.{drop-nil, take-add}
 use Rattle.std.proofs.lemmas.List.{take-append-drop, take_rest, drop_all, drop-take, length-take-le}
@@ -232,7 +232,7 @@ begins_there text from begin to s f t l at line col w =
     record { within = omega arith; line = omega arith; col = omega arith; wordless = subst P (sym w) (none_known (drop s.at (stretch text from to))) }
 
 -- what is found of a stretch from `begin` on
-pub rest_found : (r : Reading) (text : List ℕ) (from begin to : ℕ) (s b : Scan) (us ts : List Token) → from ≤ begin → begin ≤ to → b.at ≡ begin - from → b.fault ≡ None → b.place ≡ place_at text begin → b.quote ≡ None
+rest_found : (r : Reading) (text : List ℕ) (from begin to : ℕ) (s b : Scan) (us ts : List Token) → from ≤ begin → begin ≤ to → b.at ≡ begin - from → b.fault ≡ None → b.place ≡ place_at text begin → b.quote ≡ None
     → outcome r from us s (drop s.at (stretch text from to)) ≡ outcome r from ts b (drop b.at (stretch text from to)) → length (stretch text from to) ≤ s.at
     → (us ≡ ts ++ lexemes_of (place_at text begin) begin (parts (stretch text begin to))) × (with_line r text s.quote s.fault ≡ first_offence r text begin to) × (s.place ≡ place_at text to)
 rest_found r text from begin to s b us ts f t at none place start e l =
@@ -281,9 +281,19 @@ goes_past r from bytes s p piece place w f ts us kind quote stands e is moved li
 
 -- ---- at the end
 
-pub goes_end : (r : Reading) (from : ℕ) (bytes : List ℕ) (ts us : List Token) (s : Scan) (o : Option Scan) → ((t : Scan) → o ≡ Some t → ⊥) → GoesOn r from bytes ts us s o → (length bytes ≤ s.at) × (us ≡ ts)
-goes_end r from bytes ts us s None none h = h
-goes_end r from bytes ts us s (Some t) none h = absurd (none t refl)
+goes_end : (r : Reading) (from : ℕ) (bytes : List ℕ) (ts us : List Token) (s t : Scan) (more : Bool) → more ≡ false → GoesOn r from bytes ts us s (if more then Some t else None) → (length bytes ≤ s.at) × (us ≡ ts)
+goes_end r from bytes ts us s t true e h = absurd cc
+goes_end r from bytes ts us s t false e h = h
+
+-- where nothing more is found of a stretch from `begin` on
+pub rest_ended : (r : Reading) (text : List ℕ) (from begin to : ℕ) (s b t : Scan) (us vs ts : List Token) (more : Bool) → from ≤ begin → begin ≤ to → b.at ≡ begin - from → b.fault ≡ None → b.place ≡ place_at text begin → b.quote ≡ None
+    → outcome r from us s (drop s.at (stretch text from to)) ≡ outcome r from ts b (drop b.at (stretch text from to)) → GoesOn r from (stretch text from to) us vs s (if more then Some t else None) → more ≡ false → t ≡ s
+    → (vs ≡ ts ++ lexemes_of (place_at text begin) begin (parts (stretch text begin to))) × (with_line r text t.quote t.fault ≡ first_offence r text begin to) × (t.place ≡ place_at text to)
+rest_ended r text from begin to s b t us vs ts more f l at none place quote e goes over same =
+    let g = goes_end r from (stretch text from to) us vs s t more over goes in
+    let x = rest_found r text from begin to s b us ts f l at none place quote e g.0 in
+    let Found : Scan → Type 0 = λ u. (vs ≡ ts ++ lexemes_of (place_at text begin) begin (parts (stretch text begin to))) × (with_line r text u.quote u.fault ≡ first_offence r text begin to) × (u.place ≡ place_at text to) in
+    subst Found (sym same) (g.1 ∙ x.0, x.1, x.2)
 
 pub refused_so : (text : List ℕ) (fault offence : Option Offence) (rule : Rule) (at : ℕ) (place : Place) (q r : Refusal) → fault ≡ Some (rule, at) → fault ≡ offence → place ≡ place_at text at → q ≡ r → q.rule ≡ rule → q.place ≡ place
     → (x : ℕ) × (offence ≡ Some (r.rule, x)) × (r.place ≡ place_at text x)

@@ -1,7 +1,7 @@
 //! Bytes at the front of a text that belong together: words, numbers, strings, comments.
 
-ghost use Rattle.std.specs.Prelude.{◌≡◌, ◌+◌, ◌-◌, ◌<◌, ◌≤◌, not, nat_eq, length, take, drop, slice_index, IfSome, is_some};
-ghost use Rattle.std.specs.List.{list_any};
+ghost use Rattle.std.specs.Prelude.{◌≡◌, [], ◌∷◌, ◌+◌, ◌-◌, ◌<◌, ◌≤◌, not, nat_eq, length, take, drop, slice_index, IfSome, is_some};
+ghost use Rattle.std.specs.List.{list_any, starts_with};
 ghost use Rattle.tla_token.specs.Limits.{past_text};
 ghost use Rattle.tla_token.specs.Lexemes.{is_letter, is_digit, is_word, is_blank, is_printed, is_plain, escaped, unquoted, number_of};
 ghost use Rattle.tla_token.specs.Tokens.{is_pair, holds_mark};
@@ -119,7 +119,7 @@ pub fn number_value(digits: &[u8]) -> Option<u128>
     let mut value = 0u128;
     for b in digits {
         let digit = (*b).saturating_sub(b'0') as u128;
-        if value > (u128::MAX - digit) / 10 {
+        if value >= 1 << 124 && value > (u128::MAX - digit) / 10 {
             return None;
         }
         value = 10 * value + digit;
@@ -210,6 +210,13 @@ fn is_pair(text: &[u8], at: usize, x: u8, y: u8) -> bool
     ensures { result ≡ is_pair x y (slice_index text.now at) (slice_index text.now (at + 1)) }
 {
     text[at] == x && text[at + 1] == y
+}
+
+/// Whether these two bytes are in front.
+pub fn begins_pair(text: &[u8], x: u8, y: u8) -> bool
+    ensures { result ≡ starts_with nat_eq text.now (x ∷ y ∷ []) }
+{
+    text.len() >= 2 && is_pair(text, 0, x, y)
 }
 
 /// How many bytes after its opener belong to a `(*` comment, if it is closed.

@@ -46,6 +46,26 @@ fn earlier(a: (Rule, usize), b: (Rule, usize)) -> (Rule, usize)
     if n < m || (n == m && b.1 < a.1) { b } else { a }
 }
 
+/// Takes what is wrong with one more part to the offence that counts.
+#[tactic(auto, using(crate::proofs::Faults::joined_none))]
+pub fn note(
+    fault: &mut Option<(Rule, usize)>,
+    class: Class,
+    bytes: &[u8],
+    at: usize,
+    reading: Reading,
+)
+    requires some { 0 < length bytes.now }
+    requires small { at + length bytes.now < 2 ^ 32 }
+    requires quoted { is_quoted class ≡ true → 2 ≤ length bytes.now }
+    requires text { class ≡ Class.Text → is_some (unquoted (inner bytes.now)) ≡ true }
+    ensures { fault.new ≡ joined fault.old (least (part_offences_in reading at (part_of class bytes.now))) }
+{
+    if let Some(more) = part_fault(class, bytes, at, reading) {
+        *fault = sooner(*fault, Some(more));
+    }
+}
+
 // What is wrong with a byte.
 fn stray_fault(b: u8, at: usize) -> Option<(Rule, usize)>
     ensures { result ≡ least (byte_offences at (b ∷ [])) }

@@ -3,8 +3,8 @@
 
 pub mod bytes;
 pub mod fault;
+pub mod feeding;
 pub mod laws;
-pub mod machine;
 pub mod part;
 pub mod place;
 pub mod rule;
@@ -14,7 +14,7 @@ pub mod token;
 pub mod word;
 
 pub use fault::Reading;
-pub use machine::{decided_at, decided_parts};
+pub use feeding::{decided_at, decided_parts};
 pub use part::{Class, Part, lexeme_at, outer_at, part_at};
 pub use place::{Place, place_of};
 pub use rule::{Refusal, Rule, Stop};

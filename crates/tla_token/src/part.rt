@@ -10,8 +10,8 @@ ghost use Rattle.tla_token.specs.Cut.{run, part_by, string_part, block_part, com
 ghost use Rattle.tla_token.specs.Scan.{outline, front_by, front, lexeme_front, mark_front, worded, IsWordless};
 
 use crate::bytes::{
-    comment_len, has_letter, is_blank, is_digit, is_printed, is_string, line_len, number_len,
-    string_len, word_len,
+    begins_pair, comment_len, has_letter, is_blank, is_digit, is_printed, is_string, line_len,
+    number_len, string_len, word_len,
 };
 use crate::sign::{Sign, sign_at, sign_of, spelling_len};
 
@@ -47,6 +47,7 @@ pub enum Class {
 /// A part of a text.
 #[derive(Clone, Copy, PartialEq, Eq, Debug)]
 pub struct Part {
+    /// What it is.
     pub class: Class,
     /// How many bytes it has.
     pub len: usize,
@@ -83,9 +84,9 @@ pub fn outer_at(text: &[u8]) -> Option<Part>
         })
     } else if text[0] == b'"' {
         Some(string_at(&text[1..]))
-    } else if text.starts_with(b"(*") {
+    } else if begins_pair(text, b'(', b'*') {
         Some(block_at(&text[2..]))
-    } else if text.starts_with(b"\\*") {
+    } else if begins_pair(text, b'\\', b'*') {
         Some(Part {
             class: Class::Line,
             len: 2 + line_len(&text[2..]),

@@ -8,7 +8,9 @@ ghost use Rattle.tla_token.specs.Places.{step, after, place_at};
 /// column of form 8n + 1.
 #[derive(Clone, Copy, PartialEq, Eq, Debug)]
 pub struct Place {
+    /// The line, from 1.
     pub line: u32,
+    /// The column, from 1.
     pub col: u32,
 }
 

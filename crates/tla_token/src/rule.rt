@@ -210,7 +210,9 @@ impl fmt::Display for Rule {
 /// A rule that a text offends, and where.
 #[derive(Clone, Copy, PartialEq, Eq, Debug)]
 pub struct Refusal {
+    /// The rule that is broken.
     pub rule: Rule,
+    /// Where it is broken.
     pub place: Place,
 }
 

@@ -1,6 +1,6 @@
 //! Scanning: the tokens of a stretch of a text, or the offence that counts in it.
 
-ghost use Rattle.std.specs.Prelude.{◌≡◌, ℕ, List, ◌+◌, ◌-◌, ◌<◌, ◌≤◌, ◌++◌, [], None, Some, length, take, drop, map, option_map, is_some, true, IfOk, IfSome, Err};
+ghost use Rattle.std.specs.Prelude.{◌≡◌, ℕ, List, ◌+◌, ◌-◌, ◌<◌, ◌≤◌, ◌++◌, [], None, Some, length, take, drop, map, option_map, is_some, true, false, IfOk, IfSome, Ok, Err, if◌then◌else◌};
 ghost use Rattle.tla_token.specs.declared.rule.Refusal as code;
 ghost use Rattle.tla_token.specs.Limits.{past_text};
 ghost use Rattle.tla_token.specs.Places.{place_at};
@@ -13,7 +13,7 @@ ghost use Rattle.tla_token.specs.TokensSeen.{kind_seen, token_seen, tokens_seen,
 ghost use Rattle.tla_token.specs.Scanning.{token_at, lexemes_of, Stands, GoesOn};
 
 use crate::bytes::blank_len;
-use crate::fault::{Reading, part_fault, sooner};
+use crate::fault::{Reading, note, part_fault, sooner};
 use crate::part::{Class, Part, part_at};
 use crate::place::{Place, place_after, place_of};
 use crate::rule::{Refusal, Rule, Stop};
@@ -23,7 +23,9 @@ use std::alloc::{AllocError, Global};
 /// Where a scanner is in a stretch, and what it knows.
 #[derive(Clone, Copy, PartialEq, Eq, Debug)]
 pub struct Scan {
+    /// How many bytes of the stretch are behind it.
     pub at: usize,
+    /// The place of the byte that is next.
     pub place: Place,
     /// So many bytes from here on are known to be in a word without a letter.
     pub wordless: usize,
@@ -171,9 +173,7 @@ fn rest_of(
         fault: None,
         quote: None,
     };
-    'parts: while let Some(after) = next(alloc, bytes, from, reading, scan, &mut items)? {
-        scan = after;
-    }
+    'parts: while next(alloc, bytes, from, reading, &mut scan, &mut items)? {}
     if let Some((rule, at)) = whole_fault(text, scan.quote, scan.fault, reading) {
         return Err(Stop::Refused(Refusal {
             rule,
@@ -246,68 +246,59 @@ fn place_near(text: &[u8], at: usize) -> Place
     }
 }
 
-// Past the next part, with its token added where it is one; nothing at the end.
+// Goes past the next part and adds its token, where it is one; false at the end, where nothing changes.
 fn next(
     alloc: Global,
     bytes: &[u8],
     from: usize,
     reading: Reading,
-    scan: Scan,
+    scan: &mut Scan,
     items: &mut Vec<Token>,
-) -> Result<Option<Scan>, AllocError>
-    requires stands { Stands from bytes.now scan }
+) -> Result<bool, AllocError>
+    requires stands { Stands from bytes.now scan.old }
     requires small { from + length bytes.now < past_text }
     requires canonical { AllCanonical bytes.now items.old.items }
-    ensures goes { IfOk result (λ o. GoesOn reading from bytes.now (map (token_seen bytes.now) items.old.items) (map (token_seen bytes.now) items.new.items) scan o) }
-    ensures canonical { IfOk result (λ o. AllCanonical bytes.now items.new.items) }
+    ensures goes { IfOk result (λ more. GoesOn reading from bytes.now (map (token_seen bytes.now) items.old.items) (map (token_seen bytes.now) items.new.items) scan.old (if more then Some scan.new else None)) }
+    ensures end { result ≡ Ok false → scan.new ≡ scan.old }
+    ensures canonical { IfOk result (λ more. AllCanonical bytes.now items.new.items) }
 {
     let mut wordless = scan.wordless;
     match part_at(&bytes[scan.at..], &mut wordless) {
-        None => Ok(None),
+        None => Ok(false),
         Some(part) => {
-            let here = Scan {
-                at: scan.at,
-                place: scan.place,
-                wordless,
-                fault: scan.fault,
-                quote: scan.quote,
-            };
-            let there = past(alloc, bytes, from, reading, here, part, items)?;
-            Ok(Some(there))
+            scan.wordless = wordless;
+            past(bytes, from, reading, scan, part, items)?;
+            Ok(true)
         }
     }
 }
 
 // Past the part in front.
 fn past(
-    alloc: Global,
     bytes: &[u8],
     from: usize,
     reading: Reading,
-    scan: Scan,
+    scan: &mut Scan,
     part: Part,
     items: &mut Vec<Token>,
-) -> Result<Scan, AllocError>
-    requires stands { Stands from bytes.now scan }
+) -> Result<(), AllocError>
+    requires stands { Stands from bytes.now scan.old }
     requires small { from + length bytes.now < past_text }
-    requires part { Some part ≡ front (drop scan.at bytes.now) }
+    requires part { Some part ≡ front (drop scan.old.at bytes.now) }
     requires canonical { AllCanonical bytes.now items.old.items }
-    ensures goes { IfOk result (λ s. GoesOn reading from bytes.now (map (token_seen bytes.now) items.old.items) (map (token_seen bytes.now) items.new.items) scan (Some s)) }
-    ensures canonical { IfOk result (λ s. AllCanonical bytes.now items.new.items) }
+    ensures goes { IfOk result (λ u. GoesOn reading from bytes.now (map (token_seen bytes.now) items.old.items) (map (token_seen bytes.now) items.new.items) scan.old (Some scan.new)) }
+    ensures canonical { IfOk result (λ u. AllCanonical bytes.now items.new.items) }
 {
     let piece = piece_of(&bytes[scan.at..], part);
     let at = from + scan.at;
     let kind = kind_at(bytes, scan.at, part);
-    let place = place_after(scan.place, piece);
-    let fault = sooner(scan.fault, part_fault(part.class, piece, at, reading));
     keep(items, kind, at, scan.place)?;
-    Ok(Scan {
-        at: scan.at + part.len,
-        place,
-        wordless: scan.wordless.saturating_sub(part.len),
-        fault,
-        quote: quote_at(part.class, at),
-    })
+    note(&mut scan.fault, part.class, piece, at, reading);
+    scan.place = place_after(scan.place, piece);
+    scan.wordless = scan.wordless.saturating_sub(part.len);
+    scan.quote = quote_at(part.class, at);
+    scan.at += part.len;
+    Ok(())
 }
 
 // The bytes of the part in front.

@@ -1,10 +1,13 @@
 //! Signs: what the grammar sees of operators and punctuation, whichever way they are spelled.
 
-ghost use Rattle.std.specs.Prelude.{◌≡◌, length, find, map, option_map, nat_eq};
-ghost use Rattle.std.specs.List.{list_any, starts_with};
-ghost use Rattle.tla_token.specs.Signs.{spellings, is_among as is_among_of};
+ghost use Rattle.std.specs.Prelude.{◌≡◌, ◌<◌, length, take, drop, find, map, option_map, nat_eq};
+ghost use Rattle.std.specs.List.{filter, list_any, starts_with};
+ghost use Rattle.tla_token.specs.Signs.{spellings, all_signs, is_among as is_among_of};
+ghost use Rattle.tla_token.specs.Lexemes.{is_letter};
+ghost use Rattle.tla_token.specs.Offences.{begins_with};
 ghost use Rattle.tla_token.specs.Cut.{spelling_at, sign_at, sign_of};
 
+use crate::bytes::is_letter;
 use crate::word::is_among;
 
 /// A sign of TLA+ or PlusCal. The first spelling is the one that is written.
@@ -106,45 +109,14 @@ pub enum Sign {
     Exists,
 }
 
-// All signs, the longest that is no word first among those that begin alike.
-const SIGNS: [Sign; 47] = [
-    Sign::MapsTo,
+// The signs that are spelled from a backslash on in some way, in the order of all signs.
+static BACKSLASH_SIGNS: [Sign; 16] = [
     Sign::Equivalent,
-    Sign::Assign,
-    Sign::Parallel,
-    Sign::Pair,
-    Sign::Override,
-    Sign::Range,
     Sign::And,
     Sign::Or,
-    Sign::Implies,
-    Sign::Arrow,
-    Sign::Defined,
-    Sign::OpenTuple,
-    Sign::CloseTuple,
     Sign::AtMost,
     Sign::AtLeast,
-    Sign::NotEqual,
-    Sign::Box,
-    Sign::Colon,
-    Sign::Semicolon,
-    Sign::Comma,
-    Sign::Dot,
-    Sign::OpenRound,
-    Sign::CloseRound,
-    Sign::OpenSquare,
-    Sign::CloseSquare,
-    Sign::OpenCurly,
-    Sign::CloseCurly,
-    Sign::Equal,
-    Sign::Less,
-    Sign::Greater,
-    Sign::Plus,
-    Sign::Minus,
-    Sign::Times,
-    Sign::Percent,
     Sign::Not,
-    Sign::Bang,
     Sign::Without,
     Sign::In,
     Sign::NotIn,
@@ -156,6 +128,39 @@ const SIGNS: [Sign; 47] = [
     Sign::ForAll,
     Sign::Exists,
 ];
+
+// The signs that are spelled from this byte on in some way. Of those that are no words and begin alike, the longest is first.
+fn signs_from(first: u8) -> &'static [Sign]
+    ensures { result.now ≡ filter (λ s. list_any (begins_with first) (spellings s)) all_signs }
+{
+    match first {
+        b'|' => &[Sign::MapsTo, Sign::Parallel],
+        b'<' => &[Sign::Equivalent, Sign::OpenTuple, Sign::AtMost, Sign::Less],
+        b'\\' => &BACKSLASH_SIGNS,
+        b':' => &[Sign::Assign, Sign::Pair, Sign::Colon],
+        b'@' => &[Sign::Override],
+        b'.' => &[Sign::Range, Sign::Dot],
+        b'/' => &[Sign::And, Sign::NotEqual],
+        b'=' => &[Sign::Implies, Sign::Defined, Sign::AtMost, Sign::Equal],
+        b'-' => &[Sign::Arrow, Sign::Minus],
+        b'>' => &[Sign::CloseTuple, Sign::AtLeast, Sign::Greater],
+        b'#' => &[Sign::NotEqual],
+        b'[' => &[Sign::Box, Sign::OpenSquare],
+        b';' => &[Sign::Semicolon],
+        b',' => &[Sign::Comma],
+        b'(' => &[Sign::OpenRound],
+        b')' => &[Sign::CloseRound],
+        b']' => &[Sign::CloseSquare],
+        b'{' => &[Sign::OpenCurly],
+        b'}' => &[Sign::CloseCurly],
+        b'+' => &[Sign::Plus],
+        b'*' => &[Sign::Times],
+        b'%' => &[Sign::Percent],
+        b'~' => &[Sign::Not],
+        b'!' => &[Sign::Bang],
+        _ => &[],
+    }
+}
 
 // How a sign may be spelled; the first is the one that is written.
 fn spellings(sign: Sign) -> &'static [&'static str]
@@ -224,11 +229,42 @@ pub fn spelling_len(sign: Sign, text: &[u8]) -> Option<usize>
     None
 }
 
+// The signs that may be in front: words only where a letter is behind a backslash.
+fn signs_before(text: &[u8]) -> &'static [Sign]
+    requires { 0 < length text.now }
+    ensures { find (λ s. list_any (λ w. starts_with nat_eq text.now w) (spellings s)) result.now ≡ sign_at text.now }
+{
+    if text[0] == b'\\' && !has_letter_behind(text) {
+        &[Sign::Or, Sign::Without]
+    } else {
+        signs_from(text[0])
+    }
+}
+
+// Whether the second byte is a letter.
+fn has_letter_behind(text: &[u8]) -> bool
+    requires { 0 < length text.now }
+    ensures { result ≡ list_any is_letter (take 1 (drop 1 text.now)) }
+{
+    text.len() > 1 && is_letter(text[1])
+}
+
+// The first of some signs that is in front.
+fn first_at(signs: &[Sign], text: &[u8]) -> Option<Sign>
+    ensures { result ≡ find (λ s. list_any (λ w. starts_with nat_eq text.now w) (spellings s)) signs.now }
+{
+    signs.iter().copied().find(|s| is_at(*s, text))
+}
+
 /// The sign in front, if it is no word: the longest.
 pub fn sign_at(text: &[u8]) -> Option<Sign>
     ensures { result ≡ sign_at text.now }
 {
-    SIGNS.iter().copied().find(|s| is_at(*s, text))
+    if text.is_empty() {
+        None
+    } else {
+        first_at(signs_before(text), text)
+    }
 }
 
 #[tactic(auto, using(crate::proofs::Steps::some_found))]
@@ -244,9 +280,20 @@ fn is_spelled(sign: Sign, word: &[u8]) -> bool
     is_among(spellings(sign), word)
 }
 
+// The first of some signs that is spelled so.
+fn first_spelled(signs: &[Sign], word: &[u8]) -> Option<Sign>
+    ensures { result ≡ find (λ s. is_among_of (spellings s) word.now) signs.now }
+{
+    signs.iter().copied().find(|s| is_spelled(*s, word))
+}
+
 /// The sign that a word stands for.
 pub fn sign_of(word: &[u8]) -> Option<Sign>
     ensures { result ≡ sign_of word.now }
 {
-    SIGNS.iter().copied().find(|s| is_spelled(*s, word))
+    if word.is_empty() {
+        None
+    } else {
+        first_spelled(signs_from(word[0]), word)
+    }
 }

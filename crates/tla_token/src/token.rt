@@ -15,7 +15,9 @@ use crate::sign::Sign;
 /// Bytes of a stretch, by the index of the first one and of the one behind the last.
 #[derive(Clone, Copy, PartialEq, Eq, Debug)]
 pub struct Span {
+    /// The index of the first byte.
     pub from: usize,
+    /// The index behind the last byte.
     pub to: usize,
 }
 
@@ -39,16 +41,22 @@ pub enum Kind {
 /// A token, with the index of its first byte in the text, and its place.
 #[derive(Clone, Copy, PartialEq, Eq, Debug)]
 pub struct Token {
+    /// What it is.
     pub kind: Kind,
+    /// The index of its first byte in the text.
     pub at: usize,
+    /// The place of its first byte.
     pub place: Place,
 }
 
 /// The tokens of a stretch of a text, with the bytes of their words and the place of the stretch's end.
 #[derive(Drop)]
 pub struct Tokens {
+    /// The bytes of the stretch.
     pub bytes: Vec<u8>,
+    /// The tokens, from left to right.
     pub items: Vec<Token>,
+    /// The place of the stretch's end.
     pub end: Place,
 }
 

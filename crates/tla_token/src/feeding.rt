@@ -1,22 +1,24 @@
-//! The part in front of a text of which more may come.
+//! The parts in front of a text of which more may come.
 
-ghost use Rattle.std.specs.Prelude.{◌≡◌, ℕ, ◌++◌, ◌^◌, ◌<◌, ◌≤◌, ◌||◌, nat_eq, length, drop, List, Some, None, IfSome, IfOk};
+ghost use Rattle.std.specs.Prelude.{◌≡◌, ℕ, ◌++◌, ◌^◌, ◌<◌, ◌≤◌, ◌||◌, nat_eq, length, drop, map, List, Some, None, IfSome, IfOk};
+ghost use Rattle.std.specs.List.{slice_get};
 ghost use Rattle.tla_token.specs.Lexemes.{is_word};
-ghost use Rattle.tla_token.specs.Cut.{run};
-ghost use Rattle.tla_token.specs.Scan.{front, IsWordless};
-ghost use Rattle.tla_token.specs.Feeding.{is_settled, stays_by, IsKept, AreDecided};
+ghost use Rattle.tla_token.specs.Cut.{run, parts as parts_of};
+ghost use Rattle.tla_token.specs.Scan.{front, outline, IsWordless};
+ghost use Rattle.tla_token.specs.Feeding.{is_settled, stays_by, decided, undecided, IsKept, AreDecided};
 
 use crate::bytes::{is_word, word_len};
 use crate::part::{Class, Part, part_at};
 use std::alloc::AllocError;
 
-/// The part in front, if it stays whatever comes behind this text. Where there is none, these are
+/// The part in front, just where it stays whatever comes behind this text. Where there is none, these are
 /// fewer than three bytes, or a word, comment or string that goes on to the end: they wait for more.
 /// What is known of words is as for `part_at`, and of this text alone: with more of it, it is 0 again.
-#[tactic(auto, using(crate::proofs::Decided::decided_front, crate::proofs::Scans::part_within, crate::proofs::Scans::part_some, crate::proofs::Decided::waiting_front, crate::proofs::Decided::empty_front))]
+#[tactic(auto, using(crate::proofs::Decided::decided_front, crate::proofs::Scans::part_within, crate::proofs::Scans::part_some, crate::proofs::Decided::waiting_front, crate::proofs::Decided::empty_front, crate::proofs::Decided::first_stays, crate::proofs::Decided::first_waits, crate::proofs::Decided::first_missing))]
 pub fn decided_at(text: &[u8], wordless: &mut usize) -> Option<Part>
     requires small { length text.now < 2 ^ 29 }
     requires known { IsWordless wordless.old text.now }
+    ensures first { result ≡ slice_get (map outline (decided (parts_of text.now))) 0 }
     ensures decided { IfSome result (λ p. (more : List ℕ) → front (text.now ++ more) ≡ Some p) }
     ensures some { IfSome result (λ p. 0 < p.len) }
     ensures within { IfSome result (λ p. p.len ≤ length text.now) }
@@ -29,7 +31,7 @@ pub fn decided_at(text: &[u8], wordless: &mut usize) -> Option<Part>
     }
 }
 
-/// Adds the parts that are decided, whatever comes behind this text, and tells how many bytes they
+/// Adds all parts that are decided, whatever comes behind this text, and tells how many bytes they
 /// have. The bytes behind these wait, and go before the next piece.
 ///
 /// # Errors
@@ -38,6 +40,8 @@ pub fn decided_at(text: &[u8], wordless: &mut usize) -> Option<Part>
 #[tactic(auto, using(crate::proofs::Decided::none_decided, crate::proofs::Decided::one_decided))]
 pub fn decided_parts(text: &[u8], parts: &mut Vec<Part>) -> Result<usize, AllocError>
     requires small { length text.now < 2 ^ 29 }
+    ensures all { IfOk result (λ n. parts.new.items ≡ parts.old.items ++ map outline (decided (parts_of text.now))) }
+    ensures rest { IfOk result (λ n. drop n text.now ≡ undecided (parts_of text.now)) }
     ensures decided { IfOk result (λ n. AreDecided text.now parts.old.items parts.new.items n) }
     ensures kept { IfOk result (λ n. IsKept (drop n text.now)) }
 {
