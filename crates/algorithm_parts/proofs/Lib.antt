@@ -19,3 +19,14 @@ pub mod BesideSimple
 pub mod Within
 pub mod WithinParts
 pub mod WithinSimple
+pub mod WholeEnds
+pub mod WholeAssign
+pub mod WithLabel
+pub mod SoundAround
+pub mod MendAround
+pub mod FairAround
+pub mod BesideAround
+pub mod WithinAround
+pub mod SameOpens
+pub mod StopsOf
+pub mod StopsWithin

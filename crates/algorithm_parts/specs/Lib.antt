@@ -1,3 +1,4 @@
 pub mod TokenReaders
 pub mod ReadParts
 pub mod ReadSimple
+pub mod ReadAround

@@ -6,28 +6,18 @@ use Rattle.tla_tree.specs.declared.op.Op.TheVariants as op
 use Rattle.tla_tree.specs.Tree.{Word}
 use Rattle.tla_tree.specs.Lexical.{TokenView, Token}
 use Rattle.tla_tree.specs.Lexical as tk
-use Rattle.tla_tree.specs.Reader.{Out, Stop, Reader, ◌>>=◌, gives, refuses, readers}
-use Rattle.tla_tree.proofs.Alike.{Within, Alike, Enough, IsFair, fair_gives, fair_refuses, fair_skip, fair_bind}
+use Rattle.tla_tree.specs.Reader.{Out, Stop, ◌>>=◌, gives, refuses, readers}
+use Rattle.tla_tree.proofs.Alike.{Alike, IsFair, fair_gives, fair_refuses, fair_skip, fair_bind}
 use Rattle.pcal_tree.specs.Grammar.{c_syntax, Fair, unfair, no_define, Text, Good, spell}
 use Rattle.algorithm_parts.specs.TokenReaders.{pick, Parts, parts_of}
 use Rattle.algorithm_parts.specs.ReadParts.{bind_by}
 use Rattle.algorithm_parts.proofs.Fair.{fair_next, fair_past, pick_both, fair_steps, FairParts, less_parts, left_parts, right_parts, parts_fair}
 use Rattle.algorithm_parts.proofs.FairParts.{fair_mark, fair_name, semicolon_fair, section_fair, macro_parameters_fair, procedure_parameters_fair, definitions_fair}
-use Rattle.c_syntax.specs.ReadAlgorithm.{read_body, read_macro, read_procedure, read_process, fair_by, process_words, more_of, macro_words, macros_by, read_macros, procedure_words, procedures_by, read_procedures, all_more, processes_by, read_processes, head_words, head_by, read_head, define_words, define_by, read_define, main_by, read_main, read_text, to_last, read_algorithm}
-use Rattle.c_syntax.proofs.FairStatements.{fair_key, sequence_fair}
+use Rattle.algorithm_parts.specs.ReadAround.{fair_by, all_more, to_last}
+use Rattle.algorithm_parts.proofs.FairAround.{fair_key, more_fair, head_fair, last_fair}
+use Rattle.c_syntax.specs.ReadAlgorithm.{read_body, read_macro, read_procedure, read_process, process_words, macro_words, macros_by, read_macros, procedure_words, procedures_by, read_procedures, processes_by, read_processes, define_words, define_by, read_define, main_by, read_main, read_text, read_algorithm}
+use Rattle.c_syntax.proofs.FairStatements.{sequence_fair}
 use Rattle.c_syntax.proofs.WholeAlgorithm.{text_read}
-
-more_fair : {A : Type 0} {b : ℕ} {r s : Reader A} {rs ss : Reader (List A)} → IsFair b r s → IsFair b rs ss → IsFair b (more_of r rs) (more_of s ss)
-more_fair h i = fair_bind h (λ x. fair_bind i (λ xs. fair_gives))
-
-head_fair : {b : ℕ} → IsFair b read_head read_head
-head_fair {b} = fair_next by
-  where
-    by : (p : Place) (k : TokenView) → IsFair b (head_by p k) (head_by p k)
-    by p (tk.word w) =
-        pick_both (IsFair b) w (head_words p) (head_words p) refuses refuses
-        (refl, fair_skip {n = b} (omega arith) fair_gives, (refl, fair_skip {n = b} (omega arith) (fair_key {n = b} (codes "algorithm") (omega arith) (λ x. fair_gives)), tt)) fair_refuses
-    by p k = fair_refuses
 
 module _ (d : ℕ) (m q : Parts) (h : FairParts d m q) where
   body_fair : (n o b : ℕ) → b ≤ d → b ≤ 4 * n → b ≤ 4 * o → IsFair b (read_body m n) (read_body q o)
@@ -127,17 +117,6 @@ module _ (d : ℕ) (m q : Parts) (h : FairParts d m q) where
   text_fair n o b l k s =
       fair_bind head_fair (λ x1. fair_name {n = b} (omega arith) (λ x2. fair_mark {n = b} tk.open_brace (omega arith) (λ y. fair_bind (section_fair d h true n o b l k s) (λ x3. fair_bind (define_fair d m q h n o b l k s) (λ x4. fair_bind (macros_fair n o b l k s) (λ x5.
       fair_bind (procedures_fair n o b l k s) (λ x6. fair_bind (main_fair n o b l k s) (λ x7. fair_mark {n = b} tk.close_brace (omega arith) (λ z. fair_gives)))))))))
-
-last_fair : {b : ℕ} (x : Text) → IsFair b (to_last x) (to_last x)
-last_fair {b} x = record { left = within; right = within; alike = both }
-  where
-    within : (ts : List Token) → Within ts (to_last x ts)
-    within [] = ([], refl)
-    within (t ∷ ts) = ([], refl)
-
-    both : (k : List Token) (t : Token) (r s : List Token) → Enough b k → Alike k t r s (to_last x (k ++ t ∷ r)) (to_last x (k ++ t ∷ s))
-    both [] t r s e = inl ([], omega arith, refl, refl)
-    both (y ∷ k) t r s e = inl (y ∷ k, omega arith, refl, refl)
 
 -- ---- none begins with the tokens through the refused one
 pub none_through : (ts : List Token) (t : Token) (rest : List Token) (q : Rule) → read_algorithm ts ≡ Err (q, t ∷ rest) → (passed : List Token) → ts ≡ passed ++ t ∷ rest → (x : Text) → Good c_syntax x → (more : List Token) → spell x [] ≡ passed ++ t ∷ more → ⊥

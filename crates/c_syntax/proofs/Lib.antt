@@ -3,8 +3,6 @@ mod RowsForms
 mod RowsClosing
 pub mod SoundStatements
 pub mod SoundAlgorithm
-pub mod WholeEnds
-pub mod WholeAssign
 pub mod Lengths
 pub mod Behind
 pub mod Elsewhere
@@ -16,6 +14,5 @@ pub mod MendStatements
 pub mod MendAlgorithm
 pub mod Closing
 pub mod Apart
-pub mod StopsOf
 pub mod Stops
 pub mod OneSyntax

@@ -20,9 +20,11 @@ use Rattle.algorithm_parts.proofs.Aheads.{ahead_semicolon, ahead_labels, ahead_b
 use Rattle.algorithm_parts.proofs.Mends.{Fill, Mends, MendsAt, IsPart, AllMend, filled, mends_gives, mends_refuses, mends_after, mends_bind, mends_then, mends_same, mends_next, mends_stays, mends_past, mends_pick, mends_fits, part_mark}
 use Rattle.algorithm_parts.proofs.MendParts.{MendsParts, part_colon, part_binds}
 use Rattle.algorithm_parts.proofs.MendSimple.{named_mends, words_mend}
-use Rattle.c_syntax.specs.ReadStatements.{Before, none, after, Arms, first_arm, later_arm, Test, if_test, Opening, with_opening, while_opening, Stack, bottom, in_block, in_then, in_else, in_body, in_either, State, begin, ended, Turn, on, done, with_before, with_label, joined}
-use Rattle.c_syntax.specs.ReadStatements.{within, depth, before_or, opens, either_if, ends_simple, after_name, bracketed, statement_words, statement_by, ask_else, ask_or, ask_other, closed, takes_else, takes_or, closing_words, is_divided, another_if, list_by, ended_by, step, turned, run, read_sequence}
-use Rattle.c_syntax.proofs.SoundStatements.{before, arms, test, opening, stack, passed, turn, GoodStack, GoodState, GoodTurn, with_before_tokens, with_before_good, with_label_tokens, joined_tokens, joined_good, joined_takes_else, AllFound, closes, at, divides, step_sound, sequence_sound}
+use Rattle.algorithm_parts.specs.ReadAround.{with_label, within}
+use Rattle.algorithm_parts.proofs.WithLabel.{with_label_tokens}
+use Rattle.c_syntax.specs.ReadStatements.{Before, none, after, Arms, first_arm, later_arm, Test, if_test, Opening, with_opening, while_opening, Stack, bottom, in_block, in_then, in_else, in_body, in_either, State, begin, ended, Turn, on, done, with_before, joined}
+use Rattle.c_syntax.specs.ReadStatements.{depth, before_or, opens, either_if, ends_simple, after_name, bracketed, statement_words, statement_by, ask_else, ask_or, ask_other, closed, takes_else, takes_or, closing_words, is_divided, another_if, list_by, ended_by, step, turned, run, read_sequence}
+use Rattle.c_syntax.proofs.SoundStatements.{before, arms, test, opening, stack, passed, turn, GoodStack, GoodState, GoodTurn, with_before_tokens, with_before_good, joined_tokens, joined_good, joined_takes_else, AllFound, closes, at, divides, step_sound, sequence_sound}
 
 -- ---- tokens before those that come
 mutual

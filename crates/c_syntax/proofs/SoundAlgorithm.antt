@@ -1,44 +1,23 @@
 -- What is read is spelled: the algorithm around its statements.
-use Rattle.std.proofs.Common.{◌≡◌, ℕ, zero, suc, ◌*◌, true, false, List, [], ◌∷◌, length, None, Ok, refl, sym, ap, subst, ◌∙◌, codes}
+use Rattle.std.proofs.Common.{◌≡◌, ℕ, zero, suc, ◌*◌, true, false, List, [], length, None, Ok, refl, sym, ap, subst, ◌∙◌, codes}
 use Rattle.std.specs.List.{AllByRecursion}
 use Rattle.tla_token.specs.declared.place.Place.{Place}
-use Rattle.tla_tree.specs.declared.op.Op.TheVariants as op
 use Rattle.tla_tree.specs.Tree.{Word}
 use Rattle.tla_tree.specs.Lexical.{TokenView, Token}
 use Rattle.tla_tree.specs.Lexical as tk
 use Rattle.tla_tree.specs.Reader.{Reader, gives, refuses, readers}
-use Rattle.tla_tree.proofs.SoundTokens.{then_ok, ok_is}
+use Rattle.tla_tree.proofs.SoundTokens.{then_ok}
 use Rattle.pcal_tree.specs.GrammarParts.{key}
-use Rattle.pcal_tree.specs.Grammar.{c_syntax, braces, body, GoodBody, Macro, macro, GoodMacro, Procedure, procedure, GoodProcedure, Fair, unfair, weak, strong, fair, bracketed, identity, GoodIdentity, Process, process, GoodProcess, algorithm, fair_algorithm, head, no_define, define_braces, define, GoodDefine, block, processes, each, main, GoodMain, in_braces, Text, spell, Good}
+use Rattle.pcal_tree.specs.Grammar.{c_syntax, braces, body, GoodBody, Macro, macro, GoodMacro, Procedure, procedure, GoodProcedure, Fair, unfair, fair, bracketed, identity, GoodIdentity, Process, process, GoodProcess, no_define, define_braces, define, GoodDefine, block, processes, each, main, GoodMain, in_braces, Text, spell, Good}
 use Rattle.algorithm_parts.specs.TokenReaders.{Parts, parts_of}
-use Rattle.algorithm_parts.proofs.Sound.{Sound, SoundAt, here, Any, AllSound, pick_is, sound_gives, sound_refuses, sound_bind, sound_after, sound_next, sound_stays, sound_past, sound_then, sound_pick, sound_key, sound_mark, sound_name}
+use Rattle.algorithm_parts.proofs.Sound.{Sound, SoundAt, here, AllSound, sound_gives, sound_refuses, sound_bind, sound_after, sound_next, sound_stays, sound_past, sound_then, sound_pick, sound_key, sound_mark, sound_name}
 use Rattle.algorithm_parts.proofs.SoundParts.{SoundParts, parts_sound, semicolon_sound, section_sound, macro_parameters_sound, procedure_parameters_sound, definitions_sound, bind_sound}
-use Rattle.c_syntax.specs.ReadAlgorithm.{read_body, read_macro, read_procedure, read_identity, read_process, fair_by, process_words, more_of, macro_words, macros_by, read_macros, procedure_words, procedures_by, read_procedures, all_more, processes_by, read_processes, head_words, head_by, read_head, define_words, define_by, main_by, read_text, to_last, read_algorithm}
+use Rattle.algorithm_parts.specs.ReadAround.{all_more}
+use Rattle.algorithm_parts.proofs.SoundAround.{more_sound, more_at, by_fair_sound, head_sound, last_is}
+use Rattle.c_syntax.specs.ReadAlgorithm.{read_body, read_macro, read_procedure, read_identity, read_process, process_words, macro_words, macros_by, read_macros, procedure_words, procedures_by, read_procedures, processes_by, read_processes, define_words, define_by, main_by, read_text, read_algorithm}
 use Rattle.c_syntax.proofs.SoundStatements.{sequence_sound}
 
 -- ---- lists
-pub more_sound : {A : Type 0} {Q : A → Type 0} {put : A → List Token → List Token} {y : List Token → List Token} {r : Reader A} {rs : Reader (List A)} → Sound y Q put r → Sound here (AllByRecursion Q) (each put) rs
-    → Sound y (AllByRecursion Q) (each put) (more_of r rs)
-more_sound h i = sound_after (λ ts. ts) h (λ x g. sound_bind i (λ xs k. sound_gives (x ∷ xs) (g, k) (λ ts. refl)))
-
-pub more_at : {A : Type 0} {p : Place} {k : TokenView} {Q : A → Type 0} {put : A → List Token → List Token} {y : List Token → List Token} {r : Reader A} {rs : Reader (List A)} → SoundAt p k y Q put r → Sound here (AllByRecursion Q) (each put) rs
-    → SoundAt p k y (AllByRecursion Q) (each put) (more_of r rs)
-more_at h i = sound_then (λ ts. ts) h (λ x g. sound_bind i (λ xs k. sound_gives (x ∷ xs) (g, k) (λ ts. refl)))
-
-pub by_fair_sound : (p q : Place) (k : TokenView) → SoundAt q k (λ ts. key p (codes "fair") ts) Any fair (fair_by p q k)
-by_fair_sound p q (tk.sign op.Plus) = sound_past refl (sound_gives (strong p q) tt (λ ts. refl))
-by_fair_sound p q k = sound_stays (sound_gives (weak p) tt (λ ts. refl))
-
-pub by_head_sound : (p : Place) (k : TokenView) → SoundAt p k here Any head (head_by p k)
-by_head_sound p (tk.word w) =
-    pick_is (λ v r. SoundAt p (tk.word v) here Any head r) w (head_words p) refuses
-    (sound_past refl (sound_gives (algorithm p) tt (λ ts. refl)), (sound_past refl (sound_bind (sound_key (codes "algorithm")) (λ q u. sound_gives (fair_algorithm p q) tt (λ ts. refl))), tt))
-    (sound_stays sound_refuses)
-by_head_sound p k = sound_stays sound_refuses
-
-pub head_sound : Sound here Any head read_head
-head_sound = sound_next by_head_sound
-
 module _ (m : Parts) (h : SoundParts m) where
   -- ---- macros, procedures, processes
   pub body_sound : (n : ℕ) (w : Word) → Sound here (GoodBody c_syntax) (body w) (read_body m n)
@@ -121,11 +100,6 @@ module _ (m : Parts) (h : SoundParts m) where
       sound_bind head_sound (λ a u. sound_bind sound_name (λ x v. sound_bind (sound_mark tk.open_brace) (λ e w. sound_bind (section_sound m h true n) (λ vs gv. sound_bind (sound_next (by_define_sound n)) (λ d gd. sound_bind (macros_sound n) (λ ms gm.
       sound_bind (procedures_sound n) (λ ps gp. sound_bind (sound_next (by_main_sound n)) (λ b gb. sound_bind (sound_mark tk.close_brace) (λ f y.
       sound_gives (record { head = a; name = x; around = in_braces e f; variables = vs; define = d; macros = ms; procedures = ps; main = b }) (tt, gv, gd, gm, gp, gb) (λ ts. refl))))))))))
-
--- to the last token
-last_is : (x : Text) (ts : List Token) (y : Text) (us : List Token) → to_last x ts ≡ Ok (y, us) → (x ≡ y) × (ts ≡ []) × (us ≡ [])
-last_is x [] y us e = (let w = ok_is e in (w.0, refl, sym w.1))
-last_is x (t ∷ ts) y us e = absurd cc
 
 pub read_is_spelled : (ts : List Token) (x : Text) (us : List Token) → read_algorithm ts ≡ Ok (x, us) → Good c_syntax x × (ts ≡ spell x []) × (us ≡ [])
 read_is_spelled ts x us e =

@@ -8,7 +8,7 @@ use Rattle.tla_tree.specs.Lexical.{TokenView, Token}
 use Rattle.tla_tree.specs.Lexical as tk
 use Rattle.tla_tree.specs.Spelling.{spell}
 use Rattle.tla_tree.specs.Reader.{Out, Reader, ◌>>=◌, then_read, gives, readers}
-use Rattle.pcal_tree.specs.GrammarParts.{name, key, mark, sign, maybe_semicolon, section_tokens, macro_parameters, procedure_parameters, bind_sign, definitions}
+use Rattle.pcal_tree.specs.GrammarParts.{name, key, mark, maybe_semicolon, section_tokens, macro_parameters, procedure_parameters}
 use Rattle.pcal_tree.specs.GrammarParts as g
 use Rattle.pcal_tree.specs.Grammar.{c_syntax, Body, begin_end, braces, body, GoodBody, Macro, macro, GoodMacro, Procedure, procedure, GoodProcedure, Fair, unfair, weak, strong, fair, Identity, bare, bracketed, identity, GoodIdentity, Process, process, GoodProcess, Head, algorithm, fair_algorithm, head, Define, no_define, define_end, define_braces, define, GoodDefine, Main, begin, block, processes, each, main, GoodMain, Around, to_end, in_braces, around, GoodAround, Text, Good}
 use Rattle.pcal_tree.specs.Grammar as gr
@@ -18,8 +18,9 @@ use Rattle.algorithm_parts.specs.ReadParts.{section_by}
 use Rattle.algorithm_parts.proofs.Whole.{Fits, smaller, less, then_is, WholeParts, parts_whole}
 use Rattle.algorithm_parts.proofs.WholeParts.{macro_parameters_whole, procedure_parameters_whole, signed}
 use Rattle.algorithm_parts.proofs.Lengths.{Grows, GrowsMore, grow_semicolon, grow_section, grow_macro, grow_procedure, grow_phrase, grow_definitions}
-use Rattle.c_syntax.specs.ReadAlgorithm.{read_body, read_macro, read_procedure, read_identity, read_process, macros_by, read_macros, procedures_by, read_procedures, processes_by, read_processes, read_head, define_by, read_define, read_main, read_text, read_algorithm}
-use Rattle.c_syntax.proofs.WholeEnds.{is_end_next, semicolon_ends, section_ends, definitions_end}
+use Rattle.algorithm_parts.specs.ReadAround.{read_head}
+use Rattle.c_syntax.specs.ReadAlgorithm.{read_body, read_macro, read_procedure, read_identity, read_process, macros_by, read_macros, procedures_by, read_procedures, processes_by, read_processes, define_by, read_define, read_main, read_text, read_algorithm}
+use Rattle.algorithm_parts.proofs.WholeEnds.{is_end_next, semicolon_ends, section_ends, definitions_end}
 use Rattle.c_syntax.proofs.Lengths.{grow_sequence}
 use Rattle.c_syntax.proofs.WholeStatements.{sequence_whole}
 

@@ -1,33 +1,27 @@
 -- Reading within the limits beside reading without: algorithms.
-use Rattle.std.proofs.Common.{ℕ, zero, suc, ◌*◌, List, [], ◌∷◌, ◌++◌, length, refl, append_assoc, true, false, codes}
+use Rattle.std.proofs.Common.{ℕ, zero, suc, ◌*◌, List, [], ◌++◌, length, refl, append_assoc, true, false, codes}
 use Rattle.std.specs.List.{flat_map}
 use Rattle.std.proofs.lemmas.List.{append-nil}
 use Rattle.tla_token.specs.declared.place.Place.{Place}
-use Rattle.tla_tree.specs.declared.op.Op.TheVariants as op
 use Rattle.tla_tree.specs.Tree.{Word}
 use Rattle.tla_tree.specs.Lexical.{TokenView, Token}
 use Rattle.tla_tree.specs.Lexical as tk
-use Rattle.tla_tree.specs.Reader.{Reader, gives, refuses}
+use Rattle.tla_tree.specs.Reader.{gives, refuses}
 use Rattle.tla_tree.specs.FirstStop.{Open}
-use Rattle.tla_tree.proofs.Limited.{Limited, limited_gives, limited_refuses}
+use Rattle.tla_tree.proofs.Limited.{Limited}
 use Rattle.pcal_tree.specs.GrammarParts.{macro_parameters}
-use Rattle.pcal_tree.specs.Grammar.{begin_end, Macro, Procedure, Fair, unfair, weak, strong, bare, Process, algorithm, fair_algorithm, no_define, define_end, begin, processes, to_end, Text}
+use Rattle.pcal_tree.specs.Grammar.{begin_end, Fair, unfair, bare, no_define, define_end, begin, processes, to_end}
 use Rattle.pcal_tree.specs.Grammar as gr
 use Rattle.pcal_tree.specs.OpenForms.{here, plain, section_opens, procedure_parameters_open, definitions_open, p_sequence, body_opens, macro_opens, procedure_opens, identity_opens, process_opens, define_opens, main_opens, opens}
 use Rattle.algorithm_parts.specs.TokenReaders.{pick, limited_parts}
-use Rattle.algorithm_parts.proofs.Fair.{pick_both}
 use Rattle.algorithm_parts.proofs.Beside.{Fit, Late, sits, Beside, BesideAt, BothAt, beside_gives, beside_refuses, beside_bind, beside_then, beside_next, beside_stays, beside_moved, beside_skip, beside_key, beside_name, beside_pick}
 use Rattle.algorithm_parts.proofs.BesideParts.{unlimited_parts, beside_expr, beside_semicolon, beside_section, beside_macro_parameters, beside_procedure_parameters, beside_definitions, beside_bind_sign}
-use Rattle.p_syntax.specs.ReadAlgorithm.{read_body, read_macro, read_procedure, read_identity, read_process, fair_by, process_words, more_of, macro_words, macros_by, read_macros, procedure_words, procedures_by, read_procedures, all_more, processes_by, read_processes, head_words, head_by, read_head, define_words, define_by, read_define, main_processes, main_words, main_by, read_main, read_text, to_last, read_algorithm, read_limited_algorithm}
+use Rattle.algorithm_parts.specs.ReadAround.{all_more}
+use Rattle.algorithm_parts.proofs.BesideAround.{more_beside, more_beside_at, fair_beside, head_beside, last_beside}
+use Rattle.p_syntax.specs.ReadAlgorithm.{read_body, read_macro, read_procedure, read_identity, read_process, process_words, macro_words, macros_by, read_macros, procedure_words, procedures_by, read_procedures, processes_by, read_processes, define_words, define_by, read_define, main_processes, main_words, main_by, read_main, read_text, read_algorithm, read_limited_algorithm}
 use Rattle.p_syntax.proofs.BesideStatements.{beside_sequence}
 
 -- ---- lists
-more_beside : {A : Type 0} (f : A → List Open) (x y : List Open) {r q : Reader A} {rs qs : Reader (List A)} → Beside y (λ a. x ++ f a) r q → ((z : List Open) → Beside z (λ xs. z ++ flat_map f xs) rs qs) → Beside y (λ xs. x ++ flat_map f xs) (more_of r rs) (more_of q qs)
-more_beside f x y h i = beside_bind h (λ a. beside_bind (i (x ++ f a)) (λ xs. beside_gives (a ∷ xs) (simp append_assoc refl)))
-
-more_beside_at : {A : Type 0} {p : Place} {k : TokenView} (f : A → List Open) (x : List Open) {r q : Reader A} {rs qs : Reader (List A)} → BesideAt p k x (λ a. x ++ f a) r q → ((z : List Open) → Beside z (λ xs. z ++ flat_map f xs) rs qs) → BesideAt p k x (λ xs. x ++ flat_map f xs) (more_of r rs) (more_of q qs)
-more_beside_at f x h i = beside_then h (λ a. beside_bind (i (x ++ f a)) (λ xs. beside_gives (a ∷ xs) (simp append_assoc refl)))
-
 module _ (e : ℕ) where
   -- ---- macros, procedures, processes
   pub body_beside : (n : ℕ) (w : Word) (x : List Open) → Beside x (λ b. x ++ body_opens b) (read_body (limited_parts e) n w) (read_body (unlimited_parts e) n w)
@@ -54,10 +48,6 @@ module _ (e : ℕ) where
       (let y = x ++ plain 0 (gr.fair f) ++ here 0 in
       beside_bind (identity_beside y) (λ i. beside_bind (beside_section e true n (y ++ identity_opens i)) (λ vs. beside_bind (body_beside n (codes "process") (y ++ identity_opens i ++ section_opens vs)) (λ b.
       beside_gives (record { fair = f; place = p; identity = i; variables = vs; body = b }) (simp append_assoc refl)))))
-
-  pub fair_beside : (p q : Place) (k : TokenView) (x : List Open) → BesideAt q k (x ++ here 0) (λ f. x ++ plain 0 (gr.fair f)) (fair_by p q k) (fair_by p q k)
-  fair_beside p q (tk.sign op.Plus) x = beside_skip 0 sits refl (beside_gives (strong p q) (simp append_assoc refl))
-  fair_beside p q k x = beside_stays (beside_gives (weak p) refl)
 
   pub process_words_beside : (n : ℕ) (p : Place) (w : Word) (x : List Open) → BothAt p w x (λ y. x ++ process_opens y) (process_words (limited_parts e) n p) (process_words (unlimited_parts e) n p)
   process_words_beside n p w x = (
@@ -131,15 +121,6 @@ module _ (e : ℕ) where
           (λ y. beside_bind (processes_beside n (x ++ process_opens y)) (λ ys. beside_gives (processes y ys) (simp append_assoc refl))))
       by p k = beside_stays beside_refuses
 
-  pub head_beside : Beside [] (λ h. plain 0 (gr.head h)) read_head read_head
-  head_beside = beside_next by
-    where
-      by : (p : Place) (k : TokenView) → BesideAt p k [] (λ h. plain 0 (gr.head h)) (head_by p k) (head_by p k)
-      by p (tk.word w) =
-          pick_both (λ r q. BesideAt p (tk.word w) [] (λ h. plain 0 (gr.head h)) r q) w (head_words p) (head_words p) refuses refuses
-          (refl, beside_skip 0 sits refl (beside_gives (algorithm p) refl), (refl, beside_skip 0 sits refl (beside_bind (beside_key 0 sits (codes "algorithm")) (λ q. beside_gives (fair_algorithm p q) refl)), tt)) (beside_stays beside_refuses)
-      by p k = beside_stays beside_refuses
-
   pub text_beside : (n : ℕ) → Beside [] opens (read_text (limited_parts e) n) (read_text (unlimited_parts e) n)
   text_beside n =
       beside_bind head_beside (λ a. (let x0 = plain 0 (gr.head a) ++ here 0 in
@@ -149,13 +130,6 @@ module _ (e : ℕ) where
       beside_bind (procedures_beside n x3) (λ ps. (let x4 = x3 ++ flat_map procedure_opens ps in
       beside_bind (main_beside n x4) (λ b. beside_bind (beside_key 0 sits (codes "end")) (λ p. beside_bind (beside_key 0 sits (codes "algorithm")) (λ q.
       beside_gives (record { head = a; name = y; around = to_end p q; variables = vs; define = d; macros = ms; procedures = ps; main = b }) (simp append_assoc refl)))))))))))))))
-
-last_beside : (y : Text) → Beside (opens y) opens (to_last y) (to_last y)
-last_beside y = record { is = by }
-  where
-    by : (ts : List Token) → Limited (Fit (opens y)) (Late (opens y)) (λ z. Fit (opens z)) (λ z. Late (opens z)) ts (to_last y ts) (to_last y ts)
-    by [] = limited_gives y []
-    by (t ∷ ts) = limited_refuses (t ∷ ts)
 
 pub beside : (ts : List Token) → Limited (Fit []) (Late []) (λ z. Fit (opens z)) (λ z. Late (opens z)) ts (read_limited_algorithm ts) (read_algorithm ts)
 beside ts = (beside_bind (text_beside (4 * length ts) (suc (length ts))) last_beside).is ts

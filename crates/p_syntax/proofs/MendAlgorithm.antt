@@ -6,24 +6,26 @@ use Rattle.tla_token.specs.declared.place.Place.{Place}
 use Rattle.tla_token.specs.declared.rule.Rule.{Rule}
 use Rattle.tla_token.specs.declared.rule.Rule.TheVariants.{Syntax}
 use Rattle.tla_token.specs.Places.{nowhere}
-use Rattle.tla_tree.specs.declared.op.Op.TheVariants as op
 use Rattle.tla_tree.specs.Tree.{Word}
 use Rattle.tla_tree.specs.Lexical.{TokenView, Token}
 use Rattle.tla_tree.specs.Lexical as tk
-use Rattle.tla_tree.specs.Reader.{Stop, Reader, ◌>>=◌, gives, refuses, readers}
+use Rattle.tla_tree.specs.Reader.{Stop, ◌>>=◌, gives, refuses, readers}
 use Rattle.tla_tree.proofs.SpellAhead.{Ahead, held, put_ahead, then_ahead, ahead}
 use Rattle.tla_tree.proofs.Mended.{gives_err, left_is}
-use Rattle.pcal_tree.specs.GrammarParts.{word, key, name, no_section, no_labels, skip, section_tokens}
+use Rattle.pcal_tree.specs.GrammarParts.{key, name, no_section, no_labels, skip, section_tokens}
 use Rattle.pcal_tree.specs.GrammarP.{simple, Sequence, last_statement}
-use Rattle.pcal_tree.specs.Grammar.{p_syntax, Body, begin_end, braces, body, GoodBody, Macro, macro, GoodMacro, Procedure, procedure, GoodProcedure, Fair, unfair, weak, strong, fair, Identity, bare, bracketed, identity, GoodIdentity, Process, process, GoodProcess, Head, algorithm, fair_algorithm, head, Define, no_define, define_end, define_braces, define, GoodDefine, Main, begin, block, processes, each, main, GoodMain, to_end, in_braces, around, Text, Good}
+use Rattle.pcal_tree.specs.Grammar.{p_syntax, Body, begin_end, braces, body, GoodBody, Macro, macro, GoodMacro, Procedure, procedure, GoodProcedure, Fair, unfair, weak, fair, Identity, bare, bracketed, identity, GoodIdentity, Process, process, GoodProcess, head, Define, no_define, define_end, define_braces, define, GoodDefine, Main, begin, block, processes, each, main, GoodMain, to_end, in_braces, around, Text, Good}
 use Rattle.pcal_tree.specs.Grammar as gr
 use Rattle.algorithm_parts.specs.TokenReaders.{Parts, parts_of, by_next, a_key, pick}
-use Rattle.algorithm_parts.proofs.Sound.{Sound, here, Any, pick_is, sound_next, sound_stays, sound_pick, sound_refuses}
+use Rattle.algorithm_parts.proofs.Sound.{here, sound_next, sound_stays, sound_pick, sound_refuses}
 use Rattle.algorithm_parts.proofs.Aheads.{ahead_semicolon, ahead_section, ahead_macro, ahead_procedure, ahead_definitions}
 use Rattle.algorithm_parts.proofs.Mends.{Mend, missing, rule_is, Fill, Mends, MendsAt, IsPart, AllMend, filled, mends_gives, mends_refuses, mends_after, mends_bind, mends_then, mends_next, mends_stays, mends_past, mends_pick, part_key, part_name}
 use Rattle.algorithm_parts.proofs.MendParts.{MendsParts, parts_mend, some_name, some_phrase, some_good, part_semicolon, part_section, part_macro_parameters, part_procedure_parameters, part_definitions, part_bind}
-use Rattle.p_syntax.specs.ReadAlgorithm.{read_body, read_macro, read_procedure, read_identity, read_process, fair_by, process_words, more_of, macro_words, macros_by, read_macros, procedure_words, procedures_by, read_procedures, all_more, processes_by, read_processes, head_words, head_by, read_head, define_words, define_by, read_define, main_processes, main_words, main_by, read_main, read_text, to_last, read_algorithm}
-use Rattle.p_syntax.proofs.SoundAlgorithm.{by_fair_sound, head_sound, body_sound, macro_sound, procedure_sound, identity_sound, processes_words, macros_sound, procedures_sound, processes_sound, by_define_sound, by_main_sound, text_sound}
+use Rattle.algorithm_parts.specs.ReadAround.{fair_by, all_more, to_last}
+use Rattle.algorithm_parts.proofs.SoundAround.{by_fair_sound}
+use Rattle.algorithm_parts.proofs.MendAround.{ahead_fair, ahead_head, ahead_each, more_mends, by_fair_mends, part_head}
+use Rattle.p_syntax.specs.ReadAlgorithm.{read_body, read_macro, read_procedure, read_identity, read_process, process_words, macro_words, macros_by, read_macros, procedure_words, procedures_by, read_procedures, processes_by, read_processes, define_words, define_by, read_define, main_processes, main_words, main_by, read_main, read_text, read_algorithm}
+use Rattle.p_syntax.proofs.SoundAlgorithm.{body_sound, macro_sound, procedure_sound, identity_sound, processes_words, macros_sound, procedures_sound, processes_sound, by_define_sound, by_main_sound, text_sound}
 use Rattle.p_syntax.proofs.MendStatements.{ahead_sequence, part_sequence}
 
 -- ---- tokens before those that come
@@ -35,11 +37,6 @@ pub ahead_identity : (x : Identity) → GoodIdentity p_syntax x → Ahead (ident
 ahead_identity (bare x b p e) i = put_ahead (put_ahead (ahead e))
 ahead_identity (bracketed q x b p e r) i = absurd i
 
-pub ahead_fair : (f : Fair) → Ahead (fair f)
-ahead_fair unfair = held
-ahead_fair (weak p) = put_ahead held
-ahead_fair (strong p q) = put_ahead (put_ahead held)
-
 pub ahead_macro_whole : (x : Macro) → GoodMacro p_syntax x → Ahead (macro x)
 ahead_macro_whole x i = put_ahead (put_ahead (then_ahead (ahead_macro x.parameters) (ahead_body (codes "macro") x.body i)))
 
@@ -48,10 +45,6 @@ ahead_procedure_whole x i = put_ahead (put_ahead (then_ahead (ahead_procedure x.
 
 pub ahead_process : (x : Process) → GoodProcess p_syntax x → Ahead (process x)
 ahead_process x i = then_ahead (ahead_fair x.fair) (put_ahead (then_ahead (ahead_identity x.identity i.0) (then_ahead (ahead_section x.variables) (ahead_body (codes "process") x.body i.2))))
-
-pub ahead_each : {A : Type 0} (f : A → List Token → List Token) (Q : A → Type 0) → ((x : A) → Q x → Ahead (f x)) → (xs : List A) → AllByRecursion Q xs → Ahead (each f xs)
-ahead_each f Q h [] i = held
-ahead_each f Q h (x ∷ xs) i = then_ahead (h x i.0) (ahead_each f Q h xs i.1)
 
 pub ahead_define : (d : Define) → GoodDefine p_syntax d → Ahead (define d)
 ahead_define no_define i = held
@@ -62,10 +55,6 @@ pub ahead_main : (x : Main) → GoodMain p_syntax x → Ahead (main x)
 ahead_main (begin a ss) i = put_ahead (ahead_sequence ss)
 ahead_main (block a ss b s) i = absurd i
 ahead_main (processes x xs) i = then_ahead (ahead_process x i.0) (ahead_each process (GoodProcess p_syntax) ahead_process xs i.1)
-
-pub ahead_head : (x : Head) → Ahead (head x)
-ahead_head (algorithm p) = put_ahead held
-ahead_head (fair_algorithm p q) = put_ahead (put_ahead held)
 
 pub ahead_text : (x : Text) → Good p_syntax x → Ahead (gr.spell x)
 ahead_text x i = by x.around i.0
@@ -90,27 +79,6 @@ some_main : Fill here (GoodMain p_syntax) main
 some_main = record { whole = begin nowhere some_list; good = tt; fix = main (begin nowhere some_list) []; tokens = λ v. refl }
 
 -- ---- lists
-more_mends : {A : Type 0} {Q : A → Type 0} {put : A → List Token → List Token} {y : List Token → List Token} {r : Reader A} {rs : Reader (List A)} → Sound y Q put r → ((a : A) → Q a → Ahead (put a)) → Mends y Q put r → IsPart (AllByRecursion Q) (each put) rs
-    → Mends y (AllByRecursion Q) (each put) (more_of r rs)
-more_mends s a h i = mends_after (λ ts. ts) held s a h (λ x g hx. mends_bind hx i (λ xs k hy. mends_gives (x ∷ xs) (g, k) (λ ts. refl)))
-
-by_fair_mends : (p : Place) (q : Place) (k : TokenView) → MendsAt q k (λ ts. key p (codes "fair") ts) Any fair (fair_by p q k)
-by_fair_mends p q (tk.sign op.Plus) = mends_past refl (mends_gives (strong p q) tt (λ ts. refl))
-by_fair_mends p q k = mends_stays (mends_gives (weak p) tt (λ ts. refl))
-
-some_head : Fill here Any head
-some_head = record { whole = algorithm nowhere; good = tt; fix = word nowhere (codes "--algorithm") []; tokens = λ v. refl }
-
-by_head_mends : (p : Place) (k : TokenView) → MendsAt p k here Any head (head_by p k)
-by_head_mends p (tk.word w) =
-    pick_is (λ v r. MendsAt p (tk.word v) here Any head r) w (head_words p) refuses
-    (mends_past refl (mends_gives (algorithm p) tt (λ ts. refl)), (mends_past refl (mends_bind (put_ahead held) (part_key (codes "algorithm")) (λ q u h. mends_gives (fair_algorithm p q) tt (λ ts. refl))), tt))
-    (mends_stays (mends_refuses held some_head))
-by_head_mends p k = mends_stays (mends_refuses held some_head)
-
-part_head : IsPart Any head read_head
-part_head = record { sound = head_sound; ahead = λ a u. ahead_head a; mends = mends_next some_head by_head_mends }
-
 module _ (m : Parts) (h : MendsParts m) where
   part_body : (n : ℕ) (w : Word) → IsPart (GoodBody p_syntax) (body w) (read_body m n w)
   part_body n w = record {

@@ -4,30 +4,34 @@ use Rattle.std.specs.List.{AllByRecursion, flat_map}
 use Rattle.std.proofs.lemmas.List.{append-nil}
 use Rattle.tla_token.specs.declared.place.Place.{Place}
 use Rattle.tla_token.specs.Places.{nowhere}
-use Rattle.tla_tree.specs.declared.op.Op.TheVariants as op
 use Rattle.tla_tree.specs.Tree.{Word}
 use Rattle.tla_tree.specs.Lexical.{TokenView, Token}
 use Rattle.tla_tree.specs.Lexical as tk
-use Rattle.tla_tree.specs.Reader.{Stop, Reader, gives, refuses}
+use Rattle.tla_tree.specs.Reader.{Stop, gives, refuses}
 use Rattle.tla_tree.specs.FirstStop.{Open}
 use Rattle.tla_tree.proofs.SpellAhead.{Ahead, held, put_ahead, then_ahead}
 use Rattle.tla_tree.proofs.Mended.{gives_err, left_is}
 use Rattle.tla_tree.proofs.Limited.{told_ok}
-use Rattle.pcal_tree.specs.GrammarParts.{word, key, macro_parameters}
-use Rattle.pcal_tree.specs.Grammar.{p_syntax, begin_end, body, GoodBody, Macro, macro, GoodMacro, Procedure, procedure, GoodProcedure, Fair, unfair, weak, strong, fair, bare, identity, GoodIdentity, Process, process, GoodProcess, algorithm, fair_algorithm, head, no_define, define_end, define, GoodDefine, begin, processes, each, main, GoodMain, to_end, Text, Good}
+use Rattle.pcal_tree.specs.GrammarParts.{key, macro_parameters}
+use Rattle.pcal_tree.specs.Grammar.{p_syntax, begin_end, body, GoodBody, macro, GoodMacro, procedure, GoodProcedure, Fair, unfair, weak, fair, bare, identity, GoodIdentity, process, GoodProcess, head, no_define, define_end, define, GoodDefine, begin, processes, each, main, GoodMain, to_end, Text, Good}
 use Rattle.pcal_tree.specs.Grammar as gr
 use Rattle.pcal_tree.specs.OpenForms.{here, plain, section_opens, procedure_parameters_open, definitions_open, p_sequence, body_opens, macro_opens, procedure_opens, identity_opens, process_opens, define_opens, main_opens, opens}
 use Rattle.algorithm_parts.specs.TokenReaders.{limited_parts, pick}
-use Rattle.algorithm_parts.proofs.Sound.{Any, pick_is, sound_next, sound_stays, sound_pick, sound_refuses}
+use Rattle.algorithm_parts.proofs.Sound.{sound_next, sound_stays, sound_pick, sound_refuses}
 use Rattle.algorithm_parts.proofs.Beside.{sits, beside_next, beside_pick, beside_stays, beside_refuses}
 use Rattle.algorithm_parts.proofs.BesideParts.{unlimited_parts}
 use Rattle.algorithm_parts.proofs.MendParts.{some_good}
 use Rattle.algorithm_parts.proofs.Within.{before, Ending, Filled, Ends, EndsAt, Part, AllEnd, fits_of, here_filled, ends_gives, ends_refuses, ends_after, ends_bind, ends_then, ends_next, ends_stays, ends_past, ends_pick, ends_moved, missing_end, key_part, name_part}
 use Rattle.algorithm_parts.proofs.WithinParts.{limited_sound, expr_part, semicolon_part, section_part, macro_parameters_part, procedure_parameters_part, definitions_part, bind_part}
-use Rattle.p_syntax.specs.ReadAlgorithm.{read_body, read_macro, read_procedure, read_identity, read_process, fair_by, process_words, macro_words, macros_by, read_macros, procedure_words, procedures_by, read_procedures, all_more, processes_by, read_processes, head_words, head_by, read_head, define_words, define_by, read_define, main_processes, main_words, main_by, read_main, read_text, to_last, read_limited_algorithm}
-use Rattle.p_syntax.proofs.SoundAlgorithm.{by_fair_sound, head_sound, body_sound, macro_sound, procedure_sound, identity_sound, processes_words, macros_sound, procedures_sound, processes_sound, by_define_sound, by_main_sound, text_sound}
-use Rattle.p_syntax.proofs.MendAlgorithm.{some_list, a_process, ahead_body, ahead_identity, ahead_fair, ahead_macro_whole, ahead_procedure_whole, ahead_process, ahead_each, ahead_define, ahead_main, ahead_head, ahead_text}
-use Rattle.p_syntax.proofs.BesideAlgorithm.{body_beside, macro_beside, procedure_beside, identity_beside, fair_beside, process_words_beside, macros_beside, procedures_beside, processes_beside, define_beside, main_beside, head_beside, text_beside}
+use Rattle.algorithm_parts.specs.ReadAround.{all_more, to_last}
+use Rattle.algorithm_parts.proofs.SoundAround.{by_fair_sound}
+use Rattle.algorithm_parts.proofs.MendAround.{ahead_fair, ahead_each}
+use Rattle.algorithm_parts.proofs.BesideAround.{fair_beside}
+use Rattle.algorithm_parts.proofs.WithinAround.{Every, head_part, by_fair}
+use Rattle.p_syntax.specs.ReadAlgorithm.{read_body, read_macro, read_procedure, read_identity, read_process, process_words, macro_words, macros_by, read_macros, procedure_words, procedures_by, read_procedures, processes_by, read_processes, define_words, define_by, read_define, main_processes, main_words, main_by, read_main, read_text, read_limited_algorithm}
+use Rattle.p_syntax.proofs.SoundAlgorithm.{body_sound, macro_sound, procedure_sound, identity_sound, processes_words, macros_sound, procedures_sound, processes_sound, by_define_sound, by_main_sound, text_sound}
+use Rattle.p_syntax.proofs.MendAlgorithm.{some_list, a_process, ahead_body, ahead_identity, ahead_macro_whole, ahead_procedure_whole, ahead_process, ahead_define, ahead_main, ahead_text}
+use Rattle.p_syntax.proofs.BesideAlgorithm.{body_beside, macro_beside, procedure_beside, identity_beside, process_words_beside, macros_beside, procedures_beside, processes_beside, define_beside, main_beside, text_beside}
 use Rattle.p_syntax.proofs.WithinStatements.{sequence_part}
 
 some_process : (y : List Open) → Filled before (GoodProcess p_syntax) process y (λ x. y ++ process_opens x)
@@ -37,23 +41,7 @@ some_main : (y : List Open) → Filled before (GoodMain p_syntax) main y (λ x. 
 some_main y = record { whole = begin nowhere some_list; good = tt; more = main_opens (begin nowhere some_list); counts = refl; fix = main (begin nowhere some_list) []; long = refl; tokens = λ v. refl }
 
 -- ---- lists
-abbrev Every : {A : Type 0} → (A → Type 0) → (A → List Token → List Token) → (A → List Open) → Reader (List A) → Type 0
-Every Q put f rs = (z : List Open) → Part (AllByRecursion Q) (each put) z (λ xs. z ++ flat_map f xs) rs
-
-some_head : Filled before Any head [] (λ h. plain 0 (head h))
-some_head = record { whole = algorithm nowhere; good = tt; more = here 0; counts = refl; fix = word nowhere (codes "--algorithm") []; long = refl; tokens = λ v. refl }
-
-by_head : (p : Place) (k : TokenView) → EndsAt p k before Any head [] (λ h. plain 0 (head h)) (head_by p k)
-by_head p (tk.word w) =
-    pick_is (λ v r. EndsAt p (tk.word v) before Any head [] (λ h. plain 0 (head h)) r) w (head_words p) refuses
-    (ends_past 0 sits refl (ends_gives (algorithm p) tt (λ ts. refl) refl), (ends_past 0 sits refl (ends_bind (put_ahead held) (key_part 0 sits (codes "algorithm")) (λ q u h. ends_gives (fair_algorithm p q) tt (λ ts. refl) refl)), tt))
-    (ends_stays (ends_refuses held some_head))
-by_head p k = ends_stays (ends_refuses held some_head)
-
 module _ (e : ℕ) where
-  head_part : Part Any head [] (λ h. plain 0 (head h)) read_head
-  head_part = record { sound = head_sound; ahead = λ a u. ahead_head a; fits = fits_of (head_beside e); ends = ends_next some_head by_head }
-
   body_part : (n : ℕ) (w : Word) (y : List Open) → Part (GoodBody p_syntax) (body w) y (λ b. y ++ body_opens b) (read_body (limited_parts e) n w)
   body_part n w y = record {
     sound = body_sound (limited_parts e) (limited_sound e) n w;
@@ -87,15 +75,11 @@ module _ (e : ℕ) where
       ends_bind (then_ahead (ahead_fair f) (put_ahead held)) (identity_part z) (λ x i hx. ends_bind hx (section_part e true n (z ++ identity_opens x)) (λ vs j hv. ends_bind hv (body_part n (codes "process") (z ++ identity_opens x ++ section_opens vs)) (λ b g hb.
       ends_gives (record { fair = f; place = p; identity = x; variables = vs; body = b }) (i, j, g) (λ ts. refl) (simp append_assoc refl)))))
 
-  by_fair : (p q : Place) (k : TokenView) (y : List Open) → EndsAt q k (λ ts. key p (codes "fair") ts) Any fair (y ++ here 0) (λ f. y ++ plain 0 (fair f)) (fair_by p q k)
-  by_fair p q (tk.sign op.Plus) y = ends_past 0 sits refl (ends_gives (strong p q) tt (λ ts. refl) (simp append_assoc refl))
-  by_fair p q k y = ends_stays (ends_gives (weak p) tt (λ ts. refl) refl)
-
   words_end : (n : ℕ) (p : Place) (y : List Open) → AllEnd p before (GoodProcess p_syntax) process y (λ x. y ++ process_opens x) (process_words (limited_parts e) n p)
   words_end n p y = (
     ends_past 0 sits refl (ends_moved (simp append-nil refl) (process_ends n unfair p y)),
     (
-      ends_past 0 sits refl (ends_after (λ ts. ts) held (sound_next (by_fair_sound p)) (λ f u. ahead_fair f) (fits_of (beside_next (λ q k. fair_beside e p q k y))) (ends_next (here_filled (weak p) tt (λ ts. refl) refl) (λ q k. by_fair p q k y))
+      ends_past 0 sits refl (ends_after (λ ts. ts) held (sound_next (by_fair_sound p)) (λ f u. ahead_fair f) (fits_of (beside_next (λ q k. fair_beside p q k y))) (ends_next (here_filled (weak p) tt (λ ts. refl) refl) (λ q k. by_fair p q k y))
           (λ f u hf. ends_bind hf (key_part 0 sits (codes "process")) (λ q v hq. process_ends n f q y))),
       tt,
     ),
