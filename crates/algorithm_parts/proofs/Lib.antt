@@ -23,6 +23,11 @@ pub mod WholeEnds
 pub mod WholeAssign
 pub mod WithLabel
 pub mod SoundAround
+pub mod SoundRoutines
+pub mod MendRoutines
+pub mod FairRoutines
+pub mod BesideRoutines
+pub mod WithinRoutines
 pub mod MendAround
 pub mod FairAround
 pub mod BesideAround

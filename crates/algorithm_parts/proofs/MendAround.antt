@@ -1,19 +1,22 @@
 -- What stands before a refused token can be gone on with: what stands around statements.
-use Rattle.std.proofs.Common.{List, [], ◌∷◌, refl, codes}
+use Rattle.std.proofs.Common.{List, [], ◌∷◌, refl, codes, ◌≡◌, Err, ap}
 use Rattle.std.specs.List.{AllByRecursion}
 use Rattle.tla_token.specs.declared.place.Place.{Place}
 use Rattle.tla_token.specs.Places.{nowhere}
-use Rattle.tla_tree.specs.declared.op.Op.TheVariants as op
 use Rattle.tla_tree.specs.Lexical.{TokenView, Token}
-use Rattle.tla_tree.specs.Lexical as tk
-use Rattle.tla_tree.specs.Reader.{Reader, refuses}
-use Rattle.tla_tree.proofs.SpellAhead.{Ahead, held, put_ahead, then_ahead}
+use Rattle.tla_tree.specs.Reader.{Reader, refuses, Stop}
+use Rattle.tla_tree.proofs.SpellAhead.{Ahead, held, put_ahead, then_ahead, ahead}
 use Rattle.pcal_tree.specs.GrammarParts.{word, key}
-use Rattle.pcal_tree.specs.Grammar.{Fair, unfair, weak, strong, fair, Head, algorithm, fair_algorithm, head, each}
+use Rattle.pcal_tree.specs.Grammar.{Fair, unfair, weak, strong, fair, Head, algorithm, fair_algorithm, head, each, Text, Good}
 use Rattle.algorithm_parts.proofs.Sound.{Sound, here, Any, pick_is}
-use Rattle.algorithm_parts.proofs.Mends.{Fill, Mends, MendsAt, IsPart, mends_gives, mends_refuses, mends_after, mends_bind, mends_next, mends_stays, mends_past, part_key}
-use Rattle.algorithm_parts.specs.ReadAround.{fair_by, more_of, head_words, head_by, read_head}
+use Rattle.algorithm_parts.proofs.Mends.{Fill, Mends, MendsAt, IsPart, mends_gives, mends_refuses, mends_after, mends_bind, mends_next, mends_stays, mends_past, part_key, Mend, missing, rule_is, filled}
+use Rattle.algorithm_parts.specs.ReadAround.{fair_by, more_of, head_words, head_by, read_head, to_last}
 use Rattle.algorithm_parts.proofs.SoundAround.{head_sound}
+use Rattle.tla_token.specs.declared.rule.Rule.TheVariants.{Syntax}
+use Rattle.tla_tree.proofs.Mended.{gives_err, left_is}
+use Rattle.tla_tree.specs.declared.op.Op.TheVariants as op
+use Rattle.tla_tree.specs.Lexical as tk
+use Rattle.pcal_tree.specs.Grammar as gr
 
 pub ahead_fair : (f : Fair) → Ahead (fair f)
 ahead_fair unfair = held
@@ -48,3 +51,11 @@ by_head_mends p k = mends_stays (mends_refuses held some_head)
 
 pub part_head : IsPart Any head read_head
 part_head = record { sound = head_sound; ahead = λ a u. ahead_head a; mends = mends_next some_head by_head_mends }
+
+-- past the last token
+pub last_mends : (syntax : gr.Syntax) → (x : Text) → gr.Good syntax x → Ahead (gr.spell x) → Mends (gr.spell x) (gr.Good syntax) gr.spell (to_last x)
+last_mends syntax x g hx = record { fill = filled x g (λ ts. refl); is = at_end }
+  where
+    at_end : (ts : List Token) (u : Stop) → to_last x ts ≡ Err u → Mend (gr.Good syntax) gr.spell (gr.spell x ts) u
+    at_end [] u e = gives_err x [] u e
+    at_end (t ∷ ts) u e = missing (λ v. gr.spell x v) hx [] x g (rule_is {A = Text} {ts = t ∷ ts} {u = u} e) (λ v. refl) (ap (λ (v : List Token). gr.spell x v) (left_is {A = Text} {ts = t ∷ ts} {u = u} e))

@@ -2,3 +2,4 @@ pub mod TokenReaders
 pub mod ReadParts
 pub mod ReadSimple
 pub mod ReadAround
+pub mod ReadRoutines
