@@ -9,7 +9,7 @@ use Rattle.tla_tree.specs.Reader.{Reader, refuses}
 use Rattle.tla_tree.specs.FirstStop.{Open}
 use Rattle.pcal_tree.specs.GrammarParts.{Colon, colon, colon_plus, colon_minus, colon_tokens, Labels, no_labels, label, labels, maybe_separator, Binds, last_bind, bind}
 use Rattle.pcal_tree.specs.OpenForms.{here, plain, expression_opens, binds_open, after_binds, opens}
-use Rattle.algorithm_parts.proofs.Beside.{Sits, sits, sits_on, sits_here, Beside, BesideAt, beside_gives, beside_refuses, beside_bind, beside_then, beside_next, beside_stays, beside_skip, beside_key, Fit, Late}
+use Rattle.algorithm_parts.proofs.Beside.{Sits, fit_back, sits, sits_on, sits_here, Beside, BesideAt, beside_gives, beside_refuses, beside_bind, beside_then, beside_next, beside_stays, beside_skip, beside_key, Fit, Late}
 use Rattle.algorithm_parts.specs.ReadAround.{with_label, fair_by, more_of, head_words, head_by, read_head, to_last}
 use Rattle.std.specs.List.{flat_map}
 use Rattle.tla_tree.proofs.Limited.{Limited, limited_gives, limited_refuses}
@@ -30,8 +30,19 @@ with_label_opens d (label z (colon_minus p q) ls) y c = rw (with_label_opens d l
 pub sits_last : (d : ℕ) (x y : List Open) → Sits d (x ++ (y ++ here d))
 sits_last d x y = subst (λ (z : List Open). Sits d z) (append_assoc x y (here d)) (sits_here d (x ++ y))
 
+pub sits_after : {d : ℕ} (x : List Open) {y : List Open} → Sits d y → Sits d (x ++ y)
+sits_after {d} x {y} s = record { is = λ f. s.is (fit_back x y f) }
+
+pub sits_moved : {d : ℕ} {x y : List Open} → x ≡ y → Sits d x → Sits d y
+sits_moved {d} {x} {y} e s = subst (λ (z : List Open). Sits d z) e s
+
 pub sits_less : {n : ℕ} {x : List Open} (d : ℕ) → d ≤ n → Sits n x → Sits d x
 sits_less {n} {x} d l s = record { is = λ f. (let h = leb-true n deepest_statement (s.is f) in le-leb d deepest_statement (omega (arith, l, h))) }
+
+-- each bind is a form
+pub binds_deep : (d : ℕ) (bs : Binds) → d + 1 ≤ after_binds d bs
+binds_deep d (last_bind x b p e s) = omega arith
+binds_deep d (bind x b p e s bs) = (let h = binds_deep (d + 1) bs in omega (arith, h))
 
 -- after a list of binds
 pub binds_sit : (d : ℕ) (x : List Open) (bs : Binds) → Sits (after_binds d bs) (x ++ binds_open d bs)

@@ -35,3 +35,4 @@ pub mod WithinAround
 pub mod SameOpens
 pub mod StopsOf
 pub mod StopsWithin
+pub mod Lower

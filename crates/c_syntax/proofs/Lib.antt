@@ -16,3 +16,4 @@ pub mod Closing
 pub mod Apart
 pub mod Stops
 pub mod OneSyntax
+pub mod BesideStatements
