@@ -1,6 +1,7 @@
 mod Rows
 mod RowsForms
 mod RowsClosing
+mod RowsLimit
 pub mod SoundStatements
 pub mod SoundAlgorithm
 pub mod Lengths
@@ -17,3 +18,7 @@ pub mod Apart
 pub mod Stops
 pub mod OneSyntax
 pub mod BesideStatements
+pub mod WithinStatements
+pub mod BesideAlgorithm
+pub mod WithinAlgorithm
+pub mod StopsWithin

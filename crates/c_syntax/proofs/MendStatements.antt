@@ -36,7 +36,7 @@ mutual
   ahead_statement (while p q e r a) = put_ahead (put_ahead (then_ahead (ahead e) (put_ahead (ahead_labelled a))))
   ahead_statement (compound p ss q) = put_ahead (then_ahead (ahead_sequence ss) (put_ahead held))
 
-  ahead_labelled : (a : Labelled) → Ahead (labelled_tokens a)
+  pub ahead_labelled : (a : Labelled) → Ahead (labelled_tokens a)
   ahead_labelled (labelled ls st) = then_ahead (ahead_labels ls) (ahead_statement st)
 
   ahead_else : (b : Else) → Ahead (else_tokens b)
@@ -66,7 +66,7 @@ ahead_opening : (o : Opening) → Ahead (opening o)
 ahead_opening (with_opening p q bs r) = put_ahead (put_ahead (then_ahead (ahead_binds bs) (put_ahead held)))
 ahead_opening (while_opening p q e r) = put_ahead (put_ahead (then_ahead (ahead e) (put_ahead held)))
 
-ahead_stack : (st : Stack) → Ahead (stack st)
+pub ahead_stack : (st : Stack) → Ahead (stack st)
 ahead_stack (bottom b) = ahead_before b
 ahead_stack (in_block ls p b st) = then_ahead (ahead_stack st) (then_ahead (ahead_labels ls) (put_ahead (ahead_before b)))
 ahead_stack (in_then ls t st) = then_ahead (ahead_stack st) (then_ahead (ahead_labels ls) (ahead_test t))
@@ -74,14 +74,14 @@ ahead_stack (in_else ls t a s p st) = then_ahead (ahead_stack st) (then_ahead (a
 ahead_stack (in_body ls o st) = then_ahead (ahead_stack st) (then_ahead (ahead_labels ls) (ahead_opening o))
 ahead_stack (in_either t st) = then_ahead (ahead_stack st) (ahead_arms t)
 
-ahead_at : (ls : Labels) (st : Stack) → Ahead (at ls st)
+pub ahead_at : (ls : Labels) (st : Stack) → Ahead (at ls st)
 ahead_at ls st = then_ahead (ahead_stack st) (ahead_labels ls)
 
-ahead_passed : (s : State) → Ahead (passed s)
+pub ahead_passed : (s : State) → Ahead (passed s)
 ahead_passed (begin ls st) = ahead_at ls st
 ahead_passed (ended a s st) = then_ahead (ahead_stack st) (then_ahead (ahead_labelled a) (ahead_semicolon s))
 
-ahead_turn : (t : Turn) → Ahead (turn t)
+pub ahead_turn : (t : Turn) → Ahead (turn t)
 ahead_turn (on s) = ahead_passed s
 ahead_turn (done ss) = ahead_sequence ss
 

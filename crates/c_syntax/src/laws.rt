@@ -1,23 +1,25 @@
 //! Laws of reading algorithms in C-syntax, stated as what functions without a body ensure.
 
-ghost use Rattle.std.specs.Prelude.{◌≡◌, ℕ, suc, ◌+◌, ◌*◌, ◌≤◌, length, take, map, get_or, Some, ◌++◌, List, [], ◌∷◌, Ok, Err};
+ghost use Rattle.std.specs.Prelude.{◌≡◌, ◌⊎◌, ℕ, suc, ◌+◌, ◌*◌, ◌≤◌, IsTrue, length, take, map, get_or, Some, ◌++◌, List, [], ◌∷◌, Ok, Err};
 ghost use Rattle.tla_tree.specs.Lexical.{Token};
 ghost use Rattle.tla_token.specs.Tokens as text;
 ghost use Rattle.tla_token.specs.declared.rule.Rule.{Rule};
 ghost use Rattle.tla_token.specs.declared.rule.Rule.TheVariants.{Syntax};
 ghost use Rattle.pcal_tree.specs.Algorithm.{Algorithm};
 ghost use Rattle.tla_token.specs.declared.rule.Refusal.{Refusal};
-ghost use Rattle.tla_tree.specs.FirstStop.{looks, to_end, Begins, Passes};
+ghost use Rattle.tla_tree.specs.FirstStop.{looks, to_end, is_within, Begins, Passes, StopRule};
 ghost use Rattle.pcal_tree.specs.AlgorithmTokens.{views};
-ghost use Rattle.pcal_tree.specs.OffencesSyntax.{algorithms, RefusesTokens};
-ghost use Rattle.pcal_tree.specs.Grammar.{p_syntax, c_syntax, Text, Good, spell, SpellsP, SpellsC};
+ghost use Rattle.std.specs.List.{list_all};
+ghost use Rattle.pcal_tree.specs.OpenForms.{opens};
+ghost use Rattle.pcal_tree.specs.OffencesSyntax.{algorithms, PassesTokens, RefusesTokens};
+ghost use Rattle.pcal_tree.specs.Grammar.{p_syntax, c_syntax, Text, Good, spell, algorithm_of, SpellsP, SpellsC};
 ghost use Rattle.tla_token.specs.declared.place.Place.{Place};
 ghost use Rattle.tla_tree.specs.Lexical.{close_brace};
 ghost use Rattle.pcal_tree.specs.GrammarParts.{mark};
 ghost use Rattle.pcal_tree.specs.GrammarC.{Sequence};
 ghost use Rattle.algorithm_parts.specs.TokenReaders.{Parts};
 ghost use Rattle.c_syntax.specs.ReadStatements.{State, on, step, run, AreApart, open_stack, rest, depth};
-ghost use Rattle.c_syntax.specs.ReadAlgorithm.{read_algorithm};
+ghost use Rattle.c_syntax.specs.ReadAlgorithm.{read_algorithm, read_limited_algorithm};
 
 /// What is read is an algorithm that may be spelled, and all the tokens are its tokens.
 pub fn what_is_read_is_spelled()
@@ -67,6 +69,41 @@ pub fn tokens_are_refused_where_reading_stops()
         → RefusesTokens c_syntax ts end (record { rule = r; place = get_or (map (λ (t : text.Token). t.place) ts) (length passed) end }) }
     ensures syntax { (ts : List text.Token) (end at : Place) → RefusesTokens c_syntax ts end (record { rule = Syntax; place = at })
         → (passed rest : List Token) × (read_algorithm (views ts) ≡ Err (Syntax, rest)) × (views ts ≡ passed ++ rest) × (at ≡ get_or (map (λ (t : text.Token). t.place) ts) (length passed) end) }
+{}
+
+/// The tokens of a text pass just where they are read as an algorithm in which nowhere too many forms are open; and it is theirs.
+pub fn what_passes_is_read()
+    ensures read { (ts : List text.Token) (x : Text) (rest : List Token) → read_algorithm (views ts) ≡ Ok (x, rest) → IsTrue (list_all is_within (opens x)) → PassesTokens c_syntax ts × SpellsC ts (algorithm_of x) }
+    ensures passes { (ts : List text.Token) → PassesTokens c_syntax ts → (x : Text) × (read_algorithm (views ts) ≡ Ok (x, [])) × IsTrue (list_all is_within (opens x)) }
+{}
+
+/// The limits of open forms only refuse: what is read within them is read without, and nowhere in it too many forms are open; and what is read
+/// without them and has nowhere too many open is read within.
+pub fn the_limits_only_refuse()
+    ensures within { (ts : List Token) (x : Text) (rest : List Token) → read_limited_algorithm ts ≡ Ok (x, rest) → (read_algorithm ts ≡ Ok (x, rest)) × IsTrue (list_all is_within (opens x)) }
+    ensures fits { (ts : List Token) (x : Text) (rest : List Token) → read_algorithm ts ≡ Ok (x, rest) → IsTrue (list_all is_within (opens x)) → read_limited_algorithm ts ≡ Ok (x, rest) }
+{}
+
+/// So the tokens of a text pass just where they are read within the limits, and what is read is their algorithm.
+pub fn tokens_pass_where_they_are_read()
+    ensures read { (ts : List text.Token) (x : Text) (rest : List Token) → read_limited_algorithm (views ts) ≡ Ok (x, rest) → PassesTokens c_syntax ts × SpellsC ts (algorithm_of x) }
+    ensures passes { (ts : List text.Token) → PassesTokens c_syntax ts → (x : Text) × (read_limited_algorithm (views ts) ≡ Ok (x, [])) }
+{}
+
+/// A refusal within the limits is not early, and it is by the rule of the grammar: the tokens through the refused one, or with the end after them,
+/// don't pass, since too many forms are open in each algorithm that begins so, or since none does. Nor is it late: what was passed before passes.
+pub fn limited_refusals_are_at_the_earliest_place()
+    ensures through { (ts passed rest : List Token) (r : Rule) → read_limited_algorithm ts ≡ Err (r, rest) → ts ≡ passed ++ rest
+        → (Passes (algorithms c_syntax) (take (suc (length passed)) (to_end ts)) → ⊥) × StopRule (algorithms c_syntax) (take (suc (length passed)) (to_end ts)) r }
+    ensures passed { (ts passed rest : List Token) (r : Rule) → read_limited_algorithm ts ≡ Err (r, rest) → ts ≡ passed ++ rest → Passes (algorithms c_syntax) (map Some (looks passed)) }
+{}
+
+/// So the tokens of a text, whatever they are, pass with an algorithm or are refused, just as reading within the limits does it: what is refused is
+/// refused at that token, or at the end, by the rule of the refusal.
+pub fn tokens_are_read_or_refused()
+    ensures one { (ts : List text.Token) (end : Place) → ((a : Algorithm) × PassesTokens c_syntax ts × SpellsC ts a) ⊎ ((r : Refusal) × RefusesTokens c_syntax ts end r) }
+    ensures refused { (ts : List text.Token) (passed rest : List Token) (end : Place) (r : Rule) → read_limited_algorithm (views ts) ≡ Err (r, rest) → views ts ≡ passed ++ rest
+        → RefusesTokens c_syntax ts end (record { rule = r; place = get_or (map (λ (t : text.Token). t.place) ts) (length passed) end }) }
 {}
 
 /// What stands open in a list of statements is closed by `rest`, whatever it is: with these tokens after it the list is read up to the
