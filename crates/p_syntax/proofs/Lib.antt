@@ -17,3 +17,4 @@ pub mod WithinAlgorithm
 pub mod Closing
 pub mod Stops
 pub mod StopsWithin
+pub mod ClosingAll

@@ -17,8 +17,11 @@ ghost use Rattle.pcal_tree.specs.OffencesSyntax.{algorithms, PassesTokens, Refus
 ghost use Rattle.pcal_tree.specs.GrammarParts.{key};
 ghost use Rattle.pcal_tree.specs.GrammarP.{Sequence};
 ghost use Rattle.algorithm_parts.specs.TokenReaders.{Parts};
-ghost use Rattle.p_syntax.specs.ReadStatements.{State, run, rest, open_in};
+ghost use Rattle.pcal_tree.specs.GrammarParts.{no_labels};
+ghost use Rattle.pcal_tree.specs.Grammar.{Macro, Procedure};
+ghost use Rattle.p_syntax.specs.ReadStatements.{State, begin, none, bottom, on, step, run, rest, open_in};
 ghost use Rattle.p_syntax.specs.ReadAlgorithm.{read_algorithm, read_limited_algorithm};
+ghost use Rattle.p_syntax.specs.Resume.{Front, Owner, in_main, main_from, resume, rest_of_all};
 
 /// What is read is an algorithm that may be spelled, and all the tokens are its tokens.
 pub fn what_is_read_is_spelled()
@@ -104,4 +107,14 @@ pub fn tokens_are_read_or_refused()
 pub fn what_stands_open_is_closed()
     ensures closed { (m : Parts) (n : ℕ) (s : State) (p : Place) (ts : List Token) → suc (length (rest s)) ≤ n → (ss : Sequence) × (run m n s (rest s ++ key p (codes "end") ts) ≡ Ok (ss, key p (codes "end") ts)) }
     ensures few { (s : State) → length (rest s) ≤ 4 * open_in s + 1 }
+{}
+
+/// What stands open in the lists of statements of a whole algorithm, in the body of a macro, a procedure or a process or in its main part, is closed
+/// by `rest_of_all`, up to the end of the algorithm: with these tokens behind it reading goes on to a whole algorithm and to the last token. They
+/// are at most four for each form that is open there, and seven. And reading goes from state to state of the list, whatever comes.
+pub fn what_stands_open_in_an_algorithm_is_closed()
+    ensures closed { (m : Parts) (k j n : ℕ) (f : Front) (o : Owner) (s : State) → 3 ≤ k → 1 ≤ j → suc (length (rest s)) ≤ n → (x : Text) × (resume m k j n f o s (rest_of_all o s) ≡ Ok (x, [])) }
+    ensures few { (o : Owner) (s : State) → length (rest_of_all o s) ≤ 4 * open_in s + 7 }
+    ensures on { (m : Parts) (k j n : ℕ) (f : Front) (o : Owner) (s : State) (ts : List Token) (t : State) (us : List Token) → step m n s ts ≡ Ok (on t, us) → resume m k j (suc n) f o s ts ≡ resume m k j n f o t us }
+    ensures main { (m : Parts) (j k : ℕ) (f : Front) (ms : List Macro) (ps : List Procedure) (a : Place) (us : List Token) → main_from m k f ms ps (key a (codes "begin") us) ≡ resume m k j k f (in_main ms ps a) (begin none no_labels bottom) us }
 {}

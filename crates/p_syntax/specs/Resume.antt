@@ -1,0 +1,68 @@
+-- Where reading stands inside the lists of statements of an algorithm, and what closes all that stands open there ("A PlusCal User's Manual, P-Syntax Version", appendix A).
+use Rattle.std.specs.Prelude.{ℕ, List, [], ◌∷◌, ◌++◌, codes}
+use Rattle.tla_token.specs.declared.place.Place.{Place}
+use Rattle.tla_tree.specs.Tree.{Word, Name}
+use Rattle.tla_tree.specs.Lexical.{Token}
+use Rattle.tla_tree.specs.Reader.{Reader, ◌>>=◌, gives}
+use Rattle.pcal_tree.specs.GrammarParts.{Section, MacroParameters, ProcedureParameters}
+use Rattle.pcal_tree.specs.Grammar.{Body, begin_end, Macro, Procedure, Fair, Identity, Process, Head, Define, Main, begin, processes, to_end, Text}
+use Rattle.algorithm_parts.specs.TokenReaders.{a_key, Parts}
+use Rattle.algorithm_parts.specs.ReadParts.{read_semicolon}
+use Rattle.algorithm_parts.specs.ReadRoutines.{read_macros, read_procedures, read_processes}
+use Rattle.p_syntax.specs.ReadStatements.{State, run, word_after, ends_with, rest, open_in}
+use Rattle.p_syntax.specs.ReadAlgorithm.{ways, read_main}
+
+-- what stands before the macros
+pub record Front : Type 0 where
+  pub head : Head
+  pub name : Name
+  pub variables : Section
+  pub define : Define
+
+-- whose list of statements it is, with what was read before it: the macros, procedures and processes in front of it, and its own part up to its `begin`
+pub data Owner : Type 0 where
+  in_macro : List Macro → Place → Name → MacroParameters → Place → Owner
+  in_procedure : List Macro → List Procedure → Place → Name → ProcedureParameters → Section → Place → Owner
+  in_process : List Macro → List Procedure → List Process → Fair → Place → Identity → Section → Place → Owner
+  in_main : List Macro → List Procedure → Place → Owner
+
+-- ---- reading on
+abbrev pub finish : Front → List Macro → List Procedure → Main → Reader Text
+finish f ms ps b =
+    a_key (codes "end") >>= λ e. a_key (codes "algorithm") >>= λ d.
+    gives (record { head = f.head; name = f.name; around = to_end e d; variables = f.variables; define = f.define; macros = ms; procedures = ps; main = b })
+
+abbrev pub body_from : Parts → ℕ → Place → Word → State → Reader Body
+body_from m n a w s = run m n s >>= λ ss. a_key (codes "end") >>= λ b. a_key w >>= λ d. read_semicolon >>= λ c. gives (begin_end a ss b d c)
+
+abbrev pub main_from : Parts → ℕ → Front → List Macro → List Procedure → Reader Text
+main_from m k f ms ps = read_main m k >>= finish f ms ps
+
+abbrev pub procedures_from : Parts → ℕ → ℕ → Front → List Macro → List Procedure → Reader Text
+procedures_from m j k f ms qs = read_procedures m (ways m) j >>= λ ps. main_from m k f ms (qs ++ ps)
+
+-- the processes, with those before
+abbrev pub main_of : List Process → Process → List Process → Main
+main_of [] x xs = processes x xs
+main_of (y ∷ ys) x xs = processes y (ys ++ x ∷ xs)
+
+-- from a state of the list, with n steps for it, j for others of the kind of its owner, and k for those after
+abbrev pub resume : Parts → ℕ → ℕ → ℕ → Front → Owner → State → Reader Text
+resume m k j n f (in_macro ns p x xs a) s =
+    body_from m n a (codes "macro") s >>= λ b. read_macros (ways m) j >>= λ ms. procedures_from m k k f (ns ++ record { place = p; name = x; parameters = xs; body = b } ∷ ms) []
+resume m k j n f (in_procedure ms qs p x xs vs a) s =
+    body_from m n a (codes "procedure") s >>= λ b. procedures_from m j k f ms (qs ++ record { place = p; name = x; parameters = xs; variables = vs; body = b } ∷ [])
+resume m k j n f (in_process ms ps ys q p x vs a) s =
+    body_from m n a (codes "process") s >>= λ b. read_processes m (ways m) j >>= λ xs. finish f ms ps (main_of ys (record { fair = q; place = p; identity = x; variables = vs; body = b }) xs)
+resume m k j n f (in_main ms ps a) s = run m n s >>= λ ss. finish f ms ps (begin a ss)
+
+-- ---- what closes all that stands open
+-- after the list; a whole algorithm has a main part
+abbrev pub after_list : Owner → List Token
+after_list (in_macro ns p x xs a) = ends_with (codes "macro") (word_after (codes "begin") (word_after (codes "skip") (ends_with (codes "algorithm") [])))
+after_list (in_procedure ms qs p x xs vs a) = ends_with (codes "procedure") (word_after (codes "begin") (word_after (codes "skip") (ends_with (codes "algorithm") [])))
+after_list (in_process ms ps ys q p x vs a) = ends_with (codes "process") (ends_with (codes "algorithm") [])
+after_list (in_main ms ps a) = ends_with (codes "algorithm") []
+
+abbrev pub rest_of_all : Owner → State → List Token
+rest_of_all o s = rest s ++ after_list o
