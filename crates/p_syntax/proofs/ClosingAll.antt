@@ -32,7 +32,7 @@ closed_on : (m : Parts) (k j n : ℕ) (f : Front) (o : Owner) (s : State) → su
 closed_on m k j n f (in_macro ns p x xs a) s l =
     (let w = closed_by_rest m n s nowhere (word_after (codes "macro") (word_after (codes "begin") (word_after (codes "skip") (ends_with (codes "algorithm") [])))) l in
     let y : Macro = record { place = p; name = x; parameters = xs; body = closed_body a w.0 } in
-    (whole f (ns ++ y ∷ []) [] a_main, then_is _ (then_is _ w.1 refl) refl))
+    (whole f ((ns ++ y ∷ []) ++ []) [] a_main, then_is _ (then_is _ w.1 refl) refl))
 closed_on m k j n f (in_procedure ms qs p x xs vs a) s l =
     (let w = closed_by_rest m n s nowhere (word_after (codes "procedure") (word_after (codes "begin") (word_after (codes "skip") (ends_with (codes "algorithm") [])))) l in
     let y : Procedure = record { place = p; name = x; parameters = xs; variables = vs; body = closed_body a w.0 } in

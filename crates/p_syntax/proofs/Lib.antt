@@ -18,3 +18,4 @@ pub mod Closing
 pub mod Stops
 pub mod StopsWithin
 pub mod ClosingAll
+pub mod ResumedText

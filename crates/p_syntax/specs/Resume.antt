@@ -1,14 +1,15 @@
 -- Where reading stands inside the lists of statements of an algorithm, and what closes all that stands open there ("A PlusCal User's Manual, P-Syntax Version", appendix A).
-use Rattle.std.specs.Prelude.{ℕ, List, [], ◌∷◌, ◌++◌, codes}
+use Rattle.std.specs.Prelude.{ℕ, true, List, [], ◌∷◌, ◌++◌, codes}
 use Rattle.tla_token.specs.declared.place.Place.{Place}
 use Rattle.tla_tree.specs.Tree.{Word, Name}
 use Rattle.tla_tree.specs.Lexical.{Token}
 use Rattle.tla_tree.specs.Reader.{Reader, ◌>>=◌, gives}
 use Rattle.pcal_tree.specs.GrammarParts.{Section, MacroParameters, ProcedureParameters}
 use Rattle.pcal_tree.specs.Grammar.{Body, begin_end, Macro, Procedure, Fair, Identity, Process, Head, Define, Main, begin, processes, to_end, Text}
-use Rattle.algorithm_parts.specs.TokenReaders.{a_key, Parts}
-use Rattle.algorithm_parts.specs.ReadParts.{read_semicolon}
-use Rattle.algorithm_parts.specs.ReadRoutines.{read_macros, read_procedures, read_processes}
+use Rattle.algorithm_parts.specs.TokenReaders.{a_key, a_name, Parts}
+use Rattle.algorithm_parts.specs.ReadParts.{read_semicolon, read_section}
+use Rattle.algorithm_parts.specs.ReadAround.{read_head}
+use Rattle.algorithm_parts.specs.ReadRoutines.{read_define, read_macros, read_procedures, read_processes}
 use Rattle.p_syntax.specs.ReadStatements.{State, run, word_after, ends_with, rest, open_in}
 use Rattle.p_syntax.specs.ReadAlgorithm.{ways, read_main}
 
@@ -26,6 +27,11 @@ pub data Owner : Type 0 where
   in_process : List Macro → List Procedure → List Process → Fair → Place → Identity → Section → Place → Owner
   in_main : List Macro → List Procedure → Place → Owner
 
+abbrev pub read_front : Parts → ℕ → Reader Front
+read_front m n =
+    read_head >>= λ h. a_name >>= λ x. read_section true m n >>= λ vs. read_define (ways m) n >>= λ d.
+    gives (record { head = h; name = x; variables = vs; define = d })
+
 -- ---- reading on
 abbrev pub finish : Front → List Macro → List Procedure → Main → Reader Text
 finish f ms ps b =
@@ -41,19 +47,28 @@ main_from m k f ms ps = read_main m k >>= finish f ms ps
 abbrev pub procedures_from : Parts → ℕ → ℕ → Front → List Macro → List Procedure → Reader Text
 procedures_from m j k f ms qs = read_procedures m (ways m) j >>= λ ps. main_from m k f ms (qs ++ ps)
 
+abbrev pub macros_from : Parts → ℕ → ℕ → Front → List Macro → Reader Text
+macros_from m k j f ns = read_macros (ways m) j >>= λ ms. procedures_from m k k f (ns ++ ms) []
+
+abbrev pub text_from : Parts → ℕ → Reader Text
+text_from m n = read_front m n >>= λ f. macros_from m n n f []
+
 -- the processes, with those before
 abbrev pub main_of : List Process → Process → List Process → Main
 main_of [] x xs = processes x xs
 main_of (y ∷ ys) x xs = processes y (ys ++ x ∷ xs)
 
+abbrev pub processes_from : Parts → ℕ → Front → List Macro → List Procedure → List Process → Process → Reader Text
+processes_from m j f ms ps ys x = read_processes m (ways m) j >>= λ xs. finish f ms ps (main_of ys x xs)
+
 -- from a state of the list, with n steps for it, j for others of the kind of its owner, and k for those after
 abbrev pub resume : Parts → ℕ → ℕ → ℕ → Front → Owner → State → Reader Text
 resume m k j n f (in_macro ns p x xs a) s =
-    body_from m n a (codes "macro") s >>= λ b. read_macros (ways m) j >>= λ ms. procedures_from m k k f (ns ++ record { place = p; name = x; parameters = xs; body = b } ∷ ms) []
+    body_from m n a (codes "macro") s >>= λ b. macros_from m k j f (ns ++ record { place = p; name = x; parameters = xs; body = b } ∷ [])
 resume m k j n f (in_procedure ms qs p x xs vs a) s =
     body_from m n a (codes "procedure") s >>= λ b. procedures_from m j k f ms (qs ++ record { place = p; name = x; parameters = xs; variables = vs; body = b } ∷ [])
 resume m k j n f (in_process ms ps ys q p x vs a) s =
-    body_from m n a (codes "process") s >>= λ b. read_processes m (ways m) j >>= λ xs. finish f ms ps (main_of ys (record { fair = q; place = p; identity = x; variables = vs; body = b }) xs)
+    body_from m n a (codes "process") s >>= λ b. processes_from m j f ms ps ys (record { fair = q; place = p; identity = x; variables = vs; body = b })
 resume m k j n f (in_main ms ps a) s = run m n s >>= λ ss. finish f ms ps (begin a ss)
 
 -- ---- what closes all that stands open
