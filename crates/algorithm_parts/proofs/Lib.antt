@@ -36,3 +36,4 @@ pub mod SameOpens
 pub mod StopsOf
 pub mod StopsWithin
 pub mod Lower
+pub mod OneAfter

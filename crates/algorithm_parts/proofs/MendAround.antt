@@ -5,14 +5,13 @@ use Rattle.tla_token.specs.declared.place.Place.{Place}
 use Rattle.tla_token.specs.Places.{nowhere}
 use Rattle.tla_tree.specs.Lexical.{TokenView, Token}
 use Rattle.tla_tree.specs.Reader.{Reader, refuses, Stop}
-use Rattle.tla_tree.proofs.SpellAhead.{Ahead, held, put_ahead, then_ahead, ahead}
+use Rattle.tla_tree.proofs.SpellAhead.{Ahead, held, put_ahead, then_ahead}
 use Rattle.pcal_tree.specs.GrammarParts.{word, key}
 use Rattle.pcal_tree.specs.Grammar.{Fair, unfair, weak, strong, fair, Head, algorithm, fair_algorithm, head, each, Text, Good}
 use Rattle.algorithm_parts.proofs.Sound.{Sound, here, Any, pick_is}
 use Rattle.algorithm_parts.proofs.Mends.{Fill, Mends, MendsAt, IsPart, mends_gives, mends_refuses, mends_after, mends_bind, mends_next, mends_stays, mends_past, part_key, Mend, missing, rule_is, filled}
 use Rattle.algorithm_parts.specs.ReadAround.{fair_by, more_of, head_words, head_by, read_head, to_last}
 use Rattle.algorithm_parts.proofs.SoundAround.{head_sound}
-use Rattle.tla_token.specs.declared.rule.Rule.TheVariants.{Syntax}
 use Rattle.tla_tree.proofs.Mended.{gives_err, left_is}
 use Rattle.tla_tree.specs.declared.op.Op.TheVariants as op
 use Rattle.tla_tree.specs.Lexical as tk

@@ -1,12 +1,12 @@
 -- What stands before a refused token can be gone on with: macros, procedures, processes and `define`.
-use Rattle.std.proofs.Common.{◌≡◌, ℕ, zero, suc, true, false, List, [], ◌∷◌, ◌++◌, refl, codes}
+use Rattle.std.proofs.Common.{ℕ, zero, suc, true, false, List, [], ◌∷◌, refl, codes}
 use Rattle.std.specs.List.{AllByRecursion}
 use Rattle.tla_token.specs.declared.place.Place.{Place}
 use Rattle.tla_tree.specs.Tree.{Word}
 use Rattle.tla_tree.specs.Lexical.{TokenView, Token}
 use Rattle.tla_tree.specs.Reader.{◌>>=◌, gives, refuses}
-use Rattle.tla_tree.proofs.SpellAhead.{Ahead, held, put_ahead, then_ahead, ahead}
-use Rattle.pcal_tree.specs.GrammarParts.{key, name}
+use Rattle.tla_tree.proofs.SpellAhead.{Ahead, held, put_ahead, then_ahead}
+use Rattle.pcal_tree.specs.GrammarParts.{key}
 use Rattle.pcal_tree.specs.Grammar.{Body, body, GoodBody, Macro, macro, GoodMacro, Procedure, procedure, GoodProcedure, Fair, unfair, weak, fair, Identity, identity, GoodIdentity, Process, process, GoodProcess, Define, no_define, define, GoodDefine, processes, each, main, GoodMain, Syntax}
 use Rattle.algorithm_parts.specs.TokenReaders.{Parts, by_next, a_key}
 use Rattle.algorithm_parts.proofs.Sound.{here, sound_next}

@@ -3,3 +3,4 @@ pub mod ReadParts
 pub mod ReadSimple
 pub mod ReadAround
 pub mod ReadRoutines
+pub mod Owners

@@ -22,3 +22,5 @@ pub mod WithinStatements
 pub mod BesideAlgorithm
 pub mod WithinAlgorithm
 pub mod StopsWithin
+pub mod ClosingAll
+pub mod ResumedText

@@ -1,10 +1,15 @@
 -- Worked rows of reading C-syntax within the limits, by computation: where a form of statements is one too many.
 use Rattle.std.proofs.Common.{◌≡◌, refl, ℕ, zero, suc, List, [], ◌∷◌, Err, codes}
 use Rattle.tla_token.specs.declared.place.Place.{Place}
+use Rattle.tla_token.specs.Places.{nowhere}
 use Rattle.tla_token.specs.declared.rule.Rule.TheVariants.{TooDeep, Syntax}
 use Rattle.tla_tree.specs.Tree.{Word}
-use Rattle.tla_tree.specs.Lexical.{Mark, Token, token}
+use Rattle.tla_tree.specs.Lexical.{Mark, TokenView, Token, token}
 use Rattle.tla_tree.specs.Lexical as tk
+use Rattle.pcal_tree.specs.GrammarParts.{no_labels}
+use Rattle.algorithm_parts.specs.Owners.{in_main}
+use Rattle.c_syntax.specs.ReadStatements.{begin, none, bottom, in_block, in_either, first_arm}
+use Rattle.c_syntax.specs.Resume.{rest_of_all}
 use Rattle.c_syntax.specs.ReadAlgorithm.{read_algorithm, read_limited_algorithm}
 
 abbrev at : Place
@@ -18,6 +23,9 @@ key x = token at (tk.reserved x)
 
 abbrev mark : Mark → Token
 mark m = token at (tk.mark m)
+
+abbrev no_place : TokenView → Token
+no_place k = token nowhere k
 
 -- so many times `{`
 abbrev braces : ℕ → List Token → List Token
@@ -58,3 +66,8 @@ another_branch = refl
 -- after both branches the list goes on where a form may open
 after_branches : read_limited_algorithm (begun 99 (key (codes "either") ∷ key (codes "skip") ∷ key (codes "or") ∷ key (codes "skip") ∷ mark tk.semicolon ∷ mark tk.open_brace ∷ [])) ≡ Err (Syntax, [])
 after_branches = refl
+
+-- after `{ either` in the main part: skip or skip } } }
+closes_all : rest_of_all (in_main [] [] at) (begin no_labels (in_either (first_arm no_labels at) (in_block no_labels at none (bottom none))))
+    ≡ no_place (tk.reserved (codes "skip")) ∷ no_place (tk.reserved (codes "or")) ∷ no_place (tk.reserved (codes "skip")) ∷ no_place (tk.mark tk.close_brace) ∷ no_place (tk.mark tk.close_brace) ∷ no_place (tk.mark tk.close_brace) ∷ []
+closes_all = refl

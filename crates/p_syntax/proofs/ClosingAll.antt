@@ -3,15 +3,17 @@ use Rattle.std.proofs.Common.{◌≡◌, ℕ, zero, suc, ◌+◌, ◌*◌, ◌�
 use Rattle.tla_token.specs.declared.place.Place.{Place}
 use Rattle.tla_token.specs.Places.{nowhere}
 use Rattle.tla_tree.specs.Lexical.{Token}
-use Rattle.tla_tree.specs.Reader.{Out, Reader, gives, then_read}
+use Rattle.tla_tree.specs.Reader.{Out, gives, then_read}
 use Rattle.pcal_tree.specs.GrammarParts.{key, no_labels, skip}
 use Rattle.pcal_tree.specs.GrammarP.{simple, Sequence, last_statement}
 use Rattle.pcal_tree.specs.Grammar.{Body, begin_end, Macro, Procedure, Process, Main, begin, to_end, Text}
 use Rattle.algorithm_parts.specs.TokenReaders.{Parts}
 use Rattle.algorithm_parts.proofs.Whole.{then_is}
+use Rattle.algorithm_parts.specs.Owners.{Owner, in_macro, in_procedure, in_process, in_main, main_of}
+use Rattle.algorithm_parts.proofs.OneAfter.{same_read}
 use Rattle.p_syntax.specs.ReadStatements.{State, Turn, none, bottom, on, step, turned, run, word_after, ends_with, rest, open_in}
 use Rattle.p_syntax.specs.ReadStatements as machine
-use Rattle.p_syntax.specs.Resume.{Front, Owner, in_macro, in_procedure, in_process, in_main, main_of, finish, main_from, resume, after_list, rest_of_all}
+use Rattle.p_syntax.specs.Resume.{Front, finish, main_from, resume, after_list, rest_of_all}
 use Rattle.p_syntax.proofs.Closing.{closed_by_rest, few_rest}
 
 abbrev Closed : Parts → ℕ → ℕ → ℕ → Front → Owner → State → Type 0
@@ -60,9 +62,6 @@ pub few_in_all : (o : Owner) (s : State) → length (rest_of_all o s) ≤ 4 * op
 few_in_all o s = (let a = length-append (rest s) (after_list o) in let b = few_rest s in let c = after_few o in omega (arith, a, b, c))
 
 -- ---- reading goes from state to state
-same_read : {A B : Type 0} (f : A → Reader B) {o q : Out A} → o ≡ q → then_read o f ≡ then_read q f
-same_read {A} f e = ap (λ (o : Out A). then_read o f) e
-
 run_on : (m : Parts) (n : ℕ) (s : State) (ts : List Token) (t : State) (us : List Token) → step m n s ts ≡ Ok (on t, us) → run m (suc n) s ts ≡ run m n t us
 run_on m n s ts t us e = ap (λ (o : Out Turn). then_read o (turned (run m n))) e
 

@@ -1,5 +1,5 @@
 -- Reading an algorithm goes through the lists of statements in it: where one begins, reading goes on from the first state of that list.
-use Rattle.std.proofs.Common.{◌≡◌, ℕ, suc, true, false, List, [], ◌∷◌, ◌++◌, Ok, Err, refl, sym, ap, ◌∙◌, append_assoc, codes}
+use Rattle.std.proofs.Common.{◌≡◌, ℕ, suc, true, false, List, [], ◌∷◌, ◌++◌, Ok, refl, sym, ap, ◌∙◌, append_assoc, codes}
 use Rattle.tla_token.specs.declared.place.Place.{Place}
 use Rattle.tla_tree.specs.Tree.{Name}
 use Rattle.tla_tree.specs.Lexical.{Token}
@@ -10,31 +10,15 @@ use Rattle.algorithm_parts.specs.TokenReaders.{a_name, Parts}
 use Rattle.algorithm_parts.specs.ReadParts.{read_section, read_macro_parameters, read_procedure_parameters}
 use Rattle.algorithm_parts.specs.ReadAround.{read_head}
 use Rattle.algorithm_parts.specs.ReadRoutines.{read_process, read_define, read_macros, read_procedures, read_processes}
+use Rattle.algorithm_parts.specs.Owners.{in_macro, in_procedure, in_process, main_of}
+use Rattle.algorithm_parts.proofs.OneAfter.{then_assoc, then_same, more_then, made_then, main_moved}
 use Rattle.p_syntax.specs.ReadStatements.{State, none, bottom}
 use Rattle.p_syntax.specs.ReadStatements as machine
 use Rattle.p_syntax.specs.ReadAlgorithm.{ways, read_identity, read_text}
-use Rattle.p_syntax.specs.Resume.{Front, in_macro, in_procedure, in_process, finish, body_from, main_from, procedures_from, macros_from, main_of, processes_from, text_from, resume}
+use Rattle.p_syntax.specs.Resume.{Front, finish, body_from, main_from, procedures_from, macros_from, processes_from, text_from, resume}
 
 abbrev first_state : State
 first_state = machine.begin none no_labels bottom
-
--- ---- one after the other
-then_assoc : {A B C : Type 0} (o : Out A) (f : A → Reader B) (g : B → Reader C) → then_read (then_read o f) g ≡ then_read o (λ a us. then_read (f a us) g)
-then_assoc (Ok x) f g = refl
-then_assoc (Err u) f g = refl
-
-then_same : {A B : Type 0} (o : Out A) (f g : A → Reader B) → ((a : A) (us : List Token) → f a us ≡ g a us) → then_read o f ≡ then_read o g
-then_same (Ok x) f g h = h x.0 x.1
-then_same (Err u) f g h = refl
-
--- a member, and then the others
-more_then : {A B : Type 0} (o : Out A) (rs : Reader (List A)) (g : List A → Reader B) → then_read (then_read o (λ y. rs >>= λ ys. gives (y ∷ ys))) g ≡ then_read o (λ y. rs >>= λ ys. g (y ∷ ys))
-more_then (Ok x) rs g = then_assoc (rs x.1) (λ ys. gives (x.0 ∷ ys)) g
-more_then (Err u) rs g = refl
-
-made_then : {A B : Type 0} (o : Out Body) (make : Body → A) (g : A → Reader B) → then_read (then_read o (λ b. gives (make b))) g ≡ then_read o (λ b. g (make b))
-made_then (Ok x) make g = refl
-made_then (Err u) make g = refl
 
 -- ---- where a list begins
 module _ (m : Parts) (k j : ℕ) (f : Front) where
@@ -86,10 +70,6 @@ module _ (m : Parts) (k j : ℕ) (f : Front) where
       ∙ ap (λ (z : Out Main). then_read z go) (made_then o make all)
       ∙ then_assoc o (λ b. all (make b)) go
       ∙ then_same o _ _ (λ b zs. then_assoc (rs zs) (λ xs. gives (processes (make b) xs)) go))
-
-  main_moved : (ys : List Process) (x y : Process) (xs : List Process) → main_of ys x (y ∷ xs) ≡ main_of (ys ++ x ∷ []) y xs
-  main_moved [] x y xs = refl
-  main_moved (z ∷ ys) x y xs = ap (λ (ls : List Process). processes z ls) (sym (append_assoc ys (x ∷ []) (y ∷ xs)))
 
   next_words : (ms : List Macro) (ps : List Procedure) (ys : List Process) (x : Process) (q : Fair) (p : Place) (ts : List Token)
       → processes_from m (suc j) f ms ps ys x (fair q (key p (codes "process") ts)) ≡ then_read (then_read (process_read j q p ts) (λ y. read_processes m (ways m) j >>= λ xs. gives (y ∷ xs))) (λ xs. finish f ms ps (main_of ys x xs))

@@ -4,13 +4,14 @@ use Rattle.tla_token.specs.declared.place.Place.{Place}
 use Rattle.tla_tree.specs.Tree.{Word, Name}
 use Rattle.tla_tree.specs.Lexical.{Token}
 use Rattle.tla_tree.specs.Reader.{Reader, ◌>>=◌, gives}
-use Rattle.pcal_tree.specs.GrammarParts.{Section, MacroParameters, ProcedureParameters}
-use Rattle.pcal_tree.specs.Grammar.{Body, begin_end, Macro, Procedure, Fair, Identity, Process, Head, Define, Main, begin, processes, to_end, Text}
+use Rattle.pcal_tree.specs.GrammarParts.{Section}
+use Rattle.pcal_tree.specs.Grammar.{Body, begin_end, Macro, Procedure, Process, Head, Define, Main, begin, to_end, Text}
 use Rattle.algorithm_parts.specs.TokenReaders.{a_key, a_name, Parts}
 use Rattle.algorithm_parts.specs.ReadParts.{read_semicolon, read_section}
 use Rattle.algorithm_parts.specs.ReadAround.{read_head}
 use Rattle.algorithm_parts.specs.ReadRoutines.{read_define, read_macros, read_procedures, read_processes}
-use Rattle.p_syntax.specs.ReadStatements.{State, run, word_after, ends_with, rest, open_in}
+use Rattle.algorithm_parts.specs.Owners.{Owner, in_macro, in_procedure, in_process, in_main, main_of}
+use Rattle.p_syntax.specs.ReadStatements.{State, run, word_after, ends_with, rest}
 use Rattle.p_syntax.specs.ReadAlgorithm.{ways, read_main}
 
 -- what stands before the macros
@@ -19,13 +20,6 @@ pub record Front : Type 0 where
   pub name : Name
   pub variables : Section
   pub define : Define
-
--- whose list of statements it is, with what was read before it: the macros, procedures and processes in front of it, and its own part up to its `begin`
-pub data Owner : Type 0 where
-  in_macro : List Macro → Place → Name → MacroParameters → Place → Owner
-  in_procedure : List Macro → List Procedure → Place → Name → ProcedureParameters → Section → Place → Owner
-  in_process : List Macro → List Procedure → List Process → Fair → Place → Identity → Section → Place → Owner
-  in_main : List Macro → List Procedure → Place → Owner
 
 abbrev pub read_front : Parts → ℕ → Reader Front
 read_front m n =
@@ -52,11 +46,6 @@ macros_from m k j f ns = read_macros (ways m) j >>= λ ms. procedures_from m k k
 
 abbrev pub text_from : Parts → ℕ → Reader Text
 text_from m n = read_front m n >>= λ f. macros_from m n n f []
-
--- the processes, with those before
-abbrev pub main_of : List Process → Process → List Process → Main
-main_of [] x xs = processes x xs
-main_of (y ∷ ys) x xs = processes y (ys ++ x ∷ xs)
 
 abbrev pub processes_from : Parts → ℕ → Front → List Macro → List Procedure → List Process → Process → Reader Text
 processes_from m j f ms ps ys x = read_processes m (ways m) j >>= λ xs. finish f ms ps (main_of ys x xs)

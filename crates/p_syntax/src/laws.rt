@@ -21,9 +21,10 @@ ghost use Rattle.tla_tree.specs.Tree.{Name};
 ghost use Rattle.pcal_tree.specs.GrammarParts.{name, no_labels, Section, MacroParameters, ProcedureParameters};
 ghost use Rattle.pcal_tree.specs.Grammar.{Macro, Procedure, Fair, fair, Identity, Process};
 ghost use Rattle.algorithm_parts.specs.ReadParts.{read_section, read_macro_parameters, read_procedure_parameters};
+ghost use Rattle.algorithm_parts.specs.Owners.{Owner, in_macro, in_procedure, in_process, in_main};
 ghost use Rattle.p_syntax.specs.ReadStatements.{State, begin, none, bottom, on, step, run, rest, open_in};
 ghost use Rattle.p_syntax.specs.ReadAlgorithm.{read_identity, read_text, read_algorithm, read_limited_algorithm};
-ghost use Rattle.p_syntax.specs.Resume.{Front, Owner, in_macro, in_procedure, in_process, in_main, main_from, processes_from, procedures_from, macros_from, text_from, resume, rest_of_all};
+ghost use Rattle.p_syntax.specs.Resume.{Front, main_from, processes_from, procedures_from, macros_from, text_from, resume, rest_of_all};
 
 /// What is read is an algorithm that may be spelled, and all the tokens are its tokens.
 pub fn what_is_read_is_spelled()
