@@ -1,3 +1,6 @@
 pub mod TokenReaders
 pub mod ReadParts
 pub mod ReadSimple
+pub mod ReadAround
+pub mod ReadRoutines
+pub mod Owners

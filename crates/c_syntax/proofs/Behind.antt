@@ -6,7 +6,7 @@ use Rattle.tla_tree.specs.Tree.{Word, Name}
 use Rattle.tla_tree.specs.Lexical.{TokenView, Token}
 use Rattle.tla_tree.specs.Lexical as tk
 use Rattle.tla_tree.specs.Reader.{tail}
-use Rattle.pcal_tree.specs.GrammarParts.{name, key, mark, semicolon, maybe_semicolon, Colon, colon, colon_plus, colon_minus, colon_tokens, Labels, no_labels, label, labels, binds, Assignments, assignments, GoodAssignments, Arguments, no_arguments, some_arguments, arguments, Simple, simple_tokens, GoodSimple}
+use Rattle.pcal_tree.specs.GrammarParts.{name, key, mark, semicolon, maybe_semicolon, Labels, no_labels, label, labels, assignments}
 use Rattle.pcal_tree.specs.GrammarParts as g
 use Rattle.pcal_tree.specs.GrammarC.{Statement, simple, branch, either, with, while, compound, Labelled, labelled, Branches, last_branch, more_branches, Sequence, last_statement, more_statements}
 use Rattle.pcal_tree.specs.GrammarC.{statement, labelled_tokens, branches, sequence, ends_in_block, labelled_ends_in_block, takes_else, takes_or, labelled_takes_else, labelled_takes_or, Divided, GoodStatement, GoodLabelled, GoodSequence}
@@ -14,7 +14,7 @@ use Rattle.algorithm_parts.specs.TokenReaders.{first, pick}
 use Rattle.algorithm_parts.proofs.WholeSimple.{root, first_left, after_first, assignment_tokens}
 use Rattle.c_syntax.specs.ReadStatements.{Ask, ask_else, ask_or, ask_other}
 use Rattle.c_syntax.specs.ReadStatements.{is_divided}
-use Rattle.c_syntax.proofs.WholeEnds.{is_divider_next, is_statement_start}
+use Rattle.algorithm_parts.proofs.WholeEnds.{is_divider_next, is_statement_start}
 
 -- ---- what a token asks for after a statement
 abbrev pub word_ask : Word → Ask

@@ -4,9 +4,9 @@ use Rattle.tla_token.specs.declared.place.Place.{Place}
 use Rattle.tla_token.specs.Places.{nowhere}
 use Rattle.tla_tree.specs.Lexical.{Token}
 use Rattle.tla_tree.specs.Lexical as tk
-use Rattle.pcal_tree.specs.GrammarParts.{Labels, no_labels, Binds, last_bind, bind, skip, mark}
+use Rattle.pcal_tree.specs.GrammarParts.{Labels, no_labels, skip, mark}
 use Rattle.pcal_tree.specs.GrammarC.{simple, either, compound, Labelled, labelled, else_then, last_branch, Sequence, last_statement}
-use Rattle.pcal_tree.specs.OpenForms.{after_binds}
+use Rattle.algorithm_parts.proofs.BesideAround.{binds_deep}
 use Rattle.algorithm_parts.specs.TokenReaders.{first, Parts}
 use Rattle.c_syntax.specs.ReadStatements.{Arms, first_arm, later_arm, Test, with_opening, while_opening, Stack, bottom, in_block, in_then, in_else, in_body, in_either, State, begin, ended, with_before, joined, tested, opened, before_or, ask_or, closed, run, AreApart, closing, rest, open_stack, depth}
 use Rattle.c_syntax.proofs.Behind.{ask_of, ask_at}
@@ -114,10 +114,6 @@ closed_by_rest m (suc n) (begin ls st) i p ts l = closed_after m p ts st i n (om
 closed_by_rest m (suc n) (ended a s st) i p ts l = closed_after m p ts st i (suc n) l a s
 
 -- ---- how many tokens that are
-binds_deep : (d : ℕ) (bs : Binds) → d + 1 ≤ after_binds d bs
-binds_deep d (last_bind x b p e s) = omega arith
-binds_deep d (bind x b p e s bs) = (let h = binds_deep (d + 1) bs in omega (arith, h))
-
 few_closing : (st : Stack) → length (closing st) ≤ 2 * depth st
 few_closing (bottom b) = omega arith
 few_closing (in_block ls p b st) = (let h = few_closing st in omega (arith, h))

@@ -1,21 +1,22 @@
 -- A reader looks no further than the token at which it stops: lists of statements.
 use Rattle.std.proofs.Common.{◌≡◌, subst, Bool, true, false, ℕ, ◌+◌, ◌*◌, ◌≤◌, Option, Some, None, refl, arith}
 use Rattle.tla_token.specs.declared.place.Place.{Place}
-use Rattle.tla_tree.specs.Tree.{Word, Name}
+use Rattle.tla_tree.specs.Tree.{Name}
 use Rattle.tla_tree.specs.Lexical.{TokenView}
 use Rattle.tla_tree.specs.Lexical as tk
-use Rattle.tla_tree.specs.Reader.{Reader, ◌>>=◌, gives, refuses, skip, if_fits, place_if}
+use Rattle.tla_tree.specs.Reader.{Reader, ◌>>=◌, gives, refuses, skip, if_fits}
 use Rattle.tla_tree.proofs.Alike.{IsFair, fair_gives, fair_refuses, fair_too_deep, fair_skip, fair_bind}
 use Rattle.pcal_tree.specs.GrammarParts.{Labels, no_labels, Simple}
 use Rattle.pcal_tree.specs.GrammarParts as g
 use Rattle.pcal_tree.specs.GrammarC.{simple, Labelled, labelled, Sequence, last_statement}
-use Rattle.algorithm_parts.specs.TokenReaders.{by_next, is_reserved, a_key, pick, Parts}
+use Rattle.algorithm_parts.specs.TokenReaders.{by_next, pick, Parts}
 use Rattle.algorithm_parts.specs.ReadSimple.{simple_words}
-use Rattle.algorithm_parts.proofs.Fair.{fair_next, fair_past, pick_both, Step, fair_steps, FairParts, less_parts, left_parts, right_parts}
+use Rattle.algorithm_parts.proofs.Fair.{fair_next, pick_both, Step, fair_steps, FairParts, less_parts, left_parts, right_parts}
 use Rattle.algorithm_parts.proofs.FairParts.{fair_mark, fair_name, colon_fair, binds_fair}
 use Rattle.algorithm_parts.proofs.FairSimple.{arguments_fair, named_fair}
+use Rattle.algorithm_parts.specs.ReadAround.{within}
 use Rattle.c_syntax.specs.ReadStatements.{after, if_test, with_opening, while_opening, none, Stack, bottom, in_block, in_then, in_either, in_body, State, begin, ended, Turn, on, done, with_before, before_or, opens}
-use Rattle.c_syntax.specs.ReadStatements.{within, depth, either_if, ends_simple, after_name, bracketed, statement_words, statement_by, ask_else, ask_or, ask_other, closed, takes_else, takes_or, closing_words, is_divided, another_if, list_by, ended_by, step, turned, run, read_sequence}
+use Rattle.c_syntax.specs.ReadStatements.{depth, either_if, ends_simple, after_name, bracketed, statement_words, statement_by, ask_else, ask_or, ask_other, closed, takes_else, takes_or, closing_words, is_divided, another_if, list_by, ended_by, step, turned, run, read_sequence}
 
 -- whatever comes after the step, which takes a token or is the last one
 pub record Takes (b c : ℕ) (p q : Reader Turn) : Type 0 where
@@ -43,9 +44,6 @@ takes_done ss = record { is = λ r s f. fair_gives }
 
 takes_next : {b c : ℕ} {f g : Place → TokenView → Reader Turn} → ((p : Place) (k : TokenView) → Takes b c (f p k) (g p k)) → Takes b c (by_next f) (by_next g)
 takes_next {b} {c} {f} {g} h = record { is = λ r s i. fair_next {f = λ p k. f p k >>= turned r} {g = λ p k. g p k >>= turned s} (λ p k. (h p k).is r s i) }
-
-pub fair_key : {B : Type 0} {b n : ℕ} (w : Word) {g i : Place → Reader B} → b ≤ n + 4 → ((p : Place) → IsFair n (g p) (i p)) → IsFair b (a_key w >>= g) (a_key w >>= i)
-fair_key w l h = fair_past (place_if (is_reserved w)) l h
 
 module _ (d : ℕ) (m q : Parts) (h : FairParts d m q) (b c n o : ℕ) (e : b ≤ d) (l : b ≤ c + 4) (v : c ≤ b) (k : c ≤ 4 * n) (s : c ≤ 4 * o) where
   parts : FairParts c m q

@@ -1,6 +1,5 @@
 -- Tokens of statements before others are no fewer than those.
 use Rattle.std.proofs.Common.{arith, codes}
-use Rattle.tla_tree.specs.Lexical.{TokenView, Token}
 use Rattle.tla_tree.specs.Lexical as tk
 use Rattle.pcal_tree.specs.GrammarParts.{key, mark, maybe_semicolon}
 use Rattle.pcal_tree.specs.GrammarC.{Statement, simple, branch, either, with, while, compound, Labelled, labelled, Else, no_else, else_then, Branches, last_branch, more_branches, Sequence, last_statement, more_statements}

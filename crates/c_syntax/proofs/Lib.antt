@@ -1,10 +1,9 @@
 mod Rows
 mod RowsForms
 mod RowsClosing
+mod RowsLimit
 pub mod SoundStatements
 pub mod SoundAlgorithm
-pub mod WholeEnds
-pub mod WholeAssign
 pub mod Lengths
 pub mod Behind
 pub mod Elsewhere
@@ -16,6 +15,12 @@ pub mod MendStatements
 pub mod MendAlgorithm
 pub mod Closing
 pub mod Apart
-pub mod StopsOf
 pub mod Stops
 pub mod OneSyntax
+pub mod BesideStatements
+pub mod WithinStatements
+pub mod BesideAlgorithm
+pub mod WithinAlgorithm
+pub mod StopsWithin
+pub mod ClosingAll
+pub mod ResumedText

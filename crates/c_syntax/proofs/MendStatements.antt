@@ -20,9 +20,11 @@ use Rattle.algorithm_parts.proofs.Aheads.{ahead_semicolon, ahead_labels, ahead_b
 use Rattle.algorithm_parts.proofs.Mends.{Fill, Mends, MendsAt, IsPart, AllMend, filled, mends_gives, mends_refuses, mends_after, mends_bind, mends_then, mends_same, mends_next, mends_stays, mends_past, mends_pick, mends_fits, part_mark}
 use Rattle.algorithm_parts.proofs.MendParts.{MendsParts, part_colon, part_binds}
 use Rattle.algorithm_parts.proofs.MendSimple.{named_mends, words_mend}
-use Rattle.c_syntax.specs.ReadStatements.{Before, none, after, Arms, first_arm, later_arm, Test, if_test, Opening, with_opening, while_opening, Stack, bottom, in_block, in_then, in_else, in_body, in_either, State, begin, ended, Turn, on, done, with_before, with_label, joined}
-use Rattle.c_syntax.specs.ReadStatements.{within, depth, before_or, opens, either_if, ends_simple, after_name, bracketed, statement_words, statement_by, ask_else, ask_or, ask_other, closed, takes_else, takes_or, closing_words, is_divided, another_if, list_by, ended_by, step, turned, run, read_sequence}
-use Rattle.c_syntax.proofs.SoundStatements.{before, arms, test, opening, stack, passed, turn, GoodStack, GoodState, GoodTurn, with_before_tokens, with_before_good, with_label_tokens, joined_tokens, joined_good, joined_takes_else, AllFound, closes, at, divides, step_sound, sequence_sound}
+use Rattle.algorithm_parts.specs.ReadAround.{with_label, within}
+use Rattle.algorithm_parts.proofs.WithLabel.{with_label_tokens}
+use Rattle.c_syntax.specs.ReadStatements.{Before, none, after, Arms, first_arm, later_arm, Test, if_test, Opening, with_opening, while_opening, Stack, bottom, in_block, in_then, in_else, in_body, in_either, State, begin, ended, Turn, on, done, with_before, joined}
+use Rattle.c_syntax.specs.ReadStatements.{depth, before_or, opens, either_if, ends_simple, after_name, bracketed, statement_words, statement_by, ask_else, ask_or, ask_other, closed, takes_else, takes_or, closing_words, is_divided, another_if, list_by, ended_by, step, turned, run, read_sequence}
+use Rattle.c_syntax.proofs.SoundStatements.{before, arms, test, opening, stack, passed, turn, GoodStack, GoodState, GoodTurn, with_before_tokens, with_before_good, joined_tokens, joined_good, joined_takes_else, AllFound, closes, at, divides, step_sound, sequence_sound}
 
 -- ---- tokens before those that come
 mutual
@@ -34,7 +36,7 @@ mutual
   ahead_statement (while p q e r a) = put_ahead (put_ahead (then_ahead (ahead e) (put_ahead (ahead_labelled a))))
   ahead_statement (compound p ss q) = put_ahead (then_ahead (ahead_sequence ss) (put_ahead held))
 
-  ahead_labelled : (a : Labelled) → Ahead (labelled_tokens a)
+  pub ahead_labelled : (a : Labelled) → Ahead (labelled_tokens a)
   ahead_labelled (labelled ls st) = then_ahead (ahead_labels ls) (ahead_statement st)
 
   ahead_else : (b : Else) → Ahead (else_tokens b)
@@ -64,7 +66,7 @@ ahead_opening : (o : Opening) → Ahead (opening o)
 ahead_opening (with_opening p q bs r) = put_ahead (put_ahead (then_ahead (ahead_binds bs) (put_ahead held)))
 ahead_opening (while_opening p q e r) = put_ahead (put_ahead (then_ahead (ahead e) (put_ahead held)))
 
-ahead_stack : (st : Stack) → Ahead (stack st)
+pub ahead_stack : (st : Stack) → Ahead (stack st)
 ahead_stack (bottom b) = ahead_before b
 ahead_stack (in_block ls p b st) = then_ahead (ahead_stack st) (then_ahead (ahead_labels ls) (put_ahead (ahead_before b)))
 ahead_stack (in_then ls t st) = then_ahead (ahead_stack st) (then_ahead (ahead_labels ls) (ahead_test t))
@@ -72,14 +74,14 @@ ahead_stack (in_else ls t a s p st) = then_ahead (ahead_stack st) (then_ahead (a
 ahead_stack (in_body ls o st) = then_ahead (ahead_stack st) (then_ahead (ahead_labels ls) (ahead_opening o))
 ahead_stack (in_either t st) = then_ahead (ahead_stack st) (ahead_arms t)
 
-ahead_at : (ls : Labels) (st : Stack) → Ahead (at ls st)
+pub ahead_at : (ls : Labels) (st : Stack) → Ahead (at ls st)
 ahead_at ls st = then_ahead (ahead_stack st) (ahead_labels ls)
 
-ahead_passed : (s : State) → Ahead (passed s)
+pub ahead_passed : (s : State) → Ahead (passed s)
 ahead_passed (begin ls st) = ahead_at ls st
 ahead_passed (ended a s st) = then_ahead (ahead_stack st) (then_ahead (ahead_labelled a) (ahead_semicolon s))
 
-ahead_turn : (t : Turn) → Ahead (turn t)
+pub ahead_turn : (t : Turn) → Ahead (turn t)
 ahead_turn (on s) = ahead_passed s
 ahead_turn (done ss) = ahead_sequence ss
 

@@ -7,7 +7,7 @@ use Rattle.tla_tree.specs.Lexical.{TokenView, Token, token}
 use Rattle.tla_tree.specs.Lexical as tk
 use Rattle.tla_tree.specs.Spelling.{spell, IsGood}
 use Rattle.tla_tree.specs.Reader.{Reader, refuses}
-use Rattle.pcal_tree.specs.GrammarParts.{name, key, mark, maybe_semicolon, Colon, colon_tokens, Labels, no_labels, label, labels, binds, GoodBinds}
+use Rattle.pcal_tree.specs.GrammarParts.{name, key, mark, maybe_semicolon, Labels, no_labels, labels, binds, GoodBinds}
 use Rattle.pcal_tree.specs.GrammarC.{simple, branch, with, while, compound, Labelled, labelled, no_else, else_then, Branches, last_branch, more_branches, Sequence, last_statement, more_statements}
 use Rattle.pcal_tree.specs.GrammarC.{labelled_tokens, branches, sequence, labelled_takes_else, labelled_takes_or, branches_take_else, Divided, GoodLabelled, GoodBranches, GoodSequence}
 use Rattle.algorithm_parts.specs.TokenReaders.{Parts, pick}
@@ -15,7 +15,9 @@ use Rattle.algorithm_parts.specs.ReadSimple.{simple_words}
 use Rattle.algorithm_parts.proofs.Sound.{Sound, SoundAt, here, AllSound, sound_gives, sound_refuses, sound_bind, sound_after, sound_next, sound_stays, sound_past, sound_then, sound_same, sound_pick, sound_mark, sound_fits, is_other}
 use Rattle.algorithm_parts.proofs.SoundParts.{SoundParts, colon_sound, binds_sound}
 use Rattle.algorithm_parts.proofs.SoundSimple.{named_sound, words_sound}
-use Rattle.c_syntax.specs.ReadStatements.{Before, none, after, Arms, first_arm, later_arm, Test, if_test, Opening, with_opening, while_opening, Stack, bottom, in_block, in_then, in_else, in_body, in_either, State, begin, ended, Turn, on, done, with_before, with_label, joined, tested, opened, depth, within}
+use Rattle.algorithm_parts.specs.ReadAround.{with_label, within}
+use Rattle.algorithm_parts.proofs.WithLabel.{with_label_tokens}
+use Rattle.c_syntax.specs.ReadStatements.{Before, none, after, Arms, first_arm, later_arm, Test, if_test, Opening, with_opening, while_opening, Stack, bottom, in_block, in_then, in_else, in_body, in_either, State, begin, ended, Turn, on, done, with_before, joined, tested, opened, depth}
 use Rattle.c_syntax.specs.ReadStatements.{before_or, opens, either_if, ends_simple, after_name, bracketed, statement_words, statement_by, Ask, ask_else, ask_or, ask_other, closed, takes_else, takes_or, closing_words, is_divided, another_if, list_by, ended_by, step, turned, run, read_sequence}
 
 -- ---- the tokens that were passed, before others
@@ -91,10 +93,6 @@ with_before_tokens (after b a s) ss ts = with_before_tokens b (more_statements a
 pub with_before_good : (b : Before) (ss : Sequence) → GoodBefore b → GoodSequence ss → GoodSequence (with_before b ss)
 with_before_good none ss g h = h
 with_before_good (after b a s) ss g h = with_before_good b (more_statements a s ss) g.0 (g.1, g.2, h)
-
-pub with_label_tokens : (ls : Labels) (x : Name) (c : Colon) (ts : List Token) → labels (with_label ls x c) ts ≡ labels ls (name x (colon_tokens c ts))
-with_label_tokens no_labels x c ts = refl
-with_label_tokens (label y d ls) x c ts = ap (λ (us : List Token). name y (colon_tokens d us)) (with_label_tokens ls x c ts)
 
 pub joined_tokens : (t : Arms) (a : Labelled) (bs : Branches) (ts : List Token) → labelled_tokens (joined t a bs) ts ≡ arms t (labelled_tokens a (branches bs ts))
 joined_tokens (first_arm ls p) a bs ts = refl

@@ -8,7 +8,7 @@ use Rattle.tla_tree.specs.Lexical.{TokenView, Token}
 use Rattle.tla_tree.specs.Lexical as tk
 use Rattle.tla_tree.specs.Spelling.{spell}
 use Rattle.tla_tree.specs.Reader.{Out, Reader, ◌>>=◌, then_read, gives, readers}
-use Rattle.pcal_tree.specs.GrammarParts.{name, key, mark, sign, maybe_semicolon, section_tokens, macro_parameters, procedure_parameters, bind_sign, definitions}
+use Rattle.pcal_tree.specs.GrammarParts.{name, key, mark, maybe_semicolon, section_tokens, macro_parameters, procedure_parameters}
 use Rattle.pcal_tree.specs.GrammarParts as g
 use Rattle.pcal_tree.specs.Grammar.{c_syntax, Body, begin_end, braces, body, GoodBody, Macro, macro, GoodMacro, Procedure, procedure, GoodProcedure, Fair, unfair, weak, strong, fair, Identity, bare, bracketed, identity, GoodIdentity, Process, process, GoodProcess, Head, algorithm, fair_algorithm, head, Define, no_define, define_end, define_braces, define, GoodDefine, Main, begin, block, processes, each, main, GoodMain, Around, to_end, in_braces, around, GoodAround, Text, Good}
 use Rattle.pcal_tree.specs.Grammar as gr
@@ -18,8 +18,10 @@ use Rattle.algorithm_parts.specs.ReadParts.{section_by}
 use Rattle.algorithm_parts.proofs.Whole.{Fits, smaller, less, then_is, WholeParts, parts_whole}
 use Rattle.algorithm_parts.proofs.WholeParts.{macro_parameters_whole, procedure_parameters_whole, signed}
 use Rattle.algorithm_parts.proofs.Lengths.{Grows, GrowsMore, grow_semicolon, grow_section, grow_macro, grow_procedure, grow_phrase, grow_definitions}
-use Rattle.c_syntax.specs.ReadAlgorithm.{read_body, read_macro, read_procedure, read_identity, read_process, macros_by, read_macros, procedures_by, read_procedures, processes_by, read_processes, read_head, define_by, read_define, read_main, read_text, read_algorithm}
-use Rattle.c_syntax.proofs.WholeEnds.{is_end_next, semicolon_ends, section_ends, definitions_end}
+use Rattle.algorithm_parts.specs.ReadAround.{read_head}
+use Rattle.algorithm_parts.specs.ReadRoutines.{read_macro, read_procedure, read_process, macros_by, read_macros, procedures_by, read_procedures, processes_by, read_processes, define_by, read_define}
+use Rattle.c_syntax.specs.ReadAlgorithm.{read_body, read_identity, ways, read_main, read_text, read_algorithm}
+use Rattle.algorithm_parts.proofs.WholeEnds.{is_end_next, semicolon_ends, section_ends, definitions_end}
 use Rattle.c_syntax.proofs.Lengths.{grow_sequence}
 use Rattle.c_syntax.proofs.WholeStatements.{sequence_whole}
 
@@ -196,14 +198,14 @@ module _ (m : ℕ) (r : Parts) (h : WholeParts m r) where
       none at_process e p = refl
       none at_fair e p = refl
 
-  macro_whole : (n : ℕ) (x : Macro) → GoodMacro c_syntax x → (ts : List Token) → is_end_next (first ts).kind ≡ true → Fits (suc n) m (macro x ts) → read_macro r n x.place (name x.name (macro_parameters x.parameters (body (codes "macro") x.body ts))) ≡ Ok (x, ts)
+  macro_whole : (n : ℕ) (x : Macro) → GoodMacro c_syntax x → (ts : List Token) → is_end_next (first ts).kind ≡ true → Fits (suc n) m (macro x ts) → read_macro (ways r) n x.place (name x.name (macro_parameters x.parameters (body (codes "macro") x.body ts))) ≡ Ok (x, ts)
   macro_whole n x i ts c f =
       (let us = body (codes "macro") x.body ts in
       then_is _ (macro_parameters_whole n m x.parameters us (less (omega arith) f))
       (then_is _ (body_whole n (codes "macro") x.body i ts c (less (omega (arith, grow_macro x.parameters us)) f)) refl))
 
   procedure_whole : (n : ℕ) (x : Procedure) → GoodProcedure c_syntax x → (ts : List Token) → is_end_next (first ts).kind ≡ true → Fits (suc n) m (procedure x ts)
-      → read_procedure r n x.place (name x.name (procedure_parameters x.parameters (section_tokens x.variables (body (codes "procedure") x.body ts)))) ≡ Ok (x, ts)
+      → read_procedure r (ways r) n x.place (name x.name (procedure_parameters x.parameters (section_tokens x.variables (body (codes "procedure") x.body ts)))) ≡ Ok (x, ts)
   procedure_whole n x i ts c f =
       (let us = body (codes "procedure") x.body ts in
       let vs = section_tokens x.variables us in
@@ -221,7 +223,7 @@ module _ (m : ℕ) (r : Parts) (h : WholeParts m r) where
 
   -- after its words
   process_whole : (n : ℕ) (x : Process) → GoodProcess c_syntax x → (ts : List Token) → is_end_next (first ts).kind ≡ true → Fits (suc n) m (process x ts)
-      → read_process r n x.fair x.place (identity x.identity (section_tokens x.variables (body (codes "process") x.body ts))) ≡ Ok (x, ts)
+      → read_process r (ways r) n x.fair x.place (identity x.identity (section_tokens x.variables (body (codes "process") x.body ts))) ≡ Ok (x, ts)
   process_whole n x i ts c f =
       (let us = body (codes "process") x.body ts in
       let vs = section_tokens x.variables us in
@@ -232,12 +234,12 @@ module _ (m : ℕ) (r : Parts) (h : WholeParts m r) where
       (then_is _ (body_whole n (codes "process") x.body i.2 ts c (less (omega (arith, l, grow_identity x.identity i.0 vs, grow_section x.variables us)) f)) refl)))
 
   -- ---- lists
-  macros_whole : (n : ℕ) (xs : List Macro) → AllByRecursion (GoodMacro c_syntax) xs → (ts : List Token) → Comes 2 ts → Fits n m (each macro xs ts) → read_macros r n (each macro xs ts) ≡ Ok (xs, ts)
+  macros_whole : (n : ℕ) (xs : List Macro) → AllByRecursion (GoodMacro c_syntax) xs → (ts : List Token) → Comes 2 ts → Fits n m (each macro xs ts) → read_macros (ways r) n (each macro xs ts) ≡ Ok (xs, ts)
   macros_whole zero [] i ts c f = absurd (omega (arith, f.list, comes_some 2 ts c))
   macros_whole zero (x ∷ xs) i ts c f = absurd (omega (arith, f.list))
-  macros_whole (suc n) [] i ts c f = at_word 2 ts (macros_by r n (read_macros r n)) (Ok ([], ts)) none c
+  macros_whole (suc n) [] i ts c f = at_word 2 ts (macros_by (ways r) n (read_macros (ways r) n)) (Ok ([], ts)) none c
     where
-      none : (k : Part) → nat_le 2 (stage k) ≡ true → (p : Place) → macros_by r n (read_macros r n) p (part_kind k) ts ≡ Ok ([], ts)
+      none : (k : Part) → nat_le 2 (stage k) ≡ true → (p : Place) → macros_by (ways r) n (read_macros (ways r) n) p (part_kind k) ts ≡ Ok ([], ts)
       none at_define e p = absurd cc
       none at_macro e p = absurd cc
       none at_procedure e p = refl
@@ -248,12 +250,12 @@ module _ (m : ℕ) (r : Parts) (h : WholeParts m r) where
       (let us = each macro xs ts in
       then_is _ (macro_whole n x i.0 us (comes_end 1 us (macros_come xs ts c)) f) (then_is _ (macros_whole n xs i.1 ts c (less (grow_macro_whole x i.0 us) f)) refl))
 
-  procedures_whole : (n : ℕ) (xs : List Procedure) → AllByRecursion (GoodProcedure c_syntax) xs → (ts : List Token) → Comes 3 ts → Fits n m (each procedure xs ts) → read_procedures r n (each procedure xs ts) ≡ Ok (xs, ts)
+  procedures_whole : (n : ℕ) (xs : List Procedure) → AllByRecursion (GoodProcedure c_syntax) xs → (ts : List Token) → Comes 3 ts → Fits n m (each procedure xs ts) → read_procedures r (ways r) n (each procedure xs ts) ≡ Ok (xs, ts)
   procedures_whole zero [] i ts c f = absurd (omega (arith, f.list, comes_some 3 ts c))
   procedures_whole zero (x ∷ xs) i ts c f = absurd (omega (arith, f.list))
-  procedures_whole (suc n) [] i ts c f = at_word 3 ts (procedures_by r n (read_procedures r n)) (Ok ([], ts)) none c
+  procedures_whole (suc n) [] i ts c f = at_word 3 ts (procedures_by r (ways r) n (read_procedures r (ways r) n)) (Ok ([], ts)) none c
     where
-      none : (k : Part) → nat_le 3 (stage k) ≡ true → (p : Place) → procedures_by r n (read_procedures r n) p (part_kind k) ts ≡ Ok ([], ts)
+      none : (k : Part) → nat_le 3 (stage k) ≡ true → (p : Place) → procedures_by r (ways r) n (read_procedures r (ways r) n) p (part_kind k) ts ≡ Ok ([], ts)
       none at_define e p = absurd cc
       none at_macro e p = absurd cc
       none at_procedure e p = absurd cc
@@ -270,26 +272,26 @@ module _ (m : ℕ) (r : Parts) (h : WholeParts m r) where
   processes_next (x ∷ xs) p ts = (let us = each process xs (mark p tk.close_brace ts) in comes_end 3 _ (process_comes x x.fair (identity x.identity (section_tokens x.variables (body (codes "process") x.body us)))))
 
   -- the words of a process, and then what is after them
-  process_words_read : (n : ℕ) (rs : Reader (List Process)) (x : Process) (q : Fair) → q ≡ x.fair → (us vs : List Token) (o : Out (List Process)) → then_read (read_process r n q x.place us) (λ y. rs >>= λ ys. gives (y ∷ ys)) ≡ o
-      → by_next (processes_by r n rs) (fair q (key x.place (codes "process") us)) ≡ o
+  process_words_read : (n : ℕ) (rs : Reader (List Process)) (x : Process) (q : Fair) → q ≡ x.fair → (us vs : List Token) (o : Out (List Process)) → then_read (read_process r (ways r) n q x.place us) (λ y. rs >>= λ ys. gives (y ∷ ys)) ≡ o
+      → by_next (processes_by r (ways r) n rs) (fair q (key x.place (codes "process") us)) ≡ o
   process_words_read n rs x unfair e us vs o k = k
   process_words_read n rs x (weak p) e us vs o k = k
   process_words_read n rs x (strong p q) e us vs o k = k
 
-  processes_whole : (n : ℕ) (xs : List Process) → AllByRecursion (GoodProcess c_syntax) xs → (p : Place) (ts : List Token) → Fits n m (each process xs (mark p tk.close_brace ts)) → read_processes r n (each process xs (mark p tk.close_brace ts)) ≡ Ok (xs, mark p tk.close_brace ts)
+  processes_whole : (n : ℕ) (xs : List Process) → AllByRecursion (GoodProcess c_syntax) xs → (p : Place) (ts : List Token) → Fits n m (each process xs (mark p tk.close_brace ts)) → read_processes r (ways r) n (each process xs (mark p tk.close_brace ts)) ≡ Ok (xs, mark p tk.close_brace ts)
   processes_whole zero [] i p ts f = absurd (omega (arith, f.list))
   processes_whole zero (x ∷ xs) i p ts f = (let us = each process xs (mark p tk.close_brace ts) in absurd (omega (arith, f.list, grow_process x i.0 us)))
   processes_whole (suc n) [] i p ts f = refl
   processes_whole (suc n) (x ∷ xs) i p ts f =
       (let us = each process xs (mark p tk.close_brace ts) in
-      process_words_read n (read_processes r n) x x.fair refl (identity x.identity (section_tokens x.variables (body (codes "process") x.body us))) us (Ok (x ∷ xs, mark p tk.close_brace ts))
+      process_words_read n (read_processes r (ways r) n) x x.fair refl (identity x.identity (section_tokens x.variables (body (codes "process") x.body us))) us (Ok (x ∷ xs, mark p tk.close_brace ts))
       (then_is _ (process_whole n x i.0 us (processes_next xs p ts) f) (then_is _ (processes_whole n xs i.1 p ts (less (grow_process x i.0 us) f)) refl)))
 
   -- ---- the whole
-  define_whole : (n : ℕ) (d : Define) → GoodDefine c_syntax d → (ts : List Token) → Comes 1 ts → Fits n m (define d ts) → read_define r n (define d ts) ≡ Ok (d, ts)
-  define_whole n no_define i ts c f = at_word 1 ts (define_by r n) (Ok (no_define, ts)) none c
+  define_whole : (n : ℕ) (d : Define) → GoodDefine c_syntax d → (ts : List Token) → Comes 1 ts → Fits n m (define d ts) → read_define (ways r) n (define d ts) ≡ Ok (d, ts)
+  define_whole n no_define i ts c f = at_word 1 ts (define_by (ways r) n) (Ok (no_define, ts)) none c
     where
-      none : (k : Part) → nat_le 1 (stage k) ≡ true → (p : Place) → define_by r n p (part_kind k) ts ≡ Ok (no_define, ts)
+      none : (k : Part) → nat_le 1 (stage k) ≡ true → (p : Place) → define_by (ways r) n p (part_kind k) ts ≡ Ok (no_define, ts)
       none at_define e p = absurd cc
       none at_macro e p = refl
       none at_procedure e p = refl
@@ -299,7 +301,7 @@ module _ (m : ℕ) (r : Parts) (h : WholeParts m r) where
   define_whole n (define_end a ds b d s) i ts c f = absurd i
   define_whole n (define_braces a b ds d s) i ts c f = then_is _ (definitions_end m r h n ds i (mark d tk.close_brace (maybe_semicolon s ts)) refl (smaller (omega arith) f)) (then_is _ (semicolon_ends s ts (comes_end 1 ts c)) refl)
 
-  main_words_read : (n : ℕ) (x : Process) (q : Fair) (us : List Token) (o : Out Main) → then_read (read_process r n q x.place us) (λ y. read_processes r n >>= λ ys. gives (processes y ys)) ≡ o
+  main_words_read : (n : ℕ) (x : Process) (q : Fair) (us : List Token) (o : Out Main) → then_read (read_process r (ways r) n q x.place us) (λ y. read_processes r (ways r) n >>= λ ys. gives (processes y ys)) ≡ o
       → read_main r n (fair q (key x.place (codes "process") us)) ≡ o
   main_words_read n x unfair us o k = k
   main_words_read n x (weak p) us o k = k

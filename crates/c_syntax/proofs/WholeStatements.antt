@@ -15,12 +15,13 @@ use Rattle.algorithm_parts.specs.TokenReaders.{first, Parts}
 use Rattle.algorithm_parts.proofs.Whole.{Fits, smaller, then_is, WholeParts}
 use Rattle.algorithm_parts.proofs.WholeSimple.{root, first_left, after_first, assignment_tokens, assignment_next, is_left_next, arguments_whole}
 use Rattle.algorithm_parts.proofs.Lengths.{grow_phrase, grow_colon, grow_binds, grow_simple}
-use Rattle.c_syntax.specs.ReadStatements.{depth, Before, none, after, Arms, first_arm, later_arm, Test, if_test, with_opening, while_opening, Stack, bottom, in_block, in_then, in_else, in_body, in_either, State, begin, ended, Turn, on, with_before, with_label, joined, before_or, either_if, after_name, statement_by, ask_other, closed}
+use Rattle.algorithm_parts.specs.ReadAround.{with_label}
+use Rattle.c_syntax.specs.ReadStatements.{depth, Before, none, after, Arms, first_arm, later_arm, Test, if_test, with_opening, while_opening, Stack, bottom, in_block, in_then, in_else, in_body, in_either, State, begin, ended, Turn, on, with_before, joined, before_or, either_if, after_name, statement_by, ask_other, closed}
 use Rattle.c_syntax.specs.ReadStatements.{list_by, ended_by, step, turned, run, read_sequence}
 use Rattle.c_syntax.proofs.Behind.{ask_of, ask_at, Quiet, QuietStatement, QuietLabelled, quiet_else, quiet_or, quiet_other, else_asks, else_divides, branches_ask, branches_divide, brace_asks, brace_divides, Starts, start_statement, start_labels, start_sequence, start_asks, start_divides, divided}
 use Rattle.c_syntax.proofs.Elsewhere.{word_taken, then_ends, either_ends, same_run}
-use Rattle.c_syntax.proofs.WholeEnds.{is_divider_next, next_calm, is_statement_start, colon_ends, binds_end}
-use Rattle.c_syntax.proofs.WholeAssign.{assign_ends}
+use Rattle.algorithm_parts.proofs.WholeEnds.{is_divider_next, next_calm, is_statement_start, colon_ends, binds_end}
+use Rattle.algorithm_parts.proofs.WholeAssign.{assign_ends}
 
 -- ---- labels
 append : Labels → Labels → Labels

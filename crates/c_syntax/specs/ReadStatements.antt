@@ -6,12 +6,13 @@ use Rattle.tla_tree.specs.Tree.{Word, Name}
 use Rattle.tla_tree.specs.Lexical.{TokenView, Token}
 use Rattle.tla_tree.specs.Lexical as tk
 use Rattle.tla_tree.specs.Spelling.{Phrase}
-use Rattle.tla_tree.specs.Reader.{Reader, ◌>>=◌, gives, refuses, skip, if_fits}
-use Rattle.pcal_tree.specs.GrammarParts.{key, mark, Colon, Labels, no_labels, label, Binds, Simple}
+use Rattle.tla_tree.specs.Reader.{Reader, ◌>>=◌, gives, refuses, skip}
+use Rattle.pcal_tree.specs.GrammarParts.{key, mark, Labels, no_labels, Binds, Simple}
 use Rattle.pcal_tree.specs.GrammarC.{simple, branch, either, with, while, compound, Labelled, labelled, Else, no_else, else_then, Branches, last_branch, more_branches, Sequence, last_statement, more_statements, labelled_ends_in_block}
 use Rattle.pcal_tree.specs.OpenForms.{after_binds}
 use Rattle.algorithm_parts.specs.TokenReaders.{by_next, a_mark, pick, Parts}
 use Rattle.algorithm_parts.specs.ReadParts.{read_colon, read_binds}
+use Rattle.algorithm_parts.specs.ReadAround.{with_label, within}
 use Rattle.algorithm_parts.specs.ReadSimple.{named_by, simple_words}
 
 -- ---- what was read
@@ -68,10 +69,6 @@ abbrev pub with_before : Before → Sequence → Sequence
 with_before none ss = ss
 with_before (after b a s) ss = with_before b (more_statements a s ss)
 
-abbrev pub with_label : Labels → Name → Colon → Labels
-with_label no_labels x c = label x c no_labels
-with_label (label y d ls) x c = label y d (with_label ls x c)
-
 abbrev pub joined : Arms → Labelled → Branches → Labelled
 joined (first_arm ls p) a bs = labelled ls (either p a bs)
 joined (later_arm t c s p) a bs = joined t c (more_branches s p a bs)
@@ -96,10 +93,6 @@ before_or (in_either (later_arm t a s p) st) = false
 
 abbrev pub opens : Stack → Turn
 opens st = on (begin no_labels st)
-
--- past a word or brace that opens a form, where so many are open
-abbrev pub within : Parts → ℕ → Reader Turn → Reader Turn
-within m d r = if_fits (m.room (d + 1)) (skip r)
 
 -- an `either` would take that `or`
 abbrev pub either_if : Bool → Parts → Labels → Place → Stack → Reader Turn

@@ -1,15 +1,13 @@
 -- Reading within the limits beside reading without: lists of statements. Each state says how many forms were open at the tokens that were passed.
-use Rattle.std.proofs.Common.{◌≡◌, ℕ, zero, suc, ◌+◌, ◌≤◌, List, [], ◌++◌, Option, Some, None, refl, ◌∙◌, subst, append_assoc, arith, codes}
+use Rattle.std.proofs.Common.{◌≡◌, ℕ, zero, suc, ◌+◌, List, [], ◌++◌, Option, Some, None, refl, ◌∙◌, subst, append_assoc, codes}
 use Rattle.std.proofs.lemmas.List.{append-nil}
-use Rattle.std.proofs.lemmas.Bool.{leb-true, le-leb}
 use Rattle.tla_token.specs.declared.place.Place.{Place}
-use Rattle.tla_token.specs.Limits.{deepest_statement}
 use Rattle.tla_tree.specs.Tree.{Word, Name}
 use Rattle.tla_tree.specs.Lexical.{TokenView}
 use Rattle.tla_tree.specs.Lexical as tk
 use Rattle.tla_tree.specs.Reader.{Reader, refuses}
 use Rattle.tla_tree.specs.FirstStop.{Open}
-use Rattle.pcal_tree.specs.GrammarParts.{Colon, colon, colon_plus, colon_minus, colon_tokens, Labels, no_labels, label, labels, maybe_semicolon, maybe_separator, Binds, last_bind, bind, Simple}
+use Rattle.pcal_tree.specs.GrammarParts.{Labels, no_labels, labels, maybe_semicolon, Simple}
 use Rattle.pcal_tree.specs.GrammarP.{Statement, simple, with, while, Else, no_else, else_then, else_if, Branches, last_branch, more_branches, Sequence, last_statement, more_statements}
 use Rattle.pcal_tree.specs.OpenForms.{here, plain, expression_opens, binds_open, after_binds, simple_opens, p_statement, p_else, p_branches, p_sequence}
 use Rattle.algorithm_parts.specs.TokenReaders.{limited_parts, pick}
@@ -17,8 +15,10 @@ use Rattle.algorithm_parts.specs.ReadSimple.{simple_words}
 use Rattle.algorithm_parts.proofs.Beside.{Sits, sits, sits_on, sits_here, Beside, BesideAt, BothAt, beside_gives, beside_refuses, beside_bind, beside_then, beside_next, beside_stays, beside_same, beside_moved, beside_skip, beside_opened, beside_key, beside_pick}
 use Rattle.algorithm_parts.proofs.BesideParts.{unlimited_parts, beside_expr, beside_colon, beside_binds}
 use Rattle.algorithm_parts.proofs.BesideSimple.{beside_named, beside_words}
+use Rattle.algorithm_parts.specs.ReadAround.{with_label}
+use Rattle.algorithm_parts.proofs.BesideAround.{with_label_opens, sits_last, sits_less, binds_sit}
 use Rattle.p_syntax.proofs.Closing.{tests_deep}
-use Rattle.p_syntax.specs.ReadStatements.{Before, none, after, Tests, if_test, elsif_test, Arms, first_arm, later_arm, Frame, in_then, in_else, in_either, in_with, in_while, Stack, bottom, inside, after_tests, inside_frame, depth, State, begin, ended, Turn, on, done, with_before, with_label, closed_if, closed_either}
+use Rattle.p_syntax.specs.ReadStatements.{Before, none, after, Tests, if_test, elsif_test, Arms, first_arm, later_arm, Frame, in_then, in_else, in_either, in_with, in_while, Stack, bottom, inside, after_tests, inside_frame, depth, State, begin, ended, Turn, on, done, with_before, closed_if, closed_either}
 use Rattle.p_syntax.specs.ReadStatements.{opens, ends_simple, after_name, statement_words, statement_by, takes_else, takes_elsif, takes_or, ends, takes_end, closing_words, another_by, ended_by, step, turned, run, read_sequence}
 
 -- ---- the forms that were open at the tokens that were passed
@@ -58,14 +58,6 @@ pub with_before_opens : (d : ℕ) (b : Before) (ss : Sequence) → p_sequence d 
 with_before_opens d none ss = refl
 with_before_opens d (after b ls a p) ss = with_before_opens d b (more_statements ls a p ss) ∙ simp append_assoc refl
 
-pub with_label_opens : (d : ℕ) (ls : Labels) (y : Name) (c : Colon) → plain d (labels (with_label ls y c)) ≡ plain d (labels ls) ++ here d ++ plain d (colon_tokens c)
-with_label_opens d no_labels y (colon p) = refl
-with_label_opens d no_labels y (colon_plus p q) = refl
-with_label_opens d no_labels y (colon_minus p q) = refl
-with_label_opens d (label z (colon p) ls) y c = rw (with_label_opens d ls y c) refl
-with_label_opens d (label z (colon_plus p q) ls) y c = rw (with_label_opens d ls y c) refl
-with_label_opens d (label z (colon_minus p q) ls) y c = rw (with_label_opens d ls y c) refl
-
 pub closed_if_opens : (d : ℕ) (t : Tests) (a : Sequence) (b : Else) (r s : Place) → p_statement d (closed_if t a b r s) ≡ tests_open d t ++ p_sequence (after_tests d t) a ++ p_else (after_tests d t) b ++ here (d + 1) ++ here (d + 1)
 closed_if_opens d (if_test p e q) a b r s = refl
 closed_if_opens d (elsif_test t c p e q) a b r s = closed_if_opens d t c (else_if p e q a b) r s ∙ simp append_assoc refl
@@ -75,9 +67,6 @@ closed_either_opens d (first_arm p) a bs r s = refl
 closed_either_opens d (later_arm t c p) a bs r s = closed_either_opens d t c (more_branches p a bs) r s ∙ simp append_assoc refl
 
 -- ---- as many forms may be open as are
-sits_last : (d : ℕ) (x y : List Open) → Sits d (x ++ (y ++ here d))
-sits_last d x y = subst (λ (z : List Open). Sits d z) (append_assoc x y (here d)) (sits_here d (x ++ y))
-
 tests_sit : (d : ℕ) (x : List Open) (t : Tests) → Sits (after_tests d t) (x ++ tests_open d t)
 tests_sit d x (if_test p e q) = sits_last (d + 1) x (here (d + 1) ++ expression_opens (d + 1) e)
 tests_sit d x (elsif_test t a p e q) = sits_last (after_tests d t + 1) x (tests_open d t ++ p_sequence (after_tests d t) a ++ here (after_tests d t + 1) ++ expression_opens (after_tests d t + 1) e)
@@ -95,20 +84,6 @@ stack_sits x bottom = sits
 stack_sits x (inside f b ls st) =
     (let y = stack_opens st ++ before_opens (depth st) b ++ plain (depth st) (labels ls) in
     subst (λ (z : List Open). Sits (inside_frame (depth st) f) z) (append_assoc x y (frame_opens (depth st) f)) (frame_sits (depth st) (x ++ y) f))
-
-pub sits_less : {n : ℕ} {x : List Open} (d : ℕ) → d ≤ n → Sits n x → Sits d x
-sits_less {n} {x} d l s = record { is = λ f. (let h = leb-true n deepest_statement (s.is f) in le-leb d deepest_statement (omega (arith, l, h))) }
-
--- after a list of binds
-pub binds_sit : (d : ℕ) (x : List Open) (bs : Binds) → Sits (after_binds d bs) (x ++ binds_open d bs)
-binds_sit d x (last_bind y b p a s) = moved (sits_on (here (d + 1) ++ expression_opens (d + 1) a ++ plain (d + 1) (maybe_separator s)) (sits_here (d + 1) x))
-  where
-    moved : Sits (d + 1) (x ++ here (d + 1) ++ (here (d + 1) ++ expression_opens (d + 1) a ++ plain (d + 1) (maybe_separator s))) → Sits (d + 1) (x ++ binds_open d (last_bind y b p a s))
-    moved = subst (λ (z : List Open). Sits (d + 1) z) (simp append_assoc refl)
-binds_sit d x (bind y b p a s bs) = moved (binds_sit (d + 1) (x ++ (here (d + 1) ++ here (d + 1) ++ expression_opens (d + 1) a ++ here (d + 1))) bs)
-  where
-    moved : Sits (after_binds (d + 1) bs) (x ++ (here (d + 1) ++ here (d + 1) ++ expression_opens (d + 1) a ++ here (d + 1)) ++ binds_open (d + 1) bs) → Sits (after_binds (d + 1) bs) (x ++ binds_open d (bind y b p a s bs))
-    moved = subst (λ (z : List Open). Sits (after_binds (d + 1) bs) z) (simp append_assoc refl)
 
 -- ---- a statement comes
 module _ (e : ℕ) (x : List Open) where

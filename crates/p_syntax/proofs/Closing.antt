@@ -3,9 +3,9 @@ use Rattle.std.proofs.Common.{◌≡◌, ℕ, zero, suc, ◌+◌, ◌*◌, ◌�
 use Rattle.tla_token.specs.declared.place.Place.{Place}
 use Rattle.tla_token.specs.Places.{nowhere}
 use Rattle.tla_tree.specs.Lexical.{Token}
-use Rattle.pcal_tree.specs.GrammarParts.{Labels, no_labels, Binds, last_bind, bind, skip, key}
+use Rattle.pcal_tree.specs.GrammarParts.{Labels, no_labels, skip, key}
 use Rattle.pcal_tree.specs.GrammarP.{Statement, simple, with, while, no_else, else_then, last_branch, Sequence, last_statement}
-use Rattle.pcal_tree.specs.OpenForms.{after_binds}
+use Rattle.algorithm_parts.proofs.BesideAround.{binds_deep}
 use Rattle.algorithm_parts.specs.TokenReaders.{Parts}
 use Rattle.p_syntax.specs.ReadStatements.{Before, Tests, if_test, elsif_test, first_arm, later_arm, in_then, in_else, in_either, in_with, in_while, Stack, bottom, inside, after_tests, depth, State, begin, ended, with_before, closed_if, closed_either, run, closing, rest, open_in}
 
@@ -36,10 +36,6 @@ closed_by_rest m (suc n) (ended b ls a o st) p ts l = closed_after m p ts st (su
 pub tests_deep : (d : ℕ) (t : Tests) → d + 1 ≤ after_tests d t
 tests_deep d (if_test p e q) = omega arith
 tests_deep d (elsif_test t a p e q) = (let h = tests_deep d t in omega (arith, h))
-
-binds_deep : (d : ℕ) (bs : Binds) → d + 1 ≤ after_binds d bs
-binds_deep d (last_bind x b p e s) = omega arith
-binds_deep d (bind x b p e s bs) = (let h = binds_deep (d + 1) bs in omega (arith, h))
 
 few_closing : (st : Stack) → length (closing st) ≤ 4 * depth st
 few_closing bottom = omega arith

@@ -14,8 +14,8 @@ pub mod BesideStatements
 pub mod BesideAlgorithm
 pub mod WithinStatements
 pub mod WithinAlgorithm
-pub mod SameOpens
 pub mod Closing
 pub mod Stops
 pub mod StopsWithin
-pub mod ReadOrRefused
+pub mod ClosingAll
+pub mod ResumedText

@@ -1,30 +1,30 @@
 -- What stands before a refused token can be gone on with: algorithms.
-use Rattle.std.proofs.Common.{◌≡◌, ℕ, zero, suc, ◌*◌, true, false, List, [], ◌∷◌, ◌++◌, length, None, Err, refl, sym, ap, ◌∙◌, codes}
+use Rattle.std.proofs.Common.{◌≡◌, ℕ, suc, ◌*◌, true, false, List, [], ◌++◌, length, None, Err, refl, sym, ap, ◌∙◌, codes}
 use Rattle.std.proofs.lemmas.List.{append-nil, append_cancel_right}
-use Rattle.std.specs.List.{AllByRecursion}
 use Rattle.tla_token.specs.declared.place.Place.{Place}
 use Rattle.tla_token.specs.declared.rule.Rule.{Rule}
 use Rattle.tla_token.specs.declared.rule.Rule.TheVariants.{Syntax}
 use Rattle.tla_token.specs.Places.{nowhere}
-use Rattle.tla_tree.specs.declared.op.Op.TheVariants as op
 use Rattle.tla_tree.specs.Tree.{Word}
 use Rattle.tla_tree.specs.Lexical.{TokenView, Token}
-use Rattle.tla_tree.specs.Lexical as tk
-use Rattle.tla_tree.specs.Reader.{Stop, Reader, ◌>>=◌, gives, refuses, readers}
+use Rattle.tla_tree.specs.Reader.{Stop, readers}
 use Rattle.tla_tree.proofs.SpellAhead.{Ahead, held, put_ahead, then_ahead, ahead}
-use Rattle.tla_tree.proofs.Mended.{gives_err, left_is}
-use Rattle.pcal_tree.specs.GrammarParts.{word, key, name, no_section, no_labels, skip, section_tokens}
+use Rattle.pcal_tree.specs.GrammarParts.{key, name, no_section, no_labels, skip, section_tokens}
 use Rattle.pcal_tree.specs.GrammarP.{simple, Sequence, last_statement}
-use Rattle.pcal_tree.specs.Grammar.{p_syntax, Body, begin_end, braces, body, GoodBody, Macro, macro, GoodMacro, Procedure, procedure, GoodProcedure, Fair, unfair, weak, strong, fair, Identity, bare, bracketed, identity, GoodIdentity, Process, process, GoodProcess, Head, algorithm, fair_algorithm, head, Define, no_define, define_end, define_braces, define, GoodDefine, Main, begin, block, processes, each, main, GoodMain, to_end, in_braces, around, Text, Good}
-use Rattle.pcal_tree.specs.Grammar as gr
-use Rattle.algorithm_parts.specs.TokenReaders.{Parts, parts_of, by_next, a_key, pick}
-use Rattle.algorithm_parts.proofs.Sound.{Sound, here, Any, pick_is, sound_next, sound_stays, sound_pick, sound_refuses}
-use Rattle.algorithm_parts.proofs.Aheads.{ahead_semicolon, ahead_section, ahead_macro, ahead_procedure, ahead_definitions}
-use Rattle.algorithm_parts.proofs.Mends.{Mend, missing, rule_is, Fill, Mends, MendsAt, IsPart, AllMend, filled, mends_gives, mends_refuses, mends_after, mends_bind, mends_then, mends_next, mends_stays, mends_past, mends_pick, part_key, part_name}
-use Rattle.algorithm_parts.proofs.MendParts.{MendsParts, parts_mend, some_name, some_phrase, some_good, part_semicolon, part_section, part_macro_parameters, part_procedure_parameters, part_definitions, part_bind}
-use Rattle.p_syntax.specs.ReadAlgorithm.{read_body, read_macro, read_procedure, read_identity, read_process, fair_by, process_words, more_of, macro_words, macros_by, read_macros, procedure_words, procedures_by, read_procedures, all_more, processes_by, read_processes, head_words, head_by, read_head, define_words, define_by, read_define, main_processes, main_words, main_by, read_main, read_text, to_last, read_algorithm}
-use Rattle.p_syntax.proofs.SoundAlgorithm.{by_fair_sound, head_sound, body_sound, macro_sound, procedure_sound, identity_sound, processes_words, macros_sound, procedures_sound, processes_sound, by_define_sound, by_main_sound, text_sound}
+use Rattle.pcal_tree.specs.Grammar.{p_syntax, Body, begin_end, braces, body, GoodBody, macro, GoodMacro, procedure, GoodProcedure, unfair, fair, Identity, bare, bracketed, identity, GoodIdentity, Process, process, GoodProcess, head, Define, no_define, define_end, define_braces, define, GoodDefine, Main, begin, block, processes, each, main, GoodMain, to_end, in_braces, around, Text, Good}
+use Rattle.algorithm_parts.specs.TokenReaders.{Parts, parts_of}
+use Rattle.algorithm_parts.proofs.Sound.{here, sound_next}
+use Rattle.algorithm_parts.proofs.Aheads.{ahead_semicolon, ahead_section, ahead_definitions}
+use Rattle.algorithm_parts.proofs.Mends.{Mend, Fill, Mends, MendsAt, IsPart, mends_gives, mends_refuses, mends_bind, mends_next, mends_stays, mends_past, mends_pick, part_key, part_name}
+use Rattle.algorithm_parts.proofs.MendParts.{MendsParts, parts_mend, some_name, some_phrase, some_good, part_semicolon, part_section, part_definitions, part_bind}
+use Rattle.algorithm_parts.proofs.MendAround.{ahead_head, ahead_each, part_head, last_mends}
+use Rattle.algorithm_parts.specs.ReadRoutines.{main_processes}
+use Rattle.algorithm_parts.proofs.MendRoutines.{AheadWays, MendWays, ahead_macro_whole, ahead_procedure_whole, ahead_process, part_macros, part_procedures, part_define, main_processes_mend}
+use Rattle.p_syntax.specs.ReadAlgorithm.{read_body, read_identity, define_from, ways, main_words, main_by, read_main, read_text, read_algorithm}
+use Rattle.p_syntax.proofs.SoundAlgorithm.{body_sound, identity_sound, ways_sound, by_main_sound, text_sound}
 use Rattle.p_syntax.proofs.MendStatements.{ahead_sequence, part_sequence}
+use Rattle.tla_tree.specs.Lexical as tk
+use Rattle.pcal_tree.specs.Grammar as gr
 
 -- ---- tokens before those that come
 pub ahead_body : (w : Word) (b : Body) → GoodBody p_syntax b → Ahead (body w b)
@@ -35,45 +35,26 @@ pub ahead_identity : (x : Identity) → GoodIdentity p_syntax x → Ahead (ident
 ahead_identity (bare x b p e) i = put_ahead (put_ahead (ahead e))
 ahead_identity (bracketed q x b p e r) i = absurd i
 
-pub ahead_fair : (f : Fair) → Ahead (fair f)
-ahead_fair unfair = held
-ahead_fair (weak p) = put_ahead held
-ahead_fair (strong p q) = put_ahead (put_ahead held)
-
-pub ahead_macro_whole : (x : Macro) → GoodMacro p_syntax x → Ahead (macro x)
-ahead_macro_whole x i = put_ahead (put_ahead (then_ahead (ahead_macro x.parameters) (ahead_body (codes "macro") x.body i)))
-
-pub ahead_procedure_whole : (x : Procedure) → GoodProcedure p_syntax x → Ahead (procedure x)
-ahead_procedure_whole x i = put_ahead (put_ahead (then_ahead (ahead_procedure x.parameters) (then_ahead (ahead_section x.variables) (ahead_body (codes "procedure") x.body i.2))))
-
-pub ahead_process : (x : Process) → GoodProcess p_syntax x → Ahead (process x)
-ahead_process x i = then_ahead (ahead_fair x.fair) (put_ahead (then_ahead (ahead_identity x.identity i.0) (then_ahead (ahead_section x.variables) (ahead_body (codes "process") x.body i.2))))
-
-pub ahead_each : {A : Type 0} (f : A → List Token → List Token) (Q : A → Type 0) → ((x : A) → Q x → Ahead (f x)) → (xs : List A) → AllByRecursion Q xs → Ahead (each f xs)
-ahead_each f Q h [] i = held
-ahead_each f Q h (x ∷ xs) i = then_ahead (h x i.0) (ahead_each f Q h xs i.1)
-
 pub ahead_define : (d : Define) → GoodDefine p_syntax d → Ahead (define d)
 ahead_define no_define i = held
 ahead_define (define_end a ds b d s) i = put_ahead (then_ahead (ahead_definitions ds) (put_ahead (put_ahead (ahead_semicolon s))))
 ahead_define (define_braces a b ds d s) i = absurd i
 
+pub heads : AheadWays p_syntax
+heads = record { body = ahead_body; identity = ahead_identity; define = ahead_define }
+
 pub ahead_main : (x : Main) → GoodMain p_syntax x → Ahead (main x)
 ahead_main (begin a ss) i = put_ahead (ahead_sequence ss)
 ahead_main (block a ss b s) i = absurd i
-ahead_main (processes x xs) i = then_ahead (ahead_process x i.0) (ahead_each process (GoodProcess p_syntax) ahead_process xs i.1)
-
-pub ahead_head : (x : Head) → Ahead (head x)
-ahead_head (algorithm p) = put_ahead held
-ahead_head (fair_algorithm p q) = put_ahead (put_ahead held)
+ahead_main (processes x xs) i = then_ahead (ahead_process p_syntax heads x i.0) (ahead_each process (GoodProcess p_syntax) (ahead_process p_syntax heads) xs i.1)
 
 pub ahead_text : (x : Text) → Good p_syntax x → Ahead (gr.spell x)
 ahead_text x i = by x.around i.0
   where
     by : (c : gr.Around) → gr.GoodAround p_syntax c → Ahead (λ ts. head x.head (name x.name (around c (λ us. section_tokens x.variables (define x.define (each macro x.macros (each procedure x.procedures (main x.main us))))) ts)))
     by (to_end p q) j =
-        then_ahead (ahead_head x.head) (put_ahead (then_ahead (ahead_section x.variables) (then_ahead (ahead_define x.define i.2) (then_ahead (ahead_each macro (GoodMacro p_syntax) ahead_macro_whole x.macros i.3)
-        (then_ahead (ahead_each procedure (GoodProcedure p_syntax) ahead_procedure_whole x.procedures i.4) (then_ahead (ahead_main x.main i.5) (put_ahead (put_ahead held))))))))
+        then_ahead (ahead_head x.head) (put_ahead (then_ahead (ahead_section x.variables) (then_ahead (ahead_define x.define i.2) (then_ahead (ahead_each macro (GoodMacro p_syntax) (ahead_macro_whole p_syntax heads) x.macros i.3)
+        (then_ahead (ahead_each procedure (GoodProcedure p_syntax) (ahead_procedure_whole p_syntax heads) x.procedures i.4) (then_ahead (ahead_main x.main i.5) (put_ahead (put_ahead held))))))))
     by (in_braces p q) j = absurd j
 
 -- ---- some list, process and body
@@ -83,34 +64,10 @@ some_list = last_statement no_labels (simple (skip nowhere)) None
 abbrev pub a_process : Process
 a_process = record { fair = unfair; place = nowhere; identity = bare some_name false nowhere some_phrase; variables = no_section; body = begin_end nowhere some_list nowhere nowhere None }
 
-some_process : Fill here (GoodProcess p_syntax) process
-some_process = record { whole = a_process; good = (some_good, tt, tt); fix = process a_process []; tokens = λ v. refl }
-
 some_main : Fill here (GoodMain p_syntax) main
 some_main = record { whole = begin nowhere some_list; good = tt; fix = main (begin nowhere some_list) []; tokens = λ v. refl }
 
 -- ---- lists
-more_mends : {A : Type 0} {Q : A → Type 0} {put : A → List Token → List Token} {y : List Token → List Token} {r : Reader A} {rs : Reader (List A)} → Sound y Q put r → ((a : A) → Q a → Ahead (put a)) → Mends y Q put r → IsPart (AllByRecursion Q) (each put) rs
-    → Mends y (AllByRecursion Q) (each put) (more_of r rs)
-more_mends s a h i = mends_after (λ ts. ts) held s a h (λ x g hx. mends_bind hx i (λ xs k hy. mends_gives (x ∷ xs) (g, k) (λ ts. refl)))
-
-by_fair_mends : (p : Place) (q : Place) (k : TokenView) → MendsAt q k (λ ts. key p (codes "fair") ts) Any fair (fair_by p q k)
-by_fair_mends p q (tk.sign op.Plus) = mends_past refl (mends_gives (strong p q) tt (λ ts. refl))
-by_fair_mends p q k = mends_stays (mends_gives (weak p) tt (λ ts. refl))
-
-some_head : Fill here Any head
-some_head = record { whole = algorithm nowhere; good = tt; fix = word nowhere (codes "--algorithm") []; tokens = λ v. refl }
-
-by_head_mends : (p : Place) (k : TokenView) → MendsAt p k here Any head (head_by p k)
-by_head_mends p (tk.word w) =
-    pick_is (λ v r. MendsAt p (tk.word v) here Any head r) w (head_words p) refuses
-    (mends_past refl (mends_gives (algorithm p) tt (λ ts. refl)), (mends_past refl (mends_bind (put_ahead held) (part_key (codes "algorithm")) (λ q u h. mends_gives (fair_algorithm p q) tt (λ ts. refl))), tt))
-    (mends_stays (mends_refuses held some_head))
-by_head_mends p k = mends_stays (mends_refuses held some_head)
-
-part_head : IsPart Any head read_head
-part_head = record { sound = head_sound; ahead = λ a u. ahead_head a; mends = mends_next some_head by_head_mends }
-
 module _ (m : Parts) (h : MendsParts m) where
   part_body : (n : ℕ) (w : Word) → IsPart (GoodBody p_syntax) (body w) (read_body m n w)
   part_body n w = record {
@@ -120,15 +77,6 @@ module _ (m : Parts) (h : MendsParts m) where
         mends_gives (begin_end a ss b d s) g (λ ts. refl))))));
   }
 
-  macro_mends : (n : ℕ) (p : Place) → Mends (λ ts. key p (codes "macro") ts) (GoodMacro p_syntax) macro (read_macro m n p)
-  macro_mends n p =
-      mends_bind (put_ahead held) part_name (λ x u hx. mends_bind hx (part_macro_parameters n) (λ ps v hp. mends_bind hp (part_body n (codes "macro")) (λ b g hb. mends_gives (record { place = p; name = x; parameters = ps; body = b }) g (λ ts. refl))))
-
-  procedure_mends : (n : ℕ) (p : Place) → Mends (λ ts. key p (codes "procedure") ts) (GoodProcedure p_syntax) procedure (read_procedure m n p)
-  procedure_mends n p =
-      mends_bind (put_ahead held) part_name (λ x u hx. mends_bind hx (part_procedure_parameters m h n) (λ ps i hp. mends_bind hp (part_section m h false n) (λ vs j hv. mends_bind hv (part_body n (codes "procedure")) (λ b g hb.
-      mends_gives (record { place = p; name = x; parameters = ps; variables = vs; body = b }) (i, j, g) (λ ts. refl)))))
-
   part_identity : IsPart (GoodIdentity p_syntax) identity (read_identity m)
   part_identity = record {
     sound = identity_sound m h.sound;
@@ -136,74 +84,23 @@ module _ (m : Parts) (h : MendsParts m) where
     mends = mends_bind held part_name (λ x u hx. mends_bind hx part_bind (λ b v hb. mends_bind hb h.expr (λ e g he. mends_gives (bare x b.0 b.1 e) g (λ ts. refl))));
   }
 
-  process_mends : (n : ℕ) (f : Fair) (p : Place) → Mends (λ ts. fair f (key p (codes "process") ts)) (GoodProcess p_syntax) process (read_process m n f p)
-  process_mends n f p =
-      mends_bind (then_ahead (ahead_fair f) (put_ahead held)) part_identity (λ x i hx. mends_bind hx (part_section m h true n) (λ vs j hv. mends_bind hv (part_body n (codes "process")) (λ b g hb.
-      mends_gives (record { fair = f; place = p; identity = x; variables = vs; body = b }) (i, j, g) (λ ts. refl))))
+  define_mends : (n : ℕ) (p : Place) → Mends (λ ts. key p (codes "define") ts) (GoodDefine p_syntax) define (define_from m n p)
+  define_mends n p =
+      mends_bind (put_ahead held) (part_definitions m h n) (λ ds g hd. mends_bind hd (part_key (codes "end")) (λ b u hb. mends_bind hb (part_key (codes "define")) (λ d v he. mends_bind he part_semicolon (λ s x hs.
+      mends_gives (define_end p ds b d s) g (λ ts. refl)))))
 
-  fair_mends : (n : ℕ) (p : Place) → Mends (λ ts. key p (codes "fair") ts) (GoodProcess p_syntax) process (by_next (fair_by p) >>= λ f. a_key (codes "process") >>= λ q. read_process m n f q)
-  fair_mends n p =
-      mends_after (λ ts. ts) held (sound_next (by_fair_sound p)) (λ f u. ahead_fair f) (mends_next (filled (weak p) tt (λ ts. refl)) (by_fair_mends p)) (λ f u hf. mends_bind hf (part_key (codes "process")) (λ q v hq. process_mends n f q))
-
-  part_macros : (n : ℕ) → IsPart (AllByRecursion (GoodMacro p_syntax)) (each macro) (read_macros m n)
-  part_macros zero = record { sound = macros_sound m h.sound zero; ahead = ahead_each macro (GoodMacro p_syntax) ahead_macro_whole; mends = mends_refuses held (filled [] tt (λ ts. refl)) }
-  part_macros (suc n) = record { sound = macros_sound m h.sound (suc n); ahead = ahead_each macro (GoodMacro p_syntax) ahead_macro_whole; mends = mends_next (filled [] tt (λ ts. refl)) (by n (part_macros n)) }
-    where
-      by : (n : ℕ) → IsPart (AllByRecursion (GoodMacro p_syntax)) (each macro) (read_macros m n) → (p : Place) (k : TokenView) → MendsAt p k here (AllByRecursion (GoodMacro p_syntax)) (each macro) (macros_by m n (read_macros m n) p k)
-      by n i p (tk.reserved w) = mends_pick w (macro_words m n (read_macros m n) p) (gives []) (mends_past refl (more_mends (macro_sound m h.sound n p) ahead_macro_whole (macro_mends n p) i), tt) (mends_stays (mends_gives [] tt (λ ts. refl)))
-      by n i p k = mends_stays (mends_gives [] tt (λ ts. refl))
-
-  part_procedures : (n : ℕ) → IsPart (AllByRecursion (GoodProcedure p_syntax)) (each procedure) (read_procedures m n)
-  part_procedures zero = record { sound = procedures_sound m h.sound zero; ahead = ahead_each procedure (GoodProcedure p_syntax) ahead_procedure_whole; mends = mends_refuses held (filled [] tt (λ ts. refl)) }
-  part_procedures (suc n) = record { sound = procedures_sound m h.sound (suc n); ahead = ahead_each procedure (GoodProcedure p_syntax) ahead_procedure_whole; mends = mends_next (filled [] tt (λ ts. refl)) (by n (part_procedures n)) }
-    where
-      by : (n : ℕ) → IsPart (AllByRecursion (GoodProcedure p_syntax)) (each procedure) (read_procedures m n) → (p : Place) (k : TokenView) → MendsAt p k here (AllByRecursion (GoodProcedure p_syntax)) (each procedure) (procedures_by m n (read_procedures m n) p k)
-      by n i p (tk.reserved w) =
-          mends_pick w (procedure_words m n (read_procedures m n) p) (gives []) (mends_past refl (more_mends (procedure_sound m h.sound n p) ahead_procedure_whole (procedure_mends n p) i), tt) (mends_stays (mends_gives [] tt (λ ts. refl)))
-      by n i p k = mends_stays (mends_gives [] tt (λ ts. refl))
-
-  words_mend : (n : ℕ) (p : Place) → AllMend p here (GoodProcess p_syntax) process (process_words m n p)
-  words_mend n p = (mends_past refl (process_mends n unfair p), (mends_past refl (fair_mends n p), tt))
-
-  part_processes : (n : ℕ) → IsPart (AllByRecursion (GoodProcess p_syntax)) (each process) (read_processes m n)
-  part_processes zero = record { sound = processes_sound m h.sound zero; ahead = ahead_each process (GoodProcess p_syntax) ahead_process; mends = mends_refuses held (filled [] tt (λ ts. refl)) }
-  part_processes (suc n) = record { sound = processes_sound m h.sound (suc n); ahead = ahead_each process (GoodProcess p_syntax) ahead_process; mends = mends_next (filled [] tt (λ ts. refl)) (by n (part_processes n)) }
-    where
-      by : (n : ℕ) → IsPart (AllByRecursion (GoodProcess p_syntax)) (each process) (read_processes m n) → (p : Place) (k : TokenView) → MendsAt p k here (AllByRecursion (GoodProcess p_syntax)) (each process) (processes_by m n (read_processes m n) p k)
-      by n i p (tk.reserved w) =
-          (let s = processes_words m h.sound n p in
-          let t = words_mend n p in
-          mends_pick w (all_more (read_processes m n) (process_words m n p)) (gives []) (
-            mends_then (λ ts. ts) held s.0 ahead_process t.0 (λ x g hx. mends_bind hx i (λ xs k hy. mends_gives (x ∷ xs) (g, k) (λ ts. refl))),
-            (mends_then (λ ts. ts) held s.1.0 ahead_process t.1.0 (λ x g hx. mends_bind hx i (λ xs k hy. mends_gives (x ∷ xs) (g, k) (λ ts. refl))), tt),
-          )
-          (mends_stays (mends_gives [] tt (λ ts. refl))))
-      by n i p k = mends_stays (mends_gives [] tt (λ ts. refl))
+  ways_mend : MendWays p_syntax (ways m)
+  ways_mend = record { sound = ways_sound m h.sound; heads = heads; process = a_process; good = (some_good, tt, tt); body = part_body; identity = part_identity; define = define_mends }
 
   -- ---- the whole
-  part_define : (n : ℕ) → IsPart (GoodDefine p_syntax) define (read_define m n)
-  part_define n = record { sound = sound_next (by_define_sound m h.sound n); ahead = ahead_define; mends = mends_next (filled no_define tt (λ ts. refl)) by }
-    where
-      by : (p : Place) (k : TokenView) → MendsAt p k here (GoodDefine p_syntax) define (define_by m n p k)
-      by p (tk.reserved w) =
-          mends_pick w (define_words m n p) (gives no_define) (
-            mends_past refl (mends_bind (put_ahead held) (part_definitions m h n) (λ ds g hd. mends_bind hd (part_key (codes "end")) (λ b u hb. mends_bind hb (part_key (codes "define")) (λ d v he. mends_bind he part_semicolon (λ s x hs.
-                mends_gives (define_end p ds b d s) g (λ ts. refl)))))),
-            tt,
-          )
-          (mends_stays (mends_gives no_define tt (λ ts. refl)))
-      by p k = mends_stays (mends_gives no_define tt (λ ts. refl))
-
   part_main : (n : ℕ) → IsPart (GoodMain p_syntax) main (read_main m n)
   part_main n = record { sound = sound_next (by_main_sound m h.sound n); ahead = ahead_main; mends = mends_next some_main by }
     where
       by : (p : Place) (k : TokenView) → MendsAt p k here (GoodMain p_syntax) main (main_by m n p k)
       by p (tk.reserved w) =
-          mends_pick w (main_words m n p) (main_processes m n (pick w (process_words m n p) refuses))
+          mends_pick w (main_words m n p) (main_processes m (ways m) n p w)
           (mends_past refl (mends_bind (put_ahead held) (part_sequence m h n) (λ ss g hs. mends_gives (begin p ss) g (λ ts. refl))), tt)
-          (mends_then (λ ts. ts) held (sound_pick w (process_words m n p) refuses (processes_words m h.sound n p) (sound_stays sound_refuses)) ahead_process
-          (mends_pick w (process_words m n p) refuses (words_mend n p) (mends_stays (mends_refuses held some_process)))
-          (λ x g hx. mends_bind hx (part_processes n) (λ xs i hy. mends_gives (processes x xs) (g, i) (λ ts. refl))))
+          (main_processes_mend p_syntax m h (ways m) ways_mend n p w (λ x xs g i. (g, i)))
       by p k = mends_stays (mends_refuses held some_main)
 
   part_text : (n : ℕ) → IsPart (Good p_syntax) gr.spell (read_text m n)
@@ -211,24 +108,16 @@ module _ (m : Parts) (h : MendsParts m) where
     sound = text_sound m h.sound n;
     ahead = ahead_text;
     mends =
-        mends_bind held part_head (λ a u h1. mends_bind h1 part_name (λ x v h2. mends_bind h2 (part_section m h true n) (λ vs gv h3. mends_bind h3 (part_define n) (λ d gd h4. mends_bind h4 (part_macros n) (λ ms gm h5.
-        mends_bind h5 (part_procedures n) (λ ps gp h6. mends_bind h6 (part_main n) (λ b gb h7. mends_bind h7 (part_key (codes "end")) (λ e w h8. mends_bind h8 (part_key (codes "algorithm")) (λ f y h9.
+        mends_bind held part_head (λ a u h1. mends_bind h1 part_name (λ x v h2. mends_bind h2 (part_section m h true n) (λ vs gv h3. mends_bind h3 (part_define p_syntax m h (ways m) ways_mend n) (λ d gd h4. mends_bind h4 (part_macros p_syntax m h (ways m) ways_mend n) (λ ms gm h5.
+        mends_bind h5 (part_procedures p_syntax m h (ways m) ways_mend n) (λ ps gp h6. mends_bind h6 (part_main n) (λ b gb h7. mends_bind h7 (part_key (codes "end")) (λ e w h8. mends_bind h8 (part_key (codes "algorithm")) (λ f y h9.
         mends_gives (record { head = a; name = x; around = to_end e f; variables = vs; define = d; macros = ms; procedures = ps; main = b }) (tt, gv, gd, gm, gp, gb) (λ ts. refl))))))))));
   }
-
--- past the last token
-last_mends : (x : Text) → Good p_syntax x → Ahead (gr.spell x) → Mends (gr.spell x) (Good p_syntax) gr.spell (to_last x)
-last_mends x g hx = record { fill = filled x g (λ ts. refl); is = at_end }
-  where
-    at_end : (ts : List Token) (u : Stop) → to_last x ts ≡ Err u → Mend (Good p_syntax) gr.spell (gr.spell x ts) u
-    at_end [] u e = gives_err x [] u e
-    at_end (t ∷ ts) u e = missing (λ v. gr.spell x v) hx [] x g (rule_is {A = Text} {ts = t ∷ ts} {u = u} e) (λ v. refl) (ap (λ (v : List Token). gr.spell x v) (left_is {A = Text} {ts = t ∷ ts} {u = u} e))
 
 -- what was passed, and what completes it
 pub refused_is_mended : (ts : List Token) (u : Stop) → read_algorithm ts ≡ Err u → Mend (Good p_syntax) gr.spell ts u
 refused_is_mended ts u o =
     (let n = 4 * length ts in
-    let all = mends_bind held (part_text (parts_of (readers n None)) (parts_mend n) (suc (length ts))) (λ x g hx. last_mends x g hx) in
+    let all = mends_bind held (part_text (parts_of (readers n None)) (parts_mend n) (suc (length ts))) (λ x g hx. last_mends p_syntax x g hx) in
     all.is ts u o)
 
 pub refused_by_syntax : (ts rest : List Token) (q : Rule) → read_algorithm ts ≡ Err (q, rest) → q ≡ Syntax

@@ -7,7 +7,7 @@ use Rattle.tla_tree.specs.Lexical.{TokenView, Token}
 use Rattle.tla_tree.specs.Lexical as tk
 use Rattle.tla_tree.specs.Reader.{Reader, refuses}
 use Rattle.tla_tree.proofs.SpellAhead.{Ahead, held, put_ahead, then_ahead, ahead}
-use Rattle.pcal_tree.specs.GrammarParts.{name, key, mark, Labels, no_labels, label, labels, simple_tokens, GoodSimple}
+use Rattle.pcal_tree.specs.GrammarParts.{name, key, mark, Labels, no_labels, labels}
 use Rattle.pcal_tree.specs.GrammarParts as g
 use Rattle.pcal_tree.specs.GrammarP.{Statement, simple, branch, either, with, while, Else, no_else, else_then, else_if, Branches, last_branch, more_branches, Sequence, last_statement, more_statements}
 use Rattle.pcal_tree.specs.GrammarP.{statement, else_tokens, branches, sequence, GoodStatement, GoodSequence}
@@ -19,9 +19,11 @@ use Rattle.algorithm_parts.proofs.Aheads.{ahead_semicolon, ahead_labels, ahead_b
 use Rattle.algorithm_parts.proofs.Mends.{Fill, Mends, MendsAt, IsPart, AllMend, filled, mends_gives, mends_refuses, mends_after, mends_bind, mends_then, mends_same, mends_next, mends_stays, mends_past, mends_pick, mends_fits, part_key}
 use Rattle.algorithm_parts.proofs.MendParts.{MendsParts, part_colon, part_binds}
 use Rattle.algorithm_parts.proofs.MendSimple.{named_mends, words_mend}
-use Rattle.p_syntax.specs.ReadStatements.{Before, none, after, Tests, if_test, elsif_test, Arms, first_arm, later_arm, Frame, in_then, in_else, in_either, in_with, in_while, Stack, bottom, inside, State, begin, ended, Turn, on, done, with_before, with_label, closed_if, closed_either}
-use Rattle.p_syntax.specs.ReadStatements.{opens, opened, depth, after_tests, ends_simple, after_name, statement_words, statement_by, takes_else, takes_elsif, takes_or, ends, takes_end, closing_words, another_by, ended_by, step, turned, run, read_sequence}
-use Rattle.p_syntax.proofs.SoundStatements.{before, tests, arms, frame, stack, passed, turn, GoodBefore, GoodStack, GoodState, GoodTurn, with_before_tokens, with_before_good, with_label_tokens, closed_if_tokens, closed_if_good, closed_either_tokens, closed_either_good, step_sound, sequence_sound}
+use Rattle.algorithm_parts.specs.ReadAround.{with_label, within}
+use Rattle.algorithm_parts.proofs.WithLabel.{with_label_tokens}
+use Rattle.p_syntax.specs.ReadStatements.{Before, none, after, Tests, if_test, elsif_test, Arms, first_arm, later_arm, Frame, in_then, in_else, in_either, in_with, in_while, Stack, bottom, inside, State, begin, ended, Turn, on, done, with_before, closed_if, closed_either}
+use Rattle.p_syntax.specs.ReadStatements.{opens, depth, after_tests, ends_simple, after_name, statement_words, statement_by, takes_else, takes_elsif, takes_or, ends, takes_end, closing_words, another_by, ended_by, step, turned, run, read_sequence}
+use Rattle.p_syntax.proofs.SoundStatements.{before, tests, arms, frame, stack, passed, turn, GoodBefore, GoodStack, GoodState, GoodTurn, with_before_tokens, with_before_good, closed_if_tokens, closed_if_good, closed_either_tokens, closed_either_good, step_sound, sequence_sound}
 
 -- ---- tokens before those that come
 mutual
@@ -130,7 +132,7 @@ module _ (m : Parts) (h : MendsParts m) where
       mends_stays (mends_after (at b ls st) (ahead_at b ls st) (named_sound m h.sound n x p k) (λ a u. ahead_simple a) (named_mends m h n x p k) (λ s l hs. mends_gives (on (ended b ls (simple s) None st)) (i, l, j) (λ ts. refl)))
 
   -- past a word that opens a form
-  open_step : {p : Place} {w : Word} {x : List Token → List Token} {r : Reader Turn} (d : ℕ) → Mends (λ ts. x (key p w ts)) GoodTurn turn r → StepsAt p (tk.reserved w) x (opened m d r)
+  open_step : {p : Place} {w : Word} {x : List Token → List Token} {r : Reader Turn} (d : ℕ) → Mends (λ ts. x (key p w ts)) GoodTurn turn r → StepsAt p (tk.reserved w) x (within m d r)
   open_step d i = mends_fits (h.room (d + 1)) (mends_past refl i)
 
   words_step : (n : ℕ) (b : Before) (ls : Labels) (st : Stack) → GoodBefore b → GoodStack st → (p : Place) → AllMend p (at b ls st) GoodTurn turn (statement_words m n b ls st p)

@@ -13,6 +13,8 @@ use Rattle.pcal_tree.specs.GrammarParts as part
 use Rattle.pcal_tree.specs.GrammarP.{simple, branch, no_else, last_statement}
 use Rattle.pcal_tree.specs.Grammar.{Text, spell}
 use Rattle.pcal_tree.specs.Grammar as g
+use Rattle.algorithm_parts.specs.Owners.{in_main}
+use Rattle.p_syntax.specs.Resume.{rest_of_all}
 use Rattle.p_syntax.specs.ReadStatements.{depth, rest, begin, bottom, inside, in_then, in_either, in_with, if_test, elsif_test, first_arm, none}
 use Rattle.p_syntax.specs.ReadAlgorithm.{read_algorithm, read_limited_algorithm}
 
@@ -98,3 +100,8 @@ how_deep = refl
 -- after `either`: skip or skip end either
 closes_either : rest (begin none part.no_labels (inside (in_either (first_arm at)) none part.no_labels bottom)) ≡ no_place (codes "skip") ∷ no_place (codes "or") ∷ no_place (codes "skip") ∷ no_place (codes "end") ∷ no_place (codes "either") ∷ []
 closes_either = refl
+
+-- in the main part: either .. goes on with skip or skip end either, and then the algorithm ends
+closes_all : rest_of_all (in_main [] [] at) (begin none part.no_labels (inside (in_either (first_arm at)) none part.no_labels bottom))
+    ≡ no_place (codes "skip") ∷ no_place (codes "or") ∷ no_place (codes "skip") ∷ no_place (codes "end") ∷ no_place (codes "either") ∷ no_place (codes "end") ∷ no_place (codes "algorithm") ∷ []
+closes_all = refl

@@ -6,7 +6,7 @@ use Rattle.tla_tree.specs.Lexical.{TokenView, Token}
 use Rattle.tla_tree.specs.Lexical as tk
 use Rattle.tla_tree.specs.Spelling.{spell, IsGood}
 use Rattle.tla_tree.specs.Reader.{Reader, refuses}
-use Rattle.pcal_tree.specs.GrammarParts.{name, key, semicolon, maybe_semicolon, Colon, colon_tokens, Labels, no_labels, label, labels, binds, GoodBinds, Simple, simple_tokens, GoodSimple}
+use Rattle.pcal_tree.specs.GrammarParts.{name, key, semicolon, maybe_semicolon, Labels, no_labels, labels, binds, GoodBinds, Simple, simple_tokens, GoodSimple}
 use Rattle.pcal_tree.specs.GrammarP.{Statement, simple, with, while, Else, no_else, else_then, else_if, Branches, last_branch, more_branches, Sequence, last_statement, more_statements}
 use Rattle.pcal_tree.specs.GrammarP.{statement, else_tokens, branches, sequence, GoodStatement, GoodElse, GoodBranches, GoodSequence}
 use Rattle.algorithm_parts.specs.TokenReaders.{Parts, pick}
@@ -14,8 +14,10 @@ use Rattle.algorithm_parts.specs.ReadSimple.{simple_words}
 use Rattle.algorithm_parts.proofs.Sound.{Sound, SoundAt, here, AllSound, sound_gives, sound_refuses, sound_bind, sound_after, sound_next, sound_stays, sound_past, sound_then, sound_same, sound_pick, sound_key, sound_fits}
 use Rattle.algorithm_parts.proofs.SoundParts.{SoundParts, colon_sound, binds_sound}
 use Rattle.algorithm_parts.proofs.SoundSimple.{named_sound, words_sound}
-use Rattle.p_syntax.specs.ReadStatements.{Before, none, after, Tests, if_test, elsif_test, Arms, first_arm, later_arm, Frame, in_then, in_else, in_either, in_with, in_while, Stack, bottom, inside, State, begin, ended, Turn, on, done, with_before, with_label, closed_if, closed_either, depth, after_tests}
-use Rattle.p_syntax.specs.ReadStatements.{opens, opened, ends_simple, after_name, statement_words, statement_by, takes_else, takes_elsif, takes_or, ends, takes_end, closing_words, another_by, ended_by, step, turned, run, read_sequence}
+use Rattle.algorithm_parts.specs.ReadAround.{with_label, within}
+use Rattle.algorithm_parts.proofs.WithLabel.{with_label_tokens}
+use Rattle.p_syntax.specs.ReadStatements.{Before, none, after, Tests, if_test, elsif_test, Arms, first_arm, later_arm, Frame, in_then, in_else, in_either, in_with, in_while, Stack, bottom, inside, State, begin, ended, Turn, on, done, with_before, closed_if, closed_either, depth, after_tests}
+use Rattle.p_syntax.specs.ReadStatements.{opens, ends_simple, after_name, statement_words, statement_by, takes_else, takes_elsif, takes_or, ends, takes_end, closing_words, another_by, ended_by, step, turned, run, read_sequence}
 
 -- ---- the tokens that were passed, before others
 abbrev pub before : Before → List Token → List Token
@@ -90,10 +92,6 @@ pub with_before_good : (b : Before) (ss : Sequence) → GoodBefore b → GoodSeq
 with_before_good none ss g h = h
 with_before_good (after b ls a p) ss g h = with_before_good b (more_statements ls a p ss) g.0 (g.1, h)
 
-pub with_label_tokens : (ls : Labels) (x : Name) (c : Colon) (ts : List Token) → labels (with_label ls x c) ts ≡ labels ls (name x (colon_tokens c ts))
-with_label_tokens no_labels x c ts = refl
-with_label_tokens (label y d ls) x c ts = ap (λ (us : List Token). name y (colon_tokens d us)) (with_label_tokens ls x c ts)
-
 pub closed_if_tokens : (t : Tests) (a : Sequence) (b : Else) (r s : Place) (ts : List Token) → statement (closed_if t a b r s) ts ≡ tests t (sequence a (else_tokens b (key r (codes "end") (key s (codes "if") ts))))
 closed_if_tokens (if_test p e q) a b r s ts = refl
 closed_if_tokens (elsif_test t c p e q) a b r s ts = closed_if_tokens t c (else_if p e q a b) r s ts
@@ -131,7 +129,7 @@ module _ (m : Parts) (h : SoundParts m) where
   named_steps n b ls st g i x p k = sound_stays (simple_ends b ls st g i (named_sound m h n x p k))
 
   -- past a word that opens a form
-  open_step : {p : Place} {w : Word} {x : List Token → List Token} {r : Reader Turn} (d : ℕ) → Steps (λ ts. x (key p w ts)) r → StepsAt p (tk.reserved w) x (opened m d r)
+  open_step : {p : Place} {w : Word} {x : List Token → List Token} {r : Reader Turn} (d : ℕ) → Steps (λ ts. x (key p w ts)) r → StepsAt p (tk.reserved w) x (within m d r)
   open_step d i = sound_fits (m.room (d + 1)) (sound_past refl i)
 
   words_step : (n : ℕ) (b : Before) (ls : Labels) (st : Stack) → GoodBefore b → GoodStack st → (p : Place) → AllSound p (at b ls st) GoodTurn turn (statement_words m n b ls st p)

@@ -9,7 +9,7 @@ use Rattle.tla_tree.specs.Lexical as tk
 use Rattle.tla_tree.specs.Reader.{Reader, refuses}
 use Rattle.tla_tree.specs.FirstStop.{Open}
 use Rattle.tla_tree.proofs.SpellAhead.{Ahead, held, put_ahead, then_ahead}
-use Rattle.pcal_tree.specs.GrammarParts.{name, key, mark, Labels, no_labels, labels, simple_tokens, GoodSimple}
+use Rattle.pcal_tree.specs.GrammarParts.{name, key, mark, Labels, no_labels, labels}
 use Rattle.pcal_tree.specs.GrammarParts as g
 use Rattle.pcal_tree.specs.GrammarP.{Statement, simple, with, while, no_else, else_then, last_branch, Sequence, last_statement, statement, sequence, GoodStatement, GoodSequence}
 use Rattle.pcal_tree.specs.OpenForms.{here, plain, expression_opens, after_binds, p_statement, p_sequence}
@@ -25,13 +25,16 @@ use Rattle.algorithm_parts.proofs.Within.{Filled, Ends, EndsAt, Part, AllEnd, fi
 use Rattle.algorithm_parts.proofs.WithinParts.{limited_sound, expr_part, colon_part, binds_part}
 use Rattle.algorithm_parts.proofs.WithinSimple.{named_ends, words_end}
 use Rattle.tla_tree.proofs.Limited.{told_ok}
-use Rattle.p_syntax.specs.ReadStatements.{Before, none, after, if_test, elsif_test, first_arm, later_arm, in_then, in_else, in_either, in_with, in_while, Stack, bottom, inside, after_tests, depth, State, begin, ended, Turn, on, done, with_before, with_label, closed_if, closed_either}
+use Rattle.algorithm_parts.specs.ReadAround.{with_label}
+use Rattle.algorithm_parts.proofs.WithLabel.{with_label_tokens}
+use Rattle.algorithm_parts.proofs.BesideAround.{with_label_opens, sits_less, binds_sit}
+use Rattle.p_syntax.specs.ReadStatements.{Before, none, after, if_test, elsif_test, first_arm, later_arm, in_then, in_else, in_either, in_with, in_while, Stack, bottom, inside, after_tests, depth, State, begin, ended, Turn, on, done, with_before, closed_if, closed_either}
 use Rattle.p_syntax.specs.ReadStatements.{opens, ends_simple, after_name, statement_words, statement_by, takes_else, takes_elsif, takes_or, ends, takes_end, closing_words, another_by, ended_by, step, turned, run, read_sequence}
-use Rattle.p_syntax.proofs.SoundStatements.{tests, arms, frame, stack, passed, turn, GoodBefore, GoodStack, GoodState, GoodTurn, with_before_tokens, with_before_good, with_label_tokens, closed_if_tokens, closed_if_good, closed_either_tokens, closed_either_good, step_sound, sequence_sound}
+use Rattle.p_syntax.proofs.SoundStatements.{tests, arms, frame, stack, passed, turn, GoodBefore, GoodStack, GoodState, GoodTurn, with_before_tokens, with_before_good, closed_if_tokens, closed_if_good, closed_either_tokens, closed_either_good, step_sound, sequence_sound}
 use Rattle.p_syntax.proofs.SoundStatements as spelled
 use Rattle.p_syntax.proofs.MendStatements.{ahead_stack, ahead_at, ahead_passed, ahead_turn, ahead_sequence}
 use Rattle.p_syntax.proofs.Closing.{tests_deep}
-use Rattle.p_syntax.proofs.BesideStatements.{before_opens, tests_open, arms_open, frame_opens, stack_opens, state_opens, turn_opens, with_before_opens, with_label_opens, closed_if_opens, closed_either_opens, sits_less, binds_sit, at_sits, listed_sits, ended_sits, step_beside, beside_sequence}
+use Rattle.p_syntax.proofs.BesideStatements.{before_opens, tests_open, arms_open, frame_opens, stack_opens, state_opens, turn_opens, with_before_opens, closed_if_opens, closed_either_opens, at_sits, listed_sits, ended_sits, step_beside, beside_sequence}
 
 abbrev at : Before → Labels → Stack → List Token → List Token
 at b ls st ts = stack st (spelled.before b (labels ls ts))

@@ -1,2 +1,3 @@
 pub mod ReadStatements
 pub mod ReadAlgorithm
+pub mod Resume

@@ -1,14 +1,15 @@
 -- Reading an algorithm in P-syntax ("A PlusCal User's Manual, P-Syntax Version", appendix A).
-use Rattle.std.specs.Prelude.{ℕ, zero, suc, ◌*◌, true, false, List, [], ◌∷◌, length, map, None, codes}
+use Rattle.std.specs.Prelude.{ℕ, suc, ◌*◌, true, List, [], ◌∷◌, length, None, codes}
 use Rattle.tla_token.specs.declared.place.Place.{Place}
-use Rattle.tla_tree.specs.declared.op.Op.TheVariants as op
 use Rattle.tla_tree.specs.Tree.{Word}
-use Rattle.tla_tree.specs.Lexical.{TokenView, Token}
+use Rattle.tla_tree.specs.Lexical.{TokenView}
 use Rattle.tla_tree.specs.Lexical as tk
 use Rattle.tla_tree.specs.Reader.{Reader, ◌>>=◌, gives, refuses, skip, readers}
-use Rattle.pcal_tree.specs.Grammar.{Body, begin_end, Macro, Procedure, Fair, unfair, weak, strong, Identity, bare, Process, Head, algorithm, fair_algorithm, Define, no_define, define_end, Main, begin, processes, to_end, Text}
+use Rattle.pcal_tree.specs.Grammar.{Body, begin_end, Identity, bare, Define, define_end, Main, begin, to_end, Text}
 use Rattle.algorithm_parts.specs.TokenReaders.{by_next, past, a_key, a_name, pick, Parts, parts_of, limited_parts}
-use Rattle.algorithm_parts.specs.ReadParts.{read_semicolon, read_section, read_macro_parameters, read_procedure_parameters, read_definitions, bind_by}
+use Rattle.algorithm_parts.specs.ReadParts.{read_semicolon, read_section, read_definitions, bind_by}
+use Rattle.algorithm_parts.specs.ReadAround.{read_head, to_last}
+use Rattle.algorithm_parts.specs.ReadRoutines.{Ways, read_macros, read_procedures, read_define, main_processes}
 use Rattle.p_syntax.specs.ReadStatements.{read_sequence}
 
 -- ---- bodies; the word is after `end`
@@ -16,106 +17,24 @@ abbrev pub read_body : Parts → ℕ → Word → Reader Body
 read_body m n w =
     a_key (codes "begin") >>= λ a. read_sequence m n >>= λ ss. a_key (codes "end") >>= λ b. a_key w >>= λ d. read_semicolon >>= λ s. gives (begin_end a ss b d s)
 
--- ---- macros, procedures, processes: after their words
-abbrev pub read_macro : Parts → ℕ → Place → Reader Macro
-read_macro m n p =
-    a_name >>= λ x. read_macro_parameters n >>= λ ps. read_body m n (codes "macro") >>= λ b. gives (record { place = p; name = x; parameters = ps; body = b })
-
-abbrev pub read_procedure : Parts → ℕ → Place → Reader Procedure
-read_procedure m n p =
-    a_name >>= λ x. read_procedure_parameters m n >>= λ ps. read_section false m n >>= λ vs. read_body m n (codes "procedure") >>= λ b.
-    gives (record { place = p; name = x; parameters = ps; variables = vs; body = b })
-
+-- which process it is, and `define` after its word
 abbrev pub read_identity : Parts → Reader Identity
 read_identity m = a_name >>= λ x. past bind_by >>= λ b. m.expr >>= λ e. gives (bare x b.0 b.1 e)
-
-abbrev pub read_process : Parts → ℕ → Fair → Place → Reader Process
-read_process m n f p =
-    read_identity m >>= λ i. read_section true m n >>= λ vs. read_body m n (codes "process") >>= λ b.
-    gives (record { fair = f; place = p; identity = i; variables = vs; body = b })
-
--- after `fair`
-abbrev pub fair_by : Place → Place → TokenView → Reader Fair
-fair_by p q (tk.sign op.Plus) = skip (gives (strong p q))
-fair_by p q k = gives (weak p)
-
-abbrev pub process_words : Parts → ℕ → Place → List (Word × Reader Process)
-process_words m n p =
-    (codes "process", skip (read_process m n unfair p))
-    ∷ (codes "fair", skip (by_next (fair_by p) >>= λ f. a_key (codes "process") >>= λ q. read_process m n f q))
-    ∷ []
-
--- those that come, to the first word that begins none
-abbrev pub more_of : {A : Type 0} → Reader A → Reader (List A) → Reader (List A)
-more_of r rs = r >>= λ x. rs >>= λ xs. gives (x ∷ xs)
-
-abbrev pub macro_words : Parts → ℕ → Reader (List Macro) → Place → List (Word × Reader (List Macro))
-macro_words m n r p = (codes "macro", skip (more_of (read_macro m n p) r)) ∷ []
-
-abbrev pub macros_by : Parts → ℕ → Reader (List Macro) → Place → TokenView → Reader (List Macro)
-macros_by m n r p (tk.reserved w) = pick w (macro_words m n r p) (gives [])
-macros_by m n r p k = gives []
-
-abbrev pub read_macros : Parts → ℕ → Reader (List Macro)
-read_macros m zero = refuses
-read_macros m (suc n) = by_next (macros_by m n (read_macros m n))
-
-abbrev pub procedure_words : Parts → ℕ → Reader (List Procedure) → Place → List (Word × Reader (List Procedure))
-procedure_words m n r p = (codes "procedure", skip (more_of (read_procedure m n p) r)) ∷ []
-
-abbrev pub procedures_by : Parts → ℕ → Reader (List Procedure) → Place → TokenView → Reader (List Procedure)
-procedures_by m n r p (tk.reserved w) = pick w (procedure_words m n r p) (gives [])
-procedures_by m n r p k = gives []
-
-abbrev pub read_procedures : Parts → ℕ → Reader (List Procedure)
-read_procedures m zero = refuses
-read_procedures m (suc n) = by_next (procedures_by m n (read_procedures m n))
-
-abbrev pub all_more : {A : Type 0} → Reader (List A) → List (Word × Reader A) → List (Word × Reader (List A))
-all_more rs xs = map (λ x. (x.0, more_of x.1 rs)) xs
-
-abbrev pub processes_by : Parts → ℕ → Reader (List Process) → Place → TokenView → Reader (List Process)
-processes_by m n r p (tk.reserved w) = pick w (all_more r (process_words m n p)) (gives [])
-processes_by m n r p k = gives []
-
-abbrev pub read_processes : Parts → ℕ → Reader (List Process)
-read_processes m zero = refuses
-read_processes m (suc n) = by_next (processes_by m n (read_processes m n))
-
--- ---- the whole
-abbrev pub head_words : Place → List (Word × Reader Head)
-head_words p = (codes "--algorithm", skip (gives (algorithm p))) ∷ (codes "--fair", skip (a_key (codes "algorithm") >>= λ q. gives (fair_algorithm p q))) ∷ []
-
-abbrev pub head_by : Place → TokenView → Reader Head
-head_by p (tk.word w) = pick w (head_words p) refuses
-head_by p k = refuses
-
-abbrev pub read_head : Reader Head
-read_head = by_next head_by
 
 abbrev pub define_from : Parts → ℕ → Place → Reader Define
 define_from m n p = read_definitions m n >>= λ ds. a_key (codes "end") >>= λ b. a_key (codes "define") >>= λ d. read_semicolon >>= λ s. gives (define_end p ds b d s)
 
-abbrev pub define_words : Parts → ℕ → Place → List (Word × Reader Define)
-define_words m n p = (codes "define", skip (define_from m n p)) ∷ []
+abbrev pub ways : Parts → Ways
+ways m = record { body = read_body m; identity = read_identity m; define = define_from m }
 
-abbrev pub define_by : Parts → ℕ → Place → TokenView → Reader Define
-define_by m n p (tk.reserved w) = pick w (define_words m n p) (gives no_define)
-define_by m n p k = gives no_define
-
-abbrev pub read_define : Parts → ℕ → Reader Define
-read_define m n = by_next (define_by m n)
-
-abbrev pub main_processes : Parts → ℕ → Reader Process → Reader Main
-main_processes m n r = r >>= λ x. read_processes m n >>= λ xs. gives (processes x xs)
-
+-- ---- the whole
 abbrev pub main_words : Parts → ℕ → Place → List (Word × Reader Main)
 main_words m n p =
     (codes "begin", skip (read_sequence m n >>= λ ss. gives (begin p ss)))
     ∷ []
 
 abbrev pub main_by : Parts → ℕ → Place → TokenView → Reader Main
-main_by m n p (tk.reserved w) = pick w (main_words m n p) (main_processes m n (pick w (process_words m n p) refuses))
+main_by m n p (tk.reserved w) = pick w (main_words m n p) (main_processes m (ways m) n p w)
 main_by m n p k = refuses
 
 abbrev pub read_main : Parts → ℕ → Reader Main
@@ -123,14 +42,9 @@ read_main m n = by_next (main_by m n)
 
 abbrev pub read_text : Parts → ℕ → Reader Text
 read_text m n =
-    read_head >>= λ h. a_name >>= λ x. read_section true m n >>= λ vs. read_define m n >>= λ d. read_macros m n >>= λ ms. read_procedures m n >>= λ ps. read_main m n >>= λ b.
+    read_head >>= λ h. a_name >>= λ x. read_section true m n >>= λ vs. read_define (ways m) n >>= λ d. read_macros (ways m) n >>= λ ms. read_procedures m (ways m) n >>= λ ps. read_main m n >>= λ b.
     a_key (codes "end") >>= λ e. a_key (codes "algorithm") >>= λ f.
     gives (record { head = h; name = x; around = to_end e f; variables = vs; define = d; macros = ms; procedures = ps; main = b })
-
--- ---- the tokens of a comment are all read
-abbrev pub to_last : {A : Type 0} → A → Reader A
-to_last a [] = gives a []
-to_last a ts = refuses ts
 
 -- an algorithm, wherever any number of forms may be open; a list takes a step for each of its members, and an expression four for each token at most
 abbrev pub read_algorithm : Reader Text

@@ -6,12 +6,13 @@ use Rattle.tla_tree.specs.Tree.{Word, Name}
 use Rattle.tla_tree.specs.Lexical.{TokenView, Token, token}
 use Rattle.tla_tree.specs.Lexical as tk
 use Rattle.tla_tree.specs.Spelling.{Phrase}
-use Rattle.tla_tree.specs.Reader.{Reader, ◌>>=◌, gives, refuses, skip, if_fits}
-use Rattle.pcal_tree.specs.GrammarParts.{Colon, Labels, no_labels, label, Binds, Simple}
+use Rattle.tla_tree.specs.Reader.{Reader, ◌>>=◌, gives, refuses, skip}
+use Rattle.pcal_tree.specs.GrammarParts.{Labels, no_labels, Binds, Simple}
 use Rattle.pcal_tree.specs.GrammarP.{Statement, simple, branch, either, with, while, Else, no_else, else_then, else_if, Branches, last_branch, more_branches, Sequence, last_statement, more_statements}
 use Rattle.pcal_tree.specs.OpenForms.{after_binds}
 use Rattle.algorithm_parts.specs.TokenReaders.{by_next, a_key, pick, Parts}
 use Rattle.algorithm_parts.specs.ReadParts.{read_colon, read_binds}
+use Rattle.algorithm_parts.specs.ReadAround.{with_label, within}
 use Rattle.algorithm_parts.specs.ReadSimple.{named_by, simple_words}
 
 -- ---- what was read
@@ -74,10 +75,6 @@ abbrev pub with_before : Before → Sequence → Sequence
 with_before none ss = ss
 with_before (after b ls a p) ss = with_before b (more_statements ls a p ss)
 
-abbrev pub with_label : Labels → Name → Colon → Labels
-with_label no_labels x c = label x c no_labels
-with_label (label y d ls) x c = label y d (with_label ls x c)
-
 abbrev pub closed_if : Tests → Sequence → Else → Place → Place → Statement
 closed_if (if_test p e q) a b r s = branch p e q a b r s
 closed_if (elsif_test t c p e q) a b r s = closed_if t c (else_if p e q a b) r s
@@ -91,10 +88,6 @@ closed_either (later_arm t c p) a bs r s = closed_either t c (more_branches p a 
 abbrev pub opens : Frame → Before → Labels → Stack → Turn
 opens f b ls st = on (begin none no_labels (inside f b ls st))
 
--- past a word that opens a form, where so many are open
-abbrev pub opened : Parts → ℕ → Reader Turn → Reader Turn
-opened m d r = if_fits (m.room (d + 1)) (skip r)
-
 abbrev pub ends_simple : Before → Labels → Stack → Reader Simple → Reader Turn
 ends_simple b ls st r = r >>= λ s. gives (on (ended b ls (simple s) None st))
 
@@ -105,10 +98,10 @@ after_name m n b ls st x p k = ends_simple b ls st (named_by m n x p k)
 
 abbrev pub statement_words : Parts → ℕ → Before → Labels → Stack → Place → List (Word × Reader Turn)
 statement_words m n b ls st p =
-    (codes "if", opened m (depth st) (m.expr >>= λ e. a_key (codes "then") >>= λ q. gives (opens (in_then (if_test p e q)) b ls st)))
-    ∷ (codes "either", opened m (depth st) (gives (opens (in_either (first_arm p)) b ls st)))
+    (codes "if", within m (depth st) (m.expr >>= λ e. a_key (codes "then") >>= λ q. gives (opens (in_then (if_test p e q)) b ls st)))
+    ∷ (codes "either", within m (depth st) (gives (opens (in_either (first_arm p)) b ls st)))
     ∷ (codes "with", skip (read_binds m n (depth st) >>= λ bs. a_key (codes "do") >>= λ q. gives (opens (in_with p bs q) b ls st)))
-    ∷ (codes "while", opened m (depth st) (m.expr >>= λ e. a_key (codes "do") >>= λ q. gives (opens (in_while p e q) b ls st)))
+    ∷ (codes "while", within m (depth st) (m.expr >>= λ e. a_key (codes "do") >>= λ q. gives (opens (in_while p e q) b ls st)))
     ∷ []
 
 abbrev pub statement_by : Parts → ℕ → Before → Labels → Stack → Place → TokenView → Reader Turn
@@ -123,7 +116,7 @@ takes_else a p (inside (in_then t) b ls st) = skip (gives (opens (in_else t a p)
 takes_else a p st = refuses
 
 abbrev pub takes_elsif : Parts → Sequence → Place → Stack → Reader Turn
-takes_elsif m a p (inside (in_then t) b ls st) = opened m (after_tests (depth st) t) (m.expr >>= λ e. a_key (codes "then") >>= λ q. gives (opens (in_then (elsif_test t a p e q)) b ls st))
+takes_elsif m a p (inside (in_then t) b ls st) = within m (after_tests (depth st) t) (m.expr >>= λ e. a_key (codes "then") >>= λ q. gives (opens (in_then (elsif_test t a p e q)) b ls st))
 takes_elsif m a p st = refuses
 
 abbrev pub takes_or : Sequence → Place → Stack → Reader Turn

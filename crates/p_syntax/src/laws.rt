@@ -1,6 +1,6 @@
 //! Laws of reading algorithms in P-syntax, stated as what functions without a body ensure.
 
-ghost use Rattle.std.specs.Prelude.{◌≡◌, ◌⊎◌, ℕ, suc, ◌+◌, ◌*◌, ◌≤◌, codes, IsTrue, ◌++◌, List, [], ◌∷◌, length, take, map, get_or, Some, Ok, Err};
+ghost use Rattle.std.specs.Prelude.{◌≡◌, ◌⊎◌, ℕ, suc, ◌+◌, ◌*◌, ◌≤◌, codes, IsTrue, true, false, ◌++◌, List, [], ◌∷◌, length, take, map, get_or, Some, Ok, Err};
 ghost use Rattle.std.specs.List.{list_all};
 ghost use Rattle.tla_tree.specs.Lexical.{Token};
 ghost use Rattle.tla_token.specs.Tokens as text;
@@ -17,8 +17,14 @@ ghost use Rattle.pcal_tree.specs.OffencesSyntax.{algorithms, PassesTokens, Refus
 ghost use Rattle.pcal_tree.specs.GrammarParts.{key};
 ghost use Rattle.pcal_tree.specs.GrammarP.{Sequence};
 ghost use Rattle.algorithm_parts.specs.TokenReaders.{Parts};
-ghost use Rattle.p_syntax.specs.ReadStatements.{State, run, rest, open_in};
-ghost use Rattle.p_syntax.specs.ReadAlgorithm.{read_algorithm, read_limited_algorithm};
+ghost use Rattle.tla_tree.specs.Tree.{Name};
+ghost use Rattle.pcal_tree.specs.GrammarParts.{name, no_labels, Section, MacroParameters, ProcedureParameters};
+ghost use Rattle.pcal_tree.specs.Grammar.{Macro, Procedure, Fair, fair, Identity, Process};
+ghost use Rattle.algorithm_parts.specs.ReadParts.{read_section, read_macro_parameters, read_procedure_parameters};
+ghost use Rattle.algorithm_parts.specs.Owners.{Owner, in_macro, in_procedure, in_process, in_main};
+ghost use Rattle.p_syntax.specs.ReadStatements.{State, begin, none, bottom, on, step, run, rest, open_in};
+ghost use Rattle.p_syntax.specs.ReadAlgorithm.{read_identity, read_text, read_algorithm, read_limited_algorithm};
+ghost use Rattle.p_syntax.specs.Resume.{Front, main_from, processes_from, procedures_from, macros_from, text_from, resume, rest_of_all};
 
 /// What is read is an algorithm that may be spelled, and all the tokens are its tokens.
 pub fn what_is_read_is_spelled()
@@ -104,4 +110,32 @@ pub fn tokens_are_read_or_refused()
 pub fn what_stands_open_is_closed()
     ensures closed { (m : Parts) (n : ℕ) (s : State) (p : Place) (ts : List Token) → suc (length (rest s)) ≤ n → (ss : Sequence) × (run m n s (rest s ++ key p (codes "end") ts) ≡ Ok (ss, key p (codes "end") ts)) }
     ensures few { (s : State) → length (rest s) ≤ 4 * open_in s + 1 }
+{}
+
+/// What stands open in the lists of statements of a whole algorithm, in the body of a macro, a procedure or a process or in its main part, is closed
+/// by `rest_of_all`, up to the end of the algorithm: with these tokens behind it reading goes on to a whole algorithm and to the last token. They
+/// are at most four for each form that is open there, and seven.
+pub fn what_stands_open_in_an_algorithm_is_closed()
+    ensures closed { (m : Parts) (k j n : ℕ) (f : Front) (o : Owner) (s : State) → 3 ≤ k → 1 ≤ j → suc (length (rest s)) ≤ n → (x : Text) × (resume m k j n f o s (rest_of_all o s) ≡ Ok (x, [])) }
+    ensures few { (o : Owner) (s : State) → length (rest_of_all o s) ≤ 4 * open_in s + 7 }
+{}
+
+/// Reading an algorithm goes through the lists of statements in it, whatever comes: from the first token to the macros; where the body of a macro, a
+/// procedure or a process or the main part begins, to the first state of its list, with what was read before it; and from state to state. After
+/// the list it goes on as `resume` says, to what comes after this macro, procedure or process.
+pub fn reading_goes_through_the_lists()
+    ensures text { (m : Parts) (n : ℕ) (ts : List Token) → read_text m n ts ≡ text_from m n ts }
+    ensures macros { (m : Parts) (k j : ℕ) (f : Front) (ns : List Macro) (p : Place) (x : Name) (xs : MacroParameters) (a : Place) (ts us : List Token) → read_macro_parameters j ts ≡ Ok (xs, key a (codes "begin") us)
+        → macros_from m k (suc j) f ns (key p (codes "macro") (name x ts)) ≡ resume m k j j f (in_macro ns p x xs a) (begin none no_labels bottom) us }
+    ensures procedures { (m : Parts) (k j : ℕ) (f : Front) (ms : List Macro) (qs : List Procedure) (p : Place) (x : Name) (xs : ProcedureParameters) (vs : Section) (a : Place) (ts us ws : List Token)
+        → read_procedure_parameters m j ts ≡ Ok (xs, us) → read_section false m j us ≡ Ok (vs, key a (codes "begin") ws)
+        → procedures_from m (suc j) k f ms qs (key p (codes "procedure") (name x ts)) ≡ resume m k j j f (in_procedure ms qs p x xs vs a) (begin none no_labels bottom) ws }
+    ensures first_process { (m : Parts) (k j : ℕ) (f : Front) (ms : List Macro) (ps : List Procedure) (q : Fair) (p : Place) (i : Identity) (vs : Section) (a : Place) (ts us ws : List Token)
+        → read_identity m ts ≡ Ok (i, us) → read_section true m j us ≡ Ok (vs, key a (codes "begin") ws)
+        → main_from m j f ms ps (fair q (key p (codes "process") ts)) ≡ resume m k j j f (in_process ms ps [] q p i vs a) (begin none no_labels bottom) ws }
+    ensures next_process { (m : Parts) (k j : ℕ) (f : Front) (ms : List Macro) (ps : List Procedure) (ys : List Process) (x : Process) (q : Fair) (p : Place) (i : Identity) (vs : Section) (a : Place) (ts us ws : List Token)
+        → read_identity m ts ≡ Ok (i, us) → read_section true m j us ≡ Ok (vs, key a (codes "begin") ws)
+        → processes_from m (suc j) f ms ps ys x (fair q (key p (codes "process") ts)) ≡ resume m k j j f (in_process ms ps (ys ++ x ∷ []) q p i vs a) (begin none no_labels bottom) ws }
+    ensures steps { (m : Parts) (k j n : ℕ) (f : Front) (o : Owner) (s : State) (ts : List Token) (t : State) (us : List Token) → step m n s ts ≡ Ok (on t, us) → resume m k j (suc n) f o s ts ≡ resume m k j n f o t us }
+    ensures main { (m : Parts) (j k : ℕ) (f : Front) (ms : List Macro) (ps : List Procedure) (a : Place) (us : List Token) → main_from m k f ms ps (key a (codes "begin") us) ≡ resume m k j k f (in_main ms ps a) (begin none no_labels bottom) us }
 {}

@@ -16,7 +16,7 @@ use Rattle.algorithm_parts.proofs.SoundSimple.{IsLeft}
 use Rattle.algorithm_parts.proofs.Whole.{Fits, smaller, less, then_is, WholeParts}
 use Rattle.algorithm_parts.proofs.WholeSimple.{root, after_root, root_tokens, first_left, after_first, assignment_tokens, is_left_next}
 use Rattle.algorithm_parts.proofs.Lengths.{grow_phrase, grow_assignments}
-use Rattle.c_syntax.proofs.WholeEnds.{is_divider_next, next_calm}
+use Rattle.algorithm_parts.proofs.WholeEnds.{is_divider_next, next_calm}
 
 root_right : (a : Phrase) → is_left_side a ≡ true → IsGood a → nat_lt 0 (root a).place.col ≡ true
 root_right (spelled.name p x) l i = i

@@ -10,7 +10,7 @@ use Rattle.tla_token.specs.declared.rule.Rule.TheVariants.{Syntax}
 use Rattle.tla_token.specs.Tokens as text
 use Rattle.tla_tree.specs.Lexical.{Token}
 use Rattle.tla_tree.specs.Reader.{Out, Stop, Reader}
-use Rattle.tla_tree.specs.FirstStop.{Look, look, looks, to_end, is_within, Grammar, Begins, Passes, StopRule, StopsAt}
+use Rattle.tla_tree.specs.FirstStop.{Look, look, looks, to_end, Open, is_within, Grammar, Begins, Passes, StopRule, StopsAt}
 use Rattle.tla_tree.proofs.StopLaws.{longer, passes_begins}
 use Rattle.tla_tree.proofs.StopsThere.{before, through, is_there}
 use Rattle.pcal_tree.specs.AlgorithmTokens.{views}
@@ -19,14 +19,17 @@ use Rattle.pcal_tree.specs.Grammar.{Text, Good, spell, algorithm_of, Spells}
 use Rattle.pcal_tree.specs.OpenForms.{opens}
 use Rattle.pcal_tree.specs.OffencesSyntax.{algorithms, PassesTokens, RefusesTokens}
 use Rattle.pcal_tree.proofs.LinesGood.{spelled_again, begins, begun}
+use Rattle.pcal_tree.proofs.OpensLaws.{as_many_opens}
 use Rattle.algorithm_parts.proofs.Mends.{Mend}
+use Rattle.algorithm_parts.proofs.SameOpens.{same_opens}
 
--- a reader of algorithms of this syntax: what it reads is spelled, and where it refuses none goes on and those before can be gone on with
+-- a reader of algorithms of this syntax: what it reads is spelled, what is spelled it reads, and where it refuses none goes on and those before can be gone on with
 pub record ReadsAll (syntax : grammar.Syntax) (read : Reader Text) : Type 0 where
   pub spelled : (ts : List Token) (x : Text) (rest : List Token) → read ts ≡ Ok (x, rest) → Good syntax x × (ts ≡ spell x []) × (rest ≡ [])
   pub through : (ts : List Token) (t : Token) (rest : List Token) (q : Rule) → read ts ≡ Err (q, t ∷ rest) → (passed : List Token) → ts ≡ passed ++ t ∷ rest → (x : Text) → Good syntax x → (more : List Token) → spell x [] ≡ passed ++ t ∷ more → ⊥
   pub unspelled : (ts rest : List Token) (q : Rule) → read ts ≡ Err (q, rest) → (x : Text) → Good syntax x → ts ≡ spell x [] → ⊥
   pub mended : (ts : List Token) (u : Stop) → read ts ≡ Err u → Mend (Good syntax) spell ts u
+  pub again : (x : Text) → Good syntax x → (ts : List Token) → spell x [] ≡ ts → read ts ≡ Ok (x, [])
   pub rule : (ts rest : List Token) (q : Rule) → read ts ≡ Err (q, rest) → q ≡ Syntax
   pub completed : (ts passed rest : List Token) (q : Rule) → read ts ≡ Err (q, rest) → ts ≡ passed ++ rest → (fix : List Token) × (x : Text) × Good syntax x × (spell x [] ≡ passed ++ fix)
 
@@ -94,7 +97,7 @@ module _ (syntax : grammar.Syntax) (read : Reader Text) (facts : ReadsAll syntax
       subst (λ (r : Rule). RefusesTokens syntax ts end (record { rule = r; place = place_at ts (length passed) end })) (sym (facts.rule (views ts) rest q o))
       (record { passed = length passed; stops = refused_stops (views ts) passed rest q o s p; place = refl })
 
-  -- ---- what is read passes
+  -- ---- what is read passes, and what passes is read
   pub read_passes : (ts : List text.Token) (x : Text) (rest : List Token) → read (views ts) ≡ Ok (x, rest) → list_all is_within (opens x) ≡ true → PassesTokens syntax ts × Spells syntax ts (algorithm_of x)
   read_passes ts x rest o h =
       let w = facts.spelled (views ts) x rest o in
@@ -102,6 +105,17 @@ module _ (syntax : grammar.Syntax) (read : Reader Text) (facts : ReadsAll syntax
       let all = take-append-drop (length ks) (opens x) in
       let few = (and_parts (list_all is_within (take (length ks) (opens x))) (list_all is_within (drop (length ks) (opens x))) (sym (list_all-append is_within (take (length ks) (opens x)) (drop (length ks) (opens x))) ∙ ap (list_all is_within) all ∙ h)).0 in
       (([], opens x, (x, w.0, ap to_end (sym w.1) ∙ sym (append-nil ks), refl), few), (x, w.0, w.1, refl))
+
+  pub passed_is_read : (ts : List text.Token) → PassesTokens syntax ts → (x : Text) × (read (views ts) ≡ Ok (x, [])) × (list_all is_within (opens x) ≡ true)
+  passed_is_read ts (more, ns, (x, g, s, c), few) =
+      let us = views ts in
+      let v = spelled_again syntax (spell x []) us (ends_there (looks (spell x [])) (looks us) more s) x g refl in
+      let n = as_many_opens v.0 ∙ ap length (sym v.2) in
+      let m = length-append (map Some (looks us)) (None ∷ []) in
+      let l = length-map (looks us) Some ∙ length-map us look in
+      let all = take_all (length (to_end us)) (opens v.0) (omega (arith, n, m, l)) in
+      let same : opens v.0 ≡ ns = same_opens v.0 x v.3 ∙ c in
+      (v.0, facts.again v.0 v.1 us (sym v.2), ap (list_all is_within) (sym all) ∙ ap (λ (os : List Open). list_all is_within (take (length (to_end us)) os)) same ∙ few)
 
   -- ---- a refusal by the rule of syntax is where reading stops
   stops_before : (ts passed rest : List Token) (q : Rule) → read ts ≡ Err (q, rest) → ts ≡ passed ++ rest → (n : ℕ) → Begins (algorithms syntax) (take n (to_end ts)) → (Begins (algorithms syntax) (take (suc n) (to_end ts)) → ⊥) → n ≡ length passed
