@@ -25,6 +25,7 @@ pub mod AcceptedNames
 pub mod KnownStatements
 pub mod KnownRoutines
 pub mod OnceStatements
+pub mod OnceThrough
 pub mod TypedParts
 pub mod TypedAlgorithms
 pub mod TypedTexts

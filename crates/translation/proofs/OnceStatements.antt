@@ -5,10 +5,10 @@ use Rattle.std.proofs.lemmas.List.Folds.{list_any-append}
 use Rattle.std.specs.List.{list_any, flat_map}
 use Rattle.tla_token.specs.declared.rule.Rule.TheVariants.{FirstLabel, AssignTwice}
 use Rattle.tla_tree.specs.Tree.{Word, Trees}
-use Rattle.pcal_tree.specs.Algorithm.{Span, Assignments, Statement, assign, await, print, assert, skip, branch, either, with, while, goto, macro, call, return, Statements, done, then, mark, Branches, no_branches, or, Macro, Procedure, Process, Main, alone, processes, Routine, procedure_routine, process_routine, numbered, first_procedure, first_process, procedure_routines, main_routines, routines, Algorithm}
+use Rattle.pcal_tree.specs.Algorithm.{Span, Assignments, Statement, assign, await, print, assert, skip, branch, either, with, while, goto, macro, call, return, Statements, done, then, mark, Branches, no_branches, or, Macro, Procedure, Process, Main, alone, processes, Routine, procedure_routine, process_routine, numbered, first_procedure, first_process, procedure_routines, main_routines, Algorithm}
 use Rattle.pcal_tree.specs.Expand.{graft_all, followed_by, Writing, expand_one, expand, expand_some, written_out, expanded}
 use Rattle.pcal_tree.specs.OffencesCounts.{calls_in, calls_of, calls_of_some}
-use Rattle.pcal_tree.specs.OffencesLabels.{of_macro, of_procedure, of_body, of_main, label_offences}
+use Rattle.pcal_tree.specs.OffencesLabels.{of_macro, of_procedure, of_body, of_main, label_offences_by, label_offences}
 use Rattle.pcal_tree.specs.OffencesSteps.{Before, at_label, at_first, inside, next, Visit, visits_inside, visits, visits_of_some, missing_label, assigns_twice, offences_at, in_macro, effect_of_body, call_effect, missing_in_body, procedure_effects, outer_effects}
 use Rattle.pcal_tree.specs.Paths.{clashes, Effect, Effects, after_one}
 use Rattle.pcal_tree.specs.Processes.{OneOf}
@@ -22,7 +22,7 @@ use Rattle.translation.proofs.KnownRoutines.{reversed}
 -- ---- statements of which none assigns twice by itself, where macro calls have the effects of E
 
 abbrev mutual
-  IsOnceBy : Effects → Statement → Type 0
+  pub IsOnceBy : Effects → Statement → Type 0
   IsOnceBy E (assign ms) = clashes ms ≡ false
   IsOnceBy E (macro m ts) = (E (macro m ts)).twice ≡ false
   IsOnceBy E (branch e a b) = AreOnceBy E a × AreOnceBy E b
@@ -31,12 +31,12 @@ abbrev mutual
   IsOnceBy E (while e b) = AreOnceBy E b
   IsOnceBy E _ = Unit {0}
 
-  AreOnceBy : Effects → Statements → Type 0
+  pub AreOnceBy : Effects → Statements → Type 0
   AreOnceBy E done = Unit {0}
   AreOnceBy E (then at st rest) = IsOnceBy E st × AreOnceBy E rest
   AreOnceBy E (mark l k rest) = AreOnceBy E rest
 
-  AllOnceBy : Effects → Branches → Type 0
+  pub AllOnceBy : Effects → Branches → Type 0
   AllOnceBy E no_branches = Unit {0}
   AllOnceBy E (or b bs) = AreOnceBy E b × AllOnceBy E bs
 
@@ -61,7 +61,7 @@ module _ (E : Effects) (own : (ms : Assignments) → (E (assign ms)).twice ≡ c
     one_visited p at (while e b) rest h k = all_visited (inside (after_one E (while e b) p.labelled p.path)) b k
     one_visited p at _ rest h k = tt
 
-    all_visited : (p : Before) (b : Statements) → NoneTwice E (visits E p b) → AreOnceBy E b
+    pub all_visited : (p : Before) (b : Statements) → NoneTwice E (visits E p b) → AreOnceBy E b
     all_visited p done h = tt
     all_visited p (mark n k rest) h = all_visited at_label rest h
     all_visited p (then at st rest) h =
@@ -109,7 +109,7 @@ module _ (E : Effects) where
 
 -- ---- with macro calls written out
 
-followed_once : (a b : Statements) → AssignOnce a → AssignOnce b → AssignOnce (followed_by a b)
+pub followed_once : (a b : Statements) → AssignOnce a → AssignOnce b → AssignOnce (followed_by a b)
 followed_once done b h k = k
 followed_once (then at st a) b h k = (h.0, followed_once a b h.1 k)
 followed_once (mark l m a) b h k = followed_once a b h k
@@ -187,42 +187,42 @@ call_once (d ∷ older) none at m ts h = by (call_once older none.1 at m ts) (by
 
 -- ---- bodies
 
-module _ (ms : List Macro) (none : CallNone ms) where
-  body_once : (E : Effects) → ((ns : Assignments) → (E (assign ns)).twice ≡ clashes ns) → ((m : Word) (ts : Trees) → E (macro m ts) ≡ call_effect ms m ts) → (b : Statements) → missing_in_body E b ≡ [] → AssignOnce (expanded ms b)
+-- where macro calls assign what C says
+module _ (ms : List Macro) (C : Word → Trees → Effect) (calls : (at : Span) (m : Word) (ts : Trees) → (C m ts).twice ≡ false → AssignOnce (written_out ms at m ts)) where
+  body_once : (E : Effects) → ((ns : Assignments) → (E (assign ns)).twice ≡ clashes ns) → ((m : Word) (ts : Trees) → E (macro m ts) ≡ C m ts) → (b : Statements) → missing_in_body E b ≡ [] → AssignOnce (expanded ms b)
   body_once E own same b h =
-      all_expanded E (written_out ms) (λ at m ts k. call_once ms none at m ts (ap (λ (e : Effect). e.twice) (sym (same m ts)) ∙ k)) b
+      all_expanded E (written_out ms) (λ at m ts k. calls at m ts (ap (λ (e : Effect). e.twice) (sym (same m ts)) ∙ k)) b
       (all_visited E own (at_first (Some FirstLabel)) b (none_offends E (visits E (at_first (Some FirstLabel)) b) h))
 
-  procedures_once : (n : ℕ) (ps : List Procedure) → flat_map (of_procedure (call_effect ms)) ps ≡ [] → (u : Routine) → OneOf u (numbered procedure_routine n ps) → AssignOnce (expanded ms u.body)
+  procedures_once : (n : ℕ) (ps : List Procedure) → flat_map (of_procedure C) ps ≡ [] → (u : Routine) → OneOf u (numbered procedure_routine n ps) → AssignOnce (expanded ms u.body)
   procedures_once n [] e u k = absurd k
   procedures_once n (p ∷ ps) e u (inl q) =
       subst (λ (v : Routine). AssignOnce (expanded ms v.body)) (sym q)
-      (body_once (procedure_effects (call_effect ms) p) (λ ns. refl) (λ m ts. refl) p.body (both_none (missing_in_body (procedure_effects (call_effect ms) p) p.body) _ (both_none (of_procedure (call_effect ms) p) _ e).0).0)
-  procedures_once n (p ∷ ps) e u (inr k) = procedures_once (suc n) ps (both_none (of_procedure (call_effect ms) p) _ e).1 u k
+      (body_once (procedure_effects C p) (λ ns. refl) (λ m ts. refl) p.body (both_none (missing_in_body (procedure_effects C p) p.body) _ (both_none (of_procedure C p) _ e).0).0)
+  procedures_once n (p ∷ ps) e u (inr k) = procedures_once (suc n) ps (both_none (of_procedure C p) _ e).1 u k
 
-  processes_once : (n : ℕ) (ps : List Process) → flat_map (λ (p : Process). of_body (call_effect ms) p.body) ps ≡ [] → (u : Routine) → OneOf u (numbered process_routine n ps) → AssignOnce (expanded ms u.body)
+  processes_once : (n : ℕ) (ps : List Process) → flat_map (λ (p : Process). of_body C p.body) ps ≡ [] → (u : Routine) → OneOf u (numbered process_routine n ps) → AssignOnce (expanded ms u.body)
   processes_once n [] e u k = absurd k
   processes_once n (p ∷ ps) e u (inl q) =
       subst (λ (v : Routine). AssignOnce (expanded ms v.body)) (sym q)
-      (body_once (outer_effects (call_effect ms)) (λ ns. refl) (λ m ts. refl) p.body (both_none (missing_in_body (outer_effects (call_effect ms)) p.body) _ (both_none (of_body (call_effect ms) p.body) _ e).0).0)
-  processes_once n (p ∷ ps) e u (inr k) = processes_once (suc n) ps (both_none (of_body (call_effect ms) p.body) _ e).1 u k
+      (body_once (outer_effects C) (λ ns. refl) (λ m ts. refl) p.body (both_none (missing_in_body (outer_effects C) p.body) _ (both_none (of_body C p.body) _ e).0).0)
+  processes_once n (p ∷ ps) e u (inr k) = processes_once (suc n) ps (both_none (of_body C p.body) _ e).1 u k
 
-  main_once : (a : Algorithm) (m : Main) → of_main (call_effect ms) m ≡ [] → (u : Routine) → OneOf u (main_routines a m) → AssignOnce (expanded ms u.body)
+  main_once : (a : Algorithm) (m : Main) → of_main C m ≡ [] → (u : Routine) → OneOf u (main_routines a m) → AssignOnce (expanded ms u.body)
   main_once a (alone b) e u (inl q) =
-      subst (λ (v : Routine). AssignOnce (expanded ms v.body)) (sym q)
-      (body_once (outer_effects (call_effect ms)) (λ ns. refl) (λ m ts. refl) b (both_none (missing_in_body (outer_effects (call_effect ms)) b) _ e).0)
+      subst (λ (v : Routine). AssignOnce (expanded ms v.body)) (sym q) (body_once (outer_effects C) (λ ns. refl) (λ m ts. refl) b (both_none (missing_in_body (outer_effects C) b) _ e).0)
   main_once a (alone b) e u (inr k) = absurd k
   main_once a (processes ps) e u k = processes_once (first_process a) ps e u k
 
-bodies_once : (a : Algorithm) → label_offences a ≡ [] → CallNone (reverse a.macros) → (u : Routine) → OneOf u (routines a) → AssignOnce (expanded (reverse a.macros) u.body)
-bodies_once a e none u k =
-    let C = call_effect (reverse a.macros) in
+pub bodies_once : (a : Algorithm) (C : Word → Trees → Effect) → ((at : Span) (m : Word) (ts : Trees) → (C m ts).twice ≡ false → AssignOnce (written_out (reverse a.macros) at m ts)) → label_offences_by C a ≡ [] → EachAssignsOnce a
+bodies_once a C calls e u k =
     let b = both_none (flat_map (of_procedure C) a.procedures) (of_main C a.main) (both_none (flat_map of_macro a.macros) _ e).1 in
     by b.0 b.1 (one_either u (procedure_routines a) (main_routines a a.main) k)
   where
-    by : flat_map (of_procedure (call_effect (reverse a.macros))) a.procedures ≡ [] → of_main (call_effect (reverse a.macros)) a.main ≡ [] → OneOf u (procedure_routines a) ⊎ OneOf u (main_routines a a.main) → AssignOnce (expanded (reverse a.macros) u.body)
-    by b c (inl q) = procedures_once (reverse a.macros) none (first_procedure a) a.procedures b u q
-    by b c (inr q) = main_once (reverse a.macros) none a a.main c u q
+    by : flat_map (of_procedure C) a.procedures ≡ [] → of_main C a.main ≡ [] → OneOf u (procedure_routines a) ⊎ OneOf u (main_routines a a.main) → AssignOnce (expanded (reverse a.macros) u.body)
+    by b c (inl q) = procedures_once (reverse a.macros) C calls (first_procedure a) a.procedures b u q
+    by b c (inr q) = main_once (reverse a.macros) C calls a a.main c u q
 
 pub accepted_once : (a : Algorithm) → label_offences a ≡ [] → CallNone a.macros → EachAssignsOnce a
-accepted_once a e none u k = bodies_once a e (reversed (λ (d : Macro). calls_of d.body ≡ []) a.macros none) u k
+accepted_once a e none u k =
+    bodies_once a (call_effect (reverse a.macros)) (call_once (reverse a.macros) (reversed (λ (d : Macro). calls_of d.body ≡ []) a.macros none)) e u k

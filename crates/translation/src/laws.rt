@@ -1,6 +1,6 @@
 //! Laws of the written module, stated as what functions without a body ensure.
 
-ghost use Rattle.std.specs.Prelude.{◌≡◌, ℕ, List, [], Bool, false, not, Some, map};
+ghost use Rattle.std.specs.Prelude.{◌≡◌, ℕ, List, [], Bool, false, not, Some, map, reverse};
 ghost use Rattle.tla_tree.specs.Tree.{Word};
 ghost use Rattle.tla_value.specs.Outside.{Outside};
 ghost use Rattle.module_tree.specs.Module.{test, item, Module};
@@ -8,7 +8,7 @@ ghost use Rattle.module_tree.specs.Reading.{Reads};
 ghost use Rattle.pcal_tree.specs.Algorithm.{Routine, locals, routines, Definition, Algorithm};
 ghost use Rattle.pcal_tree.specs.OffencesNames.{repeated_names};
 ghost use Rattle.pcal_tree.specs.OffencesReserved.{reserved_declared};
-ghost use Rattle.pcal_tree.specs.OffencesLabels.{label_words, label_offences};
+ghost use Rattle.pcal_tree.specs.OffencesLabels.{label_words, label_offences_by, label_offences};
 ghost use Rattle.pcal_tree.specs.laws.Apart.{FewNames};
 ghost use Rattle.pcal_tree.specs.Processes.{OneOf};
 ghost use Rattle.std.specs.Bool.{IsTrue};
@@ -45,7 +45,7 @@ ghost use Rattle.tla_tree.specs.laws.Writable.{AreSmall};
 ghost use Rattle.pcal_tree.specs.Grammar.{Syntax, Spells};
 ghost use Rattle.pcal_tree.specs.OffencesOfNames.{name_offences};
 ghost use Rattle.translation.specs.laws.TypedAlgorithm.{IsTypedAlgorithm};
-ghost use Rattle.translation.specs.laws.AssignedOnce.{CallNone};
+ghost use Rattle.translation.specs.laws.AssignedOnce.{CallNone, effect_through};
 ghost use Rattle.translation.specs.laws.AcceptedAlgorithm.{IsAccepted, EachAssignsOnce};
 ghost use Rattle.translation.specs.laws.WritableAlgorithm.{IsStarted, IsLabelled, IsWritableAlgorithm};
 ghost use Rattle.translation.specs.Region.{written_region, written_module};
@@ -109,10 +109,12 @@ pub fn spelled_algorithms_are_typed()
 {}
 
 /// An algorithm that has what its text gives, and breaks no rule on names and on labels, can be written where it has few names and no statement, its
-/// macro calls written out, assigns a variable beside a part of it. The rule on assigning twice gives the latter where no macro calls another.
+/// macro calls written out, assigns a variable beside a part of it. The rule on assigning twice gives the latter where no macro calls another;
+/// and for all macros where what is assigned by a macro call is looked at through the calls around it.
 pub fn accepted_algorithms_can_be_written()
     ensures written { (o : Outside) (a : Algorithm) → IsTypedAlgorithm a → FewNames a o → name_offences a o ≡ [] → label_offences a ≡ [] → EachAssignsOnce a → IsWritableAlgorithm o a }
     ensures once { (a : Algorithm) → label_offences a ≡ [] → CallNone a.macros → EachAssignsOnce a }
+    ensures through { (a : Algorithm) → label_offences_by (effect_through (reverse a.macros)) a ≡ [] → EachAssignsOnce a }
 {}
 
 /// What is written of an algorithm that the tokens of a text spell, with labels added, and that breaks no rule on names and on labels, is a translation that can be
