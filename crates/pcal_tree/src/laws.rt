@@ -247,3 +247,14 @@ pub fn replies_are_of_scripts()
         → (u : State) × (l : Word) × (stepped P s n.who n.choices ≡ reached (u, l)) × Agree (vars P) u t }
     ensures start { (P : Program) (choices : List ℕ) (s : State) → start_by P choices ≡ reached s → Reaches P (walk (started P) choices) s }
 {}
+
+ghost use Rattle.std.specs.Prelude.{◌*◌};
+ghost use Rattle.pcal_tree.specs.Grammar.{algorithm_of};
+ghost use Rattle.pcal_tree.specs.Names.{kept};
+
+/// The names that are taken from the start for an algorithm, without those outside of it, and those that want a written name, are together no more than the tokens that spell
+/// it; and no more than twice as many with labels added. So a text has few names.
+pub fn names_are_no_more_than_tokens()
+    ensures typed { (x : Text) → length (kept (algorithm_of x)) + length (wanted (algorithm_of x)) ≤ length (spell x []) }
+    ensures labelled { (forced : Bool) (x : Text) → length (kept (labelled forced (algorithm_of x))) + length (wanted (labelled forced (algorithm_of x))) ≤ 2 * length (spell x []) }
+{}
