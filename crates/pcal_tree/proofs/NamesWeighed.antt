@@ -27,7 +27,7 @@ many_first xs xss = length-append xs (all_of xss)
 -- ---- expressions
 
 mutual
-  many_in : (t : Tree) → Many (lists_in t) ≡ count_in t
+  pub many_in : (t : Tree) → Many (lists_in t) ≡ count_in t
   many_in (node m at ts) = many_both (lists_of m) (lists_in_all ts) ∙ ap (λ (n : ℕ). Many (lists_of m) + n) (many_in_all ts)
 
   many_in_all : (ts : Trees) → Many (lists_in_all ts) ≡ count_in_all ts

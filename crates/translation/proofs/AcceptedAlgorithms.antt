@@ -1,9 +1,13 @@
 -- An algorithm that has what its text gives, and breaks no rule on names and labels, can be written where no statement, its macro calls written out, assigns a variable beside a part of it.
-use Rattle.std.proofs.Common.{◌≡◌, ℕ, suc, List, [], ◌∷◌, not, ◌⊎◌, inl, inr, sym, subst}
+use Rattle.std.proofs.Common.{◌≡◌, ℕ, suc, ◌≤◌, length, List, [], ◌∷◌, not, ◌⊎◌, inl, inr, sym, subst}
 use Rattle.std.specs.Bool.{IsTrue}
+use Rattle.tla_token.specs.Limits.{most_bytes}
 use Rattle.tla_token.specs.Words.{is_own}
 use Rattle.tla_tree.specs.laws.Writable.{IsIdentifier, IsWritable}
 use Rattle.tla_value.specs.Outside.{Outside}
+use Rattle.module_tree.specs.TextFront.{Text}
+use Rattle.module_tree.specs.Walk.{walk}
+use Rattle.module_tree.specs.laws.Outsides.{HasOutside}
 use Rattle.module_tree.specs.laws.WritableRegion.{EachOf}
 use Rattle.pcal_tree.specs.Algorithm.{locals, Definition, Procedure, Process, Main, alone, processes, Routine, procedure_routine, process_routine, numbered, first_procedure, first_process, procedure_routines, main_routines, routines, Algorithm}
 use Rattle.pcal_tree.specs.OffencesLabels.{label_offences}
@@ -17,6 +21,7 @@ use Rattle.translation.specs.laws.WritableAlgorithm.{IsWritableDeclaration, IsWr
 use Rattle.translation.specs.laws.AcceptedAlgorithm.{IsAccepted, EachAssignsOnce}
 use Rattle.translation.specs.laws.TypedAlgorithm.{IsTypedDefinition, IsTypedProcedure, IsTypedProcess, IsTypedMain, IsTypedAlgorithm}
 use Rattle.translation.proofs.AcceptedNames.{both_none, names_once, definitions_free, bodies_labelled}
+use Rattle.translation.proofs.FewNames.{few_names, tokens_within}
 use Rattle.translation.proofs.KnownRoutines.{routine_written}
 use Rattle.translation.proofs.RegionActions.{every_both}
 use Rattle.translation.proofs.TypedLabels.{labelled_typed}
@@ -84,7 +89,7 @@ accepted_writable o a h few names labels once =
           record { name = t.0; locals = t.1; once = names_once a o n.1 u k; labelled = bodies_labelled a labels u k t.2; body = routine_written a o h n.0 u k (once u k) };
     }
 
--- of the tokens of a text, with labels added
-pub text_writable : (o : Outside) (a : Algorithm) → IsAccepted o a → FewNames a o → EachAssignsOnce a → IsWritableAlgorithm o a
-text_writable o a h few once =
-    accepted_writable o a (subst IsTypedAlgorithm h.labels_added (labelled_typed h.forced h.typed (text_typed h.syntax h.text h.from h.to h.tokens h.typed h.tok h.small h.spelled))) few h.names h.labels once
+-- of a file within the limits, with labels added
+pub text_writable : (x : Text) (o : Outside) (a : Algorithm) → IsAccepted o a → EachAssignsOnce a → length x ≤ most_bytes → HasOutside (walk x) o → IsWritableAlgorithm o a
+text_writable x o a h once size out =
+    accepted_writable o a (subst IsTypedAlgorithm h.labels_added (labelled_typed h.forced h.typed (text_typed h.syntax h.text h.from h.to h.tokens h.typed h.tok (tokens_within h.tokens h.rules).0 h.spelled))) (few_names x o a h size out) h.names h.labels once

@@ -26,6 +26,8 @@ pub mod KnownStatements
 pub mod KnownRoutines
 pub mod OnceStatements
 pub mod OnceThrough
+pub mod OutsideNames
+pub mod FewNames
 pub mod TypedParts
 pub mod TypedAlgorithms
 pub mod TypedTexts

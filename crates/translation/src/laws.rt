@@ -1,6 +1,6 @@
 //! Laws of the written module, stated as what functions without a body ensure.
 
-ghost use Rattle.std.specs.Prelude.{◌≡◌, ℕ, List, [], Bool, false, not, Some, map, reverse};
+ghost use Rattle.std.specs.Prelude.{◌≡◌, ℕ, List, [], Bool, false, not, Some, map, reverse, length, ◌≤◌};
 ghost use Rattle.tla_tree.specs.Tree.{Word};
 ghost use Rattle.tla_value.specs.Outside.{Outside};
 ghost use Rattle.module_tree.specs.Module.{test, item, Module};
@@ -39,6 +39,7 @@ ghost use Rattle.module_tree.specs.Layout.{layout};
 ghost use Rattle.module_tree.specs.TextFront.{Text};
 ghost use Rattle.module_tree.specs.Walk.{walk};
 ghost use Rattle.module_tree.specs.WithTranslation.{WithTranslation};
+ghost use Rattle.tla_token.specs.Limits.{most_bytes};
 ghost use Rattle.tla_token.specs.Tokens as text;
 ghost use Rattle.tla_token.specs.Tokens.{TokAlgorithm};
 ghost use Rattle.tla_tree.specs.laws.Writable.{AreSmall};
@@ -117,11 +118,13 @@ pub fn accepted_algorithms_can_be_written()
     ensures through { (a : Algorithm) → label_offences_by (effect_through (reverse a.macros)) a ≡ [] → EachAssignsOnce a }
 {}
 
-/// What is written of an algorithm that the tokens of a text spell, with labels added, and that breaks no rule on names and on labels, is a translation that can be
-/// written and read back: a file that is not refused is one module with it, around that file, with what the file has outside. It is asked that it has few names,
-/// and that no statement, its macro calls written out, assigns a variable beside a part of it.
+/// What is written of an algorithm that the tokens of a text spell, with labels added, and that breaks no rule on tokens, names and labels, is a translation that can
+/// be written and read back: a file within the limits that is not refused is one module with it, around that file, with what the file has outside. Its names
+/// are few. It is asked that no statement, its macro calls written out, assigns a variable beside a part of it.
 pub fn accepted_modules_read_back()
-    ensures regions { (no_terminating : Bool) (o : Outside) (a : Algorithm) → IsAccepted o a → FewNames a o → EachAssignsOnce a → IsRegion (written_region no_terminating o a) }
-    ensures files { (no_terminating : Bool) (x w : Text) (o : Outside) (a : Algorithm) → IsAccepted o a → FewNames a o → EachAssignsOnce a → IsFine x → HasOutside (walk x) o
+    ensures few { (x : Text) (o : Outside) (a : Algorithm) → IsAccepted o a → length x ≤ most_bytes → HasOutside (walk x) o → FewNames a o }
+    ensures regions { (no_terminating : Bool) (x : Text) (o : Outside) (a : Algorithm) → IsAccepted o a → EachAssignsOnce a → length x ≤ most_bytes → HasOutside (walk x) o
+        → IsRegion (written_region no_terminating o a) }
+    ensures files { (no_terminating : Bool) (x w : Text) (o : Outside) (a : Algorithm) → IsAccepted o a → EachAssignsOnce a → length x ≤ most_bytes → IsFine x → HasOutside (walk x) o
         → WithTranslation x (layout (written_region no_terminating o a)) w → IsWritten x w o (written_region no_terminating o a) }
 {}

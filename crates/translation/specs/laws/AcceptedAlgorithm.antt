@@ -1,7 +1,7 @@
--- An algorithm of a text, with labels added, that breaks no rule on names and on labels ("A PlusCal User's Manual", section 3).
+-- An algorithm of a text, with labels added, that breaks no rule on tokens, names and labels ("A PlusCal User's Manual", section 3).
 use Rattle.std.specs.Prelude.{◌≡◌, ℕ, List, [], Bool, reverse}
+use Rattle.tla_token.specs.AlgorithmOffences.{algorithm_offences}
 use Rattle.tla_token.specs.Tokens.{Token, TokAlgorithm}
-use Rattle.tla_tree.specs.laws.Writable.{AreSmall}
 use Rattle.tla_value.specs.Outside.{Outside}
 use Rattle.pcal_tree.specs.Algorithm.{Routine, routines, Algorithm}
 use Rattle.pcal_tree.specs.Expand.{expanded}
@@ -12,7 +12,7 @@ use Rattle.pcal_tree.specs.OffencesOfNames.{name_offences}
 use Rattle.pcal_tree.specs.Processes.{OneOf}
 use Rattle.translation.specs.laws.AssignedOnce.{AssignOnce}
 
--- no number is too big, and none of the rules on names and labels is broken, in a module with this outside
+-- none of the rules on tokens, names and labels is broken, in a module with this outside
 pub record IsAccepted (o : Outside) (a : Algorithm) : Type 0 where
   pub syntax : Syntax
   pub text : List ℕ
@@ -20,7 +20,7 @@ pub record IsAccepted (o : Outside) (a : Algorithm) : Type 0 where
   pub to : ℕ
   pub tokens : List Token
   pub tok : TokAlgorithm text from to tokens
-  pub small : AreSmall tokens
+  pub rules : algorithm_offences tokens ≡ []
   pub typed : Algorithm  -- before labels are added
   pub spelled : Spells syntax tokens typed
   pub forced : Bool  -- labels are added to every algorithm
