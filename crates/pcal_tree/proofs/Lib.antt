@@ -66,6 +66,7 @@ pub mod BoundTokens
 pub mod TokenWeights
 pub mod NamesWeighed
 pub mod LabelsWeighed
+pub mod PlainMacros
 pub mod RefusedOnce
 pub mod OpensLaws
 pub mod ReplyLaws

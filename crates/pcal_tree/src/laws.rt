@@ -258,3 +258,15 @@ pub fn names_are_no_more_than_tokens()
     ensures typed { (x : Text) → length (kept (algorithm_of x)) + length (wanted (algorithm_of x)) ≤ length (spell x []) }
     ensures labelled { (forced : Bool) (x : Text) → length (kept (labelled forced (algorithm_of x))) + length (wanted (labelled forced (algorithm_of x))) ≤ 2 * length (spell x []) }
 {}
+
+ghost use Rattle.pcal_tree.specs.Algorithm.{Macro, done};
+ghost use Rattle.pcal_tree.specs.laws.Expansion.{BeginsUnlabelled, Stays, BareBodies};
+ghost use Rattle.pcal_tree.specs.Processes.{OneOf};
+
+/// Where no rule on labels is broken, no macro's body has a label, and no statement of its list is a `goto`, a `call` or a `return`; so it begins with a statement if it
+/// has one. This is what is asked of macros for their calls to be written out, but for names that are captured.
+pub fn macros_have_no_labels_and_jumps()
+    ensures bare { (a : Algorithm) → label_offences a ≡ [] → BareBodies (reverse a.macros) }
+    ensures stays { (a : Algorithm) → label_offences a ≡ [] → (d : Macro) → OneOf d a.macros → Stays d.body }
+    ensures begins { (a : Algorithm) → label_offences a ≡ [] → (d : Macro) → OneOf d a.macros → (d.body ≡ done → ⊥) → BeginsUnlabelled d.body }
+{}
