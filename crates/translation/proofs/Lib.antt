@@ -31,5 +31,6 @@ pub mod FewNames
 pub mod TypedParts
 pub mod TypedAlgorithms
 pub mod TypedTexts
+pub mod TypedNames
 pub mod AcceptedAlgorithms
 pub mod TypedLabels

@@ -9,7 +9,7 @@ ghost use Rattle.pcal_tree.specs.Algorithm.{Routine, locals, routines, Definitio
 ghost use Rattle.pcal_tree.specs.OffencesNames.{repeated_names};
 ghost use Rattle.pcal_tree.specs.OffencesReserved.{reserved_declared};
 ghost use Rattle.pcal_tree.specs.OffencesLabels.{label_words, label_offences_by, label_offences};
-ghost use Rattle.pcal_tree.specs.laws.Apart.{FewNames};
+ghost use Rattle.pcal_tree.specs.laws.Apart.{FewNames, AreNames};
 ghost use Rattle.pcal_tree.specs.Processes.{OneOf};
 ghost use Rattle.std.specs.Bool.{IsTrue};
 ghost use Rattle.tla_token.specs.Words.{is_own};
@@ -104,9 +104,11 @@ pub fn rules_help_to_write()
 
 /// Of an algorithm that is spelled by the tokens of a text, in one syntax or the other, all names are identifiers and all expressions can be
 /// written, each left side begins with a name, no body is empty, and there is one body or a process. This stays so with labels added.
+/// None of its names that want a written one begins with WF or SF and an underscore.
 pub fn spelled_algorithms_are_typed()
     ensures typed { (s : Syntax) (w : List ℕ) (from to : ℕ) (ts : List text.Token) (a : Algorithm) → TokAlgorithm w from to ts → AreSmall ts → Spells s ts a → IsTypedAlgorithm a }
     ensures labelled { (forced : Bool) (a : Algorithm) → IsTypedAlgorithm a → IsTypedAlgorithm (labelled forced a) }
+    ensures names { (a : Algorithm) → IsTypedAlgorithm a → AreNames a }
 {}
 
 /// An algorithm that has what its text gives, and breaks no rule on names and on labels, can be written where it has few names and no statement, its
