@@ -13,7 +13,7 @@ use Rattle.pcal_tree.proofs.ClearLabels.{nothing_left, nothing_right}
 
 -- in a macro, or in a `with` of one
 module _ (targets : List Word) where
-  abbrev in_body : Bool → Within
+  abbrev pub in_body : Bool → Within
   in_body w = record { macro = true; with = w; procedure = false; targets = targets }
 
   mutual
@@ -65,7 +65,7 @@ module _ (targets : List Word) where
 -- ---- algorithms
 
 -- no jump and no label of the body offends
-abbrev IsPlain : Macro → Type 0
+abbrev pub IsPlain : Macro → Type 0
 IsPlain d = jump_offences (in_body (codes "Done" ∷ label_words d.body) false) d.body ≡ []
 
 macro_plain : (d : Macro) → of_macro d ≡ [] → IsPlain d
@@ -76,7 +76,7 @@ one_plain [] h d k = absurd k
 one_plain (e ∷ ds) h d (inl q) = subst IsPlain (sym q) (macro_plain e (nothing_left (of_macro e) _ h))
 one_plain (e ∷ ds) h d (inr k) = one_plain ds (nothing_right (of_macro e) _ h) d k
 
-plain : (a : Algorithm) → label_offences a ≡ [] → (d : Macro) → OneOf d a.macros → IsPlain d
+pub plain : (a : Algorithm) → label_offences a ≡ [] → (d : Macro) → OneOf d a.macros → IsPlain d
 plain a h d k = one_plain a.macros (nothing_left (flat_map of_macro a.macros) _ h) d k
 
 bodies_bare : (ds : List Macro) → ((d : Macro) → OneOf d ds → Bare d.body) → BareBodies ds

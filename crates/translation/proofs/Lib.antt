@@ -26,6 +26,7 @@ pub mod KnownStatements
 pub mod KnownRoutines
 pub mod OnceStatements
 pub mod OnceThrough
+pub mod EndingJumps
 pub mod OutsideNames
 pub mod FewNames
 pub mod TypedParts

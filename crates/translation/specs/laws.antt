@@ -5,3 +5,4 @@ pub mod WritableAlgorithm
 pub mod AssignedOnce
 pub mod TypedAlgorithm
 pub mod AcceptedAlgorithm
+pub mod JumpsEnd

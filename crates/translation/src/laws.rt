@@ -45,6 +45,8 @@ ghost use Rattle.tla_token.specs.Tokens.{TokAlgorithm};
 ghost use Rattle.tla_tree.specs.laws.Writable.{AreSmall};
 ghost use Rattle.pcal_tree.specs.Grammar.{Syntax, Spells};
 ghost use Rattle.pcal_tree.specs.OffencesOfNames.{name_offences};
+ghost use Rattle.pcal_tree.specs.Expand.{expanded};
+ghost use Rattle.translation.specs.laws.JumpsEnd.{JumpsEnd};
 ghost use Rattle.translation.specs.laws.TypedAlgorithm.{IsTypedAlgorithm};
 ghost use Rattle.translation.specs.laws.AssignedOnce.{CallNone, effect_through};
 ghost use Rattle.translation.specs.laws.AcceptedAlgorithm.{IsAccepted, EachAssignsOnce};
@@ -129,4 +131,10 @@ pub fn accepted_modules_read_back()
         → IsRegion (written_region no_terminating o a) }
     ensures files { (no_terminating : Bool) (x w : Text) (o : Outside) (a : Algorithm) → IsAccepted o a → EachAssignsOnce a → length x ≤ most_bytes → IsFine x → HasOutside (walk x) o
         → WithTranslation x (layout (written_region no_terminating o a)) w → IsWritten x w o (written_region no_terminating o a) }
+{}
+
+/// Where no rule on labels is broken, each statement that jumps, or in which a label is, ends its list or is followed by a label, with macro calls written out, as the
+/// laws of written actions ask.
+pub fn jumps_end_their_lists()
+    ensures { (a : Algorithm) → label_offences a ≡ [] → (u : Routine) → OneOf u (routines a) → JumpsEnd (expanded (reverse a.macros) u.body) }
 {}
