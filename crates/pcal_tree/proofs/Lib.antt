@@ -62,6 +62,11 @@ pub mod SameSteps
 pub mod SameStarts
 pub mod RowsCounts
 pub mod CountLimits
+pub mod BoundTokens
+pub mod TokenWeights
+pub mod NamesWeighed
+pub mod LabelsWeighed
+pub mod PlainMacros
 pub mod RefusedOnce
 pub mod OpensLaws
 pub mod ReplyLaws

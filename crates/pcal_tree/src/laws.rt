@@ -247,3 +247,26 @@ pub fn replies_are_of_scripts()
         → (u : State) × (l : Word) × (stepped P s n.who n.choices ≡ reached (u, l)) × Agree (vars P) u t }
     ensures start { (P : Program) (choices : List ℕ) (s : State) → start_by P choices ≡ reached s → Reaches P (walk (started P) choices) s }
 {}
+
+ghost use Rattle.std.specs.Prelude.{◌*◌};
+ghost use Rattle.pcal_tree.specs.Grammar.{algorithm_of};
+ghost use Rattle.pcal_tree.specs.Names.{kept};
+
+/// The names that are taken from the start for an algorithm, without those outside of it, and those that want a written name, are together no more than the tokens that spell
+/// it; and no more than twice as many with labels added. So a text has few names.
+pub fn names_are_no_more_than_tokens()
+    ensures typed { (x : Text) → length (kept (algorithm_of x)) + length (wanted (algorithm_of x)) ≤ length (spell x []) }
+    ensures labelled { (forced : Bool) (x : Text) → length (kept (labelled forced (algorithm_of x))) + length (wanted (labelled forced (algorithm_of x))) ≤ 2 * length (spell x []) }
+{}
+
+ghost use Rattle.pcal_tree.specs.Algorithm.{Macro, done};
+ghost use Rattle.pcal_tree.specs.laws.Expansion.{BeginsUnlabelled, Stays, BareBodies};
+ghost use Rattle.pcal_tree.specs.Processes.{OneOf};
+
+/// Where no rule on labels is broken, no macro's body has a label, and no statement of its list is a `goto`, a `call` or a `return`; so it begins with a statement if it
+/// has one. This is what is asked of macros for their calls to be written out, but for names that are captured.
+pub fn macros_have_no_labels_and_jumps()
+    ensures bare { (a : Algorithm) → label_offences a ≡ [] → BareBodies (reverse a.macros) }
+    ensures stays { (a : Algorithm) → label_offences a ≡ [] → (d : Macro) → OneOf d a.macros → Stays d.body }
+    ensures begins { (a : Algorithm) → label_offences a ≡ [] → (d : Macro) → OneOf d a.macros → (d.body ≡ done → ⊥) → BeginsUnlabelled d.body }
+{}

@@ -1,22 +1,31 @@
--- An algorithm that has what its text gives, and breaks no rule on names and labels, can be written where its statements can with macro calls written out.
-use Rattle.std.proofs.Common.{◌≡◌, ℕ, suc, List, [], ◌∷◌, not, reverse, ◌⊎◌, inl, inr, sym, subst}
+-- An algorithm that has what its text gives, and breaks no rule on names and labels, can be written where no statement, its macro calls written out, assigns a variable beside a part of it.
+use Rattle.std.proofs.Common.{◌≡◌, ℕ, suc, ◌≤◌, length, List, [], ◌∷◌, not, ◌⊎◌, inl, inr, sym, subst}
 use Rattle.std.specs.Bool.{IsTrue}
+use Rattle.tla_token.specs.Limits.{most_bytes}
 use Rattle.tla_token.specs.Words.{is_own}
 use Rattle.tla_tree.specs.laws.Writable.{IsIdentifier, IsWritable}
 use Rattle.tla_value.specs.Outside.{Outside}
+use Rattle.module_tree.specs.TextFront.{Text}
+use Rattle.module_tree.specs.Walk.{walk}
+use Rattle.module_tree.specs.laws.Outsides.{HasOutside}
 use Rattle.module_tree.specs.laws.WritableRegion.{EachOf}
 use Rattle.pcal_tree.specs.Algorithm.{locals, Definition, Procedure, Process, Main, alone, processes, Routine, procedure_routine, process_routine, numbered, first_procedure, first_process, procedure_routines, main_routines, routines, Algorithm}
-use Rattle.pcal_tree.specs.Expand.{expanded}
 use Rattle.pcal_tree.specs.OffencesLabels.{label_offences}
-use Rattle.pcal_tree.specs.OffencesNames.{repeated_names}
+use Rattle.pcal_tree.specs.OffencesNames.{use_offences_of, repeated_names}
+use Rattle.pcal_tree.specs.OffencesOfNames.{offences_of_uses, offences_of_declarations, offences_of_reads, through_each_call, name_offences}
 use Rattle.pcal_tree.specs.OffencesReserved.{reserved_declared}
 use Rattle.pcal_tree.specs.Processes.{OneOf}
 use Rattle.pcal_tree.specs.laws.Apart.{FewNames}
 use Rattle.pcal_tree.proofs.RoutineNames.{one_either}
-use Rattle.translation.specs.laws.WritableAlgorithm.{AreWritableStatements, IsWritableDeclaration, IsWritableDefinition, is_procedure, is_variable, IsStarted, IsWritableMain, IsWritableAlgorithm}
+use Rattle.translation.specs.laws.WritableAlgorithm.{IsWritableDeclaration, IsWritableDefinition, IsStarted, IsWritableMain, IsWritableAlgorithm}
+use Rattle.translation.specs.laws.AcceptedAlgorithm.{IsAccepted, EachAssignsOnce}
 use Rattle.translation.specs.laws.TypedAlgorithm.{IsTypedDefinition, IsTypedProcedure, IsTypedProcess, IsTypedMain, IsTypedAlgorithm}
-use Rattle.translation.proofs.AcceptedNames.{names_once, definitions_free, bodies_labelled}
+use Rattle.translation.proofs.AcceptedNames.{both_none, names_once, definitions_free, bodies_labelled}
+use Rattle.translation.proofs.FewNames.{few_names, tokens_within}
+use Rattle.translation.proofs.KnownRoutines.{routine_written}
 use Rattle.translation.proofs.RegionActions.{every_both}
+use Rattle.translation.proofs.TypedLabels.{labelled_typed}
+use Rattle.translation.proofs.TypedTexts.{text_typed}
 
 -- its name, its variables and a body that isn't empty
 abbrev IsTypedRoutine : Routine → Type 0
@@ -58,14 +67,29 @@ main_writable (alone ss) h = tt
 main_writable (processes []) h = absurd h
 main_writable (processes (p ∷ ps)) h = identities (p ∷ ps) h
 
-pub accepted_writable : (o : Outside) (a : Algorithm) → IsTypedAlgorithm a → FewNames a o → repeated_names a o ≡ [] → reserved_declared a o ≡ [] → label_offences a ≡ []
-    → ((u : Routine) → OneOf u (routines a) → AreWritableStatements (is_procedure a) (is_variable a u) (expanded (reverse a.macros) u.body)) → IsWritableAlgorithm o a
-accepted_writable o a h few twice reserved labels bodies = record {
-  few = few;
-  globals = h.globals;
-  definitions = definitions_writable a.definitions h.definitions (definitions_free a o reserved);
-  main = main_writable a.main h.main;
-  routines = λ u k.
-      let t = routine_typed a h u k in
-      record { name = t.0; locals = t.1; once = names_once a o twice u k; labelled = bodies_labelled a labels u k t.2; body = bodies u k };
-}
+-- uses of names, names declared twice and reserved names
+rules_on_names : (a : Algorithm) (o : Outside) → name_offences a o ≡ [] → (use_offences_of a o ≡ []) × (repeated_names a o ≡ []) × (reserved_declared a o ≡ [])
+rules_on_names a o h =
+    let F = through_each_call a o in
+    let p = both_none (offences_of_uses F a o) _ h in
+    let q = both_none (offences_of_declarations F a o) (offences_of_reads F a) p.1 in
+    let r = both_none (repeated_names a o) _ q.0 in
+    ((both_none F.uses _ p.0).0, r.0, (both_none F.rebound (reserved_declared a o) r.1).1)
+
+pub accepted_writable : (o : Outside) (a : Algorithm) → IsTypedAlgorithm a → FewNames a o → name_offences a o ≡ [] → label_offences a ≡ [] → EachAssignsOnce a → IsWritableAlgorithm o a
+accepted_writable o a h few names labels once =
+    let n = rules_on_names a o names in
+    record {
+      few = few;
+      globals = h.globals;
+      definitions = definitions_writable a.definitions h.definitions (definitions_free a o n.2);
+      main = main_writable a.main h.main;
+      routines = λ u k.
+          let t = routine_typed a h u k in
+          record { name = t.0; locals = t.1; once = names_once a o n.1 u k; labelled = bodies_labelled a labels u k t.2; body = routine_written a o h n.0 u k (once u k) };
+    }
+
+-- of a file within the limits, with labels added
+pub text_writable : (x : Text) (o : Outside) (a : Algorithm) → IsAccepted o a → EachAssignsOnce a → length x ≤ most_bytes → HasOutside (walk x) o → IsWritableAlgorithm o a
+text_writable x o a h once size out =
+    accepted_writable o a (subst IsTypedAlgorithm h.labels_added (labelled_typed h.forced h.typed (text_typed h.syntax h.text h.from h.to h.tokens h.typed h.tok (tokens_within h.tokens h.rules).0 h.spelled))) (few_names x o a h size out) h.names h.labels once

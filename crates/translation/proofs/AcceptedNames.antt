@@ -28,16 +28,16 @@ use Rattle.translation.specs.laws.WritableAlgorithm.{IsLabelled, IsStarted}
 
 -- ---- lists without an offence
 
-both_none : {X : Type 0} (xs ys : List X) → xs ++ ys ≡ [] → (xs ≡ []) × (ys ≡ [])
+pub both_none : {X : Type 0} (xs ys : List X) → xs ++ ys ≡ [] → (xs ≡ []) × (ys ≡ [])
 both_none [] ys e = (refl, e)
 both_none (x ∷ xs) ys e = cc
 
-each_none : {X Y : Type 0} (f : X → List Y) (xs : List X) → flat_map f xs ≡ [] → (x : X) → OneOf x xs → f x ≡ []
+pub each_none : {X Y : Type 0} (f : X → List Y) (xs : List X) → flat_map f xs ≡ [] → (x : X) → OneOf x xs → f x ≡ []
 each_none f [] e x k = absurd k
 each_none f (y ∷ ys) e x (inl q) = ap f q ∙ (both_none (f y) (flat_map f ys) e).0
 each_none f (y ∷ ys) e x (inr k) = each_none f ys (both_none (f y) (flat_map f ys) e).1 x k
 
-no_offence : (b : Bool) (r : Rule) (at : Place) → offence_if b r at ≡ [] → b ≡ false
+pub no_offence : (b : Bool) (r : Rule) (at : Place) → offence_if b r at ≡ [] → b ≡ false
 no_offence true r at e = cc
 no_offence false r at e = refl
 

@@ -18,10 +18,20 @@ pub mod RegionNext
 pub mod RegionFairness
 pub mod WritableRegions
 mod RowsWritable
+mod RowsAssigned
 pub mod WritableBare
 pub mod PlacelessAlgorithm
 pub mod AcceptedNames
+pub mod KnownStatements
+pub mod KnownRoutines
+pub mod OnceStatements
+pub mod OnceThrough
+pub mod EndingJumps
+pub mod OutsideNames
+pub mod FewNames
 pub mod TypedParts
 pub mod TypedAlgorithms
+pub mod TypedTexts
+pub mod TypedNames
 pub mod AcceptedAlgorithms
 pub mod TypedLabels

@@ -8,12 +8,12 @@ use Rattle.tla_tree.specs.laws.Writable.{IsIdentifier, IsWritable, AreOfText}
 use Rattle.tla_tree.specs.Spelling.{tree_of}
 use Rattle.module_tree.specs.laws.WritableRegion.{EachOf}
 use Rattle.pcal_tree.specs.Algorithm as tree
-use Rattle.pcal_tree.specs.GrammarParts.{Labels, no_labels, label, colon, colon_plus, colon_minus, with_labels}
+use Rattle.pcal_tree.specs.GrammarParts.{Tokens, name, section_tokens, Labels, no_labels, label, colon, colon_plus, colon_minus, with_labels}
 use Rattle.pcal_tree.specs.GrammarP as p
 use Rattle.pcal_tree.specs.GrammarC as c
 use Rattle.pcal_tree.specs.Grammar as g
 use Rattle.translation.specs.laws.WritableAlgorithm.{IsStarted}
-use Rattle.translation.specs.laws.TypedAlgorithm.{IsTypedStatement, AreTypedStatements, AreTypedBranches, IsTypedBody, IsTypedDefinition, IsTypedMacro, IsTypedProcedure, IsTypedProcess, IsTypedMain, IsTypedAlgorithm, tokens_after_head}
+use Rattle.translation.specs.laws.TypedAlgorithm.{IsTypedStatement, AreTypedStatements, AreTypedBranches, IsTypedBody, IsTypedDefinition, IsTypedMacro, IsTypedProcedure, IsTypedProcess, IsTypedMain, IsTypedAlgorithm}
 use Rattle.translation.proofs.TypedParts.{of_phrase, of_semicolon, of_section, of_macro_parameters, of_procedure_parameters, of_definitions, of_labels, of_binds, of_simple}
 
 started : (ls : Labels) (ss : tree.Statements) → IsStarted ss → IsStarted (with_labels ls ss)
@@ -216,6 +216,11 @@ of_main g.c_syntax (g.begin a ss) ts k h = absurd k
 of_around : (r : g.Around) (inside : List Token → List Token) (ts : List Token) → AreOfText (g.around r inside ts) → (us : List Token) × AreOfText (inside us)
 of_around (g.to_end a b) inside ts h = (_, h)
 of_around (g.in_braces a b) inside ts h = (_, h.1)
+
+-- the tokens after `--algorithm`, or `--fair algorithm`, which are no words of expressions
+abbrev pub tokens_after_head : g.Text → Tokens
+tokens_after_head x ts =
+    name x.name (g.around x.around (λ us. section_tokens x.variables (g.define x.define (g.each g.macro x.macros (g.each g.procedure x.procedures (g.main x.main us))))) ts)
 
 pub typed_algorithm : (s : g.Syntax) (x : g.Text) → g.Good s x → AreOfText (tokens_after_head x []) → IsTypedAlgorithm (g.algorithm_of x)
 typed_algorithm s x k h =

@@ -7,14 +7,16 @@ use Rattle.tla_value.specs.Outside.{Outside}
 use Rattle.module_tree.specs.Ways.{processes_in}
 use Rattle.module_tree.specs.laws.WritableRegion.{EachOf, AreNames, IsDefinition, IsRegion}
 use Rattle.pcal_tree.specs.Algorithm.{Definition, Algorithm}
+use Rattle.pcal_tree.specs.Placeless.{placeless}
 use Rattle.pcal_tree.specs.Program.{inner}
 use Rattle.pcal_tree.specs.Variables.{declared, vars}
 use Rattle.action_builder.specs.ModelValues.{is_unset, model_values}
 use Rattle.pcal_tree.specs.Expressions.{all_declarations}
 use Rattle.action_builder.specs.NextFormula.{next}
 use Rattle.action_builder.specs.WrittenNames.{with_names}
-use Rattle.translation.specs.Region.{region_of}
+use Rattle.translation.specs.Region.{region_of, written_region}
 use Rattle.translation.specs.laws.WritableAlgorithm.{IsWritableDefinition, IsWritableAlgorithm}
+use Rattle.translation.proofs.PlacelessAlgorithm.{placeless_writable}
 use Rattle.translation.proofs.RegionActions.{IsSome, some_after, some_before, vars_identifiers}
 use Rattle.translation.proofs.RegionTakers.{actions_writable}
 use Rattle.translation.proofs.RegionInit.{process_sets_writable, init_writable}
@@ -54,3 +56,7 @@ region_writable b o a h =
       termination = all_done_writable a.main;
       terminating = terminating_there o a h b;
     }
+
+-- without its places the algorithm can be written too
+pub written_is_region : (b : Bool) (o : Outside) (a : Algorithm) → IsWritableAlgorithm o a → IsRegion (written_region b o a)
+written_is_region b o a h = region_writable b o (placeless a) (placeless_writable o a h)

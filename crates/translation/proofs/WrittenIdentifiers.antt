@@ -73,7 +73,7 @@ given_names extended taken [] few h = tt
 given_names extended taken (w ∷ ws) few h =
     (first_free_name extended taken w.word (omega arith) h.0.0, given_names extended (first_free extended taken w.word ∷ taken) ws (omega arith) h.1)
 
-no_fairness : (w : Word) → IsIdentifier w → begins_fairness w ≡ false
+pub no_fairness : (w : Word) → IsIdentifier w → begins_fairness w ≡ false
 no_fairness w h =
     (or_parts (is_among tla_words w) (begins_fairness w) (or_parts (is_pluscal_word w) (is_tla_word w) (not-true (is_reserved w) h.1)).1).1
 

@@ -2,4 +2,7 @@
 pub mod Steps
 pub mod ActionNames
 pub mod WritableAlgorithm
+pub mod AssignedOnce
 pub mod TypedAlgorithm
+pub mod AcceptedAlgorithm
+pub mod JumpsEnd

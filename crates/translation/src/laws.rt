@@ -1,6 +1,6 @@
 //! Laws of the written module, stated as what functions without a body ensure.
 
-ghost use Rattle.std.specs.Prelude.{◌≡◌, ℕ, List, [], Bool, false, not, Some, map, reverse};
+ghost use Rattle.std.specs.Prelude.{◌≡◌, ℕ, List, [], Bool, false, not, Some, map, reverse, length, ◌≤◌};
 ghost use Rattle.tla_tree.specs.Tree.{Word};
 ghost use Rattle.tla_value.specs.Outside.{Outside};
 ghost use Rattle.module_tree.specs.Module.{test, item, Module};
@@ -8,9 +8,8 @@ ghost use Rattle.module_tree.specs.Reading.{Reads};
 ghost use Rattle.pcal_tree.specs.Algorithm.{Routine, locals, routines, Definition, Algorithm};
 ghost use Rattle.pcal_tree.specs.OffencesNames.{repeated_names};
 ghost use Rattle.pcal_tree.specs.OffencesReserved.{reserved_declared};
-ghost use Rattle.pcal_tree.specs.OffencesLabels.{label_words, label_offences};
-ghost use Rattle.pcal_tree.specs.Expand.{expanded};
-ghost use Rattle.pcal_tree.specs.laws.Apart.{FewNames};
+ghost use Rattle.pcal_tree.specs.OffencesLabels.{label_words, label_offences_by, label_offences};
+ghost use Rattle.pcal_tree.specs.laws.Apart.{FewNames, AreNames};
 ghost use Rattle.pcal_tree.specs.Processes.{OneOf};
 ghost use Rattle.std.specs.Bool.{IsTrue};
 ghost use Rattle.tla_token.specs.Words.{is_own};
@@ -40,10 +39,18 @@ ghost use Rattle.module_tree.specs.Layout.{layout};
 ghost use Rattle.module_tree.specs.TextFront.{Text};
 ghost use Rattle.module_tree.specs.Walk.{walk};
 ghost use Rattle.module_tree.specs.WithTranslation.{WithTranslation};
-ghost use Rattle.tla_tree.specs.laws.Writable.{AreOfText};
-ghost use Rattle.pcal_tree.specs.Grammar.{Syntax, Text as AlgorithmAsSpelled, Good, algorithm_of};
-ghost use Rattle.translation.specs.laws.TypedAlgorithm.{tokens_after_head, IsTypedAlgorithm};
-ghost use Rattle.translation.specs.laws.WritableAlgorithm.{AreWritableStatements, is_procedure, is_variable, IsStarted, IsLabelled, IsWritableAlgorithm};
+ghost use Rattle.tla_token.specs.Limits.{most_bytes};
+ghost use Rattle.tla_token.specs.Tokens as text;
+ghost use Rattle.tla_token.specs.Tokens.{TokAlgorithm};
+ghost use Rattle.tla_tree.specs.laws.Writable.{AreSmall};
+ghost use Rattle.pcal_tree.specs.Grammar.{Syntax, Spells};
+ghost use Rattle.pcal_tree.specs.OffencesOfNames.{name_offences};
+ghost use Rattle.pcal_tree.specs.Expand.{expanded};
+ghost use Rattle.translation.specs.laws.JumpsEnd.{JumpsEnd};
+ghost use Rattle.translation.specs.laws.TypedAlgorithm.{IsTypedAlgorithm};
+ghost use Rattle.translation.specs.laws.AssignedOnce.{CallNone, effect_through};
+ghost use Rattle.translation.specs.laws.AcceptedAlgorithm.{IsAccepted, EachAssignsOnce};
+ghost use Rattle.translation.specs.laws.WritableAlgorithm.{IsStarted, IsLabelled, IsWritableAlgorithm};
 ghost use Rattle.translation.specs.Region.{written_region, written_module};
 
 /// The written module of an algorithm and of the same one with other places are the same.
@@ -97,17 +104,37 @@ pub fn rules_help_to_write()
     ensures labelled { (a : Algorithm) → label_offences a ≡ [] → (u : Routine) → OneOf u (routines a) → IsStarted u.body → IsLabelled (label_words u.body) }
 {}
 
-/// Of an algorithm that is spelled by tokens of a text, in one syntax or the other, all names are identifiers and all expressions can be
+/// Of an algorithm that is spelled by the tokens of a text, in one syntax or the other, all names are identifiers and all expressions can be
 /// written, each left side begins with a name, no body is empty, and there is one body or a process. This stays so with labels added.
+/// None of its names that want a written one begins with WF or SF and an underscore.
 pub fn spelled_algorithms_are_typed()
-    ensures typed { (s : Syntax) (x : AlgorithmAsSpelled) → Good s x → AreOfText (tokens_after_head x []) → IsTypedAlgorithm (algorithm_of x) }
+    ensures typed { (s : Syntax) (w : List ℕ) (from to : ℕ) (ts : List text.Token) (a : Algorithm) → TokAlgorithm w from to ts → AreSmall ts → Spells s ts a → IsTypedAlgorithm a }
     ensures labelled { (forced : Bool) (a : Algorithm) → IsTypedAlgorithm a → IsTypedAlgorithm (labelled forced a) }
+    ensures names { (a : Algorithm) → IsTypedAlgorithm a → AreNames a }
 {}
 
-/// An algorithm that has what its text gives, and breaks no rule on names declared twice, on reserved names and on labels, can be written
-/// where the statements of each body can with macro calls written out.
+/// An algorithm that has what its text gives, and breaks no rule on names and on labels, can be written where it has few names and no statement, its
+/// macro calls written out, assigns a variable beside a part of it. The rule on assigning twice gives the latter where no macro calls another;
+/// and for all macros where what is assigned by a macro call is looked at through the calls around it.
 pub fn accepted_algorithms_can_be_written()
-    ensures { (o : Outside) (a : Algorithm) → IsTypedAlgorithm a → FewNames a o → repeated_names a o ≡ [] → reserved_declared a o ≡ [] → label_offences a ≡ []
-        → ((u : Routine) → OneOf u (routines a) → AreWritableStatements (is_procedure a) (is_variable a u) (expanded (reverse a.macros) u.body))
-        → IsWritableAlgorithm o a }
+    ensures written { (o : Outside) (a : Algorithm) → IsTypedAlgorithm a → FewNames a o → name_offences a o ≡ [] → label_offences a ≡ [] → EachAssignsOnce a → IsWritableAlgorithm o a }
+    ensures once { (a : Algorithm) → label_offences a ≡ [] → CallNone a.macros → EachAssignsOnce a }
+    ensures through { (a : Algorithm) → label_offences_by (effect_through (reverse a.macros)) a ≡ [] → EachAssignsOnce a }
+{}
+
+/// What is written of an algorithm that the tokens of a text spell, with labels added, and that breaks no rule on tokens, names and labels, is a translation that can
+/// be written and read back: a file within the limits that is not refused is one module with it, around that file, with what the file has outside. Its names
+/// are few. It is asked that no statement, its macro calls written out, assigns a variable beside a part of it.
+pub fn accepted_modules_read_back()
+    ensures few { (x : Text) (o : Outside) (a : Algorithm) → IsAccepted o a → length x ≤ most_bytes → HasOutside (walk x) o → FewNames a o }
+    ensures regions { (no_terminating : Bool) (x : Text) (o : Outside) (a : Algorithm) → IsAccepted o a → EachAssignsOnce a → length x ≤ most_bytes → HasOutside (walk x) o
+        → IsRegion (written_region no_terminating o a) }
+    ensures files { (no_terminating : Bool) (x w : Text) (o : Outside) (a : Algorithm) → IsAccepted o a → EachAssignsOnce a → length x ≤ most_bytes → IsFine x → HasOutside (walk x) o
+        → WithTranslation x (layout (written_region no_terminating o a)) w → IsWritten x w o (written_region no_terminating o a) }
+{}
+
+/// Where no rule on labels is broken, each statement that jumps, or in which a label is, ends its list or is followed by a label, with macro calls written out, as the
+/// laws of written actions ask.
+pub fn jumps_end_their_lists()
+    ensures { (a : Algorithm) → label_offences a ≡ [] → (u : Routine) → OneOf u (routines a) → JumpsEnd (expanded (reverse a.macros) u.body) }
 {}

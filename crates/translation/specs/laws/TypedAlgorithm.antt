@@ -6,8 +6,6 @@ use Rattle.tla_tree.specs.Tree.{words}
 use Rattle.tla_tree.specs.laws.Writable.{IsIdentifier, IsWritable, AreWritable}
 use Rattle.module_tree.specs.laws.WritableRegion.{EachOf}
 use Rattle.pcal_tree.specs.Algorithm.{Assignments, no_assignments, assignment, Statement, assign, await, print, assert, skip, branch, either, with, while, goto, macro, call, return, Statements, done, then, mark, Branches, no_branches, or, Definition, Macro, Procedure, Process, Main, alone, processes, Algorithm}
-use Rattle.pcal_tree.specs.Grammar.{Text, around, define, each, macro as macro_tokens, procedure, main}
-use Rattle.pcal_tree.specs.GrammarParts.{Tokens, name, section_tokens}
 use Rattle.pcal_tree.specs.Paths.{root}
 use Rattle.translation.specs.laws.WritableAlgorithm.{AreWritableBinds, IsWritableDeclaration, IsStarted}
 
@@ -71,10 +69,3 @@ pub record IsTypedAlgorithm (a : Algorithm) : Type 0 where
   pub macros : EachOf IsTypedMacro a.macros
   pub procedures : EachOf IsTypedProcedure a.procedures
   pub main : IsTypedMain a.main
-
--- ---- its tokens
-
--- those after `--algorithm`, or `--fair algorithm`, which are no words of expressions
-abbrev pub tokens_after_head : Text → Tokens
-tokens_after_head x ts =
-    name x.name (around x.around (λ us. section_tokens x.variables (define x.define (each macro_tokens x.macros (each procedure x.procedures (main x.main us))))) ts)
