@@ -20,8 +20,7 @@ use Rattle.first_path.specs.Beside.{Beside}
 use Rattle.first_path.specs.Form.{Parts, suits, algorithm_kinds, IsForm}
 use Rattle.first_path.specs.Placed.{region_of, translation_of}
 use Rattle.first_path.proofs.BesideKept.{beside_kept}
-use Rattle.first_path.proofs.LayoutInside.{layout_inside}
-use Rattle.first_path.proofs.Placing.{placed, kept}
+use Rattle.first_path.proofs.Placing.{placed, inside, kept}
 
 -- ---- the kinds of tokens are those of their pieces
 
@@ -49,7 +48,7 @@ pub form_again : (x : List ℕ) (f : Parts) → IsForm x f → IsForm (translati
 form_again x f h =
     let t = layout (region_of f) in
     let w = translation_of x f in
-    let i = layout_inside f h.fit in
+    let i = inside f h.fit in
     let k = kept x f h in
     let a = algorithm_kept x t w h.algorithm h.fine i (placed x f h) h.is_algorithm in
     record {
@@ -75,6 +74,6 @@ pub text_again : (x : List ℕ) (f : Parts) → IsForm x f → translation_of (t
 text_again x f h =
     let t = layout (region_of f) in
     let w = translation_of x f in
-    let i = layout_inside f h.fit in
+    let i = inside f h.fit in
     let again = put_again x t w t (translation_of w f) h.fine i i (placed x f h) (placed w f (form_again x f h)) in
     one_text x t (translation_of w f) w again (placed x f h)

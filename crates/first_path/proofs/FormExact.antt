@@ -14,8 +14,7 @@ use Rattle.module_tree.specs.FileOffences.{splitting_offences}
 use Rattle.first_path.specs.FormRead.{on_some, if_so, opened_parts_in, parts_in, if_none, suiting, file_form}
 use Rattle.first_path.proofs.Fit.{Fit, fit_of}
 use Rattle.first_path.proofs.FormKinds.{so, word_stands, Standing, parts_stand, parts_read, closing_kinds}
-use Rattle.first_path.proofs.FormFine.{fine, spared}
-use Rattle.first_path.proofs.RegionBytes.{small_kind}
+use Rattle.first_path.proofs.FormFine.{small_kind, fine, spared}
 
 some_on : {A B : Type 0} (o : Option A) (go : A → Option B) (r : B) → on_some o go ≡ Some r → (a : A) × (o ≡ Some a) × (go a ≡ Some r)
 some_on (Some a) go r e = (a, refl, e)

@@ -8,7 +8,7 @@ use Rattle.tla_token.specs.declared.rule.Rule.TheVariants.{NotAscii, BadToken, O
 use Rattle.tla_token.specs.declared.place.Place.{Place}
 use Rattle.tla_token.specs.Places.{place_at, after}
 use Rattle.tla_token.specs.Limits.{past_numbers}
-use Rattle.tla_token.specs.Lexemes.{name, number, string, one, other}
+use Rattle.tla_token.specs.Lexemes.{Kind, name, number, string, one, other}
 use Rattle.tla_token.specs.Tokens.{Token, Piece, blank, block, line, lexeme, bytes_of, tokens_of, holds_mark, stretch}
 use Rattle.tla_token.specs.Offences.{Part, sound, stray, bad_string, open_string, open_block, is_stray, has_bad_escape, breaks_string, Offence, offence_if, byte_offences, part_offences}
 use Rattle.tla_token.specs.Cut.{pieces}
@@ -20,8 +20,7 @@ use Rattle.module_tree.specs.FileParts.{module_end, beginnings, after_comment, S
 use Rattle.module_tree.specs.AlgorithmText.{IndexedPart, AlgorithmText, algorithm_in, in_token}
 use Rattle.module_tree.specs.FileUnits.{token_in, begins_unit}
 use Rattle.module_tree.specs.FileOffences.{offences_at, segment_offences, offences_of, algorithm_offences, no_module, no_algorithm, second_algorithms, rest_of_line, no_unit, placements, outside_region, options_in, file_offences, is_splitting, splitting_offences}
-use Rattle.first_path.specs.Form.{algorithm_kinds}
-use Rattle.first_path.proofs.RegionBytes.{small_kind, all_small}
+use Rattle.first_path.specs.Form.{is_small, algorithm_kinds}
 use Rattle.first_path.proofs.Names.{all_more}
 
 -- ---- offences that are all of other rules
@@ -97,6 +96,15 @@ segments_free [] = refl
 segments_free (d ∷ ds) = all_more is_splitting (segment_offences d.at d.is) (offences_of ds) (segment_free d.at d.is) (segments_free ds)
 
 -- ---- the algorithm's parts
+
+abbrev pub small_kind : Kind → Bool
+small_kind (number n) = is_small n
+small_kind _ = true
+
+abbrev all_small : List Piece → Bool
+all_small [] = true
+all_small (lexeme k bytes ∷ ps) = small_kind k && all_small ps
+all_small (p ∷ ps) = all_small ps
 
 within_limit : (n m : ℕ) → nat_lt n m ≡ true → nat_le m n ≡ false
 within_limit n m h = false_from_ne_true (nat_le m n) (λ e. (let a = leb-true m n e in let b = ltb-true n m h in omega arith))

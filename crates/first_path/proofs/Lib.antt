@@ -1,8 +1,6 @@
 pub mod Names
 pub mod Fit
 pub mod FormKinds
-pub mod Pieces
-pub mod RegionBytes
 pub mod FormFine
 pub mod FormExact
 pub mod StandsTokens
@@ -10,15 +8,8 @@ pub mod Stands
 pub mod OneStatement
 pub mod OneAlgorithm
 pub mod AlgorithmAlone
-pub mod RegionText
-pub mod RegionFits
-pub mod RegionBars
 pub mod WritableForm
-pub mod RegionCut
-pub mod RegionForms
-pub mod RegionStep
-pub mod RegionUnits
-pub mod LayoutInside
+pub mod RegionPlaces
 pub mod BesideKept
 pub mod BoundWords
 pub mod OutsideApart

@@ -4,7 +4,7 @@ use Rattle.tla_token.specs.declared.place.Place.{Place}
 use Rattle.tla_token.specs.Signs.{is_among}
 use Rattle.tla_token.specs.Words.{is_reserved, is_own, is_standard}
 use Rattle.tla_tree.specs.declared.op.Op.TheVariants.{Equal, Plus}
-use Rattle.tla_tree.specs.Tree.{Word, number, name, operator}
+use Rattle.tla_tree.specs.Tree.{Word, operator}
 use Rattle.tla_value.specs.declared.fault.FaultKind.TheVariants.{NotInteger}
 use Rattle.tla_value.specs.Value.{Value, truth, int, text, model, set, fun, Outcome, fault, Sense, ◌>>=◌, and_then, TrueExactly}
 use Rattle.tla_value.specs.Order.{same}
@@ -17,7 +17,7 @@ use Rattle.pcal_tree.specs.Names.{first_free, free_from}
 use Rattle.module_tree.specs.ActionTruth.{Verdict, value_in, truth_in, is_value}
 use Rattle.module_tree.proofs.Tells.{tells_of, tells_and, tells_as}
 use Rattle.first_path.specs.Form.{Operand, number_operand, variable_operand, Right, single, sum}
-use Rattle.first_path.specs.Placed.{leaf, infix_of, operand_tree, right_tree, is_at}
+use Rattle.first_path.specs.Placed.{operand_tree, right_at, label_at, begins_at}
 use Rattle.first_path.proofs.Fit.{Free}
 
 -- ---- values
@@ -71,13 +71,13 @@ added_is p (model a) b = refl
 added_is p (set a) b = refl
 added_is p (fun a d) b = refl
 
-pub right_evaluates : (v : Word) (w : Value) (env : Env) → StandsFor v w env → (r : Right) (p q : Place)
-    → (eval plain (right_tree v r p q) env).value ≡ outcome p (result r w)
-right_evaluates v w env h (single a) p q = operand_evaluates v w env h a p
-right_evaluates v w env h (sum a b) p q =
-    then_two (eval plain (operand_tree v a p) env).value (eval plain (operand_tree v b q) env).value (strict_value plain (operator Plus) p)
-    ∙ (λ i. (operand_evaluates v w env h a p i) >>= (λ x.
-    (operand_evaluates v w env h b q i) >>= (λ y. strict_value plain (operator Plus) p (x ∷ y ∷ []))))
+pub right_evaluates : (v : Word) (w : Value) (env : Env) → StandsFor v w env → (e : Right) (p q r : Place)
+    → (eval plain (right_at v e p q r) env).value ≡ outcome p (result e w)
+right_evaluates v w env h (single a) p q r = operand_evaluates v w env h a p
+right_evaluates v w env h (sum a b) p q r =
+    then_two (eval plain (operand_tree v a q) env).value (eval plain (operand_tree v b r) env).value (strict_value plain (operator Plus) p)
+    ∙ (λ i. (operand_evaluates v w env h a q i) >>= (λ x.
+    (operand_evaluates v w env h b r i) >>= (λ y. strict_value plain (operator Plus) p (x ∷ y ∷ []))))
     ∙ added_is p (operand_value a w) (operand_value b w)
 
 -- ---- tests
@@ -87,30 +87,30 @@ tested : Place → Value → Sense → Verdict
 tested p u s = ((s.value >>= (λ v. Ok (v ∷ u ∷ []))) >>= strict_value plain (operator Equal) p) >>= truth_at p
 
 -- x = n
-pub number_tells : (x : Word) (w : Value) (env : Env) → StandsFor x w env → (n : ℕ) (p q : Place)
-    → TrueExactly (truth_in plain env (infix_of Equal p (leaf (name x) p) (leaf (number n) q))) (w ≡ int (pos n))
+pub number_tells : (x : Word) (w : Value) (env : Env) → StandsFor x w env → (n : ℕ) (p q r : Place)
+    → TrueExactly (truth_in plain env (begins_at x n p q r)) (w ≡ int (pos n))
 unfolding tested
-number_tells x w env h n p q =
-    tells_of (truth_in plain env (infix_of Equal p (leaf (name x) p) (leaf (number n) q))) (Ok (same w (int (pos n)))) (w ≡ int (pos n))
-    (ap (tested p (int (pos n))) (h p)) (tells_same w (int (pos n)))
+number_tells x w env h n p q r =
+    tells_of (truth_in plain env (begins_at x n p q r)) (Ok (same w (int (pos n)))) (w ≡ int (pos n))
+    (ap (tested p (int (pos n))) (h q)) (tells_same w (int (pos n)))
 
 -- pc = "L"
-pub label_tells : (l : Word) (w : Value) (env : Env) → StandsFor (codes "pc") w env → (p q : Place)
-    → TrueExactly (truth_in plain env (is_at l p q)) (w ≡ text l)
+pub label_tells : (l : Word) (w : Value) (env : Env) → StandsFor (codes "pc") w env → (p q r : Place)
+    → TrueExactly (truth_in plain env (label_at l p q r)) (w ≡ text l)
 unfolding tested
-label_tells l w env h p q =
-    tells_of (truth_in plain env (is_at l p q)) (Ok (same w (text l))) (w ≡ text l) (ap (tested p (text l)) (h p)) (tells_same w (text l))
+label_tells l w env h p q r =
+    tells_of (truth_in plain env (label_at l p q r)) (Ok (same w (text l))) (w ≡ text l) (ap (tested p (text l)) (h q)) (tells_same w (text l))
 
 -- x' = v
 pub value_tells : (o : Option Value) (u v : Value) → o ≡ Some u → TrueExactly (Ok (is_value o v)) (u ≡ v)
 value_tells o u v e = tells_of (Ok (is_value o v)) (Ok (same u v)) (u ≡ v) (ap (λ o. Ok (is_value o v)) e) (tells_same u v)
 
 -- x' = the right side
-pub right_tells : (v : Word) (w : Value) (env : Env) → StandsFor v w env → (r : Right) (p q : Place) (x : Value) → result r w ≡ Some x
-    → (o : Option Value) (u : Value) → o ≡ Some u → TrueExactly (value_in plain env (right_tree v r p q) >>= (λ z. Ok (is_value o z))) (u ≡ x)
-right_tells v w env h r p q x e o u d =
-    tells_of (value_in plain env (right_tree v r p q) >>= (λ z. Ok (is_value o z))) (Ok (is_value o x)) (u ≡ x)
-    (ap (λ g. g >>= (λ z. Ok (is_value o z))) (right_evaluates v w env h r p q ∙ ap (outcome p) e)) (value_tells o u x d)
+pub right_tells : (v : Word) (w : Value) (env : Env) → StandsFor v w env → (e : Right) (p q r : Place) (x : Value) → result e w ≡ Some x
+    → (o : Option Value) (u : Value) → o ≡ Some u → TrueExactly (value_in plain env (right_at v e p q r) >>= (λ z. Ok (is_value o z))) (u ≡ x)
+right_tells v w env h e p q r x k o u d =
+    tells_of (value_in plain env (right_at v e p q r) >>= (λ z. Ok (is_value o z))) (Ok (is_value o x)) (u ≡ x)
+    (ap (λ g. g >>= (λ z. Ok (is_value o z))) (right_evaluates v w env h e p q r ∙ ap (outcome p) k)) (value_tells o u x d)
 
 -- the last of several tests
 pub true_tells : TrueExactly (Ok true) (Unit {0})

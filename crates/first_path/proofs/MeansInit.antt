@@ -1,8 +1,6 @@
 -- Init of the form's translation is true exactly of the algorithm's initial states.
 use Rattle.std.proofs.Common.{◌≡◌, pos, List, Bool, true, false, refl, sym, ◌∙◌, Ok}
 use Rattle.std.specs.Bool.{IsTrue}
-use Rattle.tla_tree.specs.declared.op.Op.TheVariants.{Equal}
-use Rattle.tla_tree.specs.Tree.{number, name}
 use Rattle.tla_value.specs.Value.{Value, int, text, Outcome, and_then, TrueExactly}
 use Rattle.tla_value.specs.Order.{same}
 use Rattle.tla_value.specs.OrderLaws.{same_is}
@@ -20,7 +18,7 @@ use Rattle.module_tree.specs.Module.{found}
 use Rattle.module_tree.specs.ModuleTruth.{scope, init_holds}
 use Rattle.module_tree.proofs.Tells.{tells_and, tells_as}
 use Rattle.first_path.specs.Form.{Parts, is_fit}
-use Rattle.first_path.specs.Placed.{Places, leaf, infix_of, is_at, algorithm_at, module_at}
+use Rattle.first_path.specs.Placed.{Places, label_at, begins_at, algorithm_at, module_at}
 use Rattle.promise.specs.ConstantsAndStates.{on_variables}
 use Rattle.promise.specs.NextAndInit.{InitIs}
 use Rattle.first_path.proofs.Fit.{fit_of}
@@ -82,15 +80,15 @@ init_of o p q f names values k a s =
     let S = on_variables P s in
     let d = two_variables ds p f names values s in
     let env = scope plain (module_at o q f) values S no_state in
-    let first = truth_in plain env (infix_of Equal (q 0) (leaf (name f.variable) (q 0)) (leaf (number f.initial) (q 1))) in
-    let then = truth_in plain env (is_at f.label (q 2) (q 3)) in
+    let first = truth_in plain env (begins_at f.variable f.initial (q 0) (q 1) (q 2)) in
+    let then = truth_in plain env (label_at f.label (q 3) (q 4) (q 5)) in
     let at = s pc ≡ text f.label in
     let reads_variable = reads_first o q f values s S no_state f.variable (found_untitled f.variable o.definitions a.variable) d.0 in
     let reads_pc = reads_first o q f values s S no_state pc (found_untitled pc o.definitions a.pc_free) d.1 in
     tells_as (and_then first (and_then then (Ok true))) (First f s) (Initial P s)
     (tells_and first (and_then then (Ok true)) (s f.variable ≡ int (pos f.initial)) at
-    (number_tells f.variable (s f.variable) env reads_variable f.initial (q 0) (q 1))
-    (λ e. last_tells then at (label_tells f.label (s pc) env reads_pc (q 2) (q 3))))
+    (number_tells f.variable (s f.variable) env reads_variable f.initial (q 0) (q 1) (q 2))
+    (λ e. last_tells then at (label_tells f.label (s pc) env reads_pc (q 3) (q 4) (q 5))))
     (first_initial ds p f names values k s) (initial_first ds p f names values k s)
 
 pub init_is : (o : Outside) (p q : Places) (f : Parts) → IsTrue (is_fit f) → Apart o f → InitIs (algorithm_at p f) (module_at o q f)

@@ -29,7 +29,7 @@ use Rattle.module_tree.specs.Module.{found}
 use Rattle.module_tree.specs.ModuleTruth.{definitions_in, acts_in, scope, next_holds}
 use Rattle.module_tree.proofs.Tells.{tells_and, tells_or, tells_as, tells_of}
 use Rattle.first_path.specs.Form.{number_operand, variable_operand, Right, single, sum, Parts, is_fit}
-use Rattle.first_path.specs.Placed.{Places, right_tree, is_at, algorithm_at, module_at}
+use Rattle.first_path.specs.Placed.{Places, right_tree, right_at, label_at, algorithm_at, module_at}
 use Rattle.promise.specs.ConstantsAndStates.{on_variables}
 use Rattle.promise.specs.NextAndInit.{NextIs}
 use Rattle.first_path.proofs.Names.{all_more, word_same}
@@ -77,10 +77,10 @@ abbrev Taken : Parts → State → State → Type 0
 Taken f s t = (s pc ≡ text f.label) × (Moved f s t × (t pc ≡ text (codes "Done")))
 
 first_item : Places → Parts → Env → Verdict
-first_item q f env = truth_in plain env (is_at f.label (q 4) (q 5))
+first_item q f env = truth_in plain env (label_at f.label (q 6) (q 7) (q 8))
 
 second_item : Places → Parts → Valuation → Env → Verdict
-second_item q f T env = value_in plain env (right_tree f.variable f.right (q 6) (q 7)) >>= (λ v. Ok (is_value (T f.variable) v))
+second_item q f T env = value_in plain env (right_at f.variable f.right (q 9) (q 10) (q 11)) >>= (λ v. Ok (is_value (T f.variable) v))
 
 third_item : Valuation → Verdict
 third_item T = and_then (Ok (is_value (T pc) (text (codes "Done")))) (Ok true)
@@ -92,7 +92,7 @@ step_items q f T env = and_then (first_item q f env) (and_then (second_item q f 
 -- the action of the stuttering end
 abbrev end_items : Places → Parts → Valuation → Valuation → Env → Verdict
 end_items q f S T env =
-    and_then (truth_in plain env (is_at (codes "Done") (q 9) (q 10))) (and_then (Ok (are_unchanged S T (f.variable ∷ pc ∷ []))) (Ok true))
+    and_then (truth_in plain env (label_at (codes "Done") (q 13) (q 14) (q 15))) (and_then (Ok (are_unchanged S T (f.variable ∷ pc ∷ []))) (Ok true))
 
 third_tells : (T : Valuation) (t : State) → T pc ≡ Some (t pc) → TrueExactly (third_item T) (t pc ≡ text (codes "Done"))
 unfolding third_item
@@ -104,15 +104,15 @@ second_tells : (q : Places) (f : Parts) (s t : State) (T : Valuation) (env : Env
     → Good f s → TrueExactly (second_item q f T env) (Moved f s t)
 unfolding second_item
 second_tells q f s t T env h e (x, g) =
-    tells_as (value_in plain env (right_tree f.variable f.right (q 6) (q 7)) >>= (λ v. Ok (is_value (T f.variable) v))) (t f.variable ≡ x) (Moved f s t)
-    (right_tells f.variable (s f.variable) env h f.right (q 6) (q 7) x g (T f.variable) (t f.variable) e) (λ d. (x, g, d)) back
+    tells_as (value_in plain env (right_at f.variable f.right (q 9) (q 10) (q 11)) >>= (λ v. Ok (is_value (T f.variable) v))) (t f.variable ≡ x) (Moved f s t)
+    (right_tells f.variable (s f.variable) env h f.right (q 9) (q 10) (q 11) x g (T f.variable) (t f.variable) e) (λ d. (x, g, d)) back
   where
     back : Moved f s t → t f.variable ≡ x
     back (y, k, d) = d ∙ same_Some y x (sym k ∙ g)
 
 first_tells : (q : Places) (f : Parts) (s : State) (env : Env) → StandsFor pc (s pc) env → TrueExactly (first_item q f env) (s pc ≡ text f.label)
 unfolding first_item
-first_tells q f s env h = label_tells f.label (s pc) env h (q 4) (q 5)
+first_tells q f s env h = label_tells f.label (s pc) env h (q 6) (q 7) (q 8)
 
 taken_tells : (q : Places) (f : Parts) (s t : State) (T : Valuation) (env : Env) → StandsFor f.variable (s f.variable) env → StandsFor pc (s pc) env
     → Two f.variable pc t T → (s pc ≡ text f.label → Good f s)
@@ -167,9 +167,9 @@ over_tells : (q : Places) (f : Parts) (s t : State) (S T : Valuation) (env : Env
     → TrueExactly (end_items q f S T env) (Over f s t)
 over_tells q f s t S T env k d e =
     let same = Ok (are_unchanged S T (f.variable ∷ pc ∷ [])) in
-    let at = truth_in plain env (is_at (codes "Done") (q 9) (q 10)) in
+    let at = truth_in plain env (label_at (codes "Done") (q 13) (q 14) (q 15)) in
     let agree = Agree (f.variable ∷ pc ∷ []) s t in
-    tells_and at (and_then same (Ok true)) (s pc ≡ text (codes "Done")) agree (label_tells (codes "Done") (s pc) env k (q 9) (q 10))
+    tells_and at (and_then same (Ok true)) (s pc ≡ text (codes "Done")) agree (label_tells (codes "Done") (s pc) env k (q 13) (q 14) (q 15))
     (λ p. last_tells same agree (same_tells f.variable pc s t S T d e))
 
 none_tells : TrueExactly (Ok false) ⊥

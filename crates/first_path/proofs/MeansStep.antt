@@ -152,5 +152,5 @@ module _ (ds : List Definition) (p : Places) (f : Parts) (names : Naming) (value
   course_is s h u =
       let env = (routine_scope program (actor p f) (routine p f)).env s in
       course_steps s
-      ∙ (λ i. steps ds p f names values s (part_is i) (right_evaluates f.variable (s f.variable) env (reads_state s h u) f.right (p 12) (p 14) i))
+      ∙ (λ i. steps ds p f names values s (part_is i) (right_evaluates f.variable (s f.variable) env (reads_state s h u) f.right (p 12) (p 12) (p 14) i))
       ∙ steps_are s (result f.right (s f.variable))

@@ -1,19 +1,15 @@
--- Names and numbers as bytes, and lists of names.
-use Rattle.std.proofs.Common.{◌≡◌, ℕ, ◌^◌, Bool, true, false, List, [], ◌∷◌, ◌++◌, refl, ◌∙◌, arith}
+-- Names as bytes, and lists of names.
+use Rattle.std.proofs.Common.{◌≡◌, ℕ, Bool, true, false, List, [], ◌∷◌, ◌++◌, refl, ◌∙◌}
 use Rattle.std.specs.List.{list_all, list_any}
 use Rattle.std.specs.Str.{bytes_eq}
-use Rattle.std.specs.Fmt.{decimal}
 use Rattle.std.proofs.lemmas.Slice.Eq.{bytes_eq-Decides}
 use Rattle.std.proofs.lemmas.List.Folds.{list_all-append}
-use Rattle.std.proofs.lemmas.Bool.{and_parts, and_from, ltb-true, false_from_ne_true, both_ways}
+use Rattle.std.proofs.lemmas.Bool.{and_parts, and_from, false_from_ne_true, both_ways}
 use Rattle.tla_token.specs.Lexemes.{is_word, is_letter}
 use Rattle.tla_token.specs.Signs.{is_among}
 use Rattle.tla_token.proofs.Spelled.{same_bytes}
-use Rattle.tla_token.proofs.Words.{digits_words}
 use Rattle.tla_tree.specs.Tree.{Word}
-use Rattle.tla_tree.proofs.SpelledTokens.{Spelled, decimal_spelled as digits_stand}
-use Rattle.tla_tree.specs.Lexical.{escaped, escapes}
-use Rattle.first_path.specs.Form.{is_name, is_small}
+use Rattle.first_path.specs.Form.{is_name}
 
 -- ---- names
 
@@ -23,23 +19,10 @@ word_same w = (bytes_eq-Decides w w).1 refl
 pub name_words : (w : Word) → is_name w ≡ true → list_all is_word w ≡ true
 name_words w h = (and_parts (list_all is_word w) (list_any is_letter w) h).0
 
-pub name_letter : (w : Word) → is_name w ≡ true → list_any is_letter w ≡ true
-name_letter w h = (and_parts (list_all is_word w) (list_any is_letter w) h).1
-
 -- bytes that are all of one class are all of a wider one
 pub every : (p q : ℕ → Bool) → ((b : ℕ) → p b ≡ true → q b ≡ true) → (w : List ℕ) → list_all p w ≡ true → list_all q w ≡ true
 every p q c [] h = refl
 every p q c (b ∷ w) h = (let k = and_parts (p b) (list_all p w) h in and_from (q b) (list_all q w) (c b k.0) (every p q c w k.1))
-
--- a byte of a name has no escape
-escaped_word : (b : ℕ) → is_word b ≡ true → escaped b ≡ b ∷ []
-escaped_word b h = grind arith
-
-pub escapes_name : (w : Word) → list_all is_word w ≡ true → escapes w ≡ w
-escapes_name [] h = refl
-escapes_name (b ∷ bs) h =
-    let k = and_parts (is_word b) (list_all is_word bs) h in
-    rw (escaped_word b k.0, escapes_name bs k.1) refl
 
 -- ---- lists of names
 
@@ -50,11 +33,3 @@ all_more p xs ys h k = list_all-append p xs ys ∙ and_from (list_all p xs) (lis
 pub not_among : (vs : List Word) (w u : Word) → is_among vs w ≡ false → is_among vs u ≡ true → bytes_eq u w ≡ false
 not_among vs w u e h =
     false_from_ne_true (bytes_eq u w) (λ s. both_ways (is_among vs w) e (let d : u ≡ w = same_bytes u w s in rw d at h))
-
--- ---- numbers
-
-pub decimal_spelled : (n : ℕ) → is_small n ≡ true → Spelled n (decimal n)
-decimal_spelled n h = digits_stand n (ltb-true n (2 ^ 127) h)
-
-pub decimal_words : (n : ℕ) → is_small n ≡ true → list_all is_word (decimal n) ≡ true
-decimal_words n h = digits_words (decimal n) (decimal_spelled n h).digits

@@ -30,10 +30,14 @@ abbrev pub operand_tree : Word → Operand → Place → Tree
 operand_tree v (number_operand n) p = leaf (number n) p
 operand_tree v variable_operand p = leaf (name v) p
 
--- p and q: the places of the first and of the second operand
+-- p: its place; q and r: those of the operands of a sum
+abbrev pub right_at : Word → Right → Place → Place → Place → Tree
+right_at v (single a) p q r = operand_tree v a p
+right_at v (sum a b) p q r = infix_of Plus p (operand_tree v a q) (operand_tree v b r)
+
+-- p and q: the places of the first and of the second operand; a sum begins with its first
 abbrev pub right_tree : Word → Right → Place → Place → Tree
-right_tree v (single a) p q = operand_tree v a p
-right_tree v (sum a b) p q = infix_of Plus p (operand_tree v a p) (operand_tree v b q)
+right_tree v r p q = right_at v r p p q
 
 -- ---- the algorithm
 
@@ -58,24 +62,32 @@ algorithm_at p f = record {
 
 -- ---- the translation
 
--- pc = "L"
-abbrev pub is_at : Word → Place → Place → Tree
-is_at label p q = infix_of Equal p (leaf (name (codes "pc")) p) (leaf (string label) q)
+-- pc = "L"; p: its place; q and r: those of its two sides
+abbrev pub label_at : Word → Place → Place → Place → Tree
+label_at label p q r = infix_of Equal p (leaf (name (codes "pc")) q) (leaf (string label) r)
 
--- the places of the leaves of its expressions, in their order
+-- it begins with its left side
+abbrev pub is_at : Word → Place → Place → Tree
+is_at label p q = label_at label p p q
+
+-- x = n; the places as above
+abbrev pub begins_at : Word → ℕ → Place → Place → Place → Tree
+begins_at v n p q r = infix_of Equal p (leaf (name v) q) (leaf (number n) r)
+
+-- the places of its expressions and of their parts, in their order
 abbrev pub step_at : Places → Parts → Action
 step_at q f = record {
   title = f.label;
   parameter = None;
   body = all_of (
-      item (test (is_at f.label (q 4) (q 5)))
-      (item (setting f.variable (right_tree f.variable f.right (q 6) (q 7)))
-      (item (setting (codes "pc") (leaf (string (codes "Done")) (q 8))) no_items)));
+      item (test (label_at f.label (q 6) (q 7) (q 8)))
+      (item (setting f.variable (right_at f.variable f.right (q 9) (q 10) (q 11)))
+      (item (setting (codes "pc") (leaf (string (codes "Done")) (q 12))) no_items)));
 }
 
 -- the test in Terminating
 abbrev pub ended_at : Places → Tree
-ended_at q = is_at (codes "Done") (q 9) (q 10)
+ended_at q = label_at (codes "Done") (q 13) (q 14) (q 15)
 
 abbrev pub region_at : Places → Parts → Region
 region_at q f = record {
@@ -84,12 +96,12 @@ region_at q f = record {
   definitions = [];
   vars = f.variable ∷ codes "pc" ∷ [];
   process_set = None;
-  init = infix_of Equal (q 0) (leaf (name f.variable) (q 0)) (leaf (number f.initial) (q 1)) ∷ is_at f.label (q 2) (q 3) ∷ [];
+  init = begins_at f.variable f.initial (q 0) (q 1) (q 2) ∷ label_at f.label (q 3) (q 4) (q 5) ∷ [];
   actions = step_at q f ∷ [];
   ended = Some (ended_at q);
   next = one_way (call f.label) ∷ one_way (call (codes "Terminating")) ∷ [];
   fairness = [];
-  termination = is_at (codes "Done") (q 11) (q 12);
+  termination = label_at (codes "Done") (q 16) (q 17) (q 18);
 }
 
 -- the module with it, and with this outside

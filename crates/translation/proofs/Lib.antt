@@ -1,4 +1,5 @@
 pub mod Trees
+pub mod WorkedRegions
 mod RowsWhole
 mod RowsSteps
 mod RowsProcesses

@@ -1,4 +1,4 @@
--- Written translations of algorithms with processes, to the byte, by computation.
+-- Written translations of algorithms with processes, to the byte, by computation; and that they read back.
 use Rattle.std.proofs.Common.{◌≡◌, ℕ, List, [], ◌∷◌, true, false, codes, refl}
 use Rattle.std.specs.Fmt.{digits}
 use Rattle.tla_tree.specs.declared.op.Op.TheVariants.{Plus, Minus, Greater, Range, Cup}
@@ -7,11 +7,19 @@ use Rattle.module_tree.specs.Module.{Region, spec_unit}
 use Rattle.module_tree.specs.Ways.{processes_in, sets_of}
 use Rattle.module_tree.specs.Layout.{layout, unit_text, sets_text}
 use Rattle.module_tree.specs.Formulas.{named, set}
+use Rattle.module_tree.specs.TextFront.{Text}
+use Rattle.module_tree.specs.Walk.{State, walk}
+use Rattle.module_tree.specs.WithTranslation.{WithTranslation}
+use Rattle.module_tree.specs.laws.Outsides.{HasOutside}
+use Rattle.module_tree.specs.laws.WritableRegion.{EachOf, IsReadBack, IsWritten}
+use Rattle.module_tree.proofs.WrittenRegion.{written_file}
+use Rattle.tla_value.specs.Outside.{Outside}
 use Rattle.pcal_tree.specs.declared.mark.Mark.TheVariants as marked
 use Rattle.pcal_tree.specs.declared.mark.Fairness.{Fairness}
 use Rattle.pcal_tree.specs.declared.mark.Fairness.TheVariants.{Unfair, Weak, Strong}
 use Rattle.pcal_tree.specs.Algorithm.{no_binds, one_of, await, skip, with, Statements, mark, Declaration, Process, Algorithm}
 use Rattle.translation.specs.Region.{written_region}
+use Rattle.translation.proofs.WorkedRegions.{region_tells, all_read}
 use Rattle.translation.proofs.Trees.{word, x, num, over, and_next, just, sets, labelled, variable, zero_of, many, integers, texts}
 
 abbrev region : Algorithm → Region
@@ -47,7 +55,10 @@ Q = codes "Q"
 -- ---- ProcSet
 
 -- process P \in {}
-no_process : sets_of_region (region (many (zero_of x ∷ []) (in_set P (set []) [] (labelled (codes "A") (just (sets x (over Plus (named x) (num 1))))) ∷ []))) ≡ codes "{}"
+abbrev nobody : Algorithm
+nobody = many (zero_of x ∷ []) (in_set P (set []) [] (labelled (codes "A") (just (sets x (over Plus (named x) (num 1))))) ∷ [])
+
+no_process : sets_of_region (region nobody) ≡ codes "{}"
 unfolding digits
 no_process = refl
 
@@ -62,7 +73,10 @@ unfolding digits
 one_union = refl
 
 -- process P \in 1..3 and process Q = 4, and a third
-three_sets : sets_of_region (region (many [] (in_set P (over Range (num 1) (num 3)) [] (one_step (codes "A")) ∷ of_one Q (num 4) [] (one_step (codes "B")) ∷ in_set (codes "R") (over Cup (set (num 5 ∷ [])) (set [])) [] (one_step (codes "C")) ∷ []))) ≡ codes "(1..3) \\cup {4} \\cup ({5} \\cup {})"
+abbrev three : Algorithm
+three = many [] (in_set P (over Range (num 1) (num 3)) [] (one_step (codes "A")) ∷ of_one Q (num 4) [] (one_step (codes "B")) ∷ in_set (codes "R") (over Cup (set (num 5 ∷ [])) (set [])) [] (one_step (codes "C")) ∷ [])
+
+three_sets : sets_of_region (region three) ≡ codes "(1..3) \\cup {4} \\cup ({5} \\cup {})"
 unfolding digits
 three_sets = refl
 
@@ -79,6 +93,20 @@ two_processes =
 both_kinds : layout (region two_processes) ≡ codes "VARIABLES pc, n, m\n\nvars == <<pc, n, m>>\n\nProcSet == {7} \\cup {1, 2}\n\nInit ==\n  /\\ n = 1\n  /\\ m = [self \\in {1, 2} |-> self]\n  /\\ pc = [self \\in ProcSet |-> CASE (self = 7) -> \"A\" [] (self \\in {1, 2}) -> \"B\"]\n\nA ==\n  /\\ (pc[7] = \"A\")\n  /\\ n' = (n + 1)\n  /\\ pc' = [pc EXCEPT ![7] = \"Done\"]\n  /\\ UNCHANGED <<m>>\n\nP ==\n  \\/ A\n\nB(self) ==\n  /\\ (pc[self] = \"B\")\n  /\\ m' = [m EXCEPT ![self] = 0]\n  /\\ pc' = [pc EXCEPT ![self] = \"Done\"]\n  /\\ UNCHANGED <<n>>\n\nQ(self) ==\n  \\/ B(self)\n\nTerminating ==\n  /\\ (\\A self \\in ProcSet : pc[self] = \"Done\")\n  /\\ UNCHANGED vars\n\nNext ==\n  \\/ P\n  \\/ \\E self \\in {1, 2} : Q(self)\n  \\/ Terminating\n\nSpec ==\n  /\\ Init\n  /\\ [][Next]_vars\n\nTermination == <>(\\A self \\in ProcSet : pc[self] = \"Done\")\n"
 unfolding digits
 both_kinds = refl
+
+-- the file with these processes, and the file with their translation, which is one module
+abbrev file : Text
+file = codes "---- MODULE M ----\nEXTENDS Integers\n(*\n--algorithm R\nprocess P = 7\nvariable n = 1;\nbegin\n  A: n := n + 1;\nend process\nprocess Q \\in {1, 2}\nvariable m = self;\nbegin\n  B: m := 0;\nend process\nend algorithm\n*)\n====\n"
+
+abbrev translated : Text
+translated = codes "---- MODULE M ----\nEXTENDS Integers\n(*\n--algorithm R\nprocess P = 7\nvariable n = 1;\nbegin\n  A: n := n + 1;\nend process\nprocess Q \\in {1, 2}\nvariable m = self;\nbegin\n  B: m := 0;\nend process\nend algorithm\n*)\n\\* BEGIN TRANSLATION\nVARIABLES pc, n, m\n\nvars == <<pc, n, m>>\n\nProcSet == {7} \\cup {1, 2}\n\nInit ==\n  /\\ n = 1\n  /\\ m = [self \\in {1, 2} |-> self]\n  /\\ pc = [self \\in ProcSet |-> CASE (self = 7) -> \"A\" [] (self \\in {1, 2}) -> \"B\"]\n\nA ==\n  /\\ (pc[7] = \"A\")\n  /\\ n' = (n + 1)\n  /\\ pc' = [pc EXCEPT ![7] = \"Done\"]\n  /\\ UNCHANGED <<m>>\n\nP ==\n  \\/ A\n\nB(self) ==\n  /\\ (pc[self] = \"B\")\n  /\\ m' = [m EXCEPT ![self] = 0]\n  /\\ pc' = [pc EXCEPT ![self] = \"Done\"]\n  /\\ UNCHANGED <<n>>\n\nQ(self) ==\n  \\/ B(self)\n\nTerminating ==\n  /\\ (\\A self \\in ProcSet : pc[self] = \"Done\")\n  /\\ UNCHANGED vars\n\nNext ==\n  \\/ P\n  \\/ \\E self \\in {1, 2} : Q(self)\n  \\/ Terminating\n\nSpec ==\n  /\\ Init\n  /\\ [][Next]_vars\n\nTermination == <>(\\A self \\in ProcSet : pc[self] = \"Done\")\n\\* END TRANSLATION\n====\n"
+
+put : WithTranslation file (layout (region two_processes)) translated
+unfolding digits
+put = record { at = record { from = 206; to = 206 }; is_spot = refl; is = refl }
+
+file_reads : (o : Outside) → HasOutside (walk file) o → IsWritten file translated o (region two_processes)
+file_reads o h = written_file file translated o (region two_processes) (region_tells (region two_processes) refl) refl h put
 
 -- ---- written names
 
@@ -108,7 +136,10 @@ unfolding digits
 weak = refl
 
 -- fair+ process P = 7, A:- skip; B: skip;
-strong : spec_text (region (many [] (fair Strong (of_one P (num 7) [] (mark (word (codes "A")) marked.LeftOut (and_next skip (one_step (codes "B"))))) ∷ []))) ≡ codes "Spec ==\n  /\\ Init\n  /\\ [][Next]_vars\n  /\\ SF_vars((pc[7] \\notin {\"A\"}) /\\ P)\n"
+abbrev strong_one : Algorithm
+strong_one = many [] (fair Strong (of_one P (num 7) [] (mark (word (codes "A")) marked.LeftOut (and_next skip (one_step (codes "B"))))) ∷ [])
+
+strong : spec_text (region strong_one) ≡ codes "Spec ==\n  /\\ Init\n  /\\ [][Next]_vars\n  /\\ SF_vars((pc[7] \\notin {\"A\"}) /\\ P)\n"
 unfolding digits
 strong = refl
 
@@ -116,3 +147,11 @@ strong = refl
 all_left_out : spec_text (region (many [] (fair Weak (of_one P (num 7) [] (mark (word (codes "A")) marked.LeftOut (and_next skip (mark (word (codes "B")) marked.LeftOut (just skip))))) ∷ []))) ≡ codes "Spec ==\n  /\\ Init\n  /\\ [][Next]_vars\n  /\\ WF_vars((pc[7] \\notin {\"A\", \"B\"}) /\\ P)\n"
 unfolding digits
 all_left_out = refl
+
+-- ---- each of them reads back, wherever it is put
+abbrev worked : List Region
+worked = region nobody ∷ region three ∷ region two_processes ∷ region same_names ∷ region semaphore ∷ region strong_one ∷ []
+
+worked_read : EachOf (λ (r : Region). (st : State) → IsReadBack st r) worked
+unfolding digits
+worked_read = all_read worked refl
