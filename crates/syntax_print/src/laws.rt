@@ -8,7 +8,8 @@ ghost use Rattle.pcal_tree.specs.AlgorithmTokens.{views};
 ghost use Rattle.pcal_tree.specs.Placeless.{placeless};
 ghost use Rattle.pcal_tree.specs.Grammar.{Syntax, Text, algorithm_of, Spells, SpellsP, SpellsC};
 ghost use Rattle.pcal_tree.specs.Printed.{PText, CText, printed};
-ghost use Rattle.p_syntax.specs.ReadAlgorithm.{read_algorithm};
+ghost use Rattle.p_syntax.specs.ReadAlgorithm as p;
+ghost use Rattle.c_syntax.specs.ReadAlgorithm as c;
 ghost use Rattle.tla_tree.specs.laws.Writable.{AreSmall};
 ghost use Rattle.module_tree.specs.laws.Swaps.{is_paired};
 ghost use Rattle.syntax_print.specs.laws.Printable.{IsPrintable};
@@ -19,11 +20,21 @@ pub fn printed_algorithms_are_spelled()
     ensures c { (a : Algorithm) → IsPrintable a → (ts : List text.Token) × (b : Algorithm) × TokAlgorithm (CText a) 0 (length (CText a)) ts × SpellsC ts b × (placeless b ≡ placeless a) }
 {}
 
-/// In P-syntax the tokens of the text spell no other algorithm, places aside, and it is read of them; so algorithms with one text differ in places alone.
+/// The tokens of the text spell no other algorithm, places aside, in either syntax, and it is read of them; so algorithms with one text differ in places alone.
 pub fn printed_algorithms_are_read_back()
-    ensures only { (a b : Algorithm) (ts : List text.Token) → IsPrintable a → TokAlgorithm (PText a) 0 (length (PText a)) ts → SpellsP ts b → placeless b ≡ placeless a }
-    ensures read { (a : Algorithm) (ts : List text.Token) → IsPrintable a → TokAlgorithm (PText a) 0 (length (PText a)) ts → (x : Text) × (read_algorithm (views ts) ≡ Ok (x, [])) × (placeless (algorithm_of x) ≡ placeless a) }
-    ensures one { (a b : Algorithm) → IsPrintable a → IsPrintable b → PText a ≡ PText b → placeless a ≡ placeless b }
+    ensures only { (s t : Syntax) (a b : Algorithm) (ts : List text.Token) → IsPrintable a → TokAlgorithm (printed s a) 0 (length (printed s a)) ts → Spells t ts b → (t ≡ s) × (placeless b ≡ placeless a) }
+    ensures p { (a : Algorithm) (ts : List text.Token) → IsPrintable a → TokAlgorithm (PText a) 0 (length (PText a)) ts → (x : Text) × (p.read_algorithm (views ts) ≡ Ok (x, [])) × (placeless (algorithm_of x) ≡ placeless a) }
+    ensures c { (a : Algorithm) (ts : List text.Token) → IsPrintable a → TokAlgorithm (CText a) 0 (length (CText a)) ts → (x : Text) × (c.read_algorithm (views ts) ≡ Ok (x, [])) × (placeless (algorithm_of x) ≡ placeless a) }
+    ensures one { (s t : Syntax) (a b : Algorithm) → IsPrintable a → IsPrintable b → printed s a ≡ printed t b → (t ≡ s) × (placeless a ≡ placeless b) }
+{}
+
+/// An algorithm that is printed in a syntax, read, printed in the same or the other one and read again is the same, places aside, and its text
+/// in the first syntax is the first text, to the byte.
+pub fn printing_goes_back()
+    ensures some { (s t : Syntax) (a b : Algorithm) (ts : List text.Token) → IsPrintable a → TokAlgorithm (printed s a) 0 (length (printed s a)) ts → Spells s ts b
+        → (us : List text.Token) × (c : Algorithm) × TokAlgorithm (printed t b) 0 (length (printed t b)) us × Spells t us c }
+    ensures same { (s t : Syntax) (a b c : Algorithm) (ts us : List text.Token) → IsPrintable a → TokAlgorithm (printed s a) 0 (length (printed s a)) ts → Spells s ts b
+        → TokAlgorithm (printed t b) 0 (length (printed t b)) us → Spells t us c → (placeless c ≡ placeless a) × (printed s c ≡ printed s a) }
 {}
 
 /// A printed text holds no mark of a comment, so it opens and closes comments only within itself.
