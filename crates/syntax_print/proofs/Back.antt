@@ -31,11 +31,11 @@ spelled_so s a ts h k =
 
 -- ---- nothing else
 
-one_tree : (s : Syntax) (ts : List text.Token) (a b : Algorithm) → Spells s ts a → Spells s ts b → a ≡ b
+pub one_tree : (s : Syntax) (ts : List text.Token) (a b : Algorithm) → Spells s ts a → Spells s ts b → a ≡ b
 one_tree p_syntax ts a b h k = p_whole.one_tree ts a b h k
 one_tree c_syntax ts a b h k = c_whole.one_tree ts a b h k
 
-one_syntax : (s t : Syntax) (ts : List text.Token) (a b : Algorithm) → Spells s ts a → Spells t ts b → t ≡ s
+pub one_syntax : (s t : Syntax) (ts : List text.Token) (a b : Algorithm) → Spells s ts a → Spells t ts b → t ≡ s
 one_syntax p_syntax p_syntax ts a b h k = refl
 one_syntax p_syntax c_syntax ts a b h k = absurd (no_tree_in_both ts a b h k)
 one_syntax c_syntax p_syntax ts a b h k = absurd (no_tree_in_both ts b a k h)

@@ -13,6 +13,16 @@ mod StatementsP
 mod StatementsC
 mod SectionBlocks
 mod UnitBlocks
+mod ExprEnds
+mod PartEnds
+mod StatementEndsP
+mod StatementEndsC
+mod AlgorithmEnds
+mod Stages
+mod Followed
+mod Beginning
+mod Rewriting
+mod Rewritten
 mod WholeText
 mod Paired
 mod Back

@@ -1,8 +1,8 @@
 //! Laws of printed algorithms, stated as what functions without a body ensure.
 
-ghost use Rattle.std.specs.Prelude.{◌≡◌, ℕ, List, [], Bool, true, false, length, Ok};
+ghost use Rattle.std.specs.Prelude.{◌≡◌, ℕ, List, [], Bool, true, false, length, Some, Ok};
 ghost use Rattle.tla_token.specs.Tokens as text;
-ghost use Rattle.tla_token.specs.Tokens.{TokAlgorithm, holds_mark};
+ghost use Rattle.tla_token.specs.Tokens.{TokAlgorithm, holds_mark, stretch};
 ghost use Rattle.pcal_tree.specs.Algorithm.{Algorithm};
 ghost use Rattle.pcal_tree.specs.AlgorithmTokens.{views};
 ghost use Rattle.pcal_tree.specs.Placeless.{placeless};
@@ -11,7 +11,11 @@ ghost use Rattle.pcal_tree.specs.Printed.{PText, CText, printed};
 ghost use Rattle.p_syntax.specs.ReadAlgorithm as p;
 ghost use Rattle.c_syntax.specs.ReadAlgorithm as c;
 ghost use Rattle.tla_tree.specs.laws.Writable.{AreSmall};
+ghost use Rattle.module_tree.specs.AlgorithmText.{AlgorithmText, algorithm_in, algorithm_tokens};
+ghost use Rattle.module_tree.specs.laws.Kept.{IsFine};
 ghost use Rattle.module_tree.specs.laws.Swaps.{is_paired};
+ghost use Rattle.syntax_print.specs.Rewritten.{Rewritten};
+ghost use Rattle.syntax_print.specs.laws.HoldsPrinted.{HoldsPrinted};
 ghost use Rattle.syntax_print.specs.laws.Printable.{IsPrintable};
 
 /// The text that is printed of an algorithm is cut into the tokens of an algorithm, and these spell it in the syntax, places aside.
@@ -51,4 +55,18 @@ pub fn spelled_algorithms_can_be_printed()
 /// What is printed of an algorithm rests on no place.
 pub fn printing_rests_on_no_place()
     ensures { (s : Syntax) (a b : Algorithm) → placeless a ≡ placeless b → printed s a ≡ printed s b }
+{}
+
+/// Each file whose algorithm is spelled by its tokens has, in each syntax, one file with the algorithm printed in its place and all other bytes as they were. If the file breaks
+/// none of the rules 1 to 10 and 12, and its algorithm opens and closes comments only within itself, the printed text is just the algorithm that is
+/// there then: it begins where the old one did, and its tokens spell the same algorithm in that syntax, places aside.
+pub fn rewritten_files_hold_the_algorithm()
+    ensures some { (s t : Syntax) (x : List ℕ) (a : AlgorithmText) (g : Algorithm) → algorithm_in x ≡ Some a → Spells t (algorithm_tokens x a) g → (w : List ℕ) × Rewritten s x w }
+    ensures one { (s : Syntax) (x w v : List ℕ) → Rewritten s x w → Rewritten s x v → w ≡ v }
+    ensures holds { (s : Syntax) (x w : List ℕ) → IsFine x → (r : Rewritten s x w) → is_paired 0 (stretch x r.old.from r.old.rest.to) ≡ true → HoldsPrinted s r.tree r.old.from w }
+{}
+
+/// Rewritten once more, in the same or the other syntax, as long as it breaks none of these rules then, it holds the first file's algorithm, printed in that syntax.
+pub fn files_are_rewritten_again()
+    ensures { (s t : Syntax) (x w v : List ℕ) → IsFine x → (r : Rewritten s x w) → is_paired 0 (stretch x r.old.from r.old.rest.to) ≡ true → IsFine w → Rewritten t w v → HoldsPrinted t r.tree r.old.from v }
 {}

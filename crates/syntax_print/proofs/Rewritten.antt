@@ -1,0 +1,119 @@
+-- A file whose algorithm is printed in its place holds the same algorithm, in that syntax; printed again it holds the same text as if it had been printed so at once.
+use Rattle.std.proofs.Common.{◌≡◌, ℕ, ◌+◌, Bool, true, false, List, [], ◌∷◌, ◌++◌, map, length, drop, Some, refl, sym, ap, subst, ◌∙◌}
+use Rattle.std.specs.Prelude.{nat_le, ◌<◌}
+use Rattle.std.specs.List.{flat_map}
+use Rattle.std.proofs.lemmas.Bool.{leb-false}
+use Rattle.std.proofs.lemmas.Option.{same_Some}
+use Rattle.tla_token.specs.declared.place.Place.{Place}
+use Rattle.tla_token.specs.declared.rule.Rule.TheVariants.{NumberTooBig}
+use Rattle.tla_token.specs.Limits.{past_numbers}
+use Rattle.tla_token.specs.Lexemes as lexeme
+use Rattle.tla_token.specs.Tokens.{Piece, blank, block, line, stretch, tokens_of}
+use Rattle.tla_token.specs.Tokens as text
+use Rattle.tla_token.specs.Offences.{Part, sound, stray, bad_string, open_string, open_block, Offence, offence_if, part_offences}
+use Rattle.tla_token.specs.Cut.{pieces}
+use Rattle.tla_tree.specs.laws.Writable.{AreSmall}
+use Rattle.pcal_tree.specs.Algorithm.{Algorithm}
+use Rattle.pcal_tree.specs.Placeless.{placeless}
+use Rattle.pcal_tree.specs.Grammar.{Syntax, Spells}
+use Rattle.pcal_tree.specs.Printed.{Text, printed}
+use Rattle.module_tree.specs.AlgorithmText.{IndexedPart, AlgorithmText, algorithm_in, algorithm_tokens}
+use Rattle.module_tree.specs.FileOffences.{inner_offences, algorithm_offences}
+use Rattle.module_tree.specs.WithTranslation.{Swapped}
+use Rattle.module_tree.specs.laws.Kept.{IsFine, only_large}
+use Rattle.module_tree.specs.laws.Swaps.{is_paired}
+use Rattle.module_tree.proofs.WalkPlace.{both_empty}
+use Rattle.module_tree.proofs.WalkKept.{all_fine_in}
+use Rattle.module_tree.proofs.AlgorithmIsCut.{algorithm_is_cut}
+use Rattle.module_tree.proofs.OnePlace.{one_swapped}
+use Rattle.syntax_print.specs.Rewritten.{gap, Rewritten}
+use Rattle.syntax_print.specs.laws.Printable.{IsPrintable}
+use Rattle.syntax_print.specs.laws.HoldsPrinted.{HoldsPrinted}
+use Rattle.syntax_print.proofs.FitAlgorithm.{spelled_printable}
+use Rattle.syntax_print.proofs.PrintedBare.{same_printed}
+use Rattle.syntax_print.proofs.Back.{one_tree, one_syntax, paired}
+use Rattle.syntax_print.proofs.Rewriting.{printed_is_there}
+
+-- ---- what stands in a file that is not refused can be printed
+
+small_number : (n at : ℕ) → offence_if (nat_le past_numbers n) NumberTooBig at ≡ [] → n < past_numbers
+small_number n at h = by (nat_le past_numbers n) refl
+  where
+    by : (k : Bool) → nat_le past_numbers n ≡ k → n < past_numbers
+    by true k = (let e : ◌≡◌ {A = List Offence} ((NumberTooBig, at) ∷ []) [] = ap (λ (k : Bool). offence_if k NumberTooBig at) (sym k) ∙ h in absurd cc)
+    by false k = leb-false past_numbers n k
+
+small_tokens : (ps : List IndexedPart) → inner_offences ps ≡ [] → (p : Place) (n : ℕ) → AreSmall (tokens_of p n (pieces (map (λ q. q.1) ps)))
+small_tokens [] h p n = tt
+small_tokens ((at, q) ∷ ps) h p n = by q (both_empty (part_offences true at q) (inner_offences ps) h).0 (small_tokens ps (both_empty (part_offences true at q) (inner_offences ps) h).1)
+  where
+    by : (q : Part) → part_offences true at q ≡ [] → ((p : Place) (n : ℕ) → AreSmall (tokens_of p n (pieces (map (λ q. q.1) ps)))) → AreSmall (tokens_of p n (pieces (q ∷ map (λ q. q.1) ps)))
+    by (sound (blank b)) e more = more _ _
+    by (sound (block w)) e more = more _ _
+    by (sound (line w)) e more = more _ _
+    by (sound (text.lexeme (lexeme.number k) w)) e more = (small_number k at e, more _ _)
+    by (sound (text.lexeme (lexeme.name v) w)) e more = (tt, more _ _)
+    by (sound (text.lexeme (lexeme.string v) w)) e more = (tt, more _ _)
+    by (sound (text.lexeme (lexeme.one s) w)) e more = (tt, more _ _)
+    by (sound (text.lexeme (lexeme.other v) w)) e more = (tt, more _ _)
+    by (stray b) e more = more p n
+    by (bad_string w) e more = more p n
+    by (open_string w) e more = more p n
+    by (open_block w) e more = more p n
+
+printable : (s : Syntax) (x : Text) (a : AlgorithmText) (t : Algorithm) → IsFine x → algorithm_in x ≡ Some a → Spells s (algorithm_tokens x a) t → IsPrintable t
+printable s x a t fine is h =
+    let all = all_fine_in x fine in
+    let none : algorithm_offences (Some a) ≡ [] = ap algorithm_offences (sym is) ∙ all.algorithm in
+    let tok = algorithm_is_cut x a all.parts.fine is (ap only_large none) in
+    spelled_printable s x a.from a.rest.to (algorithm_tokens x a) t tok (tt, small_tokens a.rest.parts none _ _) h
+
+-- ---- the file
+
+pub rewritten_holds : (s : Syntax) (x w : Text) → IsFine x → (r : Rewritten s x w) → is_paired 0 (stretch x r.old.from r.old.rest.to) ≡ true → HoldsPrinted s r.tree r.old.from w
+rewritten_holds s x w fine r paired = printed_is_there s x w r.old r.tree fine r.is_old paired (printable r.syntax x r.old r.tree fine r.is_old r.spelled) r.swapped
+
+-- what is read of one text in two ways is one tree
+same_tree : (s t : Syntax) (ts : List text.Token) (a b : Algorithm) → Spells s ts a → Spells t ts b → b ≡ a
+same_tree s t ts a b h k = one_tree s ts b a (subst (λ (s : Syntax). Spells s ts b) (one_syntax s t ts a b h k) k) h
+
+same_old : {s t : Syntax} {x w v : Text} (r : Rewritten s x w) (q : Rewritten t x v) → q.old ≡ r.old
+same_old r q = same_Some q.old r.old (sym q.is_old ∙ r.is_old)
+
+tree_of_one : {s t : Syntax} {x w v : Text} (r : Rewritten s x w) (q : Rewritten t x v) → q.tree ≡ r.tree
+tree_of_one {s} {t} {x} r q =
+    same_tree r.syntax q.syntax (algorithm_tokens x r.old) r.tree q.tree r.spelled (subst (λ (a : AlgorithmText). Spells q.syntax (algorithm_tokens x a) q.tree) (same_old r q) q.spelled)
+
+pub one_rewritten : (s : Syntax) (x w v : Text) → Rewritten s x w → Rewritten s x v → w ≡ v
+one_rewritten s x w v r q =
+    let new : Swapped x (printed s r.tree ++ gap s (drop r.old.rest.to x)) v =
+    subst (λ (a : AlgorithmText). Swapped x (printed s r.tree ++ gap s (drop a.rest.to x)) v) (same_old r q)
+    (subst (λ (t : Algorithm). Swapped x (printed s t ++ gap s (drop q.old.rest.to x)) v) (tree_of_one r q) q.swapped) in
+    one_swapped x (printed s r.tree ++ gap s (drop r.old.rest.to x)) w v r.swapped new
+
+pub some_rewritten : (s t : Syntax) (x : Text) (a : AlgorithmText) (g : Algorithm) → algorithm_in x ≡ Some a → Spells t (algorithm_tokens x a) g → (w : Text) × Rewritten s x w
+some_rewritten s t x a g is h = (_, record { old = a; is_old = is; syntax = t; tree = g; spelled = h; swapped = record { old = a; is_old = is; is = refl } })
+
+-- ---- printed again
+
+pub rewritten_again : (s t : Syntax) (x w v : Text) → IsFine x → (r : Rewritten s x w) → is_paired 0 (stretch x r.old.from r.old.rest.to) ≡ true → IsFine w → Rewritten t w v → HoldsPrinted t r.tree r.old.from v
+rewritten_again s t x w v fine r is_pair fine_there q =
+    let h = rewritten_holds s x w fine r is_pair in
+    let old : q.old ≡ h.text = same_Some q.old h.text (sym q.is_old ∙ h.is_text) in
+    let tree : q.tree ≡ h.tree = same_tree s q.syntax (algorithm_tokens w h.text) h.tree q.tree h.spelled (subst (λ (a : AlgorithmText). Spells q.syntax (algorithm_tokens w a) q.tree) old q.spelled) in
+    let same : placeless q.tree ≡ placeless r.tree = ap placeless tree ∙ h.same in
+    let there : is_paired 0 (stretch w q.old.from q.old.rest.to) ≡ true =
+    ap (λ (a : AlgorithmText). is_paired 0 (stretch w a.from a.rest.to)) old ∙ ap (is_paired 0) h.bytes ∙ paired s r.tree (printable r.syntax x r.old r.tree fine r.is_old r.spelled) in
+    let k = rewritten_holds t w v fine_there q there in
+    let text = same_printed t q.tree r.tree same in
+    let from : q.old.from ≡ r.old.from = ap (λ (a : AlgorithmText). a.from) old ∙ h.begins in
+    record {
+      text = k.text;
+      is_text = k.is_text;
+      begins = k.begins ∙ from;
+      ends = k.ends ∙ (λ i. from i + length (text i));
+      bytes = k.bytes ∙ text;
+      tree = k.tree;
+      spelled = k.spelled;
+      same = k.same ∙ same;
+    }

@@ -1,0 +1,19 @@
+-- What the laws of printed algorithms in files speak of: the algorithm of a file that is just a printed text.
+use Rattle.std.specs.Prelude.{◌≡◌, ℕ, ◌+◌, length, Some}
+use Rattle.tla_token.specs.Tokens.{stretch}
+use Rattle.pcal_tree.specs.Algorithm.{Algorithm}
+use Rattle.pcal_tree.specs.Placeless.{placeless}
+use Rattle.pcal_tree.specs.Grammar.{Syntax, Spells}
+use Rattle.pcal_tree.specs.Printed.{Text, printed}
+use Rattle.module_tree.specs.AlgorithmText.{AlgorithmText, algorithm_in, algorithm_tokens}
+
+-- the algorithm of w begins at this byte, its text is the printed one of this tree, and its tokens spell it, places aside
+pub record HoldsPrinted (s : Syntax) (g : Algorithm) (from : ℕ) (w : Text) : Type 0 where
+  pub text : AlgorithmText
+  pub is_text : algorithm_in w ≡ Some text
+  pub begins : text.from ≡ from
+  pub ends : text.rest.to ≡ from + length (printed s g)
+  pub bytes : stretch w text.from text.rest.to ≡ printed s g
+  pub tree : Algorithm
+  pub spelled : Spells s (algorithm_tokens w text) tree
+  pub same : placeless tree ≡ placeless g
