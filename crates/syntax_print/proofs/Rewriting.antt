@@ -1,12 +1,16 @@
 -- A file with its algorithm printed in its place has just that text as its algorithm, and its tokens spell it.
-use Rattle.std.proofs.Common.{◌≡◌, ℕ, ◌+◌, ◌-◌, Bool, true, false, List, [], ◌∷◌, ◌++◌, length, map, take, drop, Option, Some, None, refl, sym, ap, subst, ◌∙◌, arith, append_assoc, append-nil, length-append, codes, find}
+use Rattle.std.proofs.Common.{◌≡◌, ℕ, ◌+◌, ◌-◌, Bool, true, false, not, List, [], ◌∷◌, ◌++◌, length, map, take, drop, Option, Some, None, refl, sym, ap, subst, ◌∙◌, arith, append_assoc, append-nil, length-append, codes, find}
 use Rattle.std.specs.Prelude.{if◌then◌else◌}
+use Rattle.std.proofs.lemmas.Bool.{and_parts, not-true, lt-leb}
 use Rattle.std.proofs.lemmas.Option.{none-some, same_Some}
 use Rattle.std.proofs.Math.Seq.{take-append_seam, drop-append_seam}
 use Rattle.tla_token.specs.declared.place.Place.{Place}
 use Rattle.tla_token.specs.Places.{start, after, place_at}
 use Rattle.tla_token.specs.Lexemes as lexeme
-use Rattle.tla_token.specs.Tokens.{Piece, text_of, stretch, tokens_of, holds_mark}
+use Rattle.tla_token.specs.Tokens.{Piece, blank, block, line, text_of, stretch, tokens_of, holds_mark}
+use Rattle.tla_token.specs.Offences.{sound, Offence, offence_if, part_offences}
+use Rattle.tla_token.specs.Limits.{past_numbers}
+use Rattle.tla_token.specs.declared.rule.Rule.TheVariants.{BadToken, NumberTooBig}
 use Rattle.tla_token.specs.Tokens as text
 use Rattle.tla_token.specs.Cut.{pieces}
 use Rattle.tla_token.proofs.Unique.{sound_pieces}
@@ -24,15 +28,15 @@ use Rattle.module_tree.specs.TextFront.{Text}
 use Rattle.module_tree.specs.Beginnings.{is_fair, opening, begins_algorithm}
 use Rattle.module_tree.specs.Walk.{Located, walk}
 use Rattle.module_tree.specs.FileParts.{within as within_segment, beginnings_in, first_of, holds_algorithm}
-use Rattle.module_tree.specs.AlgorithmText.{Stage, head, is_past, Inside, inside, AlgorithmText, algorithm_at, algorithm_in, algorithm_tokens}
-use Rattle.module_tree.specs.FileOffences.{offences_of}
+use Rattle.module_tree.specs.AlgorithmText.{IndexedPart, Stage, head, is_past, Inside, inside, AlgorithmText, algorithm_at, algorithm_in, algorithm_tokens}
+use Rattle.module_tree.specs.FileOffences.{offences_of, inner_offences, algorithm_offences}
 use Rattle.module_tree.specs.WithTranslation.{Swapped}
-use Rattle.module_tree.specs.laws.Kept.{IsFine}
+use Rattle.module_tree.specs.laws.Kept.{IsFine, only_large}
 use Rattle.module_tree.specs.laws.Swaps.{is_paired}
 use Rattle.module_tree.proofs.WalkPlace.{after_both}
 use Rattle.module_tree.proofs.WalkKept.{all_fine_in}
 use Rattle.module_tree.proofs.AlgorithmFound.{Opened, opened, made_there, stretch_is}
-use Rattle.module_tree.proofs.AlgorithmIsCut.{Placed}
+use Rattle.module_tree.proofs.AlgorithmIsCut.{Placed, algorithm_is_cut}
 use Rattle.module_tree.proofs.AlgorithmSame.{at_comment}
 use Rattle.module_tree.proofs.AlgorithmKept.{placed_at}
 use Rattle.module_tree.proofs.InsidePieces.{inside_pieces}
@@ -40,7 +44,7 @@ use Rattle.module_tree.proofs.SwappedComment.{swapped_comment, swapped_begins}
 use Rattle.syntax_print.specs.Rewritten.{gap}
 use Rattle.syntax_print.specs.laws.Printable.{IsPrintable}
 use Rattle.syntax_print.specs.laws.HoldsPrinted.{HoldsPrinted}
-use Rattle.syntax_print.proofs.Chunks.{later, seen, seen_is}
+use Rattle.syntax_print.proofs.Chunks.{unmarked, small, later, seen, seen_is}
 use Rattle.syntax_print.proofs.WholeText.{BehindAt, behind_at, behind_front, needs, Ends, front_word}
 use Rattle.syntax_print.proofs.AlgorithmEnds.{ends_there}
 use Rattle.syntax_print.proofs.Stages.{behind, Found, all_found}
@@ -101,6 +105,27 @@ front_size x a fine is = by (find holds_algorithm (walk x)) refl
 
 cancel : (a b c : Text) → a ++ b ≡ a ++ c → b ≡ c
 cancel a b c e = sym (drop-append_seam a b) ∙ ap (drop (length a)) e ∙ drop-append_seam a c
+
+-- nothing is wrong with these pieces, wherever they are
+none_wrong : (at : ℕ) (p : Piece) (ps : List Piece) → unmarked (p ∷ ps) ≡ true → small (p ∷ ps) → (part_offences true at (sound p) ≡ []) × (unmarked ps ≡ true) × small ps
+none_wrong at (blank b) ps u m = (refl, u, m)
+none_wrong at (block body) ps u m = (refl, u, m)
+none_wrong at (line body) ps u m = (refl, u, m)
+none_wrong at (text.lexeme (lexeme.number k) bytes) ps u m = (ap (λ (b : Bool). offence_if b NumberTooBig at) (lt-leb past_numbers k m.0), u, m.1)
+none_wrong at (text.lexeme (lexeme.string v) bytes) ps u m =
+    (let h = and_parts (not (holds_mark v)) (unmarked ps) u in (ap (λ (b : Bool). offence_if b BadToken at) (not-true (holds_mark v) h.0), h.1, m.1))
+none_wrong at (text.lexeme (lexeme.name v) bytes) ps u m = (refl, u, m.1)
+none_wrong at (text.lexeme (lexeme.one v) bytes) ps u m = (refl, u, m.1)
+none_wrong at (text.lexeme (lexeme.other v) bytes) ps u m = (refl, u, m.1)
+
+none_in : (qs : List IndexedPart) (ps : List Piece) → map (λ q. q.1) qs ≡ map sound ps → unmarked ps ≡ true → small ps → inner_offences qs ≡ []
+none_in [] ps e u m = refl
+none_in (q ∷ qs) [] e u m = absurd cc
+none_in (q ∷ qs) (p ∷ ps) e u m =
+    let first : q.1 ≡ sound p = cc in
+    let rest : map (λ q. q.1) qs ≡ map sound ps = cc in
+    let none = none_wrong q.0 p ps u m in
+    (λ i. part_offences true q.0 (first i) ++ none_in qs ps rest none.1 none.2 i) ∙ ap (λ (os : List Offence). os ++ []) none.0
 
 -- its text is at n, in a comment that goes on with c
 module _ (s : Syntax) (a : Algorithm) (h : IsPrintable a) (w : Text) (n left : ℕ) (p v r c : Text) (is : w ≡ p ++ (v ++ r)) (size : n ≡ length p) (count : left ≡ length v)
@@ -180,8 +205,11 @@ module _ (s : Syntax) (a : Algorithm) (h : IsPrintable a) (w : Text) (n left : �
       ∙ ap (λ (ts : List Token). grammar.word at (front_word a.fair) ts) (seen_is (place_at w behind_word) behind_word x.pieces ∙ ap (λ (q : Place). seen q x.pieces) place_there)
       ∙ x.seen
 
-  holds_there : (b : AlgorithmText) → algorithm_in w ≡ Some b → algorithm_at n left (drop n w) ≡ b → HoldsPrinted s a n w
-  holds_there b is_b same = record {
+  none_broken : algorithm_offences (Some there) ≡ []
+  none_broken = none_in there.rest.parts x.pieces found.parts x.fine.unmarked x.fine.small
+
+  holds_there : offences_of (walk w) ≡ [] → (b : AlgorithmText) → algorithm_in w ≡ Some b → algorithm_at n left (drop n w) ≡ b → HoldsPrinted s a n w
+  holds_there all b is_b same = record {
     text = there;
     is_text = is_b ∙ ap Some (sym same ∙ is_there);
     begins = refl;
@@ -190,6 +218,9 @@ module _ (s : Syntax) (a : Algorithm) (h : IsPrintable a) (w : Text) (n left : �
     tree = algorithm_of x.form;
     spelled = (x.form, x.good, spelled_there, refl);
     same = x.same;
+    tokens = algorithm_is_cut w there all (is_b ∙ ap Some (sym same ∙ is_there)) (ap only_large none_broken);
+    fine = none_broken;
+    sound = all;
   }
 
 -- ---- a file with the printed text
@@ -239,8 +270,8 @@ module _ (s : Syntax) (x w : Text) (a : AlgorithmText) (t : Algorithm) (fine : I
           regrouped : (f n k m e : Text) → (f ++ ((n ++ k) ++ m)) ++ e ≡ f ++ (n ++ ((k ++ m) ++ e))
           regrouped f n k m e = simp append_assoc refl
 
-  sound : offences_of (walk w) ≡ []
-  sound = (swapped_comment x (45 ∷ dashes.0) w a fine is_new is_old paired new_paired).sound
+  all_sound : offences_of (walk w) ≡ []
+  all_sound = (swapped_comment x (45 ∷ dashes.0) w a fine is_new is_old paired new_paired).sound
 
   abbrev begun : (b : AlgorithmText) × (algorithm_in w ≡ Some b) × (b.from ≡ a.from) × (b.opening ≡ opening (45 ∷ 45 ∷ dashes.0))
   begun = swapped_begins x dashes.0 w a fine is_new is_old paired new_paired new_begins
@@ -252,7 +283,7 @@ module _ (s : Syntax) (x w : Text) (a : AlgorithmText) (t : Algorithm) (fine : I
 
   here : (d : Located) (n : ℕ) → find holds_algorithm (walk w) ≡ Some d → first_of (beginnings_in d) ≡ Some n → at_comment w d n ≡ begun.0 → HoldsPrinted s t a.from w
   here d n f o same =
-      let q : Placed w d n = placed_at w d n sound f o in
+      let q : Placed w d n = placed_at w d n all_sound f o in
       let from : n ≡ a.from = ap (λ (b : AlgorithmText). b.from) same ∙ begun.2 in
       let front : take a.from x ≡ q.p =
       sym (take-append_seam (take a.from x) (printed s t ++ (gap s rest ++ rest))) ∙ ap (λ (k : ℕ). take k (take a.from x ++ (printed s t ++ (gap s rest ++ rest)))) (front_size x a fine is_old ∙ sym from ∙ q.from)
@@ -260,7 +291,7 @@ module _ (s : Syntax) (x w : Text) (a : AlgorithmText) (t : Algorithm) (fine : I
       let behind_it : q.v ++ q.r ≡ printed s t ++ (gap s rest ++ rest) = cancel q.p (q.v ++ q.r) (printed s t ++ (gap s rest ++ rest)) (sym q.text ∙ text_there ∙ ap (λ (u : Text). u ++ (printed s t ++ (gap s rest ++ rest))) front) in
       let c = within q.v q.r (printed s t) (gap s rest ++ rest) q.ends behind_it self.clear self.ends in
       subst (λ (k : ℕ). HoldsPrinted s t k w) from
-      (holds_there s t h w n (d.at + 2 + length (within_segment d.is) - n) q.p q.v q.r c.more q.text q.from q.left q.here c.is (gap_there s rest c.more q.r c.rest) begun.0 begun.1 same)
+      (holds_there s t h w n (d.at + 2 + length (within_segment d.is) - n) q.p q.v q.r c.more q.text q.from q.left q.here c.is (gap_there s rest c.more q.r c.rest) all_sound begun.0 begun.1 same)
 
   pub printed_is_there : HoldsPrinted s t a.from w
   printed_is_there = by (find holds_algorithm (walk w)) refl

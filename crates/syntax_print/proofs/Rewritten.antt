@@ -1,11 +1,12 @@
 -- A file whose algorithm is printed in its place holds the same algorithm, in that syntax; printed again it holds the same text as if it had been printed so at once.
-use Rattle.std.proofs.Common.{◌≡◌, ℕ, ◌+◌, Bool, true, false, List, [], ◌∷◌, ◌++◌, map, length, drop, Some, refl, sym, ap, subst, ◌∙◌}
+use Rattle.std.proofs.Common.{◌≡◌, inl, inr, ℕ, suc, ◌+◌, Bool, true, false, List, [], ◌∷◌, ◌++◌, map, length, take, drop, Option, Some, refl, sym, ap, subst, ◌∙◌}
 use Rattle.std.specs.Prelude.{nat_le, ◌<◌}
 use Rattle.std.specs.List.{flat_map}
 use Rattle.std.proofs.lemmas.Bool.{leb-false}
+use Rattle.std.proofs.lemmas.List.{take-append-drop}
 use Rattle.std.proofs.lemmas.Option.{same_Some}
 use Rattle.tla_token.specs.declared.place.Place.{Place}
-use Rattle.tla_token.specs.declared.rule.Rule.TheVariants.{NumberTooBig}
+use Rattle.tla_token.specs.declared.rule.Rule.TheVariants.{NumberTooBig, TooDeep}
 use Rattle.tla_token.specs.Limits.{past_numbers}
 use Rattle.tla_token.specs.Lexemes as lexeme
 use Rattle.tla_token.specs.Tokens.{Piece, blank, block, line, stretch, tokens_of}
@@ -13,6 +14,11 @@ use Rattle.tla_token.specs.Tokens as text
 use Rattle.tla_token.specs.Offences.{Part, sound, stray, bad_string, open_string, open_block, Offence, offence_if, part_offences}
 use Rattle.tla_token.specs.Cut.{pieces}
 use Rattle.tla_tree.specs.laws.Writable.{AreSmall}
+use Rattle.tla_token.specs.declared.rule.Refusal.{Refusal}
+use Rattle.tla_tree.specs.FirstStop.{Look, to_end, Begins, StopRule}
+use Rattle.pcal_tree.specs.AlgorithmTokens.{views}
+use Rattle.pcal_tree.specs.OpenForms.{opens}
+use Rattle.pcal_tree.specs.OffencesSyntax.{algorithms, RefusesTokens}
 use Rattle.pcal_tree.specs.Algorithm.{Algorithm}
 use Rattle.pcal_tree.specs.Placeless.{placeless}
 use Rattle.pcal_tree.specs.Grammar.{Syntax, Spells}
@@ -94,6 +100,20 @@ one_rewritten s x w v r q =
 pub some_rewritten : (s t : Syntax) (x : Text) (a : AlgorithmText) (g : Algorithm) → algorithm_in x ≡ Some a → Spells t (algorithm_tokens x a) g → (w : Text) × Rewritten s x w
 some_rewritten s t x a g is h = (_, record { old = a; is_old = is; syntax = t; tree = g; spelled = h; swapped = record { old = a; is_old = is; is = refl } })
 
+-- its tokens are refused for their depth alone
+pub too_deep : (s : Syntax) (ts : List text.Token) (t : Algorithm) (end : Place) (r : Refusal) → Spells s ts t → RefusesTokens s ts end r → r.rule ≡ TooDeep
+too_deep s ts t end r (x, good, e, same) f = by f.stops.rule
+  where
+    looks : List (Option Look)
+    looks = to_end (views ts)
+
+    begun : Begins (algorithms s) (take (suc f.passed) looks)
+    begun = (drop (suc f.passed) looks, opens x, (x, good, ap to_end (sym e) ∙ sym (take-append-drop (suc f.passed) looks), refl))
+
+    by : StopRule (algorithms s) (take (suc f.passed) looks) r.rule → r.rule ≡ TooDeep
+    by (inl h) = h.0
+    by (inr h) = absurd (h.1 begun)
+
 -- ---- printed again
 
 pub rewritten_again : (s t : Syntax) (x w v : Text) → IsFine x → (r : Rewritten s x w) → is_paired 0 (stretch x r.old.from r.old.rest.to) ≡ true → IsFine w → Rewritten t w v → HoldsPrinted t r.tree r.old.from v
@@ -116,4 +136,7 @@ rewritten_again s t x w v fine r is_pair fine_there q =
       tree = k.tree;
       spelled = k.spelled;
       same = k.same ∙ same;
+      tokens = k.tokens;
+      fine = k.fine;
+      sound = k.sound;
     }
