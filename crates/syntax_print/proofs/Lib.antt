@@ -1,5 +1,6 @@
 mod RowsStatements
 mod RowsAlgorithm
+mod RowsRewritten
 mod Calm
 mod CalmTrees
 mod Clear

@@ -297,51 +297,126 @@ pub record BehindAt (s : Syntax) (a : Algorithm) (at : Place) : Type 0 where
 divided : (ps lines last : List Piece) (v : List ℕ) → AllFit ps → AllFit lines → text_of lines ≡ v ++ 10 ∷ [] → AllFitBefore [] last → text_of ps ≡ text_of lines ++ text_of last → ps ≡ lines ++ last
 divided ps lines last v h k e m t = one_cut ps (lines ++ last) h (fit_alone (lines ++ last) [] (both_fit lines last [] (lines_fit lines v (text_of last ++ []) e k) m)) (t ∙ sym (text_append lines last))
 
-pub behind_at : (s : Syntax) (a : Algorithm) → IsPrintable a → (at : Place) → Right 0 at → BehindAt s a at
-behind_at s a h at right =
+-- what is printed, part by part
+record PartsAt (s : Syntax) (a : Algorithm) (at : Place) : Type 0 where
+  front : FrontAt a.fair at
+  title : TitleAt s a.name front.chunk.end
+  inside : InsideAt s a (title.chunk.end.line + 1)
+  last : LastAt s inside.block.next
+
+parts_at : (s : Syntax) (a : Algorithm) → IsPrintable a → (at : Place) → Right 0 at → PartsAt s a at
+parts_at s a h at right =
     let f = front_at a.fair at right in
     let t = title_at s a.name h.name f.chunk.end f.chunk.right in
-    let x = join f.chunk t.chunk (λ y q. refl) in
-    let i = inside_at s a h (x.end.line + 1) in
-    let e = last_at s i.block.next in
-    let r : List Piece = i.block.pieces e.pieces in
-    let u = i.block.text e.pieces in
-    let lines : List Piece = x.pieces (blank 10 ∷ i.block.pieces []) in
-    let end = i.block.lined (f.more ++ opening s a.name.word) in
-    let lines_text : text_of lines ≡ end.0 ++ 10 ∷ [] =
-    x.bytes (blank 10 ∷ i.block.pieces []) ∙ ap (λ (y : List ℕ). (f.more ++ opening s a.name.word) ++ 10 ∷ y) (i.block.text [] ∙ append-nil i.block.front) ∙ end.1 in
-    let whole : text_of (x.pieces (blank 10 ∷ r)) ≡ text_of lines ++ text_of e.pieces =
-    x.bytes (blank 10 ∷ r) ∙ ap (λ (y : List ℕ). (f.more ++ opening s a.name.word) ++ 10 ∷ y) u ∙ sym (append_assoc (f.more ++ opening s a.name.word) (10 ∷ i.block.front) (text_of e.pieces))
-    ∙ ap (λ (y : List ℕ). y ++ text_of e.pieces) (end.1 ∙ sym lines_text) in
-    let fine_lines : Fine lines = x.fine (blank 10 ∷ i.block.pieces []) (newline_fine (i.block.fine [] none_fine)) refl in
-    let fine_whole : Fine (x.pieces (blank 10 ∷ r)) = x.fine (blank 10 ∷ r) (newline_fine (i.block.fine e.pieces e.fine)) refl in
-    let is : x.pieces (blank 10 ∷ r) ≡ lines ++ last_pieces s = divided (x.pieces (blank 10 ∷ r)) lines (last_pieces s) end.0 fine_whole.fit fine_lines.fit lines_text (last_fit s [] (needs_nothing s)) (whole ∙ ap (λ (ps : List Piece). text_of lines ++ text_of ps) e.is) in
-    let w : List ℕ = algorithm_word a.fair ++ opening s a.name.word in
-    let joined : printed s a ≡ w ++ 10 ∷ text_of r = lines_joined w _ r (i.block.stands (line 0 (last_line s) []) e.pieces e.stands) in
-    let bytes_there : printed s a ≡ front_word a.fair ++ text_of (x.pieces (blank 10 ∷ r)) =
-    joined ∙ ap (λ (y : List ℕ). (y ++ opening s a.name.word) ++ 10 ∷ text_of r) f.word ∙ ap (λ (y : List ℕ). y ++ 10 ∷ text_of r) (append_assoc (front_word a.fair) f.more (opening s a.name.word)) ∙ append_assoc (front_word a.fair) (f.more ++ opening s a.name.word) (10 ∷ text_of r) ∙ ap (λ (y : List ℕ). front_word a.fair ++ y) (sym (x.bytes (blank 10 ∷ r))) in
-    let inside : Tokens = λ ts. grammar.section_tokens i.variables (g.define i.define (g.each g.macro i.macros (g.each g.procedure i.procedures (g.main i.main ts)))) in
+    let i = inside_at s a h (t.chunk.end.line + 1) in
+    record { front = f; title = t; inside = i; last = last_at s i.block.next }
+
+module _ (s : Syntax) (a : Algorithm) (at : Place) (x : PartsAt s a at) where
+  -- the first line, behind its first word
+  abbrev line_text : List ℕ
+  line_text = x.front.more ++ opening s a.name.word
+
+  abbrev first_line : Chunk ends_word (behind_front a.fair at) line_text (λ ts. x.front.rest (grammar.name (named x.front.chunk.end a.name) (opened s x.title.opens ts)))
+  first_line = join x.front.chunk x.title.chunk (λ y q. refl)
+
+  abbrev more : List Piece
+  more = x.inside.block.pieces x.last.pieces
+
+  abbrev all : List Piece
+  all = first_line.pieces (blank 10 ∷ more)
+
+  abbrev before_last : List Piece
+  before_last = first_line.pieces (blank 10 ∷ x.inside.block.pieces [])
+
+  all_fine : Fine all
+  all_fine = first_line.fine (blank 10 ∷ more) (newline_fine (x.inside.block.fine x.last.pieces x.last.fine)) refl
+
+  before_fine : Fine before_last
+  before_fine = first_line.fine (blank 10 ∷ x.inside.block.pieces []) (newline_fine (x.inside.block.fine [] none_fine)) refl
+
+  abbrev lined : (v : List ℕ) × (line_text ++ 10 ∷ x.inside.block.front ≡ v ++ 10 ∷ [])
+  lined = x.inside.block.lined line_text
+
+  before_text : text_of before_last ≡ lined.0 ++ 10 ∷ []
+  before_text = first_line.bytes (blank 10 ∷ x.inside.block.pieces []) ∙ ap (λ (y : List ℕ). line_text ++ 10 ∷ y) (x.inside.block.text [] ∙ append-nil x.inside.block.front) ∙ lined.1
+
+  all_text : text_of all ≡ text_of before_last ++ text_of x.last.pieces
+  all_text =
+      first_line.bytes (blank 10 ∷ more) ∙ ap (λ (y : List ℕ). line_text ++ 10 ∷ y) (x.inside.block.text x.last.pieces)
+      ∙ sym (append_assoc line_text (10 ∷ x.inside.block.front) (text_of x.last.pieces)) ∙ ap (λ (y : List ℕ). y ++ text_of x.last.pieces) (lined.1 ∙ sym before_text)
+
+  in_two : all ≡ before_last ++ last_pieces s
+  in_two =
+      divided all before_last (last_pieces s) lined.0 all_fine.fit before_fine.fit before_text (last_fit s [] (needs_nothing s))
+      (all_text ∙ ap (λ (ps : List Piece). text_of before_last ++ text_of ps) x.last.is)
+
+  abbrev title : List ℕ
+  title = algorithm_word a.fair ++ opening s a.name.word
+
+  lines_there : printed s a ≡ title ++ 10 ∷ text_of more
+  lines_there = lines_joined title _ more (x.inside.block.stands (line 0 (last_line s) []) x.last.pieces x.last.stands)
+
+  bytes_there : printed s a ≡ front_word a.fair ++ text_of all
+  bytes_there =
+      lines_there ∙ ap (λ (y : List ℕ). (y ++ opening s a.name.word) ++ 10 ∷ text_of more) x.front.word
+      ∙ ap (λ (y : List ℕ). y ++ 10 ∷ text_of more) (append_assoc (front_word a.fair) x.front.more (opening s a.name.word)) ∙ append_assoc (front_word a.fair) line_text (10 ∷ text_of more)
+      ∙ ap (λ (y : List ℕ). front_word a.fair ++ y) (sym (first_line.bytes (blank 10 ∷ more)))
+
+  abbrev within : Tokens
+  within ts = grammar.section_tokens x.inside.variables (g.define x.inside.define (g.each g.macro x.inside.macros (g.each g.procedure x.inside.procedures (g.main x.inside.main ts))))
+
+  abbrev form_there : g.Text
+  form_there = record {
+    head = x.front.form;
+    name = named x.front.chunk.end a.name;
+    around = around_form s x.title.opens x.last.first x.last.second;
+    variables = x.inside.variables;
+    define = x.inside.define;
+    macros = x.inside.macros;
+    procedures = x.inside.procedures;
+    main = x.inside.main;
+  }
+
+  seen_there : grammar.word at (front_word a.fair) (seen (behind_front a.fair at) all) ≡ spell form_there []
+  seen_there =
+      ap (λ (ts : List Token). grammar.word at (front_word a.fair) ts)
+      (first_line.seen (blank 10 ∷ more)
+      ∙ ap (λ (ts : List Token). x.front.rest (grammar.name (named x.front.chunk.end a.name) (opened s x.title.opens ts))) (x.inside.block.seen x.last.pieces ∙ ap within x.last.seen)
+      ∙ ap (λ (ts : List Token). x.front.rest (grammar.name (named x.front.chunk.end a.name) ts)) (around_is s x.title.opens x.last.first x.last.second within))
+      ∙ sym (x.front.tokens _)
+
+  ends_so : Ends (printed s a)
+  ends_so =
+      let front = x.inside.block.front in
+      let e = x.last.ends in
+      record {
+        before = title ++ 10 ∷ (front ++ e.before);
+        byte = e.byte;
+        is = lines_there ∙ ap (λ (y : List ℕ). title ++ 10 ∷ y) (x.inside.block.text x.last.pieces ∙ ap (λ (y : List ℕ). front ++ y) e.is ∙ sym (append_assoc front e.before (e.byte ∷ [])))
+            ∙ sym (append_assoc title (10 ∷ (front ++ e.before)) (e.byte ∷ []));
+        calm = e.calm;
+      }
+
+pub behind_at : (s : Syntax) (a : Algorithm) → IsPrintable a → (at : Place) → Right 0 at → BehindAt s a at
+behind_at s a h at right =
+    let x = parts_at s a h at right in
+    let i = x.inside in
+    let before : List Piece = before_last s a at x in
     record {
-      form = record { head = f.form; name = named f.chunk.end a.name; around = around_form s t.opens e.first e.second; variables = i.variables; define = i.define; macros = i.macros; procedures = i.procedures; main = i.main };
-      good = (around_good s t.opens e.first e.second, i.good.0, i.good.1, i.good.2, i.good.3, i.good.4);
-      same = λ j. record { name = name_placeless a.name; fair = f.fair j; globals = i.same_variables j; definitions = i.same_define j; macros = i.same_macros j; procedures = i.same_procedures j; main = i.same_main j };
-      pieces = x.pieces (blank 10 ∷ r);
-      bytes = bytes_there;
-      fine = fine_whole;
-      clear = ap holds_mark bytes_there ∙ front_clear a.fair (text_of (x.pieces (blank 10 ∷ r))) fine_whole.clear;
-      seen = ap (λ (ts : List Token). grammar.word at (front_word a.fair) ts)
-          (x.seen (blank 10 ∷ r) ∙ ap (λ (ts : List Token). f.rest (grammar.name (named f.chunk.end a.name) (opened s t.opens ts))) (i.block.seen e.pieces ∙ ap inside e.seen)
-          ∙ ap (λ (ts : List Token). f.rest (grammar.name (named f.chunk.end a.name) ts)) (around_is s t.opens e.first e.second inside))
-          ∙ sym (f.tokens _);
-      ends = record {
-        before = w ++ 10 ∷ (i.block.front ++ e.ends.before);
-        byte = e.ends.byte;
-        is = joined ∙ ap (λ (y : List ℕ). w ++ 10 ∷ y) (u ∙ ap (λ (y : List ℕ). i.block.front ++ y) e.ends.is ∙ sym (append_assoc i.block.front e.ends.before (e.ends.byte ∷ []))) ∙ sym (append_assoc w (10 ∷ (i.block.front ++ e.ends.before)) (e.ends.byte ∷ []));
-        calm = e.ends.calm;
-      };
-      fit = λ q n. subst (AllFitBefore q) (sym is) (both_fit lines (last_pieces s) q (lines_fit lines end.0 (text_of (last_pieces s) ++ q) lines_text fine_lines.fit) (last_fit s q n));
-      token = ap ends_in_token is ∙ ends_there lines (last_pieces s) (last_token s).1 (last_token s).0;
-      begins = (10 ∷ text_of r, joined ∙ append_assoc (algorithm_word a.fair) (opening s a.name.word) (10 ∷ text_of r));
+      form = form_there s a at x;
+      good = (around_good s x.title.opens x.last.first x.last.second, i.good.0, i.good.1, i.good.2, i.good.3, i.good.4);
+      same = λ j. record { name = name_placeless a.name; fair = x.front.fair j; globals = i.same_variables j; definitions = i.same_define j; macros = i.same_macros j; procedures = i.same_procedures j; main = i.same_main j };
+      pieces = all s a at x;
+      bytes = bytes_there s a at x;
+      fine = all_fine s a at x;
+      clear = ap holds_mark (bytes_there s a at x) ∙ front_clear a.fair (text_of (all s a at x)) (all_fine s a at x).clear;
+      seen = seen_there s a at x;
+      ends = ends_so s a at x;
+      fit = λ q n.
+          subst (AllFitBefore q) (sym (in_two s a at x))
+          (both_fit before (last_pieces s) q (lines_fit before (lined s a at x).0 (text_of (last_pieces s) ++ q) (before_text s a at x) (before_fine s a at x).fit) (last_fit s q n));
+      token = ap ends_in_token (in_two s a at x) ∙ ends_there before (last_pieces s) (last_token s).1 (last_token s).0;
+      begins = (10 ∷ text_of (more s a at x), lines_there s a at x ∙ append_assoc (algorithm_word a.fair) (opening s a.name.word) (10 ∷ text_of (more s a at x)));
     }
 
 pub printed_at : (s : Syntax) (a : Algorithm) → IsPrintable a → PrintedAt s a
