@@ -20,6 +20,11 @@ mod StatementEndsP
 mod StatementEndsC
 mod AlgorithmEnds
 mod Stages
+mod ExprClean
+mod PartClean
+mod StatementCleanP
+mod StatementCleanC
+mod AlgorithmClean
 mod Followed
 mod Beginning
 mod Rewriting

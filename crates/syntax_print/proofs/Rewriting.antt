@@ -13,6 +13,7 @@ use Rattle.tla_token.specs.Limits.{past_numbers}
 use Rattle.tla_token.specs.declared.rule.Rule.TheVariants.{BadToken, NumberTooBig}
 use Rattle.tla_token.specs.Tokens as text
 use Rattle.tla_token.specs.Cut.{pieces}
+use Rattle.tla_token.specs.AlgorithmOffences.{number_offences, too_many_tokens, algorithm_offences as token_offences}
 use Rattle.tla_token.proofs.Unique.{sound_pieces}
 use Rattle.tla_tree.specs.Lexical.{Token}
 use Rattle.tla_tree.specs.Spelling.{Right}
@@ -47,6 +48,8 @@ use Rattle.syntax_print.specs.laws.HoldsPrinted.{HoldsPrinted}
 use Rattle.syntax_print.proofs.Chunks.{unmarked, small, later, seen, seen_is}
 use Rattle.syntax_print.proofs.WholeText.{BehindAt, behind_at, behind_front, needs, Ends, front_word}
 use Rattle.syntax_print.proofs.AlgorithmEnds.{ends_there}
+use Rattle.syntax_print.proofs.ExprClean.{Clean}
+use Rattle.syntax_print.proofs.AlgorithmClean.{spelled_clean, none_left_out}
 use Rattle.syntax_print.proofs.Stages.{behind, Found, all_found}
 use Rattle.syntax_print.proofs.Followed.{pieces_found}
 use Rattle.syntax_print.proofs.Beginning.{fair_is, opening_is, begins_is, gap_paired, gap_there, Within, within}
@@ -127,6 +130,15 @@ none_in (q ∷ qs) (p ∷ ps) e u m =
     let none = none_wrong q.0 p ps u m in
     (λ i. part_offences true q.0 (first i) ++ none_in qs ps rest none.1 none.2 i) ∙ ap (λ (os : List Offence). os ++ []) none.0
 
+no_numbers : (ps : List Piece) (p : Place) (at : ℕ) → unmarked ps ≡ true → small ps → number_offences (tokens_of p at ps) ≡ []
+no_numbers [] p at u m = refl
+no_numbers (blank b ∷ ps) p at u m = no_numbers ps _ _ u m
+no_numbers (block w ∷ ps) p at u m = no_numbers ps _ _ u m
+no_numbers (line w ∷ ps) p at u m = no_numbers ps _ _ u m
+no_numbers (text.lexeme k w ∷ ps) p at u m =
+    let none = none_wrong at (text.lexeme k w) ps u m in
+    (λ i. none.0 i ++ number_offences (tokens_of (after p w) (at + length w) ps)) ∙ no_numbers ps (after p w) (at + length w) none.1 none.2
+
 -- its text is at n, in a comment that goes on with c
 module _ (s : Syntax) (a : Algorithm) (h : IsPrintable a) (w : Text) (n left : ℕ) (p v r c : Text) (is : w ≡ p ++ (v ++ r)) (size : n ≡ length p) (count : left ≡ length v)
     (starts : begins_algorithm v ≡ true) (holds : v ≡ printed s a ++ c) (fits : needs s c ≡ true) where
@@ -205,6 +217,12 @@ module _ (s : Syntax) (a : Algorithm) (h : IsPrintable a) (w : Text) (n left : �
       ∙ ap (λ (ts : List Token). grammar.word at (front_word a.fair) ts) (seen_is (place_at w behind_word) behind_word x.pieces ∙ ap (λ (q : Place). seen q x.pieces) place_there)
       ∙ x.seen
 
+  few_there : token_offences (algorithm_tokens w there) ≡ too_many_tokens (algorithm_tokens w there)
+  few_there =
+      let clean = none_left_out (algorithm_tokens w there) (subst Clean (sym spelled_there) (spelled_clean s x.form x.good)) in
+      let small = ap number_offences tokens_there ∙ no_numbers x.pieces (place_at w behind_word) behind_word x.fine.unmarked x.fine.small in
+      λ i. clean i ++ (small i ++ too_many_tokens (algorithm_tokens w there))
+
   none_broken : algorithm_offences (Some there) ≡ []
   none_broken = none_in there.rest.parts x.pieces found.parts x.fine.unmarked x.fine.small
 
@@ -219,6 +237,7 @@ module _ (s : Syntax) (a : Algorithm) (h : IsPrintable a) (w : Text) (n left : �
     spelled = (x.form, x.good, spelled_there, refl);
     same = x.same;
     tokens = algorithm_is_cut w there all (is_b ∙ ap Some (sym same ∙ is_there)) (ap only_large none_broken);
+    few = few_there;
     fine = none_broken;
     sound = all;
   }

@@ -137,6 +137,7 @@ rewritten_again s t x w v fine r is_pair fine_there q =
       spelled = k.spelled;
       same = k.same ∙ same;
       tokens = k.tokens;
+      few = k.few;
       fine = k.fine;
       sound = k.sound;
     }

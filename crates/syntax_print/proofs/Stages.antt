@@ -29,7 +29,7 @@ use Rattle.syntax_print.proofs.AlgorithmEnds.{behind_name}
 
 -- ---- words that are not reserved
 
-abbrev is_plain : TokenView → Bool
+abbrev pub is_plain : TokenView → Bool
 is_plain (tk.reserved w) = false
 is_plain (tk.mark m) = false
 is_plain k = true
@@ -45,7 +45,7 @@ plain_among (p ∷ ws) h w k e = by (bytes_eq p.0 w) (plain_among ws h.1 w k e)
 all_plain : AllByRecursion (λ p. is_plain p.1 ≡ true) word_kinds
 all_plain = (refl, (refl, (refl, (refl, (refl, (refl, (refl, (refl, (refl, (refl, (refl, (refl, (refl, (refl, (refl, tt)))))))))))))))
 
-free_plain : (w : Word) → is_pluscal_word w ≡ false → is_plain (word_kind w) ≡ true
+pub free_plain : (w : Word) → is_pluscal_word w ≡ false → is_plain (word_kind w) ≡ true
 free_plain w h = rw h (plain_among word_kinds all_plain w (if is_tla_word w then tk.other w else tk.word w) (by (is_tla_word w)))
   where
     by : (b : Bool) → is_plain (if b then tk.other w else tk.word w) ≡ true

@@ -1,6 +1,7 @@
 -- What the laws of printed algorithms in files speak of: the algorithm of a file that is just a printed text.
 use Rattle.std.specs.Prelude.{◌≡◌, ℕ, ◌+◌, [], length, Some}
 use Rattle.tla_token.specs.Tokens.{stretch, TokAlgorithm}
+use Rattle.tla_token.specs.AlgorithmOffences.{too_many_tokens, algorithm_offences as token_offences}
 use Rattle.pcal_tree.specs.Algorithm.{Algorithm}
 use Rattle.pcal_tree.specs.Placeless.{placeless}
 use Rattle.pcal_tree.specs.Grammar.{Syntax, Spells}
@@ -20,6 +21,8 @@ pub record HoldsPrinted (s : Syntax) (g : Algorithm) (from : ℕ) (w : Text) : T
   pub tree : Algorithm
   pub spelled : Spells s (algorithm_tokens w text) tree
   pub same : placeless tree ≡ placeless g
+  -- of the rules on its words and numbers, and on how many tokens there are, it can break the last alone
+  pub few : token_offences (algorithm_tokens w text) ≡ too_many_tokens (algorithm_tokens w text)
   -- no rule on bytes, strings, comments and numbers is broken in it, nor one on a segment of the file
   pub fine : algorithm_offences (Some text) ≡ []
   pub sound : offences_of (walk w) ≡ []
