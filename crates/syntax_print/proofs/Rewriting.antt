@@ -88,7 +88,7 @@ place_behind w p f z n e size =
 -- ---- where the old one was
 
 -- it begins within the text
-front_size : (x : Text) (a : AlgorithmText) → IsFine x → algorithm_in x ≡ Some a → length (take a.from x) ≡ a.from
+pub front_size : (x : Text) (a : AlgorithmText) → IsFine x → algorithm_in x ≡ Some a → length (take a.from x) ≡ a.from
 front_size x a fine is = by (find holds_algorithm (walk x)) refl
   where
     begun : (d : Located) → find holds_algorithm (walk x) ≡ Some d → (o : Option ℕ) → first_of (beginnings_in d) ≡ o → length (take a.from x) ≡ a.from

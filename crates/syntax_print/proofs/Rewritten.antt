@@ -1,9 +1,10 @@
 -- A file whose algorithm is printed in its place holds the same algorithm, in that syntax; printed again it holds the same text as if it had been printed so at once.
-use Rattle.std.proofs.Common.{◌≡◌, inl, inr, ℕ, suc, ◌+◌, Bool, true, false, List, [], ◌∷◌, ◌++◌, map, length, take, drop, Option, Some, refl, sym, ap, subst, ◌∙◌}
+use Rattle.std.proofs.Common.{◌≡◌, inl, inr, ℕ, suc, ◌+◌, Bool, true, false, List, [], ◌∷◌, ◌++◌, map, length, take, drop, Option, Some, refl, sym, ap, subst, ◌∙◌, append_assoc, append-nil, length-append}
 use Rattle.std.specs.Prelude.{nat_le, ◌<◌}
 use Rattle.std.specs.List.{flat_map}
 use Rattle.std.proofs.lemmas.Bool.{leb-false}
 use Rattle.std.proofs.lemmas.List.{take-append-drop}
+use Rattle.std.proofs.Math.Seq.{drop-append_seam}
 use Rattle.std.proofs.lemmas.Option.{same_Some}
 use Rattle.tla_token.specs.declared.place.Place.{Place}
 use Rattle.tla_token.specs.declared.rule.Rule.TheVariants.{NumberTooBig, TooDeep}
@@ -13,6 +14,7 @@ use Rattle.tla_token.specs.Tokens.{Piece, blank, block, line, stretch, tokens_of
 use Rattle.tla_token.specs.Tokens as text
 use Rattle.tla_token.specs.Offences.{Part, sound, stray, bad_string, open_string, open_block, Offence, offence_if, part_offences}
 use Rattle.tla_token.specs.Cut.{pieces}
+use Rattle.tla_tree.specs.laws.InText.{ends_word}
 use Rattle.tla_tree.specs.laws.Writable.{AreSmall}
 use Rattle.tla_token.specs.declared.rule.Refusal.{Refusal}
 use Rattle.tla_tree.specs.FirstStop.{Look, to_end, Begins, StopRule}
@@ -21,7 +23,7 @@ use Rattle.pcal_tree.specs.OpenForms.{opens}
 use Rattle.pcal_tree.specs.OffencesSyntax.{algorithms, RefusesTokens}
 use Rattle.pcal_tree.specs.Algorithm.{Algorithm}
 use Rattle.pcal_tree.specs.Placeless.{placeless}
-use Rattle.pcal_tree.specs.Grammar.{Syntax, Spells}
+use Rattle.pcal_tree.specs.Grammar.{Syntax, p_syntax, c_syntax, Spells}
 use Rattle.pcal_tree.specs.Printed.{Text, printed}
 use Rattle.module_tree.specs.AlgorithmText.{IndexedPart, AlgorithmText, algorithm_in, algorithm_tokens}
 use Rattle.module_tree.specs.FileOffences.{inner_offences, algorithm_offences}
@@ -32,13 +34,14 @@ use Rattle.module_tree.proofs.WalkPlace.{both_empty}
 use Rattle.module_tree.proofs.WalkKept.{all_fine_in}
 use Rattle.module_tree.proofs.AlgorithmIsCut.{algorithm_is_cut}
 use Rattle.module_tree.proofs.OnePlace.{one_swapped}
+use Rattle.module_tree.proofs.SwappedBack.{swapped_back}
 use Rattle.syntax_print.specs.Rewritten.{gap, Rewritten}
 use Rattle.syntax_print.specs.laws.Printable.{IsPrintable}
 use Rattle.syntax_print.specs.laws.HoldsPrinted.{HoldsPrinted}
 use Rattle.syntax_print.proofs.FitAlgorithm.{spelled_printable}
 use Rattle.syntax_print.proofs.PrintedBare.{same_printed}
 use Rattle.syntax_print.proofs.Back.{one_tree, one_syntax, paired}
-use Rattle.syntax_print.proofs.Rewriting.{printed_is_there}
+use Rattle.syntax_print.proofs.Rewriting.{front_size, printed_is_there}
 
 -- ---- what stands in a file that is not refused can be printed
 
@@ -141,3 +144,37 @@ rewritten_again s t x w v fine r is_pair fine_there q =
       fine = k.fine;
       sound = k.sound;
     }
+
+-- ---- and back
+
+no_gap : (s : Syntax) (rest : Text) → ends_word rest ≡ true → gap s rest ≡ []
+no_gap c_syntax rest h = refl
+no_gap p_syntax rest h = rw h refl
+
+-- what is behind the printed text is what was behind the old one
+same_behind : (s : Syntax) (x w : Text) → IsFine x → (r : Rewritten s x w) → ends_word (drop r.old.rest.to x) ≡ true → (k : ℕ) → k ≡ r.old.from + length (printed s r.tree) → drop k w ≡ drop r.old.rest.to x
+same_behind s x w fine r ends k e =
+    let a = r.old in
+    let rest = drop a.rest.to x in
+    let new = printed s r.tree in
+    let same : r.swapped.old ≡ a = same_Some r.swapped.old a (sym r.swapped.is_old ∙ r.is_old) in
+    let text : w ≡ take a.from x ++ (new ++ rest) =
+    r.swapped.is ∙ ap (λ (b : AlgorithmText). take b.from x ++ ((new ++ gap s rest) ++ drop b.rest.to x)) same
+    ∙ ap (λ (u : Text). take a.from x ++ ((new ++ u) ++ rest)) (no_gap s rest ends) ∙ ap (λ (u : Text). take a.from x ++ (u ++ rest)) (append-nil new) in
+    let size : k ≡ length (take a.from x ++ new) = e ∙ ap (λ (n : ℕ). n + length new) (sym (front_size x a fine r.is_old)) ∙ sym (length-append (take a.from x) new) in
+    ap (λ (n : ℕ). drop n w) size ∙ ap (drop (length (take a.from x ++ new))) (text ∙ sym (append_assoc (take a.from x) new rest)) ∙ drop-append_seam (take a.from x ++ new) rest
+
+pub rewritten_back : (s t : Syntax) (x w v : Text) → IsFine x → (r : Rewritten s x w) → stretch x r.old.from r.old.rest.to ≡ printed t r.tree → ends_word (drop r.old.rest.to x) ≡ true → IsFine w → Rewritten t w v → v ≡ x
+rewritten_back s t x w v fine r was ends fine_there q =
+    let a = r.old in
+    let is_pair : is_paired 0 (stretch x a.from a.rest.to) ≡ true = ap (is_paired 0) was ∙ paired t r.tree (printable r.syntax x a r.tree fine r.is_old r.spelled) in
+    let h = rewritten_holds s x w fine r is_pair in
+    let old : q.old ≡ h.text = same_Some q.old h.text (sym q.is_old ∙ h.is_text) in
+    let tree : q.tree ≡ h.tree = same_tree s q.syntax (algorithm_tokens w h.text) h.tree q.tree h.spelled (subst (λ (b : AlgorithmText). Spells q.syntax (algorithm_tokens w b) q.tree) old q.spelled) in
+    let text : printed t q.tree ≡ printed t r.tree = same_printed t q.tree r.tree (ap placeless tree ∙ h.same) in
+    let new : Swapped x (printed s r.tree) w = subst (λ (u : Text). Swapped x u w) (ap (λ (u : Text). printed s r.tree ++ u) (no_gap s (drop a.rest.to x) ends) ∙ append-nil (printed s r.tree)) r.swapped in
+    let first : Swapped w (printed t r.tree) x = subst (λ (u : Text). Swapped w u x) was (swapped_back x (printed s r.tree) w a h.text fine new r.is_old h.is_text h.begins h.ends) in
+    let behind : drop q.old.rest.to w ≡ drop a.rest.to x = ap (λ (b : AlgorithmText). drop b.rest.to w) old ∙ same_behind s x w fine r ends h.text.rest.to h.ends in
+    let none : gap t (drop q.old.rest.to w) ≡ [] = no_gap t (drop q.old.rest.to w) (ap ends_word behind ∙ ends) in
+    let second : Swapped w (printed t r.tree) v = subst (λ (u : Text). Swapped w u v) ((λ i. text i ++ none i) ∙ append-nil (printed t r.tree)) q.swapped in
+    one_swapped w (printed t r.tree) v x second first

@@ -1,6 +1,6 @@
 //! Laws of printed algorithms, stated as what functions without a body ensure.
 
-ghost use Rattle.std.specs.Prelude.{◌≡◌, ℕ, List, [], Bool, true, false, length, Some, Ok};
+ghost use Rattle.std.specs.Prelude.{◌≡◌, ℕ, List, [], Bool, true, false, length, drop, Some, Ok};
 ghost use Rattle.tla_token.specs.Tokens as text;
 ghost use Rattle.tla_token.specs.Tokens.{TokAlgorithm, holds_mark, stretch};
 ghost use Rattle.tla_token.specs.declared.place.Place.{Place};
@@ -14,6 +14,7 @@ ghost use Rattle.pcal_tree.specs.Grammar.{Syntax, Text, algorithm_of, Spells, Sp
 ghost use Rattle.pcal_tree.specs.Printed.{PText, CText, printed};
 ghost use Rattle.p_syntax.specs.ReadAlgorithm as p;
 ghost use Rattle.c_syntax.specs.ReadAlgorithm as c;
+ghost use Rattle.tla_tree.specs.laws.InText.{ends_word};
 ghost use Rattle.tla_tree.specs.laws.Writable.{AreSmall};
 ghost use Rattle.module_tree.specs.AlgorithmText.{AlgorithmText, algorithm_in, algorithm_tokens};
 ghost use Rattle.module_tree.specs.laws.Kept.{IsFine};
@@ -76,6 +77,8 @@ pub fn spelled_tokens_are_refused_for_depth_alone()
 {}
 
 /// Rewritten once more, in the same or the other syntax, as long as it breaks none of these rules then, it holds the first file's algorithm, printed in that syntax.
+/// So a file with a printed algorithm, behind which no word goes on, is rewritten in the other syntax and back to just itself.
 pub fn files_are_rewritten_again()
-    ensures { (s t : Syntax) (x w v : List ℕ) → IsFine x → (r : Rewritten s x w) → is_paired 0 (stretch x r.old.from r.old.rest.to) ≡ true → IsFine w → Rewritten t w v → HoldsPrinted t r.tree r.old.from v }
+    ensures holds { (s t : Syntax) (x w v : List ℕ) → IsFine x → (r : Rewritten s x w) → is_paired 0 (stretch x r.old.from r.old.rest.to) ≡ true → IsFine w → Rewritten t w v → HoldsPrinted t r.tree r.old.from v }
+    ensures back { (s t : Syntax) (x w v : List ℕ) → IsFine x → (r : Rewritten s x w) → stretch x r.old.from r.old.rest.to ≡ printed t r.tree → ends_word (drop r.old.rest.to x) ≡ true → IsFine w → Rewritten t w v → v ≡ x }
 {}

@@ -1,6 +1,9 @@
 -- Proves the law `files_are_rewritten_again`.
-use Rattle.syntax_print.proofs.Rewritten.{rewritten_again}
+use Rattle.syntax_print.proofs.Rewritten.{rewritten_again, rewritten_back}
 use Rattle.syntax_print.proofs.laws.files_are_rewritten_again.Goals as goal
 
-pub returns : goal.returns
-returns c = rewritten_again
+pub returns-clause-holds : goal.returns-clause-holds
+returns-clause-holds c = rewritten_again
+
+pub returns-clause-back : goal.returns-clause-back
+returns-clause-back c = rewritten_back
