@@ -1,17 +1,15 @@
 -- The tokens of an algorithm break no rule on words and signs that are left out.
-use Rattle.std.proofs.Common.{◌≡◌, ℕ, Bool, true, false, not, ◌&&◌, ◌||◌, List, [], ◌∷◌, ◌++◌, refl, sym, ap, subst, ◌∙◌, codes}
+use Rattle.std.proofs.Common.{◌≡◌, Bool, true, false, not, ◌||◌, List, [], ◌∷◌, refl, sym, ap, subst, ◌∙◌, codes}
 use Rattle.std.specs.Prelude.{if◌then◌else◌}
 use Rattle.std.specs.Str.{bytes_eq}
 use Rattle.std.specs.List.{list_all, AllByRecursion}
-use Rattle.std.proofs.lemmas.Bool.{and_parts, or_right, or_left, or_cases, both_ways, not-true}
+use Rattle.std.proofs.lemmas.Bool.{and_parts, or_right, both_ways, not-true}
 use Rattle.std.proofs.lemmas.Slice.Eq.{bytes_eq-Decides}
-use Rattle.tla_token.specs.declared.rule.Rule.TheVariants.{LeftOutWord}
 use Rattle.tla_token.specs.declared.sign.Sign.TheVariants as sign
 use Rattle.tla_token.specs.Signs.{is_among}
 use Rattle.tla_token.specs.Words.{is_pluscal_word, is_tla_word, pluscal_words, tla_words, begins_fairness}
 use Rattle.tla_token.specs.Lexemes.{Kind, name, number, string, one, other}
 use Rattle.tla_token.specs.Tokens as text
-use Rattle.tla_token.specs.Offences.{offence_if}
 use Rattle.tla_token.specs.AlgorithmOffences.{left_out_words, begins_path, is_left_out, left_out}
 use Rattle.tla_token.specs.declared.place.Place.{Place}
 use Rattle.tla_tree.specs.Tree.{Word}
@@ -19,9 +17,8 @@ use Rattle.tla_tree.specs.Lexical.{TokenView, Token}
 use Rattle.tla_tree.specs.Lexical as tk
 use Rattle.tla_tree.specs.TokenViews.{kind_among, word_kinds, word_kind}
 use Rattle.pcal_tree.specs.AlgorithmTokens.{kind_of, views}
-use Rattle.pcal_tree.specs.GrammarParts.{Tokens, mark, key, expression, maybe_semicolon, section_tokens, bind_sign, definitions}
+use Rattle.pcal_tree.specs.GrammarParts.{Tokens, mark, key, expression, maybe_semicolon, section_tokens, bind_sign}
 use Rattle.pcal_tree.specs.Grammar.{Syntax, p_syntax, c_syntax, Body, begin_end, braces, body, GoodBody, Macro, macro, GoodMacro, Procedure, procedure, GoodProcedure, Fair, unfair, weak, strong, fair, Identity, bare, bracketed, identity, GoodIdentity, Process, process, GoodProcess, Head, algorithm, fair_algorithm, head, Define, no_define, define_end, define_braces, define, GoodDefine, Main, begin, block, processes, main, GoodMain, each, Around, to_end, in_braces, around, GoodAround, Text, Good, spell}
-use Rattle.pcal_tree.specs.Grammar as g
 use Rattle.syntax_print.proofs.Stages.{is_plain, free_plain}
 use Rattle.syntax_print.proofs.ExprClean.{Clean, Fits, is_path, sign_fits, clean}
 use Rattle.syntax_print.proofs.PartClean.{maybe_semicolon_clean, macro_parameter_clean, procedure_parameter_clean, section_clean, definition_clean}

@@ -1,5 +1,5 @@
 -- The tokens of an algorithm, from its name on, end where the algorithm of a file ends, and nowhere before.
-use Rattle.std.proofs.Common.{◌≡◌, ℕ, zero, suc, Bool, true, false, ◌&&◌, List, [], ◌∷◌, Option, Some, None, refl, sym, ap, ◌∙◌, codes}
+use Rattle.std.proofs.Common.{◌≡◌, ℕ, zero, suc, Bool, true, false, ◌&&◌, List, [], ◌∷◌, Option, Some, None, refl, ap, ◌∙◌, codes}
 use Rattle.std.specs.Prelude.{if◌then◌else◌}
 use Rattle.std.specs.Str.{bytes_eq}
 use Rattle.std.specs.List.{AllByRecursion}
@@ -7,7 +7,7 @@ use Rattle.tla_token.specs.declared.place.Place.{Place}
 use Rattle.tla_tree.specs.Tree.{Word}
 use Rattle.tla_tree.specs.Lexical.{TokenView, Token}
 use Rattle.tla_tree.specs.Lexical as tk
-use Rattle.pcal_tree.specs.GrammarParts.{Tokens, mark, sign, key, expression, maybe_semicolon, Section, no_section, section, section_tokens, macro_parameters, procedure_parameters, bind_sign, definitions}
+use Rattle.pcal_tree.specs.GrammarParts.{Tokens, mark, key, expression, maybe_semicolon, Section, no_section, section, section_tokens, bind_sign}
 use Rattle.pcal_tree.specs.Grammar.{Syntax, p_syntax, c_syntax, Body, begin_end, braces, body, GoodBody, Macro, macro, GoodMacro, Procedure, procedure, GoodProcedure, Fair, unfair, weak, strong, fair, Identity, bare, bracketed, identity, Process, process, GoodProcess, Define, no_define, define_end, define_braces, define, GoodDefine, Main, begin, block, processes, main, GoodMain, each, Around, to_end, in_braces, around, GoodAround, Text, Good}
 use Rattle.syntax_print.proofs.ExprEnds.{behind_c, behind_p, Words, sign_level, sign_words, levels, words}
 use Rattle.syntax_print.proofs.PartEnds.{maybe_semicolon_levels, maybe_semicolon_words, macro_parameter_levels, macro_parameter_words, procedure_parameter_levels, procedure_parameter_words, section_levels, section_words, definition_levels, definition_words}

@@ -7,7 +7,7 @@ use Rattle.tla_tree.specs.Lexical.{Token}
 use Rattle.pcal_tree.specs.Algorithm.{Algorithm}
 use Rattle.pcal_tree.specs.AlgorithmTokens.{views}
 use Rattle.pcal_tree.specs.Placeless.{placeless}
-use Rattle.pcal_tree.specs.Grammar.{Syntax, p_syntax, c_syntax, Text, Good, spell, algorithm_of, Spells, SpellsP, SpellsC}
+use Rattle.pcal_tree.specs.Grammar.{Syntax, p_syntax, c_syntax, Text, spell, algorithm_of, Spells}
 use Rattle.pcal_tree.specs.Printed.{PText, CText, printed}
 use Rattle.p_syntax.specs.ReadAlgorithm as p
 use Rattle.p_syntax.proofs.WholeAlgorithm as p_whole

@@ -1,23 +1,20 @@
 -- A printed text begins an algorithm in a file, before anything, and its comments are paired.
-use Rattle.std.proofs.Common.{◌≡◌, ℕ, zero, suc, Bool, true, false, not, ◌&&◌, ◌||◌, nat_eq, List, [], ◌∷◌, ◌++◌, length, drop, Option, Some, None, refl, sym, ap, subst, ◌∙◌, append_assoc, append-nil, codes}
+use Rattle.std.proofs.Common.{◌≡◌, ℕ, Bool, true, false, ◌&&◌, ◌||◌, nat_eq, [], ◌∷◌, ◌++◌, refl, sym, ap, ◌∙◌, append-nil, codes}
 use Rattle.std.specs.Prelude.{if◌then◌else◌, is_some}
 use Rattle.std.specs.List.{list_all, list_any, starts_with}
-use Rattle.std.proofs.lemmas.Bool.{and_parts, or_parts, not-true}
-use Rattle.tla_token.specs.Lexemes.{is_blank, is_word, is_letter, IsName}
+use Rattle.std.proofs.lemmas.Bool.{and_parts, or_parts}
+use Rattle.tla_token.specs.Lexemes.{is_blank, is_word, is_letter}
 use Rattle.tla_token.specs.Tokens.{holds_mark}
-use Rattle.tla_token.specs.Cut.{run}
 use Rattle.tla_token.proofs.Longest.{run_letter, same_first}
 use Rattle.tla_token.proofs.Signed.{tells_apart}
 use Rattle.tla_tree.specs.laws.InText.{ends_word}
-use Rattle.pcal_tree.specs.Algorithm.{Algorithm}
 use Rattle.pcal_tree.specs.Grammar.{Syntax, p_syntax, c_syntax}
-use Rattle.pcal_tree.specs.Printed.{opening as opened, algorithm_word, printed}
-use Rattle.module_tree.specs.TextFront.{Text, on_some, past_all, past_blanks, past_name}
+use Rattle.pcal_tree.specs.Printed.{algorithm_word, printed}
+use Rattle.module_tree.specs.TextFront.{Text, on_some, past_blanks, past_name}
 use Rattle.module_tree.specs.Beginnings.{is_fair, opening, begins_algorithm}
 use Rattle.module_tree.specs.laws.Swaps.{is_paired}
 use Rattle.module_tree.proofs.AlgorithmTokens.{Ends as EndsComment}
 use Rattle.syntax_print.specs.Rewritten.{gap}
-use Rattle.syntax_print.specs.laws.Printable.{IsName as IsNamed}
 use Rattle.syntax_print.proofs.WholeText.{front_word, is_calm_byte, Ends, needs}
 use Rattle.syntax_print.proofs.Paired.{paired_of}
 

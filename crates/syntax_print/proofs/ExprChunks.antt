@@ -7,7 +7,7 @@ use Rattle.tla_token.specs.Tokens.{AllFit, Fits, unmarked_kind}
 use Rattle.tla_token.specs.Tokens as text
 use Rattle.tla_tree.specs.declared.op.Op.{Op}
 use Rattle.tla_tree.specs.declared.op.Op.TheVariants as op
-use Rattle.tla_tree.specs.Tree.{Word, Tree, Trees, node, no_trees, tree}
+use Rattle.tla_tree.specs.Tree.{Tree, Trees, node, no_trees, tree}
 use Rattle.tla_tree.specs.Tree as expr
 use Rattle.tla_tree.specs.Lexical.{TokenView, Token, token_text, sign_of}
 use Rattle.tla_tree.specs.Lexical as tk

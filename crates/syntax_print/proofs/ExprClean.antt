@@ -1,11 +1,10 @@
 -- No expression holds a word of TLA+ or a sign that is left out, and `!` stands before a path alone.
 use Rattle.std.proofs.Common.{◌≡◌, ℕ, Bool, true, false, List, [], ◌∷◌, refl}
-use Rattle.tla_token.specs.declared.place.Place.{Place}
 use Rattle.tla_tree.specs.declared.op.Op.{Op}
 use Rattle.tla_tree.specs.declared.op.Op.TheVariants as op
-use Rattle.tla_tree.specs.Lexical.{Mark, TokenView, Token, token, sign_of, field_kind}
+use Rattle.tla_tree.specs.Lexical.{Mark, TokenView, Token, sign_of, field_kind}
 use Rattle.tla_tree.specs.Lexical as tk
-use Rattle.tla_tree.specs.Spelling.{Good, GoodAll, GoodBinds, GoodFields, GoodSettings, GoodPath, GoodBullets, GoodArms, GoodLocals, is_some_path, first_bullet, Field, Phrase, Phrases, Binds, Fields, Settings, Path, Bullets, Arms, Locals, number, string, constant, name, primed, call, brackets, no_set, set_of, filter, image, no_tuple, tuple, fields, records, function, functions, except, apply, select, list, quantified, if_then_else, cases, local, infix_of, prefix_of, last, more, last_bind, bind, share, last_field, field, last_setting, setting, path_end, index, at_field, last_bullet, bullet, last_arm, other_arm, arm, last_local, more_locals, mark, key, sign, word, field_token, quantifier, spell, spell_all, spell_binds, spell_fields, spell_settings, spell_path, spell_bullets, spell_arms, spell_locals}
+use Rattle.tla_tree.specs.Spelling.{Good, GoodAll, GoodBinds, GoodFields, GoodSettings, GoodPath, GoodBullets, GoodArms, GoodLocals, is_some_path, first_bullet, Field, Phrase, Phrases, Binds, Fields, Settings, Path, Bullets, Arms, Locals, number, string, constant, name, primed, call, brackets, no_set, set_of, filter, image, no_tuple, tuple, fields, records, function, functions, except, apply, select, list, quantified, if_then_else, cases, local, infix_of, prefix_of, last, more, last_bind, bind, share, last_field, field, last_setting, setting, path_end, index, at_field, last_bullet, bullet, last_arm, other_arm, arm, last_local, more_locals, mark, key, sign, word, field_token, spell, spell_all, spell_binds, spell_fields, spell_settings, spell_path, spell_bullets, spell_arms, spell_locals}
 
 -- ---- tokens that may stand in an algorithm
 

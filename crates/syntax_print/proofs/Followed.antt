@@ -1,10 +1,10 @@
 -- A text of whole lines and a last one, in pieces, is found piece by piece in the comment of a file, whatever is after it there.
-use Rattle.std.proofs.Common.{◌≡◌, ℕ, zero, suc, ◌+◌, ◌-◌, Bool, true, false, not, ◌||◌, nat_eq, List, [], ◌∷◌, ◌++◌, length, take, refl, sym, ap, subst, ◌∙◌, arith, append_assoc, append-nil, length-append, codes}
+use Rattle.std.proofs.Common.{◌≡◌, ℕ, suc, ◌+◌, ◌-◌, Bool, true, false, ◌||◌, nat_eq, List, [], ◌∷◌, ◌++◌, length, take, refl, sym, ap, subst, ◌∙◌, arith, append_assoc, append-nil, length-append, codes}
 use Rattle.std.specs.Prelude.{if◌then◌else◌}
-use Rattle.std.specs.List.{list_all, starts_with}
-use Rattle.std.proofs.lemmas.Bool.{and_parts, both_ways, eqb-true}
+use Rattle.std.specs.List.{list_all}
+use Rattle.std.proofs.lemmas.Bool.{and_parts, eqb-true}
 use Rattle.std.proofs.Math.Seq.{take-append_seam}
-use Rattle.tla_token.specs.Lexemes.{Kind, IsLexeme, IsLongest}
+use Rattle.tla_token.specs.Lexemes.{IsLongest}
 use Rattle.tla_token.specs.Tokens.{Piece, blank, block, line, lexeme, bytes_of, text_of, opens_comment, EndsLine, Fits, AllFit}
 use Rattle.tla_token.specs.Offences.{Part, sound, part_bytes}
 use Rattle.tla_token.specs.Cut.{part_at}

@@ -1,11 +1,9 @@
 -- No part that both syntaxes spell alike holds what is left out.
-use Rattle.std.proofs.Common.{◌≡◌, ℕ, Bool, true, false, List, Option, Some, None, refl, codes}
+use Rattle.std.proofs.Common.{Bool, false, List, Option, Some, None}
 use Rattle.tla_token.specs.declared.place.Place.{Place}
-use Rattle.tla_tree.specs.declared.op.Op.TheVariants as op
 use Rattle.tla_tree.specs.Lexical.{Token}
 use Rattle.tla_tree.specs.Lexical as tk
-use Rattle.tla_tree.specs.Spelling as spelled
-use Rattle.pcal_tree.specs.GrammarParts.{mark, sign, key, name, expression, semicolon, maybe_semicolon, GoodInitial, GoodVariables, GoodSection, GoodParameters, GoodProcedureParameters, GoodDefinitions, GoodBinds, GoodArguments, GoodAssignments, GoodSimple, Separator, by_semicolon, by_comma, separator, maybe_separator, Initial, unset, equals, among, initial, Variables, last_variable, variable, variables, Section, no_section, section, variable_word, section_tokens, Names, last_name, more_names, names, MacroParameters, no_names, some_names, macro_parameters, Parameters, last_parameter, parameter, parameters, ProcedureParameters, no_parameters, some_parameters, procedure_parameters, Heading, plain, applied, heading, Definitions, last_definition, more_definitions, definitions, Colon, colon, colon_plus, colon_minus, colon_tokens, Labels, no_labels, label, labels, Binds, last_bind, bind, bind_sign, binds, Arguments, no_arguments, some_arguments, arguments, Assignments, last_assignment, assignment, assignments, Simple, assign, await, when, print, assert, skip, goto, call, return, macro, simple_tokens}
+use Rattle.pcal_tree.specs.GrammarParts.{mark, expression, maybe_semicolon, GoodInitial, GoodVariables, GoodSection, GoodParameters, GoodProcedureParameters, GoodDefinitions, GoodBinds, GoodArguments, GoodAssignments, GoodSimple, Separator, by_semicolon, by_comma, separator, maybe_separator, Initial, unset, equals, among, initial, Variables, last_variable, variable, variables, Section, no_section, section, section_tokens, Names, last_name, more_names, names, MacroParameters, no_names, some_names, macro_parameters, Parameters, last_parameter, parameter, parameters, ProcedureParameters, no_parameters, some_parameters, procedure_parameters, Heading, plain, applied, heading, Definitions, last_definition, more_definitions, definitions, Colon, colon, colon_plus, colon_minus, colon_tokens, Labels, no_labels, label, labels, Binds, last_bind, bind, bind_sign, binds, Arguments, no_arguments, some_arguments, arguments, Assignments, last_assignment, assignment, assignments, Simple, assign, await, when, print, assert, skip, goto, call, return, macro, simple_tokens}
 use Rattle.syntax_print.proofs.ExprClean.{Clean, sign_fits, clean, all_clean}
 
 pub separator_clean : (a : Separator) (ts : List Token) → Clean ts → Clean (separator a ts)

@@ -19,18 +19,17 @@ use Rattle.tla_tree.specs.Lexical.{Token}
 use Rattle.tla_tree.specs.Spelling.{Right}
 use Rattle.pcal_tree.specs.Algorithm.{Algorithm}
 use Rattle.pcal_tree.specs.AlgorithmTokens.{views}
-use Rattle.pcal_tree.specs.Placeless.{placeless}
 use Rattle.pcal_tree.specs.GrammarParts as grammar
-use Rattle.pcal_tree.specs.Grammar.{Syntax, Head, algorithm, fair_algorithm, is_fair as is_fair_head, head as head_tokens, algorithm_of, spell, around, Good, Spells}
+use Rattle.pcal_tree.specs.Grammar.{Syntax, Head, algorithm, fair_algorithm, is_fair as is_fair_head, head as head_tokens, algorithm_of, spell, around}
 use Rattle.pcal_tree.specs.Grammar as g
 use Rattle.pcal_tree.specs.Printed.{algorithm_word, printed}
 use Rattle.pcal_tree.specs.Printed as lines
 use Rattle.module_tree.specs.TextFront.{Text}
 use Rattle.module_tree.specs.Beginnings.{is_fair, opening, begins_algorithm}
 use Rattle.module_tree.specs.Walk.{Located, walk}
-use Rattle.module_tree.specs.FileParts.{within as within_segment, beginnings_in, first_of, holds_algorithm}
-use Rattle.module_tree.specs.AlgorithmText.{IndexedPart, Stage, head, is_past, Inside, inside, AlgorithmText, algorithm_at, algorithm_in, algorithm_tokens}
-use Rattle.module_tree.specs.FileOffences.{offences_of, inner_offences, algorithm_offences}
+use Rattle.module_tree.specs.FileParts.{module_end, beginnings, within as within_segment, beginnings_in, first_of, holds_algorithm}
+use Rattle.module_tree.specs.AlgorithmText.{IndexedPart, Stage, head, Inside, inside, AlgorithmText, algorithm_at, algorithm_in, algorithm_tokens}
+use Rattle.module_tree.specs.FileOffences.{offences_of, inner_offences, algorithm_offences, no_module, no_algorithm}
 use Rattle.module_tree.specs.WithTranslation.{Swapped}
 use Rattle.module_tree.specs.laws.Kept.{IsFine, only_large}
 use Rattle.module_tree.specs.laws.Swaps.{is_paired}
@@ -46,13 +45,14 @@ use Rattle.syntax_print.specs.Rewritten.{gap}
 use Rattle.syntax_print.specs.laws.Printable.{IsPrintable}
 use Rattle.syntax_print.specs.laws.HoldsPrinted.{HoldsPrinted}
 use Rattle.syntax_print.proofs.Chunks.{unmarked, small, later, seen, seen_is}
-use Rattle.syntax_print.proofs.WholeText.{BehindAt, behind_at, behind_front, needs, Ends, front_word}
+use Rattle.syntax_print.proofs.WholeText.{BehindAt, behind_at, behind_front, needs, front_word}
 use Rattle.syntax_print.proofs.AlgorithmEnds.{ends_there}
 use Rattle.syntax_print.proofs.ExprClean.{Clean}
 use Rattle.syntax_print.proofs.AlgorithmClean.{spelled_clean, none_left_out}
 use Rattle.syntax_print.proofs.Stages.{behind, Found, all_found}
 use Rattle.syntax_print.proofs.Followed.{pieces_found}
-use Rattle.syntax_print.proofs.Beginning.{fair_is, opening_is, begins_is, gap_paired, gap_there, Within, within}
+use Rattle.syntax_print.proofs.Ended.{still_ends, still_begins}
+use Rattle.syntax_print.proofs.Beginning.{fair_is, opening_is, begins_is, gap_paired, gap_there, within}
 
 -- ---- the end of its tokens
 
@@ -226,8 +226,8 @@ module _ (s : Syntax) (a : Algorithm) (h : IsPrintable a) (w : Text) (n left : �
   none_broken : algorithm_offences (Some there) ≡ []
   none_broken = none_in there.rest.parts x.pieces found.parts x.fine.unmarked x.fine.small
 
-  holds_there : offences_of (walk w) ≡ [] → (b : AlgorithmText) → algorithm_in w ≡ Some b → algorithm_at n left (drop n w) ≡ b → HoldsPrinted s a n w
-  holds_there all b is_b same = record {
+  holds_there : offences_of (walk w) ≡ [] → no_module w (module_end (walk w)) ≡ [] → no_algorithm (module_end (walk w)) (beginnings (walk w)) ≡ [] → (b : AlgorithmText) → algorithm_in w ≡ Some b → algorithm_at n left (drop n w) ≡ b → HoldsPrinted s a n w
+  holds_there all ended begun b is_b same = record {
     text = there;
     is_text = is_b ∙ ap Some (sym same ∙ is_there);
     begins = refl;
@@ -240,6 +240,8 @@ module _ (s : Syntax) (a : Algorithm) (h : IsPrintable a) (w : Text) (n left : �
     few = few_there;
     fine = none_broken;
     sound = all;
+    ended = ended;
+    begun = begun;
   }
 
 -- ---- a file with the printed text
@@ -292,6 +294,9 @@ module _ (s : Syntax) (x w : Text) (a : AlgorithmText) (t : Algorithm) (fine : I
   all_sound : offences_of (walk w) ≡ []
   all_sound = (swapped_comment x (45 ∷ dashes.0) w a fine is_new is_old paired new_paired).sound
 
+  ended : no_module w (module_end (walk w)) ≡ []
+  ended = still_ends x (45 ∷ 45 ∷ dashes.0) w a fine is_old (swapped_comment x (45 ∷ dashes.0) w a fine is_new is_old paired new_paired)
+
   abbrev begun : (b : AlgorithmText) × (algorithm_in w ≡ Some b) × (b.from ≡ a.from) × (b.opening ≡ opening (45 ∷ 45 ∷ dashes.0))
   begun = swapped_begins x dashes.0 w a fine is_new is_old paired new_paired new_begins
 
@@ -310,7 +315,7 @@ module _ (s : Syntax) (x w : Text) (a : AlgorithmText) (t : Algorithm) (fine : I
       let behind_it : q.v ++ q.r ≡ printed s t ++ (gap s rest ++ rest) = cancel q.p (q.v ++ q.r) (printed s t ++ (gap s rest ++ rest)) (sym q.text ∙ text_there ∙ ap (λ (u : Text). u ++ (printed s t ++ (gap s rest ++ rest))) front) in
       let c = within q.v q.r (printed s t) (gap s rest ++ rest) q.ends behind_it self.clear self.ends in
       subst (λ (k : ℕ). HoldsPrinted s t k w) from
-      (holds_there s t h w n (d.at + 2 + length (within_segment d.is) - n) q.p q.v q.r c.more q.text q.from q.left q.here c.is (gap_there s rest c.more q.r c.rest) all_sound begun.0 begun.1 same)
+      (holds_there s t h w n (d.at + 2 + length (within_segment d.is) - n) q.p q.v q.r c.more q.text q.from q.left q.here c.is (gap_there s rest c.more q.r c.rest) all_sound ended (still_begins w d f (module_end (walk w))) begun.0 begun.1 same)
 
   pub printed_is_there : HoldsPrinted s t a.from w
   printed_is_there = by (find holds_algorithm (walk w)) refl

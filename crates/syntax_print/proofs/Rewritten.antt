@@ -1,7 +1,6 @@
 -- A file whose algorithm is printed in its place holds the same algorithm, in that syntax; printed again it holds the same text as if it had been printed so at once.
 use Rattle.std.proofs.Common.{◌≡◌, inl, inr, ℕ, suc, ◌+◌, Bool, true, false, List, [], ◌∷◌, ◌++◌, map, length, take, drop, Option, Some, refl, sym, ap, subst, ◌∙◌, append_assoc, append-nil, length-append}
 use Rattle.std.specs.Prelude.{nat_le, ◌<◌}
-use Rattle.std.specs.List.{flat_map}
 use Rattle.std.proofs.lemmas.Bool.{leb-false}
 use Rattle.std.proofs.lemmas.List.{take-append-drop}
 use Rattle.std.proofs.Math.Seq.{drop-append_seam}
@@ -10,7 +9,7 @@ use Rattle.tla_token.specs.declared.place.Place.{Place}
 use Rattle.tla_token.specs.declared.rule.Rule.TheVariants.{NumberTooBig, TooDeep}
 use Rattle.tla_token.specs.Limits.{past_numbers}
 use Rattle.tla_token.specs.Lexemes as lexeme
-use Rattle.tla_token.specs.Tokens.{Piece, blank, block, line, stretch, tokens_of}
+use Rattle.tla_token.specs.Tokens.{blank, block, line, stretch, tokens_of}
 use Rattle.tla_token.specs.Tokens as text
 use Rattle.tla_token.specs.Offences.{Part, sound, stray, bad_string, open_string, open_block, Offence, offence_if, part_offences}
 use Rattle.tla_token.specs.Cut.{pieces}
@@ -143,6 +142,8 @@ rewritten_again s t x w v fine r is_pair fine_there q =
       few = k.few;
       fine = k.fine;
       sound = k.sound;
+      ended = k.ended;
+      begun = k.begun;
     }
 
 -- ---- and back

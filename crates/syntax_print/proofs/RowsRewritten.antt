@@ -1,5 +1,5 @@
 -- Worked rows of files with a printed algorithm, by computation: what comes right behind its last word.
-use Rattle.std.proofs.Common.{◌≡◌, refl, false, [], ◌∷◌, ◌++◌, Option, Some, codes}
+use Rattle.std.proofs.Common.{◌≡◌, refl, false, [], ◌++◌, Option, Some, codes}
 use Rattle.tla_tree.specs.Tree.{Word, Name}
 use Rattle.tla_token.specs.Tokens.{stretch}
 use Rattle.pcal_tree.specs.declared.mark.Mark.TheVariants as marked

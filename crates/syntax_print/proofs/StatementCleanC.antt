@@ -2,7 +2,7 @@
 use Rattle.std.proofs.Common.{List, codes}
 use Rattle.tla_tree.specs.Lexical.{Token}
 use Rattle.tla_tree.specs.Lexical as tk
-use Rattle.pcal_tree.specs.GrammarParts.{mark, key, expression, maybe_semicolon, labels, binds}
+use Rattle.pcal_tree.specs.GrammarParts.{mark, key, maybe_semicolon}
 use Rattle.pcal_tree.specs.GrammarC.{Statement, Labelled, Else, Branches, Sequence, simple, branch, either, with, while, compound, labelled, no_else, else_then, last_branch, more_branches, last_statement, more_statements, statement, labelled_tokens, else_tokens, branches, sequence, GoodStatement, GoodLabelled, GoodElse, GoodBranches, GoodSequence}
 use Rattle.syntax_print.proofs.ExprClean.{Clean, clean}
 use Rattle.syntax_print.proofs.PartClean.{maybe_semicolon_clean, label_clean, bind_clean, simple_clean}

@@ -1,7 +1,7 @@
 -- In P-syntax no statement holds what is left out.
 use Rattle.std.proofs.Common.{List, codes}
 use Rattle.tla_tree.specs.Lexical.{Token}
-use Rattle.pcal_tree.specs.GrammarParts.{key, expression, semicolon, maybe_semicolon, labels, binds}
+use Rattle.pcal_tree.specs.GrammarParts.{key, semicolon, maybe_semicolon}
 use Rattle.pcal_tree.specs.GrammarP.{Statement, Else, Branches, Sequence, simple, branch, either, with, while, no_else, else_then, else_if, last_branch, more_branches, last_statement, more_statements, statement, else_tokens, branches, sequence, GoodStatement, GoodElse, GoodBranches, GoodSequence}
 use Rattle.syntax_print.proofs.ExprClean.{Clean, clean}
 use Rattle.syntax_print.proofs.PartClean.{maybe_semicolon_clean, label_clean, bind_clean, simple_clean}

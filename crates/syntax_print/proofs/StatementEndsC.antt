@@ -1,9 +1,8 @@
 -- In C-syntax each brace that is opened in a statement is closed in it.
-use Rattle.std.proofs.Common.{◌≡◌, ℕ, suc, Bool, true, false, List, Option, Some, None, refl, ◌∙◌, codes}
-use Rattle.tla_token.specs.declared.place.Place.{Place}
+use Rattle.std.proofs.Common.{◌≡◌, ℕ, suc, List, refl, ◌∙◌, codes}
 use Rattle.tla_tree.specs.Lexical.{Token}
 use Rattle.tla_tree.specs.Lexical as tk
-use Rattle.pcal_tree.specs.GrammarParts.{mark, key, expression, maybe_semicolon, labels, binds}
+use Rattle.pcal_tree.specs.GrammarParts.{mark, key, maybe_semicolon}
 use Rattle.pcal_tree.specs.GrammarC.{Statement, Labelled, Else, Branches, Sequence, simple, branch, either, with, while, compound, labelled, no_else, else_then, last_branch, more_branches, last_statement, more_statements, statement, labelled_tokens, else_tokens, branches, sequence}
 use Rattle.syntax_print.proofs.ExprEnds.{behind_c, levels}
 use Rattle.syntax_print.proofs.PartEnds.{maybe_semicolon_levels, label_levels, bind_levels, simple_levels}

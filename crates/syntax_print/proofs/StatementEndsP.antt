@@ -1,9 +1,7 @@
 -- In P-syntax no statement holds `end algorithm`.
-use Rattle.std.proofs.Common.{◌≡◌, ℕ, suc, Bool, true, false, List, Option, Some, None, refl, ◌∙◌, codes}
-use Rattle.tla_token.specs.declared.place.Place.{Place}
+use Rattle.std.proofs.Common.{Bool, false, List, refl, ◌∙◌, codes}
 use Rattle.tla_tree.specs.Lexical.{Token}
-use Rattle.tla_tree.specs.Lexical as tk
-use Rattle.pcal_tree.specs.GrammarParts.{key, expression, semicolon, maybe_semicolon, labels, binds}
+use Rattle.pcal_tree.specs.GrammarParts.{key, semicolon, maybe_semicolon}
 use Rattle.pcal_tree.specs.GrammarP.{Statement, Else, Branches, Sequence, simple, branch, either, with, while, no_else, else_then, else_if, last_branch, more_branches, last_statement, more_statements, statement, else_tokens, branches, sequence}
 use Rattle.syntax_print.proofs.ExprEnds.{Words, words}
 use Rattle.syntax_print.proofs.PartEnds.{maybe_semicolon_words, label_words, bind_words, simple_words}

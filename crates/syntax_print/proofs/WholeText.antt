@@ -5,7 +5,7 @@ use Rattle.std.proofs.lemmas.Bool.{not-true}
 use Rattle.std.proofs.lemmas.List.{take_all}
 use Rattle.tla_token.specs.declared.place.Place.{Place}
 use Rattle.tla_token.specs.Lexemes as lexeme
-use Rattle.tla_token.specs.Tokens.{Piece, blank, text_of, tokens_of, stretch, holds_mark, AllFit, TokAlgorithm}
+use Rattle.tla_token.specs.Tokens.{Piece, blank, text_of, tokens_of, holds_mark, AllFit, TokAlgorithm}
 use Rattle.tla_token.specs.Tokens as text
 use Rattle.tla_token.specs.Places.{after}
 use Rattle.tla_token.specs.declared.sign.Sign.TheVariants.{CloseCurly}
@@ -28,7 +28,7 @@ use Rattle.pcal_tree.specs.GrammarParts.{Tokens, key, mark}
 use Rattle.pcal_tree.specs.GrammarParts as grammar
 use Rattle.pcal_tree.specs.Grammar.{Syntax, p_syntax, c_syntax, Head, algorithm, fair_algorithm, head, is_fair, Around, to_end, in_braces, around, GoodAround, GoodDefine, GoodMacro, GoodProcedure, GoodMain, Good, spell, algorithm_of}
 use Rattle.pcal_tree.specs.Grammar as g
-use Rattle.pcal_tree.specs.Printed.{Lines, line, separated, opening, algorithm_word, last_line, printed}
+use Rattle.pcal_tree.specs.Printed.{line, separated, opening, algorithm_word, last_line, printed}
 use Rattle.pcal_tree.specs.Printed as lines
 use Rattle.syntax_print.specs.laws.Printable.{IsName, IsPrintable}
 use Rattle.syntax_print.proofs.Chunks.{Chunk, any, put, later, in_line, Fine, none_fine, newline_fine, tokens_unmarked, seen, seen_is, join, space}

@@ -1,5 +1,5 @@
 -- A file with its algorithm printed in the place where it is ("A PlusCal User's Manual", section 2.1 and appendix A).
-use Rattle.std.specs.Prelude.{◌≡◌, List, [], ◌++◌, drop, Some, codes, if◌then◌else◌}
+use Rattle.std.specs.Prelude.{◌≡◌, [], ◌++◌, drop, Some, codes, if◌then◌else◌}
 use Rattle.tla_tree.specs.laws.InText.{ends_word}
 use Rattle.pcal_tree.specs.Algorithm.{Algorithm}
 use Rattle.pcal_tree.specs.Grammar.{Syntax, p_syntax, c_syntax, Spells}

@@ -7,7 +7,8 @@ use Rattle.pcal_tree.specs.Placeless.{placeless}
 use Rattle.pcal_tree.specs.Grammar.{Syntax, Spells}
 use Rattle.pcal_tree.specs.Printed.{Text, printed}
 use Rattle.module_tree.specs.Walk.{walk}
-use Rattle.module_tree.specs.FileOffences.{algorithm_offences, offences_of}
+use Rattle.module_tree.specs.FileParts.{module_end, beginnings}
+use Rattle.module_tree.specs.FileOffences.{algorithm_offences, offences_of, no_module, no_algorithm}
 use Rattle.module_tree.specs.AlgorithmText.{AlgorithmText, algorithm_in, algorithm_tokens}
 
 -- the algorithm of w begins at this byte, its text is the printed one of this tree, and its tokens spell it, places aside
@@ -26,3 +27,6 @@ pub record HoldsPrinted (s : Syntax) (g : Algorithm) (from : ℕ) (w : Text) : T
   -- no rule on bytes, strings, comments and numbers is broken in it, nor one on a segment of the file
   pub fine : algorithm_offences (Some text) ≡ []
   pub sound : offences_of (walk w) ≡ []
+  -- the module has its end, and the file an algorithm
+  pub ended : no_module w (module_end (walk w)) ≡ []
+  pub begun : no_algorithm (module_end (walk w)) (beginnings (walk w)) ≡ []
