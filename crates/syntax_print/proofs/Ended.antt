@@ -59,7 +59,7 @@ tail_bare : (g : Segment) → is_tail g ≡ true → within g ≡ []
 tail_bare (tail w) h = refl
 tail_bare g h = absurd cc
 
-some_stretch : (x : Text) (a : AlgorithmText) → TokAlgorithm x a.from a.rest.to (algorithm_tokens x a) → stretch x a.from a.rest.to ≡ [] → ⊥
+pub some_stretch : (x : Text) (a : AlgorithmText) → TokAlgorithm x a.from a.rest.to (algorithm_tokens x a) → stretch x a.from a.rest.to ≡ [] → ⊥
 some_stretch x a t e = by t.opening t.is_opening (ap (λ (u : Text). starts_with nat_eq u t.opening) (sym e) ∙ t.stands)
   where
     by : (o : Text) → is_among openings o ≡ true → starts_with nat_eq [] o ≡ true → ⊥

@@ -1,8 +1,8 @@
 -- A file whose algorithm is printed in its place holds the same algorithm, in that syntax; printed again it holds the same text as if it had been printed so at once.
-use Rattle.std.proofs.Common.{◌≡◌, inl, inr, ℕ, suc, ◌+◌, Bool, true, false, List, [], ◌∷◌, ◌++◌, map, length, take, drop, Option, Some, refl, sym, ap, subst, ◌∙◌, append_assoc, append-nil, length-append}
+use Rattle.std.proofs.Common.{◌≡◌, inl, inr, ℕ, zero, suc, ◌+◌, ◌-◌, arith, Bool, true, false, List, [], ◌∷◌, ◌++◌, map, length, take, drop, Option, Some, refl, sym, ap, subst, ◌∙◌, append_assoc, append-nil, length-append}
 use Rattle.std.specs.Prelude.{nat_le, ◌<◌}
 use Rattle.std.proofs.lemmas.Bool.{leb-false}
-use Rattle.std.proofs.lemmas.List.{take-append-drop}
+use Rattle.std.proofs.lemmas.List.{take-append-drop, drop-drop}
 use Rattle.std.proofs.Math.Seq.{drop-append_seam}
 use Rattle.std.proofs.lemmas.Option.{same_Some}
 use Rattle.tla_token.specs.declared.place.Place.{Place}
@@ -39,6 +39,7 @@ use Rattle.syntax_print.specs.laws.Printable.{IsPrintable}
 use Rattle.syntax_print.specs.laws.HoldsPrinted.{HoldsPrinted}
 use Rattle.syntax_print.proofs.FitAlgorithm.{spelled_printable}
 use Rattle.syntax_print.proofs.PrintedBare.{same_printed}
+use Rattle.syntax_print.proofs.Ended.{some_stretch}
 use Rattle.syntax_print.proofs.Back.{one_tree, one_syntax, paired}
 use Rattle.syntax_print.proofs.Rewriting.{front_size, printed_is_there}
 
@@ -179,3 +180,27 @@ rewritten_back s t x w v fine r was ends fine_there q =
     let none : gap t (drop q.old.rest.to w) ≡ [] = no_gap t (drop q.old.rest.to w) (ap ends_word behind ∙ ends) in
     let second : Swapped w (printed t r.tree) v = subst (λ (u : Text). Swapped w u v) ((λ i. text i ++ none i) ∙ append-nil (printed t r.tree)) q.swapped in
     one_swapped w (printed t r.tree) v x second first
+
+-- ---- printed already
+
+-- a text around a part of it that isn't empty
+around_part : (x : Text) (from to : ℕ) → (stretch x from to ≡ [] → ⊥) → x ≡ take from x ++ (stretch x from to ++ drop to x)
+around_part x from to some = by (to - from) refl
+  where
+    by : (k : ℕ) → to - from ≡ k → x ≡ take from x ++ (stretch x from to ++ drop to x)
+    by zero e = absurd (some (ap (λ (k : ℕ). take k (drop from x)) e))
+    by (suc k) e =
+        let count : from + (to - from) ≡ to = omega (arith, e) in
+        let behind : drop (to - from) (drop from x) ≡ drop to x = drop-drop (to - from) from x ∙ ap (λ (k : ℕ). drop k x) count in
+        sym (take-append-drop from x) ∙ ap (λ (u : Text). take from x ++ u) (sym (take-append-drop (to - from) (drop from x)) ∙ ap (λ (u : Text). stretch x from to ++ u) behind)
+
+pub printed_already : (s : Syntax) (x w : Text) → IsFine x → (r : Rewritten s x w) → stretch x r.old.from r.old.rest.to ≡ printed s r.tree → gap s (drop r.old.rest.to x) ≡ [] → w ≡ x
+printed_already s x w fine r was none =
+    let a = r.old in
+    let all = all_fine_in x fine in
+    let tok = algorithm_is_cut x a all.parts.fine r.is_old (ap only_large (ap algorithm_offences (sym r.is_old) ∙ all.algorithm)) in
+    let same : r.swapped.old ≡ a = same_Some r.swapped.old a (sym r.swapped.is_old ∙ r.is_old) in
+    let text : w ≡ take a.from x ++ ((printed s r.tree ++ gap s (drop a.rest.to x)) ++ drop a.rest.to x) =
+    r.swapped.is ∙ ap (λ (b : AlgorithmText). take b.from x ++ ((printed s r.tree ++ gap s (drop a.rest.to x)) ++ drop b.rest.to x)) same in
+    text ∙ ap (λ (u : Text). take a.from x ++ ((printed s r.tree ++ u) ++ drop a.rest.to x)) none ∙ ap (λ (u : Text). take a.from x ++ (u ++ drop a.rest.to x)) (append-nil (printed s r.tree) ∙ sym was)
+    ∙ sym (around_part x a.from a.rest.to (some_stretch x a tok))

@@ -19,7 +19,7 @@ ghost use Rattle.tla_tree.specs.laws.Writable.{AreSmall};
 ghost use Rattle.module_tree.specs.AlgorithmText.{AlgorithmText, algorithm_in, algorithm_tokens};
 ghost use Rattle.module_tree.specs.laws.Kept.{IsFine};
 ghost use Rattle.module_tree.specs.laws.Swaps.{is_paired};
-ghost use Rattle.syntax_print.specs.Rewritten.{Rewritten};
+ghost use Rattle.syntax_print.specs.Rewritten.{gap, Rewritten};
 ghost use Rattle.syntax_print.specs.laws.HoldsPrinted.{HoldsPrinted};
 ghost use Rattle.syntax_print.specs.laws.Printable.{IsPrintable};
 
@@ -77,8 +77,10 @@ pub fn spelled_tokens_are_refused_for_depth_alone()
 {}
 
 /// Rewritten once more, in the same or the other syntax, as long as it breaks none of these rules then, it holds the first file's algorithm, printed in that syntax.
-/// So a file with a printed algorithm, behind which no word goes on, is rewritten in the other syntax and back to just itself.
+/// So a file with a printed algorithm, behind which no word goes on, is rewritten in the other syntax and back to just itself; and in its own syntax
+/// it is itself.
 pub fn files_are_rewritten_again()
     ensures holds { (s t : Syntax) (x w v : List ℕ) → IsFine x → (r : Rewritten s x w) → is_paired 0 (stretch x r.old.from r.old.rest.to) ≡ true → IsFine w → Rewritten t w v → HoldsPrinted t r.tree r.old.from v }
     ensures back { (s t : Syntax) (x w v : List ℕ) → IsFine x → (r : Rewritten s x w) → stretch x r.old.from r.old.rest.to ≡ printed t r.tree → ends_word (drop r.old.rest.to x) ≡ true → IsFine w → Rewritten t w v → v ≡ x }
+    ensures same { (s : Syntax) (x w : List ℕ) → IsFine x → (r : Rewritten s x w) → stretch x r.old.from r.old.rest.to ≡ printed s r.tree → gap s (drop r.old.rest.to x) ≡ [] → w ≡ x }
 {}
