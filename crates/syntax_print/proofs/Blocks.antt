@@ -18,7 +18,10 @@ pub record Block (n : ℕ) (L : Lines) (s : Tokens) : Type 0 where
   pub stands : (ls : List Text) (r : List Piece) → Stands ls r → Stands (L ls) (pieces r)
   pub fine : (r : List Piece) → Fine r → Fine (pieces r)
   pub seen : (r : List Piece) → seen (put n 1) (pieces r) ≡ s (seen (put next 1) r)
-  pub front : (r : List Piece) → (w : Text) × (text_of (pieces r) ≡ w ++ text_of r)
+  pub front : Text
+  pub text : (r : List Piece) → text_of (pieces r) ≡ front ++ text_of r
+  -- they end where a line does
+  pub lined : (v : Text) → (w : Text) × (v ++ 10 ∷ front ≡ w ++ 10 ∷ [])
 
 -- ---- blanks at the front of a line
 
@@ -48,7 +51,9 @@ line_of n k {need} {w} {s} c f = record {
   stands = by;
   fine = λ r h. spaces_fine k _ (c.fine (blank 10 ∷ r) (newline_fine h) (f (text_of r)));
   seen = λ r. spaces_seen n 1 k _ ∙ c.seen (blank 10 ∷ r);
-  front = λ r. ((blanks k ++ w) ++ codes "\n", bytes r ∙ sym (append_assoc (blanks k ++ w) (codes "\n") (text_of r)));
+  front = (blanks k ++ w) ++ codes "\n";
+  text = λ r. bytes r ∙ sym (append_assoc (blanks k ++ w) (codes "\n") (text_of r));
+  lined = λ v. (v ++ 10 ∷ (blanks k ++ w), sym (append_assoc v (10 ∷ (blanks k ++ w)) (codes "\n")));
 }
   where
     bytes : (r : List Piece) → text_of (spaces k (c.pieces (blank 10 ∷ r))) ≡ (blanks k ++ w) ++ 10 ∷ text_of r
@@ -62,7 +67,7 @@ line_of n k {need} {w} {s} c f = record {
     }
 
 pub no_lines : (n : ℕ) → Block n (λ ls. ls) (λ ts. ts)
-no_lines n = record { next = n; pieces = λ r. r; stands = λ ls r h. h; fine = λ r h. h; seen = λ r. refl; front = λ r. ([], refl) }
+no_lines n = record { next = n; pieces = λ r. r; stands = λ ls r h. h; fine = λ r h. h; seen = λ r. refl; front = []; text = λ r. refl; lined = λ v. (v, refl) }
 
 abbrev pub follow : {n : ℕ} {L M : Lines} {s u : Tokens} → (a : Block n L s) → Block a.next M u → Block n (λ ls. L (M ls)) (λ ts. s (u ts))
 follow {n} {L} {M} {s} {u} a b = record {
@@ -71,9 +76,14 @@ follow {n} {L} {M} {s} {u} a b = record {
   stands = λ ls r h. a.stands (M ls) (b.pieces r) (b.stands ls r h);
   fine = λ r h. a.fine (b.pieces r) (b.fine r h);
   seen = λ r. a.seen (b.pieces r) ∙ ap s (b.seen r);
-  front = λ r. ((a.front (b.pieces r)).0 ++ (b.front r).0, (a.front (b.pieces r)).1 ∙ ap (λ (x : List ℕ). (a.front (b.pieces r)).0 ++ x) (b.front r).1 ∙ sym (append_assoc (a.front (b.pieces r)).0 (b.front r).0 (text_of r)));
+  front = a.front ++ b.front;
+  text = λ r. a.text (b.pieces r) ∙ ap (λ (x : List ℕ). a.front ++ x) (b.text r) ∙ sym (append_assoc a.front b.front (text_of r));
+  lined = λ v.
+      let x = a.lined v in
+      let y = b.lined x.0 in
+      (y.0, sym (append_assoc v (10 ∷ a.front) b.front) ∙ ap (λ (u : List ℕ). u ++ b.front) x.1 ∙ append_assoc x.0 (10 ∷ []) b.front ∙ y.1);
 }
 
 -- the same tokens, said otherwise
 pub told : {n : ℕ} {L : Lines} {s u : Tokens} → ((ts : List Token) → s ts ≡ u ts) → Block n L s → Block n L u
-told f b = record { next = b.next; pieces = b.pieces; stands = b.stands; fine = b.fine; seen = λ r. b.seen r ∙ f _; front = b.front }
+told f b = record { next = b.next; pieces = b.pieces; stands = b.stands; fine = b.fine; seen = λ r. b.seen r ∙ f _; front = b.front; text = b.text; lined = b.lined }

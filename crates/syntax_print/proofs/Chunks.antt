@@ -13,8 +13,8 @@ use Rattle.tla_tree.specs.Lexical as tk
 use Rattle.tla_tree.specs.TokenViews as expression
 use Rattle.tla_tree.specs.Written as written
 use Rattle.tla_tree.specs.Spelling.{Right}
-use Rattle.tla_tree.specs.laws.Writable.{IsSpelled}
-use Rattle.tla_tree.proofs.FitTokens.{Before}
+use Rattle.tla_tree.specs.laws.Writable.{IsSpelled, IsSmall}
+use Rattle.tla_tree.proofs.FitTokens.{Before, Small}
 use Rattle.pcal_tree.specs.AlgorithmTokens.{kind_of, views}
 use Rattle.pcal_tree.specs.GrammarParts.{Tokens, token}
 use Rattle.syntax_print.proofs.Calm.{IsCalm}
@@ -47,19 +47,26 @@ unmarked [] = true
 unmarked (lexeme k w ∷ ps) = unmarked_kind k && unmarked ps
 unmarked (p ∷ ps) = unmarked ps
 
+-- no number is too large
+abbrev pub small : List Piece → Type 0
+small [] = Unit {0}
+small (lexeme k w ∷ ps) = IsSmall k × small ps
+small (p ∷ ps) = small ps
+
 pub record Fine (ps : List Piece) : Type 0 where
   pub fit : AllFit ps
   pub clear : holds_mark (text_of ps) ≡ false
   pub unmarked : unmarked ps ≡ true
+  pub small : small ps
 
 pub none_fine : Fine []
-none_fine = record { fit = tt; clear = refl; unmarked = refl }
+none_fine = record { fit = tt; clear = refl; unmarked = refl; small = tt }
 
 pub space_fine : {r : List Piece} → Fine r → Fine (blank 32 ∷ r)
-space_fine h = record { fit = (refl, h.fit); clear = h.clear; unmarked = h.unmarked }
+space_fine h = record { fit = (refl, h.fit); clear = h.clear; unmarked = h.unmarked; small = h.small }
 
 pub newline_fine : {r : List Piece} → Fine r → Fine (blank 10 ∷ r)
-newline_fine h = record { fit = (refl, h.fit); clear = h.clear; unmarked = h.unmarked }
+newline_fine h = record { fit = (refl, h.fit); clear = h.clear; unmarked = h.unmarked; small = h.small }
 
 pub tokens_unmarked : (p : Place) (at : ℕ) (ps : List Piece) → list_all is_unmarked (tokens_of p at ps) ≡ unmarked ps
 tokens_unmarked p at [] = refl
@@ -74,6 +81,13 @@ unmarked_of (lexeme.name w) k ps e c = refl
 unmarked_of (lexeme.number n) k ps e c = refl
 unmarked_of (lexeme.one s) k ps e c = refl
 unmarked_of (lexeme.other w) k ps e c = refl
+
+pub small_of : (l : Kind) (k : TokenView) → expression.kind_of l ≡ k → Small k → IsSmall l
+small_of (lexeme.number n) k e h = (let x : Small (tk.number n) = subst Small (sym e) h in x)
+small_of (lexeme.name w) k e h = tt
+small_of (lexeme.string w) k e h = tt
+small_of (lexeme.one s) k e h = tt
+small_of (lexeme.other w) k e h = tt
 
 -- a token of an expression that is no prime is seen by algorithms alike
 pub kind_same : (l : Kind) (k : TokenView) (ps : List written.Piece) → expression.kind_of l ≡ k → IsCalm k ps → kind_of l ≡ k
@@ -92,6 +106,7 @@ token_fine k l i e c {r} b h = record {
   fit = ((b.0, i, b.1), h.fit);
   clear = token_clear k [] (text_of r) c b.0 h.clear;
   unmarked = and_from (unmarked_kind l) (unmarked r) (unmarked_of l k [] e c) h.unmarked;
+  small = (small_of l k e b.4, h.small);
 }
 
 -- ---- the tokens of pieces

@@ -7,7 +7,7 @@ use Rattle.tla_token.specs.Tokens.{AllFit, Fits, unmarked_kind}
 use Rattle.tla_token.specs.Tokens as text
 use Rattle.tla_tree.specs.declared.op.Op.{Op}
 use Rattle.tla_tree.specs.declared.op.Op.TheVariants as op
-use Rattle.tla_tree.specs.Tree.{Word, Tree, Trees, node, no_trees, tree}
+use Rattle.tla_tree.specs.Tree.{Tree, Trees, node, no_trees, tree}
 use Rattle.tla_tree.specs.Tree as expr
 use Rattle.tla_tree.specs.Lexical.{TokenView, Token, token_text, sign_of}
 use Rattle.tla_tree.specs.Lexical as tk
@@ -27,7 +27,7 @@ use Rattle.syntax_print.specs.laws.Printable.{IsExpression, is_left_side}
 use Rattle.syntax_print.proofs.Calm.{AreCalm}
 use Rattle.syntax_print.proofs.CalmTrees.{part_is_calm}
 use Rattle.syntax_print.proofs.Clear.{pieces_clear}
-use Rattle.syntax_print.proofs.Chunks.{Fine, unmarked, unmarked_of, kind_same, seen, Chunk, later}
+use Rattle.syntax_print.proofs.Chunks.{Fine, unmarked, unmarked_of, small, small_of, kind_same, seen, Chunk, later}
 
 -- ---- the pieces of an expression, before others
 
@@ -43,11 +43,17 @@ lexed_unmarked [] h r c u = u
 lexed_unmarked (blank ∷ ps) h r c u = lexed_unmarked ps h r c u
 lexed_unmarked (token k ∷ ps) h r c u = and_from (unmarked_kind h.0.0) (unmarked (lexed ps h.1 ++ r)) (unmarked_of h.0.0 k ps h.0.2 c.0) (lexed_unmarked ps h.1 r c.1 u)
 
+lexed_small : (ps : List Piece) (h : AreSpelled ps) (r : List text.Piece) → Fit (text.text_of r) ps → small r → small (lexed ps h ++ r)
+lexed_small [] h r f u = u
+lexed_small (blank ∷ ps) h r f u = lexed_small ps h r f u
+lexed_small (token k ∷ ps) h r f u = (small_of h.0.0 k h.0.2 f.0.4, lexed_small ps h.1 r f.1 u)
+
 lexed_fine : (ps : List Piece) (h : AreSpelled ps) {r : List text.Piece} → AreCalm ps → Fine r → Fit (text.text_of r) ps → Fine (lexed ps h ++ r)
 lexed_fine ps h {r} c f t = record {
   fit = lexed_fit ps h r f.fit t;
   clear = ap text.holds_mark (lexed_before ps h r) ∙ pieces_clear ps (text.text_of r) c t f.clear;
   unmarked = lexed_unmarked ps h r c f.unmarked;
+  small = lexed_small ps h r t f.small;
 }
 
 -- where they end

@@ -1,17 +1,26 @@
 -- Algorithms as they are printed: the text is cut into just the tokens of an algorithm, which spell it in the syntax, places aside; it holds no mark of a comment.
-use Rattle.std.proofs.Common.{◌≡◌, ℕ, ◌+◌, ◌-◌, Bool, true, false, not, ◌||◌, nat_eq, List, [], ◌∷◌, ◌++◌, length, map, refl, sym, ap, subst, ◌∙◌, arith, append_assoc, length-append, codes}
+use Rattle.std.proofs.Common.{◌≡◌, ℕ, ◌+◌, ◌-◌, Bool, true, false, not, ◌||◌, nat_eq, List, [], ◌∷◌, ◌++◌, length, map, refl, sym, ap, subst, ◌∙◌, arith, append_assoc, append-nil, length-append, codes}
 use Rattle.std.specs.List.{starts_with, AllByRecursion}
+use Rattle.std.proofs.lemmas.Bool.{not-true}
 use Rattle.std.proofs.lemmas.List.{take_all}
 use Rattle.tla_token.specs.declared.place.Place.{Place}
 use Rattle.tla_token.specs.Lexemes as lexeme
-use Rattle.tla_token.specs.Tokens.{Piece, blank, text_of, tokens_of, stretch, holds_mark, TokAlgorithm}
+use Rattle.tla_token.specs.Tokens.{Piece, blank, text_of, tokens_of, holds_mark, AllFit, TokAlgorithm}
 use Rattle.tla_token.specs.Tokens as text
+use Rattle.tla_token.specs.Places.{after}
+use Rattle.tla_token.specs.declared.sign.Sign.TheVariants.{CloseCurly}
+use Rattle.tla_token.specs.Cut.{run, parts, pieces as pieces_of}
+use Rattle.tla_token.specs.Lexemes.{is_word}
+use Rattle.tla_token.proofs.Before.{word_before}
+use Rattle.tla_token.proofs.Less.{text_append}
+use Rattle.tla_token.proofs.Unique.{pieces_back, sound_pieces}
 use Rattle.tla_tree.specs.Tree.{Name}
 use Rattle.tla_tree.specs.Lexical.{Token}
 use Rattle.tla_tree.specs.Lexical as tk
 use Rattle.tla_tree.specs.Spelling.{Right}
 use Rattle.tla_tree.specs.laws.InText.{ends_word}
 use Rattle.tla_tree.specs.laws.Placeless.{name_placeless}
+use Rattle.tla_tree.proofs.FitTokens.{close_brace_fits}
 use Rattle.pcal_tree.specs.Algorithm.{Algorithm}
 use Rattle.pcal_tree.specs.Placeless.{declarations_placeless, definitions_placeless, macros_placeless, procedures_placeless, main_placeless, placeless}
 use Rattle.pcal_tree.specs.AlgorithmTokens.{views}
@@ -19,43 +28,52 @@ use Rattle.pcal_tree.specs.GrammarParts.{Tokens, key, mark}
 use Rattle.pcal_tree.specs.GrammarParts as grammar
 use Rattle.pcal_tree.specs.Grammar.{Syntax, p_syntax, c_syntax, Head, algorithm, fair_algorithm, head, is_fair, Around, to_end, in_braces, around, GoodAround, GoodDefine, GoodMacro, GoodProcedure, GoodMain, Good, spell, algorithm_of}
 use Rattle.pcal_tree.specs.Grammar as g
-use Rattle.pcal_tree.specs.Printed.{Lines, line, separated, opening, algorithm_word, last_line, printed}
+use Rattle.pcal_tree.specs.Printed.{line, separated, opening, algorithm_word, last_line, printed}
 use Rattle.pcal_tree.specs.Printed as lines
 use Rattle.syntax_print.specs.laws.Printable.{IsName, IsPrintable}
-use Rattle.syntax_print.proofs.Chunks.{Chunk, any, put, in_line, Fine, none_fine, newline_fine, tokens_unmarked, seen, seen_is, join, space}
+use Rattle.syntax_print.proofs.Chunks.{Chunk, any, put, later, in_line, Fine, none_fine, newline_fine, tokens_unmarked, seen, seen_is, join, space}
 use Rattle.syntax_print.proofs.TokenChunks.{name_at, key_at, key_space, close_curly, narrowed}
 use Rattle.syntax_print.proofs.ListChunks.{named}
 use Rattle.syntax_print.proofs.Blocks.{Stands, Block, follow}
 use Rattle.syntax_print.proofs.SectionBlocks.{section_at, define_at}
 use Rattle.syntax_print.proofs.UnitBlocks.{macros_at, procedures_at, main_at}
 use Rattle.syntax_print.proofs.StatementsC.{curly_at}
+use Rattle.syntax_print.proofs.Stages.{ends_in_token, ends_there}
+use Rattle.syntax_print.proofs.Followed.{AllFitBefore, lines_fit, both_fit, fit_alone}
 
 -- ---- the beginning
 
-abbrev front_word : Bool → List ℕ
+abbrev pub front_word : Bool → List ℕ
 front_word false = codes "--algorithm"
 front_word true = codes "--fair"
 
--- the column behind it
+-- the column behind it, in a text of its own
 abbrev front_col : Bool → ℕ
 front_col false = 12
 front_col true = 7
 
-record FrontAt (b : Bool) : Type 0 where
+abbrev pub behind_front : Bool → Place → Place
+behind_front b at = after at (front_word b)
+
+behind_first : (b : Bool) → behind_front b (put 1 1) ≡ put 1 (front_col b)
+behind_first false = refl
+behind_first true = refl
+
+record FrontAt (b : Bool) (at : Place) : Type 0 where
   more : List ℕ
   word : algorithm_word b ≡ front_word b ++ more
   form : Head
   fair : is_fair form ≡ b
   rest : Tokens
-  tokens : (ts : List Token) → head form ts ≡ grammar.word (put 1 1) (front_word b) (rest ts)
-  chunk : Chunk any (put 1 (front_col b)) more rest
+  tokens : (ts : List Token) → head form ts ≡ grammar.word at (front_word b) (rest ts)
+  chunk : Chunk any (behind_front b at) more rest
 
-front_at : (b : Bool) → FrontAt b
-front_at false = record { more = codes " "; word = refl; form = algorithm (put 1 1); fair = refl; rest = λ ts. ts; tokens = λ ts. refl; chunk = space (put 1 12) refl }
-front_at true =
-    let s = space (put 1 7) refl in
+front_at : (b : Bool) (at : Place) → Right 0 at → FrontAt b at
+front_at false at r = record { more = codes " "; word = refl; form = algorithm at; fair = refl; rest = λ ts. ts; tokens = λ ts. refl; chunk = space (behind_front false at) (later at (front_word false) r) }
+front_at true at r =
+    let s = space (behind_front true at) (later at (front_word true) r) in
     let k = key_space s.end s.right (codes "algorithm") refl (refl, refl) in
-    record { more = codes " algorithm "; word = refl; form = fair_algorithm (put 1 1) s.end; fair = refl; rest = λ ts. key s.end (codes "algorithm") ts; tokens = λ ts. refl; chunk = join s k (λ y q. refl) }
+    record { more = codes " algorithm "; word = refl; form = fair_algorithm at s.end; fair = refl; rest = λ ts. key s.end (codes "algorithm") ts; tokens = λ ts. refl; chunk = join s k (λ y q. refl) }
 
 -- the tokens of a text that begins so
 cut_of : (b : Bool) (ps : List Piece) → Fine ps → TokAlgorithm (front_word b ++ text_of ps) 0 (length (front_word b ++ text_of ps)) (record { kind = lexeme.name (front_word b); at = 0; place = put 1 1 } ∷ tokens_of (put 1 (front_col b)) (length (front_word b)) ps)
@@ -136,6 +154,36 @@ pub record Ends (w : List ℕ) : Type 0 where
   pub is : w ≡ before ++ byte ∷ []
   pub calm : is_calm_byte byte ≡ true
 
+-- what the last word wants after it
+abbrev pub needs : Syntax → List ℕ → Bool
+needs p_syntax q = ends_word q
+needs c_syntax q = true
+
+no_word : (q : List ℕ) → ends_word q ≡ true → run is_word q ≡ []
+no_word [] h = refl
+no_word (b ∷ q) h = (let f : is_word b ≡ false = not-true (is_word b) h in rw f refl)
+
+abbrev last_pieces : Syntax → List Piece
+last_pieces p_syntax = text.lexeme (lexeme.name (codes "end")) (codes "end") ∷ blank 32 ∷ text.lexeme (lexeme.name (codes "algorithm")) (codes "algorithm") ∷ []
+last_pieces c_syntax = text.lexeme (lexeme.one CloseCurly) (codes "}") ∷ []
+
+last_fit : (s : Syntax) (q : List ℕ) → needs s q ≡ true → AllFitBefore q (last_pieces s)
+last_fit p_syntax q h =
+    ((refl, (refl, (refl, refl)), word_before 101 (codes "nd") (codes " algorithm" ++ q) refl refl), (refl, ((refl, (refl, (refl, refl)), word_before 97 (codes "lgorithm") q refl (no_word q h)), tt)))
+last_fit c_syntax q h = (((close_brace_fits q).0, refl, (close_brace_fits q).1), tt)
+
+last_token : (s : Syntax) → (ends_in_token (last_pieces s) ≡ true) × (last_pieces s ≡ [] → ⊥)
+last_token p_syntax = (refl, λ e. cc)
+last_token c_syntax = (refl, λ e. cc)
+
+needs_nothing : (s : Syntax) → needs s [] ≡ true
+needs_nothing p_syntax = refl
+needs_nothing c_syntax = refl
+
+-- a text is cut in one way
+one_cut : (ps qs : List Piece) → AllFit ps → AllFit qs → text_of ps ≡ text_of qs → ps ≡ qs
+one_cut ps qs h k e = sym (sound_pieces ps) ∙ ap pieces_of (sym (pieces_back ps h) ∙ ap parts e ∙ pieces_back qs k) ∙ sound_pieces qs
+
 record LastAt (s : Syntax) (n : ℕ) : Type 0 where
   first : Place
   second : Place
@@ -144,6 +192,7 @@ record LastAt (s : Syntax) (n : ℕ) : Type 0 where
   fine : Fine pieces
   seen : seen (put n 1) pieces ≡ closed s first second []
   ends : Ends (text_of pieces)
+  is : pieces ≡ last_pieces s
 
 last_at : (s : Syntax) (n : ℕ) → LastAt s n
 last_at p_syntax n =
@@ -158,6 +207,7 @@ last_at p_syntax n =
       fine = x.fine [] none_fine refl;
       seen = x.seen [];
       ends = record { before = codes "end algorith"; byte = 109; is = x.bytes []; calm = refl };
+      is = one_cut (x.pieces []) (last_pieces p_syntax) (x.fine [] none_fine refl).fit (fit_alone (last_pieces p_syntax) [] (last_fit p_syntax [] refl)) (x.bytes []);
     }
 last_at c_syntax n =
     let x = close_curly (put n 1) (in_line n 0) in
@@ -169,6 +219,7 @@ last_at c_syntax n =
       fine = x.fine [] none_fine refl;
       seen = x.seen [];
       ends = record { before = []; byte = 125; is = x.bytes []; calm = refl };
+      is = one_cut (x.pieces []) (last_pieces c_syntax) (x.fine [] none_fine refl).fit (fit_alone (last_pieces c_syntax) [] (last_fit c_syntax [] refl)) (x.bytes []);
     }
 
 -- ---- what is between them
@@ -226,51 +277,152 @@ pub record PrintedAt (s : Syntax) (a : Algorithm) : Type 0 where
   pub clear : holds_mark (printed s a) ≡ false
   pub ends : Ends (printed s a)
 
--- behind `--algorithm` or `--fair`, in pieces
-record BehindAt (s : Syntax) (a : Algorithm) : Type 0 where
-  form : g.Text
-  good : Good s form
-  same : placeless (algorithm_of form) ≡ placeless a
-  pieces : List Piece
-  bytes : printed s a ≡ front_word a.fair ++ text_of pieces
-  fine : Fine pieces
-  seen : grammar.word (put 1 1) (front_word a.fair) (seen (put 1 (front_col a.fair)) pieces) ≡ spell form []
-  ends : Ends (printed s a)
+-- at a place, in pieces behind `--algorithm` or `--fair`
+pub record BehindAt (s : Syntax) (a : Algorithm) (at : Place) : Type 0 where
+  pub form : g.Text
+  pub good : Good s form
+  pub same : placeless (algorithm_of form) ≡ placeless a
+  pub pieces : List Piece
+  pub bytes : printed s a ≡ front_word a.fair ++ text_of pieces
+  pub fine : Fine pieces
+  pub seen : grammar.word at (front_word a.fair) (seen (behind_front a.fair at) pieces) ≡ spell form []
+  pub ends : Ends (printed s a)
+  pub clear : holds_mark (printed s a) ≡ false
+  -- also before a text
+  pub fit : (q : List ℕ) → needs s q ≡ true → AllFitBefore q pieces
+  pub token : ends_in_token pieces ≡ true
+  pub begins : (more : List ℕ) × (printed s a ≡ algorithm_word a.fair ++ (opening s a.name.word ++ more))
 
-behind_at : (s : Syntax) (a : Algorithm) → IsPrintable a → BehindAt s a
-behind_at s a h =
-    let f = front_at a.fair in
+-- so its pieces are those of its whole lines, and of the last one
+divided : (ps lines last : List Piece) (v : List ℕ) → AllFit ps → AllFit lines → text_of lines ≡ v ++ 10 ∷ [] → AllFitBefore [] last → text_of ps ≡ text_of lines ++ text_of last → ps ≡ lines ++ last
+divided ps lines last v h k e m t = one_cut ps (lines ++ last) h (fit_alone (lines ++ last) [] (both_fit lines last [] (lines_fit lines v (text_of last ++ []) e k) m)) (t ∙ sym (text_append lines last))
+
+-- what is printed, part by part
+record PartsAt (s : Syntax) (a : Algorithm) (at : Place) : Type 0 where
+  front : FrontAt a.fair at
+  title : TitleAt s a.name front.chunk.end
+  inside : InsideAt s a (title.chunk.end.line + 1)
+  last : LastAt s inside.block.next
+
+parts_at : (s : Syntax) (a : Algorithm) → IsPrintable a → (at : Place) → Right 0 at → PartsAt s a at
+parts_at s a h at right =
+    let f = front_at a.fair at right in
     let t = title_at s a.name h.name f.chunk.end f.chunk.right in
-    let x = join f.chunk t.chunk (λ y q. refl) in
-    let i = inside_at s a h (x.end.line + 1) in
-    let e = last_at s i.block.next in
-    let r : List Piece = i.block.pieces e.pieces in
-    let u = i.block.front e.pieces in
-    let w : List ℕ = algorithm_word a.fair ++ opening s a.name.word in
-    let joined : printed s a ≡ w ++ 10 ∷ text_of r = lines_joined w _ r (i.block.stands (line 0 (last_line s) []) e.pieces e.stands) in
-    let inside : Tokens = λ ts. grammar.section_tokens i.variables (g.define i.define (g.each g.macro i.macros (g.each g.procedure i.procedures (g.main i.main ts)))) in
+    let i = inside_at s a h (t.chunk.end.line + 1) in
+    record { front = f; title = t; inside = i; last = last_at s i.block.next }
+
+module _ (s : Syntax) (a : Algorithm) (at : Place) (x : PartsAt s a at) where
+  -- the first line, behind its first word
+  abbrev line_text : List ℕ
+  line_text = x.front.more ++ opening s a.name.word
+
+  abbrev first_line : Chunk ends_word (behind_front a.fair at) line_text (λ ts. x.front.rest (grammar.name (named x.front.chunk.end a.name) (opened s x.title.opens ts)))
+  first_line = join x.front.chunk x.title.chunk (λ y q. refl)
+
+  abbrev more : List Piece
+  more = x.inside.block.pieces x.last.pieces
+
+  abbrev all : List Piece
+  all = first_line.pieces (blank 10 ∷ more)
+
+  abbrev before_last : List Piece
+  before_last = first_line.pieces (blank 10 ∷ x.inside.block.pieces [])
+
+  all_fine : Fine all
+  all_fine = first_line.fine (blank 10 ∷ more) (newline_fine (x.inside.block.fine x.last.pieces x.last.fine)) refl
+
+  before_fine : Fine before_last
+  before_fine = first_line.fine (blank 10 ∷ x.inside.block.pieces []) (newline_fine (x.inside.block.fine [] none_fine)) refl
+
+  abbrev lined : (v : List ℕ) × (line_text ++ 10 ∷ x.inside.block.front ≡ v ++ 10 ∷ [])
+  lined = x.inside.block.lined line_text
+
+  before_text : text_of before_last ≡ lined.0 ++ 10 ∷ []
+  before_text = first_line.bytes (blank 10 ∷ x.inside.block.pieces []) ∙ ap (λ (y : List ℕ). line_text ++ 10 ∷ y) (x.inside.block.text [] ∙ append-nil x.inside.block.front) ∙ lined.1
+
+  all_text : text_of all ≡ text_of before_last ++ text_of x.last.pieces
+  all_text =
+      first_line.bytes (blank 10 ∷ more) ∙ ap (λ (y : List ℕ). line_text ++ 10 ∷ y) (x.inside.block.text x.last.pieces)
+      ∙ sym (append_assoc line_text (10 ∷ x.inside.block.front) (text_of x.last.pieces)) ∙ ap (λ (y : List ℕ). y ++ text_of x.last.pieces) (lined.1 ∙ sym before_text)
+
+  in_two : all ≡ before_last ++ last_pieces s
+  in_two =
+      divided all before_last (last_pieces s) lined.0 all_fine.fit before_fine.fit before_text (last_fit s [] (needs_nothing s))
+      (all_text ∙ ap (λ (ps : List Piece). text_of before_last ++ text_of ps) x.last.is)
+
+  abbrev title : List ℕ
+  title = algorithm_word a.fair ++ opening s a.name.word
+
+  lines_there : printed s a ≡ title ++ 10 ∷ text_of more
+  lines_there = lines_joined title _ more (x.inside.block.stands (line 0 (last_line s) []) x.last.pieces x.last.stands)
+
+  bytes_there : printed s a ≡ front_word a.fair ++ text_of all
+  bytes_there =
+      lines_there ∙ ap (λ (y : List ℕ). (y ++ opening s a.name.word) ++ 10 ∷ text_of more) x.front.word
+      ∙ ap (λ (y : List ℕ). y ++ 10 ∷ text_of more) (append_assoc (front_word a.fair) x.front.more (opening s a.name.word)) ∙ append_assoc (front_word a.fair) line_text (10 ∷ text_of more)
+      ∙ ap (λ (y : List ℕ). front_word a.fair ++ y) (sym (first_line.bytes (blank 10 ∷ more)))
+
+  abbrev within : Tokens
+  within ts = grammar.section_tokens x.inside.variables (g.define x.inside.define (g.each g.macro x.inside.macros (g.each g.procedure x.inside.procedures (g.main x.inside.main ts))))
+
+  abbrev form_there : g.Text
+  form_there = record {
+    head = x.front.form;
+    name = named x.front.chunk.end a.name;
+    around = around_form s x.title.opens x.last.first x.last.second;
+    variables = x.inside.variables;
+    define = x.inside.define;
+    macros = x.inside.macros;
+    procedures = x.inside.procedures;
+    main = x.inside.main;
+  }
+
+  seen_there : grammar.word at (front_word a.fair) (seen (behind_front a.fair at) all) ≡ spell form_there []
+  seen_there =
+      ap (λ (ts : List Token). grammar.word at (front_word a.fair) ts)
+      (first_line.seen (blank 10 ∷ more)
+      ∙ ap (λ (ts : List Token). x.front.rest (grammar.name (named x.front.chunk.end a.name) (opened s x.title.opens ts))) (x.inside.block.seen x.last.pieces ∙ ap within x.last.seen)
+      ∙ ap (λ (ts : List Token). x.front.rest (grammar.name (named x.front.chunk.end a.name) ts)) (around_is s x.title.opens x.last.first x.last.second within))
+      ∙ sym (x.front.tokens _)
+
+  ends_so : Ends (printed s a)
+  ends_so =
+      let front = x.inside.block.front in
+      let e = x.last.ends in
+      record {
+        before = title ++ 10 ∷ (front ++ e.before);
+        byte = e.byte;
+        is = lines_there ∙ ap (λ (y : List ℕ). title ++ 10 ∷ y) (x.inside.block.text x.last.pieces ∙ ap (λ (y : List ℕ). front ++ y) e.is ∙ sym (append_assoc front e.before (e.byte ∷ [])))
+            ∙ sym (append_assoc title (10 ∷ (front ++ e.before)) (e.byte ∷ []));
+        calm = e.calm;
+      }
+
+pub behind_at : (s : Syntax) (a : Algorithm) → IsPrintable a → (at : Place) → Right 0 at → BehindAt s a at
+behind_at s a h at right =
+    let x = parts_at s a h at right in
+    let i = x.inside in
+    let before : List Piece = before_last s a at x in
     record {
-      form = record { head = f.form; name = named f.chunk.end a.name; around = around_form s t.opens e.first e.second; variables = i.variables; define = i.define; macros = i.macros; procedures = i.procedures; main = i.main };
-      good = (around_good s t.opens e.first e.second, i.good.0, i.good.1, i.good.2, i.good.3, i.good.4);
-      same = λ j. record { name = name_placeless a.name; fair = f.fair j; globals = i.same_variables j; definitions = i.same_define j; macros = i.same_macros j; procedures = i.same_procedures j; main = i.same_main j };
-      pieces = x.pieces (blank 10 ∷ r);
-      bytes = joined ∙ ap (λ (y : List ℕ). (y ++ opening s a.name.word) ++ 10 ∷ text_of r) f.word ∙ ap (λ (y : List ℕ). y ++ 10 ∷ text_of r) (append_assoc (front_word a.fair) f.more (opening s a.name.word)) ∙ append_assoc (front_word a.fair) (f.more ++ opening s a.name.word) (10 ∷ text_of r) ∙ ap (λ (y : List ℕ). front_word a.fair ++ y) (sym (x.bytes (blank 10 ∷ r)));
-      fine = x.fine (blank 10 ∷ r) (newline_fine (i.block.fine e.pieces e.fine)) refl;
-      seen = ap (λ (ts : List Token). grammar.word (put 1 1) (front_word a.fair) ts)
-          (x.seen (blank 10 ∷ r) ∙ ap (λ (ts : List Token). f.rest (grammar.name (named f.chunk.end a.name) (opened s t.opens ts))) (i.block.seen e.pieces ∙ ap inside e.seen)
-          ∙ ap (λ (ts : List Token). f.rest (grammar.name (named f.chunk.end a.name) ts)) (around_is s t.opens e.first e.second inside))
-          ∙ sym (f.tokens _);
-      ends = record {
-        before = w ++ 10 ∷ (u.0 ++ e.ends.before);
-        byte = e.ends.byte;
-        is = joined ∙ ap (λ (y : List ℕ). w ++ 10 ∷ y) (u.1 ∙ ap (λ (y : List ℕ). u.0 ++ y) e.ends.is ∙ sym (append_assoc u.0 e.ends.before (e.ends.byte ∷ []))) ∙ sym (append_assoc w (10 ∷ (u.0 ++ e.ends.before)) (e.ends.byte ∷ []));
-        calm = e.ends.calm;
-      };
+      form = form_there s a at x;
+      good = (around_good s x.title.opens x.last.first x.last.second, i.good.0, i.good.1, i.good.2, i.good.3, i.good.4);
+      same = λ j. record { name = name_placeless a.name; fair = x.front.fair j; globals = i.same_variables j; definitions = i.same_define j; macros = i.same_macros j; procedures = i.same_procedures j; main = i.same_main j };
+      pieces = all s a at x;
+      bytes = bytes_there s a at x;
+      fine = all_fine s a at x;
+      clear = ap holds_mark (bytes_there s a at x) ∙ front_clear a.fair (text_of (all s a at x)) (all_fine s a at x).clear;
+      seen = seen_there s a at x;
+      ends = ends_so s a at x;
+      fit = λ q n.
+          subst (AllFitBefore q) (sym (in_two s a at x))
+          (both_fit before (last_pieces s) q (lines_fit before (lined s a at x).0 (text_of (last_pieces s) ++ q) (before_text s a at x) (before_fine s a at x).fit) (last_fit s q n));
+      token = ap ends_in_token (in_two s a at x) ∙ ends_there before (last_pieces s) (last_token s).1 (last_token s).0;
+      begins = (10 ∷ text_of (more s a at x), lines_there s a at x ∙ append_assoc (algorithm_word a.fair) (opening s a.name.word) (10 ∷ text_of (more s a at x)));
     }
 
 pub printed_at : (s : Syntax) (a : Algorithm) → IsPrintable a → PrintedAt s a
 printed_at s a h =
-    let x = behind_at s a h in
+    let x = behind_at s a h (put 1 1) refl in
+    let first = behind_first a.fair in
     let ts : List text.Token = record { kind = lexeme.name (front_word a.fair); at = 0; place = put 1 1 } ∷ tokens_of (put 1 (front_col a.fair)) (length (front_word a.fair)) x.pieces in
     record {
       tokens = ts;
@@ -278,7 +430,7 @@ printed_at s a h =
       good = x.good;
       same = x.same;
       cut = subst (λ (w : List ℕ). TokAlgorithm w 0 (length w) ts) (sym x.bytes) (cut_of a.fair x.pieces x.fine);
-      spelled = views_of a.fair x.pieces ∙ x.seen;
-      clear = ap holds_mark x.bytes ∙ front_clear a.fair (text_of x.pieces) x.fine.clear;
+      spelled = views_of a.fair x.pieces ∙ ap (λ (p : Place). grammar.word (put 1 1) (front_word a.fair) (seen p x.pieces)) (sym first) ∙ x.seen;
+      clear = x.clear;
       ends = x.ends;
     }

@@ -1,2 +1,3 @@
 -- Words that only laws speak of.
 pub mod Printable
+pub mod HoldsPrinted

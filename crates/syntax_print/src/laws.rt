@@ -1,16 +1,26 @@
 //! Laws of printed algorithms, stated as what functions without a body ensure.
 
-ghost use Rattle.std.specs.Prelude.{◌≡◌, ℕ, List, [], Bool, true, false, length, Ok};
+ghost use Rattle.std.specs.Prelude.{◌≡◌, ℕ, List, [], Bool, true, false, length, drop, Some, Ok};
 ghost use Rattle.tla_token.specs.Tokens as text;
-ghost use Rattle.tla_token.specs.Tokens.{TokAlgorithm, holds_mark};
+ghost use Rattle.tla_token.specs.Tokens.{TokAlgorithm, holds_mark, stretch};
+ghost use Rattle.tla_token.specs.declared.place.Place.{Place};
+ghost use Rattle.tla_token.specs.declared.rule.Refusal.{Refusal};
+ghost use Rattle.tla_token.specs.declared.rule.Rule.TheVariants.{TooDeep};
+ghost use Rattle.pcal_tree.specs.OffencesSyntax.{RefusesTokens};
 ghost use Rattle.pcal_tree.specs.Algorithm.{Algorithm};
 ghost use Rattle.pcal_tree.specs.AlgorithmTokens.{views};
 ghost use Rattle.pcal_tree.specs.Placeless.{placeless};
 ghost use Rattle.pcal_tree.specs.Grammar.{Syntax, Text, algorithm_of, Spells, SpellsP, SpellsC};
 ghost use Rattle.pcal_tree.specs.Printed.{PText, CText, printed};
-ghost use Rattle.p_syntax.specs.ReadAlgorithm.{read_algorithm};
+ghost use Rattle.p_syntax.specs.ReadAlgorithm as p;
+ghost use Rattle.c_syntax.specs.ReadAlgorithm as c;
+ghost use Rattle.tla_tree.specs.laws.InText.{ends_word};
 ghost use Rattle.tla_tree.specs.laws.Writable.{AreSmall};
+ghost use Rattle.module_tree.specs.AlgorithmText.{AlgorithmText, algorithm_in, algorithm_tokens};
+ghost use Rattle.module_tree.specs.laws.Kept.{IsFine};
 ghost use Rattle.module_tree.specs.laws.Swaps.{is_paired};
+ghost use Rattle.syntax_print.specs.Rewritten.{gap, Rewritten};
+ghost use Rattle.syntax_print.specs.laws.HoldsPrinted.{HoldsPrinted};
 ghost use Rattle.syntax_print.specs.laws.Printable.{IsPrintable};
 
 /// The text that is printed of an algorithm is cut into the tokens of an algorithm, and these spell it in the syntax, places aside.
@@ -19,11 +29,21 @@ pub fn printed_algorithms_are_spelled()
     ensures c { (a : Algorithm) → IsPrintable a → (ts : List text.Token) × (b : Algorithm) × TokAlgorithm (CText a) 0 (length (CText a)) ts × SpellsC ts b × (placeless b ≡ placeless a) }
 {}
 
-/// In P-syntax the tokens of the text spell no other algorithm, places aside, and it is read of them; so algorithms with one text differ in places alone.
+/// The tokens of the text spell no other algorithm, places aside, in either syntax, and it is read of them; so algorithms with one text differ in places alone.
 pub fn printed_algorithms_are_read_back()
-    ensures only { (a b : Algorithm) (ts : List text.Token) → IsPrintable a → TokAlgorithm (PText a) 0 (length (PText a)) ts → SpellsP ts b → placeless b ≡ placeless a }
-    ensures read { (a : Algorithm) (ts : List text.Token) → IsPrintable a → TokAlgorithm (PText a) 0 (length (PText a)) ts → (x : Text) × (read_algorithm (views ts) ≡ Ok (x, [])) × (placeless (algorithm_of x) ≡ placeless a) }
-    ensures one { (a b : Algorithm) → IsPrintable a → IsPrintable b → PText a ≡ PText b → placeless a ≡ placeless b }
+    ensures only { (s t : Syntax) (a b : Algorithm) (ts : List text.Token) → IsPrintable a → TokAlgorithm (printed s a) 0 (length (printed s a)) ts → Spells t ts b → (t ≡ s) × (placeless b ≡ placeless a) }
+    ensures p { (a : Algorithm) (ts : List text.Token) → IsPrintable a → TokAlgorithm (PText a) 0 (length (PText a)) ts → (x : Text) × (p.read_algorithm (views ts) ≡ Ok (x, [])) × (placeless (algorithm_of x) ≡ placeless a) }
+    ensures c { (a : Algorithm) (ts : List text.Token) → IsPrintable a → TokAlgorithm (CText a) 0 (length (CText a)) ts → (x : Text) × (c.read_algorithm (views ts) ≡ Ok (x, [])) × (placeless (algorithm_of x) ≡ placeless a) }
+    ensures one { (s t : Syntax) (a b : Algorithm) → IsPrintable a → IsPrintable b → printed s a ≡ printed t b → (t ≡ s) × (placeless a ≡ placeless b) }
+{}
+
+/// An algorithm that is printed in a syntax, read, printed in the same or the other one and read again is the same, places aside, and its text
+/// in the first syntax is the first text, to the byte.
+pub fn printing_goes_back()
+    ensures some { (s t : Syntax) (a b : Algorithm) (ts : List text.Token) → IsPrintable a → TokAlgorithm (printed s a) 0 (length (printed s a)) ts → Spells s ts b
+        → (us : List text.Token) × (c : Algorithm) × TokAlgorithm (printed t b) 0 (length (printed t b)) us × Spells t us c }
+    ensures same { (s t : Syntax) (a b c : Algorithm) (ts us : List text.Token) → IsPrintable a → TokAlgorithm (printed s a) 0 (length (printed s a)) ts → Spells s ts b
+        → TokAlgorithm (printed t b) 0 (length (printed t b)) us → Spells t us c → (placeless c ≡ placeless a) × (printed s c ≡ printed s a) }
 {}
 
 /// A printed text holds no mark of a comment, so it opens and closes comments only within itself.
@@ -40,4 +60,27 @@ pub fn spelled_algorithms_can_be_printed()
 /// What is printed of an algorithm rests on no place.
 pub fn printing_rests_on_no_place()
     ensures { (s : Syntax) (a b : Algorithm) → placeless a ≡ placeless b → printed s a ≡ printed s b }
+{}
+
+/// Each file whose algorithm is spelled by its tokens has, in each syntax, one file with the algorithm printed in its place and all other bytes as they were. If the file breaks
+/// none of the rules 1 to 10 and 12, and its algorithm opens and closes comments only within itself, the printed text is just the algorithm that is
+/// there then: it begins where the old one did, and its tokens spell the same algorithm in that syntax, places aside.
+pub fn rewritten_files_hold_the_algorithm()
+    ensures some { (s t : Syntax) (x : List ℕ) (a : AlgorithmText) (g : Algorithm) → algorithm_in x ≡ Some a → Spells t (algorithm_tokens x a) g → (w : List ℕ) × Rewritten s x w }
+    ensures one { (s : Syntax) (x w v : List ℕ) → Rewritten s x w → Rewritten s x v → w ≡ v }
+    ensures holds { (s : Syntax) (x w : List ℕ) → IsFine x → (r : Rewritten s x w) → is_paired 0 (stretch x r.old.from r.old.rest.to) ≡ true → HoldsPrinted s r.tree r.old.from w }
+{}
+
+/// And the tokens of the algorithm that is there are never refused by the rule of syntax (15), but at most since too many forms are open in one another (14).
+pub fn spelled_tokens_are_refused_for_depth_alone()
+    ensures { (s : Syntax) (ts : List text.Token) (a : Algorithm) (end : Place) (r : Refusal) → Spells s ts a → RefusesTokens s ts end r → r.rule ≡ TooDeep }
+{}
+
+/// Rewritten once more, in the same or the other syntax, as long as it breaks none of these rules then, it holds the first file's algorithm, printed in that syntax.
+/// So a file with a printed algorithm, behind which no word goes on, is rewritten in the other syntax and back to just itself; and in its own syntax
+/// it is itself.
+pub fn files_are_rewritten_again()
+    ensures holds { (s t : Syntax) (x w v : List ℕ) → IsFine x → (r : Rewritten s x w) → is_paired 0 (stretch x r.old.from r.old.rest.to) ≡ true → IsFine w → Rewritten t w v → HoldsPrinted t r.tree r.old.from v }
+    ensures back { (s t : Syntax) (x w v : List ℕ) → IsFine x → (r : Rewritten s x w) → stretch x r.old.from r.old.rest.to ≡ printed t r.tree → ends_word (drop r.old.rest.to x) ≡ true → IsFine w → Rewritten t w v → v ≡ x }
+    ensures same { (s : Syntax) (x w : List ℕ) → IsFine x → (r : Rewritten s x w) → stretch x r.old.from r.old.rest.to ≡ printed s r.tree → gap s (drop r.old.rest.to x) ≡ [] → w ≡ x }
 {}

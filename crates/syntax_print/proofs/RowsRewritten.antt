@@ -1,0 +1,61 @@
+-- Worked rows of files with a printed algorithm, by computation: what comes right behind its last word.
+use Rattle.std.proofs.Common.{◌≡◌, refl, false, [], ◌++◌, Option, Some, codes}
+use Rattle.tla_tree.specs.Tree.{Word, Name}
+use Rattle.tla_token.specs.Tokens.{stretch}
+use Rattle.pcal_tree.specs.declared.mark.Mark.TheVariants as marked
+use Rattle.pcal_tree.specs.Algorithm.{nowhere, skip, done, then, mark, Algorithm, alone}
+use Rattle.pcal_tree.specs.Placeless.{no_span}
+use Rattle.pcal_tree.specs.Grammar.{p_syntax, c_syntax}
+use Rattle.pcal_tree.specs.Printed.{PText, CText}
+use Rattle.module_tree.specs.TextFront.{Text, on_some}
+use Rattle.module_tree.specs.AlgorithmText.{Stage, open_p, past_p, past_c, algorithm_in}
+use Rattle.module_tree.specs.WithTranslation.{Swapped}
+use Rattle.syntax_print.specs.Rewritten.{gap}
+
+abbrev n : Word → Name
+n x = record { word = x; place = nowhere }
+
+abbrev least : Algorithm
+least = record { name = n (codes "R"); fair = false; globals = []; definitions = []; macros = []; procedures = []; main = alone (mark (n (codes "A")) marked.Plain (then no_span skip done)) }
+
+abbrev file : Text → Text
+file w = codes "---- MODULE M ----\n(* " ++ (w ++ codes "*)\n====\n")
+
+-- the algorithm of a file, and whether its end was found
+abbrev found : Text → Option (Text × Stage)
+found x = on_some (algorithm_in x) (λ a. Some (stretch x a.from a.rest.to, a.rest.stage))
+
+-- ---- a word right behind the last brace
+
+braced : found (file (CText least ++ codes "x")) ≡ Some (CText least, past_c)
+braced = refl
+
+no_gap : gap c_syntax (codes "x*)\n====\n") ≡ []
+no_gap = refl
+
+-- without a blank it would go on with `algorithm`, and the end would not be found
+joined : found (file (PText least ++ codes "x")) ≡ Some (PText least ++ codes "x", open_p false)
+joined = refl
+
+blank_there : gap p_syntax (codes "x*)\n====\n") ≡ codes " "
+blank_there = refl
+
+swapped : Swapped (file (CText least ++ codes "x")) (PText least ++ codes " ") (file (PText least ++ codes " x"))
+swapped = record { old = _; is_old = refl; is = refl }
+
+parted : found (file (PText least ++ codes " x")) ≡ Some (PText least, past_p)
+parted = refl
+
+-- ---- and anything else
+
+at_once : gap p_syntax (codes "*)\n====\n") ≡ []
+at_once = refl
+
+ended : found (file (PText least)) ≡ Some (PText least, past_p)
+ended = refl
+
+commented : gap p_syntax (codes "(* x *)*)\n====\n") ≡ []
+commented = refl
+
+behind_comment : found (file (PText least ++ codes "(* x *)")) ≡ Some (PText least, past_p)
+behind_comment = refl
