@@ -3,7 +3,7 @@ pub mod ItemEquations
 pub mod Below
 pub mod Heights
 pub mod Regrouped
-pub mod OneMore
+pub mod Blanks
 pub mod LayoutParts
 pub mod SpotWithin
 pub mod InMemoryGrown

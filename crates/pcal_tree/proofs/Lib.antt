@@ -86,3 +86,6 @@ pub mod OpenWalksParts
 pub mod OpenWalksAll
 pub mod DeepLaws
 pub mod RowsDeep
+pub mod InMemoryGrown
+pub mod InMemoryEach
+mod RowsInMemory

@@ -50,3 +50,4 @@ pub mod OffencesSyntax
 pub mod OffencesCounts
 pub mod laws
 pub mod Takers
+pub mod InMemory

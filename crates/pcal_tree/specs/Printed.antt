@@ -90,21 +90,26 @@ closing c_syntax w = codes "};"
 
 -- ---- statements, at an indentation, the first one after its labels
 
+-- the line of a statement with no statements in it, after a text; of another, the text alone
+abbrev pub simple_line : Text → Statement → Text
+simple_line ls (assign ms) = ls ++ separated (codes " || ") (assignments_texts ms) ++ codes ";"
+simple_line ls (await e) = ls ++ codes "await " ++ written e ++ codes ";"
+simple_line ls (print e) = ls ++ codes "print " ++ written e ++ codes ";"
+simple_line ls (assert e) = ls ++ codes "assert " ++ written e ++ codes ";"
+simple_line ls skip = ls ++ codes "skip;"
+simple_line ls (goto l) = ls ++ codes "goto " ++ l ++ codes ";"
+simple_line ls (macro m ts) = ls ++ m ++ arguments_text ts ++ codes ";"
+simple_line ls (call x ts) = ls ++ codes "call " ++ x.word ++ arguments_text ts ++ codes ";"
+simple_line ls return = ls ++ codes "return;"
+simple_line ls _ = ls
+
 abbrev mutual
   pub statement : Syntax → ℕ → Text → Statement → Lines
-  statement s n ls (assign ms) = line n (ls ++ separated (codes " || ") (assignments_texts ms) ++ codes ";")
-  statement s n ls (await e) = line n (ls ++ codes "await " ++ written e ++ codes ";")
-  statement s n ls (print e) = line n (ls ++ codes "print " ++ written e ++ codes ";")
-  statement s n ls (assert e) = line n (ls ++ codes "assert " ++ written e ++ codes ";")
-  statement s n ls skip = line n (ls ++ codes "skip;")
   statement s n ls (branch e a b) = λ rest. line n (ls ++ head s (codes "if") (written e) (codes "then")) (statements s (n + 2) [] a (otherwise s n b (line n (closing s (codes "if")) rest)))
   statement s n ls (either bs) = λ rest. branches s n (ls ++ opening s (codes "either")) bs (line n (closing s (codes "either")) rest)
   statement s n ls (with bs a) = λ rest. line n (ls ++ head s (codes "with") (listed (binds_texts bs)) (codes "do")) (statements s (n + 2) [] a (line n (closing s (codes "with")) rest))
   statement s n ls (while e a) = λ rest. line n (ls ++ head s (codes "while") (written e) (codes "do")) (statements s (n + 2) [] a (line n (closing s (codes "while")) rest))
-  statement s n ls (goto l) = line n (ls ++ codes "goto " ++ l ++ codes ";")
-  statement s n ls (macro m ts) = line n (ls ++ m ++ arguments_text ts ++ codes ";")
-  statement s n ls (call x ts) = line n (ls ++ codes "call " ++ x.word ++ arguments_text ts ++ codes ";")
-  statement s n ls return = line n (ls ++ codes "return;")
+  statement s n ls st = line n (simple_line ls st)
 
   -- with the texts of the labels that are before the next statement
   pub statements : Syntax → ℕ → Text → Statements → Lines

@@ -1,5 +1,6 @@
 //! Algorithms of PlusCal: their trees, their names, and what they mean.
 #![tactic(auto)]
 
+pub mod algorithm;
 pub mod laws;
 pub mod mark;

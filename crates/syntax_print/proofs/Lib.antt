@@ -38,3 +38,10 @@ mod FitParts
 mod FitStatements
 mod FitAlgorithm
 mod PrintedBare
+pub mod Blanks
+pub mod Within
+pub mod Commas
+pub mod Lines
+pub mod Heights
+pub mod Branches
+pub mod Units

@@ -2,3 +2,11 @@
 #![tactic(auto)]
 
 pub mod laws;
+pub mod syntax;
+pub mod write_algorithm;
+pub mod write_part;
+pub mod write_statement;
+pub mod write_unit;
+
+pub use syntax::Syntax;
+pub use write_algorithm::{write_c, write_in, write_p};

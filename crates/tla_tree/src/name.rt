@@ -147,6 +147,13 @@ impl Text {
         self.bytes.as_slice()
     }
 
+    /// The bytes alone.
+    pub fn into_bytes(self) -> Vec<u8>
+        ensures { result.items ≡ self }
+    {
+        self.bytes
+    }
+
     /// The same text once more.
     pub fn copied(&self) -> Result<Text, AllocError>
         ensures { IfOk result (λ t. t ≡ self.now) }

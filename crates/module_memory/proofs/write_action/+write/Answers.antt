@@ -7,7 +7,7 @@ use Rattle.module_memory.specs.InMemory.{item_at, items_at, branches_at, past_it
 use Rattle.module_memory.proofs.ItemEquations.{exists_at, local_at, choice_at, either_at, past_either}
 use Rattle.module_memory.proofs.Heights.{height, heights, branch_heights, either_height}
 use Rattle.module_memory.proofs.Below.{past_at}
-use Rattle.module_memory.proofs.OneMore.{listed_more}
+use Rattle.tla_write.proofs.OneMore.{listed_more}
 use Rattle.module_memory.proofs.write_action.+write.Goals as goal
 
 pub write_branches-write_items-requires : goal.write_branches-write_items-requires

@@ -1,7 +1,7 @@
 -- Proves what is asked of `write_unchanged`.
 use Rattle.std.specs.Prelude.{codes}
 use Rattle.module_tree.specs.Layout.{blanks, tuple_of}
-use Rattle.module_memory.proofs.OneMore.{same_text}
+use Rattle.tla_write.proofs.OneMore.{same_text}
 use Rattle.module_memory.proofs.Regrouped.{line_joined}
 use Rattle.module_memory.proofs.write_action.write_unchanged.Goals as goal
 

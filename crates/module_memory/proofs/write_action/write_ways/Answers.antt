@@ -4,7 +4,7 @@ use Rattle.std.specs.Prelude.{codes}
 use Rattle.module_memory.specs.declared.«module».Way.{Way}
 use Rattle.module_tree.specs.Layout.{blanks, line, way_text, ways_text}
 use Rattle.module_memory.specs.InMemory.{way_at, ways_at}
-use Rattle.module_memory.proofs.OneMore.{listed_more}
+use Rattle.tla_write.proofs.OneMore.{listed_more}
 use Rattle.module_memory.proofs.Regrouped.{line_joined}
 use Rattle.module_memory.proofs.write_action.write_ways.Goals as goal
 

@@ -1,7 +1,7 @@
 -- Proves what is asked of `write_blanks`.
 use Rattle.std.proofs.Common.{ℕ, List, [], ◌∷◌, ◌++◌, ap, ◌∙◌, append_assoc}
 use Rattle.module_tree.specs.Layout.{blanks}
-use Rattle.module_memory.proofs.OneMore.{blanks_more}
+use Rattle.module_memory.proofs.Blanks.{blanks_more}
 use Rattle.module_memory.proofs.write_line.write_blanks.Goals as goal
 
 pub loop-i-preserved : goal.loop-i-preserved

@@ -2,7 +2,7 @@
 use Rattle.std.proofs.Common.{ℕ, List, ◌++◌, refl, ap, ◌∙◌}
 use Rattle.std.specs.Prelude.{codes}
 use Rattle.module_tree.specs.ExprText.{joined}
-use Rattle.module_memory.proofs.OneMore.{parted_more}
+use Rattle.tla_write.proofs.OneMore.{parted_more}
 use Rattle.module_memory.proofs.write_line.write_joined.Goals as goal
 
 pub loop-i-preserved : goal.loop-i-preserved

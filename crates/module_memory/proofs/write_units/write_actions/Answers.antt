@@ -6,7 +6,7 @@ use Rattle.module_tree.specs.Module.{action_unit}
 use Rattle.module_tree.specs.Layout.{unit_text}
 use Rattle.module_memory.specs.InMemory.{action_at, actions_at}
 use Rattle.module_memory.specs.Apart.{behind}
-use Rattle.module_memory.proofs.OneMore.{listed_more}
+use Rattle.tla_write.proofs.OneMore.{listed_more}
 use Rattle.module_memory.proofs.write_units.write_actions.Goals as goal
 
 pub loop-action-preserved : goal.loop-action-preserved

@@ -7,7 +7,7 @@ use Rattle.module_tree.specs.Module.{definition_unit}
 use Rattle.module_tree.specs.Layout.{unit_text}
 use Rattle.module_memory.specs.Apart.{behind}
 use Rattle.module_memory.proofs.Below.{definition_below}
-use Rattle.module_memory.proofs.OneMore.{listed_more}
+use Rattle.tla_write.proofs.OneMore.{listed_more}
 use Rattle.module_memory.proofs.write_units.write_definitions.Goals as goal
 
 pub write_definition-requires : goal.write_definition-requires

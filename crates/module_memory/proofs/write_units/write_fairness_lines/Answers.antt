@@ -4,7 +4,7 @@ use Rattle.std.specs.Prelude.{codes}
 use Rattle.module_memory.specs.declared.«module».Fairness.{Fairness}
 use Rattle.module_tree.specs.Layout.{blanks, line, fairness_text, conjuncts_text}
 use Rattle.module_memory.specs.InMemory.{fairness_at}
-use Rattle.module_memory.proofs.OneMore.{listed_more}
+use Rattle.tla_write.proofs.OneMore.{listed_more}
 use Rattle.module_memory.proofs.Regrouped.{line_joined}
 use Rattle.module_memory.proofs.write_units.write_fairness_lines.Goals as goal
 

@@ -3,7 +3,7 @@ use Rattle.std.proofs.Common.{map}
 use Rattle.std.specs.Prelude.{codes}
 use Rattle.module_tree.specs.Layout.{conjuncts_text, fairness_text}
 use Rattle.module_memory.specs.InMemory.{fairness_at}
-use Rattle.module_memory.proofs.OneMore.{same_text}
+use Rattle.tla_write.proofs.OneMore.{same_text}
 use Rattle.module_memory.proofs.Regrouped.{list_joined}
 use Rattle.module_memory.proofs.write_units.write_spec.Goals as goal
 

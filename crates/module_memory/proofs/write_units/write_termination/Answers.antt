@@ -2,7 +2,7 @@
 use Rattle.std.specs.Prelude.{codes}
 use Rattle.tla_tree.specs.Pool.{at}
 use Rattle.tla_tree.specs.Written.{written}
-use Rattle.module_memory.proofs.OneMore.{same_text}
+use Rattle.tla_write.proofs.OneMore.{same_text}
 use Rattle.module_memory.proofs.Regrouped.{closed_joined}
 use Rattle.module_memory.proofs.write_units.write_termination.Goals as goal
 

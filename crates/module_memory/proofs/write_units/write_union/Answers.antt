@@ -6,7 +6,7 @@ use Rattle.tla_tree.proofs.PoolNumbers.{AllBelow-at}
 use Rattle.module_tree.specs.ExprText.{operand}
 use Rattle.module_tree.specs.Layout.{union_text}
 use Rattle.module_memory.proofs.Below.{same_default}
-use Rattle.module_memory.proofs.OneMore.{parted_more}
+use Rattle.tla_write.proofs.OneMore.{parted_more}
 use Rattle.module_memory.proofs.write_units.write_union.Goals as goal
 
 pub write_operand-requires : goal.write_operand-requires

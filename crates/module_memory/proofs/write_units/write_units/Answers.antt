@@ -7,7 +7,7 @@ use Rattle.module_tree.specs.Ways.{processes_in}
 use Rattle.module_memory.specs.InMemory.{actions_at, ways_at, fairness_at, region_at}
 use Rattle.module_memory.specs.Apart.{behind}
 use Rattle.module_memory.proofs.LayoutParts.{layout_parts}
-use Rattle.module_memory.proofs.OneMore.{same_text}
+use Rattle.tla_write.proofs.OneMore.{same_text}
 use Rattle.module_memory.proofs.write_units.write_units.Goals as goal
 
 eleven : (old a b c d e f g h i j p q r s t u v w x y z : List ℕ) → a ≡ old ++ p → b ≡ a ++ q → c ≡ b ++ r → d ≡ c ++ s → e ≡ d ++ t → f ≡ e ++ u → g ≡ f ++ v → h ≡ g ++ w → i ≡ h ++ x → j ≡ i ++ y

@@ -1,7 +1,7 @@
 -- Proves what is asked of `write_vars`.
 use Rattle.std.specs.Prelude.{codes}
 use Rattle.module_tree.specs.Layout.{tuple_of}
-use Rattle.module_memory.proofs.OneMore.{same_text}
+use Rattle.tla_write.proofs.OneMore.{same_text}
 use Rattle.module_memory.proofs.Regrouped.{unit_joined}
 use Rattle.module_memory.proofs.write_units.write_vars.Goals as goal
 

@@ -2,7 +2,6 @@
 use Rattle.std.proofs.Common.{◌≡◌, ℕ, zero, suc, ◌+◌, ◌<◌, ◌≤◌, Bool, cond, List, [], ◌∷◌, ◌++◌, length, take, get_or, refl, sym, ap, subst, ◌∙◌, arith, append_assoc, append-nil}
 use Rattle.std.specs.Prelude.{nat_lt, Result, OnOk}
 use Rattle.std.proofs.lemmas.Bool.{lt-ltb}
-use Rattle.module_tree.specs.Layout.{blanks}
 use Rattle.std.proofs.lemmas.List.{take_more, take_all, length-take-le}
 
 pub same_text : {E : Type 0} (r : Result (Unit {0}) E) (new a b : List ℕ) → OnOk r (new ≡ a) → a ≡ b → OnOk r (new ≡ b)
@@ -69,14 +68,3 @@ parted_more F f sign p old now mid new xs i x is lt h e g =
     ∙ append_assoc (old ++ F (take i xs)) (cond (nat_lt 0 i) sign []) (f x)
     ∙ append_assoc old (F (take i xs)) (cond (nat_lt 0 i) sign [] ++ f x)
     ∙ ap (λ (w : List ℕ). old ++ w) (sym whole)
-
--- ---- blanks
-pub blanks_more : (k : ℕ) → blanks k ++ 32 ∷ [] ≡ blanks (k + 1)
-blanks_more k = ends k ∙ ap blanks (add k)
-  where
-    ends : (k : ℕ) → blanks k ++ 32 ∷ [] ≡ blanks (suc k)
-    ends zero = refl
-    ends (suc k) = ap (λ (w : List ℕ). 32 ∷ w) (ends k)
-
-    add : (k : ℕ) → suc k ≡ k + 1
-    add k = omega arith
