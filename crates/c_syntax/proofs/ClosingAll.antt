@@ -14,7 +14,7 @@ use Rattle.algorithm_parts.proofs.Whole.{then_is}
 use Rattle.algorithm_parts.proofs.OneAfter.{same_read, then_assoc, then_same}
 use Rattle.c_syntax.specs.ReadStatements.{State, Turn, bottom, none, on, step, turned, run, rest, AreApart, open_stack, depth}
 use Rattle.c_syntax.specs.ReadStatements as machine
-use Rattle.c_syntax.specs.Resume.{Front, finish, main_from, resume, closing_brace, after_list, rest_of_all}
+use Rattle.c_syntax.specs.Resume.{Front, finish, main_from, resume, closing_brace, after_list, rest_of_all, macros_from, procedures_from, processes_from, main_rest, end_rest}
 use Rattle.c_syntax.proofs.Closing.{closed_by_rest, few_rest}
 
 abbrev Closed : Parts → ℕ → ℕ → ℕ → Front → Owner → State → Type 0
@@ -55,6 +55,25 @@ all_closed m (suc zero) j n f o s i a b l = absurd (omega (arith, a))
 all_closed m (suc (suc zero)) j n f o s i a b l = absurd (omega (arith, a))
 all_closed m (suc (suc (suc k))) zero n f o s i a b l = absurd (omega (arith, b))
 all_closed m (suc (suc (suc k))) (suc j) n f o s i a b l = closed_on m k j n f o s i l
+
+-- and between the parts, where as many steps are left
+pub macros_closed : (m : Parts) (k j : ℕ) (f : Front) (ns : List Macro) → 3 ≤ k → 1 ≤ j → (x : Text) × (macros_from m k j f ns main_rest ≡ Ok (x, []))
+macros_closed m zero j f ns a b = absurd (omega (arith, a))
+macros_closed m (suc zero) j f ns a b = absurd (omega (arith, a))
+macros_closed m (suc (suc zero)) j f ns a b = absurd (omega (arith, a))
+macros_closed m (suc (suc (suc k))) zero f ns a b = absurd (omega (arith, b))
+macros_closed m (suc (suc (suc k))) (suc j) f ns a b = (whole f (ns ++ []) [] a_main, refl)
+
+pub procedures_closed : (m : Parts) (j k : ℕ) (f : Front) (ms : List Macro) (qs : List Procedure) → 3 ≤ k → 1 ≤ j → (x : Text) × (procedures_from m j k f ms qs main_rest ≡ Ok (x, []))
+procedures_closed m j zero f ms qs a b = absurd (omega (arith, a))
+procedures_closed m j (suc zero) f ms qs a b = absurd (omega (arith, a))
+procedures_closed m j (suc (suc zero)) f ms qs a b = absurd (omega (arith, a))
+procedures_closed m zero (suc (suc (suc k))) f ms qs a b = absurd (omega (arith, b))
+procedures_closed m (suc j) (suc (suc (suc k))) f ms qs a b = (whole f ms (qs ++ []) a_main, refl)
+
+pub processes_closed : (m : Parts) (j : ℕ) (f : Front) (ms : List Macro) (ps : List Procedure) (ys : List Process) (y : Process) → 1 ≤ j → (x : Text) × (processes_from m j f ms ps ys y end_rest ≡ Ok (x, []))
+processes_closed m zero f ms ps ys y b = absurd (omega (arith, b))
+processes_closed m (suc j) f ms ps ys y b = (whole f ms ps (main_of ys y []), refl)
 
 after_few : (o : Owner) → length (after_list o) ≤ 5
 after_few (in_macro ns p x xs a) = omega arith

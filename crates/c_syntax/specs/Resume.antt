@@ -63,15 +63,22 @@ resume m k j n f (in_process ms ps ys q p x vs a) s =
 resume m k j n f (in_main ms ps a) s = run m n s >>= λ ss. a_mark close_brace >>= λ b. read_semicolon >>= λ c. finish f ms ps (block a ss b c)
 
 -- ---- what closes all that stands open
--- after the list; a whole algorithm has a main part
 abbrev pub closing_brace : List Token → List Token
 closing_brace ts = mark nowhere close_brace ts
 
+-- where the main part may come, and after a process
+abbrev pub main_rest : List Token
+main_rest = mark nowhere open_brace (key nowhere (codes "skip") (closing_brace (closing_brace [])))
+
+abbrev pub end_rest : List Token
+end_rest = closing_brace []
+
+-- after the list; a whole algorithm has a main part
 abbrev pub after_list : Owner → List Token
-after_list (in_macro ns p x xs a) = closing_brace (mark nowhere open_brace (key nowhere (codes "skip") (closing_brace (closing_brace []))))
-after_list (in_procedure ms qs p x xs vs a) = closing_brace (mark nowhere open_brace (key nowhere (codes "skip") (closing_brace (closing_brace []))))
-after_list (in_process ms ps ys q p x vs a) = closing_brace (closing_brace [])
-after_list (in_main ms ps a) = closing_brace (closing_brace [])
+after_list (in_macro ns p x xs a) = closing_brace main_rest
+after_list (in_procedure ms qs p x xs vs a) = closing_brace main_rest
+after_list (in_process ms ps ys q p x vs a) = closing_brace end_rest
+after_list (in_main ms ps a) = closing_brace end_rest
 
 abbrev pub rest_of_all : Owner → State → List Token
 rest_of_all o s = rest s ++ after_list o

@@ -61,12 +61,19 @@ resume m k j n f (in_process ms ps ys q p x vs a) s =
 resume m k j n f (in_main ms ps a) s = run m n s >>= λ ss. finish f ms ps (begin a ss)
 
 -- ---- what closes all that stands open
+-- where the main part may come, and after a process
+abbrev pub main_rest : List Token
+main_rest = word_after (codes "begin") (word_after (codes "skip") (ends_with (codes "algorithm") []))
+
+abbrev pub end_rest : List Token
+end_rest = ends_with (codes "algorithm") []
+
 -- after the list; a whole algorithm has a main part
 abbrev pub after_list : Owner → List Token
-after_list (in_macro ns p x xs a) = ends_with (codes "macro") (word_after (codes "begin") (word_after (codes "skip") (ends_with (codes "algorithm") [])))
-after_list (in_procedure ms qs p x xs vs a) = ends_with (codes "procedure") (word_after (codes "begin") (word_after (codes "skip") (ends_with (codes "algorithm") [])))
-after_list (in_process ms ps ys q p x vs a) = ends_with (codes "process") (ends_with (codes "algorithm") [])
-after_list (in_main ms ps a) = ends_with (codes "algorithm") []
+after_list (in_macro ns p x xs a) = ends_with (codes "macro") main_rest
+after_list (in_procedure ms qs p x xs vs a) = ends_with (codes "procedure") main_rest
+after_list (in_process ms ps ys q p x vs a) = ends_with (codes "process") end_rest
+after_list (in_main ms ps a) = end_rest
 
 abbrev pub rest_of_all : Owner → State → List Token
 rest_of_all o s = rest s ++ after_list o

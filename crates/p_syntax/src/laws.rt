@@ -24,7 +24,7 @@ ghost use Rattle.algorithm_parts.specs.ReadParts.{read_section, read_macro_param
 ghost use Rattle.algorithm_parts.specs.Owners.{Owner, in_macro, in_procedure, in_process, in_main};
 ghost use Rattle.p_syntax.specs.ReadStatements.{State, begin, none, bottom, on, step, run, rest, open_in};
 ghost use Rattle.p_syntax.specs.ReadAlgorithm.{read_identity, read_text, read_algorithm, read_limited_algorithm};
-ghost use Rattle.p_syntax.specs.Resume.{Front, main_from, processes_from, procedures_from, macros_from, text_from, resume, rest_of_all};
+ghost use Rattle.p_syntax.specs.Resume.{Front, main_from, processes_from, procedures_from, macros_from, text_from, resume, main_rest, end_rest, rest_of_all};
 
 /// What is read is an algorithm that may be spelled, and all the tokens are its tokens.
 pub fn what_is_read_is_spelled()
@@ -114,9 +114,12 @@ pub fn what_stands_open_is_closed()
 
 /// What stands open in the lists of statements of a whole algorithm, in the body of a macro, a procedure or a process or in its main part, is closed
 /// by `rest_of_all`, up to the end of the algorithm: with these tokens behind it reading goes on to a whole algorithm and to the last token. They
-/// are at most four for each form that is open there, and seven.
+/// are at most four for each form that is open there, and seven. Between the parts it is the shortest main part, or the end of the algorithm.
 pub fn what_stands_open_in_an_algorithm_is_closed()
     ensures closed { (m : Parts) (k j n : ℕ) (f : Front) (o : Owner) (s : State) → 3 ≤ k → 1 ≤ j → suc (length (rest s)) ≤ n → (x : Text) × (resume m k j n f o s (rest_of_all o s) ≡ Ok (x, [])) }
+    ensures macros { (m : Parts) (k j : ℕ) (f : Front) (ns : List Macro) → 3 ≤ k → 1 ≤ j → (x : Text) × (macros_from m k j f ns main_rest ≡ Ok (x, [])) }
+    ensures procedures { (m : Parts) (j k : ℕ) (f : Front) (ms : List Macro) (qs : List Procedure) → 3 ≤ k → 1 ≤ j → (x : Text) × (procedures_from m j k f ms qs main_rest ≡ Ok (x, [])) }
+    ensures processes { (m : Parts) (j : ℕ) (f : Front) (ms : List Macro) (ps : List Procedure) (ys : List Process) (y : Process) → 1 ≤ j → (x : Text) × (processes_from m j f ms ps ys y end_rest ≡ Ok (x, [])) }
     ensures few { (o : Owner) (s : State) → length (rest_of_all o s) ≤ 4 * open_in s + 7 }
 {}
 
