@@ -1,12 +1,11 @@
 -- The tokens of a text that is given to be read have no numbers past the limit.
-use Rattle.std.proofs.Common.{◌≡◌, ℕ, zero, suc, ◌+◌, ◌<◌, if◌then◌else◌, Bool, true, false, ◌&&◌, nat_lt, nat_le, List, [], ◌∷◌, ◌++◌, length, map, Option, Some, None, refl, sym, ap, ◌∙◌, subst}
+use Rattle.std.proofs.Common.{◌≡◌, ℕ, zero, suc, ◌+◌, ◌<◌, if◌then◌else◌, Bool, true, false, nat_lt, nat_le, List, [], ◌∷◌, ◌++◌, length, map, Option, Some, None, refl, sym, ap, ◌∙◌, subst}
 use Rattle.std.specs.Prelude.{drop}
 use Rattle.std.specs.Str.{bytes_eq}
 use Rattle.std.specs.List.{flat_map}
 use Rattle.std.specs.Option.{option_map}
 use Rattle.std.proofs.lemmas.Bool.{leb-false}
 use Rattle.tla_token.specs.declared.place.Place.{Place}
-use Rattle.tla_token.specs.declared.fault.Reading.{Reading}
 use Rattle.tla_token.specs.declared.fault.Reading.TheVariants as reading
 use Rattle.tla_token.specs.declared.rule.Rule.{Rule}
 use Rattle.tla_token.specs.declared.token.Token as code_token
@@ -16,7 +15,7 @@ use Rattle.tla_token.specs.Places.{after, place_at}
 use Rattle.tla_token.specs.Words.{is_pluscal_word, is_tla_word}
 use Rattle.tla_token.specs.Lexemes.{Kind, name, number, string, one, other}
 use Rattle.tla_token.specs.Tokens.{Token, Piece, blank, block, line, lexeme, bytes_of, tokens_of, stretch, Tok, TokAlgorithm}
-use Rattle.tla_token.specs.Offences.{Part, sound, part_bytes, Offence, offence_if, kind_offences, part_offences, offences, or_earlier, least}
+use Rattle.tla_token.specs.Offences.{sound, Offence, offence_if, kind_offences, offences, or_earlier, least}
 use Rattle.tla_token.specs.Cut.{parts}
 use Rattle.tla_token.specs.Readings.{read_offences, number_offences, joined, last_quote, line_offence, first_offence, opening_of, IsCutAs, offence_as, AreTokens, given_offence}
 use Rattle.tla_token.specs.Scanning.{lexemes_of}
@@ -31,7 +30,6 @@ use Rattle.tla_tree.specs.Reader.{next}
 use Rattle.tla_tree.specs.laws.Writable.{IsOfText, AreOfText, IsSmall, AreSmall}
 use Rattle.tla_tree.proofs.TextTokens.{text_tokens}
 use Rattle.expression_parts.specs.ReadIn.{seen}
-use Rattle.expression_parts.specs.Ahead.{ahead}
 use Rattle.tla_expr.specs.Numbers.{NumbersFit}
 
 -- ---- no offence

@@ -1,5 +1,4 @@
 -- Proves what is asked of `read_expression_at`.
-use Rattle.std.proofs.Common.{◌≡◌}
 use Rattle.std.proofs.lemmas.Result.{err_from_is_err_and}
 use Rattle.tla_expr.proofs.ReadEnough.{reads_tree, fails_tree, reads_further}
 use Rattle.tla_expr.proofs.read_parts.read_expression_at.Goals as goal

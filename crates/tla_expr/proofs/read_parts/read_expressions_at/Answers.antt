@@ -1,5 +1,4 @@
 -- Proves what is asked of `read_expressions_at`.
-use Rattle.std.proofs.Common.{◌≡◌}
 use Rattle.std.proofs.lemmas.Result.{err_from_is_err_and}
 use Rattle.tla_expr.proofs.ReadEnough.{reads_trees, fails_trees, all_further}
 use Rattle.tla_expr.proofs.read_parts.read_expressions_at.Goals as goal
