@@ -25,7 +25,10 @@ pub mod ReadSettings
 pub mod ListsRead
 pub mod ReadQuantifiers
 pub mod ReadExpression
+pub mod ReadEnough
+pub mod NumbersGiven
 mod RowsLists
 mod RowsHasRead
 mod RowsForms
 mod RowsBinds
+mod RowsNumbers

@@ -1,11 +1,11 @@
 -- Sets in braces, by what comes behind the `{`.
-use Rattle.std.proofs.Common.{◌≡◌, ℕ, suc, ◌+◌, Bool, true, false, List, Some, Ok, refl, sym, ap, ◌∙◌}
+use Rattle.std.proofs.Common.{◌≡◌, ℕ, ◌+◌, true, false, List, Some, Ok, refl, sym, ap, ◌∙◌}
 use Rattle.tla_token.specs.declared.place.Place.{Place}
 use Rattle.tla_tree.specs.declared.op.Op.TheVariants as op
 use Rattle.tla_tree.specs.Tree.{Word}
 use Rattle.tla_tree.specs.Lexical.{TokenView, Token}
 use Rattle.tla_tree.specs.Lexical as tk
-use Rattle.tla_tree.specs.Spelling.{Phrase, no_set}
+use Rattle.tla_tree.specs.Spelling.{no_set}
 use Rattle.tla_tree.specs.Reader.{Readers, Room, then_read, peek, next, tail, is_mark, is_sign, room, primary, braces, brace_name}
 use Rattle.tla_tree.specs.Whole.{whole}
 use Rattle.tla_tree.proofs.Opened.{in_braces}

@@ -1,5 +1,5 @@
 -- The readers' steps at what the code has looked at.
-use Rattle.std.proofs.Common.{◌≡◌, ℕ, suc, ◌+◌, ◌-◌, ◌≤◌, Bool, true, false, List, [], length, Result, Ok, Err, Some, refl, sym, ap, ◌∙◌, subst, arith}
+use Rattle.std.proofs.Common.{◌≡◌, ℕ, suc, ◌-◌, ◌≤◌, Bool, true, false, List, length, Result, Ok, Err, Some, refl, sym, ap, ◌∙◌, subst, arith}
 use Rattle.std.proofs.lemmas.List.{length-map}
 use Rattle.tla_token.specs.declared.place.Place.{Place}
 use Rattle.tla_token.specs.declared.rule.Rule.TheVariants.{TooDeep}
@@ -10,7 +10,7 @@ use Rattle.expression_parts.specs.declared.cursor.Halt.TheVariants as halt
 use Rattle.expression_parts.specs.declared.shape.Context as code
 use Rattle.expression_parts.specs.declared.view.View.{View}
 use Rattle.expression_parts.specs.declared.view.View.TheVariants as view
-use Rattle.tla_tree.specs.Lexical.{TokenView, Token, token}
+use Rattle.tla_tree.specs.Lexical.{Token, token}
 use Rattle.tla_tree.specs.Nesting.{chain}
 use Rattle.tla_tree.specs.Spelling.{Phrase, infix_of}
 use Rattle.expression_parts.specs.ShapeOf.{context_seen}

@@ -1,5 +1,5 @@
 -- An expression so far that grows, or is refused.
-use Rattle.std.proofs.Common.{◌≡◌, ℕ, ◌≤◌, arith, List, length, Ok, Err, Result, Option, Some, refl, sym, ap, ◌∙◌, subst}
+use Rattle.std.proofs.Common.{◌≡◌, ℕ, arith, List, length, Ok, Err, Result, Option, refl, sym, ap, ◌∙◌, subst}
 use Rattle.tla_token.specs.declared.rule.Rule.TheVariants.{TooDeep}
 use Rattle.tla_token.specs.declared.token.Tokens.{Tokens}
 use Rattle.tla_tree.specs.Tree.{Tree}

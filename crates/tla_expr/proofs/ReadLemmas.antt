@@ -1,5 +1,5 @@
 -- Reading one thing after the other, as the code does.
-use Rattle.std.proofs.Common.{◌≡◌, ℕ, List, length, Result, Ok, Err, refl, sym, ap, ◌∙◌, subst}
+use Rattle.std.proofs.Common.{◌≡◌, List, Ok, Err}
 use Rattle.expression_parts.specs.declared.cursor.Halt.{Halt}
 use Rattle.expression_parts.specs.declared.cursor.Halt.TheVariants as halt
 use Rattle.tla_tree.specs.Lexical.{Token}

@@ -1,6 +1,5 @@
 -- Applications and fields of a primary, one after the other.
-use Rattle.std.proofs.Common.{◌≡◌, ℕ, suc, ◌+◌, ◌-◌, ◌≤◌, Bool, true, false, List, Ok, Err, Some, refl, sym, ap, ◌∙◌, subst, arith}
-use Rattle.tla_token.specs.declared.place.Place.{Place}
+use Rattle.std.proofs.Common.{◌≡◌, ℕ, suc, ◌+◌, ◌-◌, ◌≤◌, Bool, true, false, List, Ok, Err, Some, refl, sym, ap, ◌∙◌, arith}
 use Rattle.tla_token.specs.declared.rule.Rule.TheVariants.{TooDeep}
 use Rattle.tla_tree.specs.Lexical.{Mark, TokenView, Token}
 use Rattle.tla_tree.specs.Lexical as tk

@@ -1,5 +1,5 @@
 -- What comes behind `{x \in S`: a filter, or a set with an element.
-use Rattle.std.proofs.Common.{◌≡◌, ℕ, suc, ◌≤◌, ◌<◌, Bool, true, false, ◌||◌, not, nat_le, ◌+◌, List, Option, Some, None, Ok, Err, refl, sym, ap, ◌∙◌, subst, arith, if◌then◌else◌}
+use Rattle.std.proofs.Common.{◌≡◌, ℕ, ◌≤◌, ◌<◌, Bool, true, false, ◌||◌, not, nat_le, ◌+◌, List, Some, None, Err, refl, sym, ap, ◌∙◌, arith, if◌then◌else◌}
 use Rattle.tla_token.specs.declared.place.Place.{Place}
 use Rattle.tla_token.specs.declared.rule.Rule.TheVariants.{TooDeep, Syntax}
 use Rattle.tla_tree.specs.Tree.{Word}
@@ -7,7 +7,7 @@ use Rattle.tla_tree.specs.Lexical.{Mark, TokenView, Token}
 use Rattle.tla_tree.specs.Lexical as tk
 use Rattle.tla_tree.specs.Nesting.{text_nesting}
 use Rattle.tla_tree.specs.Spelling.{Phrase}
-use Rattle.tla_tree.specs.Reader.{Out, Reader, Readers, then_read, gives, peek, next, tail, took, ended, is_mark, if_fits, room, element, set_rest, set_from, member_rest}
+use Rattle.tla_tree.specs.Reader.{Readers, then_read, gives, peek, next, tail, took, ended, is_mark, if_fits, room, element, set_rest, set_from, member_rest}
 use Rattle.tla_tree.specs.Whole.{whole}
 use Rattle.tla_tree.proofs.SoundTokens.{mark_is}
 use Rattle.expression_parts.specs.declared.shape.Shape.{Shape}

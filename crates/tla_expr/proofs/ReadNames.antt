@@ -1,5 +1,5 @@
 -- What a name begins: a call, a primed name, or itself.
-use Rattle.std.proofs.Common.{◌≡◌, ℕ, suc, ◌+◌, ◌≤◌, ◌<◌, true, false, List, IfOk, Result, Ok, Err, Some, length, refl, sym, ap, ◌∙◌, subst, arith}
+use Rattle.std.proofs.Common.{◌≡◌, ℕ, ◌≤◌, ◌<◌, true, List, IfOk, Result, Ok, Err, Some, length, sym, ap, ◌∙◌, arith}
 use Rattle.tla_token.specs.declared.place.Place.{Place}
 use Rattle.tla_token.specs.declared.token.Tokens.{Tokens}
 use Rattle.tla_tree.specs.Tree.{Tree, Word}

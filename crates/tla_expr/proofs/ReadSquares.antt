@@ -1,22 +1,21 @@
 -- Forms in square brackets, by what comes behind the `[`.
-use Rattle.std.proofs.Common.{◌≡◌, ℕ, suc, ◌+◌, ◌≤◌, ◌<◌, Bool, true, false, ◌||◌, not, nat_le, List, Option, Some, None, Ok, Err, refl, sym, ap, ◌∙◌}
+use Rattle.std.proofs.Common.{◌≡◌, ℕ, ◌+◌, ◌≤◌, ◌<◌, Bool, true, false, ◌||◌, not, nat_le, List, Some, Err, refl, sym, ap, ◌∙◌}
 use Rattle.tla_token.specs.declared.place.Place.{Place}
 use Rattle.tla_token.specs.declared.rule.Rule.TheVariants.{TooDeep, Syntax}
 use Rattle.tla_tree.specs.Tree.{Word}
-use Rattle.tla_tree.specs.declared.op.Op.TheVariants as op
 use Rattle.tla_tree.specs.Lexical.{TokenView, Token}
 use Rattle.tla_tree.specs.Lexical as tk
 use Rattle.tla_tree.specs.Nesting.{text_nesting}
 use Rattle.tla_tree.specs.Spelling.{Phrase, last_bind}
-use Rattle.tla_tree.specs.Reader.{Reader, Readers, Room, bind_rest, function_rest, then_read, peek, next, tail, is_mark, is_key, is_sign, if_fits, room, primary, element, field_rest, plain_field, squares, square_name, square_rest, square_from, square_member}
+use Rattle.tla_tree.specs.Reader.{Reader, Readers, bind_rest, function_rest, then_read, peek, next, tail, is_mark, is_key, if_fits, room, primary, squares, square_rest, square_from, square_member}
 use Rattle.tla_tree.specs.Whole.{whole}
 use Rattle.tla_tree.proofs.Opened.{in_squares}
 use Rattle.tla_tree.proofs.SoundTokens.{mark_is}
 use Rattle.expression_parts.specs.declared.shape.Shape.{Shape}
 use Rattle.expression_parts.specs.ShapeOf.{shape_of}
 use Rattle.tla_expr.specs.HasRead.{mapped_to}
-use Rattle.tla_expr.specs.InSquares.{changed, function_of, function_behind}
-use Rattle.tla_expr.specs.ReadForms.{square_rule, mapped, squared}
+use Rattle.tla_expr.specs.InSquares.{changed, function_behind}
+use Rattle.tla_expr.specs.ReadForms.{square_rule}
 use Rattle.tla_expr.proofs.ReadLinks.{open_at}
 use Rattle.tla_expr.proofs.ReadMembers.{fits_yes, fits_no}
 

@@ -1,5 +1,5 @@
 -- The readers' steps, as the code takes them: by the next token, and by how many forms may still open.
-use Rattle.std.proofs.Common.{◌≡◌, ℕ, suc, ◌+◌, ◌-◌, ◌≤◌, ◌<◌, Bool, true, false, ◌||◌, ◌&&◌, not, nat_le, List, [], ◌∷◌, Option, Some, None, Ok, Err, refl, sym, ap, ◌∙◌, subst, arith}
+use Rattle.std.proofs.Common.{◌≡◌, ℕ, suc, ◌-◌, ◌≤◌, Bool, true, false, ◌||◌, List, Option, Some, Ok, Err, refl, sym, ap, ◌∙◌}
 use Rattle.tla_token.specs.declared.place.Place.{Place}
 use Rattle.tla_token.specs.declared.rule.Rule.TheVariants.{TooDeep}
 use Rattle.tla_tree.specs.declared.op.Op.{Op}
@@ -10,7 +10,7 @@ use Rattle.tla_tree.specs.Lexical as tk
 use Rattle.tla_tree.specs.Nesting.{chain}
 use Rattle.tla_tree.specs.Spelling.{Phrase, infix_of}
 use Rattle.expression_parts.specs.ShapeOf.{context_seen}
-use Rattle.tla_tree.specs.Reader.{Out, Reader, Room, room, then_read, next, tail, Context, free, right_of, under, bound, goes_on, so_far, climb_by, climb_if, opened_after, is_behind_in}
+use Rattle.tla_tree.specs.Reader.{Reader, Room, room, then_read, next, tail, right_of, bound, goes_on, so_far, climb_by, climb_if, opened_after}
 use Rattle.tla_tree.specs.Whole.{whole}
 use Rattle.tla_tree.proofs.Whole.{climb_is}
 use Rattle.tla_tree.proofs.Opened.{in_climb}

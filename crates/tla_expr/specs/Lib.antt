@@ -3,3 +3,5 @@ pub mod ReadForms
 pub mod Grouped
 pub mod Routed
 pub mod InSquares
+pub mod Numbers
+pub mod ReadTrees

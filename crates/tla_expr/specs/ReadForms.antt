@@ -1,28 +1,21 @@
 -- Short forms, sets in braces, and which form a token begins: what the code reads of them.
-use Rattle.std.specs.Prelude.{◌≡◌, ℕ, suc, ◌<◌, ◌≤◌, List, length, IfOk, Result, Ok, Err, Option, Some, None, ◌||◌, if◌then◌else◌}
-use Rattle.std.specs.Borrow.{MutBor}
-use Rattle.tla_token.specs.Limits.{past_numbers}
+use Rattle.std.specs.Prelude.{◌≡◌, ℕ, List, Result, Ok, Err, Option, Some, None, ◌||◌, if◌then◌else◌}
 use Rattle.tla_token.specs.declared.place.Place.{Place}
 use Rattle.tla_token.specs.declared.token.Tokens.{Tokens}
 use Rattle.tla_tree.specs.Tree.{Tree, Word}
-use Rattle.tla_tree.specs.Pool.{Keeps}
 use Rattle.tla_tree.specs.Lexical.{TokenView, Token}
 use Rattle.tla_token.specs.declared.rule.Rule.{Rule}
 use Rattle.tla_token.specs.declared.rule.Rule.TheVariants.{TooDeep, Syntax}
 use Rattle.tla_tree.specs.Lexical as tk
 use Rattle.tla_tree.specs.declared.op.Op.{Op}
 use Rattle.tla_tree.specs.Spelling.{Phrase, last, more, prefix_of, set_of, name}
-use Rattle.tla_tree.specs.Reader.{Out, Room, Reader, Readers, free, behind, from_name, brace_rest, member_rest, square_rest, square_member, ◌>>=◌, gives, ended, next, is_mark, is_key, peek, room, keyed, primary, element}
-use Rattle.tla_tree.specs.Whole.{whole}
+use Rattle.tla_tree.specs.Reader.{Out, Room, Reader, Readers, free, behind, from_name, brace_rest, member_rest, square_rest, square_member, ◌>>=◌, gives, ended, is_mark, is_key, peek, element}
 use Rattle.expression_parts.specs.declared.cursor.Halt.{Halt}
 use Rattle.expression_parts.specs.declared.make.Read.{Read}
 use Rattle.tla_expr.specs.declared.read_element.Parted.{Parted}
 use Rattle.expression_parts.specs.declared.shape.Shape.{Shape}
-use Rattle.expression_parts.specs.declared.spot.Spot.{Spot}
-use Rattle.expression_parts.specs.ViewSeen.{key_seen}
-use Rattle.expression_parts.specs.ReadIn.{IsIn, MayBeIn, Fails, Told}
+use Rattle.expression_parts.specs.ReadIn.{IsIn, MayBeIn, Fails}
 use Rattle.expression_parts.specs.Ahead.{ahead}
-use Rattle.tla_expr.specs.HasRead.{HasRead, Stands}
 
 -- a short form under a prefix operator at a place
 abbrev pub under_short : Readers → ℕ → Place → Op → Reader Phrase
@@ -35,11 +28,6 @@ set_alone e p a = ended e tk.close_brace (λ s. set_of p (last a) s)
 -- and behind a comma
 abbrev pub set_before : Readers → ℕ → Place → Phrase → Place → Reader Phrase
 set_before d e p a q = d.phrases e >>= λ xs. ended e tk.close_brace (λ s. set_of p (more a q xs) s)
-
--- ---- by the first token
--- each number that is seen of the tokens is less than 2^127
-abbrev pub NumbersFit : Tokens → Type 0
-NumbersFit v = (i e n : ℕ) → (next e (ahead v i)).kind ≡ tk.number n → n < past_numbers
 
 -- ---- behind `x \in` after `{` or `[`
 -- the name, the set, and the element that it may be instead

@@ -1,6 +1,7 @@
 //! Expressions of TLA+: reading them from tokens, and writing their text.
 #![tactic(auto)]
 
+pub mod laws;
 pub mod on_next;
 pub mod read_arms;
 pub mod read_behind;
@@ -23,6 +24,7 @@ pub mod read_locals;
 pub mod read_member;
 pub mod read_name;
 pub mod read_open;
+pub mod read_parts;
 pub mod read_path;
 pub mod read_plain;
 pub mod read_primary;
@@ -37,4 +39,5 @@ pub mod read_squares;
 pub mod read_token;
 
 pub use read_expression::read_expr;
+pub use read_parts::{read_expression_at, read_expressions_at};
 pub use tla_write::{write_expr, write_operand};

@@ -7,7 +7,7 @@ ghost use Rattle.tla_token.specs.declared.token.Token as code_token;
 ghost use Rattle.tla_tree.specs.Pool.{at as tree_at, Keeps};
 ghost use Rattle.tla_tree.specs.FirstStop.{ReadsExpression, RefusesExpression};
 ghost use Rattle.expression_parts.specs.Ahead.{ahead};
-ghost use Rattle.tla_expr.specs.ReadForms.{NumbersFit};
+ghost use Rattle.tla_expr.specs.Numbers.{NumbersFit};
 
 use crate::read_knot::read_at;
 use expression_parts::cursor::Halt;

@@ -11,7 +11,7 @@ ghost use Rattle.expression_parts.specs.ShapeOf.{context_seen};
 ghost use Rattle.expression_parts.specs.ViewSeen.{mark_seen, key_seen};
 ghost use Rattle.expression_parts.specs.Ahead.{ahead};
 ghost use Rattle.tla_expr.specs.HasRead.{HasRead, CanRead, ReadsBelow, ReadsThere};
-ghost use Rattle.tla_expr.specs.ReadForms.{NumbersFit};
+ghost use Rattle.tla_expr.specs.Numbers.{NumbersFit};
 
 use crate::read_braces::braces;
 use crate::read_climb::climb;

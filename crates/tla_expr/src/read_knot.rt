@@ -3,7 +3,7 @@
 ghost use Rattle.std.specs.Prelude.{◌≡◌, ◌<◌, ◌≤◌, ◌+◌, ℕ, suc, length};
 ghost use Rattle.tla_token.specs.Limits.{deepest_expression};
 ghost use Rattle.tla_expr.specs.HasRead.{ReadsThere};
-ghost use Rattle.tla_expr.specs.ReadForms.{NumbersFit};
+ghost use Rattle.tla_expr.specs.Numbers.{NumbersFit};
 
 use crate::read_first::expression;
 use expression_parts::cursor::Halt;

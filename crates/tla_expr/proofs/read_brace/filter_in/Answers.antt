@@ -1,7 +1,6 @@
 -- Proves what is asked of `filter_in`.
-use Rattle.std.proofs.Common.{◌≤◌, arith, refl}
+use Rattle.std.proofs.Common.{arith, refl}
 use Rattle.tla_tree.specs.Spelling.{filter}
-use Rattle.tla_tree.proofs.PoolNumbers.{Keeps-then}
 use Rattle.expression_parts.proofs.MakeLemmas.{kept_in}
 use Rattle.tla_expr.proofs.ReadLemmas.{told_then, told_on}
 use Rattle.tla_expr.proofs.read_brace.filter_in.Goals as goal

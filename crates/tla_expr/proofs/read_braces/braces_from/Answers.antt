@@ -1,5 +1,5 @@
 -- Proves what is asked of `braces_from`.
-use Rattle.std.proofs.Common.{◌≤◌, suc, Some, arith}
+use Rattle.std.proofs.Common.{Some, arith}
 use Rattle.tla_tree.specs.Spelling.{no_set}
 use Rattle.tla_tree.specs.Reader.{next, room}
 use Rattle.tla_tree.specs.Whole.{whole}

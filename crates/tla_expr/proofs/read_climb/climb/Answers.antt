@@ -1,12 +1,9 @@
 -- Proves what is asked of `climb`.
-use Rattle.std.proofs.Common.{◌≡◌, ℕ, arith, refl, ap, sym, ◌∙◌, subst, Some}
-use Rattle.std.proofs.lemmas.Result.{err_from_is_err_and}
-use Rattle.tla_tree.specs.Spelling.{Phrase}
-use Rattle.tla_tree.specs.Reader.{Reader}
+use Rattle.std.proofs.Common.{arith, refl, Some}
 use Rattle.tla_tree.specs.Whole.{whole}
 use Rattle.tla_tree.proofs.PoolNumbers.{Keeps-then}
 use Rattle.expression_parts.specs.ShapeOf.{context_seen}
-use Rattle.tla_expr.proofs.ReadGrown.{same_pool, grown_on, grown_lost, grown_end}
+use Rattle.tla_expr.proofs.ReadGrown.{same_pool, grown_on}
 use Rattle.tla_expr.proofs.read_climb.climb.Goals as goal
 
 pub loop-b-init : goal.loop-b-init

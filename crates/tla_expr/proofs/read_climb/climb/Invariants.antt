@@ -1,5 +1,5 @@
 -- What the loop keeps: the expression so far goes on where reading is.
-use Rattle.std.proofs.Common.{◌<◌, ◌≤◌, ℕ, ◌-◌, length, Some}
+use Rattle.std.proofs.Common.{◌-◌, Some}
 use Rattle.tla_tree.specs.Pool.{Keeps}
 use Rattle.tla_tree.specs.Spelling.{Phrase}
 use Rattle.tla_tree.specs.Whole.{whole}

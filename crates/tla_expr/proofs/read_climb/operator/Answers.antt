@@ -1,5 +1,5 @@
 -- Proves what is asked of `operator`.
-use Rattle.std.proofs.Common.{◌≡◌, ◌<◌, ◌≤◌, ◌+◌, ◌-◌, ℕ, suc, drop, arith, refl, ap, sym, ◌∙◌, subst, Some}
+use Rattle.std.proofs.Common.{◌≡◌, ◌<◌, ◌≤◌, ◌-◌, ℕ, suc, drop, arith, ap, ◌∙◌, subst, Some}
 use Rattle.std.proofs.lemmas.Result.{err_from_is_err_and}
 use Rattle.tla_tree.specs.Nesting.{chain}
 use Rattle.tla_tree.specs.Spelling.{Phrase, infix_of}

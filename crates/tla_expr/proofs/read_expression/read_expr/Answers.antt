@@ -1,5 +1,4 @@
 -- Proves what is asked of `read_expr`.
-use Rattle.std.proofs.Common.{◌≡◌}
 use Rattle.tla_token.specs.declared.rule.Refusal.{Refusal}
 use Rattle.tla_tree.specs.FirstStop.{RefusesExpression}
 use Rattle.expression_parts.specs.Ahead.{ahead}

@@ -1,8 +1,5 @@
 -- How deep the reader calls itself: by how many forms may open.
-use Rattle.std.proofs.Common.{◌≡◌, ◌<◌, ◌≤◌, ◌+◌, ℕ, suc, length, ◌-◌, ◌*◌}
-use Rattle.tla_token.specs.Limits.{deepest_expression}
-use Rattle.tla_expr.specs.HasRead.{ReadsThere}
-use Rattle.tla_expr.specs.ReadForms.{NumbersFit}
+use Rattle.std.proofs.Common.{◌+◌}
 use Rattle.tla_expr.proofs.read_knot.+fn-read_at-inner+read_at.Given as goal
 
 abbrev pub decreases-inner : goal.decreases-inner

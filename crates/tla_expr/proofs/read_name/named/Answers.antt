@@ -1,5 +1,5 @@
 -- Proves what is asked of `named`.
-use Rattle.std.proofs.Common.{◌≤◌, arith}
+use Rattle.std.proofs.Common.{arith}
 use Rattle.tla_token.specs.TokensSeen.{span_bytes}
 use Rattle.tla_tree.specs.Spelling.{primed}
 use Rattle.tla_tree.specs.Reader.{next}

@@ -1,8 +1,7 @@
 -- Proves what is asked of `tuple_in`.
-use Rattle.std.proofs.Common.{◌≡◌, ◌≤◌, ◌+◌, ℕ, suc, true, false, arith, refl, ap, sym, ◌∙◌, subst, Some}
+use Rattle.std.proofs.Common.{arith, refl}
 use Rattle.tla_tree.specs.Spelling.{tuple}
 use Rattle.tla_tree.proofs.PoolNumbers.{Keeps-then}
-use Rattle.expression_parts.proofs.MakeLemmas.{kept_in}
 use Rattle.tla_expr.proofs.ReadLemmas.{told_then, told_on}
 use Rattle.tla_expr.proofs.read_plain.tuple_in.Goals as goal
 

@@ -1,5 +1,5 @@
 -- Proves what is asked of `bracket`.
-use Rattle.std.proofs.Common.{◌≡◌, ℕ, suc, ◌+◌, ◌≤◌, Some, arith, sym, subst}
+use Rattle.std.proofs.Common.{◌≡◌, suc, ◌+◌, ◌≤◌, Some, arith}
 use Rattle.tla_tree.specs.Whole.{whole}
 use Rattle.expression_parts.specs.Ahead.{ahead}
 use Rattle.tla_expr.specs.HasRead.{bracketed}

@@ -1,5 +1,5 @@
 -- Proves what is asked of `tuple_from`.
-use Rattle.std.proofs.Common.{◌≤◌, suc, arith}
+use Rattle.std.proofs.Common.{arith}
 use Rattle.tla_tree.specs.Spelling.{no_tuple}
 use Rattle.tla_tree.specs.Reader.{next}
 use Rattle.expression_parts.specs.Ahead.{ahead}

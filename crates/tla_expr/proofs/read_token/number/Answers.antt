@@ -1,5 +1,5 @@
 -- Proves what is asked of `number`.
-use Rattle.std.proofs.Common.{◌≡◌, ℕ, ◌≤◌, Some, List, arith, sym, ap}
+use Rattle.std.proofs.Common.{◌≤◌, Some, List, arith, sym, ap}
 use Rattle.tla_tree.specs.Lexical.{Token}
 use Rattle.tla_tree.specs.Spelling.{number}
 use Rattle.tla_tree.specs.Whole.{whole}

@@ -1,5 +1,5 @@
 -- Proves what is asked of `string`.
-use Rattle.std.proofs.Common.{[], unwrap_or, ◌≡◌, ℕ, ◌≤◌, Some, List, arith, sym, ap}
+use Rattle.std.proofs.Common.{[], unwrap_or, ◌≤◌, Some, List, arith, sym, ap}
 use Rattle.tla_token.specs.TokensSeen.{span_bytes}
 use Rattle.tla_token.specs.Lexemes.{unquoted}
 use Rattle.tla_tree.specs.Lexical.{Token}

@@ -1,0 +1,79 @@
+//! Reading what algorithms have of expressions: one from a token on, or a row of them.
+
+ghost use Rattle.std.specs.Prelude.{◌<◌, ◌≤◌, length, IfOk};
+ghost use Rattle.tla_token.specs.Limits.{deepest_expression};
+ghost use Rattle.tla_tree.specs.Pool.{AllBelow, Keeps};
+ghost use Rattle.tla_expr.specs.HasRead.{ReadsThere};
+ghost use Rattle.tla_expr.specs.Numbers.{NumbersFit};
+ghost use Rattle.tla_expr.specs.ReadTrees.{ReadsTree, ReadsTrees};
+
+use crate::read_knot::read_at;
+use crate::read_row::phrases;
+use expression_parts::cursor::Halt;
+use expression_parts::make::Read;
+use expression_parts::shape::Context;
+use expression_parts::spot::Spot;
+use std::alloc::Global;
+use tla_pool::Pool;
+use tla_token::Tokens;
+use tla_tree::NodeId;
+
+/// The expression that begins at a token, where so many forms may be open in it: its number in the pool, and the number of
+/// the first token that isn't in it.
+///
+/// # Errors
+///
+/// The rule of the first token that no expression has there, where those before it are none, or at which too many forms are
+/// open, and how many tokens are left from it on; or want of memory.
+pub fn read_expression_at(
+    alloc: Global,
+    tokens: &Tokens,
+    pool: &mut Pool,
+    at: usize,
+    left: u32,
+) -> Result<(NodeId, usize), Halt>
+    requires there { at ≤ length tokens.now.items.items }
+    requires numbers { NumbersFit tokens.now }
+    requires limited { left ≤ deepest_expression }
+    ensures read { ReadsTree tokens.now pool.new at left result }
+    ensures kept { Keeps pool.old pool.new }
+    ensures within { IfOk result (λ x. x.0 < length pool.new) }
+    ensures inside { IfOk result (λ x. x.1 ≤ length tokens.now.items.items) }
+    ensures further { IfOk result (λ x. at < x.1) }
+{
+    let s = Spot { at, edge: 0, left };
+    let (e, end) = read_at(alloc, tokens, pool, Context::Free, s)?;
+    Ok((e.id, end))
+}
+
+/// The expressions from a token on, with commas between them, in each of which so many forms may be open: their numbers in
+/// the pool, and the number of the first token that isn't in them.
+///
+/// # Errors
+///
+/// As of `read_expression_at`, for the first of them that is refused.
+pub fn read_expressions_at(
+    alloc: Global,
+    tokens: &Tokens,
+    pool: &mut Pool,
+    at: usize,
+    left: u32,
+) -> Result<(Vec<NodeId>, usize), Halt>
+    requires there { at ≤ length tokens.now.items.items }
+    requires numbers { NumbersFit tokens.now }
+    requires limited { left ≤ deepest_expression }
+    ensures read { ReadsTrees tokens.now pool.new at left result }
+    ensures kept { Keeps pool.old pool.new }
+    ensures some { IfOk result (λ x. 1 ≤ length x.0.items) }
+    ensures within { IfOk result (λ x. AllBelow (length pool.new) x.0.items) }
+    ensures inside { IfOk result (λ x. x.1 ≤ length tokens.now.items.items) }
+    ensures further { IfOk result (λ x. at < x.1) }
+{
+    let inner = |pool: &mut Pool, c: Context, t: Spot| -> Result<(Read, usize), Halt>
+        requires { (t.left ≤ deepest_expression) × (t.at ≤ length tokens.now.items.items) × NumbersFit tokens.now }
+        ensures { ReadsThere tokens.entry.now pool.old pool.new c t result }
+    { read_at(alloc, tokens, pool, c, t) };
+    let s = Spot { at, edge: 0, left };
+    let (many, end) = phrases(alloc, tokens, &inner, pool, s)?;
+    Ok((many.ids, end))
+}
