@@ -4,12 +4,12 @@ use expression_parts::cursor::look;
 use expression_parts::quote::unquoted;
 use expression_parts::view::View;
 use std::alloc::{AllocError, Global};
-use tla_expr::{write_expr, write_operand};
 use tla_pool::form::Form;
 use tla_pool::graft::{Grafting, grafted};
 use tla_pool::{Pool, Seen};
 use tla_token::{Place, tokens};
 use tla_tree::{Binder, Name, NameList, NodeId, Op, PlacedName, Text, rank};
+use tla_write::{write_expr, write_operand};
 
 #[test]
 fn ranks_of_the_book(rt: HostRuntime) {

@@ -1,4 +1,4 @@
-//! Tests of the crates below the top: rows whose answers come from outside, and each public call once where nothing fails.
+//! Tests of tokens, expressions in memory and values: rows whose answers come from outside, and calls that take memory, where nothing fails.
 #![tactic(auto)]
 
 #[cfg(test)]
@@ -6,8 +6,4 @@ mod expressions;
 #[cfg(test)]
 mod scanning;
 #[cfg(test)]
-mod splitting;
-#[cfg(test)]
 mod values;
-#[cfg(test)]
-mod writing;

@@ -11,12 +11,12 @@ use module_text::{
     write_module, write_region,
 };
 use std::alloc::{AllocError, Global};
-use tla_expr::write_expr;
 use tla_pool::Pool;
 use tla_pool::form::{Form, Strict};
 use tla_token::{Place, Span, Tokens};
 use tla_tree::{Binder, Name, NameList, NodeId, Op, Text};
 use tla_value::names::{Definition, Defs};
+use tla_write::write_expr;
 
 const PLACE: Place = Place { line: 1, col: 1 };
 

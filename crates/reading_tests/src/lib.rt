@@ -1,0 +1,16 @@
+//! Tests of the reader of expressions: texts with the expression that is read of each, or where and by which rule it is refused.
+#![tactic(auto)]
+
+#[cfg(test)]
+mod deep;
+#[cfg(test)]
+mod forms;
+#[cfg(test)]
+mod lists;
+pub mod numbers;
+#[cfg(test)]
+mod operators;
+#[cfg(test)]
+mod reading;
+#[cfg(test)]
+mod refused;

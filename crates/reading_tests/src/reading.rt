@@ -1,0 +1,73 @@
+//! What is read of a text: how many tokens its expression has and how that is written, or the refusal.
+
+ghost use Rattle.std.specs.Prelude.{◌<◌, length, IfOk};
+ghost use Rattle.tla_token.specs.Limits.{past_text};
+
+use crate::numbers::numbers_fit;
+use std::alloc::{AllocError, Global};
+use std::process::Abort;
+use tla_expr::{read_expr, write_expr};
+use tla_pool::Pool;
+use tla_token::{Reading, Stop, tokens_as};
+use tla_tree::{NodeId, Text};
+
+// The expression in front of a text, by its number, and how many tokens it has.
+fn read(alloc: Global, text: &[u8], pool: &mut Pool) -> Result<(NodeId, usize), Stop>
+    requires { length text.now < past_text }
+    ensures { IfOk result (λ x. x.0 < length pool.new) }
+{
+    let tokens = tokens_as(alloc, text, 0, text.len(), Reading::Read)?;
+    if numbers_fit(text, &tokens) {
+        read_expr(alloc, &tokens, 0, pool)
+    } else {
+        Err(Stop::Memory)
+    }
+}
+
+/// What is told of an expression that is read.
+#[derive(Clone, Copy, PartialEq, Eq)]
+pub enum Shown {
+    /// How many tokens it has.
+    Count,
+    /// That and its written text.
+    Tree,
+}
+
+/// What is read of a text, or its refusal.
+///
+/// # Errors
+///
+/// Only for want of memory.
+pub fn told(alloc: Global, text: &[u8], shown: Shown) -> Result<Text, AllocError> {
+    let mut pool = Pool::new(alloc);
+    let mut out = Text::new(Vec::new(alloc));
+    if text.len() > 10000 {
+        return Ok(out);
+    }
+    match read(alloc, text, &mut pool) {
+        Ok((e, n)) => {
+            out.extend(format!(in alloc; "{n} ")?.as_bytes())?;
+            if shown == Shown::Tree {
+                write_expr(alloc, &pool, e, &mut out)?;
+            }
+        }
+        Err(Stop::Refused(refusal)) => {
+            out.extend(format!(in alloc; "{refusal}")?.as_bytes())?;
+        }
+        Err(Stop::Memory) => out.push(b'-')?,
+    }
+    Ok(out)
+}
+
+/// Tells each text, and panics where it isn't told as is wanted.
+///
+/// # Errors
+///
+/// Only for want of memory.
+pub fn rows_hold(rt: &impl Abort, alloc: Global, rows: &[(&str, &str)]) -> Result<(), AllocError> {
+    for (text, wanted) in rows {
+        let shown = told(alloc, text.as_bytes(), Shown::Tree)?;
+        assert_eq!(rt; shown.bytes(), wanted.as_bytes(), "{text}");
+    }
+    Ok(())
+}
