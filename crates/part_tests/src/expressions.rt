@@ -1,5 +1,7 @@
 //! Expressions in memory: names, nodes of a pool, grafts, tokens as a reader sees them, and written text.
 
+ghost use Rattle.std.specs.Prelude.{◌<◌, length, IfOk};
+
 use expression_parts::cursor::look;
 use expression_parts::quote::unquoted;
 use expression_parts::view::View;
@@ -11,67 +13,89 @@ use tla_token::{Place, tokens};
 use tla_tree::{Binder, Name, NameList, NodeId, Op, PlacedName, Text, rank};
 use tla_write::{write_expr, write_operand};
 
-#[test]
-fn ranks_of_the_book(rt: HostRuntime) {
-    assert_eq!(rt; rank(Op::Plus), (10, 10));
-    assert_eq!(rt; rank(Op::Modulo), (10, 11));
-    assert_eq!(rt; rank(Op::Negate), (12, 12));
+// Operators with their ranks in the book's table.
+const RANKS: [(Op, u8, u8); 3] = [
+    (Op::Plus, 10, 10),
+    (Op::Modulo, 10, 11),
+    (Op::Negate, 12, 12),
+];
+
+fn ranks_are_of_the_book() -> bool {
+    RANKS
+        .iter()
+        .all(|(op, least, greatest)| rank(*op) == (*least, *greatest))
 }
 
-#[test]
-fn names_and_texts_are_kept(rt: HostRuntime) -> Result<(), AllocError> {
-    let mut names = NameList::new(rt.alloc());
-    names.push(Name::new(Vec::from_array(rt.alloc(), [120])?))?;
-    let other = Name::new(Vec::from_array(rt.alloc(), [121])?);
-    assert!(rt; !names.contains(&other));
+fn name(alloc: Global, letter: u8) -> Result<Name, AllocError> {
+    Ok(Name::new(Vec::from_array(alloc, [letter])?))
+}
+
+fn names_are_kept(alloc: Global) -> Result<bool, AllocError> {
+    let mut names = NameList::new(alloc);
+    names.push(name(alloc, 120)?)?;
+    let other = name(alloc, 121)?;
+    if names.contains(&other) {
+        return Ok(false);
+    }
     names.push(other.copied()?)?;
-    assert!(rt; names.contains(&other));
-    assert_eq!(rt; names.copied(rt.alloc())?.len(), 2);
-    let text = Text::new(Vec::from_array(rt.alloc(), [120, 121])?);
-    assert_eq!(rt; text.copied()?.bytes().len(), 2);
-    Ok(())
+    Ok(names.contains(&other) && names.copied(alloc)?.len() == 2)
 }
 
-#[test]
-fn a_copy_of_a_form_has_the_same_groups(rt: HostRuntime) -> Result<(), AllocError> {
-    let mut group = Vec::new(rt.alloc());
+fn texts_are_kept(alloc: Global) -> Result<bool, AllocError> {
+    let text = Text::new(Vec::from_array(alloc, [120, 121])?);
+    Ok(text.copied()?.bytes().len() == 2)
+}
+
+// `x, y` of one set.
+fn group(alloc: Global) -> Result<Vec<PlacedName>, AllocError> {
+    let mut group = Vec::new(alloc);
     for (letter, col) in [(120, 4), (121, 7)] {
         group.push(PlacedName {
-            name: Name::new(Vec::from_array(rt.alloc(), [letter])?),
+            name: name(alloc, letter)?,
             place: Place { line: 1, col },
         })?;
     }
-    let mut groups = Vec::new(rt.alloc());
-    groups.push(group)?;
-    let form = Form::Binding(Binder::Exists, groups).copied(rt.alloc())?;
-    assert!(rt;
-        matches!(&form, Form::Binding(Binder::Exists, groups) if groups.len() == 1 && groups[0].len() == 2)
-    );
-    Ok(())
+    Ok(group)
 }
 
-#[test]
-fn equal_trees_have_one_number(rt: HostRuntime) -> Result<(), AllocError> {
-    let alloc = rt.alloc();
-    let here = Place { line: 1, col: 1 };
-    let there = Place { line: 1, col: 2 };
+fn a_copy_of_a_form_has_the_same_groups(alloc: Global) -> Result<bool, AllocError> {
+    let mut groups = Vec::new(alloc);
+    groups.push(group(alloc)?)?;
+    let form = Form::Binding(Binder::Exists, groups);
+    match form.copied(alloc)? {
+        Form::Binding(Binder::Exists, groups) => Ok(groups.len() == 1 && groups[0].len() == 2),
+        _ => Ok(false),
+    }
+}
+
+const HERE: Place = Place { line: 1, col: 1 };
+
+const THERE: Place = Place { line: 1, col: 2 };
+
+fn one(alloc: Global, pool: &mut Pool, place: Place) -> Result<NodeId, AllocError>
+    ensures { IfOk result (λ e. e < length pool.new) }
+{
+    pool.put(Form::Number(1), place, Vec::new(alloc))
+}
+
+fn equal_trees_have_one_number(alloc: Global) -> Result<bool, AllocError> {
     let mut pool = Pool::new(alloc);
-    let first = pool.put(Form::Number(1), here, Vec::new(alloc))?;
-    let again = pool.put(Form::Number(1), here, Vec::new(alloc))?;
-    let elsewhere = pool.put(Form::Number(1), there, Vec::new(alloc))?;
-    assert_eq!(rt; first, again);
-    assert!(rt; first != elsewhere);
-    let whole = pool.put(
-        Form::Both,
-        here,
-        Vec::from_array(alloc, [first, elsewhere])?,
-    )?;
-    assert_eq!(rt; pool.len(), 3);
-    let seen = Seen::new(&pool, whole);
-    assert!(rt; matches!(seen.form(), Form::Both));
-    assert_eq!(rt; seen.len(), 2);
-    assert_eq!(rt; seen.part(1).place().col, 2);
-    Ok(())
+    let first = one(alloc, &mut pool, HERE)?;
+    let again = one(alloc, &mut pool, HERE)?;
+    let elsewhere = one(alloc, &mut pool, THERE)?;
+    Ok(first == again && first != elsewhere && pool.len() == 2)
+}
+
+fn parts_are_seen(alloc: Global) -> Result<bool, AllocError> {
+    let mut pool = Pool::new(alloc);
+    let first = one(alloc, &mut pool, HERE)?;
+    let other = one(alloc, &mut pool, THERE)?;
+    if first >= pool.len() {
+        return Ok(false);
+    }
+    let both = pool.put(Form::Both, HERE, Vec::from_array(alloc, [first, other])?)?;
+    let seen = Seen::new(&pool, both);
+    Ok(matches!(seen.form(), Form::Both) && seen.len() == 2 && seen.part(1).place().col == 2)
 }
 
 // One number of the pool for each name.
@@ -102,42 +126,51 @@ impl Grafting for Each {
     ghost stays = { λ g old new h k. (Prim.omega (arith, h, k.longer), λ j x at. Some (k.same g.by h j)) };
 }
 
-// As a tree the last one has 2^3000 names.
-#[test]
-fn a_graft_goes_to_each_number_once(rt: HostRuntime) -> Result<(), AllocError> {
-    let alloc = rt.alloc();
-    let place = Place { line: 1, col: 1 };
-    let mut pool = Pool::new(alloc);
-    let one = pool.put(Form::Number(1), place, Vec::new(alloc))?;
-    let x = Form::Name(Name::new(Vec::from_array(alloc, [120])?));
-    let mut last = pool.put(x, place, Vec::new(alloc))?;
+// As a tree it has 2^3000 names.
+fn doubled_names(alloc: Global, pool: &mut Pool) -> Result<NodeId, AllocError> {
+    let mut last = pool.put(Form::Name(name(alloc, 120)?), HERE, Vec::new(alloc))?;
     for _ in 0..3000 {
-        assert!(rt; last < pool.len());
-        last = pool.put(Form::Both, place, Vec::from_array(alloc, [last, last])?)?;
+        if last >= pool.len() {
+            break;
+        }
+        last = pool.put(Form::Both, HERE, Vec::from_array(alloc, [last, last])?)?;
     }
-    assert!(rt; last < pool.len() && one < pool.len());
-    let by = Each { by: one };
-    let ones = grafted(alloc, &mut pool, last, &by)?;
-    assert_eq!(rt; pool.len(), 6002);
-    assert_eq!(rt; grafted(alloc, &mut pool, ones, &by)?, ones);
-    assert_eq!(rt; pool.len(), 6002);
-    Ok(())
+    Ok(last)
 }
 
-#[test]
-fn strings_are_unquoted(rt: HostRuntime) -> Result<(), AllocError> {
-    let cases = [
-        ("", ""),
-        ("a b", "a b"),
-        ("\\\"\\\\x\\n", "\"\\x\n"),
-        ("\\q", ""),
-        ("a\\", ""),
-    ];
-    for (raw, wanted) in cases {
-        let text = unquoted(rt.alloc(), raw.as_bytes())?;
-        assert!(rt; text.bytes() == wanted.as_bytes());
+fn a_graft_goes_to_each_number_once(alloc: Global) -> Result<bool, AllocError> {
+    let mut pool = Pool::new(alloc);
+    let by = Each {
+        by: one(alloc, &mut pool, HERE)?,
+    };
+    let names = doubled_names(alloc, &mut pool)?;
+    if by.by >= pool.len() || names >= pool.len() {
+        return Ok(false);
     }
-    Ok(())
+    let ones = grafted(alloc, &mut pool, names, &by)?;
+    if pool.len() != 6002 || by.by >= pool.len() {
+        return Ok(false);
+    }
+    Ok(grafted(alloc, &mut pool, ones, &by)? == ones && pool.len() == 6002)
+}
+
+// What stands between quotes, and the text.
+const STRINGS: [(&str, &str); 5] = [
+    ("", ""),
+    ("a b", "a b"),
+    ("\\\"\\\\x\\n", "\"\\x\n"),
+    ("\\q", ""),
+    ("a\\", ""),
+];
+
+fn strings_are_unquoted(alloc: Global) -> Result<bool, AllocError> {
+    for (raw, wanted) in STRINGS {
+        let text = unquoted(alloc, raw.as_bytes())?;
+        if text.bytes() != wanted.as_bytes() {
+            return Ok(false);
+        }
+    }
+    Ok(true)
 }
 
 fn letter(view: View) -> u8 {
@@ -169,48 +202,69 @@ fn kinds(alloc: Global, text: &[u8], edge: u32) -> Result<Vec<u8>, AllocError> {
     Ok(out)
 }
 
-#[test]
-fn tokens_are_seen(rt: HostRuntime) -> Result<(), AllocError> {
-    let cases = [
-        ("IF x' \\notin do THEN -1", 0, "kwmsrksn"),
-        ("TRUE \"a\" CHOOSE WF_x := UNION", 0, "cqooms"),
-        ("a b\n c", 2, "owo"),
-        ("ab cd", 4, "oo"),
-    ];
-    for (text, edge, wanted) in cases {
-        assert_eq!(rt;
-            kinds(rt.alloc(), text.as_bytes(), edge)?.as_slice(),
-            wanted.as_bytes(),
-            "{text}"
-        );
+// A text, the column that its tokens are to be right of, and a letter for each.
+const SEEN: [(&str, u32, &str); 4] = [
+    ("IF x' \\notin do THEN -1", 0, "kwmsrksn"),
+    ("TRUE \"a\" CHOOSE WF_x := UNION", 0, "cqooms"),
+    ("a b\n c", 2, "owo"),
+    ("ab cd", 4, "oo"),
+];
+
+fn tokens_are_seen(alloc: Global) -> Result<bool, AllocError> {
+    for (text, edge, wanted) in SEEN {
+        if kinds(alloc, text.as_bytes(), edge)?.as_slice() != wanted.as_bytes() {
+            return Ok(false);
+        }
     }
-    Ok(())
+    Ok(true)
 }
 
-// What is written of a tree: as an expression, a bar, and as an operand.
-#[test]
-fn trees_are_written(rt: HostRuntime) -> Result<(), AllocError> {
-    let alloc = rt.alloc();
-    let place = Place { line: 1, col: 1 };
-    let mut pool = Pool::new(alloc);
+// A string with a quote, a backslash and a tab, `/\` and a number.
+fn sample(alloc: Global, pool: &mut Pool) -> Result<NodeId, AllocError>
+    ensures { IfOk result (λ e. e < length pool.new) }
+{
     let quote = Text::new(Vec::from_array(alloc, [97, 34, 92, 9])?);
-    let a = pool.put(Form::Quote(quote), place, Vec::new(alloc))?;
-    let b = pool.put(Form::Number(907), place, Vec::new(alloc))?;
-    assert!(rt; a < pool.len() && b < pool.len());
-    let both = pool.put(Form::Both, place, Vec::from_array(alloc, [a, b])?)?;
-    assert!(rt; a < pool.len() && b < pool.len() && both < pool.len());
-    let choice = pool.put(
-        Form::Choice,
-        place,
-        Vec::from_array(alloc, [both, b, both])?,
-    )?;
-    assert!(rt; both < pool.len() && choice < pool.len());
+    let a = pool.put(Form::Quote(quote), HERE, Vec::new(alloc))?;
+    let b = pool.put(Form::Number(907), HERE, Vec::new(alloc))?;
+    pool.put(Form::Both, HERE, Vec::from_array(alloc, [a, b])?)
+}
+
+const EXPRESSION: &str =
+    "IF \"a\\\"\\\\\\t\" /\\ 907 THEN \"a\\\"\\\\\\t\" /\\ 907 ELSE \"a\\\"\\\\\\t\" /\\ 907";
+
+fn expressions_are_written(alloc: Global) -> Result<bool, AllocError> {
+    let mut pool = Pool::new(alloc);
+    let both = sample(alloc, &mut pool)?;
+    let parts = Vec::from_array(alloc, [both, both, both])?;
+    let choice = pool.put(Form::Choice, HERE, parts)?;
     let mut text = Text::new(Vec::new(alloc));
     write_expr(alloc, &pool, choice, &mut text)?;
-    text.push(b'|')?;
+    Ok(text.bytes() == EXPRESSION.as_bytes())
+}
+
+const OPERAND: &str = "(\"a\\\"\\\\\\t\" /\\ 907)";
+
+fn operands_are_written(alloc: Global) -> Result<bool, AllocError> {
+    let mut pool = Pool::new(alloc);
+    let both = sample(alloc, &mut pool)?;
+    let mut text = Text::new(Vec::new(alloc));
     write_operand(alloc, &pool, both, &mut text)?;
-    let wanted =
-        b"IF \"a\\\"\\\\\\t\" /\\ 907 THEN 907 ELSE \"a\\\"\\\\\\t\" /\\ 907|(\"a\\\"\\\\\\t\" /\\ 907)";
-    assert!(rt; text.bytes() == wanted.as_slice());
+    Ok(text.bytes() == OPERAND.as_bytes())
+}
+
+#[test]
+fn expressions_are_as_wanted(rt: HostRuntime) -> Result<(), AllocError> {
+    let alloc = rt.alloc();
+    assert!(rt; ranks_are_of_the_book());
+    assert!(rt; names_are_kept(alloc)?);
+    assert!(rt; texts_are_kept(alloc)?);
+    assert!(rt; a_copy_of_a_form_has_the_same_groups(alloc)?);
+    assert!(rt; equal_trees_have_one_number(alloc)?);
+    assert!(rt; parts_are_seen(alloc)?);
+    assert!(rt; a_graft_goes_to_each_number_once(alloc)?);
+    assert!(rt; strings_are_unquoted(alloc)?);
+    assert!(rt; tokens_are_seen(alloc)?);
+    assert!(rt; expressions_are_written(alloc)?);
+    assert!(rt; operands_are_written(alloc)?);
     Ok(())
 }

@@ -25,118 +25,140 @@ fn name(alloc: Global, byte: u8) -> Result<Name, AllocError> {
     Ok(Name::new(Vec::from_array(alloc, [byte])?))
 }
 
-#[test]
-fn members_count_once_and_in_order(rt: HostRuntime) -> Result<(), EvalStop> {
-    let set = set_of(HERE, numbers(rt.alloc(), &[2, 1, 2, 1])?)?;
-    let ordered = set_of(HERE, numbers(rt.alloc(), &[1, 2])?)?;
-    assert!(rt; compare(&set, &ordered) == Ordering::Equal);
-    let tuple = seq_of(rt.alloc(), HERE, Vec::new(rt.alloc()))?;
-    assert!(rt; compare(&set, &tuple) == Ordering::Less);
-    Ok(())
+fn is_same(a: &Value, b: &Value) -> bool {
+    compare(a, b) == Ordering::Equal
 }
 
-#[test]
-fn a_set_is_searched(rt: HostRuntime) -> Result<(), EvalStop> {
-    let set = set_of(HERE, numbers(rt.alloc(), &[5, 3, 7])?)?;
-    if let Kind::Set(vs) = &set.kind {
-        assert!(rt; has(&vs.items, &Value::int(3)));
-        assert!(rt; !has(&vs.items, &Value::int(4)));
-    } else {
-        assert!(rt; false);
+fn members_count_once(alloc: Global) -> Result<bool, EvalStop> {
+    let set = set_of(HERE, numbers(alloc, &[2, 1, 2, 1])?)?;
+    let ordered = set_of(HERE, numbers(alloc, &[1, 2])?)?;
+    Ok(is_same(&set, &ordered))
+}
+
+fn sets_are_before_tuples(alloc: Global) -> Result<bool, EvalStop> {
+    let set = set_of(HERE, numbers(alloc, &[2])?)?;
+    let tuple = seq_of(alloc, HERE, Vec::new(alloc))?;
+    Ok(compare(&set, &tuple) == Ordering::Less)
+}
+
+fn has_three_alone(set: &Value) -> bool {
+    match &set.kind {
+        Kind::Set(vs) => has(&vs.items, &Value::int(3)) && !has(&vs.items, &Value::int(4)),
+        _ => false,
     }
-    Ok(())
 }
 
-#[test]
-fn a_tuple_gives_its_second_element(rt: HostRuntime) -> Result<(), EvalStop> {
-    let tuple = seq_of(rt.alloc(), HERE, numbers(rt.alloc(), &[5, 3])?)?;
-    if let Kind::Fun(ds, vs) = &tuple.kind {
-        let two = Value::int(2);
-        match at(&ds.items, &vs.items, &two) {
-            Some(v) => assert!(rt; compare(v, &Value::int(3)) == Ordering::Equal),
-            None => assert!(rt; false),
-        }
-        let zero = Value::int(0);
-        assert!(rt; at(&ds.items, &vs.items, &zero).is_none());
-    } else {
-        assert!(rt; false);
+fn a_set_is_searched(alloc: Global) -> Result<bool, EvalStop> {
+    let set = set_of(HERE, numbers(alloc, &[5, 3, 7])?)?;
+    Ok(has_three_alone(&set))
+}
+
+fn is_at(tuple: &Value, index: i128, wanted: i128) -> bool {
+    match &tuple.kind {
+        Kind::Fun(ds, vs) => match at(&ds.items, &vs.items, &Value::int(index)) {
+            Some(v) => is_same(v, &Value::int(wanted)),
+            None => false,
+        },
+        _ => false,
     }
-    Ok(())
 }
 
-#[test]
-fn a_value_is_put_in_its_place(rt: HostRuntime) -> Result<(), AllocError> {
-    let mut values = numbers(rt.alloc(), &[1, 3])?;
+fn a_tuple_gives_its_elements(alloc: Global) -> Result<bool, EvalStop> {
+    let tuple = seq_of(alloc, HERE, numbers(alloc, &[5, 3])?)?;
+    Ok(is_at(&tuple, 1, 5) && is_at(&tuple, 2, 3) && !is_at(&tuple, 0, 5))
+}
+
+fn a_value_is_put_in_its_place(alloc: Global) -> Result<bool, EvalStop> {
+    let mut values = numbers(alloc, &[1, 3])?;
     for n in [2, 4, 2] {
         put(&mut values, Value::int(n))?;
     }
-    assert_eq!(rt; values.len(), 4);
-    assert!(rt; compare(&values[1], &Value::int(2)) == Ordering::Equal);
-    assert!(rt; compare(&values[3], &Value::int(4)) == Ordering::Equal);
-    Ok(())
+    let wanted = numbers(alloc, &[1, 2, 3, 4])?;
+    let tuple = seq_of(alloc, HERE, values)?;
+    Ok(is_same(&tuple, &seq_of(alloc, HERE, wanted)?))
 }
 
-#[test]
-fn values_are_copied(rt: HostRuntime) -> Result<(), EvalStop> {
-    let mut values = Vec::new(rt.alloc());
+// A truth value, a string, a model value and a set.
+fn one_of_each(alloc: Global) -> Result<Vec<Value>, EvalStop> {
+    let mut values = Vec::new(alloc);
     values.push(Value::truth(true))?;
-    values.push(Value::text(name(rt.alloc(), 97)?))?;
-    values.push(Value::model(name(rt.alloc(), 98)?))?;
-    values.push(set_of(HERE, numbers(rt.alloc(), &[1, 2])?)?)?;
-    let copy = all_copied(rt.alloc(), &Values { items: values })?;
-    assert_eq!(rt; copy.items.len(), 3 + 1);
-    let tuple = seq_of(rt.alloc(), HERE, copy.items)?;
-    assert!(rt; compare(&copied(rt.alloc(), &tuple)?, &tuple) == Ordering::Equal);
-    assert_eq!(rt; depth_of(&tuple), 2);
-    Ok(())
+    values.push(Value::text(name(alloc, 97)?))?;
+    values.push(Value::model(name(alloc, 98)?))?;
+    values.push(set_of(HERE, numbers(alloc, &[1, 2])?)?)?;
+    Ok(values)
 }
 
-#[test]
-fn a_value_nested_too_deep_is_past_the_limits(rt: HostRuntime) -> Result<(), EvalStop> {
+fn values_are_copied(alloc: Global) -> Result<bool, EvalStop> {
+    let values = Values {
+        items: one_of_each(alloc)?,
+    };
+    let copy = all_copied(alloc, &values)?;
+    let tuple = seq_of(alloc, HERE, copy.items)?;
+    let other = seq_of(alloc, HERE, values.items)?;
+    Ok(is_same(&copied(alloc, &tuple)?, &other) && depth_of(&tuple) == 2)
+}
+
+fn nests_too_deep_at_last(alloc: Global) -> Result<bool, EvalStop> {
     let mut value = Value::int(1);
     for _ in 0..200 {
-        value = seq_of(rt.alloc(), HERE, Vec::from_array(rt.alloc(), [value])?)?;
+        value = seq_of(alloc, HERE, Vec::from_array(alloc, [value])?)?;
     }
-    let last = set_of(HERE, Vec::from_array(rt.alloc(), [value])?);
-    assert!(rt; matches!(last, Err(EvalStop::Limit(_))));
-    Ok(())
+    let last = set_of(HERE, Vec::from_array(alloc, [value])?);
+    Ok(matches!(last, Err(EvalStop::Limit(_))))
 }
 
-#[test]
-fn a_state_keeps_the_last_value(rt: HostRuntime) -> Result<(), AllocError> {
-    let mut state = State::new(rt.alloc());
-    for n in [1, 2] {
-        state.set(name(rt.alloc(), 120)?, Value::int(n))?;
-        state.set(name(rt.alloc(), 121)?, Value::int(n))?;
+fn a_state_keeps_the_last_value(alloc: Global) -> Result<bool, EvalStop> {
+    let mut state = State::new(alloc);
+    for (byte, n) in [(120, 1), (121, 1), (120, 2), (121, 2)] {
+        state.set(name(alloc, byte)?, Value::int(n))?;
     }
-    assert_eq!(rt; state.len(), 2);
-    match state.get(&name(rt.alloc(), 121)?) {
-        Some(v) => assert!(rt; compare(v, &Value::int(2)) == Ordering::Equal),
-        None => assert!(rt; false),
-    }
-    Ok(())
+    let y = name(alloc, 121)?;
+    let found = match state.get(&y) {
+        Some(v) => is_same(v, &Value::int(2)),
+        None => false,
+    };
+    Ok(found && state.len() == 2)
 }
 
-#[test]
-fn the_last_definition_of_a_name_is_found(rt: HostRuntime) -> Result<(), AllocError> {
-    let mut defs = Defs::new(rt.alloc());
+fn definition(alloc: Global, byte: u8, body: usize) -> Result<Definition, AllocError> {
+    Ok(Definition {
+        name: name(alloc, byte)?,
+        params: NameList::new(alloc),
+        body,
+        outside: true,
+        place: HERE,
+    })
+}
+
+fn the_last_definition_is_found(alloc: Global) -> Result<bool, EvalStop> {
+    let mut defs = Defs::new(alloc);
     for (byte, body) in [(120, 5), (121, 6), (120, 7)] {
-        defs.push(Definition {
-            name: name(rt.alloc(), byte)?,
-            params: NameList::new(rt.alloc()),
-            body,
-            outside: true,
-            place: HERE,
-        })?;
+        defs.push(definition(alloc, byte, body)?)?;
     }
     let instance = Instance {
-        constants: State::new(rt.alloc()),
+        constants: State::new(alloc),
         defs,
     };
-    let x = name(rt.alloc(), 120)?;
-    assert_eq!(rt; instance.defs.as_slice().len(), 3);
-    assert!(rt; matches!(instance.defs.latest(&x, 3), Some(2)));
-    assert!(rt; matches!(instance.defs.latest(&x, 2), Some(0)));
-    assert_eq!(rt; instance.constants.len(), 0);
+    if instance.defs.as_slice().len() != 3 {
+        return Ok(false);
+    }
+    let x = name(alloc, 120)?;
+    let all = instance.defs.latest(&x, 3);
+    let two = instance.defs.latest(&x, 2);
+    Ok(all == Some(2) && two == Some(0) && instance.constants.len() == 0)
+}
+
+#[test]
+fn values_are_as_wanted(rt: HostRuntime) -> Result<(), EvalStop> {
+    let alloc = rt.alloc();
+    assert!(rt; members_count_once(alloc)?);
+    assert!(rt; sets_are_before_tuples(alloc)?);
+    assert!(rt; a_set_is_searched(alloc)?);
+    assert!(rt; a_tuple_gives_its_elements(alloc)?);
+    assert!(rt; a_value_is_put_in_its_place(alloc)?);
+    assert!(rt; values_are_copied(alloc)?);
+    assert!(rt; nests_too_deep_at_last(alloc)?);
+    assert!(rt; a_state_keeps_the_last_value(alloc)?);
+    assert!(rt; the_last_definition_is_found(alloc)?);
     Ok(())
 }
