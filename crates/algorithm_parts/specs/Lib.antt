@@ -4,3 +4,4 @@ pub mod ReadSimple
 pub mod ReadAround
 pub mod ReadRoutines
 pub mod Owners
+pub mod PartsRead

@@ -1,2 +1,5 @@
 //! The parts that algorithms of both syntaxes are made of, read from tokens.
 #![tactic(auto)]
+
+pub mod colon;
+pub mod token_step;
