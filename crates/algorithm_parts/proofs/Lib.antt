@@ -37,3 +37,5 @@ pub mod StopsOf
 pub mod StopsWithin
 pub mod Lower
 pub mod OneAfter
+pub mod Gathered
+pub mod GatheredNames

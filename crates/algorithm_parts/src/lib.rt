@@ -2,4 +2,5 @@
 #![tactic(auto)]
 
 pub mod colon;
+pub mod names;
 pub mod token_step;

@@ -1,0 +1,122 @@
+-- Lists that code reads member by member: what was read goes before what is still to be read.
+use Rattle.std.proofs.Common.{◌≡◌, ℕ, zero, suc, ◌+◌, ◌<◌, ◌≤◌, List, [], ◌∷◌, ◌++◌, length, map, Ok, Err, refl, sym, ap, ◌∙◌, subst, arith, length-append}
+use Rattle.std.proofs.lemmas.List.{append_assoc, length-map, map-append}
+use Rattle.tla_token.specs.declared.token.Tokens.{Tokens}
+use Rattle.tla_tree.specs.Tree.{Tree}
+use Rattle.tla_tree.specs.Pool.{Keeps}
+use Rattle.tla_tree.specs.Reader.{Out, Reader, then_read, gives}
+use Rattle.expression_parts.specs.declared.cursor.Halt.{Halt}
+use Rattle.expression_parts.specs.declared.cursor.Halt.TheVariants as halt
+use Rattle.expression_parts.specs.ReadIn.{Reads, Fails}
+use Rattle.expression_parts.specs.Ahead.{ahead}
+use Rattle.pcal_tree.specs.InMemory.{past_each}
+use Rattle.pcal_tree.proofs.InMemoryGrown.{each_kept}
+use Rattle.pcal_tree.proofs.InMemoryEach.{past_one_more}
+use Rattle.algorithm_parts.specs.PartsRead.{steps_in, StandsFor}
+
+-- what is read, put after what was read
+abbrev pub put_after : {A B : Type 0} → (A → B) → Out A → Out B
+put_after f (Ok x) = Ok (f x.0, x.1)
+put_after f (Err s) = Err s
+
+pub gives_put : {A B : Type 0} (f : A → B) (o : Out A) → then_read o (λ a. gives (f a)) ≡ put_after f o
+gives_put f (Ok x) = refl
+gives_put f (Err s) = refl
+
+put_itself : {A : Type 0} (o : Out A) → o ≡ put_after (λ a. a) o
+put_itself (Ok x) = refl
+put_itself (Err s) = refl
+
+put_twice : {A B C : Type 0} (f : B → C) (g : A → B) (o : Out A) → put_after f (put_after g o) ≡ put_after (λ a. f (g a)) o
+put_twice f g (Ok x) = refl
+put_twice f g (Err s) = refl
+
+pub fails_put : {A B : Type 0} (e : Halt) (f : A → B) (o : Out A) → Fails e o → Fails e (put_after f o)
+fails_put halt.Memory f o h = tt
+fails_put (halt.Refused r n) f (Ok x) h = absurd h
+fails_put (halt.Refused r n) f (Err s) h = h
+
+-- a list that a reader reads with so many steps, from one token on: up to another these members were read, each in a step
+pub record SoFar {A T : Type 0} (read : ℕ → Reader A) (listed : A → List T) (v : Tokens) (from i : ℕ) (done : List T) : Type 0 where
+  pub steps : ℕ
+  pub enough : length v.items.items ≤ steps + i
+  pub count : steps + length done ≡ length v.items.items
+  pub before : A → A
+  pub is : read (steps_in v) (ahead v from) ≡ put_after before (read (suc steps) (ahead v i))
+  pub members : (a : A) → listed (before a) ≡ done ++ listed a
+
+-- so many steps are left after these members
+abbrev pub AreLeft : {T : Type 0} → Tokens → List T → ℕ → Type 0
+AreLeft v done n = n + length done ≡ length v.items.items
+
+module _ {A T : Type 0} (read : ℕ → Reader A) (listed : A → List T) (v : Tokens) where
+  pub none_so_far : (from : ℕ) → SoFar read listed v from from []
+  none_so_far from = record { steps = length v.items.items; enough = omega arith; count = omega arith; before = λ a. a; is = put_itself _; members = λ a. refl }
+
+  -- one more, where others follow
+  more_in : (from i j : ℕ) (done : List T) (d : T) (s : SoFar read listed v from i done) (n : ℕ) → s.steps ≡ n → i < j → j ≤ length v.items.items
+      → (cons : A → A) → ((n : ℕ) → AreLeft v done n → read (suc n) (ahead v i) ≡ put_after cons (read n (ahead v j))) → ((a : A) → listed (cons a) ≡ d ∷ listed a) → SoFar read listed v from j (done ++ d ∷ [])
+  more_in from i j done d s zero e l b cons round each = absurd (omega (arith, s.enough, e, l, b))
+  more_in from i j done d s (suc n) e l b cons round each = record {
+    steps = n;
+    enough = omega (arith, s.enough, e, l);
+    count = omega (arith, s.count, e, length-append done (d ∷ []));
+    before = λ a. s.before (cons a);
+    is = s.is ∙ ap (put_after s.before) (round s.steps s.count ∙ ap (λ k. put_after cons (read k (ahead v j))) e) ∙ put_twice s.before cons (read (suc n) (ahead v j));
+    members = λ a. s.members (cons a) ∙ ap (λ (l : List T). done ++ l) (each a) ∙ sym (append_assoc done (d ∷ []) (listed a));
+  }
+
+  pub one_more : (from i j : ℕ) (done : List T) (d : T) (s : SoFar read listed v from i done) → i < j → j ≤ length v.items.items
+      → (cons : A → A) → ((n : ℕ) → AreLeft v done n → read (suc n) (ahead v i) ≡ put_after cons (read n (ahead v j))) → ((a : A) → listed (cons a) ≡ d ∷ listed a) → SoFar read listed v from j (done ++ d ∷ [])
+  one_more from i j done d s = more_in from i j done d s s.steps refl
+
+  -- the last one
+  pub last_one : (from i j : ℕ) (done : List T) (d : T) (s : SoFar read listed v from i done) (last : A) → ((n : ℕ) → AreLeft v done n → read (suc n) (ahead v i) ≡ Ok (last, ahead v j)) → listed last ≡ d ∷ []
+      → Reads (λ a. done ++ d ∷ [] ≡ listed a) (ahead v j) (read (steps_in v) (ahead v from))
+  last_one from i j done d s last round each = record {
+    what = s.before last;
+    is = s.is ∙ ap (put_after s.before) (round s.steps s.count);
+    told = sym (s.members last ∙ ap (λ (l : List T). done ++ l) each);
+  }
+
+  -- where one is refused so is the list
+  pub one_fails : (from i : ℕ) (done : List T) (s : SoFar read listed v from i done) (e : Halt) → ((n : ℕ) → AreLeft v done n → Fails e (read (suc n) (ahead v i))) → Fails e (read (steps_in v) (ahead v from))
+  one_fails from i done s e h = subst (Fails e) (sym s.is) (fails_put e s.before _ (h s.steps s.count))
+
+-- ---- members in a pool that grows
+pub record InPool {A X T : Type 0} (read : ℕ → Reader A) (listed : A → List T) (stands : List Tree → X → T) (past : X → ℕ) (v : Tokens) (ts : List Tree) (from i : ℕ) (xs : List X) : Type 0 where
+  pub so_far : SoFar read listed v from i (map (stands ts) xs)
+  pub below : past_each (map past xs) ≤ length ts
+
+-- what numbers below stand for is kept
+abbrev pub StaysSame : {X T : Type 0} → (List Tree → X → T) → (X → ℕ) → List Tree → List Tree → Type 0
+StaysSame {X} stands past ts us = (x : X) → past x ≤ length ts → stands us x ≡ stands ts x
+
+module _ {A X T : Type 0} (read : ℕ → Reader A) (listed : A → List T) (stands : List Tree → X → T) (past : X → ℕ) (v : Tokens) where
+  pub none_in_pool : (ts : List Tree) (from : ℕ) (xs : List X) → xs ≡ [] → InPool read listed stands past v ts from from xs
+  none_in_pool ts from xs e = rw e (record { so_far = none_so_far read listed v from; below = omega arith })
+
+  grown : (ts us : List Tree) (xs : List X) → Keeps ts us → StaysSame stands past ts us → past_each (map past xs) ≤ length ts → map (stands ts) xs ≡ map (stands us) xs
+  grown ts us xs k same b = sym (each_kept ts us k (stands us) (stands ts) past same xs b)
+
+  one_below : (ts us : List Tree) (xs : List X) (x : X) → Keeps ts us → past_each (map past xs) ≤ length ts → past x ≤ length us → past_each (map past (xs ++ x ∷ [])) ≤ length us
+  one_below ts us xs x k b c = omega (arith, past_one_more past xs x, k.longer, b, c)
+
+  pub one_more_in_pool : (ts us : List Tree) (from i j : ℕ) (xs ys : List X) (x : X) → InPool read listed stands past v ts from i xs → Keeps ts us → StaysSame stands past ts us → past x ≤ length us → ys ≡ xs ++ x ∷ []
+      → i < j → j ≤ length v.items.items → (cons : A → A) → ((n : ℕ) → AreLeft v xs n → read (suc n) (ahead v i) ≡ put_after cons (read n (ahead v j))) → ((a : A) → listed (cons a) ≡ stands us x ∷ listed a)
+      → InPool read listed stands past v us from j ys
+  one_more_in_pool ts us from i j xs ys x s k same b e l c cons round each =
+      let now = subst (λ (l : List T). SoFar read listed v from i l) (grown ts us xs k same s.below) s.so_far in
+      let next = one_more read listed v from i j (map (stands us) xs) (stands us x) now l c cons (λ n h. round n (omega (arith, h, length-map xs (stands us)))) each in
+      rw e (record { so_far = subst (λ (l : List T). SoFar read listed v from j l) (sym (map-append (stands us) xs (x ∷ []))) next; below = one_below ts us xs x k s.below b })
+
+  pub last_in_pool : (ts us : List Tree) (from i j : ℕ) (xs ys : List X) (x : X) → InPool read listed stands past v ts from i xs → Keeps ts us → StaysSame stands past ts us → past x ≤ length us → ys ≡ xs ++ x ∷ []
+      → (last : A) → ((n : ℕ) → AreLeft v xs n → read (suc n) (ahead v i) ≡ Ok (last, ahead v j)) → listed last ≡ stands us x ∷ []
+      → Reads (StandsFor (λ ws l. map (stands ws) l) (λ l. past_each (map past l)) listed us ys) (ahead v j) (read (steps_in v) (ahead v from))
+  last_in_pool ts us from i j xs ys x s k same b e last round each =
+      let now = subst (λ (l : List T). SoFar read listed v from i l) (grown ts us xs k same s.below) s.so_far in
+      let all = last_one read listed v from i j (map (stands us) xs) (stands us x) now last (λ n h. round n (omega (arith, h, length-map xs (stands us)))) each in
+      rw e (record { what = all.what; is = all.is; told = record { below = one_below ts us xs x k s.below b; tree = map-append (stands us) xs (x ∷ []) ∙ all.told } })
+
+  pub one_fails_in_pool : (ts : List Tree) (from i : ℕ) (xs : List X) → InPool read listed stands past v ts from i xs → (e : Halt) → ((n : ℕ) → AreLeft v xs n → Fails e (read (suc n) (ahead v i))) → Fails e (read (steps_in v) (ahead v from))
+  one_fails_in_pool ts from i xs s e h = one_fails read listed v from i (map (stands ts) xs) s.so_far e (λ n g. h n (omega (arith, g, length-map xs (stands ts))))
