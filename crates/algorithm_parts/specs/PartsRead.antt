@@ -1,16 +1,22 @@
 -- What code that reads a part of an algorithm gives, beside what the part's reader gives of the same tokens.
-use Rattle.std.specs.Prelude.{◌≡◌, ℕ, suc, ◌*◌, ◌≤◌, List, length, Vec, Result}
+use Rattle.std.specs.Prelude.{◌≡◌, ℕ, suc, ◌*◌, ◌≤◌, Bool, ◌&&◌, List, length, Vec, Result, Option, is_some}
 use Rattle.std.specs.declared.alloc.Global.{Global}
 use Rattle.tla_token.specs.declared.token.Tokens.{Tokens}
-use Rattle.tla_tree.specs.Tree.{Tree}
-use Rattle.tla_tree.specs.Reader.{Out}
+use Rattle.tla_tree.specs.Tree.{Tree, Trees, Name}
+use Rattle.tla_tree.specs.Lexical.{Token}
+use Rattle.tla_tree.specs.Pool.{trees_at}
+use Rattle.tla_tree.specs.Reader.{Out, Reader, ◌>>=◌, gives}
 use Rattle.expression_parts.specs.declared.cursor.Halt.{Halt}
 use Rattle.expression_parts.specs.ReadIn.{Told}
 use Rattle.expression_parts.specs.Ahead.{ahead}
 use Rattle.pcal_tree.specs.declared.mark.Mark.{Mark}
 use Rattle.pcal_tree.specs.declared.mark.Mark.TheVariants as fair
-use Rattle.pcal_tree.specs.GrammarParts.{Colon, colon, colon_plus, colon_minus}
-use Rattle.algorithm_parts.specs.TokenReaders.{Parts, limited_parts}
+use Rattle.pcal_tree.specs.declared.algorithm.Declaration.{Declaration}
+use Rattle.pcal_tree.specs.InMemory.{past_numbers, declarations_at, past_declarations}
+use Rattle.pcal_tree.specs.Algorithm as tree
+use Rattle.pcal_tree.specs.GrammarParts.{Colon, colon, colon_plus, colon_minus, Initial, declaration, Separator}
+use Rattle.algorithm_parts.specs.TokenReaders.{name_of, a_name, Parts, limited_parts}
+use Rattle.algorithm_parts.specs.ReadParts.{read_initial}
 
 -- ---- the readers, as reading a text of these tokens has them: within the limits of open forms, with steps enough for all of them
 abbrev pub parts_in : Tokens → Parts
@@ -45,3 +51,28 @@ itself a = a
 
 abbrev pub items_of : {A : Type 0} → Vec A Global → List A
 items_of xs = xs.items
+
+-- expressions in a row
+abbrev pub row_at : List Tree → Vec ℕ Global → Trees
+row_at ts es = trees_at ts es.items
+
+abbrev pub past_row : Vec ℕ Global → ℕ
+past_row es = past_numbers es.items
+
+-- declarations
+abbrev pub all_declared_at : List Tree → Vec Declaration Global → List tree.Declaration
+all_declared_at ts ds = declarations_at ts ds.items
+
+abbrev pub past_all_declared : Vec Declaration Global → ℕ
+past_all_declared ds = past_declarations ds.items
+
+-- a name with its first value
+abbrev pub first_declared : Name × Initial → tree.Declaration
+first_declared x = declaration x.0 x.1
+
+abbrev pub declaration_reader : Bool → Parts → Reader (Name × Initial)
+declaration_reader b m = a_name >>= λ x. read_initial b m >>= λ i. gives (x, i)
+
+-- a separator, and a name is the token behind it
+abbrev pub is_another : Option Separator → Token → Bool
+is_another s t = is_some s && is_some (name_of t.place t.kind)

@@ -5,9 +5,10 @@ ghost use Rattle.tla_tree.specs.Reader as reader;
 ghost use Rattle.expression_parts.specs.ReadIn.{Reads};
 ghost use Rattle.expression_parts.specs.Ahead.{ahead};
 ghost use Rattle.algorithm_parts.specs.ReadParts.{read_colon as colon_reader, read_semicolon as semicolon_reader, read_separator as separator_reader};
-ghost use Rattle.algorithm_parts.specs.PartsRead.{ReadsWords, mark_of, itself};
+ghost use Rattle.algorithm_parts.specs.TokenReaders.{first};
+ghost use Rattle.algorithm_parts.specs.PartsRead.{ReadsWords, mark_of, itself, is_another};
 
-use crate::token_step::{after_mark, behind, next_token, past_mark};
+use crate::token_step::{after_mark, behind, is_next_name, next_token, past_mark};
 use expression_parts::cursor::{Halt, is_sign};
 use expression_parts::view::Mark;
 use pcal_tree::mark;
@@ -63,4 +64,15 @@ pub fn past_separator(tokens: &Tokens, at: usize) -> (bool, usize)
     } else {
         (false, at)
     }
+}
+
+/// Past a `;` or `,`, if it is next: whether it was, and a name is behind it.
+pub fn past_separator_to_name(tokens: &Tokens, at: usize) -> (bool, usize)
+    requires { at ≤ length tokens.now.items.items }
+    ensures read { Reads (λ s. is_another s (first (ahead tokens.now result.1)) ≡ result.0) (ahead tokens.now result.1) (separator_reader (ahead tokens.now at)) }
+    ensures inside { result.1 ≤ length tokens.now.items.items }
+    ensures no_less { at ≤ result.1 }
+{
+    let (separated, next) = past_separator(tokens, at);
+    (separated && is_next_name(tokens, next), next)
 }

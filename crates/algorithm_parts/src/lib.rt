@@ -2,5 +2,7 @@
 #![tactic(auto)]
 
 pub mod colon;
+pub mod expression;
 pub mod names;
 pub mod token_step;
+pub mod variables;
