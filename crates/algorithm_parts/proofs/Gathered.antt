@@ -4,7 +4,7 @@ use Rattle.std.proofs.lemmas.List.{append_assoc, length-map, map-append}
 use Rattle.tla_token.specs.declared.token.Tokens.{Tokens}
 use Rattle.tla_tree.specs.Tree.{Tree}
 use Rattle.tla_tree.specs.Pool.{Keeps}
-use Rattle.tla_tree.specs.Reader.{Out, Reader, then_read, gives}
+use Rattle.tla_tree.specs.Reader.{Out, Reader, ◌>>=◌, then_read, gives}
 use Rattle.expression_parts.specs.declared.cursor.Halt.{Halt}
 use Rattle.expression_parts.specs.declared.cursor.Halt.TheVariants as halt
 use Rattle.expression_parts.specs.ReadIn.{Reads, Fails}
@@ -35,6 +35,20 @@ pub fails_put : {A B : Type 0} (e : Halt) (f : A → B) (o : Out A) → Fails e 
 fails_put halt.Memory f o h = tt
 fails_put (halt.Refused r n) f (Ok x) h = absurd h
 fails_put (halt.Refused r n) f (Err s) h = h
+
+pub fails_then : {A B : Type 0} (e : Halt) (o : Out A) (f : A → Reader B) → Fails e o → Fails e (then_read o f)
+fails_then halt.Memory o f h = tt
+fails_then (halt.Refused r n) (Ok x) f h = absurd h
+fails_then (halt.Refused r n) (Err s) f h = h
+
+-- two that are read one after the other, as a pair
+pair_on : {A B C : Type 0} (a : A) (o : Out B) (f : A → B → Reader C) → then_read o (f a) ≡ then_read {A = A × B} (then_read o (λ b. gives (a, b))) (λ z. f z.0 z.1)
+pair_on a (Ok x) f = refl
+pair_on a (Err s) f = refl
+
+pub as_pair : {A B C : Type 0} (o : Out A) (g : A → Reader B) (f : A → B → Reader C) → then_read o (λ a. g a >>= f a) ≡ then_read {A = A × B} (then_read o (λ a. g a >>= λ b. gives (a, b))) (λ z. f z.0 z.1)
+as_pair (Ok x) g f = pair_on x.0 (g x.0 x.1) f
+as_pair (Err s) g f = refl
 
 -- a list that a reader reads with so many steps, from one token on: up to another these members were read, each in a step
 pub record SoFar {A T : Type 0} (read : ℕ → Reader A) (listed : A → List T) (v : Tokens) (from i : ℕ) (done : List T) : Type 0 where
@@ -88,6 +102,18 @@ pub record InPool {A X T : Type 0} (read : ℕ → Reader A) (listed : A → Lis
   pub so_far : SoFar read listed v from i (map (stands ts) xs)
   pub below : past_each (map past xs) ≤ length ts
 
+-- after so many members one more goes before the rest, which is read from there on
+pub record GoesOn {A T : Type 0} (read : ℕ → Reader A) (listed : A → List T) (v : Tokens) (k i j : ℕ) (d : T) : Type 0 where
+  pub cons : A → A
+  pub round : (n : ℕ) → n + k ≡ length v.items.items → read (suc n) (ahead v i) ≡ put_after cons (read n (ahead v j))
+  pub each : (a : A) → listed (cons a) ≡ d ∷ listed a
+
+-- or is the last one
+pub record EndsAt {A T : Type 0} (read : ℕ → Reader A) (listed : A → List T) (v : Tokens) (k i j : ℕ) (d : T) : Type 0 where
+  pub last : A
+  pub round : (n : ℕ) → n + k ≡ length v.items.items → read (suc n) (ahead v i) ≡ Ok (last, ahead v j)
+  pub alone : listed last ≡ d ∷ []
+
 -- what numbers below stand for is kept
 abbrev pub StaysSame : {X T : Type 0} → (List Tree → X → T) → (X → ℕ) → List Tree → List Tree → Type 0
 StaysSame {X} stands past ts us = (x : X) → past x ≤ length ts → stands us x ≡ stands ts x
@@ -103,20 +129,18 @@ module _ {A X T : Type 0} (read : ℕ → Reader A) (listed : A → List T) (sta
   one_below ts us xs x k b c = omega (arith, past_one_more past xs x, k.longer, b, c)
 
   pub one_more_in_pool : (ts us : List Tree) (from i j : ℕ) (xs ys : List X) (x : X) → InPool read listed stands past v ts from i xs → Keeps ts us → StaysSame stands past ts us → past x ≤ length us → ys ≡ xs ++ x ∷ []
-      → i < j → j ≤ length v.items.items → (cons : A → A) → ((n : ℕ) → AreLeft v xs n → read (suc n) (ahead v i) ≡ put_after cons (read n (ahead v j))) → ((a : A) → listed (cons a) ≡ stands us x ∷ listed a)
-      → InPool read listed stands past v us from j ys
-  one_more_in_pool ts us from i j xs ys x s k same b e l c cons round each =
+      → i < j → j ≤ length v.items.items → GoesOn read listed v (length xs) i j (stands us x) → InPool read listed stands past v us from j ys
+  one_more_in_pool ts us from i j xs ys x s k same b e l c g =
       let now = subst (λ (l : List T). SoFar read listed v from i l) (grown ts us xs k same s.below) s.so_far in
-      let next = one_more read listed v from i j (map (stands us) xs) (stands us x) now l c cons (λ n h. round n (omega (arith, h, length-map xs (stands us)))) each in
+      let next = one_more read listed v from i j (map (stands us) xs) (stands us x) now l c g.cons (λ n h. g.round n (omega (arith, h, length-map xs (stands us)))) g.each in
       rw e (record { so_far = subst (λ (l : List T). SoFar read listed v from j l) (sym (map-append (stands us) xs (x ∷ []))) next; below = one_below ts us xs x k s.below b })
 
   pub last_in_pool : (ts us : List Tree) (from i j : ℕ) (xs ys : List X) (x : X) → InPool read listed stands past v ts from i xs → Keeps ts us → StaysSame stands past ts us → past x ≤ length us → ys ≡ xs ++ x ∷ []
-      → (last : A) → ((n : ℕ) → AreLeft v xs n → read (suc n) (ahead v i) ≡ Ok (last, ahead v j)) → listed last ≡ stands us x ∷ []
-      → Reads (StandsFor (λ ws l. map (stands ws) l) (λ l. past_each (map past l)) listed us ys) (ahead v j) (read (steps_in v) (ahead v from))
-  last_in_pool ts us from i j xs ys x s k same b e last round each =
+      → EndsAt read listed v (length xs) i j (stands us x) → Reads (StandsFor (λ ws l. map (stands ws) l) (λ l. past_each (map past l)) listed us ys) (ahead v j) (read (steps_in v) (ahead v from))
+  last_in_pool ts us from i j xs ys x s k same b e g =
       let now = subst (λ (l : List T). SoFar read listed v from i l) (grown ts us xs k same s.below) s.so_far in
-      let all = last_one read listed v from i j (map (stands us) xs) (stands us x) now last (λ n h. round n (omega (arith, h, length-map xs (stands us)))) each in
+      let all = last_one read listed v from i j (map (stands us) xs) (stands us x) now g.last (λ n h. g.round n (omega (arith, h, length-map xs (stands us)))) g.alone in
       rw e (record { what = all.what; is = all.is; told = record { below = one_below ts us xs x k s.below b; tree = map-append (stands us) xs (x ∷ []) ∙ all.told } })
 
-  pub one_fails_in_pool : (ts : List Tree) (from i : ℕ) (xs : List X) → InPool read listed stands past v ts from i xs → (e : Halt) → ((n : ℕ) → AreLeft v xs n → Fails e (read (suc n) (ahead v i))) → Fails e (read (steps_in v) (ahead v from))
+  pub one_fails_in_pool : (ts : List Tree) (from i : ℕ) (xs : List X) → InPool read listed stands past v ts from i xs → (e : Halt) → ((n : ℕ) → n + length xs ≡ length v.items.items → Fails e (read (suc n) (ahead v i))) → Fails e (read (steps_in v) (ahead v from))
   one_fails_in_pool ts from i xs s e h = one_fails read listed v from i (map (stands ts) xs) s.so_far e (λ n g. h n (omega (arith, g, length-map xs (stands ts))))

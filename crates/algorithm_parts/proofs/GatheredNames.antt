@@ -7,17 +7,11 @@ use Rattle.tla_tree.specs.Lexical as tk
 use Rattle.tla_tree.specs.Reader.{Out, Reader, then_read, tail, is_mark}
 use Rattle.tla_tree.proofs.SoundTokens.{mark_is}
 use Rattle.expression_parts.specs.declared.cursor.Halt.{Halt}
-use Rattle.expression_parts.specs.declared.cursor.Halt.TheVariants as halt
 use Rattle.expression_parts.specs.ReadIn.{Fails}
 use Rattle.pcal_tree.specs.GrammarParts.{Names, last_name, more_names}
 use Rattle.algorithm_parts.specs.TokenReaders.{first, by_next, a_name}
 use Rattle.algorithm_parts.specs.ReadParts.{read_names, names_by}
-use Rattle.algorithm_parts.proofs.Gathered.{put_after, gives_put}
-
-pub fails_then : {A B : Type 0} (e : Halt) (o : Out A) (f : A → Reader B) → Fails e o → Fails e (then_read o f)
-fails_then halt.Memory o f h = tt
-fails_then (halt.Refused r n) (Ok x) f h = absurd h
-fails_then (halt.Refused r n) (Err s) f h = h
+use Rattle.algorithm_parts.proofs.Gathered.{put_after, gives_put, fails_then}
 
 no_comma : (r : Reader Names) (x : Name) (p : Place) (k : TokenView) (us : List Token) → is_mark tk.comma k ≡ false → names_by r x p k us ≡ Ok (last_name x, us)
 no_comma r x p (tk.mark tk.comma) us h = (let no : true ≡ false = h in absurd cc)

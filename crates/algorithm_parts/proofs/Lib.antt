@@ -39,3 +39,4 @@ pub mod Lower
 pub mod OneAfter
 pub mod Gathered
 pub mod GatheredNames
+pub mod GatheredVariables

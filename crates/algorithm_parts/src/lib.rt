@@ -4,5 +4,6 @@
 pub mod colon;
 pub mod expression;
 pub mod names;
+pub mod parameters;
 pub mod token_step;
 pub mod variables;

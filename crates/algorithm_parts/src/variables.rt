@@ -71,3 +71,60 @@ pub fn read_declaration(
     let (start, end) = read_initial(alloc, tokens, pool, next, among)?;
     Ok((Declaration { name, start }, end))
 }
+
+/// `x, y = e; z \in S`: at least one variable; a last separator is allowed.
+///
+/// # Errors
+///
+/// As of `read_initial`.
+pub fn read_variables(
+    alloc: Global,
+    tokens: &Tokens,
+    pool: &mut Pool,
+    at: usize,
+    among: bool,
+) -> Result<(Vec<Declaration>, usize), Halt>
+    requires { at ≤ length tokens.now.items.items }
+    ensures read { ReadsPart all_declared_at past_all_declared declarations tokens.now pool.new result (variables_reader among (parts_in tokens.now) (steps_in tokens.now) (ahead tokens.now at)) }
+    ensures kept { Keeps pool.old pool.new }
+    ensures inside { IfOk result (λ x. x.1 ≤ length tokens.now.items.items) }
+    ensures further { IfOk result (λ x. at < x.1) }
+{
+    let mut list = Vec::new(alloc);
+    let mut from = at;
+    loop {
+        let (declaration, end) = read_declaration(alloc, tokens, pool, from, among)?;
+        list.push(declaration)?;
+        let (another, next) = past_separator_to_name(tokens, end);
+        if !another {
+            return Ok((list, next));
+        }
+        from = next;
+    }
+}
+
+/// The variables behind `variable` or `variables`; none where neither word is next.
+///
+/// # Errors
+///
+/// As of `read_initial`.
+pub fn read_section(
+    alloc: Global,
+    tokens: &Tokens,
+    pool: &mut Pool,
+    at: usize,
+    among: bool,
+) -> Result<(Vec<Declaration>, usize), Halt>
+    requires { at ≤ length tokens.now.items.items }
+    ensures read { ReadsPart all_declared_at past_all_declared declared tokens.now pool.new result (section_reader among (parts_in tokens.now) (steps_in tokens.now) (ahead tokens.now at)) }
+    ensures kept { Keeps pool.old pool.new }
+    ensures inside { IfOk result (λ x. x.1 ≤ length tokens.now.items.items) }
+    ensures further { IfOk result (λ x. at ≤ x.1) }
+{
+    if is_next_word(tokens, at, b"variable") || is_next_word(tokens, at, b"variables") {
+        let next = behind(tokens, at);
+        read_variables(alloc, tokens, pool, next, among)
+    } else {
+        Ok((Vec::new(alloc), at))
+    }
+}
