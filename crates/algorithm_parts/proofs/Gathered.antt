@@ -12,7 +12,7 @@ use Rattle.expression_parts.specs.Ahead.{ahead}
 use Rattle.pcal_tree.specs.InMemory.{past_each}
 use Rattle.pcal_tree.proofs.InMemoryGrown.{each_kept}
 use Rattle.pcal_tree.proofs.InMemoryEach.{past_one_more}
-use Rattle.algorithm_parts.specs.PartsRead.{steps_in, StandsFor}
+use Rattle.algorithm_parts.specs.PartsRead.{Enough, StandsFor}
 
 -- what is read, put after what was read
 abbrev pub put_after : {A B : Type 0} → (A → B) → Out A → Out B
@@ -51,76 +51,72 @@ as_pair (Ok x) g f = pair_on x.0 (g x.0 x.1) f
 as_pair (Err s) g f = refl
 
 -- a list that a reader reads with so many steps, from one token on: up to another these members were read, each in a step
-pub record SoFar {A T : Type 0} (read : ℕ → Reader A) (listed : A → List T) (v : Tokens) (from i : ℕ) (done : List T) : Type 0 where
+pub record SoFar {A T : Type 0} (read : ℕ → Reader A) (listed : A → List T) (v : Tokens) (all from i : ℕ) (done : List T) : Type 0 where
   pub steps : ℕ
   pub enough : length v.items.items ≤ steps + i
-  pub count : steps + length done ≡ length v.items.items
+  pub count : suc steps + length done ≡ all
   pub before : A → A
-  pub is : read (steps_in v) (ahead v from) ≡ put_after before (read (suc steps) (ahead v i))
+  pub is : read all (ahead v from) ≡ put_after before (read (suc steps) (ahead v i))
   pub members : (a : A) → listed (before a) ≡ done ++ listed a
 
--- so many steps are left after these members
-abbrev pub AreLeft : {T : Type 0} → Tokens → List T → ℕ → Type 0
-AreLeft v done n = n + length done ≡ length v.items.items
+-- one more member, which goes before the rest that is read from there on with a step less
+pub record GoesOn {A T : Type 0} (read : ℕ → Reader A) (listed : A → List T) (v : Tokens) (i j : ℕ) (d : T) (n : ℕ) : Type 0 where
+  pub cons : A → A
+  pub round : read (suc n) (ahead v i) ≡ put_after cons (read n (ahead v j))
+  pub each : (a : A) → listed (cons a) ≡ d ∷ listed a
+
+-- or the last one
+pub record EndsAt {A T : Type 0} (read : ℕ → Reader A) (listed : A → List T) (v : Tokens) (i j : ℕ) (d : T) (n : ℕ) : Type 0 where
+  pub last : A
+  pub round : read (suc n) (ahead v i) ≡ Ok (last, ahead v j)
+  pub alone : listed last ≡ d ∷ []
+
+-- with the steps that are left at a token, behind so many members
+abbrev pub WithSteps : Tokens → ℕ → ℕ → ℕ → (ℕ → Type 0) → Type 0
+WithSteps v all k i P = (n : ℕ) → suc n + k ≡ all → length v.items.items ≤ n + i → P n
 
 module _ {A T : Type 0} (read : ℕ → Reader A) (listed : A → List T) (v : Tokens) where
-  pub none_so_far : (from : ℕ) → SoFar read listed v from from []
-  none_so_far from = record { steps = length v.items.items; enough = omega arith; count = omega arith; before = λ a. a; is = put_itself _; members = λ a. refl }
+  pub none_so_far : (all from : ℕ) → Enough v from all → from ≤ length v.items.items → SoFar read listed v all from from []
+  none_so_far zero from h b = absurd (omega (arith, h, b))
+  none_so_far (suc n) from h b = record { steps = n; enough = omega (arith, h); count = omega arith; before = λ a. a; is = put_itself _; members = λ a. refl }
 
   -- one more, where others follow
-  more_in : (from i j : ℕ) (done : List T) (d : T) (s : SoFar read listed v from i done) (n : ℕ) → s.steps ≡ n → i < j → j ≤ length v.items.items
-      → (cons : A → A) → ((n : ℕ) → AreLeft v done n → read (suc n) (ahead v i) ≡ put_after cons (read n (ahead v j))) → ((a : A) → listed (cons a) ≡ d ∷ listed a) → SoFar read listed v from j (done ++ d ∷ [])
-  more_in from i j done d s zero e l b cons round each = absurd (omega (arith, s.enough, e, l, b))
-  more_in from i j done d s (suc n) e l b cons round each = record {
+  more_in : (all from i j : ℕ) (done : List T) (d : T) (s : SoFar read listed v all from i done) (n : ℕ) → s.steps ≡ n → i < j → j ≤ length v.items.items → GoesOn read listed v i j d s.steps → SoFar read listed v all from j (done ++ d ∷ [])
+  more_in all from i j done d s zero e l b g = absurd (omega (arith, s.enough, e, l, b))
+  more_in all from i j done d s (suc n) e l b g = record {
     steps = n;
     enough = omega (arith, s.enough, e, l);
     count = omega (arith, s.count, e, length-append done (d ∷ []));
-    before = λ a. s.before (cons a);
-    is = s.is ∙ ap (put_after s.before) (round s.steps s.count ∙ ap (λ k. put_after cons (read k (ahead v j))) e) ∙ put_twice s.before cons (read (suc n) (ahead v j));
-    members = λ a. s.members (cons a) ∙ ap (λ (l : List T). done ++ l) (each a) ∙ sym (append_assoc done (d ∷ []) (listed a));
+    before = λ a. s.before (g.cons a);
+    is = s.is ∙ ap (put_after s.before) (g.round ∙ ap (λ k. put_after g.cons (read k (ahead v j))) e) ∙ put_twice s.before g.cons (read (suc n) (ahead v j));
+    members = λ a. s.members (g.cons a) ∙ ap (λ (l : List T). done ++ l) (g.each a) ∙ sym (append_assoc done (d ∷ []) (listed a));
   }
 
-  pub one_more : (from i j : ℕ) (done : List T) (d : T) (s : SoFar read listed v from i done) → i < j → j ≤ length v.items.items
-      → (cons : A → A) → ((n : ℕ) → AreLeft v done n → read (suc n) (ahead v i) ≡ put_after cons (read n (ahead v j))) → ((a : A) → listed (cons a) ≡ d ∷ listed a) → SoFar read listed v from j (done ++ d ∷ [])
-  one_more from i j done d s = more_in from i j done d s s.steps refl
+  pub one_more : (all from i j : ℕ) (done : List T) (d : T) (s : SoFar read listed v all from i done) → i < j → j ≤ length v.items.items → WithSteps v all (length done) i (GoesOn read listed v i j d) → SoFar read listed v all from j (done ++ d ∷ [])
+  one_more all from i j done d s l b g = more_in all from i j done d s s.steps refl l b (g s.steps s.count s.enough)
 
   -- the last one
-  pub last_one : (from i j : ℕ) (done : List T) (d : T) (s : SoFar read listed v from i done) (last : A) → ((n : ℕ) → AreLeft v done n → read (suc n) (ahead v i) ≡ Ok (last, ahead v j)) → listed last ≡ d ∷ []
-      → Reads (λ a. done ++ d ∷ [] ≡ listed a) (ahead v j) (read (steps_in v) (ahead v from))
-  last_one from i j done d s last round each = record {
-    what = s.before last;
-    is = s.is ∙ ap (put_after s.before) (round s.steps s.count);
-    told = sym (s.members last ∙ ap (λ (l : List T). done ++ l) each);
-  }
+  pub last_one : (all from i j : ℕ) (done : List T) (d : T) (s : SoFar read listed v all from i done) → WithSteps v all (length done) i (EndsAt read listed v i j d) → Reads (λ a. done ++ d ∷ [] ≡ listed a) (ahead v j) (read all (ahead v from))
+  last_one all from i j done d s g =
+      let e = g s.steps s.count s.enough in
+      record { what = s.before e.last; is = s.is ∙ ap (put_after s.before) e.round; told = sym (s.members e.last ∙ ap (λ (l : List T). done ++ l) e.alone) }
 
   -- where one is refused so is the list
-  pub one_fails : (from i : ℕ) (done : List T) (s : SoFar read listed v from i done) (e : Halt) → ((n : ℕ) → AreLeft v done n → Fails e (read (suc n) (ahead v i))) → Fails e (read (steps_in v) (ahead v from))
-  one_fails from i done s e h = subst (Fails e) (sym s.is) (fails_put e s.before _ (h s.steps s.count))
+  pub one_fails : (all from i : ℕ) (done : List T) (s : SoFar read listed v all from i done) (e : Halt) → WithSteps v all (length done) i (λ n. Fails e (read (suc n) (ahead v i))) → Fails e (read all (ahead v from))
+  one_fails all from i done s e h = subst (Fails e) (sym s.is) (fails_put e s.before _ (h s.steps s.count s.enough))
 
 -- ---- members in a pool that grows
-pub record InPool {A X T : Type 0} (read : ℕ → Reader A) (listed : A → List T) (stands : List Tree → X → T) (past : X → ℕ) (v : Tokens) (ts : List Tree) (from i : ℕ) (xs : List X) : Type 0 where
-  pub so_far : SoFar read listed v from i (map (stands ts) xs)
+pub record InPool {A X T : Type 0} (read : ℕ → Reader A) (listed : A → List T) (stands : List Tree → X → T) (past : X → ℕ) (v : Tokens) (ts : List Tree) (all from i : ℕ) (xs : List X) : Type 0 where
+  pub so_far : SoFar read listed v all from i (map (stands ts) xs)
   pub below : past_each (map past xs) ≤ length ts
-
--- after so many members one more goes before the rest, which is read from there on
-pub record GoesOn {A T : Type 0} (read : ℕ → Reader A) (listed : A → List T) (v : Tokens) (k i j : ℕ) (d : T) : Type 0 where
-  pub cons : A → A
-  pub round : (n : ℕ) → n + k ≡ length v.items.items → read (suc n) (ahead v i) ≡ put_after cons (read n (ahead v j))
-  pub each : (a : A) → listed (cons a) ≡ d ∷ listed a
-
--- or is the last one
-pub record EndsAt {A T : Type 0} (read : ℕ → Reader A) (listed : A → List T) (v : Tokens) (k i j : ℕ) (d : T) : Type 0 where
-  pub last : A
-  pub round : (n : ℕ) → n + k ≡ length v.items.items → read (suc n) (ahead v i) ≡ Ok (last, ahead v j)
-  pub alone : listed last ≡ d ∷ []
 
 -- what numbers below stand for is kept
 abbrev pub StaysSame : {X T : Type 0} → (List Tree → X → T) → (X → ℕ) → List Tree → List Tree → Type 0
 StaysSame {X} stands past ts us = (x : X) → past x ≤ length ts → stands us x ≡ stands ts x
 
 module _ {A X T : Type 0} (read : ℕ → Reader A) (listed : A → List T) (stands : List Tree → X → T) (past : X → ℕ) (v : Tokens) where
-  pub none_in_pool : (ts : List Tree) (from : ℕ) (xs : List X) → xs ≡ [] → InPool read listed stands past v ts from from xs
-  none_in_pool ts from xs e = rw e (record { so_far = none_so_far read listed v from; below = omega arith })
+  pub none_in_pool : (ts : List Tree) (from : ℕ) (xs : List X) → xs ≡ [] → from ≤ length v.items.items → (all : ℕ) → Enough v from all → InPool read listed stands past v ts all from from xs
+  none_in_pool ts from xs e b all h = rw e (record { so_far = none_so_far read listed v all from h b; below = omega arith })
 
   grown : (ts us : List Tree) (xs : List X) → Keeps ts us → StaysSame stands past ts us → past_each (map past xs) ≤ length ts → map (stands ts) xs ≡ map (stands us) xs
   grown ts us xs k same b = sym (each_kept ts us k (stands us) (stands ts) past same xs b)
@@ -128,19 +124,19 @@ module _ {A X T : Type 0} (read : ℕ → Reader A) (listed : A → List T) (sta
   one_below : (ts us : List Tree) (xs : List X) (x : X) → Keeps ts us → past_each (map past xs) ≤ length ts → past x ≤ length us → past_each (map past (xs ++ x ∷ [])) ≤ length us
   one_below ts us xs x k b c = omega (arith, past_one_more past xs x, k.longer, b, c)
 
-  pub one_more_in_pool : (ts us : List Tree) (from i j : ℕ) (xs ys : List X) (x : X) → InPool read listed stands past v ts from i xs → Keeps ts us → StaysSame stands past ts us → past x ≤ length us → ys ≡ xs ++ x ∷ []
-      → i < j → j ≤ length v.items.items → GoesOn read listed v (length xs) i j (stands us x) → InPool read listed stands past v us from j ys
-  one_more_in_pool ts us from i j xs ys x s k same b e l c g =
-      let now = subst (λ (l : List T). SoFar read listed v from i l) (grown ts us xs k same s.below) s.so_far in
-      let next = one_more read listed v from i j (map (stands us) xs) (stands us x) now l c g.cons (λ n h. g.round n (omega (arith, h, length-map xs (stands us)))) g.each in
-      rw e (record { so_far = subst (λ (l : List T). SoFar read listed v from j l) (sym (map-append (stands us) xs (x ∷ []))) next; below = one_below ts us xs x k s.below b })
+  pub one_more_in_pool : (ts us : List Tree) (all from i j : ℕ) (xs ys : List X) (x : X) → InPool read listed stands past v ts all from i xs → Keeps ts us → StaysSame stands past ts us → past x ≤ length us → ys ≡ xs ++ x ∷ []
+      → i < j → j ≤ length v.items.items → WithSteps v all (length xs) i (GoesOn read listed v i j (stands us x)) → InPool read listed stands past v us all from j ys
+  one_more_in_pool ts us all from i j xs ys x s k same b e l c g =
+      let now = subst (λ (l : List T). SoFar read listed v all from i l) (grown ts us xs k same s.below) s.so_far in
+      let next = one_more read listed v all from i j (map (stands us) xs) (stands us x) now l c (λ n h. g n (omega (arith, h, length-map xs (stands us)))) in
+      rw e (record { so_far = subst (λ (l : List T). SoFar read listed v all from j l) (sym (map-append (stands us) xs (x ∷ []))) next; below = one_below ts us xs x k s.below b })
 
-  pub last_in_pool : (ts us : List Tree) (from i j : ℕ) (xs ys : List X) (x : X) → InPool read listed stands past v ts from i xs → Keeps ts us → StaysSame stands past ts us → past x ≤ length us → ys ≡ xs ++ x ∷ []
-      → EndsAt read listed v (length xs) i j (stands us x) → Reads (StandsFor (λ ws l. map (stands ws) l) (λ l. past_each (map past l)) listed us ys) (ahead v j) (read (steps_in v) (ahead v from))
-  last_in_pool ts us from i j xs ys x s k same b e g =
-      let now = subst (λ (l : List T). SoFar read listed v from i l) (grown ts us xs k same s.below) s.so_far in
-      let all = last_one read listed v from i j (map (stands us) xs) (stands us x) now g.last (λ n h. g.round n (omega (arith, h, length-map xs (stands us)))) g.alone in
-      rw e (record { what = all.what; is = all.is; told = record { below = one_below ts us xs x k s.below b; tree = map-append (stands us) xs (x ∷ []) ∙ all.told } })
+  pub last_in_pool : (ts us : List Tree) (all from i j : ℕ) (xs ys : List X) (x : X) → InPool read listed stands past v ts all from i xs → Keeps ts us → StaysSame stands past ts us → past x ≤ length us → ys ≡ xs ++ x ∷ []
+      → WithSteps v all (length xs) i (EndsAt read listed v i j (stands us x)) → Reads (StandsFor (λ ws l. map (stands ws) l) (λ l. past_each (map past l)) listed us ys) (ahead v j) (read all (ahead v from))
+  last_in_pool ts us all from i j xs ys x s k same b e g =
+      let now = subst (λ (l : List T). SoFar read listed v all from i l) (grown ts us xs k same s.below) s.so_far in
+      let whole = last_one read listed v all from i j (map (stands us) xs) (stands us x) now (λ n h. g n (omega (arith, h, length-map xs (stands us)))) in
+      rw e (record { what = whole.what; is = whole.is; told = record { below = one_below ts us xs x k s.below b; tree = map-append (stands us) xs (x ∷ []) ∙ whole.told } })
 
-  pub one_fails_in_pool : (ts : List Tree) (from i : ℕ) (xs : List X) → InPool read listed stands past v ts from i xs → (e : Halt) → ((n : ℕ) → n + length xs ≡ length v.items.items → Fails e (read (suc n) (ahead v i))) → Fails e (read (steps_in v) (ahead v from))
-  one_fails_in_pool ts from i xs s e h = one_fails read listed v from i (map (stands ts) xs) s.so_far e (λ n g. h n (omega (arith, g, length-map xs (stands ts))))
+  pub one_fails_in_pool : (ts : List Tree) (all from i : ℕ) (xs : List X) → InPool read listed stands past v ts all from i xs → (e : Halt) → WithSteps v all (length xs) i (λ n. Fails e (read (suc n) (ahead v i))) → Fails e (read all (ahead v from))
+  one_fails_in_pool ts all from i xs s e h = one_fails read listed v all from i (map (stands ts) xs) s.so_far e (λ n g. h n (omega (arith, g, length-map xs (stands ts))))

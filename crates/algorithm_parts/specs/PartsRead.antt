@@ -1,5 +1,5 @@
 -- What code that reads a part of an algorithm gives, beside what the part's reader gives of the same tokens.
-use Rattle.std.specs.Prelude.{◌≡◌, ℕ, suc, ◌*◌, ◌≤◌, Bool, ◌&&◌, List, length, Vec, Result, Option, is_some}
+use Rattle.std.specs.Prelude.{◌≡◌, ℕ, ◌+◌, ◌*◌, ◌<◌, ◌≤◌, Bool, ◌&&◌, List, length, Vec, Result, Option, is_some}
 use Rattle.std.specs.declared.alloc.Global.{Global}
 use Rattle.tla_token.specs.declared.token.Tokens.{Tokens}
 use Rattle.tla_tree.specs.Tree.{Tree, Trees, Name}
@@ -22,8 +22,9 @@ use Rattle.algorithm_parts.specs.ReadParts.{read_initial}
 abbrev pub parts_in : Tokens → Parts
 parts_in v = limited_parts (4 * length v.items.items)
 
-abbrev pub steps_in : Tokens → ℕ
-steps_in v = suc (length v.items.items)
+-- so many steps are enough from a token on: more than tokens that are left
+abbrev pub Enough : Tokens → ℕ → ℕ → Type 0
+Enough v i n = length v.items.items < n + i
 
 -- ---- the relation, one for all parts
 -- what was read stands for what is spelled: over the trees of the pool both have the same tree, and its numbers are of the pool

@@ -1,10 +1,10 @@
 //! Reading names with commas between them, and the parameters of macros.
 
-ghost use Rattle.std.specs.Prelude.{◌≡◌, ◌<◌, ◌≤◌, IfOk, length};
+ghost use Rattle.std.specs.Prelude.{◌≡◌, ℕ, ◌<◌, ◌≤◌, IfOk, length};
 ghost use Rattle.expression_parts.specs.Ahead.{ahead};
 ghost use Rattle.pcal_tree.specs.GrammarParts.{names_of, macro_names};
 ghost use Rattle.algorithm_parts.specs.ReadParts.{read_names as names_reader, read_macro_parameters as macro_parameters_reader};
-ghost use Rattle.algorithm_parts.specs.PartsRead.{ReadsWords, items_of, steps_in};
+ghost use Rattle.algorithm_parts.specs.PartsRead.{ReadsWords, items_of, Enough};
 
 use crate::token_step::{after_mark, past_mark, past_name};
 use expression_parts::cursor::Halt;
@@ -24,7 +24,7 @@ pub fn read_names(
     at: usize,
 ) -> Result<(Vec<PlacedName>, usize), Halt>
     requires { at ≤ length tokens.now.items.items }
-    ensures read { ReadsWords items_of names_of tokens.now result (names_reader (steps_in tokens.now) (ahead tokens.now at)) }
+    ensures read { (n : ℕ) → Enough tokens.now at n → ReadsWords items_of names_of tokens.now result (names_reader n (ahead tokens.now at)) }
     ensures inside { IfOk result (λ x. x.1 ≤ length tokens.now.items.items) }
     ensures further { IfOk result (λ x. at < x.1) }
 {
@@ -51,7 +51,7 @@ pub fn read_macro_parameters(
     at: usize,
 ) -> Result<(Vec<PlacedName>, usize), Halt>
     requires { at ≤ length tokens.now.items.items }
-    ensures read { ReadsWords items_of macro_names tokens.now result (macro_parameters_reader (steps_in tokens.now) (ahead tokens.now at)) }
+    ensures read { (n : ℕ) → Enough tokens.now at n → ReadsWords items_of macro_names tokens.now result (macro_parameters_reader n (ahead tokens.now at)) }
     ensures inside { IfOk result (λ x. x.1 ≤ length tokens.now.items.items) }
     ensures further { IfOk result (λ x. at ≤ x.1) }
 {

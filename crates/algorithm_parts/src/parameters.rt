@@ -1,11 +1,11 @@
 //! Reading the parameters of procedures, with their first values.
 
-ghost use Rattle.std.specs.Prelude.{◌≡◌, ◌<◌, ◌≤◌, IfOk, length};
+ghost use Rattle.std.specs.Prelude.{◌≡◌, ℕ, ◌<◌, ◌≤◌, IfOk, length};
 ghost use Rattle.tla_tree.specs.Pool.{Keeps};
 ghost use Rattle.expression_parts.specs.Ahead.{ahead};
 ghost use Rattle.pcal_tree.specs.GrammarParts.{parameters_of, procedure_declarations};
 ghost use Rattle.algorithm_parts.specs.ReadParts.{read_parameters as parameters_reader, read_procedure_parameters as procedure_parameters_reader};
-ghost use Rattle.algorithm_parts.specs.PartsRead.{ReadsPart, parts_in, steps_in, all_declared_at, past_all_declared};
+ghost use Rattle.algorithm_parts.specs.PartsRead.{ReadsPart, parts_in, Enough, all_declared_at, past_all_declared};
 
 use crate::token_step::{after_mark, past_mark};
 use crate::variables::read_declaration;
@@ -28,7 +28,7 @@ pub fn read_parameters(
     at: usize,
 ) -> Result<(Vec<Declaration>, usize), Halt>
     requires { at ≤ length tokens.now.items.items }
-    ensures read { ReadsPart all_declared_at past_all_declared parameters_of tokens.now pool.new result (parameters_reader (parts_in tokens.now) (steps_in tokens.now) (ahead tokens.now at)) }
+    ensures read { (n : ℕ) → Enough tokens.now at n → ReadsPart all_declared_at past_all_declared parameters_of tokens.now pool.new result (parameters_reader (parts_in tokens.now) n (ahead tokens.now at)) }
     ensures kept { Keeps pool.old pool.new }
     ensures inside { IfOk result (λ x. x.1 ≤ length tokens.now.items.items) }
     ensures further { IfOk result (λ x. at < x.1) }
@@ -57,16 +57,18 @@ pub fn read_procedure_parameters(
     at: usize,
 ) -> Result<(Vec<Declaration>, usize), Halt>
     requires { at ≤ length tokens.now.items.items }
-    ensures read { ReadsPart all_declared_at past_all_declared procedure_declarations tokens.now pool.new result (procedure_parameters_reader (parts_in tokens.now) (steps_in tokens.now) (ahead tokens.now at)) }
+    ensures read { (n : ℕ) → Enough tokens.now at n → ReadsPart all_declared_at past_all_declared procedure_declarations tokens.now pool.new result (procedure_parameters_reader (parts_in tokens.now) n (ahead tokens.now at)) }
     ensures kept { Keeps pool.old pool.new }
     ensures inside { IfOk result (λ x. x.1 ≤ length tokens.now.items.items) }
     ensures further { IfOk result (λ x. at ≤ x.1) }
 {
     let (_, at) = past_mark(tokens, at, Mark::OpenBracket)?;
-    if let Some(next) = after_mark(tokens, at, Mark::CloseBracket) {
-        return Ok((Vec::new(alloc), next));
+    match after_mark(tokens, at, Mark::CloseBracket) {
+        Some(next) => Ok((Vec::new(alloc), next)),
+        None => {
+            let (list, at) = read_parameters(alloc, tokens, pool, at)?;
+            let (_, at) = past_mark(tokens, at, Mark::CloseBracket)?;
+            Ok((list, at))
+        }
     }
-    let (list, at) = read_parameters(alloc, tokens, pool, at)?;
-    let (_, at) = past_mark(tokens, at, Mark::CloseBracket)?;
-    Ok((list, at))
 }

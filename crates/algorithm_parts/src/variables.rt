@@ -1,12 +1,12 @@
 //! Reading declarations: variables with their first values, and the parameters of procedures.
 
-ghost use Rattle.std.specs.Prelude.{◌≡◌, ◌<◌, ◌≤◌, IfOk, length};
+ghost use Rattle.std.specs.Prelude.{◌≡◌, ℕ, ◌<◌, ◌≤◌, IfOk, length};
 ghost use Rattle.tla_tree.specs.Pool.{Keeps};
 ghost use Rattle.expression_parts.specs.Ahead.{ahead};
 ghost use Rattle.pcal_tree.specs.InMemory.{start_at, past_start, declaration_at, past_declaration};
 ghost use Rattle.pcal_tree.specs.GrammarParts.{start_of, declarations, declared};
 ghost use Rattle.algorithm_parts.specs.ReadParts.{read_initial as initial_reader, read_variables as variables_reader, read_section as section_reader};
-ghost use Rattle.algorithm_parts.specs.PartsRead.{ReadsPart, parts_in, steps_in, all_declared_at, past_all_declared, first_declared, declaration_reader};
+ghost use Rattle.algorithm_parts.specs.PartsRead.{ReadsPart, parts_in, Enough, all_declared_at, past_all_declared, first_declared, declaration_reader};
 
 use crate::colon::past_separator_to_name;
 use crate::expression::read_expression;
@@ -85,7 +85,7 @@ pub fn read_variables(
     among: bool,
 ) -> Result<(Vec<Declaration>, usize), Halt>
     requires { at ≤ length tokens.now.items.items }
-    ensures read { ReadsPart all_declared_at past_all_declared declarations tokens.now pool.new result (variables_reader among (parts_in tokens.now) (steps_in tokens.now) (ahead tokens.now at)) }
+    ensures read { (n : ℕ) → Enough tokens.now at n → ReadsPart all_declared_at past_all_declared declarations tokens.now pool.new result (variables_reader among (parts_in tokens.now) n (ahead tokens.now at)) }
     ensures kept { Keeps pool.old pool.new }
     ensures inside { IfOk result (λ x. x.1 ≤ length tokens.now.items.items) }
     ensures further { IfOk result (λ x. at < x.1) }
@@ -116,7 +116,7 @@ pub fn read_section(
     among: bool,
 ) -> Result<(Vec<Declaration>, usize), Halt>
     requires { at ≤ length tokens.now.items.items }
-    ensures read { ReadsPart all_declared_at past_all_declared declared tokens.now pool.new result (section_reader among (parts_in tokens.now) (steps_in tokens.now) (ahead tokens.now at)) }
+    ensures read { (n : ℕ) → Enough tokens.now at n → ReadsPart all_declared_at past_all_declared declared tokens.now pool.new result (section_reader among (parts_in tokens.now) n (ahead tokens.now at)) }
     ensures kept { Keeps pool.old pool.new }
     ensures inside { IfOk result (λ x. x.1 ≤ length tokens.now.items.items) }
     ensures further { IfOk result (λ x. at ≤ x.1) }
