@@ -1,5 +1,5 @@
 -- A round of reading names with commas between them.
-use Rattle.std.proofs.Common.{◌≡◌, ℕ, suc, true, false, List, [], ◌∷◌, Ok, Err, refl, sym, ap, ◌∙◌}
+use Rattle.std.proofs.Common.{◌≡◌, ℕ, suc, true, false, List, Ok, refl, sym, ap, ◌∙◌}
 use Rattle.tla_token.specs.declared.place.Place.{Place}
 use Rattle.tla_token.specs.declared.token.Tokens.{Tokens}
 use Rattle.tla_tree.specs.Tree.{Name}

@@ -40,3 +40,4 @@ pub mod OneAfter
 pub mod Gathered
 pub mod GatheredNames
 pub mod GatheredVariables
+pub mod GatheredArguments

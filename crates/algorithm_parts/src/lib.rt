@@ -1,6 +1,7 @@
 //! The parts that algorithms of both syntaxes are made of, read from tokens.
 #![tactic(auto)]
 
+pub mod arguments;
 pub mod colon;
 pub mod expression;
 pub mod names;

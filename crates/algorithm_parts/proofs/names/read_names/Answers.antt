@@ -1,5 +1,5 @@
 -- Proves what is asked of `read_names`.
-use Rattle.std.proofs.Common.{◌≡◌, ◌++◌, ℕ, List, [], ◌∷◌, refl, sym, subst, arith}
+use Rattle.std.proofs.Common.{List, sym, subst, arith}
 use Rattle.std.proofs.lemmas.Result.{err_from_is_err_and}
 use Rattle.tla_tree.specs.Tree.{Name}
 use Rattle.pcal_tree.specs.GrammarParts.{names_of}

@@ -1,5 +1,5 @@
 -- Proves what is asked of `read_procedure_parameters`.
-use Rattle.std.proofs.Common.{ℕ, ◌≤◌, arith}
+use Rattle.std.proofs.Common.{arith}
 use Rattle.std.proofs.lemmas.Result.{err_from_is_err_and}
 use Rattle.algorithm_parts.specs.PartsRead.{parts_in}
 use Rattle.algorithm_parts.proofs.GatheredVariables.{unclosed}

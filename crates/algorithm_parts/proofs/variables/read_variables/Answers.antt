@@ -1,5 +1,5 @@
 -- Proves what is asked of `read_variables`.
-use Rattle.std.proofs.Common.{◌≡◌, ◌≤◌, ℕ, refl, ◌∙◌, arith, true, false}
+use Rattle.std.proofs.Common.{refl, arith}
 use Rattle.std.proofs.lemmas.Result.{err_from_is_err_and}
 use Rattle.tla_tree.proofs.PoolNumbers.{Keeps-then}
 use Rattle.expression_parts.specs.Ahead.{ahead}
