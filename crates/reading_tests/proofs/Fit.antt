@@ -14,7 +14,7 @@ use Rattle.tla_tree.specs.Reader.{next, end}
 use Rattle.tla_tree.specs.laws.Writable.{IsOfText, AreOfText, IsSmall, AreSmall}
 use Rattle.tla_tree.proofs.TextTokens.{text_tokens}
 use Rattle.expression_parts.specs.ReadIn.{seen}
-use Rattle.tla_expr.specs.ReadForms.{NumbersFit}
+use Rattle.tla_expr.specs.Numbers.{NumbersFit}
 use Rattle.reading_tests.specs.Small.{is_small, are_small}
 
 small_seen : (bytes : List ℕ) (k : Kind) → is_small k ≡ true → IsSmall (kind_seen bytes k)

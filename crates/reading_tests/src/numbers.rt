@@ -4,7 +4,7 @@ ghost use Rattle.std.specs.Prelude.{◌≡◌, length};
 ghost use Rattle.std.specs.Bool.{IsTrue};
 ghost use Rattle.tla_token.specs.Tokens.{Tok};
 ghost use Rattle.tla_token.specs.TokensSeen.{tokens_seen};
-ghost use Rattle.tla_expr.specs.ReadForms.{NumbersFit};
+ghost use Rattle.tla_expr.specs.Numbers.{NumbersFit};
 ghost use Rattle.reading_tests.specs.Small as small;
 
 use tla_token::{Kind, Token, Tokens};
