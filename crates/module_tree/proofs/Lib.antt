@@ -66,3 +66,5 @@ pub mod WrittenRegion
 pub mod First
 pub mod Braces
 pub mod AlgorithmEnds
+pub mod OnlyBeginnings
+pub mod PlacesAlike

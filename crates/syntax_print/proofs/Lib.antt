@@ -26,6 +26,7 @@ mod StatementCleanP
 mod StatementCleanC
 mod AlgorithmClean
 mod Followed
+mod Dashes
 mod Ended
 mod Beginning
 mod Rewriting

@@ -1,6 +1,7 @@
 //! Laws of printed algorithms, stated as what functions without a body ensure.
 
 ghost use Rattle.std.specs.Prelude.{◌≡◌, ℕ, List, [], Bool, true, false, length, drop, Some, Ok};
+ghost use Rattle.std.specs.List.{flat_map};
 ghost use Rattle.tla_token.specs.Tokens as text;
 ghost use Rattle.tla_token.specs.Tokens.{TokAlgorithm, holds_mark, stretch};
 ghost use Rattle.tla_token.specs.declared.place.Place.{Place};
@@ -16,10 +17,13 @@ ghost use Rattle.p_syntax.specs.ReadAlgorithm as p;
 ghost use Rattle.c_syntax.specs.ReadAlgorithm as c;
 ghost use Rattle.tla_tree.specs.laws.InText.{ends_word};
 ghost use Rattle.tla_tree.specs.laws.Writable.{AreSmall};
+ghost use Rattle.module_tree.specs.Walk.{walk};
+ghost use Rattle.module_tree.specs.FileOffences.{outside_region, options_in};
 ghost use Rattle.module_tree.specs.AlgorithmText.{AlgorithmText, algorithm_in, algorithm_tokens};
 ghost use Rattle.module_tree.specs.laws.Kept.{IsFine};
 ghost use Rattle.module_tree.specs.laws.Swaps.{is_paired};
 ghost use Rattle.syntax_print.specs.Rewritten.{gap, Rewritten};
+ghost use Rattle.syntax_print.specs.laws.BreaksFew.{BreaksFew};
 ghost use Rattle.syntax_print.specs.laws.HoldsPrinted.{HoldsPrinted};
 ghost use Rattle.syntax_print.specs.laws.Printable.{IsPrintable};
 
@@ -74,6 +78,14 @@ pub fn rewritten_files_hold_the_algorithm()
 /// And the tokens of the algorithm that is there are never refused by the rule of syntax (15), but at most since too many forms are open in one another (14).
 pub fn spelled_tokens_are_refused_for_depth_alone()
     ensures { (s : Syntax) (ts : List text.Token) (a : Algorithm) (end : Place) (r : Refusal) → Spells s ts a → RefusesTokens s ts end r → r.rule ≡ TooDeep }
+{}
+
+/// So where a file that breaks none of the rules 1 to 10 and 12 has an algorithm that opens and closes comments only within itself, the file with the
+/// algorithm printed in its place can break, of the rules 1 to 15, only that on options (10) and those on too much: too many tokens (13), and too many forms
+/// open in one another (14). The algorithm that stands in it is the same, places aside. And where no options begin in it, it breaks none of the rules 1 to 10 and 12.
+pub fn rewritten_files_break_few_rules()
+    ensures few { (s : Syntax) (x w : List ℕ) → IsFine x → (r : Rewritten s x w) → is_paired 0 (stretch x r.old.from r.old.rest.to) ≡ true → (h : HoldsPrinted s r.tree r.old.from w) × BreaksFew s w h.text }
+    ensures fine { (s : Syntax) (x w : List ℕ) → IsFine x → (r : Rewritten s x w) → is_paired 0 (stretch x r.old.from r.old.rest.to) ≡ true → flat_map (options_in w) (outside_region w (walk w)) ≡ [] → IsFine w }
 {}
 
 /// Rewritten once more, in the same or the other syntax, as long as it breaks none of these rules then, it holds the first file's algorithm, printed in that syntax.

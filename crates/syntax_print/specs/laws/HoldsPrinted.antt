@@ -8,7 +8,7 @@ use Rattle.pcal_tree.specs.Grammar.{Syntax, Spells}
 use Rattle.pcal_tree.specs.Printed.{Text, printed}
 use Rattle.module_tree.specs.Walk.{walk}
 use Rattle.module_tree.specs.FileParts.{module_end, beginnings}
-use Rattle.module_tree.specs.FileOffences.{algorithm_offences, offences_of, no_module, no_algorithm}
+use Rattle.module_tree.specs.FileOffences.{algorithm_offences, offences_of, no_module, no_algorithm, second_algorithms, placements}
 use Rattle.module_tree.specs.AlgorithmText.{AlgorithmText, algorithm_in, algorithm_tokens}
 
 -- the algorithm of w begins at this byte, its text is the printed one of this tree, and its tokens spell it, places aside
@@ -30,3 +30,6 @@ pub record HoldsPrinted (s : Syntax) (g : Algorithm) (from : ℕ) (w : Text) : T
   -- the module has its end, and the file an algorithm
   pub ended : no_module w (module_end (walk w)) ≡ []
   pub begun : no_algorithm (module_end (walk w)) (beginnings (walk w)) ≡ []
+  -- no second one begins, and there is a place for a translation
+  pub alone : second_algorithms (Some text) (beginnings (walk w)) ≡ []
+  pub placed : placements (walk w) ≡ []
