@@ -27,6 +27,7 @@ mod StatementCleanC
 mod AlgorithmClean
 mod Followed
 mod Dashes
+mod BraceBehind
 mod Ended
 mod Beginning
 mod Rewriting

@@ -15,6 +15,7 @@ use Rattle.tla_token.specs.Tokens as text
 use Rattle.tla_token.specs.Cut.{pieces}
 use Rattle.tla_token.specs.AlgorithmOffences.{number_offences, too_many_tokens, algorithm_offences as token_offences}
 use Rattle.tla_token.proofs.Unique.{sound_pieces}
+use Rattle.tla_tree.specs.Tree.{Name}
 use Rattle.tla_tree.specs.Lexical.{Token}
 use Rattle.tla_tree.specs.Spelling.{Right}
 use Rattle.pcal_tree.specs.Algorithm.{Algorithm}
@@ -43,10 +44,11 @@ use Rattle.module_tree.proofs.InsidePieces.{inside_pieces}
 use Rattle.module_tree.proofs.SwappedComment.{swapped_comment, swapped_begins}
 use Rattle.syntax_print.specs.Rewritten.{gap}
 use Rattle.syntax_print.specs.laws.Printable.{IsPrintable}
-use Rattle.syntax_print.specs.laws.HoldsPrinted.{HoldsPrinted}
+use Rattle.syntax_print.specs.laws.HoldsPrinted.{past_stage, HoldsPrinted}
 use Rattle.syntax_print.proofs.Chunks.{unmarked, small, later, seen, seen_is}
 use Rattle.syntax_print.proofs.WholeText.{BehindAt, behind_at, behind_front, needs, front_word}
-use Rattle.syntax_print.proofs.AlgorithmEnds.{ends_there}
+use Rattle.syntax_print.proofs.AlgorithmEnds.{ends_there, begins_brace, in_braces_in, braced}
+use Rattle.syntax_print.proofs.BraceBehind.{taken_for_c, stage_c, end_stage}
 use Rattle.syntax_print.proofs.ExprClean.{Clean}
 use Rattle.syntax_print.proofs.AlgorithmClean.{spelled_clean, none_left_out}
 use Rattle.syntax_print.proofs.Stages.{behind, Found, all_found}
@@ -73,6 +75,20 @@ tokens_end s a at x =
     ap (λ (b : Bool). behind (head (words_before b)) (seen (behind_front a.fair at) x.pieces)) (sym fair)
     ∙ head_ends f.head at (front_word a.fair) (grammar.name f.name rest) (seen (behind_front a.fair at) x.pieces) x.seen
     ∙ ends_there s f x.good
+
+-- a brace is behind its name in C-syntax alone
+head_braced : (h : Head) (p : Place) (w : List ℕ) (x : Name) (ts us : List Token) → grammar.word p w us ≡ head_tokens h (grammar.name x ts) → taken_for_c (head (words_before (is_fair_head h))) us ≡ begins_brace ts
+head_braced (algorithm a) p w x ts us e = (let same : us ≡ grammar.name x ts = cc in ap (taken_for_c (head 0)) same)
+head_braced (fair_algorithm a b) p w x ts us e = (let same : us ≡ grammar.key b (codes "algorithm") (grammar.name x ts) = cc in ap (taken_for_c (head 1)) same)
+
+braced_there : (s : Syntax) (a : Algorithm) (at : Place) (x : BehindAt s a at) → taken_for_c (head (words_before a.fair)) (seen (behind_front a.fair at) x.pieces) ≡ in_braces_in s
+braced_there s a at x =
+    let f = x.form in
+    let fair : is_fair_head f.head ≡ a.fair = ap (λ (a : Algorithm). a.fair) x.same in
+    let rest : List Token = around f.around (λ ts. grammar.section_tokens f.variables (g.define f.define (g.each g.macro f.macros (g.each g.procedure f.procedures (g.main f.main ts))))) [] in
+    ap (λ (b : Bool). taken_for_c (head (words_before b)) (seen (behind_front a.fair at) x.pieces)) (sym fair)
+    ∙ head_braced f.head at (front_word a.fair) f.name rest (seen (behind_front a.fair at) x.pieces) x.seen
+    ∙ braced s f x.good
 
 -- ---- places
 
@@ -199,6 +215,9 @@ module _ (s : Syntax) (a : Algorithm) (h : IsPrintable a) (w : Text) (n left : �
       sum : (n a b c : ℕ) → c ≡ a + b → n + a + b ≡ n + c
       sum n a b c e = omega arith
 
+  ended_there : there.rest.stage ≡ past_stage s
+  ended_there = end_stage s there.rest.stage found.past (stage_c state behind_word (behind_front a.fair at) x.pieces ∙ braced_there s a at x)
+
   place_there : place_at w behind_word ≡ behind_front a.fair at
   place_there =
       let whole : w ≡ p ++ (front ++ ((text_of x.pieces ++ c) ++ r)) =
@@ -243,6 +262,7 @@ module _ (s : Syntax) (a : Algorithm) (h : IsPrintable a) (w : Text) (n left : �
     is_text = is_b ∙ ap Some (sym same ∙ is_there);
     begins = refl;
     ends = ends_at;
+    ended_so = ended_there;
     bytes = stretch_is w p (printed s a) (c ++ r) n there.rest.to text_is size (ends_at ∙ ap (λ (k : ℕ). k + length (printed s a)) size);
     tree = algorithm_of x.form;
     spelled = (x.form, x.good, spelled_there, refl);

@@ -155,6 +155,7 @@ rewritten_again s t x w v fine r is_pair fine_there q =
       is_text = k.is_text;
       begins = k.begins ∙ from;
       ends = k.ends ∙ (λ i. from i + length (text i));
+      ended_so = k.ended_so;
       bytes = k.bytes ∙ text;
       tree = k.tree;
       spelled = k.spelled;

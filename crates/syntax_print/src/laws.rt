@@ -68,7 +68,7 @@ pub fn printing_rests_on_no_place()
 
 /// Each file whose algorithm is spelled by its tokens has, in each syntax, one file with the algorithm printed in its place and all other bytes as they were. If the file breaks
 /// none of the rules 1 to 10 and 12, and its algorithm opens and closes comments only within itself, the printed text is just the algorithm that is
-/// there then: it begins where the old one did, and its tokens spell the same algorithm in that syntax, places aside.
+/// there then: it begins where the old one did, ends as one in that syntax does, and its tokens spell the same algorithm in it, places aside.
 pub fn rewritten_files_hold_the_algorithm()
     ensures some { (s t : Syntax) (x : List ℕ) (a : AlgorithmText) (g : Algorithm) → algorithm_in x ≡ Some a → Spells t (algorithm_tokens x a) g → (w : List ℕ) × Rewritten s x w }
     ensures one { (s : Syntax) (x w v : List ℕ) → Rewritten s x w → Rewritten s x v → w ≡ v }
