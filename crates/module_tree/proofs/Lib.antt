@@ -68,3 +68,4 @@ pub mod Braces
 pub mod AlgorithmEnds
 pub mod OnlyBeginnings
 pub mod PlacesAlike
+pub mod OptionsSwapped

@@ -1,7 +1,7 @@
 -- A file with another algorithm is walked as before, but for the algorithm's comment, where both algorithms open and close comments only within themselves.
 use Rattle.std.proofs.Common.{◌≡◌, inl, append-nil, codes, ℕ, zero, ◌+◌, ◌-◌, ◌<◌, ◌≤◌, Bool, true, false, nat_eq, nat_lt, List, [], ◌∷◌, ◌++◌, length, map, take, drop, Option, Some, None, refl, sym, ap, subst, ◌∙◌, arith, append_assoc, length-append, find}
 use Rattle.std.specs.Prelude.{if◌then◌else◌, is_some}
-use Rattle.std.specs.List.{list_all}
+use Rattle.std.specs.List.{flat_map, list_all}
 use Rattle.std.proofs.lemmas.Bool.{both_ways, and_from, lt-ltb}
 use Rattle.std.proofs.lemmas.Option.{none-some, same_Some}
 use Rattle.std.proofs.Math.Seq.{take-append_seam, drop-append_seam}
@@ -14,15 +14,15 @@ use Rattle.module_tree.specs.TextFront.{Text, whole_line}
 use Rattle.module_tree.specs.HeaderAndRegion.{is_header}
 use Rattle.module_tree.specs.Beginnings.{is_fair, opening, begins_algorithm, all_at}
 use Rattle.module_tree.specs.ModuleParts.{module_part}
-use Rattle.module_tree.specs.Walk.{Segment, free, header, part, bytes, is_region, State, in_module, segment_at, after_segment, Located, walk_from, walk, at_start}
+use Rattle.module_tree.specs.Walk.{Segment, free, header, part, bytes, is_region, is_tail, State, in_module, segment_at, after_segment, Located, walk_from, walk, at_start}
 use Rattle.module_tree.specs.FileParts.{before_first, after_first, within, beginnings_in, beginnings, first_of, holds_algorithm, is_newline}
 use Rattle.module_tree.specs.FileUnits.{kind_of_segment}
 use Rattle.module_tree.specs.AlgorithmText.{head, AlgorithmText, algorithm_in, in_token}
-use Rattle.module_tree.specs.FileOffences.{segment_offences, offences_of, algorithm_offences, placements}
+use Rattle.module_tree.specs.FileOffences.{segment_offences, offences_of, algorithm_offences, placements, outside_region, options_in}
 use Rattle.module_tree.specs.WithTranslation.{Swapped}
 use Rattle.module_tree.specs.laws.Walks.{text_of, are_calm, after_all, located}
 use Rattle.module_tree.specs.laws.Kept.{IsFine, only_large}
-use Rattle.module_tree.specs.laws.Swaps.{is_paired, segments, SwapsComment, BeginsThere}
+use Rattle.module_tree.specs.laws.Swaps.{is_paired, segments, AddsNoOptions, SwapsComment, BeginsThere}
 use Rattle.module_tree.proofs.WalkAround.{suffixed}
 use Rattle.module_tree.proofs.WalkPlace.{both_empty, before_whole, text_append, after_append, offences_append, fine_calm, before_tail, walk_tails, tails_last, met, after_both, places_after}
 use Rattle.module_tree.proofs.WalkKept.{all_fine_in, at_is}
@@ -38,6 +38,7 @@ use Rattle.module_tree.proofs.AlgorithmKept.{placed_at, algorithm_at_first, all_
 use Rattle.module_tree.proofs.AlgorithmRow.{row_of, row_ends, in_before}
 use Rattle.module_tree.proofs.BeginningsKept.{found_back, none_held, begun_in, beginnings_append, comment_size}
 use Rattle.module_tree.proofs.OnlyBeginnings.{none_anywhere, over_front, none_past, all_before, none_there, none_after}
+use Rattle.module_tree.proofs.OptionsSwapped.{SwapsSegment, swapped_options}
 use Rattle.module_tree.proofs.PlacesAlike.{Like, AllLike, is_space, like_self, like_both, like_shown, placed_alike}
 use Rattle.module_tree.proofs.FirstSwapped.{first_swapped, begins_more}
 
@@ -329,6 +330,32 @@ module _ (x u w : Text) (a : AlgorithmText) (fine : IsFine x) (s : Swapped x (45
       let marks = comment_size d.is n (d.at + 2) first in
       none_there es after_there same_after (none_after x ds es d a.rest.to split (omega (arith, at, to, inner, size, marks)) parts.1)
 
+  in_segment : SwapsSegment x w (45 ∷ holding.rest) u
+  in_segment =
+      let is = block_is.1 in
+      record {
+        front = ds;
+        old = d;
+        new = located st new;
+        back = es;
+        back_there = after_there;
+        here = split;
+        there = walked_there;
+        same = same_after;
+        opened = 40 ∷ 42 ∷ holding.front;
+        closed = ending;
+        bytes_here = ap bytes is ∙ ap (λ (b : Text). 40 ∷ 42 ∷ b) (body_is ∙ ap (λ (t : Text). holding.front ++ (t ++ ending)) holding.dash);
+        bytes_there = refl;
+        headed = headed;
+        no_region = ap is_region is;
+        no_tail = ap is_tail is;
+        no_region_there = refl;
+        no_tail_there = refl;
+      }
+
+  no_options : AddsNoOptions (45 ∷ u) → flat_map (options_in w) (outside_region w (walk w)) ≡ []
+  no_options adds = (let all = all_fine_in x fine in swapped_options x w (45 ∷ holding.rest) u in_segment adds all.parts.ends all.options)
+
   swaps_comment : SwapsComment x (45 ∷ u) w a
   swaps_comment = record {
     before = ds;
@@ -445,5 +472,19 @@ swapped_begins x u w a fine s is old_paired new_paired start_there = by (find ho
         begins_there x (45 ∷ u) w a fine s is old_paired new_paired d f n o (same_Some (at_comment x d n) a g) u refl start_there
 
     by : (o : Option Located) → find holds_algorithm (walk x) ≡ o → BeginsThere (45 ∷ 45 ∷ u) w a
+    by None f = (let g : None ≡ Some a = rw f at is in absurd (none-some a g))
+    by (Some d) f = begun d f (first_of (beginnings_in d)) refl
+
+pub swapped_without : (x u w : Text) (a : AlgorithmText) → IsFine x → Swapped x (45 ∷ u) w → algorithm_in x ≡ Some a → is_paired 0 (stretch x a.from a.rest.to) ≡ true → is_paired 0 (45 ∷ u) ≡ true
+    → AddsNoOptions (45 ∷ u) → flat_map (options_in w) (outside_region w (walk w)) ≡ []
+swapped_without x u w a fine s is old_paired new_paired adds = by (find holds_algorithm (walk x)) refl
+  where
+    begun : (d : Located) → find holds_algorithm (walk x) ≡ Some d → (o : Option ℕ) → first_of (beginnings_in d) ≡ o → flat_map (options_in w) (outside_region w (walk w)) ≡ []
+    begun d f None o = (let g : None ≡ Some a = rw (f, o) at is in absurd (none-some a g))
+    begun d f (Some n) o =
+        let g : Some (at_comment x d n) ≡ Some a = rw (f, o) at is in
+        no_options x u w a fine s is old_paired new_paired d f n o (same_Some (at_comment x d n) a g) adds
+
+    by : (o : Option Located) → find holds_algorithm (walk x) ≡ o → flat_map (options_in w) (outside_region w (walk w)) ≡ []
     by None f = (let g : None ≡ Some a = rw f at is in absurd (none-some a g))
     by (Some d) f = begun d f (first_of (beginnings_in d)) refl

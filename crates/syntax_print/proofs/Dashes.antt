@@ -1,4 +1,4 @@
--- An algorithm begins with a dash, and each dash of a printed text is in one of its tokens: so no second one begins in it.
+-- An algorithm begins with a dash, and each dash of a printed text is in one of its tokens: so no second one begins in it; nor do options behind it.
 use Rattle.std.proofs.Common.{◌≡◌, ℕ, zero, suc, ◌+◌, ◌<◌, ◌≤◌, nat_eq, nat_le, nat_lt, Bool, true, false, ◌&&◌, ◌||◌, List, [], ◌∷◌, ◌++◌, length, map, Some, refl, sym, ap, subst, ◌∙◌, arith, append_assoc, length-append, codes}
 use Rattle.std.specs.Prelude.{is_some, if◌then◌else◌}
 use Rattle.std.specs.List.{list_all, list_any}
@@ -9,10 +9,13 @@ use Rattle.tla_token.specs.Lexemes.{is_blank}
 use Rattle.tla_token.specs.Tokens.{Piece, blank, block, line, lexeme, bytes_of, text_of, AllFit}
 use Rattle.tla_token.specs.Offences.{Part, sound, part_bytes}
 use Rattle.module_tree.specs.TextFront.{Text}
-use Rattle.module_tree.specs.Beginnings.{begins_algorithm, index_if, all_at}
+use Rattle.module_tree.specs.Beginnings.{begins_algorithm, is_options, index_if, all_at}
 use Rattle.module_tree.specs.ModuleParts.{kind_in}
 use Rattle.module_tree.specs.AlgorithmText.{Stage, is_past, after_part, IndexedPart, Inside, with_part, is_token_byte, in_tokens}
 use Rattle.module_tree.proofs.InsidePieces.{inside_pieces}
+use Rattle.module_tree.specs.laws.Swaps.{AddsNoOptions}
+use Rattle.module_tree.proofs.OptionsKept.{none_elsewhere}
+use Rattle.module_tree.proofs.OptionsSwapped.{Apart, apart_none, free_edge}
 use Rattle.module_tree.proofs.OnlyBeginnings.{none_anywhere}
 use Rattle.syntax_print.specs.Rewritten.{gap}
 use Rattle.syntax_print.proofs.WholeText.{front_word}
@@ -140,3 +143,21 @@ gap_none p_syntax rest z n e k = by (ends_word rest)
     by : (b : Bool) → all_at begins_algorithm k ((if b then [] else codes " ") ++ z) ≡ []
     by true = none_anywhere begins_algorithm n k z e
     by false = none_anywhere begins_algorithm n (suc k) z e
+
+-- ---- options for PlusCal
+
+-- none begin in the blank behind it, nor in a text whose last byte is in none
+pub adds_none : (s : Syntax) (rest w before : Text) (c : ℕ) → Apart c → w ≡ before ++ c ∷ [] → all_at is_options 0 w ≡ [] → AddsNoOptions (w ++ gap s rest)
+adds_none s rest w before c apart is none z free =
+    let behind : all_at is_options 1 (gap s rest ++ z) ≡ [] = over_gap s in
+    let last : all_at is_options 0 (c ∷ (gap s rest ++ z)) ≡ [] = ap (λ (t : Bool). index_if t 0 (all_at is_options 1 (gap s rest ++ z))) (apart_none c apart (gap s rest ++ z)) ∙ behind in
+    ap (all_at is_options 0) (append_assoc w (gap s rest) z ∙ ap (λ (u : Text). u ++ (gap s rest ++ z)) is ∙ append_assoc before (c ∷ []) (gap s rest ++ z))
+    ∙ free_edge c apart 0 0 0 before [] (gap s rest ++ z) (ap (all_at is_options 0) (sym is) ∙ none) last
+  where
+    over_gap : (s : Syntax) → all_at is_options 1 (gap s rest ++ z) ≡ []
+    over_gap c_syntax = none_elsewhere 0 1 z free
+    over_gap p_syntax = by (ends_word rest)
+      where
+        by : (b : Bool) → all_at is_options 1 ((if b then [] else codes " ") ++ z) ≡ []
+        by true = none_elsewhere 0 1 z free
+        by false = none_elsewhere 0 2 z free

@@ -1,6 +1,7 @@
 -- A file with its algorithm printed in its place has just that text as its algorithm, and its tokens spell it.
 use Rattle.std.proofs.Common.{◌≡◌, ℕ, ◌+◌, ◌-◌, Bool, true, false, not, List, [], ◌∷◌, ◌++◌, length, map, take, drop, Option, Some, None, refl, sym, ap, subst, ◌∙◌, arith, append_assoc, append-nil, length-append, codes, find}
 use Rattle.std.specs.Prelude.{if◌then◌else◌}
+use Rattle.std.specs.List.{flat_map}
 use Rattle.std.proofs.lemmas.Bool.{and_parts, not-true, lt-leb}
 use Rattle.std.proofs.lemmas.Option.{none-some, same_Some}
 use Rattle.std.proofs.Math.Seq.{take-append_seam, drop-append_seam}
@@ -26,14 +27,14 @@ use Rattle.pcal_tree.specs.Grammar as g
 use Rattle.pcal_tree.specs.Printed.{algorithm_word, printed}
 use Rattle.pcal_tree.specs.Printed as lines
 use Rattle.module_tree.specs.TextFront.{Text}
-use Rattle.module_tree.specs.Beginnings.{is_fair, opening, begins_algorithm, all_at}
+use Rattle.module_tree.specs.Beginnings.{is_fair, opening, begins_algorithm, is_options, all_at}
 use Rattle.module_tree.specs.Walk.{Located, walk}
 use Rattle.module_tree.specs.FileParts.{module_end, beginnings, within as within_segment, beginnings_in, first_of, holds_algorithm}
 use Rattle.module_tree.specs.AlgorithmText.{IndexedPart, Stage, head, Inside, inside, AlgorithmText, algorithm_at, algorithm_in, algorithm_tokens, in_token}
-use Rattle.module_tree.specs.FileOffences.{offences_of, inner_offences, algorithm_offences, no_module, no_algorithm, second_algorithms, offences_at, placements}
+use Rattle.module_tree.specs.FileOffences.{offences_of, inner_offences, algorithm_offences, no_module, no_algorithm, second_algorithms, offences_at, placements, outside_region, options_in}
 use Rattle.module_tree.specs.WithTranslation.{Swapped}
 use Rattle.module_tree.specs.laws.Kept.{IsFine, only_large}
-use Rattle.module_tree.specs.laws.Swaps.{is_paired, BeginsThere}
+use Rattle.module_tree.specs.laws.Swaps.{is_paired, AddsNoOptions, BeginsThere}
 use Rattle.module_tree.proofs.WalkPlace.{after_both}
 use Rattle.module_tree.proofs.WalkKept.{all_fine_in}
 use Rattle.module_tree.proofs.AlgorithmFound.{Opened, opened, made_there, stretch_is}
@@ -41,7 +42,7 @@ use Rattle.module_tree.proofs.AlgorithmIsCut.{Placed, algorithm_is_cut}
 use Rattle.module_tree.proofs.AlgorithmSame.{at_comment}
 use Rattle.module_tree.proofs.AlgorithmKept.{placed_at, filtered}
 use Rattle.module_tree.proofs.InsidePieces.{inside_pieces}
-use Rattle.module_tree.proofs.SwappedComment.{swapped_comment, swapped_begins}
+use Rattle.module_tree.proofs.SwappedComment.{swapped_comment, swapped_begins, swapped_without}
 use Rattle.syntax_print.specs.Rewritten.{gap}
 use Rattle.syntax_print.specs.laws.Printable.{IsPrintable}
 use Rattle.syntax_print.specs.laws.HoldsPrinted.{past_stage, HoldsPrinted}
@@ -53,7 +54,7 @@ use Rattle.syntax_print.proofs.ExprClean.{Clean}
 use Rattle.syntax_print.proofs.AlgorithmClean.{spelled_clean, none_left_out}
 use Rattle.syntax_print.proofs.Stages.{behind, Found, all_found}
 use Rattle.syntax_print.proofs.Followed.{pieces_found}
-use Rattle.syntax_print.proofs.Dashes.{dashes_in, others_in, gap_none}
+use Rattle.syntax_print.proofs.Dashes.{dashes_in, others_in, gap_none, adds_none}
 use Rattle.syntax_print.proofs.Ended.{still_ends, still_begins}
 use Rattle.syntax_print.proofs.Beginning.{fair_is, opening_is, begins_is, gap_paired, gap_there, within}
 
@@ -328,6 +329,11 @@ module _ (s : Syntax) (x w : Text) (a : AlgorithmText) (t : Algorithm) (fine : I
 
   all_sound : offences_of (walk w) ≡ []
   all_sound = (swapped_comment x (45 ∷ dashes.0) w a fine is_new is_old paired new_paired).sound
+
+  -- where none begin in the printed text, there are no options
+  pub no_options : all_at is_options 0 (printed s t) ≡ [] → flat_map (options_in w) (outside_region w (walk w)) ≡ []
+  no_options none =
+      swapped_without x (45 ∷ dashes.0) w a fine is_new is_old paired new_paired (subst AddsNoOptions dashes.1 (adds_none s rest (printed s t) self.ends.before self.ends.byte self.apart self.ends.is none))
 
   ended : no_module w (module_end (walk w)) ≡ []
   ended = still_ends x (45 ∷ 45 ∷ dashes.0) w a fine is_old (swapped_comment x (45 ∷ dashes.0) w a fine is_new is_old paired new_paired)

@@ -26,6 +26,7 @@ use Rattle.pcal_tree.specs.Placeless.{placeless}
 use Rattle.pcal_tree.specs.Grammar.{Syntax, p_syntax, c_syntax, Spells}
 use Rattle.pcal_tree.specs.Printed.{Text, printed}
 use Rattle.module_tree.specs.AlgorithmText.{IndexedPart, AlgorithmText, algorithm_in, algorithm_tokens}
+use Rattle.module_tree.specs.Beginnings.{is_options, all_at}
 use Rattle.module_tree.specs.Walk.{walk}
 use Rattle.module_tree.specs.FileParts.{beginnings}
 use Rattle.module_tree.specs.FileOffences.{inner_offences, algorithm_offences, second_algorithms, outside_region, options_in, file_offences}
@@ -45,7 +46,7 @@ use Rattle.syntax_print.proofs.FitAlgorithm.{spelled_printable}
 use Rattle.syntax_print.proofs.PrintedBare.{same_printed}
 use Rattle.syntax_print.proofs.Ended.{some_stretch}
 use Rattle.syntax_print.proofs.Back.{one_tree, one_syntax, paired}
-use Rattle.syntax_print.proofs.Rewriting.{front_size, printed_is_there}
+use Rattle.syntax_print.proofs.Rewriting.{front_size, printed_is_there, no_options}
 
 -- ---- what stands in a file that is not refused can be printed
 
@@ -134,8 +135,10 @@ breaks_few s x w fine r is_pair =
     let h = rewritten_holds s x w fine r is_pair in
     (h, record { file = only_options s r.tree r.old.from w h; words = h.few; spelling = λ end q. too_deep s (algorithm_tokens w h.text) h.tree end q h.spelled })
 
-pub fine_without : (s : Syntax) (x w : Text) → IsFine x → (r : Rewritten s x w) → is_paired 0 (stretch x r.old.from r.old.rest.to) ≡ true → flat_map (options_in w) (outside_region w (walk w)) ≡ [] → IsFine w
-fine_without s x w fine r is_pair none = only_options s r.tree r.old.from w (rewritten_holds s x w fine r is_pair) ∙ none
+pub fine_without : (s : Syntax) (x w : Text) → IsFine x → (r : Rewritten s x w) → is_paired 0 (stretch x r.old.from r.old.rest.to) ≡ true → all_at is_options 0 (printed s r.tree) ≡ [] → IsFine w
+fine_without s x w fine r is_pair none =
+    only_options s r.tree r.old.from w (rewritten_holds s x w fine r is_pair)
+    ∙ no_options s x w r.old r.tree fine r.is_old is_pair (printable r.syntax x r.old r.tree fine r.is_old r.spelled) r.swapped none
 
 -- ---- printed again
 

@@ -10,6 +10,7 @@ use Rattle.pcal_tree.specs.Placeless.{no_span}
 use Rattle.pcal_tree.specs.Grammar.{p_syntax, c_syntax}
 use Rattle.pcal_tree.specs.Printed.{PText, CText}
 use Rattle.module_tree.specs.TextFront.{Text, on_some}
+use Rattle.module_tree.specs.Beginnings.{is_options, all_at}
 use Rattle.module_tree.specs.AlgorithmText.{Stage, open_p, past_p, past_c, algorithm_in}
 use Rattle.module_tree.specs.FileOffences.{file_offences}
 use Rattle.module_tree.specs.WithTranslation.{Swapped}
@@ -98,6 +99,9 @@ fine_apart = refl
 
 printed_together : Swapped parted_file (CText with_options) (file (CText with_options))
 printed_together = record { old = _; is_old = refl; is = refl }
+
+together : all_at is_options 0 (CText with_options) ≡ 32 ∷ []
+together = refl
 
 options_there : file_offences (file (CText with_options)) ≡ (Options, 54) ∷ []
 options_there = refl

@@ -1,7 +1,6 @@
 //! Laws of printed algorithms, stated as what functions without a body ensure.
 
 ghost use Rattle.std.specs.Prelude.{◌≡◌, ℕ, List, [], Bool, true, false, length, drop, Some, Ok};
-ghost use Rattle.std.specs.List.{flat_map};
 ghost use Rattle.tla_token.specs.Tokens as text;
 ghost use Rattle.tla_token.specs.Tokens.{TokAlgorithm, holds_mark, stretch};
 ghost use Rattle.tla_token.specs.declared.place.Place.{Place};
@@ -17,8 +16,7 @@ ghost use Rattle.p_syntax.specs.ReadAlgorithm as p;
 ghost use Rattle.c_syntax.specs.ReadAlgorithm as c;
 ghost use Rattle.tla_tree.specs.laws.InText.{ends_word};
 ghost use Rattle.tla_tree.specs.laws.Writable.{AreSmall};
-ghost use Rattle.module_tree.specs.Walk.{walk};
-ghost use Rattle.module_tree.specs.FileOffences.{outside_region, options_in};
+ghost use Rattle.module_tree.specs.Beginnings.{is_options, all_at};
 ghost use Rattle.module_tree.specs.AlgorithmText.{AlgorithmText, algorithm_in, algorithm_tokens};
 ghost use Rattle.module_tree.specs.laws.Kept.{IsFine};
 ghost use Rattle.module_tree.specs.laws.Swaps.{is_paired};
@@ -82,10 +80,10 @@ pub fn spelled_tokens_are_refused_for_depth_alone()
 
 /// So where a file that breaks none of the rules 1 to 10 and 12 has an algorithm that opens and closes comments only within itself, the file with the
 /// algorithm printed in its place can break, of the rules 1 to 15, only that on options (10) and those on too much: too many tokens (13), and too many forms
-/// open in one another (14). The algorithm that stands in it is the same, places aside. And where no options begin in it, it breaks none of the rules 1 to 10 and 12.
+/// open in one another (14). The algorithm that stands in it is the same, places aside. And where no options begin in the printed text, that file breaks none of the rules 1 to 10 and 12.
 pub fn rewritten_files_break_few_rules()
     ensures few { (s : Syntax) (x w : List ℕ) → IsFine x → (r : Rewritten s x w) → is_paired 0 (stretch x r.old.from r.old.rest.to) ≡ true → (h : HoldsPrinted s r.tree r.old.from w) × BreaksFew s w h.text }
-    ensures fine { (s : Syntax) (x w : List ℕ) → IsFine x → (r : Rewritten s x w) → is_paired 0 (stretch x r.old.from r.old.rest.to) ≡ true → flat_map (options_in w) (outside_region w (walk w)) ≡ [] → IsFine w }
+    ensures fine { (s : Syntax) (x w : List ℕ) → IsFine x → (r : Rewritten s x w) → is_paired 0 (stretch x r.old.from r.old.rest.to) ≡ true → all_at is_options 0 (printed s r.tree) ≡ [] → IsFine w }
 {}
 
 /// Rewritten once more, in the same or the other syntax, as long as it breaks none of these rules then, it holds the first file's algorithm, printed in that syntax.

@@ -3,7 +3,7 @@ use Rattle.std.specs.Prelude.{◌≡◌, ℕ, zero, suc, ◌+◌, ◌||◌, not,
 use Rattle.tla_token.specs.Tokens.{is_pair, stretch}
 use Rattle.module_tree.specs.TextFront.{Text}
 use Rattle.module_tree.specs.Walk.{Segment, Located, walk, at_start}
-use Rattle.module_tree.specs.Beginnings.{opening, begins_algorithm, all_at}
+use Rattle.module_tree.specs.Beginnings.{opening, begins_algorithm, is_options, all_at}
 use Rattle.module_tree.specs.FileParts.{within, beginnings}
 use Rattle.module_tree.specs.AlgorithmText.{AlgorithmText, algorithm_in}
 use Rattle.module_tree.specs.FileOffences.{offences_of, placements}
@@ -17,6 +17,10 @@ is_paired zero (a ∷ b ∷ s) = if is_pair 40 42 a b then is_paired 1 s else (i
 is_paired (suc k) [] = false
 is_paired (suc k) (a ∷ []) = false
 is_paired (suc k) (a ∷ b ∷ s) = if is_pair 40 42 a b then is_paired (suc (suc k)) s else (if is_pair 42 41 a b then is_paired k s else is_paired (suc k) (b ∷ s))
+
+-- no options for PlusCal begin in it, before any text that has none
+abbrev pub AddsNoOptions : Text → Type 0
+AddsNoOptions u = (z : Text) → all_at is_options 0 z ≡ [] → all_at is_options 0 (u ++ z) ≡ []
 
 -- the segments without their places
 abbrev pub segments : List Located → List Segment
