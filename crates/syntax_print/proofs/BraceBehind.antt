@@ -32,7 +32,7 @@ taken_for_c (head (suc n)) (t ∷ ts) = taken_for_c (head n) ts
 taken_for_c (titled e) ts = begins_brace ts
 taken_for_c st ts = is_c st
 
-at_end : (st : Stage) → is_c st ≡ taken_for_c st []
+pub at_end : (st : Stage) → is_c st ≡ taken_for_c st []
 at_end (head zero) = refl
 at_end (head (suc n)) = refl
 at_end st = refl
@@ -82,7 +82,7 @@ at_title p e (one s) ts = by s
     by OpenCurly = refl
     by s = in_p e (one s) ts
 
-one_token : (st : Stage) (p : Place) (k : Kind) (ts : List Token) → taken_for_c (next st k) ts ≡ taken_for_c st (tk.token p (kind_of k) ∷ ts)
+pub one_token : (st : Stage) (p : Place) (k : Kind) (ts : List Token) → taken_for_c (next st k) ts ≡ taken_for_c st (tk.token p (kind_of k) ∷ ts)
 one_token (head zero) p k ts = refl
 one_token (head (suc n)) p k ts = refl
 one_token (titled e) p k ts = at_title p e k ts

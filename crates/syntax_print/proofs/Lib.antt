@@ -31,6 +31,7 @@ mod BraceBehind
 mod Ended
 mod Beginning
 mod Rewriting
+mod EndFound
 mod Rewritten
 mod WholeText
 mod Paired

@@ -60,11 +60,11 @@ use Rattle.syntax_print.proofs.Beginning.{fair_is, opening_is, begins_is, gap_pa
 
 -- ---- the end of its tokens
 
-abbrev words_before : Bool → ℕ
+abbrev pub words_before : Bool → ℕ
 words_before b = if b then 1 else 0
 
 -- what is behind the first word of a head is before the name
-head_ends : (h : Head) (p : Place) (w : List ℕ) (ts us : List Token) → grammar.word p w us ≡ head_tokens h ts → behind (head (words_before (is_fair_head h))) us ≡ behind (head 0) ts
+pub head_ends : (h : Head) (p : Place) (w : List ℕ) (ts us : List Token) → grammar.word p w us ≡ head_tokens h ts → behind (head (words_before (is_fair_head h))) us ≡ behind (head 0) ts
 head_ends (algorithm a) p w ts us e = (let same : us ≡ ts = cc in ap (behind (head 0)) same)
 head_ends (fair_algorithm a b) p w ts us e = (let same : us ≡ grammar.key b (codes "algorithm") ts = cc in ap (behind (head 1)) same)
 
@@ -78,7 +78,7 @@ tokens_end s a at x =
     ∙ ends_there s f x.good
 
 -- a brace is behind its name in C-syntax alone
-head_braced : (h : Head) (p : Place) (w : List ℕ) (x : Name) (ts us : List Token) → grammar.word p w us ≡ head_tokens h (grammar.name x ts) → taken_for_c (head (words_before (is_fair_head h))) us ≡ begins_brace ts
+pub head_braced : (h : Head) (p : Place) (w : List ℕ) (x : Name) (ts us : List Token) → grammar.word p w us ≡ head_tokens h (grammar.name x ts) → taken_for_c (head (words_before (is_fair_head h))) us ≡ begins_brace ts
 head_braced (algorithm a) p w x ts us e = (let same : us ≡ grammar.name x ts = cc in ap (taken_for_c (head 0)) same)
 head_braced (fair_algorithm a b) p w x ts us e = (let same : us ≡ grammar.key b (codes "algorithm") (grammar.name x ts) = cc in ap (taken_for_c (head 1)) same)
 

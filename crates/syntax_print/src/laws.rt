@@ -17,12 +17,14 @@ ghost use Rattle.c_syntax.specs.ReadAlgorithm as c;
 ghost use Rattle.tla_tree.specs.laws.InText.{ends_word};
 ghost use Rattle.tla_tree.specs.laws.Writable.{AreSmall};
 ghost use Rattle.module_tree.specs.Beginnings.{is_options, all_at};
+ghost use Rattle.module_tree.specs.Walk.{walk};
+ghost use Rattle.module_tree.specs.FileOffences.{offences_of, algorithm_offences};
 ghost use Rattle.module_tree.specs.AlgorithmText.{AlgorithmText, algorithm_in, algorithm_tokens};
-ghost use Rattle.module_tree.specs.laws.Kept.{IsFine};
+ghost use Rattle.module_tree.specs.laws.Kept.{IsFine, only_large};
 ghost use Rattle.module_tree.specs.laws.Swaps.{is_paired};
 ghost use Rattle.syntax_print.specs.Rewritten.{gap, Rewritten};
 ghost use Rattle.syntax_print.specs.laws.BreaksFew.{BreaksFew};
-ghost use Rattle.syntax_print.specs.laws.HoldsPrinted.{HoldsPrinted};
+ghost use Rattle.syntax_print.specs.laws.HoldsPrinted.{past_stage, HoldsPrinted};
 ghost use Rattle.syntax_print.specs.laws.Printable.{IsPrintable};
 
 /// The text that is printed of an algorithm is cut into the tokens of an algorithm, and these spell it in the syntax, places aside.
@@ -71,6 +73,12 @@ pub fn rewritten_files_hold_the_algorithm()
     ensures some { (s t : Syntax) (x : List ℕ) (a : AlgorithmText) (g : Algorithm) → algorithm_in x ≡ Some a → Spells t (algorithm_tokens x a) g → (w : List ℕ) × Rewritten s x w }
     ensures one { (s : Syntax) (x w v : List ℕ) → Rewritten s x w → Rewritten s x v → w ≡ v }
     ensures holds { (s : Syntax) (x w : List ℕ) → IsFine x → (r : Rewritten s x w) → is_paired 0 (stretch x r.old.from r.old.rest.to) ≡ true → HoldsPrinted s r.tree r.old.from w }
+{}
+
+/// Where a file's segments break no rule, nor the parts of its algorithm one but that on numbers (12), an algorithm that its tokens spell has its end in the file, as
+/// algorithms of its syntax have; so the syntax in which it is looked at, which goes by a brace behind its name, is the one in which it is spelled.
+pub fn spelled_algorithms_have_an_end()
+    ensures { (s : Syntax) (x : List ℕ) (a : AlgorithmText) (g : Algorithm) → offences_of (walk x) ≡ [] → algorithm_in x ≡ Some a → only_large (algorithm_offences (Some a)) ≡ true → Spells s (algorithm_tokens x a) g → a.rest.stage ≡ past_stage s }
 {}
 
 /// And the tokens of the algorithm that is there are never refused by the rule of syntax (15), but at most since too many forms are open in one another (14).
