@@ -69,3 +69,4 @@ pub mod AlgorithmEnds
 pub mod OnlyBeginnings
 pub mod PlacesAlike
 pub mod OptionsSwapped
+pub mod PartsSound

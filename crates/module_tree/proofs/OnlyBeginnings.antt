@@ -1,9 +1,8 @@
 -- Where algorithms begin in a file: nothing begins behind the algorithm of one that breaks no rule.
 use Rattle.std.proofs.Common.{◌≡◌, ℕ, suc, ◌+◌, ◌<◌, ◌≤◌, nat_lt, Bool, true, false, List, [], ◌∷◌, ◌++◌, length, Option, Some, None, refl, sym, ap, ◌∙◌, arith, append_assoc, length-append, find}
 use Rattle.std.specs.List.{list_all}
-use Rattle.std.specs.Prelude.{is_some}
 use Rattle.std.proofs.lemmas.Bool.{and_parts, and_from, ltb-true, lt-ltb}
-use Rattle.std.proofs.lemmas.Option.{none-some, same_Some}
+use Rattle.std.proofs.lemmas.Option.{same_Some}
 use Rattle.module_tree.specs.TextFront.{Text}
 use Rattle.module_tree.specs.Beginnings.{begins_algorithm, index_if, all_at}
 use Rattle.module_tree.specs.Walk.{Segment, bytes, Located, walk}

@@ -18,7 +18,7 @@ use Rattle.module_tree.proofs.WalkPlace.{both_empty, before_whole, none_such, no
 use Rattle.module_tree.proofs.EdgeAlike.{lacks, past_word_alike, past_all_alike, past_blanks_alike, on_both, both_at, some_alike}
 use Rattle.module_tree.proofs.ModuleKept.{found_so}
 use Rattle.module_tree.proofs.WalkSame.{first_kept}
-use Rattle.module_tree.proofs.OptionsKept.{bracket_after, options_after, blanks_after, index_parts, none_elsewhere, none_behind, NoOptions, no_offence, is_line, is_end, from_header, to_end, first_skipped, HasEnds, one_stretch, two_parts}
+use Rattle.module_tree.proofs.OptionsKept.{bracket_after, options_after, blanks_after, index_parts, none_elsewhere, none_behind, NoOptions, no_offence, is_line, is_end, from_header, to_end, first_skipped, one_stretch, two_parts}
 
 -- ---- what begins before a byte that is in no options
 

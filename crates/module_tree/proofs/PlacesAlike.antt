@@ -1,17 +1,15 @@
 -- The place of a translation is as good among segments that look the same to it.
 use Rattle.std.proofs.Common.{◌≡◌, ℕ, suc, ◌+◌, nat_eq, Bool, true, false, not, ◌&&◌, ◌||◌, List, [], ◌∷◌, ◌++◌, Option, Some, None, refl, sym, ap, ◌∙◌}
 use Rattle.std.specs.Prelude.{if◌then◌else◌, is_some}
-use Rattle.std.proofs.lemmas.Bool.{both_ways}
-use Rattle.std.proofs.lemmas.Option.{none-some, same_Some}
 use Rattle.tla_token.specs.Lexemes.{Kind}
-use Rattle.tla_token.specs.Tokens.{blank, block, line, lexeme}
-use Rattle.tla_token.specs.Offences.{sound, stray, bad_string, open_string, open_block, Offence, offence_if}
+use Rattle.tla_token.specs.Tokens.{blank, line}
+use Rattle.tla_token.specs.Offences.{sound, Offence, offence_if}
 use Rattle.tla_token.specs.declared.rule.Rule.TheVariants.{Placement}
 use Rattle.tla_tree.specs.TokenViews.{kind_of}
 use Rattle.module_tree.specs.TextFront.{Text}
 use Rattle.module_tree.specs.Beginnings.{begins_algorithm, all_at}
-use Rattle.module_tree.specs.Walk.{Segment, free, header, part, region, mark, inner, tail, is_region, Located}
-use Rattle.module_tree.specs.FileParts.{within, beginnings, first_of, holds_algorithm, after_first, after_comment, region_of, is_newline, after_spot}
+use Rattle.module_tree.specs.Walk.{Segment, part, region, is_region, Located}
+use Rattle.module_tree.specs.FileParts.{within, first_of, holds_algorithm, after_first, after_comment, region_of, is_newline}
 use Rattle.module_tree.specs.FileUnits.{kind_of_segment, is_starter, is_bar}
 use Rattle.module_tree.specs.FileOffences.{rest_of_line, no_unit, placements}
 use Rattle.module_tree.proofs.WalkPlace.{both_empty}

@@ -7,7 +7,7 @@ use Rattle.std.proofs.lemmas.Option.{none-some, same_Some}
 use Rattle.std.proofs.Math.Seq.{take-append_seam, drop-append_seam}
 use Rattle.tla_token.specs.declared.place.Place.{Place}
 use Rattle.tla_token.specs.Places.{start, after}
-use Rattle.tla_token.specs.Tokens.{Piece, block, Closes, stretch, text_of as pieces_text}
+use Rattle.tla_token.specs.Tokens.{block, Closes, stretch, text_of as pieces_text}
 use Rattle.tla_token.specs.Offences.{Part, sound}
 use Rattle.tla_token.proofs.Front.{block_front}
 use Rattle.module_tree.specs.TextFront.{Text, whole_line}
@@ -39,7 +39,7 @@ use Rattle.module_tree.proofs.AlgorithmRow.{row_of, row_ends, in_before}
 use Rattle.module_tree.proofs.BeginningsKept.{found_back, none_held, begun_in, beginnings_append, comment_size}
 use Rattle.module_tree.proofs.OnlyBeginnings.{none_anywhere, over_front, none_past, all_before, none_there, none_after}
 use Rattle.module_tree.proofs.OptionsSwapped.{SwapsSegment, swapped_options}
-use Rattle.module_tree.proofs.PlacesAlike.{Like, AllLike, is_space, like_self, like_both, like_shown, placed_alike}
+use Rattle.module_tree.proofs.PlacesAlike.{Like, is_space, like_self, like_both, like_shown, placed_alike}
 use Rattle.module_tree.proofs.FirstSwapped.{first_swapped, begins_more}
 
 -- ---- a comment in a module
@@ -127,25 +127,6 @@ held x d n q plain =
     dashed : (k : Bool) → (v : Text) × ((if k then codes "--fair" else codes "--algorithm") ≡ 45 ∷ 45 ∷ v)
     dashed true = (codes "fair", refl)
     dashed false = (codes "algorithm", refl)
-
--- its parts are pieces
-pub all_sound : (x : Text) (a : AlgorithmText) → offences_of (walk x) ≡ [] → algorithm_in x ≡ Some a → are_plain a.rest.parts ≡ true → (ps : List Piece) × (map (λ p. p.1) a.rest.parts ≡ map sound ps)
-all_sound x a none is plain = by (find holds_algorithm (walk x)) refl
-  where
-    begun : (d : Located) → find holds_algorithm (walk x) ≡ Some d → (o : Option ℕ) → first_of (beginnings_in d) ≡ o → (ps : List Piece) × (map (λ p. p.1) a.rest.parts ≡ map sound ps)
-    begun d f None o = (let g : None ≡ Some a = rw (f, o) at is in absurd (none-some a g))
-    begun d f (Some n) o =
-        let g : Some (at_comment x d n) ≡ Some a = rw (f, o) at is in
-        let same = same_Some (at_comment x d n) a g in
-        let q = placed_at x d n none f o in
-        let v = opened q.v q.here in
-        let there = made_there x q.p q.v q.r n (d.at + 2 + length (within d.is) - n) q.text q.from q.left v in
-        let c = cut_inside (head (if is_fair q.v then 1 else 0)) (n + length (opening q.v)) v.rest q.r q.ends (ap (λ (a : AlgorithmText). are_plain a.rest.parts) (sym there ∙ same) ∙ plain) in
-        (c.pieces, ap (λ (a : AlgorithmText). map (λ p. p.1) a.rest.parts) (sym same ∙ there) ∙ c.parts)
-
-    by : (o : Option Located) → find holds_algorithm (walk x) ≡ o → (ps : List Piece) × (map (λ p. p.1) a.rest.parts ≡ map sound ps)
-    by None f = (let g : None ≡ Some a = rw f at is in absurd (none-some a g))
-    by (Some d) f = begun d f (first_of (beginnings_in d)) refl
 
 -- ---- the file
 

@@ -16,7 +16,7 @@ use Rattle.tla_tree.specs.TokenViews.{kind_among, word_kinds, word_kind}
 use Rattle.pcal_tree.specs.AlgorithmTokens.{kind_of}
 use Rattle.pcal_tree.specs.Grammar.{Syntax, p_syntax, c_syntax}
 use Rattle.module_tree.specs.ModuleParts.{kind_in}
-use Rattle.module_tree.specs.AlgorithmText.{Stage, head, titled, open_p, open_c, past_p, past_c, is_word, next_p, next_c, next, is_past, is_c, after_part, Inside, with_part}
+use Rattle.module_tree.specs.AlgorithmText.{Stage, head, titled, open_p, open_c, past_p, past_c, is_word, next_p, next_c, next, is_past, is_c, after_part}
 use Rattle.module_tree.proofs.InsidePieces.{inside_pieces}
 use Rattle.syntax_print.proofs.Chunks.{seen}
 use Rattle.syntax_print.proofs.Stages.{free_plain, is_plain}

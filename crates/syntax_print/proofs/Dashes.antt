@@ -1,13 +1,13 @@
 -- An algorithm begins with a dash, and each dash of a printed text is in one of its tokens: so no second one begins in it; nor do options behind it.
-use Rattle.std.proofs.Common.{◌≡◌, ℕ, zero, suc, ◌+◌, ◌<◌, ◌≤◌, nat_eq, nat_le, nat_lt, Bool, true, false, ◌&&◌, ◌||◌, List, [], ◌∷◌, ◌++◌, length, map, Some, refl, sym, ap, subst, ◌∙◌, arith, append_assoc, length-append, codes}
-use Rattle.std.specs.Prelude.{is_some, if◌then◌else◌}
-use Rattle.std.specs.List.{list_all, list_any}
+use Rattle.std.proofs.Common.{◌≡◌, ℕ, suc, ◌+◌, ◌<◌, ◌≤◌, nat_eq, nat_le, nat_lt, Bool, true, false, ◌||◌, List, [], ◌∷◌, ◌++◌, length, map, refl, sym, ap, subst, ◌∙◌, arith, append_assoc, codes}
+use Rattle.std.specs.Prelude.{if◌then◌else◌}
+use Rattle.std.specs.List.{list_all}
 use Rattle.std.proofs.lemmas.Bool.{and_parts, and_from, both_ways, eqb-true, le-leb, lt-ltb}
 use Rattle.tla_tree.specs.laws.InText.{ends_word}
 use Rattle.pcal_tree.specs.Grammar.{Syntax, p_syntax, c_syntax}
 use Rattle.tla_token.specs.Lexemes.{is_blank}
 use Rattle.tla_token.specs.Tokens.{Piece, blank, block, line, lexeme, bytes_of, text_of, AllFit}
-use Rattle.tla_token.specs.Offences.{Part, sound, part_bytes}
+use Rattle.tla_token.specs.Offences.{Part, sound}
 use Rattle.module_tree.specs.TextFront.{Text}
 use Rattle.module_tree.specs.Beginnings.{begins_algorithm, is_options, index_if, all_at}
 use Rattle.module_tree.specs.ModuleParts.{kind_in}

@@ -25,8 +25,8 @@ use Rattle.module_tree.specs.AlgorithmText.{IndexedPart, Stage, head, next, is_p
 use Rattle.module_tree.specs.FileOffences.{offences_of, algorithm_offences}
 use Rattle.module_tree.specs.laws.AlgorithmEnd.{with_kind, kinds_in}
 use Rattle.module_tree.specs.laws.Kept.{only_large}
-use Rattle.module_tree.proofs.AlgorithmEnds.{run, Going, none_past, WalkedThere, walked_there}
-use Rattle.module_tree.proofs.SwappedComment.{all_sound}
+use Rattle.module_tree.proofs.AlgorithmEnds.{run, Going, none_past, walked_there}
+use Rattle.module_tree.proofs.PartsSound.{all_sound}
 use Rattle.syntax_print.specs.laws.HoldsPrinted.{past_stage}
 use Rattle.syntax_print.proofs.Chunks.{seen, seen_is}
 use Rattle.syntax_print.proofs.WholeText.{front_word}

@@ -263,7 +263,7 @@ module _ (s : Syntax) (a : Algorithm) (h : IsPrintable a) (w : Text) (n left : �
     is_text = is_b ∙ ap Some (sym same ∙ is_there);
     begins = refl;
     ends = ends_at;
-    ended_so = ended_there;
+    stage = ended_there;
     bytes = stretch_is w p (printed s a) (c ++ r) n there.rest.to text_is size (ends_at ∙ ap (λ (k : ℕ). k + length (printed s a)) size);
     tree = algorithm_of x.form;
     spelled = (x.form, x.good, spelled_there, refl);

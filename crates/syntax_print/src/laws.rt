@@ -1,6 +1,6 @@
 //! Laws of printed algorithms, stated as what functions without a body ensure.
 
-ghost use Rattle.std.specs.Prelude.{◌≡◌, ℕ, List, [], Bool, true, false, length, drop, Some, Ok};
+ghost use Rattle.std.specs.Prelude.{◌≡◌, ℕ, List, [], true, false, length, drop, Some, Ok};
 ghost use Rattle.tla_token.specs.Tokens as text;
 ghost use Rattle.tla_token.specs.Tokens.{TokAlgorithm, holds_mark, stretch};
 ghost use Rattle.tla_token.specs.declared.place.Place.{Place};

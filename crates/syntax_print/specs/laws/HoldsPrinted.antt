@@ -23,7 +23,7 @@ pub record HoldsPrinted (s : Syntax) (g : Algorithm) (from : ℕ) (w : Text) : T
   pub begins : text.from ≡ from
   pub ends : text.rest.to ≡ from + length (printed s g)
   -- its end was found, and it is taken for one in this syntax
-  pub ended_so : text.rest.stage ≡ past_stage s
+  pub stage : text.rest.stage ≡ past_stage s
   pub bytes : stretch w text.from text.rest.to ≡ printed s g
   pub tokens : TokAlgorithm w text.from text.rest.to (algorithm_tokens w text)
   pub tree : Algorithm
