@@ -18,18 +18,18 @@ use Rattle.module_tree.proofs.Braces.{opened_c, other_c, closed_last, closed_mor
 
 -- ---- its tokens, one after another
 
-abbrev run : Stage → List Kind → Stage
+abbrev pub run : Stage → List Kind → Stage
 run st [] = st
 run st (k ∷ ks) = run (next st k) ks
 
 -- it isn't past its end before any of these
-abbrev Going : Stage → List Kind → Type 0
+abbrev pub Going : Stage → List Kind → Type 0
 Going st [] = Unit {0}
 Going st (k ∷ ks) = (is_past st ≡ false) × Going (next st k) ks
 
-record Walked (st : Stage) (i : Inside) : Type 0 where
-  stage : i.stage ≡ run st (kinds_in i.parts)
-  going : Going st (kinds_in i.parts)
+pub record Walked (st : Stage) (i : Inside) : Type 0 where
+  pub stage : i.stage ≡ run st (kinds_in i.parts)
+  pub going : Going st (kinds_in i.parts)
 
 one_more : (st : Stage) (n : ℕ) (p : Part) (i : Inside) → is_past st ≡ false → Walked (after_part st (kind_in p)) i → Walked st (with_part (n, p) i)
 one_more st n p i e w = by (kind_in p) refl w
@@ -76,7 +76,7 @@ no_pair : (k : Kind) (us vs : List Kind) → k ∷ [] ≡ us ++ (end_algorithm +
 no_pair k [] vs e = absurd cc
 no_pair k (u ∷ us) vs e = no_room (name (codes "end")) us (name (codes "algorithm") ∷ vs) (ap (drop 1) e)
 
-none_past : (st : Stage) (ks : List Kind) → is_past st ≡ true → Going st ks → ks ≡ []
+pub none_past : (st : Stage) (ks : List Kind) → is_past st ≡ true → Going st ks → ks ≡ []
 none_past st [] e g = refl
 none_past st (k ∷ ks) e g = (let f : false ≡ true = sym g.0 ∙ e in absurd cc)
 
@@ -352,6 +352,18 @@ at_c : (n left : ℕ) (s : Text) → (algorithm_at n left s).rest.stage ≡ past
 at_c n left s e =
     let w = walked (head (if is_fair s then 1 else 0)) (n + length (opening s)) 0 (left - length (opening s)) (drop (length (opening s)) s) in
     subst (λ (m : ℕ). EndsWithBrace (drop 1 (drop m (kinds_in (algorithm_at n left s).rest.parts)))) (sym (words_are s)) (headed_c (if is_fair s then 1 else 0) (kinds_in (algorithm_at n left s).rest.parts) (sym w.stage ∙ e) w.going)
+
+-- the algorithm of a file, by its tokens: its first word, and what it is walked as
+pub record WalkedThere (a : AlgorithmText) : Type 0 where
+  pub fair : Bool
+  pub is_word : a.opening ≡ (if fair then codes "--fair" else codes "--algorithm")
+  pub is : Walked (head (if fair then 1 else 0)) a.rest
+
+pub walked_there : (x : Text) (a : AlgorithmText) → algorithm_in x ≡ Some a → WalkedThere a
+walked_there x a e =
+    let b = begun x (walk x) a e in
+    let s = drop b.at x in
+    subst WalkedThere (sym b.is) (record { fair = is_fair s; is_word = refl; is = walked (head (if is_fair s then 1 else 0)) (b.at + length (opening s)) 0 (b.left - length (opening s)) (drop (length (opening s)) s) })
 
 pub ends_p : (x : Text) (a : AlgorithmText) → algorithm_in x ≡ Some a → a.rest.stage ≡ past_p → EndsWithWords (from_name a)
 ends_p x a e past =

@@ -88,7 +88,7 @@ no_seconds : (ns : List ℕ) → offences_at TwoAlgorithms ns ≡ [] → ns ≡ 
 no_seconds [] e = refl
 no_seconds (n ∷ ns) e = absurd cc
 
-all_parts : (p : ℕ → Bool) (ns ms : List ℕ) → list_all p (ns ++ ms) ≡ true → (list_all p ns ≡ true) × (list_all p ms ≡ true)
+pub all_parts : (p : ℕ → Bool) (ns ms : List ℕ) → list_all p (ns ++ ms) ≡ true → (list_all p ns ≡ true) × (list_all p ms ≡ true)
 all_parts p [] ms h = (refl, h)
 all_parts p (n ∷ ns) ms h =
     let k = and_parts (p n) (list_all p (ns ++ ms)) h in
@@ -195,17 +195,17 @@ pub algorithm_at_first : (x : Text) (d : Located) (n : ℕ) → find holds_algor
 algorithm_at_first x d n f o = rw (f, o) refl
 
 -- what is known of the algorithm in a file that is not refused
-record FirstFine (x : Text) (d : Located) (n : ℕ) (others : List ℕ) : Type 0 where
-  offences : algorithm_offences (Some (at_comment x d n)) ≡ []
-  within_tokens : list_all (in_token (at_comment x d n)) others ≡ true
-  placed : Placed x d n
+pub record FirstFine (x : Text) (d : Located) (n : ℕ) (others : List ℕ) : Type 0 where
+  pub offences : algorithm_offences (Some (at_comment x d n)) ≡ []
+  pub within_tokens : list_all (in_token (at_comment x d n)) others ≡ true
+  pub placed : Placed x d n
 
 pub placed_at : (x : Text) (d : Located) (n : ℕ) → offences_of (walk x) ≡ [] → find holds_algorithm (walk x) ≡ Some d → first_of (beginnings_in d) ≡ Some n → Placed x d n
 placed_at x d n fine f o =
     let split = before_whole holds_algorithm (walk x) d f in
     placed x (before_first holds_algorithm (walk x)) (after_first holds_algorithm (walk x)) d n (fine_here x _ _ d fine split) split o
 
-first_fine : (x : Text) (d : Located) (n : ℕ) (others : List ℕ) → IsFine x → find holds_algorithm (walk x) ≡ Some d → first_of (beginnings_in d) ≡ Some n → beginnings (walk x) ≡ n ∷ others
+pub first_fine : (x : Text) (d : Located) (n : ℕ) (others : List ℕ) → IsFine x → find holds_algorithm (walk x) ≡ Some d → first_of (beginnings_in d) ≡ Some n → beginnings (walk x) ≡ n ∷ others
     → FirstFine x d n others
 first_fine x d n others fine f o all =
     let s = all_fine_in x fine in

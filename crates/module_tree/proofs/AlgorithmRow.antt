@@ -3,7 +3,7 @@ use Rattle.std.proofs.Common.{◌≡◌, ℕ, zero, suc, ◌+◌, ◌-◌, ◌<�
 use Rattle.std.specs.Prelude.{if◌then◌else◌, is_some}
 use Rattle.std.specs.List.{flat_map, list_any}
 use Rattle.std.proofs.lemmas.Bool.{and_parts, leb-true, le-leb, ltb-true, lt-ltb}
-use Rattle.tla_token.specs.Tokens.{bytes_of}
+use Rattle.tla_token.specs.Tokens.{Piece, bytes_of, text_of as pieces_text}
 use Rattle.tla_token.specs.Offences.{Part, sound, part_bytes, part_offences}
 use Rattle.module_tree.specs.TextFront.{Text}
 use Rattle.module_tree.specs.Beginnings.{is_fair, opening}
@@ -106,6 +106,24 @@ in_before n e (p ∷ ps) k h i = by (is_in p k) refl (in_before (n + length (par
         bound : (a l : ℕ) → k < a + l → a ≡ n → n + l ≤ e → k < e
         bound a l f g m = omega arith
     by false b deeper = (let more : are_in ps k ≡ true = rw b at i in deeper more)
+
+-- they end with their last byte
+pub row_ends : (n e : ℕ) (ps : List IndexedPart) (qs : List Piece) → InRow n e ps → map (λ p. p.1) ps ≡ map sound qs → InRow n (n + length (pieces_text qs)) ps
+row_ends n e [] [] h s = none n
+  where
+    none : (n : ℕ) → n ≤ n + 0
+    none n = omega arith
+row_ends n e [] (q ∷ qs) h s = absurd cc
+row_ends n e (p ∷ ps) [] h s = absurd cc
+row_ends n e (p ∷ ps) (q ∷ qs) h s =
+    let first : p.1 ≡ sound q = cc in
+    let more : map (λ p. p.1) ps ≡ map sound qs = cc in
+    let size : length (part_bytes p.1) ≡ length (bytes_of q) = ap (λ (p : Part). length (part_bytes p)) first in
+    let end : n + length (part_bytes p.1) + length (pieces_text qs) ≡ n + length (pieces_text (q ∷ qs)) = sum (length (part_bytes p.1)) (length (bytes_of q)) (length (pieces_text qs)) (length (pieces_text (q ∷ qs))) size (length-append (bytes_of q) (pieces_text qs)) in
+    (h.0, subst (λ (e : ℕ). InRow (n + length (part_bytes p.1)) e ps) end (row_ends (n + length (part_bytes p.1)) e ps qs h.1 more))
+  where
+    sum : (a b c d : ℕ) → a ≡ b → d ≡ b + c → n + a + c ≡ n + d
+    sum a b c d e f = omega arith
 
 same_test : (x y : Bool) → (x ≡ true → y ≡ true) → (y ≡ true → x ≡ true) → x ≡ y
 same_test true true f g = refl

@@ -66,3 +66,7 @@ pub mod WrittenRegion
 pub mod First
 pub mod Braces
 pub mod AlgorithmEnds
+pub mod OnlyBeginnings
+pub mod PlacesAlike
+pub mod OptionsSwapped
+pub mod PartsSound

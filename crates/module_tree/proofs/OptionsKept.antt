@@ -55,13 +55,13 @@ blanks_more (c ∷ s) r m (b, u, i) e = by (is_blank c) refl
         let all : past_all is_blank s ≡ b ∷ u = same_Some (past_all is_blank s) m f ∙ i in
         rw k (ap (λ (u : Text). Some u) (past_all_more is_blank s r b u all ∙ ap (λ (u : Text). u ++ r) (sym i)))
 
-abbrev bracket_after : Text → Option Text
+abbrev pub bracket_after : Text → Option Text
 bracket_after r = past_word (codes "(") (past_all is_blank r)
 
-abbrev options_after : Text → Option Text
+abbrev pub options_after : Text → Option Text
 options_after r = on_some (past_word (codes "options") r) bracket_after
 
-abbrev blanks_after : Text → Option Text
+abbrev pub blanks_after : Text → Option Text
 blanks_after r = on_some (past_blanks is_blank r) options_after
 
 some_word : (m : Text) → is_some (options_after m) ≡ true → IsMore m
@@ -93,11 +93,11 @@ options_more s r h =
 
 -- ---- none in a text: none in its parts
 
-index_parts : (k : Bool) (n : ℕ) (ns : List ℕ) → index_if k n ns ≡ [] → (k ≡ false) × (ns ≡ [])
+pub index_parts : (k : Bool) (n : ℕ) (ns : List ℕ) → index_if k n ns ≡ [] → (k ≡ false) × (ns ≡ [])
 index_parts true n ns e = absurd cc
 index_parts false n ns e = (refl, e)
 
-none_in_front : (n m : ℕ) (u v : Text) → all_at is_options n (u ++ v) ≡ [] → all_at is_options m u ≡ []
+pub none_in_front : (n m : ℕ) (u v : Text) → all_at is_options n (u ++ v) ≡ [] → all_at is_options m u ≡ []
 none_in_front n m [] v e = refl
 none_in_front n m (b ∷ u) v e = by (is_options (b ∷ u)) refl (none_in_front (suc n) (suc m) u v)
   where
@@ -108,17 +108,17 @@ none_in_front n m (b ∷ u) v e = by (is_options (b ∷ u)) refl (none_in_front 
     by true k deeper = absurd (both_ways (is_options (b ∷ (u ++ v))) parts.0 (options_more (b ∷ u) v k))
     by false k deeper = rw k (deeper parts.1)
 
-none_elsewhere : (n m : ℕ) (u : Text) → all_at is_options n u ≡ [] → all_at is_options m u ≡ []
+pub none_elsewhere : (n m : ℕ) (u : Text) → all_at is_options n u ≡ [] → all_at is_options m u ≡ []
 none_elsewhere n m u e = none_in_front n m u [] (ap (all_at is_options n) (append-nil u) ∙ e)
 
-none_behind : (n m : ℕ) (u v : Text) → all_at is_options n (u ++ v) ≡ [] → all_at is_options m v ≡ []
+pub none_behind : (n m : ℕ) (u v : Text) → all_at is_options n (u ++ v) ≡ [] → all_at is_options m v ≡ []
 none_behind n m [] v e = none_elsewhere n m v e
 none_behind n m (b ∷ u) v e = none_behind (suc n) m u v (index_parts (is_options (b ∷ (u ++ v))) n (all_at is_options (suc n) (u ++ v)) e).1
 
 abbrev pub NoOptions : Text → Type 0
 NoOptions u = all_at is_options 0 u ≡ []
 
-no_offence : (ns : List ℕ) → offences_at Options ns ≡ [] → ns ≡ []
+pub no_offence : (ns : List ℕ) → offences_at Options ns ≡ [] → ns ≡ []
 no_offence [] e = refl
 no_offence (n ∷ ns) e = absurd cc
 
@@ -160,7 +160,7 @@ from_header hd front = text_of (hd ∷ after_first is_line front)
 abbrev pub to_end : List Located → Text
 to_end back = text_of (before_first is_end back)
 
-first_skipped : (q : Segment → Bool) (ds es : List Located) → none_such q ds ≡ true → first_that q (ds ++ es) ≡ first_that q es
+pub first_skipped : (q : Segment → Bool) (ds es : List Located) → none_such q ds ≡ true → first_that q (ds ++ es) ≡ first_that q es
 first_skipped q [] es n = refl
 first_skipped q (d ∷ ds) es n =
     let k = and_parts (not (q d.is)) (none_such q ds) n in
@@ -174,7 +174,7 @@ pub record HasEnds (front back : List Located) : Type 0 where
   pub ended : first_that is_tail back ≡ Some tl
   pub endless : none_such is_tail front ≡ true
 
-one_stretch : (y : Text) (front back : List Located) (h : HasEnds front back) → walk y ≡ front ++ back → region_of (walk y) ≡ None
+pub one_stretch : (y : Text) (front back : List Located) (h : HasEnds front back) → walk y ≡ front ++ back → region_of (walk y) ≡ None
     → flat_map (options_in y) (outside_region y (walk y)) ≡ offences_at Options (all_at is_options h.hd.at (from_header h.hd front ++ to_end back)) ++ []
 one_stretch y front back h w none =
     ap (flat_map (options_in y)) spans ∙ ap (λ (u : Text). offences_at Options (all_at is_options h.hd.at u) ++ [])
@@ -198,35 +198,43 @@ one_stretch y front back h w none =
         in_order : (a b c d : List Located) → (a ++ b) ++ (c ++ d) ≡ a ++ ((b ++ c) ++ d)
         in_order a b c d = simp append_assoc refl
 
-two_stretches : (y : Text) (front back : List Located) (h : HasEnds front back) (old here : Located) → walk y ≡ front ++ old ∷ here ∷ back → region_of (walk y) ≡ Some old
-    → is_tail old.is ≡ false → here.is ≡ newline_segment
+pub two_parts : (y : Text) (front back : List Located) (h : HasEnds front back) (old : Located) → walk y ≡ front ++ old ∷ back → region_of (walk y) ≡ Some old → is_tail old.is ≡ false
     → flat_map (options_in y) (outside_region y (walk y))
-    ≡ offences_at Options (all_at is_options h.hd.at (from_header h.hd front)) ++ (offences_at Options (all_at is_options (old.at + length (bytes old.is)) (10 ∷ to_end back)) ++ [])
-two_stretches y front back h old here w some other newline =
+    ≡ offences_at Options (all_at is_options h.hd.at (from_header h.hd front)) ++ (offences_at Options (all_at is_options (old.at + length (bytes old.is)) (to_end back)) ++ [])
+two_parts y front back h old w some other =
     ap (flat_map (options_in y)) spans
     ∙ (λ i. offences_at Options (all_at is_options h.hd.at (first i)) ++ (offences_at Options (all_at is_options (old.at + length (bytes old.is)) (second i)) ++ []))
   where
     header_here : first_that is_header_line (walk y) ≡ Some h.hd
-    header_here = ap (first_that is_header_line) w ∙ first_kept is_header_line front (old ∷ here ∷ back) (ap (λ (o : Option Located). is_some o) h.found) ∙ h.found
+    header_here = ap (first_that is_header_line) w ∙ first_kept is_header_line front (old ∷ back) (ap (λ (o : Option Located). is_some o) h.found) ∙ h.found
 
-    over_two : first_that is_tail (old ∷ here ∷ back) ≡ first_that is_tail back
-    over_two = rw (other, newline) refl
+    over_one : first_that is_tail (old ∷ back) ≡ first_that is_tail back
+    over_one = rw other refl
 
     end_here : module_end (walk y) ≡ Some h.tl.at
-    end_here = ap (λ (o : Option Located). on_some o (λ d. Some d.at)) (ap (first_that is_tail) w ∙ first_skipped is_tail front (old ∷ here ∷ back) h.endless ∙ over_two ∙ h.ended)
+    end_here = ap (λ (o : Option Located). on_some o (λ d. Some d.at)) (ap (first_that is_tail) w ∙ first_skipped is_tail front (old ∷ back) h.endless ∙ over_one ∙ h.ended)
 
     spans : outside_region y (walk y) ≡ record { from = h.hd.at; to = old.at } ∷ record { from = old.at + length (bytes old.is); to = h.tl.at } ∷ []
     spans = rw (header_here, end_here, some) refl
 
     first : stretch y h.hd.at old.at ≡ from_header h.hd front
     first =
-        between y (before_first is_line front) (after_first is_line front) (here ∷ back) h.hd old
-        (w ∙ ap (λ (ds : List Located). ds ++ old ∷ here ∷ back) (before_whole is_line front h.hd h.found) ∙ append_assoc (before_first is_line front) (h.hd ∷ after_first is_line front) (old ∷ here ∷ back))
+        between y (before_first is_line front) (after_first is_line front) back h.hd old
+        (w ∙ ap (λ (ds : List Located). ds ++ old ∷ back) (before_whole is_line front h.hd h.found) ∙ append_assoc (before_first is_line front) (h.hd ∷ after_first is_line front) (old ∷ back))
 
-    second : stretch y (old.at + length (bytes old.is)) h.tl.at ≡ 10 ∷ to_end back
-    second =
-        beyond y front (here ∷ before_first is_end back) (after_first is_end back) old h.tl (w ∙ ap (λ (ds : List Located). front ++ old ∷ here ∷ ds) (before_whole is_end back h.tl h.ended))
-        ∙ ap (λ (g : Segment). bytes g ++ to_end back) newline
+    second : stretch y (old.at + length (bytes old.is)) h.tl.at ≡ to_end back
+    second = beyond y front (before_first is_end back) (after_first is_end back) old h.tl (w ∙ ap (λ (ds : List Located). front ++ old ∷ ds) (before_whole is_end back h.tl h.ended))
+
+-- where a newline is after the region
+two_stretches : (y : Text) (front back : List Located) (h : HasEnds front back) (old here : Located) → walk y ≡ front ++ old ∷ here ∷ back → region_of (walk y) ≡ Some old
+    → is_tail old.is ≡ false → here.is ≡ newline_segment
+    → flat_map (options_in y) (outside_region y (walk y))
+    ≡ offences_at Options (all_at is_options h.hd.at (from_header h.hd front)) ++ (offences_at Options (all_at is_options (old.at + length (bytes old.is)) (10 ∷ to_end back)) ++ [])
+two_stretches y front back h old here w some other newline =
+    let over : first_that is_tail (here ∷ back) ≡ first_that is_tail back = rw newline refl in
+    let text : to_end (here ∷ back) ≡ 10 ∷ to_end back = rw newline refl in
+    two_parts y front (here ∷ back) (record { hd = h.hd; tl = h.tl; found = h.found; ended = over ∙ h.ended; endless = h.endless }) old w some other
+    ∙ ap (λ (u : Text). offences_at Options (all_at is_options h.hd.at (from_header h.hd front)) ++ (offences_at Options (all_at is_options (old.at + length (bytes old.is)) u) ++ [])) text
 
 -- ---- segments that are moved
 

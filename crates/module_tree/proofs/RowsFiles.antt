@@ -15,7 +15,7 @@ use Rattle.module_tree.specs.AlgorithmText.{AlgorithmText, Stage, open_p, past_p
 use Rattle.module_tree.specs.FileUnits.{units_in}
 use Rattle.module_tree.specs.FileOffences.{file_offences}
 use Rattle.module_tree.specs.laws.Kept.{IsFine, TokensMoved, AlgorithmMoved}
-use Rattle.module_tree.specs.laws.Swaps.{is_paired, segments, SwapsComment}
+use Rattle.module_tree.specs.laws.Swaps.{is_paired, segments, SwapsComment, BeginsThere}
 
 abbrev head : Text
 head = codes "---- MODULE M ----\n"
@@ -309,3 +309,6 @@ swapped_comment = record {
   holds = refl;
   sound = refl;
 }
+
+begins_there : BeginsThere (codes "--algorithm B {\n}") after_swap (algorithm_there before_swap)
+begins_there = record { algorithm = algorithm_there after_swap; is_algorithm = refl; from = refl; opening = refl; behind = codes " "; begun = refl; none_behind = refl; placed = refl }

@@ -1,7 +1,8 @@
 -- A file with another algorithm is walked as before, but for the algorithm's comment, where both algorithms open and close comments only within themselves.
-use Rattle.std.proofs.Common.{◌≡◌, inl, append-nil, codes, ℕ, zero, ◌+◌, ◌-◌, ◌≤◌, Bool, true, false, nat_eq, List, [], ◌∷◌, ◌++◌, length, take, drop, Option, Some, None, refl, sym, ap, subst, ◌∙◌, arith, append_assoc, length-append, find}
+use Rattle.std.proofs.Common.{◌≡◌, inl, append-nil, codes, ℕ, zero, ◌+◌, ◌-◌, ◌<◌, ◌≤◌, Bool, true, false, nat_eq, nat_lt, List, [], ◌∷◌, ◌++◌, length, map, take, drop, Option, Some, None, refl, sym, ap, subst, ◌∙◌, arith, append_assoc, length-append, find}
 use Rattle.std.specs.Prelude.{if◌then◌else◌, is_some}
-use Rattle.std.proofs.lemmas.Bool.{both_ways}
+use Rattle.std.specs.List.{flat_map, list_all}
+use Rattle.std.proofs.lemmas.Bool.{both_ways, and_from, lt-ltb}
 use Rattle.std.proofs.lemmas.Option.{none-some, same_Some}
 use Rattle.std.proofs.Math.Seq.{take-append_seam, drop-append_seam}
 use Rattle.tla_token.specs.declared.place.Place.{Place}
@@ -13,27 +14,32 @@ use Rattle.module_tree.specs.TextFront.{Text, whole_line}
 use Rattle.module_tree.specs.HeaderAndRegion.{is_header}
 use Rattle.module_tree.specs.Beginnings.{is_fair, opening, begins_algorithm, all_at}
 use Rattle.module_tree.specs.ModuleParts.{module_part}
-use Rattle.module_tree.specs.Walk.{Segment, free, header, part, bytes, State, in_module, segment_at, after_segment, Located, walk_from, walk, at_start}
-use Rattle.module_tree.specs.FileParts.{before_first, after_first, within, beginnings_in, first_of, holds_algorithm}
-use Rattle.module_tree.specs.AlgorithmText.{head, AlgorithmText, algorithm_in}
-use Rattle.module_tree.specs.FileOffences.{segment_offences, offences_of, algorithm_offences}
+use Rattle.module_tree.specs.Walk.{Segment, free, header, part, bytes, is_region, is_tail, State, in_module, segment_at, after_segment, Located, walk_from, walk, at_start}
+use Rattle.module_tree.specs.FileParts.{before_first, after_first, within, beginnings_in, beginnings, first_of, holds_algorithm, is_newline}
+use Rattle.module_tree.specs.FileUnits.{kind_of_segment}
+use Rattle.module_tree.specs.AlgorithmText.{head, AlgorithmText, algorithm_in, in_token}
+use Rattle.module_tree.specs.FileOffences.{segment_offences, offences_of, algorithm_offences, placements, outside_region, options_in}
 use Rattle.module_tree.specs.WithTranslation.{Swapped}
 use Rattle.module_tree.specs.laws.Walks.{text_of, are_calm, after_all, located}
 use Rattle.module_tree.specs.laws.Kept.{IsFine, only_large}
-use Rattle.module_tree.specs.laws.Swaps.{is_paired, segments, SwapsComment}
+use Rattle.module_tree.specs.laws.Swaps.{is_paired, segments, AddsNoOptions, SwapsComment, BeginsThere}
 use Rattle.module_tree.proofs.WalkAround.{suffixed}
 use Rattle.module_tree.proofs.WalkPlace.{both_empty, before_whole, text_append, after_append, offences_append, fine_calm, before_tail, walk_tails, tails_last, met, after_both, places_after}
 use Rattle.module_tree.proofs.WalkKept.{all_fine_in, at_is}
 use Rattle.module_tree.proofs.WalkSame.{segment_anywhere}
 use Rattle.module_tree.proofs.WalkBefore.{walk_before, walk_step}
-use Rattle.module_tree.proofs.WalkAlike.{begins_after, some_after, alike}
+use Rattle.module_tree.proofs.WalkAlike.{begins_after, some_after, shown, shown_alike, same_segments}
 use Rattle.module_tree.proofs.PairedMarks.{stays_closed}
 use Rattle.module_tree.proofs.AlgorithmTokens.{are_plain, cut_inside}
 use Rattle.module_tree.proofs.AlgorithmFound.{stretch_is, opened, made_there}
 use Rattle.module_tree.proofs.AlgorithmIsCut.{block_segment, block_closed, closes_end, part_there, within_mark, Placed}
 use Rattle.module_tree.proofs.AlgorithmSame.{at_comment}
-use Rattle.module_tree.proofs.AlgorithmKept.{placed_at, algorithm_at_first}
-use Rattle.module_tree.proofs.BeginningsKept.{found_back}
+use Rattle.module_tree.proofs.AlgorithmKept.{placed_at, algorithm_at_first, all_parts, first_fine}
+use Rattle.module_tree.proofs.AlgorithmRow.{row_of, row_ends, in_before}
+use Rattle.module_tree.proofs.BeginningsKept.{found_back, none_held, begun_in, beginnings_append, comment_size}
+use Rattle.module_tree.proofs.OnlyBeginnings.{none_anywhere, over_front, none_past, all_before, none_there, none_after}
+use Rattle.module_tree.proofs.OptionsSwapped.{SwapsSegment, swapped_options}
+use Rattle.module_tree.proofs.PlacesAlike.{Like, is_space, like_self, like_both, like_shown, placed_alike}
 use Rattle.module_tree.proofs.FirstSwapped.{first_swapped, begins_more}
 
 -- ---- a comment in a module
@@ -82,6 +88,7 @@ record Held (x : Text) (d : Located) (a : AlgorithmText) : Type 0 where
   to : a.rest.to ≡ a.from + length (stretch x a.from a.rest.to)
   rest : Text
   dash : stretch x a.from a.rest.to ≡ 45 ∷ 45 ∷ rest
+  before_end : (k : ℕ) → in_token a k ≡ true → k < a.rest.to
 
 held : (x : Text) (d : Located) (n : ℕ) → Placed x d n → are_plain (at_comment x d n).rest.parts ≡ true → Held x d (at_comment x d n)
 held x d n q plain =
@@ -98,7 +105,13 @@ held x d n q plain =
     stretch_is x q.p text (c.more ++ q.r) n (at_comment x d n).rest.to (q.text ∙ ap (λ (u : Text). q.p ++ (u ++ q.r)) split ∙ ap (λ (u : Text). q.p ++ u) (append_assoc text c.more q.r)) q.from
     (to ∙ ap (λ (k : ℕ). k + length text) q.from) in
     let first = dashed (is_fair q.v) in
+    let before = (at_comment x d n).rest.parts in
+    let parts : map (λ p. p.1) before ≡ map sound c.pieces = ap (λ (a : AlgorithmText). map (λ p. p.1) a.rest.parts) is ∙ c.parts in
+    let name = n + length (at_comment x d n).opening in
+    let row = row_ends name (n + length q.v) before c.pieces (row_of x d n q plain) parts in
+    let ends : name + length (pieces_text c.pieces) ≡ (at_comment x d n).rest.to = ap (λ (a : AlgorithmText). n + length a.opening + length (pieces_text c.pieces)) is ∙ sym c.to ∙ sym (ap (λ (a : AlgorithmText). a.rest.to) is) in
     record {
+      before_end = λ k h. subst (λ (e : ℕ). k < e) ends (in_before name (name + length (pieces_text c.pieces)) before k row h);
       front = q.u;
       back = c.more;
       at = q.at;
@@ -266,15 +279,82 @@ module _ (x u w : Text) (a : AlgorithmText) (fine : IsFine x) (s : Swapped x (45
       in_order : (p v q m : Text) → p ++ (v ++ (q ++ m)) ≡ (p ++ (v ++ q)) ++ m
       in_order p v q m = simp append_assoc refl
 
-  same_after : segments es ≡ segments after_there
-  same_after =
+  shown_after : shown es ≡ shown after_there
+  shown_after =
       let old : Segment = part (sound (block block_is.0)) in
       let from : after_all at_start (ds ++ d ∷ []) ≡ after_segment st old = after_append at_start ds (d ∷ []) ∙ ap (after_segment st) block_is.1 in
       let walked_old : walk_from (after_segment st old) 0 c ≡ es = ap (λ (st : State). walk_from st 0 c) (sym from) ∙ behind.2 in
       let line_old : nat_eq (after_segment st old).place.col 1 ≡ false = ap (λ (b : Text). nat_eq (after st.place (40 ∷ 42 ∷ b)).col 1) body_is ∙ ended (stretch x a.from a.rest.to) in
-      ap segments (sym walked_old)
-      ∙ alike (after_segment st old) (after_segment st new) c (rw headed refl) (rw headed refl) (some_after st.place (bytes old) some_place) (some_after st.place (bytes new) some_place)
+      ap shown (sym walked_old)
+      ∙ shown_alike (after_segment st old) (after_segment st new) c (rw headed refl) (rw headed refl) (some_after st.place (bytes old) some_place) (some_after st.place (bytes new) some_place)
       (line_old ∙ sym (ended (45 ∷ u))) (inl refl)
+
+  same_after : segments es ≡ segments after_there
+  same_after = same_segments es after_there shown_after
+
+  -- nothing else begins an algorithm in the file that was read
+  abbrev before : List ℕ
+  before = beginnings_in d ++ beginnings es
+
+  all_in : list_all (λ k. nat_lt k a.rest.to) before ≡ true
+  all_in =
+      let b = begun_in (walk x) d found in
+      let same_first : b.n ≡ n = same_Some b.n n (sym b.first ∙ first) in
+      let all : beginnings (walk x) ≡ n ∷ b.others = b.all ∙ ap (λ (k : ℕ). k ∷ b.others) same_first in
+      let mine = first_fine x d n b.others fine found first all in
+      let within_tokens : list_all (in_token a) b.others ≡ true = subst (λ (a : AlgorithmText). list_all (in_token a) b.others ≡ true) same mine.within_tokens in
+      let whole : before ≡ n ∷ b.others = sym (ap beginnings split ∙ beginnings_append ds (d ∷ es) ∙ ap (λ (ns : List ℕ). ns ++ before) (none_held ds (none_before (walk x)))) ∙ all in
+      let from_is : a.from ≡ n = ap (λ (a : AlgorithmText). a.from) (sym same) in
+      let to = holding.to in
+      let size = ap length holding.dash in
+      ap (list_all (λ k. nat_lt k a.rest.to)) whole
+      ∙ and_from (nat_lt n a.rest.to) (list_all (λ k. nat_lt k a.rest.to) b.others) (lt-ltb n a.rest.to (omega (arith, to, size, from_is))) (all_before (in_token a) a.rest.to b.others holding.before_end within_tokens)
+
+  none_behind : all_at begins_algorithm a.rest.to holding.back ≡ []
+  none_behind =
+      let parts = all_parts (λ k. nat_lt k a.rest.to) (beginnings_in d) (beginnings es) all_in in
+      let text : within d.is ≡ (holding.front ++ stretch x a.from a.rest.to) ++ holding.back = holding.inner ∙ sym (append_assoc holding.front (stretch x a.from a.rest.to) holding.back) in
+      let at = holding.at in
+      let to = holding.to in
+      let size = length-append holding.front (stretch x a.from a.rest.to) in
+      none_past begins_algorithm a.rest.to (d.at + 2) (holding.front ++ stretch x a.from a.rest.to) holding.back (omega (arith, at, to, size))
+      (ap (λ (t : Text). list_all (λ k. nat_lt k a.rest.to) (all_at begins_algorithm (d.at + 2) t)) (sym text) ∙ parts.0)
+
+  none_after_there : beginnings after_there ≡ []
+  none_after_there =
+      let parts = all_parts (λ k. nat_lt k a.rest.to) (beginnings_in d) (beginnings es) all_in in
+      let at = holding.at in
+      let to = holding.to in
+      let inner = ap length holding.inner ∙ length-append holding.front (stretch x a.from a.rest.to ++ holding.back) in
+      let size = length-append (stretch x a.from a.rest.to) holding.back in
+      let marks = comment_size d.is n (d.at + 2) first in
+      none_there es after_there same_after (none_after x ds es d a.rest.to split (omega (arith, at, to, inner, size, marks)) parts.1)
+
+  in_segment : SwapsSegment x w (45 ∷ holding.rest) u
+  in_segment =
+      let is = block_is.1 in
+      record {
+        front = ds;
+        old = d;
+        new = located st new;
+        back = es;
+        back_there = after_there;
+        here = split;
+        there = walked_there;
+        same = same_after;
+        opened = 40 ∷ 42 ∷ holding.front;
+        closed = ending;
+        bytes_here = ap bytes is ∙ ap (λ (b : Text). 40 ∷ 42 ∷ b) (body_is ∙ ap (λ (t : Text). holding.front ++ (t ++ ending)) holding.dash);
+        bytes_there = refl;
+        headed = headed;
+        no_region = ap is_region is;
+        no_tail = ap is_tail is;
+        no_region_there = refl;
+        no_tail_there = refl;
+      }
+
+  no_options : AddsNoOptions (45 ∷ u) → flat_map (options_in w) (outside_region w (walk w)) ≡ []
+  no_options adds = (let all = all_fine_in x fine in swapped_options x w (45 ∷ holding.rest) u in_segment adds all.parts.ends all.options)
 
   swaps_comment : SwapsComment x (45 ∷ u) w a
   swaps_comment = record {
@@ -297,8 +377,26 @@ module _ (x u w : Text) (a : AlgorithmText) (fine : IsFine x) (s : Swapped x (45
       in_order : (p v q m : Text) → p ++ (v ++ (q ++ m)) ≡ (p ++ (v ++ q)) ++ m
       in_order p v q m = simp append_assoc refl
 
+  comment_alike : holds_algorithm (located st new) ≡ true → Like d (located st new)
+  comment_alike there =
+      let is = block_is.1 in
+      let here : Located = record { at = d.at; place = d.place; is = part (sound (block block_is.0)) } in
+      record {
+        region = ap is_region is;
+        algorithm = ap (λ (o : Option ℕ). is_some o) first ∙ sym there;
+        newline = ap (λ (g : Segment). is_newline (record { at = d.at; place = d.place; is = g })) is;
+        space = ap is_space is;
+        kind = ap kind_of_segment is;
+        line = ap (λ (d : Located). nat_eq d.place.col 1) (sym (met ds d es at_start x split).is);
+      }
+
+  placed_there : holds_algorithm (located st new) ≡ true → placements (walk w) ≡ []
+  placed_there there =
+      let alike = like_both ds ds (d ∷ es) (located st new ∷ after_there) (like_self ds) (comment_alike there, like_shown es after_there shown_after) in
+      ap placements walked_there ∙ placed_alike (ds ++ d ∷ es) (ds ++ located st new ∷ after_there) alike (ap placements (sym split) ∙ (all_fine_in x fine).parts.placed)
+
   -- the algorithm that is there now begins where the old one did
-  begins_there : (v : Text) → u ≡ 45 ∷ v → begins_algorithm (45 ∷ u) ≡ true → (b : AlgorithmText) × (algorithm_in w ≡ Some b) × (b.from ≡ a.from) × (b.opening ≡ opening (45 ∷ u))
+  begins_there : (v : Text) → u ≡ 45 ∷ v → begins_algorithm (45 ∷ u) ≡ true → BeginsThere (45 ∷ u) w a
   begins_there v e begun =
       let front = holding.front in
       let back = holding.back in
@@ -323,12 +421,22 @@ module _ (x u w : Text) (a : AlgorithmText) (fine : IsFine x) (s : Swapped x (45
       let pre = text_of ds ++ 40 ∷ 42 ∷ front in
       let text : w ≡ pre ++ ((45 ∷ u) ++ (ending ++ c)) = text_there ∙ in_pieces (text_of ds) (40 ∷ 42 ∷ []) front (45 ∷ u) ending c in
       let after_it : drop m w ≡ (45 ∷ u) ++ (ending ++ c) = ap (λ (k : ℕ). drop k w) (count ∙ front_size) ∙ ap (drop (length pre)) text ∙ drop-append_seam pre ((45 ∷ u) ++ (ending ++ c)) in
-      let word : opening ((45 ∷ u) ++ (ending ++ c)) ≡ opening (45 ∷ u) = ap (λ (k : Bool). if k then codes "--fair" else codes "--algorithm") ((opened (45 ∷ u) begun).more (ending ++ c)) in (
-        at_comment w there m,
-        algorithm_at_first w there m found_it new_first,
-        count,
-        ap opening after_it ∙ word,
-      )
+      let word : opening ((45 ∷ u) ++ (ending ++ c)) ≡ opening (45 ∷ u) = ap (λ (k : Bool). if k then codes "--fair" else codes "--algorithm") ((opened (45 ∷ u) begun).more (ending ++ c)) in
+      let there_begins : beginnings_in there ≡ all_at begins_algorithm a.from ((45 ∷ u) ++ back) =
+      ap (all_at begins_algorithm (st.at + 2)) new_text
+      ∙ over_front begins_algorithm (st.at + 2) front (45 ∷ 45 ∷ (v ++ back)) (ap (λ (t : Text). first_of (all_at begins_algorithm (st.at + 2) t)) (sym new_text) ∙ new_first)
+      ∙ (λ i. all_at begins_algorithm (count i) (45 ∷ (sym e i ++ back))) in
+      record {
+        algorithm = at_comment w there m;
+        is_algorithm = algorithm_at_first w there m found_it new_first;
+        from = count;
+        opening = ap opening after_it ∙ word;
+        behind = back;
+        begun = ap beginnings walked_there ∙ beginnings_append ds (there ∷ after_there)
+            ∙ (λ i. none_held ds (none_before (walk x)) i ++ (there_begins i ++ none_after_there i)) ∙ append-nil (all_at begins_algorithm a.from ((45 ∷ u) ++ back));
+        none_behind = none_anywhere begins_algorithm a.rest.to (a.from + length (45 ∷ u)) back none_behind;
+        placed = placed_there holds_it;
+      }
     where
       in_order : (p v q m : Text) → p ++ (v ++ (q ++ m)) ≡ (p ++ (v ++ q)) ++ m
       in_order p v q m = simp append_assoc refl
@@ -354,18 +462,29 @@ swapped_comment x u w a fine s is old_paired new_paired = by (find holds_algorit
     by (Some d) f = begun d f (first_of (beginnings_in d)) refl
 
 pub swapped_begins : (x u w : Text) (a : AlgorithmText) → IsFine x → Swapped x (45 ∷ 45 ∷ u) w → algorithm_in x ≡ Some a → is_paired 0 (stretch x a.from a.rest.to) ≡ true → is_paired 0 (45 ∷ 45 ∷ u) ≡ true
-    → begins_algorithm (45 ∷ 45 ∷ u) ≡ true → (b : AlgorithmText) × (algorithm_in w ≡ Some b) × (b.from ≡ a.from) × (b.opening ≡ opening (45 ∷ 45 ∷ u))
+    → begins_algorithm (45 ∷ 45 ∷ u) ≡ true → BeginsThere (45 ∷ 45 ∷ u) w a
 swapped_begins x u w a fine s is old_paired new_paired start_there = by (find holds_algorithm (walk x)) refl
   where
-    Goal : Type 0
-    Goal = (b : AlgorithmText) × (algorithm_in w ≡ Some b) × (b.from ≡ a.from) × (b.opening ≡ opening (45 ∷ 45 ∷ u))
-
-    begun : (d : Located) → find holds_algorithm (walk x) ≡ Some d → (o : Option ℕ) → first_of (beginnings_in d) ≡ o → Goal
+    begun : (d : Located) → find holds_algorithm (walk x) ≡ Some d → (o : Option ℕ) → first_of (beginnings_in d) ≡ o → BeginsThere (45 ∷ 45 ∷ u) w a
     begun d f None o = (let g : None ≡ Some a = rw (f, o) at is in absurd (none-some a g))
     begun d f (Some n) o =
         let g : Some (at_comment x d n) ≡ Some a = rw (f, o) at is in
         begins_there x (45 ∷ u) w a fine s is old_paired new_paired d f n o (same_Some (at_comment x d n) a g) u refl start_there
 
-    by : (o : Option Located) → find holds_algorithm (walk x) ≡ o → Goal
+    by : (o : Option Located) → find holds_algorithm (walk x) ≡ o → BeginsThere (45 ∷ 45 ∷ u) w a
+    by None f = (let g : None ≡ Some a = rw f at is in absurd (none-some a g))
+    by (Some d) f = begun d f (first_of (beginnings_in d)) refl
+
+pub swapped_without : (x u w : Text) (a : AlgorithmText) → IsFine x → Swapped x (45 ∷ u) w → algorithm_in x ≡ Some a → is_paired 0 (stretch x a.from a.rest.to) ≡ true → is_paired 0 (45 ∷ u) ≡ true
+    → AddsNoOptions (45 ∷ u) → flat_map (options_in w) (outside_region w (walk w)) ≡ []
+swapped_without x u w a fine s is old_paired new_paired adds = by (find holds_algorithm (walk x)) refl
+  where
+    begun : (d : Located) → find holds_algorithm (walk x) ≡ Some d → (o : Option ℕ) → first_of (beginnings_in d) ≡ o → flat_map (options_in w) (outside_region w (walk w)) ≡ []
+    begun d f None o = (let g : None ≡ Some a = rw (f, o) at is in absurd (none-some a g))
+    begun d f (Some n) o =
+        let g : Some (at_comment x d n) ≡ Some a = rw (f, o) at is in
+        no_options x u w a fine s is old_paired new_paired d f n o (same_Some (at_comment x d n) a g) adds
+
+    by : (o : Option Located) → find holds_algorithm (walk x) ≡ o → flat_map (options_in w) (outside_region w (walk w)) ≡ []
     by None f = (let g : None ≡ Some a = rw f at is in absurd (none-some a g))
     by (Some d) f = begun d f (first_of (beginnings_in d)) refl

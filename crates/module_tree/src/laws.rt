@@ -1,7 +1,7 @@
 //! Laws of modules, stated as what functions without a body ensure.
 
 ghost use Rattle.std.specs.Prelude.{◌≡◌, ◌+◌, ◌≤◌, nat_eq, ◌++◌, ◌∷◌, [], length, ℕ, List, Some, is_some, true, false};
-ghost use Rattle.std.specs.List.{list_any};
+ghost use Rattle.std.specs.List.{flat_map, list_any};
 ghost use Rattle.tla_token.specs.Tokens.{EndsLine, Closes, stretch, TokAlgorithm};
 ghost use Rattle.tla_token.specs.declared.rule.Refusal.{Refusal};
 ghost use Rattle.module_tree.specs.Module.{Region, RegionUnit, units_of, Module};
@@ -11,14 +11,14 @@ ghost use Rattle.tla_value.specs.Outside.{Outside};
 ghost use Rattle.module_tree.specs.Reading.{Reads, ReadsRegion};
 ghost use Rattle.module_tree.specs.Ways.{is_terminating};
 ghost use Rattle.module_tree.specs.Around.{Around, Swapped};
-ghost use Rattle.module_tree.specs.FileOffences.{RefusesSplit, offences_of, algorithm_offences};
+ghost use Rattle.module_tree.specs.FileOffences.{RefusesSplit, offences_of, algorithm_offences, outside_region, options_in};
 ghost use Rattle.module_tree.specs.TextFront.{Text};
 ghost use Rattle.module_tree.specs.Walk.{State, Located, region, walk, walk_from, at_start, after_segment};
-ghost use Rattle.module_tree.specs.Beginnings.{opening, begins_algorithm};
+ghost use Rattle.module_tree.specs.Beginnings.{begins_algorithm};
 ghost use Rattle.module_tree.specs.FileParts.{before_spot};
 ghost use Rattle.module_tree.specs.WithTranslation.{begin_line, end_line, WithTranslation};
 ghost use Rattle.module_tree.specs.laws.Kept.{IsFine, only_large, KeepsFile, SameAlgorithm, AlgorithmMoved, IsPut};
-ghost use Rattle.module_tree.specs.laws.Swaps.{is_paired, segments, SwapsComment};
+ghost use Rattle.module_tree.specs.laws.Swaps.{is_paired, segments, AddsNoOptions, SwapsComment, BeginsThere};
 ghost use Rattle.module_tree.specs.laws.WritableRegion.{IsRegion, IsReadBack, IsWritten};
 ghost use Rattle.module_tree.specs.Layout.{layout};
 ghost use Rattle.module_tree.specs.laws.PlacelessRegion.{region_placeless};
@@ -154,10 +154,12 @@ pub fn walks_stop_at_comments()
 
 /// A fine file, with another algorithm, is walked as before but for the algorithm's comment, and no segment of it
 /// breaks a rule, where both algorithms open and close comments only within themselves. Its algorithm begins where the old one
-/// did, with the first word that was put there.
+/// did, with the first word that was put there; no other begins but within the text that was put there, nor do options, and there
+/// is still a place for a translation.
 pub fn swaps_keep_the_rest()
-    ensures begins { (x u w : Text) (a : AlgorithmText) → IsFine x → Swapped x (45 ∷ 45 ∷ u) w → algorithm_in x ≡ Some a → is_paired 0 (stretch x a.from a.rest.to) ≡ true → is_paired 0 (45 ∷ 45 ∷ u) ≡ true → begins_algorithm (45 ∷ 45 ∷ u) ≡ true → (b : AlgorithmText) × (algorithm_in w ≡ Some b) × (b.from ≡ a.from) × (b.opening ≡ opening (45 ∷ 45 ∷ u)) }
+    ensures begins { (x u w : Text) (a : AlgorithmText) → IsFine x → Swapped x (45 ∷ 45 ∷ u) w → algorithm_in x ≡ Some a → is_paired 0 (stretch x a.from a.rest.to) ≡ true → is_paired 0 (45 ∷ 45 ∷ u) ≡ true → begins_algorithm (45 ∷ 45 ∷ u) ≡ true → BeginsThere (45 ∷ 45 ∷ u) w a }
     ensures walked { (x u w : Text) (a : AlgorithmText) → IsFine x → Swapped x (45 ∷ u) w → algorithm_in x ≡ Some a → is_paired 0 (stretch x a.from a.rest.to) ≡ true → is_paired 0 (45 ∷ u) ≡ true → SwapsComment x (45 ∷ u) w a }
+    ensures options { (x u w : Text) (a : AlgorithmText) → IsFine x → Swapped x (45 ∷ u) w → algorithm_in x ≡ Some a → is_paired 0 (stretch x a.from a.rest.to) ≡ true → is_paired 0 (45 ∷ u) ≡ true → AddsNoOptions (45 ∷ u) → flat_map (options_in w) (outside_region w (walk w)) ≡ [] }
 {}
 
 /// The algorithm that was replaced, put in the place of the one that replaced it, gives the file that was read.

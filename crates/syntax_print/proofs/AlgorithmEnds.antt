@@ -227,3 +227,35 @@ ends_c x good (in_braces a b) h = inside_levels x good zero (mark b tk.close_bra
 pub ends_there : (s : Syntax) (x : Text) → Good s x → behind_name (around x.around (λ ts. section_tokens x.variables (define x.define (each macro x.macros (each procedure x.procedures (main x.main ts))))) []) ≡ Some []
 ends_there p_syntax x good = ends_p x good x.around good.0
 ends_there c_syntax x good = ends_c x good x.around good.0
+
+-- ---- the syntax is told by a brace behind the name
+
+abbrev pub begins_brace : List Token → Bool
+begins_brace [] = false
+begins_brace (t ∷ ts) = by t.kind
+  where
+    by : TokenView → Bool
+    by (tk.mark tk.open_brace) = true
+    by k = false
+
+keyed_no_brace : (ts : List Token) → is_keyed ts ≡ true → begins_brace ts ≡ false
+keyed_no_brace [] h = refl
+keyed_no_brace (t ∷ ts) h = by t.kind refl
+  where
+    by : (k : TokenView) → t.kind ≡ k → begins_brace (t ∷ ts) ≡ false
+    by (tk.mark m) e = (let f : false ≡ true = rw e at h in absurd cc)
+    by k e = rw e refl
+
+abbrev pub in_braces_in : Syntax → Bool
+in_braces_in p_syntax = false
+in_braces_in c_syntax = true
+
+braced_by : (s : Syntax) (x : Text) → Good s x → (r : Around) → GoodAround s r → begins_brace (around r (inside x) []) ≡ in_braces_in s
+braced_by p_syntax x good (to_end a b) h = (let rest : List Token = key a (codes "end") (key b (codes "algorithm") []) in keyed_no_brace (inside x rest) (keyed_inside x good rest))
+braced_by p_syntax x good (in_braces a b) h = absurd h
+braced_by c_syntax x good (to_end a b) h = absurd h
+braced_by c_syntax x good (in_braces a b) h = refl
+
+pub braced : (s : Syntax) (x : Text) → Good s x → begins_brace (around x.around (λ ts. section_tokens x.variables (define x.define (each macro x.macros (each procedure x.procedures (main x.main ts))))) []) ≡ in_braces_in s
+braced p_syntax x good = braced_by p_syntax x good x.around good.0
+braced c_syntax x good = braced_by c_syntax x good x.around good.0

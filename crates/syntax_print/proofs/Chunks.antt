@@ -53,20 +53,28 @@ small [] = Unit {0}
 small (lexeme k w ∷ ps) = IsSmall k × small ps
 small (p ∷ ps) = small ps
 
+-- no comment is among them
+abbrev pub uncommented : List Piece → Bool
+uncommented [] = true
+uncommented (block w ∷ ps) = false
+uncommented (line w ∷ ps) = false
+uncommented (p ∷ ps) = uncommented ps
+
 pub record Fine (ps : List Piece) : Type 0 where
   pub fit : AllFit ps
+  pub uncommented : uncommented ps ≡ true
   pub clear : holds_mark (text_of ps) ≡ false
   pub unmarked : unmarked ps ≡ true
   pub small : small ps
 
 pub none_fine : Fine []
-none_fine = record { fit = tt; clear = refl; unmarked = refl; small = tt }
+none_fine = record { fit = tt; uncommented = refl; clear = refl; unmarked = refl; small = tt }
 
 pub space_fine : {r : List Piece} → Fine r → Fine (blank 32 ∷ r)
-space_fine h = record { fit = (refl, h.fit); clear = h.clear; unmarked = h.unmarked; small = h.small }
+space_fine h = record { fit = (refl, h.fit); uncommented = h.uncommented; clear = h.clear; unmarked = h.unmarked; small = h.small }
 
 pub newline_fine : {r : List Piece} → Fine r → Fine (blank 10 ∷ r)
-newline_fine h = record { fit = (refl, h.fit); clear = h.clear; unmarked = h.unmarked; small = h.small }
+newline_fine h = record { fit = (refl, h.fit); uncommented = h.uncommented; clear = h.clear; unmarked = h.unmarked; small = h.small }
 
 pub tokens_unmarked : (p : Place) (at : ℕ) (ps : List Piece) → list_all is_unmarked (tokens_of p at ps) ≡ unmarked ps
 tokens_unmarked p at [] = refl
@@ -104,6 +112,7 @@ kind_same (lexeme.one s) k ps e c = e
 pub token_fine : (k : TokenView) (l : Kind) → IsLexeme l (token_text k) → expression.kind_of l ≡ k → IsCalm k [] → {r : List Piece} → Before k (text_of r) → Fine r → Fine (lexeme l (token_text k) ∷ r)
 token_fine k l i e c {r} b h = record {
   fit = ((b.0, i, b.1), h.fit);
+  uncommented = h.uncommented;
   clear = token_clear k [] (text_of r) c b.0 h.clear;
   unmarked = and_from (unmarked_kind l) (unmarked r) (unmarked_of l k [] e c) h.unmarked;
   small = (small_of l k e b.4, h.small);

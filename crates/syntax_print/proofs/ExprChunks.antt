@@ -27,7 +27,7 @@ use Rattle.syntax_print.specs.laws.Printable.{IsExpression, is_left_side}
 use Rattle.syntax_print.proofs.Calm.{AreCalm}
 use Rattle.syntax_print.proofs.CalmTrees.{part_is_calm}
 use Rattle.syntax_print.proofs.Clear.{pieces_clear}
-use Rattle.syntax_print.proofs.Chunks.{Fine, unmarked, unmarked_of, small, small_of, kind_same, seen, Chunk, later}
+use Rattle.syntax_print.proofs.Chunks.{Fine, uncommented, unmarked, unmarked_of, small, small_of, kind_same, seen, Chunk, later}
 
 -- ---- the pieces of an expression, before others
 
@@ -43,6 +43,11 @@ lexed_unmarked [] h r c u = u
 lexed_unmarked (blank ∷ ps) h r c u = lexed_unmarked ps h r c u
 lexed_unmarked (token k ∷ ps) h r c u = and_from (unmarked_kind h.0.0) (unmarked (lexed ps h.1 ++ r)) (unmarked_of h.0.0 k ps h.0.2 c.0) (lexed_unmarked ps h.1 r c.1 u)
 
+lexed_uncommented : (ps : List Piece) (h : AreSpelled ps) (r : List text.Piece) → uncommented r ≡ true → uncommented (lexed ps h ++ r) ≡ true
+lexed_uncommented [] h r u = u
+lexed_uncommented (blank ∷ ps) h r u = lexed_uncommented ps h r u
+lexed_uncommented (token k ∷ ps) h r u = lexed_uncommented ps h.1 r u
+
 lexed_small : (ps : List Piece) (h : AreSpelled ps) (r : List text.Piece) → Fit (text.text_of r) ps → small r → small (lexed ps h ++ r)
 lexed_small [] h r f u = u
 lexed_small (blank ∷ ps) h r f u = lexed_small ps h r f u
@@ -51,6 +56,7 @@ lexed_small (token k ∷ ps) h r f u = (small_of h.0.0 k h.0.2 f.0.4, lexed_smal
 lexed_fine : (ps : List Piece) (h : AreSpelled ps) {r : List text.Piece} → AreCalm ps → Fine r → Fit (text.text_of r) ps → Fine (lexed ps h ++ r)
 lexed_fine ps h {r} c f t = record {
   fit = lexed_fit ps h r f.fit t;
+  uncommented = lexed_uncommented ps h r f.uncommented;
   clear = ap text.holds_mark (lexed_before ps h r) ∙ pieces_clear ps (text.text_of r) c t f.clear;
   unmarked = lexed_unmarked ps h r c f.unmarked;
   small = lexed_small ps h r t f.small;

@@ -26,9 +26,12 @@ mod StatementCleanP
 mod StatementCleanC
 mod AlgorithmClean
 mod Followed
+mod Dashes
+mod BraceBehind
 mod Ended
 mod Beginning
 mod Rewriting
+mod EndFound
 mod Rewritten
 mod WholeText
 mod Paired

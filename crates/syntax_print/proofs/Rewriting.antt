@@ -1,6 +1,7 @@
 -- A file with its algorithm printed in its place has just that text as its algorithm, and its tokens spell it.
 use Rattle.std.proofs.Common.{◌≡◌, ℕ, ◌+◌, ◌-◌, Bool, true, false, not, List, [], ◌∷◌, ◌++◌, length, map, take, drop, Option, Some, None, refl, sym, ap, subst, ◌∙◌, arith, append_assoc, append-nil, length-append, codes, find}
 use Rattle.std.specs.Prelude.{if◌then◌else◌}
+use Rattle.std.specs.List.{flat_map}
 use Rattle.std.proofs.lemmas.Bool.{and_parts, not-true, lt-leb}
 use Rattle.std.proofs.lemmas.Option.{none-some, same_Some}
 use Rattle.std.proofs.Math.Seq.{take-append_seam, drop-append_seam}
@@ -10,11 +11,12 @@ use Rattle.tla_token.specs.Lexemes as lexeme
 use Rattle.tla_token.specs.Tokens.{Piece, blank, block, line, text_of, stretch, tokens_of, holds_mark}
 use Rattle.tla_token.specs.Offences.{sound, Offence, offence_if, part_offences}
 use Rattle.tla_token.specs.Limits.{past_numbers}
-use Rattle.tla_token.specs.declared.rule.Rule.TheVariants.{BadToken, NumberTooBig}
+use Rattle.tla_token.specs.declared.rule.Rule.TheVariants.{BadToken, NumberTooBig, TwoAlgorithms}
 use Rattle.tla_token.specs.Tokens as text
 use Rattle.tla_token.specs.Cut.{pieces}
 use Rattle.tla_token.specs.AlgorithmOffences.{number_offences, too_many_tokens, algorithm_offences as token_offences}
 use Rattle.tla_token.proofs.Unique.{sound_pieces}
+use Rattle.tla_tree.specs.Tree.{Name}
 use Rattle.tla_tree.specs.Lexical.{Token}
 use Rattle.tla_tree.specs.Spelling.{Right}
 use Rattle.pcal_tree.specs.Algorithm.{Algorithm}
@@ -25,42 +27,44 @@ use Rattle.pcal_tree.specs.Grammar as g
 use Rattle.pcal_tree.specs.Printed.{algorithm_word, printed}
 use Rattle.pcal_tree.specs.Printed as lines
 use Rattle.module_tree.specs.TextFront.{Text}
-use Rattle.module_tree.specs.Beginnings.{is_fair, opening, begins_algorithm}
+use Rattle.module_tree.specs.Beginnings.{is_fair, opening, begins_algorithm, is_options, all_at}
 use Rattle.module_tree.specs.Walk.{Located, walk}
 use Rattle.module_tree.specs.FileParts.{module_end, beginnings, within as within_segment, beginnings_in, first_of, holds_algorithm}
-use Rattle.module_tree.specs.AlgorithmText.{IndexedPart, Stage, head, Inside, inside, AlgorithmText, algorithm_at, algorithm_in, algorithm_tokens}
-use Rattle.module_tree.specs.FileOffences.{offences_of, inner_offences, algorithm_offences, no_module, no_algorithm}
+use Rattle.module_tree.specs.AlgorithmText.{IndexedPart, Stage, head, Inside, inside, AlgorithmText, algorithm_at, algorithm_in, algorithm_tokens, in_token}
+use Rattle.module_tree.specs.FileOffences.{offences_of, inner_offences, algorithm_offences, no_module, no_algorithm, second_algorithms, offences_at, placements, outside_region, options_in}
 use Rattle.module_tree.specs.WithTranslation.{Swapped}
 use Rattle.module_tree.specs.laws.Kept.{IsFine, only_large}
-use Rattle.module_tree.specs.laws.Swaps.{is_paired}
+use Rattle.module_tree.specs.laws.Swaps.{is_paired, AddsNoOptions, BeginsThere}
 use Rattle.module_tree.proofs.WalkPlace.{after_both}
 use Rattle.module_tree.proofs.WalkKept.{all_fine_in}
 use Rattle.module_tree.proofs.AlgorithmFound.{Opened, opened, made_there, stretch_is}
 use Rattle.module_tree.proofs.AlgorithmIsCut.{Placed, algorithm_is_cut}
 use Rattle.module_tree.proofs.AlgorithmSame.{at_comment}
-use Rattle.module_tree.proofs.AlgorithmKept.{placed_at}
+use Rattle.module_tree.proofs.AlgorithmKept.{placed_at, filtered}
 use Rattle.module_tree.proofs.InsidePieces.{inside_pieces}
-use Rattle.module_tree.proofs.SwappedComment.{swapped_comment, swapped_begins}
+use Rattle.module_tree.proofs.SwappedComment.{swapped_comment, swapped_begins, swapped_without}
 use Rattle.syntax_print.specs.Rewritten.{gap}
 use Rattle.syntax_print.specs.laws.Printable.{IsPrintable}
-use Rattle.syntax_print.specs.laws.HoldsPrinted.{HoldsPrinted}
+use Rattle.syntax_print.specs.laws.HoldsPrinted.{past_stage, HoldsPrinted}
 use Rattle.syntax_print.proofs.Chunks.{unmarked, small, later, seen, seen_is}
 use Rattle.syntax_print.proofs.WholeText.{BehindAt, behind_at, behind_front, needs, front_word}
-use Rattle.syntax_print.proofs.AlgorithmEnds.{ends_there}
+use Rattle.syntax_print.proofs.AlgorithmEnds.{ends_there, begins_brace, in_braces_in, braced}
+use Rattle.syntax_print.proofs.BraceBehind.{taken_for_c, stage_c, end_stage}
 use Rattle.syntax_print.proofs.ExprClean.{Clean}
 use Rattle.syntax_print.proofs.AlgorithmClean.{spelled_clean, none_left_out}
 use Rattle.syntax_print.proofs.Stages.{behind, Found, all_found}
 use Rattle.syntax_print.proofs.Followed.{pieces_found}
+use Rattle.syntax_print.proofs.Dashes.{dashes_in, others_in, gap_none, adds_none}
 use Rattle.syntax_print.proofs.Ended.{still_ends, still_begins}
 use Rattle.syntax_print.proofs.Beginning.{fair_is, opening_is, begins_is, gap_paired, gap_there, within}
 
 -- ---- the end of its tokens
 
-abbrev words_before : Bool → ℕ
+abbrev pub words_before : Bool → ℕ
 words_before b = if b then 1 else 0
 
 -- what is behind the first word of a head is before the name
-head_ends : (h : Head) (p : Place) (w : List ℕ) (ts us : List Token) → grammar.word p w us ≡ head_tokens h ts → behind (head (words_before (is_fair_head h))) us ≡ behind (head 0) ts
+pub head_ends : (h : Head) (p : Place) (w : List ℕ) (ts us : List Token) → grammar.word p w us ≡ head_tokens h ts → behind (head (words_before (is_fair_head h))) us ≡ behind (head 0) ts
 head_ends (algorithm a) p w ts us e = (let same : us ≡ ts = cc in ap (behind (head 0)) same)
 head_ends (fair_algorithm a b) p w ts us e = (let same : us ≡ grammar.key b (codes "algorithm") ts = cc in ap (behind (head 1)) same)
 
@@ -72,6 +76,20 @@ tokens_end s a at x =
     ap (λ (b : Bool). behind (head (words_before b)) (seen (behind_front a.fair at) x.pieces)) (sym fair)
     ∙ head_ends f.head at (front_word a.fair) (grammar.name f.name rest) (seen (behind_front a.fair at) x.pieces) x.seen
     ∙ ends_there s f x.good
+
+-- a brace is behind its name in C-syntax alone
+pub head_braced : (h : Head) (p : Place) (w : List ℕ) (x : Name) (ts us : List Token) → grammar.word p w us ≡ head_tokens h (grammar.name x ts) → taken_for_c (head (words_before (is_fair_head h))) us ≡ begins_brace ts
+head_braced (algorithm a) p w x ts us e = (let same : us ≡ grammar.name x ts = cc in ap (taken_for_c (head 0)) same)
+head_braced (fair_algorithm a b) p w x ts us e = (let same : us ≡ grammar.key b (codes "algorithm") (grammar.name x ts) = cc in ap (taken_for_c (head 1)) same)
+
+braced_there : (s : Syntax) (a : Algorithm) (at : Place) (x : BehindAt s a at) → taken_for_c (head (words_before a.fair)) (seen (behind_front a.fair at) x.pieces) ≡ in_braces_in s
+braced_there s a at x =
+    let f = x.form in
+    let fair : is_fair_head f.head ≡ a.fair = ap (λ (a : Algorithm). a.fair) x.same in
+    let rest : List Token = around f.around (λ ts. grammar.section_tokens f.variables (g.define f.define (g.each g.macro f.macros (g.each g.procedure f.procedures (g.main f.main ts))))) [] in
+    ap (λ (b : Bool). taken_for_c (head (words_before b)) (seen (behind_front a.fair at) x.pieces)) (sym fair)
+    ∙ head_braced f.head at (front_word a.fair) f.name rest (seen (behind_front a.fair at) x.pieces) x.seen
+    ∙ braced s f x.good
 
 -- ---- places
 
@@ -198,6 +216,9 @@ module _ (s : Syntax) (a : Algorithm) (h : IsPrintable a) (w : Text) (n left : �
       sum : (n a b c : ℕ) → c ≡ a + b → n + a + b ≡ n + c
       sum n a b c e = omega arith
 
+  ended_there : there.rest.stage ≡ past_stage s
+  ended_there = end_stage s there.rest.stage found.past (stage_c state behind_word (behind_front a.fair at) x.pieces ∙ braced_there s a at x)
+
   place_there : place_at w behind_word ≡ behind_front a.fair at
   place_there =
       let whole : w ≡ p ++ (front ++ ((text_of x.pieces ++ c) ++ r)) =
@@ -226,12 +247,23 @@ module _ (s : Syntax) (a : Algorithm) (h : IsPrintable a) (w : Text) (n left : �
   none_broken : algorithm_offences (Some there) ≡ []
   none_broken = none_in there.rest.parts x.pieces found.parts x.fine.unmarked x.fine.small
 
-  holds_there : offences_of (walk w) ≡ [] → no_module w (module_end (walk w)) ≡ [] → no_algorithm (module_end (walk w)) (beginnings (walk w)) ≡ [] → (b : AlgorithmText) → algorithm_in w ≡ Some b → algorithm_at n left (drop n w) ≡ b → HoldsPrinted s a n w
-  holds_there all ended begun b is_b same = record {
+  -- all others begin within its tokens
+  alone_there : (z : Text) → beginnings (walk w) ≡ all_at begins_algorithm n (printed s a ++ z) → begins_algorithm (printed s a ++ z) ≡ true → ((k : ℕ) → all_at begins_algorithm k z ≡ [])
+      → second_algorithms (Some there) (beginnings (walk w)) ≡ []
+  alone_there z begun first none =
+      let text : printed s a ++ z ≡ front ++ (text_of x.pieces ++ z) = ap (λ (u : Text). u ++ z) bytes ∙ append_assoc front (text_of x.pieces) z in
+      let o = others_in (in_token there) a.fair n (text_of x.pieces ++ z) (ap begins_algorithm (sym text) ∙ first) (dashes_in state behind_word x.pieces z found.parts x.fine.fit x.fine.uncommented none) in
+      ap (second_algorithms (Some there)) (begun ∙ ap (all_at begins_algorithm n) text ∙ o.all) ∙ ap (offences_at TwoAlgorithms) (filtered (in_token there) o.others o.within)
+
+  holds_there : offences_of (walk w) ≡ [] → no_module w (module_end (walk w)) ≡ [] → no_algorithm (module_end (walk w)) (beginnings (walk w)) ≡ [] → placements (walk w) ≡ []
+      → (z : Text) → beginnings (walk w) ≡ all_at begins_algorithm n (printed s a ++ z) → begins_algorithm (printed s a ++ z) ≡ true → ((k : ℕ) → all_at begins_algorithm k z ≡ [])
+      → (b : AlgorithmText) → algorithm_in w ≡ Some b → algorithm_at n left (drop n w) ≡ b → HoldsPrinted s a n w
+  holds_there all ended begun placed z others first none b is_b same = record {
     text = there;
     is_text = is_b ∙ ap Some (sym same ∙ is_there);
     begins = refl;
     ends = ends_at;
+    stage = ended_there;
     bytes = stretch_is w p (printed s a) (c ++ r) n there.rest.to text_is size (ends_at ∙ ap (λ (k : ℕ). k + length (printed s a)) size);
     tree = algorithm_of x.form;
     spelled = (x.form, x.good, spelled_there, refl);
@@ -242,6 +274,8 @@ module _ (s : Syntax) (a : Algorithm) (h : IsPrintable a) (w : Text) (n left : �
     sound = all;
     ended = ended;
     begun = begun;
+    alone = alone_there z others first none;
+    placed = placed;
   }
 
 -- ---- a file with the printed text
@@ -271,11 +305,10 @@ module _ (s : Syntax) (x w : Text) (a : AlgorithmText) (t : Algorithm) (fine : I
   new_paired : is_paired 0 (45 ∷ 45 ∷ dashes.0) ≡ true
   new_paired = ap (is_paired 0) (sym dashes.1) ∙ gap_paired s (printed s t) rest self.ends self.clear
 
-  new_begins : begins_algorithm (45 ∷ 45 ∷ dashes.0) ≡ true
-  new_begins =
-      ap begins_algorithm (sym dashes.1 ∙ ap (λ (u : Text). u ++ gap s rest) self.begins.1)
-      ∙ ap begins_algorithm (in_order (algorithm_word t.fair) (lines.opening s t.name.word) self.begins.0 (gap s rest) (name_text s))
-      ∙ begins_is t.fair t.name.word ((name_after s ++ self.begins.0) ++ gap s rest) h.name.0.0 h.name.0.1
+  begins_before : (z : Text) → begins_algorithm (printed s t ++ z) ≡ true
+  begins_before z =
+      ap begins_algorithm (ap (λ (u : Text). u ++ z) self.begins.1 ∙ in_order (algorithm_word t.fair) (lines.opening s t.name.word) self.begins.0 z (name_text s))
+      ∙ begins_is t.fair t.name.word ((name_after s ++ self.begins.0) ++ z) h.name.0.0 h.name.0.1
     where
       name_after : Syntax → Text
       name_after g.p_syntax = []
@@ -291,13 +324,21 @@ module _ (s : Syntax) (x w : Text) (a : AlgorithmText) (t : Algorithm) (fine : I
           regrouped : (f n k m e : Text) → (f ++ ((n ++ k) ++ m)) ++ e ≡ f ++ (n ++ ((k ++ m) ++ e))
           regrouped f n k m e = simp append_assoc refl
 
+  new_begins : begins_algorithm (45 ∷ 45 ∷ dashes.0) ≡ true
+  new_begins = ap begins_algorithm (sym dashes.1) ∙ begins_before (gap s rest)
+
   all_sound : offences_of (walk w) ≡ []
   all_sound = (swapped_comment x (45 ∷ dashes.0) w a fine is_new is_old paired new_paired).sound
+
+  -- where none begin in the printed text, there are no options
+  pub no_options : all_at is_options 0 (printed s t) ≡ [] → flat_map (options_in w) (outside_region w (walk w)) ≡ []
+  no_options none =
+      swapped_without x (45 ∷ dashes.0) w a fine is_new is_old paired new_paired (subst AddsNoOptions dashes.1 (adds_none s rest (printed s t) self.ends.before self.ends.byte self.apart self.ends.is none))
 
   ended : no_module w (module_end (walk w)) ≡ []
   ended = still_ends x (45 ∷ 45 ∷ dashes.0) w a fine is_old (swapped_comment x (45 ∷ dashes.0) w a fine is_new is_old paired new_paired)
 
-  abbrev begun : (b : AlgorithmText) × (algorithm_in w ≡ Some b) × (b.from ≡ a.from) × (b.opening ≡ opening (45 ∷ 45 ∷ dashes.0))
+  abbrev begun : BeginsThere (45 ∷ 45 ∷ dashes.0) w a
   begun = swapped_begins x dashes.0 w a fine is_new is_old paired new_paired new_begins
 
   text_there : w ≡ take a.from x ++ (printed s t ++ (gap s rest ++ rest))
@@ -305,25 +346,29 @@ module _ (s : Syntax) (x w : Text) (a : AlgorithmText) (t : Algorithm) (fine : I
       let same : swapped.old ≡ a = same_Some swapped.old a (sym swapped.is_old ∙ is_old) in
       swapped.is ∙ ap (λ (a : AlgorithmText). take a.from x ++ (new ++ drop a.rest.to x)) same ∙ ap (λ (u : Text). take a.from x ++ u) (append_assoc (printed s t) (gap s rest) rest)
 
-  here : (d : Located) (n : ℕ) → find holds_algorithm (walk w) ≡ Some d → first_of (beginnings_in d) ≡ Some n → at_comment w d n ≡ begun.0 → HoldsPrinted s t a.from w
+  here : (d : Located) (n : ℕ) → find holds_algorithm (walk w) ≡ Some d → first_of (beginnings_in d) ≡ Some n → at_comment w d n ≡ begun.algorithm → HoldsPrinted s t a.from w
   here d n f o same =
       let q : Placed w d n = placed_at w d n all_sound f o in
-      let from : n ≡ a.from = ap (λ (b : AlgorithmText). b.from) same ∙ begun.2 in
+      let from : n ≡ a.from = ap (λ (b : AlgorithmText). b.from) same ∙ begun.from in
       let front : take a.from x ≡ q.p =
       sym (take-append_seam (take a.from x) (printed s t ++ (gap s rest ++ rest))) ∙ ap (λ (k : ℕ). take k (take a.from x ++ (printed s t ++ (gap s rest ++ rest)))) (front_size x a fine is_old ∙ sym from ∙ q.from)
       ∙ ap (take (length q.p)) (sym text_there ∙ q.text) ∙ take-append_seam q.p (q.v ++ q.r) in
       let behind_it : q.v ++ q.r ≡ printed s t ++ (gap s rest ++ rest) = cancel q.p (q.v ++ q.r) (printed s t ++ (gap s rest ++ rest)) (sym q.text ∙ text_there ∙ ap (λ (u : Text). u ++ (printed s t ++ (gap s rest ++ rest))) front) in
       let c = within q.v q.r (printed s t) (gap s rest ++ rest) q.ends behind_it self.clear self.ends in
+      let z = gap s rest ++ begun.behind in
+      let text : (45 ∷ 45 ∷ dashes.0) ++ begun.behind ≡ printed s t ++ z = ap (λ (u : Text). u ++ begun.behind) (sym dashes.1) ∙ append_assoc (printed s t) (gap s rest) begun.behind in
+      let others : beginnings (walk w) ≡ all_at begins_algorithm n (printed s t ++ z) = begun.begun ∙ (λ i. all_at begins_algorithm (sym from i) (text i)) in
       subst (λ (k : ℕ). HoldsPrinted s t k w) from
-      (holds_there s t h w n (d.at + 2 + length (within_segment d.is) - n) q.p q.v q.r c.more q.text q.from q.left q.here c.is (gap_there s rest c.more q.r c.rest) all_sound ended (still_begins w d f (module_end (walk w))) begun.0 begun.1 same)
+      (holds_there s t h w n (d.at + 2 + length (within_segment d.is) - n) q.p q.v q.r c.more q.text q.from q.left q.here c.is (gap_there s rest c.more q.r c.rest) all_sound ended (still_begins w d f (module_end (walk w)))
+      begun.placed z others (begins_before z) (gap_none s rest begun.behind _ begun.none_behind) begun.algorithm begun.is_algorithm same)
 
   pub printed_is_there : HoldsPrinted s t a.from w
   printed_is_there = by (find holds_algorithm (walk w)) refl
     where
       on : (d : Located) → find holds_algorithm (walk w) ≡ Some d → (o : Option ℕ) → first_of (beginnings_in d) ≡ o → HoldsPrinted s t a.from w
-      on d f None o = (let g : None ≡ Some begun.0 = rw (f, o) at begun.1 in absurd (none-some begun.0 g))
-      on d f (Some n) o = (let g : Some (at_comment w d n) ≡ Some begun.0 = rw (f, o) at begun.1 in here d n f o (same_Some (at_comment w d n) begun.0 g))
+      on d f None o = (let g : None ≡ Some begun.algorithm = rw (f, o) at begun.is_algorithm in absurd (none-some begun.algorithm g))
+      on d f (Some n) o = (let g : Some (at_comment w d n) ≡ Some begun.algorithm = rw (f, o) at begun.is_algorithm in here d n f o (same_Some (at_comment w d n) begun.algorithm g))
 
       by : (o : Option Located) → find holds_algorithm (walk w) ≡ o → HoldsPrinted s t a.from w
-      by None f = (let g : None ≡ Some begun.0 = rw f at begun.1 in absurd (none-some begun.0 g))
+      by None f = (let g : None ≡ Some begun.algorithm = rw f at begun.is_algorithm in absurd (none-some begun.algorithm g))
       by (Some d) f = on d f (first_of (beginnings_in d)) refl

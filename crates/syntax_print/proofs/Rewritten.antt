@@ -1,6 +1,7 @@
 -- A file whose algorithm is printed in its place holds the same algorithm, in that syntax; printed again it holds the same text as if it had been printed so at once.
 use Rattle.std.proofs.Common.{◌≡◌, inl, inr, ℕ, zero, suc, ◌+◌, ◌-◌, arith, Bool, true, false, List, [], ◌∷◌, ◌++◌, map, length, take, drop, Option, Some, refl, sym, ap, subst, ◌∙◌, append_assoc, append-nil, length-append}
 use Rattle.std.specs.Prelude.{nat_le, ◌<◌}
+use Rattle.std.specs.List.{flat_map}
 use Rattle.std.proofs.lemmas.Bool.{leb-false}
 use Rattle.std.proofs.lemmas.List.{take-append-drop, drop-drop}
 use Rattle.std.proofs.Math.Seq.{drop-append_seam}
@@ -25,7 +26,10 @@ use Rattle.pcal_tree.specs.Placeless.{placeless}
 use Rattle.pcal_tree.specs.Grammar.{Syntax, p_syntax, c_syntax, Spells}
 use Rattle.pcal_tree.specs.Printed.{Text, printed}
 use Rattle.module_tree.specs.AlgorithmText.{IndexedPart, AlgorithmText, algorithm_in, algorithm_tokens}
-use Rattle.module_tree.specs.FileOffences.{inner_offences, algorithm_offences}
+use Rattle.module_tree.specs.Beginnings.{is_options, all_at}
+use Rattle.module_tree.specs.Walk.{walk}
+use Rattle.module_tree.specs.FileParts.{beginnings}
+use Rattle.module_tree.specs.FileOffences.{inner_offences, algorithm_offences, second_algorithms, outside_region, options_in, file_offences}
 use Rattle.module_tree.specs.WithTranslation.{Swapped}
 use Rattle.module_tree.specs.laws.Kept.{IsFine, only_large}
 use Rattle.module_tree.specs.laws.Swaps.{is_paired}
@@ -36,12 +40,13 @@ use Rattle.module_tree.proofs.OnePlace.{one_swapped}
 use Rattle.module_tree.proofs.SwappedBack.{swapped_back}
 use Rattle.syntax_print.specs.Rewritten.{gap, Rewritten}
 use Rattle.syntax_print.specs.laws.Printable.{IsPrintable}
+use Rattle.syntax_print.specs.laws.BreaksFew.{BreaksFew}
 use Rattle.syntax_print.specs.laws.HoldsPrinted.{HoldsPrinted}
 use Rattle.syntax_print.proofs.FitAlgorithm.{spelled_printable}
 use Rattle.syntax_print.proofs.PrintedBare.{same_printed}
 use Rattle.syntax_print.proofs.Ended.{some_stretch}
 use Rattle.syntax_print.proofs.Back.{one_tree, one_syntax, paired}
-use Rattle.syntax_print.proofs.Rewriting.{front_size, printed_is_there}
+use Rattle.syntax_print.proofs.Rewriting.{front_size, printed_is_there, no_options}
 
 -- ---- what stands in a file that is not refused can be printed
 
@@ -117,6 +122,24 @@ too_deep s ts t end r (x, good, e, same) f = by f.stops.rule
     by (inl h) = h.0
     by (inr h) = absurd (h.1 begun)
 
+-- ---- what it can break
+
+only_options : (s : Syntax) (t : Algorithm) (n : ℕ) (w : Text) → HoldsPrinted s t n w → file_offences w ≡ flat_map (options_in w) (outside_region w (walk w))
+only_options s t n w h =
+    let fine : algorithm_offences (algorithm_in w) ≡ [] = ap algorithm_offences h.is_text ∙ h.fine in
+    let alone : second_algorithms (algorithm_in w) (beginnings (walk w)) ≡ [] = ap (λ (a : Option AlgorithmText). second_algorithms a (beginnings (walk w))) h.is_text ∙ h.alone in
+    λ i. h.sound i ++ (fine i ++ (h.ended i ++ (h.begun i ++ (alone i ++ (h.placed i ++ flat_map (options_in w) (outside_region w (walk w)))))))
+
+pub breaks_few : (s : Syntax) (x w : Text) → IsFine x → (r : Rewritten s x w) → is_paired 0 (stretch x r.old.from r.old.rest.to) ≡ true → (h : HoldsPrinted s r.tree r.old.from w) × BreaksFew s w h.text
+breaks_few s x w fine r is_pair =
+    let h = rewritten_holds s x w fine r is_pair in
+    (h, record { file = only_options s r.tree r.old.from w h; words = h.few; spelling = λ end q. too_deep s (algorithm_tokens w h.text) h.tree end q h.spelled })
+
+pub fine_without : (s : Syntax) (x w : Text) → IsFine x → (r : Rewritten s x w) → is_paired 0 (stretch x r.old.from r.old.rest.to) ≡ true → all_at is_options 0 (printed s r.tree) ≡ [] → IsFine w
+fine_without s x w fine r is_pair none =
+    only_options s r.tree r.old.from w (rewritten_holds s x w fine r is_pair)
+    ∙ no_options s x w r.old r.tree fine r.is_old is_pair (printable r.syntax x r.old r.tree fine r.is_old r.spelled) r.swapped none
+
 -- ---- printed again
 
 pub rewritten_again : (s t : Syntax) (x w v : Text) → IsFine x → (r : Rewritten s x w) → is_paired 0 (stretch x r.old.from r.old.rest.to) ≡ true → IsFine w → Rewritten t w v → HoldsPrinted t r.tree r.old.from v
@@ -135,6 +158,7 @@ rewritten_again s t x w v fine r is_pair fine_there q =
       is_text = k.is_text;
       begins = k.begins ∙ from;
       ends = k.ends ∙ (λ i. from i + length (text i));
+      stage = k.stage;
       bytes = k.bytes ∙ text;
       tree = k.tree;
       spelled = k.spelled;
@@ -145,6 +169,8 @@ rewritten_again s t x w v fine r is_pair fine_there q =
       sound = k.sound;
       ended = k.ended;
       begun = k.begun;
+      alone = k.alone;
+      placed = k.placed;
     }
 
 -- ---- and back

@@ -1,6 +1,8 @@
--- Worked rows of files with a printed algorithm, by computation: what comes right behind its last word.
-use Rattle.std.proofs.Common.{◌≡◌, refl, false, [], ◌++◌, Option, Some, codes}
-use Rattle.tla_tree.specs.Tree.{Word, Name}
+-- Worked rows of files with a printed algorithm, by computation: what comes right behind its last word, and comments in it, which are not kept.
+use Rattle.std.proofs.Common.{◌≡◌, refl, false, [], ◌∷◌, ◌++◌, Option, Some, codes}
+use Rattle.tla_tree.specs.Tree.{Word, Name, node, no_trees}
+use Rattle.tla_tree.specs.Tree as expr
+use Rattle.tla_token.specs.declared.rule.Rule.TheVariants.{Placement, Options}
 use Rattle.tla_token.specs.Tokens.{stretch}
 use Rattle.pcal_tree.specs.declared.mark.Mark.TheVariants as marked
 use Rattle.pcal_tree.specs.Algorithm.{nowhere, skip, done, then, mark, Algorithm, alone}
@@ -8,8 +10,12 @@ use Rattle.pcal_tree.specs.Placeless.{no_span}
 use Rattle.pcal_tree.specs.Grammar.{p_syntax, c_syntax}
 use Rattle.pcal_tree.specs.Printed.{PText, CText}
 use Rattle.module_tree.specs.TextFront.{Text, on_some}
+use Rattle.module_tree.specs.Beginnings.{is_options, all_at}
 use Rattle.module_tree.specs.AlgorithmText.{Stage, open_p, past_p, past_c, algorithm_in}
+use Rattle.module_tree.specs.FileOffences.{file_offences}
 use Rattle.module_tree.specs.WithTranslation.{Swapped}
+use Rattle.module_tree.specs.laws.Kept.{IsFine}
+use Rattle.module_tree.specs.laws.Swaps.{is_paired}
 use Rattle.syntax_print.specs.Rewritten.{gap}
 
 abbrev n : Word → Name
@@ -59,3 +65,43 @@ commented = refl
 
 behind_comment : found (file (PText least ++ codes "(* x *)")) ≡ Some (PText least, past_p)
 behind_comment = refl
+
+-- ---- comments in it are not kept
+
+-- a lone mark in a line comment
+abbrev marked_file : Text
+marked_file = file (codes "--algorithm R {\n{ \\* (*\nA: skip;\n}\n} *) ")
+
+fine_with_mark : IsFine marked_file
+fine_with_mark = refl
+
+without_mark : Swapped marked_file (CText least) (file (CText least ++ codes " *) "))
+without_mark = record { old = _; is_old = refl; is = refl }
+
+unpaired : on_some (algorithm_in marked_file) (λ a. Some (is_paired 0 (stretch marked_file a.from a.rest.to))) ≡ Some false
+unpaired = refl
+
+-- the comment ends before its old end then
+broken : file_offences (file (CText least ++ codes " *) ")) ≡ (Placement, 58) ∷ []
+broken = refl
+
+-- a comment between two words of options
+abbrev with_options : Algorithm
+with_options = record least {
+  definitions = record { name = n (codes "F"); params = []; body = node (expr.name (codes "PlusCal")) nowhere no_trees } ∷ record { name = n (codes "options"); params = n (codes "x") ∷ []; body = node (expr.name (codes "x")) nowhere no_trees } ∷ [];
+}
+
+abbrev parted_file : Text
+parted_file = file (codes "--algorithm R { define { F == PlusCal \\* F\noptions(x) == x } {\nA: skip;\n}\n}")
+
+fine_apart : IsFine parted_file
+fine_apart = refl
+
+printed_together : Swapped parted_file (CText with_options) (file (CText with_options))
+printed_together = record { old = _; is_old = refl; is = refl }
+
+together : all_at is_options 0 (CText with_options) ≡ 32 ∷ []
+together = refl
+
+options_there : file_offences (file (CText with_options)) ≡ (Options, 54) ∷ []
+options_there = refl

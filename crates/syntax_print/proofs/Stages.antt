@@ -101,7 +101,7 @@ live past_c ts us h = absurd cc
 live st ts us h = refl
 
 -- the token is the last one, or there are more
-abbrev Step : Stage → List Token → List Token → Type 0
+abbrev pub Step : Stage → List Token → List Token → Type 0
 Step st ts us = ((is_past st ≡ true) × (ts ≡ us)) ⊎ (behind st ts ≡ Some us)
 
 same_some : (ts us : List Token) → Some ts ≡ Some us → ts ≡ us
@@ -300,19 +300,20 @@ one_more st n p ps live f =
     sum : (n a b c : ℕ) → c ≡ a + b → n + a + b ≡ n + c
     sum n a b c e = omega arith
 
+-- no algorithm ends without tokens
+pub nothing_behind : (st : Stage) → behind st [] ≡ Some [] → ⊥
+nothing_behind (head zero) h = cc
+nothing_behind (head (suc n)) h = cc
+nothing_behind (titled true) h = cc
+nothing_behind (titled false) h = cc
+nothing_behind (open_p e) h = cc
+nothing_behind (open_c zero) h = cc
+nothing_behind (open_c (suc d)) h = cc
+nothing_behind past_p h = cc
+nothing_behind past_c h = cc
+
 pub all_found : (st : Stage) (n : ℕ) (p : Place) (ps : List Piece) → behind st (seen p ps) ≡ Some [] → ends_in_token ps ≡ true → Found st n ps
-all_found st n p [] h e = absurd (nothing st h)
-  where
-    nothing : (st : Stage) → behind st [] ≡ Some [] → ⊥
-    nothing (head zero) h = cc
-    nothing (head (suc n)) h = cc
-    nothing (titled true) h = cc
-    nothing (titled false) h = cc
-    nothing (open_p e) h = cc
-    nothing (open_c zero) h = cc
-    nothing (open_c (suc d)) h = cc
-    nothing past_p h = cc
-    nothing past_c h = cc
+all_found st n p [] h e = absurd (nothing_behind st h)
 all_found st n p (blank b ∷ ps) h e = one_more st n (blank b) ps (live st (seen p (blank b ∷ ps)) [] h) (all_found st _ _ ps h (later_token (blank b) ps e))
 all_found st n p (block w ∷ ps) h e = one_more st n (block w) ps (live st (seen p (block w ∷ ps)) [] h) (all_found st _ _ ps h (later_token (block w) ps e))
 all_found st n p (line w ∷ ps) h e = one_more st n (line w) ps (live st (seen p (line w ∷ ps)) [] h) (all_found st _ _ ps h (later_token (line w) ps e))

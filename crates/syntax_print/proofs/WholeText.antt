@@ -30,6 +30,7 @@ use Rattle.pcal_tree.specs.Grammar.{Syntax, p_syntax, c_syntax, Head, algorithm,
 use Rattle.pcal_tree.specs.Grammar as g
 use Rattle.pcal_tree.specs.Printed.{line, separated, opening, algorithm_word, last_line, printed}
 use Rattle.pcal_tree.specs.Printed as lines
+use Rattle.module_tree.proofs.OptionsSwapped.{Apart}
 use Rattle.syntax_print.specs.laws.Printable.{IsName, IsPrintable}
 use Rattle.syntax_print.proofs.Chunks.{Chunk, any, put, later, in_line, Fine, none_fine, newline_fine, tokens_unmarked, seen, seen_is, join, space}
 use Rattle.syntax_print.proofs.TokenChunks.{name_at, key_at, key_space, close_curly, narrowed}
@@ -192,6 +193,7 @@ record LastAt (s : Syntax) (n : ℕ) : Type 0 where
   fine : Fine pieces
   seen : seen (put n 1) pieces ≡ closed s first second []
   ends : Ends (text_of pieces)
+  apart : Apart ends.byte
   is : pieces ≡ last_pieces s
 
 last_at : (s : Syntax) (n : ℕ) → LastAt s n
@@ -207,6 +209,7 @@ last_at p_syntax n =
       fine = x.fine [] none_fine refl;
       seen = x.seen [];
       ends = record { before = codes "end algorith"; byte = 109; is = x.bytes []; calm = refl };
+      apart = record { blank = refl; first = refl; second = refl; bracket = refl };
       is = one_cut (x.pieces []) (last_pieces p_syntax) (x.fine [] none_fine refl).fit (fit_alone (last_pieces p_syntax) [] (last_fit p_syntax [] refl)) (x.bytes []);
     }
 last_at c_syntax n =
@@ -219,6 +222,7 @@ last_at c_syntax n =
       fine = x.fine [] none_fine refl;
       seen = x.seen [];
       ends = record { before = []; byte = 125; is = x.bytes []; calm = refl };
+      apart = record { blank = refl; first = refl; second = refl; bracket = refl };
       is = one_cut (x.pieces []) (last_pieces c_syntax) (x.fine [] none_fine refl).fit (fit_alone (last_pieces c_syntax) [] (last_fit c_syntax [] refl)) (x.bytes []);
     }
 
@@ -287,6 +291,8 @@ pub record BehindAt (s : Syntax) (a : Algorithm) (at : Place) : Type 0 where
   pub fine : Fine pieces
   pub seen : grammar.word at (front_word a.fair) (seen (behind_front a.fair at) pieces) ≡ spell form []
   pub ends : Ends (printed s a)
+  -- its last byte is in no options
+  pub apart : Apart ends.byte
   pub clear : holds_mark (printed s a) ≡ false
   -- also before a text
   pub fit : (q : List ℕ) → needs s q ≡ true → AllFitBefore q pieces
@@ -397,6 +403,10 @@ module _ (s : Syntax) (a : Algorithm) (at : Place) (x : PartsAt s a at) where
         calm = e.calm;
       }
 
+  apart_so : Apart ends_so.byte
+  unfolding ends_so
+  apart_so = x.last.apart
+
 pub behind_at : (s : Syntax) (a : Algorithm) → IsPrintable a → (at : Place) → Right 0 at → BehindAt s a at
 behind_at s a h at right =
     let x = parts_at s a h at right in
@@ -412,6 +422,7 @@ behind_at s a h at right =
       clear = ap holds_mark (bytes_there s a at x) ∙ front_clear a.fair (text_of (all s a at x)) (all_fine s a at x).clear;
       seen = seen_there s a at x;
       ends = ends_so s a at x;
+      apart = apart_so s a at x;
       fit = λ q n.
           subst (AllFitBefore q) (sym (in_two s a at x))
           (both_fit before (last_pieces s) q (lines_fit before (lined s a at x).0 (text_of (last_pieces s) ++ q) (before_text s a at x) (before_fine s a at x).fit) (last_fit s q n));

@@ -1,6 +1,6 @@
 //! Laws of printed algorithms, stated as what functions without a body ensure.
 
-ghost use Rattle.std.specs.Prelude.{◌≡◌, ℕ, List, [], Bool, true, false, length, drop, Some, Ok};
+ghost use Rattle.std.specs.Prelude.{◌≡◌, ℕ, List, [], true, false, length, drop, Some, Ok};
 ghost use Rattle.tla_token.specs.Tokens as text;
 ghost use Rattle.tla_token.specs.Tokens.{TokAlgorithm, holds_mark, stretch};
 ghost use Rattle.tla_token.specs.declared.place.Place.{Place};
@@ -16,11 +16,15 @@ ghost use Rattle.p_syntax.specs.ReadAlgorithm as p;
 ghost use Rattle.c_syntax.specs.ReadAlgorithm as c;
 ghost use Rattle.tla_tree.specs.laws.InText.{ends_word};
 ghost use Rattle.tla_tree.specs.laws.Writable.{AreSmall};
+ghost use Rattle.module_tree.specs.Beginnings.{is_options, all_at};
+ghost use Rattle.module_tree.specs.Walk.{walk};
+ghost use Rattle.module_tree.specs.FileOffences.{offences_of, algorithm_offences};
 ghost use Rattle.module_tree.specs.AlgorithmText.{AlgorithmText, algorithm_in, algorithm_tokens};
-ghost use Rattle.module_tree.specs.laws.Kept.{IsFine};
+ghost use Rattle.module_tree.specs.laws.Kept.{IsFine, only_large};
 ghost use Rattle.module_tree.specs.laws.Swaps.{is_paired};
 ghost use Rattle.syntax_print.specs.Rewritten.{gap, Rewritten};
-ghost use Rattle.syntax_print.specs.laws.HoldsPrinted.{HoldsPrinted};
+ghost use Rattle.syntax_print.specs.laws.BreaksFew.{BreaksFew};
+ghost use Rattle.syntax_print.specs.laws.HoldsPrinted.{past_stage, HoldsPrinted};
 ghost use Rattle.syntax_print.specs.laws.Printable.{IsPrintable};
 
 /// The text that is printed of an algorithm is cut into the tokens of an algorithm, and these spell it in the syntax, places aside.
@@ -64,16 +68,30 @@ pub fn printing_rests_on_no_place()
 
 /// Each file whose algorithm is spelled by its tokens has, in each syntax, one file with the algorithm printed in its place and all other bytes as they were. If the file breaks
 /// none of the rules 1 to 10 and 12, and its algorithm opens and closes comments only within itself, the printed text is just the algorithm that is
-/// there then: it begins where the old one did, and its tokens spell the same algorithm in that syntax, places aside.
+/// there then: it begins where the old one did, ends as one in that syntax does, and its tokens spell the same algorithm in it, places aside.
 pub fn rewritten_files_hold_the_algorithm()
     ensures some { (s t : Syntax) (x : List ℕ) (a : AlgorithmText) (g : Algorithm) → algorithm_in x ≡ Some a → Spells t (algorithm_tokens x a) g → (w : List ℕ) × Rewritten s x w }
     ensures one { (s : Syntax) (x w v : List ℕ) → Rewritten s x w → Rewritten s x v → w ≡ v }
     ensures holds { (s : Syntax) (x w : List ℕ) → IsFine x → (r : Rewritten s x w) → is_paired 0 (stretch x r.old.from r.old.rest.to) ≡ true → HoldsPrinted s r.tree r.old.from w }
 {}
 
+/// Where a file's segments break no rule, nor the parts of its algorithm one but that on numbers (12), an algorithm that its tokens spell has its end in the file, as
+/// algorithms of its syntax have; so the syntax in which it is looked at, which goes by a brace behind its name, is the one in which it is spelled.
+pub fn spelled_algorithms_have_an_end()
+    ensures { (s : Syntax) (x : List ℕ) (a : AlgorithmText) (g : Algorithm) → offences_of (walk x) ≡ [] → algorithm_in x ≡ Some a → only_large (algorithm_offences (Some a)) ≡ true → Spells s (algorithm_tokens x a) g → a.rest.stage ≡ past_stage s }
+{}
+
 /// And the tokens of the algorithm that is there are never refused by the rule of syntax (15), but at most since too many forms are open in one another (14).
 pub fn spelled_tokens_are_refused_for_depth_alone()
     ensures { (s : Syntax) (ts : List text.Token) (a : Algorithm) (end : Place) (r : Refusal) → Spells s ts a → RefusesTokens s ts end r → r.rule ≡ TooDeep }
+{}
+
+/// So where a file that breaks none of the rules 1 to 10 and 12 has an algorithm that opens and closes comments only within itself, the file with the
+/// algorithm printed in its place can break, of the rules 1 to 15, only that on options (10) and those on too much: too many tokens (13), and too many forms
+/// open in one another (14). The algorithm that stands in it is the same, places aside. And where no options begin in the printed text, that file breaks none of the rules 1 to 10 and 12.
+pub fn rewritten_files_break_few_rules()
+    ensures few { (s : Syntax) (x w : List ℕ) → IsFine x → (r : Rewritten s x w) → is_paired 0 (stretch x r.old.from r.old.rest.to) ≡ true → (h : HoldsPrinted s r.tree r.old.from w) × BreaksFew s w h.text }
+    ensures fine { (s : Syntax) (x w : List ℕ) → IsFine x → (r : Rewritten s x w) → is_paired 0 (stretch x r.old.from r.old.rest.to) ≡ true → all_at is_options 0 (printed s r.tree) ≡ [] → IsFine w }
 {}
 
 /// Rewritten once more, in the same or the other syntax, as long as it breaks none of these rules then, it holds the first file's algorithm, printed in that syntax.
