@@ -26,6 +26,8 @@ pub mod KnownStatements
 pub mod KnownRoutines
 pub mod OnceStatements
 pub mod OnceThrough
+pub mod StepsOnce
+pub mod EachStepOnce
 pub mod EndingJumps
 pub mod OutsideNames
 pub mod FewNames

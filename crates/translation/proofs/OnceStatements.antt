@@ -38,10 +38,10 @@ abbrev mutual
   AllOnceBy E no_branches = Unit {0}
   AllOnceBy E (or b bs) = AreOnceBy E b × AllOnceBy E bs
 
-abbrev NoneTwice : Effects → List Visit → Type 0
+abbrev pub NoneTwice : Effects → List Visit → Type 0
 NoneTwice E vs = list_any (assigns_twice E) vs ≡ false
 
-two_lists : (E : Effects) (vs ws : List Visit) → NoneTwice E (vs ++ ws) → NoneTwice E vs × NoneTwice E ws
+pub two_lists : (E : Effects) (vs ws : List Visit) → NoneTwice E (vs ++ ws) → NoneTwice E vs × NoneTwice E ws
 two_lists E vs ws h = or_parts (list_any (assigns_twice E) vs) (list_any (assigns_twice E) ws) (sym (list_any-append (assigns_twice E) vs ws) ∙ h)
 
 -- where E says of assignments what they say themselves
@@ -73,7 +73,7 @@ module _ (E : Effects) (own : (ms : Assignments) → (E (assign ms)).twice ≡ c
         let q = two_lists E (visits E p b) (visits_of_some E p bs) h in
         (all_visited p b q.0, some_visited p bs q.1)
 
-none_offends : (E : Effects) (vs : List Visit) → flat_map (offences_at E) vs ≡ [] → NoneTwice E vs
+pub none_offends : (E : Effects) (vs : List Visit) → flat_map (offences_at E) vs ≡ [] → NoneTwice E vs
 none_offends E [] h = refl
 none_offends E (v ∷ vs) h = by (assigns_twice E v) (no_offence (assigns_twice E v) AssignTwice v.place (both_none (missing_label v) _ p.0).1) (none_offends E vs p.1)
   where

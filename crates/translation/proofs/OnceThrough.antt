@@ -2,8 +2,8 @@
 use Rattle.std.proofs.Common.{◌≡◌, List, [], ◌∷◌, Bool, true, false, ◌&&◌, ◌||◌, cond, bytes_eq, reverse, Option, Some, None, refl, sym, ap, subst, ◌∙◌}
 use Rattle.std.proofs.Math.Bool.{and_assoc}
 use Rattle.tla_tree.specs.Tree.{Word, Name, name, Tree, node, Trees, no_trees, tree, Graft, graft, grafts}
-use Rattle.pcal_tree.specs.Algorithm.{Span, Assignments, no_assignments, assignment, Statement, assign, await, print, assert, skip, branch, either, with, while, goto, macro, call, return, Statements, done, then, mark, Branches, no_branches, or, Macro, Algorithm}
-use Rattle.pcal_tree.specs.Expand.{placed_at, graft_left, graft_assignments, graft_one, graft_all, graft_some, followed_by, expand_one, expand, expand_some, written_out}
+use Rattle.pcal_tree.specs.Algorithm.{Span, Assignments, no_assignments, assignment, Binds, no_binds, one_of, is, Statement, assign, await, print, assert, skip, branch, either, with, while, goto, macro, call, return, Statements, done, then, mark, Branches, no_branches, or, Macro, Algorithm}
+use Rattle.pcal_tree.specs.Expand.{placed_at, graft_left, graft_assignments, graft_binds, graft_one, graft_all, graft_some, followed_by, expand_one, expand, expand_some, written_out}
 use Rattle.pcal_tree.specs.OffencesLabels.{label_offences}
 use Rattle.pcal_tree.specs.OffencesSteps.{inside, in_macro, effect_of_body, called_with, effect_within, nothing_put, call_effect}
 use Rattle.pcal_tree.specs.Paths.{root, is_whole, same_word, clashes_with, clashes}
@@ -48,7 +48,7 @@ module _ (ps : List Name) (us : Trees) (g : Graft) (free : Anywhere g) where
   wholes_twice None = refl
   wholes_twice (Some x) = whole_twice ps us g free x
 
-  side_root : (l : Tree) → root (graft_left inner l) ≡ root (graft_left g (graft_left (arguments ps us) l))
+  pub side_root : (l : Tree) → root (graft_left inner l) ≡ root (graft_left g (graft_left (arguments ps us) l))
   side_root l =
       root_side inner (called_anywhere ps (grafts g us) g free) l ∙ (roots_twice (root l)
       ∙ sym (root_side g free (graft_left (arguments ps us) l) ∙ ap (root_after (put_for g)) (root_left ps us l)))
@@ -91,7 +91,7 @@ module _ (ps : List Name) (us : Trees) (g : Graft) (free : Anywhere g) where
 
 -- ---- macro calls written out
 
-followed_put : (g : Graft) (a b : Statements) → graft_all g (followed_by a b) ≡ followed_by (graft_all g a) (graft_all g b)
+pub followed_put : (g : Graft) (a b : Statements) → graft_all g (followed_by a b) ≡ followed_by (graft_all g a) (graft_all g b)
 followed_put g done b = refl
 followed_put g (then at st a) b = ap (λ (c : Statements). then at (graft_one g st) c) (followed_put g a b)
 followed_put g (mark l k a) b = ap (λ (c : Statements). mark l k c) (followed_put g a b)
@@ -154,34 +154,43 @@ mutual
 side_unput : (l : Tree) → graft_left nothing_put l ≡ l
 side_unput (node m at ts) = ap (placed_at at) (tree_unput (node m at ts))
 
-assignments_unput : (ms : Assignments) → clashes (graft_assignments nothing_put ms) ≡ clashes ms
-assignments_unput ms = ap clashes (by ms)
-  where
-    by : (ns : Assignments) → graft_assignments nothing_put ns ≡ ns
-    by no_assignments = refl
-    by (assignment l e ns) = λ i. assignment (side_unput l i) (tree_unput e i) (by ns i)
+assignments_unput : (ms : Assignments) → graft_assignments nothing_put ms ≡ ms
+assignments_unput no_assignments = refl
+assignments_unput (assignment l e ms) = λ i. assignment (side_unput l i) (tree_unput e i) (assignments_unput ms i)
+
+binds_unput : (bs : Binds) → graft_binds nothing_put bs ≡ bs
+binds_unput no_binds = refl
+binds_unput (one_of x e bs) = λ i. one_of x (tree_unput e i) (binds_unput bs i)
+binds_unput (is x e bs) = λ i. is x (tree_unput e i) (binds_unput bs i)
 
 mutual
-  one_unput : (st : Statement) → AssignsOnce (graft_one nothing_put st) → AssignsOnce st
-  one_unput (assign ms) h = sym (assignments_unput ms) ∙ h
-  one_unput (branch e a b) h = (all_unput a h.0, all_unput b h.1)
-  one_unput (either bs) h = some_unput bs h
-  one_unput (with bs b) h = all_unput b h
-  one_unput (while e b) h = all_unput b h
-  one_unput _ h = tt
+  one_unput : (st : Statement) → graft_one nothing_put st ≡ st
+  one_unput (assign ms) = ap assign (assignments_unput ms)
+  one_unput (await e) = ap await (tree_unput e)
+  one_unput (print e) = ap print (tree_unput e)
+  one_unput (assert e) = ap assert (tree_unput e)
+  one_unput skip = refl
+  one_unput (branch e a b) = λ i. branch (tree_unput e i) (all_unput a i) (all_unput b i)
+  one_unput (either bs) = ap either (some_unput bs)
+  one_unput (with bs b) = λ i. with (binds_unput bs i) (all_unput b i)
+  one_unput (while e b) = λ i. while (tree_unput e i) (all_unput b i)
+  one_unput (goto l) = refl
+  one_unput (macro m ts) = ap (macro m) (trees_unput ts)
+  one_unput (call p ts) = ap (call p) (trees_unput ts)
+  one_unput return = refl
 
-  all_unput : (b : Statements) → AssignOnce (graft_all nothing_put b) → AssignOnce b
-  all_unput done h = tt
-  all_unput (then at st rest) h = (one_unput st h.0, all_unput rest h.1)
-  all_unput (mark l k rest) h = all_unput rest h
+  pub all_unput : (b : Statements) → graft_all nothing_put b ≡ b
+  all_unput done = refl
+  all_unput (then at st rest) = λ i. then at (one_unput st i) (all_unput rest i)
+  all_unput (mark l k rest) = ap (mark l k) (all_unput rest)
 
-  some_unput : (bs : Branches) → AllAssignOnce (graft_some nothing_put bs) → AllAssignOnce bs
-  some_unput no_branches h = tt
-  some_unput (or b bs) h = (all_unput b h.0, some_unput bs h.1)
+  some_unput : (bs : Branches) → graft_some nothing_put bs ≡ bs
+  some_unput no_branches = refl
+  some_unput (or b bs) = λ i. or (all_unput b i) (some_unput bs i)
 
 call_once : (ms : List Macro) (at : Span) (m : Word) (ts : Trees) → (call_effect ms m ts).twice ≡ false → AssignOnce (written_out ms at m ts)
 call_once ms at m ts h =
-    all_unput (written_out ms at m ts)
+    subst AssignOnce (all_unput (written_out ms at m ts))
     (call_within ms nothing_put (λ x p q. refl) at m ts (ap (λ (us : Trees). (effect_within ms nothing_put m us).twice) (trees_unput ts) ∙ h))
 
 pub accepted_once : (a : Algorithm) → label_offences a ≡ [] → EachAssignsOnce a

@@ -9,6 +9,7 @@ use Rattle.pcal_tree.specs.OffencesLabels.{label_offences}
 use Rattle.pcal_tree.specs.Offences.{offence}
 use Rattle.pcal_tree.specs.OffencesOfNames.{name_offences}
 use Rattle.translation.specs.laws.AcceptedAlgorithm.{EachAssignsOnce}
+use Rattle.translation.specs.laws.StepsOnce.{none_set, SetsOnce}
 use Rattle.translation.proofs.Trees.{word, x, z, num, and_next, just, sets, both, labelled, zero_of, integers}
 
 -- macro Inner() begin x := 1 || z := 2
@@ -52,3 +53,6 @@ seen_in_turn = refl
 
 written_in_turn : expanded (reverse in_turn.macros) (labelled (codes "A") (and_next (macro (codes "Outer") (tree (named z) no_trees)) (just (sets z (num 2))))) ≡ labelled (codes "A") (and_next (sets z (num 1)) (just (sets z (num 2))))
 written_in_turn = refl
+
+again_in_the_step : SetsOnce none_set (expanded (reverse in_turn.macros) (labelled (codes "A") (and_next (macro (codes "Outer") (tree (named z) no_trees)) (just (sets z (num 2)))))) → ⊥
+again_in_the_step h = (let e = h.1.0 z refl in absurd cc)

@@ -46,6 +46,7 @@ ghost use Rattle.tla_tree.specs.laws.Writable.{AreSmall};
 ghost use Rattle.pcal_tree.specs.Grammar.{Syntax, Spells};
 ghost use Rattle.pcal_tree.specs.OffencesOfNames.{name_offences};
 ghost use Rattle.pcal_tree.specs.Expand.{expanded};
+ghost use Rattle.translation.specs.laws.StepsOnce.{none_set, SetsOnce};
 ghost use Rattle.translation.specs.laws.JumpsEnd.{JumpsEnd};
 ghost use Rattle.translation.specs.laws.TypedAlgorithm.{IsTypedAlgorithm};
 ghost use Rattle.translation.specs.laws.AcceptedAlgorithm.{IsAccepted, EachAssignsOnce};
@@ -134,4 +135,10 @@ pub fn accepted_modules_read_back()
 /// laws of written actions ask.
 pub fn jumps_end_their_lists()
     ensures { (a : Algorithm) → label_offences a ≡ [] → (u : Routine) → OneOf u (routines a) → JumpsEnd (expanded (reverse a.macros) u.body) }
+{}
+
+/// Where no rule on labels is broken, no variable is assigned again before the next label, with macro calls written out: as the laws of written actions ask of a step's
+/// statements, from each label on, and in each loop from its beginning on. It is asked that an algorithm has what its text gives, so that no `either` is empty.
+pub fn steps_assign_once()
+    ensures { (a : Algorithm) → IsTypedAlgorithm a → label_offences a ≡ [] → (u : Routine) → OneOf u (routines a) → SetsOnce none_set (expanded (reverse a.macros) u.body) }
 {}
