@@ -28,6 +28,7 @@ pub mod OnceStatements
 pub mod OnceThrough
 pub mod StepsOnce
 pub mod EachStepOnce
+pub mod ReadySteps
 pub mod EndingJumps
 pub mod OutsideNames
 pub mod FewNames

@@ -33,7 +33,7 @@ Within xs ys = (x : Word) → In xs x → In ys x
 pub in_nothing : (x : Word) → In [] x → ⊥
 in_nothing x h = cc
 
-in_both : (x : Word) (b : Bool) → b ≡ true → b ≡ false → ⊥
+pub in_both : (x : Word) (b : Bool) → b ≡ true → b ≡ false → ⊥
 in_both x true h k = cc
 in_both x false h k = cc
 

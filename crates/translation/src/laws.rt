@@ -5,7 +5,7 @@ ghost use Rattle.tla_tree.specs.Tree.{Word};
 ghost use Rattle.tla_value.specs.Outside.{Outside};
 ghost use Rattle.module_tree.specs.Module.{test, item, Module};
 ghost use Rattle.module_tree.specs.Reading.{Reads};
-ghost use Rattle.pcal_tree.specs.Algorithm.{Routine, locals, routines, Definition, Algorithm};
+ghost use Rattle.pcal_tree.specs.Algorithm.{Statements, Routine, locals, routines, Definition, Algorithm};
 ghost use Rattle.pcal_tree.specs.OffencesNames.{repeated_names};
 ghost use Rattle.pcal_tree.specs.OffencesReserved.{reserved_declared};
 ghost use Rattle.pcal_tree.specs.OffencesLabels.{label_words, label_offences};
@@ -46,11 +46,13 @@ ghost use Rattle.tla_tree.specs.laws.Writable.{AreSmall};
 ghost use Rattle.pcal_tree.specs.Grammar.{Syntax, Spells};
 ghost use Rattle.pcal_tree.specs.OffencesOfNames.{name_offences};
 ghost use Rattle.pcal_tree.specs.Expand.{expanded};
+ghost use Rattle.action_builder.specs.Assigned.{Names};
+ghost use Rattle.action_builder.specs.laws.Ready.{Once};
 ghost use Rattle.translation.specs.laws.StepsOnce.{none_set, SetsOnce};
 ghost use Rattle.translation.specs.laws.JumpsEnd.{JumpsEnd};
 ghost use Rattle.translation.specs.laws.TypedAlgorithm.{IsTypedAlgorithm};
 ghost use Rattle.translation.specs.laws.AcceptedAlgorithm.{IsAccepted, EachAssignsOnce};
-ghost use Rattle.translation.specs.laws.WritableAlgorithm.{IsStarted, IsLabelled, IsWritableAlgorithm};
+ghost use Rattle.translation.specs.laws.WritableAlgorithm.{IsStarted, IsLabelled, AreWritableStatements, IsWritableAlgorithm};
 ghost use Rattle.translation.specs.Region.{written_region, written_module};
 
 /// The written module of an algorithm and of the same one with other places are the same.
@@ -137,8 +139,10 @@ pub fn jumps_end_their_lists()
     ensures { (a : Algorithm) → label_offences a ≡ [] → (u : Routine) → OneOf u (routines a) → JumpsEnd (expanded (reverse a.macros) u.body) }
 {}
 
-/// Where no rule on labels is broken, no variable is assigned again before the next label, with macro calls written out: as the laws of written actions ask of a step's
-/// statements, from each label on, and in each loop from its beginning on. It is asked that an algorithm has what its text gives, so that no `either` is empty.
+/// Where no rule on labels is broken, no variable is assigned again before the next label, with macro calls written out: from each label on, and in each loop from its
+/// beginning on. It is asked that an algorithm has what its text gives, so that no `either` is empty. Of statements that can be written this is what the laws of
+/// written actions ask of a step's statements.
 pub fn steps_assign_once()
-    ensures { (a : Algorithm) → IsTypedAlgorithm a → label_offences a ≡ [] → (u : Routine) → OneOf u (routines a) → SetsOnce none_set (expanded (reverse a.macros) u.body) }
+    ensures once { (a : Algorithm) → IsTypedAlgorithm a → label_offences a ≡ [] → (u : Routine) → OneOf u (routines a) → SetsOnce none_set (expanded (reverse a.macros) u.body) }
+    ensures ready { (C V : Word → Bool) (A : Names) (b : Statements) → AreWritableStatements C V b → SetsOnce A b → Once A b }
 {}
