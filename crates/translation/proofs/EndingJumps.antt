@@ -54,7 +54,7 @@ module _ (g : Graft) where
 neither : (a b : Bool) → a ≡ false → b ≡ false → (a || b) ≡ false
 neither a b e f = (λ i. e i || b) ∙ f
 
-followed_jumps : (a b : Statements) → jumps a ≡ false → jumps (followed_by a b) ≡ jumps b
+pub followed_jumps : (a b : Statements) → jumps a ≡ false → jumps (followed_by a b) ≡ jumps b
 followed_jumps done b h = refl
 followed_jumps (then at st a) b h =
     let p = or_parts (jumps_one st) (jumps a) h in

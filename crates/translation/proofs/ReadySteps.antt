@@ -2,6 +2,7 @@
 use Rattle.std.proofs.Common.{◌≡◌, List, [], ◌∷◌, ◌++◌, Bool, true, false, ◌||◌, cond, bytes_eq, Option, Some, None, ◌⊎◌, inl, inr, refl}
 use Rattle.std.specs.Option.{unwrap_or}
 use Rattle.tla_token.specs.Signs.{is_among}
+use Rattle.std.proofs.lemmas.Bool.{both_ways, or_left, or_right}
 use Rattle.tla_tree.specs.Tree.{Word}
 use Rattle.pcal_tree.specs.Algorithm.{Assignments, no_assignments, assignment, Statement, assign, await, print, assert, skip, branch, either, with, while, goto, macro, call, return, Statements, done, then, mark, Branches, no_branches, or}
 use Rattle.pcal_tree.specs.Paths.{root, some_word, roots}
@@ -10,7 +11,7 @@ use Rattle.action_builder.specs.laws.Ready.{Apart, IsWithin, OnceOne, Once, Once
 use Rattle.action_builder.proofs.Main.{append_cases, in_front, behind}
 use Rattle.translation.specs.laws.StepsOnce.{set_by, set_in, set_in_some, SetsOnceOne, SetsOnce, SetsOnceSome}
 use Rattle.translation.specs.laws.WritableAlgorithm.{AreWritableAssignments, IsWritableStatement, AreWritableStatements, AreWritableBranches}
-use Rattle.translation.proofs.StepsOnce.{In, Within, in_both}
+use Rattle.translation.proofs.StepsOnce.{In, Within}
 
 -- ---- the names of assignments
 
@@ -19,11 +20,7 @@ kept_within y [] x m = m
 kept_within y (z ∷ zs) x m = by (bytes_eq y z) m (kept_within y zs x)
   where
     by : (b : Bool) → In (cond b (without y zs) (z ∷ without y zs)) x → (In (without y zs) x → In zs x) → In (z ∷ zs) x
-    by true k rest = later (bytes_eq z x) (is_among zs x) (rest k)
-      where
-        later : (c d : Bool) → d ≡ true → (c || d) ≡ true
-        later true d e = refl
-        later false d e = e
+    by true k rest = or_right (bytes_eq z x) (is_among zs x) (rest k)
     by false k rest = either_of (bytes_eq z x) k
       where
         either_of : (c : Bool) → (c || is_among (without y zs) x) ≡ true → (c || is_among zs x) ≡ true
@@ -63,23 +60,15 @@ two_within xs ys us vs h k x m = by (append_cases xs ys x m)
 more_within : (A B : Names) (xs ys : List Word) → IsWithin B A → Within xs ys → IsWithin (more B xs) (more A ys)
 more_within A B xs ys h k x m = by (B x) refl m
   where
-    front : (a b : Bool) → a ≡ true → (a || b) ≡ true
-    front true b e = refl
-    front false b e = cc
-
-    back : (a b : Bool) → b ≡ true → (a || b) ≡ true
-    back true b e = refl
-    back false b e = e
-
     by : (b : Bool) → B x ≡ b → (b || is_among xs x) ≡ true → more A ys x ≡ true
-    by true e n = front (A x) (is_among ys x) (h x e)
-    by false e n = back (A x) (is_among ys x) (k x n)
+    by true e n = or_left (A x) (is_among ys x) (h x e)
+    by false e n = or_right (A x) (is_among ys x) (k x n)
 
 apart_within : (A B : Names) (xs ys : List Word) → IsWithin B A → Within xs ys → Apart A ys → Apart B xs
 apart_within A B xs ys h k q x m = by (B x) refl
   where
     by : (b : Bool) → B x ≡ b → b ≡ false
-    by true e = absurd (in_both x (A x) (h x e) (q x (k x m)))
+    by true e = absurd (both_ways (A x) (q x (k x m)) (h x e))
     by false e = refl
 
 module _ (C V : Word → Bool) where

@@ -1,6 +1,6 @@
 -- Where the rule on assigning twice is not broken, no variable is assigned again before the next label, with macro calls written out.
 use Rattle.std.proofs.Common.{◌≡◌, List, [], ◌∷◌, ◌++◌, Bool, true, false, ◌||◌, cond, bytes_eq, Some, None, option_map, ◌⊎◌, inl, inr, refl, sym, ap, subst, ◌∙◌}
-use Rattle.std.proofs.lemmas.Bool.{or_parts}
+use Rattle.std.proofs.lemmas.Bool.{both_ways, or_parts}
 use Rattle.std.proofs.lemmas.List.Folds.{list_any-append}
 use Rattle.std.proofs.lemmas.Grind.{flat_map-append}
 use Rattle.std.proofs.Math.Bool.{or_assoc, or-false}
@@ -19,6 +19,7 @@ use Rattle.action_builder.specs.Settled.{jumps_one, jumps, jumps_some}
 use Rattle.action_builder.specs.laws.Ready.{Apart}
 use Rattle.action_builder.proofs.Main.{append_cases, in_front, behind}
 use Rattle.translation.specs.laws.StepsOnce.{set_by, set_in, set_in_some, none_set, SetsOnceOne, SetsOnce, SetsOnceSome}
+use Rattle.translation.proofs.EndingJumps.{followed_jumps}
 use Rattle.translation.proofs.OnceStatements.{NoneTwice, two_lists}
 use Rattle.translation.proofs.OnceThrough.{followed_put}
 
@@ -32,10 +33,6 @@ Within xs ys = (x : Word) → In xs x → In ys x
 
 pub in_nothing : (x : Word) → In [] x → ⊥
 in_nothing x h = cc
-
-pub in_both : (x : Word) (b : Bool) → b ≡ true → b ≡ false → ⊥
-in_both x true h k = cc
-in_both x false h k = cc
 
 within_both : (xs ys zs : List Word) → Within xs zs → Within ys zs → Within (xs ++ ys) zs
 within_both xs ys zs h k x m = by (append_cases xs ys x m)
@@ -71,11 +68,6 @@ followed_once A done b j h k = subst (λ (B : Names). SetsOnce B b) (λ i x. or-
 followed_once A (then at st a) b j h k =
     (h.0, followed_once (more A (set_by st)) a b (or_parts (jumps_one st) (jumps a) j).1 h.1 (subst (λ (B : Names). SetsOnce B b) (sym (more_both A (set_by st) (set_in a))) k))
 followed_once A (mark l m a) b j h k = cc
-
-followed_jumps : (a b : Statements) → jumps a ≡ false → jumps b ≡ false → jumps (followed_by a b) ≡ false
-followed_jumps done b h k = k
-followed_jumps (then at st a) b h k = (let p = or_parts (jumps_one st) (jumps a) h in (λ i. p.0 i || jumps (followed_by a b)) ∙ followed_jumps a b p.1 k)
-followed_jumps (mark l m a) b h k = cc
 
 -- ---- where more was assigned before
 
@@ -163,7 +155,7 @@ apart_of A None ys h e x m = absurd h.0
 apart_of A (Some xs) ys h e x m = by (A x) refl
   where
     by : (b : Bool) → A x ≡ b → b ≡ false
-    by true k = absurd (in_both x (is_among xs x) (h.1 x k) (met_none xs ys e x m))
+    by true k = absurd (both_ways (is_among xs x) (met_none xs ys e x m) (h.1 x k))
     by false k = refl
 
 -- ---- statements with no label, loop, jump or call in them, of which no `either` is empty
@@ -240,7 +232,7 @@ followed_sets_both : (A : Names) (a b : Statements) (us vs : List Word) (p q r :
 followed_sets_both A a b us vs p q r h k = record {
   once = followed_once A a b h.still h.once k.once;
   within = λ x m. within_both (set_in a) (set_in b) (us ++ vs) (λ y n. in_front us vs y (h.within y n)) (λ y n. behind us vs y (k.within y n)) x (set_there x m);
-  still = followed_jumps a b h.still k.still;
+  still = followed_jumps a b h.still ∙ k.still;
   reached = k.reached;
   goes = λ x m. k.goes x (h.goes x m);
   assigns = λ x m. by x (append_cases (set_in a) (set_in b) x (set_there x m));
