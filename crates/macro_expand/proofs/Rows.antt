@@ -88,6 +88,19 @@ written_out_size = refl
 size_without_writing : size_by_macros waiting ≡ waiting_size
 size_without_writing = refl
 
+-- macro I() begin await s > 1 end macro, macro O(s) begin I() end macro, and O(slots[i]): in the place of the s of I the argument counts, which is O's
+abbrev for_the_caller : Algorithm
+for_the_caller = algorithm
+    (record { name = n (codes "I"); params = []; body = then span (await (two op.Greater (v (codes "s")) one)) done }
+    ∷ record { name = n (codes "O"); params = n (codes "s") ∷ []; body = then span (macro (codes "I") no_trees) done } ∷ [])
+    (then span (macro (codes "O") (tree slot no_trees)) done)
+
+for_the_caller_written_out : expanded_size for_the_caller ≡ record { nodes = 6; expressions = 2; statements = 0; labels = 0 }
+for_the_caller_written_out = refl
+
+for_the_caller_without_writing : size_by_macros for_the_caller ≡ expanded_size for_the_caller
+for_the_caller_without_writing = refl
+
 -- ---- many macros
 
 -- k macros before others: the first skips, each other one calls the one before it twice

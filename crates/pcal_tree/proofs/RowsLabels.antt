@@ -209,6 +209,43 @@ no_variables = refl
 one_variable : calling setting_two (tree (var x) (tree (var x) no_trees)) done ≡ record { rule = AssignTwice; place = at 3 } ∷ []
 one_variable = refl
 
+-- macro I() begin p := 1; end macro, macro O(p) begin I(); end macro: the p of I is the parameter of O
+abbrev name_of_the_caller : Statements → List Macro
+name_of_the_caller b =
+    record { name = title (codes "I"); params = []; body = b }
+    ∷ record { name = title (codes "O"); params = title (codes "p") ∷ []; body = stands 7 (macro (codes "I") no_trees) done } ∷ []
+
+-- A: O(n); x := 2
+abbrev calls_outer : Word → Statements
+calls_outer n = stands 3 (macro (codes "O") (tree (var n) no_trees)) (stands 4 (sets (var x) (num 2)) done)
+
+abbrev p_set : List Macro
+p_set = name_of_the_caller (stands 1 (sets (var (codes "p")) (num 1)) done)
+
+through_two_macros : label_offences (alg p_set (label 2 (codes "A") (calls_outer x))) ≡ record { rule = AssignTwice; place = at 4 } ∷ []
+through_two_macros = refl
+
+another_through_two_macros : label_offences (alg p_set (label 2 (codes "A") (calls_outer y))) ≡ []
+another_through_two_macros = refl
+
+-- so a label is added between, and none where another variable is assigned
+between_two_macros : labelled false (alg p_set (calls_outer x)) ≡ alg p_set (label 3 (codes "Lbl_1") (stands 3 (macro (codes "O") (tree (var x) no_trees)) (label 4 (codes "Lbl_2") (stands 4 (sets (var x) (num 2)) done))))
+unfolding digits
+between_two_macros = refl
+
+-- macro I() begin p := 1 || x[1] := 2; end macro: O(x), and O(x[2]), which assigns two parts
+abbrev p_and_x_set : List Macro
+p_and_x_set = name_of_the_caller (stands 1 (assign (assignment (var (codes "p")) (num 1) (assignment (item (var x) (num 1)) (num 2) no_assignments))) done)
+
+abbrev outer_called : Trees → List Refusal
+outer_called ts = label_offences (alg p_and_x_set (label 2 (codes "A") (stands 3 (macro (codes "O") ts) done)))
+
+in_one_statement_of_a_macro : outer_called (tree (var x) no_trees) ≡ record { rule = AssignTwice; place = at 3 } ∷ []
+in_one_statement_of_a_macro = refl
+
+two_parts_through_macros : outer_called (tree (item (var x) (num 2)) no_trees) ≡ []
+two_parts_through_macros = refl
+
 -- macro M() begin goto B; end macro and macro M() begin return; end macro
 jump_in_a_macro : calling (macro_of [] (stands 1 (goto (codes "B")) done)) no_trees done ≡ record { rule = LabelInside; place = at 1 } ∷ record { rule = UnknownLabel; place = at 1 } ∷ []
 jump_in_a_macro = refl

@@ -107,6 +107,22 @@ too_early = record { name = title (codes "K"); params = []; body = stands 9 (mac
 declared_later : uses (too_early ∷ reading ∷ []) (macro (codes "K") no_trees) ≡ record { rule = Unknown; place = at 9 } ∷ []
 declared_later = refl
 
+-- macro S() begin p := 1; end macro, macro O(p) begin S(); end macro: O(x), and O(0), whose argument is no variable
+abbrev name_of_the_caller : List Macro
+name_of_the_caller =
+    record { name = title (codes "S"); params = []; body = stands 3 (sets (read 3 (codes "p")) (num 1)) done }
+    ∷ record { name = title (codes "O"); params = title (codes "p") ∷ []; body = stands 4 (macro (codes "S") no_trees) done } ∷ []
+
+assigned_for_the_caller : uses name_of_the_caller (macro (codes "O") (tree (read 8 x) no_trees)) ≡ []
+assigned_for_the_caller = refl
+
+no_variable_for_the_caller : uses name_of_the_caller (macro (codes "O") (tree (read 8 (codes "N")) no_trees)) ≡ record { rule = NotVariable; place = at 8 } ∷ []
+no_variable_for_the_caller = refl
+
+-- S(): p is nothing there
+without_the_caller : uses name_of_the_caller (macro (codes "S") no_trees) ≡ record { rule = Unknown; place = at 3 } ∷ record { rule = NotVariable; place = at 3 } ∷ []
+without_the_caller = refl
+
 -- of an unknown name at 4 and a wrong number at 3, the lesser rule counts
 least_rule : first (uses [] (await (node (operator_call (codes "Len")) (at 3) (tree (read 4 q) (tree (read 5 y) no_trees))))) ≡ Some (record { rule = Unknown; place = at 4 })
 least_rule = refl

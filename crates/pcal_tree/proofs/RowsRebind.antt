@@ -153,6 +153,12 @@ handed_on : in_body (taking_one ∷ macro_of (codes "N") (named 70 (codes "e") �
     (calls (codes "N") (tree (bound_in Exists 50 i (num 0) (num 0)) no_trees)) ≡ at_place 50
 handed_on = refl
 
+-- macro N() begin with i \in 0 do y := e; end with; end macro, macro O(e) begin N(); end macro, and O(\E i \in 0 : 0): the e of N is the parameter of O
+for_the_caller :
+    in_body (macro_of (codes "N") [] taking_one.body ∷ macro_of (codes "O") (named 70 (codes "e") ∷ []) (calls (codes "N") no_trees) ∷ [])
+    (calls (codes "O") (tree (bound_in Exists 50 i (num 0) (num 0)) no_trees)) ≡ at_place 50
+for_the_caller = refl
+
 -- ---- identifiers of single processes, and initial values of procedures
 
 -- process Q = \E i \in 0 : 0 variable v = e; or Q \in \E i \in 0 : 0

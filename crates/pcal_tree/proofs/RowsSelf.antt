@@ -58,6 +58,12 @@ not_before = refl
 self_as_argument : alone_with (M ∷ []) (calls (codes "M") (self 31) done) ≡ outside 31
 self_as_argument = refl
 
+-- macro I() begin await p; end macro, macro O(p) begin I(); end macro, and O(self): once, in the argument
+through_two_macros :
+    alone_with (record { name = title (codes "I"); params = []; body = stands 50 (await (read 51 (codes "p"))) done }
+    ∷ record { name = title (codes "O"); params = title (codes "p") ∷ []; body = stands 52 (macro (codes "I") no_trees) done } ∷ []) (calls (codes "O") (self 31) done) ≡ outside 31
+through_two_macros = refl
+
 -- a procedure of a uniprocess algorithm: in the initial value of v
 in_a_procedure : self_offences (whole [] (procedure (self 42) ∷ []) (alone (labelled (codes "A") (stands 53 skip done)))) ≡ outside 42
 in_a_procedure = refl

@@ -143,6 +143,22 @@ argument_assigned = refl
 another_argument_assigned : with_macros (assigns_its_own ∷ []) (calls (codes "S") (read 31 y) done) ≡ []
 another_argument_assigned = refl
 
+-- macro I() begin p := 1; await q; end macro, macro O(p, q) begin I(); end macro: O(x, D), whose p and q are those of I too
+abbrev names_of_the_caller : Tree → Algorithm
+names_of_the_caller t = whole
+    (record { name = title (codes "I"); params = []; body = stands 10 (sets (read 10 (codes "p")) (num 1)) (awaits (read 13 (codes "q"))) }
+    ∷ record { name = title (codes "O"); params = title (codes "p") ∷ title (codes "q") ∷ []; body = stands 14 (macro (codes "I") no_trees) done } ∷ []) []
+    (alone (labelled (codes "A") (stands 30 (macro (codes "O") (tree t (tree (read 32 D) no_trees))) done)))
+
+through_two_macros : stale_offences (names_of_the_caller (read 31 x)) ≡ stale 32
+through_two_macros = refl
+
+through_two_macros_by_macros : stale_offences_by (spots_by_macros (names_of_the_caller (read 31 x))) (names_of_the_caller (read 31 x)) ≡ stale 32
+through_two_macros_by_macros = refl
+
+another_through_two_macros : stale_offences (names_of_the_caller (read 31 y)) ≡ []
+another_through_two_macros = refl
+
 -- macro L() begin x := 1; B: skip; end macro, and L(); await D: a label in a macro, which another rule refuses, begins a step too
 label_in_a_macro :
     with_macros (record { name = title (codes "L"); params = []; body = x_set (labelled (codes "B") (stands 10 skip done)) } ∷ []) (stands 30 (macro (codes "L") no_trees) (awaits (read 4 D))) ≡ []

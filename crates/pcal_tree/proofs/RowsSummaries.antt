@@ -2,7 +2,7 @@
 use Rattle.std.proofs.Common.{◌≡◌, ℕ, zero, suc, List, [], ◌∷◌, true, false, codes, refl}
 use Rattle.tla_tree.specs.Tree.{no_trees, tree}
 use Rattle.pcal_tree.specs.Algorithm.{Statement, macro, done, Macro}
-use Rattle.pcal_tree.specs.laws.MacroSummaries.{parameter, variable, in_turn, summaries, summary_effect}
+use Rattle.pcal_tree.specs.laws.MacroSummaries.{in_turn, summaries, summary_effect}
 use Rattle.pcal_tree.proofs.Sample.{title, x, y, num, var, item, and_next, sets}
 
 -- macro M0(p) begin p := 1; x := 2; end macro
@@ -13,7 +13,7 @@ first_macro = record { name = title (0 ∷ []); params = title (codes "p") ∷ [
 of_the_first : summaries (first_macro ∷ []) ≡ record {
   name = 0 ∷ [];
   params = title (codes "p") ∷ [];
-  found = record { targets = parameter (codes "p") ∷ variable x ∷ []; pairs = in_turn (parameter (codes "p")) (variable x) ∷ [] };
+  found = record { names = codes "p" ∷ x ∷ []; pairs = in_turn (codes "p") x ∷ [] };
 } ∷ []
 of_the_first = refl
 
@@ -39,3 +39,16 @@ part_of_the_same = refl
 -- written out, M12 would assign 8,192 times
 twelve : summary_effect (summaries (chain 12)) (12 ∷ []) (tree (var y) no_trees) ≡ record { variables = y ∷ x ∷ []; twice = true }
 twelve = refl
+
+-- macro I() begin p := 1; x := 2; end macro, macro O(p) begin I(); end macro: the p of I is the parameter of O, which the same is found of
+abbrev outer_macro : List Macro
+outer_macro =
+    record { name = title (codes "O"); params = title (codes "p") ∷ []; body = and_next (macro (0 ∷ []) no_trees) done }
+    ∷ record { name = title (0 ∷ []); params = []; body = first_macro.body } ∷ []
+
+through_another : summary_effect (summaries outer_macro) (codes "O") (tree (var x) no_trees) ≡ record { variables = x ∷ x ∷ []; twice = true }
+through_another = refl
+
+-- where I is called by itself its p is p
+by_itself : summary_effect (summaries outer_macro) (0 ∷ []) no_trees ≡ record { variables = codes "p" ∷ x ∷ []; twice = false }
+by_itself = refl

@@ -58,6 +58,12 @@ bound_with_arguments : macro_uses (of_p 1 (stands 20 (calls 0 (read 21 (codes "p
     ∷ record { title = 0 ∷ []; params = title y ∷ []; uses = record { offences = []; free = applied (codes "p") 1 false (at 3) ∷ applied x 0 false (at 4) ∷ [] } } ∷ []
 bound_with_arguments = refl
 
+-- macro M1(p) begin M0(); end macro, where M0's body is p := 1: the p of M1 is assigned
+assigned_for_the_caller : offences_by_uses (macro_uses (of_p 1 (stands 20 (macro (0 ∷ []) no_trees) done)
+    ∷ record { name = title (0 ∷ []); params = []; body = stands 2 (sets (read 3 (codes "p")) (num 1)) done } ∷ []) []) [] (at 30) (1 ∷ []) (tree (num 1) no_trees)
+    ≡ record { rule = NotVariable; place = at 1 } ∷ []
+assigned_for_the_caller = refl
+
 -- M2(p) calls itself, which is no macro before it
 not_before : macro_uses (of_p 2 (stands 20 (calls 2 (num 1)) done) ∷ []) [] ≡ found 2 (record { offences = record { rule = Unknown; place = at 20 } ∷ []; free = [] }) ∷ []
 not_before = refl

@@ -1,11 +1,12 @@
 -- Where labels must be, and variables assigned twice in a step ("A PlusCal User's Manual", section 3.7, labels).
 use Rattle.std.specs.Prelude.{List, [], ◌∷◌, ◌++◌, Bool, true, false, ◌||◌, cond, bytes_eq, Option, Some, None}
 use Rattle.std.specs.List.{list_any, flat_map}
+use Rattle.std.specs.Option.{option_or}
 use Rattle.tla_token.specs.declared.place.Place.{Place}
 use Rattle.tla_token.specs.declared.rule.Rule.{Rule}
 use Rattle.tla_token.specs.declared.rule.Rule.TheVariants.{FirstLabel, WhileLabel, AfterJump, AfterBranch, AssignTwice}
 use Rattle.tla_token.specs.declared.rule.Refusal.{Refusal}
-use Rattle.tla_tree.specs.Tree.{Word, Trees}
+use Rattle.tla_tree.specs.Tree.{Word, Trees, Graft}
 use Rattle.pcal_tree.specs.Algorithm.{Name, Statement, branch, either, with, while, goto, macro, call, return, Statements, done, then, mark, Branches, no_branches, or, Macro, Procedure}
 use Rattle.pcal_tree.specs.Run.{Partner, return_partner, partner_of, is_pair, arguments}
 use Rattle.pcal_tree.specs.Expand.{graft_all}
@@ -141,11 +142,25 @@ reached_variables E v = cond (is_reached v.before.path) (effect_at E v).variable
 abbrev pub effect_of_body : Effects → Statements → Effect
 effect_of_body E b = record { variables = flat_map (reached_variables E) (body_visits E b); twice = list_any (assigns_twice E) (body_visits E b) }
 
--- that of the body with the arguments in place of the parameters; the macros are given with the newest first, and each calls older ones. A call of no macro assigns nothing.
+-- what stands for a name in a macro's body: its argument, and for a name that is no parameter what stands for it where the call is
+abbrev pub called_with : List Name → Trees → Graft → Graft
+called_with ps ts g x at = option_or (arguments ps ts x at) (g x at)
+
+-- that of the body with what stands for its names, where g stands for names around the call and has been put into its arguments. The macros are given with
+-- the newest first, and each calls older ones. A call of no macro assigns nothing.
+abbrev pub effect_within : List Macro → Graft → Word → Trees → Effect
+effect_within [] g m ts = nothing
+effect_within (d ∷ older) g m ts =
+    cond (bytes_eq d.name.word m)
+    (effect_of_body (in_macro (effect_within older (called_with d.params ts g))) (graft_all (called_with d.params ts g) d.body))
+    (effect_within older g m ts)
+
+-- outside macros each name stands for itself
+abbrev pub nothing_put : Graft
+nothing_put x at = None
+
 abbrev pub call_effect : List Macro → Word → Trees → Effect
-call_effect [] m ts = nothing
-call_effect (d ∷ older) m ts =
-    cond (bytes_eq d.name.word m) (effect_of_body (in_macro (call_effect older)) (graft_all (arguments d.params ts) d.body)) (call_effect older m ts)
+call_effect ms m ts = effect_within ms nothing_put m ts
 
 -- ---- bodies
 

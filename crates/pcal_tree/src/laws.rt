@@ -122,8 +122,9 @@ pub fn processes_stand_at_one_label()
 {}
 
 /// What is computed once for each macro, from its text and from what was computed for older ones, says of each call what it assigns and
-/// whether it assigns a variable twice, as the macro's body does with the arguments in place of the parameters. So it gives the same
-/// offences against the rules on labels, and the same labels are added, in every algorithm.
+/// whether it assigns a variable twice, as the macro's body does with the arguments in place of the parameters, and in place of its other
+/// names with what stands for them where the call is. So it gives the same offences against the rules on labels, and the same labels are
+/// added, in every algorithm.
 pub fn macros_are_looked_at_once()
     ensures assigns { (ms : List Macro) (m : Word) (ts : Trees) (x : Word)
         → is_among (call_effect ms m ts).variables x ≡ is_among (summary_effect (summaries ms) m ts).variables x }

@@ -18,9 +18,10 @@ use Rattle.pcal_tree.specs.Processes.{OneOf}
 use Rattle.pcal_tree.specs.laws.Apart.{FewNames}
 use Rattle.pcal_tree.proofs.RoutineNames.{one_either}
 use Rattle.translation.specs.laws.WritableAlgorithm.{IsWritableDeclaration, IsWritableDefinition, IsStarted, IsWritableMain, IsWritableAlgorithm}
-use Rattle.translation.specs.laws.AcceptedAlgorithm.{IsAccepted, EachAssignsOnce}
+use Rattle.translation.specs.laws.AcceptedAlgorithm.{IsAccepted}
 use Rattle.translation.specs.laws.TypedAlgorithm.{IsTypedDefinition, IsTypedProcedure, IsTypedProcess, IsTypedMain, IsTypedAlgorithm}
 use Rattle.translation.proofs.AcceptedNames.{both_none, names_once, definitions_free, bodies_labelled}
+use Rattle.translation.proofs.OnceThrough.{accepted_once}
 use Rattle.translation.proofs.FewNames.{few_names, tokens_within}
 use Rattle.translation.proofs.KnownRoutines.{routine_written}
 use Rattle.translation.proofs.RegionActions.{every_both}
@@ -76,8 +77,8 @@ rules_on_names a o h =
     let r = both_none (repeated_names a o) _ q.0 in
     ((both_none F.uses _ p.0).0, r.0, (both_none F.rebound (reserved_declared a o) r.1).1)
 
-pub accepted_writable : (o : Outside) (a : Algorithm) → IsTypedAlgorithm a → FewNames a o → name_offences a o ≡ [] → label_offences a ≡ [] → EachAssignsOnce a → IsWritableAlgorithm o a
-accepted_writable o a h few names labels once =
+pub accepted_writable : (o : Outside) (a : Algorithm) → IsTypedAlgorithm a → FewNames a o → name_offences a o ≡ [] → label_offences a ≡ [] → IsWritableAlgorithm o a
+accepted_writable o a h few names labels =
     let n = rules_on_names a o names in
     record {
       few = few;
@@ -86,10 +87,10 @@ accepted_writable o a h few names labels once =
       main = main_writable a.main h.main;
       routines = λ u k.
           let t = routine_typed a h u k in
-          record { name = t.0; locals = t.1; once = names_once a o n.1 u k; labelled = bodies_labelled a labels u k t.2; body = routine_written a o h n.0 u k (once u k) };
+          record { name = t.0; locals = t.1; once = names_once a o n.1 u k; labelled = bodies_labelled a labels u k t.2; body = routine_written a o h n.0 u k (accepted_once a labels u k) };
     }
 
 -- of a file within the limits, with labels added
-pub text_writable : (x : Text) (o : Outside) (a : Algorithm) → IsAccepted o a → EachAssignsOnce a → length x ≤ most_bytes → HasOutside (walk x) o → IsWritableAlgorithm o a
-text_writable x o a h once size out =
-    accepted_writable o a (subst IsTypedAlgorithm h.labels_added (labelled_typed h.forced h.typed (text_typed h.syntax h.text h.from h.to h.tokens h.typed h.tok (tokens_within h.tokens h.rules).0 h.spelled))) (few_names x o a h size out) h.names h.labels once
+pub text_writable : (x : Text) (o : Outside) (a : Algorithm) → IsAccepted o a → length x ≤ most_bytes → HasOutside (walk x) o → IsWritableAlgorithm o a
+text_writable x o a h size out =
+    accepted_writable o a (subst IsTypedAlgorithm h.labels_added (labelled_typed h.forced h.typed (text_typed h.syntax h.text h.from h.to h.tokens h.typed h.tok (tokens_within h.tokens h.rules).0 h.spelled))) (few_names x o a h size out) h.names h.labels

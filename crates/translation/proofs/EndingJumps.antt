@@ -42,7 +42,7 @@ module _ (g : Graft) where
     one_jumps (call m ts) = refl
     one_jumps return = refl
 
-    all_jumps : (b : Statements) → jumps (graft_all g b) ≡ jumps b
+    pub all_jumps : (b : Statements) → jumps (graft_all g b) ≡ jumps b
     all_jumps done = refl
     all_jumps (then at st rest) = λ i. one_jumps st i || all_jumps rest i
     all_jumps (mark l k rest) = refl
@@ -54,7 +54,7 @@ module _ (g : Graft) where
 neither : (a b : Bool) → a ≡ false → b ≡ false → (a || b) ≡ false
 neither a b e f = (λ i. e i || b) ∙ f
 
-followed_jumps : (a b : Statements) → jumps a ≡ false → jumps (followed_by a b) ≡ jumps b
+pub followed_jumps : (a b : Statements) → jumps a ≡ false → jumps (followed_by a b) ≡ jumps b
 followed_jumps done b h = refl
 followed_jumps (then at st a) b h =
     let p = or_parts (jumps_one st) (jumps a) h in
@@ -151,11 +151,11 @@ none_missing E [] h = refl
 none_missing E (v ∷ vs) h =
     subst (λ (r : List Refusal). r ++ flat_map missing_label vs ≡ []) (sym (nothing_left (missing_label v) _ (nothing_left (offences_at E v) _ h))) (none_missing E vs (nothing_right (offences_at E v) _ h))
 
-while_missing : (l : Bool) (xs : List Refusal) (r : Refusal) → l ≡ false → cond l [] (xs ++ (r ∷ [])) ≡ [] → ⊥
+pub while_missing : (l : Bool) (xs : List Refusal) (r : Refusal) → l ≡ false → cond l [] (xs ++ (r ∷ [])) ≡ [] → ⊥
 while_missing true xs r e h = absurd cc
 while_missing false xs r e h = (let k = nothing_right xs (r ∷ []) h in absurd cc)
 
-due_missing : (l : Bool) (d : Option Rule) (q : Rule) (at : Place) (ws : List Refusal) → l ≡ false → d ≡ Some q → cond l [] (due_offence d at ++ ws) ≡ [] → ⊥
+pub due_missing : (l : Bool) (d : Option Rule) (q : Rule) (at : Place) (ws : List Refusal) → l ≡ false → d ≡ Some q → cond l [] (due_offence d at ++ ws) ≡ [] → ⊥
 due_missing true d q at ws e f h = absurd cc
 due_missing false None q at ws e f h = absurd cc
 due_missing false (Some r) q at ws e f h = absurd cc
@@ -265,7 +265,7 @@ module _ (ms : List Macro) (still : IsStill (written_out ms)) (C : Word → Tree
   main_ends a (alone b) e u (inr k) = absurd k
   main_ends a (processes ps) e u k = processes_end (first_process a) ps e u k
 
-each_one : (P : Macro → Type 0) (ds : List Macro) → ((d : Macro) → OneOf d ds → P d) → EachOf P ds
+pub each_one : (P : Macro → Type 0) (ds : List Macro) → ((d : Macro) → OneOf d ds → P d) → EachOf P ds
 each_one P [] h = tt
 each_one P (d ∷ ds) h = (h d (inl refl), each_one P ds (λ e k. h e (inr k)))
 

@@ -1,23 +1,21 @@
--- Bodies that break no rule on what is assigned twice: with macro calls written out, no statement assigns a variable beside a part of it, where no macro calls another.
-use Rattle.std.proofs.Common.{◌≡◌, ℕ, suc, List, [], ◌∷◌, ◌++◌, reverse, Bool, true, false, ◌||◌, cond, bytes_eq, Some, ◌⊎◌, inl, inr, refl, sym, ap, subst, ◌∙◌}
+-- Bodies that break no rule on what is assigned twice: with macro calls written out, no statement assigns a variable beside a part of it, where none does that is written out for a macro call.
+use Rattle.std.proofs.Common.{◌≡◌, ℕ, suc, List, [], ◌∷◌, ◌++◌, reverse, Bool, true, false, ◌||◌, Some, ◌⊎◌, inl, inr, refl, sym, ap, subst, ◌∙◌}
 use Rattle.std.proofs.lemmas.Bool.{or_parts}
 use Rattle.std.proofs.lemmas.List.Folds.{list_any-append}
 use Rattle.std.specs.List.{list_any, flat_map}
 use Rattle.tla_token.specs.declared.rule.Rule.TheVariants.{FirstLabel, AssignTwice}
 use Rattle.tla_tree.specs.Tree.{Word, Trees}
 use Rattle.pcal_tree.specs.Algorithm.{Span, Assignments, Statement, assign, await, print, assert, skip, branch, either, with, while, goto, macro, call, return, Statements, done, then, mark, Branches, no_branches, or, Macro, Procedure, Process, Main, alone, processes, Routine, procedure_routine, process_routine, numbered, first_procedure, first_process, procedure_routines, main_routines, Algorithm}
-use Rattle.pcal_tree.specs.Expand.{graft_all, followed_by, Writing, expand_one, expand, expand_some, written_out, expanded}
-use Rattle.pcal_tree.specs.OffencesCounts.{calls_in, calls_of, calls_of_some}
-use Rattle.pcal_tree.specs.OffencesLabels.{of_macro, of_procedure, of_body, of_main, label_offences_by, label_offences}
-use Rattle.pcal_tree.specs.OffencesSteps.{Before, at_label, at_first, inside, next, Visit, visits_inside, visits, visits_of_some, missing_label, assigns_twice, offences_at, in_macro, effect_of_body, call_effect, missing_in_body, procedure_effects, outer_effects}
+use Rattle.pcal_tree.specs.Expand.{followed_by, Writing, expand_one, expand, expand_some, written_out, expanded}
+use Rattle.pcal_tree.specs.OffencesLabels.{of_macro, of_procedure, of_body, of_main, label_offences_by}
+use Rattle.pcal_tree.specs.OffencesSteps.{Before, at_label, at_first, inside, next, Visit, visits_inside, visits, visits_of_some, missing_label, assigns_twice, offences_at, missing_in_body, procedure_effects, outer_effects}
 use Rattle.pcal_tree.specs.Paths.{clashes, Effect, Effects, after_one}
 use Rattle.pcal_tree.specs.Processes.{OneOf}
-use Rattle.pcal_tree.specs.Run.{arguments, partner_of}
+use Rattle.pcal_tree.specs.Run.{partner_of}
 use Rattle.pcal_tree.proofs.RoutineNames.{one_either}
 use Rattle.translation.specs.laws.AcceptedAlgorithm.{EachAssignsOnce}
-use Rattle.translation.specs.laws.AssignedOnce.{AssignsOnce, AssignOnce, AllAssignOnce, CallNone}
+use Rattle.translation.specs.laws.AssignedOnce.{AssignOnce, AllAssignOnce}
 use Rattle.translation.proofs.AcceptedNames.{both_none, no_offence}
-use Rattle.translation.proofs.KnownRoutines.{reversed}
 
 -- ---- statements of which none assigns twice by itself, where macro calls have the effects of E
 
@@ -40,10 +38,10 @@ abbrev mutual
   AllOnceBy E no_branches = Unit {0}
   AllOnceBy E (or b bs) = AreOnceBy E b × AllOnceBy E bs
 
-abbrev NoneTwice : Effects → List Visit → Type 0
+abbrev pub NoneTwice : Effects → List Visit → Type 0
 NoneTwice E vs = list_any (assigns_twice E) vs ≡ false
 
-two_lists : (E : Effects) (vs ws : List Visit) → NoneTwice E (vs ++ ws) → NoneTwice E vs × NoneTwice E ws
+pub two_lists : (E : Effects) (vs ws : List Visit) → NoneTwice E (vs ++ ws) → NoneTwice E vs × NoneTwice E ws
 two_lists E vs ws h = or_parts (list_any (assigns_twice E) vs) (list_any (assigns_twice E) ws) (sym (list_any-append (assigns_twice E) vs ws) ∙ h)
 
 -- where E says of assignments what they say themselves
@@ -75,7 +73,7 @@ module _ (E : Effects) (own : (ms : Assignments) → (E (assign ms)).twice ≡ c
         let q = two_lists E (visits E p b) (visits_of_some E p bs) h in
         (all_visited p b q.0, some_visited p bs q.1)
 
-none_offends : (E : Effects) (vs : List Visit) → flat_map (offences_at E) vs ≡ [] → NoneTwice E vs
+pub none_offends : (E : Effects) (vs : List Visit) → flat_map (offences_at E) vs ≡ [] → NoneTwice E vs
 none_offends E [] h = refl
 none_offends E (v ∷ vs) h = by (assigns_twice E v) (no_offence (assigns_twice E v) AssignTwice v.place (both_none (missing_label v) _ p.0).1) (none_offends E vs p.1)
   where
@@ -85,27 +83,6 @@ none_offends E (v ∷ vs) h = by (assigns_twice E v) (no_offence (assigns_twice 
     by : (b : Bool) → b ≡ false → NoneTwice E vs → (b || list_any (assigns_twice E) vs) ≡ false
     by true e k = cc
     by false e k = k
-
--- ---- as they are
-
-module _ (E : Effects) where
-  mutual
-    one_plain : (st : Statement) → IsOnceBy E st → AssignsOnce st
-    one_plain (assign ms) h = h
-    one_plain (branch e a b) h = (all_plain a h.0, all_plain b h.1)
-    one_plain (either bs) h = some_plain bs h
-    one_plain (with bs b) h = all_plain b h
-    one_plain (while e b) h = all_plain b h
-    one_plain _ h = tt
-
-    all_plain : (b : Statements) → AreOnceBy E b → AssignOnce b
-    all_plain done h = tt
-    all_plain (then at st rest) h = (one_plain st h.0, all_plain rest h.1)
-    all_plain (mark l k rest) h = all_plain rest h
-
-    some_plain : (bs : Branches) → AllOnceBy E bs → AllAssignOnce bs
-    some_plain no_branches h = tt
-    some_plain (or b bs) h = (all_plain b h.0, some_plain bs h.1)
 
 -- ---- with macro calls written out
 
@@ -139,51 +116,6 @@ module _ (E : Effects) (X : Writing) (calls : (at : Span) (m : Word) (ts : Trees
     some_expanded : (bs : Branches) → AllOnceBy E bs → AllAssignOnce (expand_some X bs)
     some_expanded no_branches h = tt
     some_expanded (or b bs) h = (all_expanded b h.0, some_expanded bs h.1)
-
--- ---- statements without macro calls are their expansion
-
-module _ (X : Writing) where
-  mutual
-    one_same : (at : Span) (st : Statement) (rest : Statements) → calls_in st ≡ [] → expand_one X at st rest ≡ then at st rest
-    one_same at (macro m ts) rest h = cc
-    one_same at (branch e a b) rest h = (let q = both_none (calls_of a) (calls_of b) h in (λ i. then at (branch e (all_same a q.0 i) (all_same b q.1 i)) rest))
-    one_same at (either bs) rest h = ap (λ (c : Branches). then at (either c) rest) (some_same bs h)
-    one_same at (with bs b) rest h = ap (λ (c : Statements). then at (with bs c) rest) (all_same b h)
-    one_same at (while e b) rest h = ap (λ (c : Statements). then at (while e c) rest) (all_same b h)
-    one_same at (assign ms) rest h = refl
-    one_same at (await e) rest h = refl
-    one_same at (print e) rest h = refl
-    one_same at (assert e) rest h = refl
-    one_same at skip rest h = refl
-    one_same at (goto l) rest h = refl
-    one_same at (call p ts) rest h = refl
-    one_same at return rest h = refl
-
-    all_same : (b : Statements) → calls_of b ≡ [] → expand X b ≡ b
-    all_same done h = refl
-    all_same (then at st rest) h =
-        let q = both_none (calls_in st) (calls_of rest) h in
-        one_same at st (expand X rest) q.0 ∙ ap (λ (c : Statements). then at st c) (all_same rest q.1)
-    all_same (mark l k rest) h = ap (λ (c : Statements). mark l k c) (all_same rest h)
-
-    some_same : (bs : Branches) → calls_of_some bs ≡ [] → expand_some X bs ≡ bs
-    some_same no_branches h = refl
-    some_same (or b bs) h = (let q = both_none (calls_of b) (calls_of_some bs) h in (λ i. or (all_same b q.0 i) (some_same bs q.1 i)))
-
--- ---- macros that call none
-
-call_once : (ms : List Macro) → CallNone ms → (at : Span) (m : Word) (ts : Trees) → (call_effect ms m ts).twice ≡ false → AssignOnce (written_out ms at m ts)
-call_once [] none at m ts h = (tt, tt)
-call_once (d ∷ older) none at m ts h = by (call_once older none.1 at m ts) (bytes_eq d.name.word m) h
-  where
-    by : ((call_effect older m ts).twice ≡ false → AssignOnce (written_out older at m ts)) → (b : Bool)
-        → (cond b (effect_of_body (in_macro (call_effect older)) (graft_all (arguments d.params ts) d.body)) (call_effect older m ts)).twice ≡ false
-        → AssignOnce (cond b (graft_all (arguments d.params ts) (expand (written_out older) d.body)) (written_out older at m ts))
-    by f true k =
-        subst (λ (b : Statements). AssignOnce (graft_all (arguments d.params ts) b)) (sym (all_same (written_out older) d.body none.0))
-        (all_plain (in_macro (call_effect older)) (graft_all (arguments d.params ts) d.body)
-        (all_visited (in_macro (call_effect older)) (λ ms. refl) (inside (Some [])) (graft_all (arguments d.params ts) d.body) k))
-    by f false k = f k
 
 -- ---- bodies
 
@@ -222,7 +154,3 @@ bodies_once a C calls e u k =
     by : flat_map (of_procedure C) a.procedures ≡ [] → of_main C a.main ≡ [] → OneOf u (procedure_routines a) ⊎ OneOf u (main_routines a a.main) → AssignOnce (expanded (reverse a.macros) u.body)
     by b c (inl q) = procedures_once (reverse a.macros) C calls (first_procedure a) a.procedures b u q
     by b c (inr q) = main_once (reverse a.macros) C calls a a.main c u q
-
-pub accepted_once : (a : Algorithm) → label_offences a ≡ [] → CallNone a.macros → EachAssignsOnce a
-accepted_once a e none u k =
-    bodies_once a (call_effect (reverse a.macros)) (call_once (reverse a.macros) (reversed (λ (d : Macro). calls_of d.body ≡ []) a.macros none)) e u k

@@ -1,62 +1,18 @@
--- Where macro calls are looked at through the calls around them, no statement assigns a variable beside a part of it with macro calls written out.
+-- Where the rule on assigning twice is not broken, no statement assigns a variable beside a part of it with macro calls written out.
 use Rattle.std.proofs.Common.{◌≡◌, List, [], ◌∷◌, Bool, true, false, ◌&&◌, ◌||◌, cond, bytes_eq, reverse, Option, Some, None, refl, sym, ap, subst, ◌∙◌}
-use Rattle.std.specs.Option.{option_or, option_map}
-use Rattle.tla_token.specs.declared.place.Place.{Place}
-use Rattle.tla_tree.specs.Tree.{Word, Name, apply, select, name, strict, Tree, node, Trees, no_trees, tree, Graft, grafted_name, graft, grafts}
-use Rattle.pcal_tree.specs.Algorithm.{nowhere, Span, Assignments, no_assignments, assignment, Statement, assign, await, print, assert, skip, branch, either, with, while, goto, macro, call, return, Statements, done, then, mark, Branches, no_branches, or, Macro, Algorithm}
-use Rattle.pcal_tree.specs.Expand.{placed_at, graft_left, graft_assignments, graft_one, graft_all, graft_some, followed_by, expand_one, expand, expand_some, written_out}
-use Rattle.pcal_tree.specs.OffencesLabels.{label_offences_by}
-use Rattle.pcal_tree.specs.OffencesSteps.{inside, in_macro, effect_of_body}
+use Rattle.std.proofs.Math.Bool.{and_assoc}
+use Rattle.tla_tree.specs.Tree.{Word, Name, name, Tree, node, Trees, no_trees, tree, Graft, graft, grafts}
+use Rattle.pcal_tree.specs.Algorithm.{Span, Assignments, no_assignments, assignment, Binds, no_binds, one_of, is, Statement, assign, await, print, assert, skip, branch, either, with, while, goto, macro, call, return, Statements, done, then, mark, Branches, no_branches, or, Macro, Algorithm}
+use Rattle.pcal_tree.specs.Expand.{placed_at, graft_left, graft_assignments, graft_binds, graft_one, graft_all, graft_some, followed_by, expand_one, expand, expand_some, written_out}
+use Rattle.pcal_tree.specs.OffencesLabels.{label_offences}
+use Rattle.pcal_tree.specs.OffencesSteps.{inside, in_macro, effect_of_body, called_with, effect_within, nothing_put, call_effect}
 use Rattle.pcal_tree.specs.Paths.{root, is_whole, same_word, clashes_with, clashes}
 use Rattle.pcal_tree.specs.Run.{arguments}
-use Rattle.pcal_tree.specs.laws.MacroSummaries.{argument, argument_whole, variable_of}
-use Rattle.pcal_tree.proofs.ExpandRuns.{same_argument}
-use Rattle.pcal_tree.proofs.TargetLaws.{root_after, whole_after}
+use Rattle.pcal_tree.specs.laws.MacroSummaries.{argument}
+use Rattle.pcal_tree.proofs.TargetLaws.{Anywhere, put_for, root_after, whole_after, root_side, whole_side, arguments_anywhere, called_anywhere, root_left, resolved_twice, whole_twice}
 use Rattle.translation.specs.laws.AcceptedAlgorithm.{EachAssignsOnce}
-use Rattle.translation.specs.laws.AssignedOnce.{AssignsOnce, AssignOnce, AllAssignOnce, called_with, effect_within, nothing_put, effect_through}
+use Rattle.translation.specs.laws.AssignedOnce.{AssignsOnce, AssignOnce, AllAssignOnce}
 use Rattle.translation.proofs.OnceStatements.{IsOnceBy, AreOnceBy, AllOnceBy, all_visited, followed_once, bodies_once}
-
--- ---- left sides with trees put in
-
--- what is put in rests on no place
-abbrev Anywhere : Graft → Type 0
-Anywhere g = (x : Word) (p q : Place) → g x p ≡ g x q
-
-abbrev put_for : Graft → Word → Option Tree
-put_for g x = g x nowhere
-
-root_put : (g : Graft) → Anywhere g → (t : Tree) → root (graft g t) ≡ root_after (put_for g) (root t)
-root_put g free (node (name x) at us) = ap (λ (o : Option Tree). root (grafted_name o (name x) at (grafts g us))) (free x at nowhere) ∙ by (g x nowhere)
-  where
-    by : (o : Option Tree) → root (grafted_name o (name x) at (grafts g us)) ≡ variable_of o x
-    by (Some t) = refl
-    by None = refl
-root_put g free (node (strict apply) at no_trees) = refl
-root_put g free (node (strict apply) at (tree t us)) = root_put g free t
-root_put g free (node (strict (select a)) at no_trees) = refl
-root_put g free (node (strict (select a)) at (tree t us)) = root_put g free t
-root_put g free (node m at us) = refl
-
-whole_put : (g : Graft) → Anywhere g → (t : Tree) → is_whole (graft g t) ≡ (is_whole t && whole_after (put_for g) (root t))
-whole_put g free (node (name x) at us) = ap (λ (o : Option Tree). is_whole (grafted_name o (name x) at (grafts g us))) (free x at nowhere) ∙ by (g x nowhere)
-  where
-    by : (o : Option Tree) → is_whole (grafted_name o (name x) at (grafts g us)) ≡ argument_whole o
-    by (Some t) = refl
-    by None = refl
-whole_put g free (node m at us) = refl
-
-root_placed : (at : Place) (t : Tree) → root (placed_at at t) ≡ root t
-root_placed at (node m p ts) = refl
-
-whole_placed : (at : Place) (t : Tree) → is_whole (placed_at at t) ≡ is_whole t
-whole_placed at (node (name x) p ts) = refl
-whole_placed at (node m p ts) = refl
-
-root_side : (g : Graft) → Anywhere g → (l : Tree) → root (graft_left g l) ≡ root_after (put_for g) (root l)
-root_side g free (node m at us) = root_placed at (graft g (node m at us)) ∙ root_put g free (node m at us)
-
-whole_side : (g : Graft) → Anywhere g → (l : Tree) → is_whole (graft_left g l) ≡ (is_whole l && whole_after (put_for g) (root l))
-whole_side g free (node m at us) = whole_placed at (graft g (node m at us)) ∙ whole_put g free (node m at us)
 
 -- ---- assignments with left sides that are alike
 
@@ -80,57 +36,29 @@ clashes_alike (assignment l e ms) no_assignments h = absurd h
 
 -- ---- what is put in twice is put in once
 
-argument_after : (ps : List Name) (us : Trees) (g : Graft) (x : Word) → argument ps (grafts g us) x ≡ option_map (graft g) (argument ps us x)
-argument_after [] us g x = refl
-argument_after (p ∷ ps) no_trees g x = refl
-argument_after (p ∷ ps) (tree t us) g x = by (bytes_eq p.word x) (argument_after ps us g x)
-  where
-    by : (b : Bool) → argument ps (grafts g us) x ≡ option_map (graft g) (argument ps us x)
-        → cond b (Some (graft g t)) (argument ps (grafts g us) x) ≡ option_map (graft g) (cond b (Some t) (argument ps us x))
-    by true e = refl
-    by false e = e
-
 module _ (ps : List Name) (us : Trees) (g : Graft) (free : Anywhere g) where
   abbrev inner : Graft
   inner = called_with ps (grafts g us) g
 
-  inner_anywhere : Anywhere inner
-  inner_anywhere x p q = λ i. option_or (same_argument ps (grafts g us) x p q i) (free x p q i)
+  roots_twice : (o : Option Word) → root_after (put_for inner) o ≡ root_after (put_for g) (root_after (argument ps us) o)
+  roots_twice None = refl
+  roots_twice (Some x) = resolved_twice ps us g free x
 
-  roots_after : (o : Option Word) → root_after (put_for inner) o ≡ root_after (put_for g) (root_after (argument ps us) o)
-  roots_after None = refl
-  roots_after (Some x) = ap (λ (o : Option Tree). variable_of (option_or o (g x nowhere)) x) (argument_after ps us g x) ∙ by (argument ps us x)
-    where
-      by : (o : Option Tree) → variable_of (option_or (option_map (graft g) o) (g x nowhere)) x ≡ root_after (put_for g) (variable_of o x)
-      by (Some t) = root_put g free t
-      by None = refl
+  wholes_twice : (o : Option Word) → whole_after (put_for inner) o ≡ (whole_after (argument ps us) o && whole_after (put_for g) (root_after (argument ps us) o))
+  wholes_twice None = refl
+  wholes_twice (Some x) = whole_twice ps us g free x
 
-  wholes_after : (o : Option Word) → whole_after (put_for inner) o ≡ (whole_after (argument ps us) o && whole_after (put_for g) (root_after (argument ps us) o))
-  wholes_after None = refl
-  wholes_after (Some x) = ap (λ (o : Option Tree). argument_whole (option_or o (g x nowhere))) (argument_after ps us g x) ∙ by (argument ps us x)
-    where
-      by : (o : Option Tree) → argument_whole (option_or (option_map (graft g) o) (g x nowhere)) ≡ (argument_whole o && whole_after (put_for g) (variable_of o x))
-      by (Some t) = whole_put g free t
-      by None = refl
-
-  arguments_anywhere : Anywhere (arguments ps us)
-  arguments_anywhere x p q = same_argument ps us x p q
-
-  and_both : (a b c : Bool) → (a && (b && c)) ≡ ((a && b) && c)
-  and_both true b c = refl
-  and_both false b c = refl
-
-  side_root : (l : Tree) → root (graft_left inner l) ≡ root (graft_left g (graft_left (arguments ps us) l))
+  pub side_root : (l : Tree) → root (graft_left inner l) ≡ root (graft_left g (graft_left (arguments ps us) l))
   side_root l =
-      root_side inner inner_anywhere l ∙ (roots_after (root l)
-      ∙ sym (root_side g free (graft_left (arguments ps us) l) ∙ ap (root_after (put_for g)) (root_side (arguments ps us) arguments_anywhere l)))
+      root_side inner (called_anywhere ps (grafts g us) g free) l ∙ (roots_twice (root l)
+      ∙ sym (root_side g free (graft_left (arguments ps us) l) ∙ ap (root_after (put_for g)) (root_left ps us l)))
 
   side_whole : (l : Tree) → is_whole (graft_left inner l) ≡ is_whole (graft_left g (graft_left (arguments ps us) l))
   side_whole l =
-      whole_side inner inner_anywhere l ∙ (ap (λ (b : Bool). is_whole l && b) (wholes_after (root l))
-      ∙ (and_both (is_whole l) (whole_after (argument ps us) (root l)) (whole_after (put_for g) (root_after (argument ps us) (root l)))
+      whole_side inner (called_anywhere ps (grafts g us) g free) l ∙ (ap (λ (b : Bool). is_whole l && b) (wholes_twice (root l))
+      ∙ (sym (and_assoc (is_whole l) (whole_after (argument ps us) (root l)) (whole_after (put_for g) (root_after (argument ps us) (root l))))
       ∙ sym (whole_side g free (graft_left (arguments ps us) l)
-      ∙ (λ i. whole_side (arguments ps us) arguments_anywhere l i && whole_after (put_for g) (root_side (arguments ps us) arguments_anywhere l i)))))
+      ∙ (λ i. whole_side (arguments ps us) (arguments_anywhere ps us) l i && whole_after (put_for g) (root_left ps us l i)))))
 
   sides_alike : (ms : Assignments) → Alike (graft_assignments inner ms) (graft_assignments g (graft_assignments (arguments ps us) ms))
   sides_alike no_assignments = tt
@@ -163,7 +91,7 @@ module _ (ps : List Name) (us : Trees) (g : Graft) (free : Anywhere g) where
 
 -- ---- macro calls written out
 
-followed_put : (g : Graft) (a b : Statements) → graft_all g (followed_by a b) ≡ followed_by (graft_all g a) (graft_all g b)
+pub followed_put : (g : Graft) (a b : Statements) → graft_all g (followed_by a b) ≡ followed_by (graft_all g a) (graft_all g b)
 followed_put g done b = refl
 followed_put g (then at st a) b = ap (λ (c : Statements). then at (graft_one g st) c) (followed_put g a b)
 followed_put g (mark l k a) b = ap (λ (c : Statements). mark l k c) (followed_put g a b)
@@ -208,7 +136,7 @@ call_within (d ∷ older) g free at m us h = by (call_within older) (bytes_eq d.
         → AssignOnce (graft_all g (cond b (graft_all (arguments d.params us) (expand (written_out older) d.body)) (written_out older at m us)))
     by f true k =
         all_twice d.params us g free (expand (written_out older) d.body)
-        (all_within older f (called_with d.params (grafts g us) g) (inner_anywhere d.params us g free) d.body
+        (all_within older f (called_with d.params (grafts g us) g) (called_anywhere d.params (grafts g us) g free) d.body
         (all_visited (in_macro (effect_within older (called_with d.params (grafts g us) g))) (λ ns. refl) (inside (Some [])) (graft_all (called_with d.params (grafts g us) g) d.body) k))
     by f false k = f g free at m us k
 
@@ -226,35 +154,44 @@ mutual
 side_unput : (l : Tree) → graft_left nothing_put l ≡ l
 side_unput (node m at ts) = ap (placed_at at) (tree_unput (node m at ts))
 
-assignments_unput : (ms : Assignments) → clashes (graft_assignments nothing_put ms) ≡ clashes ms
-assignments_unput ms = ap clashes (by ms)
-  where
-    by : (ns : Assignments) → graft_assignments nothing_put ns ≡ ns
-    by no_assignments = refl
-    by (assignment l e ns) = λ i. assignment (side_unput l i) (tree_unput e i) (by ns i)
+assignments_unput : (ms : Assignments) → graft_assignments nothing_put ms ≡ ms
+assignments_unput no_assignments = refl
+assignments_unput (assignment l e ms) = λ i. assignment (side_unput l i) (tree_unput e i) (assignments_unput ms i)
+
+binds_unput : (bs : Binds) → graft_binds nothing_put bs ≡ bs
+binds_unput no_binds = refl
+binds_unput (one_of x e bs) = λ i. one_of x (tree_unput e i) (binds_unput bs i)
+binds_unput (is x e bs) = λ i. is x (tree_unput e i) (binds_unput bs i)
 
 mutual
-  one_unput : (st : Statement) → AssignsOnce (graft_one nothing_put st) → AssignsOnce st
-  one_unput (assign ms) h = sym (assignments_unput ms) ∙ h
-  one_unput (branch e a b) h = (all_unput a h.0, all_unput b h.1)
-  one_unput (either bs) h = some_unput bs h
-  one_unput (with bs b) h = all_unput b h
-  one_unput (while e b) h = all_unput b h
-  one_unput _ h = tt
+  one_unput : (st : Statement) → graft_one nothing_put st ≡ st
+  one_unput (assign ms) = ap assign (assignments_unput ms)
+  one_unput (await e) = ap await (tree_unput e)
+  one_unput (print e) = ap print (tree_unput e)
+  one_unput (assert e) = ap assert (tree_unput e)
+  one_unput skip = refl
+  one_unput (branch e a b) = λ i. branch (tree_unput e i) (all_unput a i) (all_unput b i)
+  one_unput (either bs) = ap either (some_unput bs)
+  one_unput (with bs b) = λ i. with (binds_unput bs i) (all_unput b i)
+  one_unput (while e b) = λ i. while (tree_unput e i) (all_unput b i)
+  one_unput (goto l) = refl
+  one_unput (macro m ts) = ap (macro m) (trees_unput ts)
+  one_unput (call p ts) = ap (call p) (trees_unput ts)
+  one_unput return = refl
 
-  all_unput : (b : Statements) → AssignOnce (graft_all nothing_put b) → AssignOnce b
-  all_unput done h = tt
-  all_unput (then at st rest) h = (one_unput st h.0, all_unput rest h.1)
-  all_unput (mark l k rest) h = all_unput rest h
+  pub all_unput : (b : Statements) → graft_all nothing_put b ≡ b
+  all_unput done = refl
+  all_unput (then at st rest) = λ i. then at (one_unput st i) (all_unput rest i)
+  all_unput (mark l k rest) = ap (mark l k) (all_unput rest)
 
-  some_unput : (bs : Branches) → AllAssignOnce (graft_some nothing_put bs) → AllAssignOnce bs
-  some_unput no_branches h = tt
-  some_unput (or b bs) h = (all_unput b h.0, some_unput bs h.1)
+  some_unput : (bs : Branches) → graft_some nothing_put bs ≡ bs
+  some_unput no_branches = refl
+  some_unput (or b bs) = λ i. or (all_unput b i) (some_unput bs i)
 
-call_through : (ms : List Macro) (at : Span) (m : Word) (ts : Trees) → (effect_through ms m ts).twice ≡ false → AssignOnce (written_out ms at m ts)
-call_through ms at m ts h =
-    all_unput (written_out ms at m ts)
+call_once : (ms : List Macro) (at : Span) (m : Word) (ts : Trees) → (call_effect ms m ts).twice ≡ false → AssignOnce (written_out ms at m ts)
+call_once ms at m ts h =
+    subst AssignOnce (all_unput (written_out ms at m ts))
     (call_within ms nothing_put (λ x p q. refl) at m ts (ap (λ (us : Trees). (effect_within ms nothing_put m us).twice) (trees_unput ts) ∙ h))
 
-pub through_once : (a : Algorithm) → label_offences_by (effect_through (reverse a.macros)) a ≡ [] → EachAssignsOnce a
-through_once a e u k = bodies_once a (effect_through (reverse a.macros)) (call_through (reverse a.macros)) e u k
+pub accepted_once : (a : Algorithm) → label_offences a ≡ [] → EachAssignsOnce a
+accepted_once a e u k = bodies_once a (call_effect (reverse a.macros)) (call_once (reverse a.macros)) e u k

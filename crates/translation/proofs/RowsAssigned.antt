@@ -1,15 +1,15 @@
--- Macros that assign a name which is the parameter of the macro that calls them: the rule on assigning twice doesn't see that what is assigned is its argument.
-use Rattle.std.proofs.Common.{◌≡◌, [], ◌∷◌, ◌++◌, reverse, false, codes, inl, refl}
+-- Macros that assign a name which is the parameter of the macro that calls them: the rule on assigning twice sees that what is assigned is its argument.
+use Rattle.std.proofs.Common.{◌≡◌, [], ◌∷◌, reverse, false, codes, inl, refl}
 use Rattle.module_tree.specs.Formulas.{named}
 use Rattle.tla_token.specs.declared.rule.Rule.TheVariants.{AssignTwice}
 use Rattle.tla_tree.specs.Tree.{no_trees, tree}
 use Rattle.pcal_tree.specs.Algorithm.{nowhere, macro, Macro, Statements, alone, alone_routine, Algorithm}
 use Rattle.pcal_tree.specs.Expand.{expanded}
-use Rattle.pcal_tree.specs.OffencesLabels.{label_offences_by, label_offences}
+use Rattle.pcal_tree.specs.OffencesLabels.{label_offences}
 use Rattle.pcal_tree.specs.Offences.{offence}
 use Rattle.pcal_tree.specs.OffencesOfNames.{name_offences}
 use Rattle.translation.specs.laws.AcceptedAlgorithm.{EachAssignsOnce}
-use Rattle.translation.specs.laws.AssignedOnce.{effect_through}
+use Rattle.translation.specs.laws.StepsOnce.{none_set, SetsOnce}
 use Rattle.translation.proofs.Trees.{word, x, z, num, and_next, just, sets, both, labelled, zero_of, integers}
 
 -- macro Inner() begin x := 1 || z := 2
@@ -30,12 +30,8 @@ sample = record { name = word (codes "R"); fair = false; globals = zero_of z ∷
 no_rule_on_names : name_offences sample integers ≡ []
 no_rule_on_names = refl
 
-no_rule_on_labels : label_offences sample ≡ []
-no_rule_on_labels = refl
-
--- looked at through the call of Outer it is seen
-seen_through : label_offences_by (effect_through (reverse sample.macros)) sample ≡ offence AssignTwice nowhere
-seen_through = refl
+seen_at_the_call : label_offences sample ≡ offence AssignTwice nowhere
+seen_at_the_call = refl
 
 assigned_twice : EachAssignsOnce sample → ⊥
 assigned_twice h = (let e = (h (alone_routine sample body) (inl refl)).0 in absurd cc)
@@ -52,11 +48,11 @@ in_turn = record {
   main = alone (labelled (codes "A") (and_next (macro (codes "Outer") (tree (named z) no_trees)) (just (sets z (num 2)))));
 }
 
-no_rule_in_turn : name_offences in_turn integers ++ label_offences in_turn ≡ []
-no_rule_in_turn = refl
-
-in_turn_through : label_offences_by (effect_through (reverse in_turn.macros)) in_turn ≡ offence AssignTwice nowhere
-in_turn_through = refl
+seen_in_turn : label_offences in_turn ≡ offence AssignTwice nowhere
+seen_in_turn = refl
 
 written_in_turn : expanded (reverse in_turn.macros) (labelled (codes "A") (and_next (macro (codes "Outer") (tree (named z) no_trees)) (just (sets z (num 2))))) ≡ labelled (codes "A") (and_next (sets z (num 1)) (just (sets z (num 2))))
 written_in_turn = refl
+
+again_in_the_step : SetsOnce none_set (expanded (reverse in_turn.macros) (labelled (codes "A") (and_next (macro (codes "Outer") (tree (named z) no_trees)) (just (sets z (num 2)))))) → ⊥
+again_in_the_step h = (let e = h.1.0 z refl in absurd cc)

@@ -6,3 +6,4 @@ pub mod AssignedOnce
 pub mod TypedAlgorithm
 pub mod AcceptedAlgorithm
 pub mod JumpsEnd
+pub mod StepsOnce

@@ -5,10 +5,10 @@ ghost use Rattle.tla_tree.specs.Tree.{Word};
 ghost use Rattle.tla_value.specs.Outside.{Outside};
 ghost use Rattle.module_tree.specs.Module.{test, item, Module};
 ghost use Rattle.module_tree.specs.Reading.{Reads};
-ghost use Rattle.pcal_tree.specs.Algorithm.{Routine, locals, routines, Definition, Algorithm};
+ghost use Rattle.pcal_tree.specs.Algorithm.{Statements, Routine, locals, routines, Definition, Algorithm};
 ghost use Rattle.pcal_tree.specs.OffencesNames.{repeated_names};
 ghost use Rattle.pcal_tree.specs.OffencesReserved.{reserved_declared};
-ghost use Rattle.pcal_tree.specs.OffencesLabels.{label_words, label_offences_by, label_offences};
+ghost use Rattle.pcal_tree.specs.OffencesLabels.{label_words, label_offences};
 ghost use Rattle.pcal_tree.specs.laws.Apart.{FewNames, AreNames};
 ghost use Rattle.pcal_tree.specs.Processes.{OneOf};
 ghost use Rattle.std.specs.Bool.{IsTrue};
@@ -46,11 +46,13 @@ ghost use Rattle.tla_tree.specs.laws.Writable.{AreSmall};
 ghost use Rattle.pcal_tree.specs.Grammar.{Syntax, Spells};
 ghost use Rattle.pcal_tree.specs.OffencesOfNames.{name_offences};
 ghost use Rattle.pcal_tree.specs.Expand.{expanded};
+ghost use Rattle.action_builder.specs.Assigned.{Names};
+ghost use Rattle.action_builder.specs.laws.Ready.{Once};
+ghost use Rattle.translation.specs.laws.StepsOnce.{none_set, SetsOnce};
 ghost use Rattle.translation.specs.laws.JumpsEnd.{JumpsEnd};
 ghost use Rattle.translation.specs.laws.TypedAlgorithm.{IsTypedAlgorithm};
-ghost use Rattle.translation.specs.laws.AssignedOnce.{CallNone, effect_through};
 ghost use Rattle.translation.specs.laws.AcceptedAlgorithm.{IsAccepted, EachAssignsOnce};
-ghost use Rattle.translation.specs.laws.WritableAlgorithm.{IsStarted, IsLabelled, IsWritableAlgorithm};
+ghost use Rattle.translation.specs.laws.WritableAlgorithm.{IsStarted, IsLabelled, AreWritableStatements, IsWritableAlgorithm};
 ghost use Rattle.translation.specs.Region.{written_region, written_module};
 
 /// The written module of an algorithm and of the same one with other places are the same.
@@ -113,23 +115,21 @@ pub fn spelled_algorithms_are_typed()
     ensures names { (a : Algorithm) → IsTypedAlgorithm a → AreNames a }
 {}
 
-/// An algorithm that has what its text gives, and breaks no rule on names and on labels, can be written where it has few names and no statement, its
-/// macro calls written out, assigns a variable beside a part of it. The rule on assigning twice gives the latter where no macro calls another;
-/// and for all macros where what is assigned by a macro call is looked at through the calls around it.
+/// An algorithm that has what its text gives, and breaks no rule on names and on labels, can be written where it has few names. Where no rule on
+/// labels is broken, no statement of a body, its macro calls written out, assigns a variable beside a part of it.
 pub fn accepted_algorithms_can_be_written()
-    ensures written { (o : Outside) (a : Algorithm) → IsTypedAlgorithm a → FewNames a o → name_offences a o ≡ [] → label_offences a ≡ [] → EachAssignsOnce a → IsWritableAlgorithm o a }
-    ensures once { (a : Algorithm) → label_offences a ≡ [] → CallNone a.macros → EachAssignsOnce a }
-    ensures through { (a : Algorithm) → label_offences_by (effect_through (reverse a.macros)) a ≡ [] → EachAssignsOnce a }
+    ensures written { (o : Outside) (a : Algorithm) → IsTypedAlgorithm a → FewNames a o → name_offences a o ≡ [] → label_offences a ≡ [] → IsWritableAlgorithm o a }
+    ensures once { (a : Algorithm) → label_offences a ≡ [] → EachAssignsOnce a }
 {}
 
 /// What is written of an algorithm that the tokens of a text spell, with labels added, and that breaks no rule on tokens, names and labels, is a translation that can
 /// be written and read back: a file within the limits that is not refused is one module with it, around that file, with what the file has outside. Its names
-/// are few. It is asked that no statement, its macro calls written out, assigns a variable beside a part of it.
+/// are few.
 pub fn accepted_modules_read_back()
     ensures few { (x : Text) (o : Outside) (a : Algorithm) → IsAccepted o a → length x ≤ most_bytes → HasOutside (walk x) o → FewNames a o }
-    ensures regions { (no_terminating : Bool) (x : Text) (o : Outside) (a : Algorithm) → IsAccepted o a → EachAssignsOnce a → length x ≤ most_bytes → HasOutside (walk x) o
+    ensures regions { (no_terminating : Bool) (x : Text) (o : Outside) (a : Algorithm) → IsAccepted o a → length x ≤ most_bytes → HasOutside (walk x) o
         → IsRegion (written_region no_terminating o a) }
-    ensures files { (no_terminating : Bool) (x w : Text) (o : Outside) (a : Algorithm) → IsAccepted o a → EachAssignsOnce a → length x ≤ most_bytes → IsFine x → HasOutside (walk x) o
+    ensures files { (no_terminating : Bool) (x w : Text) (o : Outside) (a : Algorithm) → IsAccepted o a → length x ≤ most_bytes → IsFine x → HasOutside (walk x) o
         → WithTranslation x (layout (written_region no_terminating o a)) w → IsWritten x w o (written_region no_terminating o a) }
 {}
 
@@ -137,4 +137,12 @@ pub fn accepted_modules_read_back()
 /// laws of written actions ask.
 pub fn jumps_end_their_lists()
     ensures { (a : Algorithm) → label_offences a ≡ [] → (u : Routine) → OneOf u (routines a) → JumpsEnd (expanded (reverse a.macros) u.body) }
+{}
+
+/// Where no rule on labels is broken, no variable is assigned again before the next label, with macro calls written out: from each label on, and in each loop from its
+/// beginning on. It is asked that an algorithm has what its text gives, so that no `either` is empty. Of statements that can be written this is what the laws of
+/// written actions ask of a step's statements.
+pub fn steps_assign_once()
+    ensures once { (a : Algorithm) → IsTypedAlgorithm a → label_offences a ≡ [] → (u : Routine) → OneOf u (routines a) → SetsOnce none_set (expanded (reverse a.macros) u.body) }
+    ensures ready { (C V : Word → Bool) (A : Names) (b : Statements) → AreWritableStatements C V b → SetsOnce A b → Once A b }
 {}

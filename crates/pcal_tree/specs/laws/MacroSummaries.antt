@@ -1,32 +1,27 @@
--- What is computed once for each macro, in place of writing it out at each call: the parameters and variables that it assigns, and which of them
+-- What is computed once for each macro, in place of writing it out at each call: the names that it assigns, parameters or others, and which of them
 -- must not be one variable ("A PlusCal User's Manual", sections 3.5, macros, and 3.7, labels).
 use Rattle.std.specs.Prelude.{List, [], ◌∷◌, ◌++◌, Bool, true, false, ◌&&◌, ◌||◌, cond, bytes_eq, Option, Some, None, option_map, map}
 use Rattle.std.specs.List.{list_any, flat_map}
-use Rattle.tla_token.specs.Signs.{is_among}
-use Rattle.tla_tree.specs.Tree.{Word, Tree, Trees, words}
+use Rattle.tla_tree.specs.Tree.{Word, Tree, Trees}
 use Rattle.pcal_tree.specs.Algorithm.{nowhere, Name, Assignments, no_assignments, assignment, Statement, assign, branch, either, with, while, goto, macro, call, return, Statements, done, then, mark, Branches, no_branches, or, Macro}
 use Rattle.pcal_tree.specs.Run.{arguments}
 use Rattle.pcal_tree.specs.Paths.{root, is_whole, some_word, same_word, Effect, nothing, rounds}
 
 -- ---- what a macro's body assigns
 
--- a parameter of the macro, or a variable
-pub data Target : Type 0 where
-  parameter : Word → Target
-  variable : Word → Target
-
--- a left side: what it assigns, and whether it is the whole of it
+-- a left side: the name that it begins with, a parameter of the macro or another one, and whether it is the whole of it
 pub record Side : Type 0 where
-  pub target : Target
+  pub name : Word
   pub whole : Bool
 
--- what must not be one variable: what is assigned one after the other, and what one statement assigns, where one side is the whole
+-- names that must not be one variable: what is assigned one after the other, and what one statement assigns, where one side is the whole
 pub data Pair : Type 0 where
-  in_turn : Target → Target → Pair
+  in_turn : Word → Word → Pair
   at_once : Side → Side → Pair
 
+-- names that are assigned, and pairs of them
 pub record Found : Type 0 where
-  pub targets : List Target
+  pub names : List Word
   pub pairs : List Pair
 
 pub record Summary : Type 0 where
@@ -36,21 +31,16 @@ pub record Summary : Type 0 where
 
 -- ---- each once
 
-abbrev pub same_target : Target → Target → Bool
-same_target (parameter x) (parameter y) = bytes_eq x y
-same_target (variable x) (variable y) = bytes_eq x y
-same_target _ _ = false
-
 abbrev pub same_truth : Bool → Bool → Bool
 same_truth true true = true
 same_truth false false = true
 same_truth _ _ = false
 
 abbrev pub same_side : Side → Side → Bool
-same_side s r = same_target s.target r.target && same_truth s.whole r.whole
+same_side s r = bytes_eq s.name r.name && same_truth s.whole r.whole
 
 abbrev pub same_pair : Pair → Pair → Bool
-same_pair (in_turn a b) (in_turn c d) = same_target a c && same_target b d
+same_pair (in_turn a b) (in_turn c d) = bytes_eq a c && bytes_eq b d
 same_pair (at_once a b) (at_once c d) = same_side a c && same_side b d
 same_pair _ _ = false
 
@@ -60,89 +50,78 @@ union same [] ys = ys
 union same (x ∷ xs) ys = let all = union same xs ys in cond (list_any (same x) all) all (x ∷ all)
 
 abbrev pub none_found : Found
-none_found = record { targets = []; pairs = [] }
+none_found = record { names = []; pairs = [] }
 
 abbrev pub both : Found → Found → Found
-both a b = record { targets = union same_target a.targets b.targets; pairs = union same_pair a.pairs b.pairs }
+both a b = record { names = union bytes_eq a.names b.names; pairs = union same_pair a.pairs b.pairs }
 
 -- ---- statements of a body
 
-abbrev pub target_in : List Name → Word → Target
-target_in ps x = cond (is_among (words ps) x) (parameter x) (variable x)
-
-abbrev pub sides_of : Bool → Option Target → List Side
+abbrev pub sides_of : Bool → Option Word → List Side
 sides_of w None = []
-sides_of w (Some t) = record { target = t; whole = w } ∷ []
+sides_of w (Some x) = record { name = x; whole = w } ∷ []
 
-abbrev pub side_in : List Name → Tree → List Side
-side_in ps l = sides_of (is_whole l) (option_map (target_in ps) (root l))
-
-abbrev pub sides : List Name → Assignments → List Side
-sides ps no_assignments = []
-sides ps (assignment l e ms) = side_in ps l ++ sides ps ms
+abbrev pub sides : Assignments → List Side
+sides no_assignments = []
+sides (assignment l e ms) = sides_of (is_whole l) (root l) ++ sides ms
 
 abbrev pub pairs_of : List Side → List Pair
 pairs_of [] = []
 pairs_of (s ∷ ss) = map (at_once s) ss ++ pairs_of ss
 
 abbrev pub found_at_once : List Side → Found
-found_at_once ss = record { targets = map (λ s. s.target) ss; pairs = pairs_of ss }
+found_at_once ss = record { names = map (λ s. s.name) ss; pairs = pairs_of ss }
 
 -- the argument that stands for a name
 abbrev pub argument : List Name → Trees → Word → Option Tree
 argument ps ts x = arguments ps ts x nowhere
 
--- what a called macro's target is in the calling one; an argument that is no left side is none
-abbrev pub argument_target : List Name → Option Tree → Word → Option Target
-argument_target ps (Some t) x = option_map (target_in ps) (root t)
-argument_target ps None x = Some (variable x)
-
-abbrev pub put_target : List Name → (Word → Option Tree) → Target → Option Target
-put_target ps g (parameter x) = argument_target ps (g x) x
-put_target ps g (variable x) = Some (variable x)
+-- the name with which what stands for x begins; a tree that is no left side has none, and where none stands for it, it is x
+abbrev pub variable_of : Option Tree → Word → Option Word
+variable_of (Some t) x = root t
+variable_of None x = Some x
 
 abbrev pub argument_whole : Option Tree → Bool
 argument_whole (Some t) = is_whole t
 argument_whole None = true
 
-abbrev pub put_whole : (Word → Option Tree) → Target → Bool
-put_whole g (parameter x) = argument_whole (g x)
-put_whole g (variable x) = true
+-- what a name of a macro is where the macro is called, in another one or outside macros
+abbrev pub resolved : (Word → Option Tree) → Word → Option Word
+resolved g x = variable_of (g x) x
 
-abbrev pub targets_of : Option Target → List Target
-targets_of None = []
-targets_of (Some t) = t ∷ []
+abbrev pub resolved_whole : (Word → Option Tree) → Side → Bool
+resolved_whole g s = s.whole && argument_whole (g s.name)
 
-abbrev pub put_side : List Name → (Word → Option Tree) → Side → List Side
-put_side ps g s = sides_of (s.whole && put_whole g s.target) (put_target ps g s.target)
+abbrev pub put_side : (Word → Option Tree) → Side → List Side
+put_side g s = sides_of (resolved_whole g s) (resolved g s.name)
 
-abbrev pub put_pair : List Name → (Word → Option Tree) → Pair → List Pair
-put_pair ps g (in_turn a b) = flat_map (λ c. map (in_turn c) (targets_of (put_target ps g b))) (targets_of (put_target ps g a))
-put_pair ps g (at_once r s) = flat_map (λ c. map (at_once c) (put_side ps g s)) (put_side ps g r)
+abbrev pub put_pair : (Word → Option Tree) → Pair → List Pair
+put_pair g (in_turn a b) = flat_map (λ c. map (in_turn c) (some_word (resolved g b))) (some_word (resolved g a))
+put_pair g (at_once r s) = flat_map (λ c. map (at_once c) (put_side g s)) (put_side g r)
 
-abbrev pub put_found : List Name → (Word → Option Tree) → Found → Found
-put_found ps g f = record { targets = flat_map (λ t. targets_of (put_target ps g t)) f.targets; pairs = flat_map (put_pair ps g) f.pairs }
+abbrev pub put_found : (Word → Option Tree) → Found → Found
+put_found g f = record { names = flat_map (λ x. some_word (resolved g x)) f.names; pairs = flat_map (put_pair g) f.pairs }
 
--- a call in a macro with the parameters ps
-abbrev pub found_in_call : List Name → List Summary → Word → Trees → Found
-found_in_call ps [] m us = none_found
-found_in_call ps (s ∷ older) m us = cond (bytes_eq s.name m) (put_found ps (argument s.params us) s.found) (found_in_call ps older m us)
+-- a call in a macro
+abbrev pub found_in_call : List Summary → Word → Trees → Found
+found_in_call [] m us = none_found
+found_in_call (s ∷ older) m us = cond (bytes_eq s.name m) (put_found (argument s.params us) s.found) (found_in_call older m us)
 
-abbrev pub found_here : List Name → List Summary → Statement → Found
-found_here ps older (assign ms) = found_at_once (sides ps ms)
-found_here ps older (macro m us) = found_in_call ps older m us
-found_here ps older _ = none_found
+abbrev pub found_here : List Summary → Statement → Found
+found_here older (assign ms) = found_at_once (sides ms)
+found_here older (macro m us) = found_in_call older m us
+found_here older _ = none_found
 
 -- ---- paths
 
 -- what some path to a place has assigned since its last label
 abbrev pub Trail : Type 0
-Trail = Option (List Target)
+Trail = Option (List Word)
 
 abbrev pub joined : Trail → Trail → Trail
 joined None q = q
 joined (Some xs) None = Some xs
-joined (Some xs) (Some ys) = Some (union same_target xs ys)
+joined (Some xs) (Some ys) = Some (union bytes_eq xs ys)
 
 abbrev mutual
   pub trail_after_one : (Statement → Found) → Statement → Bool → Trail → Trail
@@ -153,7 +132,7 @@ abbrev mutual
   trail_after_one S (goto n) l p = None
   trail_after_one S (call n ts) l p = None
   trail_after_one S return l p = None
-  trail_after_one S st l p = option_map (λ xs. union same_target (S st).targets xs) p
+  trail_after_one S st l p = option_map (λ xs. union bytes_eq (S st).names xs) p
 
   pub trail_after : (Statement → Found) → Statements → Bool → Trail → Trail
   trail_after S done l p = p
@@ -166,8 +145,8 @@ abbrev mutual
 
 -- at a statement that the path leads to
 abbrev pub found_on : Trail → Found → Found
-found_on None f = record { targets = []; pairs = f.pairs }
-found_on (Some xs) f = record { targets = f.targets; pairs = union same_pair f.pairs (flat_map (λ y. map (λ x. in_turn x y) xs) f.targets) }
+found_on None f = record { names = []; pairs = f.pairs }
+found_on (Some xs) f = record { names = f.names; pairs = union same_pair f.pairs (flat_map (λ y. map (λ x. in_turn x y) xs) f.names) }
 
 abbrev mutual
   pub found_inside : (Statement → Found) → Bool → Trail → Statement → Found
@@ -193,26 +172,14 @@ abbrev pub summaries : List Macro → List Summary
 summaries [] = []
 summaries (d ∷ older) =
     let done = summaries older in
-    record { name = d.name.word; params = d.params; found = found (found_here d.params done) false (Some []) d.body } ∷ done
-
-abbrev pub variable_of : Option Tree → Word → Option Word
-variable_of (Some t) x = root t
-variable_of None x = Some x
-
--- the variable that a target is at a call
-abbrev pub resolved : (Word → Option Tree) → Target → Option Word
-resolved g (parameter x) = variable_of (g x) x
-resolved g (variable x) = Some x
-
-abbrev pub resolved_whole : (Word → Option Tree) → Side → Bool
-resolved_whole g s = s.whole && put_whole g s.target
+    record { name = d.name.word; params = d.params; found = found (found_here done) false (Some []) d.body } ∷ done
 
 abbrev pub is_broken : (Word → Option Tree) → Pair → Bool
 is_broken g (in_turn a b) = same_word (resolved g a) (resolved g b)
-is_broken g (at_once r s) = same_word (resolved g r.target) (resolved g s.target) && (resolved_whole g r || resolved_whole g s)
+is_broken g (at_once r s) = same_word (resolved g r.name) (resolved g s.name) && (resolved_whole g r || resolved_whole g s)
 
 abbrev pub effect_by : (Word → Option Tree) → Found → Effect
-effect_by g f = record { variables = flat_map (λ t. some_word (resolved g t)) f.targets; twice = list_any (is_broken g) f.pairs }
+effect_by g f = record { variables = flat_map (λ x. some_word (resolved g x)) f.names; twice = list_any (is_broken g) f.pairs }
 
 -- what a macro call assigns, by the summaries
 abbrev pub summary_effect : List Summary → Word → Trees → Effect

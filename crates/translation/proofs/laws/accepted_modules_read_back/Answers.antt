@@ -10,7 +10,7 @@ pub returns-clause-few : goal.returns-clause-few
 returns-clause-few c = few_names
 
 pub returns-clause-regions : goal.returns-clause-regions
-returns-clause-regions c = λ b x o a h once size out. written_is_region b o a (text_writable x o a h once size out)
+returns-clause-regions c = λ b x o a h size out. written_is_region b o a (text_writable x o a h size out)
 
 pub returns-clause-files : goal.returns-clause-files
-returns-clause-files c = λ b x w o a h once size fine out. written_file x w o (written_region b o a) (written_is_region b o a (text_writable x o a h once size out)) fine out
+returns-clause-files c = λ b x w o a h size fine out. written_file x w o (written_region b o a) (written_is_region b o a (text_writable x o a h size out)) fine out
