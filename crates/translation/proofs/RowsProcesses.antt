@@ -63,12 +63,18 @@ unfolding digits
 no_process = refl
 
 -- process P \in 1..3
-one_range : sets_of_region (region (many [] (in_set P (over Range (num 1) (num 3)) [] (one_step (codes "A")) ∷ []))) ≡ codes "1..3"
+abbrev ranged : Algorithm
+ranged = many [] (in_set P (over Range (num 1) (num 3)) [] (one_step (codes "A")) ∷ [])
+
+one_range : sets_of_region (region ranged) ≡ codes "1..3"
 unfolding digits
 one_range = refl
 
 -- process P \in {1} \cup {2}: one set
-one_union : sets_of_region (region (many [] (in_set P (over Cup (over Cup (set (num 1 ∷ [])) (set (num 2 ∷ []))) (set [])) [] (one_step (codes "A")) ∷ []))) ≡ codes "({1} \\cup {2}) \\cup {}"
+abbrev united : Algorithm
+united = many [] (in_set P (over Cup (over Cup (set (num 1 ∷ [])) (set (num 2 ∷ []))) (set [])) [] (one_step (codes "A")) ∷ [])
+
+one_union : sets_of_region (region united) ≡ codes "({1} \\cup {2}) \\cup {}"
 unfolding digits
 one_union = refl
 
@@ -144,13 +150,16 @@ unfolding digits
 strong = refl
 
 -- fair process P = 7, A:- skip; B:- skip; all labels are left out
-all_left_out : spec_text (region (many [] (fair Weak (of_one P (num 7) [] (mark (word (codes "A")) marked.LeftOut (and_next skip (mark (word (codes "B")) marked.LeftOut (just skip))))) ∷ []))) ≡ codes "Spec ==\n  /\\ Init\n  /\\ [][Next]_vars\n  /\\ WF_vars((pc[7] \\notin {\"A\", \"B\"}) /\\ P)\n"
+abbrev left_out : Algorithm
+left_out = many [] (fair Weak (of_one P (num 7) [] (mark (word (codes "A")) marked.LeftOut (and_next skip (mark (word (codes "B")) marked.LeftOut (just skip))))) ∷ [])
+
+all_left_out : spec_text (region left_out) ≡ codes "Spec ==\n  /\\ Init\n  /\\ [][Next]_vars\n  /\\ WF_vars((pc[7] \\notin {\"A\", \"B\"}) /\\ P)\n"
 unfolding digits
 all_left_out = refl
 
 -- ---- each of them reads back, wherever it is put
 abbrev worked : List Region
-worked = region nobody ∷ region three ∷ region two_processes ∷ region same_names ∷ region semaphore ∷ region strong_one ∷ []
+worked = region nobody ∷ region ranged ∷ region united ∷ region three ∷ region two_processes ∷ region same_names ∷ region semaphore ∷ region strong_one ∷ region left_out ∷ []
 
 worked_read : EachOf (λ (r : Region). (st : State) → IsReadBack st r) worked
 unfolding digits

@@ -154,14 +154,20 @@ tail_adds =
 abbrev tail_adder : Procedure
 tail_adder = record { name = word (codes "Add"); params = zero_of (codes "n") ∷ []; variables = []; body = tail_adds }
 
-call_with_return : around sequences (with_main (zero_of (codes "r") ∷ []) (tail_adder ∷ []) (alone (labelled (codes "A") (just (calls (num 2)))))) ≡ codes "P ==\n  /\\ (pc = \"P\")\n  /\\ r' = (r + n)\n  /\\ IF n > 0\n     THEN\n       /\\ stack' = (<<[procedure |-> \"Add\", pc |-> Head(stack).pc, n |-> Head(stack).n]>> \\o Tail(stack))\n       /\\ n' = (n - 1)\n       /\\ pc' = \"P\"\n     ELSE\n       /\\ pc' = Head(stack).pc\n       /\\ n' = Head(stack).n\n       /\\ stack' = Tail(stack)\nAdd ==\n  \\/ P\nA ==\n  /\\ (pc = \"A\")\n  /\\ stack' = (<<[procedure |-> \"Add\", pc |-> \"Done\", n |-> n]>> \\o stack)\n  /\\ n' = 2\n  /\\ pc' = \"P\"\n  /\\ UNCHANGED <<r>>\n"
+abbrev tail_calls : Algorithm
+tail_calls = with_main (zero_of (codes "r") ∷ []) (tail_adder ∷ []) (alone (labelled (codes "A") (just (calls (num 2)))))
+
+call_with_return : around sequences tail_calls ≡ codes "P ==\n  /\\ (pc = \"P\")\n  /\\ r' = (r + n)\n  /\\ IF n > 0\n     THEN\n       /\\ stack' = (<<[procedure |-> \"Add\", pc |-> Head(stack).pc, n |-> Head(stack).n]>> \\o Tail(stack))\n       /\\ n' = (n - 1)\n       /\\ pc' = \"P\"\n     ELSE\n       /\\ pc' = Head(stack).pc\n       /\\ n' = Head(stack).n\n       /\\ stack' = Tail(stack)\nAdd ==\n  \\/ P\nA ==\n  /\\ (pc = \"A\")\n  /\\ stack' = (<<[procedure |-> \"Add\", pc |-> \"Done\", n |-> n]>> \\o stack)\n  /\\ n' = 2\n  /\\ pc' = \"P\"\n  /\\ UNCHANGED <<r>>\n"
 unfolding digits
 call_with_return = refl
 
 abbrev idle : Procedure
 idle = record { name = word (codes "Z"); params = []; variables = []; body = labelled (codes "B") (just return) }
 
-call_with_goto : around sequences (with_main [] (idle ∷ []) (alone (labelled (codes "A") (and_next (call (word (codes "Z")) no_trees) (just (goto (codes "A"))))))) ≡ codes "B ==\n  /\\ (pc = \"B\")\n  /\\ pc' = Head(stack).pc\n  /\\ stack' = Tail(stack)\nZ ==\n  \\/ B\nA ==\n  /\\ (pc = \"A\")\n  /\\ stack' = (<<[procedure |-> \"Z\", pc |-> \"A\"]>> \\o stack)\n  /\\ pc' = \"B\"\n"
+abbrev call_and_jump : Algorithm
+call_and_jump = with_main [] (idle ∷ []) (alone (labelled (codes "A") (and_next (call (word (codes "Z")) no_trees) (just (goto (codes "A"))))))
+
+call_with_goto : around sequences call_and_jump ≡ codes "B ==\n  /\\ (pc = \"B\")\n  /\\ pc' = Head(stack).pc\n  /\\ stack' = Tail(stack)\nZ ==\n  \\/ B\nA ==\n  /\\ (pc = \"A\")\n  /\\ stack' = (<<[procedure |-> \"Z\", pc |-> \"A\"]>> \\o stack)\n  /\\ pc' = \"B\"\n"
 unfolding digits
 call_with_goto = refl
 
@@ -204,7 +210,10 @@ with_constant = record {
   opaque = record { keyword = codes "ASSUME"; names = []; place = nowhere } ∷ record { keyword = codes "THEOREM"; names = []; place = nowhere } ∷ [];
 }
 
-constants : around with_constant (one_body (zero_of x ∷ []) (labelled (codes "A") (just (sets x (over Plus (named x) (named (codes "K"))))))) ≡ codes "A ==\n  /\\ (pc = \"A\")\n  /\\ x' = (x + K)\n  /\\ pc' = \"Done\"\n"
+abbrev by_constant : Algorithm
+by_constant = one_body (zero_of x ∷ []) (labelled (codes "A") (just (sets x (over Plus (named x) (named (codes "K"))))))
+
+constants : around with_constant by_constant ≡ codes "A ==\n  /\\ (pc = \"A\")\n  /\\ x' = (x + K)\n  /\\ pc' = \"Done\"\n"
 unfolding digits
 constants = refl
 
@@ -213,7 +222,9 @@ abbrev region : Algorithm → Region
 region g = written_region false integers g
 
 abbrev worked : List Region
-worked = region ordered ∷ region swapped ∷ region branched ∷ region awaited ∷ region slots ∷ region twice ∷ region looping ∷ region chosen ∷ region telling ∷ region forked ∷ written_region false sequences add_one ∷ []
+worked =
+    region ordered ∷ region swapped ∷ region branched ∷ region awaited ∷ region slots ∷ region twice ∷ region looping ∷ region chosen ∷ region telling ∷ region forked ∷
+    written_region false sequences add_one ∷ written_region false sequences tail_calls ∷ written_region false sequences call_and_jump ∷ written_region false with_constant by_constant ∷ []
 
 worked_read : EachOf (λ (r : Region). (st : State) → IsReadBack st r) worked
 unfolding digits
