@@ -2,6 +2,7 @@ pub mod Trees
 pub mod WorkedRegions
 mod RowsWhole
 mod RowsSteps
+mod RowsProcedures
 mod RowsProcesses
 mod RowsAll
 pub mod NoPlaces

@@ -20,7 +20,7 @@ use Rattle.pcal_tree.specs.declared.mark.Fairness.TheVariants.{Unfair, Weak, Str
 use Rattle.pcal_tree.specs.Algorithm.{no_binds, one_of, await, skip, with, Statements, mark, Declaration, Process, Algorithm}
 use Rattle.translation.specs.Region.{written_region}
 use Rattle.translation.proofs.WorkedRegions.{region_tells, all_read}
-use Rattle.translation.proofs.Trees.{word, x, num, over, and_next, just, sets, labelled, variable, zero_of, many, integers, texts}
+use Rattle.translation.proofs.Trees.{word, x, num, over, and_next, just, sets, labelled, variable, zero_of, many, integers}
 
 abbrev region : Algorithm → Region
 region g = written_region false integers g
@@ -58,7 +58,7 @@ Q = codes "Q"
 abbrev nobody : Algorithm
 nobody = many (zero_of x ∷ []) (in_set P (set []) [] (labelled (codes "A") (just (sets x (over Plus (named x) (num 1))))) ∷ [])
 
-no_process : sets_of_region (region nobody) ≡ codes "{}"
+no_process : layout (region nobody) ≡ codes "VARIABLES x, pc\n\nvars == <<x, pc>>\n\nProcSet == {}\n\nInit ==\n  /\\ x = 0\n  /\\ pc = [self \\in ProcSet |-> \"A\"]\n\nA(self) ==\n  /\\ (pc[self] = \"A\")\n  /\\ x' = (x + 1)\n  /\\ pc' = [pc EXCEPT ![self] = \"Done\"]\n\nP(self) ==\n  \\/ A(self)\n\nTerminating ==\n  /\\ (\\A self \\in ProcSet : pc[self] = \"Done\")\n  /\\ UNCHANGED vars\n\nNext ==\n  \\/ \\E self \\in {} : P(self)\n  \\/ Terminating\n\nSpec ==\n  /\\ Init\n  /\\ [][Next]_vars\n\nTermination == <>(\\A self \\in ProcSet : pc[self] = \"Done\")\n"
 unfolding digits
 no_process = refl
 
@@ -124,7 +124,7 @@ same_names =
     ∷ of_one (codes "q") (num 2) (zero_of (codes "i") ∷ []) (labelled (codes "start") (just (sets (codes "i") (num 1))))
     ∷ of_one (codes "r") (num 3) [] (labelled (codes "go") (just (with (one_of (word (codes "i")) (set (num 1 ∷ [])) no_binds) (just skip)))) ∷ [])
 
-other_names : texts (region same_names).actions ≡ codes "start ==\n  /\\ (pc[1] = \"start\")\n  /\\ i_1' = 1\n  /\\ pc' = [pc EXCEPT ![1] = \"Done\"]\n  /\\ UNCHANGED <<i_2>>\np ==\n  \\/ start\nstart_1 ==\n  /\\ (pc[2] = \"start_1\")\n  /\\ i_2' = 1\n  /\\ pc' = [pc EXCEPT ![2] = \"Done\"]\n  /\\ UNCHANGED <<i_1>>\nq ==\n  \\/ start_1\ngo ==\n  /\\ (pc[3] = \"go\")\n  /\\ \\E i \\in {1} :\n       /\\ (TRUE)\n  /\\ pc' = [pc EXCEPT ![3] = \"Done\"]\n  /\\ UNCHANGED <<i_1, i_2>>\nr ==\n  \\/ go\n"
+other_names : layout (region same_names) ≡ codes "VARIABLES pc, i_1, i_2\n\nvars == <<pc, i_1, i_2>>\n\nProcSet == {1} \\cup {2} \\cup {3}\n\nInit ==\n  /\\ i_1 = 0\n  /\\ i_2 = 0\n  /\\ pc = [self \\in ProcSet |-> CASE (self = 1) -> \"start\" [] (self = 2) -> \"start_1\" [] (self = 3) -> \"go\"]\n\nstart ==\n  /\\ (pc[1] = \"start\")\n  /\\ i_1' = 1\n  /\\ pc' = [pc EXCEPT ![1] = \"Done\"]\n  /\\ UNCHANGED <<i_2>>\n\np ==\n  \\/ start\n\nstart_1 ==\n  /\\ (pc[2] = \"start_1\")\n  /\\ i_2' = 1\n  /\\ pc' = [pc EXCEPT ![2] = \"Done\"]\n  /\\ UNCHANGED <<i_1>>\n\nq ==\n  \\/ start_1\n\ngo ==\n  /\\ (pc[3] = \"go\")\n  /\\ \\E i \\in {1} :\n       /\\ (TRUE)\n  /\\ pc' = [pc EXCEPT ![3] = \"Done\"]\n  /\\ UNCHANGED <<i_1, i_2>>\n\nr ==\n  \\/ go\n\nTerminating ==\n  /\\ (\\A self \\in ProcSet : pc[self] = \"Done\")\n  /\\ UNCHANGED vars\n\nNext ==\n  \\/ p\n  \\/ q\n  \\/ r\n  \\/ Terminating\n\nSpec ==\n  /\\ Init\n  /\\ [][Next]_vars\n\nTermination == <>(\\A self \\in ProcSet : pc[self] = \"Done\")\n"
 unfolding digits
 other_names = refl
 
@@ -137,7 +137,7 @@ semaphore =
     (fair Weak (in_set P one_two [] (mark (word (codes "N")) marked.LeftOut (and_next skip
     (mark (word (codes "E")) marked.Strong (and_next (await (over Greater (named (codes "s")) (num 0))) (just (sets (codes "s") (over Minus (named (codes "s")) (num 1))))))))) ∷ [])
 
-weak : spec_text (region semaphore) ≡ codes "Spec ==\n  /\\ Init\n  /\\ [][Next]_vars\n  /\\ \\A self \\in {1, 2} : WF_vars((pc[self] \\notin {\"N\"}) /\\ P(self))\n  /\\ \\A self \\in {1, 2} : SF_vars(E(self))\n"
+weak : layout (region semaphore) ≡ codes "VARIABLES s, pc\n\nvars == <<s, pc>>\n\nProcSet == {1, 2}\n\nInit ==\n  /\\ s = 1\n  /\\ pc = [self \\in ProcSet |-> \"N\"]\n\nN(self) ==\n  /\\ (pc[self] = \"N\")\n  /\\ (TRUE)\n  /\\ pc' = [pc EXCEPT ![self] = \"E\"]\n  /\\ UNCHANGED <<s>>\n\nE(self) ==\n  /\\ (pc[self] = \"E\")\n  /\\ (s > 0)\n  /\\ s' = (s - 1)\n  /\\ pc' = [pc EXCEPT ![self] = \"Done\"]\n\nP(self) ==\n  \\/ N(self)\n  \\/ E(self)\n\nTerminating ==\n  /\\ (\\A self \\in ProcSet : pc[self] = \"Done\")\n  /\\ UNCHANGED vars\n\nNext ==\n  \\/ \\E self \\in {1, 2} : P(self)\n  \\/ Terminating\n\nSpec ==\n  /\\ Init\n  /\\ [][Next]_vars\n  /\\ \\A self \\in {1, 2} : WF_vars((pc[self] \\notin {\"N\"}) /\\ P(self))\n  /\\ \\A self \\in {1, 2} : SF_vars(E(self))\n\nTermination == <>(\\A self \\in ProcSet : pc[self] = \"Done\")\n"
 unfolding digits
 weak = refl
 
