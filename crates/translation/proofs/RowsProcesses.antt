@@ -22,7 +22,7 @@ use Rattle.translation.specs.Region.{written_region}
 use Rattle.translation.proofs.WorkedRegions.{region_tells, all_read}
 use Rattle.translation.proofs.Trees.{word, x, num, over, and_next, just, sets, labelled, variable, zero_of, many, integers}
 
-abbrev region : Algorithm → Region
+abbrev pub region : Algorithm → Region
 region g = written_region false integers g
 
 abbrev sets_of_region : Region → List ℕ
@@ -90,7 +90,7 @@ three_sets = refl
 
 -- process P = 7 variable n = 1; begin A: n := n + 1; end process
 -- process Q \in {1, 2} variable m = self; begin B: m := 0; end process
-abbrev two_processes : Algorithm
+abbrev pub two_processes : Algorithm
 two_processes =
     many []
     (of_one P (num 7) (variable (codes "n") (num 1) ∷ []) (labelled (codes "A") (just (sets (codes "n") (over Plus (named (codes "n")) (num 1)))))
@@ -101,17 +101,17 @@ unfolding digits
 both_kinds = refl
 
 -- the file with these processes, and the file with their translation, which is one module
-abbrev file : Text
+abbrev pub file : Text
 file = codes "---- MODULE M ----\nEXTENDS Integers\n(*\n--algorithm R\nprocess P = 7\nvariable n = 1;\nbegin\n  A: n := n + 1;\nend process\nprocess Q \\in {1, 2}\nvariable m = self;\nbegin\n  B: m := 0;\nend process\nend algorithm\n*)\n====\n"
 
-abbrev translated : Text
+abbrev pub translated : Text
 translated = codes "---- MODULE M ----\nEXTENDS Integers\n(*\n--algorithm R\nprocess P = 7\nvariable n = 1;\nbegin\n  A: n := n + 1;\nend process\nprocess Q \\in {1, 2}\nvariable m = self;\nbegin\n  B: m := 0;\nend process\nend algorithm\n*)\n\\* BEGIN TRANSLATION\nVARIABLES pc, n, m\n\nvars == <<pc, n, m>>\n\nProcSet == {7} \\cup {1, 2}\n\nInit ==\n  /\\ n = 1\n  /\\ m = [self \\in {1, 2} |-> self]\n  /\\ pc = [self \\in ProcSet |-> CASE (self = 7) -> \"A\" [] (self \\in {1, 2}) -> \"B\"]\n\nA ==\n  /\\ (pc[7] = \"A\")\n  /\\ n' = (n + 1)\n  /\\ pc' = [pc EXCEPT ![7] = \"Done\"]\n  /\\ UNCHANGED <<m>>\n\nP ==\n  \\/ A\n\nB(self) ==\n  /\\ (pc[self] = \"B\")\n  /\\ m' = [m EXCEPT ![self] = 0]\n  /\\ pc' = [pc EXCEPT ![self] = \"Done\"]\n  /\\ UNCHANGED <<n>>\n\nQ(self) ==\n  \\/ B(self)\n\nTerminating ==\n  /\\ (\\A self \\in ProcSet : pc[self] = \"Done\")\n  /\\ UNCHANGED vars\n\nNext ==\n  \\/ P\n  \\/ \\E self \\in {1, 2} : Q(self)\n  \\/ Terminating\n\nSpec ==\n  /\\ Init\n  /\\ [][Next]_vars\n\nTermination == <>(\\A self \\in ProcSet : pc[self] = \"Done\")\n\\* END TRANSLATION\n====\n"
 
 put : WithTranslation file (layout (region two_processes)) translated
 unfolding digits
 put = record { at = record { from = 206; to = 206 }; is_spot = refl; is = refl }
 
-file_reads : (o : Outside) → HasOutside (walk file) o → IsWritten file translated o (region two_processes)
+pub file_reads : (o : Outside) → HasOutside (walk file) o → IsWritten file translated o (region two_processes)
 file_reads o h = written_file file translated o (region two_processes) (region_tells (region two_processes) refl) refl h put
 
 -- ---- written names
