@@ -1,5 +1,5 @@
 -- The algorithm whose worked translation is put into a file is the one that stands in the file: by computation.
-use Rattle.std.proofs.Common.{◌≡◌, ℕ, ◌+◌, [], ◌∷◌, true, false, Option, Some, None, inl, codes, refl}
+use Rattle.std.proofs.Common.{◌≡◌, ℕ, ◌+◌, [], ◌∷◌, true, false, Option, Some, None, inl, codes, refl, sym, subst}
 use Rattle.std.proofs.lemmas.Option.{same_Some}
 use Rattle.tla_token.specs.declared.place.Place.{Place}
 use Rattle.tla_tree.specs.declared.op.Op.TheVariants.{Plus, Minus, Greater}
@@ -18,6 +18,17 @@ use Rattle.module_tree.specs.FileOffences.{offences_of, algorithm_offences}
 use Rattle.module_tree.specs.laws.Kept.{only_large}
 use Rattle.module_tree.proofs.AlgorithmIsCut.{algorithm_is_cut}
 use Rattle.promise.specs.Headline.{Stands}
+use Rattle.std.specs.Fmt.{digits}
+use Rattle.tla_tree.specs.Reader.{readers}
+use Rattle.tla_value.specs.Outside.{Outside}
+use Rattle.pcal_tree.specs.Algorithm.{Algorithm}
+use Rattle.module_tree.specs.Module.{Region}
+use Rattle.module_tree.specs.laws.Outsides.{HasOutside}
+use Rattle.module_tree.specs.laws.WritableRegion.{IsWritten}
+use Rattle.module_tree.proofs.SomeOutside.{outside_read, has_outside}
+use Rattle.action_builder.specs.WrittenNames.{with_names}
+use Rattle.translation.specs.Region.{region_of, written_region}
+use Rattle.translation.proofs.Trees.{integers}
 use Rattle.translation.proofs.RowsWhole as whole
 use Rattle.translation.proofs.RowsProcedures as procedures
 use Rattle.translation.proofs.RowsProcesses as kinds
@@ -152,3 +163,61 @@ both_stand = stands_by kinds.file both_text (algorithm_in kinds.file) refl both_
 
 both_same : placeless (algorithm_of both_text) ≡ placeless kinds.two_processes
 both_same = refl
+
+-- ---- what the files have outside; and so each is translated, with the names that are free there
+
+-- places don't matter to what is put into a file
+translated_by : (x w : front.Text) (o : Outside) (a g : Algorithm) → placeless a ≡ placeless g → IsWritten x w o (written_region false o g) → IsWritten x w o (written_region false o a)
+translated_by x w o a g same is = subst (λ (b : Algorithm). IsWritten x w o (region_of false (with_names o b))) (sym same) is
+
+add_outside : outside_read (walk procedures.file) ≡ procedures.sequences
+unfolding readers
+add_outside = refl
+
+add_has : HasOutside (walk procedures.file) procedures.sequences
+add_has = subst (λ (o : Outside). HasOutside (walk procedures.file) o) add_outside (has_outside (walk procedures.file))
+
+add_translated : IsWritten procedures.file procedures.translated procedures.sequences (written_region false procedures.sequences (algorithm_of add_text))
+add_translated =
+    translated_by procedures.file procedures.translated procedures.sequences (algorithm_of add_text) procedures.add_one add_same
+    (procedures.file_reads procedures.sequences add_has)
+
+inc_outside : outside_read (walk whole.file) ≡ integers
+unfolding readers
+inc_outside = refl
+
+inc_has : HasOutside (walk whole.file) integers
+inc_has = subst (λ (o : Outside). HasOutside (walk whole.file) o) inc_outside (has_outside (walk whole.file))
+
+inc_translated : IsWritten whole.file whole.translated integers (written_region false integers (algorithm_of inc_text))
+inc_translated = translated_by whole.file whole.translated integers (algorithm_of inc_text) whole.inc inc_same (whole.file_reads integers inc_has)
+
+both_outside : outside_read (walk kinds.file) ≡ integers
+unfolding readers
+both_outside = refl
+
+both_have : HasOutside (walk kinds.file) integers
+both_have = subst (λ (o : Outside). HasOutside (walk kinds.file) o) both_outside (has_outside (walk kinds.file))
+
+both_translated : IsWritten kinds.file kinds.translated integers (written_region false integers (algorithm_of both_text))
+both_translated = translated_by kinds.file kinds.translated integers (algorithm_of both_text) kinds.two_processes both_same (kinds.file_reads integers both_have)
+
+-- with a unit behind the old translation, whose name is none that the algorithm wants
+abbrev with_unit : Outside
+with_unit = record integers { opaque = record { keyword = []; names = codes "Inv" ∷ []; place = at 13 1 } ∷ [] }
+
+old_outside : outside_read (walk whole.outdated) ≡ with_unit
+unfolding readers
+old_outside = refl
+
+old_has : HasOutside (walk whole.outdated) with_unit
+old_has = subst (λ (o : Outside). HasOutside (walk whole.outdated) o) old_outside (has_outside (walk whole.outdated))
+
+same_beside : written_region false integers whole.inc ≡ written_region false with_unit whole.inc
+unfolding digits
+same_beside = refl
+
+old_translated : IsWritten whole.outdated whole.renewed with_unit (written_region false with_unit (algorithm_of inc_text))
+old_translated =
+    translated_by whole.outdated whole.renewed with_unit (algorithm_of inc_text) whole.inc inc_same
+    (subst (λ (r : Region). IsWritten whole.outdated whole.renewed with_unit r) same_beside (whole.renewed_reads with_unit old_has))
