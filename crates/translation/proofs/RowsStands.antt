@@ -1,39 +1,39 @@
 -- The algorithm whose worked translation is put into a file is the one that stands in the file: by computation.
 use Rattle.std.proofs.Common.{◌≡◌, ℕ, ◌+◌, [], ◌∷◌, true, false, Option, Some, None, inl, codes, refl, sym, subst}
 use Rattle.std.proofs.lemmas.Option.{same_Some}
+use Rattle.std.specs.Fmt.{digits}
 use Rattle.tla_token.specs.declared.place.Place.{Place}
 use Rattle.tla_tree.specs.declared.op.Op.TheVariants.{Plus, Minus, Greater}
 use Rattle.tla_tree.specs.Tree.{Word, Name}
 use Rattle.tla_tree.specs.Spelling.{Phrase, last, more, set_of, infix_of}
 use Rattle.tla_tree.specs.Spelling as spelled
+use Rattle.tla_tree.specs.Reader.{readers}
+use Rattle.tla_value.specs.Outside.{Outside}
 use Rattle.pcal_tree.specs.Placeless.{placeless}
 use Rattle.pcal_tree.specs.AlgorithmTokens.{views}
 use Rattle.pcal_tree.specs.GrammarParts.{Labels, Initial, by_semicolon, equals, no_section, section, last_variable, last_parameter, some_parameters, some_arguments, colon, label, no_labels, assign, last_assignment, call, return}
 use Rattle.pcal_tree.specs.GrammarP.{Sequence, simple, branch, no_else, last_statement, more_statements}
 use Rattle.pcal_tree.specs.Grammar.{Text, algorithm, to_end, no_define, begin_end, begin, processes, unfair, bare, spell, algorithm_of, Good, p_syntax}
+use Rattle.pcal_tree.specs.Algorithm.{Algorithm}
 use Rattle.module_tree.specs.TextFront as front
 use Rattle.module_tree.specs.Walk.{walk}
 use Rattle.module_tree.specs.AlgorithmText.{AlgorithmText, algorithm_in, algorithm_tokens}
 use Rattle.module_tree.specs.FileOffences.{offences_of, algorithm_offences}
 use Rattle.module_tree.specs.laws.Kept.{only_large}
 use Rattle.module_tree.proofs.AlgorithmIsCut.{algorithm_is_cut}
-use Rattle.promise.specs.Headline.{Stands}
-use Rattle.std.specs.Fmt.{digits}
-use Rattle.tla_tree.specs.Reader.{readers}
-use Rattle.tla_value.specs.Outside.{Outside}
-use Rattle.pcal_tree.specs.Algorithm.{Algorithm}
 use Rattle.module_tree.specs.Module.{Region}
 use Rattle.module_tree.specs.laws.Outsides.{HasOutside}
 use Rattle.module_tree.specs.laws.WritableRegion.{IsWritten}
 use Rattle.module_tree.proofs.SomeOutside.{outside_read, has_outside}
 use Rattle.action_builder.specs.WrittenNames.{with_names}
+use Rattle.promise.specs.Headline.{Stands}
 use Rattle.translation.specs.Region.{region_of, written_region}
 use Rattle.translation.proofs.Trees.{integers}
 use Rattle.translation.proofs.RowsWhole as whole
 use Rattle.translation.proofs.RowsProcedures as procedures
 use Rattle.translation.proofs.RowsProcesses as kinds
 
--- the algorithm that the tokens of a file spell, so, stands in it
+-- an algorithm that the tokens of a file spell stands in it
 stands_by : (x : front.Text) (t : Text) (o : Option AlgorithmText) → algorithm_in x ≡ o → Good p_syntax t → offences_of (walk x) ≡ [] → only_large (algorithm_offences o) ≡ true
     → front.on_some o (λ a. Some (views (algorithm_tokens x a))) ≡ Some (spell t []) → Stands x (algorithm_of t)
 stands_by x t (Some a) is good fine large told = record {
