@@ -1,9 +1,11 @@
 pub mod Trees
 pub mod WorkedRegions
-mod RowsWhole
+pub mod RowsWhole
 mod RowsSteps
-mod RowsProcesses
+pub mod RowsProcedures
+pub mod RowsProcesses
 mod RowsAll
+mod RowsStands
 pub mod NoPlaces
 pub mod OfForm
 pub mod ActionTitles

@@ -4,16 +4,15 @@ use Rattle.std.specs.Fmt.{digits}
 use Rattle.tla_tree.specs.declared.op.Op.TheVariants.{Plus, Minus, Greater, Less, Equal}
 use Rattle.tla_tree.specs.Tree.{Word, conjunction, disjunction, Tree, node, no_trees, tree}
 use Rattle.tla_value.specs.Outside.{Outside}
-use Rattle.module_tree.specs.Module.{Region, init_unit, next_unit}
+use Rattle.module_tree.specs.Module.{Region}
 use Rattle.module_tree.specs.Walk.{State}
 use Rattle.module_tree.specs.laws.WritableRegion.{EachOf, IsReadBack}
-use Rattle.module_tree.specs.Layout.{unit_text}
 use Rattle.module_tree.specs.Formulas.{named, at, set}
-use Rattle.pcal_tree.specs.Algorithm.{nowhere, no_binds, one_of, is, await, print, assert, skip, branch, either, with, while, goto, macro, call, return, Statement, Statements, done, no_branches, or, Macro, Procedure, alone, Algorithm}
+use Rattle.pcal_tree.specs.Algorithm.{nowhere, no_binds, one_of, is, await, print, assert, skip, branch, either, with, while, macro, Statements, done, no_branches, or, Macro, alone, Algorithm}
 use Rattle.pcal_tree.specs.Labelled as labels
 use Rattle.translation.specs.Region.{written_region}
 use Rattle.translation.proofs.WorkedRegions.{all_read}
-use Rattle.translation.proofs.Trees.{word, x, y, z, num, over, pair, and_next, just, sets, both, labelled, variable, zero_of, with_main, one_body, integers, texts}
+use Rattle.translation.proofs.Trees.{word, x, y, z, num, over, pair, and_next, just, sets, both, labelled, variable, zero_of, one_body, integers, texts}
 
 -- of all labels, with this outside
 abbrev around : Outside → Algorithm → List ℕ
@@ -111,60 +110,6 @@ loop_labels : actions_of looping ≡ codes "Lbl_1 ==\n  /\\ (pc = \"Lbl_1\")\n  
 unfolding digits
 loop_labels = refl
 
--- r = 0;  procedure Add(n = 0) variable k = n + 1; begin P: r := r + k; if n > 0 then call Add(n - 1); end if; Q: return; end procedure;
--- A: call Add(1);
-abbrev n : Tree
-n = named (codes "n")
-
-abbrev calls : Tree → Statement
-calls e = call (word (codes "Add")) (tree e no_trees)
-
-abbrev adds : Statements
-adds =
-    labelled (codes "P") (and_next (sets (codes "r") (over Plus (named (codes "r")) (named (codes "k"))))
-    (and_next (branch (over Greater n (num 0)) (just (calls (over Minus n (num 1)))) done) (labelled (codes "Q") (just return))))
-
-abbrev adder : Procedure
-adder = record { name = word (codes "Add"); params = zero_of (codes "n") ∷ []; variables = variable (codes "k") (over Plus n (num 1)) ∷ []; body = adds }
-
-abbrev sequences : Outside
-sequences = record { extended = codes "Integers" ∷ codes "Sequences" ∷ []; constants = []; definitions = []; opaque = [] }
-
-abbrev add_one : Algorithm
-add_one = with_main (zero_of (codes "r") ∷ []) (adder ∷ []) (alone (labelled (codes "A") (just (calls (num 1)))))
-
-calls_and_returns : around sequences add_one ≡ codes "P ==\n  /\\ (pc = \"P\")\n  /\\ r' = (r + k)\n  /\\ IF n > 0\n     THEN\n       /\\ stack' = (<<[procedure |-> \"Add\", pc |-> \"Q\", n |-> n, k |-> k]>> \\o stack)\n       /\\ n' = (n - 1)\n       /\\ k' = (n' + 1)\n       /\\ pc' = \"P\"\n     ELSE\n       /\\ pc' = \"Q\"\n       /\\ UNCHANGED <<stack, n, k>>\nQ ==\n  /\\ (pc = \"Q\")\n  /\\ pc' = Head(stack).pc\n  /\\ n' = Head(stack).n\n  /\\ k' = Head(stack).k\n  /\\ stack' = Tail(stack)\n  /\\ UNCHANGED <<r>>\nAdd ==\n  \\/ P\n  \\/ Q\nA ==\n  /\\ (pc = \"A\")\n  /\\ stack' = (<<[procedure |-> \"Add\", pc |-> \"Done\", n |-> n, k |-> k]>> \\o stack)\n  /\\ n' = 1\n  /\\ k' = (n' + 1)\n  /\\ pc' = \"P\"\n  /\\ UNCHANGED <<r>>\n"
-unfolding digits
-calls_and_returns = refl
-
-plain_init : unit_text 1 (init_unit (written_region false sequences add_one).init) ≡ codes "Init ==\n  /\\ r = 0\n  /\\ n = 0\n  /\\ k = (n + 1)\n  /\\ stack = <<>>\n  /\\ pc = \"A\"\n"
-unfolding digits
-plain_init = refl
-
-plain_next : unit_text 1 (next_unit (written_region false sequences add_one).next) ≡ codes "Next ==\n  \\/ Add\n  \\/ A\n  \\/ Terminating\n"
-unfolding digits
-plain_next = refl
-
--- a call directly followed by a return is one statement with it, and so is one followed by a jump
-abbrev tail_adds : Statements
-tail_adds =
-    labelled (codes "P") (and_next (sets (codes "r") (over Plus (named (codes "r")) n))
-    (just (branch (over Greater n (num 0)) (and_next (calls (over Minus n (num 1))) (just return)) (just return))))
-
-abbrev tail_adder : Procedure
-tail_adder = record { name = word (codes "Add"); params = zero_of (codes "n") ∷ []; variables = []; body = tail_adds }
-
-call_with_return : around sequences (with_main (zero_of (codes "r") ∷ []) (tail_adder ∷ []) (alone (labelled (codes "A") (just (calls (num 2)))))) ≡ codes "P ==\n  /\\ (pc = \"P\")\n  /\\ r' = (r + n)\n  /\\ IF n > 0\n     THEN\n       /\\ stack' = (<<[procedure |-> \"Add\", pc |-> Head(stack).pc, n |-> Head(stack).n]>> \\o Tail(stack))\n       /\\ n' = (n - 1)\n       /\\ pc' = \"P\"\n     ELSE\n       /\\ pc' = Head(stack).pc\n       /\\ n' = Head(stack).n\n       /\\ stack' = Tail(stack)\nAdd ==\n  \\/ P\nA ==\n  /\\ (pc = \"A\")\n  /\\ stack' = (<<[procedure |-> \"Add\", pc |-> \"Done\", n |-> n]>> \\o stack)\n  /\\ n' = 2\n  /\\ pc' = \"P\"\n  /\\ UNCHANGED <<r>>\n"
-unfolding digits
-call_with_return = refl
-
-abbrev idle : Procedure
-idle = record { name = word (codes "Z"); params = []; variables = []; body = labelled (codes "B") (just return) }
-
-call_with_goto : around sequences (with_main [] (idle ∷ []) (alone (labelled (codes "A") (and_next (call (word (codes "Z")) no_trees) (just (goto (codes "A"))))))) ≡ codes "B ==\n  /\\ (pc = \"B\")\n  /\\ pc' = Head(stack).pc\n  /\\ stack' = Tail(stack)\nZ ==\n  \\/ B\nA ==\n  /\\ (pc = \"A\")\n  /\\ stack' = (<<[procedure |-> \"Z\", pc |-> \"A\"]>> \\o stack)\n  /\\ pc' = \"B\"\n"
-unfolding digits
-call_with_goto = refl
-
 -- x = 0;  A: with v \in {} do x := v; end with;
 abbrev chosen : Algorithm
 chosen = one_body (zero_of x ∷ []) (labelled (codes "A") (just (with (one_of (word (codes "v")) (set []) no_binds) (just (sets x (named (codes "v")))))))
@@ -172,6 +117,14 @@ chosen = one_body (zero_of x ∷ []) (labelled (codes "A") (just (with (one_of (
 some_member : actions_of chosen ≡ codes "A ==\n  /\\ (pc = \"A\")\n  /\\ \\E v \\in {} :\n       /\\ x' = v\n  /\\ pc' = \"Done\"\n"
 unfolding digits
 some_member = refl
+
+-- and of two numbers
+abbrev chosen_of_two : Algorithm
+chosen_of_two = one_body (zero_of x ∷ []) (labelled (codes "A") (just (with (one_of (word (codes "v")) (set (num 3 ∷ num 5 ∷ [])) no_binds) (just (sets x (named (codes "v")))))))
+
+some_of_two : actions_of chosen_of_two ≡ codes "A ==\n  /\\ (pc = \"A\")\n  /\\ \\E v \\in {3, 5} :\n       /\\ x' = v\n  /\\ pc' = \"Done\"\n"
+unfolding digits
+some_of_two = refl
 
 -- x, y = 0;  A: print x; assert x = 0; with v \in {1}, w = v + x do x := w; y := v; end with;
 abbrev told : Statements
@@ -204,7 +157,10 @@ with_constant = record {
   opaque = record { keyword = codes "ASSUME"; names = []; place = nowhere } ∷ record { keyword = codes "THEOREM"; names = []; place = nowhere } ∷ [];
 }
 
-constants : around with_constant (one_body (zero_of x ∷ []) (labelled (codes "A") (just (sets x (over Plus (named x) (named (codes "K"))))))) ≡ codes "A ==\n  /\\ (pc = \"A\")\n  /\\ x' = (x + K)\n  /\\ pc' = \"Done\"\n"
+abbrev by_constant : Algorithm
+by_constant = one_body (zero_of x ∷ []) (labelled (codes "A") (just (sets x (over Plus (named x) (named (codes "K"))))))
+
+constants : around with_constant by_constant ≡ codes "A ==\n  /\\ (pc = \"A\")\n  /\\ x' = (x + K)\n  /\\ pc' = \"Done\"\n"
 unfolding digits
 constants = refl
 
@@ -213,7 +169,8 @@ abbrev region : Algorithm → Region
 region g = written_region false integers g
 
 abbrev worked : List Region
-worked = region ordered ∷ region swapped ∷ region branched ∷ region awaited ∷ region slots ∷ region twice ∷ region looping ∷ region chosen ∷ region telling ∷ region forked ∷ written_region false sequences add_one ∷ []
+worked =
+    region ordered ∷ region swapped ∷ region branched ∷ region awaited ∷ region slots ∷ region twice ∷ region looping ∷ region chosen ∷ region chosen_of_two ∷ region telling ∷ region forked ∷ written_region false with_constant by_constant ∷ []
 
 worked_read : EachOf (λ (r : Region). (st : State) → IsReadBack st r) worked
 unfolding digits

@@ -16,11 +16,11 @@ use Rattle.tla_value.specs.Outside.{Outside}
 use Rattle.pcal_tree.specs.Algorithm.{branch, Algorithm}
 use Rattle.translation.specs.Region.{written_region}
 use Rattle.translation.proofs.WorkedRegions.{region_tells, reads_back, all_read}
-use Rattle.translation.proofs.Trees.{x, y, z, num, over, just, sets, labelled, zero_of, one_body, integers}
+use Rattle.translation.proofs.Trees.{word, x, y, z, num, over, just, sets, labelled, zero_of, one_body, integers}
 
 -- variables x = 0;  A: x := x + 1;
-abbrev inc : Algorithm
-inc = one_body (zero_of x ∷ []) (labelled (codes "A") (just (sets x (over Plus (named x) (num 1)))))
+abbrev pub inc : Algorithm
+inc = record (one_body (zero_of x ∷ []) (labelled (codes "A") (just (sets x (over Plus (named x) (num 1)))))) { name = word (codes "Inc") }
 
 whole : layout (written_region false integers inc) ≡ codes "VARIABLES x, pc\n\nvars == <<x, pc>>\n\nInit ==\n  /\\ x = 0\n  /\\ pc = \"A\"\n\nA ==\n  /\\ (pc = \"A\")\n  /\\ x' = (x + 1)\n  /\\ pc' = \"Done\"\n\nTerminating ==\n  /\\ (pc = \"Done\")\n  /\\ UNCHANGED vars\n\nNext ==\n  \\/ A\n  \\/ Terminating\n\nSpec ==\n  /\\ Init\n  /\\ [][Next]_vars\n\nTermination == <>(pc = \"Done\")\n"
 unfolding digits
@@ -36,10 +36,10 @@ whole_reads : EachOf (λ (r : Region). (st : State) → IsReadBack st r) (writte
 whole_reads = all_read (written_region false integers inc ∷ written_region true integers inc ∷ []) refl
 
 -- the file with that algorithm, and the file with its translation
-abbrev file : Text
+abbrev pub file : Text
 file = codes "---- MODULE M ----\nEXTENDS Integers\n(*\n--algorithm Inc\nvariables x = 0;\nbegin\n  A: x := x + 1;\nend algorithm\n*)\n====\n"
 
-abbrev translated : Text
+abbrev pub translated : Text
 translated = codes "---- MODULE M ----\nEXTENDS Integers\n(*\n--algorithm Inc\nvariables x = 0;\nbegin\n  A: x := x + 1;\nend algorithm\n*)\n\\* BEGIN TRANSLATION\nVARIABLES x, pc\n\nvars == <<x, pc>>\n\nInit ==\n  /\\ x = 0\n  /\\ pc = \"A\"\n\nA ==\n  /\\ (pc = \"A\")\n  /\\ x' = (x + 1)\n  /\\ pc' = \"Done\"\n\nTerminating ==\n  /\\ (pc = \"Done\")\n  /\\ UNCHANGED vars\n\nNext ==\n  \\/ A\n  \\/ Terminating\n\nSpec ==\n  /\\ Init\n  /\\ [][Next]_vars\n\nTermination == <>(pc = \"Done\")\n\\* END TRANSLATION\n====\n"
 
 put : WithTranslation file (layout (written_region false integers inc)) translated
@@ -47,22 +47,22 @@ unfolding digits
 put = record { at = record { from = 112; to = 112 }; is_spot = refl; is = refl }
 
 -- it is one module, with this translation
-file_reads : (o : Outside) → HasOutside (walk file) o → IsWritten file translated o (written_region false integers inc)
+pub file_reads : (o : Outside) → HasOutside (walk file) o → IsWritten file translated o (written_region false integers inc)
 file_reads o h = written_file file translated o (written_region false integers inc) (region_tells (written_region false integers inc) refl) refl h put
 
 -- ---- with an old translation, and a unit behind it
 
-abbrev outdated : Text
+abbrev pub outdated : Text
 outdated = codes "---- MODULE M ----\nEXTENDS Integers\n(*\n--algorithm Inc\nvariables x = 0;\nbegin\n  A: x := x + 1;\nend algorithm\n*)\n\\* BEGIN TRANSLATION (chksum(pcal) = \"1a2b\" /\\ chksum(tla) = \"3c4d\")\nVARIABLE old\n\\* END TRANSLATION\nInv == x >= 0\n====\n"
 
-abbrev renewed : Text
+abbrev pub renewed : Text
 renewed = codes "---- MODULE M ----\nEXTENDS Integers\n(*\n--algorithm Inc\nvariables x = 0;\nbegin\n  A: x := x + 1;\nend algorithm\n*)\n\\* BEGIN TRANSLATION\nVARIABLES x, pc\n\nvars == <<x, pc>>\n\nInit ==\n  /\\ x = 0\n  /\\ pc = \"A\"\n\nA ==\n  /\\ (pc = \"A\")\n  /\\ x' = (x + 1)\n  /\\ pc' = \"Done\"\n\nTerminating ==\n  /\\ (pc = \"Done\")\n  /\\ UNCHANGED vars\n\nNext ==\n  \\/ A\n  \\/ Terminating\n\nSpec ==\n  /\\ Init\n  /\\ [][Next]_vars\n\nTermination == <>(pc = \"Done\")\n\\* END TRANSLATION\nInv == x >= 0\n====\n"
 
 put_again : WithTranslation outdated (layout (written_region false integers inc)) renewed
 unfolding digits
 put_again = record { at = record { from = 112; to = 212 }; is_spot = refl; is = refl }
 
-renewed_reads : (o : Outside) → HasOutside (walk outdated) o → IsWritten outdated renewed o (written_region false integers inc)
+pub renewed_reads : (o : Outside) → HasOutside (walk outdated) o → IsWritten outdated renewed o (written_region false integers inc)
 renewed_reads o h = written_file outdated renewed o (written_region false integers inc) (region_tells (written_region false integers inc) refl) refl h put_again
 
 -- and what was written stays as it is
