@@ -59,9 +59,24 @@ word_from (b ∷ v) = find_among (λ s. is_among (spellings s) (b ∷ v)) (may_b
 differs : (k c : ℕ) → is_letter k ≡ true → is_letter c ≡ false → nat_eq k c ≡ false
 differs k c t f = tells_apart is_letter k c t f
 
-pub no_word_sign : (t : List ℕ) → get_or t 0 0 ≡ 92 → list_any is_letter (take 1 (drop 1 t)) ≡ false → find (stands_at t) (sign.Or ∷ sign.Without ∷ []) ≡ sign_at t
+no_word_sign : (t : List ℕ) → get_or t 0 0 ≡ 92 → list_any is_letter (take 1 (drop 1 t)) ≡ false → find (stands_at t) (sign.Or ∷ sign.Without ∷ []) ≡ sign_at t
 no_word_sign [] e h = absurd (omega arith)
 no_word_sign (a ∷ []) e h = rw e refl
 no_word_sign (a ∷ c ∷ t) e h =
     let f : is_letter c ≡ false = (or_parts (is_letter c) false h).0 in
     rw (e, differs 101 c refl f, differs 103 c refl f, differs 108 c refl f, differs 110 c refl f) refl
+
+-- so it is one of two signs
+pub or_sign : (t : List ℕ) → get_or t 0 0 ≡ 92 → list_any is_letter (take 1 (drop 1 t)) ≡ false → begins t (92 ∷ 47 ∷ []) ≡ true → find (stands_at t) (sign.Or ∷ []) ≡ sign_at t
+or_sign t e h b = (let same : find (stands_at t) (sign.Or ∷ []) ≡ find (stands_at t) (sign.Or ∷ sign.Without ∷ []) = rw b refl in same) ∙ no_word_sign t e h
+
+pub without_sign : (t : List ℕ) → get_or t 0 0 ≡ 92 → list_any is_letter (take 1 (drop 1 t)) ≡ false → begins t (92 ∷ 47 ∷ []) ≡ false → find (stands_at t) (sign.Without ∷ []) ≡ sign_at t
+without_sign [] e h b = absurd (omega arith)
+without_sign (a ∷ []) e h b = rw e refl
+without_sign (a ∷ c ∷ t) e h b = by (nat_eq 47 c) refl
+  where
+    by : (k : Bool) → nat_eq 47 c ≡ k → find (stands_at (a ∷ c ∷ t)) (sign.Without ∷ []) ≡ sign_at (a ∷ c ∷ t)
+    by true k = absurd (both_ways (begins (a ∷ c ∷ t) (92 ∷ 47 ∷ [])) b (rw (e, k) refl))
+    by false k =
+        let f : is_letter c ≡ false = (or_parts (is_letter c) false h).0 in
+        (let same : find (stands_at (a ∷ c ∷ t)) (sign.Without ∷ []) ≡ find (stands_at (a ∷ c ∷ t)) (sign.Or ∷ sign.Without ∷ []) = rw (e, k, differs 108 c refl f) refl in same) ∙ no_word_sign (a ∷ c ∷ t) e h

@@ -1,6 +1,6 @@
 //! What is wrong with a stretch of a text: the least rule that it offends, at its first place.
 
-ghost use Rattle.std.specs.Prelude.{◌≡◌, ◌+◌, ◌^◌, ◌<◌, ◌≤◌, nat_le, ◌||◌, ◌&&◌, [], ◌∷◌, length, is_some, true};
+ghost use Rattle.std.specs.Prelude.{◌≡◌, ◌+◌, ◌^◌, ◌<◌, ◌≤◌, nat_le, ◌||◌, ◌&&◌, [], ◌∷◌, length, is_some, true, Some};
 ghost use Rattle.tla_token.specs.declared.part.Class.TheVariants as class;
 ghost use Rattle.tla_token.specs.declared.fault.Reading as code;
 ghost use Rattle.tla_token.specs.Lexemes.{number_of, unquoted};
@@ -173,15 +173,16 @@ fn bad_text_fault(bytes: &[u8], at: usize, reading: Reading) -> Option<(Rule, us
 }
 
 // It is the same in all readings.
-fn open_text_fault(bytes: &[u8], at: usize) -> Option<(Rule, usize)>
+fn open_text_fault(bytes: &[u8], at: usize) -> (Rule, usize)
     requires some { 0 < length bytes.now }
     requires small { at + length bytes.now < 2 ^ 32 }
-    ensures { (reading : code.Reading) → result ≡ least (part_offences_in reading at (part_of class.OpenText bytes.now)) }
+    ensures { (reading : code.Reading) → Some result ≡ least (part_offences_in reading at (part_of class.OpenText bytes.now)) }
 {
-    sooner(
-        Some((Rule::OpenString, at)),
-        byte_fault(&bytes[1..], at + 1),
-    )
+    let open = (Rule::OpenString, at);
+    match byte_fault(&bytes[1..], at + 1) {
+        None => open,
+        Some(other) => earlier(open, other),
+    }
 }
 
 /// What is wrong with a part that these bytes make up.
@@ -197,7 +198,7 @@ pub fn part_fault(class: Class, bytes: &[u8], at: usize, reading: Reading) -> Op
         Class::Text => text_fault(bytes, at, reading),
         Class::Stray => stray_fault(bytes[0], at),
         Class::BadText => bad_text_fault(bytes, at, reading),
-        Class::OpenText => open_text_fault(bytes, at),
+        Class::OpenText => Some(open_text_fault(bytes, at)),
         Class::OpenBlock => Some((Rule::OpenComment, at)),
         _ => None,
     }

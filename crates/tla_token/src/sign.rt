@@ -1,13 +1,13 @@
 //! Signs: what the grammar sees of operators and punctuation, whichever way they are spelled.
 
-ghost use Rattle.std.specs.Prelude.{◌≡◌, ◌<◌, length, take, drop, find, map, option_map, nat_eq};
+ghost use Rattle.std.specs.Prelude.{◌≡◌, ◌<◌, length, take, drop, find, map, option_map, nat_eq, slice_index, false};
 ghost use Rattle.std.specs.List.{filter, list_any, starts_with};
 ghost use Rattle.tla_token.specs.Signs.{spellings, all_signs, is_among as is_among_of};
 ghost use Rattle.tla_token.specs.Lexemes.{is_letter};
 ghost use Rattle.tla_token.specs.Offences.{begins_with};
 ghost use Rattle.tla_token.specs.Cut.{spelling_at, sign_at, sign_of};
 
-use crate::bytes::is_letter;
+use crate::bytes::{begins_pair, is_letter};
 use crate::word::is_among;
 
 /// A sign of TLA+ or PlusCal. The first spelling is the one that is written.
@@ -235,9 +235,22 @@ fn signs_before(text: &[u8]) -> &'static [Sign]
     ensures { find (λ s. list_any (λ w. starts_with nat_eq text.now w) (spellings s)) result.now ≡ sign_at text.now }
 {
     if text[0] == b'\\' && !has_letter_behind(text) {
-        &[Sign::Or, Sign::Without]
+        marks_before(text)
     } else {
         signs_from(text[0])
+    }
+}
+
+// The sign that may be in front where a backslash is no beginning of a word.
+fn marks_before(text: &[u8]) -> &'static [Sign]
+    requires backslash { slice_index text.now 0 ≡ 92 }
+    requires no_letter { list_any is_letter (take 1 (drop 1 text.now)) ≡ false }
+    ensures { find (λ s. list_any (λ w. starts_with nat_eq text.now w) (spellings s)) result.now ≡ sign_at text.now }
+{
+    if begins_pair(text, b'\\', b'/') {
+        &[Sign::Or]
+    } else {
+        &[Sign::Without]
     }
 }
 
