@@ -1,2 +1,4 @@
 -- Worked rows of words.
 mod Rows
+pub mod Found
+mod Meanings

@@ -1,3 +1,4 @@
 -- The words of the commands, and what they mean.
 pub mod Table
 pub mod Commands
+pub mod Meant

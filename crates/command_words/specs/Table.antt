@@ -50,7 +50,7 @@ trace = command (codes "trace") (file ∷ word (codes "CONFIG") ∷ word (codes 
 abbrev pub make : Shape
 make = command (codes "make") (word (codes "SEED") ∷ word (codes "COUNT") ∷ [])
 
--- all commands; a program's table has those that it runs
+-- all commands
 abbrev pub commands : List Shape
 commands = translate ∷ check ∷ rewrite ∷ map_file ∷ run ∷ trace ∷ make ∷ []
 

@@ -1,2 +1,11 @@
 //! What the words of a command line mean.
 #![tactic(auto)]
+
+mod command;
+mod read;
+mod table;
+#[cfg(test)]
+mod tests;
+
+pub use command::{Command, Options, Syntax};
+pub use read::command_of;

@@ -3,6 +3,7 @@ pub mod ErrorLine
 pub mod Numbers
 pub mod Told
 pub mod RowsRefusals
+mod RowsSpelling
 pub mod RegionMade
 pub mod OutsideTokens
 pub mod Capped

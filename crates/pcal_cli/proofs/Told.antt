@@ -12,8 +12,10 @@ use Rattle.first_path.specs.FormRead.{form_offences, FirstOffence}
 use Rattle.first_path.specs.Written.{Written}
 use Rattle.promise.specs.Options.{no_options}
 use Rattle.promise.specs.Headline.{Headline}
-use Rattle.pcal_cli.specs.Words.{Command, translate}
+use Rattle.command_words.specs.Commands.{Command}
+use Rattle.pcal_cli.specs.Words.{file_of}
 use Rattle.pcal_cli.specs.declared.status.Answer.{Answer}
+use Rattle.pcal_cli.specs.declared.status.Answer.TheVariants as answer
 use Rattle.pcal_cli.specs.Answers.{status_of, line_of}
 use Rattle.pcal_cli.specs.Causes.{OfFile, HasOffence, IsCause, Writes, WritesInPart, KeepsPromise, Told, Explains}
 
@@ -98,7 +100,7 @@ failed (Some ts) file R W P h = by (text_at ts file) h
 
 pub of_file : (o : Option Command) (P Q : Word → Type 0) → ((file : Word) → P file → Q file) → OfFile o P → OfFile o Q
 of_file None P Q f h = tt
-of_file (Some (translate file)) P Q f h = f file h
+of_file (Some c) P Q f h = f (file_of c) h
 
 pub of_text : (o : Option Command) (ts : Option Texts) (D E : List ℕ → Type 0) → ((x : List ℕ) → D x → E x) → OfFile o (λ file. Tells ts file D) → OfFile o (λ file. Tells ts file E)
 of_text o ts D E f h = of_file o (λ file. Tells ts file D) (λ file. Tells ts file E) (λ file k. by (told_at ts file) k) h
@@ -109,7 +111,7 @@ of_text o ts D E f h = of_file o (λ file. Tells ts file D) (λ file. Tells ts f
 
 pub of_any_file : (o : Option Command) (Q : Word → Type 0) → ((file : Word) → Q file) → OfFile o Q
 of_any_file None Q q = tt
-of_any_file (Some (translate file)) Q q = q file
+of_any_file (Some c) Q q = q (file_of c)
 
 pub of_any_text : (o : Option Command) (ts : Option Texts) (E : List ℕ → Type 0) → ((x : List ℕ) → E x) → OfFile o (λ file. Tells ts file E)
 of_any_text o ts E q = of_any_file o (λ file. Tells ts file E) (λ file. of_all ts file E q)
@@ -123,3 +125,11 @@ explains ts file f a r old new before after e cause ok part rose same = record {
     by : (r : Result (Unit {0}) Failed) → OnOk r (Grows old new (line_of a f)) → OnErr r (GrowsInPart old new (line_of a f)) → OnErr r (RoseBy 1 before after) → OnOk r (after ≡ before) → Told old new before after (line_of a f)
     by (Ok u) ok part rose same = inl (ok, same)
     by (Err e) ok part rose same = inr (part, rose)
+
+-- the line that says that there is no memory names no file
+pub out_of_memory : (ts : Option Texts) (file f : Word) (a : Answer) (r : Result (Unit {0}) Failed) (old new : Option (List ℕ)) (before after : ℕ) → a ≡ answer.Memory
+    → OnOk r (Grows old new (line_of a f)) → OnErr r (GrowsInPart old new (line_of a f)) → OnErr r (RoseBy 1 before after) → OnOk r (after ≡ before)
+    → Explains ts file (status_of a) old new before after
+out_of_memory ts file f a r old new before after e ok part rose same =
+    subst (λ (b : Answer). Explains ts file (status_of b) old new before after) (sym e)
+    (explains ts file file answer.Memory r old new before after refl tt (subst (λ (b : Answer). OnOk r (Grows old new (line_of b f))) e ok) (subst (λ (b : Answer). OnErr r (GrowsInPart old new (line_of b f))) e part) rose same)

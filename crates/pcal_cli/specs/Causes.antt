@@ -4,6 +4,7 @@ use Rattle.std.specs.Process.{exit_status}
 use Rattle.std.specs.declared.process.ExitCode.{ExitCode}
 use Rattle.outer_io.specs.Outer.{Texts, Tells, RoseBy, Grows, GrowsInPart}
 use Rattle.tla_tree.specs.Tree.{Word}
+use Rattle.command_words.specs.Commands.{Command}
 use Rattle.promise.specs.Options.{Options}
 use Rattle.promise.specs.Headline.{Headline}
 use Rattle.tla_token.specs.declared.rule.Refusal.{Refusal}
@@ -16,12 +17,12 @@ use Rattle.pcal_cli.specs.declared.status.Answer.TheVariants as answer
 use Rattle.pcal_cli.specs.declared.status.Status.{Status}
 use Rattle.pcal_cli.specs.declared.status.Status.TheVariants.{Fine, Memory, Usage, ReadFault, WriteFault, Refused, TooLong}
 use Rattle.pcal_cli.specs.Answers.{status_number, status_of, line_of}
-use Rattle.pcal_cli.specs.Words.{Command, translate}
+use Rattle.pcal_cli.specs.Words.{file_of}
 
 -- what holds of the file of a command; where there is no command nothing is said
 abbrev pub OfFile : Option Command → (Word → Type 0) → Type 0
 OfFile None P = Unit {0}
-OfFile (Some (translate file)) P = P file
+OfFile (Some c) P = P (file_of c)
 
 -- ---- answers
 

@@ -3,6 +3,7 @@ pub mod Answers
 pub mod Causes
 pub mod FormSeen
 pub mod Refusals
+pub mod Spelling
 pub mod Checked
 pub mod AlgorithmTokens
 pub mod OutsideTokens

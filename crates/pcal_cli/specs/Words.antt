@@ -1,36 +1,47 @@
--- What the words of a command line mean.
-use Rattle.std.specs.Prelude.{List, [], ◌∷◌, Bool, false, not, nat_eq, ◌&&◌, Option, Some, None, Result, Ok, Err, codes, if◌then◌else◌, String, string_bytes, map}
+-- What the words of a command line mean to the program, which runs some of the commands.
+use Rattle.std.specs.Prelude.{List, [], Bool, true, false, not, ◌&&◌, Option, Some, None, Result, Ok, Err, if◌then◌else◌, String, string_bytes, map}
 use Rattle.std.specs.declared.alloc.Global.{Global}
-use Rattle.std.specs.Str.{bytes_eq}
 use Rattle.std.specs.Vec.Iter.{into_iter_items}
 use Rattle.std.specs.declared.vec.IntoIter.{IntoIter}
 use Rattle.std.specs.declared.io.Error.{Error}
 use Rattle.tla_tree.specs.Tree.{Word}
+use Rattle.command_words.specs.Table.{commands}
+use Rattle.command_words.specs.Commands.{Options, Command, translates, checks, rewrites, maps, runs, traces, makes, meaning}
 
-pub data Command : Type 0 where
-  translate : Word → Command  -- of the file of this name
+-- no option given
+abbrev pub plain : Options
+plain = record { forced = false; terminating = true }
 
--- a word that begins with `-` is no name of a file
-abbrev pub begins_dashed : Word → Bool
-begins_dashed [] = false
-begins_dashed (b ∷ rest) = nat_eq b 45
+-- whether the program runs a command: so far a translation, without options
+abbrev pub is_run : Command → Bool
+is_run (translates file options) = not options.forced && options.terminating
+is_run c = false
 
--- the first word is the program's name
-abbrev pub command_of : List Word → Option Command
-command_of (program ∷ verb ∷ file ∷ []) = if bytes_eq verb (codes "translate") && not (begins_dashed file) then Some (translate file) else None
-command_of _ = None
+abbrev pub if_run : Option Command → Option Command
+if_run None = None
+if_run (Some c) = if is_run c then Some c else None
 
-abbrev pub words_of : List (String Global) → List Word
-words_of ws = map string_bytes ws
+-- the module that a command reads; one that reads none has no name for it
+abbrev pub file_of : Command → Word
+file_of (translates file options) = file
+file_of (checks file forced) = file
+file_of (rewrites file syntax) = file
+file_of (maps file forced) = file
+file_of (runs file config script options) = file
+file_of (traces file config trace options) = file
+file_of (makes seed count) = []
 
 -- the file that a command is of
 abbrev pub file_meant : Option Command → Word
 file_meant None = []
-file_meant (Some (translate file)) = file
+file_meant (Some c) = file_of c
 
--- those of the words of a command line
-abbrev pub command_in : List (String Global) → Option Command
-command_in ws = command_of (words_of ws)
+abbrev pub words_of : List (String Global) → List Word
+words_of ws = map string_bytes ws
+
+-- the command of the words of a command line, where the program runs it
+unfoldable pub command_in : List (String Global) → Option Command
+command_in ws = if_run (meaning commands (words_of ws))
 
 -- the words as the system hands them over; none, where one isn't UTF-8
 abbrev pub words_given : Result (IntoIter (String Global) Global) Error → List (String Global)

@@ -1,19 +1,22 @@
 //! The top call: from the words of a command line to an answer.
 
-ghost use Rattle.std.specs.Prelude.{◌≡◌, ◌⊎◌, ◌+◌, ◌<◌, ◌≤◌, [], length, Some, None, MatchOption};
+ghost use Rattle.std.specs.Prelude.{◌≡◌, ◌⊎◌, ◌+◌, ◌<◌, ◌≤◌, [], false, length, Some, None, IfOk, MatchOption};
 ghost use Rattle.tla_token.specs.Limits.{most_bytes};
 ghost use Rattle.outer_io.specs.Outer.{RoseBy, RoseAbove, HasNoText, Tells, piece_bytes};
 ghost use Rattle.promise.specs.Options.{no_options};
 ghost use Rattle.first_path.specs.FormRead.{form_offences};
-ghost use Rattle.pcal_cli.specs.Words.{translate as translate_of, command_in, file_in};
+ghost use Rattle.command_words.specs.Commands.{translates};
+ghost use Rattle.command_words.specs.Meant.{meant};
+ghost use Rattle.pcal_cli.specs.Words.{is_run, plain, command_in, file_in};
 ghost use Rattle.pcal_cli.specs.Answers.{status_of};
-ghost use Rattle.pcal_cli.specs.Causes.{OfFile, IsAnswer, IsUnread, IsUnwritten, IsDone, IsRead, HasOffence, IsCause, LeavesOut, Writes, WritesInPart, KeepsPromise, Explains};
+ghost use Rattle.pcal_cli.specs.Causes.{OfFile, IsAnswer, IsNoCommand, IsUnread, IsUnwritten, IsDone, IsRead, HasOffence, IsCause, LeavesOut, Writes, WritesInPart, KeepsPromise, Explains};
 
 use crate::error_line::tell;
 use crate::status::{Answer, Status, as_status};
 use crate::translated::translate_text;
+use command_words::{Command, command_of};
 use outer_io::{LoadFault, Shelf, Sink, load, put_all};
-use std::alloc::Global;
+use std::alloc::{AllocError, Global};
 use tla_token::Stop;
 
 /// A file has at most so many bytes.
@@ -69,14 +72,30 @@ fn translate<H: Shelf, K: Sink>(alloc: Global, file: &str, shelf: &mut H, out: &
     }
 }
 
-/// The file of `translate FILE`, where the words, the program's name first, are such a command.
-fn file_of(words: &[String]) -> Option<&str>
-    ensures { MatchOption result (command_in words.now ≡ None) (λ file. command_in words.now ≡ Some (translate_of file.now)) }
+/// The file of a command that the program runs: so far of a translation without options.
+fn file_run<'a>(command: Command<'a>) -> Option<&'a str>
+    ensures { MatchOption result (is_run (meant command.entry) ≡ false) (λ file. meant command.entry ≡ translates file.now plain) }
 {
-    match words {
-        [_, verb, file] if verb.as_str() == "translate" && !file.as_bytes().starts_with(b"-") =>
-            Some(file.as_str()),
+    match command {
+        Command::Translate(file, options) => {
+            if options.forced || !options.terminating {
+                None
+            } else {
+                Some(file)
+            }
+        }
         _ => None,
+    }
+}
+
+/// The file of the command that the words mean, the program's name first, where the program runs it.
+#[tactic(auto, unfolding(crate::specs::Words::command_in))]
+fn file_of<'a>(alloc: Global, words: &'a [String]) -> Result<Option<&'a str>, AllocError>
+    ensures { IfOk result (λ o. MatchOption o (command_in words.now ≡ None) (λ file. command_in words.now ≡ Some (translates file.now plain))) }
+{
+    match command_of(alloc, words)? {
+        Some(command) => Ok(file_run(command)),
+        None => Ok(None),
     }
 }
 
@@ -90,7 +109,7 @@ pub fn pcal<H: Shelf, K: Sink, E: Sink>(
 ) -> Status
     ensures answer { IsAnswer result ⊎ (result ≡ Status.Usage) }
     ensures usage { result ≡ Status.Usage → command_in words.now ≡ None }
-    ensures no_command { command_in words.now ≡ None → result ≡ Status.Usage }
+    ensures no_command { command_in words.now ≡ None → IsNoCommand result }
     ensures read_fault { result ≡ Status.ReadFault → RoseBy 1 (H.faults shelf.old) (H.faults shelf.new) ⊎ HasNoText (H.texts shelf.old) (file_in words.now) }
     ensures write_fault { result ≡ Status.WriteFault → RoseBy 1 (K.faults out.old) (K.faults out.new) }
     ensures too_long { result ≡ Status.TooLong → RoseAbove most_bytes (H.given shelf.old) (H.given shelf.new) }
@@ -113,7 +132,7 @@ pub fn pcal<H: Shelf, K: Sink, E: Sink>(
     ensures told { Explains (H.texts shelf.old) (file_in words.now) result (E.wrote err.old) (E.wrote err.new) (E.faults err.old) (E.faults err.new) }
 
     // What a call leaves as it was, and how the counts rise: of the shelf's bytes, and of faults by one at most.
-    ensures unread { result ≡ Status.Usage → shelf.new ≡ shelf.old }
+    ensures unread { command_in words.now ≡ None → shelf.new ≡ shelf.old }
     ensures texts_stay { H.texts shelf.new ≡ H.texts shelf.old }
     ensures given { IsRead result → Tells (H.texts shelf.old) (file_in words.now) (λ x. RoseBy (length x) (H.given shelf.old) (H.given shelf.new)) }
     ensures read_once { Tells (H.texts shelf.old) (file_in words.now) (λ x. H.given shelf.new ≤ H.given shelf.old + length x) }
@@ -128,9 +147,10 @@ pub fn pcal<H: Shelf, K: Sink, E: Sink>(
     ensures error_faults_grow { E.faults err.old ≤ E.faults err.new }
     ensures one_error_fault { E.faults err.new ≤ E.faults err.old + 1 }
 {
-    let (answer, file) = match file_of(words) {
-        Some(file) => (translate(alloc, file, shelf, out), file),
-        None => (Answer::Usage, ""),
+    let (answer, file) = match file_of(alloc, words) {
+        Ok(Some(file)) => (translate(alloc, file, shelf, out), file),
+        Ok(None) => (Answer::Usage, ""),
+        Err(AllocError) => (Answer::Memory, ""),
     };
     let _ = tell(err, answer, file.as_bytes());
     as_status(answer)

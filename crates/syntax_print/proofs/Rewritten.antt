@@ -39,6 +39,7 @@ use Rattle.module_tree.proofs.AlgorithmIsCut.{algorithm_is_cut}
 use Rattle.module_tree.proofs.OnePlace.{one_swapped}
 use Rattle.module_tree.proofs.SwappedBack.{swapped_back}
 use Rattle.syntax_print.specs.Rewritten.{gap, Rewritten}
+use Rattle.syntax_print.specs.Rewrites.{StandsIn, Rewrites}
 use Rattle.syntax_print.specs.laws.Printable.{IsPrintable}
 use Rattle.syntax_print.specs.laws.BreaksFew.{BreaksFew}
 use Rattle.syntax_print.specs.laws.HoldsPrinted.{HoldsPrinted}
@@ -90,6 +91,21 @@ rewritten_holds s x w fine r paired = printed_is_there s x w r.old r.tree fine r
 -- what is read of one text in two ways is one tree
 same_tree : (s t : Syntax) (ts : List text.Token) (a b : Algorithm) → Spells s ts a → Spells t ts b → b ≡ a
 same_tree s t ts a b h k = one_tree s ts b a (subst (λ (s : Syntax). Spells s ts b) (one_syntax s t ts a b h k) k) h
+
+-- what is printed there is read again
+stands : (s : Syntax) (g : Algorithm) (from : ℕ) (w : Text) → HoldsPrinted s g from w → StandsIn s g w
+stands s g from w h =
+    let ts = algorithm_tokens w h.text in
+    record {
+      text = h.text;
+      is_text = h.is_text;
+      tree = h.tree;
+      spelled = h.spelled;
+      same = λ t k e. (one_syntax s t ts h.tree k h.spelled e, ap placeless (same_tree s t ts h.tree k h.spelled e) ∙ h.same);
+    }
+
+pub rewritten_rewrites : (s : Syntax) (x w : Text) → IsFine x → Rewritten s x w → Rewrites s x w
+rewritten_rewrites s x w fine r = record { written = r; again = λ paired. stands s r.tree r.old.from w (rewritten_holds s x w fine r paired) }
 
 same_old : {s t : Syntax} {x w v : Text} (r : Rewritten s x w) (q : Rewritten t x v) → q.old ≡ r.old
 same_old r q = same_Some q.old r.old (sym q.is_old ∙ r.is_old)

@@ -1,5 +1,5 @@
 -- Worked rows of files with a printed algorithm, by computation: what comes right behind its last word, and comments in it, which are not kept.
-use Rattle.std.proofs.Common.{◌≡◌, refl, false, [], ◌∷◌, ◌++◌, Option, Some, codes}
+use Rattle.std.proofs.Common.{◌≡◌, ℕ, refl, false, [], ◌∷◌, ◌++◌, Option, Some, codes}
 use Rattle.tla_tree.specs.Tree.{Word, Name, node, no_trees}
 use Rattle.tla_tree.specs.Tree as expr
 use Rattle.tla_token.specs.declared.rule.Rule.TheVariants.{Placement, Options}
@@ -17,6 +17,12 @@ use Rattle.module_tree.specs.WithTranslation.{Swapped}
 use Rattle.module_tree.specs.laws.Kept.{IsFine}
 use Rattle.module_tree.specs.laws.Swaps.{is_paired}
 use Rattle.syntax_print.specs.Rewritten.{gap}
+use Rattle.tla_token.specs.declared.place.Place.{Place}
+use Rattle.pcal_tree.specs.GrammarParts as part
+use Rattle.pcal_tree.specs.GrammarP as p
+use Rattle.pcal_tree.specs.Grammar as grammar
+use Rattle.syntax_print.specs.Rewrites.{Rewrites}
+use Rattle.syntax_print.proofs.Rewritten.{rewritten_rewrites}
 
 abbrev n : Word → Name
 n x = record { word = x; place = nowhere }
@@ -105,3 +111,25 @@ together = refl
 
 options_there : file_offences (file (CText with_options)) ≡ (Options, 54) ∷ []
 options_there = refl
+
+-- ---- the promise: a file in P-syntax, and the same in C-syntax
+
+abbrev at : ℕ → Place
+at k = record { line = 2; col = k }
+
+abbrev as_spelled : grammar.Text
+as_spelled = record {
+  head = grammar.algorithm (at 4);
+  name = record { word = codes "R"; place = at 16 };
+  around = grammar.to_end (at 30) (at 34);
+  variables = part.no_section;
+  define = grammar.no_define;
+  macros = [];
+  procedures = [];
+  main = grammar.begin (at 18) (p.last_statement part.no_labels (p.simple (part.skip (at 24))) (Some (at 28)));
+}
+
+promised : Rewrites c_syntax (file (codes "--algorithm R begin skip; end algorithm")) (file (codes "--algorithm R {\n{\n  skip;\n}\n}"))
+promised =
+    rewritten_rewrites c_syntax (file (codes "--algorithm R begin skip; end algorithm")) (file (codes "--algorithm R {\n{\n  skip;\n}\n}")) refl
+    (record { old = _; is_old = refl; syntax = p_syntax; tree = grammar.algorithm_of as_spelled; spelled = (as_spelled, search, refl, refl); swapped = record { old = _; is_old = refl; is = refl } })

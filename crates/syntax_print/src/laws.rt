@@ -23,6 +23,7 @@ ghost use Rattle.module_tree.specs.AlgorithmText.{AlgorithmText, algorithm_in, a
 ghost use Rattle.module_tree.specs.laws.Kept.{IsFine, only_large};
 ghost use Rattle.module_tree.specs.laws.Swaps.{is_paired};
 ghost use Rattle.syntax_print.specs.Rewritten.{gap, Rewritten};
+ghost use Rattle.syntax_print.specs.Rewrites.{Rewrites};
 ghost use Rattle.syntax_print.specs.laws.BreaksFew.{BreaksFew};
 ghost use Rattle.syntax_print.specs.laws.HoldsPrinted.{past_stage, HoldsPrinted};
 ghost use Rattle.syntax_print.specs.laws.Printable.{IsPrintable};
@@ -101,4 +102,9 @@ pub fn files_are_rewritten_again()
     ensures holds { (s t : Syntax) (x w v : List ℕ) → IsFine x → (r : Rewritten s x w) → is_paired 0 (stretch x r.old.from r.old.rest.to) ≡ true → IsFine w → Rewritten t w v → HoldsPrinted t r.tree r.old.from v }
     ensures back { (s t : Syntax) (x w v : List ℕ) → IsFine x → (r : Rewritten s x w) → stretch x r.old.from r.old.rest.to ≡ printed t r.tree → ends_word (drop r.old.rest.to x) ≡ true → IsFine w → Rewritten t w v → v ≡ x }
     ensures same { (s : Syntax) (x w : List ℕ) → IsFine x → (r : Rewritten s x w) → stretch x r.old.from r.old.rest.to ≡ printed s r.tree → gap s (drop r.old.rest.to x) ≡ [] → w ≡ x }
+{}
+
+/// So a file that breaks none of the rules 1 to 10 and 12, with its algorithm printed in its place, keeps the promise of a rewriting.
+pub fn printing_an_algorithm_in_its_file_rewrites_it()
+    ensures { (s : Syntax) (x w : List ℕ) → IsFine x → Rewritten s x w → Rewrites s x w }
 {}

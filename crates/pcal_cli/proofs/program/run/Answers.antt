@@ -1,15 +1,16 @@
 -- What is said of an answer is said of its number; where the words found no memory nothing was called but the error output.
 use Rattle.std.specs.Prelude.{◌≡◌, ◌<◌, ◌≤◌, [], length}
-use Rattle.std.proofs.Common.{◌∙◌, ap, refl}
+use Rattle.std.proofs.Common.{◌+◌, ◌∙◌, ap, refl, sym, subst, arith}
 use Rattle.outer_io.specs.Outer.{RoseBy, HasNoText}
 use Rattle.tla_token.specs.Limits.{most_bytes}
 use Rattle.first_path.specs.FormRead.{form_offences}
 use Rattle.pcal_cli.specs.Answers.{status_number}
 use Rattle.pcal_cli.specs.Words.{words_given, command_in, file_in}
-use Rattle.pcal_cli.specs.Causes.{IsUnread, IsUnwritten, IsDone, HasOffence, EndedIn}
+use Rattle.pcal_cli.specs.Causes.{IsRead, IsUnread, IsUnwritten, IsDone, HasOffence, EndedIn}
 use Rattle.pcal_cli.specs.declared.status.Answer.TheVariants as answer
 use Rattle.pcal_cli.specs.declared.status.Status.TheVariants.{Memory}
-use Rattle.pcal_cli.proofs.Told.{explains, of_file, of_text, of_any_file, of_any_text}
+use Rattle.pcal_cli.proofs.Numbers.{number_is}
+use Rattle.pcal_cli.proofs.Told.{explains, of_all, of_file, of_text, of_any_file, of_any_text}
 use Rattle.pcal_cli.proofs.program.run.Goals.{in-Ok, in-Err}
 use Rattle.pcal_cli.proofs.program.run.Goals as goal
 
@@ -73,4 +74,25 @@ returns-clause-told g c =
       | in-Err w ↦
           let t = w.tell.ensures in
           (Memory, e ∙ ap status_number w.status-is, rw w.err-is (explains texts file file answer.Memory w.tell.result _ _ _ _ refl tt t.ok t.err t.cause t.ok_faults))
+    ]
+
+pub returns-clause-given : goal.returns-clause-given
+returns-clause-given g c =
+    let e = c.from.ensures ∙ c.number.ensures in
+    let texts = g.H.Shelf.texts c.args.shelf.now in
+    let file = file_in (words_given c.args.given) in
+    λ (s, k, r). elim c.match-words_of.branch [
+      | in-Ok w ↦
+          let same : s ≡ w.pcal-status.result = number_is s w.pcal-status.result (sym k ∙ e ∙ ap status_number w.status-is) in
+          rw (← w.in-Ok.ensures, ← w.deref.ensures.value, w.shelf-is) (w.pcal-status.ensures.given (subst IsRead same r))
+      | in-Err w ↦ (let none : IsRead Memory = subst IsRead (number_is s Memory (sym k ∙ e ∙ ap status_number w.status-is)) r in absurd none)
+    ]
+
+pub returns-clause-read_once : goal.returns-clause-read_once
+returns-clause-read_once g c =
+    let texts = g.H.Shelf.texts c.args.shelf.now in
+    let file = file_in (words_given c.args.given) in
+    elim c.match-words_of.branch [
+      | in-Ok w ↦ rw (← w.in-Ok.ensures, ← w.deref.ensures.value, w.shelf-is) w.pcal-status.ensures.read_once
+      | in-Err w ↦ of_all texts file (λ x. g.H.Shelf.given c.match-words_of.shelf ≤ g.H.Shelf.given c.args.shelf.now + length x) (λ x. rw w.shelf-is (omega arith))
     ]

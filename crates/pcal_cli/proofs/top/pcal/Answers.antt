@@ -1,35 +1,57 @@
 -- Proves what is asked of `pcal`.
-use Rattle.std.proofs.Common.{◌≡◌}
-use Rattle.pcal_cli.specs.Words.{file_in}
-use Rattle.pcal_cli.specs.Causes.{IsCause}
-use Rattle.pcal_cli.proofs.Told.{explains}
-use Rattle.pcal_cli.proofs.top.pcal.Goals.{in-Some, in-None}
+use Rattle.std.proofs.Common.{◌≡◌, refl, ◌≤◌, ◌<◌, [], length, Some, None}
+use Rattle.outer_io.specs.Outer.{RoseBy}
+use Rattle.tla_token.specs.Limits.{most_bytes}
+use Rattle.first_path.specs.FormRead.{form_offences}
+use Rattle.command_words.specs.Commands.{translates}
+use Rattle.pcal_cli.specs.Words.{command_in, file_in, plain}
+use Rattle.pcal_cli.specs.Causes.{IsCause, IsDone, IsUnread}
+use Rattle.pcal_cli.specs.declared.status.Answer.TheVariants as answer
+use Rattle.pcal_cli.proofs.Told.{explains, out_of_memory, of_any_text}
+use Rattle.pcal_cli.proofs.top.pcal.Goals.{in-Ok-Some, in-Ok-None, in-Err}
 use Rattle.pcal_cli.proofs.top.pcal.Goals as goal
 
 pub returns-clause-complete : goal.returns-clause-complete
-returns-clause-complete g c = elim c.match-file_of.branch [
-  | in-Some w ↦ rw (c.as_status.ensures, w.in-Some.ensures, w.shelf-is, w.out-is, w.answer-is) w.translate.ensures.complete
-  | in-None w ↦ rw w.in-None.ensures tt
-]
+returns-clause-complete g c =
+    let texts = g.H.Shelf.texts c.args.shelf.now in
+    let R = RoseBy 1 (g.H.Shelf.faults c.args.shelf.now) (g.H.Shelf.faults c.match-file_of.shelf) in
+    let W = RoseBy 1 (g.K.Sink.faults c.args.out.now) (g.K.Sink.faults c.match-file_of.out) in
+    elim c.match-file_of.branch [
+      | in-Ok-Some w ↦
+          let e : command_in c.args.words.now ≡ Some (translates w.in-Ok-Some.file.now plain) = (rw w.in-Ok-Some.field-0-is at w.in-Ok-Some.ensures) in
+          rw (c.as_status.ensures, e, w.shelf-is, w.out-is, w.answer-is) w.translate.ensures.complete
+      | in-Ok-None w ↦ (let e : command_in c.args.words.now ≡ None = (rw w.in-Ok-None.field-0-is at w.in-Ok-None.ensures) in rw e tt)
+      | in-Err w ↦ of_any_text (command_in c.args.words.now) texts (λ x. length x ≤ most_bytes → form_offences x ≡ [] → (R → ⊥) → (W → ⊥) → IsDone c.as_status.result) (λ x l k r v. rw (c.as_status.ensures, w.answer-is) tt)
+    ]
 
 pub returns-clause-long : goal.returns-clause-long
-returns-clause-long g c = elim c.match-file_of.branch [
-  | in-Some w ↦ rw (c.as_status.ensures, w.in-Some.ensures, w.answer-is) w.translate.ensures.long
-  | in-None w ↦ rw w.in-None.ensures tt
-]
+returns-clause-long g c =
+    let texts = g.H.Shelf.texts c.args.shelf.now in
+    elim c.match-file_of.branch [
+      | in-Ok-Some w ↦
+          let e : command_in c.args.words.now ≡ Some (translates w.in-Ok-Some.file.now plain) = (rw w.in-Ok-Some.field-0-is at w.in-Ok-Some.ensures) in
+          rw (c.as_status.ensures, e, w.answer-is) w.translate.ensures.long
+      | in-Ok-None w ↦ (let e : command_in c.args.words.now ≡ None = (rw w.in-Ok-None.field-0-is at w.in-Ok-None.ensures) in rw e tt)
+      | in-Err w ↦ of_any_text (command_in c.args.words.now) texts (λ x. most_bytes < length x → IsUnread c.as_status.result) (λ x l. rw (c.as_status.ensures, w.answer-is) tt)
+    ]
 
 pub returns-clause-told : goal.returns-clause-told
-returns-clause-told g c = elim c.match-file_of.branch [
-  | in-Some w ↦
-      let t = c.tell.ensures in
-      let texts = g.H.Shelf.texts c.args.shelf.now in
-      let e : c.as_bytes.result.now ≡ file_in c.args.words.now = rw w.in-Some.ensures (rw w.answer-is at c.as_bytes.ensures.value) in
-      let cause : IsCause texts (file_in c.args.words.now) c.match-file_of.answer.0 = rw (w.in-Some.ensures, w.answer-is) w.translate.ensures.refused in
-      rw c.as_status.ensures (explains texts (file_in c.args.words.now) c.as_bytes.result.now c.match-file_of.answer.0 c.tell.result _ _ _ _ e cause t.ok t.err t.cause t.ok_faults)
-  | in-None w ↦
-      let t = c.tell.ensures in
-      let texts = g.H.Shelf.texts c.args.shelf.now in
-      let e : c.as_bytes.result.now ≡ file_in c.args.words.now = rw w.in-None.ensures (rw w.answer-is at c.as_bytes.ensures.value) in
-      let cause : IsCause texts (file_in c.args.words.now) c.match-file_of.answer.0 = rw w.answer-is tt in
-      rw c.as_status.ensures (explains texts (file_in c.args.words.now) c.as_bytes.result.now c.match-file_of.answer.0 c.tell.result _ _ _ _ e cause t.ok t.err t.cause t.ok_faults)
-]
+returns-clause-told g c =
+    let t = c.tell.ensures in
+    let texts = g.H.Shelf.texts c.args.shelf.now in
+    let file = file_in c.args.words.now in
+    elim c.match-file_of.branch [
+      | in-Ok-Some w ↦
+          let k : command_in c.args.words.now ≡ Some (translates w.in-Ok-Some.file.now plain) = (rw w.in-Ok-Some.field-0-is at w.in-Ok-Some.ensures) in
+          let e : c.as_bytes.result.now ≡ file = rw k (rw w.answer-is at c.as_bytes.ensures.value) in
+          let cause : IsCause texts file c.match-file_of.answer.0 = rw (k, w.answer-is) w.translate.ensures.refused in
+          rw c.as_status.ensures (explains texts file c.as_bytes.result.now c.match-file_of.answer.0 c.tell.result _ _ _ _ e cause t.ok t.err t.cause t.ok_faults)
+      | in-Ok-None w ↦
+          let k : command_in c.args.words.now ≡ None = (rw w.in-Ok-None.field-0-is at w.in-Ok-None.ensures) in
+          let e : c.as_bytes.result.now ≡ file = rw k (rw w.answer-is at c.as_bytes.ensures.value) in
+          let cause : IsCause texts file c.match-file_of.answer.0 = rw w.answer-is tt in
+          rw c.as_status.ensures (explains texts file c.as_bytes.result.now c.match-file_of.answer.0 c.tell.result _ _ _ _ e cause t.ok t.err t.cause t.ok_faults)
+      | in-Err w ↦
+          let same : c.match-file_of.answer.0 ≡ answer.Memory = rw w.answer-is refl in
+          rw c.as_status.ensures (out_of_memory texts file c.as_bytes.result.now c.match-file_of.answer.0 c.tell.result _ _ _ _ same t.ok t.err t.cause t.ok_faults)
+    ]
