@@ -40,4 +40,5 @@ pub mod OneAfter
 pub mod Gathered
 pub mod GatheredNames
 pub mod GatheredVariables
+pub mod Expressions
 pub mod GatheredArguments
