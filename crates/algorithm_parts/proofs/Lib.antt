@@ -41,4 +41,6 @@ pub mod Gathered
 pub mod GatheredNames
 pub mod GatheredVariables
 pub mod Expressions
+pub mod GatheredDefinitions
+pub mod GatheredBinds
 pub mod GatheredArguments

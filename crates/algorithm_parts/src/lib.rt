@@ -2,7 +2,9 @@
 #![tactic(auto)]
 
 pub mod arguments;
+pub mod binds;
 pub mod colon;
+pub mod definitions;
 pub mod expression;
 pub mod names;
 pub mod parameters;
