@@ -43,4 +43,7 @@ pub mod GatheredVariables
 pub mod Expressions
 pub mod GatheredDefinitions
 pub mod GatheredBinds
+pub mod LeftSides
+pub mod GatheredAssignments
+pub mod SimpleParts
 pub mod GatheredArguments

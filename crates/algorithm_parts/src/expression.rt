@@ -55,6 +55,7 @@ pub fn read_row(
     requires numbers { NumbersFit tokens.now }
     ensures read { ReadsPart row_at past_row trees_of tokens.now pool.new result ((parts_in tokens.now).arguments (ahead tokens.now at)) }
     ensures kept { Keeps pool.old pool.new }
+    ensures some { IfOk result (λ x. 1 ≤ length x.0.items) }
     ensures within { IfOk result (λ x. AllBelow (length pool.new) x.0.items) }
     ensures inside { IfOk result (λ x. x.1 ≤ length tokens.now.items.items) }
     ensures further { IfOk result (λ x. at < x.1) }
@@ -77,6 +78,7 @@ pub fn read_subscripts(
     requires numbers { NumbersFit tokens.now }
     ensures read { ReadsPart row_at past_row trees_of tokens.now pool.new result ((parts_in tokens.now).subscripts (ahead tokens.now at)) }
     ensures kept { Keeps pool.old pool.new }
+    ensures some { IfOk result (λ x. 1 ≤ length x.0.items) }
     ensures within { IfOk result (λ x. AllBelow (length pool.new) x.0.items) }
     ensures inside { IfOk result (λ x. x.1 ≤ length tokens.now.items.items) }
     ensures further { IfOk result (λ x. at < x.1) }
