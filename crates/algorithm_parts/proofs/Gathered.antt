@@ -50,6 +50,20 @@ pub as_pair : {A B C : Type 0} (o : Out A) (g : A → Reader B) (f : A → B →
 as_pair (Ok x) g f = pair_on x.0 (g x.0 x.1) f
 as_pair (Err s) g f = refl
 
+-- and three
+third_on : {A B C D : Type 0} (a : A) (b : B) (o : Out C) (f : A → B → C → Reader D) → then_read o (f a b) ≡ then_read {A = A × (B × C)} (then_read o (λ c. gives (a, (b, c)))) (λ z. f z.0 z.1.0 z.1.1)
+third_on a b (Ok x) f = refl
+third_on a b (Err s) f = refl
+
+second_on : {A B C D : Type 0} (a : A) (o : Out B) (h : B → Reader C) (f : A → B → C → Reader D) → then_read o (λ b. h b >>= f a b) ≡ then_read {A = A × (B × C)} (then_read o (λ b. h b >>= λ c. gives (a, (b, c)))) (λ z. f z.0 z.1.0 z.1.1)
+second_on a (Ok x) h f = third_on a x.0 (h x.0 x.1) f
+second_on a (Err s) h f = refl
+
+pub as_triple : {A B C D : Type 0} (o : Out A) (g : A → Reader B) (h : A → B → Reader C) (f : A → B → C → Reader D)
+    → then_read o (λ a. g a >>= λ b. h a b >>= f a b) ≡ then_read {A = A × (B × C)} (then_read o (λ a. g a >>= λ b. h a b >>= λ c. gives (a, (b, c)))) (λ z. f z.0 z.1.0 z.1.1)
+as_triple (Ok x) g h f = second_on x.0 (g x.0 x.1) (h x.0) f
+as_triple (Err s) g h f = refl
+
 -- a list that a reader reads with so many steps, from one token on: up to another these members were read, each in a step
 pub record SoFar {A T : Type 0} (read : ℕ → Reader A) (listed : A → List T) (v : Tokens) (all from i : ℕ) (done : List T) : Type 0 where
   pub steps : ℕ

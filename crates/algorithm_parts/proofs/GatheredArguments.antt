@@ -1,5 +1,5 @@
 -- The brackets around arguments, and where the last one is missing.
-use Rattle.std.proofs.Common.{◌≡◌, List, true, false, Ok, Err, refl, sym, ap, subst, ◌∙◌, ℕ}
+use Rattle.std.proofs.Common.{◌≡◌, List, true, false, Ok, refl, sym, ap, subst, ◌∙◌, ℕ}
 use Rattle.tla_token.specs.declared.place.Place.{Place}
 use Rattle.tla_token.specs.declared.token.Tokens.{Tokens}
 use Rattle.tla_tree.specs.Lexical.{TokenView, Token}

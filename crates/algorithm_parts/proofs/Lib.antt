@@ -40,4 +40,10 @@ pub mod OneAfter
 pub mod Gathered
 pub mod GatheredNames
 pub mod GatheredVariables
+pub mod Expressions
+pub mod GatheredDefinitions
+pub mod GatheredBinds
+pub mod LeftSides
+pub mod GatheredAssignments
+pub mod SimpleParts
 pub mod GatheredArguments

@@ -5,3 +5,4 @@ pub mod ReadAround
 pub mod ReadRoutines
 pub mod Owners
 pub mod PartsRead
+pub mod SimpleRead

@@ -3,6 +3,7 @@
 ghost use Rattle.std.specs.Prelude.{◌≡◌, ◌≤◌, IfOk, length};
 ghost use Rattle.tla_tree.specs.Pool.{Keeps};
 ghost use Rattle.expression_parts.specs.Ahead.{ahead};
+ghost use Rattle.tla_expr.specs.Numbers.{NumbersFit};
 ghost use Rattle.pcal_tree.specs.GrammarParts.{arguments_of};
 ghost use Rattle.algorithm_parts.specs.ReadSimple.{read_arguments as arguments_reader};
 ghost use Rattle.algorithm_parts.specs.PartsRead.{ReadsPart, parts_in, row_at, past_row};
@@ -27,7 +28,8 @@ pub fn read_arguments(
     pool: &mut Pool,
     at: usize,
 ) -> Result<(Vec<NodeId>, usize), Halt>
-    requires { at ≤ length tokens.now.items.items }
+    requires there { at ≤ length tokens.now.items.items }
+    requires numbers { NumbersFit tokens.now }
     ensures read { ReadsPart row_at past_row arguments_of tokens.now pool.new result (arguments_reader (parts_in tokens.now) (ahead tokens.now at)) }
     ensures kept { Keeps pool.old pool.new }
     ensures inside { IfOk result (λ x. x.1 ≤ length tokens.now.items.items) }

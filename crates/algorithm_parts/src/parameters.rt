@@ -3,6 +3,7 @@
 ghost use Rattle.std.specs.Prelude.{◌≡◌, ℕ, ◌<◌, ◌≤◌, IfOk, length};
 ghost use Rattle.tla_tree.specs.Pool.{Keeps};
 ghost use Rattle.expression_parts.specs.Ahead.{ahead};
+ghost use Rattle.tla_expr.specs.Numbers.{NumbersFit};
 ghost use Rattle.pcal_tree.specs.GrammarParts.{parameters_of, procedure_declarations};
 ghost use Rattle.algorithm_parts.specs.ReadParts.{read_parameters as parameters_reader, read_procedure_parameters as procedure_parameters_reader};
 ghost use Rattle.algorithm_parts.specs.PartsRead.{ReadsPart, parts_in, Enough, all_declared_at, past_all_declared};
@@ -27,7 +28,8 @@ pub fn read_parameters(
     pool: &mut Pool,
     at: usize,
 ) -> Result<(Vec<Declaration>, usize), Halt>
-    requires { at ≤ length tokens.now.items.items }
+    requires there { at ≤ length tokens.now.items.items }
+    requires numbers { NumbersFit tokens.now }
     ensures read { (n : ℕ) → Enough tokens.now at n → ReadsPart all_declared_at past_all_declared parameters_of tokens.now pool.new result (parameters_reader (parts_in tokens.now) n (ahead tokens.now at)) }
     ensures kept { Keeps pool.old pool.new }
     ensures inside { IfOk result (λ x. x.1 ≤ length tokens.now.items.items) }
@@ -56,7 +58,8 @@ pub fn read_procedure_parameters(
     pool: &mut Pool,
     at: usize,
 ) -> Result<(Vec<Declaration>, usize), Halt>
-    requires { at ≤ length tokens.now.items.items }
+    requires there { at ≤ length tokens.now.items.items }
+    requires numbers { NumbersFit tokens.now }
     ensures read { (n : ℕ) → Enough tokens.now at n → ReadsPart all_declared_at past_all_declared procedure_declarations tokens.now pool.new result (procedure_parameters_reader (parts_in tokens.now) n (ahead tokens.now at)) }
     ensures kept { Keeps pool.old pool.new }
     ensures inside { IfOk result (λ x. x.1 ≤ length tokens.now.items.items) }

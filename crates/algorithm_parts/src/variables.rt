@@ -3,6 +3,7 @@
 ghost use Rattle.std.specs.Prelude.{◌≡◌, ℕ, ◌<◌, ◌≤◌, IfOk, length};
 ghost use Rattle.tla_tree.specs.Pool.{Keeps};
 ghost use Rattle.expression_parts.specs.Ahead.{ahead};
+ghost use Rattle.tla_expr.specs.Numbers.{NumbersFit};
 ghost use Rattle.pcal_tree.specs.InMemory.{start_at, past_start, declaration_at, past_declaration};
 ghost use Rattle.pcal_tree.specs.GrammarParts.{start_of, declarations, declared};
 ghost use Rattle.algorithm_parts.specs.ReadParts.{read_initial as initial_reader, read_variables as variables_reader, read_section as section_reader};
@@ -30,7 +31,8 @@ pub fn read_initial(
     at: usize,
     among: bool,
 ) -> Result<(Start, usize), Halt>
-    requires { at ≤ length tokens.now.items.items }
+    requires there { at ≤ length tokens.now.items.items }
+    requires numbers { NumbersFit tokens.now }
     ensures read { ReadsPart start_at past_start start_of tokens.now pool.new result (initial_reader among (parts_in tokens.now) (ahead tokens.now at)) }
     ensures kept { Keeps pool.old pool.new }
     ensures inside { IfOk result (λ x. x.1 ≤ length tokens.now.items.items) }
@@ -61,7 +63,8 @@ pub fn read_declaration(
     at: usize,
     among: bool,
 ) -> Result<(Declaration, usize), Halt>
-    requires { at ≤ length tokens.now.items.items }
+    requires there { at ≤ length tokens.now.items.items }
+    requires numbers { NumbersFit tokens.now }
     ensures read { ReadsPart declaration_at past_declaration first_declared tokens.now pool.new result (declaration_reader among (parts_in tokens.now) (ahead tokens.now at)) }
     ensures kept { Keeps pool.old pool.new }
     ensures inside { IfOk result (λ x. x.1 ≤ length tokens.now.items.items) }
@@ -84,7 +87,8 @@ pub fn read_variables(
     at: usize,
     among: bool,
 ) -> Result<(Vec<Declaration>, usize), Halt>
-    requires { at ≤ length tokens.now.items.items }
+    requires there { at ≤ length tokens.now.items.items }
+    requires numbers { NumbersFit tokens.now }
     ensures read { (n : ℕ) → Enough tokens.now at n → ReadsPart all_declared_at past_all_declared declarations tokens.now pool.new result (variables_reader among (parts_in tokens.now) n (ahead tokens.now at)) }
     ensures kept { Keeps pool.old pool.new }
     ensures inside { IfOk result (λ x. x.1 ≤ length tokens.now.items.items) }
@@ -115,7 +119,8 @@ pub fn read_section(
     at: usize,
     among: bool,
 ) -> Result<(Vec<Declaration>, usize), Halt>
-    requires { at ≤ length tokens.now.items.items }
+    requires there { at ≤ length tokens.now.items.items }
+    requires numbers { NumbersFit tokens.now }
     ensures read { (n : ℕ) → Enough tokens.now at n → ReadsPart all_declared_at past_all_declared declared tokens.now pool.new result (section_reader among (parts_in tokens.now) n (ahead tokens.now at)) }
     ensures kept { Keeps pool.old pool.new }
     ensures inside { IfOk result (λ x. x.1 ≤ length tokens.now.items.items) }

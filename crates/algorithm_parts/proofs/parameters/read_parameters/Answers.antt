@@ -14,9 +14,9 @@ use Rattle.algorithm_parts.proofs.parameters.read_parameters.Goals as goal
 pub loop-list-init : goal.loop-list-init
 loop-list-init c =
     record {
-      in_pool = none_in_pool (parameters_reader (parts_in c.args.tokens.now)) parameters_of declaration_at past_declaration c.args.tokens.now c.args.pool.now c.args.at c.new-list.result.items c.new-list.ensures.items c.requires;
+      in_pool = none_in_pool (parameters_reader (parts_in c.args.tokens.now)) parameters_of declaration_at past_declaration c.args.tokens.now c.args.pool.now c.args.at c.new-list.result.items c.new-list.ensures.items c.requires.there;
       kept = record { longer = omega arith; same = λ i h. refl };
-      inside = c.requires;
+      inside = c.requires.there;
       further = omega arith;
     }
 
