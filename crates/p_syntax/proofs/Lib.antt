@@ -19,3 +19,13 @@ pub mod Stops
 pub mod StopsWithin
 pub mod ClosingAll
 pub mod ResumedText
+pub mod InLists
+pub mod Ends
+pub mod Between
+pub mod Grows
+pub mod Steps
+pub mod SimpleSound
+pub mod Closed
+pub mod Endings
+pub mod NextStatement
+pub mod AfterStatement

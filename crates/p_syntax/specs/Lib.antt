@@ -1,3 +1,4 @@
 pub mod ReadStatements
 pub mod ReadAlgorithm
 pub mod Resume
+pub mod StatesRead
