@@ -47,3 +47,5 @@ pub mod LeftSides
 pub mod GatheredAssignments
 pub mod SimpleParts
 pub mod GatheredArguments
+pub mod Between
+pub mod StatementSteps

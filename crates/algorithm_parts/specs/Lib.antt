@@ -6,3 +6,4 @@ pub mod ReadRoutines
 pub mod Owners
 pub mod PartsRead
 pub mod SimpleRead
+pub mod StatementsRead

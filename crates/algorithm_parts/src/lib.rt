@@ -13,3 +13,4 @@ pub mod parameters;
 pub mod simple;
 pub mod token_step;
 pub mod variables;
+pub mod words;

@@ -24,3 +24,11 @@ pub mod WithinAlgorithm
 pub mod StopsWithin
 pub mod ClosingAll
 pub mod ResumedText
+pub mod InLists
+pub mod Lasts
+pub mod EndsOne
+pub mod Ending
+pub mod Taking
+pub mod Steps
+pub mod NextStatement
+pub mod OrAfter

@@ -1,3 +1,6 @@
 pub mod ReadStatements
 pub mod ReadAlgorithm
 pub mod Resume
+pub mod StatesRead
+pub mod Closes
+pub mod Takes

@@ -2,3 +2,8 @@
 #![tactic(auto)]
 
 pub mod laws;
+pub mod close;
+pub mod open;
+pub mod opening;
+pub mod statements;
+pub mod take;
