@@ -170,11 +170,11 @@ either_ended ts a (in_either (later_arm t c s p) st) g before all_of last list s
     let ends : last ≡ last_place (statement whole []) = k ∙ sym (last_of_either t c s p a) in
     let starts : g.first ≡ first_place (statement whole []) = h.0.first ∙ sym (first_of_arms t c x) in
     let all : branches_at ts all_of.items ≡ arms_tree t (tree.or (flat c tree.done) (branch_trees x)) =
-      ap (branches_at ts) m ∙ in_branches-all ts (before.items ++ list ∷ []) ∙ in_branches-append ts before.items (list ∷ []) tree.no_branches ∙ h.1.tree (tree.or (statements_at ts list.items) tree.no_branches)
-      ∙ (λ j. arms_tree t (tree.or (flat c tree.done) (tree.or (all_of_list l j) tree.no_branches))) in
+    ap (branches_at ts) m ∙ in_branches-all ts (before.items ++ list ∷ []) ∙ in_branches-append ts before.items (list ∷ []) tree.no_branches ∙ h.1.tree (tree.or (statements_at ts list.items) tree.no_branches)
+    ∙ (λ j. arms_tree t (tree.or (flat c tree.done) (tree.or (all_of_list l j) tree.no_branches))) in
     one_more_stands ts g.list.items ss (stmt.Either span' all_of) (up_to ls st) (past_one (joined t c x) st) h.0.list q
     (omega (arith, past_either span' all_of, ap past_branches m, past_one_more (λ (b : Vec Stmt Global). past_statements b.items) before.items list, h.1.below, l.below))
     (λ rest. ap (up_to ls st) (λ j. either_at ts span' all_of j rest)
-      ∙ (λ j. up_to ls st (tree.then (record { first = starts j; last = ends j }) (tree.either (all j)) rest))
-      ∙ ap (up_to ls st) (sym (flat_of_arms t c x rest))
-      ∙ ap (λ (b : Labelled). past_one b st rest) (sym (joined_is t c x)))
+    ∙ (λ j. up_to ls st (tree.then (record { first = starts j; last = ends j }) (tree.either (all j)) rest))
+    ∙ ap (up_to ls st) (sym (flat_of_arms t c x rest))
+    ∙ ap (λ (b : Labelled). past_one b st rest) (sym (joined_is t c x)))

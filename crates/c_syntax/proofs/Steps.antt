@@ -51,7 +51,8 @@ module _ (ts us : List Tree) (k : Keeps ts us) where
   frame_kept (frame.While g e) (in_body ls (while_opening p q x r) st) h = (record { list = list_kept ts us k g.list.items _ h.0.list; first = h.0.first }, omega (arith, h.1, k.longer), k.same e h.1 ∙ h.2)
   frame_kept (frame.Either g bs) (in_either t st) h = (
     record { list = list_kept ts us k g.list.items _ h.0.list; first = h.0.first },
-    record { below = omega (arith, h.1.below, k.longer); first = h.1.first; tree = λ rest. in_branches-kept ts us k bs.items rest h.1.below ∙ h.1.tree rest })
+    record { below = omega (arith, h.1.below, k.longer); first = h.1.first; tree = λ rest. in_branches-kept ts us k bs.items rest h.1.below ∙ h.1.tree rest },
+  )
   frame_kept _ _ h = absurd h
 
   open_kept : (o : Open) (st : Stack) → OpenStands ts o st → OpenStands us o st

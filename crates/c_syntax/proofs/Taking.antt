@@ -103,11 +103,15 @@ else_taken_by ts s t under g e d o p a (in_then ls (if_test u x y r) st) q l i k
       record {
         list = record { below = omega (arith, ap past_statements l); tree = λ rest. ap (λ (xs : List Stmt). in_list ts xs rest) l };
         stack = (
-          under, record { frame = frame.Else g e s.list; depth = d }, k,
+          under,
+          record { frame = frame.Else g e s.list; depth = d },
+          k,
           record { frame = (b.0.frame.0, b.0.frame.1, b.0.frame.2, record { below = h.list.below; tree = h.list.tree }); depth = b.0.depth },
-          b.1);
+          b.1,
+        );
         depth = m ∙ h.depth;
-      })
+      },
+    )
 
 -- ---- an `or`
 pub or_taken_by : (ts : List Tree) (s t : State) (under : List Open) (g : Begun) (before branches : Vec (Vec Stmt Global) Global) (d : ℕ) (o : Option Place) (p : Place) (a : Labelled) (st : Stack) → s.stack.items ≡ under ++ record { frame = frame.Either g before; depth = d } ∷ []
@@ -125,7 +129,9 @@ or_taken_by ts s t under g before branches d o p a (in_either x st) q z l i k m 
       record {
         list = record { below = omega (arith, ap past_statements l); tree = λ rest. ap (λ (xs : List Stmt). in_list ts xs rest) l };
         stack = (
-          under, record { frame = frame.Either g branches; depth = d }, k,
+          under,
+          record { frame = frame.Either g branches; depth = d },
+          k,
           record {
             frame = (
               record { list = b.0.frame.0.list; first = b.0.frame.0.first },
@@ -133,12 +139,15 @@ or_taken_by ts s t under g before branches d o p a (in_either x st) q z l i k m 
                 below = omega (arith, ap past_branches z, past_one_more (λ (y : Vec Stmt Global). past_statements y.items) before.items s.list, bs.below, h.list.below);
                 first = ap is_none z ∙ some_after before.items s.list;
                 tree = λ rest. ap (λ (ys : List (Vec Stmt Global)). in_branches ts ys rest) z ∙ in_branches-append ts before.items (s.list ∷ []) rest ∙ bs.tree (tree.or (statements_at ts s.list.items) rest) ∙ (λ j. arms_tree x (tree.or (all_of_list h.list j) rest));
-              });
+              },
+            );
             depth = b.0.depth;
           },
-          b.1);
+          b.1,
+        );
         depth = m ∙ h.depth;
-      })
+      },
+    )
   where
     some_after : (xs : List (Vec Stmt Global)) (y : Vec Stmt Global) → is_none (xs ++ y ∷ []) ≡ false
     some_after [] y = refl
@@ -174,4 +183,5 @@ brace_taken_by ts s t d o p a (in_block ls w b st) q l i m h =
         list = record { below = subst (λ (xs : Vec Stmt Global). past_statements xs.items ≤ length ts) (sym l) h.list.below; tree = λ rest. ap (λ (xs : Vec Stmt Global). in_list ts xs.items rest) l ∙ h.list.tree rest ∙ sym (ap (λ (z : Statements). inner st (with_labels ls z)) (flat_before b (last_statement a o) rest)) };
         stack = x.1;
         depth = m ∙ x.0.depth;
-      })
+      },
+    )

@@ -1,8 +1,8 @@
 //! Algorithms in C-syntax, read from tokens.
 #![tactic(auto)]
 
-pub mod laws;
 pub mod close;
+pub mod laws;
 pub mod open;
 pub mod opening;
 pub mod statements;

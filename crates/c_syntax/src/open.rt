@@ -106,12 +106,7 @@ pub fn start(alloc: Global) -> State
 /// # Errors
 ///
 /// For want of memory.
-pub fn opened(
-    alloc: Global,
-    stack: Vec<Open>,
-    top: Open,
-    depth: usize,
-) -> Result<State, AllocError>
+pub fn opened(alloc: Global, stack: Vec<Open>, top: Open, depth: usize) -> Result<State, AllocError>
     ensures list { IfOk result (λ s. s.list.items ≡ []) }
     ensures point { IfOk result (λ s. s.point ≡ point.Begins) }
     ensures stack { IfOk result (λ s. s.stack.items ≡ stack.items ++ top ∷ []) }

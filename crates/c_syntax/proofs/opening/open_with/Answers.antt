@@ -54,7 +54,7 @@ returns-in_err-end-clause-read c n ls st enough h =
     let opens_it : Place → Binds → Place → Stack = λ q bs r. in_body ls (with_opening (first (ahead v c.args.at)).place q bs r) st in
     let reads : Reader Turn = bracketed (read_binds (parts_in v) n (depth st)) (λ q bs r. opens (opens_it q bs r)) in
     rw (p.1, p.2) (subst (λ (us : List Token). Fails e (reads us)) (ahead_tail v c.args.at)
-        (fails_then e (a_mark tk.open_bracket (ahead v (c.args.at + 1))) (λ q. read_binds (parts_in v) n (depth st) >>= λ bs. a_mark tk.close_bracket >>= λ r. gives (opens (opens_it q bs r))) c.in_err-end.ensures.value))
+    (fails_then e (a_mark tk.open_bracket (ahead v (c.args.at + 1))) (λ q. read_binds (parts_in v) n (depth st) >>= λ bs. a_mark tk.close_bracket >>= λ r. gives (opens (opens_it q bs r))) c.in_err-end.ensures.value))
 
 pub returns-in_err-binds-clause-read : goal.returns-in_err-binds-clause-read
 returns-in_err-binds-clause-read c n ls st enough h =
@@ -64,10 +64,10 @@ returns-in_err-binds-clause-read c n ls st enough h =
     let opens_it : Place → Binds → Place → Stack = λ q bs r. in_body ls (with_opening (first (ahead v c.args.at)).place q bs r) st in
     let reads : Reader Turn = bracketed (read_binds (parts_in v) n (depth st)) (λ q bs r. opens (opens_it q bs r)) in
     let fails : Fails e (read_binds (parts_in v) n (depth st) (ahead v c.in_ok-end.end)) =
-      subst (λ d. Fails e (read_binds (parts_in v) n d (ahead v c.in_ok-end.end))) h.depth (c.in_err-binds.ensures.read n (omega (arith, enough, c.in_ok-end.ensures.further))) in
+    subst (λ d. Fails e (read_binds (parts_in v) n d (ahead v c.in_ok-end.end))) h.depth (c.in_err-binds.ensures.read n (omega (arith, enough, c.in_ok-end.ensures.further))) in
     rw (p.1, p.2) (subst (λ (us : List Token). Fails e (reads us)) (ahead_tail v c.args.at)
-        (fails_on e (a_mark tk.open_bracket (ahead v (c.args.at + 1))) (λ q. read_binds (parts_in v) n (depth st) >>= λ bs. a_mark tk.close_bracket >>= λ r. gives (opens (opens_it q bs r))) _ _ c.in_ok-end.ensures.value
-          (fails_then e (read_binds (parts_in v) n (depth st) (ahead v c.in_ok-end.end)) (λ bs. a_mark tk.close_bracket >>= λ r. gives (opens (opens_it c.in_ok-end.field-0-0 bs r))) fails)))
+    (fails_on e (a_mark tk.open_bracket (ahead v (c.args.at + 1))) (λ q. read_binds (parts_in v) n (depth st) >>= λ bs. a_mark tk.close_bracket >>= λ r. gives (opens (opens_it q bs r))) _ _ c.in_ok-end.ensures.value
+    (fails_then e (read_binds (parts_in v) n (depth st) (ahead v c.in_ok-end.end)) (λ bs. a_mark tk.close_bracket >>= λ r. gives (opens (opens_it c.in_ok-end.field-0-0 bs r))) fails)))
 
 pub returns-in_err-end-2-clause-read : goal.returns-in_err-end-2-clause-read
 returns-in_err-end-2-clause-read c n ls st enough h =
@@ -79,6 +79,6 @@ returns-in_err-end-2-clause-read c n ls st enough h =
     let read = c.in_ok-binds.ensures.read n (omega (arith, enough, c.in_ok-end.ensures.further)) in
     let start = ap (λ d. read_binds (parts_in v) n d (ahead v c.in_ok-end.end)) (sym h.depth) in
     rw (p.1, p.2) (subst (λ (us : List Token). Fails e (reads us)) (ahead_tail v c.args.at)
-        (fails_on e (a_mark tk.open_bracket (ahead v (c.args.at + 1))) (λ q. read_binds (parts_in v) n (depth st) >>= λ bs. a_mark tk.close_bracket >>= λ r. gives (opens (opens_it q bs r))) _ _ c.in_ok-end.ensures.value
-          (fails_on e (read_binds (parts_in v) n (depth st) (ahead v c.in_ok-end.end)) (λ bs. a_mark tk.close_bracket >>= λ r. gives (opens (opens_it c.in_ok-end.field-0-0 bs r))) _ _ (start ∙ read.is)
-            (fails_then e (a_mark tk.close_bracket (ahead v c.in_ok-binds.end)) (λ r. gives (opens (opens_it c.in_ok-end.field-0-0 read.what r))) c.in_err-end-2.ensures.value))))
+    (fails_on e (a_mark tk.open_bracket (ahead v (c.args.at + 1))) (λ q. read_binds (parts_in v) n (depth st) >>= λ bs. a_mark tk.close_bracket >>= λ r. gives (opens (opens_it q bs r))) _ _ c.in_ok-end.ensures.value
+    (fails_on e (read_binds (parts_in v) n (depth st) (ahead v c.in_ok-end.end)) (λ bs. a_mark tk.close_bracket >>= λ r. gives (opens (opens_it c.in_ok-end.field-0-0 bs r))) _ _ (start ∙ read.is)
+    (fails_then e (a_mark tk.close_bracket (ahead v c.in_ok-binds.end)) (λ r. gives (opens (opens_it c.in_ok-end.field-0-0 read.what r))) c.in_err-end-2.ensures.value))))
