@@ -1,7 +1,6 @@
 -- The tokens between two numbers of tokens: where the first and the last of them are.
-use Rattle.std.proofs.Common.{◌≡◌, ℕ, suc, ◌+◌, ◌-◌, ◌<◌, ◌≤◌, List, [], ◌∷◌, ◌++◌, length, map, drop, drop-drop, length-append, length-drop, refl, sym, ap, ◌∙◌, arith}
+use Rattle.std.proofs.Common.{◌≡◌, ℕ, ◌+◌, ◌-◌, ◌<◌, ◌≤◌, List, [], ◌∷◌, ◌++◌, length, map, drop, drop-drop, length-append, length-drop, refl, sym, ap, ◌∙◌, arith}
 use Rattle.std.proofs.lemmas.List.{drop-map, length-map}
-use Rattle.tla_token.specs.declared.place.Place.{Place}
 use Rattle.tla_token.specs.declared.token.Tokens.{Tokens}
 use Rattle.tla_token.specs.declared.token.Token as code_token
 use Rattle.tla_token.specs.TokensSeen.{token_seen}
@@ -18,7 +17,7 @@ last_first x (y ∷ xs) ys = last_first y xs ys
 ahead_on : (v : Tokens) (i k : ℕ) → drop k (ahead v i) ≡ ahead v (i + k)
 ahead_on v i k = (let see : code_token.Token → Token = λ t. view (token_seen v.bytes.items t) in drop-map see k (drop i v.items.items) ∙ ap (map see) (drop-drop k i v.items.items))
 
-ahead_length : (v : Tokens) (i : ℕ) → i ≤ length v.items.items → length (ahead v i) + i ≡ length v.items.items
+pub ahead_length : (v : Tokens) (i : ℕ) → i ≤ length v.items.items → length (ahead v i) + i ≡ length v.items.items
 ahead_length v i h = (let see : code_token.Token → Token = λ t. view (token_seen v.bytes.items t) in omega (arith, h, length-map (drop i v.items.items) see, length-drop i v.items.items))
 
 pub between : (v : Tokens) (i j : ℕ) (xs : List Token) → i < j → j ≤ length v.items.items → ahead v i ≡ xs ++ ahead v j → ((first (ahead v i)).place ≡ first_place xs) × ((first (ahead v (j - 1))).place ≡ last_place xs)

@@ -9,8 +9,9 @@ use Rattle.tla_tree.specs.Lexical as tk
 use Rattle.tla_tree.specs.Spelling.{Right, field_token}
 use Rattle.tla_tree.specs.Reader.{Stop, Reader, ◌>>=◌, gives, refuses, if_fits, skip, took, tail, next, peek, is_mark, place_if, word_of, field_of}
 use Rattle.tla_tree.proofs.SpellAhead.{Ahead, held, put_ahead, then_ahead}
-use Rattle.tla_tree.proofs.Mended.{left_is, broken, gives_err, right_after, mark_err, field_err, word_err, some_field, an_x}
-use Rattle.tla_tree.proofs.Mended as mended
+use Rattle.tla_tree.proofs.Mended.{left_is, broken, gives_err, right_after, mark_err, field_err, word_err, some_field}
+use Rattle.tla_tree.specs.Wanted.{an_x}
+use Rattle.tla_tree.specs.Wanted as wanted
 use Rattle.tla_tree.proofs.SoundTokens as edge
 use Rattle.tla_tree.specs.Reader as expression
 use Rattle.pcal_tree.specs.GrammarParts.{name, key, mark, word}
@@ -193,8 +194,8 @@ part_mark_right m = record {
   sound = sound_mark_right m;
   ahead = λ p u. put_ahead held;
   mends = record {
-    fill = record { whole = mended.after 0; good = right_after 0; fix = mark (mended.after 0) m []; tokens = λ v. refl };
-    is = λ ts u e. record { whole = mended.after 0; good = right_after 0; rule = took_rule (place_if (is_mark m) (next 0 ts).place (next 0 ts).kind) ts u e; read = []; fix = mark (mended.after 0) m []; parts = mark_err 0 m ts u e; tokens = λ v. refl };
+    fill = record { whole = wanted.after 0; good = right_after 0; fix = mark (wanted.after 0) m []; tokens = λ v. refl };
+    is = λ ts u e. record { whole = wanted.after 0; good = right_after 0; rule = took_rule (place_if (is_mark m) (next 0 ts).place (next 0 ts).kind) ts u e; read = []; fix = mark (wanted.after 0) m []; parts = mark_err 0 m ts u e; tokens = λ v. refl };
   };
 }
 
@@ -213,7 +214,7 @@ part_word_right = record {
   sound = sound_word_right;
   ahead = λ x u. put_ahead held;
   mends = record {
-    fill = record { whole = (mended.after 0, an_x); good = right_after 0; fix = word (mended.after 0) an_x []; tokens = λ v. refl };
-    is = λ ts u e. record { whole = (mended.after 0, an_x); good = right_after 0; rule = took_rule (word_of (next 0 ts).place (next 0 ts).kind) ts u e; read = []; fix = word (mended.after 0) an_x []; parts = word_err 0 ts u e; tokens = λ v. refl };
+    fill = record { whole = (wanted.after 0, an_x); good = right_after 0; fix = word (wanted.after 0) an_x []; tokens = λ v. refl };
+    is = λ ts u e. record { whole = (wanted.after 0, an_x); good = right_after 0; rule = took_rule (word_of (next 0 ts).place (next 0 ts).kind) ts u e; read = []; fix = word (wanted.after 0) an_x []; parts = word_err 0 ts u e; tokens = λ v. refl };
   };
 }

@@ -11,8 +11,9 @@ use Rattle.tla_tree.specs.Nesting.{counts_all}
 use Rattle.tla_tree.specs.Reader.{Reader, word_of, field_of, a_word, a_field}
 use Rattle.tla_tree.specs.Reader as expression
 use Rattle.tla_tree.specs.FirstStop.{Open}
-use Rattle.tla_tree.proofs.Mended.{right_after, mark_err, field_err, word_err, some_field, an_x}
-use Rattle.tla_tree.proofs.Mended as mended
+use Rattle.tla_tree.proofs.Mended.{right_after, mark_err, field_err, word_err, some_field}
+use Rattle.tla_tree.specs.Wanted.{an_x}
+use Rattle.tla_tree.specs.Wanted as wanted
 use Rattle.tla_tree.proofs.SpellAhead.{Ahead, held, put_ahead, then_ahead, ahead}
 use Rattle.pcal_tree.specs.GrammarParts.{name, mark, word, no_arguments, some_arguments, arguments, GoodArguments, Assignments, last_assignment, assignment, assignments, GoodAssignments, simple_tokens, GoodSimple}
 use Rattle.pcal_tree.specs.GrammarParts as g
@@ -38,10 +39,10 @@ field_part : (d : ℕ) (y : List Open) → Sits d y → Part (λ f. Right 0 f.pl
 field_part d y s = right_part (nought d) sound_field_right (λ f. put_ahead held) (beside_take (nought d) s.is field_of field_other) (some_field 0) (right_after 0) (field_token (some_field 0) []) refl (λ v. refl) (λ ts u e. field_err 0 ts u e)
 
 word_part : (d : ℕ) (y : List Open) → Sits d y → Part (λ (x : Place × Word). Right 0 x.0) (λ x. word x.0 x.1) y (λ x. y ++ here d) (a_word 0)
-word_part d y s = right_part (nought d) sound_word_right (λ x. put_ahead held) (beside_take (nought d) s.is word_of word_other) (mended.after 0, an_x) (right_after 0) (word (mended.after 0) an_x []) refl (λ v. refl) (λ ts u e. word_err 0 ts u e)
+word_part d y s = right_part (nought d) sound_word_right (λ x. put_ahead held) (beside_take (nought d) s.is word_of word_other) (wanted.after 0, an_x) (right_after 0) (word (wanted.after 0) an_x []) refl (λ v. refl) (λ ts u e. word_err 0 ts u e)
 
 square_part : (d : ℕ) (y : List Open) → Sits d y → Part (Right 0) (λ p. mark p tk.close_square) y (λ p. y ++ one d ∷ []) (expression.a_mark 0 tk.close_square)
-square_part d y s = right_part (one d) (sound_mark_right tk.close_square) (λ p. put_ahead held) (beside_mark_right (one d) s.is tk.close_square) (mended.after 0) (right_after 0) (mark (mended.after 0) tk.close_square []) refl (λ v. refl) (λ ts u e. mark_err 0 tk.close_square ts u e)
+square_part d y s = right_part (one d) (sound_mark_right tk.close_square) (λ p. put_ahead held) (beside_mark_right (one d) s.is tk.close_square) (wanted.after 0) (right_after 0) (mark (wanted.after 0) tk.close_square []) refl (λ v. refl) (λ ts u e. mark_err 0 tk.close_square ts u e)
 
 -- ---- (a, b) of a call
 pub call_part : (e d : ℕ) (y : List Open) → Sits d y → Part GoodArguments arguments y (λ xs. y ++ arguments_open d xs) (read_arguments (limited_parts e))

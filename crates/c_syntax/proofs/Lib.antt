@@ -2,6 +2,7 @@ mod Rows
 mod RowsForms
 mod RowsClosing
 mod RowsLimit
+mod RowsAfter
 pub mod SoundStatements
 pub mod SoundAlgorithm
 pub mod Lengths
@@ -32,3 +33,7 @@ pub mod Taking
 pub mod Steps
 pub mod NextStatement
 pub mod OrAfter
+pub mod AfterStatement
+pub mod Sequences
+pub mod MainBlock
+pub mod Texts

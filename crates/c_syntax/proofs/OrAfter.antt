@@ -89,9 +89,9 @@ or_at_bottom ts os st e x = x.same ∙ at_bottom x.under x.stands
     at_bottom (in_body ls o v) h = absurd (none_open ts os h.0 h.1 h.2 e)
     at_bottom (in_either t v) h = absurd (none_open ts os h.0 h.1 h.2 e)
 
-pub none_from : (o : Option Bool) → ((b : Bool) → o ≡ Some b → ⊥) → o ≡ None
+pub none_from : {A : Type 0} (o : Option A) → ((a : A) → o ≡ Some a → ⊥) → o ≡ None
 none_from None h = refl
-none_from (Some b) h = absurd (h b refl)
+none_from (Some a) h = absurd (h a refl)
 
 pub none_in : (os : List Open) → length os ≡ 0 → os ≡ []
 none_in [] e = refl

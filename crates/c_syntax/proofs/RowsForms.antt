@@ -13,7 +13,9 @@ use Rattle.pcal_tree.specs.GrammarParts as part
 use Rattle.pcal_tree.specs.GrammarC.{labelled, Sequence, simple, last_statement}
 use Rattle.pcal_tree.specs.Grammar.{Text, spell}
 use Rattle.pcal_tree.specs.Grammar as g
+use Rattle.algorithm_parts.specs.TokenReaders.{parts_of}
 use Rattle.c_syntax.specs.ReadAlgorithm.{read_algorithm}
+use Rattle.c_syntax.specs.Around.{frames}
 
 abbrev at : Place
 at = record { line = 1; col = 1 }
@@ -140,3 +142,10 @@ two_bodies = refl
 not_closed : IsRefusedAfter (inside ++ mark tk.open_brace ∷ key (codes "skip") ∷ mark tk.close_brace ∷ mark tk.semicolon ∷ []) []
 unfolding readers
 not_closed = refl
+
+-- braces are around the parts
+opened : (frames (parts_of (readers 0 None))).opening (token at (tk.mark tk.open_brace) ∷ []) ≡ Ok (at, [])
+opened = refl
+
+closed : (frames (parts_of (readers 0 None))).closing at (token at (tk.mark tk.close_brace) ∷ []) ≡ Ok (g.in_braces at at, [])
+closed = refl

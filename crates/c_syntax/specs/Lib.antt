@@ -4,3 +4,5 @@ pub mod Resume
 pub mod StatesRead
 pub mod Closes
 pub mod Takes
+pub mod AfterRead
+pub mod Around

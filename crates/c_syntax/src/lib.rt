@@ -1,9 +1,13 @@
 //! Algorithms in C-syntax, read from tokens.
 #![tactic(auto)]
 
+pub mod after;
+pub mod algorithm;
 pub mod close;
 pub mod laws;
 pub mod open;
 pub mod opening;
+pub mod sequence;
 pub mod statements;
 pub mod take;
+pub mod ways;

@@ -1,4 +1,4 @@
--- A file of the form has it with its translation too, and is translated to itself then.
+-- A file that suits the form's parts does so with their translation too, and is translated to itself then; and its algorithm's tokens are of the same kinds.
 use Rattle.std.proofs.Common.{◌≡◌, ℕ, ◌+◌, List, [], ◌∷◌, ◌++◌, length, map, take, drop, IsTrue, refl, sym, ap, subst, ◌∙◌}
 use Rattle.std.proofs.lemmas.Option.{same_Some}
 use Rattle.tla_token.specs.declared.place.Place.{Place}
@@ -19,8 +19,9 @@ use Rattle.module_tree.proofs.FineKept.{fine_kept}
 use Rattle.first_path.specs.Beside.{Beside}
 use Rattle.first_path.specs.Form.{Parts, suits, algorithm_kinds, IsForm}
 use Rattle.first_path.specs.Placed.{region_of, translation_of}
+use Rattle.first_path.specs.TreeForm.{IsFitted}
 use Rattle.first_path.proofs.BesideKept.{beside_kept}
-use Rattle.first_path.proofs.Placing.{placed, inside, kept}
+use Rattle.first_path.proofs.Placing.{of_form, placed, inside, kept}
 
 -- ---- the kinds of tokens are those of their pieces
 
@@ -42,25 +43,38 @@ same_kinds x w a b s =
     ∙ ap (λ (ks : List Kind). name b.opening ∷ ks) (kinds_anywhere (place_at w m) (place_at x n) m n (pieces (map (λ p. p.1) a.rest.parts)))
     ∙ ap (λ (o : Text). name o ∷ map (λ t. t.kind) (tokens_of (place_at x n) n (pieces (map (λ p. p.1) a.rest.parts)))) (sym s.opening)
 
+-- ---- what is around the algorithm
+
+pub fitted_again : (x : List ℕ) (f : Parts) → IsFitted x f → IsFitted (translation_of x f) f
+fitted_again x f h =
+    let t = layout (region_of f) in
+    let w = translation_of x f in
+    let k = kept x f h in
+    record {
+      fine = fine_kept x t w h.fine (inside f h.fit) (placed x f h);
+      titled = k.title ∙ h.titled;
+      fit = h.fit;
+      suited = subst (λ (o : Beside). IsTrue (suits o f)) (sym (beside_kept x t w k)) h.suited;
+    }
+
 -- ---- the form
 
 pub form_again : (x : List ℕ) (f : Parts) → IsForm x f → IsForm (translation_of x f) f
 form_again x f h =
-    let t = layout (region_of f) in
     let w = translation_of x f in
-    let i = inside f h.fit in
-    let k = kept x f h in
-    let a = algorithm_kept x t w h.algorithm h.fine i (placed x f h) h.is_algorithm in
+    let own = of_form x f h in
+    let again = fitted_again x f own in
+    let a = algorithm_kept x (layout (region_of f)) w h.algorithm h.fine (inside f h.fit) (placed x f own) h.is_algorithm in
     record {
-      fine = fine_kept x t w h.fine i (placed x f h);
+      fine = again.fine;
       algorithm = a.0;
       is_algorithm = a.1;
-      titled = k.title ∙ h.titled;
+      titled = again.titled;
       declared_by = h.declared_by;
       is_declared = h.is_declared;
       kinds_are = same_kinds x w h.algorithm a.0 a.2 ∙ h.kinds_are;
-      fit = h.fit;
-      suited = subst (λ (o : Beside). IsTrue (suits o f)) (sym (beside_kept x t w k)) h.suited;
+      fit = again.fit;
+      suited = again.suited;
     }
 
 -- ---- the text
@@ -70,10 +84,10 @@ one_text x t w v a b =
     let same = same_Some a.at b.at (sym a.is_spot ∙ b.is_spot) in
     a.is ∙ ap (λ (s : Span). take s.from x ++ (begin_line ++ (t ++ (end_line ++ (line_end_if_new x ++ drop s.to x))))) same ∙ sym b.is
 
-pub text_again : (x : List ℕ) (f : Parts) → IsForm x f → translation_of (translation_of x f) f ≡ translation_of x f
+pub text_again : (x : List ℕ) (f : Parts) → IsFitted x f → translation_of (translation_of x f) f ≡ translation_of x f
 text_again x f h =
     let t = layout (region_of f) in
     let w = translation_of x f in
     let i = inside f h.fit in
-    let again = put_again x t w t (translation_of w f) h.fine i i (placed x f h) (placed w f (form_again x f h)) in
+    let again = put_again x t w t (translation_of w f) h.fine i i (placed x f h) (placed w f (fitted_again x f h)) in
     one_text x t (translation_of w f) w again (placed x f h)

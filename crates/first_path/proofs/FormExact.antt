@@ -16,15 +16,15 @@ use Rattle.first_path.proofs.Fit.{Fit, fit_of}
 use Rattle.first_path.proofs.FormKinds.{so, word_stands, Standing, parts_stand, parts_read, closing_kinds}
 use Rattle.first_path.proofs.FormFine.{small_kind, fine, spared}
 
-some_on : {A B : Type 0} (o : Option A) (go : A → Option B) (r : B) → on_some o go ≡ Some r → (a : A) × (o ≡ Some a) × (go a ≡ Some r)
+pub some_on : {A B : Type 0} (o : Option A) (go : A → Option B) (r : B) → on_some o go ≡ Some r → (a : A) × (o ≡ Some a) × (go a ≡ Some r)
 some_on (Some a) go r e = (a, refl, e)
 some_on None go r e = absurd cc
 
-none_wrong : {A : Type 0} (os : List Offence) (o : Option A) (r : A) → if_none os o ≡ Some r → (os ≡ []) × (o ≡ Some r)
+pub none_wrong : {A : Type 0} (os : List Offence) (o : Option A) (r : A) → if_none os o ≡ Some r → (os ≡ []) × (o ≡ Some r)
 none_wrong [] o r e = (refl, e)
 none_wrong (p ∷ os) o r e = absurd cc
 
-some_is : {A : Type 0} {x y : A} → Some x ≡ Some y → x ≡ y
+pub some_is : {A : Type 0} {x y : A} → Some x ≡ Some y → x ≡ y
 some_is e = cc
 
 -- the kinds of the form have small numbers

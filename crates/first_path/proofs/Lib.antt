@@ -23,5 +23,12 @@ pub mod MeansStep
 pub mod MeansNext
 pub mod MeansInit
 pub mod Promise
+pub mod TreeParts
+pub mod TreeBare
+pub mod TreesMoved
+pub mod AlgorithmsMoved
+pub mod SpelledInFile
+pub mod TreeForms
 pub mod Witness
 mod RowsForm
+mod RowsTree

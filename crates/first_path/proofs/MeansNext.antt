@@ -29,7 +29,7 @@ use Rattle.module_tree.specs.Module.{found}
 use Rattle.module_tree.specs.ModuleTruth.{definitions_in, acts_in, scope, next_holds}
 use Rattle.module_tree.proofs.Tells.{tells_and, tells_or, tells_as, tells_of}
 use Rattle.first_path.specs.Form.{number_operand, variable_operand, Right, single, sum, Parts, is_fit}
-use Rattle.first_path.specs.Placed.{Places, right_tree, right_at, label_at, algorithm_at, module_at}
+use Rattle.first_path.specs.Placed.{Places, right_at, label_at, algorithm_at, module_at}
 use Rattle.promise.specs.ConstantsAndStates.{on_variables}
 use Rattle.promise.specs.NextAndInit.{NextIs}
 use Rattle.first_path.proofs.Names.{all_more, word_same}
@@ -192,7 +192,7 @@ module _ (ds : List Definition) (p : Places) (f : Parts) (names : Naming) (value
       let course = subst (λ c. Has c (Ok v)) (course_is ds p f names values s h u) has in
       (there_stands ds p f names values s k there, by (result f.right (s f.variable)) refl course)
     where
-      by : (o : Option Value) → result f.right (s f.variable) ≡ o → Has (course_for (p 12) f s o) (Ok v) → Moved f s t × (t pc ≡ text (codes "Done"))
+      by : (o : Option Value) → result f.right (s f.variable) ≡ o → Has (course_for (p 7) f s o) (Ok v) → Moved f s t × (t pc ≡ text (codes "Done"))
       by None e d = absurd cc
       by (Some x) e d =
           let is = ok_is d in
@@ -209,7 +209,7 @@ module _ (ds : List Definition) (p : Places) (f : Parts) (names : Naming) (value
       (actor p f, stand p f, is_actor ds p f names values, (stands_there ds p f names values s k at, (ended f s x, has, agree)))
     where
       has : Has (course_of program (actor p f) (stand p f) s) (Ok (ended f s x))
-      has = subst (λ c. Has c (Ok (ended f s x))) (sym (course_is ds p f names values s h u ∙ ap (course_for (p 12) f s) e)) refl
+      has = subst (λ c. Has c (Ok (ended f s x))) (sym (course_is ds p f names values s h u ∙ ap (course_for (p 7) f s) e)) refl
 
       agree : Agree (vars program) (ended f s x) t
       agree = (ended_variable f s x h ∙ sym d, (ended_pc f s x ∙ sym g, tt))
@@ -221,9 +221,9 @@ module _ (ds : List Definition) (p : Places) (f : Parts) (names : Naming) (value
       by : (o : Option Value) → result f.right (s f.variable) ≡ o → Good f s
       by (Some x) e = (x, e)
       by None e =
-          let course = course_is ds p f names values s h u ∙ ap (course_for (p 12) f s) e in
-          let stops = subst (λ c. Has c (Err (fault NotInteger (p 12)))) (sym course) refl in
-          absurd (sound.1 (actor p f) (fault NotInteger (p 12)) (is_actor ds p f names values)
+          let course = course_is ds p f names values s h u ∙ ap (course_for (p 7) f s) e in
+          let stops = subst (λ c. Has c (Err (fault NotInteger (p 7)))) (sym course) refl in
+          absurd (sound.1 (actor p f) (fault NotInteger (p 7)) (is_actor ds p f names values)
           (inr (stand p f, stands_there ds p f names values s k at, stops)))
 
   still_over : (s t : State) → Stutters program s t → Over f s t
@@ -276,17 +276,17 @@ next_of o p q f names values h k a s t sound =
 
 -- ---- with the written names
 
-right_bound : (v : Word) (r : Right) (p q : Place) → lists_in (right_tree v r p q) ≡ []
-right_bound v (single (number_operand n)) p q = refl
-right_bound v (single variable_operand) p q = refl
-right_bound v (sum (number_operand n) (number_operand m)) p q = refl
-right_bound v (sum (number_operand n) variable_operand) p q = refl
-right_bound v (sum variable_operand (number_operand m)) p q = refl
-right_bound v (sum variable_operand variable_operand) p q = refl
+right_bound : (v : Word) (r : Right) (p q s : Place) → lists_in (right_at v r p q s) ≡ []
+right_bound v (single (number_operand n)) p q s = refl
+right_bound v (single variable_operand) p q s = refl
+right_bound v (sum (number_operand n) (number_operand m)) p q s = refl
+right_bound v (sum (number_operand n) variable_operand) p q s = refl
+right_bound v (sum variable_operand (number_operand m)) p q s = refl
+right_bound v (sum variable_operand variable_operand) p q s = refl
 
 -- beside what is outside the label is chosen apart from the variable alone
 kept_are : (p : Places) (f : Parts) → kept (algorithm_at p f) ≡ f.variable ∷ []
-kept_are p f = rw (right_bound f.variable f.right (p 12) (p 14)) refl
+kept_are p f = rw (right_bound f.variable f.right (p 7) (p 8) (p 9)) refl
 
 -- words that differ, the other way round
 differ_back : (v w : Word) → bytes_eq v w ≡ false → bytes_eq w v ≡ false

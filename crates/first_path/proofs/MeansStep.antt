@@ -2,14 +2,14 @@
 use Rattle.std.proofs.Common.{◌≡◌, List, [], ◌∷◌, ◌++◌, Bool, true, false, ◌||◌, cond, Option, Some, None, codes, bytes_eq, refl, sym, ap, ◌∙◌, subst, inl, inr, Ok}
 use Rattle.tla_token.specs.declared.place.Place.{Place}
 use Rattle.tla_token.proofs.Spelled.{same_bytes}
-use Rattle.tla_tree.specs.Tree.{Word, name}
+use Rattle.tla_tree.specs.Tree.{Word}
 use Rattle.tla_value.specs.declared.fault.FaultKind.TheVariants.{NotInteger}
 use Rattle.tla_value.specs.Value.{Value, text, Outcome, fault, ◌>>=◌}
 use Rattle.tla_value.proofs.Outcomes.{ok_is}
 use Rattle.tla_value.specs.Stops.{plain}
 use Rattle.tla_value.specs.Meaning.{eval}
 use Rattle.tla_value.specs.Definitions.{Valuation, Definition, no_state, or_sense, base, in_states}
-use Rattle.pcal_tree.specs.Algorithm.{Naming, Routine, Statements, assign, done, then, no_assignments, assignment, alone_routine, mark}
+use Rattle.pcal_tree.specs.Algorithm.{Naming, Routine, Statements, assign, done, then, alone_routine, mark}
 use Rattle.pcal_tree.specs.declared.mark.Mark.TheVariants.{Plain}
 use Rattle.pcal_tree.specs.Scope.{State, put, Part}
 use Rattle.pcal_tree.specs.Run.{Course, ends, stops, after}
@@ -19,7 +19,7 @@ use Rattle.pcal_tree.specs.Program.{Program, Actor, globals_on, global_env, rout
 use Rattle.pcal_tree.specs.Calls.{label_value, jumped, finished}
 use Rattle.pcal_tree.specs.Step.{Stand, StandsAt, course_of}
 use Rattle.first_path.specs.Form.{Parts}
-use Rattle.first_path.specs.Placed.{Places, word_at, leaf, right_tree, statement_span, algorithm_at}
+use Rattle.first_path.specs.Placed.{Places, word_at, right_at, statement_span, assignment_at, algorithm_at}
 use Rattle.first_path.proofs.Names.{word_same}
 use Rattle.first_path.proofs.Fit.{Fit, not_own}
 use Rattle.first_path.proofs.Untitled.{Untitled, looked_through, untitled_append}
@@ -33,10 +33,10 @@ program_of ds p f names values = record { check = plain; constants = values; out
 
 abbrev pub after_label : Places → Parts → Statements
 after_label p f =
-    then (statement_span p f.right) (assign (assignment (leaf (name f.variable) (p 10)) (right_tree f.variable f.right (p 12) (p 14)) no_assignments)) done
+    then (statement_span p) (assign (assignment_at p f)) done
 
 abbrev pub body : Places → Parts → Statements
-body p f = mark (word_at f.label (p 8)) Plain (after_label p f)
+body p f = mark (word_at f.label (p 3)) Plain (after_label p f)
 
 abbrev pub routine : Places → Parts → Routine
 routine p f = alone_routine (algorithm_at p f) (body p f)
@@ -84,7 +84,7 @@ course_for at f s None = stops (fault NotInteger at)
 -- the statement, and then the jump
 steps : List Definition → Places → Parts → Naming → Valuation → State → Outcome Part → Outcome Value → Course
 steps ds p f names values s g o =
-    after ((g >>= (λ t. o >>= (λ v. Ok (record { place = p 10; part = t; value = v } ∷ [])))) >>= (λ all. set_all plain all s))
+    after ((g >>= (λ t. o >>= (λ v. Ok (record { place = p 6; part = t; value = v } ∷ [])))) >>= (λ all. set_all plain all s))
     (λ u. finished (jumped (program_of ds p f names values) (actor p f) (routine p f) (codes "Done") u))
 
 module _ (ds : List Definition) (p : Places) (f : Parts) (names : Naming) (values : Valuation) where
@@ -134,7 +134,7 @@ module _ (ds : List Definition) (p : Places) (f : Parts) (names : Naming) (value
       ∙ rw (word_same f.variable) refl
 
   steps_are : (s : State) (o : Option Value)
-      → steps ds p f names values s (Ok (record { variable = f.variable; path = [] })) (outcome (p 12) o) ≡ course_for (p 12) f s o
+      → steps ds p f names values s (Ok (record { variable = f.variable; path = [] })) (outcome (p 7) o) ≡ course_for (p 7) f s o
   unfolding steps
   steps_are s (Some x) = refl
   steps_are s None = refl
@@ -144,13 +144,13 @@ module _ (ds : List Definition) (p : Places) (f : Parts) (names : Naming) (value
 
   course_steps : (s : State) → course_of program (actor p f) (stand p f) s
       ≡ steps ds p f names values s (part_of program (actor p f) (routine p f) f.variable)
-      (eval plain (right_tree f.variable f.right (p 12) (p 14)) ((routine_scope program (actor p f) (routine p f)).env s)).value
+      (eval plain (right_at f.variable f.right (p 7) (p 8) (p 9)) ((routine_scope program (actor p f) (routine p f)).env s)).value
   unfolding steps
   course_steps s = refl
 
-  pub course_is : (s : State) → Fit f → Untitled f.variable ds → course_of program (actor p f) (stand p f) s ≡ course_for (p 12) f s (result f.right (s f.variable))
+  pub course_is : (s : State) → Fit f → Untitled f.variable ds → course_of program (actor p f) (stand p f) s ≡ course_for (p 7) f s (result f.right (s f.variable))
   course_is s h u =
       let env = (routine_scope program (actor p f) (routine p f)).env s in
       course_steps s
-      ∙ (λ i. steps ds p f names values s (part_is i) (right_evaluates f.variable (s f.variable) env (reads_state s h u) f.right (p 12) (p 12) (p 14) i))
+      ∙ (λ i. steps ds p f names values s (part_is i) (right_evaluates f.variable (s f.variable) env (reads_state s h u) f.right (p 7) (p 8) (p 9) i))
       ∙ steps_are s (result f.right (s f.variable))

@@ -1,15 +1,15 @@
 -- Names as bytes, and lists of names.
-use Rattle.std.proofs.Common.{◌≡◌, ℕ, Bool, true, false, List, [], ◌∷◌, ◌++◌, refl, ◌∙◌}
+use Rattle.std.proofs.Common.{◌≡◌, ℕ, Bool, true, false, List, [], ◌∷◌, refl}
 use Rattle.std.specs.List.{list_all, list_any}
 use Rattle.std.specs.Str.{bytes_eq}
 use Rattle.std.proofs.lemmas.Slice.Eq.{bytes_eq-Decides}
-use Rattle.std.proofs.lemmas.List.Folds.{list_all-append}
 use Rattle.std.proofs.lemmas.Bool.{and_parts, and_from, false_from_ne_true, both_ways}
 use Rattle.tla_token.specs.Lexemes.{is_word, is_letter}
 use Rattle.tla_token.specs.Signs.{is_among}
 use Rattle.tla_token.proofs.Spelled.{same_bytes}
 use Rattle.tla_tree.specs.Tree.{Word}
 use Rattle.first_path.specs.Form.{is_name}
+pub use Rattle.module_tree.proofs.FineFiles.{all_more}
 
 -- ---- names
 
@@ -25,9 +25,6 @@ every p q c [] h = refl
 every p q c (b ∷ w) h = (let k = and_parts (p b) (list_all p w) h in and_from (q b) (list_all q w) (c b k.0) (every p q c w k.1))
 
 -- ---- lists of names
-
-pub all_more : {A : Type 0} (p : A → Bool) (xs ys : List A) → list_all p xs ≡ true → list_all p ys ≡ true → list_all p (xs ++ ys) ≡ true
-all_more p xs ys h k = list_all-append p xs ys ∙ and_from (list_all p xs) (list_all p ys) h k
 
 -- one that is among them isn't one that isn't
 pub not_among : (vs : List Word) (w u : Word) → is_among vs w ≡ false → is_among vs u ≡ true → bytes_eq u w ≡ false

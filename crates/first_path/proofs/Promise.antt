@@ -8,27 +8,28 @@ use Rattle.tla_token.specs.Offences.{Offence, earlier, least}
 use Rattle.first_path.specs.Form.{Parts, IsForm}
 use Rattle.module_tree.specs.FileOffences.{splitting_offences}
 use Rattle.first_path.specs.FormRead.{file_form, offences_with, form_offences, FirstOffence, left_out}
-use Rattle.first_path.specs.Placed.{module_at, translation_of}
+use Rattle.first_path.specs.Placed.{Places, algorithm_at, module_at, translation_of}
+use Rattle.first_path.specs.TreeForm.{IsFitted}
 use Rattle.promise.specs.Options.{no_options}
-use Rattle.promise.specs.Headline.{Headline}
+use Rattle.promise.specs.Headline.{Headline, Stands}
 use Rattle.first_path.specs.Written.{Written}
 use Rattle.first_path.proofs.FormExact.{form_found}
 use Rattle.first_path.proofs.FormFine.{spared}
 use Rattle.first_path.proofs.Stands.{stands}
 use Rattle.first_path.proofs.AlgorithmAlone.{algorithm_alone}
-use Rattle.first_path.proofs.Placing.{around}
+use Rattle.first_path.proofs.Placing.{of_form, around}
 use Rattle.first_path.proofs.ReadsModule.{is_read}
 use Rattle.module_tree.proofs.OneModule.{one_module}
 use Rattle.first_path.proofs.MeansNext.{next_is}
 use Rattle.first_path.proofs.MeansInit.{init_is}
 
-pub promise : (x : List ℕ) (f : Parts) → IsForm x f → Headline no_options x (translation_of x f)
-promise x f h =
-    let s = stands x f h in
+-- where the file suits the parts, and their algorithm is in it
+pub promise_of : (x : List ℕ) (f : Parts) (p : Places) → IsFitted x f → Stands x (algorithm_at p f) → Headline no_options x (translation_of x f)
+promise_of x f p h s =
     let r = is_read x f h in
     record {
-      algorithm = _;
-      stands = s.1;
+      algorithm = algorithm_at p f;
+      stands = s;
       translates = record {
         module_of = module_at r.outside r.places f;
         around = around x r.outside r.places f h;
@@ -37,10 +38,13 @@ promise x f h =
         variables = refl;
         vars = refl;
         definitions = refl;
-        next = next_is r.outside s.0 r.places f h.fit r.apart;
-        init = init_is r.outside s.0 r.places f h.fit r.apart;
+        next = next_is r.outside p r.places f h.fit r.apart;
+        init = init_is r.outside p r.places f h.fit r.apart;
       };
     }
+
+pub promise : (x : List ℕ) (f : Parts) → IsForm x f → Headline no_options x (translation_of x f)
+promise x f h = (let s = stands x f h in promise_of x f s.0 (of_form x f h) s.1)
 
 pub written : (x : List ℕ) (f : Parts) → file_form x ≡ Some f → Written x (translation_of x f)
 written x f h =

@@ -10,8 +10,9 @@ use Rattle.module_tree.specs.Module.{Module}
 use Rattle.module_tree.specs.Reading.{Reads}
 use Rattle.module_tree.proofs.SomeOutside.{some_outside}
 use Rattle.module_tree.proofs.WrittenRegion.{written_file}
-use Rattle.first_path.specs.Form.{Parts, suits, IsForm}
+use Rattle.first_path.specs.Form.{Parts, suits}
 use Rattle.first_path.specs.Placed.{Places, region_at, region_of, module_at, translation_of}
+use Rattle.first_path.specs.TreeForm.{IsFitted}
 use Rattle.first_path.specs.Beside.{Beside}
 use Rattle.first_path.proofs.WritableForm.{written_region}
 use Rattle.first_path.proofs.RegionPlaces.{in_places}
@@ -28,7 +29,7 @@ pub record IsRead (x : Text) (f : Parts) : Type 0 where
   pub apart : Apart outside f
 
 -- of what the file reads as
-pub apart_read : (x : List ℕ) (f : Parts) → IsForm x f → (m : Module) → Reads (translation_of x f) m → Apart m.outside f
+pub apart_read : (x : List ℕ) (f : Parts) → IsFitted x f → (m : Module) → Reads (translation_of x f) m → Apart m.outside f
 apart_read x f h m r =
     let w = translation_of x f in
     module_apart w m f r (subst (λ (o : Beside). IsTrue (suits o f)) (sym (beside_kept x (layout (region_of f)) w (kept x f h))) h.suited)
@@ -38,7 +39,7 @@ the_module : (w : Text) (m : Module) (f : Parts) (q : Places) → m.title ≡ f.
 the_module w m f q e r h = (let same : m ≡ module_at m.outside q f = λ i. record { title = e i; outside = m.outside; region = r i } in subst (λ (m : Module). Reads w m) same h)
 
 -- as each translation that can be written
-pub is_read : (x : List ℕ) (f : Parts) → IsForm x f → IsRead x f
+pub is_read : (x : List ℕ) (f : Parts) → IsFitted x f → IsRead x f
 is_read x f h =
     let w = translation_of x f in
     let o = some_outside (walk x) in
@@ -53,5 +54,5 @@ is_read x f h =
       apart = apart_read x f h m is.is.reads;
     }
 
-pub reads : (x : List ℕ) (f : Parts) → IsForm x f → (o : Outside) × (q : Places) × Reads (translation_of x f) (module_at o q f)
+pub reads : (x : List ℕ) (f : Parts) → IsFitted x f → (o : Outside) × (q : Places) × Reads (translation_of x f) (module_at o q f)
 reads x f h = (let r = is_read x f h in (r.outside, r.places, r.reads))

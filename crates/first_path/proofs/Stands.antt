@@ -73,7 +73,7 @@ laid x f h =
 pub stands : (x : List ℕ) (f : Parts) → IsForm x f → (p : Places) × Stands x (algorithm_at p f)
 stands x f h =
     let l = laid x f h in (
-      spelling.places l.tokens,
+      spelling.of_parts (spelling.places l.tokens) f.right,
       record {
         text = l.text;
         is_text = l.is_text;

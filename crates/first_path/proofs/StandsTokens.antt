@@ -145,6 +145,15 @@ form_text p b f = record {
       (Some (p (semicolon_at f.right))));
 }
 
+-- the number of the right side's last token
+abbrev last_at : Right → ℕ
+last_at (single a) = 12
+last_at (sum a b) = 14
+
+-- the places of the algorithm's parts by those of its tokens
+abbrev pub of_parts : Places → Right → Places
+of_parts p r = nth (p 1 ∷ p 3 ∷ p 5 ∷ p 8 ∷ p 10 ∷ p (last_at r) ∷ p 10 ∷ p 12 ∷ p 12 ∷ p 14 ∷ [])
+
 -- all places are right of column 0
 abbrev pub AllRight : Places → Type 0
 AllRight p = (n : ℕ) → spelled.Right 0 (p n)
@@ -165,7 +174,7 @@ form_good p b f h = (tt, h 5, tt, tt, tt, (refl, h 10, right_good f.variable f.r
 
 form_tree : (p : Places) (b : Bool) (m a v : Word) (n : ℕ) (l : Word) (r : Right)
     → (let f : Parts = record { title = m; algorithm = a; variable = v; initial = n; label = l; right = r } in
-    algorithm_of (form_text p b f) ≡ algorithm_at p f)
+    algorithm_of (form_text p b f) ≡ algorithm_at (of_parts p r) f)
 form_tree p b m a v n l (single (number_operand i)) = refl
 form_tree p b m a v n l (single variable_operand) = refl
 form_tree p b m a v n l (sum (number_operand i) (number_operand j)) = refl
@@ -197,12 +206,12 @@ spells p b f ts a v l e =
     reserved false = refl
     reserved true = refl
 
-form_algorithm : (p : Places) (b : Bool) (f : Parts) → algorithm_of (form_text p b f) ≡ algorithm_at p f
+form_algorithm : (p : Places) (b : Bool) (f : Parts) → algorithm_of (form_text p b f) ≡ algorithm_at (of_parts p f.right) f
 form_algorithm p b f = form_tree p b f.title f.algorithm f.variable f.initial f.label f.right
 
 -- and so they spell its algorithm
 pub spells_algorithm : (p : Places) (b : Bool) (f : Parts) (ts : List text.Token) → AllRight p → views ts ≡ spell (form_text p b f) []
-    → SpellsP ts (algorithm_at p f)
+    → SpellsP ts (algorithm_at (of_parts p f.right) f)
 spells_algorithm p b f ts right e = (form_text p b f, form_good p b f right, e, form_algorithm p b f)
 
 -- ---- columns

@@ -8,7 +8,7 @@ use Rattle.tla_tree.specs.Tree.{Word, Tree, node, no_trees, number, string, name
 use Rattle.tla_tree.specs.Tree as tree
 use Rattle.tla_value.specs.Outside.{Outside}
 use Rattle.pcal_tree.specs.declared.mark.Mark.TheVariants.{Plain}
-use Rattle.pcal_tree.specs.Algorithm.{Name, Algorithm, Span, assign, done, then, mark, no_assignments, assignment, equals, alone}
+use Rattle.pcal_tree.specs.Algorithm.{Name, Algorithm, Span, Assignments, assign, done, then, mark, no_assignments, assignment, equals, alone}
 use Rattle.module_tree.specs.Module.{test, setting, no_items, item, call, one_way, all_of, Action, Region, Module}
 use Rattle.module_tree.specs.Layout.{layout}
 use Rattle.module_tree.specs.Walk.{walk}
@@ -16,7 +16,7 @@ use Rattle.module_tree.specs.FileParts.{Span as Stretch, spot}
 use Rattle.module_tree.specs.WithTranslation.{begin_line, end_line, line_end_if_new}
 use Rattle.first_path.specs.Form.{Operand, number_operand, variable_operand, Right, single, sum, Parts}
 
--- a place for each token, by its number
+-- a place for each part, by its number
 abbrev pub Places : Type 0
 Places = ℕ → Place
 
@@ -35,7 +35,7 @@ abbrev pub right_at : Word → Right → Place → Place → Place → Tree
 right_at v (single a) p q r = operand_tree v a p
 right_at v (sum a b) p q r = infix_of Plus p (operand_tree v a q) (operand_tree v b r)
 
--- p and q: the places of the first and of the second operand; a sum begins with its first
+-- a sum begins with its first operand
 abbrev pub right_tree : Word → Right → Place → Place → Tree
 right_tree v r p q = right_at v r p p q
 
@@ -44,20 +44,23 @@ right_tree v r p q = right_at v r p p q
 abbrev pub word_at : Word → Place → Name
 word_at w p = record { word = w; place = p }
 
-abbrev pub statement_span : Places → Right → Span
-statement_span p (single a) = record { first = p 10; last = p 12 }
-statement_span p (sum a b) = record { first = p 10; last = p 14 }
+abbrev pub statement_span : Places → Span
+statement_span p = record { first = p 4; last = p 5 }
 
--- `--algorithm` is its first token
+-- the one assignment, its left side at 6, and then its right side
+abbrev pub assignment_at : Places → Parts → Assignments
+assignment_at p f = assignment (leaf (name f.variable) (p 6)) (right_at f.variable f.right (p 7) (p 8) (p 9)) no_assignments
+
+-- in places that rest on no syntax: brackets may be around each expression
 abbrev pub algorithm_at : Places → Parts → Algorithm
 algorithm_at p f = record {
-  name = word_at f.algorithm (p 1);
+  name = word_at f.algorithm (p 0);
   fair = false;
-  globals = record { name = word_at f.variable (p 3); start = equals (leaf (number f.initial) (p 5)) } ∷ [];
+  globals = record { name = word_at f.variable (p 1); start = equals (leaf (number f.initial) (p 2)) } ∷ [];
   definitions = [];
   macros = [];
   procedures = [];
-  main = alone (mark (word_at f.label (p 8)) Plain (then (statement_span p f.right) (assign (assignment (leaf (name f.variable) (p 10)) (right_tree f.variable f.right (p 12) (p 14)) no_assignments)) done));
+  main = alone (mark (word_at f.label (p 3)) Plain (then (statement_span p) (assign (assignment_at p f)) done));
 }
 
 -- ---- the translation

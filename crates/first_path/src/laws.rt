@@ -4,15 +4,23 @@ ghost use Rattle.std.specs.Prelude.{◌≡◌, ◌⊎◌, ℕ, List, [], Some};
 ghost use Rattle.tla_token.specs.declared.rule.Refusal.{Refusal};
 ghost use Rattle.tla_token.specs.Offences.{Offence, least};
 ghost use Rattle.tla_token.specs.declared.place.Place.{Place};
+ghost use Rattle.tla_tree.specs.Tree.{Word};
 ghost use Rattle.tla_value.specs.Outside.{Outside};
 ghost use Rattle.tla_value.specs.declared.fault.FaultKind.{FaultKind};
 ghost use Rattle.pcal_tree.specs.Algorithm.{Algorithm};
+ghost use Rattle.pcal_tree.specs.Grammar.{Syntax, Spells};
+ghost use Rattle.pcal_tree.specs.Placeless.{placeless};
 ghost use Rattle.pcal_tree.specs.Step.{Step, Stutters};
 ghost use Rattle.pcal_tree.specs.InitialStates.{Initial, InitFault};
 ghost use Rattle.module_tree.specs.Reading.{Reads};
 ghost use Rattle.module_tree.specs.FileOffences.{splitting_offences};
+ghost use Rattle.module_tree.specs.AlgorithmText.{AlgorithmText, algorithm_in, algorithm_tokens};
+ghost use Rattle.module_tree.specs.WithTranslation.{WithTranslation};
+ghost use Rattle.module_tree.specs.laws.Kept.{IsFine};
+ghost use Rattle.module_tree.specs.laws.Walks.{IsInside};
 ghost use Rattle.first_path.specs.Form.{Parts, IsForm};
 ghost use Rattle.first_path.specs.FormRead.{file_form, form_offences, FirstOffence, left_out};
+ghost use Rattle.first_path.specs.TreeForm.{form_of, HasForm, tree_form};
 ghost use Rattle.first_path.specs.Placed.{Places, algorithm_at, module_at, translation_of};
 ghost use Rattle.promise.specs.ConstantsAndStates.{AreConstants, IsState};
 ghost use Rattle.promise.specs.Options.{no_options};
@@ -35,20 +43,43 @@ pub fn offences_are_of_other_texts()
     ensures first { (x : List ℕ) → ((f : Parts) → IsForm x f → ⊥) → splitting_offences x ≡ [] → FirstOffence x left_out }
 {}
 
-/// What is written for a text of the form reads as one module alone, lies around the text, and where no
+/// An algorithm has the form with these parts exactly if it is theirs, in some places; and it has that form wherever its parts are.
+pub fn trees_have_the_form()
+    ensures found { (m : Word) (g : Algorithm) (f : Parts) → form_of m g ≡ Some f → (f.title ≡ m) × (p : Places) × (g ≡ algorithm_at p f) }
+    ensures read { (p : Places) (f : Parts) → form_of f.title (algorithm_at p f) ≡ Some f }
+    ensures anywhere { (m : Word) (g h : Algorithm) → placeless g ≡ placeless h → form_of m g ≡ form_of m h }
+{}
+
+/// A file whose algorithm has the form, by its tree, is found by the algorithm that is in it. Each file with the tokens of the form is one,
+/// with the same parts.
+pub fn files_have_the_form_by_their_trees()
+    ensures found { (x : List ℕ) (g : Algorithm) (f : Parts) → Stands x g → tree_form x g ≡ Some f → HasForm x f }
+    ensures read { (x : List ℕ) (f : Parts) (h : HasForm x f) → tree_form x h.tree ≡ Some f }
+    ensures tokens { (x : List ℕ) (f : Parts) → IsForm x f → HasForm x f }
+{}
+
+/// In a file that breaks no rule up to 10 the algorithm that its tokens spell is in it. With a translation that is put into the file it
+/// is in it too, places aside.
+pub fn translations_keep_algorithms()
+    ensures spelled { (x : List ℕ) (a : AlgorithmText) (s : Syntax) (g : Algorithm) → IsFine x → algorithm_in x ≡ Some a → Spells s (algorithm_tokens x a) g → Stands x g }
+    ensures kept { (x t w : List ℕ) (g : Algorithm) → IsFine x → IsInside t → WithTranslation x t w → Stands x g → (h : Algorithm) × Stands w h × (placeless h ≡ placeless g) }
+{}
+
+/// What is written for a file whose algorithm has the form reads as one module alone, lies around the file, and where no
 /// expression that is reached faults its Next and Init are true exactly of the steps and initial states of the
-/// algorithm that is in the text. This algorithm and this module are those of the form's parts, wherever
-/// their tokens are.
+/// algorithm that is in the file. This algorithm and this module are those of the form's parts, wherever
+/// they are.
 pub fn translations_keep_the_promise()
-    ensures promise { (x : List ℕ) (f : Parts) → IsForm x f → Headline no_options x (translation_of x f) }
-    ensures algorithm { (x : List ℕ) (f : Parts) → IsForm x f → (p : Places) × Stands x (algorithm_at p f) }
-    ensures module { (x : List ℕ) (f : Parts) → IsForm x f → (o : Outside) × (q : Places) × Reads (translation_of x f) (module_at o q f) }
+    ensures promise { (x : List ℕ) (f : Parts) → HasForm x f → Headline no_options x (translation_of x f) }
+    ensures algorithm { (x : List ℕ) (f : Parts) → HasForm x f → (p : Places) × Stands x (algorithm_at p f) }
+    ensures module { (x : List ℕ) (f : Parts) → HasForm x f → (o : Outside) × (q : Places) × Reads (translation_of x f) (module_at o q f) }
 {}
 
 /// The file with its translation has the form too, with the same parts, and translating it again changes nothing.
 pub fn translating_again_changes_nothing()
-    ensures form { (x : List ℕ) (f : Parts) → IsForm x f → IsForm (translation_of x f) f }
-    ensures same { (x : List ℕ) (f : Parts) → IsForm x f → translation_of (translation_of x f) f ≡ translation_of x f }
+    ensures form { (x : List ℕ) (f : Parts) → HasForm x f → HasForm (translation_of x f) f }
+    ensures tokens { (x : List ℕ) (f : Parts) → IsForm x f → IsForm (translation_of x f) f }
+    ensures same { (x : List ℕ) (f : Parts) → HasForm x f → translation_of (translation_of x f) f ≡ translation_of x f }
 {}
 
 /// The premises of the promise can be met, and neither of its sides is empty: the worked module is of the form, and

@@ -70,3 +70,4 @@ pub mod OnlyBeginnings
 pub mod PlacesAlike
 pub mod OptionsSwapped
 pub mod PartsSound
+pub mod FineFiles

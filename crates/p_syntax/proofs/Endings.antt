@@ -21,16 +21,18 @@ use Rattle.algorithm_parts.specs.TokenReaders.{a_key, Parts}
 use Rattle.algorithm_parts.specs.ReadAround.{within}
 use Rattle.algorithm_parts.specs.PartsRead.{StandsFor, parts_in}
 use Rattle.p_syntax.specs.ReadStatements as reader
-use Rattle.p_syntax.specs.ReadStatements.{Before, Stack, bottom, inside, Turn, on, in_then, in_else, in_either, in_with, in_while, first_arm, later_arm, elsif_test, opens, closed_if, closed_either, ends, takes_else, takes_elsif, takes_or, takes_end, depth}
+use Rattle.p_syntax.specs.ReadStatements.{Before, Stack, inside, Turn, in_then, in_else, in_either, in_with, in_while, first_arm, later_arm, elsif_test, opens, closed_if, closed_either, ends, takes_else, takes_elsif, takes_or, takes_end, depth}
 use Rattle.p_syntax.specs.declared.open.Test.{Test}
 use Rattle.p_syntax.specs.declared.open.Frame.{Frame}
 use Rattle.p_syntax.specs.declared.open.Frame.TheVariants as frame
 use Rattle.p_syntax.specs.declared.open.Point.TheVariants as point
 use Rattle.p_syntax.specs.declared.open.State.{State}
 use Rattle.p_syntax.specs.declared.open.Turn.TheVariants as turn
-use Rattle.p_syntax.specs.StatesRead.{so_far, is_none, ThenStands, ElseStands, EitherStands, FrameStands, Stands, TurnStands, list_at, past_list, test_reader}
+use Rattle.p_syntax.specs.StatesRead.{so_far, is_none, ThenStands, ElseStands, EitherStands, FrameStands, Stands, TurnStands, list_at, past_list}
+use Rattle.p_syntax.specs.StepsRead.{test_reader}
 use Rattle.algorithm_parts.proofs.Gathered.{as_pair, fails_then}
-use Rattle.p_syntax.proofs.Steps.{goes_on, opened_stands}
+use Rattle.algorithm_parts.proofs.StatementSteps.{goes_on}
+use Rattle.p_syntax.proofs.Steps.{opened_stands}
 use Rattle.p_syntax.proofs.Closed.{Innermost, else_stands, elsif_stands, or_stands}
 
 -- what a state is that was opened in another one

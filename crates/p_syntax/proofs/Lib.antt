@@ -21,9 +21,12 @@ pub mod ClosingAll
 pub mod ResumedText
 pub mod InLists
 pub mod Ends
-pub mod Between
 pub mod Grows
 pub mod Steps
+pub mod Sequences
+pub mod Bodies
+pub mod MainParts
+pub mod Texts
 pub mod SimpleSound
 pub mod Closed
 pub mod Endings

@@ -22,8 +22,10 @@ use Rattle.algorithm_parts.specs.ReadParts.{read_colon}
 use Rattle.algorithm_parts.specs.ReadAround.{with_label}
 use Rattle.algorithm_parts.specs.ReadSimple.{named_by, simple_words}
 use Rattle.algorithm_parts.specs.SimpleRead.{simple_by}
+use Rattle.algorithm_parts.specs.StatementsRead.{is_label}
 use Rattle.p_syntax.specs.ReadStatements.{Before, Stack, Turn, begin, on, after_name, ends_simple, statement_words, statement_by}
-use Rattle.p_syntax.specs.StatesRead.{StepRead, TurnStands, opens_by, label_step, simple_step, statement_step, is_label}
+use Rattle.p_syntax.specs.StatesRead.{TurnStands}
+use Rattle.p_syntax.specs.StepsRead.{StepRead, opens_by, label_step, simple_step, statement_step}
 
 module _ (m : Parts) (n : ℕ) (b : Before) (ls : Labels) (st : Stack) where
   -- a word that opens a statement

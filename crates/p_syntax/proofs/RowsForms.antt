@@ -1,11 +1,13 @@
 -- Worked rows of reading P-syntax, by computation: the forms that `Rows.antt` leaves out, each once.
-use Rattle.std.proofs.Common.{◌≡◌, refl, ℕ, true, false, List, [], ◌∷◌, Some, None, Ok, codes}
+use Rattle.std.proofs.Common.{◌≡◌, refl, ℕ, true, false, List, [], ◌∷◌, Some, None, Ok, Err, codes}
 use Rattle.tla_token.specs.declared.place.Place.{Place}
+use Rattle.tla_token.specs.declared.rule.Rule.TheVariants as rule
+use Rattle.tla_token.specs.Places.{nowhere}
 use Rattle.tla_tree.specs.declared.op.Op.TheVariants as op
 use Rattle.tla_tree.specs.Tree.{Word, Name}
-use Rattle.tla_tree.specs.Lexical.{Mark, Token, token}
+use Rattle.tla_tree.specs.Lexical.{Token, token}
 use Rattle.tla_tree.specs.Lexical as tk
-use Rattle.tla_tree.specs.Spelling.{Phrase}
+use Rattle.tla_tree.specs.Spelling.{Phrase, tree_of}
 use Rattle.tla_tree.specs.Spelling as spelled
 use Rattle.tla_tree.specs.Reader.{Out, readers}
 use Rattle.pcal_tree.specs.GrammarParts.{Simple, label, no_labels, colon, colon_minus, unset, equals, among, by_semicolon, by_comma, last_variable, variable, no_section, section, last_name, more_names, no_names, some_names, last_parameter, some_parameters, no_parameters, plain, last_definition, last_bind, no_arguments, some_arguments, last_assignment}
@@ -15,7 +17,9 @@ use Rattle.pcal_tree.specs.Grammar.{Text, spell}
 use Rattle.pcal_tree.specs.Grammar as g
 use Rattle.algorithm_parts.specs.TokenReaders.{parts_of}
 use Rattle.p_syntax.specs.ReadStatements.{read_sequence}
+use Rattle.routine_parts.specs.RoutinesRead.{identity_at, past_identity, identity_tree}
 use Rattle.p_syntax.specs.ReadAlgorithm.{read_algorithm}
+use Rattle.p_syntax.specs.Around.{frames, closing}
 
 abbrev at : Place
 at = record { line = 1; col = 1 }
@@ -123,3 +127,20 @@ routines = record {
 routines_read : read_algorithm (spell routines []) ≡ Ok (routines, [])
 unfolding readers
 routines_read = refl
+
+-- ---- which process it is, in memory and as it is spelled: P \in 3
+members : identity_at (tree_of (num 3) ∷ []) (n (codes "P"), true, 0) ≡ identity_tree (g.bare (n (codes "P")) true at (num 3))
+members = refl
+
+members_below : past_identity (n (codes "P"), true, 0) ≡ 1
+members_below = refl
+
+-- ---- nothing opens the parts of an algorithm, and `end algorithm` closes them
+opened : (frames (parts_of (readers 0 None))).opening (key (codes "begin") ∷ []) ≡ Ok (nowhere, key (codes "begin") ∷ [])
+opened = refl
+
+closed : (frames (parts_of (readers 0 None))).closing at (key (codes "end") ∷ key (codes "algorithm") ∷ []) ≡ Ok (g.to_end at at, [])
+closed = refl
+
+not_closed : closing (key (codes "end") ∷ key (codes "process") ∷ []) ≡ Err (rule.Syntax, key (codes "process") ∷ [])
+not_closed = refl

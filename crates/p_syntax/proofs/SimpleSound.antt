@@ -16,7 +16,7 @@ use Rattle.algorithm_parts.proofs.Sound.{Sound, SoundAt, here, sound_refuses, so
 use Rattle.algorithm_parts.proofs.SoundParts.{SoundParts}
 use Rattle.algorithm_parts.proofs.SoundSimple.{named_sound, words_sound}
 use Rattle.algorithm_parts.specs.SimpleRead.{simple_by, simple_reader}
-use Rattle.p_syntax.proofs.Between.{ahead_length}
+use Rattle.algorithm_parts.proofs.Between.{ahead_length}
 use Rattle.p_syntax.proofs.Ends.{simple_puts}
 
 module _ (m : Parts) (h : SoundParts m) where

@@ -1,16 +1,10 @@
 -- Steps in code where a statement comes: what is read, and what is held then.
-use Rattle.std.proofs.Common.{◌≡◌, ℕ, suc, ◌+◌, ◌<◌, ◌≤◌, Bool, true, false, List, [], ◌∷◌, ◌++◌, length, Vec, Global, None, Ok, refl, sym, ap, ◌∙◌, arith}
-use Rattle.std.proofs.lemmas.Bool.{le-leb}
+use Rattle.std.proofs.Common.{◌≡◌, ℕ, ◌+◌, ◌<◌, ◌≤◌, List, [], ◌∷◌, ◌++◌, length, Vec, Global, None, refl, sym, ap, ◌∙◌, arith}
 use Rattle.tla_token.specs.declared.place.Place.{Place}
-use Rattle.tla_token.specs.declared.token.Tokens.{Tokens}
-use Rattle.tla_token.specs.Limits.{deepest_statement}
 use Rattle.tla_tree.specs.Tree.{Tree, Name}
 use Rattle.tla_tree.specs.Pool as pool
-use Rattle.tla_tree.specs.Lexical.{Token}
 use Rattle.tla_tree.specs.Spelling.{Phrase, tree_of}
-use Rattle.tla_tree.specs.Reader.{Out, Reader, then_read, tail, if_fits, skip}
 use Rattle.pcal_tree.specs.declared.mark.Mark.{Mark}
-use Rattle.pcal_tree.specs.declared.mark.Mark.TheVariants as mark
 use Rattle.pcal_tree.specs.declared.algorithm.Span.{Span}
 use Rattle.pcal_tree.specs.declared.algorithm.Simple as declared_simple
 use Rattle.pcal_tree.specs.declared.algorithm.Stmt.{Stmt}
@@ -19,12 +13,13 @@ use Rattle.pcal_tree.specs.Algorithm.{Statements}
 use Rattle.pcal_tree.specs.Algorithm as tree
 use Rattle.pcal_tree.specs.InMemory.{span_of, simple_at, past_simple}
 use Rattle.pcal_tree.proofs.InMemoryEach.{label_at, past_label, simple_in_list_at, past_simple_in_list}
-use Rattle.pcal_tree.specs.GrammarParts.{span, Colon, colon, colon_plus, colon_minus, Labels, no_labels, label, with_labels, Simple, simple_tokens, simple_tree}
+use Rattle.pcal_tree.specs.GrammarParts.{span, Colon, Labels, no_labels, Simple, simple_tokens, simple_tree}
 use Rattle.pcal_tree.specs.GrammarP as p
-use Rattle.algorithm_parts.specs.ReadAround.{with_label, within}
-use Rattle.algorithm_parts.specs.PartsRead.{parts_in, mark_of}
+use Rattle.algorithm_parts.specs.ReadAround.{with_label}
+use Rattle.algorithm_parts.specs.PartsRead.{mark_of}
+use Rattle.algorithm_parts.proofs.StatementSteps.{label_mark}
 use Rattle.p_syntax.specs.ReadStatements as reader
-use Rattle.p_syntax.specs.ReadStatements.{Before, none, bottom, inside, Stack, Tests, if_test, first_arm, in_then, in_either, in_with, in_while, inside_frame, depth}
+use Rattle.p_syntax.specs.ReadStatements.{Before, none, inside, Stack, if_test, first_arm, inside_frame, depth}
 use Rattle.p_syntax.specs.declared.open.Test.{Test}
 use Rattle.p_syntax.specs.declared.open.Frame.{Frame}
 use Rattle.p_syntax.specs.declared.open.Point.TheVariants as point
@@ -32,27 +27,7 @@ use Rattle.p_syntax.specs.declared.open.State.{State}
 use Rattle.p_syntax.specs.StatesRead.{before_tree, so_far, past_one, ListStands, ThenStands, EitherStands, FrameStands, Stands, StateStands}
 use Rattle.p_syntax.proofs.InLists.{one_more_stands}
 
--- ---- readers one after the other
-pub goes_on : {A B : Type 0} (o : Out A) (f : A → Reader B) (a : A) (us : List Token) (q : Out B) → o ≡ Ok (a, us) → f a us ≡ q → then_read o f ≡ q
-goes_on o f a us q e g = ap (λ (z : Out _). then_read z f) e ∙ g
-
-fits_with : {A : Type 0} (b : Bool) → b ≡ true → (r : Reader A) (ts : List Token) → if_fits b r ts ≡ r ts
-fits_with true e r ts = refl
-fits_with false e r ts = (let no : false ≡ true = e in absurd cc)
-
--- where one more form may be open
-pub fits_within : {A : Type 0} (v : Tokens) (d : ℕ) (r : Reader A) (ts : List Token) → d < deepest_statement → within (parts_in v) d r ts ≡ r (tail ts)
-fits_within v d r ts h = fits_with ((parts_in v).room (d + 1)) (le-leb (d + 1) deepest_statement (omega (arith, h))) (skip r) ts
-
 -- ---- labels
-label_mark : (ls : Labels) (x : Name) (c : Colon) (ss : Statements) → with_labels (with_label ls x c) ss ≡ with_labels ls (tree.mark x (mark_of c) ss)
-label_mark no_labels x (colon q) ss = refl
-label_mark no_labels x (colon_plus q r) ss = refl
-label_mark no_labels x (colon_minus q r) ss = refl
-label_mark (label y (colon q) ls) x c ss = ap (tree.mark y mark.Plain) (label_mark ls x c ss)
-label_mark (label y (colon_plus q r) ls) x c ss = ap (tree.mark y mark.Strong) (label_mark ls x c ss)
-label_mark (label y (colon_minus q r) ls) x c ss = ap (tree.mark y mark.LeftOut) (label_mark ls x c ss)
-
 pub label_stands : (ts : List Tree) (s t : State) (b : Before) (ls : Labels) (st : Stack) (x : Name) (m : Mark) (c : Colon) → Stands ts s (so_far b ls) st → m ≡ mark_of c
     → t.list.items ≡ s.list.items ++ stmt.Label x m ∷ [] → t.stack ≡ s.stack → t.point ≡ point.Begins → t.depth ≡ s.depth → StateStands ts t (reader.begin b (with_label ls x c) st)
 label_stands ts s t b ls st x m c h e l k a d = (
@@ -80,7 +55,7 @@ simple_stands ts s t b ls st q x c h w e f l k a d = (
 )
 
 -- ---- statements that open
-nothing_yet : (ts : List Tree) (l : List Stmt) → l ≡ [] → ListStands ts l (so_far none no_labels)
+pub nothing_yet : (ts : List Tree) (l : List Stmt) → l ≡ [] → ListStands ts l (so_far none no_labels)
 nothing_yet ts l e = rw e (record { below = omega arith; tree = λ rest. refl })
 
 pub opened_stands : (ts : List Tree) (s t : State) (b : Before) (ls : Labels) (st : Stack) (f : Frame) (g : reader.Frame) → Stands ts s (so_far b ls) st → FrameStands ts f g

@@ -1,30 +1,19 @@
 -- What code has read of lists of statements, beside the state that the reader of tokens is in: statements in memory, and what stands open.
-use Rattle.std.specs.Prelude.{◌≡◌, ℕ, ◌+◌, ◌<◌, ◌≤◌, max, Bool, true, false, List, [], ◌∷◌, ◌++◌, length, map, Vec, Option, Some, None, Result, ◌&&◌, is_some, codes}
+use Rattle.std.specs.Prelude.{◌≡◌, ℕ, ◌+◌, ◌<◌, ◌≤◌, max, Bool, true, false, List, [], ◌∷◌, ◌++◌, length, map, Vec, Option, Some, None}
 use Rattle.std.specs.declared.alloc.Global.{Global}
 use Rattle.tla_token.specs.declared.place.Place.{Place}
-use Rattle.tla_token.specs.declared.token.Tokens.{Tokens}
-use Rattle.tla_tree.specs.Tree.{Word, Tree}
-use Rattle.tla_tree.specs.Lexical.{Token}
-use Rattle.tla_tree.specs.Lexical as tk
-use Rattle.tla_tree.specs.Reader.{Reader, ◌>>=◌, gives, refuses, tail, is_mark}
+use Rattle.tla_tree.specs.Tree.{Tree}
 use Rattle.tla_tree.specs.Pool as pool
-use Rattle.tla_tree.specs.Spelling.{Phrase, tree_of}
+use Rattle.tla_tree.specs.Spelling.{tree_of}
 use Rattle.pcal_tree.specs.declared.algorithm.Stmt.{Stmt}
 use Rattle.pcal_tree.specs.Algorithm.{Statement, Statements, Branches}
 use Rattle.pcal_tree.specs.Algorithm as tree
 use Rattle.pcal_tree.specs.InMemory.{stmt_at, statements_at, binds_at, past_each, past_statements, past_binds, past_branches}
 use Rattle.pcal_tree.specs.GrammarParts.{span, Labels, with_labels, binds_of}
 use Rattle.pcal_tree.specs.GrammarP as p
-use Rattle.expression_parts.specs.declared.cursor.Halt.{Halt}
-use Rattle.expression_parts.specs.ReadIn.{Told}
-use Rattle.expression_parts.specs.Ahead.{ahead}
-use Rattle.algorithm_parts.specs.TokenReaders.{first, by_next, a_key, a_name, name_of, pick, Parts}
-use Rattle.algorithm_parts.specs.ReadParts.{read_colon}
-use Rattle.algorithm_parts.specs.ReadAround.{with_label, within}
-use Rattle.algorithm_parts.specs.PartsRead.{StandsFor, parts_in, StepLess}
-use Rattle.algorithm_parts.specs.SimpleRead.{simple_reader}
+use Rattle.algorithm_parts.specs.PartsRead.{StandsFor}
 use Rattle.p_syntax.specs.ReadStatements as reader
-use Rattle.p_syntax.specs.ReadStatements.{Before, none, after, Tests, if_test, elsif_test, Arms, first_arm, later_arm, Stack, bottom, inside, depth, statement_words, statement_by, closing_words, takes_end, another_by, ended_by, ends_simple}
+use Rattle.p_syntax.specs.ReadStatements.{Before, none, after, Tests, if_test, elsif_test, Arms, first_arm, later_arm, Stack, bottom, inside, depth}
 use Rattle.p_syntax.specs.declared.open.Test.{Test}
 use Rattle.p_syntax.specs.declared.open.Frame.{Frame}
 use Rattle.p_syntax.specs.declared.open.Frame.TheVariants as frame
@@ -165,67 +154,3 @@ abbrev pub TurnStands : List Tree → Turn → reader.Turn → Type 0
 TurnStands ts (turn.On s) (reader.on t) = StateStands ts s t
 TurnStands ts (turn.Done ss) (reader.done c) = StandsFor list_at past_list p.statements ts ss c
 TurnStands _ _ _ = ⊥
-
--- ---- steps
-
--- what code reads where a statement comes is what this reader reads there
-abbrev pub StepRead : Tokens → List Tree → List Tree → State → ℕ → Result (State × ℕ) Halt → (Parts → ℕ → Before → Labels → Stack → Reader reader.Turn) → Type 0
-StepRead v ts us s i r f =
-    (n : ℕ) (b : Before) (ls : Labels) (st : Stack) → StepLess v i n → Stands ts s (so_far b ls) st
-    → Told (λ (x : State × ℕ) (t : reader.Turn). TurnStands us (turn.On x.0) t) (λ x. ahead v x.1) r (f (parts_in v) n b ls st (ahead v i))
-
--- and where a list may end
-abbrev pub ClosingRead : Tokens → List Tree → List Tree → State → ℕ → Result (State × ℕ) Halt → (Parts → p.Sequence → Stack → Reader reader.Turn) → Type 0
-ClosingRead v ts us s i r f =
-    (c : p.Sequence) (st : Stack) → StandsFor list_at past_list p.statements ts s.list c → StackStands ts s.stack.items st → s.depth ≡ depth st
-    → Told (λ (x : State × ℕ) (t : reader.Turn). TurnStands us (turn.On x.0) t) (λ x. ahead v x.1) r (f (parts_in v) c st (ahead v i))
-
--- a test with `then` behind it, at a word that opens a form
-abbrev pub test_reader : Parts → ℕ → Reader (Phrase × Place)
-test_reader m d = within m d (m.expr >>= λ e. a_key (codes "then") >>= λ q. gives (e, q))
-
--- what code reads at the `end` of such a statement, whose last list it holds
-abbrev pub EndRead : Tokens → State → ℕ → Result (State × ℕ) Halt → List Tree → (Before → Labels → Stack → Reader reader.Turn) → Type 0
-EndRead v s i r ts f = (b : Before) (ls : Labels) (st : Stack) → Stands ts s (so_far b ls) st → Told (λ (x : State × ℕ) (t : reader.Turn). TurnStands ts (turn.On x.0) t) (λ x. ahead v x.1) r (f b ls st (ahead v i))
-
--- the `;` of a statement, and how its list goes on behind it
-abbrev pub separator_step : Parts → ℕ → Before → Labels → p.Statement → Stack → Reader reader.Turn
-separator_step m n b ls a st = by_next (another_by m n b ls a None st)
-
-abbrev pub another_step : Parts → ℕ → Before → Labels → p.Statement → Option Place → Stack → Reader reader.Turn
-another_step m n b ls a o st = by_next (another_by m n b ls a o st)
-
--- after a statement
-abbrev pub ended_step : Parts → ℕ → Before → Labels → p.Statement → Option Place → Stack → Reader reader.Turn
-ended_step m n b ls a o st = by_next (ended_by m n b ls a o st)
-
--- `end`, where this stands open innermost
-abbrev pub end_step : p.Sequence → reader.Frame → Before → Labels → Stack → Reader reader.Turn
-end_step c f b ls st = by_next (λ a k. takes_end c a (inside f b ls st))
-
--- a step goes on only past a token
-abbrev pub PassesOn : ℕ → Turn × ℕ → Type 0
-PassesOn i (turn.On s, j) = i < j
-PassesOn i (turn.Done ss, j) = i ≤ j
-
--- by one of the words that open a statement, or that close a list
-abbrev pub opens_by : Word → Parts → ℕ → Before → Labels → Stack → Reader reader.Turn
-opens_by w m n b ls st = by_next (λ a k. pick w (statement_words m n b ls st a) refuses)
-
-abbrev pub closes_by : Word → Parts → p.Sequence → Stack → Reader reader.Turn
-closes_by w m c st = by_next (λ a k. pick w (closing_words m c a st) refuses)
-
--- what comes where a statement may
-abbrev pub statement_step : Parts → ℕ → Before → Labels → Stack → Reader reader.Turn
-statement_step m n b ls st = by_next (statement_by m n b ls st)
-
--- a name with a colon behind it
-abbrev pub is_label : List Token → Bool
-is_label ts = is_some (name_of (first ts).place (first ts).kind) && is_mark tk.colon (first (tail ts)).kind
-
--- a label, and a statement that has none in it
-abbrev pub label_step : Parts → ℕ → Before → Labels → Stack → Reader reader.Turn
-label_step m n b ls st = a_name >>= λ x. read_colon >>= λ c. gives (reader.on (reader.begin b (with_label ls x c) st))
-
-abbrev pub simple_step : Parts → ℕ → Before → Labels → Stack → Reader reader.Turn
-simple_step m n b ls st = ends_simple b ls st (simple_reader m n)

@@ -17,13 +17,14 @@ ghost use Rattle.p_syntax.specs.declared.open.Frame.TheVariants as frame;
 ghost use Rattle.algorithm_parts.specs.TokenReaders.{first};
 ghost use Rattle.algorithm_parts.specs.PartsRead.{parts_in, StandsFor};
 ghost use Rattle.p_syntax.specs.ReadStatements as reader;
-ghost use Rattle.p_syntax.specs.StatesRead.{ClosingRead, closes_by, test_reader, EndRead, PassesOn, TurnStands, StackStands, end_step, ElseStands, EitherStands, FrameStands, list_at, past_list};
+ghost use Rattle.p_syntax.specs.StatesRead.{TurnStands, StackStands, ElseStands, EitherStands, FrameStands, list_at, past_list};
+ghost use Rattle.p_syntax.specs.StepsRead.{ClosingRead, closes_by, test_reader, EndRead, PassesOn, end_step};
 
 use crate::close::closed_if;
 use crate::open::{Frame, Point, State, Test, Turn, extended, innermost, opened};
-use crate::words::one_deeper;
 use algorithm_parts::expression::read_expression;
 use algorithm_parts::token_step::{behind, next_token, past_key, refused_there};
+use algorithm_parts::words::one_deeper;
 use expression_parts::cursor::Halt;
 use pcal_tree::algorithm::{Bind, Span, Stmt};
 use std::alloc::Global;

@@ -1,10 +1,12 @@
 //! Algorithms in P-syntax, read from tokens.
 #![tactic(auto)]
 
+pub mod algorithm;
 pub mod close;
 pub mod ending;
 pub mod laws;
 pub mod open;
 pub mod opening;
+pub mod sequence;
 pub mod statements;
-pub mod words;
+pub mod ways;

@@ -5,15 +5,15 @@ ghost use Rattle.tla_tree.specs.Tree.{Tree};
 ghost use Rattle.tla_tree.specs.Pool.{Keeps};
 ghost use Rattle.expression_parts.specs.Ahead.{ahead};
 ghost use Rattle.tla_expr.specs.Numbers.{NumbersFit};
-ghost use Rattle.p_syntax.specs.StatesRead.{StepRead, opens_by, label_step, simple_step};
+ghost use Rattle.p_syntax.specs.StepsRead.{StepRead, opens_by, label_step, simple_step};
 
 use crate::open::{Frame, Point, State, extended, opened};
-use crate::words::{one_deeper, span_between};
 use algorithm_parts::binds::read_binds;
 use algorithm_parts::colon::read_colon;
 use algorithm_parts::expression::read_expression;
 use algorithm_parts::simple::read_simple;
 use algorithm_parts::token_step::{behind, next_token, past_key, past_name};
+use algorithm_parts::words::{one_deeper, span_between};
 use expression_parts::cursor::Halt;
 use pcal_tree::algorithm::Stmt;
 use std::alloc::Global;

@@ -15,13 +15,14 @@ ghost use Rattle.p_syntax.specs.ReadStatements as reader;
 ghost use Rattle.p_syntax.specs.declared.open.State as code;
 ghost use Rattle.p_syntax.specs.declared.open.Turn as code_turn;
 ghost use Rattle.p_syntax.specs.declared.open.Turn.TheVariants as turn;
-ghost use Rattle.p_syntax.specs.StatesRead.{StepRead, statement_step, Stands, past_one, TurnStands, separator_step, another_step, ended_step, PassesOn, StateStands, point_of};
+ghost use Rattle.p_syntax.specs.StatesRead.{Stands, past_one, TurnStands, StateStands, point_of};
+ghost use Rattle.p_syntax.specs.StepsRead.{StepRead, statement_step, separator_step, another_step, ended_step, PassesOn};
 
 use crate::ending::{take_else, take_elsif, take_end, take_or};
 use crate::open::{Point, State, Turn};
 use crate::opening::{open_either, open_if, open_while, open_with, read_alone, read_label};
-use crate::words::is_next_label;
 use algorithm_parts::token_step::{after_mark, is_next_word, refused_there};
+use algorithm_parts::words::is_next_label;
 use expression_parts::cursor::Halt;
 use expression_parts::view::Mark;
 use std::alloc::Global;

@@ -31,7 +31,7 @@ use Rattle.first_path.proofs.Promise.{written, no_offence, first_splitting, firs
 use Rattle.tla_token.specs.declared.rule.Refusal.{Refusal}
 use Rattle.tla_token.specs.declared.rule.Stop.{Stop}
 use Rattle.tla_token.specs.declared.rule.Stop.TheVariants as stop
-use Rattle.pcal_cli.specs.Causes.{IsStop}
+use Rattle.pcal_cli.specs.Asked.{IsStop}
 use Rattle.pcal_cli.specs.declared.rest.Rest.{Rest}
 use Rattle.pcal_cli.specs.laws.FormTokens.{capped_kind, kinds_seen, kinds_ahead}
 use Rattle.pcal_cli.specs.OutsideTokens.{view_seen, views_of}
@@ -123,7 +123,7 @@ put_is x t w h = h.is ∙ ap (put_in x t) (sym h.is_spot)
 
 -- ---- answers
 
-pub split_stopped : (x : Text) (s : Stop) → ((r : Refusal) → s ≡ stop.Refused r → RefusesSplit x r) → IsStop x s
+pub split_stopped : (x : Text) (s : Stop) → ((r : Refusal) → s ≡ stop.Refused r → RefusesSplit x r) → IsStop (FirstOffence x) s
 split_stopped x stop.Memory h = tt
 split_stopped x (stop.Refused r) h = (let q = h r refl in (q.at, first_splitting x (r.rule, q.at) q.first, q.place))
 

@@ -2,8 +2,8 @@ pub mod FormTokens
 pub mod ErrorLine
 pub mod Numbers
 pub mod Told
-pub mod RowsRefusals
-mod RowsSpelling
+mod RowsTranslating
+pub mod Translating
 pub mod RegionMade
 pub mod OutsideTokens
 pub mod Capped
@@ -11,3 +11,4 @@ pub mod AlgorithmRead
 pub mod FormFound
 pub mod RowsBeside
 pub mod RowsAnswers
+mod RowsAsked

@@ -3,30 +3,29 @@ use Rattle.std.specs.Prelude.{◌≡◌, ◌⊎◌, ℕ, List, Option, Some, Non
 use Rattle.std.specs.Process.{exit_status}
 use Rattle.std.specs.declared.process.ExitCode.{ExitCode}
 use Rattle.outer_io.specs.Outer.{Texts, Tells, RoseBy, Grows, GrowsInPart}
+use Rattle.tla_token.specs.declared.rule.Refusal.{Refusal}
 use Rattle.tla_tree.specs.Tree.{Word}
 use Rattle.command_words.specs.Commands.{Command}
-use Rattle.promise.specs.Options.{Options}
-use Rattle.promise.specs.Headline.{Headline}
-use Rattle.tla_token.specs.declared.rule.Refusal.{Refusal}
-use Rattle.tla_token.specs.declared.rule.Stop.{Stop}
-use Rattle.tla_token.specs.declared.rule.Stop.TheVariants as stop
-use Rattle.first_path.specs.FormRead.{FirstOffence}
-use Rattle.first_path.specs.Written.{Written}
 use Rattle.pcal_cli.specs.declared.status.Answer.{Answer}
 use Rattle.pcal_cli.specs.declared.status.Answer.TheVariants as answer
 use Rattle.pcal_cli.specs.declared.status.Status.{Status}
 use Rattle.pcal_cli.specs.declared.status.Status.TheVariants.{Fine, Memory, Usage, ReadFault, WriteFault, Refused, TooLong}
 use Rattle.pcal_cli.specs.Answers.{status_number, status_of, line_of}
-use Rattle.pcal_cli.specs.Words.{file_of}
+use Rattle.pcal_cli.specs.Words.{file_of, file_meant}
+use Rattle.pcal_cli.specs.Asked.{Refuses, Makes, Promises}
 
--- what holds of the file of a command; where there is no command nothing is said
-abbrev pub OfFile : Option Command → (Word → Type 0) → Type 0
-OfFile None P = Unit {0}
-OfFile (Some c) P = P (file_of c)
+-- what holds of a command; where there is none nothing is said
+abbrev pub OfCommand : Option Command → (Command → Type 0) → Type 0
+OfCommand None P = Unit {0}
+OfCommand (Some c) P = P c
+
+-- what holds of a command and the text of its file, where the texts are told
+abbrev pub OfText : Option Texts → Option Command → (Command → List ℕ → Type 0) → Type 0
+OfText texts o P = OfCommand o (λ c. Tells texts (file_of c) (P c))
 
 -- ---- answers
 
--- what `translate` answers
+-- what a command answers that writes a module
 abbrev pub IsAnswer : Status → Type 0
 IsAnswer Fine = Unit {0}
 IsAnswer Memory = Unit {0}
@@ -69,18 +68,10 @@ IsNoCommand s = ⊥
 
 -- ---- refusals
 
-abbrev pub HasOffence : List ℕ → Type 0
-HasOffence x = (r : Refusal) × FirstOffence x r
-
--- why a text isn't translated
-abbrev pub IsStop : List ℕ → Stop → Type 0
-IsStop x stop.Memory = Unit {0}
-IsStop x (stop.Refused r) = FirstOffence x r
-
--- on this answer: the file is refused by the first offence of its text
-abbrev pub IsCause : Option Texts → Word → Answer → Type 0
-IsCause texts file (answer.Refused r) = Tells texts file (λ x. FirstOffence x r)
-IsCause texts file a = Unit {0}
+-- on this answer: the text of the file is refused so
+abbrev pub IsCause : Option Texts → Word → (List ℕ → Refusal → Type 0) → Answer → Type 0
+IsCause texts file R (answer.Refused r) = Tells texts file (λ x. R x r)
+IsCause texts file R a = Unit {0}
 
 -- ---- exit status
 
@@ -100,25 +91,25 @@ LeavesOut Fine = ⊥
 LeavesOut WriteFault = ⊥
 LeavesOut s = Unit {0}
 
--- the output went on by what is written for the text x
-abbrev pub Writes : Option (List ℕ) → Option (List ℕ) → List ℕ → Type 0
-Writes old new x = (w : List ℕ) × Grows old new w × Written x w
+-- the output went on by what the command writes for the text x
+abbrev pub Writes : Option (List ℕ) → Option (List ℕ) → Command → List ℕ → Type 0
+Writes old new c x = (w : List ℕ) × Grows old new w × Makes c x w
 
 -- by the first bytes of it, and not by all
-abbrev pub WritesInPart : Option (List ℕ) → Option (List ℕ) → List ℕ → Type 0
-WritesInPart old new x = (w : List ℕ) × GrowsInPart old new w × Written x w
+abbrev pub WritesInPart : Option (List ℕ) → Option (List ℕ) → Command → List ℕ → Type 0
+WritesInPart old new c x = (w : List ℕ) × GrowsInPart old new w × Makes c x w
 
--- the promise: the output went on by a text that translates the algorithm in the text of the file
-abbrev pub KeepsPromise : Options → Option Texts → Word → Option (List ℕ) → Option (List ℕ) → Type 0
-KeepsPromise options texts file old new = Tells texts file (λ x. (w : List ℕ) × Grows old new w × Headline options x w)
+-- the promise: the output went on by a text which is to the text x as the command promises it
+abbrev pub KeepsPromise : Option (List ℕ) → Option (List ℕ) → Command → List ℕ → Type 0
+KeepsPromise old new c x = (w : List ℕ) × Grows old new w × Promises c x w
 
 -- a sink went on by these bytes and counted no fault, or by the first of them alone and counted one
 abbrev pub Told : Option (List ℕ) → Option (List ℕ) → ℕ → ℕ → List ℕ → Type 0
 Told old new before after bytes = (Grows old new bytes × (after ≡ before)) ⊎ (GrowsInPart old new bytes × RoseBy 1 before after)
 
--- so it took the line of an answer of this status, where the file was refused that of the first offence of its text
-pub record Explains (texts : Option Texts) (file : Word) (s : Status) (old new : Option (List ℕ)) (before after : ℕ) : Type 0 where
+-- so it took the line of an answer of this status to a command; where its file was refused, that of a refusal which its text has by this command
+pub record Explains (texts : Option Texts) (command : Option Command) (s : Status) (old new : Option (List ℕ)) (before after : ℕ) : Type 0 where
   pub answer : Answer
   pub is : status_of answer ≡ s
-  pub cause : IsCause texts file answer
-  pub told : Told old new before after (line_of answer file)
+  pub cause : OfCommand command (λ c. IsCause texts (file_of c) (Refuses c) answer)
+  pub told : Told old new before after (line_of answer (file_meant command))

@@ -1,9 +1,9 @@
 pub mod Words
 pub mod Answers
+pub mod Asked
 pub mod Causes
 pub mod FormSeen
-pub mod Refusals
-pub mod Spelling
+pub mod Translating
 pub mod Checked
 pub mod AlgorithmTokens
 pub mod OutsideTokens

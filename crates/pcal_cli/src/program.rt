@@ -1,12 +1,11 @@
 //! What `main` does: from the words as the system hands them over to the exit status.
 
-ghost use Rattle.std.specs.Prelude.{◌≡◌, ◌⊎◌, ◌+◌, ◌<◌, ◌≤◌, [], length, IfOk, None};
+ghost use Rattle.std.specs.Prelude.{◌≡◌, ◌⊎◌, ◌+◌, ◌<◌, ◌≤◌, length, IfOk, None};
 ghost use Rattle.tla_token.specs.Limits.{most_bytes};
 ghost use Rattle.outer_io.specs.Outer.{RoseBy, RoseAbove, HasNoText, Tells, piece_bytes};
-ghost use Rattle.first_path.specs.FormRead.{form_offences};
-ghost use Rattle.pcal_cli.specs.Words.{words_given, command_in, file_in};
-ghost use Rattle.promise.specs.Options.{no_options};
-ghost use Rattle.pcal_cli.specs.Causes.{OfFile, IsAnswer, IsNoCommand, IsUnread, IsUnwritten, IsDone, IsRead, HasOffence, LeavesOut, Writes, WritesInPart, KeepsPromise, Explains, Ended, EndedIn};
+ghost use Rattle.pcal_cli.specs.Words.{words_given, command_in, file_of, file_in};
+ghost use Rattle.pcal_cli.specs.Asked.{HasOffence, Accepts};
+ghost use Rattle.pcal_cli.specs.Causes.{OfCommand, OfText, IsAnswer, IsNoCommand, IsUnread, IsUnwritten, IsDone, IsRead, LeavesOut, Writes, WritesInPart, KeepsPromise, Explains, Ended, EndedIn};
 
 use crate::error_line::tell;
 use crate::status::{Answer, Status, number};
@@ -49,21 +48,21 @@ pub fn run<H: Shelf, K: Sink, E: Sink>(
     ensures write_fault { Ended result Status.WriteFault → RoseBy 1 (K.faults out.old) (K.faults out.new) }
     ensures too_long { Ended result Status.TooLong → RoseAbove most_bytes (H.given shelf.old) (H.given shelf.new) }
     ensures longer { Ended result Status.TooLong → Tells (H.texts shelf.old) (file_in (words_given given)) (λ x. most_bytes < length x) }
-    ensures refused { Ended result Status.Refused → Tells (H.texts shelf.old) (file_in (words_given given)) HasOffence }
+    ensures refused { Ended result Status.Refused → OfText (H.texts shelf.old) (command_in (words_given given)) HasOffence }
 
     // With what a command ends whose file isn't there, is too long, or has an offence, and one where nothing is in the way.
-    ensures lacking { OfFile (command_in (words_given given)) (λ file. HasNoText (H.texts shelf.old) file → EndedIn result IsUnread) }
-    ensures long { OfFile (command_in (words_given given)) (λ file. Tells (H.texts shelf.old) file (λ x. most_bytes < length x → EndedIn result IsUnread)) }
-    ensures offends { OfFile (command_in (words_given given)) (λ file. Tells (H.texts shelf.old) file (λ x. HasOffence x → EndedIn result IsUnwritten)) }
-    ensures complete { OfFile (command_in (words_given given)) (λ file. Tells (H.texts shelf.old) file (λ x. length x ≤ most_bytes → form_offences x ≡ []
-        → (RoseBy 1 (H.faults shelf.old) (H.faults shelf.new) → ⊥) → (RoseBy 1 (K.faults out.old) (K.faults out.new) → ⊥) → EndedIn result IsDone)) }
+    ensures lacking { OfCommand (command_in (words_given given)) (λ c. HasNoText (H.texts shelf.old) (file_of c) → EndedIn result IsUnread) }
+    ensures long { OfText (H.texts shelf.old) (command_in (words_given given)) (λ c x. most_bytes < length x → EndedIn result IsUnread) }
+    ensures offends { OfText (H.texts shelf.old) (command_in (words_given given)) (λ c x. HasOffence c x → EndedIn result IsUnwritten) }
+    ensures complete { OfText (H.texts shelf.old) (command_in (words_given given)) (λ c x. length x ≤ most_bytes → Accepts c x
+        → (RoseBy 1 (H.faults shelf.old) (H.faults shelf.new) → ⊥) → (RoseBy 1 (K.faults out.old) (K.faults out.new) → ⊥) → EndedIn result IsDone) }
 
     // What became of the outputs.
     ensures unused { EndedIn result LeavesOut → out.new ≡ out.old }
-    ensures fine { Ended result Status.Fine → Tells (H.texts shelf.old) (file_in (words_given given)) (Writes (K.wrote out.old) (K.wrote out.new)) }
-    ensures headline { Ended result Status.Fine → KeepsPromise no_options (H.texts shelf.old) (file_in (words_given given)) (K.wrote out.old) (K.wrote out.new) }
-    ensures in_part { Ended result Status.WriteFault → Tells (H.texts shelf.old) (file_in (words_given given)) (WritesInPart (K.wrote out.old) (K.wrote out.new)) }
-    ensures told { EndedIn result (λ s. Explains (H.texts shelf.old) (file_in (words_given given)) s (E.wrote err.old) (E.wrote err.new) (E.faults err.old) (E.faults err.new)) }
+    ensures fine { Ended result Status.Fine → OfText (H.texts shelf.old) (command_in (words_given given)) (Writes (K.wrote out.old) (K.wrote out.new)) }
+    ensures headline { Ended result Status.Fine → OfText (H.texts shelf.old) (command_in (words_given given)) (KeepsPromise (K.wrote out.old) (K.wrote out.new)) }
+    ensures in_part { Ended result Status.WriteFault → OfText (H.texts shelf.old) (command_in (words_given given)) (WritesInPart (K.wrote out.old) (K.wrote out.new)) }
+    ensures told { EndedIn result (λ s. Explains (H.texts shelf.old) (command_in (words_given given)) s (E.wrote err.old) (E.wrote err.new) (E.faults err.old) (E.faults err.new)) }
 
     // What a call leaves as it was, and how the counts rise: of the shelf's bytes, and of faults by one at most.
     ensures unread { command_in (words_given given) ≡ None → shelf.new ≡ shelf.old }

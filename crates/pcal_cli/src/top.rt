@@ -1,15 +1,14 @@
 //! The top call: from the words of a command line to an answer.
 
-ghost use Rattle.std.specs.Prelude.{◌≡◌, ◌⊎◌, ◌+◌, ◌<◌, ◌≤◌, [], false, length, Some, None, IfOk, MatchOption};
+ghost use Rattle.std.specs.Prelude.{◌≡◌, ◌⊎◌, ◌+◌, ◌<◌, ◌≤◌, false, length, Some, None, IfOk, MatchOption};
 ghost use Rattle.tla_token.specs.Limits.{most_bytes};
 ghost use Rattle.outer_io.specs.Outer.{RoseBy, RoseAbove, HasNoText, Tells, piece_bytes};
-ghost use Rattle.promise.specs.Options.{no_options};
-ghost use Rattle.first_path.specs.FormRead.{form_offences};
 ghost use Rattle.command_words.specs.Commands.{translates};
 ghost use Rattle.command_words.specs.Meant.{meant};
-ghost use Rattle.pcal_cli.specs.Words.{is_run, plain, command_in, file_in};
+ghost use Rattle.pcal_cli.specs.Words.{is_run, plain, command_in, file_of, file_in};
 ghost use Rattle.pcal_cli.specs.Answers.{status_of};
-ghost use Rattle.pcal_cli.specs.Causes.{OfFile, IsAnswer, IsNoCommand, IsUnread, IsUnwritten, IsDone, IsRead, HasOffence, IsCause, LeavesOut, Writes, WritesInPart, KeepsPromise, Explains};
+ghost use Rattle.pcal_cli.specs.Asked.{Refuses, HasOffence, Accepts};
+ghost use Rattle.pcal_cli.specs.Causes.{OfCommand, OfText, IsAnswer, IsNoCommand, IsUnread, IsUnwritten, IsDone, IsRead, IsCause, LeavesOut, Writes, WritesInPart, KeepsPromise, Explains};
 
 use crate::error_line::tell;
 use crate::status::{Answer, Status, as_status};
@@ -29,19 +28,19 @@ fn translate<H: Shelf, K: Sink>(alloc: Global, file: &str, shelf: &mut H, out: &
     ensures write_fault { status_of result ≡ Status.WriteFault → RoseBy 1 (K.faults out.old) (K.faults out.new) }
     ensures too_long { status_of result ≡ Status.TooLong → RoseAbove most_bytes (H.given shelf.old) (H.given shelf.new) }
     ensures longer { status_of result ≡ Status.TooLong → Tells (H.texts shelf.old) file.now (λ x. most_bytes < length x) }
-    ensures refused { IsCause (H.texts shelf.old) file.now result }
+    ensures refused { IsCause (H.texts shelf.old) file.now (Refuses (translates file.now plain)) result }
 
     // What is answered where the file isn't there, is too long, or has an offence, and where nothing is in the way.
     ensures lacking { HasNoText (H.texts shelf.old) file.now → IsUnread (status_of result) }
     ensures long { Tells (H.texts shelf.old) file.now (λ x. most_bytes < length x → IsUnread (status_of result)) }
-    ensures offends { Tells (H.texts shelf.old) file.now (λ x. HasOffence x → IsUnwritten (status_of result)) }
-    ensures complete { Tells (H.texts shelf.old) file.now (λ x. length x ≤ most_bytes → form_offences x ≡ []
+    ensures offends { Tells (H.texts shelf.old) file.now (λ x. HasOffence (translates file.now plain) x → IsUnwritten (status_of result)) }
+    ensures complete { Tells (H.texts shelf.old) file.now (λ x. length x ≤ most_bytes → Accepts (translates file.now plain) x
         → (RoseBy 1 (H.faults shelf.old) (H.faults shelf.new) → ⊥) → (RoseBy 1 (K.faults out.old) (K.faults out.new) → ⊥) → IsDone (status_of result)) }
 
     ensures unused { LeavesOut (status_of result) → out.new ≡ out.old }
-    ensures fine { status_of result ≡ Status.Fine → Tells (H.texts shelf.old) file.now (Writes (K.wrote out.old) (K.wrote out.new)) }
-    ensures headline { status_of result ≡ Status.Fine → KeepsPromise no_options (H.texts shelf.old) file.now (K.wrote out.old) (K.wrote out.new) }
-    ensures in_part { status_of result ≡ Status.WriteFault → Tells (H.texts shelf.old) file.now (WritesInPart (K.wrote out.old) (K.wrote out.new)) }
+    ensures fine { status_of result ≡ Status.Fine → Tells (H.texts shelf.old) file.now (Writes (K.wrote out.old) (K.wrote out.new) (translates file.now plain)) }
+    ensures headline { status_of result ≡ Status.Fine → Tells (H.texts shelf.old) file.now (KeepsPromise (K.wrote out.old) (K.wrote out.new) (translates file.now plain)) }
+    ensures in_part { status_of result ≡ Status.WriteFault → Tells (H.texts shelf.old) file.now (WritesInPart (K.wrote out.old) (K.wrote out.new) (translates file.now plain)) }
 
     // What a call leaves as it was, and how the counts rise: of the shelf's bytes, and of faults by one at most.
     ensures texts_stay { H.texts shelf.new ≡ H.texts shelf.old }
@@ -114,22 +113,22 @@ pub fn pcal<H: Shelf, K: Sink, E: Sink>(
     ensures write_fault { result ≡ Status.WriteFault → RoseBy 1 (K.faults out.old) (K.faults out.new) }
     ensures too_long { result ≡ Status.TooLong → RoseAbove most_bytes (H.given shelf.old) (H.given shelf.new) }
     ensures longer { result ≡ Status.TooLong → Tells (H.texts shelf.old) (file_in words.now) (λ x. most_bytes < length x) }
-    ensures refused { result ≡ Status.Refused → Tells (H.texts shelf.old) (file_in words.now) HasOffence }
+    ensures refused { result ≡ Status.Refused → OfText (H.texts shelf.old) (command_in words.now) HasOffence }
 
     // What a command is answered whose file isn't there, is too long, or has an offence, and one where nothing is in the way.
-    ensures lacking { OfFile (command_in words.now) (λ file. HasNoText (H.texts shelf.old) file → IsUnread result) }
-    ensures long { OfFile (command_in words.now) (λ file. Tells (H.texts shelf.old) file (λ x. most_bytes < length x → IsUnread result)) }
-    ensures offends { OfFile (command_in words.now) (λ file. Tells (H.texts shelf.old) file (λ x. HasOffence x → IsUnwritten result)) }
-    ensures complete { OfFile (command_in words.now) (λ file. Tells (H.texts shelf.old) file (λ x. length x ≤ most_bytes → form_offences x ≡ []
-        → (RoseBy 1 (H.faults shelf.old) (H.faults shelf.new) → ⊥) → (RoseBy 1 (K.faults out.old) (K.faults out.new) → ⊥) → IsDone result)) }
+    ensures lacking { OfCommand (command_in words.now) (λ c. HasNoText (H.texts shelf.old) (file_of c) → IsUnread result) }
+    ensures long { OfText (H.texts shelf.old) (command_in words.now) (λ c x. most_bytes < length x → IsUnread result) }
+    ensures offends { OfText (H.texts shelf.old) (command_in words.now) (λ c x. HasOffence c x → IsUnwritten result) }
+    ensures complete { OfText (H.texts shelf.old) (command_in words.now) (λ c x. length x ≤ most_bytes → Accepts c x
+        → (RoseBy 1 (H.faults shelf.old) (H.faults shelf.new) → ⊥) → (RoseBy 1 (K.faults out.old) (K.faults out.new) → ⊥) → IsDone result) }
 
     // What became of the outputs.
     ensures unused { LeavesOut result → out.new ≡ out.old }
     // The promise is a part of what is written; it is said once more by itself.
-    ensures fine { result ≡ Status.Fine → Tells (H.texts shelf.old) (file_in words.now) (Writes (K.wrote out.old) (K.wrote out.new)) }
-    ensures headline { result ≡ Status.Fine → KeepsPromise no_options (H.texts shelf.old) (file_in words.now) (K.wrote out.old) (K.wrote out.new) }
-    ensures in_part { result ≡ Status.WriteFault → Tells (H.texts shelf.old) (file_in words.now) (WritesInPart (K.wrote out.old) (K.wrote out.new)) }
-    ensures told { Explains (H.texts shelf.old) (file_in words.now) result (E.wrote err.old) (E.wrote err.new) (E.faults err.old) (E.faults err.new) }
+    ensures fine { result ≡ Status.Fine → OfText (H.texts shelf.old) (command_in words.now) (Writes (K.wrote out.old) (K.wrote out.new)) }
+    ensures headline { result ≡ Status.Fine → OfText (H.texts shelf.old) (command_in words.now) (KeepsPromise (K.wrote out.old) (K.wrote out.new)) }
+    ensures in_part { result ≡ Status.WriteFault → OfText (H.texts shelf.old) (command_in words.now) (WritesInPart (K.wrote out.old) (K.wrote out.new)) }
+    ensures told { Explains (H.texts shelf.old) (command_in words.now) result (E.wrote err.old) (E.wrote err.new) (E.faults err.old) (E.faults err.new) }
 
     // What a call leaves as it was, and how the counts rise: of the shelf's bytes, and of faults by one at most.
     ensures unread { command_in words.now ≡ None → shelf.new ≡ shelf.old }

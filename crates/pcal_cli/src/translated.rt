@@ -6,11 +6,11 @@ ghost use Rattle.module_tree.specs.Layout.{layout};
 ghost use Rattle.module_tree.specs.FileOffences.{splitting_offences};
 ghost use Rattle.file_parts.specs.Splitting.{Splits};
 ghost use Rattle.first_path.specs.Form.{is_fit};
-ghost use Rattle.first_path.specs.FormRead.{file_form, form_offences};
+ghost use Rattle.first_path.specs.FormRead.{FirstOffence, file_form, form_offences};
 ghost use Rattle.first_path.specs.Placed.{region_of, translation_of};
 ghost use Rattle.first_path.specs.Written.{Written};
 ghost use Rattle.pcal_cli.specs.AlgorithmTokens.{AreAlgorithm};
-ghost use Rattle.pcal_cli.specs.Causes.{IsStop};
+ghost use Rattle.pcal_cli.specs.Asked.{IsStop};
 ghost use Rattle.pcal_cli.specs.FormSeen.{parts_of};
 
 use crate::built::region_in;
@@ -128,7 +128,7 @@ pub fn translate_text(alloc: Global, text: &[u8]) -> Result<Vec<u8>, Stop>
     requires { length text.now < 2 ^ 29 }
     ensures ok { IfOk result (λ w. Written text.now w.items) }
     ensures clean { IfOk result (λ w. form_offences text.now ≡ []) }
-    ensures stopped { IfErr result (λ e. IsStop text.now e) }
+    ensures stopped { IfErr result (λ e. IsStop (FirstOffence text.now) e) }
 {
     let parts = match split(alloc, text) {
         Ok(parts) => parts,

@@ -32,7 +32,7 @@ mod Ended
 mod Beginning
 mod Rewriting
 mod EndFound
-mod Rewritten
+pub mod Rewritten
 mod WholeText
 mod Paired
 mod Back

@@ -49,10 +49,13 @@ pub mod Alike
 pub mod AlikeSteps
 pub mod Farthest
 pub mod SpellAhead
+pub mod MendedCounts
 pub mod Mended
 pub mod MendedBraces
 pub mod MendedForms
 pub mod MendedLists
+pub mod Completed
+mod RowsCompleted
 pub mod StopsThere
 pub mod AlikeEnds
 pub mod AlikeEndsSteps

@@ -13,7 +13,7 @@ use Rattle.tla_tree.specs.Lexical.{Token}
 use Rattle.tla_tree.specs.Spelling.{Phrase, Good, spell, tree_of}
 use Rattle.tla_tree.specs.Nesting.{counts, text_nesting}
 use Rattle.tla_tree.specs.Reader.{Out, free, read, read_limited}
-use Rattle.tla_tree.specs.FirstStop.{Look, look, looks, to_end, Open, is_within, Begins, Passes, StopsAt, in_expression, phrases, ReadsExpression, RefusesExpression}
+use Rattle.tla_tree.specs.FirstStop.{Look, look, looks, to_end, Open, is_within, Begins, Passes, StopsAt, in_expression, phrases, Completes, ReadsExpression, RefusesExpression}
 use Rattle.tla_tree.proofs.Columns.{spelled_again, bare, looks_of_bare, begun_looks, looked_ahead, begins}
 use Rattle.tla_tree.proofs.CountsMoved.{same_counts}
 use Rattle.tla_tree.proofs.CountsLaws.{as_many_counts}
@@ -25,6 +25,7 @@ use Rattle.tla_tree.proofs.AlikeSteps.{fair_readers}
 use Rattle.tla_tree.proofs.StopLaws.{stops_by_one_rule, passes_before}
 use Rattle.tla_tree.proofs.StopsThere.{before, through, is_there, read_passes, read_stops, refused_is_completed, refused_at}
 use Rattle.tla_tree.proofs.MendedLists.{refused_fits}
+use Rattle.tla_tree.proofs.Completed.{completed, completed_there}
 use Rattle.tla_tree.proofs.DeepCounts.{Fit, Deep, fit_both, fit_greatest, greatest_fits, ahead_counts}
 use Rattle.tla_tree.proofs.Limited.{Late, Plain, Past, On, told_ok, told_err}
 use Rattle.tla_tree.proofs.LimitedAll.{limited}
@@ -172,6 +173,7 @@ refused_where_passed ts passed rest end r o s p = by (told_err (beside ts) o)
       stops = stops;
       place = refl;
       unread = λ a b. (let no : TooDeep ≡ Syntax = stops_by_one_rule (phrases 0) (to_end ts) (length passed) (length passed) TooDeep Syntax stops b.stops in absurd cc);
+      completed = completed_there ts (length passed) TooDeep stops;
     })
       where
         at : ts ≡ passed ++ t ∷ u
@@ -195,6 +197,9 @@ refused_passes ts passed rest r o s =
 
 pub is_refused : (ts passed rest : List Token) (end : Place) (r : Rule) → read_limited ts ≡ Err (r, rest) → ts ≡ passed ++ rest → RefusesExpression ts end (record { rule = r; place = get_or (map (λ (t : Token). t.place) ts) (length passed) end })
 is_refused ts passed rest end r o s = refused_where_passed ts passed rest end r o s (refused_passes ts passed rest r o s)
+
+pub limited_completes : (ts passed rest : List Token) (r : Rule) → read_limited ts ≡ Err (r, rest) → ts ≡ passed ++ rest → Completes 0 passed
+limited_completes ts passed rest r o s = (let m = completed_within ts passed rest r o s in completed 0 passed m.0 m.1 m.2 m.3)
 
 -- ---- one of both, whatever the tokens
 pub one_of_both : (ts : List Token) (end : Place) → ((n : ℕ) × (t : Tree) × ReadsExpression ts n t) ⊎ ((r : Refusal) × RefusesExpression ts end r)

@@ -13,19 +13,19 @@ use Rattle.tla_tree.specs.Nesting.{counts}
 use Rattle.tla_tree.specs.FirstStop.{looks, Begins, Passes, phrases, in_expression}
 use Rattle.tla_tree.specs.laws.Columns.{lineless}
 
-abbrev at : ℕ → Place
+abbrev pub at : ℕ → Place
 at c = record { line = 1; col = c }
 
-abbrev w : ℕ → Token
+abbrev pub w : ℕ → Token
 w c = token (at c) (tk.word (codes "a"))
 
-abbrev s : ℕ → Op → Token
+abbrev pub s : ℕ → Op → Token
 s c o = token (at c) (tk.sign o)
 
-abbrev m : ℕ → Mark → Token
+abbrev pub m : ℕ → Mark → Token
 m c k = token (at c) (tk.mark k)
 
-abbrev k : ℕ → Key → Token
+abbrev pub k : ℕ → Key → Token
 k c x = token (at c) (tk.key x)
 
 abbrev name : ℕ → Phrase

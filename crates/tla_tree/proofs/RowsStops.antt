@@ -17,6 +17,7 @@ use Rattle.tla_tree.proofs.AlikeEndsSteps.{refused_after_none}
 use Rattle.tla_tree.proofs.ReadAll.{spelled_is_read}
 use Rattle.tla_tree.proofs.StopLaws.{begins_none, all_read, passes_begins, stops_by_one_rule}
 use Rattle.tla_tree.proofs.BracketCounts.{too_many_brackets}
+use Rattle.tla_tree.proofs.Completed.{completed_there}
 use Rattle.std.proofs.lemmas.Bool.{lt-ltb}
 
 abbrev pub at : ℕ → Place
@@ -53,12 +54,16 @@ no_expression : (t : Tree) → ReadsExpression opened 3 t → ⊥
 unfolding readers
 no_expression t r = refused_after_none 0 (take 3 opened) (drop 3 opened) Syntax refl r.spelled.0 r.spelled.1 r.spelled.2
 
+opened_stops : StopsAt (phrases 0) (to_end opened) 3 Syntax
+opened_stops = record { there = omega arith; passed = begins_so_far; stopped = λ p. none_with_semicolon (passes_begins (phrases 0) (take 4 (to_end opened)) p); rule = inr (refl, none_with_semicolon) }
+
 refused : RefusesExpression opened (at 40) (record { rule = Syntax; place = at 16 })
 refused = record {
   passed = 3;
-  stops = record { there = omega arith; passed = begins_so_far; stopped = λ p. none_with_semicolon (passes_begins (phrases 0) (take 4 (to_end opened)) p); rule = inr (refl, none_with_semicolon) };
+  stops = opened_stops;
   place = refl;
   unread = no_expression;
+  completed = completed_there opened 3 Syntax opened_stops;
 }
 
 -- ---- of `a /\ a \/ a` what is before the second operator is read
@@ -117,4 +122,4 @@ brackets_unread : (t : Tree) → ReadsExpression (brackets_from 201 11) 200 t �
 brackets_unread t r = (let e : Syntax ≡ TooDeep = stops_by_one_rule (phrases 0) (to_end (brackets_from 201 11)) 200 200 Syntax TooDeep r.stops brackets_stop in cc)
 
 brackets_refused : RefusesExpression (brackets_from 201 11) (at 212) (record { rule = TooDeep; place = at 211 })
-brackets_refused = record { passed = 200; stops = brackets_stop; place = refl; unread = brackets_unread }
+brackets_refused = record { passed = 200; stops = brackets_stop; place = refl; unread = brackets_unread; completed = completed_there (brackets_from 201 11) 200 TooDeep brackets_stop }

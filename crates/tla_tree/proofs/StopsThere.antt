@@ -22,6 +22,7 @@ use Rattle.tla_tree.proofs.Alike.{rest_of}
 use Rattle.tla_tree.proofs.AlikeEndsSteps.{refused_after_none}
 use Rattle.tla_tree.proofs.Farthest.{begun_none}
 use Rattle.tla_tree.proofs.MendedLists.{refused_is_mended}
+use Rattle.tla_tree.proofs.Completed.{completed_there}
 
 -- ---- tokens with the end after them
 pub before : (passed rest : List Token) → take (length passed) (to_end (passed ++ rest)) ≡ map Some (looks passed)
@@ -104,9 +105,13 @@ refused_stops ts passed rest q o s p = stops_at ts passed rest (ap rest_of o) s 
 pub refused_at : (ts passed rest : List Token) (end : Place) (q : Rule) → read 0 ts ≡ Err (q, rest) → ts ≡ passed ++ rest → Passes (phrases 0) (map Some (looks passed)) → RefusesExpression ts end (record { rule = Syntax; place = get_or (map (λ (t : Token). t.place) ts) (length passed) end })
 refused_at ts passed rest end q o s p = record {
   passed = length passed;
-  stops = refused_stops ts passed rest q o s p;
+  stops = stops;
   place = refl;
   unread = λ t r.
       (let front : take (length passed) ts ≡ passed = ap (λ (us : List Token). take (length passed) us) s ∙ take-append_seam passed rest in
       refused_after_none 0 passed rest q (ap (λ (us : List Token). read 0 us) (sym s) ∙ o) r.spelled.0 r.spelled.1 (sym front ∙ r.spelled.2));
+  completed = completed_there ts (length passed) Syntax stops;
 }
+  where
+    stops : StopsAt (phrases 0) (to_end ts) (length passed) Syntax
+    stops = refused_stops ts passed rest q o s p

@@ -1,5 +1,5 @@
 -- Where reading stops: at the first token that no spelled text has there, or at which too many forms are open in each.
-use Rattle.std.specs.Prelude.{◌≡◌, ◌⊎◌, ℕ, suc, ◌<◌, ◌&&◌, Bool, nat_le, List, [], ◌∷◌, ◌++◌, length, take, map, get_or, Option, Some, None}
+use Rattle.std.specs.Prelude.{◌≡◌, ◌⊎◌, ℕ, suc, ◌+◌, ◌*◌, ◌<◌, ◌≤◌, ◌&&◌, Bool, nat_le, List, [], ◌∷◌, ◌++◌, length, take, map, get_or, Option, Some, None}
 use Rattle.std.specs.Bool.{IsTrue}
 use Rattle.std.specs.List.{list_all}
 use Rattle.tla_token.specs.declared.place.Place.{Place}
@@ -11,6 +11,7 @@ use Rattle.tla_tree.specs.Tree.{Tree}
 use Rattle.tla_tree.specs.Lexical.{TokenView, Token}
 use Rattle.tla_tree.specs.Spelling.{Phrase, Good, spell, Spells}
 use Rattle.tla_tree.specs.Nesting.{counts}
+use Rattle.tla_tree.specs.NeedsLists.{completion}
 
 -- ---- what a grammar looks at of a token: its kind and its column. Lines are only where a fault is said to be.
 
@@ -75,9 +76,17 @@ pub record ReadsExpression (ts : List Token) (n : ℕ) (t : Tree) : Type 0 where
   pub stops : StopsAt (phrases 0) (to_end ts) n Syntax
   pub spelled : Spells (take n ts) t
 
--- it is refused: at a token at which too many forms are open, or at one that can't be in it where those before it are no expression
+-- the tokens that are wanted behind some tokens complete them to an expression: at most 16 for each form that is open at the first of them, and one
+pub record Completes (e : ℕ) (passed : List Token) : Type 0 where
+  pub whole : Phrase
+  pub good : Good e whole
+  pub spelled : spell whole [] ≡ passed ++ completion e passed
+  pub few : length (completion e passed) ≤ 16 * get_or (counts 0 whole []) (length passed) 0 + 1
+
+-- it is refused: at a token at which too many forms are open, or at one that can't be in it where those before it are no expression; what is wanted there completes these
 pub record RefusesExpression (ts : List Token) (end : Place) (refusal : Refusal) : Type 0 where
   pub passed : ℕ
   pub stops : StopsAt (phrases 0) (to_end ts) passed refusal.rule
   pub place : refusal.place ≡ get_or (map (λ (t : Token). t.place) ts) passed end
   pub unread : (t : Tree) → ReadsExpression ts passed t → ⊥
+  pub completed : Completes 0 (take passed ts)

@@ -11,7 +11,11 @@ pub mod TokenViews
 pub mod Spelling
 pub mod Written
 pub mod Nesting
-pub mod FirstStop
 pub mod Reader
+pub mod Wanted
+pub mod Needs
+pub mod NeedsForms
+pub mod NeedsLists
+pub mod FirstStop
 pub mod Whole
 pub mod laws

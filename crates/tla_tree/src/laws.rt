@@ -11,7 +11,7 @@ ghost use Rattle.tla_token.specs.declared.rule.Rule.{Rule};
 ghost use Rattle.tla_token.specs.declared.rule.Rule.TheVariants.{TooDeep, Syntax};
 ghost use Rattle.tla_token.specs.Limits.{deepest_expression};
 ghost use Rattle.tla_tree.specs.Nesting.{counts, text_nesting};
-ghost use Rattle.tla_tree.specs.FirstStop.{looks, to_end, Begins, Passes, StopsAt, phrases, ReadsExpression, RefusesExpression};
+ghost use Rattle.tla_tree.specs.FirstStop.{looks, to_end, Begins, Passes, StopsAt, phrases, Completes, ReadsExpression, RefusesExpression};
 ghost use Rattle.tla_tree.specs.laws.Columns.{lineless};
 ghost use Rattle.tla_tree.specs.Written.{pieces, written};
 ghost use Rattle.tla_token.specs.Tokens as text;
@@ -49,6 +49,14 @@ pub fn nothing_passes_where_reading_stops()
 pub fn refusals_are_at_the_earliest_place()
     ensures whole { (edge : ℕ) (ts passed rest : List Token) (r : Rule) → read edge ts ≡ Err (r, rest) → ts ≡ passed ++ rest → (fix : List Token) × (a : Phrase) × Good edge a × (spell a [] ≡ passed ++ fix) × (length fix ≤ 16 * get_or (counts 0 a []) (length passed) 0 + 1) }
     ensures within { (ts passed rest : List Token) (r : Rule) → read_limited ts ≡ Err (r, rest) → ts ≡ passed ++ rest → (fix : List Token) × (a : Phrase) × IsGood a × (spell a [] ≡ passed ++ fix) × (text_nesting a ≤ deepest_expression) × (length fix ≤ 16 * get_or (counts 0 a []) (length passed) 0 + 1) }
+{}
+
+/// What completes it is told by a function of the tokens that were passed: behind whatever begins an expression, and so behind what was passed before a refused token, the
+/// tokens that each form and list that is open there still wants, the innermost first, make it a whole expression.
+pub fn what_is_wanted_completes()
+    ensures begun { (edge : ℕ) (passed more : List Token) (a : Phrase) → Good edge a → spell a [] ≡ passed ++ more → Completes edge passed }
+    ensures refused { (edge : ℕ) (ts passed rest : List Token) (r : Rule) → read edge ts ≡ Err (r, rest) → ts ≡ passed ++ rest → Completes edge passed }
+    ensures within { (ts passed rest : List Token) (r : Rule) → read_limited ts ≡ Err (r, rest) → ts ≡ passed ++ rest → Completes 0 passed }
 {}
 
 /// The limit of open forms only refuses: what is read within it is read without, and is no deeper; and what is read without it and is no deeper is read within it.

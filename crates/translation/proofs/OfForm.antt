@@ -7,12 +7,12 @@ use Rattle.tla_value.specs.Stops.{plain}
 use Rattle.tla_value.specs.Definitions.{no_state}
 use Rattle.tla_value.specs.Outside.{Outside}
 use Rattle.pcal_tree.specs.Algorithm.{nowhere, Naming, Algorithm}
-use Rattle.pcal_tree.specs.Placeless.{no_span, placeless}
+use Rattle.pcal_tree.specs.Placeless.{placeless}
 use Rattle.pcal_tree.specs.Names.{naming}
 use Rattle.pcal_tree.specs.Program.{Program}
 use Rattle.pcal_tree.specs.Calls.{label_name}
 use Rattle.first_path.specs.Form.{number_operand, variable_operand, Right, single, sum, Parts, is_fit}
-use Rattle.first_path.specs.Placed.{Places, right_tree, statement_span, algorithm_at, region_at}
+use Rattle.first_path.specs.Placed.{Places, right_at, algorithm_at, region_at}
 use Rattle.first_path.proofs.Names.{word_same}
 use Rattle.first_path.proofs.Fit.{fit_of}
 use Rattle.first_path.proofs.OutsideApart.{Apart}
@@ -28,20 +28,16 @@ nowhere_at_all i = nowhere
 
 -- ---- the algorithm without its places
 
-tree_is : (v : Word) (r : Right) (p q : Place) → tree_placeless (right_tree v r p q) ≡ right_tree v r nowhere nowhere
-tree_is v (single (number_operand n)) p q = refl
-tree_is v (single variable_operand) p q = refl
-tree_is v (sum (number_operand m) (number_operand n)) p q = refl
-tree_is v (sum (number_operand m) variable_operand) p q = refl
-tree_is v (sum variable_operand (number_operand n)) p q = refl
-tree_is v (sum variable_operand variable_operand) p q = refl
-
-span_is : (r : Right) → no_span ≡ statement_span nowhere_at_all r
-span_is (single a) = refl
-span_is (sum a b) = refl
+tree_is : (v : Word) (r : Right) (p q s : Place) → tree_placeless (right_at v r p q s) ≡ right_at v r nowhere nowhere nowhere
+tree_is v (single (number_operand n)) p q s = refl
+tree_is v (single variable_operand) p q s = refl
+tree_is v (sum (number_operand m) (number_operand n)) p q s = refl
+tree_is v (sum (number_operand m) variable_operand) p q s = refl
+tree_is v (sum variable_operand (number_operand n)) p q s = refl
+tree_is v (sum variable_operand variable_operand) p q s = refl
 
 algorithm_is : (p : Places) (f : Parts) → placeless (algorithm_at p f) ≡ algorithm_at nowhere_at_all f
-algorithm_is p f = rw (tree_is f.variable f.right (p 12) (p 14), span_is f.right) refl
+algorithm_is p f = rw (tree_is f.variable f.right (p 7) (p 8) (p 9)) refl
 
 -- ---- its translation
 

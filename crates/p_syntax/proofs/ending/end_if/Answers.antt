@@ -5,7 +5,7 @@ use Rattle.expression_parts.proofs.AheadLemmas.{ahead_tail}
 use Rattle.expression_parts.specs.Ahead.{ahead}
 use Rattle.algorithm_parts.specs.TokenReaders.{a_key}
 use Rattle.p_syntax.specs.ReadStatements.{closed_if, on, ended}
-use Rattle.p_syntax.proofs.Steps.{goes_on}
+use Rattle.algorithm_parts.proofs.StatementSteps.{goes_on}
 use Rattle.p_syntax.proofs.Closed.{ended_stands, if_stands}
 use Rattle.p_syntax.proofs.ending.end_if.Goals as goal
 

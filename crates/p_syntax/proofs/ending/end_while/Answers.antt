@@ -6,7 +6,7 @@ use Rattle.expression_parts.specs.Ahead.{ahead}
 use Rattle.pcal_tree.specs.GrammarP.{while}
 use Rattle.algorithm_parts.specs.TokenReaders.{a_key}
 use Rattle.p_syntax.specs.ReadStatements.{on, ended}
-use Rattle.p_syntax.proofs.Steps.{goes_on}
+use Rattle.algorithm_parts.proofs.StatementSteps.{goes_on}
 use Rattle.p_syntax.proofs.Closed.{ended_stands, while_stands}
 use Rattle.p_syntax.proofs.ending.end_while.Goals as goal
 

@@ -4,7 +4,7 @@ use Rattle.tla_tree.specs.Reader.{◌>>=◌, gives}
 use Rattle.expression_parts.specs.Ahead.{ahead}
 use Rattle.algorithm_parts.specs.TokenReaders.{a_key}
 use Rattle.algorithm_parts.specs.PartsRead.{parts_in}
-use Rattle.p_syntax.proofs.Steps.{goes_on, fits_within}
+use Rattle.algorithm_parts.proofs.StatementSteps.{goes_on, fits_within}
 use Rattle.p_syntax.proofs.ending.read_test.Goals as goal
 
 pub returns-clause-read : goal.returns-clause-read

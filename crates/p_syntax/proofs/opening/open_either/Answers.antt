@@ -7,7 +7,8 @@ use Rattle.expression_parts.proofs.AheadLemmas.{ahead_tail}
 use Rattle.expression_parts.specs.Ahead.{ahead}
 use Rattle.algorithm_parts.specs.TokenReaders.{first}
 use Rattle.p_syntax.specs.ReadStatements.{Turn, opens, in_either, first_arm, depth}
-use Rattle.p_syntax.proofs.Steps.{fits_within, opened_stands, first_branch_stands}
+use Rattle.algorithm_parts.proofs.StatementSteps.{fits_within}
+use Rattle.p_syntax.proofs.Steps.{opened_stands, first_branch_stands}
 use Rattle.p_syntax.proofs.opening.open_either.Goals as goal
 
 pub returns-clause-read : goal.returns-clause-read

@@ -8,7 +8,8 @@ use Rattle.algorithm_parts.specs.TokenReaders.{first, a_key}
 use Rattle.algorithm_parts.specs.PartsRead.{parts_in}
 use Rattle.p_syntax.specs.ReadStatements.{opens, in_while, depth}
 use Rattle.p_syntax.proofs.Grows.{stands_grow}
-use Rattle.p_syntax.proofs.Steps.{goes_on, fits_within, opened_stands}
+use Rattle.algorithm_parts.proofs.StatementSteps.{goes_on, fits_within}
+use Rattle.p_syntax.proofs.Steps.{opened_stands}
 use Rattle.p_syntax.proofs.opening.open_while.Goals as goal
 
 pub returns-clause-read : goal.returns-clause-read

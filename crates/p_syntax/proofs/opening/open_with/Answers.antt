@@ -16,7 +16,8 @@ use Rattle.algorithm_parts.specs.ReadParts.{read_binds}
 use Rattle.algorithm_parts.specs.PartsRead.{parts_in}
 use Rattle.p_syntax.specs.ReadStatements.{Turn, opens, in_with, depth}
 use Rattle.p_syntax.proofs.Grows.{stands_grow}
-use Rattle.p_syntax.proofs.Steps.{goes_on, opened_stands}
+use Rattle.algorithm_parts.proofs.StatementSteps.{goes_on}
+use Rattle.p_syntax.proofs.Steps.{opened_stands}
 use Rattle.p_syntax.proofs.opening.open_with.Goals as goal
 
 pub returns-clause-read : goal.returns-clause-read

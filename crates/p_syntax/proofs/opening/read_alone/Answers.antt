@@ -1,5 +1,5 @@
 -- Proves what is asked of `read_alone`.
-use Rattle.std.proofs.Common.{◌+◌, ◌*◌, None, refl, length, arith}
+use Rattle.std.proofs.Common.{◌*◌, None, refl, length, arith}
 use Rattle.tla_tree.specs.Reader.{gives}
 use Rattle.expression_parts.specs.Ahead.{ahead}
 use Rattle.pcal_tree.specs.GrammarP.{simple}
@@ -9,7 +9,8 @@ use Rattle.p_syntax.specs.ReadStatements.{ended, on}
 use Rattle.algorithm_parts.specs.SimpleRead.{simple_reader}
 use Rattle.p_syntax.proofs.Grows.{stands_grow}
 use Rattle.p_syntax.proofs.SimpleSound.{simple_between, simple_further}
-use Rattle.p_syntax.proofs.Steps.{goes_on, simple_stands}
+use Rattle.algorithm_parts.proofs.StatementSteps.{goes_on}
+use Rattle.p_syntax.proofs.Steps.{simple_stands}
 use Rattle.p_syntax.proofs.opening.read_alone.Goals as goal
 
 pub returns-clause-read : goal.returns-clause-read

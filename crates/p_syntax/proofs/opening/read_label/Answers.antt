@@ -6,7 +6,8 @@ use Rattle.algorithm_parts.specs.TokenReaders.{a_name}
 use Rattle.algorithm_parts.specs.ReadParts.{read_colon}
 use Rattle.algorithm_parts.specs.ReadAround.{with_label}
 use Rattle.p_syntax.specs.ReadStatements.{begin, on}
-use Rattle.p_syntax.proofs.Steps.{goes_on, label_stands}
+use Rattle.algorithm_parts.proofs.StatementSteps.{goes_on}
+use Rattle.p_syntax.proofs.Steps.{label_stands}
 use Rattle.p_syntax.proofs.opening.read_label.Goals as goal
 
 pub returns-clause-read : goal.returns-clause-read

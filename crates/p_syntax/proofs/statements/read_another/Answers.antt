@@ -8,7 +8,8 @@ use Rattle.algorithm_parts.specs.PartsRead.{parts_in}
 use Rattle.p_syntax.specs.ReadStatements.{after, Turn}
 use Rattle.p_syntax.specs.declared.open.State.{State}
 use Rattle.p_syntax.specs.declared.open.Turn.TheVariants as turn
-use Rattle.p_syntax.specs.StatesRead.{TurnStands, another_step}
+use Rattle.p_syntax.specs.StatesRead.{TurnStands}
+use Rattle.p_syntax.specs.StepsRead.{another_step}
 use Rattle.p_syntax.proofs.AfterStatement.{separated_is, separated_not}
 use Rattle.p_syntax.proofs.statements.read_another.Goals as goal
 

@@ -3,14 +3,14 @@ use Rattle.std.specs.Prelude.{◌≡◌, ◌<◌, ◌≤◌, [], length}
 use Rattle.std.proofs.Common.{◌+◌, ◌∙◌, ap, refl, sym, subst, arith}
 use Rattle.outer_io.specs.Outer.{RoseBy, HasNoText}
 use Rattle.tla_token.specs.Limits.{most_bytes}
-use Rattle.first_path.specs.FormRead.{form_offences}
 use Rattle.pcal_cli.specs.Answers.{status_number}
-use Rattle.pcal_cli.specs.Words.{words_given, command_in, file_in}
-use Rattle.pcal_cli.specs.Causes.{IsRead, IsUnread, IsUnwritten, IsDone, HasOffence, EndedIn}
+use Rattle.pcal_cli.specs.Words.{words_given, command_in, file_of, file_in}
+use Rattle.pcal_cli.specs.Asked.{HasOffence, Accepts}
+use Rattle.pcal_cli.specs.Causes.{IsRead, IsUnread, IsUnwritten, IsDone, EndedIn}
 use Rattle.pcal_cli.specs.declared.status.Answer.TheVariants as answer
 use Rattle.pcal_cli.specs.declared.status.Status.TheVariants.{Memory}
 use Rattle.pcal_cli.proofs.Numbers.{number_is}
-use Rattle.pcal_cli.proofs.Told.{explains, of_all, of_file, of_text, of_any_file, of_any_text}
+use Rattle.pcal_cli.proofs.Told.{out_of_memory, of_all, of_command, of_text, of_any_command, of_any_text}
 use Rattle.pcal_cli.proofs.program.run.Goals.{in-Ok, in-Err}
 use Rattle.pcal_cli.proofs.program.run.Goals as goal
 
@@ -20,9 +20,9 @@ returns-clause-lacking g c =
     let o = command_in (words_given c.args.given) in
     let texts = g.H.Shelf.texts c.args.shelf.now in
     elim c.match-words_of.branch [
-      | in-Ok w ↦ of_file o (λ file. HasNoText texts file → IsUnread w.pcal-status.result) (λ file. HasNoText texts file → EndedIn c.from.result IsUnread)
-          (λ file h k. (w.pcal-status.result, e ∙ ap status_number w.status-is, h k)) (rw (← w.in-Ok.ensures, ← w.deref.ensures.value) w.pcal-status.ensures.lacking)
-      | in-Err w ↦ of_any_file o (λ file. HasNoText texts file → EndedIn c.from.result IsUnread) (λ file k. (Memory, e ∙ ap status_number w.status-is, tt))
+      | in-Ok w ↦ of_command o (λ d. HasNoText texts (file_of d) → IsUnread w.pcal-status.result) (λ d. HasNoText texts (file_of d) → EndedIn c.from.result IsUnread)
+          (λ d h k. (w.pcal-status.result, e ∙ ap status_number w.status-is, h k)) (rw (← w.in-Ok.ensures, ← w.deref.ensures.value) w.pcal-status.ensures.lacking)
+      | in-Err w ↦ of_any_command o (λ d. HasNoText texts (file_of d) → EndedIn c.from.result IsUnread) (λ d k. (Memory, e ∙ ap status_number w.status-is, tt))
     ]
 
 pub returns-clause-long : goal.returns-clause-long
@@ -31,9 +31,9 @@ returns-clause-long g c =
     let o = command_in (words_given c.args.given) in
     let texts = g.H.Shelf.texts c.args.shelf.now in
     elim c.match-words_of.branch [
-      | in-Ok w ↦ of_text o texts (λ x. most_bytes < length x → IsUnread w.pcal-status.result) (λ x. most_bytes < length x → EndedIn c.from.result IsUnread)
-          (λ x h k. (w.pcal-status.result, e ∙ ap status_number w.status-is, h k)) (rw (← w.in-Ok.ensures, ← w.deref.ensures.value) w.pcal-status.ensures.long)
-      | in-Err w ↦ of_any_text o texts (λ x. most_bytes < length x → EndedIn c.from.result IsUnread) (λ x k. (Memory, e ∙ ap status_number w.status-is, tt))
+      | in-Ok w ↦ of_text o texts (λ d x. most_bytes < length x → IsUnread w.pcal-status.result) (λ d x. most_bytes < length x → EndedIn c.from.result IsUnread)
+          (λ d x h k. (w.pcal-status.result, e ∙ ap status_number w.status-is, h k)) (rw (← w.in-Ok.ensures, ← w.deref.ensures.value) w.pcal-status.ensures.long)
+      | in-Err w ↦ of_any_text o texts (λ d x. most_bytes < length x → EndedIn c.from.result IsUnread) (λ d x k. (Memory, e ∙ ap status_number w.status-is, tt))
     ]
 
 pub returns-clause-offends : goal.returns-clause-offends
@@ -42,9 +42,9 @@ returns-clause-offends g c =
     let o = command_in (words_given c.args.given) in
     let texts = g.H.Shelf.texts c.args.shelf.now in
     elim c.match-words_of.branch [
-      | in-Ok w ↦ of_text o texts (λ x. HasOffence x → IsUnwritten w.pcal-status.result) (λ x. HasOffence x → EndedIn c.from.result IsUnwritten)
-          (λ x h k. (w.pcal-status.result, e ∙ ap status_number w.status-is, h k)) (rw (← w.in-Ok.ensures, ← w.deref.ensures.value) w.pcal-status.ensures.offends)
-      | in-Err w ↦ of_any_text o texts (λ x. HasOffence x → EndedIn c.from.result IsUnwritten) (λ x k. (Memory, e ∙ ap status_number w.status-is, tt))
+      | in-Ok w ↦ of_text o texts (λ d x. HasOffence d x → IsUnwritten w.pcal-status.result) (λ d x. HasOffence d x → EndedIn c.from.result IsUnwritten)
+          (λ d x h k. (w.pcal-status.result, e ∙ ap status_number w.status-is, h k)) (rw (← w.in-Ok.ensures, ← w.deref.ensures.value) w.pcal-status.ensures.offends)
+      | in-Err w ↦ of_any_text o texts (λ d x. HasOffence d x → EndedIn c.from.result IsUnwritten) (λ d x k. (Memory, e ∙ ap status_number w.status-is, tt))
     ]
 
 pub returns-clause-complete : goal.returns-clause-complete
@@ -56,24 +56,24 @@ returns-clause-complete g c =
     let W = RoseBy 1 (g.K.Sink.faults c.args.out.now) (g.K.Sink.faults c.match-words_of.out) in
     elim c.match-words_of.branch [
       | in-Ok w ↦
-          of_text o texts (λ x. length x ≤ most_bytes → form_offences x ≡ [] → (R → ⊥) → (W → ⊥) → IsDone w.pcal-status.result)
-          (λ x. length x ≤ most_bytes → form_offences x ≡ [] → (R → ⊥) → (W → ⊥) → EndedIn c.from.result IsDone)
-          (λ x h l k r v. (w.pcal-status.result, e ∙ ap status_number w.status-is, h l k r v)) (rw (← w.in-Ok.ensures, ← w.deref.ensures.value, w.shelf-is, w.out-is) w.pcal-status.ensures.complete)
+          of_text o texts (λ d x. length x ≤ most_bytes → Accepts d x → (R → ⊥) → (W → ⊥) → IsDone w.pcal-status.result)
+          (λ d x. length x ≤ most_bytes → Accepts d x → (R → ⊥) → (W → ⊥) → EndedIn c.from.result IsDone)
+          (λ d x h l k r v. (w.pcal-status.result, e ∙ ap status_number w.status-is, h l k r v)) (rw (← w.in-Ok.ensures, ← w.deref.ensures.value, w.shelf-is, w.out-is) w.pcal-status.ensures.complete)
       | in-Err w ↦
-          of_any_text o texts (λ x. length x ≤ most_bytes → form_offences x ≡ [] → (R → ⊥) → (W → ⊥) → EndedIn c.from.result IsDone)
-          (λ x l k r v. (Memory, e ∙ ap status_number w.status-is, tt))
+          of_any_text o texts (λ d x. length x ≤ most_bytes → Accepts d x → (R → ⊥) → (W → ⊥) → EndedIn c.from.result IsDone)
+          (λ d x l k r v. (Memory, e ∙ ap status_number w.status-is, tt))
     ]
 
 pub returns-clause-told : goal.returns-clause-told
 returns-clause-told g c =
     let e = c.from.ensures ∙ c.number.ensures in
-    let file = file_in (words_given c.args.given) in
+    let o = command_in (words_given c.args.given) in
     let texts = g.H.Shelf.texts c.args.shelf.now in
     elim c.match-words_of.branch [
       | in-Ok w ↦ (w.pcal-status.result, e ∙ ap status_number w.status-is, rw (← w.in-Ok.ensures, ← w.deref.ensures.value, w.err-is) w.pcal-status.ensures.told)
       | in-Err w ↦
           let t = w.tell.ensures in
-          (Memory, e ∙ ap status_number w.status-is, rw w.err-is (explains texts file file answer.Memory w.tell.result _ _ _ _ refl tt t.ok t.err t.cause t.ok_faults))
+          (Memory, e ∙ ap status_number w.status-is, rw w.err-is (out_of_memory texts o [] answer.Memory w.tell.result _ _ _ _ refl t.ok t.err t.cause t.ok_faults))
     ]
 
 pub returns-clause-given : goal.returns-clause-given

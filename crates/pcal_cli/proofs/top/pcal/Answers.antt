@@ -1,11 +1,11 @@
 -- Proves what is asked of `pcal`.
-use Rattle.std.proofs.Common.{◌≡◌, refl, ◌≤◌, ◌<◌, [], length, Some, None}
+use Rattle.std.proofs.Common.{◌≡◌, refl, ◌≤◌, ◌<◌, length, Some, None}
 use Rattle.outer_io.specs.Outer.{RoseBy}
 use Rattle.tla_token.specs.Limits.{most_bytes}
-use Rattle.first_path.specs.FormRead.{form_offences}
 use Rattle.command_words.specs.Commands.{translates}
-use Rattle.pcal_cli.specs.Words.{command_in, file_in, plain}
-use Rattle.pcal_cli.specs.Causes.{IsCause, IsDone, IsUnread}
+use Rattle.pcal_cli.specs.Words.{command_in, file_of, file_meant, plain}
+use Rattle.pcal_cli.specs.Asked.{Refuses, Accepts}
+use Rattle.pcal_cli.specs.Causes.{OfCommand, IsCause, IsDone, IsUnread}
 use Rattle.pcal_cli.specs.declared.status.Answer.TheVariants as answer
 use Rattle.pcal_cli.proofs.Told.{explains, out_of_memory, of_any_text}
 use Rattle.pcal_cli.proofs.top.pcal.Goals.{in-Ok-Some, in-Ok-None, in-Err}
@@ -21,7 +21,7 @@ returns-clause-complete g c =
           let e : command_in c.args.words.now ≡ Some (translates w.in-Ok-Some.file.now plain) = (rw w.in-Ok-Some.field-0-is at w.in-Ok-Some.ensures) in
           rw (c.as_status.ensures, e, w.shelf-is, w.out-is, w.answer-is) w.translate.ensures.complete
       | in-Ok-None w ↦ (let e : command_in c.args.words.now ≡ None = (rw w.in-Ok-None.field-0-is at w.in-Ok-None.ensures) in rw e tt)
-      | in-Err w ↦ of_any_text (command_in c.args.words.now) texts (λ x. length x ≤ most_bytes → form_offences x ≡ [] → (R → ⊥) → (W → ⊥) → IsDone c.as_status.result) (λ x l k r v. rw (c.as_status.ensures, w.answer-is) tt)
+      | in-Err w ↦ of_any_text (command_in c.args.words.now) texts (λ d x. length x ≤ most_bytes → Accepts d x → (R → ⊥) → (W → ⊥) → IsDone c.as_status.result) (λ d x l k r v. rw (c.as_status.ensures, w.answer-is) tt)
     ]
 
 pub returns-clause-long : goal.returns-clause-long
@@ -32,26 +32,26 @@ returns-clause-long g c =
           let e : command_in c.args.words.now ≡ Some (translates w.in-Ok-Some.file.now plain) = (rw w.in-Ok-Some.field-0-is at w.in-Ok-Some.ensures) in
           rw (c.as_status.ensures, e, w.answer-is) w.translate.ensures.long
       | in-Ok-None w ↦ (let e : command_in c.args.words.now ≡ None = (rw w.in-Ok-None.field-0-is at w.in-Ok-None.ensures) in rw e tt)
-      | in-Err w ↦ of_any_text (command_in c.args.words.now) texts (λ x. most_bytes < length x → IsUnread c.as_status.result) (λ x l. rw (c.as_status.ensures, w.answer-is) tt)
+      | in-Err w ↦ of_any_text (command_in c.args.words.now) texts (λ d x. most_bytes < length x → IsUnread c.as_status.result) (λ d x l. rw (c.as_status.ensures, w.answer-is) tt)
     ]
 
 pub returns-clause-told : goal.returns-clause-told
 returns-clause-told g c =
     let t = c.tell.ensures in
     let texts = g.H.Shelf.texts c.args.shelf.now in
-    let file = file_in c.args.words.now in
+    let o = command_in c.args.words.now in
     elim c.match-file_of.branch [
       | in-Ok-Some w ↦
           let k : command_in c.args.words.now ≡ Some (translates w.in-Ok-Some.file.now plain) = (rw w.in-Ok-Some.field-0-is at w.in-Ok-Some.ensures) in
-          let e : c.as_bytes.result.now ≡ file = rw k (rw w.answer-is at c.as_bytes.ensures.value) in
-          let cause : IsCause texts file c.match-file_of.answer.0 = rw (k, w.answer-is) w.translate.ensures.refused in
-          rw c.as_status.ensures (explains texts file c.as_bytes.result.now c.match-file_of.answer.0 c.tell.result _ _ _ _ e cause t.ok t.err t.cause t.ok_faults)
+          let e : c.as_bytes.result.now ≡ file_meant o = rw k (rw w.answer-is at c.as_bytes.ensures.value) in
+          let cause : OfCommand o (λ d. IsCause texts (file_of d) (Refuses d) c.match-file_of.answer.0) = rw (k, w.answer-is) w.translate.ensures.refused in
+          rw c.as_status.ensures (explains texts o c.as_bytes.result.now c.match-file_of.answer.0 c.tell.result _ _ _ _ e cause t.ok t.err t.cause t.ok_faults)
       | in-Ok-None w ↦
           let k : command_in c.args.words.now ≡ None = (rw w.in-Ok-None.field-0-is at w.in-Ok-None.ensures) in
-          let e : c.as_bytes.result.now ≡ file = rw k (rw w.answer-is at c.as_bytes.ensures.value) in
-          let cause : IsCause texts file c.match-file_of.answer.0 = rw w.answer-is tt in
-          rw c.as_status.ensures (explains texts file c.as_bytes.result.now c.match-file_of.answer.0 c.tell.result _ _ _ _ e cause t.ok t.err t.cause t.ok_faults)
+          let e : c.as_bytes.result.now ≡ file_meant o = rw k (rw w.answer-is at c.as_bytes.ensures.value) in
+          let cause : OfCommand o (λ d. IsCause texts (file_of d) (Refuses d) c.match-file_of.answer.0) = rw k tt in
+          rw c.as_status.ensures (explains texts o c.as_bytes.result.now c.match-file_of.answer.0 c.tell.result _ _ _ _ e cause t.ok t.err t.cause t.ok_faults)
       | in-Err w ↦
           let same : c.match-file_of.answer.0 ≡ answer.Memory = rw w.answer-is refl in
-          rw c.as_status.ensures (out_of_memory texts file c.as_bytes.result.now c.match-file_of.answer.0 c.tell.result _ _ _ _ same t.ok t.err t.cause t.ok_faults)
+          rw c.as_status.ensures (out_of_memory texts o c.as_bytes.result.now c.match-file_of.answer.0 c.tell.result _ _ _ _ same t.ok t.err t.cause t.ok_faults)
     ]

@@ -10,7 +10,7 @@ use Rattle.first_path.specs.Placed.{Places, algorithm_at, module_at, translation
 use Rattle.first_path.proofs.Stands.{stands}
 use Rattle.first_path.proofs.AlgorithmAlone.{algorithm_alone}
 use Rattle.first_path.proofs.OutsideApart.{Apart}
-use Rattle.first_path.proofs.Placing.{around}
+use Rattle.first_path.proofs.Placing.{of_form, around}
 use Rattle.first_path.proofs.ReadsModule.{apart_read}
 use Rattle.translation.specs.Region.{written_module}
 use Rattle.translation.proofs.OfForm.{nowhere_at_all, written_of_form}
@@ -21,10 +21,10 @@ written_around : (x : List ℕ) (f : Parts) → IsForm x f → (o : Outside) →
 written_around x f h o apart p =
     let is : written_module false f.title o (labelled false (algorithm_at p f)) ≡ module_at o nowhere_at_all f =
     λ i. record { title = f.title; outside = o; region = written_of_form o p f h.fit apart i } in
-    subst (λ (m : Module). Around x m (translation_of x f)) (sym is) (around x o nowhere_at_all f h)
+    subst (λ (m : Module). Around x m (translation_of x f)) (sym is) (around x o nowhere_at_all f (of_form x f h))
 
 pub returns : goal.returns
 returns c = λ x f h m r a s.
     let own = stands x f h in
     subst (λ (b : Algorithm). Around x (written_module false f.title m.outside (labelled false b)) (translation_of x f))
-    (algorithm_alone x f h (algorithm_at own.0 f) a own.1 s) (written_around x f h m.outside (apart_read x f h m r) own.0)
+    (algorithm_alone x f h (algorithm_at own.0 f) a own.1 s) (written_around x f h m.outside (apart_read x f (of_form x f h) m r) own.0)

@@ -1,0 +1,17 @@
+-- That the first offences are found.
+pub mod Joins
+pub mod TokensFound
+pub mod Counts
+pub mod Heights
+pub mod LabelWalks
+pub mod Tables
+pub mod CallWalks
+pub mod BoundLemmas
+pub mod Greater
+pub mod NestLaws
+pub mod DeepFound
+pub mod AllCounts
+pub mod WithinLimits
+mod Rows
+pub mod PlacedTokens
+pub mod AnswerRules

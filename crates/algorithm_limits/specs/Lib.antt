@@ -1,0 +1,9 @@
+pub mod Joined
+pub mod TokensRefused
+pub mod Counting
+pub mod LabelNames
+pub mod LabelsIn
+pub mod Numbers
+pub mod ChainsIn
+pub mod DepthsIn
+pub mod Answered

@@ -1,0 +1,104 @@
+//! What is read of a text as an algorithm, as a syntax prints it, or the refusal.
+
+ghost use Rattle.std.specs.Prelude.{◌≡◌, ◌<◌, ◌≤◌, ◌-◌, length, map, get_or, IfOk, IfErr};
+ghost use Rattle.tla_token.specs.Limits.{past_text};
+ghost use Rattle.pcal_tree.specs.InMemory.{past_algorithm};
+
+use c_syntax::algorithm::read_algorithm as read_c;
+use expression_parts::cursor::Halt;
+use p_syntax::algorithm::read_algorithm as read_p;
+use pcal_tree::algorithm::Algorithm;
+use std::alloc::{AllocError, Global};
+use std::process::Abort;
+use syntax_print::{Syntax, write_in};
+use tla_expr::laws::given_numbers_fit;
+use tla_pool::Pool;
+use tla_token::{Place, Refusal, Stop, Tokens, tokens};
+
+// The place of the token from which on so many are left, or of the end.
+fn place_before(tokens: &Tokens, left: usize) -> Place {
+    let at = tokens.items.len().saturating_sub(left);
+    if at < tokens.items.len() {
+        tokens.items[at].place
+    } else {
+        tokens.end
+    }
+}
+
+// The algorithm that a text is in a syntax.
+fn read(alloc: Global, text: &[u8], from: Syntax, pool: &mut Pool) -> Result<Algorithm, Stop>
+    requires { length text.now < past_text }
+    ensures { IfOk result (λ a. past_algorithm a ≤ length pool.new) }
+{
+    let tokens = tokens(alloc, text, 0, text.len())?;
+    given_numbers_fit();
+    let read = match from {
+        Syntax::P => read_p(alloc, &tokens, pool),
+        Syntax::C => read_c(alloc, &tokens, pool),
+    };
+    match read {
+        Ok((algorithm, _)) => Ok(algorithm),
+        Err(Halt::Memory) => Err(Stop::Memory),
+        Err(Halt::Refused(rule, left)) => Err(Stop::Refused(Refusal {
+            rule,
+            place: place_before(&tokens, left),
+        })),
+    }
+}
+
+/// How the algorithm of a text in a syntax is printed in another, or the refusal.
+///
+/// # Errors
+///
+/// Only for want of memory.
+pub fn told(alloc: Global, text: &[u8], from: Syntax, to: Syntax) -> Result<Vec<u8>, AllocError> {
+    let mut pool = Pool::new(alloc);
+    if text.len() > 10000 {
+        return Ok(Vec::new(alloc));
+    }
+    match read(alloc, text, from, &mut pool) {
+        Ok(algorithm) => write_in(alloc, &pool, to, &algorithm),
+        Err(Stop::Refused(refusal)) => {
+            let told = format!(in alloc; "{refusal}")?;
+            Vec::from_slice(alloc, told.as_bytes())
+        }
+        Err(Stop::Memory) => Vec::from_slice(alloc, b"-"),
+    }
+}
+
+/// Tells each text, and panics where it isn't told as is wanted.
+///
+/// # Errors
+///
+/// Only for want of memory.
+pub fn rows_hold(
+    rt: &impl Abort,
+    alloc: Global,
+    (from, to): (Syntax, Syntax),
+    rows: &[(&str, &str)],
+) -> Result<(), AllocError> {
+    for (text, wanted) in rows {
+        let shown = told(alloc, text.as_bytes(), from, to)?;
+        assert_eq!(rt; shown.as_slice(), wanted.as_bytes(), "{text}");
+    }
+    Ok(())
+}
+
+/// The same of lists of statements, each the body of an algorithm of one process, from the first column of a line on.
+///
+/// # Errors
+///
+/// Only for want of memory.
+pub fn bodies_hold(
+    rt: &impl Abort,
+    alloc: Global,
+    rows: &[(&str, &str)],
+) -> Result<(), AllocError> {
+    for (body, printed) in rows {
+        let text = format!(in alloc; "--algorithm R {{ {{\n{body}\n}} }}")?;
+        let wanted = format!(in alloc; "--algorithm R\nbegin\n{printed}\nend algorithm")?;
+        let shown = told(alloc, text.as_bytes(), Syntax::C, Syntax::P)?;
+        assert_eq!(rt; shown.as_slice(), wanted.as_bytes(), "{body}");
+    }
+    Ok(())
+}

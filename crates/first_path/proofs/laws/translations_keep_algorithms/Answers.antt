@@ -1,0 +1,9 @@
+-- Proves the law `translations_keep_algorithms`.
+use Rattle.first_path.proofs.SpelledInFile.{stand_there, stands_kept}
+use Rattle.first_path.proofs.laws.translations_keep_algorithms.Goals as goal
+
+pub returns-clause-spelled : goal.returns-clause-spelled
+returns-clause-spelled c = stand_there
+
+pub returns-clause-kept : goal.returns-clause-kept
+returns-clause-kept c = stands_kept

@@ -1,0 +1,73 @@
+-- A whole algorithm is read as both syntaxes have it, with `end algorithm` behind its parts.
+use Rattle.std.proofs.Common.{◌≡◌, ℕ, suc, ◌+◌, ◌*◌, ◌<◌, ◌≤◌, true, List, [], ◌∷◌, length, Ok, Err, refl, sym, ap, subst, ◌∙◌, arith, codes}
+use Rattle.tla_token.specs.declared.token.Tokens.{Tokens}
+use Rattle.tla_token.specs.declared.rule.Rule.TheVariants as rule
+use Rattle.tla_tree.specs.Tree.{Tree}
+use Rattle.tla_tree.specs.Lexical.{Token}
+use Rattle.tla_tree.specs.Reader.{Out, Reader, ◌>>=◌, then_read, gives}
+use Rattle.expression_parts.specs.declared.cursor.Halt.{Halt}
+use Rattle.expression_parts.specs.declared.cursor.Halt.TheVariants as halt
+use Rattle.expression_parts.specs.ReadIn.{Reads, Fails}
+use Rattle.expression_parts.specs.Ahead.{ahead}
+use Rattle.pcal_tree.specs.declared.algorithm.Algorithm.{Algorithm}
+use Rattle.pcal_tree.specs.InMemory.{algorithm_at, past_algorithm}
+use Rattle.pcal_tree.specs.Grammar.{Around, to_end, Text, algorithm_of}
+use Rattle.algorithm_parts.specs.TokenReaders.{a_key, a_name, Parts, limited_parts}
+use Rattle.algorithm_parts.specs.ReadParts.{read_section}
+use Rattle.algorithm_parts.specs.ReadAround.{read_head, to_last}
+use Rattle.algorithm_parts.specs.ReadRoutines.{read_define, read_macros, read_procedures}
+use Rattle.algorithm_parts.specs.PartsRead.{StandsFor, parts_in}
+use Rattle.algorithm_parts.proofs.Between.{ahead_length}
+use Rattle.algorithm_parts.proofs.Gathered.{fails_then}
+use Rattle.algorithm_parts.proofs.OneAfter.{then_same, then_assoc}
+use Rattle.routine_parts.specs.ReadWhole.{read_whole}
+use Rattle.p_syntax.specs.ReadAlgorithm.{ways, read_main, read_text, read_limited_algorithm}
+use Rattle.p_syntax.specs.Around.{closing, frames}
+
+closed_then : {B : Type 0} (ts : List Token) (g : Around → Reader B) → then_read (closing ts) g ≡ then_read (a_key (codes "end") ts) (λ e. a_key (codes "algorithm") >>= λ f. g (to_end e f))
+closed_then ts g =
+    then_assoc (a_key (codes "end") ts) (λ e. a_key (codes "algorithm") >>= λ f. gives (to_end e f)) g ∙ then_same (a_key (codes "end") ts) _ _ (λ e us. then_assoc (a_key (codes "algorithm") us) (λ f. gives (to_end e f)) g)
+
+text_is_whole : (m : Parts) (n : ℕ) (ts : List Token) → read_text m n ts ≡ read_whole m (ways m) (frames m) n ts
+text_is_whole m n ts =
+    then_same (read_head ts) _ _
+    (λ h us. then_same (a_name us) _ _
+    (λ x vs. then_same (read_section true m n vs) _ _
+    (λ ss xs. then_same (read_define (ways m) n xs) _ _
+    (λ d ys. then_same (read_macros (ways m) n ys) _ _
+    (λ ms zs. then_same (read_procedures m (ways m) n zs) _ _
+    (λ ps cs. then_same (read_main m n cs) _ _ (λ b ds. sym (closed_then ds (λ a. gives (record { head = h; name = x; around = a; variables = ss; define = d; macros = ms; procedures = ps; main = b }))))))))))
+
+abbrev pub whole : Tokens → Out Text
+whole v = read_whole (parts_in v) (ways (parts_in v)) (frames (parts_in v)) (suc (length v.items.items)) (ahead v 0)
+
+limited_is_whole : (v : Tokens) → read_limited_algorithm (ahead v 0) ≡ then_read (whole v) to_last
+limited_is_whole v =
+    let all : length (ahead v 0) ≡ length v.items.items = omega (arith, ahead_length v 0 (omega arith)) in
+    ap (λ (k : ℕ). then_read (read_text (limited_parts (4 * k)) (suc k) (ahead v 0)) to_last) all ∙ ap (λ (o : Out Text). then_read o to_last) (text_is_whole (parts_in v) (suc (length v.items.items)) (ahead v 0))
+
+-- ---- nothing stands behind it
+none_behind : (v : Tokens) (i : ℕ) (a : Text) (ts : List Token) → length ts + i ≡ length v.items.items → length v.items.items ≤ i → to_last a ts ≡ Ok (a, ts)
+none_behind v i a [] e h = refl
+none_behind v i a (t ∷ ts) e h = absurd (omega (arith, e, h))
+
+some_behind : (v : Tokens) (i : ℕ) (a : Text) (ts : List Token) → length ts + i ≡ length v.items.items → i < length v.items.items → to_last a ts ≡ Err (rule.Syntax, ts)
+some_behind v i a [] e h = absurd (omega (arith, e, h))
+some_behind v i a (t ∷ ts) e h = refl
+
+refused_as : {A : Type 0} (e : Halt) (us : List Token) (o : Out A) → e ≡ halt.Refused rule.Syntax (length us) → o ≡ Err (rule.Syntax, us) → Fails e o
+refused_as e us o h g = rw h (rw g (refl, refl))
+
+module _ (v : Tokens) where
+  last_is : (i : ℕ) (a : Text) → whole v ≡ Ok (a, ahead v i) → read_limited_algorithm (ahead v 0) ≡ to_last a (ahead v i)
+  last_is i a e = limited_is_whole v ∙ ap (λ (o : Out Text). then_read o to_last) e
+
+  pub ends_there : (us : List Tree) (x : Algorithm) (i : ℕ) → i ≤ length v.items.items → length v.items.items ≤ i → Reads (StandsFor algorithm_at past_algorithm algorithm_of us x) (ahead v i) (whole v)
+      → Reads (StandsFor algorithm_at past_algorithm algorithm_of us x) (ahead v i) (read_limited_algorithm (ahead v 0))
+  ends_there us x i b h r = record { what = r.what; is = last_is i r.what r.is ∙ none_behind v i r.what (ahead v i) (ahead_length v i b) h; told = r.told }
+
+  pub goes_further : (us : List Tree) (x : Algorithm) (e : Halt) (i : ℕ) → i ≤ length v.items.items → i < length v.items.items → e ≡ halt.Refused rule.Syntax (length (ahead v i)) → Reads (StandsFor algorithm_at past_algorithm algorithm_of us x) (ahead v i) (whole v) → Fails e (read_limited_algorithm (ahead v 0))
+  goes_further us x e i b h k r = refused_as e (ahead v i) (read_limited_algorithm (ahead v 0)) k (last_is i r.what r.is ∙ some_behind v i r.what (ahead v i) (ahead_length v i b) h)
+
+  pub whole_fails : (e : Halt) → Fails e (whole v) → Fails e (read_limited_algorithm (ahead v 0))
+  whole_fails e h = subst (Fails e) (sym (limited_is_whole v)) (fails_then e (whole v) to_last h)

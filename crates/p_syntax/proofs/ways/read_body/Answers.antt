@@ -1,0 +1,43 @@
+-- Proves what is asked of `read_body`.
+use Rattle.std.proofs.Common.{sym, subst, arith}
+use Rattle.std.proofs.lemmas.Result.{err_from_is_err_and}
+use Rattle.expression_parts.specs.ReadIn.{Fails}
+use Rattle.expression_parts.specs.Ahead.{ahead}
+use Rattle.algorithm_parts.specs.PartsRead.{parts_in}
+use Rattle.algorithm_parts.proofs.Gathered.{fails_then}
+use Rattle.pcal_tree.specs.Grammar.{begin_end}
+use Rattle.p_syntax.proofs.Bodies.{behind_list, behind_end, behind_word, body_at_list, body_at_end, body_at_word, body_whole}
+use Rattle.p_syntax.proofs.ways.read_body.Goals as goal
+
+pub returns-clause-read : goal.returns-clause-read
+returns-clause-read c n e =
+    let v = c.args.tokens.now in
+    let list = c.in_ok-list.ensures.read n (omega (arith, e, c.in_ok-from.ensures.further)) in
+    record {
+      what = begin_end c.in_ok-from.field-0-0 list.what c.in_ok-word_at.field-0-0 c.in_ok-last.field-0-0 c.past_semicolon-next.result.0;
+      is = body_whole (parts_in v) n c.args.word.now _ (ahead v c.args.at) _ c.in_ok-from.ensures.value _ _ list.is _ _ c.in_ok-word_at.ensures.value _ _ _ _ c.in_ok-last.ensures.value c.past_semicolon-next.ensures.read;
+      told = record { below = list.told.below; tree = list.told.tree };
+    }
+
+pub returns-in_err-list-clause-read : goal.returns-in_err-list-clause-read
+returns-in_err-list-clause-read c n e =
+    let m = parts_in c.args.tokens.now in
+    let p = err_from_is_err_and c.from_residual-in_err-list.result c.from_residual-in_err-list.ensures.1 in
+    let x = c.in_err-list.field-0.0 in
+    rw (p.1, p.2) (subst (Fails x) (sym (body_at_list m n c.args.word.now _ (ahead c.args.tokens.now c.args.at) _ c.in_ok-from.ensures.value)) (fails_then x _ (behind_list m n c.args.word.now c.in_ok-from.field-0-0) (c.in_err-list.ensures.read n (omega (arith, e, c.in_ok-from.ensures.further)))))
+
+pub returns-in_err-word_at-clause-read : goal.returns-in_err-word_at-clause-read
+returns-in_err-word_at-clause-read c n e =
+    let m = parts_in c.args.tokens.now in
+    let p = err_from_is_err_and c.from_residual-in_err-word_at.result c.from_residual-in_err-word_at.ensures.1 in
+    let x = c.in_err-word_at.field-0.0 in
+    let list = c.in_ok-list.ensures.read n (omega (arith, e, c.in_ok-from.ensures.further)) in
+    rw (p.1, p.2) (subst (Fails x) (sym (body_at_end m n c.args.word.now _ (ahead c.args.tokens.now c.args.at) _ c.in_ok-from.ensures.value _ _ list.is)) (fails_then x _ (behind_end m n c.args.word.now c.in_ok-from.field-0-0 list.what) c.in_err-word_at.ensures.value))
+
+pub returns-in_err-last-clause-read : goal.returns-in_err-last-clause-read
+returns-in_err-last-clause-read c n e =
+    let m = parts_in c.args.tokens.now in
+    let p = err_from_is_err_and c.from_residual-in_err-last.result c.from_residual-in_err-last.ensures.1 in
+    let x = c.in_err-last.field-0.0 in
+    let list = c.in_ok-list.ensures.read n (omega (arith, e, c.in_ok-from.ensures.further)) in
+    rw (p.1, p.2) (subst (Fails x) (sym (body_at_word m n c.args.word.now _ (ahead c.args.tokens.now c.args.at) _ c.in_ok-from.ensures.value _ _ list.is _ _ c.in_ok-word_at.ensures.value)) (fails_then x _ (behind_word m n c.args.word.now c.in_ok-from.field-0-0 list.what c.in_ok-word_at.field-0-0) c.in_err-last.ensures.value))

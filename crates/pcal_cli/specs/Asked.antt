@@ -1,0 +1,49 @@
+-- What each command asks of its file, what it writes for it, and what it promises.
+use Rattle.std.specs.Prelude.{◌≡◌, not, List, [], ℕ}
+use Rattle.tla_token.specs.declared.rule.Refusal.{Refusal}
+use Rattle.tla_token.specs.declared.rule.Stop.{Stop}
+use Rattle.tla_token.specs.declared.rule.Stop.TheVariants as stop
+use Rattle.command_words.specs.Commands as words
+use Rattle.command_words.specs.Commands.{Command, translates}
+use Rattle.promise.specs.Options.{Options}
+use Rattle.promise.specs.Headline.{Headline}
+use Rattle.first_path.specs.FormRead.{form_offences, FirstOffence}
+use Rattle.first_path.specs.Written.{Written}
+use Rattle.pcal_cli.specs.Words.{plain}
+
+-- ---- what it asks
+
+-- the text of its file is refused so
+abbrev pub Refuses : Command → List ℕ → Refusal → Type 0
+Refuses (translates file options) x r = FirstOffence x r
+Refuses c x r = ⊥
+
+abbrev pub HasOffence : Command → List ℕ → Type 0
+HasOffence c x = (r : Refusal) × Refuses c x r
+
+-- nothing in the text is in the way
+abbrev pub Accepts : Command → List ℕ → Type 0
+Accepts (translates file options) x = form_offences x ≡ []
+Accepts c x = ⊥
+
+-- why nothing is written, where this says how a text is refused
+abbrev pub IsStop : (Refusal → Type 0) → Stop → Type 0
+IsStop R stop.Memory = Unit {0}
+IsStop R (stop.Refused r) = R r
+
+-- ---- what it writes
+
+-- w is what is written for the text x; so far a translation is one without options
+abbrev pub Makes : Command → List ℕ → List ℕ → Type 0
+Makes (translates file options) x w = (options ≡ plain) × Written x w
+Makes c x w = ⊥
+
+-- ---- what it promises
+
+-- the options of a translation, as the promise has them
+abbrev pub promised : words.Options → Options
+promised options = record { label = options.forced; no_terminating = not options.terminating }
+
+abbrev pub Promises : Command → List ℕ → List ℕ → Type 0
+Promises (translates file options) x w = Headline (promised options) x w
+Promises c x w = ⊥

@@ -1,0 +1,16 @@
+-- A file that is not refused is rewritten, in each syntax, to one file.
+use Rattle.std.proofs.Common.{◌≡◌, None}
+use Rattle.pcal_tree.specs.Grammar.{Syntax}
+use Rattle.module_tree.specs.TextFront.{Text}
+use Rattle.syntax_print.specs.Rewritten.{Rewritten}
+use Rattle.syntax_print.specs.Rewrites.{Rewrites}
+use Rattle.syntax_print.proofs.Rewritten.{some_rewritten, one_rewritten, rewritten_rewrites}
+use Rattle.rewriting.specs.Spelling.{AnswersRewriting}
+use Rattle.rewriting.proofs.Unrefused.{unrefused_is_fine, unrefused_holds}
+
+pub is_rewritten : (s : Syntax) (x : Text) → AnswersRewriting x None → (w : Text) × Rewrites s x w × ((v : Text) → Rewritten s x v → v ≡ w)
+is_rewritten s x a =
+    let g = unrefused_holds x a in
+    let h = g.1 in
+    let w = some_rewritten s h.syntax x h.text g.0 h.is_text h.spelled in
+    (w.0, rewritten_rewrites s x w.0 (unrefused_is_fine x a) w.1, λ v r. one_rewritten s x v w.0 r w.1)

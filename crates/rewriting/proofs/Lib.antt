@@ -1,0 +1,10 @@
+mod RowsRefusals
+pub mod RowsSpelling
+pub mod OneAnswer
+pub mod Unrefused
+pub mod Counts
+pub mod Decided
+pub mod PlaceOrder
+pub mod SplitDecides
+pub mod Changed
+pub mod Refused

@@ -1,0 +1,10 @@
+-- The lemmas of the proofs.
+mod Rows
+pub mod NoMore
+pub mod Grown
+pub mod MacroRounds
+pub mod ProcedureRounds
+pub mod ProcessRounds
+pub mod MainProcesses
+pub mod WholeRead
+pub mod TextStands
