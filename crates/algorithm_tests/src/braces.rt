@@ -1,8 +1,8 @@
 // Whole algorithms in C-syntax, and how both syntaxes print them.
 
 use crate::reading::rows_hold;
+use pcal_tree::Syntax;
 use std::alloc::AllocError;
-use syntax_print::Syntax;
 
 // All that an algorithm may have around its statements.
 const WHOLE: [(&str, &str); 10] = [

@@ -1,8 +1,8 @@
 // Algorithms in P-syntax, and how C-syntax prints them, or the first token that none has there.
 
 use crate::reading::rows_hold;
+use pcal_tree::Syntax;
 use std::alloc::AllocError;
-use syntax_print::Syntax;
 
 // All that an algorithm may have.
 const WHOLE: [(&str, &str); 14] = [

@@ -1,8 +1,8 @@
 // Texts that are no algorithm in C-syntax: the first token that none has there, or the end.
 
 use crate::reading::rows_hold;
+use pcal_tree::Syntax;
 use std::alloc::AllocError;
-use syntax_print::Syntax;
 
 const REFUSED: [(&str, &str); 40] = [
     ("", "1:1: 15 Syntax"),

@@ -7,7 +7,10 @@ pub mod close;
 pub mod laws;
 pub mod open;
 pub mod opening;
+pub mod read;
 pub mod sequence;
 pub mod statements;
 pub mod take;
 pub mod ways;
+
+pub use read::read_c;

@@ -1,10 +1,8 @@
 -- The commands in memory, as what their words mean.
 use Rattle.std.specs.Prelude.{[]}
 use Rattle.clap.specs.Simple.{App, Shape}
-use Rattle.pcal_tree.specs.Grammar as grammar
+use Rattle.pcal_tree.specs.Syntaxes.{syntax_of}
 use Rattle.command_words.specs.Commands as pure
-use Rattle.command_words.specs.declared.command.Syntax.{Syntax}
-use Rattle.command_words.specs.declared.command.Syntax.TheVariants as syntax
 use Rattle.command_words.specs.declared.command.Options.{Options}
 use Rattle.command_words.specs.declared.command.Command.{Command}
 use Rattle.command_words.specs.declared.command.Command.TheVariants as command
@@ -12,10 +10,6 @@ use Rattle.command_words.specs.declared.command.Command.TheVariants as command
 -- a command by itself
 abbrev pub alone : Shape → App
 alone s = record { top = s; subs = [] }
-
-abbrev pub syntax_of : Syntax → grammar.Syntax
-syntax_of syntax.P = grammar.p_syntax
-syntax_of syntax.C = grammar.c_syntax
 
 abbrev pub options_of : Options → pure.Options
 options_of o = record { forced = o.forced; terminating = o.terminating }

@@ -1,5 +1,7 @@
 //! The commands, with what their words name.
 
+use pcal_tree::Syntax;
+
 /// How a translation is made.
 #[derive(Clone, Copy, PartialEq, Eq, Debug)]
 pub struct Options {
@@ -7,15 +9,6 @@ pub struct Options {
     pub forced: bool,
     /// The translation says that nothing changes when all are done: `--no-terminating` wasn't given.
     pub terminating: bool,
-}
-
-/// The syntax that an algorithm is to be written in.
-#[derive(Clone, Copy, PartialEq, Eq, Debug)]
-pub enum Syntax {
-    /// P-syntax.
-    P,
-    /// C-syntax.
-    C,
 }
 
 /// A command, with the words that name its files.

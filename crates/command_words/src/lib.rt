@@ -7,5 +7,5 @@ mod table;
 #[cfg(test)]
 mod tests;
 
-pub use command::{Command, Options, Syntax};
+pub use command::{Command, Options};
 pub use read::command_of;

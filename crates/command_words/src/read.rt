@@ -7,12 +7,14 @@ ghost use Rattle.clap.specs.Walk.{rows_of};
 ghost use Rattle.clap.specs.Matches.{found_of};
 ghost use Rattle.command_words.specs.Table.{commands};
 ghost use Rattle.command_words.specs.Commands.{meaning, meaning_in, syntax_in, options_in, is_set, is_decimal, between};
-ghost use Rattle.command_words.specs.Meant.{meant, syntax_of, options_of};
+ghost use Rattle.pcal_tree.specs.Syntaxes.{syntax_of};
+ghost use Rattle.command_words.specs.Meant.{meant, options_of};
 
-use crate::command::{Command, Options, Syntax};
+use crate::command::{Command, Options};
 use crate::table::table;
 use clap::ArgMatches;
 use clap::error::ErrorKind;
+use pcal_tree::Syntax;
 use std::alloc::{AllocError, Global};
 use tla_token::bytes::{is_digit, number_value};
 

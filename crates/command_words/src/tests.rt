@@ -1,6 +1,7 @@
 // Words, and what they mean: each command, and its options at each place.
 
-use crate::{Command, Options, Syntax, command_of};
+use crate::{Command, Options, command_of};
+use pcal_tree::Syntax;
 use std::alloc::{AllocError, Global};
 use std::test::Fail;
 

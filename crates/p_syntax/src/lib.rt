@@ -7,6 +7,9 @@ pub mod ending;
 pub mod laws;
 pub mod open;
 pub mod opening;
+pub mod read;
 pub mod sequence;
 pub mod statements;
 pub mod ways;
+
+pub use read::read_p;

@@ -31,7 +31,7 @@ use Rattle.first_path.proofs.Promise.{written, no_offence, first_splitting, firs
 use Rattle.tla_token.specs.declared.rule.Refusal.{Refusal}
 use Rattle.tla_token.specs.declared.rule.Stop.{Stop}
 use Rattle.tla_token.specs.declared.rule.Stop.TheVariants as stop
-use Rattle.pcal_cli.specs.Asked.{IsStop}
+use Rattle.rewriting.specs.Refusals.{IsStop}
 use Rattle.pcal_cli.specs.declared.rest.Rest.{Rest}
 use Rattle.pcal_cli.specs.laws.FormTokens.{capped_kind, kinds_seen, kinds_ahead}
 use Rattle.pcal_cli.specs.OutsideTokens.{view_seen, views_of}

@@ -1,8 +1,6 @@
 -- What each command asks of its file, what it writes for it, and what it promises.
 use Rattle.std.specs.Prelude.{◌≡◌, not, List, [], ℕ}
 use Rattle.tla_token.specs.declared.rule.Refusal.{Refusal}
-use Rattle.tla_token.specs.declared.rule.Stop.{Stop}
-use Rattle.tla_token.specs.declared.rule.Stop.TheVariants as stop
 use Rattle.command_words.specs.Commands as words
 use Rattle.command_words.specs.Commands.{Command, translates}
 use Rattle.promise.specs.Options.{Options}
@@ -25,11 +23,6 @@ HasOffence c x = (r : Refusal) × Refuses c x r
 abbrev pub Accepts : Command → List ℕ → Type 0
 Accepts (translates file options) x = form_offences x ≡ []
 Accepts c x = ⊥
-
--- why nothing is written, where this says how a text is refused
-abbrev pub IsStop : (Refusal → Type 0) → Stop → Type 0
-IsStop R stop.Memory = Unit {0}
-IsStop R (stop.Refused r) = R r
 
 -- ---- what it writes
 

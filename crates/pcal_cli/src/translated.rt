@@ -10,7 +10,7 @@ ghost use Rattle.first_path.specs.FormRead.{FirstOffence, file_form, form_offenc
 ghost use Rattle.first_path.specs.Placed.{region_of, translation_of};
 ghost use Rattle.first_path.specs.Written.{Written};
 ghost use Rattle.pcal_cli.specs.AlgorithmTokens.{AreAlgorithm};
-ghost use Rattle.pcal_cli.specs.Asked.{IsStop};
+ghost use Rattle.rewriting.specs.Refusals.{IsStop};
 ghost use Rattle.pcal_cli.specs.FormSeen.{parts_of};
 
 use crate::built::region_in;

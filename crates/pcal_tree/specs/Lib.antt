@@ -51,3 +51,4 @@ pub mod OffencesCounts
 pub mod laws
 pub mod Takers
 pub mod InMemory
+pub mod Syntaxes

@@ -4,3 +4,6 @@
 pub mod algorithm;
 pub mod laws;
 pub mod mark;
+pub mod syntax;
+
+pub use syntax::Syntax;

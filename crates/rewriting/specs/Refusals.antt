@@ -1,6 +1,8 @@
 -- The one refusal that is answered, of all that is wrong with a file, and of the files that a command reads.
 use Rattle.std.specs.Prelude.{ℕ, suc, nat_le, List, [], ◌∷◌, ◌++◌, map, filter, Option, Some, None}
 use Rattle.tla_token.specs.declared.rule.Refusal.{Refusal}
+use Rattle.tla_token.specs.declared.rule.Stop.{Stop}
+use Rattle.tla_token.specs.declared.rule.Stop.TheVariants as stop
 use Rattle.tla_token.specs.Places.{place_at}
 use Rattle.tla_token.specs.Rules.{rule_number}
 use Rattle.tla_token.specs.Offences.{Offence}
@@ -61,3 +63,8 @@ first_file n (None ∷ rs) = first_file (suc n) rs
 -- a module, and the files beside it that the command reads, each with what is wrong with it
 abbrev pub refused : ℕ → Wrong → List (List Refusal) → Option (ℕ × Refusal)
 refused n w others = first_file 0 (refusal_of n w ∷ map first others)
+
+-- why a call gives nothing, where this says how a text is refused; of want of memory nothing is said
+abbrev pub IsStop : (Refusal → Type 0) → Stop → Type 0
+IsStop R stop.Memory = Unit {0}
+IsStop R (stop.Refused r) = R r

@@ -2,6 +2,8 @@
 #![tactic(auto)]
 
 pub mod laws;
+pub mod read_file;
 pub mod write_file;
 
+pub use read_file::{read_parts, rewrite_text};
 pub use write_file::rewritten;

@@ -4,14 +4,15 @@ ghost use Rattle.std.specs.Prelude.{◌≤◌, ◌≡◌, ◌++◌, length, take
 ghost use Rattle.tla_tree.specs.laws.InText.{ends_word};
 ghost use Rattle.pcal_tree.specs.InMemory.{algorithm_at, past_algorithm};
 ghost use Rattle.file_parts.specs.Splitting.{Splits};
-ghost use Rattle.syntax_print.specs.Adding.{syntax_of};
+ghost use Rattle.pcal_tree.specs.Syntaxes.{syntax_of};
 ghost use Rattle.syntax_print.specs.Rewritten.{gap, Rewritten};
 ghost use Rattle.rewriting.specs.Holds.{HoldsTree};
 
 use module_tree::Parts;
+use pcal_tree::Syntax;
 use pcal_tree::algorithm::Algorithm;
 use std::alloc::{AllocError, Global};
-use syntax_print::{Syntax, write_in};
+use syntax_print::write_in;
 use tla_pool::Pool;
 use tla_token::bytes::is_word;
 

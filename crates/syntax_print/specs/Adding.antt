@@ -7,12 +7,6 @@ use Rattle.pcal_tree.specs.Marks.{text_of_mark}
 use Rattle.pcal_tree.specs.declared.algorithm.Stmt.{Stmt}
 use Rattle.pcal_tree.specs.declared.algorithm.Stmt.TheOpen.{Stmt-F}
 use Rattle.pcal_tree.specs.declared.algorithm.Stmt.TheFolds.{fold-Stmt}
-use Rattle.syntax_print.specs.declared.syntax.Syntax.{Syntax}
-use Rattle.syntax_print.specs.declared.syntax.Syntax.TheVariants as code
-
-abbrev pub syntax_of : Syntax → pure.Syntax
-syntax_of code.P = pure.p_syntax
-syntax_of code.C = pure.c_syntax
 
 -- each line with the LF before it
 abbrev pub behind : List Text → Text

@@ -8,5 +8,4 @@ pub mod write_part;
 pub mod write_statement;
 pub mod write_unit;
 
-pub use syntax::Syntax;
 pub use write_algorithm::{write_c, write_in, write_p};

@@ -1,20 +1,13 @@
-//! The two syntaxes of PlusCal, and the words that each has round the parts of an algorithm.
+//! The words that each syntax has round the parts of an algorithm.
 
 ghost use Rattle.std.specs.Prelude.{◌≡◌, ◌++◌, codes, OnOk};
 ghost use Rattle.pcal_tree.specs.Printed.{opening, middle, closing, define_end, last_line};
-ghost use Rattle.syntax_print.specs.Adding.{syntax_of, head_start, head_end};
+ghost use Rattle.pcal_tree.specs.Syntaxes.{syntax_of};
+ghost use Rattle.syntax_print.specs.Adding.{head_start, head_end};
 
+use pcal_tree::Syntax;
 use std::alloc::AllocError;
 use tla_tree::Text;
-
-/// A syntax of PlusCal ("A PlusCal User's Manual", its two versions).
-#[derive(Clone, Copy, PartialEq, Eq, Debug)]
-pub enum Syntax {
-    /// With `begin` and `end`.
-    P,
-    /// With braces.
-    C,
-}
 
 /// Appends `word`, or `word {`, which opens a part.
 ///

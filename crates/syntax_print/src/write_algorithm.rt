@@ -3,13 +3,15 @@
 ghost use Rattle.std.specs.Prelude.{◌≡◌, ◌≤◌, ◌++◌, length, [], OnOk, IfOk};
 ghost use Rattle.pcal_tree.specs.Printed.{opening, algorithm_word, printed, PText, CText};
 ghost use Rattle.pcal_tree.specs.InMemory.{algorithm_at, past_algorithm};
-ghost use Rattle.syntax_print.specs.Adding.{syntax_of, behind, lines_behind};
+ghost use Rattle.pcal_tree.specs.Syntaxes.{syntax_of};
+ghost use Rattle.syntax_print.specs.Adding.{behind, lines_behind};
 
-use crate::syntax::{Syntax, last_line_text, write_opening};
+use crate::syntax::{last_line_text, write_opening};
 use crate::write_part::begin_line;
 use crate::write_unit::{
     write_define, write_macros, write_main, write_procedures, write_variables,
 };
+use pcal_tree::Syntax;
 use pcal_tree::algorithm::Algorithm;
 use std::alloc::{AllocError, Global};
 use tla_pool::Pool;

@@ -5,12 +5,12 @@ ghost use Rattle.tla_tree.specs.Pool.{at};
 ghost use Rattle.tla_tree.specs.Written.{written};
 ghost use Rattle.pcal_tree.specs.Printed.{simple_line, statements, branches, otherwise, line, head, opening, middle, closing, listed, binds_texts};
 ghost use Rattle.pcal_tree.specs.InMemory.{simple_at, binds_at, stmt_at, statements_at, branches_at, past_simple, past_binds, past_stmt, past_statements, past_branches};
-ghost use Rattle.syntax_print.specs.Adding.{syntax_of, labels_after, Adds, AddsFirst};
+ghost use Rattle.pcal_tree.specs.Syntaxes.{syntax_of};
+ghost use Rattle.syntax_print.specs.Adding.{labels_after, Adds, AddsFirst};
 
-use crate::syntax::{
-    Syntax, write_closing, write_head_end, write_head_start, write_middle, write_opening,
-};
+use crate::syntax::{write_closing, write_head_end, write_head_start, write_middle, write_opening};
 use crate::write_part::{begin_line, write_arguments, write_assignments, write_binds, write_name};
+use pcal_tree::Syntax;
 use pcal_tree::algorithm::{Bind, Simple, Stmt};
 use pcal_tree::mark::mark_text;
 use std::alloc::{AllocError, Global};

@@ -6,13 +6,15 @@ ghost use Rattle.tla_tree.specs.Written.{written};
 ghost use Rattle.pcal_tree.specs.Algorithm.{alone};
 ghost use Rattle.pcal_tree.specs.Printed.{variables, define, definitions, body, macros, procedures, sign_text, identity_text, process_lines, main};
 ghost use Rattle.pcal_tree.specs.InMemory.{declarations_at, definition_at, definitions_at, statements_at, macro_at, procedure_at, process_at, main_at, past_declarations, past_definition, past_definitions, past_statements, past_macro, past_procedure, past_process, past_main, past_each};
-ghost use Rattle.syntax_print.specs.Adding.{syntax_of, Adds};
+ghost use Rattle.pcal_tree.specs.Syntaxes.{syntax_of};
+ghost use Rattle.syntax_print.specs.Adding.{Adds};
 
-use crate::syntax::{Syntax, define_end_text, write_closing, write_opening};
+use crate::syntax::{define_end_text, write_closing, write_opening};
 use crate::write_part::{
     begin_line, write_declarations, write_name, write_names, write_parameters,
 };
 use crate::write_statement::write_statements;
+use pcal_tree::Syntax;
 use pcal_tree::algorithm::{Declaration, Definition, Macro, Main, Procedure, Process, Stmt};
 use pcal_tree::mark::fairness_text;
 use std::alloc::{AllocError, Global};

@@ -5,7 +5,7 @@ use Rattle.pcal_tree.specs.Printed.{printed}
 use Rattle.pcal_tree.specs.InMemory.{algorithm_at}
 use Rattle.module_tree.specs.TextFront.{Text}
 use Rattle.module_tree.specs.AlgorithmText.{AlgorithmText}
-use Rattle.syntax_print.specs.Adding.{syntax_of}
+use Rattle.pcal_tree.specs.Syntaxes.{syntax_of}
 use Rattle.syntax_print.specs.Rewritten.{gap}
 use Rattle.rewriting.proofs.write_file.rewritten.Goals as goal
 

@@ -2,7 +2,8 @@
 use Rattle.std.proofs.Common.{◌++◌, ap, ◌∙◌, sym}
 use Rattle.pcal_tree.specs.Printed.{opening, algorithm_word}
 use Rattle.pcal_tree.specs.InMemory.{algorithm_at}
-use Rattle.syntax_print.specs.Adding.{syntax_of, behind, lines_behind}
+use Rattle.pcal_tree.specs.Syntaxes.{syntax_of}
+use Rattle.syntax_print.specs.Adding.{behind, lines_behind}
 use Rattle.syntax_print.proofs.Units.{first_and_behind}
 use Rattle.syntax_print.proofs.write_algorithm.write_in.Goals as goal
 

@@ -7,7 +7,8 @@ use Rattle.pcal_tree.specs.declared.algorithm.Macro.{Macro}
 use Rattle.pcal_tree.specs.declared.algorithm.Procedure.{Procedure}
 use Rattle.pcal_tree.specs.Printed.{blanks, variables, define, macros, procedures}
 use Rattle.pcal_tree.specs.InMemory.{declarations_at, definitions_at, macro_at, procedure_at, algorithm_at}
-use Rattle.syntax_print.specs.Adding.{syntax_of, Adds}
+use Rattle.pcal_tree.specs.Syntaxes.{syntax_of}
+use Rattle.syntax_print.specs.Adding.{Adds}
 use Rattle.syntax_print.proofs.Lines.{on_ok}
 use Rattle.syntax_print.proofs.Units.{rest_adds}
 use Rattle.syntax_print.proofs.write_algorithm.write_rest.Goals as goal

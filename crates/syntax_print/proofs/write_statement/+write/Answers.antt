@@ -8,7 +8,8 @@ use Rattle.pcal_tree.specs.declared.algorithm.Stmt.{Stmt}
 use Rattle.pcal_tree.specs.InMemory.{span_of, simple_at, binds_at, stmt_at, statements_at, branches_at, past_stmt, past_statements, past_branches}
 use Rattle.pcal_tree.proofs.InMemoryEach.{simple_in_list_at, if_at, either_at, with_at, while_at, past_either}
 use Rattle.pcal_tree.specs.Printed.{Text, head, opening, listed, binds_texts, otherwise, branches}
-use Rattle.syntax_print.specs.Adding.{syntax_of, labels_after, Adds, AddsFirst}
+use Rattle.pcal_tree.specs.Syntaxes.{syntax_of}
+use Rattle.syntax_print.specs.Adding.{labels_after, Adds, AddsFirst}
 use Rattle.syntax_print.proofs.Lines.{on_ok, not_empty}
 use Rattle.syntax_print.proofs.Within.{past_at}
 use Rattle.syntax_print.proofs.Heights.{height, heights, branch_heights, either_height}

@@ -2,7 +2,8 @@
 use Rattle.std.proofs.Common.{◌≡◌, ℕ, ◌+◌, ◌*◌, List, [], ◌++◌, drop}
 use Rattle.pcal_tree.specs.Printed.{statements, branches}
 use Rattle.pcal_tree.specs.InMemory.{statements_at, branches_at}
-use Rattle.syntax_print.specs.Adding.{syntax_of, behind}
+use Rattle.pcal_tree.specs.Syntaxes.{syntax_of}
+use Rattle.syntax_print.specs.Adding.{behind}
 use Rattle.syntax_print.proofs.Branches.{branch_line}
 use Rattle.syntax_print.proofs.Heights.{height, heights, branch_heights}
 use Rattle.syntax_print.proofs.write_statement.+write.Given as goal

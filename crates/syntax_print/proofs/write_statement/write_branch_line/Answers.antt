@@ -1,5 +1,5 @@
 -- Proves what is asked of `write_branch_line`.
-use Rattle.syntax_print.specs.Adding.{syntax_of}
+use Rattle.pcal_tree.specs.Syntaxes.{syntax_of}
 use Rattle.syntax_print.proofs.Lines.{on_ok}
 use Rattle.syntax_print.proofs.Branches.{first_line, later_line}
 use Rattle.syntax_print.proofs.write_statement.write_branch_line.Goals as goal

@@ -4,7 +4,7 @@ use Rattle.std.specs.Prelude.{codes}
 use Rattle.std.proofs.lemmas.List.{length-map}
 use Rattle.pcal_tree.specs.Printed.{blanks}
 use Rattle.pcal_tree.specs.InMemory.{definition_at, definitions_at}
-use Rattle.syntax_print.specs.Adding.{syntax_of}
+use Rattle.pcal_tree.specs.Syntaxes.{syntax_of}
 use Rattle.syntax_print.proofs.Lines.{on_ok, not_empty}
 use Rattle.syntax_print.proofs.Units.{define_adds}
 use Rattle.syntax_print.proofs.write_unit.write_define.Goals as goal

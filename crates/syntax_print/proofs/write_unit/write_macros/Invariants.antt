@@ -2,7 +2,7 @@
 use Rattle.std.proofs.Common.{map}
 use Rattle.pcal_tree.specs.Printed.{macros}
 use Rattle.pcal_tree.specs.InMemory.{macro_at}
-use Rattle.syntax_print.specs.Adding.{syntax_of}
+use Rattle.pcal_tree.specs.Syntaxes.{syntax_of}
 use Rattle.syntax_print.proofs.Lines.{Comes}
 use Rattle.syntax_print.proofs.write_unit.write_macros.Given as goal
 

@@ -6,7 +6,8 @@ use Rattle.pcal_tree.specs.declared.algorithm.Stmt.{Stmt}
 use Rattle.pcal_tree.specs.Algorithm.{alone}
 use Rattle.pcal_tree.specs.Printed.{main, process_lines}
 use Rattle.pcal_tree.specs.InMemory.{statements_at, process_at, main_at}
-use Rattle.syntax_print.specs.Adding.{syntax_of, Adds}
+use Rattle.pcal_tree.specs.Syntaxes.{syntax_of}
+use Rattle.syntax_print.specs.Adding.{Adds}
 use Rattle.syntax_print.proofs.Lines.{on_ok}
 use Rattle.syntax_print.proofs.Units.{main_of_processes}
 use Rattle.syntax_print.proofs.write_unit.write_main.Goals as goal

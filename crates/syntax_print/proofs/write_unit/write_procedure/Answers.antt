@@ -5,7 +5,8 @@ use Rattle.pcal_tree.specs.declared.algorithm.Declaration.{Declaration}
 use Rattle.pcal_tree.specs.declared.algorithm.Stmt.{Stmt}
 use Rattle.pcal_tree.specs.Printed.{variables, body, declarations_text}
 use Rattle.pcal_tree.specs.InMemory.{procedure_at, declarations_at, statements_at}
-use Rattle.syntax_print.specs.Adding.{syntax_of, Adds}
+use Rattle.pcal_tree.specs.Syntaxes.{syntax_of}
+use Rattle.syntax_print.specs.Adding.{Adds}
 use Rattle.syntax_print.proofs.Lines.{on_ok}
 use Rattle.syntax_print.proofs.Units.{procedure_adds}
 use Rattle.syntax_print.proofs.write_unit.write_procedure.Goals as goal

@@ -2,7 +2,7 @@
 use Rattle.std.proofs.Common.{[], ◌∷◌, map, refl, arith}
 use Rattle.pcal_tree.specs.Printed.{procedures}
 use Rattle.pcal_tree.specs.InMemory.{procedure_at, past_procedure}
-use Rattle.syntax_print.specs.Adding.{syntax_of}
+use Rattle.pcal_tree.specs.Syntaxes.{syntax_of}
 use Rattle.syntax_print.proofs.Lines.{one_more}
 use Rattle.syntax_print.proofs.Within.{past_at}
 use Rattle.syntax_print.proofs.write_unit.write_procedures.Goals as goal

@@ -2,7 +2,7 @@
 use Rattle.std.proofs.Common.{[], ◌∷◌, map, refl, arith}
 use Rattle.pcal_tree.specs.Printed.{process_lines}
 use Rattle.pcal_tree.specs.InMemory.{process_at, past_process}
-use Rattle.syntax_print.specs.Adding.{syntax_of}
+use Rattle.pcal_tree.specs.Syntaxes.{syntax_of}
 use Rattle.syntax_print.proofs.Lines.{one_more}
 use Rattle.syntax_print.proofs.Within.{past_at}
 use Rattle.syntax_print.proofs.write_unit.write_processes.Goals as goal

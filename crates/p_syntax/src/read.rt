@@ -1,0 +1,33 @@
+//! The call that reads a whole algorithm in P-syntax, with all its rules.
+
+ghost use Rattle.std.specs.Prelude.{◌≡◌, ◌≤◌, length, None, Some, Err, IfOk};
+ghost use Rattle.tla_token.specs.declared.rule.Refusal as code;
+ghost use Rattle.tla_token.specs.declared.rule.Stop.TheVariants as stop;
+ghost use Rattle.tla_token.specs.TokensSeen.{tokens_seen};
+ghost use Rattle.tla_tree.specs.Pool.{Keeps};
+ghost use Rattle.tla_expr.specs.Numbers.{NumbersFit};
+ghost use Rattle.pcal_tree.specs.InMemory.{algorithm_at, past_algorithm};
+ghost use Rattle.pcal_tree.specs.Grammar.{p_syntax, Spells};
+ghost use Rattle.algorithm_limits.specs.Answered.{AreAnswered};
+
+use pcal_tree::algorithm::Algorithm;
+use std::alloc::Global;
+use tla_pool::Pool;
+use tla_token::{Stop, Tokens};
+
+/// The algorithm that all these tokens are, the word that begins it the first of them ("A PlusCal User's Manual", appendix A).
+///
+/// # Errors
+///
+/// Of the rules on words that are left out (11), on too much (13 and 14) and on syntax (15) the least that the tokens break, at
+/// its first place; or want of memory.
+pub fn read_p(alloc: Global, tokens: &Tokens, pool: &mut Pool) -> Result<Algorithm, Stop>
+    requires { NumbersFit tokens.now }
+    ensures kept { Keeps pool.old pool.new }
+    ensures past { IfOk result (λ a. past_algorithm a ≤ length pool.new) }
+    ensures spelled { IfOk result (λ a. Spells p_syntax (tokens_seen tokens.now) (algorithm_at pool.new a)) }
+    ensures answered { IfOk result (λ a. AreAnswered p_syntax (tokens_seen tokens.now) tokens.now.end None) }
+    ensures refused { (r : code.Refusal) → result ≡ Err (stop.Refused r) → AreAnswered p_syntax (tokens_seen tokens.now) tokens.now.end (Some r) }
+{
+    Err(Stop::Memory)
+}

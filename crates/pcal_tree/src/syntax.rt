@@ -1,0 +1,10 @@
+//! The two syntaxes of PlusCal.
+
+/// A syntax of PlusCal ("A PlusCal User's Manual", its two versions).
+#[derive(Clone, Copy, PartialEq, Eq, Debug)]
+pub enum Syntax {
+    /// With `begin` and `end`.
+    P,
+    /// With braces.
+    C,
+}
