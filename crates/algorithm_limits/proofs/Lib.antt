@@ -15,3 +15,4 @@ pub mod WithinLimits
 mod Rows
 pub mod PlacedTokens
 pub mod AnswerRules
+pub mod LeftOutFirst

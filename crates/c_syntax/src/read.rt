@@ -10,7 +10,9 @@ ghost use Rattle.pcal_tree.specs.InMemory.{algorithm_at, past_algorithm};
 ghost use Rattle.pcal_tree.specs.Grammar.{c_syntax, Spells};
 ghost use Rattle.algorithm_limits.specs.Answered.{AreAnswered};
 
+use crate::algorithm::read_algorithm;
 use pcal_tree::algorithm::Algorithm;
+use routine_parts::answer::answered;
 use std::alloc::Global;
 use tla_pool::Pool;
 use tla_token::{Stop, Tokens};
@@ -29,5 +31,6 @@ pub fn read_c(alloc: Global, tokens: &Tokens, pool: &mut Pool) -> Result<Algorit
     ensures answered { IfOk result (λ a. AreAnswered c_syntax (tokens_seen tokens.now) tokens.now.end None) }
     ensures refused { (r : code.Refusal) → result ≡ Err (stop.Refused r) → AreAnswered c_syntax (tokens_seen tokens.now) tokens.now.end (Some r) }
 {
-    Err(Stop::Memory)
+    let read = read_algorithm(alloc, tokens, pool);
+    answered(alloc, tokens, pool, read)
 }

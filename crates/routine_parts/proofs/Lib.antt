@@ -8,3 +8,4 @@ pub mod ProcessRounds
 pub mod MainProcesses
 pub mod WholeRead
 pub mod TextStands
+pub mod Answered

@@ -1,0 +1,25 @@
+-- Proves that the answer to the tokens is given.
+use Rattle.std.proofs.Common.{Some}
+use Rattle.pcal_tree.specs.Grammar.{p_syntax}
+use Rattle.routine_parts.proofs.Answered.{answers, below, past_there, spelled_there, answered_there}
+use Rattle.p_syntax.specs.ReadAlgorithm.{read_algorithm, read_limited_algorithm}
+use Rattle.p_syntax.proofs.StopsWithin.{reads_within}
+use Rattle.p_syntax.proofs.read.read_p.Goals as goal
+
+pub answered-requires : goal.answered-requires
+answered-requires c = below p_syntax read_algorithm read_limited_algorithm reads_within c.args.tokens.now c.read_algorithm-read.new.pool c.read_algorithm-read.result c.read_algorithm-read.ensures.read
+
+pub returns-clause-past : goal.returns-clause-past
+returns-clause-past c = past_there p_syntax read_algorithm read_limited_algorithm reads_within c.args.tokens.now c.read_algorithm-read.new.pool c.read_algorithm-read.result c.read_algorithm-read.ensures.read c.answered.result c.answered.ensures.kept
+
+pub returns-clause-spelled : goal.returns-clause-spelled
+returns-clause-spelled c =
+    spelled_there p_syntax read_algorithm read_limited_algorithm reads_within c.args.tokens.now c.read_algorithm-read.new.pool c.read_algorithm-read.result c.read_algorithm-read.ensures.read c.answered.result c.answered.ensures.kept c.answered.ensures.fine
+
+pub returns-clause-answered : goal.returns-clause-answered
+returns-clause-answered c =
+    answered_there p_syntax read_algorithm read_limited_algorithm reads_within c.args.tokens.now c.read_algorithm-read.new.pool c.read_algorithm-read.result c.read_algorithm-read.ensures.read c.answered.result c.answered.ensures.fine
+
+pub returns-clause-refused : goal.returns-clause-refused
+returns-clause-refused c = λ r e.
+    answers p_syntax read_algorithm read_limited_algorithm reads_within c.args.tokens.now c.read_algorithm-read.new.pool c.read_algorithm-read.result c.read_algorithm-read.ensures.read (Some r) (c.answered.ensures.refused r e)
