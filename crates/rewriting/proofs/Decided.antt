@@ -15,7 +15,8 @@ use Rattle.module_tree.specs.TextFront.{Text}
 use Rattle.module_tree.specs.AlgorithmText.{AlgorithmText, algorithm_in, algorithm_tokens}
 use Rattle.module_tree.specs.FileOffences.{file_offences, is_splitting, splitting_offences}
 use Rattle.module_tree.proofs.FineFiles.{all_more}
-use Rattle.rewriting.specs.Refusals.{in_text, or_else, unless_stopped, up_to, of_spelling}
+use Rattle.algorithm_limits.specs.Answered.{or_counts}
+use Rattle.rewriting.specs.Refusals.{in_text, or_else, up_to, of_spelling}
 use Rattle.rewriting.specs.Spelling.{of_rules, syntax_at, AreRead, AreCounted, OfAlgorithm, AnswersRewriting}
 use Rattle.rewriting.proofs.OneAnswer.{wrong, asked_alone}
 use Rattle.rewriting.proofs.Unrefused.{is_asked, asks, Asked, tokens_asked, stop_all}
@@ -51,27 +52,33 @@ all_up (r ∷ rs) h =
     let k = and_parts (is_asked_of r) (list_all is_asked_of rs) h in
     ap (λ (b : Bool). cond b (r ∷ up_to of_spelling rs) (up_to of_spelling rs)) k.0 ∙ ap (λ (qs : List Refusal). r ∷ qs) (all_up rs k.1)
 
+-- of what rules offences are of, their refusals are
+pub told_all : (p : Rule → Bool) (x : Text) (os : List Offence) → list_all (λ (o : Offence). p o.0) os ≡ true → list_all (λ (r : Refusal). p r.rule) (in_text x os) ≡ true
+told_all p x [] h = refl
+told_all p x (o ∷ os) h =
+    let k = and_parts (p o.0) (list_all (λ (o : Offence). p o.0) os) h in
+    and_from (p o.0) (list_all (λ (r : Refusal). p r.rule) (in_text x os)) k.0 (told_all p x os k.1)
+
 pub in_text_asked : (x : Text) (os : List Offence) → Asked os → list_all is_asked_of (in_text x os) ≡ true
-in_text_asked x [] h = refl
-in_text_asked x (o ∷ os) h = (let k = and_parts (asks o) (list_all asks os) h in and_from (is_asked o.0) (list_all is_asked_of (in_text x os)) k.0 (in_text_asked x os k.1))
+in_text_asked x os h = told_all is_asked x os h
 
 -- of what is wrong where the tokens stop, and past a limit in what they spell
 pub read_all : (p : Rule → Bool) → p TooMany ≡ true → p TooDeep ≡ true → p Syntax ≡ true → (x : Text) (a : AlgorithmText) (s : Option Refusal) (cs : List Refusal) → AreRead x a s → AreCounted x a s cs
-    → list_all (λ (r : Refusal). p r.rule) (unless_stopped s cs) ≡ true
+    → list_all (λ (r : Refusal). p r.rule) (or_counts s cs) ≡ true
 read_all p many deep syntax x a (Some r) cs h k = and_from (p r.rule) true (stop_all p deep syntax (syntax_at a) (algorithm_tokens x a) (place_at x a.rest.to) r h) refl
 read_all p many deep syntax x a None cs h k = subst (λ (rs : List Refusal). list_all (λ (r : Refusal). p r.rule) rs ≡ true) (sym k.2) (counts_many p many k.0)
 
 pub algorithm_decides : (x : Text) (a : AlgorithmText) (s : Option Refusal) (cs : List Refusal) → splitting_offences x ≡ [] → algorithm_in x ≡ Some a → AreRead x a s → AreCounted x a s cs
-    → AnswersRewriting x (first (in_text x (algorithm_offences (algorithm_tokens x a)) ++ unless_stopped s cs))
+    → AnswersRewriting x (first (in_text x (algorithm_offences (algorithm_tokens x a)) ++ or_counts s cs))
 algorithm_decides x a s cs fine is h k =
     let tokens = in_text x (algorithm_offences (algorithm_tokens x a)) in
     let w = wrong x tokens s cs in
     let bytes = none_of_rules 1 4 refl (file_offences x) fine in
     let parts = none_of_rules 5 10 refl (file_offences x) fine in
-    let all = all_more is_asked_of tokens (unless_stopped s cs) (in_text_asked x (algorithm_offences (algorithm_tokens x a)) (tokens_asked (algorithm_tokens x a))) (read_all is_asked refl refl refl x a s cs h k) in (
+    let all = all_more is_asked_of tokens (or_counts s cs) (in_text_asked x (algorithm_offences (algorithm_tokens x a)) (tokens_asked (algorithm_tokens x a))) (read_all is_asked refl refl refl x a s cs h k) in (
       w,
       record { bytes = refl; parts = refl; algorithm = subst (OfAlgorithm x w) (sym is) (refl, h, k); names = refl; labels = refl },
       ap first (asked_alone w refl refl
-          ∙ (λ i. up_to of_spelling (or_else (in_text x (bytes i)) (in_text x (parts i) ++ (tokens ++ unless_stopped s cs))))
-          ∙ all_up (tokens ++ unless_stopped s cs) all),
+          ∙ (λ i. up_to of_spelling (or_else (in_text x (bytes i)) (in_text x (parts i) ++ (tokens ++ or_counts s cs))))
+          ∙ all_up (tokens ++ or_counts s cs) all),
     )

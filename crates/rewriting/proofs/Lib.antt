@@ -6,5 +6,10 @@ pub mod Counts
 pub mod Decided
 pub mod PlaceOrder
 pub mod SplitDecides
+pub mod FirstRule
+pub mod AlgorithmStretch
+pub mod TokensAnswered
+pub mod TokensScanned
+pub mod FileRead
 pub mod Changed
 pub mod Refused

@@ -24,14 +24,15 @@ use Rattle.c_syntax.proofs.WholeAlgorithm as c_whole
 use Rattle.module_tree.specs.TextFront.{Text}
 use Rattle.module_tree.specs.AlgorithmText.{AlgorithmText, algorithm_in, algorithm_tokens}
 use Rattle.module_tree.specs.FileOffences.{file_offences}
-use Rattle.rewriting.specs.Refusals.{in_text, Wrong, or_else, unless_stopped, counting, up_to, of_spelling, refusal_of}
+use Rattle.algorithm_limits.specs.Answered.{or_counts}
+use Rattle.rewriting.specs.Refusals.{in_text, Wrong, or_else, counting, up_to, of_spelling, refusal_of}
 use Rattle.rewriting.specs.Spelling.{of_rules, syntax_at, AreRead, AreCounted, OfAlgorithm, AreLater, IsSpelling, AnswersRewriting}
 
 -- ---- names and labels don't count
 
 -- what counts without them
 abbrev pub asked : Wrong → List Refusal
-asked w = or_else w.bytes (w.parts ++ (w.tokens ++ unless_stopped w.syntax w.counts))
+asked w = or_else w.bytes (w.parts ++ (w.tokens ++ or_counts w.syntax w.counts))
 
 later_both : (xs ys : List Refusal) → AreLater xs → AreLater ys → AreLater (or_else xs ys)
 later_both [] ys h k = k
@@ -51,7 +52,7 @@ asked_alone w h k = by w.bytes w.syntax
     later = or_else w.names w.labels
 
     by : (b : List Refusal) (s : Option Refusal)
-        → up_to of_spelling (or_else b (w.parts ++ (w.tokens ++ unless_stopped s (w.counts ++ later)))) ≡ up_to of_spelling (or_else b (w.parts ++ (w.tokens ++ unless_stopped s w.counts)))
+        → up_to of_spelling (or_else b (w.parts ++ (w.tokens ++ or_counts s (w.counts ++ later)))) ≡ up_to of_spelling (or_else b (w.parts ++ (w.tokens ++ or_counts s w.counts)))
     by (r ∷ rs) s = refl
     by [] (Some r) = refl
     by [] None = ap (up_to of_spelling) (regrouped w.parts w.tokens w.counts later) ∙ up_to_front (w.parts ++ (w.tokens ++ w.counts)) later (later_both w.names w.labels h k)
@@ -85,7 +86,7 @@ same_asked x w v h k =
     let b : w.bytes ≡ v.bytes = h.bytes ∙ sym k.bytes in
     let q : w.parts ≡ v.parts = h.parts ∙ sym k.parts in
     let a = same_algorithm x w v (algorithm_in x) h.algorithm k.algorithm in
-    λ i. or_else (b i) (q i ++ (a.0 i ++ unless_stopped (a.1 i) (a.2 i)))
+    λ i. or_else (b i) (q i ++ (a.0 i ++ or_counts (a.1 i) (a.2 i)))
 
 pub one_answer : (x : Text) (r q : Option Refusal) → AnswersRewriting x r → AnswersRewriting x q → r ≡ q
 one_answer x r q (w, h, e) (v, k, f) =
@@ -93,7 +94,7 @@ one_answer x r q (w, h, e) (v, k, f) =
 
 -- ---- one at least
 
-read_or_refused : (s : Syntax) (ts : List text.Token) (end : Place) → ((a : Algorithm) × PassesTokens s ts × Spells s ts a) ⊎ ((r : Refusal) × RefusesTokens s ts end r)
+pub read_or_refused : (s : Syntax) (ts : List text.Token) (end : Place) → ((a : Algorithm) × PassesTokens s ts × Spells s ts a) ⊎ ((r : Refusal) × RefusesTokens s ts end r)
 read_or_refused p_syntax = one_of_both p_syntax p.read_algorithm p.read_limited_algorithm p_within.reads_within
 read_or_refused c_syntax = one_of_both c_syntax c.read_algorithm c.read_limited_algorithm c_within.reads_within
 

@@ -28,7 +28,8 @@ use Rattle.syntax_print.specs.Rewritten.{Rewritten}
 use Rattle.syntax_print.specs.laws.HoldsPrinted.{past_stage}
 use Rattle.syntax_print.specs.laws.BreaksFew.{BreaksFew}
 use Rattle.syntax_print.proofs.Rewritten.{breaks_few, fine_without}
-use Rattle.rewriting.specs.Refusals.{in_text, Wrong, or_else, unless_stopped, up_to, of_spelling}
+use Rattle.algorithm_limits.specs.Answered.{or_counts}
+use Rattle.rewriting.specs.Refusals.{in_text, Wrong, or_else, up_to, of_spelling}
 use Rattle.rewriting.specs.Spelling.{of_rules, syntax_at, AreRead, AreCounted, OfAlgorithm, IsSpelling, AnswersRewriting}
 use Rattle.rewriting.specs.laws.FewRules.{is_too_much, is_options_or_too_much}
 use Rattle.rewriting.proofs.OneAnswer.{asked, asked_alone}
@@ -78,7 +79,7 @@ module _ (p : Rule → Bool) (many : p TooMany ≡ true) (deep : p TooDeep ≡ t
   all_or_else [] more h k = k
   all_or_else (r ∷ rs) more h k = h
 
-  all_unless : (s : Option Refusal) (counts : List Refusal) → ((r : Refusal) → s ≡ Some r → holds r ≡ true) → All counts → All (unless_stopped s counts)
+  all_unless : (s : Option Refusal) (counts : List Refusal) → ((r : Refusal) → s ≡ Some r → holds r ≡ true) → All counts → All (or_counts s counts)
   all_unless (Some r) counts h k = and_from (holds r) true (h r refl) refl
   all_unless None counts h k = k
 
@@ -91,11 +92,11 @@ module _ (p : Rule → Bool) (many : p TooMany ≡ true) (deep : p TooDeep ≡ t
       by p_syntax = refl
       by c_syntax = refl
 
-  of_algorithm : (s : Syntax) (w : Text) (v : Wrong) (a : AlgorithmText) → syntax_at a ≡ s → BreaksFew s w a → OfAlgorithm w v (Some a) → All (v.tokens ++ unless_stopped v.syntax v.counts)
+  of_algorithm : (s : Syntax) (w : Text) (v : Wrong) (a : AlgorithmText) → syntax_at a ≡ s → BreaksFew s w a → OfAlgorithm w v (Some a) → All (v.tokens ++ or_counts v.syntax v.counts)
   of_algorithm s w v a here b h =
       let ts = algorithm_tokens w a in
       let tokens : All v.tokens = subst All (sym h.0) (all_in_text w (algorithm_offences ts) (ap (list_all is_at) b.words ∙ many_all p many ts)) in
-      all_more holds v.tokens (unless_stopped v.syntax v.counts) tokens (all_unless v.syntax v.counts (λ r e. stop v.syntax r e h.1) (counted v.syntax h.2))
+      all_more holds v.tokens (or_counts v.syntax v.counts) tokens (all_unless v.syntax v.counts (λ r e. stop v.syntax r e h.1) (counted v.syntax h.2))
     where
       stop : (o : Option Refusal) (r : Refusal) → o ≡ Some r → AreRead w a o → holds r ≡ true
       stop None r e k = absurd cc
@@ -113,8 +114,8 @@ module _ (p : Rule → Bool) (many : p TooMany ≡ true) (deep : p TooDeep ≡ t
       let bytes : All v.bytes = subst All (sym h.bytes) (all_in_text w (of_rules 1 4 (file_offences w)) (all_kept is_at (λ (o : Offence). nat_le 1 (rule_number o.0) && nat_le (rule_number o.0) 4) (file_offences w) file)) in
       let parts : All v.parts = subst All (sym h.parts) (all_in_text w (of_rules 5 10 (file_offences w)) (all_kept is_at (λ (o : Offence). nat_le 5 (rule_number o.0) && nat_le (rule_number o.0) 10) (file_offences w) file)) in
       let algorithm : OfAlgorithm w v (Some a) = subst (OfAlgorithm w v) there h.algorithm in
-      all_or_else v.bytes (v.parts ++ (v.tokens ++ unless_stopped v.syntax v.counts)) bytes
-      (all_more holds v.parts (v.tokens ++ unless_stopped v.syntax v.counts) parts (of_algorithm s w v a (syntax_is s a stage) b algorithm))
+      all_or_else v.bytes (v.parts ++ (v.tokens ++ or_counts v.syntax v.counts)) bytes
+      (all_more holds v.parts (v.tokens ++ or_counts v.syntax v.counts) parts (of_algorithm s w v a (syntax_is s a stage) b algorithm))
 
   pub refused_so : (s : Syntax) (w : Text) (a : AlgorithmText) (q : Refusal) → algorithm_in w ≡ Some a → a.rest.stage ≡ past_stage s → BreaksFew s w a → list_all is_at (file_offences w) ≡ true → AnswersRewriting w (Some q) → p q.rule ≡ true
   refused_so s w a q there stage b file (v, h, e) =

@@ -28,7 +28,8 @@ use Rattle.module_tree.specs.FileOffences.{offences_of, inner_offences, file_off
 use Rattle.module_tree.specs.FileOffences as file
 use Rattle.module_tree.proofs.FineFiles.{all_more}
 use Rattle.module_tree.proofs.WalkPlace.{both_empty}
-use Rattle.rewriting.specs.Refusals.{in_text, Wrong, or_else, unless_stopped, up_to, of_spelling}
+use Rattle.algorithm_limits.specs.Answered.{or_counts}
+use Rattle.rewriting.specs.Refusals.{in_text, Wrong, or_else, up_to, of_spelling}
 use Rattle.rewriting.specs.Spelling.{of_rules, OfAlgorithm, IsSpelling, AnswersRewriting}
 use Rattle.rewriting.proofs.OneAnswer.{asked, asked_alone, some_answer}
 use Rattle.rewriting.proofs.Unrefused.{if_all, left_all, many_all, rules_asked, positive}
@@ -207,15 +208,15 @@ module _ (x : Text) (w : Wrong) (is : IsSpelling x w) (r : Refusal) (split : Ref
   os = file_offences x
 
   abbrev rest : List Refusal
-  rest = w.tokens ++ unless_stopped w.syntax w.counts
+  rest = w.tokens ++ or_counts w.syntax w.counts
 
   late_rest : of_rules 1 4 os ≡ [] → (o : Option AlgorithmText) → algorithm_in x ≡ o → OfAlgorithm x w o → list_all late_of rest ≡ true
-  late_rest none None e k = ap (list_all late_of) (λ i. k.0 i ++ unless_stopped (k.1 i) (k.2 i))
+  late_rest none None e k = ap (list_all late_of) (λ i. k.0 i ++ or_counts (k.1 i) (k.2 i))
   late_rest none (Some a) e k =
       let b = none_of_both (offences_of (walk x)) _ none in
       let c = none_of_both (file.algorithm_offences (algorithm_in x)) _ b.1 in
       let own : of_rules 1 4 (inner_offences a.rest.parts) ≡ [] = ap (λ (o : Option AlgorithmText). of_rules 1 4 (file.algorithm_offences o)) (sym e) ∙ c.0 in
-      all_more late_of w.tokens (unless_stopped w.syntax w.counts) (ap (list_all late_of) k.0 ∙ late_in_text x (algorithm_offences (algorithm_tokens x a)) (late_tokens x a own))
+      all_more late_of w.tokens (or_counts w.syntax w.counts) (ap (list_all late_of) k.0 ∙ late_in_text x (algorithm_offences (algorithm_tokens x a)) (late_tokens x a own))
       (read_all is_late refl refl refl x a w.syntax w.counts k.1 k.2)
 
   split_first : first (in_text x (of_rules 1 4 os) ++ in_text x (of_rules 5 10 os)) ≡ Some r

@@ -31,7 +31,8 @@ use Rattle.module_tree.proofs.FineFiles.{all_more, small_kind, fine, fine_withou
 use Rattle.module_tree.proofs.WalkPlace.{both_empty}
 use Rattle.module_tree.proofs.WalkKept.{all_fine_in}
 use Rattle.file_parts.proofs.SplitWhole.{some_algorithm}
-use Rattle.rewriting.specs.Refusals.{in_text, or_else, unless_stopped, counting, up_to, of_spelling}
+use Rattle.algorithm_limits.specs.Answered.{or_counts}
+use Rattle.rewriting.specs.Refusals.{in_text, or_else, counting, up_to, of_spelling}
 use Rattle.rewriting.specs.Spelling.{of_rules, syntax_at, AreRead, AreCounted, OfAlgorithm, AnswersRewriting}
 use Rattle.rewriting.specs.Holds.{HoldsTree}
 use Rattle.rewriting.proofs.OneAnswer.{asked, asked_alone}
@@ -125,7 +126,7 @@ all_small (t ∷ ts) h =
 
 -- ---- nothing of what is asked is wrong
 
-none_first : (rs : List Refusal) → first rs ≡ None → rs ≡ []
+pub none_first : (rs : List Refusal) → first rs ≡ None → rs ≡ []
 none_first [] e = refl
 none_first (r ∷ rs) e = absurd cc
 
@@ -188,7 +189,7 @@ unrefused x (w, h, e) = of_algorithm (algorithm_in x) h.algorithm
     os = file_offences x
 
     more : List Refusal
-    more = w.parts ++ (w.tokens ++ unless_stopped w.syntax w.counts)
+    more = w.parts ++ (w.tokens ++ or_counts w.syntax w.counts)
 
     bytes : of_rules 1 4 os ≡ []
     bytes = none_asked x (of_rules 1 4 os) (rules_asked 1 4 refl os) (ap (up_to of_spelling) (sym h.bytes) ∙ no_bytes w.bytes more none)
@@ -196,19 +197,19 @@ unrefused x (w, h, e) = of_algorithm (algorithm_in x) h.algorithm
     rest : up_to of_spelling more ≡ []
     rest = no_parts w.bytes more (h.bytes ∙ ap (in_text x) bytes) none
 
-    kept : (up_to of_spelling w.parts ≡ []) × (up_to of_spelling (w.tokens ++ unless_stopped w.syntax w.counts) ≡ [])
-    kept = kept_both w.parts (w.tokens ++ unless_stopped w.syntax w.counts) rest
+    kept : (up_to of_spelling w.parts ≡ []) × (up_to of_spelling (w.tokens ++ or_counts w.syntax w.counts) ≡ [])
+    kept = kept_both w.parts (w.tokens ++ or_counts w.syntax w.counts) rest
 
     parts : of_rules 5 10 os ≡ []
     parts = none_asked x (of_rules 5 10 os) (rules_asked 5 10 refl os) (ap (up_to of_spelling) (sym h.parts) ∙ kept.0)
 
-    last : (up_to of_spelling w.tokens ≡ []) × (up_to of_spelling (unless_stopped w.syntax w.counts) ≡ [])
-    last = kept_both w.tokens (unless_stopped w.syntax w.counts) kept.1
+    last : (up_to of_spelling w.tokens ≡ []) × (up_to of_spelling (or_counts w.syntax w.counts) ≡ [])
+    last = kept_both w.tokens (or_counts w.syntax w.counts) kept.1
 
     splits : splitting_offences x ≡ []
     splits = none_splitting os bytes parts
 
-    spells : (a : AlgorithmText) (r : Option Refusal) → AreRead x a r → AreCounted x a r w.counts → up_to of_spelling (unless_stopped r w.counts) ≡ [] → (g : Algorithm) × Spells (syntax_at a) (algorithm_tokens x a) g
+    spells : (a : AlgorithmText) (r : Option Refusal) → AreRead x a r → AreCounted x a r w.counts → up_to of_spelling (or_counts r w.counts) ≡ [] → (g : Algorithm) × Spells (syntax_at a) (algorithm_tokens x a) g
     spells a None p k f = (k.0, k.1)
     spells a (Some r) p k f = (let g : r ∷ [] ≡ [] = ap (λ (b : Bool). cond b (r ∷ []) []) (sym (stop_all is_asked refl refl (syntax_at a) (algorithm_tokens x a) (place_at x a.rest.to) r p)) ∙ f in absurd cc)
 

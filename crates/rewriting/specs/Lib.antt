@@ -1,4 +1,5 @@
 pub mod Refusals
 pub mod Spelling
 pub mod Holds
+pub mod TokensRead
 pub mod laws

@@ -7,6 +7,7 @@ use Rattle.tla_token.specs.Places.{place_at}
 use Rattle.tla_token.specs.Rules.{rule_number}
 use Rattle.tla_token.specs.Offences.{Offence}
 use Rattle.pcal_tree.specs.Offences.{first}
+use Rattle.algorithm_limits.specs.Answered.{or_counts}
 
 -- where bytes of a text offend
 abbrev pub in_text : List ℕ → List Offence → List Refusal
@@ -27,14 +28,9 @@ abbrev pub or_else : List Refusal → List Refusal → List Refusal
 or_else [] later = later
 or_else (r ∷ rs) later = r ∷ rs
 
--- at a token that doesn't pass reading stops
-abbrev pub unless_stopped : Option Refusal → List Refusal → List Refusal
-unless_stopped (Some r) later = r ∷ []
-unless_stopped None later = later
-
 -- those that count
 abbrev pub counting : Wrong → List Refusal
-counting w = or_else w.bytes (w.parts ++ (w.tokens ++ unless_stopped w.syntax (w.counts ++ or_else w.names w.labels)))
+counting w = or_else w.bytes (w.parts ++ (w.tokens ++ or_counts w.syntax (w.counts ++ or_else w.names w.labels)))
 
 -- by the rules of a command, which go up to this number
 abbrev pub up_to : ℕ → List Refusal → List Refusal

@@ -6,10 +6,8 @@ use Rattle.tla_token.specs.Places.{place_at}
 use Rattle.tla_token.specs.Rules.{rule_number}
 use Rattle.tla_token.specs.Offences.{Offence}
 use Rattle.tla_token.specs.AlgorithmOffences.{algorithm_offences}
-use Rattle.pcal_tree.specs.Algorithm.{Algorithm}
-use Rattle.pcal_tree.specs.Grammar.{Syntax, p_syntax, c_syntax, Spells}
-use Rattle.pcal_tree.specs.OffencesSyntax.{PassesTokens, RefusesTokens}
-use Rattle.pcal_tree.specs.OffencesCounts.{count_offences}
+use Rattle.pcal_tree.specs.Grammar.{Syntax, p_syntax, c_syntax}
+use Rattle.algorithm_limits.specs.Answered as answered
 use Rattle.module_tree.specs.TextFront.{Text}
 use Rattle.module_tree.specs.AlgorithmText.{AlgorithmText, is_c, algorithm_in, algorithm_tokens}
 use Rattle.module_tree.specs.FileOffences.{file_offences}
@@ -25,13 +23,11 @@ syntax_at a = if is_c a.rest.stage then c_syntax else p_syntax
 
 -- all its tokens pass, and then its end; or the first one that doesn't is refused so
 abbrev pub AreRead : Text → AlgorithmText → Option Refusal → Type 0
-AreRead x a None = PassesTokens (syntax_at a) (algorithm_tokens x a)
-AreRead x a (Some r) = RefusesTokens (syntax_at a) (algorithm_tokens x a) (place_at x a.rest.to) r
+AreRead x a stop = answered.AreRead (syntax_at a) (algorithm_tokens x a) (place_at x a.rest.to) stop
 
 -- where they pass, what is past a limit in the algorithm that they spell
 abbrev pub AreCounted : Text → AlgorithmText → Option Refusal → List Refusal → Type 0
-AreCounted x a (Some r) counts = counts ≡ []
-AreCounted x a None counts = (g : Algorithm) × Spells (syntax_at a) (algorithm_tokens x a) g × (counts ≡ count_offences g)
+AreCounted x a stop counts = answered.AreCounted (syntax_at a) (algorithm_tokens x a) stop counts
 
 -- what is wrong with the algorithm that stands in x, if any does
 abbrev pub OfAlgorithm : Text → Wrong → Option AlgorithmText → Type 0
