@@ -1,7 +1,7 @@
 -- The stretch of a file's algorithm, where the file breaks none of the rules 1 to 10: its tokens are the algorithm's, and it begins with the first of them.
 use Rattle.std.proofs.Common.{◌≡◌, ◌⊎◌, inl, inr, ℕ, zero, suc, ◌+◌, ◌-◌, ◌≤◌, Bool, true, false, ◌&&◌, ◌||◌, nat_eq, nat_le, List, [], ◌∷◌, ◌++◌, length, take, drop, Option, Some, None, refl, sym, ap, subst, ◌∙◌, arith, length-append, append_assoc, find, codes, cond}
 use Rattle.std.specs.Prelude.{if◌then◌else◌, filter, is_some, bytes_eq}
-use Rattle.std.specs.List.{list_all, list_any, starts_with, flat_map}
+use Rattle.std.specs.List.{list_all, list_any, flat_map}
 use Rattle.std.proofs.lemmas.Bool.{and_parts}
 use Rattle.std.proofs.lemmas.Option.{none-some, same_Some}
 use Rattle.std.proofs.lemmas.List.{length-drop, length-take}
@@ -17,7 +17,7 @@ use Rattle.tla_token.specs.Offences.{Part, part_bytes, sound, stray, bad_string,
 use Rattle.tla_token.specs.Cut.{run, part_at}
 use Rattle.tla_token.specs.Readings.{names_algorithm, opening_of}
 use Rattle.tla_token.proofs.Spelled.{begins_is, same_bytes}
-use Rattle.module_tree.specs.TextFront.{Text, begins, first_is, past_all, past_word}
+use Rattle.module_tree.specs.TextFront.{Text, begins, past_all, past_word}
 use Rattle.module_tree.specs.Beginnings.{is_fair, opening, begins_algorithm}
 use Rattle.module_tree.specs.ModuleParts.{kind_in}
 use Rattle.module_tree.specs.Walk.{Located, walk}
@@ -29,7 +29,7 @@ use Rattle.module_tree.proofs.FineFiles.{all_more, none_left, spared_both, segme
 use Rattle.module_tree.proofs.WalkPlace.{before_whole}
 use Rattle.module_tree.proofs.AlgorithmFound.{Opened, opened, made_there}
 use Rattle.file_parts.proofs.LineLengths.{past_len}
-use Rattle.module_tree.proofs.AlgorithmIsCut.{Placed, placed, fine_here, algorithm_is_cut}
+use Rattle.module_tree.proofs.AlgorithmIsCut.{placed, fine_here, algorithm_is_cut}
 
 -- ---- where it is
 

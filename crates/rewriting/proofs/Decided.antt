@@ -19,7 +19,7 @@ use Rattle.algorithm_limits.specs.Answered.{or_counts}
 use Rattle.rewriting.specs.Refusals.{in_text, or_else, up_to, of_spelling}
 use Rattle.rewriting.specs.Spelling.{of_rules, syntax_at, AreRead, AreCounted, OfAlgorithm, AnswersRewriting}
 use Rattle.rewriting.proofs.OneAnswer.{wrong, asked_alone}
-use Rattle.rewriting.proofs.Unrefused.{is_asked, asks, Asked, tokens_asked, stop_all}
+use Rattle.rewriting.proofs.Unrefused.{is_asked, Asked, tokens_asked, stop_all}
 use Rattle.rewriting.proofs.Counts.{counts_many}
 
 -- ---- nothing is wrong with the file

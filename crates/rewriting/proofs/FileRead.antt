@@ -10,7 +10,7 @@ use Rattle.tla_token.specs.declared.token.Tokens.{Tokens}
 use Rattle.tla_token.specs.declared.fault.Reading.TheVariants as reading
 use Rattle.tla_token.specs.declared.place.Place.{Place}
 use Rattle.tla_token.specs.Places.{place_at}
-use Rattle.tla_token.specs.Tokens.{Token, stretch, Tok, TokAlgorithm}
+use Rattle.tla_token.specs.Tokens.{Token, stretch, Tok}
 use Rattle.tla_token.specs.TokensSeen.{tokens_seen}
 use Rattle.tla_token.specs.Readings.{IsRefused, AreTokens, given_offence, IsGivenRefused}
 use Rattle.pcal_tree.specs.declared.algorithm.Algorithm as code
@@ -19,7 +19,7 @@ use Rattle.pcal_tree.specs.Grammar.{Syntax, p_syntax, c_syntax, Spells}
 use Rattle.pcal_tree.specs.Offences.{first}
 use Rattle.module_tree.specs.declared.parts.Parts.{Parts}
 use Rattle.module_tree.specs.TextFront.{Text}
-use Rattle.module_tree.specs.AlgorithmText.{AlgorithmText, is_c, algorithm_in, algorithm_tokens}
+use Rattle.module_tree.specs.AlgorithmText.{AlgorithmText, algorithm_tokens}
 use Rattle.module_tree.specs.FileOffences.{splitting_offences, RefusesSplit}
 use Rattle.file_parts.specs.Splitting.{Splits}
 use Rattle.algorithm_limits.specs.TokensRefused.{left_out_at}

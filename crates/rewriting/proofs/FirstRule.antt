@@ -7,7 +7,7 @@ use Rattle.tla_token.specs.declared.rule.Refusal.{Refusal}
 use Rattle.tla_token.specs.Rules.{rule_number}
 use Rattle.pcal_tree.specs.Offences.{is_before, is_sooner, sooner, first}
 use Rattle.algorithm_limits.specs.Joined.{joined}
-use Rattle.algorithm_limits.proofs.Joins.{first_append, joined_none}
+use Rattle.algorithm_limits.proofs.Joins.{first_append}
 
 -- the first one is among them
 first_all : (p : Refusal → Bool) (rs : List Refusal) (q : Refusal) → list_all p rs ≡ true → first rs ≡ Some q → p q ≡ true

@@ -1,6 +1,6 @@
 -- What a file whose algorithm has these tokens is answered, where it breaks none of the rules 1 to 10: what reading them is answered, where no number is
 -- too big, and else the first word or sign that is left out, or the first number that is too big.
-use Rattle.std.proofs.Common.{◌≡◌, inl, inr, ℕ, ◌+◌, ◌≤◌, Bool, true, false, ◌&&◌, not, nat_le, nat_lt, List, [], ◌∷◌, ◌++◌, length, codes, Option, Some, None, refl, sym, ap, subst, ◌∙◌, append_assoc, if◌then◌else◌}
+use Rattle.std.proofs.Common.{◌≡◌, inl, inr, ℕ, ◌+◌, Bool, true, false, not, nat_le, nat_lt, List, [], ◌∷◌, ◌++◌, length, Option, Some, None, refl, sym, ap, subst, ◌∙◌, append_assoc}
 use Rattle.std.specs.List.{list_all}
 use Rattle.std.proofs.lemmas.Bool.{and_parts}
 use Rattle.std.proofs.lemmas.List.{map-append}
@@ -17,11 +17,8 @@ use Rattle.tla_token.specs.Tokens.{Token, Tok, TokAlgorithm, openings, holds_mar
 use Rattle.tla_token.specs.Offences.{Offence, offence_if, kind_offences}
 use Rattle.tla_token.specs.AlgorithmOffences.{is_left_out, left_out, number_offences, too_many_tokens, algorithm_offences}
 use Rattle.tla_token.proofs.Unique.{one_list}
-use Rattle.pcal_tree.specs.Grammar.{Spells}
-use Rattle.pcal_tree.specs.Algorithm.{Algorithm}
 use Rattle.pcal_tree.specs.Offences as tree
 use Rattle.pcal_tree.specs.Offences.{first}
-use Rattle.pcal_tree.specs.OffencesSyntax.{PassesTokens, RefusesTokens}
 use Rattle.pcal_tree.specs.OffencesCounts.{count_offences}
 use Rattle.module_tree.specs.TextFront.{Text}
 use Rattle.module_tree.specs.AlgorithmText.{AlgorithmText, algorithm_in, algorithm_tokens}

@@ -1,16 +1,15 @@
 -- What the scanner says of the stretch of a file's algorithm: its tokens, or the first number that is too big.
-use Rattle.std.proofs.Common.{◌≡◌, ℕ, ◌+◌, Bool, true, false, ◌&&◌, nat_eq, List, [], ◌∷◌, ◌++◌, length, map, drop, codes, Option, Some, None, refl, sym, ap, subst, ◌∙◌}
+use Rattle.std.proofs.Common.{◌≡◌, ℕ, ◌+◌, Bool, true, false, ◌&&◌, nat_eq, List, [], ◌∷◌, length, map, drop, codes, Option, Some, None, refl, sym, ap, subst, ◌∙◌}
 use Rattle.std.specs.Prelude.{if◌then◌else◌}
-use Rattle.std.specs.List.{flat_map, starts_with}
+use Rattle.std.specs.List.{starts_with}
 use Rattle.std.proofs.lemmas.Option.{none-some, same_Some}
 use Rattle.tla_token.specs.declared.rule.Refusal.{Refusal}
 use Rattle.tla_token.specs.declared.fault.Reading.TheVariants as reading
-use Rattle.tla_token.specs.Places.{place_at}
 use Rattle.tla_token.specs.Tokens.{Token, Piece, bytes_of, stretch, Tok, TokAlgorithm}
-use Rattle.tla_token.specs.Offences.{sound, Offence, kind_offences, offences, or_earlier, least}
+use Rattle.tla_token.specs.Offences.{sound, Offence, offences, or_earlier, least}
 use Rattle.tla_token.specs.Cut.{parts}
 use Rattle.tla_token.specs.AlgorithmOffences.{number_offences}
-use Rattle.tla_token.specs.Readings.{joined, last_quote, line_offence, first_offence, IsRefused, names_algorithm, opening_of, IsCutAs, offence_as, AreTokens, given_offence, IsGivenRefused}
+use Rattle.tla_token.specs.Readings.{joined, last_quote, line_offence, first_offence, IsRefused, names_algorithm, IsCutAs, offence_as, AreTokens, given_offence, IsGivenRefused}
 use Rattle.tla_token.proofs.Unique.{tok_parts, tok_offences, one_algorithm}
 use Rattle.tla_token.proofs.Exact.{parts_offend}
 use Rattle.tla_token.proofs.Faulty.{never_both}
