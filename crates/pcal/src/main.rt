@@ -1,6 +1,8 @@
-//! `pcal translate FILE`: reads a module with a PlusCal algorithm and writes it with the algorithm's translation.
+//! `pcal`: reads a module with a PlusCal algorithm, and writes it with the algorithm's translation or with the algorithm in the other syntax.
 #![tactic(auto)]
 
+#[cfg(test)]
+mod rewrite_tests;
 #[cfg(test)]
 mod tests;
 

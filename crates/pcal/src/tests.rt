@@ -157,17 +157,20 @@ fn filled(alloc: Global, template: &str, row: &str) -> Result<String, AllocError
     Ok(text)
 }
 
-/// The words of a command line, as the system gives them.
-fn words_in(alloc: Global, command: &str) -> Result<Args, AllocError> {
+/// The words of a command line with a blank between two of them, as the system gives them; an empty line has none.
+pub fn words_in(alloc: Global, command: &str) -> Result<Args, AllocError> {
     let mut list = Vec::new(alloc);
-    for word in command.split_whitespace() {
+    if command.is_empty() {
+        return Ok(list.into_iter());
+    }
+    for word in command.split(' ') {
         list.push(String::from_str(alloc, word)?)?;
     }
     Ok(list.into_iter())
 }
 
 /// A shelf with this text as `M.tla`; the call of this number fails, if it isn't 0.
-fn shelf_of(alloc: Global, text: &str, fails: u64) -> Result<MemShelf, AllocError> {
+pub fn shelf_of(alloc: Global, text: &str, fails: u64) -> Result<MemShelf, AllocError> {
     let name = String::from_str(alloc, "M.tla")?;
     let texts = vec![in alloc; (name, text.as_bytes().to_vec(alloc)?)]?;
     Ok(MemShelf::new(texts, vec![in alloc; fails]?, 4096))
@@ -175,7 +178,7 @@ fn shelf_of(alloc: Global, text: &str, fails: u64) -> Result<MemShelf, AllocErro
 
 /// Runs the program, with a call of the output and one of the error output that fail, if not 0. Whether it ends with
 /// this status, and these bytes on both.
-fn ends<H: Shelf>(
+pub fn ends<H: Shelf>(
     alloc: Global,
     words: io::Result<Args>,
     shelf: &mut H,
@@ -193,7 +196,7 @@ fn ends<H: Shelf>(
 }
 
 /// Whether a command, on this text as `M.tla`, ends with this status, and these bytes on both outputs.
-fn answers(
+pub fn answers(
     alloc: Global,
     command: &str,
     text: &str,

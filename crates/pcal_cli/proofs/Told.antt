@@ -9,7 +9,8 @@ use Rattle.tla_token.specs.Offences.{least}
 use Rattle.tla_token.specs.Limits.{most_bytes}
 use Rattle.tla_tree.specs.Tree.{Word}
 use Rattle.first_path.specs.FormRead.{form_offences, FirstOffence}
-use Rattle.command_words.specs.Commands.{Command}
+use Rattle.command_words.specs.Commands.{Command, translates, checks, rewrites, maps, runs, traces, makes}
+use Rattle.rewriting.proofs.OneAnswer.{one_answer}
 use Rattle.pcal_cli.specs.Words.{file_of, file_meant}
 use Rattle.pcal_cli.specs.Asked.{Refuses, HasOffence, Accepts, Makes, Promises}
 use Rattle.pcal_cli.specs.declared.status.Answer.{Answer}
@@ -56,12 +57,22 @@ pub keeps : (c : Command) (ts : Option Texts) (file t v b w : List ℕ) (old new
 keeps c ts file t v b w old new h e k j grows = told ts file v (KeepsPromise old new c) h (b, subst (Grows old new) j grows, subst (λ x. Promises c x b) e k)
 
 -- a text without offences is refused by none
-pub no_offence : (x : List ℕ) (r : Refusal) → form_offences x ≡ [] → FirstOffence x r → ⊥
+no_offence : (x : List ℕ) (r : Refusal) → form_offences x ≡ [] → FirstOffence x r → ⊥
 no_offence x r e (at, k, p) = none-some (r.rule, at) (sym (ap least e) ∙ k)
 
+-- a text in which nothing is in a command's way is not refused
+no_refusal : (c : Command) (x : List ℕ) (r : Refusal) → Accepts c x → Refuses c x r → ⊥
+no_refusal (translates file options) x r h k = no_offence x r h k
+no_refusal (rewrites file to) x r h k = none-some r (one_answer x None (Some r) h k)
+no_refusal (checks file forced) x r h k = h
+no_refusal (maps file forced) x r h k = h
+no_refusal (runs file config script options) x r h k = h
+no_refusal (traces file config trace options) x r h k = h
+no_refusal (makes seed count) x r h k = h
+
 -- t, in which nothing is in the command's way, has no offence
-pub unoffending : (c : Command) (ts : Option Texts) (file t v : List ℕ) (P : Type 0) → ((x : List ℕ) (r : Refusal) → Accepts c x → Refuses c x r → ⊥) → HasText ts file v → t ≡ v → Accepts c t → Tells ts file (λ x. HasOffence c x → P)
-unoffending c ts file t v P never h e k = told ts file v (λ x. HasOffence c x → P) h (λ (r, o). absurd (never v r (subst (Accepts c) e k) o))
+pub unoffending : (c : Command) (ts : Option Texts) (file t v : List ℕ) (P : Type 0) → HasText ts file v → t ≡ v → Accepts c t → Tells ts file (λ x. HasOffence c x → P)
+unoffending c ts file t v P h e k = told ts file v (λ x. HasOffence c x → P) h (λ (r, o). absurd (no_refusal c v r (subst (Accepts c) e k) o))
 
 -- a text that is short isn't long
 pub unlong : (ts : Option Texts) (file v : List ℕ) (n : ℕ) (P : Type 0) → HasText ts file v → length v ≤ n → Tells ts file (λ x. n < length x → P)
@@ -71,9 +82,9 @@ unlong ts file v n P h k = told ts file v (λ x. n < length x → P) h (λ l. ab
     not_long a n h k = omega arith
 
 -- t, which was refused, is no text in which nothing is in the way
-pub offending : (c : Command) (ts : Option Texts) (file t v : List ℕ) (r : Refusal) (R W P : Type 0) → ((x : List ℕ) (r : Refusal) → Accepts c x → Refuses c x r → ⊥) → HasText ts file v → t ≡ v → Refuses c t r
+pub offending : (c : Command) (ts : Option Texts) (file t v : List ℕ) (r : Refusal) (R W P : Type 0) → HasText ts file v → t ≡ v → Refuses c t r
     → Tells ts file (λ x. length x ≤ most_bytes → Accepts c x → (R → ⊥) → (W → ⊥) → P)
-offending c ts file t v r R W P never h e k = told ts file v (λ x. length x ≤ most_bytes → Accepts c x → (R → ⊥) → (W → ⊥) → P) h (λ l o f g. absurd (never v r o (subst (λ x. Refuses c x r) e k)))
+offending c ts file t v r R W P h e k = told ts file v (λ x. length x ≤ most_bytes → Accepts c x → (R → ⊥) → (W → ⊥) → P) h (λ l o f g. absurd (no_refusal c v r o (subst (λ x. Refuses c x r) e k)))
 
 -- where nothing was in the way, and where a call of the output failed
 pub done : (c : Command) (ts : Option Texts) (file : List ℕ) (R W P : Type 0) → P → Tells ts file (λ x. length x ≤ most_bytes → Accepts c x → (R → ⊥) → (W → ⊥) → P)

@@ -1,12 +1,15 @@
 -- What each command asks of its file, what it writes for it, and what it promises.
-use Rattle.std.specs.Prelude.{◌≡◌, not, List, [], ℕ}
+use Rattle.std.specs.Prelude.{◌≡◌, not, List, [], ℕ, Some, None}
 use Rattle.tla_token.specs.declared.rule.Refusal.{Refusal}
 use Rattle.command_words.specs.Commands as words
-use Rattle.command_words.specs.Commands.{Command, translates}
+use Rattle.command_words.specs.Commands.{Command, translates, rewrites}
 use Rattle.promise.specs.Options.{Options}
 use Rattle.promise.specs.Headline.{Headline}
 use Rattle.first_path.specs.FormRead.{form_offences, FirstOffence}
 use Rattle.first_path.specs.Written.{Written}
+use Rattle.syntax_print.specs.Rewritten.{Rewritten}
+use Rattle.syntax_print.specs.Rewrites.{Rewrites}
+use Rattle.rewriting.specs.Spelling.{AnswersRewriting}
 use Rattle.pcal_cli.specs.Words.{plain}
 
 -- ---- what it asks
@@ -14,6 +17,7 @@ use Rattle.pcal_cli.specs.Words.{plain}
 -- the text of its file is refused so
 abbrev pub Refuses : Command → List ℕ → Refusal → Type 0
 Refuses (translates file options) x r = FirstOffence x r
+Refuses (rewrites file to) x r = AnswersRewriting x (Some r)
 Refuses c x r = ⊥
 
 abbrev pub HasOffence : Command → List ℕ → Type 0
@@ -22,6 +26,7 @@ HasOffence c x = (r : Refusal) × Refuses c x r
 -- nothing in the text is in the way
 abbrev pub Accepts : Command → List ℕ → Type 0
 Accepts (translates file options) x = form_offences x ≡ []
+Accepts (rewrites file to) x = AnswersRewriting x None
 Accepts c x = ⊥
 
 -- ---- what it writes
@@ -29,6 +34,7 @@ Accepts c x = ⊥
 -- w is what is written for the text x; so far a translation is one without options
 abbrev pub Makes : Command → List ℕ → List ℕ → Type 0
 Makes (translates file options) x w = (options ≡ plain) × Written x w
+Makes (rewrites file to) x w = Rewritten to x w
 Makes c x w = ⊥
 
 -- ---- what it promises
@@ -39,4 +45,5 @@ promised options = record { label = options.forced; no_terminating = not options
 
 abbrev pub Promises : Command → List ℕ → List ℕ → Type 0
 Promises (translates file options) x w = Headline (promised options) x w
+Promises (rewrites file to) x w = Rewrites to x w
 Promises c x w = ⊥

@@ -1,4 +1,5 @@
 pub mod Words
+pub mod Tasks
 pub mod Answers
 pub mod Asked
 pub mod Causes

@@ -12,9 +12,10 @@ use Rattle.command_words.specs.Commands.{Options, Command, translates, checks, r
 abbrev pub plain : Options
 plain = record { forced = false; terminating = true }
 
--- whether the program runs a command: so far a translation, without options
+-- whether the program runs a command: so far a translation, without options, and a rewriting
 abbrev pub is_run : Command → Bool
 is_run (translates file options) = not options.forced && options.terminating
+is_run (rewrites file syntax) = true
 is_run c = false
 
 abbrev pub if_run : Option Command → Option Command

@@ -11,6 +11,7 @@ mod outside;
 mod program;
 mod rest;
 mod status;
+mod task;
 mod top;
 mod translated;
 
