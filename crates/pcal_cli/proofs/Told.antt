@@ -5,12 +5,12 @@ use Rattle.std.proofs.lemmas.Option.{none-some}
 use Rattle.outer_io.specs.declared.Failed.{Failed}
 use Rattle.outer_io.specs.Outer.{Texts, told_at, HasText, Tells, HasNoText, Grows, GrowsInPart, RoseBy}
 use Rattle.tla_token.specs.declared.rule.Refusal.{Refusal}
-use Rattle.tla_token.specs.Offences.{least}
 use Rattle.tla_token.specs.Limits.{most_bytes}
 use Rattle.tla_tree.specs.Tree.{Word}
-use Rattle.first_path.specs.FormRead.{form_offences, FirstOffence}
 use Rattle.command_words.specs.Commands.{Command}
 use Rattle.pcal_cli.specs.Words.{file_of, file_meant}
+use Rattle.pcal_cli.specs.Translating.{AnswersTranslation}
+use Rattle.pcal_cli.proofs.Translating.{one_answer}
 use Rattle.pcal_cli.specs.Asked.{Refuses, HasOffence, Accepts, Makes, Promises}
 use Rattle.pcal_cli.specs.declared.status.Answer.{Answer}
 use Rattle.pcal_cli.specs.declared.status.Answer.TheVariants as answer
@@ -55,9 +55,9 @@ writes_in_part c ts file t v b w old new h e k j grows = told ts file v (WritesI
 pub keeps : (c : Command) (ts : Option Texts) (file t v b w : List ℕ) (old new : Option (List ℕ)) → HasText ts file v → t ≡ v → Promises c t b → w ≡ b → Grows old new w → Tells ts file (KeepsPromise old new c)
 keeps c ts file t v b w old new h e k j grows = told ts file v (KeepsPromise old new c) h (b, subst (Grows old new) j grows, subst (λ x. Promises c x b) e k)
 
--- a text without offences is refused by none
-pub no_offence : (x : List ℕ) (r : Refusal) → form_offences x ≡ [] → FirstOffence x r → ⊥
-no_offence x r e (at, k, p) = none-some (r.rule, at) (sym (ap least e) ∙ k)
+-- a text that is translated is refused by no rule
+pub no_offence : (x : List ℕ) (r : Refusal) → AnswersTranslation x None → AnswersTranslation x (Some r) → ⊥
+no_offence x r h k = none-some r (one_answer x None (Some r) h k)
 
 -- t, in which nothing is in the command's way, has no offence
 pub unoffending : (c : Command) (ts : Option Texts) (file t v : List ℕ) (P : Type 0) → ((x : List ℕ) (r : Refusal) → Accepts c x → Refuses c x r → ⊥) → HasText ts file v → t ≡ v → Accepts c t → Tells ts file (λ x. HasOffence c x → P)

@@ -1,19 +1,19 @@
 -- What each command asks of its file, what it writes for it, and what it promises.
-use Rattle.std.specs.Prelude.{◌≡◌, not, List, [], ℕ}
+use Rattle.std.specs.Prelude.{◌≡◌, not, List, ℕ, Some, None}
 use Rattle.tla_token.specs.declared.rule.Refusal.{Refusal}
 use Rattle.command_words.specs.Commands as words
 use Rattle.command_words.specs.Commands.{Command, translates}
 use Rattle.promise.specs.Options.{Options}
 use Rattle.promise.specs.Headline.{Headline}
-use Rattle.first_path.specs.FormRead.{form_offences, FirstOffence}
 use Rattle.first_path.specs.Written.{Written}
 use Rattle.pcal_cli.specs.Words.{plain}
+use Rattle.pcal_cli.specs.Translating.{AnswersTranslation}
 
 -- ---- what it asks
 
 -- the text of its file is refused so
 abbrev pub Refuses : Command → List ℕ → Refusal → Type 0
-Refuses (translates file options) x r = FirstOffence x r
+Refuses (translates file options) x r = AnswersTranslation x (Some r)
 Refuses c x r = ⊥
 
 abbrev pub HasOffence : Command → List ℕ → Type 0
@@ -21,7 +21,7 @@ HasOffence c x = (r : Refusal) × Refuses c x r
 
 -- nothing in the text is in the way
 abbrev pub Accepts : Command → List ℕ → Type 0
-Accepts (translates file options) x = form_offences x ≡ []
+Accepts (translates file options) x = AnswersTranslation x None
 Accepts c x = ⊥
 
 -- ---- what it writes

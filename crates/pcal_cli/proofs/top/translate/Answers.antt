@@ -5,8 +5,8 @@ use Rattle.pcal_cli.specs.declared.status.Status.TheVariants.{Fine, WriteFault}
 use Rattle.pcal_cli.specs.Causes.{IsDone}
 use Rattle.tla_tree.specs.Tree.{Word}
 use Rattle.command_words.specs.Commands.{Command, translates}
-use Rattle.first_path.specs.FormRead.{FirstOffence}
 use Rattle.pcal_cli.specs.Words.{plain}
+use Rattle.pcal_cli.specs.Asked.{Refuses}
 use Rattle.pcal_cli.proofs.Told.{told, read, done, unwritten, refused, not_lacking, no_offence, writes, writes_in_part, keeps, unoffending, offending, unlong}
 use Rattle.pcal_cli.proofs.top.translate.Goals as goal
 
@@ -42,7 +42,7 @@ pub returns-in-Ok-translate_text-clause-in_part : goal.returns-in-Ok-translate_t
 returns-in-Ok-translate_text-clause-in_part g c = λ e. writes_in_part (of c.args.file.now) _ _ _ _ _ _ _ _ c.in-Ok.ensures.text c.deref.ensures.value (refl, c.in-Ok-translate_text.ensures.ok) c.deref-in-Ok-translate_text.ensures.value c.in-Err.ensures.err
 
 pub returns-in-Err-Refused-clause-refused : goal.returns-in-Err-Refused-clause-refused
-returns-in-Err-Refused-clause-refused g c = refused _ _ _ _ FirstOffence _ c.in-Ok.ensures.text c.deref.ensures.value (rw c.in-Err-Refused.field-0-is at c.in-Err-Refused.ensures.stopped)
+returns-in-Err-Refused-clause-refused g c = refused _ _ _ _ (Refuses (of c.args.file.now)) _ c.in-Ok.ensures.text c.deref.ensures.value (rw c.in-Err-Refused.field-0-is at c.in-Err-Refused.ensures.stopped)
 
 pub returns-in-Err-Refused-clause-complete : goal.returns-in-Err-Refused-clause-complete
 returns-in-Err-Refused-clause-complete g c = offending (of c.args.file.now) _ _ _ _ _ _ _ _ no_offence c.in-Ok.ensures.text c.deref.ensures.value (rw c.in-Err-Refused.field-0-is at c.in-Err-Refused.ensures.stopped)
