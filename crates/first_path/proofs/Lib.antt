@@ -1,13 +1,6 @@
 pub mod Names
 pub mod Fit
-pub mod FormKinds
-pub mod FormFine
-pub mod FormExact
-pub mod StandsTokens
-pub mod Stands
-pub mod OneStatement
-pub mod OneAlgorithm
-pub mod AlgorithmAlone
+pub mod Found
 pub mod WritableForm
 pub mod RegionPlaces
 pub mod BesideKept
@@ -29,6 +22,7 @@ pub mod TreesMoved
 pub mod AlgorithmsMoved
 pub mod SpelledInFile
 pub mod TreeForms
+pub mod WorkedForms
 pub mod Witness
 mod RowsForm
 mod RowsTree

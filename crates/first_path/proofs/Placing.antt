@@ -13,15 +13,11 @@ use Rattle.module_tree.proofs.WalkKept.{has_spot}
 use Rattle.module_tree.proofs.WalkSame.{keeps_file}
 use Rattle.module_tree.proofs.LayoutBare.{same_layout}
 use Rattle.module_tree.proofs.WrittenRegion.{layout_inside}
-use Rattle.first_path.specs.Form.{Parts, is_fit, IsForm}
+use Rattle.first_path.specs.Form.{Parts, is_fit}
 use Rattle.first_path.specs.Placed.{Places, region_at, module_at, region_of, put_in, translation_of}
 use Rattle.first_path.specs.TreeForm.{IsFitted}
 use Rattle.first_path.proofs.WritableForm.{written_region}
 use Rattle.first_path.proofs.RegionPlaces.{alike_anywhere}
-
--- as the file is whose algorithm's tokens are those of the form
-pub of_form : (x : List ℕ) (f : Parts) → IsForm x f → IsFitted x f
-of_form x f h = record { fine = h.fine; titled = h.titled; fit = h.fit; suited = h.suited }
 
 -- where there is a place, the text goes there
 pub put_there : (x t : Text) (at : Span) → spot (walk x) ≡ Some at → WithTranslation x t (put_in x t (spot (walk x)))

@@ -10,7 +10,7 @@ use Rattle.module_tree.specs.Module.{Item, test, setting, Items, no_items, item,
 use Rattle.module_tree.specs.laws.PlacelessRegion.{item_placeless, items_placeless, way_placeless, body_placeless, action_placeless, perhaps_placeless, fairness_placeless, definition_placeless, region_placeless}
 use Rattle.first_path.specs.Form.{Operand, number_operand, variable_operand, Right, single, sum, Parts}
 use Rattle.first_path.specs.Placed.{Places, leaf, infix_of, operand_tree, right_at, label_at, begins_at, step_at, region_at, region_of}
-use Rattle.first_path.proofs.StandsTokens.{nth}
+use Rattle.first_path.proofs.Found.{nth}
 
 -- ---- trees
 

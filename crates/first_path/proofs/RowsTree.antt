@@ -1,53 +1,26 @@
--- Worked examples of the form by the algorithm's tree, by computation: files whose tokens are not those of the form, in both syntaxes.
-use Rattle.std.proofs.Common.{◌≡◌, ℕ, ◌+◌, true, false, [], ◌∷◌, Option, Some, None, codes, refl}
-use Rattle.std.proofs.lemmas.Option.{same_Some}
-use Rattle.tla_token.specs.declared.place.Place.{Place}
-use Rattle.tla_tree.specs.declared.op.Op.TheVariants.{Plus}
-use Rattle.tla_tree.specs.Tree.{Word, Name}
-use Rattle.tla_tree.specs.Spelling.{Phrase, brackets, infix_of}
-use Rattle.tla_tree.specs.Spelling as spelled
-use Rattle.tla_tree.specs.Reader.{readers}
-use Rattle.pcal_tree.specs.Algorithm.{Algorithm, unset, skip, assign, no_assignments, then, done, alone}
-use Rattle.pcal_tree.specs.AlgorithmTokens.{views}
-use Rattle.pcal_tree.specs.GrammarParts.{Labels, by_semicolon, equals, section, last_variable, colon, label, no_labels, last_assignment}
+-- Worked examples of the form by the algorithm's tree, by computation: files in both syntaxes, with comments and other layouts, and trees of other forms.
+use Rattle.std.proofs.Common.{◌≡◌, true, false, [], ◌∷◌, Some, None, codes, refl}
+use Rattle.tla_tree.specs.declared.op.Op.TheVariants.{Plus, Minus}
+use Rattle.tla_tree.specs.Tree.{Tree}
+use Rattle.tla_tree.specs.Tree as tree
+use Rattle.tla_tree.specs.Spelling.{brackets, infix_of}
+use Rattle.pcal_tree.specs.declared.mark.Mark.TheVariants.{Plain}
+use Rattle.pcal_tree.specs.Algorithm.{Algorithm, unset, skip, assign, no_assignments, assignment, then, done, mark, alone}
+use Rattle.pcal_tree.specs.GrammarParts.{by_semicolon, equals, section, last_variable, last_assignment}
 use Rattle.pcal_tree.specs.GrammarParts as part
 use Rattle.pcal_tree.specs.GrammarP as p
 use Rattle.pcal_tree.specs.GrammarC as c
-use Rattle.pcal_tree.specs.Grammar.{Syntax, p_syntax, c_syntax, Text, algorithm, to_end, in_braces, no_define, begin, block, spell, algorithm_of, Good}
+use Rattle.pcal_tree.specs.Grammar.{p_syntax, c_syntax, Text, algorithm, to_end, in_braces, no_define, begin, block, algorithm_of, Good}
 use Rattle.module_tree.specs.TextFront as front
-use Rattle.module_tree.specs.AlgorithmText.{AlgorithmText, algorithm_in, algorithm_tokens}
-use Rattle.module_tree.specs.FileOffences.{file_offences}
+use Rattle.module_tree.specs.AlgorithmText.{algorithm_in}
 use Rattle.promise.specs.Headline.{Stands}
-use Rattle.first_path.specs.Form.{single, number_operand, Parts}
-use Rattle.first_path.specs.FormRead.{file_form}
-use Rattle.first_path.specs.Placed.{algorithm_at}
-use Rattle.first_path.specs.TreeForm.{form_of, IsFitted, HasForm, tree_form}
-use Rattle.first_path.specs.Worked.{worked_text, worked_parts}
-use Rattle.first_path.proofs.Placing.{of_form}
-use Rattle.first_path.proofs.SpelledInFile.{stand_there}
-use Rattle.first_path.proofs.TreeForms.{form_found, of_tokens}
-use Rattle.first_path.proofs.Witness.{form_worked}
-
--- an algorithm that the tokens of a file spell is in it
-stands_by : (s : Syntax) (x : front.Text) (t : Text) (o : Option AlgorithmText) → algorithm_in x ≡ o → Good s t → file_offences x ≡ []
-    → front.on_some o (λ a. Some (views (algorithm_tokens x a))) ≡ Some (spell t []) → Stands x (algorithm_of t)
-stands_by s x t (Some a) is good fine told = stand_there x a s (algorithm_of t) fine is (t, good, same_Some (views (algorithm_tokens x a)) (spell t []) told, refl)
-stands_by s x t None is good fine told = absurd cc
-
-abbrev at : ℕ → ℕ → Place
-at l k = record { line = l; col = k }
-
-abbrev named : ℕ → ℕ → Word → Name
-named l k w = record { word = w; place = at l k }
-
-abbrev number : ℕ → ℕ → ℕ → Phrase
-number l k n = spelled.number (at l k) n
-
-abbrev name : ℕ → ℕ → Word → Phrase
-name l k w = spelled.name (at l k) w
-
-abbrev labelled : ℕ → ℕ → Labels
-labelled l k = label (named l k (codes "A")) (colon (at l (k + 1))) no_labels
+use Rattle.first_path.specs.Form.{variable_operand, single, number_operand, Parts}
+use Rattle.first_path.specs.Placed.{Places, leaf, algorithm_at}
+use Rattle.first_path.specs.Placed.{infix_of as infix_at}
+use Rattle.first_path.specs.TreeForm.{form_of, HasForm, tree_form}
+use Rattle.first_path.specs.Worked.{worked_parts}
+use Rattle.first_path.proofs.TreeForms.{form_found}
+use Rattle.first_path.proofs.WorkedForms.{stands_by, at, named, number, name, labelled}
 
 -- ---- in C-syntax, with comments, other lines, and brackets
 
@@ -78,10 +51,6 @@ c_form = refl
 c_has_form : HasForm c_file worked_parts
 c_has_form = form_found c_file (algorithm_of c_text) worked_parts c_stands c_form
 
--- its tokens are not those of the form
-c_tokens : file_form c_file ≡ None
-c_tokens = refl
-
 -- ---- in P-syntax, with no semicolon
 
 abbrev p_file : front.Text
@@ -111,24 +80,35 @@ p_parts = record worked_parts { right = single (number_operand 7) }
 p_has_form : HasForm p_file p_parts
 p_has_form = form_found p_file (algorithm_of p_text) p_parts p_stands refl
 
-p_tokens : file_form p_file ≡ None
-p_tokens = refl
-
--- ---- the first worked file
-
-first_fitted : IsFitted worked_text worked_parts
-first_fitted = of_form worked_text worked_parts form_worked
-
-first_has_form : HasForm worked_text worked_parts
-first_has_form = of_tokens worked_text worked_parts form_worked
-
 -- ---- algorithms of other forms
 
+abbrev anywhere : Places
+anywhere i = at 1 i
+
 abbrev worked_tree : Algorithm
-worked_tree = algorithm_at (λ i. at 1 i) worked_parts
+worked_tree = algorithm_at anywhere worked_parts
 
 tree_has_form : form_of (codes "M") worked_tree ≡ Some worked_parts
 tree_has_form = refl
+
+constant : form_of (codes "M") (algorithm_at anywhere p_parts) ≡ Some p_parts
+constant = refl
+
+-- of which the right side is this
+abbrev assigned : Tree → Algorithm
+assigned e = record worked_tree { main = alone (mark (named 1 1 (codes "A")) Plain (then (record { first = at 1 1; last = at 1 1 }) (assign (assignment (leaf (tree.name (codes "x")) (at 1 2)) e no_assignments)) done)) }
+
+variable_itself : form_of (codes "M") (assigned (leaf (tree.name (codes "x")) (at 1 3))) ≡ Some (record worked_parts { right = single variable_operand })
+variable_itself = refl
+
+other_variable : form_of (codes "M") (assigned (leaf (tree.name (codes "y")) (at 1 3))) ≡ None
+other_variable = refl
+
+sum_of_three : form_of (codes "M") (assigned (infix_at Plus (at 1 3) (infix_at Plus (at 1 3) (leaf (tree.number 1) (at 1 3)) (leaf (tree.number 2) (at 1 5))) (leaf (tree.number 3) (at 1 7)))) ≡ None
+sum_of_three = refl
+
+difference : form_of (codes "M") (assigned (infix_at Minus (at 1 3) (leaf (tree.number 2) (at 1 3)) (leaf (tree.number 1) (at 1 5)))) ≡ None
+difference = refl
 
 fair_algorithm : form_of (codes "M") (record worked_tree { fair = true }) ≡ None
 fair_algorithm = refl

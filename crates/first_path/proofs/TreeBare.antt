@@ -11,8 +11,7 @@ use Rattle.pcal_tree.specs.Algorithm.{Start, Declaration, Definition, Macro, Pro
 use Rattle.pcal_tree.specs.Placeless.{start_placeless, declarations_placeless, definitions_placeless, macros_placeless, procedures_placeless, statements_placeless, main_placeless, placeless}
 use Rattle.module_tree.specs.TextFront.{on_some}
 use Rattle.first_path.specs.Form.{variable_operand, Right, single, sum, Parts}
-use Rattle.first_path.specs.FormRead.{if_so}
-use Rattle.first_path.specs.TreeForm.{number_in, name_in, sum_in, number_or, operand_in, sum_or, right_in, start_in, variable_in, labelled_in, sides_in, is_none, assigned_in, form_of}
+use Rattle.first_path.specs.TreeForm.{if_so, number_in, name_in, sum_in, number_or, operand_in, sum_or, right_in, start_in, variable_in, labelled_in, sides_in, is_none, assigned_in, form_of}
 
 -- ---- expressions
 

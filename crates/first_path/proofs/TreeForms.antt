@@ -1,9 +1,10 @@
--- Files whose algorithm has the form, by its tree: they are found, each file with the tokens of the form is one, and one is it with its translation too.
+-- Files whose algorithm has the form: they are found, what is written for them keeps the promise, and they have it with their translation too.
 use Rattle.std.proofs.Common.{◌≡◌, ℕ, Bool, List, Option, Some, sym, ap, subst, ◌∙◌}
 use Rattle.tla_token.specs.Offences.{Offence}
 use Rattle.tla_tree.specs.Tree.{Word}
 use Rattle.tla_value.specs.Outside.{Outside}
 use Rattle.pcal_tree.specs.Algorithm.{Algorithm}
+use Rattle.module_tree.specs.TextFront.{on_some}
 use Rattle.module_tree.specs.Walk.{walk}
 use Rattle.module_tree.specs.FileParts.{title}
 use Rattle.module_tree.specs.FileOffences.{file_offences}
@@ -12,17 +13,14 @@ use Rattle.module_tree.specs.Reading.{Reads}
 use Rattle.promise.specs.Options.{no_options}
 use Rattle.promise.specs.Headline.{Stands, Headline}
 use Rattle.first_path.specs.Beside.{beside}
-use Rattle.first_path.specs.Form.{Parts, is_fit, suits, IsForm}
-use Rattle.first_path.specs.FormRead.{on_some, if_so, if_none, suiting}
+use Rattle.first_path.specs.Form.{Parts, is_fit, suits}
 use Rattle.first_path.specs.Placed.{Places, algorithm_at, module_at, region_of, translation_of}
-use Rattle.first_path.specs.TreeForm.{form_of, IsFitted, HasForm, tree_form}
-use Rattle.first_path.proofs.FormKinds.{so}
-use Rattle.first_path.proofs.FormExact.{some_on, some_is, none_wrong}
-use Rattle.first_path.proofs.TreeParts.{form_is, form_at}
+use Rattle.first_path.specs.TreeForm.{if_so, form_of, IsFitted, HasForm, if_none, suiting, tree_form}
+use Rattle.first_path.proofs.Found.{so, some_on, some_is, none_wrong}
+use Rattle.first_path.proofs.TreeParts.{form_is}
 use Rattle.first_path.proofs.TreeBare.{same_form}
 use Rattle.first_path.proofs.SpelledInFile.{stands_kept}
-use Rattle.first_path.proofs.Stands.{stands}
-use Rattle.first_path.proofs.Placing.{of_form, placed, inside}
+use Rattle.first_path.proofs.Placing.{placed, inside}
 use Rattle.first_path.proofs.ReadsModule.{reads}
 use Rattle.first_path.proofs.Again.{fitted_again, text_again}
 use Rattle.first_path.proofs.Promise.{promise_of}
@@ -53,10 +51,6 @@ form_read x g f h e =
     ∙ ap (λ (o : Option Parts). on_some o suit) e
     ∙ ap (λ (b : Bool). if_so b (suiting (beside (walk x)) f)) h.fit
     ∙ ap (λ (b : Bool). if_so b (Some f)) h.suited
-
--- a file with the tokens of the form
-pub of_tokens : (x : List ℕ) (f : Parts) → IsForm x f → HasForm x f
-of_tokens x f h = (let s = stands x f h in record { fitted = of_form x f h; tree = algorithm_at s.0 f; stands = s.1; form = form_at s.0 f })
 
 -- ---- the promise
 

@@ -12,13 +12,10 @@ use Rattle.pcal_tree.specs.declared.mark.Mark.TheVariants.{Plain}
 use Rattle.pcal_tree.specs.Algorithm.{Span, Start, Declaration, Statements, Main, Algorithm, equals, assign, done, then, mark, no_assignments, assignment, alone}
 use Rattle.module_tree.specs.TextFront.{on_some}
 use Rattle.first_path.specs.Form.{Operand, number_operand, variable_operand, Right, single, sum, Parts}
-use Rattle.first_path.specs.FormRead.{if_so}
 use Rattle.first_path.specs.Placed.{Places, leaf, infix_of, operand_tree, right_at, word_at, algorithm_at}
-use Rattle.first_path.specs.TreeForm.{number_in, name_in, sum_in, number_or, operand_in, sum_or, right_in, start_in, variable_in, labelled_in, sides_in, is_none, is_bare, assigned_in, form_of}
+use Rattle.first_path.specs.TreeForm.{if_so, number_in, name_in, sum_in, number_or, operand_in, sum_or, right_in, start_in, variable_in, labelled_in, sides_in, is_none, is_bare, assigned_in, form_of}
 use Rattle.first_path.proofs.Names.{word_same}
-use Rattle.first_path.proofs.FormKinds.{so}
-use Rattle.first_path.proofs.FormExact.{some_on, some_is}
-use Rattle.first_path.proofs.StandsTokens.{nth}
+use Rattle.first_path.proofs.Found.{so, some_on, some_is, nth}
 
 -- ---- expressions
 

@@ -16,21 +16,13 @@ use Rattle.pcal_tree.specs.Program.{Program, Actor}
 use Rattle.pcal_tree.specs.Calls.{defaultInitValue}
 use Rattle.pcal_tree.specs.Step.{StepFrom, Step, Stutters, Stand, StandsAt, course_of, pc_of}
 use Rattle.pcal_tree.specs.InitialStates.{Initial, InitFault}
-use Rattle.first_path.specs.Form.{IsForm}
 use Rattle.first_path.specs.Placed.{Places, algorithm_at, module_at}
 use Rattle.promise.specs.ConstantsAndStates.{AreConstants, IsState}
-use Rattle.first_path.specs.Worked.{worked_text, worked_parts, full_text, full_parts, integers_alone, no_more_constants, worked_program, at_first, at_last}
-use Rattle.first_path.proofs.FormExact.{form_found}
+use Rattle.first_path.specs.Worked.{worked_parts, integers_alone, no_more_constants, worked_program, at_first, at_last}
 use Rattle.first_path.proofs.MeansStep.{actor, stand, Kept, is_actor, actor_is, stand_is, there_stands, ended}
 use Rattle.pcal_tree.specs.Variables.{pc}
 use Rattle.pcal_tree.specs.Faults.{Sound, Troubled}
 use Rattle.pcal_tree.specs.Processes.{IsActor}
-
-pub form_worked : IsForm worked_text worked_parts
-form_worked = form_found worked_text worked_parts refl
-
-pub form_full : IsForm full_text full_parts
-form_full = form_found full_text full_parts refl
 
 -- ---- constants
 

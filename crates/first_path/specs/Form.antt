@@ -1,22 +1,16 @@
--- The form of algorithm that is translated so far, in any file: one variable, and one label with an assignment ("A PlusCal User's Manual", section 2.2 and
--- chapter 3).
-use Rattle.std.specs.Prelude.{◌≡◌, ℕ, Bool, true, false, ◌&&◌, ◌||◌, not, nat_lt, IsTrue, List, [], ◌∷◌, Some, codes, map}
+-- The parts of an algorithm of the form that is translated so far, one variable and one label with an assignment ("A PlusCal User's Manual", section 2.2 and
+-- chapter 3); and what they ask of names and numbers, and of what is beside the algorithm.
+use Rattle.std.specs.Prelude.{ℕ, Bool, true, false, ◌&&◌, ◌||◌, not, nat_lt, [], ◌∷◌, codes}
 use Rattle.std.specs.List.{list_all, list_any}
 use Rattle.std.specs.Str.{bytes_eq}
-use Rattle.tla_token.specs.declared.sign.Sign.TheVariants as sign
 use Rattle.tla_token.specs.Signs.{is_among}
-use Rattle.tla_token.specs.Lexemes.{Kind, one, is_word, is_letter}
-use Rattle.tla_token.specs.Lexemes as kind
+use Rattle.tla_token.specs.Lexemes.{is_word, is_letter}
 use Rattle.tla_token.specs.Words.{is_reserved, is_own, is_standard}
 use Rattle.tla_token.specs.Limits.{past_numbers}
 use Rattle.tla_tree.specs.declared.op.Op.TheVariants.{Plus}
 use Rattle.tla_tree.specs.Tree.{Word}
 use Rattle.tla_value.specs.StandardModules.{has_operator}
-use Rattle.module_tree.specs.Walk.{walk}
-use Rattle.module_tree.specs.FileParts.{title}
-use Rattle.module_tree.specs.AlgorithmText.{AlgorithmText, algorithm_in, algorithm_tokens}
-use Rattle.module_tree.specs.FileOffences.{file_offences}
-use Rattle.first_path.specs.Beside.{Beside, beside}
+use Rattle.first_path.specs.Beside.{Beside}
 
 -- a number, or the algorithm's variable
 pub data Operand : Type 0 where
@@ -36,7 +30,7 @@ pub record Parts : Type 0 where
   pub label : Word
   pub right : Right  -- of the assignment
 
--- ---- the text
+-- ---- names and numbers
 
 abbrev pub is_name : Word → Bool
 is_name w = list_all is_word w && list_any is_letter w
@@ -62,32 +56,6 @@ is_fit f =
     is_name f.title && not (is_reserved f.title) && is_free f.algorithm && is_free f.variable && is_small f.initial && is_free f.label
     && not (bytes_eq f.label f.variable) && not (bytes_eq f.label (codes "Done")) && not (bytes_eq f.label (codes "Error")) && is_small_right f.right
 
-abbrev pub word : Word → Kind
-word w = kind.name w
-
-abbrev pub operand_kind : Word → Operand → Kind
-operand_kind v (number_operand n) = kind.number n
-operand_kind v variable_operand = word v
-
-abbrev pub right_kinds : Word → Right → List Kind → List Kind
-right_kinds v (single a) ks = operand_kind v a ∷ ks
-right_kinds v (sum a b) ks = operand_kind v a ∷ one sign.Plus ∷ operand_kind v b ∷ ks
-
--- `variables` or `variable`
-abbrev pub declares : Word → Bool
-declares w = bytes_eq w (codes "variables") || bytes_eq w (codes "variable")
-
--- after `--algorithm`, with one of these as the word
-abbrev pub kinds : Word → Parts → List Kind
-kinds w f =
-    word f.algorithm ∷ word w ∷ word f.variable ∷ one sign.Equal ∷ kind.number f.initial ∷ one sign.Semicolon ∷ word (codes "begin") ∷
-    word f.label ∷ one sign.Colon ∷ word f.variable ∷ one sign.Assign ∷
-    right_kinds f.variable f.right (one sign.Semicolon ∷ word (codes "end") ∷ word (codes "algorithm") ∷ [])
-
--- the kinds of the algorithm's tokens
-abbrev pub algorithm_kinds : List ℕ → AlgorithmText → List Kind
-algorithm_kinds x a = map (λ t. t.kind) (algorithm_tokens x a)
-
 -- ---- beside the algorithm
 
 abbrev pub is_sum : Right → Bool
@@ -108,17 +76,3 @@ abbrev pub suits : Beside → Parts → Bool
 suits o f =
     is_new o f.variable && is_new o f.label && not (is_among o.words f.label) && not (list_any is_taken o.declared)
     && (not (is_sum f.right) || has_operator o.extended Plus)
-
--- ---- the file
-
--- the file x has an algorithm of the form, with these parts
-pub record IsForm (x : List ℕ) (f : Parts) : Type 0 where
-  pub fine : file_offences x ≡ []
-  pub algorithm : AlgorithmText
-  pub is_algorithm : algorithm_in x ≡ Some algorithm
-  pub titled : title (walk x) ≡ Some f.title
-  pub declared_by : Word
-  pub is_declared : IsTrue (declares declared_by)
-  pub kinds_are : algorithm_kinds x algorithm ≡ word (codes "--algorithm") ∷ kinds declared_by f
-  pub fit : IsTrue (is_fit f)
-  pub suited : IsTrue (suits (beside (walk x)) f)

@@ -1,6 +1,5 @@
 pub mod Beside
 pub mod Form
-pub mod FormRead
 pub mod Placed
 pub mod TreeForm
 pub mod Written

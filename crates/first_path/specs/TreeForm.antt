@@ -2,6 +2,7 @@
 -- User's Manual", section 2.2 and chapter 3).
 use Rattle.std.specs.Prelude.{◌≡◌, ℕ, Bool, true, false, not, ◌&&◌, IsTrue, List, [], ◌∷◌, Option, Some, None}
 use Rattle.std.specs.Str.{bytes_eq}
+use Rattle.tla_token.specs.Offences.{Offence}
 use Rattle.tla_tree.specs.declared.op.Op.TheVariants.{Plus}
 use Rattle.tla_tree.specs.Tree.{Word, Tree, node, no_trees, number, name, strict, operator}
 use Rattle.tla_tree.specs.Tree as tree
@@ -12,9 +13,12 @@ use Rattle.module_tree.specs.Walk.{walk}
 use Rattle.module_tree.specs.FileParts.{title}
 use Rattle.module_tree.specs.FileOffences.{file_offences}
 use Rattle.promise.specs.Headline.{Stands}
-use Rattle.first_path.specs.Beside.{beside}
+use Rattle.first_path.specs.Beside.{Beside, beside}
 use Rattle.first_path.specs.Form.{Operand, number_operand, variable_operand, Right, single, sum, Parts, is_fit, suits}
-use Rattle.first_path.specs.FormRead.{if_so, if_none, suiting}
+
+abbrev pub if_so : {A : Type 0} → Bool → Option A → Option A
+if_so true o = o
+if_so false o = None
 
 -- ---- expressions
 
@@ -104,6 +108,14 @@ pub record HasForm (x : List ℕ) (f : Parts) : Type 0 where
   pub tree : Algorithm
   pub stands : Stands x tree
   pub form : form_of f.title tree ≡ Some f
+
+-- where nothing offends
+abbrev pub if_none : {A : Type 0} → List Offence → Option A → Option A
+if_none [] o = o
+if_none (e ∷ es) o = None
+
+abbrev pub suiting : Beside → Parts → Option Parts
+suiting o f = if_so (suits o f) (Some f)
 
 -- the parts of the file x, in which this algorithm is, where it has the form
 abbrev pub tree_form : List ℕ → Algorithm → Option Parts

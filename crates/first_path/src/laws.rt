@@ -1,8 +1,6 @@
 //! Laws of the form, stated as what functions without a body ensure.
 
-ghost use Rattle.std.specs.Prelude.{◌≡◌, ◌⊎◌, ℕ, List, [], Some};
-ghost use Rattle.tla_token.specs.declared.rule.Refusal.{Refusal};
-ghost use Rattle.tla_token.specs.Offences.{Offence, least};
+ghost use Rattle.std.specs.Prelude.{◌≡◌, ◌⊎◌, ℕ, List, Some};
 ghost use Rattle.tla_token.specs.declared.place.Place.{Place};
 ghost use Rattle.tla_tree.specs.Tree.{Word};
 ghost use Rattle.tla_value.specs.Outside.{Outside};
@@ -13,13 +11,11 @@ ghost use Rattle.pcal_tree.specs.Placeless.{placeless};
 ghost use Rattle.pcal_tree.specs.Step.{Step, Stutters};
 ghost use Rattle.pcal_tree.specs.InitialStates.{Initial, InitFault};
 ghost use Rattle.module_tree.specs.Reading.{Reads};
-ghost use Rattle.module_tree.specs.FileOffences.{splitting_offences};
 ghost use Rattle.module_tree.specs.AlgorithmText.{AlgorithmText, algorithm_in, algorithm_tokens};
 ghost use Rattle.module_tree.specs.WithTranslation.{WithTranslation};
 ghost use Rattle.module_tree.specs.laws.Kept.{IsFine};
 ghost use Rattle.module_tree.specs.laws.Walks.{IsInside};
-ghost use Rattle.first_path.specs.Form.{Parts, IsForm};
-ghost use Rattle.first_path.specs.FormRead.{file_form, form_offences, FirstOffence, left_out};
+ghost use Rattle.first_path.specs.Form.{Parts};
 ghost use Rattle.first_path.specs.TreeForm.{form_of, HasForm, tree_form};
 ghost use Rattle.first_path.specs.Placed.{Places, algorithm_at, module_at, translation_of};
 ghost use Rattle.promise.specs.ConstantsAndStates.{AreConstants, IsState};
@@ -28,21 +24,6 @@ ghost use Rattle.promise.specs.Headline.{Headline, Stands};
 ghost use Rattle.first_path.specs.Worked.{worked_text, worked_parts, integers_alone, no_more_constants, worked_program, at_first, at_last, full_text, full_parts};
 ghost use Rattle.pcal_tree.specs.Faults.{Sound};
 
-/// The parts of a file of the form are those that are read of it, and no file that isn't of the form gives any.
-pub fn forms_are_read()
-    ensures found { (x : List ℕ) (f : Parts) → file_form x ≡ Some f → IsForm x f }
-    ensures read { (x : List ℕ) (f : Parts) → IsForm x f → file_form x ≡ Some f }
-{}
-
-/// A file has an offence exactly if it isn't of the form. It is one for which the file is refused before its algorithm is
-/// read, and else rule 11 at the file's start.
-pub fn offences_are_of_other_texts()
-    ensures none { (x : List ℕ) (f : Parts) → IsForm x f → form_offences x ≡ [] }
-    ensures some { (x : List ℕ) → ((f : Parts) → IsForm x f → ⊥) → (r : Refusal) × FirstOffence x r }
-    ensures splitting { (x : List ℕ) (o : Offence) → least (splitting_offences x) ≡ Some o → least (form_offences x) ≡ Some o }
-    ensures first { (x : List ℕ) → ((f : Parts) → IsForm x f → ⊥) → splitting_offences x ≡ [] → FirstOffence x left_out }
-{}
-
 /// An algorithm has the form with these parts exactly if it is theirs, in some places; and it has that form wherever its parts are.
 pub fn trees_have_the_form()
     ensures found { (m : Word) (g : Algorithm) (f : Parts) → form_of m g ≡ Some f → (f.title ≡ m) × (p : Places) × (g ≡ algorithm_at p f) }
@@ -50,12 +31,10 @@ pub fn trees_have_the_form()
     ensures anywhere { (m : Word) (g h : Algorithm) → placeless g ≡ placeless h → form_of m g ≡ form_of m h }
 {}
 
-/// A file whose algorithm has the form, by its tree, is found by the algorithm that is in it. Each file with the tokens of the form is one,
-/// with the same parts.
+/// A file whose algorithm has the form is found by the algorithm that is in it.
 pub fn files_have_the_form_by_their_trees()
     ensures found { (x : List ℕ) (g : Algorithm) (f : Parts) → Stands x g → tree_form x g ≡ Some f → HasForm x f }
     ensures read { (x : List ℕ) (f : Parts) (h : HasForm x f) → tree_form x h.tree ≡ Some f }
-    ensures tokens { (x : List ℕ) (f : Parts) → IsForm x f → HasForm x f }
 {}
 
 /// In a file that breaks no rule up to 10 the algorithm that its tokens spell is in it. With a translation that is put into the file it
@@ -78,16 +57,15 @@ pub fn translations_keep_the_promise()
 /// The file with its translation has the form too, with the same parts, and translating it again changes nothing.
 pub fn translating_again_changes_nothing()
     ensures form { (x : List ℕ) (f : Parts) → HasForm x f → HasForm (translation_of x f) f }
-    ensures tokens { (x : List ℕ) (f : Parts) → IsForm x f → IsForm (translation_of x f) f }
     ensures same { (x : List ℕ) (f : Parts) → HasForm x f → translation_of (translation_of x f) f ≡ translation_of x f }
 {}
 
-/// The premises of the promise can be met, and neither of its sides is empty: the worked module is of the form, and
+/// The premises of the promise can be met, and neither of its sides is empty: the worked module has the form, and
 /// wherever its tokens are its algorithm has constants, begins in a sound state, steps from it, and is done in
 /// another, sound too. It doesn't begin in that one, and doesn't stay where it begins.
 pub fn some_module_steps()
-    ensures form { IsForm worked_text worked_parts }
-    ensures full_form { IsForm full_text full_parts }
+    ensures form { HasForm worked_text worked_parts }
+    ensures full_form { HasForm full_text full_parts }
     ensures constants { (q : Places) → AreConstants (module_at integers_alone q worked_parts) no_more_constants }
     ensures states { (p q : Places) → IsState (worked_program p q) at_first × IsState (worked_program p q) at_last }
     ensures starts { (p q : Places) → Sound (worked_program p q) at_first × Initial (worked_program p q) at_first }
@@ -97,9 +75,4 @@ pub fn some_module_steps()
     ensures still { (p q : Places) → Sound (worked_program p q) at_last × Stutters (worked_program p q) at_last at_last }
     ensures no_start { (p q : Places) → Initial (worked_program p q) at_last → ⊥ }
     ensures no_step { (p q : Places) → Step (worked_program p q) at_first at_first ⊎ Stutters (worked_program p q) at_first at_first → ⊥ }
-{}
-
-/// The algorithm that is in a text of the form is one alone.
-pub fn one_algorithm_stands()
-    ensures { (x : List ℕ) (f : Parts) → IsForm x f → (a b : Algorithm) → Stands x a → Stands x b → a ≡ b }
 {}

@@ -1,4 +1,3 @@
-pub mod FormTokens
 pub mod ErrorLine
 pub mod Numbers
 pub mod Told
@@ -6,8 +5,7 @@ mod RowsTranslating
 pub mod Translating
 pub mod RegionMade
 pub mod OutsideTokens
-pub mod Capped
-pub mod AlgorithmRead
+pub mod TreeRead
 pub mod FormFound
 pub mod RowsBeside
 pub mod RowsAnswers

@@ -11,8 +11,7 @@ use Rattle.pcal_tree.specs.GrammarP as p
 use Rattle.pcal_tree.specs.Grammar as grammar
 use Rattle.pcal_tree.specs.OpenForms.{opens}
 use Rattle.first_path.specs.Worked.{worked_text, worked_parts}
-use Rattle.first_path.proofs.TreeForms.{of_tokens}
-use Rattle.first_path.proofs.Witness.{form_worked}
+use Rattle.first_path.proofs.WorkedForms.{form_worked}
 use Rattle.rewriting.specs.Spelling.{AnswersRewriting}
 use Rattle.pcal_cli.specs.Translating.{AnswersTranslation}
 use Rattle.rewriting.proofs.RowsSpelling.{nothing, r, file, no_algorithm}
@@ -50,7 +49,7 @@ worked_is_spelled =
     )
 
 worked_is_translated : AnswersTranslation worked_text None
-worked_is_translated = (None, worked_is_spelled, (worked_parts, of_tokens worked_text worked_parts form_worked))
+worked_is_translated = (None, worked_is_spelled, (worked_parts, form_worked))
 
 no_algorithm_refused : AnswersTranslation (file []) (Some (r rule.NoAlgorithm 3 1))
 no_algorithm_refused = (Some (r rule.NoAlgorithm 3 1), no_algorithm, refl)

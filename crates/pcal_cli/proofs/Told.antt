@@ -5,13 +5,13 @@ use Rattle.std.proofs.lemmas.Option.{none-some}
 use Rattle.outer_io.specs.declared.Failed.{Failed}
 use Rattle.outer_io.specs.Outer.{Texts, told_at, HasText, Tells, HasNoText, Grows, GrowsInPart, RoseBy}
 use Rattle.tla_token.specs.declared.rule.Refusal.{Refusal}
-use Rattle.tla_token.specs.Offences.{least}
 use Rattle.tla_token.specs.Limits.{most_bytes}
 use Rattle.tla_tree.specs.Tree.{Word}
-use Rattle.first_path.specs.FormRead.{form_offences, FirstOffence}
 use Rattle.command_words.specs.Commands.{Command, translates, checks, rewrites, maps, runs, traces, makes}
-use Rattle.rewriting.proofs.OneAnswer.{one_answer}
+use Rattle.rewriting.proofs.OneAnswer as rewritings
 use Rattle.pcal_cli.specs.Words.{file_of, file_meant}
+use Rattle.pcal_cli.specs.Translating.{AnswersTranslation}
+use Rattle.pcal_cli.proofs.Translating.{one_answer}
 use Rattle.pcal_cli.specs.Asked.{Refuses, HasOffence, Accepts, Makes, Promises}
 use Rattle.pcal_cli.specs.declared.status.Answer.{Answer}
 use Rattle.pcal_cli.specs.declared.status.Answer.TheVariants as answer
@@ -56,14 +56,14 @@ writes_in_part c ts file t v b w old new h e k j grows = told ts file v (WritesI
 pub keeps : (c : Command) (ts : Option Texts) (file t v b w : List ℕ) (old new : Option (List ℕ)) → HasText ts file v → t ≡ v → Promises c t b → w ≡ b → Grows old new w → Tells ts file (KeepsPromise old new c)
 keeps c ts file t v b w old new h e k j grows = told ts file v (KeepsPromise old new c) h (b, subst (Grows old new) j grows, subst (λ x. Promises c x b) e k)
 
--- a text without offences is refused by none
-no_offence : (x : List ℕ) (r : Refusal) → form_offences x ≡ [] → FirstOffence x r → ⊥
-no_offence x r e (at, k, p) = none-some (r.rule, at) (sym (ap least e) ∙ k)
+-- a text that is translated is refused by no rule
+no_offence : (x : List ℕ) (r : Refusal) → AnswersTranslation x None → AnswersTranslation x (Some r) → ⊥
+no_offence x r h k = none-some r (one_answer x None (Some r) h k)
 
 -- a text in which nothing is in a command's way is not refused
 no_refusal : (c : Command) (x : List ℕ) (r : Refusal) → Accepts c x → Refuses c x r → ⊥
 no_refusal (translates file options) x r h k = no_offence x r h k
-no_refusal (rewrites file to) x r h k = none-some r (one_answer x None (Some r) h k)
+no_refusal (rewrites file to) x r h k = none-some r (rewritings.one_answer x None (Some r) h k)
 no_refusal (checks file forced) x r h k = h
 no_refusal (maps file forced) x r h k = h
 no_refusal (runs file config script options) x r h k = h

@@ -1,22 +1,22 @@
 -- What each command asks of its file, what it writes for it, and what it promises.
-use Rattle.std.specs.Prelude.{◌≡◌, not, List, [], ℕ, Some, None}
+use Rattle.std.specs.Prelude.{◌≡◌, not, List, ℕ, Some, None}
 use Rattle.tla_token.specs.declared.rule.Refusal.{Refusal}
 use Rattle.command_words.specs.Commands as words
 use Rattle.command_words.specs.Commands.{Command, translates, rewrites}
 use Rattle.promise.specs.Options.{Options}
 use Rattle.promise.specs.Headline.{Headline}
-use Rattle.first_path.specs.FormRead.{form_offences, FirstOffence}
 use Rattle.first_path.specs.Written.{Written}
 use Rattle.syntax_print.specs.Rewritten.{Rewritten}
 use Rattle.syntax_print.specs.Rewrites.{Rewrites}
 use Rattle.rewriting.specs.Spelling.{AnswersRewriting}
 use Rattle.pcal_cli.specs.Words.{plain}
+use Rattle.pcal_cli.specs.Translating.{AnswersTranslation}
 
 -- ---- what it asks
 
 -- the text of its file is refused so
 abbrev pub Refuses : Command → List ℕ → Refusal → Type 0
-Refuses (translates file options) x r = FirstOffence x r
+Refuses (translates file options) x r = AnswersTranslation x (Some r)
 Refuses (rewrites file to) x r = AnswersRewriting x (Some r)
 Refuses c x r = ⊥
 
@@ -25,7 +25,7 @@ HasOffence c x = (r : Refusal) × Refuses c x r
 
 -- nothing in the text is in the way
 abbrev pub Accepts : Command → List ℕ → Type 0
-Accepts (translates file options) x = form_offences x ≡ []
+Accepts (translates file options) x = AnswersTranslation x None
 Accepts (rewrites file to) x = AnswersRewriting x None
 Accepts c x = ⊥
 

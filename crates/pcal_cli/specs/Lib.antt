@@ -6,7 +6,5 @@ pub mod Causes
 pub mod FormSeen
 pub mod Translating
 pub mod Checked
-pub mod AlgorithmTokens
 pub mod OutsideTokens
 pub mod Built
-pub mod laws

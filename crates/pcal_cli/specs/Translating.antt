@@ -1,12 +1,17 @@
 -- How a file is refused where its algorithm is to be translated: as where it is only to be spelled, and else by rule 11 at its start, where its algorithm
 -- is of another form than the one that is translated so far ("A PlusCal User's Manual", sections 2.1, 2.2 and 3).
 use Rattle.std.specs.Prelude.{◌≡◌, Option, Some, None}
+use Rattle.tla_token.specs.declared.rule.Rule.TheVariants.{LeftOutWord}
 use Rattle.tla_token.specs.declared.rule.Refusal.{Refusal}
+use Rattle.tla_token.specs.Places.{start}
 use Rattle.module_tree.specs.TextFront.{Text}
 use Rattle.first_path.specs.Form.{Parts}
-use Rattle.first_path.specs.FormRead.{left_out}
 use Rattle.first_path.specs.TreeForm.{HasForm}
 use Rattle.rewriting.specs.Spelling.{AnswersRewriting}
+
+-- rule 11 at the file's start
+abbrev pub left_out : Refusal
+left_out = record { rule = LeftOutWord; place = start }
 
 -- by the form of the file x
 abbrev pub AnswersForm : Text → Option Refusal → Type 0

@@ -1,4 +1,4 @@
-//! The form of text that is translated so far: one variable, and one label with an assignment. Its parts.
+//! The form of algorithm that is translated so far: one variable, and one label with an assignment. Its parts.
 
 ghost use Rattle.std.specs.Prelude.{◌≡◌};
 ghost use Rattle.std.specs.List.{list_all};
@@ -10,7 +10,7 @@ use crate::names::{is_own, is_reserved, is_standard};
 use tla_token::bytes::{has_letter, is_word};
 
 /// The least number past those of the form.
-pub const PAST_NUMBERS: u128 = 1 << 127;
+const PAST_NUMBERS: u128 = 1 << 127;
 
 /// A number, or the algorithm's variable.
 #[derive(Clone, Copy, PartialEq, Eq, Debug)]
@@ -30,7 +30,7 @@ pub enum Right {
     Sum(Operand, Operand),
 }
 
-/// The parts of a text of the form. The names are stretches of the text.
+/// The parts of an algorithm of the form, in a module. The names are those in memory.
 #[derive(Clone, Copy, PartialEq, Eq, Debug)]
 pub struct Form<'a> {
     /// The module's name.

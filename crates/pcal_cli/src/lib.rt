@@ -4,7 +4,7 @@
 mod built;
 mod error_line;
 mod form;
-mod form_read;
+mod form_of;
 mod names;
 mod nodes;
 mod outside;

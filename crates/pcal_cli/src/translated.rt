@@ -1,28 +1,30 @@
 //! A text with the translation of its algorithm, or why there is none.
 
-ghost use Rattle.std.specs.Prelude.{◌≡◌, ◌<◌, ◌^◌, [], true, length, take, drop, Some, None, IfOk, IfErr, MatchOption};
+ghost use Rattle.std.specs.Prelude.{◌≡◌, ◌<◌, ◌≤◌, ◌^◌, [], true, length, take, drop, Some, None, IfOk, IfErr, MatchOption};
 ghost use Rattle.tla_token.specs.Tokens.{stretch};
+ghost use Rattle.pcal_tree.specs.InMemory.{algorithm_at, past_algorithm};
 ghost use Rattle.module_tree.specs.Layout.{layout};
-ghost use Rattle.module_tree.specs.FileOffences.{splitting_offences};
+ghost use Rattle.module_tree.specs.FileOffences.{file_offences};
 ghost use Rattle.file_parts.specs.Splitting.{Splits};
-ghost use Rattle.first_path.specs.Form.{is_fit};
-ghost use Rattle.first_path.specs.FormRead.{FirstOffence, file_form, form_offences};
+ghost use Rattle.first_path.specs.Form.{is_fit as is_fit_of};
+ghost use Rattle.first_path.specs.TreeForm.{tree_form};
 ghost use Rattle.first_path.specs.Placed.{region_of, translation_of};
 ghost use Rattle.first_path.specs.Written.{Written};
-ghost use Rattle.pcal_cli.specs.AlgorithmTokens.{AreAlgorithm};
 ghost use Rattle.rewriting.specs.Refusals.{IsStop};
 ghost use Rattle.pcal_cli.specs.FormSeen.{parts_of};
+ghost use Rattle.pcal_cli.specs.Translating.{AnswersTranslation};
 
 use crate::built::region_in;
-use crate::form::Form;
-use crate::form_read::algorithm_at;
+use crate::form::{Form, is_fit};
+use crate::form_of::form_of;
 use crate::nodes::put_nodes;
 use crate::outside::{Outside, suits};
-use crate::rest::Rest;
 use module_text::{Parts, split, with_translation, write_region};
+use pcal_tree::algorithm::Algorithm;
+use rewriting::read_parts;
 use std::alloc::{AllocError, Global};
 use tla_pool::Pool;
-use tla_token::{Place, Reading, Refusal, Rule, Span, Stop, Tokens, tokens_as};
+use tla_token::{Place, Refusal, Rule, Span, Stop};
 use tla_tree::Text;
 
 /// Why an algorithm of another form is refused; its place is the file's start.
@@ -54,33 +56,18 @@ fn bytes_of(text: &[u8], span: Span) -> &[u8]
     head(tail(text, span.from), span.to.saturating_sub(span.from))
 }
 
-/// The tokens of the algorithm after `--algorithm`, if it begins so.
-fn algorithm_tokens(alloc: Global, parts: &Parts<'_>) -> Result<Option<Tokens>, Stop>
-    requires small { length parts.now.text.now < 2 ^ 29 }
+/// The form of a file with these parts, whose algorithm is this one.
+fn form_in<'a>(parts: &'a Parts<'_>, algorithm: &'a Algorithm, pool: &Pool) -> Option<Form<'a>>
     requires parts { Splits parts.now.text.now parts.now }
-    requires fine { splitting_offences parts.now.text.now ≡ [] }
-    ensures found { IfOk result (λ v. AreAlgorithm parts.now.text.now v) }
-    ensures stopped { IfErr result (λ e. e ≡ Stop.Memory) }
-{
-    if !bytes_of(parts.text, parts.algorithm).starts_with(b"--algorithm") {
-        return Ok(None);
-    }
-    let from = parts.algorithm.from + 11;
-    match tokens_as(alloc, parts.text, from, parts.algorithm.to, Reading::Unread) {
-        Ok(tokens) => Ok(Some(tokens)),
-        Err(stop) => Err(stop),
-    }
-}
-
-/// The form of a file with these parts, whose algorithm has these tokens.
-fn form_in<'a>(parts: &'a Parts<'_>, tokens: &'a Tokens) -> Option<Form<'a>>
-    requires parts { Splits parts.now.text.now parts.now }
-    requires fine { splitting_offences parts.now.text.now ≡ [] }
-    requires tokens { AreAlgorithm parts.now.text.now (Some tokens.now) }
-    ensures { MatchOption result (file_form parts.now.text.now ≡ None) (λ f. file_form parts.now.text.now ≡ Some (parts_of f)) }
+    requires fine { file_offences parts.now.text.now ≡ [] }
+    requires numbers { past_algorithm algorithm.now ≤ length pool.now }
+    ensures { MatchOption result (tree_form parts.now.text.now (algorithm_at pool.now algorithm.now) ≡ None) (λ f. tree_form parts.now.text.now (algorithm_at pool.now algorithm.now) ≡ Some (parts_of f)) }
 {
     let title = bytes_of(parts.text, parts.title);
-    let form = algorithm_at(title, Rest::new(tokens))?;
+    let form = form_of(title, algorithm, pool)?;
+    if !is_fit(&form) {
+        return None;
+    }
     let outside = Outside {
         before: &parts.before,
         after: &parts.after,
@@ -96,7 +83,7 @@ fn form_in<'a>(parts: &'a Parts<'_>, tokens: &'a Tokens) -> Option<Form<'a>>
 
 /// The translation, as it stands between its two lines.
 fn translation(alloc: Global, form: &Form<'_>) -> Result<Text, AllocError>
-    requires { is_fit (parts_of form.now) ≡ true }
+    requires { is_fit_of (parts_of form.now) ≡ true }
     ensures { IfOk result (λ t. t ≡ layout (region_of (parts_of form.now))) }
 {
     let mut pool = Pool::new(alloc);
@@ -110,7 +97,7 @@ fn translation(alloc: Global, form: &Form<'_>) -> Result<Text, AllocError>
 /// The file with the translation of its form.
 fn with_form(alloc: Global, parts: &Parts<'_>, form: &Form<'_>) -> Result<Vec<u8>, AllocError>
     requires parts { Splits parts.now.text.now parts.now }
-    requires fit { is_fit (parts_of form.now) ≡ true }
+    requires fit { is_fit_of (parts_of form.now) ≡ true }
     ensures { IfOk result (λ w. w.items ≡ translation_of parts.now.text.now (parts_of form.now)) }
 {
     let made = translation(alloc, form)?;
@@ -122,23 +109,24 @@ fn with_form(alloc: Global, parts: &Parts<'_>, form: &Form<'_>) -> Result<Vec<u8
 ///
 /// # Errors
 ///
-/// The least of the rules 1 to 10 that the file breaks, at its first place; else rule 11 at its start, where the algorithm
+/// The least of the rules 1 to 15 that the text breaks, at its first place; else rule 11 at its start, where the algorithm
 /// is of another form; or want of memory.
 pub fn translate_text(alloc: Global, text: &[u8]) -> Result<Vec<u8>, Stop>
     requires { length text.now < 2 ^ 29 }
     ensures ok { IfOk result (λ w. Written text.now w.items) }
-    ensures clean { IfOk result (λ w. form_offences text.now ≡ []) }
-    ensures stopped { IfErr result (λ e. IsStop (FirstOffence text.now) e) }
+    ensures clean { IfOk result (λ w. AnswersTranslation text.now None) }
+    ensures stopped { IfErr result (λ e. IsStop (λ r. AnswersTranslation text.now (Some r)) e) }
 {
     let parts = match split(alloc, text) {
         Ok(parts) => parts,
         Err(stop) => return Err(stop),
     };
-    let tokens = match algorithm_tokens(alloc, &parts)? {
-        Some(tokens) => tokens,
-        None => return Err(Stop::Refused(LEFT_OUT)),
+    let mut pool = Pool::new(alloc);
+    let algorithm = match read_parts(alloc, &parts, &mut pool) {
+        Ok(algorithm) => algorithm,
+        Err(refused) => return Err(refused),
     };
-    let form = match form_in(&parts, &tokens) {
+    let form = match form_in(&parts, &algorithm, &pool) {
         Some(form) => form,
         None => return Err(Stop::Refused(LEFT_OUT)),
     };

@@ -1,6 +1,7 @@
 mod RowsRefusals
 pub mod RowsSpelling
 pub mod OneAnswer
+pub mod OneTree
 pub mod Unrefused
 pub mod Counts
 pub mod Decided

@@ -2,6 +2,7 @@
 #![tactic(auto)]
 
 pub mod laws;
+pub mod one_tree;
 pub mod read_file;
 pub mod write_file;
 

@@ -1,5 +1,5 @@
 -- Proves the law `files_have_the_form_by_their_trees`.
-use Rattle.first_path.proofs.TreeForms.{form_found, form_read, of_tokens}
+use Rattle.first_path.proofs.TreeForms.{form_found, form_read}
 use Rattle.first_path.proofs.laws.files_have_the_form_by_their_trees.Goals as goal
 
 pub returns-clause-found : goal.returns-clause-found
@@ -7,6 +7,3 @@ returns-clause-found c = form_found
 
 pub returns-clause-read : goal.returns-clause-read
 returns-clause-read c = λ x f h. form_read x h.tree f h.fitted h.form
-
-pub returns-clause-tokens : goal.returns-clause-tokens
-returns-clause-tokens c = of_tokens

@@ -1,5 +1,6 @@
 -- Proves the law `some_module_steps`.
-use Rattle.first_path.proofs.Witness.{form_worked, form_full, constants_worked, first_state, last_state, begins_worked, never_fault_worked, never_fault_at_last, not_at_last, steps_worked, first_sound, last_sound, still_worked, not_idle}
+use Rattle.first_path.proofs.WorkedForms.{form_worked, form_full}
+use Rattle.first_path.proofs.Witness.{constants_worked, first_state, last_state, begins_worked, never_fault_worked, never_fault_at_last, not_at_last, steps_worked, first_sound, last_sound, still_worked, not_idle}
 use Rattle.first_path.proofs.laws.some_module_steps.Goals as goal
 
 pub returns-clause-form : goal.returns-clause-form

@@ -1,27 +1,38 @@
--- What is written for a text of the form, and why another is refused.
-use Rattle.std.proofs.Common.{ap, subst, Option, Err}
+-- What is written for a file that has the form, and why another is refused.
+use Rattle.std.proofs.Common.{ap, Err}
 use Rattle.tla_token.specs.declared.rule.Stop.{Stop}
-use Rattle.tla_token.specs.declared.token.Tokens.{Tokens}
-use Rattle.first_path.proofs.FormExact.{form_found}
+use Rattle.pcal_tree.specs.InMemory.{algorithm_at}
+use Rattle.rewriting.proofs.Unrefused.{unrefused_is_fine}
 use Rattle.pcal_cli.specs.FormSeen.{parts_of}
-use Rattle.pcal_cli.specs.AlgorithmTokens.{AreAlgorithm}
-use Rattle.pcal_cli.proofs.FormFound.{split_stopped, unformed_stops, other_stops, written_there, clean_there}
+use Rattle.pcal_cli.proofs.Translating.{formed, split_stopped, read_stopped, memory_stopped, unformed_there, translated_there, written_there}
 use Rattle.pcal_cli.proofs.translated.translate_text.Goals as goal
 
 pub returns-in-Err-clause-stopped : goal.returns-in-Err-clause-stopped
 returns-in-Err-clause-stopped c = split_stopped c.args.text.now _ (λ r e. c.in-Err.ensures.refused r (ap (λ (s : Stop). Err s) e))
 
-pub returns-in-None-clause-stopped : goal.returns-in-None-clause-stopped
-returns-in-None-clause-stopped c = other_stops c.args.text.now c.in-Ok.parts c.in-Ok.ensures.parts c.in-Ok.ensures.fine (subst (λ (o : Option Tokens). AreAlgorithm c.in-Ok.parts.text.now o) c.in-None.is c.in_ok-tokens.ensures.found)
+pub returns-in-Err-read_parts-clause-stopped : goal.returns-in-Err-read_parts-clause-stopped
+returns-in-Err-read_parts-clause-stopped c = read_stopped c.args.text.now c.in-Ok.parts.text.now _ c.in-Ok.ensures.parts.text c.in-Err-read_parts.ensures.stopped
 
-pub returns-in-None-form_in-clause-stopped : goal.returns-in-None-form_in-clause-stopped
-returns-in-None-form_in-clause-stopped c = unformed_stops c.args.text.now c.in-Ok.parts c.in-Ok.ensures.parts c.in-Ok.ensures.fine c.in-None-form_in.ensures
+pub form_in-requires-clause-fine : goal.form_in-requires-clause-fine
+form_in-requires-clause-fine c = unrefused_is_fine c.in-Ok.parts.text.now c.in-Ok-read_parts.ensures.clean
+
+pub returns-in-None-clause-stopped : goal.returns-in-None-clause-stopped
+returns-in-None-clause-stopped c =
+    unformed_there c.args.text.now c.in-Ok.parts.text.now (algorithm_at c.read_parts.new.pool c.in-Ok-read_parts.algorithm) c.in-Ok.ensures.parts.text c.in-Ok-read_parts.ensures.clean c.in-Ok-read_parts.ensures.held c.in-None.ensures
+
+pub returns-in_err-with_form-clause-stopped : goal.returns-in_err-with_form-clause-stopped
+returns-in_err-with_form-clause-stopped c = memory_stopped c.args.text.now c.from_residual.result c.from_residual.ensures.1
 
 pub with_form-requires-clause-fit : goal.with_form-requires-clause-fit
-with_form-requires-clause-fit c = (form_found c.in-Ok.parts.text.now (parts_of c.in-Some-form_in.form) c.in-Some-form_in.ensures).fit
+with_form-requires-clause-fit c =
+    (formed c.in-Ok.parts.text.now (algorithm_at c.read_parts.new.pool c.in-Ok-read_parts.algorithm) (parts_of c.in-Some.form) c.in-Ok-read_parts.ensures.clean c.in-Ok-read_parts.ensures.held c.in-Some.ensures).fitted.fit
 
 pub returns-clause-ok : goal.returns-clause-ok
-returns-clause-ok c = written_there c.args.text.now c.in-Ok.parts.text.now c.in_ok-with_form.field-0.items (parts_of c.in-Some-form_in.form) c.in-Ok.ensures.parts.text c.in-Some-form_in.ensures c.in_ok-with_form.ensures
+returns-clause-ok c =
+    let h = formed c.in-Ok.parts.text.now (algorithm_at c.read_parts.new.pool c.in-Ok-read_parts.algorithm) (parts_of c.in-Some.form) c.in-Ok-read_parts.ensures.clean c.in-Ok-read_parts.ensures.held c.in-Some.ensures in
+    written_there c.args.text.now c.in-Ok.parts.text.now c.in_ok-with_form.field-0.items (parts_of c.in-Some.form) c.in-Ok.ensures.parts.text h c.in_ok-with_form.ensures
 
 pub returns-clause-clean : goal.returns-clause-clean
-returns-clause-clean c = clean_there c.args.text.now c.in-Ok.parts.text.now (parts_of c.in-Some-form_in.form) c.in-Ok.ensures.parts.text c.in-Some-form_in.ensures
+returns-clause-clean c =
+    let h = formed c.in-Ok.parts.text.now (algorithm_at c.read_parts.new.pool c.in-Ok-read_parts.algorithm) (parts_of c.in-Some.form) c.in-Ok-read_parts.ensures.clean c.in-Ok-read_parts.ensures.held c.in-Some.ensures in
+    translated_there c.args.text.now c.in-Ok.parts.text.now (parts_of c.in-Some.form) c.in-Ok.ensures.parts.text c.in-Ok-read_parts.ensures.clean h

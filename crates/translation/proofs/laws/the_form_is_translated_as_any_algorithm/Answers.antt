@@ -5,26 +5,27 @@ use Rattle.module_tree.specs.Module.{Module}
 use Rattle.module_tree.specs.Around.{Around}
 use Rattle.pcal_tree.specs.Algorithm.{Algorithm}
 use Rattle.pcal_tree.specs.Labelled.{labelled}
-use Rattle.first_path.specs.Form.{Parts, IsForm}
+use Rattle.first_path.specs.Form.{Parts}
 use Rattle.first_path.specs.Placed.{Places, algorithm_at, module_at, translation_of}
-use Rattle.first_path.proofs.Stands.{stands}
-use Rattle.first_path.proofs.AlgorithmAlone.{algorithm_alone}
+use Rattle.first_path.specs.TreeForm.{IsFitted}
 use Rattle.first_path.proofs.OutsideApart.{Apart}
-use Rattle.first_path.proofs.Placing.{of_form, around}
+use Rattle.first_path.proofs.Placing.{around}
 use Rattle.first_path.proofs.ReadsModule.{apart_read}
+use Rattle.first_path.proofs.TreeForms.{form_stands}
+use Rattle.rewriting.proofs.OneTree.{one_stands}
 use Rattle.translation.specs.Region.{written_module}
 use Rattle.translation.proofs.OfForm.{nowhere_at_all, written_of_form}
 use Rattle.translation.proofs.laws.the_form_is_translated_as_any_algorithm.Goals as goal
 
-written_around : (x : List ℕ) (f : Parts) → IsForm x f → (o : Outside) → Apart o f → (p : Places)
+written_around : (x : List ℕ) (f : Parts) → IsFitted x f → (o : Outside) → Apart o f → (p : Places)
     → Around x (written_module false f.title o (labelled false (algorithm_at p f))) (translation_of x f)
 written_around x f h o apart p =
     let is : written_module false f.title o (labelled false (algorithm_at p f)) ≡ module_at o nowhere_at_all f =
     λ i. record { title = f.title; outside = o; region = written_of_form o p f h.fit apart i } in
-    subst (λ (m : Module). Around x m (translation_of x f)) (sym is) (around x o nowhere_at_all f (of_form x f h))
+    subst (λ (m : Module). Around x m (translation_of x f)) (sym is) (around x o nowhere_at_all f h)
 
 pub returns : goal.returns
 returns c = λ x f h m r a s.
-    let own = stands x f h in
+    let own = form_stands x f h in
     subst (λ (b : Algorithm). Around x (written_module false f.title m.outside (labelled false b)) (translation_of x f))
-    (algorithm_alone x f h (algorithm_at own.0 f) a own.1 s) (written_around x f h m.outside (apart_read x f (of_form x f h) m r) own.0)
+    (one_stands x (algorithm_at own.0 f) a own.1 s) (written_around x f h.fitted m.outside (apart_read x f h.fitted m r) own.0)
