@@ -55,7 +55,7 @@ const PRIMARIES: [(&str, &str); 41] = [
 ];
 
 // Sets.
-const BRACES: [(&str, &str); 23] = [
+const BRACES: [(&str, &str); 33] = [
     ("{}", "2 {}"),
     ("{a}", "3 {a}"),
     ("{a, b + c, {}}", "10 {a, b + c, {}}"),
@@ -103,10 +103,26 @@ const BRACES: [(&str, &str); 23] = [
         "{{y \\in x : p} : x \\in S}",
         "13 {{y \\in x : p} : x \\in S}",
     ),
+    ("{{}}", "4 {{}}"),
+    ("{{a}, {}}", "8 {{a}, {}}"),
+    (
+        "{{x \\in S : p} \\cup T, a}",
+        "13 {{x \\in S : p} \\cup T, a}",
+    ),
+    (
+        "{x \\in {y \\in S : p} : q}",
+        "13 {x \\in {y \\in S : p} : q}",
+    ),
+    ("{x, y \\in S}", "7 {x, y \\in S}"),
+    ("{x \\in S \\in T : p}", "9 {x \\in (S \\in T) : p}"),
+    ("{x \\in SUBSET S : p}", "8 {x \\in (SUBSET S) : p}"),
+    ("{x \\in SUBSET S}", "6 {x \\in (SUBSET S)}"),
+    ("{x \\in ~S : p}", "8 {x \\in (~S) : p}"),
+    ("{x \\in ~S = T : p}", "10 {x \\in (~(S = T)) : p}"),
 ];
 
 // Functions and records.
-const SQUARES: [(&str, &str); 22] = [
+const SQUARES: [(&str, &str); 31] = [
     ("[a |-> 1]", "5 [a |-> 1]"),
     ("[a |-> b + c, d |-> <<>>]", "12 [a |-> b + c, d |-> <<>>]"),
     (
@@ -153,10 +169,25 @@ const SQUARES: [(&str, &str); 22] = [
         "[IF p THEN f ELSE g EXCEPT !.a = 1]",
         "14 [(IF p THEN f ELSE g) EXCEPT !.a = 1]",
     ),
+    ("[f EXCEPT ![1][2] = 3]", "13 [f EXCEPT ![1][2] = 3]"),
+    ("[f EXCEPT !.a.b = 1]", "11 [f EXCEPT !.a.b = 1]"),
+    ("[f EXCEPT !.a = b = c]", "11 [f EXCEPT !.a = b = c]"),
+    ("[f EXCEPT ![a = b] = c]", "12 [f EXCEPT ![a = b] = c]"),
+    ("[f EXCEPT ![g[1]].a = 2]", "15 [f EXCEPT ![g[1]].a = 2]"),
+    ("[r.a EXCEPT !.b = 1]", "11 [r.a EXCEPT !.b = 1]"),
+    (
+        "[[f EXCEPT ![1] = 2] EXCEPT ![3] = 4]",
+        "19 [[f EXCEPT ![1] = 2] EXCEPT ![3] = 4]",
+    ),
+    (
+        "[x \\in S |-> f[x] \\cup {x}]",
+        "14 [x \\in S |-> f[x] \\cup {x}]",
+    ),
+    ("[end |-> 1]", "5 [end |-> 1]"),
 ];
 
 // Forms that go on as far as they can.
-const OPENED: [(&str, &str); 29] = [
+const OPENED: [(&str, &str); 42] = [
     ("\\A x \\in S : p /\\ q", "8 \\A x \\in S : p /\\ q"),
     (
         "\\E x, y \\in S, z \\in T .. U : x = y",
@@ -255,6 +286,74 @@ const OPENED: [(&str, &str); 29] = [
         "a \\cup LET x == {} IN x \\cup y",
         "11 a \\cup (LET x == {} IN x \\cup y)",
     ),
+    (
+        "LET x == a IN LET y == b IN x + y",
+        "13 LET x == a IN LET y == b IN x + y",
+    ),
+    (
+        "LET x == [y \\in S |-> y] IN x[1]",
+        "15 LET x == [y \\in S |-> y] IN x[1]",
+    ),
+    (
+        "LET x == \\A y \\in S : p z == 2 IN x",
+        "14 LET x == \\A y \\in S : p z == 2 IN x",
+    ),
+    (
+        "LET x == CASE p -> a [] q -> b y == c IN x",
+        "16 LET x == CASE p -> a [] q -> b y == c IN x",
+    ),
+    ("LET x == -a y == b IN x", "10 LET x == -a y == b IN x"),
+    ("LET x == f y == 2 IN x", "9 LET x == f y == 2 IN x"),
+    ("LET x == a IN x IN y", "6 LET x == a IN x"),
+    ("\\A x \\in S : p : q", "6 \\A x \\in S : p"),
+    ("CASE a -> b, c -> d", "4 CASE a -> b"),
+    ("\\A y \\in T : q + z", "8 \\A y \\in T : q + z"),
+    (
+        "CASE q -> b [] r -> c + z",
+        "10 CASE q -> b [] r -> (c + z)",
+    ),
+    ("LET y == b IN c + z", "8 LET y == b IN c + z"),
+    ("IF q THEN b ELSE c.a[z]", "11 IF q THEN b ELSE c.a[z]"),
+];
+
+// As translations write them.
+const WRITTEN: [(&str, &str); 15] = [
+    ("(pc = \"A\")", "5 pc = \"A\""),
+    ("x' = (x + 1)", "8 x' = (x + 1)"),
+    ("pc' = \"Done\"", "4 pc' = \"Done\""),
+    ("{7} \\cup {1, 2}", "9 {7} \\cup {1, 2}"),
+    (
+        "[self \\in {1, 2} |-> self]",
+        "11 [self \\in {1, 2} |-> self]",
+    ),
+    (
+        "[self \\in ProcSet |-> CASE (self = 7) -> \"A\" [] (self \\in {1, 2}) -> \"B\"]",
+        "26 [self \\in ProcSet |-> CASE (self = 7) -> \"A\" [] (self \\in {1, 2}) -> \"B\"]",
+    ),
+    (
+        "pc' = [pc EXCEPT ![7] = \"Done\"]",
+        "13 pc' = [pc EXCEPT ![7] = \"Done\"]",
+    ),
+    ("pc[self] \\notin {\"N\"}", "8 pc[self] \\notin {\"N\"}"),
+    (
+        "stack' = (<<[procedure |-> \"Add\", pc |-> \"Done\", n |-> n, k |-> k]>> \\o stack)",
+        "26 stack' = (<<[procedure |-> \"Add\", pc |-> \"Done\", n |-> n, k |-> k]>> \\o stack)",
+    ),
+    ("n' = Head(stack).n", "9 n' = Head(stack).n"),
+    (
+        "slots' = [slots EXCEPT ![i] = slots[i] - 1]",
+        "18 slots' = [slots EXCEPT ![i] = slots[i] - 1]",
+    ),
+    (
+        "/\\ (pc = \"A\")\n/\\ IF x > 0\n   THEN\n     /\\ y' = 1\n   ELSE\n     /\\ y' = y\n/\\ z' = y'",
+        "29 ((pc = \"A\") /\\ (IF x > 0 THEN y' = 1 ELSE y' = y)) /\\ (z' = y')",
+    ),
+    (
+        "/\\\n     \\/\n          /\\ x' = 1\n     \\/\n          /\\ (TRUE)\n          /\\ x' = x\n/\\ pc' = \"Done\"",
+        "22 ((x' = 1) \\/ (TRUE /\\ (x' = x))) /\\ (pc' = \"Done\")",
+    ),
+    ("\\E v \\in {} :\n  /\\ x' = v", "11 \\E v \\in {} : x' = v"),
+    ("1 \\div y", "3 1 \\div y"),
 ];
 
 #[test]
@@ -262,5 +361,6 @@ fn forms_are_read(rt: HostRuntime) -> Result<(), AllocError> {
     rows_hold(&rt, rt.alloc(), &PRIMARIES)?;
     rows_hold(&rt, rt.alloc(), &BRACES)?;
     rows_hold(&rt, rt.alloc(), &SQUARES)?;
-    rows_hold(&rt, rt.alloc(), &OPENED)
+    rows_hold(&rt, rt.alloc(), &OPENED)?;
+    rows_hold(&rt, rt.alloc(), &WRITTEN)
 }

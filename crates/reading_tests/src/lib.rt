@@ -7,9 +7,10 @@ mod deep;
 mod forms;
 #[cfg(test)]
 mod lists;
-pub mod numbers;
 #[cfg(test)]
 mod operators;
+#[cfg(test)]
+mod places;
 #[cfg(test)]
 mod reading;
 #[cfg(test)]

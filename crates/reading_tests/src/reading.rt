@@ -3,12 +3,12 @@
 ghost use Rattle.std.specs.Prelude.{◌<◌, length, IfOk};
 ghost use Rattle.tla_token.specs.Limits.{past_text};
 
-use crate::numbers::numbers_fit;
 use std::alloc::{AllocError, Global};
 use std::process::Abort;
+use tla_expr::laws::given_numbers_fit;
 use tla_expr::{read_expr, write_expr};
 use tla_pool::Pool;
-use tla_token::{Reading, Stop, tokens_as};
+use tla_token::{Stop, tokens};
 use tla_tree::{NodeId, Text};
 
 // The expression in front of a text, by its number, and how many tokens it has.
@@ -16,12 +16,9 @@ fn read(alloc: Global, text: &[u8], pool: &mut Pool) -> Result<(NodeId, usize), 
     requires { length text.now < past_text }
     ensures { IfOk result (λ x. x.0 < length pool.new) }
 {
-    let tokens = tokens_as(alloc, text, 0, text.len(), Reading::Read)?;
-    if numbers_fit(text, &tokens) {
-        read_expr(alloc, &tokens, 0, pool)
-    } else {
-        Err(Stop::Memory)
-    }
+    let tokens = tokens(alloc, text, 0, text.len())?;
+    given_numbers_fit();
+    read_expr(alloc, &tokens, 0, pool)
 }
 
 /// What is told of an expression that is read.
