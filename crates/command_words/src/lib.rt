@@ -4,8 +4,6 @@
 mod command;
 mod read;
 mod table;
-#[cfg(test)]
-mod tests;
 
 pub use command::{Command, Options};
 pub use read::command_of;

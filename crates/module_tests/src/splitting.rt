@@ -2,6 +2,7 @@
 
 use module_text::{Parts, split};
 use std::alloc::{AllocError, Global};
+use std::process::Abort;
 use tla_token::{Span, Stop};
 
 fn stretch(text: &[u8], span: Span) -> &[u8] {
@@ -51,14 +52,19 @@ const ALGORITHM: &str = "---- MODULE M ----\n(* --algorithm A { } *)\n";
 
 const FOOT: &str = "====\n";
 
-// Whether a text between two others is told so.
-fn is_told(
+// Tells the file of each row's text between two others, and panics where it isn't told as is wanted.
+fn rows_hold(
+    rt: &impl Abort,
     alloc: Global,
-    (head, lines, foot): (&str, &str, &str),
-    wanted: &str,
-) -> Result<bool, AllocError> {
-    let text = format!(in alloc; "{head}{lines}{foot}")?;
-    Ok(told(alloc, text.as_bytes())?.as_slice() == wanted.as_bytes())
+    (head, foot): (&str, &str),
+    rows: &[(&str, &str)],
+) -> Result<(), AllocError> {
+    for (lines, wanted) in rows {
+        let text = format!(in alloc; "{head}{lines}{foot}")?;
+        let shown = told(alloc, text.as_bytes())?;
+        assert!(rt; shown.as_slice() == wanted.as_bytes(), "{lines}");
+    }
+    Ok(())
 }
 
 // Whole files.
@@ -114,10 +120,7 @@ const MODULES: [(&str, &str); 14] = [
 
 #[test]
 fn files_have_a_module(rt: HostRuntime) -> Result<(), AllocError> {
-    for (lines, wanted) in MODULES {
-        assert!(rt; is_told(rt.alloc(), ("", lines, ""), wanted)?, "{lines}");
-    }
-    Ok(())
+    rows_hold(&rt, rt.alloc(), ("", ""), &MODULES)
 }
 
 // Between the header and the module's end.
@@ -153,13 +156,7 @@ const BYTES: [(&str, &str); 15] = [
 
 #[test]
 fn bytes_strings_and_comments_are_sound(rt: HostRuntime) -> Result<(), AllocError> {
-    for (lines, wanted) in BYTES {
-        assert!(rt;
-            is_told(rt.alloc(), (HEAD, lines, FOOT), wanted)?,
-            "{lines}"
-        );
-    }
-    Ok(())
+    rows_hold(&rt, rt.alloc(), (HEAD, FOOT), &BYTES)
 }
 
 // Between the header and the module's end.
@@ -214,13 +211,7 @@ const ALGORITHMS: [(&str, &str); 13] = [
 
 #[test]
 fn modules_have_one_algorithm(rt: HostRuntime) -> Result<(), AllocError> {
-    for (lines, wanted) in ALGORITHMS {
-        assert!(rt;
-            is_told(rt.alloc(), (HEAD, lines, FOOT), wanted)?,
-            "{lines}"
-        );
-    }
-    Ok(())
+    rows_hold(&rt, rt.alloc(), (HEAD, FOOT), &ALGORITHMS)
 }
 
 // Between the header and the module's end.
@@ -279,13 +270,7 @@ const REGIONS: [(&str, &str); 14] = [
 
 #[test]
 fn regions_are_the_place(rt: HostRuntime) -> Result<(), AllocError> {
-    for (lines, wanted) in REGIONS {
-        assert!(rt;
-            is_told(rt.alloc(), (HEAD, lines, FOOT), wanted)?,
-            "{lines}"
-        );
-    }
-    Ok(())
+    rows_hold(&rt, rt.alloc(), (HEAD, FOOT), &REGIONS)
 }
 
 // Behind the line of an algorithm.
@@ -311,11 +296,5 @@ const UNITS: [(&str, &str); 11] = [
 
 #[test]
 fn units_begin_after_the_place(rt: HostRuntime) -> Result<(), AllocError> {
-    for (lines, wanted) in UNITS {
-        assert!(rt;
-            is_told(rt.alloc(), (ALGORITHM, lines, FOOT), wanted)?,
-            "{lines}"
-        );
-    }
-    Ok(())
+    rows_hold(&rt, rt.alloc(), (ALGORITHM, FOOT), &UNITS)
 }

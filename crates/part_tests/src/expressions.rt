@@ -58,14 +58,18 @@ fn group(alloc: Global) -> Result<Vec<PlacedName>, AllocError> {
     Ok(group)
 }
 
+fn binds_two_names(form: &Form) -> bool {
+    match form {
+        Form::Binding(Binder::Exists, groups) => groups.len() == 1 && groups[0].len() == 2,
+        _ => false,
+    }
+}
+
 fn a_copy_of_a_form_has_the_same_groups(alloc: Global) -> Result<bool, AllocError> {
     let mut groups = Vec::new(alloc);
     groups.push(group(alloc)?)?;
     let form = Form::Binding(Binder::Exists, groups);
-    match form.copied(alloc)? {
-        Form::Binding(Binder::Exists, groups) => Ok(groups.len() == 1 && groups[0].len() == 2),
-        _ => Ok(false),
-    }
+    Ok(binds_two_names(&form.copied(alloc)?))
 }
 
 const HERE: Place = Place { line: 1, col: 1 };
@@ -255,16 +259,24 @@ fn operands_are_written(alloc: Global) -> Result<bool, AllocError> {
 #[test]
 fn expressions_are_as_wanted(rt: HostRuntime) -> Result<(), AllocError> {
     let alloc = rt.alloc();
-    assert!(rt; ranks_are_of_the_book());
-    assert!(rt; names_are_kept(alloc)?);
-    assert!(rt; texts_are_kept(alloc)?);
-    assert!(rt; a_copy_of_a_form_has_the_same_groups(alloc)?);
-    assert!(rt; equal_trees_have_one_number(alloc)?);
-    assert!(rt; parts_are_seen(alloc)?);
-    assert!(rt; a_graft_goes_to_each_number_once(alloc)?);
-    assert!(rt; strings_are_unquoted(alloc)?);
-    assert!(rt; tokens_are_seen(alloc)?);
-    assert!(rt; expressions_are_written(alloc)?);
-    assert!(rt; operands_are_written(alloc)?);
+    let found = [
+        ("ranks", ranks_are_of_the_book()),
+        ("names", names_are_kept(alloc)?),
+        ("texts", texts_are_kept(alloc)?),
+        (
+            "copy of a form",
+            a_copy_of_a_form_has_the_same_groups(alloc)?,
+        ),
+        ("equal trees", equal_trees_have_one_number(alloc)?),
+        ("parts", parts_are_seen(alloc)?),
+        ("graft", a_graft_goes_to_each_number_once(alloc)?),
+        ("strings", strings_are_unquoted(alloc)?),
+        ("tokens", tokens_are_seen(alloc)?),
+        ("expressions", expressions_are_written(alloc)?),
+        ("operands", operands_are_written(alloc)?),
+    ];
+    for (what, is_as_wanted) in found {
+        assert!(rt; is_as_wanted, "{what}");
+    }
     Ok(())
 }

@@ -1,4 +1,4 @@
-//! Tests of tokens, expressions in memory and values: rows whose answers come from outside, and calls that take memory, where nothing fails.
+//! Tests of tokens, expressions in memory, values and the words of commands: rows whose answers come from outside, and calls that take memory, where nothing fails.
 #![tactic(auto)]
 
 #[cfg(test)]
@@ -7,3 +7,5 @@ mod expressions;
 mod scanning;
 #[cfg(test)]
 mod values;
+#[cfg(test)]
+mod words;

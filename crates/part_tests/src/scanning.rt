@@ -1,7 +1,6 @@
 //! Rules, places and tokens.
 
 use std::alloc::{AllocError, Global};
-use std::process::Abort;
 use tla_token::decided_parts;
 use tla_token::place::{Place, place_of};
 use tla_token::rule::{Refusal, Rule, Stop, name, number};
@@ -131,12 +130,11 @@ const TEXTS: [(&str, &str); 32] = [
     ("\x02 \u{80}", "1:3: 1 NotAscii"),
 ];
 
-fn texts_are_cut_or_refused(rt: &impl Abort, alloc: Global) -> Result<(), AllocError> {
-    for (text, wanted) in TEXTS {
-        assert!(rt;
-            told(alloc, text.as_bytes())?.as_slice() == wanted.as_bytes(),
-            "{text}"
-        );
+#[test]
+fn texts_are_cut_or_refused(rt: HostRuntime) -> Result<(), AllocError> {
+    for (text, wanted) in &TEXTS {
+        let shown = told(rt.alloc(), text.as_bytes())?;
+        assert!(rt; shown.as_slice() == wanted.as_bytes(), "{text}");
     }
     Ok(())
 }
@@ -155,9 +153,14 @@ fn parts_of_two_pieces_are_those_of_one(alloc: Global) -> Result<bool, AllocErro
 #[test]
 fn tokens_are_as_wanted(rt: HostRuntime) -> Result<(), AllocError> {
     let alloc = rt.alloc();
-    assert!(rt; rules_are_known_by_number_and_name());
-    assert!(rt; refusals_are_printed_behind_their_place(alloc)?);
-    assert!(rt; places_are_lines_and_columns());
-    assert!(rt; parts_of_two_pieces_are_those_of_one(alloc)?);
-    texts_are_cut_or_refused(&rt, alloc)
+    let found = [
+        ("rules", rules_are_known_by_number_and_name()),
+        ("refusals", refusals_are_printed_behind_their_place(alloc)?),
+        ("places", places_are_lines_and_columns()),
+        ("pieces", parts_of_two_pieces_are_those_of_one(alloc)?),
+    ];
+    for (what, is_as_wanted) in found {
+        assert!(rt; is_as_wanted, "{what}");
+    }
+    Ok(())
 }

@@ -151,14 +151,19 @@ fn the_last_definition_is_found(alloc: Global) -> Result<bool, EvalStop> {
 #[test]
 fn values_are_as_wanted(rt: HostRuntime) -> Result<(), EvalStop> {
     let alloc = rt.alloc();
-    assert!(rt; members_count_once(alloc)?);
-    assert!(rt; sets_are_before_tuples(alloc)?);
-    assert!(rt; a_set_is_searched(alloc)?);
-    assert!(rt; a_tuple_gives_its_elements(alloc)?);
-    assert!(rt; a_value_is_put_in_its_place(alloc)?);
-    assert!(rt; values_are_copied(alloc)?);
-    assert!(rt; nests_too_deep_at_last(alloc)?);
-    assert!(rt; a_state_keeps_the_last_value(alloc)?);
-    assert!(rt; the_last_definition_is_found(alloc)?);
+    let found = [
+        ("members", members_count_once(alloc)?),
+        ("order", sets_are_before_tuples(alloc)?),
+        ("search", a_set_is_searched(alloc)?),
+        ("elements", a_tuple_gives_its_elements(alloc)?),
+        ("place", a_value_is_put_in_its_place(alloc)?),
+        ("copies", values_are_copied(alloc)?),
+        ("nesting", nests_too_deep_at_last(alloc)?),
+        ("state", a_state_keeps_the_last_value(alloc)?),
+        ("definitions", the_last_definition_is_found(alloc)?),
+    ];
+    for (what, is_as_wanted) in found {
+        assert!(rt; is_as_wanted, "{what}");
+    }
     Ok(())
 }

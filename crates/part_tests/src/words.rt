@@ -1,9 +1,8 @@
-// Words, and what they mean: each command, and its options at each place.
+//! Words, and what they mean: each command, and its options at each place.
 
-use crate::{Command, Options, command_of};
+use command_words::{Command, Options, command_of};
 use pcal_tree::Syntax;
 use std::alloc::{AllocError, Global};
-use std::test::Fail;
 
 const PLAIN: Options = Options {
     forced: false,
@@ -154,16 +153,16 @@ fn means(
 }
 
 #[test]
-fn words_mean_commands(rt: HostRuntime) -> Result<(), Fail> {
-    for (words, command) in COMMANDS {
-        assert!(rt; means(rt.alloc(), words, Some(command))?, "{words}");
+fn words_mean_commands(rt: HostRuntime) -> Result<(), AllocError> {
+    for (words, command) in &COMMANDS {
+        assert!(rt; means(rt.alloc(), words, Some(*command))?, "{words}");
     }
     Ok(())
 }
 
 #[test]
-fn other_words_mean_none(rt: HostRuntime) -> Result<(), Fail> {
-    for words in OTHERS {
+fn other_words_mean_none(rt: HostRuntime) -> Result<(), AllocError> {
+    for words in &OTHERS {
         assert!(rt; means(rt.alloc(), words, None)?, "{words}");
     }
     Ok(())
