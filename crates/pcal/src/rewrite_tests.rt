@@ -227,7 +227,7 @@ const REFUSED: [(&str, &str); 21] = [
         "--algorithm R { { A: x := (x + ; } }\n*)\n====\n",
         "4:32: 15 Syntax",
     ),
-    ("--algorithm R { { skip }\n}}\n*)\n====\n", "5:2: 15 Syntax"),
+    ("--algorithm R { { skip\n}\n*)\n====\n", "6:1: 15 Syntax"),
     ("--algorithm R\nbegin skip\n*)\n====\n", "6:1: 15 Syntax"),
     // Of several rules the least, at its first place.
     (
