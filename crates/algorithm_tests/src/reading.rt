@@ -84,3 +84,23 @@ pub fn bodies_hold(
     }
     Ok(())
 }
+
+/// How a text is answered as an algorithm of a syntax: `read`, or the refusal.
+///
+/// # Errors
+///
+/// Only for want of memory.
+pub fn answer(alloc: Global, text: &[u8], from: Syntax) -> Result<Vec<u8>, AllocError> {
+    let mut pool = Pool::new(alloc);
+    if text.len() > 1048576 {
+        return Ok(Vec::new(alloc));
+    }
+    match read(alloc, text, from, &mut pool) {
+        Ok(_) => Vec::from_slice(alloc, b"read"),
+        Err(Stop::Refused(refusal)) => {
+            let told = format!(in alloc; "{refusal}")?;
+            Vec::from_slice(alloc, told.as_bytes())
+        }
+        Err(Stop::Memory) => Vec::from_slice(alloc, b"-"),
+    }
+}
