@@ -146,3 +146,24 @@ const REFUSED: [(&str, &str); 22] = [
 fn the_first_wrong_token_is_refused(rt: HostRuntime) -> Result<(), AllocError> {
     rows_hold(&rt, rt.alloc(), (Syntax::P, Syntax::P), &REFUSED)
 }
+
+// What is left out is of a lesser rule than what can't be there.
+const LEFT_OUT: [(&str, &str); 3] = [
+    (
+        "--algorithm R begin x := y' end algorithm",
+        "1:27: 11 LeftOutWord",
+    ),
+    (
+        "--algorithm R begin x := CHOOSE y \\in S : y end algorithm",
+        "1:26: 11 LeftOutWord",
+    ),
+    (
+        "--algorithm R begin skip skip; UNCHANGED end algorithm",
+        "1:32: 11 LeftOutWord",
+    ),
+];
+
+#[test]
+fn what_is_left_out_is_refused_first(rt: HostRuntime) -> Result<(), AllocError> {
+    rows_hold(&rt, rt.alloc(), (Syntax::P, Syntax::P), &LEFT_OUT)
+}

@@ -4,7 +4,20 @@
 #[cfg(test)]
 mod braces;
 #[cfg(test)]
+mod broken_c;
+#[cfg(test)]
+mod broken_p;
+#[cfg(test)]
+mod counts;
+#[cfg(test)]
+mod deep;
+#[cfg(test)]
 mod ends;
+#[cfg(test)]
+mod first;
+pub mod many;
+#[cfg(test)]
+mod optional;
 pub mod reading;
 #[cfg(test)]
 mod refused;

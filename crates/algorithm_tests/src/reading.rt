@@ -1,12 +1,11 @@
 //! What is read of a text as an algorithm, as a syntax prints it, or the refusal.
 
-ghost use Rattle.std.specs.Prelude.{◌≡◌, ◌<◌, ◌≤◌, ◌-◌, length, map, get_or, IfOk, IfErr};
+ghost use Rattle.std.specs.Prelude.{◌<◌, ◌≤◌, length, IfOk};
 ghost use Rattle.tla_token.specs.Limits.{past_text};
 ghost use Rattle.pcal_tree.specs.InMemory.{past_algorithm};
 
-use c_syntax::algorithm::read_algorithm as read_c;
-use expression_parts::cursor::Halt;
-use p_syntax::algorithm::read_algorithm as read_p;
+use c_syntax::read_c;
+use p_syntax::read_p;
 use pcal_tree::Syntax;
 use pcal_tree::algorithm::Algorithm;
 use std::alloc::{AllocError, Global};
@@ -14,17 +13,7 @@ use std::process::Abort;
 use syntax_print::write_in;
 use tla_expr::laws::given_numbers_fit;
 use tla_pool::Pool;
-use tla_token::{Place, Refusal, Stop, Tokens, tokens};
-
-// The place of the token from which on so many are left, or of the end.
-fn place_before(tokens: &Tokens, left: usize) -> Place {
-    let at = tokens.items.len().saturating_sub(left);
-    if at < tokens.items.len() {
-        tokens.items[at].place
-    } else {
-        tokens.end
-    }
-}
+use tla_token::{Stop, tokens};
 
 // The algorithm that a text is in a syntax.
 fn read(alloc: Global, text: &[u8], from: Syntax, pool: &mut Pool) -> Result<Algorithm, Stop>
@@ -33,17 +22,9 @@ fn read(alloc: Global, text: &[u8], from: Syntax, pool: &mut Pool) -> Result<Alg
 {
     let tokens = tokens(alloc, text, 0, text.len())?;
     given_numbers_fit();
-    let read = match from {
+    match from {
         Syntax::P => read_p(alloc, &tokens, pool),
         Syntax::C => read_c(alloc, &tokens, pool),
-    };
-    match read {
-        Ok((algorithm, _)) => Ok(algorithm),
-        Err(Halt::Memory) => Err(Stop::Memory),
-        Err(Halt::Refused(rule, left)) => Err(Stop::Refused(Refusal {
-            rule,
-            place: place_before(&tokens, left),
-        })),
     }
 }
 
@@ -102,4 +83,24 @@ pub fn bodies_hold(
         assert_eq!(rt; shown.as_slice(), wanted.as_bytes(), "{body}");
     }
     Ok(())
+}
+
+/// How a text is answered as an algorithm of a syntax: `read`, or the refusal.
+///
+/// # Errors
+///
+/// Only for want of memory.
+pub fn answer(alloc: Global, text: &[u8], from: Syntax) -> Result<Vec<u8>, AllocError> {
+    let mut pool = Pool::new(alloc);
+    if text.len() > 1048576 {
+        return Ok(Vec::new(alloc));
+    }
+    match read(alloc, text, from, &mut pool) {
+        Ok(_) => Vec::from_slice(alloc, b"read"),
+        Err(Stop::Refused(refusal)) => {
+            let told = format!(in alloc; "{refusal}")?;
+            Vec::from_slice(alloc, told.as_bytes())
+        }
+        Err(Stop::Memory) => Vec::from_slice(alloc, b"-"),
+    }
 }

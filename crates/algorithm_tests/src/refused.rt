@@ -63,3 +63,19 @@ const REFUSED: [(&str, &str); 40] = [
 fn the_first_wrong_token_is_refused(rt: HostRuntime) -> Result<(), AllocError> {
     rows_hold(&rt, rt.alloc(), (Syntax::C, Syntax::P), &REFUSED)
 }
+
+// What is left out is of a lesser rule than what can't be there.
+const LEFT_OUT: [(&str, &str); 4] = [
+    ("--algorithm R { { x := y' } }", "1:25: 11 LeftOutWord"),
+    (
+        "--algorithm R { { x := 1 2 } } ENABLED",
+        "1:32: 11 LeftOutWord",
+    ),
+    ("--algorithm R { { x := a!b } }", "1:25: 11 LeftOutWord"),
+    ("CHOOSE LAMBDA", "1:1: 11 LeftOutWord"),
+];
+
+#[test]
+fn what_is_left_out_is_refused_first(rt: HostRuntime) -> Result<(), AllocError> {
+    rows_hold(&rt, rt.alloc(), (Syntax::C, Syntax::P), &LEFT_OUT)
+}

@@ -2,10 +2,10 @@
 use Rattle.std.specs.Prelude.{length}
 use Rattle.algorithm_tests.proofs.reading.read.Goals as goal
 
-pub read_algorithm-read-requires : goal.read_algorithm-read-requires
-read_algorithm-read-requires c =
+pub read_p-requires : goal.read_p-requires
+read_p-requires c =
     c.given_numbers_fit.ensures.read c.args.text.now 0 (length c.args.text.now) c.in_ok-tokens.tokens c.in_ok-tokens.ensures.tokens c.in_ok-tokens.ensures.fine
 
-pub read_algorithm-read-requires-in-C : goal.read_algorithm-read-requires-in-C
-read_algorithm-read-requires-in-C c =
+pub read_c-requires : goal.read_c-requires
+read_c-requires c =
     c.given_numbers_fit.ensures.read c.args.text.now 0 (length c.args.text.now) c.in_ok-tokens.tokens c.in_ok-tokens.ensures.tokens c.in_ok-tokens.ensures.fine
