@@ -37,7 +37,7 @@ pub fn files_have_the_form_by_their_trees()
     ensures read { (x : List ℕ) (f : Parts) (h : HasForm x f) → tree_form x h.tree ≡ Some f }
 {}
 
-/// In a file that breaks no rule up to 10 the algorithm that its tokens spell is in it. With a translation that is put into the file it
+/// In a file that breaks none of the rules 1 to 10 and 12 the algorithm that its tokens spell is in it. With a translation that is put into the file it
 /// is in it too, places aside.
 pub fn translations_keep_algorithms()
     ensures spelled { (x : List ℕ) (a : AlgorithmText) (s : Syntax) (g : Algorithm) → IsFine x → algorithm_in x ≡ Some a → Spells s (algorithm_tokens x a) g → Stands x g }
