@@ -1,6 +1,6 @@
 // Whole algorithms in C-syntax, and how both syntaxes print them.
 
-use crate::reading::rows_hold;
+use crate::rows::rows_hold;
 use pcal_tree::Syntax;
 use std::alloc::AllocError;
 

@@ -1,6 +1,6 @@
 // More texts that are no algorithm in P-syntax: what stands around statements, each form of statements, and ends.
 
-use crate::reading::rows_hold;
+use crate::rows::rows_hold;
 use pcal_tree::Syntax;
 use std::alloc::AllocError;
 

@@ -1,6 +1,6 @@
 // Algorithms in P-syntax, and how C-syntax prints them, or the first token that none has there.
 
-use crate::reading::rows_hold;
+use crate::rows::rows_hold;
 use pcal_tree::Syntax;
 use std::alloc::AllocError;
 

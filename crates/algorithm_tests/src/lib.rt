@@ -15,11 +15,14 @@ mod deep;
 mod ends;
 #[cfg(test)]
 mod first;
-pub mod many;
+#[cfg(test)]
+mod many;
 #[cfg(test)]
 mod optional;
 pub mod reading;
 #[cfg(test)]
 mod refused;
+#[cfg(test)]
+mod rows;
 #[cfg(test)]
 mod statements;

@@ -1,4 +1,4 @@
-//! Texts in which something stands many times, and what they are answered as algorithms by all rules on how these are spelled.
+// Texts in which something stands many times, and what they are answered as algorithms by all rules on how these are spelled.
 
 use crate::reading::answer;
 use pcal_tree::Syntax;

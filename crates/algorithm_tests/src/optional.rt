@@ -1,6 +1,6 @@
 // What may be there or be left out: the last sign of a list, the `;` behind an end or a brace, and labels before statements that have others in them.
 
-use crate::reading::rows_hold;
+use crate::rows::rows_hold;
 use pcal_tree::Syntax;
 use std::alloc::AllocError;
 

@@ -9,7 +9,6 @@ use p_syntax::read_p;
 use pcal_tree::Syntax;
 use pcal_tree::algorithm::Algorithm;
 use std::alloc::{AllocError, Global};
-use std::process::Abort;
 use syntax_print::write_in;
 use tla_expr::laws::given_numbers_fit;
 use tla_pool::Pool;
@@ -46,43 +45,6 @@ pub fn told(alloc: Global, text: &[u8], from: Syntax, to: Syntax) -> Result<Vec<
         }
         Err(Stop::Memory) => Vec::from_slice(alloc, b"-"),
     }
-}
-
-/// Tells each text, and panics where it isn't told as is wanted.
-///
-/// # Errors
-///
-/// Only for want of memory.
-pub fn rows_hold(
-    rt: &impl Abort,
-    alloc: Global,
-    (from, to): (Syntax, Syntax),
-    rows: &[(&str, &str)],
-) -> Result<(), AllocError> {
-    for (text, wanted) in rows {
-        let shown = told(alloc, text.as_bytes(), from, to)?;
-        assert_eq!(rt; shown.as_slice(), wanted.as_bytes(), "{text}");
-    }
-    Ok(())
-}
-
-/// The same of lists of statements, each the body of an algorithm of one process, from the first column of a line on.
-///
-/// # Errors
-///
-/// Only for want of memory.
-pub fn bodies_hold(
-    rt: &impl Abort,
-    alloc: Global,
-    rows: &[(&str, &str)],
-) -> Result<(), AllocError> {
-    for (body, printed) in rows {
-        let text = format!(in alloc; "--algorithm R {{ {{\n{body}\n}} }}")?;
-        let wanted = format!(in alloc; "--algorithm R\nbegin\n{printed}\nend algorithm")?;
-        let shown = told(alloc, text.as_bytes(), Syntax::C, Syntax::P)?;
-        assert_eq!(rt; shown.as_slice(), wanted.as_bytes(), "{body}");
-    }
-    Ok(())
 }
 
 /// How a text is answered as an algorithm of a syntax: `read`, or the refusal.

@@ -1,6 +1,6 @@
 // Texts that are no algorithm in C-syntax: the first token that none has there, or the end.
 
-use crate::reading::rows_hold;
+use crate::rows::rows_hold;
 use pcal_tree::Syntax;
 use std::alloc::AllocError;
 

@@ -1,6 +1,6 @@
 // Lists of statements in C-syntax, and how P-syntax prints them.
 
-use crate::reading::bodies_hold;
+use crate::rows::bodies_hold;
 use std::alloc::AllocError;
 
 // Statements that have none in them, with their labels.
