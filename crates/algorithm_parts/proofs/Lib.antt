@@ -13,6 +13,7 @@ pub mod Aheads
 pub mod Mends
 pub mod MendParts
 pub mod MendSimple
+pub mod Completing
 pub mod Beside
 pub mod BesideParts
 pub mod BesideSimple
@@ -35,6 +36,7 @@ pub mod WithinAround
 pub mod SameOpens
 pub mod StopsOf
 pub mod StopsWithin
+pub mod CompletedOf
 pub mod Lower
 pub mod OneAfter
 pub mod Gathered

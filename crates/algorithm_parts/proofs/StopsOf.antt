@@ -1,7 +1,7 @@
 -- What is read passes, and what is refused is refused at the first token that no algorithm has there, over kinds and columns: of a reader of either syntax.
 use Rattle.std.proofs.Common.{◌≡◌, ◌⊎◌, ℕ, suc, ◌<◌, ◌≤◌, true, List, [], ◌∷◌, ◌++◌, length, take, drop, map, get_or, Option, Some, None, Ok, Err, inl, inr, refl, sym, ap, ◌∙◌, subst, append_assoc, length-append, arith}
 use Rattle.std.specs.List.{list_all}
-use Rattle.std.proofs.lemmas.List.{append-nil, take-append-drop, take_all, length-map}
+use Rattle.std.proofs.lemmas.List.{append-nil, append_cancel_right, take-append-drop, take_all, length-map}
 use Rattle.std.proofs.lemmas.List.Folds.{list_all-append}
 use Rattle.std.proofs.lemmas.Bool.{and_parts, cases_order}
 use Rattle.tla_token.specs.declared.place.Place.{Place}
@@ -20,7 +20,8 @@ use Rattle.pcal_tree.specs.OpenForms.{opens}
 use Rattle.pcal_tree.specs.OffencesSyntax.{algorithms, PassesTokens, RefusesTokens}
 use Rattle.pcal_tree.proofs.LinesGood.{spelled_again, begins, begun}
 use Rattle.pcal_tree.proofs.OpensLaws.{as_many_opens}
-use Rattle.algorithm_parts.proofs.Mends.{Mend}
+use Rattle.algorithm_parts.specs.Missing.{Missing}
+use Rattle.algorithm_parts.proofs.Mends.{Mend, none}
 use Rattle.algorithm_parts.proofs.SameOpens.{same_opens}
 
 -- a reader of algorithms of this syntax: what it reads is spelled, what is spelled it reads, and where it refuses none goes on and those before can be gone on with
@@ -28,10 +29,9 @@ pub record ReadsAll (syntax : grammar.Syntax) (read : Reader Text) : Type 0 wher
   pub spelled : (ts : List Token) (x : Text) (rest : List Token) → read ts ≡ Ok (x, rest) → Good syntax x × (ts ≡ spell x []) × (rest ≡ [])
   pub through : (ts : List Token) (t : Token) (rest : List Token) (q : Rule) → read ts ≡ Err (q, t ∷ rest) → (passed : List Token) → ts ≡ passed ++ t ∷ rest → (x : Text) → Good syntax x → (more : List Token) → spell x [] ≡ passed ++ t ∷ more → ⊥
   pub unspelled : (ts rest : List Token) (q : Rule) → read ts ≡ Err (q, rest) → (x : Text) → Good syntax x → ts ≡ spell x [] → ⊥
-  pub mended : (ts : List Token) (u : Stop) → read ts ≡ Err u → Mend (Good syntax) spell ts u
   pub again : (x : Text) → Good syntax x → (ts : List Token) → spell x [] ≡ ts → read ts ≡ Ok (x, [])
-  pub rule : (ts rest : List Token) (q : Rule) → read ts ≡ Err (q, rest) → q ≡ Syntax
-  pub completed : (ts passed rest : List Token) (q : Rule) → read ts ≡ Err (q, rest) → ts ≡ passed ++ rest → (fix : List Token) × (x : Text) × Good syntax x × (spell x [] ≡ passed ++ fix)
+  pub missing : Missing
+  pub mended : (ts : List Token) (u : Stop) → read ts ≡ Err u → Mend (Good syntax) spell opens none 0 16 (missing ts) ts u
 
 -- ---- tokens with the end after them
 ends_there : (xs ys : List Look) (more : List (Option Look)) → map Some xs ++ None ∷ [] ≡ (map Some ys ++ None ∷ []) ++ more → xs ≡ ys
@@ -60,9 +60,20 @@ module _ (syntax : grammar.Syntax) (read : Reader Text) (facts : ReadsAll syntax
   spelled_to_end ts (more, ns, (x, g, s, c)) = (let v = spelled_again syntax (spell x []) ts (ends_there (looks (spell x [])) (looks ts) more s) x g refl in (v.0, v.1, v.2))
 
   -- ---- a refusal
+  -- it is by the rule of syntax
+  pub refused_by_syntax : (ts rest : List Token) (q : Rule) → read ts ≡ Err (q, rest) → q ≡ Syntax
+  refused_by_syntax ts rest q o = (facts.mended ts (q, rest) o).rule
+
+  -- and what was passed can be gone on with
+  pub refused_is_completed : (ts passed rest : List Token) (q : Rule) → read ts ≡ Err (q, rest) → ts ≡ passed ++ rest → (fix : List Token) × (x : Text) × Good syntax x × (spell x [] ≡ passed ++ fix)
+  refused_is_completed ts passed rest q o s =
+      let c = facts.mended ts (q, rest) o in
+      let same : passed ≡ c.read = append_cancel_right passed c.read rest (sym s ∙ c.parts) in
+      (c.fix, c.whole, c.good, c.tokens [] ∙ ap (λ (v : List Token). c.read ++ v) (append-nil c.fix) ∙ ap (λ (v : List Token). v ++ c.fix) (sym same))
+
   pub begins_before : (passed rest : List Token) (q : Rule) → read (passed ++ rest) ≡ Err (q, rest) → Begins (algorithms syntax) (take (length passed) (to_end (passed ++ rest)))
   begins_before passed rest q o =
-      let w = facts.completed (passed ++ rest) passed rest q o refl in
+      let w = refused_is_completed (passed ++ rest) passed rest q o refl in
       subst (λ (ks : List (Option Look)). Begins (algorithms syntax) ks) (sym (before passed rest)) (begins syntax passed w.0 w.1 w.2 w.3)
 
   pub none_begins : (passed rest : List Token) (q : Rule) → read (passed ++ rest) ≡ Err (q, rest) → Begins (algorithms syntax) (take (suc (length passed)) (to_end (passed ++ rest))) → ⊥
@@ -94,7 +105,7 @@ module _ (syntax : grammar.Syntax) (read : Reader Text) (facts : ReadsAll syntax
   pub is_refused : (ts : List text.Token) (passed rest : List Token) (end : Place) (q : Rule) → read (views ts) ≡ Err (q, rest) → views ts ≡ passed ++ rest → Passes (algorithms syntax) (map Some (looks passed))
       → RefusesTokens syntax ts end (record { rule = q; place = place_at ts (length passed) end })
   is_refused ts passed rest end q o s p =
-      subst (λ (r : Rule). RefusesTokens syntax ts end (record { rule = r; place = place_at ts (length passed) end })) (sym (facts.rule (views ts) rest q o))
+      subst (λ (r : Rule). RefusesTokens syntax ts end (record { rule = r; place = place_at ts (length passed) end })) (sym (refused_by_syntax (views ts) rest q o))
       (record { passed = length passed; stops = refused_stops (views ts) passed rest q o s p; place = refl })
 
   -- ---- what is read passes, and what passes is read

@@ -28,7 +28,7 @@ use Rattle.algorithm_parts.proofs.Beside.{Fit, Deep, Late}
 use Rattle.tla_token.specs.declared.rule.Refusal.{Refusal}
 use Rattle.pcal_tree.specs.Algorithm.{Algorithm}
 use Rattle.algorithm_parts.proofs.Within.{Ending}
-use Rattle.algorithm_parts.proofs.StopsOf.{ReadsAll, refused_there, read_passes, passed_is_read, place_at}
+use Rattle.algorithm_parts.proofs.StopsOf.{ReadsAll, refused_is_completed, refused_there, read_passes, passed_is_read, place_at}
 use Rattle.algorithm_parts.proofs.SameOpens.{same_opens}
 use Rattle.tla_token.specs.Tokens as text
 use Rattle.pcal_tree.specs.Grammar as grammar
@@ -137,7 +137,7 @@ module _ (syntax : grammar.Syntax) (read limited : Reader Text) (facts : ReadsWi
       by (Ok (y, us)) o (x, e) = (let v = facts.all.spelled (k ++ t ∷ r) y us o in begins syntax (k ++ t ∷ []) r y v.0 (sym v.1 ∙ sym (append_assoc k (t ∷ []) r)))
       by (Err (v, us)) o (x, e) =
           let s : k ++ t ∷ r ≡ (k ++ t ∷ x) ++ us = ap (λ (u : List Token). k ++ t ∷ u) e ∙ sym (append_assoc k (t ∷ x) us) in
-          let m = facts.all.completed (k ++ t ∷ r) (k ++ t ∷ x) us v o s in
+          let m = refused_is_completed syntax read facts.all (k ++ t ∷ r) (k ++ t ∷ x) us v o s in
           begins syntax (k ++ t ∷ []) (x ++ m.0) m.1 m.2 (m.3 ∙ append_assoc k (t ∷ x) m.0 ∙ sym (append_assoc k (t ∷ []) (x ++ m.0)))
 
   -- ---- a refusal is not early, and by the rule of the grammar

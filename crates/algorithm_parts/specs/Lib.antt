@@ -1,4 +1,9 @@
 pub mod TokenReaders
+pub mod Completes
+pub mod Missing
+pub mod MissingParts
+pub mod MissingSimple
+pub mod MissingRoutines
 pub mod ReadParts
 pub mod ReadSimple
 pub mod ReadAround

@@ -114,7 +114,7 @@ closed_by_rest m (suc n) (begin ls st) i p ts l = closed_after m p ts st i n (om
 closed_by_rest m (suc n) (ended a s st) i p ts l = closed_after m p ts st i (suc n) l a s
 
 -- ---- how many tokens that are
-few_closing : (st : Stack) → length (closing st) ≤ 2 * depth st
+pub few_closing : (st : Stack) → length (closing st) ≤ 2 * depth st
 few_closing (bottom b) = omega arith
 few_closing (in_block ls p b st) = (let h = few_closing st in omega (arith, h))
 few_closing (in_then ls t st) = (let h = few_closing st in omega (arith, h))

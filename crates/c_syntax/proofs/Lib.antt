@@ -3,6 +3,7 @@ mod RowsForms
 mod RowsClosing
 mod RowsLimit
 mod RowsAfter
+mod RowsMissing
 pub mod SoundStatements
 pub mod SoundAlgorithm
 pub mod Lengths

@@ -1,5 +1,7 @@
 pub mod ReadStatements
 pub mod ReadAlgorithm
+pub mod MissingStatements
+pub mod MissingAlgorithm
 pub mod Resume
 pub mod StatesRead
 pub mod Closes

@@ -24,6 +24,8 @@ ghost use Rattle.pcal_tree.specs.GrammarC.{Sequence};
 ghost use Rattle.algorithm_parts.specs.TokenReaders.{Parts};
 ghost use Rattle.c_syntax.specs.ReadStatements.{State, begin, none, bottom, on, step, run, AreApart, open_stack, rest, depth};
 ghost use Rattle.c_syntax.specs.ReadAlgorithm.{read_identity, read_text, read_algorithm, read_limited_algorithm};
+ghost use Rattle.algorithm_parts.specs.Completes.{Completes};
+ghost use Rattle.c_syntax.specs.MissingAlgorithm.{completion};
 ghost use Rattle.c_syntax.specs.Resume.{Front, main_from, processes_from, procedures_from, macros_from, text_from, resume, main_rest, end_rest, rest_of_all};
 
 /// What is read is an algorithm that may be spelled, and all the tokens are its tokens.
@@ -63,6 +65,16 @@ pub fn nothing_passes_where_reading_stops()
 /// And a refusal is not late: what was passed before the refused token, or before the end, can be gone on with to a whole algorithm.
 pub fn refusals_are_at_the_earliest_place()
     ensures { (ts passed rest : List Token) (r : Rule) → read_algorithm ts ≡ Err (r, rest) → ts ≡ passed ++ rest → (fix : List Token) × (x : Text) × Good c_syntax x × (spell x [] ≡ passed ++ fix) }
+{}
+
+/// What completes it is told by a function of the tokens that were passed: behind whatever begins an algorithm, and so behind what was passed before a
+/// refused token, in a text too, the tokens that are missing of all that is open there make it a whole algorithm. They are at most 16 for each form that is open at the first of
+/// them, and 16.
+pub fn what_is_missing_completes()
+    ensures begun { (passed more : List Token) (x : Text) → Good c_syntax x → spell x [] ≡ passed ++ more → Completes c_syntax passed (completion passed) }
+    ensures refused { (ts passed rest : List Token) (r : Rule) → read_algorithm ts ≡ Err (r, rest) → ts ≡ passed ++ rest → Completes c_syntax passed (completion passed) }
+    ensures within { (ts passed rest : List Token) (r : Rule) → read_limited_algorithm ts ≡ Err (r, rest) → ts ≡ passed ++ rest → Completes c_syntax passed (completion passed) }
+    ensures tokens { (ts : List text.Token) (end : Place) (r : Refusal) → (a : RefusesTokens c_syntax ts end r) → Completes c_syntax (take a.passed (views ts)) (completion (take a.passed (views ts))) }
 {}
 
 /// Reading is refused at the first token that no algorithm has there, or at the end where none ends, as far as kinds and columns tell: so the

@@ -1,6 +1,6 @@
 //! The call that reads a whole algorithm in C-syntax, with all its rules.
 
-ghost use Rattle.std.specs.Prelude.{◌≡◌, ◌≤◌, length, None, Some, Err, IfOk};
+ghost use Rattle.std.specs.Prelude.{◌≡◌, ◌≤◌, length, take, None, Some, Err, IfOk};
 ghost use Rattle.tla_token.specs.declared.rule.Refusal as code;
 ghost use Rattle.tla_token.specs.declared.rule.Stop.TheVariants as stop;
 ghost use Rattle.tla_token.specs.TokensSeen.{tokens_seen};
@@ -8,7 +8,11 @@ ghost use Rattle.tla_tree.specs.Pool.{Keeps};
 ghost use Rattle.tla_expr.specs.Numbers.{NumbersFit};
 ghost use Rattle.pcal_tree.specs.InMemory.{algorithm_at, past_algorithm};
 ghost use Rattle.pcal_tree.specs.Grammar.{c_syntax, Spells};
+ghost use Rattle.pcal_tree.specs.AlgorithmTokens.{views};
+ghost use Rattle.pcal_tree.specs.OffencesSyntax.{RefusesTokens};
+ghost use Rattle.algorithm_parts.specs.Completes.{Completes};
 ghost use Rattle.algorithm_limits.specs.Answered.{AreAnswered};
+ghost use Rattle.c_syntax.specs.MissingAlgorithm.{completion};
 
 use crate::algorithm::read_algorithm;
 use pcal_tree::algorithm::Algorithm;
@@ -22,7 +26,7 @@ use tla_token::{Stop, Tokens};
 /// # Errors
 ///
 /// Of the rules on words that are left out (11), on too much (13 and 14) and on syntax (15) the least that the tokens break, at
-/// its first place; or want of memory.
+/// its first place; or want of memory. The tokens before one that is refused by 14 or 15 are completed to an algorithm by those that are missing there.
 pub fn read_c(alloc: Global, tokens: &Tokens, pool: &mut Pool) -> Result<Algorithm, Stop>
     requires { NumbersFit tokens.now }
     ensures kept { Keeps pool.old pool.new }
@@ -30,6 +34,7 @@ pub fn read_c(alloc: Global, tokens: &Tokens, pool: &mut Pool) -> Result<Algorit
     ensures spelled { IfOk result (λ a. Spells c_syntax (tokens_seen tokens.now) (algorithm_at pool.new a)) }
     ensures answered { IfOk result (λ a. AreAnswered c_syntax (tokens_seen tokens.now) tokens.now.end None) }
     ensures refused { (r : code.Refusal) → result ≡ Err (stop.Refused r) → AreAnswered c_syntax (tokens_seen tokens.now) tokens.now.end (Some r) }
+    ensures completed { (r : code.Refusal) → (a : RefusesTokens c_syntax (tokens_seen tokens.now) tokens.now.end r) → Completes c_syntax (take a.passed (views (tokens_seen tokens.now))) (completion (take a.passed (views (tokens_seen tokens.now)))) }
 {
     let read = read_algorithm(alloc, tokens, pool);
     answered(alloc, tokens, pool, read)

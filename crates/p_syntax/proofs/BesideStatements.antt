@@ -1,5 +1,5 @@
--- Reading within the limits beside reading without: lists of statements. Each state says how many forms were open at the tokens that were passed.
-use Rattle.std.proofs.Common.{◌≡◌, ℕ, zero, suc, ◌+◌, List, [], ◌++◌, Option, Some, None, refl, ◌∙◌, subst, append_assoc, codes}
+-- Reading within the limits beside reading without: lists of statements.
+use Rattle.std.proofs.Common.{◌≡◌, ℕ, zero, suc, ◌+◌, List, ◌++◌, Option, Some, None, refl, ◌∙◌, subst, append_assoc, codes}
 use Rattle.std.proofs.lemmas.List.{append-nil}
 use Rattle.tla_token.specs.declared.place.Place.{Place}
 use Rattle.tla_tree.specs.Tree.{Word, Name}
@@ -8,8 +8,8 @@ use Rattle.tla_tree.specs.Lexical as tk
 use Rattle.tla_tree.specs.Reader.{Reader, refuses}
 use Rattle.tla_tree.specs.FirstStop.{Open}
 use Rattle.pcal_tree.specs.GrammarParts.{Labels, no_labels, labels, maybe_semicolon, Simple}
-use Rattle.pcal_tree.specs.GrammarP.{Statement, simple, with, while, Else, no_else, else_then, else_if, Branches, last_branch, more_branches, Sequence, last_statement, more_statements}
-use Rattle.pcal_tree.specs.OpenForms.{here, plain, expression_opens, binds_open, after_binds, simple_opens, p_statement, p_else, p_branches, p_sequence}
+use Rattle.pcal_tree.specs.GrammarP.{Statement, simple, with, while, no_else, else_then, last_branch, Sequence, last_statement}
+use Rattle.pcal_tree.specs.OpenForms.{here, plain, expression_opens, binds_open, after_binds, simple_opens, p_statement, p_sequence}
 use Rattle.algorithm_parts.specs.TokenReaders.{limited_parts, pick}
 use Rattle.algorithm_parts.specs.ReadSimple.{simple_words}
 use Rattle.algorithm_parts.proofs.Beside.{Sits, sits, sits_on, sits_here, Beside, BesideAt, BothAt, beside_gives, beside_refuses, beside_bind, beside_then, beside_next, beside_stays, beside_same, beside_moved, beside_skip, beside_opened, beside_key, beside_pick}
@@ -18,53 +18,9 @@ use Rattle.algorithm_parts.proofs.BesideSimple.{beside_named, beside_words}
 use Rattle.algorithm_parts.specs.ReadAround.{with_label}
 use Rattle.algorithm_parts.proofs.BesideAround.{with_label_opens, sits_last, sits_less, binds_sit}
 use Rattle.p_syntax.proofs.Closing.{tests_deep}
-use Rattle.p_syntax.specs.ReadStatements.{Before, none, after, Tests, if_test, elsif_test, Arms, first_arm, later_arm, Frame, in_then, in_else, in_either, in_with, in_while, Stack, bottom, inside, after_tests, inside_frame, depth, State, begin, ended, Turn, on, done, with_before, closed_if, closed_either}
+use Rattle.p_syntax.proofs.Opened.{before_opens, tests_open, arms_open, frame_opens, stack_opens, state_opens, turn_opens, with_before_opens, closed_if_opens, closed_either_opens}
+use Rattle.p_syntax.specs.ReadStatements.{Before, none, after, Tests, if_test, elsif_test, first_arm, later_arm, Frame, in_then, in_else, in_either, in_with, in_while, Stack, bottom, inside, after_tests, inside_frame, depth, State, begin, ended, Turn, on, done, with_before, closed_if, closed_either}
 use Rattle.p_syntax.specs.ReadStatements.{opens, ends_simple, after_name, statement_words, statement_by, takes_else, takes_elsif, takes_or, ends, takes_end, closing_words, another_by, ended_by, step, turned, run, read_sequence}
-
--- ---- the forms that were open at the tokens that were passed
-abbrev pub before_opens : ℕ → Before → List Open
-before_opens d none = []
-before_opens d (after b ls a p) = before_opens d b ++ plain d (labels ls) ++ p_statement d a ++ here d
-
-abbrev pub tests_open : ℕ → Tests → List Open
-tests_open d (if_test p e q) = here (d + 1) ++ expression_opens (d + 1) e ++ here (d + 1)
-tests_open d (elsif_test t a p e q) = tests_open d t ++ p_sequence (after_tests d t) a ++ here (after_tests d t + 1) ++ expression_opens (after_tests d t + 1) e ++ here (after_tests d t + 1)
-
-abbrev pub arms_open : ℕ → Arms → List Open
-arms_open d (first_arm p) = here (d + 1)
-arms_open d (later_arm t a p) = arms_open d t ++ p_sequence (d + 1) a ++ here (d + 1)
-
-abbrev pub frame_opens : ℕ → Frame → List Open
-frame_opens d (in_then t) = tests_open d t
-frame_opens d (in_else t a p) = tests_open d t ++ p_sequence (after_tests d t) a ++ here (after_tests d t)
-frame_opens d (in_either t) = arms_open d t
-frame_opens d (in_with p bs q) = here d ++ binds_open d bs ++ here (after_binds d bs)
-frame_opens d (in_while p e q) = here (d + 1) ++ expression_opens (d + 1) e ++ here (d + 1)
-
-abbrev pub stack_opens : Stack → List Open
-stack_opens bottom = []
-stack_opens (inside f b ls st) = stack_opens st ++ before_opens (depth st) b ++ plain (depth st) (labels ls) ++ frame_opens (depth st) f
-
-abbrev pub state_opens : State → List Open
-state_opens (begin b ls st) = stack_opens st ++ before_opens (depth st) b ++ plain (depth st) (labels ls)
-state_opens (ended b ls a o st) = stack_opens st ++ before_opens (depth st) b ++ plain (depth st) (labels ls) ++ p_statement (depth st) a ++ plain (depth st) (maybe_semicolon o)
-
-abbrev pub turn_opens : Turn → List Open
-turn_opens (on s) = state_opens s
-turn_opens (done ss) = p_sequence 0 ss
-
--- ---- parts together
-pub with_before_opens : (d : ℕ) (b : Before) (ss : Sequence) → p_sequence d (with_before b ss) ≡ before_opens d b ++ p_sequence d ss
-with_before_opens d none ss = refl
-with_before_opens d (after b ls a p) ss = with_before_opens d b (more_statements ls a p ss) ∙ simp append_assoc refl
-
-pub closed_if_opens : (d : ℕ) (t : Tests) (a : Sequence) (b : Else) (r s : Place) → p_statement d (closed_if t a b r s) ≡ tests_open d t ++ p_sequence (after_tests d t) a ++ p_else (after_tests d t) b ++ here (d + 1) ++ here (d + 1)
-closed_if_opens d (if_test p e q) a b r s = refl
-closed_if_opens d (elsif_test t c p e q) a b r s = closed_if_opens d t c (else_if p e q a b) r s ∙ simp append_assoc refl
-
-pub closed_either_opens : (d : ℕ) (t : Arms) (a : Sequence) (bs : Branches) (r s : Place) → p_statement d (closed_either t a bs r s) ≡ arms_open d t ++ p_sequence (d + 1) a ++ p_branches (d + 1) bs ++ here (d + 1) ++ here (d + 1)
-closed_either_opens d (first_arm p) a bs r s = refl
-closed_either_opens d (later_arm t c p) a bs r s = closed_either_opens d t c (more_branches p a bs) r s ∙ simp append_assoc refl
 
 -- ---- as many forms may be open as are
 tests_sit : (d : ℕ) (x : List Open) (t : Tests) → Sits (after_tests d t) (x ++ tests_open d t)

@@ -37,7 +37,7 @@ pub tests_deep : (d : ℕ) (t : Tests) → d + 1 ≤ after_tests d t
 tests_deep d (if_test p e q) = omega arith
 tests_deep d (elsif_test t a p e q) = (let h = tests_deep d t in omega (arith, h))
 
-few_closing : (st : Stack) → length (closing st) ≤ 4 * depth st
+pub few_closing : (st : Stack) → length (closing st) ≤ 4 * depth st
 few_closing bottom = omega arith
 few_closing (inside (in_then t) b ls st) = (let h = few_closing st in let i = tests_deep (depth st) t in omega (arith, h, i))
 few_closing (inside (in_else t a p) b ls st) = (let h = few_closing st in let i = tests_deep (depth st) t in omega (arith, h, i))

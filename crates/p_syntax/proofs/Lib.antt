@@ -2,12 +2,14 @@ mod Rows
 mod RowsForms
 mod RowsBroken
 mod RowsLimit
+mod RowsMissing
 pub mod SoundStatements
 pub mod SoundAlgorithm
 pub mod WholeStatements
 pub mod WholeAlgorithm
 pub mod FairStatements
 pub mod FairAlgorithm
+pub mod Opened
 pub mod MendStatements
 pub mod MendAlgorithm
 pub mod BesideStatements

@@ -2,10 +2,11 @@
 use Rattle.pcal_tree.specs.Grammar.{p_syntax}
 use Rattle.algorithm_parts.proofs.StopsOf.{ReadsAll}
 use Rattle.p_syntax.specs.ReadAlgorithm.{read_algorithm}
+use Rattle.p_syntax.specs.MissingAlgorithm.{missing_algorithm}
 use Rattle.p_syntax.proofs.SoundAlgorithm.{read_is_spelled}
 use Rattle.p_syntax.proofs.WholeAlgorithm.{text_read}
 use Rattle.p_syntax.proofs.FairAlgorithm.{none_through, unspelled}
-use Rattle.p_syntax.proofs.MendAlgorithm.{refused_is_mended, refused_by_syntax, refused_is_completed}
+use Rattle.p_syntax.proofs.MendAlgorithm.{refused_is_mended}
 
-pub reads_all : ReadsAll p_syntax read_algorithm
-reads_all = record { spelled = read_is_spelled; through = none_through; unspelled = unspelled; mended = refused_is_mended; again = text_read; rule = refused_by_syntax; completed = refused_is_completed }
+unfoldable pub reads_all : ReadsAll p_syntax read_algorithm
+reads_all = record { spelled = read_is_spelled; through = none_through; unspelled = unspelled; again = text_read; missing = missing_algorithm; mended = refused_is_mended }

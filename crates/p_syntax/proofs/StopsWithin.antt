@@ -15,7 +15,7 @@ use Rattle.p_syntax.proofs.WithinAlgorithm.{refused_ends}
 use Rattle.p_syntax.proofs.Stops.{reads_all}
 
 -- a refusal is the same whatever follows
-refused_again : (k : List Token) (t : Token) (r s : List Token) (q : Rule) → read_limited_algorithm (k ++ t ∷ r) ≡ Err (q, t ∷ r) → read_limited_algorithm (k ++ t ∷ s) ≡ Err (q, t ∷ s)
+pub refused_again : (k : List Token) (t : Token) (r s : List Token) (q : Rule) → read_limited_algorithm (k ++ t ∷ r) ≡ Err (q, t ∷ r) → read_limited_algorithm (k ++ t ∷ s) ≡ Err (q, t ∷ s)
 refused_again k t r s q o =
     let n = length (k ++ t ∷ r) in
     let m = length (k ++ t ∷ s) in
@@ -26,5 +26,5 @@ refused_again k t r s q o =
     let both : Alike k t r s (read_limited_algorithm (k ++ t ∷ r)) (read_limited_algorithm (k ++ t ∷ s)) = f.alike k t r s (omega arith) in
     same_refusal k t r s q (read_limited_algorithm (k ++ t ∷ s)) (subst (λ (z : Out Text). Alike k t r s z (read_limited_algorithm (k ++ t ∷ s))) o both)
 
-pub reads_within : ReadsWithin p_syntax read_algorithm read_limited_algorithm
+unfoldable pub reads_within : ReadsWithin p_syntax read_algorithm read_limited_algorithm
 reads_within = record { all = reads_all; beside = beside; refused_again = refused_again; refused_ends = refused_ends }

@@ -34,7 +34,8 @@ use Rattle.p_syntax.proofs.SoundStatements.{tests, arms, frame, stack, passed, t
 use Rattle.p_syntax.proofs.SoundStatements as spelled
 use Rattle.p_syntax.proofs.MendStatements.{ahead_stack, ahead_at, ahead_passed, ahead_turn, ahead_sequence}
 use Rattle.p_syntax.proofs.Closing.{tests_deep}
-use Rattle.p_syntax.proofs.BesideStatements.{before_opens, tests_open, arms_open, frame_opens, stack_opens, state_opens, turn_opens, with_before_opens, closed_if_opens, closed_either_opens, at_sits, listed_sits, ended_sits, step_beside, beside_sequence}
+use Rattle.p_syntax.proofs.Opened.{before_opens, tests_open, arms_open, frame_opens, stack_opens, state_opens, turn_opens, with_before_opens, closed_if_opens, closed_either_opens}
+use Rattle.p_syntax.proofs.BesideStatements.{at_sits, listed_sits, ended_sits, step_beside, beside_sequence}
 
 abbrev at : Before → Labels → Stack → List Token → List Token
 at b ls st ts = stack st (spelled.before b (labels ls ts))

@@ -21,9 +21,11 @@ ghost use Rattle.tla_tree.specs.Tree.{Name};
 ghost use Rattle.pcal_tree.specs.GrammarParts.{name, no_labels, Section, MacroParameters, ProcedureParameters};
 ghost use Rattle.pcal_tree.specs.Grammar.{Macro, Procedure, Fair, fair, Identity, Process};
 ghost use Rattle.algorithm_parts.specs.ReadParts.{read_section, read_macro_parameters, read_procedure_parameters};
+ghost use Rattle.algorithm_parts.specs.Completes.{Completes};
 ghost use Rattle.algorithm_parts.specs.Owners.{Owner, in_macro, in_procedure, in_process, in_main};
 ghost use Rattle.p_syntax.specs.ReadStatements.{State, begin, none, bottom, on, step, run, rest, open_in};
 ghost use Rattle.p_syntax.specs.ReadAlgorithm.{read_identity, read_text, read_algorithm, read_limited_algorithm};
+ghost use Rattle.p_syntax.specs.MissingAlgorithm.{completion};
 ghost use Rattle.p_syntax.specs.Resume.{Front, main_from, processes_from, procedures_from, macros_from, text_from, resume, main_rest, end_rest, rest_of_all};
 
 /// What is read is an algorithm that may be spelled, and all the tokens are its tokens.
@@ -57,6 +59,15 @@ pub fn nothing_passes_where_reading_stops()
 /// And a refusal is not late: what was passed before the refused token, or before the end, can be gone on with to a whole algorithm.
 pub fn refusals_are_at_the_earliest_place()
     ensures { (ts passed rest : List Token) (r : Rule) → read_algorithm ts ≡ Err (r, rest) → ts ≡ passed ++ rest → (fix : List Token) × (x : Text) × Good p_syntax x × (spell x [] ≡ passed ++ fix) }
+{}
+
+/// What completes it is told by a function of the tokens that were passed: behind whatever begins an algorithm, and so behind what was passed before a
+/// refused token, the tokens that are missing of all that is open there make it a whole algorithm. They are at most 16 for each form that is open at the first of them, and 16.
+pub fn what_is_missing_completes()
+    ensures begun { (passed more : List Token) (x : Text) → Good p_syntax x → spell x [] ≡ passed ++ more → Completes p_syntax passed (completion passed) }
+    ensures refused { (ts passed rest : List Token) (r : Rule) → read_algorithm ts ≡ Err (r, rest) → ts ≡ passed ++ rest → Completes p_syntax passed (completion passed) }
+    ensures within { (ts passed rest : List Token) (r : Rule) → read_limited_algorithm ts ≡ Err (r, rest) → ts ≡ passed ++ rest → Completes p_syntax passed (completion passed) }
+    ensures tokens { (ts : List text.Token) (end : Place) (r : Refusal) → (a : RefusesTokens p_syntax ts end r) → Completes p_syntax (take a.passed (views ts)) (completion (take a.passed (views ts))) }
 {}
 
 /// The tokens of a text pass just where they are read as an algorithm in which nowhere too many forms are open; and it is theirs.

@@ -1,8 +1,12 @@
 -- Proves that the answer to the tokens is given.
 use Rattle.std.proofs.Common.{Some}
+use Rattle.tla_token.specs.TokensSeen.{tokens_seen}
+use Rattle.pcal_tree.specs.AlgorithmTokens.{views}
 use Rattle.pcal_tree.specs.Grammar.{c_syntax}
+use Rattle.algorithm_parts.proofs.CompletedOf.{completed_there}
 use Rattle.routine_parts.proofs.Answered.{answers, below, past_there, spelled_there, answered_there}
 use Rattle.c_syntax.specs.ReadAlgorithm.{read_algorithm, read_limited_algorithm}
+use Rattle.c_syntax.proofs.Stops.{reads_all}
 use Rattle.c_syntax.proofs.StopsWithin.{reads_within}
 use Rattle.c_syntax.proofs.read.read_c.Goals as goal
 
@@ -23,3 +27,7 @@ returns-clause-answered c =
 pub returns-clause-refused : goal.returns-clause-refused
 returns-clause-refused c = λ r e.
     answers c_syntax read_algorithm read_limited_algorithm reads_within c.args.tokens.now c.read_algorithm-read.new.pool c.read_algorithm-read.result c.read_algorithm-read.ensures.read (Some r) (c.answered.ensures.refused r e)
+
+pub returns-clause-completed : goal.returns-clause-completed
+unfolding reads_all
+returns-clause-completed c = λ r a. completed_there c_syntax read_algorithm reads_all (views (tokens_seen c.args.tokens.now)) a.passed r.rule a.stops
