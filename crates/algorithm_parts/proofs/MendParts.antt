@@ -29,7 +29,7 @@ use Rattle.pcal_tree.specs.GrammarParts.{name, sign, mark, maybe_semicolon, mayb
 use Rattle.pcal_tree.specs.OpenForms as form
 use Rattle.pcal_tree.specs.OpenForms.{within, expression_opens, initial_opens, variables_open, section_opens, parameters_open, procedure_parameters_open, definitions_open, binds_open}
 use Rattle.algorithm_parts.specs.TokenReaders.{past, Parts, parts_of}
-use Rattle.algorithm_parts.specs.Missing.{all_of, the_mark, an_identifier, an_equal, a_number, PartsMiss, parts_miss}
+use Rattle.algorithm_parts.specs.Missing.{all_of, an_identifier, an_equal, a_number, PartsMiss, parts_miss}
 use Rattle.algorithm_parts.specs.MissingParts as wants
 use Rattle.algorithm_parts.specs.MissingParts.{missing_among, missing_initial_by, missing_initial, missing_variables, missing_section_words, missing_section_by, missing_section, missing_names, a_close, no_list, missing_macro_parameters_by, missing_macro_parameters, missing_parameters, missing_procedure_parameters_by, missing_procedure_parameters, missing_heading_by, missing_heading, a_meaning, missing_definitions, missing_colon, a_value, missing_binds}
 use Rattle.algorithm_parts.specs.ReadParts.{semicolon_by, read_semicolon, separator_by, read_separator, among_if, initial_by, read_initial, variables_by, read_variables, section_words, section_by, read_section, names_by, read_names, macro_parameters_by, read_macro_parameters, parameters_by, read_parameters, procedure_parameters_by, read_procedure_parameters, heading_by, read_heading, definitions_by, read_definitions, colon_by, read_colon, binds_by, bind_by, read_binds}
@@ -188,7 +188,7 @@ by_colon_mends d p q (tk.sign op.Plus) = mends_done (form.here d) (colon_plus p 
 by_colon_mends d p q (tk.sign op.Minus) = mends_done (form.here d) (colon_minus p q) refl tt (λ ts. refl) refl
 by_colon_mends d p q k = mends_stays (mends_gives (colon p) tt (λ ts. refl) refl)
 
-pub part_colon : (d : ℕ) → IsPart Any colon_tokens (λ c. form.plain d (colon_tokens c)) d 1 (the_mark tk.colon []) missing_colon read_colon
+pub part_colon : (d : ℕ) → IsPart Any colon_tokens (λ c. form.plain d (colon_tokens c)) d 1 (mark nowhere tk.colon []) missing_colon read_colon
 part_colon d = record { sound = colon_sound; ahead = λ a u. ahead_colon a; mends = mends_bind held (part_mark d tk.colon) (omega arith) (λ p u hx. mends_next (filled (colon p) tt (λ ts. refl) refl) (by_colon_mends d p)) }
 
 pub part_bind : (d : ℕ) → IsPart Any (λ b ts. sign b.1 (bind_sign b.0) ts) (λ b. form.here d) d 1 (an_equal []) (all_of (an_equal [])) (past bind_by)

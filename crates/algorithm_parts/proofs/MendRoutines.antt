@@ -2,6 +2,7 @@
 use Rattle.std.proofs.Common.{ℕ, zero, suc, ◌≤◌, true, false, List, [], ◌∷◌, ◌++◌, length, length-append, append_assoc, refl, codes, arith}
 use Rattle.std.specs.List.{AllByRecursion, flat_map}
 use Rattle.tla_token.specs.declared.place.Place.{Place}
+use Rattle.tla_token.specs.Places.{nowhere}
 use Rattle.tla_tree.specs.Tree.{Word}
 use Rattle.tla_tree.specs.Lexical.{TokenView, Token}
 use Rattle.tla_tree.specs.Reader.{Reader, ◌>>=◌, gives}
@@ -16,7 +17,7 @@ use Rattle.algorithm_parts.proofs.MendParts.{MendsParts, part_section, part_macr
 use Rattle.tla_tree.specs.FirstStop.{Open}
 use Rattle.pcal_tree.specs.OpenForms as form
 use Rattle.pcal_tree.specs.OpenForms.{body_opens, macro_opens, procedure_opens, identity_opens, process_opens, define_opens, main_opens}
-use Rattle.algorithm_parts.specs.Missing.{Missing, then_misses, all_of, past_misses, a_word, key_then, an_identifier, PartsMiss}
+use Rattle.algorithm_parts.specs.Missing.{Missing, then_misses, all_of, past_misses, key_then, an_identifier, PartsMiss}
 use Rattle.algorithm_parts.specs.MissingParts.{no_list}
 use Rattle.algorithm_parts.specs.MissingRoutines.{WaysMiss, a_process, missing_macro, missing_procedure, missing_process, missing_process_words, missing_macros_by, missing_macros, missing_procedures_by, missing_procedures, all_more_miss, missing_processes_by, missing_processes, missing_main_processes, missing_define_by, missing_define}
 use Rattle.algorithm_parts.specs.ReadAround.{fair_by, all_more}
@@ -36,7 +37,7 @@ pub record AheadWays (syntax : Syntax) : Type 0 where
 pub record MendWays (syntax : Syntax) (ways : Ways) (v : WaysMiss) : Type 0 where
   pub sound : SoundWays syntax ways
   pub heads : AheadWays syntax
-  pub process : Fill here [] (GoodProcess syntax) process process_opens none 0 12 (a_word (codes "process") (a_process v))
+  pub process : Fill here [] (GoodProcess syntax) process process_opens none 0 12 (key nowhere (codes "process") (a_process v))
   pub short_body : (z : Word) → length (v.a_body z) ≤ 4
   pub short_identity : length v.an_identity ≤ 5
   pub body : (n : ℕ) (z : Word) → IsPart (GoodBody syntax) (body z) body_opens 0 8 (v.a_body z) (v.body n z) (ways.body n z)
@@ -76,8 +77,8 @@ module _ (syntax : Syntax) (m : Parts) (w : PartsMiss) (h : MendsParts m w) (way
       mends_give (λ b. record { fair = f; place = p; identity = x; variables = vs; body = b }) hv (facts.body n (codes "process")) (omega arith) (λ b g. (i, j, g)) (λ b ts. refl) (λ b. simp append_assoc refl)))
 
   -- past `fair`, and maybe `+`
-  fair_mends : (n : ℕ) (p : Place) → Mends (λ ts. key p (codes "fair") ts) (form.here 0) (GoodProcess syntax) process process_opens none 0 12 (a_word (codes "process") (a_process v))
-      (then_misses (by_next (fair_by p)) (all_of []) (a_word (codes "process") (a_process v)) (λ a. key_then (codes "process") (a_process v) (λ q. missing_process m w ways v n))) (by_next (fair_by p) >>= λ f. a_key (codes "process") >>= λ q. read_process m ways n f q)
+  fair_mends : (n : ℕ) (p : Place) → Mends (λ ts. key p (codes "fair") ts) (form.here 0) (GoodProcess syntax) process process_opens none 0 12 (key nowhere (codes "process") (a_process v))
+      (then_misses (by_next (fair_by p)) (all_of []) (key nowhere (codes "process") (a_process v)) (λ a. key_then (codes "process") (a_process v) (λ q. missing_process m w ways v n))) (by_next (fair_by p) >>= λ f. a_key (codes "process") >>= λ q. read_process m ways n f q)
   fair_mends n p =
       let s = facts.short_body (codes "process") in
       let i = facts.short_identity in

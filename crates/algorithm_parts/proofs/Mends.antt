@@ -21,7 +21,7 @@ use Rattle.tla_tree.specs.Reader as expression
 use Rattle.pcal_tree.specs.GrammarParts.{name, key, mark, word}
 use Rattle.pcal_tree.specs.OpenForms as form
 use Rattle.algorithm_parts.specs.TokenReaders.{first, by_next, past, is_reserved, name_of, a_key, a_mark, a_name, name_within, pick}
-use Rattle.algorithm_parts.specs.Missing.{Missing, or_after, then_misses, goes_on_missing, by_next_misses, peek_misses, past_misses, all_of, a_word, the_mark, an_identifier}
+use Rattle.algorithm_parts.specs.Missing.{Missing, or_after, then_misses, goes_on_missing, by_next_misses, peek_misses, past_misses, all_of, an_identifier}
 use Rattle.algorithm_parts.specs.Completes.{forms}
 use Rattle.algorithm_parts.proofs.Sound.{Sound, SoundAt, here, Any, is_other, seen, sound_key, sound_mark, sound_name, sound_mark_right, sound_field_right, sound_word_right}
 
@@ -331,10 +331,10 @@ one_missing put d a g = record { whole = a; good = g; fix = put a ∷ []; tokens
 pub token_mends : {A : Type 0} (f : Place → TokenView → Option A) (put : A → Token) (d : ℕ) (a : A) → Mends here [] Any (λ b ts. put b ∷ ts) (λ b. form.here d) none d 1 (put a ∷ []) (all_of (put a ∷ [])) (past f)
 token_mends f put d a = (let one = one_missing put d a tt in record { fill = one; is = λ ts u e. missing held one (took_rule (f (first ts).place (first ts).kind) ts u e) (past_err f ts u e) })
 
-pub part_key : (d : ℕ) (w : Word) → IsPart Any (λ p. key p w) (λ p. form.here d) d 1 (a_word w []) (all_of (a_word w [])) (a_key w)
+pub part_key : (d : ℕ) (w : Word) → IsPart Any (λ p. key p w) (λ p. form.here d) d 1 (key nowhere w []) (all_of (key nowhere w [])) (a_key w)
 part_key d w = record { sound = sound_key w; ahead = λ p u. put_ahead held; mends = token_mends (place_if (is_reserved w)) (λ p. token p (tk.reserved w)) d nowhere }
 
-pub part_mark : (d : ℕ) (m : Mark) → IsPart Any (λ p. mark p m) (λ p. form.here d) d 1 (the_mark m []) (all_of (the_mark m [])) (a_mark m)
+pub part_mark : (d : ℕ) (m : Mark) → IsPart Any (λ p. mark p m) (λ p. form.here d) d 1 (mark nowhere m []) (all_of (mark nowhere m [])) (a_mark m)
 part_mark d m = record { sound = sound_mark m; ahead = λ p u. put_ahead held; mends = token_mends (place_if (is_mark m)) (λ p. token p (tk.mark m)) d nowhere }
 
 pub part_name : (d : ℕ) → IsPart Any name (λ x. form.here d) d 1 (an_identifier []) (all_of (an_identifier [])) a_name

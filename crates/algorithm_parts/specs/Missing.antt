@@ -10,6 +10,7 @@ use Rattle.tla_tree.specs.declared.op.Op.TheVariants as op
 use Rattle.tla_tree.specs.Reader.{Out, Reader, free, tail, next}
 use Rattle.tla_tree.specs.Wanted.{an_x, completing, number_at}
 use Rattle.tla_tree.specs.NeedsLists.{needs}
+use Rattle.pcal_tree.specs.GrammarParts.{key, mark}
 use Rattle.algorithm_parts.specs.TokenReaders.{first, a_key, a_mark, a_name, Parts}
 
 -- the tokens that complete what was read of these before they were refused
@@ -47,12 +48,6 @@ abbrev pub all_of : List Token → Missing
 all_of ws ts = ws
 
 -- ---- single tokens
-abbrev pub a_word : Word → List Token → List Token
-a_word w ts = token nowhere (tk.reserved w) ∷ ts
-
-abbrev pub the_mark : Mark → List Token → List Token
-the_mark m ts = token nowhere (tk.mark m) ∷ ts
-
 abbrev pub an_identifier : List Token → List Token
 an_identifier ts = token nowhere (tk.word an_x) ∷ ts
 
@@ -63,10 +58,10 @@ abbrev pub a_number : List Token → List Token
 a_number ts = number_at 0 ∷ ts
 
 abbrev pub key_then : Word → List Token → (Place → Missing) → Missing
-key_then w = then_misses (a_key w) (all_of (a_word w []))
+key_then w = then_misses (a_key w) (all_of (key nowhere w []))
 
 abbrev pub mark_then : Mark → List Token → (Place → Missing) → Missing
-mark_then m = then_misses (a_mark m) (all_of (the_mark m []))
+mark_then m = then_misses (a_mark m) (all_of (mark nowhere m []))
 
 abbrev pub name_then : List Token → (Name → Missing) → Missing
 name_then = then_misses a_name (all_of (an_identifier []))

@@ -1,14 +1,15 @@
 -- What is missing where a declaration, a definition, a label or what a `with` names is refused ("A PlusCal User's Manual", section 3).
 use Rattle.std.specs.Prelude.{ℕ, zero, suc, ◌+◌, Bool, true, false, List, [], ◌∷◌, Option, Some, codes}
 use Rattle.tla_token.specs.declared.place.Place.{Place}
+use Rattle.tla_token.specs.Places.{nowhere}
 use Rattle.tla_tree.specs.declared.op.Op.TheVariants as op
 use Rattle.tla_tree.specs.Tree.{Word}
 use Rattle.tla_tree.specs.Lexical.{TokenView, Token}
 use Rattle.tla_tree.specs.Lexical as tk
-use Rattle.pcal_tree.specs.GrammarParts.{Separator}
+use Rattle.pcal_tree.specs.GrammarParts.{mark, Separator}
 use Rattle.algorithm_parts.specs.TokenReaders.{past, name_within, pick, Parts}
 use Rattle.algorithm_parts.specs.ReadParts.{read_separator, read_initial, read_names, read_parameters, read_heading, bind_by}
-use Rattle.algorithm_parts.specs.Missing.{Missing, then_misses, by_next_misses, past_misses, all_of, the_mark, an_identifier, an_equal, a_number, mark_then, name_then, PartsMiss, expr_then}
+use Rattle.algorithm_parts.specs.Missing.{Missing, then_misses, by_next_misses, past_misses, all_of, an_identifier, an_equal, a_number, mark_then, name_then, PartsMiss, expr_then}
 
 -- ---- declarations
 abbrev pub missing_among : Bool → PartsMiss → Missing
@@ -53,10 +54,10 @@ missing_names zero = all_of (an_identifier [])
 missing_names (suc n) = name_then [] (λ x. by_next_misses (more_names (missing_names n)))
 
 abbrev pub a_close : List Token → List Token
-a_close = the_mark tk.close_bracket
+a_close = mark nowhere tk.close_bracket
 
 abbrev pub no_list : List Token → List Token
-no_list ts = the_mark tk.open_bracket (a_close ts)
+no_list ts = mark nowhere tk.open_bracket (a_close ts)
 
 abbrev pub missing_macro_parameters_by : ℕ → Place → TokenView → Missing
 missing_macro_parameters_by n q (tk.mark tk.close_bracket) = all_of []
@@ -85,7 +86,7 @@ missing_heading n = name_then [] (λ x. by_next_misses (missing_heading_by n))
 
 -- `== 0`
 abbrev pub a_meaning : List Token → List Token
-a_meaning ts = the_mark tk.defines (a_number ts)
+a_meaning ts = mark nowhere tk.defines (a_number ts)
 
 -- a name begins one more
 abbrev pub more_definitions : Missing → Place → TokenView → Missing

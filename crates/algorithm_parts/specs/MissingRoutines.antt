@@ -6,11 +6,12 @@ use Rattle.tla_tree.specs.Tree.{Word}
 use Rattle.tla_tree.specs.Lexical.{TokenView, Token, token}
 use Rattle.tla_tree.specs.Lexical as tk
 use Rattle.tla_tree.specs.Reader.{Reader, refuses}
+use Rattle.pcal_tree.specs.GrammarParts.{key}
 use Rattle.algorithm_parts.specs.TokenReaders.{by_next, pick, Parts}
 use Rattle.algorithm_parts.specs.ReadParts.{read_section, read_macro_parameters, read_procedure_parameters}
 use Rattle.algorithm_parts.specs.ReadAround.{fair_by}
 use Rattle.algorithm_parts.specs.ReadRoutines.{Ways, read_macro, read_procedure, process_words}
-use Rattle.algorithm_parts.specs.Missing.{Missing, then_misses, by_next_misses, past_misses, all_of, a_word, key_then, name_then, PartsMiss}
+use Rattle.algorithm_parts.specs.Missing.{Missing, then_misses, by_next_misses, past_misses, all_of, key_then, name_then, PartsMiss}
 use Rattle.algorithm_parts.specs.MissingParts.{no_list, missing_section, missing_macro_parameters, missing_procedure_parameters}
 
 -- ---- the head
@@ -18,7 +19,7 @@ abbrev pub a_head : List Token → List Token
 a_head ts = token nowhere (tk.word (codes "--algorithm")) ∷ ts
 
 abbrev pub missing_head_words : List (Word × Missing)
-missing_head_words = (codes "--algorithm", all_of []) ∷ (codes "--fair", all_of (a_word (codes "algorithm") [])) ∷ []
+missing_head_words = (codes "--algorithm", all_of []) ∷ (codes "--fair", all_of (key nowhere (codes "algorithm") [])) ∷ []
 
 abbrev pub missing_head_by : Place → TokenView → Missing
 missing_head_by p (tk.word w) = pick w missing_head_words (all_of (a_head []))
@@ -54,7 +55,7 @@ a_process v = v.an_identity ++ v.a_body (codes "process")
 abbrev pub missing_process_words : Parts → PartsMiss → Ways → WaysMiss → ℕ → Place → List (Word × Missing)
 missing_process_words m w f v n p =
     (codes "process", past_misses (missing_process m w f v n))
-    ∷ (codes "fair", past_misses (then_misses (by_next (fair_by p)) (all_of []) (a_word (codes "process") (a_process v)) (λ a. key_then (codes "process") (a_process v) (λ q. missing_process m w f v n))))
+    ∷ (codes "fair", past_misses (then_misses (by_next (fair_by p)) (all_of []) (key nowhere (codes "process") (a_process v)) (λ a. key_then (codes "process") (a_process v) (λ q. missing_process m w f v n))))
     ∷ []
 
 -- ---- those that come
@@ -98,4 +99,4 @@ missing_define v n = by_next_misses (missing_define_by v n)
 -- the word of the first process; another word is none
 abbrev pub missing_main_processes : Parts → PartsMiss → Ways → WaysMiss → ℕ → Place → Word → Missing
 missing_main_processes m w f v n p z =
-    then_misses (pick z (process_words m f n p) refuses) (pick z (missing_process_words m w f v n p) (all_of (a_word (codes "process") (a_process v)))) [] (λ x. missing_processes m w f v n)
+    then_misses (pick z (process_words m f n p) refuses) (pick z (missing_process_words m w f v n p) (all_of (key nowhere (codes "process") (a_process v)))) [] (λ x. missing_processes m w f v n)

@@ -1,15 +1,17 @@
 -- What is missing where a simple statement is refused ("A PlusCal User's Manual", section 3).
 use Rattle.std.specs.Prelude.{ℕ, zero, suc, Bool, true, false, nat_lt, List, [], ◌∷◌, codes}
 use Rattle.tla_token.specs.declared.place.Place.{Place}
+use Rattle.tla_token.specs.Places.{nowhere}
 use Rattle.tla_tree.specs.Tree.{Word, Name}
 use Rattle.tla_tree.specs.Lexical.{TokenView, Token}
 use Rattle.tla_tree.specs.Lexical as tk
 use Rattle.tla_tree.specs.Spelling as spelled
 use Rattle.tla_tree.specs.Reader as expression
 use Rattle.tla_tree.specs.Wanted.{mark_at, word_at}
+use Rattle.pcal_tree.specs.GrammarParts.{mark}
 use Rattle.algorithm_parts.specs.TokenReaders.{Parts}
 use Rattle.algorithm_parts.specs.ReadSimple.{read_left}
-use Rattle.algorithm_parts.specs.Missing.{Missing, then_misses, by_next_misses, peek_misses, past_misses, all_of, the_mark, an_identifier, a_number, mark_then, name_then, PartsMiss, expr_then}
+use Rattle.algorithm_parts.specs.Missing.{Missing, then_misses, by_next_misses, peek_misses, past_misses, all_of, an_identifier, a_number, mark_then, name_then, PartsMiss, expr_then}
 use Rattle.algorithm_parts.specs.MissingParts.{a_close, no_list}
 
 -- ---- (a, b) of a call
@@ -35,7 +37,7 @@ missing_left m w (suc n) = peek_misses (missing_left_by m w (missing_left m w n)
 
 -- ---- l := e || m := f: `:= 0`
 abbrev pub a_new_value : List Token → List Token
-a_new_value ts = the_mark tk.assigns (a_number ts)
+a_new_value ts = mark nowhere tk.assigns (a_number ts)
 
 abbrev pub more_assignments : (Name → Missing) → Place → TokenView → Missing
 more_assignments n q (tk.mark tk.beside) = past_misses (then_misses (expression.a_word 0) (all_of (word_at 0 ∷ [])) (a_new_value []) (λ x. n (spelled.named x.0 x.1)))

@@ -12,7 +12,7 @@ use Rattle.pcal_tree.specs.Grammar.{c_syntax, Body, begin_end, braces, body, Goo
 use Rattle.pcal_tree.specs.OpenForms as form
 use Rattle.pcal_tree.specs.OpenForms.{body_opens, identity_opens, process_opens, define_opens, main_opens, opens}
 use Rattle.algorithm_parts.specs.TokenReaders.{Parts, parts_of}
-use Rattle.algorithm_parts.specs.Missing.{a_word, PartsMiss, parts_miss}
+use Rattle.algorithm_parts.specs.Missing.{PartsMiss, parts_miss}
 use Rattle.algorithm_parts.specs.MissingRoutines.{a_head}
 use Rattle.algorithm_parts.proofs.Sound.{here, sound_next}
 use Rattle.algorithm_parts.proofs.Aheads.{ahead_semicolon, ahead_section, ahead_definitions}
@@ -66,8 +66,8 @@ abbrev pub a_process : Process
 a_process = record { fair = unfair; place = nowhere; identity = bracketed nowhere some_name false nowhere some_phrase nowhere; variables = no_section; body = braces nowhere some_list nowhere None }
 
 -- its tokens are those that are told
-process_filled : Fill here [] (GoodProcess c_syntax) process process_opens none 0 12 (a_word (codes "process") (an_identity (a_block [])))
-process_filled = record { whole = a_process; good = (some_good, tt, tt); fix = a_word (codes "process") (an_identity (a_block [])); tokens = λ v. refl; given = refl; back = process_opens a_process; opens = refl; long = refl; enough = omega arith }
+process_filled : Fill here [] (GoodProcess c_syntax) process process_opens none 0 12 (key nowhere (codes "process") (an_identity (a_block [])))
+process_filled = record { whole = a_process; good = (some_good, tt, tt); fix = key nowhere (codes "process") (an_identity (a_block [])); tokens = λ v. refl; given = refl; back = process_opens a_process; opens = refl; long = refl; enough = omega arith }
 
 some_main : Fill here [] (GoodMain c_syntax) main main_opens none 0 12 (a_block [])
 some_main = (let it = block nowhere some_list nowhere None in record { whole = it; good = tt; fix = a_block []; tokens = λ v. refl; given = refl; back = main_opens it; opens = refl; long = refl; enough = omega arith })

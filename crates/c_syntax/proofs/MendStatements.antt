@@ -19,7 +19,7 @@ use Rattle.pcal_tree.specs.OpenForms.{here, plain, after_binds, simple_opens, c_
 use Rattle.algorithm_parts.specs.TokenReaders.{Parts}
 use Rattle.algorithm_parts.specs.ReadAround.{with_label}
 use Rattle.algorithm_parts.specs.ReadSimple.{simple_words}
-use Rattle.algorithm_parts.specs.Missing.{Missing, all_of, the_mark, an_identifier, a_number, PartsMiss}
+use Rattle.algorithm_parts.specs.Missing.{Missing, all_of, an_identifier, a_number, PartsMiss}
 use Rattle.algorithm_parts.specs.MissingParts.{a_close, a_value, no_list}
 use Rattle.algorithm_parts.specs.MissingSimple.{missing_simple_words}
 use Rattle.algorithm_parts.proofs.Sound.{sound_pick, sound_stays, sound_refuses}
@@ -242,7 +242,7 @@ ended_stands a s st i = (ahead_passed (ended a s st), filled (on (ended a s st))
 -- ( .. ), where d forms are open at the first bracket
 brackets_mend : {A : Type 0} {P : A → Type 0} {front : A → List Token → List Token} {counts : A → List Open} {i b : ℕ} {n : Missing} {r : Reader A} {x : List Token → List Token} {y : List Open} (part ws : List Token) (d : ℕ) (e : A → ℕ) (f : Place → A → Place → Turn) → Ahead x → IsPart P front counts i b part n r
     → length part + length ws ≤ 16 * d + 4 → b + length ws ≤ 16 * i + 5 → ((a : A) → length ws ≤ 16 * e a + 5)
-    → ((q : Place) (a : A) (s : Place) → P a → Steps (λ ts. x (mark q tk.open_bracket (front a (mark s tk.close_bracket ts)))) (((y ++ here d) ++ counts a) ++ here (e a)) ws (all_of []) (gives (f q a s))) → Steps x y (the_mark tk.open_bracket (part ++ a_close ws)) (missing_bracketed r n part ws) (bracketed r f)
+    → ((q : Place) (a : A) (s : Place) → P a → Steps (λ ts. x (mark q tk.open_bracket (front a (mark s tk.close_bracket ts)))) (((y ++ here d) ++ counts a) ++ here (e a)) ws (all_of []) (gives (f q a s))) → Steps x y (mark nowhere tk.open_bracket (part ++ a_close ws)) (missing_bracketed r n part ws) (bracketed r f)
 brackets_mend part ws d e f hx h few less least last =
     mends_bind hx (part_mark d tk.open_bracket) (let k = length-append part (a_close ws) in omega (arith, few, k))
     (λ q u hq. mends_bind hq h (omega (arith, less)) (λ a j ha. mends_bind ha (part_mark (e a) tk.close_bracket) (let k = least a in omega (arith, k)) (λ s v hs. last q a s j)))

@@ -1,14 +1,16 @@
 -- What is missing where an algorithm in C-syntax is refused ("A PlusCal User's Manual, C-Syntax Version", appendix A).
 use Rattle.std.specs.Prelude.{ℕ, suc, ◌*◌, true, List, [], length, None}
 use Rattle.tla_token.specs.declared.place.Place.{Place}
+use Rattle.tla_token.specs.Places.{nowhere}
 use Rattle.tla_tree.specs.Lexical.{TokenView, Token}
 use Rattle.tla_tree.specs.Lexical as tk
 use Rattle.tla_tree.specs.Reader.{readers}
+use Rattle.pcal_tree.specs.GrammarParts.{mark}
 use Rattle.algorithm_parts.specs.TokenReaders.{Parts, parts_of}
 use Rattle.algorithm_parts.specs.ReadParts.{read_semicolon, read_section, read_definitions}
 use Rattle.algorithm_parts.specs.ReadAround.{read_head}
 use Rattle.algorithm_parts.specs.ReadRoutines.{read_define, read_macros, read_procedures}
-use Rattle.algorithm_parts.specs.Missing.{Missing, or_after, then_misses, by_next_misses, past_misses, all_of, the_mark, an_identifier, a_number, mark_then, name_then, PartsMiss, parts_miss, expr_then}
+use Rattle.algorithm_parts.specs.Missing.{Missing, or_after, then_misses, by_next_misses, past_misses, all_of, an_identifier, a_number, mark_then, name_then, PartsMiss, parts_miss, expr_then}
 use Rattle.algorithm_parts.specs.MissingParts.{missing_section, a_close, a_meaning, missing_definitions, a_value, bind_then}
 use Rattle.algorithm_parts.specs.MissingRoutines.{missing_head, WaysMiss, missing_macros, missing_procedures, missing_define, missing_main_processes}
 use Rattle.c_syntax.specs.ReadStatements.{read_sequence}
@@ -17,10 +19,10 @@ use Rattle.c_syntax.specs.MissingStatements.{a_skip, missing_sequence}
 
 -- ---- { skip }, of a macro, a procedure, a process or the main part
 abbrev pub a_close_brace : List Token → List Token
-a_close_brace = the_mark tk.close_brace
+a_close_brace = mark nowhere tk.close_brace
 
 abbrev pub a_block : List Token → List Token
-a_block ts = the_mark tk.open_brace (a_skip (a_close_brace ts))
+a_block ts = mark nowhere tk.open_brace (a_skip (a_close_brace ts))
 
 -- `}`, and maybe a `;`
 abbrev pub missing_end : Missing
@@ -35,7 +37,7 @@ missing_body m w n = mark_then tk.open_brace (a_skip (a_close_brace [])) (λ a. 
 
 -- ---- ( x = 0 ), which process it is
 abbrev pub an_identity : List Token → List Token
-an_identity ts = the_mark tk.open_bracket (an_identifier (a_value (a_close ts)))
+an_identity ts = mark nowhere tk.open_bracket (an_identifier (a_value (a_close ts)))
 
 abbrev pub missing_identity : Parts → PartsMiss → Missing
 missing_identity m w =
@@ -47,7 +49,7 @@ abbrev pub some_definitions : List Token → List Token
 some_definitions ts = an_identifier (a_meaning (a_close_brace ts))
 
 abbrev pub a_define : List Token → List Token
-a_define ts = the_mark tk.open_brace (some_definitions ts)
+a_define ts = mark nowhere tk.open_brace (some_definitions ts)
 
 abbrev pub missing_define_from : Parts → PartsMiss → ℕ → Missing
 missing_define_from m w n = mark_then tk.open_brace (some_definitions []) (λ b. then_misses (read_definitions m n) (missing_definitions m w n) (a_close_brace []) (λ ds. missing_end))
@@ -69,11 +71,11 @@ abbrev pub a_main : List Token
 a_main = a_block (a_close_brace [])
 
 abbrev pub a_text : List Token
-a_text = an_identifier (the_mark tk.open_brace a_main)
+a_text = an_identifier (mark nowhere tk.open_brace a_main)
 
 abbrev pub missing_text : Parts → PartsMiss → ℕ → Missing
 missing_text m w n =
-    then_misses read_head missing_head a_text (λ h. name_then (the_mark tk.open_brace a_main) (λ x. mark_then tk.open_brace a_main (λ e.
+    then_misses read_head missing_head a_text (λ h. name_then (mark nowhere tk.open_brace a_main) (λ x. mark_then tk.open_brace a_main (λ e.
     then_misses (read_section true m n) (missing_section true m w n) a_main (λ vs. then_misses (read_define (ways m) n) (missing_define (ways_miss m w) n) a_main (λ d.
     then_misses (read_macros (ways m) n) (missing_macros (ways m) (ways_miss m w) n) a_main (λ ms. then_misses (read_procedures m (ways m) n) (missing_procedures m w (ways m) (ways_miss m w) n) a_main (λ ps.
     then_misses (read_main m n) (missing_main m w n) (a_close_brace []) (λ b. mark_then tk.close_brace [] (λ f. all_of [])))))))))

@@ -1,16 +1,17 @@
 -- What is missing where a list of statements in C-syntax is refused, up to the `}` after it ("A PlusCal User's Manual, C-Syntax Version", appendix A).
 use Rattle.std.specs.Prelude.{ℕ, zero, suc, Bool, true, false, List, [], ◌∷◌, ◌++◌, Option, Some, codes}
 use Rattle.tla_token.specs.declared.place.Place.{Place}
+use Rattle.tla_token.specs.Places.{nowhere}
 use Rattle.tla_tree.specs.Tree.{Word, Name}
 use Rattle.tla_tree.specs.Lexical.{TokenView, Token}
 use Rattle.tla_tree.specs.Lexical as tk
 use Rattle.tla_tree.specs.Reader.{Reader, refuses}
-use Rattle.pcal_tree.specs.GrammarParts.{no_labels}
+use Rattle.pcal_tree.specs.GrammarParts.{key, no_labels}
 use Rattle.pcal_tree.specs.GrammarC.{Labelled}
 use Rattle.algorithm_parts.specs.TokenReaders.{pick, Parts}
 use Rattle.algorithm_parts.specs.ReadParts.{read_colon, read_binds}
 use Rattle.algorithm_parts.specs.ReadSimple.{named_by, simple_words}
-use Rattle.algorithm_parts.specs.Missing.{Missing, then_misses, goes_on_missing, by_next_misses, past_misses, all_of, a_word, an_identifier, a_number, mark_then, PartsMiss}
+use Rattle.algorithm_parts.specs.Missing.{Missing, then_misses, goes_on_missing, by_next_misses, past_misses, all_of, an_identifier, a_number, mark_then, PartsMiss}
 use Rattle.algorithm_parts.specs.MissingParts.{a_close, a_value, missing_colon, missing_binds}
 use Rattle.algorithm_parts.specs.MissingSimple.{missing_named, missing_simple_words}
 use Rattle.c_syntax.specs.ReadStatements.{none, after, Stack, bottom, in_block, State, begin, ended, Turn, on, done, depth, ask_other, closed, is_divided, step, closing, rest}
@@ -22,10 +23,10 @@ rest_turn (done ss) = []
 
 -- `skip`, and `else skip`
 abbrev pub a_skip : List Token → List Token
-a_skip ts = a_word (codes "skip") ts
+a_skip ts = key nowhere (codes "skip") ts
 
 abbrev pub an_else : List Token → List Token
-an_else ts = a_word (codes "else") (a_skip ts)
+an_else ts = key nowhere (codes "else") (a_skip ts)
 
 -- ---- a statement comes
 -- ( .. ), of which the shortest part is told, and what comes after

@@ -11,7 +11,7 @@ use Rattle.algorithm_parts.specs.TokenReaders.{Parts}
 use Rattle.algorithm_parts.proofs.Whole.{then_is}
 use Rattle.algorithm_parts.specs.Owners.{Owner, in_macro, in_procedure, in_process, in_main, main_of}
 use Rattle.algorithm_parts.proofs.OneAfter.{same_read}
-use Rattle.p_syntax.specs.ReadStatements.{State, Turn, none, bottom, on, step, turned, run, word_after, ends_with, rest, open_in}
+use Rattle.p_syntax.specs.ReadStatements.{State, Turn, none, bottom, on, step, turned, run, ends_with, rest, open_in}
 use Rattle.p_syntax.specs.ReadStatements as machine
 use Rattle.p_syntax.specs.Resume.{Front, finish, main_from, resume, after_list, rest_of_all, macros_from, procedures_from, processes_from, main_rest, end_rest}
 use Rattle.p_syntax.proofs.Closing.{closed_by_rest, few_rest}
@@ -32,18 +32,18 @@ whole f ms ps b = record { head = f.head; name = f.name; around = to_end nowhere
 -- where enough steps are left
 closed_on : (m : Parts) (k j n : ℕ) (f : Front) (o : Owner) (s : State) → suc (length (rest s)) ≤ n → Closed m (suc (suc (suc k))) (suc j) n f o s
 closed_on m k j n f (in_macro ns p x xs a) s l =
-    (let w = closed_by_rest m n s nowhere (word_after (codes "macro") (word_after (codes "begin") (word_after (codes "skip") (ends_with (codes "algorithm") [])))) l in
+    (let w = closed_by_rest m n s nowhere (key nowhere (codes "macro") (key nowhere (codes "begin") (key nowhere (codes "skip") (ends_with (codes "algorithm") [])))) l in
     let y : Macro = record { place = p; name = x; parameters = xs; body = closed_body a w.0 } in
     (whole f ((ns ++ y ∷ []) ++ []) [] a_main, then_is _ (then_is _ w.1 refl) refl))
 closed_on m k j n f (in_procedure ms qs p x xs vs a) s l =
-    (let w = closed_by_rest m n s nowhere (word_after (codes "procedure") (word_after (codes "begin") (word_after (codes "skip") (ends_with (codes "algorithm") [])))) l in
+    (let w = closed_by_rest m n s nowhere (key nowhere (codes "procedure") (key nowhere (codes "begin") (key nowhere (codes "skip") (ends_with (codes "algorithm") [])))) l in
     let y : Procedure = record { place = p; name = x; parameters = xs; variables = vs; body = closed_body a w.0 } in
     (whole f ms ((qs ++ y ∷ []) ++ []) a_main, then_is _ (then_is _ w.1 refl) refl))
 closed_on m k j n f (in_process ms ps ys q p x vs a) s l =
-    (let w = closed_by_rest m n s nowhere (word_after (codes "process") (ends_with (codes "algorithm") [])) l in
+    (let w = closed_by_rest m n s nowhere (key nowhere (codes "process") (ends_with (codes "algorithm") [])) l in
     let y : Process = record { fair = q; place = p; identity = x; variables = vs; body = closed_body a w.0 } in
     (whole f ms ps (main_of ys y []), then_is _ (then_is _ w.1 refl) refl))
-closed_on m k j n f (in_main ms ps a) s l = (let w = closed_by_rest m n s nowhere (word_after (codes "algorithm") []) l in (whole f ms ps (begin a w.0), then_is _ w.1 refl))
+closed_on m k j n f (in_main ms ps a) s l = (let w = closed_by_rest m n s nowhere (key nowhere (codes "algorithm") []) l in (whole f ms ps (begin a w.0), then_is _ w.1 refl))
 
 pub all_closed : (m : Parts) (k j n : ℕ) (f : Front) (o : Owner) (s : State) → 3 ≤ k → 1 ≤ j → suc (length (rest s)) ≤ n → Closed m k j n f o s
 all_closed m zero j n f o s a b l = absurd (omega (arith, a))

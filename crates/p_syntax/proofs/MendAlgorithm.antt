@@ -14,7 +14,7 @@ use Rattle.pcal_tree.specs.Grammar as gr
 use Rattle.pcal_tree.specs.OpenForms.{body_opens, identity_opens, process_opens, define_opens, main_opens, opens}
 use Rattle.pcal_tree.specs.OpenForms as form
 use Rattle.algorithm_parts.specs.TokenReaders.{Parts, parts_of}
-use Rattle.algorithm_parts.specs.Missing.{a_word, an_identifier, PartsMiss, parts_miss}
+use Rattle.algorithm_parts.specs.Missing.{an_identifier, PartsMiss, parts_miss}
 use Rattle.algorithm_parts.specs.MissingParts.{a_meaning, a_value}
 use Rattle.algorithm_parts.specs.MissingRoutines.{a_head, missing_main_processes}
 use Rattle.algorithm_parts.specs.MissingRoutines as wants
@@ -100,7 +100,7 @@ module _ (m : Parts) (w : PartsMiss) (h : MendsParts m w) where
   ways_mend = record {
     sound = ways_sound m h.sound;
     heads = heads;
-    process = record { whole = a_process; good = (some_good, tt, tt); fix = a_word (codes "process") (wants.a_process (ways_miss m w)); tokens = λ v. refl; given = refl; back = process_opens a_process; opens = refl; long = refl; enough = omega arith };
+    process = record { whole = a_process; good = (some_good, tt, tt); fix = key nowhere (codes "process") (wants.a_process (ways_miss m w)); tokens = λ v. refl; given = refl; back = process_opens a_process; opens = refl; long = refl; enough = omega arith };
     short_body = λ z. omega arith;
     short_identity = omega arith;
     body = part_body;

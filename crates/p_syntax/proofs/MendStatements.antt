@@ -31,7 +31,7 @@ use Rattle.algorithm_parts.proofs.Mends as part
 use Rattle.algorithm_parts.proofs.MendParts.{MendsParts, part_colon, part_binds}
 use Rattle.algorithm_parts.proofs.MendSimple.{named_mends, words_mend}
 use Rattle.p_syntax.specs.ReadStatements.{Before, none, after, Tests, if_test, elsif_test, Arms, first_arm, later_arm, Frame, in_then, in_else, in_either, in_with, in_while, Stack, bottom, inside, State, begin, ended, Turn, on, done, with_before, closed_if, closed_either}
-use Rattle.p_syntax.specs.ReadStatements.{opens, depth, after_tests, after_name, statement_words, statement_by, takes_else, takes_elsif, takes_or, ends, takes_end, closing_words, another_by, ended_by, step, turned, run, read_sequence, word_after, ends_with, closing, rest}
+use Rattle.p_syntax.specs.ReadStatements.{opens, depth, after_tests, after_name, statement_words, statement_by, takes_else, takes_elsif, takes_or, ends, takes_end, closing_words, another_by, ended_by, step, turned, run, read_sequence, ends_with, closing, rest}
 use Rattle.p_syntax.specs.MissingStatements.{rest_turn, missing_after_name, missing_statement_words, missing_statement_by, missing_elsif, missing_its_word, missing_ends, missing_closing_words, missing_another, missing_ended, missing_step, missing_turned, missing_run, missing_sequence}
 use Rattle.p_syntax.proofs.SoundStatements.{before, tests, arms, frame, stack, passed, turn, GoodBefore, GoodStack, GoodState, GoodTurn, with_before_tokens, with_before_good, closed_if_tokens, closed_if_good, closed_either_tokens, closed_either_good, step_sound, sequence_sound}
 use Rattle.p_syntax.proofs.Opened.{tests_open, arms_open, frame_opens, stack_opens, state_opens, turn_opens, with_before_opens, closed_if_opens, closed_either_opens}
@@ -148,7 +148,7 @@ list_filled (inside (in_either (first_arm p)) b ls st) d ss i =
     let bs = last_branch nowhere (last_statement no_labels (simple (g.skip nowhere)) None) in
     let e : p_branches (n + 1) bs ≡ here (n + 1) ++ here (n + 1) = refl in
     outer b ls st d.1 (list_filled st d.2) (closed_either (first_arm p) ss bs nowhere nowhere) (closed_either_good (first_arm p) ss bs nowhere nowhere d.0 i tt) (λ ts. arms (first_arm p) (sequence ss ts))
-    (word_after (codes "or") (word_after (codes "skip") (its_end (codes "either")))) (λ ts. refl) (listed ss (inside (in_either (first_arm p)) b ls st)) (arms_open n (first_arm p) ++ p_sequence (n + 1) ss) (record { expressions = 0; statements = n + 1 })
+    (key nowhere (codes "or") (key nowhere (codes "skip") (its_end (codes "either")))) (λ ts. refl) (listed ss (inside (in_either (first_arm p)) b ls st)) (arms_open n (first_arm p) ++ p_sequence (n + 1) ss) (record { expressions = 0; statements = n + 1 })
     (here (n + 1) ++ here (n + 1) ++ here (n + 1)) (ap (λ (ks : List Open). arms_open n (first_arm p) ++ p_sequence (n + 1) ss ++ ks ++ here (n + 1) ++ here (n + 1)) e ∙ simp append_assoc refl) (simp append_assoc refl) refl (let f = few_closing st in omega (arith, f)))
 list_filled (inside (in_either (later_arm t c p)) b ls st) d ss i =
     (let n = depth st in
@@ -169,7 +169,7 @@ list_filled (inside (in_while p e q) b ls st) d ss i =
 
 state_filled : (s : State) → GoodState s → Filled (passed s) (state_opens s) (rest s)
 state_filled (begin b ls st) i =
-    outer b ls st i.0 (list_filled st i.1) (simple (g.skip nowhere)) tt (λ ts. ts) (word_after (codes "skip") []) (λ ts. refl)
+    outer b ls st i.0 (list_filled st i.1) (simple (g.skip nowhere)) tt (λ ts. ts) (key nowhere (codes "skip") []) (λ ts. refl)
     (at_opens b ls st) [] (record { expressions = 0; statements = depth st }) [] refl (append-nil (at_opens b ls st)) refl (let e = few_closing st in omega (arith, e))
 state_filled (ended b ls a o st) i =
     (let ss = last_statement ls a o in
@@ -254,7 +254,7 @@ module _ (m : Parts) (w : PartsMiss) (h : MendsParts m w) where
       (mends_same (λ ts. refl) (append-nil (at_opens b ls st))
       (mends_then (at b ls st) (at_opens b ls st) (ahead_at b ls st) (sound_pick z (simple_words m p) refuses (words_sound m h.sound p) (sound_stays sound_refuses)) (λ a u. ahead_simple a)
       (mends_pick z (missing_simple_words m w) (simple_words m p) (words_mend m w h (depth st) p)
-      (mends_stays (mends_refuses held (record { whole = g.skip nowhere; good = tt; fix = word_after (codes "skip") []; tokens = λ v. refl; given = refl; back = here (depth st); opens = refl; long = refl; enough = omega arith }))))
+      (mends_stays (mends_refuses held (record { whole = g.skip nowhere; good = tt; fix = key nowhere (codes "skip") []; tokens = λ v. refl; given = refl; back = here (depth st); opens = refl; long = refl; enough = omega arith }))))
       (omega (arith, f)) (λ s l hs. mends_gives (on (ended b ls (simple s) None st)) (i, l, j) (λ ts. refl) (simp (append_assoc, append-nil) refl)))))
   statement_steps n b ls st i j p k = mends_stays (mends_refuses (ahead_at b ls st) (filled (on (begin b ls st)) (i, j) (λ ts. refl) refl))
 
@@ -370,5 +370,5 @@ module _ (m : Parts) (w : PartsMiss) (h : MendsParts m w) where
       turned_mends r (on s) i ht = r s i
       turned_mends r (done ss) i ht = mends_gives ss i (λ ts. refl) refl
 
-  pub part_sequence : (n : ℕ) → IsPart GoodSequence sequence (p_sequence 0) 0 4 (word_after (codes "skip") []) (missing_sequence m w n) (read_sequence m n)
+  pub part_sequence : (n : ℕ) → IsPart GoodSequence sequence (p_sequence 0) 0 4 (key nowhere (codes "skip") []) (missing_sequence m w n) (read_sequence m n)
   part_sequence n = record { sound = sequence_sound m h.sound n; ahead = λ a u. ahead_sequence a; mends = run_mends n (begin none no_labels bottom) (tt, tt) }

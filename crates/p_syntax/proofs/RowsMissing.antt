@@ -10,7 +10,8 @@ use Rattle.tla_tree.specs.Lexical as tk
 use Rattle.tla_tree.specs.Reader.{readers}
 use Rattle.tla_tree.specs.Wanted.{mark_at, number_at}
 use Rattle.tla_tree.specs.NeedsLists.{needs}
-use Rattle.algorithm_parts.specs.Missing.{the_mark, an_identifier, an_equal}
+use Rattle.pcal_tree.specs.GrammarParts as part
+use Rattle.algorithm_parts.specs.Missing.{an_identifier, an_equal}
 use Rattle.p_syntax.specs.MissingAlgorithm.{completion}
 
 abbrev at : Place
@@ -43,7 +44,7 @@ at_first = refl
 
 -- `procedure P (`: a parameter and the bracket, a body, and the main part
 in_parameters : completion (head ++ key (codes "procedure") ∷ word (codes "P") ∷ mark tk.open_bracket ∷ [])
-    ≡ an_identifier (the_mark tk.close_bracket (keys (codes "begin" ∷ codes "skip" ∷ codes "end" ∷ codes "procedure" ∷ codes "begin" ∷ codes "skip" ∷ codes "end" ∷ codes "algorithm" ∷ [])))
+    ≡ an_identifier (part.mark nowhere tk.close_bracket (keys (codes "begin" ∷ codes "skip" ∷ codes "end" ∷ codes "procedure" ∷ codes "begin" ∷ codes "skip" ∷ codes "end" ∷ codes "algorithm" ∷ [])))
 in_parameters = refl
 
 -- `fair process`: which it is, and a body

@@ -1,10 +1,12 @@
 -- What is missing where an algorithm is refused, and the tokens that complete what was passed ("A PlusCal User's Manual, P-Syntax Version", appendix A).
 use Rattle.std.specs.Prelude.{ℕ, suc, ◌*◌, true, List, [], ◌∷◌, length, None, codes}
 use Rattle.tla_token.specs.declared.place.Place.{Place}
+use Rattle.tla_token.specs.Places.{nowhere}
 use Rattle.tla_tree.specs.Tree.{Word}
 use Rattle.tla_tree.specs.Lexical.{TokenView, Token}
 use Rattle.tla_tree.specs.Lexical as tk
 use Rattle.tla_tree.specs.Reader.{readers}
+use Rattle.pcal_tree.specs.GrammarParts.{key}
 use Rattle.algorithm_parts.specs.TokenReaders.{pick, Parts, parts_of}
 use Rattle.algorithm_parts.specs.ReadParts.{read_semicolon, read_section, read_definitions}
 use Rattle.algorithm_parts.specs.ReadAround.{read_head}
@@ -12,7 +14,7 @@ use Rattle.algorithm_parts.specs.ReadRoutines.{read_macros, read_procedures, rea
 use Rattle.algorithm_parts.specs.Missing.{Missing, or_after, then_misses, by_next_misses, past_misses, all_of, an_identifier, a_number, key_then, name_then, PartsMiss, parts_miss, expr_then}
 use Rattle.algorithm_parts.specs.MissingParts.{missing_section, missing_definitions, a_value, bind_then}
 use Rattle.algorithm_parts.specs.MissingRoutines.{missing_head, WaysMiss, missing_macros, missing_procedures, missing_define, missing_main_processes}
-use Rattle.p_syntax.specs.ReadStatements.{read_sequence, word_after, ends_with}
+use Rattle.p_syntax.specs.ReadStatements.{read_sequence, ends_with}
 use Rattle.p_syntax.specs.ReadAlgorithm.{ways, read_main, read_text, read_algorithm}
 use Rattle.p_syntax.specs.Resume.{main_rest, end_rest}
 use Rattle.p_syntax.specs.MissingStatements.{missing_sequence}
@@ -20,8 +22,8 @@ use Rattle.p_syntax.specs.MissingStatements.{missing_sequence}
 -- ---- bodies; the word is after `end`
 abbrev pub missing_body : Parts → PartsMiss → ℕ → Word → Missing
 missing_body m w n z =
-    key_then (codes "begin") (word_after (codes "skip") (ends_with z []))
-    (λ a. then_misses (read_sequence m n) (missing_sequence m w n) (ends_with z []) (λ ss. key_then (codes "end") (word_after z []) (λ b. key_then z [] (λ d. then_misses read_semicolon (all_of []) [] (λ s. all_of [])))))
+    key_then (codes "begin") (key nowhere (codes "skip") (ends_with z []))
+    (λ a. then_misses (read_sequence m n) (missing_sequence m w n) (ends_with z []) (λ ss. key_then (codes "end") (key nowhere z []) (λ b. key_then z [] (λ d. then_misses read_semicolon (all_of []) [] (λ s. all_of [])))))
 
 -- which process it is, and `define` after its word
 abbrev pub missing_identity : Parts → PartsMiss → Missing
@@ -30,11 +32,11 @@ missing_identity m w = name_then (a_value []) (λ x. bind_then (a_number []) (λ
 abbrev pub missing_define_from : Parts → PartsMiss → ℕ → Missing
 missing_define_from m w n =
     then_misses (read_definitions m n) (missing_definitions m w n) (ends_with (codes "define") [])
-    (λ ds. key_then (codes "end") (word_after (codes "define") []) (λ b. key_then (codes "define") [] (λ d. then_misses read_semicolon (all_of []) [] (λ s. all_of []))))
+    (λ ds. key_then (codes "end") (key nowhere (codes "define") []) (λ b. key_then (codes "define") [] (λ d. then_misses read_semicolon (all_of []) [] (λ s. all_of []))))
 
 abbrev pub ways_miss : Parts → PartsMiss → WaysMiss
 ways_miss m w = record {
-  a_body = λ z. word_after (codes "begin") (word_after (codes "skip") (ends_with z []));
+  a_body = λ z. key nowhere (codes "begin") (key nowhere (codes "skip") (ends_with z []));
   an_identity = an_identifier (a_value []);
   body = missing_body m w;
   identity = missing_identity m w;
@@ -43,7 +45,7 @@ ways_miss m w = record {
 
 -- ---- the whole
 abbrev pub a_main : List Token
-a_main = word_after (codes "begin") (word_after (codes "skip") [])
+a_main = key nowhere (codes "begin") (key nowhere (codes "skip") [])
 
 abbrev pub missing_main_words : Parts → PartsMiss → ℕ → List (Word × Missing)
 missing_main_words m w n = (codes "begin", past_misses (then_misses (read_sequence m n) (missing_sequence m w n) [] (λ ss. all_of []))) ∷ []
@@ -63,7 +65,7 @@ missing_text m w n =
     (λ vs. then_misses (read_define (ways m) n) (missing_define (ways_miss m w) n) main_rest
     (λ d. then_misses (read_macros (ways m) n) (missing_macros (ways m) (ways_miss m w) n) main_rest
     (λ ms. then_misses (read_procedures m (ways m) n) (missing_procedures m w (ways m) (ways_miss m w) n) main_rest
-    (λ ps. then_misses (read_main m n) (missing_main m w n) end_rest (λ b. key_then (codes "end") (word_after (codes "algorithm") []) (λ e. key_then (codes "algorithm") [] (λ f. all_of [])))))))))
+    (λ ps. then_misses (read_main m n) (missing_main m w n) end_rest (λ b. key_then (codes "end") (key nowhere (codes "algorithm") []) (λ e. key_then (codes "algorithm") [] (λ f. all_of [])))))))))
 
 -- where any number of forms may be open, and past the last token nothing
 abbrev pub missing_algorithm : Missing

@@ -1,18 +1,19 @@
 -- What is missing where a list of statements is refused, up to the `end` after it ("A PlusCal User's Manual, P-Syntax Version", appendix A).
 use Rattle.std.specs.Prelude.{ℕ, zero, suc, List, [], ◌∷◌, Option, Some, codes}
 use Rattle.tla_token.specs.declared.place.Place.{Place}
+use Rattle.tla_token.specs.Places.{nowhere}
 use Rattle.tla_tree.specs.Tree.{Word, Name}
 use Rattle.tla_tree.specs.Lexical.{TokenView, Token}
 use Rattle.tla_tree.specs.Lexical as tk
 use Rattle.tla_tree.specs.Reader.{refuses}
-use Rattle.pcal_tree.specs.GrammarParts.{no_labels}
+use Rattle.pcal_tree.specs.GrammarParts.{key, no_labels}
 use Rattle.algorithm_parts.specs.TokenReaders.{pick, Parts}
 use Rattle.algorithm_parts.specs.ReadParts.{read_colon, read_binds}
 use Rattle.algorithm_parts.specs.ReadSimple.{named_by, simple_words}
 use Rattle.algorithm_parts.specs.Missing.{Missing, then_misses, goes_on_missing, by_next_misses, past_misses, all_of, key_then, PartsMiss, expr_then}
 use Rattle.algorithm_parts.specs.MissingParts.{missing_colon, missing_binds}
 use Rattle.algorithm_parts.specs.MissingSimple.{missing_named, missing_simple_words}
-use Rattle.p_syntax.specs.ReadStatements.{none, first_arm, later_arm, in_then, in_else, in_either, in_with, in_while, Stack, bottom, inside, depth, State, begin, ended, Turn, on, done, step, word_after, ends_with, closing, rest}
+use Rattle.p_syntax.specs.ReadStatements.{none, first_arm, later_arm, in_then, in_else, in_either, in_with, in_while, Stack, bottom, inside, depth, State, begin, ended, Turn, on, done, step, ends_with, closing, rest}
 
 -- what comes after the place where a step goes
 abbrev pub rest_turn : Turn → List Token
@@ -22,7 +23,7 @@ rest_turn (done ss) = []
 -- ---- a statement comes
 -- the shortest list in a new form, and what closes all that is open then
 abbrev pub a_list : Word → Stack → List Token
-a_list z st = word_after (codes "skip") (ends_with z (closing st))
+a_list z st = key nowhere (codes "skip") (ends_with z (closing st))
 
 -- a word, and the list after it
 abbrev pub list_after : Word → Word → Stack → Missing
@@ -30,25 +31,25 @@ list_after v z st = key_then v (a_list z st) (λ q. all_of [])
 
 -- an expression, and the word after it
 abbrev pub test_then : Parts → PartsMiss → Word → Word → Stack → Missing
-test_then m w v z st = expr_then m w (word_after v (a_list z st)) (λ e. list_after v z st)
+test_then m w v z st = expr_then m w (key nowhere v (a_list z st)) (λ e. list_after v z st)
 
 abbrev pub missing_after_name : Parts → PartsMiss → ℕ → Stack → Name → Place → TokenView → Missing
-missing_after_name m w n st x p (tk.mark tk.colon) = then_misses read_colon missing_colon (word_after (codes "skip") (closing st)) (λ c. all_of [])
+missing_after_name m w n st x p (tk.mark tk.colon) = then_misses read_colon missing_colon (key nowhere (codes "skip") (closing st)) (λ c. all_of [])
 missing_after_name m w n st x p k = then_misses (named_by m n x p k) (missing_named m w n x p k) (closing st) (λ s. all_of [])
 
 abbrev pub missing_statement_words : Parts → PartsMiss → ℕ → Stack → List (Word × Missing)
 missing_statement_words m w n st =
     (codes "if", past_misses (test_then m w (codes "then") (codes "if") st))
     ∷ (codes "either", all_of [])
-    ∷ (codes "with", past_misses (then_misses (read_binds m n (depth st)) (missing_binds m w n (depth st)) (word_after (codes "do") (a_list (codes "with") st)) (λ bs. list_after (codes "do") (codes "with") st)))
+    ∷ (codes "with", past_misses (then_misses (read_binds m n (depth st)) (missing_binds m w n (depth st)) (key nowhere (codes "do") (a_list (codes "with") st)) (λ bs. list_after (codes "do") (codes "with") st)))
     ∷ (codes "while", past_misses (test_then m w (codes "do") (codes "while") st))
     ∷ []
 
 abbrev pub missing_statement_by : Parts → PartsMiss → ℕ → Stack → Place → TokenView → Missing
 missing_statement_by m w n st p (tk.word x) = past_misses (by_next_misses (missing_after_name m w n st (record { place = p; word = x })))
 missing_statement_by m w n st p (tk.reserved z) =
-    pick z (missing_statement_words m w n st) (then_misses (pick z (simple_words m p) refuses) (pick z (missing_simple_words m w) (all_of (word_after (codes "skip") []))) (closing st) (λ s. all_of []))
-missing_statement_by m w n st p k = all_of (word_after (codes "skip") (closing st))
+    pick z (missing_statement_words m w n st) (then_misses (pick z (simple_words m p) refuses) (pick z (missing_simple_words m w) (all_of (key nowhere (codes "skip") []))) (closing st) (λ s. all_of []))
+missing_statement_by m w n st p k = all_of (key nowhere (codes "skip") (closing st))
 
 -- ---- a list ends
 abbrev pub missing_elsif : Parts → PartsMiss → Stack → Missing

@@ -7,7 +7,7 @@ use Rattle.tla_tree.specs.Lexical.{TokenView, Token, token}
 use Rattle.tla_tree.specs.Lexical as tk
 use Rattle.tla_tree.specs.Spelling.{Phrase}
 use Rattle.tla_tree.specs.Reader.{Reader, ◌>>=◌, gives, refuses, skip}
-use Rattle.pcal_tree.specs.GrammarParts.{Labels, no_labels, Binds, Simple}
+use Rattle.pcal_tree.specs.GrammarParts.{key, Labels, no_labels, Binds, Simple}
 use Rattle.pcal_tree.specs.GrammarP.{Statement, simple, branch, either, with, while, Else, no_else, else_then, else_if, Branches, last_branch, more_branches, Sequence, last_statement, more_statements}
 use Rattle.pcal_tree.specs.OpenForms.{after_binds}
 use Rattle.algorithm_parts.specs.TokenReaders.{by_next, a_key, pick, Parts}
@@ -169,25 +169,22 @@ abbrev pub read_sequence : Parts → ℕ → Reader Sequence
 read_sequence m n = run m n (begin none no_labels bottom)
 
 -- ---- what closes what stands open
-abbrev pub word_after : Word → List Token → List Token
-word_after w ts = token nowhere (tk.reserved w) ∷ ts
-
 abbrev pub ends_with : Word → List Token → List Token
-ends_with w ts = word_after (codes "end") (word_after w ts)
+ends_with w ts = key nowhere (codes "end") (key nowhere w ts)
 
 -- after a statement; the first branch of an `either` wants another one
 abbrev pub closing : Stack → List Token
 closing bottom = []
 closing (inside (in_then t) b ls st) = ends_with (codes "if") (closing st)
 closing (inside (in_else t a p) b ls st) = ends_with (codes "if") (closing st)
-closing (inside (in_either (first_arm p)) b ls st) = word_after (codes "or") (word_after (codes "skip") (ends_with (codes "either") (closing st)))
+closing (inside (in_either (first_arm p)) b ls st) = key nowhere (codes "or") (key nowhere (codes "skip") (ends_with (codes "either") (closing st)))
 closing (inside (in_either (later_arm t a p)) b ls st) = ends_with (codes "either") (closing st)
 closing (inside (in_with p bs q) b ls st) = ends_with (codes "with") (closing st)
 closing (inside (in_while p e q) b ls st) = ends_with (codes "while") (closing st)
 
 -- up to the `end` after the list
 abbrev pub rest : State → List Token
-rest (begin b ls st) = word_after (codes "skip") (closing st)
+rest (begin b ls st) = key nowhere (codes "skip") (closing st)
 rest (ended b ls a o st) = closing st
 
 abbrev pub open_in : State → ℕ

@@ -1,17 +1,18 @@
 -- Where reading stands inside the lists of statements of an algorithm, and what closes all that stands open there ("A PlusCal User's Manual, P-Syntax Version", appendix A).
 use Rattle.std.specs.Prelude.{ℕ, true, List, [], ◌∷◌, ◌++◌, codes}
 use Rattle.tla_token.specs.declared.place.Place.{Place}
+use Rattle.tla_token.specs.Places.{nowhere}
 use Rattle.tla_tree.specs.Tree.{Word, Name}
 use Rattle.tla_tree.specs.Lexical.{Token}
 use Rattle.tla_tree.specs.Reader.{Reader, ◌>>=◌, gives}
-use Rattle.pcal_tree.specs.GrammarParts.{Section}
+use Rattle.pcal_tree.specs.GrammarParts.{key, Section}
 use Rattle.pcal_tree.specs.Grammar.{Body, begin_end, Macro, Procedure, Process, Head, Define, Main, begin, to_end, Text}
 use Rattle.algorithm_parts.specs.TokenReaders.{a_key, a_name, Parts}
 use Rattle.algorithm_parts.specs.ReadParts.{read_semicolon, read_section}
 use Rattle.algorithm_parts.specs.ReadAround.{read_head}
 use Rattle.algorithm_parts.specs.ReadRoutines.{read_define, read_macros, read_procedures, read_processes}
 use Rattle.algorithm_parts.specs.Owners.{Owner, in_macro, in_procedure, in_process, in_main, main_of}
-use Rattle.p_syntax.specs.ReadStatements.{State, run, word_after, ends_with, rest}
+use Rattle.p_syntax.specs.ReadStatements.{State, run, ends_with, rest}
 use Rattle.p_syntax.specs.ReadAlgorithm.{ways, read_main}
 
 -- what stands before the macros
@@ -63,7 +64,7 @@ resume m k j n f (in_main ms ps a) s = run m n s >>= λ ss. finish f ms ps (begi
 -- ---- what closes all that stands open
 -- where the main part may come, and after a process
 abbrev pub main_rest : List Token
-main_rest = word_after (codes "begin") (word_after (codes "skip") (ends_with (codes "algorithm") []))
+main_rest = key nowhere (codes "begin") (key nowhere (codes "skip") (ends_with (codes "algorithm") []))
 
 abbrev pub end_rest : List Token
 end_rest = ends_with (codes "algorithm") []
