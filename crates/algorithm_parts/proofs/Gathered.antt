@@ -2,7 +2,9 @@
 use Rattle.std.proofs.Common.{◌≡◌, ℕ, zero, suc, ◌+◌, ◌<◌, ◌≤◌, List, [], ◌∷◌, ◌++◌, length, map, Ok, Err, refl, sym, ap, ◌∙◌, subst, arith, length-append}
 use Rattle.std.proofs.lemmas.List.{append_assoc, length-map, map-append}
 use Rattle.tla_token.specs.declared.token.Tokens.{Tokens}
+use Rattle.tla_token.specs.declared.rule.Rule.TheVariants as rule
 use Rattle.tla_tree.specs.Tree.{Tree}
+use Rattle.tla_tree.specs.Lexical.{Token}
 use Rattle.tla_tree.specs.Pool.{Keeps}
 use Rattle.tla_tree.specs.Reader.{Out, Reader, ◌>>=◌, then_read, gives}
 use Rattle.expression_parts.specs.declared.cursor.Halt.{Halt}
@@ -40,6 +42,10 @@ pub fails_then : {A B : Type 0} (e : Halt) (o : Out A) (f : A → Reader B) → 
 fails_then halt.Memory o f h = tt
 fails_then (halt.Refused r n) (Ok x) f h = absurd h
 fails_then (halt.Refused r n) (Err s) f h = h
+
+-- it is refused by the rule of syntax there
+pub refused_as : {A : Type 0} (e : Halt) (us : List Token) (o : Out A) → e ≡ halt.Refused rule.Syntax (length us) → o ≡ Err (rule.Syntax, us) → Fails e o
+refused_as e us o h g = rw h (rw g (refl, refl))
 
 -- two that are read one after the other, as a pair
 pair_on : {A B C : Type 0} (a : A) (o : Out B) (f : A → B → Reader C) → then_read o (f a) ≡ then_read {A = A × B} (then_read o (λ b. gives (a, b))) (λ z. f z.0 z.1)

@@ -229,9 +229,6 @@ pub none_goes : (m : Parts) (n : ℕ) (ts : List Tree) (q : Option Stack) (us : 
 none_goes m n ts None us h = refl
 none_goes m n ts (Some st) us h = absurd h
 
-pub refused_as : {A : Type 0} (e : Halt) (us : List Token) (o : Out A) → e ≡ halt.Refused rule.Syntax (length us) → o ≡ Err (rule.Syntax, us) → Fails e o
-refused_as e us o h g = rw h (rw g (refl, refl))
-
 -- ---- its `;`
 its_semicolon : (d : Bool) (k : TokenView) → is_its_semicolon d k ≡ true → (d ≡ false) × (is_mark tk.semicolon k ≡ true)
 its_semicolon true k e = (let no : false ≡ true = e in absurd cc)

@@ -21,12 +21,11 @@ use Rattle.algorithm_parts.specs.ReadParts.{read_section}
 use Rattle.algorithm_parts.specs.ReadAround.{read_head, to_last}
 use Rattle.algorithm_parts.specs.ReadRoutines.{read_define, read_macros, read_procedures}
 use Rattle.algorithm_parts.specs.PartsRead.{StandsFor, parts_in}
-use Rattle.algorithm_parts.proofs.Gathered.{fails_then}
+use Rattle.algorithm_parts.proofs.Between.{ahead_length}
 use Rattle.algorithm_parts.proofs.OneAfter.{then_same, then_assoc}
 use Rattle.routine_parts.specs.ReadWhole.{read_whole}
 use Rattle.c_syntax.specs.ReadAlgorithm.{ways, read_main, read_text, read_limited_algorithm}
 use Rattle.c_syntax.specs.Around.{frames}
-use Rattle.c_syntax.proofs.AfterStatement.{refused_as}
 
 text_is_whole : (m : Parts) (n : ℕ) (ts : List Token) → read_text m n ts ≡ read_whole m (ways m) (frames m) n ts
 text_is_whole m n ts =
@@ -40,38 +39,12 @@ text_is_whole m n ts =
     (λ ps cs. then_same (read_main m n cs) _ _
     (λ b ds. sym (then_assoc (a_mark close_brace ds) (λ f. gives (in_braces e f)) (λ a. gives (record { head = h; name = x; around = a; variables = ss; define = d; macros = ms; procedures = ps; main = b })))))))))))
 
-ahead_length : (v : Tokens) (i : ℕ) → i ≤ length v.items.items → length (ahead v i) + i ≡ length v.items.items
-ahead_length v i h = (let see : code_token.Token → Token = λ t. view (token_seen v.bytes.items t) in omega (arith, h, length-map (drop i v.items.items) see, length-drop i v.items.items))
-
 all_ahead : (v : Tokens) → length (ahead v 0) ≡ length v.items.items
 all_ahead v = omega (arith, ahead_length v 0 (omega arith))
 
-pub limited_is_whole : (v : Tokens) → read_limited_algorithm (ahead v 0) ≡ then_read (read_whole (parts_in v) (ways (parts_in v)) (frames (parts_in v)) (suc (length v.items.items)) (ahead v 0)) to_last
-limited_is_whole v =
-    ap (λ (k : ℕ). then_read (read_text (limited_parts (4 * k)) (suc k) (ahead v 0)) to_last) (all_ahead v) ∙ ap (λ (o : Out Text). then_read o to_last) (text_is_whole (parts_in v) (suc (length v.items.items)) (ahead v 0))
-
--- ---- nothing stands behind it
 abbrev pub whole : Tokens → Out Text
 whole v = read_whole (parts_in v) (ways (parts_in v)) (frames (parts_in v)) (suc (length v.items.items)) (ahead v 0)
 
-none_behind : (v : Tokens) (i : ℕ) (a : Text) (ts : List Token) → length ts + i ≡ length v.items.items → length v.items.items ≤ i → to_last a ts ≡ Ok (a, ts)
-none_behind v i a [] e h = refl
-none_behind v i a (t ∷ ts) e h = absurd (omega (arith, e, h))
-
-some_behind : (v : Tokens) (i : ℕ) (a : Text) (ts : List Token) → length ts + i ≡ length v.items.items → i < length v.items.items → to_last a ts ≡ Err (rule.Syntax, ts)
-some_behind v i a [] e h = absurd (omega (arith, e, h))
-some_behind v i a (t ∷ ts) e h = refl
-
-module _ (v : Tokens) where
-  last_is : (i : ℕ) (a : Text) → whole v ≡ Ok (a, ahead v i) → read_limited_algorithm (ahead v 0) ≡ to_last a (ahead v i)
-  last_is i a e = limited_is_whole v ∙ ap (λ (o : Out Text). then_read o to_last) e
-
-  pub ends_there : (us : List Tree) (x : Algorithm) (i : ℕ) → i ≤ length v.items.items → length v.items.items ≤ i → Reads (StandsFor algorithm_at past_algorithm algorithm_of us x) (ahead v i) (whole v)
-      → Reads (StandsFor algorithm_at past_algorithm algorithm_of us x) (ahead v i) (read_limited_algorithm (ahead v 0))
-  ends_there us x i b h r = record { what = r.what; is = last_is i r.what r.is ∙ none_behind v i r.what (ahead v i) (ahead_length v i b) h; told = r.told }
-
-  pub goes_further : (us : List Tree) (x : Algorithm) (e : Halt) (i : ℕ) → i ≤ length v.items.items → i < length v.items.items → e ≡ halt.Refused rule.Syntax (length (ahead v i)) → Reads (StandsFor algorithm_at past_algorithm algorithm_of us x) (ahead v i) (whole v) → Fails e (read_limited_algorithm (ahead v 0))
-  goes_further us x e i b h k r = refused_as e (ahead v i) (read_limited_algorithm (ahead v 0)) k (last_is i r.what r.is ∙ some_behind v i r.what (ahead v i) (ahead_length v i b) h)
-
-  pub whole_fails : (e : Halt) → Fails e (whole v) → Fails e (read_limited_algorithm (ahead v 0))
-  whole_fails e h = subst (Fails e) (sym (limited_is_whole v)) (fails_then e (whole v) to_last h)
+pub limited_is_whole : (v : Tokens) → read_limited_algorithm (ahead v 0) ≡ then_read (whole v) to_last
+limited_is_whole v =
+    ap (λ (k : ℕ). then_read (read_text (limited_parts (4 * k)) (suc k) (ahead v 0)) to_last) (all_ahead v) ∙ ap (λ (o : Out Text). then_read o to_last) (text_is_whole (parts_in v) (suc (length v.items.items)) (ahead v 0))

@@ -16,6 +16,7 @@ use Rattle.pcal_tree.specs.GrammarC.{Labelled, labelled_tokens, labelled_ends_in
 use Rattle.expression_parts.specs.declared.cursor.Halt.{Halt}
 use Rattle.expression_parts.specs.ReadIn.{Told}
 use Rattle.expression_parts.specs.Ahead.{ahead}
+use Rattle.algorithm_parts.specs.StatementsRead.{is_none}
 use Rattle.algorithm_parts.specs.TokenReaders.{by_next, a_name, pick, Parts}
 use Rattle.algorithm_parts.specs.PartsRead.{StandsFor, parts_in, StepLess}
 use Rattle.algorithm_parts.specs.SimpleRead.{simple_reader}
@@ -92,10 +93,6 @@ in_list ts (s ∷ ss) rest = stmt_at ts s (in_list ts ss rest)
 abbrev pub in_branches : List Tree → List (Vec Stmt Global) → Branches → Branches
 in_branches ts [] rest = rest
 in_branches ts (b ∷ bs) rest = tree.or (statements_at ts b.items) (in_branches ts bs rest)
-
-abbrev pub is_none : {A : Type 0} → List A → Bool
-is_none [] = true
-is_none (x ∷ xs) = false
 
 -- ---- what stands for what, over the trees of a pool
 

@@ -26,7 +26,8 @@ use Rattle.p_syntax.specs.declared.open.Frame.TheVariants as frame
 use Rattle.p_syntax.specs.declared.open.Open.{Open}
 use Rattle.p_syntax.specs.declared.open.Point.TheVariants as point
 use Rattle.p_syntax.specs.declared.open.State.{State}
-use Rattle.p_syntax.specs.StatesRead.{so_far, past_one, tests_place, tests_tree, tests_list, arms_place, arms_tree, nested, past_test, is_none, before_rest, ThenStands, ElseStands, EitherStands, FrameStands, OpenStands, StackStands, Stands, StateStands, list_at, past_list}
+use Rattle.algorithm_parts.specs.StatementsRead.{is_none}
+use Rattle.p_syntax.specs.StatesRead.{so_far, past_one, tests_place, tests_tree, tests_list, arms_place, arms_tree, nested, past_test, before_rest, ThenStands, ElseStands, EitherStands, FrameStands, OpenStands, StackStands, Stands, StateStands, list_at, past_list}
 use Rattle.p_syntax.proofs.InLists.{nested-append, in_branches-append, in_branches-all, one_more_stands}
 use Rattle.p_syntax.proofs.Ends.{Puts, spell_puts, binds_puts, sequence_puts, else_puts, branches_puts, last_put}
 use Rattle.p_syntax.proofs.SoundStatements.{tests, arms, closed_if_tokens, closed_either_tokens}

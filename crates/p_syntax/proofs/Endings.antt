@@ -28,7 +28,8 @@ use Rattle.p_syntax.specs.declared.open.Frame.TheVariants as frame
 use Rattle.p_syntax.specs.declared.open.Point.TheVariants as point
 use Rattle.p_syntax.specs.declared.open.State.{State}
 use Rattle.p_syntax.specs.declared.open.Turn.TheVariants as turn
-use Rattle.p_syntax.specs.StatesRead.{so_far, is_none, ThenStands, ElseStands, EitherStands, FrameStands, Stands, TurnStands, list_at, past_list}
+use Rattle.algorithm_parts.specs.StatementsRead.{is_none}
+use Rattle.p_syntax.specs.StatesRead.{so_far, ThenStands, ElseStands, EitherStands, FrameStands, Stands, TurnStands, list_at, past_list}
 use Rattle.p_syntax.specs.StepsRead.{test_reader}
 use Rattle.algorithm_parts.proofs.Gathered.{as_pair, fails_then}
 use Rattle.algorithm_parts.proofs.StatementSteps.{goes_on}

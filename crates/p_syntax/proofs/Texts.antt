@@ -18,7 +18,6 @@ use Rattle.algorithm_parts.specs.ReadAround.{read_head, to_last}
 use Rattle.algorithm_parts.specs.ReadRoutines.{read_define, read_macros, read_procedures}
 use Rattle.algorithm_parts.specs.PartsRead.{StandsFor, parts_in}
 use Rattle.algorithm_parts.proofs.Between.{ahead_length}
-use Rattle.algorithm_parts.proofs.Gathered.{fails_then}
 use Rattle.algorithm_parts.proofs.OneAfter.{then_same, then_assoc}
 use Rattle.routine_parts.specs.ReadWhole.{read_whole}
 use Rattle.p_syntax.specs.ReadAlgorithm.{ways, read_main, read_text, read_limited_algorithm}
@@ -41,33 +40,7 @@ text_is_whole m n ts =
 abbrev pub whole : Tokens → Out Text
 whole v = read_whole (parts_in v) (ways (parts_in v)) (frames (parts_in v)) (suc (length v.items.items)) (ahead v 0)
 
-limited_is_whole : (v : Tokens) → read_limited_algorithm (ahead v 0) ≡ then_read (whole v) to_last
+pub limited_is_whole : (v : Tokens) → read_limited_algorithm (ahead v 0) ≡ then_read (whole v) to_last
 limited_is_whole v =
     let all : length (ahead v 0) ≡ length v.items.items = omega (arith, ahead_length v 0 (omega arith)) in
     ap (λ (k : ℕ). then_read (read_text (limited_parts (4 * k)) (suc k) (ahead v 0)) to_last) all ∙ ap (λ (o : Out Text). then_read o to_last) (text_is_whole (parts_in v) (suc (length v.items.items)) (ahead v 0))
-
--- ---- nothing stands behind it
-none_behind : (v : Tokens) (i : ℕ) (a : Text) (ts : List Token) → length ts + i ≡ length v.items.items → length v.items.items ≤ i → to_last a ts ≡ Ok (a, ts)
-none_behind v i a [] e h = refl
-none_behind v i a (t ∷ ts) e h = absurd (omega (arith, e, h))
-
-some_behind : (v : Tokens) (i : ℕ) (a : Text) (ts : List Token) → length ts + i ≡ length v.items.items → i < length v.items.items → to_last a ts ≡ Err (rule.Syntax, ts)
-some_behind v i a [] e h = absurd (omega (arith, e, h))
-some_behind v i a (t ∷ ts) e h = refl
-
-refused_as : {A : Type 0} (e : Halt) (us : List Token) (o : Out A) → e ≡ halt.Refused rule.Syntax (length us) → o ≡ Err (rule.Syntax, us) → Fails e o
-refused_as e us o h g = rw h (rw g (refl, refl))
-
-module _ (v : Tokens) where
-  last_is : (i : ℕ) (a : Text) → whole v ≡ Ok (a, ahead v i) → read_limited_algorithm (ahead v 0) ≡ to_last a (ahead v i)
-  last_is i a e = limited_is_whole v ∙ ap (λ (o : Out Text). then_read o to_last) e
-
-  pub ends_there : (us : List Tree) (x : Algorithm) (i : ℕ) → i ≤ length v.items.items → length v.items.items ≤ i → Reads (StandsFor algorithm_at past_algorithm algorithm_of us x) (ahead v i) (whole v)
-      → Reads (StandsFor algorithm_at past_algorithm algorithm_of us x) (ahead v i) (read_limited_algorithm (ahead v 0))
-  ends_there us x i b h r = record { what = r.what; is = last_is i r.what r.is ∙ none_behind v i r.what (ahead v i) (ahead_length v i b) h; told = r.told }
-
-  pub goes_further : (us : List Tree) (x : Algorithm) (e : Halt) (i : ℕ) → i ≤ length v.items.items → i < length v.items.items → e ≡ halt.Refused rule.Syntax (length (ahead v i)) → Reads (StandsFor algorithm_at past_algorithm algorithm_of us x) (ahead v i) (whole v) → Fails e (read_limited_algorithm (ahead v 0))
-  goes_further us x e i b h k r = refused_as e (ahead v i) (read_limited_algorithm (ahead v 0)) k (last_is i r.what r.is ∙ some_behind v i r.what (ahead v i) (ahead_length v i b) h)
-
-  pub whole_fails : (e : Halt) → Fails e (whole v) → Fails e (read_limited_algorithm (ahead v 0))
-  whole_fails e h = subst (Fails e) (sym (limited_is_whole v)) (fails_then e (whole v) to_last h)

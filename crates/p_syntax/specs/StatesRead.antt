@@ -11,6 +11,7 @@ use Rattle.pcal_tree.specs.Algorithm as tree
 use Rattle.pcal_tree.specs.InMemory.{stmt_at, statements_at, binds_at, past_each, past_statements, past_binds, past_branches}
 use Rattle.pcal_tree.specs.GrammarParts.{span, Labels, with_labels, binds_of}
 use Rattle.pcal_tree.specs.GrammarP as p
+use Rattle.algorithm_parts.specs.StatementsRead.{is_none}
 use Rattle.algorithm_parts.specs.PartsRead.{StandsFor}
 use Rattle.p_syntax.specs.ReadStatements as reader
 use Rattle.p_syntax.specs.ReadStatements.{Before, none, after, Tests, if_test, elsif_test, Arms, first_arm, later_arm, Stack, bottom, inside, depth}
@@ -80,10 +81,6 @@ in_branches ts (b ∷ bs) rest = tree.or (statements_at ts b.items) (in_branches
 
 abbrev pub past_test : Test → ℕ
 past_test x = max (x.test + 1) (past_statements x.then.items)
-
-abbrev pub is_none : {A : Type 0} → List A → Bool
-is_none [] = true
-is_none (x ∷ xs) = false
 
 -- one statement before others, in place of those behind it
 abbrev pub before_rest : Statements → Statements → Statements

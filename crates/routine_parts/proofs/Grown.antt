@@ -1,5 +1,5 @@
 -- Macros, procedures and processes in memory, as the pool grows that their expressions are numbers of.
-use Rattle.std.proofs.Common.{◌≡◌, ℕ, ◌≤◌, List, [], ◌∷◌, length, arith}
+use Rattle.std.proofs.Common.{List, arith}
 use Rattle.tla_tree.specs.Tree.{Tree}
 use Rattle.tla_tree.specs.Pool.{Keeps}
 use Rattle.pcal_tree.specs.InMemory.{macro_at, past_macro, procedure_at, past_procedure, process_at, past_process}

@@ -9,3 +9,4 @@ pub mod MainProcesses
 pub mod WholeRead
 pub mod TextStands
 pub mod Answered
+pub mod ToLast

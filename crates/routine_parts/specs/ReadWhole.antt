@@ -1,5 +1,5 @@
 -- Reading a whole algorithm, by readers of what the syntaxes spell in two ways ("A PlusCal User's Manual", section 3).
-use Rattle.std.specs.Prelude.{ℕ, true, List}
+use Rattle.std.specs.Prelude.{ℕ, true}
 use Rattle.tla_token.specs.declared.place.Place.{Place}
 use Rattle.tla_tree.specs.Reader.{Reader, ◌>>=◌, gives}
 use Rattle.pcal_tree.specs.Grammar.{Main, Around, Text}

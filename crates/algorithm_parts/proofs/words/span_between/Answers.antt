@@ -1,5 +1,5 @@
 -- Proves what is asked of `span_between`.
-use Rattle.std.proofs.Common.{◌≡◌, ap, ◌∙◌}
+use Rattle.std.proofs.Common.{ap, ◌∙◌}
 use Rattle.tla_tree.specs.Lexical.{Token}
 use Rattle.algorithm_parts.proofs.Between.{between}
 use Rattle.algorithm_parts.proofs.words.span_between.Goals as goal

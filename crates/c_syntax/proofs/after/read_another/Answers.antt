@@ -8,7 +8,8 @@ use Rattle.c_syntax.specs.ReadStatements.{ask_other, closed}
 use Rattle.c_syntax.specs.Takes.{BeginStands}
 use Rattle.c_syntax.specs.AfterRead.{taken, next_taken, TurnsTo}
 use Rattle.c_syntax.specs.declared.open.State.{State}
-use Rattle.c_syntax.proofs.AfterStatement.{another_as, begun_goes, none_goes, refused_as}
+use Rattle.algorithm_parts.proofs.Gathered.{refused_as}
+use Rattle.c_syntax.proofs.AfterStatement.{another_as, begun_goes, none_goes}
 use Rattle.c_syntax.proofs.after.read_another.Goals as goal
 
 pub returns-in-None-clause-read : goal.returns-in-None-clause-read

@@ -12,15 +12,13 @@ use Rattle.pcal_tree.specs.GrammarParts.{Simple, simple_tokens}
 use Rattle.pcal_tree.specs.GrammarC.{simple, labelled}
 use Rattle.algorithm_parts.specs.PartsRead.{parts_in}
 use Rattle.algorithm_parts.specs.SimpleRead.{simple_reader}
+use Rattle.algorithm_parts.proofs.Between.{ahead_length}
 use Rattle.algorithm_parts.proofs.Lengths.{grow_simple}
 use Rattle.algorithm_parts.proofs.WithinParts.{limited_sound}
 use Rattle.algorithm_parts.proofs.StatementSteps.{goes_on}
 use Rattle.c_syntax.specs.ReadStatements.{ended, on}
 use Rattle.c_syntax.proofs.Steps.{stands_kept, simple_between, simple_stands}
 use Rattle.c_syntax.proofs.opening.read_alone.Goals as goal
-
-ahead_length : (v : Tokens) (i : ℕ) → i ≤ length v.items.items → length (ahead v i) + i ≡ length v.items.items
-ahead_length v i h = (let see : code_token.Token → Token = λ t. view (token_seen v.bytes.items t) in omega (arith, h, length-map (drop i v.items.items) see, length-drop i v.items.items))
 
 -- a statement has a token
 past_one_token : (v : Tokens) (i j : ℕ) (s : Simple) → i ≤ length v.items.items → j ≤ length v.items.items → ahead v i ≡ simple_tokens s [] ++ ahead v j → i < j

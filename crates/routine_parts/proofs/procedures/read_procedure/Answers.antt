@@ -1,7 +1,6 @@
 -- Proves what is asked of `read_procedure`.
 use Rattle.std.proofs.Common.{arith}
 use Rattle.std.proofs.lemmas.Result.{err_from_is_err_and}
-use Rattle.tla_tree.proofs.PoolNumbers.{Keeps-then}
 use Rattle.algorithm_parts.specs.PartsRead.{parts_in}
 use Rattle.routine_parts.proofs.ProcedureRounds.{procedure_read, no_procedure_parameters, no_procedure_variables, no_procedure_body}
 use Rattle.routine_parts.proofs.procedures.read_procedure.Goals as goal
