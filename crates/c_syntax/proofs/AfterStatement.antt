@@ -10,9 +10,7 @@ use Rattle.tla_tree.specs.Lexical.{TokenView, Token}
 use Rattle.tla_tree.specs.Lexical as tk
 use Rattle.tla_tree.specs.Reader.{Out, Reader, refuses, tail, is_mark}
 use Rattle.tla_tree.proofs.SoundTokens.{mark_is}
-use Rattle.expression_parts.specs.declared.cursor.Halt.{Halt}
-use Rattle.expression_parts.specs.declared.cursor.Halt.TheVariants as halt
-use Rattle.expression_parts.specs.ReadIn.{Reads, Fails}
+use Rattle.expression_parts.specs.ReadIn.{Reads}
 use Rattle.expression_parts.specs.Ahead.{ahead}
 use Rattle.expression_parts.proofs.AheadLemmas.{ahead_tail}
 use Rattle.pcal_tree.specs.declared.algorithm.Stmt.{Stmt}

@@ -1,5 +1,5 @@
 -- What comes where a statement may, by the next word.
-use Rattle.std.proofs.Common.{◌≡◌, ℕ, ◌-◌, ◌<◌, ◌≤◌, Bool, true, false, ◌&&◌, List, [], ◌∷◌, length, drop, length-drop, arith, Result, None, is_some, if◌then◌else◌, refl, sym, ap, subst, ◌∙◌, codes}
+use Rattle.std.proofs.Common.{◌≡◌, ℕ, ◌<◌, ◌≤◌, Bool, true, false, ◌&&◌, List, [], ◌∷◌, length, drop, length-drop, arith, Result, is_some, if◌then◌else◌, refl, sym, ap, subst, ◌∙◌, codes}
 use Rattle.std.specs.Str.{bytes_eq}
 use Rattle.tla_token.specs.declared.place.Place.{Place}
 use Rattle.tla_token.specs.declared.token.Token as code_token
@@ -17,12 +17,11 @@ use Rattle.tla_tree.specs.Lexical as tk
 use Rattle.tla_tree.specs.Reader.{Out, Reader, ◌>>=◌, then_read, gives, refuses, took, tail, is_mark}
 use Rattle.tla_tree.proofs.SoundTokens.{mark_is}
 use Rattle.pcal_tree.specs.GrammarParts.{Labels}
-use Rattle.pcal_tree.specs.GrammarC.{simple, labelled}
-use Rattle.algorithm_parts.specs.TokenReaders.{first, by_next, is_reserved, name_of, pick, Parts}
+use Rattle.algorithm_parts.specs.TokenReaders.{first, is_reserved, name_of, pick, Parts}
 use Rattle.algorithm_parts.specs.ReadParts.{read_colon}
 use Rattle.algorithm_parts.specs.ReadAround.{with_label, within}
 use Rattle.algorithm_parts.specs.ReadSimple.{named_by, simple_words}
-use Rattle.c_syntax.specs.ReadStatements.{in_block, none, depth, before_or, either_if, opens, Stack, Turn, begin, ended, on, after_name, ends_simple, statement_words, statement_by}
+use Rattle.c_syntax.specs.ReadStatements.{in_block, none, depth, before_or, either_if, opens, Stack, Turn, begin, on, after_name, ends_simple, statement_words, statement_by}
 use Rattle.c_syntax.specs.StatesRead.{StepRead, TurnStands, opens_by, label_step, simple_step, statement_step, block_step}
 use Rattle.algorithm_parts.specs.SimpleRead.{simple_by}
 use Rattle.algorithm_parts.specs.StatementsRead.{is_label}

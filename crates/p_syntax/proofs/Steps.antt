@@ -1,5 +1,5 @@
 -- Steps in code where a statement comes: what is read, and what is held then.
-use Rattle.std.proofs.Common.{◌≡◌, ℕ, ◌+◌, ◌<◌, ◌≤◌, List, [], ◌∷◌, ◌++◌, length, Vec, Global, None, refl, sym, ap, ◌∙◌, arith}
+use Rattle.std.proofs.Common.{◌≡◌, ℕ, ◌<◌, ◌≤◌, List, [], ◌∷◌, ◌++◌, length, Vec, Global, None, refl, sym, ap, ◌∙◌, arith}
 use Rattle.tla_token.specs.declared.place.Place.{Place}
 use Rattle.tla_tree.specs.Tree.{Tree, Name}
 use Rattle.tla_tree.specs.Pool as pool

@@ -1,22 +1,15 @@
 -- A whole algorithm is read as both syntaxes have it, with `end algorithm` behind its parts.
-use Rattle.std.proofs.Common.{◌≡◌, ℕ, suc, ◌+◌, ◌*◌, ◌<◌, ◌≤◌, true, List, [], ◌∷◌, length, Ok, Err, refl, sym, ap, subst, ◌∙◌, arith, codes}
+use Rattle.std.proofs.Common.{◌≡◌, ℕ, suc, ◌*◌, true, List, length, sym, ap, ◌∙◌, arith, codes}
 use Rattle.tla_token.specs.declared.token.Tokens.{Tokens}
-use Rattle.tla_token.specs.declared.rule.Rule.TheVariants as rule
-use Rattle.tla_tree.specs.Tree.{Tree}
 use Rattle.tla_tree.specs.Lexical.{Token}
 use Rattle.tla_tree.specs.Reader.{Out, Reader, ◌>>=◌, then_read, gives}
-use Rattle.expression_parts.specs.declared.cursor.Halt.{Halt}
-use Rattle.expression_parts.specs.declared.cursor.Halt.TheVariants as halt
-use Rattle.expression_parts.specs.ReadIn.{Reads, Fails}
 use Rattle.expression_parts.specs.Ahead.{ahead}
-use Rattle.pcal_tree.specs.declared.algorithm.Algorithm.{Algorithm}
-use Rattle.pcal_tree.specs.InMemory.{algorithm_at, past_algorithm}
-use Rattle.pcal_tree.specs.Grammar.{Around, to_end, Text, algorithm_of}
+use Rattle.pcal_tree.specs.Grammar.{Around, to_end, Text}
 use Rattle.algorithm_parts.specs.TokenReaders.{a_key, a_name, Parts, limited_parts}
 use Rattle.algorithm_parts.specs.ReadParts.{read_section}
 use Rattle.algorithm_parts.specs.ReadAround.{read_head, to_last}
 use Rattle.algorithm_parts.specs.ReadRoutines.{read_define, read_macros, read_procedures}
-use Rattle.algorithm_parts.specs.PartsRead.{StandsFor, parts_in}
+use Rattle.algorithm_parts.specs.PartsRead.{parts_in}
 use Rattle.algorithm_parts.proofs.Between.{ahead_length}
 use Rattle.algorithm_parts.proofs.OneAfter.{then_same, then_assoc}
 use Rattle.routine_parts.specs.ReadWhole.{read_whole}

@@ -1,11 +1,6 @@
 -- Proves what is asked of `read_alone`.
-use Rattle.std.proofs.Common.{◌≡◌, ℕ, ◌*◌, ◌<◌, ◌≤◌, ◌++◌, [], ◌+◌, None, Ok, refl, ap, length, drop, length-drop, length-append, arith}
-use Rattle.std.proofs.lemmas.List.{length-map}
+use Rattle.std.proofs.Common.{◌≡◌, ℕ, ◌*◌, ◌<◌, ◌≤◌, ◌++◌, [], None, Ok, refl, ap, length, length-append, arith}
 use Rattle.tla_token.specs.declared.token.Tokens.{Tokens}
-use Rattle.tla_token.specs.declared.token.Token as code_token
-use Rattle.tla_token.specs.TokensSeen.{token_seen}
-use Rattle.tla_tree.specs.TokenViews.{view}
-use Rattle.tla_tree.specs.Lexical.{Token}
 use Rattle.tla_tree.specs.Reader.{gives}
 use Rattle.expression_parts.specs.Ahead.{ahead}
 use Rattle.pcal_tree.specs.GrammarParts.{Simple, simple_tokens}

@@ -1,5 +1,5 @@
 -- What the loop keeps: what is left tells the same.
-use Rattle.std.proofs.Common.{ℕ, List, length}
+use Rattle.std.proofs.Common.{List, length}
 use Rattle.tla_tree.specs.Tree.{Tree}
 use Rattle.c_syntax.specs.ReadStatements.{Stack}
 use Rattle.c_syntax.specs.StatesRead.{StackStands}

@@ -1,5 +1,5 @@
 -- Proves what is asked of `read_after`.
-use Rattle.std.proofs.Common.{◌≡◌, ℕ, List, refl, sym, subst, ◌∙◌, codes, Result}
+use Rattle.std.proofs.Common.{ℕ, List, refl, sym, subst, ◌∙◌, codes, Result}
 use Rattle.std.proofs.lemmas.Result.{err_from_is_err_and}
 use Rattle.tla_token.specs.declared.token.Tokens.{Tokens}
 use Rattle.tla_tree.specs.Tree.{Tree}
