@@ -11,39 +11,39 @@ use Rattle.pcal_tree.specs.Grammar as grammar
 use Rattle.pcal_tree.specs.Grammar.{Text, Good, spell}
 use Rattle.pcal_tree.specs.OffencesSyntax.{algorithms}
 use Rattle.pcal_tree.proofs.LinesGood.{begun}
-use Rattle.algorithm_parts.specs.Missing.{or_after, all_of}
+use Rattle.algorithm_parts.specs.Missing.{or_after, all_of, completed_by}
 use Rattle.algorithm_parts.specs.Completes.{Completes}
 use Rattle.algorithm_parts.proofs.Completing.{completes_of}
 use Rattle.algorithm_parts.proofs.StopsOf.{ReadsAll}
 use Rattle.algorithm_parts.proofs.StopsWithin.{ReadsWithin, refused_passes}
 
 module _ (syntax : grammar.Syntax) (read : Reader Text) (facts : ReadsAll syntax read) where
-  -- the tokens that complete those that were passed
-  abbrev pub completed_by : Out Text → List Token → List Token
-  completed_by o passed = or_after o (facts.missing passed) (λ x. all_of [])
+  -- by these
+  abbrev missing : List Token → List Token
+  missing = completed_by read facts.missing
 
-  pub completed : (passed more : List Token) (x : Text) → Good syntax x → spell x [] ≡ passed ++ more → Completes syntax passed (completed_by (read passed) passed)
+  pub completed : (passed more : List Token) (x : Text) → Good syntax x → spell x [] ≡ passed ++ more → Completes syntax passed (missing passed)
   completed passed more x g s = by (read passed) refl
     where
-      by : (o : Out Text) → read passed ≡ o → Completes syntax passed (completed_by o passed)
+      by : (o : Out Text) → read passed ≡ o → Completes syntax passed (or_after o (facts.missing passed) (λ x. all_of []))
       by (Ok (y, rest)) o = (let w = facts.spelled passed y rest o in record { whole = y; good = w.0; spelled = sym w.1 ∙ sym (append-nil passed); few = omega arith })
       by (Err (q, [])) o = (let m = facts.mended passed (q, []) o in subst (λ (us : List Token). Completes syntax us (facts.missing passed)) (sym (append-nil m.read) ∙ sym m.parts) (completes_of syntax m))
       by (Err (q, t ∷ rest)) o =
           let m = facts.mended passed (q, t ∷ rest) o in
           absurd (facts.through passed t rest q o m.read m.parts x g (rest ++ more) (s ∙ ap (λ (us : List Token). us ++ more) m.parts ∙ append_assoc m.read (t ∷ rest) more))
 
-  pub refused_completes : (ts passed rest : List Token) (q : Rule) → read ts ≡ Err (q, rest) → ts ≡ passed ++ rest → Completes syntax passed (completed_by (read passed) passed)
+  pub refused_completes : (ts passed rest : List Token) (q : Rule) → read ts ≡ Err (q, rest) → ts ≡ passed ++ rest → Completes syntax passed (missing passed)
   refused_completes ts passed rest q o s =
       let m = facts.mended ts (q, rest) o in
       let c = completes_of syntax m in
       let same : m.read ≡ passed = append_cancel_right m.read passed rest (sym m.parts ∙ s) in
       completed passed (facts.missing ts) c.whole c.good (c.spelled ∙ ap (λ (us : List Token). us ++ facts.missing ts) same)
 
-  pub begun_completes : (passed : List Token) → Begins (algorithms syntax) (map Some (looks passed)) → Completes syntax passed (completed_by (read passed) passed)
+  begun_completes : (passed : List Token) → Begins (algorithms syntax) (map Some (looks passed)) → Completes syntax passed (missing passed)
   begun_completes passed b = (let w = begun syntax passed b in completed passed w.1 w.0 w.2 w.3)
 
   -- what passes before the place where tokens are refused
-  pub completed_there : (ts : List Token) (n : ℕ) (r : Rule) → StopsAt (algorithms syntax) (to_end ts) n r → Completes syntax (take n ts) (completed_by (read (take n ts)) (take n ts))
+  pub completed_there : (ts : List Token) (n : ℕ) (r : Rule) → StopsAt (algorithms syntax) (to_end ts) n r → Completes syntax (take n ts) (missing (take n ts))
   completed_there ts n r s = begun_completes (take n ts) (subst (λ (ks : List (Option Look)). Begins (algorithms syntax) ks) (there ts n s.there) (passes_begins (algorithms syntax) _ s.passed))
     where
       there : (ts : List Token) (n : ℕ) → n < length (to_end ts) → take n (to_end ts) ≡ map Some (looks (take n ts))
@@ -54,5 +54,5 @@ module _ (syntax : grammar.Syntax) (read : Reader Text) (facts : ReadsAll syntax
           let k : length (take n ts) ≡ n = length-take-le n ts (omega (arith, l, long, all)) in
           ap (λ (m : ℕ). take m (to_end ts)) (sym k) ∙ ap (λ (us : List Token). take (length (take n ts)) (to_end us)) (sym s) ∙ before (take n ts) (drop n ts)
 
-pub limited_completes : (syntax : grammar.Syntax) (read limited : Reader Text) (facts : ReadsWithin syntax read limited) (ts passed rest : List Token) (q : Rule) → limited ts ≡ Err (q, rest) → ts ≡ passed ++ rest → Completes syntax passed (completed_by syntax read facts.all (read passed) passed)
+pub limited_completes : (syntax : grammar.Syntax) (read limited : Reader Text) (facts : ReadsWithin syntax read limited) (ts passed rest : List Token) (q : Rule) → limited ts ≡ Err (q, rest) → ts ≡ passed ++ rest → Completes syntax passed (completed_by read facts.all.missing passed)
 limited_completes syntax read limited facts ts passed rest q o s = begun_completes syntax read facts.all passed (passes_begins (algorithms syntax) _ (refused_passes syntax read limited facts ts passed rest q o s))

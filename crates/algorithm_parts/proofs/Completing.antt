@@ -8,10 +8,10 @@ use Rattle.pcal_tree.specs.Grammar.{Syntax, Good, spell}
 use Rattle.pcal_tree.specs.OpenForms.{opens}
 use Rattle.pcal_tree.proofs.OpensLaws.{as_many_opens}
 use Rattle.algorithm_parts.specs.Completes.{forms, Completes}
-use Rattle.algorithm_parts.proofs.Mends.{Enough, Mend, none}
+use Rattle.algorithm_parts.proofs.Mends.{Suffice, Mend, none}
 
 -- the count at the first of the tokens that complete
-count_there : (front back : List Open) (l : ℕ) → length back ≡ l → Enough 0 16 back l → l ≤ 16 * get_or (map forms (front ++ back)) (length front) 0 + 16
+count_there : (front back : List Open) (l : ℕ) → length back ≡ l → Suffice 0 16 back l → l ≤ 16 * get_or (map forms (front ++ back)) (length front) 0 + 16
 count_there [] [] l e k = omega (arith, e)
 count_there [] (o ∷ back) l e k = omega (arith, k)
 count_there (o ∷ front) back l e k = count_there front back l e k

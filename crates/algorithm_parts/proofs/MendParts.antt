@@ -16,7 +16,7 @@ use Rattle.tla_tree.proofs.Limited.{Limited, Plain, Past, told_err}
 use Rattle.tla_tree.proofs.LimitedAll.{unlimited}
 use Rattle.tla_tree.proofs.MendedLists.{mended}
 use Rattle.tla_tree.proofs.MendedCounts.{Cut, Heads}
-use Rattle.tla_tree.specs.Wanted.{Wants, completing}
+use Rattle.tla_tree.specs.Wanted.{an_x, Wants, completing}
 use Rattle.tla_tree.specs.NeedsLists.{needs}
 use Rattle.tla_tree.specs.Nesting.{counts, counts_all}
 use Rattle.tla_tree.specs.FirstStop.{Open}
@@ -30,16 +30,15 @@ use Rattle.pcal_tree.specs.OpenForms as form
 use Rattle.pcal_tree.specs.OpenForms.{within, expression_opens, initial_opens, variables_open, section_opens, parameters_open, procedure_parameters_open, definitions_open, binds_open}
 use Rattle.algorithm_parts.specs.TokenReaders.{past, Parts, parts_of}
 use Rattle.algorithm_parts.specs.Missing.{all_of, an_identifier, an_equal, a_number, PartsMiss, parts_miss}
-use Rattle.algorithm_parts.specs.MissingParts as wants
-use Rattle.algorithm_parts.specs.MissingParts.{missing_among, missing_initial_by, missing_initial, missing_variables, missing_section_words, missing_section_by, missing_section, missing_names, a_close, no_list, missing_macro_parameters_by, missing_macro_parameters, missing_parameters, missing_procedure_parameters_by, missing_procedure_parameters, missing_heading_by, missing_heading, a_meaning, missing_definitions, missing_colon, a_value, missing_binds}
+use Rattle.algorithm_parts.specs.MissingParts.{missing_after_separator, missing_after_comma, missing_after_definition, missing_among, missing_initial_by, missing_initial, missing_variables, missing_section_words, missing_section_by, missing_section, missing_names, a_close, no_list, missing_macro_parameters_by, missing_macro_parameters, missing_parameters, missing_procedure_parameters_by, missing_procedure_parameters, missing_heading_by, missing_heading, a_meaning, missing_definitions, missing_colon, a_value, missing_binds}
 use Rattle.algorithm_parts.specs.ReadParts.{semicolon_by, read_semicolon, separator_by, read_separator, among_if, initial_by, read_initial, variables_by, read_variables, section_words, section_by, read_section, names_by, read_names, macro_parameters_by, read_macro_parameters, parameters_by, read_parameters, procedure_parameters_by, read_procedure_parameters, heading_by, read_heading, definitions_by, read_definitions, colon_by, read_colon, binds_by, bind_by, read_binds}
 use Rattle.algorithm_parts.proofs.Sound.{here, Any}
 use Rattle.algorithm_parts.proofs.SoundParts.{SoundParts, parts_sound, semicolon_sound, separator_sound, initial_sound, variables_sound, section_sound, names_sound, macro_parameters_sound, heading_sound, parameters_sound, procedure_parameters_sound, definitions_sound, colon_sound, bind_sound, binds_sound}
 use Rattle.algorithm_parts.proofs.Aheads.{ahead_semicolon, ahead_maybe, ahead_initial, ahead_variables, ahead_section, ahead_names, ahead_macro, ahead_parameters, ahead_procedure, ahead_heading, ahead_definitions, ahead_colon, ahead_binds}
-use Rattle.algorithm_parts.proofs.Mends.{Enough, none, Mend, Fill, MendsAt, IsPart, filled, mends_gives, mends_give, mends_done, mends_refuses, mends_bind, mends_next, mends_stays, mends_past, mends_pick, token_mends, part_mark, part_name, part_name_within}
+use Rattle.algorithm_parts.proofs.Mends.{Suffice, none, Mend, Fill, MendsAt, IsPart, filled, mends_gives, mends_give, mends_done, mends_refuses, mends_bind, mends_next, mends_stays, mends_past, mends_pick, token_mends, part_mark, part_name, part_name_within}
 
 abbrev pub some_name : Name
-some_name = record { place = nowhere; word = 120 ∷ [] }
+some_name = record { place = nowhere; word = an_x }
 
 abbrev pub some_phrase : Phrase
 some_phrase = some 0
@@ -67,10 +66,10 @@ rule_beside {A} {F} {L} {G} {M} {ts} {o} {u} h e = by (told_err h e)
 
 -- ---- from expressions, whose counts are those of forms of expressions
 -- as many are enough where forms of statements are counted too
-enough_counts : (d base l : ℕ) (ns : List ℕ) → (ns ≡ []) ⊎ ((m : ℕ) × Heads m ns × (l + 16 * base ≤ 16 * m + 1)) → Enough d 1 (within d ns) l
-enough_counts d base l [] h = tt
-enough_counts d base l (n ∷ ns) (inl e) = absurd cc
-enough_counts d base l (n ∷ ns) (inr (m, h, k)) = omega (arith, h, k)
+suffice_counts : (d base l : ℕ) (ns : List ℕ) → (ns ≡ []) ⊎ ((m : ℕ) × Heads m ns × (l + 16 * base ≤ 16 * m + 1)) → Suffice d 1 (within d ns) l
+suffice_counts d base l [] h = tt
+suffice_counts d base l (n ∷ ns) (inl e) = absurd cc
+suffice_counts d base l (n ∷ ns) (inr (m, h, k)) = omega (arith, h, k)
 
 module _ {A : Type 0} (d base : ℕ) (y : ℕ → A → List ℕ → List ℕ) (Q : A → Type 0) (put : A → List Token → List Token) where
   abbrev counts_of : A → List Open
@@ -91,7 +90,7 @@ module _ {A : Type 0} (d base : ℕ) (y : ℕ → A → List ℕ → List ℕ) (
     back = within d (k.back []);
     opens = ap (within d) (k.splits [] ∙ k.is_front.is [] (k.back [])) ∙ map-append (λ (n : ℕ). record { expressions = n; statements = d }) (k.front []) (k.back []);
     long = (let n = k.long [] in length-map {B = Open} (k.back []) (λ (n : ℕ). record { expressions = n; statements = d }) ∙ omega (arith, n));
-    enough = enough_counts d base (length (completing ws)) (k.back []) (by k.enough);
+    enough = suffice_counts d base (length (completing ws)) (k.back []) (by k.enough);
   }
     where
       by : ((fix ≡ []) × ((u : List ℕ) → k.back u ≡ u)) ⊎ ((m : ℕ) × ((u : List ℕ) → Heads m (k.back u)) × (length fix + 16 * base ≤ 16 * m + 1)) → (k.back [] ≡ []) ⊎ ((m : ℕ) × Heads m (k.back []) × (length (completing ws) + 16 * base ≤ 16 * m + 1))
@@ -138,7 +137,7 @@ by_separator_mends d p (tk.mark tk.semicolon) = mends_done (form.here d) (Some (
 by_separator_mends d p (tk.mark tk.comma) = mends_done (form.here d) (Some (by_comma p)) refl tt (λ ts. refl) refl
 by_separator_mends d p k = mends_stays (mends_gives None tt (λ ts. refl) refl)
 
-pub part_separator : (d : ℕ) → IsPart Any maybe_separator (λ s. form.plain d (maybe_separator s)) d 0 [] (all_of []) read_separator
+part_separator : (d : ℕ) → IsPart Any maybe_separator (λ s. form.plain d (maybe_separator s)) d 0 [] (all_of []) read_separator
 part_separator d = record { sound = separator_sound; ahead = λ a u. ahead_maybe a; mends = mends_next (filled None tt (λ ts. refl) refl) (by_separator_mends d) }
 
 -- ---- lists of names
@@ -146,11 +145,11 @@ abbrev names_open : Names → List Open
 names_open xs = form.plain 0 (names xs)
 
 by_names_mends : (n : ℕ) → IsPart Any names names_open 0 1 (an_identifier []) (missing_names n) (read_names n) → (x : Name) → Ahead (name x) → (p : Place) (k : TokenView)
-    → MendsAt p k (name x) (form.here 0) Any names names_open none 0 1 (wants.more_names (missing_names n) p k) (names_by (read_names n) x p k)
+    → MendsAt p k (name x) (form.here 0) Any names names_open none 0 1 (missing_after_comma (missing_names n) p k) (names_by (read_names n) x p k)
 by_names_mends n i x hx p (tk.mark tk.comma) = mends_past (form.here 0) refl (mends_give (λ xs. more_names x p xs) (then_ahead hx (put_ahead held)) i (omega arith) (λ xs u. tt) (λ xs ts. refl) (λ xs. refl))
 by_names_mends n i x hx p k = mends_stays (mends_gives (last_name x) tt (λ ts. refl) refl)
 
-pub part_names : (n : ℕ) → IsPart Any names names_open 0 1 (an_identifier []) (missing_names n) (read_names n)
+part_names : (n : ℕ) → IsPart Any names names_open 0 1 (an_identifier []) (missing_names n) (read_names n)
 part_names zero = record { sound = names_sound zero; ahead = λ a u. ahead_names a; mends = mends_refuses held (record { whole = last_name some_name; good = tt; fix = an_identifier []; tokens = λ v. refl; given = refl; back = form.here 0; opens = refl; long = refl; enough = omega arith }) }
 part_names (suc n) = record { sound = names_sound (suc n); ahead = λ a u. ahead_names a; mends = mends_bind held (part_name 0) (omega arith) (λ x u hx. mends_next (filled (last_name x) tt (λ ts. refl) refl) (by_names_mends n (part_names n) x hx)) }
 
@@ -179,7 +178,7 @@ by_heading_mends n x hx p (tk.mark tk.open_bracket) =
     mends_give (λ q. applied x p xs q) h (part_mark 0 tk.close_bracket) (omega arith) (λ q v. tt) (λ q ts. refl) (λ q. rw (names_plain 0 xs (tk.token q (tk.mark tk.close_bracket) ∷ [])) (simp append_assoc refl))))
 by_heading_mends n x hx p k = mends_stays (mends_gives (plain x) tt (λ ts. refl) refl)
 
-pub part_heading : (n : ℕ) → IsPart Any heading (λ h. form.plain 0 (heading h)) 0 2 (an_identifier []) (missing_heading n) (read_heading n)
+part_heading : (n : ℕ) → IsPart Any heading (λ h. form.plain 0 (heading h)) 0 2 (an_identifier []) (missing_heading n) (read_heading n)
 part_heading n = record { sound = heading_sound n; ahead = λ a u. ahead_heading a; mends = mends_bind held (part_name 0) (omega arith) (λ x u hx. mends_next (filled (plain x) tt (λ ts. refl) refl) (by_heading_mends n x hx)) }
 
 -- ---- after the name of a label
@@ -213,7 +212,7 @@ module _ (m : Parts) (w : PartsMiss) (h : MendsParts m w) where
   declared i s = (form.here 0 ++ initial_opens i) ++ form.plain 0 (maybe_separator s)
 
   by_variables_mends : (b : Bool) (n : ℕ) → IsPart (GoodVariables b) variables variables_open 0 1 (an_identifier []) (missing_variables b m w n) (read_variables b m n) → (x : Name) (i : Initial) → GoodInitial b i → (s : Option Separator) → Ahead (λ ts. name x (initial i (maybe_separator s ts))) → (p : Place) (k : TokenView)
-      → MendsAt p k (λ ts. name x (initial i (maybe_separator s ts))) (declared i s) (GoodVariables b) variables variables_open none 0 1 (wants.more_variables (missing_variables b m w n) s p k) (variables_by (read_variables b m n) x i s p k)
+      → MendsAt p k (λ ts. name x (initial i (maybe_separator s ts))) (declared i s) (GoodVariables b) variables variables_open none 0 1 (missing_after_separator (missing_variables b m w n) s p k) (variables_by (read_variables b m n) x i s p k)
   by_variables_mends b n v x i g (Some (by_semicolon t)) hx p (tk.word y) = mends_stays (mends_give (variable x i (by_semicolon t)) hx v (omega arith) (λ vs f. (g, f)) (λ vs ts. refl) (λ vs. simp append_assoc refl))
   by_variables_mends b n v x i g (Some (by_comma t)) hx p (tk.word y) = mends_stays (mends_give (variable x i (by_comma t)) hx v (omega arith) (λ vs f. (g, f)) (λ vs ts. refl) (λ vs. simp append_assoc refl))
   by_variables_mends b n v x i g s hx p k = mends_stays (mends_gives (last_variable x i s) g (λ ts. refl) (simp append_assoc refl))
@@ -247,7 +246,7 @@ module _ (m : Parts) (w : PartsMiss) (h : MendsParts m w) where
 
   -- ---- parameters and definitions
   by_parameters_mends : (n : ℕ) → IsPart GoodParameters parameters parameters_open 0 1 (an_identifier []) (missing_parameters m w n) (read_parameters m n) → (x : Name) (i : Initial) → GoodInitial false i → Ahead (λ ts. name x (initial i ts)) → (p : Place) (k : TokenView)
-      → MendsAt p k (λ ts. name x (initial i ts)) (form.here 0 ++ initial_opens i) GoodParameters parameters parameters_open none 0 1 (wants.more_names (missing_parameters m w n) p k) (parameters_by (read_parameters m n) x i p k)
+      → MendsAt p k (λ ts. name x (initial i ts)) (form.here 0 ++ initial_opens i) GoodParameters parameters parameters_open none 0 1 (missing_after_comma (missing_parameters m w n) p k) (parameters_by (read_parameters m n) x i p k)
   by_parameters_mends n v x i g hx p (tk.mark tk.comma) = mends_past (form.here 0) refl (mends_give (parameter x i p) (then_ahead hx (put_ahead held)) v (omega arith) (λ xs f. (g, f)) (λ xs ts. refl) (λ xs. simp append_assoc refl))
   by_parameters_mends n v x i g hx p k = mends_stays (mends_gives (last_parameter x i) g (λ ts. refl) refl)
 
@@ -279,7 +278,7 @@ module _ (m : Parts) (w : PartsMiss) (h : MendsParts m w) where
   }
 
   by_definitions_mends : (n : ℕ) → IsPart GoodDefinitions definitions definitions_open 0 4 (an_identifier (a_meaning [])) (missing_definitions m w n) (read_definitions m n) → (x : Heading) (p : Place) (e : Phrase) → IsGood e → Ahead (λ ts. heading x (mark p tk.defines (spell e ts))) → (q : Place) (k : TokenView)
-      → MendsAt q k (λ ts. heading x (mark p tk.defines (spell e ts))) ((form.plain 0 (heading x) ++ form.here 0) ++ expression_opens 0 e) GoodDefinitions definitions definitions_open none 0 4 (wants.more_definitions (missing_definitions m w n) q k) (definitions_by (read_definitions m n) x p e q k)
+      → MendsAt q k (λ ts. heading x (mark p tk.defines (spell e ts))) ((form.plain 0 (heading x) ++ form.here 0) ++ expression_opens 0 e) GoodDefinitions definitions definitions_open none 0 4 (missing_after_definition (missing_definitions m w n) q k) (definitions_by (read_definitions m n) x p e q k)
   by_definitions_mends n v x p e g hx q (tk.word y) = mends_stays (mends_give (more_definitions x p e) hx v (omega arith) (λ ds f. (g, f)) (λ ds ts. refl) (λ ds. simp append_assoc refl))
   by_definitions_mends n v x p e g hx q k = mends_stays (mends_gives (last_definition x p e) g (λ ts. refl) (simp append_assoc refl))
 
@@ -303,7 +302,7 @@ module _ (m : Parts) (w : PartsMiss) (h : MendsParts m w) where
 
   by_binds_mends : (n d : ℕ) → IsPart GoodBinds binds (binds_open (d + 1)) (d + 1 + 1) 3 (an_identifier (a_value [])) (missing_binds m w n (d + 1)) (read_binds m n (d + 1)) → (x : Name) (b : Bool) (q : Place) (e : Phrase) → IsGood e → (s : Option Separator)
       → Ahead (λ ts. name x (sign q (bind_sign b) (spell e (maybe_separator s ts)))) → (p : Place) (k : TokenView)
-      → MendsAt p k (λ ts. name x (sign q (bind_sign b) (spell e (maybe_separator s ts)))) (named d e s) GoodBinds binds (binds_open d) none (d + 1) 3 (wants.more_variables (missing_binds m w n (d + 1)) s p k) (binds_by (read_binds m n (d + 1)) x b q e s p k)
+      → MendsAt p k (λ ts. name x (sign q (bind_sign b) (spell e (maybe_separator s ts)))) (named d e s) GoodBinds binds (binds_open d) none (d + 1) 3 (missing_after_separator (missing_binds m w n (d + 1)) s p k) (binds_by (read_binds m n (d + 1)) x b q e s p k)
   by_binds_mends n d v x b q e g (Some (by_semicolon t)) hx p (tk.word y) = mends_stays (mends_give (bind x b q e (by_semicolon t)) hx v (omega arith) (λ bs f. (g, f)) (λ bs ts. refl) (λ bs. simp append_assoc refl))
   by_binds_mends n d v x b q e g (Some (by_comma t)) hx p (tk.word y) = mends_stays (mends_give (bind x b q e (by_comma t)) hx v (omega arith) (λ bs f. (g, f)) (λ bs ts. refl) (λ bs. simp append_assoc refl))
   by_binds_mends n d v x b q e g s hx p k = mends_stays (mends_gives (last_bind x b q e s) g (λ ts. refl) (simp append_assoc refl))

@@ -19,7 +19,7 @@ use Rattle.pcal_tree.specs.OpenForms as form
 use Rattle.pcal_tree.specs.OpenForms.{body_opens, macro_opens, procedure_opens, identity_opens, process_opens, define_opens, main_opens}
 use Rattle.algorithm_parts.specs.Missing.{Missing, then_misses, all_of, past_misses, key_then, an_identifier, PartsMiss}
 use Rattle.algorithm_parts.specs.MissingParts.{no_list}
-use Rattle.algorithm_parts.specs.MissingRoutines.{WaysMiss, a_process, missing_macro, missing_procedure, missing_process, missing_process_words, missing_macros_by, missing_macros, missing_procedures_by, missing_procedures, all_more_miss, missing_processes_by, missing_processes, missing_main_processes, missing_define_by, missing_define}
+use Rattle.algorithm_parts.specs.MissingRoutines.{WaysMiss, process_after_word, missing_macro, missing_procedure, missing_process, missing_process_words, missing_macros_by, missing_macros, missing_procedures_by, missing_procedures, all_more_miss, missing_processes_by, missing_processes, missing_main_processes, missing_define_by, missing_define}
 use Rattle.algorithm_parts.specs.ReadAround.{fair_by, all_more}
 use Rattle.algorithm_parts.proofs.SoundAround.{by_fair_sound}
 use Rattle.algorithm_parts.proofs.MendAround.{ahead_fair, ahead_each, more_mends, by_fair_mends}
@@ -37,7 +37,7 @@ pub record AheadWays (syntax : Syntax) : Type 0 where
 pub record MendWays (syntax : Syntax) (ways : Ways) (v : WaysMiss) : Type 0 where
   pub sound : SoundWays syntax ways
   pub heads : AheadWays syntax
-  pub process : Fill here [] (GoodProcess syntax) process process_opens none 0 12 (key nowhere (codes "process") (a_process v))
+  pub process : Fill here [] (GoodProcess syntax) process process_opens none 0 12 (key nowhere (codes "process") (process_after_word v))
   pub short_body : (z : Word) → length (v.a_body z) ≤ 4
   pub short_identity : length v.an_identity ≤ 5
   pub body : (n : ℕ) (z : Word) → IsPart (GoodBody syntax) (body z) body_opens 0 8 (v.a_body z) (v.body n z) (ways.body n z)
@@ -56,29 +56,29 @@ module _ (syntax : Syntax) (heads : AheadWays syntax) where
   ahead_process x i = then_ahead (ahead_fair x.fair) (put_ahead (then_ahead (heads.identity x.identity i.0) (then_ahead (ahead_section x.variables) (heads.body (codes "process") x.body i.2))))
 
 module _ (syntax : Syntax) (m : Parts) (w : PartsMiss) (h : MendsParts m w) (ways : Ways) (v : WaysMiss) (facts : MendWays syntax ways v) where
-  pub macro_mends : (n : ℕ) (p : Place) → Mends (λ ts. key p (codes "macro") ts) (form.here 0) (GoodMacro syntax) macro macro_opens none 0 12 (an_identifier (no_list (v.a_body (codes "macro")))) (missing_macro ways v n) (read_macro ways n p)
+  macro_mends : (n : ℕ) (p : Place) → Mends (λ ts. key p (codes "macro") ts) (form.here 0) (GoodMacro syntax) macro macro_opens none 0 12 (an_identifier (no_list (v.a_body (codes "macro")))) (missing_macro v n) (read_macro ways n p)
   macro_mends n p =
       let s = facts.short_body (codes "macro") in
       mends_bind (put_ahead held) (part_name 0) (omega (arith, s)) (λ x u hx. mends_bind hx (part_macro_parameters n) (omega (arith, s)) (λ ps i hp.
       mends_give (λ b. record { place = p; name = x; parameters = ps; body = b }) hp (facts.body n (codes "macro")) (omega arith) (λ b g. g) (λ b ts. refl) (λ b. simp append_assoc refl)))
 
-  pub procedure_mends : (n : ℕ) (p : Place)
-      → Mends (λ ts. key p (codes "procedure") ts) (form.here 0) (GoodProcedure syntax) procedure procedure_opens none 0 12 (an_identifier (no_list (v.a_body (codes "procedure")))) (missing_procedure m w ways v n) (read_procedure m ways n p)
+  procedure_mends : (n : ℕ) (p : Place)
+      → Mends (λ ts. key p (codes "procedure") ts) (form.here 0) (GoodProcedure syntax) procedure procedure_opens none 0 12 (an_identifier (no_list (v.a_body (codes "procedure")))) (missing_procedure m w v n) (read_procedure m ways n p)
   procedure_mends n p =
       let s = facts.short_body (codes "procedure") in
       mends_bind (put_ahead held) (part_name 0) (omega (arith, s)) (λ x u hx. mends_bind hx (part_procedure_parameters m w h n) (omega (arith, s)) (λ ps i hp. mends_bind hp (part_section m w h false n) (omega (arith, s)) (λ vs j hv.
       mends_give (λ b. record { place = p; name = x; parameters = ps; variables = vs; body = b }) hv (facts.body n (codes "procedure")) (omega arith) (λ b g. (i, j, g)) (λ b ts. refl) (λ b. simp append_assoc refl))))
 
-  pub process_mends : (n : ℕ) (f : Fair) (p : Place)
-      → Mends (λ ts. fair f (key p (codes "process") ts)) (form.plain 0 (fair f) ++ form.here 0) (GoodProcess syntax) process process_opens none 0 12 (a_process v) (missing_process m w ways v n) (read_process m ways n f p)
+  process_mends : (n : ℕ) (f : Fair) (p : Place)
+      → Mends (λ ts. fair f (key p (codes "process") ts)) (form.plain 0 (fair f) ++ form.here 0) (GoodProcess syntax) process process_opens none 0 12 (process_after_word v) (missing_process m w ways v n) (read_process m ways n f p)
   process_mends n f p =
       let s = facts.short_body (codes "process") in
       mends_bind (then_ahead (ahead_fair f) (put_ahead held)) facts.identity (omega (arith, s)) (λ x i hx. mends_bind hx (part_section m w h true n) (omega (arith, s)) (λ vs j hv.
       mends_give (λ b. record { fair = f; place = p; identity = x; variables = vs; body = b }) hv (facts.body n (codes "process")) (omega arith) (λ b g. (i, j, g)) (λ b ts. refl) (λ b. simp append_assoc refl)))
 
   -- past `fair`, and maybe `+`
-  fair_mends : (n : ℕ) (p : Place) → Mends (λ ts. key p (codes "fair") ts) (form.here 0) (GoodProcess syntax) process process_opens none 0 12 (key nowhere (codes "process") (a_process v))
-      (then_misses (by_next (fair_by p)) (all_of []) (key nowhere (codes "process") (a_process v)) (λ a. key_then (codes "process") (a_process v) (λ q. missing_process m w ways v n))) (by_next (fair_by p) >>= λ f. a_key (codes "process") >>= λ q. read_process m ways n f q)
+  fair_mends : (n : ℕ) (p : Place) → Mends (λ ts. key p (codes "fair") ts) (form.here 0) (GoodProcess syntax) process process_opens none 0 12 (key nowhere (codes "process") (process_after_word v))
+      (then_misses (by_next (fair_by p)) (all_of []) (key nowhere (codes "process") (process_after_word v)) (λ a. key_then (codes "process") (process_after_word v) (λ q. missing_process m w ways v n))) (by_next (fair_by p) >>= λ f. a_key (codes "process") >>= λ q. read_process m ways n f q)
   fair_mends n p =
       let s = facts.short_body (codes "process") in
       let i = facts.short_identity in
@@ -100,7 +100,7 @@ module _ (syntax : Syntax) (m : Parts) (w : PartsMiss) (h : MendsParts m w) (way
       by : (n : ℕ) → EachPart (GoodMacro syntax) macro macro_opens (missing_macros ways v n) (read_macros ways n) → (p : Place) (k : TokenView)
           → MendsAt p k here [] (AllByRecursion (GoodMacro syntax)) (each macro) (flat_map macro_opens) none 0 12 (missing_macros_by ways v n (missing_macros ways v n) p k) (macros_by ways n (read_macros ways n) p k)
       by n i p (tk.reserved z) =
-          mends_pick z ((codes "macro", past_misses (then_misses (read_macro ways n p) (missing_macro ways v n) [] (λ x. missing_macros ways v n))) ∷ []) (macro_words ways n (read_macros ways n) p) {d = gives []}
+          mends_pick z ((codes "macro", past_misses (then_misses (read_macro ways n p) (missing_macro v n) [] (λ x. missing_macros ways v n))) ∷ []) (macro_words ways n (read_macros ways n) p) {d = gives []}
           (refl, mends_past (form.here 0) refl (more_mends (macro_sound syntax m h.sound ways facts.sound n p) (ahead_macro_whole syntax facts.heads) (macro_mends n p) i), tt) (mends_stays (mends_gives [] tt (λ ts. refl) refl))
       by n i p k = mends_stays (mends_gives [] tt (λ ts. refl) refl)
 
@@ -111,11 +111,11 @@ module _ (syntax : Syntax) (m : Parts) (w : PartsMiss) (h : MendsParts m w) (way
       by : (n : ℕ) → EachPart (GoodProcedure syntax) procedure procedure_opens (missing_procedures m w ways v n) (read_procedures m ways n) → (p : Place) (k : TokenView)
           → MendsAt p k here [] (AllByRecursion (GoodProcedure syntax)) (each procedure) (flat_map procedure_opens) none 0 12 (missing_procedures_by m w ways v n (missing_procedures m w ways v n) p k) (procedures_by m ways n (read_procedures m ways n) p k)
       by n i p (tk.reserved z) =
-          mends_pick z ((codes "procedure", past_misses (then_misses (read_procedure m ways n p) (missing_procedure m w ways v n) [] (λ x. missing_procedures m w ways v n))) ∷ []) (procedure_words m ways n (read_procedures m ways n) p) {d = gives []}
+          mends_pick z ((codes "procedure", past_misses (then_misses (read_procedure m ways n p) (missing_procedure m w v n) [] (λ x. missing_procedures m w ways v n))) ∷ []) (procedure_words m ways n (read_procedures m ways n) p) {d = gives []}
           (refl, mends_past (form.here 0) refl (more_mends (procedure_sound syntax m h.sound ways facts.sound n p) (ahead_procedure_whole syntax facts.heads) (procedure_mends n p) i), tt) (mends_stays (mends_gives [] tt (λ ts. refl) refl))
       by n i p k = mends_stays (mends_gives [] tt (λ ts. refl) refl)
 
-  pub part_processes : (n : ℕ) → EachPart (GoodProcess syntax) process process_opens (missing_processes m w ways v n) (read_processes m ways n)
+  part_processes : (n : ℕ) → EachPart (GoodProcess syntax) process process_opens (missing_processes m w ways v n) (read_processes m ways n)
   part_processes zero = record { sound = processes_sound syntax m h.sound ways facts.sound zero; ahead = ahead_each process (GoodProcess syntax) (ahead_process syntax facts.heads); mends = mends_refuses held (filled [] tt (λ ts. refl) refl) }
   part_processes (suc n) = record { sound = processes_sound syntax m h.sound ways facts.sound (suc n); ahead = ahead_each process (GoodProcess syntax) (ahead_process syntax facts.heads); mends = mends_next (filled [] tt (λ ts. refl) refl) (by n (part_processes n)) }
     where

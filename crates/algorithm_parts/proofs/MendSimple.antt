@@ -8,15 +8,15 @@ use Rattle.tla_tree.specs.Lexical as tk
 use Rattle.tla_tree.specs.Spelling.{Phrase, Right, spell, IsGood}
 use Rattle.tla_tree.specs.Spelling as spelled
 use Rattle.tla_tree.proofs.SpellAhead.{Ahead, held, put_ahead, then_ahead, ahead}
-use Rattle.pcal_tree.specs.GrammarParts.{name, mark, no_arguments, some_arguments, arguments, GoodArguments, Assignments, last_assignment, assignment, assignments, GoodAssignments, simple_tokens, GoodSimple}
+use Rattle.pcal_tree.specs.GrammarParts.{name, mark, no_arguments, some_arguments, arguments, GoodArguments, last_assignment, assignment, assignments, GoodAssignments, simple_tokens, GoodSimple}
 use Rattle.pcal_tree.specs.GrammarParts as g
 use Rattle.algorithm_parts.specs.TokenReaders.{Parts}
 use Rattle.tla_tree.specs.FirstStop.{Open}
 use Rattle.pcal_tree.specs.OpenForms as form
-use Rattle.pcal_tree.specs.OpenForms.{within, expression_opens, left_opens, assignments_open, arguments_open, simple_opens}
+use Rattle.pcal_tree.specs.OpenForms.{expression_opens, left_opens, assignments_open, arguments_open, simple_opens}
 use Rattle.algorithm_parts.specs.Missing.{past_misses, PartsMiss}
 use Rattle.algorithm_parts.specs.MissingParts.{a_close, no_list}
-use Rattle.algorithm_parts.specs.MissingSimple.{missing_arguments_by, missing_arguments, missing_left_by, missing_left, a_new_value, more_assignments, missing_assignments, missing_assign, missing_named, missing_simple_words}
+use Rattle.algorithm_parts.specs.MissingSimple.{missing_arguments_by, missing_arguments, missing_left_by, missing_left, a_new_value, missing_after_value, missing_assignments, missing_assign, missing_named, missing_simple_words}
 use Rattle.algorithm_parts.specs.ReadSimple.{arguments_by, read_arguments, left_by, read_left, assignments_by, read_assignments, assign_if, named_by, of_expression, simple_words}
 use Rattle.algorithm_parts.proofs.Sound.{here}
 use Rattle.algorithm_parts.proofs.SoundSimple.{IsLeft, left_head, arguments_sound, left_sound, assignments_sound}
@@ -32,7 +32,7 @@ module _ (m : Parts) (w : PartsMiss) (h : MendsParts m w) where
   by_arguments_mends d p hx q k =
       mends_stays (mends_bind hx (h.arguments d) (omega arith) (λ xs i hy. mends_give (λ r. some_arguments p xs r) hy (part_mark d tk.close_bracket) (omega arith) (λ r u. i) (λ r ts. refl) (λ r. simp append_assoc refl)))
 
-  pub part_arguments : (d : ℕ) → IsPart GoodArguments arguments (arguments_open d) d 2 (no_list []) (missing_arguments m w) (read_arguments m)
+  part_arguments : (d : ℕ) → IsPart GoodArguments arguments (arguments_open d) d 2 (no_list []) (missing_arguments m w) (read_arguments m)
   part_arguments d = record {
     sound = arguments_sound m h.sound;
     ahead = λ a u. ahead_arguments a;
@@ -67,7 +67,7 @@ module _ (m : Parts) (w : PartsMiss) (h : MendsParts m w) where
 
   by_assignments_mends : (d n : ℕ) → ((x : Name) → Right 0 x.place → Mends (name x) (form.here d) GoodAssignments assignments (assignments_open d) none d 4 (a_new_value []) (missing_assignments m w n x) (read_assignments m n x)) → (l : Phrase) → IsLeft l → (p : Place) (e : Phrase) → IsGood e
       → Ahead (λ ts. spell l (mark p tk.assigns (spell e ts))) → (q : Place) (k : TokenView)
-      → MendsAt q k (λ ts. spell l (mark p tk.assigns (spell e ts))) (assigned d l e) GoodAssignments assignments (assignments_open d) none d 4 (more_assignments (missing_assignments m w n) q k) (assignments_by (read_assignments m n) l p e q k)
+      → MendsAt q k (λ ts. spell l (mark p tk.assigns (spell e ts))) (assigned d l e) GoodAssignments assignments (assignments_open d) none d 4 (missing_after_value (missing_assignments m w n) q k) (assignments_by (read_assignments m n) l p e q k)
   by_assignments_mends d n r l i p e j hx q (tk.mark tk.beside) =
       let hb = then_ahead hx (put_ahead held) in
       mends_past (form.here d) refl

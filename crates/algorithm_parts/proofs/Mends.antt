@@ -27,19 +27,19 @@ use Rattle.algorithm_parts.proofs.Sound.{Sound, SoundAt, here, Any, is_other, se
 
 -- ---- how many are enough
 -- with b forms open around a part: none of its tokens is missing, or so many forms are open at the first that 16 for each of them, those around the part counted off, and c, are enough for the tokens that are missing
-abbrev pub Enough : ℕ → ℕ → List Open → ℕ → Type 0
-Enough b c [] l = Unit {0}
-Enough b c (o ∷ os) l = l + 16 * b ≤ 16 * forms o + c
+abbrev pub Suffice : ℕ → ℕ → List Open → ℕ → Type 0
+Suffice b c [] l = Unit {0}
+Suffice b c (o ∷ os) l = l + 16 * b ≤ 16 * forms o + c
 
 -- of a part, and of what comes after it
-enough_both : (i n b c : ℕ) (ka kb : List Open) (la lb : ℕ) → length ka ≡ la → Enough i n ka la → Enough b c kb lb → n + lb + 16 * b ≤ c + 16 * i → Enough b c (ka ++ kb) (la + lb)
-enough_both i n b c [] kb la lb l e f h = subst (λ (m : ℕ). Enough b c kb m) (omega (arith, l)) f
-enough_both i n b c (o ∷ ka) kb la lb l e f h = omega (arith, e, h)
+suffice_both : (i n b c : ℕ) (ka kb : List Open) (la lb : ℕ) → length ka ≡ la → Suffice i n ka la → Suffice b c kb lb → n + lb + 16 * b ≤ c + 16 * i → Suffice b c (ka ++ kb) (la + lb)
+suffice_both i n b c [] kb la lb l e f h = subst (λ (m : ℕ). Suffice b c kb m) (omega (arith, l)) f
+suffice_both i n b c (o ∷ ka) kb la lb l e f h = omega (arith, e, h)
 
 -- where it is told of all that is missing
-enough_on : (b c : ℕ) (ka kb : List Open) (l : ℕ) → Enough b c ka l → (ka ≡ [] → Enough b c kb l) → Enough b c (ka ++ kb) l
-enough_on b c [] kb l e f = f refl
-enough_on b c (o ∷ ka) kb l e f = e
+suffice_on : (b c : ℕ) (ka kb : List Open) (l : ℕ) → Suffice b c ka l → (ka ≡ [] → Suffice b c kb l) → Suffice b c (ka ++ kb) l
+suffice_on b c [] kb l e f = f refl
+suffice_on b c (o ∷ ka) kb l e f = e
 
 none_missing : {ks : List Open} (ts : List Token) → ks ≡ [] → length ks ≡ length ts → ts ≡ []
 none_missing [] e l = refl
@@ -65,7 +65,7 @@ pub record Mend {A : Type 0} (Q : A → Type 0) (put : A → List Token → List
   pub back : List Open
   pub opens : counted whole ≡ front ++ back
   pub long : length back ≡ length fix
-  pub enough : Enough b c back (length told)
+  pub enough : Suffice b c back (length told)
 
 -- tokens that complete what was read before, whose tokens are x and their counts y
 pub record Fill {A : Type 0} (x : List Token → List Token) (y : List Open) (Q : A → Type 0) (put : A → List Token → List Token) (counted : A → List Open) (rest : A → List Token) (b c : ℕ) (told : List Token) : Type 0 where
@@ -77,7 +77,7 @@ pub record Fill {A : Type 0} (x : List Token → List Token) (y : List Open) (Q 
   pub back : List Open
   pub opens : counted whole ≡ y ++ back
   pub long : length back ≡ length fix
-  pub enough : Enough b c back (length told)
+  pub enough : Suffice b c back (length told)
 
 -- what was read after them is mended where the reader refuses, by what it misses; and there is some whole
 pub record Mends {A : Type 0} (x : List Token → List Token) (y : List Open) (Q : A → Type 0) (put : A → List Token → List Token) (counted : A → List Open) (rest : A → List Token) (b c : ℕ) (told : List Token) (n : Missing) (r : Reader A) : Type 0 where
@@ -97,7 +97,7 @@ pub onto : {A : Type 0} {Q : A → Type 0} {put : A → List Token → List Toke
 onto s m = record { whole = m.whole; good = m.good; rule = m.rule; read = m.read; fix = m.fix; parts = sym s ∙ m.parts; tokens = m.tokens; given = m.given; front = m.front; back = m.back; opens = m.opens; long = m.long; enough = m.enough }
 
 -- told in other words
-pub told_as : {A : Type 0} {Q : A → Type 0} {put : A → List Token → List Token} {counted : A → List Open} {rest : A → List Token} {b c : ℕ} {told also ts : List Token} {u : Stop} → told ≡ also → Mend Q put counted rest b c told ts u → Mend Q put counted rest b c also ts u
+told_as : {A : Type 0} {Q : A → Type 0} {put : A → List Token → List Token} {counted : A → List Open} {rest : A → List Token} {b c : ℕ} {told also ts : List Token} {u : Stop} → told ≡ also → Mend Q put counted rest b c told ts u → Mend Q put counted rest b c also ts u
 told_as {A} {Q} {put} {counted} {rest} {b} {c} {told} {also} {ts} {u} e m = subst (λ (w : List Token). Mend Q put counted rest b c w ts u) e m
 
 -- ---- a part, and what comes after it
@@ -119,7 +119,7 @@ inside {A} {B} {P} {front} {counts} {i} {n} {part} {Q} {put} {counted} {rest} {b
       back = m.back ++ f.back;
       opens = f.opens ∙ ap (λ (ks : List Open). (y ++ ks) ++ f.back) m.opens ∙ simp append_assoc refl;
       long = (let a = length-append m.back f.back in let d = length-append m.fix f.fix in let e = m.long in let g = f.long in omega (arith, a, d, e, g));
-      enough = subst (λ (l : ℕ). Enough b c (m.back ++ f.back) l) (sym (length-append part after)) (enough_both i n b c m.back f.back (length part) (length after) (m.long ∙ ap length same) m.enough f.enough less);
+      enough = subst (λ (l : ℕ). Suffice b c (m.back ++ f.back) l) (sym (length-append part after)) (suffice_both i n b c m.back f.back (length part) (length after) (m.long ∙ ap length same) m.enough f.enough less);
     }
 
 -- the same where what is missing of the part is told with what comes after it
@@ -138,7 +138,7 @@ inside_on {A} {B} {P} {front} {counts} {tell} {told} {Q} {put} {counted} {rest} 
   back = m.back ++ f.back;
   opens = f.opens ∙ ap (λ (ks : List Open). (y ++ ks) ++ f.back) m.opens ∙ simp append_assoc refl;
   long = (let a = length-append m.back f.back in let d = length-append m.fix f.fix in let e = m.long in let g = f.long in omega (arith, a, d, e, g));
-  enough = enough_on b c m.back f.back (length told) m.enough (λ e. subst (λ (w : List Token). Enough b c f.back (length w)) (ap (λ (w : List Token). w ++ tell m.whole) (sym (none_missing m.fix e m.long)) ∙ m.given) f.enough);
+  enough = suffice_on b c m.back f.back (length told) m.enough (λ e. subst (λ (w : List Token). Suffice b c f.back (length w)) (ap (λ (w : List Token). w ++ tell m.whole) (sym (none_missing m.fix e m.long)) ∙ m.given) f.enough);
 }
 
 -- x was read, and the rest of the whole is missing
@@ -206,7 +206,7 @@ mends_after {A} {B} x y {z} {w} {P} {front} {counts} {i} {n} {part} {m} {r} {Q} 
         back = a.back ++ d.back;
         opens = d.opens ∙ ap (λ (ks : List Open). (y ++ ks) ++ d.back) a.opens ∙ simp append_assoc refl;
         long = (let e = length-append a.back d.back in let j = length-append a.fix d.fix in let l = a.long in let o = d.long in omega (arith, e, j, l, o));
-        enough = subst (λ (l : ℕ). Enough b c (a.back ++ d.back) l) (sym (length-append part after)) (enough_both i n b c a.back d.back (length part) (length after) (a.long ∙ ap length same) a.enough d.enough less);
+        enough = subst (λ (l : ℕ). Suffice b c (a.back ++ d.back) l) (sym (length-append part after)) (suffice_both i n b c a.back d.back (length part) (length after) (a.long ∙ ap length same) a.enough d.enough less);
       });
   is = λ ts u e.
       broken {A = A} {B = B} {ws = m ts ++ after} {g = g} {o = r ts} {f = f} {u = u} (λ v. Mend Q put counted rest b c v (x (z ts)) u) e
@@ -231,7 +231,7 @@ mends_on {A} {B} x y {z} {w} {P} {front} {counts} {tell} {told} {m} {r} {Q} {put
         back = a.back ++ d.back;
         opens = d.opens ∙ ap (λ (ks : List Open). (y ++ ks) ++ d.back) a.opens ∙ simp append_assoc refl;
         long = (let e = length-append a.back d.back in let j = length-append a.fix d.fix in let l = a.long in let o = d.long in omega (arith, e, j, l, o));
-        enough = enough_on b c a.back d.back (length told) a.enough (λ e. subst (λ (v : List Token). Enough b c d.back (length v)) (ap (λ (v : List Token). v ++ tell a.whole) (sym (none_missing a.fix e a.long)) ∙ a.given) d.enough);
+        enough = suffice_on b c a.back d.back (length told) a.enough (λ e. subst (λ (v : List Token). Suffice b c d.back (length v)) (ap (λ (v : List Token). v ++ tell a.whole) (sym (none_missing a.fix e a.long)) ∙ a.given) d.enough);
       });
   is = λ ts u e.
       broken {A = A} {B = B} {ws = m ts} {g = g} {o = r ts} {f = f} {u = u} (λ v. Mend Q put counted rest b c v (x (z ts)) u) e
@@ -289,7 +289,7 @@ pub mends_fits : {A : Type 0} {p : Place} {k : TokenView} {x : List Token → Li
 mends_fits {A} {p} {k} {x} {y} {Q} {put} {counted} {rest} {b} {c} {n} {r} e h = subst (λ (z : Bool). MendsAt p k x y Q put counted rest b c n (if_fits z r)) (sym e) h
 
 -- what words stand for, and what is missing there; of words of one kind of tokens
-abbrev pub EachMend : {A : Type 0} → (Word → TokenView) → Place → (List Token → List Token) → List Open → (A → Type 0) → (A → List Token → List Token) → (A → List Open) → (A → List Token) → ℕ → ℕ → List (Word × Missing) → List (Word × Reader A) → Type 0
+abbrev EachMend : {A : Type 0} → (Word → TokenView) → Place → (List Token → List Token) → List Open → (A → Type 0) → (A → List Token → List Token) → (A → List Open) → (A → List Token) → ℕ → ℕ → List (Word × Missing) → List (Word × Reader A) → Type 0
 EachMend kind p x y Q put counted rest b c [] [] = Unit {0}
 EachMend kind p x y Q put counted rest b c ((v, n) ∷ ns) ((w, r) ∷ rs) = (v ≡ w) × MendsAt p (kind w) x y Q put counted rest b c n r × EachMend kind p x y Q put counted rest b c ns rs
 EachMend kind p x y Q put counted rest b c ns rs = ⊥

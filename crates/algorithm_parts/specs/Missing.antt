@@ -3,14 +3,13 @@ use Rattle.std.specs.Prelude.{ℕ, List, [], ◌∷◌, ◌++◌, Ok, Err}
 use Rattle.tla_token.specs.declared.place.Place.{Place}
 use Rattle.tla_token.specs.Places.{nowhere}
 use Rattle.tla_tree.specs.Tree.{Word, Name}
-use Rattle.tla_tree.specs.Lexical.{Mark, TokenView, Token, token}
-use Rattle.tla_tree.specs.Lexical as tk
+use Rattle.tla_tree.specs.Lexical.{Mark, TokenView, Token}
 use Rattle.tla_tree.specs.Spelling.{Phrase}
 use Rattle.tla_tree.specs.declared.op.Op.TheVariants as op
 use Rattle.tla_tree.specs.Reader.{Out, Reader, free, tail, next}
 use Rattle.tla_tree.specs.Wanted.{an_x, completing, number_at}
 use Rattle.tla_tree.specs.NeedsLists.{needs}
-use Rattle.pcal_tree.specs.GrammarParts.{key, mark}
+use Rattle.pcal_tree.specs.GrammarParts.{key, mark, sign, word}
 use Rattle.algorithm_parts.specs.TokenReaders.{first, a_key, a_mark, a_name, Parts}
 
 -- the tokens that complete what was read of these before they were refused
@@ -47,12 +46,16 @@ past_misses n ts = n (tail ts)
 abbrev pub all_of : List Token → Missing
 all_of ws ts = ws
 
+-- where all that was passed is read, nothing; and else what is missing of it
+abbrev pub completed_by : {A : Type 0} → Reader A → Missing → List Token → List Token
+completed_by r n passed = or_after (r passed) (n passed) (λ x. all_of [])
+
 -- ---- single tokens
 abbrev pub an_identifier : List Token → List Token
-an_identifier ts = token nowhere (tk.word an_x) ∷ ts
+an_identifier ts = word nowhere an_x ts
 
 abbrev pub an_equal : List Token → List Token
-an_equal ts = token nowhere (tk.sign op.Equal) ∷ ts
+an_equal ts = sign nowhere op.Equal ts
 
 abbrev pub a_number : List Token → List Token
 a_number ts = number_at 0 ∷ ts

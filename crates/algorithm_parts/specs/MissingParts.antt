@@ -25,13 +25,13 @@ abbrev pub missing_initial : Bool → PartsMiss → Missing
 missing_initial b w = by_next_misses (missing_initial_by b w)
 
 -- after a separator
-abbrev pub more_variables : Missing → Option Separator → Place → TokenView → Missing
-more_variables n (Some s) p (tk.word y) = n
-more_variables n s p k = all_of []
+abbrev pub missing_after_separator : Missing → Option Separator → Place → TokenView → Missing
+missing_after_separator n (Some s) p (tk.word y) = n
+missing_after_separator n s p k = all_of []
 
 abbrev pub missing_variables : Bool → Parts → PartsMiss → ℕ → Missing
 missing_variables b m w zero = all_of (an_identifier [])
-missing_variables b m w (suc n) = name_then [] (λ x. then_misses (read_initial b m) (missing_initial b w) [] (λ i. then_misses read_separator (all_of []) [] (λ s. by_next_misses (more_variables (missing_variables b m w n) s))))
+missing_variables b m w (suc n) = name_then [] (λ x. then_misses (read_initial b m) (missing_initial b w) [] (λ i. then_misses read_separator (all_of []) [] (λ s. by_next_misses (missing_after_separator (missing_variables b m w n) s))))
 
 abbrev pub missing_section_words : Bool → Parts → PartsMiss → ℕ → List (Word × Missing)
 missing_section_words b m w n = (codes "variable", past_misses (missing_variables b m w n)) ∷ (codes "variables", past_misses (missing_variables b m w n)) ∷ []
@@ -45,14 +45,15 @@ missing_section b m w n = by_next_misses (missing_section_by b m w n)
 
 -- ---- parameters and definitions
 -- after a comma
-abbrev pub more_names : Missing → Place → TokenView → Missing
-more_names n p (tk.mark tk.comma) = past_misses n
-more_names n p k = all_of []
+abbrev pub missing_after_comma : Missing → Place → TokenView → Missing
+missing_after_comma n p (tk.mark tk.comma) = past_misses n
+missing_after_comma n p k = all_of []
 
 abbrev pub missing_names : ℕ → Missing
 missing_names zero = all_of (an_identifier [])
-missing_names (suc n) = name_then [] (λ x. by_next_misses (more_names (missing_names n)))
+missing_names (suc n) = name_then [] (λ x. by_next_misses (missing_after_comma (missing_names n)))
 
+-- `)`, and `( )`
 abbrev pub a_close : List Token → List Token
 a_close = mark nowhere tk.close_bracket
 
@@ -68,7 +69,7 @@ missing_macro_parameters n = mark_then tk.open_bracket (a_close []) (λ p. by_ne
 
 abbrev pub missing_parameters : Parts → PartsMiss → ℕ → Missing
 missing_parameters m w zero = all_of (an_identifier [])
-missing_parameters m w (suc n) = name_then [] (λ x. then_misses (read_initial false m) (missing_initial false w) [] (λ i. by_next_misses (more_names (missing_parameters m w n))))
+missing_parameters m w (suc n) = name_then [] (λ x. then_misses (read_initial false m) (missing_initial false w) [] (λ i. by_next_misses (missing_after_comma (missing_parameters m w n))))
 
 abbrev pub missing_procedure_parameters_by : Parts → PartsMiss → ℕ → Place → TokenView → Missing
 missing_procedure_parameters_by m w n q (tk.mark tk.close_bracket) = all_of []
@@ -89,14 +90,14 @@ abbrev pub a_meaning : List Token → List Token
 a_meaning ts = mark nowhere tk.defines (a_number ts)
 
 -- a name begins one more
-abbrev pub more_definitions : Missing → Place → TokenView → Missing
-more_definitions n q (tk.word y) = n
-more_definitions n q k = all_of []
+abbrev pub missing_after_definition : Missing → Place → TokenView → Missing
+missing_after_definition n q (tk.word y) = n
+missing_after_definition n q k = all_of []
 
 abbrev pub missing_definitions : Parts → PartsMiss → ℕ → Missing
 missing_definitions m w zero = all_of (an_identifier (a_meaning []))
 missing_definitions m w (suc n) =
-    then_misses (read_heading n) (missing_heading n) (a_meaning []) (λ h. mark_then tk.defines (a_number []) (λ p. expr_then m w [] (λ e. by_next_misses (more_definitions (missing_definitions m w n)))))
+    then_misses (read_heading n) (missing_heading n) (a_meaning []) (λ h. mark_then tk.defines (a_number []) (λ p. expr_then m w [] (λ e. by_next_misses (missing_after_definition (missing_definitions m w n)))))
 
 -- ---- after the name of a label
 abbrev pub missing_colon : Missing
@@ -114,4 +115,4 @@ abbrev pub missing_binds : Parts → PartsMiss → ℕ → ℕ → Missing
 missing_binds m w zero d = all_of (an_identifier (a_value []))
 missing_binds m w (suc n) d =
     then_misses (name_within (m.room (d + 1))) (all_of (an_identifier [])) (a_value [])
-    (λ x. bind_then (a_number []) (λ b. expr_then m w [] (λ e. then_misses read_separator (all_of []) [] (λ s. by_next_misses (more_variables (missing_binds m w n (d + 1)) s)))))
+    (λ x. bind_then (a_number []) (λ b. expr_then m w [] (λ e. then_misses read_separator (all_of []) [] (λ s. by_next_misses (missing_after_separator (missing_binds m w n (d + 1)) s)))))

@@ -6,7 +6,7 @@ use Rattle.tla_tree.specs.Tree.{Word}
 use Rattle.tla_tree.specs.Lexical.{TokenView, Token, token}
 use Rattle.tla_tree.specs.Lexical as tk
 use Rattle.tla_tree.specs.Reader.{Reader, refuses}
-use Rattle.pcal_tree.specs.GrammarParts.{key}
+use Rattle.pcal_tree.specs.GrammarParts.{key, word}
 use Rattle.algorithm_parts.specs.TokenReaders.{by_next, pick, Parts}
 use Rattle.algorithm_parts.specs.ReadParts.{read_section, read_macro_parameters, read_procedure_parameters}
 use Rattle.algorithm_parts.specs.ReadAround.{fair_by}
@@ -16,7 +16,7 @@ use Rattle.algorithm_parts.specs.MissingParts.{no_list, missing_section, missing
 
 -- ---- the head
 abbrev pub a_head : List Token → List Token
-a_head ts = token nowhere (tk.word (codes "--algorithm")) ∷ ts
+a_head ts = word nowhere (codes "--algorithm") ts
 
 abbrev pub missing_head_words : List (Word × Missing)
 missing_head_words = (codes "--algorithm", all_of []) ∷ (codes "--fair", all_of (key nowhere (codes "algorithm") [])) ∷ []
@@ -37,11 +37,11 @@ pub record WaysMiss : Type 0 where
   pub define : ℕ → Missing
 
 -- ---- after their words
-abbrev pub missing_macro : Ways → WaysMiss → ℕ → Missing
-missing_macro f v n = name_then (no_list (v.a_body (codes "macro"))) (λ x. then_misses (read_macro_parameters n) (missing_macro_parameters n) (v.a_body (codes "macro")) (λ ps. v.body n (codes "macro")))
+abbrev pub missing_macro : WaysMiss → ℕ → Missing
+missing_macro v n = name_then (no_list (v.a_body (codes "macro"))) (λ x. then_misses (read_macro_parameters n) (missing_macro_parameters n) (v.a_body (codes "macro")) (λ ps. v.body n (codes "macro")))
 
-abbrev pub missing_procedure : Parts → PartsMiss → Ways → WaysMiss → ℕ → Missing
-missing_procedure m w f v n =
+abbrev pub missing_procedure : Parts → PartsMiss → WaysMiss → ℕ → Missing
+missing_procedure m w v n =
     name_then (no_list (v.a_body (codes "procedure"))) (λ x. then_misses (read_procedure_parameters m n) (missing_procedure_parameters m w n) (v.a_body (codes "procedure"))
     (λ ps. then_misses (read_section false m n) (missing_section false m w n) (v.a_body (codes "procedure")) (λ vs. v.body n (codes "procedure"))))
 
@@ -49,18 +49,18 @@ abbrev pub missing_process : Parts → PartsMiss → Ways → WaysMiss → ℕ �
 missing_process m w f v n = then_misses f.identity v.identity (v.a_body (codes "process")) (λ i. then_misses (read_section true m n) (missing_section true m w n) (v.a_body (codes "process")) (λ vs. v.body n (codes "process")))
 
 -- from its identity on
-abbrev pub a_process : WaysMiss → List Token
-a_process v = v.an_identity ++ v.a_body (codes "process")
+abbrev pub process_after_word : WaysMiss → List Token
+process_after_word v = v.an_identity ++ v.a_body (codes "process")
 
 abbrev pub missing_process_words : Parts → PartsMiss → Ways → WaysMiss → ℕ → Place → List (Word × Missing)
 missing_process_words m w f v n p =
     (codes "process", past_misses (missing_process m w f v n))
-    ∷ (codes "fair", past_misses (then_misses (by_next (fair_by p)) (all_of []) (key nowhere (codes "process") (a_process v)) (λ a. key_then (codes "process") (a_process v) (λ q. missing_process m w f v n))))
+    ∷ (codes "fair", past_misses (then_misses (by_next (fair_by p)) (all_of []) (key nowhere (codes "process") (process_after_word v)) (λ a. key_then (codes "process") (process_after_word v) (λ q. missing_process m w f v n))))
     ∷ []
 
 -- ---- those that come
 abbrev pub missing_macros_by : Ways → WaysMiss → ℕ → Missing → Place → TokenView → Missing
-missing_macros_by f v n r p (tk.reserved w) = pick w ((codes "macro", past_misses (then_misses (read_macro f n p) (missing_macro f v n) [] (λ x. r))) ∷ []) (all_of [])
+missing_macros_by f v n r p (tk.reserved w) = pick w ((codes "macro", past_misses (then_misses (read_macro f n p) (missing_macro v n) [] (λ x. r))) ∷ []) (all_of [])
 missing_macros_by f v n r p k = all_of []
 
 abbrev pub missing_macros : Ways → WaysMiss → ℕ → Missing
@@ -68,7 +68,7 @@ missing_macros f v zero = all_of []
 missing_macros f v (suc n) = by_next_misses (missing_macros_by f v n (missing_macros f v n))
 
 abbrev pub missing_procedures_by : Parts → PartsMiss → Ways → WaysMiss → ℕ → Missing → Place → TokenView → Missing
-missing_procedures_by m w f v n r p (tk.reserved z) = pick z ((codes "procedure", past_misses (then_misses (read_procedure m f n p) (missing_procedure m w f v n) [] (λ x. r))) ∷ []) (all_of [])
+missing_procedures_by m w f v n r p (tk.reserved z) = pick z ((codes "procedure", past_misses (then_misses (read_procedure m f n p) (missing_procedure m w v n) [] (λ x. r))) ∷ []) (all_of [])
 missing_procedures_by m w f v n r p k = all_of []
 
 abbrev pub missing_procedures : Parts → PartsMiss → Ways → WaysMiss → ℕ → Missing
@@ -99,4 +99,4 @@ missing_define v n = by_next_misses (missing_define_by v n)
 -- the word of the first process; another word is none
 abbrev pub missing_main_processes : Parts → PartsMiss → Ways → WaysMiss → ℕ → Place → Word → Missing
 missing_main_processes m w f v n p z =
-    then_misses (pick z (process_words m f n p) refuses) (pick z (missing_process_words m w f v n p) (all_of (key nowhere (codes "process") (a_process v)))) [] (λ x. missing_processes m w f v n)
+    then_misses (pick z (process_words m f n p) refuses) (pick z (missing_process_words m w f v n p) (all_of (key nowhere (codes "process") (process_after_word v)))) [] (λ x. missing_processes m w f v n)

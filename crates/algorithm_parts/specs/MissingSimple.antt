@@ -8,7 +8,7 @@ use Rattle.tla_tree.specs.Lexical as tk
 use Rattle.tla_tree.specs.Spelling as spelled
 use Rattle.tla_tree.specs.Reader as expression
 use Rattle.tla_tree.specs.Wanted.{mark_at, word_at}
-use Rattle.pcal_tree.specs.GrammarParts.{mark}
+use Rattle.pcal_tree.specs.GrammarParts.{key, mark}
 use Rattle.algorithm_parts.specs.TokenReaders.{Parts}
 use Rattle.algorithm_parts.specs.ReadSimple.{read_left}
 use Rattle.algorithm_parts.specs.Missing.{Missing, then_misses, by_next_misses, peek_misses, past_misses, all_of, an_identifier, a_number, mark_then, name_then, PartsMiss, expr_then}
@@ -39,15 +39,19 @@ missing_left m w (suc n) = peek_misses (missing_left_by m w (missing_left m w n)
 abbrev pub a_new_value : List Token → List Token
 a_new_value ts = mark nowhere tk.assigns (a_number ts)
 
-abbrev pub more_assignments : (Name → Missing) → Place → TokenView → Missing
-more_assignments n q (tk.mark tk.beside) = past_misses (then_misses (expression.a_word 0) (all_of (word_at 0 ∷ [])) (a_new_value []) (λ x. n (spelled.named x.0 x.1)))
-more_assignments n q k = all_of []
+abbrev pub missing_after_value : (Name → Missing) → Place → TokenView → Missing
+missing_after_value n q (tk.mark tk.beside) = past_misses (then_misses (expression.a_word 0) (all_of (word_at 0 ∷ [])) (a_new_value []) (λ x. n (spelled.named x.0 x.1)))
+missing_after_value n q k = all_of []
 
 abbrev pub missing_assignments : Parts → PartsMiss → ℕ → Name → Missing
 missing_assignments m w zero x = all_of (a_new_value [])
 missing_assignments m w (suc n) x =
     then_misses (read_left m (suc n) (spelled.name x.place x.word)) (missing_left m w (suc n)) (a_new_value [])
-    (λ l. mark_then tk.assigns (a_number []) (λ p. expr_then m w [] (λ e. by_next_misses (more_assignments (missing_assignments m w n)))))
+    (λ l. mark_then tk.assigns (a_number []) (λ p. expr_then m w [] (λ e. by_next_misses (missing_after_value (missing_assignments m w n)))))
+
+-- ---- the shortest statement
+abbrev pub a_skip : List Token → List Token
+a_skip ts = key nowhere (codes "skip") ts
 
 -- ---- a statement after its first name, and those that begin with a word
 abbrev pub missing_assign : Bool → Parts → PartsMiss → ℕ → Name → Missing

@@ -6,7 +6,7 @@ use Rattle.tla_tree.specs.Tree.{Word}
 use Rattle.tla_tree.specs.Lexical.{TokenView, Token}
 use Rattle.tla_tree.specs.Reader.{Stop, readers}
 use Rattle.tla_tree.proofs.SpellAhead.{Ahead, held, put_ahead, then_ahead, ahead}
-use Rattle.pcal_tree.specs.GrammarParts.{key, name, no_section, no_labels, skip, section_tokens}
+use Rattle.pcal_tree.specs.GrammarParts.{key, mark, name, no_section, no_labels, skip, section_tokens}
 use Rattle.pcal_tree.specs.GrammarC.{simple, labelled, Sequence, last_statement}
 use Rattle.pcal_tree.specs.Grammar.{c_syntax, Body, begin_end, braces, body, GoodBody, macro, GoodMacro, procedure, GoodProcedure, unfair, Identity, bare, bracketed, identity, GoodIdentity, Process, process, GoodProcess, head, Define, no_define, define_end, define_braces, define, GoodDefine, Main, begin, block, processes, each, main, GoodMain, to_end, in_braces, around, Text, Good}
 use Rattle.pcal_tree.specs.OpenForms as form
@@ -21,7 +21,7 @@ use Rattle.algorithm_parts.proofs.MendParts.{MendsParts, parts_mend, some_name, 
 use Rattle.algorithm_parts.proofs.MendAround.{ahead_head, ahead_each, part_head, last_mends}
 use Rattle.algorithm_parts.proofs.MendRoutines.{AheadWays, MendWays, ahead_macro_whole, ahead_procedure_whole, ahead_process, part_macros, part_procedures, part_define, main_processes_mend}
 use Rattle.c_syntax.specs.ReadAlgorithm.{read_body, read_identity, define_from, ways, main_by, read_main, read_text, read_algorithm}
-use Rattle.c_syntax.specs.MissingAlgorithm.{a_block, missing_body, an_identity, missing_identity, a_define, missing_define_from, ways_miss, missing_main_by, missing_main, a_text, missing_text, missing_algorithm}
+use Rattle.c_syntax.specs.MissingAlgorithm.{a_block, some_definitions, missing_body, an_identity, missing_identity, missing_define_from, ways_miss, missing_main_by, missing_main, a_text, missing_text, missing_algorithm}
 use Rattle.c_syntax.proofs.SoundAlgorithm.{body_sound, identity_sound, ways_sound, by_main_sound, text_sound}
 use Rattle.c_syntax.proofs.MendStatements.{ahead_sequence, part_sequence}
 use Rattle.tla_tree.specs.Lexical as tk
@@ -92,7 +92,11 @@ module _ (m : Parts) (w : PartsMiss) (h : MendsParts m w) where
         mends_gives (bracketed q x b.0 b.1 e r) g (λ ts. refl) (simp append_assoc refl))))));
   }
 
-  define_mends : (n : ℕ) (p : Place) → Mends (λ ts. key p (codes "define") ts) (form.here 0) (GoodDefine c_syntax) define define_opens none 0 8 (a_define []) (missing_define_from m w n) (define_from m n p)
+  -- `{`, and the shortest definitions
+  abbrev a_define : List Token
+  a_define = mark nowhere tk.open_brace (some_definitions [])
+
+  define_mends : (n : ℕ) (p : Place) → Mends (λ ts. key p (codes "define") ts) (form.here 0) (GoodDefine c_syntax) define define_opens none 0 8 a_define (missing_define_from m w n) (define_from m n p)
   define_mends n p =
       mends_bind (put_ahead held) (part_mark 0 tk.open_brace) (omega arith) (λ b u hb. mends_bind hb (part_definitions m w h n) (omega arith) (λ ds g hd. mends_bind hd (part_mark 0 tk.close_brace) (omega arith) (λ d v he. mends_bind he (part_semicolon 0) (omega arith) (λ s x hs.
       mends_gives (define_braces p b ds d s) g (λ ts. refl) (simp append_assoc refl)))))
@@ -106,7 +110,7 @@ module _ (m : Parts) (w : PartsMiss) (h : MendsParts m w) where
     short_identity = omega arith;
     body = part_body;
     identity = part_identity;
-    a_define = a_define [];
+    a_define = a_define;
     define = define_mends;
   }
 

@@ -33,7 +33,8 @@ use Rattle.algorithm_parts.proofs.MendSimple.{named_mends, words_mend}
 use Rattle.algorithm_parts.proofs.WithLabel.{with_label_tokens}
 use Rattle.c_syntax.specs.ReadStatements.{Before, none, after, Arms, first_arm, later_arm, Test, if_test, Opening, with_opening, while_opening, Stack, bottom, in_block, in_then, in_else, in_body, in_either, State, begin, ended, Turn, on, done, with_before, joined, tested}
 use Rattle.c_syntax.specs.ReadStatements.{depth, before_or, opens, either_if, after_name, bracketed, statement_words, statement_by, ask_else, ask_or, ask_other, closed, takes_else, takes_or, closing_words, is_divided, another_if, list_by, ended_by, step, turned, run, read_sequence, closing, rest}
-use Rattle.c_syntax.specs.MissingStatements.{rest_turn, a_skip, an_else, missing_bracketed, missing_statement_words, missing_after_name, missing_statement, missing_another, missing_list, missing_closing_words, missing_ended, missing_step, missing_turned, missing_run, missing_sequence}
+use Rattle.algorithm_parts.specs.MissingSimple.{a_skip}
+use Rattle.c_syntax.specs.MissingStatements.{an_else, missing_bracketed, missing_statement_words, missing_after_name, missing_statement_by, missing_another_by, missing_list_by, missing_closing_words, missing_ended_by, missing_step, missing_turned, missing_run, missing_sequence}
 use Rattle.c_syntax.proofs.SoundStatements.{before, arms, test, opening, stack, passed, turn, GoodStack, GoodState, GoodTurn, with_before_tokens, with_before_good, joined_tokens, joined_good, joined_takes_else, AllFound, closes, at, divides, step_sound, sequence_sound}
 use Rattle.c_syntax.proofs.BesideStatements.{stack_opens, with_before_opens, joined_opens, tested_opens}
 use Rattle.c_syntax.proofs.Closing.{few_closing}
@@ -102,28 +103,28 @@ ahead_turn (done ss) = ahead_sequence ss
 
 -- ---- the forms that were open at the tokens that were passed, where all that stands open is closed after them
 -- at a `;` that has what closes all right after it
-abbrev divided : Stack → ℕ
-divided (bottom b) = 0
-divided (in_block ls p b st) = depth st + 1
-divided (in_then ls t st) = depth st + 1
-divided (in_else ls t a s p st) = divided st
-divided (in_body ls o st) = divided st
-divided (in_either (first_arm ls p) st) = depth st + 1
-divided (in_either (later_arm t a s p) st) = divided st
+abbrev closing_divider : Stack → ℕ
+closing_divider (bottom b) = 0
+closing_divider (in_block ls p b st) = depth st + 1
+closing_divider (in_then ls t st) = depth st + 1
+closing_divider (in_else ls t a s p st) = closing_divider st
+closing_divider (in_body ls o st) = closing_divider st
+closing_divider (in_either (first_arm ls p) st) = depth st + 1
+closing_divider (in_either (later_arm t a s p) st) = closing_divider st
 
 abbrev at_opens : Labels → Stack → List Open
 at_opens ls st = stack_opens st ++ plain (depth st) (labels ls)
 
 abbrev after_opens : Labelled → Option Place → Stack → List Open
-after_opens a s st = stack_opens st ++ c_labelled (depth st) a ++ plain (divided st) (maybe_semicolon s)
+after_opens a s st = stack_opens st ++ c_labelled (depth st) a ++ plain (closing_divider st) (maybe_semicolon s)
 
 abbrev passed_opens : State → List Open
 passed_opens (begin ls st) = at_opens ls st
 passed_opens (ended a s st) = after_opens a s st
 
-abbrev turn_opens : Turn → List Open
-turn_opens (on s) = passed_opens s
-turn_opens (done ss) = c_sequence 0 ss
+abbrev turn_passed : Turn → List Open
+turn_passed (on s) = passed_opens s
+turn_passed (done ss) = c_sequence 0 ss
 
 abbrev skips : Labelled
 skips = labelled no_labels (simple (g.skip nowhere))
@@ -133,10 +134,15 @@ then_closed : (st : Stack) (ls : Labels) (t : Test) (a : Labelled) (s : Option P
 then_closed st ls t a s = append-nil _ ∙ ap (λ (y : List Open). stack_opens st ++ y) (tested_opens (depth st) ls t a (else_then s nowhere skips)) ∙ simp append_assoc refl
 
 else_closed : (st : Stack) (ls : Labels) (t : Test) (b : Labelled) (q : Option Place) (p : Place) (a : Labelled) (s : Option Place) → after_opens (tested ls t b (else_then q p a)) s st ≡ after_opens a s (in_else ls t b q p st)
-else_closed st ls t b q p a s = ap (λ (y : List Open). stack_opens st ++ y ++ plain (divided st) (maybe_semicolon s)) (tested_opens (depth st) ls t b (else_then q p a)) ∙ simp append_assoc refl
+else_closed st ls t b q p a s = ap (λ (y : List Open). stack_opens st ++ y ++ plain (closing_divider st) (maybe_semicolon s)) (tested_opens (depth st) ls t b (else_then q p a)) ∙ simp append_assoc refl
 
-arm_closed : (st : Stack) (t : Arms) (a : Labelled) (s : Option Place) → divided (in_either t st) ≡ depth st + 1 → after_opens (joined t a (last_branch s nowhere skips)) None st ≡ after_opens a s (in_either t st) ++ (here (depth st + 1) ++ here (depth st + 1))
+arm_closed : (st : Stack) (t : Arms) (a : Labelled) (s : Option Place) → closing_divider (in_either t st) ≡ depth st + 1 → after_opens (joined t a (last_branch s nowhere skips)) None st ≡ after_opens a s (in_either t st) ++ (here (depth st + 1) ++ here (depth st + 1))
 arm_closed st t a s e = rw e (append-nil _ ∙ ap (λ (y : List Open). stack_opens st ++ y) (joined_opens (depth st) t a (last_branch s nowhere skips)) ∙ simp append_assoc refl)
+
+-- where a step went: what closes the state there, and nothing after the whole list
+abbrev rest_turn : Turn → List Token
+rest_turn (on s) = rest s
+rest_turn (done ss) = []
 
 -- ---- what completes a state
 abbrev Filled : (List Token → List Token) → List Open → List Token → Type 0
@@ -198,7 +204,7 @@ stack_filled (in_either (later_arm t b q p) st) d a i n c s =
     (let bs = last_branch q p a in
     let it = joined t b bs in
     again (behind a s (in_either (later_arm t b q p) st)) (behind it s st) (λ ts. ap (stack st) (joined_tokens t b bs (maybe_semicolon s ts)))
-    (ap (λ (y : List Open). stack_opens st ++ y ++ plain (divided st) (maybe_semicolon s)) (joined_opens (depth st) t b bs) ∙ simp append_assoc refl)
+    (ap (λ (y : List Open). stack_opens st ++ y ++ plain (closing_divider st) (maybe_semicolon s)) (joined_opens (depth st) t b bs) ∙ simp append_assoc refl)
     (stack_filled st d.2 it (joined_good t b bs d.0.0 d.0.1 d.0.2 i) (ap not (joined_takes_else t b bs) ∙ n) (λ k. absurd (let f = d.1 in cc)) s))
 
 state_filled : (s : State) → GoodState s → Filled (passed s) (passed_opens s) (rest s)
@@ -210,10 +216,10 @@ state_filled (ended a s st) i = stack_filled st i.3 a i.0 i.1 (λ k. i.2) s
 
 -- ---- a step
 abbrev Steps : (List Token → List Token) → List Open → List Token → Missing → Reader Turn → Type 0
-Steps x y told n r = Mends x y GoodTurn turn turn_opens rest_turn 0 6 told n r
+Steps x y told n r = Mends x y GoodTurn turn turn_passed rest_turn 0 6 told n r
 
 abbrev StepsAt : Place → TokenView → (List Token → List Token) → List Open → Missing → Reader Turn → Type 0
-StepsAt p k x y n r = MendsAt p k x y GoodTurn turn turn_opens rest_turn 0 6 n r
+StepsAt p k x y n r = MendsAt p k x y GoodTurn turn turn_passed rest_turn 0 6 n r
 
 -- where a reader refuses, the counts of what it puts together are told, whatever those before it are
 recounted : {p : Place} {k : TokenView} {x : List Token → List Token} {y z : List Open} {n : Missing} {r : Reader Turn} → StepsAt p k x y n r → StepsAt p k x z n r
@@ -228,7 +234,7 @@ goes t = record { is = λ ts s u e. gives_err t (tail ts) u e }
 
 -- where what was passed is a state, which this closes
 abbrev Stands : (List Token → List Token) → List Open → List Token → Type 0
-Stands x y ws = Ahead x × Fill x y GoodTurn turn turn_opens rest_turn 0 6 ws
+Stands x y ws = Ahead x × Fill x y GoodTurn turn turn_passed rest_turn 0 6 ws
 
 stops : (p : Place) (k : TokenView) (x : List Token → List Token) {y : List Open} {ws : List Token} → Stands x y ws → StepsAt p k x y (all_of ws) refuses
 stops p k x i = mends_stays (mends_refuses i.0 i.1)
@@ -262,7 +268,7 @@ module _ (m : Parts) (w : PartsMiss) (h : MendsParts m w) where
   either_steps ls p st i true = stops p (tk.reserved (codes "either")) (at ls st) (begin_stands ls st i)
   either_steps ls p st i false = mends_fits (h.room (depth st + 1)) (goes (opens (in_either (first_arm ls p) st)))
 
-  words_step : (n : ℕ) (ls : Labels) (st : Stack) → GoodStack st → (p : Place) → AllMend p (at ls st) (at_opens ls st) GoodTurn turn turn_opens rest_turn 0 6 (missing_statement_words m w n st) (statement_words m n ls st p)
+  words_step : (n : ℕ) (ls : Labels) (st : Stack) → GoodStack st → (p : Place) → AllMend p (at ls st) (at_opens ls st) GoodTurn turn turn_passed rest_turn 0 6 (missing_statement_words m w n st) (statement_words m n ls st p)
   words_step n ls st i p =
       (let d = depth st in
       let few = few_closing st in
@@ -287,11 +293,11 @@ module _ (m : Parts) (w : PartsMiss) (h : MendsParts m w) where
         ),
       ))
 
-  statement_steps : (n : ℕ) (ls : Labels) (st : Stack) → GoodStack st → (p : Place) (k : TokenView) → StepsAt p k (at ls st) (at_opens ls st) (missing_statement m w n st p k) (statement_by m n ls st p k)
+  statement_steps : (n : ℕ) (ls : Labels) (st : Stack) → GoodStack st → (p : Place) (k : TokenView) → StepsAt p k (at ls st) (at_opens ls st) (missing_statement_by m w n st p k) (statement_by m n ls st p k)
   statement_steps n ls st i p (tk.word x) =
       (let d = depth st in
       let few = few_closing st in
-      let all : Fill (λ ts. at ls st (word p x ts)) (at_opens ls st ++ here d) GoodTurn turn turn_opens rest_turn 0 6 (no_list (closing st)) =
+      let all : Fill (λ ts. at ls st (word p x ts)) (at_opens ls st ++ here d) GoodTurn turn turn_passed rest_turn 0 6 (no_list (closing st)) =
       record {
         whole = on (ended (labelled ls (simple (g.macro (record { place = p; word = x }) (g.no_arguments nowhere nowhere)))) None st);
         good = (tt, refl, refl, i);
@@ -327,11 +333,14 @@ module _ (m : Parts) (w : PartsMiss) (h : MendsParts m w) where
     or_taken s p o = stops p (tk.reserved (codes "or")) x i
 
     another_steps : (n : ℕ) (s : Option Place) (p : Place) (k : TokenView) (a : Labelled) (st : Stack) → (Divided s a → GoodStack st) → ((ts : List Token) → stack st ts ≡ x ts) → (b : Bool) → is_divided s a ≡ b
-        → StepsAt p k x y (missing_another b ws (missing_statement m w n st p k)) (another_if b (statement_by m n no_labels st p k))
-    another_steps n s p k a st g e true d = mends_same e refl (recounted (statement_steps n no_labels st (g (divides s a d)) p k))
+        → StepsAt p k x y (missing_another_by b m w n st ws p k) (another_if b (statement_by m n no_labels st p k))
+    another_steps n s p (tk.word v) a st g e true d = mends_same e refl (recounted (statement_steps n no_labels st (g (divides s a d)) p (tk.word v)))
+    another_steps n s p (tk.reserved v) a st g e true d = mends_same e refl (recounted (statement_steps n no_labels st (g (divides s a d)) p (tk.reserved v)))
+    another_steps n s p (tk.mark tk.open_brace) a st g e true d = mends_fits (h.room (depth st + 1)) (goes (opens (in_block no_labels p none st)))
+    another_steps n s p k a st g e true d = stops p k x i
     another_steps n s p k a st g e false d = stops p k x i
 
-    list_steps : (n : ℕ) (s : Option Place) (p : Place) (k : TokenView) (z : List Token → List Token) (o : Option (Labelled × Stack)) → AllFound ask_other z o → ((ts : List Token) → z (maybe_semicolon s ts) ≡ x ts) → StepsAt p k x y (missing_list m w n s ws p k o) (list_by m n s p k o)
+    list_steps : (n : ℕ) (s : Option Place) (p : Place) (k : TokenView) (z : List Token → List Token) (o : Option (Labelled × Stack)) → AllFound ask_other z o → ((ts : List Token) → z (maybe_semicolon s ts) ≡ x ts) → StepsAt p k x y (missing_list_by m w n s ws p k o) (list_by m n s p k o)
     list_steps n s p (tk.mark tk.close_brace) z (Some (a, bottom b)) f e = stays (done (with_before b (last_statement a s)))
     list_steps n s p (tk.mark tk.close_brace) z (Some (a, in_block ls q b st)) f e = goes (on (ended (labelled ls (compound q (with_before b (last_statement a s)) p)) None st))
     list_steps n s p k z (Some (a, bottom b)) f e =
@@ -340,7 +349,7 @@ module _ (m : Parts) (w : PartsMiss) (h : MendsParts m w) where
         another_steps n s p k a (in_block ls q (after b a s) st) (λ d. ((f.stands.0, f.good, d), f.stands.1)) (λ ts. f.same (maybe_semicolon s ts) ∙ e ts) (is_divided s a) refl
     list_steps n s p k z o f e = stops p k x i
 
-  ended_steps : (n : ℕ) (a : Labelled) (s : Option Place) (st : Stack) → GoodState (ended a s st) → (p : Place) (k : TokenView) → StepsAt p k (passed (ended a s st)) (after_opens a s st) (missing_ended m w n a s st p k) (ended_by m n a s st p k)
+  ended_steps : (n : ℕ) (a : Labelled) (s : Option Place) (st : Stack) → GoodState (ended a s st) → (p : Place) (k : TokenView) → StepsAt p k (passed (ended a s st)) (after_opens a s st) (missing_ended_by m w n a s st p k) (ended_by m n a s st p k)
   ended_steps n a None st i p (tk.mark tk.semicolon) = goes (on (ended a (Some p) st))
   ended_steps n a s st i p (tk.reserved v) =
       (let x = passed (ended a s st) in
@@ -362,7 +371,7 @@ module _ (m : Parts) (w : PartsMiss) (h : MendsParts m w) where
   run_mends zero s i = mends_refuses (ahead_passed s) (state_filled s i)
   run_mends (suc n) s i = mends_on (λ ts. ts) [] held (step_sound m h.sound n s i) (λ a u. ahead_turn a) (step_mends n s i) (turned_mends (run_mends n))
     where
-      turned_mends : ((s : State) → GoodState s → Runs (passed s) (passed_opens s) (rest s) (missing_run m w n s) (run m n s)) → (t : Turn) → GoodTurn t → Ahead (turn t) → Runs (turn t) (turn_opens t) (rest_turn t) (missing_turned (missing_run m w n) t) (turned (run m n) t)
+      turned_mends : ((s : State) → GoodState s → Runs (passed s) (passed_opens s) (rest s) (missing_run m w n s) (run m n s)) → (t : Turn) → GoodTurn t → Ahead (turn t) → Runs (turn t) (turn_passed t) (rest_turn t) (missing_turned (missing_run m w n) t) (turned (run m n) t)
       turned_mends r (on s) i ht = r s i
       turned_mends r (done ss) i ht = mends_gives ss i (λ ts. refl) refl
 

@@ -1,5 +1,5 @@
 -- What is missing where a list of statements in C-syntax is refused, up to the `}` after it ("A PlusCal User's Manual, C-Syntax Version", appendix A).
-use Rattle.std.specs.Prelude.{ℕ, zero, suc, Bool, true, false, List, [], ◌∷◌, ◌++◌, Option, Some, codes}
+use Rattle.std.specs.Prelude.{ℕ, zero, suc, Bool, true, List, [], ◌∷◌, ◌++◌, Option, Some, codes}
 use Rattle.tla_token.specs.declared.place.Place.{Place}
 use Rattle.tla_token.specs.Places.{nowhere}
 use Rattle.tla_tree.specs.Tree.{Word, Name}
@@ -13,18 +13,10 @@ use Rattle.algorithm_parts.specs.ReadParts.{read_colon, read_binds}
 use Rattle.algorithm_parts.specs.ReadSimple.{named_by, simple_words}
 use Rattle.algorithm_parts.specs.Missing.{Missing, then_misses, goes_on_missing, by_next_misses, past_misses, all_of, an_identifier, a_number, mark_then, PartsMiss}
 use Rattle.algorithm_parts.specs.MissingParts.{a_close, a_value, missing_colon, missing_binds}
-use Rattle.algorithm_parts.specs.MissingSimple.{missing_named, missing_simple_words}
+use Rattle.algorithm_parts.specs.MissingSimple.{a_skip, missing_named, missing_simple_words}
 use Rattle.c_syntax.specs.ReadStatements.{none, after, Stack, bottom, in_block, State, begin, ended, Turn, on, done, depth, ask_other, closed, is_divided, step, closing, rest}
 
--- where a step went: what closes the state there, and nothing after the whole list
-abbrev pub rest_turn : Turn → List Token
-rest_turn (on s) = rest s
-rest_turn (done ss) = []
-
--- `skip`, and `else skip`
-abbrev pub a_skip : List Token → List Token
-a_skip ts = key nowhere (codes "skip") ts
-
+-- `else skip`
 abbrev pub an_else : List Token → List Token
 an_else ts = key nowhere (codes "else") (a_skip ts)
 
@@ -33,7 +25,7 @@ an_else ts = key nowhere (codes "else") (a_skip ts)
 abbrev pub missing_bracketed : {A : Type 0} → Reader A → Missing → List Token → List Token → Missing
 missing_bracketed r n part ws = mark_then tk.open_bracket (part ++ a_close ws) (λ q. then_misses r n (a_close ws) (λ x. mark_then tk.close_bracket ws (λ s. all_of [])))
 
--- an `either` is refused where an `or` must come; else nothing of it is missing
+-- an `either` is refused where an `or` must come, and nowhere else
 abbrev pub missing_statement_words : Parts → PartsMiss → ℕ → Stack → List (Word × Missing)
 missing_statement_words m w n st =
     (codes "if", past_misses (missing_bracketed m.expr w.expr (a_number []) (a_skip (an_else (closing st)))))
@@ -46,33 +38,34 @@ abbrev pub missing_after_name : Parts → PartsMiss → ℕ → Stack → Name �
 missing_after_name m w n st x p (tk.mark tk.colon) = then_misses read_colon missing_colon (a_skip (closing st)) (λ c. all_of [])
 missing_after_name m w n st x p k = then_misses (named_by m n x p k) (missing_named m w n x p k) (closing st) (λ s. all_of [])
 
-abbrev pub missing_statement : Parts → PartsMiss → ℕ → Stack → Place → TokenView → Missing
-missing_statement m w n st p (tk.word x) = past_misses (by_next_misses (missing_after_name m w n st (record { place = p; word = x })))
-missing_statement m w n st p (tk.reserved v) = pick v (missing_statement_words m w n st) (then_misses (pick v (simple_words m p) refuses) (pick v (missing_simple_words m w) (all_of (a_skip []))) (closing st) (λ s. all_of []))
-missing_statement m w n st p k = all_of (a_skip (closing st))
+abbrev pub missing_statement_by : Parts → PartsMiss → ℕ → Stack → Place → TokenView → Missing
+missing_statement_by m w n st p (tk.word x) = past_misses (by_next_misses (missing_after_name m w n st (record { place = p; word = x })))
+missing_statement_by m w n st p (tk.reserved v) = pick v (missing_statement_words m w n st) (then_misses (pick v (simple_words m p) refuses) (pick v (missing_simple_words m w) (all_of (a_skip []))) (closing st) (λ s. all_of []))
+missing_statement_by m w n st p k = all_of (a_skip (closing st))
 
--- ---- after a statement; these close all that stands open
-abbrev pub missing_another : Bool → List Token → Missing → Missing
-missing_another true ws n = n
-missing_another false ws n = all_of ws
+-- ---- after a statement; ws closes all that stands open
+-- where another one may come: it begins with a word, or there is none
+abbrev pub missing_another_by : Bool → Parts → PartsMiss → ℕ → Stack → List Token → Place → TokenView → Missing
+missing_another_by true m w n st ws p (tk.word x) = missing_statement_by m w n st p (tk.word x)
+missing_another_by true m w n st ws p (tk.reserved v) = missing_statement_by m w n st p (tk.reserved v)
+missing_another_by b m w n st ws p k = all_of ws
 
--- where another one may come, what is missing of it
-abbrev pub missing_list : Parts → PartsMiss → ℕ → Option Place → List Token → Place → TokenView → Option (Labelled × Stack) → Missing
-missing_list m w n s ws p k (Some (a, bottom b)) = missing_another (is_divided s a) ws (missing_statement m w n (bottom (after b a s)) p k)
-missing_list m w n s ws p k (Some (a, in_block ls q b st)) = missing_another (is_divided s a) ws (missing_statement m w n (in_block ls q (after b a s) st) p k)
-missing_list m w n s ws p k o = all_of ws
+abbrev pub missing_list_by : Parts → PartsMiss → ℕ → Option Place → List Token → Place → TokenView → Option (Labelled × Stack) → Missing
+missing_list_by m w n s ws p k (Some (a, bottom b)) = missing_another_by (is_divided s a) m w n (bottom (after b a s)) ws p k
+missing_list_by m w n s ws p k (Some (a, in_block ls q b st)) = missing_another_by (is_divided s a) m w n (in_block ls q (after b a s) st) ws p k
+missing_list_by m w n s ws p k o = all_of ws
 
 -- an `else` or `or` is refused where no open form takes it
 abbrev pub missing_closing_words : List Token → List (Word × Missing)
 missing_closing_words ws = (codes "else", all_of ws) ∷ (codes "or", all_of ws) ∷ []
 
-abbrev pub missing_ended : Parts → PartsMiss → ℕ → Labelled → Option Place → Stack → Place → TokenView → Missing
-missing_ended m w n a s st p (tk.reserved v) = pick v (missing_closing_words (closing st)) (missing_list m w n s (closing st) p (tk.reserved v) (closed ask_other a st))
-missing_ended m w n a s st p k = missing_list m w n s (closing st) p k (closed ask_other a st)
+abbrev pub missing_ended_by : Parts → PartsMiss → ℕ → Labelled → Option Place → Stack → Place → TokenView → Missing
+missing_ended_by m w n a s st p (tk.reserved v) = pick v (missing_closing_words (closing st)) (missing_list_by m w n s (closing st) p (tk.reserved v) (closed ask_other a st))
+missing_ended_by m w n a s st p k = missing_list_by m w n s (closing st) p k (closed ask_other a st)
 
 abbrev pub missing_step : Parts → PartsMiss → ℕ → State → Missing
-missing_step m w n (begin ls st) = by_next_misses (missing_statement m w n st)
-missing_step m w n (ended a s st) = by_next_misses (missing_ended m w n a s st)
+missing_step m w n (begin ls st) = by_next_misses (missing_statement_by m w n st)
+missing_step m w n (ended a s st) = by_next_misses (missing_ended_by m w n a s st)
 
 -- ---- all steps
 abbrev pub missing_turned : (State → Missing) → Turn → Missing

@@ -16,7 +16,7 @@ use Rattle.pcal_tree.specs.OpenForms as form
 use Rattle.algorithm_parts.specs.TokenReaders.{Parts, parts_of}
 use Rattle.algorithm_parts.specs.Missing.{an_identifier, PartsMiss, parts_miss}
 use Rattle.algorithm_parts.specs.MissingParts.{a_meaning, a_value}
-use Rattle.algorithm_parts.specs.MissingRoutines.{a_head, missing_main_processes}
+use Rattle.algorithm_parts.specs.MissingRoutines.{a_head}
 use Rattle.algorithm_parts.specs.MissingRoutines as wants
 use Rattle.algorithm_parts.proofs.Sound.{here, sound_next}
 use Rattle.algorithm_parts.proofs.Aheads.{ahead_semicolon, ahead_section, ahead_definitions}
@@ -100,7 +100,7 @@ module _ (m : Parts) (w : PartsMiss) (h : MendsParts m w) where
   ways_mend = record {
     sound = ways_sound m h.sound;
     heads = heads;
-    process = record { whole = a_process; good = (some_good, tt, tt); fix = key nowhere (codes "process") (wants.a_process (ways_miss m w)); tokens = λ v. refl; given = refl; back = process_opens a_process; opens = refl; long = refl; enough = omega arith };
+    process = record { whole = a_process; good = (some_good, tt, tt); fix = key nowhere (codes "process") (wants.process_after_word (ways_miss m w)); tokens = λ v. refl; given = refl; back = process_opens a_process; opens = refl; long = refl; enough = omega arith };
     short_body = λ z. omega arith;
     short_identity = omega arith;
     body = part_body;

@@ -9,7 +9,7 @@ use Rattle.tla_tree.specs.Lexical as tk
 use Rattle.tla_tree.specs.Reader.{Reader, refuses}
 use Rattle.tla_tree.specs.FirstStop.{Open}
 use Rattle.tla_tree.proofs.SpellAhead.{Ahead, held, put_ahead, then_ahead, ahead}
-use Rattle.pcal_tree.specs.GrammarParts.{name, key, Labels, no_labels, labels, Simple, simple_tokens, GoodSimple}
+use Rattle.pcal_tree.specs.GrammarParts.{name, key, Labels, no_labels, labels}
 use Rattle.pcal_tree.specs.GrammarParts as g
 use Rattle.pcal_tree.specs.GrammarP.{Statement, simple, branch, either, with, while, Else, no_else, else_then, else_if, Branches, last_branch, more_branches, Sequence, last_statement, more_statements}
 use Rattle.pcal_tree.specs.GrammarP.{statement, else_tokens, branches, sequence, GoodStatement, GoodSequence}
@@ -26,13 +26,13 @@ use Rattle.algorithm_parts.proofs.SoundSimple.{named_sound, words_sound}
 use Rattle.algorithm_parts.proofs.Aheads.{ahead_semicolon, ahead_labels, ahead_binds, ahead_simple}
 use Rattle.algorithm_parts.proofs.WithLabel.{with_label_tokens}
 use Rattle.algorithm_parts.proofs.BesideAround.{with_label_opens, binds_deep}
-use Rattle.algorithm_parts.proofs.Mends.{Enough, Fill, Mends, MendsAt, IsPart, AllMend, filled, mends_gives, mends_refuses, mends_on, mends_bind, mends_then, mends_same, mends_next, mends_stays, mends_past, mends_pick, mends_fits, part_key}
+use Rattle.algorithm_parts.proofs.Mends.{Fill, Mends, MendsAt, IsPart, AllMend, filled, mends_gives, mends_refuses, mends_on, mends_bind, mends_then, mends_same, mends_next, mends_stays, mends_past, mends_pick, mends_fits, part_key}
 use Rattle.algorithm_parts.proofs.Mends as part
 use Rattle.algorithm_parts.proofs.MendParts.{MendsParts, part_colon, part_binds}
 use Rattle.algorithm_parts.proofs.MendSimple.{named_mends, words_mend}
 use Rattle.p_syntax.specs.ReadStatements.{Before, none, after, Tests, if_test, elsif_test, Arms, first_arm, later_arm, Frame, in_then, in_else, in_either, in_with, in_while, Stack, bottom, inside, State, begin, ended, Turn, on, done, with_before, closed_if, closed_either}
 use Rattle.p_syntax.specs.ReadStatements.{opens, depth, after_tests, after_name, statement_words, statement_by, takes_else, takes_elsif, takes_or, ends, takes_end, closing_words, another_by, ended_by, step, turned, run, read_sequence, ends_with, closing, rest}
-use Rattle.p_syntax.specs.MissingStatements.{rest_turn, missing_after_name, missing_statement_words, missing_statement_by, missing_elsif, missing_its_word, missing_ends, missing_closing_words, missing_another, missing_ended, missing_step, missing_turned, missing_run, missing_sequence}
+use Rattle.p_syntax.specs.MissingStatements.{missing_after_name, missing_statement_words, missing_statement_by, missing_elsif, missing_its_word, missing_ends, missing_closing_words, missing_another_by, missing_ended_by, missing_step, missing_turned, missing_run, missing_sequence}
 use Rattle.p_syntax.proofs.SoundStatements.{before, tests, arms, frame, stack, passed, turn, GoodBefore, GoodStack, GoodState, GoodTurn, with_before_tokens, with_before_good, closed_if_tokens, closed_if_good, closed_either_tokens, closed_either_good, step_sound, sequence_sound}
 use Rattle.p_syntax.proofs.Opened.{tests_open, arms_open, frame_opens, stack_opens, state_opens, turn_opens, with_before_opens, closed_if_opens, closed_either_opens}
 use Rattle.p_syntax.proofs.Closing.{tests_deep, few_closing}
@@ -186,6 +186,11 @@ state_filled (ended b ls a o st) i =
       enough = f.enough;
     })
 
+-- what closes the state to which a step goes, and nothing after the whole list
+abbrev rest_turn : Turn → List Token
+rest_turn (on s) = rest s
+rest_turn (done ss) = []
+
 -- ---- a step
 abbrev StepsAt : Place → TokenView → (List Token → List Token) → List Open → Missing → Reader Turn → Type 0
 StepsAt p k x y n r = MendsAt p k x y GoodTurn turn turn_opens rest_turn 0 4 n r
@@ -335,14 +340,14 @@ module _ (m : Parts) (w : PartsMiss) (h : MendsParts m w) where
       → EndedAt p k (ended b ls a (Some s) st) (missing_statement_by m w n st p k) (statement_by m n (after b ls a s) no_labels st p k)
   next_steps n b ls a s st i p k = mends_same (λ ts. refl) (simp (append_assoc, append-nil) refl) (statement_steps n (after b ls a s) no_labels st (i.0, i.1) i.2 p k)
 
-  another_steps : (n : ℕ) (b : Before) (ls : Labels) (a : Statement) (o : Option Place) (st : Stack) → GoodState (ended b ls a o st) → (p : Place) (k : TokenView) → EndedAt p k (ended b ls a o st) (missing_another m w n o st p k) (another_by m n b ls a o st p k)
+  another_steps : (n : ℕ) (b : Before) (ls : Labels) (a : Statement) (o : Option Place) (st : Stack) → GoodState (ended b ls a o st) → (p : Place) (k : TokenView) → EndedAt p k (ended b ls a o st) (missing_another_by m w n o st p k) (another_by m n b ls a o st p k)
   another_steps n b ls a (Some s) st i p (tk.word x) = next_steps n b ls a s st i p (tk.word x)
   another_steps n b ls a (Some s) st i p (tk.reserved z) = next_steps n b ls a s st i p (tk.reserved z)
   another_steps n b ls a (Some s) st i p k = mends_stays (mends_refuses (ahead_passed (ended b ls a (Some s) st)) (there (ended b ls a (Some s) st) i))
   another_steps n b ls a None st i p (tk.mark tk.semicolon) = mends_past {n = all_of (closing st)} (here (depth st)) refl (mends_gives (on (ended b ls a (Some p) st)) i (λ ts. refl) (simp (append_assoc, append-nil) refl))
   another_steps n b ls a None st i p k = mends_stays (mends_refuses (ahead_passed (ended b ls a None st)) (there (ended b ls a None st) i))
 
-  ended_steps : (n : ℕ) (b : Before) (ls : Labels) (a : Statement) (o : Option Place) (st : Stack) → GoodState (ended b ls a o st) → (p : Place) (k : TokenView) → EndedAt p k (ended b ls a o st) (missing_ended m w n o st p k) (ended_by m n b ls a o st p k)
+  ended_steps : (n : ℕ) (b : Before) (ls : Labels) (a : Statement) (o : Option Place) (st : Stack) → GoodState (ended b ls a o st) → (p : Place) (k : TokenView) → EndedAt p k (ended b ls a o st) (missing_ended_by m w n o st p k) (ended_by m n b ls a o st p k)
   ended_steps n b ls a o st i p (tk.reserved z) =
       (let ss = last_statement ls a o in
       let all = with_before b ss in

@@ -1,4 +1,4 @@
--- The forms that were open at the tokens that were passed: each state says how many, and a step goes to one that says no others.
+-- The forms that are open at the tokens which were passed: each state of a list of statements says how many, and what closes a form puts them together.
 use Rattle.std.proofs.Common.{◌≡◌, ℕ, ◌+◌, List, [], ◌++◌, refl, ◌∙◌, append_assoc}
 use Rattle.tla_token.specs.declared.place.Place.{Place}
 use Rattle.tla_tree.specs.FirstStop.{Open}

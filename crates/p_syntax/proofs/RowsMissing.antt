@@ -83,3 +83,23 @@ at_label = refl
 at_end : in_list (key (codes "if") ∷ word (codes "x") ∷ key (codes "then") ∷ key (codes "skip") ∷ key (codes "end") ∷ []) ≡ keys (codes "if" ∷ codes "end" ∷ codes "algorithm" ∷ [])
 unfolding readers
 at_end = refl
+
+-- `skip ;`: the list may end
+at_divider : in_list (key (codes "skip") ∷ mark tk.semicolon ∷ []) ≡ keys (codes "end" ∷ codes "algorithm" ∷ [])
+unfolding readers
+at_divider = refl
+
+-- `x := 1 || y`: what is assigned beside
+in_assignment : in_list (word (codes "x") ∷ mark tk.assigns ∷ token at (tk.number 1) ∷ mark tk.beside ∷ word (codes "y") ∷ []) ≡ part.mark nowhere tk.assigns (number_at 0 ∷ keys (codes "end" ∷ codes "algorithm" ∷ []))
+unfolding readers needs
+in_assignment = refl
+
+-- `call P`: its brackets
+in_call : in_list (key (codes "call") ∷ word (codes "P") ∷ []) ≡ part.mark nowhere tk.open_bracket (part.mark nowhere tk.close_bracket (keys (codes "end" ∷ codes "algorithm" ∷ [])))
+in_call = refl
+
+-- `if x then skip elsif`: a test
+in_elsif : in_list (key (codes "if") ∷ word (codes "x") ∷ key (codes "then") ∷ key (codes "skip") ∷ key (codes "elsif") ∷ [])
+    ≡ number_at 0 ∷ keys (codes "then" ∷ codes "skip" ∷ codes "end" ∷ codes "if" ∷ codes "end" ∷ codes "algorithm" ∷ [])
+unfolding readers needs
+in_elsif = refl

@@ -11,8 +11,9 @@ use Rattle.algorithm_parts.specs.TokenReaders.{pick, Parts, parts_of}
 use Rattle.algorithm_parts.specs.ReadParts.{read_semicolon, read_section, read_definitions}
 use Rattle.algorithm_parts.specs.ReadAround.{read_head}
 use Rattle.algorithm_parts.specs.ReadRoutines.{read_macros, read_procedures, read_define}
-use Rattle.algorithm_parts.specs.Missing.{Missing, or_after, then_misses, by_next_misses, past_misses, all_of, an_identifier, a_number, key_then, name_then, PartsMiss, parts_miss, expr_then}
+use Rattle.algorithm_parts.specs.Missing.{Missing, completed_by, then_misses, by_next_misses, past_misses, all_of, an_identifier, a_number, key_then, name_then, PartsMiss, parts_miss, expr_then}
 use Rattle.algorithm_parts.specs.MissingParts.{missing_section, missing_definitions, a_value, bind_then}
+use Rattle.algorithm_parts.specs.MissingSimple.{a_skip}
 use Rattle.algorithm_parts.specs.MissingRoutines.{missing_head, WaysMiss, missing_macros, missing_procedures, missing_define, missing_main_processes}
 use Rattle.p_syntax.specs.ReadStatements.{read_sequence, ends_with}
 use Rattle.p_syntax.specs.ReadAlgorithm.{ways, read_main, read_text, read_algorithm}
@@ -22,7 +23,7 @@ use Rattle.p_syntax.specs.MissingStatements.{missing_sequence}
 -- ---- bodies; the word is after `end`
 abbrev pub missing_body : Parts → PartsMiss → ℕ → Word → Missing
 missing_body m w n z =
-    key_then (codes "begin") (key nowhere (codes "skip") (ends_with z []))
+    key_then (codes "begin") (a_skip (ends_with z []))
     (λ a. then_misses (read_sequence m n) (missing_sequence m w n) (ends_with z []) (λ ss. key_then (codes "end") (key nowhere z []) (λ b. key_then z [] (λ d. then_misses read_semicolon (all_of []) [] (λ s. all_of [])))))
 
 -- which process it is, and `define` after its word
@@ -36,7 +37,7 @@ missing_define_from m w n =
 
 abbrev pub ways_miss : Parts → PartsMiss → WaysMiss
 ways_miss m w = record {
-  a_body = λ z. key nowhere (codes "begin") (key nowhere (codes "skip") (ends_with z []));
+  a_body = λ z. key nowhere (codes "begin") (a_skip (ends_with z []));
   an_identity = an_identifier (a_value []);
   body = missing_body m w;
   identity = missing_identity m w;
@@ -44,8 +45,9 @@ ways_miss m w = record {
 }
 
 -- ---- the whole
+-- `begin skip`, before the end of the algorithm
 abbrev pub a_main : List Token
-a_main = key nowhere (codes "begin") (key nowhere (codes "skip") [])
+a_main = key nowhere (codes "begin") (a_skip [])
 
 abbrev pub missing_main_words : Parts → PartsMiss → ℕ → List (Word × Missing)
 missing_main_words m w n = (codes "begin", past_misses (then_misses (read_sequence m n) (missing_sequence m w n) [] (λ ss. all_of []))) ∷ []
@@ -67,11 +69,11 @@ missing_text m w n =
     (λ ms. then_misses (read_procedures m (ways m) n) (missing_procedures m w (ways m) (ways_miss m w) n) main_rest
     (λ ps. then_misses (read_main m n) (missing_main m w n) end_rest (λ b. key_then (codes "end") (key nowhere (codes "algorithm") []) (λ e. key_then (codes "algorithm") [] (λ f. all_of [])))))))))
 
--- where any number of forms may be open, and past the last token nothing
+-- where the reading of an algorithm is refused; after it no token comes
 abbrev pub missing_algorithm : Missing
 missing_algorithm ts =
     then_misses (read_text (parts_of (readers (4 * length ts) None)) (suc (length ts))) (missing_text (parts_of (readers (4 * length ts) None)) (parts_miss (4 * length ts)) (suc (length ts))) [] (λ x. all_of []) ts
 
--- the tokens that complete what was passed
+-- the tokens that complete those that were passed to an algorithm
 abbrev pub completion : List Token → List Token
-completion passed = or_after (read_algorithm passed) (missing_algorithm passed) (λ x. all_of [])
+completion = completed_by read_algorithm missing_algorithm

@@ -12,18 +12,13 @@ use Rattle.algorithm_parts.specs.ReadParts.{read_colon, read_binds}
 use Rattle.algorithm_parts.specs.ReadSimple.{named_by, simple_words}
 use Rattle.algorithm_parts.specs.Missing.{Missing, then_misses, goes_on_missing, by_next_misses, past_misses, all_of, key_then, PartsMiss, expr_then}
 use Rattle.algorithm_parts.specs.MissingParts.{missing_colon, missing_binds}
-use Rattle.algorithm_parts.specs.MissingSimple.{missing_named, missing_simple_words}
+use Rattle.algorithm_parts.specs.MissingSimple.{a_skip, missing_named, missing_simple_words}
 use Rattle.p_syntax.specs.ReadStatements.{none, first_arm, later_arm, in_then, in_else, in_either, in_with, in_while, Stack, bottom, inside, depth, State, begin, ended, Turn, on, done, step, ends_with, closing, rest}
-
--- what comes after the place where a step goes
-abbrev pub rest_turn : Turn → List Token
-rest_turn (on s) = rest s
-rest_turn (done ss) = []
 
 -- ---- a statement comes
 -- the shortest list in a new form, and what closes all that is open then
 abbrev pub a_list : Word → Stack → List Token
-a_list z st = key nowhere (codes "skip") (ends_with z (closing st))
+a_list z st = a_skip (ends_with z (closing st))
 
 -- a word, and the list after it
 abbrev pub list_after : Word → Word → Stack → Missing
@@ -34,7 +29,7 @@ abbrev pub test_then : Parts → PartsMiss → Word → Word → Stack → Missi
 test_then m w v z st = expr_then m w (key nowhere v (a_list z st)) (λ e. list_after v z st)
 
 abbrev pub missing_after_name : Parts → PartsMiss → ℕ → Stack → Name → Place → TokenView → Missing
-missing_after_name m w n st x p (tk.mark tk.colon) = then_misses read_colon missing_colon (key nowhere (codes "skip") (closing st)) (λ c. all_of [])
+missing_after_name m w n st x p (tk.mark tk.colon) = then_misses read_colon missing_colon (a_skip (closing st)) (λ c. all_of [])
 missing_after_name m w n st x p k = then_misses (named_by m n x p k) (missing_named m w n x p k) (closing st) (λ s. all_of [])
 
 abbrev pub missing_statement_words : Parts → PartsMiss → ℕ → Stack → List (Word × Missing)
@@ -48,8 +43,8 @@ missing_statement_words m w n st =
 abbrev pub missing_statement_by : Parts → PartsMiss → ℕ → Stack → Place → TokenView → Missing
 missing_statement_by m w n st p (tk.word x) = past_misses (by_next_misses (missing_after_name m w n st (record { place = p; word = x })))
 missing_statement_by m w n st p (tk.reserved z) =
-    pick z (missing_statement_words m w n st) (then_misses (pick z (simple_words m p) refuses) (pick z (missing_simple_words m w) (all_of (key nowhere (codes "skip") []))) (closing st) (λ s. all_of []))
-missing_statement_by m w n st p k = all_of (key nowhere (codes "skip") (closing st))
+    pick z (missing_statement_words m w n st) (then_misses (pick z (simple_words m p) refuses) (pick z (missing_simple_words m w) (all_of (a_skip []))) (closing st) (λ s. all_of []))
+missing_statement_by m w n st p k = all_of (a_skip (closing st))
 
 -- ---- a list ends
 abbrev pub missing_elsif : Parts → PartsMiss → Stack → Missing
@@ -74,19 +69,19 @@ missing_closing_words m w st = (codes "else", all_of (closing st)) ∷ (codes "e
 
 -- ---- after a statement
 -- after its `;` the list may end
-abbrev pub missing_another : Parts → PartsMiss → ℕ → Option Place → Stack → Place → TokenView → Missing
-missing_another m w n (Some s) st p (tk.word x) = missing_statement_by m w n st p (tk.word x)
-missing_another m w n (Some s) st p (tk.reserved z) = missing_statement_by m w n st p (tk.reserved z)
-missing_another m w n o st p k = all_of (closing st)
+abbrev pub missing_another_by : Parts → PartsMiss → ℕ → Option Place → Stack → Place → TokenView → Missing
+missing_another_by m w n (Some s) st p (tk.word x) = missing_statement_by m w n st p (tk.word x)
+missing_another_by m w n (Some s) st p (tk.reserved z) = missing_statement_by m w n st p (tk.reserved z)
+missing_another_by m w n o st p k = all_of (closing st)
 
-abbrev pub missing_ended : Parts → PartsMiss → ℕ → Option Place → Stack → Place → TokenView → Missing
-missing_ended m w n o st p (tk.reserved z) = pick z (missing_closing_words m w st) (missing_another m w n o st p (tk.reserved z))
-missing_ended m w n o st p k = missing_another m w n o st p k
+abbrev pub missing_ended_by : Parts → PartsMiss → ℕ → Option Place → Stack → Place → TokenView → Missing
+missing_ended_by m w n o st p (tk.reserved z) = pick z (missing_closing_words m w st) (missing_another_by m w n o st p (tk.reserved z))
+missing_ended_by m w n o st p k = missing_another_by m w n o st p k
 
 -- of a step, with all that comes after it
 abbrev pub missing_step : Parts → PartsMiss → ℕ → State → Missing
 missing_step m w n (begin b ls st) = by_next_misses (missing_statement_by m w n st)
-missing_step m w n (ended b ls a o st) = by_next_misses (missing_ended m w n o st)
+missing_step m w n (ended b ls a o st) = by_next_misses (missing_ended_by m w n o st)
 
 -- ---- all steps
 abbrev pub missing_turned : (State → Missing) → Turn → Missing

@@ -61,8 +61,9 @@ pub fn refusals_are_at_the_earliest_place()
     ensures { (ts passed rest : List Token) (r : Rule) → read_algorithm ts ≡ Err (r, rest) → ts ≡ passed ++ rest → (fix : List Token) × (x : Text) × Good p_syntax x × (spell x [] ≡ passed ++ fix) }
 {}
 
-/// What completes it is told by a function of the tokens that were passed: behind whatever begins an algorithm, and so behind what was passed before a
-/// refused token, the tokens that are missing of all that is open there make it a whole algorithm. They are at most 16 for each form that is open at the first of them, and 16.
+/// What completes it is told by a function of the tokens that were passed: behind whatever begins an algorithm, and so behind what was
+/// passed before a refused token, in a text too, the tokens that are missing of all that is open there make it a whole algorithm. They are
+/// at most 16 for each form that is open at the first of them, and 16.
 pub fn what_is_missing_completes()
     ensures begun { (passed more : List Token) (x : Text) → Good p_syntax x → spell x [] ≡ passed ++ more → Completes p_syntax passed (completion passed) }
     ensures refused { (ts passed rest : List Token) (r : Rule) → read_algorithm ts ≡ Err (r, rest) → ts ≡ passed ++ rest → Completes p_syntax passed (completion passed) }

@@ -26,7 +26,8 @@ use tla_token::{Stop, Tokens};
 /// # Errors
 ///
 /// Of the rules on words that are left out (11), on too much (13 and 14) and on syntax (15) the least that the tokens break, at
-/// its first place; or want of memory. The tokens before one that is refused by 14 or 15 are completed to an algorithm by those that are missing there.
+/// its first place; or want of memory. Wherever reading stops at a token, or at the end, the tokens before it are completed to an
+/// algorithm by those that are missing there, whatever else is wrong with them.
 pub fn read_p(alloc: Global, tokens: &Tokens, pool: &mut Pool) -> Result<Algorithm, Stop>
     requires { NumbersFit tokens.now }
     ensures kept { Keeps pool.old pool.new }

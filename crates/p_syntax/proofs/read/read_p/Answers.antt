@@ -1,4 +1,4 @@
--- Proves that the answer to the tokens is given.
+-- Proves that the answer to the tokens is given, and that those before the place where reading stops are completed.
 use Rattle.std.proofs.Common.{Some}
 use Rattle.tla_token.specs.TokensSeen.{tokens_seen}
 use Rattle.pcal_tree.specs.AlgorithmTokens.{views}
