@@ -1,5 +1,5 @@
 -- Whether a phrase may be spelled rests on columns, and not on lines.
-use Rattle.std.proofs.Common.{◌≡◌, ℕ, Bool, true, false, not, ◌&&◌, ◌||◌, nat_lt, List, [], ◌∷◌, Option, Some, None, refl, sym, subst, ◌∙◌, IsTrue}
+use Rattle.std.proofs.Common.{◌≡◌, ℕ, not, ◌&&◌, nat_lt, List, [], Option, Some, None, refl, sym, subst, ◌∙◌, IsTrue}
 use Rattle.tla_token.specs.declared.place.Place.{Place}
 use Rattle.tla_tree.specs.declared.op.Op.{Op}
 use Rattle.tla_tree.specs.Rank.{is_prefix, is_bullet}
@@ -7,7 +7,7 @@ use Rattle.tla_tree.specs.Lexical.{Token}
 use Rattle.tla_tree.specs.Lexical as tk
 use Rattle.tla_tree.specs.Spelling.{Phrase, number, string, constant, name, primed, call, brackets, no_set, set_of, filter, image, no_tuple, tuple, fields, records, function, functions, except, apply, select, list, quantified, if_then_else, cases, local, infix_of, prefix_of}
 use Rattle.tla_tree.specs.Spelling.{Phrases, last, more, Binds, last_bind, bind, share, Fields, last_field, field, Settings, last_setting, setting, Path, path_end, index, at_field, Bullets, last_bullet, bullet, Arms, last_arm, other_arm, arm, Locals, last_local, more_locals}
-use Rattle.tla_tree.specs.Spelling.{Good, GoodAll, GoodBinds, GoodFields, GoodSettings, GoodPath, GoodBullets, GoodArms, GoodLocals, Right, Head, head, ends_open, end_list, is_behind, is_short, can_be_left, can_be_right, can_be_under, can_be_head, is_some_path, takes_box, last_takes_box, is_bind, spell, spell_all, spell_binds, mark, sign, field_token}
+use Rattle.tla_tree.specs.Spelling.{Good, GoodAll, GoodBinds, GoodFields, GoodSettings, GoodPath, GoodBullets, GoodArms, GoodLocals, Right, head, ends_open, end_list, is_behind, is_short, can_be_left, can_be_right, can_be_under, can_be_head, is_some_path, takes_box, last_takes_box, is_bind, spell, spell_all, mark, sign, field_token}
 use Rattle.tla_tree.specs.laws.Columns.{lineless_place, lineless_field, lineless, lineless_all, lineless_binds, lineless_fields, lineless_settings, lineless_path, lineless_bullets, lineless_arms, lineless_locals}
 use Rattle.tla_tree.proofs.ReadMembers.{first_in, name_bind, word_bind, sign_no_word}
 

@@ -2,7 +2,7 @@
 use Rattle.std.proofs.Common.{◌≡◌, ℕ, ◌+◌, ◌*◌, ◌≤◌, Bool, true, false, List, [], ◌∷◌, length, Option, Some, None, Ok, Err, refl, ap, ◌∙◌, arith}
 use Rattle.tla_token.specs.declared.place.Place.{Place}
 use Rattle.tla_tree.specs.Lexical.{TokenView, Token}
-use Rattle.tla_tree.specs.Reader.{Out, Reader, then_read, ◌>>=◌, gives, refuses, too_deep, if_fits, next, tail, peek, skip, took, take}
+use Rattle.tla_tree.specs.Reader.{Out, Reader, then_read, ◌>>=◌, gives, refuses, too_deep, if_fits, next, peek, skip, took, take}
 use Rattle.tla_tree.proofs.Alike.{rest_of}
 
 pub record IsFair {A : Type 0} (b : ℕ) (p q : Reader A) : Type 0 where

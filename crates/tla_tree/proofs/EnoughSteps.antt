@@ -1,15 +1,15 @@
 -- Enough steps are enough: with more of them each reader does the same, within a limit as without.
-use Rattle.std.proofs.Common.{◌≡◌, ℕ, zero, suc, ◌+◌, ◌-◌, ◌*◌, ◌≤◌, ◌||◌, ◌&&◌, not, nat_eq, nat_le, Bool, true, false, if◌then◌else◌, List, [], ◌∷◌, length, Option, Some, None, refl, sym, ap, ◌∙◌, arith, option_map}
+use Rattle.std.proofs.Common.{◌≡◌, ℕ, suc, ◌+◌, ◌-◌, ◌≤◌, ◌||◌, ◌&&◌, not, nat_eq, nat_le, Bool, true, false, Option, Some, None, refl, ap, arith, option_map}
 use Rattle.tla_token.specs.declared.place.Place.{Place}
 use Rattle.tla_tree.specs.declared.op.Op.{Op}
 use Rattle.tla_tree.specs.declared.op.Op.TheVariants as op
 use Rattle.tla_tree.specs.Tree.{Word}
 use Rattle.tla_tree.specs.Rank.{is_bullet}
-use Rattle.tla_tree.specs.Lexical.{Mark, Key, TokenView, Token}
+use Rattle.tla_tree.specs.Lexical.{Mark, Key, TokenView}
 use Rattle.tla_tree.specs.Lexical as tk
-use Rattle.tla_tree.specs.Nesting.{chain, links}
-use Rattle.tla_tree.specs.Spelling.{Field, Phrase, Binds, Path, applied, is_above, can_be_left, can_be_head, is_some_path, takes_box}
-use Rattle.tla_tree.specs.Reader.{Limit, Room, room, less, within, opened, opened_after, read_by, if_fits, so_far, fewest, is_behind_in, chain_of, chain_behind, Reader, ◌>>=◌, is_mark, is_key, is_sign, place_if, a_mark, a_key, a_sign, word_of, field_of, a_word, a_field, bullet_of, Context, free, right_of, under, behind, bound, is_free, prefix_by, goes_on, element, Readers, ended, named, from_name, set_rest, image_rest, brace_rest, set_from, member_rest, brace_name, braces, tuples, field_rest, function_rest, square_rest, square_from, bind_rest, square_member, plain_field, square_name, squares, list_if, primary, quantifier, choice_from, keyed, under_by, signed, operand, short_signed, short_by, apply_if, select_if, postfix_by, climb_if, climb_by, phrases_by, binds_by, fields_by, settings_by, setting_if, path_by, bullets_if, arms_other, arms_if, arms_by, locals_by, one_step, no_steps, readers}
+use Rattle.tla_tree.specs.Nesting.{links}
+use Rattle.tla_tree.specs.Spelling.{Field, Phrase, Binds, Path, can_be_head, is_some_path, takes_box}
+use Rattle.tla_tree.specs.Reader.{Limit, Room, room, less, within, opened, opened_after, read_by, so_far, chain_of, chain_behind, Reader, ◌>>=◌, is_mark, is_key, is_sign, place_if, a_mark, a_key, a_sign, word_of, field_of, a_word, a_field, bullet_of, Context, free, right_of, under, behind, bound, is_free, prefix_by, goes_on, element, Readers, ended, named, from_name, set_rest, image_rest, brace_rest, set_from, member_rest, brace_name, braces, tuples, field_rest, function_rest, square_rest, square_from, bind_rest, square_member, plain_field, square_name, squares, list_if, primary, quantifier, choice_from, keyed, under_by, signed, operand, short_signed, short_by, apply_if, select_if, postfix_by, climb_if, climb_by, phrases_by, binds_by, fields_by, settings_by, setting_if, path_by, bullets_if, arms_other, arms_if, arms_by, locals_by, one_step, no_steps}
 use Rattle.tla_tree.proofs.Opened.{in_call, in_brackets, in_braces, in_tuples, in_squares, in_choice, in_cases, in_local, in_quantifier, in_signed, in_short, in_apply, in_select, in_climb, in_index, in_bullets}
 use Rattle.tla_tree.proofs.Enough.{IsFair, weaker, fair_gives, fair_refuses, fair_deep, fair_skip, fair_peek, fair_bind, fair_take, fair_fits}
 

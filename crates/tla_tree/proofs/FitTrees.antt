@@ -10,7 +10,7 @@ use Rattle.tla_tree.specs.Rank.{is_prefix}
 use Rattle.tla_tree.specs.Tree.{Word, Name, words, Each, PathStep, Slot, Strict, Form, Tree, Trees, node, no_trees, tree}
 use Rattle.tla_tree.specs.Tree as tree
 use Rattle.tla_tree.specs.Shapes.{Shaped, StrictShaped, operands}
-use Rattle.tla_tree.specs.Lexical.{Mark, TokenView, field_kind, token_text, sign_of}
+use Rattle.tla_tree.specs.Lexical.{TokenView, field_kind, token_text}
 use Rattle.tla_tree.specs.Lexical as tk
 use Rattle.tla_tree.specs.Written.{Piece, blank, token, text_of, Part, mark, field, spaced, comma, infix_sign, prefix_sign, infix_pieces, listed, field_pieces, name_pieces, bind_pieces, definition_pieces, body, colon, binding_pieces, path_pieces, right_side, slot_pieces, strict_pieces, arm_pieces, choice_pieces, form_pieces, is_bracketed, bracketed, form_part, part, parts}
 use Rattle.tla_tree.specs.laws.Writable.{IsIdentifier, IsField, IsString, fields_in_path, names_in, fields_in, strings_in, IsWritable, AreWritable}

@@ -3,7 +3,7 @@ use Rattle.std.proofs.Common.{◌≡◌, ℕ, zero, suc, ◌+◌, ◌-◌, ◌�
 use Rattle.std.proofs.lemmas.Bool.{and_parts, leb-true, leb-false}
 use Rattle.tla_token.specs.declared.place.Place.{Place}
 use Rattle.tla_tree.specs.declared.op.Op.{Op}
-use Rattle.tla_tree.specs.Lexical.{Mark, TokenView, Token, token}
+use Rattle.tla_tree.specs.Lexical.{Token, token}
 use Rattle.tla_tree.specs.Lexical as tk
 use Rattle.tla_tree.specs.Spelling.{Phrase, is_some_path}
 use Rattle.tla_tree.specs.Nesting.{text_nesting, counts}

@@ -7,7 +7,7 @@ use Rattle.tla_tree.specs.declared.op.Op.{Op}
 use Rattle.tla_token.specs.declared.rule.Rule.TheVariants.{TooDeep, Syntax}
 use Rattle.tla_tree.specs.Tree.{Word}
 use Rattle.tla_tree.specs.Rank.{is_bullet}
-use Rattle.tla_tree.specs.Lexical.{Mark, Key, TokenView, Token, token}
+use Rattle.tla_tree.specs.Lexical.{Mark, Key, TokenView, Token}
 use Rattle.tla_tree.specs.Spelling.{applied, is_above, infix_of}
 use Rattle.tla_tree.specs.Spelling.{Field, Phrase, number, Binds, last_bind, Path, path_end, at_field, Bullets}
 use Rattle.tla_tree.specs.Spelling.{word, field_token, spell, spell_all, spell_binds, spell_fields, spell_settings, spell_path, spell_bullets, spell_arms, spell_locals, Right, Good, GoodAll, GoodBinds, GoodFields, GoodSettings, GoodPath, GoodBullets, GoodArms, GoodLocals, head, is_primary, is_short, first_bullet, is_some_path}

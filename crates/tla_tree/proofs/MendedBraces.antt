@@ -3,7 +3,7 @@ use Rattle.std.proofs.Common.{◌≡◌, ℕ, ◌+◌, ◌≤◌, Bool, true, fa
 use Rattle.tla_token.specs.declared.place.Place.{Place}
 use Rattle.tla_tree.specs.declared.op.Op.TheVariants as op
 use Rattle.tla_tree.specs.Tree.{Word}
-use Rattle.tla_tree.specs.Lexical.{Mark, Key, TokenView, Token, token}
+use Rattle.tla_tree.specs.Lexical.{TokenView, Token, token}
 use Rattle.tla_tree.specs.Lexical as tk
 use Rattle.tla_tree.specs.Spelling.{Field, Phrase, name, call, set_of, filter, image, tuple, fields, records, function, functions, except}
 use Rattle.tla_tree.specs.Spelling.{last, more, Binds, last_bind, bind, last_field}

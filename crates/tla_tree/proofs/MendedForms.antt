@@ -6,11 +6,10 @@ use Rattle.tla_tree.specs.declared.op.Op.{Op}
 use Rattle.tla_tree.specs.declared.op.Op.TheVariants as op
 use Rattle.tla_tree.specs.Tree.{Word}
 use Rattle.tla_tree.specs.Rank.{rank, is_prefix, is_bullet}
-use Rattle.tla_tree.specs.Lexical.{Mark, Key, TokenView, Token, token}
+use Rattle.tla_tree.specs.Lexical.{Key, TokenView, Token, token}
 use Rattle.tla_tree.specs.Lexical as tk
-use Rattle.tla_tree.specs.Spelling.{Field, Phrase, number, string, constant, name, primed, call, brackets, no_set, set_of, filter, image, no_tuple, tuple, fields, records, function, functions, except, apply, select, list, quantified, if_then_else, cases, local, infix_of, prefix_of}
-use Rattle.tla_tree.specs.Spelling.{Phrases, last, more, Binds, last_bind, bind, share, Fields, last_field, field, Settings, last_setting, setting, Path, path_end, index, at_field, Bullets, last_bullet, bullet, Arms, last_arm, other_arm, arm, Locals, last_local, more_locals}
-use Rattle.tla_tree.specs.Spelling.{mark, key, sign, word, field_token, spell, spell_all, spell_binds, spell_fields, spell_settings, spell_path, spell_bullets, spell_arms, spell_locals, Right, Good, GoodAll, GoodBinds, GoodFields, GoodSettings, GoodPath, GoodBullets, GoodArms, GoodLocals, head, is_primary, is_short, first_bullet, can_be_left, can_be_under, can_be_head, is_some_path, takes_box, is_word, is_in}
+use Rattle.tla_tree.specs.Spelling.{Phrase, number, string, constant, brackets, apply, select, list, quantified, if_then_else, cases, local, infix_of, prefix_of}
+use Rattle.tla_tree.specs.Spelling.{mark, key, sign, word, spell, spell_all, spell_binds, spell_locals, Right, Good, GoodBullets, head, is_primary, first_bullet, can_be_left, can_be_under, can_be_head}
 use Rattle.tla_tree.specs.Spelling as sp
 use Rattle.tla_tree.specs.Wanted.{after, mark_at, key_at, sign_at, number_at, word_at, Wants, Need, around, or_then, need_opened, need_after, a_number, a_close}
 use Rattle.tla_tree.specs.Needs.{Needs}

@@ -8,7 +8,7 @@ use Rattle.tla_tree.specs.declared.op.Op.{Op}
 use Rattle.tla_tree.specs.declared.op.Op.TheVariants as op
 use Rattle.tla_tree.specs.Tree.{Word}
 use Rattle.tla_tree.specs.Rank.{is_bullet}
-use Rattle.tla_tree.specs.Lexical.{Mark, Key, TokenView, Token, token, sign_of}
+use Rattle.tla_tree.specs.Lexical.{Mark, TokenView, Token, token}
 use Rattle.tla_tree.specs.Lexical as tk
 use Rattle.tla_tree.specs.Spelling.{Field, Phrase}
 use Rattle.tla_tree.specs.Spelling.{Phrases, last, more, Binds, last_bind, share, Fields, last_field, field, Settings, last_setting, setting, Path, path_end, index, at_field, Bullets, last_bullet, bullet, Arms, last_arm, other_arm, arm, Locals, last_local, more_locals}

@@ -5,14 +5,14 @@ use Rattle.tla_token.specs.declared.place.Place.{Place}
 use Rattle.tla_tree.specs.declared.op.Op.{Op}
 use Rattle.tla_tree.specs.declared.op.Op.TheVariants as op
 use Rattle.tla_tree.specs.Tree.{Word}
-use Rattle.tla_tree.specs.Lexical.{Constant, TokenView, Token, token, sign_of, field_kind}
+use Rattle.tla_tree.specs.Lexical.{TokenView, Token, token, sign_of, field_kind}
 use Rattle.tla_tree.specs.Lexical as tk
 use Rattle.tla_tree.specs.Spelling.{Field, Phrase, number, string, constant, name, primed, call, brackets, no_set, set_of, filter, image, no_tuple, tuple, fields, records, function, functions, except, apply, select, list, quantified, if_then_else, cases, local, infix_of, prefix_of}
-use Rattle.tla_tree.specs.Spelling.{Phrases, last, more, Binds, last_bind, bind, share, Locals, last_local, more_locals, Bullets, last_bullet, bullet}
-use Rattle.tla_tree.specs.Spelling.{mark, key, sign, word, field_token, spell, spell_all, spell_binds, spell_locals, Good, GoodAll, GoodBinds, GoodLocals, Right, head, is_primary, is_short, can_be_left, can_be_head, Head, first_bullet, spell_bullets}
+use Rattle.tla_tree.specs.Spelling.{Phrases, last, more, Binds, last_bind, bind, share, Locals, last_local, more_locals, last_bullet, bullet}
+use Rattle.tla_tree.specs.Spelling.{mark, key, sign, word, field_token, spell, spell_all, spell_binds, spell_locals, Good, GoodAll, GoodBinds, GoodLocals, Right, head, is_primary, can_be_head, first_bullet, spell_bullets}
 use Rattle.tla_tree.specs.Spelling as sp
 use Rattle.tla_tree.specs.Reader.{is_sign, Out, field_of, a_field, tuples, then_read, ◌>>=◌, gives, next, peek, a_mark, free, Readers, readers, bind_rest, locals_by}
-use Rattle.tla_tree.proofs.Steps.{steps, steps_all, steps_binds, steps_locals}
+use Rattle.tla_tree.proofs.Steps.{steps_all, steps_binds, steps_locals}
 use Rattle.tla_tree.proofs.ReadSoon.{Soon, step, is_tail}
 use Rattle.tla_tree.proofs.ReadStops.{bullets_behind, is_calm}
 use Rattle.tla_tree.proofs.ReadPhrases.{is_call, NoCall, Inner, tail_call, Prime, Full, Begins, Reads, ended, closed, is_end, Ends, end_calm, ReadsAll, primary_reads}

@@ -5,7 +5,7 @@ use Rattle.tla_token.specs.declared.place.Place.{Place}
 use Rattle.tla_tree.specs.declared.op.Op.{Op}
 use Rattle.tla_tree.specs.declared.op.Op.TheVariants as op
 use Rattle.tla_tree.specs.Rank.{is_prefix, is_bullet, number_of}
-use Rattle.tla_tree.specs.Lexical.{Constant, TokenView, Token, token, sign_of, field_kind}
+use Rattle.tla_tree.specs.Lexical.{TokenView, Token, token, sign_of}
 use Rattle.tla_tree.specs.Lexical as tk
 use Rattle.tla_tree.specs.Spelling.{Phrase, list, cases}
 use Rattle.tla_tree.specs.Spelling.{Bullets, last_bullet, bullet, Arms, last_arm, other_arm, arm}

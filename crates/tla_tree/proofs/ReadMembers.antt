@@ -7,7 +7,7 @@ use Rattle.tla_tree.specs.declared.op.Op.{Op}
 use Rattle.tla_tree.specs.declared.op.Op.TheVariants as op
 use Rattle.tla_tree.specs.Tree.{Word}
 use Rattle.tla_tree.specs.Rank.{rank, is_prefix, is_associative, same_op}
-use Rattle.tla_tree.specs.Lexical.{Token, token, sign_of}
+use Rattle.tla_tree.specs.Lexical.{Token, sign_of}
 use Rattle.tla_tree.specs.Lexical as tk
 use Rattle.tla_tree.specs.Spelling.{Phrase, name, apply, select, list, quantified, if_then_else, cases, local, infix_of, prefix_of, primed, call, last_bullet, bullet, mark, sign, word, field_token, spell, spell_all, is_word, is_in, is_bind, Right, Good, head, applied, is_above, is_applied, ends_open, end_list, is_behind, can_be_left, can_be_right, can_be_head}
 use Rattle.tla_tree.specs.Reader.{element}

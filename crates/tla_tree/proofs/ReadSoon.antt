@@ -1,7 +1,7 @@
 -- What the readers give with enough steps, and the tokens that are seen.
 use Rattle.std.proofs.Common.{◌≡◌, ℕ, zero, suc, ◌≤◌, Bool, false, List, Ok, refl, ◌∙◌, arith, None}
 use Rattle.tla_token.specs.declared.place.Place.{Place}
-use Rattle.tla_tree.specs.Lexical.{TokenView, Token, token}
+use Rattle.tla_tree.specs.Lexical.{TokenView, Token}
 use Rattle.tla_tree.specs.Lexical as tk
 use Rattle.tla_tree.specs.Spelling.{Phrase}
 pub use Rattle.tla_tree.specs.laws.Following.{is_tail, NoTail}

@@ -3,7 +3,7 @@ use Rattle.std.proofs.Common.{eq-eqb, ◌≡◌, ℕ, ◌+◌, Bool, true, false
 use Rattle.tla_token.specs.declared.place.Place.{Place}
 use Rattle.tla_tree.specs.declared.op.Op.TheVariants as op
 use Rattle.tla_tree.specs.Tree.{Word}
-use Rattle.tla_tree.specs.Lexical.{Mark, Constant, TokenView, Token, token, sign_of, field_kind}
+use Rattle.tla_tree.specs.Lexical.{Mark, TokenView, Token, token, field_kind}
 use Rattle.tla_tree.specs.Lexical as tk
 use Rattle.tla_tree.specs.Spelling.{Field, Phrase, filter, fields, records, function}
 use Rattle.tla_tree.specs.Spelling.{Binds, last_bind, bind, share, Fields, last_field, field}

@@ -1,7 +1,5 @@
 -- Where a form opens: one form less may open, or it is refused.
-use Rattle.std.proofs.Common.{◌≡◌, ℕ, suc, ◌+◌, ◌-◌, ◌≤◌, ◌<◌, Bool, true, false, nat_le, List, Option, Some, None, refl, sym, ap, ◌∙◌, subst, arith, option_map}
-use Rattle.tla_token.specs.declared.rule.Rule.TheVariants.{TooDeep}
-use Rattle.tla_tree.specs.Lexical.{Token}
+use Rattle.std.proofs.Common.{◌≡◌, ℕ, suc, ◌+◌, ◌-◌, ◌≤◌, ◌<◌, Bool, true, false, nat_le, Some, refl, ap, ◌∙◌, arith, option_map}
 use Rattle.tla_tree.specs.Spelling.{Phrase}
 use Rattle.tla_tree.specs.Nesting.{text_nesting}
 use Rattle.tla_tree.specs.Reader.{Limit, Readers, Reader, Room, room, less, within, opened, read_by, too_deep}

@@ -1,5 +1,5 @@
 -- Worked rows of reading, by computation.
-use Rattle.std.proofs.Common.{◌≡◌, refl, ℕ, true, ap, arith, List, [], ◌∷◌, map, Some, Ok, Err, codes}
+use Rattle.std.proofs.Common.{◌≡◌, refl, ℕ, true, ap, List, [], ◌∷◌, map, Some, Ok, Err, codes}
 use Rattle.tla_token.specs.declared.place.Place.{Place}
 use Rattle.tla_token.specs.declared.rule.Rule.TheVariants.{Syntax}
 use Rattle.tla_tree.specs.declared.op.Op.{Op}

@@ -3,7 +3,7 @@ use Rattle.std.proofs.Common.{◌≡◌, refl, ℕ, true, false, codes}
 use Rattle.tla_token.specs.declared.place.Place.{Place}
 use Rattle.tla_tree.specs.declared.op.Op.{Op}
 use Rattle.tla_tree.specs.declared.op.Op.TheVariants as op
-use Rattle.tla_tree.specs.Spelling.{Phrase, Bullets, Good, tree_of, one, two, operation}
+use Rattle.tla_tree.specs.Spelling.{Phrase, Good, tree_of}
 use Rattle.tla_tree.specs.Spelling as spelled
 
 abbrev at : ℕ → ℕ → Place

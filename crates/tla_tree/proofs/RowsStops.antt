@@ -2,20 +2,18 @@
 use Rattle.std.proofs.Common.{◌≡◌, ◌≤◌, ℕ, zero, suc, List, [], ◌∷◌, length, take, map, Option, Some, refl, arith, inl, inr, codes, drop}
 use Rattle.tla_token.specs.declared.place.Place.{Place}
 use Rattle.tla_token.specs.declared.rule.Rule.TheVariants.{Syntax, TooDeep}
-use Rattle.tla_token.specs.declared.rule.Refusal.{Refusal}
 use Rattle.tla_tree.specs.declared.op.Op.{Op}
 use Rattle.tla_tree.specs.declared.op.Op.TheVariants as op
 use Rattle.tla_tree.specs.Tree.{Tree}
 use Rattle.tla_tree.specs.Lexical.{Mark, Token, token}
 use Rattle.tla_tree.specs.Lexical as tk
-use Rattle.tla_tree.specs.Spelling.{Phrase, Good, Spells, tree_of}
+use Rattle.tla_tree.specs.Spelling.{Phrase, Good, tree_of}
 use Rattle.tla_tree.specs.Spelling as spelled
-use Rattle.tla_tree.specs.Reader.{readers, read}
+use Rattle.tla_tree.specs.Reader.{readers}
 use Rattle.tla_tree.specs.Nesting.{counts}
 use Rattle.tla_tree.specs.FirstStop.{Look, looks, to_end, Begins, Passes, StopsAt, phrases, in_expression, ReadsExpression, RefusesExpression}
 use Rattle.tla_tree.proofs.AlikeEndsSteps.{refused_after_none}
-use Rattle.tla_tree.proofs.ReadAll.{spelled_is_read}
-use Rattle.tla_tree.proofs.StopLaws.{begins_none, all_read, passes_begins, stops_by_one_rule}
+use Rattle.tla_tree.proofs.StopLaws.{begins_none, passes_begins, stops_by_one_rule}
 use Rattle.tla_tree.proofs.BracketCounts.{too_many_brackets}
 use Rattle.tla_tree.proofs.Completed.{completed_there}
 use Rattle.std.proofs.lemmas.Bool.{lt-ltb}

@@ -1,5 +1,5 @@
 -- Worked examples of what the grammar sees of tokens, by computation.
-use Rattle.std.specs.Prelude.{◌≡◌, true, codes}
+use Rattle.std.specs.Prelude.{◌≡◌, codes}
 use Rattle.std.proofs.Common.{refl}
 use Rattle.tla_token.specs.declared.sign.Sign.TheVariants as sign
 use Rattle.tla_token.specs.Lexemes.{name, one}

@@ -1,9 +1,9 @@
 -- Worked rows of what the writer may be given.
-use Rattle.std.proofs.Common.{◌≡◌, refl, arith, ℕ, ◌^◌, true, false, List, [], ◌∷◌, codes}
+use Rattle.std.proofs.Common.{◌≡◌, refl, arith, ◌^◌, true, false, [], ◌∷◌, codes}
 use Rattle.tla_token.specs.declared.place.Place.{Place}
 use Rattle.tla_tree.specs.declared.op.Op.TheVariants as op
 use Rattle.tla_tree.specs.declared.op.Binder.TheVariants as binder
-use Rattle.tla_tree.specs.Tree.{Word, Form, Tree, Trees, node, no_trees, tree}
+use Rattle.tla_tree.specs.Tree.{Word, Form, Tree, node, no_trees, tree}
 use Rattle.tla_tree.specs.Tree as tree
 use Rattle.tla_tree.specs.Lexical as tk
 use Rattle.tla_token.specs.declared.sign.Sign.TheVariants as sign

@@ -5,13 +5,12 @@ use Rattle.tla_token.specs.declared.place.Place.{Place}
 use Rattle.tla_tree.specs.declared.op.Op.{Op}
 use Rattle.tla_tree.specs.declared.op.Op.TheVariants as op
 use Rattle.tla_tree.specs.Rank.{rank, is_prefix, is_bullet, same_op}
-use Rattle.tla_tree.specs.Lexical.{Mark, Key, TokenView, Token, token, sign_of}
+use Rattle.tla_tree.specs.Lexical.{Key, TokenView, Token, token, sign_of}
 use Rattle.tla_tree.specs.Lexical as tk
-use Rattle.tla_tree.specs.Spelling.{Field, Phrase, number, string, constant, brackets, apply, select, list, quantified, if_then_else, cases, local, infix_of, prefix_of}
-use Rattle.tla_tree.specs.Spelling.{Phrases, last, more, Binds, share, Fields, last_field, field, Settings, last_setting, setting, Path, path_end, index, at_field, Bullets, last_bullet, bullet, Arms, last_arm, other_arm, arm, Locals, last_local, more_locals}
-use Rattle.tla_tree.specs.Spelling.{mark, key, sign, word, field_token, spell, spell_all, spell_binds, spell_fields, spell_settings, spell_path, spell_bullets, spell_arms, spell_locals, Right, Good, GoodAll, GoodBinds, GoodFields, GoodSettings, GoodPath, GoodBullets, GoodArms, GoodLocals, Head, primary, applied, open_form, head, is_primary, is_open, is_above, is_applied, is_short, first_bullet, can_be_left, can_be_under, can_be_head, is_some_path, takes_box}
+use Rattle.tla_tree.specs.Spelling.{Phrase, number, string, constant, brackets, apply, select, list, infix_of, prefix_of}
+use Rattle.tla_tree.specs.Spelling.{mark, key, sign, word, spell, Right, Good, GoodBullets, Head, primary, applied, open_form, head, is_primary, is_open, is_above, is_applied, is_short, first_bullet, can_be_left, can_be_under, can_be_head}
 use Rattle.tla_tree.specs.Spelling as sp
-use Rattle.tla_tree.specs.Reader.{any, ◌>>=◌, gives, next, tail, peek, take, is_sign, bullet_of, Context, free, right_of, under, behind, bound, fits, is_free, prefix_by, goes_on, Readers, list_if, keyed, under_by, signed, operand, short_signed, short_by, apply_if, select_if, postfix_by, climb_if, climb_by, phrases_by, binds_by, fields_by, settings_by, setting_if, path_by, bullets_if, arms_other, arms_if, arms_by, locals_by}
+use Rattle.tla_tree.specs.Reader.{any, ◌>>=◌, gives, next, tail, Context, free, right_of, under, behind, bound, fits, is_free, prefix_by, goes_on, Readers, list_if, keyed, under_by, signed, operand, short_signed, short_by, apply_if, select_if, postfix_by, climb_if, climb_by}
 use Rattle.tla_tree.specs.Reader as rd
 use Rattle.tla_tree.proofs.ReadStops.{sign_infix}
 use Rattle.tla_tree.proofs.ReadLists.{first_column}

@@ -1,5 +1,5 @@
 -- What is read is spelled: lists of all kinds, and all readers together.
-use Rattle.std.proofs.Common.{◌≡◌, ℕ, zero, suc, ◌*◌, length, nat_eq, Bool, true, false, not, ◌&&◌, List, [], ◌∷◌, Ok, refl, sym, ap, ◌∙◌, None}
+use Rattle.std.proofs.Common.{◌≡◌, ℕ, zero, suc, ◌*◌, length, nat_eq, Bool, true, false, not, ◌&&◌, List, ◌∷◌, Ok, refl, sym, ap, ◌∙◌, None}
 use Rattle.std.proofs.lemmas.Bool.{and_parts, eqb-true}
 use Rattle.tla_token.specs.declared.place.Place.{Place}
 use Rattle.tla_tree.specs.declared.op.Op.{Op}
@@ -9,11 +9,11 @@ use Rattle.tla_tree.specs.Rank.{is_bullet}
 use Rattle.tla_tree.specs.Lexical.{Mark, TokenView, Token, token}
 use Rattle.tla_tree.specs.Lexical as tk
 use Rattle.tla_tree.specs.Spelling.{Field, Phrase}
-use Rattle.tla_tree.specs.Spelling.{Phrases, last, more, Binds, share, Fields, last_field, field, Settings, last_setting, setting, Path, path_end, index, at_field, Bullets, last_bullet, bullet, Arms, last_arm, other_arm, arm, Locals, last_local, more_locals}
-use Rattle.tla_tree.specs.Spelling.{mark, key, sign, word, field_token, spell, spell_all, spell_binds, spell_fields, spell_settings, spell_path, spell_bullets, spell_arms, spell_locals, Right, Good, GoodAll, GoodBinds, GoodFields, GoodSettings, GoodPath, GoodBullets, GoodArms, GoodLocals, first_bullet, is_some_path, takes_box}
-use Rattle.tla_tree.specs.Reader.{any, ◌>>=◌, gives, next, tail, peek, take, is_sign, bullet_of, free, Readers, one_step, readers, read, phrases_by, binds_by, fields_by, settings_by, setting_if, path_by, bullets_if, arms_other, arms_if, arms_by, locals_by}
+use Rattle.tla_tree.specs.Spelling.{Phrases, Binds, Fields, Settings, Path, Bullets, Arms, arm, Locals}
+use Rattle.tla_tree.specs.Spelling.{mark, sign, word, field_token, spell, spell_all, spell_fields, spell_settings, spell_path, spell_bullets, spell_arms, spell_locals, Right, Good, GoodAll, GoodFields, GoodSettings, GoodPath, GoodBullets, GoodArms, GoodLocals, first_bullet, is_some_path, takes_box}
+use Rattle.tla_tree.specs.Reader.{any, ◌>>=◌, gives, next, tail, take, is_sign, bullet_of, free, Readers, one_step, readers, read, phrases_by, binds_by, fields_by, settings_by, setting_if, path_by, bullets_if, arms_other, arms_if, arms_by, locals_by}
 use Rattle.tla_tree.specs.Reader as rd
-use Rattle.tla_tree.proofs.SoundTokens.{then_ok, ok_is, given, seen, taken, take_ok, if_some, sign_is, mark_ok, sign_ok, word_ok, field_ok}
+use Rattle.tla_tree.proofs.SoundTokens.{then_ok, given, seen, taken, take_ok, if_some, sign_is, mark_ok, sign_ok, word_ok, field_ok}
 use Rattle.tla_tree.proofs.SoundPhrases.{IsGroup, Sound}
 use Rattle.tla_tree.proofs.SoundBraces.{bind_rest_sound}
 use Rattle.tla_tree.proofs.SoundForms.{bullet_sign, operand_sound, short_sound, postfix_sound, climb_sound}

@@ -1,5 +1,5 @@
 -- What is written of a tree that may be written are the texts of tokens.
-use Rattle.std.proofs.Common.{◌≡◌, ℕ, zero, suc, Bool, true, false, ◌<◌, List, [], ◌∷◌, ◌++◌, length, map, refl, sym, ap, subst, arith}
+use Rattle.std.proofs.Common.{◌≡◌, ℕ, Bool, true, false, List, [], ◌∷◌, ◌++◌, length, refl, subst, arith}
 use Rattle.std.specs.List.{flat_map}
 use Rattle.tla_tree.specs.declared.op.Op.{Op}
 use Rattle.tla_tree.specs.declared.op.Op.TheVariants as op
@@ -9,9 +9,8 @@ use Rattle.tla_tree.specs.Rank.{is_prefix}
 use Rattle.tla_tree.specs.Tree.{Word, Name, words, Each, PathStep, Slot, Strict, Form, Tree, Trees, node, no_trees, tree}
 use Rattle.tla_tree.specs.Tree as tree
 use Rattle.tla_tree.specs.Shapes.{Shaped, operands}
-use Rattle.tla_tree.specs.Lexical.{Mark, Key, TokenView, sign_of}
 use Rattle.tla_tree.specs.Lexical as tk
-use Rattle.tla_tree.specs.Written.{Piece, blank, token, Part, mark, spaced, infix_sign, prefix_sign, infix_pieces, listed, field_pieces, name_pieces, bind_pieces, definition_pieces, body, colon, binding_pieces, path_pieces, right_side, slot_pieces, except_pieces, strict_pieces, arm_pieces, choice_pieces, local_pieces, form_pieces, is_bracketed, bracketed, form_part, part, parts, pieces}
+use Rattle.tla_tree.specs.Written.{Piece, Part, spaced, infix_sign, prefix_sign, infix_pieces, listed, field_pieces, name_pieces, bind_pieces, definition_pieces, body, colon, binding_pieces, path_pieces, right_side, slot_pieces, except_pieces, strict_pieces, arm_pieces, choice_pieces, form_pieces, is_bracketed, bracketed, form_part, part, parts, pieces}
 use Rattle.tla_tree.specs.laws.Writable.{IsIdentifier, IsField, IsString, fields_in_path, names_in, fields_in, strings_in, count, IsWritable, AreWritable, IsSpelled, AreSpelled}
 use Rattle.tla_tree.proofs.SpelledTokens.{mark_spelled, key_spelled, constant_spelled, sign_spelled, word_spelled, field_spelled, string_spelled, number_spelled}
 

@@ -3,7 +3,7 @@ use Rattle.std.proofs.Common.{◌≡◌, ℕ, ◌+◌, Bool, true, false, not, �
 use Rattle.std.specs.Str.{bytes_eq}
 use Rattle.std.specs.List.{list_all}
 use Rattle.std.proofs.lemmas.Option.{same_Some}
-use Rattle.std.proofs.lemmas.Bool.{and_parts, and_from, or_cases, or_parts, eqb-true, not-true}
+use Rattle.std.proofs.lemmas.Bool.{and_parts, and_from, or_cases, eqb-true}
 use Rattle.tla_token.specs.declared.place.Place.{Place}
 use Rattle.tla_token.specs.declared.sign.Sign.{Sign}
 use Rattle.tla_token.specs.declared.sign.Sign.TheVariants as sign
@@ -13,13 +13,12 @@ use Rattle.tla_token.specs.Words.{pluscal_words, is_pluscal_word, is_tla_word, i
 use Rattle.tla_token.specs.Lexemes.{Kind, name, number, string, one, other, IsName, IsLexeme, is_plain, escaped, in_front, unquoted, behind_backslash}
 use Rattle.tla_token.specs.Tokens.{Piece, blank, block, line, lexeme, bytes_of, AllFit, Tok, tokens_of}
 use Rattle.tla_token.specs.Tokens as text
-use Rattle.tla_token.proofs.Front.{in_front_some}
 use Rattle.tla_token.proofs.Spelled.{same_bytes}
 use Rattle.tla_tree.specs.Tree.{Word}
 use Rattle.tla_tree.specs.Lexical.{TokenView, Token}
 use Rattle.tla_tree.specs.Lexical as tk
 use Rattle.tla_tree.specs.TokenViews.{sign_kind, kind_among, word_kinds, word_kind, kind_of, views}
-use Rattle.tla_tree.specs.laws.Writable.{IsField, IsString, is_spellable, IsOfText, AreOfText, IsSmall, AreSmall}
+use Rattle.tla_tree.specs.laws.Writable.{IsField, is_spellable, IsOfText, AreOfText, IsSmall, AreSmall}
 
 -- ---- words
 

@@ -1,13 +1,13 @@
 -- As many steps as are needed: the readers that have them are one step over themselves.
-use Rattle.std.proofs.Common.{◌≡◌, ℕ, zero, suc, ◌+◌, ◌-◌, ◌*◌, ◌≤◌, Bool, true, false, nat_le, min, List, [], ◌∷◌, length, Option, Some, None, Ok, Err, refl, sym, ap, ◌∙◌, arith, option_map}
+use Rattle.std.proofs.Common.{◌≡◌, ℕ, zero, suc, ◌+◌, ◌*◌, ◌≤◌, Bool, true, false, nat_le, min, List, [], ◌∷◌, length, Some, None, Err, refl, sym, ap, ◌∙◌, arith, option_map}
 use Rattle.tla_token.specs.declared.place.Place.{Place}
 use Rattle.tla_token.specs.declared.rule.Rule.TheVariants.{Syntax}
 use Rattle.tla_token.specs.Limits.{deepest_expression}
 use Rattle.tla_tree.specs.declared.op.Op.{Op}
 use Rattle.tla_tree.specs.Tree.{Word}
 use Rattle.tla_tree.specs.Lexical.{Mark, Token}
-use Rattle.tla_tree.specs.Spelling.{Field, Phrase, Bullets}
-use Rattle.tla_tree.specs.Reader.{Limit, Readers, Room, room, within, less, Reader, Out, then_read, read_by, opened, Context, free, one_step, no_steps, readers, read_limited, phrases_by, peek, a_mark}
+use Rattle.tla_tree.specs.Spelling.{Field, Phrase}
+use Rattle.tla_tree.specs.Reader.{Limit, Readers, Room, room, within, less, Reader, Out, then_read, read_by, Context, free, one_step, readers, read_limited, phrases_by, peek}
 use Rattle.tla_tree.specs.Whole.{whole}
 use Rattle.tla_tree.proofs.Alike.{rest_of}
 use Rattle.tla_tree.proofs.Opened.{in_bullets}

@@ -1,5 +1,5 @@
 -- Trees that are spelled by tokens of a text can be written.
-use Rattle.std.proofs.Common.{◌≡◌, ℕ, zero, suc, ◌+◌, ◌≤◌, Bool, true, false, not, ◌||◌, List, [], ◌∷◌, ◌++◌, length, Option, Some, None, refl, sym, ap, subst, ◌∙◌, arith}
+use Rattle.std.proofs.Common.{◌≡◌, ℕ, zero, suc, ◌+◌, ◌≤◌, Bool, true, false, not, List, [], ◌∷◌, ◌++◌, length, Option, Some, None, refl, sym, ap, subst, arith}
 use Rattle.std.specs.List.{flat_map}
 use Rattle.std.proofs.lemmas.Bool.{not-true, or_parts}
 use Rattle.tla_token.specs.declared.place.Place.{Place}
@@ -7,9 +7,9 @@ use Rattle.tla_token.specs.Words.{is_pluscal_word, is_tla_word, is_reserved}
 use Rattle.tla_tree.specs.declared.op.Op.{Op}
 use Rattle.tla_tree.specs.declared.op.Op.TheVariants as op
 use Rattle.tla_tree.specs.Rank.{is_prefix, is_bullet}
-use Rattle.tla_tree.specs.Tree.{Word, Name, PathStep, Slot, Tree, Trees, node, no_trees, words, Each, Graft, grafted_name, grafted_node, graft, grafts}
+use Rattle.tla_tree.specs.Tree.{Word, Name, Slot, Tree, Trees, node, no_trees, words, Each, Graft, grafted_name, grafted_node, graft, grafts}
 use Rattle.tla_tree.specs.Tree as tree
-use Rattle.tla_tree.specs.Shapes.{is_strict, HasPath, HavePaths, settings, IsPaired, CaseShaped, HaveNames, Shaped}
+use Rattle.tla_tree.specs.Shapes.{HasPath, HavePaths, settings, CaseShaped, HaveNames, Shaped}
 use Rattle.tla_tree.specs.Shapes as shape
 use Rattle.tla_tree.specs.Lexical.{Constant, Token, field_kind}
 use Rattle.tla_tree.specs.Lexical as tk

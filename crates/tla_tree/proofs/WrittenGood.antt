@@ -10,7 +10,7 @@ use Rattle.tla_tree.specs.Rank.{is_prefix, is_associative}
 use Rattle.tla_tree.specs.Tree.{Word, Name, PathStep, Slot, Strict, Form, Tree, Trees, node, no_trees, tree}
 use Rattle.tla_tree.specs.Tree as tree
 use Rattle.tla_tree.specs.Shapes.{Shaped, StrictShaped, HasPath, HavePaths, operands}
-use Rattle.tla_tree.specs.Spelling.{Phrase, Phrases, Binds, Fields, Settings, Path, Arms, Locals, Bullets, Head, primary, list, infix_of, prefix_of, quantified, if_then_else, cases, local, head, is_primary, is_above, is_applied, is_short, is_open, ends_open, end_list, is_behind, can_be_left, can_be_right, can_be_under, can_be_head, is_some_path, takes_box, is_bind, spell, Good, GoodAll, GoodBinds, GoodFields, GoodSettings, GoodPath, GoodArms, GoodLocals}
+use Rattle.tla_tree.specs.Spelling.{Phrase, Binds, Settings, Path, Arms, Head, primary, list, infix_of, prefix_of, quantified, if_then_else, cases, local, head, is_primary, is_above, is_applied, is_short, is_open, ends_open, end_list, is_behind, can_be_left, can_be_right, can_be_under, can_be_head, is_some_path, takes_box, is_bind, spell, Good, GoodAll, GoodBinds, GoodFields, GoodSettings, GoodPath, GoodArms, GoodLocals}
 use Rattle.tla_tree.specs.Spelling as spelled
 use Rattle.tla_tree.specs.Written.{is_bracketed}
 use Rattle.tla_tree.specs.laws.Bracketed.{Part, nowhere, no_phrase, field_of, infix_phrase, phrases, set_phrase, tuple_phrase, call_phrase, fields_of, group_of, binds_of, locals_of, body, binding_phrase, bound_phrase, path_of, right_side, slots_of, except_phrase, strict_phrase, arms_of, choice_phrase, local_phrase, form_phrase, in_brackets, form_part, part, parts}

@@ -7,12 +7,12 @@ use Rattle.tla_tree.specs.declared.op.Binder.TheVariants as binder
 use Rattle.tla_tree.specs.Rank.{is_prefix}
 use Rattle.tla_tree.specs.Tree.{Word, Name, PathStep, Slot, Strict, Form, Tree, Trees, node, no_trees, tree}
 use Rattle.tla_tree.specs.Tree as tree
-use Rattle.tla_tree.specs.Shapes.{Shaped, StrictShaped, BinderShaped, CaseShaped, IsPaired, HaveNames, HavePaths, operands, subscripts, settings}
+use Rattle.tla_tree.specs.Shapes.{Shaped, StrictShaped, BinderShaped, CaseShaped, HaveNames, HavePaths, operands, subscripts, settings}
 use Rattle.tla_tree.specs.Lexical.{Mark, TokenView, Token, sign_of}
 use Rattle.tla_tree.specs.Lexical as tk
-use Rattle.tla_tree.specs.Spelling.{Phrase, Phrases, Binds, Fields, Settings, Path, Arms, Locals, spell, spell_all, spell_binds, spell_fields, spell_settings, spell_path, spell_arms, spell_locals}
+use Rattle.tla_tree.specs.Spelling.{Phrase, Binds, Fields, Settings, Path, Arms, spell, spell_all, spell_binds, spell_fields, spell_settings, spell_path, spell_arms, spell_locals}
 use Rattle.tla_tree.specs.Spelling as spelled
-use Rattle.tla_tree.specs.Written.{Piece, blank, token}
+use Rattle.tla_tree.specs.Written.{Piece}
 use Rattle.tla_tree.specs.Written as w
 use Rattle.tla_tree.specs.laws.Bracketed.{kinds, tokens_of}
 use Rattle.tla_tree.specs.laws.Bracketed as b

@@ -1,6 +1,5 @@
 -- The phrase of a tree has that tree, places aside.
-use Rattle.std.proofs.Common.{◌≡◌, ℕ, suc, ◌+◌, ◌≤◌, Bool, true, false, List, [], ◌∷◌, length, map, refl, sym, ap, subst, ◌∙◌, arith}
-use Rattle.std.specs.Bool.{IsTrue}
+use Rattle.std.proofs.Common.{◌≡◌, ℕ, suc, ◌+◌, Bool, true, false, List, [], ◌∷◌, length, map, refl, ap, subst, ◌∙◌, arith}
 use Rattle.tla_token.specs.declared.place.Place.{Place}
 use Rattle.tla_tree.specs.declared.op.Op.{Op}
 use Rattle.tla_tree.specs.declared.op.Op.TheVariants as op
@@ -9,11 +8,11 @@ use Rattle.tla_tree.specs.declared.op.Binder.TheVariants as binder
 use Rattle.tla_tree.specs.Rank.{is_prefix}
 use Rattle.tla_tree.specs.Tree.{Word, Name, PathStep, Slot, Strict, Form, Tree, Trees, node, no_trees, tree}
 use Rattle.tla_tree.specs.Tree as tree
-use Rattle.tla_tree.specs.Shapes.{Shaped, StrictShaped, BinderShaped, CaseShaped, HaveNames, HavePaths, is_strict, operands, subscripts, settings}
-use Rattle.tla_tree.specs.Spelling.{Phrase, Phrases, Binds, Fields, Settings, Path, Arms, Locals, operation, one, groups, in_first, local_names, labels, steps, slots, has_other, tree_of, trees_of, sets_before, field_trees, setting_trees, arm_trees, right_sides_before}
+use Rattle.tla_tree.specs.Shapes.{Shaped, StrictShaped, BinderShaped, CaseShaped, HaveNames, is_strict, operands, subscripts, settings}
+use Rattle.tla_tree.specs.Spelling.{Phrase, Binds, Settings, Path, Arms, operation, one, groups, in_first, local_names, labels, steps, slots, has_other, tree_of, trees_of, sets_before, field_trees, setting_trees, arm_trees, right_sides_before}
 use Rattle.tla_tree.specs.Spelling as spelled
 use Rattle.tla_tree.specs.laws.Bracketed.{Part, nowhere}
-use Rattle.tla_tree.specs.laws.Placeless.{name_placeless, names_placeless, slot_placeless, strict_placeless, form_placeless, tree_placeless, trees_placeless}
+use Rattle.tla_tree.specs.laws.Placeless.{name_placeless, names_placeless, slot_placeless, form_placeless, tree_placeless, trees_placeless}
 use Rattle.tla_tree.specs.laws.Bracketed as b
 use Rattle.tla_tree.specs.laws.Writable.{IsWritable, AreWritable}
 use Rattle.tla_tree.proofs.WrittenPhrase.{counted}

@@ -6,8 +6,8 @@ use Rattle.tla_tree.specs.declared.op.Op.TheVariants as op
 use Rattle.tla_tree.specs.Tree.{Word}
 use Rattle.tla_tree.specs.Lexical.{Mark, TokenView}
 use Rattle.tla_tree.specs.Lexical as tk
-use Rattle.tla_tree.specs.Spelling.{Field, Phrase, brackets}
-use Rattle.tla_tree.specs.Reader.{Room, Readers, Context, free, behind, element, readers, next, tail, peek, a_mark, a_word, bind_rest, plain_field, named, from_name, braces, tuples}
+use Rattle.tla_tree.specs.Spelling.{Field, Phrase}
+use Rattle.tla_tree.specs.Reader.{Room, Readers, Context, free, behind, element, next, tail, peek, a_mark, a_word, bind_rest, plain_field, named, from_name}
 use Rattle.tla_tree.specs.Wanted.{Want, around, Need, or_then, need_opened, need_fit, mark_at, sign_at, number_at, word_at, a_close}
 
 -- ---- of the readers that call one another

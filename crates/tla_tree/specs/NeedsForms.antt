@@ -8,7 +8,7 @@ use Rattle.tla_tree.specs.Lexical.{Key, TokenView}
 use Rattle.tla_tree.specs.Lexical as tk
 use Rattle.tla_tree.specs.Nesting.{links}
 use Rattle.tla_tree.specs.Spelling.{Phrase, number, string, constant, brackets, apply, select, list, infix_of, can_be_head}
-use Rattle.tla_tree.specs.Reader.{Room, Readers, Context, free, under, right_of, bound, is_free, prefix_by, goes_on, so_far, readers, next, tail, peek, a_mark, a_key, a_word, a_field, braces, tuples, squares}
+use Rattle.tla_tree.specs.Reader.{Room, Readers, Context, free, under, right_of, bound, is_free, prefix_by, goes_on, so_far, next, tail, peek, a_mark, a_key, a_word, a_field, braces, tuples, squares}
 use Rattle.tla_tree.specs.Wanted.{around, Need, or_then, need_opened, need_after, mark_at, key_at, sign_at, number_at, word_at, a_number, a_close}
 use Rattle.tla_tree.specs.Needs.{Needs, need_name, need_braces, need_tuples, need_squares}
 

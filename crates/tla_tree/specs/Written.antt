@@ -6,7 +6,7 @@ use Rattle.tla_tree.specs.declared.op.Binder.{Binder}
 use Rattle.tla_tree.specs.declared.op.Binder.TheVariants as binder
 use Rattle.tla_tree.specs.Tree.{Word, Name, PathStep, Slot, Strict, Form, Tree, Trees, node, no_trees, tree}
 use Rattle.tla_tree.specs.Tree as tree
-use Rattle.tla_tree.specs.Lexical.{TokenView, Mark, Key, sign_of, field_kind, token_text}
+use Rattle.tla_tree.specs.Lexical.{TokenView, Mark, sign_of, field_kind, token_text}
 use Rattle.tla_tree.specs.Lexical as tk
 use Rattle.tla_token.specs.Words.{is_pluscal_word}
 

@@ -1,5 +1,5 @@
 -- Trees without their places: two that differ in places alone are equal so.
-use Rattle.std.specs.Prelude.{List, [], ◌∷◌, map}
+use Rattle.std.specs.Prelude.{List, map}
 use Rattle.tla_token.specs.Places.{nowhere}
 use Rattle.tla_tree.specs.Tree.{Name, Slot, Strict, except, Form, strict, binding, local, Tree, node, Trees, no_trees, tree}
 

@@ -1,10 +1,10 @@
 -- What the writer may be given: trees of the right shape whose words are each written as one token of a text.
-use Rattle.std.specs.Prelude.{◌≡◌, ℕ, ◌+◌, ◌<◌, Bool, true, false, ◌||◌, ◌&&◌, not, nat_le, nat_eq, List, [], ◌∷◌, map}
+use Rattle.std.specs.Prelude.{◌≡◌, ℕ, ◌+◌, ◌<◌, Bool, ◌||◌, ◌&&◌, not, nat_le, nat_eq, List, [], ◌∷◌}
 use Rattle.std.specs.Bool.{IsTrue}
 use Rattle.std.specs.List.{list_all, flat_map}
 use Rattle.tla_token.specs.Words.{is_reserved, is_tla_word}
 use Rattle.tla_token.specs.Lexemes.{Kind, number, IsName, IsLexeme}
-use Rattle.tla_tree.specs.Tree.{Word, PathStep, index, field, Slot, Strict, fields, records, select, except, Form, string, name, next, strict, operator_call, binders, Each, Tree, Trees, node, no_trees, tree}
+use Rattle.tla_tree.specs.Tree.{Word, PathStep, index, field, Slot, fields, records, select, except, Form, string, name, next, strict, operator_call, binders, Each, Tree, Trees, node, no_trees, tree}
 use Rattle.tla_tree.specs.Shapes.{Shaped}
 use Rattle.tla_token.specs.Limits.{past_numbers}
 use Rattle.tla_token.specs.Tokens as text
