@@ -1,5 +1,5 @@
 -- How many forms are open at an operator is told by the shapes of the phrase and of its element.
-use Rattle.std.proofs.Common.{◌≡◌, ℕ, ◌+◌, Bool, true, false, ◌||◌, ◌&&◌, not, nat_lt, nat_le, Option, Some, None, refl, sym, ap, ◌∙◌, subst, arith, if◌then◌else◌}
+use Rattle.std.proofs.Common.{◌≡◌, ℕ, ◌+◌, Bool, true, false, ◌||◌, ◌&&◌, not, nat_lt, nat_le, Option, Some, None, refl, sym, ap, ◌∙◌, arith, if◌then◌else◌}
 use Rattle.tla_token.specs.declared.place.Place.{Place}
 use Rattle.tla_tree.specs.declared.op.Op.{Op}
 use Rattle.tla_tree.specs.declared.op.Op.TheVariants as op
@@ -7,7 +7,7 @@ use Rattle.expression_parts.specs.declared.shape.Shape.{Shape}
 use Rattle.tla_tree.specs.Tree.{Word}
 use Rattle.tla_tree.specs.Rank.{rank}
 use Rattle.tla_tree.specs.Nesting.{chain, text_nesting}
-use Rattle.tla_tree.specs.Spelling.{Phrase, can_be_left}
+use Rattle.tla_tree.specs.Spelling.{Phrase}
 use Rattle.tla_tree.specs.Reader.{Limit, Readers, room, behind, element, fewest, so_far, chain_of}
 use Rattle.expression_parts.specs.ShapeOf.{shape_of, stands_left, may_have, element_chain, least_chain}
 use Rattle.expression_parts.proofs.ShapeLemmas.{nesting_is, chain_is, left_is}

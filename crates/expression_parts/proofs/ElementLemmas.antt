@@ -1,11 +1,10 @@
 -- The element of an expression, by whether it may stand to the right of `\in`.
-use Rattle.std.proofs.Common.{◌≡◌, ℕ, ◌+◌, Bool, true, false, Option, Some, None, List, refl, sym, ap, subst, arith, if◌then◌else◌}
+use Rattle.std.proofs.Common.{◌≡◌, Bool, true, false, Option, Some, None, List, sym, ap, subst, if◌then◌else◌}
 use Rattle.tla_token.specs.declared.place.Place.{Place}
 use Rattle.tla_tree.specs.declared.op.Op.{Op}
 use Rattle.tla_tree.specs.declared.op.Op.TheVariants as op
 use Rattle.expression_parts.specs.declared.make.Read.{Read}
 use Rattle.tla_tree.specs.Tree.{Word, Tree}
-use Rattle.tla_tree.specs.Nesting.{chain}
 use Rattle.tla_tree.specs.Spelling.{Phrase, name, infix_of, can_be_left, can_be_right}
 use Rattle.expression_parts.specs.ShapeOf.{shape_of}
 use Rattle.tla_tree.specs.Reader.{element, on_left}

@@ -1,30 +1,24 @@
 -- What is put into a pool for a form is the phrase of that form.
-use Rattle.std.proofs.Common.{◌≡◌, ℕ, suc, ◌+◌, ◌<◌, ◌≤◌, max, Bool, true, false, List, [], ◌∷◌, length, get_or, Result, Ok, Err, refl, sym, ap, ◌∙◌, subst, arith}
+use Rattle.std.proofs.Common.{◌≡◌, ℕ, ◌+◌, ◌<◌, max, true, false, List, [], ◌∷◌, length, get_or, Result, Ok, Err, refl, sym, ap, ◌∙◌, subst, arith}
 use Rattle.std.specs.Prelude.{IfOk}
 use Rattle.tla_token.specs.declared.place.Place.{Place}
-use Rattle.tla_token.specs.Limits.{past_numbers}
 use Rattle.tla_tree.specs.declared.op.Op.{Op}
 use Rattle.tla_tree.specs.declared.op.Op.TheVariants as op
 use Rattle.expression_parts.specs.declared.shape.Shape.{Shape}
 use Rattle.expression_parts.specs.declared.make.Read.{Read}
 use Rattle.expression_parts.specs.declared.make.Row.{Row}
 use Rattle.expression_parts.specs.declared.view.Constant.{Constant}
-use Rattle.expression_parts.specs.declared.view.Constant.TheVariants as constant
-use Rattle.tla_pool.specs.declared.form.Form as code
-use Rattle.tla_pool.specs.declared.form.Form.TheVariants as form
-use Rattle.tla_pool.specs.FormOf.{form_of}
 use Rattle.tla_tree.specs.Tree.{Word, Tree, Trees, Form, node, no_trees, tree}
 use Rattle.tla_tree.specs.Tree as pure
 use Rattle.tla_tree.specs.Shapes.{Shaped}
 use Rattle.tla_tree.specs.Rank.{is_prefix}
 use Rattle.tla_tree.specs.Spelling as spelled
 use Rattle.tla_tree.specs.Spelling.{Field, Phrase, Phrases, last, more, tree_of, trees_of, start, operation}
-use Rattle.expression_parts.specs.ShapeOf.{shape_of, primary_shape, linked_shape, open_shape, infix_shape, prefix_shape, in_all}
+use Rattle.expression_parts.specs.ShapeOf.{primary_shape, linked_shape, open_shape, infix_shape, prefix_shape, in_all}
 use Rattle.expression_parts.specs.ViewSeen.{constant_seen}
-use Rattle.tla_tree.specs.Pool.{at, trees_at, AllBelow, Keeps}
+use Rattle.tla_tree.specs.Pool.{at, trees_at, Keeps}
 use Rattle.expression_parts.specs.ReadIn.{IsIn, AreIn}
 use Rattle.expression_parts.proofs.ShapeLemmas.{start_is}
-use Rattle.tla_pool.proofs.PoolGrown.{trees_at-kept}
 
 pub ok_three : {X E : Type 0} {P Q R S : X → Type 0} (r : Result X E) → IfOk r P → IfOk r Q → IfOk r R → ((x : X) → P x → Q x → R x → S x) → IfOk r S
 ok_three (Ok x) p q r f = f x p q r

@@ -1,7 +1,6 @@
 -- A text that is unquoted byte by byte: the part that is made already, before what the rest stands for.
 use Rattle.std.proofs.Common.{◌≡◌, ℕ, Bool, true, false, nat_eq, List, [], ◌∷◌, ◌++◌, Option, Some, None, refl, sym, ap, ◌∙◌, append_assoc, if◌then◌else◌}
-use Rattle.std.specs.Prelude.{unwrap_or}
-use Rattle.tla_token.specs.Lexemes.{is_plain, escaped, in_front, unquoted, behind_backslash}
+use Rattle.tla_token.specs.Lexemes.{is_plain, escaped, in_front, unquoted}
 
 abbrev pub before : List ℕ → Option (List ℕ) → Option (List ℕ)
 before xs (Some w) = Some (xs ++ w)

@@ -1,5 +1,5 @@
 -- Worked rows of views and shapes, by computation.
-use Rattle.std.specs.Prelude.{ℕ, true, false, Some, None, codes}
+use Rattle.std.specs.Prelude.{ℕ, true, false, codes}
 use Rattle.std.proofs.Common.{◌≡◌, refl}
 use Rattle.tla_token.specs.declared.place.Place.{Place}
 use Rattle.tla_token.specs.declared.token.Span.{Span}

@@ -1,18 +1,17 @@
 -- What reading asks of a phrase is told by its shape.
-use Rattle.std.proofs.Common.{◌≡◌, ℕ, ◌+◌, max, Bool, true, false, ◌||◌, ◌&&◌, not, nat_lt, List, [], ◌∷◌, Option, Some, None, refl, sym, ap, subst, ◌∙◌, arith}
+use Rattle.std.proofs.Common.{◌≡◌, ℕ, ◌+◌, max, Bool, ◌&&◌, not, nat_lt, List, [], ◌∷◌, refl, sym, ap, subst, ◌∙◌, arith}
 use Rattle.tla_token.specs.declared.place.Place.{Place}
 use Rattle.tla_tree.specs.declared.op.Op.{Op}
 use Rattle.expression_parts.specs.declared.shape.Head.{Head}
 use Rattle.expression_parts.specs.declared.shape.Head.TheVariants as at
 use Rattle.expression_parts.specs.declared.shape.Boxes.{Boxes}
 use Rattle.expression_parts.specs.declared.shape.Boxes.TheVariants as boxes
-use Rattle.expression_parts.specs.declared.shape.Bullet.{Bullet}
 use Rattle.expression_parts.specs.declared.shape.Shape.{Shape}
-use Rattle.tla_tree.specs.Rank.{rank, is_prefix, is_associative, same_op}
+use Rattle.tla_tree.specs.Rank.{rank, is_prefix}
 use Rattle.tla_tree.specs.Spelling as spelling
 use Rattle.tla_tree.specs.Reader as reader
 use Rattle.tla_tree.specs.Nesting.{chain, links, counts, counts_all, counts_binds, counts_fields, counts_settings, counts_path, counts_bullets, counts_arms, counts_locals, greatest, text_nesting}
-use Rattle.expression_parts.specs.ShapeOf.{is_primary, is_open, is_above, is_applied, is_behind, is_left, takes, stands_left, stands_right, stands_under, stands_at_head, continues, right_of, shape_of, in_all, in_binds, in_fields, in_settings, in_path, in_bullets, in_arms, in_locals, last_boxes}
+use Rattle.expression_parts.specs.ShapeOf.{is_primary, is_open, is_above, is_applied, is_behind, takes, stands_left, stands_right, stands_under, stands_at_head, continues, right_of, shape_of, in_all, in_binds, in_fields, in_settings, in_path, in_bullets, in_arms, in_locals, last_boxes}
 use Rattle.tla_tree.specs.Spelling.{first_bullet, Phrase, number, string, constant, name, primed, call, brackets, no_set, set_of, filter, image, no_tuple, tuple, fields, records, function, functions, except, apply, select, list, quantified, if_then_else, cases, local, infix_of, prefix_of, Phrases, last, more, Binds, last_bind, bind, share, Fields, last_field, field, Settings, last_setting, setting, Path, path_end, index, at_field, Bullets, last_bullet, bullet, Arms, last_arm, other_arm, arm, Locals, last_local, more_locals}
 
 -- ---- chains and links

@@ -1,6 +1,5 @@
 -- What a view in memory stands for.
 use Rattle.std.specs.Prelude.{ℕ, List, [], unwrap_or, take, drop}
-use Rattle.tla_token.specs.declared.token.Span.{Span}
 use Rattle.tla_token.specs.TokensSeen.{span_bytes}
 use Rattle.tla_token.specs.Lexemes.{number_of, unquoted}
 use Rattle.expression_parts.specs.declared.view.Mark.{Mark}

@@ -1,14 +1,14 @@
 -- The place of a translation is as good among segments that look the same to it.
 use Rattle.std.proofs.Common.{◌≡◌, ℕ, suc, ◌+◌, nat_eq, Bool, true, false, not, ◌&&◌, ◌||◌, List, [], ◌∷◌, ◌++◌, Option, Some, None, refl, sym, ap, ◌∙◌}
-use Rattle.std.specs.Prelude.{if◌then◌else◌, is_some}
+use Rattle.std.specs.Prelude.{is_some}
 use Rattle.tla_token.specs.Lexemes.{Kind}
-use Rattle.tla_token.specs.Tokens.{blank, line}
+use Rattle.tla_token.specs.Tokens.{blank}
 use Rattle.tla_token.specs.Offences.{sound, Offence, offence_if}
 use Rattle.tla_token.specs.declared.rule.Rule.TheVariants.{Placement}
 use Rattle.tla_tree.specs.TokenViews.{kind_of}
 use Rattle.module_tree.specs.TextFront.{Text}
 use Rattle.module_tree.specs.Beginnings.{begins_algorithm, all_at}
-use Rattle.module_tree.specs.Walk.{Segment, part, region, is_region, Located}
+use Rattle.module_tree.specs.Walk.{Segment, part, is_region, Located}
 use Rattle.module_tree.specs.FileParts.{within, first_of, holds_algorithm, after_first, after_comment, region_of, is_newline}
 use Rattle.module_tree.specs.FileUnits.{kind_of_segment, is_starter, is_bar}
 use Rattle.module_tree.specs.FileOffences.{rest_of_line, no_unit, placements}

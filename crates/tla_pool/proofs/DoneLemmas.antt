@@ -1,11 +1,11 @@
 -- What a graft has made already, as a pool grows and more is made.
-use Rattle.std.proofs.Common.{◌≡◌, ℕ, ◌<◌, Bool, true, false, cond, List, [], ◌∷◌, length, refl, sym, ap, ◌∙◌, subst, arith, Option, Some, nat_eq}
+use Rattle.std.proofs.Common.{◌≡◌, ℕ, ◌<◌, Bool, true, false, cond, List, [], ◌∷◌, length, refl, sym, ap, ◌∙◌, subst, arith, Some, nat_eq}
 use Rattle.std.specs.Prelude.{Result, Ok, Err, OnOk}
 use Rattle.std.specs.Map.{lookup}
 use Rattle.std.proofs.lemmas.Bool.Decides.{Decides-eqb}
 use Rattle.indexmap.specs.IndexMap.{insert_entry}
 use Rattle.tla_tree.specs.Tree.{Tree, Graft, graft}
-use Rattle.tla_tree.specs.Pool.{at, Keeps}
+use Rattle.tla_tree.specs.Pool.{Keeps}
 use Rattle.tla_pool.specs.Done.{IsMade, AreMade}
 
 pub AreMade-kept : (g : Graft) (ts us : List Tree) (ps : List (ℕ × ℕ)) → Keeps ts us → AreMade g ts ps → AreMade g us ps

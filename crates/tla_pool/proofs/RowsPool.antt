@@ -6,7 +6,7 @@ use Rattle.tla_token.specs.declared.place.Place.{Place}
 use Rattle.tla_tree.specs.Tree.{Word, Tree, node, no_trees, tree, number, name, conjunction}
 use Rattle.tla_tree.specs.TreeOf.{root_form, root_parts}
 use Rattle.tla_pool.specs.Done.{AreMade}
-use Rattle.tla_tree.specs.Pool.{Entry, same_entry, at, grown, AllBelow, AreOlder, AreShaped}
+use Rattle.tla_tree.specs.Pool.{Entry, same_entry, grown, AllBelow, AreOlder, AreShaped}
 use Rattle.tla_tree.specs.PoolEquality.{fed_entry, same_entry-Decides}
 
 abbrev here : Place

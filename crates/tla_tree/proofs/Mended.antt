@@ -127,9 +127,9 @@ broken {A} {B} {R} {o} {f} {u} e h k = at o e h k
     at (Ok x) e h k = k x.0 x.1 refl e
     at (Err w) e h k = h (let i : w ≡ u = cc in ap (λ (z : Stop). stopped {A = A} z) i)
 
--- the same of a claim about wants
-pub refused_by : {A B : Type 0} {ws : Wants} {g : A → Need} {o : Out A} {f : A → Reader B} {u : Stop} (R : Wants → Type 0) → then_read o f ≡ Err u → (o ≡ Err u → R ws) → ((a : A) (ts : List Token) → o ≡ Ok (a, ts) → f a ts ≡ Err u → R (g a ts)) → R (or_then o ws g)
-refused_by {A} {B} {ws} {g} {o} {f} {u} R e h k = at o e h k
+-- the same of a claim about what is told of both
+pub refused_by : {A B W : Type 0} {ws : W} {g : A → List Token → W} {o : Out A} {f : A → Reader B} {u : Stop} (R : W → Type 0) → then_read o f ≡ Err u → (o ≡ Err u → R ws) → ((a : A) (ts : List Token) → o ≡ Ok (a, ts) → f a ts ≡ Err u → R (g a ts)) → R (or_then o ws g)
+refused_by {A} {B} {W} {ws} {g} {o} {f} {u} R e h k = at o e h k
   where
     at : (o : Out A) → then_read o f ≡ Err u → (o ≡ Err u → R ws) → ((a : A) (ts : List Token) → o ≡ Ok (a, ts) → f a ts ≡ Err u → R (g a ts)) → R (or_then o ws g)
     at (Ok x) e h k = k x.0 x.1 refl e

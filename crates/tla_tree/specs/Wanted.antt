@@ -55,7 +55,7 @@ abbrev pub Need : Type 0
 Need = List Token → Wants
 
 -- where a part is refused, and else where what comes after it is
-abbrev pub or_then : {A : Type 0} → Out A → Wants → (A → Need) → Wants
+abbrev pub or_then : {A W : Type 0} → Out A → W → (A → List Token → W) → W
 or_then (Ok x) ws f = f x.0 x.1
 or_then (Err s) ws f = ws
 

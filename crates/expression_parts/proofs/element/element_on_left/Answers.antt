@@ -1,6 +1,5 @@
 -- Proves what is asked of `element_on_left`.
-use Rattle.std.proofs.Common.{Option, Some, sym, subst, ◌∙◌}
-use Rattle.tla_tree.specs.Spelling.{Phrase}
+use Rattle.std.proofs.Common.{Option, sym, subst, ◌∙◌}
 use Rattle.expression_parts.specs.declared.make.Read.{Read}
 use Rattle.expression_parts.specs.ReadIn.{MayBeIn}
 use Rattle.expression_parts.proofs.ElementLemmas.{left_yes}

@@ -1,5 +1,5 @@
 -- Proves what is asked of `infix`.
-use Rattle.std.proofs.Common.{ℕ, List, length, ap, ◌∙◌}
+use Rattle.std.proofs.Common.{ℕ, List, ap, ◌∙◌}
 use Rattle.tla_tree.specs.Tree.{node}
 use Rattle.tla_pool.specs.FormOf.{form_of}
 use Rattle.tla_tree.specs.Pool.{trees_at}

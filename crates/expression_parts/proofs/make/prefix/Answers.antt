@@ -1,8 +1,6 @@
 -- Proves what is asked of `prefix`.
-use Rattle.std.proofs.Common.{ℕ, List, length, ap, ◌∙◌}
-use Rattle.tla_tree.specs.Tree.{node}
+use Rattle.std.proofs.Common.{ℕ, List, length, ap}
 use Rattle.tla_pool.specs.FormOf.{form_of}
-use Rattle.tla_tree.specs.Pool.{trees_at}
 use Rattle.expression_parts.proofs.MakeLemmas.{prefix_shaped}
 use Rattle.expression_parts.proofs.make.prefix.Goals as goal
 

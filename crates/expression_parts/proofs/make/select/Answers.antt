@@ -1,7 +1,6 @@
 -- Proves what is asked of `select`.
-use Rattle.std.proofs.Common.{ℕ, List, length, ap, ◌∙◌}
+use Rattle.std.proofs.Common.{ℕ, List, ap, ◌∙◌}
 use Rattle.tla_tree.specs.Tree.{node}
-use Rattle.tla_pool.specs.FormOf.{form_of}
 use Rattle.tla_tree.specs.Pool.{trees_at}
 use Rattle.tla_tree.specs.Tree as pure
 use Rattle.expression_parts.specs.ReadIn.{field_seen}

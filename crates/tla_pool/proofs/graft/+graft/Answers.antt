@@ -1,5 +1,5 @@
 -- Proves what is asked of `grafted_once` and `grafted_node`.
-use Rattle.std.proofs.Common.{ℕ, List, [], ◌<◌, arith, ap, sym, ◌∙◌, length, refl, subst, get_or, nat_eq}
+use Rattle.std.proofs.Common.{ℕ, List, [], ◌<◌, arith, ap, sym, ◌∙◌, length, refl, subst, get_or}
 use Rattle.tla_tree.specs.Tree.{node, graft}
 use Rattle.tla_tree.specs.Shapes.{Shaped}
 use Rattle.tla_tree.specs.Pool.{Entry, trees_at, tree_in, AllBelow}
