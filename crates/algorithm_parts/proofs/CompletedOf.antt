@@ -11,7 +11,8 @@ use Rattle.pcal_tree.specs.Grammar as grammar
 use Rattle.pcal_tree.specs.Grammar.{Text, Good, spell}
 use Rattle.pcal_tree.specs.OffencesSyntax.{algorithms}
 use Rattle.pcal_tree.proofs.LinesGood.{begun}
-use Rattle.algorithm_parts.specs.Missing.{or_after, all_of, completed_by}
+use Rattle.tla_tree.specs.Wanted.{or_then}
+use Rattle.algorithm_parts.specs.Missing.{all_of, completed_by}
 use Rattle.algorithm_parts.specs.Completes.{Completes}
 use Rattle.algorithm_parts.proofs.Completing.{completes_of}
 use Rattle.algorithm_parts.proofs.StopsOf.{ReadsAll}
@@ -25,7 +26,7 @@ module _ (syntax : grammar.Syntax) (read : Reader Text) (facts : ReadsAll syntax
   pub completed : (passed more : List Token) (x : Text) → Good syntax x → spell x [] ≡ passed ++ more → Completes syntax passed (missing passed)
   completed passed more x g s = by (read passed) refl
     where
-      by : (o : Out Text) → read passed ≡ o → Completes syntax passed (or_after o (facts.missing passed) (λ x. all_of []))
+      by : (o : Out Text) → read passed ≡ o → Completes syntax passed (or_then o (facts.missing passed) (λ x. all_of []))
       by (Ok (y, rest)) o = (let w = facts.spelled passed y rest o in record { whole = y; good = w.0; spelled = sym w.1 ∙ sym (append-nil passed); few = omega arith })
       by (Err (q, [])) o = (let m = facts.mended passed (q, []) o in subst (λ (us : List Token). Completes syntax us (facts.missing passed)) (sym (append-nil m.read) ∙ sym m.parts) (completes_of syntax m))
       by (Err (q, t ∷ rest)) o =

@@ -18,19 +18,19 @@ count_there (o ∷ front) back l e k = count_there front back l e k
 
 pub completes_of : (syntax : Syntax) {told ts : List Token} {u : Stop} → (m : Mend (Good syntax) spell opens none 0 16 told ts u) → Completes syntax m.read told
 completes_of syntax {told} {ts} {u} m =
-    let same : m.fix ≡ told = sym (append-nil m.fix) ∙ m.given in
-    let all : spell m.whole [] ≡ m.read ++ told = m.tokens [] ∙ ap (λ (v : List Token). m.read ++ v) (append-nil m.fix ∙ same) in
-    let long : length m.back ≡ length told = m.long ∙ ap length same in
+    let same : m.fill.fix ≡ told = sym (append-nil m.fill.fix) ∙ m.fill.given in
+    let all : spell m.fill.whole [] ≡ m.read ++ told = m.fill.tokens [] ∙ ap (λ (v : List Token). m.read ++ v) (append-nil m.fill.fix ∙ same) in
+    let long : length m.fill.back ≡ length told = m.fill.long ∙ ap length same in
     let there : length m.front ≡ length m.read =
-    (let a = ap length m.opens in
-    let b = length-append m.front m.back in
-    let c = as_many_opens m.whole in
+    (let a = ap length m.fill.opens in
+    let b = length-append m.front m.fill.back in
+    let c = as_many_opens m.fill.whole in
     let d = ap length all in
     let e = length-append m.read told in
     omega (arith, a, b, c, d, e, long)) in
     record {
-      whole = m.whole;
-      good = m.good;
+      whole = m.fill.whole;
+      good = m.fill.good;
       spelled = all;
-      few = subst (λ (os : List Open). length told ≤ 16 * get_or (map forms os) (length m.read) 0 + 16) (sym m.opens) (subst (λ (n : ℕ). length told ≤ 16 * get_or (map forms (m.front ++ m.back)) n 0 + 16) there (count_there m.front m.back (length told) long m.enough));
+      few = subst (λ (os : List Open). length told ≤ 16 * get_or (map forms os) (length m.read) 0 + 16) (sym m.fill.opens) (subst (λ (n : ℕ). length told ≤ 16 * get_or (map forms (m.front ++ m.fill.back)) n 0 + 16) there (count_there m.front m.fill.back (length told) long m.fill.enough));
     }

@@ -78,19 +78,21 @@ module _ {A : Type 0} (d base : ℕ) (y : ℕ → A → List ℕ → List ℕ) (
   -- what completes an expression has so many counts
   cut_mends : {ts : List Token} {u : Stop} (ws : Wants) (a : A) → Q a → u.0 ≡ Syntax → (read fix : List Token) → ts ≡ read ++ u.1 → ((v : List Token) → put a v ≡ read ++ (fix ++ v)) → fix ≡ completing ws → Cut (y base a) base 1 fix → Mend Q put counts_of none d 1 (completing ws) ts u
   cut_mends {ts} {u} ws a g r read fix s t e k = record {
-    whole = a;
-    good = g;
     rule = r;
     read = read;
-    fix = fix;
     parts = s;
-    tokens = t;
-    given = append-nil fix ∙ e;
     front = within d (k.front []);
-    back = within d (k.back []);
-    opens = ap (within d) (k.splits [] ∙ k.is_front.is [] (k.back [])) ∙ map-append (λ (n : ℕ). record { expressions = n; statements = d }) (k.front []) (k.back []);
-    long = (let n = k.long [] in length-map {B = Open} (k.back []) (λ (n : ℕ). record { expressions = n; statements = d }) ∙ omega (arith, n));
-    enough = suffice_counts d base (length (completing ws)) (k.back []) (by k.enough);
+    fill = record {
+      whole = a;
+      good = g;
+      fix = fix;
+      tokens = t;
+      given = append-nil fix ∙ e;
+      back = within d (k.back []);
+      opens = ap (within d) (k.splits [] ∙ k.is_front.is [] (k.back [])) ∙ map-append (λ (n : ℕ). record { expressions = n; statements = d }) (k.front []) (k.back []);
+      long = (let n = k.long [] in length-map {B = Open} (k.back []) (λ (n : ℕ). record { expressions = n; statements = d }) ∙ omega (arith, n));
+      enough = suffice_counts d base (length (completing ws)) (k.back []) (by k.enough);
+    };
   }
     where
       by : ((fix ≡ []) × ((u : List ℕ) → k.back u ≡ u)) ⊎ ((m : ℕ) × ((u : List ℕ) → Heads m (k.back u)) × (length fix + 16 * base ≤ 16 * m + 1)) → (k.back [] ≡ []) ⊎ ((m : ℕ) × Heads m (k.back []) × (length (completing ws) + 16 * base ≤ 16 * m + 1))

@@ -1,5 +1,5 @@
 -- What stands before a refused token can be gone on with, by few tokens that are told: how that goes from readers to those that are made of them.
-use Rattle.std.proofs.Common.{◌≡◌, ℕ, ◌+◌, ◌*◌, ◌≤◌, Bool, true, false, subst, List, [], ◌∷◌, ◌++◌, length, length-append, Option, Some, None, Ok, Err, if◌then◌else◌, refl, sym, ap, ◌∙◌, append_assoc, arith}
+use Rattle.std.proofs.Common.{◌≡◌, ℕ, suc, ◌+◌, ◌*◌, ◌≤◌, Bool, true, false, subst, List, [], ◌∷◌, ◌++◌, length, length-append, Option, Some, None, Ok, Err, if◌then◌else◌, refl, sym, ap, ◌∙◌, append_assoc, arith}
 use Rattle.std.proofs.lemmas.List.{append-nil}
 use Rattle.std.specs.Str.{bytes_eq}
 use Rattle.tla_token.proofs.Spelled.{same_bytes}
@@ -13,15 +13,15 @@ use Rattle.tla_tree.specs.Spelling.{Right, field_token}
 use Rattle.tla_tree.specs.Reader.{Out, Stop, Reader, ◌>>=◌, then_read, gives, refuses, if_fits, skip, took, tail, next, peek, is_mark, place_if, word_of, field_of}
 use Rattle.tla_tree.specs.FirstStop.{Open}
 use Rattle.tla_tree.proofs.SpellAhead.{Ahead, held, put_ahead, then_ahead}
-use Rattle.tla_tree.proofs.Mended.{left_is, gives_err, right_after, mark_err, field_err, word_err, some_field}
-use Rattle.tla_tree.specs.Wanted.{an_x}
+use Rattle.tla_tree.proofs.Mended.{left_is, refused_by, gives_err, right_after, mark_err, field_err, word_err, some_field}
+use Rattle.tla_tree.specs.Wanted.{an_x, or_then}
 use Rattle.tla_tree.specs.Wanted as wanted
 use Rattle.tla_tree.proofs.SoundTokens as edge
 use Rattle.tla_tree.specs.Reader as expression
 use Rattle.pcal_tree.specs.GrammarParts.{name, key, mark, word}
 use Rattle.pcal_tree.specs.OpenForms as form
 use Rattle.algorithm_parts.specs.TokenReaders.{first, by_next, past, is_reserved, name_of, a_key, a_mark, a_name, name_within, pick}
-use Rattle.algorithm_parts.specs.Missing.{Missing, or_after, then_misses, goes_on_missing, by_next_misses, peek_misses, past_misses, all_of, an_identifier}
+use Rattle.algorithm_parts.specs.Missing.{Missing, then_misses, goes_on_missing, by_next_misses, peek_misses, past_misses, all_of, an_identifier}
 use Rattle.algorithm_parts.specs.Completes.{forms}
 use Rattle.algorithm_parts.proofs.Sound.{Sound, SoundAt, here, Any, is_other, seen, sound_key, sound_mark, sound_name, sound_mark_right, sound_field_right, sound_word_right}
 
@@ -31,12 +31,12 @@ abbrev pub Suffice : ℕ → ℕ → List Open → ℕ → Type 0
 Suffice b c [] l = Unit {0}
 Suffice b c (o ∷ os) l = l + 16 * b ≤ 16 * forms o + c
 
--- of a part, and of what comes after it
-suffice_both : (i n b c : ℕ) (ka kb : List Open) (la lb : ℕ) → length ka ≡ la → Suffice i n ka la → Suffice b c kb lb → n + lb + 16 * b ≤ c + 16 * i → Suffice b c (ka ++ kb) (la + lb)
-suffice_both i n b c [] kb la lb l e f h = subst (λ (m : ℕ). Suffice b c kb m) (omega (arith, l)) f
-suffice_both i n b c (o ∷ ka) kb la lb l e f h = omega (arith, e, h)
+-- of a part, told with what comes after it
+suffice_with : (i n b c : ℕ) (ks : List Open) (l m : ℕ) → Suffice i n ks l → n + m + 16 * b ≤ c + 16 * i → Suffice b c ks (l + m)
+suffice_with i n b c [] l m e h = tt
+suffice_with i n b c (o ∷ ks) l m e h = omega (arith, e, h)
 
--- where it is told of all that is missing
+-- of both, where it is told of all that is missing
 suffice_on : (b c : ℕ) (ka kb : List Open) (l : ℕ) → Suffice b c ka l → (ka ≡ [] → Suffice b c kb l) → Suffice b c (ka ++ kb) l
 suffice_on b c [] kb l e f = f refl
 suffice_on b c (o ∷ ka) kb l e f = e
@@ -50,24 +50,8 @@ abbrev pub none : {A : Type 0} → A → List Token
 none a = []
 
 -- ---- what completes
--- tokens that were read from ts on up to a stop, by the rule of syntax, and tokens that complete them: with what is to come after the whole they are those that are told.
+-- tokens that complete what was read before, whose tokens are x and their counts y: with what is to come after the whole they are those that are told.
 -- The counts of the whole end in those of the tokens that complete it
-pub record Mend {A : Type 0} (Q : A → Type 0) (put : A → List Token → List Token) (counted : A → List Open) (rest : A → List Token) (b c : ℕ) (told ts : List Token) (u : Stop) : Type 0 where
-  pub whole : A
-  pub good : Q whole
-  pub rule : u.0 ≡ Syntax
-  pub read : List Token
-  pub fix : List Token
-  pub parts : ts ≡ read ++ u.1
-  pub tokens : (v : List Token) → put whole v ≡ read ++ (fix ++ v)
-  pub given : fix ++ rest whole ≡ told
-  pub front : List Open
-  pub back : List Open
-  pub opens : counted whole ≡ front ++ back
-  pub long : length back ≡ length fix
-  pub enough : Suffice b c back (length told)
-
--- tokens that complete what was read before, whose tokens are x and their counts y
 pub record Fill {A : Type 0} (x : List Token → List Token) (y : List Open) (Q : A → Type 0) (put : A → List Token → List Token) (counted : A → List Open) (rest : A → List Token) (b c : ℕ) (told : List Token) : Type 0 where
   pub whole : A
   pub good : Q whole
@@ -78,6 +62,14 @@ pub record Fill {A : Type 0} (x : List Token → List Token) (y : List Open) (Q 
   pub opens : counted whole ≡ y ++ back
   pub long : length back ≡ length fix
   pub enough : Suffice b c back (length told)
+
+-- tokens that were read from ts on up to a stop, by the rule of syntax, and tokens that complete them
+pub record Mend {A : Type 0} (Q : A → Type 0) (put : A → List Token → List Token) (counted : A → List Open) (rest : A → List Token) (b c : ℕ) (told ts : List Token) (u : Stop) : Type 0 where
+  pub rule : u.0 ≡ Syntax
+  pub read : List Token
+  pub parts : ts ≡ read ++ u.1
+  pub front : List Open
+  pub fill : Fill (λ v. read ++ v) front Q put counted rest b c told
 
 -- what was read after them is mended where the reader refuses, by what it misses; and there is some whole
 pub record Mends {A : Type 0} (x : List Token → List Token) (y : List Open) (Q : A → Type 0) (put : A → List Token → List Token) (counted : A → List Open) (rest : A → List Token) (b c : ℕ) (told : List Token) (n : Missing) (r : Reader A) : Type 0 where
@@ -93,71 +85,72 @@ pub record IsPart {A : Type 0} (P : A → Type 0) (front : A → List Token → 
   pub ahead : (a : A) → P a → Ahead (front a)
   pub mends : Mends here [] P front counts none b c told n r
 
+-- the same tokens, and the same counts, in other words
+pub refilled : {A : Type 0} {Q : A → Type 0} {put : A → List Token → List Token} {counted : A → List Open} {rest : A → List Token} {b c : ℕ} {told : List Token} (x z : List Token → List Token) {y w : List Open} → ((ts : List Token) → z ts ≡ x ts) → w ≡ y → Fill z w Q put counted rest b c told → Fill x y Q put counted rest b c told
+refilled x z e o f = record { whole = f.whole; good = f.good; fix = f.fix; tokens = λ v. f.tokens v ∙ e (f.fix ++ v); given = f.given; back = f.back; opens = f.opens ∙ ap (λ (ks : List Open). ks ++ f.back) o; long = f.long; enough = f.enough }
+
+-- o forms are open at the first of the tokens fix, and what is after them is completed
+pub onward : {A : Type 0} {Q : A → Type 0} {put : A → List Token → List Token} {counted : A → List Open} {rest : A → List Token} {b c : ℕ} {told : List Token} (x z : List Token → List Token) {y w : List Open} (fix : List Token) (o : Open) (os : List Open) → ((ts : List Token) → z ts ≡ x (fix ++ ts)) → w ≡ y ++ o ∷ os → suc (length os) ≡ length fix → length fix + length told + 16 * b ≤ 16 * forms o + c
+    → Fill z w Q put counted rest b c told → Fill x y Q put counted rest b c (fix ++ told)
+onward {rest = rest} {told = told} x z {y} fix o os e i l few f = record {
+  whole = f.whole;
+  good = f.good;
+  fix = fix ++ f.fix;
+  tokens = λ v. f.tokens v ∙ e (f.fix ++ v) ∙ ap x (sym (append_assoc fix f.fix v));
+  given = append_assoc fix f.fix (rest f.whole) ∙ ap (λ (v : List Token). fix ++ v) f.given;
+  back = (o ∷ os) ++ f.back;
+  opens = f.opens ∙ ap (λ (ks : List Open). ks ++ f.back) i ∙ append_assoc y (o ∷ os) f.back;
+  long = (let j = length-append (o ∷ os) f.back in let k = length-append fix f.fix in let n = f.long in omega (arith, j, k, n, l));
+  enough = (let j = length-append fix told in omega (arith, j, few));
+}
+
 pub onto : {A : Type 0} {Q : A → Type 0} {put : A → List Token → List Token} {counted : A → List Open} {rest : A → List Token} {b c : ℕ} {told ts us : List Token} {u : Stop} → ts ≡ us → Mend Q put counted rest b c told ts u → Mend Q put counted rest b c told us u
-onto s m = record { whole = m.whole; good = m.good; rule = m.rule; read = m.read; fix = m.fix; parts = sym s ∙ m.parts; tokens = m.tokens; given = m.given; front = m.front; back = m.back; opens = m.opens; long = m.long; enough = m.enough }
+onto s m = record { rule = m.rule; read = m.read; parts = sym s ∙ m.parts; front = m.front; fill = m.fill }
 
 -- told in other words
 told_as : {A : Type 0} {Q : A → Type 0} {put : A → List Token → List Token} {counted : A → List Open} {rest : A → List Token} {b c : ℕ} {told also ts : List Token} {u : Stop} → told ≡ also → Mend Q put counted rest b c told ts u → Mend Q put counted rest b c also ts u
 told_as {A} {Q} {put} {counted} {rest} {b} {c} {told} {also} {ts} {u} e m = subst (λ (w : List Token). Mend Q put counted rest b c w ts u) e m
 
 -- ---- a part, and what comes after it
--- the part was completed, and the whole is completed after it
-inside : {A B : Type 0} {P : A → Type 0} {front : A → List Token → List Token} {counts : A → List Open} {i n : ℕ} {part : List Token} {Q : B → Type 0} {put : B → List Token → List Token} {counted : B → List Open} {rest : B → List Token} {b c : ℕ} {after : List Token} (x : List Token → List Token) (y : List Open) → Ahead x → {ts us : List Token} {u : Stop} → (m : Mend P front counts none i n part us u) → Fill (λ ts. x (front m.whole ts)) (y ++ counts m.whole) Q put counted rest b c after
-    → n + length after + 16 * b ≤ c + 16 * i → ts ≡ x us → Mend Q put counted rest b c (part ++ after) ts u
-inside {A} {B} {P} {front} {counts} {i} {n} {part} {Q} {put} {counted} {rest} {b} {c} {after} x y h {ts} {us} {u} m f less s =
-    let same : m.fix ≡ part = sym (append-nil m.fix) ∙ m.given in
-    record {
-      whole = f.whole;
-      good = f.good;
-      rule = m.rule;
-      read = x m.read;
-      fix = m.fix ++ f.fix;
-      parts = s ∙ ap x m.parts ∙ h.is m.read _;
-      tokens = λ v. f.tokens v ∙ ap x (m.tokens (f.fix ++ v)) ∙ ap (λ (w : List Token). x (m.read ++ w)) (sym (append_assoc m.fix f.fix v)) ∙ h.is m.read ((m.fix ++ f.fix) ++ v);
-      given = append_assoc m.fix f.fix (rest f.whole) ∙ ap (λ (w : List Token). m.fix ++ w) f.given ∙ ap (λ (w : List Token). w ++ after) same;
-      front = y ++ m.front;
-      back = m.back ++ f.back;
-      opens = f.opens ∙ ap (λ (ks : List Open). (y ++ ks) ++ f.back) m.opens ∙ simp append_assoc refl;
-      long = (let a = length-append m.back f.back in let d = length-append m.fix f.fix in let e = m.long in let g = f.long in omega (arith, a, d, e, g));
-      enough = subst (λ (l : ℕ). Suffice b c (m.back ++ f.back) l) (sym (length-append part after)) (suffice_both i n b c m.back f.back (length part) (length after) (m.long ∙ ap length same) m.enough f.enough less);
-    }
-
--- the same where what is missing of the part is told with what comes after it
-inside_on : {A B : Type 0} {P : A → Type 0} {front : A → List Token → List Token} {counts : A → List Open} {tell : A → List Token} {told : List Token} {Q : B → Type 0} {put : B → List Token → List Token} {counted : B → List Open} {rest : B → List Token} {b c : ℕ} (x : List Token → List Token) (y : List Open) → Ahead x → {ts us : List Token} {u : Stop} → (m : Mend P front counts tell b c told us u)
-    → Fill (λ ts. x (front m.whole ts)) (y ++ counts m.whole) Q put counted rest b c (tell m.whole) → ts ≡ x us → Mend Q put counted rest b c told ts u
-inside_on {A} {B} {P} {front} {counts} {tell} {told} {Q} {put} {counted} {rest} {b} {c} x y h {ts} {us} {u} m f s = record {
+-- what is missing of a part is told with what comes after it
+fill_with : {A : Type 0} {x : List Token → List Token} {y : List Open} {P : A → Type 0} {front : A → List Token → List Token} {counts : A → List Open} {i n b c : ℕ} {part after : List Token} → n + length after + 16 * b ≤ c + 16 * i → Fill x y P front counts none i n part → Fill x y P front counts (λ a. after) b c (part ++ after)
+fill_with {A} {x} {y} {P} {front} {counts} {i} {n} {b} {c} {part} {after} less f = record {
   whole = f.whole;
   good = f.good;
-  rule = m.rule;
-  read = x m.read;
-  fix = m.fix ++ f.fix;
-  parts = s ∙ ap x m.parts ∙ h.is m.read _;
-  tokens = λ v. f.tokens v ∙ ap x (m.tokens (f.fix ++ v)) ∙ ap (λ (w : List Token). x (m.read ++ w)) (sym (append_assoc m.fix f.fix v)) ∙ h.is m.read ((m.fix ++ f.fix) ++ v);
-  given = append_assoc m.fix f.fix (rest f.whole) ∙ ap (λ (w : List Token). m.fix ++ w) f.given ∙ m.given;
-  front = y ++ m.front;
-  back = m.back ++ f.back;
-  opens = f.opens ∙ ap (λ (ks : List Open). (y ++ ks) ++ f.back) m.opens ∙ simp append_assoc refl;
-  long = (let a = length-append m.back f.back in let d = length-append m.fix f.fix in let e = m.long in let g = f.long in omega (arith, a, d, e, g));
-  enough = suffice_on b c m.back f.back (length told) m.enough (λ e. subst (λ (w : List Token). Suffice b c f.back (length w)) (ap (λ (w : List Token). w ++ tell m.whole) (sym (none_missing m.fix e m.long)) ∙ m.given) f.enough);
-}
-
--- x was read, and the rest of the whole is missing
-pub missing : {A : Type 0} {x : List Token → List Token} {y : List Open} {Q : A → Type 0} {put : A → List Token → List Token} {counted : A → List Open} {rest : A → List Token} {b c : ℕ} {told : List Token} → Ahead x → Fill x y Q put counted rest b c told → {ts : List Token} {u : Stop} → u.0 ≡ Syntax → ts ≡ x u.1 → Mend Q put counted rest b c told ts u
-missing {A} {x} {y} h f {ts} {u} e s = record {
-  whole = f.whole;
-  good = f.good;
-  rule = e;
-  read = x [];
   fix = f.fix;
-  parts = s ∙ h.is [] u.1;
-  tokens = λ v. f.tokens v ∙ h.is [] (f.fix ++ v);
-  given = f.given;
-  front = y;
+  tokens = f.tokens;
+  given = ap (λ (w : List Token). w ++ after) (sym (append-nil f.fix) ∙ f.given);
   back = f.back;
   opens = f.opens;
   long = f.long;
-  enough = f.enough;
+  enough = subst (λ (l : ℕ). Suffice b c f.back l) (sym (length-append part after)) (suffice_with i n b c f.back (length part) (length after) f.enough less);
 }
+
+with_after : {A : Type 0} {P : A → Type 0} {front : A → List Token → List Token} {counts : A → List Open} {i n b c : ℕ} {part after ts : List Token} {u : Stop} → n + length after + 16 * b ≤ c + 16 * i → Mend P front counts none i n part ts u → Mend P front counts (λ a. after) b c (part ++ after) ts u
+with_after less m = record { rule = m.rule; read = m.read; parts = m.parts; front = m.front; fill = fill_with less m.fill }
+
+-- the part was completed, and the whole is completed after it
+fill_on : {A B : Type 0} (x : List Token → List Token) (y : List Open) {z : List Token → List Token} {w : List Open} {P : A → Type 0} {front : A → List Token → List Token} {counts : A → List Open} {tell : A → List Token} {told : List Token} {Q : B → Type 0} {put : B → List Token → List Token} {counted : B → List Open} {rest : B → List Token} {b c : ℕ}
+    → (a : Fill z w P front counts tell b c told) → Fill (λ ts. x (front a.whole ts)) (y ++ counts a.whole) Q put counted rest b c (tell a.whole) → Fill (λ ts. x (z ts)) (y ++ w) Q put counted rest b c told
+fill_on x y {z} {tell = tell} {told = told} {rest = rest} {b = b} {c = c} a d = record {
+  whole = d.whole;
+  good = d.good;
+  fix = a.fix ++ d.fix;
+  tokens = λ v. d.tokens v ∙ ap x (a.tokens (d.fix ++ v)) ∙ ap (λ (v : List Token). x (z v)) (sym (append_assoc a.fix d.fix v));
+  given = append_assoc a.fix d.fix (rest d.whole) ∙ ap (λ (v : List Token). a.fix ++ v) d.given ∙ a.given;
+  back = a.back ++ d.back;
+  opens = d.opens ∙ ap (λ (ks : List Open). (y ++ ks) ++ d.back) a.opens ∙ simp append_assoc refl;
+  long = (let e = length-append a.back d.back in let j = length-append a.fix d.fix in let l = a.long in let o = d.long in omega (arith, e, j, l, o));
+  enough = suffice_on b c a.back d.back (length told) a.enough (λ e. subst (λ (v : List Token). Suffice b c d.back (length v)) (ap (λ (v : List Token). v ++ tell a.whole) (sym (none_missing a.fix e a.long)) ∙ a.given) d.enough);
+}
+
+inside : {A B : Type 0} {P : A → Type 0} {front : A → List Token → List Token} {counts : A → List Open} {tell : A → List Token} {told : List Token} {Q : B → Type 0} {put : B → List Token → List Token} {counted : B → List Open} {rest : B → List Token} {b c : ℕ} (x : List Token → List Token) (y : List Open) → Ahead x → {us : List Token} {u : Stop} → (m : Mend P front counts tell b c told us u)
+    → Fill (λ ts. x (front m.fill.whole ts)) (y ++ counts m.fill.whole) Q put counted rest b c (tell m.fill.whole) → Mend Q put counted rest b c told (x us) u
+inside x y h {u = u} m d = record { rule = m.rule; read = x m.read; parts = ap x m.parts ∙ h.is m.read u.1; front = y ++ m.front; fill = refilled (λ v. x m.read ++ v) (λ v. x (m.read ++ v)) (λ v. h.is m.read v) refl (fill_on x y m.fill d) }
+
+-- x was read, and the rest of the whole is missing
+pub missing : {A : Type 0} {x : List Token → List Token} {y : List Open} {Q : A → Type 0} {put : A → List Token → List Token} {counted : A → List Open} {rest : A → List Token} {b c : ℕ} {told : List Token} → Ahead x → Fill x y Q put counted rest b c told → {ts : List Token} {u : Stop} → u.0 ≡ Syntax → ts ≡ x u.1 → Mend Q put counted rest b c told ts u
+missing {A} {x} {y} h f {ts} {u} e s = record { rule = e; read = x []; parts = s ∙ h.is [] u.1; front = y; fill = refilled (λ v. x [] ++ v) x (λ v. h.is [] v) refl f }
 
 -- the rule by which a reader refuses
 pub rule_is : {A : Type 0} {ts : List Token} {u : Stop} → refuses {A = A} ts ≡ Err u → u.0 ≡ Syntax
@@ -166,17 +159,6 @@ rule_is {A} {ts} {u} e = (let i : ◌≡◌ {A = Stop} (Syntax, ts) u = cc in ap
 took_rule : {A : Type 0} (o : Option A) (ts : List Token) (u : Stop) → took o ts ≡ Err u → u.0 ≡ Syntax
 took_rule (Some a) ts u e = absurd cc
 took_rule {A} None ts u e = rule_is {A = A} e
-
-abbrev stopped : {A : Type 0} → Stop → Out A
-stopped u = Err u
-
--- the first is refused, or it is read and what follows is refused
-broken : {A B : Type 0} {ws : List Token} {g : A → Missing} {o : Out A} {f : A → Reader B} {u : Stop} (R : List Token → Type 0) → then_read o f ≡ Err u → (o ≡ Err u → R ws) → ((a : A) (ts : List Token) → o ≡ Ok (a, ts) → f a ts ≡ Err u → R (g a ts)) → R (or_after o ws g)
-broken {A} {B} {ws} {g} {o} {f} {u} R e h k = at o e h k
-  where
-    at : (o : Out A) → then_read o f ≡ Err u → (o ≡ Err u → R ws) → ((a : A) (ts : List Token) → o ≡ Ok (a, ts) → f a ts ≡ Err u → R (g a ts)) → R (or_after o ws g)
-    at (Ok x) e h k = k x.0 x.1 refl e
-    at (Err w) e h k = h (let i : w ≡ u = cc in ap (λ (z : Stop). stopped {A = A} z) i)
 
 -- it is so already
 pub filled : {A : Type 0} {x : List Token → List Token} {y : List Open} {Q : A → Type 0} {put : A → List Token → List Token} {counted : A → List Open} {rest : A → List Token} {b c : ℕ} (a : A) → Q a → ((ts : List Token) → put a ts ≡ x ts) → counted a ≡ y → Fill x y Q put counted rest b c (rest a)
@@ -188,56 +170,23 @@ mends_gives a g s e = record { fill = filled a g s e; is = λ ts u i. gives_err 
 pub mends_refuses : {A : Type 0} {x : List Token → List Token} {y : List Open} {Q : A → Type 0} {put : A → List Token → List Token} {counted : A → List Open} {rest : A → List Token} {b c : ℕ} {told : List Token} → Ahead x → Fill x y Q put counted rest b c told → Mends x y Q put counted rest b c told (all_of told) (refuses {A = A})
 mends_refuses {A} {x} h f = record { fill = f; is = λ ts u e. missing h f (rule_is {A = A} e) (ap x (left_is {A = A} e)) }
 
--- a part that is read after the tokens z of its own, with their counts w
-pub mends_after : {A B : Type 0} (x : List Token → List Token) (y : List Open) {z : List Token → List Token} {w : List Open} {P : A → Type 0} {front : A → List Token → List Token} {counts : A → List Open} {i n : ℕ} {part : List Token} {m : Missing} {r : Reader A} {Q : B → Type 0} {put : B → List Token → List Token} {counted : B → List Open} {rest : B → List Token} {b c : ℕ} {after : List Token} {g : A → Missing} {f : A → Reader B} → Ahead x → Sound z P front r
-    → ((a : A) → P a → Ahead (front a)) → Mends z w P front counts none i n part m r → n + length after + 16 * b ≤ c + 16 * i
-    → ((a : A) → P a → Ahead (λ ts. x (front a ts)) → Mends (λ ts. x (front a ts)) (y ++ counts a) Q put counted rest b c after (g a) (f a)) → Mends (λ ts. x (z ts)) (y ++ w) Q put counted rest b c (part ++ after) (then_misses r m after g) (r >>= f)
-mends_after {A} {B} x y {z} {w} {P} {front} {counts} {i} {n} {part} {m} {r} {Q} {put} {counted} {rest} {b} {c} {after} {g} {f} hx s hf h less k = record {
-  fill =
-      (let a = h.fill in
-      let d = (k a.whole a.good (then_ahead hx (hf a.whole a.good))).fill in
-      let same : a.fix ≡ part = sym (append-nil a.fix) ∙ a.given in
-      record {
-        whole = d.whole;
-        good = d.good;
-        fix = a.fix ++ d.fix;
-        tokens = λ v. d.tokens v ∙ ap x (a.tokens (d.fix ++ v)) ∙ ap (λ (v : List Token). x (z v)) (sym (append_assoc a.fix d.fix v));
-        given = append_assoc a.fix d.fix (rest d.whole) ∙ ap (λ (v : List Token). a.fix ++ v) d.given ∙ ap (λ (v : List Token). v ++ after) same;
-        back = a.back ++ d.back;
-        opens = d.opens ∙ ap (λ (ks : List Open). (y ++ ks) ++ d.back) a.opens ∙ simp append_assoc refl;
-        long = (let e = length-append a.back d.back in let j = length-append a.fix d.fix in let l = a.long in let o = d.long in omega (arith, e, j, l, o));
-        enough = subst (λ (l : ℕ). Suffice b c (a.back ++ d.back) l) (sym (length-append part after)) (suffice_both i n b c a.back d.back (length part) (length after) (a.long ∙ ap length same) a.enough d.enough less);
-      });
-  is = λ ts u e.
-      broken {A = A} {B = B} {ws = m ts ++ after} {g = g} {o = r ts} {f = f} {u = u} (λ v. Mend Q put counted rest b c v (x (z ts)) u) e
-      (λ j. (let a = h.is ts u j in inside x y hx a (k a.whole a.good (then_ahead hx (hf a.whole a.good))).fill less refl))
-      (λ a us j l. (let v = s.is ts a us j in onto (ap x v.1) ((k a v.0 (then_ahead hx (hf a v.0))).is us u l)));
-}
-
--- of which is told what comes after it too
+-- a part that is read after the tokens z of its own, with their counts w, and of which is told what comes after it too
 pub mends_on : {A B : Type 0} (x : List Token → List Token) (y : List Open) {z : List Token → List Token} {w : List Open} {P : A → Type 0} {front : A → List Token → List Token} {counts : A → List Open} {tell : A → List Token} {told : List Token} {m : Missing} {r : Reader A} {Q : B → Type 0} {put : B → List Token → List Token} {counted : B → List Open} {rest : B → List Token} {b c : ℕ} {g : A → Missing} {f : A → Reader B} → Ahead x
     → Sound z P front r → ((a : A) → P a → Ahead (front a)) → Mends z w P front counts tell b c told m r
     → ((a : A) → P a → Ahead (λ ts. x (front a ts)) → Mends (λ ts. x (front a ts)) (y ++ counts a) Q put counted rest b c (tell a) (g a) (f a)) → Mends (λ ts. x (z ts)) (y ++ w) Q put counted rest b c told (goes_on_missing r m g) (r >>= f)
 mends_on {A} {B} x y {z} {w} {P} {front} {counts} {tell} {told} {m} {r} {Q} {put} {counted} {rest} {b} {c} {g} {f} hx s hf h k = record {
-  fill =
-      (let a = h.fill in
-      let d = (k a.whole a.good (then_ahead hx (hf a.whole a.good))).fill in
-      record {
-        whole = d.whole;
-        good = d.good;
-        fix = a.fix ++ d.fix;
-        tokens = λ v. d.tokens v ∙ ap x (a.tokens (d.fix ++ v)) ∙ ap (λ (v : List Token). x (z v)) (sym (append_assoc a.fix d.fix v));
-        given = append_assoc a.fix d.fix (rest d.whole) ∙ ap (λ (v : List Token). a.fix ++ v) d.given ∙ a.given;
-        back = a.back ++ d.back;
-        opens = d.opens ∙ ap (λ (ks : List Open). (y ++ ks) ++ d.back) a.opens ∙ simp append_assoc refl;
-        long = (let e = length-append a.back d.back in let j = length-append a.fix d.fix in let l = a.long in let o = d.long in omega (arith, e, j, l, o));
-        enough = suffice_on b c a.back d.back (length told) a.enough (λ e. subst (λ (v : List Token). Suffice b c d.back (length v)) (ap (λ (v : List Token). v ++ tell a.whole) (sym (none_missing a.fix e a.long)) ∙ a.given) d.enough);
-      });
+  fill = (let a = h.fill in fill_on x y a (k a.whole a.good (then_ahead hx (hf a.whole a.good))).fill);
   is = λ ts u e.
-      broken {A = A} {B = B} {ws = m ts} {g = g} {o = r ts} {f = f} {u = u} (λ v. Mend Q put counted rest b c v (x (z ts)) u) e
-      (λ j. (let a = h.is ts u j in inside_on x y hx a (k a.whole a.good (then_ahead hx (hf a.whole a.good))).fill refl))
+      refused_by {A = A} {B = B} {ws = m ts} {g = g} {o = r ts} {f = f} {u = u} (λ v. Mend Q put counted rest b c v (x (z ts)) u) e
+      (λ j. (let a = h.is ts u j in inside x y hx a (k a.fill.whole a.fill.good (then_ahead hx (hf a.fill.whole a.fill.good))).fill))
       (λ a us j l. (let v = s.is ts a us j in onto (ap x v.1) ((k a v.0 (then_ahead hx (hf a v.0))).is us u l)));
 }
+
+-- of which is told what completes it alone
+pub mends_after : {A B : Type 0} (x : List Token → List Token) (y : List Open) {z : List Token → List Token} {w : List Open} {P : A → Type 0} {front : A → List Token → List Token} {counts : A → List Open} {i n : ℕ} {part : List Token} {m : Missing} {r : Reader A} {Q : B → Type 0} {put : B → List Token → List Token} {counted : B → List Open} {rest : B → List Token} {b c : ℕ} {after : List Token} {g : A → Missing} {f : A → Reader B} → Ahead x → Sound z P front r
+    → ((a : A) → P a → Ahead (front a)) → Mends z w P front counts none i n part m r → n + length after + 16 * b ≤ c + 16 * i
+    → ((a : A) → P a → Ahead (λ ts. x (front a ts)) → Mends (λ ts. x (front a ts)) (y ++ counts a) Q put counted rest b c after (g a) (f a)) → Mends (λ ts. x (z ts)) (y ++ w) Q put counted rest b c (part ++ after) (then_misses r m after g) (r >>= f)
+mends_after x y {z} {w} hx s hf h less k = mends_on x y {z = z} {w = w} hx s hf (record { fill = fill_with less h.fill; is = λ ts u e. with_after less (h.is ts u e) }) k
 
 -- a part that stands by itself
 pub mends_bind : {A B : Type 0} {x : List Token → List Token} {y : List Open} {P : A → Type 0} {front : A → List Token → List Token} {counts : A → List Open} {i n : ℕ} {part : List Token} {m : Missing} {r : Reader A} {Q : B → Type 0} {put : B → List Token → List Token} {counted : B → List Open} {rest : B → List Token} {b c : ℕ} {after : List Token} {g : A → Missing} {f : A → Reader B} → Ahead x → IsPart P front counts i n part m r → n + length after + 16 * b ≤ c + 16 * i
@@ -246,7 +195,7 @@ mends_bind {A} {B} {x} {y} {P} {front} {counts} {i} {n} {part} {m} {r} {Q} {put}
     subst (λ (ks : List Open). Mends x ks Q put counted rest b c (part ++ after) (then_misses r m after g) (r >>= f)) (append-nil y) (mends_after x y {z = here} {w = []} hx p.sound p.ahead p.mends less k)
 
 -- a part that is all that is read
-or_same : {A : Type 0} {w : List Token} (o : Out A) → or_after o w (λ a us. w) ≡ w
+or_same : {A : Type 0} {w : List Token} (o : Out A) → or_then o w (λ a us. w) ≡ w
 or_same (Ok x) = refl
 or_same (Err u) = refl
 
@@ -261,8 +210,8 @@ mends_give_after {A} {B} x y {z} {w} {P} {front} {counts} {i} {n} {part} {m} {r}
       fill = subst (λ (v : List Token). Fill (λ ts. x (z ts)) (y ++ w) Q put counted none b c v) (append-nil part) all.fill;
       is = λ ts u e.
           told_as (or_same (r ts))
-          (broken {A = A} {B = B} {ws = m ts} {g = λ a us. m ts} {o = r ts} {f = λ a. gives (f a)} {u = u} (λ v. Mend Q put counted none b c v (x (z ts)) u) e
-          (λ j. (let a = h.is ts u j in told_as (append-nil (m ts)) (inside x y hx a (done a.whole a.good) few refl)))
+          (refused_by {A = A} {B = B} {ws = m ts} {g = λ a us. m ts} {o = r ts} {f = λ a. gives (f a)} {u = u} (λ v. Mend Q put counted none b c v (x (z ts)) u) e
+          (λ j. (let a = with_after {after = []} few (h.is ts u j) in told_as (append-nil (m ts)) (inside x y hx a (done a.fill.whole a.fill.good))))
           (λ a us j l. gives_err (f a) us u l));
     }
 
@@ -349,8 +298,8 @@ pub mends_then : {A B : Type 0} {p : Place} {k : TokenView} (x : List Token → 
     → ((a : A) → P a → Ahead (λ ts. x (front a ts)) → Mends (λ ts. x (front a ts)) (y ++ counts a) Q put counted rest b c after (g a) (f a)) → MendsAt p k (λ ts. x (z ts)) (y ++ w) Q put counted rest b c (then_misses r m after g) (r >>= f)
 mends_then {A} {B} {p} {k} x y {z} {w} {P} {front} {counts} {i} {n} {m} {r} {Q} {put} {counted} {rest} {b} {c} {after} {g} {f} hx s hf h less t = record {
   is = λ ts o u e.
-      broken {A = A} {B = B} {ws = m ts ++ after} {g = g} {o = r ts} {f = f} {u = u} (λ v. Mend Q put counted rest b c v (x (z ts)) u) e
-      (λ j. (let a = h.is ts o u j in inside x y hx a (t a.whole a.good (then_ahead hx (hf a.whole a.good))).fill less refl))
+      refused_by {A = A} {B = B} {ws = m ts ++ after} {g = g} {o = r ts} {f = f} {u = u} (λ v. Mend Q put counted rest b c v (x (z ts)) u) e
+      (λ j. (let a = with_after {after = after} less (h.is ts o u j) in inside x y hx a (t a.fill.whole a.fill.good (then_ahead hx (hf a.fill.whole a.fill.good))).fill))
       (λ a us j l. (let v = s.is ts o a us j in onto (ap x v.1) ((t a v.0 (then_ahead hx (hf a v.0))).is us u l)));
 }
 

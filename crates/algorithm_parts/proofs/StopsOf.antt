@@ -69,7 +69,7 @@ module _ (syntax : grammar.Syntax) (read : Reader Text) (facts : ReadsAll syntax
   refused_is_completed ts passed rest q o s =
       let c = facts.mended ts (q, rest) o in
       let same : passed ≡ c.read = append_cancel_right passed c.read rest (sym s ∙ c.parts) in
-      (c.fix, c.whole, c.good, c.tokens [] ∙ ap (λ (v : List Token). c.read ++ v) (append-nil c.fix) ∙ ap (λ (v : List Token). v ++ c.fix) (sym same))
+      (c.fill.fix, c.fill.whole, c.fill.good, c.fill.tokens [] ∙ ap (λ (v : List Token). c.read ++ v) (append-nil c.fill.fix) ∙ ap (λ (v : List Token). v ++ c.fill.fix) (sym same))
 
   pub begins_before : (passed rest : List Token) (q : Rule) → read (passed ++ rest) ≡ Err (q, rest) → Begins (algorithms syntax) (take (length passed) (to_end (passed ++ rest)))
   begins_before passed rest q o =

@@ -1,13 +1,13 @@
 -- What is missing where the reading of some tokens is refused: how that goes from readers to those that are made of them.
-use Rattle.std.specs.Prelude.{ℕ, List, [], ◌∷◌, ◌++◌, Ok, Err}
+use Rattle.std.specs.Prelude.{ℕ, List, [], ◌∷◌, ◌++◌}
 use Rattle.tla_token.specs.declared.place.Place.{Place}
 use Rattle.tla_token.specs.Places.{nowhere}
 use Rattle.tla_tree.specs.Tree.{Word, Name}
 use Rattle.tla_tree.specs.Lexical.{Mark, TokenView, Token}
 use Rattle.tla_tree.specs.Spelling.{Phrase}
 use Rattle.tla_tree.specs.declared.op.Op.TheVariants as op
-use Rattle.tla_tree.specs.Reader.{Out, Reader, free, tail, next}
-use Rattle.tla_tree.specs.Wanted.{an_x, completing, number_at}
+use Rattle.tla_tree.specs.Reader.{Reader, free, tail, next}
+use Rattle.tla_tree.specs.Wanted.{an_x, completing, or_then, number_at}
 use Rattle.tla_tree.specs.NeedsLists.{needs}
 use Rattle.pcal_tree.specs.GrammarParts.{key, mark, sign, word}
 use Rattle.algorithm_parts.specs.TokenReaders.{first, a_key, a_mark, a_name, Parts}
@@ -17,18 +17,13 @@ abbrev pub Missing : Type 0
 Missing = List Token → List Token
 
 -- ---- readers that are made of others
--- where a part is refused, and else where what comes after it is
-abbrev pub or_after : {A : Type 0} → Out A → List Token → (A → Missing) → List Token
-or_after (Ok x) ws f = f x.0 x.1
-or_after (Err u) ws f = ws
-
 -- a part, and what comes after it: after a part that had to be completed, the shortest
 abbrev pub then_misses : {A : Type 0} → Reader A → Missing → List Token → (A → Missing) → Missing
-then_misses r n shortest f ts = or_after (r ts) (n ts ++ shortest) f
+then_misses r n shortest f ts = or_then (r ts) (n ts ++ shortest) f
 
 -- the same of a part of which it is told what is missing of all that comes after it too
 abbrev pub goes_on_missing : {A : Type 0} → Reader A → Missing → (A → Missing) → Missing
-goes_on_missing r n f ts = or_after (r ts) (n ts) f
+goes_on_missing r n f ts = or_then (r ts) (n ts) f
 
 -- by the place and kind of the next token
 abbrev pub by_next_misses : (Place → TokenView → Missing) → Missing
@@ -48,7 +43,7 @@ all_of ws ts = ws
 
 -- where all that was passed is read, nothing; and else what is missing of it
 abbrev pub completed_by : {A : Type 0} → Reader A → Missing → List Token → List Token
-completed_by r n passed = or_after (r passed) (n passed) (λ x. all_of [])
+completed_by r n passed = or_then (r passed) (n passed) (λ x. all_of [])
 
 -- ---- single tokens
 abbrev pub an_identifier : List Token → List Token

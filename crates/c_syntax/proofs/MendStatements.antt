@@ -1,5 +1,5 @@
 -- What stands before a refused token can be gone on with: each state can be completed, by few tokens.
-use Rattle.std.proofs.Common.{◌≡◌, ℕ, zero, suc, ◌+◌, ◌*◌, ◌≤◌, Bool, true, false, not, List, [], ◌++◌, length, length-append, Option, Some, None, refl, sym, ap, ◌∙◌, append_assoc, arith, codes}
+use Rattle.std.proofs.Common.{◌≡◌, ℕ, zero, suc, ◌+◌, ◌*◌, ◌≤◌, Bool, true, false, not, List, [], ◌++◌, length, length-append, Option, Some, None, refl, ap, ◌∙◌, append_assoc, arith, codes}
 use Rattle.std.proofs.lemmas.List.{append-nil}
 use Rattle.std.specs.Prelude.{IsTrue}
 use Rattle.tla_token.specs.declared.place.Place.{Place}
@@ -27,7 +27,7 @@ use Rattle.algorithm_parts.proofs.SoundSimple.{named_sound, words_sound}
 use Rattle.algorithm_parts.proofs.Aheads.{ahead_semicolon, ahead_labels, ahead_binds, ahead_simple}
 use Rattle.algorithm_parts.proofs.BesideAround.{binds_deep, with_label_opens}
 use Rattle.algorithm_parts.proofs.Mends as mends
-use Rattle.algorithm_parts.proofs.Mends.{Fill, Mends, MendsAt, IsPart, AllMend, filled, mends_gives, mends_refuses, mends_on, mends_bind, mends_then, mends_same, mends_next, mends_stays, mends_past, mends_pick, mends_fits, part_mark}
+use Rattle.algorithm_parts.proofs.Mends.{Fill, Mends, MendsAt, IsPart, AllMend, filled, refilled, mends_gives, mends_refuses, mends_on, mends_bind, mends_then, mends_same, mends_next, mends_stays, mends_past, mends_pick, mends_fits, part_mark}
 use Rattle.algorithm_parts.proofs.MendParts.{MendsParts, part_colon, part_binds}
 use Rattle.algorithm_parts.proofs.MendSimple.{named_mends, words_mend}
 use Rattle.algorithm_parts.proofs.WithLabel.{with_label_tokens}
@@ -150,21 +150,7 @@ Filled x y told = Fill x y GoodSequence sequence (c_sequence 0) mends.none 0 6 t
 
 -- some tokens, where d forms are open at the first, and then what completes it after them
 onward : (x y : List Token → List Token) {u v : List Open} {told : List Token} (fix : List Token) (d : ℕ) (os : List Open) → ((ts : List Token) → y ts ≡ x (fix ++ ts)) → v ≡ u ++ (here d ++ os) → suc (length os) ≡ length fix → length fix + length told ≤ 16 * d + 6 → Filled y v told → Filled x u (fix ++ told)
-onward x y {u} {v} {told} fix d os e o l few f = record {
-  whole = f.whole;
-  good = f.good;
-  fix = fix ++ f.fix;
-  tokens = λ v. f.tokens v ∙ e (f.fix ++ v) ∙ ap x (sym (append_assoc fix f.fix v));
-  given = append_assoc fix f.fix [] ∙ ap (λ (w : List Token). fix ++ w) f.given;
-  back = (here d ++ os) ++ f.back;
-  opens = f.opens ∙ ap (λ (ks : List Open). ks ++ f.back) o ∙ append_assoc u (here d ++ os) f.back;
-  long = (let a = length-append (here d ++ os) f.back in let b = length-append fix f.fix in let k = f.long in omega (arith, a, b, k, l));
-  enough = (let a = length-append fix told in omega (arith, a, few));
-}
-
--- the same tokens and counts in other words
-again : (x y : List Token → List Token) {u v : List Open} {told : List Token} → ((ts : List Token) → y ts ≡ x ts) → v ≡ u → Filled y v told → Filled x u told
-again x y e o f = record { whole = f.whole; good = f.good; fix = f.fix; tokens = λ v. f.tokens v ∙ e (f.fix ++ v); given = f.given; back = f.back; opens = f.opens ∙ ap (λ (ks : List Open). ks ++ f.back) o; long = f.long; enough = f.enough }
+onward x y fix d os e o l few f = mends.onward x y fix (record { expressions = 0; statements = d }) os e o l (omega (arith, few)) f
 
 abbrev behind : Labelled → Option Place → Stack → List Token → List Token
 behind a s st ts = stack st (labelled_tokens a (maybe_semicolon s ts))
@@ -188,13 +174,13 @@ stack_filled (in_then ls (if_test u v e w) st) d a i n c s =
     (then_closed st ls (if_test u v e w) a s) refl (omega (arith, few)) (stack_filled st d.1 it (d.0, i, (n, tt)) refl (λ k. refl) None))
 stack_filled (in_else ls (if_test u v e w) b q p st) d a i n c s =
     (let it = labelled ls (branch u v e w b (else_then q p a)) in
-    again (behind a s (in_else ls (if_test u v e w) b q p st)) (behind it s st) (λ ts. refl) (else_closed st ls (if_test u v e w) b q p a s) (stack_filled st d.3 it (d.0, d.1, (d.2, i)) n c s))
+    refilled (behind a s (in_else ls (if_test u v e w) b q p st)) (behind it s st) (λ ts. refl) (else_closed st ls (if_test u v e w) b q p a s) (stack_filled st d.3 it (d.0, d.1, (d.2, i)) n c s))
 stack_filled (in_body ls (with_opening u v bs w) st) d a i n c s =
     (let it = labelled ls (with u v bs w a) in
-    again (behind a s (in_body ls (with_opening u v bs w) st)) (behind it s st) (λ ts. refl) (simp append_assoc refl) (stack_filled st d.1 it (d.0, i) n c s))
+    refilled (behind a s (in_body ls (with_opening u v bs w) st)) (behind it s st) (λ ts. refl) (simp append_assoc refl) (stack_filled st d.1 it (d.0, i) n c s))
 stack_filled (in_body ls (while_opening u v e w) st) d a i n c s =
     (let it = labelled ls (while u v e w a) in
-    again (behind a s (in_body ls (while_opening u v e w) st)) (behind it s st) (λ ts. refl) (simp append_assoc refl) (stack_filled st d.1 it (d.0, i) n c s))
+    refilled (behind a s (in_body ls (while_opening u v e w) st)) (behind it s st) (λ ts. refl) (simp append_assoc refl) (stack_filled st d.1 it (d.0, i) n c s))
 stack_filled (in_either (first_arm ls p) st) d a i n c s =
     (let it = labelled ls (either p a (last_branch s nowhere skips)) in
     let few = few_closing st in
@@ -203,7 +189,7 @@ stack_filled (in_either (first_arm ls p) st) d a i n c s =
 stack_filled (in_either (later_arm t b q p) st) d a i n c s =
     (let bs = last_branch q p a in
     let it = joined t b bs in
-    again (behind a s (in_either (later_arm t b q p) st)) (behind it s st) (λ ts. ap (stack st) (joined_tokens t b bs (maybe_semicolon s ts)))
+    refilled (behind a s (in_either (later_arm t b q p) st)) (behind it s st) (λ ts. ap (stack st) (joined_tokens t b bs (maybe_semicolon s ts)))
     (ap (λ (y : List Open). stack_opens st ++ y ++ plain (closing_divider st) (maybe_semicolon s)) (joined_opens (depth st) t b bs) ∙ simp append_assoc refl)
     (stack_filled st d.2 it (joined_good t b bs d.0.0 d.0.1 d.0.2 i) (ap not (joined_takes_else t b bs) ∙ n) (λ k. absurd (let f = d.1 in cc)) s))
 

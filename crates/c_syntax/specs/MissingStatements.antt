@@ -44,7 +44,7 @@ missing_statement_by m w n st p (tk.reserved v) = pick v (missing_statement_word
 missing_statement_by m w n st p k = all_of (a_skip (closing st))
 
 -- ---- after a statement; ws closes all that stands open
--- where another one may come: it begins with a word, or there is none
+-- where another one may come: it begins with a word, or with a brace, at which nothing is refused; or there is none
 abbrev pub missing_another_by : Bool → Parts → PartsMiss → ℕ → Stack → List Token → Place → TokenView → Missing
 missing_another_by true m w n st ws p (tk.word x) = missing_statement_by m w n st p (tk.word x)
 missing_another_by true m w n st ws p (tk.reserved v) = missing_statement_by m w n st p (tk.reserved v)

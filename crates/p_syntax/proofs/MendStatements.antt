@@ -1,5 +1,5 @@
 -- What stands before a refused token can be gone on with, by the tokens that are missing: each state can be completed.
-use Rattle.std.proofs.Common.{◌≡◌, ℕ, zero, suc, ◌+◌, ◌*◌, ◌≤◌, List, [], ◌∷◌, ◌++◌, length, length-append, Option, Some, None, refl, sym, ap, ◌∙◌, append_assoc, arith, codes}
+use Rattle.std.proofs.Common.{◌≡◌, ℕ, zero, suc, ◌+◌, ◌*◌, ◌≤◌, List, [], ◌∷◌, ◌++◌, length, Option, Some, None, refl, sym, ap, ◌∙◌, append_assoc, arith, codes}
 use Rattle.std.proofs.lemmas.List.{append-nil}
 use Rattle.tla_token.specs.declared.place.Place.{Place}
 use Rattle.tla_token.specs.Places.{nowhere}
@@ -26,7 +26,7 @@ use Rattle.algorithm_parts.proofs.SoundSimple.{named_sound, words_sound}
 use Rattle.algorithm_parts.proofs.Aheads.{ahead_semicolon, ahead_labels, ahead_binds, ahead_simple}
 use Rattle.algorithm_parts.proofs.WithLabel.{with_label_tokens}
 use Rattle.algorithm_parts.proofs.BesideAround.{with_label_opens, binds_deep}
-use Rattle.algorithm_parts.proofs.Mends.{Fill, Mends, MendsAt, IsPart, AllMend, filled, mends_gives, mends_refuses, mends_on, mends_bind, mends_then, mends_same, mends_next, mends_stays, mends_past, mends_pick, mends_fits, part_key}
+use Rattle.algorithm_parts.proofs.Mends.{Fill, Mends, MendsAt, IsPart, AllMend, onward, filled, refilled, mends_gives, mends_refuses, mends_on, mends_bind, mends_then, mends_same, mends_next, mends_stays, mends_past, mends_pick, mends_fits, part_key}
 use Rattle.algorithm_parts.proofs.Mends as part
 use Rattle.algorithm_parts.proofs.MendParts.{MendsParts, part_colon, part_binds}
 use Rattle.algorithm_parts.proofs.MendSimple.{named_mends, words_mend}
@@ -113,19 +113,8 @@ outer : (b : Before) (ls : Labels) (st : Stack) → GoodBefore b → ((ss : Sequ
     → Filled (λ ts. at b ls st (x ts)) y (fix ++ closing st)
 outer b ls st d k a i x fix e y z o os c f l few =
     let ss = last_statement ls a None in
-    let f0 = k (with_before b ss) (with_before_good b ss d i) in
     let counts : listed (with_before b ss) st ≡ y ++ o ∷ os = rw (with_before_opens (depth st) b ss, c, sym f) (simp (append_assoc, append-nil) refl) in
-    record {
-      whole = f0.whole;
-      good = f0.good;
-      fix = fix ++ f0.fix;
-      tokens = λ v. f0.tokens v ∙ ap (stack st) (with_before_tokens b ss (f0.fix ++ v)) ∙ ap (at b ls st) (e (f0.fix ++ v)) ∙ ap (λ (w : List Token). at b ls st (x w)) (sym (append_assoc fix f0.fix v));
-      given = append_assoc fix f0.fix [] ∙ ap (λ (w : List Token). fix ++ w) f0.given;
-      back = (o ∷ os) ++ f0.back;
-      opens = f0.opens ∙ ap (λ (ks : List Open). ks ++ f0.back) counts ∙ append_assoc y (o ∷ os) f0.back;
-      long = (let p = length-append (o ∷ os) f0.back in let q = length-append fix f0.fix in let r = f0.long in omega (arith, p, q, r, l));
-      enough = (let p = length-append fix (closing st) in omega (arith, p, few));
-    }
+    onward (λ ts. at b ls st (x ts)) (λ ts. stack st (sequence (with_before b ss) ts)) fix o os (λ ts. ap (stack st) (with_before_tokens b ss ts) ∙ ap (at b ls st) (e ts)) counts l (omega (arith, few)) (k (with_before b ss) (with_before_good b ss d i))
 
 -- the word that ends a form, two tokens
 abbrev its_end : Word → List Token
@@ -173,18 +162,8 @@ state_filled (begin b ls st) i =
     (at_opens b ls st) [] (record { expressions = 0; statements = depth st }) [] refl (append-nil (at_opens b ls st)) refl (let e = few_closing st in omega (arith, e))
 state_filled (ended b ls a o st) i =
     (let ss = last_statement ls a o in
-    let f = list_filled st i.2 (with_before b ss) (with_before_good b ss i.0 i.1) in
-    record {
-      whole = f.whole;
-      good = f.good;
-      fix = f.fix;
-      tokens = λ v. f.tokens v ∙ ap (stack st) (with_before_tokens b ss (f.fix ++ v));
-      given = f.given;
-      back = f.back;
-      opens = f.opens ∙ ap (λ (ks : List Open). (stack_opens st ++ ks) ++ f.back) (with_before_opens (depth st) b ss) ∙ simp append_assoc refl;
-      long = f.long;
-      enough = f.enough;
-    })
+    refilled (passed (ended b ls a o st)) (λ ts. stack st (sequence (with_before b ss) ts)) (λ v. ap (stack st) (with_before_tokens b ss v)) (ap (λ (ks : List Open). stack_opens st ++ ks) (with_before_opens (depth st) b ss) ∙ simp append_assoc refl)
+    (list_filled st i.2 (with_before b ss) (with_before_good b ss i.0 i.1)))
 
 -- what closes the state to which a step goes, and nothing after the whole list
 abbrev rest_turn : Turn → List Token
