@@ -1,10 +1,10 @@
 -- The first of all offences that are counted is the least of the first of each kind.
-use Rattle.std.proofs.Common.{◌≡◌, ℕ, List, ◌++◌, [], Option, refl, sym, ap, ◌∙◌}
+use Rattle.std.proofs.Common.{◌≡◌, ℕ, List, ◌++◌, [], Option, sym, ap, ◌∙◌}
 use Rattle.tla_token.specs.declared.rule.Refusal.{Refusal}
 use Rattle.tla_tree.specs.Tree.{Tree}
 use Rattle.pcal_tree.specs.declared.algorithm.Algorithm as code
 use Rattle.pcal_tree.specs.Algorithm.{Name}
-use Rattle.pcal_tree.specs.InMemory.{main_at, algorithm_at}
+use Rattle.pcal_tree.specs.InMemory.{algorithm_at}
 use Rattle.pcal_tree.specs.Offences.{first}
 use Rattle.pcal_tree.specs.OffencesNames.{process_names}
 use Rattle.pcal_tree.specs.OffencesCounts.{variable_names, procedure_names, all_label_names, first_past, long_chains, deep_definitions, count_offences}

@@ -1,12 +1,12 @@
 -- All rules by which an algorithm's tokens are answered are among those of its spelling.
-use Rattle.std.proofs.Common.{◌≡◌, ℕ, ◌≤◌, Bool, true, false, ◌&&◌, nat_le, nat_lt, inl, inr, List, [], ◌∷◌, ◌++◌, filter, Option, Some, None, refl, sym, ap, ◌∙◌, subst, cond, true≢false}
+use Rattle.std.proofs.Common.{◌≡◌, Bool, true, false, ◌&&◌, nat_le, nat_lt, inl, inr, List, [], ◌∷◌, ◌++◌, filter, Option, Some, None, refl, sym, ap, ◌∙◌, subst, cond, true≢false}
 use Rattle.std.specs.List.{list_all}
 use Rattle.tla_token.specs.declared.place.Place.{Place}
 use Rattle.tla_token.specs.declared.rule.Rule.{Rule}
-use Rattle.tla_token.specs.declared.rule.Rule.TheVariants.{LeftOutWord, TooMany, TooDeep, Syntax}
+use Rattle.tla_token.specs.declared.rule.Rule.TheVariants.{LeftOutWord, TooMany}
 use Rattle.tla_token.specs.declared.rule.Refusal.{Refusal}
 use Rattle.tla_token.specs.Rules.{rule_number}
-use Rattle.tla_token.specs.Limits.{most_tokens, most_variables, most_processes, most_procedures, most_labels, longest_chain, deepest_definition}
+use Rattle.tla_token.specs.Limits.{most_variables, most_processes, most_procedures, most_labels, longest_chain, deepest_definition}
 use Rattle.tla_token.specs.Tokens as text
 use Rattle.tla_token.specs.AlgorithmOffences.{is_left_out}
 use Rattle.tla_value.specs.DefinitionNesting.{Depths, definition_nests, depths}

@@ -1,5 +1,5 @@
 -- The macro calls of each kind of statement, looked at one after another, and chains of macros by a table of their lengths.
-use Rattle.std.proofs.Common.{◌≡◌, ℕ, ◌+◌, ◌<◌, ◌≤◌, max, Bool, true, false, nat_lt, List, [], ◌∷◌, ◌++◌, length, map, drop, get_or, Vec, Global, Option, None, refl, sym, ap, ◌∙◌, arith, cond, bytes_eq}
+use Rattle.std.proofs.Common.{◌≡◌, ℕ, ◌+◌, ◌<◌, ◌≤◌, max, nat_lt, List, [], ◌∷◌, ◌++◌, length, map, drop, get_or, Vec, Global, Option, None, refl, sym, ap, ◌∙◌, arith, cond, bytes_eq}
 use Rattle.std.proofs.lemmas.List.{drop_more, drop_all}
 use Rattle.tla_token.specs.declared.rule.Rule.TheVariants.{TooMany}
 use Rattle.tla_token.specs.declared.rule.Refusal.{Refusal}
@@ -17,7 +17,7 @@ use Rattle.pcal_tree.specs.Algorithm as tree
 use Rattle.pcal_tree.specs.Algorithm.{Name, branch, either, with, while, Statements, then, mark}
 use Rattle.pcal_tree.specs.InMemory.{span_of, binds_at, simple_at, Before, stmt_at, statements_at, branches_at, macro_at}
 use Rattle.pcal_tree.specs.Offences.{offence_if, first}
-use Rattle.pcal_tree.specs.OffencesCounts.{calls_in, calls_of, calls_of_some, Chains, chain_of, longest, chain_to, long_chains}
+use Rattle.pcal_tree.specs.OffencesCounts.{calls_in, calls_of, calls_of_some, Chains, longest, chain_to, long_chains}
 use Rattle.pcal_tree.proofs.InMemoryEach.{label_at, simple_in_list_at, if_at, either_at, with_at, while_at}
 use Rattle.algorithm_limits.specs.Joined.{joined}
 use Rattle.algorithm_limits.specs.Numbers.{Numbers, number_of, with_number}

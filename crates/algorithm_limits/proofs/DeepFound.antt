@@ -1,12 +1,11 @@
 -- The first definition that nests too deep, found from the first one on, by a table of how deep uses of those before nest.
-use Rattle.std.proofs.Common.{◌≡◌, ℕ, ◌+◌, ◌<◌, ◌≤◌, min, Bool, true, false, nat_lt, List, [], ◌∷◌, ◌++◌, length, map, drop, get_or, Option, None, refl, sym, ap, ◌∙◌, arith, cond, bytes_eq, lt-ltb, le-ltb, ltb-true, ltb-false}
+use Rattle.std.proofs.Common.{◌≡◌, ℕ, ◌+◌, ◌<◌, ◌≤◌, min, Bool, true, false, nat_lt, List, [], ◌∷◌, length, drop, get_or, Option, None, refl, sym, ap, ◌∙◌, arith, cond, bytes_eq, lt-ltb, le-ltb, ltb-true, ltb-false}
 use Rattle.std.proofs.lemmas.List.{drop_more, drop_all}
 use Rattle.tla_token.specs.declared.rule.Rule.TheVariants.{TooMany}
 use Rattle.tla_token.specs.declared.rule.Refusal.{Refusal}
 use Rattle.tla_token.specs.Limits.{deepest_definition}
 use Rattle.tla_tree.specs.Tree.{Word, Tree}
-use Rattle.tla_tree.specs.Pool.{at}
-use Rattle.tla_value.specs.DefinitionNesting.{Depths, depth_of_use, definition_nests, depths}
+use Rattle.tla_value.specs.DefinitionNesting.{Depths, depth_of_use, definition_nests}
 use Rattle.pcal_tree.specs.declared.algorithm.Definition.{Definition}
 use Rattle.pcal_tree.specs.Algorithm as tree
 use Rattle.pcal_tree.specs.InMemory.{definition_at, definitions_at}

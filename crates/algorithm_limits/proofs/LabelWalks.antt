@@ -1,5 +1,4 @@
 -- The labels of each kind of statement, counted one after another.
-use Rattle.std.proofs.lemmas.Simd.{map-map}
 use Rattle.std.proofs.Common.{◌≡◌, ℕ, ◌+◌, ◌<◌, ◌≤◌, Bool, true, false, List, [], ◌∷◌, ◌++◌, length, map, drop, get_or, Vec, Global, refl, sym, ap, ◌∙◌}
 use Rattle.std.proofs.lemmas.List.{drop_more, drop_all, map-append}
 use Rattle.std.specs.List.{flat_map}
@@ -15,7 +14,6 @@ use Rattle.pcal_tree.specs.declared.algorithm.Stmt.TheVariants.{Label, Simple, I
 use Rattle.pcal_tree.specs.declared.algorithm.Main as code_main
 use Rattle.pcal_tree.specs.declared.algorithm.Main.TheVariants as main
 use Rattle.pcal_tree.specs.declared.algorithm.Algorithm as code
-use Rattle.pcal_tree.specs.Algorithm as tree
 use Rattle.pcal_tree.specs.Algorithm.{Name, Statement, branch, either, with, while, assign, await, print, assert, skip, goto, macro, call, return, Statements, done, then, mark, Branches, no_branches, or, Macro, Procedure, Process}
 use Rattle.pcal_tree.specs.InMemory.{span_of, simple_at, Before, stmt_at, statements_at, branches_at, macro_at, procedure_at, process_at, main_at, algorithm_at}
 use Rattle.pcal_tree.specs.OffencesLabels.{Label as Counted, labels, labels_of_one, labels_of_some, labels_of_main}

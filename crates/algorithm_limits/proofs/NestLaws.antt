@@ -1,6 +1,6 @@
 -- How deep an expression nests, part by part, by a table of definitions and the names that are bound around.
 use Rattle.std.proofs.lemmas.Simd.{map-map}
-use Rattle.std.proofs.Common.{◌≡◌, ℕ, zero, suc, ◌+◌, ◌-◌, ◌<◌, ◌≤◌, max, min, Bool, true, false, ◌||◌, nat_lt, List, [], ◌∷◌, ◌++◌, length, map, take, drop, get_or, refl, sym, ap, ◌∙◌, subst, arith, cond, bytes_eq, append-nil, append_assoc, length-append, lt-ltb, le-ltb}
+use Rattle.std.proofs.Common.{◌≡◌, ℕ, zero, suc, ◌+◌, ◌-◌, ◌<◌, ◌≤◌, max, min, Bool, true, false, ◌||◌, List, [], ◌∷◌, ◌++◌, length, map, take, drop, get_or, refl, sym, ap, ◌∙◌, subst, arith, cond, bytes_eq, append-nil, append_assoc, length-append, lt-ltb, le-ltb}
 use Rattle.std.specs.List.{list_any, flat_map}
 use Rattle.std.proofs.lemmas.List.{drop_more, drop_all, length-map}
 use Rattle.std.proofs.lemmas.List.Folds.{list_any-append}
@@ -8,13 +8,13 @@ use Rattle.std.proofs.Math.Seq.{take-append_seam}
 use Rattle.tla_token.specs.declared.place.Place.{Place}
 use Rattle.tla_tree.specs.declared.op.Binder.{Binder}
 use Rattle.tla_tree.specs.declared.op.Binder.TheVariants as binder
-use Rattle.tla_tree.specs.Tree.{Name, Word, words, Form, name, operator_call, binding, local, Tree, node, Trees, no_trees, tree, beginnings, seen_names}
+use Rattle.tla_tree.specs.Tree.{Name, Word, words, Form, name, operator_call, binding, local, Tree, node, beginnings, seen_names}
 use Rattle.tla_tree.specs.TreeOf.{trees_from}
-use Rattle.tla_tree.specs.Shapes.{HaveNames, IsOneName, BinderShaped, Shaped}
+use Rattle.tla_tree.specs.Shapes.{BinderShaped, Shaped}
 use Rattle.tla_tree.specs.Pool.{Entry, at, trees_at, tree_in}
 use Rattle.tla_value.specs.DefinitionNesting.{Depths, depth_of_use, hidden, used, nests, nest}
 use Rattle.algorithm_limits.specs.Numbers.{Numbers, number_of}
-use Rattle.algorithm_limits.specs.DepthsIn.{depth_in, used_in, AreDepths, seen_by, nest_from, Hides}
+use Rattle.algorithm_limits.specs.DepthsIn.{used_in, AreDepths, seen_by, nest_from, Hides}
 use Rattle.algorithm_limits.proofs.Tables.{equal, same_test}
 
 -- ---- each part with the names that it sees

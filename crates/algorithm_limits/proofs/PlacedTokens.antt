@@ -1,20 +1,18 @@
 -- Each token of a text has the place of its first byte, so what tokens offend at their places is what they offend at their bytes.
-use Rattle.std.proofs.Common.{◌≡◌, ℕ, zero, suc, ◌+◌, ◌-◌, ◌≤◌, Bool, true, false, List, [], ◌∷◌, ◌++◌, length, map, take, drop, All, refl, sym, ap, ◌∙◌, subst, arith, append_assoc, length-append}
-use Rattle.std.specs.Prelude.{if◌then◌else◌, cond}
+use Rattle.std.proofs.Common.{◌≡◌, ℕ, zero, suc, ◌+◌, ◌-◌, ◌≤◌, Bool, true, false, List, [], ◌∷◌, ◌++◌, length, take, drop, refl, sym, ap, ◌∙◌, subst, append_assoc, length-append}
 use Rattle.std.proofs.lemmas.List.{take-append-drop, map-append, length-take-le}
 use Rattle.std.proofs.Math.Seq.{take-append_seam}
 use Rattle.tla_token.specs.declared.place.Place.{Place}
 use Rattle.tla_token.specs.declared.rule.Rule.{Rule}
 use Rattle.tla_token.specs.declared.rule.Rule.TheVariants.{LeftOutWord, TooMany}
-use Rattle.tla_token.specs.declared.rule.Refusal.{Refusal}
 use Rattle.tla_token.specs.Limits.{most_tokens}
 use Rattle.tla_token.specs.Places.{start, after, place_at}
-use Rattle.tla_token.specs.Tokens.{Token, Piece, blank, block, line, lexeme, bytes_of, text_of, tokens_of, stretch, Tok, TokAlgorithm}
+use Rattle.tla_token.specs.Tokens.{Token, Piece, blank, block, line, lexeme, bytes_of, text_of, tokens_of, Tok, TokAlgorithm}
 use Rattle.tla_token.specs.Offences as byte
 use Rattle.tla_token.specs.AlgorithmOffences.{is_left_out, left_out, number_offences, too_many_tokens, algorithm_offences}
 use Rattle.tla_token.proofs.Scans.{after_append}
 use Rattle.pcal_tree.specs.Offences.{offence_if}
-use Rattle.algorithm_limits.specs.TokensRefused.{left_out_at, at_first_token, past_tokens_at, token_refusals, placed}
+use Rattle.algorithm_limits.specs.TokensRefused.{left_out_at, at_first_token, token_refusals, placed}
 
 abbrev pub IsPlaced : List ℕ → Token → Type 0
 IsPlaced text t = place_at text t.at ≡ t.place

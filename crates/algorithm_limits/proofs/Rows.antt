@@ -1,5 +1,5 @@
 -- Worked examples of offences of tokens and of counting, and of what the parts of forms see, by computation.
-use Rattle.std.specs.Prelude.{ℕ, List, [], ◌∷◌, Some, None, codes}
+use Rattle.std.specs.Prelude.{ℕ, [], ◌∷◌, Some, codes}
 use Rattle.std.proofs.Common.{◌≡◌, refl}
 use Rattle.tla_token.specs.declared.place.Place.{Place}
 use Rattle.tla_token.specs.declared.rule.Rule.TheVariants.{LeftOutWord, TooMany, Syntax}

@@ -1,8 +1,8 @@
 -- How deep uses nest, by a table of definitions and the names that are bound around; and the names that are seen in each part of a form.
-use Rattle.std.specs.Prelude.{◌≡◌, ℕ, suc, ◌+◌, ◌==◌, max, min, nat_eq, nat_lt, List, [], ◌∷◌, ◌++◌, length, take, drop, cond}
+use Rattle.std.specs.Prelude.{◌≡◌, ℕ, suc, ◌+◌, ◌==◌, max, min, nat_eq, nat_lt, List, [], ◌++◌, length, take, drop, cond}
 use Rattle.std.specs.List.{list_any, flat_map}
 use Rattle.std.specs.Cmp.Lexicographic.{pointwise}
-use Rattle.tla_tree.specs.Tree.{Word, words, Form, name, operator_call, binding, local, Tree, Trees, no_trees, tree}
+use Rattle.tla_tree.specs.Tree.{Word, words, Form, name, operator_call, binding, local, Trees, no_trees, tree}
 use Rattle.tla_value.specs.DefinitionNesting.{Depths, depth_of_use, hidden, nests}
 use Rattle.algorithm_limits.specs.Numbers.{Numbers, number_of}
 

@@ -1,5 +1,5 @@
 -- Proves what is asked of the functions that look for macro calls.
-use Rattle.std.proofs.Common.{◌≡◌, ℕ, ◌+◌, ◌*◌, max, List, Vec, Global, sym, ap, ◌∙◌, arith}
+use Rattle.std.proofs.Common.{max, List, Vec, Global, sym, ap, ◌∙◌, arith}
 use Rattle.pcal_tree.specs.declared.algorithm.Stmt.{Stmt}
 use Rattle.pcal_tree.specs.InMemory.{stmt_at, statements_at, branches_at}
 use Rattle.algorithm_limits.proofs.Heights.{height, heights, branch_heights, either_height, part_at}

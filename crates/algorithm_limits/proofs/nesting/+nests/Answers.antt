@@ -1,5 +1,5 @@
 -- Proves what is asked of the functions that measure how deep an expression nests.
-use Rattle.std.proofs.Common.{◌≡◌, ℕ, ◌+◌, max, min, List, length, drop, slice_index_or, sym, ap, ◌∙◌, subst, arith}
+use Rattle.std.proofs.Common.{ℕ, ◌+◌, max, min, List, length, drop, slice_index_or, sym, ap, ◌∙◌, subst, arith}
 use Rattle.std.proofs.lemmas.List.{get_or_default}
 use Rattle.tla_tree.specs.Tree.{Word}
 use Rattle.tla_tree.specs.Pool.{Entry, AllBelow, trees_at}

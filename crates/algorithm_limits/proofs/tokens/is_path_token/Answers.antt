@@ -1,5 +1,5 @@
 -- Proves what is asked of `is_path_token`.
-use Rattle.std.proofs.Common.{◌≡◌, [], ◌∷◌, sym, ap, ◌∙◌}
+use Rattle.std.proofs.Common.{[], ◌∷◌, sym, ap, ◌∙◌}
 use Rattle.tla_token.specs.declared.token.Kind.{Kind}
 use Rattle.tla_token.specs.TokensSeen.{kind_seen}
 use Rattle.tla_token.specs.AlgorithmOffences.{begins_path}
