@@ -72,7 +72,7 @@ placed_if : (text : List ℕ) (b : Bool) (r : Rule) (at : ℕ) (p : Place) → p
 placed_if text true r at p e = λ i. record { rule = r; place = e i } ∷ []
 placed_if text false r at p e = refl
 
-left_out_placed : (text : List ℕ) (ts : List Token) → ArePlaced text ts → placed text (left_out ts) ≡ left_out_at ts
+pub left_out_placed : (text : List ℕ) (ts : List Token) → ArePlaced text ts → placed text (left_out ts) ≡ left_out_at ts
 left_out_placed text [] h = refl
 left_out_placed text (t ∷ ts) h =
     map-append _ (byte.offence_if (is_left_out t.kind ts) LeftOutWord t.at) (left_out ts)

@@ -16,7 +16,8 @@ use Rattle.module_tree.specs.AlgorithmText.{AlgorithmText, algorithm_in, algorit
 use Rattle.module_tree.specs.FileOffences.{file_offences, is_splitting, splitting_offences}
 use Rattle.module_tree.proofs.FineFiles.{all_more}
 use Rattle.algorithm_limits.specs.Answered.{or_counts}
-use Rattle.rewriting.specs.Refusals.{in_text, or_else, up_to, of_spelling}
+use Rattle.algorithm_limits.specs.TokensRefused.{placed}
+use Rattle.rewriting.specs.Refusals.{or_else, up_to, of_spelling}
 use Rattle.rewriting.specs.Spelling.{of_rules, syntax_at, AreRead, AreCounted, OfAlgorithm, AnswersRewriting}
 use Rattle.rewriting.proofs.OneAnswer.{wrong, asked_alone}
 use Rattle.rewriting.proofs.Unrefused.{is_asked, Asked, tokens_asked, stop_all}
@@ -53,13 +54,13 @@ all_up (r ∷ rs) h =
     ap (λ (b : Bool). cond b (r ∷ up_to of_spelling rs) (up_to of_spelling rs)) k.0 ∙ ap (λ (qs : List Refusal). r ∷ qs) (all_up rs k.1)
 
 -- of what rules offences are of, their refusals are
-pub told_all : (p : Rule → Bool) (x : Text) (os : List Offence) → list_all (λ (o : Offence). p o.0) os ≡ true → list_all (λ (r : Refusal). p r.rule) (in_text x os) ≡ true
+pub told_all : (p : Rule → Bool) (x : Text) (os : List Offence) → list_all (λ (o : Offence). p o.0) os ≡ true → list_all (λ (r : Refusal). p r.rule) (placed x os) ≡ true
 told_all p x [] h = refl
 told_all p x (o ∷ os) h =
     let k = and_parts (p o.0) (list_all (λ (o : Offence). p o.0) os) h in
-    and_from (p o.0) (list_all (λ (r : Refusal). p r.rule) (in_text x os)) k.0 (told_all p x os k.1)
+    and_from (p o.0) (list_all (λ (r : Refusal). p r.rule) (placed x os)) k.0 (told_all p x os k.1)
 
-pub in_text_asked : (x : Text) (os : List Offence) → Asked os → list_all is_asked_of (in_text x os) ≡ true
+pub in_text_asked : (x : Text) (os : List Offence) → Asked os → list_all is_asked_of (placed x os) ≡ true
 in_text_asked x os h = told_all is_asked x os h
 
 -- of what is wrong where the tokens stop, and past a limit in what they spell
@@ -69,9 +70,9 @@ read_all p many deep syntax x a (Some r) cs h k = and_from (p r.rule) true (stop
 read_all p many deep syntax x a None cs h k = subst (λ (rs : List Refusal). list_all (λ (r : Refusal). p r.rule) rs ≡ true) (sym k.2) (counts_many p many k.0)
 
 pub algorithm_decides : (x : Text) (a : AlgorithmText) (s : Option Refusal) (cs : List Refusal) → splitting_offences x ≡ [] → algorithm_in x ≡ Some a → AreRead x a s → AreCounted x a s cs
-    → AnswersRewriting x (first (in_text x (algorithm_offences (algorithm_tokens x a)) ++ or_counts s cs))
+    → AnswersRewriting x (first (placed x (algorithm_offences (algorithm_tokens x a)) ++ or_counts s cs))
 algorithm_decides x a s cs fine is h k =
-    let tokens = in_text x (algorithm_offences (algorithm_tokens x a)) in
+    let tokens = placed x (algorithm_offences (algorithm_tokens x a)) in
     let w = wrong x tokens s cs in
     let bytes = none_of_rules 1 4 refl (file_offences x) fine in
     let parts = none_of_rules 5 10 refl (file_offences x) fine in
@@ -79,6 +80,6 @@ algorithm_decides x a s cs fine is h k =
       w,
       record { bytes = refl; parts = refl; algorithm = subst (OfAlgorithm x w) (sym is) (refl, h, k); names = refl; labels = refl },
       ap first (asked_alone w refl refl
-          ∙ (λ i. up_to of_spelling (or_else (in_text x (bytes i)) (in_text x (parts i) ++ (tokens ++ or_counts s cs))))
+          ∙ (λ i. up_to of_spelling (or_else (placed x (bytes i)) (placed x (parts i) ++ (tokens ++ or_counts s cs))))
           ∙ all_up (tokens ++ or_counts s cs) all),
     )

@@ -25,7 +25,8 @@ use Rattle.module_tree.specs.TextFront.{Text}
 use Rattle.module_tree.specs.AlgorithmText.{AlgorithmText, algorithm_in, algorithm_tokens}
 use Rattle.module_tree.specs.FileOffences.{file_offences}
 use Rattle.algorithm_limits.specs.Answered.{or_counts}
-use Rattle.rewriting.specs.Refusals.{in_text, Wrong, or_else, counting, up_to, of_spelling, refusal_of}
+use Rattle.algorithm_limits.specs.TokensRefused.{placed}
+use Rattle.rewriting.specs.Refusals.{Wrong, or_else, counting, up_to, of_spelling, refusal_of}
 use Rattle.rewriting.specs.Spelling.{of_rules, syntax_at, AreRead, AreCounted, OfAlgorithm, AreLater, IsSpelling, AnswersRewriting}
 
 -- ---- names and labels don't count
@@ -101,8 +102,8 @@ read_or_refused c_syntax = one_of_both c_syntax c.read_algorithm c.read_limited_
 -- what is wrong with x, where this is wrong with its algorithm
 abbrev pub wrong : Text → List Refusal → Option Refusal → List Refusal → Wrong
 wrong x tokens syntax counts = record {
-  bytes = in_text x (of_rules 1 4 (file_offences x));
-  parts = in_text x (of_rules 5 10 (file_offences x));
+  bytes = placed x (of_rules 1 4 (file_offences x));
+  parts = placed x (of_rules 5 10 (file_offences x));
   tokens = tokens;
   syntax = syntax;
   counts = counts;
@@ -121,10 +122,10 @@ some_answer x = by (algorithm_in x) refl
         → ((g : Algorithm) × PassesTokens (syntax_at a) (algorithm_tokens x a) × Spells (syntax_at a) (algorithm_tokens x a) g) ⊎ ((r : Refusal) × RefusesTokens (syntax_at a) (algorithm_tokens x a) (place_at x a.rest.to) r)
         → (r : Option Refusal) × AnswersRewriting x r
     there a e (inl (g, h, s)) =
-        let tokens = in_text x (algorithm_offences (algorithm_tokens x a)) in
+        let tokens = placed x (algorithm_offences (algorithm_tokens x a)) in
         answered x tokens None (count_offences g) (subst (λ (o : Option AlgorithmText). OfAlgorithm x (wrong x tokens None (count_offences g)) o) (sym e) (refl, h, (g, s, refl)))
     there a e (inr (r, f)) =
-        let tokens = in_text x (algorithm_offences (algorithm_tokens x a)) in
+        let tokens = placed x (algorithm_offences (algorithm_tokens x a)) in
         answered x tokens (Some r) [] (subst (λ (o : Option AlgorithmText). OfAlgorithm x (wrong x tokens (Some r) []) o) (sym e) (refl, f, refl))
 
     by : (o : Option AlgorithmText) → algorithm_in x ≡ o → (r : Option Refusal) × AnswersRewriting x r

@@ -12,7 +12,7 @@ use Rattle.pcal_tree.specs.Offences.{is_before, is_sooner, sooner, first}
 use Rattle.pcal_tree.proofs.FirstLaws.{same_first}
 use Rattle.module_tree.specs.TextFront.{Text}
 use Rattle.module_tree.proofs.WalkPlace.{after_both}
-use Rattle.rewriting.specs.Refusals.{in_text}
+use Rattle.algorithm_limits.specs.TokensRefused.{placed}
 
 -- ---- places go up
 
@@ -110,7 +110,7 @@ abbrev told_of : Text → Option Offence → Option Refusal
 told_of x None = None
 told_of x (Some o) = Some (told x o)
 
-first_of_least : (x : Text) (os : List Offence) → first (in_text x os) ≡ told_of x (least os)
+first_of_least : (x : Text) (os : List Offence) → first (placed x os) ≡ told_of x (least os)
 first_of_least x [] = refl
 first_of_least x ((r, at) ∷ os) = ap (λ (q : Option Refusal). Some (sooner t q)) (first_of_least x os) ∙ by (least os)
   where
@@ -127,5 +127,5 @@ first_of_least x ((r, at) ∷ os) = ap (λ (q : Option Refusal). Some (sooner t 
     by None = refl
     by (Some (q, n)) = of_two q n (Before (rule_number q) (rule_number r) (nat_lt n at)) refl
 
-pub first_told : (x : Text) (os : List Offence) (b : Offence) → least os ≡ Some b → first (in_text x os) ≡ Some (told x b)
+pub first_told : (x : Text) (os : List Offence) (b : Offence) → least os ≡ Some b → first (placed x os) ≡ Some (told x b)
 first_told x os b e = first_of_least x os ∙ ap (told_of x) e

@@ -29,7 +29,8 @@ use Rattle.syntax_print.specs.laws.HoldsPrinted.{past_stage}
 use Rattle.syntax_print.specs.laws.BreaksFew.{BreaksFew}
 use Rattle.syntax_print.proofs.Rewritten.{breaks_few, fine_without}
 use Rattle.algorithm_limits.specs.Answered.{or_counts}
-use Rattle.rewriting.specs.Refusals.{in_text, Wrong, or_else, up_to, of_spelling}
+use Rattle.algorithm_limits.specs.TokensRefused.{placed}
+use Rattle.rewriting.specs.Refusals.{Wrong, or_else, up_to, of_spelling}
 use Rattle.rewriting.specs.Spelling.{of_rules, syntax_at, AreRead, AreCounted, OfAlgorithm, IsSpelling, AnswersRewriting}
 use Rattle.rewriting.specs.laws.FewRules.{is_too_much, is_options_or_too_much}
 use Rattle.rewriting.proofs.OneAnswer.{asked, asked_alone}
@@ -71,9 +72,9 @@ module _ (p : Rule → Bool) (many : p TooMany ≡ true) (deep : p TooDeep ≡ t
   abbrev All : List Refusal → Type 0
   All rs = list_all holds rs ≡ true
 
-  all_in_text : (x : Text) (os : List Offence) → list_all is_at os ≡ true → All (in_text x os)
+  all_in_text : (x : Text) (os : List Offence) → list_all is_at os ≡ true → All (placed x os)
   all_in_text x [] h = refl
-  all_in_text x (o ∷ os) h = (let k = and_parts (is_at o) (list_all is_at os) h in and_from (p o.0) (list_all holds (in_text x os)) k.0 (all_in_text x os k.1))
+  all_in_text x (o ∷ os) h = (let k = and_parts (is_at o) (list_all is_at os) h in and_from (p o.0) (list_all holds (placed x os)) k.0 (all_in_text x os k.1))
 
   all_or_else : (b more : List Refusal) → All b → All more → All (or_else b more)
   all_or_else [] more h k = k

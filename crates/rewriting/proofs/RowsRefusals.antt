@@ -5,7 +5,8 @@ use Rattle.tla_token.specs.declared.rule.Rule.{Rule}
 use Rattle.tla_token.specs.declared.rule.Rule.TheVariants as rule
 use Rattle.tla_token.specs.declared.rule.Refusal.{Refusal}
 use Rattle.rewriting.specs.laws.FewRules.{is_too_much, is_options_or_too_much}
-use Rattle.rewriting.specs.Refusals.{in_text, Wrong, of_spelling, of_completion, of_all, refusal_of, refused}
+use Rattle.algorithm_limits.specs.TokensRefused.{placed}
+use Rattle.rewriting.specs.Refusals.{Wrong, of_spelling, of_completion, of_all, refusal_of, refused}
 
 abbrev r : Rule → ℕ → ℕ → Refusal
 r k l c = record { rule = k; place = record { line = l; col = c } }
@@ -48,7 +49,7 @@ second_file = refl
 first_file : refused of_all (record nothing { labels = r rule.AssignTwice 7 14 ∷ [] }) ((r rule.BadLine 1 1 ∷ []) ∷ []) ≡ Some (0, r rule.AssignTwice 7 14)
 first_file = refl
 
-in_a_text : in_text (codes "a\nbc") ((rule.Options, 3) ∷ []) ≡ r rule.Options 2 2 ∷ []
+in_a_text : placed (codes "a\nbc") ((rule.Options, 3) ∷ []) ≡ r rule.Options 2 2 ∷ []
 in_a_text = refl
 
 -- a rewritten file may have options, or too many tokens; with no options it is refused for too much alone

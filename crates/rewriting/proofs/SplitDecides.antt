@@ -29,7 +29,8 @@ use Rattle.module_tree.specs.FileOffences as file
 use Rattle.module_tree.proofs.FineFiles.{all_more}
 use Rattle.module_tree.proofs.WalkPlace.{both_empty}
 use Rattle.algorithm_limits.specs.Answered.{or_counts}
-use Rattle.rewriting.specs.Refusals.{in_text, Wrong, or_else, up_to, of_spelling}
+use Rattle.algorithm_limits.specs.TokensRefused.{placed}
+use Rattle.rewriting.specs.Refusals.{Wrong, or_else, up_to, of_spelling}
 use Rattle.rewriting.specs.Spelling.{of_rules, OfAlgorithm, IsSpelling, AnswersRewriting}
 use Rattle.rewriting.proofs.OneAnswer.{asked, asked_alone, some_answer}
 use Rattle.rewriting.proofs.Unrefused.{if_all, left_all, many_all, rules_asked, positive}
@@ -42,7 +43,7 @@ use Rattle.rewriting.proofs.PlaceOrder.{told, either, first_told}
 abbrev with_it : Offence → Bool → List Offence → List Offence
 with_it o b os = cond b (o ∷ os) os
 
-in_halves : (x : Text) (os : List Offence) → Same (in_text x (filter is_splitting os)) (in_text x (of_rules 1 4 os) ++ in_text x (of_rules 5 10 os))
+in_halves : (x : Text) (os : List Offence) → Same (placed x (filter is_splitting os)) (placed x (of_rules 1 4 os) ++ placed x (of_rules 5 10 os))
 in_halves x [] f = refl
 in_halves x (o ∷ os) f = by (nat_le n 4) refl (nat_le n 10) refl (in_halves x os f)
   where
@@ -60,14 +61,14 @@ in_halves x (o ∷ os) f = by (nat_le n 4) refl (nat_le n 10) refl (in_halves x 
 
     -- where o is among these
     whole : (k i j : Bool) → nat_le n 10 ≡ k → (nat_le 1 n && nat_le n 4) ≡ i → (nat_le 5 n && nat_le n 10) ≡ j
-        → list_any f (in_text x (cond k (o ∷ filter is_splitting os) (filter is_splitting os))) ≡ list_any f (in_text x (cond i (o ∷ low) low) ++ in_text x (cond j (o ∷ high) high))
-        → list_any f (in_text x (filter is_splitting (o ∷ os))) ≡ list_any f (in_text x (of_rules 1 4 (o ∷ os)) ++ in_text x (of_rules 5 10 (o ∷ os)))
+        → list_any f (placed x (cond k (o ∷ filter is_splitting os) (filter is_splitting os))) ≡ list_any f (placed x (cond i (o ∷ low) low) ++ placed x (cond j (o ∷ high) high))
+        → list_any f (placed x (filter is_splitting (o ∷ os))) ≡ list_any f (placed x (of_rules 1 4 (o ∷ os)) ++ placed x (of_rules 5 10 (o ∷ os)))
     whole k i j a b c h =
-        ap (λ (k : Bool). list_any f (in_text x (cond k (o ∷ filter is_splitting os) (filter is_splitting os)))) a ∙ h
-        ∙ sym (λ z. list_any f (in_text x (cond (b z) (o ∷ low) low) ++ in_text x (cond (c z) (o ∷ high) high)))
+        ap (λ (k : Bool). list_any f (placed x (cond k (o ∷ filter is_splitting os) (filter is_splitting os)))) a ∙ h
+        ∙ sym (λ z. list_any f (placed x (cond (b z) (o ∷ low) low) ++ placed x (cond (c z) (o ∷ high) high)))
 
-    by : (i : Bool) → nat_le n 4 ≡ i → (j : Bool) → nat_le n 10 ≡ j → list_any f (in_text x (filter is_splitting os)) ≡ list_any f (in_text x low ++ in_text x high)
-        → list_any f (in_text x (filter is_splitting (o ∷ os))) ≡ list_any f (in_text x (of_rules 1 4 (o ∷ os)) ++ in_text x (of_rules 5 10 (o ∷ os)))
+    by : (i : Bool) → nat_le n 4 ≡ i → (j : Bool) → nat_le n 10 ≡ j → list_any f (placed x (filter is_splitting os)) ≡ list_any f (placed x low ++ placed x high)
+        → list_any f (placed x (filter is_splitting (o ∷ os))) ≡ list_any f (placed x (of_rules 1 4 (o ∷ os)) ++ placed x (of_rules 5 10 (o ∷ os)))
     by true i j jj h =
         let below : n ≤ 4 = leb-true n 4 i in
         let not_high : nat_le 5 n ≡ false = under 5 n (omega (arith, below)) in
@@ -82,9 +83,9 @@ in_halves x (o ∷ os) f = by (nat_le n 4) refl (nat_le n 10) refl (in_halves x 
     by false i true j h =
         let above : 4 < n = leb-false n 4 i in
         whole true false true j (and_right (nat_le 1 n) (nat_le n 4) i) (and_from (nat_le 5 n) (nat_le n 10) (le-leb 5 n (omega (arith, above))) j) (
-        ap (λ (b : Bool). f t || b) (h ∙ list_any-append f (in_text x low) (in_text x high))
-        ∙ either (f t) (list_any f (in_text x low)) (list_any f (in_text x high))
-        ∙ sym (list_any-append f (in_text x low) (t ∷ in_text x high))
+        ap (λ (b : Bool). f t || b) (h ∙ list_any-append f (placed x low) (placed x high))
+        ∙ either (f t) (list_any f (placed x low)) (list_any f (placed x high))
+        ∙ sym (list_any-append f (placed x low) (t ∷ placed x high))
         )
     by false i false j h = whole false false false j (and_right (nat_le 1 n) (nat_le n 4) i) (and_right (nat_le 5 n) (nat_le n 10) j) h
 
@@ -114,49 +115,49 @@ kept_late (r ∷ rs) h = (let k = and_parts (late_of r) (list_all late_of rs) h 
     by true e l more = ap (λ (b : Bool). list_all late_of (cond b (r ∷ up_to of_spelling rs) (up_to of_spelling rs))) e ∙ and_from (late_of r) (list_all late_of (up_to of_spelling rs)) l more
     by false e l more = ap (λ (b : Bool). list_all late_of (cond b (r ∷ up_to of_spelling rs) (up_to of_spelling rs))) e ∙ more
 
-late_in_text : (x : Text) (os : List Offence) → list_all late_at os ≡ true → list_all late_of (in_text x os) ≡ true
+late_in_text : (x : Text) (os : List Offence) → list_all late_at os ≡ true → list_all late_of (placed x os) ≡ true
 late_in_text x [] h = refl
-late_in_text x (o ∷ os) h = (let k = and_parts (late_at o) (list_all late_at os) h in and_from (is_late o.0) (list_all late_of (in_text x os)) k.0 (late_in_text x os k.1))
+late_in_text x (o ∷ os) h = (let k = and_parts (late_at o) (list_all late_at os) h in and_from (is_late o.0) (list_all late_of (placed x os)) k.0 (late_in_text x os k.1))
 
 -- the first of those of the rules 1 to 4 is lesser than 5, and those of 5 to 10 aren't
-low_first : (x : Text) (os : List Offence) (o : Offence) (more : List Offence) → of_rules 1 4 os ≡ o ∷ more → list_any (Below 5) (in_text x (of_rules 1 4 os)) ≡ true
+low_first : (x : Text) (os : List Offence) (o : Offence) (more : List Offence) → of_rules 1 4 os ≡ o ∷ more → list_any (Below 5) (placed x (of_rules 1 4 os)) ≡ true
 low_first x [] o more e = absurd cc
 low_first x (p ∷ os) o more e = by (nat_le n 4) refl (low_first x os o more)
   where
     n : ℕ
     n = rule_number p.0
 
-    by : (k : Bool) → nat_le n 4 ≡ k → (of_rules 1 4 os ≡ o ∷ more → list_any (Below 5) (in_text x (of_rules 1 4 os)) ≡ true) → list_any (Below 5) (in_text x (of_rules 1 4 (p ∷ os))) ≡ true
+    by : (k : Bool) → nat_le n 4 ≡ k → (of_rules 1 4 os ≡ o ∷ more → list_any (Below 5) (placed x (of_rules 1 4 os)) ≡ true) → list_any (Below 5) (placed x (of_rules 1 4 (p ∷ os))) ≡ true
     by true k deeper =
         let l : n ≤ 4 = leb-true n 4 k in
-        ap (λ (b : Bool). list_any (Below 5) (in_text x (with_it p b (of_rules 1 4 os)))) (and_from (nat_le 1 n) (nat_le n 4) (positive p.0) k)
-        ∙ or_left (nat_lt n 5) (list_any (Below 5) (in_text x (of_rules 1 4 os))) (lt-ltb n 5 (omega (arith, l)))
+        ap (λ (b : Bool). list_any (Below 5) (placed x (with_it p b (of_rules 1 4 os)))) (and_from (nat_le 1 n) (nat_le n 4) (positive p.0) k)
+        ∙ or_left (nat_lt n 5) (list_any (Below 5) (placed x (of_rules 1 4 os))) (lt-ltb n 5 (omega (arith, l)))
     by false k deeper =
         let none : (nat_le 1 n && nat_le n 4) ≡ false = and_right (nat_le 1 n) (nat_le n 4) k in
-        ap (λ (b : Bool). list_any (Below 5) (in_text x (with_it p b (of_rules 1 4 os)))) none ∙ deeper (ap (λ (b : Bool). with_it p b (of_rules 1 4 os)) (sym none) ∙ e)
+        ap (λ (b : Bool). list_any (Below 5) (placed x (with_it p b (of_rules 1 4 os)))) none ∙ deeper (ap (λ (b : Bool). with_it p b (of_rules 1 4 os)) (sym none) ∙ e)
 
-high_only : (x : Text) (os : List Offence) → list_any (Below 5) (in_text x (of_rules 5 10 os)) ≡ false
+high_only : (x : Text) (os : List Offence) → list_any (Below 5) (placed x (of_rules 5 10 os)) ≡ false
 high_only x [] = refl
 high_only x (p ∷ os) = by (nat_le 5 n) refl (nat_le n 10) (high_only x os)
   where
     n : ℕ
     n = rule_number p.0
 
-    by : (k : Bool) → nat_le 5 n ≡ k → (j : Bool) → list_any (Below 5) (in_text x (of_rules 5 10 os)) ≡ false → list_any (Below 5) (in_text x (cond (k && j) (p ∷ of_rules 5 10 os) (of_rules 5 10 os))) ≡ false
+    by : (k : Bool) → nat_le 5 n ≡ k → (j : Bool) → list_any (Below 5) (placed x (of_rules 5 10 os)) ≡ false → list_any (Below 5) (placed x (cond (k && j) (p ∷ of_rules 5 10 os) (of_rules 5 10 os))) ≡ false
     by true k true h = λ i. le-ltb n 5 (leb-true 5 n k) i || h i
     by true k false h = h
     by false k j h = h
 
-high_below : (x : Text) (os : List Offence) (o : Offence) (more : List Offence) → of_rules 5 10 os ≡ o ∷ more → list_any (Below 11) (in_text x (of_rules 5 10 os)) ≡ true
+high_below : (x : Text) (os : List Offence) (o : Offence) (more : List Offence) → of_rules 5 10 os ≡ o ∷ more → list_any (Below 11) (placed x (of_rules 5 10 os)) ≡ true
 high_below x [] o more e = absurd cc
 high_below x (p ∷ os) o more e = by (nat_le 5 n) (nat_le n 10) refl e (high_below x os o more)
   where
     n : ℕ
     n = rule_number p.0
 
-    by : (k j : Bool) → nat_le n 10 ≡ j → cond (k && j) (p ∷ of_rules 5 10 os) (of_rules 5 10 os) ≡ o ∷ more → (of_rules 5 10 os ≡ o ∷ more → list_any (Below 11) (in_text x (of_rules 5 10 os)) ≡ true)
-        → list_any (Below 11) (in_text x (cond (k && j) (p ∷ of_rules 5 10 os) (of_rules 5 10 os))) ≡ true
-    by true true j e deeper = (let l : n ≤ 10 = leb-true n 10 j in or_left (nat_lt n 11) (list_any (Below 11) (in_text x (of_rules 5 10 os))) (lt-ltb n 11 (omega (arith, l))))
+    by : (k j : Bool) → nat_le n 10 ≡ j → cond (k && j) (p ∷ of_rules 5 10 os) (of_rules 5 10 os) ≡ o ∷ more → (of_rules 5 10 os ≡ o ∷ more → list_any (Below 11) (placed x (of_rules 5 10 os)) ≡ true)
+        → list_any (Below 11) (placed x (cond (k && j) (p ∷ of_rules 5 10 os) (of_rules 5 10 os))) ≡ true
+    by true true j e deeper = (let l : n ≤ 10 = leb-true n 10 j in or_left (nat_lt n 11) (list_any (Below 11) (placed x (of_rules 5 10 os))) (lt-ltb n 11 (omega (arith, l))))
     by true false j e deeper = deeper e
     by false k j e deeper = deeper e
 
@@ -219,29 +220,29 @@ module _ (x : Text) (w : Wrong) (is : IsSpelling x w) (r : Refusal) (split : Ref
       all_more late_of w.tokens (or_counts w.syntax w.counts) (ap (list_all late_of) k.0 ∙ late_in_text x (algorithm_offences (algorithm_tokens x a)) (late_tokens x a own))
       (read_all is_late refl refl refl x a w.syntax w.counts k.1 k.2)
 
-  split_first : first (in_text x (of_rules 1 4 os) ++ in_text x (of_rules 5 10 os)) ≡ Some r
+  split_first : first (placed x (of_rules 1 4 os) ++ placed x (of_rules 5 10 os)) ≡ Some r
   split_first =
       let same : told x (r.rule, split.at) ≡ r = λ i. record { rule = r.rule; place = sym split.place i } in
-      sym (same_first (in_text x (splitting_offences x)) (in_text x (of_rules 1 4 os) ++ in_text x (of_rules 5 10 os)) (in_halves x os))
+      sym (same_first (placed x (splitting_offences x)) (placed x (of_rules 1 4 os) ++ placed x (of_rules 5 10 os)) (in_halves x os))
       ∙ first_told x (splitting_offences x) (r.rule, split.at) split.first ∙ ap (λ (r : Refusal). Some r) same
 
   with_bytes : (o : Offence) (more : List Offence) → of_rules 1 4 os ≡ o ∷ more → first (up_to of_spelling (asked w)) ≡ Some r
   with_bytes o more e =
-      ap (λ (b : List Refusal). first (up_to of_spelling (or_else b (w.parts ++ rest)))) (is.bytes ∙ ap (in_text x) e)
-      ∙ ap (λ (ps : List Offence). first (up_to of_spelling (in_text x ps))) (sym e)
-      ∙ ap first (all_up (in_text x (of_rules 1 4 os)) (in_text_asked x (of_rules 1 4 os) (rules_asked 1 4 refl os)))
-      ∙ sym (lesser_first 5 (in_text x (of_rules 1 4 os)) (in_text x (of_rules 5 10 os)) (low_first x os o more e) (high_only x os))
+      ap (λ (b : List Refusal). first (up_to of_spelling (or_else b (w.parts ++ rest)))) (is.bytes ∙ ap (placed x) e)
+      ∙ ap (λ (ps : List Offence). first (up_to of_spelling (placed x ps))) (sym e)
+      ∙ ap first (all_up (placed x (of_rules 1 4 os)) (in_text_asked x (of_rules 1 4 os) (rules_asked 1 4 refl os)))
+      ∙ sym (lesser_first 5 (placed x (of_rules 1 4 os)) (placed x (of_rules 5 10 os)) (low_first x os o more e) (high_only x os))
       ∙ split_first
 
   without_bytes : of_rules 1 4 os ≡ [] → (ps : List Offence) → of_rules 5 10 os ≡ ps → first (up_to of_spelling (asked w)) ≡ Some r
-  without_bytes none [] e = (let f : None ≡ Some r = (λ i. first (in_text x (sym none i) ++ in_text x (sym e i))) ∙ split_first in absurd cc)
+  without_bytes none [] e = (let f : None ≡ Some r = (λ i. first (placed x (sym none i) ++ placed x (sym e i))) ∙ split_first in absurd cc)
   without_bytes none (o ∷ more) e =
-      let parts = in_text x (of_rules 5 10 os) in
-      (λ i. first (up_to of_spelling (or_else ((is.bytes ∙ ap (in_text x) none) i) (is.parts i ++ rest))))
+      let parts = placed x (of_rules 5 10 os) in
+      (λ i. first (up_to of_spelling (or_else ((is.bytes ∙ ap (placed x) none) i) (is.parts i ++ rest))))
       ∙ ap first (filter-append (λ (r : Refusal). nat_le (rule_number r.rule) of_spelling) parts rest)
       ∙ ap (λ (rs : List Refusal). first (rs ++ up_to of_spelling rest)) (all_up parts (in_text_asked x (of_rules 5 10 os) (rules_asked 5 10 refl os)))
       ∙ lesser_first 11 parts (up_to of_spelling rest) (high_below x os o more e) (none_below (up_to of_spelling rest) (kept_late rest (late_rest none (algorithm_in x) refl is.algorithm)))
-      ∙ ap (λ (ps : List Offence). first (in_text x ps ++ parts)) (sym none) ∙ split_first
+      ∙ ap (λ (ps : List Offence). first (placed x ps ++ parts)) (sym none) ∙ split_first
 
   pub answers_split : first (up_to of_spelling (asked w)) ≡ Some r
   answers_split = by (of_rules 1 4 os) refl

@@ -24,10 +24,9 @@ use Rattle.module_tree.specs.TextFront.{Text}
 use Rattle.module_tree.specs.AlgorithmText.{AlgorithmText, algorithm_in, algorithm_tokens}
 use Rattle.module_tree.specs.FileOffences.{splitting_offences}
 use Rattle.module_tree.proofs.FineFiles.{all_more}
-use Rattle.algorithm_limits.specs.TokensRefused.{left_out_at}
+use Rattle.algorithm_limits.specs.TokensRefused.{left_out_at, placed}
 use Rattle.algorithm_limits.specs.Answered.{or_counts, AreAnswered}
-use Rattle.algorithm_limits.proofs.PlacedTokens.{ArePlaced, algorithm_placed, refusals_placed}
-use Rattle.rewriting.specs.Refusals.{in_text}
+use Rattle.algorithm_limits.proofs.PlacedTokens.{algorithm_placed, left_out_placed, refusals_placed}
 use Rattle.rewriting.specs.Spelling.{syntax_at, AreRead, AreCounted, AnswersRewriting}
 use Rattle.rewriting.proofs.OneAnswer.{read_or_refused}
 use Rattle.rewriting.proofs.Unrefused.{if_all, left_all, many_all, none_first}
@@ -47,15 +46,6 @@ tokens_answer x a answer fine is small h =
 
 -- ---- words and signs that are left out
 
-placed_if : (x : Text) (b : Bool) (r : Rule) (at : ℕ) (p : Place) → place_at x at ≡ p → in_text x (offence_if b r at) ≡ tree.offence_if b r p
-placed_if x true r at p e = λ i. record { rule = r; place = e i } ∷ []
-placed_if x false r at p e = refl
-
-words_placed : (x : Text) (ts : List Token) → ArePlaced x ts → in_text x (left_out ts) ≡ left_out_at ts
-words_placed x [] h = refl
-words_placed x (t ∷ ts) h =
-    map-append _ (offence_if (is_left_out t.kind ts) LeftOutWord t.at) (left_out ts) ∙ (λ i. placed_if x (is_left_out t.kind ts) LeftOutWord t.at t.place h.0 i ++ words_placed x ts h.1 i)
-
 -- the first token is none of them
 first_kept : (w : List ℕ) (at : ℕ) (p : Place) (ts : List Token) → is_among openings w ≡ true → left_out_at (record { kind = name w; at = at; place = p } ∷ ts) ≡ left_out_at ts
 first_kept w at p ts h =
@@ -64,9 +54,9 @@ first_kept w at p ts h =
       | inr e ↦ ap (λ (w : List ℕ). left_out_at (record { kind = name w; at = at; place = p } ∷ ts)) e
     ]
 
-pub words_are : (x : Text) (from to : ℕ) (ts us : List Token) (t : TokAlgorithm x from to ts) → Tok x (from + length t.opening) to us → left_out_at us ≡ in_text x (left_out ts)
+pub words_are : (x : Text) (from to : ℕ) (ts us : List Token) (t : TokAlgorithm x from to ts) → Tok x (from + length t.opening) to us → left_out_at us ≡ placed x (left_out ts)
 words_are x from to ts us t k =
-    sym (words_placed x ts (algorithm_placed x from to ts t (word_within x from to ts t).1) ∙ ap left_out_at t.tokens ∙ first_kept t.opening from (place_at x from) t.more t.is_opening
+    sym (left_out_placed x ts (algorithm_placed x from to ts t (word_within x from to ts t).1) ∙ ap left_out_at t.tokens ∙ first_kept t.opening from (place_at x from) t.more t.is_opening
     ∙ ap left_out_at (one_list x (from + length t.opening) to t.more us t.tok k))
 
 -- ---- a number is too big
@@ -115,8 +105,8 @@ or_later None q = q
 all_unmarked : (x : Text) (from to : ℕ) (ts : List Token) → TokAlgorithm x from to ts → list_all is_unmarked ts ≡ true
 all_unmarked x from to ts t = subst (λ (us : List Token). list_all is_unmarked us ≡ true) (sym t.tokens) t.unmarked
 
-pub numbers_answer : (x : Text) (a : AlgorithmText) (word : Option Refusal) (big : Refusal) → splitting_offences x ≡ [] → algorithm_in x ≡ Some a → word ≡ first (in_text x (left_out (algorithm_tokens x a)))
-    → first (in_text x (number_offences (algorithm_tokens x a))) ≡ Some big → AnswersRewriting x (Some (or_later word big))
+pub numbers_answer : (x : Text) (a : AlgorithmText) (word : Option Refusal) (big : Refusal) → splitting_offences x ≡ [] → algorithm_in x ≡ Some a → word ≡ first (placed x (left_out (algorithm_tokens x a)))
+    → first (placed x (number_offences (algorithm_tokens x a))) ≡ Some big → AnswersRewriting x (Some (or_later word big))
 numbers_answer x a word big fine is w n = subst (AnswersRewriting x) (ap first split ∙ by word (sym w)) (algorithm_decides x a d.stop d.counts fine is d.read d.counted)
   where
     d : Read x a
@@ -126,18 +116,18 @@ numbers_answer x a word big fine is w n = subst (AnswersRewriting x) (ap first s
     ts = algorithm_tokens x a
 
     words : List Refusal
-    words = in_text x (left_out ts)
+    words = placed x (left_out ts)
 
     numbers : List Refusal
-    numbers = in_text x (number_offences ts)
+    numbers = placed x (number_offences ts)
 
     behind : List Refusal
-    behind = in_text x (too_many_tokens ts) ++ or_counts d.stop d.counts
+    behind = placed x (too_many_tokens ts) ++ or_counts d.stop d.counts
 
-    split : in_text x (algorithm_offences ts) ++ or_counts d.stop d.counts ≡ words ++ (numbers ++ behind)
+    split : placed x (algorithm_offences ts) ++ or_counts d.stop d.counts ≡ words ++ (numbers ++ behind)
     split =
         ap (λ (rs : List Refusal). rs ++ or_counts d.stop d.counts) (map-append _ (left_out ts) (number_offences ts ++ too_many_tokens ts) ∙ ap (λ (rs : List Refusal). words ++ rs) (map-append _ (number_offences ts) (too_many_tokens ts)))
-        ∙ regrouped words numbers (in_text x (too_many_tokens ts)) (or_counts d.stop d.counts)
+        ∙ regrouped words numbers (placed x (too_many_tokens ts)) (or_counts d.stop d.counts)
 
     unmarked : list_all is_unmarked ts ≡ true
     unmarked = all_unmarked x a.from a.rest.to ts (has_tokens x a fine is)
@@ -145,7 +135,7 @@ numbers_answer x a word big fine is w n = subst (AnswersRewriting x) (ap first s
     -- what is behind is of the rules 13 to 15
     late : (p : Rule → Bool) → p TooMany ≡ true → p TooDeep ≡ true → p Syntax ≡ true → list_all (λ (r : Refusal). p r.rule) behind ≡ true
     late p many deep syntax =
-        all_more (λ (r : Refusal). p r.rule) (in_text x (too_many_tokens ts)) (or_counts d.stop d.counts) (told_all p x (too_many_tokens ts) (many_all p many ts)) (read_all p many deep syntax x a d.stop d.counts d.read d.counted)
+        all_more (λ (r : Refusal). p r.rule) (placed x (too_many_tokens ts)) (or_counts d.stop d.counts) (told_all p x (too_many_tokens ts) (many_all p many ts)) (read_all p many deep syntax x a d.stop d.counts d.read d.counted)
 
     up_to_rule : ℕ → Rule → Bool
     up_to_rule n r = nat_le (rule_number r) n

@@ -18,7 +18,7 @@ use Rattle.pcal_tree.specs.Offences.{first}
 use Rattle.module_tree.specs.TextFront.{Text}
 use Rattle.module_tree.specs.AlgorithmText.{AlgorithmText, algorithm_in, algorithm_tokens}
 use Rattle.module_tree.specs.FileOffences.{splitting_offences}
-use Rattle.rewriting.specs.Refusals.{in_text}
+use Rattle.algorithm_limits.specs.TokensRefused.{placed}
 use Rattle.rewriting.proofs.PlaceOrder.{first_told}
 use Rattle.rewriting.proofs.AlgorithmStretch.{has_tokens, opens_with, opening_is}
 
@@ -69,7 +69,7 @@ module _ (x : Text) (a : AlgorithmText) (fine : splitting_offences x ≡ []) (is
   pub scanned_small : given_offence x a.from a.rest.to ≡ None → number_offences (algorithm_tokens x a) ≡ []
   scanned_small e = no_least (number_offences (algorithm_tokens x a)) (sym given_is ∙ e)
 
-  pub scanned_big : (r : Refusal) → IsGivenRefused x a.from a.rest.to r → first (in_text x (number_offences (algorithm_tokens x a))) ≡ Some r
+  pub scanned_big : (r : Refusal) → IsGivenRefused x a.from a.rest.to r → first (placed x (number_offences (algorithm_tokens x a))) ≡ Some r
   scanned_big r (at, e, place) =
       first_told x (number_offences (algorithm_tokens x a)) (r.rule, at) (sym given_is ∙ e) ∙ (λ i. Some (record { rule = r.rule; place = sym place i }))
 

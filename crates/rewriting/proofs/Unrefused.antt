@@ -32,7 +32,8 @@ use Rattle.module_tree.proofs.WalkPlace.{both_empty}
 use Rattle.module_tree.proofs.WalkKept.{all_fine_in}
 use Rattle.file_parts.proofs.SplitWhole.{some_algorithm}
 use Rattle.algorithm_limits.specs.Answered.{or_counts}
-use Rattle.rewriting.specs.Refusals.{in_text, or_else, counting, up_to, of_spelling}
+use Rattle.algorithm_limits.specs.TokensRefused.{placed}
+use Rattle.rewriting.specs.Refusals.{or_else, counting, up_to, of_spelling}
 use Rattle.rewriting.specs.Spelling.{of_rules, syntax_at, AreRead, AreCounted, OfAlgorithm, AnswersRewriting}
 use Rattle.rewriting.specs.Holds.{HoldsTree}
 use Rattle.rewriting.proofs.OneAnswer.{asked, asked_alone}
@@ -54,12 +55,12 @@ if_all p true r at h = and_from (p r) true h refl
 if_all p false r at h = refl
 
 -- what is asked and not refused is not there
-none_asked : (x : Text) (os : List Offence) → Asked os → up_to of_spelling (in_text x os) ≡ [] → os ≡ []
+none_asked : (x : Text) (os : List Offence) → Asked os → up_to of_spelling (placed x os) ≡ [] → os ≡ []
 none_asked x [] h e = refl
 none_asked x (o ∷ os) h e =
     let k = (and_parts (asks o) (list_all asks os) h).0 in
     let r : Refusal = record { rule = o.0; place = place_at x o.1 } in
-    let f : r ∷ up_to of_spelling (in_text x os) ≡ [] = ap (λ (b : Bool). cond b (r ∷ up_to of_spelling (in_text x os)) (up_to of_spelling (in_text x os))) (sym k) ∙ e in
+    let f : r ∷ up_to of_spelling (placed x os) ≡ [] = ap (λ (b : Bool). cond b (r ∷ up_to of_spelling (placed x os)) (up_to of_spelling (placed x os))) (sym k) ∙ e in
     absurd cc
 
 less : (m n k : ℕ) → nat_le m n ≡ true → nat_le n k ≡ true → nat_le m k ≡ true
@@ -195,7 +196,7 @@ unrefused x (w, h, e) = of_algorithm (algorithm_in x) h.algorithm
     bytes = none_asked x (of_rules 1 4 os) (rules_asked 1 4 refl os) (ap (up_to of_spelling) (sym h.bytes) ∙ no_bytes w.bytes more none)
 
     rest : up_to of_spelling more ≡ []
-    rest = no_parts w.bytes more (h.bytes ∙ ap (in_text x) bytes) none
+    rest = no_parts w.bytes more (h.bytes ∙ ap (placed x) bytes) none
 
     kept : (up_to of_spelling w.parts ≡ []) × (up_to of_spelling (w.tokens ++ or_counts w.syntax w.counts) ≡ [])
     kept = kept_both w.parts (w.tokens ++ or_counts w.syntax w.counts) rest

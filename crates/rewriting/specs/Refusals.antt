@@ -3,15 +3,9 @@ use Rattle.std.specs.Prelude.{ℕ, suc, nat_le, List, [], ◌∷◌, ◌++◌, m
 use Rattle.tla_token.specs.declared.rule.Refusal.{Refusal}
 use Rattle.tla_token.specs.declared.rule.Stop.{Stop}
 use Rattle.tla_token.specs.declared.rule.Stop.TheVariants as stop
-use Rattle.tla_token.specs.Places.{place_at}
 use Rattle.tla_token.specs.Rules.{rule_number}
-use Rattle.tla_token.specs.Offences.{Offence}
 use Rattle.pcal_tree.specs.Offences.{first}
 use Rattle.algorithm_limits.specs.Answered.{or_counts}
-
--- where bytes of a text offend
-abbrev pub in_text : List ℕ → List Offence → List Refusal
-in_text x os = map (λ (o : Offence). record { rule = o.0; place = place_at x o.1 }) os
 
 -- all that is wrong with the file of a module, each list looked at for itself; those of the algorithm are none where it isn't spelled
 pub record Wrong : Type 0 where

@@ -11,7 +11,8 @@ use Rattle.algorithm_limits.specs.Answered as answered
 use Rattle.module_tree.specs.TextFront.{Text}
 use Rattle.module_tree.specs.AlgorithmText.{AlgorithmText, is_c, algorithm_in, algorithm_tokens}
 use Rattle.module_tree.specs.FileOffences.{file_offences}
-use Rattle.rewriting.specs.Refusals.{in_text, Wrong, up_to, of_spelling, refusal_of}
+use Rattle.algorithm_limits.specs.TokensRefused.{placed}
+use Rattle.rewriting.specs.Refusals.{Wrong, up_to, of_spelling, refusal_of}
 
 -- those of the rules from the first number to the second
 abbrev pub of_rules : ℕ → ℕ → List Offence → List Offence
@@ -32,7 +33,7 @@ AreCounted x a stop counts = answered.AreCounted (syntax_at a) (algorithm_tokens
 -- what is wrong with the algorithm that stands in x, if any does
 abbrev pub OfAlgorithm : Text → Wrong → Option AlgorithmText → Type 0
 OfAlgorithm x w None = (w.tokens ≡ []) × (w.syntax ≡ None) × (w.counts ≡ [])
-OfAlgorithm x w (Some a) = (w.tokens ≡ in_text x (algorithm_offences (algorithm_tokens x a))) × AreRead x a w.syntax × AreCounted x a w.syntax w.counts
+OfAlgorithm x w (Some a) = (w.tokens ≡ placed x (algorithm_offences (algorithm_tokens x a))) × AreRead x a w.syntax × AreCounted x a w.syntax w.counts
 
 -- none of these is of a rule that a rewriting looks at
 abbrev pub AreLater : List Refusal → Type 0
@@ -40,8 +41,8 @@ AreLater rs = up_to of_spelling rs ≡ []
 
 -- what is wrong with the file x up to how its algorithm is spelled; of names and labels it is only said that they are refused by later rules
 pub record IsSpelling (x : Text) (w : Wrong) : Type 0 where
-  pub bytes : w.bytes ≡ in_text x (of_rules 1 4 (file_offences x))
-  pub parts : w.parts ≡ in_text x (of_rules 5 10 (file_offences x))
+  pub bytes : w.bytes ≡ placed x (of_rules 1 4 (file_offences x))
+  pub parts : w.parts ≡ placed x (of_rules 5 10 (file_offences x))
   pub algorithm : OfAlgorithm x w (algorithm_in x)
   pub names : AreLater w.names
   pub labels : AreLater w.labels

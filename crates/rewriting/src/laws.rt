@@ -16,7 +16,7 @@ ghost use Rattle.module_tree.specs.laws.Swaps.{is_paired};
 ghost use Rattle.syntax_print.specs.Rewritten.{Rewritten};
 ghost use Rattle.syntax_print.specs.Rewrites.{Rewrites};
 ghost use Rattle.algorithm_limits.specs.Answered.{or_counts};
-ghost use Rattle.rewriting.specs.Refusals.{in_text};
+ghost use Rattle.algorithm_limits.specs.TokensRefused.{placed};
 ghost use Rattle.rewriting.specs.Spelling.{AreRead, AreCounted, AnswersRewriting};
 ghost use Rattle.rewriting.specs.Holds.{HoldsTree};
 ghost use Rattle.rewriting.specs.laws.FewRules.{is_too_much, is_options_or_too_much};
@@ -35,7 +35,7 @@ pub fn files_are_answered_as_they_are_split()
 /// Where a file breaks none of the rules 1 to 10, its algorithm decides the answer: it is the first of what is wrong with the tokens, one by one, and,
 /// where these stop, the refusal there, and else what is past a limit in what they spell.
 pub fn the_algorithm_decides()
-    ensures { (x : List ℕ) (a : AlgorithmText) (s : Option Refusal) (cs : List Refusal) → splitting_offences x ≡ [] → algorithm_in x ≡ Some a → AreRead x a s → AreCounted x a s cs → AnswersRewriting x (first (in_text x (algorithm_offences (algorithm_tokens x a)) ++ or_counts s cs)) }
+    ensures { (x : List ℕ) (a : AlgorithmText) (s : Option Refusal) (cs : List Refusal) → splitting_offences x ≡ [] → algorithm_in x ≡ Some a → AreRead x a s → AreCounted x a s cs → AnswersRewriting x (first (placed x (algorithm_offences (algorithm_tokens x a)) ++ or_counts s cs)) }
 {}
 
 /// A file that is not refused breaks none of the rules 1 to 10 and 12, and its algorithm's tokens spell a tree.
