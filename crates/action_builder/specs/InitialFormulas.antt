@@ -2,7 +2,8 @@
 use Rattle.std.specs.Prelude.{List, [], ◌∷◌, ◌++◌, map, flat_map, true, false}
 use Rattle.tla_token.specs.Places.{nowhere}
 use Rattle.tla_tree.specs.Tree.{Word, Tree, node, cases, graft}
-use Rattle.module_tree.specs.Formulas.{self, named, quoted, process_set, unset_value, empty_tuple, equal, is_in, trees_of, function_of_self, functions_from}
+use Rattle.tla_tree.specs.TreeOf.{trees_from}
+use Rattle.module_tree.specs.Formulas.{self, named, quoted, process_set, unset_value, empty_tuple, equal, is_in, function_of_self, functions_from}
 use Rattle.pcal_tree.specs.Algorithm.{Start, unset, equals, among, Declaration, Main, alone, processes, Routine, locals, procedure_routines}
 use Rattle.pcal_tree.specs.Takers.{Takers, each_of, single, lone, Taken, taken_main}
 use Rattle.pcal_tree.specs.Program.{Program, written}
@@ -67,7 +68,7 @@ arms P ts = flat_map (λ t. is_taker t.takers ∷ first_pc P t ∷ []) ts
 
 abbrev pub pc_value : Program → List Taken → Tree
 pc_value P (t ∷ []) = first_pc P t
-pc_value P ts = node (cases false) nowhere (trees_of (arms P ts))
+pc_value P ts = node (cases false) nowhere (trees_from (arms P ts))
 
 abbrev pub pc_start : Program → Tree
 pc_start P = equal (named pc) (for_all_processes P.algorithm.main (pc_value P (taken_main P.algorithm P.algorithm.main)))

@@ -12,7 +12,8 @@ use Rattle.tla_value.specs.Stops.{plain}
 use Rattle.tla_value.specs.Strict.{strict_test, same_truth}
 use Rattle.tla_value.specs.Meaning.{Env, eval, evals, part_values}
 use Rattle.tla_value.proofs.OrderSets.{holds_set_from}
-use Rattle.module_tree.specs.Formulas.{named, quoted, at, is_in, set, trees_of}
+use Rattle.tla_tree.specs.TreeOf.{trees_from}
+use Rattle.module_tree.specs.Formulas.{named, quoted, at, is_in, set}
 use Rattle.pcal_tree.specs.Takers.{Takers}
 use Rattle.pcal_tree.specs.Variables.{pc}
 use Rattle.fairness.specs.FairnessLines.{identifier_of, guard_of}
@@ -25,7 +26,7 @@ held : (xs : List Word) (l : Word) → holds (text l) (values_in (map text xs)) 
 held [] l = refl
 held (x ∷ xs) l = λ i. one_text x l i || held xs l i
 
-quoted_values : (xs : List Word) (env : Env) → part_values (evals plain (trees_of (map quoted xs))) env ≡ Ok (map text xs)
+quoted_values : (xs : List Word) (env : Env) → part_values (evals plain (trees_from (map quoted xs))) env ≡ Ok (map text xs)
 quoted_values [] env = refl
 quoted_values (x ∷ xs) env = ap (λ o. o >>= (λ vs. Ok (text x ∷ vs))) (quoted_values xs env)
 

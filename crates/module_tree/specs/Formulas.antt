@@ -4,7 +4,8 @@ use Rattle.tla_token.specs.Places.{nowhere}
 use Rattle.tla_tree.specs.declared.op.Op.TheVariants.{Equal}
 use Rattle.tla_tree.specs.declared.op.Binder.{Binder}
 use Rattle.tla_tree.specs.declared.op.Binder.TheVariants.{ForAll, Function}
-use Rattle.tla_tree.specs.Tree.{Word, string, name, strict, operator, set_of, tuple, apply, functions, member, binding, Tree, node, Trees, no_trees, tree}
+use Rattle.tla_tree.specs.Tree.{Word, string, name, strict, operator, set_of, tuple, apply, functions, member, binding, Tree, node, no_trees, tree}
+use Rattle.tla_tree.specs.TreeOf.{trees_from}
 
 abbrev pub self : Word
 self = codes "self"
@@ -38,13 +39,9 @@ is_in b a s = node (member b) nowhere (tree a (tree s no_trees))
 abbrev pub at : Tree → Tree → Tree
 at f a = node (strict apply) nowhere (tree f (tree a no_trees))
 
-abbrev pub trees_of : List Tree → Trees
-trees_of [] = no_trees
-trees_of (e ∷ es) = tree e (trees_of es)
-
 -- {a, b}
 abbrev pub set : List Tree → Tree
-set es = node (strict set_of) nowhere (trees_of es)
+set es = node (strict set_of) nowhere (trees_from es)
 
 abbrev pub binds_self : Binder → Tree → Tree → Tree
 binds_self b s e = node (binding b ((record { word = self; place = nowhere } ∷ []) ∷ [])) nowhere (tree s (tree e no_trees))

@@ -2,6 +2,8 @@
 use Rattle.std.proofs.Common.{◌≡◌, ℕ, ◌≤◌, List, [], ◌∷◌, ◌++◌, Bool, true, false, ◌&&◌, ◌||◌, nat_eq, nat_lt, cond, Some, Contains, ◌↔◌, refl, sym, ◌∙◌, ap, arith, le-ltb, lt-ltb, ltb-true, ltb-false, eqb-true, eq-eqb, true≢false}
 use Rattle.std.specs.List.{list_any}
 use Rattle.std.proofs.lemmas.List.Folds.{list_any-append}
+use Rattle.std.specs.Str.{bytes_eq}
+use Rattle.std.proofs.lemmas.Slice.Eq.{bytes_eq-Decides}
 use Rattle.std.proofs.lemmas.Bool.{and_parts, and_from, or_parts, or_left, or_right}
 use Rattle.std.proofs.lemmas.Map.Views.{Contains-from_any, list_any-from_Contains}
 use Rattle.tla_token.specs.declared.rule.Rule.{Rule}
@@ -9,7 +11,7 @@ use Rattle.tla_token.specs.declared.rule.Refusal.{Refusal}
 use Rattle.tla_token.specs.declared.rule.Rule.TheVariants as rule
 use Rattle.tla_token.specs.Rules.{rule_number}
 use Rattle.pcal_tree.specs.Offences.{is_before, is_sooner, sooner, first}
-use Rattle.pcal_tree.specs.laws.MacroUses.{same_place, same_refusal}
+use Rattle.pcal_tree.specs.laws.MacroUses.{same_place, same_name, same_refusal}
 use Rattle.pcal_tree.proofs.SetLaws.{Same, Sound}
 
 -- ---- what is the same is equal
@@ -70,6 +72,11 @@ rule_sound r q e = sym (numbered r) ∙ ap (λ n. rule_of n all_rules) e ∙ num
 pub place_sound : Sound same_place
 place_sound p q e =
     let h = and_parts (nat_eq p.line q.line) (nat_eq p.col q.col) e in λ i. record { line = eqb-true p.line q.line h.0 i; col = eqb-true p.col q.col h.1 i }
+
+pub name_sound : Sound same_name
+name_sound n k e =
+    let h = and_parts (bytes_eq n.word k.word) (same_place n.place k.place) e in
+    λ i. record { word = (bytes_eq-Decides n.word k.word).0 h.0 i; place = place_sound n.place k.place h.1 i }
 
 pub refusal_sound : Sound same_refusal
 refusal_sound r q e =

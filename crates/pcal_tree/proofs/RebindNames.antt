@@ -12,17 +12,12 @@ use Rattle.tla_token.specs.Signs.{is_among}
 use Rattle.tla_tree.specs.Tree.{Word, Name}
 use Rattle.pcal_tree.specs.Offences.{offence_if}
 use Rattle.pcal_tree.specs.OffencesRebind.{Standings, naming, in_scope, brought, may_rebind, rebound, rebound_all}
-use Rattle.pcal_tree.specs.laws.MacroUses.{same_place, same_refusal}
-use Rattle.pcal_tree.specs.laws.MacroBindings.{Binding, bound, standing, beneath, Bindings, offences_where, same_name, same_binding, none_found, offending, unsettled, both, bound_inside, all_bound_inside, standing_inside, beneath_inside, offences_seen}
+use Rattle.pcal_tree.specs.laws.MacroUses.{same_refusal}
+use Rattle.pcal_tree.specs.laws.MacroBindings.{Binding, bound, standing, beneath, Bindings, offences_where, same_binding, none_found, offending, unsettled, both, bound_inside, all_bound_inside, standing_inside, beneath_inside, offences_seen}
 use Rattle.pcal_tree.proofs.SetLaws.{or_both, or_mixed, any_flat, Same, Sound, any_union}
-use Rattle.pcal_tree.proofs.FirstLaws.{place_sound, refusal_sound}
+use Rattle.pcal_tree.proofs.FirstLaws.{name_sound, refusal_sound}
 
 -- ---- what is the same is equal
-
-pub name_sound : Sound same_name
-name_sound n k e =
-    let h = and_parts (bytes_eq n.word k.word) (same_place n.place k.place) e in
-    λ i. record { word = (bytes_eq-Decides n.word k.word).0 h.0 i; place = place_sound n.place k.place h.1 i }
 
 pub binding_sound : Sound same_binding
 binding_sound (bound n) (bound k) e = λ i. bound (name_sound n k e i)

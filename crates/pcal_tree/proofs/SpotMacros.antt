@@ -11,19 +11,13 @@ use Rattle.pcal_tree.specs.Algorithm.{Name, Statements, Macro, Procedure}
 use Rattle.pcal_tree.specs.Run.{arguments}
 use Rattle.pcal_tree.specs.Expand as expand
 use Rattle.pcal_tree.specs.laws.MacroSummaries.{union}
-use Rattle.pcal_tree.specs.laws.MacroUses.{same_place}
-use Rattle.pcal_tree.specs.laws.MacroSpots.{Use, value, left, other, Origin, earlier, assigned, Trail, At, Seen, on_trail, Called, CallSeen, end_of, seen_in, Put, put_origin, put_trail, put_use, put_seen, put_at, put_called, same_origin, same_name, same_use, Pair, same_pair, pairs_on, pairs, seen_pair, once, MacroSeen, before_on, seen_from, seen_in_call, seen_in_body, starting, macros_seen}
-use Rattle.pcal_tree.proofs.FirstLaws.{place_sound}
+use Rattle.pcal_tree.specs.laws.MacroSpots.{Use, value, left, other, Origin, earlier, assigned, Trail, At, Seen, on_trail, Called, CallSeen, end_of, seen_in, Put, put_origin, put_trail, put_use, put_seen, put_at, put_called, same_origin, same_use, Pair, same_pair, pairs_on, pairs, seen_pair, once, MacroSeen, before_on, seen_from, seen_in_call, seen_in_body, starting, macros_seen}
+use Rattle.pcal_tree.proofs.FirstLaws.{name_sound}
 use Rattle.pcal_tree.proofs.SetLaws.{Same, Sound, any_flat, any_map, any_same, any_or, any_none, any_union}
 use Rattle.pcal_tree.proofs.SpotGrafts.{no_calls, putting, end_graft, seen_graft}
 use Rattle.pcal_tree.proofs.SpotCalls.{LikeTrail, Like, met, passes, SeenLike, like_then, CallsLike, end_like, seen_like}
 
 -- ---- each once
-
-name_sound : Sound same_name
-name_sound n k e =
-    let h = and_parts (bytes_eq n.word k.word) (same_place n.place k.place) e in
-    λ i. record { word = (bytes_eq-Decides n.word k.word).0 h.0 i; place = place_sound n.place k.place h.1 i }
 
 use_sound : Sound same_use
 use_sound (value n) (value k) e = ap value (name_sound n k e)

@@ -6,7 +6,8 @@ use Rattle.tla_tree.specs.Tree.{Word, Each, Tree, node, no_trees, tree, strict, 
 use Rattle.tla_tree.specs.Shapes.{IsPaired}
 use Rattle.tla_tree.specs.laws.Writable.{IsIdentifier, IsWritable, AreWritable, count}
 use Rattle.tla_value.specs.Outside.{Outside}
-use Rattle.module_tree.specs.Formulas.{self, named, process_set, unset_value, empty_tuple, is_in, trees_of, set, function_of_self, functions_from}
+use Rattle.tla_tree.specs.TreeOf.{trees_from}
+use Rattle.module_tree.specs.Formulas.{self, named, process_set, unset_value, empty_tuple, is_in, set, function_of_self, functions_from}
 use Rattle.module_tree.specs.Ways.{split_cup, sets_in, sets_of}
 use Rattle.module_tree.specs.laws.WritableRegion.{AllOf, EachOf}
 use Rattle.pcal_tree.specs.Algorithm.{Start, unset, equals, among, Declaration, Process, Main, alone, processes, Routine, locals, procedure_routines, routines, Algorithm}
@@ -47,7 +48,7 @@ function_writable s e h k = ((omega arith, refl), (self_name, tt), tt, tt, (h, (
 functions_writable : (s t : Tree) → IsWritable s → IsWritable t → IsWritable (functions_from s t)
 functions_writable s t h k = (refl, tt, tt, tt, (h, (k, tt)))
 
-pub trees_writable : (es : List Tree) → EachOf IsWritable es → AreWritable (trees_of es)
+pub trees_writable : (es : List Tree) → EachOf IsWritable es → AreWritable (trees_from es)
 trees_writable [] h = tt
 trees_writable (e ∷ es) h = (h.0, trees_writable es h.1)
 
@@ -160,10 +161,10 @@ module _ (o : Outside) (a : Algorithm) (h : IsWritableAlgorithm o a) where
   arms_writable [] f = tt
   arms_writable (t ∷ ts) f = (let q = f t (inl refl) in (taker_writable t.takers q.1, (first_pc_writable t q.0, arms_writable ts (λ s k. f s (inr k)))))
 
-  arms_paired : (t : Taken) (ts : List Taken) → IsPaired (count (trees_of (arms program (t ∷ ts))))
+  arms_paired : (t : Taken) (ts : List Taken) → IsPaired (count (trees_from (arms program (t ∷ ts))))
   arms_paired t [] = tt
   arms_paired t (s ∷ ts) =
-      let n = count (trees_of (arms program (s ∷ ts))) in
+      let n = count (trees_from (arms program (s ∷ ts))) in
       let e : suc (suc n) ≡ n + 1 + 1 = omega arith in
       subst IsPaired e (paired_more n (arms_paired s ts))
 

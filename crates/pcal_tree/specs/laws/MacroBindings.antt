@@ -9,7 +9,7 @@ use Rattle.pcal_tree.specs.Algorithm.{Assignments, no_assignments, assignment, B
 use Rattle.pcal_tree.specs.BoundNames.{all_of, lists_of, names_of_binds}
 use Rattle.pcal_tree.specs.OffencesRebind.{Standings, naming, brought, rebound, rebound_all, any_name, self_alone, Piece, binds, frees, pieces, Calls, putting_in}
 use Rattle.pcal_tree.specs.laws.MacroSummaries.{union, argument}
-use Rattle.pcal_tree.specs.laws.MacroUses.{same_place, same_refusal}
+use Rattle.pcal_tree.specs.laws.MacroUses.{same_name, same_refusal}
 
 -- a name that is bound, which offends where it is in scope; a free name, which offends where a name that is bound in what is put in for it is in scope; and a free name
 -- where another name is bound
@@ -35,9 +35,6 @@ offences_where extended s (standing x) = rebound_all extended s (brought s x)
 offences_where extended s (beneath x y) = rebound_all extended (naming (y ∷ []) []) (brought s x)
 
 -- ---- each once
-
-abbrev pub same_name : Name → Name → Bool
-same_name x y = bytes_eq x.word y.word && same_place x.place y.place
 
 abbrev pub same_binding : Binding → Binding → Bool
 same_binding (bound n) (bound k) = same_name n k

@@ -11,7 +11,7 @@ use Rattle.pcal_tree.specs.Paths.{roots, some_word, rounds}
 use Rattle.pcal_tree.specs.Reads.{named}
 use Rattle.pcal_tree.specs.Spots.{Spot}
 use Rattle.pcal_tree.specs.laws.MacroSummaries.{union, argument, variable_of}
-use Rattle.pcal_tree.specs.laws.MacroUses.{same_place}
+use Rattle.pcal_tree.specs.laws.MacroUses.{same_name}
 
 -- ---- uses and paths in a text
 
@@ -193,9 +193,6 @@ abbrev pub same_origin : Origin → Origin → Bool
 same_origin earlier earlier = true
 same_origin (assigned x) (assigned y) = bytes_eq x y
 same_origin _ _ = false
-
-abbrev pub same_name : Name → Name → Bool
-same_name n k = bytes_eq n.word k.word && same_place n.place k.place
 
 abbrev pub same_use : Use → Use → Bool
 same_use (value n) (value k) = same_name n k

@@ -49,6 +49,9 @@ offences_as o (handed x at) = left_offences (Some (handed_use o at)) at
 abbrev pub same_place : Place → Place → Bool
 same_place p q = nat_eq p.line q.line && nat_eq p.col q.col
 
+abbrev pub same_name : Name → Name → Bool
+same_name x y = bytes_eq x.word y.word && same_place x.place y.place
+
 abbrev pub same_refusal : Refusal → Refusal → Bool
 same_refusal r q = nat_eq (rule_number r.rule) (rule_number q.rule) && same_place r.place q.place
 
