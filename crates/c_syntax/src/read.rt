@@ -3,6 +3,7 @@
 ghost use Rattle.std.specs.Prelude.{◌≡◌, ◌≤◌, length, take, None, Some, Err, IfOk};
 ghost use Rattle.tla_token.specs.declared.rule.Refusal as code;
 ghost use Rattle.tla_token.specs.declared.rule.Stop.TheVariants as stop;
+ghost use Rattle.tla_token.specs.Rules.{rule_number};
 ghost use Rattle.tla_token.specs.TokensSeen.{tokens_seen};
 ghost use Rattle.tla_tree.specs.Pool.{Keeps};
 ghost use Rattle.tla_expr.specs.Numbers.{NumbersFit};
@@ -26,8 +27,8 @@ use tla_token::{Stop, Tokens};
 /// # Errors
 ///
 /// Of the rules on words that are left out (11), on too much (13 and 14) and on syntax (15) the least that the tokens break, at
-/// its first place; or want of memory. Wherever reading stops at a token, or at the end, the tokens before it are completed to an
-/// algorithm by those that are missing there, whatever else is wrong with them.
+/// its first place; or want of memory. By 14 and 15 it is refused where reading stops. Wherever reading stops at a token, or at the
+/// end, the tokens before it are completed to an algorithm by those that are missing there, whatever else is wrong with them.
 pub fn read_c(alloc: Global, tokens: &Tokens, pool: &mut Pool) -> Result<Algorithm, Stop>
     requires { NumbersFit tokens.now }
     ensures kept { Keeps pool.old pool.new }
@@ -35,6 +36,7 @@ pub fn read_c(alloc: Global, tokens: &Tokens, pool: &mut Pool) -> Result<Algorit
     ensures spelled { IfOk result (λ a. Spells c_syntax (tokens_seen tokens.now) (algorithm_at pool.new a)) }
     ensures answered { IfOk result (λ a. AreAnswered c_syntax (tokens_seen tokens.now) tokens.now.end None) }
     ensures refused { (r : code.Refusal) → result ≡ Err (stop.Refused r) → AreAnswered c_syntax (tokens_seen tokens.now) tokens.now.end (Some r) }
+    ensures stopped { (r : code.Refusal) → result ≡ Err (stop.Refused r) → 14 ≤ rule_number r.rule → RefusesTokens c_syntax (tokens_seen tokens.now) tokens.now.end r }
     ensures completed { (r : code.Refusal) → (a : RefusesTokens c_syntax (tokens_seen tokens.now) tokens.now.end r) → Completes c_syntax (take a.passed (views (tokens_seen tokens.now))) (completion (take a.passed (views (tokens_seen tokens.now)))) }
 {
     let read = read_algorithm(alloc, tokens, pool);

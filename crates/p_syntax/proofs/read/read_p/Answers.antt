@@ -3,6 +3,7 @@ use Rattle.std.proofs.Common.{Some}
 use Rattle.tla_token.specs.TokensSeen.{tokens_seen}
 use Rattle.pcal_tree.specs.AlgorithmTokens.{views}
 use Rattle.pcal_tree.specs.Grammar.{p_syntax}
+use Rattle.algorithm_limits.proofs.AnswerRules.{late_is_read}
 use Rattle.algorithm_parts.proofs.CompletedOf.{completed_there}
 use Rattle.routine_parts.proofs.Answered.{answers, below, past_there, spelled_there, answered_there}
 use Rattle.p_syntax.specs.ReadAlgorithm.{read_algorithm, read_limited_algorithm}
@@ -27,6 +28,9 @@ returns-clause-answered c =
 pub returns-clause-refused : goal.returns-clause-refused
 returns-clause-refused c = λ r e.
     answers p_syntax read_algorithm read_limited_algorithm reads_within c.args.tokens.now c.read_algorithm-read.new.pool c.read_algorithm-read.result c.read_algorithm-read.ensures.read (Some r) (c.answered.ensures.refused r e)
+
+pub returns-clause-stopped : goal.returns-clause-stopped
+returns-clause-stopped c = λ r e l. late_is_read p_syntax (tokens_seen c.args.tokens.now) c.args.tokens.now.end r (returns-clause-refused c r e) l
 
 pub returns-clause-completed : goal.returns-clause-completed
 unfolding reads_all
