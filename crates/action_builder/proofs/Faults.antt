@@ -9,7 +9,7 @@ use Rattle.tla_value.specs.Order.{same}
 use Rattle.pcal_tree.specs.Scope.{Scope, bound, State}
 use Rattle.action_builder.proofs.Equal.{eq-name, eq-value}
 use Rattle.action_builder.specs.Assigned.{Names, more}
-use Rattle.action_builder.specs.laws.States.{mid, SameOn}
+use Rattle.action_builder.specs.laws.States.{mid, SameOn, BadSomewhere}
 use Rattle.action_builder.proofs.Effects.{Effect, assign, await, branch, either, choose, Effects, done, then, Ways, no_ways, way, Parts, firsts, moved, effect_names, effects_names, ways_names, Awaits, Chosen, SomeOf, Picks, Next, RunOne, Run, RunSome}
 use Rattle.action_builder.proofs.Actions.{value_for, hold_sets, settings_of, Item, unchanged, Items, all_same, some_member, holds, hold, hold_some, ended, minus, build_one, build, build_some, OnceOne, Once, OnceSome}
 use Rattle.action_builder.proofs.Sets.{more_append, mid_in, mid_out, is_mid}
@@ -104,10 +104,6 @@ or_bad (Err k) w h = tt
 ended_is_bad : (is : Items) (j : Item) (c : Scope) (s t : State) → IsBad (hold is c s t) → IsBad (hold (ended is j) c s t)
 ended_is_bad is j c s t h = subst IsBad (sym (hold_ended is j c s t)) (and_bad_left (hold is c s t) _ h)
 
--- some later state that agrees with t on A, at which the verdict is a fault
-abbrev pub Faults : Names → State → (State → Outcome Bool) → Type 0
-Faults A t v = (u : State) × SameOn A u t × IsBad (v u)
-
 abbrev or_else : Outcome Value → Value → Value
 or_else (Ok v) w = v
 or_else (Err k) w = w
@@ -130,7 +126,7 @@ sets_is_bad A ps c s u (z ∷ ys) h y m b = ⊎_elim
     by (Err j) p r = subst (λ o. IsBad (and_then (o >>= (λ v. Ok (same (u z) v))) (hold_sets (settings_of A ps ys) c s u))) (sym p) tt
 
 -- the later state has the values of the settings that don't fault
-faults_assign : (A : Names) (ps : Parts) (c : Scope) (s t : State) (k : Trouble) → Apart A (firsts ps) → Err k ≡ moved ps c (mid s t A) → Faults A t (hold_sets (settings_of A ps (firsts ps)) c s)
+faults_assign : (A : Names) (ps : Parts) (c : Scope) (s t : State) (k : Trouble) → Apart A (firsts ps) → Err k ≡ moved ps c (mid s t A) → BadSomewhere A t (hold_sets (settings_of A ps (firsts ps)) c s)
 faults_assign A ps c s t k out r = (u, agrees, sets_is_bad A ps c s u ys value b.0 (bad_assigned ps c m b.0 b.1) (subst (λ w. IsBad (value_for b.0 ps c w)) (sym same) b.1))
   where
     ys : List Word
@@ -161,18 +157,18 @@ faults_await (Ok true) k s e = not_bad s k (sym e)
 faults_await (Ok false) k s e = e
 faults_await (Err j) k s e = tt
 
-faults_chosen : (A : Names) (t : State) (o : Outcome Bool) (f : State → Outcome Bool) (P Q : Type 0) (k : Trouble) (v w : State → Outcome Bool) → ((u : State) → SameOn A u t → f u ≡ o) → Chosen o P Q (Err k) → (P → Faults A t v) → (Q → Faults A t w) → Faults A t (λ u. (f u) >>= (λ p. cond p (v u) (w u)))
+faults_chosen : (A : Names) (t : State) (o : Outcome Bool) (f : State → Outcome Bool) (P Q : Type 0) (k : Trouble) (v w : State → Outcome Bool) → ((u : State) → SameOn A u t → f u ≡ o) → Chosen o P Q (Err k) → (P → BadSomewhere A t v) → (Q → BadSomewhere A t w) → BadSomewhere A t (λ u. (f u) >>= (λ p. cond p (v u) (w u)))
 faults_chosen A t (Ok true) f P Q k v w same r g h = let x = g r in (x.0, x.1, subst (λ o. IsBad (o >>= (λ p. cond p (v x.0) (w x.0)))) (sym (same x.0 x.1)) x.2)
 faults_chosen A t (Ok false) f P Q k v w same r g h = let x = h r in (x.0, x.1, subst (λ o. IsBad (o >>= (λ p. cond p (v x.0) (w x.0)))) (sym (same x.0 x.1)) x.2)
 faults_chosen A t (Err j) f P Q k v w same r g h = (t, λ x e. refl, subst (λ o. IsBad (o >>= (λ p. cond p (v t) (w t)))) (sym (same t (λ x e. refl))) tt)
 
-faults_some : (A : Names) (t : State) (vs : Values) (P : Value → Type 0) (p : Value → State → Outcome Bool) → SomeOf vs P → ((v : Value) → P v → Faults A t (p v)) → Faults A t (λ u. some_member vs (λ v. p v u))
+faults_some : (A : Names) (t : State) (vs : Values) (P : Value → Type 0) (p : Value → State → Outcome Bool) → SomeOf vs P → ((v : Value) → P v → BadSomewhere A t (p v)) → BadSomewhere A t (λ u. some_member vs (λ v. p v u))
 faults_some A t no_values P p r h = absurd r
 faults_some A t (and v vs) P p r h = ⊎_elim
     (λ a. let x = h v a in (x.0, x.1, or_bad (p v x.0) (some_member vs (λ w. p w x.0)) (inl x.2)))
     (λ b. let x = faults_some A t vs P p b h in (x.0, x.1, or_bad (p v x.0) (some_member vs (λ w. p w x.0)) (inr x.2))) r
 
-faults_picks : (A : Names) (t : State) (o : Outcome Values) (f : State → Outcome Values) (P : Value → Type 0) (k : Trouble) (p : Value → State → Outcome Bool) → ((u : State) → SameOn A u t → f u ≡ o) → Picks o P (Err k) → ((v : Value) → P v → Faults A t (p v)) → Faults A t (λ u. (f u) >>= (λ vs. some_member vs (λ v. p v u)))
+faults_picks : (A : Names) (t : State) (o : Outcome Values) (f : State → Outcome Values) (P : Value → Type 0) (k : Trouble) (p : Value → State → Outcome Bool) → ((u : State) → SameOn A u t → f u ≡ o) → Picks o P (Err k) → ((v : Value) → P v → BadSomewhere A t (p v)) → BadSomewhere A t (λ u. (f u) >>= (λ vs. some_member vs (λ v. p v u)))
 faults_picks A t (Ok vs) f P k p same r h = let x = faults_some A t vs P p r h in (x.0, x.1, subst (λ o. IsBad (o >>= (λ ws. some_member ws (λ v. p v x.0)))) (sym (same x.0 x.1)) x.2)
 faults_picks A t (Err j) f P k p same r h = (t, λ x e. refl, subst (λ o. IsBad (o >>= (λ ws. some_member ws (λ v. p v t)))) (sym (same t (λ x e. refl))) tt)
 
@@ -182,7 +178,7 @@ parted R (Ok v) k P n f g = g v refl n
 parted R (Err j) k P n f g = f j refl
 
 mutual
-  pub fault_one : (A : Names) (st : Effect) (c : Scope) (s t : State) (k : Trouble) → OnceOne A st → RunOne st c (mid s t A) (Err k) → Faults A t (holds (build_one A st) c s)
+  pub fault_one : (A : Names) (st : Effect) (c : Scope) (s t : State) (k : Trouble) → OnceOne A st → RunOne st c (mid s t A) (Err k) → BadSomewhere A t (holds (build_one A st) c s)
   fault_one A (assign ps) c s t k o r = faults_assign A ps c s t k o r
   fault_one A (await e) c s t k o r = (t, λ y h. refl, faults_await (e c (mid s t A)) k (mid s t A) r)
   fault_one A (branch e a b) c s t k o r =
@@ -193,7 +189,7 @@ mutual
   fault_one A (choose x e b) c s t k o r =
       faults_picks A t (e c (mid s t A)) (λ u. e c (mid s u A)) _ k (λ v. hold (build A b) (bound x v c) s) (λ u h. ap (e c) (mid_agree s u t A h)) r (λ v m. fault_all A b (bound x v c) s t k o m)
 
-  pub fault_all : (A : Names) (ss : Effects) (c : Scope) (s t : State) (k : Trouble) → Once A ss → Run ss c (mid s t A) (Err k) → Faults A t (hold (build A ss) c s)
+  pub fault_all : (A : Names) (ss : Effects) (c : Scope) (s t : State) (k : Trouble) → Once A ss → Run ss c (mid s t A) (Err k) → BadSomewhere A t (hold (build A ss) c s)
   fault_all A done c s t k o r = not_bad (mid s t A) k (sym r)
   fault_all A (then st rest) c s t k o r =
       let B = more A (effect_names st) in
@@ -209,7 +205,7 @@ mutual
       let good : NotFalse (holds (build_one A st) c s x.0) = subst NotFalse (local_one A st c s v x.0 (λ y e. sym (x.1 y e))) (fits_one A st c s v o.0 one') in
       (x.0, λ y e. x.1 y (or_left (A y) (is_among (effect_names st) y) e) ∙ on_a y e, and_bad_right (holds (build_one A st) c s x.0) (hold (build B rest) c s x.0) good x.2))
 
-  fault_some : (A : Names) (all : List Word) (bs : Ways) (c : Scope) (s t : State) (k : Trouble) → OnceSome A bs → RunSome bs c (mid s t A) (Err k) → Faults A t (hold_some (build_some A all bs) c s)
+  fault_some : (A : Names) (all : List Word) (bs : Ways) (c : Scope) (s t : State) (k : Trouble) → OnceSome A bs → RunSome bs c (mid s t A) (Err k) → BadSomewhere A t (hold_some (build_some A all bs) c s)
   fault_some A all no_ways c s t k o r = absurd r
   fault_some A all (way b bs) c s t k o r = ⊎_elim
       (λ m. let x = fault_all A b c s t k o.0 m in (x.0, x.1, or_bad (hold (ended (build A b) (unchanged (minus all (effects_names b)))) c s x.0) (hold_some (build_some A all bs) c s x.0) (inl (ended_is_bad (build A b) _ c s x.0 x.2))))

@@ -3,6 +3,7 @@ use Rattle.std.proofs.Common.{◌≡◌, Bool, true, false, cond, List, [], ◌�
 use Rattle.tla_token.specs.declared.place.Place.{Place}
 use Rattle.tla_tree.specs.Tree.{Word, Each, Tree, Trees, no_trees, tree, root_place}
 use Rattle.tla_tree.specs.laws.Writable.{IsIdentifier, IsString, count, IsWritable}
+use Rattle.tla_tree.proofs.SpelledTrees.{each_left, each_right}
 use Rattle.pcal_tree.specs.Algorithm.{Name, Span, Declaration, Routine, locals, procedure_routines, Assignments, no_assignments, assignment, assign, Statements, then}
 use Rattle.pcal_tree.specs.Run.{Partner, no_partner, goto_partner, return_partner}
 use Rattle.pcal_tree.specs.Processes.{OneOf}
@@ -15,7 +16,7 @@ use Rattle.action_builder.specs.laws.Jumps.{Unlike, AllUnlike}
 use Rattle.action_builder.proofs.FitTrees.{Fits, AllFit, HasIdentifiers, writable_fits, all_fit_more}
 use Rattle.action_builder.proofs.FitStatements.{AssignmentsFit, Beside, InParts, OrOld, StatementsFit, IsPlain}
 use Rattle.action_builder.proofs.FitSettled.{PartnerFits}
-use Rattle.action_builder.proofs.FitJumps.{identifier_field, NamesFit, each_first, each_last, unlike_first, parameters_first, flipped, differ, pc_name, stack_name, named_fits, text_fits, field_fits, rest_fits, names_fit, kept_fit, pushed_fits, one_fits, restored_fit, arguments_fit, fields_fit, jump_fits}
+use Rattle.action_builder.proofs.FitJumps.{identifier_field, NamesFit, unlike_first, parameters_first, flipped, differ, pc_name, stack_name, named_fits, text_fits, field_fits, rest_fits, names_fit, kept_fit, pushed_fits, one_fits, restored_fit, arguments_fit, fields_fit, jump_fits}
 
 -- ---- each variable once
 
@@ -75,16 +76,16 @@ module _ (N : Word → Type 0) (j : HasIdentifiers N) (P : Program) (I : Initial
   split Q k = subst (Each Q) (parameters_first P p) k
 
   parameter_names : Each IsIdentifier (written_all P p p.params)
-  parameter_names = each_first IsIdentifier (written_all P p p.params) (written_all P p p.variables) (split IsIdentifier h.names.identifiers)
+  parameter_names = each_left IsIdentifier (written_all P p p.params) (written_all P p p.variables) (split IsIdentifier h.names.identifiers)
 
   variable_names : Each IsIdentifier (written_all P p p.variables)
-  variable_names = each_last IsIdentifier (written_all P p p.params) (written_all P p p.variables) (split IsIdentifier h.names.identifiers)
+  variable_names = each_right IsIdentifier (written_all P p p.params) (written_all P p p.variables) (split IsIdentifier h.names.identifiers)
 
   parameters_apart : AllUnlike (written_all P p p.params)
   parameters_apart = unlike_first (written_all P p p.params) (written_all P p p.variables) (subst AllUnlike (parameters_first P p) h.names.apart)
 
   stack_apart : Unlike stack (written_all P p p.params)
-  stack_apart = each_first (λ y. bytes_eq stack y ≡ false) (written_all P p p.params) (written_all P p p.variables) (split (λ y. bytes_eq stack y ≡ false) h.names.stack)
+  stack_apart = each_left (λ y. bytes_eq stack y ≡ false) (written_all P p p.params) (written_all P p p.variables) (split (λ y. bytes_eq stack y ≡ false) h.names.stack)
 
   variables_fit : (ds : List Declaration) → ((d : Declaration) → OneOf d ds → IsWritable (I.initial p d)) → Each IsIdentifier (written_all P p ds) → (last : Statements) → StatementsFit N IsPlain last
       → StatementsFit N IsPlain (variables_written P p (I.place p) (I.initial p) ds last)

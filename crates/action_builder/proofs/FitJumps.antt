@@ -10,6 +10,7 @@ use Rattle.tla_token.specs.Words.{is_reserved, is_pluscal_word, is_tla_word}
 use Rattle.tla_token.proofs.Parted.{word_printed}
 use Rattle.tla_tree.specs.Tree.{Word, Each, Tree, Trees, no_trees, tree, root_place}
 use Rattle.tla_tree.specs.laws.Writable.{IsIdentifier, IsField, IsString, is_spellable, count}
+use Rattle.tla_tree.proofs.SpelledTrees.{each_left}
 use Rattle.pcal_tree.specs.Algorithm.{Declaration, Routine, locals, Assignments, assignment}
 use Rattle.pcal_tree.specs.Program.{Program, written}
 use Rattle.pcal_tree.specs.Variables.{written_all, pc, stack}
@@ -52,17 +53,9 @@ pub record NamesFit (P : Program) (p : Routine) : Type 0 where
   pub stack : Unlike stack (written_all P p (locals p))
   pub title : IsString (P.naming.title p.number)
 
-pub each_first : (Q : Word → Type 0) (xs ys : List Word) → Each Q (xs ++ ys) → Each Q xs
-each_first Q [] ys h = tt
-each_first Q (x ∷ xs) ys h = (h.0, each_first Q xs ys h.1)
-
-pub each_last : (Q : Word → Type 0) (xs ys : List Word) → Each Q (xs ++ ys) → Each Q ys
-each_last Q [] ys h = h
-each_last Q (x ∷ xs) ys h = each_last Q xs ys h.1
-
 pub unlike_first : (xs ys : List Word) → AllUnlike (xs ++ ys) → AllUnlike xs
 unlike_first [] ys h = tt
-unlike_first (x ∷ xs) ys h = (each_first (λ y. bytes_eq x y ≡ false) xs ys h.0, unlike_first xs ys h.1)
+unlike_first (x ∷ xs) ys h = (each_left (λ y. bytes_eq x y ≡ false) xs ys h.0, unlike_first xs ys h.1)
 
 -- the parameters come first
 pub parameters_first : (P : Program) (p : Routine) → written_all P p (locals p) ≡ written_all P p p.params ++ written_all P p p.variables

@@ -11,6 +11,7 @@ use Rattle.tla_value.specs.Strict.{applied, strict_value}
 use Rattle.tla_value.specs.laws.Places.{AgreeButPlaces}
 use Rattle.tla_value.proofs.OrderFuns.{sequence_of_seq}
 use Rattle.tla_value.proofs.Outcomes.{then_ok, then_then}
+use Rattle.tla_value.proofs.Facts.{each_weaker}
 use Rattle.pcal_tree.specs.Algorithm.{Routine, locals}
 use Rattle.pcal_tree.specs.Scope.{State, put}
 use Rattle.pcal_tree.specs.Assign.{Setting, set_one, set_all}
@@ -23,7 +24,7 @@ use Rattle.action_builder.specs.laws.Jumps.{Unlike, PairStands}
 use Rattle.action_builder.proofs.AnyPlace.{stack_same}
 use Rattle.action_builder.proofs.Call.{each_parts}
 use Rattle.action_builder.proofs.SetAgain.{Like, like_refl, like_sym, like_trans, bad_then, like_then, like_ends, read_changed, put_here, put_else, unlike, then_do, Others, one_all, all_all, Commute, commute_all, Absorbs, absorbs_past, absorbs_all, set_put, all_else, all_both}
-use Rattle.action_builder.proofs.Pairs.{loose, then_known, arguments_others, parts_others, parts_all_others, one_part, all_read_else, each_map, Long, tail, entering, other_and_started, pc_in_entering, stack_in_entering, own_in_entering}
+use Rattle.action_builder.proofs.Pairs.{loose, then_known, arguments_others, parts_others, parts_all_others, one_part, all_read_else, Long, tail, entering, other_and_started, pc_in_entering, stack_in_entering, own_in_entering}
 
 -- ---- results
 
@@ -141,7 +142,7 @@ module _ (P0 : Program) (v : Actor) (u p : Routine) (at end : Place) (h : PairSt
           let c = set_put (to_stack fr) t w r in
           ap (λ (f : State). f x) c.2 ∙ put_else stack x c.0 t (of_each (λ y. bytes_eq stack y ≡ false) of_p h.stack_of_p x k)
           ∙ all_else (to_pc back ∷ restores us) x
-          (unlike pc x (of_each (λ y. bytes_eq pc y ≡ false) of_p h.pc_of_p x k), parts_others x end (local_index v u) of_u us (each_map (λ y. Unlike y of_p) (λ y. bytes_eq x y ≡ false) (λ y m. unlike y x (of_each (λ z. bytes_eq y z ≡ false) of_p m x k)) of_u (h.apart n))) s t q
+          (unlike pc x (of_each (λ y. bytes_eq pc y ≡ false) of_p h.pc_of_p x k), parts_others x end (local_index v u) of_u us (each_weaker (λ y. Unlike y of_p) (λ y. bytes_eq x y ≡ false) (λ y m. unlike y x (of_each (λ z. bytes_eq y z ≡ false) of_p m x k)) of_u (h.apart n))) s t q
 
   -- ---- against the assignments
 

@@ -5,6 +5,7 @@ use Rattle.tla_tree.specs.Tree.{Word, Each}
 use Rattle.tla_value.specs.Value.{Value, Outcome, ◌>>=◌}
 use Rattle.tla_value.specs.Stops.{plain}
 use Rattle.tla_value.proofs.Outcomes.{then_ok, then_then}
+use Rattle.tla_value.proofs.Facts.{each_weaker}
 use Rattle.pcal_tree.specs.Algorithm.{Declaration, Routine, locals}
 use Rattle.pcal_tree.specs.Scope.{State, put}
 use Rattle.pcal_tree.specs.Assign.{Setting, set_one, set_all}
@@ -52,10 +53,6 @@ one_part at path (x ∷ xs) (v ∷ vs) m (inr h) = let q = one_part at path xs v
 pub all_read_else : (at : Place) (path : List Value) (xs : List Word) (s t : State) → Each (λ x. t x ≡ s x) xs → all_read at path xs t ≡ all_read at path xs s
 all_read_else at path [] s t h = refl
 all_read_else at path (x ∷ xs) s t h = λ i. read_at at path (h.0 i) >>= (λ v. all_read_else at path xs s t h.1 i >>= (λ vs. Ok (v ∷ vs)))
-
-pub each_map : (Q R : Word → Type 0) → ((x : Word) → Q x → R x) → (xs : List Word) → Each Q xs → Each R xs
-each_map Q R f [] h = tt
-each_map Q R f (x ∷ xs) h = (f x h.0, each_map Q R f xs h.1)
 
 -- an argument for each name
 abbrev pub Long : List Word → List Place → List Value → Type 0
@@ -215,5 +212,5 @@ module _ (P0 : Program) (v : Actor) (p : Routine) (at : Place) where
         by (inl j) = in_arguments b x z (tail p.variables) params ats vs l j lists.0
         by (inr j) =
             absorbs_past (set_one plain (setting b x path z)) (set_all plain (argument_settings path params ats vs)) (tail p.variables)
-            (one_all (setting b x path z) (argument_settings path params ats vs) (arguments_others x path params ats vs (each_map (λ y. Unlike y (written_all P p p.variables)) (λ y. bytes_eq x y ≡ false) (λ y n. unlike y x (of_each (λ c. bytes_eq y c ≡ false) (written_all P p p.variables) n x j)) params lists.2)))
+            (one_all (setting b x path z) (argument_settings path params ats vs) (arguments_others x path params ats vs (each_weaker (λ y. Unlike y (written_all P p p.variables)) (λ y. bytes_eq x y ≡ false) (λ y n. unlike y x (of_each (λ c. bytes_eq y c ≡ false) (written_all P p p.variables) n x j)) params lists.2)))
             (local_in_tail b x z p.variables j lists.1 rests)

@@ -1,10 +1,10 @@
 -- What stands open in the lists of statements of an algorithm is closed, up to the end of the algorithm.
-use Rattle.std.proofs.Common.{◌≡◌, ℕ, zero, suc, ◌+◌, ◌*◌, ◌≤◌, List, [], ◌∷◌, ◌++◌, length, None, Ok, refl, ap, ◌∙◌, arith, length-append, codes}
+use Rattle.std.proofs.Common.{◌≡◌, ℕ, zero, suc, ◌+◌, ◌*◌, ◌≤◌, List, [], ◌∷◌, ◌++◌, length, None, Ok, refl, ap, ◌∙◌, arith, length-append}
 use Rattle.tla_token.specs.declared.place.Place.{Place}
 use Rattle.tla_token.specs.Places.{nowhere}
 use Rattle.tla_tree.specs.Lexical.{Token, open_brace, close_brace}
 use Rattle.tla_tree.specs.Reader.{Out, gives, then_read, ◌>>=◌}
-use Rattle.pcal_tree.specs.GrammarParts.{key, mark, no_labels, skip}
+use Rattle.pcal_tree.specs.GrammarParts.{mark, no_labels, skip}
 use Rattle.pcal_tree.specs.GrammarC.{simple, labelled, Sequence, last_statement}
 use Rattle.pcal_tree.specs.Grammar.{Body, braces, Macro, Procedure, Process, Main, block, in_braces, Text}
 use Rattle.algorithm_parts.specs.TokenReaders.{a_mark, Parts}
@@ -24,9 +24,6 @@ Closed m k j n f o s = (x : Text) × (resume m k j n f o s (rest_of_all o s) ≡
 abbrev a_main : Main
 a_main = block nowhere (last_statement (labelled no_labels (simple (skip nowhere))) None) nowhere None
 
-abbrev main_tokens : List Token
-main_tokens = mark nowhere open_brace (key nowhere (codes "skip") (closing_brace (closing_brace [])))
-
 abbrev closed_body : Place → Sequence → Body
 closed_body a ss = braces a ss nowhere None
 
@@ -36,11 +33,11 @@ whole f ms ps b = record { head = f.head; name = f.name; around = in_braces f.br
 -- where enough steps are left
 closed_on : (m : Parts) (k j n : ℕ) (f : Front) (o : Owner) (s : State) → AreApart (open_stack s) → suc (length (rest s)) ≤ n → Closed m (suc (suc (suc k))) (suc j) n f o s
 closed_on m k j n f (in_macro ns p x xs a) s i l =
-    (let w = closed_by_rest m n s i nowhere main_tokens l in
+    (let w = closed_by_rest m n s i nowhere main_rest l in
     let y : Macro = record { place = p; name = x; parameters = xs; body = closed_body a w.0 } in
     (whole f ((ns ++ y ∷ []) ++ []) [] a_main, then_is _ (then_is _ w.1 refl) refl))
 closed_on m k j n f (in_procedure ms qs p x xs vs a) s i l =
-    (let w = closed_by_rest m n s i nowhere main_tokens l in
+    (let w = closed_by_rest m n s i nowhere main_rest l in
     let y : Procedure = record { place = p; name = x; parameters = xs; variables = vs; body = closed_body a w.0 } in
     (whole f ms ((qs ++ y ∷ []) ++ []) a_main, then_is _ (then_is _ w.1 refl) refl))
 closed_on m k j n f (in_process ms ps ys q p x vs a) s i l =

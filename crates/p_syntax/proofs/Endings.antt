@@ -31,7 +31,7 @@ use Rattle.p_syntax.specs.declared.open.Turn.TheVariants as turn
 use Rattle.algorithm_parts.specs.StatementsRead.{is_none}
 use Rattle.p_syntax.specs.StatesRead.{so_far, ThenStands, ElseStands, EitherStands, FrameStands, Stands, TurnStands, list_at, past_list}
 use Rattle.p_syntax.specs.StepsRead.{test_reader}
-use Rattle.algorithm_parts.proofs.Gathered.{as_pair, fails_then}
+use Rattle.algorithm_parts.proofs.Gathered.{as_pair, fails_then, refused_as}
 use Rattle.algorithm_parts.proofs.StatementSteps.{goes_on}
 use Rattle.p_syntax.proofs.Steps.{opened_stands}
 use Rattle.p_syntax.proofs.Closed.{Innermost, else_stands, elsif_stands, or_stands}
@@ -117,9 +117,6 @@ not_either (frame.Then xs a e) h = refl
 not_either (frame.Else xs x) h = refl
 not_either (frame.With a bs) h = refl
 not_either (frame.While a e) h = refl
-
-pub fails_as : {A : Type 0} (e : Halt) (us : List Token) (o : Out A) → e ≡ halt.Refused rule.Syntax (length us) → o ≡ Err (rule.Syntax, us) → Fails e o
-fails_as e us o h g = rw h (rw g (refl, refl))
 
 -- ---- elsif
 test_then : (m : Parts) (d : ℕ) (f : Phrase → Place → Turn) (us : List Token) → within m d (m.expr >>= λ e. a_key (codes "then") >>= λ q. gives (f e q)) us ≡ then_read {A = Phrase × Place} (test_reader m d us) (λ z. gives (f z.0 z.1))

@@ -17,6 +17,7 @@ use Rattle.tla_tree.specs.laws.Writable.{IsSpelled, IsSmall}
 use Rattle.tla_tree.proofs.FitTokens.{Before, Small}
 use Rattle.pcal_tree.specs.AlgorithmTokens.{kind_of, views}
 use Rattle.pcal_tree.specs.GrammarParts.{Tokens, token}
+use Rattle.module_tree.proofs.Chunks.{before_byte, at_byte}
 use Rattle.syntax_print.proofs.Calm.{IsCalm}
 use Rattle.syntax_print.proofs.Clear.{token_clear}
 
@@ -145,15 +146,6 @@ pub record Chunk (need : List ℕ → Bool) (p : Place) (w : List ℕ) (s : Toke
 -- before anything
 abbrev pub any : List ℕ → Bool
 any x = true
-
--- before this byte
-abbrev pub at_byte : ℕ → List ℕ → Bool
-at_byte c [] = false
-at_byte c (b ∷ x) = nat_eq b c
-
-pub before_byte : (c : ℕ) (F : List ℕ → Type 0) → ((x : List ℕ) → F (c ∷ x)) → (x : List ℕ) → at_byte c x ≡ true → F x
-before_byte c F f [] h = absurd cc
-before_byte c F f (b ∷ x) h = subst (λ (d : ℕ). F (d ∷ x)) (sym (eqb-true b c h)) (f x)
 
 abbrev pub join : {m n : List ℕ → Bool} {p : Place} {v w : List ℕ} {s u : Tokens} → (a : Chunk m p v s) → Chunk n a.end w u → ((x : List ℕ) → n x ≡ true → m (w ++ x) ≡ true) → Chunk n p (v ++ w) (λ r. s (u r))
 join {m} {n} {p} {v} {w} {s} {u} a b f = record {

@@ -21,7 +21,7 @@ use Rattle.tla_tree.specs.laws.Placeless.{tree_placeless}
 use Rattle.tla_tree.proofs.SpelledTrees.{part_is_spelled}
 use Rattle.tla_tree.proofs.SpellAppend.{spell_then}
 use Rattle.tla_tree.proofs.FitTrees.{Fit, written_fits}
-use Rattle.tla_tree.proofs.InText.{lexed, lexed_before, Flat, spelled_there}
+use Rattle.tla_tree.proofs.InText.{lexed, lexed_before, Flat, spelled_there, lexed_fit}
 use Rattle.pcal_tree.specs.GrammarParts as grammar
 use Rattle.syntax_print.specs.laws.Printable.{IsExpression, is_left_side}
 use Rattle.syntax_print.proofs.Calm.{AreCalm}
@@ -30,13 +30,6 @@ use Rattle.syntax_print.proofs.Clear.{pieces_clear}
 use Rattle.syntax_print.proofs.Chunks.{Fine, uncommented, unmarked, unmarked_of, small, small_of, kind_same, seen, Chunk, later}
 
 -- ---- the pieces of an expression, before others
-
-lexed_fit : (ps : List Piece) (h : AreSpelled ps) (r : List text.Piece) → AllFit r → Fit (text.text_of r) ps → AllFit (lexed ps h ++ r)
-lexed_fit [] h r a f = a
-lexed_fit (blank ∷ ps) h r a f = (refl, lexed_fit ps h r a f)
-lexed_fit (token k ∷ ps) h r a f =
-    let F : List ℕ → Type 0 = λ x. Fits (text.lexeme h.0.0 (token_text k)) x in
-    (subst F (sym (lexed_before ps h.1 r)) (f.0.0, h.0.1, f.0.1), lexed_fit ps h.1 r a f.1)
 
 lexed_unmarked : (ps : List Piece) (h : AreSpelled ps) (r : List text.Piece) → AreCalm ps → unmarked r ≡ true → unmarked (lexed ps h ++ r) ≡ true
 lexed_unmarked [] h r c u = u

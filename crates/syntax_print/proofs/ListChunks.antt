@@ -15,9 +15,10 @@ use Rattle.pcal_tree.specs.Placeless.{start_placeless, declarations_placeless}
 use Rattle.pcal_tree.specs.GrammarParts.{Initial, initial, start_of, GoodInitial, Variables, last_variable, variable, declarations, GoodVariables, by_comma, Separator, maybe_separator, Names, last_name, more_names, names, names_of, Parameters, last_parameter, parameter, parameters, parameters_of, GoodParameters, MacroParameters, no_names, some_names, macro_parameters, macro_names, ProcedureParameters, no_parameters, some_parameters, procedure_parameters, procedure_declarations, GoodProcedureParameters, Arguments, no_arguments, some_arguments, arguments, arguments_of, GoodArguments}
 use Rattle.pcal_tree.specs.GrammarParts as grammar
 use Rattle.pcal_tree.specs.Printed.{start_text, declaration_text, declarations_text, names_text, trees_texts, listed, bracketed, arguments_text}
+use Rattle.module_tree.proofs.ExprChunks.{name_starts}
 use Rattle.syntax_print.specs.laws.Printable.{AreExpressions, IsStart, IsDeclaration, AreDeclarations, AreNames}
 use Rattle.syntax_print.proofs.Chunks.{Chunk, any, join, nothing}
-use Rattle.syntax_print.proofs.TokenChunks.{narrowed, name_at, name_starts, open_round, close_round, comma_space, spaced_equal, spaced_in}
+use Rattle.syntax_print.proofs.TokenChunks.{narrowed, name_at, open_round, close_round, comma_space, spaced_equal, spaced_in}
 use Rattle.syntax_print.proofs.ExprChunks.{expr_at}
 
 abbrev pub named : Place → Name → Name

@@ -21,8 +21,9 @@ use Rattle.pcal_tree.specs.GrammarParts as grammar
 use Rattle.pcal_tree.specs.Printed.{Text, separated, listed, assignments_texts, binds_texts, arguments_text}
 use Rattle.syntax_print.specs.laws.Printable.{IsName, IsExpression, AreExpressions, IsAssignment, AreAssignments, AreBinds}
 use Rattle.tla_tree.specs.laws.Writable.{IsIdentifier}
+use Rattle.module_tree.proofs.ExprChunks.{name_starts}
 use Rattle.syntax_print.proofs.Chunks.{Chunk, any, put, in_line, join, nothing}
-use Rattle.syntax_print.proofs.TokenChunks.{retold, reworded, name_at, name_starts, key_at, key_space, semicolon_at, comma_space, spaced_equal, spaced_in, spaced_assigns, spaced_beside, colon_at}
+use Rattle.syntax_print.proofs.TokenChunks.{retold, reworded, name_at, key_at, key_space, semicolon_at, comma_space, spaced_equal, spaced_in, spaced_assigns, spaced_beside, colon_at}
 use Rattle.syntax_print.proofs.ExprChunks.{expr_at}
 use Rattle.syntax_print.proofs.ListChunks.{named, arguments_at}
 

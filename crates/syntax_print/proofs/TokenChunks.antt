@@ -23,7 +23,9 @@ use Rattle.pcal_tree.specs.Algorithm as statement
 use Rattle.pcal_tree.specs.GrammarParts.{Tokens, token, word, key, mark, Colon, colon_plus, colon_minus, colon_tokens, no_labels, label, with_labels}
 use Rattle.pcal_tree.specs.GrammarParts as grammar
 use Rattle.syntax_print.proofs.Calm.{IsCalm}
-use Rattle.syntax_print.proofs.Chunks.{Chunk, any, at_byte, before_byte, join, one, space}
+use Rattle.syntax_print.proofs.Chunks.{Chunk, any, join, one, space}
+use Rattle.module_tree.proofs.Chunks.{before_byte, at_byte}
+use Rattle.module_tree.proofs.ExprChunks.{name_starts}
 
 -- before less
 pub narrowed : {p : Place} {w : List ℕ} {s : Tokens} (need : List ℕ → Bool) → Chunk any p w s → Chunk need p w s
@@ -41,9 +43,6 @@ reworded e c = record { end = c.end; right = c.right; pieces = c.pieces; bytes =
 
 pub name_at : (p : Place) → Right 0 p → (x : Word) → IsIdentifier x → Chunk ends_word p x (word p x)
 name_at p r x h = one ends_word p (tk.word x) r (word_spelled x h) h.0.0 (λ y e. word_fits (tk.word x) x y refl (name_wordy x h.0) tt e)
-
-pub name_starts : (x : Word) (y : List ℕ) → IsIdentifier x → starts (x ++ y) ≡ true
-name_starts x y h = word_starts (tk.word x) x y refl (name_wordy x h.0)
 
 -- a reserved word of PlusCal
 pub key_at : (p : Place) → Right 0 p → (w : Word) → is_pluscal_word w ≡ true → IsName w → Chunk ends_word p w (key p w)

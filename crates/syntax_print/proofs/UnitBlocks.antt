@@ -21,9 +21,10 @@ use Rattle.pcal_tree.specs.Grammar.{Syntax, p_syntax, c_syntax, Body, begin_end,
 use Rattle.pcal_tree.specs.Grammar as g
 use Rattle.pcal_tree.specs.Printed.{Text, sign_text, identity_text}
 use Rattle.pcal_tree.specs.Printed as printed
+use Rattle.module_tree.proofs.ExprChunks.{name_starts}
 use Rattle.syntax_print.specs.laws.Printable.{IsName, IsExpression, AreStatements, IsMacro, IsProcedure, IsProcess, IsMain}
 use Rattle.syntax_print.proofs.Chunks.{Chunk, any, put, in_line, join, nothing}
-use Rattle.syntax_print.proofs.TokenChunks.{narrowed, name_at, name_starts, key_at, key_space, spaced_equal, spaced_in, plus_space, open_round, close_round, open_curly, close_curly}
+use Rattle.syntax_print.proofs.TokenChunks.{narrowed, name_at, key_at, key_space, spaced_equal, spaced_in, plus_space, open_round, close_round, open_curly, close_curly}
 use Rattle.syntax_print.proofs.ExprChunks.{expr_at}
 use Rattle.syntax_print.proofs.ListChunks.{named, macro_parameters_at, procedure_parameters_at}
 use Rattle.syntax_print.proofs.SimpleChunks.{no_labels_at}

@@ -4,6 +4,7 @@ use Rattle.std.specs.Prelude.{flat_map}
 use Rattle.tla_token.specs.Signs.{is_among}
 use Rattle.tla_tree.specs.Tree.{Word, Each}
 use Rattle.tla_tree.specs.laws.Writable.{IsIdentifier, IsString, IsWritable}
+use Rattle.tla_tree.proofs.SpelledTrees.{each_left, each_right}
 use Rattle.tla_value.specs.Outside.{Outside}
 use Rattle.module_tree.specs.Formulas.{self, named, quoted, at, set}
 use Rattle.module_tree.specs.Module.{call_with}
@@ -20,7 +21,7 @@ use Rattle.pcal_tree.specs.Takers.{Takers, each_of, single, lone, Taken, taken_p
 use Rattle.pcal_tree.specs.Variables.{pc}
 use Rattle.pcal_tree.proofs.BodyLabels.{labels_in, labels, labels_of, same_labels}
 use Rattle.action_builder.specs.WrittenNames.{with_names}
-use Rattle.action_builder.proofs.FitJumps.{identifier_string, each_first, each_last}
+use Rattle.action_builder.proofs.FitJumps.{identifier_string}
 use Rattle.fairness.specs.MarkedLabels.{Marked, marked_in, marked, marked_some, if_left_out, if_strong, left_out_labels, strong_labels}
 use Rattle.fairness.specs.ReachedProcedures.{called_by as calls_of, reached_within, reached}
 use Rattle.fairness.specs.Demands.{Demand, all_steps, routine_steps, label_steps, demands_in, demands_of, main_demands, demands}
@@ -40,7 +41,7 @@ IsMarked m = IsIdentifier m.label
 
 mutual
   marked_one : (st : Statement) → Each IsIdentifier (labels_in st) → EachOf IsMarked (marked_in st)
-  marked_one (branch e a b) h = every_both IsMarked (marked a) (marked b) (marked_all a (each_first IsIdentifier (labels a) (labels b) h)) (marked_all b (each_last IsIdentifier (labels a) (labels b) h))
+  marked_one (branch e a b) h = every_both IsMarked (marked a) (marked b) (marked_all a (each_left IsIdentifier (labels a) (labels b) h)) (marked_all b (each_right IsIdentifier (labels a) (labels b) h))
   marked_one (either bs) h = marked_branches bs h
   marked_one (with bs b) h = marked_all b h
   marked_one (while e b) h = marked_all b h
@@ -48,12 +49,12 @@ mutual
 
   marked_all : (b : Statements) → Each IsIdentifier (labels b) → EachOf IsMarked (marked b)
   marked_all done h = tt
-  marked_all (then at st rest) h = every_both IsMarked (marked_in st) (marked rest) (marked_one st (each_first IsIdentifier (labels_in st) (labels rest) h)) (marked_all rest (each_last IsIdentifier (labels_in st) (labels rest) h))
+  marked_all (then at st rest) h = every_both IsMarked (marked_in st) (marked rest) (marked_one st (each_left IsIdentifier (labels_in st) (labels rest) h)) (marked_all rest (each_right IsIdentifier (labels_in st) (labels rest) h))
   marked_all (mark l k rest) h = (h.0, marked_all rest h.1)
 
   marked_branches : (bs : Branches) → Each IsIdentifier (labels_of bs) → EachOf IsMarked (marked_some bs)
   marked_branches no_branches h = tt
-  marked_branches (or b bs) h = every_both IsMarked (marked b) (marked_some bs) (marked_all b (each_first IsIdentifier (labels b) (labels_of bs) h)) (marked_branches bs (each_last IsIdentifier (labels b) (labels_of bs) h))
+  marked_branches (or b bs) h = every_both IsMarked (marked b) (marked_some bs) (marked_all b (each_left IsIdentifier (labels b) (labels_of bs) h)) (marked_branches bs (each_right IsIdentifier (labels b) (labels_of bs) h))
 
 picked : (f : Word → Mark → List Word) → ((l : Word) (k : Mark) → IsIdentifier l → EachOf IsIdentifier (f l k)) → (ms : List Marked) → EachOf IsMarked ms → EachOf IsIdentifier (flat_map (λ m. f m.label m.mark) ms)
 picked f k [] h = tt

@@ -28,28 +28,22 @@ use Rattle.translation.specs.laws.WritableAlgorithm.{is_procedure, is_variable, 
 use Rattle.translation.proofs.WrittenIdentifiers.{IsFree, given_identifiers, want_of, written_any, written_one, title_one, title_any, one_written}
 use Rattle.translation.proofs.WritableBodies.{all_labels}
 use Rattle.translation.proofs.NamedBodies.{VariablesNamed}
+use Rattle.pcal_tree.proofs.OneStand.{every_both}
+use Rattle.pcal_tree.proofs.SameVariables.{each_of}
 
 true_false : true ≡ false → ⊥
 true_false e = cc
 
 -- ---- lists
 
-all_both : {X : Type 0} (Q : X → Type 0) (xs ys : List X) → AllByRecursion Q xs → AllByRecursion Q ys → AllByRecursion Q (xs ++ ys)
-all_both Q [] ys h k = k
-all_both Q (x ∷ xs) ys h k = (h.0, all_both Q xs ys h.1 k)
-
 all_flat : {X Y : Type 0} (Q : Y → Type 0) (f : X → List Y) (xs : List X) → ((x : X) → OneOf x xs → AllByRecursion Q (f x)) → AllByRecursion Q (flat_map f xs)
 all_flat Q f [] h = tt
-all_flat Q f (x ∷ xs) h = all_both Q (f x) (flat_map f xs) (h x (inl refl)) (all_flat Q f xs (λ y k. h y (inr k)))
+all_flat Q f (x ∷ xs) h = every_both Q (f x) (flat_map f xs) (h x (inl refl)) (all_flat Q f xs (λ y k. h y (inr k)))
 
 pub one_flat : {X Y : Type 0} (f : X → List Y) (x : X) (y : Y) (xs : List X) → OneOf x xs → OneOf y (f x) → OneOf y (flat_map f xs)
 one_flat f x y [] h k = absurd h
 one_flat f x y (z ∷ zs) (inl e) k = one_left y (f z) (flat_map f zs) (subst (λ u. OneOf y (f u)) e k)
 one_flat f x y (z ∷ zs) (inr h) k = one_right y (f z) (flat_map f zs) (one_flat f x y zs h k)
-
-pub each_one : (Q : Word → Type 0) (xs : List Word) → ((x : Word) → OneOf x xs → Q x) → Each Q xs
-each_one Q [] h = tt
-each_one Q (x ∷ xs) h = (h x (inl refl), each_one Q xs (λ y k. h y (inr k)))
 
 pub one_each_of : (Q : Word → Type 0) (xs : List Word) → Each Q xs → (x : Word) → OneOf x xs → Q x
 one_each_of Q [] h x k = absurd k
@@ -134,7 +128,7 @@ module _ (o : Outside) (a : Algorithm) (h : IsWritableAlgorithm o a) where
 
   within_all : (u : Routine) → OneOf u (routines a) → AllByRecursion (λ w. IsIdentifier w.word) (wanted_within u)
   within_all u k =
-      all_both (λ w. IsIdentifier w.word) (wants u.number variable (declared (locals u))) (wants u.number label (label_words u.body)) (wants_all u.number variable (declared (locals u)) (local_names u k))
+      every_both (λ w. IsIdentifier w.word) (wants u.number variable (declared (locals u))) (wants u.number label (label_words u.body)) (wants_all u.number variable (declared (locals u)) (local_names u k))
       (wants_all u.number label (label_words u.body) (label_identifiers u k))
 
   by_all : (u : Routine) → OneOf u (routines a) → AllByRecursion (λ w. IsIdentifier w.word) (wanted_by u)
@@ -146,7 +140,7 @@ module _ (o : Outside) (a : Algorithm) (h : IsWritableAlgorithm o a) where
 
   all_wanted : AllByRecursion (λ w. IsIdentifier w.word) (wanted a)
   all_wanted =
-      all_both (λ w. IsIdentifier w.word) (flat_map wanted_by (procedure_routines a)) (wanted_by_main a a.main)
+      every_both (λ w. IsIdentifier w.word) (flat_map wanted_by (procedure_routines a)) (wanted_by_main a a.main)
       (all_flat (λ w. IsIdentifier w.word) wanted_by (procedure_routines a) (λ u k. by_all u (one_left u (procedure_routines a) (main_routines a a.main) k)))
       (main_all a.main (λ u k. one_right u (procedure_routines a) (main_routines a a.main) k))
 

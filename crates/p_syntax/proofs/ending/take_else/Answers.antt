@@ -2,10 +2,11 @@
 use Rattle.std.proofs.Common.{◌++◌, ◌∷◌, [], ap, ◌∙◌}
 use Rattle.expression_parts.specs.Ahead.{ahead}
 use Rattle.algorithm_parts.specs.TokenReaders.{first}
+use Rattle.algorithm_parts.proofs.Gathered.{refused_as}
 use Rattle.p_syntax.specs.declared.open.Frame.{Frame}
 use Rattle.p_syntax.specs.declared.open.Frame.TheVariants as frame
 use Rattle.p_syntax.proofs.Closed.{innermost_stands}
-use Rattle.p_syntax.proofs.Endings.{not_then, fails_as, else_read, else_refused}
+use Rattle.p_syntax.proofs.Endings.{not_then, else_read, else_refused}
 use Rattle.p_syntax.proofs.ending.take_else.Goals as goal
 
 pub returns-in_ok-opened-in-Then-clause-read : goal.returns-in_ok-opened-in-Then-clause-read
@@ -20,4 +21,4 @@ pub returns-in_default-clause-read : goal.returns-in_default-clause-read
 returns-in_default-clause-read c ts d st h k e =
     let us = ahead c.args.tokens.now c.args.at in
     let n = innermost_stands ts c.args.state.stack.items c.in-Some.open c.in-Some.around st k c.in-Some.ensures.some in
-    fails_as _ us _ c.refused_there-in_default.ensures (else_refused ts c.in-Some.open c.in-Some.around st d (first us).place us n (not_then c.in-Some.open c.in_default.not-Then))
+    refused_as _ us _ c.refused_there-in_default.ensures (else_refused ts c.in-Some.open c.in-Some.around st d (first us).place us n (not_then c.in-Some.open c.in_default.not-Then))

@@ -7,12 +7,13 @@ use Rattle.expression_parts.specs.ReadIn.{Reads}
 use Rattle.expression_parts.specs.Ahead.{ahead}
 use Rattle.algorithm_parts.specs.TokenReaders.{first}
 use Rattle.algorithm_parts.specs.PartsRead.{parts_in}
+use Rattle.algorithm_parts.proofs.Gathered.{refused_as}
 use Rattle.p_syntax.specs.ReadStatements.{takes_elsif}
 use Rattle.p_syntax.specs.declared.open.Frame.{Frame}
 use Rattle.p_syntax.specs.declared.open.Frame.TheVariants as frame
 use Rattle.p_syntax.proofs.Grows.{stack_grows, whole_grows}
 use Rattle.p_syntax.proofs.Closed.{innermost_stands}
-use Rattle.p_syntax.proofs.Endings.{not_then, fails_as, elsif_read, elsif_failed, elsif_refused, On}
+use Rattle.p_syntax.proofs.Endings.{not_then, elsif_read, elsif_failed, elsif_refused, On}
 use Rattle.p_syntax.proofs.ending.take_elsif.Goals as goal
 
 pub returns-in_ok-opened-in-Then-clause-read : goal.returns-in_ok-opened-in-Then-clause-read
@@ -44,4 +45,4 @@ returns-in_default-clause-read c d st h k e =
     let us = ahead c.args.tokens.now c.args.at in
     let ts = c.args.pool.now in
     let n = innermost_stands ts c.args.state.stack.items c.in-Some.open c.in-Some.around st k c.in-Some.ensures.some in
-    fails_as _ us _ c.refused_there-in_default.ensures (elsif_refused (parts_in c.args.tokens.now) ts c.in-Some.open c.in-Some.around st d (first us).place us n (not_then c.in-Some.open c.in_default.not-Then))
+    refused_as _ us _ c.refused_there-in_default.ensures (elsif_refused (parts_in c.args.tokens.now) ts c.in-Some.open c.in-Some.around st d (first us).place us n (not_then c.in-Some.open c.in_default.not-Then))

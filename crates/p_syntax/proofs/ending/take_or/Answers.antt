@@ -2,10 +2,11 @@
 use Rattle.std.proofs.Common.{◌++◌, ◌∷◌, [], ap, ◌∙◌}
 use Rattle.expression_parts.specs.Ahead.{ahead}
 use Rattle.algorithm_parts.specs.TokenReaders.{first}
+use Rattle.algorithm_parts.proofs.Gathered.{refused_as}
 use Rattle.p_syntax.specs.declared.open.Frame.{Frame}
 use Rattle.p_syntax.specs.declared.open.Frame.TheVariants as frame
 use Rattle.p_syntax.proofs.Closed.{innermost_stands}
-use Rattle.p_syntax.proofs.Endings.{not_either, fails_as, or_read, or_refused}
+use Rattle.p_syntax.proofs.Endings.{not_either, or_read, or_refused}
 use Rattle.p_syntax.proofs.ending.take_or.Goals as goal
 
 pub returns-in_ok-opened-in-Either-clause-read : goal.returns-in_ok-opened-in-Either-clause-read
@@ -21,4 +22,4 @@ pub returns-in_default-clause-read : goal.returns-in_default-clause-read
 returns-in_default-clause-read c ts d st h k e =
     let us = ahead c.args.tokens.now c.args.at in
     let n = innermost_stands ts c.args.state.stack.items c.in-Some.open c.in-Some.around st k c.in-Some.ensures.some in
-    fails_as _ us _ c.refused_there-in_default.ensures (or_refused ts c.in-Some.open c.in-Some.around st d (first us).place us n (not_either c.in-Some.open c.in_default.not-Either))
+    refused_as _ us _ c.refused_there-in_default.ensures (or_refused ts c.in-Some.open c.in-Some.around st d (first us).place us n (not_either c.in-Some.open c.in_default.not-Either))

@@ -5,8 +5,8 @@ use Rattle.tla_tree.specs.Lexical.{Token}
 use Rattle.expression_parts.specs.Ahead.{ahead}
 use Rattle.algorithm_parts.specs.TokenReaders.{first}
 use Rattle.algorithm_parts.specs.PartsRead.{parts_in}
+use Rattle.algorithm_parts.proofs.Gathered.{refused_as}
 use Rattle.p_syntax.specs.ReadStatements.{Turn, on, ended}
-use Rattle.p_syntax.proofs.Endings.{fails_as}
 use Rattle.p_syntax.proofs.AfterStatement.{separator_there, no_separator_there, mark_is_passed}
 use Rattle.p_syntax.proofs.statements.read_separator.Goals as goal
 
@@ -26,4 +26,4 @@ returns-in-Some-clause-further c = mark_is_passed c.args.tokens.now c.args.at c.
 pub returns-in-None-clause-read : goal.returns-in-None-clause-read
 returns-in-None-clause-read c ts n b ls a st h =
     let us = ahead c.args.tokens.now c.args.at in
-    fails_as _ us _ c.refused_there.ensures (no_separator_there (parts_in c.args.tokens.now) n b ls a st us c.in-None.ensures.none)
+    refused_as _ us _ c.refused_there.ensures (no_separator_there (parts_in c.args.tokens.now) n b ls a st us c.in-None.ensures.none)
