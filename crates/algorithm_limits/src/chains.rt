@@ -5,9 +5,8 @@ ghost use Rattle.tla_token.specs.declared.rule.Rule.TheVariants.{TooMany};
 ghost use Rattle.tla_tree.specs.Tree.{Tree};
 ghost use Rattle.pcal_tree.specs.Algorithm.{Statements};
 ghost use Rattle.pcal_tree.specs.InMemory.{simple_at, stmt_at, statements_at, branches_at, macro_at};
-ghost use Rattle.pcal_tree.specs.Offences.{offence_if, first};
+ghost use Rattle.pcal_tree.specs.Offences.{first};
 ghost use Rattle.pcal_tree.specs.OffencesCounts.{calls_in, calls_of, calls_of_some, long_chains};
-ghost use Rattle.algorithm_limits.specs.Joined.{joined};
 ghost use Rattle.algorithm_limits.specs.ChainsIn.{longest_in};
 
 use crate::order::or_offence;

@@ -2,14 +2,13 @@
 
 ghost use Rattle.std.specs.Prelude.{◌≡◌, ◌+◌, ◌<◌, ◌≤◌, [], length, take, min, IfOk, OnOk};
 ghost use Rattle.tla_tree.specs.Pool.{at, trees_at, AllBelow};
-ghost use Rattle.tla_tree.specs.Shapes.{Shaped};
 ghost use Rattle.tla_pool.specs.FormOf.{form_of};
 ghost use Rattle.tla_value.specs.DefinitionNesting.{Depths, nests as nests_of, definition_nests as nests_with};
 ghost use Rattle.pcal_tree.specs.InMemory.{definition_at, definitions_at, past_definitions};
 ghost use Rattle.pcal_tree.specs.Program.{inner};
 ghost use Rattle.pcal_tree.specs.Offences.{first};
 ghost use Rattle.pcal_tree.specs.OffencesCounts.{deep_definitions};
-ghost use Rattle.algorithm_limits.specs.DepthsIn.{depth_in, used_in, AreDepths, nest_from, Hides};
+ghost use Rattle.algorithm_limits.specs.DepthsIn.{depth_in, used_in, AreDepths, nest_from};
 
 use crate::bound::Bound;
 use crate::order::or_offence;

@@ -1,7 +1,7 @@
 //! Of two refusals, the one that is answered.
 
 ghost use Rattle.std.specs.Prelude.{◌≡◌, Some};
-ghost use Rattle.pcal_tree.specs.Offences.{offence_if, is_before, is_sooner, sooner, first};
+ghost use Rattle.pcal_tree.specs.Offences.{offence_if, is_before, is_sooner, first};
 ghost use Rattle.algorithm_limits.specs.Joined.{joined};
 
 use tla_token::rule::number;

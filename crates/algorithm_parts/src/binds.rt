@@ -1,6 +1,6 @@
 //! Reading what a `with` names, each a form inside those before it.
 
-ghost use Rattle.std.specs.Prelude.{◌≡◌, ℕ, ◌<◌, ◌≤◌, ◌+◌, IfOk, OnOk, nat_le, length};
+ghost use Rattle.std.specs.Prelude.{ℕ, ◌<◌, ◌≤◌, ◌+◌, IfOk, OnOk, nat_le, length};
 ghost use Rattle.tla_token.specs.Limits.{deepest_statement};
 ghost use Rattle.tla_tree.specs.Pool.{Keeps};
 ghost use Rattle.expression_parts.specs.ReadIn.{Gives};

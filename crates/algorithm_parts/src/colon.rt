@@ -1,7 +1,6 @@
 //! Reading what stands between parts: a colon with its mark, `;`, and `,`.
 
 ghost use Rattle.std.specs.Prelude.{◌≡◌, ◌≤◌, IfOk, Ok, length, is_some};
-ghost use Rattle.tla_tree.specs.Reader as reader;
 ghost use Rattle.expression_parts.specs.ReadIn.{Reads};
 ghost use Rattle.expression_parts.specs.Ahead.{ahead};
 ghost use Rattle.algorithm_parts.specs.ReadParts.{read_colon as colon_reader, read_semicolon as semicolon_reader, read_separator as separator_reader};

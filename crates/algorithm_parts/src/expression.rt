@@ -1,6 +1,6 @@
 //! Reading the expressions of algorithms, within the limit of open forms.
 
-ghost use Rattle.std.specs.Prelude.{◌≡◌, ◌<◌, ◌≤◌, IfOk, length};
+ghost use Rattle.std.specs.Prelude.{◌<◌, ◌≤◌, IfOk, length};
 ghost use Rattle.tla_tree.specs.Pool.{at as tree_at, AllBelow, Keeps};
 ghost use Rattle.tla_tree.specs.Spelling.{tree_of, trees_of};
 ghost use Rattle.expression_parts.specs.Ahead.{ahead};

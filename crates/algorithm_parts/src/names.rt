@@ -1,6 +1,6 @@
 //! Reading names with commas between them, and the parameters of macros.
 
-ghost use Rattle.std.specs.Prelude.{◌≡◌, ℕ, ◌<◌, ◌≤◌, IfOk, length};
+ghost use Rattle.std.specs.Prelude.{ℕ, ◌<◌, ◌≤◌, IfOk, length};
 ghost use Rattle.expression_parts.specs.Ahead.{ahead};
 ghost use Rattle.pcal_tree.specs.GrammarParts.{names_of, macro_names};
 ghost use Rattle.algorithm_parts.specs.ReadParts.{read_names as names_reader, read_macro_parameters as macro_parameters_reader};

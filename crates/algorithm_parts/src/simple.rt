@@ -1,6 +1,6 @@
 //! Reading simple statements, from their first token on.
 
-ghost use Rattle.std.specs.Prelude.{◌≡◌, ℕ, ◌<◌, ◌≤◌, IfOk, length};
+ghost use Rattle.std.specs.Prelude.{ℕ, ◌<◌, ◌≤◌, IfOk, length};
 ghost use Rattle.tla_tree.specs.Pool.{Keeps};
 ghost use Rattle.expression_parts.specs.Ahead.{ahead};
 ghost use Rattle.tla_expr.specs.Numbers.{NumbersFit};

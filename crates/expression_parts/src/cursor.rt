@@ -1,7 +1,6 @@
 //! The next token to the right of an edge, and why reading stops.
 
 ghost use Rattle.std.specs.Prelude.{◌≡◌, ℕ, List};
-ghost use Rattle.tla_tree.specs.Lexical as tk;
 ghost use Rattle.tla_tree.specs.Lexical.{token};
 ghost use Rattle.tla_tree.specs.Reader as reader;
 ghost use Rattle.expression_parts.specs.ViewSeen.{mark_seen, key_seen, view_seen};

@@ -1,6 +1,6 @@
 //! Statements that stood open and are closed.
 
-ghost use Rattle.std.specs.Prelude.{◌≡◌, ◌≤◌, IfOk, IfErr, max, [], ◌∷◌, ◌++◌, List, map};
+ghost use Rattle.std.specs.Prelude.{◌≡◌, IfOk, max, [], ◌∷◌, ◌++◌, List, map};
 ghost use Rattle.tla_tree.specs.Tree.{Tree};
 ghost use Rattle.pcal_tree.specs.Algorithm.{Statements};
 ghost use Rattle.pcal_tree.specs.InMemory.{stmt_at, statements_at, past_each, past_stmt, past_statements};

@@ -3,7 +3,6 @@
 ghost use Rattle.std.specs.Prelude.{List, ◌<◌, ◌≤◌, IfOk, codes, length};
 ghost use Rattle.tla_tree.specs.Tree.{Tree};
 ghost use Rattle.tla_tree.specs.Pool.{Keeps};
-ghost use Rattle.expression_parts.specs.Ahead.{ahead};
 ghost use Rattle.tla_expr.specs.Numbers.{NumbersFit};
 ghost use Rattle.p_syntax.specs.StepsRead.{StepRead, opens_by, label_step, simple_step};
 

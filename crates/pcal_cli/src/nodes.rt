@@ -1,6 +1,6 @@
 //! The expressions of the form's translation, in a pool.
 
-ghost use Rattle.std.specs.Prelude.{◌≡◌, ◌<◌, true, length, IfOk, codes};
+ghost use Rattle.std.specs.Prelude.{◌≡◌, ◌<◌, true, length, IfOk};
 ghost use Rattle.tla_token.specs.Places.{start};
 ghost use Rattle.tla_tree.specs.Tree as tree;
 ghost use Rattle.tla_pool.specs.FormOf.{form_of};

@@ -1,6 +1,6 @@
 //! Reading procedures.
 
-ghost use Rattle.std.specs.Prelude.{◌≡◌, ℕ, ◌<◌, ◌≤◌, IfOk, length, map};
+ghost use Rattle.std.specs.Prelude.{ℕ, ◌<◌, ◌≤◌, IfOk, length, map};
 ghost use Rattle.tla_token.specs.declared.place.Place as placed;
 ghost use Rattle.tla_tree.specs.Pool.{Keeps};
 ghost use Rattle.expression_parts.specs.Ahead.{ahead};

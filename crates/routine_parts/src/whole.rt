@@ -1,6 +1,6 @@
 //! Reading a whole algorithm, by readers of what the two syntaxes spell in their own ways.
 
-ghost use Rattle.std.specs.Prelude.{◌≡◌, ℕ, ◌<◌, ◌≤◌, IfOk, length};
+ghost use Rattle.std.specs.Prelude.{ℕ, ◌<◌, ◌≤◌, IfOk, length};
 ghost use Rattle.tla_token.specs.declared.place.Place as placed;
 ghost use Rattle.tla_tree.specs.Pool.{Keeps};
 ghost use Rattle.expression_parts.specs.Ahead.{ahead};

@@ -1,6 +1,6 @@
 //! The words that each syntax has round the parts of an algorithm.
 
-ghost use Rattle.std.specs.Prelude.{◌≡◌, ◌++◌, codes, OnOk};
+ghost use Rattle.std.specs.Prelude.{◌≡◌, ◌++◌, OnOk};
 ghost use Rattle.pcal_tree.specs.Printed.{opening, middle, closing, define_end, last_line};
 ghost use Rattle.pcal_tree.specs.Syntaxes.{syntax_of};
 ghost use Rattle.syntax_print.specs.Adding.{head_start, head_end};

@@ -1,6 +1,6 @@
 //! The printed text of an algorithm, in either syntax.
 
-ghost use Rattle.std.specs.Prelude.{◌≡◌, ◌≤◌, ◌++◌, length, [], OnOk, IfOk};
+ghost use Rattle.std.specs.Prelude.{◌≡◌, ◌≤◌, ◌++◌, length, OnOk, IfOk};
 ghost use Rattle.pcal_tree.specs.Printed.{opening, algorithm_word, printed, PText, CText};
 ghost use Rattle.pcal_tree.specs.InMemory.{algorithm_at, past_algorithm};
 ghost use Rattle.pcal_tree.specs.Syntaxes.{syntax_of};

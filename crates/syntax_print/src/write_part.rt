@@ -1,7 +1,7 @@
 //! Parts of a printed line: names, declarations, expressions with commas between them.
 
 ghost use Rattle.std.specs.Prelude.{◌∷◌, ◌≡◌, ◌≤◌, ◌++◌, length, map, cond, nat_lt, [], codes, OnOk};
-ghost use Rattle.pcal_tree.specs.Printed.{blanks, start_text, declaration_text, declarations_text, names_text, listed, separated, bracketed, trees_texts, arguments_text, assignments_texts, binds_texts, parameters_text};
+ghost use Rattle.pcal_tree.specs.Printed.{blanks, start_text, declaration_text, declarations_text, names_text, listed, separated, trees_texts, arguments_text, assignments_texts, binds_texts, parameters_text};
 ghost use Rattle.pcal_tree.specs.InMemory.{start_at, declaration_at, declarations_at, assignments_at, binds_at, past_start, past_declaration, past_declarations, past_assignment, past_bind, past_binds, past_each, past_numbers};
 ghost use Rattle.tla_tree.specs.Pool.{at, trees_at};
 ghost use Rattle.tla_tree.specs.Written.{written};

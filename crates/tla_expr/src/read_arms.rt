@@ -1,6 +1,6 @@
 //! Reading the arms of `CASE`, over a reader of the expressions in them.
 
-ghost use Rattle.std.specs.Prelude.{◌≡◌, ◌<◌, ◌≤◌, suc, length, IfOk, Some};
+ghost use Rattle.std.specs.Prelude.{◌<◌, ◌≤◌, suc, length, IfOk, Some};
 ghost use Rattle.tla_tree.specs.Pool.{AllBelow, Keeps};
 ghost use Rattle.tla_tree.specs.Shapes.{CaseShaped};
 ghost use Rattle.tla_tree.specs.Spelling.{Phrase};

@@ -1,6 +1,6 @@
-//! Reading what comes in braces behind its first expression.
+//! Reading the condition of a filter, behind `{x \in S :`.
 
-ghost use Rattle.std.specs.Prelude.{◌≡◌, ◌<◌, ◌≤◌, suc, length, IfOk, Some};
+ghost use Rattle.std.specs.Prelude.{◌<◌, ◌≤◌, suc, length, IfOk, Some};
 ghost use Rattle.tla_token.specs.Limits.{deepest_expression};
 ghost use Rattle.tla_token.specs.TokensSeen.{span_bytes};
 ghost use Rattle.tla_tree.specs.Pool.{Keeps};

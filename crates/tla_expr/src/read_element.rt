@@ -1,6 +1,6 @@
 //! Reading the set behind `x \in` after `{` or `[`, beside the element that it may be instead.
 
-ghost use Rattle.std.specs.Prelude.{◌≡◌, ◌<◌, ◌≤◌, ◌+◌, ◌^◌, ℕ, suc, length, IfOk, OnErr, IfErr, IfSome, MatchOption, Option, Some, false};
+ghost use Rattle.std.specs.Prelude.{◌≡◌, ◌<◌, ◌≤◌, ◌+◌, ◌^◌, suc, length, IfOk, OnErr, IfErr, IfSome, MatchOption, Option, Some, false};
 ghost use Rattle.tla_token.specs.Limits.{deepest_expression};
 ghost use Rattle.tla_token.specs.TokensSeen.{span_bytes};
 ghost use Rattle.tla_token.specs.declared.rule.Rule.TheVariants as rule;

@@ -1,6 +1,6 @@
 //! Which form the next token begins.
 
-ghost use Rattle.std.specs.Prelude.{◌≡◌, ◌<◌, ◌≤◌, suc, true, false, length, Some, None};
+ghost use Rattle.std.specs.Prelude.{◌<◌, ◌≤◌, true, false, length, Some, None};
 ghost use Rattle.tla_token.specs.Limits.{deepest_expression, past_numbers};
 ghost use Rattle.tla_token.specs.Lexemes.{number_of};
 ghost use Rattle.tla_token.specs.TokensSeen.{span_bytes};

@@ -1,6 +1,6 @@
 //! Reading expressions from tokens, each part by the same reader where fewer forms may open.
 
-ghost use Rattle.std.specs.Prelude.{◌≡◌, ◌<◌, ◌≤◌, ◌+◌, ℕ, suc, length};
+ghost use Rattle.std.specs.Prelude.{◌<◌, ◌≤◌, length};
 ghost use Rattle.tla_token.specs.Limits.{deepest_expression};
 ghost use Rattle.tla_expr.specs.HasRead.{ReadsThere};
 ghost use Rattle.tla_expr.specs.Numbers.{NumbersFit};

@@ -1,6 +1,6 @@
 //! Reading applications and fields of a primary: `f[a]` and `r.b`.
 
-ghost use Rattle.std.specs.Prelude.{◌≡◌, ◌<◌, ◌≤◌, ◌+◌, ℕ, suc, length, IfOk, IfSome, Some};
+ghost use Rattle.std.specs.Prelude.{◌<◌, ◌≤◌, ◌+◌, suc, length, IfOk, IfSome, Some};
 ghost use Rattle.tla_token.specs.Limits.{deepest_expression};
 ghost use Rattle.tla_tree.specs.Pool.{Keeps};
 ghost use Rattle.tla_tree.specs.Spelling.{Phrase};

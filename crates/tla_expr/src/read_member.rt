@@ -1,4 +1,4 @@
-//! Reading sets in braces: behind `{x \in S`, and from their first token on.
+//! Reading what comes in braces behind `{x \in`.
 
 ghost use Rattle.std.specs.Prelude.{◌≡◌, ◌<◌, ◌≤◌, suc, length, IfOk, Some, MatchOption};
 ghost use Rattle.tla_token.specs.Limits.{deepest_expression};

@@ -1,6 +1,6 @@
 //! Reading what a name begins.
 
-ghost use Rattle.std.specs.Prelude.{◌≡◌, ◌≤◌, length, Some};
+ghost use Rattle.std.specs.Prelude.{◌≤◌, length, Some};
 ghost use Rattle.tla_token.specs.Limits.{deepest_expression};
 ghost use Rattle.tla_token.specs.TokensSeen.{span_bytes};
 ghost use Rattle.tla_tree.specs.Reader as reader;

@@ -1,7 +1,6 @@
 //! Reading the path of a setting: `[a, b].c`.
 
-ghost use Rattle.std.specs.Prelude.{◌≡◌, ◌<◌, ◌≤◌, suc, length, IfOk, Some};
-ghost use Rattle.tla_token.specs.Limits.{deepest_expression};
+ghost use Rattle.std.specs.Prelude.{◌<◌, ◌≤◌, suc, length, IfOk, Some};
 ghost use Rattle.tla_tree.specs.Pool.{Keeps};
 ghost use Rattle.tla_tree.specs.Whole.{whole};
 ghost use Rattle.tla_pool.specs.FormOf.{steps_of};

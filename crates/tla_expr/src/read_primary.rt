@@ -1,6 +1,6 @@
 //! Reading primaries with what comes after them, from their first token on.
 
-ghost use Rattle.std.specs.Prelude.{◌≡◌, ◌≤◌, suc, length, Some};
+ghost use Rattle.std.specs.Prelude.{◌≤◌, suc, length, Some};
 ghost use Rattle.tla_token.specs.Limits.{deepest_expression};
 ghost use Rattle.tla_tree.specs.Lexical as tk;
 ghost use Rattle.tla_tree.specs.Reader as reader;

@@ -1,6 +1,6 @@
 //! Reading records and sets of records behind the name of their first field, in square brackets.
 
-ghost use Rattle.std.specs.Prelude.{◌≡◌, ◌<◌, ◌≤◌, suc, length, Some};
+ghost use Rattle.std.specs.Prelude.{◌<◌, ◌≤◌, suc, length, Some};
 ghost use Rattle.tla_token.specs.Limits.{deepest_expression};
 ghost use Rattle.tla_tree.specs.Reader as reader;
 ghost use Rattle.tla_tree.specs.Whole.{whole};

@@ -1,6 +1,6 @@
 //! Reading expressions in a row.
 
-ghost use Rattle.std.specs.Prelude.{◌≡◌, ◌<◌, ◌≤◌, suc, length, IfOk, Some};
+ghost use Rattle.std.specs.Prelude.{◌<◌, ◌≤◌, suc, length, IfOk, Some};
 ghost use Rattle.tla_tree.specs.Pool.{AllBelow, Keeps};
 ghost use Rattle.tla_tree.specs.Whole.{whole};
 ghost use Rattle.expression_parts.specs.Ahead.{ahead};

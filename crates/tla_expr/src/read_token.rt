@@ -1,6 +1,6 @@
 //! Reading primaries of one token, with what comes after them.
 
-ghost use Rattle.std.specs.Prelude.{◌≡◌, ◌<◌, ◌≤◌, [], unwrap_or, length, Some};
+ghost use Rattle.std.specs.Prelude.{◌<◌, ◌≤◌, [], unwrap_or, length, Some};
 ghost use Rattle.tla_token.specs.Limits.{deepest_expression, past_numbers};
 ghost use Rattle.tla_token.specs.TokensSeen.{span_bytes};
 ghost use Rattle.tla_token.specs.Lexemes.{unquoted};

@@ -1,6 +1,6 @@
 //! Laws of expressions, stated as what functions without a body ensure.
 
-ghost use Rattle.std.specs.Prelude.{◌≡◌, ◌⊎◌, ◌++◌, ℕ, ◌+◌, ◌*◌, ◌<◌, ◌≤◌, Bool, true, false, List, [], ◌∷◌, length, map, get_or, Some, None, Ok, Err};
+ghost use Rattle.std.specs.Prelude.{◌≡◌, ◌⊎◌, ◌++◌, ℕ, ◌+◌, ◌*◌, ◌≤◌, Bool, true, false, List, [], ◌∷◌, length, map, get_or, Some, None, Ok, Err};
 ghost use Rattle.tla_tree.specs.Tree.{Word, Tree, Graft, graft};
 ghost use Rattle.tla_tree.specs.Lexical.{Token};
 ghost use Rattle.tla_tree.specs.Spelling.{Phrase, spell, tree_of, Good, IsGood, Spells, head, primary, end_list};
@@ -8,10 +8,9 @@ ghost use Rattle.tla_tree.specs.Reader.{read, read_limited};
 ghost use Rattle.tla_token.specs.declared.place.Place.{Place};
 ghost use Rattle.tla_token.specs.declared.rule.Refusal.{Refusal};
 ghost use Rattle.tla_token.specs.declared.rule.Rule.{Rule};
-ghost use Rattle.tla_token.specs.declared.rule.Rule.TheVariants.{TooDeep, Syntax};
 ghost use Rattle.tla_token.specs.Limits.{deepest_expression};
 ghost use Rattle.tla_tree.specs.Nesting.{counts, text_nesting};
-ghost use Rattle.tla_tree.specs.FirstStop.{looks, to_end, Begins, Passes, StopsAt, phrases, Completes, ReadsExpression, RefusesExpression};
+ghost use Rattle.tla_tree.specs.FirstStop.{looks, Begins, phrases, Completes, ReadsExpression, RefusesExpression};
 ghost use Rattle.tla_tree.specs.laws.Columns.{lineless};
 ghost use Rattle.tla_tree.specs.Written.{pieces, written};
 ghost use Rattle.tla_token.specs.Tokens as text;

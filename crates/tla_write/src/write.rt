@@ -3,15 +3,13 @@
 ghost use Rattle.std.specs.Prelude.{◌≡◌, ◌<◌, ◌≤◌, ◌+◌, ◌++◌, decimal, ◌∷◌, [], suc, true, drop, length, IfOk, OnOk, OnErr};
 ghost use Rattle.tla_pool.specs.FormOf.{steps_of, slots_of, strict_of, groups_of, form_of};
 ghost use Rattle.tla_tree.specs.Lexical as tk;
-ghost use Rattle.tla_tree.specs.Lexical.{token_text, op_text, escaped, escapes};
-ghost use Rattle.tla_tree.specs.Shapes.{Shaped, StrictShaped, BinderShaped, CaseShaped, HavePaths, operands, subscripts, settings};
+ghost use Rattle.tla_tree.specs.Lexical.{token_text, op_text, escaped};
+ghost use Rattle.tla_tree.specs.Shapes.{Shaped, StrictShaped, CaseShaped, operands, subscripts, settings};
 ghost use Rattle.tla_tree.specs.Rank.{is_prefix};
 ghost use Rattle.tla_tree.specs.Written as pure;
-ghost use Rattle.tla_tree.specs.Written.{spaced, prefix_sign, infix_sign, infix_pieces, listed, field_pieces, name_pieces, bind_pieces, binding_pieces, definition_pieces, local_pieces, path_pieces, slot_pieces, strict_pieces, arm_pieces, form_pieces, part, written, text_of, as_operand};
+ghost use Rattle.tla_tree.specs.Written.{spaced, prefix_sign, infix_sign, infix_pieces, listed, field_pieces, name_pieces, bind_pieces, binding_pieces, definition_pieces, local_pieces, strict_pieces, arm_pieces, form_pieces, part, written, text_of, as_operand};
 ghost use Rattle.tla_write.specs.Writing.{fixed_token, item_pieces, Adds, Puts, PutsPath, slots_behind, PutsArms, IsTwice, comma_items, blank_items, box_items, parts_of, Writes};
-ghost use Rattle.tla_tree.specs.TreeOf.{root_form};
 ghost use Rattle.tla_tree.specs.Pool.{at};
-ghost use Rattle.tla_tree.specs.Tree.{size};
 ghost use Rattle.tla_write.specs.declared.write.Item.TheVariants.{Blank};
 
 use std::alloc::{AllocError, Global};
