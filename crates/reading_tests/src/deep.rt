@@ -3,8 +3,8 @@
 use crate::reading::{Shown, told};
 use std::alloc::{AllocError, Global};
 
-// So many times what is before an `x` and what is behind it: how many tokens are read, and where it is refused if it stands there once more.
-const NESTED: [(usize, &str, &str, &str, &str); 49] = [
+// So many times what is before an `x` and what is behind it: how many tokens are read, or where it is refused, and where if it stands there once more.
+const NESTED: [(usize, &str, &str, &str, &str); 53] = [
     (200, "(", ")", "401 ", "1:201: 14 TooDeep"),
     (200, "{", "}", "401 ", "1:201: 14 TooDeep"),
     (200, "<<", ">>", "401 ", "1:401: 14 TooDeep"),
@@ -78,6 +78,10 @@ const NESTED: [(usize, &str, &str, &str, &str); 49] = [
     (100, "a => /\\ ", "", "301 ", "1:803: 14 TooDeep"),
     (100, "{y \\in ", "}", "401 ", "1:808: 14 TooDeep"),
     (200, "/\\ x\n", "", "400 ", "201:1: 14 TooDeep"),
+    (200, "(", "]", "1:202: 15 Syntax", "1:201: 14 TooDeep"),
+    (100, "[y \\in ", " -> z]", "601 ", "1:1304: 14 TooDeep"),
+    (100, "[y \\in ", " EXCEPT !.a = 1]", "1001 ", "1:2294: 14 TooDeep"),
+    (100, "{y \\in ", ", z}", "601 ", "1:1105: 14 TooDeep"),
 ];
 
 fn nested(alloc: Global, n: usize, before: &str, behind: &str) -> Result<Vec<u8>, AllocError> {

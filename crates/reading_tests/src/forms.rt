@@ -1,10 +1,10 @@
 //! Every form of expression.
 
-use crate::reading::rows_hold;
+use crate::reading::{Shown, rows_hold, told_from};
 use std::alloc::AllocError;
 
 // Numbers, strings, names, calls, applications, tuples.
-const PRIMARIES: [(&str, &str); 41] = [
+const PRIMARIES: [(&str, &str); 42] = [
     ("907", "1 907"),
     ("007", "1 7"),
     (
@@ -52,6 +52,7 @@ const PRIMARIES: [(&str, &str); 41] = [
         "<<a => b, \\E x \\in S : p>>",
         "12 <<a => b, \\E x \\in S : p>>",
     ),
+    ("\"\\f\\r\"", "1 \"\\f\\r\""),
 ];
 
 // Sets.
@@ -356,6 +357,16 @@ const WRITTEN: [(&str, &str); 15] = [
     ("1 \\div y", "3 1 \\div y"),
 ];
 
+// A text, the number of a token, and what is read from it on.
+const FROM: [(&str, usize, &str); 6] = [
+    ("x := a + b; c", 2, "3 a + b"),
+    ("x := a + b; c", 4, "1 b"),
+    ("x := a + b; c", 6, "1 c"),
+    ("x := a + b; c", 1, "1:3: 15 Syntax"),
+    ("x := a + b; c", 7, "1:14: 15 Syntax"),
+    ("/\\ a\n/\\ b", 2, "2 b"),
+];
+
 #[test]
 fn forms_are_read(rt: HostRuntime) -> Result<(), AllocError> {
     rows_hold(&rt, rt.alloc(), &PRIMARIES)?;
@@ -363,4 +374,14 @@ fn forms_are_read(rt: HostRuntime) -> Result<(), AllocError> {
     rows_hold(&rt, rt.alloc(), &SQUARES)?;
     rows_hold(&rt, rt.alloc(), &OPENED)?;
     rows_hold(&rt, rt.alloc(), &WRITTEN)
+}
+
+#[test]
+fn expressions_are_read_from_a_token_on(rt: HostRuntime) -> Result<(), AllocError> {
+    let alloc = rt.alloc();
+    for (text, at, wanted) in &FROM {
+        let shown = told_from(alloc, text.as_bytes(), *at, Shown::Tree)?;
+        assert_eq!(rt; shown.bytes(), wanted.as_bytes(), "{text} {at}");
+    }
+    Ok(())
 }

@@ -4,7 +4,7 @@ use crate::reading::rows_hold;
 use std::alloc::AllocError;
 
 // Columns count.
-const LISTS: [(&str, &str); 68] = [
+const LISTS: [(&str, &str); 74] = [
     ("/\\ a\n/\\ b", "4 a /\\ b"),
     ("/\\ a", "2 a"),
     ("\\/ a\n\\/ b\n\\/ c", "6 (a \\/ b) \\/ c"),
@@ -118,6 +118,12 @@ const LISTS: [(&str, &str); 68] = [
     ("/\\ CASE a -> b\n[] c -> d", "5 CASE a -> b"),
     ("CASE /\\ a\n     /\\ b -> c", "7 CASE (a /\\ b) -> c"),
     ("  /\\ a\n b", "2 a"),
+    ("  /\\ IF p THEN a ELSE b\n => c", "9 (IF p THEN a ELSE b) => c"),
+    ("x = /\\ IF p THEN a ELSE b\n=> c", "11 (x = (IF p THEN a ELSE b)) => c"),
+    ("/\\ \\A x \\in S : p\n\\/ q", "9 (\\A x \\in S : p) \\/ q"),
+    ("\\A x \\in S : /\\ p\n             /\\ q\n => r", "11 \\A x \\in S : (p /\\ q) => r"),
+    ("CASE a -> /\\ CASE b -> c\n          [] OTHER -> d", "12 CASE a -> (CASE b -> c) [] OTHER -> d"),
+    ("CASE a -> /\\ (CASE b -> c)\n           [] d -> e", "14 CASE a -> (CASE b -> c) [] d -> e"),
 ];
 
 #[test]

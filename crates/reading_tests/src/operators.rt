@@ -4,7 +4,7 @@ use crate::reading::rows_hold;
 use std::alloc::AllocError;
 
 // Between two operands.
-const RANKS: [(&str, &str); 47] = [
+const RANKS: [(&str, &str); 49] = [
     ("a", "1 a"),
     ("a + b - c", "5 a + (b - c)"),
     ("a - b + c", "5 (a - b) + c"),
@@ -58,10 +58,12 @@ const RANKS: [(&str, &str); 47] = [
         "a * b - c + d .. e \\cup f :> g @@ h = i /\\ j <=> k => l",
         "23 ((((((((((a * b) - c) + d)..e) \\cup f) :> g) @@ h) = i) /\\ j) <=> k) => l",
     ),
+    ("a + IF p THEN b ELSE c < d < e", "10 a + (IF p THEN b ELSE c < d)"),
+    ("\\A x \\in S : p = q = r", "8 \\A x \\in S : p = q"),
 ];
 
 // Before one.
-const PREFIXES: [(&str, &str); 37] = [
+const PREFIXES: [(&str, &str); 40] = [
     ("-a * b", "4 -(a * b)"),
     ("a * -b", "4 a * (-b)"),
     ("a * -b * c", "6 (a * (-b)) * c"),
@@ -99,6 +101,9 @@ const PREFIXES: [(&str, &str); 37] = [
     ("~ \\E x \\in S : p", "7 ~(\\E x \\in S : p)"),
     ("-IF p THEN a ELSE b + c", "9 -(IF p THEN a ELSE b + c)"),
     ("a - -IF p THEN b ELSE c", "9 a - (-(IF p THEN b ELSE c))"),
+    ("-IF p THEN a ELSE b < c < d", "9 -(IF p THEN a ELSE b < c)"),
+    ("-1..1", "4 (-1)..1"),
+    ("1..-1", "4 1..(-1)"),
 ];
 
 // However they are spelled, and signs that end an expression.

@@ -13,7 +13,7 @@ const FORMS: [(usize, &str); 5] = [
 ];
 
 // How many tokens are before a form and behind it, what these are, and what is written before it and behind it.
-const PLACES: [(usize, &str, &str, &str, &str); 79] = [
+const PLACES: [(usize, &str, &str, &str, &str); 89] = [
     (2, "a => ", "", "a => (", ")"),
     (2, "a <=> ", "", "a <=> (", ")"),
     (2, "a /\\ ", "", "a /\\ (", ")"),
@@ -111,6 +111,16 @@ const PLACES: [(usize, &str, &str, &str, &str); 79] = [
         "[f EXCEPT !.a = ",
         ", !.b = z]",
     ),
+    (7, "CASE p -> z [] ", " -> w", "CASE p -> z [] (", ") -> w"),
+    (7, "CASE p -> z [] w -> ", "", "CASE p -> z [] w -> (", ")"),
+    (6, "[x \\in ", " -> S]", "[x \\in (", ") -> S]"),
+    (10, "[x \\in ", " EXCEPT !.a = z]", "[(x \\in (", ")) EXCEPT !.a = z]"),
+    (6, "{x \\in ", ", z}", "{x \\in (", "), z}"),
+    (10, "[x \\in S, y \\in ", " |-> z]", "[x \\in S, y \\in (", ") |-> z]"),
+    (10, "{z : x \\in S, w \\in ", "}", "{z : x \\in S, w \\in (", ")}"),
+    (11, "[f EXCEPT ![z, ", "] = w]", "[f EXCEPT ![<<z, ", ">>] = w]"),
+    (12, "[f EXCEPT ![z][", "] = w]", "[f EXCEPT ![z][", "] = w]"),
+    (8, "[a : S, b : ", "]", "[a : S, b : ", "]"),
 ];
 
 // How the form is told in the place, and whether so.

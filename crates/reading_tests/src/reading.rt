@@ -11,14 +11,17 @@ use tla_pool::Pool;
 use tla_token::{Stop, tokens};
 use tla_tree::{NodeId, Text};
 
-// The expression in front of a text, by its number, and how many tokens it has.
-fn read(alloc: Global, text: &[u8], pool: &mut Pool) -> Result<(NodeId, usize), Stop>
+// The expression from a token of a text on, by its number, and how many tokens it has.
+fn read(alloc: Global, text: &[u8], at: usize, pool: &mut Pool) -> Result<(NodeId, usize), Stop>
     requires { length text.now < past_text }
     ensures { IfOk result (λ x. x.0 < length pool.new) }
 {
     let tokens = tokens(alloc, text, 0, text.len())?;
     given_numbers_fit();
-    read_expr(alloc, &tokens, 0, pool)
+    if tokens.items.len() < at {
+        return Err(Stop::Memory);
+    }
+    read_expr(alloc, &tokens, at, pool)
 }
 
 /// What is told of an expression that is read.
@@ -36,12 +39,26 @@ pub enum Shown {
 ///
 /// Only for want of memory.
 pub fn told(alloc: Global, text: &[u8], shown: Shown) -> Result<Text, AllocError> {
+    told_from(alloc, text, 0, shown)
+}
+
+/// What is read from a token of a text on, or its refusal.
+///
+/// # Errors
+///
+/// Only for want of memory.
+pub fn told_from(
+    alloc: Global,
+    text: &[u8],
+    at: usize,
+    shown: Shown,
+) -> Result<Text, AllocError> {
     let mut pool = Pool::new(alloc);
     let mut out = Text::new(Vec::new(alloc));
     if text.len() > 10000 {
         return Ok(out);
     }
-    match read(alloc, text, &mut pool) {
+    match read(alloc, text, at, &mut pool) {
         Ok((e, n)) => {
             out.extend(format!(in alloc; "{n} ")?.as_bytes())?;
             if shown == Shown::Tree {

@@ -4,7 +4,7 @@ use crate::reading::rows_hold;
 use std::alloc::AllocError;
 
 // The first token that no expression has there.
-const REFUSED: [(&str, &str); 155] = [
+const REFUSED: [(&str, &str); 159] = [
     ("", "1:1: 15 Syntax"),
     ("a +", "1:4: 15 Syntax"),
     (")", "1:1: 15 Syntax"),
@@ -163,6 +163,10 @@ const REFUSED: [(&str, &str); 155] = [
     ("\\A self \\in {1, 2} : WF_vars(a)", "1:22: 15 Syntax"),
     ("a * - \\E x \\in S : p", "1:7: 15 Syntax"),
     ("a \\in ~ LET x == 1 IN x", "1:9: 15 Syntax"),
+    ("\\A begin \\in S : p", "1:4: 15 Syntax"),
+    ("{begin \\in S : p}", "1:2: 15 Syntax"),
+    ("[IF |-> 1]", "1:5: 15 Syntax"),
+    ("[f EXCEPT !.IF = 1]", "1:13: 15 Syntax"),
 ];
 
 #[test]
