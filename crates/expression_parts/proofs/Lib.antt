@@ -5,3 +5,4 @@ pub mod ElementLemmas
 pub mod DepthLemmas
 pub mod QuoteLemmas
 pub mod AheadLemmas
+pub mod PlaceLemmas

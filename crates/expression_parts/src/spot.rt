@@ -5,7 +5,7 @@ ghost use Rattle.tla_tree.specs.Lexical.{token};
 ghost use Rattle.tla_tree.specs.Reader as reader;
 ghost use Rattle.expression_parts.specs.ViewSeen.{mark_seen, key_seen, view_seen};
 ghost use Rattle.expression_parts.specs.ReadIn.{Gives, word_seen, field_seen};
-ghost use Rattle.expression_parts.specs.Ahead.{ahead};
+ghost use Rattle.expression_parts.specs.Ahead.{ahead, place_before};
 ghost use Rattle.expression_parts.specs.declared.cursor.Halt.TheVariants as halt;
 ghost use Rattle.tla_token.specs.declared.rule.Rule.TheVariants as rule;
 
@@ -36,6 +36,19 @@ pub fn refused(tokens: &Tokens, s: Spot, rule: Rule) -> Halt
     ensures { result ≡ halt.Refused rule (length (ahead tokens.now s.at)) }
 {
     Halt::Refused(rule, tokens.items.len() - s.at)
+}
+
+/// The place of the token from which on so many are left, or of the end.
+#[tactic(auto, using(crate::proofs::PlaceLemmas::place_there, crate::proofs::PlaceLemmas::place_behind))]
+pub fn place_before(tokens: &Tokens, left: usize) -> Place
+    ensures { result ≡ place_before tokens.now left }
+{
+    let at = tokens.items.len().saturating_sub(left);
+    if at < tokens.items.len() {
+        tokens.items[at].place
+    } else {
+        tokens.end
+    }
 }
 
 /// The number of the token after that, if there is one.

@@ -18,7 +18,7 @@ use Rattle.tla_tree.specs.FirstStop.{Look, Grammar, StopRule, to_end}
 use Rattle.expression_parts.specs.declared.cursor.Halt.{Halt}
 use Rattle.expression_parts.specs.declared.cursor.Halt.TheVariants as halt
 use Rattle.expression_parts.specs.ReadIn.{seen, Fails}
-use Rattle.expression_parts.specs.Ahead.{ahead}
+use Rattle.expression_parts.specs.Ahead.{ahead, place_before}
 use Rattle.pcal_tree.specs.declared.algorithm.Algorithm as code
 use Rattle.pcal_tree.specs.Algorithm.{Algorithm}
 use Rattle.pcal_tree.specs.AlgorithmTokens.{view, views}
@@ -33,7 +33,7 @@ use Rattle.algorithm_limits.proofs.LeftOutFirst.{IsLeftOut, AreLater, counts_lat
 use Rattle.algorithm_parts.specs.PartsRead.{ReadsPart}
 use Rattle.algorithm_parts.proofs.StopsOf.{place_at}
 use Rattle.algorithm_parts.proofs.StopsWithin.{ReadsWithin, limited_passes, refused_through, is_refused_there, one_of_both}
-use Rattle.routine_parts.specs.AnsweredRead.{place_before, Answers, AnswersRead}
+use Rattle.routine_parts.specs.AnsweredRead.{Answers, AnswersRead}
 
 -- ---- tokens in memory, as both grammars see them
 

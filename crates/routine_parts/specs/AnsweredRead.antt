@@ -1,11 +1,10 @@
 -- What is wrong with the tokens of an algorithm by what code read of them: the place at which reading stopped, and the one offence that counts.
-use Rattle.std.specs.Prelude.{◌≡◌, ℕ, ◌-◌, List, [], ◌∷◌, ◌++◌, length, map, get_or, Option, Result, Ok, Err}
-use Rattle.tla_token.specs.declared.place.Place.{Place}
+use Rattle.std.specs.Prelude.{◌≡◌, ℕ, List, [], ◌∷◌, ◌++◌, Option, Result, Ok, Err}
 use Rattle.tla_token.specs.declared.rule.Refusal.{Refusal}
-use Rattle.tla_token.specs.declared.token.Token as code_token
 use Rattle.tla_token.specs.declared.token.Tokens.{Tokens}
 use Rattle.tla_token.specs.TokensSeen.{tokens_seen}
 use Rattle.tla_tree.specs.Tree.{Tree}
+use Rattle.expression_parts.specs.Ahead.{place_before}
 use Rattle.expression_parts.specs.declared.cursor.Halt.{Halt}
 use Rattle.expression_parts.specs.declared.cursor.Halt.TheVariants as halt
 use Rattle.pcal_tree.specs.declared.algorithm.Algorithm.{Algorithm}
@@ -13,10 +12,6 @@ use Rattle.pcal_tree.specs.InMemory.{algorithm_at}
 use Rattle.pcal_tree.specs.Offences.{first}
 use Rattle.pcal_tree.specs.OffencesCounts.{count_offences}
 use Rattle.algorithm_limits.specs.TokensRefused.{token_refusals}
-
--- the place of the token from which on so many are left, or of the end
-abbrev pub place_before : Tokens → ℕ → Place
-place_before v n = get_or (map (λ (t : code_token.Token). t.place) v.items.items) (length v.items.items - n) v.end
 
 -- of what tokens offend one by one and of these offences, the one that counts, if there is any
 abbrev pub Answers : Tokens → List Refusal → Option Refusal → Type 0

@@ -4,27 +4,16 @@ ghost use Rattle.std.specs.Prelude.{◌≡◌, ℕ, ◌≤◌, length, None, Som
 ghost use Rattle.tla_token.specs.declared.rule.Refusal as code;
 ghost use Rattle.tla_token.specs.declared.rule.Stop.TheVariants as stop;
 ghost use Rattle.pcal_tree.specs.InMemory.{past_algorithm};
-ghost use Rattle.routine_parts.specs.AnsweredRead.{place_before, AnswersRead};
+ghost use Rattle.expression_parts.specs.Ahead.{place_before};
+ghost use Rattle.routine_parts.specs.AnsweredRead.{AnswersRead};
 
 use algorithm_limits::within_limits;
 use expression_parts::cursor::Halt;
+use expression_parts::spot::place_before;
 use pcal_tree::algorithm::Algorithm;
 use std::alloc::Global;
 use tla_pool::Pool;
-use tla_token::{Place, Refusal, Rule, Stop, Tokens};
-
-// The place of the token from which on so many are left, or of the end.
-#[tactic(auto, using(tla_expr::proofs::ReadExpression::place_there, tla_expr::proofs::ReadExpression::place_behind))]
-fn place_before(tokens: &Tokens, left: usize) -> Place
-    ensures { result ≡ place_before tokens.now left }
-{
-    let at = tokens.items.len().saturating_sub(left);
-    if at < tokens.items.len() {
-        tokens.items[at].place
-    } else {
-        tokens.end
-    }
-}
+use tla_token::{Refusal, Rule, Stop, Tokens};
 
 // Refused by this rule, where so many tokens are left.
 fn refused_before(tokens: &Tokens, rule: Rule, left: usize) -> Stop

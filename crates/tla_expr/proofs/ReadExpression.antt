@@ -1,6 +1,6 @@
 -- An expression from a token on, by how many tokens it has, and where it is refused.
-use Rattle.std.proofs.Common.{◌≡◌, ℕ, zero, suc, ◌+◌, ◌-◌, ◌<◌, ◌≤◌, List, [], ◌∷◌, length, map, drop, get_or, Result, Ok, Err, Some, refl, sym, ap, ◌∙◌, subst, length-append, arith}
-use Rattle.std.proofs.lemmas.List.{length-drop, drop-map, get_or-drop, get_or-map}
+use Rattle.std.proofs.Common.{◌≡◌, ℕ, suc, ◌+◌, ◌-◌, ◌≤◌, List, [], ◌∷◌, length, map, drop, get_or, Result, Ok, Err, Some, refl, sym, ap, ◌∙◌, subst, length-append, arith}
+use Rattle.std.proofs.lemmas.List.{length-drop, drop-map, get_or-drop}
 use Rattle.tla_token.specs.declared.place.Place.{Place}
 use Rattle.tla_token.specs.declared.rule.Rule.{Rule}
 use Rattle.tla_token.specs.declared.rule.Refusal.{Refusal}
@@ -29,14 +29,6 @@ use Rattle.expression_parts.specs.Ahead.{ahead}
 -- ---- places
 abbrev places : List code_token.Token → List Place
 places ts = map (λ (t : code_token.Token). t.place) ts
-
-pub place_there : (ts : List code_token.Token) (i : ℕ) (t : code_token.Token) (end : Place) → i < length ts → get_or (places ts) i end ≡ (get_or ts i t).place
-place_there ts i t end h = get_or-map (λ (t : code_token.Token). t.place) ts i t end h
-
-pub place_behind : (ts : List code_token.Token) (i : ℕ) (end : Place) → length ts ≤ i → get_or (places ts) i end ≡ end
-place_behind [] i end h = refl
-place_behind (t ∷ ts) zero end h = absurd (omega (arith, h))
-place_behind (t ∷ ts) (suc i) end h = place_behind ts i end (omega (arith, h))
 
 -- as they are seen, they have the same places
 places_seen : (bytes : List ℕ) (ts : List code_token.Token) → map (λ (t : Token). t.place) (seen bytes ts) ≡ places ts

@@ -1,9 +1,8 @@
 //! Reading an expression from a token on, or where it is refused.
 
-ghost use Rattle.std.specs.Prelude.{◌≡◌, ◌<◌, ◌≤◌, ◌+◌, ◌-◌, length, map, get_or, IfOk, Err};
+ghost use Rattle.std.specs.Prelude.{◌≡◌, ◌<◌, ◌≤◌, ◌+◌, length, IfOk, Err};
 ghost use Rattle.tla_token.specs.declared.rule.Refusal as code;
 ghost use Rattle.tla_token.specs.declared.rule.Stop.TheVariants as stop;
-ghost use Rattle.tla_token.specs.declared.token.Token as code_token;
 ghost use Rattle.tla_tree.specs.Pool.{at as tree_at, Keeps};
 ghost use Rattle.tla_tree.specs.FirstStop.{ReadsExpression, RefusesExpression};
 ghost use Rattle.expression_parts.specs.Ahead.{ahead};
@@ -12,10 +11,10 @@ ghost use Rattle.tla_expr.specs.Numbers.{NumbersFit};
 use crate::read_knot::read_at;
 use expression_parts::cursor::Halt;
 use expression_parts::shape::Context;
-use expression_parts::spot::Spot;
+use expression_parts::spot::{Spot, place_before};
 use std::alloc::Global;
 use tla_pool::Pool;
-use tla_token::{Place, Refusal, Stop, Tokens};
+use tla_token::{Refusal, Stop, Tokens};
 use tla_tree::NodeId;
 
 // How many forms may be open at a token.
@@ -54,18 +53,5 @@ pub fn read_expr(
             rule,
             place: place_before(tokens, left),
         })),
-    }
-}
-
-// The place of the token from which on so many are left, or of the end.
-#[tactic(auto, using(crate::proofs::ReadExpression::place_there, crate::proofs::ReadExpression::place_behind))]
-fn place_before(tokens: &Tokens, left: usize) -> Place
-    ensures { result ≡ get_or (map (λ (t : code_token.Token). t.place) tokens.now.items.items) (length tokens.now.items.items - left) tokens.now.end }
-{
-    let at = tokens.items.len().saturating_sub(left);
-    if at < tokens.items.len() {
-        tokens.items[at].place
-    } else {
-        tokens.end
     }
 }
