@@ -1,3 +1,4 @@
 pub mod PoolGrown
 pub mod DoneLemmas
 mod RowsPool
+mod SameLists

@@ -107,16 +107,19 @@ impl Step {
     }
 }
 
+#[tactic(auto, using(crate::proofs::SameLists::same_at))]
 fn same_steps(xs: &[Step], ys: &[Step]) -> bool
     ensures { IsTrue result ↔ (steps_of xs.now ≡ steps_of ys.now) }
 {
-    match xs.split_first() {
-        None => ys.is_empty(),
-        Some((x, xs)) => match ys.split_first() {
-            None => false,
-            Some((y, ys)) => x.is(y) && same_steps(xs, ys),
-        },
+    if xs.len() != ys.len() {
+        return false;
     }
+    for i in 0..xs.len() {
+        if !xs[i].is(&ys[i]) {
+            return false;
+        }
+    }
+    true
 }
 
 fn copied_steps(alloc: Global, steps: &[Step]) -> Result<Vec<Step>, AllocError>
@@ -149,16 +152,19 @@ impl Slot {
     }
 }
 
+#[tactic(auto, using(crate::proofs::SameLists::same_at))]
 fn same_slots(xs: &[Slot], ys: &[Slot]) -> bool
     ensures { IsTrue result ↔ (slots_of xs.now ≡ slots_of ys.now) }
 {
-    match xs.split_first() {
-        None => ys.is_empty(),
-        Some((x, xs)) => match ys.split_first() {
-            None => false,
-            Some((y, ys)) => x.is(y) && same_slots(xs, ys),
-        },
+    if xs.len() != ys.len() {
+        return false;
     }
+    for i in 0..xs.len() {
+        if !xs[i].is(&ys[i]) {
+            return false;
+        }
+    }
+    true
 }
 
 fn copied_slots(alloc: Global, slots: &[Slot]) -> Result<Vec<Slot>, AllocError>
@@ -225,25 +231,30 @@ impl Strict {
 fn same_names(xs: &[PlacedName], ys: &[PlacedName]) -> bool
     ensures { IsTrue result ↔ (xs.now ≡ ys.now) }
 {
-    match xs.split_first() {
-        None => ys.is_empty(),
-        Some((x, xs)) => match ys.split_first() {
-            None => false,
-            Some((y, ys)) => x.is(y) && same_names(xs, ys),
-        },
+    if xs.len() != ys.len() {
+        return false;
     }
+    for i in 0..xs.len() {
+        if !xs[i].is(&ys[i]) {
+            return false;
+        }
+    }
+    true
 }
 
+#[tactic(auto, using(crate::proofs::SameLists::same_at))]
 fn same_groups(xs: &[Vec<PlacedName>], ys: &[Vec<PlacedName>]) -> bool
     ensures { IsTrue result ↔ (groups_of xs.now ≡ groups_of ys.now) }
 {
-    match xs.split_first() {
-        None => ys.is_empty(),
-        Some((x, xs)) => match ys.split_first() {
-            None => false,
-            Some((y, ys)) => same_names(x, y) && same_groups(xs, ys),
-        },
+    if xs.len() != ys.len() {
+        return false;
     }
+    for i in 0..xs.len() {
+        if !same_names(&xs[i], &ys[i]) {
+            return false;
+        }
+    }
+    true
 }
 
 fn copied_names(alloc: Global, names: &[PlacedName]) -> Result<Vec<PlacedName>, AllocError>

@@ -1,0 +1,6 @@
+-- What the loop of `same_names` keeps.
+use Rattle.std.proofs.Common.{◌≡◌, take}
+use Rattle.tla_pool.proofs.form.same_names.Given as goal
+
+abbrev pub invariant-loop-i : goal.invariant-loop-i
+invariant-loop-i l = take l.i l.xs ≡ take l.i l.ys
