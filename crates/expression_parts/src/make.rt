@@ -74,9 +74,9 @@ pub fn operation(op: Op) -> Form
     ensures { form_of result ≡ operation_of op }
 {
     match op {
-        Op::And => Form::Both,
-        Op::Or => Form::OrElse,
-        Op::Implies => Form::Implies,
+        Op::And => Form::Conjunction,
+        Op::Or => Form::Disjunction,
+        Op::Implies => Form::Implication,
         Op::In => Form::Member(true),
         Op::NotIn => Form::Member(false),
         _ => Form::Strict(Strict::Operator(op)),
@@ -117,7 +117,7 @@ pub fn string(
     ensures within { IfOk result (λ x. x.id < length pool.new) }
     ensures kept { Keeps pool.old pool.new }
 {
-    let form = Form::Quote(unquoted(alloc, tokens.word(span))?);
+    let form = Form::String(unquoted(alloc, tokens.word(span))?);
     put(pool, form, place, Vec::new(alloc), primary_shape(place, 0))
 }
 
@@ -415,5 +415,5 @@ pub fn choice(
     let nesting = larger(larger(a.shape.nesting, b.shape.nesting), c.shape.nesting);
     let parts = Vec::from_array(alloc, [a.id, b.id, c.id])?;
     let shape = open_shape(place, c.shape.boxes, 1 + nesting);
-    put(pool, Form::Choice, place, parts, shape)
+    put(pool, Form::IfThenElse, place, parts, shape)
 }

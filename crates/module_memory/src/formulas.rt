@@ -37,7 +37,7 @@ pub fn quoted(alloc: Global, pool: &mut Pool, w: Text) -> Result<NodeId, AllocEr
     ensures kept { Keeps pool.old pool.new }
     ensures err { OnErr result (pool.new ≡ pool.old) }
 {
-    pool.put(Form::Quote(w), NOWHERE, Vec::new(alloc))
+    pool.put(Form::String(w), NOWHERE, Vec::new(alloc))
 }
 
 /// `a = b`

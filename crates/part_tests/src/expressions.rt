@@ -97,9 +97,9 @@ fn parts_are_seen(alloc: Global) -> Result<bool, AllocError> {
     if first >= pool.len() {
         return Ok(false);
     }
-    let both = pool.put(Form::Both, HERE, Vec::from_array(alloc, [first, other])?)?;
+    let both = pool.put(Form::Conjunction, HERE, Vec::from_array(alloc, [first, other])?)?;
     let seen = Seen::new(&pool, both);
-    Ok(matches!(seen.form(), Form::Both) && seen.len() == 2 && seen.part(1).place().col == 2)
+    Ok(matches!(seen.form(), Form::Conjunction) && seen.len() == 2 && seen.part(1).place().col == 2)
 }
 
 // One number of the pool for each name.
@@ -137,7 +137,7 @@ fn doubled_names(alloc: Global, pool: &mut Pool) -> Result<NodeId, AllocError> {
         if last >= pool.len() {
             break;
         }
-        last = pool.put(Form::Both, HERE, Vec::from_array(alloc, [last, last])?)?;
+        last = pool.put(Form::Conjunction, HERE, Vec::from_array(alloc, [last, last])?)?;
     }
     Ok(last)
 }
@@ -228,9 +228,9 @@ fn sample(alloc: Global, pool: &mut Pool) -> Result<NodeId, AllocError>
     ensures { IfOk result (λ e. e < length pool.new) }
 {
     let quote = Text::new(Vec::from_array(alloc, [97, 34, 92, 9])?);
-    let a = pool.put(Form::Quote(quote), HERE, Vec::new(alloc))?;
+    let a = pool.put(Form::String(quote), HERE, Vec::new(alloc))?;
     let b = pool.put(Form::Number(907), HERE, Vec::new(alloc))?;
-    pool.put(Form::Both, HERE, Vec::from_array(alloc, [a, b])?)
+    pool.put(Form::Conjunction, HERE, Vec::from_array(alloc, [a, b])?)
 }
 
 const EXPRESSION: &str =
@@ -240,7 +240,7 @@ fn expressions_are_written(alloc: Global) -> Result<bool, AllocError> {
     let mut pool = Pool::new(alloc);
     let both = sample(alloc, &mut pool)?;
     let parts = Vec::from_array(alloc, [both, both, both])?;
-    let choice = pool.put(Form::Choice, HERE, parts)?;
+    let choice = pool.put(Form::IfThenElse, HERE, parts)?;
     let mut text = Text::new(Vec::new(alloc));
     write_expr(alloc, &pool, choice, &mut text)?;
     Ok(text.bytes() == EXPRESSION.as_bytes())

@@ -39,7 +39,7 @@ groups_of gs = map (λ (g : Vec pure.Name Global). g.items) gs
 
 abbrev pub form_of : Form → pure.Form
 form_of (form.Number n) = pure.number n
-form_of (form.Quote t) = pure.string t
+form_of (form.String t) = pure.string t
 form_of (form.Truth b) = pure.truth b
 form_of form.Booleans = pure.booleans
 form_of form.Strings = pure.strings
@@ -47,11 +47,11 @@ form_of (form.Name x) = pure.name x
 form_of (form.Next x) = pure.next x
 form_of (form.Strict s) = pure.strict (strict_of s)
 form_of (form.Call f) = pure.operator_call f
-form_of form.Both = pure.conjunction
-form_of form.OrElse = pure.disjunction
-form_of form.Implies = pure.implication
+form_of form.Conjunction = pure.conjunction
+form_of form.Disjunction = pure.disjunction
+form_of form.Implication = pure.implication
 form_of (form.Member b) = pure.member b
-form_of form.Choice = pure.if_then_else
+form_of form.IfThenElse = pure.if_then_else
 form_of (form.Cases b) = pure.cases b
 form_of (form.Binding b gs) = pure.binding b (groups_of gs.items)
 form_of (form.Local xs) = pure.local xs.items

@@ -51,7 +51,7 @@ pub enum Strict {
 pub enum Form {
     Number(u128),
     /// A string, without quotes and escapes.
-    Quote(Text),
+    String(Text),
     Truth(bool),
     /// `BOOLEAN`
     Booleans,
@@ -65,15 +65,15 @@ pub enum Form {
     /// `Op(a, b)`: a definition or a standard operator.
     Call(Name),
     /// `a /\ b`
-    Both,
+    Conjunction,
     /// `a \/ b`
-    OrElse,
+    Disjunction,
     /// `a => b`
-    Implies,
+    Implication,
     /// `a \in b`, and with false `a \notin b`.
     Member(bool),
     /// `IF a THEN b ELSE c`
-    Choice,
+    IfThenElse,
     /// `CASE a -> b [] c -> d`, and with true an `OTHER` at the end.
     Cases(bool),
     /// `x, y \in S, z \in T`: a set for each group of names, and the body.
@@ -287,7 +287,7 @@ impl Form {
     {
         match self {
             Form::Number(n) => Ok(Form::Number(*n)),
-            Form::Quote(t) => Ok(Form::Quote(t.copied()?)),
+            Form::String(t) => Ok(Form::String(t.copied()?)),
             Form::Truth(b) => Ok(Form::Truth(*b)),
             Form::Booleans => Ok(Form::Booleans),
             Form::Strings => Ok(Form::Strings),
@@ -295,11 +295,11 @@ impl Form {
             Form::Next(x) => Ok(Form::Next(x.copied()?)),
             Form::Strict(s) => Ok(Form::Strict(s.copied(alloc)?)),
             Form::Call(f) => Ok(Form::Call(f.copied()?)),
-            Form::Both => Ok(Form::Both),
-            Form::OrElse => Ok(Form::OrElse),
-            Form::Implies => Ok(Form::Implies),
+            Form::Conjunction => Ok(Form::Conjunction),
+            Form::Disjunction => Ok(Form::Disjunction),
+            Form::Implication => Ok(Form::Implication),
             Form::Member(sense) => Ok(Form::Member(*sense)),
-            Form::Choice => Ok(Form::Choice),
+            Form::IfThenElse => Ok(Form::IfThenElse),
             Form::Cases(other) => Ok(Form::Cases(*other)),
             Form::Binding(binder, groups) => Ok(Form::Binding(
                 *binder,
@@ -318,8 +318,8 @@ impl Form {
                 Form::Number(b) => *a == *b,
                 _ => false,
             },
-            Form::Quote(a) => match other {
-                Form::Quote(b) => a.is(b),
+            Form::String(a) => match other {
+                Form::String(b) => a.is(b),
                 _ => false,
             },
             Form::Truth(a) => match other {
@@ -344,14 +344,14 @@ impl Form {
                 Form::Call(b) => a.is(b),
                 _ => false,
             },
-            Form::Both => matches!(other, Form::Both),
-            Form::OrElse => matches!(other, Form::OrElse),
-            Form::Implies => matches!(other, Form::Implies),
+            Form::Conjunction => matches!(other, Form::Conjunction),
+            Form::Disjunction => matches!(other, Form::Disjunction),
+            Form::Implication => matches!(other, Form::Implication),
             Form::Member(a) => match other {
                 Form::Member(b) => *a == *b,
                 _ => false,
             },
-            Form::Choice => matches!(other, Form::Choice),
+            Form::IfThenElse => matches!(other, Form::IfThenElse),
             Form::Cases(a) => match other {
                 Form::Cases(b) => *a == *b,
                 _ => false,

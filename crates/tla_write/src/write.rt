@@ -146,8 +146,8 @@ fn is_bracketed(form: &Form) -> bool
 {
     match form {
         Form::Strict(Strict::Operator(_)) => true,
-        Form::Both | Form::OrElse | Form::Implies | Form::Member(_) => true,
-        Form::Choice | Form::Cases(_) | Form::Local(_) => true,
+        Form::Conjunction | Form::Disjunction | Form::Implication | Form::Member(_) => true,
+        Form::IfThenElse | Form::Cases(_) | Form::Local(_) => true,
         Form::Binding(Binder::ForAll | Binder::Exists, _) => true,
         _ => false,
     }
@@ -531,7 +531,7 @@ fn put_form<'a>(form: &'a Form, n: usize, plan: &mut Vec<Item<'a>>) -> Result<()
 {
     match form {
         Form::Number(n) => plan.push(Item::Number(*n))?,
-        Form::Quote(text) => plan.push(Item::Quote(text))?,
+        Form::String(text) => plan.push(Item::Quote(text))?,
         Form::Truth(sense) => plan.push(Item::Fixed(truth(*sense)))?,
         Form::Booleans => plan.push(Item::Fixed(Fixed::Booleans))?,
         Form::Strings => plan.push(Item::Fixed(Fixed::Strings))?,
@@ -547,12 +547,12 @@ fn put_form<'a>(form: &'a Form, n: usize, plan: &mut Vec<Item<'a>>) -> Result<()
             plan.push(Item::Fixed(Fixed::OpenBracket))?;
             plan.push(Item::Word(name))?;
         }
-        Form::Both => put_operator(Op::And, n, plan)?,
-        Form::OrElse => put_operator(Op::Or, n, plan)?,
-        Form::Implies => put_operator(Op::Implies, n, plan)?,
+        Form::Conjunction => put_operator(Op::And, n, plan)?,
+        Form::Disjunction => put_operator(Op::Or, n, plan)?,
+        Form::Implication => put_operator(Op::Implies, n, plan)?,
         Form::Member(true) => put_operator(Op::In, n, plan)?,
         Form::Member(false) => put_operator(Op::NotIn, n, plan)?,
-        Form::Choice => put_choice(plan)?,
+        Form::IfThenElse => put_choice(plan)?,
         Form::Cases(other) => {
             put_arms(*other, n, plan)?;
             plan.push(Item::Blank)?;

@@ -15,8 +15,8 @@ use Rattle.tla_write.proofs.write.put_form.Goals as goal
 pub returns-in_ok-push-in-Number : goal.returns-in_ok-push-in-Number
 returns-in_ok-push-in-Number c = λ xs h ps. rw c.in_ok-push-in-Number.ensures.items (simp shown_append (ap (λ (m : Form). form_pieces (form_of m) xs (shown xs c.args.plan.now.items ps)) (sym c.in-Number.is)))
 
-pub returns-in_ok-push-in-Quote : goal.returns-in_ok-push-in-Quote
-returns-in_ok-push-in-Quote c = λ xs h ps. rw c.in_ok-push-in-Quote.ensures.items (simp shown_append (ap (λ (m : Form). form_pieces (form_of m) xs (shown xs c.args.plan.now.items ps)) (sym c.in-Quote.is)))
+pub returns-in_ok-push-in-String : goal.returns-in_ok-push-in-String
+returns-in_ok-push-in-String c = λ xs h ps. rw c.in_ok-push-in-String.ensures.items (simp shown_append (ap (λ (m : Form). form_pieces (form_of m) xs (shown xs c.args.plan.now.items ps)) (sym c.in-String.is)))
 
 pub returns-in_ok-push-in-Booleans : goal.returns-in_ok-push-in-Booleans
 returns-in_ok-push-in-Booleans c = λ xs h ps. rw c.in_ok-push-in-Booleans.ensures.items (simp shown_append (ap (λ (m : Form). form_pieces (form_of m) xs (shown xs c.args.plan.now.items ps)) (sym c.in-Booleans.is)))
