@@ -7,11 +7,11 @@ use Rattle.tla_tree.specs.Tree.{Tree}
 use Rattle.tla_tree.specs.Lexical.{Token}
 use Rattle.tla_tree.specs.Pool.{Keeps}
 use Rattle.tla_tree.specs.Reader.{Out, Reader, ◌>>=◌, then_read, gives}
+use Rattle.tla_tree.specs.Nesting.{greatest}
 use Rattle.expression_parts.specs.declared.cursor.Halt.{Halt}
 use Rattle.expression_parts.specs.declared.cursor.Halt.TheVariants as halt
 use Rattle.expression_parts.specs.ReadIn.{Reads, Fails}
 use Rattle.expression_parts.specs.Ahead.{ahead}
-use Rattle.pcal_tree.specs.InMemory.{past_each}
 use Rattle.pcal_tree.proofs.InMemoryGrown.{each_kept}
 use Rattle.pcal_tree.proofs.InMemoryEach.{past_one_more}
 use Rattle.algorithm_parts.specs.PartsRead.{Enough, StandsFor}
@@ -128,7 +128,7 @@ module _ {A T : Type 0} (read : ℕ → Reader A) (listed : A → List T) (v : T
 -- ---- members in a pool that grows
 pub record InPool {A X T : Type 0} (read : ℕ → Reader A) (listed : A → List T) (stands : List Tree → X → T) (past : X → ℕ) (v : Tokens) (ts : List Tree) (all from i : ℕ) (xs : List X) : Type 0 where
   pub so_far : SoFar read listed v all from i (map (stands ts) xs)
-  pub below : past_each (map past xs) ≤ length ts
+  pub below : greatest (map past xs) ≤ length ts
 
 -- what numbers below stand for is kept
 abbrev pub StaysSame : {X T : Type 0} → (List Tree → X → T) → (X → ℕ) → List Tree → List Tree → Type 0
@@ -138,10 +138,10 @@ module _ {A X T : Type 0} (read : ℕ → Reader A) (listed : A → List T) (sta
   pub none_in_pool : (ts : List Tree) (from : ℕ) (xs : List X) → xs ≡ [] → from ≤ length v.items.items → (all : ℕ) → Enough v from all → InPool read listed stands past v ts all from from xs
   none_in_pool ts from xs e b all h = rw e (record { so_far = none_so_far read listed v all from h b; below = omega arith })
 
-  grown : (ts us : List Tree) (xs : List X) → Keeps ts us → StaysSame stands past ts us → past_each (map past xs) ≤ length ts → map (stands ts) xs ≡ map (stands us) xs
+  grown : (ts us : List Tree) (xs : List X) → Keeps ts us → StaysSame stands past ts us → greatest (map past xs) ≤ length ts → map (stands ts) xs ≡ map (stands us) xs
   grown ts us xs k same b = sym (each_kept ts us k (stands us) (stands ts) past same xs b)
 
-  one_below : (ts us : List Tree) (xs : List X) (x : X) → Keeps ts us → past_each (map past xs) ≤ length ts → past x ≤ length us → past_each (map past (xs ++ x ∷ [])) ≤ length us
+  one_below : (ts us : List Tree) (xs : List X) (x : X) → Keeps ts us → greatest (map past xs) ≤ length ts → past x ≤ length us → greatest (map past (xs ++ x ∷ [])) ≤ length us
   one_below ts us xs x k b c = omega (arith, past_one_more past xs x, k.longer, b, c)
 
   pub one_more_in_pool : (ts us : List Tree) (all from i j : ℕ) (xs ys : List X) (x : X) → InPool read listed stands past v ts all from i xs → Keeps ts us → StaysSame stands past ts us → past x ≤ length us → ys ≡ xs ++ x ∷ []
@@ -152,7 +152,7 @@ module _ {A X T : Type 0} (read : ℕ → Reader A) (listed : A → List T) (sta
       rw e (record { so_far = subst (λ (l : List T). SoFar read listed v all from j l) (sym (map-append (stands us) xs (x ∷ []))) next; below = one_below ts us xs x k s.below b })
 
   pub last_in_pool : (ts us : List Tree) (all from i j : ℕ) (xs ys : List X) (x : X) → InPool read listed stands past v ts all from i xs → Keeps ts us → StaysSame stands past ts us → past x ≤ length us → ys ≡ xs ++ x ∷ []
-      → WithSteps v all (length xs) i (EndsAt read listed v i j (stands us x)) → Reads (StandsFor (λ ws l. map (stands ws) l) (λ l. past_each (map past l)) listed us ys) (ahead v j) (read all (ahead v from))
+      → WithSteps v all (length xs) i (EndsAt read listed v i j (stands us x)) → Reads (StandsFor (λ ws l. map (stands ws) l) (λ l. greatest (map past l)) listed us ys) (ahead v j) (read all (ahead v from))
   last_in_pool ts us all from i j xs ys x s k same b e g =
       let now = subst (λ (l : List T). SoFar read listed v all from i l) (grown ts us xs k same s.below) s.so_far in
       let whole = last_one read listed v all from i j (map (stands us) xs) (stands us x) now (λ n h. g n (omega (arith, h, length-map xs (stands us)))) in

@@ -10,12 +10,13 @@ use Rattle.tla_tree.specs.Spelling.{Phrase, tree_of}
 use Rattle.tla_tree.specs.Spelling as spelled
 use Rattle.tla_tree.specs.Reader.{Out, Reader, ◌>>=◌, then_read, gives, refuses, tail, is_mark, a_word}
 use Rattle.tla_tree.proofs.SoundTokens.{mark_is}
+use Rattle.tla_tree.specs.Nesting.{greatest}
 use Rattle.expression_parts.specs.declared.cursor.Halt.{Halt}
 use Rattle.expression_parts.specs.declared.cursor.Halt.TheVariants as halt
 use Rattle.expression_parts.specs.ReadIn.{Reads, Fails}
 use Rattle.expression_parts.specs.Ahead.{ahead}
 use Rattle.pcal_tree.specs.declared.algorithm.Assignment.{Assignment}
-use Rattle.pcal_tree.specs.InMemory.{assignments_at, past_assignment, past_each}
+use Rattle.pcal_tree.specs.InMemory.{assignments_at, past_assignment}
 use Rattle.pcal_tree.specs.Algorithm as tree
 use Rattle.pcal_tree.specs.GrammarParts.{Assignments, last_assignment, assignment, assignments_of}
 use Rattle.algorithm_parts.specs.TokenReaders.{first, by_next, a_mark, Parts}
@@ -43,7 +44,7 @@ row_in_memory ts [] = refl
 row_in_memory ts (m ∷ ms) = λ j. tree.assignment (assignment_at ts m).0 (assignment_at ts m).1 (row_in_memory ts ms j)
 
 pub assignments_told : (ts : List Tree) (ms : Vec Assignment Global) (u : List Token) (o : Out Assignments)
-    → Reads (StandsFor (λ ws l. map (assignment_at ws) l) (λ l. past_each (map past_assignment l)) members ts ms.items) u o → Reads (StandsFor all_assigned_at past_all_assigned assignments_of ts ms) u o
+    → Reads (StandsFor (λ ws l. map (assignment_at ws) l) (λ l. greatest (map past_assignment l)) members ts ms.items) u o → Reads (StandsFor all_assigned_at past_all_assigned assignments_of ts ms) u o
 assignments_told ts ms u o h = record {
   what = h.what;
   is = h.is;

@@ -9,12 +9,13 @@ use Rattle.tla_tree.specs.Lexical.{TokenView, Token}
 use Rattle.tla_tree.specs.Lexical as tk
 use Rattle.tla_tree.specs.Spelling.{Phrase}
 use Rattle.tla_tree.specs.Reader.{Out, Reader, ◌>>=◌, then_read}
+use Rattle.tla_tree.specs.Nesting.{greatest}
 use Rattle.expression_parts.specs.declared.cursor.Halt.{Halt}
 use Rattle.expression_parts.specs.ReadIn.{Reads, Fails}
 use Rattle.expression_parts.specs.Ahead.{ahead}
 use Rattle.pcal_tree.specs.declared.algorithm.Bind.{Bind}
 use Rattle.pcal_tree.specs.declared.algorithm.Bind.TheVariants as in_memory
-use Rattle.pcal_tree.specs.InMemory.{bind_at, binds_at, past_bind, past_each}
+use Rattle.pcal_tree.specs.InMemory.{bind_at, binds_at, past_bind}
 use Rattle.pcal_tree.specs.Algorithm as tree
 use Rattle.pcal_tree.specs.OpenForms.{after_binds}
 use Rattle.pcal_tree.specs.GrammarParts.{Separator, Binds, last_bind, bind, bound, binds_of}
@@ -49,7 +50,7 @@ deep_behind d (last_bind x b p e s) = omega arith
 deep_behind d (bind x b p e s bs) = omega (arith, deep_behind (d + 1) bs)
 
 pub binds_told : (ts : List Tree) (bs : Vec Bind Global) (d deep : ℕ) (u : List Token) (o : Out Binds) → deep ≡ d + length bs.items
-    → Reads (StandsFor (λ ws l. map (bind_at ws) l) (λ l. past_each (map past_bind l)) members ts bs.items) u o → Reads (StandsFor all_bound_at past_all_bound (bound_from d) ts (bs, deep)) u o
+    → Reads (StandsFor (λ ws l. map (bind_at ws) l) (λ l. greatest (map past_bind l)) members ts bs.items) u o → Reads (StandsFor all_bound_at past_all_bound (bound_from d) ts (bs, deep)) u o
 binds_told ts bs d deep u o e h = record {
   what = h.what;
   is = h.is;

@@ -11,11 +11,12 @@ use Rattle.tla_tree.specs.Spelling.{Phrase, tree_of, start}
 use Rattle.tla_tree.specs.Spelling as spelled
 use Rattle.tla_tree.specs.Reader.{Reader, ◌>>=◌, gives, refuses, skip, peek, a_word, a_field}
 use Rattle.tla_tree.specs.Reader as expression
+use Rattle.tla_tree.specs.Nesting.{greatest}
 use Rattle.expression_parts.specs.declared.cursor.Halt.{Halt}
 use Rattle.expression_parts.specs.ReadIn.{Fails}
 use Rattle.expression_parts.specs.Ahead.{ahead}
 use Rattle.pcal_tree.specs.declared.algorithm.Assignment.{Assignment}
-use Rattle.pcal_tree.specs.InMemory.{assignments_at, past_each, past_assignment}
+use Rattle.pcal_tree.specs.InMemory.{assignments_at, past_assignment}
 use Rattle.pcal_tree.specs.Algorithm as tree
 use Rattle.pcal_tree.specs.GrammarParts.{Assignments, Simple}
 use Rattle.algorithm_parts.specs.TokenReaders.{by_next, a_mark, a_name, pick, Parts}
@@ -67,7 +68,7 @@ abbrev pub all_assigned_at : List Tree → Vec Assignment Global → tree.Assign
 all_assigned_at ts ms = assignments_at ts ms.items
 
 abbrev pub past_all_assigned : Vec Assignment Global → ℕ
-past_all_assigned ms = past_each (map past_assignment ms.items)
+past_all_assigned ms = greatest (map past_assignment ms.items)
 
 -- ---- simple statements, from their first token on
 abbrev pub simple_by : Parts → ℕ → Place → TokenView → Reader Simple

@@ -3,11 +3,11 @@ use Rattle.std.proofs.Common.{◌≡◌, ℕ, zero, suc, ◌<◌, ◌≤◌, Lis
 use Rattle.std.proofs.lemmas.List.{reverse-append}
 use Rattle.tla_tree.specs.Pool.{AllBelow}
 use Rattle.tla_tree.proofs.PoolNumbers.{AllBelow-push}
+use Rattle.tla_tree.specs.Nesting.{greatest}
 use Rattle.tla_value.specs.declared.names.Definition.{Definition as Kept}
 use Rattle.tla_value.specs.Defs.{DefinitionsIn}
-use Rattle.module_memory.specs.InMemory.{past_each}
 
-pub past_at : {A : Type 0} (f : A → ℕ) (xs : List A) (i : ℕ) (x : A) → x ≡ get_or xs i x → i < length xs → f x ≤ past_each (map f xs)
+pub past_at : {A : Type 0} (f : A → ℕ) (xs : List A) (i : ℕ) (x : A) → x ≡ get_or xs i x → i < length xs → f x ≤ greatest (map f xs)
 past_at f [] i x is lt = absurd (omega arith)
 past_at f (y ∷ ys) zero x is lt = (let e = ap f is in omega (arith, e))
 past_at f (y ∷ ys) (suc i) x is lt = (let r = past_at f ys i x is (omega (arith, lt)) in omega (arith, r))

@@ -2,27 +2,27 @@
 use Rattle.std.proofs.lemmas.Simd.{map-map}
 use Rattle.std.proofs.Common.{◌≡◌, ℕ, ◌+◌, max, List, map, Vec, Global, sym, ap, ◌∙◌}
 use Rattle.tla_tree.specs.Tree.{Word}
+use Rattle.tla_tree.specs.Nesting.{greatest}
 use Rattle.module_memory.specs.declared.«module».Item.{Item}
 use Rattle.module_memory.specs.declared.«module».Item.TheOpen.{Item-F}
 use Rattle.module_memory.specs.declared.«module».Item.TheFolds.{fold-Item, fold-roll-Item}
 use Rattle.module_memory.specs.declared.«module».Item.TheVariants.{Exists, Local, Choice, Either, rolls-Exists, rolls-Local, rolls-Choice, rolls-Either}
-use Rattle.module_memory.specs.InMemory.{past_each}
 
 abbrev height_step : Item-F ℕ → ℕ
-height_step (Item-F.Exists x s is) = past_each is.items + 1
-height_step (Item-F.Local x e is) = past_each is.items + 1
-height_step (Item-F.Choice p a b) = max (past_each a.items) (past_each b.items) + 1
-height_step (Item-F.Either bs) = past_each (map (λ (b : Vec ℕ Global). past_each b.items) bs.items) + 1
+height_step (Item-F.Exists x s is) = greatest is.items + 1
+height_step (Item-F.Local x e is) = greatest is.items + 1
+height_step (Item-F.Choice p a b) = max (greatest a.items) (greatest b.items) + 1
+height_step (Item-F.Either bs) = greatest (map (λ (b : Vec ℕ Global). greatest b.items) bs.items) + 1
 height_step _ = 0
 
 abbrev pub height : Item → ℕ
 height = fold-Item ℕ height_step
 
 abbrev pub heights : List Item → ℕ
-heights is = past_each (map height is)
+heights is = greatest (map height is)
 
 abbrev pub branch_heights : List (Vec Item Global) → ℕ
-branch_heights bs = past_each (map (λ (b : Vec Item Global). heights b.items) bs)
+branch_heights bs = greatest (map (λ (b : Vec Item Global). heights b.items) bs)
 
 pub exists_height : (x : Word) (s : ℕ) (is : Vec Item Global) → height (Exists x s is) ≡ heights is.items + 1
 exists_height x s is = ap height (sym (rolls-Exists x s is)) ∙ fold-roll-Item ℕ height_step (Item-F.Exists x s is)
@@ -35,4 +35,4 @@ choice_height p a b = ap height (sym (rolls-Choice p a b)) ∙ fold-roll-Item �
 
 pub either_height : (bs : Vec (Vec Item Global) Global) → height (Either bs) ≡ branch_heights bs.items + 1
 either_height bs =
-    ap height (sym (rolls-Either bs)) ∙ fold-roll-Item ℕ height_step (Item-F.Either bs) ∙ ap (λ (l : List ℕ). past_each l + 1) (map-map _ _ bs.items)
+    ap height (sym (rolls-Either bs)) ∙ fold-roll-Item ℕ height_step (Item-F.Either bs) ∙ ap (λ (l : List ℕ). greatest l + 1) (map-map _ _ bs.items)

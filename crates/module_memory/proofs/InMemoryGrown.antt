@@ -4,6 +4,7 @@ use Rattle.std.specs.Option.{option_map}
 use Rattle.std.specs.formers.vec.Vec.{mapped}
 use Rattle.tla_tree.specs.Tree.{Word, Tree}
 use Rattle.tla_tree.specs.Pool.{at, Keeps, AllBelow}
+use Rattle.tla_tree.specs.Nesting.{greatest}
 use Rattle.tla_value.proofs.DefsGrown.{definitions_at-kept}
 use Rattle.module_tree.specs.Module as tree
 use Rattle.module_memory.specs.declared.«module».Item.{Item}
@@ -19,7 +20,7 @@ use Rattle.module_memory.specs.declared.«module».Body.TheVariants as body
 use Rattle.module_memory.specs.declared.«module».Action.{Action}
 use Rattle.module_memory.specs.declared.«module».Fairness.{Fairness}
 use Rattle.module_memory.specs.declared.«module».Region.{Region}
-use Rattle.module_memory.specs.InMemory.{items_from, branches_from, item_step, item_at, items_at, call_at, way_at, ways_at, body_at, actions_at, over_at, fairness_at, region_at, past_step, past_item, past_items, past_each, CallIn, WayIn, WaysIn, BodyIn, ActionsIn, OverIn, MaybeIn, AllFairnessIn, RegionIn}
+use Rattle.module_memory.specs.InMemory.{items_from, branches_from, item_step, item_at, items_at, call_at, way_at, ways_at, body_at, actions_at, over_at, fairness_at, region_at, past_step, past_item, past_items, CallIn, WayIn, WaysIn, BodyIn, ActionsIn, OverIn, MaybeIn, AllFairnessIn, RegionIn}
 
 -- ---- items: by induction, with the fact beside each item in an item
 module _ (ts us : List Tree) (k : Keeps ts us) where
@@ -36,7 +37,7 @@ module _ (ts us : List Tree) (k : Keeps ts us) where
   some_kept [] h = refl
   some_kept (e ∷ es) h = λ j. tree.item (e.1 (omega (arith, h)) j) (some_kept es (omega (arith, h)) j)
 
-  branches_kept : (bs : List (Vec Sure Global)) → past_each (map (λ (b : Vec Sure Global). past_items (map (λ e. e.0) b.items)) bs) ≤ length ts
+  branches_kept : (bs : List (Vec Sure Global)) → greatest (map (λ (b : Vec Sure Global). past_items (map (λ e. e.0) b.items)) bs) ≤ length ts
       → map (λ (b : Vec Sure Global). items_at us (map (λ e. e.0) b.items)) bs ≡ map (λ (b : Vec Sure Global). items_at ts (map (λ e. e.0) b.items)) bs
   branches_kept [] h = refl
   branches_kept (b ∷ bs) h = λ j. some_kept b.items (omega (arith, h)) j ∷ branches_kept bs (omega (arith, h)) j
@@ -56,7 +57,7 @@ module _ (ts us : List Tree) (k : Keeps ts us) where
   layer_kept (Item-F.Local x e is) h = λ j. tree.local x (k.same e (omega (arith, h)) j) (some_kept is.items (omega (arith, h)) j)
   layer_kept (Item-F.Choice p a b) h = λ j. tree.if_then_else (k.same p (omega (arith, h)) j) (some_kept a.items (omega (arith, h)) j) (some_kept b.items (omega (arith, h)) j)
   layer_kept (Item-F.Either bs) h =
-      let all = branches_kept bs.items (omega (arith, h, ap past_each (each_branch past_item past_each bs.items))) in
+      let all = branches_kept bs.items (omega (arith, h, ap greatest (each_branch past_item greatest bs.items))) in
       ap (λ (l : List tree.Items). tree.either (branches_from l)) (each_branch (item_at us) items_from bs.items ∙ all ∙ sym (each_branch (item_at ts) items_from bs.items))
 
   pub item_at-kept : (i : Item) → past_item i ≤ length ts → item_at us i ≡ item_at ts i

@@ -3,12 +3,13 @@ use Rattle.std.proofs.lemmas.Simd.{map-map}
 use Rattle.std.proofs.Common.{◌≡◌, ℕ, ◌+◌, max, List, Vec, Global, sym, ap, ◌∙◌}
 use Rattle.tla_tree.specs.Tree.{Word, Tree}
 use Rattle.tla_tree.specs.Pool.{at}
+use Rattle.tla_tree.specs.Nesting.{greatest}
 use Rattle.module_tree.specs.Module as tree
 use Rattle.module_memory.specs.declared.«module».Item.{Item}
 use Rattle.module_memory.specs.declared.«module».Item.TheOpen.{Item-F}
 use Rattle.module_memory.specs.declared.«module».Item.TheFolds.{fold-roll-Item}
 use Rattle.module_memory.specs.declared.«module».Item.TheVariants.{Test, Setting, Unchanged, Exists, Local, Choice, Either, rolls-Test, rolls-Setting, rolls-Unchanged, rolls-Exists, rolls-Local, rolls-Choice, rolls-Either}
-use Rattle.module_memory.specs.InMemory.{branches_from, past_each, item_step, item_at, items_at, branches_at, past_step, past_item, past_items, past_branches}
+use Rattle.module_memory.specs.InMemory.{branches_from, item_step, item_at, items_at, branches_at, past_step, past_item, past_items, past_branches}
 
 pub test_at : (ts : List Tree) (e : ℕ) → item_at ts (Test e) ≡ tree.test (at ts e)
 test_at ts e = ap (item_at ts) (sym (rolls-Test e)) ∙ fold-roll-Item tree.Item (item_step ts) (Item-F.Test e)
@@ -52,4 +53,4 @@ pub past_choice : (p : ℕ) (a b : Vec Item Global) → past_item (Choice p a b)
 past_choice p a b = ap past_item (sym (rolls-Choice p a b)) ∙ fold-roll-Item ℕ past_step (Item-F.Choice p a b)
 
 pub past_either : (bs : Vec (Vec Item Global) Global) → past_item (Either bs) ≡ past_branches bs.items
-past_either bs = ap past_item (sym (rolls-Either bs)) ∙ fold-roll-Item ℕ past_step (Item-F.Either bs) ∙ ap past_each (map-map _ _ bs.items)
+past_either bs = ap past_item (sym (rolls-Either bs)) ∙ fold-roll-Item ℕ past_step (Item-F.Either bs) ∙ ap greatest (map-map _ _ bs.items)

@@ -3,11 +3,12 @@ use Rattle.std.specs.Prelude.{◌≡◌, List, [], ◌∷◌, Some, codes}
 use Rattle.std.proofs.Common.{refl, arith}
 use Rattle.tla_token.specs.Places.{nowhere}
 use Rattle.tla_tree.specs.Tree.{Tree, node, no_trees, number, name}
+use Rattle.tla_tree.specs.Nesting.{greatest}
 use Rattle.module_tree.specs.Module as tree
 use Rattle.module_memory.specs.declared.«module».Item.TheVariants.{Test}
 use Rattle.module_memory.specs.declared.«module».Call.TheVariants as call
 use Rattle.module_memory.specs.declared.«module».Way.TheVariants as way
-use Rattle.module_memory.specs.InMemory.{item_at, ways_at, over_at, past_item, past_each, WaysIn}
+use Rattle.module_memory.specs.InMemory.{item_at, ways_at, over_at, past_item, WaysIn}
 use Rattle.module_memory.specs.Apart.{ahead, behind}
 use Rattle.module_memory.proofs.ItemEquations.{test_at, past_test}
 
@@ -20,7 +21,7 @@ an_item_has_the_tree_of_its_number = test_at trees 0
 its_number_is_below_the_next : past_item (Test 0) ≡ 1
 its_number_is_below_the_next = past_test 0
 
-the_greatest_counts : past_each (1 ∷ 3 ∷ 2 ∷ []) ≡ 3
+the_greatest_counts : greatest (1 ∷ 3 ∷ 2 ∷ []) ≡ 3
 the_greatest_counts = refl
 
 a_way_has_the_trees_of_its_numbers : ways_at trees (way.Among (codes "self") 1 (call.With (codes "P") 0) ∷ []) ≡ tree.some_way (codes "self") (node (name (codes "S")) nowhere no_trees) (tree.call_with (codes "P") (node (number 7) nowhere no_trees)) ∷ []

@@ -5,6 +5,7 @@ use Rattle.std.specs.Option.{option_map}
 use Rattle.std.specs.declared.alloc.Global.{Global}
 use Rattle.tla_tree.specs.Tree.{Word, Tree}
 use Rattle.tla_tree.specs.Pool.{at, AllBelow}
+use Rattle.tla_tree.specs.Nesting.{greatest}
 use Rattle.tla_value.specs.Outside as pure
 use Rattle.tla_value.specs.Defs.{definitions_at, read_at, DefinitionsIn}
 use Rattle.module_memory.specs.declared.«module».Item.{Item}
@@ -116,28 +117,24 @@ module_at ts m = record { title = m.title; outside = outside_at ts m.outside; re
 
 -- ---- their numbers are below m
 
-abbrev pub past_each : List ℕ → ℕ
-past_each [] = 0
-past_each (n ∷ ns) = max n (past_each ns)
-
 -- past the numbers of an item: the least number that is above each
 abbrev pub past_step : Item-F ℕ → ℕ
 past_step (Item-F.Test e) = e + 1
 past_step (Item-F.Setting x e) = e + 1
 past_step (Item-F.Unchanged xs) = 0
-past_step (Item-F.Exists x s is) = max (s + 1) (past_each is.items)
-past_step (Item-F.Local x e is) = max (e + 1) (past_each is.items)
-past_step (Item-F.Choice p a b) = max (p + 1) (max (past_each a.items) (past_each b.items))
-past_step (Item-F.Either bs) = past_each (map (λ (b : Vec ℕ Global). past_each b.items) bs.items)
+past_step (Item-F.Exists x s is) = max (s + 1) (greatest is.items)
+past_step (Item-F.Local x e is) = max (e + 1) (greatest is.items)
+past_step (Item-F.Choice p a b) = max (p + 1) (max (greatest a.items) (greatest b.items))
+past_step (Item-F.Either bs) = greatest (map (λ (b : Vec ℕ Global). greatest b.items) bs.items)
 
 abbrev pub past_item : Item → ℕ
 past_item = fold-Item ℕ past_step
 
 abbrev pub past_items : List Item → ℕ
-past_items is = past_each (map past_item is)
+past_items is = greatest (map past_item is)
 
 abbrev pub past_branches : List (Vec Item Global) → ℕ
-past_branches bs = past_each (map (λ (b : Vec Item Global). past_items b.items) bs)
+past_branches bs = greatest (map (λ (b : Vec Item Global). past_items b.items) bs)
 
 abbrev pub CallIn : ℕ → Call → Type 0
 CallIn m (call.Bare a) = Unit {0}

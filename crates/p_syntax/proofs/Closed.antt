@@ -6,13 +6,14 @@ use Rattle.tla_tree.specs.Pool as pool
 use Rattle.tla_tree.specs.Lexical.{Token, token}
 use Rattle.tla_tree.specs.Lexical as tk
 use Rattle.tla_tree.specs.Spelling.{Phrase, spell, tree_of}
+use Rattle.tla_tree.specs.Nesting.{greatest}
 use Rattle.pcal_tree.specs.declared.algorithm.Span.{Span}
 use Rattle.pcal_tree.specs.declared.algorithm.Bind.{Bind}
 use Rattle.pcal_tree.specs.declared.algorithm.Stmt.{Stmt}
 use Rattle.pcal_tree.specs.declared.algorithm.Stmt.TheVariants as stmt
 use Rattle.pcal_tree.specs.Algorithm.{Statement, Statements, Branches}
 use Rattle.pcal_tree.specs.Algorithm as tree
-use Rattle.pcal_tree.specs.InMemory.{stmt_at, statements_at, branches_at, past_each, past_stmt, past_statements, past_branches}
+use Rattle.pcal_tree.specs.InMemory.{stmt_at, statements_at, branches_at, past_stmt, past_statements, past_branches}
 use Rattle.pcal_tree.proofs.InMemoryEach.{either_at, with_at, while_at, past_either, past_with, past_while, past_one_more}
 use Rattle.pcal_tree.specs.GrammarParts.{key, span, first_place, last_place, Labels, Binds, binds, binds_of}
 use Rattle.pcal_tree.specs.GrammarP as p
@@ -114,7 +115,7 @@ elsif_stands ts xs a q r n e t c h f w i = record {
 }
 
 pub if_stands : (ts : List Tree) (xs : List Test) (o : List Stmt) (s : Stmt) (t : Tests) (c : Sequence) (e : Else) (r q : Place) → ElseStands ts xs t c → past_statements o ≤ length ts → statements_at ts o ≡ p.else_statements q e
-    → ((us : List Tree) (rest : Statements) → stmt_at us s rest ≡ before_rest (nested us xs q (statements_at us o)) rest) → past_stmt s ≡ max (past_each (map past_test xs)) (past_statements o) → IsStatement ts s (closed_if t c e r q)
+    → ((us : List Tree) (rest : Statements) → stmt_at us s rest ≡ before_rest (nested us xs q (statements_at us o)) rest) → past_stmt s ≡ max (greatest (map past_test xs)) (past_statements o) → IsStatement ts s (closed_if t c e r q)
 if_stands ts xs o s t c e r q h w i k m = record {
   below = omega (arith, m, h.below, w);
   tree = λ rest.

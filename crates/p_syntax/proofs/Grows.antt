@@ -3,10 +3,11 @@ use Rattle.std.proofs.Common.{◌≡◌, ◌≤◌, List, [], ◌∷◌, ◌++�
 use Rattle.tla_token.specs.declared.place.Place.{Place}
 use Rattle.tla_tree.specs.Tree.{Tree}
 use Rattle.tla_tree.specs.Pool.{Keeps}
+use Rattle.tla_tree.specs.Nesting.{greatest}
 use Rattle.pcal_tree.specs.declared.algorithm.Stmt.{Stmt}
 use Rattle.pcal_tree.specs.Algorithm.{Statements, Branches}
 use Rattle.pcal_tree.specs.Algorithm as tree
-use Rattle.pcal_tree.specs.InMemory.{past_each, past_statements, past_branches}
+use Rattle.pcal_tree.specs.InMemory.{past_statements, past_branches}
 use Rattle.pcal_tree.proofs.InMemoryGrown.{stmt_at-kept, statements_at-kept, binds_at-kept}
 use Rattle.pcal_tree.specs.GrammarP.{Sequence, statements}
 use Rattle.algorithm_parts.specs.PartsRead.{StandsFor}
@@ -24,7 +25,7 @@ module _ (ts us : List Tree) (k : Keeps ts us) where
   list_kept [] h rest = refl
   list_kept (s ∷ ss) h rest = λ j. stmt_at-kept ts us k s (omega (arith, h)) j (list_kept ss (omega (arith, h)) rest j)
 
-  nested_kept : (xs : List Test) → past_each (map past_test xs) ≤ length ts → (last : Place) (rest : Statements) → nested us xs last rest ≡ nested ts xs last rest
+  nested_kept : (xs : List Test) → greatest (map past_test xs) ≤ length ts → (last : Place) (rest : Statements) → nested us xs last rest ≡ nested ts xs last rest
   nested_kept [] h last rest = refl
   nested_kept (x ∷ xs) h last rest =
       λ j. tree.then (record { first = x.place; last = last }) (tree.branch (k.same x.test (omega (arith, h)) j) (statements_at-kept ts us k x.then.items (omega (arith, h)) j) (nested_kept xs (omega (arith, h)) last rest j)) tree.done

@@ -5,10 +5,11 @@ use Rattle.tla_token.specs.declared.place.Place.{Place}
 use Rattle.tla_tree.specs.Tree.{Tree}
 use Rattle.tla_tree.specs.Pool as pool
 use Rattle.tla_tree.specs.Spelling.{tree_of}
+use Rattle.tla_tree.specs.Nesting.{greatest}
 use Rattle.pcal_tree.specs.declared.algorithm.Stmt.{Stmt}
 use Rattle.pcal_tree.specs.Algorithm.{Statement, Statements, Branches}
 use Rattle.pcal_tree.specs.Algorithm as tree
-use Rattle.pcal_tree.specs.InMemory.{stmt_at, statements_at, binds_at, past_each, past_statements, past_binds, past_branches}
+use Rattle.pcal_tree.specs.InMemory.{stmt_at, statements_at, binds_at, past_statements, past_binds, past_branches}
 use Rattle.pcal_tree.specs.GrammarParts.{span, Labels, with_labels, binds_of}
 use Rattle.pcal_tree.specs.GrammarP as p
 use Rattle.algorithm_parts.specs.StatementsRead.{is_none}
@@ -95,12 +96,12 @@ pub record ListStands (ts : List Tree) (ss : List Stmt) (f : Statements → Stat
   pub tree : (rest : Statements) → in_list ts ss rest ≡ f rest
 
 pub record ThenStands (ts : List Tree) (xs : List Test) (a : Place) (e : ℕ) (t : Tests) : Type 0 where
-  pub below : past_each (map past_test xs) ≤ length ts
+  pub below : greatest (map past_test xs) ≤ length ts
   pub within : e < length ts
   pub tree : (last : Place) (x y : Statements) → nested ts xs last (tree.then (record { first = a; last = last }) (tree.branch (pool.at ts e) x y) tree.done) ≡ tests_list t last x y
 
 pub record ElseStands (ts : List Tree) (xs : List Test) (t : Tests) (c : p.Sequence) : Type 0 where
-  pub below : past_each (map past_test xs) ≤ length ts
+  pub below : greatest (map past_test xs) ≤ length ts
   pub tree : (last : Place) (y : Statements) → nested ts xs last y ≡ tests_list t last (p.statements c) y
 
 pub record EitherStands (ts : List Tree) (a : Place) (bs : List (Vec Stmt Global)) (t : Arms) : Type 0 where

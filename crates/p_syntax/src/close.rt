@@ -2,8 +2,9 @@
 
 ghost use Rattle.std.specs.Prelude.{◌≡◌, IfOk, max, [], ◌∷◌, ◌++◌, List, map};
 ghost use Rattle.tla_tree.specs.Tree.{Tree};
+ghost use Rattle.tla_tree.specs.Nesting.{greatest};
 ghost use Rattle.pcal_tree.specs.Algorithm.{Statements};
-ghost use Rattle.pcal_tree.specs.InMemory.{stmt_at, statements_at, past_each, past_stmt, past_statements};
+ghost use Rattle.pcal_tree.specs.InMemory.{stmt_at, statements_at, past_stmt, past_statements};
 ghost use Rattle.p_syntax.specs.StatesRead.{nested, before_rest, past_test};
 
 use crate::open::Test;
@@ -36,7 +37,7 @@ pub fn closed_if(
     last: Place,
 ) -> Result<Stmt, AllocError>
     ensures tree { IfOk result (λ s. (ts : List Tree) (rest : Statements) → stmt_at ts s rest ≡ before_rest (nested ts (tests.items ++ test ∷ []) last (statements_at ts otherwise.items)) rest) }
-    ensures below { IfOk result (λ s. past_stmt s ≡ max (past_each (map past_test (tests.items ++ test ∷ []))) (past_statements otherwise.items)) }
+    ensures below { IfOk result (λ s. past_stmt s ≡ max (greatest (map past_test (tests.items ++ test ∷ []))) (past_statements otherwise.items)) }
 {
     let mut tests = tests;
     let mut statement = one_if(test, otherwise, last);

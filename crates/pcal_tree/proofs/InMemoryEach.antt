@@ -3,6 +3,7 @@ use Rattle.std.proofs.lemmas.Simd.{map-map}
 use Rattle.std.proofs.Common.{◌≡◌, ℕ, ◌+◌, ◌≤◌, max, List, [], ◌∷◌, ◌++◌, map, Vec, Global, sym, ap, ◌∙◌, arith}
 use Rattle.tla_tree.specs.Tree.{Name, Tree}
 use Rattle.tla_tree.specs.Pool.{at, AllBelow}
+use Rattle.tla_tree.specs.Nesting.{greatest}
 use Rattle.pcal_tree.specs.declared.mark.Mark.{Mark}
 use Rattle.pcal_tree.specs.declared.algorithm.Span.{Span}
 use Rattle.pcal_tree.specs.declared.algorithm.Bind.{Bind}
@@ -12,7 +13,7 @@ use Rattle.pcal_tree.specs.declared.algorithm.Stmt.TheOpen.{Stmt-F}
 use Rattle.pcal_tree.specs.declared.algorithm.Stmt.TheFolds.{fold-roll-Stmt}
 use Rattle.pcal_tree.specs.declared.algorithm.Stmt.TheVariants.{Label, Simple, If, Either, With, While, rolls-Label, rolls-Simple, rolls-If, rolls-Either, rolls-With, rolls-While}
 use Rattle.pcal_tree.specs.Algorithm as tree
-use Rattle.pcal_tree.specs.InMemory.{span_of, binds_at, simple_at, Before, branches_from, stmt_step, stmt_at, statements_at, branches_at, past_each, past_numbers, past_binds, past_simple, past_step, past_stmt, past_statements, past_branches}
+use Rattle.pcal_tree.specs.InMemory.{span_of, binds_at, simple_at, Before, branches_from, stmt_step, stmt_at, statements_at, branches_at, past_numbers, past_binds, past_simple, past_step, past_stmt, past_statements, past_branches}
 
 pub label_at : (ts : List Tree) (x : Name) (m : Mark) → stmt_at ts (Label x m) ≡ tree.mark x m
 label_at ts x m = ap (stmt_at ts) (sym (rolls-Label x m)) ∙ fold-roll-Stmt Before (stmt_step ts) (Stmt-F.Label x m)
@@ -45,7 +46,7 @@ pub past_if : (s : Span) (e : ℕ) (a b : Vec Stmt Global) → past_stmt (If s e
 past_if s e a b = ap past_stmt (sym (rolls-If s e a b)) ∙ fold-roll-Stmt ℕ past_step (Stmt-F.If s e a b)
 
 pub past_either : (s : Span) (bs : Vec (Vec Stmt Global) Global) → past_stmt (Either s bs) ≡ past_branches bs.items
-past_either s bs = ap past_stmt (sym (rolls-Either s bs)) ∙ fold-roll-Stmt ℕ past_step (Stmt-F.Either s bs) ∙ ap past_each (map-map _ _ bs.items)
+past_either s bs = ap past_stmt (sym (rolls-Either s bs)) ∙ fold-roll-Stmt ℕ past_step (Stmt-F.Either s bs) ∙ ap greatest (map-map _ _ bs.items)
 
 pub past_with : (s : Span) (bs : Vec Bind Global) (a : Vec Stmt Global) → past_stmt (With s bs a) ≡ max (past_binds bs.items) (past_statements a.items)
 past_with s bs a = ap past_stmt (sym (rolls-With s bs a)) ∙ fold-roll-Stmt ℕ past_step (Stmt-F.With s bs a)
@@ -56,7 +57,7 @@ past_while s e a = ap past_stmt (sym (rolls-While s e a)) ∙ fold-roll-Stmt ℕ
 -- ---- lists
 
 -- of one more
-pub past_one_more : {A : Type 0} (past : A → ℕ) (xs : List A) (y : A) → past_each (map past (xs ++ y ∷ [])) ≡ max (past_each (map past xs)) (past y)
+pub past_one_more : {A : Type 0} (past : A → ℕ) (xs : List A) (y : A) → greatest (map past (xs ++ y ∷ [])) ≡ max (greatest (map past xs)) (past y)
 past_one_more past [] y = omega arith
 past_one_more past (x ∷ xs) y = omega (arith, past_one_more past xs y)
 

@@ -4,6 +4,7 @@ use Rattle.std.specs.formers.vec.Vec.{mapped}
 use Rattle.tla_tree.specs.Tree.{Tree}
 use Rattle.tla_tree.specs.Tree as expression
 use Rattle.tla_tree.specs.Pool.{trees_at, Keeps}
+use Rattle.tla_tree.specs.Nesting.{greatest}
 use Rattle.pcal_tree.specs.declared.algorithm.Assignment.{Assignment}
 use Rattle.pcal_tree.specs.declared.algorithm.Bind.{Bind}
 use Rattle.pcal_tree.specs.declared.algorithm.Bind.TheVariants as bind
@@ -24,14 +25,14 @@ use Rattle.pcal_tree.specs.declared.algorithm.Main.{Main}
 use Rattle.pcal_tree.specs.declared.algorithm.Main.TheVariants as main
 use Rattle.pcal_tree.specs.declared.algorithm.Algorithm.{Algorithm}
 use Rattle.pcal_tree.specs.Algorithm as tree
-use Rattle.pcal_tree.specs.InMemory.{span_of, assignments_at, binds_at, simple_at, Before, statements_from, branches_from, stmt_step, stmt_at, statements_at, start_at, declaration_at, declarations_at, definition_at, definitions_at, macro_at, procedure_at, process_at, main_at, algorithm_at, past_each, past_numbers, past_assignment, past_binds, past_simple, past_step, past_stmt, past_statements, past_start, past_declaration, past_declarations, past_definition, past_definitions, past_macro, past_procedure, past_process, past_main, past_algorithm}
+use Rattle.pcal_tree.specs.InMemory.{span_of, assignments_at, binds_at, simple_at, Before, statements_from, branches_from, stmt_step, stmt_at, statements_at, start_at, declaration_at, declarations_at, definition_at, definitions_at, macro_at, procedure_at, process_at, main_at, algorithm_at, past_numbers, past_assignment, past_binds, past_simple, past_step, past_stmt, past_statements, past_start, past_declaration, past_declarations, past_definition, past_definitions, past_macro, past_procedure, past_process, past_main, past_algorithm}
 
 module _ (ts us : List Tree) (k : Keeps ts us) where
   pub numbers_kept : (es : List ℕ) → past_numbers es ≤ length ts → trees_at us es ≡ trees_at ts es
   numbers_kept [] h = refl
   numbers_kept (e ∷ es) h = λ j. expression.tree (k.same e (omega (arith, h)) j) (numbers_kept es (omega (arith, h)) j)
 
-  pub assignments_at-kept : (ms : List Assignment) → past_each (map past_assignment ms) ≤ length ts → assignments_at us ms ≡ assignments_at ts ms
+  pub assignments_at-kept : (ms : List Assignment) → greatest (map past_assignment ms) ≤ length ts → assignments_at us ms ≡ assignments_at ts ms
   assignments_at-kept [] h = refl
   assignments_at-kept (a ∷ ms) h = λ j. tree.assignment (k.same a.left (omega (arith, h)) j) (k.same a.right (omega (arith, h)) j) (assignments_at-kept ms (omega (arith, h)) j)
 
@@ -65,7 +66,7 @@ module _ (ts us : List Tree) (k : Keeps ts us) where
   some_kept [] h = refl
   some_kept (e ∷ es) h = λ j. e.1 (omega (arith, h)) j (some_kept es (omega (arith, h)) j)
 
-  branches_kept : (bs : List (Vec Sure Global)) → past_each (map (λ (b : Vec Sure Global). past_statements (map (λ e. e.0) b.items)) bs) ≤ length ts
+  branches_kept : (bs : List (Vec Sure Global)) → greatest (map (λ (b : Vec Sure Global). past_statements (map (λ e. e.0) b.items)) bs) ≤ length ts
       → map (λ (b : Vec Sure Global). statements_at us (map (λ e. e.0) b.items)) bs ≡ map (λ (b : Vec Sure Global). statements_at ts (map (λ e. e.0) b.items)) bs
   branches_kept [] h = refl
   branches_kept (b ∷ bs) h = λ j. some_kept b.items (omega (arith, h)) j ∷ branches_kept bs (omega (arith, h)) j
@@ -83,7 +84,7 @@ module _ (ts us : List Tree) (k : Keeps ts us) where
   layer_kept (Stmt-F.If s e a b) h =
       λ j rest. tree.then (span_of s) (tree.branch (k.same e (omega (arith, h)) j) (some_kept a.items (omega (arith, h)) j) (some_kept b.items (omega (arith, h)) j)) rest
   layer_kept (Stmt-F.Either s bs) h =
-      let all = branches_kept bs.items (omega (arith, h, ap past_each (each_branch past_stmt past_each bs.items))) in
+      let all = branches_kept bs.items (omega (arith, h, ap greatest (each_branch past_stmt greatest bs.items))) in
       ap {B = Before} (λ (l : List tree.Statements) rest. tree.then (span_of s) (tree.either (branches_from l)) rest) (each_branch (stmt_at us) statements_from bs.items ∙ all ∙ sym (each_branch (stmt_at ts) statements_from bs.items))
   layer_kept (Stmt-F.With s bs a) h = λ j rest. tree.then (span_of s) (tree.with (binds_at-kept bs.items (omega (arith, h)) j) (some_kept a.items (omega (arith, h)) j)) rest
   layer_kept (Stmt-F.While s e a) h = λ j rest. tree.then (span_of s) (tree.while (k.same e (omega (arith, h)) j) (some_kept a.items (omega (arith, h)) j)) rest
@@ -103,7 +104,7 @@ module _ (ts us : List Tree) (k : Keeps ts us) where
   start_at-kept (start.Among e) h = ap tree.among (k.same e (omega (arith, h)))
 
   -- each member's, and so the list's
-  pub each_kept : {A B : Type 0} (f g : A → B) (past : A → ℕ) (each : (a : A) → past a ≤ length ts → f a ≡ g a) (xs : List A) → past_each (map past xs) ≤ length ts → map f xs ≡ map g xs
+  pub each_kept : {A B : Type 0} (f g : A → B) (past : A → ℕ) (each : (a : A) → past a ≤ length ts → f a ≡ g a) (xs : List A) → greatest (map past xs) ≤ length ts → map f xs ≡ map g xs
   each_kept f g past each [] h = refl
   each_kept f g past each (x ∷ xs) h = λ j. each x (omega (arith, h)) j ∷ each_kept f g past each xs (omega (arith, h)) j
 

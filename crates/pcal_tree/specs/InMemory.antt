@@ -3,6 +3,7 @@ use Rattle.std.specs.Prelude.{ℕ, ◌+◌, max, List, [], ◌∷◌, map, Vec}
 use Rattle.std.specs.declared.alloc.Global.{Global}
 use Rattle.tla_tree.specs.Tree.{Tree}
 use Rattle.tla_tree.specs.Pool.{at, trees_at}
+use Rattle.tla_tree.specs.Nesting.{greatest}
 use Rattle.pcal_tree.specs.declared.algorithm.Span.{Span}
 use Rattle.pcal_tree.specs.declared.algorithm.Assignment.{Assignment}
 use Rattle.pcal_tree.specs.declared.algorithm.Bind.{Bind}
@@ -141,15 +142,11 @@ algorithm_at ts a = record {
 
 -- ---- past which numbers theirs are: the least number that is above each; those of an algorithm are of a pool of at least so many
 
-abbrev pub past_each : List ℕ → ℕ
-past_each [] = 0
-past_each (n ∷ ns) = max n (past_each ns)
-
 abbrev pub past_number : ℕ → ℕ
 past_number e = e + 1
 
 abbrev pub past_numbers : List ℕ → ℕ
-past_numbers es = past_each (map past_number es)
+past_numbers es = greatest (map past_number es)
 
 abbrev pub past_assignment : Assignment → ℕ
 past_assignment a = max (a.left + 1) (a.right + 1)
@@ -159,10 +156,10 @@ past_bind (bind.Among x e) = e + 1
 past_bind (bind.Is x e) = e + 1
 
 abbrev pub past_binds : List Bind → ℕ
-past_binds bs = past_each (map past_bind bs)
+past_binds bs = greatest (map past_bind bs)
 
 abbrev pub past_simple : Simple → ℕ
-past_simple (simple.Assign ms) = past_each (map past_assignment ms.items)
+past_simple (simple.Assign ms) = greatest (map past_assignment ms.items)
 past_simple (simple.Await e) = e + 1
 past_simple (simple.Print e) = e + 1
 past_simple (simple.Assert e) = e + 1
@@ -175,19 +172,19 @@ past_simple simple.Return = 0
 abbrev pub past_step : Stmt-F ℕ → ℕ
 past_step (Stmt-F.Label x m) = 0
 past_step (Stmt-F.Simple s x) = past_simple x
-past_step (Stmt-F.If s e a b) = max (e + 1) (max (past_each a.items) (past_each b.items))
-past_step (Stmt-F.Either s bs) = past_each (map (λ (b : Vec ℕ Global). past_each b.items) bs.items)
-past_step (Stmt-F.With s bs a) = max (past_binds bs.items) (past_each a.items)
-past_step (Stmt-F.While s e a) = max (e + 1) (past_each a.items)
+past_step (Stmt-F.If s e a b) = max (e + 1) (max (greatest a.items) (greatest b.items))
+past_step (Stmt-F.Either s bs) = greatest (map (λ (b : Vec ℕ Global). greatest b.items) bs.items)
+past_step (Stmt-F.With s bs a) = max (past_binds bs.items) (greatest a.items)
+past_step (Stmt-F.While s e a) = max (e + 1) (greatest a.items)
 
 abbrev pub past_stmt : Stmt → ℕ
 past_stmt = fold-Stmt ℕ past_step
 
 abbrev pub past_statements : List Stmt → ℕ
-past_statements ss = past_each (map past_stmt ss)
+past_statements ss = greatest (map past_stmt ss)
 
 abbrev pub past_branches : List (Vec Stmt Global) → ℕ
-past_branches bs = past_each (map (λ (b : Vec Stmt Global). past_statements b.items) bs)
+past_branches bs = greatest (map (λ (b : Vec Stmt Global). past_statements b.items) bs)
 
 abbrev pub past_start : Start → ℕ
 past_start start.Unset = 0
@@ -198,13 +195,13 @@ abbrev pub past_declaration : Declaration → ℕ
 past_declaration d = past_start d.start
 
 abbrev pub past_declarations : List Declaration → ℕ
-past_declarations ds = past_each (map past_declaration ds)
+past_declarations ds = greatest (map past_declaration ds)
 
 abbrev pub past_definition : Definition → ℕ
 past_definition d = d.body + 1
 
 abbrev pub past_definitions : List Definition → ℕ
-past_definitions ds = past_each (map past_definition ds)
+past_definitions ds = greatest (map past_definition ds)
 
 abbrev pub past_macro : Macro → ℕ
 past_macro m = past_statements m.body.items
@@ -217,8 +214,8 @@ past_process p = max (p.identity + 1) (max (past_declarations p.variables.items)
 
 abbrev pub past_main : Main → ℕ
 past_main (main.Alone ss) = past_statements ss.items
-past_main (main.Processes ps) = past_each (map past_process ps.items)
+past_main (main.Processes ps) = greatest (map past_process ps.items)
 
 abbrev pub past_algorithm : Algorithm → ℕ
 past_algorithm a =
-    max (past_declarations a.globals.items) (max (past_definitions a.definitions.items) (max (past_each (map past_macro a.macros.items)) (max (past_each (map past_procedure a.procedures.items)) (past_main a.main))))
+    max (past_declarations a.globals.items) (max (past_definitions a.definitions.items) (max (greatest (map past_macro a.macros.items)) (max (greatest (map past_procedure a.procedures.items)) (past_main a.main))))

@@ -5,9 +5,9 @@ use Rattle.tla_token.specs.declared.token.Tokens.{Tokens}
 use Rattle.tla_tree.specs.Tree.{Tree}
 use Rattle.tla_tree.specs.Lexical.{Token}
 use Rattle.tla_tree.specs.Reader.{Out, Reader, ◌>>=◌, then_read, gives}
+use Rattle.tla_tree.specs.Nesting.{greatest}
 use Rattle.expression_parts.specs.ReadIn.{Reads}
 use Rattle.expression_parts.specs.Ahead.{ahead}
-use Rattle.pcal_tree.specs.InMemory.{past_each}
 use Rattle.algorithm_parts.specs.ReadAround.{more_of}
 use Rattle.algorithm_parts.specs.PartsRead.{StandsFor}
 use Rattle.algorithm_parts.proofs.Gathered.{put_after, gives_put, SoFar, InPool}
@@ -28,7 +28,7 @@ module _ {A T : Type 0} (read : ℕ → Reader A) (listed : A → List T) (v : T
 
 module _ {A X T : Type 0} (read : ℕ → Reader A) (listed : A → List T) (stands : List Tree → X → T) (past : X → ℕ) (v : Tokens) where
   pub no_more_in_pool : (ts : List Tree) (all from i j : ℕ) (xs : List X) → InPool read listed stands past v ts all from i xs → ((n : ℕ) → NoneAt read listed v i j n)
-      → Reads (StandsFor (λ us l. map (stands us) l) (λ l. past_each (map past l)) listed ts xs) (ahead v j) (read all (ahead v from))
+      → Reads (StandsFor (λ us l. map (stands us) l) (λ l. greatest (map past l)) listed ts xs) (ahead v j) (read all (ahead v from))
   no_more_in_pool ts all from i j xs s g =
       let whole = no_more read listed v all from i j (map (stands ts) xs) s.so_far (g s.so_far.steps) in
       record { what = whole.what; is = whole.is; told = record { below = s.below; tree = whole.told } }

@@ -10,6 +10,7 @@ use Rattle.tla_tree.specs.Lexical.{TokenView}
 use Rattle.tla_tree.specs.Lexical as tk
 use Rattle.tla_tree.specs.Spelling.{tree_of}
 use Rattle.tla_tree.specs.Reader.{Out, Reader, ◌>>=◌, gives, refuses, skip}
+use Rattle.tla_tree.specs.Nesting.{greatest}
 use Rattle.expression_parts.specs.declared.cursor.Halt.{Halt}
 use Rattle.expression_parts.specs.ReadIn.{Told}
 use Rattle.expression_parts.specs.Ahead.{ahead}
@@ -19,7 +20,7 @@ use Rattle.pcal_tree.specs.declared.algorithm.Macro.{Macro}
 use Rattle.pcal_tree.specs.declared.algorithm.Procedure.{Procedure}
 use Rattle.pcal_tree.specs.declared.algorithm.Process.{Process}
 use Rattle.pcal_tree.specs.Algorithm as tree
-use Rattle.pcal_tree.specs.InMemory.{statements_at, past_statements, macro_at, past_macro, procedure_at, past_procedure, process_at, past_process, past_each}
+use Rattle.pcal_tree.specs.InMemory.{statements_at, past_statements, macro_at, past_macro, procedure_at, past_procedure, process_at, past_process}
 use Rattle.pcal_tree.specs.Grammar.{Fair, unfair, fairness_of, Identity, process_name, is_several, identifiers, Main}
 use Rattle.algorithm_parts.specs.TokenReaders.{by_next, a_key, pick, Parts}
 use Rattle.algorithm_parts.specs.ReadAround.{fair_by}
@@ -56,19 +57,19 @@ abbrev pub macros_at : List Tree → Vec Macro Global → List tree.Macro
 macros_at ts ms = map (macro_at ts) ms.items
 
 abbrev pub past_macros : Vec Macro Global → ℕ
-past_macros ms = past_each (map past_macro ms.items)
+past_macros ms = greatest (map past_macro ms.items)
 
 abbrev pub procedures_at : List Tree → Vec Procedure Global → List tree.Procedure
 procedures_at ts ps = map (procedure_at ts) ps.items
 
 abbrev pub past_procedures : Vec Procedure Global → ℕ
-past_procedures ps = past_each (map past_procedure ps.items)
+past_procedures ps = greatest (map past_procedure ps.items)
 
 abbrev pub processes_at : List Tree → Vec Process Global → List tree.Process
 processes_at ts ps = map (process_at ts) ps.items
 
 abbrev pub past_processes : Vec Process Global → ℕ
-past_processes ps = past_each (map past_process ps.items)
+past_processes ps = greatest (map past_process ps.items)
 
 -- ---- the words before a process: how fair it is, with the place of `process`; none where no process begins
 abbrev pub beginning_words : Place → List (Word × Reader (Option (Fair × Place)))

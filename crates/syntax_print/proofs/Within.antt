@@ -1,8 +1,8 @@
 -- A number of an element that is within a bound on all.
 use Rattle.std.proofs.Common.{◌≡◌, ℕ, zero, suc, ◌<◌, ◌≤◌, List, [], ◌∷◌, length, map, get_or, refl, ap, arith}
-use Rattle.pcal_tree.specs.InMemory.{past_each}
+use Rattle.tla_tree.specs.Nesting.{greatest}
 
-pub past_at : {A : Type 0} (f : A → ℕ) (xs : List A) (i : ℕ) (x : A) → x ≡ get_or xs i x → i < length xs → f x ≤ past_each (map f xs)
+pub past_at : {A : Type 0} (f : A → ℕ) (xs : List A) (i : ℕ) (x : A) → x ≡ get_or xs i x → i < length xs → f x ≤ greatest (map f xs)
 past_at f [] i x is lt = absurd (omega arith)
 past_at f (y ∷ ys) zero x is lt = (let e = ap f is in omega (arith, e))
 past_at f (y ∷ ys) (suc i) x is lt = (let r = past_at f ys i x is (omega (arith, lt)) in omega (arith, r))

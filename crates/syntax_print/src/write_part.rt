@@ -2,9 +2,10 @@
 
 ghost use Rattle.std.specs.Prelude.{◌∷◌, ◌≡◌, ◌≤◌, ◌++◌, length, map, cond, nat_lt, [], codes, OnOk};
 ghost use Rattle.pcal_tree.specs.Printed.{blanks, start_text, declaration_text, declarations_text, names_text, listed, separated, trees_texts, arguments_text, assignments_texts, binds_texts, parameters_text};
-ghost use Rattle.pcal_tree.specs.InMemory.{start_at, declaration_at, declarations_at, assignments_at, binds_at, past_start, past_declaration, past_declarations, past_assignment, past_bind, past_binds, past_each, past_numbers};
+ghost use Rattle.pcal_tree.specs.InMemory.{start_at, declaration_at, declarations_at, assignments_at, binds_at, past_start, past_declaration, past_declarations, past_assignment, past_bind, past_binds, past_numbers};
 ghost use Rattle.tla_tree.specs.Pool.{at, trees_at};
 ghost use Rattle.tla_tree.specs.Written.{written};
+ghost use Rattle.tla_tree.specs.Nesting.{greatest};
 
 use pcal_tree::algorithm::{Assignment, Bind, Declaration, Start};
 use std::alloc::{AllocError, Global};
@@ -202,7 +203,7 @@ pub fn write_assignments(
     assignments: &[Assignment],
     into: &mut Text,
 ) -> Result<(), AllocError>
-    requires { past_each (map past_assignment assignments.now) ≤ length pool.now }
+    requires { greatest (map past_assignment assignments.now) ≤ length pool.now }
     ensures { OnOk result (into.new ≡ into.old ++ separated (codes " || ") (assignments_texts (assignments_at pool.now assignments.now))) }
 {
     for i in 0..assignments.len() {

@@ -3,9 +3,10 @@
 ghost use Rattle.std.specs.Prelude.{◌≡◌, ◌≤◌, ◌++◌, ◌∷◌, length, map, [], OnOk};
 ghost use Rattle.tla_tree.specs.Pool.{at};
 ghost use Rattle.tla_tree.specs.Written.{written};
+ghost use Rattle.tla_tree.specs.Nesting.{greatest};
 ghost use Rattle.pcal_tree.specs.Algorithm.{alone};
 ghost use Rattle.pcal_tree.specs.Printed.{variables, define, definitions, body, macros, procedures, sign_text, identity_text, process_lines, main};
-ghost use Rattle.pcal_tree.specs.InMemory.{declarations_at, definition_at, definitions_at, statements_at, macro_at, procedure_at, process_at, main_at, past_declarations, past_definition, past_definitions, past_statements, past_macro, past_procedure, past_process, past_main, past_each};
+ghost use Rattle.pcal_tree.specs.InMemory.{declarations_at, definition_at, definitions_at, statements_at, macro_at, procedure_at, process_at, main_at, past_declarations, past_definition, past_definitions, past_statements, past_macro, past_procedure, past_process, past_main};
 ghost use Rattle.pcal_tree.specs.Syntaxes.{syntax_of};
 ghost use Rattle.syntax_print.specs.Adding.{Adds};
 
@@ -161,7 +162,7 @@ pub fn write_macros(
     list: &[Macro],
     into: &mut Text,
 ) -> Result<(), AllocError>
-    requires { past_each (map past_macro list.now) ≤ length pool.now }
+    requires { greatest (map past_macro list.now) ≤ length pool.now }
     ensures { OnOk result (Adds into.old into.new (macros (syntax_of syntax) (map (macro_at pool.now) list.now))) }
 {
     for unit in list {
@@ -201,7 +202,7 @@ pub fn write_procedures(
     list: &[Procedure],
     into: &mut Text,
 ) -> Result<(), AllocError>
-    requires { past_each (map past_procedure list.now) ≤ length pool.now }
+    requires { greatest (map past_procedure list.now) ≤ length pool.now }
     ensures { OnOk result (Adds into.old into.new (procedures (syntax_of syntax) (map (procedure_at pool.now) list.now))) }
 {
     for unit in list {
@@ -276,7 +277,7 @@ fn write_processes(
     list: &[Process],
     into: &mut Text,
 ) -> Result<(), AllocError>
-    requires { past_each (map past_process list.now) ≤ length pool.now }
+    requires { greatest (map past_process list.now) ≤ length pool.now }
     ensures { OnOk result (Adds into.old into.new (process_lines (syntax_of syntax) (map (process_at pool.now) list.now))) }
 {
     for unit in list {

@@ -1,9 +1,10 @@
 -- Proves what is asked of `closed_if`.
 use Rattle.std.proofs.Common.{◌≡◌, [], ◌∷◌, ◌++◌, List, map, sym, ap, ◌∙◌, arith}
 use Rattle.tla_tree.specs.Tree.{Tree}
+use Rattle.tla_tree.specs.Nesting.{greatest}
 use Rattle.pcal_tree.specs.declared.algorithm.Stmt.{Stmt}
 use Rattle.pcal_tree.specs.Algorithm.{Statements, done}
-use Rattle.pcal_tree.specs.InMemory.{stmt_at, statements_at, past_each, past_statements}
+use Rattle.pcal_tree.specs.InMemory.{stmt_at, statements_at, past_statements}
 use Rattle.pcal_tree.proofs.InMemoryEach.{past_one_more}
 use Rattle.p_syntax.specs.declared.open.Test.{Test}
 use Rattle.p_syntax.specs.StatesRead.{nested, before_rest, past_test}
@@ -36,5 +37,5 @@ loop-test-preserved c =
           ∙ ap (λ (l : List Test). nested ts l last (stmt_at ts c.loop-test.statement done)) (sym c.in-Some.ensures.items)
           ∙ kept.whole ts;
       alone = λ ts rest. said.tree ts rest ∙ ap (λ (z : Statements). before_rest z rest) (sym (said.tree ts done));
-      below = omega (arith, said.below, kept.below, ap (λ (l : List Test). past_each (map past_test l)) c.in-Some.ensures.items, past_one_more past_test left x, ap past_statements one);
+      below = omega (arith, said.below, kept.below, ap (λ (l : List Test). greatest (map past_test l)) c.in-Some.ensures.items, past_one_more past_test left x, ap past_statements one);
     }
