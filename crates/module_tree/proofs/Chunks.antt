@@ -16,13 +16,12 @@ use Rattle.tla_tree.specs.Lexical.{TokenView, Token, token, token_text}
 use Rattle.tla_tree.specs.Lexical as tk
 use Rattle.tla_tree.specs.TokenViews.{kind_of, views}
 use Rattle.tla_tree.specs.Spelling.{Right}
-use Rattle.tla_tree.specs.laws.Writable.{IsSpelled}
+use Rattle.tla_tree.specs.laws.Writable.{IsSpelled, IsSmall}
 use Rattle.tla_tree.proofs.InText.{further}
 use Rattle.tla_tree.proofs.FitTokens.{Before, Small, ruled, second, behind}
 use Rattle.module_tree.specs.Beginnings.{is_rule, begins_bar}
 use Rattle.module_tree.specs.Grammar.{Tokens, see}
 use Rattle.module_tree.specs.FileUnits.{is_starter, is_bar, begins_unit, Cut, cut_at, cut}
-use Rattle.module_tree.specs.Reading.{is_small}
 use Rattle.module_tree.proofs.WalkPieces.{barless, unbarred, are_barless}
 
 -- ---- places: lines, and columns within them
@@ -35,7 +34,7 @@ put n c = record { line = n; col = c }
 abbrev pub Plain : List Piece → Type 0
 Plain [] = Unit {0}
 Plain (blank b ∷ ps) = Plain ps
-Plain (lexeme k bytes ∷ ps) = is_small k × Plain ps
+Plain (lexeme k bytes ∷ ps) = IsSmall k × Plain ps
 Plain (p ∷ ps) = ⊥
 
 pub record Fine (ps : List Piece) : Type 0 where
@@ -105,7 +104,7 @@ unruled_rule (a ∷ b ∷ w) rest h = by (nat_eq 45 a) (nat_eq 45 b) _ _ h
 
 -- ---- tokens in front
 
-small_of : (l : Kind) (k : TokenView) → kind_of l ≡ k → Small k → is_small l
+small_of : (l : Kind) (k : TokenView) → kind_of l ≡ k → Small k → IsSmall l
 small_of (lexeme.name w) k e h = tt
 small_of (lexeme.number n) k e h = subst Small (sym e) h
 small_of (lexeme.string w) k e h = tt

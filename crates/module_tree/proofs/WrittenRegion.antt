@@ -9,6 +9,7 @@ use Rattle.tla_token.specs.Tokens.{Token, Piece, blank, block, line, lexeme, tex
 use Rattle.tla_token.proofs.OneLine.{stays, lexeme_stays}
 use Rattle.tla_tree.specs.TokenViews.{views}
 use Rattle.tla_tree.specs.Tree.{Tree}
+use Rattle.tla_tree.specs.laws.Writable.{AreSmall}
 use Rattle.tla_value.specs.Outside.{Outside}
 use Rattle.module_tree.specs.TextFront.{Text, on_some}
 use Rattle.module_tree.specs.HeaderAndRegion.{is_end}
@@ -21,7 +22,7 @@ use Rattle.module_tree.specs.Around.{Around}
 use Rattle.module_tree.specs.Layout.{layout}
 use Rattle.module_tree.specs.Module.{Way, Region, units_of, Module}
 use Rattle.module_tree.specs.Units.{IsUnit}
-use Rattle.module_tree.specs.Reading.{AllAre, AllSmall}
+use Rattle.module_tree.specs.Reading.{AllAre}
 use Rattle.module_tree.specs.Ways.{is_terminating}
 use Rattle.module_tree.specs.laws.Walks.{IsInside, after_all, made, located}
 use Rattle.module_tree.specs.laws.Kept.{IsFine}
@@ -69,7 +70,7 @@ layout_inside r v =
 
 -- ---- numbers
 
-small_tokens : (p : Place) (at : ℕ) (ps : List Piece) → Plain ps → AllSmall (tokens_of p at ps)
+small_tokens : (p : Place) (at : ℕ) (ps : List Piece) → Plain ps → AreSmall (tokens_of p at ps)
 small_tokens p at [] h = tt
 small_tokens p at (blank b ∷ ps) h = small_tokens (after p (b ∷ [])) (at + 1) ps h
 small_tokens p at (block w ∷ ps) h = absurd h
@@ -83,7 +84,7 @@ in_region st = record { at = st.at + length begin_line; place = after st.place b
 
 -- these tokens are its units
 abbrev UnitsOf : Region → List Token → Type 0
-UnitsOf q ts = AllSmall ts × ((cut (views ts)).front ≡ []) × AllAre IsUnit (cut (views ts)).units (units_of q)
+UnitsOf q ts = AreSmall ts × ((cut (views ts)).front ≡ []) × AllAre IsUnit (cut (views ts)).units (units_of q)
 
 pub read_back : (st : State) (r : Region) → IsRegion r → IsReadBack st r
 read_back st r v =

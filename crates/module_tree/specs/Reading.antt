@@ -1,11 +1,9 @@
 -- Which module a text is: its header, the units before the translation, the translation, and the units after it ("Specifying Systems", chapter 17).
-use Rattle.std.specs.Prelude.{◌≡◌, ◌<◌, true, false, List, [], ◌∷◌, ◌++◌, Some, None, is_some}
+use Rattle.std.specs.Prelude.{◌≡◌, true, false, List, [], ◌∷◌, ◌++◌, Some, None, is_some}
 use Rattle.std.specs.List.{list_any}
-use Rattle.tla_token.specs.Tokens as text
-use Rattle.tla_token.specs.Lexemes as lexeme
-use Rattle.tla_token.specs.Limits.{past_numbers}
 use Rattle.tla_tree.specs.Tree.{words}
 use Rattle.tla_tree.specs.Lexical.{Token}
+use Rattle.tla_tree.specs.laws.Writable.{AreSmall}
 use Rattle.tla_value.specs.Outside.{Outside}
 use Rattle.module_tree.specs.Module.{units_of, OutsideUnit, Module, outside_of}
 use Rattle.module_tree.specs.TextFront.{Text}
@@ -23,15 +21,6 @@ AllAre P [] [] = Unit {0}
 AllAre P (ts ∷ more) (u ∷ us) = P ts u × AllAre P more us
 AllAre P _ _ = ⊥
 
--- no number is past 2^127 - 1
-abbrev pub is_small : lexeme.Kind → Type 0
-is_small (lexeme.number n) = n < past_numbers
-is_small _ = Unit {0}
-
-abbrev pub AllSmall : List text.Token → Type 0
-AllSmall [] = Unit {0}
-AllSmall (t ∷ ts) = is_small t.kind × AllSmall ts
-
 -- modules and constants count wherever they are
 abbrev pub sight_in : Outside → Sight
 sight_in o = record { modules = o.extended; constants = words o.constants; earlier = [] }
@@ -43,7 +32,7 @@ sight m = sight_in m.outside
 pub record ReadsRegion (region : Located) (m : Module) : Type 0 where
   pub sound : offences_of (inside_region region) ≡ []
   pub open_ended : module_end (inside_region region) ≡ None
-  pub small : AllSmall (tokens_in (inside_region region))
+  pub small : AreSmall (tokens_in (inside_region region))
   pub no_front : (units_in (inside_region region)).front ≡ []
   pub units : AllAre IsUnit (units_in (inside_region region)).units (units_of m.region)
 
