@@ -7,9 +7,34 @@ use Rattle.tla_tree.specs.Lexical.{Token}
 use Rattle.tla_tree.specs.Lexical as tk
 use Rattle.tla_tree.specs.Spelling.{Phrase, number, string, constant, name, primed, call, brackets, no_set, set_of, filter, image, no_tuple, tuple, fields, records, function, functions, except, apply, select, list, quantified, if_then_else, cases, local, infix_of, prefix_of}
 use Rattle.tla_tree.specs.Spelling.{Phrases, last, more, Binds, last_bind, bind, share, Fields, last_field, field, Settings, last_setting, setting, Path, path_end, index, at_field, Bullets, last_bullet, bullet, Arms, last_arm, other_arm, arm, Locals, last_local, more_locals}
-use Rattle.tla_tree.specs.Spelling.{Good, GoodAll, GoodBinds, GoodFields, GoodSettings, GoodPath, GoodBullets, GoodArms, GoodLocals, Right, head, ends_open, end_list, is_behind, is_short, can_be_left, can_be_right, can_be_under, can_be_head, is_some_path, takes_box, last_takes_box, is_bind, spell, spell_all, mark, sign, field_token}
-use Rattle.tla_tree.specs.laws.Columns.{lineless_place, lineless_field, lineless, lineless_all, lineless_binds, lineless_fields, lineless_settings, lineless_path, lineless_bullets, lineless_arms, lineless_locals}
+use Rattle.tla_tree.specs.Spelling.{Field, Good, GoodAll, GoodBinds, GoodFields, GoodSettings, GoodPath, GoodBullets, GoodArms, GoodLocals, Right, head, ends_open, end_list, is_behind, is_short, can_be_left, can_be_right, can_be_under, can_be_head, is_some_path, takes_box, last_takes_box, is_bind, spell, spell_all, mark, sign, field_token}
+use Rattle.tla_tree.specs.laws.Columns.{moved_field, moved_binds, moved_fields, moved_settings, moved_path, moved_bullets, moved_arms, moved_locals, column_of, lineless_place, lineless, lineless_all}
 use Rattle.tla_tree.proofs.ReadMembers.{first_in, name_bind, word_bind, sign_no_word}
+
+-- ---- parts of a phrase without their lines
+abbrev lineless_field : Field → Field
+lineless_field x = moved_field column_of x
+
+abbrev lineless_binds : Binds → Binds
+lineless_binds x = moved_binds column_of x
+
+abbrev lineless_fields : Fields → Fields
+lineless_fields x = moved_fields column_of x
+
+abbrev lineless_settings : Settings → Settings
+lineless_settings x = moved_settings column_of x
+
+abbrev lineless_path : Path → Path
+lineless_path x = moved_path column_of x
+
+abbrev lineless_bullets : Bullets → Bullets
+lineless_bullets x = moved_bullets column_of x
+
+abbrev lineless_arms : Arms → Arms
+lineless_arms x = moved_arms column_of x
+
+abbrev lineless_locals : Locals → Locals
+lineless_locals x = moved_locals column_of x
 
 -- ---- what an operator beside a phrase looks at
 head_of : (a : Phrase) → head (lineless a) ≡ head a

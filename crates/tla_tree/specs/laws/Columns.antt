@@ -84,32 +84,8 @@ column_of p = p.col
 abbrev pub lineless_place : Place → Place
 lineless_place x = moved_place column_of x
 
-abbrev pub lineless_field : Field → Field
-lineless_field x = moved_field column_of x
-
 abbrev pub lineless : Phrase → Phrase
 lineless x = moved column_of x
 
 abbrev pub lineless_all : Phrases → Phrases
 lineless_all x = moved_all column_of x
-
-abbrev pub lineless_binds : Binds → Binds
-lineless_binds x = moved_binds column_of x
-
-abbrev pub lineless_fields : Fields → Fields
-lineless_fields x = moved_fields column_of x
-
-abbrev pub lineless_settings : Settings → Settings
-lineless_settings x = moved_settings column_of x
-
-abbrev pub lineless_path : Path → Path
-lineless_path x = moved_path column_of x
-
-abbrev pub lineless_bullets : Bullets → Bullets
-lineless_bullets x = moved_bullets column_of x
-
-abbrev pub lineless_arms : Arms → Arms
-lineless_arms x = moved_arms column_of x
-
-abbrev pub lineless_locals : Locals → Locals
-lineless_locals x = moved_locals column_of x
