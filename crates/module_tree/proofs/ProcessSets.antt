@@ -1,5 +1,6 @@
 -- ProcSet as it is written: the sets of the processes, each an operand, with \cup between them and no brackets round two of them.
 use Rattle.std.proofs.Common.{◌≡◌, ℕ, zero, suc, ◌+◌, Bool, true, false, List, [], ◌∷◌, ◌++◌, None, refl, sym, ap, ◌∙◌, append_assoc, append-nil, codes}
+use Rattle.std.specs.List.{AllByRecursion}
 use Rattle.tla_token.specs.declared.place.Place.{Place}
 use Rattle.tla_token.specs.Places.{nowhere, after}
 use Rattle.tla_tree.specs.declared.op.Op.TheVariants as op
@@ -20,7 +21,6 @@ use Rattle.module_tree.specs.Grammar.{Tokens, see}
 use Rattle.module_tree.specs.Layout.{union_text, sets_text}
 use Rattle.module_tree.specs.Units.{process_set_form}
 use Rattle.module_tree.specs.Ways.{split_cup, sets_in}
-use Rattle.module_tree.specs.laws.WritableRegion.{EachOf}
 use Rattle.module_tree.proofs.Chunks.{put, Chunk, join, nothing, narrowed, over}
 use Rattle.module_tree.proofs.ExprChunks.{expr_at}
 use Rattle.module_tree.proofs.LineChunks.{spaced_sign}
@@ -90,7 +90,7 @@ record MoreAt (l : Phrase) (ds : List Tree) (p : Place) : Type 0 where
   end : Place
   chunk : Chunk ends_word p (more_text ds) tokens end
 
-more_at : (l : Phrase) (ds : List Tree) → EachOf IsWritable ds → Good 1 l → Leads l → (p : Place) → Right 1 p → MoreAt l ds p
+more_at : (l : Phrase) (ds : List Tree) → AllByRecursion IsWritable ds → Good 1 l → Leads l → (p : Place) → Right 1 p → MoreAt l ds p
 more_at l [] h g f p r = record { phrase = l; good = g; tree = refl; tokens = λ r. r; spelled = λ r. refl; end = p; chunk = narrowed ends_word (nothing p) }
 more_at l (d ∷ ds) h g f p r =
     let q = after p (codes " ") in
@@ -138,7 +138,7 @@ abbrev HasSet : List Tree → Type 0
 HasSet [] = ⊥
 HasSet (e ∷ es) = Unit {0}
 
-sets_at : (es : List Tree) → HasSet es → EachOf IsWritable es → (p : Place) → Right 1 p → SetsAt es p
+sets_at : (es : List Tree) → HasSet es → AllByRecursion IsWritable es → (p : Place) → Right 1 p → SetsAt es p
 sets_at [] n h p r = absurd n
 sets_at (e ∷ []) n h p r = (let a = expr_at 0 false e h.0 p r in record { phrase = a.phrase; good = a.good; tree = a.tree; end = a.end; chunk = a.chunk })
 sets_at (e ∷ d ∷ es) n h p r =
@@ -160,7 +160,7 @@ sets_some : (n : ℕ) (e : Tree) → HasSet (sets_in n e)
 sets_some zero e = tt
 sets_some (suc n) e = split_some n e []
 
-pub process_set_at : (n h : ℕ) (e : Tree) → EachOf IsWritable (sets_in h e) → UnitAt process_set_unit tree_placeless n h e
+pub process_set_at : (n h : ℕ) (e : Tree) → AllByRecursion IsWritable (sets_in h e) → UnitAt process_set_unit tree_placeless n h e
 process_set_at n h e v =
     let x = sets_at (sets_in h e) (sets_some h e) v (put n 12) refl in
     record {

@@ -1,5 +1,6 @@
 -- Each unit of a translation, as it is written.
 use Rattle.std.proofs.Common.{◌≡◌, ℕ, ◌+◌, true, false, List, [], ◌∷◌, ◌++◌, Option, Some, None, map, refl, sym, ap, codes}
+use Rattle.std.specs.List.{AllByRecursion}
 use Rattle.tla_token.specs.declared.place.Place.{Place}
 use Rattle.tla_token.specs.Places.{after}
 use Rattle.tla_tree.specs.declared.op.Op.TheVariants as op
@@ -16,7 +17,7 @@ use Rattle.module_tree.specs.Module.{RegionUnit, Way, Fairness, constant_unit, v
 use Rattle.module_tree.specs.Grammar.{see, WayForm, spell_way, way_of, GoodWay, spell_bullets, GoodBullets, each}
 use Rattle.module_tree.specs.Layout.{unit_text, parameters_text, way_text, ways_text, conjuncts_text, line, fairness_text}
 use Rattle.module_tree.specs.Units.{UnitForm, constant_form, variables_form, definition_form, vars_form, init_form, next_form, FairForm, fair_line, spell_spec, GoodSpec, fair_specs, fairness_of, ParameterForm, spell_parameters, parameters, GoodParameters, spell_unit, unit_of, GoodUnit}
-use Rattle.module_tree.specs.laws.WritableRegion.{AllOf, EachOf, AreNames, IsWay, IsFairness, IsDefinition}
+use Rattle.module_tree.specs.laws.WritableRegion.{AllOf, AreNames, IsWay, IsFairness, IsDefinition}
 use Rattle.module_tree.specs.laws.PlacelessRegion.{way_placeless, fairness_placeless, definition_placeless}
 use Rattle.module_tree.proofs.Chunks.{put, Chunk, any, join, at_byte, space, nothing, narrowed, over}
 use Rattle.module_tree.proofs.ExprChunks.{expr_at, names_at, names_start}
@@ -103,11 +104,11 @@ record ParametersAt (xs : List Word) (p : Place) : Type 0 where
   chunk : Chunk ends_word p (parameters_text xs) (spell_parameters form) end
   begins : (y : List ℕ) → ends_word y ≡ true → ends_word (parameters_text xs ++ y) ≡ true
 
-pub some_names : (x : Word) (xs : List Word) → EachOf IsIdentifier (x ∷ xs) → AreNames (x ∷ xs)
+pub some_names : (x : Word) (xs : List Word) → AllByRecursion IsIdentifier (x ∷ xs) → AreNames (x ∷ xs)
 some_names x [] h = h.0
 some_names x (y ∷ xs) h = (h.0, some_names y xs h.1)
 
-parameters_at : (xs : List Word) → EachOf IsIdentifier xs → (p : Place) → Right 1 p → ParametersAt xs p
+parameters_at : (xs : List Word) → AllByRecursion IsIdentifier xs → (p : Place) → Right 1 p → ParametersAt xs p
 parameters_at [] h p r = record { form = None; good = tt; same = refl; end = p; right = r; chunk = narrowed ends_word (nothing p); begins = λ y e. e }
 parameters_at (x ∷ xs) h p r =
     let v = some_names x xs h in
@@ -161,7 +162,7 @@ init_line n e v =
     let a = expr_at 2 false e v (after (put n 3) (codes "/\\ ")) (after_and n 2) in
     record { form = a.phrase; good = a.good; same = a.tree; next = a.end.line + 1; chunk = line_of n 2 (join (and_bullet n 2) a.chunk (λ y e. refl)) (λ y. refl) }
 
-inits_at : (n : ℕ) (es : List Tree) → EachOf IsWritable es → InitsAt n es
+inits_at : (n : ℕ) (es : List Tree) → AllByRecursion IsWritable es → InitsAt n es
 inits_at n [] h = record { forms = []; good = tt; same = refl; next = n; chunk = nothing (put n 1) }
 inits_at n (e ∷ es) h =
     let x = init_line n e h.0 in
@@ -194,7 +195,7 @@ way_line n y v =
     let a = way_at 2 y v (after (put n 3) (codes "\\/ ")) (after_or n 2) in
     record { form = a.form; good = a.good; same = a.same; next = a.end.line + 1; chunk = line_of n 2 (join (or_bullet n 2) a.chunk (λ y e. refl)) (λ y. refl) }
 
-pub ways_at : (n : ℕ) (ys : List Way) → EachOf IsWay ys → WaysAt n ys
+pub ways_at : (n : ℕ) (ys : List Way) → AllByRecursion IsWay ys → WaysAt n ys
 ways_at n [] h = record { forms = []; good = tt; same = refl; next = n; chunk = nothing (put n 1) }
 ways_at n (y ∷ ys) h =
     let x = way_line n y h.0 in
@@ -227,7 +228,7 @@ fairness_line n f v =
     let a = fair_at 2 f v (after (put n 3) (codes "/\\ ")) (after_and n 2) in
     record { form = a.form; good = a.good; same = a.same; next = a.end.line + 1; chunk = line_of n 2 (join (and_bullet n 2) a.chunk (λ y e. refl)) (λ y. refl) }
 
-pub fairs_at : (n : ℕ) (fs : List Fairness) → EachOf IsFairness fs → FairsAt n fs
+pub fairs_at : (n : ℕ) (fs : List Fairness) → AllByRecursion IsFairness fs → FairsAt n fs
 fairs_at n [] h = record { forms = []; good = tt; same = refl; next = n; chunk = nothing (put n 1) }
 fairs_at n (f ∷ fs) h =
     let x = fairness_line n f h.0 in
@@ -240,7 +241,7 @@ fairs_at n (f ∷ fs) h =
       chunk = join x.chunk xs.chunk (λ y e. refl);
     }
 
-pub each_of : {A : Type 0} (P : A → Type 0) (xs : List A) → AllOf P xs → EachOf P xs
+pub each_of : {A : Type 0} (P : A → Type 0) (xs : List A) → AllOf P xs → AllByRecursion P xs
 each_of P [] h = tt
 each_of P (x ∷ []) h = (h, tt)
 each_of P (x ∷ y ∷ xs) h = (h.0, each_of P (y ∷ xs) h.1)

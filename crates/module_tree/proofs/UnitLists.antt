@@ -1,5 +1,6 @@
 -- The units of a translation one after the other, with an empty line between two: each is read as itself, places aside.
 use Rattle.std.proofs.Common.{◌≡◌, ℕ, ◌+◌, true, List, [], ◌∷◌, ◌++◌, Option, Some, None, map, refl, sym, ap, subst, ◌∙◌, append_assoc, append-nil, codes}
+use Rattle.std.specs.List.{AllByRecursion}
 use Rattle.tla_token.specs.Tokens.{Piece, blank, text_of}
 use Rattle.tla_tree.specs.Tree.{Word, Tree}
 use Rattle.tla_tree.specs.Lexical.{Token}
@@ -13,7 +14,7 @@ use Rattle.module_tree.specs.Reading.{AllAre}
 use Rattle.module_tree.specs.Units.{IsUnit, spell_unit}
 use Rattle.module_tree.specs.Ways.{processes_in, sets_of}
 use Rattle.module_tree.specs.laws.Walks.{is_lined}
-use Rattle.module_tree.specs.laws.WritableRegion.{EachOf, IsGuard, IsDefinition, IsAction, IsRegion}
+use Rattle.module_tree.specs.laws.WritableRegion.{IsGuard, IsDefinition, IsAction, IsRegion}
 use Rattle.module_tree.specs.laws.PlacelessRegion.{action_placeless, definition_placeless, perhaps_placeless, region_placeless}
 use Rattle.module_tree.proofs.WalkResumed.{lined_end}
 use Rattle.module_tree.proofs.Chunks.{put, Fine, none_fine, newline_fine, seen}
@@ -97,13 +98,13 @@ record UnitsAt {B : Type 0} (units : B → List RegionUnit) (bare : B → B) (n 
 single : {A : Type 0} {make : A → RegionUnit} {bare : A → A} {n h : ℕ} {a : A} → UnitAt make bare n h a → UnitsAt (λ (x : A). make x ∷ []) bare n h a
 single x = record { new = x.new; same = x.same; next = x.next + 1; before = λ vs ws y. one_more x vs ws y }
 
-models_at : (n h : ℕ) (xs : List Word) → EachOf IsIdentifier xs → UnitsAt model_value_units as_it_is n h xs
+models_at : (n h : ℕ) (xs : List Word) → AllByRecursion IsIdentifier xs → UnitsAt model_value_units as_it_is n h xs
 models_at n h [] v = record { new = []; same = refl; next = n; before = λ vs ws y. y }
 models_at n h (x ∷ xs) v =
     let u = constant_at n h (x ∷ xs) (some_names x xs v) in
     record { new = x ∷ xs; same = refl; next = u.next + 1; before = λ vs ws y. subst (λ (ys : List Word). Reached n h (constant_unit (x ∷ xs) ∷ vs) (constant_unit ys ∷ ws)) u.same (one_more u vs ws y) }
 
-definitions_at : (n h : ℕ) (ds : List Definition) → EachOf IsDefinition ds → UnitsAt (map definition_unit) (map definition_placeless) n h ds
+definitions_at : (n h : ℕ) (ds : List Definition) → AllByRecursion IsDefinition ds → UnitsAt (map definition_unit) (map definition_placeless) n h ds
 definitions_at n h [] v = record { new = []; same = refl; next = n; before = λ vs ws y. y }
 definitions_at n h (d ∷ ds) v =
     let u = definition_at n h d v.0 in
@@ -115,13 +116,13 @@ definitions_at n h (d ∷ ds) v =
       before = λ vs ws y. one_more u (map definition_unit ds ++ vs) (map definition_unit us.new ++ ws) (us.before vs ws y);
     }
 
-process_sets_at : (n h : ℕ) (o : Option Tree) → EachOf IsWritable (sets_of h o) → UnitsAt process_set_of perhaps_placeless n h o
+process_sets_at : (n h : ℕ) (o : Option Tree) → AllByRecursion IsWritable (sets_of h o) → UnitsAt process_set_of perhaps_placeless n h o
 process_sets_at n h None v = record { new = None; same = refl; next = n; before = λ vs ws y. y }
 process_sets_at n h (Some e) v =
     let u = process_set_at n h e v in
     record { new = Some u.new; same = ap (λ (t : Tree). Some t) u.same; next = u.next + 1; before = λ vs ws y. one_more u vs ws y }
 
-actions_at : (n h : ℕ) (ds : List Action) → EachOf IsAction ds → UnitsAt (map action_unit) (map action_placeless) n h ds
+actions_at : (n h : ℕ) (ds : List Action) → AllByRecursion IsAction ds → UnitsAt (map action_unit) (map action_placeless) n h ds
 actions_at n h [] v = record { new = []; same = refl; next = n; before = λ vs ws y. y }
 actions_at n h (d ∷ ds) v =
     let u = action_at n h d v.0 in

@@ -1,5 +1,6 @@
 -- The units of actions, of Terminating, of Spec and of Termination, as they are written.
 use Rattle.std.proofs.Common.{◌≡◌, ℕ, ◌+◌, true, false, List, [], ◌∷◌, ◌++◌, Option, Some, None, map, refl, sym, ap, subst, codes}
+use Rattle.std.specs.List.{AllByRecursion}
 use Rattle.tla_token.specs.declared.place.Place.{Place}
 use Rattle.tla_token.specs.Places.{after}
 use Rattle.tla_token.proofs.Before.{marks_before}
@@ -17,7 +18,7 @@ use Rattle.module_tree.specs.Module.{Action, Body, all_of, some_of, Fairness, ac
 use Rattle.module_tree.specs.Grammar.{see, GoodList, each}
 use Rattle.module_tree.specs.Layout.{parameter_text, body_text, line}
 use Rattle.module_tree.specs.Units.{action_form, terminating_form, spec_form, termination_form, steps_line, fairness_of, BodyForm, all_form, some_form, spell_body, body_of, GoodBody, spell_parameter, parameter_of, GoodParameter}
-use Rattle.module_tree.specs.laws.WritableRegion.{EachOf, IsWay, IsBody, IsParameter, IsFairness, IsAction}
+use Rattle.module_tree.specs.laws.WritableRegion.{IsWay, IsBody, IsParameter, IsFairness, IsAction}
 use Rattle.module_tree.specs.laws.PlacelessRegion.{body_placeless, action_placeless, fairness_placeless}
 use Rattle.module_tree.proofs.Chunks.{put, Chunk, any, at_byte, before_byte, passes_sign, join, one, space, nothing, narrowed, over}
 use Rattle.module_tree.proofs.ExprChunks.{expr_at, name_at, name_over, name_starts}
@@ -142,7 +143,7 @@ steps_chunk n =
     line_of n 2 (join (and_bullet n 2) (join (box_at (put n 6)) (join (open_square (put n 8)) (join (name_at (put n 9) (codes "Next") ((refl, refl), refl) refl)
     (join (close_square (put n 13)) (name_at (put n 14) (codes "_vars") ((refl, refl), refl) refl) (λ y e. refl)) (λ y e. refl)) (λ y e. refl)) (λ y e. refl)) (λ y e. refl)) (λ y. refl)
 
-pub spec_at : (n h : ℕ) (fs : List Fairness) → EachOf IsFairness fs → UnitAt spec_unit (map fairness_placeless) n h fs
+pub spec_at : (n h : ℕ) (fs : List Fairness) → AllByRecursion IsFairness fs → UnitAt spec_unit (map fairness_placeless) n h fs
 spec_at n h fs v =
     let m = n + 1 in
     let k = m + 1 in

@@ -1,6 +1,7 @@
 -- An algorithm that has what its text gives, and breaks no rule on names and labels, can be written where no statement, its macro calls written out, assigns a variable beside a part of it.
 use Rattle.std.proofs.Common.{◌≡◌, ℕ, suc, ◌≤◌, length, List, [], ◌∷◌, not, ◌⊎◌, inl, inr, sym, subst}
 use Rattle.std.specs.Bool.{IsTrue}
+use Rattle.std.specs.List.{AllByRecursion}
 use Rattle.tla_token.specs.Limits.{most_bytes}
 use Rattle.tla_token.specs.Words.{is_own}
 use Rattle.tla_tree.specs.laws.Writable.{IsIdentifier, IsWritable}
@@ -8,7 +9,6 @@ use Rattle.tla_value.specs.Outside.{Outside}
 use Rattle.module_tree.specs.TextFront.{Text}
 use Rattle.module_tree.specs.Walk.{walk}
 use Rattle.module_tree.specs.laws.Outsides.{HasOutside}
-use Rattle.module_tree.specs.laws.WritableRegion.{EachOf}
 use Rattle.pcal_tree.specs.Algorithm.{locals, Definition, Procedure, Process, Main, alone, processes, Routine, procedure_routine, process_routine, numbered, first_procedure, first_process, procedure_routines, main_routines, routines, Algorithm}
 use Rattle.pcal_tree.specs.OffencesLabels.{label_offences}
 use Rattle.pcal_tree.specs.OffencesNames.{use_offences_of, repeated_names}
@@ -30,14 +30,14 @@ use Rattle.translation.proofs.TypedTexts.{text_typed}
 
 -- its name, its variables and a body that isn't empty
 abbrev IsTypedRoutine : Routine → Type 0
-IsTypedRoutine u = IsIdentifier u.name.word × EachOf IsWritableDeclaration (locals u) × IsStarted u.body
+IsTypedRoutine u = IsIdentifier u.name.word × AllByRecursion IsWritableDeclaration (locals u) × IsStarted u.body
 
-procedures_typed : (n : ℕ) (ps : List Procedure) → EachOf IsTypedProcedure ps → (u : Routine) → OneOf u (numbered procedure_routine n ps) → IsTypedRoutine u
+procedures_typed : (n : ℕ) (ps : List Procedure) → AllByRecursion IsTypedProcedure ps → (u : Routine) → OneOf u (numbered procedure_routine n ps) → IsTypedRoutine u
 procedures_typed n [] h u k = absurd k
 procedures_typed n (p ∷ ps) h u (inl e) = subst IsTypedRoutine (sym e) (h.0.0, every_both IsWritableDeclaration p.params p.variables h.0.1 h.0.2, h.0.3.0)
 procedures_typed n (p ∷ ps) h u (inr k) = procedures_typed (suc n) ps h.1 u k
 
-processes_typed : (n : ℕ) (ps : List Process) → EachOf IsTypedProcess ps → (u : Routine) → OneOf u (numbered process_routine n ps) → IsTypedRoutine u
+processes_typed : (n : ℕ) (ps : List Process) → AllByRecursion IsTypedProcess ps → (u : Routine) → OneOf u (numbered process_routine n ps) → IsTypedRoutine u
 processes_typed n [] h u k = absurd k
 processes_typed n (p ∷ ps) h u (inl e) = subst IsTypedRoutine (sym e) (h.0.0, h.0.2, h.0.3.0)
 processes_typed n (p ∷ ps) h u (inr k) = processes_typed (suc n) ps h.1 u k
@@ -55,11 +55,11 @@ routine_typed a h u k = by (one_either u (procedure_routines a) (main_routines a
     by (inl q) = procedures_typed (first_procedure a) a.procedures h.procedures u q
     by (inr q) = main_typed a a.main h.name h.main u q
 
-definitions_writable : (ds : List Definition) → EachOf IsTypedDefinition ds → EachOf (λ (d : Definition). IsTrue (not (is_own d.name.word))) ds → EachOf IsWritableDefinition ds
+definitions_writable : (ds : List Definition) → AllByRecursion IsTypedDefinition ds → AllByRecursion (λ (d : Definition). IsTrue (not (is_own d.name.word))) ds → AllByRecursion IsWritableDefinition ds
 definitions_writable [] h k = tt
 definitions_writable (d ∷ ds) h k = ((h.0.0, k.0, h.0.1, h.0.2), definitions_writable ds h.1 k.1)
 
-identities : (ps : List Process) → EachOf IsTypedProcess ps → EachOf (λ (q : Process). IsWritable q.identity) ps
+identities : (ps : List Process) → AllByRecursion IsTypedProcess ps → AllByRecursion (λ (q : Process). IsWritable q.identity) ps
 identities [] h = tt
 identities (p ∷ ps) h = (h.0.1, identities ps h.1)
 

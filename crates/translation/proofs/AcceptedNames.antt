@@ -1,7 +1,7 @@
 -- What rules say of an algorithm that breaks none: no name of a routine is declared twice, definitions don't have the translation's own names, and each
 -- body begins with a label.
 use Rattle.std.proofs.Common.{◌≡◌, ℕ, suc, List, [], ◌∷◌, ◌++◌, map, reverse, Bool, true, false, not, ◌||◌, bytes_eq, ◌⊎◌, inl, inr, refl, sym, ap, subst, ◌∙◌}
-use Rattle.std.specs.List.{flat_map}
+use Rattle.std.specs.List.{flat_map, AllByRecursion}
 use Rattle.std.proofs.lemmas.Bool.{or_parts}
 use Rattle.std.specs.Bool.{IsTrue}
 use Rattle.tla_token.specs.declared.place.Place.{Place}
@@ -10,7 +10,6 @@ use Rattle.tla_token.specs.Signs.{is_among}
 use Rattle.tla_token.specs.Words.{is_own, is_standard}
 use Rattle.tla_tree.specs.Tree.{Word, Name, words, Each, Trees}
 use Rattle.tla_value.specs.Outside.{Outside}
-use Rattle.module_tree.specs.laws.WritableRegion.{EachOf}
 use Rattle.pcal_tree.specs.Algorithm.{Statements, done, then, mark, Declaration, locals, Definition, Macro, Procedure, Process, Main, alone, processes, Routine, procedure_routine, process_routine, numbered, first_procedure, first_process, procedure_routines, main_routines, routines, Algorithm}
 use Rattle.pcal_tree.specs.BoundNames.{bound_lists}
 use Rattle.pcal_tree.specs.Outside.{unit_names}
@@ -103,7 +102,7 @@ names_once a o e u k =
 
 -- ---- the translation's own names
 
-definition_names : (o : Outside) (ds : List Definition) → flat_map (reserved_name o) (flat_map names_of_definition ds) ≡ [] → EachOf (λ (d : Definition). IsTrue (not (is_own d.name.word))) ds
+definition_names : (o : Outside) (ds : List Definition) → flat_map (reserved_name o) (flat_map names_of_definition ds) ≡ [] → AllByRecursion (λ (d : Definition). IsTrue (not (is_own d.name.word))) ds
 definition_names o [] e = tt
 definition_names o (d ∷ ds) e =
     let p = both_none (reserved_name o d.name) _ e in
@@ -121,7 +120,7 @@ before : (o : Outside) (xs ys : List Name) → flat_map (reserved_name o) (xs ++
 before o [] ys e = refl
 before o (x ∷ xs) ys e = (let p = both_none (reserved_name o x) _ e in (λ i. p.0 i ++ before o xs ys p.1 i))
 
-pub definitions_free : (a : Algorithm) (o : Outside) → reserved_declared a o ≡ [] → EachOf (λ (d : Definition). IsTrue (not (is_own d.name.word))) a.definitions
+pub definitions_free : (a : Algorithm) (o : Outside) → reserved_declared a o ≡ [] → AllByRecursion (λ (d : Definition). IsTrue (not (is_own d.name.word))) a.definitions
 definitions_free a o e =
     let b = (both_none (flat_map (reserved_name o) (declared_names a)) _ (both_none (reserved_outside o) _ e).1).0 in
     definition_names o a.definitions (before o (flat_map names_of_definition a.definitions) _ (after o (names_of a.globals) _ b))

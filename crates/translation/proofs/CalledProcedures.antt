@@ -1,11 +1,11 @@
 -- The procedures of an algorithm that can be written: those that are called, their numbers, and what is written for their calls.
 use Rattle.std.proofs.Common.{◌≡◌, ℕ, suc, ◌+◌, ◌<◌, ◌≤◌, length, List, [], ◌∷◌, Bool, true, false, ◌||◌, cond, bytes_eq, map, reverse, Some, None, ◌⊎◌, inl, inr, refl, sym, ap, subst, ◌∙◌, arith}
+use Rattle.std.specs.List.{AllByRecursion}
 use Rattle.std.proofs.lemmas.Bool.{eqb-true}
 use Rattle.tla_token.specs.Signs.{is_among}
 use Rattle.tla_tree.specs.Tree.{Word, Tree}
 use Rattle.tla_tree.specs.laws.Writable.{IsIdentifier, IsString, IsWritable}
 use Rattle.tla_value.specs.Outside.{Outside}
-use Rattle.module_tree.specs.laws.WritableRegion.{EachOf}
 use Rattle.module_tree.specs.Formulas.{unset_value}
 use Rattle.pcal_tree.specs.Algorithm.{Start, unset, equals, among, Declaration, declares, locals, Procedure, Process, Main, alone, processes, Routine, procedure_routine, process_routine, numbered, first_procedure, first_process, procedure_routines, main_routines, routines, Algorithm}
 use Rattle.pcal_tree.specs.Expand.{written_out}
@@ -110,7 +110,7 @@ some_one x (u ∷ us) p e = by (some_one x us p) (bytes_eq u.name.word x) e
     by f true d = inl (sym (ap (λ o. elim o as (λ q. Routine) [ None ↦ u | (Some v) ↦ v ]) d))
     by f false d = inr (f d)
 
-pub one_declared : (ds : List Declaration) → EachOf IsWritableDeclaration ds → (d : Declaration) → OneOf d ds → IsWritableDeclaration d
+pub one_declared : (ds : List Declaration) → AllByRecursion IsWritableDeclaration ds → (d : Declaration) → OneOf d ds → IsWritableDeclaration d
 one_declared [] h d k = absurd k
 one_declared (e ∷ ds) h d (inl q) = subst IsWritableDeclaration (sym q) h.0
 one_declared (e ∷ ds) h d (inr k) = one_declared ds h.1 d k

@@ -3,12 +3,11 @@ use Rattle.std.proofs.Common.{◌≡◌, ℕ, suc, List, [], ◌∷◌, ◌++◌
 use Rattle.std.proofs.lemmas.Bool.{or_parts}
 use Rattle.std.proofs.lemmas.Grind.{flat_map-append}
 use Rattle.std.proofs.Math.Bool.{or-false}
-use Rattle.std.specs.List.{flat_map}
+use Rattle.std.specs.List.{flat_map, AllByRecursion}
 use Rattle.tla_token.specs.declared.rule.Refusal.{Refusal}
 use Rattle.tla_token.specs.declared.rule.Rule.{Rule}
 use Rattle.tla_token.specs.declared.rule.Rule.TheVariants.{FirstLabel, AfterJump, AfterBranch}
 use Rattle.tla_tree.specs.Tree.{Word, Trees, Graft, grafts}
-use Rattle.module_tree.specs.laws.WritableRegion.{EachOf}
 use Rattle.pcal_tree.specs.Algorithm.{Name, Span, Assignments, no_assignments, assignment, Statement, assign, await, print, assert, skip, branch, either, with, while, goto, macro, call, return, Statements, done, then, mark, Branches, no_branches, or, Macro, Procedure, Process, Main, alone, processes, Routine, procedure_routine, process_routine, numbered, first_procedure, first_process, procedure_routines, main_routines, routines, Algorithm}
 use Rattle.pcal_tree.specs.Expand.{graft_assignments, graft_one, graft_all, graft_some, Writing, expand_one, expand, expand_some, written_out, expanded}
 use Rattle.pcal_tree.specs.OffencesSteps.{due_after, holds, holds_one, holds_some, Before, at_label, inside, next, Visit, visits_inside, visits, visits_of_some, due_offence, missing_label, assigns_twice, offences_at, in_macro, effect_of_body, called_with, effect_within, nothing_put, call_effect, at_first, missing_in_body, procedure_effects, outer_effects}
@@ -108,7 +107,7 @@ CallsWritten ms = (g : Graft) → Anywhere g → (at : Span) (m : Word) (us : Tr
 has_none : Has none_set (Some [])
 has_none = (tt, λ x m. absurd cc)
 
-pub calls_written : (ms : List Macro) → EachOf (λ (d : Macro). AreQuiet d.body) ms → CallsWritten ms
+pub calls_written : (ms : List Macro) → AllByRecursion (λ (d : Macro). AreQuiet d.body) ms → CallsWritten ms
 calls_written [] quiet g free at m us h = ((tt, tt), (λ x n. absurd (in_nothing x n)), refl)
 calls_written (d ∷ older) quiet g free at m us h = by (calls_written older quiet.1) (bytes_eq d.name.word m) h
   where
@@ -347,7 +346,7 @@ module _ (targets : List Word) where
     some_still w no_branches t k = tt
     some_still w (or b bs) t k = (all_still w b t.0 (nothing_left (jump_offences (in_body targets w) b) _ k), some_still w bs t.1 (nothing_right (jump_offences (in_body targets w) b) _ k))
 
-quiet_macros : (ds : List Macro) → EachOf IsTypedMacro ds → EachOf IsPlain ds → EachOf (λ (d : Macro). AreQuiet d.body) ds
+quiet_macros : (ds : List Macro) → AllByRecursion IsTypedMacro ds → AllByRecursion IsPlain ds → AllByRecursion (λ (d : Macro). AreQuiet d.body) ds
 quiet_macros [] t k = tt
 quiet_macros (d ∷ ds) t k = (all_still (codes "Done" ∷ label_words d.body) false d.body t.0.2.1 k.0, quiet_macros ds t.1 k.1)
 
@@ -363,14 +362,14 @@ module _ (ms : List Macro) (calls : CallsWritten ms) where
       (list_steps E C own same nothing_put (written_out ms) (calls nothing_put (λ x p q. refl)) none_set (at_first (Some FirstLabel)) b has_none t
       (subst (λ (c : Statements). NoOffences E (visits E (at_first (Some FirstLabel)) c)) (sym (all_unput b)) o))
 
-  procedures_steps : (n : ℕ) (ps : List Procedure) → EachOf IsTypedProcedure ps → flat_map (of_procedure C) ps ≡ [] → (u : Routine) → OneOf u (numbered procedure_routine n ps) → SetsOnce none_set (expanded ms u.body)
+  procedures_steps : (n : ℕ) (ps : List Procedure) → AllByRecursion IsTypedProcedure ps → flat_map (of_procedure C) ps ≡ [] → (u : Routine) → OneOf u (numbered procedure_routine n ps) → SetsOnce none_set (expanded ms u.body)
   procedures_steps n [] t e u k = absurd k
   procedures_steps n (p ∷ ps) t e u (inl q) =
       subst (λ (v : Routine). SetsOnce none_set (expanded ms v.body)) (sym q)
       (body_steps (procedure_effects C p) (λ ns. refl) (λ m ts. refl) p.body t.0.3.1 (nothing_left (missing_in_body (procedure_effects C p) p.body) _ (nothing_left (of_procedure C p) _ e)))
   procedures_steps n (p ∷ ps) t e u (inr k) = procedures_steps (suc n) ps t.1 (nothing_right (of_procedure C p) _ e) u k
 
-  processes_steps : (n : ℕ) (ps : List Process) → EachOf IsTypedProcess ps → flat_map (λ (p : Process). of_body C p.body) ps ≡ [] → (u : Routine) → OneOf u (numbered process_routine n ps) → SetsOnce none_set (expanded ms u.body)
+  processes_steps : (n : ℕ) (ps : List Process) → AllByRecursion IsTypedProcess ps → flat_map (λ (p : Process). of_body C p.body) ps ≡ [] → (u : Routine) → OneOf u (numbered process_routine n ps) → SetsOnce none_set (expanded ms u.body)
   processes_steps n [] t e u k = absurd k
   processes_steps n (p ∷ ps) t e u (inl q) =
       subst (λ (v : Routine). SetsOnce none_set (expanded ms v.body)) (sym q)

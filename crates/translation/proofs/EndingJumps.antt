@@ -1,13 +1,12 @@
 -- Where no label is missing, each statement that jumps ends its list or is followed by a label, also with macro calls written out.
 use Rattle.std.proofs.Common.{◌≡◌, ℕ, suc, List, [], ◌∷◌, ◌++◌, reverse, Bool, true, false, ◌||◌, cond, bytes_eq, codes, Option, Some, None, ◌⊎◌, inl, inr, refl, sym, subst, ◌∙◌}
 use Rattle.std.proofs.lemmas.Bool.{or_parts}
-use Rattle.std.specs.List.{flat_map}
+use Rattle.std.specs.List.{flat_map, AllByRecursion}
 use Rattle.tla_token.specs.declared.rule.Refusal.{Refusal}
 use Rattle.tla_token.specs.declared.rule.Rule.{Rule}
 use Rattle.tla_token.specs.declared.rule.Rule.TheVariants.{FirstLabel, AfterBranch}
 use Rattle.tla_token.specs.declared.place.Place.{Place}
 use Rattle.tla_tree.specs.Tree.{Word, Trees, Graft}
-use Rattle.module_tree.specs.laws.WritableRegion.{EachOf}
 use Rattle.pcal_tree.specs.Algorithm.{Span, Statement, assign, await, print, assert, skip, branch, either, with, while, goto, macro, call, return, Statements, done, then, mark, Branches, no_branches, or, Macro, Procedure, Process, Main, alone, processes, Routine, procedure_routine, process_routine, numbered, first_procedure, first_process, procedure_routines, main_routines, routines, Algorithm}
 use Rattle.pcal_tree.specs.Expand.{graft_one, graft_all, graft_some, followed_by, Writing, expand_one, expand, expand_some, written_out, expanded}
 use Rattle.pcal_tree.specs.OffencesLabels.{jump_offences_here, jump_offences_inside, jump_offences, jump_offences_of_some, label_words, of_macro, of_procedure, of_body, of_main, label_offences}
@@ -97,7 +96,7 @@ module _ (X : Writing) (still : IsStill X) (targets : List Word) where
     some_still w (or b bs) h =
         neither (jumps (expand X b)) (jumps_some (expand_some X bs)) (all_still w b (nothing_left (jump_offences (in_body targets w) b) _ h)) (some_still w bs (nothing_right (jump_offences (in_body targets w) b) _ h))
 
-macros_still : (ms : List Macro) → EachOf IsPlain ms → IsStill (written_out ms)
+macros_still : (ms : List Macro) → AllByRecursion IsPlain ms → IsStill (written_out ms)
 macros_still [] h at m ts = refl
 macros_still (d ∷ older) h at m ts = by (bytes_eq d.name.word m) (macros_still older h.1)
   where
@@ -265,7 +264,7 @@ module _ (ms : List Macro) (still : IsStill (written_out ms)) (C : Word → Tree
   main_ends a (alone b) e u (inr k) = absurd k
   main_ends a (processes ps) e u k = processes_end (first_process a) ps e u k
 
-pub each_one : (P : Macro → Type 0) (ds : List Macro) → ((d : Macro) → OneOf d ds → P d) → EachOf P ds
+pub each_one : (P : Macro → Type 0) (ds : List Macro) → ((d : Macro) → OneOf d ds → P d) → AllByRecursion P ds
 each_one P [] h = tt
 each_one P (d ∷ ds) h = (h d (inl refl), each_one P ds (λ e k. h e (inr k)))
 

@@ -2,12 +2,11 @@
 use Rattle.std.proofs.Common.{◌≡◌, ℕ, suc, List, [], ◌∷◌, ◌++◌, map, reverse, Bool, true, false, ◌||◌, cond, bytes_eq, codes, Some, ◌⊎◌, inl, inr, refl, sym, subst, ◌∙◌}
 use Rattle.std.proofs.lemmas.Bool.{or_left, or_right}
 use Rattle.std.proofs.lemmas.Grind.{reverse_onto}
-use Rattle.std.specs.List.{flat_map}
+use Rattle.std.specs.List.{flat_map, AllByRecursion}
 use Rattle.tla_token.specs.Signs.{is_among}
 use Rattle.tla_tree.specs.Tree.{Word, words}
 use Rattle.tla_value.specs.Outside.{Outside}
 use Rattle.tla_value.specs.StandardModules.{standard_table}
-use Rattle.module_tree.specs.laws.WritableRegion.{EachOf}
 use Rattle.pcal_tree.specs.Algorithm.{locals, declares, Procedure, Process, Main, alone, processes, Routine, procedure_routine, process_routine, alone_routine, numbered, first_procedure, first_process, procedure_routines, main_routines, routines, Algorithm}
 use Rattle.pcal_tree.specs.Expand.{expanded}
 use Rattle.pcal_tree.specs.NameUses.{variable, Known, Sight, use_of, plain, hidden_name, known_standard, seeing_variables}
@@ -74,15 +73,15 @@ variables_inside a o u x h = by (declares (locals u) x) (declared_or (declared (
 
 -- ---- bodies
 
-pub reversed : {X : Type 0} (P : X → Type 0) (xs : List X) → EachOf P xs → EachOf P (reverse xs)
+pub reversed : {X : Type 0} (P : X → Type 0) (xs : List X) → AllByRecursion P xs → AllByRecursion P (reverse xs)
 reversed P [] h = tt
-reversed P (x ∷ xs) h = subst (EachOf P) (sym (reverse_onto xs x [])) (every_both P (reverse xs) (x ∷ []) (reversed P xs h.1) (h.0, tt))
+reversed P (x ∷ xs) h = subst (AllByRecursion P) (sym (reverse_onto xs x [])) (every_both P (reverse xs) (x ∷ []) (reversed P xs h.1) (h.0, tt))
 
 -- of a routine, with macro calls written out
 abbrev IsKnownRoutine : Algorithm → Routine → Type 0
 IsKnownRoutine a u = AreKnown (is_procedure a) (is_variable a u) (expanded (reverse a.macros) u.body)
 
-module _ (a : Algorithm) (o : Outside) (macros : EachOf IsTypedMacro a.macros) where
+module _ (a : Algorithm) (o : Outside) (macros : AllByRecursion IsTypedMacro a.macros) where
   abbrev calls : Calls
   calls = macro_offences (reverse a.macros) a.procedures
 
@@ -91,7 +90,7 @@ module _ (a : Algorithm) (o : Outside) (macros : EachOf IsTypedMacro a.macros) w
       all_more (is_procedure a) (assignable (seeing_variables (declared (locals u)) (sight_inside a o))) (is_variable a u) (variables_inside a o u) (expanded (reverse a.macros) u.body)
       (statements_known a.procedures (reverse a.macros) (reversed IsTypedMacro a.macros macros) (seeing_variables (declared (locals u)) (sight_inside a o)) u.body h q)
 
-  procedures_known : (n : ℕ) (ps : List Procedure) → EachOf IsTypedProcedure ps → flat_map (in_procedure calls a.procedures (sight_inside a o)) ps ≡ [] → (u : Routine) → OneOf u (numbered procedure_routine n ps) → IsKnownRoutine a u
+  procedures_known : (n : ℕ) (ps : List Procedure) → AllByRecursion IsTypedProcedure ps → flat_map (in_procedure calls a.procedures (sight_inside a o)) ps ≡ [] → (u : Routine) → OneOf u (numbered procedure_routine n ps) → IsKnownRoutine a u
   procedures_known n [] h q u k = absurd k
   procedures_known n (p ∷ ps) h q u (inl e) =
       let r = both_none (in_procedure calls a.procedures (sight_inside a o) p) _ q in
@@ -99,7 +98,7 @@ module _ (a : Algorithm) (o : Outside) (macros : EachOf IsTypedMacro a.macros) w
       subst (IsKnownRoutine a) (sym e) (body_known (procedure_routine n p) h.0.3.1 b.1)
   procedures_known n (p ∷ ps) h q u (inr k) = procedures_known (suc n) ps h.1 (both_none (in_procedure calls a.procedures (sight_inside a o) p) _ q).1 u k
 
-  processes_known : (n : ℕ) (ps : List Process) → EachOf IsTypedProcess ps → flat_map (in_process calls a.procedures (sight_inside a o)) ps ≡ [] → (u : Routine) → OneOf u (numbered process_routine n ps) → IsKnownRoutine a u
+  processes_known : (n : ℕ) (ps : List Process) → AllByRecursion IsTypedProcess ps → flat_map (in_process calls a.procedures (sight_inside a o)) ps ≡ [] → (u : Routine) → OneOf u (numbered process_routine n ps) → IsKnownRoutine a u
   processes_known n [] h q u k = absurd k
   processes_known n (p ∷ ps) h q u (inl e) =
       let r = both_none (in_process calls a.procedures (sight_inside a o) p) _ q in

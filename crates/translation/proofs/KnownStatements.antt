@@ -2,13 +2,13 @@
 use Rattle.std.proofs.Common.{◌≡◌, ℕ, List, [], ◌∷◌, ◌++◌, map, length, Bool, true, false, not, ◌||◌, cond, bytes_eq, nat_eq, Option, Some, None, refl, ap, ◌∙◌, arith}
 use Rattle.std.specs.Prelude.{is_some}
 use Rattle.std.specs.Bool.{IsTrue}
+use Rattle.std.specs.List.{AllByRecursion}
 use Rattle.std.proofs.lemmas.Bool.{eqb-true}
 use Rattle.tla_token.specs.declared.place.Place.{Place}
 use Rattle.tla_token.specs.declared.rule.Rule.TheVariants.{Arity}
 use Rattle.tla_token.specs.Signs.{is_among}
 use Rattle.tla_tree.specs.Tree.{Word, apply, select, name, strict, Tree, node, Trees, no_trees, tree, graft, grafts, root_place}
 use Rattle.tla_tree.specs.laws.Writable.{IsIdentifier, IsWritable, AreWritable}
-use Rattle.module_tree.specs.laws.WritableRegion.{EachOf}
 use Rattle.pcal_tree.specs.Algorithm.{Name, Span, Assignments, no_assignments, assignment, Binds, no_binds, one_of, is, Statement, assign, await, print, assert, skip, branch, either, with, while, goto, macro, call, return, Statements, done, then, mark, Branches, no_branches, or, Macro, Procedure}
 use Rattle.pcal_tree.specs.Expand.{placed_at, graft_left, graft_assignments, graft_binds, graft_one, graft_all, graft_some, followed_by, Writing, expand_one, expand, expand_some, written_out}
 use Rattle.pcal_tree.specs.NameUses.{Use, takes, variable, argument, standard, unread, Sight, use_of, left_offences, handed_use, seeing_plain}
@@ -314,7 +314,7 @@ unnegated false e = cc
 abbrev IsKnownCall : List Procedure → List Macro → Type 0
 IsKnownCall ds ms = (s : Sight) (at : Span) (m : Word) (ts : Trees) → AreWritable ts → macro_offences ms ds s at.first m ts ≡ [] → AreKnown (named_in ds) (assignable s) (written_out ms at m ts)
 
-macros_known : (ds : List Procedure) (ms : List Macro) → EachOf IsTypedMacro ms → IsKnownCall ds ms
+macros_known : (ds : List Procedure) (ms : List Macro) → AllByRecursion IsTypedMacro ms → IsKnownCall ds ms
 macros_known ds [] k s at m ts w q = cc
 macros_known ds (d ∷ older) k s at m ts w q = by (macros_known ds older k.1) (bytes_eq d.name.word m) q
   where
@@ -328,5 +328,5 @@ macros_known ds (d ∷ older) k s at m ts w q = by (macros_known ds older k.1) (
     by f false e = f s at m ts w e
 
 -- the statements of a body
-pub statements_known : (ds : List Procedure) (ms : List Macro) → EachOf IsTypedMacro ms → (s : Sight) (b : Statements) → AreTypedStatements b → in_body (macro_offences ms ds) ds b s ≡ [] → AreKnown (named_in ds) (assignable s) (expand (written_out ms) b)
+pub statements_known : (ds : List Procedure) (ms : List Macro) → AllByRecursion IsTypedMacro ms → (s : Sight) (b : Statements) → AreTypedStatements b → in_body (macro_offences ms ds) ds b s ≡ [] → AreKnown (named_in ds) (assignable s) (expand (written_out ms) b)
 statements_known ds ms k s b h q = all_known ds (macro_offences ms ds) (written_out ms) (macros_known ds ms k) s b h q

@@ -1,12 +1,12 @@
 -- An algorithm that can be written can be written without its places.
 use Rattle.std.proofs.Common.{◌≡◌, ℕ, suc, ◌+◌, ◌<◌, ◌^◌, length, List, [], ◌∷◌, ◌++◌, map, reverse, false, ◌||◌, ◌⊎◌, inl, inr, refl, sym, ap, subst, ◌∙◌}
+use Rattle.std.specs.List.{AllByRecursion}
 use Rattle.std.proofs.lemmas.Grind.{reverse_onto}
 use Rattle.tla_token.specs.Signs.{is_among}
 use Rattle.tla_tree.specs.Tree.{Name, words}
 use Rattle.tla_tree.specs.laws.Writable.{IsIdentifier, IsWritable}
 use Rattle.tla_tree.specs.laws.Placeless.{name_placeless, names_placeless}
 use Rattle.tla_value.specs.Outside.{Outside}
-use Rattle.module_tree.specs.laws.WritableRegion.{EachOf}
 use Rattle.pcal_tree.specs.Algorithm.{Statements, Start, unset, equals, among, Declaration, locals, Definition, Macro, Procedure, Process, Main, alone, processes, Routine, procedure_routine, process_routine, alone_routine, numbered, first_procedure, first_process, procedure_routines, main_routines, routines, Algorithm}
 use Rattle.pcal_tree.specs.Expand.{expand, expanded, written_out}
 use Rattle.pcal_tree.specs.Names.{taken_outside}
@@ -28,15 +28,15 @@ start_bare unset h = tt
 start_bare (equals e) h = tree_bare e h
 start_bare (among e) h = tree_bare e h
 
-declarations_bare : (ds : List Declaration) → EachOf IsWritableDeclaration ds → EachOf IsWritableDeclaration (declarations_placeless ds)
+declarations_bare : (ds : List Declaration) → AllByRecursion IsWritableDeclaration ds → AllByRecursion IsWritableDeclaration (declarations_placeless ds)
 declarations_bare [] h = tt
 declarations_bare (d ∷ ds) h = ((h.0.0, start_bare d.start h.0.1), declarations_bare ds h.1)
 
-params_bare : (xs : List Name) → EachOf IsIdentifier (words xs) → EachOf IsIdentifier (words (names_placeless xs))
+params_bare : (xs : List Name) → AllByRecursion IsIdentifier (words xs) → AllByRecursion IsIdentifier (words (names_placeless xs))
 params_bare [] h = tt
 params_bare (x ∷ xs) h = (h.0, params_bare xs h.1)
 
-definitions_bare : (ds : List Definition) → EachOf IsWritableDefinition ds → EachOf IsWritableDefinition (definitions_placeless ds)
+definitions_bare : (ds : List Definition) → AllByRecursion IsWritableDefinition ds → AllByRecursion IsWritableDefinition (definitions_placeless ds)
 definitions_bare [] h = tt
 definitions_bare (d ∷ ds) h = ((h.0.0, h.0.1, params_bare d.params h.0.2, tree_bare d.body h.0.3), definitions_bare ds h.1)
 
@@ -109,7 +109,7 @@ names_same u v b = ap declared b.own ∙ declared_bare (locals u)
 routine_writable : (a : Algorithm) (u v : Routine) → Bare u v → IsWritableRoutine a u → IsWritableRoutine (placeless a) v
 routine_writable a u v b h = record {
   name = subst IsIdentifier (sym b.name) h.name;
-  locals = subst (EachOf IsWritableDeclaration) (sym b.own) (declarations_bare (locals u) h.locals);
+  locals = subst (AllByRecursion IsWritableDeclaration) (sym b.own) (declarations_bare (locals u) h.locals);
   once = subst AllUnlike (sym (names_same u v b)) h.once;
   labelled = subst IsLabelled (sym (ap label_words b.body ∙ all_labels false u.body)) h.labelled;
   body =
@@ -118,7 +118,7 @@ routine_writable a u v b h = record {
       (λ x e. (λ i. is_among (declared_bare a.globals i) x || is_among (names_same u v b i) x) ∙ e) (expanded (reverse a.macros) u.body) h.body);
 }
 
-processes_writable : (ps : List Process) → EachOf (λ (q : Process). IsWritable q.identity) ps → EachOf (λ (q : Process). IsWritable q.identity) (processes_placeless ps)
+processes_writable : (ps : List Process) → AllByRecursion (λ (q : Process). IsWritable q.identity) ps → AllByRecursion (λ (q : Process). IsWritable q.identity) (processes_placeless ps)
 processes_writable [] h = tt
 processes_writable (p ∷ ps) h = (tree_bare p.identity h.0, processes_writable ps h.1)
 

@@ -1,13 +1,14 @@
 -- The actions of the written module can be written.
 use Rattle.std.proofs.Common.{◌≡◌, List, [], ◌∷◌, ◌++◌, Bool, true, false, ◌||◌, not, cond, map, reverse, Option, Some, None, inl, inr, refl, ap, subst}
 use Rattle.std.specs.Prelude.{filter, flat_map}
+use Rattle.std.specs.List.{AllByRecursion}
 use Rattle.tla_tree.specs.Tree.{Word, Each, Tree}
 use Rattle.tla_tree.specs.laws.Writable.{IsIdentifier, IsString, IsWritable}
 use Rattle.tla_value.specs.Outside.{Outside}
 use Rattle.tla_value.specs.Grafts.{owned}
 use Rattle.module_tree.specs.Module.{Items, one_way}
 use Rattle.module_tree.specs.Formulas.{self, named, quoted, equal}
-use Rattle.module_tree.specs.laws.WritableRegion.{AllOf, EachOf, IsCall, IsWay, IsParameter, IsAction}
+use Rattle.module_tree.specs.laws.WritableRegion.{AllOf, IsCall, IsWay, IsParameter, IsAction}
 use Rattle.pcal_tree.specs.Algorithm.{Declaration, declares, locals, Main, alone, processes, Routine, procedure_routines, main_routines, routines, Algorithm}
 use Rattle.pcal_tree.specs.Calls.{label_name}
 use Rattle.pcal_tree.specs.Expand.{expanded, written_out}
@@ -41,15 +42,15 @@ use Rattle.translation.proofs.CalledProcedures.{is_called, exit_string, procedur
 
 -- ---- lists
 
-pub every_map : {X Y : Type 0} (Q : Y → Type 0) (f : X → Y) (xs : List X) → ((x : X) → OneOf x xs → Q (f x)) → EachOf Q (map f xs)
+pub every_map : {X Y : Type 0} (Q : Y → Type 0) (f : X → Y) (xs : List X) → ((x : X) → OneOf x xs → Q (f x)) → AllByRecursion Q (map f xs)
 every_map Q f [] h = tt
 every_map Q f (x ∷ xs) h = (h x (inl refl), every_map Q f xs (λ y k. h y (inr k)))
 
-pub every_both : {X : Type 0} (Q : X → Type 0) (xs ys : List X) → EachOf Q xs → EachOf Q ys → EachOf Q (xs ++ ys)
+pub every_both : {X : Type 0} (Q : X → Type 0) (xs ys : List X) → AllByRecursion Q xs → AllByRecursion Q ys → AllByRecursion Q (xs ++ ys)
 every_both Q [] ys h k = k
 every_both Q (x ∷ xs) ys h k = (h.0, every_both Q xs ys h.1 k)
 
-pub every_flat : {X Y : Type 0} (Q : Y → Type 0) (f : X → List Y) (xs : List X) → ((x : X) → OneOf x xs → EachOf Q (f x)) → EachOf Q (flat_map f xs)
+pub every_flat : {X Y : Type 0} (Q : Y → Type 0) (f : X → List Y) (xs : List X) → ((x : X) → OneOf x xs → AllByRecursion Q (f x)) → AllByRecursion Q (flat_map f xs)
 every_flat Q f [] h = tt
 every_flat Q f (x ∷ xs) h = every_both Q (f x) (flat_map f xs) (h x (inl refl)) (every_flat Q f xs (λ y k. h y (inr k)))
 
@@ -66,7 +67,7 @@ pub some_before : {X : Type 0} (xs ys : List X) → IsSome xs → IsSome (xs ++ 
 some_before [] ys h = absurd h
 some_before (x ∷ xs) ys h = tt
 
-pub all_of_each : {X : Type 0} (Q : X → Type 0) (xs : List X) → IsSome xs → EachOf Q xs → AllOf Q xs
+pub all_of_each : {X : Type 0} (Q : X → Type 0) (xs : List X) → IsSome xs → AllByRecursion Q xs → AllOf Q xs
 all_of_each Q [] s h = absurd s
 all_of_each Q (x ∷ []) s h = h.0
 all_of_each Q (x ∷ y ∷ xs) s h = (h.0, all_of_each Q (y ∷ xs) tt h.1)
@@ -141,7 +142,7 @@ module _ (o : Outside) (a : Algorithm) (h : IsWritableAlgorithm o a) where
   pub globals_identifiers : Each IsIdentifier (declared a.globals)
   globals_identifiers = by a.globals h.globals
     where
-      by : (ds : List Declaration) → EachOf IsWritableDeclaration ds → Each IsIdentifier (declared ds)
+      by : (ds : List Declaration) → AllByRecursion IsWritableDeclaration ds → Each IsIdentifier (declared ds)
       by [] k = tt
       by (d ∷ ds) k = (k.0.0, by ds k.1)
 
@@ -219,7 +220,7 @@ module _ (o : Outside) (a : Algorithm) (h : IsWritableAlgorithm o a) where
       let n = label_name_free o a h t.routine l k m in
       (n.0, ap not n.1, parameter_writable t.takers, fit_items _ (items_fit t.takers f (items_from program t.routine l (at_label t.routine l)) (label_fits t.routine k l m)))
 
-  pub labels_writable : (t : Taken) → OneOf t.routine (routines a) → TakersFit t.takers → EachOf IsAction (label_actions program t)
+  pub labels_writable : (t : Taken) → OneOf t.routine (routines a) → TakersFit t.takers → AllByRecursion IsAction (label_actions program t)
   labels_writable t k f = every_map IsAction (label_action program t) (label_words t.routine.body) (label_writable t k f)
 
   -- ---- the action of a procedure or process
@@ -235,5 +236,5 @@ module _ (o : Outside) (a : Algorithm) (h : IsWritableAlgorithm o a) where
             (every_map IsWay (λ l. one_way (call_by t.takers (label_name program t.routine l))) (label_words t.routine.body) (λ l m. call_writable t.takers (label_name program t.routine l) (label_name_free o a h t.routine l k m).0)),
       )
 
-  pub routine_writable : (t : Taken) → OneOf t.routine (routines a) → TakersFit t.takers → IsTitled a a.main t.routine → EachOf IsAction (routine_actions program t)
+  pub routine_writable : (t : Taken) → OneOf t.routine (routines a) → TakersFit t.takers → IsTitled a a.main t.routine → AllByRecursion IsAction (routine_actions program t)
   routine_writable t k f d = every_both IsAction (label_actions program t) (own_action program t ∷ []) (labels_writable t k f) (own_writable t k d, tt)

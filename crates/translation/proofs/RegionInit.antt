@@ -1,6 +1,7 @@
 -- The conjuncts of Init and the sets of ProcSet can be written.
 use Rattle.std.proofs.Common.{◌≡◌, ℕ, zero, suc, ◌+◌, List, [], ◌∷◌, Bool, true, codes, reverse, inl, inr, refl, sym, subst, arith}
 use Rattle.std.specs.Prelude.{flat_map}
+use Rattle.std.specs.List.{AllByRecursion}
 use Rattle.tla_tree.specs.declared.op.Op.TheVariants as op
 use Rattle.tla_tree.specs.Tree.{Word, Each, Tree, node, no_trees, tree, strict, operator, graft}
 use Rattle.tla_tree.specs.Shapes.{IsPaired}
@@ -9,7 +10,7 @@ use Rattle.tla_value.specs.Outside.{Outside}
 use Rattle.tla_tree.specs.TreeOf.{trees_from}
 use Rattle.module_tree.specs.Formulas.{self, named, process_set, unset_value, empty_tuple, is_in, set, function_of_self, functions_from}
 use Rattle.module_tree.specs.Ways.{split_cup, sets_in, sets_of}
-use Rattle.module_tree.specs.laws.WritableRegion.{AllOf, EachOf}
+use Rattle.module_tree.specs.laws.WritableRegion.{AllOf}
 use Rattle.pcal_tree.specs.Algorithm.{Start, unset, equals, among, Declaration, Process, Main, alone, processes, Routine, locals, procedure_routines, routines, Algorithm}
 use Rattle.pcal_tree.specs.Calls.{label_name, first_label}
 use Rattle.pcal_tree.specs.Expand.{written_out}
@@ -48,11 +49,11 @@ function_writable s e h k = ((omega arith, refl), (self_name, tt), tt, tt, (h, (
 functions_writable : (s t : Tree) → IsWritable s → IsWritable t → IsWritable (functions_from s t)
 functions_writable s t h k = (refl, tt, tt, tt, (h, (k, tt)))
 
-pub trees_writable : (es : List Tree) → EachOf IsWritable es → AreWritable (trees_from es)
+pub trees_writable : (es : List Tree) → AllByRecursion IsWritable es → AreWritable (trees_from es)
 trees_writable [] h = tt
 trees_writable (e ∷ es) h = (h.0, trees_writable es h.1)
 
-pub listed_writable : (es : List Tree) → EachOf IsWritable es → IsWritable (set es)
+pub listed_writable : (es : List Tree) → AllByRecursion IsWritable es → IsWritable (set es)
 listed_writable es h = (tt, tt, tt, tt, trees_writable es h)
 
 -- ---- variables
@@ -74,15 +75,15 @@ in_place_writable e t h k =
 
 -- ---- the sets of ProcSet
 
-split_writable : (n : ℕ) (e : Tree) (es : List Tree) → IsWritable e → EachOf IsWritable es → EachOf IsWritable (split_cup n e es)
+split_writable : (n : ℕ) (e : Tree) (es : List Tree) → IsWritable e → AllByRecursion IsWritable es → AllByRecursion IsWritable (split_cup n e es)
 split_writable (suc n) (node (strict (operator op.Cup)) at (tree a (tree b no_trees))) es h k = split_writable n a (b ∷ es) h.4.0 (h.4.1.0, k)
 split_writable n e es h k = (h, k)
 
-sets_in_writable : (n : ℕ) (e : Tree) → IsWritable e → EachOf IsWritable (sets_in n e)
+sets_in_writable : (n : ℕ) (e : Tree) → IsWritable e → AllByRecursion IsWritable (sets_in n e)
 sets_in_writable zero e h = (h, tt)
 sets_in_writable (suc n) e h = split_writable n e [] h tt
 
-union_writable : (e : Tree) (es : List Tree) → IsWritable e → EachOf IsWritable es → IsWritable (union_from e es)
+union_writable : (e : Tree) (es : List Tree) → IsWritable e → AllByRecursion IsWritable es → IsWritable (union_from e es)
 union_writable e [] h k = h
 union_writable e (d ∷ es) h k = union_writable _ es ((refl, refl), tt, tt, tt, (h, (k.0, tt))) k.1
 
@@ -91,11 +92,11 @@ takers_writable (each_of s) h = h
 takers_writable (single e) h = listed_writable (e ∷ []) (h, tt)
 takers_writable lone h = listed_writable [] tt
 
-each_set : (ps : List Process) → EachOf (λ (q : Process). IsWritable q.identity) ps → EachOf IsWritable (sets_of_processes ps)
+each_set : (ps : List Process) → AllByRecursion (λ (q : Process). IsWritable q.identity) ps → AllByRecursion IsWritable (sets_of_processes ps)
 each_set [] h = tt
 each_set (p ∷ ps) h = (takers_writable (takers_of p) (takers_fit p h.0), each_set ps h.1)
 
-pub process_sets_writable : (m : Main) (n : ℕ) → IsWritableMain m → EachOf IsWritable (sets_of n (process_set_of m))
+pub process_sets_writable : (m : Main) (n : ℕ) → IsWritableMain m → AllByRecursion IsWritable (sets_of n (process_set_of m))
 process_sets_writable (alone ss) n h = tt
 process_sets_writable (processes []) n h = absurd h
 process_sets_writable (processes (p ∷ ps)) n h =
@@ -128,12 +129,12 @@ module _ (o : Outside) (a : Algorithm) (h : IsWritableAlgorithm o a) where
       by (c ∷ ds) q (inl e) = subst (λ (z : Declaration). IsIdentifier (written program u z.name.word)) (sym e) q.0
       by (c ∷ ds) q (inr l) = by ds q.1 l
 
-  locals_writable : (t : Taken) → TakenOf (routines a) t → EachOf IsWritable (locals_start program t)
+  locals_writable : (t : Taken) → TakenOf (routines a) t → AllByRecursion IsWritable (locals_start program t)
   locals_writable t k =
       every_map IsWritable (λ d. start_by program t.routine t.takers (written program t.routine d.name.word) d.start) (locals t.routine)
       (λ d m. start_writable t.routine k.0 t.takers k.1 (written program t.routine d.name.word) (each_name t.routine k.0 d m) d.start (one_declared (locals t.routine) (h.routines t.routine k.0).locals d m).1)
 
-  globals_writable : (ds : List Declaration) → EachOf IsWritableDeclaration ds → EachOf IsWritable (globals_start ds)
+  globals_writable : (ds : List Declaration) → AllByRecursion IsWritableDeclaration ds → AllByRecursion IsWritable (globals_start ds)
   globals_writable [] k = tt
   globals_writable (d ∷ ds) k = (plain_writable (λ e. e) (λ e w. w) d.name.word k.0.0 d.start k.0.1, globals_writable ds k.1)
 
@@ -141,7 +142,7 @@ module _ (o : Outside) (a : Algorithm) (h : IsWritableAlgorithm o a) where
   for_all_writable (alone ss) e w = w
   for_all_writable (processes ps) e w = function_writable process_set e set_writable w
 
-  stack_writable : (m : Main) (us : List Routine) → EachOf IsWritable (stack_start m us)
+  stack_writable : (m : Main) (us : List Routine) → AllByRecursion IsWritable (stack_start m us)
   stack_writable m [] = tt
   stack_writable m (u ∷ us) =
       (equal_writable (named stack) (for_all_processes m empty_tuple) (named_writable stack ((refl, refl), refl)) (for_all_writable m empty_tuple (tt, tt, tt, tt, tt)), tt)
@@ -157,7 +158,7 @@ module _ (o : Outside) (a : Algorithm) (h : IsWritableAlgorithm o a) where
   taker_writable (single e) f = equal_writable (named self) e (named_writable self self_name) f
   taker_writable lone f = named_writable self self_name
 
-  arms_writable : (ts : List Taken) → ((t : Taken) → OneOf t ts → TakenOf (routines a) t) → EachOf IsWritable (arms program ts)
+  arms_writable : (ts : List Taken) → ((t : Taken) → OneOf t ts → TakenOf (routines a) t) → AllByRecursion IsWritable (arms program ts)
   arms_writable [] f = tt
   arms_writable (t ∷ ts) f = (let q = f t (inl refl) in (taker_writable t.takers q.1, (first_pc_writable t q.0, arms_writable ts (λ s k. f s (inr k)))))
 

@@ -1,6 +1,6 @@
 -- The disjuncts of Next, Terminating and Termination can be written, and Terminating stands where Next has it.
 use Rattle.std.proofs.Common.{◌≡◌, List, [], ◌∷◌, ◌++◌, Bool, true, false, ◌||◌, cond, bytes_eq, codes, map, is_some, inl, inr, refl, sym, ap, ◌∙◌, arith}
-use Rattle.std.specs.List.{list_any}
+use Rattle.std.specs.List.{list_any, AllByRecursion}
 use Rattle.std.proofs.lemmas.Bool.{or_parts}
 use Rattle.tla_token.specs.Words.{is_own}
 use Rattle.tla_tree.specs.Tree.{Word, Tree}
@@ -9,7 +9,7 @@ use Rattle.tla_value.specs.Outside.{Outside}
 use Rattle.module_tree.specs.Formulas.{self, named, quoted, equal, at}
 use Rattle.module_tree.specs.Module.{call, Way, one_way}
 use Rattle.module_tree.specs.Ways.{is_terminating}
-use Rattle.module_tree.specs.laws.WritableRegion.{AllOf, EachOf, IsWay, IsGuard}
+use Rattle.module_tree.specs.laws.WritableRegion.{AllOf, IsWay, IsGuard}
 use Rattle.pcal_tree.specs.Algorithm.{Main, alone, processes, Routine, alone_routine, main_routines, routines, Algorithm}
 use Rattle.pcal_tree.specs.OffencesLabels.{label_words}
 use Rattle.pcal_tree.specs.Calls.{label_name}
@@ -71,7 +71,7 @@ way_step P t (each_of s) f g h = (let q = call_step t.takers (actions.title_of P
 way_step P t (single e) f g h = call_step t.takers (actions.title_of P t) h
 way_step P t lone f g h = call_step t.takers (actions.title_of P t) h
 
-none_terminates : (ys : List Way) → EachOf IsStep ys → list_any is_terminating ys ≡ false
+none_terminates : (ys : List Way) → AllByRecursion IsStep ys → list_any is_terminating ys ≡ false
 none_terminates [] h = refl
 none_terminates (y ∷ ys) h = (λ i. h.0.1 i || none_terminates ys h.1 i)
 
@@ -79,7 +79,7 @@ any_both : (ys zs : List Way) → list_any is_terminating ys ≡ false → list_
 any_both [] zs e = refl
 any_both (y ∷ ys) zs e = (let p = or_parts (is_terminating y) (list_any is_terminating ys) e in ap (λ b. b || list_any is_terminating (ys ++ zs)) p.0 ∙ any_both ys zs p.1)
 
-ways_of : (ys : List Way) → EachOf IsStep ys → EachOf IsWay ys
+ways_of : (ys : List Way) → AllByRecursion IsStep ys → AllByRecursion IsWay ys
 ways_of [] h = tt
 ways_of (y ∷ ys) h = (h.0.0, ways_of ys h.1)
 
@@ -87,17 +87,17 @@ module _ (o : Outside) (a : Algorithm) (h : IsWritableAlgorithm o a) where
   abbrev program : Program
   program = with_names o a
 
-  procedure_steps : EachOf IsStep (map (own_way program) (taken_procedures a))
+  procedure_steps : AllByRecursion IsStep (map (own_way program) (taken_procedures a))
   procedure_steps =
       every_map IsStep (own_way program) (taken_procedures a)
       (λ t k. let q = procedures_taken a t k in way_step program t t.takers q.1 q.1 (title_free o a h t.routine (procedure_titled a a.main t.routine q.0)))
 
-  label_steps : (t : Taken) → OneOf t.routine (routines a) → EachOf IsStep (label_ways program t)
+  label_steps : (t : Taken) → OneOf t.routine (routines a) → AllByRecursion IsStep (label_ways program t)
   label_steps t k =
       every_map IsStep (λ l. one_way (call_by t.takers (label_name program t.routine l))) (label_words t.routine.body)
       (λ l m. call_step t.takers (label_name program t.routine l) (label_name_free o a h t.routine l k m))
 
-  main_steps : (m : Main) → IsWritableMain m → ((u : Routine) → OneOf u (main_routines a m) → OneOf u (routines a)) → ((u : Routine) → IsTitled a m u → IsTitled a a.main u) → EachOf IsStep (main_ways program m)
+  main_steps : (m : Main) → IsWritableMain m → ((u : Routine) → OneOf u (main_routines a m) → OneOf u (routines a)) → ((u : Routine) → IsTitled a m u → IsTitled a a.main u) → AllByRecursion IsStep (main_ways program m)
   main_steps (alone ss) w f g =
       every_flat IsStep (label_ways program) (taken_main a (alone ss)) (λ t k. label_steps t (f t.routine (main_taken a (alone ss) w t k).0))
   main_steps (processes ps) w f g =
@@ -112,10 +112,10 @@ module _ (o : Outside) (a : Algorithm) (h : IsWritableAlgorithm o a) where
   main_some (processes []) w f = absurd w
   main_some (processes (p ∷ ps)) w f = tt
 
-  steps_main : EachOf IsStep (main_ways program a.main)
+  steps_main : AllByRecursion IsStep (main_ways program a.main)
   steps_main = main_steps a.main h.main (mains_in o a h) (λ u k. k)
 
-  last_writable : (b : Bool) → EachOf IsWay (cond b [] (one_way (call (codes "Terminating")) ∷ []))
+  last_writable : (b : Bool) → AllByRecursion IsWay (cond b [] (one_way (call (codes "Terminating")) ∷ []))
   last_writable true = tt
   last_writable false = (((refl, refl), refl), tt)
 

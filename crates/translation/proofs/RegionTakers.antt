@@ -1,9 +1,10 @@
 -- Who takes the steps of an algorithm that can be written; and all actions of its module.
 use Rattle.std.proofs.Common.{ℕ, suc, List, [], ◌∷◌, Bool, true, false, cond, map, inl, inr, refl, sym, subst}
 use Rattle.std.specs.Prelude.{flat_map}
+use Rattle.std.specs.List.{AllByRecursion}
 use Rattle.tla_tree.specs.laws.Writable.{IsWritable}
 use Rattle.tla_value.specs.Outside.{Outside}
-use Rattle.module_tree.specs.laws.WritableRegion.{EachOf, IsAction}
+use Rattle.module_tree.specs.laws.WritableRegion.{IsAction}
 use Rattle.pcal_tree.specs.Algorithm.{Process, Main, alone, processes, Routine, process_routine, numbered, first_process, procedure_routines, main_routines, routines, Algorithm}
 use Rattle.pcal_tree.specs.Processes.{OneOf}
 use Rattle.pcal_tree.specs.Program.{Program}
@@ -37,7 +38,7 @@ TakenOf us t = OneOf t.routine us × TakersFit t.takers
 pub procedures_taken : (a : Algorithm) (t : Taken) → OneOf t (taken_procedures a) → TakenOf (procedure_routines a) t
 procedures_taken a t k = from_map (TakenOf (procedure_routines a)) (λ (u : Routine). record { takers = procedure_takers a.main; routine = u }) (procedure_routines a) (λ u l. (l, procedure_takers_fit a.main)) t k
 
-taken_from : (n : ℕ) (ps : List Process) → EachOf (λ (q : Process). IsWritable q.identity) ps → (t : Taken) → OneOf t (numbered taken_process n ps) → TakenOf (numbered process_routine n ps) t
+taken_from : (n : ℕ) (ps : List Process) → AllByRecursion (λ (q : Process). IsWritable q.identity) ps → (t : Taken) → OneOf t (numbered taken_process n ps) → TakenOf (numbered process_routine n ps) t
 taken_from n [] h t k = absurd k
 taken_from n (p ∷ ps) h t (inl e) = subst (TakenOf (numbered process_routine n (p ∷ ps))) (sym e) (inl refl, takers_fit p h.0)
 taken_from n (p ∷ ps) h t (inr k) = (let r = taken_from (suc n) ps h.1 t k in (inr r.0, r.1))
@@ -56,18 +57,18 @@ module _ (o : Outside) (a : Algorithm) (h : IsWritableAlgorithm o a) where
   abbrev program : Program
   program = with_names o a
 
-  procedure_actions : EachOf IsAction (flat_map (routine_actions program) (taken_procedures a))
+  procedure_actions : AllByRecursion IsAction (flat_map (routine_actions program) (taken_procedures a))
   procedure_actions =
       every_flat IsAction (routine_actions program) (taken_procedures a)
       (λ t k. let q = procedures_taken a t k in routine_writable o a h t (procedures_in o a h t.routine q.0) q.1 (procedure_titled a a.main t.routine q.0))
 
-  main_all : (m : Main) → IsWritableMain m → ((u : Routine) → OneOf u (main_routines a m) → OneOf u (routines a)) → ((u : Routine) → IsTitled a m u → IsTitled a a.main u) → EachOf IsAction (main_actions program m)
+  main_all : (m : Main) → IsWritableMain m → ((u : Routine) → OneOf u (main_routines a m) → OneOf u (routines a)) → ((u : Routine) → IsTitled a m u → IsTitled a a.main u) → AllByRecursion IsAction (main_actions program m)
   main_all (alone ss) w f g =
       every_flat IsAction (label_actions program) (taken_main a (alone ss)) (λ t k. let q = main_taken a (alone ss) w t k in labels_writable o a h t (f t.routine q.0) q.1)
   main_all (processes ps) w f g =
       every_flat IsAction (routine_actions program) (taken_main a (processes ps))
       (λ t k. let q = main_taken a (processes ps) w t k in routine_writable o a h t (f t.routine q.0) q.1 (g t.routine (inr q.0)))
 
-  pub actions_writable : EachOf IsAction (actions program)
+  pub actions_writable : AllByRecursion IsAction (actions program)
   actions_writable =
       every_both IsAction (flat_map (routine_actions program) (taken_procedures a)) (main_actions program a.main) procedure_actions (main_all a.main h.main (mains_in o a h) (λ u k. k))

@@ -8,7 +8,6 @@ use Rattle.tla_token.specs.Words.{is_own}
 use Rattle.tla_tree.specs.Tree.{Word, Each}
 use Rattle.tla_tree.specs.laws.Writable.{IsIdentifier, IsString}
 use Rattle.tla_value.specs.Outside.{Outside}
-use Rattle.module_tree.specs.laws.WritableRegion.{EachOf}
 use Rattle.pcal_tree.specs.Algorithm.{Declaration, declares, locals, Main, alone, processes, Routine, procedure_routines, main_routines, routines, Algorithm}
 use Rattle.pcal_tree.specs.Expand.{written_out}
 use Rattle.pcal_tree.specs.Names.{kept, taken_outside, taken_at_start, Role, variable, label, title, Want, wants, wanted_within, wanted_by, wanted_by_main, wanted, given}
@@ -106,7 +105,7 @@ title_wanted a (processes ps) u (inr h) =
 
 -- ---- the names of an algorithm
 
-declared_each : (ds : List Declaration) → EachOf IsWritableDeclaration ds → Each IsIdentifier (declared ds)
+declared_each : (ds : List Declaration) → AllByRecursion IsWritableDeclaration ds → Each IsIdentifier (declared ds)
 declared_each [] h = tt
 declared_each (d ∷ ds) h = (h.0.0, declared_each ds h.1)
 

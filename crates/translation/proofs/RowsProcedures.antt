@@ -1,5 +1,6 @@
 -- Written translations of algorithms with procedures, to the byte, by computation; and that they read back.
 use Rattle.std.proofs.Common.{◌≡◌, ℕ, List, [], ◌∷◌, false, codes, refl}
+use Rattle.std.specs.List.{AllByRecursion}
 use Rattle.std.specs.Fmt.{digits}
 use Rattle.tla_tree.specs.declared.op.Op.TheVariants.{Plus, Minus, Greater}
 use Rattle.tla_tree.specs.Tree.{Tree, no_trees, tree}
@@ -9,7 +10,7 @@ use Rattle.module_tree.specs.TextFront.{Text}
 use Rattle.module_tree.specs.Walk.{State, walk}
 use Rattle.module_tree.specs.WithTranslation.{WithTranslation}
 use Rattle.module_tree.specs.laws.Outsides.{HasOutside}
-use Rattle.module_tree.specs.laws.WritableRegion.{EachOf, IsReadBack, IsWritten}
+use Rattle.module_tree.specs.laws.WritableRegion.{IsReadBack, IsWritten}
 use Rattle.module_tree.proofs.WrittenRegion.{written_file}
 use Rattle.module_tree.specs.Layout.{layout}
 use Rattle.module_tree.specs.Formulas.{named}
@@ -78,7 +79,7 @@ call_with_goto = refl
 abbrev worked : List Region
 worked = written_region false sequences add_one ∷ written_region false sequences tail_calls ∷ written_region false sequences call_and_jump ∷ []
 
-worked_read : EachOf (λ (r : Region). (st : State) → IsReadBack st r) worked
+worked_read : AllByRecursion (λ (r : Region). (st : State) → IsReadBack st r) worked
 unfolding digits
 worked_read = all_read worked refl
 

@@ -1,5 +1,6 @@
 -- Written translations of algorithms with processes, to the byte, by computation; and that they read back.
 use Rattle.std.proofs.Common.{◌≡◌, ℕ, List, [], ◌∷◌, true, false, codes, refl}
+use Rattle.std.specs.List.{AllByRecursion}
 use Rattle.std.specs.Fmt.{digits}
 use Rattle.tla_tree.specs.declared.op.Op.TheVariants.{Plus, Minus, Greater, Range, Cup}
 use Rattle.tla_tree.specs.Tree.{Word, Tree}
@@ -11,7 +12,7 @@ use Rattle.module_tree.specs.TextFront.{Text}
 use Rattle.module_tree.specs.Walk.{State, walk}
 use Rattle.module_tree.specs.WithTranslation.{WithTranslation}
 use Rattle.module_tree.specs.laws.Outsides.{HasOutside}
-use Rattle.module_tree.specs.laws.WritableRegion.{EachOf, IsReadBack, IsWritten}
+use Rattle.module_tree.specs.laws.WritableRegion.{IsReadBack, IsWritten}
 use Rattle.module_tree.proofs.WrittenRegion.{written_file}
 use Rattle.tla_value.specs.Outside.{Outside}
 use Rattle.pcal_tree.specs.declared.mark.Mark.TheVariants as marked
@@ -161,6 +162,6 @@ all_left_out = refl
 abbrev worked : List Region
 worked = region nobody ∷ region ranged ∷ region united ∷ region three ∷ region two_processes ∷ region same_names ∷ region semaphore ∷ region strong_one ∷ region left_out ∷ []
 
-worked_read : EachOf (λ (r : Region). (st : State) → IsReadBack st r) worked
+worked_read : AllByRecursion (λ (r : Region). (st : State) → IsReadBack st r) worked
 unfolding digits
 worked_read = all_read worked refl

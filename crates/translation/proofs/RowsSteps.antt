@@ -1,12 +1,13 @@
 -- The written actions of labels in a uniprocess algorithm, to the byte, by computation; and that the translations read back.
 use Rattle.std.proofs.Common.{◌≡◌, ℕ, List, [], ◌∷◌, map, true, false, codes, refl}
+use Rattle.std.specs.List.{AllByRecursion}
 use Rattle.std.specs.Fmt.{digits}
 use Rattle.tla_tree.specs.declared.op.Op.TheVariants.{Plus, Minus, Greater, Less, Equal}
 use Rattle.tla_tree.specs.Tree.{Word, conjunction, disjunction, Tree, node, no_trees, tree}
 use Rattle.tla_value.specs.Outside.{Outside}
 use Rattle.module_tree.specs.Module.{Region}
 use Rattle.module_tree.specs.Walk.{State}
-use Rattle.module_tree.specs.laws.WritableRegion.{EachOf, IsReadBack}
+use Rattle.module_tree.specs.laws.WritableRegion.{IsReadBack}
 use Rattle.module_tree.specs.Formulas.{named, at, set}
 use Rattle.pcal_tree.specs.Algorithm.{nowhere, no_binds, one_of, is, await, print, assert, skip, branch, either, with, while, macro, Statements, done, no_branches, or, Macro, alone, Algorithm}
 use Rattle.pcal_tree.specs.Labelled as labels
@@ -172,6 +173,6 @@ abbrev worked : List Region
 worked =
     region ordered ∷ region swapped ∷ region branched ∷ region awaited ∷ region slots ∷ region twice ∷ region looping ∷ region chosen ∷ region chosen_of_two ∷ region telling ∷ region forked ∷ written_region false with_constant by_constant ∷ []
 
-worked_read : EachOf (λ (r : Region). (st : State) → IsReadBack st r) worked
+worked_read : AllByRecursion (λ (r : Region). (st : State) → IsReadBack st r) worked
 unfolding digits
 worked_read = all_read worked refl

@@ -1,5 +1,6 @@
 -- A whole translation, to the byte, by computation; and that it reads back, alone and in its file.
 use Rattle.std.proofs.Common.{◌≡◌, [], ◌∷◌, ◌++◌, length, true, false, codes, refl}
+use Rattle.std.specs.List.{AllByRecursion}
 use Rattle.std.specs.Fmt.{digits}
 use Rattle.tla_tree.specs.declared.op.Op.TheVariants.{Plus, Greater}
 use Rattle.module_tree.specs.Formulas.{named}
@@ -10,7 +11,7 @@ use Rattle.module_tree.specs.TextFront.{Text}
 use Rattle.module_tree.specs.Walk.{State, walk}
 use Rattle.module_tree.specs.WithTranslation.{WithTranslation}
 use Rattle.module_tree.specs.laws.Outsides.{HasOutside}
-use Rattle.module_tree.specs.laws.WritableRegion.{EachOf, IsReadBack, IsWritten}
+use Rattle.module_tree.specs.laws.WritableRegion.{IsReadBack, IsWritten}
 use Rattle.module_tree.proofs.WrittenRegion.{written_file}
 use Rattle.tla_value.specs.Outside.{Outside}
 use Rattle.pcal_tree.specs.Algorithm.{branch, Algorithm}
@@ -32,7 +33,7 @@ unfolding digits
 without_end = refl
 
 -- both read back, wherever they are put
-whole_reads : EachOf (λ (r : Region). (st : State) → IsReadBack st r) (written_region false integers inc ∷ written_region true integers inc ∷ [])
+whole_reads : AllByRecursion (λ (r : Region). (st : State) → IsReadBack st r) (written_region false integers inc ∷ written_region true integers inc ∷ [])
 whole_reads = all_read (written_region false integers inc ∷ written_region true integers inc ∷ []) refl
 
 -- the file with that algorithm, and the file with its translation

@@ -6,7 +6,6 @@ use Rattle.tla_tree.specs.Tree.{Word}
 use Rattle.tla_tree.specs.Lexical.{Token}
 use Rattle.tla_tree.specs.laws.Writable.{IsIdentifier, IsWritable, AreOfText}
 use Rattle.tla_tree.specs.Spelling.{tree_of}
-use Rattle.module_tree.specs.laws.WritableRegion.{EachOf}
 use Rattle.pcal_tree.specs.Algorithm as tree
 use Rattle.pcal_tree.specs.GrammarParts.{Tokens, name, section_tokens, Labels, no_labels, label, colon, colon_plus, colon_minus, with_labels}
 use Rattle.pcal_tree.specs.GrammarP as p
@@ -183,7 +182,7 @@ of_process s x ts k h =
     let n = of_body s (codes "process") x.body ts k.2 m.1 in
     ((l.0, l.1, m.0, n.0), n.1)
 
-of_define : (s : g.Syntax) (d : g.Define) (ts : List Token) → g.GoodDefine s d → AreOfText (g.define d ts) → EachOf IsTypedDefinition (g.defined d) × AreOfText ts
+of_define : (s : g.Syntax) (d : g.Define) (ts : List Token) → g.GoodDefine s d → AreOfText (g.define d ts) → AllByRecursion IsTypedDefinition (g.defined d) × AreOfText ts
 of_define s g.no_define ts k h = (tt, h)
 of_define g.p_syntax (g.define_end a ds b d x) ts k h = (let m = of_definitions ds _ k h.1 in (m.0, of_semicolon x ts m.1.1.1))
 of_define g.c_syntax (g.define_braces a b ds d x) ts k h = (let m = of_definitions ds _ k h.1.1 in (m.0, of_semicolon x ts m.1.1))
@@ -192,7 +191,7 @@ of_define g.c_syntax (g.define_end a ds b d x) ts k h = absurd k
 
 -- each of a list, one after the other
 of_each : {A B : Type 0} (f : A → List Token → List Token) (t : A → B) (G : A → Type 0) (Q : B → Type 0) → ((x : A) (ts : List Token) → G x → AreOfText (f x ts) → Q (t x) × AreOfText ts)
-    → (xs : List A) (ts : List Token) → AllByRecursion G xs → AreOfText (g.each f xs ts) → EachOf Q (map t xs) × AreOfText ts
+    → (xs : List A) (ts : List Token) → AllByRecursion G xs → AreOfText (g.each f xs ts) → AllByRecursion Q (map t xs) × AreOfText ts
 of_each f t G Q one [] ts k h = (tt, h)
 of_each f t G Q one (x ∷ xs) ts k h =
     let l = one x _ k.0 h in

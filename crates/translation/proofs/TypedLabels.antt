@@ -2,14 +2,13 @@
 use Rattle.std.proofs.Common.{◌≡◌, ℕ, zero, suc, ◌+◌, ◌<◌, ◌%◌, ◌/◌, List, [], ◌∷◌, reverse, Bool, true, false, ◌||◌, ◌&&◌, cond, codes, nat_lt, nat_eq, Some, None, refl, sym, subst, decimal, arith}
 use Rattle.std.specs.Bool.{◌==◌}
 use Rattle.std.specs.Fmt.{digits_onto, digit_glyph, digits}
-use Rattle.std.specs.List.{list_all}
+use Rattle.std.specs.List.{list_all, AllByRecursion}
 use Rattle.std.proofs.lemmas.Bool.{and_from, or_left, or_right, le-leb, lt-ltb}
 use Rattle.tla_token.specs.Lexemes.{is_letter, is_digit, is_word}
 use Rattle.tla_token.specs.declared.place.Place.{Place}
 use Rattle.tla_token.specs.declared.rule.Rule.TheVariants.{FirstLabel}
 use Rattle.tla_tree.specs.Tree.{Word, Trees}
 use Rattle.tla_tree.specs.laws.Writable.{IsIdentifier}
-use Rattle.module_tree.specs.laws.WritableRegion.{EachOf}
 use Rattle.pcal_tree.specs.Algorithm.{Span, Statement, assign, await, print, assert, skip, branch, either, with, while, goto, macro, call, return, Statements, done, then, mark, Branches, no_branches, or, Macro, Procedure, Process, Main, alone, processes, Algorithm}
 use Rattle.pcal_tree.specs.Run.{partner_of}
 use Rattle.pcal_tree.specs.Paths.{Effect, Effects, nothing, after_one}
@@ -101,19 +100,19 @@ mutual
 
 -- ---- algorithms
 
-macros_through : {R : Type 0} (Q : R → Type 0) (s : Supply) (ds : List Macro) (go : List Macro → Supply → R) → s.root ≡ codes "Lbl_" → EachOf IsTypedMacro ds → After Q (EachOf IsTypedMacro) go → Q (add_to_macros s ds go)
+macros_through : {R : Type 0} (Q : R → Type 0) (s : Supply) (ds : List Macro) (go : List Macro → Supply → R) → s.root ≡ codes "Lbl_" → AllByRecursion IsTypedMacro ds → After Q (AllByRecursion IsTypedMacro) go → Q (add_to_macros s ds go)
 macros_through Q s [] go r h k = k [] s r tt
 macros_through Q s (d ∷ ds) go r h k =
     typed_add Q (λ st. nothing) (at_first None) s d.body _ r h.0.2.1 (λ b t q c.
     macros_through Q t ds _ q h.1 (λ es u o e. k (record { name = d.name; params = d.params; body = b } ∷ es) u o ((h.0.0, h.0.1, (c.1 h.0.2.0, c.0)), e)))
 
-procedures_through : {R : Type 0} (Q : R → Type 0) (C : Word → Trees → Effect) (s : Supply) (ps : List Procedure) (go : List Procedure → Supply → R) → s.root ≡ codes "Lbl_" → EachOf IsTypedProcedure ps → After Q (EachOf IsTypedProcedure) go → Q (add_to_procedures C s ps go)
+procedures_through : {R : Type 0} (Q : R → Type 0) (C : Word → Trees → Effect) (s : Supply) (ps : List Procedure) (go : List Procedure → Supply → R) → s.root ≡ codes "Lbl_" → AllByRecursion IsTypedProcedure ps → After Q (AllByRecursion IsTypedProcedure) go → Q (add_to_procedures C s ps go)
 procedures_through Q C s [] go r h k = k [] s r tt
 procedures_through Q C s (p ∷ ps) go r h k =
     typed_add Q (procedure_effects C p) (at_first (Some FirstLabel)) s p.body _ r h.0.3.1 (λ b t q c.
     procedures_through Q C t ps _ q h.1 (λ qs u o d. k (record { name = p.name; params = p.params; variables = p.variables; body = b } ∷ qs) u o ((h.0.0, h.0.1, h.0.2, (c.1 h.0.3.0, c.0)), d)))
 
-processes_through : {R : Type 0} (Q : R → Type 0) (C : Word → Trees → Effect) (s : Supply) (ps : List Process) (go : List Process → R) → s.root ≡ codes "Lbl_" → EachOf IsTypedProcess ps → ((qs : List Process) → EachOf IsTypedProcess qs → Q (go qs)) → Q (add_to_processes C s ps go)
+processes_through : {R : Type 0} (Q : R → Type 0) (C : Word → Trees → Effect) (s : Supply) (ps : List Process) (go : List Process → R) → s.root ≡ codes "Lbl_" → AllByRecursion IsTypedProcess ps → ((qs : List Process) → AllByRecursion IsTypedProcess qs → Q (go qs)) → Q (add_to_processes C s ps go)
 processes_through Q C s [] go r h k = k [] tt
 processes_through Q C s (p ∷ ps) go r h k =
     typed_add Q (outer_effects C) (at_first (Some FirstLabel)) s p.body _ r h.0.3.1 (λ b t q c.

@@ -4,7 +4,6 @@ use Rattle.std.specs.List.{AllByRecursion, flat_map}
 use Rattle.tla_token.specs.Words.{begins_fairness}
 use Rattle.tla_tree.specs.Tree.{Word}
 use Rattle.tla_tree.specs.laws.Writable.{IsIdentifier}
-use Rattle.module_tree.specs.laws.WritableRegion.{EachOf}
 use Rattle.pcal_tree.specs.Algorithm.{Statement, assign, await, print, assert, skip, branch, either, with, while, goto, macro, call, return, Statements, done, then, mark, Branches, no_branches, or, Declaration, Procedure, Process, Main, alone, processes, Routine, locals, procedure_routine, process_routine, alone_routine, numbered, first_procedure, first_process, procedure_routines, Algorithm}
 use Rattle.pcal_tree.specs.Names.{Role, variable, label, Want, wants, wanted_within, wanted_by, wanted_by_main, wanted}
 use Rattle.pcal_tree.specs.OffencesLabels.{Label, labels_of_one, labels, labels_of_some, label_words}
@@ -61,23 +60,23 @@ words_named : (ls : List Label) → AllByRecursion IsNamed ls → AllByRecursion
 words_named [] h = tt
 words_named (l ∷ ls) h = (h.0, words_named ls h.1)
 
-declared_named : (ds : List Declaration) → EachOf IsWritableDeclaration ds → AllByRecursion IsIdentifier (declared ds)
+declared_named : (ds : List Declaration) → AllByRecursion IsWritableDeclaration ds → AllByRecursion IsIdentifier (declared ds)
 declared_named [] h = tt
 declared_named (d ∷ ds) h = (h.0.0, declared_named ds h.1)
 
-within_named : (u : Routine) → EachOf IsWritableDeclaration (locals u) → AreTypedStatements u.body → AllByRecursion IsWanted (wanted_within u)
+within_named : (u : Routine) → AllByRecursion IsWritableDeclaration (locals u) → AreTypedStatements u.body → AllByRecursion IsWanted (wanted_within u)
 within_named u h k =
     every_both IsWanted (wants u.number variable (declared (locals u))) (wants u.number label (label_words u.body))
     (wants_named u.number variable (declared (locals u)) (declared_named (locals u) h))
     (wants_named u.number label (label_words u.body) (words_named (labels false u.body) (all_labels false u.body k)))
 
-procedures_named : (n : ℕ) (ps : List Procedure) → EachOf IsTypedProcedure ps → AllByRecursion IsWanted (flat_map wanted_by (numbered procedure_routine n ps))
+procedures_named : (n : ℕ) (ps : List Procedure) → AllByRecursion IsTypedProcedure ps → AllByRecursion IsWanted (flat_map wanted_by (numbered procedure_routine n ps))
 procedures_named n [] h = tt
 procedures_named n (p ∷ ps) h =
     every_both IsWanted (wanted_by (procedure_routine n p)) (flat_map wanted_by (numbered procedure_routine (suc n) ps))
     (h.0.0, within_named (procedure_routine n p) (each_both IsWritableDeclaration p.params p.variables h.0.1 h.0.2) h.0.3.1) (procedures_named (suc n) ps h.1)
 
-processes_named : (n : ℕ) (ps : List Process) → EachOf IsTypedProcess ps → AllByRecursion IsWanted (flat_map wanted_by (numbered process_routine n ps))
+processes_named : (n : ℕ) (ps : List Process) → AllByRecursion IsTypedProcess ps → AllByRecursion IsWanted (flat_map wanted_by (numbered process_routine n ps))
 processes_named n [] h = tt
 processes_named n (p ∷ ps) h =
     every_both IsWanted (wanted_by (process_routine n p)) (flat_map wanted_by (numbered process_routine (suc n) ps))

@@ -1,5 +1,6 @@
 -- The parts that both syntaxes spell alike, of tokens of a text: names are identifiers, and expressions can be written.
 use Rattle.std.proofs.Common.{◌≡◌, List, [], ◌∷◌, ◌++◌, Bool, true, false, is_some, Option, Some, None, refl, subst}
+use Rattle.std.specs.List.{AllByRecursion}
 use Rattle.tla_token.specs.declared.place.Place.{Place}
 use Rattle.tla_tree.specs.Tree.{Name, words}
 use Rattle.tla_tree.specs.Lexical.{Token}
@@ -8,7 +9,6 @@ use Rattle.tla_tree.specs.Spelling as spelled
 use Rattle.tla_tree.specs.laws.Writable.{IsIdentifier, IsWritable, AreWritable, AreOfText}
 use Rattle.tla_tree.proofs.SpellAppend.{spell_then}
 use Rattle.tla_tree.proofs.WritableTrees.{spelled_writable}
-use Rattle.module_tree.specs.laws.WritableRegion.{EachOf}
 use Rattle.pcal_tree.specs.Algorithm as tree
 use Rattle.pcal_tree.specs.GrammarParts.{Separator, by_semicolon, by_comma, separator, maybe_separator, maybe_semicolon, Initial, unset, equals, among, initial, start_of, GoodInitial, Variables, last_variable, variable, variables, declarations, GoodVariables, Section, no_section, section, section_tokens, declared, GoodSection}
 use Rattle.pcal_tree.specs.GrammarParts.{Names, last_name, more_names, names, names_of, MacroParameters, no_names, some_names, macro_parameters, macro_names, Parameters, last_parameter, parameter, parameters, parameters_of, GoodParameters, ProcedureParameters, no_parameters, some_parameters, procedure_parameters, procedure_declarations, GoodProcedureParameters}
@@ -60,33 +60,33 @@ of_initial b unset ts g h = (tt, h)
 of_initial b (equals p e) ts g h = of_phrase e ts g h.1
 of_initial b (among p e) ts g h = of_phrase e ts g.1 h.1
 
-of_variables : (b : Bool) (vs : Variables) (ts : List Token) → GoodVariables b vs → AreOfText (variables vs ts) → EachOf IsWritableDeclaration (declarations vs) × AreOfText ts
+of_variables : (b : Bool) (vs : Variables) (ts : List Token) → GoodVariables b vs → AreOfText (variables vs ts) → AllByRecursion IsWritableDeclaration (declarations vs) × AreOfText ts
 of_variables b (last_variable x i s) ts g h = (let k = of_initial b i _ g h.1 in (((h.0, k.0), tt), of_separator s ts k.1))
 of_variables b (variable x i s vs) ts g h =
     let k = of_initial b i _ g.0 h.1 in
     let l = of_variables b vs ts g.1 (of_one s _ k.1) in
     (((h.0, k.0), l.0), l.1)
 
-pub of_section : (b : Bool) (s : Section) (ts : List Token) → GoodSection b s → AreOfText (section_tokens s ts) → EachOf IsWritableDeclaration (declared s) × AreOfText ts
+pub of_section : (b : Bool) (s : Section) (ts : List Token) → GoodSection b s → AreOfText (section_tokens s ts) → AllByRecursion IsWritableDeclaration (declared s) × AreOfText ts
 of_section b no_section ts g h = (tt, h)
 of_section b (section p s vs) ts g h = of_variables b vs ts g h.1
 
-of_names : (xs : Names) (ts : List Token) → AreOfText (names xs ts) → EachOf IsIdentifier (words (names_of xs)) × AreOfText ts
+of_names : (xs : Names) (ts : List Token) → AreOfText (names xs ts) → AllByRecursion IsIdentifier (words (names_of xs)) × AreOfText ts
 of_names (last_name x) ts h = ((h.0, tt), h.1)
 of_names (more_names x p xs) ts h = (let k = of_names xs ts h.1.1 in ((h.0, k.0), k.1))
 
-pub of_macro_parameters : (m : MacroParameters) (ts : List Token) → AreOfText (macro_parameters m ts) → EachOf IsIdentifier (words (macro_names m)) × AreOfText ts
+pub of_macro_parameters : (m : MacroParameters) (ts : List Token) → AreOfText (macro_parameters m ts) → AllByRecursion IsIdentifier (words (macro_names m)) × AreOfText ts
 of_macro_parameters (no_names p q) ts h = (tt, h.1.1)
 of_macro_parameters (some_names p xs q) ts h = (let k = of_names xs _ h.1 in (k.0, k.1.1))
 
-of_parameters : (xs : Parameters) (ts : List Token) → GoodParameters xs → AreOfText (parameters xs ts) → EachOf IsWritableDeclaration (parameters_of xs) × AreOfText ts
+of_parameters : (xs : Parameters) (ts : List Token) → GoodParameters xs → AreOfText (parameters xs ts) → AllByRecursion IsWritableDeclaration (parameters_of xs) × AreOfText ts
 of_parameters (last_parameter x i) ts g h = (let k = of_initial false i ts g h.1 in (((h.0, k.0), tt), k.1))
 of_parameters (parameter x i p xs) ts g h =
     let k = of_initial false i _ g.0 h.1 in
     let l = of_parameters xs ts g.1 k.1.1 in
     (((h.0, k.0), l.0), l.1)
 
-pub of_procedure_parameters : (m : ProcedureParameters) (ts : List Token) → GoodProcedureParameters m → AreOfText (procedure_parameters m ts) → EachOf IsWritableDeclaration (procedure_declarations m) × AreOfText ts
+pub of_procedure_parameters : (m : ProcedureParameters) (ts : List Token) → GoodProcedureParameters m → AreOfText (procedure_parameters m ts) → AllByRecursion IsWritableDeclaration (procedure_declarations m) × AreOfText ts
 of_procedure_parameters (no_parameters p q) ts g h = (tt, h.1.1)
 of_procedure_parameters (some_parameters p xs q) ts g h = (let k = of_parameters xs _ g h.1 in (k.0, k.1.1))
 
@@ -94,7 +94,7 @@ of_heading : (d : Heading) (e : Phrase) (ts : List Token) → AreOfText (heading
 of_heading (plain x) e ts h k = ((h.0, tt, k h.1), h.1)
 of_heading (applied x p xs q) e ts h k = (let l = of_names xs _ h.1.1 in ((h.0, l.0, k l.1.1), l.1.1))
 
-pub of_definitions : (ds : Definitions) (ts : List Token) → GoodDefinitions ds → AreOfText (definitions ds ts) → EachOf IsTypedDefinition (definitions_of ds) × AreOfText ts
+pub of_definitions : (ds : Definitions) (ts : List Token) → GoodDefinitions ds → AreOfText (definitions ds ts) → AllByRecursion IsTypedDefinition (definitions_of ds) × AreOfText ts
 of_definitions (last_definition d p e) ts g h =
     let k = of_heading d e _ h (λ r. (of_phrase e ts g r.1).0) in
     ((k.0, tt), (of_phrase e ts g k.1.1).1)

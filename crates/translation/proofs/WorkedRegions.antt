@@ -1,6 +1,6 @@
 -- Which translations can be written, as a test: so that it is computed of worked ones.
 use Rattle.std.proofs.Common.{◌≡◌, ℕ, zero, suc, ◌≤◌, Bool, true, false, not, ◌&&◌, nat_eq, nat_le, nat_lt, List, [], ◌∷◌, length, Option, Some, None, is_some, refl}
-use Rattle.std.specs.List.{list_all, list_any}
+use Rattle.std.specs.List.{list_all, list_any, AllByRecursion}
 use Rattle.std.proofs.lemmas.Bool.{and_parts, eqb-true, leb-true, ltb-true, not-true}
 use Rattle.tla_token.specs.Lexemes.{is_word, is_letter}
 use Rattle.tla_token.specs.Limits.{past_numbers}
@@ -17,7 +17,7 @@ use Rattle.module_tree.specs.Module.{Item, test, setting, unchanged, exists, loc
 use Rattle.module_tree.specs.Module as parts
 use Rattle.module_tree.specs.Ways.{is_terminating, sets_of, processes_in}
 use Rattle.module_tree.specs.Walk.{State}
-use Rattle.module_tree.specs.laws.WritableRegion.{AllOf, EachOf, AreNames, IsItem, AreItems, AreBranches, IsCall, IsWay, IsBody, IsParameter, IsOver, IsGuard, IsFairness, IsDefinition, IsAction, IsRegion, IsReadBack}
+use Rattle.module_tree.specs.laws.WritableRegion.{AllOf, AreNames, IsItem, AreItems, AreBranches, IsCall, IsWay, IsBody, IsParameter, IsOver, IsGuard, IsFairness, IsDefinition, IsAction, IsRegion, IsReadBack}
 use Rattle.module_tree.proofs.WrittenRegion.{read_back}
 
 -- where the test says so it is
@@ -212,7 +212,7 @@ all_tell p P t [] h = absurd cc
 all_tell p P t (x ∷ []) h = t x h
 all_tell p P t (x ∷ y ∷ xs) h = (let k = and_parts (p x) (all_some p (y ∷ xs)) h in (t x k.0, all_tell p P t (y ∷ xs) k.1))
 
-every_tells : {A : Type 0} (p : A → Bool) (P : A → Type 0) → Tells p P → Tells (list_all p) (EachOf P)
+every_tells : {A : Type 0} (p : A → Bool) (P : A → Type 0) → Tells p P → Tells (list_all p) (AllByRecursion P)
 every_tells p P t [] h = tt
 every_tells p P t (x ∷ xs) h = (let k = and_parts (p x) (list_all p xs) h in (t x k.0, every_tells p P t xs k.1))
 
@@ -395,5 +395,5 @@ region_tells r h =
 pub reads_back : (r : Region) → is_region r ≡ true → (st : State) → IsReadBack st r
 reads_back r h st = read_back st r (region_tells r h)
 
-pub all_read : (rs : List Region) → list_all is_region rs ≡ true → EachOf (λ (r : Region). (st : State) → IsReadBack st r) rs
+pub all_read : (rs : List Region) → list_all is_region rs ≡ true → AllByRecursion (λ (r : Region). (st : State) → IsReadBack st r) rs
 all_read rs h = every_tells is_region (λ (r : Region). (st : State) → IsReadBack st r) reads_back rs h

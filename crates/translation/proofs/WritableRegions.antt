@@ -1,11 +1,11 @@
 -- The written module of an algorithm that can be written is a region that can be written.
 use Rattle.std.proofs.Common.{List, [], ◌∷◌, Bool, true, false, cond, codes, map, refl}
-use Rattle.std.specs.List.{list_any}
+use Rattle.std.specs.List.{list_any, AllByRecursion}
 use Rattle.tla_tree.specs.Tree.{Word, Each}
 use Rattle.tla_tree.specs.laws.Writable.{IsIdentifier}
 use Rattle.tla_value.specs.Outside.{Outside}
 use Rattle.module_tree.specs.Ways.{processes_in}
-use Rattle.module_tree.specs.laws.WritableRegion.{EachOf, AreNames, IsDefinition, IsRegion}
+use Rattle.module_tree.specs.laws.WritableRegion.{AreNames, IsDefinition, IsRegion}
 use Rattle.pcal_tree.specs.Algorithm.{Definition, Algorithm}
 use Rattle.pcal_tree.specs.Placeless.{placeless}
 use Rattle.pcal_tree.specs.Program.{inner}
@@ -23,14 +23,14 @@ use Rattle.translation.proofs.RegionInit.{process_sets_writable, init_writable}
 use Rattle.translation.proofs.RegionNext.{all_done_writable, ended_writable, next_writable, terminating_there}
 use Rattle.translation.proofs.RegionFairness.{fairness_writable}
 
-model_names : (a : Algorithm) → EachOf IsIdentifier (model_values a)
+model_names : (a : Algorithm) → AllByRecursion IsIdentifier (model_values a)
 model_names a = by (list_any (λ d. is_unset d.start) (all_declarations a))
   where
-    by : (b : Bool) → EachOf IsIdentifier (cond b (codes "defaultInitValue" ∷ []) [])
+    by : (b : Bool) → AllByRecursion IsIdentifier (cond b (codes "defaultInitValue" ∷ []) [])
     by true = (((refl, refl), refl), tt)
     by false = tt
 
-definitions_writable : (ds : List Definition) → EachOf IsWritableDefinition ds → EachOf IsDefinition (map inner ds)
+definitions_writable : (ds : List Definition) → AllByRecursion IsWritableDefinition ds → AllByRecursion IsDefinition (map inner ds)
 definitions_writable [] h = tt
 definitions_writable (d ∷ ds) h = ((h.0.0, h.0.1, h.0.2, h.0.3, refl), definitions_writable ds h.1)
 

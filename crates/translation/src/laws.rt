@@ -12,6 +12,7 @@ ghost use Rattle.pcal_tree.specs.OffencesLabels.{label_words, label_offences};
 ghost use Rattle.pcal_tree.specs.laws.Apart.{FewNames, AreNames};
 ghost use Rattle.pcal_tree.specs.Processes.{OneOf};
 ghost use Rattle.std.specs.Bool.{IsTrue};
+ghost use Rattle.std.specs.List.{AllByRecursion};
 ghost use Rattle.tla_token.specs.Words.{is_own};
 ghost use Rattle.action_builder.specs.laws.Jumps.{AllUnlike};
 ghost use Rattle.pcal_tree.specs.Scope.{Scope};
@@ -35,7 +36,7 @@ ghost use Rattle.translation.specs.laws.ActionNames.{action_names};
 ghost use Rattle.translation.specs.laws.Steps.{written_step};
 ghost use Rattle.module_tree.specs.laws.Kept.{IsFine};
 ghost use Rattle.module_tree.specs.laws.Outsides.{HasOutside};
-ghost use Rattle.module_tree.specs.laws.WritableRegion.{EachOf, IsRegion, IsWritten};
+ghost use Rattle.module_tree.specs.laws.WritableRegion.{IsRegion, IsWritten};
 ghost use Rattle.module_tree.specs.Layout.{layout};
 ghost use Rattle.module_tree.specs.TextFront.{Text};
 ghost use Rattle.module_tree.specs.Walk.{walk};
@@ -103,7 +104,7 @@ pub fn written_modules_are_regions()
 /// missing, each body that isn't empty has one.
 pub fn rules_help_to_write()
     ensures once { (a : Algorithm) (o : Outside) → repeated_names a o ≡ [] → (u : Routine) → OneOf u (routines a) → AllUnlike (declared (locals u)) }
-    ensures free { (a : Algorithm) (o : Outside) → reserved_declared a o ≡ [] → EachOf (λ (d : Definition). IsTrue (not (is_own d.name.word))) a.definitions }
+    ensures free { (a : Algorithm) (o : Outside) → reserved_declared a o ≡ [] → AllByRecursion (λ (d : Definition). IsTrue (not (is_own d.name.word))) a.definitions }
     ensures labelled { (a : Algorithm) → label_offences a ≡ [] → (u : Routine) → OneOf u (routines a) → IsStarted u.body → IsLabelled (label_words u.body) }
 {}
 

@@ -1,7 +1,7 @@
 -- Translations that can be written and read back: their names are names and no reserved words, their expressions can be written, and no list is empty.
 use Rattle.std.specs.Prelude.{◌≡◌, false, not, List, [], ◌∷◌, Option, Some, None, is_some}
 use Rattle.std.specs.Bool.{IsTrue}
-use Rattle.std.specs.List.{list_any}
+use Rattle.std.specs.List.{list_any, AllByRecursion}
 use Rattle.tla_token.specs.Words.{is_own}
 use Rattle.tla_tree.specs.Tree.{Word, Tree}
 use Rattle.tla_tree.specs.laws.Writable.{IsIdentifier, IsWritable}
@@ -23,10 +23,6 @@ abbrev pub AllOf : {A : Type 0} → (A → Type 0) → List A → Type 0
 AllOf P [] = ⊥
 AllOf P (x ∷ []) = P x
 AllOf P (x ∷ y ∷ xs) = P x × AllOf P (y ∷ xs)
-
-abbrev pub EachOf : {A : Type 0} → (A → Type 0) → List A → Type 0
-EachOf P [] = Unit {0}
-EachOf P (x ∷ xs) = P x × EachOf P xs
 
 abbrev pub AreNames : List Word → Type 0
 AreNames xs = AllOf IsIdentifier xs
@@ -82,23 +78,23 @@ IsFairness f = IsOver f.over × IsGuard f.guard × IsCall f.action
 
 -- ---- units
 abbrev pub IsDefinition : Definition → Type 0
-IsDefinition d = IsIdentifier d.title × IsTrue (not (is_own d.title)) × EachOf IsIdentifier d.params × IsWritable d.body × (d.outside ≡ false)
+IsDefinition d = IsIdentifier d.title × IsTrue (not (is_own d.title)) × AllByRecursion IsIdentifier d.params × IsWritable d.body × (d.outside ≡ false)
 
 abbrev pub IsAction : Action → Type 0
 IsAction a = IsIdentifier a.title × IsTrue (not (is_own a.title)) × IsParameter a.parameter × IsBody a.body
 
 -- ProcSet is the sets of the processes with \cup between them; Terminating stands where Next has it, and only there
 pub record IsRegion (r : Region) : Type 0 where
-  pub model_values : EachOf IsIdentifier r.model_values
+  pub model_values : AllByRecursion IsIdentifier r.model_values
   pub variables : AreNames r.variables
-  pub definitions : EachOf IsDefinition r.definitions
+  pub definitions : AllByRecursion IsDefinition r.definitions
   pub vars : AreNames r.vars
-  pub process_set : EachOf IsWritable (sets_of (processes_in r.next) r.process_set)
+  pub process_set : AllByRecursion IsWritable (sets_of (processes_in r.next) r.process_set)
   pub init : AllOf IsWritable r.init
-  pub actions : EachOf IsAction r.actions
+  pub actions : AllByRecursion IsAction r.actions
   pub ended : IsGuard r.ended
   pub next : AllOf IsWay r.next
-  pub fairness : EachOf IsFairness r.fairness
+  pub fairness : AllByRecursion IsFairness r.fairness
   pub termination : IsWritable r.termination
   pub terminating : is_some r.ended ≡ list_any is_terminating r.next
 

@@ -2,9 +2,9 @@
 -- statement ("A PlusCal User's Manual", section 3 and its grammars).
 use Rattle.std.specs.Prelude.{[], ◌∷◌, is_some}
 use Rattle.std.specs.Bool.{IsTrue}
+use Rattle.std.specs.List.{AllByRecursion}
 use Rattle.tla_tree.specs.Tree.{words}
 use Rattle.tla_tree.specs.laws.Writable.{IsIdentifier, IsWritable, AreWritable}
-use Rattle.module_tree.specs.laws.WritableRegion.{EachOf}
 use Rattle.pcal_tree.specs.Algorithm.{Assignments, no_assignments, assignment, Statement, assign, await, print, assert, skip, branch, either, with, while, goto, macro, call, return, Statements, done, then, mark, Branches, no_branches, or, Definition, Macro, Procedure, Process, Main, alone, processes, Algorithm}
 use Rattle.pcal_tree.specs.Paths.{root}
 use Rattle.translation.specs.laws.WritableAlgorithm.{AreWritableBinds, IsWritableDeclaration, IsStarted}
@@ -46,26 +46,26 @@ abbrev pub IsTypedBody : Statements → Type 0
 IsTypedBody b = IsStarted b × AreTypedStatements b
 
 abbrev pub IsTypedDefinition : Definition → Type 0
-IsTypedDefinition d = IsIdentifier d.name.word × EachOf IsIdentifier (words d.params) × IsWritable d.body
+IsTypedDefinition d = IsIdentifier d.name.word × AllByRecursion IsIdentifier (words d.params) × IsWritable d.body
 
 abbrev pub IsTypedMacro : Macro → Type 0
-IsTypedMacro m = IsIdentifier m.name.word × EachOf IsIdentifier (words m.params) × IsTypedBody m.body
+IsTypedMacro m = IsIdentifier m.name.word × AllByRecursion IsIdentifier (words m.params) × IsTypedBody m.body
 
 abbrev pub IsTypedProcedure : Procedure → Type 0
-IsTypedProcedure p = IsIdentifier p.name.word × EachOf IsWritableDeclaration p.params × EachOf IsWritableDeclaration p.variables × IsTypedBody p.body
+IsTypedProcedure p = IsIdentifier p.name.word × AllByRecursion IsWritableDeclaration p.params × AllByRecursion IsWritableDeclaration p.variables × IsTypedBody p.body
 
 abbrev pub IsTypedProcess : Process → Type 0
-IsTypedProcess p = IsIdentifier p.name.word × IsWritable p.identity × EachOf IsWritableDeclaration p.variables × IsTypedBody p.body
+IsTypedProcess p = IsIdentifier p.name.word × IsWritable p.identity × AllByRecursion IsWritableDeclaration p.variables × IsTypedBody p.body
 
 abbrev pub IsTypedMain : Main → Type 0
 IsTypedMain (alone b) = IsTypedBody b
 IsTypedMain (processes []) = ⊥
-IsTypedMain (processes (p ∷ ps)) = EachOf IsTypedProcess (p ∷ ps)
+IsTypedMain (processes (p ∷ ps)) = AllByRecursion IsTypedProcess (p ∷ ps)
 
 pub record IsTypedAlgorithm (a : Algorithm) : Type 0 where
   pub name : IsIdentifier a.name.word
-  pub globals : EachOf IsWritableDeclaration a.globals
-  pub definitions : EachOf IsTypedDefinition a.definitions
-  pub macros : EachOf IsTypedMacro a.macros
-  pub procedures : EachOf IsTypedProcedure a.procedures
+  pub globals : AllByRecursion IsWritableDeclaration a.globals
+  pub definitions : AllByRecursion IsTypedDefinition a.definitions
+  pub macros : AllByRecursion IsTypedMacro a.macros
+  pub procedures : AllByRecursion IsTypedProcedure a.procedures
   pub main : IsTypedMain a.main

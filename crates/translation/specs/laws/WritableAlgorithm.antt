@@ -2,12 +2,12 @@
 -- written, and what rules say of labels, of names and of what is assigned twice ("A PlusCal User's Manual", sections 3 and 4).
 use Rattle.std.specs.Prelude.{◌≡◌, List, [], ◌∷◌, Bool, true, false, not, ◌||◌, reverse, map, Some}
 use Rattle.std.specs.Bool.{IsTrue}
+use Rattle.std.specs.List.{AllByRecursion}
 use Rattle.tla_token.specs.Signs.{is_among}
 use Rattle.tla_token.specs.Words.{is_own}
 use Rattle.tla_tree.specs.Tree.{Word, words, Tree}
 use Rattle.tla_tree.specs.laws.Writable.{IsIdentifier, IsWritable, AreWritable}
 use Rattle.tla_value.specs.Outside.{Outside}
-use Rattle.module_tree.specs.laws.WritableRegion.{EachOf}
 use Rattle.pcal_tree.specs.Algorithm.{Assignments, no_assignments, assignment, Binds, no_binds, one_of, is, Statement, assign, await, print, assert, skip, branch, either, with, while, goto, macro, call, return, Statements, done, then, mark, Branches, no_branches, or, Start, unset, equals, among, Declaration, declares, Definition, Process, Main, alone, processes, Routine, locals, routines, Algorithm}
 use Rattle.pcal_tree.specs.Expand.{expanded}
 use Rattle.pcal_tree.specs.OffencesLabels.{label_words}
@@ -71,7 +71,7 @@ IsWritableDeclaration d = IsIdentifier d.name.word × IsWritableStart d.start
 
 -- no definition has a name of the translation
 abbrev pub IsWritableDefinition : Definition → Type 0
-IsWritableDefinition d = IsIdentifier d.name.word × IsTrue (not (is_own d.name.word)) × EachOf IsIdentifier (words d.params) × IsWritable d.body
+IsWritableDefinition d = IsIdentifier d.name.word × IsTrue (not (is_own d.name.word)) × AllByRecursion IsIdentifier (words d.params) × IsWritable d.body
 
 -- ---- routines
 
@@ -96,7 +96,7 @@ own_of u = locals u
 
 pub record IsWritableRoutine (a : Algorithm) (u : Routine) : Type 0 where
   pub name : IsIdentifier u.name.word
-  pub locals : EachOf IsWritableDeclaration (own_of u)
+  pub locals : AllByRecursion IsWritableDeclaration (own_of u)
   pub once : AllUnlike (declared (own_of u))  -- none is declared twice
   pub labelled : IsLabelled (label_words u.body)
   pub body : AreWritableStatements (is_procedure a) (is_variable a u) (expanded (reverse a.macros) u.body)
@@ -107,14 +107,14 @@ pub record IsWritableRoutine (a : Algorithm) (u : Routine) : Type 0 where
 abbrev pub IsWritableMain : Main → Type 0
 IsWritableMain (alone ss) = Unit {0}
 IsWritableMain (processes []) = ⊥
-IsWritableMain (processes (p ∷ ps)) = EachOf (λ (q : Process). IsWritable q.identity) (p ∷ ps)
+IsWritableMain (processes (p ∷ ps)) = AllByRecursion (λ (q : Process). IsWritable q.identity) (p ∷ ps)
 
 abbrev all_of : Algorithm → List Routine
 all_of a = routines a
 
 pub record IsWritableAlgorithm (o : Outside) (a : Algorithm) : Type 0 where
   pub few : FewNames a o
-  pub globals : EachOf IsWritableDeclaration a.globals
-  pub definitions : EachOf IsWritableDefinition a.definitions
+  pub globals : AllByRecursion IsWritableDeclaration a.globals
+  pub definitions : AllByRecursion IsWritableDefinition a.definitions
   pub main : IsWritableMain a.main
   pub routines : (u : Routine) → OneOf u (all_of a) → IsWritableRoutine a u
