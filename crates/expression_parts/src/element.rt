@@ -18,6 +18,10 @@ use tla_token::Place;
 use tla_tree::Op;
 
 /// The element of an expression that groups nothing from the left.
+///
+/// # Errors
+///
+/// Only for want of memory.
 pub fn element_of_operand(
     alloc: Global,
     pool: &mut Pool,
@@ -39,6 +43,10 @@ pub fn element_of_operand(
 }
 
 /// The element of an infix form, from that of its left operand, its operator at a place and its right operand.
+///
+/// # Errors
+///
+/// Only for want of memory.
 pub fn element_of_infix(
     alloc: Global,
     pool: &mut Pool,

@@ -24,6 +24,10 @@ use tla_token::{Place, Tokens};
 use tla_tree::{Binder, NameList, NodeId, Op, PlacedName};
 
 /// A name at its place.
+///
+/// # Errors
+///
+/// Only for want of memory.
 pub fn placed(alloc: Global, tokens: &Tokens, word: Word) -> Result<PlacedName, AllocError>
     ensures { IfOk result (λ n. n ≡ spelled.named word.place (span_bytes tokens.now.bytes.items word.span)) }
 {
@@ -59,6 +63,10 @@ fn binding(
 }
 
 /// `{x \in S : p}`
+///
+/// # Errors
+///
+/// Only for want of memory.
 pub fn filter(
     alloc: Global,
     pool: &mut Pool,
@@ -89,6 +97,10 @@ pub fn filter(
 }
 
 /// `{e : x \in S}`, the groups and sets having so many forms open in them.
+///
+/// # Errors
+///
+/// Only for want of memory.
 pub fn image(
     pool: &mut Pool,
     place: Place,
@@ -112,6 +124,10 @@ pub fn image(
 }
 
 /// `[x \in S |-> e]`, the groups and sets having so many forms open in them.
+///
+/// # Errors
+///
+/// Only for want of memory.
 pub fn function(
     pool: &mut Pool,
     place: Place,
@@ -135,6 +151,10 @@ pub fn function(
 }
 
 /// `\A x \in S : p`, the groups and sets having so many forms open in them.
+///
+/// # Errors
+///
+/// Only for want of memory.
 pub fn for_all(
     pool: &mut Pool,
     place: Place,
@@ -159,6 +179,10 @@ pub fn for_all(
 }
 
 /// `\E x \in S : p`, the groups and sets having so many forms open in them.
+///
+/// # Errors
+///
+/// Only for want of memory.
 pub fn exists(
     pool: &mut Pool,
     place: Place,
@@ -183,6 +207,10 @@ pub fn exists(
 }
 
 /// `LET x == a y == b IN c`, the right sides having so many forms open in them.
+///
+/// # Errors
+///
+/// Only for want of memory.
 pub fn local(
     pool: &mut Pool,
     place: Place,
@@ -212,6 +240,10 @@ pub fn local(
 // ---- fields and settings
 
 /// `[a |-> e, b |-> f]`, with so many forms open in the fields.
+///
+/// # Errors
+///
+/// Only for want of memory.
 pub fn fields(
     pool: &mut Pool,
     place: Place,
@@ -239,6 +271,10 @@ pub fn fields(
 }
 
 /// `[a : S, b : T]`, with so many forms open in the fields.
+///
+/// # Errors
+///
+/// Only for want of memory.
 pub fn records(
     pool: &mut Pool,
     place: Place,
@@ -267,6 +303,10 @@ pub fn records(
 
 /// `[f EXCEPT ![a].b = e, ..]`, with so many forms open in the settings; f is the first of the parts, and the subscripts and right
 /// sides come after it.
+///
+/// # Errors
+///
+/// Only for want of memory.
 pub fn except(
     pool: &mut Pool,
     place: Place,
@@ -298,6 +338,10 @@ pub fn except(
 // ---- arms and items
 
 /// `CASE a -> b [] c -> d`, with so many forms open in the arms.
+///
+/// # Errors
+///
+/// Only for want of memory.
 pub fn cases(
     pool: &mut Pool,
     place: Place,
@@ -318,6 +362,10 @@ pub fn cases(
 }
 
 /// The items so far of a list by columns, and one more.
+///
+/// # Errors
+///
+/// Only for want of memory.
 #[tactic(auto, using(crate::proofs::MakeLemmas::infix_shaped))]
 pub fn joined(
     alloc: Global,

@@ -42,6 +42,10 @@ pub struct Row {
 }
 
 /// The node of this form, with this shape.
+///
+/// # Errors
+///
+/// Only for want of memory.
 pub fn put(
     pool: &mut Pool,
     form: Form,
@@ -61,6 +65,10 @@ pub fn put(
 }
 
 /// The bytes of a word, as a name.
+///
+/// # Errors
+///
+/// Only for want of memory.
 pub fn name_of(alloc: Global, tokens: &Tokens, span: Span) -> Result<Name, AllocError>
     ensures { IfOk result (λ n. n ≡ span_bytes tokens.now.bytes.items span) }
 {
@@ -86,6 +94,10 @@ pub fn operation(op: Op) -> Form
 // ---- primaries
 
 /// A number.
+///
+/// # Errors
+///
+/// Only for want of memory.
 #[tactic(auto, using(crate::proofs::MakeLemmas::number_in))]
 pub fn number(alloc: Global, pool: &mut Pool, place: Place, n: u128) -> Result<Read, AllocError>
     requires { n < past_numbers }
@@ -104,6 +116,10 @@ pub fn number(alloc: Global, pool: &mut Pool, place: Place, n: u128) -> Result<R
 }
 
 /// A string, by what is between its quotes.
+///
+/// # Errors
+///
+/// Only for want of memory.
 #[tactic(auto, using(crate::proofs::MakeLemmas::string_in))]
 pub fn string(
     alloc: Global,
@@ -122,6 +138,10 @@ pub fn string(
 }
 
 /// `TRUE`, `FALSE`, `BOOLEAN` or `STRING`.
+///
+/// # Errors
+///
+/// Only for want of memory.
 #[tactic(auto, using(crate::proofs::MakeLemmas::constant_in))]
 pub fn constant(
     alloc: Global,
@@ -143,6 +163,10 @@ pub fn constant(
 }
 
 /// A name.
+///
+/// # Errors
+///
+/// Only for want of memory.
 #[tactic(auto, using(crate::proofs::MakeLemmas::name_in))]
 pub fn name(alloc: Global, pool: &mut Pool, tokens: &Tokens, word: Word) -> Result<Read, AllocError>
     ensures read { IfOk result (λ x. IsIn pool.new x (spelled.name word.place (span_bytes tokens.now.bytes.items word.span))) }
@@ -156,6 +180,10 @@ pub fn name(alloc: Global, pool: &mut Pool, tokens: &Tokens, word: Word) -> Resu
 }
 
 /// A primed name.
+///
+/// # Errors
+///
+/// Only for want of memory.
 #[tactic(auto, using(crate::proofs::MakeLemmas::primed_in))]
 pub fn primed(
     alloc: Global,
@@ -187,6 +215,10 @@ pub fn brackets(place: Place, a: Read) -> Read
 }
 
 /// `{}`
+///
+/// # Errors
+///
+/// Only for want of memory.
 #[tactic(auto, using(crate::proofs::MakeLemmas::no_set_in))]
 pub fn empty_set(alloc: Global, pool: &mut Pool, place: Place) -> Result<Read, AllocError>
     ensures read { IfOk result (λ x. (q : Place) → IsIn pool.new x (spelled.no_set place q)) }
@@ -199,6 +231,10 @@ pub fn empty_set(alloc: Global, pool: &mut Pool, place: Place) -> Result<Read, A
 }
 
 /// `<<>>`
+///
+/// # Errors
+///
+/// Only for want of memory.
 #[tactic(auto, using(crate::proofs::MakeLemmas::no_tuple_in))]
 pub fn empty_tuple(alloc: Global, pool: &mut Pool, place: Place) -> Result<Read, AllocError>
     ensures read { IfOk result (λ x. (q : Place) → IsIn pool.new x (spelled.no_tuple place q)) }
@@ -211,6 +247,10 @@ pub fn empty_tuple(alloc: Global, pool: &mut Pool, place: Place) -> Result<Read,
 }
 
 /// `[S -> T]`
+///
+/// # Errors
+///
+/// Only for want of memory.
 #[tactic(auto, using(crate::proofs::MakeLemmas::functions_in))]
 pub fn functions(
     alloc: Global,
@@ -237,6 +277,10 @@ pub fn functions(
 // ---- rows
 
 /// `{a, b}`
+///
+/// # Errors
+///
+/// Only for want of memory.
 #[tactic(auto, using(crate::proofs::MakeLemmas::set_in))]
 pub fn set_of(pool: &mut Pool, place: Place, ids: Vec<NodeId>, row: Row) -> Result<Read, AllocError>
     requires below { AllBelow (length pool.old) ids.items }
@@ -252,6 +296,10 @@ pub fn set_of(pool: &mut Pool, place: Place, ids: Vec<NodeId>, row: Row) -> Resu
 }
 
 /// `<<a, b>>`
+///
+/// # Errors
+///
+/// Only for want of memory.
 #[tactic(auto, using(crate::proofs::MakeLemmas::tuple_in))]
 pub fn tuple(pool: &mut Pool, place: Place, ids: Vec<NodeId>, row: Row) -> Result<Read, AllocError>
     requires below { AllBelow (length pool.old) ids.items }
@@ -267,6 +315,10 @@ pub fn tuple(pool: &mut Pool, place: Place, ids: Vec<NodeId>, row: Row) -> Resul
 }
 
 /// `Op(a, b)`
+///
+/// # Errors
+///
+/// Only for want of memory.
 #[tactic(auto, using(crate::proofs::MakeLemmas::call_in))]
 pub fn call(
     alloc: Global,
@@ -289,7 +341,11 @@ pub fn call(
     put(pool, form, word.place, ids, shape)
 }
 
-// `a` in `f[a]`, and `<<a, b>>` in `f[a, b]`.
+/// `a` in `f[a]`, and `<<a, b>>` in `f[a, b]`.
+///
+/// # Errors
+///
+/// Only for want of memory.
 #[tactic(auto, using(crate::proofs::MakeLemmas::one_subscript, crate::proofs::MakeLemmas::more_subscripts))]
 pub fn subscript(pool: &mut Pool, ids: Vec<NodeId>, row: Row) -> Result<NodeId, AllocError>
     requires below { AllBelow (length pool.old) ids.items }
@@ -305,6 +361,10 @@ pub fn subscript(pool: &mut Pool, ids: Vec<NodeId>, row: Row) -> Result<NodeId, 
 }
 
 /// `f[a, b]`
+///
+/// # Errors
+///
+/// Only for want of memory.
 #[tactic(auto, using(crate::proofs::MakeLemmas::apply_in))]
 pub fn apply(
     alloc: Global,
@@ -330,6 +390,10 @@ pub fn apply(
 }
 
 /// `r.a`
+///
+/// # Errors
+///
+/// Only for want of memory.
 #[tactic(auto, using(crate::proofs::MakeLemmas::select_in))]
 pub fn select(
     alloc: Global,
@@ -353,6 +417,10 @@ pub fn select(
 // ---- operators
 
 /// An infix operator with its operands.
+///
+/// # Errors
+///
+/// Only for want of memory.
 #[tactic(auto, using(crate::proofs::MakeLemmas::infix_in, crate::proofs::MakeLemmas::infix_shaped))]
 pub fn infix(alloc: Global, pool: &mut Pool, a: Read, op: Op, b: Read) -> Result<Read, AllocError>
     requires between { is_prefix_of op ≡ false }
@@ -370,6 +438,10 @@ pub fn infix(alloc: Global, pool: &mut Pool, a: Read, op: Op, b: Read) -> Result
 }
 
 /// A prefix operator at a place with its operand.
+///
+/// # Errors
+///
+/// Only for want of memory.
 #[tactic(auto, using(crate::proofs::MakeLemmas::prefix_in, crate::proofs::MakeLemmas::prefix_shaped))]
 pub fn prefix(
     alloc: Global,
@@ -392,6 +464,10 @@ pub fn prefix(
 }
 
 /// `IF a THEN b ELSE c`, at a place.
+///
+/// # Errors
+///
+/// Only for want of memory.
 #[tactic(auto, using(crate::proofs::MakeLemmas::choice_in))]
 pub fn choice(
     alloc: Global,

@@ -8,6 +8,10 @@ use tla_token::bytes::{escaped, is_plain};
 use tla_tree::Text;
 
 /// The text that these bytes between quotes stand for; none where they stand for no string.
+///
+/// # Errors
+///
+/// Only for want of memory.
 pub fn unquoted(alloc: Global, raw: &[u8]) -> Result<Text, AllocError>
     ensures { IfOk result (λ t. t ≡ unwrap_or (unquoted_of raw.now) []) }
 {

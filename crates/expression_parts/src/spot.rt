@@ -84,6 +84,10 @@ pub fn after_mark(tokens: &Tokens, s: Spot, mark: Mark) -> Option<usize>
 }
 
 /// At this token where one form more is open, and so many besides; refused where too many would be.
+///
+/// # Errors
+///
+/// Refused at this token, by the rule on how many forms may be open.
 pub fn deeper(tokens: &Tokens, s: Spot, besides: u32) -> Result<Spot, Halt>
     requires { s.at ≤ length tokens.now.items.items }
     ensures left { IfOk result (λ d. d.left + suc besides ≡ s.left) }
@@ -103,6 +107,10 @@ pub fn deeper(tokens: &Tokens, s: Spot, besides: u32) -> Result<Spot, Halt>
 }
 
 /// Past this mark: its place.
+///
+/// # Errors
+///
+/// Refused at the next token, by the rule of syntax, where it is another.
 pub fn past_mark(tokens: &Tokens, s: Spot, mark: Mark) -> Result<(Place, usize), Halt>
     requires { s.at ≤ length tokens.now.items.items }
     ensures value { Gives (λ x. (x.0, ahead tokens.now x.1)) result (reader.a_mark s.edge (mark_seen mark) (ahead tokens.now s.at)) }
@@ -118,6 +126,10 @@ pub fn past_mark(tokens: &Tokens, s: Spot, mark: Mark) -> Result<(Place, usize),
 }
 
 /// Past this key: its place.
+///
+/// # Errors
+///
+/// Refused at the next token, by the rule of syntax, where it is another.
 pub fn past_key(tokens: &Tokens, s: Spot, key: Key) -> Result<(Place, usize), Halt>
     requires { s.at ≤ length tokens.now.items.items }
     ensures value { Gives (λ x. (x.0, ahead tokens.now x.1)) result (reader.a_key s.edge (key_seen key) (ahead tokens.now s.at)) }
@@ -133,6 +145,10 @@ pub fn past_key(tokens: &Tokens, s: Spot, key: Key) -> Result<(Place, usize), Ha
 }
 
 /// Past this sign of an operator: its place.
+///
+/// # Errors
+///
+/// Refused at the next token, by the rule of syntax, where it is another.
 pub fn past_sign(tokens: &Tokens, s: Spot, op: Op) -> Result<(Place, usize), Halt>
     requires { s.at ≤ length tokens.now.items.items }
     ensures value { Gives (λ x. (x.0, ahead tokens.now x.1)) result (reader.a_sign s.edge op (ahead tokens.now s.at)) }
@@ -148,6 +164,10 @@ pub fn past_sign(tokens: &Tokens, s: Spot, op: Op) -> Result<(Place, usize), Hal
 }
 
 /// Past a name.
+///
+/// # Errors
+///
+/// Refused at the next token, by the rule of syntax, where it is another.
 pub fn past_word(tokens: &Tokens, s: Spot) -> Result<(Word, usize), Halt>
     requires { s.at ≤ length tokens.now.items.items }
     ensures value { Gives (λ x. (word_seen tokens.now.bytes.items x.0, ahead tokens.now x.1)) result (reader.a_word s.edge (ahead tokens.now s.at)) }
@@ -168,6 +188,10 @@ pub fn past_word(tokens: &Tokens, s: Spot) -> Result<(Word, usize), Halt>
 }
 
 /// Past the name of a field.
+///
+/// # Errors
+///
+/// Refused at the next token, by the rule of syntax, where it is another.
 pub fn past_field(tokens: &Tokens, s: Spot) -> Result<(FieldName, usize), Halt>
     requires { s.at ≤ length tokens.now.items.items }
     ensures value { Gives (λ x. (field_seen tokens.now.bytes.items x.0, ahead tokens.now x.1)) result (reader.a_field s.edge (ahead tokens.now s.at)) }

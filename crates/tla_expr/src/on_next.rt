@@ -83,6 +83,10 @@ pub fn is_bullet_next(tokens: &Tokens, s: Spot, op: Op, col: u32) -> bool
 }
 
 /// Past a sign of this operator in this column: its place.
+///
+/// # Errors
+///
+/// The rule by which it is refused, and how many tokens are left from there on; or want of memory.
 pub fn past_bullet(tokens: &Tokens, s: Spot, op: Op, col: u32) -> Result<(Place, usize), Halt>
     requires { s.at ≤ length tokens.now.items.items }
     ensures value { Gives (λ x. (x.0, ahead tokens.now x.1)) result (reader.take s.edge (reader.bullet_of op col) (ahead tokens.now s.at)) }

@@ -59,6 +59,10 @@ fn next_arm<F: Fn(&mut Pool, Context, Spot) -> Result<(Read, usize), Halt>>(
 }
 
 /// `p -> e [] q -> f [] OTHER -> g`
+///
+/// # Errors
+///
+/// The rule by which it is refused, and how many tokens are left from there on; or want of memory.
 #[tactic(auto, using(crate::proofs::ReadArms::first_fails))]
 pub fn arms<F: Fn(&mut Pool, Context, Spot) -> Result<(Read, usize), Halt>>(
     alloc: Global,

@@ -18,6 +18,10 @@ use tla_pool::Pool;
 use tla_token::{Place, Tokens};
 
 /// The expression behind this mark, which is to be next.
+///
+/// # Errors
+///
+/// The rule by which it is refused, and how many tokens are left from there on; or want of memory.
 pub fn behind<F: Fn(&mut Pool, Context, Spot) -> Result<(Read, usize), Halt>>(
     tokens: &Tokens,
     inner: &F,

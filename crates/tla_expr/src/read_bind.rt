@@ -34,6 +34,10 @@ pub struct Bound {
 }
 
 /// `, y \in S` behind the first name of a group: its names, and their set.
+///
+/// # Errors
+///
+/// The rule by which it is refused, and how many tokens are left from there on; or want of memory.
 pub fn group<F: Fn(&mut Pool, Context, Spot) -> Result<(Read, usize), Halt>>(
     alloc: Global,
     tokens: &Tokens,
@@ -65,6 +69,10 @@ pub fn group<F: Fn(&mut Pool, Context, Spot) -> Result<(Read, usize), Halt>>(
 }
 
 /// `x, y \in S, z \in T`, behind its first name.
+///
+/// # Errors
+///
+/// The rule by which it is refused, and how many tokens are left from there on; or want of memory.
 pub fn binds<F: Fn(&mut Pool, Context, Spot) -> Result<(Read, usize), Halt>>(
     alloc: Global,
     tokens: &Tokens,
@@ -110,6 +118,10 @@ pub fn binds<F: Fn(&mut Pool, Context, Spot) -> Result<(Read, usize), Halt>>(
 }
 
 /// What comes behind `x \in S`: `, y \in T`, or nothing; all of the binds, the set of x being in the pool.
+///
+/// # Errors
+///
+/// The rule by which it is refused, and how many tokens are left from there on; or want of memory.
 pub fn binds_on<F: Fn(&mut Pool, Context, Spot) -> Result<(Read, usize), Halt>>(
     alloc: Global,
     tokens: &Tokens,

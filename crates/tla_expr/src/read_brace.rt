@@ -21,6 +21,10 @@ use tla_pool::Pool;
 use tla_token::{Place, Tokens};
 
 /// `p}` behind `{x \in S :`, the `{` being at a place.
+///
+/// # Errors
+///
+/// The rule by which it is refused, and how many tokens are left from there on; or want of memory.
 pub fn filter_in<F: Fn(&mut Pool, Context, Spot) -> Result<(Read, usize), Halt>>(
     alloc: Global,
     tokens: &Tokens,

@@ -130,6 +130,10 @@ fn from_other<F: Fn(&mut Pool, Context, Spot) -> Result<(Read, usize), Halt>>(
 }
 
 /// Behind a `{` at a place.
+///
+/// # Errors
+///
+/// The rule by which it is refused, and how many tokens are left from there on; or want of memory.
 pub fn braces_from<F: Fn(&mut Pool, Context, Spot) -> Result<(Read, usize), Halt>>(
     alloc: Global,
     tokens: &Tokens,
@@ -164,6 +168,10 @@ pub fn braces_from<F: Fn(&mut Pool, Context, Spot) -> Result<(Read, usize), Halt
 }
 
 /// A set in braces, the next token being the `{`, at a place.
+///
+/// # Errors
+///
+/// The rule by which it is refused, and how many tokens are left from there on; or want of memory.
 pub fn braces<F: Fn(&mut Pool, Context, Spot) -> Result<(Read, usize), Halt>>(
     alloc: Global,
     tokens: &Tokens,

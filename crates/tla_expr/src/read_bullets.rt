@@ -63,6 +63,10 @@ fn next_item<F: Fn(&mut Pool, Context, Spot) -> Result<(Read, usize), Halt>>(
 }
 
 /// `/\ a` under one another, the signs being in this column; each further one is open besides those before it.
+///
+/// # Errors
+///
+/// The rule by which it is refused, and how many tokens are left from there on; or want of memory.
 pub fn bullets<F: Fn(&mut Pool, Context, Spot) -> Result<(Read, usize), Halt>>(
     alloc: Global,
     tokens: &Tokens,

@@ -27,6 +27,10 @@ pub struct Labelled {
 }
 
 /// `|-> e, b |-> f` behind the name of a field, or with colons: by the mark.
+///
+/// # Errors
+///
+/// The rule by which it is refused, and how many tokens are left from there on; or want of memory.
 pub fn fields<F: Fn(&mut Pool, Context, Spot) -> Result<(Read, usize), Halt>>(
     alloc: Global,
     tokens: &Tokens,

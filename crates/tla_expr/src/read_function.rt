@@ -26,6 +26,10 @@ use tla_pool::Pool;
 use tla_token::{Place, Tokens};
 
 /// `|-> e]` behind `[x \in S`, the `[` being at a place.
+///
+/// # Errors
+///
+/// The rule by which it is refused, and how many tokens are left from there on; or want of memory.
 pub fn function_in<F: Fn(&mut Pool, Context, Spot) -> Result<(Read, usize), Halt>>(
     tokens: &Tokens,
     inner: &F,
@@ -59,6 +63,10 @@ pub fn function_in<F: Fn(&mut Pool, Context, Spot) -> Result<(Read, usize), Halt
 }
 
 /// `, y \in S |-> e]` behind `[x`, the `[` being at a place.
+///
+/// # Errors
+///
+/// The rule by which it is refused, and how many tokens are left from there on; or want of memory.
 pub fn function_from<F: Fn(&mut Pool, Context, Spot) -> Result<(Read, usize), Halt>>(
     alloc: Global,
     tokens: &Tokens,
@@ -79,6 +87,10 @@ pub fn function_from<F: Fn(&mut Pool, Context, Spot) -> Result<(Read, usize), Ha
 }
 
 /// `, y \in T |-> e]` or `|-> e]` behind `[x \in S`, the `[` being at a place.
+///
+/// # Errors
+///
+/// The rule by which it is refused, and how many tokens are left from there on; or want of memory.
 pub fn function_on<F: Fn(&mut Pool, Context, Spot) -> Result<(Read, usize), Halt>>(
     alloc: Global,
     tokens: &Tokens,

@@ -15,6 +15,10 @@ use tla_pool::Pool;
 use tla_token::Tokens;
 
 /// An expression there.
+///
+/// # Errors
+///
+/// The rule by which it is refused, and how many tokens are left from there on; or want of memory.
 pub fn read_at(
     alloc: Global,
     tokens: &Tokens,

@@ -29,6 +29,10 @@ pub struct ManyLocals {
 }
 
 /// `x == e y == f`
+///
+/// # Errors
+///
+/// The rule by which it is refused, and how many tokens are left from there on; or want of memory.
 #[tactic(auto, using(crate::proofs::ReadLocals::name_fails))]
 pub fn locals<F: Fn(&mut Pool, Context, Spot) -> Result<(Read, usize), Halt>>(
     alloc: Global,

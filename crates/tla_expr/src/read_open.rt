@@ -22,6 +22,10 @@ use tla_token::{Place, Tokens};
 use tla_tree::Op;
 
 /// `IF a THEN b ELSE c`, behind the `IF` at a place.
+///
+/// # Errors
+///
+/// The rule by which it is refused, and how many tokens are left from there on; or want of memory.
 pub fn choice_from<F: Fn(&mut Pool, Context, Spot) -> Result<(Read, usize), Halt>>(
     alloc: Global,
     tokens: &Tokens,
@@ -46,6 +50,10 @@ pub fn choice_from<F: Fn(&mut Pool, Context, Spot) -> Result<(Read, usize), Halt
 }
 
 /// `IF a THEN b ELSE c`, the next token being the `IF`, at a place.
+///
+/// # Errors
+///
+/// The rule by which it is refused, and how many tokens are left from there on; or want of memory.
 pub fn if_then_else<F: Fn(&mut Pool, Context, Spot) -> Result<(Read, usize), Halt>>(
     alloc: Global,
     tokens: &Tokens,
@@ -66,6 +74,10 @@ pub fn if_then_else<F: Fn(&mut Pool, Context, Spot) -> Result<(Read, usize), Hal
 }
 
 /// A prefix operator whose operand may be more than a short form, its sign being the next token, at a place.
+///
+/// # Errors
+///
+/// The rule by which it is refused, and how many tokens are left from there on; or want of memory.
 pub fn prefixed<F: Fn(&mut Pool, Context, Spot) -> Result<(Read, usize), Halt>>(
     alloc: Global,
     tokens: &Tokens,

@@ -30,6 +30,10 @@ pub struct Route {
 }
 
 /// `a, b]` behind `[` in a path: the number of the subscript, and what is open in it.
+///
+/// # Errors
+///
+/// The rule by which it is refused, and how many tokens are left from there on; or want of memory.
 pub fn subscript_in<F: Fn(&mut Pool, Context, Spot) -> Result<(Read, usize), Halt>>(
     alloc: Global,
     tokens: &Tokens,
@@ -54,6 +58,10 @@ pub fn subscript_in<F: Fn(&mut Pool, Context, Spot) -> Result<(Read, usize), Hal
 }
 
 /// `[a, b].c`, which may be empty.
+///
+/// # Errors
+///
+/// The rule by which it is refused, and how many tokens are left from there on; or want of memory.
 pub fn path<F: Fn(&mut Pool, Context, Spot) -> Result<(Read, usize), Halt>>(
     alloc: Global,
     tokens: &Tokens,

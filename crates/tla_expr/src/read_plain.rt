@@ -20,6 +20,10 @@ use tla_token::{Place, Tokens};
 use tla_tree::Op;
 
 /// `a)` behind a `(` at a place.
+///
+/// # Errors
+///
+/// The rule by which it is refused, and how many tokens are left from there on; or want of memory.
 pub fn bracket_in<F: Fn(&mut Pool, Context, Spot) -> Result<(Read, usize), Halt>>(
     tokens: &Tokens,
     inner: &F,
@@ -39,6 +43,10 @@ pub fn bracket_in<F: Fn(&mut Pool, Context, Spot) -> Result<(Read, usize), Halt>
 }
 
 /// `a, b)` behind a name and `(`.
+///
+/// # Errors
+///
+/// The rule by which it is refused, and how many tokens are left from there on; or want of memory.
 pub fn call_in<F: Fn(&mut Pool, Context, Spot) -> Result<(Read, usize), Halt>>(
     alloc: Global,
     tokens: &Tokens,
@@ -61,6 +69,10 @@ pub fn call_in<F: Fn(&mut Pool, Context, Spot) -> Result<(Read, usize), Halt>>(
 }
 
 /// `a, b>>` behind a `<<` at a place.
+///
+/// # Errors
+///
+/// The rule by which it is refused, and how many tokens are left from there on; or want of memory.
 pub fn tuple_in<F: Fn(&mut Pool, Context, Spot) -> Result<(Read, usize), Halt>>(
     alloc: Global,
     tokens: &Tokens,
@@ -82,6 +94,10 @@ pub fn tuple_in<F: Fn(&mut Pool, Context, Spot) -> Result<(Read, usize), Halt>>(
 }
 
 /// The operand of a prefix operator at a place, which may be more than a short form.
+///
+/// # Errors
+///
+/// The rule by which it is refused, and how many tokens are left from there on; or want of memory.
 pub fn operand_in<F: Fn(&mut Pool, Context, Spot) -> Result<(Read, usize), Halt>>(
     alloc: Global,
     tokens: &Tokens,

@@ -20,6 +20,10 @@ use tla_pool::Pool;
 use tla_token::{Place, Tokens};
 
 /// `(a)`, the next token being the `(`, at a place.
+///
+/// # Errors
+///
+/// The rule by which it is refused, and how many tokens are left from there on; or want of memory.
 pub fn bracket<F: Fn(&mut Pool, Context, Spot) -> Result<(Read, usize), Halt>>(
     alloc: Global,
     tokens: &Tokens,
@@ -41,6 +45,10 @@ pub fn bracket<F: Fn(&mut Pool, Context, Spot) -> Result<(Read, usize), Halt>>(
 }
 
 /// `a, b>>` or `>>` behind a `<<` at a place.
+///
+/// # Errors
+///
+/// The rule by which it is refused, and how many tokens are left from there on; or want of memory.
 pub fn tuple_from<F: Fn(&mut Pool, Context, Spot) -> Result<(Read, usize), Halt>>(
     alloc: Global,
     tokens: &Tokens,
@@ -63,6 +71,10 @@ pub fn tuple_from<F: Fn(&mut Pool, Context, Spot) -> Result<(Read, usize), Halt>
 }
 
 /// `<<a, b>>`, the next token being the `<<`, at a place.
+///
+/// # Errors
+///
+/// The rule by which it is refused, and how many tokens are left from there on; or want of memory.
 pub fn tuple<F: Fn(&mut Pool, Context, Spot) -> Result<(Read, usize), Halt>>(
     alloc: Global,
     tokens: &Tokens,

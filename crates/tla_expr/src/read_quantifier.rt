@@ -57,6 +57,10 @@ fn quantified(
 }
 
 /// `x \in S : p` behind `\A` at a place, or behind `\E`.
+///
+/// # Errors
+///
+/// The rule by which it is refused, and how many tokens are left from there on; or want of memory.
 pub fn quantifier_in<F: Fn(&mut Pool, Context, Spot) -> Result<(Read, usize), Halt>>(
     alloc: Global,
     tokens: &Tokens,
@@ -81,6 +85,10 @@ pub fn quantifier_in<F: Fn(&mut Pool, Context, Spot) -> Result<(Read, usize), Ha
 }
 
 /// `\A x \in S : p`, the next token being the `\A`, at a place, or the `\E`.
+///
+/// # Errors
+///
+/// The rule by which it is refused, and how many tokens are left from there on; or want of memory.
 pub fn quantifier<F: Fn(&mut Pool, Context, Spot) -> Result<(Read, usize), Halt>>(
     alloc: Global,
     tokens: &Tokens,

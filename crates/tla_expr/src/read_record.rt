@@ -21,6 +21,10 @@ use tla_pool::Pool;
 use tla_token::{Place, Rule, Tokens};
 
 /// `|-> e, b |-> f]` behind `[a`, the `[` being at a place.
+///
+/// # Errors
+///
+/// The rule by which it is refused, and how many tokens are left from there on; or want of memory.
 pub fn fields_in<F: Fn(&mut Pool, Context, Spot) -> Result<(Read, usize), Halt>>(
     alloc: Global,
     tokens: &Tokens,
@@ -43,6 +47,10 @@ pub fn fields_in<F: Fn(&mut Pool, Context, Spot) -> Result<(Read, usize), Halt>>
 }
 
 /// `: S, b : T]` behind `[a`, the `[` being at a place.
+///
+/// # Errors
+///
+/// The rule by which it is refused, and how many tokens are left from there on; or want of memory.
 pub fn records_in<F: Fn(&mut Pool, Context, Spot) -> Result<(Read, usize), Halt>>(
     alloc: Global,
     tokens: &Tokens,
@@ -65,6 +73,10 @@ pub fn records_in<F: Fn(&mut Pool, Context, Spot) -> Result<(Read, usize), Halt>
 }
 
 /// What comes behind `[a`, where that is the name of a field: a record, or a set of records.
+///
+/// # Errors
+///
+/// The rule by which it is refused, and how many tokens are left from there on; or want of memory.
 pub fn record_rest<F: Fn(&mut Pool, Context, Spot) -> Result<(Read, usize), Halt>>(
     alloc: Global,
     tokens: &Tokens,

@@ -25,6 +25,10 @@ pub struct Many {
 }
 
 /// `a, b, c`
+///
+/// # Errors
+///
+/// The rule by which it is refused, and how many tokens are left from there on; or want of memory.
 #[tactic(auto, using(crate::proofs::ReadRows::first_fails))]
 pub fn phrases<F: Fn(&mut Pool, Context, Spot) -> Result<(Read, usize), Halt>>(
     alloc: Global,

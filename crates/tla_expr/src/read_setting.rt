@@ -30,6 +30,10 @@ pub struct Settled {
 }
 
 /// `![a].b = e, !.c = f`, each of which faults at a place.
+///
+/// # Errors
+///
+/// The rule by which it is refused, and how many tokens are left from there on; or want of memory.
 pub fn settings<F: Fn(&mut Pool, Context, Spot) -> Result<(Read, usize), Halt>>(
     alloc: Global,
     tokens: &Tokens,

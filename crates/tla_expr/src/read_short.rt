@@ -22,6 +22,10 @@ use tla_token::{Place, Rule, Tokens};
 use tla_tree::Op;
 
 /// A primary, or a prefix operator with a short form: what may stand to the right of `*`, but for a form that begins with a key.
+///
+/// # Errors
+///
+/// The rule by which it is refused, and how many tokens are left from there on; or want of memory.
 pub fn short<F: Fn(&mut Pool, Context, Spot) -> Result<(Read, usize), Halt>>(
     tokens: &Tokens,
     inner: &F,
@@ -40,6 +44,10 @@ pub fn short<F: Fn(&mut Pool, Context, Spot) -> Result<(Read, usize), Halt>>(
 }
 
 /// The operand of a prefix operator at a place, a short form.
+///
+/// # Errors
+///
+/// The rule by which it is refused, and how many tokens are left from there on; or want of memory.
 pub fn short_in<F: Fn(&mut Pool, Context, Spot) -> Result<(Read, usize), Halt>>(
     alloc: Global,
     tokens: &Tokens,
@@ -62,6 +70,10 @@ pub fn short_in<F: Fn(&mut Pool, Context, Spot) -> Result<(Read, usize), Halt>>(
 }
 
 /// A prefix operator with a short form, its sign being the next token, at a place.
+///
+/// # Errors
+///
+/// The rule by which it is refused, and how many tokens are left from there on; or want of memory.
 pub fn prefixed_short<F: Fn(&mut Pool, Context, Spot) -> Result<(Read, usize), Halt>>(
     alloc: Global,
     tokens: &Tokens,
@@ -94,6 +106,10 @@ pub fn prefixed_short<F: Fn(&mut Pool, Context, Spot) -> Result<(Read, usize), H
 }
 
 /// A prefix operator with its operand, its sign being the next token, at a place.
+///
+/// # Errors
+///
+/// The rule by which it is refused, and how many tokens are left from there on; or want of memory.
 pub fn signed<F: Fn(&mut Pool, Context, Spot) -> Result<(Read, usize), Halt>>(
     alloc: Global,
     tokens: &Tokens,

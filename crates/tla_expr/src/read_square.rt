@@ -19,6 +19,10 @@ use tla_pool::Pool;
 use tla_token::{Place, Tokens};
 
 /// `T]` behind `[S ->`, the `[` being at a place.
+///
+/// # Errors
+///
+/// The rule by which it is refused, and how many tokens are left from there on; or want of memory.
 pub fn functions_in<F: Fn(&mut Pool, Context, Spot) -> Result<(Read, usize), Halt>>(
     alloc: Global,
     tokens: &Tokens,

@@ -252,6 +252,10 @@ fn from_other<F: Fn(&mut Pool, Context, Spot) -> Result<(Read, usize), Halt>>(
 }
 
 /// Behind a `[` at a place.
+///
+/// # Errors
+///
+/// The rule by which it is refused, and how many tokens are left from there on; or want of memory.
 pub fn squares_from<F: Fn(&mut Pool, Context, Spot) -> Result<(Read, usize), Halt>>(
     alloc: Global,
     tokens: &Tokens,
@@ -290,6 +294,10 @@ pub fn squares_from<F: Fn(&mut Pool, Context, Spot) -> Result<(Read, usize), Hal
 }
 
 /// A form in square brackets, the next token being the `[`, at a place.
+///
+/// # Errors
+///
+/// The rule by which it is refused, and how many tokens are left from there on; or want of memory.
 pub fn squares<F: Fn(&mut Pool, Context, Spot) -> Result<(Read, usize), Halt>>(
     alloc: Global,
     tokens: &Tokens,

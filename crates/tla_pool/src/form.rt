@@ -84,6 +84,10 @@ pub enum Form {
 
 impl Step {
     /// The same step once more.
+    ///
+    /// # Errors
+    ///
+    /// Only for want of memory.
     pub fn copied(&self) -> Result<Step, AllocError>
         ensures { IfOk result (λ s. step_of s ≡ step_of self.now) }
     {
@@ -134,6 +138,10 @@ fn copied_steps(alloc: Global, steps: &[Step]) -> Result<Vec<Step>, AllocError>
 
 impl Slot {
     /// The same setting once more.
+    ///
+    /// # Errors
+    ///
+    /// Only for want of memory.
     pub fn copied(&self, alloc: Global) -> Result<Slot, AllocError>
         ensures { IfOk result (λ s. slot_of s ≡ slot_of self.now) }
     {
@@ -179,6 +187,10 @@ fn copied_slots(alloc: Global, slots: &[Slot]) -> Result<Vec<Slot>, AllocError>
 
 impl Strict {
     /// The same form once more.
+    ///
+    /// # Errors
+    ///
+    /// Only for want of memory.
     pub fn copied(&self, alloc: Global) -> Result<Strict, AllocError>
         ensures { IfOk result (λ s. strict_of s ≡ strict_of self.now) }
     {
@@ -282,6 +294,10 @@ fn copied_groups(
 
 impl Form {
     /// The same form once more.
+    ///
+    /// # Errors
+    ///
+    /// Only for want of memory.
     pub fn copied(&self, alloc: Global) -> Result<Form, AllocError>
         ensures { IfOk result (λ f. form_of f ≡ form_of self.now) }
     {

@@ -30,6 +30,10 @@ impl Model for Node {
 
 impl Node {
     /// The same node once more.
+    ///
+    /// # Errors
+    ///
+    /// Only for want of memory.
     pub fn copied(&self, alloc: Global) -> Result<Node, AllocError>
         ensures { IfOk result (λ n. n ≡ self.now) }
     {

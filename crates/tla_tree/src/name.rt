@@ -42,6 +42,10 @@ impl Name {
     }
 
     /// The same name once more.
+    ///
+    /// # Errors
+    ///
+    /// Only for want of memory.
     pub fn copied(&self) -> Result<Name, AllocError>
         ensures { IfOk result (λ n. n ≡ self.now) }
     {
@@ -101,6 +105,10 @@ impl Model for PlacedName {
 
 impl PlacedName {
     /// The same name once more, at the same place.
+    ///
+    /// # Errors
+    ///
+    /// Only for want of memory.
     pub fn copied(&self) -> Result<PlacedName, AllocError>
         ensures { IfOk result (λ n. n ≡ self.now) }
     {
@@ -155,6 +163,10 @@ impl Text {
     }
 
     /// The same text once more.
+    ///
+    /// # Errors
+    ///
+    /// Only for want of memory.
     pub fn copied(&self) -> Result<Text, AllocError>
         ensures { IfOk result (λ t. t ≡ self.now) }
     {
@@ -220,6 +232,10 @@ impl NameList {
     }
 
     /// One more name at the end; without memory for it the list is as before.
+    ///
+    /// # Errors
+    ///
+    /// Only for want of memory.
     pub fn push(&mut self, name: Name) -> Result<(), AllocError>
         ensures ok { OnOk result (self.new ≡ self.old ++ (name ∷ [])) }
         ensures err { OnErr result (self.new ≡ self.old) }
@@ -250,6 +266,10 @@ impl NameList {
     }
 
     /// The same names once more.
+    ///
+    /// # Errors
+    ///
+    /// Only for want of memory.
     pub fn copied(&self, alloc: Global) -> Result<NameList, AllocError>
         ensures { IfOk result (λ l. l ≡ self.now) }
     {
