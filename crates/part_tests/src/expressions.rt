@@ -97,7 +97,11 @@ fn parts_are_seen(alloc: Global) -> Result<bool, AllocError> {
     if first >= pool.len() {
         return Ok(false);
     }
-    let both = pool.put(Form::Conjunction, HERE, Vec::from_array(alloc, [first, other])?)?;
+    let both = pool.put(
+        Form::Conjunction,
+        HERE,
+        Vec::from_array(alloc, [first, other])?,
+    )?;
     let seen = Seen::new(&pool, both);
     Ok(matches!(seen.form(), Form::Conjunction) && seen.len() == 2 && seen.part(1).place().col == 2)
 }
@@ -137,7 +141,11 @@ fn doubled_names(alloc: Global, pool: &mut Pool) -> Result<NodeId, AllocError> {
         if last >= pool.len() {
             break;
         }
-        last = pool.put(Form::Conjunction, HERE, Vec::from_array(alloc, [last, last])?)?;
+        last = pool.put(
+            Form::Conjunction,
+            HERE,
+            Vec::from_array(alloc, [last, last])?,
+        )?;
     }
     Ok(last)
 }

@@ -118,12 +118,27 @@ const LISTS: [(&str, &str); 74] = [
     ("/\\ CASE a -> b\n[] c -> d", "5 CASE a -> b"),
     ("CASE /\\ a\n     /\\ b -> c", "7 CASE (a /\\ b) -> c"),
     ("  /\\ a\n b", "2 a"),
-    ("  /\\ IF p THEN a ELSE b\n => c", "9 (IF p THEN a ELSE b) => c"),
-    ("x = /\\ IF p THEN a ELSE b\n=> c", "11 (x = (IF p THEN a ELSE b)) => c"),
+    (
+        "  /\\ IF p THEN a ELSE b\n => c",
+        "9 (IF p THEN a ELSE b) => c",
+    ),
+    (
+        "x = /\\ IF p THEN a ELSE b\n=> c",
+        "11 (x = (IF p THEN a ELSE b)) => c",
+    ),
     ("/\\ \\A x \\in S : p\n\\/ q", "9 (\\A x \\in S : p) \\/ q"),
-    ("\\A x \\in S : /\\ p\n             /\\ q\n => r", "11 \\A x \\in S : (p /\\ q) => r"),
-    ("CASE a -> /\\ CASE b -> c\n          [] OTHER -> d", "12 CASE a -> (CASE b -> c) [] OTHER -> d"),
-    ("CASE a -> /\\ (CASE b -> c)\n           [] d -> e", "14 CASE a -> (CASE b -> c) [] d -> e"),
+    (
+        "\\A x \\in S : /\\ p\n             /\\ q\n => r",
+        "11 \\A x \\in S : (p /\\ q) => r",
+    ),
+    (
+        "CASE a -> /\\ CASE b -> c\n          [] OTHER -> d",
+        "12 CASE a -> (CASE b -> c) [] OTHER -> d",
+    ),
+    (
+        "CASE a -> /\\ (CASE b -> c)\n           [] d -> e",
+        "14 CASE a -> (CASE b -> c) [] d -> e",
+    ),
 ];
 
 #[test]

@@ -58,7 +58,10 @@ const RANKS: [(&str, &str); 49] = [
         "a * b - c + d .. e \\cup f :> g @@ h = i /\\ j <=> k => l",
         "23 ((((((((((a * b) - c) + d)..e) \\cup f) :> g) @@ h) = i) /\\ j) <=> k) => l",
     ),
-    ("a + IF p THEN b ELSE c < d < e", "10 a + (IF p THEN b ELSE c < d)"),
+    (
+        "a + IF p THEN b ELSE c < d < e",
+        "10 a + (IF p THEN b ELSE c < d)",
+    ),
     ("\\A x \\in S : p = q = r", "8 \\A x \\in S : p = q"),
 ];
 

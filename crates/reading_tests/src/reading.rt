@@ -47,12 +47,7 @@ pub fn told(alloc: Global, text: &[u8], shown: Shown) -> Result<Text, AllocError
 /// # Errors
 ///
 /// Only for want of memory.
-pub fn told_from(
-    alloc: Global,
-    text: &[u8],
-    at: usize,
-    shown: Shown,
-) -> Result<Text, AllocError> {
+pub fn told_from(alloc: Global, text: &[u8], at: usize, shown: Shown) -> Result<Text, AllocError> {
     let mut pool = Pool::new(alloc);
     let mut out = Text::new(Vec::new(alloc));
     if text.len() > 10000 {
