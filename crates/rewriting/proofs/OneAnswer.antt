@@ -26,7 +26,6 @@ use Rattle.module_tree.specs.AlgorithmText.{AlgorithmText, algorithm_in, algorit
 use Rattle.module_tree.specs.FileOffences.{file_offences}
 use Rattle.algorithm_limits.specs.Answered.{or_counts}
 use Rattle.algorithm_limits.specs.TokensRefused.{placed}
-use Rattle.syntax_print.proofs.Back.{one_tree}
 use Rattle.rewriting.specs.Refusals.{Wrong, or_else, counting, up_to, of_spelling, refusal_of}
 use Rattle.rewriting.specs.Spelling.{of_rules, syntax_at, AreRead, AreCounted, OfAlgorithm, AreLater, IsSpelling, AnswersRewriting}
 
@@ -66,6 +65,10 @@ same_syntax x a None None h k = refl
 same_syntax x a None (Some q) h k = absurd (passes_or_refused (syntax_at a) (algorithm_tokens x a) (place_at x a.rest.to) q h k)
 same_syntax x a (Some r) None h k = absurd (passes_or_refused (syntax_at a) (algorithm_tokens x a) (place_at x a.rest.to) r k h)
 same_syntax x a (Some r) (Some q) h k = ap (λ (r : Refusal). Some r) (refused_once (syntax_at a) (algorithm_tokens x a) (place_at x a.rest.to) r q h k)
+
+one_tree : (s : Syntax) (ts : List text.Token) (g h : Algorithm) → Spells s ts g → Spells s ts h → g ≡ h
+one_tree p_syntax ts g h a b = p_whole.one_tree ts g h a b
+one_tree c_syntax ts g h a b = c_whole.one_tree ts g h a b
 
 same_counts : (x : Text) (a : AlgorithmText) (r q : Option Refusal) (d e : List Refusal) → r ≡ q → AreCounted x a r d → AreCounted x a q e → d ≡ e
 same_counts x a None None d e s h k = h.2 ∙ ap count_offences (one_tree (syntax_at a) (algorithm_tokens x a) h.0 k.0 h.1 k.1) ∙ sym k.2
