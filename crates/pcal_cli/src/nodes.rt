@@ -78,7 +78,7 @@ fn put_quote(alloc: Global, pool: &mut Pool, word: &[u8]) -> Result<NodeId, Allo
     ensures kept { Keeps pool.old pool.new }
 {
     let text = Text::new(Vec::from_slice(alloc, word)?);
-    put_leaf(alloc, pool, Shape::Quote(text))
+    put_leaf(alloc, pool, Shape::String(text))
 }
 
 fn put_infix(
