@@ -6,7 +6,7 @@ use expression_parts::cursor::look;
 use expression_parts::quote::unquoted;
 use expression_parts::view::View;
 use std::alloc::{AllocError, Global};
-use tla_pool::form::Form;
+use tla_pool::form::{Form, Strict};
 use tla_pool::graft::{Grafting, grafted};
 use tla_pool::{Pool, Seen};
 use tla_token::{Place, tokens};
@@ -264,6 +264,38 @@ fn operands_are_written(alloc: Global) -> Result<bool, AllocError> {
     Ok(text.bytes() == OPERAND.as_bytes())
 }
 
+// A number in 100,000 sets in one another.
+fn nested_sets(alloc: Global, pool: &mut Pool) -> Result<NodeId, AllocError> {
+    let mut last = pool.put(Form::Number(1), HERE, Vec::new(alloc))?;
+    for _ in 0..100_000 {
+        if last >= pool.len() {
+            break;
+        }
+        last = pool.put(
+            Form::Strict(Strict::SetOf),
+            HERE,
+            Vec::from_array(alloc, [last])?,
+        )?;
+    }
+    Ok(last)
+}
+
+fn count(bytes: &[u8], wanted: u8) -> usize {
+    bytes.iter().filter(|b| **b == wanted).count()
+}
+
+fn deep_expressions_are_written(alloc: Global) -> Result<bool, AllocError> {
+    let mut pool = Pool::new(alloc);
+    let sets = nested_sets(alloc, &mut pool)?;
+    if sets >= pool.len() {
+        return Ok(false);
+    }
+    let mut text = Text::new(Vec::new(alloc));
+    write_expr(alloc, &pool, sets, &mut text)?;
+    let bytes = text.bytes();
+    Ok(bytes.len() == 200_001 && count(bytes, b'{') == 100_000 && count(bytes, b'}') == 100_000)
+}
+
 #[test]
 fn expressions_are_as_wanted(rt: HostRuntime) -> Result<(), AllocError> {
     let alloc = rt.alloc();
@@ -282,6 +314,7 @@ fn expressions_are_as_wanted(rt: HostRuntime) -> Result<(), AllocError> {
         ("tokens", tokens_are_seen(alloc)?),
         ("expressions", expressions_are_written(alloc)?),
         ("operands", operands_are_written(alloc)?),
+        ("deep expressions", deep_expressions_are_written(alloc)?),
     ];
     for (what, is_as_wanted) in found {
         assert!(rt; is_as_wanted, "{what}");

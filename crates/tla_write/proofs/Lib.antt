@@ -1,3 +1,4 @@
 pub mod WritingLemmas
 pub mod RowsWriting
 pub mod OneMore
+pub mod BegunLemmas

@@ -1,12 +1,15 @@
 -- Worked rows: what items show, and what may be behind a written text.
 use Rattle.std.proofs.Common.{◌≡◌, true, false, [], ◌∷◌, refl, codes}
+use Rattle.tla_token.specs.declared.place.Place.{Place}
 use Rattle.tla_tree.specs.declared.op.Op.TheVariants as op
 use Rattle.tla_write.specs.declared.write.Fixed.TheVariants as fixed
 use Rattle.tla_write.specs.declared.write.Item.TheVariants as item
 use Rattle.tla_tree.specs.Lexical as tk
 use Rattle.tla_tree.specs.Spelling as spelled
 use Rattle.tla_tree.specs.Written.{token}
+use Rattle.tla_tree.specs.Tree.{Tree, node, no_trees, tree, number, strict, set_of}
 use Rattle.tla_write.specs.Writing.{shown}
+use Rattle.tla_write.specs.Begun.{weight, left}
 use Rattle.tla_tree.specs.laws.Columns.{moved}
 use Rattle.tla_tree.specs.laws.InText.{ends_word}
 use Rattle.tla_tree.specs.laws.Following.{is_tail, is_calm}
@@ -14,6 +17,27 @@ use Rattle.tla_tree.specs.laws.Following.{is_tail, is_calm}
 -- the last item is the next one
 items_are_shown : shown [] (item.Fixed fixed.CloseBrace ∷ item.Fixed fixed.OpenBrace ∷ []) [] ≡ token (tk.mark tk.open_brace) ∷ token (tk.mark tk.close_brace) ∷ []
 items_are_shown = refl
+
+abbrev here : Place
+here = record { line = 1; col = 1 }
+
+abbrev one : Tree
+one = node (number 1) here no_trees
+
+-- the set that has it: `{1}`
+abbrev set : Tree
+set = node (strict set_of) here (tree one no_trees)
+
+-- one piece, as an operand or not, and two more
+one_weighs : weight one ≡ 4
+one_weighs = refl
+
+set_weighs : weight set ≡ 14
+set_weighs = refl
+
+-- the brace in front is written already
+one_is_left : left set (item.Fixed fixed.CloseBrace ∷ item.Part 0 false ∷ []) ≡ 5
+one_is_left = refl
 
 bracket_ends_a_word : ends_word (codes ")") ≡ true
 bracket_ends_a_word = refl

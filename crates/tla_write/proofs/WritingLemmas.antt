@@ -14,7 +14,7 @@ use Rattle.tla_tree.specs.declared.op.Binder.{Binder}
 use Rattle.tla_tree.specs.declared.op.Binder.TheVariants as binder
 use Rattle.tla_pool.specs.FormOf.{groups_of}
 use Rattle.tla_tree.specs.Shapes.{operands, subscripts, settings, IsPaired, CaseShaped, BinderShaped}
-use Rattle.tla_tree.specs.Tree.{Word, Name, PathStep, Slot, Form, Tree, Trees, node, no_trees, size, sizes}
+use Rattle.tla_tree.specs.Tree.{Word, Name, PathStep, Slot, Form, Tree, Trees, node, no_trees}
 use Rattle.tla_tree.specs.TreeOf.{list_of, root_form, root_parts}
 use Rattle.tla_tree.specs.Tree as tree
 use Rattle.tla_tree.specs.Lexical as tk
@@ -332,14 +332,6 @@ parts_listed (tree.tree t ts) = ap (λ (l : List Part). part t ∷ l) (parts_lis
 
 pub part_is : (t : Tree) (b : Bool) (ps : List Piece) → form_part (root_form t) (map part (root_parts t)) b ps ≡ part t b ps
 part_is (node m at ts) b ps = ap (λ (xs : List Part). form_part m xs b ps) (sym (parts_listed ts))
-
-sizes_less : (ts : Trees) (i : ℕ) (r : Tree) → slice_get (list_of ts) i ≡ Some r → size r ≤ sizes ts
-sizes_less no_trees i r h = absurd cc
-sizes_less (tree.tree t ts) zero r h = (let e : t ≡ r = cc in omega (arith, ap size e))
-sizes_less (tree.tree t ts) (suc i) r h = (let l = sizes_less ts i r h in omega (arith, l))
-
-pub part_less : (t : Tree) (i : ℕ) (r : Tree) → slice_get (root_parts t) i ≡ Some r → size r < size t
-part_less (node m at ts) i r h = (let l = sizes_less ts i r h in omega (arith, l))
 
 pub field_written : (old new bytes : List ℕ) (x : Word) → new ≡ old ++ bytes → bytes ≡ x → (ps : List Piece) → new ++ text_of ps ≡ old ++ text_of (field x ps)
 field_written old new bytes x e b ps = ap (λ (l : List ℕ). l ++ text_of ps) e ∙ append_assoc old bytes (text_of ps) ∙ ap (λ (l : List ℕ). old ++ (l ++ text_of ps)) (b ∙ sym (field_text (is_pluscal_word x) x))

@@ -4,12 +4,12 @@ use Rattle.tla_write.specs.declared.write.Fixed.{Fixed}
 use Rattle.tla_write.specs.declared.write.Fixed.TheVariants as fixed
 use Rattle.tla_write.specs.declared.write.Item.{Item}
 use Rattle.tla_write.specs.declared.write.Item.TheVariants as item
-use Rattle.tla_tree.specs.Tree.{PathStep, Slot, Tree}
+use Rattle.tla_tree.specs.Tree.{Word, Name, PathStep, Slot, Tree}
 use Rattle.tla_tree.specs.Shapes.{subscripts}
 use Rattle.tla_tree.specs.TreeOf.{root_parts}
 use Rattle.tla_tree.specs.Lexical.{TokenView}
 use Rattle.tla_tree.specs.Lexical as tk
-use Rattle.tla_tree.specs.Written.{Piece, blank, token, text_of, word, field, Part, path_pieces, slot_pieces, arm_pieces, part}
+use Rattle.tla_tree.specs.Written.{Piece, blank, token, text_of, word, field, Part, spaced, colon, body, bind_pieces, field_pieces, path_pieces, slot_pieces, arm_pieces, part}
 
 abbrev pub fixed_token : Fixed → TokenView
 fixed_token fixed.OpenBracket = tk.mark tk.open_bracket
@@ -83,6 +83,14 @@ blank_items false = []
 abbrev pub box_items : Bool → List Item
 box_items true = item.Blank ∷ item.Fixed fixed.NextArm ∷ item.Blank ∷ []
 box_items false = []
+
+-- a quantifier of this key
+abbrev pub quantifier_pieces : TokenView → List (List Name) → List Part → List Piece → List Piece
+quantifier_pieces k gs xs ps = token k ∷ blank ∷ bind_pieces gs xs (colon (body gs xs false ps))
+
+-- a record or a set of records, by the sign behind a field
+abbrev pub record_pieces : TokenView → List Word → List Part → List Piece → List Piece
+record_pieces k ys xs ps = token (tk.mark tk.open_square) ∷ field_pieces (spaced k) ys xs (token (tk.mark tk.close_square) ∷ ps)
 
 -- the settings of an EXCEPT, whose first part is before them
 abbrev pub slots_behind : List Slot → List Part → List Piece → List Piece

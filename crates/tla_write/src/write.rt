@@ -4,11 +4,13 @@ ghost use Rattle.std.specs.Prelude.{◌≡◌, ◌<◌, ◌≤◌, ◌+◌, ◌+
 ghost use Rattle.tla_pool.specs.FormOf.{steps_of, slots_of, strict_of, groups_of, form_of};
 ghost use Rattle.tla_tree.specs.Lexical as tk;
 ghost use Rattle.tla_tree.specs.Lexical.{token_text, op_text, escaped};
+ghost use Rattle.tla_tree.specs.Tree as tree;
 ghost use Rattle.tla_tree.specs.Shapes.{Shaped, StrictShaped, CaseShaped, operands, subscripts, settings};
 ghost use Rattle.tla_tree.specs.Rank.{is_prefix};
 ghost use Rattle.tla_tree.specs.Written as pure;
 ghost use Rattle.tla_tree.specs.Written.{spaced, prefix_sign, infix_sign, infix_pieces, listed, field_pieces, name_pieces, bind_pieces, binding_pieces, definition_pieces, local_pieces, strict_pieces, arm_pieces, form_pieces, part, written, text_of, as_operand};
-ghost use Rattle.tla_write.specs.Writing.{fixed_token, item_pieces, Adds, Puts, PutsPath, slots_behind, PutsArms, IsTwice, comma_items, blank_items, box_items, parts_of, Writes};
+ghost use Rattle.tla_write.specs.Begun.{Begins, Goes};
+ghost use Rattle.tla_write.specs.Writing.{shown, quantifier_pieces, record_pieces, fixed_token, item_pieces, Adds, Puts, PutsPath, slots_behind, PutsArms, IsTwice, comma_items, blank_items, box_items, parts_of, Writes};
 ghost use Rattle.tla_tree.specs.Pool.{at};
 ghost use Rattle.tla_write.specs.declared.write.Item.TheVariants.{Blank};
 
@@ -299,6 +301,21 @@ fn put_binds<'a>(groups: &'a [Vec<PlacedName>], plan: &mut Vec<Item<'a>>) -> Res
     Ok(())
 }
 
+fn put_quantifier<'a>(
+    key: Fixed,
+    groups: &'a [Vec<PlacedName>],
+    plan: &mut Vec<Item<'a>>,
+) -> Result<(), AllocError>
+    ensures { OnOk result (Puts (suc (length groups.now)) plan.old.items plan.new.items (quantifier_pieces (fixed_token key) (groups_of groups.now))) }
+{
+    plan.push(Item::Part(groups.len(), false))?;
+    put_spaced(Item::Fixed(Fixed::Colon), plan)?;
+    put_binds(groups, plan)?;
+    plan.push(Item::Blank)?;
+    plan.push(Item::Fixed(key))?;
+    Ok(())
+}
+
 fn put_binding<'a>(
     binder: Binder,
     groups: &'a [Vec<PlacedName>],
@@ -308,20 +325,8 @@ fn put_binding<'a>(
 {
     let body = groups.len();
     match binder {
-        Binder::ForAll => {
-            plan.push(Item::Part(body, false))?;
-            put_spaced(Item::Fixed(Fixed::Colon), plan)?;
-            put_binds(groups, plan)?;
-            plan.push(Item::Blank)?;
-            plan.push(Item::Fixed(Fixed::ForAll))?;
-        }
-        Binder::Exists => {
-            plan.push(Item::Part(body, false))?;
-            put_spaced(Item::Fixed(Fixed::Colon), plan)?;
-            put_binds(groups, plan)?;
-            plan.push(Item::Blank)?;
-            plan.push(Item::Fixed(Fixed::Exists))?;
-        }
+        Binder::ForAll => put_quantifier(Fixed::ForAll, groups, plan)?,
+        Binder::Exists => put_quantifier(Fixed::Exists, groups, plan)?,
         Binder::Filter => {
             plan.push(Item::Fixed(Fixed::CloseBrace))?;
             plan.push(Item::Part(body, false))?;
@@ -470,6 +475,53 @@ fn put_arms(other: bool, n: usize, plan: &mut Vec<Item<'_>>) -> Result<(), Alloc
     Ok(())
 }
 
+// The sign is that between a field and what it has.
+fn put_record<'a>(
+    names: &'a [Name],
+    sign: Fixed,
+    plan: &mut Vec<Item<'a>>,
+) -> Result<(), AllocError>
+    ensures { OnOk result (Puts (length names.now) plan.old.items plan.new.items (record_pieces (fixed_token sign) names.now)) }
+{
+    plan.push(Item::Fixed(Fixed::CloseSquare))?;
+    put_fields(names, sign, plan)?;
+    plan.push(Item::Fixed(Fixed::OpenSquare))?;
+    Ok(())
+}
+
+fn put_functions(plan: &mut Vec<Item<'_>>) -> Result<(), AllocError>
+    ensures { OnOk result (Puts 2 plan.old.items plan.new.items (strict_pieces tree.functions)) }
+{
+    plan.push(Item::Fixed(Fixed::CloseSquare))?;
+    plan.push(Item::Part(1, false))?;
+    put_spaced(Item::Fixed(Fixed::Arrow), plan)?;
+    plan.push(Item::Part(0, false))?;
+    plan.push(Item::Fixed(Fixed::OpenSquare))?;
+    Ok(())
+}
+
+fn put_apply(plan: &mut Vec<Item<'_>>) -> Result<(), AllocError>
+    ensures { OnOk result (Puts 2 plan.old.items plan.new.items (strict_pieces tree.apply)) }
+{
+    plan.push(Item::Fixed(Fixed::CloseSquare))?;
+    plan.push(Item::Part(1, false))?;
+    plan.push(Item::Fixed(Fixed::OpenSquare))?;
+    plan.push(Item::Part(0, true))?;
+    Ok(())
+}
+
+fn put_except<'a>(slots: &'a [Slot], n: usize, plan: &mut Vec<Item<'a>>) -> Result<(), AllocError>
+    requires { n ≡ suc (settings (slots_of slots.now)) }
+    ensures { OnOk result (Puts n plan.old.items plan.new.items (strict_pieces (tree.except (slots_of slots.now)))) }
+{
+    plan.push(Item::Fixed(Fixed::CloseSquare))?;
+    put_slots(slots, n, plan)?;
+    put_spaced(Item::Fixed(Fixed::Except), plan)?;
+    plan.push(Item::Part(0, true))?;
+    plan.push(Item::Fixed(Fixed::OpenSquare))?;
+    Ok(())
+}
+
 fn put_strict<'a>(strict: &'a Strict, n: usize, plan: &mut Vec<Item<'a>>) -> Result<(), AllocError>
     requires { StrictShaped (strict_of strict.now) n }
     ensures { OnOk result (Puts n plan.old.items plan.new.items (strict_pieces (strict_of strict.now))) }
@@ -486,41 +538,16 @@ fn put_strict<'a>(strict: &'a Strict, n: usize, plan: &mut Vec<Item<'a>>) -> Res
             put_listed(n, plan)?;
             plan.push(Item::Fixed(Fixed::OpenTuple))?;
         }
-        Strict::Fields(names) => {
-            plan.push(Item::Fixed(Fixed::CloseSquare))?;
-            put_fields(names.as_slice(), Fixed::Maps, plan)?;
-            plan.push(Item::Fixed(Fixed::OpenSquare))?;
-        }
-        Strict::Records(names) => {
-            plan.push(Item::Fixed(Fixed::CloseSquare))?;
-            put_fields(names.as_slice(), Fixed::Colon, plan)?;
-            plan.push(Item::Fixed(Fixed::OpenSquare))?;
-        }
-        Strict::Functions => {
-            plan.push(Item::Fixed(Fixed::CloseSquare))?;
-            plan.push(Item::Part(1, false))?;
-            put_spaced(Item::Fixed(Fixed::Arrow), plan)?;
-            plan.push(Item::Part(0, false))?;
-            plan.push(Item::Fixed(Fixed::OpenSquare))?;
-        }
-        Strict::Apply => {
-            plan.push(Item::Fixed(Fixed::CloseSquare))?;
-            plan.push(Item::Part(1, false))?;
-            plan.push(Item::Fixed(Fixed::OpenSquare))?;
-            plan.push(Item::Part(0, true))?;
-        }
+        Strict::Fields(names) => put_record(names.as_slice(), Fixed::Maps, plan)?,
+        Strict::Records(names) => put_record(names.as_slice(), Fixed::Colon, plan)?,
+        Strict::Functions => put_functions(plan)?,
+        Strict::Apply => put_apply(plan)?,
         Strict::Select(name) => {
             plan.push(Item::Field(name))?;
             plan.push(Item::Fixed(Fixed::Dot))?;
             plan.push(Item::Part(0, true))?;
         }
-        Strict::Except(slots) => {
-            plan.push(Item::Fixed(Fixed::CloseSquare))?;
-            put_slots(slots, n, plan)?;
-            put_spaced(Item::Fixed(Fixed::Except), plan)?;
-            plan.push(Item::Part(0, true))?;
-            plan.push(Item::Fixed(Fixed::OpenSquare))?;
-        }
+        Strict::Except(slots) => put_except(slots, n, plan)?,
     }
     Ok(())
 }
@@ -620,14 +647,9 @@ fn write_number(alloc: Global, n: u128, into: &mut Text) -> Result<(), AllocErro
     into.extend(digits.as_bytes())
 }
 
-#[cycle(write)]
-fn write_item(
-    alloc: Global,
-    e: &Seen<'_>,
-    item: Item<'_>,
-    into: &mut Text,
-) -> Result<(), AllocError>
-    ensures { OnOk result (Writes into.old into.new (item_pieces (parts_of e.now) item.entry)) }
+// Appends an item that is no part.
+fn write_item(alloc: Global, item: Item<'_>, into: &mut Text) -> Result<(), AllocError>
+    ensures { OnOk result (Writes into.old into.new (item_pieces [] item.entry)) }
 {
     match item {
         Item::Blank => into.push(b' ')?,
@@ -637,24 +659,57 @@ fn write_item(
         Item::Field(name) => into.extend(name.bytes())?,
         Item::Number(n) => write_number(alloc, n, into)?,
         Item::Quote(text) => write_quote(text, into)?,
-        Item::Part(i, operand) => {
-            if i < e.len() {
-                write_part(alloc, &e.part(i), operand, into)?;
-            }
-        }
+        Item::Part(_, _) => {}
     }
     Ok(())
 }
 
-#[cycle(write)]
-fn write_part(alloc: Global, e: &Seen<'_>, operand: bool, into: &mut Text) -> Result<(), AllocError>
-    ensures { OnOk result (Writes into.old into.new (part e.now operand)) }
+// An expression of which some is written, and what is still to be written of its form.
+#[derive(Drop)]
+struct Begun<'a> {
+    of: Seen<'a>,
+    plan: Vec<Item<'a>>,
+}
+
+fn begin(alloc: Global, of: Seen<'_>, operand: bool) -> Result<Begun<'_>, AllocError>
+    ensures { IfOk result (λ b. (b.of ≡ of.entry) × Begins of.entry operand b.plan.items) }
 {
     let mut plan = Vec::new(alloc);
-    e.shaped();
-    put_part(e.form(), operand, e.len(), &mut plan)?;
-    while let Some(item) = plan.pop() {
-        write_item(alloc, e, item, into)?;
+    of.shaped();
+    put_part(of.form(), operand, of.len(), &mut plan)?;
+    Ok(Begun { of, plan })
+}
+
+// Writes what is left before the next part, and gives that part and whether it is an operand.
+fn next_part<'a>(
+    alloc: Global,
+    top: &mut Begun<'a>,
+    into: &mut Text,
+) -> Result<Option<(Seen<'a>, bool)>, AllocError>
+    ensures { IfOk result (λ next. (top.new.of ≡ top.old.of) × Goes top.old.of top.old.plan.items top.new.plan.items into.old into.new next) }
+{
+    while let Some(item) = top.plan.pop() {
+        match item {
+            Item::Part(i, operand) if i < top.of.len() => {
+                return Ok(Some((top.of.part(i), operand)));
+            }
+            _ => write_item(alloc, item, into)?,
+        }
+    }
+    Ok(None)
+}
+
+// Appends the text of an expression. The stack has those that are begun, each a part of the one below it.
+fn write_part(alloc: Global, e: Seen<'_>, operand: bool, into: &mut Text) -> Result<(), AllocError>
+    ensures { OnOk result (Writes into.old into.new (part e.entry operand)) }
+{
+    let mut open = Vec::new(alloc);
+    open.push(begin(alloc, e, operand)?)?;
+    while let Some(mut top) = open.pop() {
+        if let Some((part, operand)) = next_part(alloc, &mut top, into)? {
+            open.push(top)?;
+            open.push(begin(alloc, part, operand)?)?;
+        }
     }
     Ok(())
 }
@@ -670,7 +725,7 @@ pub fn write_expr(alloc: Global, pool: &Pool, e: NodeId, into: &mut Text) -> Res
     ensures err { OnErr result (into.new ≡ into.old) }
 {
     let mut made = Text::new(Vec::new(alloc));
-    write_part(alloc, &Seen::new(pool, e), false, &mut made)?;
+    write_part(alloc, Seen::new(pool, e), false, &mut made)?;
     into.extend(made.bytes())
 }
 
@@ -690,6 +745,6 @@ pub fn write_operand(
     ensures err { OnErr result (into.new ≡ into.old) }
 {
     let mut made = Text::new(Vec::new(alloc));
-    write_part(alloc, &Seen::new(pool, e), true, &mut made)?;
+    write_part(alloc, Seen::new(pool, e), true, &mut made)?;
     into.extend(made.bytes())
 }

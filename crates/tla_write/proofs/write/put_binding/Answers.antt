@@ -1,22 +1,12 @@
 -- Proves what is asked of `put_binding`.
-use Rattle.std.proofs.Common.{◌∷◌, sym, ap, ◌∙◌, true, false}
+use Rattle.std.proofs.Common.{sym, ap, ◌∙◌, true, false}
 use Rattle.tla_write.specs.Writing.{shown}
 use Rattle.tla_tree.specs.Lexical as tk
 use Rattle.tla_tree.specs.declared.op.Binder.{Binder}
 use Rattle.tla_pool.specs.FormOf.{groups_of}
-use Rattle.tla_tree.specs.Written.{Part, blank, token, mark, spaced, colon, bind_pieces, binding_pieces}
+use Rattle.tla_tree.specs.Written.{Part, mark, spaced, colon, bind_pieces, binding_pieces}
 use Rattle.tla_write.proofs.WritingLemmas.{shown_append, body_groups}
 use Rattle.tla_write.proofs.write.put_binding.Goals as goal
-
-pub returns-in_ok-push-in-ForAll-3 : goal.returns-in_ok-push-in-ForAll-3
-returns-in_ok-push-in-ForAll-3 c = λ xs h ps. rw (c.in_ok-push-in-ForAll-3.ensures.items, c.in_ok-push-in-ForAll-2.ensures.items)
-    (simp shown_append (rw (c.in_ok-put_binds-in-ForAll.ensures xs h ps, c.in_ok-put_spaced-in-ForAll.ensures, c.in_ok-push-in-ForAll.ensures.items)
-    (simp shown_append (ap (λ (a : Part). token (tk.key tk.for_all_key) ∷ blank ∷ bind_pieces (groups_of c.args.groups.now) xs (colon (a false (shown xs c.args.plan.now.items ps)))) (body_groups c.args.groups.now xs h) ∙ ap (λ (b : Binder). binding_pieces b (groups_of c.args.groups.now) xs (shown xs c.args.plan.now.items ps)) (sym c.in-ForAll.is)))))
-
-pub returns-in_ok-push-in-Exists-3 : goal.returns-in_ok-push-in-Exists-3
-returns-in_ok-push-in-Exists-3 c = λ xs h ps. rw (c.in_ok-push-in-Exists-3.ensures.items, c.in_ok-push-in-Exists-2.ensures.items)
-    (simp shown_append (rw (c.in_ok-put_binds-in-Exists.ensures xs h ps, c.in_ok-put_spaced-in-Exists.ensures, c.in_ok-push-in-Exists.ensures.items)
-    (simp shown_append (ap (λ (a : Part). token (tk.key tk.exists_key) ∷ blank ∷ bind_pieces (groups_of c.args.groups.now) xs (colon (a false (shown xs c.args.plan.now.items ps)))) (body_groups c.args.groups.now xs h) ∙ ap (λ (b : Binder). binding_pieces b (groups_of c.args.groups.now) xs (shown xs c.args.plan.now.items ps)) (sym c.in-Exists.is)))))
 
 pub returns-in_ok-push-in-Filter-3 : goal.returns-in_ok-push-in-Filter-3
 returns-in_ok-push-in-Filter-3 c = λ xs h ps. rw (c.in_ok-push-in-Filter-3.ensures.items)
