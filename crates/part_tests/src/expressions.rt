@@ -134,10 +134,10 @@ impl Grafting for Each {
     ghost stays = { λ g old new h k. (Prim.omega (arith, h, k.longer), λ j x at. Some (k.same g.by h j)) };
 }
 
-// As a tree it has 2^3000 names.
+// As a tree it has 2^100,000 names.
 fn doubled_names(alloc: Global, pool: &mut Pool) -> Result<NodeId, AllocError> {
     let mut last = pool.put(Form::Name(name(alloc, 120)?), HERE, Vec::new(alloc))?;
-    for _ in 0..3000 {
+    for _ in 0..100_000 {
         if last >= pool.len() {
             break;
         }
@@ -160,10 +160,10 @@ fn a_graft_goes_to_each_number_once(alloc: Global) -> Result<bool, AllocError> {
         return Ok(false);
     }
     let ones = grafted(alloc, &mut pool, names, &by)?;
-    if pool.len() != 6002 || by.by >= pool.len() {
+    if pool.len() != 200_002 || by.by >= pool.len() {
         return Ok(false);
     }
-    Ok(grafted(alloc, &mut pool, ones, &by)? == ones && pool.len() == 6002)
+    Ok(grafted(alloc, &mut pool, ones, &by)? == ones && pool.len() == 200_002)
 }
 
 // What stands between quotes, and the text.

@@ -1,6 +1,5 @@
 -- What a graft has made already, as a pool grows and more is made.
 use Rattle.std.proofs.Common.{◌≡◌, ℕ, ◌<◌, Bool, true, false, cond, List, [], ◌∷◌, length, refl, sym, ap, ◌∙◌, subst, arith, Some, nat_eq}
-use Rattle.std.specs.Prelude.{Result, Ok, Err, OnOk}
 use Rattle.std.specs.Map.{lookup}
 use Rattle.std.proofs.lemmas.Bool.Decides.{Decides-eqb}
 use Rattle.indexmap.specs.IndexMap.{insert_entry}
@@ -31,8 +30,3 @@ AreMade-found g ts (p ∷ ps) e made h f = by (nat_eq e p.0) refl f (AreMade-fou
     by : (b : Bool) → nat_eq e p.0 ≡ b → cond b (Some p.1) (lookup (nat_eq e) ps) ≡ Some made → (lookup (nat_eq e) ps ≡ Some made → IsMade g ts e made) → IsMade g ts e made
     by true q f more = let v : p.1 ≡ made = cc in subst (λ i. IsMade g ts i made) (sym ((Decides-eqb e p.0).0 q)) (subst (IsMade g ts p.0) v h.0)
     by false q f more = more f
-
--- what always holds holds of a result
-pub ok_always : {T E : Type 0} (r : Result T E) (P : Type 0) → P → OnOk r P
-ok_always (Ok x) P p = p
-ok_always (Err e) P p = tt

@@ -1,4 +1,5 @@
 pub mod PoolGrown
 pub mod DoneLemmas
+pub mod VisitLemmas
 mod RowsPool
 mod SameLists

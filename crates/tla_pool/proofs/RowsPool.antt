@@ -1,11 +1,13 @@
 -- Worked examples of the trees that the nodes of a pool stand for.
 use Rattle.std.specs.Prelude.{◌≡◌, List, [], ◌∷◌, ◌++◌, Option, Some, true}
 use Rattle.std.specs.Hash as fed
-use Rattle.std.proofs.Common.{ap, refl, arith}
+use Rattle.std.proofs.Common.{ap, refl, arith, inl}
 use Rattle.tla_token.specs.declared.place.Place.{Place}
 use Rattle.tla_tree.specs.Tree.{Word, Tree, node, no_trees, tree, number, name, conjunction}
 use Rattle.tla_tree.specs.TreeOf.{root_form, root_parts}
+use Rattle.tla_pool.specs.declared.graft.Visit.TheVariants as visit
 use Rattle.tla_pool.specs.Done.{AreMade}
+use Rattle.tla_pool.specs.Visits.{InOrder, to_parts, all_work}
 use Rattle.tla_tree.specs.Pool.{Entry, same_entry, grown, AllBelow, AreOlder, AreShaped}
 use Rattle.tla_tree.specs.PoolEquality.{fed_entry, same_entry-Decides}
 
@@ -63,3 +65,13 @@ two = leaf ∷ node (name (120 ∷ [])) here no_trees ∷ []
 
 of_a_name_and_of_a_1_a_1_is_made : AreMade ones two ((1, 0) ∷ (0, 0) ∷ [])
 of_a_name_and_of_a_1_a_1_is_made = ((omega arith, omega arith, refl), ((omega arith, omega arith, refl), tt))
+
+-- a node whose two parts are one that isn't done
+parts_are_visited_before : InOrder [] (visit.Leave 1 both ∷ to_parts both.parts)
+parts_are_visited_before = ((inl refl, (inl refl, tt)), tt)
+
+done_parts_need_no_visit : InOrder ((0, 0) ∷ []) (visit.Leave 1 both ∷ [])
+done_parts_need_no_visit = (((0, refl), ((0, refl), tt)), tt)
+
+work_of_two_visits : all_work two (visit.Enter 1 ∷ visit.Leave 0 one ∷ []) ≡ 3
+work_of_two_visits = refl

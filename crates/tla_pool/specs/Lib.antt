@@ -1,2 +1,3 @@
 pub mod FormOf
 pub mod Done
+pub mod Visits

@@ -3,8 +3,10 @@
 ghost use Rattle.std.specs.Prelude.{◌≡◌, ◌<◌, length, List, IfOk, OnOk, MatchOption, Some, None};
 ghost use Rattle.tla_pool.specs.FormOf.{form_of};
 ghost use Rattle.tla_tree.specs.Tree.{Tree, Trees, Graft, graft as grafted_tree, grafted_node, node};
-ghost use Rattle.tla_tree.specs.Pool.{at, Keeps};
-ghost use Rattle.tla_pool.specs.Done.{AreMade};
+ghost use Rattle.tla_tree.specs.Pool.{at, Keeps, tree_in};
+ghost use Rattle.tla_tree.specs.Shapes.{Shaped};
+ghost use Rattle.tla_pool.specs.Done.{AreMade, AreDone};
+ghost use Rattle.tla_pool.specs.Visits.{Enters};
 
 use crate::done::Done;
 use crate::form::Form;
@@ -38,6 +40,13 @@ pub trait Grafting {
     ghost stays: { (s : Self) (old new : List Tree) → fits s old → Keeps old new → (fits s new) × (graft s new ≡ graft s old) };
 }
 
+// A visit that is still to be made: to a number, or to its node when its parts are done.
+#[derive(Drop)]
+enum Visit {
+    Enter(NodeId),
+    Leave(NodeId, Node),
+}
+
 /// The expression with what is put in for its names; the same number where that changes nothing. It goes to each number
 /// once. Names that it binds are names like any: the caller sees to it that none of them is meant.
 ///
@@ -58,60 +67,66 @@ pub fn grafted<G: Grafting>(
     ensures same { IfOk result (λ r. grafted_tree (G.graft g.now pool.old) (at pool.old e) ≡ at pool.old e → r ≡ e) }
 {
     let mut done = Done::new(alloc);
-    let r = grafted_once(alloc, pool, e, g, &mut done)?;
-    pool.differ();
-    Ok(r)
-}
-
-// The same, where some numbers are done already; then it is done too.
-#[cycle(graft)]
-fn grafted_once<G: Grafting>(
-    alloc: Global,
-    pool: &mut Pool,
-    e: NodeId,
-    g: &G,
-    done: &mut Done,
-) -> Result<NodeId, AllocError>
-    requires e_in { e < length pool.old }
-    requires fits { G.fits g.now pool.old }
-    requires before { AreMade (G.graft g.now pool.old) pool.old done.old }
-    ensures tree { IfOk result (λ r. at pool.new r ≡ grafted_tree (G.graft g.now pool.old) (at pool.old e)) }
-    ensures within { IfOk result (λ r. r < length pool.new) }
-    ensures kept { Keeps pool.old pool.new }
-    ensures after { OnOk result (AreMade (G.graft g.now pool.old) pool.new done.new) }
-{
-    if let Some(made) = done.get(e) {
-        return Ok(made);
+    let mut ahead = Vec::new(alloc);
+    ahead.push(Visit::Enter(e))?;
+    while let Some(visit) = ahead.pop() {
+        match visit {
+            Visit::Enter(i) => enter(alloc, pool, i, &done, &mut ahead)?,
+            Visit::Leave(i, node) => {
+                let made = over_done(alloc, pool, node, g, &done)?;
+                done.keep(i, made)?;
+            }
+        }
     }
-    let made = grafted_node(alloc, pool, e, g, done)?;
-    done.keep(e, made)?;
-    Ok(made)
+    pool.differ();
+    Ok(done.get(e).unwrap())
 }
 
-// The node of a number that isn't done yet, over its grafted parts.
-#[cycle(graft)]
-fn grafted_node<G: Grafting>(
+// The visits that a number needs: none where it is done, else to its parts and then to its node.
+fn enter(
+    alloc: Global,
+    pool: &Pool,
+    i: NodeId,
+    done: &Done,
+    ahead: &mut Vec<Visit>,
+) -> Result<(), AllocError>
+    requires { i < length pool.now }
+    ensures { OnOk result (Enters pool.now done.now i ahead.old.items ahead.new.items) }
+{
+    if done.get(i).is_some() {
+        return Ok(());
+    }
+    let node = pool.node(i);
+    ahead.push(Visit::Leave(i, node.copied(alloc)?))?;
+    for part in &node.parts {
+        ahead.push(Visit::Enter(*part))?;
+    }
+    Ok(())
+}
+
+// The grafted node, whose parts are done.
+fn over_done<G: Grafting>(
     alloc: Global,
     pool: &mut Pool,
-    e: NodeId,
+    node: Node,
     g: &G,
-    done: &mut Done,
+    done: &Done,
 ) -> Result<NodeId, AllocError>
-    requires e_in { e < length pool.old }
     requires fits { G.fits g.now pool.old }
-    requires before { AreMade (G.graft g.now pool.old) pool.old done.old }
-    ensures tree { IfOk result (λ r. at pool.new r ≡ grafted_tree (G.graft g.now pool.old) (at pool.old e)) }
+    requires shaped { Shaped node.form (length node.parts) }
+    requires made { AreMade (G.graft g.now pool.old) pool.old done.now }
+    requires parts { AreDone done.now node.parts }
+    ensures tree { IfOk result (λ r. at pool.new r ≡ grafted_tree (G.graft g.now pool.old) (tree_in pool.old node)) }
     ensures within { IfOk result (λ r. r < length pool.new) }
     ensures kept { Keeps pool.old pool.new }
-    ensures after { OnOk result (AreMade (G.graft g.now pool.old) pool.new done.new) }
 {
-    let Node { form, place, parts } = pool.node(e).copied(alloc)?;
+    let Node { form, place, parts } = node;
     if let Some(whole) = instead(alloc, pool, &form, place, g)? {
         return Ok(whole);
     }
     let mut others = Vec::new(alloc);
     for part in &parts {
-        others.push(grafted_once(alloc, pool, *part, g, done)?)?;
+        others.push(done.get(*part).unwrap())?;
     }
     pool.put(form, place, others)
 }
