@@ -10,14 +10,14 @@ use Rattle.tla_tree.specs.Lexical.{TokenView, Token}
 use Rattle.tla_tree.specs.Lexical as tk
 use Rattle.tla_tree.specs.Reader.{Out, Reader, refuses, tail, is_mark}
 use Rattle.tla_tree.proofs.SoundTokens.{mark_is}
-use Rattle.expression_parts.specs.ReadIn.{Reads}
-use Rattle.expression_parts.specs.Ahead.{ahead}
-use Rattle.expression_parts.proofs.AheadLemmas.{ahead_tail}
+use Rattle.expr_nodes.specs.ReadIn.{Reads}
+use Rattle.expr_nodes.specs.Ahead.{ahead}
+use Rattle.expr_nodes.proofs.AheadLemmas.{ahead_tail}
 use Rattle.pcal_tree.specs.declared.algorithm.Stmt.{Stmt}
 use Rattle.pcal_tree.specs.InMemory.{past_statements}
 use Rattle.pcal_tree.specs.GrammarParts.{Labels, no_labels}
 use Rattle.pcal_tree.specs.GrammarC.{Labelled, labelled_ends_in_block}
-use Rattle.algorithm_parts.specs.TokenReaders.{first, is_reserved, pick, Parts}
+use Rattle.algorithm_reader.specs.TokenReaders.{first, is_reserved, pick, Parts}
 use Rattle.c_syntax.specs.ReadStatements as reader
 use Rattle.c_syntax.specs.ReadStatements.{opens, done, begin, Before, Stack, bottom, in_block, in_then, in_else, in_body, in_either, first_arm, later_arm, on, ended, ask_else, ask_or, ask_other, closed, takes_else, takes_or, closing_words, is_divided, another_if, list_by, ended_by, statement_by}
 use Rattle.c_syntax.specs.StatesRead.{in_list, FrameStands, Stands, Ends, PointStands, StateStands, TurnStands, past_one, up_to, statement_step}

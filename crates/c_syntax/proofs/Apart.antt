@@ -9,11 +9,11 @@ use Rattle.tla_tree.proofs.SoundTokens.{then_ok}
 use Rattle.tla_tree.proofs.SoundTokens as edge
 use Rattle.pcal_tree.specs.GrammarParts.{Labels, no_labels, Simple}
 use Rattle.pcal_tree.specs.GrammarC.{Labelled, no_else, else_then, last_branch}
-use Rattle.algorithm_parts.specs.TokenReaders.{first, by_next, a_mark, pick, Parts}
-use Rattle.algorithm_parts.specs.ReadParts.{read_colon, read_binds}
-use Rattle.algorithm_parts.specs.ReadSimple.{named_by, simple_words}
-use Rattle.algorithm_parts.proofs.Sound.{All, pick_is}
-use Rattle.algorithm_parts.specs.ReadAround.{within}
+use Rattle.algorithm_reader.specs.TokenReaders.{first, by_next, a_mark, pick, Parts}
+use Rattle.algorithm_reader.specs.ReadParts.{read_colon, read_binds}
+use Rattle.algorithm_reader.specs.ReadSimple.{named_by, simple_words}
+use Rattle.algorithm_reader.proofs.Sound.{All, pick_is}
+use Rattle.algorithm_reader.specs.ReadAround.{within}
 use Rattle.c_syntax.specs.ReadStatements.{depth, after, if_test, with_opening, while_opening, first_arm, later_arm, Stack, bottom, in_block, in_then, in_else, in_body, in_either, State, begin, ended, Turn, on, done, joined, tested, opened, before_or, opens, either_if, ends_simple, after_name, bracketed, statement_words, statement_by}
 use Rattle.c_syntax.specs.ReadStatements.{Ask, ask_else, ask_or, ask_other, closed, takes_else, takes_or, closing_words, is_divided, another_if, list_by, ended_by, step, AreApart, open_stack}
 

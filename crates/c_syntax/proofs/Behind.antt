@@ -10,11 +10,11 @@ use Rattle.pcal_tree.specs.GrammarParts.{name, key, mark, semicolon, maybe_semic
 use Rattle.pcal_tree.specs.GrammarParts as g
 use Rattle.pcal_tree.specs.GrammarC.{Statement, simple, branch, either, with, while, compound, Labelled, labelled, Branches, last_branch, more_branches, Sequence, last_statement, more_statements}
 use Rattle.pcal_tree.specs.GrammarC.{statement, labelled_tokens, branches, sequence, ends_in_block, labelled_ends_in_block, takes_else, takes_or, labelled_takes_else, labelled_takes_or, Divided, GoodStatement, GoodLabelled, GoodSequence}
-use Rattle.algorithm_parts.specs.TokenReaders.{first, pick}
-use Rattle.algorithm_parts.proofs.WholeSimple.{root, first_left, after_first, assignment_tokens}
+use Rattle.algorithm_reader.specs.TokenReaders.{first, pick}
+use Rattle.algorithm_reader.proofs.WholeSimple.{root, first_left, after_first, assignment_tokens}
 use Rattle.c_syntax.specs.ReadStatements.{Ask, ask_else, ask_or, ask_other}
 use Rattle.c_syntax.specs.ReadStatements.{is_divided}
-use Rattle.algorithm_parts.proofs.WholeEnds.{is_divider_next, is_statement_start}
+use Rattle.algorithm_reader.proofs.WholeEnds.{is_divider_next, is_statement_start}
 
 -- ---- what a token asks for after a statement
 abbrev pub word_ask : Word → Ask

@@ -10,14 +10,14 @@ use Rattle.tla_tree.specs.FirstStop.{Open}
 use Rattle.pcal_tree.specs.GrammarParts.{Labels, no_labels, labels, maybe_semicolon, Simple}
 use Rattle.pcal_tree.specs.GrammarC.{simple, compound, Labelled, labelled, Else, no_else, else_then, Branches, last_branch, more_branches, Sequence, last_statement, more_statements}
 use Rattle.pcal_tree.specs.OpenForms.{here, plain, expression_opens, binds_open, after_binds, simple_opens, c_labelled, c_else, c_branches, c_sequence}
-use Rattle.algorithm_parts.specs.TokenReaders.{limited_parts, pick}
-use Rattle.algorithm_parts.specs.ReadAround.{with_label}
-use Rattle.algorithm_parts.specs.ReadSimple.{simple_words}
-use Rattle.algorithm_parts.proofs.Beside.{Sits, sits, sits_on, sits_here, Beside, BesideAt, BothAt, beside_gives, beside_refuses, beside_bind, beside_then, beside_next, beside_stays, beside_same, beside_moved, beside_skip, beside_opened, beside_mark, beside_pick}
-use Rattle.algorithm_parts.proofs.BesideAround.{sits_after, sits_moved, sits_less, binds_sit, binds_deep, with_label_opens}
-use Rattle.algorithm_parts.proofs.BesideParts.{unlimited_parts, beside_expr, beside_colon, beside_binds}
-use Rattle.algorithm_parts.proofs.BesideSimple.{beside_named, beside_words}
-use Rattle.algorithm_parts.proofs.Lower.{lowered_beside}
+use Rattle.algorithm_reader.specs.TokenReaders.{limited_parts, pick}
+use Rattle.algorithm_reader.specs.ReadAround.{with_label}
+use Rattle.algorithm_reader.specs.ReadSimple.{simple_words}
+use Rattle.algorithm_reader.proofs.Beside.{Sits, sits, sits_on, sits_here, Beside, BesideAt, BothAt, beside_gives, beside_refuses, beside_bind, beside_then, beside_next, beside_stays, beside_same, beside_moved, beside_skip, beside_opened, beside_mark, beside_pick}
+use Rattle.algorithm_reader.proofs.BesideAround.{sits_after, sits_moved, sits_less, binds_sit, binds_deep, with_label_opens}
+use Rattle.algorithm_reader.proofs.BesideParts.{unlimited_parts, beside_expr, beside_colon, beside_binds}
+use Rattle.algorithm_reader.proofs.BesideSimple.{beside_named, beside_words}
+use Rattle.algorithm_reader.proofs.Lower.{lowered_beside}
 use Rattle.c_syntax.specs.ReadStatements.{Before, none, after, Arms, first_arm, later_arm, Test, if_test, Opening, with_opening, while_opening, Stack, bottom, in_block, in_then, in_else, in_body, in_either, depth, State, begin, ended, Turn, on, done, with_before, joined, tested, opened}
 use Rattle.c_syntax.specs.ReadStatements.{before_or, opens, either_if, ends_simple, after_name, statement_words, statement_by, Ask, ask_else, ask_or, ask_other, closed, takes_else, takes_or, closing_words, is_divided, another_if, list_by, ended_by, step, turned, run, read_sequence}
 

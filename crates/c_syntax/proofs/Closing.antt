@@ -6,8 +6,8 @@ use Rattle.tla_tree.specs.Lexical.{Token}
 use Rattle.tla_tree.specs.Lexical as tk
 use Rattle.pcal_tree.specs.GrammarParts.{Labels, no_labels, skip, mark}
 use Rattle.pcal_tree.specs.GrammarC.{simple, either, compound, Labelled, labelled, else_then, last_branch, Sequence, last_statement}
-use Rattle.algorithm_parts.proofs.BesideAround.{binds_deep}
-use Rattle.algorithm_parts.specs.TokenReaders.{first, Parts}
+use Rattle.algorithm_reader.proofs.BesideAround.{binds_deep}
+use Rattle.algorithm_reader.specs.TokenReaders.{first, Parts}
 use Rattle.c_syntax.specs.ReadStatements.{Arms, first_arm, later_arm, Test, with_opening, while_opening, Stack, bottom, in_block, in_then, in_else, in_body, in_either, State, begin, ended, with_before, joined, tested, opened, before_or, ask_or, closed, run, AreApart, closing, rest, open_stack, depth}
 use Rattle.c_syntax.proofs.Behind.{ask_of, ask_at}
 use Rattle.c_syntax.proofs.Elsewhere.{either_ends, same_after, same_run}

@@ -7,11 +7,11 @@ use Rattle.tla_tree.specs.Reader.{Out, gives, then_read, ◌>>=◌}
 use Rattle.pcal_tree.specs.GrammarParts.{mark, no_labels, skip}
 use Rattle.pcal_tree.specs.GrammarC.{simple, labelled, Sequence, last_statement}
 use Rattle.pcal_tree.specs.Grammar.{Body, braces, Macro, Procedure, Process, Main, block, in_braces, Text}
-use Rattle.algorithm_parts.specs.TokenReaders.{a_mark, Parts}
-use Rattle.algorithm_parts.specs.ReadParts.{read_semicolon}
-use Rattle.algorithm_parts.specs.Owners.{Owner, in_macro, in_procedure, in_process, in_main, main_of}
-use Rattle.algorithm_parts.proofs.Whole.{then_is}
-use Rattle.algorithm_parts.proofs.OneAfter.{same_read, then_assoc, then_same}
+use Rattle.algorithm_reader.specs.TokenReaders.{a_mark, Parts}
+use Rattle.algorithm_reader.specs.ReadParts.{read_semicolon}
+use Rattle.algorithm_reader.specs.Owners.{Owner, in_macro, in_procedure, in_process, in_main, main_of}
+use Rattle.algorithm_reader.proofs.Whole.{then_is}
+use Rattle.algorithm_reader.proofs.OneAfter.{same_read, then_assoc, then_same}
 use Rattle.c_syntax.specs.ReadStatements.{State, Turn, bottom, none, on, step, turned, run, rest, AreApart, open_stack, depth}
 use Rattle.c_syntax.specs.ReadStatements as machine
 use Rattle.c_syntax.specs.Resume.{Front, finish, main_from, resume, closing_brace, after_list, rest_of_all, macros_from, procedures_from, processes_from, main_rest, end_rest}

@@ -8,7 +8,7 @@ use Rattle.tla_tree.specs.Lexical as tk
 use Rattle.tla_tree.specs.Reader.{Reader, then_read, tail}
 use Rattle.pcal_tree.specs.GrammarParts.{Labels}
 use Rattle.pcal_tree.specs.GrammarC.{Labelled, no_else, last_branch}
-use Rattle.algorithm_parts.specs.TokenReaders.{first, pick, Parts}
+use Rattle.algorithm_reader.specs.TokenReaders.{first, pick, Parts}
 use Rattle.c_syntax.specs.ReadStatements.{Arms, later_arm, Test, Stack, in_then, in_either, ended, Turn, joined, Ask, ask_else, ask_or, ask_other, closed, closing_words, list_by, ended_by, turned, run}
 use Rattle.c_syntax.specs.ReadStatements as machine
 use Rattle.c_syntax.proofs.Behind.{word_ask, ask_of, ask_past, ask_at}

@@ -16,7 +16,7 @@ use Rattle.pcal_tree.proofs.InMemoryEach.{if_at, either_at, with_at, while_at, p
 use Rattle.pcal_tree.specs.GrammarParts.{first_place, last_place, span, key, maybe_semicolon, Binds}
 use Rattle.pcal_tree.specs.GrammarC.{Statement, Labelled, labelled, branch, either, with, while, no_else, else_then, Branches, last_branch, more_branches, labelled_tokens, branches, flat, flat_statement, branch_trees, statement, labelled_ends_in_block, branches_end_in_block}
 use Rattle.c_syntax.specs.ReadStatements.{joined, Arms, Stack, bottom, in_block, in_then, in_else, in_body, in_either, if_test, with_opening, while_opening, first_arm, later_arm}
-use Rattle.algorithm_parts.specs.StatementsRead.{is_none}
+use Rattle.algorithm_reader.specs.StatementsRead.{is_none}
 use Rattle.c_syntax.specs.StatesRead.{FrameStands, ListStands, past_one, up_to, around, arms_labels, arms_place, arms_tree}
 use Rattle.c_syntax.specs.Closes.{can_end, ended_with}
 use Rattle.c_syntax.specs.declared.open.Begun.{Begun}

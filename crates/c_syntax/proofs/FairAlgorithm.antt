@@ -7,16 +7,16 @@ use Rattle.tla_tree.specs.Lexical as tk
 use Rattle.tla_tree.specs.Reader.{Out, Stop, ◌>>=◌, readers}
 use Rattle.tla_tree.proofs.Alike.{Alike, IsFair, fair_gives, fair_refuses, fair_skip, fair_bind}
 use Rattle.pcal_tree.specs.Grammar.{c_syntax, Text, Good, spell}
-use Rattle.algorithm_parts.specs.TokenReaders.{Parts, parts_of}
-use Rattle.algorithm_parts.specs.ReadParts.{bind_by}
-use Rattle.algorithm_parts.proofs.Fair.{fair_next, fair_past, FairParts, less_parts, left_parts, right_parts, parts_fair}
-use Rattle.algorithm_parts.proofs.FairParts.{fair_mark, fair_name, semicolon_fair, section_fair, definitions_fair}
-use Rattle.algorithm_parts.specs.ReadAround.{to_last}
-use Rattle.algorithm_parts.proofs.FairAround.{head_fair, last_fair}
+use Rattle.algorithm_reader.specs.TokenReaders.{Parts, parts_of}
+use Rattle.algorithm_reader.specs.ReadParts.{bind_by}
+use Rattle.algorithm_reader.proofs.Fair.{fair_next, fair_past, FairParts, less_parts, left_parts, right_parts, parts_fair}
+use Rattle.algorithm_reader.proofs.FairParts.{fair_mark, fair_name, semicolon_fair, section_fair, definitions_fair}
+use Rattle.algorithm_reader.specs.ReadAround.{to_last}
+use Rattle.algorithm_reader.proofs.FairAround.{head_fair, last_fair}
 use Rattle.c_syntax.specs.ReadAlgorithm.{ways, main_by, read_main, read_text, read_algorithm}
 use Rattle.c_syntax.proofs.FairStatements.{sequence_fair}
 use Rattle.c_syntax.proofs.WholeAlgorithm.{text_read}
-use Rattle.algorithm_parts.proofs.FairRoutines.{FairWays, define_fair, macros_fair, procedures_fair, main_processes_fair}
+use Rattle.algorithm_reader.proofs.FairRoutines.{FairWays, define_fair, macros_fair, procedures_fair, main_processes_fair}
 
 ways_fair : (d : ℕ) (m q : Parts) → FairParts d m q → FairWays d (ways m) (ways q)
 ways_fair d m q h = record {

@@ -9,12 +9,12 @@ use Rattle.tla_tree.proofs.Alike.{IsFair, fair_gives, fair_refuses, fair_too_dee
 use Rattle.pcal_tree.specs.GrammarParts.{Labels, no_labels, Simple}
 use Rattle.pcal_tree.specs.GrammarParts as g
 use Rattle.pcal_tree.specs.GrammarC.{simple, Labelled, labelled, Sequence, last_statement}
-use Rattle.algorithm_parts.specs.TokenReaders.{by_next, pick, Parts}
-use Rattle.algorithm_parts.specs.ReadSimple.{simple_words}
-use Rattle.algorithm_parts.proofs.Fair.{fair_next, pick_both, Step, fair_steps, FairParts, less_parts, left_parts, right_parts}
-use Rattle.algorithm_parts.proofs.FairParts.{fair_mark, fair_name, colon_fair, binds_fair}
-use Rattle.algorithm_parts.proofs.FairSimple.{arguments_fair, named_fair}
-use Rattle.algorithm_parts.specs.ReadAround.{within}
+use Rattle.algorithm_reader.specs.TokenReaders.{by_next, pick, Parts}
+use Rattle.algorithm_reader.specs.ReadSimple.{simple_words}
+use Rattle.algorithm_reader.proofs.Fair.{fair_next, pick_both, Step, fair_steps, FairParts, less_parts, left_parts, right_parts}
+use Rattle.algorithm_reader.proofs.FairParts.{fair_mark, fair_name, colon_fair, binds_fair}
+use Rattle.algorithm_reader.proofs.FairSimple.{arguments_fair, named_fair}
+use Rattle.algorithm_reader.specs.ReadAround.{within}
 use Rattle.c_syntax.specs.ReadStatements.{after, if_test, with_opening, while_opening, none, Stack, bottom, in_block, in_then, in_either, in_body, State, begin, ended, Turn, on, done, with_before, before_or, opens}
 use Rattle.c_syntax.specs.ReadStatements.{depth, either_if, ends_simple, after_name, bracketed, statement_words, statement_by, ask_else, ask_or, ask_other, closed, takes_else, takes_or, closing_words, is_divided, another_if, list_by, ended_by, step, turned, run, read_sequence}
 

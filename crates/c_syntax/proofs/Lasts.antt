@@ -11,7 +11,7 @@ use Rattle.pcal_tree.specs.GrammarParts.{Arguments, no_arguments, some_arguments
 use Rattle.pcal_tree.specs.GrammarParts as g
 use Rattle.pcal_tree.specs.GrammarC.{Statement, simple, branch, either, with, while, compound, Labelled, labelled, Else, no_else, else_then, Branches, last_branch, more_branches, Sequence, last_statement, more_statements}
 use Rattle.pcal_tree.specs.GrammarC.{statement, labelled_tokens, else_tokens, branches, sequence}
-use Rattle.algorithm_parts.specs.StatementsRead.{is_none}
+use Rattle.algorithm_reader.specs.StatementsRead.{is_none}
 
 -- ---- tokens that are put before others
 pub record Put (x : List Token → List Token) : Type 0 where

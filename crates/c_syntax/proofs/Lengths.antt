@@ -4,7 +4,7 @@ use Rattle.tla_tree.specs.Lexical as tk
 use Rattle.pcal_tree.specs.GrammarParts.{key, mark, maybe_semicolon}
 use Rattle.pcal_tree.specs.GrammarC.{Statement, simple, branch, either, with, while, compound, Labelled, labelled, Else, no_else, else_then, Branches, last_branch, more_branches, Sequence, last_statement, more_statements}
 use Rattle.pcal_tree.specs.GrammarC.{statement, labelled_tokens, else_tokens, branches, sequence}
-use Rattle.algorithm_parts.proofs.Lengths.{Grows, GrowsMore, grow_phrase, grow_semicolon, grow_labels, grow_binds, grow_simple}
+use Rattle.algorithm_reader.proofs.Lengths.{Grows, GrowsMore, grow_phrase, grow_semicolon, grow_labels, grow_binds, grow_simple}
 
 -- ---- tokens before others
 mutual

@@ -6,18 +6,18 @@ use Rattle.tla_tree.specs.Lexical.{TokenView, Token}
 use Rattle.tla_tree.specs.Lexical as tk
 use Rattle.tla_tree.specs.Reader.{Out, Reader, ◌>>=◌, then_read, gives, took, tail, place_if, is_mark}
 use Rattle.tla_tree.proofs.SoundTokens.{mark_is}
-use Rattle.expression_parts.specs.declared.cursor.Halt.{Halt}
-use Rattle.expression_parts.specs.ReadIn.{Reads, Fails}
+use Rattle.expr_nodes.specs.declared.cursor.Halt.{Halt}
+use Rattle.expr_nodes.specs.ReadIn.{Reads, Fails}
 use Rattle.pcal_tree.specs.declared.algorithm.Stmt.{Stmt}
 use Rattle.pcal_tree.specs.declared.algorithm.Main.TheVariants as main
 use Rattle.pcal_tree.specs.Algorithm as tree
 use Rattle.pcal_tree.specs.InMemory.{main_at, past_main}
 use Rattle.pcal_tree.specs.Grammar.{Body, begin_end, braces, body_tree, Main, begin, block, main_tree}
-use Rattle.algorithm_parts.specs.TokenReaders.{first, a_mark, Parts}
-use Rattle.algorithm_parts.specs.ReadParts.{read_semicolon}
-use Rattle.algorithm_parts.specs.PartsRead.{StandsFor}
-use Rattle.algorithm_parts.proofs.Gathered.{fails_then}
-use Rattle.routine_parts.specs.RoutinesRead.{main_processes_by, read_main_processes}
+use Rattle.algorithm_reader.specs.TokenReaders.{first, a_mark, Parts}
+use Rattle.algorithm_reader.specs.ReadParts.{read_semicolon}
+use Rattle.algorithm_reader.specs.PartsRead.{StandsFor}
+use Rattle.algorithm_reader.proofs.Gathered.{fails_then}
+use Rattle.algorithm_reader.specs.RoutinesRead.{main_processes_by, read_main_processes}
 use Rattle.c_syntax.specs.ReadStatements.{read_sequence}
 use Rattle.c_syntax.specs.ReadAlgorithm.{ways, read_body, main_by, read_main}
 use Rattle.c_syntax.specs.StatesRead.{list_at, past_list}

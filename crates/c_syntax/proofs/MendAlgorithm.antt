@@ -11,15 +11,15 @@ use Rattle.pcal_tree.specs.GrammarC.{simple, labelled, Sequence, last_statement}
 use Rattle.pcal_tree.specs.Grammar.{c_syntax, Body, begin_end, braces, body, GoodBody, macro, GoodMacro, procedure, GoodProcedure, unfair, Identity, bare, bracketed, identity, GoodIdentity, Process, process, GoodProcess, head, Define, no_define, define_end, define_braces, define, GoodDefine, Main, begin, block, processes, each, main, GoodMain, to_end, in_braces, around, Text, Good}
 use Rattle.pcal_tree.specs.OpenForms as form
 use Rattle.pcal_tree.specs.OpenForms.{body_opens, identity_opens, process_opens, define_opens, main_opens, opens}
-use Rattle.algorithm_parts.specs.TokenReaders.{Parts, parts_of}
-use Rattle.algorithm_parts.specs.Missing.{PartsMiss, parts_miss}
-use Rattle.algorithm_parts.specs.MissingRoutines.{a_head}
-use Rattle.algorithm_parts.proofs.Sound.{here, sound_next}
-use Rattle.algorithm_parts.proofs.Aheads.{ahead_semicolon, ahead_section, ahead_definitions}
-use Rattle.algorithm_parts.proofs.Mends.{none, Mend, Fill, Mends, MendsAt, IsPart, mends_gives, mends_refuses, mends_bind, mends_next, mends_stays, mends_past, part_mark, part_name}
-use Rattle.algorithm_parts.proofs.MendParts.{MendsParts, parts_mend, some_name, some_phrase, some_good, part_semicolon, part_section, part_definitions, part_bind}
-use Rattle.algorithm_parts.proofs.MendAround.{ahead_head, ahead_each, part_head, last_mends}
-use Rattle.algorithm_parts.proofs.MendRoutines.{AheadWays, MendWays, ahead_macro_whole, ahead_procedure_whole, ahead_process, part_macros, part_procedures, part_define, main_processes_mend}
+use Rattle.algorithm_reader.specs.TokenReaders.{Parts, parts_of}
+use Rattle.algorithm_reader.specs.Missing.{PartsMiss, parts_miss}
+use Rattle.algorithm_reader.specs.MissingRoutines.{a_head}
+use Rattle.algorithm_reader.proofs.Sound.{here, sound_next}
+use Rattle.algorithm_reader.proofs.Aheads.{ahead_semicolon, ahead_section, ahead_definitions}
+use Rattle.algorithm_reader.proofs.Mends.{none, Mend, Fill, Mends, MendsAt, IsPart, mends_gives, mends_refuses, mends_bind, mends_next, mends_stays, mends_past, part_mark, part_name}
+use Rattle.algorithm_reader.proofs.MendParts.{MendsParts, parts_mend, some_name, some_phrase, some_good, part_semicolon, part_section, part_definitions, part_bind}
+use Rattle.algorithm_reader.proofs.MendAround.{ahead_head, ahead_each, part_head, last_mends}
+use Rattle.algorithm_reader.proofs.MendRoutines.{AheadWays, MendWays, ahead_macro_whole, ahead_procedure_whole, ahead_process, part_macros, part_procedures, part_define, main_processes_mend}
 use Rattle.c_syntax.specs.ReadAlgorithm.{read_body, read_identity, define_from, ways, main_by, read_main, read_text, read_algorithm}
 use Rattle.c_syntax.specs.MissingAlgorithm.{a_block, some_definitions, missing_body, an_identity, missing_identity, missing_define_from, ways_miss, missing_main_by, missing_main, a_text, missing_text, missing_algorithm}
 use Rattle.c_syntax.proofs.SoundAlgorithm.{body_sound, identity_sound, ways_sound, by_main_sound, text_sound}

@@ -16,24 +16,24 @@ use Rattle.pcal_tree.specs.GrammarParts as g
 use Rattle.pcal_tree.specs.GrammarC.{Statement, simple, branch, either, with, while, compound, Labelled, labelled, Else, no_else, else_then, Branches, last_branch, more_branches, Sequence, last_statement, more_statements}
 use Rattle.pcal_tree.specs.GrammarC.{statement, labelled_tokens, else_tokens, branches, sequence, labelled_takes_else, labelled_takes_or, Divided, GoodLabelled, GoodSequence}
 use Rattle.pcal_tree.specs.OpenForms.{here, plain, after_binds, simple_opens, c_labelled, c_sequence}
-use Rattle.algorithm_parts.specs.TokenReaders.{Parts}
-use Rattle.algorithm_parts.specs.ReadAround.{with_label}
-use Rattle.algorithm_parts.specs.ReadSimple.{simple_words}
-use Rattle.algorithm_parts.specs.Missing.{Missing, all_of, an_identifier, a_number, PartsMiss}
-use Rattle.algorithm_parts.specs.MissingParts.{a_close, a_value, no_list}
-use Rattle.algorithm_parts.specs.MissingSimple.{missing_simple_words}
-use Rattle.algorithm_parts.proofs.Sound.{sound_pick, sound_stays, sound_refuses}
-use Rattle.algorithm_parts.proofs.SoundSimple.{named_sound, words_sound}
-use Rattle.algorithm_parts.proofs.Aheads.{ahead_semicolon, ahead_labels, ahead_binds, ahead_simple}
-use Rattle.algorithm_parts.proofs.BesideAround.{binds_deep, with_label_opens}
-use Rattle.algorithm_parts.proofs.Mends as mends
-use Rattle.algorithm_parts.proofs.Mends.{Fill, Mends, MendsAt, IsPart, AllMend, filled, refilled, mends_gives, mends_refuses, mends_on, mends_bind, mends_then, mends_same, mends_next, mends_stays, mends_past, mends_pick, mends_fits, part_mark}
-use Rattle.algorithm_parts.proofs.MendParts.{MendsParts, part_colon, part_binds}
-use Rattle.algorithm_parts.proofs.MendSimple.{named_mends, words_mend}
-use Rattle.algorithm_parts.proofs.WithLabel.{with_label_tokens}
+use Rattle.algorithm_reader.specs.TokenReaders.{Parts}
+use Rattle.algorithm_reader.specs.ReadAround.{with_label}
+use Rattle.algorithm_reader.specs.ReadSimple.{simple_words}
+use Rattle.algorithm_reader.specs.Missing.{Missing, all_of, an_identifier, a_number, PartsMiss}
+use Rattle.algorithm_reader.specs.MissingParts.{a_close, a_value, no_list}
+use Rattle.algorithm_reader.specs.MissingSimple.{missing_simple_words}
+use Rattle.algorithm_reader.proofs.Sound.{sound_pick, sound_stays, sound_refuses}
+use Rattle.algorithm_reader.proofs.SoundSimple.{named_sound, words_sound}
+use Rattle.algorithm_reader.proofs.Aheads.{ahead_semicolon, ahead_labels, ahead_binds, ahead_simple}
+use Rattle.algorithm_reader.proofs.BesideAround.{binds_deep, with_label_opens}
+use Rattle.algorithm_reader.proofs.Mends as mends
+use Rattle.algorithm_reader.proofs.Mends.{Fill, Mends, MendsAt, IsPart, AllMend, filled, refilled, mends_gives, mends_refuses, mends_on, mends_bind, mends_then, mends_same, mends_next, mends_stays, mends_past, mends_pick, mends_fits, part_mark}
+use Rattle.algorithm_reader.proofs.MendParts.{MendsParts, part_colon, part_binds}
+use Rattle.algorithm_reader.proofs.MendSimple.{named_mends, words_mend}
+use Rattle.algorithm_reader.proofs.WithLabel.{with_label_tokens}
 use Rattle.c_syntax.specs.ReadStatements.{Before, none, after, Arms, first_arm, later_arm, Test, if_test, Opening, with_opening, while_opening, Stack, bottom, in_block, in_then, in_else, in_body, in_either, State, begin, ended, Turn, on, done, with_before, joined, tested}
 use Rattle.c_syntax.specs.ReadStatements.{depth, before_or, opens, either_if, after_name, bracketed, statement_words, statement_by, ask_else, ask_or, ask_other, closed, takes_else, takes_or, closing_words, is_divided, another_if, list_by, ended_by, step, turned, run, read_sequence, closing, rest}
-use Rattle.algorithm_parts.specs.MissingSimple.{a_skip}
+use Rattle.algorithm_reader.specs.MissingSimple.{a_skip}
 use Rattle.c_syntax.specs.MissingStatements.{an_else, missing_bracketed, missing_statement_words, missing_after_name, missing_statement_by, missing_another_by, missing_list_by, missing_closing_words, missing_ended_by, missing_step, missing_turned, missing_run, missing_sequence}
 use Rattle.c_syntax.proofs.SoundStatements.{before, arms, test, opening, stack, passed, turn, GoodStack, GoodState, GoodTurn, with_before_tokens, with_before_good, joined_tokens, joined_good, joined_takes_else, AllFound, closes, at, divides, step_sound, sequence_sound}
 use Rattle.c_syntax.proofs.BesideStatements.{stack_opens, with_before_opens, joined_opens, tested_opens}

@@ -8,7 +8,7 @@ use Rattle.tla_tree.specs.Reader.{tail}
 use Rattle.pcal_tree.specs.Algorithm.{Algorithm}
 use Rattle.pcal_tree.specs.GrammarParts.{name, key, mark, Section, no_section, section, section_tokens}
 use Rattle.pcal_tree.specs.Grammar.{p_syntax, c_syntax, Macro, macro, Procedure, procedure, Fair, unfair, weak, strong, fair, Head, algorithm, fair_algorithm, head, Define, no_define, define_end, define_braces, define, GoodDefine, Main, begin, block, processes, main, GoodMain, each, Around, to_end, in_braces, around, GoodAround, Text, spell, Good, SpellsP, SpellsC}
-use Rattle.algorithm_parts.specs.TokenReaders.{first}
+use Rattle.algorithm_reader.specs.TokenReaders.{first}
 
 abbrev is_brace : TokenView → Bool
 is_brace (tk.mark tk.open_brace) = true

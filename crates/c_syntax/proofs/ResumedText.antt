@@ -6,12 +6,12 @@ use Rattle.tla_tree.specs.Lexical.{Token, open_brace}
 use Rattle.tla_tree.specs.Reader.{Out, Reader, ◌>>=◌, gives, then_read}
 use Rattle.pcal_tree.specs.GrammarParts.{name, key, mark, no_labels, Section, MacroParameters, ProcedureParameters}
 use Rattle.pcal_tree.specs.Grammar.{Body, Macro, Procedure, Fair, unfair, weak, strong, fair, Identity, Process, Main, processes, Text}
-use Rattle.algorithm_parts.specs.TokenReaders.{a_mark, a_name, Parts}
-use Rattle.algorithm_parts.specs.ReadParts.{read_section, read_macro_parameters, read_procedure_parameters}
-use Rattle.algorithm_parts.specs.ReadAround.{read_head}
-use Rattle.algorithm_parts.specs.ReadRoutines.{read_process, read_define, read_macros, read_procedures, read_processes}
-use Rattle.algorithm_parts.specs.Owners.{in_macro, in_procedure, in_process, main_of}
-use Rattle.algorithm_parts.proofs.OneAfter.{then_assoc, then_same, more_then, made_then, main_moved}
+use Rattle.algorithm_reader.specs.TokenReaders.{a_mark, a_name, Parts}
+use Rattle.algorithm_reader.specs.ReadParts.{read_section, read_macro_parameters, read_procedure_parameters}
+use Rattle.algorithm_reader.specs.ReadAround.{read_head}
+use Rattle.algorithm_reader.specs.ReadRoutines.{read_process, read_define, read_macros, read_procedures, read_processes}
+use Rattle.algorithm_reader.specs.Owners.{in_macro, in_procedure, in_process, main_of}
+use Rattle.algorithm_reader.proofs.OneAfter.{then_assoc, then_same, more_then, made_then, main_moved}
 use Rattle.c_syntax.specs.ReadStatements.{State, none, bottom}
 use Rattle.c_syntax.specs.ReadStatements as machine
 use Rattle.c_syntax.specs.ReadAlgorithm.{ways, read_identity, read_text}

@@ -12,7 +12,7 @@ use Rattle.tla_tree.specs.Reader.{Out, readers}
 use Rattle.pcal_tree.specs.GrammarParts.{Labels, no_labels}
 use Rattle.pcal_tree.specs.GrammarParts as part
 use Rattle.pcal_tree.specs.GrammarC.{Statement, Labelled, labelled, Sequence, sequence, simple, branch, either, with, while, compound, no_else, else_then, last_branch, more_branches, last_statement, more_statements}
-use Rattle.algorithm_parts.specs.TokenReaders.{parts_of}
+use Rattle.algorithm_reader.specs.TokenReaders.{parts_of}
 use Rattle.c_syntax.specs.ReadStatements.{read_sequence}
 
 abbrev at : ℕ → Place

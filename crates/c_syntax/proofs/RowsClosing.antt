@@ -9,7 +9,7 @@ use Rattle.tla_tree.specs.Spelling as spelled
 use Rattle.tla_tree.specs.Reader.{readers}
 use Rattle.pcal_tree.specs.GrammarParts.{word, no_labels, last_bind, bind, by_comma, skip, key, mark}
 use Rattle.pcal_tree.specs.GrammarC.{Labelled, labelled, Sequence, simple, branch, either, else_then, last_branch, last_statement}
-use Rattle.algorithm_parts.specs.TokenReaders.{Parts, parts_of}
+use Rattle.algorithm_reader.specs.TokenReaders.{Parts, parts_of}
 use Rattle.c_syntax.specs.ReadStatements.{on, step, none, first_arm, later_arm, Test, if_test, with_opening, Stack, bottom, in_block, in_then, in_else, in_body, in_either, begin, ended, run, AreApart, closing, rest, depth}
 
 abbrev at : Place

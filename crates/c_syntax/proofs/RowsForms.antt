@@ -13,7 +13,7 @@ use Rattle.pcal_tree.specs.GrammarParts as part
 use Rattle.pcal_tree.specs.GrammarC.{labelled, Sequence, simple, last_statement}
 use Rattle.pcal_tree.specs.Grammar.{Text, spell}
 use Rattle.pcal_tree.specs.Grammar as g
-use Rattle.algorithm_parts.specs.TokenReaders.{parts_of}
+use Rattle.algorithm_reader.specs.TokenReaders.{parts_of}
 use Rattle.c_syntax.specs.ReadAlgorithm.{read_algorithm}
 use Rattle.c_syntax.specs.Around.{frames}
 

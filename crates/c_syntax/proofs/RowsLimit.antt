@@ -7,7 +7,7 @@ use Rattle.tla_tree.specs.Tree.{Word}
 use Rattle.tla_tree.specs.Lexical.{Mark, TokenView, Token, token}
 use Rattle.tla_tree.specs.Lexical as tk
 use Rattle.pcal_tree.specs.GrammarParts.{no_labels}
-use Rattle.algorithm_parts.specs.Owners.{in_main}
+use Rattle.algorithm_reader.specs.Owners.{in_main}
 use Rattle.c_syntax.specs.ReadStatements.{begin, none, bottom, in_block, in_either, first_arm}
 use Rattle.c_syntax.specs.Resume.{rest_of_all}
 use Rattle.c_syntax.specs.ReadAlgorithm.{read_algorithm, read_limited_algorithm}

@@ -9,9 +9,9 @@ use Rattle.tla_tree.specs.Reader.{readers}
 use Rattle.tla_tree.specs.Wanted.{an_x, mark_at, number_at}
 use Rattle.tla_tree.specs.NeedsLists.{needs}
 use Rattle.pcal_tree.specs.GrammarParts.{word, key, mark}
-use Rattle.algorithm_parts.specs.Missing.{an_equal}
-use Rattle.algorithm_parts.specs.MissingParts.{a_close, no_list}
-use Rattle.algorithm_parts.specs.MissingSimple.{a_skip}
+use Rattle.algorithm_reader.specs.Missing.{an_equal}
+use Rattle.algorithm_reader.specs.MissingParts.{a_close, no_list}
+use Rattle.algorithm_reader.specs.MissingSimple.{a_skip}
 use Rattle.c_syntax.specs.MissingStatements.{an_else}
 use Rattle.c_syntax.specs.Resume.{closing_brace, end_rest}
 use Rattle.c_syntax.specs.MissingAlgorithm.{a_block, completion}

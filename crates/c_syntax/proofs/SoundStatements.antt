@@ -10,13 +10,13 @@ use Rattle.tla_tree.specs.Reader.{Reader, refuses}
 use Rattle.pcal_tree.specs.GrammarParts.{name, key, mark, maybe_semicolon, Labels, no_labels, labels, binds, GoodBinds}
 use Rattle.pcal_tree.specs.GrammarC.{simple, branch, with, while, compound, Labelled, labelled, no_else, else_then, Branches, last_branch, more_branches, Sequence, last_statement, more_statements}
 use Rattle.pcal_tree.specs.GrammarC.{labelled_tokens, branches, sequence, labelled_takes_else, labelled_takes_or, branches_take_else, Divided, GoodLabelled, GoodBranches, GoodSequence}
-use Rattle.algorithm_parts.specs.TokenReaders.{Parts, pick}
-use Rattle.algorithm_parts.specs.ReadSimple.{simple_words}
-use Rattle.algorithm_parts.proofs.Sound.{Sound, SoundAt, here, AllSound, sound_gives, sound_refuses, sound_bind, sound_after, sound_next, sound_stays, sound_past, sound_then, sound_same, sound_pick, sound_mark, sound_fits, is_other}
-use Rattle.algorithm_parts.proofs.SoundParts.{SoundParts, colon_sound, binds_sound}
-use Rattle.algorithm_parts.proofs.SoundSimple.{named_sound, words_sound}
-use Rattle.algorithm_parts.specs.ReadAround.{with_label, within}
-use Rattle.algorithm_parts.proofs.WithLabel.{with_label_tokens}
+use Rattle.algorithm_reader.specs.TokenReaders.{Parts, pick}
+use Rattle.algorithm_reader.specs.ReadSimple.{simple_words}
+use Rattle.algorithm_reader.proofs.Sound.{Sound, SoundAt, here, AllSound, sound_gives, sound_refuses, sound_bind, sound_after, sound_next, sound_stays, sound_past, sound_then, sound_same, sound_pick, sound_mark, sound_fits, is_other}
+use Rattle.algorithm_reader.proofs.SoundParts.{SoundParts, colon_sound, binds_sound}
+use Rattle.algorithm_reader.proofs.SoundSimple.{named_sound, words_sound}
+use Rattle.algorithm_reader.specs.ReadAround.{with_label, within}
+use Rattle.algorithm_reader.proofs.WithLabel.{with_label_tokens}
 use Rattle.c_syntax.specs.ReadStatements.{Before, none, after, Arms, first_arm, later_arm, Test, if_test, Opening, with_opening, while_opening, Stack, bottom, in_block, in_then, in_else, in_body, in_either, State, begin, ended, Turn, on, done, with_before, joined, tested, opened, depth}
 use Rattle.c_syntax.specs.ReadStatements.{before_or, opens, either_if, ends_simple, after_name, bracketed, statement_words, statement_by, Ask, ask_else, ask_or, ask_other, closed, takes_else, takes_or, closing_words, is_divided, another_if, list_by, ended_by, step, turned, run, read_sequence}
 

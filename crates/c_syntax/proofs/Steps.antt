@@ -6,8 +6,8 @@ use Rattle.tla_tree.specs.Lexical.{TokenView, Token}
 use Rattle.tla_tree.specs.Lexical as tk
 use Rattle.tla_tree.specs.Pool.{Keeps}
 use Rattle.tla_tree.specs.Reader.{Out, Reader, then_read, refuses}
-use Rattle.expression_parts.specs.declared.cursor.Halt.{Halt}
-use Rattle.expression_parts.specs.ReadIn.{Fails}
+use Rattle.expr_nodes.specs.declared.cursor.Halt.{Halt}
+use Rattle.expr_nodes.specs.ReadIn.{Fails}
 use Rattle.pcal_tree.specs.declared.mark.Mark.{Mark}
 use Rattle.pcal_tree.specs.declared.algorithm.Span.{Span}
 use Rattle.pcal_tree.specs.declared.algorithm.Simple as declared_simple
@@ -20,15 +20,15 @@ use Rattle.pcal_tree.proofs.InMemoryEach.{label_at, past_label, simple_in_list_a
 use Rattle.pcal_tree.proofs.InMemoryGrown.{binds_at-kept}
 use Rattle.pcal_tree.specs.GrammarParts.{span, Colon, Labels, no_labels, Simple, simple_tokens, simple_tree, GoodSimple}
 use Rattle.pcal_tree.specs.GrammarC.{labelled, simple}
-use Rattle.algorithm_parts.specs.TokenReaders.{Parts}
-use Rattle.algorithm_parts.specs.ReadAround.{with_label}
-use Rattle.algorithm_parts.specs.ReadSimple.{simple_words}
-use Rattle.algorithm_parts.specs.PartsRead.{mark_of}
-use Rattle.algorithm_parts.specs.SimpleRead.{simple_by, simple_reader}
-use Rattle.algorithm_parts.proofs.Sound.{Sound, SoundAt, here, sound_refuses, sound_next, sound_stays, sound_past, sound_pick}
-use Rattle.algorithm_parts.proofs.SoundParts.{SoundParts}
-use Rattle.algorithm_parts.proofs.SoundSimple.{named_sound, words_sound}
-use Rattle.algorithm_parts.proofs.StatementSteps.{label_mark}
+use Rattle.algorithm_reader.specs.TokenReaders.{Parts}
+use Rattle.algorithm_reader.specs.ReadAround.{with_label}
+use Rattle.algorithm_reader.specs.ReadSimple.{simple_words}
+use Rattle.algorithm_reader.specs.PartsRead.{mark_of}
+use Rattle.algorithm_reader.specs.SimpleRead.{simple_by, simple_reader}
+use Rattle.algorithm_reader.proofs.Sound.{Sound, SoundAt, here, sound_refuses, sound_next, sound_stays, sound_past, sound_pick}
+use Rattle.algorithm_reader.proofs.SoundParts.{SoundParts}
+use Rattle.algorithm_reader.proofs.SoundSimple.{named_sound, words_sound}
+use Rattle.algorithm_reader.proofs.StatementSteps.{label_mark}
 use Rattle.c_syntax.specs.ReadStatements as reader
 use Rattle.c_syntax.specs.ReadStatements.{Stack, none, bottom, in_block, in_then, in_else, in_body, in_either, if_test, with_opening, while_opening, first_arm, depth}
 use Rattle.c_syntax.specs.declared.open.Frame.{Frame}

@@ -6,7 +6,7 @@ use Rattle.c_syntax.proofs.SoundAlgorithm.{read_is_spelled}
 use Rattle.c_syntax.proofs.WholeAlgorithm.{text_read}
 use Rattle.c_syntax.proofs.FairAlgorithm.{none_through, unspelled}
 use Rattle.c_syntax.proofs.MendAlgorithm.{refused_is_mended}
-use Rattle.algorithm_parts.proofs.StopsOf.{ReadsAll}
+use Rattle.algorithm_reader.proofs.StopsOf.{ReadsAll}
 
 unfoldable pub reads_all : ReadsAll c_syntax read_algorithm
 reads_all = record { spelled = read_is_spelled; through = none_through; unspelled = unspelled; again = text_read; missing = missing_algorithm; mended = refused_is_mended }

@@ -5,9 +5,9 @@ use Rattle.tla_tree.specs.Lexical.{Token}
 use Rattle.tla_tree.specs.Reader.{Out}
 use Rattle.tla_tree.proofs.Alike.{Alike, fair_bind}
 use Rattle.pcal_tree.specs.Grammar.{c_syntax, Text}
-use Rattle.algorithm_parts.specs.TokenReaders.{limited_parts}
-use Rattle.algorithm_parts.proofs.FairAround.{last_fair}
-use Rattle.algorithm_parts.proofs.StopsWithin.{ReadsWithin, limited_fair, same_refusal}
+use Rattle.algorithm_reader.specs.TokenReaders.{limited_parts}
+use Rattle.algorithm_reader.proofs.FairAround.{last_fair}
+use Rattle.algorithm_reader.proofs.StopsWithin.{ReadsWithin, limited_fair, same_refusal}
 use Rattle.c_syntax.specs.ReadAlgorithm.{read_algorithm, read_limited_algorithm}
 use Rattle.c_syntax.proofs.FairAlgorithm.{text_fair}
 use Rattle.c_syntax.proofs.BesideAlgorithm.{beside}

@@ -3,16 +3,16 @@ use Rattle.std.proofs.Common.{◌≡◌, ℕ, suc, ◌*◌, true, List, length, 
 use Rattle.tla_token.specs.declared.token.Tokens.{Tokens}
 use Rattle.tla_tree.specs.Lexical.{Token, open_brace, close_brace}
 use Rattle.tla_tree.specs.Reader.{Out, then_read, gives}
-use Rattle.expression_parts.specs.Ahead.{ahead}
+use Rattle.expr_nodes.specs.Ahead.{ahead}
 use Rattle.pcal_tree.specs.Grammar.{in_braces, Text}
-use Rattle.algorithm_parts.specs.TokenReaders.{a_mark, a_name, Parts, limited_parts}
-use Rattle.algorithm_parts.specs.ReadParts.{read_section}
-use Rattle.algorithm_parts.specs.ReadAround.{read_head, to_last}
-use Rattle.algorithm_parts.specs.ReadRoutines.{read_define, read_macros, read_procedures}
-use Rattle.algorithm_parts.specs.PartsRead.{parts_in}
-use Rattle.algorithm_parts.proofs.Between.{ahead_length}
-use Rattle.algorithm_parts.proofs.OneAfter.{then_same, then_assoc}
-use Rattle.routine_parts.specs.ReadWhole.{read_whole}
+use Rattle.algorithm_reader.specs.TokenReaders.{a_mark, a_name, Parts, limited_parts}
+use Rattle.algorithm_reader.specs.ReadParts.{read_section}
+use Rattle.algorithm_reader.specs.ReadAround.{read_head, to_last}
+use Rattle.algorithm_reader.specs.ReadRoutines.{read_define, read_macros, read_procedures}
+use Rattle.algorithm_reader.specs.PartsRead.{parts_in}
+use Rattle.algorithm_reader.proofs.Between.{ahead_length}
+use Rattle.algorithm_reader.proofs.OneAfter.{then_same, then_assoc}
+use Rattle.algorithm_reader.specs.ReadWhole.{read_whole}
 use Rattle.c_syntax.specs.ReadAlgorithm.{ways, read_main, read_text, read_limited_algorithm}
 use Rattle.c_syntax.specs.Around.{frames}
 

@@ -13,15 +13,15 @@ use Rattle.pcal_tree.specs.GrammarParts as g
 use Rattle.pcal_tree.specs.Grammar.{c_syntax, Body, begin_end, braces, body, GoodBody, Macro, macro, GoodMacro, Procedure, procedure, GoodProcedure, Fair, unfair, weak, strong, fair, Identity, bare, bracketed, identity, GoodIdentity, Process, process, GoodProcess, Head, algorithm, fair_algorithm, head, Define, no_define, define_end, define_braces, define, GoodDefine, Main, begin, block, processes, each, main, GoodMain, Around, to_end, in_braces, around, GoodAround, Text, Good}
 use Rattle.pcal_tree.specs.Grammar as gr
 use Rattle.pcal_tree.specs.Algorithm.{Algorithm}
-use Rattle.algorithm_parts.specs.TokenReaders.{Parts, parts_of, first, by_next}
-use Rattle.algorithm_parts.specs.ReadParts.{section_by}
-use Rattle.algorithm_parts.proofs.Whole.{Fits, smaller, less, then_is, WholeParts, parts_whole}
-use Rattle.algorithm_parts.proofs.WholeParts.{macro_parameters_whole, procedure_parameters_whole, signed}
-use Rattle.algorithm_parts.proofs.Lengths.{Grows, GrowsMore, grow_semicolon, grow_section, grow_macro, grow_procedure, grow_phrase, grow_definitions}
-use Rattle.algorithm_parts.specs.ReadAround.{read_head}
-use Rattle.algorithm_parts.specs.ReadRoutines.{read_macro, read_procedure, read_process, macros_by, read_macros, procedures_by, read_procedures, processes_by, read_processes, define_by, read_define}
+use Rattle.algorithm_reader.specs.TokenReaders.{Parts, parts_of, first, by_next}
+use Rattle.algorithm_reader.specs.ReadParts.{section_by}
+use Rattle.algorithm_reader.proofs.Whole.{Fits, smaller, less, then_is, WholeParts, parts_whole}
+use Rattle.algorithm_reader.proofs.WholeParts.{macro_parameters_whole, procedure_parameters_whole, signed}
+use Rattle.algorithm_reader.proofs.Lengths.{Grows, GrowsMore, grow_semicolon, grow_section, grow_macro, grow_procedure, grow_phrase, grow_definitions}
+use Rattle.algorithm_reader.specs.ReadAround.{read_head}
+use Rattle.algorithm_reader.specs.ReadRoutines.{read_macro, read_procedure, read_process, macros_by, read_macros, procedures_by, read_procedures, processes_by, read_processes, define_by, read_define}
 use Rattle.c_syntax.specs.ReadAlgorithm.{read_body, read_identity, ways, read_main, read_text, read_algorithm}
-use Rattle.algorithm_parts.proofs.WholeEnds.{is_end_next, semicolon_ends, section_ends, definitions_end}
+use Rattle.algorithm_reader.proofs.WholeEnds.{is_end_next, semicolon_ends, section_ends, definitions_end}
 use Rattle.c_syntax.proofs.Lengths.{grow_sequence}
 use Rattle.c_syntax.proofs.WholeStatements.{sequence_whole}
 

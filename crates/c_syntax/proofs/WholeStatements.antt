@@ -11,17 +11,17 @@ use Rattle.pcal_tree.specs.GrammarParts.{name, key, mark, semicolon, maybe_semic
 use Rattle.pcal_tree.specs.GrammarParts as g
 use Rattle.pcal_tree.specs.GrammarC.{Statement, simple, branch, either, with, while, compound, Labelled, labelled, no_else, else_then, Branches, last_branch, more_branches, Sequence, last_statement, more_statements}
 use Rattle.pcal_tree.specs.GrammarC.{statement, labelled_tokens, branches, sequence, branches_end_in_block, branches_take_else, takes_or, labelled_takes_or, Divided, GoodStatement, GoodLabelled, GoodBranches, GoodSequence}
-use Rattle.algorithm_parts.specs.TokenReaders.{first, Parts}
-use Rattle.algorithm_parts.proofs.Whole.{Fits, smaller, then_is, WholeParts}
-use Rattle.algorithm_parts.proofs.WholeSimple.{root, first_left, after_first, assignment_tokens, assignment_next, is_left_next, arguments_whole}
-use Rattle.algorithm_parts.proofs.Lengths.{grow_phrase, grow_colon, grow_binds, grow_simple}
-use Rattle.algorithm_parts.specs.ReadAround.{with_label}
+use Rattle.algorithm_reader.specs.TokenReaders.{first, Parts}
+use Rattle.algorithm_reader.proofs.Whole.{Fits, smaller, then_is, WholeParts}
+use Rattle.algorithm_reader.proofs.WholeSimple.{root, first_left, after_first, assignment_tokens, assignment_next, is_left_next, arguments_whole}
+use Rattle.algorithm_reader.proofs.Lengths.{grow_phrase, grow_colon, grow_binds, grow_simple}
+use Rattle.algorithm_reader.specs.ReadAround.{with_label}
 use Rattle.c_syntax.specs.ReadStatements.{depth, Before, none, after, Arms, first_arm, later_arm, Test, if_test, with_opening, while_opening, Stack, bottom, in_block, in_then, in_else, in_body, in_either, State, begin, ended, Turn, on, with_before, joined, before_or, either_if, after_name, statement_by, ask_other, closed}
 use Rattle.c_syntax.specs.ReadStatements.{list_by, ended_by, step, turned, run, read_sequence}
 use Rattle.c_syntax.proofs.Behind.{ask_of, ask_at, Quiet, QuietStatement, QuietLabelled, quiet_else, quiet_or, quiet_other, else_asks, else_divides, branches_ask, branches_divide, brace_asks, brace_divides, Starts, start_statement, start_labels, start_sequence, start_asks, start_divides, divided}
 use Rattle.c_syntax.proofs.Elsewhere.{word_taken, then_ends, either_ends, same_run}
-use Rattle.algorithm_parts.proofs.WholeEnds.{is_divider_next, next_calm, is_statement_start, colon_ends, binds_end}
-use Rattle.algorithm_parts.proofs.WholeAssign.{assign_ends}
+use Rattle.algorithm_reader.proofs.WholeEnds.{is_divider_next, next_calm, is_statement_start, colon_ends, binds_end}
+use Rattle.algorithm_reader.proofs.WholeAssign.{assign_ends}
 
 -- ---- labels
 append : Labels → Labels → Labels

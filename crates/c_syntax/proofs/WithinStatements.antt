@@ -15,21 +15,21 @@ use Rattle.pcal_tree.specs.GrammarParts.{name, key, mark, semicolon, maybe_semic
 use Rattle.pcal_tree.specs.GrammarParts as g
 use Rattle.pcal_tree.specs.GrammarC.{simple, branch, either, with, while, compound, Labelled, labelled, else_then, last_branch, more_branches, Sequence, last_statement, labelled_tokens, sequence, labelled_takes_else, labelled_takes_or, Divided, GoodLabelled, GoodSequence}
 use Rattle.pcal_tree.specs.OpenForms.{here, plain, expression_opens, after_binds, c_labelled, c_sequence}
-use Rattle.algorithm_parts.specs.TokenReaders.{limited_parts, pick}
-use Rattle.algorithm_parts.specs.ReadAround.{with_label}
-use Rattle.algorithm_parts.specs.ReadSimple.{simple_words}
-use Rattle.algorithm_parts.proofs.Sound.{sound_pick, sound_stays, sound_refuses}
-use Rattle.algorithm_parts.proofs.SoundSimple.{named_sound, words_sound}
-use Rattle.algorithm_parts.proofs.Aheads.{ahead_simple}
-use Rattle.algorithm_parts.proofs.WithLabel.{with_label_tokens}
-use Rattle.algorithm_parts.proofs.Beside.{Sits, sits_on, sits_here, beside_pick, beside_stays, beside_refuses}
-use Rattle.algorithm_parts.proofs.BesideAround.{sits_moved, binds_sit, with_label_opens}
-use Rattle.algorithm_parts.proofs.BesideParts.{unlimited_parts}
-use Rattle.algorithm_parts.proofs.BesideSimple.{beside_named, beside_words}
-use Rattle.algorithm_parts.proofs.Lower.{lowered_ends}
-use Rattle.algorithm_parts.proofs.Within.{Filled, Ends, EndsAt, Part, AllEnd, fits_of, here_filled, ends_gives, ends_refuses, ends_after, ends_bind, ends_then, ends_next, ends_stays, ends_past, ends_opened, ends_same, ends_pick, ends_moved, mark_part}
-use Rattle.algorithm_parts.proofs.WithinParts.{limited_sound, expr_part, colon_part, binds_part}
-use Rattle.algorithm_parts.proofs.WithinSimple.{named_ends, words_end}
+use Rattle.algorithm_reader.specs.TokenReaders.{limited_parts, pick}
+use Rattle.algorithm_reader.specs.ReadAround.{with_label}
+use Rattle.algorithm_reader.specs.ReadSimple.{simple_words}
+use Rattle.algorithm_reader.proofs.Sound.{sound_pick, sound_stays, sound_refuses}
+use Rattle.algorithm_reader.proofs.SoundSimple.{named_sound, words_sound}
+use Rattle.algorithm_reader.proofs.Aheads.{ahead_simple}
+use Rattle.algorithm_reader.proofs.WithLabel.{with_label_tokens}
+use Rattle.algorithm_reader.proofs.Beside.{Sits, sits_on, sits_here, beside_pick, beside_stays, beside_refuses}
+use Rattle.algorithm_reader.proofs.BesideAround.{sits_moved, binds_sit, with_label_opens}
+use Rattle.algorithm_reader.proofs.BesideParts.{unlimited_parts}
+use Rattle.algorithm_reader.proofs.BesideSimple.{beside_named, beside_words}
+use Rattle.algorithm_reader.proofs.Lower.{lowered_ends}
+use Rattle.algorithm_reader.proofs.Within.{Filled, Ends, EndsAt, Part, AllEnd, fits_of, here_filled, ends_gives, ends_refuses, ends_after, ends_bind, ends_then, ends_next, ends_stays, ends_past, ends_opened, ends_same, ends_pick, ends_moved, mark_part}
+use Rattle.algorithm_reader.proofs.WithinParts.{limited_sound, expr_part, colon_part, binds_part}
+use Rattle.algorithm_reader.proofs.WithinSimple.{named_ends, words_end}
 use Rattle.c_syntax.specs.ReadStatements.{none, after, first_arm, later_arm, if_test, with_opening, while_opening, Stack, bottom, in_block, in_then, in_else, in_body, in_either, depth, State, begin, ended, Turn, on, done, with_before, joined}
 use Rattle.c_syntax.specs.ReadStatements.{before_or, opens, either_if, ends_simple, after_name, statement_words, statement_by, ask_else, ask_or, ask_other, closed, takes_else, takes_or, closing_words, is_divided, another_if, list_by, ended_by, step, turned, run, read_sequence}
 use Rattle.c_syntax.proofs.SoundStatements.{stack, passed, turn, at, GoodStack, GoodState, GoodTurn, with_before_tokens, with_before_good, joined_tokens, joined_good, joined_takes_else, AllFound, closes, divides, step_sound, sequence_sound}

@@ -6,12 +6,12 @@ use Rattle.tla_tree.specs.Tree.{Tree}
 use Rattle.tla_tree.specs.Lexical.{TokenView}
 use Rattle.tla_tree.specs.Lexical as tk
 use Rattle.tla_tree.specs.Reader.{Reader, Out, gives, refuses, skip, is_mark}
-use Rattle.expression_parts.specs.declared.cursor.Halt.{Halt}
-use Rattle.expression_parts.specs.ReadIn.{Told}
-use Rattle.expression_parts.specs.Ahead.{ahead}
+use Rattle.expr_nodes.specs.declared.cursor.Halt.{Halt}
+use Rattle.expr_nodes.specs.ReadIn.{Told}
+use Rattle.expr_nodes.specs.Ahead.{ahead}
 use Rattle.pcal_tree.specs.GrammarC.{Labelled}
-use Rattle.algorithm_parts.specs.TokenReaders.{by_next, Parts}
-use Rattle.algorithm_parts.specs.PartsRead.{parts_in, StepLess}
+use Rattle.algorithm_reader.specs.TokenReaders.{by_next, Parts}
+use Rattle.algorithm_reader.specs.PartsRead.{parts_in, StepLess}
 use Rattle.c_syntax.specs.ReadStatements.{Stack, ask_else, ask_or, ask_other, closed, takes_else, takes_or, is_divided, list_by, ended_by, opens, on, done}
 use Rattle.c_syntax.specs.ReadStatements as reader
 use Rattle.c_syntax.specs.Takes.{another_taken}

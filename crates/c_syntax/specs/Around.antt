@@ -2,8 +2,8 @@
 use Rattle.tla_tree.specs.Lexical as tk
 use Rattle.tla_tree.specs.Reader.{◌>>=◌, gives}
 use Rattle.pcal_tree.specs.Grammar.{in_braces}
-use Rattle.algorithm_parts.specs.TokenReaders.{a_mark, Parts}
-use Rattle.routine_parts.specs.ReadWhole.{Frames}
+use Rattle.algorithm_reader.specs.TokenReaders.{a_mark, Parts}
+use Rattle.algorithm_reader.specs.ReadWhole.{Frames}
 use Rattle.c_syntax.specs.ReadAlgorithm.{read_main}
 
 -- braces; and what is read within them where the parts end

@@ -8,12 +8,12 @@ use Rattle.tla_tree.specs.Lexical as tk
 use Rattle.tla_tree.specs.Reader.{Reader, refuses}
 use Rattle.pcal_tree.specs.GrammarParts.{key, no_labels}
 use Rattle.pcal_tree.specs.GrammarC.{Labelled}
-use Rattle.algorithm_parts.specs.TokenReaders.{pick, Parts}
-use Rattle.algorithm_parts.specs.ReadParts.{read_colon, read_binds}
-use Rattle.algorithm_parts.specs.ReadSimple.{named_by, simple_words}
-use Rattle.algorithm_parts.specs.Missing.{Missing, then_misses, goes_on_missing, by_next_misses, past_misses, all_of, an_identifier, a_number, mark_then, PartsMiss}
-use Rattle.algorithm_parts.specs.MissingParts.{a_close, a_value, missing_colon, missing_binds}
-use Rattle.algorithm_parts.specs.MissingSimple.{a_skip, missing_named, missing_simple_words}
+use Rattle.algorithm_reader.specs.TokenReaders.{pick, Parts}
+use Rattle.algorithm_reader.specs.ReadParts.{read_colon, read_binds}
+use Rattle.algorithm_reader.specs.ReadSimple.{named_by, simple_words}
+use Rattle.algorithm_reader.specs.Missing.{Missing, then_misses, goes_on_missing, by_next_misses, past_misses, all_of, an_identifier, a_number, mark_then, PartsMiss}
+use Rattle.algorithm_reader.specs.MissingParts.{a_close, a_value, missing_colon, missing_binds}
+use Rattle.algorithm_reader.specs.MissingSimple.{a_skip, missing_named, missing_simple_words}
 use Rattle.c_syntax.specs.ReadStatements.{none, after, Stack, bottom, in_block, State, begin, ended, Turn, on, done, depth, ask_other, closed, is_divided, step, closing, rest}
 
 -- `else skip`

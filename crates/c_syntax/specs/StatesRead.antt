@@ -13,15 +13,15 @@ use Rattle.pcal_tree.specs.Algorithm as tree
 use Rattle.pcal_tree.specs.InMemory.{stmt_at, statements_at, binds_at, past_statements, past_binds, past_branches}
 use Rattle.pcal_tree.specs.GrammarParts.{last_place, Labels, with_labels, binds_of}
 use Rattle.pcal_tree.specs.GrammarC.{Labelled, labelled_tokens, labelled_ends_in_block, flat, statements}
-use Rattle.expression_parts.specs.declared.cursor.Halt.{Halt}
-use Rattle.expression_parts.specs.ReadIn.{Told}
-use Rattle.expression_parts.specs.Ahead.{ahead}
-use Rattle.algorithm_parts.specs.StatementsRead.{is_none}
-use Rattle.algorithm_parts.specs.TokenReaders.{by_next, a_name, pick, Parts}
-use Rattle.algorithm_parts.specs.PartsRead.{StandsFor, parts_in, StepLess}
-use Rattle.algorithm_parts.specs.SimpleRead.{simple_reader}
-use Rattle.algorithm_parts.specs.ReadParts.{read_colon}
-use Rattle.algorithm_parts.specs.ReadAround.{with_label, within}
+use Rattle.expr_nodes.specs.declared.cursor.Halt.{Halt}
+use Rattle.expr_nodes.specs.ReadIn.{Told}
+use Rattle.expr_nodes.specs.Ahead.{ahead}
+use Rattle.algorithm_reader.specs.StatementsRead.{is_none}
+use Rattle.algorithm_reader.specs.TokenReaders.{by_next, a_name, pick, Parts}
+use Rattle.algorithm_reader.specs.PartsRead.{StandsFor, parts_in, StepLess}
+use Rattle.algorithm_reader.specs.SimpleRead.{simple_reader}
+use Rattle.algorithm_reader.specs.ReadParts.{read_colon}
+use Rattle.algorithm_reader.specs.ReadAround.{with_label, within}
 use Rattle.c_syntax.specs.ReadStatements as reader
 use Rattle.c_syntax.specs.ReadStatements.{Before, none, after, Arms, first_arm, later_arm, if_test, with_opening, while_opening, Stack, bottom, in_block, in_then, in_else, in_body, in_either, depth, opens, ends_simple, statement_words, statement_by}
 use Rattle.c_syntax.specs.declared.open.Begun.{Begun}

@@ -18,13 +18,13 @@ ghost use Rattle.tla_tree.specs.Lexical.{open_brace, close_brace};
 ghost use Rattle.pcal_tree.specs.GrammarParts.{key, mark, name, no_labels, Section, MacroParameters, ProcedureParameters};
 ghost use Rattle.tla_tree.specs.Tree.{Name};
 ghost use Rattle.pcal_tree.specs.Grammar.{Macro, Procedure, Fair, fair, Identity, Process};
-ghost use Rattle.algorithm_parts.specs.ReadParts.{read_section, read_macro_parameters, read_procedure_parameters};
-ghost use Rattle.algorithm_parts.specs.Owners.{Owner, in_macro, in_procedure, in_process, in_main};
+ghost use Rattle.algorithm_reader.specs.ReadParts.{read_section, read_macro_parameters, read_procedure_parameters};
+ghost use Rattle.algorithm_reader.specs.Owners.{Owner, in_macro, in_procedure, in_process, in_main};
 ghost use Rattle.pcal_tree.specs.GrammarC.{Sequence};
-ghost use Rattle.algorithm_parts.specs.TokenReaders.{Parts};
+ghost use Rattle.algorithm_reader.specs.TokenReaders.{Parts};
 ghost use Rattle.c_syntax.specs.ReadStatements.{State, begin, none, bottom, on, step, run, AreApart, open_stack, rest, depth};
 ghost use Rattle.c_syntax.specs.ReadAlgorithm.{read_identity, read_text, read_algorithm, read_limited_algorithm};
-ghost use Rattle.algorithm_parts.specs.Completes.{Completes};
+ghost use Rattle.algorithm_reader.specs.Completes.{Completes};
 ghost use Rattle.c_syntax.specs.MissingAlgorithm.{completion};
 ghost use Rattle.c_syntax.specs.Resume.{Front, main_from, processes_from, procedures_from, macros_from, text_from, resume, main_rest, end_rest, rest_of_all};
 

@@ -2,10 +2,10 @@
 
 ghost use Rattle.std.specs.Prelude.{ℕ, ◌<◌, ◌≤◌, IfOk, length};
 ghost use Rattle.tla_tree.specs.Pool.{Keeps};
-ghost use Rattle.expression_parts.specs.Ahead.{ahead};
+ghost use Rattle.expr_nodes.specs.Ahead.{ahead};
 ghost use Rattle.tla_expr.specs.Numbers.{NumbersFit};
 ghost use Rattle.pcal_tree.specs.GrammarC.{statements};
-ghost use Rattle.algorithm_parts.specs.PartsRead.{ReadsPart, parts_in, StepLess, Enough};
+ghost use Rattle.algorithm_reader.specs.PartsRead.{ReadsPart, parts_in, StepLess, Enough};
 ghost use Rattle.c_syntax.specs.ReadStatements as reader;
 ghost use Rattle.c_syntax.specs.StatesRead.{StateStands, list_at, past_list};
 ghost use Rattle.c_syntax.specs.AfterRead.{TurnsTo, PassesOn};
@@ -13,7 +13,7 @@ ghost use Rattle.c_syntax.specs.AfterRead.{TurnsTo, PassesOn};
 use crate::after::{read_after, read_begun};
 use crate::open::{Point, State, Turn, start};
 use crate::statements::read_statement;
-use expression_parts::cursor::Halt;
+use expr_nodes::cursor::Halt;
 use pcal_tree::algorithm::Stmt;
 use std::alloc::Global;
 use tla_pool::Pool;

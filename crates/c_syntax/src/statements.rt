@@ -12,10 +12,10 @@ use crate::open::{Frame, Open, State};
 use crate::opening::{
     open_block, open_either, open_if, open_while, open_with, read_alone, read_label,
 };
-use algorithm_parts::token_step::{is_next_word, refused_there};
-use algorithm_parts::words::{is_next_label, is_next_mark};
-use expression_parts::cursor::Halt;
-use expression_parts::view::Mark;
+use algorithm_reader::token_step::{is_next_word, refused_there};
+use algorithm_reader::words::{is_next_label, is_next_mark};
+use expr_nodes::cursor::Halt;
+use expr_nodes::view::Mark;
 use std::alloc::Global;
 use tla_pool::Pool;
 use tla_token::{Rule, Tokens};

@@ -1,15 +1,15 @@
 //! A module with every kind of item, written to the byte.
 
 ghost use Rattle.std.specs.Prelude.{◌≡◌, ◌≤◌, ◌<◌, ◌∷◌, [], length, IfOk};
-ghost use Rattle.module_memory.specs.InMemory.{past_items, ActionsIn, AllFairnessIn, WaysIn, RegionIn};
+ghost use Rattle.module_write.specs.InMemory.{past_items, ActionsIn, AllFairnessIn, WaysIn, RegionIn};
 ghost use Rattle.tla_value.specs.Defs.{DefinitionsIn};
 
-use module_memory::formulas::{at, binds_self, equal, functions_from, is_in, named, quoted, set};
-use module_memory::ways::sets;
 use module_text::{
     Action, Body, Call, Fairness, Item, Module, Outside, Parts, Region, Way, with_translation,
     write_module, write_region,
 };
+use module_write::formulas::{at, binds_self, equal, functions_from, is_in, named, quoted, set};
+use module_write::ways::sets;
 use std::alloc::{AllocError, Global};
 use tla_pool::Pool;
 use tla_pool::form::{Form, Strict};

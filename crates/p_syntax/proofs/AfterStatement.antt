@@ -10,12 +10,12 @@ use Rattle.tla_tree.specs.Lexical.{Mark, TokenView, Token}
 use Rattle.tla_tree.specs.Lexical as tk
 use Rattle.tla_tree.specs.Reader.{Reader, refuses, tail, is_mark}
 use Rattle.tla_tree.proofs.SoundTokens.{mark_is}
-use Rattle.expression_parts.specs.Ahead.{ahead}
+use Rattle.expr_nodes.specs.Ahead.{ahead}
 use Rattle.pcal_tree.specs.Algorithm as tree
 use Rattle.pcal_tree.specs.GrammarParts.{Labels}
 use Rattle.pcal_tree.specs.GrammarP as p
-use Rattle.algorithm_parts.specs.TokenReaders.{first, is_reserved, pick, Parts}
-use Rattle.algorithm_parts.specs.PartsRead.{StandsFor}
+use Rattle.algorithm_reader.specs.TokenReaders.{first, is_reserved, pick, Parts}
+use Rattle.algorithm_reader.specs.PartsRead.{StandsFor}
 use Rattle.p_syntax.specs.ReadStatements as reader
 use Rattle.p_syntax.specs.ReadStatements.{Before, none, after, Stack, Turn, on, ended, with_before, closing_words, another_by, ended_by}
 use Rattle.p_syntax.specs.declared.open.Point.{Point}
@@ -23,7 +23,7 @@ use Rattle.p_syntax.specs.declared.open.Point.TheVariants as point
 use Rattle.p_syntax.specs.declared.open.State.{State}
 use Rattle.p_syntax.specs.StatesRead.{before_tree, past_one, ListStands, list_at, past_list, point_of, so_far, Stands, StateStands}
 use Rattle.p_syntax.specs.StepsRead.{separator_step, another_step, ended_step, closes_by}
-use Rattle.algorithm_parts.proofs.Between.{ahead_length}
+use Rattle.algorithm_reader.proofs.Between.{ahead_length}
 use Rattle.p_syntax.proofs.InLists.{in_list-all}
 
 -- a mark is a token, and what is left behind it begins further on

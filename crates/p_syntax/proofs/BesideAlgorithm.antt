@@ -10,12 +10,12 @@ use Rattle.tla_tree.proofs.Limited.{Limited}
 use Rattle.pcal_tree.specs.Grammar.{begin_end, bare, define_end, begin, to_end}
 use Rattle.pcal_tree.specs.Grammar as gr
 use Rattle.pcal_tree.specs.OpenForms.{here, plain, section_opens, definitions_open, p_sequence, body_opens, macro_opens, procedure_opens, identity_opens, define_opens, main_opens, opens}
-use Rattle.algorithm_parts.specs.TokenReaders.{limited_parts}
-use Rattle.algorithm_parts.proofs.Beside.{Fit, Late, sits, Beside, BesideAt, beside_gives, beside_refuses, beside_bind, beside_next, beside_stays, beside_skip, beside_key, beside_name, beside_pick}
-use Rattle.algorithm_parts.proofs.BesideParts.{unlimited_parts, beside_expr, beside_semicolon, beside_section, beside_definitions, beside_bind_sign}
-use Rattle.algorithm_parts.proofs.BesideAround.{head_beside, last_beside}
-use Rattle.algorithm_parts.proofs.BesideRoutines.{BesideWays, macros_beside, procedures_beside, define_beside, main_processes_beside}
-use Rattle.algorithm_parts.specs.ReadRoutines.{main_processes}
+use Rattle.algorithm_reader.specs.TokenReaders.{limited_parts}
+use Rattle.algorithm_reader.proofs.Beside.{Fit, Late, sits, Beside, BesideAt, beside_gives, beside_refuses, beside_bind, beside_next, beside_stays, beside_skip, beside_key, beside_name, beside_pick}
+use Rattle.algorithm_reader.proofs.BesideParts.{unlimited_parts, beside_expr, beside_semicolon, beside_section, beside_definitions, beside_bind_sign}
+use Rattle.algorithm_reader.proofs.BesideAround.{head_beside, last_beside}
+use Rattle.algorithm_reader.proofs.BesideRoutines.{BesideWays, macros_beside, procedures_beside, define_beside, main_processes_beside}
+use Rattle.algorithm_reader.specs.ReadRoutines.{main_processes}
 use Rattle.p_syntax.specs.ReadAlgorithm.{read_body, read_identity, define_from, ways, main_words, main_by, read_main, read_text, read_algorithm, read_limited_algorithm}
 use Rattle.p_syntax.proofs.BesideStatements.{beside_sequence}
 

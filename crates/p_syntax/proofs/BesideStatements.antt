@@ -10,13 +10,13 @@ use Rattle.tla_tree.specs.FirstStop.{Open}
 use Rattle.pcal_tree.specs.GrammarParts.{Labels, no_labels, labels, maybe_semicolon, Simple}
 use Rattle.pcal_tree.specs.GrammarP.{Statement, simple, with, while, no_else, else_then, last_branch, Sequence, last_statement}
 use Rattle.pcal_tree.specs.OpenForms.{here, plain, expression_opens, binds_open, after_binds, simple_opens, p_statement, p_sequence}
-use Rattle.algorithm_parts.specs.TokenReaders.{limited_parts, pick}
-use Rattle.algorithm_parts.specs.ReadSimple.{simple_words}
-use Rattle.algorithm_parts.proofs.Beside.{Sits, sits, sits_on, sits_here, Beside, BesideAt, BothAt, beside_gives, beside_refuses, beside_bind, beside_then, beside_next, beside_stays, beside_same, beside_moved, beside_skip, beside_opened, beside_key, beside_pick}
-use Rattle.algorithm_parts.proofs.BesideParts.{unlimited_parts, beside_expr, beside_colon, beside_binds}
-use Rattle.algorithm_parts.proofs.BesideSimple.{beside_named, beside_words}
-use Rattle.algorithm_parts.specs.ReadAround.{with_label}
-use Rattle.algorithm_parts.proofs.BesideAround.{with_label_opens, sits_last, sits_less, binds_sit}
+use Rattle.algorithm_reader.specs.TokenReaders.{limited_parts, pick}
+use Rattle.algorithm_reader.specs.ReadSimple.{simple_words}
+use Rattle.algorithm_reader.proofs.Beside.{Sits, sits, sits_on, sits_here, Beside, BesideAt, BothAt, beside_gives, beside_refuses, beside_bind, beside_then, beside_next, beside_stays, beside_same, beside_moved, beside_skip, beside_opened, beside_key, beside_pick}
+use Rattle.algorithm_reader.proofs.BesideParts.{unlimited_parts, beside_expr, beside_colon, beside_binds}
+use Rattle.algorithm_reader.proofs.BesideSimple.{beside_named, beside_words}
+use Rattle.algorithm_reader.specs.ReadAround.{with_label}
+use Rattle.algorithm_reader.proofs.BesideAround.{with_label_opens, sits_last, sits_less, binds_sit}
 use Rattle.p_syntax.proofs.Closing.{tests_deep}
 use Rattle.p_syntax.proofs.Opened.{before_opens, tests_open, arms_open, frame_opens, stack_opens, state_opens, turn_opens, with_before_opens, closed_if_opens, closed_either_opens}
 use Rattle.p_syntax.specs.ReadStatements.{Before, none, after, Tests, if_test, elsif_test, first_arm, later_arm, Frame, in_then, in_else, in_either, in_with, in_while, Stack, bottom, inside, after_tests, inside_frame, depth, State, begin, ended, Turn, on, done, with_before, closed_if, closed_either}

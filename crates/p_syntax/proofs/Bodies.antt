@@ -7,8 +7,8 @@ use Rattle.tla_tree.specs.Reader.{Out, Reader, ◌>>=◌, then_read, gives}
 use Rattle.pcal_tree.specs.GrammarParts.{Definitions}
 use Rattle.pcal_tree.specs.GrammarP.{Sequence}
 use Rattle.pcal_tree.specs.Grammar.{Body, begin_end, Define, define_end}
-use Rattle.algorithm_parts.specs.TokenReaders.{a_key, Parts}
-use Rattle.algorithm_parts.specs.ReadParts.{read_semicolon, read_definitions}
+use Rattle.algorithm_reader.specs.TokenReaders.{a_key, Parts}
+use Rattle.algorithm_reader.specs.ReadParts.{read_semicolon, read_definitions}
 use Rattle.p_syntax.specs.ReadStatements.{read_sequence}
 use Rattle.p_syntax.specs.ReadAlgorithm.{read_body, define_from}
 

@@ -5,8 +5,8 @@ use Rattle.tla_token.specs.Places.{nowhere}
 use Rattle.tla_tree.specs.Lexical.{Token}
 use Rattle.pcal_tree.specs.GrammarParts.{Labels, no_labels, skip, key}
 use Rattle.pcal_tree.specs.GrammarP.{Statement, simple, with, while, no_else, else_then, last_branch, Sequence, last_statement}
-use Rattle.algorithm_parts.proofs.BesideAround.{binds_deep}
-use Rattle.algorithm_parts.specs.TokenReaders.{Parts}
+use Rattle.algorithm_reader.proofs.BesideAround.{binds_deep}
+use Rattle.algorithm_reader.specs.TokenReaders.{Parts}
 use Rattle.p_syntax.specs.ReadStatements.{Before, Tests, if_test, elsif_test, first_arm, later_arm, in_then, in_else, in_either, in_with, in_while, Stack, bottom, inside, after_tests, depth, State, begin, ended, with_before, closed_if, closed_either, run, closing, rest, open_in}
 
 -- a list is read up to the `end` after it

@@ -7,10 +7,10 @@ use Rattle.tla_tree.specs.Reader.{Out, gives, then_read}
 use Rattle.pcal_tree.specs.GrammarParts.{key, no_labels, skip}
 use Rattle.pcal_tree.specs.GrammarP.{simple, Sequence, last_statement}
 use Rattle.pcal_tree.specs.Grammar.{Body, begin_end, Macro, Procedure, Process, Main, begin, to_end, Text}
-use Rattle.algorithm_parts.specs.TokenReaders.{Parts}
-use Rattle.algorithm_parts.proofs.Whole.{then_is}
-use Rattle.algorithm_parts.specs.Owners.{Owner, in_macro, in_procedure, in_process, in_main, main_of}
-use Rattle.algorithm_parts.proofs.OneAfter.{same_read}
+use Rattle.algorithm_reader.specs.TokenReaders.{Parts}
+use Rattle.algorithm_reader.proofs.Whole.{then_is}
+use Rattle.algorithm_reader.specs.Owners.{Owner, in_macro, in_procedure, in_process, in_main, main_of}
+use Rattle.algorithm_reader.proofs.OneAfter.{same_read}
 use Rattle.p_syntax.specs.ReadStatements.{State, Turn, none, bottom, on, step, turned, run, ends_with, rest, open_in}
 use Rattle.p_syntax.specs.ReadStatements as machine
 use Rattle.p_syntax.specs.Resume.{Front, finish, main_from, resume, after_list, rest_of_all, macros_from, procedures_from, processes_from, main_rest, end_rest}

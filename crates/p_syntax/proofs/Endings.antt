@@ -8,18 +8,18 @@ use Rattle.tla_tree.specs.Lexical.{Token}
 use Rattle.tla_tree.specs.Pool as pool
 use Rattle.tla_tree.specs.Spelling.{Phrase, tree_of}
 use Rattle.tla_tree.specs.Reader.{Out, ◌>>=◌, then_read, gives, tail, skip, if_fits}
-use Rattle.expression_parts.specs.declared.cursor.Halt.{Halt}
-use Rattle.expression_parts.specs.declared.cursor.Halt.TheVariants as halt
-use Rattle.expression_parts.specs.ReadIn.{Reads, Fails}
-use Rattle.expression_parts.specs.Ahead.{ahead}
-use Rattle.expression_parts.proofs.AheadLemmas.{ahead_tail}
+use Rattle.expr_nodes.specs.declared.cursor.Halt.{Halt}
+use Rattle.expr_nodes.specs.declared.cursor.Halt.TheVariants as halt
+use Rattle.expr_nodes.specs.ReadIn.{Reads, Fails}
+use Rattle.expr_nodes.specs.Ahead.{ahead}
+use Rattle.expr_nodes.proofs.AheadLemmas.{ahead_tail}
 use Rattle.pcal_tree.specs.declared.algorithm.Bind.{Bind}
 use Rattle.pcal_tree.specs.declared.algorithm.Stmt.{Stmt}
 use Rattle.pcal_tree.specs.GrammarParts.{Labels, Binds}
 use Rattle.pcal_tree.specs.GrammarP as p
-use Rattle.algorithm_parts.specs.TokenReaders.{a_key, Parts}
-use Rattle.algorithm_parts.specs.ReadAround.{within}
-use Rattle.algorithm_parts.specs.PartsRead.{StandsFor, parts_in}
+use Rattle.algorithm_reader.specs.TokenReaders.{a_key, Parts}
+use Rattle.algorithm_reader.specs.ReadAround.{within}
+use Rattle.algorithm_reader.specs.PartsRead.{StandsFor, parts_in}
 use Rattle.p_syntax.specs.ReadStatements as reader
 use Rattle.p_syntax.specs.ReadStatements.{Before, Stack, inside, Turn, in_then, in_else, in_either, in_with, in_while, first_arm, later_arm, elsif_test, opens, closed_if, closed_either, ends, takes_else, takes_elsif, takes_or, takes_end, depth}
 use Rattle.p_syntax.specs.declared.open.Test.{Test}
@@ -28,11 +28,11 @@ use Rattle.p_syntax.specs.declared.open.Frame.TheVariants as frame
 use Rattle.p_syntax.specs.declared.open.Point.TheVariants as point
 use Rattle.p_syntax.specs.declared.open.State.{State}
 use Rattle.p_syntax.specs.declared.open.Turn.TheVariants as turn
-use Rattle.algorithm_parts.specs.StatementsRead.{is_none}
+use Rattle.algorithm_reader.specs.StatementsRead.{is_none}
 use Rattle.p_syntax.specs.StatesRead.{so_far, ThenStands, ElseStands, EitherStands, FrameStands, Stands, TurnStands, list_at, past_list}
 use Rattle.p_syntax.specs.StepsRead.{test_reader}
-use Rattle.algorithm_parts.proofs.Gathered.{as_pair, fails_then, refused_as}
-use Rattle.algorithm_parts.proofs.StatementSteps.{goes_on}
+use Rattle.algorithm_reader.proofs.Gathered.{as_pair, fails_then, refused_as}
+use Rattle.algorithm_reader.proofs.StatementSteps.{goes_on}
 use Rattle.p_syntax.proofs.Steps.{opened_stands}
 use Rattle.p_syntax.proofs.Closed.{Innermost, else_stands, elsif_stands, or_stands}
 

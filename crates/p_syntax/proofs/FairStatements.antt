@@ -9,13 +9,13 @@ use Rattle.tla_tree.proofs.Alike.{IsFair, fair_gives, fair_refuses, fair_too_dee
 use Rattle.pcal_tree.specs.GrammarParts.{Labels, no_labels, Simple}
 use Rattle.pcal_tree.specs.GrammarParts as g
 use Rattle.pcal_tree.specs.GrammarP.{Statement, simple, with, while, no_else, else_then, last_branch, Sequence, last_statement}
-use Rattle.algorithm_parts.specs.TokenReaders.{by_next, pick, Parts}
-use Rattle.algorithm_parts.specs.ReadSimple.{simple_words}
-use Rattle.algorithm_parts.proofs.Fair.{fair_next, pick_both, Step, fair_steps, FairParts, less_parts, left_parts, right_parts}
-use Rattle.algorithm_parts.proofs.FairParts.{fair_name, colon_fair, binds_fair}
-use Rattle.algorithm_parts.proofs.FairSimple.{arguments_fair, named_fair}
-use Rattle.algorithm_parts.proofs.FairAround.{fair_key}
-use Rattle.algorithm_parts.specs.ReadAround.{within}
+use Rattle.algorithm_reader.specs.TokenReaders.{by_next, pick, Parts}
+use Rattle.algorithm_reader.specs.ReadSimple.{simple_words}
+use Rattle.algorithm_reader.proofs.Fair.{fair_next, pick_both, Step, fair_steps, FairParts, less_parts, left_parts, right_parts}
+use Rattle.algorithm_reader.proofs.FairParts.{fair_name, colon_fair, binds_fair}
+use Rattle.algorithm_reader.proofs.FairSimple.{arguments_fair, named_fair}
+use Rattle.algorithm_reader.proofs.FairAround.{fair_key}
+use Rattle.algorithm_reader.specs.ReadAround.{within}
 use Rattle.p_syntax.specs.ReadStatements.{Before, none, after, in_then, in_else, in_either, in_with, in_while, first_arm, later_arm, Stack, bottom, inside, State, begin, ended, Turn, on, done, with_before, closed_if, closed_either}
 use Rattle.p_syntax.specs.ReadStatements.{depth, after_tests, ends_simple, after_name, statement_words, statement_by, takes_else, takes_elsif, takes_or, ends, takes_end, closing_words, another_by, ended_by, step, turned, run, read_sequence}
 

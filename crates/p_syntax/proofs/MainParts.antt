@@ -5,11 +5,11 @@ use Rattle.tla_token.specs.declared.token.Tokens.{Tokens}
 use Rattle.tla_tree.specs.Lexical.{TokenView, Token}
 use Rattle.tla_tree.specs.Lexical as tk
 use Rattle.tla_tree.specs.Reader.{◌>>=◌, then_read, gives, skip, tail}
-use Rattle.expression_parts.specs.Ahead.{ahead}
+use Rattle.expr_nodes.specs.Ahead.{ahead}
 use Rattle.pcal_tree.specs.Grammar.{begin}
-use Rattle.algorithm_parts.specs.TokenReaders.{first, is_reserved, Parts}
-use Rattle.algorithm_parts.specs.ReadRoutines.{main_processes}
-use Rattle.routine_parts.specs.RoutinesRead.{main_processes_by, read_main_processes}
+use Rattle.algorithm_reader.specs.TokenReaders.{first, is_reserved, Parts}
+use Rattle.algorithm_reader.specs.ReadRoutines.{main_processes}
+use Rattle.algorithm_reader.specs.RoutinesRead.{main_processes_by, read_main_processes}
 use Rattle.p_syntax.specs.ReadStatements.{read_sequence}
 use Rattle.p_syntax.specs.ReadAlgorithm.{ways, main_by, read_main}
 

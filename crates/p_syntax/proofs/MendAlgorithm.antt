@@ -13,17 +13,17 @@ use Rattle.pcal_tree.specs.Grammar.{p_syntax, Body, begin_end, braces, body, Goo
 use Rattle.pcal_tree.specs.Grammar as gr
 use Rattle.pcal_tree.specs.OpenForms.{body_opens, identity_opens, process_opens, define_opens, main_opens, opens}
 use Rattle.pcal_tree.specs.OpenForms as form
-use Rattle.algorithm_parts.specs.TokenReaders.{Parts, parts_of}
-use Rattle.algorithm_parts.specs.Missing.{an_identifier, PartsMiss, parts_miss}
-use Rattle.algorithm_parts.specs.MissingParts.{a_meaning, a_value}
-use Rattle.algorithm_parts.specs.MissingRoutines.{a_head}
-use Rattle.algorithm_parts.specs.MissingRoutines as wants
-use Rattle.algorithm_parts.proofs.Sound.{here, sound_next}
-use Rattle.algorithm_parts.proofs.Aheads.{ahead_semicolon, ahead_section, ahead_definitions}
-use Rattle.algorithm_parts.proofs.Mends.{none, Mend, Fill, Mends, MendsAt, IsPart, mends_gives, mends_refuses, mends_bind, mends_next, mends_stays, mends_past, mends_pick, part_key, part_name}
-use Rattle.algorithm_parts.proofs.MendParts.{MendsParts, parts_mend, some_name, some_phrase, some_good, part_semicolon, part_section, part_definitions, part_bind}
-use Rattle.algorithm_parts.proofs.MendAround.{ahead_head, ahead_each, part_head, last_mends}
-use Rattle.algorithm_parts.proofs.MendRoutines.{AheadWays, MendWays, ahead_macro_whole, ahead_procedure_whole, ahead_process, part_macros, part_procedures, part_define, main_processes_mend}
+use Rattle.algorithm_reader.specs.TokenReaders.{Parts, parts_of}
+use Rattle.algorithm_reader.specs.Missing.{an_identifier, PartsMiss, parts_miss}
+use Rattle.algorithm_reader.specs.MissingParts.{a_meaning, a_value}
+use Rattle.algorithm_reader.specs.MissingRoutines.{a_head}
+use Rattle.algorithm_reader.specs.MissingRoutines as wants
+use Rattle.algorithm_reader.proofs.Sound.{here, sound_next}
+use Rattle.algorithm_reader.proofs.Aheads.{ahead_semicolon, ahead_section, ahead_definitions}
+use Rattle.algorithm_reader.proofs.Mends.{none, Mend, Fill, Mends, MendsAt, IsPart, mends_gives, mends_refuses, mends_bind, mends_next, mends_stays, mends_past, mends_pick, part_key, part_name}
+use Rattle.algorithm_reader.proofs.MendParts.{MendsParts, parts_mend, some_name, some_phrase, some_good, part_semicolon, part_section, part_definitions, part_bind}
+use Rattle.algorithm_reader.proofs.MendAround.{ahead_head, ahead_each, part_head, last_mends}
+use Rattle.algorithm_reader.proofs.MendRoutines.{AheadWays, MendWays, ahead_macro_whole, ahead_procedure_whole, ahead_process, part_macros, part_procedures, part_define, main_processes_mend}
 use Rattle.p_syntax.specs.ReadStatements.{ends_with}
 use Rattle.p_syntax.specs.ReadAlgorithm.{read_body, read_identity, define_from, ways, main_words, main_by, read_main, read_text, read_algorithm}
 use Rattle.p_syntax.specs.Resume.{main_rest}

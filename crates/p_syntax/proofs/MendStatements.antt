@@ -14,22 +14,22 @@ use Rattle.pcal_tree.specs.GrammarParts as g
 use Rattle.pcal_tree.specs.GrammarP.{Statement, simple, branch, either, with, while, Else, no_else, else_then, else_if, Branches, last_branch, more_branches, Sequence, last_statement, more_statements}
 use Rattle.pcal_tree.specs.GrammarP.{statement, else_tokens, branches, sequence, GoodStatement, GoodSequence}
 use Rattle.pcal_tree.specs.OpenForms.{here, after_binds, p_statement, p_branches, p_sequence}
-use Rattle.algorithm_parts.specs.TokenReaders.{Parts}
-use Rattle.algorithm_parts.specs.ReadSimple.{simple_words}
-use Rattle.algorithm_parts.specs.ReadAround.{with_label, within}
-use Rattle.algorithm_parts.specs.Missing.{Missing, past_misses, all_of, PartsMiss}
-use Rattle.algorithm_parts.specs.MissingParts.{no_list}
-use Rattle.algorithm_parts.specs.MissingSimple.{missing_simple_words}
-use Rattle.algorithm_parts.specs.Completes.{forms}
-use Rattle.algorithm_parts.proofs.Sound.{sound_pick, sound_stays, sound_refuses}
-use Rattle.algorithm_parts.proofs.SoundSimple.{named_sound, words_sound}
-use Rattle.algorithm_parts.proofs.Aheads.{ahead_semicolon, ahead_labels, ahead_binds, ahead_simple}
-use Rattle.algorithm_parts.proofs.WithLabel.{with_label_tokens}
-use Rattle.algorithm_parts.proofs.BesideAround.{with_label_opens, binds_deep}
-use Rattle.algorithm_parts.proofs.Mends.{Fill, Mends, MendsAt, IsPart, AllMend, onward, filled, refilled, mends_gives, mends_refuses, mends_on, mends_bind, mends_then, mends_same, mends_next, mends_stays, mends_past, mends_pick, mends_fits, part_key}
-use Rattle.algorithm_parts.proofs.Mends as part
-use Rattle.algorithm_parts.proofs.MendParts.{MendsParts, part_colon, part_binds}
-use Rattle.algorithm_parts.proofs.MendSimple.{named_mends, words_mend}
+use Rattle.algorithm_reader.specs.TokenReaders.{Parts}
+use Rattle.algorithm_reader.specs.ReadSimple.{simple_words}
+use Rattle.algorithm_reader.specs.ReadAround.{with_label, within}
+use Rattle.algorithm_reader.specs.Missing.{Missing, past_misses, all_of, PartsMiss}
+use Rattle.algorithm_reader.specs.MissingParts.{no_list}
+use Rattle.algorithm_reader.specs.MissingSimple.{missing_simple_words}
+use Rattle.algorithm_reader.specs.Completes.{forms}
+use Rattle.algorithm_reader.proofs.Sound.{sound_pick, sound_stays, sound_refuses}
+use Rattle.algorithm_reader.proofs.SoundSimple.{named_sound, words_sound}
+use Rattle.algorithm_reader.proofs.Aheads.{ahead_semicolon, ahead_labels, ahead_binds, ahead_simple}
+use Rattle.algorithm_reader.proofs.WithLabel.{with_label_tokens}
+use Rattle.algorithm_reader.proofs.BesideAround.{with_label_opens, binds_deep}
+use Rattle.algorithm_reader.proofs.Mends.{Fill, Mends, MendsAt, IsPart, AllMend, onward, filled, refilled, mends_gives, mends_refuses, mends_on, mends_bind, mends_then, mends_same, mends_next, mends_stays, mends_past, mends_pick, mends_fits, part_key}
+use Rattle.algorithm_reader.proofs.Mends as part
+use Rattle.algorithm_reader.proofs.MendParts.{MendsParts, part_colon, part_binds}
+use Rattle.algorithm_reader.proofs.MendSimple.{named_mends, words_mend}
 use Rattle.p_syntax.specs.ReadStatements.{Before, none, after, Tests, if_test, elsif_test, Arms, first_arm, later_arm, Frame, in_then, in_else, in_either, in_with, in_while, Stack, bottom, inside, State, begin, ended, Turn, on, done, with_before, closed_if, closed_either}
 use Rattle.p_syntax.specs.ReadStatements.{opens, depth, after_tests, after_name, statement_words, statement_by, takes_else, takes_elsif, takes_or, ends, takes_end, closing_words, another_by, ended_by, step, turned, run, read_sequence, ends_with, closing, rest}
 use Rattle.p_syntax.specs.MissingStatements.{missing_after_name, missing_statement_words, missing_statement_by, missing_elsif, missing_its_word, missing_ends, missing_closing_words, missing_another_by, missing_ended_by, missing_step, missing_turned, missing_run, missing_sequence}

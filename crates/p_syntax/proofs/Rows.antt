@@ -13,7 +13,7 @@ use Rattle.pcal_tree.specs.GrammarParts as part
 use Rattle.pcal_tree.specs.GrammarP.{Sequence, sequence, simple, branch, either, with, while, else_then, else_if, last_branch, more_branches, last_statement, more_statements}
 use Rattle.pcal_tree.specs.Grammar.{Text, spell}
 use Rattle.pcal_tree.specs.Grammar as g
-use Rattle.algorithm_parts.specs.TokenReaders.{parts_of}
+use Rattle.algorithm_reader.specs.TokenReaders.{parts_of}
 use Rattle.p_syntax.specs.ReadStatements.{read_sequence}
 use Rattle.p_syntax.specs.ReadAlgorithm.{read_algorithm}
 

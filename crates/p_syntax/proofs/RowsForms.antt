@@ -15,9 +15,9 @@ use Rattle.pcal_tree.specs.GrammarParts as part
 use Rattle.pcal_tree.specs.GrammarP.{Sequence, sequence, simple, branch, with, no_else, last_statement, more_statements}
 use Rattle.pcal_tree.specs.Grammar.{Text, spell}
 use Rattle.pcal_tree.specs.Grammar as g
-use Rattle.algorithm_parts.specs.TokenReaders.{parts_of}
+use Rattle.algorithm_reader.specs.TokenReaders.{parts_of}
 use Rattle.p_syntax.specs.ReadStatements.{read_sequence}
-use Rattle.routine_parts.specs.RoutinesRead.{identity_at, past_identity, identity_tree}
+use Rattle.algorithm_reader.specs.RoutinesRead.{identity_at, past_identity, identity_tree}
 use Rattle.p_syntax.specs.ReadAlgorithm.{read_algorithm}
 use Rattle.p_syntax.specs.Around.{frames, closing}
 

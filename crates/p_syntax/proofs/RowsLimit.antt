@@ -13,7 +13,7 @@ use Rattle.pcal_tree.specs.GrammarParts as part
 use Rattle.pcal_tree.specs.GrammarP.{simple, branch, no_else, last_statement}
 use Rattle.pcal_tree.specs.Grammar.{Text, spell}
 use Rattle.pcal_tree.specs.Grammar as g
-use Rattle.algorithm_parts.specs.Owners.{in_main}
+use Rattle.algorithm_reader.specs.Owners.{in_main}
 use Rattle.p_syntax.specs.Resume.{rest_of_all}
 use Rattle.p_syntax.specs.ReadStatements.{depth, rest, begin, bottom, inside, in_then, in_either, in_with, if_test, elsif_test, first_arm, none}
 use Rattle.p_syntax.specs.ReadAlgorithm.{read_algorithm, read_limited_algorithm}

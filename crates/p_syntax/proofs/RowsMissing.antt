@@ -11,7 +11,7 @@ use Rattle.tla_tree.specs.Reader.{readers}
 use Rattle.tla_tree.specs.Wanted.{mark_at, number_at}
 use Rattle.tla_tree.specs.NeedsLists.{needs}
 use Rattle.pcal_tree.specs.GrammarParts as part
-use Rattle.algorithm_parts.specs.Missing.{an_identifier, an_equal}
+use Rattle.algorithm_reader.specs.Missing.{an_identifier, an_equal}
 use Rattle.p_syntax.specs.MissingAlgorithm.{completion}
 
 abbrev at : Place

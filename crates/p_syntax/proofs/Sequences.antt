@@ -3,14 +3,14 @@ use Rattle.std.proofs.Common.{◌≡◌, ℕ, zero, suc, ◌<◌, ◌≤◌, Lis
 use Rattle.tla_token.specs.declared.token.Tokens.{Tokens}
 use Rattle.tla_tree.specs.Tree.{Tree}
 use Rattle.tla_tree.specs.Reader.{Out, then_read}
-use Rattle.expression_parts.specs.declared.cursor.Halt.{Halt}
-use Rattle.expression_parts.specs.ReadIn.{Reads, Fails}
-use Rattle.expression_parts.specs.Ahead.{ahead}
+use Rattle.expr_nodes.specs.declared.cursor.Halt.{Halt}
+use Rattle.expr_nodes.specs.ReadIn.{Reads, Fails}
+use Rattle.expr_nodes.specs.Ahead.{ahead}
 use Rattle.pcal_tree.specs.declared.algorithm.Stmt.{Stmt}
 use Rattle.pcal_tree.specs.GrammarParts.{no_labels}
 use Rattle.pcal_tree.specs.GrammarP.{Sequence, statements}
-use Rattle.algorithm_parts.specs.PartsRead.{StandsFor, parts_in, Enough, StepLess}
-use Rattle.algorithm_parts.proofs.Gathered.{fails_then}
+use Rattle.algorithm_reader.specs.PartsRead.{StandsFor, parts_in, Enough, StepLess}
+use Rattle.algorithm_reader.proofs.Gathered.{fails_then}
 use Rattle.p_syntax.specs.ReadStatements as reader
 use Rattle.p_syntax.specs.ReadStatements.{none, bottom, begin, on, done, step, turned, run, read_sequence}
 use Rattle.p_syntax.specs.declared.open.Point.TheVariants as point

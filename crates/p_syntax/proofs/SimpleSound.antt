@@ -4,19 +4,19 @@ use Rattle.tla_token.specs.declared.place.Place.{Place}
 use Rattle.tla_token.specs.declared.token.Tokens.{Tokens}
 use Rattle.tla_tree.specs.Spelling.{Phrase, spell}
 use Rattle.tla_tree.proofs.SpellAppend.{spell_then}
-use Rattle.expression_parts.specs.Ahead.{ahead}
+use Rattle.expr_nodes.specs.Ahead.{ahead}
 use Rattle.tla_tree.specs.Lexical.{TokenView, Token}
 use Rattle.tla_tree.specs.Lexical as tk
 use Rattle.tla_tree.specs.Reader.{refuses}
 use Rattle.pcal_tree.specs.GrammarParts.{Assignments, last_assignment, assignment, assignments, Simple, simple_tokens, GoodSimple}
 use Rattle.pcal_tree.specs.GrammarParts as g
-use Rattle.algorithm_parts.specs.TokenReaders.{Parts}
-use Rattle.algorithm_parts.specs.ReadSimple.{simple_words}
-use Rattle.algorithm_parts.proofs.Sound.{Sound, SoundAt, here, sound_refuses, sound_next, sound_stays, sound_past, sound_pick}
-use Rattle.algorithm_parts.proofs.SoundParts.{SoundParts}
-use Rattle.algorithm_parts.proofs.SoundSimple.{named_sound, words_sound}
-use Rattle.algorithm_parts.specs.SimpleRead.{simple_by, simple_reader}
-use Rattle.algorithm_parts.proofs.Between.{ahead_length}
+use Rattle.algorithm_reader.specs.TokenReaders.{Parts}
+use Rattle.algorithm_reader.specs.ReadSimple.{simple_words}
+use Rattle.algorithm_reader.proofs.Sound.{Sound, SoundAt, here, sound_refuses, sound_next, sound_stays, sound_past, sound_pick}
+use Rattle.algorithm_reader.proofs.SoundParts.{SoundParts}
+use Rattle.algorithm_reader.proofs.SoundSimple.{named_sound, words_sound}
+use Rattle.algorithm_reader.specs.SimpleRead.{simple_by, simple_reader}
+use Rattle.algorithm_reader.proofs.Between.{ahead_length}
 use Rattle.p_syntax.proofs.Ends.{simple_puts}
 
 module _ (m : Parts) (h : SoundParts m) where

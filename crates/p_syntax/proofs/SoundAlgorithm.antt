@@ -8,14 +8,14 @@ use Rattle.tla_tree.specs.Reader.{readers}
 use Rattle.tla_tree.proofs.SoundTokens.{then_ok}
 use Rattle.pcal_tree.specs.GrammarParts.{key}
 use Rattle.pcal_tree.specs.Grammar.{p_syntax, begin_end, body, GoodBody, bare, identity, GoodIdentity, define_end, define, GoodDefine, begin, processes, main, GoodMain, to_end, Text, spell, Good}
-use Rattle.algorithm_parts.specs.TokenReaders.{Parts, parts_of}
-use Rattle.algorithm_parts.proofs.Sound.{Sound, SoundAt, here, sound_gives, sound_refuses, sound_bind, sound_next, sound_stays, sound_past, sound_then, sound_pick, sound_key, sound_name}
-use Rattle.algorithm_parts.proofs.SoundParts.{SoundParts, parts_sound, semicolon_sound, section_sound, definitions_sound, bind_sound}
-use Rattle.algorithm_parts.proofs.SoundAround.{head_sound, last_is}
-use Rattle.algorithm_parts.specs.ReadRoutines.{main_processes}
+use Rattle.algorithm_reader.specs.TokenReaders.{Parts, parts_of}
+use Rattle.algorithm_reader.proofs.Sound.{Sound, SoundAt, here, sound_gives, sound_refuses, sound_bind, sound_next, sound_stays, sound_past, sound_then, sound_pick, sound_key, sound_name}
+use Rattle.algorithm_reader.proofs.SoundParts.{SoundParts, parts_sound, semicolon_sound, section_sound, definitions_sound, bind_sound}
+use Rattle.algorithm_reader.proofs.SoundAround.{head_sound, last_is}
+use Rattle.algorithm_reader.specs.ReadRoutines.{main_processes}
 use Rattle.p_syntax.specs.ReadAlgorithm.{read_body, read_identity, define_from, ways, main_words, main_by, read_text, read_algorithm}
 use Rattle.p_syntax.proofs.SoundStatements.{sequence_sound}
-use Rattle.algorithm_parts.proofs.SoundRoutines.{SoundWays, macros_sound, procedures_sound, processes_sound, by_define_sound, first_process_sound}
+use Rattle.algorithm_reader.proofs.SoundRoutines.{SoundWays, macros_sound, procedures_sound, processes_sound, by_define_sound, first_process_sound}
 
 module _ (m : Parts) (h : SoundParts m) where
   pub body_sound : (n : ℕ) (w : Word) → Sound here (GoodBody p_syntax) (body w) (read_body m n w)

@@ -9,13 +9,13 @@ use Rattle.tla_tree.specs.Reader.{Reader, refuses}
 use Rattle.pcal_tree.specs.GrammarParts.{name, key, semicolon, maybe_semicolon, Labels, no_labels, labels, binds, GoodBinds, Simple, simple_tokens, GoodSimple}
 use Rattle.pcal_tree.specs.GrammarP.{Statement, simple, with, while, Else, no_else, else_then, else_if, Branches, last_branch, more_branches, Sequence, last_statement, more_statements}
 use Rattle.pcal_tree.specs.GrammarP.{statement, else_tokens, branches, sequence, GoodStatement, GoodElse, GoodBranches, GoodSequence}
-use Rattle.algorithm_parts.specs.TokenReaders.{Parts, pick}
-use Rattle.algorithm_parts.specs.ReadSimple.{simple_words}
-use Rattle.algorithm_parts.proofs.Sound.{Sound, SoundAt, here, AllSound, sound_gives, sound_refuses, sound_bind, sound_after, sound_next, sound_stays, sound_past, sound_then, sound_same, sound_pick, sound_key, sound_fits}
-use Rattle.algorithm_parts.proofs.SoundParts.{SoundParts, colon_sound, binds_sound}
-use Rattle.algorithm_parts.proofs.SoundSimple.{named_sound, words_sound}
-use Rattle.algorithm_parts.specs.ReadAround.{with_label, within}
-use Rattle.algorithm_parts.proofs.WithLabel.{with_label_tokens}
+use Rattle.algorithm_reader.specs.TokenReaders.{Parts, pick}
+use Rattle.algorithm_reader.specs.ReadSimple.{simple_words}
+use Rattle.algorithm_reader.proofs.Sound.{Sound, SoundAt, here, AllSound, sound_gives, sound_refuses, sound_bind, sound_after, sound_next, sound_stays, sound_past, sound_then, sound_same, sound_pick, sound_key, sound_fits}
+use Rattle.algorithm_reader.proofs.SoundParts.{SoundParts, colon_sound, binds_sound}
+use Rattle.algorithm_reader.proofs.SoundSimple.{named_sound, words_sound}
+use Rattle.algorithm_reader.specs.ReadAround.{with_label, within}
+use Rattle.algorithm_reader.proofs.WithLabel.{with_label_tokens}
 use Rattle.p_syntax.specs.ReadStatements.{Before, none, after, Tests, if_test, elsif_test, Arms, first_arm, later_arm, Frame, in_then, in_else, in_either, in_with, in_while, Stack, bottom, inside, State, begin, ended, Turn, on, done, with_before, closed_if, closed_either, depth, after_tests}
 use Rattle.p_syntax.specs.ReadStatements.{opens, ends_simple, after_name, statement_words, statement_by, takes_else, takes_elsif, takes_or, ends, takes_end, closing_words, another_by, ended_by, step, turned, run, read_sequence}
 

@@ -1,6 +1,6 @@
 -- What is read passes, and what is refused is refused at the first token that no algorithm has there: over kinds and columns.
 use Rattle.pcal_tree.specs.Grammar.{p_syntax}
-use Rattle.algorithm_parts.proofs.StopsOf.{ReadsAll}
+use Rattle.algorithm_reader.proofs.StopsOf.{ReadsAll}
 use Rattle.p_syntax.specs.ReadAlgorithm.{read_algorithm}
 use Rattle.p_syntax.specs.MissingAlgorithm.{missing_algorithm}
 use Rattle.p_syntax.proofs.SoundAlgorithm.{read_is_spelled}

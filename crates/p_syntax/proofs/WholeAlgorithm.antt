@@ -13,13 +13,13 @@ use Rattle.pcal_tree.specs.GrammarParts as g
 use Rattle.pcal_tree.specs.Grammar.{p_syntax, Body, begin_end, braces, body, GoodBody, Macro, macro, GoodMacro, Procedure, procedure, GoodProcedure, Fair, unfair, weak, strong, fair, Identity, bare, bracketed, identity, GoodIdentity, Process, process, GoodProcess, Head, algorithm, fair_algorithm, head, Define, no_define, define_end, define_braces, define, GoodDefine, Main, begin, block, processes, each, main, GoodMain, Around, to_end, in_braces, around, GoodAround, Text, Good}
 use Rattle.pcal_tree.specs.Grammar as gr
 use Rattle.pcal_tree.specs.Algorithm.{Algorithm}
-use Rattle.algorithm_parts.specs.TokenReaders.{Parts, parts_of, first, by_next, a_key}
-use Rattle.algorithm_parts.specs.ReadParts.{section_by}
-use Rattle.algorithm_parts.proofs.Whole.{Fits, smaller, less, then_is, is_word_next, word_divides, divider_calm, WholeParts, parts_whole}
-use Rattle.algorithm_parts.proofs.WholeParts.{semicolon_whole, section_whole, macro_parameters_whole, procedure_parameters_whole, definitions_whole, signed}
-use Rattle.algorithm_parts.proofs.Lengths.{Grows, GrowsMore, grow_semicolon, grow_section, grow_macro, grow_procedure, grow_phrase, grow_definitions}
-use Rattle.algorithm_parts.specs.ReadAround.{read_head}
-use Rattle.algorithm_parts.specs.ReadRoutines.{read_macro, read_procedure, read_process, macros_by, read_macros, procedures_by, read_procedures, processes_by, read_processes, define_by, read_define}
+use Rattle.algorithm_reader.specs.TokenReaders.{Parts, parts_of, first, by_next, a_key}
+use Rattle.algorithm_reader.specs.ReadParts.{section_by}
+use Rattle.algorithm_reader.proofs.Whole.{Fits, smaller, less, then_is, is_word_next, word_divides, divider_calm, WholeParts, parts_whole}
+use Rattle.algorithm_reader.proofs.WholeParts.{semicolon_whole, section_whole, macro_parameters_whole, procedure_parameters_whole, definitions_whole, signed}
+use Rattle.algorithm_reader.proofs.Lengths.{Grows, GrowsMore, grow_semicolon, grow_section, grow_macro, grow_procedure, grow_phrase, grow_definitions}
+use Rattle.algorithm_reader.specs.ReadAround.{read_head}
+use Rattle.algorithm_reader.specs.ReadRoutines.{read_macro, read_procedure, read_process, macros_by, read_macros, procedures_by, read_procedures, processes_by, read_processes, define_by, read_define}
 use Rattle.p_syntax.specs.ReadAlgorithm.{read_body, read_identity, ways, read_main, read_text, read_algorithm}
 use Rattle.p_syntax.proofs.WholeStatements.{grow_sequence, sequence_whole}
 

@@ -10,12 +10,12 @@ use Rattle.pcal_tree.specs.GrammarParts.{name, key, mark, semicolon, maybe_semic
 use Rattle.pcal_tree.specs.GrammarParts as g
 use Rattle.pcal_tree.specs.GrammarP.{Statement, simple, branch, either, with, while, Else, no_else, else_then, else_if, Branches, last_branch, more_branches, Sequence, last_statement, more_statements}
 use Rattle.pcal_tree.specs.GrammarP.{statement, else_tokens, branches, sequence, GoodStatement, GoodElse, GoodBranches, GoodSequence}
-use Rattle.algorithm_parts.specs.TokenReaders.{first, Parts}
-use Rattle.algorithm_parts.proofs.Whole.{Fits, smaller, then_is, is_word_next, is_after, word_after, after_calm, WholeParts}
-use Rattle.algorithm_parts.proofs.WholeParts.{starts_statement, colon_whole, binds_whole}
-use Rattle.algorithm_parts.proofs.WholeSimple.{root, first_left, after_first, assignment_tokens, assignment_next, is_left_next, arguments_whole, assign_whole}
-use Rattle.algorithm_parts.proofs.Lengths.{Grows, GrowsMore, grow_phrase, grow_semicolon, grow_colon, grow_labels, grow_binds, grow_simple}
-use Rattle.algorithm_parts.specs.ReadAround.{with_label}
+use Rattle.algorithm_reader.specs.TokenReaders.{first, Parts}
+use Rattle.algorithm_reader.proofs.Whole.{Fits, smaller, then_is, is_word_next, is_after, word_after, after_calm, WholeParts}
+use Rattle.algorithm_reader.proofs.WholeParts.{starts_statement, colon_whole, binds_whole}
+use Rattle.algorithm_reader.proofs.WholeSimple.{root, first_left, after_first, assignment_tokens, assignment_next, is_left_next, arguments_whole, assign_whole}
+use Rattle.algorithm_reader.proofs.Lengths.{Grows, GrowsMore, grow_phrase, grow_semicolon, grow_colon, grow_labels, grow_binds, grow_simple}
+use Rattle.algorithm_reader.specs.ReadAround.{with_label}
 use Rattle.p_syntax.specs.ReadStatements.{Before, none, after, Tests, if_test, elsif_test, Arms, first_arm, later_arm, in_then, in_else, in_either, in_with, in_while, Stack, bottom, inside, State, begin, ended, Turn, on, with_before, closed_if, closed_either, depth, after_tests, after_name, step, turned, run, read_sequence}
 
 -- ---- tokens before others

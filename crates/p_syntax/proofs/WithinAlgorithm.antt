@@ -11,16 +11,16 @@ use Rattle.tla_tree.proofs.SpellAhead.{held, put_ahead}
 use Rattle.pcal_tree.specs.GrammarParts.{key}
 use Rattle.pcal_tree.specs.Grammar.{p_syntax, begin_end, body, GoodBody, bare, identity, GoodIdentity, process, GoodProcess, head, define_end, define, GoodDefine, begin, main, GoodMain, to_end, Good}
 use Rattle.pcal_tree.specs.OpenForms.{here, plain, section_opens, definitions_open, p_sequence, body_opens, macro_opens, procedure_opens, identity_opens, process_opens, define_opens, main_opens, opens}
-use Rattle.algorithm_parts.specs.TokenReaders.{limited_parts}
-use Rattle.algorithm_parts.proofs.Sound.{sound_next}
-use Rattle.algorithm_parts.proofs.Beside.{sits}
-use Rattle.algorithm_parts.proofs.BesideParts.{unlimited_parts}
-use Rattle.algorithm_parts.proofs.MendParts.{some_good}
-use Rattle.algorithm_parts.proofs.Within.{before, Ending, Filled, Ends, EndsAt, Part, fits_of, ends_gives, ends_refuses, ends_bind, ends_next, ends_stays, ends_past, ends_pick, key_part, name_part}
-use Rattle.algorithm_parts.proofs.WithinParts.{limited_sound, expr_part, semicolon_part, section_part, definitions_part, bind_part}
-use Rattle.algorithm_parts.proofs.WithinAround.{head_part, last_ends}
-use Rattle.algorithm_parts.proofs.WithinRoutines.{WithinWays, macros_part, procedures_part, define_part, main_processes_end}
-use Rattle.algorithm_parts.specs.ReadRoutines.{main_processes}
+use Rattle.algorithm_reader.specs.TokenReaders.{limited_parts}
+use Rattle.algorithm_reader.proofs.Sound.{sound_next}
+use Rattle.algorithm_reader.proofs.Beside.{sits}
+use Rattle.algorithm_reader.proofs.BesideParts.{unlimited_parts}
+use Rattle.algorithm_reader.proofs.MendParts.{some_good}
+use Rattle.algorithm_reader.proofs.Within.{before, Ending, Filled, Ends, EndsAt, Part, fits_of, ends_gives, ends_refuses, ends_bind, ends_next, ends_stays, ends_past, ends_pick, key_part, name_part}
+use Rattle.algorithm_reader.proofs.WithinParts.{limited_sound, expr_part, semicolon_part, section_part, definitions_part, bind_part}
+use Rattle.algorithm_reader.proofs.WithinAround.{head_part, last_ends}
+use Rattle.algorithm_reader.proofs.WithinRoutines.{WithinWays, macros_part, procedures_part, define_part, main_processes_end}
+use Rattle.algorithm_reader.specs.ReadRoutines.{main_processes}
 use Rattle.p_syntax.specs.ReadAlgorithm.{read_body, read_identity, define_from, ways, main_words, main_by, read_main, read_text, read_limited_algorithm}
 use Rattle.p_syntax.proofs.SoundAlgorithm.{body_sound, identity_sound, ways_sound, by_main_sound, text_sound}
 use Rattle.p_syntax.proofs.MendAlgorithm.{some_list, a_process, ahead_body, ahead_identity, heads, ahead_main, ahead_text}

@@ -13,21 +13,21 @@ use Rattle.pcal_tree.specs.GrammarParts.{name, key, mark, Labels, no_labels, lab
 use Rattle.pcal_tree.specs.GrammarParts as g
 use Rattle.pcal_tree.specs.GrammarP.{Statement, simple, with, while, no_else, else_then, last_branch, Sequence, last_statement, statement, sequence, GoodStatement, GoodSequence}
 use Rattle.pcal_tree.specs.OpenForms.{here, plain, expression_opens, after_binds, p_statement, p_sequence}
-use Rattle.algorithm_parts.specs.TokenReaders.{limited_parts, pick}
-use Rattle.algorithm_parts.specs.ReadSimple.{simple_words}
-use Rattle.algorithm_parts.proofs.Sound.{sound_pick, sound_stays, sound_refuses}
-use Rattle.algorithm_parts.proofs.SoundSimple.{named_sound, words_sound}
-use Rattle.algorithm_parts.proofs.Aheads.{ahead_simple}
-use Rattle.algorithm_parts.proofs.Beside.{Sits, sits_on, sits_here, beside_pick, beside_stays, beside_refuses}
-use Rattle.algorithm_parts.proofs.BesideSimple.{beside_named, beside_words}
-use Rattle.algorithm_parts.proofs.BesideParts.{unlimited_parts}
-use Rattle.algorithm_parts.proofs.Within.{Filled, Ends, EndsAt, Part, AllEnd, fits_of, here_filled, ends_gives, ends_refuses, ends_after, ends_bind, ends_then, ends_next, ends_stays, ends_past, ends_opened, ends_same, ends_pick, ends_moved, key_part}
-use Rattle.algorithm_parts.proofs.WithinParts.{limited_sound, expr_part, colon_part, binds_part}
-use Rattle.algorithm_parts.proofs.WithinSimple.{named_ends, words_end}
+use Rattle.algorithm_reader.specs.TokenReaders.{limited_parts, pick}
+use Rattle.algorithm_reader.specs.ReadSimple.{simple_words}
+use Rattle.algorithm_reader.proofs.Sound.{sound_pick, sound_stays, sound_refuses}
+use Rattle.algorithm_reader.proofs.SoundSimple.{named_sound, words_sound}
+use Rattle.algorithm_reader.proofs.Aheads.{ahead_simple}
+use Rattle.algorithm_reader.proofs.Beside.{Sits, sits_on, sits_here, beside_pick, beside_stays, beside_refuses}
+use Rattle.algorithm_reader.proofs.BesideSimple.{beside_named, beside_words}
+use Rattle.algorithm_reader.proofs.BesideParts.{unlimited_parts}
+use Rattle.algorithm_reader.proofs.Within.{Filled, Ends, EndsAt, Part, AllEnd, fits_of, here_filled, ends_gives, ends_refuses, ends_after, ends_bind, ends_then, ends_next, ends_stays, ends_past, ends_opened, ends_same, ends_pick, ends_moved, key_part}
+use Rattle.algorithm_reader.proofs.WithinParts.{limited_sound, expr_part, colon_part, binds_part}
+use Rattle.algorithm_reader.proofs.WithinSimple.{named_ends, words_end}
 use Rattle.tla_tree.proofs.Limited.{told_ok}
-use Rattle.algorithm_parts.specs.ReadAround.{with_label}
-use Rattle.algorithm_parts.proofs.WithLabel.{with_label_tokens}
-use Rattle.algorithm_parts.proofs.BesideAround.{with_label_opens, sits_less, binds_sit}
+use Rattle.algorithm_reader.specs.ReadAround.{with_label}
+use Rattle.algorithm_reader.proofs.WithLabel.{with_label_tokens}
+use Rattle.algorithm_reader.proofs.BesideAround.{with_label_opens, sits_less, binds_sit}
 use Rattle.p_syntax.specs.ReadStatements.{Before, none, after, if_test, elsif_test, first_arm, later_arm, in_then, in_else, in_either, in_with, in_while, Stack, bottom, inside, after_tests, depth, State, begin, ended, Turn, on, done, with_before, closed_if, closed_either}
 use Rattle.p_syntax.specs.ReadStatements.{opens, ends_simple, after_name, statement_words, statement_by, takes_else, takes_elsif, takes_or, ends, takes_end, closing_words, another_by, ended_by, step, turned, run, read_sequence}
 use Rattle.p_syntax.proofs.SoundStatements.{tests, arms, frame, stack, passed, turn, GoodBefore, GoodStack, GoodState, GoodTurn, with_before_tokens, with_before_good, closed_if_tokens, closed_if_good, closed_either_tokens, closed_either_good, step_sound, sequence_sound}

@@ -3,8 +3,8 @@ use Rattle.std.specs.Prelude.{codes}
 use Rattle.tla_token.specs.Places.{nowhere}
 use Rattle.tla_tree.specs.Reader.{Reader, ◌>>=◌, gives}
 use Rattle.pcal_tree.specs.Grammar.{Around, to_end}
-use Rattle.algorithm_parts.specs.TokenReaders.{a_key, Parts}
-use Rattle.routine_parts.specs.ReadWhole.{Frames}
+use Rattle.algorithm_reader.specs.TokenReaders.{a_key, Parts}
+use Rattle.algorithm_reader.specs.ReadWhole.{Frames}
 use Rattle.p_syntax.specs.ReadAlgorithm.{read_main}
 
 abbrev pub closing : Reader Around

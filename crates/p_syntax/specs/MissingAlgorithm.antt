@@ -7,14 +7,14 @@ use Rattle.tla_tree.specs.Lexical.{TokenView, Token}
 use Rattle.tla_tree.specs.Lexical as tk
 use Rattle.tla_tree.specs.Reader.{readers}
 use Rattle.pcal_tree.specs.GrammarParts.{key}
-use Rattle.algorithm_parts.specs.TokenReaders.{pick, Parts, parts_of}
-use Rattle.algorithm_parts.specs.ReadParts.{read_semicolon, read_section, read_definitions}
-use Rattle.algorithm_parts.specs.ReadAround.{read_head}
-use Rattle.algorithm_parts.specs.ReadRoutines.{read_macros, read_procedures, read_define}
-use Rattle.algorithm_parts.specs.Missing.{Missing, completed_by, then_misses, by_next_misses, past_misses, all_of, an_identifier, a_number, key_then, name_then, PartsMiss, parts_miss, expr_then}
-use Rattle.algorithm_parts.specs.MissingParts.{missing_section, missing_definitions, a_value, bind_then}
-use Rattle.algorithm_parts.specs.MissingSimple.{a_skip}
-use Rattle.algorithm_parts.specs.MissingRoutines.{missing_head, WaysMiss, missing_macros, missing_procedures, missing_define, missing_main_processes}
+use Rattle.algorithm_reader.specs.TokenReaders.{pick, Parts, parts_of}
+use Rattle.algorithm_reader.specs.ReadParts.{read_semicolon, read_section, read_definitions}
+use Rattle.algorithm_reader.specs.ReadAround.{read_head}
+use Rattle.algorithm_reader.specs.ReadRoutines.{read_macros, read_procedures, read_define}
+use Rattle.algorithm_reader.specs.Missing.{Missing, completed_by, then_misses, by_next_misses, past_misses, all_of, an_identifier, a_number, key_then, name_then, PartsMiss, parts_miss, expr_then}
+use Rattle.algorithm_reader.specs.MissingParts.{missing_section, missing_definitions, a_value, bind_then}
+use Rattle.algorithm_reader.specs.MissingSimple.{a_skip}
+use Rattle.algorithm_reader.specs.MissingRoutines.{missing_head, WaysMiss, missing_macros, missing_procedures, missing_define, missing_main_processes}
 use Rattle.p_syntax.specs.ReadStatements.{read_sequence, ends_with}
 use Rattle.p_syntax.specs.ReadAlgorithm.{ways, read_main, read_text, read_algorithm}
 use Rattle.p_syntax.specs.Resume.{main_rest, end_rest}

@@ -7,12 +7,12 @@ use Rattle.tla_tree.specs.Lexical.{TokenView, Token}
 use Rattle.tla_tree.specs.Lexical as tk
 use Rattle.tla_tree.specs.Reader.{refuses}
 use Rattle.pcal_tree.specs.GrammarParts.{key, no_labels}
-use Rattle.algorithm_parts.specs.TokenReaders.{pick, Parts}
-use Rattle.algorithm_parts.specs.ReadParts.{read_colon, read_binds}
-use Rattle.algorithm_parts.specs.ReadSimple.{named_by, simple_words}
-use Rattle.algorithm_parts.specs.Missing.{Missing, then_misses, goes_on_missing, by_next_misses, past_misses, all_of, key_then, PartsMiss, expr_then}
-use Rattle.algorithm_parts.specs.MissingParts.{missing_colon, missing_binds}
-use Rattle.algorithm_parts.specs.MissingSimple.{a_skip, missing_named, missing_simple_words}
+use Rattle.algorithm_reader.specs.TokenReaders.{pick, Parts}
+use Rattle.algorithm_reader.specs.ReadParts.{read_colon, read_binds}
+use Rattle.algorithm_reader.specs.ReadSimple.{named_by, simple_words}
+use Rattle.algorithm_reader.specs.Missing.{Missing, then_misses, goes_on_missing, by_next_misses, past_misses, all_of, key_then, PartsMiss, expr_then}
+use Rattle.algorithm_reader.specs.MissingParts.{missing_colon, missing_binds}
+use Rattle.algorithm_reader.specs.MissingSimple.{a_skip, missing_named, missing_simple_words}
 use Rattle.p_syntax.specs.ReadStatements.{none, first_arm, later_arm, in_then, in_else, in_either, in_with, in_while, Stack, bottom, inside, depth, State, begin, ended, Turn, on, done, step, ends_with, closing, rest}
 
 -- ---- a statement comes

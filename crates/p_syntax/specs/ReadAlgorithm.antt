@@ -6,10 +6,10 @@ use Rattle.tla_tree.specs.Lexical.{TokenView}
 use Rattle.tla_tree.specs.Lexical as tk
 use Rattle.tla_tree.specs.Reader.{Reader, ◌>>=◌, gives, refuses, skip, readers}
 use Rattle.pcal_tree.specs.Grammar.{Body, begin_end, Identity, bare, Define, define_end, Main, begin, to_end, Text}
-use Rattle.algorithm_parts.specs.TokenReaders.{by_next, past, a_key, a_name, pick, Parts, parts_of, limited_parts}
-use Rattle.algorithm_parts.specs.ReadParts.{read_semicolon, read_section, read_definitions, bind_by}
-use Rattle.algorithm_parts.specs.ReadAround.{read_head, to_last}
-use Rattle.algorithm_parts.specs.ReadRoutines.{Ways, read_macros, read_procedures, read_define, main_processes}
+use Rattle.algorithm_reader.specs.TokenReaders.{by_next, past, a_key, a_name, pick, Parts, parts_of, limited_parts}
+use Rattle.algorithm_reader.specs.ReadParts.{read_semicolon, read_section, read_definitions, bind_by}
+use Rattle.algorithm_reader.specs.ReadAround.{read_head, to_last}
+use Rattle.algorithm_reader.specs.ReadRoutines.{Ways, read_macros, read_procedures, read_define, main_processes}
 use Rattle.p_syntax.specs.ReadStatements.{read_sequence}
 
 -- ---- bodies; the word is after `end`

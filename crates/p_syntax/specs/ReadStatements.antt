@@ -10,10 +10,10 @@ use Rattle.tla_tree.specs.Reader.{Reader, ◌>>=◌, gives, refuses, skip}
 use Rattle.pcal_tree.specs.GrammarParts.{key, Labels, no_labels, Binds, Simple}
 use Rattle.pcal_tree.specs.GrammarP.{Statement, simple, branch, either, with, while, Else, no_else, else_then, else_if, Branches, last_branch, more_branches, Sequence, last_statement, more_statements}
 use Rattle.pcal_tree.specs.OpenForms.{after_binds}
-use Rattle.algorithm_parts.specs.TokenReaders.{by_next, a_key, pick, Parts}
-use Rattle.algorithm_parts.specs.ReadParts.{read_colon, read_binds}
-use Rattle.algorithm_parts.specs.ReadAround.{with_label, within}
-use Rattle.algorithm_parts.specs.ReadSimple.{named_by, simple_words}
+use Rattle.algorithm_reader.specs.TokenReaders.{by_next, a_key, pick, Parts}
+use Rattle.algorithm_reader.specs.ReadParts.{read_colon, read_binds}
+use Rattle.algorithm_reader.specs.ReadAround.{with_label, within}
+use Rattle.algorithm_reader.specs.ReadSimple.{named_by, simple_words}
 
 -- ---- what was read
 

@@ -7,11 +7,11 @@ use Rattle.tla_tree.specs.Lexical.{Token}
 use Rattle.tla_tree.specs.Reader.{Reader, ◌>>=◌, gives}
 use Rattle.pcal_tree.specs.GrammarParts.{key, Section}
 use Rattle.pcal_tree.specs.Grammar.{Body, begin_end, Macro, Procedure, Process, Head, Define, Main, begin, to_end, Text}
-use Rattle.algorithm_parts.specs.TokenReaders.{a_key, a_name, Parts}
-use Rattle.algorithm_parts.specs.ReadParts.{read_semicolon, read_section}
-use Rattle.algorithm_parts.specs.ReadAround.{read_head}
-use Rattle.algorithm_parts.specs.ReadRoutines.{read_define, read_macros, read_procedures, read_processes}
-use Rattle.algorithm_parts.specs.Owners.{Owner, in_macro, in_procedure, in_process, in_main, main_of}
+use Rattle.algorithm_reader.specs.TokenReaders.{a_key, a_name, Parts}
+use Rattle.algorithm_reader.specs.ReadParts.{read_semicolon, read_section}
+use Rattle.algorithm_reader.specs.ReadAround.{read_head}
+use Rattle.algorithm_reader.specs.ReadRoutines.{read_define, read_macros, read_procedures, read_processes}
+use Rattle.algorithm_reader.specs.Owners.{Owner, in_macro, in_procedure, in_process, in_main, main_of}
 use Rattle.p_syntax.specs.ReadStatements.{State, run, ends_with, rest}
 use Rattle.p_syntax.specs.ReadAlgorithm.{ways, read_main}
 

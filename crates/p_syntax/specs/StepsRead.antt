@@ -7,14 +7,14 @@ use Rattle.tla_tree.specs.Reader.{Reader, ◌>>=◌, gives, refuses}
 use Rattle.tla_tree.specs.Spelling.{Phrase}
 use Rattle.pcal_tree.specs.GrammarParts.{Labels}
 use Rattle.pcal_tree.specs.GrammarP as p
-use Rattle.expression_parts.specs.declared.cursor.Halt.{Halt}
-use Rattle.expression_parts.specs.ReadIn.{Told}
-use Rattle.expression_parts.specs.Ahead.{ahead}
-use Rattle.algorithm_parts.specs.TokenReaders.{by_next, a_key, a_name, pick, Parts}
-use Rattle.algorithm_parts.specs.ReadParts.{read_colon}
-use Rattle.algorithm_parts.specs.ReadAround.{with_label, within}
-use Rattle.algorithm_parts.specs.PartsRead.{StandsFor, parts_in, StepLess}
-use Rattle.algorithm_parts.specs.SimpleRead.{simple_reader}
+use Rattle.expr_nodes.specs.declared.cursor.Halt.{Halt}
+use Rattle.expr_nodes.specs.ReadIn.{Told}
+use Rattle.expr_nodes.specs.Ahead.{ahead}
+use Rattle.algorithm_reader.specs.TokenReaders.{by_next, a_key, a_name, pick, Parts}
+use Rattle.algorithm_reader.specs.ReadParts.{read_colon}
+use Rattle.algorithm_reader.specs.ReadAround.{with_label, within}
+use Rattle.algorithm_reader.specs.PartsRead.{StandsFor, parts_in, StepLess}
+use Rattle.algorithm_reader.specs.SimpleRead.{simple_reader}
 use Rattle.p_syntax.specs.ReadStatements as reader
 use Rattle.p_syntax.specs.ReadStatements.{Before, Stack, inside, depth, statement_words, statement_by, closing_words, takes_end, another_by, ended_by, ends_simple}
 use Rattle.p_syntax.specs.declared.open.State.{State}

@@ -6,26 +6,26 @@ ghost use Rattle.tla_token.specs.Limits.{deepest_statement};
 ghost use Rattle.tla_tree.specs.Tree.{Tree};
 ghost use Rattle.tla_tree.specs.Pool.{at as tree_at, Keeps};
 ghost use Rattle.tla_tree.specs.Spelling.{Phrase, tree_of};
-ghost use Rattle.expression_parts.specs.Ahead.{ahead};
+ghost use Rattle.expr_nodes.specs.Ahead.{ahead};
 ghost use Rattle.tla_expr.specs.Numbers.{NumbersFit};
-ghost use Rattle.expression_parts.specs.ReadIn.{Told};
+ghost use Rattle.expr_nodes.specs.ReadIn.{Told};
 ghost use Rattle.pcal_tree.specs.InMemory.{statements_at, past_statements};
 ghost use Rattle.pcal_tree.specs.GrammarParts.{Binds};
 ghost use Rattle.pcal_tree.specs.GrammarP as p;
 ghost use Rattle.p_syntax.specs.declared.open.Turn as code;
 ghost use Rattle.p_syntax.specs.declared.open.Frame.TheVariants as frame;
-ghost use Rattle.algorithm_parts.specs.TokenReaders.{first};
-ghost use Rattle.algorithm_parts.specs.PartsRead.{parts_in, StandsFor};
+ghost use Rattle.algorithm_reader.specs.TokenReaders.{first};
+ghost use Rattle.algorithm_reader.specs.PartsRead.{parts_in, StandsFor};
 ghost use Rattle.p_syntax.specs.ReadStatements as reader;
 ghost use Rattle.p_syntax.specs.StatesRead.{TurnStands, StackStands, ElseStands, EitherStands, FrameStands, list_at, past_list};
 ghost use Rattle.p_syntax.specs.StepsRead.{ClosingRead, closes_by, test_reader, EndRead, PassesOn, end_step};
 
 use crate::close::closed_if;
 use crate::open::{Frame, Point, State, Test, Turn, extended, innermost, opened};
-use algorithm_parts::expression::read_expression;
-use algorithm_parts::token_step::{behind, next_token, past_key, refused_there};
-use algorithm_parts::words::one_deeper;
-use expression_parts::cursor::Halt;
+use algorithm_reader::expression::read_expression;
+use algorithm_reader::token_step::{behind, next_token, past_key, refused_there};
+use algorithm_reader::words::one_deeper;
+use expr_nodes::cursor::Halt;
 use pcal_tree::algorithm::{Bind, Span, Stmt};
 use std::alloc::Global;
 use tla_pool::Pool;
@@ -158,7 +158,7 @@ pub fn take_or(
 }
 
 // Past `end` and `if`, after these tests.
-#[tactic(auto, using(expression_parts::proofs::AheadLemmas::ahead_tail))]
+#[tactic(auto, using(expr_nodes::proofs::AheadLemmas::ahead_tail))]
 fn end_if(
     alloc: Global,
     tokens: &Tokens,
@@ -180,7 +180,7 @@ fn end_if(
 }
 
 // Past `end` and `either`, after these branches.
-#[tactic(auto, using(expression_parts::proofs::AheadLemmas::ahead_tail))]
+#[tactic(auto, using(expr_nodes::proofs::AheadLemmas::ahead_tail))]
 fn end_either(
     tokens: &Tokens,
     place: Place,
@@ -204,7 +204,7 @@ fn end_either(
 }
 
 // Past `end` and `with`.
-#[tactic(auto, using(expression_parts::proofs::AheadLemmas::ahead_tail))]
+#[tactic(auto, using(expr_nodes::proofs::AheadLemmas::ahead_tail))]
 fn end_with(
     tokens: &Tokens,
     place: Place,
@@ -226,7 +226,7 @@ fn end_with(
 }
 
 // Past `end` and `while`.
-#[tactic(auto, using(expression_parts::proofs::AheadLemmas::ahead_tail))]
+#[tactic(auto, using(expr_nodes::proofs::AheadLemmas::ahead_tail))]
 fn end_while(
     tokens: &Tokens,
     place: Place,

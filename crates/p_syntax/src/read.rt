@@ -11,13 +11,13 @@ ghost use Rattle.pcal_tree.specs.InMemory.{algorithm_at, past_algorithm};
 ghost use Rattle.pcal_tree.specs.Grammar.{p_syntax, Spells};
 ghost use Rattle.pcal_tree.specs.AlgorithmTokens.{views};
 ghost use Rattle.pcal_tree.specs.OffencesSyntax.{RefusesTokens};
-ghost use Rattle.algorithm_parts.specs.Completes.{Completes};
+ghost use Rattle.algorithm_reader.specs.Completes.{Completes};
 ghost use Rattle.algorithm_limits.specs.Answered.{AreAnswered};
 ghost use Rattle.p_syntax.specs.MissingAlgorithm.{completion};
 
 use crate::algorithm::read_algorithm;
+use algorithm_reader::answer::answered;
 use pcal_tree::algorithm::Algorithm;
-use routine_parts::answer::answered;
 use std::alloc::Global;
 use tla_pool::Pool;
 use tla_token::{Stop, Tokens};

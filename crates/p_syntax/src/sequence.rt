@@ -2,16 +2,16 @@
 
 ghost use Rattle.std.specs.Prelude.{ℕ, ◌<◌, ◌≤◌, IfOk, length};
 ghost use Rattle.tla_tree.specs.Pool.{Keeps};
-ghost use Rattle.expression_parts.specs.Ahead.{ahead};
+ghost use Rattle.expr_nodes.specs.Ahead.{ahead};
 ghost use Rattle.tla_expr.specs.Numbers.{NumbersFit};
 ghost use Rattle.pcal_tree.specs.GrammarP as p;
-ghost use Rattle.algorithm_parts.specs.PartsRead.{ReadsPart, parts_in, Enough};
+ghost use Rattle.algorithm_reader.specs.PartsRead.{ReadsPart, parts_in, Enough};
 ghost use Rattle.p_syntax.specs.ReadStatements as reader;
 ghost use Rattle.p_syntax.specs.StatesRead.{StateStands, list_at, past_list};
 
 use crate::open::{State, Turn, start};
 use crate::statements::{read_statement, read_step};
-use expression_parts::cursor::Halt;
+use expr_nodes::cursor::Halt;
 use pcal_tree::algorithm::Stmt;
 use std::alloc::Global;
 use tla_pool::Pool;

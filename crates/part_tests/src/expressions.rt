@@ -2,9 +2,9 @@
 
 ghost use Rattle.std.specs.Prelude.{◌<◌, length, IfOk};
 
-use expression_parts::cursor::look;
-use expression_parts::quote::unquoted;
-use expression_parts::view::View;
+use expr_nodes::cursor::look;
+use expr_nodes::quote::unquoted;
+use expr_nodes::view::View;
 use std::alloc::{AllocError, Global};
 use tla_pool::form::{Form, Strict};
 use tla_pool::graft::{Grafting, grafted};

@@ -17,7 +17,7 @@ use Rattle.module_tree.specs.FileUnits.{cut, tokens_in}
 use Rattle.module_tree.specs.Outside.{identifiers}
 use Rattle.module_tree.specs.FileOffences.{file_offences}
 use Rattle.module_tree.specs.WithTranslation.{WithTranslation}
-use Rattle.file_parts.specs.Splitting.{Splits}
+use Rattle.module_split.specs.Splitting.{Splits}
 use Rattle.first_path.specs.Beside.{Beside, beside, declared_by, extended_by}
 use Rattle.first_path.specs.Form.{Parts, is_fit, suits}
 use Rattle.first_path.specs.TreeForm.{if_so, form_of, if_none, suiting, tree_form}

@@ -5,13 +5,13 @@ use Rattle.tla_token.specs.Places.{start}
 use Rattle.tla_tree.specs.Tree.{Tree, string}
 use Rattle.tla_tree.specs.Pool.{at, AllBelow}
 use Rattle.module_tree.specs.Module as tree
-use Rattle.module_memory.specs.declared.«module».Item.{Item}
-use Rattle.module_memory.specs.declared.«module».Body.{Body}
-use Rattle.module_memory.specs.declared.«module».Body.TheVariants as body
-use Rattle.module_memory.specs.declared.«module».Action.{Action}
-use Rattle.module_memory.specs.declared.«module».Region.{Region}
-use Rattle.module_memory.specs.InMemory.{items_at, body_at, actions_at, ways_at, fairness_at, region_at, past_items, BodyIn, ActionsIn, WaysIn, AllFairnessIn, MaybeIn, RegionIn}
-use Rattle.module_memory.proofs.ItemEquations.{test_at, setting_at, past_test, past_setting}
+use Rattle.module_write.specs.declared.«module».Item.{Item}
+use Rattle.module_write.specs.declared.«module».Body.{Body}
+use Rattle.module_write.specs.declared.«module».Body.TheVariants as body
+use Rattle.module_write.specs.declared.«module».Action.{Action}
+use Rattle.module_write.specs.declared.«module».Region.{Region}
+use Rattle.module_write.specs.InMemory.{items_at, body_at, actions_at, ways_at, fairness_at, region_at, past_items, BodyIn, ActionsIn, WaysIn, AllFairnessIn, MaybeIn, RegionIn}
+use Rattle.module_write.proofs.ItemEquations.{test_at, setting_at, past_test, past_setting}
 use Rattle.tla_value.specs.Defs.{definitions_at, DefinitionsIn}
 use Rattle.first_path.specs.Form.{Parts}
 use Rattle.first_path.specs.Placed.{leaf, right_tree, is_at, step_at, region_of}

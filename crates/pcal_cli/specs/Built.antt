@@ -4,14 +4,14 @@ use Rattle.tla_token.specs.Places.{start}
 use Rattle.tla_tree.specs.declared.op.Op.TheVariants.{Equal}
 use Rattle.tla_tree.specs.Tree.{Tree, name, number, string}
 use Rattle.tla_tree.specs.Pool.{at}
-use Rattle.module_memory.specs.declared.«module».Item.{Item}
-use Rattle.module_memory.specs.declared.«module».Item.TheVariants.{Test, Setting}
-use Rattle.module_memory.specs.declared.«module».Body.{Body}
-use Rattle.module_memory.specs.declared.«module».Body.TheVariants as body
-use Rattle.module_memory.specs.declared.«module».Action.{Action}
-use Rattle.module_memory.specs.declared.«module».Call.TheVariants.{Bare}
-use Rattle.module_memory.specs.declared.«module».Way.{Way}
-use Rattle.module_memory.specs.declared.«module».Way.TheVariants.{One}
+use Rattle.module_write.specs.declared.«module».Item.{Item}
+use Rattle.module_write.specs.declared.«module».Item.TheVariants.{Test, Setting}
+use Rattle.module_write.specs.declared.«module».Body.{Body}
+use Rattle.module_write.specs.declared.«module».Body.TheVariants as body
+use Rattle.module_write.specs.declared.«module».Action.{Action}
+use Rattle.module_write.specs.declared.«module».Call.TheVariants.{Bare}
+use Rattle.module_write.specs.declared.«module».Way.{Way}
+use Rattle.module_write.specs.declared.«module».Way.TheVariants.{One}
 use Rattle.first_path.specs.Form.{Parts}
 use Rattle.first_path.specs.Placed.{leaf, infix_of, right_tree, is_at}
 use Rattle.pcal_cli.specs.declared.nodes.Nodes.{Nodes}

@@ -2,7 +2,7 @@
 
 ghost use Rattle.std.specs.Prelude.{◌≡◌, ◌∷◌, [], ℕ, List, IfOk, codes};
 ghost use Rattle.tla_tree.specs.Tree.{Tree};
-ghost use Rattle.module_memory.specs.InMemory.{region_at, RegionIn};
+ghost use Rattle.module_write.specs.InMemory.{region_at, RegionIn};
 ghost use Rattle.first_path.specs.Placed.{region_of};
 ghost use Rattle.pcal_cli.specs.FormSeen.{parts_of};
 ghost use Rattle.pcal_cli.specs.Built.{AreNodes, NodesIn, items_of, IsStep, AreWays};

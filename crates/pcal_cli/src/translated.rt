@@ -5,7 +5,7 @@ ghost use Rattle.tla_token.specs.Tokens.{stretch};
 ghost use Rattle.pcal_tree.specs.InMemory.{algorithm_at, past_algorithm};
 ghost use Rattle.module_tree.specs.Layout.{layout};
 ghost use Rattle.module_tree.specs.FileOffences.{file_offences};
-ghost use Rattle.file_parts.specs.Splitting.{Splits};
+ghost use Rattle.module_split.specs.Splitting.{Splits};
 ghost use Rattle.first_path.specs.Form.{is_fit as is_fit_of};
 ghost use Rattle.first_path.specs.TreeForm.{tree_form};
 ghost use Rattle.first_path.specs.Placed.{region_of, translation_of};

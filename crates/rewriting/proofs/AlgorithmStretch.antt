@@ -28,7 +28,7 @@ use Rattle.module_tree.specs.laws.Kept.{is_large, only_large}
 use Rattle.module_tree.proofs.FineFiles.{all_more, none_left, spared_both, segments_free}
 use Rattle.module_tree.proofs.WalkPlace.{before_whole}
 use Rattle.module_tree.proofs.AlgorithmFound.{Opened, opened, made_there}
-use Rattle.file_parts.proofs.LineLengths.{past_len}
+use Rattle.module_split.proofs.LineLengths.{past_len}
 use Rattle.module_tree.proofs.AlgorithmIsCut.{placed, fine_here, algorithm_is_cut}
 
 -- ---- where it is

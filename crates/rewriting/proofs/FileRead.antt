@@ -21,7 +21,7 @@ use Rattle.module_tree.specs.declared.parts.Parts.{Parts}
 use Rattle.module_tree.specs.TextFront.{Text}
 use Rattle.module_tree.specs.AlgorithmText.{AlgorithmText, algorithm_tokens}
 use Rattle.module_tree.specs.FileOffences.{splitting_offences, RefusesSplit}
-use Rattle.file_parts.specs.Splitting.{Splits}
+use Rattle.module_split.specs.Splitting.{Splits}
 use Rattle.algorithm_limits.specs.TokensRefused.{left_out_at}
 use Rattle.algorithm_limits.specs.Answered.{AreAnswered}
 use Rattle.rewriting.specs.Refusals.{IsStop}

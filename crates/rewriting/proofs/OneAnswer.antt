@@ -14,7 +14,7 @@ use Rattle.pcal_tree.specs.Offences.{first}
 use Rattle.pcal_tree.specs.OffencesCounts.{count_offences}
 use Rattle.pcal_tree.specs.OffencesSyntax.{PassesTokens, RefusesTokens}
 use Rattle.pcal_tree.proofs.RefusedOnce.{refused_once, passes_or_refused}
-use Rattle.algorithm_parts.proofs.StopsWithin.{one_of_both}
+use Rattle.algorithm_reader.proofs.StopsWithin.{one_of_both}
 use Rattle.p_syntax.specs.ReadAlgorithm as p
 use Rattle.p_syntax.proofs.StopsWithin as p_within
 use Rattle.p_syntax.proofs.WholeAlgorithm as p_whole

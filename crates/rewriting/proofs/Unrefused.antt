@@ -30,7 +30,7 @@ use Rattle.module_tree.specs.laws.Kept.{IsFine}
 use Rattle.module_tree.proofs.FineFiles.{all_more, small_kind, fine, fine_without}
 use Rattle.module_tree.proofs.WalkPlace.{both_empty}
 use Rattle.module_tree.proofs.WalkKept.{all_fine_in}
-use Rattle.file_parts.proofs.SplitWhole.{some_algorithm}
+use Rattle.module_split.proofs.SplitWhole.{some_algorithm}
 use Rattle.algorithm_limits.specs.Answered.{or_counts}
 use Rattle.algorithm_limits.specs.TokensRefused.{placed}
 use Rattle.rewriting.specs.Refusals.{or_else, counting, up_to, of_spelling}

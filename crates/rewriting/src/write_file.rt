@@ -3,7 +3,7 @@
 ghost use Rattle.std.specs.Prelude.{◌≤◌, ◌≡◌, ◌++◌, length, take, drop, IfOk, OnOk};
 ghost use Rattle.tla_tree.specs.laws.InText.{ends_word};
 ghost use Rattle.pcal_tree.specs.InMemory.{algorithm_at, past_algorithm};
-ghost use Rattle.file_parts.specs.Splitting.{Splits};
+ghost use Rattle.module_split.specs.Splitting.{Splits};
 ghost use Rattle.pcal_tree.specs.Syntaxes.{syntax_of};
 ghost use Rattle.syntax_print.specs.Rewritten.{gap, Rewritten};
 ghost use Rattle.rewriting.specs.Holds.{HoldsTree};

@@ -8,7 +8,7 @@ use Rattle.tla_tree.specs.Pool.{at}
 use Rattle.tla_tree.specs.Shapes as shapes
 use Rattle.tla_tree.specs.Shapes.{HaveNames}
 use Rattle.tla_tree.specs.Spelling.{Binds, last_bind, bind, share, Fields, last_field, field, Settings, last_setting, setting, Path, path_end, index, at_field, named, in_first, groups, sets_before, labels, field_trees, slots, setting_trees, subscripts, steps, tree_of}
-use Rattle.expression_parts.specs.ReadIn.{AreBound, AreFields, AreSettings}
+use Rattle.expr_nodes.specs.ReadIn.{AreBound, AreFields, AreSettings}
 
 -- ---- how many trees
 abbrev count : Trees → ℕ

@@ -29,7 +29,7 @@ use Rattle.tla_tree.specs.TokenViews.{word_kinds, kind_among, word_kind, kind_of
 use Rattle.tla_tree.specs.Reader.{next}
 use Rattle.tla_tree.specs.laws.Writable.{IsOfText, AreOfText, IsSmall, AreSmall}
 use Rattle.tla_tree.proofs.TextTokens.{text_tokens}
-use Rattle.expression_parts.specs.ReadIn.{seen}
+use Rattle.expr_nodes.specs.ReadIn.{seen}
 use Rattle.tla_expr.specs.Numbers.{NumbersFit}
 
 -- ---- no offence

@@ -13,14 +13,14 @@ use Rattle.tla_tree.specs.Reader.{Out, Readers, then_read, ◌>>=◌, gives, pee
 use Rattle.tla_tree.specs.Whole.{whole}
 use Rattle.tla_tree.proofs.PoolNumbers.{Keeps-then}
 use Rattle.tla_tree.proofs.Whole.{arms_is}
-use Rattle.expression_parts.specs.declared.cursor.Halt.{Halt}
-use Rattle.expression_parts.specs.declared.make.Read.{Read}
-use Rattle.expression_parts.specs.declared.shape.Shape.{Shape}
-use Rattle.expression_parts.specs.ShapeOf.{shape_of}
-use Rattle.expression_parts.specs.ReadIn.{IsIn, AreArms, Reads, Fails}
-use Rattle.expression_parts.specs.Ahead.{ahead}
+use Rattle.expr_nodes.specs.declared.cursor.Halt.{Halt}
+use Rattle.expr_nodes.specs.declared.make.Read.{Read}
+use Rattle.expr_nodes.specs.declared.shape.Shape.{Shape}
+use Rattle.expr_nodes.specs.ShapeOf.{shape_of}
+use Rattle.expr_nodes.specs.ReadIn.{IsIn, AreArms, Reads, Fails}
+use Rattle.expr_nodes.specs.Ahead.{ahead}
 use Rattle.tla_expr.specs.HasRead.{behind_mark, one_arm, is_arm_next}
-use Rattle.expression_parts.proofs.MakeLemmas.{kept_in}
+use Rattle.expr_nodes.proofs.MakeLemmas.{kept_in}
 use Rattle.tla_expr.proofs.ReadLemmas.{fails_then}
 use Rattle.tla_expr.proofs.ReadLinks.{then_one, then_two}
 use Rattle.tla_expr.proofs.ReadRows.{put_after, after_nothing, after_more, fails_after_all}

@@ -15,14 +15,14 @@ use Rattle.tla_tree.specs.Whole.{whole}
 use Rattle.tla_tree.proofs.Whole.{binds_is}
 use Rattle.tla_tree.proofs.SoundTokens.{mark_is}
 use Rattle.tla_tree.proofs.PoolNumbers.{Keeps-then, AllBelow-more, map_at-kept}
-use Rattle.expression_parts.specs.declared.cursor.Halt.{Halt}
-use Rattle.expression_parts.specs.declared.make.Read.{Read}
-use Rattle.expression_parts.specs.declared.shape.Shape.{Shape}
-use Rattle.expression_parts.specs.ReadIn.{IsIn, AreBound, Reads, Fails}
-use Rattle.expression_parts.specs.ShapeOf.{in_binds}
-use Rattle.expression_parts.specs.Ahead.{ahead}
+use Rattle.expr_nodes.specs.declared.cursor.Halt.{Halt}
+use Rattle.expr_nodes.specs.declared.make.Read.{Read}
+use Rattle.expr_nodes.specs.declared.shape.Shape.{Shape}
+use Rattle.expr_nodes.specs.ReadIn.{IsIn, AreBound, Reads, Fails}
+use Rattle.expr_nodes.specs.ShapeOf.{in_binds}
+use Rattle.expr_nodes.specs.Ahead.{ahead}
 use Rattle.tla_expr.specs.Grouped.{Grouped}
-use Rattle.expression_parts.proofs.MakeLemmas.{kept_in}
+use Rattle.expr_nodes.proofs.MakeLemmas.{kept_in}
 use Rattle.tla_expr.proofs.ReadLemmas.{fails_then, fails_on}
 use Rattle.tla_expr.proofs.ReadPut.{then_gives, put_on, put_fails}
 

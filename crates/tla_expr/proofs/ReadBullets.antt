@@ -14,13 +14,13 @@ use Rattle.tla_tree.specs.Reader.{Out, Reader, then_read, next, free, take, bull
 use Rattle.tla_tree.specs.Whole.{whole}
 use Rattle.tla_tree.proofs.Whole.{bullets_is}
 use Rattle.tla_tree.proofs.Opened.{in_bullets}
-use Rattle.expression_parts.specs.declared.cursor.Halt.{Halt}
-use Rattle.expression_parts.specs.declared.cursor.Halt.TheVariants as halt
-use Rattle.expression_parts.specs.declared.make.Read.{Read}
-use Rattle.expression_parts.specs.declared.shape.Boxes.{Boxes}
-use Rattle.expression_parts.specs.ShapeOf as shapes
-use Rattle.expression_parts.specs.ReadIn.{IsIn, AreItems, Reads, Fails}
-use Rattle.expression_parts.specs.Ahead.{ahead}
+use Rattle.expr_nodes.specs.declared.cursor.Halt.{Halt}
+use Rattle.expr_nodes.specs.declared.cursor.Halt.TheVariants as halt
+use Rattle.expr_nodes.specs.declared.make.Read.{Read}
+use Rattle.expr_nodes.specs.declared.shape.Boxes.{Boxes}
+use Rattle.expr_nodes.specs.ShapeOf as shapes
+use Rattle.expr_nodes.specs.ReadIn.{IsIn, AreItems, Reads, Fails}
+use Rattle.expr_nodes.specs.Ahead.{ahead}
 use Rattle.tla_expr.specs.HasRead.{one_item}
 use Rattle.tla_expr.proofs.ReadLemmas.{fails_then}
 use Rattle.tla_expr.proofs.ReadLinks.{open_at, open_not, then_two}

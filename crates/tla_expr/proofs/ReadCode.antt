@@ -5,19 +5,19 @@ use Rattle.tla_token.specs.declared.place.Place.{Place}
 use Rattle.tla_token.specs.declared.rule.Rule.TheVariants.{TooDeep}
 use Rattle.tla_token.specs.declared.token.Token as code_token
 use Rattle.tla_tree.specs.declared.op.Op.{Op}
-use Rattle.expression_parts.specs.declared.cursor.Halt.{Halt}
-use Rattle.expression_parts.specs.declared.cursor.Halt.TheVariants as halt
-use Rattle.expression_parts.specs.declared.shape.Context as code
-use Rattle.expression_parts.specs.declared.view.View.{View}
-use Rattle.expression_parts.specs.declared.view.View.TheVariants as view
+use Rattle.expr_nodes.specs.declared.cursor.Halt.{Halt}
+use Rattle.expr_nodes.specs.declared.cursor.Halt.TheVariants as halt
+use Rattle.expr_nodes.specs.declared.shape.Context as code
+use Rattle.expr_nodes.specs.declared.view.View.{View}
+use Rattle.expr_nodes.specs.declared.view.View.TheVariants as view
 use Rattle.tla_tree.specs.Lexical.{Token, token}
 use Rattle.tla_tree.specs.Nesting.{chain}
 use Rattle.tla_tree.specs.Spelling.{Phrase, infix_of}
-use Rattle.expression_parts.specs.ShapeOf.{context_seen}
-use Rattle.expression_parts.specs.ViewSeen.{view_seen}
+use Rattle.expr_nodes.specs.ShapeOf.{context_seen}
+use Rattle.expr_nodes.specs.ViewSeen.{view_seen}
 use Rattle.tla_tree.specs.Reader.{Out, Reader, then_read, next, tail, right_of, bound, goes_on, climb_by, room}
 use Rattle.tla_tree.specs.Whole.{whole}
-use Rattle.expression_parts.specs.ReadIn.{seen, Reads, Fails, Told}
+use Rattle.expr_nodes.specs.ReadIn.{seen, Reads, Fails, Told}
 use Rattle.tla_expr.proofs.ReadSteps.{climb_at, climb_stops, climb_deep, climb_more}
 use Rattle.tla_expr.proofs.ReadLemmas.{fails_then}
 

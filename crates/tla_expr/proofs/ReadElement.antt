@@ -16,21 +16,21 @@ use Rattle.tla_tree.specs.Reader.{Limit, Readers, Out, Reader, Room, Context, th
 use Rattle.tla_tree.specs.Whole.{whole}
 use Rattle.tla_tree.proofs.Opened.{in_climb}
 use Rattle.tla_tree.proofs.Whole.{climb_is}
-use Rattle.expression_parts.specs.declared.cursor.Halt.{Halt}
-use Rattle.expression_parts.specs.declared.cursor.Halt.TheVariants as halt
-use Rattle.expression_parts.specs.declared.make.Read.{Read}
+use Rattle.expr_nodes.specs.declared.cursor.Halt.{Halt}
+use Rattle.expr_nodes.specs.declared.cursor.Halt.TheVariants as halt
+use Rattle.expr_nodes.specs.declared.make.Read.{Read}
 use Rattle.tla_expr.specs.declared.read_element.Parted.{Parted}
-use Rattle.expression_parts.specs.declared.shape.Shape.{Shape}
-use Rattle.expression_parts.specs.declared.view.View.{View}
-use Rattle.expression_parts.specs.declared.view.View.TheVariants as view
-use Rattle.expression_parts.specs.ViewSeen.{view_seen}
-use Rattle.expression_parts.specs.ShapeOf.{shape_of, infix_shape, may_have}
-use Rattle.expression_parts.specs.ReadIn.{MayBeIn, Fails, Told}
-use Rattle.expression_parts.specs.Ahead.{ahead}
+use Rattle.expr_nodes.specs.declared.shape.Shape.{Shape}
+use Rattle.expr_nodes.specs.declared.view.View.{View}
+use Rattle.expr_nodes.specs.declared.view.View.TheVariants as view
+use Rattle.expr_nodes.specs.ViewSeen.{view_seen}
+use Rattle.expr_nodes.specs.ShapeOf.{shape_of, infix_shape, may_have}
+use Rattle.expr_nodes.specs.ReadIn.{MayBeIn, Fails, Told}
+use Rattle.expr_nodes.specs.Ahead.{ahead}
 use Rattle.tla_expr.specs.ReadForms.{IsParted, PartsTo, PartSteps, shape_if}
-use Rattle.expression_parts.proofs.MakeLemmas.{kept_in}
+use Rattle.expr_nodes.proofs.MakeLemmas.{kept_in}
 use Rattle.tla_expr.proofs.ReadLinks.{open_at, open_not}
-use Rattle.expression_parts.proofs.ShapeLemmas.{nesting_is, chain_is}
+use Rattle.expr_nodes.proofs.ShapeLemmas.{nesting_is, chain_is}
 
 -- ---- what the element groups, beside the set
 from_none : (n : ℕ) → 0 ≤ n

@@ -16,11 +16,11 @@ use Rattle.tla_tree.proofs.SpellAppend.{spell_then, all_more}
 use Rattle.tla_tree.proofs.SpellAhead.{held}
 use Rattle.tla_tree.proofs.Limited.{told_ok}
 use Rattle.tla_tree.proofs.LimitedAll.{limited}
-use Rattle.expression_parts.specs.declared.cursor.Halt.{Halt}
-use Rattle.expression_parts.specs.declared.make.Read.{Read}
-use Rattle.expression_parts.specs.declared.make.Row.{Row}
-use Rattle.expression_parts.specs.ReadIn.{seen, IsIn, AreIn, Reads, Fails}
-use Rattle.expression_parts.specs.Ahead.{ahead}
+use Rattle.expr_nodes.specs.declared.cursor.Halt.{Halt}
+use Rattle.expr_nodes.specs.declared.make.Read.{Read}
+use Rattle.expr_nodes.specs.declared.make.Row.{Row}
+use Rattle.expr_nodes.specs.ReadIn.{seen, IsIn, AreIn, Reads, Fails}
+use Rattle.expr_nodes.specs.Ahead.{ahead}
 use Rattle.tla_expr.specs.ReadTrees.{ReadsTree, ReadsTrees}
 
 -- ---- steps

@@ -21,10 +21,10 @@ use Rattle.tla_tree.proofs.SpellAppend.{spell_then}
 use Rattle.tla_tree.proofs.SoundLists.{read_is_spelled}
 use Rattle.tla_tree.proofs.MendedLists.{refused_fits}
 use Rattle.tla_tree.proofs.LimitedStops.{is_read, is_refused, read_within}
-use Rattle.expression_parts.specs.declared.cursor.Halt.TheVariants as halt
-use Rattle.expression_parts.specs.declared.make.Read.{Read}
-use Rattle.expression_parts.specs.ReadIn.{seen, IsIn, Reads, Fails}
-use Rattle.expression_parts.specs.Ahead.{ahead}
+use Rattle.expr_nodes.specs.declared.cursor.Halt.TheVariants as halt
+use Rattle.expr_nodes.specs.declared.make.Read.{Read}
+use Rattle.expr_nodes.specs.ReadIn.{seen, IsIn, Reads, Fails}
+use Rattle.expr_nodes.specs.Ahead.{ahead}
 
 -- ---- places
 abbrev places : List code_token.Token → List Place

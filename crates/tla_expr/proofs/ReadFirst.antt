@@ -5,11 +5,11 @@ use Rattle.tla_token.specs.declared.token.Tokens.{Tokens}
 use Rattle.tla_tree.specs.Tree.{Tree}
 use Rattle.tla_tree.specs.Spelling.{Phrase}
 use Rattle.tla_tree.specs.Reader.{Out, Reader, then_read}
-use Rattle.expression_parts.specs.declared.cursor.Halt.{Halt}
-use Rattle.expression_parts.specs.declared.cursor.Halt.TheVariants as halt
-use Rattle.expression_parts.specs.declared.make.Read.{Read}
-use Rattle.expression_parts.specs.Ahead.{ahead}
-use Rattle.expression_parts.specs.ReadIn.{Fails}
+use Rattle.expr_nodes.specs.declared.cursor.Halt.{Halt}
+use Rattle.expr_nodes.specs.declared.cursor.Halt.TheVariants as halt
+use Rattle.expr_nodes.specs.declared.make.Read.{Read}
+use Rattle.expr_nodes.specs.Ahead.{ahead}
+use Rattle.expr_nodes.specs.ReadIn.{Fails}
 use Rattle.tla_expr.specs.HasRead.{HasRead}
 use Rattle.tla_expr.proofs.ReadGrown.{same_pool}
 use Rattle.tla_expr.proofs.ReadLemmas.{fails_then}

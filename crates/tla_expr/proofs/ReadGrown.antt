@@ -8,15 +8,15 @@ use Rattle.tla_tree.specs.Lexical.{Token}
 use Rattle.tla_tree.specs.Nesting.{links, chain}
 use Rattle.tla_tree.specs.Spelling.{Phrase}
 use Rattle.tla_tree.specs.Reader.{Out, Reader, then_read}
-use Rattle.expression_parts.specs.declared.cursor.Halt.{Halt}
-use Rattle.expression_parts.specs.declared.cursor.Halt.TheVariants as halt
-use Rattle.expression_parts.specs.declared.make.Read.{Read}
-use Rattle.expression_parts.specs.declared.shape.Shape.{Shape}
-use Rattle.expression_parts.specs.ReadIn.{IsIn, Reads, Fails}
-use Rattle.expression_parts.specs.Ahead.{ahead}
+use Rattle.expr_nodes.specs.declared.cursor.Halt.{Halt}
+use Rattle.expr_nodes.specs.declared.cursor.Halt.TheVariants as halt
+use Rattle.expr_nodes.specs.declared.make.Read.{Read}
+use Rattle.expr_nodes.specs.declared.shape.Shape.{Shape}
+use Rattle.expr_nodes.specs.ReadIn.{IsIn, Reads, Fails}
+use Rattle.expr_nodes.specs.Ahead.{ahead}
 use Rattle.tla_expr.specs.HasRead.{GrowsTo, Steps}
 use Rattle.tla_expr.proofs.ReadLemmas.{fails_then}
-use Rattle.expression_parts.proofs.ShapeLemmas.{links_is, chain_is}
+use Rattle.expr_nodes.proofs.ShapeLemmas.{links_is, chain_is}
 
 pub grown : (v : Tokens) {new : List Tree} {x : Read} {i : ℕ} (on : Phrase → Reader Phrase) (o p : Out Phrase) → o ≡ then_read p on → Reads (IsIn new x) (ahead v i) p → GrowsTo v new x i on o
 grown v on o p k r = record { what = r.what; told = r.told; is = k ∙ ap (λ (p : Out Phrase). then_read p on) r.is }

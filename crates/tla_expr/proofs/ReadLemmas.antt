@@ -1,10 +1,10 @@
 -- Reading one thing after the other, as the code does.
 use Rattle.std.proofs.Common.{◌≡◌, List, Ok, Err}
-use Rattle.expression_parts.specs.declared.cursor.Halt.{Halt}
-use Rattle.expression_parts.specs.declared.cursor.Halt.TheVariants as halt
+use Rattle.expr_nodes.specs.declared.cursor.Halt.{Halt}
+use Rattle.expr_nodes.specs.declared.cursor.Halt.TheVariants as halt
 use Rattle.tla_tree.specs.Lexical.{Token}
 use Rattle.tla_tree.specs.Reader.{Out, Reader, then_read}
-use Rattle.expression_parts.specs.ReadIn.{Reads, Fails}
+use Rattle.expr_nodes.specs.ReadIn.{Reads, Fails}
 
 -- after what is told of
 pub told_then : {A B : Type 0} {P : A → Type 0} {Q : B → Type 0} {u v : List Token} (o : Out A) (f : A → Reader B) → Reads P u o → ((a : A) → P a → Reads Q v (f a u)) → Reads Q v (then_read o f)

@@ -13,10 +13,10 @@ use Rattle.tla_tree.specs.Reader.{then_read, ◌>>=◌, gives, tail, room, keyed
 use Rattle.tla_tree.specs.Whole.{whole}
 use Rattle.tla_tree.proofs.Opened.{in_cases, in_local}
 use Rattle.tla_tree.proofs.PoolNumbers.{AllBelow-more, map_at-kept}
-use Rattle.expression_parts.specs.declared.make.Read.{Read}
-use Rattle.expression_parts.specs.declared.shape.Boxes.{Boxes}
-use Rattle.expression_parts.specs.ShapeOf.{list_shape}
-use Rattle.expression_parts.specs.ReadIn.{IsIn, AreItems, AreLocals}
+use Rattle.expr_nodes.specs.declared.make.Read.{Read}
+use Rattle.expr_nodes.specs.declared.shape.Boxes.{Boxes}
+use Rattle.expr_nodes.specs.ShapeOf.{list_shape}
+use Rattle.expr_nodes.specs.ReadIn.{IsIn, AreItems, AreLocals}
 use Rattle.tla_expr.specs.HasRead.{cased, defined}
 use Rattle.tla_expr.proofs.ReadLinks.{open_at, then_one}
 

@@ -13,12 +13,12 @@ use Rattle.tla_tree.specs.Reader.{Out, Readers, then_read, ◌>>=◌, gives, pee
 use Rattle.tla_tree.specs.Whole.{whole}
 use Rattle.tla_tree.proofs.PoolNumbers.{Keeps-then}
 use Rattle.tla_tree.proofs.Whole.{locals_is}
-use Rattle.expression_parts.specs.declared.cursor.Halt.{Halt}
-use Rattle.expression_parts.specs.declared.make.Read.{Read}
-use Rattle.expression_parts.specs.ReadIn.{IsIn, AreLocals, Reads, Fails}
-use Rattle.expression_parts.specs.Ahead.{ahead}
+use Rattle.expr_nodes.specs.declared.cursor.Halt.{Halt}
+use Rattle.expr_nodes.specs.declared.make.Read.{Read}
+use Rattle.expr_nodes.specs.ReadIn.{IsIn, AreLocals, Reads, Fails}
+use Rattle.expr_nodes.specs.Ahead.{ahead}
 use Rattle.tla_expr.specs.HasRead.{behind_mark}
-use Rattle.expression_parts.proofs.MakeLemmas.{kept_in}
+use Rattle.expr_nodes.proofs.MakeLemmas.{kept_in}
 use Rattle.tla_expr.proofs.ReadLemmas.{fails_then}
 use Rattle.tla_expr.proofs.ReadLinks.{then_two}
 use Rattle.tla_expr.proofs.ReadRows.{put_after, after_nothing, after_more, fails_after_all}

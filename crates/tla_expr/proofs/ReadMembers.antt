@@ -10,11 +10,11 @@ use Rattle.tla_tree.specs.Spelling.{Phrase}
 use Rattle.tla_tree.specs.Reader.{Readers, then_read, gives, peek, next, tail, took, ended, is_mark, if_fits, room, element, set_rest, set_from, member_rest}
 use Rattle.tla_tree.specs.Whole.{whole}
 use Rattle.tla_tree.proofs.SoundTokens.{mark_is}
-use Rattle.expression_parts.specs.declared.shape.Shape.{Shape}
-use Rattle.expression_parts.specs.ShapeOf.{shape_of}
+use Rattle.expr_nodes.specs.declared.shape.Shape.{Shape}
+use Rattle.expr_nodes.specs.ShapeOf.{shape_of}
 use Rattle.tla_expr.specs.HasRead.{filtered}
 use Rattle.tla_expr.specs.ReadForms.{deep_rule}
-use Rattle.expression_parts.proofs.DepthLemmas.{fits_is}
+use Rattle.expr_nodes.proofs.DepthLemmas.{fits_is}
 
 le_is : (m n : ℕ) → m ≤ n → nat_le m n ≡ true
 le_is m n h = grind (arith, h)

@@ -11,10 +11,10 @@ use Rattle.tla_tree.specs.Reader.{Out, Reader, then_read, next, tail, is_mark, r
 use Rattle.tla_tree.specs.Whole.{whole}
 use Rattle.tla_tree.proofs.PoolNumbers.{Keeps-then}
 use Rattle.tla_tree.proofs.SoundTokens.{mark_is}
-use Rattle.expression_parts.specs.declared.cursor.Halt.{Halt}
-use Rattle.expression_parts.specs.declared.make.Read.{Read}
-use Rattle.expression_parts.specs.ReadIn.{IsIn, Told}
-use Rattle.expression_parts.specs.Ahead.{ahead}
+use Rattle.expr_nodes.specs.declared.cursor.Halt.{Halt}
+use Rattle.expr_nodes.specs.declared.make.Read.{Read}
+use Rattle.expr_nodes.specs.ReadIn.{IsIn, Told}
+use Rattle.expr_nodes.specs.Ahead.{ahead}
 use Rattle.tla_expr.specs.HasRead.{HasRead, Stands}
 use Rattle.tla_expr.proofs.ReadCode.{told_after}
 

@@ -17,10 +17,10 @@ use Rattle.tla_tree.proofs.Whole.{path_is}
 use Rattle.tla_tree.proofs.Opened.{in_index}
 use Rattle.tla_tree.proofs.SoundTokens.{mark_is}
 use Rattle.tla_tree.proofs.PoolNumbers.{Keeps-then, AllBelow-more, map_at-kept}
-use Rattle.expression_parts.specs.declared.cursor.Halt.{Halt}
-use Rattle.expression_parts.specs.declared.cursor.Halt.TheVariants as halt
-use Rattle.expression_parts.specs.ReadIn.{Reads, Fails}
-use Rattle.expression_parts.specs.Ahead.{ahead}
+use Rattle.expr_nodes.specs.declared.cursor.Halt.{Halt}
+use Rattle.expr_nodes.specs.declared.cursor.Halt.TheVariants as halt
+use Rattle.expr_nodes.specs.ReadIn.{Reads, Fails}
+use Rattle.expr_nodes.specs.Ahead.{ahead}
 use Rattle.tla_expr.specs.Routed.{indexed, IsSubscript, IsPath}
 use Rattle.tla_expr.proofs.ReadLemmas.{fails_then}
 use Rattle.tla_expr.proofs.ReadLinks.{then_two, open_at, open_not}

@@ -12,10 +12,10 @@ use Rattle.tla_tree.specs.Reader.{Context, is_free, under_by, signed, gives, Out
 use Rattle.tla_tree.specs.Whole.{whole}
 use Rattle.tla_tree.proofs.Opened.{in_brackets, in_tuples, in_choice, in_signed}
 use Rattle.tla_tree.proofs.SoundTokens.{mark_is}
-use Rattle.expression_parts.specs.declared.cursor.Halt.{Halt}
-use Rattle.expression_parts.specs.declared.make.Read.{Read}
-use Rattle.expression_parts.specs.ReadIn.{IsIn, Told}
-use Rattle.expression_parts.specs.Ahead.{ahead}
+use Rattle.expr_nodes.specs.declared.cursor.Halt.{Halt}
+use Rattle.expr_nodes.specs.declared.make.Read.{Read}
+use Rattle.expr_nodes.specs.ReadIn.{IsIn, Told}
+use Rattle.expr_nodes.specs.Ahead.{ahead}
 use Rattle.tla_expr.specs.HasRead.{HasRead, Stands, bracketed, under_prefix}
 use Rattle.tla_expr.proofs.ReadLinks.{open_at, then_two}
 use Rattle.tla_expr.proofs.ReadNames.{read_on}

@@ -1,8 +1,8 @@
 -- What was read, put before what is still to come.
 use Rattle.std.proofs.Common.{◌≡◌, Ok, Err, refl, sym, ap, ◌∙◌, subst}
 use Rattle.tla_tree.specs.Reader.{Out, then_read, gives}
-use Rattle.expression_parts.specs.declared.cursor.Halt.{Halt}
-use Rattle.expression_parts.specs.ReadIn.{Fails}
+use Rattle.expr_nodes.specs.declared.cursor.Halt.{Halt}
+use Rattle.expr_nodes.specs.ReadIn.{Fails}
 use Rattle.tla_expr.proofs.ReadLemmas.{fails_then}
 use Rattle.tla_expr.proofs.ReadLinks.{then_one}
 

@@ -12,14 +12,14 @@ use Rattle.tla_tree.specs.Reader.{Out, then_read, gives, peek, next, tail, free,
 use Rattle.tla_tree.specs.Whole.{whole}
 use Rattle.tla_tree.proofs.Whole.{phrases_is}
 use Rattle.tla_tree.proofs.SoundTokens.{mark_is}
-use Rattle.expression_parts.specs.declared.cursor.Halt.{Halt}
-use Rattle.expression_parts.specs.declared.cursor.Halt.TheVariants as halt
-use Rattle.expression_parts.specs.declared.make.Read.{Read}
-use Rattle.expression_parts.specs.declared.make.Row.{Row}
-use Rattle.expression_parts.specs.declared.shape.Shape.{Shape}
-use Rattle.expression_parts.specs.ReadIn.{IsIn, AreIn, Reads, Fails}
-use Rattle.expression_parts.specs.Ahead.{ahead}
-use Rattle.expression_parts.proofs.MakeLemmas.{kept_in, starts}
+use Rattle.expr_nodes.specs.declared.cursor.Halt.{Halt}
+use Rattle.expr_nodes.specs.declared.cursor.Halt.TheVariants as halt
+use Rattle.expr_nodes.specs.declared.make.Read.{Read}
+use Rattle.expr_nodes.specs.declared.make.Row.{Row}
+use Rattle.expr_nodes.specs.declared.shape.Shape.{Shape}
+use Rattle.expr_nodes.specs.ReadIn.{IsIn, AreIn, Reads, Fails}
+use Rattle.expr_nodes.specs.Ahead.{ahead}
+use Rattle.expr_nodes.proofs.MakeLemmas.{kept_in, starts}
 use Rattle.tla_expr.proofs.ReadLemmas.{fails_then}
 
 -- ---- what is read, put after what was read

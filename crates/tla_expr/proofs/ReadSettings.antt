@@ -20,13 +20,13 @@ use Rattle.tla_tree.specs.Whole.{whole}
 use Rattle.tla_tree.proofs.Whole.{settings_is}
 use Rattle.tla_tree.proofs.SoundTokens.{mark_is}
 use Rattle.tla_tree.proofs.PoolNumbers.{Keeps-then, AllBelow-push}
-use Rattle.expression_parts.specs.declared.cursor.Halt.{Halt}
-use Rattle.expression_parts.specs.declared.cursor.Halt.TheVariants as halt
-use Rattle.expression_parts.specs.declared.make.Read.{Read}
-use Rattle.expression_parts.specs.ReadIn.{IsIn, AreSettings, Reads, Fails}
-use Rattle.expression_parts.specs.Ahead.{ahead}
+use Rattle.expr_nodes.specs.declared.cursor.Halt.{Halt}
+use Rattle.expr_nodes.specs.declared.cursor.Halt.TheVariants as halt
+use Rattle.expr_nodes.specs.declared.make.Read.{Read}
+use Rattle.expr_nodes.specs.ReadIn.{IsIn, AreSettings, Reads, Fails}
+use Rattle.expr_nodes.specs.Ahead.{ahead}
 use Rattle.tla_expr.specs.Routed.{IsPath}
-use Rattle.expression_parts.proofs.MakeLemmas.{kept_in}
+use Rattle.expr_nodes.proofs.MakeLemmas.{kept_in}
 use Rattle.tla_expr.proofs.ReadLemmas.{fails_then}
 use Rattle.tla_expr.proofs.ReadPaths.{kept_path}
 use Rattle.tla_expr.proofs.ReadPut.{then_gives, put_on, put_fails}

@@ -18,10 +18,10 @@ use Rattle.tla_tree.proofs.Opened.{in_signed}
 use Rattle.tla_tree.proofs.SoundLists.{sound}
 use Rattle.tla_tree.proofs.SpellAhead.{held}
 use Rattle.tla_tree.proofs.Whole.{short_is, expr_is, climb_is}
-use Rattle.expression_parts.specs.declared.view.View.{View}
-use Rattle.expression_parts.specs.declared.view.View.TheVariants as view
-use Rattle.expression_parts.specs.declared.view.Key.{Key}
-use Rattle.expression_parts.specs.ViewSeen.{view_seen}
+use Rattle.expr_nodes.specs.declared.view.View.{View}
+use Rattle.expr_nodes.specs.declared.view.View.TheVariants as view
+use Rattle.expr_nodes.specs.declared.view.Key.{Key}
+use Rattle.expr_nodes.specs.ViewSeen.{view_seen}
 use Rattle.tla_expr.specs.ReadForms.{under_short}
 use Rattle.tla_expr.proofs.ReadLinks.{open_at}
 

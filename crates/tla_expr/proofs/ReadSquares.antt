@@ -11,8 +11,8 @@ use Rattle.tla_tree.specs.Reader.{Reader, Readers, bind_rest, function_rest, the
 use Rattle.tla_tree.specs.Whole.{whole}
 use Rattle.tla_tree.proofs.Opened.{in_squares}
 use Rattle.tla_tree.proofs.SoundTokens.{mark_is}
-use Rattle.expression_parts.specs.declared.shape.Shape.{Shape}
-use Rattle.expression_parts.specs.ShapeOf.{shape_of}
+use Rattle.expr_nodes.specs.declared.shape.Shape.{Shape}
+use Rattle.expr_nodes.specs.ShapeOf.{shape_of}
 use Rattle.tla_expr.specs.HasRead.{mapped_to}
 use Rattle.tla_expr.specs.InSquares.{changed, function_behind}
 use Rattle.tla_expr.specs.ReadForms.{square_rule}

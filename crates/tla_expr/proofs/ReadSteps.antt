@@ -3,13 +3,13 @@ use Rattle.std.proofs.Common.{◌≡◌, ℕ, suc, ◌-◌, ◌≤◌, Bool, tru
 use Rattle.tla_token.specs.declared.place.Place.{Place}
 use Rattle.tla_token.specs.declared.rule.Rule.TheVariants.{TooDeep}
 use Rattle.tla_tree.specs.declared.op.Op.{Op}
-use Rattle.expression_parts.specs.declared.shape.Context as code
-use Rattle.expression_parts.specs.declared.shape.Context.TheVariants as context
+use Rattle.expr_nodes.specs.declared.shape.Context as code
+use Rattle.expr_nodes.specs.declared.shape.Context.TheVariants as context
 use Rattle.tla_tree.specs.Lexical.{TokenView, Token, token}
 use Rattle.tla_tree.specs.Lexical as tk
 use Rattle.tla_tree.specs.Nesting.{chain}
 use Rattle.tla_tree.specs.Spelling.{Phrase, infix_of}
-use Rattle.expression_parts.specs.ShapeOf.{context_seen}
+use Rattle.expr_nodes.specs.ShapeOf.{context_seen}
 use Rattle.tla_tree.specs.Reader.{Reader, Room, room, then_read, next, tail, right_of, bound, goes_on, so_far, climb_by, climb_if, opened_after}
 use Rattle.tla_tree.specs.Whole.{whole}
 use Rattle.tla_tree.proofs.Whole.{climb_is}

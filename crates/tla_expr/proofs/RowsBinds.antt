@@ -9,16 +9,16 @@ use Rattle.tla_tree.specs.Lexical.{token}
 use Rattle.tla_tree.specs.Lexical as tk
 use Rattle.tla_tree.specs.Spelling.{Field, Phrase, Phrases, last, named, tree_of, Binds, Fields, Settings, fields, records, function, except, path_end, at_field}
 use Rattle.tla_tree.specs.Reader.{Readers, no_steps, peek, bind_rest}
-use Rattle.expression_parts.specs.declared.cursor.Halt.TheVariants as halt
-use Rattle.expression_parts.specs.declared.make.Read.{Read}
-use Rattle.expression_parts.specs.declared.shape.Shape.{Shape}
-use Rattle.expression_parts.specs.ReadIn.{IsIn}
-use Rattle.expression_parts.specs.ShapeOf.{in_all}
-use Rattle.expression_parts.specs.Ahead.{ahead}
+use Rattle.expr_nodes.specs.declared.cursor.Halt.TheVariants as halt
+use Rattle.expr_nodes.specs.declared.make.Read.{Read}
+use Rattle.expr_nodes.specs.declared.shape.Shape.{Shape}
+use Rattle.expr_nodes.specs.ReadIn.{IsIn}
+use Rattle.expr_nodes.specs.ShapeOf.{in_all}
+use Rattle.expr_nodes.specs.Ahead.{ahead}
 use Rattle.tla_expr.specs.Grouped.{Grouped, GroupRead}
 use Rattle.tla_expr.specs.Routed.{indexed, IsPath, IsSubscript}
 use Rattle.tla_expr.specs.InSquares.{function_of, fields_of, records_of, changed}
-use Rattle.expression_parts.proofs.MakeLemmas.{kept_in}
+use Rattle.expr_nodes.proofs.MakeLemmas.{kept_in}
 use Rattle.tla_expr.proofs.ReadPut.{then_gives}
 
 abbrev here : Place

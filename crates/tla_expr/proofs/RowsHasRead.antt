@@ -9,8 +9,8 @@ use Rattle.tla_tree.specs.Lexical.{Token, token}
 use Rattle.tla_tree.specs.Lexical as tk
 use Rattle.tla_tree.specs.Spelling.{Phrase, Phrases, select, apply, call, tuple, filter, prefix_of, functions, brackets}
 use Rattle.tla_tree.specs.Reader.{Readers, no_steps}
-use Rattle.expression_parts.specs.ReadIn.{seen}
-use Rattle.expression_parts.specs.Ahead.{ahead}
+use Rattle.expr_nodes.specs.ReadIn.{seen}
+use Rattle.expr_nodes.specs.Ahead.{ahead}
 use Rattle.tla_expr.specs.HasRead.{selected, applied, bracketed, called, tupled, under_prefix, mapped_to, filtered}
 
 all_ahead : (v : Tokens) → ahead v 0 ≡ seen v.bytes.items v.items.items

@@ -8,8 +8,8 @@ use Rattle.tla_tree.specs.Lexical.{Token, token}
 use Rattle.tla_tree.specs.Lexical as tk
 use Rattle.tla_tree.specs.Spelling.{Phrase, Arms, Locals, number, cases, local, last_bullet, bullet, tree_of, operation, two}
 use Rattle.tla_tree.specs.Reader.{Readers, no_steps}
-use Rattle.expression_parts.specs.declared.shape.Boxes.TheVariants as boxes
-use Rattle.expression_parts.specs.ReadIn.{AreItems}
+use Rattle.expr_nodes.specs.declared.shape.Boxes.TheVariants as boxes
+use Rattle.expr_nodes.specs.ReadIn.{AreItems}
 use Rattle.tla_expr.specs.HasRead.{behind_mark, one_arm, is_arm_next, one_item, cased, defined}
 
 abbrev here : Place

@@ -11,7 +11,7 @@ use Rattle.tla_tree.specs.Lexical as tk
 use Rattle.tla_tree.specs.TokenViews.{views}
 use Rattle.tla_tree.specs.Spelling.{Phrase, last, more, tree_of}
 use Rattle.tla_tree.specs.Reader.{next}
-use Rattle.expression_parts.specs.ReadIn.{seen}
+use Rattle.expr_nodes.specs.ReadIn.{seen}
 use Rattle.tla_expr.specs.Numbers.{NumbersFit}
 use Rattle.tla_expr.specs.ReadTrees.{HasTree, HaveTrees}
 use Rattle.tla_expr.proofs.NumbersGiven.{AllFit, of_text, seen_fit}

@@ -7,10 +7,10 @@ use Rattle.tla_tree.specs.Tree.{Tree, Name, Word}
 use Rattle.tla_tree.specs.Pool.{Keeps}
 use Rattle.tla_tree.specs.Spelling.{Phrase, Binds, last_bind, bind}
 use Rattle.tla_tree.specs.Reader.{Out, Readers, ◌>>=◌, gives, peek, bind_rest}
-use Rattle.expression_parts.specs.declared.cursor.Halt.{Halt}
-use Rattle.expression_parts.specs.declared.make.Read.{Read}
-use Rattle.expression_parts.specs.ReadIn.{AreBound, Fails}
-use Rattle.expression_parts.specs.Ahead.{ahead}
+use Rattle.expr_nodes.specs.declared.cursor.Halt.{Halt}
+use Rattle.expr_nodes.specs.declared.make.Read.{Read}
+use Rattle.expr_nodes.specs.ReadIn.{AreBound, Fails}
+use Rattle.expr_nodes.specs.Ahead.{ahead}
 
 -- reading goes on behind these names and their set: alone they are binds, and before others they are the first group
 pub record Grouped (v : Tokens) (ts : List Tree) (d : Readers) (e : ℕ) (names : List Name) (set : Read) (i : ℕ) (o : Out Binds) : Type 0 where

@@ -11,13 +11,13 @@ use Rattle.tla_tree.specs.declared.op.Op.{Op}
 use Rattle.tla_tree.specs.Spelling.{Phrase, takes_box, apply, select, brackets, call, tuple, prefix_of, functions, filter, cases, local}
 use Rattle.tla_tree.specs.Reader.{Out, Reader, Readers, ◌>>=◌, gives, ended, next, take, bullet_of, is_mark, a_mark, a_key, a_field, free, under}
 use Rattle.tla_tree.specs.Whole.{whole}
-use Rattle.expression_parts.specs.declared.cursor.Halt.{Halt}
-use Rattle.expression_parts.specs.declared.make.Read.{Read}
-use Rattle.expression_parts.specs.declared.shape.Context.{Context}
-use Rattle.expression_parts.specs.declared.spot.Spot.{Spot}
-use Rattle.expression_parts.specs.ShapeOf.{context_seen}
-use Rattle.expression_parts.specs.ReadIn.{IsIn, Told, Fails}
-use Rattle.expression_parts.specs.Ahead.{ahead}
+use Rattle.expr_nodes.specs.declared.cursor.Halt.{Halt}
+use Rattle.expr_nodes.specs.declared.make.Read.{Read}
+use Rattle.expr_nodes.specs.declared.shape.Context.{Context}
+use Rattle.expr_nodes.specs.declared.spot.Spot.{Spot}
+use Rattle.expr_nodes.specs.ShapeOf.{context_seen}
+use Rattle.expr_nodes.specs.ReadIn.{IsIn, Told, Fails}
+use Rattle.expr_nodes.specs.Ahead.{ahead}
 
 -- it is in the pool as the phrase that the reader reads, and opens n forms at most; what is left begins no earlier
 pub record HasRead (v : Tokens) (old new : List Tree) (from n : ℕ) (r : Result (Read × ℕ) Halt) (o : Out Phrase) : Type 0 where

@@ -10,12 +10,12 @@ use Rattle.tla_tree.specs.Lexical as tk
 use Rattle.tla_tree.specs.declared.op.Op.{Op}
 use Rattle.tla_tree.specs.Spelling.{Phrase, last, more, prefix_of, set_of, name}
 use Rattle.tla_tree.specs.Reader.{Out, Room, Reader, Readers, free, behind, from_name, brace_rest, member_rest, square_rest, square_member, ◌>>=◌, gives, ended, is_mark, is_key, peek, element}
-use Rattle.expression_parts.specs.declared.cursor.Halt.{Halt}
-use Rattle.expression_parts.specs.declared.make.Read.{Read}
+use Rattle.expr_nodes.specs.declared.cursor.Halt.{Halt}
+use Rattle.expr_nodes.specs.declared.make.Read.{Read}
 use Rattle.tla_expr.specs.declared.read_element.Parted.{Parted}
-use Rattle.expression_parts.specs.declared.shape.Shape.{Shape}
-use Rattle.expression_parts.specs.ReadIn.{IsIn, MayBeIn, Fails}
-use Rattle.expression_parts.specs.Ahead.{ahead}
+use Rattle.expr_nodes.specs.declared.shape.Shape.{Shape}
+use Rattle.expr_nodes.specs.ReadIn.{IsIn, MayBeIn, Fails}
+use Rattle.expr_nodes.specs.Ahead.{ahead}
 
 -- a short form under a prefix operator at a place
 abbrev pub under_short : Readers → ℕ → Place → Op → Reader Phrase

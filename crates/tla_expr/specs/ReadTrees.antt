@@ -6,9 +6,9 @@ use Rattle.tla_tree.specs.Tree.{Tree}
 use Rattle.tla_tree.specs.Pool.{at, trees_at, AllBelow}
 use Rattle.tla_tree.specs.Spelling.{Phrase, Phrases, tree_of, trees_of}
 use Rattle.tla_tree.specs.Reader.{free, readers}
-use Rattle.expression_parts.specs.declared.cursor.Halt.{Halt}
-use Rattle.expression_parts.specs.ReadIn.{Told}
-use Rattle.expression_parts.specs.Ahead.{ahead}
+use Rattle.expr_nodes.specs.declared.cursor.Halt.{Halt}
+use Rattle.expr_nodes.specs.ReadIn.{Told}
+use Rattle.expr_nodes.specs.Ahead.{ahead}
 
 -- the number has the tree of the phrase
 pub record HasTree (ts : List Tree) (i : ℕ) (a : Phrase) : Type 0 where

@@ -7,7 +7,7 @@ use Rattle.tla_tree.specs.Pool.{at, AllBelow}
 use Rattle.tla_tree.specs.Lexical as tk
 use Rattle.tla_tree.specs.Spelling.{Phrases, Path, steps, subscript, subscripts}
 use Rattle.tla_tree.specs.Reader.{Reader, Readers, ◌>>=◌, gives, a_mark}
-use Rattle.expression_parts.specs.ShapeOf.{in_all, in_path}
+use Rattle.expr_nodes.specs.ShapeOf.{in_all, in_path}
 
 -- behind `[`: `a, b]`
 abbrev pub indexed : Readers → ℕ → Reader (Phrases × Place)

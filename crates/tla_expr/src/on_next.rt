@@ -3,16 +3,16 @@
 ghost use Rattle.std.specs.Prelude.{◌≡◌, ◌<◌, ◌≤◌, ◌&&◌, nat_eq, IfOk, IfSome, IfNone, Some, None, true, false, length};
 ghost use Rattle.tla_tree.specs.Spelling.{Phrase};
 ghost use Rattle.tla_tree.specs.Reader as reader;
-ghost use Rattle.expression_parts.specs.ViewSeen.{key_seen};
-ghost use Rattle.expression_parts.specs.ShapeOf.{shape_of};
-ghost use Rattle.expression_parts.specs.ReadIn.{Gives, word_seen};
-ghost use Rattle.expression_parts.specs.Ahead.{ahead};
+ghost use Rattle.expr_nodes.specs.ViewSeen.{key_seen};
+ghost use Rattle.expr_nodes.specs.ShapeOf.{shape_of};
+ghost use Rattle.expr_nodes.specs.ReadIn.{Gives, word_seen};
+ghost use Rattle.expr_nodes.specs.Ahead.{ahead};
 ghost use Rattle.tla_expr.specs.HasRead.{is_arm_next};
 
-use expression_parts::cursor::{Halt, Word, is_key, is_sign};
-use expression_parts::shape::{Shape, takes_box};
-use expression_parts::spot::{Spot, after, after_mark, next_at, refused};
-use expression_parts::view::{Key, Mark, View};
+use expr_nodes::cursor::{Halt, Word, is_key, is_sign};
+use expr_nodes::shape::{Shape, takes_box};
+use expr_nodes::spot::{Spot, after, after_mark, next_at, refused};
+use expr_nodes::view::{Key, Mark, View};
 use tla_token::{Place, Rule, Tokens};
 use tla_tree::Op;
 
@@ -48,7 +48,7 @@ pub fn after_box(tokens: &Tokens, s: Spot, shape: Shape) -> Option<usize>
 }
 
 /// A name, and the number of the token after it, where one is next.
-#[tactic(auto, using(expression_parts::proofs::AheadLemmas::ahead_tail))]
+#[tactic(auto, using(expr_nodes::proofs::AheadLemmas::ahead_tail))]
 pub fn after_word(tokens: &Tokens, s: Spot) -> Option<(Word, usize)>
     requires { s.at ≤ length tokens.now.items.items }
     ensures there { IfSome result (λ x. reader.word_of (reader.next s.edge (ahead tokens.now s.at)).place (reader.next s.edge (ahead tokens.now s.at)).kind ≡ Some (word_seen tokens.now.bytes.items x.0)) }

@@ -4,16 +4,16 @@ ghost use Rattle.std.specs.Prelude.{◌<◌, ◌≤◌, suc, length, IfOk, Some}
 ghost use Rattle.tla_tree.specs.Pool.{Keeps};
 ghost use Rattle.tla_tree.specs.Spelling.{Phrase};
 ghost use Rattle.tla_tree.specs.Whole.{whole};
-ghost use Rattle.expression_parts.specs.ViewSeen.{mark_seen};
-ghost use Rattle.expression_parts.specs.Ahead.{ahead};
-ghost use Rattle.expression_parts.specs.ReadIn.{IsIn, Told};
+ghost use Rattle.expr_nodes.specs.ViewSeen.{mark_seen};
+ghost use Rattle.expr_nodes.specs.Ahead.{ahead};
+ghost use Rattle.expr_nodes.specs.ReadIn.{IsIn, Told};
 ghost use Rattle.tla_expr.specs.HasRead.{CanRead, ReadsBelow, Stands, behind_mark};
 
-use expression_parts::cursor::Halt;
-use expression_parts::make::Read;
-use expression_parts::shape::Context;
-use expression_parts::spot::{Spot, past_mark};
-use expression_parts::view::Mark;
+use expr_nodes::cursor::Halt;
+use expr_nodes::make::Read;
+use expr_nodes::shape::Context;
+use expr_nodes::spot::{Spot, past_mark};
+use expr_nodes::view::Mark;
 use tla_pool::Pool;
 use tla_token::{Place, Tokens};
 

@@ -5,13 +5,13 @@ ghost use Rattle.tla_token.specs.declared.rule.Refusal as code;
 ghost use Rattle.tla_token.specs.declared.rule.Stop.TheVariants as stop;
 ghost use Rattle.tla_tree.specs.Pool.{at as tree_at, Keeps};
 ghost use Rattle.tla_tree.specs.FirstStop.{ReadsExpression, RefusesExpression};
-ghost use Rattle.expression_parts.specs.Ahead.{ahead};
+ghost use Rattle.expr_nodes.specs.Ahead.{ahead};
 ghost use Rattle.tla_expr.specs.Numbers.{NumbersFit};
 
 use crate::read_knot::read_at;
-use expression_parts::cursor::Halt;
-use expression_parts::shape::Context;
-use expression_parts::spot::{Spot, place_before};
+use expr_nodes::cursor::Halt;
+use expr_nodes::shape::Context;
+use expr_nodes::spot::{Spot, place_before};
 use std::alloc::Global;
 use tla_pool::Pool;
 use tla_token::{Refusal, Stop, Tokens};

@@ -3,16 +3,16 @@
 ghost use Rattle.std.specs.Prelude.{◌≡◌, ◌<◌, ◌≤◌, suc, length, IfOk, Some};
 ghost use Rattle.tla_tree.specs.Pool.{AllBelow, Keeps};
 ghost use Rattle.tla_tree.specs.Whole.{whole};
-ghost use Rattle.expression_parts.specs.Ahead.{ahead};
-ghost use Rattle.expression_parts.specs.ReadIn.{AreFields, Told, field_seen};
-ghost use Rattle.expression_parts.specs.ViewSeen.{mark_seen};
+ghost use Rattle.expr_nodes.specs.Ahead.{ahead};
+ghost use Rattle.expr_nodes.specs.ReadIn.{AreFields, Told, field_seen};
+ghost use Rattle.expr_nodes.specs.ViewSeen.{mark_seen};
 ghost use Rattle.tla_expr.specs.HasRead.{CanRead, ReadsBelow};
 
-use expression_parts::cursor::{FieldName, Halt};
-use expression_parts::make::{Read, name_of};
-use expression_parts::shape::{Context, larger};
-use expression_parts::spot::{Spot, after_mark, past_field, past_mark};
-use expression_parts::view::Mark;
+use expr_nodes::cursor::{FieldName, Halt};
+use expr_nodes::make::{Read, name_of};
+use expr_nodes::shape::{Context, larger};
+use expr_nodes::spot::{Spot, after_mark, past_field, past_mark};
+use expr_nodes::view::Mark;
 use std::alloc::Global;
 use tla_pool::Pool;
 use tla_token::Tokens;

@@ -6,10 +6,10 @@ ghost use Rattle.tla_expr.specs.HasRead.{ReadsThere};
 ghost use Rattle.tla_expr.specs.Numbers.{NumbersFit};
 
 use crate::read_first::expression;
-use expression_parts::cursor::Halt;
-use expression_parts::make::Read;
-use expression_parts::shape::Context;
-use expression_parts::spot::Spot;
+use expr_nodes::cursor::Halt;
+use expr_nodes::make::Read;
+use expr_nodes::shape::Context;
+use expr_nodes::spot::Spot;
 use std::alloc::Global;
 use tla_pool::Pool;
 use tla_token::Tokens;

@@ -3,18 +3,18 @@
 ghost use Rattle.std.specs.Prelude.{◌≡◌, ◌<◌, ◌≤◌, suc, length, IfOk, Some};
 ghost use Rattle.tla_tree.specs.Pool.{AllBelow, Keeps};
 ghost use Rattle.tla_tree.specs.Whole.{whole};
-ghost use Rattle.expression_parts.specs.Ahead.{ahead};
-ghost use Rattle.expression_parts.specs.ReadIn.{AreLocals, Told};
+ghost use Rattle.expr_nodes.specs.Ahead.{ahead};
+ghost use Rattle.expr_nodes.specs.ReadIn.{AreLocals, Told};
 ghost use Rattle.tla_expr.specs.HasRead.{CanRead, ReadsBelow};
 
 use crate::on_next::after_word;
 use crate::read_behind::behind;
-use expression_parts::cursor::Halt;
-use expression_parts::gather::placed;
-use expression_parts::make::Read;
-use expression_parts::shape::{Context, larger};
-use expression_parts::spot::{Spot, past_word};
-use expression_parts::view::Mark;
+use expr_nodes::cursor::Halt;
+use expr_nodes::gather::placed;
+use expr_nodes::make::Read;
+use expr_nodes::shape::{Context, larger};
+use expr_nodes::spot::{Spot, past_word};
+use expr_nodes::view::Mark;
 use std::alloc::Global;
 use tla_pool::Pool;
 use tla_token::Tokens;

@@ -9,10 +9,10 @@ ghost use Rattle.tla_expr.specs.ReadTrees.{ReadsTree, ReadsTrees};
 
 use crate::read_knot::read_at;
 use crate::read_row::phrases;
-use expression_parts::cursor::Halt;
-use expression_parts::make::Read;
-use expression_parts::shape::Context;
-use expression_parts::spot::Spot;
+use expr_nodes::cursor::Halt;
+use expr_nodes::make::Read;
+use expr_nodes::shape::Context;
+use expr_nodes::spot::Spot;
 use std::alloc::Global;
 use tla_pool::Pool;
 use tla_token::Tokens;

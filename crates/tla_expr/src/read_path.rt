@@ -4,17 +4,17 @@ ghost use Rattle.std.specs.Prelude.{◌<◌, ◌≤◌, suc, length, IfOk, Some}
 ghost use Rattle.tla_tree.specs.Pool.{Keeps};
 ghost use Rattle.tla_tree.specs.Whole.{whole};
 ghost use Rattle.tla_pool.specs.FormOf.{steps_of};
-ghost use Rattle.expression_parts.specs.Ahead.{ahead};
-ghost use Rattle.expression_parts.specs.ReadIn.{Told};
+ghost use Rattle.expr_nodes.specs.Ahead.{ahead};
+ghost use Rattle.expr_nodes.specs.ReadIn.{Told};
 ghost use Rattle.tla_expr.specs.HasRead.{CanRead, ReadsBelow};
 ghost use Rattle.tla_expr.specs.Routed.{indexed, IsSubscript, IsPath};
 
 use crate::read_row::phrases;
-use expression_parts::cursor::Halt;
-use expression_parts::make::{Read, name_of, subscript};
-use expression_parts::shape::{Context, larger};
-use expression_parts::spot::{Spot, after_mark, deeper, past_field, past_mark};
-use expression_parts::view::Mark;
+use expr_nodes::cursor::Halt;
+use expr_nodes::make::{Read, name_of, subscript};
+use expr_nodes::shape::{Context, larger};
+use expr_nodes::spot::{Spot, after_mark, deeper, past_field, past_mark};
+use expr_nodes::view::Mark;
 use std::alloc::Global;
 use tla_pool::Pool;
 use tla_pool::form::Step;

@@ -1,8 +1,8 @@
 -- Proves what is asked of `read_after`.
 use Rattle.std.proofs.Common.{Bool, sym, ap, subst, ◌∙◌, codes}
-use Rattle.expression_parts.specs.Ahead.{ahead}
-use Rattle.algorithm_parts.specs.TokenReaders.{first}
-use Rattle.algorithm_parts.specs.PartsRead.{parts_in}
+use Rattle.expr_nodes.specs.Ahead.{ahead}
+use Rattle.algorithm_reader.specs.TokenReaders.{first}
+use Rattle.algorithm_reader.specs.PartsRead.{parts_in}
 use Rattle.c_syntax.specs.AfterRead.{is_its_semicolon, TurnsTo}
 use Rattle.c_syntax.proofs.NextStatement.{word_is_there}
 use Rattle.c_syntax.proofs.AfterStatement.{by_else, by_or, by_list, semicolon_passed}

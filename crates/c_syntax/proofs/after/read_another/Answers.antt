@@ -1,14 +1,14 @@
 -- Proves what is asked of `read_another`.
 use Rattle.std.proofs.Common.{Option, sym, subst, ◌∙◌}
-use Rattle.expression_parts.specs.Ahead.{ahead}
+use Rattle.expr_nodes.specs.Ahead.{ahead}
 use Rattle.pcal_tree.specs.GrammarParts.{no_labels}
-use Rattle.algorithm_parts.specs.TokenReaders.{first}
-use Rattle.algorithm_parts.specs.PartsRead.{parts_in}
+use Rattle.algorithm_reader.specs.TokenReaders.{first}
+use Rattle.algorithm_reader.specs.PartsRead.{parts_in}
 use Rattle.c_syntax.specs.ReadStatements.{ask_other, closed}
 use Rattle.c_syntax.specs.Takes.{BeginStands}
 use Rattle.c_syntax.specs.AfterRead.{taken, next_taken, TurnsTo}
 use Rattle.c_syntax.specs.declared.open.State.{State}
-use Rattle.algorithm_parts.proofs.Gathered.{refused_as}
+use Rattle.algorithm_reader.proofs.Gathered.{refused_as}
 use Rattle.c_syntax.proofs.AfterStatement.{another_as, begun_goes, none_goes}
 use Rattle.c_syntax.proofs.after.read_another.Goals as goal
 

@@ -2,9 +2,9 @@
 use Rattle.std.proofs.Common.{sym, ap, subst}
 use Rattle.tla_token.specs.declared.place.Place.{Place}
 use Rattle.tla_tree.specs.Lexical.{Token}
-use Rattle.expression_parts.specs.Ahead.{ahead}
-use Rattle.algorithm_parts.specs.TokenReaders.{first}
-use Rattle.algorithm_parts.specs.PartsRead.{parts_in}
+use Rattle.expr_nodes.specs.Ahead.{ahead}
+use Rattle.algorithm_reader.specs.TokenReaders.{first}
+use Rattle.algorithm_reader.specs.PartsRead.{parts_in}
 use Rattle.c_syntax.specs.ReadStatements.{ask_other, closed}
 use Rattle.c_syntax.specs.Takes.{brace_taken, MayTurn}
 use Rattle.c_syntax.specs.AfterRead.{taken, TurnsTo}

@@ -1,7 +1,7 @@
 -- Proves what is asked of `take_else`.
 use Rattle.std.proofs.Common.{sym, subst}
-use Rattle.expression_parts.specs.Ahead.{ahead}
-use Rattle.algorithm_parts.specs.TokenReaders.{first}
+use Rattle.expr_nodes.specs.Ahead.{ahead}
+use Rattle.algorithm_reader.specs.TokenReaders.{first}
 use Rattle.c_syntax.specs.ReadStatements.{ask_else, closed}
 use Rattle.c_syntax.specs.Takes.{else_taken}
 use Rattle.c_syntax.specs.AfterRead.{taken, TurnsTo}

@@ -1,7 +1,7 @@
 -- Proves what is asked of `read_main_block`.
 use Rattle.std.proofs.lemmas.Result.{err_from_is_err_and}
-use Rattle.expression_parts.specs.Ahead.{ahead}
-use Rattle.algorithm_parts.specs.PartsRead.{parts_in}
+use Rattle.expr_nodes.specs.Ahead.{ahead}
+use Rattle.algorithm_reader.specs.PartsRead.{parts_in}
 use Rattle.c_syntax.proofs.MainBlock.{main_reads, main_fails}
 use Rattle.c_syntax.proofs.algorithm.read_main_block.Goals as goal
 

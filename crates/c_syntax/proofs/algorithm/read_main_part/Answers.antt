@@ -1,9 +1,9 @@
 -- Proves what is asked of `read_main_part`.
 use Rattle.std.proofs.Common.{sym, subst, ◌∙◌}
-use Rattle.expression_parts.specs.Ahead.{ahead}
+use Rattle.expr_nodes.specs.Ahead.{ahead}
 use Rattle.pcal_tree.specs.InMemory.{main_at, past_main}
 use Rattle.pcal_tree.specs.Grammar.{main_tree}
-use Rattle.algorithm_parts.specs.PartsRead.{ReadsPart, parts_in}
+use Rattle.algorithm_reader.specs.PartsRead.{ReadsPart, parts_in}
 use Rattle.c_syntax.proofs.MainBlock.{main_is_processes}
 use Rattle.c_syntax.proofs.algorithm.read_main_part.Goals as goal
 

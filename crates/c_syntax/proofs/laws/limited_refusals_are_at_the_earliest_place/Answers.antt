@@ -1,6 +1,6 @@
 -- Proves the law `limited_refusals_are_at_the_earliest_place`.
 use Rattle.pcal_tree.specs.Grammar.{c_syntax}
-use Rattle.algorithm_parts.proofs.StopsWithin.{refused_through, refused_passes}
+use Rattle.algorithm_reader.proofs.StopsWithin.{refused_through, refused_passes}
 use Rattle.c_syntax.specs.ReadAlgorithm.{read_algorithm, read_limited_algorithm}
 use Rattle.c_syntax.proofs.StopsWithin.{reads_within}
 use Rattle.c_syntax.proofs.laws.limited_refusals_are_at_the_earliest_place.Goals as goal

@@ -1,6 +1,6 @@
 -- Proves the law `tokens_are_read_or_refused`.
 use Rattle.pcal_tree.specs.Grammar.{c_syntax}
-use Rattle.algorithm_parts.proofs.StopsWithin.{one_of_both, is_refused_there}
+use Rattle.algorithm_reader.proofs.StopsWithin.{one_of_both, is_refused_there}
 use Rattle.c_syntax.specs.ReadAlgorithm.{read_algorithm, read_limited_algorithm}
 use Rattle.c_syntax.proofs.StopsWithin.{reads_within}
 use Rattle.c_syntax.proofs.laws.tokens_are_read_or_refused.Goals as goal

@@ -1,7 +1,7 @@
 -- Proves the law `tokens_are_refused_where_reading_stops`.
 use Rattle.pcal_tree.specs.Grammar.{c_syntax}
 use Rattle.c_syntax.specs.ReadAlgorithm.{read_algorithm}
-use Rattle.algorithm_parts.proofs.StopsOf.{refused_there, is_refused, refused_is_read_so}
+use Rattle.algorithm_reader.proofs.StopsOf.{refused_there, is_refused, refused_is_read_so}
 use Rattle.c_syntax.proofs.Stops.{reads_all}
 use Rattle.c_syntax.proofs.laws.tokens_are_refused_where_reading_stops.Goals as goal
 

@@ -1,7 +1,7 @@
 -- Proves the law `what_is_missing_completes`.
 use Rattle.pcal_tree.specs.AlgorithmTokens.{views}
 use Rattle.pcal_tree.specs.Grammar.{c_syntax}
-use Rattle.algorithm_parts.proofs.CompletedOf.{completed, refused_completes, limited_completes, completed_there}
+use Rattle.algorithm_reader.proofs.CompletedOf.{completed, refused_completes, limited_completes, completed_there}
 use Rattle.c_syntax.specs.ReadAlgorithm.{read_algorithm, read_limited_algorithm}
 use Rattle.c_syntax.proofs.Stops.{reads_all}
 use Rattle.c_syntax.proofs.StopsWithin.{reads_within}

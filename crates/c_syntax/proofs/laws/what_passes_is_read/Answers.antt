@@ -1,6 +1,6 @@
 -- Proves the law `what_passes_is_read`.
 use Rattle.pcal_tree.specs.Grammar.{c_syntax}
-use Rattle.algorithm_parts.proofs.StopsOf.{read_passes, passed_is_read}
+use Rattle.algorithm_reader.proofs.StopsOf.{read_passes, passed_is_read}
 use Rattle.c_syntax.specs.ReadAlgorithm.{read_algorithm}
 use Rattle.c_syntax.proofs.Stops.{reads_all}
 use Rattle.c_syntax.proofs.laws.what_passes_is_read.Goals as goal

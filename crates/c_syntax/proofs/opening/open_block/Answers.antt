@@ -2,10 +2,10 @@
 use Rattle.std.proofs.Common.{◌<◌, sym, ap, ◌∙◌, arith}
 use Rattle.tla_token.specs.Limits.{deepest_statement}
 use Rattle.tla_tree.specs.Reader.{gives}
-use Rattle.expression_parts.proofs.AheadLemmas.{ahead_tail}
-use Rattle.expression_parts.specs.Ahead.{ahead}
-use Rattle.algorithm_parts.specs.TokenReaders.{first}
-use Rattle.algorithm_parts.proofs.StatementSteps.{fits_within}
+use Rattle.expr_nodes.proofs.AheadLemmas.{ahead_tail}
+use Rattle.expr_nodes.specs.Ahead.{ahead}
+use Rattle.algorithm_reader.specs.TokenReaders.{first}
+use Rattle.algorithm_reader.proofs.StatementSteps.{fits_within}
 use Rattle.c_syntax.specs.ReadStatements.{Turn, opens, in_block, none, depth}
 use Rattle.c_syntax.proofs.Steps.{block_stands}
 use Rattle.c_syntax.proofs.opening.open_block.Goals as goal

@@ -3,11 +3,11 @@ use Rattle.std.proofs.Common.{◌≡◌, ◌<◌, refl, sym, ap, ◌∙◌, arit
 use Rattle.tla_token.specs.Limits.{deepest_statement}
 use Rattle.tla_tree.specs.Lexical.{Token}
 use Rattle.tla_tree.specs.Reader.{gives}
-use Rattle.expression_parts.proofs.AheadLemmas.{ahead_tail}
-use Rattle.expression_parts.specs.Ahead.{ahead}
-use Rattle.algorithm_parts.specs.TokenReaders.{first}
-use Rattle.algorithm_parts.specs.PartsRead.{parts_in}
-use Rattle.algorithm_parts.proofs.StatementSteps.{fits_within}
+use Rattle.expr_nodes.proofs.AheadLemmas.{ahead_tail}
+use Rattle.expr_nodes.specs.Ahead.{ahead}
+use Rattle.algorithm_reader.specs.TokenReaders.{first}
+use Rattle.algorithm_reader.specs.PartsRead.{parts_in}
+use Rattle.algorithm_reader.proofs.StatementSteps.{fits_within}
 use Rattle.c_syntax.specs.ReadStatements.{Turn, opens, either_if, in_either, first_arm, depth}
 use Rattle.c_syntax.specs.declared.open.Frame.TheVariants as frame
 use Rattle.c_syntax.proofs.Steps.{begun_stands, opened_stands, first_branch_stands}

@@ -1,20 +1,20 @@
 -- Proves what is asked of `open_with`.
 use Rattle.std.proofs.Common.{◌≡◌, ◌+◌, List, refl, sym, ap, subst, ◌∙◌, arith}
 use Rattle.std.proofs.lemmas.Result.{err_from_is_err_and}
-use Rattle.expression_parts.specs.ReadIn.{Fails}
-use Rattle.algorithm_parts.proofs.Gathered.{fails_then}
+use Rattle.expr_nodes.specs.ReadIn.{Fails}
+use Rattle.algorithm_reader.proofs.Gathered.{fails_then}
 use Rattle.tla_token.specs.declared.place.Place.{Place}
 use Rattle.tla_tree.specs.Lexical.{Token}
 use Rattle.tla_tree.specs.Lexical as tk
 use Rattle.tla_tree.specs.Reader.{Reader, ◌>>=◌, gives}
-use Rattle.expression_parts.proofs.AheadLemmas.{ahead_tail}
-use Rattle.expression_parts.specs.Ahead.{ahead}
+use Rattle.expr_nodes.proofs.AheadLemmas.{ahead_tail}
+use Rattle.expr_nodes.specs.Ahead.{ahead}
 use Rattle.pcal_tree.specs.GrammarParts.{Binds}
 use Rattle.pcal_tree.specs.OpenForms.{after_binds}
-use Rattle.algorithm_parts.specs.TokenReaders.{first, a_mark}
-use Rattle.algorithm_parts.specs.ReadParts.{read_binds}
-use Rattle.algorithm_parts.specs.PartsRead.{parts_in}
-use Rattle.algorithm_parts.proofs.StatementSteps.{goes_on}
+use Rattle.algorithm_reader.specs.TokenReaders.{first, a_mark}
+use Rattle.algorithm_reader.specs.ReadParts.{read_binds}
+use Rattle.algorithm_reader.specs.PartsRead.{parts_in}
+use Rattle.algorithm_reader.proofs.StatementSteps.{goes_on}
 use Rattle.c_syntax.specs.ReadStatements.{Stack, Turn, opens, bracketed, in_body, with_opening, depth}
 use Rattle.c_syntax.specs.declared.open.Frame.TheVariants as frame
 use Rattle.c_syntax.proofs.Steps.{fails_on, stands_kept, begun_stands, opened_stands}

@@ -2,15 +2,15 @@
 use Rattle.std.proofs.Common.{◌≡◌, ℕ, ◌*◌, ◌<◌, ◌≤◌, ◌++◌, [], None, Ok, refl, ap, length, length-append, arith}
 use Rattle.tla_token.specs.declared.token.Tokens.{Tokens}
 use Rattle.tla_tree.specs.Reader.{gives}
-use Rattle.expression_parts.specs.Ahead.{ahead}
+use Rattle.expr_nodes.specs.Ahead.{ahead}
 use Rattle.pcal_tree.specs.GrammarParts.{Simple, simple_tokens}
 use Rattle.pcal_tree.specs.GrammarC.{simple, labelled}
-use Rattle.algorithm_parts.specs.PartsRead.{parts_in}
-use Rattle.algorithm_parts.specs.SimpleRead.{simple_reader}
-use Rattle.algorithm_parts.proofs.Between.{ahead_length}
-use Rattle.algorithm_parts.proofs.Lengths.{grow_simple}
-use Rattle.algorithm_parts.proofs.WithinParts.{limited_sound}
-use Rattle.algorithm_parts.proofs.StatementSteps.{goes_on}
+use Rattle.algorithm_reader.specs.PartsRead.{parts_in}
+use Rattle.algorithm_reader.specs.SimpleRead.{simple_reader}
+use Rattle.algorithm_reader.proofs.Between.{ahead_length}
+use Rattle.algorithm_reader.proofs.Lengths.{grow_simple}
+use Rattle.algorithm_reader.proofs.WithinParts.{limited_sound}
+use Rattle.algorithm_reader.proofs.StatementSteps.{goes_on}
 use Rattle.c_syntax.specs.ReadStatements.{ended, on}
 use Rattle.c_syntax.proofs.Steps.{stands_kept, simple_between, simple_stands}
 use Rattle.c_syntax.proofs.opening.read_alone.Goals as goal

@@ -4,8 +4,8 @@ use Rattle.tla_token.specs.TokensSeen.{tokens_seen}
 use Rattle.pcal_tree.specs.AlgorithmTokens.{views}
 use Rattle.pcal_tree.specs.Grammar.{c_syntax}
 use Rattle.algorithm_limits.proofs.AnswerRules.{late_is_read}
-use Rattle.algorithm_parts.proofs.CompletedOf.{completed_there}
-use Rattle.routine_parts.proofs.Answered.{answers, below, past_there, spelled_there, answered_there}
+use Rattle.algorithm_reader.proofs.CompletedOf.{completed_there}
+use Rattle.algorithm_reader.proofs.Answered.{answers, below, past_there, spelled_there, answered_there}
 use Rattle.c_syntax.specs.ReadAlgorithm.{read_algorithm, read_limited_algorithm}
 use Rattle.c_syntax.proofs.Stops.{reads_all}
 use Rattle.c_syntax.proofs.StopsWithin.{reads_within}

@@ -1,8 +1,8 @@
 -- What the loop keeps: the run from the state so far on is the whole, and the pool that grows.
 use Rattle.std.proofs.Common.{ℕ, ◌≤◌, ◌-◌, length}
 use Rattle.tla_tree.specs.Pool.{Keeps}
-use Rattle.expression_parts.specs.Ahead.{ahead}
-use Rattle.algorithm_parts.specs.PartsRead.{parts_in, Enough}
+use Rattle.expr_nodes.specs.Ahead.{ahead}
+use Rattle.algorithm_reader.specs.PartsRead.{parts_in, Enough}
 use Rattle.c_syntax.specs.ReadStatements as reader
 use Rattle.c_syntax.specs.StatesRead.{StateStands}
 use Rattle.c_syntax.proofs.Sequences.{RunsOn}

@@ -1,6 +1,6 @@
 -- Proves what is asked of `read_step`.
-use Rattle.expression_parts.specs.Ahead.{ahead}
-use Rattle.algorithm_parts.specs.PartsRead.{parts_in}
+use Rattle.expr_nodes.specs.Ahead.{ahead}
+use Rattle.algorithm_reader.specs.PartsRead.{parts_in}
 use Rattle.c_syntax.specs.ReadStatements as reader
 use Rattle.c_syntax.specs.AfterRead.{TurnsTo}
 use Rattle.c_syntax.proofs.AfterStatement.{begins_is, ended_is}

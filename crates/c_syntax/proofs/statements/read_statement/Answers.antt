@@ -1,8 +1,8 @@
 -- Proves what is asked of `read_statement`.
 use Rattle.std.proofs.Common.{refl, sym, ◌∙◌, codes}
 use Rattle.tla_tree.specs.Lexical.{open_brace}
-use Rattle.expression_parts.specs.Ahead.{ahead}
-use Rattle.algorithm_parts.specs.PartsRead.{parts_in}
+use Rattle.expr_nodes.specs.Ahead.{ahead}
+use Rattle.algorithm_reader.specs.PartsRead.{parts_in}
 use Rattle.c_syntax.specs.StatesRead.{opens_by, block_step, label_step, simple_step, statement_step}
 use Rattle.c_syntax.proofs.NextStatement.{by_word, by_block, by_label, by_simple, step_same, word_is_there, mark_is_there}
 use Rattle.c_syntax.proofs.statements.read_statement.Goals as goal

@@ -5,7 +5,7 @@ use Rattle.tla_tree.specs.Reader.{Out, then_read, gives}
 use Rattle.pcal_tree.specs.Algorithm as tree
 use Rattle.pcal_tree.specs.GrammarP.{Sequence}
 use Rattle.pcal_tree.specs.Grammar.{begin}
-use Rattle.algorithm_parts.proofs.Gathered.{fails_then}
+use Rattle.algorithm_reader.proofs.Gathered.{fails_then}
 use Rattle.p_syntax.proofs.algorithm.read_main_list.Goals as goal
 
 pub returns-clause-read : goal.returns-clause-read

@@ -2,14 +2,14 @@
 use Rattle.std.proofs.Common.{ℕ, List, subst, ap, arith}
 use Rattle.tla_tree.specs.Tree.{Tree}
 use Rattle.tla_tree.specs.Reader.{Out}
-use Rattle.expression_parts.specs.declared.cursor.Halt.{Halt}
-use Rattle.expression_parts.specs.ReadIn.{Told}
-use Rattle.expression_parts.specs.Ahead.{ahead}
+use Rattle.expr_nodes.specs.declared.cursor.Halt.{Halt}
+use Rattle.expr_nodes.specs.ReadIn.{Told}
+use Rattle.expr_nodes.specs.Ahead.{ahead}
 use Rattle.tla_token.specs.declared.token.Tokens.{Tokens}
 use Rattle.std.specs.Prelude.{Result}
 use Rattle.pcal_tree.specs.InMemory.{statements_at, past_statements}
 use Rattle.pcal_tree.specs.GrammarP.{no_else, else_then}
-use Rattle.algorithm_parts.specs.TokenReaders.{first}
+use Rattle.algorithm_reader.specs.TokenReaders.{first}
 use Rattle.p_syntax.specs.ReadStatements as reader
 use Rattle.p_syntax.specs.declared.open.State.{State}
 use Rattle.p_syntax.specs.declared.open.Turn.TheVariants as turn

@@ -1,11 +1,11 @@
 -- Proves what is asked of `end_if`.
 use Rattle.std.proofs.Common.{◌+◌, None, refl, sym, ap, ◌∙◌, codes}
 use Rattle.tla_tree.specs.Reader.{◌>>=◌, gives}
-use Rattle.expression_parts.proofs.AheadLemmas.{ahead_tail}
-use Rattle.expression_parts.specs.Ahead.{ahead}
-use Rattle.algorithm_parts.specs.TokenReaders.{a_key}
+use Rattle.expr_nodes.proofs.AheadLemmas.{ahead_tail}
+use Rattle.expr_nodes.specs.Ahead.{ahead}
+use Rattle.algorithm_reader.specs.TokenReaders.{a_key}
 use Rattle.p_syntax.specs.ReadStatements.{closed_if, on, ended}
-use Rattle.algorithm_parts.proofs.StatementSteps.{goes_on}
+use Rattle.algorithm_reader.proofs.StatementSteps.{goes_on}
 use Rattle.p_syntax.proofs.Closed.{ended_stands, if_stands}
 use Rattle.p_syntax.proofs.ending.end_if.Goals as goal
 

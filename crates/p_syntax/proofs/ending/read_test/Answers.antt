@@ -1,10 +1,10 @@
 -- Proves what is asked of `read_test`.
 use Rattle.std.proofs.Common.{refl, sym, ap, ◌∙◌, codes}
 use Rattle.tla_tree.specs.Reader.{◌>>=◌, gives}
-use Rattle.expression_parts.specs.Ahead.{ahead}
-use Rattle.algorithm_parts.specs.TokenReaders.{a_key}
-use Rattle.algorithm_parts.specs.PartsRead.{parts_in}
-use Rattle.algorithm_parts.proofs.StatementSteps.{goes_on, fits_within}
+use Rattle.expr_nodes.specs.Ahead.{ahead}
+use Rattle.algorithm_reader.specs.TokenReaders.{a_key}
+use Rattle.algorithm_reader.specs.PartsRead.{parts_in}
+use Rattle.algorithm_reader.proofs.StatementSteps.{goes_on, fits_within}
 use Rattle.p_syntax.proofs.ending.read_test.Goals as goal
 
 pub returns-clause-read : goal.returns-clause-read

@@ -3,11 +3,11 @@ use Rattle.std.proofs.Common.{◌≡◌, ◌++◌, ◌∷◌, [], ap, subst, ◌
 use Rattle.std.proofs.lemmas.Result.{err_from_is_err_and}
 use Rattle.tla_token.specs.declared.place.Place.{Place}
 use Rattle.tla_tree.specs.Lexical.{Token}
-use Rattle.expression_parts.specs.ReadIn.{Reads}
-use Rattle.expression_parts.specs.Ahead.{ahead}
-use Rattle.algorithm_parts.specs.TokenReaders.{first}
-use Rattle.algorithm_parts.specs.PartsRead.{parts_in}
-use Rattle.algorithm_parts.proofs.Gathered.{refused_as}
+use Rattle.expr_nodes.specs.ReadIn.{Reads}
+use Rattle.expr_nodes.specs.Ahead.{ahead}
+use Rattle.algorithm_reader.specs.TokenReaders.{first}
+use Rattle.algorithm_reader.specs.PartsRead.{parts_in}
+use Rattle.algorithm_reader.proofs.Gathered.{refused_as}
 use Rattle.p_syntax.specs.ReadStatements.{takes_elsif}
 use Rattle.p_syntax.specs.declared.open.Frame.{Frame}
 use Rattle.p_syntax.specs.declared.open.Frame.TheVariants as frame

@@ -1,8 +1,8 @@
 -- Proves what is asked of `take_end`.
 use Rattle.std.proofs.Common.{sym, subst}
-use Rattle.expression_parts.specs.ReadIn.{Reads}
-use Rattle.expression_parts.specs.Ahead.{ahead}
-use Rattle.algorithm_parts.specs.TokenReaders.{first}
+use Rattle.expr_nodes.specs.ReadIn.{Reads}
+use Rattle.expr_nodes.specs.Ahead.{ahead}
+use Rattle.algorithm_reader.specs.TokenReaders.{first}
 use Rattle.p_syntax.specs.ReadStatements.{Stack, takes_end}
 use Rattle.p_syntax.proofs.Closed.{innermost_stands}
 use Rattle.p_syntax.proofs.Endings.{On}

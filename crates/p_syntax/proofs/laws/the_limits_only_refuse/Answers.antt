@@ -1,6 +1,6 @@
 -- Proves the law `the_limits_only_refuse`.
 use Rattle.pcal_tree.specs.Grammar.{p_syntax}
-use Rattle.algorithm_parts.proofs.StopsWithin.{read_within, fits_within}
+use Rattle.algorithm_reader.proofs.StopsWithin.{read_within, fits_within}
 use Rattle.p_syntax.specs.ReadAlgorithm.{read_algorithm, read_limited_algorithm}
 use Rattle.p_syntax.proofs.StopsWithin.{reads_within}
 use Rattle.p_syntax.proofs.laws.the_limits_only_refuse.Goals as goal

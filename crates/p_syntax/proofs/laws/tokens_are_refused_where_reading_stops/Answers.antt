@@ -1,6 +1,6 @@
 -- Proves the law `tokens_are_refused_where_reading_stops`.
 use Rattle.pcal_tree.specs.Grammar.{p_syntax}
-use Rattle.algorithm_parts.proofs.StopsOf.{refused_there, is_refused, refused_is_read_so}
+use Rattle.algorithm_reader.proofs.StopsOf.{refused_there, is_refused, refused_is_read_so}
 use Rattle.p_syntax.specs.ReadAlgorithm.{read_algorithm}
 use Rattle.p_syntax.proofs.Stops.{reads_all}
 use Rattle.p_syntax.proofs.laws.tokens_are_refused_where_reading_stops.Goals as goal

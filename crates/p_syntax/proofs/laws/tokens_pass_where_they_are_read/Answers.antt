@@ -1,6 +1,6 @@
 -- Proves the law `tokens_pass_where_they_are_read`.
 use Rattle.pcal_tree.specs.Grammar.{p_syntax}
-use Rattle.algorithm_parts.proofs.StopsWithin.{limited_passes, passed_is_limited}
+use Rattle.algorithm_reader.proofs.StopsWithin.{limited_passes, passed_is_limited}
 use Rattle.p_syntax.specs.ReadAlgorithm.{read_algorithm, read_limited_algorithm}
 use Rattle.p_syntax.proofs.StopsWithin.{reads_within}
 use Rattle.p_syntax.proofs.laws.tokens_pass_where_they_are_read.Goals as goal

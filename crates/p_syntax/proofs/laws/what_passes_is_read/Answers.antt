@@ -1,6 +1,6 @@
 -- Proves the law `what_passes_is_read`.
 use Rattle.pcal_tree.specs.Grammar.{p_syntax}
-use Rattle.algorithm_parts.proofs.StopsOf.{read_passes, passed_is_read}
+use Rattle.algorithm_reader.proofs.StopsOf.{read_passes, passed_is_read}
 use Rattle.p_syntax.specs.ReadAlgorithm.{read_algorithm}
 use Rattle.p_syntax.proofs.Stops.{reads_all}
 use Rattle.p_syntax.proofs.laws.what_passes_is_read.Goals as goal

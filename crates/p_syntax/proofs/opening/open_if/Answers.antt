@@ -3,12 +3,12 @@ use Rattle.std.proofs.Common.{◌≡◌, ◌<◌, refl, sym, ap, ◌∙◌, arit
 use Rattle.tla_token.specs.Limits.{deepest_statement}
 use Rattle.tla_tree.specs.Lexical.{Token}
 use Rattle.tla_tree.specs.Reader.{◌>>=◌, gives}
-use Rattle.expression_parts.specs.Ahead.{ahead}
-use Rattle.algorithm_parts.specs.TokenReaders.{first, a_key}
-use Rattle.algorithm_parts.specs.PartsRead.{parts_in}
+use Rattle.expr_nodes.specs.Ahead.{ahead}
+use Rattle.algorithm_reader.specs.TokenReaders.{first, a_key}
+use Rattle.algorithm_reader.specs.PartsRead.{parts_in}
 use Rattle.p_syntax.specs.ReadStatements.{opens, in_then, if_test, depth}
 use Rattle.p_syntax.proofs.Grows.{stands_grow}
-use Rattle.algorithm_parts.proofs.StatementSteps.{goes_on, fits_within}
+use Rattle.algorithm_reader.proofs.StatementSteps.{goes_on, fits_within}
 use Rattle.p_syntax.proofs.Steps.{opened_stands, first_test_stands}
 use Rattle.p_syntax.proofs.opening.open_if.Goals as goal
 

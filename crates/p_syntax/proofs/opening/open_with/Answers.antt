@@ -3,20 +3,20 @@ use Rattle.std.proofs.Common.{◌≡◌, ℕ, ◌+◌, refl, sym, ap, subst, ◌
 use Rattle.tla_tree.specs.Lexical.{Token}
 use Rattle.tla_token.specs.declared.place.Place.{Place}
 use Rattle.tla_tree.specs.Reader.{Out, Reader, ◌>>=◌, then_read, gives}
-use Rattle.expression_parts.specs.ReadIn.{Fails}
+use Rattle.expr_nodes.specs.ReadIn.{Fails}
 use Rattle.pcal_tree.specs.Algorithm as tree
 use Rattle.pcal_tree.specs.GrammarParts.{Binds}
 use Rattle.pcal_tree.specs.OpenForms.{after_binds}
-use Rattle.algorithm_parts.proofs.Gathered.{fails_then}
+use Rattle.algorithm_reader.proofs.Gathered.{fails_then}
 use Rattle.std.proofs.lemmas.Result.{err_from_is_err_and}
-use Rattle.expression_parts.proofs.AheadLemmas.{ahead_tail}
-use Rattle.expression_parts.specs.Ahead.{ahead}
-use Rattle.algorithm_parts.specs.TokenReaders.{first, a_key}
-use Rattle.algorithm_parts.specs.ReadParts.{read_binds}
-use Rattle.algorithm_parts.specs.PartsRead.{parts_in}
+use Rattle.expr_nodes.proofs.AheadLemmas.{ahead_tail}
+use Rattle.expr_nodes.specs.Ahead.{ahead}
+use Rattle.algorithm_reader.specs.TokenReaders.{first, a_key}
+use Rattle.algorithm_reader.specs.ReadParts.{read_binds}
+use Rattle.algorithm_reader.specs.PartsRead.{parts_in}
 use Rattle.p_syntax.specs.ReadStatements.{Turn, opens, in_with, depth}
 use Rattle.p_syntax.proofs.Grows.{stands_grow}
-use Rattle.algorithm_parts.proofs.StatementSteps.{goes_on}
+use Rattle.algorithm_reader.proofs.StatementSteps.{goes_on}
 use Rattle.p_syntax.proofs.Steps.{opened_stands}
 use Rattle.p_syntax.proofs.opening.open_with.Goals as goal
 

@@ -1,15 +1,15 @@
 -- Proves what is asked of `read_alone`.
 use Rattle.std.proofs.Common.{◌*◌, None, refl, length, arith}
 use Rattle.tla_tree.specs.Reader.{gives}
-use Rattle.expression_parts.specs.Ahead.{ahead}
+use Rattle.expr_nodes.specs.Ahead.{ahead}
 use Rattle.pcal_tree.specs.GrammarP.{simple}
-use Rattle.algorithm_parts.specs.PartsRead.{parts_in}
-use Rattle.algorithm_parts.proofs.WithinParts.{limited_sound}
+use Rattle.algorithm_reader.specs.PartsRead.{parts_in}
+use Rattle.algorithm_reader.proofs.WithinParts.{limited_sound}
 use Rattle.p_syntax.specs.ReadStatements.{ended, on}
-use Rattle.algorithm_parts.specs.SimpleRead.{simple_reader}
+use Rattle.algorithm_reader.specs.SimpleRead.{simple_reader}
 use Rattle.p_syntax.proofs.Grows.{stands_grow}
 use Rattle.p_syntax.proofs.SimpleSound.{simple_between, simple_further}
-use Rattle.algorithm_parts.proofs.StatementSteps.{goes_on}
+use Rattle.algorithm_reader.proofs.StatementSteps.{goes_on}
 use Rattle.p_syntax.proofs.Steps.{simple_stands}
 use Rattle.p_syntax.proofs.opening.read_alone.Goals as goal
 

@@ -1,10 +1,10 @@
 -- Proves what is asked of `read_another`.
 use Rattle.std.proofs.Common.{ℕ, Option}
 use Rattle.tla_token.specs.declared.place.Place.{Place}
-use Rattle.expression_parts.specs.ReadIn.{Told}
-use Rattle.expression_parts.specs.Ahead.{ahead}
+use Rattle.expr_nodes.specs.ReadIn.{Told}
+use Rattle.expr_nodes.specs.Ahead.{ahead}
 use Rattle.pcal_tree.specs.GrammarParts.{no_labels}
-use Rattle.algorithm_parts.specs.PartsRead.{parts_in}
+use Rattle.algorithm_reader.specs.PartsRead.{parts_in}
 use Rattle.p_syntax.specs.ReadStatements.{after, Turn}
 use Rattle.p_syntax.specs.declared.open.State.{State}
 use Rattle.p_syntax.specs.declared.open.Turn.TheVariants as turn

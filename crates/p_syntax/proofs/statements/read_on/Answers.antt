@@ -3,11 +3,11 @@ use Rattle.std.proofs.Common.{ℕ, List, refl, sym, subst, ◌∙◌, codes, Res
 use Rattle.tla_token.specs.declared.token.Tokens.{Tokens}
 use Rattle.tla_tree.specs.Tree.{Tree}
 use Rattle.tla_tree.specs.Reader.{Out}
-use Rattle.expression_parts.specs.declared.cursor.Halt.{Halt}
-use Rattle.expression_parts.specs.ReadIn.{Told}
-use Rattle.expression_parts.specs.Ahead.{ahead}
+use Rattle.expr_nodes.specs.declared.cursor.Halt.{Halt}
+use Rattle.expr_nodes.specs.ReadIn.{Told}
+use Rattle.expr_nodes.specs.Ahead.{ahead}
 use Rattle.pcal_tree.specs.GrammarP.{last_statement}
-use Rattle.algorithm_parts.specs.PartsRead.{parts_in}
+use Rattle.algorithm_reader.specs.PartsRead.{parts_in}
 use Rattle.p_syntax.specs.ReadStatements.{Turn, with_before}
 use Rattle.p_syntax.specs.declared.open.State.{State}
 use Rattle.p_syntax.specs.declared.open.Turn.TheVariants as turn

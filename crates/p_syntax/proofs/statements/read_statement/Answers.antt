@@ -1,7 +1,7 @@
 -- Proves what is asked of `read_statement`.
 use Rattle.std.proofs.Common.{refl, sym, ◌∙◌, codes}
-use Rattle.expression_parts.specs.Ahead.{ahead}
-use Rattle.algorithm_parts.specs.PartsRead.{parts_in}
+use Rattle.expr_nodes.specs.Ahead.{ahead}
+use Rattle.algorithm_reader.specs.PartsRead.{parts_in}
 use Rattle.p_syntax.specs.StepsRead.{opens_by, label_step, simple_step, statement_step}
 use Rattle.p_syntax.proofs.NextStatement.{by_word, by_label, by_simple, step_same, word_is_there}
 use Rattle.p_syntax.proofs.statements.read_statement.Goals as goal

@@ -1,9 +1,9 @@
 -- Proves what is asked of `read_step`.
 use Rattle.std.proofs.Common.{ℕ}
 use Rattle.std.proofs.lemmas.Result.{err_from_is_err_and}
-use Rattle.expression_parts.specs.ReadIn.{Told, Reads, Fails}
-use Rattle.expression_parts.specs.Ahead.{ahead}
-use Rattle.algorithm_parts.specs.PartsRead.{parts_in}
+use Rattle.expr_nodes.specs.ReadIn.{Told, Reads, Fails}
+use Rattle.expr_nodes.specs.Ahead.{ahead}
+use Rattle.algorithm_reader.specs.PartsRead.{parts_in}
 use Rattle.p_syntax.specs.ReadStatements as reader
 use Rattle.p_syntax.specs.declared.open.Turn.{Turn}
 use Rattle.p_syntax.specs.declared.open.Turn.TheVariants as turn

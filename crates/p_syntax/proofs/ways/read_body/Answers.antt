@@ -1,10 +1,10 @@
 -- Proves what is asked of `read_body`.
 use Rattle.std.proofs.Common.{sym, subst, arith}
 use Rattle.std.proofs.lemmas.Result.{err_from_is_err_and}
-use Rattle.expression_parts.specs.ReadIn.{Fails}
-use Rattle.expression_parts.specs.Ahead.{ahead}
-use Rattle.algorithm_parts.specs.PartsRead.{parts_in}
-use Rattle.algorithm_parts.proofs.Gathered.{fails_then}
+use Rattle.expr_nodes.specs.ReadIn.{Fails}
+use Rattle.expr_nodes.specs.Ahead.{ahead}
+use Rattle.algorithm_reader.specs.PartsRead.{parts_in}
+use Rattle.algorithm_reader.proofs.Gathered.{fails_then}
 use Rattle.pcal_tree.specs.Grammar.{begin_end}
 use Rattle.p_syntax.proofs.Bodies.{behind_list, behind_end, behind_word, body_at_list, body_at_end, body_at_word, body_whole}
 use Rattle.p_syntax.proofs.ways.read_body.Goals as goal

@@ -1,9 +1,9 @@
 -- Proves what is asked of `read_define`.
 use Rattle.std.proofs.Common.{sym, subst}
 use Rattle.std.proofs.lemmas.Result.{err_from_is_err_and}
-use Rattle.expression_parts.specs.ReadIn.{Fails}
-use Rattle.algorithm_parts.specs.PartsRead.{parts_in}
-use Rattle.algorithm_parts.proofs.Gathered.{fails_then}
+use Rattle.expr_nodes.specs.ReadIn.{Fails}
+use Rattle.algorithm_reader.specs.PartsRead.{parts_in}
+use Rattle.algorithm_reader.proofs.Gathered.{fails_then}
 use Rattle.pcal_tree.specs.Grammar.{define_end}
 use Rattle.p_syntax.proofs.Bodies.{behind_definitions, behind_its_end, behind_define, define_at_end, define_at_word, define_whole}
 use Rattle.p_syntax.proofs.ways.read_define.Goals as goal

@@ -2,11 +2,11 @@
 use Rattle.std.proofs.Common.{refl, arith}
 use Rattle.tla_tree.specs.Reader.{◌>>=◌, gives}
 use Rattle.pcal_tree.specs.Grammar.{bare}
-use Rattle.expression_parts.specs.Ahead.{ahead}
-use Rattle.algorithm_parts.specs.TokenReaders.{past, a_name}
-use Rattle.algorithm_parts.specs.ReadParts.{bind_by}
-use Rattle.algorithm_parts.specs.PartsRead.{parts_in}
-use Rattle.algorithm_parts.proofs.StatementSteps.{goes_on}
+use Rattle.expr_nodes.specs.Ahead.{ahead}
+use Rattle.algorithm_reader.specs.TokenReaders.{past, a_name}
+use Rattle.algorithm_reader.specs.ReadParts.{bind_by}
+use Rattle.algorithm_reader.specs.PartsRead.{parts_in}
+use Rattle.algorithm_reader.proofs.StatementSteps.{goes_on}
 use Rattle.p_syntax.proofs.ways.read_identity.Goals as goal
 
 pub returns-clause-read : goal.returns-clause-read

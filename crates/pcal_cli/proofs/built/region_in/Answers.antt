@@ -1,6 +1,6 @@
 -- The translation's parts are those that were made.
 use Rattle.std.proofs.Common.{◌≡◌, ◌∷◌, [], Some, None, refl, rules}
-use Rattle.module_memory.specs.declared.«module».Region.{Region}
+use Rattle.module_write.specs.declared.«module».Region.{Region}
 use Rattle.pcal_cli.specs.FormSeen.{parts_of}
 use Rattle.pcal_cli.proofs.RegionMade.{region_is, region_within}
 use Rattle.pcal_cli.proofs.built.region_in.Goals as goal

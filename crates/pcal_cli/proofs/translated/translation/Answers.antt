@@ -1,7 +1,7 @@
 -- The numbers of a form that fits are small, and what is written is the layout of its translation.
 use Rattle.std.proofs.Common.{◌≡◌, ◌∙◌, ◌++◌, [], rules}
 use Rattle.module_tree.specs.Layout.{layout}
-use Rattle.module_memory.specs.InMemory.{region_at}
+use Rattle.module_write.specs.InMemory.{region_at}
 use Rattle.first_path.specs.Placed.{region_of}
 use Rattle.first_path.proofs.Fit.{fit_of}
 use Rattle.pcal_cli.specs.FormSeen.{parts_of}

@@ -1,6 +1,6 @@
 -- Proves what is asked of `next_arm`.
 use Rattle.std.proofs.Common.{arith, refl}
-use Rattle.expression_parts.proofs.MakeLemmas.{kept_in}
+use Rattle.expr_nodes.proofs.MakeLemmas.{kept_in}
 use Rattle.tla_expr.proofs.ReadLemmas.{told_then}
 use Rattle.tla_expr.proofs.read_arms.next_arm.Goals as goal
 

@@ -4,7 +4,7 @@ use Rattle.std.proofs.lemmas.List.{map_push}
 use Rattle.std.proofs.lemmas.Result.{err_from_is_err_and}
 use Rattle.tla_token.specs.TokensSeen.{span_bytes}
 use Rattle.tla_tree.proofs.PoolNumbers.{Keeps-then}
-use Rattle.expression_parts.specs.ReadIn.{word_seen}
+use Rattle.expr_nodes.specs.ReadIn.{word_seen}
 use Rattle.tla_expr.proofs.ReadGrown.{same_pool}
 use Rattle.tla_expr.proofs.ReadBinds.{binds_first, group_lost, binds_end, next_lost, binds_next}
 use Rattle.tla_expr.proofs.ListsRead.{bound_names, bound_many}

@@ -4,7 +4,7 @@ use Rattle.tla_token.specs.TokensSeen.{span_bytes}
 use Rattle.tla_pool.specs.FormOf.{groups_of}
 use Rattle.tla_tree.specs.Pool.{Keeps}
 use Rattle.tla_tree.specs.Whole.{whole}
-use Rattle.expression_parts.specs.Ahead.{ahead}
+use Rattle.expr_nodes.specs.Ahead.{ahead}
 use Rattle.tla_expr.proofs.ReadBinds.{BindsSoFar}
 use Rattle.tla_expr.proofs.read_bind.binds.Given as goal
 

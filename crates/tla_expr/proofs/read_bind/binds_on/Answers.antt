@@ -4,8 +4,8 @@ use Rattle.std.proofs.lemmas.Result.{err_from_is_err_and}
 use Rattle.tla_token.specs.TokensSeen.{span_bytes}
 use Rattle.tla_pool.specs.FormOf.{groups_of}
 use Rattle.tla_tree.specs.Spelling.{last_bind}
-use Rattle.expression_parts.specs.Ahead.{ahead}
-use Rattle.expression_parts.specs.ReadIn.{word_seen}
+use Rattle.expr_nodes.specs.Ahead.{ahead}
+use Rattle.expr_nodes.specs.ReadIn.{word_seen}
 use Rattle.tla_expr.proofs.ReadBinds.{one_bound, rest_none, rest_lost, rest_later, rest_all}
 use Rattle.tla_expr.proofs.ListsRead.{first_named}
 use Rattle.tla_expr.proofs.read_bind.binds_on.Goals as goal

@@ -2,7 +2,7 @@
 use Rattle.std.proofs.Common.{arith}
 use Rattle.std.proofs.lemmas.Result.{err_from_is_err_and}
 use Rattle.tla_token.specs.TokensSeen.{span_bytes}
-use Rattle.expression_parts.specs.ReadIn.{word_seen}
+use Rattle.expr_nodes.specs.ReadIn.{word_seen}
 use Rattle.tla_expr.proofs.ReadBinds.{names_first, names_next, name_lost, sign_lost, set_lost, group_end}
 use Rattle.tla_expr.proofs.read_bind.group.Goals as goal
 

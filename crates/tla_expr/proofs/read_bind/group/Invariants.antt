@@ -2,7 +2,7 @@
 use Rattle.std.proofs.Common.{◌≤◌, ◌-◌, length, Some}
 use Rattle.tla_token.specs.TokensSeen.{span_bytes}
 use Rattle.tla_tree.specs.Whole.{whole}
-use Rattle.expression_parts.specs.Ahead.{ahead}
+use Rattle.expr_nodes.specs.Ahead.{ahead}
 use Rattle.tla_expr.proofs.ReadBinds.{NamesSoFar}
 use Rattle.tla_expr.proofs.read_bind.group.Given as goal
 

@@ -3,7 +3,7 @@ use Rattle.std.proofs.Common.{◌≡◌, ℕ, suc, ◌+◌, ◌≤◌, Some, Err
 use Rattle.std.proofs.lemmas.Result.{err_from_is_err_and}
 use Rattle.tla_tree.specs.Reader.{peek, braces, room}
 use Rattle.tla_tree.specs.Whole.{whole}
-use Rattle.expression_parts.specs.Ahead.{ahead}
+use Rattle.expr_nodes.specs.Ahead.{ahead}
 use Rattle.tla_expr.specs.HasRead.{HasRead}
 use Rattle.tla_expr.proofs.ReadFirst.{read_lost}
 use Rattle.tla_expr.proofs.ReadPrimaries.{opened_on, read_as}

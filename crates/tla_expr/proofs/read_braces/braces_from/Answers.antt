@@ -3,7 +3,7 @@ use Rattle.std.proofs.Common.{Some, arith}
 use Rattle.tla_tree.specs.Spelling.{no_set}
 use Rattle.tla_tree.specs.Reader.{next, room}
 use Rattle.tla_tree.specs.Whole.{whole}
-use Rattle.expression_parts.specs.Ahead.{ahead}
+use Rattle.expr_nodes.specs.Ahead.{ahead}
 use Rattle.tla_expr.proofs.ReadBraces.{no_members}
 use Rattle.tla_expr.proofs.read_braces.braces_from.Goals as goal
 

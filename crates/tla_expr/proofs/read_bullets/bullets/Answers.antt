@@ -2,7 +2,7 @@
 use Rattle.std.proofs.Common.{◌≡◌, ◌+◌, ◌-◌, ℕ, suc, max, true, arith, sym, ap, ◌∙◌, subst}
 use Rattle.std.proofs.lemmas.Result.{err_from_is_err_and}
 use Rattle.tla_tree.proofs.PoolNumbers.{Keeps-then}
-use Rattle.expression_parts.specs.Ahead.{ahead}
+use Rattle.expr_nodes.specs.Ahead.{ahead}
 use Rattle.tla_expr.proofs.ReadBullets.{BulletsSoFar, is_next, bullets_first, bullets_next, bullets_lost, deep_fails, item_fails}
 use Rattle.tla_expr.proofs.read_bullets.bullets.Goals as goal
 

@@ -2,7 +2,7 @@
 use Rattle.std.proofs.Common.{arith, refl, Some}
 use Rattle.tla_tree.specs.Whole.{whole}
 use Rattle.tla_tree.proofs.PoolNumbers.{Keeps-then}
-use Rattle.expression_parts.specs.ShapeOf.{context_seen}
+use Rattle.expr_nodes.specs.ShapeOf.{context_seen}
 use Rattle.tla_expr.proofs.ReadGrown.{same_pool, grown_on}
 use Rattle.tla_expr.proofs.read_climb.climb.Goals as goal
 

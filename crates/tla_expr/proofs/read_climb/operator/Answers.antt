@@ -5,10 +5,10 @@ use Rattle.tla_tree.specs.Nesting.{chain}
 use Rattle.tla_tree.specs.Spelling.{Phrase, infix_of}
 use Rattle.tla_tree.specs.Reader.{Out, Reader, then_read, right_of}
 use Rattle.tla_tree.specs.Whole.{whole}
-use Rattle.expression_parts.specs.Ahead.{ahead}
-use Rattle.expression_parts.specs.ShapeOf.{context_seen}
-use Rattle.expression_parts.specs.ReadIn.{IsIn, Reads, Fails}
-use Rattle.expression_parts.proofs.MakeLemmas.{kept_in}
+use Rattle.expr_nodes.specs.Ahead.{ahead}
+use Rattle.expr_nodes.specs.ShapeOf.{context_seen}
+use Rattle.expr_nodes.specs.ReadIn.{IsIn, Reads, Fails}
+use Rattle.expr_nodes.proofs.MakeLemmas.{kept_in}
 use Rattle.tla_expr.proofs.ReadCode.{climb_other, stops_here, deep_here, more_here}
 use Rattle.tla_expr.proofs.ReadGrown.{same_pool, lost, deep, chain_in}
 use Rattle.tla_expr.proofs.read_climb.operator.Goals as goal

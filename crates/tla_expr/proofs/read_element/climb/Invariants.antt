@@ -6,7 +6,7 @@ use Rattle.tla_tree.specs.Pool.{Keeps}
 use Rattle.tla_tree.specs.Spelling.{Phrase}
 use Rattle.tla_tree.specs.Reader.{behind}
 use Rattle.tla_tree.specs.Whole.{whole}
-use Rattle.expression_parts.specs.Ahead.{ahead}
+use Rattle.expr_nodes.specs.Ahead.{ahead}
 use Rattle.tla_expr.specs.ReadForms.{IsParted, SomeParted, PartsTo}
 use Rattle.tla_expr.proofs.read_element.climb.Given as goal
 

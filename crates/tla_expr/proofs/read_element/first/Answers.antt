@@ -1,6 +1,6 @@
 -- Proves what is asked of `first`.
 use Rattle.std.proofs.Common.{sym, arith}
-use Rattle.expression_parts.specs.Ahead.{ahead}
+use Rattle.expr_nodes.specs.Ahead.{ahead}
 use Rattle.tla_expr.proofs.ReadFirst.{read_same}
 use Rattle.tla_expr.proofs.ReadShort.{tight_other, tight_sign}
 use Rattle.tla_expr.proofs.read_element.first.Goals as goal

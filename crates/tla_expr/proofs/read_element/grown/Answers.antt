@@ -1,6 +1,6 @@
 -- Proves what is asked of `grown`.
 use Rattle.tla_tree.proofs.PoolNumbers.{Keeps-then}
-use Rattle.expression_parts.proofs.MakeLemmas.{kept_in}
+use Rattle.expr_nodes.proofs.MakeLemmas.{kept_in}
 use Rattle.tla_expr.proofs.ReadElement.{may_kept, element_room}
 use Rattle.tla_expr.proofs.read_element.grown.Goals as goal
 

@@ -5,10 +5,10 @@ use Rattle.tla_token.specs.declared.rule.Rule.TheVariants.{TooDeep}
 use Rattle.tla_tree.specs.Spelling.{Phrase, infix_of}
 use Rattle.tla_tree.specs.Reader.{Out, Reader, then_read, right_of, behind, so_far, room}
 use Rattle.tla_tree.specs.Whole.{whole}
-use Rattle.expression_parts.specs.declared.shape.Shape.{Shape}
-use Rattle.expression_parts.specs.ShapeOf.{shape_of}
-use Rattle.expression_parts.specs.Ahead.{ahead}
-use Rattle.expression_parts.specs.ReadIn.{IsIn, Reads, Fails}
+use Rattle.expr_nodes.specs.declared.shape.Shape.{Shape}
+use Rattle.expr_nodes.specs.ShapeOf.{shape_of}
+use Rattle.expr_nodes.specs.Ahead.{ahead}
+use Rattle.expr_nodes.specs.ReadIn.{IsIn, Reads, Fails}
 use Rattle.tla_expr.proofs.ReadCode.{fails_step}
 use Rattle.tla_expr.proofs.ReadGrown.{same_pool}
 use Rattle.tla_expr.proofs.ReadElement.{any_other, any_stops, any_deep, any_more, part_fails, refused_at, parted_kept, shape_told, less_by, low_at, grown_small}

@@ -5,9 +5,9 @@ use Rattle.tla_token.specs.TokensSeen.{span_bytes}
 use Rattle.tla_tree.specs.Reader.{behind}
 use Rattle.tla_tree.specs.Whole.{whole}
 use Rattle.tla_expr.specs.declared.read_element.Parted.{Parted}
-use Rattle.expression_parts.specs.Ahead.{ahead}
+use Rattle.expr_nodes.specs.Ahead.{ahead}
 use Rattle.tla_expr.specs.ReadForms.{IsParted}
-use Rattle.expression_parts.proofs.MakeLemmas.{kept_in}
+use Rattle.expr_nodes.proofs.MakeLemmas.{kept_in}
 use Rattle.tla_expr.proofs.ReadCode.{fails_step, told_step}
 use Rattle.tla_expr.proofs.ReadGrown.{chain_in}
 use Rattle.tla_expr.proofs.ReadShort.{first_plain, plain_out, behind_is}

@@ -1,7 +1,7 @@
 -- Proves what is asked of `read_expr`.
 use Rattle.tla_token.specs.declared.rule.Refusal.{Refusal}
 use Rattle.tla_tree.specs.FirstStop.{RefusesExpression}
-use Rattle.expression_parts.specs.Ahead.{ahead}
+use Rattle.expr_nodes.specs.Ahead.{ahead}
 use Rattle.tla_expr.proofs.ReadExpression.{reads_there, refuses_there, refused_as}
 use Rattle.tla_expr.proofs.read_expression.read_expr.Goals as goal
 

@@ -2,8 +2,8 @@
 use Rattle.std.proofs.Common.{arith}
 use Rattle.std.proofs.lemmas.Result.{err_from_is_err_and}
 use Rattle.tla_tree.proofs.PoolNumbers.{Keeps-then}
-use Rattle.expression_parts.specs.ReadIn.{field_seen}
-use Rattle.expression_parts.specs.ViewSeen.{mark_seen}
+use Rattle.expr_nodes.specs.ReadIn.{field_seen}
+use Rattle.expr_nodes.specs.ViewSeen.{mark_seen}
 use Rattle.tla_expr.proofs.ReadGrown.{same_pool}
 use Rattle.tla_expr.proofs.ReadFields.{fields_first, mark_lost, part_lost, fields_end, field_lost, fields_next}
 use Rattle.tla_expr.proofs.ListsRead.{fields_some, fields_many}

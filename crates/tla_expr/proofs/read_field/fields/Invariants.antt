@@ -2,9 +2,9 @@
 use Rattle.std.proofs.Common.{◌≤◌, ◌-◌, length, Some}
 use Rattle.tla_tree.specs.Pool.{Keeps}
 use Rattle.tla_tree.specs.Whole.{whole}
-use Rattle.expression_parts.specs.Ahead.{ahead}
-use Rattle.expression_parts.specs.ReadIn.{field_seen}
-use Rattle.expression_parts.specs.ViewSeen.{mark_seen}
+use Rattle.expr_nodes.specs.Ahead.{ahead}
+use Rattle.expr_nodes.specs.ReadIn.{field_seen}
+use Rattle.expr_nodes.specs.ViewSeen.{mark_seen}
 use Rattle.tla_expr.proofs.ReadFields.{FieldsSoFar}
 use Rattle.tla_expr.proofs.read_field.fields.Given as goal
 

@@ -3,8 +3,8 @@ use Rattle.std.proofs.Common.{Some}
 use Rattle.std.proofs.lemmas.Result.{err_from_is_err_and}
 use Rattle.tla_tree.specs.Whole.{whole}
 use Rattle.tla_tree.proofs.Whole.{expr_is}
-use Rattle.expression_parts.specs.ShapeOf.{context_seen}
-use Rattle.expression_parts.specs.Ahead.{ahead}
+use Rattle.expr_nodes.specs.ShapeOf.{context_seen}
+use Rattle.expr_nodes.specs.Ahead.{ahead}
 use Rattle.tla_expr.proofs.ReadFirst.{read_same, read_lost}
 use Rattle.tla_expr.proofs.ReadNames.{read_on}
 use Rattle.tla_expr.proofs.read_first.expression.Goals as goal

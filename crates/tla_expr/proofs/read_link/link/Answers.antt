@@ -6,8 +6,8 @@ use Rattle.tla_tree.specs.Lexical.{Token}
 use Rattle.tla_tree.specs.Spelling.{Phrase, can_be_head}
 use Rattle.tla_tree.specs.Reader.{Reader, next}
 use Rattle.tla_tree.specs.Whole.{whole}
-use Rattle.expression_parts.specs.ReadIn.{IsIn, Reads, Fails}
-use Rattle.expression_parts.specs.Ahead.{ahead}
+use Rattle.expr_nodes.specs.ReadIn.{IsIn, Reads, Fails}
+use Rattle.expr_nodes.specs.Ahead.{ahead}
 use Rattle.tla_expr.specs.HasRead.{applied, selected}
 use Rattle.tla_expr.proofs.ReadLinks.{link_none, link_other, apply_deep, select_deep, apply_more, select_more}
 use Rattle.tla_expr.proofs.ReadGrown.{grown, lost, deep, links_in}

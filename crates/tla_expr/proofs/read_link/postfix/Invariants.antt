@@ -3,8 +3,8 @@ use Rattle.std.proofs.Common.{◌-◌, length, Some}
 use Rattle.tla_tree.specs.Pool.{Keeps}
 use Rattle.tla_tree.specs.Spelling.{Phrase}
 use Rattle.tla_tree.specs.Whole.{whole}
-use Rattle.expression_parts.specs.ReadIn.{IsIn}
-use Rattle.expression_parts.specs.Ahead.{ahead}
+use Rattle.expr_nodes.specs.ReadIn.{IsIn}
+use Rattle.expr_nodes.specs.Ahead.{ahead}
 use Rattle.tla_expr.specs.HasRead.{GrowsTo, Stands}
 use Rattle.tla_expr.proofs.read_link.postfix.Given as goal
 

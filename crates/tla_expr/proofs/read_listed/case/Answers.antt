@@ -1,7 +1,7 @@
 -- Proves what is asked of `case`.
 use Rattle.std.proofs.Common.{◌≡◌, suc, ◌+◌, ◌≤◌, Some, arith}
 use Rattle.tla_tree.specs.Whole.{whole}
-use Rattle.expression_parts.specs.Ahead.{ahead}
+use Rattle.expr_nodes.specs.Ahead.{ahead}
 use Rattle.tla_expr.specs.HasRead.{cased}
 use Rattle.tla_expr.proofs.ReadPrimaries.{opened_as}
 use Rattle.tla_expr.proofs.ReadListed.{case_more}

@@ -3,8 +3,8 @@ use Rattle.std.proofs.Common.{Ok, Some, arith, refl, sym, subst}
 use Rattle.tla_tree.specs.Spelling.{Phrase, list}
 use Rattle.tla_tree.specs.Reader.{Out, ◌>>=◌, gives}
 use Rattle.tla_tree.specs.Whole.{whole}
-use Rattle.expression_parts.specs.declared.make.Read.{Read}
-use Rattle.expression_parts.specs.Ahead.{ahead}
+use Rattle.expr_nodes.specs.declared.make.Read.{Read}
+use Rattle.expr_nodes.specs.Ahead.{ahead}
 use Rattle.tla_expr.specs.HasRead.{HasRead}
 use Rattle.tla_expr.proofs.ReadLemmas.{told_then}
 use Rattle.tla_expr.proofs.ReadNames.{read_on}

@@ -3,7 +3,7 @@ use Rattle.std.proofs.Common.{◌≡◌, ℕ, List, [], ◌∷◌, ◌++◌, ari
 use Rattle.std.proofs.lemmas.Result.{err_from_is_err_and}
 use Rattle.tla_tree.specs.Spelling.{named}
 use Rattle.tla_tree.proofs.PoolNumbers.{Keeps-then}
-use Rattle.expression_parts.specs.ReadIn.{word_seen}
+use Rattle.expr_nodes.specs.ReadIn.{word_seen}
 use Rattle.tla_expr.proofs.ReadLocals.{locals_first, locals_next, locals_fails, first_fails}
 use Rattle.tla_expr.proofs.read_locals.locals.Goals as goal
 

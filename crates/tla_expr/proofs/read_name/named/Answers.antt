@@ -3,7 +3,7 @@ use Rattle.std.proofs.Common.{arith}
 use Rattle.tla_token.specs.TokensSeen.{span_bytes}
 use Rattle.tla_tree.specs.Spelling.{primed}
 use Rattle.tla_tree.specs.Reader.{next}
-use Rattle.expression_parts.specs.Ahead.{ahead}
+use Rattle.expr_nodes.specs.Ahead.{ahead}
 use Rattle.tla_expr.proofs.ReadNames.{prime_more}
 use Rattle.tla_expr.proofs.read_name.named.Goals as goal
 

@@ -2,7 +2,7 @@
 use Rattle.std.proofs.Common.{arith, refl}
 use Rattle.tla_tree.specs.Spelling.{if_then_else}
 use Rattle.tla_tree.proofs.PoolNumbers.{Keeps-then}
-use Rattle.expression_parts.proofs.MakeLemmas.{kept_in}
+use Rattle.expr_nodes.proofs.MakeLemmas.{kept_in}
 use Rattle.tla_expr.proofs.ReadLemmas.{told_then, told_on}
 use Rattle.tla_expr.proofs.read_open.choice_from.Goals as goal
 

@@ -1,8 +1,8 @@
 -- Proves what is asked of `prefixed`.
 use Rattle.std.proofs.Common.{◌≡◌, suc, ◌+◌, ◌≤◌, Some, arith}
 use Rattle.tla_tree.specs.Whole.{whole}
-use Rattle.expression_parts.specs.ShapeOf.{context_seen}
-use Rattle.expression_parts.specs.Ahead.{ahead}
+use Rattle.expr_nodes.specs.ShapeOf.{context_seen}
+use Rattle.expr_nodes.specs.Ahead.{ahead}
 use Rattle.tla_expr.specs.HasRead.{under_prefix}
 use Rattle.tla_expr.proofs.ReadPrimaries.{opened_as, prefix_more}
 use Rattle.tla_expr.proofs.read_open.prefixed.Goals as goal

@@ -4,8 +4,8 @@ use Rattle.std.proofs.lemmas.List.{map_push}
 use Rattle.std.proofs.lemmas.Result.{err_from_is_err_and}
 use Rattle.tla_tree.specs.Whole.{whole}
 use Rattle.tla_tree.proofs.PoolNumbers.{Keeps-then}
-use Rattle.expression_parts.specs.Ahead.{ahead}
-use Rattle.expression_parts.specs.ReadIn.{field_seen, Reads, Fails}
+use Rattle.expr_nodes.specs.Ahead.{ahead}
+use Rattle.expr_nodes.specs.ReadIn.{field_seen, Reads, Fails}
 use Rattle.tla_expr.specs.Routed.{indexed, IsSubscript}
 use Rattle.tla_expr.proofs.ReadGrown.{same_pool}
 use Rattle.tla_expr.proofs.ReadPaths.{path_first, path_ends, too_many, index_lost, path_index, step_lost, path_field}

@@ -1,7 +1,7 @@
 -- Proves what is asked of `tuple`.
 use Rattle.std.proofs.Common.{◌≡◌, suc, ◌+◌, ◌≤◌, Some, arith}
 use Rattle.tla_tree.specs.Whole.{whole}
-use Rattle.expression_parts.specs.Ahead.{ahead}
+use Rattle.expr_nodes.specs.Ahead.{ahead}
 use Rattle.tla_tree.specs.Reader.{peek, tuples}
 use Rattle.tla_expr.proofs.ReadPrimaries.{opened_on, tuple_more}
 use Rattle.tla_expr.proofs.read_primary.tuple.Goals as goal

@@ -2,7 +2,7 @@
 use Rattle.std.proofs.Common.{arith}
 use Rattle.tla_tree.specs.Spelling.{no_tuple}
 use Rattle.tla_tree.specs.Reader.{next}
-use Rattle.expression_parts.specs.Ahead.{ahead}
+use Rattle.expr_nodes.specs.Ahead.{ahead}
 use Rattle.tla_expr.proofs.ReadPrimaries.{tuple_none}
 use Rattle.tla_expr.proofs.read_primary.tuple_from.Goals as goal
 

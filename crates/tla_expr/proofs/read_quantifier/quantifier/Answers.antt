@@ -2,7 +2,7 @@
 use Rattle.std.proofs.Common.{◌≡◌, suc, ◌+◌, ◌≤◌, Some, arith}
 use Rattle.tla_tree.specs.Reader as reader
 use Rattle.tla_tree.specs.Whole.{whole}
-use Rattle.expression_parts.specs.Ahead.{ahead}
+use Rattle.expr_nodes.specs.Ahead.{ahead}
 use Rattle.tla_expr.proofs.ReadPrimaries.{opened_as}
 use Rattle.tla_expr.proofs.ReadQuantifiers.{quantifier_more}
 use Rattle.tla_expr.proofs.read_quantifier.quantifier.Goals as goal

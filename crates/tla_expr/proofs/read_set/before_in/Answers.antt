@@ -1,7 +1,7 @@
 -- Proves what is asked of `before_in`.
 use Rattle.std.proofs.Common.{arith, refl}
 use Rattle.tla_tree.specs.Spelling.{set_of, more}
-use Rattle.expression_parts.proofs.MakeLemmas.{kept_in}
+use Rattle.expr_nodes.proofs.MakeLemmas.{kept_in}
 use Rattle.tla_expr.proofs.ReadLemmas.{told_then, told_on}
 use Rattle.tla_expr.proofs.ReadRows.{more_in}
 use Rattle.tla_expr.proofs.read_set.before_in.Goals as goal

@@ -3,9 +3,9 @@ use Rattle.std.proofs.Common.{ℕ, Some, sym, subst}
 use Rattle.tla_tree.specs.Spelling.{Phrase}
 use Rattle.tla_tree.specs.Reader.{Out, next}
 use Rattle.tla_tree.specs.Whole.{whole}
-use Rattle.expression_parts.specs.declared.make.Read.{Read}
-use Rattle.expression_parts.specs.ReadIn.{IsIn, Told}
-use Rattle.expression_parts.specs.Ahead.{ahead}
+use Rattle.expr_nodes.specs.declared.make.Read.{Read}
+use Rattle.expr_nodes.specs.ReadIn.{IsIn, Told}
+use Rattle.expr_nodes.specs.Ahead.{ahead}
 use Rattle.tla_expr.proofs.ReadSets.{set_more, set_ends}
 use Rattle.tla_expr.proofs.read_set.set_in.Goals as goal
 

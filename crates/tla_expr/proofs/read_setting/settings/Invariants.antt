@@ -3,7 +3,7 @@ use Rattle.std.proofs.Common.{◌≤◌, ◌-◌, length, Some}
 use Rattle.tla_pool.specs.FormOf.{slots_of}
 use Rattle.tla_tree.specs.Pool.{Keeps}
 use Rattle.tla_tree.specs.Whole.{whole}
-use Rattle.expression_parts.specs.Ahead.{ahead}
+use Rattle.expr_nodes.specs.Ahead.{ahead}
 use Rattle.tla_expr.proofs.ReadSettings.{SettingsSoFar, MayHavePaths}
 use Rattle.tla_expr.proofs.read_setting.settings.Given as goal
 

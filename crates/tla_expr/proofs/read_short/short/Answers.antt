@@ -1,6 +1,6 @@
 -- Proves what is asked of `short`.
 use Rattle.std.proofs.Common.{arith}
-use Rattle.expression_parts.specs.Ahead.{ahead}
+use Rattle.expr_nodes.specs.Ahead.{ahead}
 use Rattle.tla_expr.proofs.ReadFirst.{refused_here, read_same}
 use Rattle.tla_expr.proofs.ReadShort.{short_is_expr, short_at_key}
 use Rattle.tla_expr.proofs.read_short.short.Goals as goal

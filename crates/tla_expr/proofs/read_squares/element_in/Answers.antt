@@ -1,7 +1,7 @@
 -- Proves what is asked of `element_in`.
 use Rattle.std.proofs.Common.{Some}
 use Rattle.tla_tree.specs.Whole.{whole}
-use Rattle.expression_parts.specs.Ahead.{ahead}
+use Rattle.expr_nodes.specs.Ahead.{ahead}
 use Rattle.tla_expr.proofs.ReadElement.{refused_at, told_same}
 use Rattle.tla_expr.proofs.ReadSquares.{square_fits, square_deep}
 use Rattle.tla_expr.proofs.read_squares.element_in.Goals as goal

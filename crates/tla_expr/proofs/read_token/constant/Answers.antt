@@ -1,6 +1,6 @@
 -- Proves what is asked of `constant`.
 use Rattle.std.proofs.Common.{◌≤◌, Some, List, arith, sym, ap}
-use Rattle.expression_parts.specs.ViewSeen.{constant_seen}
+use Rattle.expr_nodes.specs.ViewSeen.{constant_seen}
 use Rattle.tla_tree.specs.Lexical.{Token}
 use Rattle.tla_tree.specs.Spelling.{constant}
 use Rattle.tla_tree.specs.Whole.{whole}

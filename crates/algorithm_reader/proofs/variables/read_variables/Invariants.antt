@@ -1,0 +1,21 @@
+-- What the loop keeps: the variables so far, and the pool that grows.
+use Rattle.std.proofs.Common.{ℕ, ◌≤◌, ◌-◌, length}
+use Rattle.tla_tree.specs.Pool.{Keeps}
+use Rattle.pcal_tree.specs.InMemory.{declaration_at, past_declaration}
+use Rattle.pcal_tree.specs.GrammarParts.{declarations}
+use Rattle.algorithm_reader.specs.ReadParts.{read_variables as variables_reader}
+use Rattle.algorithm_reader.specs.PartsRead.{parts_in, Enough}
+use Rattle.algorithm_reader.proofs.Gathered.{InPool}
+use Rattle.algorithm_reader.proofs.variables.read_variables.Given as goal
+
+abbrev pub invariant-loop-list : goal.invariant-loop-list
+invariant-loop-list l =
+    record {
+      in_pool : (n : ℕ) → Enough l.tokens l.at n → InPool (variables_reader l.among (parts_in l.tokens)) declarations declaration_at past_declaration l.tokens l.pool n l.at l.from l.list.items;
+      kept : Keeps l.fn.pool l.pool;
+      inside : l.from ≤ length l.tokens.items.items;
+      further : l.at ≤ l.from;
+    }
+
+abbrev pub decreases-loop-list : goal.decreases-loop-list
+decreases-loop-list l = length l.tokens.items.items - l.from

@@ -1,0 +1,23 @@
+//! Algorithms read from tokens: the parts that both syntaxes are made of, and macros, procedures, processes and whole algorithms by readers of what each spells in its own way.
+#![tactic(auto)]
+
+pub mod answer;
+pub mod arguments;
+pub mod assignments;
+pub mod binds;
+pub mod colon;
+pub mod definitions;
+pub mod expression;
+pub mod head;
+pub mod left;
+pub mod macros;
+pub mod names;
+pub mod parameters;
+pub mod procedures;
+pub mod processes;
+pub mod simple;
+pub mod token_step;
+pub mod variables;
+pub mod ways;
+pub mod whole;
+pub mod words;

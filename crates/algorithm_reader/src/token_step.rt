@@ -1,0 +1,164 @@
+//! Steps over single tokens of an algorithm, wherever in their lines they are: what is next, and past a word or mark.
+
+ghost use Rattle.std.specs.Prelude.{◌≡◌, ◌<◌, ◌≤◌, IfOk, IfSome, IfNone, true, false, length, is_some};
+ghost use Rattle.tla_tree.specs.Lexical.{token};
+ghost use Rattle.tla_tree.specs.Reader as reader;
+ghost use Rattle.expr_nodes.specs.ViewSeen.{mark_seen, view_seen};
+ghost use Rattle.expr_nodes.specs.ReadIn.{Gives};
+ghost use Rattle.expr_nodes.specs.Ahead.{ahead};
+ghost use Rattle.expr_nodes.specs.declared.cursor.Halt.TheVariants as halt;
+ghost use Rattle.algorithm_reader.specs.TokenReaders.{first, a_key, a_mark, a_name, is_reserved, name_of};
+
+use expr_nodes::cursor::{Halt, Next, is_mark};
+use expr_nodes::make::name_of as word_name;
+use expr_nodes::spot::{Spot, after, refused};
+use expr_nodes::view::{Mark, View, view_of};
+use std::alloc::Global;
+use tla_token::{Place, Rule, Span, Tokens};
+use tla_tree::PlacedName;
+
+// With all that is read wherever it is.
+fn spot(at: usize) -> Spot
+    ensures { result.at ≡ at }
+{
+    Spot {
+        at,
+        edge: 0,
+        left: 0,
+    }
+}
+
+/// The next token; at the end, one that is no token of an algorithm.
+pub fn next_token(tokens: &Tokens, at: usize) -> Next
+    requires { at ≤ length tokens.now.items.items }
+    ensures { token result.place (view_seen tokens.now.bytes.items result.view) ≡ first (ahead tokens.now at) }
+{
+    if at < tokens.items.len() {
+        let t = tokens.items[at];
+        Next {
+            place: t.place,
+            view: view_of(tokens, t),
+        }
+    } else {
+        Next {
+            place: Place { line: 0, col: 0 },
+            view: View::Other(Span { from: 0, to: 0 }),
+        }
+    }
+}
+
+/// The number of the token after that, if there is one.
+pub fn behind(tokens: &Tokens, at: usize) -> usize
+    requires { at ≤ length tokens.now.items.items }
+    ensures rest { ahead tokens.now result ≡ reader.tail (ahead tokens.now at) }
+    ensures inside { result ≤ length tokens.now.items.items }
+    ensures no_less { at ≤ result }
+{
+    after(tokens, spot(at))
+}
+
+/// Refused at this token, as no algorithm has it there.
+pub fn refused_there(tokens: &Tokens, at: usize, rule: Rule) -> Halt
+    requires { at ≤ length tokens.now.items.items }
+    ensures { result ≡ halt.Refused rule (length (ahead tokens.now at)) }
+{
+    refused(tokens, spot(at), rule)
+}
+
+/// Past this mark: its place.
+///
+/// # Errors
+///
+/// Where another token is next.
+pub fn past_mark(tokens: &Tokens, at: usize, mark: Mark) -> Result<(Place, usize), Halt>
+    requires { at ≤ length tokens.now.items.items }
+    ensures value { Gives (λ x. (x.0, ahead tokens.now x.1)) result (a_mark (mark_seen mark) (ahead tokens.now at)) }
+    ensures inside { IfOk result (λ x. x.1 ≤ length tokens.now.items.items) }
+    ensures further { IfOk result (λ x. at ≤ x.1) }
+{
+    let t = next_token(tokens, at);
+    if is_mark(mark, t.view) {
+        Ok((t.place, behind(tokens, at)))
+    } else {
+        Err(refused_there(tokens, at, Rule::Syntax))
+    }
+}
+
+/// Whether this reserved word of PlusCal is next.
+pub fn is_next_word(tokens: &Tokens, at: usize, word: &[u8]) -> bool
+    requires { at ≤ length tokens.now.items.items }
+    ensures { result ≡ is_reserved word.now (first (ahead tokens.now at)).kind }
+{
+    match next_token(tokens, at).view {
+        View::Reserved(span) => word == tokens.word(span),
+        _ => false,
+    }
+}
+
+/// Past this reserved word of PlusCal: its place.
+///
+/// # Errors
+///
+/// Where another token is next.
+pub fn past_key(tokens: &Tokens, at: usize, word: &[u8]) -> Result<(Place, usize), Halt>
+    requires { at ≤ length tokens.now.items.items }
+    ensures value { Gives (λ x. (x.0, ahead tokens.now x.1)) result (a_key word.now (ahead tokens.now at)) }
+    ensures inside { IfOk result (λ x. x.1 ≤ length tokens.now.items.items) }
+    ensures further { IfOk result (λ x. at ≤ x.1) }
+{
+    if is_next_word(tokens, at, word) {
+        Ok((next_token(tokens, at).place, behind(tokens, at)))
+    } else {
+        Err(refused_there(tokens, at, Rule::Syntax))
+    }
+}
+
+/// Whether a name is next.
+pub fn is_next_name(tokens: &Tokens, at: usize) -> bool
+    requires { at ≤ length tokens.now.items.items }
+    ensures { result ≡ is_some (name_of (first (ahead tokens.now at)).place (first (ahead tokens.now at)).kind) }
+{
+    match next_token(tokens, at).view {
+        View::Word(_) => true,
+        _ => false,
+    }
+}
+
+/// Past a name.
+///
+/// # Errors
+///
+/// Where another token is next, or for want of memory.
+#[tactic(auto, using(expr_nodes::proofs::AheadLemmas::ahead_tail))]
+pub fn past_name(alloc: Global, tokens: &Tokens, at: usize) -> Result<(PlacedName, usize), Halt>
+    requires { at ≤ length tokens.now.items.items }
+    ensures value { Gives (λ x. (x.0, ahead tokens.now x.1)) result (a_name (ahead tokens.now at)) }
+    ensures inside { IfOk result (λ x. x.1 ≤ length tokens.now.items.items) }
+    ensures further { IfOk result (λ x. at < x.1) }
+{
+    if at < tokens.items.len() {
+        let t = next_token(tokens, at);
+        if let View::Word(span) = t.view {
+            let name = word_name(alloc, tokens, span)?;
+            let place = t.place;
+            return Ok((PlacedName { name, place }, at + 1));
+        }
+    }
+    Err(refused_there(tokens, at, Rule::Syntax))
+}
+
+/// The number of the token after this mark, where it is next.
+pub fn after_mark(tokens: &Tokens, at: usize, mark: Mark) -> Option<usize>
+    requires { at ≤ length tokens.now.items.items }
+    ensures there { IfSome result (λ i. reader.is_mark (mark_seen mark) (first (ahead tokens.now at)).kind ≡ true) }
+    ensures rest { IfSome result (λ i. ahead tokens.now i ≡ reader.tail (ahead tokens.now at)) }
+    ensures inside { IfSome result (λ i. i ≤ length tokens.now.items.items) }
+    ensures no_less { IfSome result (λ i. at ≤ i) }
+    ensures none { IfNone result (reader.is_mark (mark_seen mark) (first (ahead tokens.now at)).kind ≡ false) }
+{
+    if is_mark(mark, next_token(tokens, at).view) {
+        Some(behind(tokens, at))
+    } else {
+        None
+    }
+}

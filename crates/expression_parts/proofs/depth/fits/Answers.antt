@@ -1,7 +1,0 @@
--- Proves what is asked of `fits`.
-use Rattle.std.proofs.Common.{◌∙◌}
-use Rattle.expression_parts.proofs.DepthLemmas.{fits_is}
-use Rattle.expression_parts.proofs.depth.fits.Goals as goal
-
-pub returns : goal.returns
-returns c = λ f a e. c.is_within.ensures ∙ fits_is c.args.shape c.args.left a e

@@ -1,7 +1,0 @@
--- Proves what is asked of `least`.
-use Rattle.std.proofs.Common.{◌∙◌}
-use Rattle.expression_parts.proofs.DepthLemmas.{least_is}
-use Rattle.expression_parts.proofs.depth.least.Goals as goal
-
-pub returns : goal.returns
-returns c = λ f a p q x e h. c.least_of.ensures ∙ least_is f c.args.left c.args.shape c.args.element c.args.place c.args.op a p q x e h

@@ -1,8 +1,0 @@
--- Proves what is asked of `local`.
-use Rattle.std.proofs.Common.{List, ℕ, sym, subst, length}
-use Rattle.tla_tree.specs.Pool.{AllBelow}
-use Rattle.tla_tree.proofs.PoolNumbers.{AllBelow-push}
-use Rattle.expression_parts.proofs.gather.local.Goals as goal
-
-pub put-requires-clause-below : goal.put-requires-clause-below
-put-requires-clause-below c = subst (λ (is : List ℕ). AllBelow (length c.args.pool.now) is) (sym c.in_ok-push.ensures.items) (AllBelow-push (length c.args.pool.now) c.args.right_sides.items c.args.body.id c.requires.below c.requires.body_in)

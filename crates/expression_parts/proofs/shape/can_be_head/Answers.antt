@@ -1,6 +1,0 @@
--- Proves what is asked of `can_be_head`.
-use Rattle.expression_parts.proofs.ShapeLemmas.{head_of_is}
-use Rattle.expression_parts.proofs.shape.can_be_head.Goals as goal
-
-pub returns : goal.returns
-returns c = λ a e. head_of_is _ _ _ a c.stands_at_head.ensures e

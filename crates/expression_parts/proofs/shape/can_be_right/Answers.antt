@@ -1,6 +1,0 @@
--- Proves what is asked of `can_be_right`.
-use Rattle.expression_parts.proofs.ShapeLemmas.{right_is}
-use Rattle.expression_parts.proofs.shape.can_be_right.Goals as goal
-
-pub returns : goal.returns
-returns c = λ a e. right_is _ _ _ a c.stands_right.ensures e

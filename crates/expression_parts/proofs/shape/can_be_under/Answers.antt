@@ -1,6 +1,0 @@
--- Proves what is asked of `can_be_under`.
-use Rattle.expression_parts.proofs.ShapeLemmas.{under_is}
-use Rattle.expression_parts.proofs.shape.can_be_under.Goals as goal
-
-pub returns : goal.returns
-returns c = λ a e. under_is _ _ _ a c.stands_under.ensures e

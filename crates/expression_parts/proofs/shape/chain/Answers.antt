@@ -1,8 +1,0 @@
--- Proves what is asked of `chain`.
-use Rattle.std.proofs.Common.{sym, ap, ◌∙◌}
-use Rattle.expression_parts.specs.declared.shape.Shape.{Shape}
-use Rattle.expression_parts.proofs.ShapeLemmas.{chain_is}
-use Rattle.expression_parts.proofs.shape.chain.Goals as goal
-
-pub returns : goal.returns
-returns c = λ a e. sym (ap (λ (s : Shape). s.chain) e) ∙ chain_is a

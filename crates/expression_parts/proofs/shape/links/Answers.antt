@@ -1,8 +1,0 @@
--- Proves what is asked of `links`.
-use Rattle.std.proofs.Common.{sym, ap, ◌∙◌}
-use Rattle.expression_parts.specs.declared.shape.Shape.{Shape}
-use Rattle.expression_parts.proofs.ShapeLemmas.{links_is}
-use Rattle.expression_parts.proofs.shape.links.Goals as goal
-
-pub returns : goal.returns
-returns c = λ a e. sym (ap (λ (s : Shape). s.links) e) ∙ links_is a

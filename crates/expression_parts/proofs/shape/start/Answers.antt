@@ -1,8 +1,0 @@
--- Proves what is asked of `start`.
-use Rattle.std.proofs.Common.{sym, ap, ◌∙◌}
-use Rattle.expression_parts.specs.declared.shape.Shape.{Shape}
-use Rattle.expression_parts.proofs.ShapeLemmas.{start_is}
-use Rattle.expression_parts.proofs.shape.start.Goals as goal
-
-pub returns : goal.returns
-returns c = λ a e. sym (ap (λ (s : Shape). s.start) e) ∙ start_is a

@@ -1,6 +1,0 @@
--- Proves what is asked of `takes_box`.
-use Rattle.expression_parts.proofs.ShapeLemmas.{box_is}
-use Rattle.expression_parts.proofs.shape.takes_box.Goals as goal
-
-pub returns : goal.returns
-returns c = λ a e. box_is _ _ _ a c.takes.ensures e

@@ -1,8 +1,0 @@
--- Proves what is asked of `text_nesting`.
-use Rattle.std.proofs.Common.{sym, ap, ◌∙◌}
-use Rattle.expression_parts.specs.declared.shape.Shape.{Shape}
-use Rattle.expression_parts.proofs.ShapeLemmas.{nesting_is}
-use Rattle.expression_parts.proofs.shape.text_nesting.Goals as goal
-
-pub returns : goal.returns
-returns c = λ a e. sym (ap (λ (s : Shape). s.nesting) e) ∙ nesting_is a

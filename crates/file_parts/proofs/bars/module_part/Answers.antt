@@ -1,6 +1,0 @@
-use Rattle.std.proofs.Common.{sym}
-use Rattle.module_tree.specs.ModuleParts.{barred}
-use Rattle.file_parts.proofs.bars.module_part.Goals as goal
-
-pub returns-in-Some-clause-part : goal.returns-in-Some-clause-part
-returns-in-Some-clause-part c = sym (c.in-Some.ensures.found barred)

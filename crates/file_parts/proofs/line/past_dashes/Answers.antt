@@ -1,5 +1,0 @@
-use Rattle.file_parts.proofs.LineLengths.{dashed}
-use Rattle.file_parts.proofs.line.past_dashes.Goals as goal
-
-pub returns : goal.returns
-returns c = dashed c.args.text.now c.in_ok-rest.rest.now c.dash_len.result c.in_ok-rest.ensures c.dash_len.ensures.value

@@ -1,7 +1,0 @@
-use Rattle.std.proofs.Common.{sym, ◌∙◌}
-use Rattle.file_parts.proofs.StandSteps.{begins_seen}
-use Rattle.file_parts.proofs.offence.begins_here.Goals as goal
-
-pub returns-then-is_token : goal.returns-then-is_token
-returns-then-is_token c =
-    begins_seen c.args.text.now c.args.stand c.in-Part.class c.bytes_of.result.now c.begins_unit.result c.in-Part.is c.bytes_of.ensures.value (sym c.if-is_token.true ∙ c.is_token.ensures c.bytes_of.result.now) c.begins_unit.ensures

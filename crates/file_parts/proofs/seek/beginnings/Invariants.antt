@@ -1,7 +1,0 @@
-use Rattle.std.proofs.Common.{◌≡◌, ◌++◌, drop}
-use Rattle.file_parts.specs.StandsSeen.{stands_seen}
-use Rattle.module_tree.specs.FileParts.{beginnings}
-use Rattle.file_parts.proofs.seek.beginnings.Given as goal
-
-abbrev pub invariant-stands : goal.invariant-stands
-invariant-stands l = l.starts.items ++ beginnings (stands_seen l.text (drop l.stand-index l.stands)) ≡ beginnings (stands_seen l.text l.stands)

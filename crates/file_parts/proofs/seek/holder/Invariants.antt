@@ -1,8 +1,0 @@
-use Rattle.std.proofs.Common.{◌≡◌, ◌+◌, drop}
-use Rattle.std.specs.List.{position_or_len}
-use Rattle.file_parts.specs.StandsSeen.{stands_seen}
-use Rattle.module_tree.specs.FileParts.{holds_algorithm}
-use Rattle.file_parts.proofs.seek.holder.Given as goal
-
-abbrev pub invariant-loop-i : goal.invariant-loop-i
-invariant-loop-i l = l.i + position_or_len holds_algorithm (stands_seen l.text (drop l.i l.stands)) ≡ position_or_len holds_algorithm (stands_seen l.text l.stands)

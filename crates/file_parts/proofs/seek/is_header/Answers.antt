@@ -1,7 +1,0 @@
-use Rattle.std.proofs.Common.{[], ◌+◌, ◌∙◌}
-use Rattle.tla_token.specs.Tokens.{stretch}
-use Rattle.file_parts.proofs.SplitParts.{header_seen}
-use Rattle.file_parts.proofs.seek.is_header.Goals as goal
-
-pub returns : goal.returns
-returns c = c.is_header_line.ensures (stretch [] c.args.stand.at (c.args.stand.at + c.args.stand.len)) ∙ header_seen [] c.args.stand

@@ -1,8 +1,0 @@
-use Rattle.std.proofs.Common.{◌≡◌, ◌+◌, drop}
-use Rattle.std.specs.List.{position_or_len}
-use Rattle.file_parts.specs.StandsSeen.{stands_seen}
-use Rattle.module_tree.specs.FileParts.{is_newline}
-use Rattle.file_parts.proofs.seek.newline_index.Given as goal
-
-abbrev pub invariant-loop-i : goal.invariant-loop-i
-invariant-loop-i l = l.i + position_or_len is_newline (stands_seen l.text (drop l.i l.stands)) ≡ position_or_len is_newline (stands_seen l.text l.stands)

@@ -1,9 +1,0 @@
-use Rattle.std.proofs.Common.{Some, None, sym}
-use Rattle.file_parts.proofs.SplitParts.{end_found}
-use Rattle.file_parts.proofs.split.module_end.Goals as goal
-
-pub returns-in-Some : goal.returns-in-Some
-returns-in-Some c x = sym (end_found x c.args.stands.now (Some c.in-Some.last) c.in-Some.ensures)
-
-pub returns-in-None : goal.returns-in-None
-returns-in-None c x = sym (end_found x c.args.stands.now None c.in-None.ensures)
