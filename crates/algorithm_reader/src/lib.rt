@@ -19,5 +19,5 @@ pub mod simple;
 pub mod token_step;
 pub mod variables;
 pub mod ways;
-pub mod whole;
+pub mod whole_algorithm;
 pub mod words;

@@ -16,7 +16,7 @@ ghost use Rattle.c_syntax.specs.Around.{frames};
 use crate::ways::{CSyntax, read_body};
 use algorithm_reader::processes::read_main_processes;
 use algorithm_reader::token_step::{past_mark, refused_there};
-use algorithm_reader::whole::{Frames, read_whole};
+use algorithm_reader::whole_algorithm::{Frames, read_whole};
 use algorithm_reader::words::is_next_mark;
 use expr_nodes::cursor::Halt;
 use expr_nodes::view::Mark;

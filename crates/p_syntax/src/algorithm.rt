@@ -19,7 +19,7 @@ use crate::ways::PSyntax;
 use algorithm_reader::head::after_word;
 use algorithm_reader::processes::read_main_processes;
 use algorithm_reader::token_step::{past_key, refused_there};
-use algorithm_reader::whole::{Frames, read_whole};
+use algorithm_reader::whole_algorithm::{Frames, read_whole};
 use expr_nodes::cursor::Halt;
 use pcal_tree::algorithm::{Algorithm, Main};
 use std::alloc::Global;
